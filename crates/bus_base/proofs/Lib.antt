@@ -1,0 +1,2 @@
+mod ReadSoFar
+mod WrittenSoFar
