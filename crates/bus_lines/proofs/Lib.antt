@@ -1,0 +1,9 @@
+pub mod Bits
+pub mod Sets
+pub mod OddParity
+pub mod Ids
+pub mod Buses
+pub mod OneRow
+pub mod Ages
+pub mod Views
+pub mod Sample

@@ -1,0 +1,53 @@
+-- A view and the rows that it was made from.
+use Rattle.std.proofs.Common.{◌≤◌, refl, ℕ, ◌≡◌, ◌<◌, List, ◌∷◌, ◌∙◌, arith, length, length-set}
+use Rattle.std.specs.Prelude.{slice_set, slice_index}
+use Rattle.std.proofs.lemmas.Grind.{common_steps, elements}
+use Rattle.bus_lines.specs.LineSet.{LineSet, line_of, data_of}
+use Rattle.bus_lines.specs.View.{View, union_below, union_all, driven_at, IsUpTo}
+use Rattle.bus_lines.specs.declared.rows.Row.{Row}
+use Rattle.bus_lines.specs.Trace.{driven_after, IsViewOf, drives, bus, newer}
+use Rattle.bus_lines.proofs.Buses.{below_same}
+use Rattle.bus_lines.proofs.Ages.{newer_along, newer_le}
+
+-- what all devices drive
+abbrev pub Driven : List Row → List LineSet → Type 0
+Driven rows driven = (dev : ℕ) → dev < 8 → driven_at driven dev ≡ drives rows dev
+
+Driven-step : (row : Row) (rows : List Row) (driven : List LineSet) → Driven rows driven → length driven ≡ 8 → row.dev < 8 → (lines : LineSet) → lines ≡ driven_after row.kind (driven_at driven row.dev) → Driven (row ∷ rows) (slice_set driven row.dev lines)
+Driven-step row rows driven d e h lines l dev lt = grind (arith, common_steps, elements, d dev)
+
+-- the union of all is the bus
+pub union_all-below : (driven : List LineSet) → union_all driven ≡ union_below (driven_at driven) 8
+unfolding union_below
+union_all-below driven = refl
+
+-- one more row
+pub IsViewOf-step : (row : Row) (rows : List Row) (v : View) → IsViewOf rows v → row.dev < 8 → (lines : LineSet) → lines ≡ driven_after row.kind (driven_at v.driven row.dev) → (after : LineSet) → after ≡ union_all (slice_set v.driven row.dev lines) → (changed : List ℕ) → ((line : ℕ) → line < 18 → slice_index changed line ≡ newer (line_of line) v.present after (slice_index v.changed line) row.time) → (data_changed : ℕ) → data_changed ≡ newer data_of v.present after v.data_changed row.time → IsViewOf (row ∷ rows) (record { driven = slice_set v.driven row.dev lines; present = after; changed = changed; data_changed = data_changed; last = row.time })
+IsViewOf-step row rows v i h lines l after u changed a data_changed e =
+    let step = Driven-step row rows v.driven i.drives_are i.long h lines l in
+    let new : after ≡ bus (row ∷ rows) =
+    u ∙ (union_all-below (slice_set v.driven row.dev lines) ∙ below_same (driven_at (slice_set v.driven row.dev lines)) (drives (row ∷ rows)) 8 step) in
+    record {
+      long = length-set _ _ _ ∙ i.long;
+      drives_are = step;
+      bus_is = new;
+      since_are = λ line lt. a line lt ∙ newer_along (line_of line) _ _ _ _ _ _ _ i.bus_is new (i.since_are line lt);
+      data_is = e ∙ newer_along data_of _ _ _ _ _ _ _ i.bus_is new i.data_is;
+      last_is = refl;
+    }
+
+-- no time lies after that of the row, where none did before
+pub IsUpTo-step : (time : ℕ) (v : View) → IsUpTo time v → (driven : List LineSet) (after : LineSet) (changed : List ℕ) → ((line : ℕ) → line < 18 → slice_index changed line ≡ newer (line_of line) v.present after (slice_index v.changed line) time) → (data_changed : ℕ) → data_changed ≡ newer data_of v.present after v.data_changed time → IsUpTo time (record { driven = driven; present = after; changed = changed; data_changed = data_changed; last = time })
+IsUpTo-step time v u driven after changed a data_changed e = record {
+  lines = λ line lt. newer_le (line_of line) v.present after _ time _ (a line lt) (u.lines line lt);
+  data_lines = newer_le data_of v.present after _ time _ e u.data_lines;
+  last = omega arith;
+}
+
+-- a later time bounds a view too
+pub IsUpTo-later : (time later : ℕ) (v : View) → time ≤ later → IsUpTo time v → IsUpTo later v
+IsUpTo-later time later v h u = record {
+  lines = λ line lt. let le = u.lines line lt in omega arith;
+  data_lines = let le = u.data_lines in omega arith;
+  last = let le = u.last in omega arith;
+}

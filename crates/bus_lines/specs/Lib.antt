@@ -1,0 +1,4 @@
+pub mod LineSet
+pub mod Numbers
+pub mod View
+pub mod Trace

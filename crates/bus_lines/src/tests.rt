@@ -1,0 +1,60 @@
+// Values from the standard, and one run of the view.
+
+use crate::line_set::{Lines, byte_lines, parity};
+use crate::rows::{Kind, Row};
+use crate::view::BusView;
+use bitflags::Flags;
+
+#[test]
+fn bytes_and_ids(rt: HostRuntime) {
+    for (byte, bits) in [
+        (0x00u8, 0x100u32),
+        (0x01, 0x001),
+        (0xc0, 0x1c0),
+        (0x0f, 0x10f),
+        (0x07, 0x007),
+    ] {
+        assert_eq!(rt; byte_lines(byte).bits(), bits);
+        assert_eq!(rt; parity(byte), bits >= 0x100);
+    }
+    assert_eq!(rt; Lines::ids(7, 0).bits(), 0x181);
+}
+
+#[test]
+fn view_of_an_arbitration(rt: HostRuntime) {
+    let mut view = BusView::new();
+    for (time, dev, bits) in [
+        (1200, 7u8, 0x00280u32),
+        (3600, 7, 0x00680),
+        (4800, 7, 0x10781),
+        (4890, 7, 0x10581),
+        (5290, 0, 0x00200),
+        (5380, 7, 0x10000),
+        (5380, 0, 0x02a00),
+        (5780, 0, 0x06a00),
+        (5780, 7, 0x001c0),
+    ] {
+        let row = Row {
+            time,
+            dev: dev % 8,
+            kind: Kind::Drives(Lines::from_bits_retain(bits)),
+        };
+        view.step(&row);
+    }
+    view.step(&Row {
+        time: 5800,
+        dev: 0,
+        kind: Kind::Fault(1),
+    });
+    assert_eq!(rt; view.bus().bits(), 0x06bc0);
+    assert_eq!(rt; view.drives(0).bits(), 0x06a00);
+    assert_eq!(rt;
+        (
+            view.since(9),
+            view.since(14),
+            view.data_since(),
+            view.last_time()
+        ),
+        (5290, 5780, 5780, 5800)
+    );
+}

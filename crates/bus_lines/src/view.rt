@@ -1,0 +1,231 @@
+// A running view of a trace.
+
+ghost use Rattle.std.specs.Prelude.{ℕ, ◌≡◌, ◌<◌, ◌≤◌, List, [], ◌∷◌, slice_index};
+ghost use Rattle.bus_lines.specs.LineSet.{LineSet, line_of, data_of};
+ghost use Rattle.bus_lines.specs.View.{union_all, driven_at, IsUpTo};
+ghost use Rattle.bus_lines.specs.Trace.{drives, bus, last_time, newer, since, since_line, IsViewOf};
+
+use crate::line_set::Lines;
+use crate::rows::Row;
+use bus_base::{Dev, Ns};
+use std::marker::Model;
+
+/// What each device drives and what is on the bus after the rows of a trace so far, and since when each
+/// line has stood as it does.
+#[derive(Debug, Drop)]
+pub struct BusView {
+    driven: [Lines; 8],
+    present: Lines,
+    changed: [Ns; 18],
+    data_changed: Ns,
+    last: Ns,
+}
+
+impl Model for BusView {
+    ghost use Rattle.bus_lines.specs.View.{View};
+
+    ghost Value = { View };
+
+    ghost view = { λ a. record { driven = a.driven; present = a.present; changed = a.changed; data_changed = a.data_changed; last = a.last } };
+}
+
+impl BusView {
+    /// The view before any row: no device drives anything, and every line has stood since 0.
+    pub fn new() -> BusView
+        ensures trace { IsViewOf [] result }
+        ensures up_to { (time : ℕ) → IsUpTo time result }
+        ensures lines { (line : ℕ) → line < 18 → slice_index result.changed line ≡ 0 }
+        ensures data_lines { result.data_changed ≡ 0 }
+        ensures last { result.last ≡ 0 }
+    {
+        BusView {
+            driven: [Lines::none(); 8],
+            present: Lines::none(),
+            changed: [0; 18],
+            data_changed: 0,
+            last: 0,
+        }
+    }
+
+    /// What this device drives.
+    pub fn drives(&self, dev: Dev) -> Lines
+        requires { dev < 8 }
+        ensures value { result ≡ driven_at self.now.driven dev }
+        ensures trace { (rows : List Row) → IsViewOf rows self.now → result ≡ drives rows dev }
+    {
+        self.driven[dev as usize]
+    }
+
+    /// What is on the bus.
+    pub fn bus(&self) -> Lines
+        ensures value { result ≡ self.now.present }
+        ensures trace { (rows : List Row) → IsViewOf rows self.now → result ≡ bus rows }
+    {
+        self.present
+    }
+
+    /// When the line of this number last changed on the bus, or 0, in nanoseconds.
+    pub fn since(&self, line: u8) -> Ns
+        requires { line < 18 }
+        ensures value { result ≡ slice_index self.now.changed line }
+        ensures trace { (rows : List Row) → IsViewOf rows self.now → result ≡ since (line_of line) rows }
+        ensures up_to { (time : ℕ) → IsUpTo time self.now → result ≤ time }
+    {
+        self.changed[line as usize]
+    }
+
+    /// When BSY last changed.
+    pub fn since_bsy(&self) -> Ns
+        ensures value { result ≡ slice_index self.now.changed 9 }
+        ensures trace { (rows : List Row) → IsViewOf rows self.now → result ≡ since_line (λ s. s.bsy) rows }
+        ensures up_to { (time : ℕ) → IsUpTo time self.now → result ≤ time }
+    {
+        self.since(9)
+    }
+
+    /// When SEL last changed.
+    pub fn since_sel(&self) -> Ns
+        ensures value { result ≡ slice_index self.now.changed 10 }
+        ensures trace { (rows : List Row) → IsViewOf rows self.now → result ≡ since_line (λ s. s.sel) rows }
+        ensures up_to { (time : ℕ) → IsUpTo time self.now → result ≤ time }
+    {
+        self.since(10)
+    }
+
+    /// When C/D last changed.
+    pub fn since_cd(&self) -> Ns
+        ensures value { result ≡ slice_index self.now.changed 11 }
+        ensures trace { (rows : List Row) → IsViewOf rows self.now → result ≡ since_line (λ s. s.cd) rows }
+        ensures up_to { (time : ℕ) → IsUpTo time self.now → result ≤ time }
+    {
+        self.since(11)
+    }
+
+    /// When I/O last changed.
+    pub fn since_io(&self) -> Ns
+        ensures value { result ≡ slice_index self.now.changed 12 }
+        ensures trace { (rows : List Row) → IsViewOf rows self.now → result ≡ since_line (λ s. s.io) rows }
+        ensures up_to { (time : ℕ) → IsUpTo time self.now → result ≤ time }
+    {
+        self.since(12)
+    }
+
+    /// When MSG last changed.
+    pub fn since_msg(&self) -> Ns
+        ensures value { result ≡ slice_index self.now.changed 13 }
+        ensures trace { (rows : List Row) → IsViewOf rows self.now → result ≡ since_line (λ s. s.msg) rows }
+        ensures up_to { (time : ℕ) → IsUpTo time self.now → result ≤ time }
+    {
+        self.since(13)
+    }
+
+    /// When REQ last changed.
+    pub fn since_req(&self) -> Ns
+        ensures value { result ≡ slice_index self.now.changed 14 }
+        ensures trace { (rows : List Row) → IsViewOf rows self.now → result ≡ since_line (λ s. s.req) rows }
+        ensures up_to { (time : ℕ) → IsUpTo time self.now → result ≤ time }
+    {
+        self.since(14)
+    }
+
+    /// When ACK last changed.
+    pub fn since_ack(&self) -> Ns
+        ensures value { result ≡ slice_index self.now.changed 15 }
+        ensures trace { (rows : List Row) → IsViewOf rows self.now → result ≡ since_line (λ s. s.ack) rows }
+        ensures up_to { (time : ℕ) → IsUpTo time self.now → result ≤ time }
+    {
+        self.since(15)
+    }
+
+    /// When ATN last changed.
+    pub fn since_atn(&self) -> Ns
+        ensures value { result ≡ slice_index self.now.changed 16 }
+        ensures trace { (rows : List Row) → IsViewOf rows self.now → result ≡ since_line (λ s. s.atn) rows }
+        ensures up_to { (time : ℕ) → IsUpTo time self.now → result ≤ time }
+    {
+        self.since(16)
+    }
+
+    /// When RST last changed.
+    pub fn since_rst(&self) -> Ns
+        ensures value { result ≡ slice_index self.now.changed 17 }
+        ensures trace { (rows : List Row) → IsViewOf rows self.now → result ≡ since_line (λ s. s.rst) rows }
+        ensures up_to { (time : ℕ) → IsUpTo time self.now → result ≤ time }
+    {
+        self.since(17)
+    }
+
+    /// When DB(7-0) or DB(P) last changed on the bus, or 0.
+    pub fn data_since(&self) -> Ns
+        ensures value { result ≡ self.now.data_changed }
+        ensures trace { (rows : List Row) → IsViewOf rows self.now → result ≡ since data_of rows }
+        ensures up_to { (time : ℕ) → IsUpTo time self.now → result ≤ time }
+    {
+        self.data_changed
+    }
+
+    /// The time of the last row, or 0.
+    pub fn last_time(&self) -> Ns
+        ensures value { result ≡ self.now.last }
+        ensures trace { (rows : List Row) → IsViewOf rows self.now → result ≡ last_time rows }
+        ensures up_to { (time : ℕ) → IsUpTo time self.now → result ≤ time }
+    {
+        self.last
+    }
+
+    /// One more row. Its time may be any, also before that of the last row.
+    pub fn step(&mut self, row: &Row)
+        requires { row.now.dev < 8 }
+        ensures trace { (rows : List Row) → IsViewOf rows self.old → IsViewOf (row.now ∷ rows) self.new }
+        // Where no time lay after the row's, none does afterwards.
+        ensures up_to { IsUpTo row.now.time self.old → IsUpTo row.now.time self.new }
+        ensures lines { (line : ℕ) → line < 18 → slice_index self.old.changed line ≤ row.now.time → slice_index self.new.changed line ≤ row.now.time }
+        ensures data_lines { self.old.data_changed ≤ row.now.time → self.new.data_changed ≤ row.now.time }
+        ensures last { self.new.last ≡ row.now.time }
+    {
+        let driven = row.kind.driven_after(self.drives(row.dev));
+        let before = self.present;
+        self.driven[row.dev as usize] = driven;
+        let after = union_all(&self.driven);
+        self.present = after;
+        self.data_changed = renewed(before, after, self.data_changed, row.time);
+        renew(&mut self.changed, before, after, row.time);
+        self.last = row.time;
+    }
+}
+
+// What all devices drive together.
+fn union_all(driven: &[Lines; 8]) -> Lines
+    ensures { result ≡ union_all driven.now }
+{
+    driven[0]
+        .with(driven[1])
+        .with(driven[2])
+        .with(driven[3])
+        .with(driven[4])
+        .with(driven[5])
+        .with(driven[6])
+        .with(driven[7])
+}
+
+// Sets the time of each line that differs.
+fn renew(changed: &mut [Ns; 18], before: Lines, after: Lines, time: Ns)
+    ensures { (line : ℕ) → line < 18 → slice_index changed.new line ≡ newer (line_of line) before after (slice_index changed.old line) time }
+{
+    for k in 0..18u8 {
+        if before.differs(after, k) {
+            changed[k as usize] = time;
+        }
+    }
+}
+
+// When a data line last changed.
+fn renewed(before: Lines, after: Lines, was: Ns, time: Ns) -> Ns
+    ensures { result ≡ newer data_of before after was time }
+{
+    if before.data_bits() == after.data_bits() {
+        was
+    } else {
+        time
+    }
+}
