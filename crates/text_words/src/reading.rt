@@ -1,0 +1,160 @@
+//! From a text to its words.
+ghost use Rattle.std.specs.Prelude.{◌≡◌, ◌≤◌, ◌<◌, ◌*◌, ◌%◌, length, IfSome};
+ghost use Rattle.std.specs.Char.{is_ascii_digit};
+ghost use Rattle.std.specs.List.{prefix_len};
+ghost use Rattle.text_words.specs.Words.{Sees, after, small, pushed, value_after, is_decimal, number_at, is_digit, digit_at, hex_digits_at, hex_array_at, is_hex, hex_value, bytes_of, is_whole};
+
+/// The value of a number in a text: `None` from 2^64 on.
+pub type Number = Option<u64>;
+
+/// What follows `text` at the front of `bytes`, or `None` where they do not begin with it.
+#[tactic(auto, unfolding(crate::specs::Words::after))]
+pub fn after<'a>(text: &[u8], bytes: &'a [u8]) -> Option<&'a [u8]>
+    ensures { Sees (λ x. x.now) result (after text.now bytes.now) }
+{
+    bytes.strip_prefix(text)
+}
+
+/// A number with one digit more.
+fn pushed(number: Number, digit: u8) -> Number
+    ensures { result ≡ pushed number digit }
+{
+    let tens = number?.checked_mul(10)?;
+    tens.checked_add(u64::from(digit.saturating_sub(b'0')))
+}
+
+/// The value of decimal digits.
+fn value_of(digits: &[u8]) -> Number
+    ensures { result ≡ small (value_after 0 digits.now) }
+{
+    let mut value = Some(0u64);
+    for digit in digits {
+        value = pushed(value, *digit);
+    }
+    value
+}
+
+/// Whether digits spell a number: one or more, and no leading zero.
+fn is_decimal(digits: &[u8]) -> bool
+    ensures { result ≡ is_decimal digits.now }
+{
+    !digits.is_empty() && !(digits.len() > 1 && digits[0] == b'0')
+}
+
+fn decimal_len(bytes: &[u8]) -> usize
+    ensures exact { result ≡ prefix_len is_ascii_digit bytes.now }
+    ensures within { result ≤ length bytes.now }
+{
+    bytes.iter().take_while(|b| b.is_ascii_digit()).count()
+}
+
+/// The decimal number at the front, and what follows it: all digits there, one or more, with no
+/// leading zero. `None` where there is none.
+#[tactic(auto, unfolding(crate::specs::Words::number_at))]
+pub fn number(bytes: &[u8]) -> Option<(Number, &[u8])>
+    ensures { Sees (λ x. (x.0, x.1.now)) result (number_at bytes.now) }
+{
+    let (digits, rest) = bytes.split_at(decimal_len(bytes));
+    if is_decimal(digits) {
+        Some((value_of(digits), rest))
+    } else {
+        None
+    }
+}
+
+fn is_digit(byte: u8) -> bool
+    ensures { result ≡ is_digit byte }
+{
+    b'0' <= byte && byte <= b'7'
+}
+
+/// The device, 0 to 7, that the digit at the front names, and what follows it.
+pub fn digit(bytes: &[u8]) -> Option<(u8, &[u8])>
+    ensures exact { Sees (λ x. (x.0, x.1.now)) result (digit_at bytes.now) }
+    ensures small { IfSome result (λ x. x.0 < 8) }
+{
+    let (first, rest) = bytes.split_first()?;
+    if is_digit(*first) {
+        Some((*first - b'0', rest))
+    } else {
+        None
+    }
+}
+
+/// Whether a byte is a hexadecimal digit, in lower case.
+pub fn is_hex_digit(byte: u8) -> bool
+    ensures { result ≡ is_hex byte }
+{
+    byte.is_ascii_digit() || (b'a' <= byte && byte <= b'f')
+}
+
+fn hex_len(bytes: &[u8]) -> usize
+    ensures exact { result ≡ prefix_len is_hex bytes.now }
+    ensures within { result ≤ length bytes.now }
+{
+    bytes.iter().take_while(|b| is_hex_digit(**b)).count()
+}
+
+/// The hexadecimal digits at the front, and what follows them: all digits there, two for each of
+/// one or more bytes. `None` where there are none, or an odd number of them.
+#[tactic(auto, unfolding(crate::specs::Words::hex_digits_at))]
+pub fn hex_digits(bytes: &[u8]) -> Option<(&[u8], &[u8])>
+    ensures exact { Sees (λ x. (x.0.now, x.1.now)) result (hex_digits_at bytes.now) }
+    ensures even { IfSome result (λ x. length x.0.now % 2 ≡ 0) }
+{
+    let len = hex_len(bytes);
+    let is_odd = len % 2 == 1;
+    if len == 0 || is_odd {
+        None
+    } else {
+        Some(bytes.split_at(len))
+    }
+}
+
+/// The value of a hexadecimal digit, below 16.
+pub fn hex_value(digit: u8) -> u8
+    ensures exact { result ≡ hex_value digit }
+    ensures small { result < 16 }
+{
+    if digit < b'a' {
+        digit.saturating_sub(b'0') % 16
+    } else {
+        (digit - 87) % 16
+    }
+}
+
+/// Writes the bytes that `digits` spell into `bytes`, which has room for exactly these.
+pub fn decode(digits: &[u8], bytes: &mut [u8])
+    requires { length digits.now ≡ 2 * length bytes.old }
+    ensures { bytes.new ≡ bytes_of digits.now }
+{
+    let mut at = 0;
+    let mut rest = digits;
+    while let [high, low, others @ ..] = rest {
+        bytes[at] = hex_value(*high) * 16 + hex_value(*low);
+        at += 1;
+        rest = others;
+    }
+}
+
+/// The `N` bytes that the hexadecimal digits at the front spell, and what follows them. `None`
+/// where they are not the digits of `N` bytes.
+#[tactic(auto, unfolding(crate::specs::Words::hex_array_at))]
+pub fn hex_array<const N: usize>(bytes: &[u8]) -> Option<([u8; N], &[u8])>
+    ensures { Sees (λ x. (x.0, x.1.now)) result (hex_array_at N bytes.now) }
+{
+    let (digits, rest) = hex_digits(bytes)?;
+    if digits.len() / 2 != N {
+        return None;
+    }
+    let mut array = [0; N];
+    decode(digits, &mut array);
+    Some((array, rest))
+}
+
+/// Whether nothing follows: `Some` where `rest` is empty.
+pub fn whole(rest: &[u8]) -> Option<()>
+    ensures { result ≡ is_whole rest.now }
+{
+    if rest.is_empty() { Some(()) } else { None }
+}
