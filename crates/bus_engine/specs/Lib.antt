@@ -1,0 +1,15 @@
+pub mod Blocks
+pub mod Value
+pub mod OneRun
+pub mod Sight
+pub mod Early
+pub mod HostState
+pub mod Hosts
+pub mod Acts
+pub mod TargetState
+pub mod Targets
+pub mod Effects
+pub mod Scene
+pub mod Worlds
+pub mod Runs
+pub mod Start
