@@ -1,0 +1,4 @@
+pub mod FormAgain
+pub mod FormOnly
+pub mod FormShort
+pub mod RunParts

@@ -1,0 +1,94 @@
+-- How the program ends: what it wrote, how far it read, and what the input was.
+use Rattle.std.specs.Prelude.{ℕ, ◌≡◌, ◌+◌, ◌<◌, ◌⊎◌, List, [], ◌∷◌, ◌++◌, length, take, drop, Option, Some, None, codes}
+use Rattle.bus_base.specs.Faults.{HasRisen}
+use Rattle.bus_engine.specs.declared.request.One.{One}
+use Rattle.bus_engine.specs.OneRun.{Fits, run_of}
+use Rattle.trace_text.specs.ReportText.{report_text}
+use Rattle.bus_cli.specs.Form.{IsForm}
+use Rattle.bus_cli.specs.declared.status.Status.{Status}
+use Rattle.bus_cli.specs.declared.status.Status.TheVariants.{Done, Words, Read, Write, Memory, NotBuilt}
+
+-- the exit status
+abbrev pub code_of : Status → ℕ
+code_of Done = 0
+code_of Words = 1
+code_of Read = 3
+code_of Write = 4
+code_of Memory = 5
+code_of NotBuilt = 9
+
+-- the line of a refusal
+abbrev pub usage_line : List ℕ
+usage_line = codes "usage: scsibus run [--short] | judge | make SEED N\n"
+
+abbrev pub fault_line : List ℕ
+fault_line = codes "read fault\n"
+
+abbrev pub memory_line : List ℕ
+memory_line = codes "no memory\n"
+
+abbrev pub form_line : List ℕ
+form_line = codes "not built\n"
+
+-- the report of the run of a scenario, whose one disk is unit 0 of the target
+abbrev pub report_of : One → List ℕ
+report_of one = report_text ((one.target, 0) ∷ []) (run_of one)
+
+-- the scenario that the input says; where nothing is told of the bytes, one that can be run
+abbrev pub IsSaid : Option (List ℕ) → One → Type 0
+IsSaid None one = Fits one
+IsSaid (Some bytes) one = IsForm bytes one
+
+-- After what the sink held, `before`, it holds the line; or a front of it, and its count of faults
+-- rose.
+abbrev pub SaysLine : List ℕ → List ℕ → Option (List ℕ) → ℕ → ℕ → Type 0
+SaysLine line before written faults_old faults_new =
+    (written ≡ Some (before ++ line)) ⊎ ((k : ℕ) × (written ≡ Some (before ++ take k line)) × HasRisen faults_old faults_new)
+
+-- What was written with this status, by the bytes that the input had left: the report of the run of
+-- the scenario that they say, or with Write a front of it; or the status' own line.
+abbrev pub Says : Status → Option (List ℕ) → List ℕ → Option (List ℕ) → ℕ → ℕ → Type 0
+Says Done input before written faults_old faults_new =
+    (one : One) × IsSaid input one × (written ≡ Some (before ++ report_of one))
+Says Write input before written faults_old faults_new =
+    (one : One) × IsSaid input one × ((k : ℕ) × (written ≡ Some (before ++ take k (report_of one))))
+Says Words input before written faults_old faults_new = SaysLine usage_line before written faults_old faults_new
+Says Read input before written faults_old faults_new = SaysLine fault_line before written faults_old faults_new
+Says Memory input before written faults_old faults_new = SaysLine memory_line before written faults_old faults_new
+Says NotBuilt input before written faults_old faults_new = SaysLine form_line before written faults_old faults_new
+
+-- the most bytes that the input may have
+abbrev pub limit : ℕ
+limit = 4194304
+
+-- All bytes were read; or they are more than the limit, and one more than the limit was read.
+abbrev pub ReadsOut : List ℕ → Option (List ℕ) → Type 0
+ReadsOut bytes left =
+    (left ≡ Some []) ⊎ ((limit < length bytes) × (left ≡ Some (drop (limit + 1) bytes)))
+
+-- how far the bytes of the input were read with this status
+abbrev pub Reads : Status → List ℕ → Option (List ℕ) → Type 0
+Reads Done bytes left = left ≡ Some []
+Reads Write bytes left = left ≡ Some []
+Reads NotBuilt bytes left = ReadsOut bytes left
+Reads Words bytes left = left ≡ Some bytes
+Reads Read bytes left = Unit {0}
+Reads Memory bytes left = Unit {0}
+
+-- what the status says of the form of the input's bytes
+abbrev pub TellsForm : Status → List ℕ → Type 0
+TellsForm Done bytes = (one : One) × IsForm bytes one
+TellsForm Write bytes = (one : One) × IsForm bytes one
+TellsForm NotBuilt bytes = (one : One) → IsForm bytes one → ⊥
+TellsForm Words bytes = Unit {0}
+TellsForm Read bytes = Unit {0}
+TellsForm Memory bytes = Unit {0}
+
+-- the two ends that no cause but want of memory tells apart
+abbrev pub IsDoneOrMemory : Status → Type 0
+IsDoneOrMemory Done = Unit {0}
+IsDoneOrMemory Memory = Unit {0}
+IsDoneOrMemory Words = ⊥
+IsDoneOrMemory Read = ⊥
+IsDoneOrMemory Write = ⊥
+IsDoneOrMemory NotBuilt = ⊥

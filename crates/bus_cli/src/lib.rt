@@ -1,0 +1,24 @@
+//! What the program does: it runs a scenario, and writes the report of the run.
+//!
+//! [`bus_main`] is the program over a source, a sink and a counter of steps: it looks at the words,
+//! reads the whole input, and writes the report or the one line of a refusal. [`Status`] is how it
+//! ended, and the program's exit status.
+//!
+//! It stands on `bus_engine` for the run, on `trace_text` for the text of a report, on `text_words`
+//! for the form of scenarios, and on `bus_base` for input and output. Its contract: each status has
+//! its cause, and with the right words, a scenario of the form and no fault, exactly the report of
+//! the run of that scenario is written, or there was no memory.
+#![tactic(auto)]
+
+mod form;
+mod report;
+mod status;
+mod top;
+mod words;
+
+pub use bus_base::{Sink, Source, Steps};
+pub use status::Status;
+pub use top::bus_main;
+
+#[cfg(test)]
+mod tests;

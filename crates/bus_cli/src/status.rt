@@ -1,0 +1,36 @@
+//! How the program ended.
+ghost use Rattle.std.specs.Prelude.{◌≡◌};
+ghost use Rattle.bus_cli.specs.Ends.{code_of};
+
+/// How the program ended.
+#[derive(Clone, Copy, PartialEq, Eq, Debug)]
+pub enum Status {
+    /// The report was written.
+    Done = 0,
+    /// The words are none of the program's.
+    Words = 1,
+    /// A read failed.
+    Read = 3,
+    /// A write of the report failed.
+    Write = 4,
+    /// There was no memory left.
+    Memory = 5,
+    /// The input is no scenario that can be run so far.
+    NotBuilt = 9,
+}
+
+impl Status {
+    /// The exit status of the program.
+    pub fn code(self) -> u8
+        ensures { result ≡ code_of self }
+    {
+        match self {
+            Status::Done => 0,
+            Status::Words => 1,
+            Status::Read => 3,
+            Status::Write => 4,
+            Status::Memory => 5,
+            Status::NotBuilt => 9,
+        }
+    }
+}

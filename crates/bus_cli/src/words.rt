@@ -1,0 +1,20 @@
+//! The words of the program.
+ghost use Rattle.std.specs.Prelude.{◌≡◌, map, string_bytes};
+ghost use Rattle.bus_cli.specs.Words.{word_of};
+
+/// What the words ask of the program.
+#[derive(Clone, Copy, PartialEq, Eq, Debug)]
+pub enum Word {
+    /// `run`: run the scenario of the input.
+    Run,
+}
+
+/// What the words ask, or `None` where they are none of the program's.
+pub fn word_of(words: &[String]) -> Option<Word>
+    ensures { result ≡ word_of (map string_bytes words.now) }
+{
+    match words {
+        [word] if word.as_str() == "run" => Some(Word::Run),
+        _ => None,
+    }
+}

@@ -1,0 +1,23 @@
+-- The texts, computed on a small run: two rows, two events, a reply and a block.
+use Rattle.std.proofs.Common.{◌≡◌, [], ◌∷◌, true, false, refl}
+use Rattle.std.specs.Prelude.{codes}
+use Rattle.std.specs.Fmt.{digits}
+use Rattle.bus_lines.specs.LineSet.{set_of}
+use Rattle.bus_lines.specs.declared.Kind.TheVariants.{Drives, Fault}
+use Rattle.bus_base.specs.declared.Event.TheVariants.{Accept, End}
+use Rattle.bus_engine.specs.declared.outcomes.Outcome.TheVariants.{Good}
+use Rattle.bus_engine.specs.Value.{RunValue}
+use Rattle.trace_text.specs.ReportText.{report_text}
+
+abbrev sample : RunValue
+sample = record {
+  rows = record { time = 4800; dev = 7; kind = Drives (set_of 0x1078a) } ∷ record { time = 7055; dev = 0; kind = Fault 8 } ∷ [];
+  end = 7055;
+  history = Accept (record { command = 1; sense = false }) ∷ End (record { command = 12; sense = true }) 2 ∷ [];
+  replies = Good (0x0a ∷ 0xff ∷ []) ∷ [];
+  disks = ((0 ∷ 0 ∷ []) ∷ (1 ∷ 0xa2 ∷ []) ∷ []) ∷ [];
+}
+
+report_of_sample : report_text ((3, 0) ∷ []) sample ≡ codes "trace 1\n4800 7 1078a\n7055 0 f8\nend 7055\nhistory\naccept 1\nend 12S 02\nreplies\ncmd 1 GOOD 0aff\nblocks\nblock 3 0 1 01a2\ndone\n"
+unfolding digits
+report_of_sample = refl

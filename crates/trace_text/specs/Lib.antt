@@ -1,0 +1,6 @@
+pub mod Bounds
+pub mod RowText
+pub mod EventText
+pub mod ReplyText
+pub mod BlockText
+pub mod ReportText
