@@ -1,4 +1,3 @@
 pub mod FormAgain
 pub mod FormOnly
 pub mod FormShort
-pub mod RunParts

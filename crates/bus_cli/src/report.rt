@@ -4,7 +4,7 @@ ghost use Rattle.std.specs.Prelude.{◌≡◌, ◌<◌, ◌^◌, ◌++◌, ◌�
 ghost use Rattle.std.specs.List.{AllByRecursion, flat_map};
 ghost use Rattle.text_words.specs.Spelling.{byte_text, hex_text};
 ghost use Rattle.bus_engine.specs.OneRun.{Fits};
-ghost use Rattle.trace_text.specs.Bounds.{IsPrintable};
+ghost use Rattle.bus_lines.specs.OfTrace.{IsRow};
 ghost use Rattle.trace_text.specs.RowText.{row_text, trace_text};
 ghost use Rattle.trace_text.specs.EventText.{process_text, abort_text, event_words, event_text};
 ghost use Rattle.trace_text.specs.ReplyText.{bytes_text, sense_text, outcome_text, reply_text, replies_text};
@@ -50,14 +50,14 @@ fn put_hex(out: &mut Vec<u8>, bytes: &[u8]) -> Result<(), NoMemory>
 }
 
 fn put_row(out: &mut Vec<u8>, row: &Row) -> Result<(), NoMemory>
-    requires { IsPrintable row.now }
+    requires { IsRow row.now }
     ensures { OnOk result (out.new.items ≡ out.old.items ++ row_text row.now) }
 {
     put(out, print_row(row).as_str().as_bytes())
 }
 
 fn put_rows(out: &mut Vec<u8>, rows: &[Row]) -> Result<(), NoMemory>
-    requires { AllByRecursion IsPrintable rows.now }
+    requires { AllByRecursion IsRow rows.now }
     ensures { OnOk result (out.new.items ≡ out.old.items ++ flat_map row_text rows.now) }
 {
     for row in rows {
@@ -67,7 +67,7 @@ fn put_rows(out: &mut Vec<u8>, rows: &[Row]) -> Result<(), NoMemory>
 }
 
 fn put_trace(out: &mut Vec<u8>, rows: &[Row], end: Ns) -> Result<(), NoMemory>
-    requires { AllByRecursion IsPrintable rows.now }
+    requires { AllByRecursion IsRow rows.now }
     ensures { OnOk result (out.new.items ≡ out.old.items ++ trace_text rows.now end) }
 {
     put(out, b"trace 1\n")?;
@@ -275,7 +275,6 @@ fn put_block(
 }
 
 fn put_disk(out: &mut Vec<u8>, target: Dev, unit: u8, disk: &DenseBlocks) -> Result<(), NoMemory>
-    requires { length disk.now < 2 ^ 32 }
     ensures { OnOk result (out.new.items ≡ out.old.items ++ blocks_text target unit 0 disk.now) }
 {
     for lba in 0..disk.count() as u32 {
@@ -286,7 +285,6 @@ fn put_disk(out: &mut Vec<u8>, target: Dev, unit: u8, disk: &DenseBlocks) -> Res
 
 // The one disk, unit 0 of this target.
 fn put_disks(out: &mut Vec<u8>, target: Dev, disks: &[DenseBlocks]) -> Result<(), NoMemory>
-    requires { AllByRecursion (λ disk. length disk < 2 ^ 32) disks.now }
     ensures { OnOk result (out.new.items ≡ out.old.items ++ disks_text ((target, 0) ∷ []) disks.now) }
 {
     match disks {
@@ -313,7 +311,6 @@ fn put_replies_part(out: &mut Vec<u8>, outcomes: &[Outcome]) -> Result<(), NoMem
 
 // The part with the blocks.
 fn put_blocks_part(out: &mut Vec<u8>, target: Dev, disks: &[DenseBlocks]) -> Result<(), NoMemory>
-    requires { AllByRecursion (λ disk. length disk < 2 ^ 32) disks.now }
     ensures { OnOk result (out.new.items ≡ out.old.items ++ (codes "blocks\n" ++ disks_text ((target, 0) ∷ []) disks.now)) }
 {
     put(out, b"blocks\n")?;
@@ -321,8 +318,7 @@ fn put_blocks_part(out: &mut Vec<u8>, target: Dev, disks: &[DenseBlocks]) -> Res
 }
 
 fn put_report(out: &mut Vec<u8>, target: Dev, run: &Run) -> Result<(), NoMemory>
-    requires rows { AllByRecursion IsPrintable run.now.rows }
-    requires disks { AllByRecursion (λ disk. length disk < 2 ^ 32) run.now.disks }
+    requires { AllByRecursion IsRow run.now.rows }
     ensures { OnOk result (out.new.items ≡ out.old.items ++ report_text ((target, 0) ∷ []) run.now) }
 {
     put_trace(out, &run.rows, run.end)?;

@@ -6,3 +6,4 @@ pub mod Chains
 pub mod TheRun
 pub mod OnCourse
 pub mod Sample
+pub mod RunRows

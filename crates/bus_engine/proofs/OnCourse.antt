@@ -1,7 +1,14 @@
 -- What the loop over the rounds keeps: the rounds that are left lead to the end.
 use Rattle.std.proofs.Common.{ℕ, suc, ◌≡◌, ◌+◌, ◌-◌, ◌<◌, ◌≤◌, Bool, true, false, ◌&&◌, refl, sym, ap, subst, ◌∙◌, arith}
+use Rattle.std.specs.Prelude.{Result, Ok, Err, IfOk}
+use Rattle.std.specs.List.{AllByRecursion}
+use Rattle.bus_base.specs.declared.NoMemory.{NoMemory}
+use Rattle.bus_lines.specs.OfTrace.{IsRow}
 use Rattle.bus_engine.specs.declared.request.One.{One}
-use Rattle.bus_engine.specs.OneRun.{Fits}
+use Rattle.bus_engine.specs.declared.made.Run.{Run}
+use Rattle.bus_engine.specs.Value.{RunValue}
+use Rattle.bus_engine.proofs.RunRows.{run_rows}
+use Rattle.bus_engine.specs.OneRun.{Fits, run_of}
 use Rattle.bus_engine.specs.Scene.{Scene, round}
 use Rattle.bus_engine.specs.Runs.{early, rounds_from, all_early}
 use Rattle.bus_engine.specs.Start.{start_of}
@@ -64,3 +71,8 @@ left_at_end one done z h on =
 pub left_at_round : (one : One) (done : ℕ) (z y : Scene) (more : Bool) → done < 256 → OnCourse one (256 - done) (true, z) → round z ≡ (more, y) → more ≡ false → y ≡ ended one
 left_at_round one done z y more h on e m =
     stopped one (256 - (done + 1)) y (subst (λ (b : Bool). OnCourse one (256 - (done + 1)) (b, y)) m (round_on one done z (more, y) h on e))
+
+-- what is made of the end, where memory lasted
+pub all_rows : (one : One) (r : Result Run NoMemory) → Fits one → IfOk r (λ run. run ≡ run_of one) → IfOk r (λ run. AllByRecursion IsRow run.rows)
+all_rows one (Ok run) fits e = subst (λ (x : RunValue). AllByRecursion IsRow x.rows) (sym e) (run_rows one fits)
+all_rows one (Err e) fits h = tt

@@ -1,5 +1,5 @@
 -- Rounds one after another.
-use Rattle.std.specs.Prelude.{ℕ, zero, suc, ◌^◌, Bool, true, ◌&&◌, nat_lt, Option, Some, None, if◌then◌else◌}
+use Rattle.std.specs.Prelude.{ℕ, zero, suc, Bool, true, ◌&&◌, Option, Some, None, if◌then◌else◌}
 use Rattle.bus_engine.specs.Early.{is_early, stands_early, service_early}
 use Rattle.bus_engine.specs.Scene.{Scene, round}
 

@@ -97,6 +97,7 @@ follows t phases.MessageIn done atn = false
 -- the block that a command asks for, if it is a READ(6) of one block of the disk
 abbrev pub block_in : ℕ → Result Command CdbFault → Option ℕ
 block_in count (Ok (Read6 lba n)) = if (n == 1) && nat_lt lba count then Some lba else None
+block_in count (Ok _) = None
 block_in count (Err fault) = None
 
 abbrev pub block_asked : TargetState → Option ℕ

@@ -48,7 +48,8 @@ impl DenseBlocks {
 
     /// How many blocks there are.
     pub fn count(&self) -> u64
-        ensures { result ≡ length self.now }
+        ensures exact { result ≡ length self.now }
+        ensures small { result < 2 ^ 32 }
     {
         self.count as u64
     }

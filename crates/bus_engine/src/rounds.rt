@@ -1,6 +1,8 @@
 //! The run: rounds of device steps, and the time between them.
 ghost use Rattle.std.specs.Prelude.{ℕ, ◌≡◌, ◌≢◌, ◌<◌, ◌≤◌, ◌+◌, ◌^◌, true, [], ◌∷◌, List, length, reverse, slice_index, OnOk, IfOk, IfSome};
 ghost use Rattle.bus_lines.specs.declared.Row.{Row};
+ghost use Rattle.std.specs.List.{AllByRecursion};
+ghost use Rattle.bus_lines.specs.OfTrace.{IsRow};
 ghost use Rattle.bus_lines.specs.Trace.{IsViewOf};
 ghost use Rattle.bus_engine.specs.Early.{IsEarly, stands_early, service_early};
 ghost use Rattle.bus_engine.specs.OneRun.{run_of, Fits};
@@ -220,7 +222,8 @@ fn earliest(a: Option<Ns>, b: Option<Ns>) -> Option<Ns>
 /// The trace begins at time 0 with all lines false; both devices react with no latency.
 pub fn run_one(alloc: Global, one: &One) -> Result<Run, NoMemory>
     requires { Fits one.now }
-    ensures { IfOk result (λ run. run ≡ run_of one.now) }
+    ensures exact { IfOk result (λ run. run ≡ run_of one.now) }
+    ensures rows { IfOk result (λ run. AllByRecursion IsRow run.rows) }
 {
     let mut world = World::new(alloc, one)?;
     for _ in 0..ROUNDS {

@@ -342,7 +342,7 @@ impl Target {
                     None
                 }
             }
-            Err(_) => None,
+            Ok(_) | Err(_) => None,
         }
     }
 

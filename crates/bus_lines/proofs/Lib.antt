@@ -7,3 +7,4 @@ pub mod OneRow
 pub mod Ages
 pub mod Views
 pub mod Sample
+pub mod SameAgreement

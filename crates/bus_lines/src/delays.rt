@@ -74,3 +74,31 @@ pub const QUIET_TIME: Ns = BUS_CLEAR_DELAY + BUS_SETTLE_DELAY;
 /// The least time from asserting I/O until the target drives the data lines: a data release delay and a
 /// bus settle delay.
 pub const TURN_DELAY: Ns = DATA_RELEASE_DELAY + BUS_SETTLE_DELAY;
+
+/// Fast assertion period: the least time that REQ or ACK is true in a fast synchronous data transfer.
+/// The values of the fast times are a choice of this project.
+pub const FAST_ASSERTION_PERIOD: Ns = 30;
+
+/// Fast negation period: the least time that REQ or ACK is false between two pulses in a fast
+/// synchronous data transfer. A choice of this project.
+pub const FAST_NEGATION_PERIOD: Ns = 30;
+
+/// Fast deskew delay: the least time that lines are given to arrive together in a fast synchronous data
+/// transfer. A choice of this project.
+pub const FAST_DESKEW_DELAY: Ns = 20;
+
+/// Fast cable skew delay: the most difference in propagation time between any two lines in a fast
+/// synchronous data transfer. A choice of this project.
+pub const FAST_CABLE_SKEW_DELAY: Ns = 5;
+
+/// Fast hold time: the least time that the data lines stay after REQ or ACK in a fast synchronous data
+/// transfer, beside the deskew and cable skew delays. A choice of this project.
+pub const FAST_HOLD_TIME: Ns = 10;
+
+/// The least time from valid data lines to REQ or ACK in a fast synchronous data transfer: a fast deskew
+/// delay and a fast cable skew delay.
+pub const FAST_SET_UP_TIME: Ns = FAST_DESKEW_DELAY + FAST_CABLE_SKEW_DELAY;
+
+/// The least time that data lines stay after the pulse in a fast synchronous data transfer: a fast
+/// deskew delay, a fast cable skew delay and the fast hold time.
+pub const FAST_DATA_HOLD: Ns = FAST_DESKEW_DELAY + FAST_CABLE_SKEW_DELAY + FAST_HOLD_TIME;

@@ -5,6 +5,8 @@ ghost use Rattle.std.specs.Int.{bit_at};
 ghost use Rattle.std.specs.Int.RustNames.{bit_or};
 ghost use Rattle.bus_lines.specs.LineSet.{LineSet, none, union, set_of, number_of, line_of, bit_value, byte_set, has_odd_parity, id_set, ids_set, ids_in, has_id, has_id_above};
 ghost use Rattle.bus_lines.specs.View.{View, IsUpTo};
+ghost use Rattle.bus_lines.specs.Agreements.{same_agreement};
+ghost use Rattle.bus_lines.specs.declared.agreements.Agreement.{Agreement};
 ghost use Rattle.bus_lines.specs.declared.rows.Row.{Row};
 ghost use Rattle.bus_lines.specs.declared.rows.Kind.TheVariants.{Drives, Fault};
 ghost use Rattle.bus_lines.specs.Trace.{drives, bus, last_time, since, since_line};
@@ -110,4 +112,14 @@ pub fn bounds_last()
 pub fn changes_are_past()
     ensures seen { (seen : LineSet → ℕ) (row : Row) (rows : List Row) → since seen rows ≤ row.time → since seen (row ∷ rows) ≤ last_time (row ∷ rows) }
     ensures line { (on : LineSet → Bool) (row : Row) (rows : List Row) → since_line on rows ≤ row.time → since_line on (row ∷ rows) ≤ last_time (row ∷ rows) }
+{}
+
+/// Being the same agreement is an equivalence, by which all asynchronous agreements are one, and
+/// others are the same only where they are equal.
+pub fn agreements_are_an_equivalence()
+    ensures itself { (a : Agreement) → same_agreement a a ≡ true }
+    ensures turned { (a b : Agreement) → same_agreement a b ≡ true → same_agreement b a ≡ true }
+    ensures joined { (a b c : Agreement) → same_agreement a b ≡ true → same_agreement b c ≡ true → same_agreement a c ≡ true }
+    ensures asynchronous { (a b : Agreement) → a.offset ≡ 0 → b.offset ≡ 0 → same_agreement a b ≡ true }
+    ensures equal { (a b : Agreement) → a.offset ≢ 0 → same_agreement a b ≡ true → a ≡ b }
 {}

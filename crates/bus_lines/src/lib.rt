@@ -11,6 +11,7 @@
 //! at any moment exactly what `drives`, `bus`, `since` and `last_time` say of the rows so far.
 #![tactic(auto)]
 
+mod agreements;
 mod delays;
 mod laws;
 mod line_set;
@@ -19,16 +20,19 @@ mod rows;
 mod tests;
 mod view;
 
+pub use agreements::{Agreement, TransferTimes, is_same_agreement, transfer_times};
 pub use delays::{
     ARBITRATION_DELAY, ASSERTION_PERIOD, BUS_CLEAR_DELAY, BUS_FREE_DELAY, BUS_SET_DELAY,
     BUS_SETTLE_DELAY, CABLE_SKEW_DELAY, DATA_HOLD, DATA_RELEASE_DELAY, DESKEW_DELAY, ENTRY_DELAY,
-    HOLD_TIME, NEGATION_PERIOD, QUIET_TIME, RESET_HOLD_TIME, SELECTION_ABORT_TIME,
-    SELECTION_TIMEOUT_DELAY, SET_UP_TIME, TURN_DELAY, TWO_DESKEW,
+    FAST_ASSERTION_PERIOD, FAST_CABLE_SKEW_DELAY, FAST_DATA_HOLD, FAST_DESKEW_DELAY,
+    FAST_HOLD_TIME, FAST_NEGATION_PERIOD, FAST_SET_UP_TIME, HOLD_TIME, NEGATION_PERIOD, QUIET_TIME,
+    RESET_HOLD_TIME, SELECTION_ABORT_TIME, SELECTION_TIMEOUT_DELAY, SET_UP_TIME, TURN_DELAY,
+    TWO_DESKEW,
 };
 pub use laws::{
-    bounds_last, bytes_have_odd_parity, changes_are_past, changes_set_times, drivers_make_the_bus,
-    ids_read_back, lines_by_number, lines_on_the_bus, rows_change_one_device, rows_come_in_order,
-    sets_are_numbers, times_by_line,
+    agreements_are_an_equivalence, bounds_last, bytes_have_odd_parity, changes_are_past,
+    changes_set_times, drivers_make_the_bus, ids_read_back, lines_by_number, lines_on_the_bus,
+    rows_change_one_device, rows_come_in_order, sets_are_numbers, times_by_line,
 };
 pub use line_set::{Lines, byte_lines, parity};
 pub use rows::{Kind, Row};

@@ -1,5 +1,6 @@
 // Values from the standard, and one run of the view.
 
+use crate::agreements::{Agreement, TransferTimes, is_same_agreement, transfer_times};
 use crate::line_set::{Lines, byte_lines, parity};
 use crate::rows::{Kind, Row};
 use crate::view::BusView;
@@ -57,4 +58,46 @@ fn view_of_an_arbitration(rt: HostRuntime) {
         ),
         (5290, 5780, 5780, 5800)
     );
+}
+
+#[test]
+fn times_of_transfers(rt: HostRuntime) {
+    // Factor, then period, assertion, negation, set-up and hold.
+    for (factor, period, assertion, negation, set_up, hold) in [
+        (25u8, 100u64, 30u64, 30u64, 25u64, 35u64),
+        (49, 196, 30, 30, 25, 35),
+        (50, 200, 90, 90, 55, 100),
+        (255, 1020, 90, 90, 55, 100),
+    ] {
+        let times = TransferTimes {
+            period,
+            assertion,
+            negation,
+            set_up,
+            hold,
+        };
+        assert_eq!(rt; transfer_times(factor), Some(times));
+    }
+    assert_eq!(rt; transfer_times(24), None);
+}
+
+#[test]
+fn same_agreements(rt: HostRuntime) {
+    // Two periods and offsets, and whether the agreements are the same.
+    for (first, first_offset, second, second_offset, same) in [
+        (50u8, 0u8, 25u8, 0u8, true),
+        (50, 8, 50, 8, true),
+        (50, 8, 25, 8, false),
+        (50, 8, 50, 0, false),
+    ] {
+        let a = Agreement {
+            period: first,
+            offset: first_offset,
+        };
+        let b = Agreement {
+            period: second,
+            offset: second_offset,
+        };
+        assert_eq!(rt; is_same_agreement(a, b), same);
+    }
 }

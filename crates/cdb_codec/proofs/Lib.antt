@@ -1,1 +1,3 @@
+pub mod Codes
 pub mod Only
+pub mod Ignored

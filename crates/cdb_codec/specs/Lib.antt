@@ -1,1 +1,4 @@
+pub mod Operations
 pub mod Cdb
+pub mod Blocks
+pub mod Replies

@@ -1,14 +1,31 @@
 //! Commands, what is wrong with a block, and sense.
 
-/// A command that a target carries out.
+/// A command that a target carries out. Blocks are those of the logical unit, the first of them 0.
 #[derive(Clone, Copy, PartialEq, Eq, Debug)]
 pub enum Command {
+    /// TEST UNIT READY, clause 8.2.16: moves no data.
+    TestUnitReady,
+    /// REQUEST SENSE, clause 8.2.14: moves sense data to the initiator, at most `room` bytes.
+    RequestSense { room: u8 },
     /// READ(6), clause 9.2.5: moves blocks to the initiator, the first of them block `lba`, below
     /// 2^21. `count` is how many, and 0 stands for 256.
     Read6 { lba: u32, count: u8 },
+    /// WRITE(6), clause 9.2.20: moves blocks to the target, `lba` and `count` as in READ(6).
+    Write6 { lba: u32, count: u8 },
+    /// INQUIRY, clause 8.2.5: moves inquiry data to the initiator, at most `room` bytes.
+    Inquiry { room: u8 },
+    /// READ CAPACITY, clause 9.2.7: moves the last block's number and the block size.
+    ReadCapacity,
+    /// READ(10), clause 9.2.6: moves `count` blocks to the initiator, the first of them `lba`. A
+    /// `count` of 0 moves none.
+    Read10 { lba: u32, count: u16 },
+    /// WRITE(10), clause 9.2.21: moves `count` blocks to the target, the first of them `lba`. A
+    /// `count` of 0 moves none.
+    Write10 { lba: u32, count: u16 },
 }
 
-/// What is wrong with a block, in the order in which a target looks.
+/// What is wrong with a block. A target looks in this order, but that no bytes at all are a fault of
+/// length.
 #[derive(Clone, Copy, PartialEq, Eq, Debug)]
 pub enum CdbFault {
     /// The first byte is no operation code of ours.

@@ -1,19 +1,26 @@
-//! Command descriptor blocks: the bytes by which an initiator names a command to a target
-//! (ANSI X3.131-1994, clauses 8 and 9).
+//! Command descriptor blocks: the bytes by which an initiator names a command to a target, and the
+//! data that a target returns for three of them (ANSI X3.131-1994, clauses 7.2, 8.2 and 9.2).
 //!
-//! `to_cdb` writes a command's block and `from_cdb` reads one. A block that is no command of ours
-//! has a fault: the first that applies of operation code, length and fields.
+//! `to_cdb` writes the block of one of eight commands and `from_cdb` reads one. A block that is no
+//! command of ours has a fault: the first that applies of operation code, length and fields.
+//! It stands on `arrayvec` for the block and on `byteorder` for its numbers.
 //!
-//! Public contract: `to_cdb` is exact byte for byte, `from_cdb` is exact by a table of the bytes
-//! (`specs/Cdb.antt`), and reading what is written gives the same command (`reads_back`), and
-//! what is read was written so (`reads_only`).
+//! Public contract: `to_cdb` and the data are exact byte for byte, `from_cdb` is exact by a table of
+//! the bytes (`specs/Cdb.antt`), reading what is written gives the same command (`reads_back`), what
+//! is read was written so (`reads_only`), and the ignored bits change nothing (`ignores`).
 #![tactic(auto)]
 
+mod blocks;
 mod codec;
 mod command;
+mod fields;
+mod operation;
+mod replies;
 
-pub use codec::{from_cdb, group_len, reads_back, reads_only, to_cdb};
+pub use blocks::blocks_moved;
+pub use codec::{from_cdb, group_len, ignores, reads_back, reads_only, to_cdb};
 pub use command::{CdbFault, Command, Sense};
+pub use replies::{capacity_bytes, inquiry_bytes, sense_bytes};
 
 #[cfg(test)]
 mod tests;

@@ -1,4 +1,3 @@
-pub mod Bounds
 pub mod RowText
 pub mod EventText
 pub mod ReplyText

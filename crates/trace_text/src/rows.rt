@@ -3,7 +3,7 @@ ghost use Rattle.std.specs.Prelude.{◌≡◌, ◌<◌, ◌≤◌, ◌+◌, ◌^
 ghost use Rattle.arrayvec.specs.ArrayString.{array_string_len};
 ghost use Rattle.text_words.specs.Spelling.{hex_digit};
 ghost use Rattle.trace_text.specs.RowText.{lines_text, kind_text, row_text};
-ghost use Rattle.trace_text.specs.Bounds.{IsPrintableKind};
+ghost use Rattle.bus_lines.specs.OfTrace.{IsKind};
 
 use arrayvec::ArrayString;
 use bitflags::Flags;
@@ -47,7 +47,7 @@ fn put_lines(text: &mut ArrayString<40>, lines: u32)
 // What the row tells.
 fn put_kind(text: &mut ArrayString<40>, kind: Kind)
     requires room { array_string_len text.old < 35 }
-    requires kind { IsPrintableKind kind }
+    requires kind { IsKind kind }
     ensures bytes { text.new.bytes ≡ text.old.bytes ++ kind_text kind }
     ensures len { array_string_len text.new ≤ array_string_len text.old + 5 }
 {
@@ -64,7 +64,7 @@ fn put_kind(text: &mut ArrayString<40>, kind: Kind)
 /// lines that it drives from then on, or `T D fB` for a fault on bit B.
 pub fn print_row(row: &Row) -> ArrayString<40>
     requires device { row.now.dev < 8 }
-    requires kind { IsPrintableKind row.now.kind }
+    requires kind { IsKind row.now.kind }
     ensures { result.bytes ≡ row_text row.now }
 {
     let mut text = ArrayString::new();

@@ -6,7 +6,7 @@ use Rattle.bus_engine.specs.Scene.{Scene}
 use Rattle.bus_engine.specs.Start.{made_of}
 use Rattle.bus_engine.specs.declared.rounds.World.{World}
 use Rattle.bus_engine.proofs.TheRun.{ended, made_is}
-use Rattle.bus_engine.proofs.OnCourse.{at_start, round_early, round_on, left_at_end, left_at_round}
+use Rattle.bus_engine.proofs.OnCourse.{at_start, round_early, round_on, left_at_end, left_at_round, all_rows}
 use Rattle.bus_engine.proofs.rounds.run_one.Goals as goal
 use Rattle.bus_engine.proofs.rounds.run_one.Goals.{else-loop-test, then-loop-test+in_ok-round+then-not-branch}
 
@@ -29,8 +29,8 @@ loop-preserved c = record {
       (c.in_ok-round.ensures.turned ∙ (λ i. (more i, scene_of c.round.new.self)));
 }
 
-pub returns : goal.returns
-returns c =
+whole : goal.returns-clause-exact
+whole c =
     let one = c.args.one.now in
     let at_end : scene_of c.loop-test.world ≡ ended one =
     elim c.loop-test.branch [
@@ -42,3 +42,9 @@ returns c =
           ∙ left_at_round one c.loop.counter (scene_of c.loop.world) (scene_of w.round.new.self) w.in_ok-round.field-0 w.loop-test.true c.loop.invariant.course w.in_ok-round.ensures.turned stop
     ] in
     subst (λ (made : RunValue). IfOk c.finish.result (λ run. run ≡ made)) (ap (λ (z : Scene). made_of z) at_end ∙ made_is one c.requires) c.finish.ensures
+
+pub returns-clause-exact : goal.returns-clause-exact
+returns-clause-exact c = whole c
+
+pub returns-clause-rows : goal.returns-clause-rows
+returns-clause-rows c = all_rows c.args.one.now c.finish.result c.requires (whole c)

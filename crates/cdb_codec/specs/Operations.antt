@@ -1,0 +1,28 @@
+-- The operations and their codes.
+use Rattle.std.specs.Prelude.{ℕ, Option, Some, None, ◌==◌, if◌then◌else◌}
+use Rattle.cdb_codec.specs.declared.operation.Operation.{Operation}
+use Rattle.cdb_codec.specs.declared.operation.Operation.TheVariants.{TestUnitReady, RequestSense, Read6, Write6, Inquiry, ReadCapacity, Read10, Write10}
+
+-- What an operation code asks for, if it is one of ours.
+abbrev pub operation_of : ℕ → Option Operation
+operation_of code =
+    if code == 0x00 then Some TestUnitReady
+    else if code == 0x03 then Some RequestSense
+    else if code == 0x08 then Some Read6
+    else if code == 0x0a then Some Write6
+    else if code == 0x12 then Some Inquiry
+    else if code == 0x25 then Some ReadCapacity
+    else if code == 0x28 then Some Read10
+    else if code == 0x2a then Some Write10
+    else None
+
+-- How many bytes the block of an operation has.
+abbrev pub len_of : Operation → ℕ
+len_of TestUnitReady = 6
+len_of RequestSense = 6
+len_of Read6 = 6
+len_of Write6 = 6
+len_of Inquiry = 6
+len_of ReadCapacity = 10
+len_of Read10 = 10
+len_of Write10 = 10
