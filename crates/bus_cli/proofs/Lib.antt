@@ -1,3 +1,1 @@
-pub mod FormAgain
-pub mod FormOnly
-pub mod FormShort
+pub mod Refusals

@@ -1,17 +1,19 @@
 -- How the program ends: what it wrote, how far it read, and what the input was.
-use Rattle.std.specs.Prelude.{ℕ, ◌≡◌, ◌+◌, ◌<◌, ◌⊎◌, List, [], ◌∷◌, ◌++◌, length, take, drop, Option, Some, None, codes}
+use Rattle.std.specs.Prelude.{ℕ, ◌≡◌, ◌+◌, ◌<◌, ◌⊎◌, List, [], ◌∷◌, ◌++◌, length, take, drop, Option, Some, None, Err, codes, decimal}
 use Rattle.bus_base.specs.Faults.{HasRisen}
 use Rattle.bus_engine.specs.declared.request.One.{One}
 use Rattle.bus_engine.specs.OneRun.{Fits, run_of}
 use Rattle.trace_text.specs.ReportText.{report_text}
-use Rattle.bus_cli.specs.Form.{IsForm}
+use Rattle.scenario.specs.Reading.{scenario_of}
+use Rattle.bus_cli.specs.Built.{Asks, AsksMore}
 use Rattle.bus_cli.specs.declared.status.Status.{Status}
-use Rattle.bus_cli.specs.declared.status.Status.TheVariants.{Done, Words, Read, Write, Memory, NotBuilt}
+use Rattle.bus_cli.specs.declared.status.Status.TheVariants.{Done, Words, Refused, Read, Write, Memory, NotBuilt}
 
 -- the exit status
 abbrev pub code_of : Status → ℕ
 code_of Done = 0
 code_of Words = 1
+code_of Refused = 2
 code_of Read = 3
 code_of Write = 4
 code_of Memory = 5
@@ -30,6 +32,10 @@ memory_line = codes "no memory\n"
 abbrev pub form_line : List ℕ
 form_line = codes "not built\n"
 
+-- the line that tells of the first line of a scenario with a reason
+abbrev pub refusal_line : ℕ → ℕ → List ℕ
+refusal_line line reason = codes "scenario line " ++ (decimal line ++ (codes " reason " ++ (decimal reason ++ codes "\n")))
+
 -- the report of the run of a scenario, whose one disk is unit 0 of the target
 abbrev pub report_of : One → List ℕ
 report_of one = report_text ((one.target, 0) ∷ []) (run_of one)
@@ -37,7 +43,12 @@ report_of one = report_text ((one.target, 0) ∷ []) (run_of one)
 -- the scenario that the input says; where nothing is told of the bytes, one that can be run
 abbrev pub IsSaid : Option (List ℕ) → One → Type 0
 IsSaid None one = Fits one
-IsSaid (Some bytes) one = IsForm bytes one
+IsSaid (Some bytes) one = Asks bytes one
+
+-- the first line with a reason, and its lowest reason, that refuse the input
+abbrev pub IsRefused : Option (List ℕ) → ℕ → ℕ → Type 0
+IsRefused None line reason = Unit {0}
+IsRefused (Some bytes) line reason = scenario_of bytes ≡ Err (line, reason)
 
 -- After what the sink held, `before`, it holds the line; or a front of it, and its count of faults
 -- rose.
@@ -53,6 +64,8 @@ Says Done input before written faults_old faults_new =
 Says Write input before written faults_old faults_new =
     (one : One) × IsSaid input one × ((k : ℕ) × (written ≡ Some (before ++ take k (report_of one))))
 Says Words input before written faults_old faults_new = SaysLine usage_line before written faults_old faults_new
+Says Refused input before written faults_old faults_new =
+    (line : ℕ) × (reason : ℕ) × IsRefused input line reason × SaysLine (refusal_line line reason) before written faults_old faults_new
 Says Read input before written faults_old faults_new = SaysLine fault_line before written faults_old faults_new
 Says Memory input before written faults_old faults_new = SaysLine memory_line before written faults_old faults_new
 Says NotBuilt input before written faults_old faults_new = SaysLine form_line before written faults_old faults_new
@@ -70,16 +83,18 @@ ReadsOut bytes left =
 abbrev pub Reads : Status → List ℕ → Option (List ℕ) → Type 0
 Reads Done bytes left = left ≡ Some []
 Reads Write bytes left = left ≡ Some []
-Reads NotBuilt bytes left = ReadsOut bytes left
+Reads NotBuilt bytes left = left ≡ Some []
+Reads Refused bytes left = ReadsOut bytes left
 Reads Words bytes left = left ≡ Some bytes
 Reads Read bytes left = Unit {0}
 Reads Memory bytes left = Unit {0}
 
--- what the status says of the form of the input's bytes
+-- what the status says of the input's bytes
 abbrev pub TellsForm : Status → List ℕ → Type 0
-TellsForm Done bytes = (one : One) × IsForm bytes one
-TellsForm Write bytes = (one : One) × IsForm bytes one
-TellsForm NotBuilt bytes = (one : One) → IsForm bytes one → ⊥
+TellsForm Done bytes = (one : One) × Asks bytes one
+TellsForm Write bytes = (one : One) × Asks bytes one
+TellsForm NotBuilt bytes = AsksMore bytes
+TellsForm Refused bytes = (line : ℕ) × (reason : ℕ) × (scenario_of bytes ≡ Err (line, reason))
 TellsForm Words bytes = Unit {0}
 TellsForm Read bytes = Unit {0}
 TellsForm Memory bytes = Unit {0}
@@ -92,3 +107,4 @@ IsDoneOrMemory Words = ⊥
 IsDoneOrMemory Read = ⊥
 IsDoneOrMemory Write = ⊥
 IsDoneOrMemory NotBuilt = ⊥
+IsDoneOrMemory Refused = ⊥

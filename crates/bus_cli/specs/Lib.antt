@@ -1,4 +1,3 @@
 pub mod Words
-pub mod Form
-pub mod FormWords
+pub mod Built
 pub mod Ends

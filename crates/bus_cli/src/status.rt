@@ -9,13 +9,15 @@ pub enum Status {
     Done = 0,
     /// The words are none of the program's.
     Words = 1,
+    /// The input is no scenario: the line tells its first line with a reason, and the lowest reason there.
+    Refused = 2,
     /// A read failed.
     Read = 3,
     /// A write of the report failed.
     Write = 4,
     /// There was no memory left.
     Memory = 5,
-    /// The input is no scenario that can be run so far.
+    /// The input is a scenario that cannot be run so far.
     NotBuilt = 9,
 }
 
@@ -27,6 +29,7 @@ impl Status {
         match self {
             Status::Done => 0,
             Status::Words => 1,
+            Status::Refused => 2,
             Status::Read => 3,
             Status::Write => 4,
             Status::Memory => 5,

@@ -24,6 +24,9 @@ type Case = (
 /// How much room the sinks have, in bytes.
 const ROOM: usize = 8192;
 
+/// A scenario that cannot be run so far.
+const NOTHING: &'static str = "scsi 1\n# nothing happens\n\nend\n";
+
 /// The number of a call that is never reached.
 const NEVER: u64 = u64::MAX;
 
@@ -55,7 +58,7 @@ fn end_of<L: Ledger>(
 fn ends_with_each_status(rt: HostRuntime) -> Result<(), NoMemory> {
     let usage = "usage: scsibus run [--short] | judge | make SEED N\n";
     let run: &'static [&'static str] = &["run"];
-    let cases: [Case; 11] = [
+    let cases: [Case; 13] = [
         (run, PLAIN.0, NEVER, NEVER, Status::Done, PLAIN.1),
         (run, BLANK.0, NEVER, NEVER, Status::Done, BLANK.1),
         (run, LOW.0, NEVER, NEVER, Status::Done, LOW.1),
@@ -68,9 +71,11 @@ fn ends_with_each_status(rt: HostRuntime) -> Result<(), NoMemory> {
             "scsi 1\n",
             NEVER,
             NEVER,
-            Status::NotBuilt,
-            "not built\n",
+            Status::Refused,
+            "scenario line 2 reason 2\n",
         ),
+        (run, NOTHING, NEVER, NEVER, Status::NotBuilt, "not built\n"),
+        (run, NOTHING, NEVER, 1, Status::NotBuilt, ""),
         (run, PLAIN.0, 3, NEVER, Status::Read, "read fault\n"),
         (run, PLAIN.0, NEVER, 1, Status::Write, ""),
         (&["walk"], PLAIN.0, NEVER, 1, Status::Words, ""),
@@ -90,6 +95,7 @@ fn has_exit_statuses(rt: HostRuntime) {
     let codes = [
         (Status::Done, 0),
         (Status::Words, 1),
+        (Status::Refused, 2),
         (Status::Read, 3),
         (Status::Write, 4),
         (Status::Memory, 5),

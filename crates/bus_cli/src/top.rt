@@ -4,19 +4,18 @@ ghost use Rattle.bus_base.specs.Faults.{HasRisen};
 ghost use Rattle.bus_base.specs.Whole.{TakesAtMost};
 ghost use Rattle.bus_engine.specs.declared.request.One.{One};
 ghost use Rattle.bus_cli.specs.Words.{word_of};
-ghost use Rattle.bus_cli.specs.Form.{IsForm};
+ghost use Rattle.bus_cli.specs.Built.{Asks};
 ghost use Rattle.bus_cli.specs.Ends.{limit, SaysLine, Says, Reads, TellsForm, IsDoneOrMemory};
 
-use crate::form::one_of;
+use crate::built::one_of;
+use crate::refusal::refusal_line;
 use crate::report::report;
 use crate::status::Status;
 use crate::words::{Word, word_of};
 use bus_base::{ReadEnd, Sink, Source, Steps, read_all, write_all};
+use scenario::{Bad, LIMIT, read};
 use std::alloc::Global;
 use std::sync::ledger::Ledger;
-
-/// The most bytes that the input may have.
-const LIMIT: usize = 4_194_304;
 
 // Writes the line of a refusal. A fault there changes nothing: the refusal stays.
 fn say<K: Sink>(out: &mut K, line: &[u8])
@@ -35,7 +34,18 @@ fn run_bytes<K: Sink>(alloc: Global, bytes: &[u8], out: &mut K) -> Status
     ensures said { IfSome (K.written out.old) (λ before. Says result (Some bytes.now) before (K.written out.new) (K.faults out.old) (K.faults out.new)) }
     ensures never_falls { K.faults out.old ≤ K.faults out.new }
 {
-    let Some(one) = one_of(bytes) else {
+    let scenario = match read(alloc, bytes) {
+        Ok(scenario) => scenario,
+        Err(Bad::At { line, reason }) => {
+            say(out, refusal_line(line, reason).as_str().as_bytes());
+            return Status::Refused;
+        }
+        Err(Bad::NoMemory) => {
+            say(out, b"no memory\n");
+            return Status::Memory;
+        }
+    };
+    let Some(one) = one_of(&scenario) else {
         say(out, b"not built\n");
         return Status::NotBuilt;
     };
@@ -64,8 +74,8 @@ fn run<S: Source, K: Sink>(alloc: Global, input: &mut S, out: &mut K) -> Status
     match read_all(alloc, input, LIMIT) {
         Ok(bytes) => run_bytes(alloc, &bytes, out),
         Err(ReadEnd::TooLong) => {
-            say(out, b"not built\n");
-            Status::NotBuilt
+            say(out, refusal_line(0, 9).as_str().as_bytes());
+            Status::Refused
         }
         Err(ReadEnd::Fault) => {
             say(out, b"read fault\n");
@@ -85,8 +95,8 @@ fn run<S: Source, K: Sink>(alloc: Global, input: &mut S, out: &mut K) -> Status
 /// run to `out`. A refusal writes its one line to `out` instead; where that fails, the status stays
 /// the refusal's. No step is counted in `steps` yet.
 ///
-/// The words are looked at first, then the input is read, then its form is looked at; the first
-/// refusal is the answer. Want of memory can come at any time after the words.
+/// The words are looked at first, then the input is read, then it is read as a scenario, then it is
+/// asked whether that can be run so far; the first refusal is the answer. Want of memory can come at any time after the words.
 pub fn bus_main<S: Source, K: Sink, L: Ledger>(
     alloc: Global,
     words: &[String],
@@ -102,7 +112,7 @@ pub fn bus_main<S: Source, K: Sink, L: Ledger>(
     ensures taken { TakesAtMost (S.left input.old) (S.left input.new) (limit + 1) }
     ensures form { IfSome (S.left input.old) (λ bytes. TellsForm result bytes) }
     ensures said { IfSome (K.written out.old) (λ before. Says result (S.left input.old) before (K.written out.new) (K.faults out.old) (K.faults out.new)) }
-    ensures complete { (bytes : List ℕ) (one : One) → S.left input.old ≡ Some bytes → IsForm bytes one → ¬ (word_of (map string_bytes words.now) ≡ None) → ¬ HasRisen (S.faults input.old) (S.faults input.new) → ¬ HasRisen (K.faults out.old) (K.faults out.new) → IsDoneOrMemory result }
+    ensures complete { (bytes : List ℕ) (one : One) → S.left input.old ≡ Some bytes → Asks bytes one → ¬ (word_of (map string_bytes words.now) ≡ None) → ¬ HasRisen (S.faults input.old) (S.faults input.new) → ¬ HasRisen (K.faults out.old) (K.faults out.new) → IsDoneOrMemory result }
     ensures source_never_falls { S.faults input.old ≤ S.faults input.new }
     ensures sink_never_falls { K.faults out.old ≤ K.faults out.new }
     ensures steps { steps.new ≡ steps.old }

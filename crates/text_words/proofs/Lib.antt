@@ -1,3 +1,4 @@
 pub mod Digits
 pub mod Again
 pub mod Only
+pub mod FirstFeed

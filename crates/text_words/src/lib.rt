@@ -1,4 +1,4 @@
-//! Words of the line-based texts: literals, decimal numbers, the digits of devices, and bytes in
+//! Lines of the line-based texts and their words: literals, decimal numbers, the digits of devices, and bytes in
 //! hexadecimal.
 //!
 //! A word is read at the front of a slice, and the reader gives its value and what follows it. So
@@ -11,6 +11,7 @@
 #![tactic(auto)]
 
 mod laws;
+mod lines;
 mod reading;
 mod writing;
 
@@ -18,6 +19,7 @@ pub use laws::{
     after_only, after_same, digit_again, digit_only, hex_again, hex_array_again, hex_array_only,
     hex_only, number_again, number_only, whole_only,
 };
+pub use lines::{FirstLine, first_line};
 pub use reading::{
     Number, after, decode, digit, hex_array, hex_digits, hex_value, is_hex_digit, number, whole,
 };

@@ -1,0 +1,10 @@
+pub mod Value
+pub mod Lookups
+pub mod Parts
+pub mod Forms
+pub mod Needs
+pub mod Reading
+pub mod Index
+pub mod Seen
+pub mod Writing
+pub mod Reasons

@@ -1,0 +1,59 @@
+-- How many bytes a command needs: those that its command descriptor block moves.
+use Rattle.std.specs.Prelude.{ℕ, ◌+◌, ◌*◌, min, Bool, true, false, Option, Some, None, Result, Ok, Err, nat_le, if◌then◌else◌}
+use Rattle.cdb_codec.specs.declared.command.Command.{Command}
+use Rattle.cdb_codec.specs.declared.command.Command.TheVariants as commands
+use Rattle.cdb_codec.specs.declared.command.CdbFault.{CdbFault}
+use Rattle.cdb_codec.specs.Cdb.{command_of}
+use Rattle.cdb_codec.specs.Blocks.{blocks_moved}
+use Rattle.scenario.specs.declared.value.UnitDef.{UnitDef}
+use Rattle.scenario.specs.declared.value.CmdDef.{CmdDef}
+use Rattle.scenario.specs.Value.{ScenarioValue}
+use Rattle.scenario.specs.Lookups.{has_target, unit_of}
+
+-- The bytes of n blocks from block lba on: none where the unit is absent, or has not all of them.
+abbrev pub block_bytes : Option UnitDef → ℕ → ℕ → ℕ
+block_bytes None lba n = 0
+block_bytes (Some u) lba n = if nat_le (lba + n) u.blocks then n * u.size else 0
+
+-- The bytes of READ CAPACITY: eight, or none where the unit is absent.
+abbrev pub capacity_len : Option UnitDef → ℕ
+capacity_len None = 0
+capacity_len (Some u) = 8
+
+-- The bytes that a command moves at this unit of a target that is there: at most 18 of sense and 36
+-- of inquiry data, also where the unit is absent; and those of the blocks that it reads or writes.
+abbrev pub moved : Command → Option UnitDef → ℕ
+moved commands.TestUnitReady unit = 0
+moved (commands.RequestSense room) unit = min room 18
+moved (commands.Read6 lba count) unit = block_bytes unit lba (blocks_moved (commands.Read6 lba count))
+moved (commands.Write6 lba count) unit = block_bytes unit lba (blocks_moved (commands.Write6 lba count))
+moved (commands.Inquiry room) unit = min room 36
+moved commands.ReadCapacity unit = capacity_len unit
+moved (commands.Read10 lba count) unit = block_bytes unit lba count
+moved (commands.Write10 lba count) unit = block_bytes unit lba count
+
+-- None where the block has a fault.
+abbrev pub moved_by : Result Command CdbFault → Option UnitDef → ℕ
+moved_by (Ok command) unit = moved command unit
+moved_by (Err fault) unit = 0
+
+-- The bytes that a command of a scenario needs: none where its block has a fault, or its target is
+-- absent.
+unfoldable pub need_of : ScenarioValue → CmdDef → ℕ
+need_of s c = if has_target s c.target then moved_by (command_of c.cdb) (unit_of s c.target c.unit) else 0
+
+-- It is a write.
+abbrev pub is_write : Result Command CdbFault → Bool
+is_write (Ok commands.TestUnitReady) = false
+is_write (Ok (commands.RequestSense room)) = false
+is_write (Ok (commands.Read6 lba count)) = false
+is_write (Ok (commands.Write6 lba count)) = true
+is_write (Ok (commands.Inquiry room)) = false
+is_write (Ok commands.ReadCapacity) = false
+is_write (Ok (commands.Read10 lba count)) = false
+is_write (Ok (commands.Write10 lba count)) = true
+is_write (Err fault) = false
+
+-- The bytes that the initiator of a command has to send: what a write needs.
+unfoldable pub sent_of : ScenarioValue → CmdDef → ℕ
+sent_of s c = if is_write (command_of c.cdb) then need_of s c else 0

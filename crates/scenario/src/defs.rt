@@ -1,0 +1,259 @@
+//! What each kind of line declares, with its reasons in rising order.
+ghost use Rattle.std.specs.Prelude.{◌≡◌, ◌≤◌, ◌<◌, ◌-◌, ◌+◌, ◌^◌, true, IfOk};
+ghost use Rattle.scenario.specs.Forms.{fill_said, cmd_said};
+ghost use Rattle.scenario.specs.Parts.{payload_said};
+ghost use Rattle.scenario.specs.Needs.{need_of};
+ghost use Rattle.scenario.specs.Lookups.{has_device, unit_of};
+ghost use Rattle.scenario.specs.Index.{IsIndexOf};
+ghost use Rattle.scenario.specs.Reading.{Gives, host_def, target_def, unit_def, found, is_block_of, fill_def, are_ends, payload_of, cmd_def, full_cmd_def, has_abort_room, abort_def, reset_def, fault_def};
+
+use crate::fault::Refusal;
+use crate::form::{
+    AbortForm, CmdForm, FaultForm, FillForm, HostForm, PayloadForm, ResetForm, TargetForm, UnitForm,
+};
+use crate::index::is_filled;
+use crate::limits::{
+    byte, decoded, in_8, is_block, period_in, policy_in, require, says, size_in, small, tag_in,
+    time_in, what_in, within,
+};
+use crate::needs::{has_room, is_payload, need_of, sent_of};
+use crate::value::{
+    AbortDef, CmdDef, FaultDef, FillDef, HostDef, Payload, ResetDef, Scenario, TargetDef, UnitDef,
+};
+use bus_base::Octets;
+use std::alloc::{AllocError, Global};
+use std::collections::BTreeSet;
+
+// Whether the device is declared.
+fn has_device(scenario: &Scenario, dev: u8) -> bool
+    ensures { result ≡ has_device scenario.now dev }
+{
+    scenario.has_host(dev) || scenario.has_target(dev)
+}
+
+/// An initiator.
+#[tactic(auto, unfolding(crate::specs::Reading::host_def))]
+pub(crate) fn host_def(scenario: &Scenario, form: HostForm) -> Result<HostDef, Refusal>
+    ensures { Gives (λ def. def) result (host_def scenario.now form) }
+{
+    let dev = in_8(form.device)?;
+    let latency = small(form.latency, 0, 100)?;
+    let most = small(form.open, 1, 32)?;
+    let retries = small(form.retries, 0, 16)?;
+    let period = period_in(form.period)?;
+    let offset = byte(form.offset, 255)?;
+    let lag = small(form.lag, 0, 10_000)?;
+    require(5, !has_device(scenario, dev))?;
+    Ok(HostDef {
+        dev,
+        latency,
+        most,
+        retries,
+        period,
+        offset,
+        lag,
+        offers: says(true, form.offers),
+    })
+}
+
+/// A target.
+#[tactic(auto, unfolding(crate::specs::Reading::target_def))]
+pub(crate) fn target_def(scenario: &Scenario, form: TargetForm) -> Result<TargetDef, Refusal>
+    ensures { Gives (λ def. def) result (target_def scenario.now form) }
+{
+    let dev = in_8(form.device)?;
+    let latency = small(form.latency, 0, 100)?;
+    let retries = small(form.retries, 0, 16)?;
+    let disc = policy_in(form.disc)?;
+    let seek = small(form.seek, 0, 1_000_000_000)?;
+    let period = period_in(form.period)?;
+    let offset = byte(form.offset, 254)?;
+    require(5, !has_device(scenario, dev))?;
+    Ok(TargetDef {
+        dev,
+        latency,
+        retries,
+        disc,
+        pick: form.pick,
+        seek,
+        period,
+        offset,
+        begins: says(false, form.begins),
+    })
+}
+
+/// A unit.
+#[tactic(auto, unfolding(crate::specs::Reading::unit_def))]
+pub(crate) fn unit_def(scenario: &Scenario, form: UnitForm) -> Result<UnitDef, Refusal>
+    ensures { Gives (λ def. def) result (unit_def scenario.now form) }
+{
+    let target = in_8(form.target)?;
+    let unit = in_8(form.unit)?;
+    let blocks = within(form.blocks, 1, 4_294_967_296)?;
+    let size = size_in(form.size)?;
+    let depth = small(form.depth, 1, 256)?;
+    require(5, scenario.unit(target, unit).is_none())?;
+    require(6, scenario.has_target(target))?;
+    Ok(UnitDef {
+        target,
+        unit,
+        blocks,
+        size,
+        depth,
+    })
+}
+
+fn found(scenario: &Scenario, target: u8, unit: u8) -> Result<UnitDef, Refusal>
+    ensures { Gives (λ def. def) result (found (unit_of scenario.now target unit)) }
+{
+    match scenario.unit(target, unit) {
+        Some(def) => Ok(def),
+        None => Err(Refusal::Reason(6)),
+    }
+}
+
+// Whether the bytes are one block of the unit, and the block is one of its blocks.
+fn is_block_of(unit: &UnitDef, lba: u64, bytes: &[u8]) -> bool
+    ensures exact { result ≡ is_block_of unit.now lba bytes.now }
+    ensures short { result ≡ true → lba < 2 ^ 32 }
+{
+    lba < unit.blocks && lba <= u64::from(u32::MAX) && bytes.len() as u64 == u64::from(unit.size)
+}
+
+/// What a block holds. `blocks` are those that were filled before.
+#[tactic(auto, unfolding(crate::specs::Reading::fill_def))]
+pub(crate) fn fill_def(
+    alloc: Global,
+    scenario: &Scenario,
+    blocks: &BTreeSet<((u8, u8), u64)>,
+    form: FillForm<'_>,
+) -> Result<FillDef, Refusal>
+    requires { IsIndexOf blocks.now scenario.now.fills }
+    ensures { Gives (λ def. def) result (fill_def scenario.now (fill_said form.entry)) }
+{
+    let target = in_8(form.target)?;
+    let unit = in_8(form.unit)?;
+    let lba = within(form.lba, 0, u64::MAX)?;
+    require(5, !is_filled(blocks, target, unit, lba))?;
+    let def = found(scenario, target, unit)?;
+    let bytes = decoded(alloc, form.digits)?;
+    require(7, is_block_of(&def, lba, &bytes))?;
+    Ok(FillDef {
+        target,
+        unit,
+        lba: lba as u32,
+        bytes: Octets::new(bytes),
+    })
+}
+
+fn payload_of(alloc: Global, form: PayloadForm<'_>) -> Result<Payload, AllocError>
+    ensures { IfOk result (λ payload. payload ≡ payload_of (payload_said form.entry)) }
+{
+    match form {
+        PayloadForm::Nothing => Ok(Payload::Nothing),
+        PayloadForm::Hex(digits) => {
+            let bytes = decoded(alloc, digits)?;
+            Ok(Payload::Hex(Octets::new(bytes)))
+        }
+        PayloadForm::From(first) => Ok(Payload::From(first)),
+    }
+}
+
+// Whether the initiator is one and the target is none.
+fn are_ends(scenario: &Scenario, host: u8, target: u8) -> bool
+    ensures { result ≡ are_ends scenario.now host target }
+{
+    scenario.has_host(host) && !scenario.has_host(target)
+}
+
+#[tactic(auto, unfolding(crate::specs::Reading::cmd_def))]
+fn cmd_def(alloc: Global, scenario: &Scenario, form: CmdForm<'_>) -> Result<CmdDef, Refusal>
+    ensures { Gives (λ def. def) result (cmd_def scenario.now (cmd_said form.entry)) }
+{
+    let host = in_8(form.host)?;
+    let target = in_8(form.target)?;
+    let unit = in_8(form.unit)?;
+    let at = time_in(form.at)?;
+    let tag = tag_in(form.tag)?;
+    let cdb = decoded(alloc, form.cdb)?;
+    require(4, is_block(&cdb))?;
+    require(6, are_ends(scenario, host, target))?;
+    let payload = payload_of(alloc, form.payload)?;
+    Ok(CmdDef {
+        host,
+        target,
+        unit,
+        at,
+        tag,
+        cdb: Octets::new(cdb),
+        payload,
+    })
+}
+
+/// A command, those before needing `needs` bytes.
+#[tactic(auto, unfolding(crate::specs::Reading::full_cmd_def))]
+pub(crate) fn full_cmd_def(
+    alloc: Global,
+    scenario: &Scenario,
+    needs: u32,
+    form: CmdForm<'_>,
+) -> Result<CmdDef, Refusal>
+    ensures exact { Gives (λ def. def) result (full_cmd_def scenario.now needs (cmd_said form.entry)) }
+    ensures room { IfOk result (λ def. needs + need_of scenario.now def ≤ 1048576) }
+{
+    let def = cmd_def(alloc, scenario, form)?;
+    require(7, is_payload(sent_of(scenario, &def), &def.payload))?;
+    require(8, has_room(scenario, needs, need_of(scenario, &def)))?;
+    Ok(def)
+}
+
+fn has_abort_room(scenario: &Scenario) -> bool
+    ensures { result ≡ has_abort_room scenario.now }
+{
+    let aborts = scenario.aborts.len();
+    aborts < 64 && scenario.resets.len() < 64 - aborts
+}
+
+/// An abort message.
+#[tactic(auto, unfolding(crate::specs::Reading::abort_def))]
+pub(crate) fn abort_def(scenario: &Scenario, form: AbortForm) -> Result<AbortDef, Refusal>
+    ensures { Gives (λ def. def) result (abort_def scenario.now form) }
+{
+    let host = in_8(form.host)?;
+    let target = in_8(form.target)?;
+    let unit = in_8(form.unit)?;
+    let at = time_in(form.at)?;
+    let what = what_in(form.what)?;
+    require(6, are_ends(scenario, host, target))?;
+    require(8, has_abort_room(scenario))?;
+    Ok(AbortDef {
+        host,
+        target,
+        unit,
+        at,
+        what,
+    })
+}
+
+/// A reset.
+#[tactic(auto, unfolding(crate::specs::Reading::reset_def))]
+pub(crate) fn reset_def(scenario: &Scenario, form: ResetForm) -> Result<ResetDef, Refusal>
+    ensures { Gives (λ def. def) result (reset_def scenario.now form) }
+{
+    let dev = in_8(form.device)?;
+    let at = time_in(form.at)?;
+    require(6, has_device(scenario, dev))?;
+    require(8, has_abort_room(scenario))?;
+    Ok(ResetDef { dev, at })
+}
+
+/// A fault.
+#[tactic(auto, unfolding(crate::specs::Reading::fault_def))]
+pub(crate) fn fault_def(scenario: &Scenario, form: FaultForm) -> Result<FaultDef, Refusal>
+    ensures { Gives (λ def. def) result (fault_def scenario.now form) }
+{
+    let at = time_in(form.at)?;
+    let bit = byte(form.bit, 8)?;
+    require(8, scenario.faults.len() < 64)?;
+    Ok(FaultDef { at, bit })
+}

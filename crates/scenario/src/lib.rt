@@ -1,0 +1,42 @@
+//! The scenario text: what stands on a bus, what its initiators want, and what goes wrong.
+//!
+//! A text is a list of lines, one kind after the other: the version, initiators, targets, units,
+//! fills of blocks, commands, aborts, resets, faults, and `end`. docs/scenario.md tells the whole
+//! format. The crate stands on `text_words` (lines and words), `cdb_codec` (what a command moves) and
+//! `bus_base` (the names of devices, lists of bytes).
+//!
+//! Public contract: [`read`] gives the scenario that the bytes say, or the first line with a reason
+//! and the lowest reason there, for every list of bytes, and only want of memory is free; what is
+//! read obeys the rules. [`print`] gives the one spelling of a scenario, and reading it gives that
+//! scenario back ([`reads_back`]). [`need`] tells how many bytes a command moves. The definitions
+//! stand in specs/: `Forms` and `Parts` (what a line says), `Reading` (line after line), `Reasons`
+//! (each reason as a test, of which the lowest is told), `Needs`, and `Writing` (the spelling, and the
+//! rules).
+#![tactic(auto)]
+
+mod defs;
+mod draft;
+mod fault;
+mod form;
+mod index;
+mod kind;
+mod laws;
+mod limits;
+mod needs;
+mod reading;
+mod value;
+mod writing;
+
+pub use bus_base::{AbortKind, NoMemory, Octets, Pick};
+pub use fault::Bad;
+pub use laws::{needs_are_bounded, reads_back, tells_lowest};
+pub use needs::need;
+pub use reading::{LIMIT, read};
+pub use value::{
+    AbortDef, CmdDef, FaultDef, FillDef, HostDef, Payload, Policy, ResetDef, Scenario, Tag,
+    TargetDef, UnitDef,
+};
+pub use writing::print;
+
+#[cfg(test)]
+mod tests;

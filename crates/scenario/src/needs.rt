@@ -1,0 +1,118 @@
+//! What a command needs.
+ghost use Rattle.std.specs.Prelude.{◌≡◌, ◌-◌, ◌^◌, min, length};
+ghost use Rattle.scenario.specs.Needs.{block_bytes, capacity_len, moved, moved_by, need_of, is_write, sent_of};
+ghost use Rattle.scenario.specs.Reading.{is_payload, has_room};
+
+use crate::value::{CmdDef, Payload, Scenario, UnitDef};
+use cdb_codec::{CdbFault, Command, blocks_moved, from_cdb};
+
+fn block_bytes(unit: Option<UnitDef>, lba: u32, count: u32) -> u64
+    ensures { result ≡ block_bytes unit lba count }
+{
+    match unit {
+        None => 0,
+        Some(unit) => {
+            if u64::from(lba) + u64::from(count) <= unit.blocks {
+                u64::from(count) * u64::from(unit.size)
+            } else {
+                0
+            }
+        }
+    }
+}
+
+fn capacity_len(unit: Option<UnitDef>) -> u64
+    ensures { result ≡ capacity_len unit }
+{
+    match unit {
+        None => 0,
+        Some(_) => 8,
+    }
+}
+
+fn moved(command: &Command, unit: Option<UnitDef>) -> u64
+    ensures { result ≡ moved command.now unit }
+{
+    match command {
+        Command::TestUnitReady => 0,
+        Command::RequestSense { room } => u64::from((*room).min(18)),
+        Command::Read6 { lba, count: _ } => block_bytes(unit, *lba, blocks_moved(command)),
+        Command::Write6 { lba, count: _ } => block_bytes(unit, *lba, blocks_moved(command)),
+        Command::Inquiry { room } => u64::from((*room).min(36)),
+        Command::ReadCapacity => capacity_len(unit),
+        Command::Read10 { lba, count } => block_bytes(unit, *lba, u32::from(*count)),
+        Command::Write10 { lba, count } => block_bytes(unit, *lba, u32::from(*count)),
+    }
+}
+
+fn moved_by(command: Result<Command, CdbFault>, unit: Option<UnitDef>) -> u64
+    ensures { result ≡ moved_by command unit }
+{
+    match command {
+        Ok(command) => moved(&command, unit),
+        Err(_) => 0,
+    }
+}
+
+/// How many bytes the command needs.
+#[tactic(auto, unfolding(crate::specs::Needs::need_of))]
+pub(crate) fn need_of(scenario: &Scenario, command: &CmdDef) -> u64
+    ensures { result ≡ need_of scenario.now command.now }
+{
+    if scenario.has_target(command.target) {
+        let unit = scenario.unit(command.target, command.unit);
+        moved_by(from_cdb(command.cdb.as_slice()), unit)
+    } else {
+        0
+    }
+}
+
+fn is_write(command: Result<Command, CdbFault>) -> bool
+    ensures { result ≡ is_write command }
+{
+    match command {
+        Ok(Command::Write6 { lba: _, count: _ }) => true,
+        Ok(Command::Write10 { lba: _, count: _ }) => true,
+        _ => false,
+    }
+}
+
+/// How many bytes the initiator of the command has to send.
+#[tactic(auto, unfolding(crate::specs::Needs::sent_of))]
+pub(crate) fn sent_of(scenario: &Scenario, command: &CmdDef) -> u64
+    ensures { result ≡ sent_of scenario.now command.now }
+{
+    if is_write(from_cdb(command.cdb.as_slice())) {
+        need_of(scenario, command)
+    } else {
+        0
+    }
+}
+
+/// Whether a command that has to send so many bytes has this to send.
+pub(crate) fn is_payload(len: u64, payload: &Payload) -> bool
+    ensures { result ≡ is_payload len payload.now }
+{
+    match payload {
+        Payload::Nothing => len == 0,
+        Payload::Hex(bytes) => 0 < len && bytes.as_slice().len() as u64 == len,
+        Payload::From(_) => 0 < len,
+    }
+}
+
+/// Whether there is room for one command more, which needs `need` bytes, those before needing `needs`.
+pub(crate) fn has_room(scenario: &Scenario, needs: u32, need: u64) -> bool
+    ensures { result ≡ has_room scenario.now needs need }
+{
+    scenario.commands.len() < 4096 && need <= 65_536 && u64::from(needs) + need <= 1_048_576
+}
+
+/// How many bytes a command of the scenario needs: those that its block moves. It is none where the
+/// block has a fault, the target or unit is absent, or the unit has not all of the blocks; REQUEST
+/// SENSE and INQUIRY need theirs at an absent unit too. A number that does not fit is told as the
+/// highest, which comes only for a scenario that breaks the rules.
+pub fn need(s: &Scenario, c: &CmdDef) -> u32
+    ensures { result ≡ min (need_of s.now c.now) (2 ^ 32 - 1) }
+{
+    need_of(s, c).min(u64::from(u32::MAX)) as u32
+}
