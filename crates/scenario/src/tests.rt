@@ -429,7 +429,7 @@ end
 
 // How many of these lines stand first, a line that is repeated, how often before `end`, and what is
 // told: line and reason, or 0 and 0 where it is read.
-const MANY: [(&str, &str, u32, &str); 10] = [
+const MANY: [(&str, &str, u32, &str); 13] = [
     ("1", "fault at 0 bit 0\n", 64, "0 0"),
     ("1", "fault at 0 bit 0\n", 65, "66 8"),
     ("2", "abort 7 0 0 at 0 all\n", 64, "0 0"),
@@ -459,6 +459,9 @@ const MANY: [(&str, &str, u32, &str); 10] = [
         17,
         "21 8",
     ),
+    ("1", "\n", 4_194_293, "0 0"),
+    ("1", "\n", 4_194_294, "0 9"),
+    ("1", "#\n", 2_097_147, "0 9"),
     ("0", "\n", 4_194_305, "0 9"),
 ];
 
