@@ -1,1 +1,4 @@
 mod Sample
+pub mod Kept
+pub mod Short
+pub mod Front

@@ -5,13 +5,23 @@
 //! lists; whoever prints or reads one cites these definitions.
 //!
 //! It stands on `text_words`, `bus_base`, `bus_lines`, `cdb_codec` and `bus_engine`. Its contract:
-//! [`print_row`] is the line of a row.
+//! [`print_row`] is the line of a row; [`TraceReader`], which takes a trace text byte by byte and keeps
+//! no row, tells each row and the first line that breaks the form, however the text is cut; and
+//! [`read_trace`] is all rows and the end, or that line.
 #![tactic(auto)]
 
+mod line_front;
+mod reader;
 mod rows;
+mod stages;
+mod whole;
 
+pub use bus_base::Ns;
 pub use bus_lines::{Kind, Lines, Row};
+pub use reader::TraceReader;
 pub use rows::print_row;
+pub use stages::Told;
+pub use whole::{Trace, TraceBad, read_trace};
 
 #[cfg(test)]
 mod tests;

@@ -1,0 +1,24 @@
+-- What a whole trace text says.
+use Rattle.std.specs.Prelude.{◌≡◌, ℕ, List, length, reverse, Result, Ok, Err, nat_lt, if◌then◌else◌}
+use Rattle.bus_lines.specs.declared.Row.{Row}
+use Rattle.trace_text.specs.declared.whole.Trace.{Trace}
+use Rattle.trace_text.specs.declared.whole.TraceBad.{TraceBad}
+use Rattle.trace_text.specs.declared.whole.TraceBad.TheVariants as bads
+use Rattle.trace_text.specs.Bytes.{end_of, rows_of}
+
+-- These rows, where the text has an end.
+abbrev pub with_rows : List Row → Result ℕ ℕ → Result (List Row × ℕ) ℕ
+with_rows rows (Ok end) = Ok (rows, end)
+with_rows rows (Err line) = Err line
+
+-- The rows and the end that a text says, or its first line that breaks the form; line 0 where it has more
+-- than 1,073,741,824 bytes.
+abbrev pub trace_of : List ℕ → Result (List Row × ℕ) ℕ
+trace_of bytes =
+    if nat_lt 1073741824 (length bytes) then Err 0 else with_rows (reverse (rows_of (reverse bytes))) (end_of (reverse bytes))
+
+-- What was read is this; want of memory is free.
+abbrev pub Answers : Result Trace TraceBad → Result (List Row × ℕ) ℕ → Type 0
+Answers (Ok t) read = read ≡ Ok (t.rows.items, t.end)
+Answers (Err (bads.At line)) read = read ≡ Err line
+Answers (Err bads.NoMemory) read = Unit {0}

@@ -1,0 +1,165 @@
+//! The lines of a trace text: what each says after those before it.
+ghost use Rattle.std.specs.Prelude.{◌≡◌, ◌<◌, ◌+◌, ◌^◌};
+ghost use Rattle.text_words.specs.Words.{Sees};
+ghost use Rattle.trace_text.specs.Lines.{below, kind_at, row_at, end_at, is_first, is_history, stage_after, row_told, count_of, stepped};
+
+use bitflags::Flags;
+use bus_base::Ns;
+use bus_lines::{Kind, Lines, Row};
+use text_words::{Number, after, digit, hex_value, is_hex_digit, number, whole};
+
+/// Where a text stands.
+#[derive(Clone, Copy)]
+pub(crate) enum Stage {
+    /// Before the line `trace 1`.
+    Start,
+    /// Among the rows.
+    Rows,
+    /// After the line of the end, which told this time.
+    Ended(Ns),
+    /// After the line `history`, from which on nothing is looked at.
+    History(Ns),
+}
+
+/// The stage and the number of lines so far; or the first line that breaks the form.
+#[derive(Clone, Copy)]
+pub(crate) enum State {
+    Open { stage: Stage, count: u32 },
+    Bad(u32),
+}
+
+/// What a byte of a trace text told.
+#[derive(Clone, Copy, Debug)]
+pub enum Told {
+    /// Nothing yet.
+    Quiet,
+    /// It is the line feed that ends the line of this row.
+    RowRead(Row),
+    /// This line, the first being 1, breaks the form; it came with its line feed, and stays.
+    Bad(u32),
+}
+
+fn below(time: Number) -> Option<Ns>
+    ensures { result ≡ below time }
+{
+    match time {
+        Some(t) if t < 1 << 63 => Some(t),
+        _ => None,
+    }
+}
+
+// What a row tells.
+fn kind(bytes: &[u8]) -> Option<Kind>
+    ensures { result ≡ kind_at bytes.now }
+{
+    match bytes {
+        [b'f', bit] if b'0' <= *bit && *bit <= b'8' => Some(Kind::Fault(*bit - b'0')),
+        [a, b, c, d, e] => {
+            let are_hex = is_hex_digit(*a)
+                && is_hex_digit(*b)
+                && is_hex_digit(*c)
+                && is_hex_digit(*d)
+                && is_hex_digit(*e);
+            let high = u32::from(hex_value(*a)) * 16 + u32::from(hex_value(*b));
+            let low = (u32::from(hex_value(*c)) * 16 + u32::from(hex_value(*d))) * 16
+                + u32::from(hex_value(*e));
+            let value = high * 4096 + low;
+            if are_hex && value < 0x4_0000 {
+                Some(Kind::Drives(Lines::from_bits_retain(value)))
+            } else {
+                None
+            }
+        }
+        _ => None,
+    }
+}
+
+#[tactic(auto, unfolding(crate::specs::Lines::row_at))]
+fn row_of(line: &[u8]) -> Option<Row>
+    ensures { result ≡ row_at line.now }
+{
+    let (time, rest) = number(line)?;
+    let time = below(time)?;
+    let rest = after(b" ", rest)?;
+    let (dev, rest) = digit(rest)?;
+    let rest = after(b" ", rest)?;
+    let kind = kind(rest)?;
+    Some(Row { time, dev, kind })
+}
+
+#[tactic(auto, unfolding(crate::specs::Lines::end_at))]
+fn end_of(line: &[u8]) -> Option<Ns>
+    ensures { result ≡ end_at line.now }
+{
+    let rest = after(b"end ", line)?;
+    let (time, rest) = number(rest)?;
+    whole(rest)?;
+    below(time)
+}
+
+fn is_first(line: &[u8]) -> bool
+    ensures { result ≡ is_first line.now }
+{
+    line == b"trace 1".as_slice()
+}
+
+fn is_history(line: &[u8]) -> bool
+    ensures { result ≡ is_history line.now }
+{
+    line == b"history".as_slice()
+}
+
+// Where the text stands after a line, and the row of that line.
+fn stage_after(stage: Stage, line: &[u8]) -> Option<(Stage, Option<Row>)>
+    ensures { result ≡ stage_after stage line.now }
+{
+    match stage {
+        Stage::Start => {
+            if is_first(line) {
+                Some((Stage::Rows, None))
+            } else {
+                None
+            }
+        }
+        Stage::Rows => {
+            if let Some(row) = row_of(line) {
+                return Some((Stage::Rows, Some(row)));
+            }
+            let end = end_of(line)?;
+            Some((Stage::Ended(end), None))
+        }
+        Stage::Ended(end) => {
+            if is_history(line) {
+                Some((Stage::History(end), None))
+            } else {
+                None
+            }
+        }
+        Stage::History(end) => Some((Stage::History(end), None)),
+    }
+}
+
+fn row_told(row: Option<Row>) -> Told
+    ensures { result ≡ row_told row }
+{
+    match row {
+        Some(row) => Told::RowRead(row),
+        None => Told::Quiet,
+    }
+}
+
+/// The state after a line, and what its line feed tells.
+pub(crate) fn stepped(state: State, line: &[u8]) -> (State, Told)
+    ensures { count_of state + 1 < 2 ^ 32 → result ≡ stepped state line.now }
+{
+    match state {
+        State::Bad(at) => (State::Bad(at), Told::Bad(at)),
+        State::Open { stage, count } => {
+            let count = count.saturating_add(1);
+            match stage_after(stage, line) {
+                None => (State::Bad(count), Told::Bad(count)),
+                Some((stage, row)) => (State::Open { stage, count }, row_told(row)),
+            }
+        }
+    }
+}
