@@ -2,3 +2,5 @@ mod Sample
 pub mod Kept
 pub mod Short
 pub mod Front
+pub mod RowAgain
+pub mod TraceAgain

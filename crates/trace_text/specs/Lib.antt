@@ -1,4 +1,5 @@
 pub mod RowText
+pub mod Readable
 pub mod EventText
 pub mod ReplyText
 pub mod BlockText
