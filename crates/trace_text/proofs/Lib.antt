@@ -4,3 +4,4 @@ pub mod Short
 pub mod Front
 pub mod RowAgain
 pub mod TraceAgain
+pub mod ReadsOnly

@@ -98,7 +98,7 @@ end_no_row end = refl
 
 -- ---- no line holds a line feed
 
-pub all_inner : (p : ℕ → Bool) → ((b : ℕ) → p b ≡ true → is_inner b ≡ true) → (bytes : List ℕ) → list_all p bytes ≡ true → list_all is_inner bytes ≡ true
+all_inner : (p : ℕ → Bool) → ((b : ℕ) → p b ≡ true → is_inner b ≡ true) → (bytes : List ℕ) → list_all p bytes ≡ true → list_all is_inner bytes ≡ true
 all_inner p inner [] h = refl
 all_inner p inner (b ∷ bytes) h = step (p b) refl h (all_inner p inner bytes) where
   step : (q : Bool) → p b ≡ q → (q && list_all p bytes) ≡ true → (list_all p bytes ≡ true → list_all is_inner bytes ≡ true) → list_all is_inner (b ∷ bytes) ≡ true

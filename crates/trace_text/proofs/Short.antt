@@ -13,7 +13,7 @@ use Rattle.trace_text.specs.declared.stages.Stage.{Stage}
 use Rattle.trace_text.specs.declared.stages.Stage.TheVariants as stages
 use Rattle.trace_text.specs.Lines.{below, kind_at, row_at, end_at, is_first, is_history, stage_after}
 
-below_is : (n : Number) (t : ℕ) → below n ≡ Some t → (n ≡ Some t) × (t < 2 ^ 63)
+pub below_is : (n : Number) (t : ℕ) → below n ≡ Some t → (n ≡ Some t) × (t < 2 ^ 63)
 below_is None t e = absurd cc
 below_is (Some m) t e =
     let p = cond_some (ltb m (2 ^ 63)) m t e in

@@ -19,3 +19,8 @@ pub fn traces_read_back()
 pub fn reports_read_back()
     ensures { (units : List (ℕ × ℕ)) (run : RunValue) → AllByRecursion IsTraceRow run.rows → run.end < 2 ^ 63 → length (report_text units run) ≤ 1073741824 → trace_of (report_text units run) ≡ Ok (run.rows, run.end) }
 {}
+
+/// A text that is read says rows that a trace can hold, and an end below 2^63.
+pub fn reads_only()
+    ensures { (bytes : List ℕ) (rows : List Row) (end : ℕ) → trace_of bytes ≡ Ok (rows, end) → AllByRecursion IsTraceRow rows × (end < 2 ^ 63) }
+{}

@@ -8,7 +8,7 @@
 //! [`print_row`] is the line of a row; [`TraceReader`], which takes a trace text byte by byte and keeps
 //! no row, tells each row and the first line that breaks the form, however the text is cut; and
 //! [`read_trace`] is all rows and the end, or that line. What is printed is read again
-//! ([`traces_read_back`], [`reports_read_back`]).
+//! ([`traces_read_back`], [`reports_read_back`]), and only such rows and ends are read ([`reads_only`]).
 #![tactic(auto)]
 
 mod laws;
@@ -20,7 +20,7 @@ mod whole;
 
 pub use bus_base::Ns;
 pub use bus_lines::{Kind, Lines, Row};
-pub use laws::{reports_read_back, traces_read_back};
+pub use laws::{reads_only, reports_read_back, traces_read_back};
 pub use reader::TraceReader;
 pub use rows::print_row;
 pub use stages::Told;
