@@ -11,7 +11,7 @@ use Rattle.scenario.specs.Reading.{scenario_of, read_from, nothing, Answers}
 use Rattle.scenario.specs.declared.fault.Bad.{Bad}
 use Rattle.scenario.specs.declared.fault.Bad.TheVariants.{At}
 use Rattle.text_words.specs.Lines.{lines_of}
-use Rattle.bus_cli.specs.Ends.{SaysLine, Says, TellsForm, refusal_line}
+use Rattle.bus_cli.specs.Ends.{SaysLine, Says, TellsForm, IsReport, refusal_line}
 use Rattle.bus_cli.specs.declared.status.Status.{Status}
 use Rattle.bus_cli.specs.declared.status.Status.TheVariants.{Done, Words, Refused, Read, Write, Memory, NotBuilt}
 
@@ -68,10 +68,13 @@ said_long input left end text old written f g e h same says =
 
 -- ---- what is said of bytes is said of the input that they are
 
+report_of_any : (bytes text : List ℕ) → IsReport (Some bytes) text → IsReport None text
+report_of_any bytes text r = (r.0, r.1, r.2.1, r.3, r.4)
+
 of_input : (status : Status) (input : Option (List ℕ)) (bytes before : List ℕ) (written : Option (List ℕ)) (f g : ℕ) → IfSome input (λ xs. bytes ≡ xs) → Says status (Some bytes) before written f g → Says status input before written f g
 of_input status (Some xs) bytes before written f g same says = subst (λ (b : List ℕ). Says status (Some b) before written f g) same says
-of_input Done None bytes before written f g same says = (says.0, says.1.0, says.2)
-of_input Write None bytes before written f g same says = (says.0, says.1.0, says.2)
+of_input Done None bytes before written f g same says = (says.0, report_of_any bytes says.0 says.1, says.2)
+of_input Write None bytes before written f g same says = (says.0, report_of_any bytes says.0 says.1, says.2)
 of_input Refused None bytes before written f g same says = (says.0, says.1, tt, says.3)
 of_input Words None bytes before written f g same says = says
 of_input Read None bytes before written f g same says = says

@@ -1,11 +1,13 @@
 -- How the program ends: what it wrote, how far it read, and what the input was.
-use Rattle.std.specs.Prelude.{ℕ, ◌≡◌, ◌+◌, ◌<◌, ◌⊎◌, List, [], ◌∷◌, ◌++◌, length, take, drop, Option, Some, None, Err, codes, decimal}
+use Rattle.std.specs.Prelude.{ℕ, ◌≡◌, ◌+◌, ◌<◌, ◌⊎◌, true, false, List, [], ◌++◌, map, length, take, drop, Option, Some, None, Ok, Err, codes, decimal}
 use Rattle.bus_base.specs.Faults.{HasRisen}
-use Rattle.bus_engine.specs.declared.request.One.{One}
-use Rattle.bus_engine.specs.OneRun.{Fits, run_of}
-use Rattle.trace_text.specs.ReportText.{report_text}
+use Rattle.scenario.specs.declared.value.UnitDef.{UnitDef}
+use Rattle.scenario.specs.Value.{ScenarioValue}
 use Rattle.scenario.specs.Reading.{scenario_of}
-use Rattle.bus_cli.specs.Built.{Asks, AsksMore}
+use Rattle.bus_engine.specs.Value.{RunValue}
+use Rattle.bus_engine.specs.Built.{is_built}
+use Rattle.bus_engine.specs.ScenarioRun.{IsRunOf}
+use Rattle.trace_text.specs.ReportText.{report_text}
 use Rattle.bus_cli.specs.declared.status.Status.{Status}
 use Rattle.bus_cli.specs.declared.status.Status.TheVariants.{Done, Words, Refused, Read, Write, Memory, NotBuilt}
 
@@ -36,14 +38,31 @@ form_line = codes "not built\n"
 abbrev pub refusal_line : ℕ → ℕ → List ℕ
 refusal_line line reason = codes "scenario line " ++ (decimal line ++ (codes " reason " ++ (decimal reason ++ codes "\n")))
 
--- the report of the run of a scenario, whose one disk is unit 0 of the target
-abbrev pub report_of : One → List ℕ
-report_of one = report_text ((one.target, 0) ∷ []) (run_of one)
+-- the name of a disk: its target and the number of its unit
+abbrev pub unit_name : UnitDef → ℕ × ℕ
+unit_name u = (u.target, u.unit)
 
--- the scenario that the input says; where nothing is told of the bytes, one that can be run
-abbrev pub IsSaid : Option (List ℕ) → One → Type 0
-IsSaid None one = Fits one
-IsSaid (Some bytes) one = Asks bytes one
+-- the report of a run of a scenario, which names the disks by the scenario's units
+abbrev pub report_of : ScenarioValue → RunValue → List ℕ
+report_of s run = report_text (map unit_name s.units) run
+
+-- these bytes are a text of this scenario, and it can be run so far
+abbrev pub Asks : List ℕ → ScenarioValue → Type 0
+Asks bytes s = (scenario_of bytes ≡ Ok s) × (is_built s ≡ true)
+
+-- these bytes are a text of a scenario that cannot be run so far
+abbrev pub AsksMore : List ℕ → Type 0
+AsksMore bytes = (s : ScenarioValue) × (scenario_of bytes ≡ Ok s) × (is_built s ≡ false)
+
+-- the scenario that the input says, which can be run; where nothing is told of the bytes, any such one
+abbrev pub IsSaid : Option (List ℕ) → ScenarioValue → Type 0
+IsSaid None s = is_built s ≡ true
+IsSaid (Some bytes) s = Asks bytes s
+
+-- this is the report of the run of the scenario that the input says
+abbrev pub IsReport : Option (List ℕ) → List ℕ → Type 0
+IsReport input text =
+    (s : ScenarioValue) × (run : RunValue) × IsSaid input s × IsRunOf s run × (text ≡ report_of s run)
 
 -- the first line with a reason, and its lowest reason, that refuse the input
 abbrev pub IsRefused : Option (List ℕ) → ℕ → ℕ → Type 0
@@ -60,9 +79,9 @@ SaysLine line before written faults_old faults_new =
 -- the scenario that they say, or with Write a front of it; or the status' own line.
 abbrev pub Says : Status → Option (List ℕ) → List ℕ → Option (List ℕ) → ℕ → ℕ → Type 0
 Says Done input before written faults_old faults_new =
-    (one : One) × IsSaid input one × (written ≡ Some (before ++ report_of one))
+    (text : List ℕ) × IsReport input text × (written ≡ Some (before ++ text))
 Says Write input before written faults_old faults_new =
-    (one : One) × IsSaid input one × ((k : ℕ) × (written ≡ Some (before ++ take k (report_of one))))
+    (text : List ℕ) × IsReport input text × ((k : ℕ) × (written ≡ Some (before ++ take k text)))
 Says Words input before written faults_old faults_new = SaysLine usage_line before written faults_old faults_new
 Says Refused input before written faults_old faults_new =
     (line : ℕ) × (reason : ℕ) × IsRefused input line reason × SaysLine (refusal_line line reason) before written faults_old faults_new
@@ -91,8 +110,8 @@ Reads Memory bytes left = Unit {0}
 
 -- what the status says of the input's bytes
 abbrev pub TellsForm : Status → List ℕ → Type 0
-TellsForm Done bytes = (one : One) × Asks bytes one
-TellsForm Write bytes = (one : One) × Asks bytes one
+TellsForm Done bytes = (s : ScenarioValue) × Asks bytes s
+TellsForm Write bytes = (s : ScenarioValue) × Asks bytes s
 TellsForm NotBuilt bytes = AsksMore bytes
 TellsForm Refused bytes = (line : ℕ) × (reason : ℕ) × (scenario_of bytes ≡ Err (line, reason))
 TellsForm Words bytes = Unit {0}

@@ -4,13 +4,12 @@
 //! reads the whole input, and writes the report or the one line of a refusal. [`Status`] is how it
 //! ended, and the program's exit status.
 //!
-//! It stands on `scenario` for the text of scenarios, on `bus_engine` for the run, on `trace_text` for
-//! the text of a report, and on `bus_base` for input and output. Its contract: each status has its
-//! cause, and with the right words, a scenario that can be run and no fault, exactly the report of the
-//! run of that scenario is written, or there was no memory.
+//! It stands on `scenario` for the text of scenarios, on `bus_engine` for which of them are run and
+//! their runs, on `trace_text` for the text of a report, and on `bus_base` for input and output. Its
+//! contract: each status has its cause, and with the right words, a scenario that can be run and no
+//! fault, exactly the report of the run of that scenario is written, or there was no memory.
 #![tactic(auto)]
 
-mod built;
 mod refusal;
 mod report;
 mod status;

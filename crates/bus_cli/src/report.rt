@@ -1,21 +1,20 @@
 //! The report of a run, as text. Each function adds to `out` what its definition in `trace_text`
 //! says; where there is no memory `out` is of no use any more.
-ghost use Rattle.std.specs.Prelude.{◌≡◌, ◌<◌, ◌^◌, ◌++◌, ◌∷◌, [], length, decimal, codes, OnOk, IfOk};
+ghost use Rattle.std.specs.Prelude.{◌≡◌, ◌<◌, ◌^◌, ◌++◌, ◌∷◌, [], length, decimal, map, codes, OnOk, IfOk};
 ghost use Rattle.std.specs.List.{AllByRecursion, flat_map};
 ghost use Rattle.text_words.specs.Spelling.{byte_text, hex_text};
-ghost use Rattle.bus_engine.specs.OneRun.{Fits};
 ghost use Rattle.bus_lines.specs.OfTrace.{IsRow};
 ghost use Rattle.trace_text.specs.RowText.{row_text, trace_text};
 ghost use Rattle.trace_text.specs.EventText.{process_text, abort_text, event_words, event_text};
 ghost use Rattle.trace_text.specs.ReplyText.{bytes_text, sense_text, outcome_text, reply_text, replies_text};
 ghost use Rattle.trace_text.specs.BlockText.{is_zero, block_text, blocks_text, disks_text};
-ghost use Rattle.trace_text.specs.ReportText.{report_text};
-ghost use Rattle.bus_cli.specs.Ends.{report_of};
+ghost use Rattle.bus_cli.specs.Ends.{unit_name, report_of};
 
 use bus_base::{AbortKind, Dev, Event, NoMemory, Ns, ProcId};
-use bus_engine::{DenseBlocks, One, Outcome, Run, Sense, run_one};
+use bus_engine::{DenseBlocks, Outcome, Run, Scenario, Sense};
 use bus_lines::Row;
 use itoa::Buffer;
+use scenario::UnitDef;
 use std::alloc::Global;
 use text_words::byte_text;
 use trace_text::print_row;
@@ -283,14 +282,21 @@ fn put_disk(out: &mut Vec<u8>, target: Dev, unit: u8, disk: &DenseBlocks) -> Res
     Ok(())
 }
 
-// The one disk, unit 0 of this target.
-fn put_disks(out: &mut Vec<u8>, target: Dev, disks: &[DenseBlocks]) -> Result<(), NoMemory>
-    ensures { OnOk result (out.new.items ≡ out.old.items ++ disks_text ((target, 0) ∷ []) disks.now) }
+// The disks, each by its unit.
+fn put_disks(out: &mut Vec<u8>, units: &[UnitDef], disks: &[DenseBlocks]) -> Result<(), NoMemory>
+    ensures { OnOk result (out.new.items ≡ out.old.items ++ disks_text (map unit_name units.now) disks.now) }
 {
-    match disks {
-        [disk, ..] => put_disk(out, target, 0, disk),
-        [] => Ok(()),
+    let mut units = units;
+    let mut disks = disks;
+    while let [unit, more @ ..] = units {
+        let [disk, others @ ..] = disks else {
+            return Ok(());
+        };
+        put_disk(out, unit.target, unit.unit, disk)?;
+        units = more;
+        disks = others;
     }
+    Ok(())
 }
 
 // The part with the history.
@@ -310,31 +316,34 @@ fn put_replies_part(out: &mut Vec<u8>, outcomes: &[Outcome]) -> Result<(), NoMem
 }
 
 // The part with the blocks.
-fn put_blocks_part(out: &mut Vec<u8>, target: Dev, disks: &[DenseBlocks]) -> Result<(), NoMemory>
-    ensures { OnOk result (out.new.items ≡ out.old.items ++ (codes "blocks\n" ++ disks_text ((target, 0) ∷ []) disks.now)) }
+fn put_blocks_part(
+    out: &mut Vec<u8>,
+    units: &[UnitDef],
+    disks: &[DenseBlocks],
+) -> Result<(), NoMemory>
+    ensures { OnOk result (out.new.items ≡ out.old.items ++ (codes "blocks\n" ++ disks_text (map unit_name units.now) disks.now)) }
 {
     put(out, b"blocks\n")?;
-    put_disks(out, target, disks)
+    put_disks(out, units, disks)
 }
 
-fn put_report(out: &mut Vec<u8>, target: Dev, run: &Run) -> Result<(), NoMemory>
+fn put_report(out: &mut Vec<u8>, scenario: &Scenario, run: &Run) -> Result<(), NoMemory>
     requires { AllByRecursion IsRow run.now.rows }
-    ensures { OnOk result (out.new.items ≡ out.old.items ++ report_text ((target, 0) ∷ []) run.now) }
+    ensures { OnOk result (out.new.items ≡ out.old.items ++ report_of scenario.now run.now) }
 {
     put_trace(out, &run.rows, run.end)?;
     put_history_part(out, &run.history)?;
     put_replies_part(out, &run.replies)?;
-    put_blocks_part(out, target, &run.disks)?;
+    put_blocks_part(out, &scenario.units, &run.disks)?;
     put(out, b"done\n")
 }
 
-/// Runs a scenario, and answers the report of the run.
-pub fn report(alloc: Global, one: &One) -> Result<Vec<u8>, NoMemory>
-    requires { Fits one.now }
-    ensures { IfOk result (λ text. text.items ≡ report_of one.now) }
+/// The report of a run of a scenario.
+pub fn report(alloc: Global, scenario: &Scenario, run: &Run) -> Result<Vec<u8>, NoMemory>
+    requires { AllByRecursion IsRow run.now.rows }
+    ensures { IfOk result (λ text. text.items ≡ report_of scenario.now run.now) }
 {
-    let run = run_one(alloc, one)?;
     let mut text = Vec::new(alloc);
-    put_report(&mut text, one.target, &run)?;
+    put_report(&mut text, scenario, run)?;
     Ok(text)
 }

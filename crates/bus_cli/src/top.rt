@@ -2,17 +2,16 @@
 ghost use Rattle.std.specs.Prelude.{ℕ, List, ◌≡◌, ◌+◌, ◌≤◌, ◌<◌, ◌↔◌, Some, None, IfSome, map, string_bytes, length, drop};
 ghost use Rattle.bus_base.specs.Faults.{HasRisen};
 ghost use Rattle.bus_base.specs.Whole.{TakesAtMost};
-ghost use Rattle.bus_engine.specs.declared.request.One.{One};
+ghost use Rattle.scenario.specs.Value.{ScenarioValue};
 ghost use Rattle.bus_cli.specs.Words.{word_of};
-ghost use Rattle.bus_cli.specs.Built.{Asks};
-ghost use Rattle.bus_cli.specs.Ends.{limit, SaysLine, Says, Reads, TellsForm, IsDoneOrMemory};
+ghost use Rattle.bus_cli.specs.Ends.{limit, Asks, SaysLine, Says, Reads, TellsForm, IsDoneOrMemory};
 
-use crate::built::one_of;
 use crate::refusal::refusal_line;
 use crate::report::report;
 use crate::status::Status;
 use crate::words::{Word, word_of};
 use bus_base::{ReadEnd, Sink, Source, Steps, read_all, write_all};
+use bus_engine::built;
 use scenario::{Bad, LIMIT, read};
 use std::alloc::Global;
 use std::sync::ledger::Ledger;
@@ -45,11 +44,15 @@ fn run_bytes<K: Sink>(alloc: Global, bytes: &[u8], out: &mut K) -> Status
             return Status::Memory;
         }
     };
-    let Some(one) = one_of(&scenario) else {
+    if !built(&scenario) {
         say(out, b"not built\n");
         return Status::NotBuilt;
+    }
+    let Ok(run) = bus_engine::run(alloc, &scenario) else {
+        say(out, b"no memory\n");
+        return Status::Memory;
     };
-    let Ok(text) = report(alloc, &one) else {
+    let Ok(text) = report(alloc, &scenario, &run) else {
         say(out, b"no memory\n");
         return Status::Memory;
     };
@@ -112,7 +115,7 @@ pub fn bus_main<S: Source, K: Sink, L: Ledger>(
     ensures taken { TakesAtMost (S.left input.old) (S.left input.new) (limit + 1) }
     ensures form { IfSome (S.left input.old) (λ bytes. TellsForm result bytes) }
     ensures said { IfSome (K.written out.old) (λ before. Says result (S.left input.old) before (K.written out.new) (K.faults out.old) (K.faults out.new)) }
-    ensures complete { (bytes : List ℕ) (one : One) → S.left input.old ≡ Some bytes → Asks bytes one → ¬ (word_of (map string_bytes words.now) ≡ None) → ¬ HasRisen (S.faults input.old) (S.faults input.new) → ¬ HasRisen (K.faults out.old) (K.faults out.new) → IsDoneOrMemory result }
+    ensures complete { (bytes : List ℕ) (s : ScenarioValue) → S.left input.old ≡ Some bytes → Asks bytes s → ¬ (word_of (map string_bytes words.now) ≡ None) → ¬ HasRisen (S.faults input.old) (S.faults input.new) → ¬ HasRisen (K.faults out.old) (K.faults out.new) → IsDoneOrMemory result }
     ensures source_never_falls { S.faults input.old ≤ S.faults input.new }
     ensures sink_never_falls { K.faults out.old ≤ K.faults out.new }
     ensures steps { steps.new ≡ steps.old }

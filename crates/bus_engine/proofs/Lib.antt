@@ -7,3 +7,4 @@ pub mod TheRun
 pub mod OnCourse
 pub mod Sample
 pub mod RunRows
+pub mod OneOfEach

@@ -13,3 +13,5 @@ pub mod Scene
 pub mod Worlds
 pub mod Runs
 pub mod Start
+pub mod Built
+pub mod ScenarioRun

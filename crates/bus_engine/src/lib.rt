@@ -5,12 +5,14 @@
 //! the levels of the lines and on its own timers alone: neither sees the other, and neither knows the
 //! trace in advance.
 //!
-//! It stands on `bus_base`, `bus_lines` and `cdb_codec`. Its contract: [`run_one`] answers exactly the
-//! run that `specs/OneRun.antt` writes out, row by row, with its history, its reply and its disk, or
-//! want of memory. So every run ends, in BUS FREE.
+//! It stands on `bus_base`, `bus_lines`, `cdb_codec`, and `scenario`. Its contract: [`built`] tells
+//! exactly which scenarios are run so far (`specs/Built.antt`), and [`run`] answers exactly the run that
+//! such a scenario says (`specs/ScenarioRun.antt`, over `specs/OneRun.antt`, which writes it out row by
+//! row, with its history, its reply and its disk), or want of memory. So every run ends, in BUS FREE.
 #![tactic(auto)]
 
 mod acts;
+mod asked;
 mod blocks;
 mod hosts;
 mod made;
@@ -18,6 +20,7 @@ mod outcomes;
 mod phases;
 mod request;
 mod rounds;
+mod scenarios;
 mod targets;
 
 pub use blocks::DenseBlocks;
@@ -26,5 +29,8 @@ pub use bus_lines::{Kind, Lines, Row};
 pub use cdb_codec::Sense;
 pub use made::Run;
 pub use outcomes::{Bytes, Outcome};
-pub use request::One;
-pub use rounds::run_one;
+pub use scenario::Scenario;
+pub use scenarios::{built, run};
+
+#[cfg(test)]
+mod tests;

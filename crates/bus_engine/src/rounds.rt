@@ -220,7 +220,7 @@ fn earliest(a: Option<Ns>, b: Option<Ns>) -> Option<Ns>
 /// Runs one READ(6) of one block from the first want of the bus to BUS FREE.
 ///
 /// The trace begins at time 0 with all lines false; both devices react with no latency.
-pub fn run_one(alloc: Global, one: &One) -> Result<Run, NoMemory>
+pub(crate) fn run_one(alloc: Global, one: &One) -> Result<Run, NoMemory>
     requires { Fits one.now }
     ensures exact { IfOk result (λ run. run ≡ run_of one.now) }
     ensures rows { IfOk result (λ run. AllByRecursion IsRow run.rows) }

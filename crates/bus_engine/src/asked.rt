@@ -3,9 +3,10 @@
 ghost use Rattle.std.specs.Prelude.{◌≡◌, ◌≢◌, ◌<◌, ◌≤◌, length, IfSome};
 ghost use Rattle.std.specs.List.{AllByRecursion};
 ghost use Rattle.bus_engine.specs.OneRun.{Fits};
-ghost use Rattle.bus_cli.specs.Built.{is_host, is_never, is_first, is_target, is_disk, is_fill, is_untagged, is_nothing, is_plain, block_of, block_read, host_of, target_of, blocks_of, fill_of, lba_of, is_quiet, asked_of, one_of};
+ghost use Rattle.bus_engine.specs.Built.{is_host, is_never, is_first, is_target, is_disk, is_fill, is_untagged, is_nothing, is_plain, block_of, block_read, host_of, target_of, blocks_of, fill_of, lba_of, is_quiet, asked_of, one_of};
 
-use bus_engine::{Dev, One};
+use crate::request::One;
+use bus_base::Dev;
 use scenario::{
     CmdDef, FillDef, HostDef, Payload, Pick, Policy, Scenario, Tag, TargetDef, UnitDef,
 };

@@ -1,7 +1,7 @@
 -- Which scenarios can be run so far, and what each asks for: one READ(6) of one block, untagged, by an
 -- initiator and at a target that react at once and transfer data asynchronously, from one disk with
 -- blocks of 16 bytes, one of which is filled.
-use Rattle.std.specs.Prelude.{ℕ, ◌≡◌, ◌+◌, ◌*◌, Bool, true, false, not, ◌&&◌, List, [], ◌∷◌, length, slice_index, Option, Some, None, Ok, nat_lt, nat_le, ◌==◌, if◌then◌else◌}
+use Rattle.std.specs.Prelude.{ℕ, ◌+◌, ◌*◌, Bool, true, false, not, ◌&&◌, List, [], ◌∷◌, length, slice_index, Option, Some, None, is_some, nat_lt, nat_le, ◌==◌, if◌then◌else◌}
 use Rattle.text_words.specs.Words.{◌>>=◌}
 use Rattle.bus_base.specs.declared.events.Pick.{Pick}
 use Rattle.bus_base.specs.declared.events.Pick.TheVariants as picks
@@ -17,9 +17,7 @@ use Rattle.scenario.specs.declared.value.Payload.{Payload}
 use Rattle.scenario.specs.declared.value.Payload.TheVariants as payloads
 use Rattle.scenario.specs.declared.value.CmdDef.{CmdDef}
 use Rattle.scenario.specs.Value.{ScenarioValue}
-use Rattle.scenario.specs.Reading.{scenario_of}
 use Rattle.bus_engine.specs.declared.request.One.{One}
-use Rattle.bus_engine.specs.OneRun.{Fits}
 
 -- The initiator reacts at once, with one open command, and offers no synchronous transfer.
 abbrev pub is_host : HostDef → Bool
@@ -124,10 +122,6 @@ asked_of s = do
 unfoldable pub one_of : ScenarioValue → Option One
 one_of s = if is_quiet s then asked_of s else None
 
--- These bytes are a text of a scenario that can be run, which asks for this.
-abbrev pub Asks : List ℕ → One → Type 0
-Asks bytes one = Fits one × ((s : ScenarioValue) × (scenario_of bytes ≡ Ok s) × (one_of s ≡ Some one))
-
--- These bytes are a text of a scenario that cannot be run so far.
-abbrev pub AsksMore : List ℕ → Type 0
-AsksMore bytes = (s : ScenarioValue) × (scenario_of bytes ≡ Ok s) × (one_of s ≡ None)
+-- Whether a scenario can be run so far.
+abbrev pub is_built : ScenarioValue → Bool
+is_built s = is_some (one_of s)
