@@ -2,3 +2,4 @@ mod Sample
 pub mod Kept
 pub mod Short
 pub mod Front
+pub mod Putting

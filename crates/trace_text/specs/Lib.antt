@@ -6,3 +6,4 @@ pub mod ReportText
 pub mod Lines
 pub mod Bytes
 pub mod Whole
+pub mod Pages

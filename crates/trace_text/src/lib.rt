@@ -10,15 +10,22 @@
 //! [`read_trace`] is all rows and the end, or that line.
 #![tactic(auto)]
 
+mod blocks_part;
+mod history_part;
 mod line_front;
+mod pages;
 mod reader;
+mod replies_part;
+mod whole_report;
 mod rows;
 mod stages;
+mod trace_part;
 mod whole;
 
 pub use bus_base::Ns;
 pub use bus_lines::{Kind, Lines, Row};
 pub use reader::TraceReader;
+pub use whole_report::report;
 pub use rows::print_row;
 pub use stages::Told;
 pub use whole::{Trace, TraceBad, read_trace};

@@ -70,3 +70,40 @@ fn reads_traces(rt: HostRuntime) {
         assert_eq!(rt; told(rt.alloc(), text.as_bytes()), want, "{text}");
     }
 }
+
+// A run of the scenario below, by hand.
+fn sample_run(alloc: Global) -> Result<Run, NoMemory> {
+    let mut rows = Vec::new(alloc);
+    let mut history = Vec::new(alloc);
+    let mut replies = Vec::new(alloc);
+    let mut disks = Vec::new(alloc);
+    rows.push(Row {
+        time: 4800,
+        dev: 7,
+        kind: Kind::Drives(Lines::from_bits_retain(0x1_0781)),
+    })?;
+    rows.push(Row {
+        time: 7055,
+        dev: 0,
+        kind: Kind::Fault(8),
+    })?;
+    let process = ProcId {
+        command: 1,
+        sense: true,
+    };
+    history.push(Event::End(process, 0x28))?;
+    history.push(Event::Aborted(7, 0, 3, AbortKind::Tag(20)))?;
+    let mut bytes = Vec::new(alloc);
+    bytes.push(0xf7)?;
+    replies.push(Outcome::Good(Octets::new(bytes)))?;
+    let mut disk = DenseBlocks::new(alloc, 3, 16)?;
+    disk.write_block(1, b"0123456789abcdef");
+    disks.push(disk)?;
+    Ok(Run {
+        rows,
+        end: 7055,
+        history,
+        replies,
+        disks,
+    })
+}
