@@ -103,7 +103,7 @@ use Rattle.trace_text.proofs.Putting.{item_next}
 use Rattle.report_bench.proofs.are_rows.Goals as goal
 
 pub loop-row-preserved : goal.loop-row-preserved
-loop-row-preserved c = λ rest. c.loop-row.invariant (subst (λ (xs : List Row). AllByRecursion IsRow xs) (sym (item_next _ _ _ c.loop-row-test.true c.row-item.is)) (c.if-is_row.ensures refl, rest))
+loop-row-preserved c = λ rest. c.loop-row.invariant (subst (λ (xs : List Row). AllByRecursion IsRow xs) (sym (item_next _ _ _ c.loop-row-test.true c.row-item.is)) (c.if-not-is_row.ensures refl, rest))
 ''',
 }
 

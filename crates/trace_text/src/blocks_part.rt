@@ -15,14 +15,7 @@ fn is_zero(bytes: &[u8]) -> bool
     bytes.iter().all(|byte| *byte == 0)
 }
 
-fn put_block<K: Sink>(
-    out: &mut K,
-    page: &mut Page,
-    target: Dev,
-    unit: u8,
-    lba: u32,
-    bytes: &[u8],
-)
+fn put_block<K: Sink>(out: &mut K, page: &mut Page, target: Dev, unit: u8, lba: u32, bytes: &[u8])
     ensures { Puts (place (K.written out.old) (K.faults out.old) page.old) (place (K.written out.new) (K.faults out.new) page.new) (block_text target unit lba bytes.now) }
 {
     if is_zero(bytes) {

@@ -4,7 +4,8 @@
 //! then the history, the replies and the blocks of a run. `specs/` defines these texts over plain
 //! lists; whoever prints or reads one cites these definitions.
 //!
-//! It stands on `text_words`, `bus_base`, `bus_lines`, `cdb_codec` and `bus_engine`. Its contract:
+//! It stands on `text_words`, `bus_base`, `bus_lines`, `cdb_codec`, `scenario` and `bus_engine`. Its
+//! contract: [`report`] writes the report of a run to any sink, or a front of it where the sink fails;
 //! [`print_row`] is the line of a row; [`TraceReader`], which takes a trace text byte by byte and keeps
 //! no row, tells each row and the first line that breaks the form, however the text is cut; and
 //! [`read_trace`] is all rows and the end, or that line.
@@ -16,19 +17,19 @@ mod line_front;
 mod pages;
 mod reader;
 mod replies_part;
-mod whole_report;
 mod rows;
 mod stages;
 mod trace_part;
 mod whole;
+mod whole_report;
 
 pub use bus_base::Ns;
 pub use bus_lines::{Kind, Lines, Row};
 pub use reader::TraceReader;
-pub use whole_report::report;
 pub use rows::print_row;
 pub use stages::Told;
 pub use whole::{Trace, TraceBad, read_trace};
+pub use whole_report::report;
 
 #[cfg(test)]
 mod tests;

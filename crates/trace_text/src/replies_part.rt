@@ -3,7 +3,7 @@ ghost use Rattle.trace_text.specs.ReplyText.{bytes_text, sense_text, outcome_tex
 ghost use Rattle.trace_text.specs.Pages.{place, Puts};
 
 use crate::pages::{Page, put, put_byte, put_hex, put_spaced};
-use bus_base::{Sink};
+use bus_base::Sink;
 use bus_engine::{Outcome, Sense};
 
 // The bytes that came in, if any did.

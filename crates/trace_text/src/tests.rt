@@ -154,10 +154,18 @@ fn prints_reports(rt: HostRuntime) -> Result<(), NoMemory> {
     for most in [1usize, 3, 64] {
         let mut sink = MemSink::new(rt.alloc(), 4096, most, &[])?;
         assert_eq!(rt; report(&scenario, &run, &mut sink), Ok(()));
-        assert_eq!(rt; sink.bytes(), REPORT.as_bytes(), "at most {most} bytes a call");
+        assert_eq!(rt;
+            sink.bytes(),
+            REPORT.as_bytes(),
+            "at most {most} bytes a call"
+        );
         for call in 1..=REPORT.len().div_ceil(most) {
             let mut sink = MemSink::new(rt.alloc(), 4096, most, &[call as u64])?;
-            assert_eq!(rt; report(&scenario, &run, &mut sink), Err(Failed), "call {call}");
+            assert_eq!(rt;
+                report(&scenario, &run, &mut sink),
+                Err(Failed),
+                "call {call}"
+            );
             let taken = sink.bytes();
             assert_eq!(rt; taken.len(), (call - 1) * most, "call {call}");
             assert!(rt; REPORT.as_bytes().starts_with(taken), "call {call}");

@@ -38,7 +38,11 @@ fn put_end<K: Sink>(out: &mut K, page: &mut Page, dev: Dev, kind: Kind)
 {
     match kind {
         Kind::Drives(lines) => put(out, page, &driven_end(dev, lines.bits())),
-        Kind::Fault(bit) => put(out, page, &[b' ', b'0' + dev, b' ', b'f', b'0' + bit, b'\n']),
+        Kind::Fault(bit) => put(
+            out,
+            page,
+            &[b' ', b'0' + dev, b' ', b'f', b'0' + bit, b'\n'],
+        ),
     }
 }
 

@@ -48,5 +48,9 @@ pub fn report<K: Sink>(s: &Scenario, run: &Run, out: &mut K) -> Result<(), Faile
     let mut page = new_page();
     put_report(out, &mut page, s, run);
     flush(out, &mut page);
-    if is_failed(&page) { Err(Failed) } else { Ok(()) }
+    if is_failed(&page) {
+        Err(Failed)
+    } else {
+        Ok(())
+    }
 }

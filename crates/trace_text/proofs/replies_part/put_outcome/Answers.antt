@@ -5,7 +5,7 @@ use Rattle.trace_text.proofs.Putting.{and_then, put_as}
 use Rattle.trace_text.proofs.replies_part.put_outcome.Goals as goal
 
 pub returns-in-Good : goal.returns-in-Good
-returns-in-Good g c = 
+returns-in-Good g c =
     let text = ap (λ bytes. codes "GOOD" ++ bytes_text bytes) c.as_slice.ensures in
     put_as _ (and_then c.put.ensures c.put_bytes.ensures) (text ∙ (λ j. outcome_text (sym c.in-Good.is j)))
 
