@@ -5,3 +5,4 @@ pub mod Front
 pub mod RowAgain
 pub mod TraceAgain
 pub mod ReadsOnly
+pub mod Putting

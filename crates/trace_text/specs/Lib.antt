@@ -7,3 +7,4 @@ pub mod ReportText
 pub mod Lines
 pub mod Bytes
 pub mod Whole
+pub mod Pages

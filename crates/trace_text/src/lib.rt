@@ -4,19 +4,26 @@
 //! then the history, the replies and the blocks of a run. `specs/` defines these texts over plain
 //! lists; whoever prints or reads one cites these definitions.
 //!
-//! It stands on `text_words`, `bus_base`, `bus_lines`, `cdb_codec` and `bus_engine`. Its contract:
+//! It stands on `text_words`, `bus_base`, `bus_lines`, `cdb_codec`, `scenario` and `bus_engine`. Its
+//! contract: [`report`] writes the report of a run to any sink, or a front of it where the sink fails;
 //! [`print_row`] is the line of a row; [`TraceReader`], which takes a trace text byte by byte and keeps
 //! no row, tells each row and the first line that breaks the form, however the text is cut; and
 //! [`read_trace`] is all rows and the end, or that line. What is printed is read again
 //! ([`traces_read_back`], [`reports_read_back`]), and only such rows and ends are read ([`reads_only`]).
 #![tactic(auto)]
 
+mod blocks_part;
+mod history_part;
 mod laws;
 mod line_front;
+mod pages;
 mod reader;
+mod replies_part;
 mod rows;
 mod stages;
+mod trace_part;
 mod whole;
+mod whole_report;
 
 pub use bus_base::Ns;
 pub use bus_lines::{Kind, Lines, Row};
@@ -25,6 +32,7 @@ pub use reader::TraceReader;
 pub use rows::print_row;
 pub use stages::Told;
 pub use whole::{Trace, TraceBad, read_trace};
+pub use whole_report::report;
 
 #[cfg(test)]
 mod tests;

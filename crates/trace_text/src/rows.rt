@@ -11,8 +11,8 @@ use bus_lines::{Kind, Row};
 use itoa::Buffer;
 use text_words::hex_digit;
 
-// A hexadecimal digit, which is a character by itself.
-fn glyph(value: u32) -> u8
+/// A hexadecimal digit, which is a character by itself.
+pub(crate) fn glyph(value: u32) -> u8
     requires { value < 16 }
     ensures exact { result ≡ hex_digit value }
     ensures ascii { result < 128 }

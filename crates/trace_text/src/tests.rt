@@ -1,6 +1,14 @@
-use crate::{TraceBad, print_row, read_trace};
+//! Each public function once.
+ghost use Rattle.std.specs.Prelude.{◌≡◌, length, IfOk};
+ghost use Rattle.std.specs.List.{AllByRecursion};
+ghost use Rattle.bus_lines.specs.OfTrace.{IsRow};
+
+use crate::{TraceBad, print_row, read_trace, report};
 use bitflags::Flags;
+use bus_base::{AbortKind, Event, Failed, MemSink, NoMemory, Octets, ProcId};
+use bus_engine::{DenseBlocks, Outcome, Run};
 use bus_lines::{Kind, Lines, Row};
+use scenario::read;
 use std::alloc::Global;
 use std::test::Fail;
 
@@ -69,4 +77,99 @@ fn reads_traces(rt: HostRuntime) {
     for (text, want) in TEXTS {
         assert_eq!(rt; told(rt.alloc(), text.as_bytes()), want, "{text}");
     }
+}
+
+const SCENARIO: &str = "scsi 1
+initiator 7 latency 0 open 1 retries 2 sync 0 0 lag 0
+target 0 latency 0 retries 2 disc never pick first seek 0 sync 0 0
+unit 0 3 blocks 3 size 16 depth 1
+cmd 7 0 3 at 0 untagged cdb 080000010100 none
+end
+";
+
+const REPORT: &str = "trace 1
+4800 7 10781
+7055 0 f8
+end 7055
+history
+end 1S 28
+abort 7 0 3 tag 20
+replies
+cmd 1 GOOD f7
+blocks
+block 0 3 1 30313233343536373839616263646566
+done
+";
+
+// Two rows, two events, a reply, and a disk of which one block is shown.
+fn sample_run(alloc: Global) -> Result<Run, NoMemory>
+    ensures rows { IfOk result (λ run. AllByRecursion IsRow run.rows) }
+    ensures replies { IfOk result (λ run. length run.replies ≡ 1) }
+    ensures disks { IfOk result (λ run. length run.disks ≡ 1) }
+{
+    let driven = Row {
+        time: 4800,
+        dev: 7,
+        kind: Kind::Drives(Lines::from_bits_retain(0x1_0781)),
+    };
+    let fault = Row {
+        time: 7055,
+        dev: 0,
+        kind: Kind::Fault(8),
+    };
+    let rows = vec![in alloc; driven, fault]?;
+    let process = ProcId {
+        command: 1,
+        sense: true,
+    };
+    let ended = Event::End(process, 0x28);
+    let aborted = Event::Aborted(7, 0, 3, AbortKind::Tag(20));
+    let history = vec![in alloc; ended, aborted]?;
+    let bytes = Octets::new(Vec::from_slice(alloc, b"\xf7")?);
+    let mut replies = Vec::new(alloc);
+    replies.push(Outcome::Good(bytes))?;
+    let mut disk = DenseBlocks::new(alloc, 3, 16)?;
+    disk.write_block(1, b"0123456789abcdef");
+    let mut disks = Vec::new(alloc);
+    disks.push(disk)?;
+    Ok(Run {
+        rows,
+        end: 7055,
+        history,
+        replies,
+        disks,
+    })
+}
+
+#[test]
+fn prints_reports(rt: HostRuntime) -> Result<(), NoMemory> {
+    let run = sample_run(rt.alloc())?;
+    let Ok(scenario) = read(rt.alloc(), SCENARIO.as_bytes()) else {
+        panic!(rt; "the scenario is not read");
+    };
+    if scenario.units.len() != 1 || scenario.commands.len() != 1 {
+        panic!(rt; "the scenario has other units or commands");
+    }
+    // Calls are numbered from 1, and each but the last takes `most` bytes.
+    for most in [1usize, 3, 64] {
+        let mut sink = MemSink::new(rt.alloc(), 4096, most, &[])?;
+        assert_eq!(rt; report(&scenario, &run, &mut sink), Ok(()));
+        assert_eq!(rt;
+            sink.bytes(),
+            REPORT.as_bytes(),
+            "at most {most} bytes a call"
+        );
+        for call in 1..=REPORT.len().div_ceil(most) {
+            let mut sink = MemSink::new(rt.alloc(), 4096, most, &[call as u64])?;
+            assert_eq!(rt;
+                report(&scenario, &run, &mut sink),
+                Err(Failed),
+                "call {call}"
+            );
+            let taken = sink.bytes();
+            assert_eq!(rt; taken.len(), (call - 1) * most, "call {call}");
+            assert!(rt; REPORT.as_bytes().starts_with(taken), "call {call}");
+        }
+    }
+    Ok(())
 }

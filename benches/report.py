@@ -1,0 +1,161 @@
+#!/usr/bin/env python3
+"""Times the printing of reports: how long ours and another simulator's program take to print a million rows.
+
+    benches/report.py OTHER_PROGRAM
+
+The other program makes and runs a scenario (`make 7 4096`, `run`, and `run --short`, which prints no rows).
+Ours is a driver, built in a temporary copy of the repository: it reads the other's report as a trace, and
+prints a report with the same rows, or none. Each time of printing is a difference of two whole processes,
+and the best of some rounds. The driver stands nowhere but in the copy.
+"""
+import pathlib
+import resource
+import shutil
+import subprocess
+import sys
+import tempfile
+
+ROUNDS = 9
+NAME = "report_bench"
+DEPS = "bus_base bus_lines bus_engine scenario trace_text"
+
+DRIVER = {
+    "src/main.rt": r'''//! Reads a trace, and prints a report with its rows where there is a word.
+#![tactic(auto)]
+
+ghost use Rattle.std.specs.Prelude.{◌≡◌, true};
+ghost use Rattle.std.specs.List.{AllByRecursion};
+ghost use Rattle.bus_lines.specs.OfTrace.{IsRow};
+
+use bus_base::{Sink, StdSink, StdSource, read_all};
+use bus_engine::Run;
+use bus_lines::{Kind, Row};
+use scenario::{Scenario, read};
+use std::{env, io};
+use trace_text::{read_trace, report};
+
+fn is_row(row: &Row) -> bool
+    ensures { result ≡ true → IsRow row.now }
+{
+    match row.kind {
+        Kind::Drives(_) => row.dev < 8,
+        Kind::Fault(bit) => row.dev < 8 && bit <= 8,
+    }
+}
+
+fn are_rows(rows: &[Row]) -> bool
+    ensures { result ≡ true → AllByRecursion IsRow rows.now }
+{
+    for row in rows {
+        if !is_row(row) {
+            return false;
+        }
+    }
+    true
+}
+
+fn print<K: Sink>(out: &mut K, scenario: &Scenario, run: &Run) {
+    if scenario.units.len() == run.disks.len() && scenario.commands.len() == run.replies.len() && are_rows(&run.rows) {
+        let _ = report(scenario, run, out);
+    }
+}
+
+fn main(rt: HostRuntime) {
+    let mut input = StdSource::new(rt.reader());
+    let Ok(bytes) = read_all(rt.alloc(), &mut input, 1_073_741_824) else {
+        return;
+    };
+    let Ok(trace) = read_trace(rt.alloc(), &bytes) else {
+        return;
+    };
+    let Ok(scenario) = read(rt.alloc(), b"scsi 1\nend\n") else {
+        return;
+    };
+    let run = Run {
+        rows: trace.rows,
+        end: trace.end,
+        history: Vec::new(rt.alloc()),
+        replies: Vec::new(rt.alloc()),
+        disks: Vec::new(rt.alloc()),
+    };
+    let Ok(words) = env::args(&rt) else {
+        return;
+    };
+    if words.skip(1).count() > 0 {
+        let mut out = StdSink::new(io::writer(&rt));
+        print(&mut out, &scenario, &run);
+    }
+}
+''',
+    "proofs/are_rows/Invariants.antt": r'''use Rattle.std.proofs.Common.{drop}
+use Rattle.std.specs.List.{AllByRecursion}
+use Rattle.bus_lines.specs.OfTrace.{IsRow}
+use Rattle.report_bench.proofs.are_rows.Given as goal
+
+abbrev pub invariant-loop-row : goal.invariant-loop-row
+invariant-loop-row l = AllByRecursion IsRow (drop l.row-index l.rows) → AllByRecursion IsRow l.rows
+''',
+    "proofs/are_rows/Answers.antt": r'''use Rattle.std.proofs.Common.{sym, subst, refl, List}
+use Rattle.std.specs.List.{AllByRecursion}
+use Rattle.bus_lines.specs.OfTrace.{IsRow}
+use Rattle.bus_lines.specs.declared.Row.{Row}
+use Rattle.trace_text.proofs.Putting.{item_next}
+use Rattle.report_bench.proofs.are_rows.Goals as goal
+
+pub loop-row-preserved : goal.loop-row-preserved
+loop-row-preserved c = λ rest. c.loop-row.invariant (subst (λ (xs : List Row). AllByRecursion IsRow xs) (sym (item_next _ _ _ c.loop-row-test.true c.row-item.is)) (c.if-not-is_row.ensures refl, rest))
+''',
+}
+
+
+def build(folder):
+    """The driver's program, made in this folder."""
+    here = pathlib.Path(__file__).resolve().parent.parent
+    skip = shutil.ignore_patterns("out")
+    shutil.copytree(here / "crates", folder / "crates", ignore=skip)
+    crate = folder / "crates" / NAME
+    for name, text in DRIVER.items():
+        (crate / name).parent.mkdir(parents=True, exist_ok=True)
+        (crate / name).write_text(text)
+    (folder / "crates.txt").write_text((here / "crates.txt").read_text() + "%s: %s\n" % (NAME, DEPS))
+    if (here / "HANDLES").exists():
+        shutil.copy(here / "HANDLES", folder / "HANDLES")
+    made = subprocess.run(["rt", "run"], cwd=crate, stdin=subprocess.DEVNULL, capture_output=True, check=False)
+    program = crate / "out" / NAME
+    if not program.exists():
+        sys.exit("the driver was not built:\n" + (made.stdout + made.stderr).decode())
+    return program
+
+
+def seconds(words, data):
+    """The least processor time of some runs, in seconds, the time of the system with it."""
+    times = []
+    for _ in range(ROUNDS):
+        before = resource.getrusage(resource.RUSAGE_CHILDREN)
+        with tempfile.TemporaryFile() as text:
+            text.write(data)
+            text.seek(0)
+            subprocess.run(words, stdin=text, stdout=subprocess.DEVNULL, check=False)
+        after = resource.getrusage(resource.RUSAGE_CHILDREN)
+        times.append(after.ru_utime - before.ru_utime + after.ru_stime - before.ru_stime)
+    return min(times)
+
+
+def main():
+    other = sys.argv[1]
+    scenario = subprocess.run([other, "make", "7", "4096"], capture_output=True, check=True).stdout
+    text = subprocess.run([other, "run"], input=scenario, capture_output=True, check=True).stdout
+    rows = text[: text.index(b"\nend ")].count(b"\n")
+    theirs = seconds([other, "run"], scenario) - seconds([other, "run", "--short"], scenario)
+    with tempfile.TemporaryDirectory() as folder:
+        program = build(pathlib.Path(folder))
+        printed = subprocess.run([program, "print"], input=text, capture_output=True, check=True).stdout
+        if printed[: printed.index(b"history\n")] != text[: text.index(b"history\n")]:
+            sys.exit("the rows differ")
+        own = seconds([program, "print"], text) - seconds([program], text)
+    million = rows / 1e6
+    print("%d rows" % rows)
+    print("a million rows: ours %.4f s, other %.4f s, ratio %.2f" % (own / million, theirs / million, own / theirs))
+
+
+main()

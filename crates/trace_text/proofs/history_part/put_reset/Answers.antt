@@ -1,0 +1,5 @@
+use Rattle.trace_text.proofs.Putting.{and_then}
+use Rattle.trace_text.proofs.history_part.put_reset.Goals as goal
+
+pub returns : goal.returns
+returns g c = and_then c.put.ensures c.put_number.ensures

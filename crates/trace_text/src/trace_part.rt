@@ -1,0 +1,75 @@
+//! The part of a report with the trace.
+ghost use Rattle.std.specs.Prelude.{◌≡◌, ◌+◌, ◌<◌, ◌^◌, ◌++◌, ◌∷◌, [], decimal};
+ghost use Rattle.std.specs.List.{AllByRecursion, flat_map};
+ghost use Rattle.bus_lines.specs.OfTrace.{IsKind, IsRow};
+ghost use Rattle.trace_text.specs.RowText.{lines_text, kind_text, row_text, trace_text};
+ghost use Rattle.trace_text.specs.Pages.{place, Puts};
+
+use crate::pages::{Page, put, put_number};
+use crate::rows::glyph;
+use bitflags::Flags;
+use bus_base::{Dev, Ns, Sink};
+use bus_lines::{Kind, Row};
+
+// What stands after the time of a row that drives these lines.
+fn driven_end(dev: Dev, lines: u32) -> [u8; 9]
+    requires device { dev < 8 }
+    requires few { lines < 2 ^ 18 }
+    ensures { result ≡ 32 ∷ (48 + dev) ∷ 32 ∷ [] ++ lines_text lines ++ 10 ∷ [] }
+{
+    [
+        b' ',
+        b'0' + dev,
+        b' ',
+        glyph(lines / 0x1_0000),
+        glyph(lines / 0x1000 % 16),
+        glyph(lines / 0x100 % 16),
+        glyph(lines / 0x10 % 16),
+        glyph(lines % 16),
+        b'\n',
+    ]
+}
+
+// What stands after the time of a row.
+fn put_end<K: Sink>(out: &mut K, page: &mut Page, dev: Dev, kind: Kind)
+    requires device { dev < 8 }
+    requires kind { IsKind kind }
+    ensures { Puts (place (K.written out.old) (K.faults out.old) page.old) (place (K.written out.new) (K.faults out.new) page.new) (32 ∷ (48 + dev) ∷ 32 ∷ [] ++ kind_text kind ++ 10 ∷ []) }
+{
+    match kind {
+        Kind::Drives(lines) => put(out, page, &driven_end(dev, lines.bits())),
+        Kind::Fault(bit) => put(
+            out,
+            page,
+            &[b' ', b'0' + dev, b' ', b'f', b'0' + bit, b'\n'],
+        ),
+    }
+}
+
+fn put_row<K: Sink>(out: &mut K, page: &mut Page, row: &Row)
+    requires { IsRow row.now }
+    ensures { Puts (place (K.written out.old) (K.faults out.old) page.old) (place (K.written out.new) (K.faults out.new) page.new) (row_text row.now) }
+{
+    put_number(out, page, row.time);
+    put_end(out, page, row.dev, row.kind);
+}
+
+fn put_rows<K: Sink>(out: &mut K, page: &mut Page, rows: &[Row])
+    requires { AllByRecursion IsRow rows.now }
+    ensures { Puts (place (K.written out.old) (K.faults out.old) page.old) (place (K.written out.new) (K.faults out.new) page.new) (flat_map row_text rows.now) }
+{
+    for row in rows {
+        put_row(out, page, row);
+    }
+}
+
+pub(crate) fn put_trace<K: Sink>(out: &mut K, page: &mut Page, rows: &[Row], end: Ns)
+    requires { AllByRecursion IsRow rows.now }
+    ensures { Puts (place (K.written out.old) (K.faults out.old) page.old) (place (K.written out.new) (K.faults out.new) page.new) (trace_text rows.now end) }
+{
+    put(out, page, b"trace 1\n");
+    put_rows(out, page, rows);
+    put(out, page, b"end ");
+    put_number(out, page, end);
+    put(out, page, b"\n");
+}

@@ -1,0 +1,56 @@
+//! The report of a run.
+ghost use Rattle.std.specs.Prelude.{◌≡◌, ◌≤◌, length, OnErr};
+ghost use Rattle.std.specs.List.{AllByRecursion};
+ghost use Rattle.bus_base.specs.Faults.{HasRisen};
+ghost use Rattle.bus_base.specs.Whole.{WritesAll};
+ghost use Rattle.bus_lines.specs.OfTrace.{IsRow};
+ghost use Rattle.trace_text.specs.ReportText.{report_of};
+ghost use Rattle.trace_text.specs.Pages.{place, Puts};
+
+use crate::blocks_part::put_disks;
+use crate::history_part::put_history;
+use crate::pages::{Page, flush, is_failed, new_page, put};
+use crate::replies_part::put_replies;
+use crate::trace_part::put_trace;
+use bus_base::{Failed, Sink};
+use bus_engine::Run;
+use scenario::Scenario;
+
+fn put_report<K: Sink>(out: &mut K, page: &mut Page, s: &Scenario, run: &Run)
+    requires disks { length run.now.disks ≡ length s.now.units }
+    requires rows { AllByRecursion IsRow run.now.rows }
+    ensures { Puts (place (K.written out.old) (K.faults out.old) page.old) (place (K.written out.new) (K.faults out.new) page.new) (report_of s.now run.now) }
+{
+    put_trace(out, page, &run.rows, run.end);
+    put(out, page, b"history\n");
+    put_history(out, page, &run.history);
+    put(out, page, b"replies\n");
+    put_replies(out, page, &run.replies);
+    put(out, page, b"blocks\n");
+    put_disks(out, page, &s.units, &run.disks);
+    put(out, page, b"done\n");
+}
+
+/// Writes the report of a run of this scenario. It takes no memory, and the sink gets it in pieces of up to
+/// some KiB.
+///
+/// # Errors
+///
+/// `Failed` where the sink failed, whose count of faults then rose; a front of the report was written.
+pub fn report<K: Sink>(s: &Scenario, run: &Run, out: &mut K) -> Result<(), Failed>
+    requires replies { length run.now.replies ≡ length s.now.commands }
+    requires disks { length run.now.disks ≡ length s.now.units }
+    requires rows { AllByRecursion IsRow run.now.rows }
+    ensures whole { WritesAll (K.written out.old) (K.written out.new) (report_of s.now run.now) result }
+    ensures failed { OnErr result (HasRisen (K.faults out.old) (K.faults out.new)) }
+    ensures never_falls { K.faults out.old ≤ K.faults out.new }
+{
+    let mut page = new_page();
+    put_report(out, &mut page, s, run);
+    flush(out, &mut page);
+    if is_failed(&page) {
+        Err(Failed)
+    } else {
+        Ok(())
+    }
+}
