@@ -9,3 +9,4 @@ pub mod Selection
 pub mod Reset
 pub mod Rules
 pub mod Judging
+pub mod Lawful

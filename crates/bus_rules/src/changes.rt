@@ -71,9 +71,7 @@ impl Change {
     pub fn releases_data(&self) -> bool
         ensures { result ≡ releases_data self.now }
     {
-        self.own.data_bits() != 0
-            && self.next.data_bits() == 0
-            && same_control(self.own, self.next)
+        self.own.data_bits() != 0 && self.next.data_bits() == 0 && same_control(self.own, self.next)
     }
 }
 

@@ -12,9 +12,7 @@ fn is_entry(seen: &Seen) -> bool
     ensures { result ≡ is_entry seen.now }
 {
     let change = &seen.change;
-    rises(change.own.bsy(), change.next.bsy())
-        && !change.before.sel()
-        && seen.connection.is_none()
+    rises(change.own.bsy(), change.next.bsy()) && !change.before.sel() && seen.connection.is_none()
 }
 
 // Whether the device entered in the arbitration that stands and has not released BSY since.
@@ -43,8 +41,7 @@ pub fn is_cleared(seen: &Seen, time: Ns) -> bool
 {
     let since = seen.bsy_since.max(seen.sel_since);
     !is_idle(seen)
-        || (time.saturating_sub(since) <= QUIET_TIME
-            || is_within(seen.change.before, Lines::RST))
+        || (time.saturating_sub(since) <= QUIET_TIME || is_within(seen.change.before, Lines::RST))
 }
 
 /// Rule 3: while BSY and SEL are false a row only lowers lines or is an entry, and all lines are released in
@@ -96,8 +93,7 @@ pub fn keeps_arbitration(seen: &Seen, row: &Row) -> bool
     ensures { result ≡ keeps_arbitration seen.now row.now }
 {
     let enters = is_entry(seen);
-    (!enters || enters_well(seen, row))
-        && (!(is_contender(seen) && !enters) || contends_well(seen))
+    (!enters || enters_well(seen, row)) && (!(is_contender(seen) && !enters) || contends_well(seen))
 }
 
 fn raises_sel(seen: &Seen) -> bool
@@ -111,8 +107,7 @@ pub fn keeps_turn(seen: &Seen, row: &Row) -> bool
     ensures { result ≡ keeps_turn seen.now row.now }
 {
     !raises_sel(seen)
-        || (is_contender(seen)
-            && row.time.saturating_sub(seen.bsy_raised) >= ARBITRATION_DELAY)
+        || (is_contender(seen) && row.time.saturating_sub(seen.bsy_raised) >= ARBITRATION_DELAY)
 }
 
 /// Rule 6: where a row raises SEL no higher ID is true, and it adds SEL alone.
@@ -120,6 +115,5 @@ pub fn wins_well(seen: &Seen, row: &Row) -> bool
     requires { row.now.dev < 8 }
     ensures { result ≡ wins_well seen.now row.now }
 {
-    !raises_sel(seen)
-        || (!seen.change.before.has_id_above(row.dev) && seen.change.adds(Lines::SEL))
+    !raises_sel(seen) || (!seen.change.before.has_id_above(row.dev) && seen.change.adds(Lines::SEL))
 }

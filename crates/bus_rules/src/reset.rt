@@ -28,8 +28,7 @@ pub fn is_quiet_in_reset(seen: &Seen, time: Ns) -> bool
 {
     let bus = seen.change.before;
     !bus.rst()
-        || (time.saturating_sub(seen.rst_since) <= BUS_CLEAR_DELAY
-            || is_within(bus, Lines::RST))
+        || (time.saturating_sub(seen.rst_since) <= BUS_CLEAR_DELAY || is_within(bus, Lines::RST))
 }
 
 fn holds_reset(seen: &Seen, row: &Row) -> bool

@@ -3,7 +3,7 @@ ghost use Rattle.std.specs.Prelude.{◌≡◌, ◌<◌, [], ◌∷◌};
 ghost use Rattle.bus_rules.specs.Calls.{HasDevices, IsCalled};
 ghost use Rattle.bus_rules.specs.Rules.{lowest_broken, lowest_at_end, first_broken, test};
 
-use crate::free_bus::{keeps_arbitration, keeps_free_bus, keeps_turn, is_cleared, wins_well};
+use crate::free_bus::{is_cleared, keeps_arbitration, keeps_free_bus, keeps_turn, wins_well};
 use crate::order::{is_in_order, is_news};
 use crate::reset::{is_quiet_in_reset, is_reset, keeps_reset};
 use crate::seen::Seen;
@@ -26,7 +26,11 @@ pub fn lowest_broken(seen: &Seen, row: &Row) -> Option<RuleNo>
     } else if !is_news(seen, row) {
         Some(2)
     } else if is_reset(seen) {
-        if keeps_reset(seen, row) { None } else { Some(28) }
+        if keeps_reset(seen, row) {
+            None
+        } else {
+            Some(28)
+        }
     } else {
         lowest_outside_reset(seen, row)
     }

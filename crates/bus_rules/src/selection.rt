@@ -139,12 +139,7 @@ fn called_goes_on(old: Calling, change: &Change, row: &Row) -> Calling
     }
 }
 
-fn calling_after(
-    caller: Dev,
-    old: Option<Calling>,
-    change: &Change,
-    row: &Row,
-) -> Option<Calling>
+fn calling_after(caller: Dev, old: Option<Calling>, change: &Change, row: &Row) -> Option<Calling>
     requires { caller < 8 }
     ensures exact { result ≡ calling_after caller old change.now row.now }
     ensures device { IsCalled old → IsCalled result }

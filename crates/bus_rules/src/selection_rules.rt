@@ -39,8 +39,7 @@ fn answers_to(seen: &Seen, row: &Row, calling: Option<Calling>) -> bool
     match calling {
         None => false,
         Some(calling) => {
-            row.dev == calling.called
-                && rises(seen.change.own.bsy(), seen.change.next.bsy())
+            row.dev == calling.called && rises(seen.change.own.bsy(), seen.change.next.bsy())
         }
     }
 }
@@ -110,8 +109,7 @@ fn calls_well(seen: &Seen, row: &Row, call: Call) -> bool
         None => calls_exactly(call.caller, seen.change.next),
         Some(calling) => {
             calling.released.is_some()
-                || (seen.change.releases_bsy()
-                    && row.time.saturating_sub(calling.at) >= TWO_DESKEW)
+                || (seen.change.releases_bsy() && row.time.saturating_sub(calling.at) >= TWO_DESKEW)
         }
     }
 }
@@ -139,8 +137,7 @@ fn has_settled(seen: &Seen, time: Ns, calling: Calling) -> bool
 {
     let bus = seen.change.before;
     let sel = bus.sel() && time.saturating_sub(seen.sel_since) >= BUS_SETTLE_DELAY;
-    let id =
-        bus.has_id(calling.called) && time.saturating_sub(seen.id_since) >= BUS_SETTLE_DELAY;
+    let id = bus.has_id(calling.called) && time.saturating_sub(seen.id_since) >= BUS_SETTLE_DELAY;
     let bsy = !bus.bsy() && time.saturating_sub(seen.bsy_since) >= BUS_SETTLE_DELAY;
     sel && id && bsy && is_past(calling.released, BUS_SETTLE_DELAY, time)
 }
@@ -215,8 +212,7 @@ fn ends_call_well(seen: &Seen, row: &Row, calling: Calling) -> bool
     if calling.reselects {
         is_past(calling.resumed, TWO_DESKEW, row.time)
     } else {
-        is_past(calling.answered, TWO_DESKEW, row.time)
-            && has_only_data_and_atn(seen.change.next)
+        is_past(calling.answered, TWO_DESKEW, row.time) && has_only_data_and_atn(seen.change.next)
     }
 }
 

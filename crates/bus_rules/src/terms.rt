@@ -188,8 +188,10 @@ impl Terms {
             own,
             next,
         };
-        self.bsy_raised.step(row.dev, row.time, own.bsy(), next.bsy());
-        self.rst_raised.step(row.dev, row.time, own.rst(), next.rst());
+        self.bsy_raised
+            .step(row.dev, row.time, own.bsy(), next.bsy());
+        self.rst_raised
+            .step(row.dev, row.time, own.rst(), next.rst());
         self.receiver = receiver_of(met.connection, &change);
         self.arbitration = arbitration_after(met.arbitration, met.free_since, &change, row);
         self.connection = connection_after(met.connection, met.call, &change, row);
