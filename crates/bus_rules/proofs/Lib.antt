@@ -1,0 +1,4 @@
+pub mod Running
+pub mod Past
+pub mod First
+mod Cases

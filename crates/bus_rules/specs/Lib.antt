@@ -1,0 +1,12 @@
+pub mod Changes
+pub mod Terms
+pub mod Calls
+pub mod Connections
+pub mod Seen
+pub mod Order
+pub mod FreeBus
+pub mod Selection
+pub mod Reset
+pub mod Rules
+pub mod Judging
+pub mod Lawful

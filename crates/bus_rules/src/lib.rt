@@ -1,0 +1,42 @@
+//! The rules that any trace of the bus has to obey, and a judge of traces (ANSI X3.131-1994, clause 6).
+//!
+//! `specs/Terms.antt` says what stands on the bus after some rows, lawful or not: an arbitration, a call
+//! (selection or reselection), a connection, a byte that crosses. `specs/Order.antt`, `FreeBus.antt`,
+//! `Selection.antt` and `Reset.antt` have one test a rule, of a row after the rows before it, and
+//! `specs/Rules.antt` the rules by their numbers. It stands on `bus_lines` and `bus_base`.
+//!
+//! Its contract: [`broken`] and [`broken_end`] are the lowest rule that a row, or the end, breaks;
+//! [`judge_plain`] is the first broken row of a trace with its lowest rule. [`Terms`] are the terms of
+//! the rows so far, one step a row, for a judge that goes forward.
+#![tactic(auto)]
+
+mod arbitration;
+mod changes;
+mod connection;
+mod free_bus;
+mod judge;
+mod laws;
+mod order;
+mod raises;
+mod reset;
+mod rules;
+mod seen;
+mod selection;
+mod selection_rules;
+mod terms;
+mod verdict;
+
+pub use arbitration::Arbitration;
+pub use bus_base::{Dev, Ns};
+pub use bus_lines::{Kind, Lines, Row};
+pub use changes::Change;
+pub use connection::Connection;
+pub use judge::{broken, broken_end, judge_plain};
+pub use laws::{broken_rules_are_lowest, verdicts_are_first};
+pub use seen::Seen;
+pub use selection::{Call, Calling};
+pub use terms::Terms;
+pub use verdict::{RuleNo, Verdict};
+
+#[cfg(test)]
+mod tests;
