@@ -39,9 +39,9 @@ all_eight f a target n e h i t hi ht =
     let same : (if t == target && nat_lt i n then asynchronous else f i t) ≡ (if t == target then asynchronous else f i t) = rw below (go (t == target)) in
     (two.0 ∙ ap (λ (x : Agreement). x.period) same, two.1 ∙ ap (λ (x : Agreement). x.offset) same)
   where
-  go : (q : Bool) → (if q && true then asynchronous else f i t) ≡ (if q then asynchronous else f i t)
-  go true = refl
-  go false = refl
+    go : (q : Bool) → (if q && true then asynchronous else f i t) ≡ (if q then asynchronous else f i t)
+    go true = refl
+    go false = refl
 
 -- a reset that comes, and one that does not
 and_true : (q : Bool) (x y : Agreement) → (if q then x else y) ≡ (if q && true then x else y)

@@ -61,6 +61,6 @@ goes_on rows row k free held c b r a l n v p t u g d h ef ec eh hb hr ea el en e
       turned = et ∙ (λ i. turned_after (h.turned i) (h.connection i) (ec i));
       duty = eu ∙ (λ i. duty_after (h.duty i) (conn i) (ec i) (eh i));
       agreed = agreeing (λ i t. if c.after.rst then asynchronous else closed_by k.connection c.after.bsy k.dialogue.heard.now i t (agreed rows i t)) (agreed (row ∷ rows)) g
-      (λ i t. λ j. if (ec j).after.rst then asynchronous else closed_by (h.connection j) (ec j).after.bsy (h.dialogue j).heard.now i t (agreed rows i t)) hg;
+          (λ i t. λ j. if (ec j).after.rst then asynchronous else closed_by (h.connection j) (ec j).after.bsy (h.dialogue j).heard.now i t (agreed rows i t)) hg;
       dialogue = ed ∙ (λ i. dialogue_after (h.dialogue i) (h.connection i) (conn i) (agreed rows) (ec i));
     }

@@ -3,3 +3,4 @@ pub mod Courses
 pub mod Running
 pub mod Past
 pub mod First
+mod Cases

@@ -1,6 +1,6 @@
 -- What a row meets, by the running terms.
 use Rattle.std.proofs.Common.{◌≡◌, ℕ, List, ◌∷◌, Bool, Option, refl, sym, ap, ◌∙◌}
-use Rattle.std.specs.Prelude.{not}
+use Rattle.std.specs.Prelude.{not, is_some}
 use Rattle.bus_lines.specs.LineSet.{LineSet, data_of}
 use Rattle.bus_lines.specs.View.{View}
 use Rattle.bus_lines.specs.Trace.{IsViewOf, last_time, since, since_line, bus, drives, driven_after}
@@ -23,20 +23,48 @@ use Rattle.bus_rules.specs.Judging.{IsCourseOf}
 
 -- what a row meets, by the terms
 pub met_is : (rows : List Row) (dev : ℕ) (c : Change) (reading : Reading) (k : Course) → IsCourseOf rows k
-    → (last bsy sel rst id b r free io req ack atn phase lines : ℕ) (others initiator i_data t_data empty : Bool)
+    → (last bsy sel rst id b r free io req ack atn phase lines : ℕ) (others initiator i_data t_data empty unsettled : Bool)
     → last ≡ last_time rows → bsy ≡ since_line (λ s. s.bsy) rows → sel ≡ since_line (λ s. s.sel) rows → rst ≡ since_line (λ s. s.rst) rows
     → id ≡ id_since rows k.call → b ≡ raised (λ s. s.bsy) rows dev → r ≡ raised (λ s. s.rst) rows dev → free ≡ free_since rows
     → io ≡ since_line (λ s. s.io) rows → req ≡ since_line (λ s. s.req) rows → ack ≡ since_line (λ s. s.ack) rows → atn ≡ since_line (λ s. s.atn) rows
     → phase ≡ phase_since rows → lines ≡ since data_of rows
-    → others ≡ others_in_call (drives rows) k.call → initiator ≡ drives_bsy (drives rows) (initiator_of k.call k.connection) → i_data ≡ initiator_data (drives rows) k.connection → t_data ≡ target_data (drives rows) k.connection → empty ≡ is_nil k.dialogue.half
+    → others ≡ others_in_call (drives rows) k.call → initiator ≡ drives_bsy (drives rows) (initiator_of k.call k.connection) → i_data ≡ initiator_data (drives rows) k.connection → t_data ≡ target_data (drives rows) k.connection → empty ≡ is_nil k.dialogue.half → unsettled ≡ is_some k.dialogue.heard.now.offer
     → record {
-      change = c; last = last; bsy_since = bsy; sel_since = sel; rst_since = rst; id_since = id; bsy_raised = b; rst_raised = r;
-      others_drive = others; initiator_bsy = initiator; initiator_data = i_data; target_data = t_data; receiver = k.receiver; arbitration = k.arbitration; free_since = free; call = k.call; connection = k.connection;
-      io_since = io; req_since = req; ack_since = ack; atn_since = atn; phase_since = phase; data_since = lines; pulses = k.pulses; turned = k.turned; duty = k.duty;
-      agreement = k.dialogue.heard.now.agreement; command = k.dialogue.heard.now.command; is_half = not empty; begun = k.dialogue.begun; reading = reading
+      change = c;
+      last = last;
+      bsy_since = bsy;
+      sel_since = sel;
+      rst_since = rst;
+      id_since = id;
+      bsy_raised = b;
+      rst_raised = r;
+      others_drive = others;
+      initiator_bsy = initiator;
+      initiator_data = i_data;
+      target_data = t_data;
+      receiver = k.receiver;
+      arbitration = k.arbitration;
+      free_since = free;
+      call = k.call;
+      connection = k.connection;
+      io_since = io;
+      req_since = req;
+      ack_since = ack;
+      atn_since = atn;
+      phase_since = phase;
+      data_since = lines;
+      pulses = k.pulses;
+      turned = k.turned;
+      duty = k.duty;
+      agreement = k.dialogue.heard.now.agreement;
+      is_open = unsettled;
+      command = k.dialogue.heard.now.command;
+      is_half = not empty;
+      begun = k.dialogue.begun;
+      reading = reading;
     } ≡ seen_with rows dev c reading
 unfolding seen_with
-met_is rows dev c reading k h last bsy sel rst id b r free io req ack atn phase lines others initiator i_data t_data empty el eb es er ei ebr err ef eio erq eak eat eph eda eo en eid etd ee = λ i. record {
+met_is rows dev c reading k h last bsy sel rst id b r free io req ack atn phase lines others initiator i_data t_data empty unsettled el eb es er ei ebr err ef eio erq eak eat eph eda eo en eid etd ee eu = λ i. record {
   change = c;
   last = el i;
   bsy_since = eb i;
@@ -64,6 +92,7 @@ met_is rows dev c reading k h last bsy sel rst id b r free io req ack atn phase 
   turned = h.turned i;
   duty = h.duty i;
   agreement = (h.dialogue i).heard.now.agreement;
+  is_open = (eu ∙ ap (λ (d : Dialogue). is_some d.heard.now.offer) h.dialogue) i;
   command = (h.dialogue i).heard.now.command;
   is_half = not ((ee ∙ ap (λ (d : Dialogue). is_nil d.half) h.dialogue) i);
   begun = (h.dialogue i).begun;

@@ -75,9 +75,13 @@ leaves_message_well s =
     implies (changes_phase s.change && s.is_half)
     ((is_message_in s.change.before && s.change.before.atn) || falls s.change.before.bsy s.change.after.bsy)
 
+-- No byte of DATA crosses while a synchronous data transfer request is open.
+abbrev pub settles_offers : Seen → Bool
+settles_offers s = implies (crosses s && is_data s.change.before) (not s.is_open)
+
 -- Rule 25. These, and the bytes of a MESSAGE phase form messages.
 abbrev pub keeps_messages : Seen → Bool
-keeps_messages s = opens_well s s.connection && not (is_unknown s.reading) && leaves_message_well s
+keeps_messages s = opens_well s s.connection && not (is_unknown s.reading) && leaves_message_well s && settles_offers s
 
 -- ---- rule 26
 

@@ -41,7 +41,7 @@ reading_in Unknown = readings.Unknown
 abbrev pub reading_of : List ℕ → Option Connection → Change → Reading
 reading_of half n c =
     if is_some (receiver_of n c) then
-      if is_message_out c.before then reading_out (got_out (half ++ c.after.data_bits % 256 ∷ []))
-      else if is_message_in c.before then reading_in (got_in (half ++ c.after.data_bits % 256 ∷ []))
-      else readings.NoMessage
+    if is_message_out c.before then reading_out (got_out (half ++ c.after.data_bits % 256 ∷ []))
+    else if is_message_in c.before then reading_in (got_in (half ++ c.after.data_bits % 256 ∷ []))
+    else readings.NoMessage
     else readings.NoMessage

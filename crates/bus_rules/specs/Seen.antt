@@ -1,5 +1,5 @@
 -- What a row meets: all that the rules ask of the rows before it.
-use Rattle.std.specs.Prelude.{ℕ, Bool, true, false, not, ◌||◌, ◌&&◌, ◌==◌, List, [], ◌∷◌, Option, Some, None, if◌then◌else◌}
+use Rattle.std.specs.Prelude.{ℕ, Bool, true, false, not, ◌||◌, ◌&&◌, ◌==◌, List, [], ◌∷◌, Option, Some, None, is_some, if◌then◌else◌}
 use Rattle.bus_lines.specs.LineSet.{LineSet, none, same_set, line_of, data_of}
 use Rattle.bus_lines.specs.Trace.{drives, last_time, since, since_line}
 use Rattle.bus_lines.specs.declared.Row.{Row}
@@ -92,6 +92,7 @@ seen_with rows dev c reading = record {
   turned = turned rows;
   duty = duty rows;
   agreement = (dialogue rows).heard.now.agreement;
+  is_open = is_some (dialogue rows).heard.now.offer;
   command = (dialogue rows).heard.now.command;
   is_half = not (is_nil (dialogue rows).half);
   begun = (dialogue rows).begun;

@@ -89,10 +89,6 @@ impl Agreements {
         ensures { (agreed : ℕ → ℕ → Agreement) → AreAgreements agreed self.old → AreAgreements (λ i t. closed connection spoken i t (agreed i t)) self.new }
     {
         self.reset_if(spoken.device_reset, connection.target);
-        self.set(
-            connection.initiator,
-            connection.target,
-            spoken.agreement,
-        );
+        self.set(connection.initiator, connection.target, spoken.agreement);
     }
 }

@@ -48,12 +48,7 @@ pub fn is_held(change: &Change, since: Ns, time: Ns) -> bool
 }
 
 /// What ATN asks after a row, after which this connection stands.
-pub fn duty_after(
-    duty: Duty,
-    connection: Option<Connection>,
-    change: &Change,
-    held: bool,
-) -> Duty
+pub fn duty_after(duty: Duty, connection: Option<Connection>, change: &Change, held: bool) -> Duty
     ensures { result ≡ duty_after duty connection change.now held }
 {
     let (before, after) = (change.before, change.after);

@@ -102,8 +102,10 @@ impl Course {
         self.arbitration = arbitration_after(self.arbitration, free, change, row);
         self.call = call_after(self.call, change, row);
         let (own, next) = (change.own, change.next);
-        self.bsy_raised.step(row.dev, row.time, own.bsy(), next.bsy());
-        self.rst_raised.step(row.dev, row.time, own.rst(), next.rst());
+        self.bsy_raised
+            .step(row.dev, row.time, own.bsy(), next.bsy());
+        self.rst_raised
+            .step(row.dev, row.time, own.rst(), next.rst());
         reading
     }
 }

@@ -1,6 +1,6 @@
 //! Rules 24 to 26: attention, messages, and the bytes of the command (ANSI X3.131-1994, 6.2.1, 6.6 and 7.2).
 ghost use Rattle.std.specs.Prelude.{◌≡◌};
-ghost use Rattle.bus_rules.specs.Messages.{atn_false_since, negates_atn_well, is_owed, heeds_atn, keeps_attention, is_unknown, is_opening, same_bool, opens_well, leaves_message_well, keeps_messages, is_below, may_take, is_same_length, is_none_or_all, keeps_command};
+ghost use Rattle.bus_rules.specs.Messages.{atn_false_since, negates_atn_well, is_owed, heeds_atn, keeps_attention, is_unknown, is_opening, same_bool, opens_well, leaves_message_well, settles_offers, keeps_messages, is_below, may_take, is_same_length, is_none_or_all, keeps_command};
 
 use crate::attention::Duty;
 use crate::changes::{falls, rises};
@@ -83,8 +83,7 @@ fn opens_well(seen: &Seen) -> bool
         None => true,
         Some(connection) => {
             !(crosses(seen) && !seen.begun)
-                || (is_opening(seen.reading)
-                    && connection.reselected == seen.change.before.io())
+                || (is_opening(seen.reading) && connection.reselected == seen.change.before.io())
         }
     }
 }
@@ -98,11 +97,21 @@ fn leaves_message_well(seen: &Seen) -> bool
         || (broken_off || falls(before.bsy(), after.bsy()))
 }
 
-/// Rule 25: a connection opens with its messages, and the bytes of a MESSAGE phase form whole messages.
+fn settles_offers(seen: &Seen) -> bool
+    ensures { result ≡ settles_offers seen.now }
+{
+    !(crosses(seen) && is_data(seen.change.before)) || !seen.is_open
+}
+
+/// Rule 25: a connection opens with its messages, the bytes of a MESSAGE phase form whole messages, and an open
+/// synchronous data transfer request is settled before DATA.
 pub fn keeps_messages(seen: &Seen) -> bool
     ensures { result ≡ keeps_messages seen.now }
 {
-    opens_well(seen) && !is_unknown(seen.reading) && leaves_message_well(seen)
+    opens_well(seen)
+        && !is_unknown(seen.reading)
+        && leaves_message_well(seen)
+        && settles_offers(seen)
 }
 
 // Whether one byte of COMMAND more may cross.

@@ -4,11 +4,10 @@ ghost use Rattle.bus_rules.specs.Calls.{HasDevices, IsCalled};
 ghost use Rattle.bus_rules.specs.Connections.{HasEnds};
 ghost use Rattle.bus_rules.specs.Rules.{lowest_broken, lowest_at_end, first_broken, test};
 
-use crate::free_bus::{is_cleared, keeps_arbitration, keeps_free_bus, keeps_turn, wins_well};
 use crate::connected::{
-    initiator_released, keeps_freeing, keeps_lines, keeps_turn_delay, keeps_turns,
-    target_released,
+    initiator_released, keeps_freeing, keeps_lines, keeps_turn_delay, keeps_turns, target_released,
 };
+use crate::free_bus::{is_cleared, keeps_arbitration, keeps_free_bus, keeps_turn, wins_well};
 use crate::message_rules::{keeps_attention, keeps_command, keeps_messages};
 use crate::order::{is_in_order, is_news};
 use crate::reset::{is_quiet_in_reset, is_reset, keeps_reset};
@@ -18,8 +17,7 @@ use crate::selection_rules::{
     keeps_time_out, keeps_winner,
 };
 use crate::transfer::{
-    has_parity, keeps_data, keeps_handshake, keeps_offset, keeps_pulses, keeps_set_up,
-    leaves_well,
+    has_parity, keeps_data, keeps_handshake, keeps_offset, keeps_pulses, keeps_set_up, leaves_well,
 };
 use crate::verdict::RuleNo;
 use bus_base::Ns;

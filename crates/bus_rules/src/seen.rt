@@ -2,8 +2,8 @@
 ghost use Rattle.std.specs.Prelude.{◌≡◌};
 
 use crate::arbitration::Arbitration;
-use crate::changes::Change;
 use crate::attention::Duty;
+use crate::changes::Change;
 use crate::connection::Connection;
 use crate::pulses::Pulses;
 use crate::reading::Reading;
@@ -70,6 +70,8 @@ pub struct Seen {
     pub duty: Duty,
     /// The agreement of the two devices of the connection.
     pub agreement: Agreement,
+    /// Whether a synchronous data transfer request is open.
+    pub is_open: bool,
     /// The bytes of COMMAND that have crossed since the command pointer was restored.
     pub command: CommandBytes,
     /// Whether a message is half sent in this phase.
@@ -114,6 +116,7 @@ impl Seen {
             turned: self.turned,
             duty: self.duty,
             agreement: self.agreement,
+            is_open: self.is_open,
             command: self.command,
             is_half: self.is_half,
             begun: self.begun,

@@ -228,6 +228,7 @@ fn met(view: &BusView, course: &Course, dev: Dev, change: Change) -> Seen
         turned: course.turned,
         duty: course.duty,
         agreement: course.dialogue.heard.now.agreement,
+        is_open: course.dialogue.heard.now.offer.is_some(),
         command: course.dialogue.heard.now.command,
         is_half: !course.dialogue.half.is_empty(),
         begun: course.dialogue.begun,
