@@ -17,6 +17,7 @@ use Rattle.bus_lines.specs.LineSet.{set_of, line_of}
 use Rattle.bus_lines.specs.View.{union_below}
 use Rattle.bus_lines.specs.declared.Row.{Row}
 use Rattle.bus_lines.specs.declared.Kind.TheVariants.{Drives, Fault}
+use Rattle.msg_grammar.specs.Messages.{form_out, form_in}
 use Rattle.bus_rules.specs.Seen.{seen_with}
 use Rattle.bus_rules.specs.Rules.{judged_whole}
 use Rattle.bus_rules.specs.declared.verdict.Verdict.TheVariants.{Lawful, Broken}
@@ -51,7 +52,7 @@ def main():
         rows, end, wanted = (part.strip() for part in rest.split("|"))
         items = "".join("%s ∷ " % row(r) for r in rows.split(";") if r.strip())
         print("%s : judged_whole (reverse (%s[])) %s ≡ %s" % (name, items, end, verdict(wanted)))
-        print("unfolding union_below seen_with line_of ones")
+        print("unfolding union_below seen_with line_of ones form_out form_in")
         print("%s = refl\n" % name)
 
 

@@ -1,3 +1,5 @@
+pub mod Agreeing
+pub mod Courses
 pub mod Running
 pub mod Past
 pub mod First

@@ -21,8 +21,8 @@ abbrev pub is_within : LineSet → LineSet → Bool
 is_within a b = same_set (union b a) b
 
 -- What a row changes after these rows.
-abbrev pub change : List Row → Row → Change
-change rows row = record {
+abbrev pub change_of : List Row → Row → Change
+change_of rows row = record {
   before = bus rows;
   after = bus (row ∷ rows);
   own = drives rows row.dev;
@@ -62,3 +62,7 @@ same_control a b = same_hold a b && same_phase a b && same_transfer a b
 -- It releases all data lines, of which it drove some, and changes nothing else.
 abbrev pub releases_data : Change → Bool
 releases_data c = not (c.own.data_bits == 0) && c.next.data_bits == 0 && same_control c.own c.next
+
+-- Some data line is true.
+abbrev pub drives_data : LineSet → Bool
+drives_data s = not (s.data_bits == 0)

@@ -8,11 +8,14 @@ use Rattle.bus_rules.specs.Seen.{seen, end_row}
 use Rattle.bus_rules.specs.Order.{is_in_order, is_news}
 use Rattle.bus_rules.specs.FreeBus.{keeps_free_bus, is_cleared, keeps_arbitration, keeps_turn, wins_well}
 use Rattle.bus_rules.specs.Selection.{keeps_losers_off, is_left, keeps_winner, keeps_calling, keeps_answer, keeps_end, keeps_time_out, keeps_reselection}
+use Rattle.bus_rules.specs.Connected.{keeps_lines, keeps_turns, initiator_released, keeps_turn_delay, target_released, keeps_freeing}
+use Rattle.bus_rules.specs.Transfer.{has_parity, keeps_handshake, keeps_set_up, keeps_data, keeps_offset, keeps_pulses, leaves_well}
+use Rattle.bus_rules.specs.Messages.{keeps_attention, keeps_messages, keeps_command}
 use Rattle.bus_rules.specs.Reset.{is_reset, keeps_reset, is_quiet_in_reset}
 
 -- ---- a row
 
--- The test of a rule. Rules 14 to 27 ask nothing yet.
+-- The test of a rule.
 abbrev pub test : ℕ → Seen → Row → Bool
 test n s row =
     if n == 1 then is_in_order s row.time
@@ -28,6 +31,20 @@ test n s row =
     else if n == 11 then keeps_end s row
     else if n == 12 then keeps_time_out s row
     else if n == 13 then keeps_reselection s row
+    else if n == 14 then keeps_lines s row
+    else if n == 15 then keeps_turns s row
+    else if n == 16 then keeps_turn_delay s row
+    else if n == 17 then has_parity s
+    else if n == 18 then keeps_handshake s
+    else if n == 19 then keeps_set_up s row
+    else if n == 20 then keeps_data s
+    else if n == 21 then keeps_offset s
+    else if n == 22 then keeps_pulses s row
+    else if n == 23 then leaves_well s
+    else if n == 24 then keeps_attention s row
+    else if n == 25 then keeps_messages s
+    else if n == 26 then keeps_command s
+    else if n == 27 then keeps_freeing s row
     else if n == 28 then keeps_reset s row
     else true
 
@@ -50,6 +67,8 @@ end_test n s time =
     if n == 1 then is_in_order s time
     else if n == 3 then is_cleared s time
     else if n == 7 then is_left s time s.call
+    else if n == 15 then initiator_released s time
+    else if n == 16 then target_released s time
     else if n == 28 then is_quiet_in_reset s time
     else true
 
@@ -62,9 +81,10 @@ obeys_at_end rows time n = keeps_at_end n (seen rows (end_row time)) time
 
 -- ---- the lowest rule
 
--- The rules that are judged so far.
+-- The rules.
 abbrev pub judged_rules : List ℕ
-judged_rules = 1 ∷ 2 ∷ 3 ∷ 4 ∷ 5 ∷ 6 ∷ 7 ∷ 8 ∷ 9 ∷ 10 ∷ 11 ∷ 12 ∷ 13 ∷ 28 ∷ []
+judged_rules =
+    1 ∷ 2 ∷ 3 ∷ 4 ∷ 5 ∷ 6 ∷ 7 ∷ 8 ∷ 9 ∷ 10 ∷ 11 ∷ 12 ∷ 13 ∷ 14 ∷ 15 ∷ 16 ∷ 17 ∷ 18 ∷ 19 ∷ 20 ∷ 21 ∷ 22 ∷ 23 ∷ 24 ∷ 25 ∷ 26 ∷ 27 ∷ 28 ∷ []
 
 -- The first of these that isn't kept.
 abbrev pub first_broken : (ℕ → Bool) → List ℕ → Option ℕ

@@ -1,6 +1,6 @@
 -- What a row meets: all that the rules ask of the rows before it.
-use Rattle.std.specs.Prelude.{ℕ, Bool, true, false, not, ◌||◌, ◌&&◌, ◌==◌, List, [], ◌∷◌, Option, Some, None, if◌then◌else◌}
-use Rattle.bus_lines.specs.LineSet.{LineSet, none, same_set, line_of}
+use Rattle.std.specs.Prelude.{ℕ, Bool, true, false, not, ◌||◌, ◌&&◌, ◌==◌, List, [], ◌∷◌, Option, Some, None, is_some, if◌then◌else◌}
+use Rattle.bus_lines.specs.LineSet.{LineSet, none, same_set, line_of, data_of}
 use Rattle.bus_lines.specs.Trace.{drives, last_time, since, since_line}
 use Rattle.bus_lines.specs.declared.Row.{Row}
 use Rattle.bus_lines.specs.declared.Kind.TheVariants.{Fault}
@@ -9,7 +9,12 @@ use Rattle.bus_rules.specs.declared.selection.Call.{Call}
 use Rattle.bus_rules.specs.declared.selection.Calling.{Calling}
 use Rattle.bus_rules.specs.declared.connection.Connection.{Connection}
 use Rattle.bus_rules.specs.declared.seen.Seen.{Seen}
-use Rattle.bus_rules.specs.Changes.{change}
+use Rattle.bus_rules.specs.declared.reading.Reading.{Reading}
+use Rattle.bus_rules.specs.Changes.{change_of, drives_data}
+use Rattle.bus_rules.specs.Phases.{phase_since, pulses, turned, duty}
+use Rattle.bus_rules.specs.Dialogue.{dialogue}
+use Rattle.bus_rules.specs.Half.{is_nil}
+use Rattle.bus_rules.specs.Reading.{reading_of}
 use Rattle.bus_rules.specs.Terms.{free_since, raised, arbitration, call, connection, receiver}
 
 -- A device but this one drives a line.
@@ -48,9 +53,18 @@ abbrev pub drives_bsy : (ℕ → LineSet) → Option ℕ → Bool
 drives_bsy lines None = false
 drives_bsy lines (Some dev) = (lines dev).bsy
 
--- What a row of this device meets that changes this.
-unfoldable pub seen_with : List Row → ℕ → Change → Seen
-seen_with rows dev c = record {
+-- The initiator, and the target, of a connection drives data lines.
+abbrev pub initiator_data : (ℕ → LineSet) → Option Connection → Bool
+initiator_data lines None = false
+initiator_data lines (Some n) = drives_data (lines n.initiator)
+
+abbrev pub target_data : (ℕ → LineSet) → Option Connection → Bool
+target_data lines None = false
+target_data lines (Some n) = drives_data (lines n.target)
+
+-- What a row of this device meets that changes this, and whose byte makes this of a message.
+unfoldable pub seen_with : List Row → ℕ → Change → Reading → Seen
+seen_with rows dev c reading = record {
   change = c;
   last = last_time rows;
   bsy_since = since_line (λ s. s.bsy) rows;
@@ -61,15 +75,32 @@ seen_with rows dev c = record {
   rst_raised = raised (λ s. s.rst) rows dev;
   others_drive = others_in_call (drives rows) (call rows);
   initiator_bsy = drives_bsy (drives rows) (initiator_of (call rows) (connection rows));
+  initiator_data = initiator_data (drives rows) (connection rows);
+  target_data = target_data (drives rows) (connection rows);
   receiver = receiver rows;
   arbitration = arbitration rows;
   free_since = free_since rows;
   call = call rows;
   connection = connection rows;
+  io_since = since_line (λ s. s.io) rows;
+  req_since = since_line (λ s. s.req) rows;
+  ack_since = since_line (λ s. s.ack) rows;
+  atn_since = since_line (λ s. s.atn) rows;
+  phase_since = phase_since rows;
+  data_since = since data_of rows;
+  pulses = pulses rows;
+  turned = turned rows;
+  duty = duty rows;
+  agreement = (dialogue rows).heard.now.agreement;
+  is_open = is_some (dialogue rows).heard.now.offer;
+  command = (dialogue rows).heard.now.command;
+  is_half = not (is_nil (dialogue rows).half);
+  begun = (dialogue rows).begun;
+  reading = reading;
 }
 
 abbrev pub seen : List Row → Row → Seen
-seen rows row = seen_with rows row.dev (change rows row)
+seen rows row = seen_with rows row.dev (change_of rows row) (reading_of (dialogue rows).half (connection rows) (change_of rows row))
 
 -- The end is judged as a row of its time that changes nothing.
 abbrev pub end_row : ℕ → Row

@@ -11,7 +11,7 @@ use Rattle.bus_rules.specs.declared.arbitration.Arbitration.{Arbitration}
 use Rattle.bus_rules.specs.declared.selection.Call.{Call}
 use Rattle.bus_rules.specs.declared.selection.Calling.{Calling}
 use Rattle.bus_rules.specs.declared.connection.Connection.{Connection}
-use Rattle.bus_rules.specs.Changes.{rises, falls, change}
+use Rattle.bus_rules.specs.Changes.{rises, falls, change_of}
 
 -- ---- times
 
@@ -44,7 +44,7 @@ arbitration_after (Some a) free c row = if c.after.sel || is_free c.after then N
 
 abbrev pub arbitration : List Row → Option Arbitration
 arbitration [] = None
-arbitration (row ∷ rows) = arbitration_after (arbitration rows) (free_since rows) (change rows row) row
+arbitration (row ∷ rows) = arbitration_after (arbitration rows) (free_since rows) (change_of rows row) row
 
 -- ---- selection and reselection (6.1.3, 6.1.4)
 
@@ -123,7 +123,7 @@ call_after call c row =
 
 abbrev pub call : List Row → Option Call
 call [] = None
-call (row ∷ rows) = call_after (call rows) (change rows row) row
+call (row ∷ rows) = call_after (call rows) (change_of rows row) row
 
 -- ---- connection (6.1.3, 6.1.4)
 
@@ -157,7 +157,7 @@ connection_after (Some n) call c row = if c.after.bsy then Some n else None
 
 abbrev pub connection : List Row → Option Connection
 connection [] = None
-connection (row ∷ rows) = connection_after (connection rows) (call rows) (change rows row) row
+connection (row ∷ rows) = connection_after (connection rows) (call rows) (change_of rows row) row
 
 -- ---- bytes (6.1.5.1)
 
@@ -175,4 +175,4 @@ receiver_of (Some n) c = receiver_in n c
 -- The receiver of the byte that crossed in the last row, if one did.
 abbrev pub receiver : List Row → Option ℕ
 receiver [] = None
-receiver (row ∷ rows) = receiver_of (connection rows) (change rows row)
+receiver (row ∷ rows) = receiver_of (connection rows) (change_of rows row)

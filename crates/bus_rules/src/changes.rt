@@ -1,6 +1,6 @@
 //! What a row changes.
 ghost use Rattle.std.specs.Prelude.{◌≡◌};
-ghost use Rattle.bus_rules.specs.Changes.{rises, falls, is_within, raises_none, raises_only, adds, releases_bsy, same_hold, same_phase, same_transfer, same_control, releases_data};
+ghost use Rattle.bus_rules.specs.Changes.{rises, falls, is_within, raises_none, raises_only, adds, releases_bsy, same_hold, same_phase, same_transfer, same_control, releases_data, drives_data};
 
 use bus_lines::Lines;
 
@@ -82,8 +82,8 @@ fn same_hold(a: Lines, b: Lines) -> bool
     a.bsy() == b.bsy() && a.sel() == b.sel() && a.rst() == b.rst()
 }
 
-// Whether the lines of the phase are the same.
-fn same_phase(a: Lines, b: Lines) -> bool
+/// Whether the lines of the phase are the same.
+pub fn same_phase(a: Lines, b: Lines) -> bool
     ensures { result ≡ same_phase a b }
 {
     a.msg() == b.msg() && a.cd() == b.cd() && a.io() == b.io()
@@ -101,4 +101,11 @@ fn same_control(a: Lines, b: Lines) -> bool
     ensures { result ≡ same_control a b }
 {
     same_hold(a, b) && same_phase(a, b) && same_transfer(a, b)
+}
+
+/// Whether some data line is true.
+pub fn drives_data(lines: Lines) -> bool
+    ensures { result ≡ drives_data lines }
+{
+    lines.data_bits() != 0
 }

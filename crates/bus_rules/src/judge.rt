@@ -5,6 +5,7 @@ ghost use Rattle.bus_lines.specs.OfTrace.{IsRow};
 ghost use Rattle.bus_rules.specs.Rules.{broken_rule, broken_at_end, judged_whole};
 ghost use Rattle.bus_rules.specs.Seen.{seen, end_row};
 ghost use Rattle.bus_rules.specs.Calls.{HasDevices};
+ghost use Rattle.bus_rules.specs.Connections.{HasEnds};
 
 use crate::rules::{lowest_at_end, lowest_broken};
 use crate::seen::Seen;
@@ -72,6 +73,7 @@ fn seen_after(rows: &[Row], row: &Row) -> Seen
     requires device { row.now.dev < 8 }
     ensures exact { result ≡ seen (reverse rows.now) row.now }
     ensures devices { HasDevices result.call }
+    ensures ends { HasEnds result.connection }
 {
     let mut terms = Terms::new();
     for row in rows {

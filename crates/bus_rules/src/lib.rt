@@ -10,21 +10,34 @@
 //! the rows so far, one step a row, for a judge that goes forward.
 #![tactic(auto)]
 
+mod agreements;
 mod arbitration;
+mod attention;
 mod changes;
+mod connected;
 mod connection;
+mod course;
+mod dialogue;
 mod free_bus;
+mod half;
 mod judge;
 mod laws;
+mod message_rules;
 mod order;
+mod phases;
+mod pulses;
 mod raises;
+mod reading;
 mod reset;
 mod rules;
 mod seen;
 mod selection;
 mod selection_rules;
+mod spoken;
 mod terms;
+mod transfer;
 mod verdict;
+mod words;
 
 pub use arbitration::Arbitration;
 pub use bus_base::{Dev, Ns};

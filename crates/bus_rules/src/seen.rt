@@ -2,10 +2,15 @@
 ghost use Rattle.std.specs.Prelude.{◌≡◌};
 
 use crate::arbitration::Arbitration;
+use crate::attention::Duty;
 use crate::changes::Change;
 use crate::connection::Connection;
+use crate::pulses::Pulses;
+use crate::reading::Reading;
 use crate::selection::Call;
+use crate::spoken::CommandBytes;
 use bus_base::{Dev, Ns};
+use bus_lines::Agreement;
 
 /// What a row meets: all that the rules ask of the rows before it. Times are in ns, 0 where the trace
 /// has nothing of the kind.
@@ -31,6 +36,10 @@ pub struct Seen {
     pub others_drive: bool,
     /// Whether the initiator drives BSY.
     pub initiator_bsy: bool,
+    /// Whether the initiator of the connection drives data lines.
+    pub initiator_data: bool,
+    /// Whether its target does.
+    pub target_data: bool,
     /// The receiver of the byte that crossed in the row before, if one did.
     pub receiver: Option<Dev>,
     /// The arbitration that stands, if one does.
@@ -41,15 +50,46 @@ pub struct Seen {
     pub call: Option<Call>,
     /// The connection that stands, if one does.
     pub connection: Option<Connection>,
+    /// Since when I/O stands as it does.
+    pub io_since: Ns,
+    /// Since when REQ stands as it does.
+    pub req_since: Ns,
+    /// Since when ACK stands as it does.
+    pub ack_since: Ns,
+    /// Since when ATN stands as it does.
+    pub atn_since: Ns,
+    /// Since when the phase lines stand as they do.
+    pub phase_since: Ns,
+    /// Since when the data lines stand as they do.
+    pub data_since: Ns,
+    /// The pulses in the present phase.
+    pub pulses: Pulses,
+    /// Whether I/O became true in the connection.
+    pub turned: bool,
+    /// What ATN asks of the target.
+    pub duty: Duty,
+    /// The agreement of the two devices of the connection.
+    pub agreement: Agreement,
+    /// Whether a synchronous data transfer request is open.
+    pub is_open: bool,
+    /// The bytes of COMMAND that have crossed since the command pointer was restored.
+    pub command: CommandBytes,
+    /// Whether a message is half sent in this phase.
+    pub is_half: bool,
+    /// Whether a byte has crossed in the connection.
+    pub begun: bool,
+    /// What the byte of the row makes of a message, if one crosses.
+    pub reading: Reading,
 }
 
 impl Seen {
-    /// The same of a row that changes this.
-    pub fn with(self, change: Change) -> Seen
-        ensures { result ≡ record self { change = change } }
+    /// The same of a row that changes this, and whose byte makes this of a message.
+    pub fn with(self, change: Change, reading: Reading) -> Seen
+        ensures { result ≡ record self { change = change; reading = reading } }
     {
         Seen {
             change,
+            reading,
             last: self.last,
             bsy_since: self.bsy_since,
             sel_since: self.sel_since,
@@ -59,11 +99,27 @@ impl Seen {
             rst_raised: self.rst_raised,
             others_drive: self.others_drive,
             initiator_bsy: self.initiator_bsy,
+            initiator_data: self.initiator_data,
+            target_data: self.target_data,
             receiver: self.receiver,
             arbitration: self.arbitration,
             free_since: self.free_since,
             call: self.call,
             connection: self.connection,
+            io_since: self.io_since,
+            req_since: self.req_since,
+            ack_since: self.ack_since,
+            atn_since: self.atn_since,
+            phase_since: self.phase_since,
+            data_since: self.data_since,
+            pulses: self.pulses,
+            turned: self.turned,
+            duty: self.duty,
+            agreement: self.agreement,
+            is_open: self.is_open,
+            command: self.command,
+            is_half: self.is_half,
+            begun: self.begun,
         }
     }
 }

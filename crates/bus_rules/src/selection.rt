@@ -103,8 +103,8 @@ fn new_calling(caller: Dev, lines: Lines, time: Ns) -> Calling
     }
 }
 
-// The time, where it happens now; else what stood before.
-fn when(now: bool, time: Ns, was: Option<Ns>) -> Option<Ns>
+/// The time, where it happens now; else what stood before.
+pub fn when(now: bool, time: Ns, was: Option<Ns>) -> Option<Ns>
     ensures { result ≡ when now time was }
 {
     if now { Some(time) } else { was }

@@ -6,14 +6,17 @@ ghost use Rattle.bus_lines.specs.Trace.{IsViewOf, drives, since};
 ghost use Rattle.bus_rules.specs.Calls.{HasDevices, IsCalled};
 ghost use Rattle.bus_rules.specs.Connections.{HasEnds};
 ghost use Rattle.bus_rules.specs.Terms.{free_since};
-ghost use Rattle.bus_rules.specs.Seen.{seen, seen_with, other_drives, others_drive, others_in_call, id_since, id_since_calling, initiator_called, initiator_of, drives_bsy};
+ghost use Rattle.bus_rules.specs.Phases.{phase_since};
+ghost use Rattle.bus_rules.specs.Judging.{IsCourseOf};
+ghost use Rattle.bus_rules.specs.Seen.{seen, seen_with, other_drives, others_drive, others_in_call, id_since, id_since_calling, initiator_called, initiator_of, drives_bsy, initiator_data, target_data};
 
-use crate::arbitration::{Arbitration, arbitration_after};
-use crate::changes::Change;
-use crate::connection::{Connection, connection_after, receiver_of};
-use crate::raises::Raises;
+use crate::attention::is_held;
+use crate::changes::{Change, drives_data};
+use crate::connection::Connection;
+use crate::course::Course;
+use crate::reading::Reading;
 use crate::seen::Seen;
-use crate::selection::{Call, call_after};
+use crate::selection::Call;
 use bus_base::{Dev, Ns};
 use bus_lines::{BusView, Row};
 use std::marker::Model;
@@ -22,12 +25,7 @@ use std::marker::Model;
 #[derive(Debug, Drop)]
 pub struct Terms {
     view: BusView,
-    bsy_raised: Raises,
-    rst_raised: Raises,
-    arbitration: Option<Arbitration>,
-    call: Option<Call>,
-    connection: Option<Connection>,
-    receiver: Option<Dev>,
+    course: Course,
 }
 
 impl Model for Terms {
@@ -37,9 +35,9 @@ impl Model for Terms {
 
     ghost Value = { Running };
 
-    ghost view = { λ a. record { view = a.view; bsy_raised = a.bsy_raised; rst_raised = a.rst_raised; arbitration = a.arbitration; call = a.call; connection = a.connection; receiver = a.receiver } };
+    ghost view = { λ a. record { view = a.view; course = a.course } };
 
-    ghost invariant = { λ a. HasDevices a.call × HasEnds a.connection };
+    ghost invariant = { λ a. HasDevices a.course.call × HasEnds a.course.connection };
 }
 
 fn other_drives(view: &BusView, dev: Dev, other: Dev) -> bool
@@ -113,11 +111,40 @@ fn initiator_bsy(view: &BusView, call: Option<Call>, connection: Option<Connecti
     }
 }
 
+// Whether the initiator of the connection drives data lines.
+fn initiator_data(view: &BusView, connection: Option<Connection>) -> bool
+    requires { HasEnds connection }
+    ensures { (rows : List Row) → IsViewOf rows view.now → result ≡ initiator_data (drives rows) connection }
+{
+    match connection {
+        None => false,
+        Some(connection) => drives_data(view.drives(connection.initiator)),
+    }
+}
+
+// Whether the target of the connection drives data lines.
+fn target_data(view: &BusView, connection: Option<Connection>) -> bool
+    requires { HasEnds connection }
+    ensures { (rows : List Row) → IsViewOf rows view.now → result ≡ target_data (drives rows) connection }
+{
+    match connection {
+        None => false,
+        Some(connection) => drives_data(view.drives(connection.target)),
+    }
+}
+
 // Since when BSY, SEL and RST stand as they do.
 fn free_since(view: &BusView) -> Ns
     ensures { (rows : List Row) → IsViewOf rows view.now → result ≡ free_since rows }
 {
     view.since_bsy().max(view.since_sel()).max(view.since_rst())
+}
+
+// When the phase lines last changed.
+fn phase_since(view: &BusView) -> Ns
+    ensures { (rows : List Row) → IsViewOf rows view.now → result ≡ phase_since rows }
+{
+    view.since_msg().max(view.since_cd()).max(view.since_io())
 }
 
 impl Terms {
@@ -129,38 +156,7 @@ impl Terms {
     {
         Terms {
             view: BusView::new(),
-            bsy_raised: Raises::new(),
-            rst_raised: Raises::new(),
-            arbitration: None,
-            call: None,
-            connection: None,
-            receiver: None,
-        }
-    }
-
-    // What a row of this device meets that changes this.
-    fn met(&self, dev: Dev, change: Change) -> Seen
-        requires { dev < 8 }
-        ensures exact { (rows : List Row) → IsTermsOf rows self.now → result ≡ seen_with rows dev change }
-        ensures devices { HasDevices result.call }
-        ensures ends { HasEnds result.connection }
-    {
-        Seen {
-            change,
-            last: self.view.last_time(),
-            bsy_since: self.view.since_bsy(),
-            sel_since: self.view.since_sel(),
-            rst_since: self.view.since_rst(),
-            id_since: id_since(&self.view, self.call),
-            bsy_raised: self.bsy_raised.of(dev),
-            rst_raised: self.rst_raised.of(dev),
-            others_drive: others_in_call(&self.view, self.call),
-            initiator_bsy: initiator_bsy(&self.view, self.call, self.connection),
-            receiver: self.receiver,
-            arbitration: self.arbitration,
-            free_since: free_since(&self.view),
-            call: self.call,
-            connection: self.connection,
+            course: Course::new(),
         }
     }
 
@@ -170,6 +166,7 @@ impl Terms {
         ensures kept { (rows : List Row) → IsTermsOf rows self.old → IsTermsOf (row.now ∷ rows) self.new }
         ensures seen { (rows : List Row) → IsTermsOf rows self.old → result ≡ seen rows row.now }
         ensures devices { HasDevices result.call }
+        ensures ends { HasEnds result.connection }
     {
         let before = self.view.bus();
         let own = self.view.drives(row.dev);
@@ -180,7 +177,7 @@ impl Terms {
             own,
             next,
         };
-        let met = self.met(row.dev, quiet);
+        let met = met(&self.view, &self.course, row.dev, quiet);
         self.view.step(row);
         let change = Change {
             before,
@@ -188,14 +185,53 @@ impl Terms {
             own,
             next,
         };
-        self.bsy_raised
-            .step(row.dev, row.time, own.bsy(), next.bsy());
-        self.rst_raised
-            .step(row.dev, row.time, own.rst(), next.rst());
-        self.receiver = receiver_of(met.connection, &change);
-        self.arbitration = arbitration_after(met.arbitration, met.free_since, &change, row);
-        self.connection = connection_after(met.connection, met.call, &change, row);
-        self.call = call_after(met.call, &change, row);
-        met.with(change)
+        let held = is_held(&change, met.atn_since, row.time);
+        let reading = self.course.step(met.free_since, held, &change, row);
+        met.with(change, reading)
+    }
+}
+
+// What a row of this device meets that changes this.
+fn met(view: &BusView, course: &Course, dev: Dev, change: Change) -> Seen
+    requires device { dev < 8 }
+    requires devices { HasDevices course.now.call }
+    requires ends { HasEnds course.now.connection }
+    ensures exact { (rows : List Row) → IsViewOf rows view.now → IsCourseOf rows course.now → result ≡ seen_with rows dev change Reading.NoMessage }
+    ensures devices { HasDevices result.call }
+    ensures ends { HasEnds result.connection }
+{
+    Seen {
+        change,
+        last: view.last_time(),
+        bsy_since: view.since_bsy(),
+        sel_since: view.since_sel(),
+        rst_since: view.since_rst(),
+        id_since: id_since(view, course.call),
+        bsy_raised: course.bsy_raised.of(dev),
+        rst_raised: course.rst_raised.of(dev),
+        others_drive: others_in_call(view, course.call),
+        initiator_bsy: initiator_bsy(view, course.call, course.connection),
+        initiator_data: initiator_data(view, course.connection),
+        target_data: target_data(view, course.connection),
+        receiver: course.receiver,
+        arbitration: course.arbitration,
+        free_since: free_since(view),
+        call: course.call,
+        connection: course.connection,
+        io_since: view.since_io(),
+        req_since: view.since_req(),
+        ack_since: view.since_ack(),
+        atn_since: view.since_atn(),
+        phase_since: phase_since(view),
+        data_since: view.data_since(),
+        pulses: course.pulses,
+        turned: course.turned,
+        duty: course.duty,
+        agreement: course.dialogue.heard.now.agreement,
+        is_open: course.dialogue.heard.now.offer.is_some(),
+        command: course.dialogue.heard.now.command,
+        is_half: !course.dialogue.half.is_empty(),
+        begun: course.dialogue.begun,
+        reading: Reading::NoMessage,
     }
 }

@@ -41,3 +41,13 @@ returns-in-Some-lowest_at_end c =
     let met = c.step-seen-2.ensures.seen (reverse xs) terms in
     let end : c.end_row.result ≡ end_row c.args.end = c.end_row.ensures in
     judged_end xs c.args.end _ lawful (sym (ap (λ (s : Seen). lowest_at_end s c.args.end) (met ∙ (λ i. seen (reverse xs) (end i)))) ∙ sym c.lowest_at_end.ensures ∙ c.in-Some-lowest_at_end.is)
+
+pub returns-in-None : goal.returns-in-None
+returns-in-None c =
+    let xs : List Row = c.args.rows.now in
+    let all = take_all c.loop-i.i xs (let past = c.loop-i-test.false in omega arith) in
+    let lawful = ap (λ (ys : List Row). judged (reverse ys)) (sym all) ∙ c.loop-i.invariant.lawful in
+    let terms = subst (λ (ys : List Row). IsTermsOf (reverse ys) c.loop-i.terms) all c.loop-i.invariant.terms in
+    let met = c.step-seen-2.ensures.seen (reverse xs) terms in
+    let end : c.end_row.result ≡ end_row c.args.end = c.end_row.ensures in
+    judged_end xs c.args.end _ lawful (sym (ap (λ (s : Seen). lowest_at_end s c.args.end) (met ∙ (λ i. seen (reverse xs) (end i)))) ∙ sym c.lowest_at_end.ensures ∙ c.in-None.is)

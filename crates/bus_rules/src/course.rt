@@ -1,0 +1,129 @@
+//! The terms of the rules but for what a view of the bus keeps.
+ghost use Rattle.std.specs.Prelude.{ℕ, ◌≡◌, ◌<◌, ◌∷◌, [], List, if◌then◌else◌};
+ghost use Rattle.bus_lines.specs.declared.agreements.Agreement.{Agreement};
+ghost use Rattle.bus_rules.specs.Judging.{AreAgreements};
+ghost use Rattle.bus_lines.specs.LineSet.{LineSet};
+ghost use Rattle.bus_lines.specs.declared.Row.{Row};
+ghost use Rattle.bus_lines.specs.Trace.{since_line};
+ghost use Rattle.bus_rules.specs.Calls.{HasDevices, IsCalled};
+ghost use Rattle.bus_rules.specs.Connections.{HasEnds};
+ghost use Rattle.bus_rules.specs.Changes.{change_of};
+ghost use Rattle.bus_rules.specs.Terms.{free_since, call, connection};
+ghost use Rattle.bus_rules.specs.Phases.{is_held};
+ghost use Rattle.bus_rules.specs.Dialogue.{asynchronous, closed_by, dialogue};
+ghost use Rattle.bus_rules.specs.Reading.{reading_of};
+
+use crate::agreements::Agreements;
+use crate::arbitration::{Arbitration, arbitration_after};
+use crate::attention::{Duty, duty_after, is_held};
+use crate::changes::Change;
+use crate::connection::{Connection, connection_after, receiver_of};
+use crate::dialogue::Dialogue;
+use crate::pulses::{Pulses, no_pulses, pulses_after, turned_after};
+use crate::raises::Raises;
+use crate::reading::Reading;
+use crate::selection::{Call, call_after};
+use crate::spoken::{Spoken, asynchronous};
+use bus_base::{Dev, Ns};
+use bus_lines::{Lines, Row};
+
+/// What stands on the bus after the rows of a trace so far.
+#[derive(Debug, Drop)]
+pub struct Course {
+    /// When each device last raised BSY.
+    pub bsy_raised: Raises,
+    /// When each device last raised RST.
+    pub rst_raised: Raises,
+    /// The arbitration that stands.
+    pub arbitration: Option<Arbitration>,
+    /// The call that stands, while SEL is true.
+    pub call: Option<Call>,
+    /// The connection that stands.
+    pub connection: Option<Connection>,
+    /// The receiver of the byte that crossed in the last row.
+    pub receiver: Option<Dev>,
+    /// The pulses in the present phase.
+    pub pulses: Pulses,
+    /// Whether I/O became true in the connection.
+    pub turned: bool,
+    /// What ATN asks of the target.
+    pub duty: Duty,
+    /// The agreements before the connection that stands.
+    pub agreed: Agreements,
+    /// What the messages of the connection say.
+    pub dialogue: Dialogue,
+}
+
+impl Course {
+    ghost use Rattle.bus_rules.specs.Judging.{IsCourseOf};
+
+    /// Nothing stands on the bus.
+    pub fn new() -> Course
+        ensures course { IsCourseOf [] result }
+        ensures devices { HasDevices result.call }
+        ensures ends { HasEnds result.connection }
+    {
+        Course {
+            bsy_raised: Raises::new(),
+            rst_raised: Raises::new(),
+            arbitration: None,
+            call: None,
+            connection: None,
+            receiver: None,
+            pulses: no_pulses(),
+            turned: false,
+            duty: Duty::Nothing,
+            agreed: Agreements::new(),
+            dialogue: Dialogue::opened(asynchronous()),
+        }
+    }
+
+    /// One row more that changes this, on a bus that was free since `free`, in ns. `held` says whether ATN is
+    /// held over it. Tells what a byte makes of a message.
+    pub fn step(&mut self, free: Ns, held: bool, change: &Change, row: &Row) -> Reading
+        requires device { row.now.dev < 8 }
+        requires devices { HasDevices self.old.call }
+        requires ends { HasEnds self.old.connection }
+        ensures kept { (rows : List Row) → IsCourseOf rows self.old → free ≡ free_since rows → change.now ≡ change_of rows row.now → held ≡ is_held (change_of rows row.now) (since_line (λ s. s.atn) rows) row.now.time → IsCourseOf (row.now ∷ rows) self.new }
+        ensures reading { result ≡ reading_of self.old.dialogue.half self.old.connection change.now }
+        ensures devices { HasDevices self.new.call }
+        ensures ends { HasEnds self.new.connection }
+    {
+        let before = self.connection;
+        let after = connection_after(before, self.call, change, row);
+        let spoken = self.dialogue.heard.now;
+        let reading = self.dialogue.step(before, after, &self.agreed, change);
+        agree(&mut self.agreed, before, spoken, change.after);
+        self.receiver = receiver_of(before, change);
+        self.turned = turned_after(self.turned, before, change);
+        self.pulses = pulses_after(self.pulses, after, change, row.time);
+        self.duty = duty_after(self.duty, after, change, held);
+        self.connection = after;
+        self.arbitration = arbitration_after(self.arbitration, free, change, row);
+        self.call = call_after(self.call, change, row);
+        let (own, next) = (change.own, change.next);
+        self.bsy_raised
+            .step(row.dev, row.time, own.bsy(), next.bsy());
+        self.rst_raised
+            .step(row.dev, row.time, own.rst(), next.rst());
+        reading
+    }
+}
+
+// The agreements after a row with this bus, before which this connection stood and its messages said this.
+fn agree(agreed: &mut Agreements, connection: Option<Connection>, spoken: Spoken, bus: Lines)
+    requires { HasEnds connection }
+    ensures { (f : ℕ → ℕ → Agreement) → AreAgreements f agreed.old → AreAgreements (λ i t. if bus.rst then asynchronous else closed_by connection bus.bsy spoken i t (f i t)) agreed.new }
+{
+    if bus.rst() {
+        *agreed = Agreements::new();
+        return;
+    }
+    let Some(connection) = connection else {
+        return;
+    };
+    if bus.bsy() {
+        return;
+    }
+    agreed.close(connection, spoken);
+}
