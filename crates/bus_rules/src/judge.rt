@@ -14,8 +14,8 @@ use crate::verdict::{RuleNo, Verdict};
 use bus_base::Ns;
 use bus_lines::{Kind, Row};
 
-// The end as a row of its time that changes nothing.
-fn end_row(time: Ns) -> Row
+/// The end as a row of its time, in ns, that changes nothing.
+pub fn end_row(time: Ns) -> Row
     ensures { result ≡ end_row time }
 {
     Row {

@@ -1,0 +1,80 @@
+//! A judge of traces of any length, with no memory.
+//!
+//! A [`Judge`] takes the rows of a trace one by one, and holds nothing but the running terms of the rules.
+//! It stands on `bus_rules`, `bus_lines` and `bus_base`. Its contract: after any rows [`Judge::feed`] tells
+//! the first that broke a rule with the lowest rule that it broke, and [`Judge::finish`] the same of the
+//! trace with its end; both are what `judge_plain` of `bus_rules` tells of all rows at once.
+#![tactic(auto)]
+
+ghost use Rattle.std.specs.Prelude.{◌≡◌, ◌<◌, ◌∷◌, ◌^◌, [], List, length};
+ghost use Rattle.bus_lines.specs.declared.Row.{Row};
+ghost use Rattle.bus_rules.specs.Rules.{judged, judged_whole, verdict_of, if_lawful};
+
+use bus_base::Ns;
+pub use bus_lines::{Kind, Lines, Row};
+pub use bus_rules::Verdict;
+use bus_rules::{RuleNo, Terms, end_row, lowest_at_end, lowest_broken};
+
+/// A judge of the rows of a trace so far.
+#[derive(Debug, Drop)]
+pub struct Judge {
+    terms: Terms,
+    count: usize,
+    verdict: Verdict,
+}
+
+// A verdict, if none was given before; the row's place is counted from 1.
+fn joined(old: Verdict, broken: Option<RuleNo>, row: usize) -> Verdict
+    ensures { result ≡ if_lawful old (verdict_of row broken) }
+{
+    match (old, broken) {
+        (Verdict::Broken { .. }, _) => old,
+        (Verdict::Lawful, None) => Verdict::Lawful,
+        (Verdict::Lawful, Some(rule)) => Verdict::Broken { row, rule },
+    }
+}
+
+impl Judge {
+    ghost use Rattle.trace_checker.specs.Judging.{IsJudgeOf};
+
+    /// A judge that has seen no row.
+    pub fn new() -> Judge
+        ensures { IsJudgeOf [] result }
+    {
+        Judge {
+            terms: Terms::new(),
+            count: 0,
+            verdict: Verdict::Lawful,
+        }
+    }
+
+    /// Takes one row more: the verdict on the rows so far. A broken verdict stays.
+    pub fn feed(&mut self, row: &Row) -> Verdict
+        requires { row.now.dev < 8 }
+        ensures kept { (rows : List Row) → IsJudgeOf rows self.old → length rows < 2 ^ 63 → IsJudgeOf (row.now ∷ rows) self.new }
+        ensures verdict { (rows : List Row) → IsJudgeOf rows self.old → length rows < 2 ^ 63 → result ≡ judged (row.now ∷ rows) }
+    {
+        let seen = self.terms.step(row);
+        let broken = lowest_broken(&seen, row);
+        self.count = self.count.saturating_add(1);
+        self.verdict = joined(self.verdict, broken, self.count);
+        self.verdict
+    }
+
+    /// The verdict on the whole trace with its end, in ns, which counts as one row more.
+    pub fn finish(self, end: Ns) -> Verdict
+        ensures { (rows : List Row) → IsJudgeOf rows self → length rows < 2 ^ 63 → result ≡ judged_whole rows end }
+    {
+        let row = end_row(end);
+        let mut terms = self.terms;
+        let seen = terms.step(&row);
+        joined(
+            self.verdict,
+            lowest_at_end(&seen, end),
+            self.count.saturating_add(1),
+        )
+    }
+}
+
+#[cfg(test)]
+mod tests;
