@@ -1,5 +1,5 @@
 -- The lines of a trace text, and what stands after some of them.
-use Rattle.std.specs.Prelude.{ℕ, ◌+◌, ◌-◌, ◌*◌, ◌^◌, Bool, ◌&&◌, List, [], ◌∷◌, Option, Some, None, nat_lt, nat_le, nat_eq, ◌==◌, codes, if◌then◌else◌}
+use Rattle.std.specs.Prelude.{ℕ, ◌<◌, ◌+◌, ◌-◌, ◌*◌, ◌^◌, Bool, ◌&&◌, List, [], ◌∷◌, Option, Some, None, nat_lt, nat_le, nat_eq, ◌==◌, codes, if◌then◌else◌}
 use Rattle.std.specs.Cmp.Lexicographic.{pointwise}
 use Rattle.text_words.specs.Words.{Number, ◌>>=◌, after, number_at, digit_at, is_hex, hex_value, is_whole}
 use Rattle.bus_lines.specs.LineSet.{set_of}
@@ -90,3 +90,17 @@ count_of (states.Open stage count) = count
 abbrev pub state_of : List (List ℕ) → State
 state_of [] = states.Open stages.Start 0
 state_of (line ∷ lines) = (stepped (state_of lines) line).0
+
+-- A row is of one of the eight devices, where there is one.
+abbrev pub IsOfBus : Option Row → Type 0
+IsOfBus None = Unit {0}
+IsOfBus (Some row) = row.dev < 8
+
+abbrev pub SaysOfBus : Option (Stage × Option Row) → Type 0
+SaysOfBus None = Unit {0}
+SaysOfBus (Some s) = IsOfBus s.1
+
+abbrev pub TellsOfBus : Told → Type 0
+TellsOfBus tolds.Quiet = Unit {0}
+TellsOfBus (tolds.RowRead row) = row.dev < 8
+TellsOfBus (tolds.Bad at) = Unit {0}

@@ -1,6 +1,6 @@
 //! A reader of single bytes.
 ghost use Rattle.std.specs.Prelude.{◌≡◌, ℕ, ◌<◌, ◌≤◌, ◌^◌, List, [], ◌∷◌, length};
-ghost use Rattle.trace_text.specs.Lines.{count_of};
+ghost use Rattle.trace_text.specs.Lines.{count_of, TellsOfBus};
 ghost use Rattle.trace_text.specs.Bytes.{quiet, told_at, end_told, end_of};
 
 use crate::line_front::LineFront;
@@ -17,7 +17,8 @@ pub struct TraceReader {
 }
 
 fn quiet(state: State) -> Told
-    ensures { result ≡ quiet state }
+    ensures exact { result ≡ quiet state }
+    ensures device { TellsOfBus result }
 {
     match state {
         State::Bad(at) => Told::Bad(at),
@@ -67,6 +68,7 @@ impl TraceReader {
     /// Takes one byte more, and says what it told. In the clauses the bytes stand newest first.
     pub fn push(&mut self, byte: u8) -> Told
         ensures kept { (bytes : List ℕ) → IsReaderOf bytes self.old → length bytes < 2 ^ 30 → IsReaderOf (byte ∷ bytes) self.new }
+        ensures device { TellsOfBus result }
         ensures told { (bytes : List ℕ) → IsReaderOf bytes self.old → length bytes < 2 ^ 30 → result ≡ told_at bytes byte }
     {
         if byte == b'\n' {

@@ -1,7 +1,7 @@
 //! The lines of a trace text: what each says after those before it.
 ghost use Rattle.std.specs.Prelude.{◌≡◌, ◌<◌, ◌+◌, ◌^◌};
 ghost use Rattle.text_words.specs.Words.{Sees};
-ghost use Rattle.trace_text.specs.Lines.{below, kind_at, row_at, end_at, is_first, is_history, stage_after, row_told, count_of, stepped};
+ghost use Rattle.trace_text.specs.Lines.{below, kind_at, row_at, end_at, is_first, is_history, stage_after, row_told, count_of, stepped, IsOfBus, SaysOfBus, TellsOfBus};
 
 use bitflags::Flags;
 use bus_base::Ns;
@@ -76,7 +76,8 @@ fn kind(bytes: &[u8]) -> Option<Kind>
 
 #[tactic(auto, unfolding(crate::specs::Lines::row_at))]
 fn row_of(line: &[u8]) -> Option<Row>
-    ensures { result ≡ row_at line.now }
+    ensures exact { result ≡ row_at line.now }
+    ensures device { IsOfBus result }
 {
     let (time, rest) = number(line)?;
     let time = below(time)?;
@@ -111,7 +112,8 @@ fn is_history(line: &[u8]) -> bool
 
 // Where the text stands after a line, and the row of that line.
 fn stage_after(stage: Stage, line: &[u8]) -> Option<(Stage, Option<Row>)>
-    ensures { result ≡ stage_after stage line.now }
+    ensures exact { result ≡ stage_after stage line.now }
+    ensures device { SaysOfBus result }
 {
     match stage {
         Stage::Start => {
@@ -140,7 +142,9 @@ fn stage_after(stage: Stage, line: &[u8]) -> Option<(Stage, Option<Row>)>
 }
 
 fn row_told(row: Option<Row>) -> Told
-    ensures { result ≡ row_told row }
+    requires { IsOfBus row }
+    ensures exact { result ≡ row_told row }
+    ensures device { TellsOfBus result }
 {
     match row {
         Some(row) => Told::RowRead(row),
@@ -150,7 +154,8 @@ fn row_told(row: Option<Row>) -> Told
 
 /// The state after a line, and what its line feed tells.
 pub(crate) fn stepped(state: State, line: &[u8]) -> (State, Told)
-    ensures { count_of state + 1 < 2 ^ 32 → result ≡ stepped state line.now }
+    ensures exact { count_of state + 1 < 2 ^ 32 → result ≡ stepped state line.now }
+    ensures device { TellsOfBus result.1 }
 {
     match state {
         State::Bad(at) => (State::Bad(at), Told::Bad(at)),
