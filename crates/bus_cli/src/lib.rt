@@ -10,6 +10,7 @@
 //! fault, exactly the report of the run of that scenario is written, or there was no memory.
 #![tactic(auto)]
 
+mod hearing;
 mod refusal;
 mod report;
 mod status;

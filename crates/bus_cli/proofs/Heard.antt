@@ -1,0 +1,41 @@
+-- Bytes that are heard one by one.
+use Rattle.std.proofs.Common.{ℕ, ◌≡◌, ◌+◌, ◌^◌, ◌<◌, ◌≤◌, List, [], ◌∷◌, ◌++◌, length, take, reverse, get_or, Result, Ok, Err, refl, sym, ap, subst, ◌∙◌, arith}
+use Rattle.std.proofs.lemmas.List.{reverse-append}
+use Rattle.std.proofs.lemmas.Grind.{take_at_read}
+use Rattle.bus_lines.specs.declared.Row.{Row}
+use Rattle.bus_rules.specs.declared.verdict.Verdict.{Verdict}
+use Rattle.bus_rules.specs.Rules.{judged_whole}
+use Rattle.trace_text.specs.declared.stages.Told.{Told}
+use Rattle.trace_text.specs.declared.stages.Told.TheVariants as tolds
+use Rattle.trace_text.specs.Bytes.{told_at, end_of, rows_next, rows_of}
+use Rattle.trace_checker.specs.declared.Judge.{Judge}
+use Rattle.trace_checker.specs.Judging.{IsJudgeOf}
+use Rattle.bus_cli.specs.Hearing.{verdict_at, heard_verdict}
+
+-- there are no more rows than bytes
+next_short : (told : Told) (rows : List Row) → length (rows_next told rows) ≤ length rows + 1
+next_short tolds.Quiet rows = omega arith
+next_short (tolds.RowRead row) rows = omega arith
+next_short (tolds.Bad at) rows = omega arith
+
+pub rows_short : (bytes : List ℕ) → length (rows_of bytes) ≤ length bytes
+rows_short [] = omega arith
+rows_short (b ∷ bytes) = omega (arith, next_short (told_at bytes b) (rows_of bytes), rows_short bytes)
+
+-- a byte that tells a row
+pub hears_row : (bytes : List ℕ) (b : ℕ) (told : Told) (row : Row) (j : Judge) → told ≡ told_at bytes b → told ≡ tolds.RowRead row → IsJudgeOf (row ∷ rows_of bytes) j → IsJudgeOf (rows_of (b ∷ bytes)) j
+hears_row bytes b told row j at is h =
+    let next : tolds.RowRead row ≡ told_at bytes b = sym is ∙ at in
+    subst (λ (rows : List Row). IsJudgeOf rows j) (λ i. rows_next (next i) (rows_of bytes)) h
+
+-- the end
+pub ends_well : (bytes : List ℕ) (read : Result ℕ ℕ) (end : ℕ) (v : Verdict) → read ≡ end_of bytes → read ≡ Ok end → v ≡ judged_whole (rows_of bytes) end → (let r : Result Verdict ℕ = Ok v in r) ≡ heard_verdict bytes
+ends_well bytes read end v at is e =
+    let last : Ok end ≡ end_of bytes = sym is ∙ at in
+    ap (λ (x : Verdict). let r : Result Verdict ℕ = Ok x in r) e ∙ (λ i. verdict_at bytes (last i))
+
+-- one byte more of a piece
+pub one_more : (piece : List ℕ) (k b : ℕ) (bytes : List ℕ) → k < length piece → b ≡ get_or piece k b → b ∷ (reverse (take k piece) ++ bytes) ≡ reverse (take (k + 1) piece) ++ bytes
+one_more piece k b bytes lt e =
+    let more : take (k + 1) piece ≡ take k piece ++ b ∷ [] = (take_at_read piece k b lt).1 ∙ ap (λ (x : ℕ). take k piece ++ x ∷ []) (sym e) in
+    sym (ap (λ (xs : List ℕ). reverse xs ++ bytes) more ∙ ap (λ (xs : List ℕ). xs ++ bytes) (reverse-append (take k piece) (b ∷ [])))
