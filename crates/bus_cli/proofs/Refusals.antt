@@ -1,16 +1,15 @@
 -- What is said of an input that is refused.
-use Rattle.std.proofs.Common.{ℕ, ◌≡◌, ◌<◌, Bool, List, Option, Some, None, length, ap, subst, ◌∙◌}
-use Rattle.std.specs.Prelude.{Result, Ok, Err, IfSome, Vec, if◌then◌else◌}
+use Rattle.std.proofs.Common.{ℕ, ◌≡◌, ◌<◌, Bool, true, false, cond, List, Option, Some, None, length, refl, subst, ◌∙◌}
+use Rattle.std.specs.Prelude.{Result, Ok, Err, IfSome, Vec}
 use Rattle.std.proofs.lemmas.Bool.{lt-ltb}
 use Rattle.std.specs.declared.alloc.Global.{Global}
 use Rattle.bus_base.specs.Whole.{ReadsAll}
 use Rattle.bus_base.specs.declared.reading.ReadEnd.{ReadEnd}
 use Rattle.bus_base.specs.declared.reading.ReadEnd.TheVariants.{TooLong}
 use Rattle.scenario.specs.Value.{ScenarioValue}
-use Rattle.scenario.specs.Reading.{scenario_of, read_from, nothing, Answers}
+use Rattle.scenario.specs.Reading.{scenario_of, Answers}
 use Rattle.scenario.specs.declared.fault.Bad.{Bad}
 use Rattle.scenario.specs.declared.fault.Bad.TheVariants.{At}
-use Rattle.text_words.specs.Lines.{lines_of}
 use Rattle.bus_cli.specs.Ends.{SaysLine, Says, TellsForm, IsReport, refusal_line}
 use Rattle.bus_cli.specs.declared.status.Status.{Status}
 use Rattle.bus_cli.specs.declared.status.Status.TheVariants.{Done, Words, Refused, Read, Write, Memory, NotBuilt}
@@ -21,9 +20,12 @@ map_some (Some x) P Q f h = f x h
 
 -- ---- a text that is too long
 
+first_of : {A : Type 0} (q : Bool) (x y : A) → q ≡ true → cond q x y ≡ x
+first_of true x y e = refl
+first_of false x y e = absurd cc
+
 too_long : (bytes : List ℕ) → 4194304 < length bytes → scenario_of bytes ≡ Err (0, 9)
-too_long bytes h =
-    ap (λ (q : Bool). let r : Result ScenarioValue (ℕ × ℕ) = if q then Err (0, 9) else read_from nothing 0 (lines_of bytes) in r) (lt-ltb 4194304 (length bytes) h)
+too_long bytes h = first_of _ _ _ (lt-ltb 4194304 (length bytes) h)
 
 abbrev IsLong : Option (List ℕ) → Type 0
 IsLong input = IfSome input (λ xs. 4194304 < length xs)

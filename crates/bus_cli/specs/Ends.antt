@@ -1,13 +1,12 @@
 -- How the program ends: what it wrote, how far it read, and what the input was.
-use Rattle.std.specs.Prelude.{ℕ, ◌≡◌, ◌+◌, ◌<◌, ◌⊎◌, true, false, List, [], ◌++◌, map, length, take, drop, Option, Some, None, Ok, Err, codes, decimal}
+use Rattle.std.specs.Prelude.{ℕ, ◌≡◌, ◌+◌, ◌<◌, ◌⊎◌, true, false, List, [], ◌++◌, length, take, drop, Option, Some, None, Ok, Err, codes, decimal}
 use Rattle.bus_base.specs.Faults.{HasRisen}
-use Rattle.scenario.specs.declared.value.UnitDef.{UnitDef}
 use Rattle.scenario.specs.Value.{ScenarioValue}
 use Rattle.scenario.specs.Reading.{scenario_of}
 use Rattle.bus_engine.specs.Value.{RunValue}
 use Rattle.bus_engine.specs.Built.{is_built}
 use Rattle.bus_engine.specs.ScenarioRun.{IsRunOf}
-use Rattle.trace_text.specs.ReportText.{report_text}
+use Rattle.trace_text.specs.ReportText.{report_of}
 use Rattle.bus_cli.specs.declared.status.Status.{Status}
 use Rattle.bus_cli.specs.declared.status.Status.TheVariants.{Done, Words, Refused, Read, Write, Memory, NotBuilt}
 
@@ -37,14 +36,6 @@ form_line = codes "not built\n"
 -- the line that tells of the first line of a scenario with a reason
 abbrev pub refusal_line : ℕ → ℕ → List ℕ
 refusal_line line reason = codes "scenario line " ++ (decimal line ++ (codes " reason " ++ (decimal reason ++ codes "\n")))
-
--- the name of a disk: its target and the number of its unit
-abbrev pub unit_name : UnitDef → ℕ × ℕ
-unit_name u = (u.target, u.unit)
-
--- the report of a run of a scenario, which names the disks by the scenario's units
-abbrev pub report_of : ScenarioValue → RunValue → List ℕ
-report_of s run = report_text (map unit_name s.units) run
 
 -- these bytes are a text of this scenario, and it can be run so far
 abbrev pub Asks : List ℕ → ScenarioValue → Type 0

@@ -11,7 +11,6 @@
 #![tactic(auto)]
 
 mod refusal;
-mod report;
 mod status;
 mod top;
 mod words;

@@ -7,7 +7,6 @@ ghost use Rattle.bus_cli.specs.Words.{word_of};
 ghost use Rattle.bus_cli.specs.Ends.{limit, Asks, SaysLine, Says, Reads, TellsForm, IsDoneOrMemory};
 
 use crate::refusal::refusal_line;
-use crate::report::report;
 use crate::status::Status;
 use crate::words::{Word, word_of};
 use bus_base::{ReadEnd, Sink, Source, Steps, read_all, write_all};
@@ -15,6 +14,7 @@ use bus_engine::built;
 use scenario::{Bad, LIMIT, read};
 use std::alloc::Global;
 use std::sync::ledger::Ledger;
+use trace_text::report;
 
 // Writes the line of a refusal. A fault there changes nothing: the refusal stays.
 fn say<K: Sink>(out: &mut K, line: &[u8])
@@ -52,11 +52,7 @@ fn run_bytes<K: Sink>(alloc: Global, bytes: &[u8], out: &mut K) -> Status
         say(out, b"no memory\n");
         return Status::Memory;
     };
-    let Ok(text) = report(alloc, &scenario, &run) else {
-        say(out, b"no memory\n");
-        return Status::Memory;
-    };
-    match write_all(out, &text) {
+    match report(&scenario, &run, out) {
         Ok(()) => Status::Done,
         Err(_) => Status::Write,
     }
