@@ -1,1 +1,3 @@
+pub mod TooLong
 pub mod Refusals
+pub mod Judged

@@ -1,2 +1,5 @@
 pub mod Words
+pub mod Lines
+pub mod Running
+pub mod Judging
 pub mod Ends

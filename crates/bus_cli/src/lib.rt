@@ -10,8 +10,10 @@
 //! fault, exactly the report of the run of that scenario is written, or there was no memory.
 #![tactic(auto)]
 
-mod refusal;
-mod report;
+mod answers;
+mod judging;
+mod running;
+mod saying;
 mod status;
 mod top;
 mod words;
