@@ -1,2 +1,4 @@
+pub mod TooLong
 pub mod Refusals
 pub mod Heard
+pub mod Judged

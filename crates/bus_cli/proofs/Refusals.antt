@@ -1,45 +1,29 @@
--- What is said of an input that is refused.
-use Rattle.std.proofs.Common.{ℕ, ◌≡◌, ◌<◌, Bool, List, Option, Some, None, length, ap, subst, ◌∙◌}
-use Rattle.std.specs.Prelude.{Result, Ok, Err, IfSome, Vec, if◌then◌else◌}
+-- What the word `run` says of an input that is refused.
+use Rattle.std.proofs.Common.{ℕ, ◌≡◌, ◌<◌, List, Option, Some, None, length, subst, ◌∙◌}
+use Rattle.std.specs.Prelude.{Result, Ok, Err, IfSome, Vec}
 use Rattle.std.proofs.lemmas.Bool.{lt-ltb}
 use Rattle.std.specs.declared.alloc.Global.{Global}
 use Rattle.bus_base.specs.Whole.{ReadsAll}
 use Rattle.bus_base.specs.declared.reading.ReadEnd.{ReadEnd}
 use Rattle.bus_base.specs.declared.reading.ReadEnd.TheVariants.{TooLong}
 use Rattle.scenario.specs.Value.{ScenarioValue}
-use Rattle.scenario.specs.Reading.{scenario_of, read_from, nothing, Answers}
+use Rattle.scenario.specs.Reading.{scenario_of, Answers}
 use Rattle.scenario.specs.declared.fault.Bad.{Bad}
 use Rattle.scenario.specs.declared.fault.Bad.TheVariants.{At}
-use Rattle.text_words.specs.Lines.{lines_of}
-use Rattle.bus_cli.specs.Ends.{SaysLine, Says, TellsForm, IsReport, refusal_line}
+use Rattle.bus_cli.proofs.TooLong.{map_some, first_of, IsLong, is_long}
+use Rattle.bus_cli.specs.Lines.{SaysLine, refusal_line}
+use Rattle.bus_cli.specs.Running.{RunSays, RunTells, IsReport}
 use Rattle.bus_cli.specs.declared.status.Status.{Status}
-use Rattle.bus_cli.specs.declared.status.Status.TheVariants.{Done, Words, Refused, Read, Write, Memory, NotBuilt}
-
-map_some : {A : Type 0} (o : Option A) (P Q : A → Type 0) → ((x : A) → P x → Q x) → IfSome o P → IfSome o Q
-map_some None P Q f h = h
-map_some (Some x) P Q f h = f x h
+use Rattle.bus_cli.specs.declared.status.Status.TheVariants.{Done, Words, Refused, Read, Write, Memory, Broken, BadTrace, NotBuilt}
 
 -- ---- a text that is too long
 
 too_long : (bytes : List ℕ) → 4194304 < length bytes → scenario_of bytes ≡ Err (0, 9)
-too_long bytes h =
-    ap (λ (q : Bool). let r : Result ScenarioValue (ℕ × ℕ) = if q then Err (0, 9) else read_from nothing 0 (lines_of bytes) in r) (lt-ltb 4194304 (length bytes) h)
+too_long bytes h = first_of _ _ _ (lt-ltb 4194304 (length bytes) h)
 
-abbrev IsLong : Option (List ℕ) → Type 0
-IsLong input = IfSome input (λ xs. 4194304 < length xs)
-
-long_of : (input left : Option (List ℕ)) → ReadsAll input left 4194304 (Err TooLong) → IsLong input
-long_of None left h = tt
-long_of (Some xs) left h = h.0
-
-is_long : (input left : Option (List ℕ)) (end : ReadEnd) → end ≡ TooLong → ReadsAll input left 4194304 (Err end) → IsLong input
-is_long input left end e h =
-    let P : ReadEnd → Type 0 = λ r. ReadsAll input left 4194304 (Err r) in
-    long_of input left (subst P e h)
-
-pub refused_long : (input left : Option (List ℕ)) (end : ReadEnd) → end ≡ TooLong → ReadsAll input left 4194304 (Err end) → IfSome input (λ xs. TellsForm Refused xs)
+pub refused_long : (input left : Option (List ℕ)) (end : ReadEnd) → end ≡ TooLong → ReadsAll input left 4194304 (Err end) → IfSome input (λ xs. RunTells Refused xs)
 refused_long input left end e h =
-    map_some input (λ xs. 4194304 < length xs) (λ xs. TellsForm Refused xs) (λ xs long. (0, 9, too_long xs long)) (is_long input left end e h)
+    map_some input (λ xs. 4194304 < length xs) (λ xs. RunTells Refused xs) (λ xs long. (0, 9, too_long xs long)) (is_long 4194304 input left end e h)
 
 -- ---- a line that is refused
 
@@ -48,33 +32,35 @@ refused_at bad line reason read e h = subst (λ (b : Bad). Answers (Err b) read)
 
 -- ---- what is written
 
-said_refused : (bytes text before : List ℕ) (written : Option (List ℕ)) (line reason f g : ℕ) → scenario_of bytes ≡ Err (line, reason) → text ≡ refusal_line line reason → SaysLine text before written f g → Says Refused (Some bytes) before written f g
+said_refused : (bytes text before : List ℕ) (written : Option (List ℕ)) (line reason f g : ℕ) → scenario_of bytes ≡ Err (line, reason) → text ≡ refusal_line line reason → SaysLine text before written f g → RunSays Refused (Some bytes) before written f g
 said_refused bytes text before written line reason f g e same says =
     (line, reason, e, subst (λ (x : List ℕ). SaysLine x before written f g) same says)
 
-pub said_at : (bytes text : List ℕ) (old written : Option (List ℕ)) (line reason f g : ℕ) → scenario_of bytes ≡ Err (line, reason) → text ≡ refusal_line line reason → IfSome old (λ before. SaysLine text before written f g) → IfSome old (λ before. Says Refused (Some bytes) before written f g)
+pub said_at : (bytes text : List ℕ) (old written : Option (List ℕ)) (line reason f g : ℕ) → scenario_of bytes ≡ Err (line, reason) → text ≡ refusal_line line reason → IfSome old (λ before. SaysLine text before written f g) → IfSome old (λ before. RunSays Refused (Some bytes) before written f g)
 said_at bytes text old written line reason f g e same says =
-    map_some old (λ before. SaysLine text before written f g) (λ before. Says Refused (Some bytes) before written f g) (λ before. said_refused bytes text before written line reason f g e same) says
+    map_some old (λ before. SaysLine text before written f g) (λ before. RunSays Refused (Some bytes) before written f g) (λ before. said_refused bytes text before written line reason f g e same) says
 
-said_beyond : (input : Option (List ℕ)) (text before : List ℕ) (written : Option (List ℕ)) (f g : ℕ) → IsLong input → text ≡ refusal_line 0 9 → SaysLine text before written f g → Says Refused input before written f g
+said_beyond : (input : Option (List ℕ)) (text before : List ℕ) (written : Option (List ℕ)) (f g : ℕ) → IsLong 4194304 input → text ≡ refusal_line 0 9 → SaysLine text before written f g → RunSays Refused input before written f g
 said_beyond None text before written f g long same says =
     (0, 9, tt, subst (λ (x : List ℕ). SaysLine x before written f g) same says)
 said_beyond (Some xs) text before written f g long same says =
     said_refused xs text before written 0 9 f g (too_long xs long) same says
 
-pub said_long : (input left : Option (List ℕ)) (end : ReadEnd) (text : List ℕ) (old written : Option (List ℕ)) (f g : ℕ) → end ≡ TooLong → ReadsAll input left 4194304 (Err end) → text ≡ refusal_line 0 9 → IfSome old (λ before. SaysLine text before written f g) → IfSome old (λ before. Says Refused input before written f g)
+pub said_long : (input left : Option (List ℕ)) (end : ReadEnd) (text : List ℕ) (old written : Option (List ℕ)) (f g : ℕ) → end ≡ TooLong → ReadsAll input left 4194304 (Err end) → text ≡ refusal_line 0 9 → IfSome old (λ before. SaysLine text before written f g) → IfSome old (λ before. RunSays Refused input before written f g)
 said_long input left end text old written f g e h same says =
-    map_some old (λ before. SaysLine text before written f g) (λ before. Says Refused input before written f g) (λ before. said_beyond input text before written f g (is_long input left end e h) same) says
+    map_some old (λ before. SaysLine text before written f g) (λ before. RunSays Refused input before written f g) (λ before. said_beyond input text before written f g (is_long 4194304 input left end e h) same) says
 
 -- ---- what is said of bytes is said of the input that they are
 
 report_of_any : (bytes text : List ℕ) → IsReport (Some bytes) text → IsReport None text
 report_of_any bytes text r = (r.0, r.1, r.2.1, r.3, r.4)
 
-of_input : (status : Status) (input : Option (List ℕ)) (bytes before : List ℕ) (written : Option (List ℕ)) (f g : ℕ) → IfSome input (λ xs. bytes ≡ xs) → Says status (Some bytes) before written f g → Says status input before written f g
-of_input status (Some xs) bytes before written f g same says = subst (λ (b : List ℕ). Says status (Some b) before written f g) same says
+of_input : (status : Status) (input : Option (List ℕ)) (bytes before : List ℕ) (written : Option (List ℕ)) (f g : ℕ) → IfSome input (λ xs. bytes ≡ xs) → RunSays status (Some bytes) before written f g → RunSays status input before written f g
+of_input status (Some xs) bytes before written f g same says = subst (λ (b : List ℕ). RunSays status (Some b) before written f g) same says
 of_input Done None bytes before written f g same says = (says.0, report_of_any bytes says.0 says.1, says.2)
 of_input Write None bytes before written f g same says = (says.0, report_of_any bytes says.0 says.1, says.2)
+of_input Broken None bytes before written f g same says = elim says [ ]
+of_input BadTrace None bytes before written f g same says = elim says [ ]
 of_input Refused None bytes before written f g same says = (says.0, says.1, tt, says.3)
 of_input Words None bytes before written f g same says = says
 of_input Read None bytes before written f g same says = says
@@ -85,6 +71,6 @@ all_of : (input left : Option (List ℕ)) (v : Vec ℕ Global) (bytes : List ℕ
 all_of None left v bytes same h = tt
 all_of (Some xs) left v bytes same h = same ∙ h.0
 
-pub said_of_all : (status : Status) (input left old written : Option (List ℕ)) (v : Vec ℕ Global) (bytes : List ℕ) (f g : ℕ) → bytes ≡ v.items → ReadsAll input left 4194304 (Ok v) → IfSome old (λ before. Says status (Some bytes) before written f g) → IfSome old (λ before. Says status input before written f g)
+pub said_of_all : (status : Status) (input left old written : Option (List ℕ)) (v : Vec ℕ Global) (bytes : List ℕ) (f g : ℕ) → bytes ≡ v.items → ReadsAll input left 4194304 (Ok v) → IfSome old (λ before. RunSays status (Some bytes) before written f g) → IfSome old (λ before. RunSays status input before written f g)
 said_of_all status input left old written v bytes f g same h says =
-    map_some old (λ before. Says status (Some bytes) before written f g) (λ before. Says status input before written f g) (λ before. of_input status input bytes before written f g (all_of input left v bytes same h)) says
+    map_some old (λ before. RunSays status (Some bytes) before written f g) (λ before. RunSays status input before written f g) (λ before. of_input status input bytes before written f g (all_of input left v bytes same h)) says

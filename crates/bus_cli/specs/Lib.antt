@@ -1,3 +1,6 @@
 pub mod Words
+pub mod Lines
+pub mod Running
+pub mod Judging
 pub mod Ends
 pub mod Hearing

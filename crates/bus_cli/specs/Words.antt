@@ -2,10 +2,18 @@
 use Rattle.std.specs.Prelude.{ℕ, List, [], ◌∷◌, Option, Some, None, nat_eq, codes, if◌then◌else◌}
 use Rattle.std.specs.Cmp.Lexicographic.{pointwise}
 use Rattle.bus_cli.specs.declared.words.Word.{Word}
-use Rattle.bus_cli.specs.declared.words.Word.TheVariants.{Run}
+use Rattle.bus_cli.specs.declared.words.Word.TheVariants.{Run, Judge}
 
--- exactly the one word `run`
+-- exactly one word, `run` or `judge`
 abbrev pub word_of : List (List ℕ) → Option Word
 word_of [] = None
-word_of (word ∷ []) = if pointwise nat_eq word (codes "run") then Some Run else None
+word_of (word ∷ []) =
+    if pointwise nat_eq word (codes "run") then Some Run
+    else if pointwise nat_eq word (codes "judge") then Some Judge
+    else None
 word_of (word ∷ next ∷ words) = None
+
+-- the most bytes that the input may have
+abbrev pub limit_of : Word → ℕ
+limit_of Run = 4194304
+limit_of Judge = 1073741824

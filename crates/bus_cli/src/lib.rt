@@ -10,9 +10,11 @@
 //! fault, exactly the report of the run of that scenario is written, or there was no memory.
 #![tactic(auto)]
 
+mod answers;
 mod hearing;
-mod refusal;
-mod report;
+mod judging;
+mod running;
+mod saying;
 mod status;
 mod top;
 mod words;

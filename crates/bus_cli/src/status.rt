@@ -5,7 +5,7 @@ ghost use Rattle.bus_cli.specs.Ends.{code_of};
 /// How the program ended.
 #[derive(Clone, Copy, PartialEq, Eq, Debug)]
 pub enum Status {
-    /// The report was written.
+    /// The report was written, or the answer that the trace is lawful.
     Done = 0,
     /// The words are none of the program's.
     Words = 1,
@@ -13,10 +13,14 @@ pub enum Status {
     Refused = 2,
     /// A read failed.
     Read = 3,
-    /// A write of the report failed.
+    /// A write of the report failed, or of the answer that the trace is lawful.
     Write = 4,
     /// There was no memory left.
     Memory = 5,
+    /// The trace breaks a rule: the line tells its first row that does, and the lowest rule there.
+    Broken = 6,
+    /// The input is no trace text: the line tells its first line that breaks the form.
+    BadTrace = 7,
     /// The input is a scenario that cannot be run so far.
     NotBuilt = 9,
 }
@@ -33,6 +37,8 @@ impl Status {
             Status::Read => 3,
             Status::Write => 4,
             Status::Memory => 5,
+            Status::Broken => 6,
+            Status::BadTrace => 7,
             Status::NotBuilt => 9,
         }
     }

@@ -1,6 +1,7 @@
 //! The program from end to end, over sources and sinks in memory.
 ghost use Rattle.std.specs.Prelude.{◌≡◌, ◌<◌};
 
+mod cut;
 mod wholes;
 
 use crate::{Status, bus_main};
@@ -54,11 +55,22 @@ fn end_of<L: Ledger>(
     Ok(bus_main(alloc, &words, input, out, &mut steps))
 }
 
+/// How the program ends with these words, this input and this sink.
+fn ended(
+    alloc: Global,
+    words: &[&'static str],
+    input: &mut MemSource,
+    out: &mut MemSink,
+) -> Result<Status, NoMemory> {
+    end_of::<Brand>(alloc, Blank::new(1), words, input, out)
+}
+
 #[test]
 fn ends_with_each_status(rt: HostRuntime) -> Result<(), NoMemory> {
     let usage = "usage: scsibus run [--short] | judge | make SEED N\n";
     let run: &'static [&'static str] = &["run"];
-    let cases: [Case; 13] = [
+    let judge: &'static [&'static str] = &["judge"];
+    let cases: [Case; 29] = [
         (run, PLAIN.0, NEVER, NEVER, Status::Done, PLAIN.1),
         (run, BLANK.0, NEVER, NEVER, Status::Done, BLANK.1),
         (run, LOW.0, NEVER, NEVER, Status::Done, LOW.1),
@@ -66,6 +78,14 @@ fn ends_with_each_status(rt: HostRuntime) -> Result<(), NoMemory> {
         (&[], PLAIN.0, NEVER, NEVER, Status::Words, usage),
         (&["walk"], PLAIN.0, 1, NEVER, Status::Words, usage),
         (&["run", "run"], PLAIN.0, NEVER, NEVER, Status::Words, usage),
+        (
+            &["judge", "judge"],
+            PLAIN.1,
+            NEVER,
+            NEVER,
+            Status::Words,
+            usage,
+        ),
         (
             run,
             "scsi 1\n",
@@ -79,11 +99,82 @@ fn ends_with_each_status(rt: HostRuntime) -> Result<(), NoMemory> {
         (run, PLAIN.0, 3, NEVER, Status::Read, "read fault\n"),
         (run, PLAIN.0, NEVER, 1, Status::Write, ""),
         (&["walk"], PLAIN.0, NEVER, 1, Status::Words, ""),
+        (judge, PLAIN.1, NEVER, NEVER, Status::Done, "lawful\n"),
+        (judge, BLANK.1, NEVER, NEVER, Status::Done, "lawful\n"),
+        (judge, LOW.1, NEVER, NEVER, Status::Done, "lawful\n"),
+        (judge, MIDDLE.1, NEVER, NEVER, Status::Done, "lawful\n"),
+        (
+            judge,
+            "trace 1\nend 5\n",
+            NEVER,
+            NEVER,
+            Status::Done,
+            "lawful\n",
+        ),
+        (
+            judge,
+            "trace 1\n1200 6 00240\n3000 7 00280\nend 3000\n",
+            NEVER,
+            NEVER,
+            Status::Done,
+            "lawful\n",
+        ),
+        (
+            judge,
+            "trace 1\n1200 6 00240\n3001 7 00280\nend 3001\n",
+            NEVER,
+            NEVER,
+            Status::Broken,
+            "broken 2 4\n",
+        ),
+        (
+            judge,
+            "trace 1\n1200 7 00280\n3500 7 00680\nend 3500\n",
+            NEVER,
+            NEVER,
+            Status::Broken,
+            "broken 2 5\n",
+        ),
+        (
+            judge,
+            "trace 1\n1200 7 00280\n1200 6 00240\n3600 7 00680\n4400 6 00000\nend 4400\n",
+            NEVER,
+            NEVER,
+            Status::Done,
+            "lawful\n",
+        ),
+        (
+            judge,
+            "trace 1\n1200 7 00280\n1200 6 00240\n3600 7 00680\n4401 6 00000\nend 4401\n",
+            NEVER,
+            NEVER,
+            Status::Broken,
+            "broken 4 7\n",
+        ),
+        (
+            judge,
+            "trace 1\n12 8 00000\nend 12\n",
+            NEVER,
+            NEVER,
+            Status::BadTrace,
+            "trace line 2\n",
+        ),
+        (judge, PLAIN.1, 3, NEVER, Status::Read, "read fault\n"),
+        (judge, PLAIN.1, NEVER, 1, Status::Write, ""),
+        (
+            judge,
+            "trace 1\n1200 7 00280\n3500 7 00680\nend 3500\n",
+            NEVER,
+            1,
+            Status::Broken,
+            "",
+        ),
+        (judge, "walk\n", NEVER, 1, Status::BadTrace, ""),
     ];
     for (words, input, bad_read, bad_write, status, text) in cases {
         let mut out = MemSink::new(rt.alloc(), ROOM, ROOM, &[bad_write])?;
         let mut input = MemSource::new(rt.alloc(), input.as_bytes(), 64, &[bad_read])?;
-        let ended = end_of::<Brand>(rt.alloc(), Blank::new(1), words, &mut input, &mut out)?;
+        let ended = ended(rt.alloc(), words, &mut input, &mut out)?;
         assert_eq!(rt; ended, status, "{words:?}");
         assert_eq!(rt; out.bytes(), text.as_bytes(), "{words:?}");
     }
@@ -99,6 +190,8 @@ fn has_exit_statuses(rt: HostRuntime) {
         (Status::Read, 3),
         (Status::Write, 4),
         (Status::Memory, 5),
+        (Status::Broken, 6),
+        (Status::BadTrace, 7),
         (Status::NotBuilt, 9),
     ];
     for (status, code) in codes {

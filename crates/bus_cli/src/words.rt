@@ -7,6 +7,8 @@ ghost use Rattle.bus_cli.specs.Words.{word_of};
 pub enum Word {
     /// `run`: run the scenario of the input.
     Run,
+    /// `judge`: judge the trace of the input.
+    Judge,
 }
 
 /// What the words ask, or `None` where they are none of the program's.
@@ -15,6 +17,7 @@ pub fn word_of(words: &[String]) -> Option<Word>
 {
     match words {
         [word] if word.as_str() == "run" => Some(Word::Run),
+        [word] if word.as_str() == "judge" => Some(Word::Judge),
         _ => None,
     }
 }

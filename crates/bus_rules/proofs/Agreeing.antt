@@ -1,9 +1,8 @@
 -- Tables of agreements.
-use Rattle.std.proofs.Common.{ℕ, ◌≡◌, ◌<◌, ◌≤◌, ◌+◌, ◌*◌, Bool, true, false, replicate, refl, sym, ap, ◌∙◌, arith}
+use Rattle.std.proofs.Common.{ℕ, ◌≡◌, ◌≤◌, ◌+◌, ◌*◌, Bool, true, false, replicate, refl, sym, ap, ◌∙◌, arith}
 use Rattle.std.specs.Prelude.{◌==◌, ◌&&◌, nat_lt, if◌then◌else◌}
 use Rattle.std.proofs.lemmas.Bool.Decides.{nat_tests}
 use Rattle.std.proofs.lemmas.List.{get_or-replicate}
-use Rattle.bus_lines.specs.LineSet.{LineSet}
 use Rattle.bus_lines.specs.declared.agreements.Agreement.{Agreement}
 use Rattle.bus_rules.specs.declared.agreements.Agreements.{Agreements}
 use Rattle.bus_rules.specs.Dialogue.{asynchronous}

@@ -1,7 +1,6 @@
 -- The running terms, one row more.
-use Rattle.std.proofs.Common.{ℕ, ◌≡◌, List, [], ◌∷◌, Bool, Option, None, false, refl, sym, ap, ◌∙◌}
+use Rattle.std.proofs.Common.{ℕ, ◌≡◌, List, [], ◌∷◌, Bool, Option, None, false, refl, ap, ◌∙◌}
 use Rattle.std.specs.Prelude.{if◌then◌else◌}
-use Rattle.bus_lines.specs.LineSet.{LineSet}
 use Rattle.bus_lines.specs.Trace.{since_line}
 use Rattle.bus_lines.specs.declared.Row.{Row}
 use Rattle.bus_lines.specs.declared.agreements.Agreement.{Agreement}

@@ -1,5 +1,5 @@
 -- A verdict tells the first broken row and its lowest rule.
-use Rattle.std.proofs.Common.{zero, suc, ℕ, ◌≡◌, ◌+◌, ◌<◌, ◌↔◌, ◌⊎◌, inl, inr, Bool, true, false, List, [], ◌∷◌, ◌++◌, length, Option, Some, None, refl, sym, ap, subst, ◌∙◌, arith, cond}
+use Rattle.std.proofs.Common.{ℕ, ◌≡◌, ◌+◌, ◌<◌, ◌↔◌, inl, inr, Bool, true, false, List, [], ◌∷◌, length, Option, Some, None, refl, sym, ap, subst, ◌∙◌, arith, cond}
 use Rattle.std.specs.Prelude.{◌==◌, ◌&&◌, nat_lt}
 use Rattle.std.specs.List.{AllByRecursion, list_any, list_all}
 use Rattle.std.proofs.lemmas.Bool.Decides.{nat_tests}
@@ -7,7 +7,7 @@ use Rattle.bus_lines.specs.declared.Row.{Row}
 use Rattle.bus_rules.specs.Rules.{obeys, obeys_at_end, judged_rules, first_broken, broken_rule, broken_at_end, verdict_of, if_lawful, judged, judged_whole}
 use Rattle.bus_rules.specs.declared.verdict.Verdict.{Verdict}
 use Rattle.bus_rules.specs.declared.verdict.Verdict.TheVariants.{Lawful, Broken}
-use Rattle.bus_rules.specs.Lawful.{KeepsAll, AreLawful, IsLawful, IsLowest, IsFirstRow, IsEnd, IsFirst}
+use Rattle.bus_rules.specs.Lawful.{KeepsAll, AreLawful, IsLawful, IsLowest, IsFirstRow, IsFirst}
 
 -- ---- the lowest of a rising list
 

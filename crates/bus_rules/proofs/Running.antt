@@ -1,9 +1,8 @@
 -- What a row meets, by the running terms.
-use Rattle.std.proofs.Common.{◌≡◌, ℕ, List, ◌∷◌, Bool, Option, refl, sym, ap, ◌∙◌}
+use Rattle.std.proofs.Common.{◌≡◌, ℕ, List, ◌∷◌, Bool, Option, ap, ◌∙◌}
 use Rattle.std.specs.Prelude.{not, is_some}
 use Rattle.bus_lines.specs.LineSet.{LineSet, data_of}
-use Rattle.bus_lines.specs.View.{View}
-use Rattle.bus_lines.specs.Trace.{IsViewOf, last_time, since, since_line, bus, drives, driven_after}
+use Rattle.bus_lines.specs.Trace.{last_time, since, since_line, bus, drives, driven_after}
 use Rattle.bus_lines.specs.declared.Row.{Row}
 use Rattle.bus_rules.specs.declared.changes.Change.{Change}
 use Rattle.bus_rules.specs.declared.connection.Connection.{Connection}

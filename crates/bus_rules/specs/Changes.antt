@@ -1,5 +1,5 @@
 -- What a row changes, on the bus and at its device.
-use Rattle.std.specs.Prelude.{Bool, true, false, not, ◌&&◌, ◌||◌, ◌==◌, List, ◌∷◌}
+use Rattle.std.specs.Prelude.{Bool, true, not, ◌&&◌, ◌||◌, ◌==◌, List, ◌∷◌}
 use Rattle.bus_lines.specs.LineSet.{LineSet, none, union, same, same_set}
 use Rattle.bus_lines.specs.Trace.{bus, drives, driven_after}
 use Rattle.bus_lines.specs.declared.Row.{Row}

@@ -1,5 +1,5 @@
 -- Rules 14 to 16 and 27: who drives what in a connection, and its end (6.1.5 to 6.1.9).
-use Rattle.std.specs.Prelude.{ℕ, ◌+◌, Bool, true, false, not, max, ◌&&◌, ◌||◌, ◌==◌, Option, Some, None, nat_le, if◌then◌else◌}
+use Rattle.std.specs.Prelude.{ℕ, ◌+◌, Bool, true, not, max, ◌&&◌, ◌||◌, ◌==◌, Option, Some, None, nat_le, if◌then◌else◌}
 use Rattle.std.specs.Int.RustNames.{bit_or}
 use Rattle.bus_lines.specs.declared.delays.TheConstants.{BUS_SETTLE_DELAY, DATA_RELEASE_DELAY, TURN_DELAY, DESKEW_DELAY}
 use Rattle.bus_lines.specs.LineSet.{LineSet, none, same_set}

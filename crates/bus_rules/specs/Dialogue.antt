@@ -5,7 +5,7 @@
 -- next message of the connection in either direction is MESSAGE PARITY ERROR: so what holds without it is kept
 -- beside what holds with it, until the next message. The bytes of MESSAGE OUT begin anew with a byte after one
 -- that crossed with ATN false in the same phase: so what held when the phase began is kept too.
-use Rattle.std.specs.Prelude.{ℕ, Bool, true, false, not, ◌%◌, ◌&&◌, ◌||◌, ◌==◌, List, [], ◌∷◌, ◌++◌, Option, Some, None, is_some, nat_eq, if◌then◌else◌}
+use Rattle.std.specs.Prelude.{ℕ, Bool, true, false, not, ◌%◌, ◌&&◌, ◌==◌, List, [], ◌∷◌, ◌++◌, Option, Some, None, is_some, if◌then◌else◌}
 use Rattle.bus_base.specs.Faults.{counted_on}
 use Rattle.bus_lines.specs.LineSet.{LineSet}
 use Rattle.bus_lines.specs.Trace.{bus}
@@ -28,7 +28,7 @@ use Rattle.bus_rules.specs.declared.spoken.Spoken.{Spoken}
 use Rattle.bus_rules.specs.declared.spoken.CommandBytes.{CommandBytes}
 use Rattle.bus_rules.specs.declared.spoken.Heard.{Heard}
 use Rattle.bus_rules.specs.declared.dialogue.Dialogue.{Dialogue}
-use Rattle.bus_rules.specs.Changes.{rises, falls, change_of}
+use Rattle.bus_rules.specs.Changes.{change_of}
 use Rattle.bus_rules.specs.Terms.{connection, receiver_of}
 use Rattle.bus_rules.specs.Half.{left_of}
 use Rattle.bus_rules.specs.Phases.{is_message_out, is_message_in, is_command, changes_phase}

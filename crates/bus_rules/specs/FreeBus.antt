@@ -1,7 +1,7 @@
 -- Rules 3 to 6: the free bus and arbitration (6.1.1, 6.1.2).
-use Rattle.std.specs.Prelude.{ℕ, ◌+◌, Bool, true, false, not, max, ◌&&◌, ◌||◌, ◌==◌, Option, Some, None, nat_le, is_none, is_some}
+use Rattle.std.specs.Prelude.{ℕ, ◌+◌, Bool, true, not, max, ◌&&◌, ◌||◌, Option, Some, None, nat_le, is_none, is_some}
 use Rattle.bus_lines.specs.declared.delays.TheConstants.{ENTRY_DELAY, QUIET_TIME, BUS_SET_DELAY, ARBITRATION_DELAY}
-use Rattle.bus_lines.specs.LineSet.{LineSet, none, same_set, id_set, has_id_above}
+use Rattle.bus_lines.specs.LineSet.{none, same_set, id_set, has_id_above}
 use Rattle.bus_lines.specs.declared.Row.{Row}
 use Rattle.bus_rules.specs.declared.arbitration.Arbitration.{Arbitration}
 use Rattle.bus_rules.specs.declared.seen.Seen.{Seen}

@@ -3,7 +3,6 @@ use Rattle.std.specs.Prelude.{ℕ, ◌+◌, ◌%◌, Bool, true, false, not, ◌
 use Rattle.bus_lines.specs.declared.delays.TheConstants.{TWO_DESKEW}
 use Rattle.bus_lines.specs.declared.Row.{Row}
 use Rattle.cdb_codec.specs.Cdb.{group_len}
-use Rattle.bus_rules.specs.declared.changes.Change.{Change}
 use Rattle.bus_rules.specs.declared.connection.Connection.{Connection}
 use Rattle.bus_rules.specs.declared.spoken.CommandBytes.{CommandBytes}
 use Rattle.bus_rules.specs.declared.reading.Reading.{Reading}

@@ -1,5 +1,5 @@
 -- Rules 1 and 2: what holds of any row.
-use Rattle.std.specs.Prelude.{ℕ, ◌+◌, Bool, true, false, not, ◌&&◌, ◌||◌, ◌==◌, Option, Some, None, nat_le, is_none}
+use Rattle.std.specs.Prelude.{ℕ, ◌+◌, Bool, false, not, ◌&&◌, ◌||◌, ◌==◌, Option, Some, None, nat_le, is_none}
 use Rattle.bus_lines.specs.declared.delays.TheConstants.{BUS_SETTLE_DELAY}
 use Rattle.bus_lines.specs.LineSet.{same_set, has_id}
 use Rattle.bus_lines.specs.declared.Row.{Row}

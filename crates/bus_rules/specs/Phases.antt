@@ -1,5 +1,5 @@
 -- The phases of a connection, and the pulses of REQ and ACK in them (ANSI X3.131-1994, 6.1.5 to 6.1.9).
-use Rattle.std.specs.Prelude.{ℕ, ◌+◌, Bool, true, false, not, max, ◌&&◌, ◌||◌, ◌==◌, List, [], ◌∷◌, Option, Some, None, nat_le, if◌then◌else◌}
+use Rattle.std.specs.Prelude.{ℕ, ◌+◌, Bool, false, not, max, ◌&&◌, ◌||◌, List, [], ◌∷◌, Option, Some, None, nat_le, if◌then◌else◌}
 use Rattle.bus_base.specs.Faults.{counted_on}
 use Rattle.bus_lines.specs.LineSet.{LineSet}
 use Rattle.bus_lines.specs.Trace.{since_line}

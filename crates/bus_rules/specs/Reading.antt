@@ -1,5 +1,5 @@
 -- What a byte makes of the bytes of a message, as they cross (6.6).
-use Rattle.std.specs.Prelude.{ℕ, Bool, true, false, ◌%◌, List, [], ◌∷◌, ◌++◌, Option, is_some, if◌then◌else◌}
+use Rattle.std.specs.Prelude.{ℕ, ◌%◌, List, [], ◌∷◌, ◌++◌, Option, is_some, if◌then◌else◌}
 use Rattle.msg_grammar.specs.declared.message.Got.{Got}
 use Rattle.msg_grammar.specs.declared.message.Got.TheVariants.{Whole, More, Unknown}
 use Rattle.msg_grammar.specs.declared.message.MsgOut.{MsgOut}

@@ -1,5 +1,5 @@
 -- Rule 28: the reset condition (6.2.2).
-use Rattle.std.specs.Prelude.{ℕ, ◌+◌, Bool, true, false, not, ◌&&◌, ◌||◌, nat_le}
+use Rattle.std.specs.Prelude.{ℕ, ◌+◌, Bool, true, ◌&&◌, ◌||◌, nat_le}
 use Rattle.bus_lines.specs.declared.delays.TheConstants.{BUS_CLEAR_DELAY, RESET_HOLD_TIME}
 use Rattle.bus_lines.specs.LineSet.{LineSet, none}
 use Rattle.bus_lines.specs.declared.Row.{Row}

@@ -1,5 +1,5 @@
 -- What a row meets: all that the rules ask of the rows before it.
-use Rattle.std.specs.Prelude.{ℕ, Bool, true, false, not, ◌||◌, ◌&&◌, ◌==◌, List, [], ◌∷◌, Option, Some, None, is_some, if◌then◌else◌}
+use Rattle.std.specs.Prelude.{ℕ, Bool, false, not, ◌||◌, ◌&&◌, ◌==◌, List, Option, Some, None, is_some, if◌then◌else◌}
 use Rattle.bus_lines.specs.LineSet.{LineSet, none, same_set, line_of, data_of}
 use Rattle.bus_lines.specs.Trace.{drives, last_time, since, since_line}
 use Rattle.bus_lines.specs.declared.Row.{Row}

@@ -2,7 +2,7 @@
 -- clause 6.1). The newest row stands first; each term goes on by one step a row.
 use Rattle.std.specs.Prelude.{ℕ, Bool, true, false, not, max, ◌&&◌, ◌||◌, ◌==◌, List, [], ◌∷◌, Option, Some, None, if◌then◌else◌}
 use Rattle.bus_lines.specs.LineSet.{LineSet, has_id, ids_in}
-use Rattle.bus_lines.specs.Trace.{bus, drives, driven_after, since_line}
+use Rattle.bus_lines.specs.Trace.{drives, driven_after, since_line}
 use Rattle.bus_lines.specs.declared.Row.{Row}
 use Rattle.bus_lines.specs.declared.Kind.{Kind}
 use Rattle.bus_lines.specs.declared.Kind.TheVariants.{Drives, Fault}

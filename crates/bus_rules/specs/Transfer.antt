@@ -1,5 +1,5 @@
 -- Rules 17 to 23: REQ and ACK, asynchronous and synchronous (6.1.5.1, 6.1.5.2).
-use Rattle.std.specs.Prelude.{ℕ, ◌+◌, Bool, true, false, not, ◌&&◌, ◌||◌, ◌==◌, Option, Some, None, nat_le, nat_lt, is_some, if◌then◌else◌}
+use Rattle.std.specs.Prelude.{ℕ, ◌+◌, Bool, true, not, ◌&&◌, ◌||◌, ◌==◌, Option, Some, None, nat_le, nat_lt, is_some, if◌then◌else◌}
 use Rattle.bus_lines.specs.declared.delays.TheConstants.{SET_UP_TIME}
 use Rattle.bus_lines.specs.LineSet.{LineSet, has_odd_parity}
 use Rattle.bus_lines.specs.Agreements.{transfer_times, slow_times}

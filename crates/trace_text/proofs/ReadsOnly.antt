@@ -1,13 +1,13 @@
 -- What is read as a trace is rows that the bus can have, and an end below 2 ^ 63.
 use Rattle.std.proofs.Common.{◌≡◌, ℕ, ◌+◌, ◌-◌, ◌^◌, ◌<◌, ◌≤◌, Bool, true, false, cond, ◌&&◌, List, [], ◌∷◌, ◌++◌, length, reverse, Option, Some, None, Result, Ok, Err, refl, sym, subst, arith}
-use Rattle.std.specs.Prelude.{◌==◌, nat_le, nat_lt, codes}
+use Rattle.std.specs.Prelude.{◌==◌, nat_le, nat_lt, codes, IfOk}
 use Rattle.std.specs.List.{AllByRecursion}
 use Rattle.std.proofs.lemmas.Bool.Decides.{nat_tests}
 use Rattle.std.proofs.lemmas.List.{reverse-append}
 use Rattle.text_words.specs.Words.{after, number_at, digit_at, is_hex, is_whole}
 use Rattle.text_words.proofs.Only.{bind_some, cond_some, digit_only}
 use Rattle.bus_lines.specs.LineSet.{set_of}
-use Rattle.bus_lines.specs.OfTrace.{IsKind}
+use Rattle.bus_lines.specs.OfTrace.{IsKind, IsRow}
 use Rattle.bus_lines.specs.declared.Kind.{Kind}
 use Rattle.bus_lines.specs.declared.Kind.TheVariants.{Drives, Fault}
 use Rattle.bus_lines.specs.declared.Row.{Row}
@@ -17,10 +17,12 @@ use Rattle.trace_text.specs.declared.stages.State.{State}
 use Rattle.trace_text.specs.declared.stages.State.TheVariants as states
 use Rattle.trace_text.specs.declared.stages.Told.{Told}
 use Rattle.trace_text.specs.declared.stages.Told.TheVariants as tolds
+use Rattle.trace_text.specs.declared.whole.Trace.{Trace}
+use Rattle.trace_text.specs.declared.whole.TraceBad.{TraceBad}
 use Rattle.trace_text.specs.Readable.{FitsBus, IsTraceRow}
 use Rattle.trace_text.specs.Lines.{below, value_of, kind_at, row_at, end_at, is_first, is_history, row_or_end, moved, stepped, state_of}
 use Rattle.trace_text.specs.Bytes.{Cut, cut_of, quiet, told_next, told_at, end_told, end_of, rows_next, rows_of}
-use Rattle.trace_text.specs.Whole.{with_rows, trace_of}
+use Rattle.trace_text.specs.Whole.{with_rows, trace_of, Answers}
 use Rattle.trace_text.proofs.Short.{below_is}
 
 -- ---- rows
@@ -173,3 +175,11 @@ trace_only bytes rows end e =
     let says = with_only (reverse (rows_of newest)) (end_of newest) rows end whole in
     let all : AllByRecursion IsTraceRow (reverse (rows_of newest)) = all_reverse IsTraceRow (rows_of newest) (rows_fit newest) in
     (subst (AllByRecursion IsTraceRow) says.all all, end_fits (state_of (cut_of newest).lines) (cut_of newest).rest end (state_fits (cut_of newest).lines) says.last)
+
+named_rows : (rows : List Row) → AllByRecursion IsTraceRow rows → AllByRecursion IsRow rows
+named_rows [] h = tt
+named_rows (row ∷ rows) h = (h.0.named, named_rows rows h.1)
+
+pub rows_named : (read : Result Trace TraceBad) (bytes : List ℕ) → Answers read (trace_of bytes) → IfOk read (λ t. AllByRecursion IsRow t.rows.items)
+rows_named (Ok t) bytes e = named_rows t.rows.items (trace_only bytes t.rows.items t.end e).0
+rows_named (Err bad) bytes e = tt

@@ -31,7 +31,7 @@ pub use laws::{reads_only, reports_read_back, traces_read_back};
 pub use reader::TraceReader;
 pub use rows::print_row;
 pub use stages::Told;
-pub use whole::{Trace, TraceBad, read_trace};
+pub use whole::{LIMIT, Trace, TraceBad, read_trace};
 pub use whole_report::report;
 
 #[cfg(test)]

@@ -1,5 +1,7 @@
 //! A whole trace text.
-ghost use Rattle.std.specs.Prelude.{◌≡◌, ◌≤◌, ◌++◌, ◌∷◌, [], length, reverse, OnOk};
+ghost use Rattle.std.specs.Prelude.{◌≡◌, ◌≤◌, ◌++◌, ◌∷◌, [], length, reverse, OnOk, IfOk};
+ghost use Rattle.std.specs.List.{AllByRecursion};
+ghost use Rattle.bus_lines.specs.OfTrace.{IsRow};
 ghost use Rattle.trace_text.specs.Bytes.{rows_next};
 ghost use Rattle.trace_text.specs.Whole.{trace_of, Answers};
 
@@ -10,7 +12,7 @@ use bus_lines::{Kind, Row};
 use std::alloc::{AllocError, Global};
 
 /// The longest text, in bytes.
-const LIMIT: usize = 1_073_741_824;
+pub const LIMIT: usize = 1_073_741_824;
 
 /// What a trace text says.
 #[derive(Debug, Drop)]
@@ -51,7 +53,9 @@ fn keep(rows: &mut Vec<Row>, told: Told) -> Result<(), AllocError>
 
 /// The trace that the text says, or its first line that breaks the form.
 pub fn read_trace(alloc: Global, bytes: &[u8]) -> Result<Trace, TraceBad>
-    ensures { Answers result (trace_of bytes.now) }
+    ensures exact { Answers result (trace_of bytes.now) }
+    // Each row is of one of the eight devices.
+    ensures rows { IfOk result (λ trace. AllByRecursion IsRow trace.rows.items) }
 {
     if bytes.len() > LIMIT {
         return Err(TraceBad::At { line: 0 });

@@ -1,10 +1,9 @@
 -- Each row is judged after the rows before it.
-use Rattle.std.proofs.Common.{ℕ, ◌≡◌, ◌+◌, ◌∷◌, ◌∙◌, List, Option, length, reverse, take, sym, subst, ap, arith, take_all}
+use Rattle.std.proofs.Common.{◌≡◌, ◌+◌, ◌∙◌, List, reverse, take, sym, subst, ap, arith, take_all}
 use Rattle.bus_lines.specs.declared.Row.{Row}
 use Rattle.bus_rules.specs.declared.seen.Seen.{Seen}
-use Rattle.bus_rules.specs.declared.verdict.Verdict.TheVariants.{Lawful}
 use Rattle.bus_rules.specs.Seen.{end_row, seen}
-use Rattle.bus_rules.specs.Rules.{verdict_of, lowest_broken, lowest_at_end, judged}
+use Rattle.bus_rules.specs.Rules.{lowest_broken, lowest_at_end, judged}
 use Rattle.bus_rules.specs.Judging.{IsTermsOf}
 use Rattle.bus_rules.proofs.Past.{past_more, whole_broken, judged_next, judged_end}
 use Rattle.bus_rules.proofs.judge.judge_plain.Goals as goal

@@ -1,4 +1,4 @@
-use Rattle.std.proofs.Common.{List, reverse, take, sym, subst}
+use Rattle.std.proofs.Common.{List, sym, subst}
 use Rattle.bus_lines.specs.declared.Row.{Row}
 use Rattle.bus_rules.specs.Judging.{IsTermsOf}
 use Rattle.bus_rules.proofs.Past.{past_more}

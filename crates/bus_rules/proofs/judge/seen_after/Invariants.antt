@@ -1,5 +1,5 @@
 -- The terms are those of the rows so far.
-use Rattle.std.proofs.Common.{◌≡◌, reverse, take}
+use Rattle.std.proofs.Common.{reverse, take}
 use Rattle.bus_rules.specs.Judging.{IsTermsOf}
 use Rattle.bus_rules.proofs.judge.seen_after.Given as goal
 

@@ -1,5 +1,5 @@
 -- The pairs below the counter are reset.
-use Rattle.std.proofs.Common.{ℕ, ◌≡◌, ◌<◌, ◌*◌, ◌+◌}
+use Rattle.std.proofs.Common.{ℕ}
 use Rattle.std.specs.Prelude.{◌==◌, ◌&&◌, nat_lt, if◌then◌else◌}
 use Rattle.bus_lines.specs.declared.agreements.Agreement.{Agreement}
 use Rattle.bus_rules.specs.Dialogue.{asynchronous}

@@ -1,7 +1,7 @@
 -- What is said of the bytes that were read is said of the input; more bytes than the limit are refused.
 use Rattle.std.proofs.Common.{◌∙◌}
 use Rattle.bus_cli.proofs.Refusals.{said_of_all, refused_long, said_long}
-use Rattle.bus_cli.proofs.top.run.Goals as goal
+use Rattle.bus_cli.proofs.running.run.Goals as goal
 
 pub returns-in-Ok-clause-said : goal.returns-in-Ok-clause-said
 returns-in-Ok-clause-said g c = said_of_all _ _ _ _ _ c.in-Ok.bytes _ _ _ c.deref.ensures.value c.in-Ok.ensures.whole c.run_bytes.ensures.said

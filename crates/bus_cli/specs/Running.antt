@@ -1,0 +1,71 @@
+-- The word `run`: what each status says of the input, and what is written.
+use Rattle.std.specs.Prelude.{ℕ, ◌≡◌, true, false, Bool, List, ◌++◌, take, Option, Some, None, Result, Ok, Err}
+use Rattle.scenario.specs.Value.{ScenarioValue}
+use Rattle.scenario.specs.Reading.{scenario_of}
+use Rattle.bus_engine.specs.Value.{RunValue}
+use Rattle.bus_engine.specs.Built.{is_built}
+use Rattle.bus_engine.specs.ScenarioRun.{IsRunOf}
+use Rattle.trace_text.specs.ReportText.{report_of}
+use Rattle.bus_cli.specs.Lines.{usage_line, fault_line, memory_line, form_line, refusal_line, SaysLine}
+use Rattle.bus_cli.specs.declared.status.Status.{Status}
+use Rattle.bus_cli.specs.declared.status.Status.TheVariants.{Done, Words, Refused, Read, Write, Memory, Broken, BadTrace, NotBuilt}
+
+-- these bytes are a text of this scenario, and it can be run so far
+abbrev pub Asks : List ℕ → ScenarioValue → Type 0
+Asks bytes s = (scenario_of bytes ≡ Ok s) × (is_built s ≡ true)
+
+-- these bytes are a text of a scenario that cannot be run so far
+abbrev pub AsksMore : List ℕ → Type 0
+AsksMore bytes = (s : ScenarioValue) × (scenario_of bytes ≡ Ok s) × (is_built s ≡ false)
+
+-- the scenario that the input says, which can be run; where nothing is told of the bytes, any such one
+abbrev pub IsSaid : Option (List ℕ) → ScenarioValue → Type 0
+IsSaid None s = is_built s ≡ true
+IsSaid (Some bytes) s = Asks bytes s
+
+-- this is the report of the run of the scenario that the input says
+abbrev pub IsReport : Option (List ℕ) → List ℕ → Type 0
+IsReport input text =
+    (s : ScenarioValue) × (run : RunValue) × IsSaid input s × IsRunOf s run × (text ≡ report_of s run)
+
+-- the first line with a reason, and its lowest reason, that refuse the input
+abbrev pub IsRefused : Option (List ℕ) → ℕ → ℕ → Type 0
+IsRefused None line reason = Unit {0}
+IsRefused (Some bytes) line reason = scenario_of bytes ≡ Err (line, reason)
+
+-- What was written with this status, by the bytes that the input had left: the report of the run of
+-- the scenario that they say, or with Write a front of it; or the status' own line.
+abbrev pub RunSays : Status → Option (List ℕ) → List ℕ → Option (List ℕ) → ℕ → ℕ → Type 0
+RunSays Done input before written faults_old faults_new =
+    (text : List ℕ) × IsReport input text × (written ≡ Some (before ++ text))
+RunSays Write input before written faults_old faults_new =
+    (text : List ℕ) × IsReport input text × ((k : ℕ) × (written ≡ Some (before ++ take k text)))
+RunSays Words input before written faults_old faults_new = SaysLine usage_line before written faults_old faults_new
+RunSays Refused input before written faults_old faults_new =
+    (line : ℕ) × (reason : ℕ) × IsRefused input line reason × SaysLine (refusal_line line reason) before written faults_old faults_new
+RunSays Read input before written faults_old faults_new = SaysLine fault_line before written faults_old faults_new
+RunSays Memory input before written faults_old faults_new = SaysLine memory_line before written faults_old faults_new
+RunSays NotBuilt input before written faults_old faults_new = SaysLine form_line before written faults_old faults_new
+RunSays Broken input before written faults_old faults_new = ⊥
+RunSays BadTrace input before written faults_old faults_new = ⊥
+
+-- what the status says of the input's bytes
+abbrev pub RunTells : Status → List ℕ → Type 0
+RunTells Done bytes = (s : ScenarioValue) × Asks bytes s
+RunTells Write bytes = (s : ScenarioValue) × Asks bytes s
+RunTells NotBuilt bytes = AsksMore bytes
+RunTells Refused bytes = (line : ℕ) × (reason : ℕ) × (scenario_of bytes ≡ Err (line, reason))
+RunTells Words bytes = Unit {0}
+RunTells Read bytes = Unit {0}
+RunTells Memory bytes = Unit {0}
+RunTells Broken bytes = ⊥
+RunTells BadTrace bytes = ⊥
+
+-- the status that a scenario asks for
+abbrev pub built_status : Bool → Status
+built_status true = Done
+built_status false = NotBuilt
+
+abbrev pub scenario_status : Result ScenarioValue (ℕ × ℕ) → Status
+scenario_status (Ok s) = built_status (is_built s)
+scenario_status (Err reason) = Refused

@@ -1,0 +1,80 @@
+//! The word `run`.
+ghost use Rattle.std.specs.Prelude.{◌≡◌, ◌+◌, ◌≤◌, Some, IfSome};
+ghost use Rattle.bus_base.specs.Faults.{HasRisen};
+ghost use Rattle.bus_base.specs.Whole.{TakesAtMost};
+ghost use Rattle.bus_cli.specs.Words.{limit_of};
+ghost use Rattle.bus_cli.specs.Running.{RunSays, RunTells};
+ghost use Rattle.bus_cli.specs.Ends.{Reads};
+ghost use Rattle.bus_cli.specs.declared.words.Word.TheVariants as words;
+
+use crate::answers::refusal_line;
+use crate::saying::say;
+use crate::status::Status;
+use bus_base::{ReadEnd, Sink, Source, read_all};
+use bus_engine::built;
+use scenario::{Bad, LIMIT, read};
+use std::alloc::Global;
+use trace_text::report;
+
+// Runs the scenario that these bytes say.
+fn run_bytes<K: Sink>(alloc: Global, bytes: &[u8], out: &mut K) -> Status
+    ensures words { result ≡ Status.Words → ⊥ }
+    ensures read { result ≡ Status.Read → ⊥ }
+    ensures write { result ≡ Status.Write → HasRisen (K.faults out.old) (K.faults out.new) }
+    ensures form { RunTells result bytes.now }
+    ensures said { IfSome (K.written out.old) (λ before. RunSays result (Some bytes.now) before (K.written out.new) (K.faults out.old) (K.faults out.new)) }
+    ensures never_falls { K.faults out.old ≤ K.faults out.new }
+{
+    let scenario = match read(alloc, bytes) {
+        Ok(scenario) => scenario,
+        Err(Bad::At { line, reason }) => {
+            say(out, refusal_line(line, reason).as_str().as_bytes());
+            return Status::Refused;
+        }
+        Err(Bad::NoMemory) => {
+            say(out, b"no memory\n");
+            return Status::Memory;
+        }
+    };
+    if !built(&scenario) {
+        say(out, b"not built\n");
+        return Status::NotBuilt;
+    }
+    let Ok(run) = bus_engine::run(alloc, &scenario) else {
+        say(out, b"no memory\n");
+        return Status::Memory;
+    };
+    match report(&scenario, &run, out) {
+        Ok(()) => Status::Done,
+        Err(_) => Status::Write,
+    }
+}
+
+/// Reads the input, and runs the scenario that it says.
+pub fn run<S: Source, K: Sink>(alloc: Global, input: &mut S, out: &mut K) -> Status
+    ensures words { result ≡ Status.Words → ⊥ }
+    ensures read { result ≡ Status.Read → HasRisen (S.faults input.old) (S.faults input.new) }
+    ensures write { result ≡ Status.Write → HasRisen (K.faults out.old) (K.faults out.new) }
+    ensures far { IfSome (S.left input.old) (λ bytes. Reads (limit_of words.Run) result bytes (S.left input.new)) }
+    ensures taken { TakesAtMost (S.left input.old) (S.left input.new) (limit_of words.Run + 1) }
+    ensures form { IfSome (S.left input.old) (λ bytes. RunTells result bytes) }
+    ensures said { IfSome (K.written out.old) (λ before. RunSays result (S.left input.old) before (K.written out.new) (K.faults out.old) (K.faults out.new)) }
+    ensures source_falls { S.faults input.old ≤ S.faults input.new }
+    ensures sink_falls { K.faults out.old ≤ K.faults out.new }
+{
+    match read_all(alloc, input, LIMIT) {
+        Ok(bytes) => run_bytes(alloc, &bytes, out),
+        Err(ReadEnd::TooLong) => {
+            say(out, refusal_line(0, 9).as_str().as_bytes());
+            Status::Refused
+        }
+        Err(ReadEnd::Fault) => {
+            say(out, b"read fault\n");
+            Status::Read
+        }
+        Err(ReadEnd::NoMemory) => {
+            say(out, b"no memory\n");
+            Status::Memory
+        }
+    }
+}
