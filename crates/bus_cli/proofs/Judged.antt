@@ -1,31 +1,120 @@
--- What the word `judge` says of an input that is too long.
-use Rattle.std.proofs.Common.{ℕ, ◌≡◌, ◌<◌, List, Option, Some, None, length, subst}
-use Rattle.std.specs.Prelude.{Err, IfSome}
+-- What the word `judge` says of the bytes that were read.
+use Rattle.std.proofs.Common.{ℕ, ◌≡◌, ◌+◌, ◌<◌, ◌≤◌, Bool, true, false, cond, List, [], ◌∷◌, ◌++◌, Option, Some, None, Result, Ok, Err, length, take, drop, reverse, refl, sym, ap, subst, ◌∙◌, arith}
+use Rattle.std.specs.Prelude.{IfSome, option_map, nat_lt, if◌then◌else◌}
 use Rattle.std.proofs.lemmas.Bool.{lt-ltb}
-use Rattle.bus_base.specs.Whole.{ReadsAll}
-use Rattle.bus_base.specs.declared.reading.ReadEnd.{ReadEnd}
-use Rattle.bus_base.specs.declared.reading.ReadEnd.TheVariants.{TooLong}
-use Rattle.trace_text.specs.Whole.{trace_of}
+use Rattle.std.proofs.lemmas.Bool.Decides.{nat_tests}
+use Rattle.std.proofs.lemmas.List.{append-nil, reverse-append, length-reverse, length-take-le, length-append}
+use Rattle.bus_base.specs.Taken.{TakesFront}
+use Rattle.bus_lines.specs.declared.Row.{Row}
+use Rattle.bus_rules.specs.declared.verdict.Verdict.{Verdict}
+use Rattle.bus_rules.specs.Rules.{judged_whole}
+use Rattle.trace_text.specs.Bytes.{rows_of, end_of}
+use Rattle.trace_text.specs.Whole.{trace_of, with_rows}
 use Rattle.bus_cli.specs.Lines.{SaysLine, trace_line}
-use Rattle.bus_cli.specs.Judging.{verdict_of, verdict_on, JudgeSays, JudgeTells}
-use Rattle.bus_cli.specs.declared.status.Status.TheVariants.{BadTrace}
-use Rattle.bus_cli.proofs.TooLong.{map_some, first_of, IsLong, is_long}
+use Rattle.bus_cli.specs.Hearing.{verdict_at, heard_verdict, IsHearingOf}
+use Rattle.bus_cli.specs.declared.hearing.Hearing.{Hearing}
+use Rattle.bus_cli.specs.Judging.{verdict_of, verdict_on, SaysVerdict, JudgeSays, TellsVerdict, JudgeTells, HearsAll}
+use Rattle.bus_cli.specs.declared.judging.Cut.{Cut}
+use Rattle.bus_cli.specs.declared.judging.Cut.TheVariants.{TooLong}
+use Rattle.bus_cli.specs.declared.status.Status.{Status}
+use Rattle.bus_cli.specs.declared.status.Status.TheVariants.{Done, Words, Refused, Read, Write, Memory, Broken, BadTrace, NotBuilt}
+use Rattle.bus_cli.proofs.HeardSoFar.{HasRead, told, read_more}
+use Rattle.bus_cli.proofs.TooLong.{map_some, first_of}
+
+-- ---- the verdict on bytes that were heard, the newest first
+
+back : {A : Type 0} (xs : List A) → reverse (reverse xs) ≡ xs
+back [] = refl
+back (x ∷ xs) = ap (λ (ys : List _). reverse ys) (reverse-append (x ∷ []) xs) ∙ reverse-append (reverse xs) (x ∷ []) ∙ ap (λ (ys : List _). x ∷ ys) (back xs)
+
+of_end : (bytes : List ℕ) (end : Result ℕ ℕ) → verdict_of (with_rows (reverse (rows_of bytes)) end) ≡ verdict_at bytes end
+of_end bytes (Ok end) = ap (λ (rows : List Row). let r : Result Verdict ℕ = Ok (judged_whole rows end) in r) (back (rows_of bytes))
+of_end bytes (Err line) = refl
+
+not_first : {A : Type 0} (q : Bool) (x y : A) → q ≡ false → cond q x y ≡ y
+not_first true x y e = absurd cc
+not_first false x y e = refl
+
+pub heard_is : (bytes : List ℕ) → length bytes ≤ 1073741824 → heard_verdict (reverse bytes) ≡ verdict_on bytes
+heard_is bytes few =
+    let short : nat_lt 1073741824 (length bytes) ≡ false = grind (arith, nat_tests) in
+    let read : trace_of bytes ≡ with_rows (reverse (rows_of (reverse bytes))) (end_of (reverse bytes)) = not_first (nat_lt 1073741824 (length bytes)) (Err 0) (with_rows (reverse (rows_of (reverse bytes))) (end_of (reverse bytes))) short in
+    sym (ap (λ (r : Result (List Row × ℕ) ℕ). verdict_of r) read ∙ of_end (reverse bytes) (end_of (reverse bytes)))
+
+-- ---- the end of the input
+
+-- it is over
+pub hears_all : (old now next : Option (List ℕ)) (bytes into : List ℕ) (n : ℕ) (v : Result Verdict ℕ) → HasRead old now bytes → IfSome now (λ ys. TakesFront ys next into n) → n ≡ 0 → 0 < length into → length bytes ≤ 1073741824 → v ≡ heard_verdict (reverse bytes) → IfSome old (λ xs. (verdict_on xs ≡ v) × (next ≡ Some []))
+hears_all None now next bytes into n v so_far took none room few is = tt
+hears_all (Some xs) now next bytes into n v (rest, whole, left) took none room few is =
+    let t = told now next rest into n left took in
+    let over : rest ≡ [] = t.ends none room in
+    let all : xs ≡ bytes = whole ∙ ap (λ (ys : List ℕ). bytes ++ ys) over ∙ append-nil bytes in
+    (ap (λ (ys : List ℕ). verdict_on ys) all ∙ sym (heard_is bytes few) ∙ sym is, t.rest ∙ ap (λ (ys : List ℕ). let o : Option (List ℕ) = Some (drop n ys) in o) over ∙ ap (λ k. let o : Option (List ℕ) = Some (drop k []) in o) none)
+
+-- ---- what is said of the verdict is said of the input
+
+of_input : (status : Status) (input : Option (List ℕ)) (v : Result Verdict ℕ) (before : List ℕ) (written : Option (List ℕ)) (f g : ℕ) → IfSome input (λ xs. verdict_on xs ≡ v) → SaysVerdict status (Some v) before written f g → JudgeSays status input before written f g
+of_input status (Some xs) v before written f g same says = subst (λ (w : Result Verdict ℕ). SaysVerdict status (Some w) before written f g) (sym same) says
+of_input Done None v before written f g same says = (tt, says.1)
+of_input Write None v before written f g same says = (tt, says.1)
+of_input Broken None v before written f g same says = (says.0, says.1, tt, says.3)
+of_input BadTrace None v before written f g same says = (says.0, tt, says.2)
+of_input Words None v before written f g same says = says
+of_input Read None v before written f g same says = says
+of_input Memory None v before written f g same says = says
+of_input Refused None v before written f g same says = says
+of_input NotBuilt None v before written f g same says = says
+
+verdict_told : (input left : Option (List ℕ)) (v : Result Verdict ℕ) → HearsAll input left (Ok v) → IfSome input (λ xs. verdict_on xs ≡ v)
+verdict_told None left v h = tt
+verdict_told (Some xs) left v h = h.0
+
+pub said_of_all : (status : Status) (input left : Option (List ℕ)) (v : Result Verdict ℕ) (old written : Option (List ℕ)) (f g : ℕ) → HearsAll input left (Ok v) → IfSome old (λ before. SaysVerdict status (Some v) before written f g) → IfSome old (λ before. JudgeSays status input before written f g)
+said_of_all status input left v old written f g h says =
+    map_some old (λ before. SaysVerdict status (Some v) before written f g) (λ before. JudgeSays status input before written f g) (λ before. of_input status input v before written f g (verdict_told input left v h)) says
+
+pub told_of_all : (status : Status) (input left : Option (List ℕ)) (v : Result Verdict ℕ) → HearsAll input left (Ok v) → TellsVerdict status v → IfSome input (λ xs. JudgeTells status xs)
+told_of_all status None left v h tells = tt
+told_of_all status (Some xs) left v h tells = subst (λ (w : Result Verdict ℕ). TellsVerdict status w) (sym h.0) tells
+
+-- ---- more bytes than the limit
 
 too_long : (bytes : List ℕ) → 1073741824 < length bytes → verdict_on bytes ≡ Err 0
 too_long bytes h =
     let e : trace_of bytes ≡ Err 0 = first_of _ _ _ (lt-ltb 1073741824 (length bytes) h) in
     λ i. verdict_of (e i)
 
-pub told_long : (input left : Option (List ℕ)) (end : ReadEnd) → end ≡ TooLong → ReadsAll input left 1073741824 (Err end) → IfSome input (λ xs. JudgeTells BadTrace xs)
-told_long input left end e h =
-    map_some input (λ xs. 1073741824 < length xs) (λ xs. JudgeTells BadTrace xs) (λ xs long. (0, too_long xs long)) (is_long 1073741824 input left end e h)
+abbrev IsLong : Option (List ℕ) → Type 0
+IsLong input = IfSome input (λ xs. 1073741824 < length xs)
 
-said_beyond : (input : Option (List ℕ)) (text before : List ℕ) (written : Option (List ℕ)) (f g : ℕ) → IsLong 1073741824 input → text ≡ trace_line 0 → SaysLine text before written f g → JudgeSays BadTrace input before written f g
-said_beyond None text before written f g long same says =
-    (0, tt, subst (λ (x : List ℕ). SaysLine x before written f g) same says)
-said_beyond (Some xs) text before written f g long same says =
-    (0, too_long xs long, subst (λ (x : List ℕ). SaysLine x before written f g) same says)
+all_long : (input left : Option (List ℕ)) → HearsAll input left (Err TooLong) → IfSome input (λ xs. 1073741824 < length xs)
+all_long None left h = tt
+all_long (Some xs) left h = h.0
 
-pub said_long : (input left : Option (List ℕ)) (end : ReadEnd) (text : List ℕ) (old written : Option (List ℕ)) (f g : ℕ) → end ≡ TooLong → ReadsAll input left 1073741824 (Err end) → text ≡ trace_line 0 → IfSome old (λ before. SaysLine text before written f g) → IfSome old (λ before. JudgeSays BadTrace input before written f g)
-said_long input left end text old written f g e h same says =
-    map_some old (λ before. SaysLine text before written f g) (λ before. JudgeSays BadTrace input before written f g) (λ before. said_beyond input text before written f g (is_long 1073741824 input left end e h) same) says
+pub long_of : (input left : Option (List ℕ)) (end : Cut) → end ≡ TooLong → HearsAll input left (Err end) → IfSome input (λ xs. 1073741824 < length xs)
+long_of input left end e h =
+    let P : Cut → Type 0 = λ r. HearsAll input left (Err r) in
+    all_long input left (subst P e h)
+
+pub told_long : (input : Option (List ℕ)) → IfSome input (λ xs. 1073741824 < length xs) → IfSome input (λ xs. JudgeTells BadTrace xs)
+told_long input h = map_some input (λ xs. 1073741824 < length xs) (λ xs. JudgeTells BadTrace xs) (λ xs long. (0, too_long xs long)) h
+
+said_beyond : (input : Option (List ℕ)) (text before : List ℕ) (written : Option (List ℕ)) (f g : ℕ) → IsLong input → text ≡ trace_line 0 → SaysLine text before written f g → JudgeSays BadTrace input before written f g
+said_beyond None text before written f g long same says = (0, tt, subst (λ (x : List ℕ). SaysLine x before written f g) same says)
+said_beyond (Some xs) text before written f g long same says = (0, too_long xs long, subst (λ (x : List ℕ). SaysLine x before written f g) same says)
+
+pub said_long : (input : Option (List ℕ)) (text : List ℕ) (old written : Option (List ℕ)) (f g : ℕ) → IfSome input (λ xs. 1073741824 < length xs) → text ≡ trace_line 0 → IfSome old (λ before. SaysLine text before written f g) → IfSome old (λ before. JudgeSays BadTrace input before written f g)
+said_long input text old written f g long same says =
+    map_some old (λ before. SaysLine text before written f g) (λ before. JudgeSays BadTrace input before written f g) (λ before. said_beyond input text before written f g long same) says
+
+-- ---- a piece more
+
+pub hears_more : (old now next : Option (List ℕ)) (bytes into piece : List ℕ) (n count : ℕ) (j : Hearing) → HasRead old now bytes → IfSome now (λ ys. TakesFront ys next into n) → length bytes ≡ count → piece ≡ take n into → n ≤ length into → count + n ≤ 1073741824
+    → (length (reverse bytes) + length piece ≤ 1073741824 → IsHearingOf (reverse piece ++ reverse bytes) j)
+    → (xs : List ℕ) × HasRead old next xs × (length xs ≡ count + n) × IsHearingOf (reverse xs) j
+hears_more old now next bytes into piece n count j read took len same within few heard =
+    let size : length piece ≡ n = ap (λ (ys : List ℕ). length ys) same ∙ length-take-le n into within in
+    let all : reverse piece ++ reverse bytes ≡ reverse (bytes ++ take n into) = ap (λ (ys : List ℕ). reverse ys ++ reverse bytes) same ∙ sym (reverse-append bytes (take n into)) in
+    (bytes ++ take n into, read_more old now next bytes into n read took, length-append bytes (take n into) ∙ (λ i. len i + (length-take-le n into within) i),
+    subst (λ (xs : List ℕ). IsHearingOf xs j) all (heard (omega (arith, length-reverse bytes))))

@@ -1,4 +1,5 @@
 pub mod TooLong
 pub mod Refusals
 pub mod Heard
+pub mod HeardSoFar
 pub mod Judged

@@ -1,8 +1,9 @@
 //! The program.
-ghost use Rattle.std.specs.Prelude.{◌≡◌, ◌+◌, ◌≤◌, ◌↔◌, None, IfSome, map, string_bytes};
+ghost use Rattle.std.specs.Prelude.{◌≡◌, ◌+◌, ◌≤◌, ◌↔◌, Some, None, IfSome, map, string_bytes};
 ghost use Rattle.bus_base.specs.Faults.{HasRisen};
 ghost use Rattle.bus_base.specs.Whole.{TakesAtMost};
 ghost use Rattle.bus_cli.specs.Words.{word_of, limit_of};
+ghost use Rattle.bus_cli.specs.declared.words.Word.TheVariants as words_of;
 ghost use Rattle.bus_cli.specs.Ends.{Says, Reads, TellsForm, status_of, IsMet};
 
 use crate::judging::judge;
@@ -25,7 +26,7 @@ use std::sync::ledger::Ledger;
 ///
 /// The words are looked at first, then the input is read, then it is read as a scenario or a trace, then
 /// it is asked whether the scenario can be run so far, or the trace is judged; the first refusal is the
-/// answer. Want of memory can come at any time after the words.
+/// answer. Want of memory can come at any time after the word `run`; `judge` takes none.
 pub fn bus_main<S: Source, K: Sink, L: Ledger>(
     alloc: Global,
     words: &[String],
@@ -35,6 +36,7 @@ pub fn bus_main<S: Source, K: Sink, L: Ledger>(
 ) -> Status
     ensures words { (result ≡ Status.Words) ↔ (word_of (map string_bytes words.now) ≡ None) }
     ensures untouched { result ≡ Status.Words → input.new ≡ input.old }
+    ensures memory { word_of (map string_bytes words.now) ≡ Some words_of.Judge → result ≡ Status.Memory → ⊥ }
     ensures read { result ≡ Status.Read → HasRisen (S.faults input.old) (S.faults input.new) }
     ensures write { result ≡ Status.Write → HasRisen (K.faults out.old) (K.faults out.new) }
     ensures far { IfSome (word_of (map string_bytes words.now)) (λ word. IfSome (S.left input.old) (λ bytes. Reads (limit_of word) result bytes (S.left input.new))) }
@@ -49,7 +51,7 @@ pub fn bus_main<S: Source, K: Sink, L: Ledger>(
     let _ = steps;
     match word_of(words) {
         Some(Word::Run) => run(alloc, input, out),
-        Some(Word::Judge) => judge(alloc, input, out),
+        Some(Word::Judge) => judge(input, out),
         None => {
             say(out, b"usage: scsibus run [--short] | judge | make SEED N\n");
             Status::Words
