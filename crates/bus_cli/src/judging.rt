@@ -19,10 +19,8 @@ use trace_text::{LIMIT, TraceBad, read_trace};
 fn verdict_on(alloc: Global, bytes: &[u8]) -> Result<Verdict, TraceBad>
     ensures { Judges result (verdict_on bytes.now) }
 {
-    match read_trace(alloc, bytes) {
-        Ok(trace) => Ok(judge_plain(&trace.rows, trace.end)),
-        Err(bad) => Err(bad),
-    }
+    let trace = read_trace(alloc, bytes)?;
+    Ok(judge_plain(&trace.rows, trace.end))
 }
 
 // Judges the trace that these bytes say.
