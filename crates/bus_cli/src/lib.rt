@@ -1,13 +1,14 @@
-//! What the program does: it runs a scenario, and writes the report of the run.
+//! What the program does: it runs a scenario and writes the report of the run, or judges a trace.
 //!
 //! [`bus_main`] is the program over a source, a sink and a counter of steps: it looks at the words,
-//! reads the whole input, and writes the report or the one line of a refusal. [`Status`] is how it
-//! ended, and the program's exit status.
+//! reads the whole input, and writes the report, the verdict, or the one line of a refusal. [`Status`] is
+//! how it ended, and the program's exit status. `running` is the word `run`, `judging` the word `judge`.
 //!
 //! It stands on `scenario` for the text of scenarios, on `bus_engine` for which of them are run and
-//! their runs, on `trace_text` for the text of a report, and on `bus_base` for input and output. Its
-//! contract: each status has its cause, and with the right words, a scenario that can be run and no
-//! fault, exactly the report of the run of that scenario is written, or there was no memory.
+//! their runs, on `trace_text` for the texts of reports and traces, on `bus_rules` for the verdict on a
+//! trace, and on `bus_base` for input and output. Its contract: each status has its cause, and what is
+//! written is exactly what the bytes of the input ask for; with good words and no fault the status is the
+//! one that they ask for, or there was no memory.
 #![tactic(auto)]
 
 mod answers;

@@ -4,7 +4,7 @@ ghost use Rattle.bus_cli.specs.Lines.{SaysLine};
 
 use bus_base::{Sink, write_all};
 
-/// Writes the line of a refusal. A fault there changes nothing: the refusal stays.
+/// Writes a line. A fault there changes nothing: whoever says it has its status already.
 pub fn say<K: Sink>(out: &mut K, line: &[u8])
     ensures said { IfSome (K.written out.old) (λ before. SaysLine line.now before (K.written out.new) (K.faults out.old) (K.faults out.new)) }
     ensures never_falls { K.faults out.old ≤ K.faults out.new }
