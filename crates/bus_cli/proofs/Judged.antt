@@ -115,6 +115,9 @@ pub hears_more : (old now next : Option (List ℕ)) (bytes into piece : List ℕ
     → (xs : List ℕ) × HasRead old next xs × (length xs ≡ count + n) × IsHearingOf (reverse xs) j
 hears_more old now next bytes into piece n count j read took len same within few heard =
     let size : length piece ≡ n = ap (λ (ys : List ℕ). length ys) same ∙ length-take-le n into within in
-    let all : reverse piece ++ reverse bytes ≡ reverse (bytes ++ take n into) = ap (λ (ys : List ℕ). reverse ys ++ reverse bytes) same ∙ sym (reverse-append bytes (take n into)) in
-    (bytes ++ take n into, read_more old now next bytes into n read took, length-append bytes (take n into) ∙ (λ i. len i + (length-take-le n into within) i),
-    subst (λ (xs : List ℕ). IsHearingOf xs j) all (heard (omega (arith, length-reverse bytes))))
+    let all : reverse piece ++ reverse bytes ≡ reverse (bytes ++ take n into) = ap (λ (ys : List ℕ). reverse ys ++ reverse bytes) same ∙ sym (reverse-append bytes (take n into)) in (
+      bytes ++ take n into,
+      read_more old now next bytes into n read took,
+      length-append bytes (take n into) ∙ (λ i. len i + (length-take-le n into within) i),
+      subst (λ (xs : List ℕ). IsHearingOf xs j) all (heard (omega (arith, length-reverse bytes))),
+    )

@@ -5,8 +5,8 @@
 //! how it ended, and the program's exit status. `running` is the word `run`, `judging` the word `judge`.
 //!
 //! It stands on `scenario` for the text of scenarios, on `bus_engine` for which of them are run and
-//! their runs, on `trace_text` for the texts of reports and traces, on `bus_rules` for the verdict on a
-//! trace, and on `bus_base` for input and output. Its contract: each status has its cause, and what is
+//! their runs, on `trace_text` for the texts of reports and traces, on `bus_rules` and `trace_checker` for
+//! the verdict on a trace, and on `bus_base` for input and output. Its contract: each status has its cause, and what is
 //! written is exactly what the bytes of the input ask for; with good words and no fault the status is the
 //! one that they ask for, or there was no memory.
 #![tactic(auto)]
