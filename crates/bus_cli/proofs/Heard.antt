@@ -1,7 +1,5 @@
 -- Bytes that are heard one by one.
-use Rattle.std.proofs.Common.{ℕ, ◌≡◌, ◌+◌, ◌^◌, ◌<◌, ◌≤◌, List, [], ◌∷◌, ◌++◌, length, take, reverse, get_or, Result, Ok, Err, refl, sym, ap, subst, ◌∙◌, arith}
-use Rattle.std.proofs.lemmas.List.{reverse-append}
-use Rattle.std.proofs.lemmas.Grind.{take_at_read}
+use Rattle.std.proofs.Common.{ℕ, ◌≡◌, ◌+◌, ◌<◌, ◌≤◌, List, [], ◌∷◌, length, Result, Ok, sym, ap, subst, ◌∙◌, arith}
 use Rattle.bus_lines.specs.declared.Row.{Row}
 use Rattle.bus_rules.specs.declared.verdict.Verdict.{Verdict}
 use Rattle.bus_rules.specs.Rules.{judged_whole}
@@ -33,9 +31,3 @@ pub ends_well : (bytes : List ℕ) (read : Result ℕ ℕ) (end : ℕ) (v : Verd
 ends_well bytes read end v at is e =
     let last : Ok end ≡ end_of bytes = sym is ∙ at in
     ap (λ (x : Verdict). let r : Result Verdict ℕ = Ok x in r) e ∙ (λ i. verdict_at bytes (last i))
-
--- one byte more of a piece
-pub one_more : (piece : List ℕ) (k b : ℕ) (bytes : List ℕ) → k < length piece → b ≡ get_or piece k b → b ∷ (reverse (take k piece) ++ bytes) ≡ reverse (take (k + 1) piece) ++ bytes
-one_more piece k b bytes lt e =
-    let more : take (k + 1) piece ≡ take k piece ++ b ∷ [] = (take_at_read piece k b lt).1 ∙ ap (λ (x : ℕ). take k piece ++ x ∷ []) (sym e) in
-    sym (ap (λ (xs : List ℕ). reverse xs ++ bytes) more ∙ ap (λ (xs : List ℕ). xs ++ bytes) (reverse-append (take k piece) (b ∷ [])))

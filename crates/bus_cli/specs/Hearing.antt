@@ -1,5 +1,5 @@
 -- A trace text that is judged as its bytes come.
-use Rattle.std.specs.Prelude.{ℕ, List, length, reverse, Result, Ok, Err}
+use Rattle.std.specs.Prelude.{ℕ, List, Result, Ok, Err}
 use Rattle.trace_text.specs.Bytes.{IsReaderOf, rows_of, end_of}
 use Rattle.trace_checker.specs.Judging.{IsJudgeOf}
 use Rattle.bus_rules.specs.declared.verdict.Verdict.{Verdict}
