@@ -4,9 +4,8 @@
     benches/judge.py OUR_PROGRAM OTHER_PROGRAM [ROUNDS]
 
 The other program makes the trace (`make 7 4096`, run). Prints, for each length, the best processor time of each
-in seconds and the ratio, and our peak resident memory in MiB.
+in seconds and the ratio, and our peak resident memory in MiB, which GNU time tells (`/usr/bin/time`).
 """
-import os
 import subprocess
 import sys
 import tempfile
@@ -29,12 +28,12 @@ def front(rows, count):
 
 def once(program, path):
     """Processor time in seconds, peak memory in MiB, and the answer."""
-    with open(path, "rb") as text, tempfile.TemporaryFile() as out:
-        child = subprocess.Popen([program, "judge"], stdin=text, stdout=out)
-        _, _, usage = os.wait4(child.pid, 0)
-        child.returncode = 0
-        out.seek(0)
-        return usage.ru_utime + usage.ru_stime, usage.ru_maxrss / 1024, out.read().decode().strip()
+    with open(path, "rb") as text:
+        done = subprocess.run(
+            ["/usr/bin/time", "-f", "%U %S %M", program, "judge"], stdin=text, capture_output=True, check=False
+        )
+    user, system, memory = done.stderr.split()[-3:]
+    return float(user) + float(system), int(memory) / 1024, done.stdout.decode().strip()
 
 
 def best(program, path, rounds):
