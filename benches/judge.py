@@ -6,6 +6,7 @@
 The other program makes the trace (`make 7 4096`, run). Prints, for each length, the best processor time of each
 in seconds and the ratio, and our peak resident memory in MiB, which GNU time tells (`/usr/bin/time`).
 """
+import os
 import subprocess
 import sys
 import tempfile
@@ -26,19 +27,27 @@ def front(rows, count):
     return b"\n".join([b"trace 1"] + part + [b"end " + part[-1].split(b" ")[0], b""])
 
 
-def once(program, path):
-    """Processor time in seconds, peak memory in MiB, and the answer."""
-    with open(path, "rb") as text:
-        done = subprocess.run(
-            ["/usr/bin/time", "-f", "%U %S %M", program, "judge"], stdin=text, capture_output=True, check=False
-        )
-    user, system, memory = done.stderr.split()[-3:]
-    return float(user) + float(system), int(memory) / 1024, done.stdout.decode().strip()
+def seconds(program, path):
+    """Processor time in seconds, and the answer."""
+    with open(path, "rb") as text, tempfile.TemporaryFile() as out:
+        child = subprocess.Popen([program, "judge"], stdin=text, stdout=out)
+        _, _, usage = os.wait4(child.pid, 0)
+        child.returncode = 0
+        out.seek(0)
+        return usage.ru_utime + usage.ru_stime, out.read().decode().strip()
 
 
 def best(program, path, rounds):
-    runs = [once(program, path) for _ in range(rounds)]
-    return min(run[0] for run in runs), max(run[1] for run in runs), runs[0][2]
+    runs = [seconds(program, path) for _ in range(rounds)]
+    return min(run[0] for run in runs), runs[0][1]
+
+
+def peak(program, path):
+    """Peak resident memory in MiB."""
+    with open(path, "rb") as text:
+        command = ["/usr/bin/time", "-f", "%M", program, "judge"]
+        done = subprocess.run(command, stdin=text, capture_output=True, check=False)
+    return int(done.stderr.split()[-1]) / 1024
 
 
 def main():
@@ -50,8 +59,9 @@ def main():
         with tempfile.NamedTemporaryFile() as file:
             file.write(text)
             file.flush()
-            own, memory, answer = best(ours, file.name, rounds)
-            their, _, their_answer = best(other, file.name, rounds)
+            own, answer = best(ours, file.name, rounds)
+            their, their_answer = best(other, file.name, rounds)
+            memory = peak(ours, file.name)
         if answer != their_answer:
             sys.exit("answers differ: %r, %r" % (answer, their_answer))
         print(
