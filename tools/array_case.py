@@ -1,7 +1,7 @@
 #!/usr/bin/env python3
 """Turns scenarios and their reports into lemmas that play each history on the plain disk array.
 
-    tools/array_case.py tools/array_cases/*.scn > crates/disk_array/proofs/Stories.antt
+    tools/array_case.py tools/cases/*.scn > crates/disk_array/proofs/Stories.antt
 
 Beside each NAME.scn stands its report NAME.out, which comes from outside this repository. The lemmas say that the
 history of the report, played from the scenario, is allowed and leaves the blocks of the report; that the replies are
@@ -185,4 +185,5 @@ def main():
         case(name if name[0].isalpha() else "case_" + name, scn, scn[: -len("scn")] + "out")
 
 
-main()
+if __name__ == "__main__":
+    main()

@@ -1,0 +1,11 @@
+pub mod Wires
+pub mod Items
+pub mod Carried
+pub mod Links
+pub mod Story
+pub mod Shown
+pub mod Told
+pub mod Given
+pub mod Outcomes
+pub mod Right
+pub mod Budget

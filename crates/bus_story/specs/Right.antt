@@ -1,0 +1,65 @@
+-- A trace, its history, the outcomes and the blocks belong together: the history is what the rows tell, the plain disk
+-- array permits it and holds these blocks, the outcomes follow, and each command that ran and ended carried exactly its
+-- own bytes.
+use Rattle.std.specs.Prelude.{ℕ, ◌≡◌, Bool, true, false, not, ◌&&◌, ◌||◌, ◌==◌, List, [], ◌∷◌, reverse, Option, Some, None, is_some, if◌then◌else◌}
+use Rattle.std.specs.List.{list_any}
+use Rattle.bus_base.specs.declared.ProcId.{ProcId}
+use Rattle.bus_base.specs.declared.Event.{Event}
+use Rattle.bus_base.specs.declared.Event.TheVariants as events
+use Rattle.bus_lines.specs.declared.Row.{Row}
+use Rattle.cdb_codec.specs.Cdb.{command_of}
+use Rattle.scenario.specs.Value.{ScenarioValue}
+use Rattle.scenario.specs.Needs.{is_write}
+use Rattle.disk_array.specs.Processes.{Process, process_of, same_id}
+use Rattle.disk_array.specs.Exec.{Reply}
+use Rattle.disk_array.specs.Play.{play, disks_of, reply_of}
+use Rattle.bus_story.specs.Carried.{Carried, carried_of}
+use Rattle.bus_story.specs.Story.{Story}
+use Rattle.bus_story.specs.Told.{story}
+use Rattle.bus_story.specs.Outcomes.{Outcome, outcomes}
+
+abbrev pub same_bytes : List ℕ → List ℕ → Bool
+same_bytes [] [] = true
+same_bytes [] (b ∷ bytes) = false
+same_bytes (a ∷ others) [] = false
+same_bytes (a ∷ others) (b ∷ bytes) = a == b && same_bytes others bytes
+
+abbrev pub is_run_of : ProcId → Event → Bool
+is_run_of id (events.Run p) = same_id p id
+is_run_of id _ = false
+
+abbrev pub has_run : List Event → ProcId → Bool
+has_run history id = list_any (λ e. is_run_of id e) history
+
+-- The bytes that a process moves: those that its initiator sends with a write that ended GOOD, else its reply's.
+abbrev pub moved_by : Process → Reply → List ℕ
+moved_by p reply = if is_write (command_of p.cdb) && reply.status == 0x00 then p.sent else reply.bytes
+
+abbrev pub carried_just : Carried → List ℕ → List ℕ → ℕ → Bool
+carried_just k block moved status =
+    same_bytes k.command.bytes block && same_bytes k.moved.bytes moved && same_bytes k.status.bytes (status ∷ [])
+
+abbrev pub carried_by : Carried → Option Process → Option Reply → ℕ → Bool
+carried_by k None reply status = false
+carried_by k (Some p) None status = false
+carried_by k (Some p) (Some reply) status = carried_just k p.cdb (moved_by p reply) status
+
+-- A process that ran and ended carried just its command block, just the bytes that it moves, and its status.
+abbrev pub is_carried : ScenarioValue → Story → Event → Bool
+is_carried s b (events.End id status) =
+    not (has_run b.history id)
+    || carried_by (carried_of b.carried id) (process_of s id) (reply_of (play s b.history) id) status
+is_carried s b _ = true
+
+abbrev pub all_carried : ScenarioValue → Story → List Event → Bool
+all_carried s b [] = true
+all_carried s b (e ∷ history) = is_carried s b e && all_carried s b history
+
+-- ---- all of it
+
+pub record Right (s : ScenarioValue) (rows : List Row) (history : List Event) (ended : List (Option Outcome)) (disks : List (List (List ℕ))) : Type 0 where
+  pub told : (story s (reverse rows)).history ≡ reverse history
+  pub permitted : is_some (play s (reverse history)) ≡ true
+  pub blocks : disks_of (play s (reverse history)) ≡ disks
+  pub replies : outcomes s (story s (reverse rows)) ≡ ended
+  pub carried : all_carried s (story s (reverse rows)) (reverse history) ≡ true

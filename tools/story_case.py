@@ -1,0 +1,91 @@
+#!/usr/bin/env python3
+"""Turns scenarios and their reports into lemmas that read each history off the rows of its trace.
+
+    tools/story_case.py tools/cases/*.scn > crates/bus_story/proofs/Cases.antt
+
+Beside each NAME.scn stands its report NAME.out, which comes from outside this repository. The lemmas say that the
+history which the rows tell is that of the report.
+"""
+import pathlib
+import sys
+
+import array_case
+from array_case import items
+
+UNFOLDING = "unfolding need_of sent_of ones union_below line_of form_out form_in"
+
+HEAD = """-- Whole runs, read off the rows of their traces and computed: the histories are those of the reports, which an
+-- independent simulator printed. Written by tools/story_case.py.
+use Rattle.bus_lines.specs.LineSet.{set_of, line_of}
+use Rattle.bus_lines.specs.View.{union_below}
+use Rattle.bus_lines.specs.declared.Row.{Row}
+use Rattle.bus_lines.specs.declared.Kind.TheVariants.{Drives, Fault}
+use Rattle.msg_grammar.specs.Messages.{form_out, form_in}
+use Rattle.bus_story.specs.Told.{story}
+use Rattle.bus_story.specs.Outcomes.{outcomes, ended_good, ended_check, ended_full, ended_unanswered, ended_lost, ended_reset, ended_aborted}
+use Rattle.bus_story.specs.Right.{all_carried}
+
+abbrev drive : ℕ → ℕ → ℕ → Row
+drive time dev lines = record { time = time; dev = dev; kind = Drives (set_of lines) }
+
+abbrev strike : ℕ → ℕ → ℕ → Row
+strike time dev bit = record { time = time; dev = dev; kind = Fault bit }
+"""
+
+
+def rows(path):
+    out = []
+    for line in open(path):
+        w = line.split()
+        if w[0] == "end":
+            break
+        if w[0].isdigit():
+            out.append(row(w))
+    return out
+
+
+def row(w):
+    if w[2].startswith("f") and len(w[2]) == 2:
+        return "strike %s %s %s" % (w[0], w[1], w[2][1:])
+    return "drive %s %s 0x%s" % (w[0], w[1], w[2])
+
+
+def outcome(w):
+    """The outcome that a line of the replies names."""
+    if w[2] == "GOOD":
+        return "ended_good %s" % array_case.octets(w[3] if len(w) > 3 else "")
+    if w[2] == "CHECK" and w[3] == "none":
+        return "ended_check None"
+    if w[2] == "CHECK":
+        key, asc, ascq = bytes.fromhex(w[3])
+        return "ended_check (Some (%s))" % array_case.record(key=key, asc=asc, ascq=ascq)
+    return {"QFULL": "ended_full", "SELTIMEOUT": "ended_unanswered", "LOST": "ended_lost", "RESET": "ended_reset", "ABORTED": "ended_aborted"}[w[2]]
+
+
+def main():
+    lines = (HEAD + array_case.HEAD).splitlines()
+    uses = [line for line in lines if line.startswith("use ")]
+    print("\n".join(HEAD.splitlines()[:2] + uses + [line for line in lines if line not in uses and not line.startswith("-- ")]))
+    for scn in sys.argv[1:]:
+        name = pathlib.Path(scn).stem
+        name = (name if name[0].isalpha() else "case_" + name) + "_run"
+        out = scn[: -len("scn")] + "out"
+        version, s = array_case.scenario(scn)
+        parts = array_case.report(out)
+        print("-- ---- %s\n" % name)
+        print("abbrev %s : ScenarioValue\n%s = record {\n  version = %d;" % (name, name, version))
+        for key, values in s.items():
+            print("  %s = %s;" % (key, items(values)))
+        print("}\n")
+        print("abbrev %s_rows : List Row\n%s_rows = %s\n" % (name, name, items(rows(out))))
+        print("abbrev %s_events : List Event\n%s_events = %s\n" % (name, name, items(array_case.event(w) for w in parts["history"])))
+        print("%s_told : (story %s (reverse %s_rows)).history ≡ reverse %s_events" % (name, name, name, name))
+        print("%s\n%s_told = refl\n" % (UNFOLDING, name))
+        wanted = [outcome(w) for w in parts["replies"]]
+        print("%s_outcomes : outcomes %s (story %s (reverse %s_rows)) ≡ %s" % (name, name, name, name, items("Some (%s)" % w for w in wanted)))
+        print("%s\n%s_outcomes = refl\n" % (UNFOLDING, name))
+        print("%s_carried : all_carried %s (story %s (reverse %s_rows)) (reverse %s_events) ≡ true" % (name, name, name, name, name))
+        print("%s\n%s_carried = refl\n" % (UNFOLDING, name))
+
+
+main()
