@@ -1,7 +1,7 @@
 -- Small traces and their verdicts, computed: for each rule one that breaks it and nothing else before, and
 -- beside it one that keeps it by a nanosecond or a line. Written by tools/rule_cases.py from
 -- tools/rule_cases.txt, whose verdicts come from an independent judge.
-use Rattle.std.proofs.Common.{ℕ, ◌≡◌, [], ◌∷◌, reverse, refl}
+use Rattle.std.proofs.Common.{ℕ, ◌≡◌, List, [], ◌∷◌, reverse, refl}
 use lib.Count.{ones}
 use Rattle.bus_lines.specs.LineSet.{set_of, line_of}
 use Rattle.bus_lines.specs.View.{union_below}
@@ -661,6 +661,34 @@ leaves_answered = refl
 frees_unanswered : judged_whole (reverse (drive 1200 7 0x00280 ∷ drive 3600 7 0x00680 ∷ drive 4800 7 0x10781 ∷ drive 4890 7 0x10581 ∷ drive 5290 0 0x00200 ∷ drive 5380 7 0x10000 ∷ drive 5380 0 0x02a00 ∷ drive 5780 0 0x06a00 ∷ drive 5780 7 0x101c0 ∷ drive 5835 7 0x181c0 ∷ drive 5835 0 0x02a00 ∷ drive 5835 7 0x10000 ∷ drive 5835 0 0x06a00 ∷ drive 5835 7 0x10001 ∷ drive 5890 7 0x18001 ∷ drive 5890 0 0x02a00 ∷ drive 5890 7 0x10000 ∷ drive 5890 0 0x06a00 ∷ drive 5890 7 0x10103 ∷ drive 5945 7 0x18103 ∷ drive 5945 0 0x02a00 ∷ drive 5945 7 0x10000 ∷ drive 5945 0 0x06a00 ∷ drive 5945 7 0x10001 ∷ drive 6000 7 0x18001 ∷ drive 6000 0 0x02a00 ∷ drive 6000 7 0x10000 ∷ drive 6000 0 0x06a00 ∷ drive 6000 7 0x10032 ∷ drive 6055 7 0x18032 ∷ drive 6055 0 0x02a00 ∷ drive 6055 7 0x10000 ∷ drive 6055 0 0x06a00 ∷ drive 6055 7 0x00008 ∷ drive 6145 7 0x08008 ∷ drive 6145 0 0x02a00 ∷ drive 6145 7 0x00000 ∷ drive 6145 0 0x03a00 ∷ drive 6945 0 0x03a01 ∷ drive 7000 0 0x07a01 ∷ drive 7000 7 0x08000 ∷ drive 7000 0 0x03a00 ∷ drive 7000 7 0x00000 ∷ drive 7000 0 0x03b03 ∷ drive 7055 0 0x07b03 ∷ drive 7055 7 0x08000 ∷ drive 7055 0 0x03a00 ∷ drive 7055 7 0x00000 ∷ drive 7055 0 0x03a01 ∷ drive 7110 0 0x07a01 ∷ drive 7110 7 0x08000 ∷ drive 7110 0 0x03a00 ∷ drive 7110 7 0x00000 ∷ drive 7110 0 0x03a32 ∷ drive 7165 0 0x07a32 ∷ drive 7165 7 0x08000 ∷ drive 7165 0 0x03a00 ∷ drive 7165 7 0x00000 ∷ drive 7165 0 0x03a08 ∷ drive 7220 0 0x07a08 ∷ drive 7220 7 0x08000 ∷ drive 7220 0 0x03a00 ∷ drive 7220 7 0x00000 ∷ drive 7220 0 0x00a00 ∷ drive 7620 0 0x04a00 ∷ drive 7620 7 0x00008 ∷ drive 7675 7 0x08008 ∷ drive 7675 0 0x00a00 ∷ drive 7675 7 0x00000 ∷ drive 7675 0 0x04a00 ∷ drive 7675 7 0x00100 ∷ drive 7730 7 0x08100 ∷ drive 7730 0 0x00a00 ∷ drive 7730 7 0x00000 ∷ drive 7730 0 0x04a00 ∷ drive 7730 7 0x00100 ∷ drive 7785 7 0x08100 ∷ drive 7785 0 0x00a00 ∷ drive 7785 7 0x00000 ∷ drive 7785 0 0x04a00 ∷ drive 7785 7 0x00100 ∷ drive 7840 7 0x08100 ∷ drive 7840 0 0x00a00 ∷ drive 7840 7 0x00000 ∷ drive 7840 0 0x04a00 ∷ drive 7840 7 0x00001 ∷ drive 7895 7 0x08001 ∷ drive 7895 0 0x00a00 ∷ drive 7895 7 0x00000 ∷ drive 7895 0 0x04a00 ∷ drive 7895 7 0x00100 ∷ drive 7950 7 0x08100 ∷ drive 7950 0 0x00a00 ∷ drive 7950 7 0x00000 ∷ drive 7950 0 0x01200 ∷ drive 8750 0 0x01201 ∷ drive 8805 0 0x05201 ∷ drive 8895 0 0x01201 ∷ drive 9005 0 0x00000 ∷ [])) 9005 ≡ Broken 99 23
 unfolding union_below seen_with line_of ones form_out form_in
 frees_unanswered = refl
+
+out_set_up_54 : judged_whole (reverse (drive 1200 7 0x00280 ∷ drive 3600 7 0x00680 ∷ drive 4800 7 0x10781 ∷ drive 4890 7 0x10581 ∷ drive 5290 0 0x00200 ∷ drive 5380 7 0x10000 ∷ drive 5380 0 0x02a00 ∷ drive 5780 0 0x06a00 ∷ drive 5780 7 0x101c0 ∷ drive 5835 7 0x181c0 ∷ drive 5835 0 0x02a00 ∷ drive 5835 7 0x10000 ∷ drive 5835 0 0x06a00 ∷ drive 5835 7 0x10001 ∷ drive 5890 7 0x18001 ∷ drive 5890 0 0x02a00 ∷ drive 5890 7 0x10000 ∷ drive 5890 0 0x06a00 ∷ drive 5890 7 0x10103 ∷ drive 5945 7 0x18103 ∷ drive 5945 0 0x02a00 ∷ drive 5945 7 0x10000 ∷ drive 5945 0 0x06a00 ∷ drive 5945 7 0x10001 ∷ drive 6000 7 0x18001 ∷ drive 6000 0 0x02a00 ∷ drive 6000 7 0x10000 ∷ drive 6000 0 0x06a00 ∷ drive 6000 7 0x10032 ∷ drive 6055 7 0x18032 ∷ drive 6055 0 0x02a00 ∷ drive 6055 7 0x10000 ∷ drive 6055 0 0x06a00 ∷ drive 6055 7 0x0010a ∷ drive 6145 7 0x0810a ∷ drive 6145 0 0x02a00 ∷ drive 6145 7 0x00000 ∷ drive 6145 0 0x03a00 ∷ drive 6945 0 0x03a01 ∷ drive 7000 0 0x07a01 ∷ drive 7000 7 0x08000 ∷ drive 7000 0 0x03a00 ∷ drive 7000 7 0x00000 ∷ drive 7000 0 0x03b03 ∷ drive 7055 0 0x07b03 ∷ drive 7055 7 0x08000 ∷ drive 7055 0 0x03a00 ∷ drive 7055 7 0x00000 ∷ drive 7055 0 0x03a01 ∷ drive 7110 0 0x07a01 ∷ drive 7110 7 0x08000 ∷ drive 7110 0 0x03a00 ∷ drive 7110 7 0x00000 ∷ drive 7110 0 0x03a32 ∷ drive 7165 0 0x07a32 ∷ drive 7165 7 0x08000 ∷ drive 7165 0 0x03a00 ∷ drive 7165 7 0x00000 ∷ drive 7165 0 0x03a08 ∷ drive 7220 0 0x07a08 ∷ drive 7220 7 0x08000 ∷ drive 7220 0 0x03a00 ∷ drive 7220 7 0x00000 ∷ drive 7220 0 0x00a00 ∷ drive 7620 0 0x04a00 ∷ drive 7620 7 0x0010a ∷ drive 7675 7 0x0810a ∷ drive 7675 0 0x00a00 ∷ drive 7675 7 0x00000 ∷ drive 7675 0 0x04a00 ∷ drive 7675 7 0x00100 ∷ drive 7730 7 0x08100 ∷ drive 7730 0 0x00a00 ∷ drive 7730 7 0x00000 ∷ drive 7730 0 0x04a00 ∷ drive 7730 7 0x00100 ∷ drive 7785 7 0x08100 ∷ drive 7785 0 0x00a00 ∷ drive 7785 7 0x00000 ∷ drive 7785 0 0x04a00 ∷ drive 7785 7 0x00100 ∷ drive 7840 7 0x08100 ∷ drive 7840 0 0x00a00 ∷ drive 7840 7 0x00000 ∷ drive 7840 0 0x04a00 ∷ drive 7840 7 0x00001 ∷ drive 7895 7 0x08001 ∷ drive 7895 0 0x00a00 ∷ drive 7895 7 0x00000 ∷ drive 7895 0 0x04a00 ∷ drive 7895 7 0x00100 ∷ drive 7950 7 0x08100 ∷ drive 7950 0 0x00a00 ∷ drive 7950 7 0x00000 ∷ drive 7950 0 0x00200 ∷ drive 8350 0 0x04200 ∷ drive 8350 7 0x00001 ∷ drive 8404 7 0x08001 ∷ [])) 8404 ≡ Broken 98 22
+unfolding union_below seen_with line_of ones form_out form_in
+out_set_up_54 = refl
+
+out_set_up_55 : judged_whole (reverse (drive 1200 7 0x00280 ∷ drive 3600 7 0x00680 ∷ drive 4800 7 0x10781 ∷ drive 4890 7 0x10581 ∷ drive 5290 0 0x00200 ∷ drive 5380 7 0x10000 ∷ drive 5380 0 0x02a00 ∷ drive 5780 0 0x06a00 ∷ drive 5780 7 0x101c0 ∷ drive 5835 7 0x181c0 ∷ drive 5835 0 0x02a00 ∷ drive 5835 7 0x10000 ∷ drive 5835 0 0x06a00 ∷ drive 5835 7 0x10001 ∷ drive 5890 7 0x18001 ∷ drive 5890 0 0x02a00 ∷ drive 5890 7 0x10000 ∷ drive 5890 0 0x06a00 ∷ drive 5890 7 0x10103 ∷ drive 5945 7 0x18103 ∷ drive 5945 0 0x02a00 ∷ drive 5945 7 0x10000 ∷ drive 5945 0 0x06a00 ∷ drive 5945 7 0x10001 ∷ drive 6000 7 0x18001 ∷ drive 6000 0 0x02a00 ∷ drive 6000 7 0x10000 ∷ drive 6000 0 0x06a00 ∷ drive 6000 7 0x10032 ∷ drive 6055 7 0x18032 ∷ drive 6055 0 0x02a00 ∷ drive 6055 7 0x10000 ∷ drive 6055 0 0x06a00 ∷ drive 6055 7 0x0010a ∷ drive 6145 7 0x0810a ∷ drive 6145 0 0x02a00 ∷ drive 6145 7 0x00000 ∷ drive 6145 0 0x03a00 ∷ drive 6945 0 0x03a01 ∷ drive 7000 0 0x07a01 ∷ drive 7000 7 0x08000 ∷ drive 7000 0 0x03a00 ∷ drive 7000 7 0x00000 ∷ drive 7000 0 0x03b03 ∷ drive 7055 0 0x07b03 ∷ drive 7055 7 0x08000 ∷ drive 7055 0 0x03a00 ∷ drive 7055 7 0x00000 ∷ drive 7055 0 0x03a01 ∷ drive 7110 0 0x07a01 ∷ drive 7110 7 0x08000 ∷ drive 7110 0 0x03a00 ∷ drive 7110 7 0x00000 ∷ drive 7110 0 0x03a32 ∷ drive 7165 0 0x07a32 ∷ drive 7165 7 0x08000 ∷ drive 7165 0 0x03a00 ∷ drive 7165 7 0x00000 ∷ drive 7165 0 0x03a08 ∷ drive 7220 0 0x07a08 ∷ drive 7220 7 0x08000 ∷ drive 7220 0 0x03a00 ∷ drive 7220 7 0x00000 ∷ drive 7220 0 0x00a00 ∷ drive 7620 0 0x04a00 ∷ drive 7620 7 0x0010a ∷ drive 7675 7 0x0810a ∷ drive 7675 0 0x00a00 ∷ drive 7675 7 0x00000 ∷ drive 7675 0 0x04a00 ∷ drive 7675 7 0x00100 ∷ drive 7730 7 0x08100 ∷ drive 7730 0 0x00a00 ∷ drive 7730 7 0x00000 ∷ drive 7730 0 0x04a00 ∷ drive 7730 7 0x00100 ∷ drive 7785 7 0x08100 ∷ drive 7785 0 0x00a00 ∷ drive 7785 7 0x00000 ∷ drive 7785 0 0x04a00 ∷ drive 7785 7 0x00100 ∷ drive 7840 7 0x08100 ∷ drive 7840 0 0x00a00 ∷ drive 7840 7 0x00000 ∷ drive 7840 0 0x04a00 ∷ drive 7840 7 0x00001 ∷ drive 7895 7 0x08001 ∷ drive 7895 0 0x00a00 ∷ drive 7895 7 0x00000 ∷ drive 7895 0 0x04a00 ∷ drive 7895 7 0x00100 ∷ drive 7950 7 0x08100 ∷ drive 7950 0 0x00a00 ∷ drive 7950 7 0x00000 ∷ drive 7950 0 0x00200 ∷ drive 8350 0 0x04200 ∷ drive 8350 7 0x00001 ∷ drive 8405 7 0x08001 ∷ [])) 8405 ≡ Lawful
+unfolding union_below seen_with line_of ones form_out form_in
+out_set_up_55 = refl
+
+out_hold_99 : judged_whole (reverse (drive 1200 7 0x00280 ∷ drive 3600 7 0x00680 ∷ drive 4800 7 0x10781 ∷ drive 4890 7 0x10581 ∷ drive 5290 0 0x00200 ∷ drive 5380 7 0x10000 ∷ drive 5380 0 0x02a00 ∷ drive 5780 0 0x06a00 ∷ drive 5780 7 0x101c0 ∷ drive 5835 7 0x181c0 ∷ drive 5835 0 0x02a00 ∷ drive 5835 7 0x10000 ∷ drive 5835 0 0x06a00 ∷ drive 5835 7 0x10001 ∷ drive 5890 7 0x18001 ∷ drive 5890 0 0x02a00 ∷ drive 5890 7 0x10000 ∷ drive 5890 0 0x06a00 ∷ drive 5890 7 0x10103 ∷ drive 5945 7 0x18103 ∷ drive 5945 0 0x02a00 ∷ drive 5945 7 0x10000 ∷ drive 5945 0 0x06a00 ∷ drive 5945 7 0x10001 ∷ drive 6000 7 0x18001 ∷ drive 6000 0 0x02a00 ∷ drive 6000 7 0x10000 ∷ drive 6000 0 0x06a00 ∷ drive 6000 7 0x10032 ∷ drive 6055 7 0x18032 ∷ drive 6055 0 0x02a00 ∷ drive 6055 7 0x10000 ∷ drive 6055 0 0x06a00 ∷ drive 6055 7 0x0010a ∷ drive 6145 7 0x0810a ∷ drive 6145 0 0x02a00 ∷ drive 6145 7 0x00000 ∷ drive 6145 0 0x03a00 ∷ drive 6945 0 0x03a01 ∷ drive 7000 0 0x07a01 ∷ drive 7000 7 0x08000 ∷ drive 7000 0 0x03a00 ∷ drive 7000 7 0x00000 ∷ drive 7000 0 0x03b03 ∷ drive 7055 0 0x07b03 ∷ drive 7055 7 0x08000 ∷ drive 7055 0 0x03a00 ∷ drive 7055 7 0x00000 ∷ drive 7055 0 0x03a01 ∷ drive 7110 0 0x07a01 ∷ drive 7110 7 0x08000 ∷ drive 7110 0 0x03a00 ∷ drive 7110 7 0x00000 ∷ drive 7110 0 0x03a32 ∷ drive 7165 0 0x07a32 ∷ drive 7165 7 0x08000 ∷ drive 7165 0 0x03a00 ∷ drive 7165 7 0x00000 ∷ drive 7165 0 0x03a08 ∷ drive 7220 0 0x07a08 ∷ drive 7220 7 0x08000 ∷ drive 7220 0 0x03a00 ∷ drive 7220 7 0x00000 ∷ drive 7220 0 0x00a00 ∷ drive 7620 0 0x04a00 ∷ drive 7620 7 0x0010a ∷ drive 7675 7 0x0810a ∷ drive 7675 0 0x00a00 ∷ drive 7675 7 0x00000 ∷ drive 7675 0 0x04a00 ∷ drive 7675 7 0x00100 ∷ drive 7730 7 0x08100 ∷ drive 7730 0 0x00a00 ∷ drive 7730 7 0x00000 ∷ drive 7730 0 0x04a00 ∷ drive 7730 7 0x00100 ∷ drive 7785 7 0x08100 ∷ drive 7785 0 0x00a00 ∷ drive 7785 7 0x00000 ∷ drive 7785 0 0x04a00 ∷ drive 7785 7 0x00100 ∷ drive 7840 7 0x08100 ∷ drive 7840 0 0x00a00 ∷ drive 7840 7 0x00000 ∷ drive 7840 0 0x04a00 ∷ drive 7840 7 0x00001 ∷ drive 7895 7 0x08001 ∷ drive 7895 0 0x00a00 ∷ drive 7895 7 0x00000 ∷ drive 7895 0 0x04a00 ∷ drive 7895 7 0x00100 ∷ drive 7950 7 0x08100 ∷ drive 7950 0 0x00a00 ∷ drive 7950 7 0x00000 ∷ drive 7950 0 0x00200 ∷ drive 8350 0 0x04200 ∷ drive 8350 7 0x00001 ∷ drive 8405 7 0x08001 ∷ drive 8440 0 0x00200 ∷ drive 8495 7 0x00001 ∷ drive 8504 7 0x00000 ∷ [])) 8504 ≡ Broken 101 22
+unfolding union_below seen_with line_of ones form_out form_in
+out_hold_99 = refl
+
+out_hold_100 : judged_whole (reverse (drive 1200 7 0x00280 ∷ drive 3600 7 0x00680 ∷ drive 4800 7 0x10781 ∷ drive 4890 7 0x10581 ∷ drive 5290 0 0x00200 ∷ drive 5380 7 0x10000 ∷ drive 5380 0 0x02a00 ∷ drive 5780 0 0x06a00 ∷ drive 5780 7 0x101c0 ∷ drive 5835 7 0x181c0 ∷ drive 5835 0 0x02a00 ∷ drive 5835 7 0x10000 ∷ drive 5835 0 0x06a00 ∷ drive 5835 7 0x10001 ∷ drive 5890 7 0x18001 ∷ drive 5890 0 0x02a00 ∷ drive 5890 7 0x10000 ∷ drive 5890 0 0x06a00 ∷ drive 5890 7 0x10103 ∷ drive 5945 7 0x18103 ∷ drive 5945 0 0x02a00 ∷ drive 5945 7 0x10000 ∷ drive 5945 0 0x06a00 ∷ drive 5945 7 0x10001 ∷ drive 6000 7 0x18001 ∷ drive 6000 0 0x02a00 ∷ drive 6000 7 0x10000 ∷ drive 6000 0 0x06a00 ∷ drive 6000 7 0x10032 ∷ drive 6055 7 0x18032 ∷ drive 6055 0 0x02a00 ∷ drive 6055 7 0x10000 ∷ drive 6055 0 0x06a00 ∷ drive 6055 7 0x0010a ∷ drive 6145 7 0x0810a ∷ drive 6145 0 0x02a00 ∷ drive 6145 7 0x00000 ∷ drive 6145 0 0x03a00 ∷ drive 6945 0 0x03a01 ∷ drive 7000 0 0x07a01 ∷ drive 7000 7 0x08000 ∷ drive 7000 0 0x03a00 ∷ drive 7000 7 0x00000 ∷ drive 7000 0 0x03b03 ∷ drive 7055 0 0x07b03 ∷ drive 7055 7 0x08000 ∷ drive 7055 0 0x03a00 ∷ drive 7055 7 0x00000 ∷ drive 7055 0 0x03a01 ∷ drive 7110 0 0x07a01 ∷ drive 7110 7 0x08000 ∷ drive 7110 0 0x03a00 ∷ drive 7110 7 0x00000 ∷ drive 7110 0 0x03a32 ∷ drive 7165 0 0x07a32 ∷ drive 7165 7 0x08000 ∷ drive 7165 0 0x03a00 ∷ drive 7165 7 0x00000 ∷ drive 7165 0 0x03a08 ∷ drive 7220 0 0x07a08 ∷ drive 7220 7 0x08000 ∷ drive 7220 0 0x03a00 ∷ drive 7220 7 0x00000 ∷ drive 7220 0 0x00a00 ∷ drive 7620 0 0x04a00 ∷ drive 7620 7 0x0010a ∷ drive 7675 7 0x0810a ∷ drive 7675 0 0x00a00 ∷ drive 7675 7 0x00000 ∷ drive 7675 0 0x04a00 ∷ drive 7675 7 0x00100 ∷ drive 7730 7 0x08100 ∷ drive 7730 0 0x00a00 ∷ drive 7730 7 0x00000 ∷ drive 7730 0 0x04a00 ∷ drive 7730 7 0x00100 ∷ drive 7785 7 0x08100 ∷ drive 7785 0 0x00a00 ∷ drive 7785 7 0x00000 ∷ drive 7785 0 0x04a00 ∷ drive 7785 7 0x00100 ∷ drive 7840 7 0x08100 ∷ drive 7840 0 0x00a00 ∷ drive 7840 7 0x00000 ∷ drive 7840 0 0x04a00 ∷ drive 7840 7 0x00001 ∷ drive 7895 7 0x08001 ∷ drive 7895 0 0x00a00 ∷ drive 7895 7 0x00000 ∷ drive 7895 0 0x04a00 ∷ drive 7895 7 0x00100 ∷ drive 7950 7 0x08100 ∷ drive 7950 0 0x00a00 ∷ drive 7950 7 0x00000 ∷ drive 7950 0 0x00200 ∷ drive 8350 0 0x04200 ∷ drive 8350 7 0x00001 ∷ drive 8405 7 0x08001 ∷ drive 8440 0 0x00200 ∷ drive 8495 7 0x00001 ∷ drive 8505 7 0x00000 ∷ [])) 8505 ≡ Lawful
+unfolding union_below seen_with line_of ones form_out form_in
+out_hold_100 = refl
+
+out_acknowledges_ahead : judged_whole (reverse (drive 1200 7 0x00280 ∷ drive 3600 7 0x00680 ∷ drive 4800 7 0x10781 ∷ drive 4890 7 0x10581 ∷ drive 5290 0 0x00200 ∷ drive 5380 7 0x10000 ∷ drive 5380 0 0x02a00 ∷ drive 5780 0 0x06a00 ∷ drive 5780 7 0x101c0 ∷ drive 5835 7 0x181c0 ∷ drive 5835 0 0x02a00 ∷ drive 5835 7 0x10000 ∷ drive 5835 0 0x06a00 ∷ drive 5835 7 0x10001 ∷ drive 5890 7 0x18001 ∷ drive 5890 0 0x02a00 ∷ drive 5890 7 0x10000 ∷ drive 5890 0 0x06a00 ∷ drive 5890 7 0x10103 ∷ drive 5945 7 0x18103 ∷ drive 5945 0 0x02a00 ∷ drive 5945 7 0x10000 ∷ drive 5945 0 0x06a00 ∷ drive 5945 7 0x10001 ∷ drive 6000 7 0x18001 ∷ drive 6000 0 0x02a00 ∷ drive 6000 7 0x10000 ∷ drive 6000 0 0x06a00 ∷ drive 6000 7 0x10032 ∷ drive 6055 7 0x18032 ∷ drive 6055 0 0x02a00 ∷ drive 6055 7 0x10000 ∷ drive 6055 0 0x06a00 ∷ drive 6055 7 0x0010a ∷ drive 6145 7 0x0810a ∷ drive 6145 0 0x02a00 ∷ drive 6145 7 0x00000 ∷ drive 6145 0 0x03a00 ∷ drive 6945 0 0x03a01 ∷ drive 7000 0 0x07a01 ∷ drive 7000 7 0x08000 ∷ drive 7000 0 0x03a00 ∷ drive 7000 7 0x00000 ∷ drive 7000 0 0x03b03 ∷ drive 7055 0 0x07b03 ∷ drive 7055 7 0x08000 ∷ drive 7055 0 0x03a00 ∷ drive 7055 7 0x00000 ∷ drive 7055 0 0x03a01 ∷ drive 7110 0 0x07a01 ∷ drive 7110 7 0x08000 ∷ drive 7110 0 0x03a00 ∷ drive 7110 7 0x00000 ∷ drive 7110 0 0x03a32 ∷ drive 7165 0 0x07a32 ∷ drive 7165 7 0x08000 ∷ drive 7165 0 0x03a00 ∷ drive 7165 7 0x00000 ∷ drive 7165 0 0x03a08 ∷ drive 7220 0 0x07a08 ∷ drive 7220 7 0x08000 ∷ drive 7220 0 0x03a00 ∷ drive 7220 7 0x00000 ∷ drive 7220 0 0x00a00 ∷ drive 7620 0 0x04a00 ∷ drive 7620 7 0x0010a ∷ drive 7675 7 0x0810a ∷ drive 7675 0 0x00a00 ∷ drive 7675 7 0x00000 ∷ drive 7675 0 0x04a00 ∷ drive 7675 7 0x00100 ∷ drive 7730 7 0x08100 ∷ drive 7730 0 0x00a00 ∷ drive 7730 7 0x00000 ∷ drive 7730 0 0x04a00 ∷ drive 7730 7 0x00100 ∷ drive 7785 7 0x08100 ∷ drive 7785 0 0x00a00 ∷ drive 7785 7 0x00000 ∷ drive 7785 0 0x04a00 ∷ drive 7785 7 0x00100 ∷ drive 7840 7 0x08100 ∷ drive 7840 0 0x00a00 ∷ drive 7840 7 0x00000 ∷ drive 7840 0 0x04a00 ∷ drive 7840 7 0x00001 ∷ drive 7895 7 0x08001 ∷ drive 7895 0 0x00a00 ∷ drive 7895 7 0x00000 ∷ drive 7895 0 0x04a00 ∷ drive 7895 7 0x00100 ∷ drive 7950 7 0x08100 ∷ drive 7950 0 0x00a00 ∷ drive 7950 7 0x00000 ∷ drive 7950 0 0x00200 ∷ drive 8350 0 0x04200 ∷ drive 8350 7 0x00001 ∷ drive 8405 7 0x08001 ∷ drive 8440 0 0x00200 ∷ drive 8495 7 0x00001 ∷ drive 8650 7 0x08001 ∷ [])) 8650 ≡ Broken 101 21
+unfolding union_below seen_with line_of ones form_out form_in
+out_acknowledges_ahead = refl
+
+out_leaves_unanswered : judged_whole (reverse (drive 1200 7 0x00280 ∷ drive 3600 7 0x00680 ∷ drive 4800 7 0x10781 ∷ drive 4890 7 0x10581 ∷ drive 5290 0 0x00200 ∷ drive 5380 7 0x10000 ∷ drive 5380 0 0x02a00 ∷ drive 5780 0 0x06a00 ∷ drive 5780 7 0x101c0 ∷ drive 5835 7 0x181c0 ∷ drive 5835 0 0x02a00 ∷ drive 5835 7 0x10000 ∷ drive 5835 0 0x06a00 ∷ drive 5835 7 0x10001 ∷ drive 5890 7 0x18001 ∷ drive 5890 0 0x02a00 ∷ drive 5890 7 0x10000 ∷ drive 5890 0 0x06a00 ∷ drive 5890 7 0x10103 ∷ drive 5945 7 0x18103 ∷ drive 5945 0 0x02a00 ∷ drive 5945 7 0x10000 ∷ drive 5945 0 0x06a00 ∷ drive 5945 7 0x10001 ∷ drive 6000 7 0x18001 ∷ drive 6000 0 0x02a00 ∷ drive 6000 7 0x10000 ∷ drive 6000 0 0x06a00 ∷ drive 6000 7 0x10032 ∷ drive 6055 7 0x18032 ∷ drive 6055 0 0x02a00 ∷ drive 6055 7 0x10000 ∷ drive 6055 0 0x06a00 ∷ drive 6055 7 0x0010a ∷ drive 6145 7 0x0810a ∷ drive 6145 0 0x02a00 ∷ drive 6145 7 0x00000 ∷ drive 6145 0 0x03a00 ∷ drive 6945 0 0x03a01 ∷ drive 7000 0 0x07a01 ∷ drive 7000 7 0x08000 ∷ drive 7000 0 0x03a00 ∷ drive 7000 7 0x00000 ∷ drive 7000 0 0x03b03 ∷ drive 7055 0 0x07b03 ∷ drive 7055 7 0x08000 ∷ drive 7055 0 0x03a00 ∷ drive 7055 7 0x00000 ∷ drive 7055 0 0x03a01 ∷ drive 7110 0 0x07a01 ∷ drive 7110 7 0x08000 ∷ drive 7110 0 0x03a00 ∷ drive 7110 7 0x00000 ∷ drive 7110 0 0x03a32 ∷ drive 7165 0 0x07a32 ∷ drive 7165 7 0x08000 ∷ drive 7165 0 0x03a00 ∷ drive 7165 7 0x00000 ∷ drive 7165 0 0x03a08 ∷ drive 7220 0 0x07a08 ∷ drive 7220 7 0x08000 ∷ drive 7220 0 0x03a00 ∷ drive 7220 7 0x00000 ∷ drive 7220 0 0x00a00 ∷ drive 7620 0 0x04a00 ∷ drive 7620 7 0x0010a ∷ drive 7675 7 0x0810a ∷ drive 7675 0 0x00a00 ∷ drive 7675 7 0x00000 ∷ drive 7675 0 0x04a00 ∷ drive 7675 7 0x00100 ∷ drive 7730 7 0x08100 ∷ drive 7730 0 0x00a00 ∷ drive 7730 7 0x00000 ∷ drive 7730 0 0x04a00 ∷ drive 7730 7 0x00100 ∷ drive 7785 7 0x08100 ∷ drive 7785 0 0x00a00 ∷ drive 7785 7 0x00000 ∷ drive 7785 0 0x04a00 ∷ drive 7785 7 0x00100 ∷ drive 7840 7 0x08100 ∷ drive 7840 0 0x00a00 ∷ drive 7840 7 0x00000 ∷ drive 7840 0 0x04a00 ∷ drive 7840 7 0x00001 ∷ drive 7895 7 0x08001 ∷ drive 7895 0 0x00a00 ∷ drive 7895 7 0x00000 ∷ drive 7895 0 0x04a00 ∷ drive 7895 7 0x00100 ∷ drive 7950 7 0x08100 ∷ drive 7950 0 0x00a00 ∷ drive 7950 7 0x00000 ∷ drive 7950 0 0x00200 ∷ drive 8350 0 0x04200 ∷ drive 8350 7 0x00001 ∷ drive 8440 0 0x00200 ∷ drive 8550 0 0x01a00 ∷ [])) 8550 ≡ Broken 99 23
+unfolding union_below seen_with line_of ones form_out form_in
+out_leaves_unanswered = refl
+
+out_leaves_answered : judged_whole (reverse (drive 1200 7 0x00280 ∷ drive 3600 7 0x00680 ∷ drive 4800 7 0x10781 ∷ drive 4890 7 0x10581 ∷ drive 5290 0 0x00200 ∷ drive 5380 7 0x10000 ∷ drive 5380 0 0x02a00 ∷ drive 5780 0 0x06a00 ∷ drive 5780 7 0x101c0 ∷ drive 5835 7 0x181c0 ∷ drive 5835 0 0x02a00 ∷ drive 5835 7 0x10000 ∷ drive 5835 0 0x06a00 ∷ drive 5835 7 0x10001 ∷ drive 5890 7 0x18001 ∷ drive 5890 0 0x02a00 ∷ drive 5890 7 0x10000 ∷ drive 5890 0 0x06a00 ∷ drive 5890 7 0x10103 ∷ drive 5945 7 0x18103 ∷ drive 5945 0 0x02a00 ∷ drive 5945 7 0x10000 ∷ drive 5945 0 0x06a00 ∷ drive 5945 7 0x10001 ∷ drive 6000 7 0x18001 ∷ drive 6000 0 0x02a00 ∷ drive 6000 7 0x10000 ∷ drive 6000 0 0x06a00 ∷ drive 6000 7 0x10032 ∷ drive 6055 7 0x18032 ∷ drive 6055 0 0x02a00 ∷ drive 6055 7 0x10000 ∷ drive 6055 0 0x06a00 ∷ drive 6055 7 0x0010a ∷ drive 6145 7 0x0810a ∷ drive 6145 0 0x02a00 ∷ drive 6145 7 0x00000 ∷ drive 6145 0 0x03a00 ∷ drive 6945 0 0x03a01 ∷ drive 7000 0 0x07a01 ∷ drive 7000 7 0x08000 ∷ drive 7000 0 0x03a00 ∷ drive 7000 7 0x00000 ∷ drive 7000 0 0x03b03 ∷ drive 7055 0 0x07b03 ∷ drive 7055 7 0x08000 ∷ drive 7055 0 0x03a00 ∷ drive 7055 7 0x00000 ∷ drive 7055 0 0x03a01 ∷ drive 7110 0 0x07a01 ∷ drive 7110 7 0x08000 ∷ drive 7110 0 0x03a00 ∷ drive 7110 7 0x00000 ∷ drive 7110 0 0x03a32 ∷ drive 7165 0 0x07a32 ∷ drive 7165 7 0x08000 ∷ drive 7165 0 0x03a00 ∷ drive 7165 7 0x00000 ∷ drive 7165 0 0x03a08 ∷ drive 7220 0 0x07a08 ∷ drive 7220 7 0x08000 ∷ drive 7220 0 0x03a00 ∷ drive 7220 7 0x00000 ∷ drive 7220 0 0x00a00 ∷ drive 7620 0 0x04a00 ∷ drive 7620 7 0x0010a ∷ drive 7675 7 0x0810a ∷ drive 7675 0 0x00a00 ∷ drive 7675 7 0x00000 ∷ drive 7675 0 0x04a00 ∷ drive 7675 7 0x00100 ∷ drive 7730 7 0x08100 ∷ drive 7730 0 0x00a00 ∷ drive 7730 7 0x00000 ∷ drive 7730 0 0x04a00 ∷ drive 7730 7 0x00100 ∷ drive 7785 7 0x08100 ∷ drive 7785 0 0x00a00 ∷ drive 7785 7 0x00000 ∷ drive 7785 0 0x04a00 ∷ drive 7785 7 0x00100 ∷ drive 7840 7 0x08100 ∷ drive 7840 0 0x00a00 ∷ drive 7840 7 0x00000 ∷ drive 7840 0 0x04a00 ∷ drive 7840 7 0x00001 ∷ drive 7895 7 0x08001 ∷ drive 7895 0 0x00a00 ∷ drive 7895 7 0x00000 ∷ drive 7895 0 0x04a00 ∷ drive 7895 7 0x00100 ∷ drive 7950 7 0x08100 ∷ drive 7950 0 0x00a00 ∷ drive 7950 7 0x00000 ∷ drive 7950 0 0x00200 ∷ drive 8350 0 0x04200 ∷ drive 8350 7 0x00001 ∷ drive 8405 7 0x08001 ∷ drive 8440 0 0x00200 ∷ drive 8495 7 0x00001 ∷ drive 8505 7 0x00000 ∷ drive 8550 0 0x01a00 ∷ [])) 8550 ≡ Lawful
+unfolding union_below seen_with line_of ones form_out form_in
+out_leaves_answered = refl
 
 negates_atn_with_ack : judged_whole (reverse (drive 1200 7 0x00280 ∷ drive 3600 7 0x00680 ∷ drive 4800 7 0x10781 ∷ drive 4890 7 0x10581 ∷ drive 5290 0 0x00200 ∷ drive 5380 7 0x10000 ∷ drive 5380 0 0x02a00 ∷ drive 5780 0 0x06a00 ∷ drive 5780 7 0x101c0 ∷ drive 5870 7 0x181c0 ∷ drive 5880 7 0x081c0 ∷ [])) 5880 ≡ Broken 11 24
 unfolding union_below seen_with line_of ones form_out form_in
