@@ -77,7 +77,7 @@ def main():
         for key, values in s.items():
             print("  %s = %s;" % (key, items(values)))
         print("}\n")
-        print("abbrev %s_rows : List Row\n%s_rows = %s\n" % (name, name, items(rows(out))))
+        print("abbrev pub %s_rows : List Row\n%s_rows = %s\n" % (name, name, items(rows(out))))
         print("abbrev %s_events : List Event\n%s_events = %s\n" % (name, name, items(array_case.event(w) for w in parts["history"])))
         print("%s_told : (story %s (reverse %s_rows)).history ≡ reverse %s_events" % (name, name, name, name))
         print("%s\n%s_told = refl\n" % (UNFOLDING, name))

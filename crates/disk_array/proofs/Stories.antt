@@ -378,6 +378,32 @@ mixed_tags_reply_6 : reply_of (play mixed_tags (reverse mixed_tags_events)) (com
 unfolding need_of sent_of ones
 mixed_tags_reply_6 = refl
 
+-- ---- negotiation
+
+abbrev negotiation : ScenarioValue
+negotiation = record {
+  version = 1;
+  hosts = record { dev = 7; latency = 0; most = 1; retries = 2; period = 50; offset = 8; lag = 0; offers = true } ∷ [];
+  targets = record { dev = 0; latency = 0; retries = 2; disc = policies.Never; pick = picks.First; seek = 0; period = 50; offset = 8; begins = false } ∷ [];
+  units = record { target = 0; unit = 0; blocks = 1; size = 16; depth = 1 } ∷ [];
+  fills = record { target = 0; unit = 0; lba = 0; bytes = (0 ∷ 1 ∷ 2 ∷ 3 ∷ 4 ∷ 5 ∷ 6 ∷ 7 ∷ 8 ∷ 9 ∷ 10 ∷ 11 ∷ 12 ∷ 13 ∷ 14 ∷ 15 ∷ []) } ∷ [];
+  commands = record { host = 7; target = 0; unit = 0; at = 0; tag = tags.Untagged; cdb = (8 ∷ 0 ∷ 0 ∷ 0 ∷ 1 ∷ 0 ∷ []); payload = payloads.Nothing } ∷ [];
+  aborts = [];
+  resets = [];
+  faults = record { at = 7010; bit = 0 } ∷ [];
+}
+
+abbrev negotiation_events : List Event
+negotiation_events = events.Accept (command 1) ∷ events.Run (command 1) ∷ events.End (command 1) 0 ∷ []
+
+negotiation_blocks : disks_of (play negotiation (reverse negotiation_events)) ≡ blanks negotiation.units (record { target = 0; unit = 0; lba = 0; bytes = (0 ∷ 1 ∷ 2 ∷ 3 ∷ 4 ∷ 5 ∷ 6 ∷ 7 ∷ 8 ∷ 9 ∷ 10 ∷ 11 ∷ 12 ∷ 13 ∷ 14 ∷ 15 ∷ []) } ∷ [])
+unfolding need_of sent_of ones
+negotiation_blocks = refl
+
+negotiation_reply_1 : reply_of (play negotiation (reverse negotiation_events)) (command 1) ≡ Some (good (0 ∷ 1 ∷ 2 ∷ 3 ∷ 4 ∷ 5 ∷ 6 ∷ 7 ∷ 8 ∷ 9 ∷ 10 ∷ 11 ∷ 12 ∷ 13 ∷ 14 ∷ 15 ∷ []))
+unfolding need_of sent_of ones
+negotiation_reply_1 = refl
+
 -- ---- order
 
 abbrev order : ScenarioValue
@@ -457,6 +483,32 @@ queue_reply_4 = refl
 queue_reply_5 : reply_of (play queue (reverse queue_events)) (command 6) ≡ Some (good ([]))
 unfolding need_of sent_of ones
 queue_reply_5 = refl
+
+-- ---- read_whole_after_a_part
+
+abbrev read_whole_after_a_part : ScenarioValue
+read_whole_after_a_part = record {
+  version = 1;
+  hosts = record { dev = 7; latency = 0; most = 1; retries = 2; period = 0; offset = 0; lag = 0; offers = true } ∷ [];
+  targets = record { dev = 0; latency = 0; retries = 2; disc = policies.NoSave 1; pick = picks.First; seek = 0; period = 0; offset = 0; begins = false } ∷ [];
+  units = record { target = 0; unit = 0; blocks = 2; size = 16; depth = 1 } ∷ [];
+  fills = [];
+  commands = record { host = 7; target = 0; unit = 0; at = 0; tag = tags.Untagged; cdb = (10 ∷ 0 ∷ 0 ∷ 0 ∷ 2 ∷ 0 ∷ []); payload = payloads.From 0 } ∷ [];
+  aborts = [];
+  resets = [];
+  faults = [];
+}
+
+abbrev read_whole_after_a_part_events : List Event
+read_whole_after_a_part_events = events.Accept (command 1) ∷ events.Run (command 1) ∷ events.End (command 1) 0 ∷ []
+
+read_whole_after_a_part_blocks : disks_of (play read_whole_after_a_part (reverse read_whole_after_a_part_events)) ≡ blanks read_whole_after_a_part.units (record { target = 0; unit = 0; lba = 0; bytes = (0 ∷ 1 ∷ 2 ∷ 3 ∷ 4 ∷ 5 ∷ 6 ∷ 7 ∷ 8 ∷ 9 ∷ 10 ∷ 11 ∷ 12 ∷ 13 ∷ 14 ∷ 15 ∷ []) } ∷ record { target = 0; unit = 0; lba = 1; bytes = (16 ∷ 17 ∷ 18 ∷ 19 ∷ 20 ∷ 21 ∷ 22 ∷ 23 ∷ 24 ∷ 25 ∷ 26 ∷ 27 ∷ 28 ∷ 29 ∷ 30 ∷ 31 ∷ []) } ∷ [])
+unfolding need_of sent_of ones
+read_whole_after_a_part_blocks = refl
+
+read_whole_after_a_part_reply_1 : reply_of (play read_whole_after_a_part (reverse read_whole_after_a_part_events)) (command 1) ≡ Some (good ([]))
+unfolding need_of sent_of ones
+read_whole_after_a_part_reply_1 = refl
 
 -- ---- refusals
 
@@ -609,6 +661,28 @@ resets_with_queues_full_3 : play resets_with_queues (reverse (events.Accept (com
 unfolding need_of sent_of ones
 resets_with_queues_full_3 = refl
 
+-- ---- sense_cut
+
+abbrev sense_cut : ScenarioValue
+sense_cut = record {
+  version = 1;
+  hosts = record { dev = 7; latency = 0; most = 1; retries = 0; period = 0; offset = 0; lag = 0; offers = true } ∷ [];
+  targets = record { dev = 0; latency = 0; retries = 0; disc = policies.Never; pick = picks.First; seek = 0; period = 0; offset = 0; begins = false } ∷ [];
+  units = record { target = 0; unit = 0; blocks = 1; size = 16; depth = 1 } ∷ [];
+  fills = [];
+  commands = record { host = 7; target = 0; unit = 0; at = 0; tag = tags.Untagged; cdb = (4 ∷ 0 ∷ 0 ∷ 0 ∷ 0 ∷ 0 ∷ []); payload = payloads.Nothing } ∷ [];
+  aborts = [];
+  resets = record { dev = 7; at = 16745 } ∷ [];
+  faults = [];
+}
+
+abbrev sense_cut_events : List Event
+sense_cut_events = events.Accept (command 1) ∷ events.Run (command 1) ∷ events.End (command 1) 2 ∷ events.Accept (sense 1) ∷ events.Run (sense 1) ∷ events.Reset 7 ∷ []
+
+sense_cut_blocks : disks_of (play sense_cut (reverse sense_cut_events)) ≡ blanks sense_cut.units ([])
+unfolding need_of sent_of ones
+sense_cut_blocks = refl
+
 -- ---- senses
 
 abbrev senses : ScenarioValue
@@ -667,6 +741,136 @@ senses_reply_9 : reply_of (play senses (reverse senses_events)) (sense 6) ≡ So
 unfolding need_of sent_of ones
 senses_reply_9 = refl
 
+-- ---- struck_command
+
+abbrev struck_command : ScenarioValue
+struck_command = record {
+  version = 1;
+  hosts = record { dev = 5; latency = 23; most = 1; retries = 2; period = 49; offset = 3; lag = 0; offers = true } ∷ record { dev = 6; latency = 61; most = 1; retries = 0; period = 0; offset = 3; lag = 0; offers = true } ∷ record { dev = 2; latency = 71; most = 2; retries = 5; period = 25; offset = 2; lag = 100; offers = true } ∷ record { dev = 0; latency = 24; most = 2; retries = 5; period = 49; offset = 1; lag = 100; offers = true } ∷ [];
+  targets = record { dev = 7; latency = 89; retries = 0; disc = policies.Burst 1; pick = picks.First; seek = 0; period = 80; offset = 1; begins = false } ∷ [];
+  units = record { target = 7; unit = 2; blocks = 8; size = 16; depth = 2 } ∷ record { target = 7; unit = 4; blocks = 2; size = 16; depth = 4 } ∷ [];
+  fills = record { target = 7; unit = 2; lba = 1; bytes = (200 ∷ 177 ∷ 54 ∷ 81 ∷ 158 ∷ 0 ∷ 0 ∷ 179 ∷ 36 ∷ 78 ∷ 216 ∷ 227 ∷ 192 ∷ 49 ∷ 106 ∷ 0 ∷ []) } ∷ record { target = 7; unit = 2; lba = 2; bytes = (40 ∷ 34 ∷ 194 ∷ 65 ∷ 92 ∷ 0 ∷ 181 ∷ 0 ∷ 56 ∷ 77 ∷ 172 ∷ 0 ∷ 224 ∷ 0 ∷ 162 ∷ 220 ∷ []) } ∷ record { target = 7; unit = 2; lba = 5; bytes = (0 ∷ 0 ∷ 238 ∷ 0 ∷ 0 ∷ 208 ∷ 56 ∷ 0 ∷ 173 ∷ 80 ∷ 126 ∷ 134 ∷ 0 ∷ 232 ∷ 0 ∷ 34 ∷ []) } ∷ record { target = 7; unit = 2; lba = 6; bytes = (250 ∷ 0 ∷ 199 ∷ 72 ∷ 195 ∷ 59 ∷ 0 ∷ 0 ∷ 198 ∷ 0 ∷ 68 ∷ 0 ∷ 40 ∷ 251 ∷ 96 ∷ 98 ∷ []) } ∷ record { target = 7; unit = 4; lba = 0; bytes = (0 ∷ 204 ∷ 0 ∷ 0 ∷ 182 ∷ 0 ∷ 0 ∷ 0 ∷ 227 ∷ 144 ∷ 160 ∷ 0 ∷ 0 ∷ 199 ∷ 0 ∷ 0 ∷ []) } ∷ record { target = 7; unit = 4; lba = 1; bytes = (122 ∷ 226 ∷ 0 ∷ 72 ∷ 79 ∷ 204 ∷ 0 ∷ 136 ∷ 105 ∷ 0 ∷ 0 ∷ 62 ∷ 108 ∷ 133 ∷ 175 ∷ 0 ∷ []) } ∷ [];
+  commands = record { host = 6; target = 7; unit = 4; at = 60471; tag = tags.Untagged; cdb = (17 ∷ 0 ∷ 0 ∷ 0 ∷ 0 ∷ 0 ∷ []); payload = payloads.Nothing } ∷ record { host = 2; target = 7; unit = 2; at = 80321; tag = tags.Head 1; cdb = (10 ∷ 0 ∷ 0 ∷ 2 ∷ 2 ∷ 0 ∷ []); payload = payloads.From 27 } ∷ [];
+  aborts = [];
+  resets = record { dev = 5; at = 111836 } ∷ [];
+  faults = record { at = 68609; bit = 2 } ∷ record { at = 143587; bit = 1 } ∷ [];
+}
+
+abbrev struck_command_events : List Event
+struck_command_events = events.Fail (command 1) 71 ∷ events.End (command 1) 2 ∷ events.Accept (sense 1) ∷ events.Run (sense 1) ∷ events.End (sense 1) 0 ∷ events.Accept (command 2) ∷ events.Reset 5 ∷ []
+
+struck_command_blocks : disks_of (play struck_command (reverse struck_command_events)) ≡ blanks struck_command.units (record { target = 7; unit = 2; lba = 1; bytes = (200 ∷ 177 ∷ 54 ∷ 81 ∷ 158 ∷ 0 ∷ 0 ∷ 179 ∷ 36 ∷ 78 ∷ 216 ∷ 227 ∷ 192 ∷ 49 ∷ 106 ∷ 0 ∷ []) } ∷ record { target = 7; unit = 2; lba = 2; bytes = (40 ∷ 34 ∷ 194 ∷ 65 ∷ 92 ∷ 0 ∷ 181 ∷ 0 ∷ 56 ∷ 77 ∷ 172 ∷ 0 ∷ 224 ∷ 0 ∷ 162 ∷ 220 ∷ []) } ∷ record { target = 7; unit = 2; lba = 5; bytes = (0 ∷ 0 ∷ 238 ∷ 0 ∷ 0 ∷ 208 ∷ 56 ∷ 0 ∷ 173 ∷ 80 ∷ 126 ∷ 134 ∷ 0 ∷ 232 ∷ 0 ∷ 34 ∷ []) } ∷ record { target = 7; unit = 2; lba = 6; bytes = (250 ∷ 0 ∷ 199 ∷ 72 ∷ 195 ∷ 59 ∷ 0 ∷ 0 ∷ 198 ∷ 0 ∷ 68 ∷ 0 ∷ 40 ∷ 251 ∷ 96 ∷ 98 ∷ []) } ∷ record { target = 7; unit = 4; lba = 0; bytes = (0 ∷ 204 ∷ 0 ∷ 0 ∷ 182 ∷ 0 ∷ 0 ∷ 0 ∷ 227 ∷ 144 ∷ 160 ∷ 0 ∷ 0 ∷ 199 ∷ 0 ∷ 0 ∷ []) } ∷ record { target = 7; unit = 4; lba = 1; bytes = (122 ∷ 226 ∷ 0 ∷ 72 ∷ 79 ∷ 204 ∷ 0 ∷ 136 ∷ 105 ∷ 0 ∷ 0 ∷ 62 ∷ 108 ∷ 133 ∷ 175 ∷ 0 ∷ []) } ∷ [])
+unfolding need_of sent_of ones
+struck_command_blocks = refl
+
+struck_command_reply_1 : reply_of (play struck_command (reverse struck_command_events)) (command 1) ≡ Some (check (sense_of 11 71 0))
+unfolding need_of sent_of ones
+struck_command_reply_1 = refl
+
+struck_command_reply_2 : reply_of (play struck_command (reverse struck_command_events)) (sense 1) ≡ Some (good (112 ∷ 0 ∷ 11 ∷ 0 ∷ 0 ∷ 0 ∷ 0 ∷ 10 ∷ 0 ∷ 0 ∷ 0 ∷ 0 ∷ 71 ∷ 0 ∷ 0 ∷ 0 ∷ 0 ∷ 0 ∷ []))
+unfolding need_of sent_of ones
+struck_command_reply_2 = refl
+
+-- ---- struck_complete
+
+abbrev struck_complete : ScenarioValue
+struck_complete = record {
+  version = 1;
+  hosts = record { dev = 7; latency = 0; most = 1; retries = 2; period = 0; offset = 0; lag = 0; offers = true } ∷ [];
+  targets = record { dev = 0; latency = 0; retries = 2; disc = policies.Never; pick = picks.First; seek = 0; period = 0; offset = 0; begins = false } ∷ [];
+  units = record { target = 0; unit = 0; blocks = 1; size = 16; depth = 1 } ∷ [];
+  fills = record { target = 0; unit = 0; lba = 0; bytes = (0 ∷ 1 ∷ 2 ∷ 3 ∷ 4 ∷ 5 ∷ 6 ∷ 7 ∷ 8 ∷ 9 ∷ 10 ∷ 11 ∷ 12 ∷ 13 ∷ 14 ∷ 15 ∷ []) } ∷ [];
+  commands = record { host = 7; target = 0; unit = 0; at = 0; tag = tags.Untagged; cdb = (8 ∷ 0 ∷ 0 ∷ 0 ∷ 1 ∷ 0 ∷ []); payload = payloads.Nothing } ∷ [];
+  aborts = [];
+  resets = [];
+  faults = record { at = 9080; bit = 0 } ∷ [];
+}
+
+abbrev struck_complete_events : List Event
+struck_complete_events = events.Accept (command 1) ∷ events.Run (command 1) ∷ events.End (command 1) 0 ∷ []
+
+struck_complete_blocks : disks_of (play struck_complete (reverse struck_complete_events)) ≡ blanks struck_complete.units (record { target = 0; unit = 0; lba = 0; bytes = (0 ∷ 1 ∷ 2 ∷ 3 ∷ 4 ∷ 5 ∷ 6 ∷ 7 ∷ 8 ∷ 9 ∷ 10 ∷ 11 ∷ 12 ∷ 13 ∷ 14 ∷ 15 ∷ []) } ∷ [])
+unfolding need_of sent_of ones
+struck_complete_blocks = refl
+
+struck_complete_reply_1 : reply_of (play struck_complete (reverse struck_complete_events)) (command 1) ≡ Some (good (0 ∷ 1 ∷ 2 ∷ 3 ∷ 4 ∷ 5 ∷ 6 ∷ 7 ∷ 8 ∷ 9 ∷ 10 ∷ 11 ∷ 12 ∷ 13 ∷ 14 ∷ 15 ∷ []))
+unfolding need_of sent_of ones
+struck_complete_reply_1 = refl
+
+-- ---- struck_data
+
+abbrev struck_data : ScenarioValue
+struck_data = record {
+  version = 1;
+  hosts = record { dev = 7; latency = 0; most = 1; retries = 2; period = 0; offset = 0; lag = 0; offers = true } ∷ [];
+  targets = record { dev = 0; latency = 0; retries = 2; disc = policies.Never; pick = picks.First; seek = 0; period = 0; offset = 0; begins = false } ∷ [];
+  units = record { target = 0; unit = 0; blocks = 1; size = 16; depth = 1 } ∷ [];
+  fills = record { target = 0; unit = 0; lba = 0; bytes = (0 ∷ 1 ∷ 2 ∷ 3 ∷ 4 ∷ 5 ∷ 6 ∷ 7 ∷ 8 ∷ 9 ∷ 10 ∷ 11 ∷ 12 ∷ 13 ∷ 14 ∷ 15 ∷ []) } ∷ [];
+  commands = record { host = 7; target = 0; unit = 0; at = 0; tag = tags.Untagged; cdb = (8 ∷ 0 ∷ 0 ∷ 0 ∷ 1 ∷ 0 ∷ []); payload = payloads.Nothing } ∷ [];
+  aborts = [];
+  resets = [];
+  faults = record { at = 8280; bit = 8 } ∷ record { at = 11000; bit = 0 } ∷ [];
+}
+
+abbrev struck_data_events : List Event
+struck_data_events = events.Accept (command 1) ∷ events.Run (command 1) ∷ events.End (command 1) 0 ∷ []
+
+struck_data_blocks : disks_of (play struck_data (reverse struck_data_events)) ≡ blanks struck_data.units (record { target = 0; unit = 0; lba = 0; bytes = (0 ∷ 1 ∷ 2 ∷ 3 ∷ 4 ∷ 5 ∷ 6 ∷ 7 ∷ 8 ∷ 9 ∷ 10 ∷ 11 ∷ 12 ∷ 13 ∷ 14 ∷ 15 ∷ []) } ∷ [])
+unfolding need_of sent_of ones
+struck_data_blocks = refl
+
+struck_data_reply_1 : reply_of (play struck_data (reverse struck_data_events)) (command 1) ≡ Some (good (0 ∷ 1 ∷ 2 ∷ 3 ∷ 4 ∷ 5 ∷ 6 ∷ 7 ∷ 8 ∷ 9 ∷ 10 ∷ 11 ∷ 12 ∷ 13 ∷ 14 ∷ 15 ∷ []))
+unfolding need_of sent_of ones
+struck_data_reply_1 = refl
+
+-- ---- struck_disconnect
+
+abbrev struck_disconnect : ScenarioValue
+struck_disconnect = record {
+  version = 1;
+  hosts = record { dev = 7; latency = 0; most = 1; retries = 0; period = 0; offset = 0; lag = 0; offers = true } ∷ [];
+  targets = record { dev = 0; latency = 0; retries = 0; disc = policies.Command; pick = picks.First; seek = 0; period = 0; offset = 0; begins = false } ∷ [];
+  units = record { target = 0; unit = 0; blocks = 1; size = 16; depth = 1 } ∷ [];
+  fills = record { target = 0; unit = 0; lba = 0; bytes = (0 ∷ 1 ∷ 2 ∷ 3 ∷ 4 ∷ 5 ∷ 6 ∷ 7 ∷ 8 ∷ 9 ∷ 10 ∷ 11 ∷ 12 ∷ 13 ∷ 14 ∷ 15 ∷ []) } ∷ [];
+  commands = record { host = 7; target = 0; unit = 0; at = 0; tag = tags.Simple 1; cdb = (8 ∷ 0 ∷ 0 ∷ 0 ∷ 1 ∷ 0 ∷ []); payload = payloads.Nothing } ∷ [];
+  aborts = [];
+  resets = [];
+  faults = record { at = 7565; bit = 0 } ∷ [];
+}
+
+abbrev struck_disconnect_events : List Event
+struck_disconnect_events = events.Accept (command 1) ∷ events.Lost (command 1) ∷ []
+
+struck_disconnect_blocks : disks_of (play struck_disconnect (reverse struck_disconnect_events)) ≡ blanks struck_disconnect.units (record { target = 0; unit = 0; lba = 0; bytes = (0 ∷ 1 ∷ 2 ∷ 3 ∷ 4 ∷ 5 ∷ 6 ∷ 7 ∷ 8 ∷ 9 ∷ 10 ∷ 11 ∷ 12 ∷ 13 ∷ 14 ∷ 15 ∷ []) } ∷ [])
+unfolding need_of sent_of ones
+struck_disconnect_blocks = refl
+
+-- ---- struck_save
+
+abbrev struck_save : ScenarioValue
+struck_save = record {
+  version = 1;
+  hosts = record { dev = 7; latency = 0; most = 1; retries = 2; period = 0; offset = 0; lag = 0; offers = true } ∷ [];
+  targets = record { dev = 0; latency = 0; retries = 2; disc = policies.Burst 1; pick = picks.First; seek = 0; period = 0; offset = 0; begins = false } ∷ [];
+  units = record { target = 0; unit = 0; blocks = 4; size = 16; depth = 1 } ∷ [];
+  fills = [];
+  commands = record { host = 7; target = 0; unit = 0; at = 0; tag = tags.Simple 1; cdb = (10 ∷ 0 ∷ 0 ∷ 0 ∷ 4 ∷ 0 ∷ []); payload = payloads.From 0 } ∷ [];
+  aborts = [];
+  resets = [];
+  faults = record { at = 15590; bit = 0 } ∷ [];
+}
+
+abbrev struck_save_events : List Event
+struck_save_events = events.Accept (command 1) ∷ events.Run (command 1) ∷ events.End (command 1) 0 ∷ []
+
+struck_save_blocks : disks_of (play struck_save (reverse struck_save_events)) ≡ blanks struck_save.units (record { target = 0; unit = 0; lba = 0; bytes = (0 ∷ 1 ∷ 2 ∷ 3 ∷ 4 ∷ 5 ∷ 6 ∷ 7 ∷ 8 ∷ 9 ∷ 10 ∷ 11 ∷ 12 ∷ 13 ∷ 14 ∷ 15 ∷ []) } ∷ record { target = 0; unit = 0; lba = 1; bytes = (16 ∷ 17 ∷ 18 ∷ 19 ∷ 20 ∷ 21 ∷ 22 ∷ 23 ∷ 24 ∷ 25 ∷ 26 ∷ 27 ∷ 28 ∷ 29 ∷ 30 ∷ 31 ∷ []) } ∷ record { target = 0; unit = 0; lba = 2; bytes = (32 ∷ 33 ∷ 34 ∷ 35 ∷ 36 ∷ 37 ∷ 38 ∷ 39 ∷ 40 ∷ 41 ∷ 42 ∷ 43 ∷ 44 ∷ 45 ∷ 46 ∷ 47 ∷ []) } ∷ record { target = 0; unit = 0; lba = 3; bytes = (48 ∷ 49 ∷ 50 ∷ 51 ∷ 52 ∷ 53 ∷ 54 ∷ 55 ∷ 56 ∷ 57 ∷ 58 ∷ 59 ∷ 60 ∷ 61 ∷ 62 ∷ 63 ∷ []) } ∷ [])
+unfolding need_of sent_of ones
+struck_save_blocks = refl
+
+struck_save_reply_1 : reply_of (play struck_save (reverse struck_save_events)) (command 1) ≡ Some (good ([]))
+unfolding need_of sent_of ones
+struck_save_reply_1 = refl
+
 -- ---- two_aborts
 
 abbrev two_aborts : ScenarioValue
@@ -696,3 +900,55 @@ two_aborts_reply_1 = refl
 two_aborts_reply_2 : reply_of (play two_aborts (reverse two_aborts_events)) (sense 1) ≡ Some (good (112 ∷ 0 ∷ 5 ∷ 0 ∷ 0 ∷ 0 ∷ 0 ∷ 10 ∷ 0 ∷ 0 ∷ 0 ∷ 0 ∷ 33 ∷ 0 ∷ 0 ∷ 0 ∷ 0 ∷ 0 ∷ []))
 unfolding need_of sent_of ones
 two_aborts_reply_2 = refl
+
+-- ---- unanswered_by_struck_ids
+
+abbrev unanswered_by_struck_ids : ScenarioValue
+unanswered_by_struck_ids = record {
+  version = 1;
+  hosts = record { dev = 7; latency = 0; most = 1; retries = 9; period = 0; offset = 0; lag = 0; offers = true } ∷ [];
+  targets = record { dev = 0; latency = 0; retries = 2; disc = policies.Never; pick = picks.First; seek = 0; period = 0; offset = 0; begins = false } ∷ [];
+  units = record { target = 0; unit = 0; blocks = 1; size = 16; depth = 1 } ∷ [];
+  fills = record { target = 0; unit = 0; lba = 0; bytes = (0 ∷ 1 ∷ 2 ∷ 3 ∷ 4 ∷ 5 ∷ 6 ∷ 7 ∷ 8 ∷ 9 ∷ 10 ∷ 11 ∷ 12 ∷ 13 ∷ 14 ∷ 15 ∷ []) } ∷ [];
+  commands = record { host = 7; target = 0; unit = 0; at = 0; tag = tags.Untagged; cdb = (8 ∷ 0 ∷ 0 ∷ 0 ∷ 1 ∷ 0 ∷ []); payload = payloads.Nothing } ∷ [];
+  aborts = [];
+  resets = [];
+  faults = record { at = 5290; bit = 0 } ∷ record { at = 5290; bit = 1 } ∷ record { at = 5290; bit = 2 } ∷ record { at = 5290; bit = 3 } ∷ record { at = 5290; bit = 4 } ∷ record { at = 5290; bit = 5 } ∷ record { at = 5290; bit = 6 } ∷ record { at = 5290; bit = 7 } ∷ record { at = 5290; bit = 8 } ∷ [];
+}
+
+abbrev unanswered_by_struck_ids_events : List Event
+unanswered_by_struck_ids_events = events.Accept (command 1) ∷ events.Run (command 1) ∷ events.End (command 1) 0 ∷ []
+
+unanswered_by_struck_ids_blocks : disks_of (play unanswered_by_struck_ids (reverse unanswered_by_struck_ids_events)) ≡ blanks unanswered_by_struck_ids.units (record { target = 0; unit = 0; lba = 0; bytes = (0 ∷ 1 ∷ 2 ∷ 3 ∷ 4 ∷ 5 ∷ 6 ∷ 7 ∷ 8 ∷ 9 ∷ 10 ∷ 11 ∷ 12 ∷ 13 ∷ 14 ∷ 15 ∷ []) } ∷ [])
+unfolding need_of sent_of ones
+unanswered_by_struck_ids_blocks = refl
+
+unanswered_by_struck_ids_reply_1 : reply_of (play unanswered_by_struck_ids (reverse unanswered_by_struck_ids_events)) (command 1) ≡ Some (good (0 ∷ 1 ∷ 2 ∷ 3 ∷ 4 ∷ 5 ∷ 6 ∷ 7 ∷ 8 ∷ 9 ∷ 10 ∷ 11 ∷ 12 ∷ 13 ∷ 14 ∷ 15 ∷ []))
+unfolding need_of sent_of ones
+unanswered_by_struck_ids_reply_1 = refl
+
+-- ---- write_in_bursts
+
+abbrev write_in_bursts : ScenarioValue
+write_in_bursts = record {
+  version = 1;
+  hosts = record { dev = 7; latency = 0; most = 1; retries = 2; period = 0; offset = 0; lag = 0; offers = true } ∷ [];
+  targets = record { dev = 0; latency = 0; retries = 2; disc = policies.Burst 1; pick = picks.First; seek = 0; period = 0; offset = 0; begins = false } ∷ [];
+  units = record { target = 0; unit = 0; blocks = 4; size = 16; depth = 1 } ∷ [];
+  fills = [];
+  commands = record { host = 7; target = 0; unit = 0; at = 0; tag = tags.Simple 1; cdb = (10 ∷ 0 ∷ 0 ∷ 0 ∷ 4 ∷ 0 ∷ []); payload = payloads.From 0 } ∷ [];
+  aborts = [];
+  resets = [];
+  faults = [];
+}
+
+abbrev write_in_bursts_events : List Event
+write_in_bursts_events = events.Accept (command 1) ∷ events.Run (command 1) ∷ events.End (command 1) 0 ∷ []
+
+write_in_bursts_blocks : disks_of (play write_in_bursts (reverse write_in_bursts_events)) ≡ blanks write_in_bursts.units (record { target = 0; unit = 0; lba = 0; bytes = (0 ∷ 1 ∷ 2 ∷ 3 ∷ 4 ∷ 5 ∷ 6 ∷ 7 ∷ 8 ∷ 9 ∷ 10 ∷ 11 ∷ 12 ∷ 13 ∷ 14 ∷ 15 ∷ []) } ∷ record { target = 0; unit = 0; lba = 1; bytes = (16 ∷ 17 ∷ 18 ∷ 19 ∷ 20 ∷ 21 ∷ 22 ∷ 23 ∷ 24 ∷ 25 ∷ 26 ∷ 27 ∷ 28 ∷ 29 ∷ 30 ∷ 31 ∷ []) } ∷ record { target = 0; unit = 0; lba = 2; bytes = (32 ∷ 33 ∷ 34 ∷ 35 ∷ 36 ∷ 37 ∷ 38 ∷ 39 ∷ 40 ∷ 41 ∷ 42 ∷ 43 ∷ 44 ∷ 45 ∷ 46 ∷ 47 ∷ []) } ∷ record { target = 0; unit = 0; lba = 3; bytes = (48 ∷ 49 ∷ 50 ∷ 51 ∷ 52 ∷ 53 ∷ 54 ∷ 55 ∷ 56 ∷ 57 ∷ 58 ∷ 59 ∷ 60 ∷ 61 ∷ 62 ∷ 63 ∷ []) } ∷ [])
+unfolding need_of sent_of ones
+write_in_bursts_blocks = refl
+
+write_in_bursts_reply_1 : reply_of (play write_in_bursts (reverse write_in_bursts_events)) (command 1) ≡ Some (good ([]))
+unfolding need_of sent_of ones
+write_in_bursts_reply_1 = refl
