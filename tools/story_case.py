@@ -4,7 +4,8 @@
     tools/story_case.py tools/cases/*.scn > crates/bus_story/proofs/Cases.antt
 
 Beside each NAME.scn stands its report NAME.out, which comes from outside this repository. The lemmas say that the
-history which the rows tell is that of the report.
+history which the rows tell is that of the report, and so are the outcomes and the bytes that were carried; and that the
+faults of the scenario strike what the fault rows name.
 """
 import pathlib
 import sys
@@ -24,6 +25,7 @@ use Rattle.msg_grammar.specs.Messages.{form_out, form_in}
 use Rattle.bus_story.specs.Told.{story}
 use Rattle.bus_story.specs.Outcomes.{outcomes, ended_good, ended_check, ended_full, ended_unanswered, ended_lost, ended_reset, ended_aborted}
 use Rattle.bus_story.specs.Right.{all_carried}
+use Rattle.bus_story.specs.Samples.{placed, struck}
 
 abbrev drive : ℕ → ℕ → ℕ → Row
 drive time dev lines = record { time = time; dev = dev; kind = Drives (set_of lines) }
@@ -86,6 +88,9 @@ def main():
         print("%s\n%s_outcomes = refl\n" % (UNFOLDING, name))
         print("%s_carried : all_carried %s (story %s (reverse %s_rows)) (reverse %s_events) ≡ true" % (name, name, name, name, name))
         print("%s\n%s_carried = refl\n" % (UNFOLDING, name))
+        if s["faults"]:
+            print("%s_struck : placed %s (reverse %s_rows) ≡ struck %s_rows" % (name, name, name, name))
+            print("%s\n%s_struck = refl\n" % (UNFOLDING, name))
 
 
 main()

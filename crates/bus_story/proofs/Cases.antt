@@ -8,6 +8,7 @@ use Rattle.msg_grammar.specs.Messages.{form_out, form_in}
 use Rattle.bus_story.specs.Told.{story}
 use Rattle.bus_story.specs.Outcomes.{outcomes, ended_good, ended_check, ended_full, ended_lost, ended_reset, ended_aborted}
 use Rattle.bus_story.specs.Right.{all_carried}
+use Rattle.bus_story.specs.Samples.{placed, struck}
 use Rattle.std.proofs.Common.{ℕ, ◌≡◌, true, false, List, [], ◌∷◌, reverse, refl}
 use Rattle.std.specs.Prelude.{Some, None}
 use lib.Count.{ones}
@@ -206,6 +207,10 @@ failures_run_carried : all_carried failures_run (story failures_run (reverse fai
 unfolding need_of sent_of ones union_below line_of form_out form_in
 failures_run_carried = refl
 
+failures_run_struck : placed failures_run (reverse failures_run_rows) ≡ struck failures_run_rows
+unfolding need_of sent_of ones union_below line_of form_out form_in
+failures_run_struck = refl
+
 -- ---- full_run
 
 abbrev full_run : ScenarioValue
@@ -370,6 +375,10 @@ negotiation_run_outcomes = refl
 negotiation_run_carried : all_carried negotiation_run (story negotiation_run (reverse negotiation_run_rows)) (reverse negotiation_run_events) ≡ true
 unfolding need_of sent_of ones union_below line_of form_out form_in
 negotiation_run_carried = refl
+
+negotiation_run_struck : placed negotiation_run (reverse negotiation_run_rows) ≡ struck negotiation_run_rows
+unfolding need_of sent_of ones union_below line_of form_out form_in
+negotiation_run_struck = refl
 
 -- ---- order_run
 
@@ -569,6 +578,10 @@ resets_with_queues_run_carried : all_carried resets_with_queues_run (story reset
 unfolding need_of sent_of ones union_below line_of form_out form_in
 resets_with_queues_run_carried = refl
 
+resets_with_queues_run_struck : placed resets_with_queues_run (reverse resets_with_queues_run_rows) ≡ struck resets_with_queues_run_rows
+unfolding need_of sent_of ones union_below line_of form_out form_in
+resets_with_queues_run_struck = refl
+
 -- ---- sense_cut_run
 
 abbrev sense_cut_run : ScenarioValue
@@ -668,6 +681,10 @@ struck_command_run_carried : all_carried struck_command_run (story struck_comman
 unfolding need_of sent_of ones union_below line_of form_out form_in
 struck_command_run_carried = refl
 
+struck_command_run_struck : placed struck_command_run (reverse struck_command_run_rows) ≡ struck struck_command_run_rows
+unfolding need_of sent_of ones union_below line_of form_out form_in
+struck_command_run_struck = refl
+
 -- ---- struck_complete_run
 
 abbrev struck_complete_run : ScenarioValue
@@ -700,6 +717,10 @@ struck_complete_run_outcomes = refl
 struck_complete_run_carried : all_carried struck_complete_run (story struck_complete_run (reverse struck_complete_run_rows)) (reverse struck_complete_run_events) ≡ true
 unfolding need_of sent_of ones union_below line_of form_out form_in
 struck_complete_run_carried = refl
+
+struck_complete_run_struck : placed struck_complete_run (reverse struck_complete_run_rows) ≡ struck struck_complete_run_rows
+unfolding need_of sent_of ones union_below line_of form_out form_in
+struck_complete_run_struck = refl
 
 -- ---- struck_data_run
 
@@ -734,6 +755,10 @@ struck_data_run_carried : all_carried struck_data_run (story struck_data_run (re
 unfolding need_of sent_of ones union_below line_of form_out form_in
 struck_data_run_carried = refl
 
+struck_data_run_struck : placed struck_data_run (reverse struck_data_run_rows) ≡ struck struck_data_run_rows
+unfolding need_of sent_of ones union_below line_of form_out form_in
+struck_data_run_struck = refl
+
 -- ---- struck_disconnect_run
 
 abbrev struck_disconnect_run : ScenarioValue
@@ -766,6 +791,10 @@ struck_disconnect_run_outcomes = refl
 struck_disconnect_run_carried : all_carried struck_disconnect_run (story struck_disconnect_run (reverse struck_disconnect_run_rows)) (reverse struck_disconnect_run_events) ≡ true
 unfolding need_of sent_of ones union_below line_of form_out form_in
 struck_disconnect_run_carried = refl
+
+struck_disconnect_run_struck : placed struck_disconnect_run (reverse struck_disconnect_run_rows) ≡ struck struck_disconnect_run_rows
+unfolding need_of sent_of ones union_below line_of form_out form_in
+struck_disconnect_run_struck = refl
 
 -- ---- struck_save_run
 
@@ -800,6 +829,10 @@ struck_save_run_carried : all_carried struck_save_run (story struck_save_run (re
 unfolding need_of sent_of ones union_below line_of form_out form_in
 struck_save_run_carried = refl
 
+struck_save_run_struck : placed struck_save_run (reverse struck_save_run_rows) ≡ struck struck_save_run_rows
+unfolding need_of sent_of ones union_below line_of form_out form_in
+struck_save_run_struck = refl
+
 -- ---- two_aborts_run
 
 abbrev two_aborts_run : ScenarioValue
@@ -833,6 +866,10 @@ two_aborts_run_carried : all_carried two_aborts_run (story two_aborts_run (rever
 unfolding need_of sent_of ones union_below line_of form_out form_in
 two_aborts_run_carried = refl
 
+two_aborts_run_struck : placed two_aborts_run (reverse two_aborts_run_rows) ≡ struck two_aborts_run_rows
+unfolding need_of sent_of ones union_below line_of form_out form_in
+two_aborts_run_struck = refl
+
 -- ---- unanswered_by_struck_ids_run
 
 abbrev unanswered_by_struck_ids_run : ScenarioValue
@@ -865,6 +902,10 @@ unanswered_by_struck_ids_run_outcomes = refl
 unanswered_by_struck_ids_run_carried : all_carried unanswered_by_struck_ids_run (story unanswered_by_struck_ids_run (reverse unanswered_by_struck_ids_run_rows)) (reverse unanswered_by_struck_ids_run_events) ≡ true
 unfolding need_of sent_of ones union_below line_of form_out form_in
 unanswered_by_struck_ids_run_carried = refl
+
+unanswered_by_struck_ids_run_struck : placed unanswered_by_struck_ids_run (reverse unanswered_by_struck_ids_run_rows) ≡ struck unanswered_by_struck_ids_run_rows
+unfolding need_of sent_of ones union_below line_of form_out form_in
+unanswered_by_struck_ids_run_struck = refl
 
 -- ---- write_in_bursts_run
 

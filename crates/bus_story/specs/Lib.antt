@@ -6,6 +6,7 @@ pub mod Story
 pub mod Shown
 pub mod Told
 pub mod Given
+pub mod Samples
 pub mod Outcomes
 pub mod Right
 pub mod Budget

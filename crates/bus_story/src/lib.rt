@@ -4,8 +4,8 @@
 //! `specs/Items.antt` what an initiator sends next, `specs/Links.antt` to which process a connection belongs,
 //! `specs/Carried.antt` the bytes of a process by its pointers, `specs/Story.antt` what is known after some rows and what
 //! an event does to it, `specs/Shown.antt` the events of a row, `specs/Told.antt` the whole, row by row,
-//! `specs/Outcomes.antt` how commands ended, `specs/Right.antt` what belongs together, and `specs/Budget.antt` a bound on
-//! steps. It stands on `bus_rules`, `scenario` and `disk_array`. There is no code here but for laws: each is the contract
+//! `specs/Samples.antt` what faults strike, `specs/Outcomes.antt` how commands ended, `specs/Right.antt` what belongs
+//! together, and `specs/Budget.antt` a bound on steps. It stands on `bus_rules`, `scenario` and `disk_array`. There is no code here but for laws: each is the contract
 //! of a function that does nothing.
 #![tactic(auto)]
 
