@@ -1,5 +1,7 @@
 -- Since when a line has stood.
-use Rattle.std.proofs.Common.{ℕ, ◌≡◌, ◌≢◌, ◌≤◌, ◌==◌, Bool, true, false, List, [], ◌∷◌, if◌then◌else◌, ◌∙◌, refl, sym, arith}
+use Rattle.std.proofs.Common.{ℕ, ◌≡◌, ◌≢◌, ◌≤◌, ◌<◌, ◌==◌, Bool, true, false, List, [], ◌∷◌, if◌then◌else◌, ◌∙◌, refl, sym, arith}
+use Rattle.std.specs.Prelude.{nat_lt}
+use Rattle.std.specs.Int.{bit_at}
 use Rattle.std.proofs.lemmas.Bool.Decides.{nat_tests}
 use Rattle.bus_lines.specs.LineSet.{LineSet, bit_value, line_of, same}
 use Rattle.bus_lines.specs.declared.rows.Row.{Row}
@@ -114,3 +116,25 @@ pub since_line_of : (line : ℕ) (on : LineSet → Bool) → ((s : LineSet) → 
 since_line_of line on law rows =
     let e : since (line_of line) rows ≡ since (λ s. bit_value (on s) 1) rows = λ i. since (λ s. law s i) rows in
     e ∙ since_by_line on rows
+
+-- ---- the lines by groups
+
+-- a data line is a bit of the data lines
+line_data : (k : ℕ) (s : LineSet) → k < 9 → line_of k s ≡ bit_at s.data_bits k
+unfolding line_of
+line_data k s lt = let e : nat_lt k 9 ≡ true = grind (arith, nat_tests) in if_yes (nat_lt k 9) (bit_at s.data_bits k) _ e
+
+-- where no data line changes the time of each stays
+pub data_stay : (b a : LineSet) (time : ℕ) (old : ℕ → ℕ) → b.data_bits ≡ a.data_bits → (k : ℕ) → k < 9 → old k ≡ newer (line_of k) b a (old k) time
+data_stay b a time old same k lt =
+    let e : line_of k b ≡ line_of k a = line_data k b lt ∙ ((λ i. bit_at (same i) k) ∙ sym (line_data k a lt)) in
+    sym (if_yes (line_of k b == line_of k a) (old k) time (eqb_yes _ _ e))
+
+-- the data lines first, and then the others
+pub by_groups : (b a : LineSet) (time : ℕ) (old mid new : ℕ → ℕ) → ((k : ℕ) → k < 9 → mid k ≡ newer (line_of k) b a (old k) time) → ((k : ℕ) → 9 ≤ k → mid k ≡ old k) → ((k : ℕ) → 9 ≤ k → k < 18 → new k ≡ newer (line_of k) b a (mid k) time) → ((k : ℕ) → k < 9 → new k ≡ mid k)
+    → (line : ℕ) → line < 18 → new line ≡ newer (line_of line) b a (old line) time
+by_groups b a time old mid new first kept rest below line lt = go (nat_lt line 9) refl
+  where
+  go : (q : Bool) → nat_lt line 9 ≡ q → new line ≡ newer (line_of line) b a (old line) time
+  go true e = let low : line < 9 = grind (arith, nat_tests) in below line low ∙ first line low
+  go false e = let high : 9 ≤ line = grind (arith, nat_tests) in rest line high lt ∙ (λ i. newer (line_of line) b a (kept line high i) time)

@@ -2,8 +2,8 @@
 
 ghost use Rattle.std.specs.Prelude.{ℕ, ◌≡◌, ◌<◌, ◌≤◌, List, [], ◌∷◌, slice_index};
 ghost use Rattle.bus_lines.specs.LineSet.{LineSet, line_of, data_of};
-ghost use Rattle.bus_lines.specs.View.{union_all, driven_at, IsUpTo};
-ghost use Rattle.bus_lines.specs.Trace.{drives, bus, last_time, newer, since, since_line, IsViewOf};
+ghost use Rattle.bus_lines.specs.View.{driven_at, IsUpTo};
+ghost use Rattle.bus_lines.specs.Trace.{drives, driven_after, bus, last_time, newer, since, since_line, IsViewOf};
 
 use crate::line_set::Lines;
 use crate::rows::Row;
@@ -173,6 +173,34 @@ impl BusView {
         self.last
     }
 
+    // What this device drives, where the device of the row drives these lines in place of its own.
+    fn drives_with(&self, dev: Dev, lines: Lines, other: Dev) -> Lines
+        requires dev { dev < 8 }
+        requires other { other < 8 }
+        ensures { (rows : List Row) (row : Row) → IsViewOf rows self.now → row.dev ≡ dev → lines ≡ driven_after row.kind (drives rows dev) → result ≡ drives (row ∷ rows) other }
+    {
+        if other == dev {
+            lines
+        } else {
+            self.drives(other)
+        }
+    }
+
+    /// What is on the bus once this device drives these lines in place of its own.
+    pub fn bus_with(&self, dev: Dev, lines: Lines) -> Lines
+        requires { dev < 8 }
+        ensures { (rows : List Row) (row : Row) → IsViewOf rows self.now → row.dev ≡ dev → lines ≡ driven_after row.kind (drives rows dev) → result ≡ bus (row ∷ rows) }
+    {
+        self.drives_with(dev, lines, 0)
+            .with(self.drives_with(dev, lines, 1))
+            .with(self.drives_with(dev, lines, 2))
+            .with(self.drives_with(dev, lines, 3))
+            .with(self.drives_with(dev, lines, 4))
+            .with(self.drives_with(dev, lines, 5))
+            .with(self.drives_with(dev, lines, 6))
+            .with(self.drives_with(dev, lines, 7))
+    }
+
     /// One more row. Its time may be any, also before that of the last row.
     pub fn step(&mut self, row: &Row)
         requires { row.now.dev < 8 }
@@ -184,9 +212,22 @@ impl BusView {
         ensures last { self.new.last ≡ row.now.time }
     {
         let driven = row.kind.driven_after(self.drives(row.dev));
+        let after = self.bus_with(row.dev, driven);
+        self.step_to(row, after);
+    }
+
+    /// The same, where it is known what is on the bus after the row.
+    pub fn step_to(&mut self, row: &Row, after: Lines)
+        requires { row.now.dev < 8 }
+        ensures trace { (rows : List Row) → IsViewOf rows self.old → after ≡ bus (row.now ∷ rows) → IsViewOf (row.now ∷ rows) self.new }
+        ensures up_to { IsUpTo row.now.time self.old → IsUpTo row.now.time self.new }
+        ensures lines { (line : ℕ) → line < 18 → slice_index self.old.changed line ≤ row.now.time → slice_index self.new.changed line ≤ row.now.time }
+        ensures data_lines { self.old.data_changed ≤ row.now.time → self.new.data_changed ≤ row.now.time }
+        ensures last { self.new.last ≡ row.now.time }
+    {
+        let driven = row.kind.driven_after(self.drives(row.dev));
         let before = self.present;
         self.driven[row.dev as usize] = driven;
-        let after = union_all(&self.driven);
         self.present = after;
         self.data_changed = renewed(before, after, self.data_changed, row.time);
         renew(&mut self.changed, before, after, row.time);
@@ -194,29 +235,37 @@ impl BusView {
     }
 }
 
-// What all devices drive together.
-fn union_all(driven: &[Lines; 8]) -> Lines
-    ensures { result ≡ union_all driven.now }
+// Sets the time of each of these lines that differs.
+#[inline(always)]
+fn renew_between(
+    changed: &mut [Ns; 18],
+    first: u8,
+    end: u8,
+    before: Lines,
+    after: Lines,
+    time: Ns,
+)
+    requires order { first ≤ end }
+    requires few { end ≤ 18 }
+    ensures inside { (line : ℕ) → first ≤ line → line < end → slice_index changed.new line ≡ newer (line_of line) before after (slice_index changed.old line) time }
+    ensures below { (line : ℕ) → line < first → slice_index changed.new line ≡ slice_index changed.old line }
+    ensures above { (line : ℕ) → end ≤ line → slice_index changed.new line ≡ slice_index changed.old line }
 {
-    driven[0]
-        .with(driven[1])
-        .with(driven[2])
-        .with(driven[3])
-        .with(driven[4])
-        .with(driven[5])
-        .with(driven[6])
-        .with(driven[7])
-}
-
-// Sets the time of each line that differs.
-fn renew(changed: &mut [Ns; 18], before: Lines, after: Lines, time: Ns)
-    ensures { (line : ℕ) → line < 18 → slice_index changed.new line ≡ newer (line_of line) before after (slice_index changed.old line) time }
-{
-    for k in 0..18u8 {
+    for k in first..end {
         if before.differs(after, k) {
             changed[k as usize] = time;
         }
     }
+}
+
+// Sets the time of each line that differs. Most rows change no data line.
+fn renew(changed: &mut [Ns; 18], before: Lines, after: Lines, time: Ns)
+    ensures { (line : ℕ) → line < 18 → slice_index changed.new line ≡ newer (line_of line) before after (slice_index changed.old line) time }
+{
+    if before.data_bits() != after.data_bits() {
+        renew_between(changed, 0, 9, before, after, time);
+    }
+    renew_between(changed, 9, 18, before, after, time);
 }
 
 // When a data line last changed.

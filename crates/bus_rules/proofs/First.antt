@@ -65,7 +65,7 @@ all_kept : (kept : ℕ → Bool) (ns : List ℕ) → first_broken kept ns ≡ No
 all_kept kept [] e = tt
 all_kept kept (n ∷ ns) e = kept_step kept n ns (kept n) refl (λ later. all_kept kept ns later) e
 
-none_broken : (kept : ℕ → Bool) (ns : List ℕ) → AllByRecursion (λ n. kept n ≡ true) ns → first_broken kept ns ≡ None
+pub none_broken : (kept : ℕ → Bool) (ns : List ℕ) → AllByRecursion (λ n. kept n ≡ true) ns → first_broken kept ns ≡ None
 none_broken kept [] h = refl
 none_broken kept (n ∷ ns) h = ap (λ q. cond q (first_broken kept ns) (Some n)) h.0 ∙ none_broken kept ns h.1
 

@@ -1,6 +1,7 @@
 pub mod Agreeing
 pub mod Courses
 pub mod Running
+pub mod DataRows
 pub mod Past
 pub mod First
 mod Cases

@@ -121,3 +121,6 @@ free_of rows dev met q none em = ap (λ (s : Seen). s.free_since) em
 pub held_of : (rows : List Row) (row : Row) (met : Seen) (q c : Change) (none : Reading) (held : Bool) → met ≡ seen_with rows row.dev q none → c ≡ change_of rows row → held ≡ is_held c met.atn_since row.time → held ≡ is_held (change_of rows row) (since_line (λ s. s.atn) rows) row.time
 unfolding seen_with
 held_of rows row met q c none held em ec eh = eh ∙ (λ i. is_held (ec i) (em i).atn_since row.time)
+
+pub held_by : (rows : List Row) (row : Row) (c : Change) (since : ℕ) (held : Bool) → c ≡ change_of rows row → since ≡ since_line (λ s. s.atn) rows → held ≡ is_held c since row.time → held ≡ is_held (change_of rows row) (since_line (λ s. s.atn) rows) row.time
+held_by rows row c since held ec es eh = eh ∙ (λ i. is_held (ec i) (es i) row.time)

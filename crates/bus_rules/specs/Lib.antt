@@ -18,3 +18,4 @@ pub mod Messages
 pub mod Rules
 pub mod Judging
 pub mod Lawful
+pub mod DataRows

@@ -75,8 +75,8 @@ impl Change {
     }
 }
 
-// Whether the lines that hold the bus are the same.
-fn same_hold(a: Lines, b: Lines) -> bool
+/// Whether the lines that hold the bus are the same.
+pub fn same_hold(a: Lines, b: Lines) -> bool
     ensures { result ≡ same_hold a b }
 {
     a.bsy() == b.bsy() && a.sel() == b.sel() && a.rst() == b.rst()

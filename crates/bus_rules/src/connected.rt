@@ -24,13 +24,15 @@ fn ends_of(seen: &Seen, row: &Row) -> Option<Connection>
     }
 }
 
-fn has_no_target_line(lines: Lines) -> bool
+/// Whether no line of the target is driven.
+pub fn has_no_target_line(lines: Lines) -> bool
     ensures { result ≡ has_no_target_line lines }
 {
     !(lines.cd() || lines.io() || lines.msg() || lines.req())
 }
 
-fn has_no_initiator_line(lines: Lines) -> bool
+/// Whether no line of the initiator is driven.
+pub fn has_no_initiator_line(lines: Lines) -> bool
     ensures { result ≡ has_no_initiator_line lines }
 {
     !(lines.ack() || lines.atn())
@@ -82,7 +84,8 @@ pub fn keeps_lines(seen: &Seen, row: &Row) -> bool
     }
 }
 
-fn raises_data(change: &Change) -> bool
+/// Whether the device raises a data line.
+pub fn raises_data(change: &Change) -> bool
     ensures { result ≡ raises_data change.now }
 {
     change.own.data_bits() | change.next.data_bits() != change.own.data_bits()

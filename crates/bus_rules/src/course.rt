@@ -12,12 +12,14 @@ ghost use Rattle.bus_rules.specs.Terms.{free_since, call, connection};
 ghost use Rattle.bus_rules.specs.Phases.{is_held};
 ghost use Rattle.bus_rules.specs.Dialogue.{asynchronous, closed_by, dialogue};
 ghost use Rattle.bus_rules.specs.Reading.{reading_of};
+ghost use Rattle.bus_rules.specs.DataRows.{transferred};
 
 use crate::agreements::Agreements;
 use crate::arbitration::{Arbitration, arbitration_after};
 use crate::attention::{Duty, duty_after, is_held};
 use crate::changes::Change;
 use crate::connection::{Connection, connection_after, receiver_of};
+use crate::data_rows::{crosses_in, duty_in_data};
 use crate::dialogue::Dialogue;
 use crate::pulses::{Pulses, no_pulses, pulses_after, turned_after};
 use crate::raises::Raises;
@@ -76,6 +78,21 @@ impl Course {
             agreed: Agreements::new(),
             dialogue: Dialogue::opened(asynchronous()),
         }
+    }
+
+    /// One row more that changes data lines, REQ and ACK alone in a DATA phase. `held` says whether ATN is held
+    /// over it.
+    pub fn transfer(&mut self, held: bool, change: &Change, time: Ns)
+        requires devices { HasDevices self.old.call }
+        requires ends { HasEnds self.old.connection }
+        ensures exact { self.new ≡ transferred self.old held change.now time }
+        ensures devices { HasDevices self.new.call }
+        ensures ends { HasEnds self.new.connection }
+    {
+        self.receiver = receiver_of(self.connection, change);
+        self.pulses.count(change, time);
+        self.duty = duty_in_data(self.duty, change, held);
+        self.dialogue.takes_data(crosses_in(change));
     }
 
     /// One row more that changes this, on a bus that was free since `free`, in ns. `held` says whether ATN is

@@ -7,6 +7,7 @@ ghost use Rattle.bus_lines.specs.declared.agreements.Agreement.{Agreement};
 ghost use Rattle.bus_rules.specs.Connections.{HasEnds};
 ghost use Rattle.bus_rules.specs.Judging.{AreAgreements};
 ghost use Rattle.bus_rules.specs.Reading.{reading_of, reading_out, reading_in};
+ghost use Rattle.bus_rules.specs.DataRows.{takes_data};
 ghost use Rattle.bus_rules.specs.Dialogue.{asynchronous, opened, heard_out, heard_in, if_begins, byte_out, byte_in, byte_else, byte_crosses, phase_begins, dialogue_on, dialogue_after};
 
 use crate::agreements::Agreements;
@@ -155,6 +156,15 @@ impl Dialogue {
             self.phase_begins();
         }
         Reading::NoMessage
+    }
+
+    /// A row of a DATA phase, in which a byte crosses or none.
+    pub fn takes_data(&mut self, crosses: bool)
+        ensures { self.new ≡ takes_data self.old crosses }
+    {
+        if crosses {
+            self.begun = true;
+        }
     }
 
     /// One row more, before and after which these connections stand.

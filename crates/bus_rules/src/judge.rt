@@ -33,8 +33,7 @@ pub fn judge_plain(rows: &[Row], end: Ns) -> Verdict
 {
     let mut terms = Terms::new();
     for (i, row) in rows.iter().enumerate() {
-        let seen = terms.step(row);
-        if let Some(rule) = lowest_broken(&seen, row) {
+        if let Some(rule) = terms.judge(row) {
             return Verdict::Broken { row: i + 1, rule };
         }
     }

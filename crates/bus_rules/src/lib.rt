@@ -17,6 +17,7 @@ mod changes;
 mod connected;
 mod connection;
 mod course;
+mod data_rows;
 mod dialogue;
 mod free_bus;
 mod half;

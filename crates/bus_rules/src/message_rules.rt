@@ -35,7 +35,8 @@ fn negates_atn_well(seen: &Seen, time: Ns) -> bool
         && (!is_last || time.saturating_sub(atn_false_since(seen, time)) >= TWO_DESKEW)
 }
 
-fn is_owed(duty: Duty) -> bool
+/// Whether the next REQ has to be in MESSAGE OUT.
+pub fn is_owed(duty: Duty) -> bool
     ensures { result ≡ is_owed duty }
 {
     match duty {
@@ -127,8 +128,8 @@ fn may_take(command: CommandBytes, byte: u8) -> bool
     }
 }
 
-// Whether no byte of COMMAND has crossed, or all have.
-fn is_none_or_all(command: CommandBytes) -> bool
+/// Whether no byte of COMMAND has crossed, or all have.
+pub fn is_none_or_all(command: CommandBytes) -> bool
     ensures { result ≡ is_none_or_all command }
 {
     if command.count == 0 {

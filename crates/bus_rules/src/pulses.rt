@@ -41,6 +41,22 @@ fn counted(now: bool, count: u64) -> u64
     if now { count.saturating_add(1) } else { count }
 }
 
+impl Pulses {
+    /// One row more of the same phase.
+    pub fn count(&mut self, change: &Change, time: Ns)
+        ensures { self.new ≡ pulses_on self.old change.now time }
+    {
+        if rises(change.before.req(), change.after.req()) {
+            self.req = self.req.saturating_add(1);
+            self.last_req = Some(time);
+        }
+        if rises(change.before.ack(), change.after.ack()) {
+            self.ack = self.ack.saturating_add(1);
+            self.last_ack = Some(time);
+        }
+    }
+}
+
 fn pulses_on(old: Pulses, change: &Change, time: Ns) -> Pulses
     ensures { result ≡ pulses_on old change.now time }
 {

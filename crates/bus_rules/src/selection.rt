@@ -39,7 +39,8 @@ pub struct Call {
     pub calling: Option<Calling>,
 }
 
-fn is_fault(kind: Kind) -> bool
+/// Whether a row tells a fault.
+pub fn is_fault(kind: Kind) -> bool
     ensures { result ≡ is_fault kind }
 {
     match kind {

@@ -1,5 +1,5 @@
 //! The terms of the rules, row by row.
-ghost use Rattle.std.specs.Prelude.{◌≡◌, ◌<◌, ◌∷◌, [], List};
+ghost use Rattle.std.specs.Prelude.{true, ◌≡◌, ◌<◌, ◌∷◌, [], List};
 ghost use Rattle.bus_lines.specs.LineSet.{LineSet, line_of};
 ghost use Rattle.bus_lines.specs.declared.Row.{Row};
 ghost use Rattle.bus_lines.specs.Trace.{IsViewOf, drives, since};
@@ -8,15 +8,21 @@ ghost use Rattle.bus_rules.specs.Connections.{HasEnds};
 ghost use Rattle.bus_rules.specs.Terms.{free_since};
 ghost use Rattle.bus_rules.specs.Phases.{phase_since};
 ghost use Rattle.bus_rules.specs.Judging.{IsCourseOf};
+ghost use Rattle.bus_rules.specs.Changes.{change_of};
+ghost use Rattle.bus_rules.specs.Rules.{broken_rule};
+ghost use Rattle.bus_rules.specs.DataRows.{standing_of, passes};
 ghost use Rattle.bus_rules.specs.Seen.{seen, seen_with, other_drives, others_drive, others_in_call, id_since, id_since_calling, initiator_called, initiator_of, drives_bsy, initiator_data, target_data};
 
 use crate::attention::is_held;
 use crate::changes::{Change, drives_data};
 use crate::connection::Connection;
 use crate::course::Course;
+use crate::data_rows::{passes, what_stands};
 use crate::reading::Reading;
+use crate::rules::lowest_broken;
 use crate::seen::Seen;
 use crate::selection::Call;
+use crate::verdict::RuleNo;
 use bus_base::{Dev, Ns};
 use bus_lines::{BusView, Row};
 use std::marker::Model;
@@ -99,8 +105,8 @@ fn initiator_of(call: Option<Call>, connection: Option<Connection>) -> Option<De
     }
 }
 
-// Whether the initiator drives BSY.
-fn initiator_bsy(view: &BusView, call: Option<Call>, connection: Option<Connection>) -> bool
+/// Whether the initiator drives BSY.
+pub fn initiator_bsy(view: &BusView, call: Option<Call>, connection: Option<Connection>) -> bool
     requires devices { HasDevices call }
     requires ends { HasEnds connection }
     ensures { (rows : List Row) → IsViewOf rows view.now → result ≡ drives_bsy (drives rows) (initiator_of call connection) }
@@ -111,8 +117,8 @@ fn initiator_bsy(view: &BusView, call: Option<Call>, connection: Option<Connecti
     }
 }
 
-// Whether the initiator of the connection drives data lines.
-fn initiator_data(view: &BusView, connection: Option<Connection>) -> bool
+/// Whether the initiator of the connection drives data lines.
+pub fn initiator_data(view: &BusView, connection: Option<Connection>) -> bool
     requires { HasEnds connection }
     ensures { (rows : List Row) → IsViewOf rows view.now → result ≡ initiator_data (drives rows) connection }
 {
@@ -122,8 +128,8 @@ fn initiator_data(view: &BusView, connection: Option<Connection>) -> bool
     }
 }
 
-// Whether the target of the connection drives data lines.
-fn target_data(view: &BusView, connection: Option<Connection>) -> bool
+/// Whether the target of the connection drives data lines.
+pub fn target_data(view: &BusView, connection: Option<Connection>) -> bool
     requires { HasEnds connection }
     ensures { (rows : List Row) → IsViewOf rows view.now → result ≡ target_data (drives rows) connection }
 {
@@ -140,8 +146,8 @@ fn free_since(view: &BusView) -> Ns
     view.since_bsy().max(view.since_sel()).max(view.since_rst())
 }
 
-// When the phase lines last changed.
-fn phase_since(view: &BusView) -> Ns
+/// When the phase lines last changed.
+pub fn phase_since(view: &BusView) -> Ns
     ensures { (rows : List Row) → IsViewOf rows view.now → result ≡ phase_since rows }
 {
     view.since_msg().max(view.since_cd()).max(view.since_io())
@@ -158,6 +164,49 @@ impl Terms {
             view: BusView::new(),
             course: Course::new(),
         }
+    }
+
+    // One row more, which passes the short test.
+    #[inline(always)]
+    fn transfer(&mut self, change: &Change, row: &Row)
+        requires { row.now.dev < 8 }
+        ensures kept { (rows : List Row) → IsTermsOf rows self.old → change.now ≡ change_of rows row.now → passes (standing_of (seen rows row.now)) change.now row.now ≡ true → IsTermsOf (row.now ∷ rows) self.new }
+    {
+        let held = is_held(change, self.view.since_atn(), row.time);
+        self.course.transfer(held, change, row.time);
+        self.view.step_to(row, change.after);
+    }
+
+    // One row more, rule by rule.
+    #[inline(never)]
+    fn judge_by_rules(&mut self, row: &Row) -> Option<RuleNo>
+        requires { row.now.dev < 8 }
+        ensures kept { (rows : List Row) → IsTermsOf rows self.old → IsTermsOf (row.now ∷ rows) self.new }
+        ensures broken { (rows : List Row) → IsTermsOf rows self.old → result ≡ broken_rule rows row.now }
+    {
+        let seen = self.step(row);
+        lowest_broken(&seen, row)
+    }
+
+    /// One row more: the lowest rule that it breaks. Its time may be any, also before that of the last row.
+    pub fn judge(&mut self, row: &Row) -> Option<RuleNo>
+        requires { row.now.dev < 8 }
+        ensures kept { (rows : List Row) → IsTermsOf rows self.old → IsTermsOf (row.now ∷ rows) self.new }
+        ensures broken { (rows : List Row) → IsTermsOf rows self.old → result ≡ broken_rule rows row.now }
+    {
+        let own = self.view.drives(row.dev);
+        let next = row.kind.driven_after(own);
+        let change = Change {
+            before: self.view.bus(),
+            after: self.view.bus_with(row.dev, next),
+            own,
+            next,
+        };
+        if passes(&what_stands(&self.view, &self.course), &change, row) {
+            self.transfer(&change, row);
+            return None;
+        }
+        self.judge_by_rules(row)
     }
 
     /// One row more: what it meets. Its time may be any, also before that of the last row.

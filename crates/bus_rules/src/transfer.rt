@@ -50,13 +50,15 @@ fn data_stand_since(seen: &Seen, time: Ns) -> Ns
     }
 }
 
-fn changes_data(change: &Change) -> bool
+/// Whether the data lines change.
+pub fn changes_data(change: &Change) -> bool
     ensures { result ≡ changes_data change.now }
 {
     change.before.data_bits() != change.after.data_bits()
 }
 
-fn alternates(change: &Change) -> bool
+/// Whether REQ and ACK change in turns.
+pub fn alternates(change: &Change) -> bool
     ensures { result ≡ alternates change.now }
 {
     let (req, ack) = (change.before.req(), change.before.ack());
@@ -81,7 +83,8 @@ pub fn keeps_set_up(seen: &Seen, row: &Row) -> bool
         || row.time.saturating_sub(data_stand_since(seen, row.time)) >= SET_UP_TIME
 }
 
-fn holds_still(lines: Lines) -> bool
+/// Whether the data lines have to stand.
+pub fn holds_still(lines: Lines) -> bool
     ensures { result ≡ holds_still lines }
 {
     if lines.io() {
@@ -113,8 +116,8 @@ pub fn keeps_offset(seen: &Seen) -> bool
         && (!rises(before.ack(), after.ack()) || ack < req)
 }
 
-// The times of a transfer period factor; below the least of them those of a transfer that is not fast.
-fn times_of(factor: u8) -> TransferTimes
+/// The times of a transfer period factor; below the least of them those of a transfer that is not fast.
+pub fn times_of(factor: u8) -> TransferTimes
     ensures exact { result ≡ times_of factor }
     ensures times { AreTimes result }
 {
@@ -130,8 +133,8 @@ fn times_of(factor: u8) -> TransferTimes
     }
 }
 
-// Whether this long has passed since a moment, if there was one.
-fn is_after(moment: Option<Ns>, delay: Ns, time: Ns) -> bool
+/// Whether this long has passed since a moment, if there was one.
+pub fn is_after(moment: Option<Ns>, delay: Ns, time: Ns) -> bool
     ensures { result ≡ is_after moment delay time }
 {
     match moment {
@@ -140,8 +143,8 @@ fn is_after(moment: Option<Ns>, delay: Ns, time: Ns) -> bool
     }
 }
 
-// Whether a line of pulses changes as the times allow.
-fn pulses_well(
+/// Whether a line of pulses changes as the times allow.
+pub fn pulses_well(
     times: TransferTimes,
     before: bool,
     after: bool,

@@ -13,7 +13,7 @@ ghost use Rattle.bus_rules.specs.Rules.{judged, judged_whole, verdict_of, if_law
 use bus_base::Ns;
 pub use bus_lines::{Kind, Lines, Row};
 pub use bus_rules::Verdict;
-use bus_rules::{RuleNo, Terms, end_row, lowest_at_end, lowest_broken};
+use bus_rules::{RuleNo, Terms, end_row, lowest_at_end};
 
 /// A judge of the rows of a trace so far.
 #[derive(Debug, Drop)]
@@ -54,8 +54,7 @@ impl Judge {
         ensures kept { (rows : List Row) → IsJudgeOf rows self.old → length rows < 2 ^ 63 → IsJudgeOf (row.now ∷ rows) self.new }
         ensures verdict { (rows : List Row) → IsJudgeOf rows self.old → length rows < 2 ^ 63 → result ≡ judged (row.now ∷ rows) }
     {
-        let seen = self.terms.step(row);
-        let broken = lowest_broken(&seen, row);
+        let broken = self.terms.judge(row);
         self.count = self.count.saturating_add(1);
         self.verdict = joined(self.verdict, broken, self.count);
         self.verdict

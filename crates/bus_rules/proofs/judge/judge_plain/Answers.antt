@@ -3,7 +3,7 @@ use Rattle.std.proofs.Common.{◌≡◌, ◌+◌, ◌∙◌, List, reverse, take
 use Rattle.bus_lines.specs.declared.Row.{Row}
 use Rattle.bus_rules.specs.declared.seen.Seen.{Seen}
 use Rattle.bus_rules.specs.Seen.{end_row, seen}
-use Rattle.bus_rules.specs.Rules.{lowest_broken, lowest_at_end, judged}
+use Rattle.bus_rules.specs.Rules.{lowest_at_end, judged}
 use Rattle.bus_rules.specs.Judging.{IsTermsOf}
 use Rattle.bus_rules.proofs.Past.{past_more, whole_broken, judged_next, judged_end}
 use Rattle.bus_rules.proofs.judge.judge_plain.Goals as goal
@@ -13,8 +13,7 @@ returns-in-Some c =
     let xs : List Row = c.args.rows.now in
     let past : List Row = reverse (take c.loop-i.i xs) in
     let row : Row = c.index-rows-i.result in
-    let met = c.step-seen.ensures.seen past c.loop-i.invariant.terms in
-    let broken = sym (ap (λ (s : Seen). lowest_broken s row) met) ∙ sym c.lowest_broken.ensures ∙ c.in-Some.is in
+    let broken = sym (c.judge.ensures.broken past c.loop-i.invariant.terms) ∙ c.in-Some.is in
     let next = judged_next xs c.loop-i.i row c.loop-i-test.true c.index-rows-i.is _ broken c.loop-i.invariant.lawful in
     whole_broken xs (c.loop-i.i + 1) _ _ c.args.end next
 
@@ -23,11 +22,10 @@ loop-i-preserved c =
     let xs : List Row = c.args.rows.now in
     let past : List Row = reverse (take c.loop-i.i xs) in
     let row : Row = c.index-rows-i.result in
-    let met = c.step-seen.ensures.seen past c.loop-i.invariant.terms in
-    let kept = c.step-seen.ensures.kept past c.loop-i.invariant.terms in
-    let broken = sym (ap (λ (s : Seen). lowest_broken s row) met) ∙ sym c.lowest_broken.ensures ∙ c.in_default.is in
+    let kept = c.judge.ensures.kept past c.loop-i.invariant.terms in
+    let broken = sym (c.judge.ensures.broken past c.loop-i.invariant.terms) ∙ c.in_default.is in
     record {
-      terms = subst (λ (ps : List Row). IsTermsOf ps c.step-seen.new.self) (sym (past_more xs c.loop-i.i row c.loop-i-test.true c.index-rows-i.is)) kept;
+      terms = subst (λ (ps : List Row). IsTermsOf ps c.judge.new.self) (sym (past_more xs c.loop-i.i row c.loop-i-test.true c.index-rows-i.is)) kept;
       lawful = judged_next xs c.loop-i.i row c.loop-i-test.true c.index-rows-i.is _ broken c.loop-i.invariant.lawful;
     }
 
@@ -37,7 +35,7 @@ returns-in-Some-lowest_at_end c =
     let all = take_all c.loop-i.i xs (let past = c.loop-i-test.false in omega arith) in
     let lawful = ap (λ (ys : List Row). judged (reverse ys)) (sym all) ∙ c.loop-i.invariant.lawful in
     let terms = subst (λ (ys : List Row). IsTermsOf (reverse ys) c.loop-i.terms) all c.loop-i.invariant.terms in
-    let met = c.step-seen-2.ensures.seen (reverse xs) terms in
+    let met = c.step-seen.ensures.seen (reverse xs) terms in
     let end : c.end_row.result ≡ end_row c.args.end = c.end_row.ensures in
     judged_end xs c.args.end _ lawful (sym (ap (λ (s : Seen). lowest_at_end s c.args.end) (met ∙ (λ i. seen (reverse xs) (end i)))) ∙ sym c.lowest_at_end.ensures ∙ c.in-Some-lowest_at_end.is)
 
@@ -47,6 +45,6 @@ returns-in-None c =
     let all = take_all c.loop-i.i xs (let past = c.loop-i-test.false in omega arith) in
     let lawful = ap (λ (ys : List Row). judged (reverse ys)) (sym all) ∙ c.loop-i.invariant.lawful in
     let terms = subst (λ (ys : List Row). IsTermsOf (reverse ys) c.loop-i.terms) all c.loop-i.invariant.terms in
-    let met = c.step-seen-2.ensures.seen (reverse xs) terms in
+    let met = c.step-seen.ensures.seen (reverse xs) terms in
     let end : c.end_row.result ≡ end_row c.args.end = c.end_row.ensures in
     judged_end xs c.args.end _ lawful (sym (ap (λ (s : Seen). lowest_at_end s c.args.end) (met ∙ (λ i. seen (reverse xs) (end i)))) ∙ sym c.lowest_at_end.ensures ∙ c.in-None.is)

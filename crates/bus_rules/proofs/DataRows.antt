@@ -1,0 +1,690 @@
+-- A row that changes data lines, REQ and ACK alone, and passes the short test, breaks no rule.
+use Rattle.std.proofs.Common.{ℕ, ◌≡◌, ◌+◌, ◌%◌, ◌++◌, [], Bool, true, false, List, ◌∷◌, Option, Some, None, refl, sym, ap, subst, ◌∙◌, cond, arith}
+use Rattle.std.specs.Prelude.{not, ◌&&◌, ◌||◌, ◌==◌, is_some, is_none, nat_le, max, if◌then◌else◌}
+use Rattle.bus_lines.specs.LineSet.{LineSet, data_of, same, same_set, none, has_odd_parity}
+use Rattle.bus_lines.specs.declared.Row.{Row}
+use Rattle.bus_lines.specs.declared.Kind.{Kind}
+use Rattle.bus_lines.specs.declared.Kind.TheVariants.{Drives, Fault}
+use Rattle.bus_lines.specs.declared.delays.TheConstants.{SET_UP_TIME, BUS_SETTLE_DELAY, BUS_CLEAR_DELAY, RESET_HOLD_TIME, QUIET_TIME, DATA_RELEASE_DELAY, DESKEW_DELAY, TURN_DELAY}
+use Rattle.bus_rules.specs.declared.attention.Duty.{Duty}
+use Rattle.bus_rules.specs.declared.attention.Duty.TheVariants as duties
+use Rattle.bus_rules.specs.declared.course.Course.{Course}
+use Rattle.bus_rules.specs.declared.dialogue.Dialogue.{Dialogue}
+use Rattle.bus_rules.specs.declared.raises.Raises.{Raises}
+use Rattle.bus_rules.specs.declared.data_rows.Standing.{Standing}
+use Rattle.bus_lines.specs.declared.agreements.Agreement.{Agreement}
+use Rattle.std.proofs.lemmas.Bool.Decides.{nat_tests}
+use Rattle.bus_lines.specs.Trace.{drives, driven_after, last_time, since, since_line}
+use Rattle.bus_rules.specs.declared.arbitration.Arbitration.{Arbitration}
+use Rattle.bus_rules.specs.declared.changes.Change.{Change}
+use Rattle.bus_rules.specs.declared.connection.Connection.{Connection}
+use Rattle.bus_rules.specs.declared.selection.Call.{Call}
+use Rattle.bus_rules.specs.declared.reading.Reading.{Reading}
+use Rattle.bus_rules.specs.declared.reading.Reading.TheVariants.{NoMessage}
+use Rattle.bus_rules.specs.declared.seen.Seen.{Seen}
+use Rattle.bus_rules.specs.Changes.{rises, falls, implies, same_hold, same_phase, raises_none, raises_only, is_within, drives_data}
+use Rattle.bus_rules.specs.Order.{is_in_order, is_news_of}
+use Rattle.bus_rules.specs.FreeBus.{is_entry, enters_well, contends_well}
+use Rattle.bus_rules.specs.Selection.{others_release, is_left, keeps_winner_of, keeps_calling_of, keeps_answer_of, keeps_end_of, keeps_time_out_of, hands_over, takes_over}
+use Rattle.bus_rules.specs.Terms.{is_fault, free_since, raised, raised_next, arbitration, arbitration_after, call, call_after, call_goes_on, connection, connection_after, receiver_of}
+use Rattle.bus_rules.specs.Dialogue.{asynchronous, agreed, closed_by, dialogue, dialogue_after, byte_crosses, byte_out, byte_in, takes_command, phase_begins}
+use Rattle.bus_rules.specs.Reset.{is_reset, only_rst}
+use Rattle.bus_rules.specs.Phases.{phase_since, is_held, duty_left, duty_after, no_pulses, pulses_on, pulses_after, turned_after, is_data, is_command, is_message_out, is_message_in, is_reserved, changes_phase}
+use Rattle.bus_rules.specs.Connected.{keeps_sides, keeps_lines_of, keeps_turns_of, or_new, has_no_initiator_line, has_no_target_line, raises_data, raises_in_turn, initiator_released_of, waits_for_turn, target_released_of, frees_well}
+use Rattle.bus_rules.specs.Messages.{is_owed, is_none_or_all, is_unknown, is_opening, same_bool, opens_well, may_take}
+use Rattle.bus_rules.specs.Transfer.{crosses, is_pulsed, is_asynchronous, data_stand_since, changes_data, holds_still, is_after, pulses_well, times_of, last_crossing}
+use Rattle.msg_grammar.specs.Messages.{got_out, got_in}
+use Rattle.bus_rules.specs.Reading.{reading_of, reading_out, reading_in}
+use Rattle.bus_rules.specs.Seen.{seen, seen_with, drives_bsy, initiator_of, initiator_data, target_data}
+use Rattle.bus_rules.specs.Changes.{change_of}
+use Rattle.bus_rules.specs.Rules.{test, keeps, judged_rules, lowest_broken, broken_rule}
+use Rattle.bus_rules.specs.DataRows.{same_but_bytes, is_data_row, crosses_in, keeps_side, asks_soon, is_in_turn, has_turned, stand_since, is_shaken, is_pulsed_well, standing_of, may_cross, transfers_well, is_move, passes, passes_of, passes_in, duty_in_data, takes_data, transferred}
+use Rattle.bus_rules.specs.Judging.{IsRaisesOf, IsCourseOf}
+use Rattle.bus_rules.proofs.First.{none_broken}
+use Rattle.bus_rules.proofs.Agreeing.{agreeing}
+use Rattle.bus_rules.proofs.Courses.{goes_on}
+
+-- ---- tests
+
+both : (a b : Bool) → (a && b) ≡ true → (a ≡ true) × (b ≡ true)
+both true b e = (refl, e)
+both false b e = absurd cc
+
+is_false : (a : Bool) → not a ≡ true → a ≡ false
+is_false true e = absurd cc
+is_false false e = refl
+
+are_same : (a b : Bool) → same a b ≡ true → a ≡ b
+are_same true true e = refl
+are_same true false e = absurd cc
+are_same false true e = absurd cc
+are_same false false e = refl
+
+no_rise : (a b : Bool) → a ≡ b → rises a b ≡ false
+no_rise true b e = refl
+no_rise false true e = absurd cc
+no_rise false false e = refl
+
+no_fall : (a b : Bool) → a ≡ b → falls a b ≡ false
+no_fall true true e = refl
+no_fall true false e = absurd cc
+no_fall false b e = refl
+
+and_false : (a b : Bool) → b ≡ false → (a && b) ≡ false
+and_false true b e = e
+and_false false b e = refl
+
+-- what implies nothing
+never : (p q : Bool) → p ≡ false → implies p q ≡ true
+never p q e = λ i. not (e i) || q
+
+always : (p q : Bool) → q ≡ true → implies p q ≡ true
+always true q e = e
+always false q e = refl
+
+so : (p q : Bool) → implies p q ≡ true → p ≡ true → q ≡ true
+so true q e h = e
+so false q e h = absurd cc
+
+-- ---- what such a row leaves as it is
+
+pub record IsQuiet (c : Change) : Type 0 where
+  pub bsy : c.before.bsy ≡ true
+  pub sel : c.before.sel ≡ false
+  pub rst : c.before.rst ≡ false
+  pub msg : c.before.msg ≡ false
+  pub cd : c.before.cd ≡ false
+  pub bsy_after : c.before.bsy ≡ c.after.bsy
+  pub sel_after : c.before.sel ≡ c.after.sel
+  pub rst_after : c.before.rst ≡ c.after.rst
+  pub phase : same_phase c.before c.after ≡ true
+  pub io_after : c.before.io ≡ c.after.io
+  pub atn_after : c.before.atn ≡ c.after.atn
+  pub own_bsy : c.own.bsy ≡ c.next.bsy
+  pub own_sel : c.own.sel ≡ c.next.sel
+  pub own_rst : c.own.rst ≡ c.next.rst
+  pub own_rst_false : c.own.rst ≡ false
+
+pub is_quiet : (c : Change) → is_data_row c ≡ true → IsQuiet c
+is_quiet c e =
+    let a = both _ _ e in
+    let b = both _ _ a.0 in
+    let bus = both _ _ b.0 in
+    let off = both _ _ bus.0 in
+    let on = both _ _ off.0 in
+    let phase = both _ _ bus.1 in
+    let move = both _ _ b.1 in
+    let held = both _ _ move.0 in
+    let hold = both _ _ held.0 in
+    let first = both _ _ hold.0 in
+    let kept = both _ _ held.1 in
+    let own = both _ _ a.1 in
+    let down = both _ _ own.0 in
+    let own_held = both _ _ (both _ _ own.1).0 in
+    let own_hold = both _ _ own_held.0 in
+    let own_first = both _ _ own_hold.0 in
+    record {
+      bsy = on.0;
+      sel = is_false _ on.1;
+      rst = is_false _ off.1;
+      msg = is_false _ phase.0;
+      cd = is_false _ phase.1;
+      bsy_after = are_same _ _ first.0;
+      sel_after = are_same _ _ first.1;
+      rst_after = are_same _ _ hold.1;
+      phase = held.1;
+      io_after = are_same _ _ kept.1;
+      atn_after = are_same _ _ move.1;
+      own_bsy = are_same _ _ own_first.0;
+      own_sel = are_same _ _ own_first.1;
+      own_rst = are_same _ _ own_hold.1;
+      own_rst_false = is_false _ down.1;
+    }
+
+-- ---- rules 1 to 13, 27 and 28
+
+news : (s : Seen) (row : Row) (kind : Kind) → is_fault kind ≡ false → same_set s.change.own s.change.next ≡ false → is_news_of s row kind ≡ true
+news s row (Drives lines) ek e = λ i. not (e i)
+news s row (Fault bit) ek e = absurd cc
+
+free_bus : (s : Seen) (row : Row) → IsQuiet s.change → test 3 s row ≡ true
+free_bus s row q =
+    let e = q.bsy in
+    λ i. implies (not (e i) && not s.change.before.sel) (raises_none s.change || is_entry s) && implies (not (e i) && not s.change.before.sel) (nat_le row.time (max s.bsy_since s.sel_since + QUIET_TIME) || is_within s.change.before only_rst)
+
+arbitration_kept : (s : Seen) (row : Row) → IsQuiet s.change → s.arbitration ≡ None → test 4 s row ≡ true
+arbitration_kept s row q alone =
+    let r = no_rise _ _ q.own_bsy in
+    λ i. implies (r i && not s.change.before.sel && is_none s.connection) (enters_well s row) && implies ((is_some (alone i) && s.change.own.bsy) && not (r i && not s.change.before.sel && is_none s.connection)) (contends_well s)
+
+turn_kept : (s : Seen) (row : Row) → IsQuiet s.change → test 5 s row ≡ true
+turn_kept s row q = never _ _ (no_rise _ _ q.own_sel)
+
+win_kept : (s : Seen) (row : Row) → IsQuiet s.change → test 6 s row ≡ true
+win_kept s row q = never _ _ (no_rise _ _ q.own_sel)
+
+losers_off : (s : Seen) (row : Row) → s.call ≡ None → test 7 s row ≡ true
+losers_off s row alone = λ i. others_release s row (alone i) && is_left s row.time (alone i)
+
+winner_kept : (s : Seen) (row : Row) → s.call ≡ None → test 8 s row ≡ true
+winner_kept s row alone = λ i. keeps_winner_of row (alone i)
+
+calling_kept : (s : Seen) (row : Row) → s.call ≡ None → test 9 s row ≡ true
+calling_kept s row alone = λ i. keeps_calling_of s row (alone i)
+
+answer_kept : (s : Seen) (row : Row) → s.call ≡ None → test 10 s row ≡ true
+answer_kept s row alone = λ i. keeps_answer_of s row (alone i)
+
+end_kept : (s : Seen) (row : Row) → s.call ≡ None → test 11 s row ≡ true
+end_kept s row alone = λ i. keeps_end_of s row (alone i)
+
+time_out_kept : (s : Seen) (row : Row) → s.call ≡ None → test 12 s row ≡ true
+time_out_kept s row alone = λ i. keeps_time_out_of s row (alone i)
+
+both_true : (a b : Bool) → a ≡ true → b ≡ true → (a && b) ≡ true
+both_true a b ea eb = λ i. ea i && eb i
+
+taken_over : (s : Seen) (row : Row) (n : Connection) → IsQuiet s.change → takes_over s row (Some n) ≡ true
+taken_over s row n q = λ i. implies (and_false (n.reselected && row.dev == n.initiator) _ (no_fall _ _ q.own_bsy) i) (is_within s.change.next (record none { atn = true }))
+
+freeing_kept : (s : Seen) (row : Row) (n : Connection) → IsQuiet s.change → frees_well s row (Some n) ≡ true
+freeing_kept s row n q = λ i. implies (and_false (row.dev == n.target) _ (no_fall _ _ q.own_bsy) i) (not s.change.before.req && not s.change.before.ack && raises_none s.change)
+
+reset_kept : (s : Seen) (row : Row) → IsQuiet s.change → test 28 s row ≡ true
+reset_kept s row q =
+    let own = no_rise _ _ q.own_rst in
+    let off = no_fall _ _ q.own_rst in
+    λ i. implies (q.rst i || own i) (raises_only only_rst s.change) && implies (q.rst i) (nat_le row.time (s.rst_since + BUS_CLEAR_DELAY) || is_within s.change.before only_rst) && implies (off i) (nat_le (s.rst_raised + RESET_HOLD_TIME) row.time)
+
+-- ---- the rules of a connection
+
+side_kept : (n : Connection) (dev : ℕ) (s : LineSet) → keeps_side n dev s ≡ true → keeps_sides n dev s ≡ true
+side_kept n dev s e = go (dev == n.target) (dev == n.initiator) e
+  where
+    go : (t i : Bool) → (if t then has_no_initiator_line s else (i && has_no_target_line s)) ≡ true → (if t then has_no_initiator_line s else if i then has_no_target_line s else same_set s none) ≡ true
+    go true i e = e
+    go false true e = e
+    go false false e = absurd cc
+
+no_change : (s : Seen) → IsQuiet s.change → changes_phase s.change ≡ false
+no_change s q = λ i. not (q.phase i)
+
+crossing : (n : Connection) (c : Change) → is_some (receiver_of (Some n) c) ≡ crosses_in c
+crossing n c = go c.before.io (rises c.before.req c.after.req) (rises c.before.ack c.after.ack)
+  where
+    go : (io r a : Bool) → is_some (if io then (if r then Some n.initiator else None) else (if a then Some n.target else None)) ≡ (if io then r else a)
+    go true true a = refl
+    go true false a = refl
+    go false r true = refl
+    go false r false = refl
+
+lines_kept : (s : Seen) (row : Row) (n : Connection) → IsQuiet s.change → keeps_side n row.dev s.change.next ≡ true → asks_soon (max s.phase_since n.began) row.time s.duty s.initiator_bsy s.change ≡ true → keeps_lines_of s row (Some n) ≡ true
+lines_kept s row n q side asks =
+    let still = no_change s q in
+    both_true _ _ (both_true _ _ (side_kept n row.dev s.change.next side) (λ i. implies (still i) (not s.change.before.req && not s.change.before.ack))) (go (rises s.change.before.req s.change.after.req) asks)
+  where
+    go : (r : Bool) → implies r (nat_le (max s.phase_since n.began + BUS_SETTLE_DELAY) row.time && not (is_owed s.duty) && not s.initiator_bsy) ≡ true
+        → implies r (not (changes_phase s.change) && not (is_reserved s.change.before) && nat_le (max s.phase_since n.began + BUS_SETTLE_DELAY) row.time) ≡ true
+    go true e = let soon = (both _ _ (both _ _ e).0).0 in λ i. not (no_change s q i) && not (q.msg i && not s.change.before.cd) && soon i
+    go false e = refl
+
+asking_kept : (s : Seen) (time since : ℕ) → asks_soon since time s.duty s.initiator_bsy s.change ≡ true → (implies (rises s.change.before.req s.change.after.req) (not s.initiator_bsy) ≡ true) × (implies (rises s.change.before.req s.change.after.req && is_owed s.duty) (is_message_out s.change.before) ≡ true)
+asking_kept s time since e = go (rises s.change.before.req s.change.after.req) e
+  where
+    go : (r : Bool) → implies r (nat_le (since + BUS_SETTLE_DELAY) time && not (is_owed s.duty) && not s.initiator_bsy) ≡ true → (implies r (not s.initiator_bsy) ≡ true) × (implies (r && is_owed s.duty) (is_message_out s.change.before) ≡ true)
+    go true e =
+        let rest = both _ _ e in
+        let owed = is_false _ (both _ _ rest.0).1 in
+        (rest.1, λ i. implies (owed i) (is_message_out s.change.before))
+    go false e = (refl, refl)
+
+reselection_kept : (s : Seen) (row : Row) (n : Connection) (since : ℕ) → IsQuiet s.change → s.call ≡ None → s.connection ≡ Some n → asks_soon since row.time s.duty s.initiator_bsy s.change ≡ true → test 13 s row ≡ true
+reselection_kept s row n since q alone conn asks =
+    both_true _ _ (both_true _ _ (λ i. hands_over s row (alone i)) ((λ i. takes_over s row (conn i)) ∙ taken_over s row n q)) (asking_kept s row.time since asks).0
+
+attention_kept : (s : Seen) (row : Row) (since : ℕ) → IsQuiet s.change → asks_soon since row.time s.duty s.initiator_bsy s.change ≡ true → test 24 s row ≡ true
+attention_kept s row since q asks =
+    always _ _ (both_true _ _ (never _ _ (λ i. q.msg i && s.change.before.cd && not s.change.before.io)) (asking_kept s row.time since asks).1)
+
+-- the end whose turn it is
+turn_of : (s : Seen) (row : Row) (n : Connection) → keeps_side n row.dev s.change.next ≡ true → is_in_turn (row.dev == n.target) s.change ≡ true → raises_in_turn n s row.dev ≡ true
+turn_of s row n side e = go (raises_data s.change) (row.dev == n.target) (row.dev == n.initiator) s.change.before.io side e
+  where
+    go : (r t i io : Bool) → (if t then has_no_initiator_line s.change.next else (i && has_no_target_line s.change.next)) ≡ true → implies r (same t io) ≡ true → implies r (if t then io else if i then not io else true) ≡ true
+    go false t i io side e = refl
+    go true true i io side e = e
+    go true false true io side e = e
+    go true false false io side e = absurd cc
+
+turned_kept : (s : Seen) (row : Row) (n : Connection) → IsQuiet s.change → s.connection ≡ Some n → has_turned s.turned (row.dev == n.target) s.initiator_data s.target_data s.change s.io_since row.time ≡ true
+    → (initiator_released_of s row.time (Some n) ≡ true) × (waits_for_turn s row (Some n) ≡ true) × (target_released_of s row.time (Some n) ≡ true)
+turned_kept s row n q conn e =
+    let io : s.change.after.io ≡ s.change.before.io = sym q.io_after in
+    let rise = no_rise _ _ q.io_after in
+    let rest = go s.change.before.io s.turned e in (
+      rest.0,
+      (λ i. implies (io i && (turned_after s.turned (conn i) s.change) && row.dev == n.target && drives_data s.change.next) (nat_le ((if rise i then row.time else s.io_since) + TURN_DELAY) row.time))
+          ∙ ((λ i. implies (s.change.before.io && (s.turned || rise i) && row.dev == n.target && drives_data s.change.next) (nat_le (s.io_since + TURN_DELAY) row.time)) ∙ rest.1),
+      rest.2,
+    )
+  where
+    go : (io turned : Bool) → (if io then (nat_le row.time (s.io_since + DATA_RELEASE_DELAY) || not s.initiator_data) && implies (turned && row.dev == n.target && drives_data s.change.next) (nat_le (s.io_since + TURN_DELAY) row.time) else (nat_le row.time (s.io_since + DESKEW_DELAY) || not s.target_data)) ≡ true
+        → (implies io (nat_le row.time (s.io_since + DATA_RELEASE_DELAY) || not s.initiator_data) ≡ true) × (implies (io && (turned || false) && row.dev == n.target && drives_data s.change.next) (nat_le (s.io_since + TURN_DELAY) row.time) ≡ true) × (implies (not io) (nat_le row.time (s.io_since + DESKEW_DELAY) || not s.target_data) ≡ true)
+    go true true e = let two = both _ _ e in (two.0, two.1, refl)
+    go true false e = let two = both _ _ e in (two.0, refl, refl)
+    go false turned e = (refl, refl, e)
+
+-- ---- bytes
+
+first_of_two : (p a b : Bool) → implies p (a && b) ≡ true → (implies p a ≡ true) × (implies p b ≡ true)
+first_of_two true a b e = both a b e
+first_of_two false a b e = (refl, refl)
+
+two_of : (p a b : Bool) → implies p a ≡ true → implies p b ≡ true → implies p (a && b) ≡ true
+two_of true a b ea eb = both_true a b ea eb
+two_of false a b ea eb = refl
+
+under_more : (p d y : Bool) → implies p y ≡ true → implies p (implies d y) ≡ true
+under_more true d y e = always d y e
+under_more false d y e = refl
+
+with_more : (p d y : Bool) → implies p y ≡ true → implies (p && d) y ≡ true
+with_more true d y e = always d y e
+with_more false d y e = refl
+
+more_with : (a p y : Bool) → implies p y ≡ true → implies (a && p) y ≡ true
+more_with true p y e = e
+more_with false p y e = refl
+
+not_without : (p b z : Bool) → implies p b ≡ true → implies (p && not b) z ≡ true
+not_without true b z e = never _ _ (λ i. not (e i))
+not_without false b z e = refl
+
+stands : (c : Change) (since time : ℕ) → (if c.before.data_bits == c.after.data_bits then since else time) ≡ stand_since c since time
+stands c since time = go (c.before.data_bits == c.after.data_bits)
+  where
+    go : (q : Bool) → (if q then since else time) ≡ (if not q then time else since)
+    go true = refl
+    go false = refl
+
+no_command_phase : (c : Change) → IsQuiet c → is_command c.before ≡ false
+no_command_phase c q = λ i. and_false (not c.before.msg) c.before.cd q.cd i && not c.before.io
+
+abbrev Crosses : Seen → Type 0
+Crosses s = crosses s ≡ crosses_in s.change
+
+messages_kept : (s : Seen) (row : Row) (n : Connection) → IsQuiet s.change → s.connection ≡ Some n → s.reading ≡ NoMessage → Crosses s → implies (crosses_in s.change) (may_cross (standing_of s) s.change) ≡ true → test 25 s row ≡ true
+messages_kept s row n q conn er cr may =
+    let p = crosses_in s.change in
+    let rest = first_of_two p (has_odd_parity s.change.after && s.begun) (not s.is_open) (first_of_two p (has_odd_parity s.change.after && s.begun && not s.is_open) (is_none_or_all s.command) may).0 in
+    let begun = first_of_two p (has_odd_parity s.change.after) s.begun rest.0 in
+    let still = no_change s q in
+    both_true _ _ (both_true _ _ (both_true _ _
+    ((λ i. opens_well s (conn i)) ∙ ((λ i. implies (cr i && not s.begun) (is_opening s.reading && same_bool n.reselected s.change.before.io)) ∙ not_without p s.begun _ begun.1))
+    (λ i. not (is_unknown (er i))))
+    (λ i. implies (still i && s.is_half) ((is_message_in s.change.before && s.change.before.atn) || falls s.change.before.bsy s.change.after.bsy)))
+    ((λ i. implies (cr i && is_data s.change.before) (not s.is_open)) ∙ with_more p _ _ rest.1)
+
+command_kept : (s : Seen) (row : Row) → IsQuiet s.change → Crosses s → implies (crosses_in s.change) (may_cross (standing_of s) s.change) ≡ true → test 26 s row ≡ true
+command_kept s row q cr may =
+    let p = crosses_in s.change in
+    let rest = (first_of_two p (has_odd_parity s.change.after && s.begun && not s.is_open) (is_none_or_all s.command) may).1 in
+    (λ i. implies (cr i) (implies (is_command s.change.before) (may_take s.command (s.change.after.data_bits % 256)) && implies (is_data s.change.before) (is_none_or_all s.command)))
+    ∙ two_of p _ _ (always p _ (never _ _ (no_command_phase s.change q))) (under_more p _ _ rest)
+
+parity_kept : (s : Seen) (row : Row) → Crosses s → implies (crosses_in s.change) (may_cross (standing_of s) s.change) ≡ true → test 17 s row ≡ true
+parity_kept s row cr may =
+    let p = crosses_in s.change in
+    let first = first_of_two p (has_odd_parity s.change.after && s.begun && not s.is_open) (is_none_or_all s.command) may in
+    let second = first_of_two p (has_odd_parity s.change.after && s.begun) (not s.is_open) first.0 in
+    (λ i. implies (cr i) (has_odd_parity s.change.after)) ∙ (first_of_two p (has_odd_parity s.change.after) s.begun second.0).0
+
+-- ---- the transfer of a byte
+
+abbrev Transfers : Seen → Row → Type 0
+Transfers s row = (test 18 s row ≡ true) × (test 19 s row ≡ true) × (test 20 s row ≡ true) × (test 21 s row ≡ true) × (test 22 s row ≡ true)
+
+transfers_kept : (s : Seen) (row : Row) (n : Connection) → IsQuiet s.change → s.connection ≡ Some n → Crosses s → transfers_well (standing_of s) s.change row.time ≡ true → Transfers s row
+transfers_kept s row n q conn cr e = go (s.agreement.offset == 0) refl e
+  where
+    pulsed : is_pulsed s ≡ not (s.agreement.offset == 0)
+    pulsed = λ i. is_some (conn i) && ((not (q.msg i) && not (q.cd i)) && not (s.agreement.offset == 0))
+
+    shaken : is_asynchronous s ≡ not (not (s.agreement.offset == 0))
+    shaken = λ i. is_some (conn i) && not ((not (q.msg i) && not (q.cd i)) && not (s.agreement.offset == 0))
+
+    st : data_stand_since s row.time ≡ stand_since s.change s.data_since row.time
+    st = stands s.change s.data_since row.time
+
+    go : (b : Bool) → (s.agreement.offset == 0) ≡ b → (if b then is_shaken s.change s.data_since row.time else is_pulsed_well s.agreement s.pulses s.change s.req_since s.ack_since s.data_since row.time) ≡ true → Transfers s row
+    go true eb h =
+        let off : is_pulsed s ≡ false = pulsed ∙ (λ i. not (eb i)) in
+        let bytes = both _ _ h in
+        let turns = both _ _ bytes.0 in (
+          always _ _ turns.0,
+          (λ i. implies (is_asynchronous s && cr i) (nat_le (st i + SET_UP_TIME) row.time)) ∙ more_with (is_asynchronous s) _ _ turns.1,
+          more_with (is_asynchronous s) _ _ bytes.1,
+          never _ _ off,
+          never _ _ off,
+        )
+    go false eb h =
+        let off : is_asynchronous s ≡ false = shaken ∙ (λ i. not (not (eb i))) in
+        let two = both _ _ h in
+        let times = times_of s.agreement.period in (
+          never _ _ off,
+          never _ _ (λ i. off i && crosses s),
+          never _ _ (λ i. off i && holds_still s.change.before),
+          always _ _ two.0,
+          always _ _ ((λ i. (pulses_well times s.change.before.req s.change.after.req s.req_since s.pulses.last_req row.time && pulses_well times s.change.before.ack s.change.after.ack s.ack_since s.pulses.last_ack row.time)
+              && (implies (cr i) (nat_le (st i + times.set_up) row.time) && implies (changes_data s.change) (is_after (last_crossing s) times.hold row.time))) ∙ two.1),
+        )
+
+leaving_kept : (s : Seen) (row : Row) → IsQuiet s.change → test 23 s row ≡ true
+leaving_kept s row q =
+    let still = no_change s q in
+    let falls_not = no_fall _ _ q.bsy_after in
+    never _ _ (and_false _ _ (λ i. still i || falls_not i))
+
+-- ---- all rules
+
+not_in_reset : (s : Seen) → IsQuiet s.change → is_reset s ≡ false
+not_in_reset s q = λ i. q.rst i || (sym q.rst_after ∙ q.rst) i
+
+-- outside of reset a rule is its test
+by_test : (r t : Bool) → t ≡ true → (if r then true else t) ≡ true
+by_test true t e = refl
+by_test false t e = e
+
+is_nothing : {A : Type 0} (x : Option A) → is_none x ≡ true → x ≡ None
+is_nothing None e = refl
+is_nothing (Some a) e = absurd cc
+
+abbrev Passes : Seen → Row → Type 0
+Passes s row = passes (standing_of s) s.change row ≡ true
+
+in_connection : (s : Seen) (row : Row) (n : Connection) → s.reading ≡ NoMessage → s.connection ≡ Some n → s.call ≡ None → s.arbitration ≡ None → is_in_order s row.time ≡ true → is_move s.change row ≡ true → is_data_row s.change ≡ true → passes_in n (standing_of s) s.change row ≡ true → lowest_broken s row ≡ None
+in_connection s row n er conn call arbitration order move quiet h =
+    let q = is_quiet s.change quiet in
+    let r = is_reset s in
+    let two = both _ _ move in
+    let rest = both _ _ h in
+    let more = both _ _ rest.0 in
+    let turns = both _ _ more.0 in
+    let side = both _ _ turns.0 in
+    let turn = both _ _ turns.1 in
+    let cr : Crosses s = (λ i. is_some (receiver_of (conn i) s.change)) ∙ crossing n s.change in
+    let bytes = transfers_kept s row n q conn cr rest.1 in
+    let released = turned_kept s row n q conn turn.1 in
+    none_broken (λ m. keeps m s row) judged_rules (
+      order,
+      (
+        news s row row.kind (is_false _ two.0) (is_false _ two.1),
+        (
+          by_test r _ (free_bus s row q),
+          (
+            by_test r _ (arbitration_kept s row q arbitration),
+            (
+              by_test r _ (turn_kept s row q),
+              (
+                by_test r _ (win_kept s row q),
+                (
+                  by_test r _ (losers_off s row call),
+                  (
+                    by_test r _ (winner_kept s row call),
+                    (
+                      by_test r _ (calling_kept s row call),
+                      (
+                        by_test r _ (answer_kept s row call),
+                        (
+                          by_test r _ (end_kept s row call),
+                          (
+                            by_test r _ (time_out_kept s row call),
+                            (
+                              by_test r _ (reselection_kept s row n _ q call conn side.1),
+                              (
+                                by_test r _ ((λ i. keeps_lines_of s row (or_new (conn i) (connection_after s.connection s.call s.change row))) ∙ lines_kept s row n q side.0 side.1),
+                                (
+                                  by_test r _ (both_true _ _ ((λ i. keeps_turns_of s row (conn i)) ∙ turn_of s row n side.0 turn.0) ((λ i. initiator_released_of s row.time (conn i)) ∙ released.0)),
+                                  (
+                                    by_test r _ (both_true _ _ ((λ i. waits_for_turn s row (conn i)) ∙ released.1) ((λ i. target_released_of s row.time (conn i)) ∙ released.2)),
+                                    (
+                                      by_test r _ (parity_kept s row cr more.1),
+                                      (
+                                        by_test r _ bytes.0,
+                                        (
+                                          by_test r _ bytes.1,
+                                          (
+                                            by_test r _ bytes.2,
+                                            (
+                                              by_test r _ bytes.3,
+                                              (
+                                                by_test r _ bytes.4,
+                                                (
+                                                  by_test r _ (leaving_kept s row q),
+                                                  (
+                                                    by_test r _ (attention_kept s row _ q side.1),
+                                                    (
+                                                      by_test r _ (messages_kept s row n q conn er cr more.1),
+                                                      (
+                                                        by_test r _ (command_kept s row q cr more.1),
+                                                        (
+                                                          by_test r _ ((λ i. frees_well s row (conn i)) ∙ freeing_kept s row n q),
+                                                          (
+                                                            reset_kept s row q,
+                                                            tt,
+                                                          ),
+                                                        ),
+                                                      ),
+                                                    ),
+                                                  ),
+                                                ),
+                                              ),
+                                            ),
+                                          ),
+                                        ),
+                                      ),
+                                    ),
+                                  ),
+                                ),
+                              ),
+                            ),
+                          ),
+                        ),
+                      ),
+                    ),
+                  ),
+                ),
+              ),
+            ),
+          ),
+        ),
+      ),
+    )
+
+breaks_none_of : (s : Seen) (row : Row) → s.reading ≡ NoMessage → Passes s row → lowest_broken s row ≡ None
+breaks_none_of s row er e = go s.connection refl a.1
+  where
+    a : ((nat_le s.last row.time && is_move s.change row && is_data_row s.change && (is_none s.call && is_none s.arbitration)) ≡ true) × (passes_of (standing_of s) s.change row s.connection ≡ true)
+    a = both _ _ e
+
+    go : (n : Option Connection) → s.connection ≡ n → passes_of (standing_of s) s.change row n ≡ true → lowest_broken s row ≡ None
+    go None en h = absurd cc
+    go (Some n) en h =
+        let b = both _ _ a.0 in
+        let d = both _ _ b.0 in
+        let f = both _ _ d.0 in
+        let alone = both _ _ b.1 in
+        in_connection s row n er en (is_nothing _ alone.0) (is_nothing _ alone.1) f.0 f.1 d.1 h
+
+no_message : (half : List ℕ) (n : Option Connection) (c : Change) → IsQuiet c → reading_of half n c ≡ NoMessage
+no_message half n c q =
+    (λ i. if is_some (receiver_of n c) then
+    (if q.msg i && c.before.cd && not c.before.io then reading_out (got_out (half ++ c.after.data_bits % 256 ∷ []))
+    else if q.msg i && c.before.cd && c.before.io then reading_in (got_in (half ++ c.after.data_bits % 256 ∷ []))
+    else NoMessage)
+    else NoMessage) ∙ either (is_some (receiver_of n c))
+  where
+    either : (x : Bool) → (if x then NoMessage else NoMessage) ≡ NoMessage
+    either true = refl
+    either false = refl
+
+parts : (t : Standing) (c : Change) (row : Row) → passes t c row ≡ true → (is_data_row c ≡ true) × (t.is_alone ≡ true) × (passes_of t c row t.connection ≡ true)
+parts t c row e =
+    let a = both _ _ e in
+    let b = both _ _ a.0 in
+    let d = both _ _ b.0 in
+    (d.1, b.1, a.1)
+
+-- a row that passes the test breaks no rule
+pub breaks_none : (rows : List Row) (row : Row) → passes (standing_of (seen rows row)) (change_of rows row) row ≡ true → broken_rule rows row ≡ None
+unfolding seen_with
+breaks_none rows row e =
+    let quiet = is_quiet (change_of rows row) (parts (standing_of (seen rows row)) (change_of rows row) row e).0 in
+    breaks_none_of (seen rows row) row (no_message (dialogue rows).half (connection rows) (change_of rows row) quiet) e
+
+-- ---- the terms after such a row
+
+raises_stay : (line : LineSet → Bool) (rows : List Row) (row : Row) (r : Raises) → IsRaisesOf line rows r → line (drives rows row.dev) ≡ line (driven_after row.kind (drives rows row.dev)) → IsRaisesOf line (row ∷ rows) r
+raises_stay line rows row r h e dev lt = h dev lt ∙ sym (go (row.dev == dev) refl)
+  where
+    go : (b : Bool) → (row.dev == dev) ≡ b → (if b then raised_next (line (drives rows dev)) (line (driven_after row.kind (drives rows dev))) row.time (raised line rows dev) else raised line rows dev) ≡ raised line rows dev
+    go true eb =
+        let at : row.dev ≡ dev = grind (arith, nat_tests) in
+        let here : line (drives rows dev) ≡ line (driven_after row.kind (drives rows dev)) = subst (λ (d : ℕ). line (drives rows d) ≡ line (driven_after row.kind (drives rows d))) at e in
+        let still = no_rise _ _ here in
+        λ i. if still i then row.time else raised line rows dev
+    go false eb = refl
+
+dialogue_moves : (d : Dialogue) (n : Connection) (f : ℕ → ℕ → Agreement) (c : Change) → IsQuiet c → takes_data d (crosses_in c) ≡ dialogue_after d (Some n) (Some n) f c
+dialogue_moves d n f c q =
+    let cross = sym (crossing n c) in
+    let out : is_message_out c.before ≡ false = λ i. q.msg i && c.before.cd && not c.before.io in
+    let inward : is_message_in c.before ≡ false = λ i. q.msg i && c.before.cd && c.before.io in
+    let command = no_command_phase c q in
+    let phase : changes_phase c ≡ false = λ i. not (q.phase i) in
+    let byte = c.after.data_bits % 256 in
+    let crosses_is : byte_crosses d c ≡ record d { begun = true } =
+    λ i. if out i then byte_out d byte (not c.after.atn) else if inward i then byte_in d byte else if command i then record d { heard = takes_command d.heard byte; begun = true } else record d { begun = true } in
+    (λ i. if cross i then sym crosses_is i else d) ∙ (λ i. if is_some (receiver_of (Some n) c) then byte_crosses d c else if sym phase i then phase_begins d else d)
+
+duty_moves : (u : Duty) (n : Connection) (c : Change) (held : Bool) → IsQuiet c → duty_in_data u c held ≡ duty_after u (Some n) c held
+duty_moves u n c held q =
+    let kept = sym (no_fall _ _ q.atn_after) in
+    let inward : false ≡ is_message_in c.before = sym (λ i. q.msg i && c.before.cd && c.before.io) in
+    let out : false ≡ is_message_out c.before = sym (λ i. q.msg i && c.before.cd && not c.before.io) in
+    let phase : false ≡ changes_phase c = sym (λ i. not (q.phase i)) in
+    λ i. if kept i || rises c.before.req c.after.req then duties.Nothing else if falls c.before.ack c.after.ack && held then (if inward i then duties.Owed else if out i then u else duties.Asked) else if phase i then duty_left u else u
+
+or_none : (b : Bool) → (b || false) ≡ b
+or_none true = refl
+or_none false = refl
+
+pub moved : (rows : List Row) (row : Row) (k : Course) (held : Bool) → IsCourseOf rows k → held ≡ is_held (change_of rows row) (since_line (λ s. s.atn) rows) row.time → passes (standing_of (seen rows row)) (change_of rows row) row ≡ true → IsCourseOf (row ∷ rows) (transferred k held (change_of rows row) row.time)
+unfolding seen_with
+moved rows row k held h eh e = go (connection rows) refl p.2
+  where
+    c : Change
+    c = change_of rows row
+
+    p : (is_data_row (change_of rows row) ≡ true) × ((is_none (call rows) && is_none (arbitration rows)) ≡ true) × (passes_of (standing_of (seen rows row)) (change_of rows row) row (connection rows) ≡ true)
+    p = parts (standing_of (seen rows row)) (change_of rows row) row e
+
+    q : IsQuiet (change_of rows row)
+    q = is_quiet (change_of rows row) p.0
+
+    alone : (is_none (call rows) ≡ true) × (is_none (arbitration rows) ≡ true)
+    alone = both _ _ p.1
+
+    no_call : k.call ≡ None
+    no_call = h.call ∙ is_nothing _ alone.0
+
+    no_arbitration : k.arbitration ≡ None
+    no_arbitration = h.arbitration ∙ is_nothing _ alone.1
+
+    sel : c.after.sel ≡ false
+    sel = sym q.sel_after ∙ q.sel
+
+    bsy : c.after.bsy ≡ true
+    bsy = sym q.bsy_after ∙ q.bsy
+
+    rst : c.after.rst ≡ false
+    rst = sym q.rst_after ∙ q.rst
+
+    arbitration_is : k.arbitration ≡ arbitration_after k.arbitration (free_since rows) c row
+    arbitration_is =
+        no_arbitration ∙ (sym (λ i. if not (q.bsy i || c.before.sel || c.before.rst) && c.after.bsy && not c.after.sel then Some (record { free = free_since rows; first = row.time }) else None) ∙ (λ i. arbitration_after (sym no_arbitration i) (free_since rows) c row))
+
+    call_is : k.call ≡ call_after k.call c row
+    call_is = no_call ∙ sym (λ i. if not (sel i) then None else if rises c.before.sel c.after.sel then Some (record { caller = row.dev; at = row.time; calling = None }) else call_goes_on k.call c row)
+
+    go : (m : Option Connection) → connection rows ≡ m → passes_of (standing_of (seen rows row)) c row m ≡ true → IsCourseOf (row ∷ rows) (transferred k held c row.time)
+    go None en w = absurd cc
+    go (Some n) en w =
+        let conn : k.connection ≡ Some n = h.connection ∙ en in
+        let back = sym conn in
+        let still : false ≡ changes_phase c = sym (λ i. not (q.phase i)) in
+        let rise = no_rise _ _ q.io_after in
+        goes_on rows row k (free_since rows) held c k.bsy_raised k.rst_raised k.arbitration k.call k.connection (receiver_of k.connection c) (pulses_on k.pulses c row.time) k.turned (duty_in_data k.duty c held) k.agreed (takes_data k.dialogue (crosses_in c))
+        h refl refl eh
+        (raises_stay (λ s. s.bsy) rows row k.bsy_raised h.bsy_raised q.own_bsy)
+        (raises_stay (λ s. s.rst) rows row k.rst_raised h.rst_raised q.own_rst)
+        arbitration_is call_is
+        (conn ∙ (sym (λ i. if bsy i then Some n else None) ∙ (λ i. connection_after (back i) k.call c row)))
+        refl
+        ((λ i. if still i then no_pulses else pulses_on k.pulses c row.time) ∙ (λ i. pulses_after k.pulses (back i) c row.time))
+        (sym (or_none k.turned) ∙ ((λ i. k.turned || sym rise i) ∙ (λ i. turned_after k.turned (back i) c)))
+        (duty_moves k.duty n c held q ∙ (λ i. duty_after k.duty (back i) c held))
+        (agreeing (agreed rows) (λ i t. if c.after.rst then asynchronous else closed_by k.connection c.after.bsy k.dialogue.heard.now i t (agreed rows i t)) k.agreed
+        (λ i t. sym (λ j. if rst j then asynchronous else closed_by (conn j) (bsy j) k.dialogue.heard.now i t (agreed rows i t))) h.agreed)
+        (dialogue_moves k.dialogue n (agreed rows) c q ∙ (λ i. dialogue_after k.dialogue (back i) (back i) (agreed rows) c))
+
+-- what the test asks of the rows before, by the terms
+pub stands_is : (rows : List Row) (dev : ℕ) (c : Change) (reading : Reading) (k : Course) → IsCourseOf rows k
+    → (last io req ack phase lines : ℕ) (alone initiator i_data t_data unsettled : Bool)
+    → last ≡ last_time rows → io ≡ since_line (λ s. s.io) rows → req ≡ since_line (λ s. s.req) rows → ack ≡ since_line (λ s. s.ack) rows → phase ≡ phase_since rows → lines ≡ since data_of rows
+    → alone ≡ (is_none k.call && is_none k.arbitration) → initiator ≡ drives_bsy (drives rows) (initiator_of k.call k.connection) → i_data ≡ initiator_data (drives rows) k.connection → t_data ≡ target_data (drives rows) k.connection → unsettled ≡ is_some k.dialogue.heard.now.offer
+    → record {
+      last = last;
+      is_alone = alone;
+      connection = k.connection;
+      phase_since = phase;
+      io_since = io;
+      req_since = req;
+      ack_since = ack;
+      data_since = lines;
+      initiator_bsy = initiator;
+      initiator_data = i_data;
+      target_data = t_data;
+      pulses = k.pulses;
+      turned = k.turned;
+      duty = k.duty;
+      agreement = k.dialogue.heard.now.agreement;
+      is_open = unsettled;
+      command = k.dialogue.heard.now.command;
+      begun = k.dialogue.begun;
+    } ≡ standing_of (seen_with rows dev c reading)
+unfolding seen_with
+stands_is rows dev c reading k h last io req ack phase lines alone initiator i_data t_data unsettled el eio erq eak eph eda ea en eid etd eu = λ i. record {
+  last = el i;
+  is_alone = (ea ∙ (λ j. is_none (h.call j) && is_none (h.arbitration j))) i;
+  connection = h.connection i;
+  phase_since = eph i;
+  io_since = eio i;
+  req_since = erq i;
+  ack_since = eak i;
+  data_since = eda i;
+  initiator_bsy = (en ∙ (λ j. drives_bsy (drives rows) (initiator_of (h.call j) (h.connection j)))) i;
+  initiator_data = (eid ∙ ap (λ (x : Option Connection). initiator_data (drives rows) x) h.connection) i;
+  target_data = (etd ∙ ap (λ (x : Option Connection). target_data (drives rows) x) h.connection) i;
+  pulses = h.pulses i;
+  turned = h.turned i;
+  duty = h.duty i;
+  agreement = (h.dialogue i).heard.now.agreement;
+  is_open = (eu ∙ ap (λ (d : Dialogue). is_some d.heard.now.offer) h.dialogue) i;
+  command = (h.dialogue i).heard.now.command;
+  begun = (h.dialogue i).begun;
+}
+
+-- the test, by what it was asked
+pub passing : (rows : List Row) (row : Row) (t : Standing) (c : Change) (b : Bool) → b ≡ passes t c row → b ≡ true → t ≡ standing_of (seen rows row) → passes (standing_of (seen rows row)) c row ≡ true
+passing rows row t c b eb e et = sym (λ i. passes (et i) c row) ∙ (sym eb ∙ e)
