@@ -1,5 +1,5 @@
 //! A trace text that is judged as its bytes come, with no memory.
-ghost use Rattle.std.specs.Prelude.{ℕ, ◌≡◌, ◌+◌, ◌<◌, ◌≤◌, ◌^◌, [], ◌∷◌, ◌++◌, List, length, reverse};
+ghost use Rattle.std.specs.Prelude.{ℕ, ◌≡◌, ◌+◌, ◌<◌, ◌≤◌, ◌^◌, [], ◌∷◌, ◌++◌, List, length, reverse, take};
 ghost use Rattle.bus_cli.specs.Hearing.{heard_verdict};
 
 use bus_rules::Verdict;
@@ -26,15 +26,20 @@ impl Hearing {
         }
     }
 
-    // One byte more.
-    fn take(&mut self, byte: u8)
-        ensures { (bytes : List ℕ) → IsHearingOf bytes self.old → length bytes < 2 ^ 30 → IsHearingOf (byte ∷ bytes) self.new }
+    // The first line of the piece more, or all of it where it has no line feed: how many bytes they were.
+    #[inline(always)]
+    fn take(&mut self, piece: &[u8]) -> usize
+        ensures kept { (bytes : List ℕ) → IsHearingOf bytes self.old → length bytes + length piece.now ≤ 2 ^ 30 → IsHearingOf (reverse (take result piece.now) ++ bytes) self.new }
+        ensures some { 0 < length piece.now → 0 < result }
+        ensures within { result ≤ length piece.now }
     {
-        match self.reader.push(byte) {
+        let (told, len) = self.reader.take(piece);
+        match told {
             Told::RowRead(row) => {
                 let _ = self.judge.feed(&row);
+                len
             }
-            Told::Quiet | Told::Bad(_) => {}
+            Told::Quiet | Told::Bad(_) => len,
         }
     }
 
@@ -42,8 +47,9 @@ impl Hearing {
     pub fn take_all(&mut self, piece: &[u8])
         ensures { (bytes : List ℕ) → IsHearingOf bytes self.old → length bytes + length piece.now ≤ 2 ^ 30 → IsHearingOf (reverse piece.now ++ bytes) self.new }
     {
-        for byte in piece {
-            self.take(*byte);
+        let mut at = 0;
+        while at < piece.len() {
+            at += self.take(&piece[at..]);
         }
     }
 

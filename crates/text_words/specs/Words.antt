@@ -74,6 +74,10 @@ hex_digits_at bytes = hex_of_len (prefix_len is_hex bytes) bytes
 abbrev pub hex_value : ℕ → ℕ
 hex_value b = if nat_lt b 97 then (b - 48) % 16 else (b - 87) % 16
 
+-- The value of a hexadecimal digit, and 16 where the byte is none.
+abbrev pub hex_or_16 : ℕ → ℕ
+hex_or_16 b = if is_hex b then hex_value b else 16
+
 -- The bytes that hexadecimal digits spell, two digits each, the high one first.
 abbrev pub bytes_of : List ℕ → List ℕ
 bytes_of [] = []

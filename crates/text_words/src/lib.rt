@@ -19,9 +19,9 @@ pub use laws::{
     after_only, after_same, digit_again, digit_only, hex_again, hex_array_again, hex_array_only,
     hex_only, number_again, number_only, whole_only,
 };
-pub use lines::{FirstLine, first_line};
+pub use lines::{FirstLine, feed_at, first_line};
 pub use reading::{
-    Number, after, decode, digit, hex_array, hex_digits, hex_value, is_hex_digit, number, whole,
+    Number, after, decode, digit, hex_array, hex_digits, hex_or_16, hex_value, is_hex_digit, number, whole,
 };
 pub use writing::{byte_text, hex_digit};
 

@@ -14,7 +14,8 @@ pub struct FirstLine<'a> {
     pub rest: &'a [u8],
 }
 
-fn feed_at(bytes: &[u8]) -> Option<usize>
+/// Where the first line feed stands.
+pub fn feed_at(bytes: &[u8]) -> Option<usize>
     ensures exact { result ≡ position (λ b. b == 10) bytes.now }
     ensures within { IfSome result (λ at. at < length bytes.now) }
 {

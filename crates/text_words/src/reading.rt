@@ -1,8 +1,8 @@
 //! From a text to its words.
-ghost use Rattle.std.specs.Prelude.{◌≡◌, ◌≤◌, ◌<◌, ◌*◌, ◌%◌, length, IfSome};
+ghost use Rattle.std.specs.Prelude.{◌≡◌, ◌≤◌, ◌<◌, ◌*◌, ◌%◌, length, take, Some, IfSome};
 ghost use Rattle.std.specs.Char.{is_ascii_digit};
 ghost use Rattle.std.specs.List.{prefix_len};
-ghost use Rattle.text_words.specs.Words.{Sees, after, small, pushed, value_after, is_decimal, number_at, is_digit, digit_at, hex_digits_at, hex_array_at, is_hex, hex_value, bytes_of, is_whole};
+ghost use Rattle.text_words.specs.Words.{Sees, after, small, pushed, value_after, is_decimal, number_at, is_digit, digit_at, hex_digits_at, hex_array_at, is_hex, hex_value, hex_or_16, bytes_of, is_whole};
 
 /// The value of a number in a text: `None` from 2^64 on.
 pub type Number = Option<u64>;
@@ -15,23 +15,13 @@ pub fn after<'a>(text: &[u8], bytes: &'a [u8]) -> Option<&'a [u8]>
     bytes.strip_prefix(text)
 }
 
-/// A number with one digit more.
-fn pushed(number: Number, digit: u8) -> Number
-    ensures { result ≡ pushed number digit }
+/// A number below 2^64 with one digit more at its end.
+#[inline]
+fn pushed(number: u64, digit: u8) -> Number
+    ensures { result ≡ pushed (Some number) digit }
 {
-    let tens = number?.checked_mul(10)?;
+    let tens = number.checked_mul(10)?;
     tens.checked_add(u64::from(digit.saturating_sub(b'0')))
-}
-
-/// The value of decimal digits.
-fn value_of(digits: &[u8]) -> Number
-    ensures { result ≡ small (value_after 0 digits.now) }
-{
-    let mut value = Some(0u64);
-    for digit in digits {
-        value = pushed(value, *digit);
-    }
-    value
 }
 
 /// Whether digits spell a number: one or more, and no leading zero.
@@ -41,6 +31,7 @@ fn is_decimal(digits: &[u8]) -> bool
     !digits.is_empty() && !(digits.len() > 1 && digits[0] == b'0')
 }
 
+#[cold]
 fn decimal_len(bytes: &[u8]) -> usize
     ensures exact { result ≡ prefix_len is_ascii_digit bytes.now }
     ensures within { result ≤ length bytes.now }
@@ -48,15 +39,37 @@ fn decimal_len(bytes: &[u8]) -> usize
     bytes.iter().take_while(|b| b.is_ascii_digit()).count()
 }
 
+/// The value of all digits at the front, and how many they are, in one pass: it is left at the first digit that
+/// takes the value to 2^64, since the value never falls again.
+#[inline]
+fn decimal(bytes: &[u8]) -> (Number, usize)
+    ensures len { result.1 ≡ prefix_len is_ascii_digit bytes.now }
+    ensures within { result.1 ≤ length bytes.now }
+    ensures value { result.0 ≡ small (value_after 0 (take result.1 bytes.now)) }
+{
+    let mut value = 0;
+    let mut len = 0;
+    while len < bytes.len() && bytes[len].is_ascii_digit() {
+        match pushed(value, bytes[len]) {
+            Some(more) => value = more,
+            None => return (None, decimal_len(bytes)),
+        }
+        len += 1;
+    }
+    (Some(value), len)
+}
+
 /// The decimal number at the front, and what follows it: all digits there, one or more, with no
 /// leading zero. `None` where there is none.
+#[inline]
 #[tactic(auto, unfolding(crate::specs::Words::number_at))]
 pub fn number(bytes: &[u8]) -> Option<(Number, &[u8])>
     ensures { Sees (λ x. (x.0, x.1.now)) result (number_at bytes.now) }
 {
-    let (digits, rest) = bytes.split_at(decimal_len(bytes));
+    let (value, len) = decimal(bytes);
+    let (digits, rest) = bytes.split_at(len);
     if is_decimal(digits) {
-        Some((value_of(digits), rest))
+        Some((value, rest))
     } else {
         None
     }
@@ -120,6 +133,21 @@ pub fn hex_value(digit: u8) -> u8
         digit.saturating_sub(b'0') % 16
     } else {
         (digit - 87) % 16
+    }
+}
+
+/// The value of a hexadecimal digit in lower case, and 16 for any other byte: the test and the value in one.
+#[inline]
+pub fn hex_or_16(byte: u8) -> u8
+    ensures exact { result ≡ hex_or_16 byte }
+    ensures small { result ≤ 16 }
+{
+    if byte.is_ascii_digit() {
+        byte - b'0'
+    } else if b'a' <= byte && byte <= b'f' {
+        byte - 87
+    } else {
+        16
     }
 }
 

@@ -1,8 +1,12 @@
 mod Sample
 pub mod Kept
+pub mod Pieces
+pub mod Driven
 pub mod Short
 pub mod Front
 pub mod RowAgain
 pub mod TraceAgain
 pub mod ReadsOnly
 pub mod Putting
+pub mod RowFront
+pub mod Taken

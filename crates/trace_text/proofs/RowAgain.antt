@@ -19,10 +19,7 @@ use Rattle.bus_lines.proofs.Sets.{number_of-lt, set_back}
 use Rattle.trace_text.specs.RowText.{lines_text, kind_text, row_text}
 use Rattle.trace_text.specs.Readable.{FitsBus, IsTraceRow}
 use Rattle.trace_text.specs.Lines.{kind_at, row_at, end_at, value_of}
-
--- a byte within a line
-abbrev pub is_inner : ℕ → Bool
-is_inner b = not (b == 10)
+use Rattle.trace_text.specs.Pieces.{is_inner}
 
 -- ---- the lines that a row drives
 
@@ -105,13 +102,14 @@ all_inner p inner (b ∷ bytes) h = step (p b) refl h (all_inner p inner bytes) 
   step true e more ih = rw (inner b e, ih more) refl
   step false e more ih = absurd cc
 
-decimal_inner : (n : ℕ) → n < 2 ^ 64 → list_all is_inner (decimal n) ≡ true
+pub decimal_inner : (n : ℕ) → n < 2 ^ 64 → list_all is_inner (decimal n) ≡ true
 decimal_inner n lt = all_inner is_ascii_digit (λ b e. grind (arith, nat_tests)) (decimal n) (decimal_passes n lt)
 
+pub digit_inner : (b : ℕ) → is_hex b ≡ true → is_inner b ≡ true
+digit_inner b e = grind (arith, nat_tests)
+
 hex_inner : (d : ℕ) → d < 16 → is_inner (hex_digit d) ≡ true
-hex_inner d lt = inner (hex_digit d) (digit_passes d lt) where
-  inner : (b : ℕ) → is_hex b ≡ true → is_inner b ≡ true
-  inner b e = grind (arith, nat_tests)
+hex_inner d lt = digit_inner (hex_digit d) (digit_passes d lt)
 
 lines_inner : (n : ℕ) → n < 2 ^ 18 → list_all is_inner (lines_text n) ≡ true
 lines_inner n lt =

@@ -16,9 +16,10 @@ use Rattle.trace_text.specs.BlockText.{disks_text}
 use Rattle.trace_text.specs.ReportText.{report_text}
 use Rattle.trace_text.specs.Readable.{IsTraceRow}
 use Rattle.trace_text.specs.Lines.{stage_after, row_told, moved, stepped, state_of}
+use Rattle.trace_text.specs.Pieces.{is_inner}
 use Rattle.trace_text.specs.Bytes.{Cut, cut_next, cut_of, told_at, quiet, end_told, end_of, rows_next, rows_of}
 use Rattle.trace_text.specs.Whole.{with_rows, trace_of}
-use Rattle.trace_text.proofs.RowAgain.{is_inner, row_line, row_text-line, row_again, row_inner, end_line, end_again, end_no_row, end_inner}
+use Rattle.trace_text.proofs.RowAgain.{row_line, row_text-line, row_again, row_inner, end_line, end_again, end_no_row, end_inner}
 
 -- these, newest first, and then the others one by one
 abbrev onto : {A : Type 0} → List A → List A → List A

@@ -5,6 +5,7 @@ pub mod ReplyText
 pub mod BlockText
 pub mod ReportText
 pub mod Lines
+pub mod Pieces
 pub mod Bytes
 pub mod Whole
 pub mod Pages

@@ -1,5 +1,5 @@
 //! The front of a line.
-ghost use Rattle.std.specs.Prelude.{◌≡◌, [], ◌∷◌, ◌++◌, take};
+ghost use Rattle.std.specs.Prelude.{◌≡◌, [], ◌∷◌, ◌++◌, take, IsTrue};
 
 use std::marker::Model;
 
@@ -40,11 +40,27 @@ impl LineFront {
         }
     }
 
+    /// Takes these bytes more of the line.
+    pub fn push_all(&mut self, bytes: &[u8])
+        ensures { self.new ≡ take 28 (self.old ++ bytes.now) }
+    {
+        let count = bytes.len().min(28 - self.len);
+        self.bytes[self.len..self.len + count].copy_from_slice(&bytes[..count]);
+        self.len += count;
+    }
+
     /// Begins a line.
     pub fn clear(&mut self)
         ensures { self.new ≡ [] }
     {
         self.len = 0;
+    }
+
+    /// Whether the line has no byte yet.
+    pub fn is_empty(&self) -> bool
+        ensures { IsTrue result → self.now ≡ [] }
+    {
+        self.len == 0
     }
 
     pub fn text(&self) -> &[u8]

@@ -1,12 +1,13 @@
 //! The lines of a trace text: what each says after those before it.
-ghost use Rattle.std.specs.Prelude.{◌≡◌, ◌<◌, ◌+◌, ◌^◌};
+ghost use Rattle.std.specs.Prelude.{◌≡◌, ◌<◌, ◌+◌, ◌^◌, [], ◌∷◌, IfSome};
 ghost use Rattle.text_words.specs.Words.{Sees};
 ghost use Rattle.trace_text.specs.Lines.{below, kind_at, row_at, end_at, is_first, is_history, stage_after, row_told, count_of, stepped, IsOfBus, SaysOfBus, TellsOfBus};
+ghost use Rattle.trace_text.specs.Pieces.{StartsWithRow};
 
 use bitflags::Flags;
 use bus_base::Ns;
 use bus_lines::{Kind, Lines, Row};
-use text_words::{Number, after, digit, hex_value, is_hex_digit, number, whole};
+use text_words::{Number, after, digit, hex_or_16, number, whole};
 
 /// Where a text stands.
 #[derive(Clone, Copy)]
@@ -48,28 +49,29 @@ fn below(time: Number) -> Option<Ns>
     }
 }
 
+// The lines that five hexadecimal digits tell.
+#[inline(always)]
+fn driven(a: u8, b: u8, c: u8, d: u8, e: u8) -> Option<Kind>
+    ensures { result ≡ kind_at (a ∷ b ∷ c ∷ d ∷ e ∷ []) }
+{
+    let (a, b, c) = (hex_or_16(a), hex_or_16(b), hex_or_16(c));
+    let (d, e) = (hex_or_16(d), hex_or_16(e));
+    if a < 4 && b < 16 && c < 16 && d < 16 && e < 16 {
+        let high = u32::from(a) * 16 + u32::from(b);
+        let low = (u32::from(c) * 16 + u32::from(d)) * 16 + u32::from(e);
+        Some(Kind::Drives(Lines::from_bits_retain(high * 4096 + low)))
+    } else {
+        None
+    }
+}
+
 // What a row tells.
 fn kind(bytes: &[u8]) -> Option<Kind>
     ensures { result ≡ kind_at bytes.now }
 {
     match bytes {
         [b'f', bit] if b'0' <= *bit && *bit <= b'8' => Some(Kind::Fault(*bit - b'0')),
-        [a, b, c, d, e] => {
-            let are_hex = is_hex_digit(*a)
-                && is_hex_digit(*b)
-                && is_hex_digit(*c)
-                && is_hex_digit(*d)
-                && is_hex_digit(*e);
-            let high = u32::from(hex_value(*a)) * 16 + u32::from(hex_value(*b));
-            let low = (u32::from(hex_value(*c)) * 16 + u32::from(hex_value(*d))) * 16
-                + u32::from(hex_value(*e));
-            let value = high * 4096 + low;
-            if are_hex && value < 0x4_0000 {
-                Some(Kind::Drives(Lines::from_bits_retain(value)))
-            } else {
-                None
-            }
-        }
+        [a, b, c, d, e] => driven(*a, *b, *c, *d, *e),
         _ => None,
     }
 }
@@ -86,6 +88,25 @@ fn row_of(line: &[u8]) -> Option<Row>
     let rest = after(b" ", rest)?;
     let kind = kind(rest)?;
     Some(Row { time, dev, kind })
+}
+
+// The row of the line that the bytes begin with, and how many bytes that line has with its line feed: in one pass,
+// with no search for the line feed. It leaves to others what is rare: the rows of faults.
+#[inline(always)]
+pub(crate) fn row_front(bytes: &[u8]) -> Option<(Row, usize)>
+    ensures exact { IfSome result (λ x. StartsWithRow bytes.now x.0 x.1) }
+    ensures device { IfSome result (λ x. x.0.dev < 8) }
+{
+    let (time, rest) = number(bytes)?;
+    let time = below(time)?;
+    match rest {
+        [b' ', dev, b' ', a, b, c, d, e, b'\n', others @ ..] if b'0' <= *dev && *dev <= b'7' => {
+            let kind = driven(*a, *b, *c, *d, *e)?;
+            let dev = *dev - b'0';
+            Some((Row { time, dev, kind }, bytes.len() - others.len()))
+        }
+        _ => None,
+    }
 }
 
 #[tactic(auto, unfolding(crate::specs::Lines::end_at))]
