@@ -1,6 +1,6 @@
 // A running view of a trace.
 
-ghost use Rattle.std.specs.Prelude.{ℕ, ◌≡◌, ◌<◌, ◌≤◌, List, [], ◌∷◌, slice_index};
+ghost use Rattle.std.specs.Prelude.{ℕ, cond, ◌≡◌, ◌<◌, ◌≤◌, List, [], ◌∷◌, slice_index};
 ghost use Rattle.bus_lines.specs.LineSet.{LineSet, line_of, data_of};
 ghost use Rattle.bus_lines.specs.View.{driven_at, IsUpTo};
 ghost use Rattle.bus_lines.specs.Trace.{drives, driven_after, bus, last_time, newer, since, since_line, IsViewOf};
@@ -235,6 +235,12 @@ impl BusView {
     }
 }
 
+fn newest(differs: bool, time: Ns, was: Ns) -> Ns
+    ensures { result ≡ cond differs time was }
+{
+    if differs { time } else { was }
+}
+
 // Sets the time of each of these lines that differs.
 #[inline(always)]
 fn renew_between(
@@ -252,9 +258,8 @@ fn renew_between(
     ensures above { (line : ℕ) → end ≤ line → slice_index changed.new line ≡ slice_index changed.old line }
 {
     for k in first..end {
-        if before.differs(after, k) {
-            changed[k as usize] = time;
-        }
+        // A choice without a branch: the data lines change at random.
+        changed[k as usize] = newest(before.differs(after, k), time, changed[k as usize]);
     }
 }
 

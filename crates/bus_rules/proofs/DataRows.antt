@@ -1,5 +1,5 @@
 -- A row that changes data lines, REQ and ACK alone, and passes the short test, breaks no rule.
-use Rattle.std.proofs.Common.{ℕ, ◌≡◌, ◌+◌, ◌%◌, ◌++◌, [], Bool, true, false, List, ◌∷◌, Option, Some, None, refl, sym, ap, subst, ◌∙◌, cond, arith}
+use Rattle.std.proofs.Common.{ℕ, ◌≡◌, ◌<◌, ◌+◌, ◌%◌, ◌++◌, [], Bool, true, false, List, ◌∷◌, Option, Some, None, refl, sym, ap, subst, ◌∙◌, cond, arith}
 use Rattle.std.specs.Prelude.{not, ◌&&◌, ◌||◌, ◌==◌, is_some, is_none, nat_le, max, if◌then◌else◌}
 use Rattle.bus_lines.specs.LineSet.{LineSet, data_of, same, same_set, none, has_odd_parity}
 use Rattle.bus_lines.specs.declared.Row.{Row}
@@ -11,14 +11,18 @@ use Rattle.bus_rules.specs.declared.attention.Duty.TheVariants as duties
 use Rattle.bus_rules.specs.declared.course.Course.{Course}
 use Rattle.bus_rules.specs.declared.dialogue.Dialogue.{Dialogue}
 use Rattle.bus_rules.specs.declared.raises.Raises.{Raises}
-use Rattle.bus_rules.specs.declared.data_rows.Standing.{Standing}
 use Rattle.bus_lines.specs.declared.agreements.Agreement.{Agreement}
 use Rattle.std.proofs.lemmas.Bool.Decides.{nat_tests}
-use Rattle.bus_lines.specs.Trace.{drives, driven_after, last_time, since, since_line}
+use Rattle.bus_lines.specs.Trace.{IsViewOf, drives, driven_after, last_time, since, since_line}
 use Rattle.bus_rules.specs.declared.arbitration.Arbitration.{Arbitration}
 use Rattle.bus_rules.specs.declared.changes.Change.{Change}
 use Rattle.bus_rules.specs.declared.connection.Connection.{Connection}
 use Rattle.bus_rules.specs.declared.selection.Call.{Call}
+use Rattle.bus_rules.specs.declared.selection.Calling.{Calling}
+use Rattle.bus_rules.specs.Calls.{HasDevices, IsCalled}
+use Rattle.bus_rules.specs.Connections.{HasEnds}
+use Rattle.bus_lines.specs.View.{View, driven_at}
+use Rattle.bus_lines.proofs.Ages.{since_line_of, line_io, line_msg, line_cd, line_req, line_ack}
 use Rattle.bus_rules.specs.declared.reading.Reading.{Reading}
 use Rattle.bus_rules.specs.declared.reading.Reading.TheVariants.{NoMessage}
 use Rattle.bus_rules.specs.declared.seen.Seen.{Seen}
@@ -35,10 +39,10 @@ use Rattle.bus_rules.specs.Messages.{is_owed, is_none_or_all, is_unknown, is_ope
 use Rattle.bus_rules.specs.Transfer.{crosses, is_pulsed, is_asynchronous, data_stand_since, changes_data, holds_still, is_after, pulses_well, times_of, last_crossing}
 use Rattle.msg_grammar.specs.Messages.{got_out, got_in}
 use Rattle.bus_rules.specs.Reading.{reading_of, reading_out, reading_in}
-use Rattle.bus_rules.specs.Seen.{seen, seen_with, drives_bsy, initiator_of, initiator_data, target_data}
+use Rattle.bus_rules.specs.Seen.{seen, seen_with, drives_bsy, initiator_called, initiator_of, initiator_data, target_data}
 use Rattle.bus_rules.specs.Changes.{change_of}
 use Rattle.bus_rules.specs.Rules.{test, keeps, judged_rules, lowest_broken, broken_rule}
-use Rattle.bus_rules.specs.DataRows.{same_but_bytes, is_data_row, crosses_in, keeps_side, asks_soon, is_in_turn, has_turned, stand_since, is_shaken, is_pulsed_well, standing_of, may_cross, transfers_well, is_move, passes, passes_of, passes_in, duty_in_data, takes_data, transferred}
+use Rattle.bus_rules.specs.DataRows.{same_but_bytes, is_data_row, crosses_in, keeps_side, asks_soon, is_in_turn, has_turned, stand_since, is_shaken, is_pulsed_well, Standing, standing_after, standing_at, may_cross, transfers_well, is_move, passes, passes_of, passes_in, duty_in_data, takes_data, transferred}
 use Rattle.bus_rules.specs.Judging.{IsRaisesOf, IsCourseOf}
 use Rattle.bus_rules.proofs.First.{none_broken}
 use Rattle.bus_rules.proofs.Agreeing.{agreeing}
@@ -85,6 +89,29 @@ always false q e = refl
 so : (p q : Bool) → implies p q ≡ true → p ≡ true → q ≡ true
 so true q e h = e
 so false q e h = absurd cc
+
+-- what the test asks of the rows before, of what the row meets
+abbrev pub standing_of : Seen → Standing
+standing_of s = record {
+  last = s.last;
+  is_alone = is_none s.call && is_none s.arbitration;
+  connection = s.connection;
+  phase_since = s.phase_since;
+  io_since = s.io_since;
+  req_since = s.req_since;
+  ack_since = s.ack_since;
+  data_since = s.data_since;
+  initiator_bsy = s.initiator_bsy;
+  initiator_data = s.initiator_data;
+  target_data = s.target_data;
+  pulses = s.pulses;
+  turned = s.turned;
+  duty = s.duty;
+  agreement = s.agreement;
+  is_open = s.is_open;
+  command = s.command;
+  begun = s.begun;
+}
 
 -- ---- what such a row leaves as it is
 
@@ -218,7 +245,7 @@ crossing n c = go c.before.io (rises c.before.req c.after.req) (rises c.before.a
     go false r true = refl
     go false r false = refl
 
-lines_kept : (s : Seen) (row : Row) (n : Connection) → IsQuiet s.change → keeps_side n row.dev s.change.next ≡ true → asks_soon (max s.phase_since n.began) row.time s.duty s.initiator_bsy s.change ≡ true → keeps_lines_of s row (Some n) ≡ true
+lines_kept : (s : Seen) (row : Row) (n : Connection) → IsQuiet s.change → keeps_side n row.dev s.change.next ≡ true → asks_soon n (standing_of s) s.change row.time ≡ true → keeps_lines_of s row (Some n) ≡ true
 lines_kept s row n q side asks =
     let still = no_change s q in
     both_true _ _ (both_true _ _ (side_kept n row.dev s.change.next side) (λ i. implies (still i) (not s.change.before.req && not s.change.before.ack))) (go (rises s.change.before.req s.change.after.req) asks)
@@ -228,23 +255,23 @@ lines_kept s row n q side asks =
     go true e = let soon = (both _ _ (both _ _ e).0).0 in λ i. not (no_change s q i) && not (q.msg i && not s.change.before.cd) && soon i
     go false e = refl
 
-asking_kept : (s : Seen) (time since : ℕ) → asks_soon since time s.duty s.initiator_bsy s.change ≡ true → (implies (rises s.change.before.req s.change.after.req) (not s.initiator_bsy) ≡ true) × (implies (rises s.change.before.req s.change.after.req && is_owed s.duty) (is_message_out s.change.before) ≡ true)
-asking_kept s time since e = go (rises s.change.before.req s.change.after.req) e
+asking_kept : (s : Seen) (n : Connection) (time : ℕ) → asks_soon n (standing_of s) s.change time ≡ true → (implies (rises s.change.before.req s.change.after.req) (not s.initiator_bsy) ≡ true) × (implies (rises s.change.before.req s.change.after.req && is_owed s.duty) (is_message_out s.change.before) ≡ true)
+asking_kept s n time e = go (rises s.change.before.req s.change.after.req) e
   where
-    go : (r : Bool) → implies r (nat_le (since + BUS_SETTLE_DELAY) time && not (is_owed s.duty) && not s.initiator_bsy) ≡ true → (implies r (not s.initiator_bsy) ≡ true) × (implies (r && is_owed s.duty) (is_message_out s.change.before) ≡ true)
+    go : (r : Bool) → implies r (nat_le (max s.phase_since n.began + BUS_SETTLE_DELAY) time && not (is_owed s.duty) && not s.initiator_bsy) ≡ true → (implies r (not s.initiator_bsy) ≡ true) × (implies (r && is_owed s.duty) (is_message_out s.change.before) ≡ true)
     go true e =
         let rest = both _ _ e in
         let owed = is_false _ (both _ _ rest.0).1 in
         (rest.1, λ i. implies (owed i) (is_message_out s.change.before))
     go false e = (refl, refl)
 
-reselection_kept : (s : Seen) (row : Row) (n : Connection) (since : ℕ) → IsQuiet s.change → s.call ≡ None → s.connection ≡ Some n → asks_soon since row.time s.duty s.initiator_bsy s.change ≡ true → test 13 s row ≡ true
-reselection_kept s row n since q alone conn asks =
-    both_true _ _ (both_true _ _ (λ i. hands_over s row (alone i)) ((λ i. takes_over s row (conn i)) ∙ taken_over s row n q)) (asking_kept s row.time since asks).0
+reselection_kept : (s : Seen) (row : Row) (n : Connection) → IsQuiet s.change → s.call ≡ None → s.connection ≡ Some n → asks_soon n (standing_of s) s.change row.time ≡ true → test 13 s row ≡ true
+reselection_kept s row n q alone conn asks =
+    both_true _ _ (both_true _ _ (λ i. hands_over s row (alone i)) ((λ i. takes_over s row (conn i)) ∙ taken_over s row n q)) (asking_kept s n row.time asks).0
 
-attention_kept : (s : Seen) (row : Row) (since : ℕ) → IsQuiet s.change → asks_soon since row.time s.duty s.initiator_bsy s.change ≡ true → test 24 s row ≡ true
-attention_kept s row since q asks =
-    always _ _ (both_true _ _ (never _ _ (λ i. q.msg i && s.change.before.cd && not s.change.before.io)) (asking_kept s row.time since asks).1)
+attention_kept : (s : Seen) (row : Row) (n : Connection) → IsQuiet s.change → asks_soon n (standing_of s) s.change row.time ≡ true → test 24 s row ≡ true
+attention_kept s row n q asks =
+    always _ _ (both_true _ _ (never _ _ (λ i. q.msg i && s.change.before.cd && not s.change.before.io)) (asking_kept s n row.time asks).1)
 
 -- the end whose turn it is
 turn_of : (s : Seen) (row : Row) (n : Connection) → keeps_side n row.dev s.change.next ≡ true → is_in_turn (row.dev == n.target) s.change ≡ true → raises_in_turn n s row.dev ≡ true
@@ -256,7 +283,7 @@ turn_of s row n side e = go (raises_data s.change) (row.dev == n.target) (row.de
     go true false true io side e = e
     go true false false io side e = absurd cc
 
-turned_kept : (s : Seen) (row : Row) (n : Connection) → IsQuiet s.change → s.connection ≡ Some n → has_turned s.turned (row.dev == n.target) s.initiator_data s.target_data s.change s.io_since row.time ≡ true
+turned_kept : (s : Seen) (row : Row) (n : Connection) → IsQuiet s.change → s.connection ≡ Some n → has_turned (standing_of s) (row.dev == n.target) s.change row.time ≡ true
     → (initiator_released_of s row.time (Some n) ≡ true) × (waits_for_turn s row (Some n) ≡ true) × (target_released_of s row.time (Some n) ≡ true)
 turned_kept s row n q conn e =
     let io : s.change.after.io ≡ s.change.before.io = sym q.io_after in
@@ -440,7 +467,7 @@ in_connection s row n er conn call arbitration order move quiet h =
                           (
                             by_test r _ (time_out_kept s row call),
                             (
-                              by_test r _ (reselection_kept s row n _ q call conn side.1),
+                              by_test r _ (reselection_kept s row n q call conn side.1),
                               (
                                 by_test r _ ((λ i. keeps_lines_of s row (or_new (conn i) (connection_after s.connection s.call s.change row))) ∙ lines_kept s row n q side.0 side.1),
                                 (
@@ -462,7 +489,7 @@ in_connection s row n er conn call arbitration order move quiet h =
                                                 (
                                                   by_test r _ (leaving_kept s row q),
                                                   (
-                                                    by_test r _ (attention_kept s row _ q side.1),
+                                                    by_test r _ (attention_kept s row n q side.1),
                                                     (
                                                       by_test r _ (messages_kept s row n q conn er cr more.1),
                                                       (
@@ -536,10 +563,10 @@ parts t c row e =
     (d.1, b.1, a.1)
 
 -- a row that passes the test breaks no rule
-pub breaks_none : (rows : List Row) (row : Row) → passes (standing_of (seen rows row)) (change_of rows row) row ≡ true → broken_rule rows row ≡ None
+pub breaks_none : (rows : List Row) (row : Row) → passes (standing_after rows) (change_of rows row) row ≡ true → broken_rule rows row ≡ None
 unfolding seen_with
 breaks_none rows row e =
-    let quiet = is_quiet (change_of rows row) (parts (standing_of (seen rows row)) (change_of rows row) row e).0 in
+    let quiet = is_quiet (change_of rows row) (parts (standing_after rows) (change_of rows row) row e).0 in
     breaks_none_of (seen rows row) row (no_message (dialogue rows).half (connection rows) (change_of rows row) quiet) e
 
 -- ---- the terms after such a row
@@ -579,15 +606,15 @@ or_none : (b : Bool) → (b || false) ≡ b
 or_none true = refl
 or_none false = refl
 
-pub moved : (rows : List Row) (row : Row) (k : Course) (held : Bool) → IsCourseOf rows k → held ≡ is_held (change_of rows row) (since_line (λ s. s.atn) rows) row.time → passes (standing_of (seen rows row)) (change_of rows row) row ≡ true → IsCourseOf (row ∷ rows) (transferred k held (change_of rows row) row.time)
+pub moved : (rows : List Row) (row : Row) (k : Course) (held : Bool) → IsCourseOf rows k → held ≡ is_held (change_of rows row) (since_line (λ s. s.atn) rows) row.time → passes (standing_after rows) (change_of rows row) row ≡ true → IsCourseOf (row ∷ rows) (transferred k held (change_of rows row) row.time)
 unfolding seen_with
 moved rows row k held h eh e = go (connection rows) refl p.2
   where
     c : Change
     c = change_of rows row
 
-    p : (is_data_row (change_of rows row) ≡ true) × ((is_none (call rows) && is_none (arbitration rows)) ≡ true) × (passes_of (standing_of (seen rows row)) (change_of rows row) row (connection rows) ≡ true)
-    p = parts (standing_of (seen rows row)) (change_of rows row) row e
+    p : (is_data_row (change_of rows row) ≡ true) × ((is_none (call rows) && is_none (arbitration rows)) ≡ true) × (passes_of (standing_after rows) (change_of rows row) row (connection rows) ≡ true)
+    p = parts (standing_after rows) (change_of rows row) row e
 
     q : IsQuiet (change_of rows row)
     q = is_quiet (change_of rows row) p.0
@@ -617,7 +644,7 @@ moved rows row k held h eh e = go (connection rows) refl p.2
     call_is : k.call ≡ call_after k.call c row
     call_is = no_call ∙ sym (λ i. if not (sel i) then None else if rises c.before.sel c.after.sel then Some (record { caller = row.dev; at = row.time; calling = None }) else call_goes_on k.call c row)
 
-    go : (m : Option Connection) → connection rows ≡ m → passes_of (standing_of (seen rows row)) c row m ≡ true → IsCourseOf (row ∷ rows) (transferred k held c row.time)
+    go : (m : Option Connection) → connection rows ≡ m → passes_of (standing_after rows) c row m ≡ true → IsCourseOf (row ∷ rows) (transferred k held c row.time)
     go None en w = absurd cc
     go (Some n) en w =
         let conn : k.connection ≡ Some n = h.connection ∙ en in
@@ -638,53 +665,55 @@ moved rows row k held h eh e = go (connection rows) refl p.2
         (λ i t. sym (λ j. if rst j then asynchronous else closed_by (conn j) (bsy j) k.dialogue.heard.now i t (agreed rows i t))) h.agreed)
         (dialogue_moves k.dialogue n (agreed rows) c q ∙ (λ i. dialogue_after k.dialogue (back i) (back i) (agreed rows) c))
 
--- what the test asks of the rows before, by the terms
-pub stands_is : (rows : List Row) (dev : ℕ) (c : Change) (reading : Reading) (k : Course) → IsCourseOf rows k
-    → (last io req ack phase lines : ℕ) (alone initiator i_data t_data unsettled : Bool)
-    → last ≡ last_time rows → io ≡ since_line (λ s. s.io) rows → req ≡ since_line (λ s. s.req) rows → ack ≡ since_line (λ s. s.ack) rows → phase ≡ phase_since rows → lines ≡ since data_of rows
-    → alone ≡ (is_none k.call && is_none k.arbitration) → initiator ≡ drives_bsy (drives rows) (initiator_of k.call k.connection) → i_data ≡ initiator_data (drives rows) k.connection → t_data ≡ target_data (drives rows) k.connection → unsettled ≡ is_some k.dialogue.heard.now.offer
-    → record {
-      last = last;
-      is_alone = alone;
-      connection = k.connection;
-      phase_since = phase;
-      io_since = io;
-      req_since = req;
-      ack_since = ack;
-      data_since = lines;
-      initiator_bsy = initiator;
-      initiator_data = i_data;
-      target_data = t_data;
-      pulses = k.pulses;
-      turned = k.turned;
-      duty = k.duty;
-      agreement = k.dialogue.heard.now.agreement;
-      is_open = unsettled;
-      command = k.dialogue.heard.now.command;
-      begun = k.dialogue.begun;
-    } ≡ standing_of (seen_with rows dev c reading)
-unfolding seen_with
-stands_is rows dev c reading k h last io req ack phase lines alone initiator i_data t_data unsettled el eio erq eak eph eda ea en eid etd eu = λ i. record {
-  last = el i;
-  is_alone = (ea ∙ (λ j. is_none (h.call j) && is_none (h.arbitration j))) i;
-  connection = h.connection i;
-  phase_since = eph i;
-  io_since = eio i;
-  req_since = erq i;
-  ack_since = eak i;
-  data_since = eda i;
-  initiator_bsy = (en ∙ (λ j. drives_bsy (drives rows) (initiator_of (h.call j) (h.connection j)))) i;
-  initiator_data = (eid ∙ ap (λ (x : Option Connection). initiator_data (drives rows) x) h.connection) i;
-  target_data = (etd ∙ ap (λ (x : Option Connection). target_data (drives rows) x) h.connection) i;
-  pulses = h.pulses i;
-  turned = h.turned i;
-  duty = h.duty i;
-  agreement = (h.dialogue i).heard.now.agreement;
-  is_open = (eu ∙ ap (λ (d : Dialogue). is_some d.heard.now.offer) h.dialogue) i;
-  command = (h.dialogue i).heard.now.command;
-  begun = (h.dialogue i).begun;
-}
+-- ---- what stands, by the running terms
+
+drives_same : (f g : ℕ → LineSet) (k : Option Call) (n : Option Connection) → ((d : ℕ) → d < 8 → f d ≡ g d) → HasDevices k → HasEnds n → drives_bsy f (initiator_of k n) ≡ drives_bsy g (initiator_of k n)
+drives_same f g k (Some n) same hk hn = λ i. (same n.initiator hn.0 i).bsy
+drives_same f g None None same hk hn = refl
+drives_same f g (Some k) None same hk hn = by_calling k.calling hk.1
+  where
+  by_calling : (m : Option Calling) → IsCalled m → drives_bsy f (initiator_called m) ≡ drives_bsy g (initiator_called m)
+  by_calling None h = refl
+  by_calling (Some m) h = by_line m.reselects
+    where
+    by_line : (r : Bool) → drives_bsy f (if r then Some m.called else None) ≡ drives_bsy g (if r then Some m.called else None)
+    by_line true = λ i. (same m.called h i).bsy
+    by_line false = refl
+
+data_same : (f g : ℕ → LineSet) (n : Option Connection) → ((d : ℕ) → d < 8 → f d ≡ g d) → HasEnds n → (initiator_data f n ≡ initiator_data g n) × (target_data f n ≡ target_data g n)
+data_same f g None same hn = (refl, refl)
+data_same f g (Some n) same hn = ((λ i. drives_data (same n.initiator hn.0 i)), (λ i. drives_data (same n.target hn.1 i)))
+
+pub stands_is : (rows : List Row) (v : View) (k : Course) → IsViewOf rows v → IsCourseOf rows k → HasDevices k.call → HasEnds k.connection → standing_at v k ≡ standing_after rows
+stands_is rows v k w h hk hn =
+    let io = w.since_are 12 (omega arith) ∙ since_line_of 12 (λ s. s.io) line_io rows in
+    let msg = w.since_are 13 (omega arith) ∙ since_line_of 13 (λ s. s.msg) line_msg rows in
+    let cd = w.since_are 11 (omega arith) ∙ since_line_of 11 (λ s. s.cd) line_cd rows in
+    let req = w.since_are 14 (omega arith) ∙ since_line_of 14 (λ s. s.req) line_req rows in
+    let ack = w.since_are 15 (omega arith) ∙ since_line_of 15 (λ s. s.ack) line_ack rows in
+    let bsy = drives_same (driven_at v.driven) (drives rows) k.call k.connection w.drives_are hk hn in
+    let ends = data_same (driven_at v.driven) (drives rows) k.connection w.drives_are hn in
+    λ i. record {
+      last = w.last_is i;
+      is_alone = is_none (h.call i) && is_none (h.arbitration i);
+      connection = h.connection i;
+      phase_since = max (max (msg i) (cd i)) (io i);
+      io_since = io i;
+      req_since = req i;
+      ack_since = ack i;
+      data_since = w.data_is i;
+      initiator_bsy = (bsy ∙ (λ j. drives_bsy (drives rows) (initiator_of (h.call j) (h.connection j)))) i;
+      initiator_data = (ends.0 ∙ (λ j. initiator_data (drives rows) (h.connection j))) i;
+      target_data = (ends.1 ∙ (λ j. target_data (drives rows) (h.connection j))) i;
+      pulses = h.pulses i;
+      turned = h.turned i;
+      duty = h.duty i;
+      agreement = (h.dialogue i).heard.now.agreement;
+      is_open = is_some (h.dialogue i).heard.now.offer;
+      command = (h.dialogue i).heard.now.command;
+      begun = (h.dialogue i).begun;
+    }
 
 -- the test, by what it was asked
-pub passing : (rows : List Row) (row : Row) (t : Standing) (c : Change) (b : Bool) → b ≡ passes t c row → b ≡ true → t ≡ standing_of (seen rows row) → passes (standing_of (seen rows row)) c row ≡ true
+pub passing : (rows : List Row) (row : Row) (t : Standing) (c : Change) (b : Bool) → b ≡ passes t c row → b ≡ true → t ≡ standing_after rows → passes (standing_after rows) c row ≡ true
 passing rows row t c b eb e et = sym (λ i. passes (et i) c row) ∙ (sym eb ∙ e)

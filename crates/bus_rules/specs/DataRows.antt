@@ -1,8 +1,10 @@
 -- Rows of a DATA phase that change data lines, REQ and ACK alone, and a short test that such a row breaks no
 -- rule.
-use Rattle.std.specs.Prelude.{ℕ, ◌+◌, Bool, true, false, not, max, ◌&&◌, ◌||◌, ◌==◌, Option, Some, None, nat_le, nat_lt, is_some, is_none, if◌then◌else◌}
+use Rattle.std.specs.Prelude.{ℕ, ◌+◌, Bool, true, false, not, max, ◌&&◌, ◌||◌, ◌==◌, List, Option, Some, None, nat_le, nat_lt, is_some, is_none, slice_index, if◌then◌else◌}
 use Rattle.bus_lines.specs.declared.delays.TheConstants.{BUS_SETTLE_DELAY, DATA_RELEASE_DELAY, DESKEW_DELAY, SET_UP_TIME, TURN_DELAY}
-use Rattle.bus_lines.specs.LineSet.{LineSet, same, same_set, has_odd_parity}
+use Rattle.bus_lines.specs.LineSet.{LineSet, data_of, same, same_set, has_odd_parity}
+use Rattle.bus_lines.specs.Trace.{drives, last_time, since, since_line}
+use Rattle.bus_lines.specs.View.{View, driven_at}
 use Rattle.bus_lines.specs.declared.agreements.Agreement.{Agreement}
 use Rattle.bus_lines.specs.declared.agreements.TransferTimes.{TransferTimes}
 use Rattle.bus_lines.specs.declared.Row.{Row}
@@ -11,16 +13,96 @@ use Rattle.bus_rules.specs.declared.attention.Duty.TheVariants as duties
 use Rattle.bus_rules.specs.declared.changes.Change.{Change}
 use Rattle.bus_rules.specs.declared.connection.Connection.{Connection}
 use Rattle.bus_rules.specs.declared.pulses.Pulses.{Pulses}
+use Rattle.bus_rules.specs.declared.spoken.CommandBytes.{CommandBytes}
 use Rattle.bus_rules.specs.declared.course.Course.{Course}
-use Rattle.bus_rules.specs.declared.data_rows.Standing.{Standing}
 use Rattle.bus_rules.specs.declared.dialogue.Dialogue.{Dialogue}
-use Rattle.bus_rules.specs.declared.seen.Seen.{Seen}
 use Rattle.bus_rules.specs.Changes.{rises, falls, implies, same_hold, same_phase, drives_data}
 use Rattle.bus_rules.specs.Connected.{has_no_initiator_line, has_no_target_line, raises_data}
 use Rattle.bus_rules.specs.Messages.{is_owed, is_none_or_all}
-use Rattle.bus_rules.specs.Phases.{is_data, pulses_on}
-use Rattle.bus_rules.specs.Terms.{is_fault, receiver_of}
+use Rattle.bus_rules.specs.Phases.{is_data, phase_since, pulses, pulses_on, turned, duty}
+use Rattle.bus_rules.specs.Dialogue.{dialogue}
+use Rattle.bus_rules.specs.Seen.{drives_bsy, initiator_of, initiator_data, target_data}
+use Rattle.bus_rules.specs.Terms.{is_fault, arbitration, call, connection, receiver_of}
 use Rattle.bus_rules.specs.Transfer.{alternates, changes_data, holds_still, is_after, pulses_well, times_of}
+
+-- ---- what the test asks of the rows before
+
+-- Times are in ns, 0 where the trace has nothing of the kind.
+pub record Standing : Type 0 where
+  -- the time of the last row
+  pub last : ℕ
+  -- neither a call nor an arbitration stands
+  pub is_alone : Bool
+  -- the connection that stands, if one does
+  pub connection : Option Connection
+  -- since when the phase lines, I/O, REQ, ACK and the data lines stand as they do
+  pub phase_since : ℕ
+  pub io_since : ℕ
+  pub req_since : ℕ
+  pub ack_since : ℕ
+  pub data_since : ℕ
+  -- the initiator drives BSY, or data lines, and the target does
+  pub initiator_bsy : Bool
+  pub initiator_data : Bool
+  pub target_data : Bool
+  pub pulses : Pulses
+  -- I/O became true in the connection
+  pub turned : Bool
+  -- what ATN asks of the target
+  pub duty : Duty
+  -- what the messages of the connection say: the agreement of its devices, whether a synchronous data transfer
+  -- request is open, the bytes of the command; and whether a byte has crossed in it
+  pub agreement : Agreement
+  pub is_open : Bool
+  pub command : CommandBytes
+  pub begun : Bool
+
+-- After these rows, and by the running terms.
+abbrev pub standing_after : List Row → Standing
+standing_after rows = record {
+  last = last_time rows;
+  is_alone = is_none (call rows) && is_none (arbitration rows);
+  connection = connection rows;
+  phase_since = phase_since rows;
+  io_since = since_line (λ s. s.io) rows;
+  req_since = since_line (λ s. s.req) rows;
+  ack_since = since_line (λ s. s.ack) rows;
+  data_since = since data_of rows;
+  initiator_bsy = drives_bsy (drives rows) (initiator_of (call rows) (connection rows));
+  initiator_data = initiator_data (drives rows) (connection rows);
+  target_data = target_data (drives rows) (connection rows);
+  pulses = pulses rows;
+  turned = turned rows;
+  duty = duty rows;
+  agreement = (dialogue rows).heard.now.agreement;
+  is_open = is_some (dialogue rows).heard.now.offer;
+  command = (dialogue rows).heard.now.command;
+  begun = (dialogue rows).begun;
+}
+
+abbrev pub standing_at : View → Course → Standing
+standing_at v k = record {
+  last = v.last;
+  is_alone = is_none k.call && is_none k.arbitration;
+  connection = k.connection;
+  phase_since = max (max (slice_index v.changed 13) (slice_index v.changed 11)) (slice_index v.changed 12);
+  io_since = slice_index v.changed 12;
+  req_since = slice_index v.changed 14;
+  ack_since = slice_index v.changed 15;
+  data_since = v.data_changed;
+  initiator_bsy = drives_bsy (driven_at v.driven) (initiator_of k.call k.connection);
+  initiator_data = initiator_data (driven_at v.driven) k.connection;
+  target_data = target_data (driven_at v.driven) k.connection;
+  pulses = k.pulses;
+  turned = k.turned;
+  duty = k.duty;
+  agreement = k.dialogue.heard.now.agreement;
+  is_open = is_some k.dialogue.heard.now.offer;
+  command = k.dialogue.heard.now.command;
+  begun = k.dialogue.begun;
+}
+
+-- ---- the test
 
 -- The two sets are the same but for data lines, REQ and ACK.
 abbrev pub same_but_bytes : LineSet → LineSet → Bool
@@ -42,18 +124,18 @@ abbrev pub keeps_side : Connection → ℕ → LineSet → Bool
 keeps_side n dev s = if dev == n.target then has_no_initiator_line s else (dev == n.initiator && has_no_target_line s)
 
 -- REQ rises once the phase has settled, while no MESSAGE OUT is owed and the target alone drives BSY.
-abbrev pub asks_soon : ℕ → ℕ → Duty → Bool → Change → Bool
-asks_soon since time duty initiator_bsy c =
-    implies (rises c.before.req c.after.req) (nat_le (since + BUS_SETTLE_DELAY) time && not (is_owed duty) && not initiator_bsy)
+abbrev pub asks_soon : Connection → Standing → Change → ℕ → Bool
+asks_soon n s c time =
+    implies (rises c.before.req c.after.req) (nat_le (max s.phase_since n.began + BUS_SETTLE_DELAY) time && not (is_owed s.duty) && not s.initiator_bsy)
 
 -- The end whose turn it is raises data lines, and the other end has released them.
 abbrev pub is_in_turn : Bool → Change → Bool
 is_in_turn is_target c = implies (raises_data c) (same is_target c.before.io)
 
-abbrev pub has_turned : Bool → Bool → Bool → Bool → Change → ℕ → ℕ → Bool
-has_turned turned is_target initiator_data target_data c since time =
-    if c.before.io then (nat_le time (since + DATA_RELEASE_DELAY) || not initiator_data) && implies (turned && is_target && drives_data c.next) (nat_le (since + TURN_DELAY) time)
-    else (nat_le time (since + DESKEW_DELAY) || not target_data)
+abbrev pub has_turned : Standing → Bool → Change → ℕ → Bool
+has_turned s is_target c time =
+    if c.before.io then (nat_le time (s.io_since + DATA_RELEASE_DELAY) || not s.initiator_data) && implies (s.turned && is_target && drives_data c.next) (nat_le (s.io_since + TURN_DELAY) time)
+    else (nat_le time (s.io_since + DESKEW_DELAY) || not s.target_data)
 
 -- Since when the data lines stand as they do after the row.
 abbrev pub stand_since : Change → ℕ → ℕ → ℕ
@@ -83,31 +165,6 @@ is_timed t p c req_since ack_since since time =
 abbrev pub is_pulsed_well : Agreement → Pulses → Change → ℕ → ℕ → ℕ → ℕ → Bool
 is_pulsed_well a p c req_since ack_since since time = keeps_count a.offset p c && is_timed (times_of a.period) p c req_since ack_since since time
 
--- ---- the test
-
--- What the test asks of the rows before: some of what a row meets.
-abbrev pub standing_of : Seen → Standing
-standing_of s = record {
-  last = s.last;
-  is_alone = is_none s.call && is_none s.arbitration;
-  connection = s.connection;
-  phase_since = s.phase_since;
-  io_since = s.io_since;
-  req_since = s.req_since;
-  ack_since = s.ack_since;
-  data_since = s.data_since;
-  initiator_bsy = s.initiator_bsy;
-  initiator_data = s.initiator_data;
-  target_data = s.target_data;
-  pulses = s.pulses;
-  turned = s.turned;
-  duty = s.duty;
-  agreement = s.agreement;
-  is_open = s.is_open;
-  command = s.command;
-  begun = s.begun;
-}
-
 -- A byte may cross: its parity is odd, messages have opened the connection and left no request open, and the
 -- command stands whole.
 abbrev pub may_cross : Standing → Change → Bool
@@ -119,13 +176,13 @@ transfers_well s c time =
     else is_pulsed_well s.agreement s.pulses c s.req_since s.ack_since s.data_since time
 
 abbrev pub turns_well : Standing → Bool → Change → ℕ → Bool
-turns_well s is_target c time = is_in_turn is_target c && has_turned s.turned is_target s.initiator_data s.target_data c s.io_since time
+turns_well s is_target c time = is_in_turn is_target c && has_turned s is_target c time
 
 -- In this connection such a row breaks no rule.
 abbrev pub passes_in : Connection → Standing → Change → Row → Bool
 passes_in n s c row =
     keeps_side n row.dev c.next
-    && asks_soon (max s.phase_since n.began) row.time s.duty s.initiator_bsy c
+    && asks_soon n s c row.time
     && turns_well s (row.dev == n.target) c row.time
     && implies (crosses_in c) (may_cross s c)
     && transfers_well s c row.time

@@ -3,17 +3,11 @@
 //!
 //! Few rules ask anything of such a row. A short test tells that it breaks none, and then few terms change; a row
 //! that does not pass it is judged rule by rule.
-ghost use Rattle.std.specs.Prelude.{ℕ, ◌≡◌, ◌<◌, ◌∷◌, ◌&&◌, List, is_none};
-ghost use Rattle.bus_lines.specs.Trace.{IsViewOf};
-ghost use Rattle.bus_lines.specs.declared.Row.{Row};
-ghost use Rattle.bus_rules.specs.declared.changes.Change.{Change};
-ghost use Rattle.bus_rules.specs.declared.reading.Reading.{Reading};
+ghost use Rattle.std.specs.Prelude.{◌≡◌, ◌<◌, ◌&&◌, is_none, slice_index};
 ghost use Rattle.bus_rules.specs.Calls.{HasDevices};
 ghost use Rattle.bus_rules.specs.Connections.{HasEnds};
-ghost use Rattle.bus_rules.specs.Judging.{IsCourseOf};
 ghost use Rattle.bus_rules.specs.Pulsing.{AreTimes};
-ghost use Rattle.bus_rules.specs.Seen.{seen_with};
-ghost use Rattle.bus_rules.specs.DataRows.{same_but_bytes, is_quiet_bus, is_data_row, crosses_in, keeps_side, asks_soon, is_in_turn, has_turned, stand_since, is_shaken, may_ask, keeps_count, last_pulse, is_timed, is_pulsed_well, standing_of, may_cross, transfers_well, turns_well, passes_in, passes_of, is_move, passes, duty_in_data};
+ghost use Rattle.bus_rules.specs.DataRows.{same_but_bytes, is_quiet_bus, is_data_row, crosses_in, keeps_side, asks_soon, is_in_turn, has_turned, stand_since, is_shaken, may_ask, keeps_count, last_pulse, is_timed, is_pulsed_well, standing_at, may_cross, transfers_well, turns_well, passes_in, passes_of, is_move, passes, duty_in_data};
 
 use crate::attention::Duty;
 use crate::changes::{Change, drives_data, falls, rises, same_hold, same_phase};
@@ -24,55 +18,13 @@ use crate::message_rules::{is_none_or_all, is_owed};
 use crate::phases::is_data;
 use crate::pulses::Pulses;
 use crate::selection::is_fault;
-use crate::spoken::CommandBytes;
 use crate::terms::{initiator_bsy, initiator_data, phase_since, target_data};
 use crate::transfer::{alternates, changes_data, holds_still, is_after, pulses_well, times_of};
 use bus_base::{Dev, Ns};
 use bus_lines::{
-    Agreement, BUS_SETTLE_DELAY, BusView, DATA_RELEASE_DELAY, DESKEW_DELAY, Lines, Row,
-    SET_UP_TIME, TURN_DELAY, TransferTimes,
+    BUS_SETTLE_DELAY, BusView, DATA_RELEASE_DELAY, DESKEW_DELAY, Lines, Row, SET_UP_TIME,
+    TURN_DELAY, TransferTimes,
 };
-
-/// What the test asks of the rows before. Times are in ns.
-#[derive(Clone, Copy, Debug)]
-pub struct Standing {
-    /// The time of the last row.
-    pub last: Ns,
-    /// Whether neither a call nor an arbitration stands.
-    pub is_alone: bool,
-    /// The connection that stands, if one does.
-    pub connection: Option<Connection>,
-    /// Since when the phase lines stand as they do.
-    pub phase_since: Ns,
-    /// Since when I/O stands as it does.
-    pub io_since: Ns,
-    /// Since when REQ stands as it does.
-    pub req_since: Ns,
-    /// Since when ACK stands as it does.
-    pub ack_since: Ns,
-    /// Since when the data lines stand as they do.
-    pub data_since: Ns,
-    /// Whether the initiator drives BSY.
-    pub initiator_bsy: bool,
-    /// Whether the initiator drives data lines.
-    pub initiator_data: bool,
-    /// Whether the target does.
-    pub target_data: bool,
-    /// The pulses in the present phase.
-    pub pulses: Pulses,
-    /// Whether I/O became true in the connection.
-    pub turned: bool,
-    /// What ATN asks of the target.
-    pub duty: Duty,
-    /// The agreement of the two devices.
-    pub agreement: Agreement,
-    /// Whether a synchronous data transfer request is open.
-    pub is_open: bool,
-    /// The bytes of COMMAND that have crossed.
-    pub command: CommandBytes,
-    /// Whether a byte has crossed in the connection.
-    pub begun: bool,
-}
 
 // Whether the two sets are the same but for data lines, REQ and ACK.
 fn same_but_bytes(a: Lines, b: Lines) -> bool
@@ -121,11 +73,24 @@ fn keeps_side(connection: &Connection, dev: Dev, lines: Lines) -> bool
 
 // Whether REQ rises, where it does, once the phase has settled, while no MESSAGE OUT is owed and the initiator
 // drives no BSY.
-fn asks_soon(since: Ns, time: Ns, duty: Duty, initiator_bsy: bool, change: &Change) -> bool
-    ensures { result ≡ asks_soon since time duty initiator_bsy change.now }
+fn asks_soon(
+    connection: &Connection,
+    view: &BusView,
+    course: &Course,
+    change: &Change,
+    time: Ns,
+) -> bool
+    requires devices { HasDevices course.now.call }
+    requires ends { HasEnds course.now.connection }
+    ensures { result ≡ asks_soon connection.now (standing_at view.now course.now) change.now time }
 {
-    !rises(change.before.req(), change.after.req())
-        || (time.saturating_sub(since) >= BUS_SETTLE_DELAY && !is_owed(duty) && !initiator_bsy)
+    if !rises(change.before.req(), change.after.req()) {
+        return true;
+    }
+    let since = phase_since(view).max(connection.began);
+    time.saturating_sub(since) >= BUS_SETTLE_DELAY
+        && !is_owed(course.duty)
+        && !initiator_bsy(view, course.call, course.connection)
 }
 
 fn is_in_turn(is_target: bool, change: &Change) -> bool
@@ -135,22 +100,24 @@ fn is_in_turn(is_target: bool, change: &Change) -> bool
 }
 
 // Whether the end whose turn it is drives data lines alone, and waited for the other.
-fn has_turned(standing: &Standing, is_target: bool, change: &Change, time: Ns) -> bool
-    ensures { result ≡ has_turned standing.now.turned is_target standing.now.initiator_data standing.now.target_data change.now standing.now.io_since time }
+fn has_turned(view: &BusView, course: &Course, is_target: bool, change: &Change, time: Ns) -> bool
+    requires { HasEnds course.now.connection }
+    ensures { result ≡ has_turned (standing_at view.now course.now) is_target change.now time }
 {
-    let age = time.saturating_sub(standing.io_since);
+    let age = time.saturating_sub(view.since_io());
     if change.before.io() {
-        (age <= DATA_RELEASE_DELAY || !standing.initiator_data)
-            && (!(standing.turned && is_target && drives_data(change.next)) || age >= TURN_DELAY)
+        (age <= DATA_RELEASE_DELAY || !initiator_data(view, course.connection))
+            && (!(course.turned && is_target && drives_data(change.next)) || age >= TURN_DELAY)
     } else {
-        age <= DESKEW_DELAY || !standing.target_data
+        age <= DESKEW_DELAY || !target_data(view, course.connection)
     }
 }
 
-fn turns_well(standing: &Standing, is_target: bool, change: &Change, time: Ns) -> bool
-    ensures { result ≡ turns_well standing.now is_target change.now time }
+fn turns_well(view: &BusView, course: &Course, is_target: bool, change: &Change, time: Ns) -> bool
+    requires { HasEnds course.now.connection }
+    ensures { result ≡ turns_well (standing_at view.now course.now) is_target change.now time }
 {
-    is_in_turn(is_target, change) && has_turned(standing, is_target, change, time)
+    is_in_turn(is_target, change) && has_turned(view, course, is_target, change, time)
 }
 
 // Since when the data lines stand as they do after the row.
@@ -196,75 +163,89 @@ fn last_pulse(pulses: &Pulses, change: &Change) -> Option<Ns>
     }
 }
 
-fn is_timed(times: TransferTimes, standing: &Standing, change: &Change, time: Ns) -> bool
+fn is_timed(
+    times: TransferTimes,
+    view: &BusView,
+    pulses: &Pulses,
+    change: &Change,
+    time: Ns,
+) -> bool
     requires { AreTimes times }
-    ensures { result ≡ is_timed times standing.now.pulses change.now standing.now.req_since standing.now.ack_since standing.now.data_since time }
+    ensures { result ≡ is_timed times pulses.now change.now (slice_index view.now.changed 14) (slice_index view.now.changed 15) view.now.data_changed time }
 {
     let (before, after) = (change.before, change.after);
-    let pulses = &standing.pulses;
     let (req, next_req) = (before.req(), after.req());
     let (ack, next_ack) = (before.ack(), after.ack());
-    let age = time.saturating_sub(stand_since(change, standing.data_since, time));
+    let age = time.saturating_sub(stand_since(change, view.data_since(), time));
     let held = is_after(last_pulse(pulses, change), times.hold, time);
     (pulses_well(
         times,
         req,
         next_req,
-        standing.req_since,
+        view.since_req(),
         pulses.last_req,
         time,
     ) && pulses_well(
         times,
         ack,
         next_ack,
-        standing.ack_since,
+        view.since_ack(),
         pulses.last_ack,
         time,
     )) && ((!crosses_in(change) || age >= times.set_up) && (!changes_data(change) || held))
 }
 
-fn is_pulsed_well(standing: &Standing, change: &Change, time: Ns) -> bool
-    requires { 0 < standing.now.agreement.offset }
-    ensures { result ≡ is_pulsed_well standing.now.agreement standing.now.pulses change.now standing.now.req_since standing.now.ack_since standing.now.data_since time }
+fn is_pulsed_well(view: &BusView, course: &Course, change: &Change, time: Ns) -> bool
+    requires { 0 < course.now.dialogue.heard.now.agreement.offset }
+    ensures { result ≡ is_pulsed_well course.now.dialogue.heard.now.agreement course.now.pulses change.now (slice_index view.now.changed 14) (slice_index view.now.changed 15) view.now.data_changed time }
 {
-    keeps_count(standing.agreement.offset, &standing.pulses, change)
-        && is_timed(times_of(standing.agreement.period), standing, change, time)
+    let agreement = course.dialogue.heard.now.agreement;
+    keeps_count(agreement.offset, &course.pulses, change)
+        && is_timed(
+            times_of(agreement.period),
+            view,
+            &course.pulses,
+            change,
+            time,
+        )
 }
 
-fn transfers_well(standing: &Standing, change: &Change, time: Ns) -> bool
-    ensures { result ≡ transfers_well standing.now change.now time }
+fn transfers_well(view: &BusView, course: &Course, change: &Change, time: Ns) -> bool
+    ensures { result ≡ transfers_well (standing_at view.now course.now) change.now time }
 {
-    if standing.agreement.offset == 0 {
-        is_shaken(change, standing.data_since, time)
+    if course.dialogue.heard.now.agreement.offset == 0 {
+        is_shaken(change, view.data_since(), time)
     } else {
-        is_pulsed_well(standing, change, time)
+        is_pulsed_well(view, course, change, time)
     }
 }
 
-fn may_cross(standing: &Standing, change: &Change) -> bool
-    ensures { result ≡ may_cross standing.now change.now }
+fn may_cross(view: &BusView, course: &Course, change: &Change) -> bool
+    ensures { result ≡ may_cross (standing_at view.now course.now) change.now }
 {
+    let spoken = &course.dialogue.heard.now;
     change.after.odd_parity()
-        && standing.begun
-        && !standing.is_open
-        && is_none_or_all(standing.command)
+        && course.dialogue.begun
+        && !spoken.offer.is_some()
+        && is_none_or_all(spoken.command)
 }
 
-fn passes_in(connection: &Connection, standing: &Standing, change: &Change, row: &Row) -> bool
-    ensures { result ≡ passes_in connection.now standing.now change.now row.now }
+fn passes_in(
+    connection: &Connection,
+    view: &BusView,
+    course: &Course,
+    change: &Change,
+    row: &Row,
+) -> bool
+    requires devices { HasDevices course.now.call }
+    requires ends { HasEnds course.now.connection }
+    ensures { result ≡ passes_in connection.now (standing_at view.now course.now) change.now row.now }
 {
-    let since = standing.phase_since.max(connection.began);
     keeps_side(connection, row.dev, change.next)
-        && asks_soon(
-            since,
-            row.time,
-            standing.duty,
-            standing.initiator_bsy,
-            change,
-        )
-        && turns_well(standing, row.dev == connection.target, change, row.time)
-        && (!crosses_in(change) || may_cross(standing, change))
-        && transfers_well(standing, change, row.time)
+        && asks_soon(connection, view, course, change, row.time)
+        && turns_well(view, course, row.dev == connection.target, change, row.time)
+        && (!crosses_in(change) || may_cross(view, course, change))
+        && transfers_well(view, course, change, row.time)
 }
 
 fn is_move(change: &Change, row: &Row) -> bool
@@ -273,25 +254,15 @@ fn is_move(change: &Change, row: &Row) -> bool
     !is_fault(row.kind) && !change.own.same(change.next)
 }
 
-fn passes_of(standing: &Standing, change: &Change, row: &Row) -> bool
-    ensures { result ≡ passes_of standing.now change.now row.now standing.now.connection }
+fn passes_of(view: &BusView, course: &Course, change: &Change, row: &Row) -> bool
+    requires devices { HasDevices course.now.call }
+    requires ends { HasEnds course.now.connection }
+    ensures { result ≡ passes_of (standing_at view.now course.now) change.now row.now course.now.connection }
 {
-    match &standing.connection {
+    match &course.connection {
         None => false,
-        Some(connection) => passes_in(connection, standing, change, row),
+        Some(connection) => passes_in(connection, view, course, change, row),
     }
-}
-
-/// Whether a row that changes this passes the short test: it breaks no rule.
-#[inline(always)]
-pub fn passes(standing: &Standing, change: &Change, row: &Row) -> bool
-    ensures { result ≡ passes standing.now change.now row.now }
-{
-    standing.last <= row.time
-        && is_move(change, row)
-        && is_data_row(change)
-        && standing.is_alone
-        && passes_of(standing, change, row)
 }
 
 // Whether neither a call nor an arbitration stands.
@@ -301,34 +272,17 @@ fn is_alone(course: &Course) -> bool
     course.call.is_none() && course.arbitration.is_none()
 }
 
-/// What the test asks of the rows before.
-#[inline(always)]
-pub fn what_stands(view: &BusView, course: &Course) -> Standing
+/// Whether a row that changes this passes the short test: it breaks no rule.
+pub fn passes(view: &BusView, course: &Course, change: &Change, row: &Row) -> bool
     requires devices { HasDevices course.now.call }
     requires ends { HasEnds course.now.connection }
-    ensures { (rows : List Row) (dev : ℕ) (c : Change) (reading : Reading) → IsViewOf rows view.now → IsCourseOf rows course.now → result ≡ standing_of (seen_with rows dev c reading) }
+    ensures { result ≡ passes (standing_at view.now course.now) change.now row.now }
 {
-    let spoken = &course.dialogue.heard.now;
-    Standing {
-        last: view.last_time(),
-        is_alone: is_alone(course),
-        connection: course.connection,
-        phase_since: phase_since(view),
-        io_since: view.since_io(),
-        req_since: view.since_req(),
-        ack_since: view.since_ack(),
-        data_since: view.data_since(),
-        initiator_bsy: initiator_bsy(view, course.call, course.connection),
-        initiator_data: initiator_data(view, course.connection),
-        target_data: target_data(view, course.connection),
-        pulses: course.pulses,
-        turned: course.turned,
-        duty: course.duty,
-        agreement: spoken.agreement,
-        is_open: spoken.offer.is_some(),
-        command: spoken.command,
-        begun: course.dialogue.begun,
-    }
+    view.last_time() <= row.time
+        && is_move(change, row)
+        && is_data_row(change)
+        && is_alone(course)
+        && passes_of(view, course, change, row)
 }
 
 /// What ATN asks of the target after such a row, over which ATN is held or not.

@@ -1,6 +1,4 @@
 //! What a row meets.
-ghost use Rattle.std.specs.Prelude.{◌≡◌};
-
 use crate::arbitration::Arbitration;
 use crate::attention::Duty;
 use crate::changes::Change;
@@ -80,46 +78,4 @@ pub struct Seen {
     pub begun: bool,
     /// What the byte of the row makes of a message, if one crosses.
     pub reading: Reading,
-}
-
-impl Seen {
-    /// The same of a row that changes this, and whose byte makes this of a message.
-    pub fn with(self, change: Change, reading: Reading) -> Seen
-        ensures { result ≡ record self { change = change; reading = reading } }
-    {
-        Seen {
-            change,
-            reading,
-            last: self.last,
-            bsy_since: self.bsy_since,
-            sel_since: self.sel_since,
-            rst_since: self.rst_since,
-            id_since: self.id_since,
-            bsy_raised: self.bsy_raised,
-            rst_raised: self.rst_raised,
-            others_drive: self.others_drive,
-            initiator_bsy: self.initiator_bsy,
-            initiator_data: self.initiator_data,
-            target_data: self.target_data,
-            receiver: self.receiver,
-            arbitration: self.arbitration,
-            free_since: self.free_since,
-            call: self.call,
-            connection: self.connection,
-            io_since: self.io_since,
-            req_since: self.req_since,
-            ack_since: self.ack_since,
-            atn_since: self.atn_since,
-            phase_since: self.phase_since,
-            data_since: self.data_since,
-            pulses: self.pulses,
-            turned: self.turned,
-            duty: self.duty,
-            agreement: self.agreement,
-            is_open: self.is_open,
-            command: self.command,
-            is_half: self.is_half,
-            begun: self.begun,
-        }
-    }
 }

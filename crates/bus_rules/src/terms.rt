@@ -1,7 +1,8 @@
 //! The terms of the rules, row by row.
-ghost use Rattle.std.specs.Prelude.{true, ◌≡◌, ◌<◌, ◌∷◌, [], List};
+ghost use Rattle.std.specs.Prelude.{true, max, slice_index, ◌≡◌, ◌<◌, ◌∷◌, [], List};
 ghost use Rattle.bus_lines.specs.LineSet.{LineSet, line_of};
 ghost use Rattle.bus_lines.specs.declared.Row.{Row};
+ghost use Rattle.bus_lines.specs.View.{driven_at};
 ghost use Rattle.bus_lines.specs.Trace.{IsViewOf, drives, since};
 ghost use Rattle.bus_rules.specs.Calls.{HasDevices, IsCalled};
 ghost use Rattle.bus_rules.specs.Connections.{HasEnds};
@@ -10,14 +11,14 @@ ghost use Rattle.bus_rules.specs.Phases.{phase_since};
 ghost use Rattle.bus_rules.specs.Judging.{IsCourseOf};
 ghost use Rattle.bus_rules.specs.Changes.{change_of};
 ghost use Rattle.bus_rules.specs.Rules.{broken_rule};
-ghost use Rattle.bus_rules.specs.DataRows.{standing_of, passes};
+ghost use Rattle.bus_rules.specs.DataRows.{standing_after, passes};
 ghost use Rattle.bus_rules.specs.Seen.{seen, seen_with, other_drives, others_drive, others_in_call, id_since, id_since_calling, initiator_called, initiator_of, drives_bsy, initiator_data, target_data};
 
 use crate::attention::is_held;
 use crate::changes::{Change, drives_data};
 use crate::connection::Connection;
 use crate::course::Course;
-use crate::data_rows::{passes, what_stands};
+use crate::data_rows::passes;
 use crate::reading::Reading;
 use crate::rules::lowest_broken;
 use crate::seen::Seen;
@@ -109,7 +110,8 @@ fn initiator_of(call: Option<Call>, connection: Option<Connection>) -> Option<De
 pub fn initiator_bsy(view: &BusView, call: Option<Call>, connection: Option<Connection>) -> bool
     requires devices { HasDevices call }
     requires ends { HasEnds connection }
-    ensures { (rows : List Row) → IsViewOf rows view.now → result ≡ drives_bsy (drives rows) (initiator_of call connection) }
+    ensures value { result ≡ drives_bsy (driven_at view.now.driven) (initiator_of call connection) }
+    ensures trace { (rows : List Row) → IsViewOf rows view.now → result ≡ drives_bsy (drives rows) (initiator_of call connection) }
 {
     match initiator_of(call, connection) {
         None => false,
@@ -120,7 +122,8 @@ pub fn initiator_bsy(view: &BusView, call: Option<Call>, connection: Option<Conn
 /// Whether the initiator of the connection drives data lines.
 pub fn initiator_data(view: &BusView, connection: Option<Connection>) -> bool
     requires { HasEnds connection }
-    ensures { (rows : List Row) → IsViewOf rows view.now → result ≡ initiator_data (drives rows) connection }
+    ensures value { result ≡ initiator_data (driven_at view.now.driven) connection }
+    ensures trace { (rows : List Row) → IsViewOf rows view.now → result ≡ initiator_data (drives rows) connection }
 {
     match connection {
         None => false,
@@ -131,7 +134,8 @@ pub fn initiator_data(view: &BusView, connection: Option<Connection>) -> bool
 /// Whether the target of the connection drives data lines.
 pub fn target_data(view: &BusView, connection: Option<Connection>) -> bool
     requires { HasEnds connection }
-    ensures { (rows : List Row) → IsViewOf rows view.now → result ≡ target_data (drives rows) connection }
+    ensures value { result ≡ target_data (driven_at view.now.driven) connection }
+    ensures trace { (rows : List Row) → IsViewOf rows view.now → result ≡ target_data (drives rows) connection }
 {
     match connection {
         None => false,
@@ -148,7 +152,8 @@ fn free_since(view: &BusView) -> Ns
 
 /// When the phase lines last changed.
 pub fn phase_since(view: &BusView) -> Ns
-    ensures { (rows : List Row) → IsViewOf rows view.now → result ≡ phase_since rows }
+    ensures value { result ≡ max (max (slice_index view.now.changed 13) (slice_index view.now.changed 11)) (slice_index view.now.changed 12) }
+    ensures trace { (rows : List Row) → IsViewOf rows view.now → result ≡ phase_since rows }
 {
     view.since_msg().max(view.since_cd()).max(view.since_io())
 }
@@ -170,7 +175,7 @@ impl Terms {
     #[inline(always)]
     fn transfer(&mut self, change: &Change, row: &Row)
         requires { row.now.dev < 8 }
-        ensures kept { (rows : List Row) → IsTermsOf rows self.old → change.now ≡ change_of rows row.now → passes (standing_of (seen rows row.now)) change.now row.now ≡ true → IsTermsOf (row.now ∷ rows) self.new }
+        ensures kept { (rows : List Row) → IsTermsOf rows self.old → change.now ≡ change_of rows row.now → passes (standing_after rows) change.now row.now ≡ true → IsTermsOf (row.now ∷ rows) self.new }
     {
         let held = is_held(change, self.view.since_atn(), row.time);
         self.course.transfer(held, change, row.time);
@@ -202,7 +207,7 @@ impl Terms {
             own,
             next,
         };
-        if passes(&what_stands(&self.view, &self.course), &change, row) {
+        if passes(&self.view, &self.course, &change, row) {
             self.transfer(&change, row);
             return None;
         }
@@ -226,7 +231,7 @@ impl Terms {
             own,
             next,
         };
-        let met = met(&self.view, &self.course, row.dev, quiet);
+        let mut seen = met(&self.view, &self.course, row.dev, quiet);
         self.view.step(row);
         let change = Change {
             before,
@@ -234,9 +239,10 @@ impl Terms {
             own,
             next,
         };
-        let held = is_held(&change, met.atn_since, row.time);
-        let reading = self.course.step(met.free_since, held, &change, row);
-        met.with(change, reading)
+        let held = is_held(&change, seen.atn_since, row.time);
+        seen.reading = self.course.step(seen.free_since, held, &change, row);
+        seen.change = change;
+        seen
     }
 }
 

@@ -56,7 +56,9 @@ impl Judge {
     {
         let broken = self.terms.judge(row);
         self.count = self.count.saturating_add(1);
-        self.verdict = joined(self.verdict, broken, self.count);
+        if broken.is_some() {
+            self.verdict = joined(self.verdict, broken, self.count);
+        }
         self.verdict
     }
 

@@ -3,13 +3,13 @@ use Rattle.bus_lines.specs.LineSet.{LineSet}
 use Rattle.bus_lines.specs.Trace.{driven_after}
 use Rattle.bus_rules.specs.declared.changes.Change.{Change}
 use Rattle.bus_rules.specs.Changes.{change_of}
-use Rattle.bus_rules.specs.DataRows.{passes, standing_of}
+use Rattle.bus_rules.specs.DataRows.{passes, standing_after}
 use Rattle.bus_rules.specs.Dialogue.{dialogue}
 use Rattle.bus_rules.specs.Judging.{Running, IsTermsOf}
 use Rattle.bus_rules.specs.Reading.{reading_of}
 use Rattle.bus_rules.specs.Seen.{seen}
 use Rattle.bus_rules.specs.Terms.{connection}
-use Rattle.bus_rules.proofs.DataRows.{breaks_none, passing}
+use Rattle.bus_rules.proofs.DataRows.{breaks_none, passing, stands_is}
 use Rattle.bus_rules.proofs.Running.{change_is}
 use Rattle.bus_rules.proofs.terms.Terms.judge.Goals as goal
 
@@ -20,9 +20,9 @@ returns-then-passes-clause-broken c = λ rows h.
     let own = c.drives-own.ensures.trace rows t.view in
     let next = c.driven_after-next.ensures ∙ ap (λ (x : LineSet). driven_after row.kind x) own in
     let change = change_is rows row _ _ _ _ (c.bus.ensures.trace rows t.view) (c.bus_with.ensures rows row t.view refl next) own c.driven_after-next.ensures in
-    let stands = c.what_stands.ensures rows row.dev (change_of rows row) (reading_of (dialogue rows).half (connection rows) (change_of rows row)) t.view t.course in
+    let stands = stands_is rows _ _ t.view t.course c.self.invariant.0 c.self.invariant.1 in
     let passed = passing rows row _ (record { before = c.bus.result; after = c.bus_with.result; own = c.drives-own.result; next = c.driven_after-next.result }) _ c.passes.ensures c.if-passes.true stands in
-    sym (breaks_none rows row (subst (λ (x : Change). passes (standing_of (seen rows row)) x row ≡ true) change passed))
+    sym (breaks_none rows row (subst (λ (x : Change). passes (standing_after rows) x row ≡ true) change passed))
 
 pub returns-then-passes-clause-kept : goal.returns-then-passes-clause-kept
 returns-then-passes-clause-kept c = λ rows h.
@@ -31,5 +31,5 @@ returns-then-passes-clause-kept c = λ rows h.
     let own = c.drives-own.ensures.trace rows t.view in
     let next = c.driven_after-next.ensures ∙ ap (λ (x : LineSet). driven_after row.kind x) own in
     let change = change_is rows row _ _ _ _ (c.bus.ensures.trace rows t.view) (c.bus_with.ensures rows row t.view refl next) own c.driven_after-next.ensures in
-    let stands = c.what_stands.ensures rows row.dev (change_of rows row) (reading_of (dialogue rows).half (connection rows) (change_of rows row)) t.view t.course in
+    let stands = stands_is rows _ _ t.view t.course c.self.invariant.0 c.self.invariant.1 in
     c.transfer.ensures.kept rows h change (passing rows row _ (record { before = c.bus.result; after = c.bus_with.result; own = c.drives-own.result; next = c.driven_after-next.result }) _ c.passes.ensures c.if-passes.true stands)

@@ -2,7 +2,7 @@ use Rattle.std.proofs.Common.{◌≡◌, true, ◌∷◌, ◌∙◌, ap, subst, 
 use Rattle.bus_rules.specs.declared.changes.Change.{Change}
 use Rattle.bus_rules.specs.declared.course.Course.{Course}
 use Rattle.bus_rules.specs.Changes.{change_of}
-use Rattle.bus_rules.specs.DataRows.{passes, standing_of, transferred}
+use Rattle.bus_rules.specs.DataRows.{passes, standing_after, transferred}
 use Rattle.bus_rules.specs.Judging.{Running, IsTermsOf, IsCourseOf}
 use Rattle.bus_rules.specs.Seen.{seen}
 use Rattle.bus_rules.proofs.DataRows.{moved}
@@ -14,7 +14,7 @@ returns c = record {
   kept = λ rows h ec e.
       let row = c.args.row.now in
       let t = subst (λ (x : Running). IsTermsOf rows x) (sym c.self.view_is) h in
-      let e' = subst (λ (x : Change). passes (standing_of (seen rows row)) x row ≡ true) ec e in
+      let e' = subst (λ (x : Change). passes (standing_after rows) x row ≡ true) ec e in
       let held = held_by rows row _ _ _ ec (c.since_atn.ensures.trace rows t.view) c.is_held-held.ensures in
       let course = moved rows row _ _ t.course held e' in
       record {
