@@ -20,8 +20,12 @@ pub fn after<'a>(text: &[u8], bytes: &'a [u8]) -> Option<&'a [u8]>
 fn pushed(number: u64, digit: u8) -> Number
     ensures { result ≡ pushed (Some number) digit }
 {
-    let tens = number.checked_mul(10)?;
-    tens.checked_add(u64::from(digit.saturating_sub(b'0')))
+    let digit = u64::from(digit.saturating_sub(b'0'));
+    if number < 1 << 60 {
+        Some(number * 10 + digit)
+    } else {
+        number.checked_mul(10)?.checked_add(digit)
+    }
 }
 
 /// Whether digits spell a number: one or more, and no leading zero.
