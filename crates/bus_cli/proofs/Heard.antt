@@ -40,9 +40,9 @@ left-len piece at = ap length (left-is piece at) ∙ length-drop at piece
 pub onward : (piece bytes : List ℕ) (at n : ℕ) → reverse (take n (left piece at)) ++ (reverse (take at piece) ++ bytes) ≡ reverse (take (at + n) piece) ++ bytes
 onward piece bytes at n =
     ap (λ (l : List ℕ). reverse (take n l) ++ (reverse (take at piece) ++ bytes)) (left-is piece at)
-        ∙ sym (append_assoc (reverse (take n (drop at piece))) (reverse (take at piece)) bytes)
-        ∙ ap (λ (l : List ℕ). l ++ bytes) (sym (reverse-append (take at piece) (take n (drop at piece))))
-        ∙ ap (λ (l : List ℕ). reverse l ++ bytes) (sym (take-add at n piece))
+    ∙ sym (append_assoc (reverse (take n (drop at piece))) (reverse (take at piece)) bytes)
+    ∙ ap (λ (l : List ℕ). l ++ bytes) (sym (reverse-append (take at piece) (take n (drop at piece))))
+    ∙ ap (λ (l : List ℕ). reverse l ++ bytes) (sym (take-add at n piece))
 
 pub room : (piece bytes : List ℕ) (at : ℕ) → at ≤ length piece → length bytes + length piece ≤ 2 ^ 30 → length (reverse (take at piece) ++ bytes) + length (left piece at) ≤ 2 ^ 30
 room piece bytes at within few = omega (arith, length-append (reverse (take at piece)) bytes, length-reverse (take at piece), length-take at piece, left-len piece at)

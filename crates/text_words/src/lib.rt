@@ -21,7 +21,8 @@ pub use laws::{
 };
 pub use lines::{FirstLine, feed_at, first_line};
 pub use reading::{
-    Number, after, decode, digit, hex_array, hex_digits, hex_or_16, hex_value, is_hex_digit, number, whole,
+    Number, after, decode, digit, hex_array, hex_digits, hex_or_16, hex_value, is_hex_digit,
+    number, whole,
 };
 pub use writing::{byte_text, hex_digit};
 

@@ -22,10 +22,11 @@ fn pushed(number: u64, digit: u8) -> Number
 {
     let digit = u64::from(digit.saturating_sub(b'0'));
     // Below this no digit takes it to 2^64.
-    if number < 1_844_674_407_370_955_135 {
-        return Some(number * 10 + digit);
+    if number < 1 << 60 {
+        Some(number * 10 + digit)
+    } else {
+        number.checked_mul(10)?.checked_add(digit)
     }
-    number.checked_mul(10)?.checked_add(digit)
 }
 
 /// Whether digits spell a number: one or more, and no leading zero.

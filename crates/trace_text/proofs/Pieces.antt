@@ -1,17 +1,16 @@
 -- The first line of a piece, and what the bytes before it and it tell.
-use Rattle.std.proofs.Common.{◌≡◌, ℕ, suc, ◌+◌, ◌^◌, ◌<◌, ◌≤◌, Bool, true, false, cond, not, List, [], ◌∷◌, ◌++◌, length, take, reverse, refl, sym, ap, ◌∙◌, subst, arith, append_assoc}
+use Rattle.std.proofs.Common.{◌≡◌, ℕ, suc, ◌+◌, ◌<◌, ◌≤◌, Bool, true, false, List, [], ◌∷◌, ◌++◌, length, take, reverse, refl, sym, ap, ◌∙◌, subst, arith, append_assoc}
 use Rattle.std.specs.Prelude.{◌==◌}
-use Rattle.std.specs.List.{prefix_len, list_all}
+use Rattle.std.specs.List.{prefix_len}
 use Rattle.std.proofs.lemmas.Bool.Decides.{nat_tests}
 use Rattle.std.proofs.lemmas.List.{append-nil, reverse-append}
 use Rattle.bus_lines.specs.declared.Row.{Row}
 use Rattle.trace_text.specs.declared.stages.State.{State}
 use Rattle.trace_text.specs.declared.stages.State.TheVariants as states
 use Rattle.trace_text.specs.declared.stages.Told.{Told}
-use Rattle.trace_text.specs.declared.stages.Told.TheVariants as tolds
 use Rattle.trace_text.specs.Lines.{stepped, state_of}
 use Rattle.trace_text.specs.Pieces.{is_inner, text_of, line_len}
-use Rattle.trace_text.specs.Bytes.{Cut, cut_next, cut_of, quiet, told_next, told_at, told_of, rows_next, rows_of}
+use Rattle.trace_text.specs.Bytes.{Cut, cut_next, cut_of, quiet, told_at, told_of, rows_next, rows_of}
 
 -- ---- where the first line ends
 
@@ -94,7 +93,7 @@ cut_with bytes text = record { lines = (cut_of bytes).lines; rest = (cut_of byte
 with_more : (b : ℕ) (bytes text : List ℕ) → (b == 10) ≡ false → cut_with (b ∷ bytes) text ≡ cut_with bytes (b ∷ text)
 with_more b bytes text e =
     ap (λ (c : Cut). let d : Cut = record { lines = c.lines; rest = c.rest ++ text } in d) (cut_in b bytes e)
-        ∙ ap (λ (l : List ℕ). let d : Cut = record { lines = (cut_of bytes).lines; rest = l } in d) (append_assoc (cut_of bytes).rest (b ∷ []) text)
+    ∙ ap (λ (l : List ℕ). let d : Cut = record { lines = (cut_of bytes).lines; rest = l } in d) (append_assoc (cut_of bytes).rest (b ∷ []) text)
 
 pub cut_text : (piece bytes : List ℕ) → cut_of (reverse (text_of piece) ++ bytes) ≡ cut_with bytes (text_of piece)
 cut_text [] bytes = ap (λ (l : List ℕ). let d : Cut = record { lines = (cut_of bytes).lines; rest = l } in d) (sym (append-nil (cut_of bytes).rest))
@@ -106,8 +105,8 @@ cut_text (b ∷ piece) bytes = step (b == 10) refl (cut_text piece (b ∷ bytes)
 pub cut_line : (piece bytes : List ℕ) → HasFeed piece → cut_of (reverse (take (line_len piece) piece) ++ bytes) ≡ record { lines = ((cut_of bytes).rest ++ text_of piece) ∷ (cut_of bytes).lines; rest = [] }
 cut_line piece bytes h =
     ap (λ (l : List ℕ). cut_of (reverse l ++ bytes)) (line_text piece h)
-        ∙ ap (λ (l : List ℕ). cut_of (l ++ bytes)) (reverse-append (text_of piece) (10 ∷ []))
-        ∙ ap (λ (c : Cut). cut_next c 10) (cut_text piece bytes)
+    ∙ ap (λ (l : List ℕ). cut_of (l ++ bytes)) (reverse-append (text_of piece) (10 ∷ []))
+    ∙ ap (λ (c : Cut). cut_next c 10) (cut_text piece bytes)
 
 -- ---- what they tell
 
@@ -149,7 +148,7 @@ rows_told (b ∷ piece) bytes = step (b == 10) refl (rows_told piece (b ∷ byte
       let told : told_of bytes (b ∷ piece) ≡ told_of (b ∷ bytes) piece = rw e refl in
       let still : told_at bytes b ≡ quiet (state_of (cut_of bytes).lines) = rw e refl in
       ap (λ (l : List ℕ). rows_of (reverse l ++ bytes)) (line_on b piece e)
-          ∙ ap rows_of (newest b (take (line_len piece) piece) bytes)
-          ∙ ih
-          ∙ ap (λ (rows : List Row). rows_next (told_of (b ∷ bytes) piece) rows) (ap (λ (t : Told). rows_next t (rows_of bytes)) still ∙ rows_quiet (state_of (cut_of bytes).lines) (rows_of bytes))
-          ∙ ap (λ (t : Told). rows_next t (rows_of bytes)) (sym told)
+      ∙ ap rows_of (newest b (take (line_len piece) piece) bytes)
+      ∙ ih
+      ∙ ap (λ (rows : List Row). rows_next (told_of (b ∷ bytes) piece) rows) (ap (λ (t : Told). rows_next t (rows_of bytes)) still ∙ rows_quiet (state_of (cut_of bytes).lines) (rows_of bytes))
+      ∙ ap (λ (t : Told). rows_next t (rows_of bytes)) (sym told)

@@ -1,6 +1,6 @@
 -- The line of a row at the front of a piece.
-use Rattle.std.proofs.Common.{◌≡◌, ℕ, ◌+◌, ◌-◌, ◌^◌, ◌<◌, ◌≤◌, Bool, true, false, not, ◌&&◌, ltb, List, [], ◌∷◌, ◌++◌, length, get_or, take, drop, take_all, Some, None, refl, sym, ap, subst, ◌∙◌, arith, append_assoc}
-use Rattle.std.specs.Prelude.{◌==◌, nat_lt, codes, decimal}
+use Rattle.std.proofs.Common.{◌≡◌, ℕ, ◌+◌, ◌-◌, ◌^◌, ◌<◌, ◌≤◌, true, ◌&&◌, List, [], ◌∷◌, ◌++◌, length, get_or, take, drop, take_all, Some, refl, sym, ap, ◌∙◌, arith, append_assoc}
+use Rattle.std.specs.Prelude.{nat_lt, codes, decimal}
 use Rattle.std.specs.List.{prefix_len, list_all}
 use Rattle.std.proofs.lemmas.Bool.{lt-ltb}
 use Rattle.std.proofs.lemmas.Bool.Decides.{nat_tests}
@@ -14,7 +14,7 @@ use Rattle.bus_lines.specs.declared.Kind.{Kind}
 use Rattle.bus_lines.specs.declared.Kind.TheVariants.{Drives}
 use Rattle.bus_lines.specs.declared.Row.{Row}
 use Rattle.trace_text.specs.Lines.{below, value_of, kind_at, row_at}
-use Rattle.trace_text.specs.Pieces.{is_inner, text_of, line_len, StartsWithRow}
+use Rattle.trace_text.specs.Pieces.{is_inner, text_of, StartsWithRow}
 use Rattle.trace_text.proofs.Short.{below_is}
 use Rattle.trace_text.proofs.Driven.{both}
 use Rattle.trace_text.proofs.RowAgain.{decimal_inner, digit_inner}

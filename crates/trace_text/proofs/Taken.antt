@@ -1,12 +1,11 @@
 -- What the reader has taken of a piece.
-use Rattle.std.proofs.Common.{◌≡◌, ℕ, ◌+◌, ◌^◌, ◌<◌, ◌≤◌, List, [], ◌∷◌, ◌++◌, length, take, reverse, take_all, refl, sym, ap, ◌∙◌, arith, append_assoc, inl, inr, Some}
+use Rattle.std.proofs.Common.{◌≡◌, ℕ, ◌+◌, ◌^◌, ◌<◌, ◌≤◌, List, [], ◌++◌, length, take, reverse, take_all, sym, ap, ◌∙◌, arith, inl, inr, Some}
 use Rattle.std.specs.List.{prefix_len}
 use Rattle.std.proofs.lemmas.Bool.{cases_lt}
 use Rattle.std.proofs.lemmas.List.{length-take, take-append-le}
 use Rattle.bus_lines.specs.declared.Row.{Row}
 use Rattle.trace_text.specs.declared.stages.Stage.TheVariants as stages
 use Rattle.trace_text.specs.declared.stages.State.{State}
-use Rattle.trace_text.specs.declared.stages.State.TheVariants as states
 use Rattle.trace_text.specs.declared.stages.Told.{Told}
 use Rattle.trace_text.specs.declared.stages.Told.TheVariants as tolds
 use Rattle.trace_text.specs.declared.reader.TraceReader.{TraceReader}
@@ -37,9 +36,9 @@ line_is : (r : TraceReader) (text bytes : List ℕ) (p : State × Told) → Ends
 line_is r text bytes p ends h few =
     let count = count_bytes bytes r h in
     ends (omega arith)
-        ∙ (λ i. stepped (h.state i) (take 28 (h.line i ++ text)))
-        ∙ ap (stepped (state_of (cut_of bytes).lines)) (front_more (cut_of bytes).rest text)
-        ∙ stepped_front (state_of (cut_of bytes).lines) ((cut_of bytes).rest ++ text)
+    ∙ (λ i. stepped (h.state i) (take 28 (h.line i ++ text)))
+    ∙ ap (stepped (state_of (cut_of bytes).lines)) (front_more (cut_of bytes).rest text)
+    ∙ stepped_front (state_of (cut_of bytes).lines) ((cut_of bytes).rest ++ text)
 
 -- ---- a piece with a line feed
 
@@ -82,7 +81,7 @@ row_ends old new piece row len h count =
     let few : h.count + 1 < 2 ^ 32 = let same = ap count_of h.before in omega arith in
     let told : row_or_end (row_at (text_of piece)) (end_at (text_of piece)) ≡ Some (stages.Rows, Some row) = ap (λ o. row_or_end o (end_at (text_of piece))) h.starts.is in
     whole_line old.line (text_of piece) old.state (new.state, tolds.RowRead row) h.nothing
-        ((λ i. (h.after few i, tolds.RowRead row)) ∙ sym (ap (moved (h.count + 1)) told) ∙ ap (λ (s : State). stepped s (text_of piece)) (sym h.before))
+    ((λ i. (h.after few i, tolds.RowRead row)) ∙ sym (ap (moved (h.count + 1)) told) ∙ ap (λ (s : State). stepped s (text_of piece)) (sym h.before))
 
 pub row_kept : (old new : TraceReader) (piece : List ℕ) (row : Row) (len : ℕ) → IsRowTaken old new piece row len
     → (bytes : List ℕ) → IsReaderOf bytes old → length bytes + length piece ≤ 2 ^ 30 → IsReaderOf (reverse (take len piece) ++ bytes) new

@@ -6,8 +6,8 @@
 //!
 //! It stands on `text_words`, `bus_base`, `bus_lines`, `cdb_codec`, `scenario` and `bus_engine`. Its
 //! contract: [`report`] writes the report of a run to any sink, or a front of it where the sink fails;
-//! [`print_row`] is the line of a row; [`TraceReader`], which takes a trace text byte by byte and keeps
-//! no row, tells each row and the first line that breaks the form, however the text is cut; and
+//! [`print_row`] is the line of a row; [`TraceReader`], which takes a trace text byte by byte or in pieces and
+//! keeps no row, tells each row and the first line that breaks the form, however the text is cut; and
 //! [`read_trace`] is all rows and the end, or that line. What is printed is read again
 //! ([`traces_read_back`], [`reports_read_back`]), and only such rows and ends are read ([`reads_only`]).
 #![tactic(auto)]

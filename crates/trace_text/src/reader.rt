@@ -136,19 +136,17 @@ impl TraceReader {
         if !self.line.is_empty() {
             return None;
         }
-        let State::Open {
-            stage: Stage::Rows,
-            count,
-        } = self.state
-        else {
-            return None;
-        };
-        let (row, len) = row_front(piece)?;
-        self.state = State::Open {
-            stage: Stage::Rows,
-            count: count.saturating_add(1),
-        };
-        Some((row, len))
+        match &mut self.state {
+            State::Open {
+                stage: Stage::Rows,
+                count,
+            } => {
+                let (row, len) = row_front(piece)?;
+                *count = count.saturating_add(1);
+                Some((row, len))
+            }
+            _ => None,
+        }
     }
 
     /// Takes the bytes of the piece up to and with its first line feed, or all of them where it has none: what they

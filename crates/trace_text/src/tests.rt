@@ -3,7 +3,7 @@ ghost use Rattle.std.specs.Prelude.{◌≡◌, length, IfOk};
 ghost use Rattle.std.specs.List.{AllByRecursion};
 ghost use Rattle.bus_lines.specs.OfTrace.{IsRow};
 
-use crate::{TraceBad, print_row, read_trace, report};
+use crate::{Told, TraceBad, TraceReader, print_row, read_trace, report};
 use bitflags::Flags;
 use bus_base::{AbortKind, Event, Failed, MemSink, NoMemory, Octets, ProcId};
 use bus_engine::{DenseBlocks, Outcome, Run};
@@ -77,6 +77,33 @@ fn reads_traces(rt: HostRuntime) {
     for (text, want) in TEXTS {
         assert_eq!(rt; told(rt.alloc(), text.as_bytes()), want, "{text}");
     }
+}
+
+// Pieces of a trace text, one after the other: how many bytes are taken of each, and the row that they tell.
+const PIECES: [(&str, usize, Option<(u64, u8)>); 8] = [
+    ("trace 1\n1200", 8, None),
+    ("1200 7 00280\n1", 13, Some((1200, 7))),
+    ("", 0, None),
+    ("3600 7 f", 8, None),
+    ("8\n", 2, Some((3600, 7))),
+    ("4800 0 10", 9, None),
+    ("781\nend 4800\n", 4, Some((4800, 0))),
+    ("4800 8 10781\n4800", 13, None),
+];
+
+#[test]
+fn takes_pieces(rt: HostRuntime) {
+    let mut reader = TraceReader::new();
+    for (piece, want_len, want) in PIECES {
+        let (told, len) = reader.take(piece.as_bytes());
+        let row = match told {
+            Told::RowRead(row) => Some((row.time, row.dev)),
+            Told::Quiet | Told::Bad(_) => None,
+        };
+        assert_eq!(rt; len, want_len, "{piece}");
+        assert_eq!(rt; row, want, "{piece}");
+    }
+    assert_eq!(rt; reader.finish(), Err(5));
 }
 
 const SCENARIO: &str = "scsi 1

@@ -1,4 +1,4 @@
-use Rattle.std.proofs.Common.{length, ◌-◌, arith, rules}
+use Rattle.std.proofs.Common.{length, ◌-◌, rules}
 use Rattle.trace_text.proofs.RowFront.{longer, row_front}
 use Rattle.trace_text.proofs.stages.row_front.Goals as goal
 

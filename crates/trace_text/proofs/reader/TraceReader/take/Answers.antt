@@ -1,8 +1,7 @@
 use Rattle.std.proofs.Common.{sym, subst, arith}
 use Rattle.trace_text.specs.declared.stages.Told.TheVariants as tolds
-use Rattle.trace_text.specs.Pieces.{line_len}
 use Rattle.trace_text.specs.Bytes.{IsReaderOf, IsRowTaken}
-use Rattle.trace_text.proofs.Pieces.{rows_told, line_len_some, line_len_within}
+use Rattle.trace_text.proofs.Pieces.{line_len_some, line_len_within}
 use Rattle.trace_text.proofs.Taken.{row_kept, row_said, rows_are}
 use Rattle.trace_text.proofs.reader.TraceReader.take.Goals as goal
 

@@ -1,6 +1,6 @@
-use Rattle.std.proofs.Common.{◌≡◌, ◌+◌, ◌^◌, ◌<◌, ◌++◌, take, length, sym, ap, ◌∙◌, arith}
+use Rattle.std.proofs.Common.{◌+◌, ◌<◌, ◌++◌, take, length, ap, ◌∙◌, arith}
 use Rattle.std.specs.List.{prefix_len}
-use Rattle.trace_text.specs.Lines.{stepped, count_of}
+use Rattle.trace_text.specs.Lines.{stepped}
 use Rattle.trace_text.specs.Pieces.{is_inner, text_of}
 use Rattle.trace_text.proofs.Pieces.{line_len_fed, line_len_unfed}
 use Rattle.trace_text.proofs.Taken.{EndsLine, fed_kept, fed_told, unfed_kept, unfed_told}
