@@ -135,14 +135,14 @@ pub by_groups : (b a : LineSet) (time : ℕ) (old mid new : ℕ → ℕ) → ((k
     → (line : ℕ) → line < 18 → new line ≡ newer (line_of line) b a (old line) time
 by_groups b a time old mid new first kept rest below line lt = go (nat_lt line 9) refl
   where
-  go : (q : Bool) → nat_lt line 9 ≡ q → new line ≡ newer (line_of line) b a (old line) time
-  go true e = let low : line < 9 = grind (arith, nat_tests) in below line low ∙ first line low
-  go false e = let high : 9 ≤ line = grind (arith, nat_tests) in rest line high lt ∙ (λ i. newer (line_of line) b a (kept line high i) time)
+    go : (q : Bool) → nat_lt line 9 ≡ q → new line ≡ newer (line_of line) b a (old line) time
+    go true e = let low : line < 9 = grind (arith, nat_tests) in below line low ∙ first line low
+    go false e = let high : 9 ≤ line = grind (arith, nat_tests) in rest line high lt ∙ (λ i. newer (line_of line) b a (kept line high i) time)
 
 -- the time of a line that differs is the newest
 pub newest_is : (k : ℕ) (b a : LineSet) (time was new : ℕ) (differs : Bool) → differs ≡ not (line_of k b == line_of k a) → new ≡ cond differs time was → new ≡ newer (line_of k) b a was time
 newest_is k b a time was new differs ed en = en ∙ ((λ i. cond (ed i) time was) ∙ go (line_of k b == line_of k a))
   where
-  go : (q : Bool) → cond (not q) time was ≡ (if q then was else time)
-  go true = refl
-  go false = refl
+    go : (q : Bool) → cond (not q) time was ≡ (if q then was else time)
+    go true = refl
+    go false = refl

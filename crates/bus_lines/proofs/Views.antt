@@ -3,10 +3,9 @@ use Rattle.std.proofs.Common.{◌≤◌, refl, ℕ, suc, ◌≡◌, ◌≢◌, �
 use Rattle.std.specs.Prelude.{slice_set, slice_index}
 use Rattle.std.proofs.lemmas.Grind.{common_steps, elements}
 use Rattle.bus_lines.specs.LineSet.{LineSet, union, line_of, data_of}
-use Rattle.bus_lines.specs.View.{View, union_below, union_all, driven_at, IsUpTo}
+use Rattle.bus_lines.specs.View.{View, union_below, driven_at, IsUpTo}
 use Rattle.bus_lines.specs.declared.rows.Row.{Row}
 use Rattle.bus_lines.specs.Trace.{driven_after, IsViewOf, drives, bus, newer}
-use Rattle.bus_lines.proofs.Buses.{below_same}
 use Rattle.bus_lines.proofs.Ages.{newer_along, newer_le}
 
 -- what all devices drive

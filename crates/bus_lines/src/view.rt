@@ -243,14 +243,7 @@ fn newest(differs: bool, time: Ns, was: Ns) -> Ns
 
 // Sets the time of each of these lines that differs.
 #[inline(always)]
-fn renew_between(
-    changed: &mut [Ns; 18],
-    first: u8,
-    end: u8,
-    before: Lines,
-    after: Lines,
-    time: Ns,
-)
+fn renew_between(changed: &mut [Ns; 18], first: u8, end: u8, before: Lines, after: Lines, time: Ns)
     requires order { first ≤ end }
     requires few { end ≤ 18 }
     ensures inside { (line : ℕ) → first ≤ line → line < end → slice_index changed.new line ≡ newer (line_of line) before after (slice_index changed.old line) time }

@@ -1,7 +1,7 @@
 -- A row that changes data lines, REQ and ACK alone, and passes the short test, breaks no rule.
-use Rattle.std.proofs.Common.{ℕ, ◌≡◌, ◌<◌, ◌+◌, ◌%◌, ◌++◌, [], Bool, true, false, List, ◌∷◌, Option, Some, None, refl, sym, ap, subst, ◌∙◌, cond, arith}
+use Rattle.std.proofs.Common.{ℕ, ◌≡◌, ◌<◌, ◌+◌, ◌%◌, ◌++◌, [], Bool, true, false, List, ◌∷◌, Option, Some, None, refl, sym, subst, ◌∙◌, arith}
 use Rattle.std.specs.Prelude.{not, ◌&&◌, ◌||◌, ◌==◌, is_some, is_none, nat_le, max, if◌then◌else◌}
-use Rattle.bus_lines.specs.LineSet.{LineSet, data_of, same, same_set, none, has_odd_parity}
+use Rattle.bus_lines.specs.LineSet.{LineSet, same, same_set, none, has_odd_parity}
 use Rattle.bus_lines.specs.declared.Row.{Row}
 use Rattle.bus_lines.specs.declared.Kind.{Kind}
 use Rattle.bus_lines.specs.declared.Kind.TheVariants.{Drives, Fault}
@@ -13,8 +13,7 @@ use Rattle.bus_rules.specs.declared.dialogue.Dialogue.{Dialogue}
 use Rattle.bus_rules.specs.declared.raises.Raises.{Raises}
 use Rattle.bus_lines.specs.declared.agreements.Agreement.{Agreement}
 use Rattle.std.proofs.lemmas.Bool.Decides.{nat_tests}
-use Rattle.bus_lines.specs.Trace.{IsViewOf, drives, driven_after, last_time, since, since_line}
-use Rattle.bus_rules.specs.declared.arbitration.Arbitration.{Arbitration}
+use Rattle.bus_lines.specs.Trace.{IsViewOf, drives, driven_after, since, since_line}
 use Rattle.bus_rules.specs.declared.changes.Change.{Change}
 use Rattle.bus_rules.specs.declared.connection.Connection.{Connection}
 use Rattle.bus_rules.specs.declared.selection.Call.{Call}
@@ -23,17 +22,16 @@ use Rattle.bus_rules.specs.Calls.{HasDevices, IsCalled}
 use Rattle.bus_rules.specs.Connections.{HasEnds}
 use Rattle.bus_lines.specs.View.{View, driven_at}
 use Rattle.bus_lines.proofs.Ages.{since_line_of, line_io, line_msg, line_cd, line_req, line_ack}
-use Rattle.bus_rules.specs.declared.reading.Reading.{Reading}
 use Rattle.bus_rules.specs.declared.reading.Reading.TheVariants.{NoMessage}
 use Rattle.bus_rules.specs.declared.seen.Seen.{Seen}
-use Rattle.bus_rules.specs.Changes.{rises, falls, implies, same_hold, same_phase, raises_none, raises_only, is_within, drives_data}
+use Rattle.bus_rules.specs.Changes.{rises, falls, implies, same_phase, raises_none, raises_only, is_within, drives_data}
 use Rattle.bus_rules.specs.Order.{is_in_order, is_news_of}
 use Rattle.bus_rules.specs.FreeBus.{is_entry, enters_well, contends_well}
 use Rattle.bus_rules.specs.Selection.{others_release, is_left, keeps_winner_of, keeps_calling_of, keeps_answer_of, keeps_end_of, keeps_time_out_of, hands_over, takes_over}
 use Rattle.bus_rules.specs.Terms.{is_fault, free_since, raised, raised_next, arbitration, arbitration_after, call, call_after, call_goes_on, connection, connection_after, receiver_of}
 use Rattle.bus_rules.specs.Dialogue.{asynchronous, agreed, closed_by, dialogue, dialogue_after, byte_crosses, byte_out, byte_in, takes_command, phase_begins}
 use Rattle.bus_rules.specs.Reset.{is_reset, only_rst}
-use Rattle.bus_rules.specs.Phases.{phase_since, is_held, duty_left, duty_after, no_pulses, pulses_on, pulses_after, turned_after, is_data, is_command, is_message_out, is_message_in, is_reserved, changes_phase}
+use Rattle.bus_rules.specs.Phases.{is_held, duty_left, duty_after, no_pulses, pulses_on, pulses_after, turned_after, is_data, is_command, is_message_out, is_message_in, is_reserved, changes_phase}
 use Rattle.bus_rules.specs.Connected.{keeps_sides, keeps_lines_of, keeps_turns_of, or_new, has_no_initiator_line, has_no_target_line, raises_data, raises_in_turn, initiator_released_of, waits_for_turn, target_released_of, frees_well}
 use Rattle.bus_rules.specs.Messages.{is_owed, is_none_or_all, is_unknown, is_opening, same_bool, opens_well, may_take}
 use Rattle.bus_rules.specs.Transfer.{crosses, is_pulsed, is_asynchronous, data_stand_since, changes_data, holds_still, is_after, pulses_well, times_of, last_crossing}
@@ -42,7 +40,7 @@ use Rattle.bus_rules.specs.Reading.{reading_of, reading_out, reading_in}
 use Rattle.bus_rules.specs.Seen.{seen, seen_with, drives_bsy, initiator_called, initiator_of, initiator_data, target_data}
 use Rattle.bus_rules.specs.Changes.{change_of}
 use Rattle.bus_rules.specs.Rules.{test, keeps, judged_rules, lowest_broken, broken_rule}
-use Rattle.bus_rules.specs.DataRows.{same_but_bytes, is_data_row, crosses_in, keeps_side, asks_soon, is_in_turn, has_turned, stand_since, is_shaken, is_pulsed_well, Standing, standing_after, standing_at, may_cross, transfers_well, is_move, passes, passes_of, passes_in, duty_in_data, takes_data, transferred}
+use Rattle.bus_rules.specs.DataRows.{is_data_row, crosses_in, keeps_side, asks_soon, is_in_turn, has_turned, stand_since, is_shaken, is_pulsed_well, Standing, standing_after, standing_at, may_cross, transfers_well, is_move, passes, passes_of, passes_in, duty_in_data, takes_data, transferred}
 use Rattle.bus_rules.specs.Judging.{IsRaisesOf, IsCourseOf}
 use Rattle.bus_rules.proofs.First.{none_broken}
 use Rattle.bus_rules.proofs.Agreeing.{agreeing}
@@ -672,13 +670,13 @@ drives_same f g k (Some n) same hk hn = λ i. (same n.initiator hn.0 i).bsy
 drives_same f g None None same hk hn = refl
 drives_same f g (Some k) None same hk hn = by_calling k.calling hk.1
   where
-  by_calling : (m : Option Calling) → IsCalled m → drives_bsy f (initiator_called m) ≡ drives_bsy g (initiator_called m)
-  by_calling None h = refl
-  by_calling (Some m) h = by_line m.reselects
-    where
-    by_line : (r : Bool) → drives_bsy f (if r then Some m.called else None) ≡ drives_bsy g (if r then Some m.called else None)
-    by_line true = λ i. (same m.called h i).bsy
-    by_line false = refl
+    by_calling : (m : Option Calling) → IsCalled m → drives_bsy f (initiator_called m) ≡ drives_bsy g (initiator_called m)
+    by_calling None h = refl
+    by_calling (Some m) h = by_line m.reselects
+      where
+        by_line : (r : Bool) → drives_bsy f (if r then Some m.called else None) ≡ drives_bsy g (if r then Some m.called else None)
+        by_line true = λ i. (same m.called h i).bsy
+        by_line false = refl
 
 data_same : (f g : ℕ → LineSet) (n : Option Connection) → ((d : ℕ) → d < 8 → f d ≡ g d) → HasEnds n → (initiator_data f n ≡ initiator_data g n) × (target_data f n ≡ target_data g n)
 data_same f g None same hn = (refl, refl)

@@ -1,4 +1,3 @@
-use Rattle.std.proofs.Common.{◌∙◌}
 use Rattle.bus_lines.proofs.Views.{drives-same, drives-other}
 use Rattle.bus_lines.proofs.view.BusView.drives_with.Goals as goal
 

@@ -1,14 +1,9 @@
-use Rattle.std.proofs.Common.{◌≡◌, true, ◌∷◌, ◌∙◌, ap, refl, subst, sym}
+use Rattle.std.proofs.Common.{◌≡◌, true, ◌∙◌, ap, refl, subst, sym}
 use Rattle.bus_lines.specs.LineSet.{LineSet}
 use Rattle.bus_lines.specs.Trace.{driven_after}
 use Rattle.bus_rules.specs.declared.changes.Change.{Change}
-use Rattle.bus_rules.specs.Changes.{change_of}
 use Rattle.bus_rules.specs.DataRows.{passes, standing_after}
-use Rattle.bus_rules.specs.Dialogue.{dialogue}
 use Rattle.bus_rules.specs.Judging.{Running, IsTermsOf}
-use Rattle.bus_rules.specs.Reading.{reading_of}
-use Rattle.bus_rules.specs.Seen.{seen}
-use Rattle.bus_rules.specs.Terms.{connection}
 use Rattle.bus_rules.proofs.DataRows.{breaks_none, passing, stands_is}
 use Rattle.bus_rules.proofs.Running.{change_is}
 use Rattle.bus_rules.proofs.terms.Terms.judge.Goals as goal

@@ -1,4 +1,4 @@
-use Rattle.std.proofs.Common.{◌∷◌, ◌∙◌, subst, sym}
+use Rattle.std.proofs.Common.{◌∷◌, subst, sym}
 use Rattle.bus_rules.specs.Judging.{Running, IsTermsOf}
 use Rattle.bus_rules.proofs.Running.{change_is, seen_is, free_of, held_of}
 use Rattle.bus_rules.proofs.terms.Terms.step.Goals as goal

@@ -1,10 +1,8 @@
 use Rattle.std.proofs.Common.{◌≡◌, true, ◌∷◌, ◌∙◌, ap, subst, sym}
 use Rattle.bus_rules.specs.declared.changes.Change.{Change}
 use Rattle.bus_rules.specs.declared.course.Course.{Course}
-use Rattle.bus_rules.specs.Changes.{change_of}
 use Rattle.bus_rules.specs.DataRows.{passes, standing_after, transferred}
 use Rattle.bus_rules.specs.Judging.{Running, IsTermsOf, IsCourseOf}
-use Rattle.bus_rules.specs.Seen.{seen}
 use Rattle.bus_rules.proofs.DataRows.{moved}
 use Rattle.bus_rules.proofs.Running.{held_by}
 use Rattle.bus_rules.proofs.terms.Terms.transfer.Goals as goal
