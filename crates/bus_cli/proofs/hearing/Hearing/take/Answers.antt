@@ -1,4 +1,4 @@
-use Rattle.std.proofs.Common.{length, reverse, take, ◌++◌, arith}
+use Rattle.std.proofs.Common.{arith}
 use Rattle.trace_text.specs.Bytes.{rows_of}
 use Rattle.bus_cli.proofs.Heard.{rows_short, hears_row}
 use Rattle.bus_cli.proofs.hearing.Hearing.take.Goals as goal
