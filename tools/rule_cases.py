@@ -11,7 +11,7 @@ import sys
 HEAD = """-- Small traces and their verdicts, computed: for each rule one that breaks it and nothing else before, and
 -- beside it one that keeps it by a nanosecond or a line. Written by tools/rule_cases.py from
 -- tools/rule_cases.txt, whose verdicts come from an independent judge.
-use Rattle.std.proofs.Common.{ℕ, ◌≡◌, List, [], ◌∷◌, reverse, refl}
+use Rattle.std.proofs.Common.{ℕ, ◌≡◌, [], ◌∷◌, reverse, refl}
 use lib.Count.{ones}
 use Rattle.bus_lines.specs.LineSet.{set_of, line_of}
 use Rattle.bus_lines.specs.View.{union_below}
