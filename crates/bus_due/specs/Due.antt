@@ -1,0 +1,69 @@
+-- What each device is due to do next, by the stage of the bus: a connection, a calling, an arbitration or a free bus;
+-- and RST, before everything else (6.2.2).
+use Rattle.std.specs.Prelude.{ℕ, ◌+◌, Bool, true, false, not, ◌&&◌, ◌==◌, List, [], ◌∷◌, Option, Some, None, nat_lt, if◌then◌else◌}
+use Rattle.bus_lines.specs.declared.delays.TheConstants.{RESET_HOLD_TIME}
+use Rattle.bus_lines.specs.LineSet.{none, same_set}
+use Rattle.bus_rules.specs.declared.selection.Call.{Call}
+use Rattle.bus_rules.specs.declared.connection.Connection.{Connection}
+use Rattle.scenario.specs.declared.value.ResetDef.{ResetDef}
+use Rattle.scenario.specs.Value.{ScenarioValue}
+use Rattle.bus_story.specs.Samples.{latency_of}
+use Rattle.bus_due.specs.Own.{Own, own_at}
+use Rattle.bus_due.specs.Kept.{Kept, bus_of, drives_of}
+use Rattle.bus_due.specs.Reactions.{Due, Self, at, earlier}
+use Rattle.bus_due.specs.Wants.{sooner, time_if}
+use Rattle.bus_due.specs.FreeBus.{free_due}
+use Rattle.bus_due.specs.Calling.{calling_due}
+use Rattle.bus_due.specs.Connected.{connected_due}
+
+-- ---- by the stage of the bus
+
+abbrev pub stage_due : ScenarioValue → Kept → Self → Option Connection → Option Call → Option Due
+stage_due s k me (Some n) call = connected_due s k me n
+stage_due s k me None (Some c) = calling_due s k me c
+stage_due s k me None None = free_due s k me
+
+-- ---- RST
+
+-- A device drives RST at the time of its next reset line, with no latency. One that falls while it drives RST, or as it
+-- releases it, is dropped.
+abbrev pub is_past : Option ℕ → ℕ → Bool
+is_past None time = false
+is_past (Some released) time = not (nat_lt released time)
+
+abbrev pub reset_from : ℕ → Option ℕ → List ResetDef → Option ℕ
+reset_from dev released [] = None
+reset_from dev released (r ∷ resets) =
+    sooner (time_if (r.dev == dev && not (is_past released r.at)) r.at) (reset_from dev released resets)
+
+abbrev pub resets_at : Option ℕ → Option Due
+resets_at None = None
+resets_at (Some time) = at time (record none { rst = true })
+
+-- It releases RST a reset hold time later.
+abbrev pub ends_reset : Self → Own → Option Due
+ends_reset me o = at (o.rst + RESET_HOLD_TIME + me.latency) none
+
+-- While RST is true each other device releases all its lines, and does nothing else.
+abbrev pub clears : Kept → Self → Option Due
+clears k me = if same_set me.own none then None else at (k.ages.rst + me.latency) none
+
+abbrev pub unless_reset : ScenarioValue → Kept → Self → Option Due
+unless_reset s k me = if (bus_of k).rst then clears k me else stage_due s k me k.story.wires.connection k.story.wires.call
+
+abbrev pub device_due : ScenarioValue → Kept → Self → Own → Option Due
+device_due s k me o =
+    if me.own.rst then ends_reset me o
+    else earlier (resets_at (reset_from me.dev o.released s.resets)) (unless_reset s k me)
+
+-- ---- a device that is there
+
+abbrev pub self_of : Kept → ℕ → ℕ → Self
+self_of k dev latency = record { dev = dev; latency = latency; own = drives_of k dev; since = (own_at k.owns dev).row }
+
+abbrev pub due_if : ScenarioValue → Kept → ℕ → Option ℕ → Option Due
+due_if s k dev None = None
+due_if s k dev (Some latency) = device_due s k (self_of k dev latency) (own_at k.owns dev)
+
+abbrev pub due_by : ScenarioValue → Kept → ℕ → Option Due
+due_by s k dev = due_if s k dev (latency_of s dev)
