@@ -4,7 +4,7 @@ use Rattle.bus_lines.specs.declared.delays.TheConstants.{ENTRY_DELAY, BUS_SET_DE
 use Rattle.bus_lines.specs.LineSet.{LineSet, id_set, has_id_above}
 use Rattle.bus_rules.specs.declared.arbitration.Arbitration.{Arbitration}
 use Rattle.scenario.specs.Value.{ScenarioValue}
-use Rattle.bus_due.specs.Ages.{Ages}
+use Rattle.bus_due.specs.Ages.{free_age}
 use Rattle.bus_due.specs.Kept.{Kept, bus_of}
 use Rattle.bus_due.specs.Reactions.{Due, Self, at, where_so}
 use Rattle.bus_due.specs.Wants.{wanted}
@@ -21,12 +21,9 @@ entry me free w = at (max (free + ENTRY_DELAY) w + me.latency) (contends me.dev)
 abbrev pub entry_in : Self → Arbitration → ℕ → Option Due
 entry_in me a w = where_so (nat_le (max (a.free + ENTRY_DELAY) w + me.latency) (a.first + BUS_SET_DELAY)) (entry me a.free w)
 
-abbrev pub free_since : Ages → ℕ
-free_since a = max (max a.bsy a.sel) a.rst
-
 abbrev pub enters : Kept → Self → Option Arbitration → Option ℕ → Option Due
 enters k me a None = None
-enters k me None (Some w) = entry me (free_since k.ages) w
+enters k me None (Some w) = entry me (free_age k.ages) w
 enters k me (Some a) (Some w) = entry_in me a w
 
 -- An arbitration delay after its entry a contender looks for a higher ID, and adds SEL where none is true. One that

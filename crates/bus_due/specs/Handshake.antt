@@ -7,6 +7,7 @@ use Rattle.bus_rules.specs.Dialogue.{is_of_other}
 use Rattle.bus_rules.specs.Phases.{is_message_out, is_command}
 use Rattle.scenario.specs.Value.{ScenarioValue}
 use Rattle.disk_array.specs.Processes.{Process}
+use Rattle.bus_due.specs.Ages.{phase_age}
 use Rattle.bus_due.specs.Rises.{first_of, is_struck}
 use Rattle.bus_due.specs.Kept.{Kept, bus_of, process_here, carried_here}
 use Rattle.bus_due.specs.Reactions.{Due, Self, at}
@@ -18,7 +19,7 @@ use Rattle.bus_due.specs.Giving.{gives, is_none_yet, follows, leaves_at}
 
 -- The phase lines turned I/O from false to true.
 abbrev pub has_turned : Kept → Bool
-has_turned k = (bus_of k).io && k.ages.io == k.ages.phase
+has_turned k = (bus_of k).io && k.ages.io == phase_age k.ages
 
 -- The first REQ of a phase rises a bus settle delay after the phase lines. Where I/O turned to true the first byte comes
 -- a data release delay and a bus settle delay after them, and REQ a deskew delay and a cable skew delay after the byte.
@@ -26,11 +27,11 @@ abbrev pub raises_req : Self → ℕ → Option Due
 raises_req me time = at (time + me.latency) (record me.own { req = true })
 
 abbrev pub first_byte : ScenarioValue → Kept → Self → Option Due
-first_byte s k me = at (k.ages.phase + TURN_DELAY + me.latency) (record me.own { data_bits = gives s k 0 })
+first_byte s k me = at (phase_age k.ages + TURN_DELAY + me.latency) (record me.own { data_bits = gives s k 0 })
 
 abbrev pub first_req : ScenarioValue → Kept → Self → Option Due
 first_req s k me =
-    if not (has_turned k) then raises_req me (k.ages.phase + BUS_SETTLE_DELAY)
+    if not (has_turned k) then raises_req me (phase_age k.ages + BUS_SETTLE_DELAY)
     else if me.own.data_bits == 0 then first_byte s k me
     else raises_req me (me.since + SET_UP_TIME)
 

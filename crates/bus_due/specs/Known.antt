@@ -21,14 +21,13 @@ use Rattle.bus_story.specs.Story.{silent}
 use Rattle.bus_story.specs.Shown.{shown_by}
 use Rattle.bus_story.specs.Told.{story_with, aim_of}
 use Rattle.bus_story.specs.Samples.{in_order}
-use Rattle.bus_due.specs.Ages.{no_age, ages_after}
+use Rattle.bus_due.specs.Ages.{no_age, ages_after, free_age}
 use Rattle.bus_due.specs.Own.{idle, owns_after}
 use Rattle.bus_due.specs.Rises.{Rises, no_rises, rises_after, struck_by, first_of, is_struck}
 use Rattle.bus_due.specs.Talk.{Talk, Cause, in_message, in_data, in_status, goes_on, no_talk, from_byte}
 use Rattle.bus_due.specs.Books.{agreed_in, closes, Met, none_met, have_met, meet, met_after, Progress, goes_forward}
 use Rattle.bus_due.specs.Kept.{Kept, bus_of, or_start, process_here}
 use Rattle.bus_due.specs.Wants.{Ready, ready_of}
-use Rattle.bus_due.specs.FreeBus.{free_since}
 use Rattle.bus_due.specs.Words.{names, opening, parity_error, detected_error, host_answers}
 use Rattle.bus_due.specs.Course.{Leaving, leaving}
 
@@ -156,7 +155,8 @@ talks s k n row d l =
     else k.talk
 
 abbrev pub talk_after : ScenarioValue → Kept → Row → Doing → Option Connection → Option Connection → Leaving → Talk
-talk_after s k row d before None l = no_talk
+talk_after s k row d None None l = k.talk
+talk_after s k row d (Some m) None l = no_talk
 talk_after s k row d None (Some n) l = opens s k n
 talk_after s k row d (Some m) (Some n) l = talks s k n row d l
 
@@ -190,7 +190,7 @@ known_with s k row d shown array l = record {
   last = row.time;
   ages = ages_after k.ages d.change row.time;
   owns = owns_after k.owns row d.change;
-  arbitration = arbitration_after k.arbitration (free_since k.ages) d.change row;
+  arbitration = arbitration_after k.arbitration (free_age k.ages) d.change row;
   rises = rises_by k row d;
   dialogue = dialogue_after k.dialogue k.story.wires.connection d.next (λ i t. agreed_in k.agreed i t) d.change;
   talk = talk_after s k row d k.story.wires.connection d.next l;

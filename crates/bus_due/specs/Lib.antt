@@ -19,3 +19,6 @@ pub mod Due
 pub mod Known
 pub mod Next
 pub mod Run
+pub mod Least
+pub mod Wishes
+pub mod Plain
