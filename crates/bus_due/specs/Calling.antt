@@ -13,40 +13,40 @@ use Rattle.bus_due.specs.Wants.{Ready, ready_of, callee}
 
 -- ---- the loser
 
--- A contender that sees SEL releases all its lines.
+-- A contender that sees SEL releases all its lines (6.1.2).
 abbrev pub lose : Kept → Self → Option Due
 lose k me = if same_set me.own none then None else at (k.ages.sel + me.latency) none
 
 -- ---- the caller
 
--- An initiator calls with ATN, a target with I/O.
+-- An initiator calls with ATN, a target with I/O (6.1.3, 6.1.4).
 abbrev pub marked : ScenarioValue → ℕ → LineSet → LineSet
 marked s dev lines = if is_host s.hosts dev then record lines { atn = true } else record lines { io = true }
 
--- A bus clear delay and a bus settle delay after its SEL the winner drives both IDs with their parity.
+-- A bus clear delay and a bus settle delay after its SEL the winner drives both IDs with their parity (6.1.2 to 6.1.4).
 abbrev pub calls : ScenarioValue → Self → Option ℕ → Option Due
 calls s me None = None
 calls s me (Some other) =
     at (me.since + QUIET_TIME + me.latency) (marked s me.dev (record (ids_set me.dev other) { bsy = true; sel = true }))
 
--- Two deskew delays later it releases BSY.
+-- Two deskew delays later it releases BSY (6.1.3, 6.1.4).
 abbrev pub asks : Self → Option Due
 asks me = at (me.since + TWO_DESKEW + me.latency) (record me.own { bsy = false })
 
 -- Without an answer for a selection time-out delay it releases the IDs; a selection abort time and two deskew delays
--- later all its lines.
+-- later all its lines (6.1.3.1).
 abbrev pub withdraws : Self → ℕ → Option Due
 withdraws me asked = at (asked + SELECTION_TIMEOUT_DELAY + me.latency) (record me.own { data_bits = 0 })
 
 abbrev pub gives_up : Self → Option Due
 gives_up me = at (me.since + (SELECTION_ABORT_TIME + TWO_DESKEW) + me.latency) none
 
--- Two deskew delays after BSY is true again the initiator releases SEL and the IDs; ATN stays.
+-- Two deskew delays after BSY is true again the initiator releases SEL and the IDs; ATN stays (6.1.3, 6.2.1).
 abbrev pub is_selected : Self → ℕ → Option Due
 is_selected me answered = at (answered + TWO_DESKEW + me.latency) (record none { atn = true })
 
 -- On the answer the target drives BSY itself. Two deskew delays later it releases SEL; in that row it begins MESSAGE
--- IN with the first byte of IDENTIFY.
+-- IN with the first byte of IDENTIFY (6.1.4, 6.6.7).
 abbrev pub resumes : Self → ℕ → Option Due
 resumes me answered = at (answered + me.latency) (record me.own { bsy = true })
 
@@ -76,7 +76,7 @@ caller_due s k me (Some c) = waits s k me c c.released c.answered
 -- ---- the called device
 
 -- A bus settle delay after BSY became false, SEL and its ID being true, it samples the IDs and drives BSY. Where a
--- fault strikes the sample it does not answer this calling.
+-- fault strikes the sample it does not answer this calling (6.1.3, 6.1.4).
 abbrev pub ids_struck : List FaultDef → ℕ → Option Due → Option Due
 ids_struck [] time answer = answer
 ids_struck (f ∷ faults) time answer = if nat_le f.at time then strikes_at time f.bit else answer

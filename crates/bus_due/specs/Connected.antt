@@ -27,7 +27,7 @@ struck_by k (f ∷ faults) plain = if nat_le f.at k.last then strikes_at k.last 
 
 -- ---- the target
 
--- After a selection MESSAGE OUT begins when SEL is false.
+-- After a selection MESSAGE OUT begins when SEL is false (6.1.3, 6.1.9).
 abbrev pub begins : Kept → Self → Option Due
 begins k me = at (k.ages.sel + me.latency) (phase_lines message_out)
 
@@ -40,7 +40,7 @@ target_due s k me =
 -- ---- the initiator
 
 -- After a reselection it releases BSY when SEL is false. What it still drives of a pulsed phase that was left it releases
--- at the end of the hold time.
+-- at the end of the hold time (6.1.4, 6.1.5.2).
 abbrev pub lets_go : Kept → Self → Option Due
 lets_go k me = at (k.ages.sel + me.latency) (record me.own { bsy = false })
 

@@ -79,7 +79,8 @@ abbrev pub limit_of : Option TargetDef → ℕ
 limit_of None = 0
 limit_of (Some t) = t.retries
 
--- It is tried again while fewer recoveries than the target's limit were counted; else the target gives up so.
+-- It is tried again while fewer recoveries than the target's limit were counted; else the target gives up so (6.6.9,
+-- 6.6.13, 6.6.19).
 abbrev pub recovers : ScenarioValue → Kept → Process → Leaving → Leaving → Leaving
 recovers s k p again gives_up =
     if is_uncounted s k p then again
@@ -106,7 +107,7 @@ or_command [] = enters command
 or_command (m ∷ messages) = says (m ∷ messages) asks_command
 
 -- After the opening: to BUS FREE on an abort message; to the answer to an offer; to the target's own request where it
--- begins a negotiation; else to COMMAND.
+-- begins a negotiation; else to COMMAND (6.6.1 to 6.6.4, 6.6.21).
 abbrev pub after_offer : ScenarioValue → ℕ → Bool → Option Agreement → Leaving
 after_offer s dev negotiates (Some offer) = says (reply_to (target_def s dev) offer ∷ []) asks_command
 after_offer s dev negotiates None = if negotiates then or_command (request_by (target_def s dev)) else enters command
@@ -116,7 +117,7 @@ after_opening s k dev =
     if has_abort k.talk.said then frees else after_offer s dev k.talk.negotiates (offered k.talk.said)
 
 -- After MESSAGE PARITY ERROR the message is sent again from its first byte, and those after it; those that name a
--- reselected process without limit. After the initiator's answer to a request COMMAND follows.
+-- reselected process without limit (6.6.13). After the initiator's answer to a request COMMAND follows.
 abbrev pub repeats : Kept → Leaving
 repeats k = says k.talk.messages k.talk.next
 
@@ -126,7 +127,7 @@ after_refusal s k =
     else if is_naming k.talk.messages then repeats k
     else with_process (process_here s k) (λ p. recovers s k p (repeats k) frees)
 
--- After INITIATOR DETECTED ERROR the run, or STATUS, is repeated.
+-- After INITIATOR DETECTED ERROR the run, or STATUS, is repeated (6.6.9).
 abbrev pub leave_message_out : ScenarioValue → Kept → ℕ → Cause → Leaving
 leave_message_out s k dev selected = after_opening s k dev
 leave_message_out s k dev in_message = after_refusal s k
@@ -156,7 +157,7 @@ runs_at_once s p a = is_never (policy_of (target_def s p.target)) && is_some (cu
 abbrev pub disconnects : List (List ℕ) → Leaving
 disconnects messages = says messages frees_bus
 
--- It is refused at a full queue; a guest goes on; another that does not run at once is disconnected.
+-- It is refused at a full queue; a guest goes on; another that does not run at once is disconnected (6.6.6, 6.7).
 abbrev pub arrives : ScenarioValue → Kept → Process → Option Array → Leaving
 arrives s k p None = enters status
 arrives s k p (Some a) =
@@ -181,7 +182,7 @@ waits_seek s k (Some p) = not k.talk.struck && waits_in s p (accepted s k p)
 
 -- ---- a data phase is left
 
--- Between two runs it disconnects, having saved the data pointer but for the policy without it.
+-- Between two runs it disconnects, having saved the data pointer but for the policy without it (6.6.6, 6.6.20).
 abbrev pub between : Policy → List (List ℕ)
 between (policies.Burst most) = in_bytes to_initiator.SavePointer ∷ in_bytes to_initiator.Disconnect ∷ []
 between _ = in_bytes to_initiator.Disconnect ∷ []
@@ -193,7 +194,7 @@ after_run s k p =
 abbrev pub leave_data_out : ScenarioValue → Kept → Process → Leaving
 leave_data_out s k p = if k.talk.struck then recovers s k p (restores goes_on) (enters status) else after_run s k p
 
--- ---- any phase; where ATN is true after bytes to the initiator, MESSAGE OUT follows
+-- ---- any phase; where ATN is true after bytes to the initiator, MESSAGE OUT follows (6.2.1)
 
 abbrev pub unless_attention : Kept → Leaving → Leaving
 unless_attention k l = if (bus_of k).atn then enters message_out else l
@@ -206,6 +207,6 @@ leave s k dev data_in = unless_attention k (with_process (process_here s k) (λ 
 leave s k dev data_out = with_process (process_here s k) (λ p. leave_data_out s k p)
 leave s k dev status = unless_attention k (disconnects (in_bytes to_initiator.CommandComplete ∷ []))
 
--- MESSAGE OUT is the first phase after a selection.
+-- MESSAGE OUT is the first phase after a selection (6.1.3, 6.3).
 abbrev pub leaving : ScenarioValue → Kept → ℕ → Leaving
 leaving s k dev = if k.talk.begun then leave s k dev (phase_of (bus_of k)) else enters message_out

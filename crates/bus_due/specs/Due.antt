@@ -26,7 +26,7 @@ stage_due s k me None None = free_due s k me
 -- ---- RST
 
 -- A device drives RST at the time of its next reset line, with no latency. One that falls while it drives RST, or as it
--- releases it, is dropped.
+-- releases it, is dropped (6.2.2).
 abbrev pub is_past : Option ℕ → ℕ → Bool
 is_past None time = false
 is_past (Some released) time = not (nat_lt released time)
@@ -40,11 +40,11 @@ abbrev pub resets_at : Option ℕ → Option Due
 resets_at None = None
 resets_at (Some time) = at time (record none { rst = true })
 
--- It releases RST a reset hold time later.
+-- It releases RST a reset hold time later (6.2.2).
 abbrev pub ends_reset : Self → Own → Option Due
 ends_reset me o = at (o.rst + RESET_HOLD_TIME + me.latency) none
 
--- While RST is true each other device releases all its lines, and does nothing else.
+-- While RST is true each other device releases all its lines, and does nothing else (6.2.2).
 abbrev pub clears : Kept → Self → Option Due
 clears k me = if same_set me.own none then None else at (k.ages.rst + me.latency) none
 

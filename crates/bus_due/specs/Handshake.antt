@@ -22,7 +22,8 @@ abbrev pub has_turned : Kept → Bool
 has_turned k = (bus_of k).io && k.ages.io == phase_age k.ages
 
 -- The first REQ of a phase rises a bus settle delay after the phase lines. Where I/O turned to true the first byte comes
--- a data release delay and a bus settle delay after them, and REQ a deskew delay and a cable skew delay after the byte.
+-- a data release delay and a bus settle delay after them, and REQ a deskew delay and a cable skew delay after the byte
+-- (6.1.5.1, 6.1.10).
 abbrev pub raises_req : Self → ℕ → Option Due
 raises_req me time = at (time + me.latency) (record me.own { req = true })
 
@@ -35,18 +36,18 @@ first_req s k me =
     else if me.own.data_bits == 0 then first_byte s k me
     else raises_req me (me.since + SET_UP_TIME)
 
--- On ACK it negates REQ. In the same row it drives the next byte to the initiator, or releases the data lines.
+-- On ACK it negates REQ. In the same row it drives the next byte to the initiator, or releases the data lines (6.1.5.1).
 abbrev pub next_bits : ScenarioValue → Kept → ℕ
 next_bits s k = if (bus_of k).io && follows s k then gives s k (length k.rises.req) else 0
 
 abbrev pub lowers_req : ScenarioValue → Kept → Self → Option Due
 lowers_req s k me = at (k.ages.ack + me.latency) (record me.own { req = false; data_bits = next_bits s k })
 
--- On ACK false it raises the next REQ, to the initiator a deskew delay and a cable skew delay after the byte.
+-- On ACK false it raises the next REQ, to the initiator a deskew delay and a cable skew delay after the byte (6.1.5.1).
 abbrev pub next_req : Kept → Self → Option Due
 next_req k me = raises_req me (if (bus_of k).io then max k.ages.ack (me.since + SET_UP_TIME) else k.ages.ack)
 
--- Or it leaves the phase; COMMAND after the seek time, where the command runs at once.
+-- Or it leaves the phase (6.1.10); COMMAND after the seek time, where the command runs at once.
 abbrev pub seek_before : ScenarioValue → Kept → ℕ → ℕ
 seek_before s k dev =
     if is_command (bus_of k) && waits_seek s k (process_here s k) then seek_of s.targets dev else 0
@@ -68,7 +69,8 @@ target_shakes s k me =
 
 -- ---- the initiator takes a byte
 
--- On REQ it takes the byte and raises ACK; with ATN where the parity was wrong, and after a request of the target.
+-- On REQ it takes the byte and raises ACK; with ATN where the parity was wrong, and after a request of the target
+-- (6.1.5.1, 6.2.1).
 abbrev pub has_to_speak : Kept → Bool
 has_to_speak k = is_struck (first_of k.rises.req) || is_of_other k.dialogue.heard.now.offer ends.Initiator
 
@@ -76,7 +78,7 @@ abbrev pub takes : Kept → Self → Option Due
 takes k me = at (k.ages.req + me.latency) (record me.own { ack = true; atn = me.own.atn || has_to_speak k })
 
 -- On REQ false it negates ACK, and releases the byte that it drove; where ATN rose with this ACK no sooner than two
--- deskew delays later.
+-- deskew delays later (6.1.5.1, 6.2.1).
 abbrev pub rose_with_ack : Kept → Self → Bool
 rose_with_ack k me = me.own.atn && k.ages.atn == k.ages.ack
 
@@ -101,16 +103,16 @@ byte_out s k =
     else if is_command (bus_of k) then command_byte k (process_here s k)
     else sent_byte k (process_here s k)
 
--- In MESSAGE OUT ATN is true while a byte follows: the row of the last byte negates it.
+-- In MESSAGE OUT ATN is true while a byte follows: the row of the last byte negates it (6.1.9, 6.2.1).
 abbrev pub attends : Kept → Self → Bool
 attends k me = if is_message_out (bus_of k) then nat_lt (k.talk.place + 1) (length k.talk.words) else me.own.atn
 
--- On REQ it drives the byte.
+-- On REQ it drives the byte (6.1.5.1).
 abbrev pub drives_byte : ScenarioValue → Kept → Self → Option Due
 drives_byte s k me = at (k.ages.req + me.latency) (record (byte_set (byte_out s k)) { atn = attends k me })
 
 -- ACK comes a deskew delay and a cable skew delay later; in MESSAGE OUT also two deskew delays after the last change
--- of ATN.
+-- of ATN (6.1.5.1, 6.2.1).
 abbrev pub raises_ack : Kept → Self → Option Due
 raises_ack k me =
     at ((if is_message_out (bus_of k) then max (me.since + SET_UP_TIME) (k.ages.atn + TWO_DESKEW) else me.since + SET_UP_TIME) + me.latency)

@@ -22,3 +22,4 @@ pub mod Run
 pub mod Least
 pub mod Wishes
 pub mod Plain
+pub mod Goals

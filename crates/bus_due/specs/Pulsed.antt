@@ -31,12 +31,12 @@ times_of k = or_slow (transfer_times (agreement_of k).period) (agreement_of k).p
 abbrev pub length_of : ScenarioValue → Kept → ℕ
 length_of s k = run_length_of s k (process_here s k)
 
--- A REQ pulse ends after the assertion period.
+-- A REQ pulse ends after the assertion period (6.1.5.2).
 abbrev pub ends_req : Kept → Self → Option Due
 ends_req k me = at (k.ages.req + (times_of k).assertion + me.latency) (record me.own { req = false })
 
 -- In DATA IN the target changes the byte at the end of its hold time, after the last one to none. An equal byte makes
--- no row, and counts as driven at that time.
+-- no row, and counts as driven at that time (6.1.5.2).
 abbrev pub held_until : Kept → Self → ℕ
 held_until k me = last_rise k.rises.req + (times_of k).hold + me.latency
 
@@ -47,7 +47,7 @@ abbrev pub changes_byte : ScenarioValue → Kept → Self → Option Due
 changes_byte s k me = at (held_until k me) (record me.own { data_bits = bits_after s k })
 
 -- The next REQ pulse begins a period after the last one, a negation period after its end, a set-up time after the byte,
--- and once fewer pulses than the offset are unanswered.
+-- and once fewer pulses than the offset are unanswered (6.1.5.2).
 abbrev pub room_since : Kept → ℕ
 room_since k = time_of (first_of (drop ((agreement_of k).offset - 1 - unanswered k.rises) k.rises.ack))
 
@@ -58,7 +58,7 @@ abbrev pub pulses_req : Kept → Self → Option Due
 pulses_req k me =
     raises_req me (max (max (last_rise k.rises.req + (times_of k).period) (k.ages.req + (times_of k).negation)) (max (room_since k) (byte_since k me)))
 
--- The phase is left once all pulses are answered, ACK is false, and the last byte has been held.
+-- The phase is left once all pulses are answered, ACK is false, and the last byte has been held (6.1.5.2, 6.1.10).
 abbrev pub last_held : Kept → ℕ
 last_held k = (if (bus_of k).io then last_rise k.rises.req else last_rise k.rises.ack) + (times_of k).hold
 
@@ -81,14 +81,15 @@ target_pulses s k me =
 
 -- ---- the initiator
 
--- An ACK pulse ends after the assertion period; where ATN rose with it after two deskew delays, if that is longer.
+-- An ACK pulse ends after the assertion period; where ATN rose with it after two deskew delays, if that is longer
+-- (6.1.5.2, 6.2.1).
 abbrev pub ends_ack : Kept → Self → Option Due
 ends_ack k me =
     at (k.ages.ack + (if rose_with_ack k me then max TWO_DESKEW (times_of k).assertion else (times_of k).assertion) + me.latency)
     (record me.own { ack = false })
 
 -- The ACK pulse of the oldest REQ pulse begins its lag after that, a period after the last ACK pulse, and a negation
--- period after the end of that.
+-- period after the end of that (6.1.5.2).
 abbrev pub lag_by : Option HostDef → ℕ
 lag_by None = 0
 lag_by (Some h) = h.lag
@@ -104,13 +105,13 @@ after_last k =
 abbrev pub ack_from : ScenarioValue → Kept → Self → ℕ
 ack_from s k me = max (time_of (oldest k.rises) + lag_of s me.dev) (after_last k)
 
--- In DATA IN with ATN, where the parity of that byte was wrong.
+-- In DATA IN with ATN, where the parity of that byte was wrong (6.2.1).
 abbrev pub pulses_ack : ScenarioValue → Kept → Self → Option Due
 pulses_ack s k me =
     at (ack_from s k me + me.latency) (record me.own { ack = true; atn = me.own.atn || is_struck (oldest k.rises) })
 
 -- In DATA OUT it drives the byte of the oldest REQ pulse at its rise, and no sooner than the end of the hold time of the
--- byte before; a set-up time later ACK may rise. An equal byte makes no row, and counts as driven at that time.
+-- byte before; a set-up time later ACK may rise. An equal byte makes no row, and counts as driven at that time (6.1.5.2).
 abbrev pub owed_until : Kept → Self → ℕ
 owed_until k me = (own_at k.owns me.dev).ack + (times_of k).hold + me.latency
 
@@ -129,7 +130,7 @@ abbrev pub acks_byte : ScenarioValue → Kept → Self → Option Due
 acks_byte s k me =
     at (max (ack_from s k me) (byte_from k me + (times_of k).set_up) + me.latency) (record me.own { ack = true })
 
--- At the end of a hold time it releases its data lines, where no REQ pulse is unanswered.
+-- At the end of a hold time it releases its data lines, where no REQ pulse is unanswered (6.1.5.2).
 abbrev pub releases_byte : Kept → Self → Option Due
 releases_byte k me = at (owed_until k me) (record me.own { data_bits = 0 })
 
