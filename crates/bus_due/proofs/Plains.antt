@@ -14,7 +14,8 @@ use Rattle.bus_rules.specs.declared.changes.Change.{Change}
 use Rattle.bus_rules.specs.declared.connection.Connection.{Connection}
 use Rattle.bus_rules.specs.declared.spoken.Spoken.{Spoken}
 use Rattle.bus_rules.specs.Changes.{change_of}
-use Rattle.bus_rules.specs.Terms.{arbitration_after, call, call_after, connection, connection_after}
+use Rattle.bus_due.specs.Stage.{stage_by}
+use Rattle.bus_rules.specs.Terms.{arbitration, arbitration_after, call, call_after, connection, connection_after}
 use Rattle.bus_rules.specs.Dialogue.{asynchronous, closed_by, dialogue_after, agreed}
 use Rattle.scenario.specs.Value.{ScenarioValue}
 use Rattle.disk_array.specs.Units.{Array}
@@ -138,6 +139,7 @@ plain_more s row rows k h d lt =
     let cd : (known_after s k row).ages.cd ≡ since_line (λ x. x.cd) (row ∷ rows) = λ i. newer_line (bus1 i).cd (bus2 i).cd (h.cd i) row.time in
     let io : (known_after s k row).ages.io ≡ since_line (λ x. x.io) (row ∷ rows) = λ i. newer_line (bus1 i).io (bus2 i).io (h.io i) row.time in
     let rst : (known_after s k row).ages.rst ≡ since_line (λ x. x.rst) (row ∷ rows) = λ i. newer_line (bus1 i).rst (bus2 i).rst (h.rst i) row.time in
+    let arb : (known_after s k row).arbitration ≡ arbitration (row ∷ rows) = λ i. arbitration_after (h.arbitration i) (h.free i) (c i) row in
     record {
       story = ap (λ (b : Story). story_after s b row) same;
       array =
@@ -158,11 +160,12 @@ plain_more s row rows k h d lt =
       rst = rst;
       free = λ i. max (max (bsy i) (sel i)) (rst i);
       phase = λ i. max (max (msg i) (cd i)) (io i);
-      arbitration = λ i. arbitration_after (h.arbitration i) (h.free i) (c i) row;
+      arbitration = arb;
       call = w2.call;
       connection = w2.connection;
       agreed = ag;
       dialogue = λ i. dialogue_after (h.dialogue i) (w.connection i) (next i) (λ a b. h.agreed a b i) (c i);
+      stage = λ i. stage_by (w2.bus i).rst (rst i) (w2.connection i) (w2.call i) (arb i) (max (max (bsy i) (sel i)) (rst i));
     }
 
 pub known_plain : (s : ScenarioValue) (rows : List Row) → AreOfDevices rows → IsPlain s rows (known s rows)
@@ -189,5 +192,6 @@ known_plain s [] h = record {
   connection = refl;
   agreed = λ i t. refl;
   dialogue = refl;
+  stage = refl;
 }
 known_plain s (row ∷ rows) h = plain_more s row rows (known s rows) (known_plain s rows h.1) h.1 h.0

@@ -3,25 +3,17 @@
 use Rattle.std.specs.Prelude.{ℕ, ◌+◌, Bool, true, false, not, ◌&&◌, ◌==◌, List, [], ◌∷◌, Option, Some, None, nat_lt, if◌then◌else◌}
 use Rattle.bus_lines.specs.declared.delays.TheConstants.{RESET_HOLD_TIME}
 use Rattle.bus_lines.specs.LineSet.{none, same_set}
-use Rattle.bus_rules.specs.declared.selection.Call.{Call}
-use Rattle.bus_rules.specs.declared.connection.Connection.{Connection}
 use Rattle.scenario.specs.declared.value.ResetDef.{ResetDef}
 use Rattle.scenario.specs.Value.{ScenarioValue}
 use Rattle.bus_story.specs.Samples.{latency_of}
 use Rattle.bus_due.specs.Own.{Own, own_at}
-use Rattle.bus_due.specs.Kept.{Kept, bus_of, drives_of}
+use Rattle.bus_due.specs.Kept.{Kept, drives_of}
 use Rattle.bus_due.specs.Reactions.{Due, Self, at, earlier}
 use Rattle.bus_due.specs.Wants.{sooner, time_if}
-use Rattle.bus_due.specs.FreeBus.{free_due}
+use Rattle.bus_due.specs.Stage.{Stage, on_free_bus, in_arbitration, in_calling, in_connection, in_reset, stage_of}
+use Rattle.bus_due.specs.FreeBus.{free_due, arbitration_due}
 use Rattle.bus_due.specs.Calling.{calling_due}
 use Rattle.bus_due.specs.Connected.{connected_due}
-
--- ---- by the stage of the bus
-
-abbrev pub stage_due : ScenarioValue → Kept → Self → Option Connection → Option Call → Option Due
-stage_due s k me (Some n) call = connected_due s k me n
-stage_due s k me None (Some c) = calling_due s k me c
-stage_due s k me None None = free_due s k me
 
 -- ---- RST
 
@@ -45,16 +37,23 @@ abbrev pub ends_reset : Self → Own → Option Due
 ends_reset me o = at (o.rst + RESET_HOLD_TIME + me.latency) none
 
 -- While RST is true each other device releases all its lines, and does nothing else (6.2.2).
-abbrev pub clears : Kept → Self → Option Due
-clears k me = if same_set me.own none then None else at (k.ages.rst + me.latency) none
+abbrev pub clears : Self → ℕ → Option Due
+clears me since = if same_set me.own none then None else at (since + me.latency) none
 
-abbrev pub unless_reset : ScenarioValue → Kept → Self → Option Due
-unless_reset s k me = if (bus_of k).rst then clears k me else stage_due s k me k.story.wires.connection k.story.wires.call
+-- ---- by the stage of the bus
 
+abbrev pub stage_due : ScenarioValue → Kept → Self → Stage → Option Due
+stage_due s k me (on_free_bus free) = free_due s k me free
+stage_due s k me (in_arbitration a) = arbitration_due s k me a
+stage_due s k me (in_calling c) = calling_due s k me c
+stage_due s k me (in_connection n) = connected_due s k me n
+stage_due s k me (in_reset since) = clears me since
+
+-- A reset of its own goes before all else.
 abbrev pub device_due : ScenarioValue → Kept → Self → Own → Option Due
 device_due s k me o =
     if me.own.rst then ends_reset me o
-    else earlier (resets_at (reset_from me.dev o.released s.resets)) (unless_reset s k me)
+    else earlier (resets_at (reset_from me.dev o.released s.resets)) (stage_due s k me (stage_of k))
 
 -- ---- a device that is there
 

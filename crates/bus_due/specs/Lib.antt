@@ -6,6 +6,7 @@ pub mod Books
 pub mod Kept
 pub mod Reactions
 pub mod Wants
+pub mod Stage
 pub mod FreeBus
 pub mod Calling
 pub mod Words
