@@ -27,6 +27,8 @@ use Rattle.bus_story.specs.Told.{story, story_after, told}
 use Rattle.bus_due.specs.Books.{Agreed, agreed_in, without_target, closes}
 use Rattle.bus_due.specs.Kept.{Kept}
 use Rattle.bus_due.specs.Known.{known, known_after, plays}
+use Rattle.bus_due.specs.Next.{due, IsPrompt}
+use Rattle.bus_due.proofs.Leasts.{least_some}
 use Rattle.bus_due.specs.Plain.{IsPlain, AreOfDevices}
 use Rattle.std.proofs.lemmas.Bool.Decides.{nat_tests}
 use Rattle.std.proofs.Common.{subst}
@@ -195,3 +197,11 @@ known_plain s [] h = record {
   stage = refl;
 }
 known_plain s (row ∷ rows) h = plain_more s row rows (known s rows) (known_plain s rows h.1) h.1 h.0
+
+-- The rows of a prompt trace are of the eight devices.
+of_devices : (s : ScenarioValue) (rows : List Row) → IsPrompt s rows → AreOfDevices rows
+of_devices s [] h = tt
+of_devices s (row ∷ rows) h = ((least_some (due s rows) 8 row h.1).inside, of_devices s rows h.0)
+
+pub prompt_plain : (s : ScenarioValue) (rows : List Row) → IsPrompt s rows → IsPlain s rows (known s rows)
+prompt_plain s rows h = known_plain s rows (of_devices s rows h)

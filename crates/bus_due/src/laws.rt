@@ -47,9 +47,11 @@ pub fn still_rows_keep_wishes()
     ensures bytes { (s : ScenarioValue) (rows : List Row) (row : Row) → IsStill s rows row → (phase : Phase) (messages : List (List ℕ)) (more place : ℕ) → byte_in s (known s (row ∷ rows)) phase messages more place ≡ byte_in s (known s rows) phase messages more place }
 {}
 
-/// What is kept row by row is what the plain terms of the bus and of the story say of the rows.
+/// What is kept row by row is what the plain terms of the bus and of the story say of the rows, where these are of the
+/// eight devices; and those of a prompt trace are.
 pub fn kept_is_plain()
-    ensures { (s : ScenarioValue) (rows : List Row) → AreOfDevices rows → IsPlain s rows (known s rows) }
+    ensures rows { (s : ScenarioValue) (rows : List Row) → AreOfDevices rows → IsPlain s rows (known s rows) }
+    ensures prompt { (s : ScenarioValue) (rows : List Row) → IsPrompt s rows → IsPlain s rows (known s rows) }
 {}
 
 /// An initiator wants the bus exactly from the time on at which it has something to send.
