@@ -108,6 +108,43 @@ all_run_carried : all_carried all_run (story all_run (reverse all_run_rows)) (re
 unfolding need_of sent_of ones union_below line_of form_out form_in
 all_run_carried = refl
 
+-- ---- called_again_for_sense_run
+
+abbrev called_again_for_sense_run : ScenarioValue
+called_again_for_sense_run = record {
+  version = 1;
+  hosts = record { dev = 7; latency = 0; most = 1; retries = 0; period = 0; offset = 0; lag = 0; offers = true } ∷ [];
+  targets = record { dev = 0; latency = 2; retries = 2; disc = policies.Never; pick = picks.First; seek = 0; period = 0; offset = 0; begins = false } ∷ [];
+  units = record { target = 0; unit = 0; blocks = 1; size = 16; depth = 1 } ∷ [];
+  fills = [];
+  commands = record { host = 7; target = 0; unit = 0; at = 0; tag = tags.Untagged; cdb = (8 ∷ 0 ∷ 0 ∷ 1 ∷ 1 ∷ 0 ∷ []); payload = payloads.Nothing } ∷ [];
+  aborts = [];
+  resets = [];
+  faults = record { at = 12000; bit = 0 } ∷ [];
+}
+
+abbrev pub called_again_for_sense_run_rows : List Row
+called_again_for_sense_run_rows = drive 1200 7 0x00280 ∷ drive 3600 7 0x00680 ∷ drive 4800 7 0x10781 ∷ drive 4890 7 0x10581 ∷ drive 5292 0 0x00200 ∷ drive 5382 7 0x10000 ∷ drive 5384 0 0x02a00 ∷ drive 5786 0 0x06a00 ∷ drive 5786 7 0x001c0 ∷ drive 5876 7 0x081c0 ∷ drive 5878 0 0x02a00 ∷ drive 5878 7 0x00000 ∷ drive 5880 0 0x00a00 ∷ drive 6282 0 0x04a00 ∷ drive 6282 7 0x00008 ∷ drive 6337 7 0x08008 ∷ drive 6339 0 0x00a00 ∷ drive 6339 7 0x00000 ∷ drive 6341 0 0x04a00 ∷ drive 6341 7 0x00100 ∷ drive 6396 7 0x08100 ∷ drive 6398 0 0x00a00 ∷ drive 6398 7 0x00000 ∷ drive 6400 0 0x04a00 ∷ drive 6400 7 0x00100 ∷ drive 6455 7 0x08100 ∷ drive 6457 0 0x00a00 ∷ drive 6457 7 0x00000 ∷ drive 6459 0 0x04a00 ∷ drive 6459 7 0x00001 ∷ drive 6514 7 0x08001 ∷ drive 6516 0 0x00a00 ∷ drive 6516 7 0x00000 ∷ drive 6518 0 0x04a00 ∷ drive 6518 7 0x00001 ∷ drive 6573 7 0x08001 ∷ drive 6575 0 0x00a00 ∷ drive 6575 7 0x00000 ∷ drive 6577 0 0x04a00 ∷ drive 6577 7 0x00100 ∷ drive 6632 7 0x08100 ∷ drive 6634 0 0x00a00 ∷ drive 6634 7 0x00000 ∷ drive 6636 0 0x01a00 ∷ drive 7438 0 0x01a02 ∷ drive 7495 0 0x05a02 ∷ drive 7495 7 0x08000 ∷ drive 7497 0 0x01a00 ∷ drive 7497 7 0x00000 ∷ drive 7499 0 0x03b00 ∷ drive 7901 0 0x07b00 ∷ drive 7901 7 0x08000 ∷ drive 7903 0 0x03a00 ∷ drive 7903 7 0x00000 ∷ drive 7905 0 0x00000 ∷ drive 9105 7 0x00280 ∷ drive 11505 7 0x00680 ∷ drive 12705 7 0x10781 ∷ drive 12795 7 0x10581 ∷ strike 13197 0 0 ∷ drive 250012795 7 0x10400 ∷ drive 250212885 7 0x00000 ∷ drive 250214085 7 0x00280 ∷ drive 250216485 7 0x00680 ∷ drive 250217685 7 0x10781 ∷ drive 250217775 7 0x10581 ∷ drive 250218177 0 0x00200 ∷ drive 250218267 7 0x10000 ∷ drive 250218269 0 0x02a00 ∷ drive 250218671 0 0x06a00 ∷ drive 250218671 7 0x00080 ∷ drive 250218761 7 0x08080 ∷ drive 250218763 0 0x02a00 ∷ drive 250218763 7 0x00000 ∷ drive 250218765 0 0x00a00 ∷ drive 250219167 0 0x04a00 ∷ drive 250219167 7 0x00103 ∷ drive 250219222 7 0x08103 ∷ drive 250219224 0 0x00a00 ∷ drive 250219224 7 0x00000 ∷ drive 250219226 0 0x04a00 ∷ drive 250219226 7 0x00100 ∷ drive 250219281 7 0x08100 ∷ drive 250219283 0 0x00a00 ∷ drive 250219283 7 0x00000 ∷ drive 250219285 0 0x04a00 ∷ drive 250219285 7 0x00100 ∷ drive 250219340 7 0x08100 ∷ drive 250219342 0 0x00a00 ∷ drive 250219342 7 0x00000 ∷ drive 250219344 0 0x04a00 ∷ drive 250219344 7 0x00100 ∷ drive 250219399 7 0x08100 ∷ drive 250219401 0 0x00a00 ∷ drive 250219401 7 0x00000 ∷ drive 250219403 0 0x04a00 ∷ drive 250219403 7 0x00112 ∷ drive 250219458 7 0x08112 ∷ drive 250219460 0 0x00a00 ∷ drive 250219460 7 0x00000 ∷ drive 250219462 0 0x04a00 ∷ drive 250219462 7 0x00100 ∷ drive 250219517 7 0x08100 ∷ drive 250219519 0 0x00a00 ∷ drive 250219519 7 0x00000 ∷ drive 250219521 0 0x01200 ∷ drive 250220323 0 0x01270 ∷ drive 250220380 0 0x05270 ∷ drive 250220380 7 0x08000 ∷ drive 250220382 0 0x01300 ∷ drive 250220382 7 0x00000 ∷ drive 250220439 0 0x05300 ∷ drive 250220439 7 0x08000 ∷ drive 250220441 0 0x01305 ∷ drive 250220441 7 0x00000 ∷ drive 250220498 0 0x05305 ∷ drive 250220498 7 0x08000 ∷ drive 250220500 0 0x01300 ∷ drive 250220500 7 0x00000 ∷ drive 250220557 0 0x05300 ∷ drive 250220557 7 0x08000 ∷ drive 250220559 0 0x01300 ∷ drive 250220559 7 0x00000 ∷ drive 250220616 0 0x05300 ∷ drive 250220616 7 0x08000 ∷ drive 250220618 0 0x01300 ∷ drive 250220618 7 0x00000 ∷ drive 250220675 0 0x05300 ∷ drive 250220675 7 0x08000 ∷ drive 250220677 0 0x01300 ∷ drive 250220677 7 0x00000 ∷ drive 250220734 0 0x05300 ∷ drive 250220734 7 0x08000 ∷ drive 250220736 0 0x0130a ∷ drive 250220736 7 0x00000 ∷ drive 250220793 0 0x0530a ∷ drive 250220793 7 0x08000 ∷ drive 250220795 0 0x01300 ∷ drive 250220795 7 0x00000 ∷ drive 250220852 0 0x05300 ∷ drive 250220852 7 0x08000 ∷ drive 250220854 0 0x01300 ∷ drive 250220854 7 0x00000 ∷ drive 250220911 0 0x05300 ∷ drive 250220911 7 0x08000 ∷ drive 250220913 0 0x01300 ∷ drive 250220913 7 0x00000 ∷ drive 250220970 0 0x05300 ∷ drive 250220970 7 0x08000 ∷ drive 250220972 0 0x01300 ∷ drive 250220972 7 0x00000 ∷ drive 250221029 0 0x05300 ∷ drive 250221029 7 0x08000 ∷ drive 250221031 0 0x01321 ∷ drive 250221031 7 0x00000 ∷ drive 250221088 0 0x05321 ∷ drive 250221088 7 0x08000 ∷ drive 250221090 0 0x01300 ∷ drive 250221090 7 0x00000 ∷ drive 250221147 0 0x05300 ∷ drive 250221147 7 0x08000 ∷ drive 250221149 0 0x01300 ∷ drive 250221149 7 0x00000 ∷ drive 250221206 0 0x05300 ∷ drive 250221206 7 0x08000 ∷ drive 250221208 0 0x01300 ∷ drive 250221208 7 0x00000 ∷ drive 250221265 0 0x05300 ∷ drive 250221265 7 0x08000 ∷ drive 250221267 0 0x01300 ∷ drive 250221267 7 0x00000 ∷ drive 250221324 0 0x05300 ∷ drive 250221324 7 0x08000 ∷ drive 250221326 0 0x01300 ∷ drive 250221326 7 0x00000 ∷ drive 250221383 0 0x05300 ∷ drive 250221383 7 0x08000 ∷ drive 250221385 0 0x01200 ∷ drive 250221385 7 0x00000 ∷ drive 250221387 0 0x01b00 ∷ drive 250221789 0 0x05b00 ∷ drive 250221789 7 0x08000 ∷ drive 250221791 0 0x01a00 ∷ drive 250221791 7 0x00000 ∷ drive 250221793 0 0x03b00 ∷ drive 250222195 0 0x07b00 ∷ drive 250222195 7 0x08000 ∷ drive 250222197 0 0x03a00 ∷ drive 250222197 7 0x00000 ∷ drive 250222199 0 0x00000 ∷ []
+
+abbrev called_again_for_sense_run_events : List Event
+called_again_for_sense_run_events = events.Accept (command 1) ∷ events.Run (command 1) ∷ events.End (command 1) 2 ∷ events.Accept (sense 1) ∷ events.Run (sense 1) ∷ events.End (sense 1) 0 ∷ []
+
+called_again_for_sense_run_told : (story called_again_for_sense_run (reverse called_again_for_sense_run_rows)).history ≡ reverse called_again_for_sense_run_events
+unfolding need_of sent_of ones union_below line_of form_out form_in
+called_again_for_sense_run_told = refl
+
+called_again_for_sense_run_outcomes : outcomes called_again_for_sense_run (story called_again_for_sense_run (reverse called_again_for_sense_run_rows)) ≡ Some (ended_check (Some (record { key = 5; asc = 33; ascq = 0 }))) ∷ []
+unfolding need_of sent_of ones union_below line_of form_out form_in
+called_again_for_sense_run_outcomes = refl
+
+called_again_for_sense_run_carried : all_carried called_again_for_sense_run (story called_again_for_sense_run (reverse called_again_for_sense_run_rows)) (reverse called_again_for_sense_run_events) ≡ true
+unfolding need_of sent_of ones union_below line_of form_out form_in
+called_again_for_sense_run_carried = refl
+
+called_again_for_sense_run_struck : placed called_again_for_sense_run (reverse called_again_for_sense_run_rows) ≡ struck called_again_for_sense_run_rows
+unfolding need_of sent_of ones union_below line_of form_out form_in
+called_again_for_sense_run_struck = refl
+
 -- ---- checks_run
 
 abbrev checks_run : ScenarioValue

@@ -49,11 +49,16 @@ abbrev pub gives_up : Story → Item → Story
 gives_up b (process id) = ends_item b id unanswered
 gives_up b (abort k) = is_over b (abort k)
 
+-- For an automatic REQUEST SENSE it calls without limit.
+abbrev pub is_counted : Item → Bool
+is_counted (process id) = not id.sense
+is_counted (abort k) = true
+
 abbrev pub tries : ScenarioValue → Story → ℕ → Option Item → Story
 tries s b dev None = b
 tries s b dev (Some item) =
     let next : Story = record b { sent = record b.sent { tries = item ∷ b.sent.tries } } in
-    if nat_lt (retries_of s.hosts dev) (count_item next.sent.tries item) then gives_up next item else next
+    if is_counted item && nat_lt (retries_of s.hosts dev) (count_item next.sent.tries item) then gives_up next item else next
 
 -- The caller ends its calling without an answer.
 abbrev pub missed_by : ScenarioValue → Story → ℕ → Option Calling → Story

@@ -90,6 +90,36 @@ all_reply_2 : reply_of (play all (reverse all_events)) (command 3) ≡ Some (goo
 unfolding need_of sent_of ones
 all_reply_2 = refl
 
+-- ---- called_again_for_sense
+
+abbrev called_again_for_sense : ScenarioValue
+called_again_for_sense = record {
+  version = 1;
+  hosts = record { dev = 7; latency = 0; most = 1; retries = 0; period = 0; offset = 0; lag = 0; offers = true } ∷ [];
+  targets = record { dev = 0; latency = 2; retries = 2; disc = policies.Never; pick = picks.First; seek = 0; period = 0; offset = 0; begins = false } ∷ [];
+  units = record { target = 0; unit = 0; blocks = 1; size = 16; depth = 1 } ∷ [];
+  fills = [];
+  commands = record { host = 7; target = 0; unit = 0; at = 0; tag = tags.Untagged; cdb = (8 ∷ 0 ∷ 0 ∷ 1 ∷ 1 ∷ 0 ∷ []); payload = payloads.Nothing } ∷ [];
+  aborts = [];
+  resets = [];
+  faults = record { at = 12000; bit = 0 } ∷ [];
+}
+
+abbrev called_again_for_sense_events : List Event
+called_again_for_sense_events = events.Accept (command 1) ∷ events.Run (command 1) ∷ events.End (command 1) 2 ∷ events.Accept (sense 1) ∷ events.Run (sense 1) ∷ events.End (sense 1) 0 ∷ []
+
+called_again_for_sense_blocks : disks_of (play called_again_for_sense (reverse called_again_for_sense_events)) ≡ blanks called_again_for_sense.units ([])
+unfolding need_of sent_of ones
+called_again_for_sense_blocks = refl
+
+called_again_for_sense_reply_1 : reply_of (play called_again_for_sense (reverse called_again_for_sense_events)) (command 1) ≡ Some (check (sense_of 5 33 0))
+unfolding need_of sent_of ones
+called_again_for_sense_reply_1 = refl
+
+called_again_for_sense_reply_2 : reply_of (play called_again_for_sense (reverse called_again_for_sense_events)) (sense 1) ≡ Some (good (112 ∷ 0 ∷ 5 ∷ 0 ∷ 0 ∷ 0 ∷ 0 ∷ 10 ∷ 0 ∷ 0 ∷ 0 ∷ 0 ∷ 33 ∷ 0 ∷ 0 ∷ 0 ∷ 0 ∷ 0 ∷ []))
+unfolding need_of sent_of ones
+called_again_for_sense_reply_2 = refl
+
 -- ---- checks
 
 abbrev checks : ScenarioValue

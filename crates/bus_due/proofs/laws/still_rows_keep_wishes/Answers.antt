@@ -1,0 +1,17 @@
+use Rattle.bus_due.proofs.Stills.{keeps_wishes, keeps_wants, keeps_callee, keeps_leaving, keeps_bytes}
+use Rattle.bus_due.proofs.laws.still_rows_keep_wishes.Goals as goal
+
+pub returns-clause-all : goal.returns-clause-all
+returns-clause-all c = λ s rows row h. keeps_wishes s rows row h
+
+pub returns-clause-wants : goal.returns-clause-wants
+returns-clause-wants c = λ s rows row h dev. keeps_wants s rows row h dev
+
+pub returns-clause-callees : goal.returns-clause-callees
+returns-clause-callees c = λ s rows row h dev. keeps_callee s rows row h dev
+
+pub returns-clause-leaving : goal.returns-clause-leaving
+returns-clause-leaving c = λ s rows row h e dev phase. keeps_leaving s rows row h e dev phase
+
+pub returns-clause-bytes : goal.returns-clause-bytes
+returns-clause-bytes c = λ s rows row h phase messages more place. keeps_bytes s rows row h phase messages more place

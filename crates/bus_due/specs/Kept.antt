@@ -1,0 +1,78 @@
+-- All that a device's next row depends on, kept from row to row.
+use Rattle.std.specs.Prelude.{ℕ, List, Option, Some, None}
+use Rattle.bus_base.specs.declared.ProcId.{ProcId}
+use Rattle.bus_lines.specs.LineSet.{LineSet}
+use Rattle.bus_lines.specs.View.{driven_at}
+use Rattle.bus_lines.specs.declared.agreements.Agreement.{Agreement}
+use Rattle.bus_rules.specs.declared.arbitration.Arbitration.{Arbitration}
+use Rattle.bus_rules.specs.declared.dialogue.Dialogue.{Dialogue}
+use Rattle.scenario.specs.declared.value.FaultDef.{FaultDef}
+use Rattle.scenario.specs.Value.{ScenarioValue}
+use Rattle.disk_array.specs.Processes.{Process, process_of}
+use Rattle.disk_array.specs.Units.{Array, at_start}
+use Rattle.bus_story.specs.Items.{Item, process, abort}
+use Rattle.bus_story.specs.Links.{Link}
+use Rattle.bus_story.specs.Carried.{Carried, carried_of}
+use Rattle.bus_story.specs.Story.{Story}
+use Rattle.bus_due.specs.Ages.{Ages}
+use Rattle.bus_due.specs.Own.{Own}
+use Rattle.bus_due.specs.Rises.{Rises}
+use Rattle.bus_due.specs.Talk.{Talk}
+use Rattle.bus_due.specs.Books.{Agreed, Met, Progress}
+
+pub record Kept : Type 0 where
+  -- what the rows tell, and the plain disk array that their history leaves
+  pub story : Story
+  pub array : Option Array
+  -- since when the current process of each unit is that
+  pub current_since : List ℕ
+  -- the bus
+  pub last : ℕ
+  pub ages : Ages
+  pub owns : List Own
+  pub arbitration : Option Arbitration
+  -- the connection that stands
+  pub rises : Rises
+  pub dialogue : Dialogue
+  pub talk : Talk
+  -- what lasts
+  pub agreed : List Agreed
+  pub met : Met
+  pub progress : List Progress
+  -- the faults that have not struck yet, in order of time, then of their lines
+  pub faults : List FaultDef
+
+-- ---- looking up
+
+abbrev pub bus_of : Kept → LineSet
+bus_of k = k.story.wires.bus
+
+abbrev pub drives_of : Kept → ℕ → LineSet
+drives_of k dev = driven_at k.story.wires.driven dev
+
+abbrev pub or_start : ScenarioValue → Option Array → Array
+or_start s None = at_start s
+or_start s (Some a) = a
+
+abbrev pub array_of : ScenarioValue → Kept → Array
+array_of s k = or_start s k.array
+
+-- The agreement that holds in the connection.
+abbrev pub agreement_of : Kept → Agreement
+agreement_of k = k.dialogue.heard.now.agreement
+
+-- The process of the connection.
+abbrev pub item_of : Option Link → Option Item
+item_of None = None
+item_of (Some l) = l.item
+
+abbrev pub process_item : ScenarioValue → Option Item → Option Process
+process_item s None = None
+process_item s (Some (process id)) = process_of s id
+process_item s (Some (abort n)) = None
+
+abbrev pub process_here : ScenarioValue → Kept → Option Process
+process_here s k = process_item s (item_of k.story.link)
+
+abbrev pub carried_here : Kept → ProcId → Carried
+carried_here k id = carried_of k.story.carried id
