@@ -43,9 +43,6 @@ abbrev shows : Run → Shows
 shows r = record { rows = r.rows; history = history_of r; ended = r.ended }
 """
 
-UNUSED = ("blanks", "play", "good", "blank", "Reply")
-
-
 def row(w):
     if w[2].startswith("f") and len(w[2]) == 2:
         return "strike %s %s %s" % (w[0], w[1], w[2][1:])
@@ -66,7 +63,7 @@ def rows(path):
 def main():
     lines = (HEAD + array_case.HEAD).splitlines()
     uses = [line for line in lines if line.startswith("use ")]
-    rest = [line for line in lines if line not in uses and not line.startswith("-- ")]
+    rest = [line for line in lines if line not in uses and not line.startswith("-- ") and "blanks" not in line]
     print("\n".join(HEAD.splitlines()[:2] + uses) + "\n" + DEFINITIONS + "\n".join(rest))
     for scn in sys.argv[1:]:
         name = pathlib.Path(scn).stem

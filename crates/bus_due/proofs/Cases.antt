@@ -14,14 +14,11 @@ use Rattle.bus_base.specs.declared.AbortKind.TheVariants as aborts
 use Rattle.bus_base.specs.declared.Event.{Event}
 use Rattle.bus_base.specs.declared.Event.TheVariants as events
 use Rattle.bus_base.specs.declared.events.Pick.TheVariants as picks
-use Rattle.scenario.specs.declared.value.FillDef.{FillDef}
-use Rattle.scenario.specs.declared.value.UnitDef.{UnitDef}
 use Rattle.scenario.specs.declared.value.Policy.TheVariants as policies
 use Rattle.scenario.specs.declared.value.Tag.TheVariants as tags
 use Rattle.scenario.specs.declared.value.Payload.TheVariants as payloads
 use Rattle.scenario.specs.Value.{ScenarioValue}
 use Rattle.scenario.specs.Needs.{need_of, sent_of}
-use Rattle.disk_array.specs.Contents.{blank}
 
 abbrev drive : ℕ → ℕ → ℕ → Row
 drive time dev lines = record { time = time; dev = dev; kind = Drives (set_of lines) }
@@ -43,10 +40,6 @@ command n = record { command = n; sense = false }
 
 abbrev sense : ℕ → ProcId
 sense n = record { command = n; sense = true }
-
-abbrev blanks : List UnitDef → List FillDef → List (List (List ℕ))
-blanks [] fills = []
-blanks (u ∷ units) fills = blank u fills ∷ blanks units fills
 
 -- ---- counted_due
 
