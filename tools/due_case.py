@@ -1,7 +1,7 @@
 #!/usr/bin/env python3
 """Turns scenarios and their reports into lemmas that compute whole runs by what is due.
 
-    tools/due_case.py tools/cases/*.scn > crates/bus_due/proofs/Cases.antt
+    tools/due_case.py tools/due_cases/*.scn > crates/bus_due/proofs/Cases.antt
 
 Beside each NAME.scn stands its report NAME.out, which comes from outside this repository. The lemmas say that the rows,
 one after the other each the least that is due after those before it, are those of the report, to the last nanosecond;
