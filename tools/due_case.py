@@ -73,11 +73,11 @@ def main():
         parts = array_case.report(out)
         wanted = rows(out)
         print("-- ---- %s\n" % name)
-        print("abbrev %s : ScenarioValue\n%s = record {\n  version = %d;" % (name, name, version))
+        print("abbrev pub %s : ScenarioValue\n%s = record {\n  version = %d;" % (name, name, version))
         for key, values in s.items():
             print("  %s = %s;" % (key, items(values)))
         print("}\n")
-        print("abbrev %s_rows : List Row\n%s_rows = %s\n" % (name, name, items(wanted)))
+        print("abbrev pub %s_rows : List Row\n%s_rows = %s\n" % (name, name, items(wanted)))
         print("abbrev %s_events : List Event\n%s_events = %s\n" % (name, name, items(array_case.event(w) for w in parts["history"])))
         print("%s_run : shows (run_by_due %s %d) ≡ record { rows = reverse %s_rows; history = reverse %s_events; ended = true }" % (name, name, len(wanted) + 1, name, name))
         print("%s\n%s_run = refl\n" % (UNFOLDING, name))
