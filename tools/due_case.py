@@ -1,7 +1,7 @@
 #!/usr/bin/env python3
 """Turns scenarios and their reports into lemmas that compute whole runs by what is due.
 
-    tools/due_case.py tools/cases/*.scn > crates/bus_due/proofs/Cases.antt
+    tools/due_case.py tools/due_cases/*.scn > crates/bus_due/proofs/Cases.antt
 
 Beside each NAME.scn stands its report NAME.out, which comes from outside this repository. The lemmas say that the rows,
 one after the other each the least that is due after those before it, are those of the report, to the last nanosecond;
@@ -43,9 +43,6 @@ abbrev shows : Run → Shows
 shows r = record { rows = r.rows; history = history_of r; ended = r.ended }
 """
 
-UNUSED = ("blanks", "play", "good", "blank", "Reply")
-
-
 def row(w):
     if w[2].startswith("f") and len(w[2]) == 2:
         return "strike %s %s %s" % (w[0], w[1], w[2][1:])
@@ -66,7 +63,7 @@ def rows(path):
 def main():
     lines = (HEAD + array_case.HEAD).splitlines()
     uses = [line for line in lines if line.startswith("use ")]
-    rest = [line for line in lines if line not in uses and not line.startswith("-- ")]
+    rest = [line for line in lines if line not in uses and not line.startswith("-- ") and "blanks" not in line]
     print("\n".join(HEAD.splitlines()[:2] + uses) + "\n" + DEFINITIONS + "\n".join(rest))
     for scn in sys.argv[1:]:
         name = pathlib.Path(scn).stem
@@ -76,11 +73,11 @@ def main():
         parts = array_case.report(out)
         wanted = rows(out)
         print("-- ---- %s\n" % name)
-        print("abbrev %s : ScenarioValue\n%s = record {\n  version = %d;" % (name, name, version))
+        print("abbrev pub %s : ScenarioValue\n%s = record {\n  version = %d;" % (name, name, version))
         for key, values in s.items():
             print("  %s = %s;" % (key, items(values)))
         print("}\n")
-        print("abbrev %s_rows : List Row\n%s_rows = %s\n" % (name, name, items(wanted)))
+        print("abbrev pub %s_rows : List Row\n%s_rows = %s\n" % (name, name, items(wanted)))
         print("abbrev %s_events : List Event\n%s_events = %s\n" % (name, name, items(array_case.event(w) for w in parts["history"])))
         print("%s_run : shows (run_by_due %s %d) ≡ record { rows = reverse %s_rows; history = reverse %s_events; ended = true }" % (name, name, len(wanted) + 1, name, name))
         print("%s\n%s_run = refl\n" % (UNFOLDING, name))

@@ -2,6 +2,7 @@ mod Cases
 mod Items
 mod Leasts
 mod Plains
+mod Rights
 mod Runs
 mod Stills
 mod Traces
