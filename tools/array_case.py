@@ -153,15 +153,53 @@ def replies(parts):
     return out
 
 
-def case(name, scn, out):
+def row(w):
+    """A row of a trace, by its words."""
+    if w[2].startswith("f") and len(w[2]) == 2:
+        return "strike %s %s %s" % (w[0], w[1], w[2][1:])
+    return "drive %s %s 0x%s" % (w[0], w[1], w[2])
+
+
+def rows(path):
+    """The rows of a report."""
+    out = []
+    for line in open(path):
+        w = line.split()
+        if w[0] == "end":
+            break
+        if w[0].isdigit():
+            out.append(row(w))
+    return out
+
+
+def name_of(scn, suffix):
+    name = pathlib.Path(scn).stem
+    return (name if name[0].isalpha() else "case_" + name) + suffix
+
+
+def print_scenario(name, scn, is_public=False):
+    """Prints the scenario under this name, and returns its parts."""
     version, s = scenario(scn)
-    parts = report(out)
     print("-- ---- %s\n" % name)
-    print("abbrev %s : ScenarioValue\n%s = record {\n  version = %d;" % (name, name, version))
+    print("abbrev %s%s : ScenarioValue\n%s = record {\n  version = %d;" % ("pub " if is_public else "", name, name, version))
     for key, values in s.items():
         print("  %s = %s;" % (key, items(values)))
     print("}\n")
+    return s
+
+
+def print_rows(name, out):
+    print("abbrev pub %s_rows : List Row\n%s_rows = %s\n" % (name, name, items(rows(out))))
+
+
+def print_events(name, parts):
     print("abbrev %s_events : List Event\n%s_events = %s\n" % (name, name, items(event(w) for w in parts["history"])))
+
+
+def case(name, scn, out):
+    print_scenario(name, scn)
+    parts = report(out)
+    print_events(name, parts)
     fills = [record(target=w[1], unit=w[2], lba=w[3], bytes=octets(w[4])) for w in parts["blocks"]]
     unfolding = "unfolding need_of sent_of ones"
     print("%s_blocks : disks_of (play %s (reverse %s_events)) ≡ blanks %s.units (%s)" % (name, name, name, name, items(fills)))

@@ -7,11 +7,9 @@ Beside each NAME.scn stands its report NAME.out, which comes from outside this r
 one after the other each the least that is due after those before it, are those of the report, to the last nanosecond;
 that they show its history; and that nothing is due after them.
 """
-import pathlib
 import sys
 
 import array_case
-from array_case import items
 
 UNFOLDING = "unfolding need_of sent_of ones union_below line_of form_out form_in least run_from"
 
@@ -43,22 +41,6 @@ abbrev shows : Run → Shows
 shows r = record { rows = r.rows; history = history_of r; ended = r.ended }
 """
 
-def row(w):
-    if w[2].startswith("f") and len(w[2]) == 2:
-        return "strike %s %s %s" % (w[0], w[1], w[2][1:])
-    return "drive %s %s 0x%s" % (w[0], w[1], w[2])
-
-
-def rows(path):
-    out = []
-    for line in open(path):
-        w = line.split()
-        if w[0] == "end":
-            break
-        if w[0].isdigit():
-            out.append(row(w))
-    return out
-
 
 def main():
     lines = (HEAD + array_case.HEAD).splitlines()
@@ -66,20 +48,13 @@ def main():
     rest = [line for line in lines if line not in uses and not line.startswith("-- ") and "blanks" not in line]
     print("\n".join(HEAD.splitlines()[:2] + uses) + "\n" + DEFINITIONS + "\n".join(rest))
     for scn in sys.argv[1:]:
-        name = pathlib.Path(scn).stem
-        name = (name if name[0].isalpha() else "case_" + name) + "_due"
+        name = array_case.name_of(scn, "_due")
         out = scn[: -len("scn")] + "out"
-        version, s = array_case.scenario(scn)
-        parts = array_case.report(out)
-        wanted = rows(out)
-        print("-- ---- %s\n" % name)
-        print("abbrev pub %s : ScenarioValue\n%s = record {\n  version = %d;" % (name, name, version))
-        for key, values in s.items():
-            print("  %s = %s;" % (key, items(values)))
-        print("}\n")
-        print("abbrev pub %s_rows : List Row\n%s_rows = %s\n" % (name, name, items(wanted)))
-        print("abbrev %s_events : List Event\n%s_events = %s\n" % (name, name, items(array_case.event(w) for w in parts["history"])))
-        print("%s_run : shows (run_by_due %s %d) ≡ record { rows = reverse %s_rows; history = reverse %s_events; ended = true }" % (name, name, len(wanted) + 1, name, name))
+        array_case.print_scenario(name, scn, is_public=True)
+        array_case.print_rows(name, out)
+        array_case.print_events(name, array_case.report(out))
+        fuel = len(array_case.rows(out)) + 1
+        print("%s_run : shows (run_by_due %s %d) ≡ record { rows = reverse %s_rows; history = reverse %s_events; ended = true }" % (name, name, fuel, name, name))
         print("%s\n%s_run = refl\n" % (UNFOLDING, name))
 
 

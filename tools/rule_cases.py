@@ -8,6 +8,8 @@ A line of CASES is `NAME: ROW; ROW; .. | END | VERDICT`, with rows as a trace te
 """
 import sys
 
+UNFOLDING = "unfolding union_below seen_with line_of ones form_out form_in"
+
 HEAD = """-- Small traces and their verdicts, computed: for each rule one that breaks it and nothing else before, and
 -- beside it one that keeps it by a nanosecond or a line. Written by tools/rule_cases.py from
 -- tools/rule_cases.txt, whose verdicts come from an independent judge.
@@ -43,7 +45,7 @@ def verdict(text):
 
 
 def main():
-    print(HEAD)
+    cases = []
     for line in sys.stdin:
         line = line.strip()
         if not line or line.startswith("#"):
@@ -51,9 +53,8 @@ def main():
         name, rest = line.split(":", 1)
         rows, end, wanted = (part.strip() for part in rest.split("|"))
         items = "".join("%s ∷ " % row(r) for r in rows.split(";") if r.strip())
-        print("%s : judged_whole (reverse (%s[])) %s ≡ %s" % (name, items, end, verdict(wanted)))
-        print("unfolding union_below seen_with line_of ones form_out form_in")
-        print("%s = refl\n" % name)
+        cases.append("%s : judged_whole (reverse (%s[])) %s ≡ %s\n%s\n%s = refl\n" % (name, items, end, verdict(wanted), UNFOLDING, name))
+    print("\n".join([HEAD] + cases), end="")
 
 
 main()

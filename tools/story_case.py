@@ -7,7 +7,6 @@ Beside each NAME.scn stands its report NAME.out, which comes from outside this r
 history which the rows tell is that of the report, and so are the outcomes and the bytes that were carried; and that the
 faults of the scenario strike what the fault rows name.
 """
-import pathlib
 import sys
 
 import array_case
@@ -35,23 +34,6 @@ strike time dev bit = record { time = time; dev = dev; kind = Fault bit }
 """
 
 
-def rows(path):
-    out = []
-    for line in open(path):
-        w = line.split()
-        if w[0] == "end":
-            break
-        if w[0].isdigit():
-            out.append(row(w))
-    return out
-
-
-def row(w):
-    if w[2].startswith("f") and len(w[2]) == 2:
-        return "strike %s %s %s" % (w[0], w[1], w[2][1:])
-    return "drive %s %s 0x%s" % (w[0], w[1], w[2])
-
-
 def outcome(w):
     """The outcome that a line of the replies names."""
     if w[2] == "GOOD":
@@ -69,18 +51,12 @@ def main():
     uses = [line for line in lines if line.startswith("use ")]
     print("\n".join(HEAD.splitlines()[:2] + uses + [line for line in lines if line not in uses and not line.startswith("-- ")]))
     for scn in sys.argv[1:]:
-        name = pathlib.Path(scn).stem
-        name = (name if name[0].isalpha() else "case_" + name) + "_run"
+        name = array_case.name_of(scn, "_run")
         out = scn[: -len("scn")] + "out"
-        version, s = array_case.scenario(scn)
         parts = array_case.report(out)
-        print("-- ---- %s\n" % name)
-        print("abbrev %s : ScenarioValue\n%s = record {\n  version = %d;" % (name, name, version))
-        for key, values in s.items():
-            print("  %s = %s;" % (key, items(values)))
-        print("}\n")
-        print("abbrev pub %s_rows : List Row\n%s_rows = %s\n" % (name, name, items(rows(out))))
-        print("abbrev %s_events : List Event\n%s_events = %s\n" % (name, name, items(array_case.event(w) for w in parts["history"])))
+        s = array_case.print_scenario(name, scn)
+        array_case.print_rows(name, out)
+        array_case.print_events(name, parts)
         print("%s_told : (story %s (reverse %s_rows)).history ≡ reverse %s_events" % (name, name, name, name))
         print("%s\n%s_told = refl\n" % (UNFOLDING, name))
         wanted = [outcome(w) for w in parts["replies"]]
