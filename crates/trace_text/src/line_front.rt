@@ -1,5 +1,5 @@
 //! The front of a line.
-ghost use Rattle.std.specs.Prelude.{◌≡◌, [], ◌∷◌, ◌++◌, take, IsTrue};
+ghost use Rattle.std.specs.Prelude.{◌↔◌, ◌≡◌, [], ◌∷◌, ◌++◌, take, IsTrue};
 
 use std::marker::Model;
 
@@ -58,7 +58,7 @@ impl LineFront {
 
     /// Whether the line has no byte yet.
     pub fn is_empty(&self) -> bool
-        ensures { IsTrue result → self.now ≡ [] }
+        ensures { IsTrue result ↔ (self.now ≡ []) }
     {
         self.len == 0
     }
