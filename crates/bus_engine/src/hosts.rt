@@ -14,7 +14,8 @@ use crate::outcomes::Outcome;
 use arrayvec::ArrayVec;
 use bus_base::{Dev, Event, NoMemory, Ns, Octets, ProcId};
 use bus_lines::{
-    ARBITRATION_DELAY, BusView, ENTRY_DELAY, Lines, QUIET_TIME, SET_UP_TIME, TWO_DESKEW, byte_lines,
+    ARBITRATION_DELAY, ENTRY_DELAY, LineView, Lines, QUIET_TIME, SET_UP_TIME, TWO_DESKEW,
+    byte_lines,
 };
 use cdb_codec::{Command, to_cdb};
 use std::alloc::Global;
@@ -137,7 +138,7 @@ fn calling_lines(dev: Dev, target: Dev) -> Lines
 }
 
 // The entry into arbitration, where the bus is free.
-fn enters(dev: Dev, view: &BusView, now: Ns) -> Option<Reaction>
+fn enters(dev: Dev, view: &LineView, now: Ns) -> Option<Reaction>
     requires dev { dev < 8 }
     requires early { AreEarly view.now }
     ensures { (p : List Row) → IsViewOf p view.now → result ≡ enters dev (sight_of p) now }
@@ -156,7 +157,7 @@ fn enters(dev: Dev, view: &BusView, now: Ns) -> Option<Reaction>
 }
 
 // The look at the IDs: the highest wins; the others release all when SEL rises.
-fn looks(dev: Dev, entry: Ns, view: &BusView, now: Ns) -> Option<Reaction>
+fn looks(dev: Dev, entry: Ns, view: &LineView, now: Ns) -> Option<Reaction>
     requires dev { dev < 8 }
     requires early { IsEarly entry }
     ensures { (p : List Row) → IsViewOf p view.now → result ≡ looks dev entry (sight_of p) now }
@@ -173,7 +174,7 @@ fn looks(dev: Dev, entry: Ns, view: &BusView, now: Ns) -> Option<Reaction>
 }
 
 // SEL and the IDs are released after the answer.
-fn confirms(view: &BusView) -> Option<Reaction>
+fn confirms(view: &LineView) -> Option<Reaction>
     requires early { AreEarly view.now }
     ensures { (p : List Row) → IsViewOf p view.now → result ≡ confirms (sight_of p) }
 {
@@ -188,7 +189,7 @@ fn confirms(view: &BusView) -> Option<Reaction>
 }
 
 // A byte from the target is taken with ACK.
-fn takes(view: &BusView, atn: bool) -> Reaction
+fn takes(view: &LineView, atn: bool) -> Reaction
     ensures { (p : List Row) → IsViewOf p view.now → result ≡ takes (sight_of p) atn }
 {
     Reaction {
@@ -203,7 +204,7 @@ fn takes(view: &BusView, atn: bool) -> Reaction
 }
 
 // On REQ false ACK is negated, and a byte to the target released.
-fn releases(view: &BusView, atn: bool) -> Option<Reaction>
+fn releases(view: &LineView, atn: bool) -> Option<Reaction>
     ensures { (p : List Row) → IsViewOf p view.now → result ≡ releases (sight_of p) atn }
 {
     if view.bus().req() {
@@ -286,7 +287,7 @@ impl Host {
     }
 
     // A byte to the target is driven; the one byte of MESSAGE OUT negates ATN in its row.
-    fn sets(&self, view: &BusView, now: Ns, atn: bool) -> Reaction
+    fn sets(&self, view: &LineView, now: Ns, atn: bool) -> Reaction
         ensures { (p : List Row) → IsViewOf p view.now → result ≡ sets self.now (sight_of p) now atn }
     {
         let is_message = view.bus().msg();
@@ -301,7 +302,7 @@ impl Host {
 
     // ACK follows the byte by the set-up time, in MESSAGE OUT also the last change of ATN by two
     // deskew delays.
-    fn sends(&self, view: &BusView, at: Ns, atn: bool) -> Reaction
+    fn sends(&self, view: &LineView, at: Ns, atn: bool) -> Reaction
         requires early { AreEarly view.now }
         requires at { IsEarly at }
         ensures { (p : List Row) → IsViewOf p view.now → result ≡ sends self.now (sight_of p) at atn }
@@ -324,7 +325,7 @@ impl Host {
     }
 
     // The asynchronous handshake, both directions.
-    fn transfers(&self, view: &BusView, now: Ns, atn: bool, hand: Hand) -> Option<Reaction>
+    fn transfers(&self, view: &LineView, now: Ns, atn: bool, hand: Hand) -> Option<Reaction>
         requires early { AreEarly view.now }
         requires stands { stands_early (Standing.Linked atn hand) ≡ true }
         ensures { (p : List Row) → IsViewOf p view.now → result ≡ transfers self.now (sight_of p) now atn hand }
@@ -347,7 +348,7 @@ impl Host {
     }
 
     // The next row, whenever it is due.
-    fn reaction(&self, view: &BusView, now: Ns) -> Option<Reaction>
+    fn reaction(&self, view: &LineView, now: Ns) -> Option<Reaction>
         requires early { AreEarly view.now }
         requires stands { stands_early self.now.standing ≡ true }
         ensures { (p : List Row) → IsViewOf p view.now → result ≡ host_reaction self.now (sight_of p) now }
@@ -413,7 +414,7 @@ impl Host {
     }
 
     /// Its turn: a row where its next reaction is due by now, else the moment at which it will be.
-    pub fn step(&mut self, view: &BusView, now: Ns) -> Act
+    pub fn step(&mut self, view: &LineView, now: Ns) -> Act
         requires early { AreEarly view.now }
         requires stands { stands_early self.old.standing ≡ true }
         ensures act { (p : List Row) → IsViewOf p view.now → result ≡ host_act self.old (sight_of p) now }

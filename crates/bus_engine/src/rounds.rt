@@ -19,7 +19,7 @@ use crate::made::Run;
 use crate::request::{BLOCK_SIZE, One};
 use crate::targets::Target;
 use bus_base::{Dev, Event, NoMemory, Ns};
-use bus_lines::{BusView, Kind, Row};
+use bus_lines::{Kind, LineView, Row};
 use std::alloc::Global;
 
 /// More rounds than any run of one READ(6) has: one for each of its rows, and one for each moment to
@@ -30,7 +30,7 @@ const ROUNDS: u32 = 256;
 #[derive(Drop)]
 struct Record {
     rows: Vec<Row>,
-    view: BusView,
+    view: LineView,
     history: Vec<Event>,
 }
 
@@ -105,7 +105,7 @@ impl World {
             now: 0,
             record: Record {
                 rows: Vec::new(alloc),
-                view: BusView::new(),
+                view: LineView::new(),
                 history: Vec::new(alloc),
             },
             host: Host::new(one.host, one.target, one.lba),

@@ -14,7 +14,7 @@ use crate::blocks::DenseBlocks;
 use crate::phases::Phase;
 use arrayvec::ArrayVec;
 use bus_base::{Dev, Event, Ns, ProcId};
-use bus_lines::{BUS_SETTLE_DELAY, BusView, Lines, SET_UP_TIME, TURN_DELAY, byte_lines};
+use bus_lines::{BUS_SETTLE_DELAY, LineView, Lines, SET_UP_TIME, TURN_DELAY, byte_lines};
 use cdb_codec::{Command, from_cdb, group_len};
 use std::marker::Model;
 
@@ -130,7 +130,7 @@ fn with_byte(lines: Lines, byte: Option<u8>) -> Lines
 }
 
 // BSY answers a calling whose sample of the IDs is good: odd parity and just two IDs.
-fn answers(dev: Dev, view: &BusView) -> Option<Reaction>
+fn answers(dev: Dev, view: &LineView) -> Option<Reaction>
     requires dev { dev < 8 }
     requires early { AreEarly view.now }
     ensures exact { (p : List Row) → IsViewOf p view.now → result ≡ answers dev (sight_of p) }
@@ -153,7 +153,7 @@ fn answers(dev: Dev, view: &BusView) -> Option<Reaction>
 }
 
 // MESSAGE OUT begins once SEL is false.
-fn opens(view: &BusView, now: Ns) -> Option<Reaction>
+fn opens(view: &LineView, now: Ns) -> Option<Reaction>
     requires now { IsEarly now }
     ensures exact { (p : List Row) → IsViewOf p view.now → result ≡ opens (sight_of p) now }
     ensures calm { IfSome result (λ r. r.effect ≡ Effect.Nothing) }
@@ -347,7 +347,7 @@ impl Target {
     }
 
     // On ACK the byte has crossed: REQ is negated, and the next byte of the phase driven.
-    fn lowers(&self, view: &BusView, now: Ns, phase: Phase, done: usize) -> Option<Reaction>
+    fn lowers(&self, view: &LineView, now: Ns, phase: Phase, done: usize) -> Option<Reaction>
         requires done { done < 2 ^ 32 }
         ensures exact { (p : List Row) → IsViewOf p view.now → result ≡ lowers self.now (sight_of p) now phase done }
         ensures within { IfSome result (λ r. AsksWithin (length self.now.disk) r.effect) }
@@ -399,7 +399,7 @@ impl Target {
     // On ACK false the next REQ rises, or the phase is left.
     fn goes_on(
         &self,
-        view: &BusView,
+        view: &LineView,
         now: Ns,
         phase: Phase,
         done: usize,
@@ -429,7 +429,7 @@ impl Target {
 
     fn serves(
         &self,
-        view: &BusView,
+        view: &LineView,
         now: Ns,
         phase: Phase,
         done: usize,
@@ -463,7 +463,7 @@ impl Target {
     }
 
     // The next row, whenever it is due.
-    fn reaction(&self, view: &BusView, now: Ns) -> Option<Reaction>
+    fn reaction(&self, view: &LineView, now: Ns) -> Option<Reaction>
         requires now { IsEarly now }
         requires early { AreEarly view.now }
         requires service { service_early self.now.service ≡ true }
@@ -519,7 +519,7 @@ impl Target {
 
     /// Its turn: a row where its next reaction is due by now, else the moment at which it will be.
     /// `label` names the process of the connection in its events, and does nothing else.
-    pub fn step(&mut self, view: &BusView, now: Ns, label: ProcId) -> Act
+    pub fn step(&mut self, view: &LineView, now: Ns, label: ProcId) -> Act
         requires now { IsEarly now }
         requires early { AreEarly view.now }
         requires service { service_early self.old.service ≡ true }

@@ -5,11 +5,15 @@ ghost use Rattle.std.specs.Int.{bit_at};
 ghost use Rattle.std.specs.Int.RustNames.{bit_or};
 ghost use Rattle.bus_lines.specs.LineSet.{LineSet, none, union, set_of, number_of, line_of, bit_value, byte_set, has_odd_parity, id_set, ids_set, ids_in, has_id, has_id_above};
 ghost use Rattle.bus_lines.specs.View.{View, IsUpTo};
+ghost use Rattle.std.specs.List.{AllByRecursion};
 ghost use Rattle.bus_lines.specs.Agreements.{same_agreement};
 ghost use Rattle.bus_lines.specs.declared.agreements.Agreement.{Agreement};
 ghost use Rattle.bus_lines.specs.declared.rows.Row.{Row};
 ghost use Rattle.bus_lines.specs.declared.rows.Kind.TheVariants.{Drives, Fault};
 ghost use Rattle.bus_lines.specs.Trace.{drives, bus, last_time, since, since_line};
+ghost use Rattle.bus_lines.specs.Handshakes.{handshakes};
+ghost use Rattle.bus_lines.specs.BusView.{BusViewValue, IsBusViewOf};
+ghost use Rattle.bus_lines.specs.Timely.{IsTimely};
 
 /// What is on a bus on which few devices drive anything.
 pub fn drivers_make_the_bus()
@@ -112,6 +116,16 @@ pub fn bounds_last()
 pub fn changes_are_past()
     ensures seen { (seen : LineSet → ℕ) (row : Row) (rows : List Row) → since seen rows ≤ row.time → since seen (row ∷ rows) ≤ last_time (row ∷ rows) }
     ensures line { (on : LineSet → Bool) (row : Row) (rows : List Row) → since_line on rows ≤ row.time → since_line on (row ∷ rows) ≤ last_time (row ∷ rows) }
+{}
+
+/// Where all rows come before a time, so do all times of the view that devices have of them.
+pub fn views_are_timely()
+    ensures { (end : ℕ) → 0 < end → (rows : List Row) (v : BusViewValue) → IsBusViewOf rows v → AllByRecursion (λ (row : Row). row.time < end) rows → IsTimely end v }
+{}
+
+/// No more than 255 requests wait, whatever the rows.
+pub fn few_requests_wait()
+    ensures { (rows : List Row) → length (handshakes rows).waiting ≤ 255 }
 {}
 
 /// Being the same agreement is an equivalence, by which all asynchronous agreements are one, and

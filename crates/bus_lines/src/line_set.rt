@@ -1,6 +1,6 @@
 // Sets of lines.
 
-ghost use Rattle.std.specs.Prelude.{ℕ, ◌≡◌, ◌≢◌, ◌==◌, ◌<◌, ◌^◌, ◌%◌, ◌↔◌, IsTrue, not};
+ghost use Rattle.std.specs.Prelude.{ℕ, ◌≡◌, ◌≢◌, ◌==◌, ◌<◌, ◌^◌, ◌%◌, ◌↔◌, IsTrue, false, not};
 ghost use Rattle.std.specs.Int.{bit_at};
 ghost use Rattle.std.specs.Int.RustNames.{count_ones};
 ghost use Rattle.bus_lines.specs.LineSet.{LineSet, none, union, set_of, number_of, same_set, line_of, byte_set, parity_of, has_odd_parity, id_set, ids_set, ids_in, has_id, has_id_above};
@@ -109,6 +109,53 @@ impl Lines {
         Lines {
             bits: self.bits | other.bits,
         }
+    }
+
+    /// The same lines without BSY.
+    pub fn without_bsy(self) -> Lines
+        ensures { result ≡ record self { bsy = false } }
+    {
+        if self.bsy() {
+            Lines::from_bits_retain(self.bits() - 0x200)
+        } else {
+            self
+        }
+    }
+
+    /// The same lines without REQ.
+    pub fn without_req(self) -> Lines
+        ensures { result ≡ record self { req = false } }
+    {
+        if self.req() {
+            Lines::from_bits_retain(self.bits() - 0x4000)
+        } else {
+            self
+        }
+    }
+
+    /// The same lines without ACK.
+    pub fn without_ack(self) -> Lines
+        ensures { result ≡ record self { ack = false } }
+    {
+        if self.ack() {
+            Lines::from_bits_retain(self.bits() - 0x8000)
+        } else {
+            self
+        }
+    }
+
+    /// The same lines without DB(7-0) and DB(P).
+    pub fn without_data(self) -> Lines
+        ensures { result ≡ record self { data_bits = 0 } }
+    {
+        Lines::from_bits_retain(self.bits() - self.data_bits() as u32)
+    }
+
+    /// The same lines with this byte on DB(7-0) and its parity on DB(P), in place of what they had there.
+    pub fn with_byte(self, byte: u8) -> Lines
+        ensures { result ≡ record self { data_bits = (byte_set byte).data_bits } }
+    {
+        byte_lines(byte).with(self.without_data())
     }
 
     /// DB(7-0), as a byte.

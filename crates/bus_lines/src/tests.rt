@@ -2,7 +2,9 @@
 
 use crate::agreements::{Agreement, TransferTimes, is_same_agreement, transfer_times};
 use crate::line_set::{Lines, byte_lines, parity};
+use crate::line_view::LineView;
 use crate::rows::{Kind, Row};
+use crate::stage::Stage;
 use crate::view::BusView;
 use bitflags::Flags;
 
@@ -23,7 +25,7 @@ fn bytes_and_ids(rt: HostRuntime) {
 
 #[test]
 fn view_of_an_arbitration(rt: HostRuntime) {
-    let mut view = BusView::new();
+    let mut view = LineView::new();
     for (time, dev, bits) in [
         (1200, 7u8, 0x00280u32),
         (3600, 7, 0x00680),
@@ -100,4 +102,55 @@ fn same_agreements(rt: HostRuntime) {
         };
         assert_eq!(rt; is_same_agreement(a, b), same);
     }
+}
+
+#[test]
+fn view_of_a_selection(rt: HostRuntime) {
+    let mut view = BusView::new();
+    for (time, dev, bits) in [
+        (1200, 7u8, 0x00280u32),
+        (3600, 7, 0x00680),
+        (4800, 7, 0x10781),
+        (4890, 7, 0x10581),
+        (5290, 0, 0x00200),
+        (5380, 7, 0x10000),
+        (5380, 0, 0x02a00),
+        (5780, 0, 0x06a00),
+        (5780, 7, 0x001c0),
+        (5870, 7, 0x081c0),
+    ] {
+        let row = Row {
+            time,
+            dev: dev % 8,
+            kind: Kind::Drives(Lines::from_bits_retain(bits)),
+        };
+        view.step(&row);
+    }
+    let Stage::InConnection(connection) = view.stage() else {
+        assert!(rt; false);
+        return;
+    };
+    assert_eq!(rt;
+        (connection.initiator, connection.target, connection.began),
+        (7u8, 0u8, 5380u64)
+    );
+    assert_eq!(rt; view.effect().receiver, Some(0u8));
+    let handshakes = view.handshakes();
+    assert_eq!(rt;
+        (
+            handshakes.requests(),
+            handshakes.answers(),
+            handshakes.waiting()
+        ),
+        (1u64, 1u64, 0u8)
+    );
+    assert_eq!(rt; view.since(14), 5780);
+    assert_eq!(rt;
+        view.bus()
+            .without_ack()
+            .without_req()
+            .with_byte(0x07)
+            .bits(),
+        0x02a07
+    );
 }

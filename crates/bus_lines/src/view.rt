@@ -1,278 +1,191 @@
-// A running view of a trace.
+//! The running view of the bus, as devices have it.
+ghost use Rattle.std.specs.Prelude.{ℕ, ◌≡◌, ◌<◌, ◌∷◌, [], List};
+ghost use Rattle.bus_lines.specs.declared.rows.Row.{Row};
+ghost use Rattle.bus_lines.specs.LineSet.{line_of};
+ghost use Rattle.bus_lines.specs.Trace.{IsViewOf, bus, drives, since, last_time};
+ghost use Rattle.bus_lines.specs.Calls.{HasDevices};
+ghost use Rattle.bus_lines.specs.Connections.{HasEnds};
+ghost use Rattle.bus_lines.specs.Changes.{change_of};
+ghost use Rattle.bus_lines.specs.Terms.{connection};
+ghost use Rattle.bus_lines.specs.Stage.{stage};
+ghost use Rattle.bus_lines.specs.Effect.{effect};
+ghost use Rattle.bus_lines.specs.Handshakes.{handshakes};
+ghost use Rattle.bus_lines.specs.BusView.{IsBusViewOf};
+ghost use Rattle.bus_lines.specs.Timely.{IsTimely, AreBefore, IsConnectionBefore, IsStageBefore, AreHandshakesBefore};
 
-ghost use Rattle.std.specs.Prelude.{ℕ, cond, ◌≡◌, ◌<◌, ◌≤◌, List, [], ◌∷◌, slice_index};
-ghost use Rattle.bus_lines.specs.LineSet.{LineSet, line_of, data_of};
-ghost use Rattle.bus_lines.specs.View.{driven_at, IsUpTo};
-ghost use Rattle.bus_lines.specs.Trace.{drives, driven_after, bus, last_time, newer, since, since_line, IsViewOf};
-
+use crate::arbitration::{Arbitration, arbitration_after};
+use crate::changes::Change;
+use crate::connection::{Connection, connection_after};
+use crate::effect::{RowEffect, effect_of, no_effect};
+use crate::handshakes::Handshakes;
 use crate::line_set::Lines;
+use crate::line_view::LineView;
 use crate::rows::Row;
+use crate::selection::{Call, call_after};
+use crate::stage::{Stage, call_stage};
 use bus_base::{Dev, Ns};
 use std::marker::Model;
 
-/// What each device drives and what is on the bus after the rows of a trace so far, and since when each
-/// line has stood as it does.
+/// What any device knows of the bus after the rows of a trace so far: the lines and since when they stand as they
+/// do, the stage of the bus, what the last row did, and the handshakes of the present phase. It is the same for all
+/// devices, whatever the rows are.
 #[derive(Debug, Drop)]
 pub struct BusView {
-    driven: [Lines; 8],
-    present: Lines,
-    changed: [Ns; 18],
-    data_changed: Ns,
-    last: Ns,
+    lines: LineView,
+    arbitration: Option<Arbitration>,
+    call: Option<Call>,
+    connection: Option<Connection>,
+    effect: RowEffect,
+    handshakes: Handshakes,
 }
 
 impl Model for BusView {
-    ghost use Rattle.bus_lines.specs.View.{View};
+    ghost use Rattle.bus_lines.specs.BusView.{BusViewValue};
+    ghost use Rattle.bus_lines.specs.Calls.{HasDevices};
+    ghost use Rattle.bus_lines.specs.Connections.{HasEnds};
 
-    ghost Value = { View };
+    ghost Value = { BusViewValue };
 
-    ghost view = { λ a. record { driven = a.driven; present = a.present; changed = a.changed; data_changed = a.data_changed; last = a.last } };
+    ghost view = { λ a. record { lines = a.lines; arbitration = a.arbitration; call = a.call; connection = a.connection; effect = a.effect; handshakes = a.handshakes } };
+
+    ghost invariant = { λ a. HasDevices a.call × HasEnds a.connection };
 }
 
 impl BusView {
-    /// The view before any row: no device drives anything, and every line has stood since 0.
+    /// The view before any row: a free bus, on which every line has been false since 0.
     pub fn new() -> BusView
-        ensures trace { IsViewOf [] result }
-        ensures up_to { (time : ℕ) → IsUpTo time result }
-        ensures lines { (line : ℕ) → line < 18 → slice_index result.changed line ≡ 0 }
-        ensures data_lines { result.data_changed ≡ 0 }
-        ensures last { result.last ≡ 0 }
+        ensures trace { IsBusViewOf [] result }
     {
         BusView {
-            driven: [Lines::none(); 8],
-            present: Lines::none(),
-            changed: [0; 18],
-            data_changed: 0,
-            last: 0,
+            lines: LineView::new(),
+            arbitration: None,
+            call: None,
+            connection: None,
+            effect: no_effect(),
+            handshakes: Handshakes::new(),
         }
+    }
+
+    /// The view of the lines, with the times since which each stands as it does.
+    pub fn lines(&self) -> &LineView
+        ensures value { result.now ≡ self.now.lines }
+        ensures trace { (rows : List Row) → IsBusViewOf rows self.now → IsViewOf rows result.now }
+        ensures timely { (end : ℕ) → IsTimely end self.now → AreBefore end result.now }
+    {
+        &self.lines
+    }
+
+    /// What is on the bus.
+    pub fn bus(&self) -> Lines
+        ensures value { result ≡ self.now.lines.present }
+        ensures trace { (rows : List Row) → IsBusViewOf rows self.now → result ≡ bus rows }
+    {
+        self.lines.bus()
     }
 
     /// What this device drives.
     pub fn drives(&self, dev: Dev) -> Lines
         requires { dev < 8 }
-        ensures value { result ≡ driven_at self.now.driven dev }
-        ensures trace { (rows : List Row) → IsViewOf rows self.now → result ≡ drives rows dev }
+        ensures trace { (rows : List Row) → IsBusViewOf rows self.now → result ≡ drives rows dev }
     {
-        self.driven[dev as usize]
+        self.lines.drives(dev)
     }
 
-    /// What is on the bus.
-    pub fn bus(&self) -> Lines
-        ensures value { result ≡ self.now.present }
-        ensures trace { (rows : List Row) → IsViewOf rows self.now → result ≡ bus rows }
-    {
-        self.present
-    }
-
-    /// When the line of this number last changed on the bus, or 0, in nanoseconds.
+    /// When the line of this number last changed on the bus, in ns, or 0.
     pub fn since(&self, line: u8) -> Ns
         requires { line < 18 }
-        ensures value { result ≡ slice_index self.now.changed line }
-        ensures trace { (rows : List Row) → IsViewOf rows self.now → result ≡ since (line_of line) rows }
-        ensures up_to { (time : ℕ) → IsUpTo time self.now → result ≤ time }
+        ensures trace { (rows : List Row) → IsBusViewOf rows self.now → result ≡ since (line_of line) rows }
+        ensures timely { (end : ℕ) → IsTimely end self.now → result < end }
     {
-        self.changed[line as usize]
+        self.lines.since(line)
     }
 
-    /// When BSY last changed.
-    pub fn since_bsy(&self) -> Ns
-        ensures value { result ≡ slice_index self.now.changed 9 }
-        ensures trace { (rows : List Row) → IsViewOf rows self.now → result ≡ since_line (λ s. s.bsy) rows }
-        ensures up_to { (time : ℕ) → IsUpTo time self.now → result ≤ time }
-    {
-        self.since(9)
-    }
-
-    /// When SEL last changed.
-    pub fn since_sel(&self) -> Ns
-        ensures value { result ≡ slice_index self.now.changed 10 }
-        ensures trace { (rows : List Row) → IsViewOf rows self.now → result ≡ since_line (λ s. s.sel) rows }
-        ensures up_to { (time : ℕ) → IsUpTo time self.now → result ≤ time }
-    {
-        self.since(10)
-    }
-
-    /// When C/D last changed.
-    pub fn since_cd(&self) -> Ns
-        ensures value { result ≡ slice_index self.now.changed 11 }
-        ensures trace { (rows : List Row) → IsViewOf rows self.now → result ≡ since_line (λ s. s.cd) rows }
-        ensures up_to { (time : ℕ) → IsUpTo time self.now → result ≤ time }
-    {
-        self.since(11)
-    }
-
-    /// When I/O last changed.
-    pub fn since_io(&self) -> Ns
-        ensures value { result ≡ slice_index self.now.changed 12 }
-        ensures trace { (rows : List Row) → IsViewOf rows self.now → result ≡ since_line (λ s. s.io) rows }
-        ensures up_to { (time : ℕ) → IsUpTo time self.now → result ≤ time }
-    {
-        self.since(12)
-    }
-
-    /// When MSG last changed.
-    pub fn since_msg(&self) -> Ns
-        ensures value { result ≡ slice_index self.now.changed 13 }
-        ensures trace { (rows : List Row) → IsViewOf rows self.now → result ≡ since_line (λ s. s.msg) rows }
-        ensures up_to { (time : ℕ) → IsUpTo time self.now → result ≤ time }
-    {
-        self.since(13)
-    }
-
-    /// When REQ last changed.
-    pub fn since_req(&self) -> Ns
-        ensures value { result ≡ slice_index self.now.changed 14 }
-        ensures trace { (rows : List Row) → IsViewOf rows self.now → result ≡ since_line (λ s. s.req) rows }
-        ensures up_to { (time : ℕ) → IsUpTo time self.now → result ≤ time }
-    {
-        self.since(14)
-    }
-
-    /// When ACK last changed.
-    pub fn since_ack(&self) -> Ns
-        ensures value { result ≡ slice_index self.now.changed 15 }
-        ensures trace { (rows : List Row) → IsViewOf rows self.now → result ≡ since_line (λ s. s.ack) rows }
-        ensures up_to { (time : ℕ) → IsUpTo time self.now → result ≤ time }
-    {
-        self.since(15)
-    }
-
-    /// When ATN last changed.
-    pub fn since_atn(&self) -> Ns
-        ensures value { result ≡ slice_index self.now.changed 16 }
-        ensures trace { (rows : List Row) → IsViewOf rows self.now → result ≡ since_line (λ s. s.atn) rows }
-        ensures up_to { (time : ℕ) → IsUpTo time self.now → result ≤ time }
-    {
-        self.since(16)
-    }
-
-    /// When RST last changed.
-    pub fn since_rst(&self) -> Ns
-        ensures value { result ≡ slice_index self.now.changed 17 }
-        ensures trace { (rows : List Row) → IsViewOf rows self.now → result ≡ since_line (λ s. s.rst) rows }
-        ensures up_to { (time : ℕ) → IsUpTo time self.now → result ≤ time }
-    {
-        self.since(17)
-    }
-
-    /// When DB(7-0) or DB(P) last changed on the bus, or 0.
-    pub fn data_since(&self) -> Ns
-        ensures value { result ≡ self.now.data_changed }
-        ensures trace { (rows : List Row) → IsViewOf rows self.now → result ≡ since data_of rows }
-        ensures up_to { (time : ℕ) → IsUpTo time self.now → result ≤ time }
-    {
-        self.data_changed
-    }
-
-    /// The time of the last row, or 0.
+    /// The time of the last row, in ns, or 0.
     pub fn last_time(&self) -> Ns
-        ensures value { result ≡ self.now.last }
-        ensures trace { (rows : List Row) → IsViewOf rows self.now → result ≡ last_time rows }
-        ensures up_to { (time : ℕ) → IsUpTo time self.now → result ≤ time }
+        ensures trace { (rows : List Row) → IsBusViewOf rows self.now → result ≡ last_time rows }
+        ensures timely { (end : ℕ) → IsTimely end self.now → result < end }
     {
-        self.last
+        self.lines.last_time()
     }
 
-    // What this device drives, where the device of the row drives these lines in place of its own.
-    fn drives_with(&self, dev: Dev, lines: Lines, other: Dev) -> Lines
-        requires dev { dev < 8 }
-        requires other { other < 8 }
-        ensures { (rows : List Row) (row : Row) → IsViewOf rows self.now → row.dev ≡ dev → lines ≡ driven_after row.kind (drives rows dev) → result ≡ drives (row ∷ rows) other }
+    /// The stage of the bus (6.1, 6.2.2).
+    pub fn stage(&self) -> Stage
+        ensures trace { (rows : List Row) → IsBusViewOf rows self.now → result ≡ stage rows }
+        ensures timely { (end : ℕ) → IsTimely end self.now → IsStageBefore end result }
     {
-        if other == dev {
-            lines
-        } else {
-            self.drives(other)
+        if self.lines.bus().rst() {
+            return Stage::InReset(self.lines.since_rst());
         }
+        if let Some(connection) = self.connection {
+            return Stage::InConnection(connection);
+        }
+        if let Some(call) = self.call {
+            return call_stage(call);
+        }
+        if let Some(arbitration) = self.arbitration {
+            return Stage::InArbitration(arbitration);
+        }
+        Stage::OnFreeBus(self.lines.free_since())
     }
 
-    /// What is on the bus once this device drives these lines in place of its own.
-    pub fn bus_with(&self, dev: Dev, lines: Lines) -> Lines
-        requires { dev < 8 }
-        ensures { (rows : List Row) (row : Row) → IsViewOf rows self.now → row.dev ≡ dev → lines ≡ driven_after row.kind (drives rows dev) → result ≡ bus (row ∷ rows) }
+    /// The connection that stands (6.1.3, 6.1.4).
+    pub fn connection(&self) -> Option<Connection>
+        ensures value { result ≡ self.now.connection }
+        ensures trace { (rows : List Row) → IsBusViewOf rows self.now → result ≡ connection rows }
+        ensures timely { (end : ℕ) → IsTimely end self.now → IsConnectionBefore end result }
+        ensures ends { HasEnds result }
     {
-        self.drives_with(dev, lines, 0)
-            .with(self.drives_with(dev, lines, 1))
-            .with(self.drives_with(dev, lines, 2))
-            .with(self.drives_with(dev, lines, 3))
-            .with(self.drives_with(dev, lines, 4))
-            .with(self.drives_with(dev, lines, 5))
-            .with(self.drives_with(dev, lines, 6))
-            .with(self.drives_with(dev, lines, 7))
+        self.connection
+    }
+
+    /// What the last row did; nothing before any row.
+    pub fn effect(&self) -> &RowEffect
+        ensures value { result.now ≡ self.now.effect }
+        ensures trace { (rows : List Row) → IsBusViewOf rows self.now → result.now ≡ effect rows }
+    {
+        &self.effect
+    }
+
+    /// The rises of REQ and ACK in the present phase (6.1.5).
+    pub fn handshakes(&self) -> &Handshakes
+        ensures value { result.now ≡ self.now.handshakes }
+        ensures trace { (rows : List Row) → IsBusViewOf rows self.now → result.now ≡ handshakes rows }
+        ensures timely { (end : ℕ) → IsTimely end self.now → AreHandshakesBefore end result.now }
+    {
+        &self.handshakes
     }
 
     /// One more row. Its time may be any, also before that of the last row.
     pub fn step(&mut self, row: &Row)
         requires { row.now.dev < 8 }
-        ensures trace { (rows : List Row) → IsViewOf rows self.old → IsViewOf (row.now ∷ rows) self.new }
-        // Where no time lay after the row's, none does afterwards.
-        ensures up_to { IsUpTo row.now.time self.old → IsUpTo row.now.time self.new }
-        ensures lines { (line : ℕ) → line < 18 → slice_index self.old.changed line ≤ row.now.time → slice_index self.new.changed line ≤ row.now.time }
-        ensures data_lines { self.old.data_changed ≤ row.now.time → self.new.data_changed ≤ row.now.time }
-        ensures last { self.new.last ≡ row.now.time }
+        ensures trace { (rows : List Row) → IsBusViewOf rows self.old → IsBusViewOf (row.now ∷ rows) self.new }
     {
-        let driven = row.kind.driven_after(self.drives(row.dev));
-        let after = self.bus_with(row.dev, driven);
-        self.step_to(row, after);
-    }
-
-    /// The same, where it is known what is on the bus after the row.
-    pub fn step_to(&mut self, row: &Row, after: Lines)
-        requires { row.now.dev < 8 }
-        ensures trace { (rows : List Row) → IsViewOf rows self.old → after ≡ bus (row.now ∷ rows) → IsViewOf (row.now ∷ rows) self.new }
-        ensures up_to { IsUpTo row.now.time self.old → IsUpTo row.now.time self.new }
-        ensures lines { (line : ℕ) → line < 18 → slice_index self.old.changed line ≤ row.now.time → slice_index self.new.changed line ≤ row.now.time }
-        ensures data_lines { self.old.data_changed ≤ row.now.time → self.new.data_changed ≤ row.now.time }
-        ensures last { self.new.last ≡ row.now.time }
-    {
-        let driven = row.kind.driven_after(self.drives(row.dev));
-        let before = self.present;
-        self.driven[row.dev as usize] = driven;
-        self.present = after;
-        self.data_changed = renewed(before, after, self.data_changed, row.time);
-        renew(&mut self.changed, before, after, row.time);
-        self.last = row.time;
+        let free = self.lines.free_since();
+        let change = change_by(&mut self.lines, row);
+        let stood = self.connection;
+        let stands = connection_after(stood, self.call, &change, row);
+        self.connection = stands;
+        self.arbitration = arbitration_after(self.arbitration, free, &change, row);
+        self.call = call_after(self.call, &change, row);
+        self.handshakes.step(stands, &change, row);
+        self.effect = effect_of(stood, stands, change, row);
     }
 }
 
-fn newest(differs: bool, time: Ns, was: Ns) -> Ns
-    ensures { result ≡ cond differs time was }
+// One more row of the lines: what it changes.
+fn change_by(lines: &mut LineView, row: &Row) -> Change
+    requires { row.now.dev < 8 }
+    ensures lines { (rows : List Row) → IsViewOf rows lines.old → IsViewOf (row.now ∷ rows) lines.new }
+    ensures change { (rows : List Row) → IsViewOf rows lines.old → result ≡ change_of rows row.now }
 {
-    if differs { time } else { was }
-}
-
-// Sets the time of each of these lines that differs.
-#[inline(always)]
-fn renew_between(changed: &mut [Ns; 18], first: u8, end: u8, before: Lines, after: Lines, time: Ns)
-    requires order { first ≤ end }
-    requires few { end ≤ 18 }
-    ensures inside { (line : ℕ) → first ≤ line → line < end → slice_index changed.new line ≡ newer (line_of line) before after (slice_index changed.old line) time }
-    ensures below { (line : ℕ) → line < first → slice_index changed.new line ≡ slice_index changed.old line }
-    ensures above { (line : ℕ) → end ≤ line → slice_index changed.new line ≡ slice_index changed.old line }
-{
-    for k in first..end {
-        // A choice without a branch: the data lines change at random.
-        changed[k as usize] = newest(before.differs(after, k), time, changed[k as usize]);
-    }
-}
-
-// Sets the time of each line that differs. Most rows change no data line.
-fn renew(changed: &mut [Ns; 18], before: Lines, after: Lines, time: Ns)
-    ensures { (line : ℕ) → line < 18 → slice_index changed.new line ≡ newer (line_of line) before after (slice_index changed.old line) time }
-{
-    if before.data_bits() != after.data_bits() {
-        renew_between(changed, 0, 9, before, after, time);
-    }
-    renew_between(changed, 9, 18, before, after, time);
-}
-
-// When a data line last changed.
-fn renewed(before: Lines, after: Lines, was: Ns, time: Ns) -> Ns
-    ensures { result ≡ newer data_of before after was time }
-{
-    if before.data_bits() == after.data_bits() {
-        was
-    } else {
-        time
+    let before = lines.bus();
+    let own = lines.drives(row.dev);
+    let next = row.kind.driven_after(own);
+    lines.step(row);
+    Change {
+        before,
+        after: lines.bus(),
+        own,
+        next,
     }
 }

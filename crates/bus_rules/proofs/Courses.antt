@@ -4,19 +4,19 @@ use Rattle.std.specs.Prelude.{if◌then◌else◌}
 use Rattle.bus_lines.specs.Trace.{since_line}
 use Rattle.bus_lines.specs.declared.Row.{Row}
 use Rattle.bus_lines.specs.declared.agreements.Agreement.{Agreement}
-use Rattle.bus_rules.specs.declared.changes.Change.{Change}
+use Rattle.bus_lines.specs.declared.changes.Change.{Change}
 use Rattle.bus_rules.specs.declared.raises.Raises.{Raises}
-use Rattle.bus_rules.specs.declared.arbitration.Arbitration.{Arbitration}
-use Rattle.bus_rules.specs.declared.selection.Call.{Call}
-use Rattle.bus_rules.specs.declared.connection.Connection.{Connection}
+use Rattle.bus_lines.specs.declared.arbitration.Arbitration.{Arbitration}
+use Rattle.bus_lines.specs.declared.selection.Call.{Call}
+use Rattle.bus_lines.specs.declared.connection.Connection.{Connection}
 use Rattle.bus_rules.specs.declared.pulses.Pulses.{Pulses}
 use Rattle.bus_rules.specs.declared.attention.Duty.{Duty}
 use Rattle.bus_rules.specs.declared.attention.Duty.TheVariants.{Nothing}
 use Rattle.bus_rules.specs.declared.agreements.Agreements.{Agreements}
 use Rattle.bus_rules.specs.declared.dialogue.Dialogue.{Dialogue}
 use Rattle.bus_rules.specs.declared.course.Course.{Course}
-use Rattle.bus_rules.specs.Changes.{change_of}
-use Rattle.bus_rules.specs.Terms.{free_since, connection, arbitration_after, call_after, connection_after, receiver_of}
+use Rattle.bus_lines.specs.Changes.{change_of}
+use Rattle.bus_lines.specs.Terms.{free_since, connection, arbitration_after, call_after, connection_after, receiver_of}
 use Rattle.bus_rules.specs.Phases.{no_pulses, pulses_after, turned_after, is_held, duty_after}
 use Rattle.bus_rules.specs.Dialogue.{asynchronous, opened, closed_by, dialogue_after, agreed}
 use Rattle.bus_rules.specs.Judging.{IsRaisesOf, AreAgreements, IsCourseOf}

@@ -14,31 +14,32 @@ use Rattle.bus_rules.specs.declared.raises.Raises.{Raises}
 use Rattle.bus_lines.specs.declared.agreements.Agreement.{Agreement}
 use Rattle.std.proofs.lemmas.Bool.Decides.{nat_tests}
 use Rattle.bus_lines.specs.Trace.{IsViewOf, drives, driven_after, since, since_line}
-use Rattle.bus_rules.specs.declared.changes.Change.{Change}
-use Rattle.bus_rules.specs.declared.connection.Connection.{Connection}
-use Rattle.bus_rules.specs.declared.selection.Call.{Call}
-use Rattle.bus_rules.specs.declared.selection.Calling.{Calling}
-use Rattle.bus_rules.specs.Calls.{HasDevices, IsCalled}
-use Rattle.bus_rules.specs.Connections.{HasEnds}
+use Rattle.bus_lines.specs.declared.changes.Change.{Change}
+use Rattle.bus_lines.specs.declared.connection.Connection.{Connection}
+use Rattle.bus_lines.specs.declared.selection.Call.{Call}
+use Rattle.bus_lines.specs.declared.selection.Calling.{Calling}
+use Rattle.bus_lines.specs.Calls.{HasDevices, IsCalled}
+use Rattle.bus_lines.specs.Connections.{HasEnds}
 use Rattle.bus_lines.specs.View.{View, driven_at}
 use Rattle.bus_lines.proofs.Ages.{since_line_of, line_io, line_msg, line_cd, line_req, line_ack}
 use Rattle.bus_rules.specs.declared.reading.Reading.TheVariants.{NoMessage}
 use Rattle.bus_rules.specs.declared.seen.Seen.{Seen}
-use Rattle.bus_rules.specs.Changes.{rises, falls, implies, same_phase, raises_none, raises_only, is_within, drives_data}
+use Rattle.bus_lines.specs.Changes.{rises, falls, implies, same_phase, raises_none, raises_only, is_within, drives_data}
 use Rattle.bus_rules.specs.Order.{is_in_order, is_news_of}
 use Rattle.bus_rules.specs.FreeBus.{is_entry, enters_well, contends_well}
 use Rattle.bus_rules.specs.Selection.{others_release, is_left, keeps_winner_of, keeps_calling_of, keeps_answer_of, keeps_end_of, keeps_time_out_of, hands_over, takes_over}
-use Rattle.bus_rules.specs.Terms.{is_fault, free_since, raised, raised_next, arbitration, arbitration_after, call, call_after, call_goes_on, connection, connection_after, receiver_of}
+use Rattle.bus_lines.specs.Terms.{is_fault, free_since, raised, raised_next, arbitration, arbitration_after, call, call_after, call_goes_on, connection, connection_after, receiver_of}
 use Rattle.bus_rules.specs.Dialogue.{asynchronous, agreed, closed_by, dialogue, dialogue_after, byte_crosses, byte_out, byte_in, takes_command, phase_begins}
 use Rattle.bus_rules.specs.Reset.{is_reset, only_rst}
-use Rattle.bus_rules.specs.Phases.{is_held, duty_left, duty_after, no_pulses, pulses_on, pulses_after, turned_after, is_data, is_command, is_message_out, is_message_in, is_reserved, changes_phase}
+use Rattle.bus_lines.specs.Phases.{is_data, is_command, is_message_out, is_message_in, is_reserved, changes_phase}
+use Rattle.bus_rules.specs.Phases.{is_held, duty_left, duty_after, no_pulses, pulses_on, pulses_after, turned_after}
 use Rattle.bus_rules.specs.Connected.{keeps_sides, keeps_lines_of, keeps_turns_of, or_new, has_no_initiator_line, has_no_target_line, raises_data, raises_in_turn, initiator_released_of, waits_for_turn, target_released_of, frees_well}
 use Rattle.bus_rules.specs.Messages.{is_owed, is_none_or_all, is_unknown, is_opening, same_bool, opens_well, may_take}
 use Rattle.bus_rules.specs.Transfer.{crosses, is_pulsed, is_asynchronous, data_stand_since, changes_data, holds_still, is_after, pulses_well, times_of, last_crossing}
 use Rattle.msg_grammar.specs.Messages.{got_out, got_in}
 use Rattle.bus_rules.specs.Reading.{reading_of, reading_out, reading_in}
 use Rattle.bus_rules.specs.Seen.{seen, seen_with, drives_bsy, initiator_called, initiator_of, initiator_data, target_data}
-use Rattle.bus_rules.specs.Changes.{change_of}
+use Rattle.bus_lines.specs.Changes.{change_of}
 use Rattle.bus_rules.specs.Rules.{test, keeps, judged_rules, lowest_broken, broken_rule}
 use Rattle.bus_rules.specs.DataRows.{is_data_row, crosses_in, keeps_side, asks_soon, is_in_turn, has_turned, stand_since, is_shaken, is_pulsed_well, Standing, standing_after, standing_at, may_cross, transfers_well, is_move, passes, passes_of, passes_in, duty_in_data, takes_data, transferred}
 use Rattle.bus_rules.specs.Judging.{IsRaisesOf, IsCourseOf}

@@ -4,16 +4,17 @@ use Rattle.std.specs.Prelude.{not, is_some}
 use Rattle.bus_lines.specs.LineSet.{LineSet, data_of}
 use Rattle.bus_lines.specs.Trace.{last_time, since, since_line, bus, drives, driven_after}
 use Rattle.bus_lines.specs.declared.Row.{Row}
-use Rattle.bus_rules.specs.declared.changes.Change.{Change}
-use Rattle.bus_rules.specs.declared.connection.Connection.{Connection}
+use Rattle.bus_lines.specs.declared.changes.Change.{Change}
+use Rattle.bus_lines.specs.declared.connection.Connection.{Connection}
 use Rattle.bus_rules.specs.declared.course.Course.{Course}
 use Rattle.bus_rules.specs.declared.dialogue.Dialogue.{Dialogue}
 use Rattle.bus_rules.specs.declared.reading.Reading.{Reading}
 use Rattle.bus_rules.specs.declared.seen.Seen.{Seen}
-use Rattle.bus_rules.specs.declared.selection.Call.{Call}
-use Rattle.bus_rules.specs.Changes.{change_of}
-use Rattle.bus_rules.specs.Terms.{raised, connection, free_since}
-use Rattle.bus_rules.specs.Phases.{phase_since, is_held}
+use Rattle.bus_lines.specs.declared.selection.Call.{Call}
+use Rattle.bus_lines.specs.Changes.{change_of}
+use Rattle.bus_lines.specs.Terms.{raised, connection, free_since}
+use Rattle.bus_lines.specs.Phases.{phase_since}
+use Rattle.bus_rules.specs.Phases.{is_held}
 use Rattle.bus_rules.specs.Dialogue.{dialogue}
 use Rattle.bus_rules.specs.Half.{is_nil}
 use Rattle.bus_rules.specs.Reading.{reading_of}

@@ -4,12 +4,13 @@ use Rattle.std.specs.Int.RustNames.{bit_or}
 use Rattle.bus_lines.specs.declared.delays.TheConstants.{BUS_SETTLE_DELAY, DATA_RELEASE_DELAY, TURN_DELAY, DESKEW_DELAY}
 use Rattle.bus_lines.specs.LineSet.{LineSet, none, same_set}
 use Rattle.bus_lines.specs.declared.Row.{Row}
-use Rattle.bus_rules.specs.declared.connection.Connection.{Connection}
-use Rattle.bus_rules.specs.declared.changes.Change.{Change}
+use Rattle.bus_lines.specs.declared.connection.Connection.{Connection}
+use Rattle.bus_lines.specs.declared.changes.Change.{Change}
 use Rattle.bus_rules.specs.declared.seen.Seen.{Seen}
-use Rattle.bus_rules.specs.Changes.{rises, falls, implies, raises_none, drives_data}
-use Rattle.bus_rules.specs.Terms.{connection_after}
-use Rattle.bus_rules.specs.Phases.{is_reserved, changes_phase, turned_after}
+use Rattle.bus_lines.specs.Changes.{rises, falls, implies, raises_none, drives_data}
+use Rattle.bus_lines.specs.Terms.{connection_after}
+use Rattle.bus_lines.specs.Phases.{is_reserved, changes_phase}
+use Rattle.bus_rules.specs.Phases.{turned_after}
 
 -- The connection that stands before the row, or that begins with it.
 abbrev pub or_new : Option Connection → Option Connection → Option Connection

@@ -10,19 +10,20 @@ use Rattle.bus_lines.specs.declared.agreements.TransferTimes.{TransferTimes}
 use Rattle.bus_lines.specs.declared.Row.{Row}
 use Rattle.bus_rules.specs.declared.attention.Duty.{Duty}
 use Rattle.bus_rules.specs.declared.attention.Duty.TheVariants as duties
-use Rattle.bus_rules.specs.declared.changes.Change.{Change}
-use Rattle.bus_rules.specs.declared.connection.Connection.{Connection}
+use Rattle.bus_lines.specs.declared.changes.Change.{Change}
+use Rattle.bus_lines.specs.declared.connection.Connection.{Connection}
 use Rattle.bus_rules.specs.declared.pulses.Pulses.{Pulses}
 use Rattle.bus_rules.specs.declared.spoken.CommandBytes.{CommandBytes}
 use Rattle.bus_rules.specs.declared.course.Course.{Course}
 use Rattle.bus_rules.specs.declared.dialogue.Dialogue.{Dialogue}
-use Rattle.bus_rules.specs.Changes.{rises, falls, implies, same_hold, same_phase, drives_data}
+use Rattle.bus_lines.specs.Changes.{rises, falls, implies, same_hold, same_phase, drives_data}
 use Rattle.bus_rules.specs.Connected.{has_no_initiator_line, has_no_target_line, raises_data}
 use Rattle.bus_rules.specs.Messages.{is_owed, is_none_or_all}
-use Rattle.bus_rules.specs.Phases.{is_data, phase_since, pulses, pulses_on, turned, duty}
+use Rattle.bus_lines.specs.Phases.{is_data, phase_since}
+use Rattle.bus_rules.specs.Phases.{pulses, pulses_on, turned, duty}
 use Rattle.bus_rules.specs.Dialogue.{dialogue}
 use Rattle.bus_rules.specs.Seen.{drives_bsy, initiator_of, initiator_data, target_data}
-use Rattle.bus_rules.specs.Terms.{is_fault, arbitration, call, connection, receiver_of}
+use Rattle.bus_lines.specs.Terms.{is_fault, arbitration, call, connection, receiver_of}
 use Rattle.bus_rules.specs.Transfer.{alternates, changes_data, holds_still, is_after, pulses_well, times_of}
 
 -- ---- what the test asks of the rows before

@@ -18,8 +18,8 @@ use Rattle.msg_grammar.specs.declared.message.MsgOut.TheVariants as to_target
 use Rattle.msg_grammar.specs.declared.message.MsgIn.{MsgIn}
 use Rattle.msg_grammar.specs.declared.message.MsgIn.TheVariants as to_initiator
 use Rattle.msg_grammar.specs.Messages.{got_out, got_in}
-use Rattle.bus_rules.specs.declared.changes.Change.{Change}
-use Rattle.bus_rules.specs.declared.connection.Connection.{Connection}
+use Rattle.bus_lines.specs.declared.changes.Change.{Change}
+use Rattle.bus_lines.specs.declared.connection.Connection.{Connection}
 use Rattle.bus_rules.specs.declared.words.Word.{Word}
 use Rattle.bus_rules.specs.declared.words.Word.TheVariants as words
 use Rattle.bus_rules.specs.declared.words.End.{End}
@@ -28,10 +28,10 @@ use Rattle.bus_rules.specs.declared.spoken.Spoken.{Spoken}
 use Rattle.bus_rules.specs.declared.spoken.CommandBytes.{CommandBytes}
 use Rattle.bus_rules.specs.declared.spoken.Heard.{Heard}
 use Rattle.bus_rules.specs.declared.dialogue.Dialogue.{Dialogue}
-use Rattle.bus_rules.specs.Changes.{change_of}
-use Rattle.bus_rules.specs.Terms.{connection, receiver_of}
+use Rattle.bus_lines.specs.Changes.{change_of}
+use Rattle.bus_lines.specs.Terms.{connection, receiver_of}
 use Rattle.bus_rules.specs.Half.{left_of}
-use Rattle.bus_rules.specs.Phases.{is_message_out, is_message_in, is_command, changes_phase}
+use Rattle.bus_lines.specs.Phases.{is_message_out, is_message_in, is_command, changes_phase}
 
 -- ---- what a message says, as far as the rules ask
 

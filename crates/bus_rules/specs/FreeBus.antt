@@ -3,9 +3,9 @@ use Rattle.std.specs.Prelude.{ℕ, ◌+◌, Bool, true, not, max, ◌&&◌, ◌|
 use Rattle.bus_lines.specs.declared.delays.TheConstants.{ENTRY_DELAY, QUIET_TIME, BUS_SET_DELAY, ARBITRATION_DELAY}
 use Rattle.bus_lines.specs.LineSet.{none, same_set, id_set, has_id_above}
 use Rattle.bus_lines.specs.declared.Row.{Row}
-use Rattle.bus_rules.specs.declared.arbitration.Arbitration.{Arbitration}
+use Rattle.bus_lines.specs.declared.arbitration.Arbitration.{Arbitration}
 use Rattle.bus_rules.specs.declared.seen.Seen.{Seen}
-use Rattle.bus_rules.specs.Changes.{rises, implies, is_within, raises_none, adds}
+use Rattle.bus_lines.specs.Changes.{rises, implies, is_within, raises_none, adds}
 
 -- An entry: the device raises BSY while SEL is false and no connection stands.
 abbrev pub is_entry : Seen → Bool

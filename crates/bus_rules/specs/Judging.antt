@@ -8,7 +8,7 @@ use Rattle.bus_lines.specs.declared.agreements.Agreement.{Agreement}
 use Rattle.bus_lines.specs.View.{View}
 use Rattle.bus_rules.specs.declared.agreements.Agreements.{Agreements}
 use Rattle.bus_rules.specs.declared.course.Course.{Course}
-use Rattle.bus_rules.specs.Terms.{raised, arbitration, call, connection, receiver}
+use Rattle.bus_lines.specs.Terms.{raised, arbitration, call, connection, receiver}
 use Rattle.bus_rules.specs.Phases.{pulses, turned, duty}
 use Rattle.bus_rules.specs.Dialogue.{agreed, dialogue}
 

@@ -1,7 +1,3 @@
-pub mod Changes
-pub mod Terms
-pub mod Calls
-pub mod Connections
 pub mod Phases
 pub mod Half
 pub mod Dialogue

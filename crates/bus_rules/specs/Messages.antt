@@ -3,15 +3,15 @@ use Rattle.std.specs.Prelude.{ℕ, ◌+◌, ◌%◌, Bool, true, false, not, ◌
 use Rattle.bus_lines.specs.declared.delays.TheConstants.{TWO_DESKEW}
 use Rattle.bus_lines.specs.declared.Row.{Row}
 use Rattle.cdb_codec.specs.Cdb.{group_len}
-use Rattle.bus_rules.specs.declared.connection.Connection.{Connection}
+use Rattle.bus_lines.specs.declared.connection.Connection.{Connection}
 use Rattle.bus_rules.specs.declared.spoken.CommandBytes.{CommandBytes}
 use Rattle.bus_rules.specs.declared.reading.Reading.{Reading}
 use Rattle.bus_rules.specs.declared.reading.Reading.TheVariants as readings
 use Rattle.bus_rules.specs.declared.attention.Duty.{Duty}
 use Rattle.bus_rules.specs.declared.attention.Duty.TheVariants as duties
 use Rattle.bus_rules.specs.declared.seen.Seen.{Seen}
-use Rattle.bus_rules.specs.Changes.{rises, falls, implies}
-use Rattle.bus_rules.specs.Phases.{is_data, is_command, is_message_out, is_message_in, changes_phase}
+use Rattle.bus_lines.specs.Changes.{rises, falls, implies}
+use Rattle.bus_lines.specs.Phases.{is_data, is_command, is_message_out, is_message_in, changes_phase}
 use Rattle.bus_rules.specs.Transfer.{crosses}
 
 -- ---- rule 24

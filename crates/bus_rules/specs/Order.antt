@@ -5,8 +5,8 @@ use Rattle.bus_lines.specs.LineSet.{same_set, has_id}
 use Rattle.bus_lines.specs.declared.Row.{Row}
 use Rattle.bus_lines.specs.declared.Kind.{Kind}
 use Rattle.bus_lines.specs.declared.Kind.TheVariants.{Drives, Fault}
-use Rattle.bus_rules.specs.declared.selection.Call.{Call}
-use Rattle.bus_rules.specs.declared.selection.Calling.{Calling}
+use Rattle.bus_lines.specs.declared.selection.Call.{Call}
+use Rattle.bus_lines.specs.declared.selection.Calling.{Calling}
 use Rattle.bus_rules.specs.declared.seen.Seen.{Seen}
 
 -- Rule 1. A time is not below that of the row before.

@@ -1,42 +1,18 @@
--- The phases of a connection, and the pulses of REQ and ACK in them (ANSI X3.131-1994, 6.1.5 to 6.1.9).
-use Rattle.std.specs.Prelude.{ℕ, ◌+◌, Bool, false, not, max, ◌&&◌, ◌||◌, List, [], ◌∷◌, Option, Some, None, nat_le, if◌then◌else◌}
+-- The pulses of REQ and ACK in a phase, and attention (ANSI X3.131-1994, 6.1.5 to 6.1.9).
+use Rattle.std.specs.Prelude.{ℕ, ◌+◌, Bool, false, ◌&&◌, ◌||◌, List, [], ◌∷◌, Option, Some, None, nat_le, if◌then◌else◌}
 use Rattle.bus_base.specs.Faults.{counted_on}
 use Rattle.bus_lines.specs.LineSet.{LineSet}
 use Rattle.bus_lines.specs.Trace.{since_line}
 use Rattle.bus_lines.specs.declared.Row.{Row}
-use Rattle.bus_rules.specs.declared.changes.Change.{Change}
-use Rattle.bus_rules.specs.declared.connection.Connection.{Connection}
+use Rattle.bus_lines.specs.declared.changes.Change.{Change}
+use Rattle.bus_lines.specs.declared.connection.Connection.{Connection}
 use Rattle.bus_lines.specs.declared.delays.TheConstants.{TWO_DESKEW}
 use Rattle.bus_rules.specs.declared.pulses.Pulses.{Pulses}
 use Rattle.bus_rules.specs.declared.attention.Duty.{Duty}
 use Rattle.bus_rules.specs.declared.attention.Duty.TheVariants as duties
-use Rattle.bus_rules.specs.Changes.{rises, falls, change_of, same_phase}
-use Rattle.bus_rules.specs.Terms.{connection, when}
-
--- ---- phases, by the lines MSG, C/D and I/O
-
-abbrev pub is_data : LineSet → Bool
-is_data s = not s.msg && not s.cd
-
-abbrev pub is_reserved : LineSet → Bool
-is_reserved s = s.msg && not s.cd
-
-abbrev pub is_command : LineSet → Bool
-is_command s = not s.msg && s.cd && not s.io
-
-abbrev pub is_message_out : LineSet → Bool
-is_message_out s = s.msg && s.cd && not s.io
-
-abbrev pub is_message_in : LineSet → Bool
-is_message_in s = s.msg && s.cd && s.io
-
--- The phase lines change in this row.
-abbrev pub changes_phase : Change → Bool
-changes_phase c = not (same_phase c.before c.after)
-
--- When the phase lines last changed, or 0.
-abbrev pub phase_since : List Row → ℕ
-phase_since rows = max (max (since_line (λ s. s.msg) rows) (since_line (λ s. s.cd) rows)) (since_line (λ s. s.io) rows)
+use Rattle.bus_lines.specs.Changes.{rises, falls, change_of}
+use Rattle.bus_lines.specs.Phases.{is_message_in, is_message_out, changes_phase}
+use Rattle.bus_lines.specs.Terms.{connection, when}
 
 -- ---- the rises of REQ and ACK in the present phase
 
@@ -75,7 +51,7 @@ abbrev pub turned : List Row → Bool
 turned [] = false
 turned (row ∷ rows) = turned_after (turned rows) (connection rows) (change_of rows row)
 
--- ---- attention (6.1.4 to 6.1.9, 6.5)
+-- ---- attention (6.1.6 to 6.1.9, 6.2.1)
 
 -- What ATN asks of the target: nothing; a MESSAGE OUT phase once the present phase is left; or that the next
 -- REQ is in MESSAGE OUT.

@@ -7,12 +7,12 @@ use Rattle.msg_grammar.specs.declared.message.MsgOut.TheVariants as to_target
 use Rattle.msg_grammar.specs.declared.message.MsgIn.{MsgIn}
 use Rattle.msg_grammar.specs.declared.message.MsgIn.TheVariants as to_initiator
 use Rattle.msg_grammar.specs.Messages.{got_out, got_in}
-use Rattle.bus_rules.specs.declared.changes.Change.{Change}
-use Rattle.bus_rules.specs.declared.connection.Connection.{Connection}
+use Rattle.bus_lines.specs.declared.changes.Change.{Change}
+use Rattle.bus_lines.specs.declared.connection.Connection.{Connection}
 use Rattle.bus_rules.specs.declared.reading.Reading.{Reading}
 use Rattle.bus_rules.specs.declared.reading.Reading.TheVariants as readings
-use Rattle.bus_rules.specs.Terms.{receiver_of}
-use Rattle.bus_rules.specs.Phases.{is_message_out, is_message_in}
+use Rattle.bus_lines.specs.Terms.{receiver_of}
+use Rattle.bus_lines.specs.Phases.{is_message_out, is_message_in}
 
 -- Messages that may come first in a connection: to the target IDENTIFY, ABORT and BUS DEVICE RESET, to the
 -- initiator IDENTIFY.

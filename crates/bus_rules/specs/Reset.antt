@@ -4,7 +4,7 @@ use Rattle.bus_lines.specs.declared.delays.TheConstants.{BUS_CLEAR_DELAY, RESET_
 use Rattle.bus_lines.specs.LineSet.{LineSet, none}
 use Rattle.bus_lines.specs.declared.Row.{Row}
 use Rattle.bus_rules.specs.declared.seen.Seen.{Seen}
-use Rattle.bus_rules.specs.Changes.{rises, falls, implies, is_within, raises_only}
+use Rattle.bus_lines.specs.Changes.{rises, falls, implies, is_within, raises_only}
 
 -- RST is true, or rises in this row.
 abbrev pub is_reset : Seen → Bool

@@ -4,18 +4,19 @@ use Rattle.bus_lines.specs.LineSet.{LineSet, none, same_set, line_of, data_of}
 use Rattle.bus_lines.specs.Trace.{drives, last_time, since, since_line}
 use Rattle.bus_lines.specs.declared.Row.{Row}
 use Rattle.bus_lines.specs.declared.Kind.TheVariants.{Fault}
-use Rattle.bus_rules.specs.declared.changes.Change.{Change}
-use Rattle.bus_rules.specs.declared.selection.Call.{Call}
-use Rattle.bus_rules.specs.declared.selection.Calling.{Calling}
-use Rattle.bus_rules.specs.declared.connection.Connection.{Connection}
+use Rattle.bus_lines.specs.declared.changes.Change.{Change}
+use Rattle.bus_lines.specs.declared.selection.Call.{Call}
+use Rattle.bus_lines.specs.declared.selection.Calling.{Calling}
+use Rattle.bus_lines.specs.declared.connection.Connection.{Connection}
 use Rattle.bus_rules.specs.declared.seen.Seen.{Seen}
 use Rattle.bus_rules.specs.declared.reading.Reading.{Reading}
-use Rattle.bus_rules.specs.Changes.{change_of, drives_data}
-use Rattle.bus_rules.specs.Phases.{phase_since, pulses, turned, duty}
+use Rattle.bus_lines.specs.Changes.{change_of, drives_data}
+use Rattle.bus_lines.specs.Phases.{phase_since}
+use Rattle.bus_rules.specs.Phases.{pulses, turned, duty}
 use Rattle.bus_rules.specs.Dialogue.{dialogue}
 use Rattle.bus_rules.specs.Half.{is_nil}
 use Rattle.bus_rules.specs.Reading.{reading_of}
-use Rattle.bus_rules.specs.Terms.{free_since, raised, arbitration, call, connection, receiver}
+use Rattle.bus_lines.specs.Terms.{free_since, raised, arbitration, call, connection, receiver}
 
 -- A device but this one drives a line.
 abbrev pub other_drives : (ℕ → LineSet) → ℕ → ℕ → Bool

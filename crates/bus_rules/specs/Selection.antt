@@ -4,12 +4,12 @@ use Rattle.std.specs.Int.{bit_at}
 use Rattle.bus_lines.specs.declared.delays.TheConstants.{BUS_CLEAR_DELAY, QUIET_TIME, TWO_DESKEW, BUS_SETTLE_DELAY, SELECTION_TIMEOUT_DELAY, SELECTION_ABORT_TIME}
 use Rattle.bus_lines.specs.LineSet.{LineSet, none, same, same_set, has_id}
 use Rattle.bus_lines.specs.declared.Row.{Row}
-use Rattle.bus_rules.specs.declared.selection.Call.{Call}
-use Rattle.bus_rules.specs.declared.selection.Calling.{Calling}
-use Rattle.bus_rules.specs.declared.connection.Connection.{Connection}
+use Rattle.bus_lines.specs.declared.selection.Call.{Call}
+use Rattle.bus_lines.specs.declared.selection.Calling.{Calling}
+use Rattle.bus_lines.specs.declared.connection.Connection.{Connection}
 use Rattle.bus_rules.specs.declared.seen.Seen.{Seen}
-use Rattle.bus_rules.specs.Changes.{rises, falls, implies, is_within, raises_none, raises_only, releases_bsy, releases_data}
-use Rattle.bus_rules.specs.Terms.{drives_two_ids}
+use Rattle.bus_lines.specs.Changes.{rises, falls, implies, is_within, raises_none, raises_only, releases_bsy, releases_data}
+use Rattle.bus_lines.specs.Terms.{drives_two_ids}
 
 -- That a line is one of a time: at least this long after a moment that has come.
 abbrev pub is_past : Option ℕ → ℕ → ℕ → Bool

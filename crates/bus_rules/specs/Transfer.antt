@@ -5,11 +5,11 @@ use Rattle.bus_lines.specs.LineSet.{LineSet, has_odd_parity}
 use Rattle.bus_lines.specs.Agreements.{transfer_times, slow_times}
 use Rattle.bus_lines.specs.declared.agreements.TransferTimes.{TransferTimes}
 use Rattle.bus_lines.specs.declared.Row.{Row}
-use Rattle.bus_rules.specs.declared.changes.Change.{Change}
+use Rattle.bus_lines.specs.declared.changes.Change.{Change}
 use Rattle.bus_rules.specs.declared.seen.Seen.{Seen}
-use Rattle.bus_rules.specs.Changes.{rises, falls, implies}
-use Rattle.bus_rules.specs.Terms.{receiver_of}
-use Rattle.bus_rules.specs.Phases.{is_data, changes_phase}
+use Rattle.bus_lines.specs.Changes.{rises, falls, implies}
+use Rattle.bus_lines.specs.Terms.{receiver_of}
+use Rattle.bus_lines.specs.Phases.{is_data, changes_phase}
 
 -- A byte crosses in the row.
 abbrev pub crosses : Seen → Bool

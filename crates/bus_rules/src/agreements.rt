@@ -3,10 +3,9 @@ ghost use Rattle.std.specs.Prelude.{ℕ, ◌≡◌, ◌<◌, ◌+◌, ◌*◌, �
 ghost use Rattle.bus_lines.specs.declared.agreements.Agreement.{Agreement};
 ghost use Rattle.bus_rules.specs.Dialogue.{asynchronous, closed};
 
-use crate::connection::Connection;
 use crate::spoken::{Spoken, asynchronous};
 use bus_base::Dev;
-use bus_lines::Agreement;
+use bus_lines::{Agreement, Connection};
 
 /// The agreement of each pair of an initiator and a target.
 #[derive(Clone, Copy, Debug)]

@@ -2,11 +2,11 @@
 ghost use Rattle.std.specs.Prelude.{◌≡◌};
 ghost use Rattle.bus_rules.specs.Phases.{duty_if_held, duty_left, is_held, duty_after};
 
-use crate::changes::{Change, falls, rises};
-use crate::connection::Connection;
-use crate::phases::{changes_phase, is_message_in, is_message_out};
 use bus_base::Ns;
-use bus_lines::{Lines, TWO_DESKEW};
+use bus_lines::{
+    Change, Connection, Lines, TWO_DESKEW, changes_phase, falls, is_message_in, is_message_out,
+    rises,
+};
 
 /// What ATN asks of the target.
 #[derive(Clone, Copy, Debug, PartialEq, Eq)]

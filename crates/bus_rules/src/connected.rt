@@ -1,16 +1,16 @@
 //! Rules 14 to 16 and 27: who drives what in a connection, and its end (ANSI X3.131-1994, 6.1.5 to 6.1.9).
 ghost use Rattle.std.specs.Prelude.{◌≡◌};
-ghost use Rattle.bus_rules.specs.Calls.{HasDevices, IsCalled};
-ghost use Rattle.bus_rules.specs.Connections.{HasEnds};
+ghost use Rattle.bus_lines.specs.Calls.{HasDevices, IsCalled};
+ghost use Rattle.bus_lines.specs.Connections.{HasEnds};
 ghost use Rattle.bus_rules.specs.Connected.{or_new, ends_of, has_no_target_line, has_no_initiator_line, keeps_sides, changes_well, asks_well, keeps_lines, raises_data, raises_in_turn, initiator_released, keeps_turns, keeps_turns_of, io_true_since, waits_for_turn, target_released, keeps_turn_delay, frees_well, keeps_freeing};
 
-use crate::changes::{Change, drives_data, falls, rises};
-use crate::connection::{Connection, connection_after};
-use crate::phases::{changes_phase, is_reserved};
 use crate::pulses::turned_after;
 use crate::seen::Seen;
 use bus_base::{Dev, Ns};
-use bus_lines::{BUS_SETTLE_DELAY, DATA_RELEASE_DELAY, DESKEW_DELAY, Lines, Row, TURN_DELAY};
+use bus_lines::{
+    BUS_SETTLE_DELAY, Change, Connection, DATA_RELEASE_DELAY, DESKEW_DELAY, Lines, Row, TURN_DELAY,
+    changes_phase, connection_after, drives_data, falls, is_reserved, rises,
+};
 
 // The connection that stands before the row, or that begins with it.
 fn ends_of(seen: &Seen, row: &Row) -> Option<Connection>

@@ -5,29 +5,28 @@ ghost use Rattle.bus_rules.specs.Judging.{AreAgreements};
 ghost use Rattle.bus_lines.specs.LineSet.{LineSet};
 ghost use Rattle.bus_lines.specs.declared.Row.{Row};
 ghost use Rattle.bus_lines.specs.Trace.{since_line};
-ghost use Rattle.bus_rules.specs.Calls.{HasDevices, IsCalled};
-ghost use Rattle.bus_rules.specs.Connections.{HasEnds};
-ghost use Rattle.bus_rules.specs.Changes.{change_of};
-ghost use Rattle.bus_rules.specs.Terms.{free_since, call, connection};
+ghost use Rattle.bus_lines.specs.Calls.{HasDevices, IsCalled};
+ghost use Rattle.bus_lines.specs.Connections.{HasEnds};
+ghost use Rattle.bus_lines.specs.Changes.{change_of};
+ghost use Rattle.bus_lines.specs.Terms.{free_since, call, connection};
 ghost use Rattle.bus_rules.specs.Phases.{is_held};
 ghost use Rattle.bus_rules.specs.Dialogue.{asynchronous, closed_by, dialogue};
 ghost use Rattle.bus_rules.specs.Reading.{reading_of};
 ghost use Rattle.bus_rules.specs.DataRows.{transferred};
 
 use crate::agreements::Agreements;
-use crate::arbitration::{Arbitration, arbitration_after};
 use crate::attention::{Duty, duty_after, is_held};
-use crate::changes::Change;
-use crate::connection::{Connection, connection_after, receiver_of};
 use crate::data_rows::{crosses_in, duty_in_data};
 use crate::dialogue::Dialogue;
 use crate::pulses::{Pulses, no_pulses, pulses_after, turned_after};
 use crate::raises::Raises;
 use crate::reading::Reading;
-use crate::selection::{Call, call_after};
 use crate::spoken::{Spoken, asynchronous};
 use bus_base::{Dev, Ns};
-use bus_lines::{Lines, Row};
+use bus_lines::{
+    Arbitration, Call, Change, Connection, Lines, Row, arbitration_after, call_after,
+    connection_after, receiver_of,
+};
 
 /// What stands on the bus after the rows of a trace so far.
 #[derive(Debug, Drop)]
@@ -127,8 +126,8 @@ impl Course {
     }
 }
 
-// The agreements after a row with this bus, before which this connection stood and its messages said this.
-fn agree(agreed: &mut Agreements, connection: Option<Connection>, spoken: Spoken, bus: Lines)
+/// The agreements after a row with this bus, before which this connection stood and its messages said this.
+pub fn agree(agreed: &mut Agreements, connection: Option<Connection>, spoken: Spoken, bus: Lines)
     requires { HasEnds connection }
     ensures { (f : ℕ → ℕ → Agreement) → AreAgreements f agreed.old → AreAgreements (λ i t. if bus.rst then asynchronous else closed_by connection bus.bsy spoken i t (f i t)) agreed.new }
 {

@@ -4,26 +4,23 @@
 //! Few rules ask anything of such a row. A short test tells that it breaks none, and then few terms change; a row
 //! that does not pass it is judged rule by rule.
 ghost use Rattle.std.specs.Prelude.{◌≡◌, ◌<◌, ◌&&◌, is_none, slice_index};
-ghost use Rattle.bus_rules.specs.Calls.{HasDevices};
-ghost use Rattle.bus_rules.specs.Connections.{HasEnds};
+ghost use Rattle.bus_lines.specs.Calls.{HasDevices};
+ghost use Rattle.bus_lines.specs.Connections.{HasEnds};
 ghost use Rattle.bus_rules.specs.Pulsing.{AreTimes};
 ghost use Rattle.bus_rules.specs.DataRows.{same_but_bytes, is_quiet_bus, is_data_row, crosses_in, keeps_side, asks_soon, is_in_turn, has_turned, stand_since, is_shaken, may_ask, keeps_count, last_pulse, is_timed, is_pulsed_well, standing_at, may_cross, transfers_well, turns_well, passes_in, passes_of, is_move, passes, duty_in_data};
 
 use crate::attention::Duty;
-use crate::changes::{Change, drives_data, falls, rises, same_hold, same_phase};
 use crate::connected::{has_no_initiator_line, has_no_target_line, raises_data};
-use crate::connection::Connection;
 use crate::course::Course;
 use crate::message_rules::{is_none_or_all, is_owed};
-use crate::phases::is_data;
 use crate::pulses::Pulses;
-use crate::selection::is_fault;
-use crate::terms::{initiator_bsy, initiator_data, phase_since, target_data};
+use crate::terms::{initiator_bsy, initiator_data, target_data};
 use crate::transfer::{alternates, changes_data, holds_still, is_after, pulses_well, times_of};
 use bus_base::{Dev, Ns};
 use bus_lines::{
-    BUS_SETTLE_DELAY, BusView, DATA_RELEASE_DELAY, DESKEW_DELAY, Lines, Row, SET_UP_TIME,
-    TURN_DELAY, TransferTimes,
+    BUS_SETTLE_DELAY, Change, Connection, DATA_RELEASE_DELAY, DESKEW_DELAY, LineView, Lines, Row,
+    SET_UP_TIME, TURN_DELAY, TransferTimes, drives_data, falls, is_data, is_fault, rises,
+    same_hold, same_phase,
 };
 
 // Whether the two sets are the same but for data lines, REQ and ACK.
@@ -75,7 +72,7 @@ fn keeps_side(connection: &Connection, dev: Dev, lines: Lines) -> bool
 // drives no BSY.
 fn asks_soon(
     connection: &Connection,
-    view: &BusView,
+    view: &LineView,
     course: &Course,
     change: &Change,
     time: Ns,
@@ -87,7 +84,7 @@ fn asks_soon(
     if !rises(change.before.req(), change.after.req()) {
         return true;
     }
-    let since = phase_since(view).max(connection.began);
+    let since = view.phase_since().max(connection.began);
     time.saturating_sub(since) >= BUS_SETTLE_DELAY
         && !is_owed(course.duty)
         && !initiator_bsy(view, course.call, course.connection)
@@ -100,7 +97,7 @@ fn is_in_turn(is_target: bool, change: &Change) -> bool
 }
 
 // Whether the end whose turn it is drives data lines alone, and waited for the other.
-fn has_turned(view: &BusView, course: &Course, is_target: bool, change: &Change, time: Ns) -> bool
+fn has_turned(view: &LineView, course: &Course, is_target: bool, change: &Change, time: Ns) -> bool
     requires { HasEnds course.now.connection }
     ensures { result ≡ has_turned (standing_at view.now course.now) is_target change.now time }
 {
@@ -113,7 +110,7 @@ fn has_turned(view: &BusView, course: &Course, is_target: bool, change: &Change,
     }
 }
 
-fn turns_well(view: &BusView, course: &Course, is_target: bool, change: &Change, time: Ns) -> bool
+fn turns_well(view: &LineView, course: &Course, is_target: bool, change: &Change, time: Ns) -> bool
     requires { HasEnds course.now.connection }
     ensures { result ≡ turns_well (standing_at view.now course.now) is_target change.now time }
 {
@@ -165,7 +162,7 @@ fn last_pulse(pulses: &Pulses, change: &Change) -> Option<Ns>
 
 fn is_timed(
     times: TransferTimes,
-    view: &BusView,
+    view: &LineView,
     pulses: &Pulses,
     change: &Change,
     time: Ns,
@@ -195,7 +192,7 @@ fn is_timed(
     )) && ((!crosses_in(change) || age >= times.set_up) && (!changes_data(change) || held))
 }
 
-fn is_pulsed_well(view: &BusView, course: &Course, change: &Change, time: Ns) -> bool
+fn is_pulsed_well(view: &LineView, course: &Course, change: &Change, time: Ns) -> bool
     requires { 0 < course.now.dialogue.heard.now.agreement.offset }
     ensures { result ≡ is_pulsed_well course.now.dialogue.heard.now.agreement course.now.pulses change.now (slice_index view.now.changed 14) (slice_index view.now.changed 15) view.now.data_changed time }
 {
@@ -210,7 +207,7 @@ fn is_pulsed_well(view: &BusView, course: &Course, change: &Change, time: Ns) ->
         )
 }
 
-fn transfers_well(view: &BusView, course: &Course, change: &Change, time: Ns) -> bool
+fn transfers_well(view: &LineView, course: &Course, change: &Change, time: Ns) -> bool
     ensures { result ≡ transfers_well (standing_at view.now course.now) change.now time }
 {
     if course.dialogue.heard.now.agreement.offset == 0 {
@@ -220,7 +217,7 @@ fn transfers_well(view: &BusView, course: &Course, change: &Change, time: Ns) ->
     }
 }
 
-fn may_cross(view: &BusView, course: &Course, change: &Change) -> bool
+fn may_cross(view: &LineView, course: &Course, change: &Change) -> bool
     ensures { result ≡ may_cross (standing_at view.now course.now) change.now }
 {
     let spoken = &course.dialogue.heard.now;
@@ -232,7 +229,7 @@ fn may_cross(view: &BusView, course: &Course, change: &Change) -> bool
 
 fn passes_in(
     connection: &Connection,
-    view: &BusView,
+    view: &LineView,
     course: &Course,
     change: &Change,
     row: &Row,
@@ -254,7 +251,7 @@ fn is_move(change: &Change, row: &Row) -> bool
     !is_fault(row.kind) && !change.own.same(change.next)
 }
 
-fn passes_of(view: &BusView, course: &Course, change: &Change, row: &Row) -> bool
+fn passes_of(view: &LineView, course: &Course, change: &Change, row: &Row) -> bool
     requires devices { HasDevices course.now.call }
     requires ends { HasEnds course.now.connection }
     ensures { result ≡ passes_of (standing_at view.now course.now) change.now row.now course.now.connection }
@@ -273,7 +270,7 @@ fn is_alone(course: &Course) -> bool
 }
 
 /// Whether a row that changes this passes the short test: it breaks no rule.
-pub fn passes(view: &BusView, course: &Course, change: &Change, row: &Row) -> bool
+pub fn passes(view: &LineView, course: &Course, change: &Change, row: &Row) -> bool
     requires devices { HasDevices course.now.call }
     requires ends { HasEnds course.now.connection }
     ensures { result ≡ passes (standing_at view.now course.now) change.now row.now }

@@ -1,24 +1,24 @@
 //! The messages of a connection, byte by byte (ANSI X3.131-1994, 6.6).
 ghost use Rattle.std.specs.Prelude.{ℕ, ◌≡◌, ◌<◌, ◌∷◌, [], ◌++◌, Option, IsTrue, is_some};
 ghost use Rattle.msg_grammar.specs.Messages.{got_out, got_in};
-ghost use Rattle.bus_rules.specs.declared.connection.Connection.{Connection};
-ghost use Rattle.bus_rules.specs.Terms.{receiver_of};
+ghost use Rattle.bus_lines.specs.declared.connection.Connection.{Connection};
+ghost use Rattle.bus_lines.specs.Terms.{receiver_of};
 ghost use Rattle.bus_lines.specs.declared.agreements.Agreement.{Agreement};
-ghost use Rattle.bus_rules.specs.Connections.{HasEnds};
+ghost use Rattle.bus_lines.specs.Connections.{HasEnds};
 ghost use Rattle.bus_rules.specs.Judging.{AreAgreements};
 ghost use Rattle.bus_rules.specs.Reading.{reading_of, reading_out, reading_in};
 ghost use Rattle.bus_rules.specs.DataRows.{takes_data};
 ghost use Rattle.bus_rules.specs.Dialogue.{asynchronous, opened, heard_out, heard_in, if_begins, byte_out, byte_in, byte_else, byte_crosses, phase_begins, dialogue_on, dialogue_after};
 
 use crate::agreements::Agreements;
-use crate::changes::Change;
-use crate::connection::{Connection, receiver_of};
 use crate::half::Half;
-use crate::phases::{changes_phase, is_command, is_message_in, is_message_out};
 use crate::reading::{Reading, reading_in, reading_out};
 use crate::spoken::{Heard, asynchronous, begins_in, hears_in, hears_out, silent, takes_command};
 use crate::words::{word_in, word_out};
-use bus_lines::{Agreement, Lines};
+use bus_lines::{
+    Agreement, Change, Connection, Lines, changes_phase, is_command, is_message_in, is_message_out,
+    receiver_of,
+};
 use msg_grammar::{Got, MsgIn, MsgOut};
 
 /// The messages of the connection that stands.

@@ -2,10 +2,11 @@
 ghost use Rattle.std.specs.Prelude.{◌≡◌, ◌<◌};
 ghost use Rattle.bus_rules.specs.FreeBus.{is_entry, is_contender, is_idle, keeps_off, is_cleared, keeps_free_bus, free_before, is_soon, enters_well, contends_well, keeps_arbitration, raises_sel, keeps_turn, wins_well};
 
-use crate::changes::{is_within, rises};
 use crate::seen::Seen;
 use bus_base::Ns;
-use bus_lines::{ARBITRATION_DELAY, BUS_SET_DELAY, ENTRY_DELAY, Lines, QUIET_TIME, Row};
+use bus_lines::{
+    ARBITRATION_DELAY, BUS_SET_DELAY, ENTRY_DELAY, Lines, QUIET_TIME, Row, is_within, rises,
+};
 
 // Whether the device raises BSY while SEL is false and no connection stands.
 fn is_entry(seen: &Seen) -> bool

@@ -40,6 +40,15 @@ impl Half {
         self.bytes.is_empty()
     }
 
+    /// The same bytes.
+    pub fn copy(&self) -> Half
+        ensures { result ≡ self.now }
+    {
+        let mut bytes = ArrayVec::new();
+        let _ = bytes.try_extend_from_slice(self.bytes.as_slice());
+        Half { bytes }
+    }
+
     /// Forgets the bytes.
     pub fn clear(&mut self)
         ensures { self.new ≡ [] }

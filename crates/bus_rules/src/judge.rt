@@ -4,8 +4,8 @@ ghost use Rattle.std.specs.List.{AllByRecursion};
 ghost use Rattle.bus_lines.specs.OfTrace.{IsRow};
 ghost use Rattle.bus_rules.specs.Rules.{broken_rule, broken_at_end, judged_whole};
 ghost use Rattle.bus_rules.specs.Seen.{seen, end_row};
-ghost use Rattle.bus_rules.specs.Calls.{HasDevices};
-ghost use Rattle.bus_rules.specs.Connections.{HasEnds};
+ghost use Rattle.bus_lines.specs.Calls.{HasDevices};
+ghost use Rattle.bus_lines.specs.Connections.{HasEnds};
 
 use crate::rules::{lowest_at_end, lowest_broken};
 use crate::seen::Seen;

@@ -1,9 +1,10 @@
 //! The rules that any trace of the bus has to obey, and a judge of traces (ANSI X3.131-1994, clause 6).
 //!
-//! `specs/Terms.antt` says what stands on the bus after some rows, lawful or not: an arbitration, a call
-//! (selection or reselection), a connection, a byte that crosses. `specs/Order.antt`, `FreeBus.antt`,
-//! `Selection.antt` and `Reset.antt` have one test a rule, of a row after the rows before it, and
-//! `specs/Rules.antt` the rules by their numbers. It stands on `bus_lines` and `bus_base`.
+//! What stands on the bus after some rows, lawful or not, is said by `bus_lines`: an arbitration, a call
+//! (selection or reselection), a connection, a byte that crosses. `specs/Phases.antt` and `Dialogue.antt` go
+//! on from there. `specs/Order.antt`, `FreeBus.antt`, `Selection.antt` and `Reset.antt` have one test a rule,
+//! of a row after the rows before it, and `specs/Rules.antt` the rules by their numbers. It stands on
+//! `bus_lines` and `bus_base`.
 //!
 //! Its contract: [`broken`] and [`broken_end`] are the lowest rule that a row, or the end, breaks;
 //! [`judge_plain`] is the first broken row of a trace with its lowest rule. [`Terms`] are the terms of
@@ -11,11 +12,8 @@
 #![tactic(auto)]
 
 mod agreements;
-mod arbitration;
 mod attention;
-mod changes;
 mod connected;
-mod connection;
 mod course;
 mod data_rows;
 mod dialogue;
@@ -25,14 +23,12 @@ mod judge;
 mod laws;
 mod message_rules;
 mod order;
-mod phases;
 mod pulses;
 mod raises;
 mod reading;
 mod reset;
 mod rules;
 mod seen;
-mod selection;
 mod selection_rules;
 mod spoken;
 mod terms;
@@ -40,18 +36,20 @@ mod transfer;
 mod verdict;
 mod words;
 
-pub use arbitration::Arbitration;
+pub use agreements::Agreements;
 pub use bus_base::{Dev, Ns};
-pub use bus_lines::{Kind, Lines, Row};
-pub use changes::Change;
-pub use connection::Connection;
+pub use bus_lines::{Arbitration, Call, Calling, Change, Connection, Kind, Lines, Row};
+pub use course::agree;
+pub use dialogue::Dialogue;
+pub use half::Half;
 pub use judge::{broken, broken_end, end_row, judge_plain};
 pub use laws::{broken_rules_are_lowest, verdicts_are_first};
 pub use rules::{lowest_at_end, lowest_broken};
 pub use seen::Seen;
-pub use selection::{Call, Calling};
+pub use spoken::asynchronous;
 pub use terms::Terms;
 pub use verdict::{RuleNo, Verdict};
+pub use words::End;
 
 #[cfg(test)]
 mod tests;

@@ -1,12 +1,11 @@
 //! Rules 1 and 2: what holds of any row.
 ghost use Rattle.std.specs.Prelude.{◌≡◌, ◌<◌, Some};
-ghost use Rattle.bus_rules.specs.Calls.{HasDevices, IsCalled};
+ghost use Rattle.bus_lines.specs.Calls.{HasDevices, IsCalled};
 ghost use Rattle.bus_rules.specs.Order.{is_in_order, is_device, strikes_byte, strikes_ids, strikes_ids_of, is_news};
 
 use crate::seen::Seen;
-use crate::selection::Calling;
 use bus_base::{Dev, Ns};
-use bus_lines::{BUS_SETTLE_DELAY, Kind, Row};
+use bus_lines::{BUS_SETTLE_DELAY, Calling, Kind, Row};
 
 /// Rule 1: a time is not below that of the row before.
 pub fn is_in_order(seen: &Seen, time: Ns) -> bool

@@ -2,11 +2,8 @@
 ghost use Rattle.std.specs.Prelude.{◌≡◌};
 ghost use Rattle.bus_rules.specs.Phases.{counted, no_pulses, pulses_on, pulses_after, turned_after};
 
-use crate::changes::{Change, rises};
-use crate::connection::Connection;
-use crate::phases::changes_phase;
-use crate::selection::when;
 use bus_base::Ns;
+use bus_lines::{Change, Connection, changes_phase, rises, when};
 
 /// How often REQ and ACK have risen in the present phase, and when they last did, in ns. A count stays at the
 /// last u64.

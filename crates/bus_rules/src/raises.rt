@@ -3,11 +3,11 @@ ghost use Rattle.std.specs.Prelude.{◌≡◌, ◌<◌, [], ◌∷◌, Bool, Lis
 ghost use Rattle.bus_lines.specs.LineSet.{LineSet};
 ghost use Rattle.bus_lines.specs.declared.Row.{Row};
 ghost use Rattle.bus_lines.specs.Trace.{drives, driven_after};
-ghost use Rattle.bus_rules.specs.Changes.{rises};
-ghost use Rattle.bus_rules.specs.Terms.{raised, raised_next};
+ghost use Rattle.bus_lines.specs.Changes.{rises};
+ghost use Rattle.bus_lines.specs.Terms.{raised, raised_next};
 
-use crate::changes::rises;
 use bus_base::{Dev, Ns};
+use bus_lines::rises;
 
 /// When each of the eight devices last raised a line, or 0, in ns.
 #[derive(Clone, Copy, Debug)]

@@ -2,10 +2,9 @@
 ghost use Rattle.std.specs.Prelude.{◌≡◌};
 ghost use Rattle.bus_rules.specs.Reset.{is_reset, raises_rst_alone, is_quiet_in_reset, holds_reset, keeps_reset};
 
-use crate::changes::{falls, is_within, rises};
 use crate::seen::Seen;
 use bus_base::Ns;
-use bus_lines::{BUS_CLEAR_DELAY, Lines, RESET_HOLD_TIME, Row};
+use bus_lines::{BUS_CLEAR_DELAY, Lines, RESET_HOLD_TIME, Row, falls, is_within, rises};
 
 /// Whether RST is true, or rises in this row.
 pub fn is_reset(seen: &Seen) -> bool

@@ -1,7 +1,7 @@
 //! The rules by their numbers.
 ghost use Rattle.std.specs.Prelude.{◌≡◌, ◌<◌, [], ◌∷◌};
-ghost use Rattle.bus_rules.specs.Calls.{HasDevices, IsCalled};
-ghost use Rattle.bus_rules.specs.Connections.{HasEnds};
+ghost use Rattle.bus_lines.specs.Calls.{HasDevices, IsCalled};
+ghost use Rattle.bus_lines.specs.Connections.{HasEnds};
 ghost use Rattle.bus_rules.specs.Rules.{lowest_broken, lowest_at_end, first_broken, test};
 
 use crate::connected::{

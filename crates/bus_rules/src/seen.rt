@@ -1,14 +1,10 @@
 //! What a row meets.
-use crate::arbitration::Arbitration;
 use crate::attention::Duty;
-use crate::changes::Change;
-use crate::connection::Connection;
 use crate::pulses::Pulses;
 use crate::reading::Reading;
-use crate::selection::Call;
 use crate::spoken::CommandBytes;
 use bus_base::{Dev, Ns};
-use bus_lines::Agreement;
+use bus_lines::{Agreement, Arbitration, Call, Change, Connection};
 
 /// What a row meets: all that the rules ask of the rows before it. Times are in ns, 0 where the trace
 /// has nothing of the kind.

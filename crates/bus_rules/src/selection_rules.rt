@@ -1,15 +1,13 @@
 //! Rules 7 to 13: selection and reselection (ANSI X3.131-1994, 6.1.3 and 6.1.4).
 ghost use Rattle.std.specs.Prelude.{◌≡◌, ◌<◌, Some};
-ghost use Rattle.bus_rules.specs.Calls.{HasDevices, IsCalled};
+ghost use Rattle.bus_lines.specs.Calls.{HasDevices, IsCalled};
 ghost use Rattle.bus_rules.specs.Selection.{is_past, has_no_answer, answers_to, is_left, others_release, keeps_losers_off, keeps_winner_of, keeps_winner, calls_exactly, calls_well, keeps_calling_of, keeps_calling, drives_answer, has_settled, answers_well, may_raise, keeps_answer_to, keeps_answer_of, keeps_answer, releases_sel, has_only_data_and_atn, ends_call_well, keeps_end_to, keeps_end_of, keeps_end, gives_up_well, keeps_time_out_to, keeps_time_out_of, keeps_time_out, hands_over_to, hands_over, takes_over, keeps_reselection};
 
-use crate::changes::{falls, is_within, rises};
 use crate::seen::Seen;
-use crate::selection::{Call, Calling, drives_two_ids};
 use bus_base::{Dev, Ns};
 use bus_lines::{
-    BUS_CLEAR_DELAY, BUS_SETTLE_DELAY, Lines, QUIET_TIME, Row, SELECTION_ABORT_TIME,
-    SELECTION_TIMEOUT_DELAY, TWO_DESKEW,
+    BUS_CLEAR_DELAY, BUS_SETTLE_DELAY, Call, Calling, Lines, QUIET_TIME, Row, SELECTION_ABORT_TIME,
+    SELECTION_TIMEOUT_DELAY, TWO_DESKEW, drives_two_ids, falls, is_within, rises,
 };
 
 // Whether a moment has come, and this long passed since.

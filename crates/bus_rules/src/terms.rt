@@ -1,44 +1,39 @@
 //! The terms of the rules, row by row.
-ghost use Rattle.std.specs.Prelude.{true, max, slice_index, ◌≡◌, ◌<◌, ◌∷◌, [], List};
+ghost use Rattle.std.specs.Prelude.{true, ◌≡◌, ◌<◌, ◌∷◌, [], List};
 ghost use Rattle.bus_lines.specs.LineSet.{LineSet, line_of};
 ghost use Rattle.bus_lines.specs.declared.Row.{Row};
 ghost use Rattle.bus_lines.specs.View.{driven_at};
 ghost use Rattle.bus_lines.specs.Trace.{IsViewOf, drives, since};
-ghost use Rattle.bus_rules.specs.Calls.{HasDevices, IsCalled};
-ghost use Rattle.bus_rules.specs.Connections.{HasEnds};
-ghost use Rattle.bus_rules.specs.Terms.{free_since};
-ghost use Rattle.bus_rules.specs.Phases.{phase_since};
+ghost use Rattle.bus_lines.specs.Calls.{HasDevices, IsCalled};
+ghost use Rattle.bus_lines.specs.Connections.{HasEnds};
 ghost use Rattle.bus_rules.specs.Judging.{IsCourseOf};
-ghost use Rattle.bus_rules.specs.Changes.{change_of};
+ghost use Rattle.bus_lines.specs.Changes.{change_of};
 ghost use Rattle.bus_rules.specs.Rules.{broken_rule};
 ghost use Rattle.bus_rules.specs.DataRows.{standing_after, passes};
 ghost use Rattle.bus_rules.specs.Seen.{seen, seen_with, other_drives, others_drive, others_in_call, id_since, id_since_calling, initiator_called, initiator_of, drives_bsy, initiator_data, target_data};
 
 use crate::attention::is_held;
-use crate::changes::{Change, drives_data};
-use crate::connection::Connection;
 use crate::course::Course;
 use crate::data_rows::passes;
 use crate::reading::Reading;
 use crate::rules::lowest_broken;
 use crate::seen::Seen;
-use crate::selection::Call;
 use crate::verdict::RuleNo;
 use bus_base::{Dev, Ns};
-use bus_lines::{BusView, Row};
+use bus_lines::{Call, Change, Connection, LineView, Row, drives_data};
 use std::marker::Model;
 
 /// The terms of the rules after the rows of a trace so far, whatever they are.
 #[derive(Debug, Drop)]
 pub struct Terms {
-    view: BusView,
+    view: LineView,
     course: Course,
 }
 
 impl Model for Terms {
     ghost use Rattle.bus_rules.specs.Judging.{Running};
-    ghost use Rattle.bus_rules.specs.Calls.{HasDevices};
-    ghost use Rattle.bus_rules.specs.Connections.{HasEnds};
+    ghost use Rattle.bus_lines.specs.Calls.{HasDevices};
+    ghost use Rattle.bus_lines.specs.Connections.{HasEnds};
 
     ghost Value = { Running };
 
@@ -47,7 +42,7 @@ impl Model for Terms {
     ghost invariant = { λ a. HasDevices a.course.call × HasEnds a.course.connection };
 }
 
-fn other_drives(view: &BusView, dev: Dev, other: Dev) -> bool
+fn other_drives(view: &LineView, dev: Dev, other: Dev) -> bool
     requires { other < 8 }
     ensures { (rows : List Row) → IsViewOf rows view.now → result ≡ other_drives (drives rows) dev other }
 {
@@ -55,7 +50,7 @@ fn other_drives(view: &BusView, dev: Dev, other: Dev) -> bool
 }
 
 // Whether a device but this one drives a line.
-fn others_drive(view: &BusView, dev: Dev) -> bool
+fn others_drive(view: &LineView, dev: Dev) -> bool
     ensures { (rows : List Row) → IsViewOf rows view.now → result ≡ others_drive (drives rows) dev }
 {
     other_drives(view, dev, 0)
@@ -68,7 +63,7 @@ fn others_drive(view: &BusView, dev: Dev) -> bool
         || other_drives(view, dev, 7)
 }
 
-fn others_in_call(view: &BusView, call: Option<Call>) -> bool
+fn others_in_call(view: &LineView, call: Option<Call>) -> bool
     ensures { (rows : List Row) → IsViewOf rows view.now → result ≡ others_in_call (drives rows) call }
 {
     match call {
@@ -78,7 +73,7 @@ fn others_in_call(view: &BusView, call: Option<Call>) -> bool
 }
 
 // Since when the ID of the called device stands as it does.
-fn id_since(view: &BusView, call: Option<Call>) -> Ns
+fn id_since(view: &LineView, call: Option<Call>) -> Ns
     requires { HasDevices call }
     ensures { (rows : List Row) → IsViewOf rows view.now → result ≡ id_since rows call }
 {
@@ -107,7 +102,7 @@ fn initiator_of(call: Option<Call>, connection: Option<Connection>) -> Option<De
 }
 
 /// Whether the initiator drives BSY.
-pub fn initiator_bsy(view: &BusView, call: Option<Call>, connection: Option<Connection>) -> bool
+pub fn initiator_bsy(view: &LineView, call: Option<Call>, connection: Option<Connection>) -> bool
     requires devices { HasDevices call }
     requires ends { HasEnds connection }
     ensures value { result ≡ drives_bsy (driven_at view.now.driven) (initiator_of call connection) }
@@ -120,7 +115,7 @@ pub fn initiator_bsy(view: &BusView, call: Option<Call>, connection: Option<Conn
 }
 
 /// Whether the initiator of the connection drives data lines.
-pub fn initiator_data(view: &BusView, connection: Option<Connection>) -> bool
+pub fn initiator_data(view: &LineView, connection: Option<Connection>) -> bool
     requires { HasEnds connection }
     ensures value { result ≡ initiator_data (driven_at view.now.driven) connection }
     ensures trace { (rows : List Row) → IsViewOf rows view.now → result ≡ initiator_data (drives rows) connection }
@@ -132,7 +127,7 @@ pub fn initiator_data(view: &BusView, connection: Option<Connection>) -> bool
 }
 
 /// Whether the target of the connection drives data lines.
-pub fn target_data(view: &BusView, connection: Option<Connection>) -> bool
+pub fn target_data(view: &LineView, connection: Option<Connection>) -> bool
     requires { HasEnds connection }
     ensures value { result ≡ target_data (driven_at view.now.driven) connection }
     ensures trace { (rows : List Row) → IsViewOf rows view.now → result ≡ target_data (drives rows) connection }
@@ -143,21 +138,6 @@ pub fn target_data(view: &BusView, connection: Option<Connection>) -> bool
     }
 }
 
-// Since when BSY, SEL and RST stand as they do.
-fn free_since(view: &BusView) -> Ns
-    ensures { (rows : List Row) → IsViewOf rows view.now → result ≡ free_since rows }
-{
-    view.since_bsy().max(view.since_sel()).max(view.since_rst())
-}
-
-/// When the phase lines last changed.
-pub fn phase_since(view: &BusView) -> Ns
-    ensures value { result ≡ max (max (slice_index view.now.changed 13) (slice_index view.now.changed 11)) (slice_index view.now.changed 12) }
-    ensures trace { (rows : List Row) → IsViewOf rows view.now → result ≡ phase_since rows }
-{
-    view.since_msg().max(view.since_cd()).max(view.since_io())
-}
-
 impl Terms {
     ghost use Rattle.bus_rules.specs.Judging.{IsTermsOf};
 
@@ -166,7 +146,7 @@ impl Terms {
         ensures { IsTermsOf [] result }
     {
         Terms {
-            view: BusView::new(),
+            view: LineView::new(),
             course: Course::new(),
         }
     }
@@ -247,7 +227,7 @@ impl Terms {
 }
 
 // What a row of this device meets that changes this.
-fn met(view: &BusView, course: &Course, dev: Dev, change: Change) -> Seen
+fn met(view: &LineView, course: &Course, dev: Dev, change: Change) -> Seen
     requires device { dev < 8 }
     requires devices { HasDevices course.now.call }
     requires ends { HasEnds course.now.connection }
@@ -270,14 +250,14 @@ fn met(view: &BusView, course: &Course, dev: Dev, change: Change) -> Seen
         target_data: target_data(view, course.connection),
         receiver: course.receiver,
         arbitration: course.arbitration,
-        free_since: free_since(view),
+        free_since: view.free_since(),
         call: course.call,
         connection: course.connection,
         io_since: view.since_io(),
         req_since: view.since_req(),
         ack_since: view.since_ack(),
         atn_since: view.since_atn(),
-        phase_since: phase_since(view),
+        phase_since: view.phase_since(),
         data_since: view.data_since(),
         pulses: course.pulses,
         turned: course.turned,

@@ -3,14 +3,11 @@ ghost use Rattle.std.specs.Prelude.{◌≡◌, ◌<◌};
 ghost use Rattle.bus_rules.specs.Transfer.{crosses, has_parity, is_pulsed, is_asynchronous, data_stand_since, changes_data, alternates, keeps_handshake, keeps_set_up, holds_still, keeps_data, keeps_offset, times_of, is_after, pulses_well, last_crossing, pulses_of, keeps_pulses, leaves_well};
 ghost use Rattle.bus_rules.specs.Pulsing.{AreTimes};
 
-use crate::changes::{Change, falls, rises};
-use crate::connection::receiver_of;
-use crate::phases::{changes_phase, is_data};
 use crate::seen::Seen;
 use bus_base::Ns;
 use bus_lines::{
-    ASSERTION_PERIOD, DATA_HOLD, Lines, NEGATION_PERIOD, Row, SET_UP_TIME, TransferTimes,
-    transfer_times,
+    ASSERTION_PERIOD, Change, DATA_HOLD, Lines, NEGATION_PERIOD, Row, SET_UP_TIME, TransferTimes,
+    changes_phase, falls, is_data, receiver_of, rises, transfer_times,
 };
 
 /// Whether a byte crosses in the row.

@@ -1,5 +1,5 @@
 use Rattle.std.proofs.Common.{◌≡◌, true, ◌∷◌, ◌∙◌, ap, subst, sym}
-use Rattle.bus_rules.specs.declared.changes.Change.{Change}
+use Rattle.bus_lines.specs.declared.changes.Change.{Change}
 use Rattle.bus_rules.specs.declared.course.Course.{Course}
 use Rattle.bus_rules.specs.DataRows.{passes, standing_after, transferred}
 use Rattle.bus_rules.specs.Judging.{Running, IsTermsOf, IsCourseOf}

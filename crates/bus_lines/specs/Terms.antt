@@ -1,17 +1,17 @@
--- The terms of the rules: what stands on the bus after some rows, lawful or not (ANSI X3.131-1994,
+-- What stands on the bus after some rows, lawful or not: the terms of the rules, and what devices go by (ANSI X3.131-1994,
 -- clause 6.1). The newest row stands first; each term goes on by one step a row.
 use Rattle.std.specs.Prelude.{ℕ, Bool, true, false, not, max, ◌&&◌, ◌||◌, ◌==◌, List, [], ◌∷◌, Option, Some, None, if◌then◌else◌}
 use Rattle.bus_lines.specs.LineSet.{LineSet, has_id, ids_in}
 use Rattle.bus_lines.specs.Trace.{drives, driven_after, since_line}
-use Rattle.bus_lines.specs.declared.Row.{Row}
-use Rattle.bus_lines.specs.declared.Kind.{Kind}
-use Rattle.bus_lines.specs.declared.Kind.TheVariants.{Drives, Fault}
-use Rattle.bus_rules.specs.declared.changes.Change.{Change}
-use Rattle.bus_rules.specs.declared.arbitration.Arbitration.{Arbitration}
-use Rattle.bus_rules.specs.declared.selection.Call.{Call}
-use Rattle.bus_rules.specs.declared.selection.Calling.{Calling}
-use Rattle.bus_rules.specs.declared.connection.Connection.{Connection}
-use Rattle.bus_rules.specs.Changes.{rises, falls, change_of}
+use Rattle.bus_lines.specs.declared.rows.Row.{Row}
+use Rattle.bus_lines.specs.declared.rows.Kind.{Kind}
+use Rattle.bus_lines.specs.declared.rows.Kind.TheVariants.{Drives, Fault}
+use Rattle.bus_lines.specs.declared.changes.Change.{Change}
+use Rattle.bus_lines.specs.declared.arbitration.Arbitration.{Arbitration}
+use Rattle.bus_lines.specs.declared.selection.Call.{Call}
+use Rattle.bus_lines.specs.declared.selection.Calling.{Calling}
+use Rattle.bus_lines.specs.declared.connection.Connection.{Connection}
+use Rattle.bus_lines.specs.Changes.{rises, falls, change_of}
 
 -- ---- times
 

@@ -1,8 +1,8 @@
 //! What a row changes.
 ghost use Rattle.std.specs.Prelude.{◌≡◌};
-ghost use Rattle.bus_rules.specs.Changes.{rises, falls, is_within, raises_none, raises_only, adds, releases_bsy, same_hold, same_phase, same_transfer, same_control, releases_data, drives_data};
+ghost use Rattle.bus_lines.specs.Changes.{rises, falls, is_within, raises_none, raises_only, adds, releases_bsy, same_hold, same_phase, same_transfer, same_control, releases_data, drives_data};
 
-use bus_lines::Lines;
+use crate::line_set::Lines;
 
 /// What a row changes, on the bus and at its device.
 #[derive(Clone, Copy, Debug)]

@@ -1,7 +1,7 @@
 -- The devices that a call names are of the bus.
 use Rattle.std.specs.Prelude.{◌<◌, Option, Some, None, ⊤}
-use Rattle.bus_rules.specs.declared.selection.Call.{Call}
-use Rattle.bus_rules.specs.declared.selection.Calling.{Calling}
+use Rattle.bus_lines.specs.declared.selection.Call.{Call}
+use Rattle.bus_lines.specs.declared.selection.Calling.{Calling}
 
 abbrev pub IsCalled : Option Calling → Type 0
 IsCalled None = ⊤

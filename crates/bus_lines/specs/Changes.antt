@@ -2,8 +2,8 @@
 use Rattle.std.specs.Prelude.{Bool, true, not, ◌&&◌, ◌||◌, ◌==◌, List, ◌∷◌}
 use Rattle.bus_lines.specs.LineSet.{LineSet, none, union, same, same_set}
 use Rattle.bus_lines.specs.Trace.{bus, drives, driven_after}
-use Rattle.bus_lines.specs.declared.Row.{Row}
-use Rattle.bus_rules.specs.declared.changes.Change.{Change}
+use Rattle.bus_lines.specs.declared.rows.Row.{Row}
+use Rattle.bus_lines.specs.declared.changes.Change.{Change}
 
 -- A line goes from false to true, or from true to false.
 abbrev pub rises : Bool → Bool → Bool

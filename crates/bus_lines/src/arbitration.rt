@@ -1,10 +1,11 @@
 //! Arbitration (ANSI X3.131-1994, 6.1.2).
 ghost use Rattle.std.specs.Prelude.{◌≡◌};
-ghost use Rattle.bus_rules.specs.Terms.{is_free, arbitration_after};
+ghost use Rattle.bus_lines.specs.Terms.{is_free, arbitration_after};
 
 use crate::changes::Change;
+use crate::line_set::Lines;
+use crate::rows::Row;
 use bus_base::Ns;
-use bus_lines::{Lines, Row};
 
 /// An arbitration that stands.
 #[derive(Clone, Copy, Debug)]

@@ -1,13 +1,13 @@
 //! Connections, and the bytes that cross in them (ANSI X3.131-1994, 6.1.3 to 6.1.5).
 ghost use Rattle.std.specs.Prelude.{◌≡◌, ◌<◌};
-ghost use Rattle.bus_rules.specs.Terms.{connected, connected_by, connected_of, connection_of, connection_after, receiver_in, receiver_of};
-ghost use Rattle.bus_rules.specs.Calls.{HasDevices, IsCalled};
-ghost use Rattle.bus_rules.specs.Connections.{HasEnds};
+ghost use Rattle.bus_lines.specs.Terms.{connected, connected_by, connected_of, connection_of, connection_after, receiver_in, receiver_of};
+ghost use Rattle.bus_lines.specs.Calls.{HasDevices, IsCalled};
+ghost use Rattle.bus_lines.specs.Connections.{HasEnds};
 
 use crate::changes::{Change, falls, rises};
+use crate::rows::Row;
 use crate::selection::{Call, Calling};
 use bus_base::{Dev, Ns};
-use bus_lines::Row;
 
 /// A connection that stands.
 #[derive(Clone, Copy, Debug)]

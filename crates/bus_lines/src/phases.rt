@@ -1,9 +1,9 @@
 //! The information transfer phases, by the lines MSG, C/D and I/O (ANSI X3.131-1994, 6.1.5).
 ghost use Rattle.std.specs.Prelude.{◌≡◌};
-ghost use Rattle.bus_rules.specs.Phases.{is_data, is_reserved, is_command, is_message_out, is_message_in, changes_phase};
+ghost use Rattle.bus_lines.specs.Phases.{is_data, is_reserved, is_command, is_message_out, is_message_in, changes_phase};
 
 use crate::changes::{Change, same_phase};
-use bus_lines::Lines;
+use crate::line_set::Lines;
 
 /// Whether the phase is DATA OUT or DATA IN.
 pub fn is_data(lines: Lines) -> bool

@@ -1,11 +1,12 @@
 //! Selection and reselection (ANSI X3.131-1994, 6.1.3 and 6.1.4).
 ghost use Rattle.std.specs.Prelude.{◌≡◌, ◌<◌, IfSome};
-ghost use Rattle.bus_rules.specs.Terms.{is_fault, drives_two_ids, is_other_id, other_id, new_calling, when, caller_goes_on, called_goes_on, calling_after, call_goes_on, call_after};
-ghost use Rattle.bus_rules.specs.Calls.{HasDevices, IsCalled};
+ghost use Rattle.bus_lines.specs.Terms.{is_fault, drives_two_ids, is_other_id, other_id, new_calling, when, caller_goes_on, called_goes_on, calling_after, call_goes_on, call_after};
+ghost use Rattle.bus_lines.specs.Calls.{HasDevices, IsCalled};
 
 use crate::changes::{Change, falls, rises};
+use crate::line_set::Lines;
+use crate::rows::{Kind, Row};
 use bus_base::{Dev, Ns};
-use bus_lines::{Kind, Lines, Row};
 
 /// The caller's row that drives two IDs, and what came of it. Times are in ns.
 #[derive(Clone, Copy, Debug)]

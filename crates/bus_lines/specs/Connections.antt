@@ -1,6 +1,6 @@
 -- The devices of a connection are of the bus.
 use Rattle.std.specs.Prelude.{◌<◌, Option, Some, None, ⊤}
-use Rattle.bus_rules.specs.declared.connection.Connection.{Connection}
+use Rattle.bus_lines.specs.declared.connection.Connection.{Connection}
 
 abbrev pub HasEnds : Option Connection → Type 0
 HasEnds None = ⊤

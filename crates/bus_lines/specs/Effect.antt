@@ -1,0 +1,32 @@
+-- What the last row did (ANSI X3.131-1994, 6.1).
+use Rattle.std.specs.Prelude.{false, List, [], ◌∷◌, Option, None}
+use Rattle.bus_lines.specs.LineSet.{none}
+use Rattle.bus_lines.specs.declared.rows.Row.{Row}
+use Rattle.bus_lines.specs.declared.changes.Change.{Change}
+use Rattle.bus_lines.specs.declared.connection.Connection.{Connection}
+use Rattle.bus_lines.specs.declared.effect.RowEffect.{RowEffect}
+use Rattle.bus_lines.specs.Changes.{change_of}
+use Rattle.bus_lines.specs.Terms.{is_fault, connection, receiver_of}
+
+abbrev pub no_effect : RowEffect
+no_effect = record {
+  change = record { before = none; after = none; own = none; next = none };
+  before = None;
+  after = None;
+  receiver = None;
+  fault = false;
+}
+
+-- A byte crosses in the connection that stands before the row.
+abbrev pub effect_of : Option Connection → Option Connection → Change → Row → RowEffect
+effect_of before after c row = record {
+  change = c;
+  before = before;
+  after = after;
+  receiver = receiver_of before c;
+  fault = is_fault row.kind;
+}
+
+abbrev pub effect : List Row → RowEffect
+effect [] = no_effect
+effect (row ∷ rows) = effect_of (connection rows) (connection (row ∷ rows)) (change_of rows row) row
