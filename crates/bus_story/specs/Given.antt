@@ -2,8 +2,8 @@
 use Rattle.std.specs.Prelude.{ℕ, ◌&&◌, ◌==◌, List, Option, Some, None, if◌then◌else◌}
 use Rattle.bus_lines.specs.declared.agreements.Agreement.{Agreement}
 use Rattle.bus_lines.specs.declared.Row.{Row}
-use Rattle.bus_rules.specs.declared.connection.Connection.{Connection}
-use Rattle.bus_rules.specs.Terms.{connection}
+use Rattle.bus_lines.specs.declared.connection.Connection.{Connection}
+use Rattle.bus_lines.specs.Terms.{connection}
 use Rattle.bus_rules.specs.Dialogue.{agreed, dialogue}
 
 -- In the connection that stands, what its messages have said so far; else what earlier connections agreed.

@@ -28,14 +28,13 @@ abbrev pub count_item : List Item → Item → ℕ
 count_item [] item = 0
 count_item (i ∷ items) item = if same_item i item then count_item items item + 1 else count_item items item
 
--- What the initiators have sent, what is over, and in which order commands ended with CHECK CONDITION; unanswered
--- callings, and the item of each device's last entry.
+-- What the initiators have sent, what is over, and in which order commands ended with CHECK CONDITION; and unanswered
+-- callings.
 pub record Sent : Type 0 where
   pub sent : List Item
   pub over : List Item
   pub checks : List ℕ
   pub tries : List Item
-  pub aims : List (Option Item)
 
 abbrev pub command : ℕ → Item
 command n = process (record { command = n; sense = false })

@@ -1,3 +1,4 @@
+pub mod Agreed
 pub mod Wires
 pub mod Items
 pub mod Carried

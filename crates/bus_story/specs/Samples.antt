@@ -4,11 +4,11 @@ use Rattle.std.specs.List.{find}
 use Rattle.bus_lines.specs.declared.Row.{Row}
 use Rattle.bus_lines.specs.declared.Kind.{Kind}
 use Rattle.bus_lines.specs.declared.Kind.TheVariants.{Drives, Fault}
-use Rattle.bus_rules.specs.declared.changes.Change.{Change}
-use Rattle.bus_rules.specs.declared.selection.Call.{Call}
-use Rattle.bus_rules.specs.declared.selection.Calling.{Calling}
-use Rattle.bus_rules.specs.Changes.{rises, falls, change_of}
-use Rattle.bus_rules.specs.Terms.{call, receiver}
+use Rattle.bus_lines.specs.declared.changes.Change.{Change}
+use Rattle.bus_lines.specs.declared.selection.Call.{Call}
+use Rattle.bus_lines.specs.declared.selection.Calling.{Calling}
+use Rattle.bus_lines.specs.Changes.{rises, falls, change_of}
+use Rattle.bus_lines.specs.Terms.{call, receiver}
 use Rattle.scenario.specs.declared.value.HostDef.{HostDef}
 use Rattle.scenario.specs.declared.value.TargetDef.{TargetDef}
 use Rattle.scenario.specs.declared.value.FaultDef.{FaultDef}

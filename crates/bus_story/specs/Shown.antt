@@ -6,9 +6,9 @@ use Rattle.bus_base.specs.declared.Event.{Event}
 use Rattle.bus_base.specs.declared.Event.TheVariants as events
 use Rattle.bus_lines.specs.LineSet.{LineSet}
 use Rattle.bus_lines.specs.declared.Row.{Row}
-use Rattle.bus_rules.specs.declared.changes.Change.{Change}
-use Rattle.bus_rules.specs.Changes.{rises}
-use Rattle.bus_rules.specs.Phases.{is_command, is_message_in, changes_phase}
+use Rattle.bus_lines.specs.declared.changes.Change.{Change}
+use Rattle.bus_lines.specs.Changes.{rises}
+use Rattle.bus_lines.specs.Phases.{is_command, is_message_in, changes_phase}
 use Rattle.scenario.specs.declared.value.AbortDef.{AbortDef}
 use Rattle.scenario.specs.Value.{ScenarioValue}
 use Rattle.disk_array.specs.Play.{play}
@@ -23,7 +23,7 @@ carried_if b None = None
 carried_if b (Some (process id)) = Some (carried_of b.carried id)
 carried_if b (Some (abort k)) = None
 
--- ---- a command arrives (6.5.2, 6.7.1)
+-- ---- a command arrives (6.1.6, 7.8)
 
 -- The command block stands whole, and no fault struck it, as COMMAND is left. At a full queue the command is refused.
 abbrev pub arrival : ScenarioValue → List Event → ProcId → Event
@@ -33,7 +33,7 @@ abbrev pub arrivals : ScenarioValue → Story → Option Carried → LineSet →
 arrivals s b None before = []
 arrivals s b (Some k) before = if is_command before && stands k then arrival s b.history k.id ∷ [] else []
 
--- ---- the first STATUS phase of a process that was not refused (6.6.17, 7.3)
+-- ---- the first STATUS phase of a process that was not refused (7.3)
 
 abbrev pub is_refuse : Event → Bool
 is_refuse (events.Refuse id) = true
@@ -52,7 +52,7 @@ statuses (Some k) after arrived =
 abbrev pub turns : ScenarioValue → Story → Option Carried → Change → List Event
 turns s b k c = statuses k c.after (arrivals s b k c.before)
 
--- ---- the initiator takes COMMAND COMPLETE (6.6.2)
+-- ---- the initiator takes COMMAND COMPLETE (6.6.5)
 
 abbrev pub is_complete : Last → Bool
 is_complete complete = true

@@ -25,6 +25,8 @@ pub data Ending : Type 0 where
 pub record Story : Type 0 where
   pub wires : Wires
   pub sent : Sent
+  -- what each device last entered arbitration for
+  pub aims : List (Option Item)
   pub link : Option Link
   pub carried : List Carried
   pub ended : List (ℕ × Ending)
@@ -34,7 +36,8 @@ pub record Story : Type 0 where
 abbrev pub silent : Story
 silent = record {
   wires = quiet;
-  sent = record { sent = []; over = []; checks = []; tries = []; aims = replicate 8 None };
+  sent = record { sent = []; over = []; checks = []; tries = [] };
+  aims = replicate 8 None;
   link = None;
   carried = [];
   ended = [];

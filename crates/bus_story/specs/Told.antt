@@ -6,11 +6,11 @@ use Rattle.bus_base.specs.declared.Event.{Event}
 use Rattle.bus_lines.specs.declared.Row.{Row}
 use Rattle.bus_lines.specs.declared.Kind.{Kind}
 use Rattle.bus_lines.specs.declared.Kind.TheVariants.{Drives, Fault}
-use Rattle.bus_rules.specs.declared.changes.Change.{Change}
-use Rattle.bus_rules.specs.declared.selection.Call.{Call}
-use Rattle.bus_rules.specs.declared.selection.Calling.{Calling}
-use Rattle.bus_rules.specs.declared.connection.Connection.{Connection}
-use Rattle.bus_rules.specs.Changes.{rises, falls}
+use Rattle.bus_lines.specs.declared.changes.Change.{Change}
+use Rattle.bus_lines.specs.declared.selection.Call.{Call}
+use Rattle.bus_lines.specs.declared.selection.Calling.{Calling}
+use Rattle.bus_lines.specs.declared.connection.Connection.{Connection}
+use Rattle.bus_lines.specs.Changes.{rises, falls}
 use Rattle.msg_grammar.specs.declared.message.MsgOut.{MsgOut}
 use Rattle.msg_grammar.specs.declared.message.MsgOut.TheVariants as to_target
 use Rattle.msg_grammar.specs.declared.message.MsgIn.{MsgIn}
@@ -39,7 +39,7 @@ is_host hosts dev = list_any (λ (h : HostDef). h.dev == dev) hosts
 
 abbrev pub aims : ScenarioValue → Story → Row → Story
 aims s b row =
-    record b { sent = record b.sent { aims = slice_set b.sent.aims row.dev (if is_host s.hosts row.dev then item_at s b.sent row.dev row.time else None) } }
+    record b { aims = slice_set b.aims row.dev (if is_host s.hosts row.dev then item_at s b.sent row.dev row.time else None) }
 
 abbrev pub retries_of : List HostDef → ℕ → ℕ
 retries_of [] dev = 0
@@ -64,7 +64,7 @@ tries s b dev (Some item) =
 abbrev pub missed_by : ScenarioValue → Story → ℕ → Option Calling → Story
 missed_by s b dev None = b
 missed_by s b dev (Some k) =
-    if is_none k.answered && not k.reselects then tries s b dev (aim_of b.sent.aims dev) else b
+    if is_none k.answered && not k.reselects then tries s b dev (aim_of b.aims dev) else b
 
 abbrev pub missed : ScenarioValue → Story → Option Call → Story
 missed s b None = b
@@ -90,7 +90,7 @@ sends_item b (Some item) = record b { sent = record b.sent { sent = item ∷ b.s
 abbrev pub connects : Story → Connection → Story
 connects b n =
     if n.reselected then record b { link = Some (link_of n None) }
-    else restores_item (sends_item (record b { link = Some (link_of n (aim_of b.sent.aims n.initiator)) }) (aim_of b.sent.aims n.initiator)) (aim_of b.sent.aims n.initiator)
+    else restores_item (sends_item (record b { link = Some (link_of n (aim_of b.aims n.initiator)) }) (aim_of b.aims n.initiator)) (aim_of b.aims n.initiator)
 
 -- ---- in a connection: messages
 
@@ -130,8 +130,9 @@ abbrev pub carried_on : Option Carried → Doing → Option Carried
 carried_on None d = None
 carried_on (Some k) d = Some (carries k d.change.before (d.change.after.data_bits % 256))
 
+-- A byte is carried in COMMAND, DATA and STATUS alone; one of a message changes nothing here.
 abbrev pub carries_byte : Story → Link → Doing → Story
-carries_byte b l d = with_if b (carried_on (carried_if b l.item) d)
+carries_byte b l d = if d.change.before.msg then b else with_if b (carried_on (carried_if b l.item) d)
 
 abbrev pub struck_on : Option Carried → Option Change → Option Carried
 struck_on None c = None

@@ -9,13 +9,14 @@ use Rattle.msg_grammar.specs.declared.message.Got.TheVariants.{Whole, More, Unkn
 use Rattle.msg_grammar.specs.declared.message.MsgOut.{MsgOut}
 use Rattle.msg_grammar.specs.declared.message.MsgIn.{MsgIn}
 use Rattle.msg_grammar.specs.Messages.{got_out, got_in}
-use Rattle.bus_rules.specs.declared.changes.Change.{Change}
-use Rattle.bus_rules.specs.declared.selection.Call.{Call}
-use Rattle.bus_rules.specs.declared.connection.Connection.{Connection}
+use Rattle.bus_lines.specs.declared.changes.Change.{Change}
+use Rattle.bus_lines.specs.declared.selection.Call.{Call}
+use Rattle.bus_lines.specs.declared.connection.Connection.{Connection}
 use Rattle.bus_rules.specs.declared.dialogue.Dialogue.{Dialogue}
-use Rattle.bus_rules.specs.Terms.{call_after, connection_after, receiver_of}
-use Rattle.bus_rules.specs.Phases.{is_message_out, is_message_in}
+use Rattle.bus_lines.specs.Terms.{call_after, connection_after, receiver_of}
+use Rattle.bus_lines.specs.Phases.{is_message_out, is_message_in}
 use Rattle.bus_rules.specs.Dialogue.{asynchronous, opened, dialogue_after, fresh_bytes}
+use Rattle.bus_story.specs.Agreed.{Agreed, agreed_in, closes}
 
 pub record Wires : Type 0 where
   -- what each device drives, and the union
@@ -23,12 +24,14 @@ pub record Wires : Type 0 where
   pub bus : LineSet
   pub call : Option Call
   pub connection : Option Connection
+  -- what its messages have said, and what those of earlier connections have agreed on
   pub dialogue : Dialogue
+  pub agreed : List Agreed
   -- the change of the last row, where a byte crossed in it
   pub crossed : Option Change
 
 abbrev pub quiet : Wires
-quiet = record { driven = replicate 8 none; bus = none; call = None; connection = None; dialogue = opened asynchronous; crossed = None }
+quiet = record { driven = replicate 8 none; bus = none; call = None; connection = None; dialogue = opened asynchronous; agreed = []; crossed = None }
 
 -- What a row does: what it changes, the connection after it, and the messages that it makes whole, bytes that were
 -- begun anew being left out.
@@ -60,21 +63,21 @@ whole_in (Whole m n) = Some m
 whole_in More = None
 whole_in Unknown = None
 
-abbrev pub message_out : Wires → Change → Bool → Option MsgOut
-message_out w c true = if is_message_out c.before then whole_out (got_out (fresh_bytes w.dialogue ++ c.after.data_bits % 256 ∷ [])) else None
-message_out w c false = None
+abbrev pub message_out : Dialogue → Change → Bool → Option MsgOut
+message_out d c true = if is_message_out c.before then whole_out (got_out (fresh_bytes d ++ c.after.data_bits % 256 ∷ [])) else None
+message_out d c false = None
 
-abbrev pub message_in : Wires → Change → Bool → Option MsgIn
-message_in w c true = if is_message_in c.before then whole_in (got_in (w.dialogue.half ++ c.after.data_bits % 256 ∷ [])) else None
-message_in w c false = None
+abbrev pub message_in : Dialogue → Change → Bool → Option MsgIn
+message_in d c true = if is_message_in c.before then whole_in (got_in (d.half ++ c.after.data_bits % 256 ∷ [])) else None
+message_in d c false = None
 
 abbrev pub doing_with : Wires → Row → Change → Bool → Doing
 doing_with w row c crosses = record {
   change = c;
   next = connection_after w.connection w.call c row;
   crosses = crosses;
-  out = message_out w c crosses;
-  into = message_in w c crosses;
+  out = message_out w.dialogue c crosses;
+  into = message_in w.dialogue c crosses;
 }
 
 abbrev pub doing_of : Wires → Row → Change → Doing
@@ -89,6 +92,7 @@ wires_after w row d = record {
   bus = d.change.after;
   call = call_after w.call d.change row;
   connection = d.next;
-  dialogue = dialogue_after w.dialogue w.connection d.next (λ i t. asynchronous) d.change;
+  dialogue = dialogue_after w.dialogue w.connection d.next (λ i t. agreed_in w.agreed i t) d.change;
+  agreed = if d.change.after.rst then [] else closes w.agreed w.connection d.change.after.bsy w.dialogue.heard.now;
   crossed = if d.crosses then Some d.change else None;
 }

@@ -1,12 +1,13 @@
 //! What the rows of a scenario's trace tell: its history, how each command ended, and what each process carried.
 //!
 //! No device stands here, only rows and the scenario. `specs/Wires.antt` has the bus and the messages on it,
-//! `specs/Items.antt` what an initiator sends next, `specs/Links.antt` to which process a connection belongs,
-//! `specs/Carried.antt` the bytes of a process by its pointers, `specs/Story.antt` what is known after some rows and what
-//! an event does to it, `specs/Shown.antt` the events of a row, `specs/Told.antt` the whole, row by row,
-//! `specs/Samples.antt` what faults strike, `specs/Outcomes.antt` how commands ended, `specs/Right.antt` what belongs
-//! together, and `specs/Budget.antt` a bound on steps. It stands on `bus_rules`, `scenario` and `disk_array`. There is no code here but for laws: each is the contract
-//! of a function that does nothing.
+//! `specs/Agreed.antt` the agreements that last, `specs/Items.antt` what an initiator sends next, `specs/Links.antt` to
+//! which process a connection belongs, `specs/Carried.antt` the bytes of a process by its pointers, `specs/Story.antt`
+//! what is known after some rows and what an event does to it, `specs/Shown.antt` the events of a row,
+//! `specs/Told.antt` the whole, row by row, `specs/Samples.antt` what faults strike, `specs/Outcomes.antt` how commands
+//! ended, `specs/Right.antt` what belongs together, and `specs/Budget.antt` a bound on steps. It stands on `bus_rules`,
+//! `scenario` and `disk_array`. There is no code here but for laws: each is the contract of a function that does
+//! nothing.
 #![tactic(auto)]
 
 ghost use Rattle.std.specs.Prelude.{◌≡◌, List, [], ◌∷◌, ◌++◌};

@@ -31,7 +31,7 @@ check sense = record { status = 0x02; bytes = []; sense = sense }
 abbrev pub queue_full : Reply
 queue_full = record { status = 0x28; bytes = []; sense = no_sense }
 
--- The senses of our checks (7.2.14.3).
+-- The senses of our checks (8.2.14.3).
 abbrev pub bad_opcode : Sense
 bad_opcode = sense_of 0x05 0x20 0x00
 

@@ -1,4 +1,4 @@
--- Which waiting process may run, and which is chosen (6.7, 6.7.2, 6.6.18 to 6.6.20).
+-- Which waiting process may run, and which is chosen (6.6.17, 7.8.2).
 use Rattle.std.specs.Prelude.{ℕ, ◌+◌, Bool, true, false, not, ◌&&◌, ◌||◌, ◌==◌, List, [], ◌∷◌, ◌++◌, Option, Some, None, Result, Ok, Err, nat_lt, if◌then◌else◌}
 use Rattle.std.specs.List.{list_any}
 use Rattle.bus_base.specs.declared.events.Pick.{Pick}

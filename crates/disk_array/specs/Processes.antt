@@ -1,4 +1,4 @@
--- Processes: the commands of a scenario, and their automatic REQUEST SENSE (ANSI X3.131-1994, 6.7 and 7.6).
+-- Processes: the commands of a scenario, and their automatic REQUEST SENSE (ANSI X3.131-1994, 7.6 and 7.8).
 use Rattle.std.specs.Prelude.{ℕ, zero, suc, ◌+◌, ◌%◌, Bool, true, false, ◌&&◌, ◌==◌, List, [], ◌∷◌, Option, Some, None, if◌then◌else◌}
 use Rattle.bus_base.specs.declared.ProcId.{ProcId}
 use Rattle.scenario.specs.declared.value.CmdDef.{CmdDef}

@@ -24,7 +24,7 @@ pub enum MsgOut {
     ClearQueue,
     /// BUS DEVICE RESET (6.6.3): ends all that the target does.
     DeviceReset,
-    /// INITIATOR DETECTED ERROR (6.6.9): asks for a retry, and ends nothing.
+    /// INITIATOR DETECTED ERROR (6.6.10): asks for a retry, and ends nothing.
     DetectedError,
     /// MESSAGE PARITY ERROR (6.6.13): a byte of the last message had wrong parity.
     ParityError,
