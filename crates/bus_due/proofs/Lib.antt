@@ -1,8 +1,13 @@
 mod Cases
+mod Hearings
 mod Items
 mod Leasts
+mod Owns
 mod Plains
+mod Reactions
 mod Rights
 mod Runs
+mod SeamCases
+mod Seams
 mod Stills
 mod Traces

@@ -4,8 +4,7 @@ use Rattle.bus_base.specs.declared.ProcId.{ProcId}
 use Rattle.bus_lines.specs.LineSet.{LineSet}
 use Rattle.bus_lines.specs.View.{driven_at}
 use Rattle.bus_lines.specs.declared.agreements.Agreement.{Agreement}
-use Rattle.bus_rules.specs.declared.arbitration.Arbitration.{Arbitration}
-use Rattle.bus_rules.specs.declared.dialogue.Dialogue.{Dialogue}
+use Rattle.bus_lines.specs.declared.arbitration.Arbitration.{Arbitration}
 use Rattle.scenario.specs.declared.value.FaultDef.{FaultDef}
 use Rattle.scenario.specs.Value.{ScenarioValue}
 use Rattle.disk_array.specs.Processes.{Process, process_of}
@@ -14,11 +13,11 @@ use Rattle.bus_story.specs.Items.{Item, process, abort}
 use Rattle.bus_story.specs.Links.{Link}
 use Rattle.bus_story.specs.Carried.{Carried, carried_of}
 use Rattle.bus_story.specs.Story.{Story}
-use Rattle.bus_due.specs.Ages.{Ages}
+use Rattle.bus_reactions.specs.declared.sight.Ages.{Ages}
 use Rattle.bus_due.specs.Own.{Own}
-use Rattle.bus_due.specs.Rises.{Rises}
-use Rattle.bus_due.specs.Talk.{Talk}
-use Rattle.bus_due.specs.Books.{Agreed, Met, Progress}
+use Rattle.bus_lines.specs.Handshakes.{Handshakes}
+use Rattle.bus_dialogue.specs.Talk.{Talk}
+use Rattle.bus_due.specs.Books.{Met, Progress}
 
 pub record Kept : Type 0 where
   -- what the rows tell, and the plain disk array that their history leaves
@@ -32,11 +31,11 @@ pub record Kept : Type 0 where
   pub owns : List Own
   pub arbitration : Option Arbitration
   -- the connection that stands
-  pub rises : Rises
-  pub dialogue : Dialogue
+  pub handshakes : Handshakes
   pub talk : Talk
+  -- what its target serves: the initiator knows it by its own item, or by the names that it hears
+  pub served : Option Item
   -- what lasts
-  pub agreed : List Agreed
   pub met : Met
   pub progress : List Progress
   -- the faults that have not struck yet, in order of time, then of their lines
@@ -59,7 +58,7 @@ array_of s k = or_start s k.array
 
 -- The agreement that holds in the connection.
 abbrev pub agreement_of : Kept → Agreement
-agreement_of k = k.dialogue.heard.now.agreement
+agreement_of k = k.story.wires.dialogue.heard.now.agreement
 
 -- The process of the connection.
 abbrev pub item_of : Option Link → Option Item
@@ -73,6 +72,10 @@ process_item s (Some (abort n)) = None
 
 abbrev pub process_here : ScenarioValue → Kept → Option Process
 process_here s k = process_item s (item_of k.story.link)
+
+-- The process that its target serves.
+abbrev pub process_served : ScenarioValue → Kept → Option Process
+process_served s k = process_item s k.served
 
 abbrev pub carried_here : Kept → ProcId → Carried
 carried_here k id = carried_of k.story.carried id

@@ -1,16 +1,10 @@
 -- All that is kept, row by row.
-use Rattle.std.specs.Prelude.{ℕ, ◌+◌, ◌-◌, Bool, true, false, not, ◌&&◌, List, [], ◌∷◌, drop, length, replicate, Option, Some, None, if◌then◌else◌}
+use Rattle.std.specs.Prelude.{ℕ, Bool, true, false, not, ◌&&◌, ◌||◌, List, [], ◌∷◌, drop, length, replicate, Option, Some, None, if◌then◌else◌}
 use Rattle.bus_base.specs.declared.Event.{Event}
-use Rattle.bus_lines.specs.declared.agreements.Agreement.{Agreement}
 use Rattle.bus_lines.specs.declared.Row.{Row}
-use Rattle.msg_grammar.specs.declared.message.MsgOut.{MsgOut}
-use Rattle.msg_grammar.specs.declared.message.MsgIn.{MsgIn}
-use Rattle.msg_grammar.specs.declared.message.MsgIn.TheVariants as to_initiator
-use Rattle.bus_rules.specs.declared.changes.Change.{Change}
-use Rattle.bus_rules.specs.declared.connection.Connection.{Connection}
-use Rattle.bus_rules.specs.Terms.{is_fault, arbitration_after}
-use Rattle.bus_rules.specs.Phases.{is_message_out, is_message_in, changes_phase}
-use Rattle.bus_rules.specs.Dialogue.{asynchronous, opened, dialogue_after}
+use Rattle.bus_lines.specs.declared.connection.Connection.{Connection}
+use Rattle.bus_lines.specs.Terms.{is_fault, arbitration_after}
+use Rattle.bus_lines.specs.Phases.{changes_phase}
 use Rattle.scenario.specs.Value.{ScenarioValue}
 use Rattle.disk_array.specs.Processes.{Process, same_id}
 use Rattle.disk_array.specs.Units.{Running, UnitState, Array}
@@ -21,15 +15,23 @@ use Rattle.bus_story.specs.Story.{silent}
 use Rattle.bus_story.specs.Shown.{shown_by}
 use Rattle.bus_story.specs.Told.{story_with, aim_of}
 use Rattle.bus_story.specs.Samples.{in_order}
-use Rattle.bus_due.specs.Ages.{no_age, ages_after, free_age}
+use Rattle.bus_reactions.specs.Ages.{no_age, ages_after, free_age}
 use Rattle.bus_due.specs.Own.{idle, owns_after}
-use Rattle.bus_due.specs.Rises.{Rises, no_rises, rises_after, struck_by, first_of, is_struck}
-use Rattle.bus_due.specs.Talk.{Talk, Cause, in_message, in_data, in_status, goes_on, no_talk, from_byte}
-use Rattle.bus_due.specs.Books.{agreed_in, closes, Met, none_met, have_met, meet, met_after, Progress, goes_forward}
-use Rattle.bus_due.specs.Kept.{Kept, bus_of, or_start, process_here}
-use Rattle.bus_due.specs.Wants.{Ready, ready_of}
-use Rattle.bus_due.specs.Words.{names, opening, parity_error, detected_error, host_answers}
-use Rattle.bus_due.specs.Course.{Leaving, leaving}
+use Rattle.bus_lines.specs.Handshakes.{no_handshakes, handshakes_after}
+use Rattle.bus_dialogue.specs.declared.exchange.Hearing.{Hearing}
+use Rattle.bus_dialogue.specs.declared.exchange.Messages.{Messages}
+use Rattle.bus_dialogue.specs.declared.exchange.Leaving.{Leaving}
+use Rattle.bus_dialogue.specs.Talk.{Talk, no_messages, no_talk, no_speech, speaks}
+use Rattle.bus_dialogue.specs.Speaking.{speech_on}
+use Rattle.bus_dialogue.specs.Planning.{plan_on, opens_plan}
+use Rattle.scenario.specs.declared.value.HostDef.{HostDef}
+use Rattle.bus_due.specs.Books.{Met, none_met, have_met, meet, met_after, Progress, goes_forward}
+use Rattle.bus_due.specs.Kept.{Kept, or_start, process_served}
+use Rattle.bus_dialogue.specs.Wants.{Ready}
+use Rattle.bus_due.specs.Wants.{ready_of}
+use Rattle.bus_dialogue.specs.Words.{names}
+use Rattle.bus_due.specs.Defs.{host_of, opening}
+use Rattle.bus_due.specs.Sights.{hearing_of, leaving}
 
 abbrev pub at_first : ScenarioValue → Kept
 at_first s = record {
@@ -40,10 +42,9 @@ at_first s = record {
   ages = no_age;
   owns = replicate 8 idle;
   arbitration = None;
-  rises = no_rises;
-  dialogue = opened asynchronous;
+  handshakes = no_handshakes;
   talk = no_talk;
-  agreed = [];
+  served = None;
   met = none_met;
   progress = [];
   faults = in_order s.faults;
@@ -74,8 +75,8 @@ current_if s k (event ∷ shown) after time = current_after (or_start s k.array)
 
 -- ---- what is said: a connection begins
 
-abbrev pub messages_if : Option Ready → List (List ℕ)
-messages_if None = []
+abbrev pub messages_if : Option Ready → Messages
+messages_if None = no_messages
 messages_if (Some r) = names r.process
 
 abbrev pub is_for_process : Option Item → Bool
@@ -87,81 +88,45 @@ is_for_process (Some (abort n)) = false
 abbrev pub may_negotiate : Kept → Connection → Option Item → Bool
 may_negotiate k n item = is_for_process item && not (have_met k.met n.initiator n.target)
 
-abbrev pub opens_with : ScenarioValue → Kept → Connection → Option Item → Talk
-opens_with s k n item =
-    record no_talk { negotiates = may_negotiate k n item; words = opening s n.initiator (may_negotiate k n item) item }
+-- What the initiator says first in it.
+abbrev pub opening_of : ScenarioValue → Kept → Connection → Option Item → List ℕ
+opening_of s k n item = if n.reselected then [] else opening s n.initiator (may_negotiate k n item) item
 
-abbrev pub opens : ScenarioValue → Kept → Connection → Talk
-opens s k n =
-    if n.reselected then record no_talk { begun = true; messages = messages_if (ready_of s k n.target); next = goes_on }
-    else opens_with s k n (aim_of k.story.sent.aims n.initiator)
-
--- ---- a phase begins
-
-abbrev pub begins_phase : Talk → Talk
-begins_phase t = record t { begun = true; place = 0; said = []; struck = false }
-
--- MESSAGE OUT: the opening; or what the initiator has to say of the phase that is left.
-abbrev pub speaks_of_message : ScenarioValue → Kept → ℕ → Talk
-speaks_of_message s k initiator = record (begins_phase k.talk) {
-  cause = in_message;
-  words = if is_struck (first_of k.rises.req) then parity_error else host_answers s initiator k.talk.asked;
-  messages = from_byte k.talk.messages (length k.rises.req - 1);
-}
-
-abbrev pub speaks_of_data : Kept → Cause → Talk
-speaks_of_data k cause = record (begins_phase k.talk) { cause = cause; words = detected_error }
-
-abbrev pub speaks : ScenarioValue → Kept → ℕ → Talk
-speaks s k initiator =
-    if not k.talk.begun then begins_phase k.talk
-    else if is_message_in (bus_of k) then speaks_of_message s k initiator
-    else speaks_of_data k (if (bus_of k).cd then in_status else in_data)
-
-abbrev pub turns : ScenarioValue → Kept → Connection → Change → Leaving → Talk
-turns s k n c l =
-    if is_message_out c.after then speaks s k n.initiator
-    else record (begins_phase k.talk) { messages = l.messages; next = l.next }
-
--- ---- a byte crosses
-
-abbrev pub and_said : Option MsgOut → List MsgOut → List MsgOut
-and_said None said = said
-and_said (Some m) said = m ∷ said
-
--- In MESSAGE OUT; after one with ATN false the bytes begin anew.
-abbrev pub anew : Kept → Talk
-anew k = if k.dialogue.is_last then record k.talk { place = 0; said = []; struck = false } else k.talk
-
-abbrev pub is_told : Talk → Doing → Talk
-is_told t d = record t { said = and_said d.out t.said; place = if d.change.after.atn then t.place + 1 else 0 }
-
-abbrev pub asked_by : Agreement → Option MsgIn → Agreement
-asked_by was (Some (to_initiator.Sdtr offer)) = offer
-asked_by was _ = was
-
-abbrev pub hears : Kept → Doing → Talk
-hears k d =
-    if is_message_out d.change.before then is_told (anew k) d
-    else record k.talk { asked = asked_by k.talk.asked d.into }
+-- What the target names in it, and whether it may negotiate.
+abbrev pub naming_of : ScenarioValue → Kept → Connection → Messages
+naming_of s k n = if n.reselected then messages_if (ready_of s k n.target) else no_messages
 
 -- ---- a row in a connection
 
-abbrev pub talks : ScenarioValue → Kept → Connection → Row → Doing → Leaving → Talk
-talks s k n row d l =
-    if changes_phase d.change then turns s k n d.change l
-    else if d.crosses then hears k d
-    else if is_fault row.kind then record k.talk { struck = true }
-    else k.talk
+abbrev pub talk_on : Option HostDef → Hearing → Leaving → Talk → Talk
+talk_on h w l t = record {
+  begun = changes_phase w.change || t.begun;
+  speech = speech_on h w t.speech;
+  plan = plan_on w l t.plan;
+}
+
+abbrev pub opens : ScenarioValue → Kept → Connection → Option Item → Talk
+opens s k n item = record {
+  begun = n.reselected;
+  speech = speaks no_speech (opening_of s k n item);
+  plan = opens_plan n.reselected (not n.reselected && may_negotiate k n item) (naming_of s k n);
+}
 
 abbrev pub talk_after : ScenarioValue → Kept → Row → Doing → Option Connection → Option Connection → Leaving → Talk
 talk_after s k row d None None l = k.talk
 talk_after s k row d (Some m) None l = no_talk
-talk_after s k row d None (Some n) l = opens s k n
-talk_after s k row d (Some m) (Some n) l = talks s k n row d l
+talk_after s k row d None (Some n) l = opens s k n (aim_of k.story.aims n.initiator)
+talk_after s k row d (Some m) (Some n) l = talk_on (host_of s n.initiator) (hearing_of k row d) l k.talk
 
-abbrev pub rises_by : Kept → Row → Doing → Rises
-rises_by k row d = if is_fault row.kind then struck_by (bus_of k).io k.rises else rises_after k.rises d.next d.change row.time
+abbrev pub item_if : Option Ready → Option Item
+item_if None = None
+item_if (Some r) = Some (process r.process.id)
+
+abbrev pub served_after : ScenarioValue → Kept → Option Connection → Option Connection → Option Item
+served_after s k None None = k.served
+served_after s k (Some m) None = None
+served_after s k (Some m) (Some n) = k.served
+served_after s k None (Some n) = if n.reselected then item_if (ready_of s k n.target) else aim_of k.story.aims n.initiator
 
 -- ---- books
 
@@ -169,7 +134,7 @@ abbrev pub meets : Kept → Option Connection → Option Connection → Met
 meets k before None = k.met
 meets k (Some m) (Some n) = k.met
 meets k None (Some n) =
-    if not n.reselected && is_for_process (aim_of k.story.sent.aims n.initiator) then meet k.met n.initiator n.target else k.met
+    if not n.reselected && is_for_process (aim_of k.story.aims n.initiator) then meet k.met n.initiator n.target else k.met
 
 abbrev pub advances : Kept → Option Process → Leaving → List Progress
 advances k None l = k.progress
@@ -177,7 +142,7 @@ advances k (Some p) l = goes_forward k.progress p.id l.done l.counts
 
 abbrev pub progress_after : ScenarioValue → Kept → Doing → Option Connection → Option Connection → Leaving → List Progress
 progress_after s k d (Some m) (Some n) l =
-    if changes_phase d.change && k.talk.begun then advances k (process_here s k) l else k.progress
+    if changes_phase d.change && k.talk.begun then advances k (process_served s k) l else k.progress
 progress_after s k d before after l = k.progress
 
 -- ---- a row
@@ -191,10 +156,9 @@ known_with s k row d shown array l = record {
   ages = ages_after k.ages d.change row.time;
   owns = owns_after k.owns row d.change;
   arbitration = arbitration_after k.arbitration (free_age k.ages) d.change row;
-  rises = rises_by k row d;
-  dialogue = dialogue_after k.dialogue k.story.wires.connection d.next (λ i t. agreed_in k.agreed i t) d.change;
+  handshakes = handshakes_after (is_fault row.kind) d.next d.change row.time k.handshakes;
   talk = talk_after s k row d k.story.wires.connection d.next l;
-  agreed = if d.change.after.rst then [] else closes k.agreed k.story.wires.connection d.change.after.bsy k.dialogue.heard.now;
+  served = served_after s k k.story.wires.connection d.next;
   met = met_after s.version (meets k k.story.wires.connection d.next) shown;
   progress = progress_after s k d k.story.wires.connection d.next l;
   faults = if is_fault row.kind then drop 1 k.faults else k.faults;

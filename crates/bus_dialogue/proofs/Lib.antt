@@ -1,0 +1,4 @@
+mod Cases
+mod WantCases
+mod Observing
+mod HearingCases

@@ -1,0 +1,98 @@
+-- The events that the target of a connection shows as it leaves a phase, by what it knows itself.
+use Rattle.std.specs.Prelude.{ℕ, Bool, true, false, not, ◌&&◌, List, [], ◌∷◌, Option, Some, None, is_some, if◌then◌else◌}
+use Rattle.bus_base.specs.declared.ProcId.{ProcId}
+use Rattle.bus_base.specs.declared.AbortKind.{AbortKind}
+use Rattle.bus_base.specs.declared.Event.{Event}
+use Rattle.bus_base.specs.declared.Event.TheVariants as events
+use Rattle.bus_lines.specs.declared.connection.Connection.{Connection}
+use Rattle.bus_dialogue.specs.declared.exchange.Arrival.{Arrival}
+use Rattle.bus_dialogue.specs.declared.exchange.Arrival.TheVariants as arrivals
+use Rattle.bus_dialogue.specs.declared.exchange.Cause.{Cause}
+use Rattle.bus_dialogue.specs.declared.exchange.Cause.TheVariants as causes
+use Rattle.bus_dialogue.specs.declared.exchange.Phase.{Phase}
+use Rattle.bus_dialogue.specs.declared.exchange.Phase.TheVariants as phases
+use Rattle.bus_dialogue.specs.declared.exchange.Plan.{Plan}
+use Rattle.bus_dialogue.specs.declared.exchange.Said.{Said}
+use Rattle.bus_dialogue.specs.declared.exchange.Task.{Task}
+use Rattle.bus_dialogue.specs.Course.{Serving, leaves}
+
+-- ---- to another phase
+
+abbrev pub arrival_event : ProcId → Arrival → Event
+arrival_event id arrivals.Refused = events.Refuse id
+arrival_event id arrivals.Guest = events.Accept id
+arrival_event id arrivals.AtOnce = events.Accept id
+arrival_event id arrivals.Queued = events.Accept id
+
+-- As an unstruck COMMAND is left the command arrives.
+abbrev pub arrival_events : ProcId → Plan → Arrival → Phase → List Event
+arrival_events id plan arrival phases.Command = if plan.struck then [] else arrival_event id arrival ∷ []
+arrival_events id plan arrival _ = []
+
+-- With the first STATUS phase: it gave up what it could not take (0x47) or could not give (0x48), or it was refused, or it
+-- runs.
+abbrev pub after_detected : Cause → ProcId → List Event
+after_detected causes.InData id = events.Fail id 0x48 ∷ []
+after_detected _ id = events.Run id ∷ []
+
+abbrev pub after_arrival : Arrival → ProcId → List Event
+after_arrival arrivals.Refused id = []
+after_arrival _ id = events.Run id ∷ []
+
+abbrev pub reply_events : ProcId → Plan → Arrival → Phase → List Event
+reply_events id plan arrival phases.Command = if plan.struck then events.Fail id 0x47 ∷ [] else after_arrival arrival id
+reply_events id plan arrival phases.DataOut = if plan.struck then events.Fail id 0x47 ∷ [] else events.Run id ∷ []
+reply_events id plan arrival phases.MessageOut = after_detected plan.cause id
+reply_events id plan arrival _ = events.Run id ∷ []
+
+abbrev pub is_status : Option Phase → Bool
+is_status (Some phases.Status) = true
+is_status _ = false
+
+abbrev pub has_replied : Option Task → Bool
+has_replied None = true
+has_replied (Some t) = t.replied
+
+-- The newest first.
+abbrev pub and_then : List Event → List Event → List Event
+and_then [] before = before
+and_then (e ∷ after) before = e ∷ before
+
+abbrev pub turn_events : Serving → Bool → Phase → ProcId → List Event
+turn_events v attention phase id =
+    and_then (if is_status (leaves v attention phase).to && not (has_replied v.task) then reply_events id v.plan v.arrival phase else [])
+    (arrival_events id v.plan v.arrival phase)
+
+abbrev pub turn_shows : Serving → Bool → Phase → Option ProcId → List Event
+turn_shows v attention phase None = []
+turn_shows v attention phase (Some id) = turn_events v attention phase id
+
+-- ---- to BUS FREE: after an abort message (6.6.1 to 6.6.4), after COMMAND COMPLETE or DISCONNECT, or as it gives up
+
+abbrev pub unit_or_0 : Option ℕ → ℕ
+unit_or_0 None = 0
+unit_or_0 (Some unit) = unit
+
+abbrev pub abort_events : Connection → Said → AbortKind → List Event
+abort_events n said what = events.Aborted n.initiator n.target (unit_or_0 said.unit) what ∷ []
+
+abbrev pub loss_events : Option ProcId → List Event
+loss_events None = []
+loss_events (Some id) = events.Lost id ∷ []
+
+abbrev pub after_opening_events : Connection → Said → Option AbortKind → Option ProcId → List Event
+after_opening_events n said None id = loss_events id
+after_opening_events n said (Some what) id = abort_events n said what
+
+abbrev pub end_shows : Connection → Plan → Phase → Option ProcId → List Event
+end_shows n plan phases.MessageOut id = after_opening_events n plan.said plan.said.aborts id
+end_shows n plan phases.MessageIn id = []
+end_shows n plan _ id = loss_events id
+
+-- ---- the row with which it leaves a phase; the connection stands after it or not. Nothing is shown as the first phase of
+-- all begins, or where the bus is left before it.
+abbrev pub leaving_shows : Serving → Connection → Bool → Bool → Bool → Phase → Option ProcId → List Event
+leaving_shows v n begun stands attention phase id =
+    if not begun then []
+    else if stands then turn_shows v attention phase id
+    else end_shows n v.plan phase id

@@ -1,0 +1,57 @@
+-- What a row tells the two ends of the connection that stands, by the rows before it.
+use Rattle.std.specs.Prelude.{ℕ, Bool, false, ◌||◌, List, [], ◌∷◌, Option, Some, None, is_some}
+use Rattle.bus_lines.specs.declared.Row.{Row}
+use Rattle.bus_lines.specs.declared.changes.Change.{Change}
+use Rattle.bus_lines.specs.declared.connection.Connection.{Connection}
+use Rattle.bus_lines.specs.declared.effect.RowEffect.{RowEffect}
+use Rattle.bus_lines.specs.Changes.{change_of}
+use Rattle.bus_lines.specs.Phases.{changes_phase}
+use Rattle.bus_lines.specs.Terms.{connection}
+use Rattle.bus_lines.specs.Effect.{no_effect, effect}
+use Rattle.bus_lines.specs.Handshakes.{handshakes}
+use Rattle.bus_rules.specs.declared.dialogue.Dialogue.{Dialogue}
+use Rattle.bus_rules.specs.Dialogue.{asynchronous, opened, dialogue}
+use Rattle.bus_story.specs.Wires.{message_out, message_in}
+use Rattle.bus_dialogue.specs.declared.exchange.Hearing.{Hearing}
+
+-- ---- a phase has begun in the connection that stands
+
+-- Where a reselection began it, with its first row, in which the target also sets the phase lines (6.1.4); else with the
+-- first row that changes them.
+abbrev pub begun_after : Bool → Option Connection → Option Connection → Change → Bool
+begun_after was before None c = false
+begun_after was None (Some n) c = n.reselected
+begun_after was (Some m) (Some n) c = changes_phase c || was
+
+abbrev pub begun : List Row → Bool
+begun [] = false
+begun (row ∷ rows) = begun_after (begun rows) (connection rows) (connection (row ∷ rows)) (change_of rows row)
+
+-- ---- what a row tells
+
+-- Of before the row: what the messages say, whether a phase had begun, how often REQ had risen in it, and whether a fault
+-- struck the byte of the last of these.
+abbrev pub hearing_by : Dialogue → Bool → ℕ → Bool → RowEffect → Hearing
+hearing_by d begun offered struck e = record {
+  change = e.change;
+  crosses = is_some e.receiver;
+  out = message_out d e.change (is_some e.receiver);
+  into = message_in d e.change (is_some e.receiver);
+  fault = e.fault;
+  begun = begun;
+  is_last = d.is_last;
+  offered = offered;
+  struck = struck;
+}
+
+-- What this row tells after these rows.
+abbrev pub hearing : List Row → Row → Hearing
+hearing rows row = hearing_by (dialogue rows) (begun rows) (handshakes rows).requests (handshakes rows).struck (effect (row ∷ rows))
+
+-- What the last row told; before any row, nothing.
+abbrev pub no_hearing : Hearing
+no_hearing = hearing_by (opened asynchronous) false 0 false no_effect
+
+abbrev pub last_hearing : List Row → Hearing
+last_hearing [] = no_hearing
+last_hearing (row ∷ rows) = hearing rows row

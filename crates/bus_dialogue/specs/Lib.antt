@@ -1,0 +1,14 @@
+pub mod Talk
+pub mod Wants
+pub mod Words
+pub mod Speaking
+pub mod Planning
+pub mod Arrivals
+pub mod DataRuns
+pub mod Course
+pub mod Giving
+pub mod Sending
+pub mod Ends
+pub mod Events
+pub mod Hearing
+pub mod Observer

@@ -1,0 +1,41 @@
+-- What the target of a connection plans in it, row by row.
+use Rattle.std.specs.Prelude.{◌-◌, Bool, true, false, not, ◌&&◌, if◌then◌else◌}
+use Rattle.bus_lines.specs.LineSet.{LineSet}
+use Rattle.bus_lines.specs.Phases.{is_message_out, is_message_in, changes_phase}
+use Rattle.bus_dialogue.specs.declared.exchange.Hearing.{Hearing}
+use Rattle.bus_dialogue.specs.declared.exchange.Cause.{Cause}
+use Rattle.bus_dialogue.specs.declared.exchange.Cause.TheVariants as causes
+use Rattle.bus_dialogue.specs.declared.exchange.Next.TheVariants as nexts
+use Rattle.bus_dialogue.specs.declared.exchange.Messages.{Messages}
+use Rattle.bus_dialogue.specs.declared.exchange.Plan.{Plan}
+use Rattle.bus_dialogue.specs.declared.exchange.Leaving.{Leaving}
+use Rattle.bus_dialogue.specs.Talk.{no_plan, begins_anew, has_heard, is_struck_now, from_byte}
+
+-- A connection begins: after a reselection with the messages that name the process.
+abbrev pub opens_plan : Bool → Bool → Messages → Plan
+opens_plan true negotiates names = record no_plan { messages = names; next = nexts.GoOn }
+opens_plan false negotiates names = record no_plan { negotiates = negotiates }
+
+abbrev pub cause_after : LineSet → Cause
+cause_after bus = if is_message_in bus then causes.InMessage else if bus.cd then causes.InStatus else causes.InData
+
+-- MESSAGE OUT begins. Of refused messages the one that was struck, and those after it, are left.
+abbrev pub plan_asks : Hearing → Plan → Plan
+plan_asks w p =
+    record (begins_anew p) { cause = cause_after w.change.before; messages = if is_message_in w.change.before then from_byte p.messages (w.offered - 1) else p.messages }
+
+abbrev pub plan_turns : Hearing → Leaving → Plan → Plan
+plan_turns w l p =
+    if not (is_message_out w.change.after) then record (begins_anew p) { messages = l.messages; next = l.next }
+    else if w.begun then plan_asks w p
+    else begins_anew p
+
+abbrev pub plan_hears : Hearing → Plan → Plan
+plan_hears w p = if is_message_out w.change.before then has_heard p w.is_last w.out else p
+
+abbrev pub plan_on : Hearing → Leaving → Plan → Plan
+plan_on w l p =
+    if changes_phase w.change then plan_turns w l p
+    else if w.crosses then plan_hears w p
+    else if w.fault && not w.change.before.io then is_struck_now p
+    else p

@@ -1,0 +1,29 @@
+-- What the initiator of a connection has to say, row by row.
+use Rattle.std.specs.Prelude.{ℕ, not, ◌&&◌, List, Option, if◌then◌else◌}
+use Rattle.bus_lines.specs.declared.agreements.Agreement.{Agreement}
+use Rattle.bus_lines.specs.Phases.{is_message_out, is_message_in, changes_phase}
+use Rattle.scenario.specs.declared.value.HostDef.{HostDef}
+use Rattle.bus_dialogue.specs.declared.exchange.Hearing.{Hearing}
+use Rattle.bus_dialogue.specs.Talk.{Speech, speaks, has_said, is_asked}
+use Rattle.bus_dialogue.specs.Words.{parity_error, detected_error, answer_bytes}
+
+-- MESSAGE OUT begins: of the byte of MESSAGE IN before it, or of the data or the status.
+abbrev pub words_after : Option HostDef → Hearing → Agreement → List ℕ
+words_after h w asked =
+    if not (is_message_in w.change.before) then detected_error
+    else if w.struck then parity_error
+    else answer_bytes h asked
+
+-- A phase begins; the first MESSAGE OUT of a selection is for the opening.
+abbrev pub speech_turns : Option HostDef → Hearing → Speech → Speech
+speech_turns h w p =
+    if is_message_out w.change.after && w.begun then speaks p (words_after h w p.asked) else record p { place = 0 }
+
+abbrev pub speech_hears : Hearing → Speech → Speech
+speech_hears w p = if is_message_out w.change.before then has_said p else is_asked p w.into
+
+abbrev pub speech_on : Option HostDef → Hearing → Speech → Speech
+speech_on h w p =
+    if changes_phase w.change then speech_turns h w p
+    else if w.crosses then speech_hears w p
+    else p

@@ -1,0 +1,86 @@
+-- The events that the two ends of a connection show, each by what it knows itself, are those that the rows show.
+use Rattle.std.specs.Prelude.{Bool, true, false, not, ◌&&◌, ◌||◌, ◌==◌, List, [], ◌∷◌, Option, Some, None, is_some, if◌then◌else◌}
+use Rattle.bus_base.specs.declared.ProcId.{ProcId}
+use Rattle.bus_base.specs.declared.AbortKind.{AbortKind}
+use Rattle.bus_base.specs.declared.AbortKind.TheVariants as aborts
+use Rattle.bus_base.specs.declared.Event.{Event}
+use Rattle.bus_base.specs.declared.Event.TheVariants as events
+use Rattle.bus_lines.specs.declared.Row.{Row}
+use Rattle.bus_lines.specs.declared.connection.Connection.{Connection}
+use Rattle.bus_lines.specs.Changes.{rises}
+use Rattle.bus_lines.specs.Phases.{changes_phase}
+use Rattle.scenario.specs.Value.{ScenarioValue}
+use Rattle.disk_array.specs.Processes.{same_id}
+use Rattle.bus_story.specs.Wires.{Doing, doing}
+use Rattle.bus_story.specs.Items.{Item, process, abort}
+use Rattle.bus_story.specs.Links.{Link}
+use Rattle.bus_story.specs.Shown.{shown_by, carried_if, takes, ends_of}
+use Rattle.bus_dialogue.specs.Course.{phase_of}
+use Rattle.bus_dialogue.specs.Events.{leaving_shows}
+use Rattle.bus_due.specs.Kept.{Kept, bus_of}
+use Rattle.bus_due.specs.Sights.{serving_of}
+use Rattle.bus_due.specs.Known.{known}
+
+-- ---- the target
+
+abbrev pub id_of : Option Item → Option ProcId
+id_of None = None
+id_of (Some (process id)) = Some id
+id_of (Some (abort n)) = None
+
+abbrev pub target_tells : ScenarioValue → Kept → Connection → Bool → List Event
+target_tells s k n stands =
+    leaving_shows (serving_of s k n.target) n k.talk.begun stands (bus_of k).atn (phase_of (bus_of k)) (id_of k.served)
+
+-- ---- the initiator, as it takes COMMAND COMPLETE
+
+abbrev pub initiator_tells : Kept → Option Link → Doing → List Event
+initiator_tells k None d = []
+initiator_tells k (Some l) d = if takes l d.change then ends_of (carried_if k.story l.item) else []
+
+-- ---- a row
+
+abbrev pub tells_in : ScenarioValue → Kept → Option Connection → Doing → List Event
+tells_in s k None d = []
+tells_in s k (Some n) d =
+    if changes_phase d.change || not (is_some d.next) then target_tells s k n (is_some d.next)
+    else initiator_tells k k.story.link d
+
+abbrev pub tells : ScenarioValue → Kept → Row → Doing → List Event
+tells s k row d =
+    if d.change.after.rst then (if rises d.change.own.rst d.change.next.rst then events.Reset row.dev ∷ [] else [])
+    else tells_in s k k.story.wires.connection d
+
+-- ---- one list of events is the other
+
+abbrev pub same_kind : AbortKind → AbortKind → Bool
+same_kind aborts.All aborts.All = true
+same_kind (aborts.Tag a) (aborts.Tag b) = a == b
+same_kind aborts.WholeQueue aborts.WholeQueue = true
+same_kind aborts.Device aborts.Device = true
+same_kind _ _ = false
+
+abbrev pub same_event : Event → Event → Bool
+same_event (events.Accept a) (events.Accept b) = same_id a b
+same_event (events.Refuse a) (events.Refuse b) = same_id a b
+same_event (events.Run a) (events.Run b) = same_id a b
+same_event (events.Fail a x) (events.Fail b y) = same_id a b && x == y
+same_event (events.End a x) (events.End b y) = same_id a b && x == y
+same_event (events.Lost a) (events.Lost b) = same_id a b
+same_event (events.Aborted h t u x) (events.Aborted i v w y) = h == i && t == v && u == w && same_kind x y
+same_event (events.Reset a) (events.Reset b) = a == b
+same_event _ _ = false
+
+abbrev pub same_events : List Event → List Event → Bool
+same_events [] [] = true
+same_events [] (f ∷ others) = false
+same_events (e ∷ more) [] = false
+same_events (e ∷ more) (f ∷ others) = same_event e f && same_events more others
+
+abbrev pub tells_truly : ScenarioValue → Kept → Row → Doing → Bool
+tells_truly s k row d = same_events (tells s k row d) (shown_by s k.story d row)
+
+-- Of all rows.
+abbrev pub telling : ScenarioValue → List Row → Bool
+telling s [] = true
+telling s (row ∷ rows) = telling s rows && tells_truly s (known s rows) row (doing (known s rows).story.wires row)

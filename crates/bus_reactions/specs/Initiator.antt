@@ -1,0 +1,124 @@
+-- What the initiator of a connection does next by REQ and ACK: byte by byte (6.1.5.1, 6.1.9, 6.1.10), and by pulses
+-- under an offset and a period (6.1.5.2, 6.6.21).
+use Rattle.std.specs.Prelude.{ℕ, ◌+◌, max, Bool, true, false, not, ◌&&◌, ◌||◌, ◌==◌, length, Option, None, if◌then◌else◌}
+use Rattle.bus_lines.specs.declared.delays.TheConstants.{SET_UP_TIME, TWO_DESKEW}
+use Rattle.bus_lines.specs.LineSet.{LineSet, byte_set}
+use Rattle.bus_lines.specs.Phases.{is_message_out}
+use Rattle.bus_reactions.specs.declared.due.Due.{Due}
+use Rattle.bus_reactions.specs.declared.due.Myself.{Myself}
+use Rattle.bus_reactions.specs.Reactions.{at}
+use Rattle.bus_reactions.specs.declared.sight.Sight.{Sight}
+use Rattle.bus_reactions.specs.declared.ends.Pace.{Pace}
+use Rattle.bus_reactions.specs.declared.ends.Answering.{Answering}
+use Rattle.bus_lines.specs.Handshakes.{Handshakes, first_of, time_of, is_struck}
+use Rattle.bus_reactions.specs.Target.{bits, drives_bits}
+
+-- ---- it takes a byte
+
+-- It raises ACK, and where it has to speak ATN with it.
+abbrev pub acks : Bool → LineSet → LineSet
+acks speaks own = record own { ack = true; atn = speaks || own.atn }
+
+-- On REQ it takes the byte and raises ACK; with ATN where the parity was wrong, and after a request of the target
+-- (6.1.5.1, 6.2.1).
+abbrev pub takes : Sight → Handshakes → Myself → Answering → Option Due
+takes v b me a = at (v.ages.req + me.latency) (acks (b.struck || a.speaks) me.own)
+
+-- On REQ false it negates ACK, and releases the byte that it drove; where ATN rose with this ACK no sooner than two
+-- deskew delays later (6.1.5.1, 6.2.1).
+abbrev pub rose_with_ack : Sight → Myself → Bool
+rose_with_ack v me = me.own.atn && v.ages.atn == v.ages.ack
+
+abbrev pub lowers_ack : Sight → Myself → Option Due
+lowers_ack v me =
+    at ((if rose_with_ack v me then max v.ages.req (v.ages.ack + TWO_DESKEW) else v.ages.req) + me.latency)
+    (record me.own { ack = false; data_bits = 0 })
+
+-- ---- it gives a byte
+
+-- On REQ it drives the byte (6.1.5.1). In MESSAGE OUT ATN is true while a byte follows: the row of the last byte
+-- negates it (6.1.9, 6.2.1).
+abbrev pub attends_by : LineSet → Bool → Bool → Bool
+attends_by bus attends attention = if is_message_out bus then attends else attention
+
+abbrev pub out_lines : ℕ → Bool → LineSet
+out_lines byte attention = record (byte_set byte) { atn = attention }
+
+abbrev pub drives_byte : Sight → Myself → Answering → Option Due
+drives_byte v me a = at (v.ages.req + me.latency) (out_lines a.byte (attends_by v.bus a.attends me.own.atn))
+
+-- ACK comes a deskew delay and a cable skew delay later; in MESSAGE OUT also two deskew delays after the last change
+-- of ATN (6.1.5.1, 6.2.1).
+abbrev pub raises_ack : Sight → Myself → Option Due
+raises_ack v me =
+    at ((if is_message_out v.bus then max (me.since + SET_UP_TIME) (v.ages.atn + TWO_DESKEW) else me.since + SET_UP_TIME) + me.latency)
+    (record me.own { ack = true })
+
+abbrev pub initiator_turn : Sight → Handshakes → Myself → Answering → Option Due
+initiator_turn v b me a =
+    if not v.bus.req then None
+    else if v.bus.io then takes v b me a
+    else if me.own.data_bits == 0 then drives_byte v me a
+    else raises_ack v me
+
+abbrev pub initiator_shakes : Sight → Handshakes → Myself → Answering → Option Due
+initiator_shakes v b me a =
+    if me.own.ack then (if v.bus.req then None else lowers_ack v me) else initiator_turn v b me a
+
+-- ---- by pulses
+
+-- An ACK pulse ends after the assertion period; where ATN rose with it after two deskew delays, if that is longer
+-- (6.1.5.2, 6.2.1).
+abbrev pub ends_ack : Sight → Myself → Pace → Option Due
+ends_ack v me p =
+    at (v.ages.ack + (if rose_with_ack v me then max TWO_DESKEW p.times.assertion else p.times.assertion) + me.latency)
+    (record me.own { ack = false })
+
+-- The ACK pulse of the oldest REQ pulse begins its lag after that, a period after the last ACK pulse, and a negation
+-- period after the end of that (6.1.5.2).
+abbrev pub oldest : Handshakes → ℕ
+oldest b = time_of (first_of b.waiting)
+
+abbrev pub after_last : Sight → Handshakes → Pace → ℕ
+after_last v b p =
+    if b.answers == 0 then 0 else max (b.last_ack + p.times.period) (v.ages.ack + p.times.negation)
+
+abbrev pub ack_from : Sight → Handshakes → Pace → ℕ
+ack_from v b p = max (oldest b + p.lag) (after_last v b p)
+
+-- In DATA IN with ATN, where the parity of that byte was wrong (6.2.1).
+abbrev pub pulses_ack : Sight → Handshakes → Myself → Pace → Option Due
+pulses_ack v b me p = at (ack_from v b p + me.latency) (acks (is_struck (first_of b.waiting)) me.own)
+
+-- In DATA OUT it drives the byte of the oldest REQ pulse at its rise, and no sooner than the end of the hold time of the
+-- byte before; a set-up time later ACK may rise. An equal byte makes no row, and counts as driven at that time (6.1.5.2).
+abbrev pub owed_until : Myself → Pace → Answering → ℕ
+owed_until me p a = a.raised + p.times.hold + me.latency
+
+abbrev pub byte_from : Handshakes → Myself → Pace → Answering → ℕ
+byte_from b me p a =
+    if b.answers == 0 then oldest b + me.latency else max (oldest b + me.latency) (owed_until me p a)
+
+abbrev pub drives_next : Handshakes → Myself → Pace → Answering → Option Due
+drives_next b me p a = at (byte_from b me p a) (drives_bits me.own (bits a.byte))
+
+abbrev pub acks_byte : Sight → Handshakes → Myself → Pace → Answering → Option Due
+acks_byte v b me p a =
+    at (max (ack_from v b p) (byte_from b me p a + p.times.set_up) + me.latency) (record me.own { ack = true })
+
+-- At the end of a hold time it releases its data lines, where no REQ pulse is unanswered (6.1.5.2).
+abbrev pub releases_byte : Myself → Pace → Answering → Option Due
+releases_byte me p a = at (owed_until me p a) (drives_bits me.own 0)
+
+abbrev pub answers_pulse : Sight → Handshakes → Myself → Pace → Answering → Option Due
+answers_pulse v b me p a =
+    if v.bus.io then pulses_ack v b me p
+    else if me.own.data_bits == bits a.byte then acks_byte v b me p a
+    else drives_next b me p a
+
+abbrev pub initiator_pulses : Sight → Handshakes → Myself → Pace → Answering → Option Due
+initiator_pulses v b me p a =
+    if me.own.ack then ends_ack v me p
+    else if not (length b.waiting == 0) then answers_pulse v b me p a
+    else if me.own.data_bits == 0 then None
+    else releases_byte me p a

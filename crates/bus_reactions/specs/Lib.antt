@@ -1,0 +1,10 @@
+pub mod Reactions
+pub mod Ages
+pub mod Sight
+pub mod FreeBus
+pub mod Calling
+pub mod Linking
+pub mod Target
+pub mod Initiator
+pub mod Ends
+pub mod Reset
