@@ -27,9 +27,9 @@ use Rattle.scenario.specs.declared.value.Tag.TheVariants as tags
 use Rattle.scenario.specs.declared.value.Payload.TheVariants as payloads
 use Rattle.scenario.specs.Value.{ScenarioValue}
 use Rattle.scenario.specs.Needs.{need_of, sent_of}
-use Rattle.disk_array.specs.Contents.{blank}
-use Rattle.disk_array.specs.Exec.{Reply, good, check, queue_full, sense_of}
-use Rattle.disk_array.specs.Play.{play, disks_of, reply_of}
+use Rattle.disk_array.specs.Contents.{starting_blocks}
+use Rattle.disk_array.specs.Execution.{Reply, good, check_condition, queue_full, sense_of}
+use Rattle.disk_array.specs.ArrayHistory.{array_after, disks_of, reply_of}
 
 abbrev command : ℕ → ProcId
 command n = record { command = n; sense = false }
@@ -39,7 +39,7 @@ sense n = record { command = n; sense = true }
 
 abbrev blanks : List UnitDef → List FillDef → List (List (List ℕ))
 blanks [] fills = []
-blanks (u ∷ units) fills = blank u fills ∷ blanks units fills
+blanks (u ∷ units) fills = starting_blocks u fills ∷ blanks units fills
 """
 
 
@@ -147,7 +147,7 @@ def replies(parts):
             out.append(("command %s" % n, "queue_full"))
         elif w[2] == "CHECK" and w[3] != "none":
             key, asc, ascq = bytes.fromhex(w[3])
-            out.append(("command %s" % n, "check (sense_of %d %d %d)" % (key, asc, ascq)))
+            out.append(("command %s" % n, "check_condition (sense_of %d %d %d)" % (key, asc, ascq)))
             data = "7000%02x000000000a00000000%02x%02x00000000" % (key, asc, ascq)
             out.append(("sense %s" % n, "good %s" % octets(data)))
     return out
@@ -202,17 +202,17 @@ def case(name, scn, out):
     print_events(name, parts)
     fills = [record(target=w[1], unit=w[2], lba=w[3], bytes=octets(w[4])) for w in parts["blocks"]]
     unfolding = "unfolding need_of sent_of ones"
-    print("%s_blocks : disks_of (play %s (reverse %s_events)) ≡ blanks %s.units (%s)" % (name, name, name, name, items(fills)))
+    print("%s_blocks : disks_of (array_after %s (reverse %s_events)) ≡ blanks %s.units (%s)" % (name, name, name, name, items(fills)))
     print("%s\n%s_blocks = refl\n" % (unfolding, name))
     for k, (who, wanted) in enumerate(replies(parts), 1):
-        print("%s_reply_%d : reply_of (play %s (reverse %s_events)) (%s) ≡ Some (%s)" % (name, k, name, name, who, wanted))
+        print("%s_reply_%d : reply_of (array_after %s (reverse %s_events)) (%s) ≡ Some (%s)" % (name, k, name, name, who, wanted))
         print("%s\n%s_reply_%d = refl\n" % (unfolding, name, k))
 
 
     for k, w in enumerate(parts["history"]):
         if w[0] == "refuse":
             front = items([event(x) for x in parts["history"][:k]] + ["events.Accept %s" % process(w[1])])
-            print("-- the queue is full, so it may not enter\n%s_full_%d : play %s (reverse (%s)) ≡ None" % (name, k, name, front))
+            print("-- the queue is full, so it may not enter\n%s_full_%d : array_after %s (reverse (%s)) ≡ None" % (name, k, name, front))
             print("%s\n%s_full_%d = refl\n" % (unfolding, name, k))
 
 

@@ -20,6 +20,7 @@ MADE = {
     "crates/bus_story/proofs/Cases.antt": ["tools/story_case.py"] + CASES,
     "crates/bus_due/proofs/Cases.antt": ["tools/due_case.py"] + RUNS,
     "crates/bus_due/proofs/SeamCases.antt": ["tools/seam_case.py", "Cases"] + RUNS,
+    "crates/sync_nego/proofs/Cases.antt": ["tools/nego_case.py"],
 }
 
 

@@ -21,10 +21,10 @@ use Rattle.bus_lines.specs.View.{union_below}
 use Rattle.bus_lines.specs.declared.Row.{Row}
 use Rattle.bus_lines.specs.declared.Kind.TheVariants.{Drives, Fault}
 use Rattle.msg_grammar.specs.Messages.{form_out, form_in}
-use Rattle.bus_story.specs.Told.{story}
+use Rattle.bus_story.specs.TraceHistory.{story}
 use Rattle.bus_story.specs.Outcomes.{outcomes, ended_good, ended_check, ended_full, ended_unanswered, ended_lost, ended_reset, ended_aborted}
 use Rattle.bus_story.specs.Right.{all_carried}
-use Rattle.bus_story.specs.Samples.{placed, struck}
+use Rattle.bus_story.specs.Samples.{expected_strikes, row_strikes}
 
 abbrev drive : ℕ → ℕ → ℕ → Row
 drive time dev lines = record { time = time; dev = dev; kind = Drives (set_of lines) }
@@ -65,7 +65,7 @@ def main():
         print("%s_carried : all_carried %s (story %s (reverse %s_rows)) (reverse %s_events) ≡ true" % (name, name, name, name, name))
         print("%s\n%s_carried = refl\n" % (UNFOLDING, name))
         if s["faults"]:
-            print("%s_struck : placed %s (reverse %s_rows) ≡ struck %s_rows" % (name, name, name, name))
+            print("%s_struck : expected_strikes %s (reverse %s_rows) ≡ row_strikes %s_rows" % (name, name, name, name))
             print("%s\n%s_struck = refl\n" % (UNFOLDING, name))
 
 

@@ -1,2 +1,2 @@
-mod ReadSoFar
+pub mod ReadSoFar
 mod WrittenSoFar

@@ -1,7 +1,8 @@
 -- Bytes that are heard one by one.
-use Rattle.std.proofs.Common.{ℕ, ◌≡◌, ◌+◌, ◌-◌, ◌^◌, ◌≤◌, List, [], ◌∷◌, ◌++◌, length, take, drop, reverse, append_assoc, take_all, Result, Ok, sym, ap, subst, ◌∙◌, arith}
+use Rattle.std.proofs.Common.{ℕ, ◌≡◌, ◌+◌, ◌-◌, ◌≤◌, List, [], ◌∷◌, ◌++◌, length, take, drop, reverse, append_assoc, take_all, Result, Ok, sym, ap, subst, ◌∙◌, arith}
 use Rattle.std.proofs.Math.Seq.{take-add}
 use Rattle.std.proofs.lemmas.List.{length-append, length-drop, length-reverse, length-take, reverse-append}
+use Rattle.trace_text.specs.declared.limit.TheConstants.{LIMIT as TRACE_LIMIT}
 use Rattle.bus_lines.specs.declared.Row.{Row}
 use Rattle.bus_rules.specs.declared.verdict.Verdict.{Verdict}
 use Rattle.bus_rules.specs.Rules.{judged_whole}
@@ -44,7 +45,7 @@ onward piece bytes at n =
     ∙ ap (λ (l : List ℕ). l ++ bytes) (sym (reverse-append (take at piece) (take n (drop at piece))))
     ∙ ap (λ (l : List ℕ). reverse l ++ bytes) (sym (take-add at n piece))
 
-pub room : (piece bytes : List ℕ) (at : ℕ) → at ≤ length piece → length bytes + length piece ≤ 2 ^ 30 → length (reverse (take at piece) ++ bytes) + length (left piece at) ≤ 2 ^ 30
+pub room : (piece bytes : List ℕ) (at : ℕ) → at ≤ length piece → length bytes + length piece ≤ TRACE_LIMIT → length (reverse (take at piece) ++ bytes) + length (left piece at) ≤ TRACE_LIMIT
 room piece bytes at within few = omega (arith, length-append (reverse (take at piece)) bytes, length-reverse (take at piece), length-take at piece, left-len piece at)
 
 -- the end

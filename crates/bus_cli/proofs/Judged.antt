@@ -4,6 +4,7 @@ use Rattle.std.specs.Prelude.{IfSome, nat_lt}
 use Rattle.std.proofs.lemmas.Bool.{lt-ltb}
 use Rattle.std.proofs.lemmas.Bool.Decides.{nat_tests}
 use Rattle.std.proofs.lemmas.List.{append-nil, reverse-append, length-reverse, length-take-le, length-append}
+use Rattle.trace_text.specs.declared.limit.TheConstants.{LIMIT as TRACE_LIMIT}
 use Rattle.bus_base.specs.Taken.{TakesFront}
 use Rattle.bus_lines.specs.declared.Row.{Row}
 use Rattle.bus_rules.specs.declared.verdict.Verdict.{Verdict}
@@ -18,7 +19,7 @@ use Rattle.bus_cli.specs.declared.judging.Cut.{Cut}
 use Rattle.bus_cli.specs.declared.judging.Cut.TheVariants.{TooLong}
 use Rattle.bus_cli.specs.declared.status.Status.{Status}
 use Rattle.bus_cli.specs.declared.status.Status.TheVariants.{Done, Words, Refused, Read, Write, Memory, Broken, BadTrace, NotBuilt}
-use Rattle.bus_cli.proofs.HeardSoFar.{HasRead, told, read_more}
+use Rattle.bus_base.proofs.ReadSoFar.{HasRead, told, read_more}
 use Rattle.bus_cli.proofs.TooLong.{map_some, first_of}
 
 -- ---- the verdict on bytes that were heard, the newest first
@@ -35,16 +36,16 @@ not_first : {A : Type 0} (q : Bool) (x y : A) → q ≡ false → cond q x y ≡
 not_first true x y e = absurd cc
 not_first false x y e = refl
 
-pub heard_is : (bytes : List ℕ) → length bytes ≤ 1073741824 → heard_verdict (reverse bytes) ≡ verdict_on bytes
+pub heard_is : (bytes : List ℕ) → length bytes ≤ TRACE_LIMIT → heard_verdict (reverse bytes) ≡ verdict_on bytes
 heard_is bytes few =
-    let short : nat_lt 1073741824 (length bytes) ≡ false = grind (arith, nat_tests) in
-    let read : trace_of bytes ≡ with_rows (reverse (rows_of (reverse bytes))) (end_of (reverse bytes)) = not_first (nat_lt 1073741824 (length bytes)) (Err 0) (with_rows (reverse (rows_of (reverse bytes))) (end_of (reverse bytes))) short in
+    let short : nat_lt TRACE_LIMIT (length bytes) ≡ false = grind (arith, nat_tests) in
+    let read : trace_of bytes ≡ with_rows (reverse (rows_of (reverse bytes))) (end_of (reverse bytes)) = not_first (nat_lt TRACE_LIMIT (length bytes)) (Err 0) (with_rows (reverse (rows_of (reverse bytes))) (end_of (reverse bytes))) short in
     sym (ap (λ (r : Result (List Row × ℕ) ℕ). verdict_of r) read ∙ of_end (reverse bytes) (end_of (reverse bytes)))
 
 -- ---- the end of the input
 
 -- it is over
-pub hears_all : (old now next : Option (List ℕ)) (bytes into : List ℕ) (n : ℕ) (v : Result Verdict ℕ) → HasRead old now bytes → IfSome now (λ ys. TakesFront ys next into n) → n ≡ 0 → 0 < length into → length bytes ≤ 1073741824 → v ≡ heard_verdict (reverse bytes) → IfSome old (λ xs. (verdict_on xs ≡ v) × (next ≡ Some []))
+pub hears_all : (old now next : Option (List ℕ)) (bytes into : List ℕ) (n : ℕ) (v : Result Verdict ℕ) → HasRead old now bytes → IfSome now (λ ys. TakesFront ys next into n) → n ≡ 0 → 0 < length into → length bytes ≤ TRACE_LIMIT → v ≡ heard_verdict (reverse bytes) → IfSome old (λ xs. (verdict_on xs ≡ v) × (next ≡ Some []))
 hears_all None now next bytes into n v so_far took none room few is = tt
 hears_all (Some xs) now next bytes into n v (rest, whole, left) took none room few is =
     let t = told now next rest into n left took in
@@ -80,38 +81,38 @@ told_of_all status (Some xs) left v h tells = subst (λ (w : Result Verdict ℕ)
 
 -- ---- more bytes than the limit
 
-too_long : (bytes : List ℕ) → 1073741824 < length bytes → verdict_on bytes ≡ Err 0
+too_long : (bytes : List ℕ) → TRACE_LIMIT < length bytes → verdict_on bytes ≡ Err 0
 too_long bytes h =
-    let e : trace_of bytes ≡ Err 0 = first_of _ _ _ (lt-ltb 1073741824 (length bytes) h) in
+    let e : trace_of bytes ≡ Err 0 = first_of _ _ _ (lt-ltb TRACE_LIMIT (length bytes) h) in
     λ i. verdict_of (e i)
 
 abbrev IsLong : Option (List ℕ) → Type 0
-IsLong input = IfSome input (λ xs. 1073741824 < length xs)
+IsLong input = IfSome input (λ xs. TRACE_LIMIT < length xs)
 
-all_long : (input left : Option (List ℕ)) → HearsAll input left (Err TooLong) → IfSome input (λ xs. 1073741824 < length xs)
+all_long : (input left : Option (List ℕ)) → HearsAll input left (Err TooLong) → IfSome input (λ xs. TRACE_LIMIT < length xs)
 all_long None left h = tt
 all_long (Some xs) left h = h.0
 
-pub long_of : (input left : Option (List ℕ)) (end : Cut) → end ≡ TooLong → HearsAll input left (Err end) → IfSome input (λ xs. 1073741824 < length xs)
+pub long_of : (input left : Option (List ℕ)) (end : Cut) → end ≡ TooLong → HearsAll input left (Err end) → IfSome input (λ xs. TRACE_LIMIT < length xs)
 long_of input left end e h =
     let P : Cut → Type 0 = λ r. HearsAll input left (Err r) in
     all_long input left (subst P e h)
 
-pub told_long : (input : Option (List ℕ)) → IfSome input (λ xs. 1073741824 < length xs) → IfSome input (λ xs. JudgeTells BadTrace xs)
-told_long input h = map_some input (λ xs. 1073741824 < length xs) (λ xs. JudgeTells BadTrace xs) (λ xs long. (0, too_long xs long)) h
+pub told_long : (input : Option (List ℕ)) → IfSome input (λ xs. TRACE_LIMIT < length xs) → IfSome input (λ xs. JudgeTells BadTrace xs)
+told_long input h = map_some input (λ xs. TRACE_LIMIT < length xs) (λ xs. JudgeTells BadTrace xs) (λ xs long. (0, too_long xs long)) h
 
 said_beyond : (input : Option (List ℕ)) (text before : List ℕ) (written : Option (List ℕ)) (f g : ℕ) → IsLong input → text ≡ trace_line 0 → SaysLine text before written f g → JudgeSays BadTrace input before written f g
 said_beyond None text before written f g long same says = (0, tt, subst (λ (x : List ℕ). SaysLine x before written f g) same says)
 said_beyond (Some xs) text before written f g long same says = (0, too_long xs long, subst (λ (x : List ℕ). SaysLine x before written f g) same says)
 
-pub said_long : (input : Option (List ℕ)) (text : List ℕ) (old written : Option (List ℕ)) (f g : ℕ) → IfSome input (λ xs. 1073741824 < length xs) → text ≡ trace_line 0 → IfSome old (λ before. SaysLine text before written f g) → IfSome old (λ before. JudgeSays BadTrace input before written f g)
+pub said_long : (input : Option (List ℕ)) (text : List ℕ) (old written : Option (List ℕ)) (f g : ℕ) → IfSome input (λ xs. TRACE_LIMIT < length xs) → text ≡ trace_line 0 → IfSome old (λ before. SaysLine text before written f g) → IfSome old (λ before. JudgeSays BadTrace input before written f g)
 said_long input text old written f g long same says =
     map_some old (λ before. SaysLine text before written f g) (λ before. JudgeSays BadTrace input before written f g) (λ before. said_beyond input text before written f g long same) says
 
 -- ---- a piece more
 
-pub hears_more : (old now next : Option (List ℕ)) (bytes into piece : List ℕ) (n count : ℕ) (j : Hearing) → HasRead old now bytes → IfSome now (λ ys. TakesFront ys next into n) → length bytes ≡ count → piece ≡ take n into → n ≤ length into → count + n ≤ 1073741824
-    → (length (reverse bytes) + length piece ≤ 1073741824 → IsHearingOf (reverse piece ++ reverse bytes) j)
+pub hears_more : (old now next : Option (List ℕ)) (bytes into piece : List ℕ) (n count : ℕ) (j : Hearing) → HasRead old now bytes → IfSome now (λ ys. TakesFront ys next into n) → length bytes ≡ count → piece ≡ take n into → n ≤ length into → count + n ≤ TRACE_LIMIT
+    → (length (reverse bytes) + length piece ≤ TRACE_LIMIT → IsHearingOf (reverse piece ++ reverse bytes) j)
     → (xs : List ℕ) × HasRead old next xs × (length xs ≡ count + n) × IsHearingOf (reverse xs) j
 hears_more old now next bytes into piece n count j read took len same within few heard =
     let size : length piece ≡ n = ap (λ (ys : List ℕ). length ys) same ∙ length-take-le n into within in

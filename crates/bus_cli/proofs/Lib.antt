@@ -1,5 +1,4 @@
 pub mod TooLong
 pub mod Refusals
 pub mod Heard
-pub mod HeardSoFar
 pub mod Judged

@@ -3,6 +3,7 @@ use Rattle.std.proofs.Common.{ℕ, ◌≡◌, ◌<◌, List, Option, Some, None,
 use Rattle.std.specs.Prelude.{Result, Ok, Err, IfSome, Vec}
 use Rattle.std.proofs.lemmas.Bool.{lt-ltb}
 use Rattle.std.specs.declared.alloc.Global.{Global}
+use Rattle.scenario.specs.declared.bounds.TheConstants.{LIMIT as SCENARIO_LIMIT}
 use Rattle.bus_base.specs.Whole.{ReadsAll}
 use Rattle.bus_base.specs.declared.reading.ReadEnd.{ReadEnd}
 use Rattle.bus_base.specs.declared.reading.ReadEnd.TheVariants.{TooLong}
@@ -18,12 +19,12 @@ use Rattle.bus_cli.specs.declared.status.Status.TheVariants.{Done, Words, Refuse
 
 -- ---- a text that is too long
 
-too_long : (bytes : List ℕ) → 4194304 < length bytes → scenario_of bytes ≡ Err (0, 9)
-too_long bytes h = first_of _ _ _ (lt-ltb 4194304 (length bytes) h)
+too_long : (bytes : List ℕ) → SCENARIO_LIMIT < length bytes → scenario_of bytes ≡ Err (0, 9)
+too_long bytes h = first_of _ _ _ (lt-ltb SCENARIO_LIMIT (length bytes) h)
 
-pub refused_long : (input left : Option (List ℕ)) (end : ReadEnd) → end ≡ TooLong → ReadsAll input left 4194304 (Err end) → IfSome input (λ xs. RunTells Refused xs)
+pub refused_long : (input left : Option (List ℕ)) (end : ReadEnd) → end ≡ TooLong → ReadsAll input left SCENARIO_LIMIT (Err end) → IfSome input (λ xs. RunTells Refused xs)
 refused_long input left end e h =
-    map_some input (λ xs. 4194304 < length xs) (λ xs. RunTells Refused xs) (λ xs long. (0, 9, too_long xs long)) (is_long 4194304 input left end e h)
+    map_some input (λ xs. SCENARIO_LIMIT < length xs) (λ xs. RunTells Refused xs) (λ xs long. (0, 9, too_long xs long)) (is_long SCENARIO_LIMIT input left end e h)
 
 -- ---- a line that is refused
 
@@ -40,15 +41,15 @@ pub said_at : (bytes text : List ℕ) (old written : Option (List ℕ)) (line re
 said_at bytes text old written line reason f g e same says =
     map_some old (λ before. SaysLine text before written f g) (λ before. RunSays Refused (Some bytes) before written f g) (λ before. said_refused bytes text before written line reason f g e same) says
 
-said_beyond : (input : Option (List ℕ)) (text before : List ℕ) (written : Option (List ℕ)) (f g : ℕ) → IsLong 4194304 input → text ≡ refusal_line 0 9 → SaysLine text before written f g → RunSays Refused input before written f g
+said_beyond : (input : Option (List ℕ)) (text before : List ℕ) (written : Option (List ℕ)) (f g : ℕ) → IsLong SCENARIO_LIMIT input → text ≡ refusal_line 0 9 → SaysLine text before written f g → RunSays Refused input before written f g
 said_beyond None text before written f g long same says =
     (0, 9, tt, subst (λ (x : List ℕ). SaysLine x before written f g) same says)
 said_beyond (Some xs) text before written f g long same says =
     said_refused xs text before written 0 9 f g (too_long xs long) same says
 
-pub said_long : (input left : Option (List ℕ)) (end : ReadEnd) (text : List ℕ) (old written : Option (List ℕ)) (f g : ℕ) → end ≡ TooLong → ReadsAll input left 4194304 (Err end) → text ≡ refusal_line 0 9 → IfSome old (λ before. SaysLine text before written f g) → IfSome old (λ before. RunSays Refused input before written f g)
+pub said_long : (input left : Option (List ℕ)) (end : ReadEnd) (text : List ℕ) (old written : Option (List ℕ)) (f g : ℕ) → end ≡ TooLong → ReadsAll input left SCENARIO_LIMIT (Err end) → text ≡ refusal_line 0 9 → IfSome old (λ before. SaysLine text before written f g) → IfSome old (λ before. RunSays Refused input before written f g)
 said_long input left end text old written f g e h same says =
-    map_some old (λ before. SaysLine text before written f g) (λ before. RunSays Refused input before written f g) (λ before. said_beyond input text before written f g (is_long 4194304 input left end e h) same) says
+    map_some old (λ before. SaysLine text before written f g) (λ before. RunSays Refused input before written f g) (λ before. said_beyond input text before written f g (is_long SCENARIO_LIMIT input left end e h) same) says
 
 -- ---- what is said of bytes is said of the input that they are
 
@@ -67,10 +68,10 @@ of_input Read None bytes before written f g same says = says
 of_input Memory None bytes before written f g same says = says
 of_input NotBuilt None bytes before written f g same says = says
 
-all_of : (input left : Option (List ℕ)) (v : Vec ℕ Global) (bytes : List ℕ) → bytes ≡ v.items → ReadsAll input left 4194304 (Ok v) → IfSome input (λ xs. bytes ≡ xs)
+all_of : (input left : Option (List ℕ)) (v : Vec ℕ Global) (bytes : List ℕ) → bytes ≡ v.items → ReadsAll input left SCENARIO_LIMIT (Ok v) → IfSome input (λ xs. bytes ≡ xs)
 all_of None left v bytes same h = tt
 all_of (Some xs) left v bytes same h = same ∙ h.0
 
-pub said_of_all : (status : Status) (input left old written : Option (List ℕ)) (v : Vec ℕ Global) (bytes : List ℕ) (f g : ℕ) → bytes ≡ v.items → ReadsAll input left 4194304 (Ok v) → IfSome old (λ before. RunSays status (Some bytes) before written f g) → IfSome old (λ before. RunSays status input before written f g)
+pub said_of_all : (status : Status) (input left old written : Option (List ℕ)) (v : Vec ℕ Global) (bytes : List ℕ) (f g : ℕ) → bytes ≡ v.items → ReadsAll input left SCENARIO_LIMIT (Ok v) → IfSome old (λ before. RunSays status (Some bytes) before written f g) → IfSome old (λ before. RunSays status input before written f g)
 said_of_all status input left old written v bytes f g same h says =
     map_some old (λ before. RunSays status (Some bytes) before written f g) (λ before. RunSays status input before written f g) (λ before. of_input status input bytes before written f g (all_of input left v bytes same h)) says

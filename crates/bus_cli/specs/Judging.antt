@@ -1,5 +1,6 @@
 -- The word `judge`: the verdict on the input, what each status says of it, and what is written.
-use Rattle.std.specs.Prelude.{ℕ, ◌≡◌, ◌<◌, List, [], ◌++◌, length, take, drop, reverse, Option, Some, None, option_map, IfSome, Result, Ok, Err}
+use Rattle.std.specs.Prelude.{ℕ, ◌+◌, ◌≡◌, ◌<◌, List, [], ◌++◌, length, take, drop, reverse, Option, Some, None, option_map, IfSome, Result, Ok, Err}
+use Rattle.trace_text.specs.declared.limit.TheConstants.{LIMIT as TRACE_LIMIT}
 use Rattle.bus_lines.specs.declared.Row.{Row}
 use Rattle.bus_rules.specs.Rules.{judged_whole}
 use Rattle.bus_rules.specs.declared.verdict.Verdict.{Verdict}
@@ -67,7 +68,7 @@ JudgeTells status bytes = TellsVerdict status (verdict_on bytes)
 -- than the limit was read.
 abbrev pub HearsAll : Option (List ℕ) → Option (List ℕ) → Result (Result Verdict ℕ) Cut → Type 0
 HearsAll old left (Ok verdict) = IfSome old (λ xs. (verdict_on xs ≡ verdict) × (left ≡ Some []))
-HearsAll old left (Err cuts.TooLong) = IfSome old (λ xs. (1073741824 < length xs) × (left ≡ Some (drop 1073741825 xs)))
+HearsAll old left (Err cuts.TooLong) = IfSome old (λ xs. (TRACE_LIMIT < length xs) × (left ≡ Some (drop (TRACE_LIMIT + 1) xs)))
 HearsAll old left (Err cuts.Fault) = Unit {0}
 
 -- the status that a verdict asks for

@@ -1,6 +1,8 @@
 -- The words of the program.
 use Rattle.std.specs.Prelude.{ℕ, List, [], ◌∷◌, Option, Some, None, nat_eq, codes, if◌then◌else◌}
 use Rattle.std.specs.Cmp.Lexicographic.{pointwise}
+use Rattle.trace_text.specs.declared.limit.TheConstants.{LIMIT as TRACE_LIMIT}
+use Rattle.scenario.specs.declared.bounds.TheConstants.{LIMIT as SCENARIO_LIMIT}
 use Rattle.bus_cli.specs.declared.words.Word.{Word}
 use Rattle.bus_cli.specs.declared.words.Word.TheVariants.{Run, Judge}
 
@@ -15,5 +17,5 @@ word_of (word ∷ next ∷ words) = None
 
 -- the most bytes that the input may have
 abbrev pub limit_of : Word → ℕ
-limit_of Run = 4194304
-limit_of Judge = 1073741824
+limit_of Run = SCENARIO_LIMIT
+limit_of Judge = TRACE_LIMIT

@@ -37,15 +37,15 @@ use Rattle.bus_dialogue.specs.declared.exchange.Plan.{Plan}
 use Rattle.bus_dialogue.specs.declared.exchange.Leaving.{Leaving}
 use Rattle.bus_dialogue.specs.declared.exchange.Task.{Task}
 use Rattle.bus_dialogue.specs.declared.exchange.Room.{Room}
-use Rattle.bus_dialogue.specs.Talk.{Speech, next_word, attends_with}
-use Rattle.bus_dialogue.specs.Words.{process_opening, abort_opening, parity_error, detected_error, answer_bytes, names, reply_to, request_by}
-use Rattle.bus_dialogue.specs.Speaking.{speech_on}
-use Rattle.bus_dialogue.specs.Planning.{opens_plan, plan_on}
+use Rattle.bus_dialogue.specs.Exchange.{Speech, next_word, attends_with}
+use Rattle.bus_dialogue.specs.Words.{process_opening, abort_opening, parity_error, detected_error, answer_bytes, naming_messages, reply_to, request_by}
+use Rattle.bus_dialogue.specs.Speaking.{speech_after}
+use Rattle.bus_dialogue.specs.Planning.{first_plan, plan_after}
 use Rattle.bus_dialogue.specs.Arrivals.{arrival_by, policy_of}
 use Rattle.bus_dialogue.specs.DataRuns.{DataRun, runs_in_all, run_at, run_length}
-use Rattle.bus_dialogue.specs.Course.{Serving, phase_of, phase_lines, moves, leaves_by}
-use Rattle.bus_dialogue.specs.Giving.{gives_in, follows_in, lines_by}
-use Rattle.bus_dialogue.specs.Sending.{Sending, word_out}
+use Rattle.bus_dialogue.specs.NextPhase.{Serving, phase_of, phase_lines, next_data_phase, leaving_by}
+use Rattle.bus_dialogue.specs.PhaseBytes.{phase_byte, follows_in, lines_by}
+use Rattle.bus_dialogue.specs.Sending.{Sending, byte_to_send}
 use Rattle.bus_dialogue.specs.Ends.{pace_by, offering_by, answering_by}
 
 -- ---- the two ends
@@ -170,10 +170,10 @@ messages m n = record { first = Some m; second = Some n }
 abbrev named : Messages
 named = messages (to_initiator.Identify 2) (to_initiator.SimpleTag 9)
 
-names_a_tagged_one : names (record { id = record { command = 1; sense = false }; initiator = 7; target = 3; unit = 2; tag = tags.Head 9; cdb = []; sent = [] }) ≡ named
+names_a_tagged_one : naming_messages (record { id = record { command = 1; sense = false }; initiator = 7; target = 3; unit = 2; tag = tags.Head 9; cdb = []; sent = [] }) ≡ named
 names_a_tagged_one = refl
 
-names_an_untagged_one : names (record { id = record { command = 1; sense = false }; initiator = 7; target = 3; unit = 2; tag = tags.Untagged; cdb = []; sent = [] }) ≡ message (to_initiator.Identify 2)
+names_an_untagged_one : naming_messages (record { id = record { command = 1; sense = false }; initiator = 7; target = 3; unit = 2; tag = tags.Untagged; cdb = []; sent = [] }) ≡ message (to_initiator.Identify 2)
 names_an_untagged_one = refl
 
 -- ---- a row, as it tells the two ends: the lines before it and after it
@@ -207,7 +207,7 @@ abbrev speech : ℕ → Speech
 speech place = record { words = 0xc2 ∷ 0x20 ∷ 9 ∷ []; place = place; asked = pair 50 8 }
 
 abbrev hears : Hearing → ℕ → Speech
-hears w place = speech_on (host true 100) w (speech place)
+hears w place = speech_after (host true 100) w (speech place)
 
 second_word : next_word (speech 1) ≡ 0x20
 second_word = refl
@@ -275,7 +275,7 @@ abbrev free : Leaving
 free = leaving None no_message nexts.FreeBus
 
 abbrev plans : Hearing → Plan → Plan
-plans w p = plan_on w free p
+plans w p = plan_after w free p
 
 abbrev tagged : Said
 tagged = record quiet { unit = Some 2; tag = tags.Simple 9 }
@@ -336,19 +336,19 @@ other_hears_a_struck_byte = refl
 
 -- ---- what the target plans
 
-plans_after_a_selection : opens_plan false true named ≡ silent
+plans_after_a_selection : first_plan false true named ≡ silent
 plans_after_a_selection = refl
 
-plans_no_negotiation : opens_plan false false named ≡ record silent { negotiates = false }
+plans_no_negotiation : first_plan false false named ≡ record silent { negotiates = false }
 plans_no_negotiation = refl
 
-plans_names : opens_plan true true named ≡ record (plan quiet named nexts.GoOn) { negotiates = false }
+plans_names : first_plan true true named ≡ record (plan quiet named nexts.GoOn) { negotiates = false }
 plans_names = refl
 
 plans_first_message_out : plans (record (turns 0x10200 0x12a00) { begun = false }) silent ≡ silent
 plans_first_message_out = refl
 
-plans_messages : plan_on (turns 0x00a00 0x03a00) (leaving (Some phases.MessageIn) (message to_initiator.Disconnect) nexts.FreeBus) (record (plan tagged named nexts.GoOn) { struck = true }) ≡ plan quiet (message to_initiator.Disconnect) nexts.FreeBus
+plans_messages : plan_after (turns 0x00a00 0x03a00) (leaving (Some phases.MessageIn) (message to_initiator.Disconnect) nexts.FreeBus) (record (plan tagged named nexts.GoOn) { struck = true }) ≡ plan quiet (message to_initiator.Disconnect) nexts.FreeBus
 plans_messages = refl
 
 -- ATN: why it asks for MESSAGE OUT, and the messages from the struck one on. IDENTIFY has one byte, SIMPLE QUEUE TAG two.
@@ -474,16 +474,16 @@ every_phase = refl
 lines_of_every_phase : phase_lines phases.DataOut ∷ phase_lines phases.DataIn ∷ phase_lines phases.Command ∷ phase_lines phases.Status ∷ phase_lines phases.MessageOut ∷ phase_lines phases.MessageIn ∷ [] ≡ set_of 0x00200 ∷ set_of 0x01200 ∷ set_of 0x00a00 ∷ set_of 0x01a00 ∷ set_of 0x02a00 ∷ set_of 0x03a00 ∷ []
 lines_of_every_phase = refl
 
-moves_the_rest : moves (policies.Burst 2) (task false 2) 2 ≡ phases.DataIn
+moves_the_rest : next_data_phase (policies.Burst 2) (task false 2) 2 ≡ phases.DataIn
 moves_the_rest = refl
 
-moves_no_more : moves (policies.Burst 2) (task false 3) 3 ≡ phases.Status
+moves_no_more : next_data_phase (policies.Burst 2) (task false 3) 3 ≡ phases.Status
 moves_no_more = refl
 
-moves_to_the_target : moves policies.Never (task true 0) 0 ≡ phases.DataOut
+moves_to_the_target : next_data_phase policies.Never (task true 0) 0 ≡ phases.DataOut
 moves_to_the_target = refl
 
-moves_nothing_after_the_reply : moves policies.Never (record reads { replied = true }) 0 ≡ phases.Status
+moves_nothing_after_the_reply : next_data_phase policies.Never (record reads { replied = true }) 0 ≡ phases.Status
 moves_nothing_after_the_reply = refl
 
 -- ---- how the phases are left
@@ -496,7 +496,7 @@ abbrev burst : Option TargetDef
 burst = disk (policies.Burst 2) false 50
 
 abbrev leaves_from : ℕ → Plan → Task → Leaving
-leaves_from lines p t = leaves_by (serves burst p t) true (set_of lines)
+leaves_from lines p t = leaving_by (serves burst p t) true (set_of lines)
 
 abbrev goes : Phase → Leaving
 goes phase = leaving (Some phase) no_message nexts.FreeBus
@@ -514,13 +514,13 @@ tried n = record (task true 0) { recoveries = n }
 abbrev held : Task
 held = record (tried 2) { in_hold = true }
 
-selected_first : leaves_by (serves burst silent reads) false (set_of 0x10200) ≡ goes phases.MessageOut
+selected_first : leaving_by (serves burst silent reads) false (set_of 0x10200) ≡ goes phases.MessageOut
 selected_first = refl
 
 -- ---- MESSAGE OUT is left after the opening
 
 abbrev opened : Option TargetDef → Said → Leaving
-opened def said = leaves_by (serves def (plan said no_message nexts.FreeBus) reads) true (set_of 0x02a00)
+opened def said = leaving_by (serves def (plan said no_message nexts.FreeBus) reads) true (set_of 0x02a00)
 
 opened_for_a_command : opened burst tagged ≡ goes phases.Command
 opened_for_a_command = refl
@@ -543,7 +543,7 @@ target_begins_to_negotiate = refl
 target_answers_in_place_of_it : opened beginning (record tagged { offer = Some (pair 25 4) }) ≡ tell (message (to_initiator.Sdtr (pair 30 4))) nexts.Command
 target_answers_in_place_of_it = refl
 
-target_may_not_begin : leaves_by (serves beginning (record (plan tagged no_message nexts.FreeBus) { negotiates = false }) reads) true (set_of 0x02a00) ≡ goes phases.Command
+target_may_not_begin : leaving_by (serves beginning (record (plan tagged no_message nexts.FreeBus) { negotiates = false }) reads) true (set_of 0x02a00) ≡ goes phases.Command
 target_may_not_begin = refl
 
 -- ---- after ATN in MESSAGE IN
@@ -573,7 +573,7 @@ no_message_given_up = refl
 message_sent_again_in_the_hold : refused (message to_initiator.Disconnect) held ≡ tell (message to_initiator.Disconnect) nexts.GoOn
 message_sent_again_in_the_hold = refl
 
-message_of_no_process : leaves_by (record (serves burst (asked_for causes.InMessage (message to_initiator.Disconnect)) reads) { task = None }) true (set_of 0x02a00) ≡ free
+message_of_no_process : leaving_by (record (serves burst (asked_for causes.InMessage (message to_initiator.Disconnect)) reads) { task = None }) true (set_of 0x02a00) ≡ free
 message_of_no_process = refl
 
 -- ---- after ATN in DATA IN and STATUS
@@ -632,7 +632,7 @@ told_with_attention = refl
 
 abbrev commanded : Bool → Arrival → Task → Leaving
 commanded struck arrival t =
-    leaves_by (record (serves burst (record (plan tagged no_message nexts.FreeBus) { struck = struck }) t) { arrival = arrival }) true (set_of 0x10a00)
+    leaving_by (record (serves burst (record (plan tagged no_message nexts.FreeBus) { struck = struck }) t) { arrival = arrival }) true (set_of 0x10a00)
 
 command_again : commanded true arrivals.Queued (tried 1) ≡ restored_counted nexts.Command
 command_again = refl
@@ -672,7 +672,7 @@ last_run = refl
 run_with_attention : leaves_from 0x11200 silent (task false 1) ≡ goes phases.MessageOut
 run_with_attention = refl
 
-part_before_all : leaves_by (serves (disk (policies.NoSave 2) false 50) silent reads) true (set_of 0x01200) ≡ ran (tell (message to_initiator.Disconnect) nexts.FreeBus)
+part_before_all : leaving_by (serves (disk (policies.NoSave 2) false 50) silent reads) true (set_of 0x01200) ≡ ran (tell (message to_initiator.Disconnect) nexts.FreeBus)
 part_before_all = refl
 
 run_to_the_target : leaves_from 0x00200 silent (task true 1) ≡ ran (tell (messages to_initiator.SavePointer to_initiator.Disconnect) nexts.FreeBus)
@@ -706,28 +706,28 @@ bytewise p t = serves (disk (policies.Burst 1) false 50) p t
 abbrev three : ℕ → Task
 three runs = record (task false runs) { moved = 3; blocks = Some 3; size = 1; status = 2 }
 
-gives_messages : gives_in (bytewise silent (three 0)) phases.MessageIn named 0 2 ≡ 9
+gives_messages : phase_byte (bytewise silent (three 0)) phases.MessageIn named 0 2 ≡ 9
 gives_messages = refl
 
-gives_no_further_message : gives_in (bytewise silent (three 0)) phases.MessageIn named 0 3 ≡ 0
+gives_no_further_message : phase_byte (bytewise silent (three 0)) phases.MessageIn named 0 3 ≡ 0
 gives_no_further_message = refl
 
-gives_its_status : gives_in (bytewise silent (three 0)) phases.Status named 0 0 ≡ 2
+gives_its_status : phase_byte (bytewise silent (three 0)) phases.Status named 0 0 ≡ 2
 gives_its_status = refl
 
-gives_a_byte_of_its_run : gives_in (bytewise silent (three 1)) phases.DataIn named 0 0 ≡ 22
+gives_a_byte_of_its_run : phase_byte (bytewise silent (three 1)) phases.DataIn named 0 0 ≡ 22
 gives_a_byte_of_its_run = refl
 
-gives_a_byte_of_the_run_after : gives_in (bytewise silent (three 1)) phases.DataIn named 1 0 ≡ 23
+gives_a_byte_of_the_run_after : phase_byte (bytewise silent (three 1)) phases.DataIn named 1 0 ≡ 23
 gives_a_byte_of_the_run_after = refl
 
-gives_a_byte_at_a_place : gives_in (serves (disk policies.Never false 50) silent (three 0)) phases.DataIn named 0 2 ≡ 23
+gives_a_byte_at_a_place : phase_byte (serves (disk policies.Never false 50) silent (three 0)) phases.DataIn named 0 2 ≡ 23
 gives_a_byte_at_a_place = refl
 
-gives_all_again : gives_in (serves (disk (policies.NoSave 1) false 50) silent (three 1)) phases.DataIn named 0 1 ≡ 22
+gives_all_again : phase_byte (serves (disk (policies.NoSave 1) false 50) silent (three 1)) phases.DataIn named 0 1 ≡ 22
 gives_all_again = refl
 
-gives_nothing_in_command : gives_in (bytewise silent (three 1)) phases.Command named 0 0 ≡ 0
+gives_nothing_in_command : phase_byte (bytewise silent (three 1)) phases.Command named 0 0 ≡ 0
 gives_nothing_in_command = refl
 
 -- ---- whether a byte follows
@@ -766,8 +766,8 @@ message_ends_with_attention = refl
 block_goes_on : follows silent (record reads { whole = false }) (rose 5 5) false phases.Command ≡ true
 block_goes_on = refl
 
-block_is_whole : follows silent reads (rose 6 6) false phases.Command ≡ false
-block_is_whole = refl
+has_whole_block : follows silent reads (rose 6 6) false phases.Command ≡ false
+has_whole_block = refl
 
 block_is_struck : follows (record silent { struck = true }) (record reads { whole = false }) (rose 5 5) false phases.Command ≡ false
 block_is_struck = refl
@@ -789,7 +789,7 @@ idle = record (bytewise silent (three 1)) { task = None }
 idle_has_no_bytes : follows_in idle (rose 0 0) false phases.Command ∷ follows_in idle (rose 0 0) false phases.DataIn ∷ follows_in idle (rose 0 0) false phases.DataOut ∷ [] ≡ false ∷ false ∷ false ∷ []
 idle_has_no_bytes = refl
 
-idle_gives_nothing : gives_in idle phases.DataIn named 0 0 ∷ gives_in idle phases.Status named 0 0 ∷ [] ≡ 0 ∷ 0 ∷ []
+idle_gives_nothing : phase_byte idle phases.DataIn named 0 0 ∷ phase_byte idle phases.Status named 0 0 ∷ [] ≡ 0 ∷ 0 ∷ []
 idle_gives_nothing = refl
 
 -- ---- the row that leaves a phase: with a byte where I/O is true before and after it
@@ -824,16 +824,16 @@ leaves_the_bus = refl
 abbrev sending : Sending
 sending = record { cdb = 0x0a ∷ 0 ∷ 0 ∷ 4 ∷ []; sent = 31 ∷ 32 ∷ 33 ∷ []; command = 3; moved = 1 }
 
-sends_words : word_out (set_of 0x16a00) (speech 1) sending ≡ 0x20
+sends_words : byte_to_send (set_of 0x16a00) (speech 1) sending ≡ 0x20
 sends_words = refl
 
-sends_its_block : word_out (set_of 0x04a00) (speech 1) sending ≡ 4
+sends_its_block : byte_to_send (set_of 0x04a00) (speech 1) sending ≡ 4
 sends_its_block = refl
 
-sends_its_data : word_out (set_of 0x04200) (speech 1) sending ≡ 32
+sends_its_data : byte_to_send (set_of 0x04200) (speech 1) sending ≡ 32
 sends_its_data = refl
 
-sends_no_further_data : word_out (set_of 0x04200) (speech 1) (record sending { moved = 3 }) ≡ 0
+sends_no_further_data : byte_to_send (set_of 0x04200) (speech 1) (record sending { moved = 3 }) ≡ 0
 sends_no_further_data = refl
 
 has_words_to_send : answering_by (speech 1) sending (set_of 0x16a00) None 70 ≡ record { byte = 0x20; attends = true; speaks = false; raised = 70 }

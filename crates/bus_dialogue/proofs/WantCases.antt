@@ -9,17 +9,17 @@ use Rattle.scenario.specs.declared.value.Payload.TheVariants as payloads
 use Rattle.scenario.specs.declared.value.Tag.{Tag}
 use Rattle.scenario.specs.declared.value.Tag.TheVariants as tags
 use Rattle.disk_array.specs.Processes.{Process}
-use Rattle.disk_array.specs.Units.{Running}
-use Rattle.bus_story.specs.Items.{Item, abort, command, sense}
+use Rattle.disk_array.specs.Units.{RunningProcess}
+use Rattle.bus_story.specs.Items.{Item, abort, command_item, sense_item}
 use Rattle.bus_dialogue.specs.declared.exchange.Arrival.TheVariants as arrivals
 use Rattle.bus_dialogue.specs.declared.exchange.Cause.TheVariants as causes
 use Rattle.bus_dialogue.specs.declared.exchange.Phase.TheVariants as phases
 use Rattle.bus_dialogue.specs.declared.exchange.Plan.{Plan}
 use Rattle.bus_dialogue.specs.declared.exchange.Said.{Said}
-use Rattle.bus_dialogue.specs.Talk.{no_plan, nothing_said}
-use Rattle.bus_dialogue.specs.Course.{Serving}
+use Rattle.bus_dialogue.specs.Exchange.{no_plan, nothing_heard}
+use Rattle.bus_dialogue.specs.NextPhase.{Serving}
 use Rattle.bus_dialogue.specs.Wants.{OwnCommand, OwnAbort, Book, item_by, item_since, Ready, ready_in, ready_by}
-use Rattle.bus_dialogue.specs.Events.{leaving_shows}
+use Rattle.bus_dialogue.specs.Events.{leaving_events}
 
 -- ---- the book of an initiator
 
@@ -49,7 +49,7 @@ book = record {
 abbrev with_abort : Bool → Book
 with_abort done = record book { aborts = record { number = 1; at = 1500; done = done } ∷ [] }
 
-first_command : item_by book 1000 ≡ Some (command 5)
+first_command : item_by book 1000 ≡ Some (command_item 5)
 first_command = refl
 
 not_before_its_time : item_by book 999 ≡ None
@@ -68,27 +68,27 @@ tag_in_use = refl
 untagged_beside_another : item_by (record book { commands = own 2 (test_unit_ready 500 0 (tags.Simple 1)) true false ∷ own 5 (test_unit_ready 1000 0 tags.Untagged) false false ∷ [] }) 1000 ≡ None
 untagged_beside_another = refl
 
-another_unit : item_by (record book { commands = own 2 (test_unit_ready 500 0 (tags.Simple 1)) true false ∷ own 5 (test_unit_ready 1000 3 (tags.Simple 1)) false false ∷ [] }) 1000 ≡ Some (command 5)
+another_unit : item_by (record book { commands = own 2 (test_unit_ready 500 0 (tags.Simple 1)) true false ∷ own 5 (test_unit_ready 1000 3 (tags.Simple 1)) false false ∷ [] }) 1000 ≡ Some (command_item 5)
 another_unit = refl
 
 -- The first that is still to be sent waits for room, and those after it wait for it.
-over_is_over : item_by (record book { commands = own 2 (test_unit_ready 500 0 (tags.Simple 1)) true true ∷ own 5 (test_unit_ready 1000 0 (tags.Simple 2)) false true ∷ own 6 (test_unit_ready 2000 0 (tags.Simple 3)) false false ∷ [] }) 3000 ≡ Some (command 6)
+over_is_over : item_by (record book { commands = own 2 (test_unit_ready 500 0 (tags.Simple 1)) true true ∷ own 5 (test_unit_ready 1000 0 (tags.Simple 2)) false true ∷ own 6 (test_unit_ready 2000 0 (tags.Simple 3)) false false ∷ [] }) 3000 ≡ Some (command_item 6)
 over_is_over = refl
 
 -- An abort that is due goes first, then an automatic REQUEST SENSE.
 abort_goes_first : item_by (with_abort false) 1500 ≡ Some (abort 1)
 abort_goes_first = refl
 
-abort_is_not_due : item_by (with_abort false) 1499 ≡ Some (command 5)
+abort_is_not_due : item_by (with_abort false) 1499 ≡ Some (command_item 5)
 abort_is_not_due = refl
 
-abort_is_done : item_by (with_abort true) 1500 ≡ Some (command 5)
+abort_is_done : item_by (with_abort true) 1500 ≡ Some (command_item 5)
 abort_is_done = refl
 
-sense_goes_before_commands : item_by (record (with_abort true) { sense = Some (sense 1) }) 0 ≡ Some (sense 1)
+sense_goes_before_commands : item_by (record (with_abort true) { sense = Some (sense_item 1) }) 0 ≡ Some (sense_item 1)
 sense_goes_before_commands = refl
 
-wants_the_sense_always : item_since (record book { sense = Some (sense 1) }) ≡ Some 0
+wants_the_sense_always : item_since (record book { sense = Some (sense_item 1) }) ≡ Some 0
 wants_the_sense_always = refl
 
 -- ---- what a target has ready
@@ -123,23 +123,23 @@ link = record { initiator = 7; target = 3; began = 5380; reselected = false }
 abbrev serving : Plan → Serving
 serving plan = record { def = None; plan = plan; task = None; given = []; arrival = arrivals.Queued }
 
-command_arrives : leaving_shows (serving no_plan) link true true false phases.Command (Some this) ≡ events.Accept this ∷ []
+command_arrives : leaving_events (serving no_plan) link true true false phases.Command (Some this) ≡ events.Accept this ∷ []
 command_arrives = refl
 
-struck_command_does_not : leaving_shows (serving (record no_plan { struck = true })) link true true false phases.Command (Some this) ≡ []
+struck_command_does_not : leaving_events (serving (record no_plan { struck = true })) link true true false phases.Command (Some this) ≡ []
 struck_command_does_not = refl
 
-refused_command : leaving_shows (record (serving no_plan) { arrival = arrivals.Refused }) link true true false phases.Command (Some this) ≡ events.Refuse this ∷ []
+refused_command : leaving_events (record (serving no_plan) { arrival = arrivals.Refused }) link true true false phases.Command (Some this) ≡ events.Refuse this ∷ []
 refused_command = refl
 
-lost_in_status : leaving_shows (serving no_plan) link true false false phases.Status (Some this) ≡ events.Lost this ∷ []
+lost_in_status : leaving_events (serving no_plan) link true false false phases.Status (Some this) ≡ events.Lost this ∷ []
 lost_in_status = refl
 
-bus_freed_after_messages : leaving_shows (serving no_plan) link true false false phases.MessageIn (Some this) ≡ []
+bus_freed_after_messages : leaving_events (serving no_plan) link true false false phases.MessageIn (Some this) ≡ []
 bus_freed_after_messages = refl
 
-abort_of_a_tag : leaving_shows (serving (record no_plan { said = record nothing_said { unit = Some 2; tag = tags.Simple 9; aborts = Some (aborts.Tag 9) } })) link true false false phases.MessageOut None ≡ events.Aborted 7 3 2 (aborts.Tag 9) ∷ []
+abort_of_a_tag : leaving_events (serving (record no_plan { said = record nothing_heard { unit = Some 2; tag = tags.Simple 9; aborts = Some (aborts.Tag 9) } })) link true false false phases.MessageOut None ≡ events.Aborted 7 3 2 (aborts.Tag 9) ∷ []
 abort_of_a_tag = refl
 
-first_phase_shows_nothing : leaving_shows (serving no_plan) link false true false phases.MessageOut (Some this) ≡ []
+first_phase_shows_nothing : leaving_events (serving no_plan) link false true false phases.MessageOut (Some this) ≡ []
 first_phase_shows_nothing = refl

@@ -2,8 +2,7 @@
 use Rattle.std.specs.Prelude.{ℕ, Bool, ◌&&◌, Option, Some, None, nat_lt, if◌then◌else◌}
 use Rattle.bus_lines.specs.LineSet.{LineSet}
 use Rattle.bus_lines.specs.declared.agreements.Agreement.{Agreement}
-use Rattle.bus_lines.specs.declared.agreements.TransferTimes.{TransferTimes}
-use Rattle.bus_lines.specs.Agreements.{transfer_times, slow_times}
+use Rattle.bus_rules.specs.Transfer.{times_of}
 use Rattle.bus_rules.specs.declared.words.End.{End}
 use Rattle.bus_rules.specs.declared.words.End.TheVariants as ends
 use Rattle.bus_rules.specs.Dialogue.{is_of_other}
@@ -15,21 +14,17 @@ use Rattle.bus_reactions.specs.declared.ends.Offering.{Offering}
 use Rattle.bus_reactions.specs.declared.ends.Answering.{Answering}
 use Rattle.bus_lines.specs.Handshakes.{Handshakes}
 use Rattle.bus_dialogue.specs.declared.exchange.Leaving.{Leaving}
-use Rattle.bus_dialogue.specs.Talk.{Speech, attends_with}
+use Rattle.bus_dialogue.specs.Exchange.{Speech, attends_with}
 use Rattle.bus_dialogue.specs.Arrivals.{policy_of}
-use Rattle.bus_dialogue.specs.Course.{Serving, phase_of, waits_seek, leaves_by}
-use Rattle.bus_dialogue.specs.Giving.{gives_in, run_length_if, follows_in, lines_by}
-use Rattle.bus_dialogue.specs.Sending.{Sending, word_out}
+use Rattle.bus_dialogue.specs.NextPhase.{Serving, phase_of, waits_seek, leaving_by}
+use Rattle.bus_dialogue.specs.PhaseBytes.{phase_byte, run_length_if, follows_in, lines_by}
+use Rattle.bus_dialogue.specs.Sending.{Sending, byte_to_send}
 
 -- ---- how bytes cross
 
 -- A data phase under an agreement with an offset is pulsed (6.1.5.2).
-abbrev pub is_pulsed : Bool → LineSet → Agreement → Bool
-is_pulsed begun bus a = begun && is_data bus && nat_lt 0 a.offset
-
-abbrev pub or_slow : Option TransferTimes → ℕ → TransferTimes
-or_slow None factor = slow_times factor
-or_slow (Some t) factor = t
+abbrev pub is_pulsed_phase : Bool → LineSet → Agreement → Bool
+is_pulsed_phase begun bus a = begun && is_data bus && nat_lt 0 a.offset
 
 -- The lag of an initiator; a target has none.
 abbrev pub lag_by : Option HostDef → ℕ
@@ -38,9 +33,9 @@ lag_by (Some h) = h.lag
 
 abbrev pub pace_by : Bool → LineSet → Agreement → Option HostDef → Pace
 pace_by begun bus a host = record {
-  pulsed = is_pulsed begun bus a;
+  pulsed = is_pulsed_phase begun bus a;
   offset = a.offset;
-  times = or_slow (transfer_times a.period) a.period;
+  times = times_of a.period;
   lag = lag_by host;
 }
 
@@ -59,14 +54,14 @@ abbrev pub follows_by : Serving → Bool → LineSet → Handshakes → Bool
 follows_by v pulsed bus r =
     if pulsed then nat_lt r.requests (run_length_if (policy_of v.def) v.task) else follows_in v r bus.atn (phase_of bus)
 
-abbrev pub leaves_to : Serving → LineSet → Leaving → LineSet
-leaves_to v bus l = lines_by v bus.io l l.to
+abbrev pub leaving_lines : Serving → LineSet → Leaving → LineSet
+leaving_lines v bus l = lines_by v bus.io l l.to
 
 abbrev pub offering_by : Serving → Bool → Bool → LineSet → Handshakes → Offering
 offering_by v begun pulsed bus r = record {
-  byte = gives_in v (phase_of bus) v.plan.messages 0 r.requests;
+  byte = phase_byte v (phase_of bus) v.plan.messages 0 r.requests;
   follows = follows_by v pulsed bus r;
-  to = leaves_to v bus (leaves_by v begun bus);
+  to = leaving_lines v bus (leaving_by v begun bus);
   wait = seek_before v bus;
 }
 
@@ -76,7 +71,7 @@ offering_by v begun pulsed bus r = record {
 -- raised ACK.
 abbrev pub answering_by : Speech → Sending → LineSet → Option End → ℕ → Answering
 answering_by speech sending bus offer raised = record {
-  byte = word_out bus speech sending;
+  byte = byte_to_send bus speech sending;
   attends = attends_with speech;
   speaks = is_of_other offer ends.Initiator;
   raised = raised;

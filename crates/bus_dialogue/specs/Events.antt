@@ -5,6 +5,7 @@ use Rattle.bus_base.specs.declared.AbortKind.{AbortKind}
 use Rattle.bus_base.specs.declared.Event.{Event}
 use Rattle.bus_base.specs.declared.Event.TheVariants as events
 use Rattle.bus_lines.specs.declared.connection.Connection.{Connection}
+use Rattle.cdb_codec.specs.declared.sense.TheConstants.{PARITY_ERROR, INITIATOR_DETECTED_ERROR}
 use Rattle.bus_dialogue.specs.declared.exchange.Arrival.{Arrival}
 use Rattle.bus_dialogue.specs.declared.exchange.Arrival.TheVariants as arrivals
 use Rattle.bus_dialogue.specs.declared.exchange.Cause.{Cause}
@@ -14,7 +15,7 @@ use Rattle.bus_dialogue.specs.declared.exchange.Phase.TheVariants as phases
 use Rattle.bus_dialogue.specs.declared.exchange.Plan.{Plan}
 use Rattle.bus_dialogue.specs.declared.exchange.Said.{Said}
 use Rattle.bus_dialogue.specs.declared.exchange.Task.{Task}
-use Rattle.bus_dialogue.specs.Course.{Serving, leaves}
+use Rattle.bus_dialogue.specs.NextPhase.{Serving, phase_leaving}
 
 -- ---- to another phase
 
@@ -29,43 +30,43 @@ abbrev pub arrival_events : ProcId → Plan → Arrival → Phase → List Event
 arrival_events id plan arrival phases.Command = if plan.struck then [] else arrival_event id arrival ∷ []
 arrival_events id plan arrival _ = []
 
--- With the first STATUS phase: it gave up what it could not take (0x47) or could not give (0x48), or it was refused, or it
--- runs.
-abbrev pub after_detected : Cause → ProcId → List Event
-after_detected causes.InData id = events.Fail id 0x48 ∷ []
-after_detected _ id = events.Run id ∷ []
+-- With the first STATUS phase: it gave up what it could not take (SCSI PARITY ERROR) or could not give (INITIATOR DETECTED
+-- ERROR MESSAGE RECEIVED), or it was refused, or it runs.
+abbrev pub detected_events : Cause → ProcId → List Event
+detected_events causes.InData id = events.Fail id INITIATOR_DETECTED_ERROR ∷ []
+detected_events _ id = events.Run id ∷ []
 
-abbrev pub after_arrival : Arrival → ProcId → List Event
-after_arrival arrivals.Refused id = []
-after_arrival _ id = events.Run id ∷ []
+abbrev pub arrival_run_events : Arrival → ProcId → List Event
+arrival_run_events arrivals.Refused id = []
+arrival_run_events _ id = events.Run id ∷ []
 
 abbrev pub reply_events : ProcId → Plan → Arrival → Phase → List Event
-reply_events id plan arrival phases.Command = if plan.struck then events.Fail id 0x47 ∷ [] else after_arrival arrival id
-reply_events id plan arrival phases.DataOut = if plan.struck then events.Fail id 0x47 ∷ [] else events.Run id ∷ []
-reply_events id plan arrival phases.MessageOut = after_detected plan.cause id
+reply_events id plan arrival phases.Command = if plan.struck then events.Fail id PARITY_ERROR ∷ [] else arrival_run_events arrival id
+reply_events id plan arrival phases.DataOut = if plan.struck then events.Fail id PARITY_ERROR ∷ [] else events.Run id ∷ []
+reply_events id plan arrival phases.MessageOut = detected_events plan.cause id
 reply_events id plan arrival _ = events.Run id ∷ []
 
-abbrev pub is_status : Option Phase → Bool
-is_status (Some phases.Status) = true
-is_status _ = false
+abbrev pub is_status_next : Option Phase → Bool
+is_status_next (Some phases.Status) = true
+is_status_next _ = false
 
 abbrev pub has_replied : Option Task → Bool
 has_replied None = true
 has_replied (Some t) = t.replied
 
 -- The newest first.
-abbrev pub and_then : List Event → List Event → List Event
-and_then [] before = before
-and_then (e ∷ after) before = e ∷ before
+abbrev pub newest_with : List Event → List Event → List Event
+newest_with [] before = before
+newest_with (e ∷ after) before = e ∷ before
 
 abbrev pub turn_events : Serving → Bool → Phase → ProcId → List Event
 turn_events v attention phase id =
-    and_then (if is_status (leaves v attention phase).to && not (has_replied v.task) then reply_events id v.plan v.arrival phase else [])
+    newest_with (if is_status_next (phase_leaving v attention phase).to && not (has_replied v.task) then reply_events id v.plan v.arrival phase else [])
     (arrival_events id v.plan v.arrival phase)
 
-abbrev pub turn_shows : Serving → Bool → Phase → Option ProcId → List Event
-turn_shows v attention phase None = []
-turn_shows v attention phase (Some id) = turn_events v attention phase id
+abbrev pub turn_events_if : Serving → Bool → Phase → Option ProcId → List Event
+turn_events_if v attention phase None = []
+turn_events_if v attention phase (Some id) = turn_events v attention phase id
 
 -- ---- to BUS FREE: after an abort message (6.6.1 to 6.6.4), after COMMAND COMPLETE or DISCONNECT, or as it gives up
 
@@ -84,15 +85,15 @@ abbrev pub after_opening_events : Connection → Said → Option AbortKind → O
 after_opening_events n said None id = loss_events id
 after_opening_events n said (Some what) id = abort_events n said what
 
-abbrev pub end_shows : Connection → Plan → Phase → Option ProcId → List Event
-end_shows n plan phases.MessageOut id = after_opening_events n plan.said plan.said.aborts id
-end_shows n plan phases.MessageIn id = []
-end_shows n plan _ id = loss_events id
+abbrev pub connection_end_events : Connection → Plan → Phase → Option ProcId → List Event
+connection_end_events n plan phases.MessageOut id = after_opening_events n plan.said plan.said.aborts id
+connection_end_events n plan phases.MessageIn id = []
+connection_end_events n plan _ id = loss_events id
 
 -- ---- the row with which it leaves a phase; the connection stands after it or not. Nothing is shown as the first phase of
 -- all begins, or where the bus is left before it.
-abbrev pub leaving_shows : Serving → Connection → Bool → Bool → Bool → Phase → Option ProcId → List Event
-leaving_shows v n begun stands attention phase id =
+abbrev pub leaving_events : Serving → Connection → Bool → Bool → Bool → Phase → Option ProcId → List Event
+leaving_events v n begun stands attention phase id =
     if not begun then []
-    else if stands then turn_shows v attention phase id
-    else end_shows n v.plan phase id
+    else if stands then turn_events_if v attention phase id
+    else connection_end_events n v.plan phase id

@@ -11,7 +11,7 @@ use Rattle.bus_lines.specs.Effect.{no_effect, effect}
 use Rattle.bus_lines.specs.Handshakes.{handshakes}
 use Rattle.bus_rules.specs.declared.dialogue.Dialogue.{Dialogue}
 use Rattle.bus_rules.specs.Dialogue.{asynchronous, opened, dialogue}
-use Rattle.bus_story.specs.Wires.{message_out, message_in}
+use Rattle.bus_story.specs.BusState.{message_out, message_in}
 use Rattle.bus_dialogue.specs.declared.exchange.Hearing.{Hearing}
 
 -- ---- a phase has begun in the connection that stands

@@ -1,12 +1,12 @@
-pub mod Talk
+pub mod Exchange
 pub mod Wants
 pub mod Words
 pub mod Speaking
 pub mod Planning
 pub mod Arrivals
 pub mod DataRuns
-pub mod Course
-pub mod Giving
+pub mod NextPhase
+pub mod PhaseBytes
 pub mod Sending
 pub mod Ends
 pub mod Events

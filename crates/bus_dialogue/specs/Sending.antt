@@ -2,7 +2,7 @@
 use Rattle.std.specs.Prelude.{ℕ, List, [], slice_index_or, if◌then◌else◌}
 use Rattle.bus_lines.specs.LineSet.{LineSet}
 use Rattle.bus_lines.specs.Phases.{is_message_out, is_command}
-use Rattle.bus_dialogue.specs.Talk.{Speech, next_word}
+use Rattle.bus_dialogue.specs.Exchange.{Speech, next_word}
 
 -- What the initiator has to send of the process of the connection: the bytes of its command and of its data, and the
 -- active pointers to them.
@@ -15,8 +15,8 @@ pub record Sending : Type 0 where
 abbrev pub nothing_to_send : Sending
 nothing_to_send = record { cdb = []; sent = []; command = 0; moved = 0 }
 
-abbrev pub word_out : LineSet → Speech → Sending → ℕ
-word_out bus p o =
+abbrev pub byte_to_send : LineSet → Speech → Sending → ℕ
+byte_to_send bus p o =
     if is_message_out bus then next_word p
     else if is_command bus then slice_index_or o.cdb o.command 0
     else slice_index_or o.sent o.moved 0

@@ -4,7 +4,7 @@ use Rattle.bus_lines.specs.declared.agreements.Agreement.{Agreement}
 use Rattle.bus_lines.specs.Phases.{is_message_out, is_message_in, changes_phase}
 use Rattle.scenario.specs.declared.value.HostDef.{HostDef}
 use Rattle.bus_dialogue.specs.declared.exchange.Hearing.{Hearing}
-use Rattle.bus_dialogue.specs.Talk.{Speech, speaks, has_said, is_asked}
+use Rattle.bus_dialogue.specs.Exchange.{Speech, speech_of, speech_after_byte, speech_after_request}
 use Rattle.bus_dialogue.specs.Words.{parity_error, detected_error, answer_bytes}
 
 -- MESSAGE OUT begins: of the byte of MESSAGE IN before it, or of the data or the status.
@@ -15,15 +15,15 @@ words_after h w asked =
     else answer_bytes h asked
 
 -- A phase begins; the first MESSAGE OUT of a selection is for the opening.
-abbrev pub speech_turns : Option HostDef → Hearing → Speech → Speech
-speech_turns h w p =
-    if is_message_out w.change.after && w.begun then speaks p (words_after h w p.asked) else record p { place = 0 }
+abbrev pub speech_in_phase : Option HostDef → Hearing → Speech → Speech
+speech_in_phase h w p =
+    if is_message_out w.change.after && w.begun then speech_of p (words_after h w p.asked) else record p { place = 0 }
 
-abbrev pub speech_hears : Hearing → Speech → Speech
-speech_hears w p = if is_message_out w.change.before then has_said p else is_asked p w.into
+abbrev pub speech_with_byte : Hearing → Speech → Speech
+speech_with_byte w p = if is_message_out w.change.before then speech_after_byte p else speech_after_request p w.into
 
-abbrev pub speech_on : Option HostDef → Hearing → Speech → Speech
-speech_on h w p =
-    if changes_phase w.change then speech_turns h w p
-    else if w.crosses then speech_hears w p
+abbrev pub speech_after : Option HostDef → Hearing → Speech → Speech
+speech_after h w p =
+    if changes_phase w.change then speech_in_phase h w p
+    else if w.crosses then speech_with_byte w p
     else p

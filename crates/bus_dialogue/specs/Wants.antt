@@ -4,9 +4,9 @@ use Rattle.std.specs.Prelude.{ℕ, Bool, true, false, not, ◌&&◌, ◌||◌, �
 use Rattle.std.specs.List.{list_any}
 use Rattle.scenario.specs.declared.value.CmdDef.{CmdDef}
 use Rattle.disk_array.specs.Processes.{Process}
-use Rattle.disk_array.specs.Units.{Running}
-use Rattle.bus_story.specs.Items.{Item, abort, command, or_else, clashes}
-use Rattle.bus_reactions.specs.Reactions.{sooner, time_if}
+use Rattle.disk_array.specs.Units.{RunningProcess}
+use Rattle.bus_story.specs.Items.{Item, abort, command_item, or_else, is_clash}
+use Rattle.bus_reactions.specs.Reactions.{sooner_time, time_if}
 
 -- ---- the book of an initiator
 
@@ -43,7 +43,7 @@ open_in (o ∷ own) = if o.sent && not o.over then o.def ∷ open_in own else op
 -- confused with (6.6.17, 7.8).
 abbrev pub may_follow : ℕ → ℕ → List CmdDef → CmdDef → Bool
 may_follow most time now c =
-    nat_le c.at time && nat_lt (length now) most && not (list_any (λ (d : CmdDef). clashes c d) now)
+    nat_le c.at time && nat_lt (length now) most && not (list_any (λ (d : CmdDef). is_clash c d) now)
 
 -- ---- what it sends at this time: an abort first, then an automatic REQUEST SENSE, then its first command that is still to be
 -- sent
@@ -55,7 +55,7 @@ abort_by time (a ∷ aborts) = if nat_le a.at time && not a.done then Some (abor
 abbrev pub command_by : ℕ → ℕ → List CmdDef → List OwnCommand → Option Item
 command_by most time now [] = None
 command_by most time now (o ∷ own) =
-    if not (o.sent || o.over) then (if may_follow most time now o.def then Some (command o.number) else None)
+    if not (o.sent || o.over) then (if may_follow most time now o.def then Some (command_item o.number) else None)
     else command_by most time now own
 
 abbrev pub item_by : Book → ℕ → Option Item
@@ -66,7 +66,7 @@ item_by b time =
 
 abbrev pub abort_since : List OwnAbort → Option ℕ
 abort_since [] = None
-abort_since (a ∷ aborts) = sooner (time_if (not a.done) a.at) (abort_since aborts)
+abort_since (a ∷ aborts) = sooner_time (time_if (not a.done) a.at) (abort_since aborts)
 
 abbrev pub command_since : ℕ → List CmdDef → List OwnCommand → Option ℕ
 command_since most now [] = None
@@ -75,8 +75,8 @@ command_since most now (o ∷ own) =
 
 abbrev pub item_since : Book → Option ℕ
 item_since b =
-    sooner (abort_since b.aborts)
-    (sooner (time_if (is_some b.sense) 0) (command_since b.most (open_in b.commands) b.commands))
+    sooner_time (abort_since b.aborts)
+    (sooner_time (time_if (is_some b.sense) 0) (command_since b.most (open_in b.commands) b.commands))
 
 -- Its time has come.
 abbrev pub is_reached : Option ℕ → ℕ → Bool
@@ -89,18 +89,18 @@ pub record Ready : Type 0 where
   pub time : ℕ
   pub process : Process
 
-abbrev pub ready_in : Bool → Option Running → ℕ → Option Ready
+abbrev pub ready_in : Bool → Option RunningProcess → ℕ → Option Ready
 ready_in held None time = None
 ready_in held (Some r) time = if held then None else Some (record { time = time; process = r.process })
 
 -- Of several that whose seek time passes first; of those that of the lower unit.
-abbrev pub is_before : Ready → Ready → Bool
-is_before a b = nat_lt a.time b.time || (a.time == b.time && nat_lt a.process.unit b.process.unit)
+abbrev pub is_ready_before : Ready → Ready → Bool
+is_ready_before a b = nat_lt a.time b.time || (a.time == b.time && nat_lt a.process.unit b.process.unit)
 
 abbrev pub first_ready : Option Ready → Option Ready → Option Ready
 first_ready None b = b
 first_ready (Some a) None = Some a
-first_ready (Some a) (Some b) = if is_before b a then Some b else Some a
+first_ready (Some a) (Some b) = if is_ready_before b a then Some b else Some a
 
 -- Of all its units.
 abbrev pub ready_by : List (Option Ready) → Option Ready

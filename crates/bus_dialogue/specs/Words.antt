@@ -2,6 +2,7 @@
 use Rattle.std.specs.Prelude.{ℕ, max, min, Bool, true, false, not, ◌&&◌, ◌==◌, List, [], ◌++◌, Option, Some, None, nat_lt, if◌then◌else◌}
 use Rattle.bus_base.specs.declared.AbortKind.{AbortKind}
 use Rattle.bus_base.specs.declared.AbortKind.TheVariants as aborts
+use Rattle.bus_lines.specs.declared.agreements.TheConstants.{UNLIMITED_OFFSET}
 use Rattle.bus_lines.specs.declared.agreements.Agreement.{Agreement}
 use Rattle.msg_grammar.specs.declared.message.MsgOut.TheVariants as to_target
 use Rattle.msg_grammar.specs.declared.message.MsgIn.{MsgIn}
@@ -19,18 +20,18 @@ use Rattle.disk_array.specs.Processes.{Process}
 
 -- The answer to a request has the larger period and the smaller offset; one that has no period of its own answers
 -- with offset 0.
-abbrev pub answer : ℕ → ℕ → Agreement → Agreement
-answer period offset heard =
+abbrev pub agreement_answer : ℕ → ℕ → Agreement → Agreement
+agreement_answer period offset heard =
     if period == 0 then record { period = heard.period; offset = 0 }
     else record { period = max period heard.period; offset = min offset heard.offset }
 
 abbrev pub host_answer : Option HostDef → Agreement → Agreement
-host_answer None heard = answer 0 0 heard
-host_answer (Some h) heard = answer h.period h.offset heard
+host_answer None heard = agreement_answer 0 0 heard
+host_answer (Some h) heard = agreement_answer h.period h.offset heard
 
 abbrev pub target_answer : Option TargetDef → Agreement → Agreement
-target_answer None heard = answer 0 0 heard
-target_answer (Some t) heard = answer t.period t.offset heard
+target_answer None heard = agreement_answer 0 0 heard
+target_answer (Some t) heard = agreement_answer t.period t.offset heard
 
 -- ---- the initiator
 
@@ -85,8 +86,8 @@ tag_named (tags.Simple n) = Some (to_initiator.SimpleTag n)
 tag_named (tags.Ordered n) = Some (to_initiator.SimpleTag n)
 tag_named (tags.Head n) = Some (to_initiator.SimpleTag n)
 
-abbrev pub names : Process → Messages
-names p = record { first = Some (to_initiator.Identify p.unit); second = tag_named p.tag }
+abbrev pub naming_messages : Process → Messages
+naming_messages p = record { first = Some (to_initiator.Identify p.unit); second = tag_named p.tag }
 
 abbrev pub is_name : MsgIn → Bool
 is_name (to_initiator.Identify lun) = true
@@ -97,9 +98,9 @@ abbrev pub is_naming : Option MsgIn → Bool
 is_naming None = false
 is_naming (Some m) = is_name m
 
--- An offer of offset 255 is rejected.
+-- An offer without a limit is rejected.
 abbrev pub reply_to : Option TargetDef → Agreement → MsgIn
-reply_to t offer = if offer.offset == 255 then to_initiator.Reject else to_initiator.Sdtr (target_answer t offer)
+reply_to t offer = if offer.offset == UNLIMITED_OFFSET then to_initiator.Reject else to_initiator.Sdtr (target_answer t offer)
 
 abbrev pub request_by : Option TargetDef → Option MsgIn
 request_by None = None

@@ -4,7 +4,7 @@ ghost use Rattle.msg_grammar.specs.declared.message.Got.{Got};
 ghost use Rattle.bus_lines.specs.declared.Row.{Row};
 ghost use Rattle.bus_lines.specs.BusView.{IsBusViewOf};
 ghost use Rattle.bus_rules.specs.Dialogue.{fresh_bytes, dialogue};
-ghost use Rattle.bus_story.specs.Wires.{whole_out, whole_in, message_out, message_in};
+ghost use Rattle.bus_story.specs.BusState.{whole_out, whole_in, message_out, message_in};
 ghost use Rattle.bus_dialogue.specs.Hearing.{begun_after, begun, hearing_by, no_hearing, last_hearing};
 ghost use Rattle.bus_dialogue.specs.Observer.{IsObserverOf};
 

@@ -12,11 +12,11 @@ use Rattle.bus_lines.specs.Trace.{driven_after}
 use Rattle.bus_lines.specs.declared.changes.Change.{Change}
 use Rattle.bus_lines.specs.Terms.{is_fault}
 use Rattle.scenario.specs.Value.{ScenarioValue}
-use Rattle.bus_story.specs.Wires.{change_by, doing}
+use Rattle.bus_story.specs.BusState.{change_by, row_reading}
 use Rattle.bus_reactions.specs.declared.due.Myself.{Myself}
 use Rattle.bus_due.specs.Own.{Own, own_at, own_after, owns_after, own_next}
 use Rattle.bus_due.specs.Due.{self_of}
-use Rattle.bus_due.specs.Known.{known}
+use Rattle.bus_due.specs.RunSteps.{run_state}
 
 -- ---- a device's own rows
 
@@ -33,9 +33,9 @@ long_after owns row c e = go (is_fault row.kind)
     go true = e
     go false = length-set _ _ _ ∙ e
 
-pub owns_long : (s : ScenarioValue) (rows : List Row) → length (known s rows).owns ≡ 8
+pub owns_long : (s : ScenarioValue) (rows : List Row) → length (run_state s rows).owns ≡ 8
 owns_long s [] = refl
-owns_long s (row ∷ rows) = long_after (known s rows).owns row (doing (known s rows).story.wires row).change (owns_long s rows)
+owns_long s (row ∷ rows) = long_after (run_state s rows).owns row (row_reading (run_state s rows).story.bus_state row).change (owns_long s rows)
 
 pub own_step : (owns : List Own) (t d : ℕ) (k : Kind) (c : Change) (dev : ℕ) → length owns ≡ 8 → d < 8 → own_at (owns_after owns (record { time = t; dev = d; kind = k }) c) dev ≡ (if d == dev then own_next k (own_at owns dev) c t else own_at owns dev)
 own_step owns t d (Drives l) c dev long lt =
@@ -61,15 +61,15 @@ owns_other xs row c dev h = go (is_fault row.kind)
     go true = refl
     go false = grind (arith, common_steps, elements)
 
-pub other_mine : (s : ScenarioValue) (rows : List Row) (row : Row) (dev latency : ℕ) → row.dev ≢ dev → self_of (known s (row ∷ rows)) dev latency ≡ self_of (known s rows) dev latency
+pub other_mine : (s : ScenarioValue) (rows : List Row) (row : Row) (dev latency : ℕ) → row.dev ≢ dev → self_of (run_state s (row ∷ rows)) dev latency ≡ self_of (run_state s rows) dev latency
 other_mine s rows row dev latency h =
-    let k = known s rows in
-    let c : Change = change_by k.story.wires row in
-    let d = driven_other k.story.wires.driven row.dev dev (driven_after row.kind (driven_at k.story.wires.driven row.dev)) h in
+    let k = run_state s rows in
+    let c : Change = change_by k.story.bus_state row in
+    let d = driven_other k.story.bus_state.driven row.dev dev (driven_after row.kind (driven_at k.story.bus_state.driven row.dev)) h in
     let o = owns_other k.owns row c dev h in
     λ i. record { dev = dev; latency = latency; own = d i; since = (o i).row }
 
-driven_long : (s : ScenarioValue) (rows : List Row) → length (known s rows).story.wires.driven ≡ 8
+driven_long : (s : ScenarioValue) (rows : List Row) → length (run_state s rows).story.bus_state.driven ≡ 8
 driven_long s [] = refl
 driven_long s (row ∷ rows) = length-set _ _ _ ∙ driven_long s rows
 
@@ -85,11 +85,11 @@ owns_own xs row c lines h e =
     at_set : (ys : List Own) (i : ℕ) (v : Own) → i < length ys → own_at (slice_set ys i v) i ≡ v
     at_set ys i v l = grind (arith, common_steps, elements)
 
-pub own_mine : (s : ScenarioValue) (rows : List Row) (row : Row) (latency : ℕ) (lines : LineSet) → row.dev < 8 → row.kind ≡ Drives lines → self_of (known s (row ∷ rows)) row.dev latency ≡ (let me : Myself = record { dev = row.dev; latency = latency; own = lines; since = row.time } in me)
+pub own_mine : (s : ScenarioValue) (rows : List Row) (row : Row) (latency : ℕ) (lines : LineSet) → row.dev < 8 → row.kind ≡ Drives lines → self_of (run_state s (row ∷ rows)) row.dev latency ≡ (let me : Myself = record { dev = row.dev; latency = latency; own = lines; since = row.time } in me)
 own_mine s rows row latency lines h e =
-    let k = known s rows in
-    let c : Change = change_by k.story.wires row in
-    let d = driven_own k.story.wires.driven row.dev (driven_after row.kind (driven_at k.story.wires.driven row.dev)) (subst (λ (n : ℕ). row.dev < n) (sym (driven_long s rows)) h) in
-    let w : driven_after row.kind (driven_at k.story.wires.driven row.dev) ≡ lines = ap (λ (x : Kind). driven_after x (driven_at k.story.wires.driven row.dev)) e in
+    let k = run_state s rows in
+    let c : Change = change_by k.story.bus_state row in
+    let d = driven_own k.story.bus_state.driven row.dev (driven_after row.kind (driven_at k.story.bus_state.driven row.dev)) (subst (λ (n : ℕ). row.dev < n) (sym (driven_long s rows)) h) in
+    let w : driven_after row.kind (driven_at k.story.bus_state.driven row.dev) ≡ lines = ap (λ (x : Kind). driven_after x (driven_at k.story.bus_state.driven row.dev)) e in
     let o = owns_own k.owns row c lines (subst (λ (n : ℕ). row.dev < n) (sym (owns_long s rows)) h) e in
     λ i. record { dev = row.dev; latency = latency; own = (d ∙ w) i; since = o i }

@@ -12,9 +12,9 @@ use Rattle.bus_rules.specs.Rules.{judged_whole}
 use Rattle.bus_rules.specs.declared.verdict.Verdict.TheVariants.{Lawful}
 use Rattle.bus_rules.proofs.First.{whole_lawful}
 use Rattle.scenario.specs.Needs.{need_of, sent_of}
-use Rattle.bus_story.specs.Told.{story}
+use Rattle.bus_story.specs.TraceHistory.{story}
 use Rattle.bus_story.specs.Outcomes.{Outcome, outcomes}
-use Rattle.bus_story.specs.Samples.{placed, struck}
+use Rattle.bus_story.specs.Samples.{expected_strikes, row_strikes}
 use Rattle.bus_story.specs.Budget.{budget}
 use Rattle.bus_due.specs.Goals.{IsRight}
 use Rattle.bus_due.proofs.Cases.{resets_dropped_due, resets_dropped_due_rows, one_read_due, one_read_due_rows, unanswered_due, unanswered_due_rows, lost_due, lost_due_rows, delayed_ack_due, delayed_ack_due_rows}
@@ -45,7 +45,7 @@ one_read_answered : list_all (λ (o : Option Outcome). is_some o) (outcomes one_
 unfolding need_of sent_of ones union_below line_of form_out form_in
 one_read_answered = refl
 
-one_read_faults : placed one_read_due (reverse one_read_due_rows) ≡ struck one_read_due_rows
+one_read_faults : expected_strikes one_read_due (reverse one_read_due_rows) ≡ row_strikes one_read_due_rows
 unfolding ones union_below line_of form_out form_in
 one_read_faults = refl
 
@@ -65,7 +65,7 @@ unanswered_answered : list_all (λ (o : Option Outcome). is_some o) (outcomes un
 unfolding need_of sent_of ones union_below line_of form_out form_in
 unanswered_answered = refl
 
-unanswered_faults : placed unanswered_due (reverse unanswered_due_rows) ≡ struck unanswered_due_rows
+unanswered_faults : expected_strikes unanswered_due (reverse unanswered_due_rows) ≡ row_strikes unanswered_due_rows
 unfolding ones union_below line_of form_out form_in
 unanswered_faults = refl
 
@@ -85,7 +85,7 @@ lost_answered : list_all (λ (o : Option Outcome). is_some o) (outcomes lost_due
 unfolding need_of sent_of ones union_below line_of form_out form_in
 lost_answered = refl
 
-lost_faults : placed lost_due (reverse lost_due_rows) ≡ struck lost_due_rows
+lost_faults : expected_strikes lost_due (reverse lost_due_rows) ≡ row_strikes lost_due_rows
 unfolding ones union_below line_of form_out form_in
 lost_faults = refl
 
@@ -105,7 +105,7 @@ delayed_ack_answered : list_all (λ (o : Option Outcome). is_some o) (outcomes d
 unfolding need_of sent_of ones union_below line_of form_out form_in
 delayed_ack_answered = refl
 
-delayed_ack_faults : placed delayed_ack_due (reverse delayed_ack_due_rows) ≡ struck delayed_ack_due_rows
+delayed_ack_faults : expected_strikes delayed_ack_due (reverse delayed_ack_due_rows) ≡ row_strikes delayed_ack_due_rows
 unfolding ones union_below line_of form_out form_in
 delayed_ack_faults = refl
 

@@ -2,16 +2,16 @@
 use Rattle.std.specs.Prelude.{Bool, true, ◌&&◌, List, [], ◌∷◌, is_some}
 use Rattle.bus_lines.specs.declared.Row.{Row}
 use Rattle.scenario.specs.Value.{ScenarioValue}
-use Rattle.bus_story.specs.Wires.{Doing, doing}
-use Rattle.bus_story.specs.Shown.{shown_by}
-use Rattle.bus_due.specs.Kept.{Kept}
-use Rattle.bus_due.specs.Known.{known, plays}
+use Rattle.bus_story.specs.BusState.{RowReading, row_reading}
+use Rattle.bus_story.specs.HistoryEvents.{row_events_by}
+use Rattle.bus_due.specs.RunState.{RunState}
+use Rattle.bus_due.specs.RunSteps.{run_state, array_after_events}
 
 -- The array goes on by those of a row.
-abbrev pub is_allowed : ScenarioValue → Kept → Row → Doing → Bool
-is_allowed s k row d = is_some (plays s k.array (shown_by s k.story d row))
+abbrev pub is_allowed : ScenarioValue → RunState → Row → RowReading → Bool
+is_allowed s k row d = is_some (array_after_events s k.array (row_events_by s k.story d row))
 
 -- Of all rows.
 abbrev pub allowed : ScenarioValue → List Row → Bool
 allowed s [] = true
-allowed s (row ∷ rows) = allowed s rows && is_allowed s (known s rows) row (doing (known s rows).story.wires row)
+allowed s (row ∷ rows) = allowed s rows && is_allowed s (run_state s rows) row (row_reading (run_state s rows).story.bus_state row)

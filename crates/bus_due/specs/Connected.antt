@@ -7,35 +7,35 @@ use Rattle.scenario.specs.Value.{ScenarioValue}
 use Rattle.bus_reactions.specs.declared.due.Due.{Due}
 use Rattle.bus_reactions.specs.declared.due.Myself.{Myself}
 use Rattle.bus_reactions.specs.Ends as hand
-use Rattle.bus_due.specs.Kept.{Kept}
+use Rattle.bus_due.specs.RunState.{RunState}
 use Rattle.bus_due.specs.Sights.{sight_of, pace_of, offering_of, answering_of, flip_of}
 
 -- ---- faults: the receiver of the byte that crossed in the last row samples it at once
 
-abbrev pub receives : Option ℕ → ℕ → Bool
-receives None dev = false
-receives (Some d) dev = d == dev
+abbrev pub is_receiving : Option ℕ → ℕ → Bool
+is_receiving None dev = false
+is_receiving (Some d) dev = d == dev
 
 abbrev pub is_receiver : Connection → Option Change → ℕ → Bool
 is_receiver n None dev = false
-is_receiver n (Some c) dev = receives (receiver_in n c) dev
+is_receiver n (Some c) dev = is_receiving (receiver_in n c) dev
 
-abbrev pub target_due : ScenarioValue → Kept → Myself → Option Due
-target_due s k me =
-    hand.target_due k.talk.begun (sight_of k) k.handshakes me (pace_of s k me.dev) (offering_of s k me.dev)
+abbrev pub target_end_due : ScenarioValue → RunState → Myself → Option Due
+target_end_due s k me =
+    hand.target_due k.exchange.begun (sight_of k) k.handshakes me (pace_of s k me.dev) (offering_of s k me.dev)
 
-abbrev pub initiator_due : ScenarioValue → Kept → Myself → Option Due
-initiator_due s k me =
-    hand.initiator_due k.talk.begun (sight_of k) k.handshakes me (pace_of s k me.dev) (answering_of s k me.dev)
+abbrev pub initiator_end_due : ScenarioValue → RunState → Myself → Option Due
+initiator_end_due s k me =
+    hand.initiator_due k.exchange.begun (sight_of k) k.handshakes me (pace_of s k me.dev) (answering_of s k me.dev)
 
 -- ---- either, and no third device
 
-abbrev pub end_due : ScenarioValue → Kept → Myself → Connection → Option Due
+abbrev pub end_due : ScenarioValue → RunState → Myself → Connection → Option Due
 end_due s k me n =
-    if n.initiator == me.dev then initiator_due s k me
-    else if n.target == me.dev then target_due s k me
+    if n.initiator == me.dev then initiator_end_due s k me
+    else if n.target == me.dev then target_end_due s k me
     else None
 
-abbrev pub connected_due : ScenarioValue → Kept → Myself → Connection → Option Due
+abbrev pub connected_due : ScenarioValue → RunState → Myself → Connection → Option Due
 connected_due s k me n =
-    hand.sampled (is_receiver n k.story.wires.crossed me.dev) k.last (flip_of k.faults k.last) (end_due s k me n)
+    hand.sample_due (is_receiver n k.story.bus_state.crossed me.dev) k.last (flip_of k.faults k.last) (end_due s k me n)

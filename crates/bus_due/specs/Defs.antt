@@ -6,16 +6,16 @@ use Rattle.scenario.specs.declared.value.TargetDef.{TargetDef}
 use Rattle.scenario.specs.Value.{ScenarioValue}
 use Rattle.disk_array.specs.Processes.{process_of}
 use Rattle.bus_story.specs.Items.{Item, process, abort}
-use Rattle.bus_story.specs.Shown.{abort_at}
+use Rattle.bus_story.specs.HistoryEvents.{abort_line_at}
 use Rattle.bus_dialogue.specs.Words.{process_opening, abort_opening}
 
 abbrev pub host_of : ScenarioValue → ℕ → Option HostDef
 host_of s dev = find (λ (h : HostDef). h.dev == dev) s.hosts
 
-abbrev pub target_def : ScenarioValue → ℕ → Option TargetDef
-target_def s dev = find (λ (t : TargetDef). t.dev == dev) s.targets
+abbrev pub target_def_of : ScenarioValue → ℕ → Option TargetDef
+target_def_of s dev = find (λ (t : TargetDef). t.dev == dev) s.targets
 
 abbrev pub opening : ScenarioValue → ℕ → Bool → Option Item → List ℕ
 opening s dev negotiates None = []
 opening s dev negotiates (Some (process id)) = process_opening (host_of s dev) negotiates (process_of s id)
-opening s dev negotiates (Some (abort n)) = abort_opening (abort_at s.aborts n)
+opening s dev negotiates (Some (abort n)) = abort_opening (abort_line_at s.aborts n)

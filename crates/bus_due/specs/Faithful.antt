@@ -9,8 +9,8 @@ use Rattle.bus_lines.specs.declared.connection.Connection.{Connection}
 use Rattle.bus_base.specs.declared.AbortKind.{AbortKind}
 use Rattle.scenario.specs.declared.value.AbortDef.{AbortDef}
 use Rattle.bus_story.specs.Items.{Item, process, abort, same_item}
-use Rattle.bus_story.specs.Shown.{abort_at}
-use Rattle.bus_story.specs.Wires.{Doing, doing}
+use Rattle.bus_story.specs.HistoryEvents.{abort_line_at}
+use Rattle.bus_story.specs.BusState.{RowReading, row_reading}
 use Rattle.bus_story.specs.Right.{same_bytes}
 use Rattle.bus_dialogue.specs.declared.exchange.Cause.{Cause}
 use Rattle.bus_dialogue.specs.declared.exchange.Cause.TheVariants as causes
@@ -20,14 +20,14 @@ use Rattle.bus_dialogue.specs.declared.exchange.Plan.{Plan}
 use Rattle.bus_dialogue.specs.declared.exchange.Said.{Said}
 use Rattle.bus_dialogue.specs.declared.exchange.Task.{Task}
 use Rattle.disk_array.specs.Processes.{Process, process_of}
-use Rattle.bus_due.specs.Kept.{Kept, bus_of, process_item, item_of, process_served, carried_here}
-use Rattle.bus_due.specs.Known.{known, served_after}
+use Rattle.bus_due.specs.RunState.{RunState, bus_of, process_item, item_of, process_served, carried_here}
+use Rattle.bus_due.specs.RunSteps.{run_state, served_after}
 use Rattle.bus_due.specs.Telling.{same_kind}
 use Rattle.bus_dialogue.specs.Arrivals.{policy_of}
 use Rattle.bus_due.specs.Tasks.{task_of}
 use Rattle.bus_dialogue.specs.DataRuns.{run_at}
-use Rattle.bus_due.specs.Defs.{target_def}
-use Rattle.bus_dialogue.specs.Course.{phase_of}
+use Rattle.bus_due.specs.Defs.{target_def_of}
+use Rattle.bus_dialogue.specs.NextPhase.{phase_of}
 
 -- ---- what the opening says: the nexus of a process, or an abort of a unit
 
@@ -42,48 +42,48 @@ same_tag (tags.Ordered a) (tags.Ordered b) = a == b
 same_tag (tags.Head a) (tags.Head b) = a == b
 same_tag _ _ = false
 
-abbrev pub names_process : Said → Option Process → Bool
-names_process said None = true
-names_process said (Some p) = is_none said.aborts && is_unit said.unit p.unit && same_tag said.tag p.tag
+abbrev pub is_process_named : Said → Option Process → Bool
+is_process_named said None = true
+is_process_named said (Some p) = is_none said.aborts && is_unit said.unit p.unit && same_tag said.tag p.tag
 
 abbrev pub is_kind : Option AbortKind → AbortKind → Bool
 is_kind None what = false
 is_kind (Some heard) what = same_kind heard what
 
-abbrev pub names_abort : Said → Option AbortDef → Bool
-names_abort said None = true
-names_abort said (Some a) = is_unit said.unit a.unit && is_kind said.aborts a.what
+abbrev pub is_abort_named : Said → Option AbortDef → Bool
+is_abort_named said None = true
+is_abort_named said (Some a) = is_unit said.unit a.unit && is_kind said.aborts a.what
 
-abbrev pub names_item : ScenarioValue → Said → Option Item → Bool
-names_item s said None = true
-names_item s said (Some (process id)) = names_process said (process_of s id)
-names_item s said (Some (abort n)) = names_abort said (abort_at s.aborts n)
+abbrev pub is_item_named : ScenarioValue → Said → Option Item → Bool
+is_item_named s said None = true
+is_item_named s said (Some (process id)) = is_process_named said (process_of s id)
+is_item_named s said (Some (abort n)) = is_abort_named said (abort_line_at s.aborts n)
 
 -- The opening names what is served.
-abbrev pub opening_names : ScenarioValue → Plan → Option Item → Cause → Bool
-opening_names s plan item causes.Selected = plan.struck || names_item s plan.said item
-opening_names s plan item _ = true
+abbrev pub is_opening_named : ScenarioValue → Plan → Option Item → Cause → Bool
+is_opening_named s plan item causes.Selected = plan.struck || is_item_named s plan.said item
+is_opening_named s plan item _ = true
 
 -- An unstruck command block is that of the process.
-abbrev pub block_is : ScenarioValue → Kept → Option Process → Bool
-block_is s k None = true
-block_is s k (Some p) = k.talk.plan.struck || same_bytes (carried_here k p.id).block p.cdb
+abbrev pub is_block_of_process : ScenarioValue → RunState → Option Process → Bool
+is_block_of_process s k None = true
+is_block_of_process s k (Some p) = k.exchange.plan.struck || same_bytes (carried_here k p.id).block p.cdb
 
-abbrev pub leaves_truly : ScenarioValue → Kept → Option Process → Phase → Bool
-leaves_truly s k p phases.MessageOut = opening_names s k.talk.plan k.served k.talk.plan.cause
-leaves_truly s k p phases.Command = block_is s k p
-leaves_truly s k p _ = true
+abbrev pub is_true_leaving : ScenarioValue → RunState → Option Process → Phase → Bool
+is_true_leaving s k p phases.MessageOut = is_opening_named s k.exchange.plan k.served k.exchange.plan.cause
+is_true_leaving s k p phases.Command = is_block_of_process s k p
+is_true_leaving s k p _ = true
 
 -- Of a data run to the target each byte is that which the process sends there.
-abbrev pub is_sent_at : ScenarioValue → Kept → Process → Option Task → ℕ → Bool
+abbrev pub is_sent_at : ScenarioValue → RunState → Process → Option Task → ℕ → Bool
 is_sent_at s k p None byte = true
 is_sent_at s k p (Some t) byte =
-    byte == slice_index_or p.sent ((run_at (policy_of (target_def s p.target)) t t.runs).start + k.handshakes.answers) 0
+    byte == slice_index_or p.sent ((run_at (policy_of (target_def_of s p.target)) t t.runs).start + k.handshakes.answers) 0
 
-abbrev pub crosses_truly : ScenarioValue → Kept → Option Process → ℕ → Phase → Bool
-crosses_truly s k None byte phase = true
-crosses_truly s k (Some p) byte phases.DataOut = is_sent_at s k p (task_of s k) byte
-crosses_truly s k (Some p) byte _ = true
+abbrev pub is_true_crossing : ScenarioValue → RunState → Option Process → ℕ → Phase → Bool
+is_true_crossing s k None byte phase = true
+is_true_crossing s k (Some p) byte phases.DataOut = is_sent_at s k p (task_of s k) byte
+is_true_crossing s k (Some p) byte _ = true
 
 -- A connection begins between the two ends of the process.
 abbrev pub has_ends : Option Process → Connection → Bool
@@ -96,26 +96,26 @@ same_process None b = true
 same_process (Some a) None = false
 same_process (Some a) (Some b) = same_item a b
 
-abbrev pub knows_it : Kept → Phase → Bool
-knows_it k phases.MessageIn = (bus_of k).atn || same_process k.served (item_of k.story.link)
-knows_it k phases.MessageOut = true
-knows_it k _ = same_process k.served (item_of k.story.link)
+abbrev pub is_known_process : RunState → Phase → Bool
+is_known_process k phases.MessageIn = (bus_of k).atn || same_process k.served (item_of k.story.link)
+is_known_process k phases.MessageOut = true
+is_known_process k _ = same_process k.served (item_of k.story.link)
 
-abbrev pub begins_truly : ScenarioValue → Kept → Option Connection → Option Connection → Bool
-begins_truly s k None (Some n) = has_ends (process_item s (served_after s k None (Some n))) n
-begins_truly s k _ _ = true
+abbrev pub is_true_beginning : ScenarioValue → RunState → Option Connection → Option Connection → Bool
+is_true_beginning s k None (Some n) = has_ends (process_item s (served_after s k None (Some n))) n
+is_true_beginning s k _ _ = true
 
 -- A row that ends the connection by RST hears nothing.
-abbrev pub hears_truly : ScenarioValue → Kept → Doing → Bool
-hears_truly s k d =
-    if d.crosses then crosses_truly s k (process_served s k) (d.change.after.data_bits % 256) (phase_of (bus_of k))
-    else if changes_phase d.change && k.talk.begun then knows_it k (phase_of (bus_of k)) && leaves_truly s k (process_served s k) (phase_of (bus_of k))
+abbrev pub is_true_hearing : ScenarioValue → RunState → RowReading → Bool
+is_true_hearing s k d =
+    if d.crosses then is_true_crossing s k (process_served s k) (d.change.after.data_bits % 256) (phase_of (bus_of k))
+    else if changes_phase d.change && k.exchange.begun then is_known_process k (phase_of (bus_of k)) && is_true_leaving s k (process_served s k) (phase_of (bus_of k))
     else true
 
-abbrev pub is_faithful : ScenarioValue → Kept → Doing → Bool
-is_faithful s k d = begins_truly s k k.story.wires.connection d.next && (d.change.after.rst || hears_truly s k d)
+abbrev pub is_faithful : ScenarioValue → RunState → RowReading → Bool
+is_faithful s k d = is_true_beginning s k k.story.bus_state.connection d.next && (d.change.after.rst || is_true_hearing s k d)
 
 -- Of all rows.
 abbrev pub faithful : ScenarioValue → List Row → Bool
 faithful s [] = true
-faithful s (row ∷ rows) = faithful s rows && is_faithful s (known s rows) (doing (known s rows).story.wires row)
+faithful s (row ∷ rows) = faithful s rows && is_faithful s (run_state s rows) (row_reading (run_state s rows).story.bus_state row)

@@ -5,8 +5,8 @@ use Rattle.bus_lines.specs.Terms.{is_fault}
 use Rattle.scenario.specs.declared.value.FaultDef.{FaultDef}
 use Rattle.scenario.specs.Value.{ScenarioValue}
 use Rattle.disk_array.specs.Processes.{Process}
-use Rattle.bus_story.specs.Wires.{Doing}
-use Rattle.bus_story.specs.Told.{is_host, aim_of}
+use Rattle.bus_story.specs.BusState.{RowReading}
+use Rattle.bus_story.specs.TraceHistory.{is_host, aim_of}
 use Rattle.bus_lines.specs.declared.stage.Stage.{Stage}
 use Rattle.bus_reactions.specs.declared.sight.Sight.{Sight}
 use Rattle.bus_reactions.specs.declared.due.Want.{Want}
@@ -22,25 +22,25 @@ use Rattle.bus_dialogue.specs.declared.exchange.Arrival.TheVariants as arrivals
 use Rattle.bus_dialogue.specs.declared.exchange.Leaving.{Leaving}
 use Rattle.bus_dialogue.specs.declared.exchange.Hearing.{Hearing}
 use Rattle.bus_dialogue.specs.Arrivals.{policy_of}
-use Rattle.bus_dialogue.specs.Course.{Serving, phase_of, leaves, leaves_by}
+use Rattle.bus_dialogue.specs.NextPhase.{Serving, phase_of, phase_leaving, leaving_by}
 use Rattle.bus_dialogue.specs.declared.exchange.Messages.{Messages}
-use Rattle.bus_dialogue.specs.Giving.{gives_in}
+use Rattle.bus_dialogue.specs.PhaseBytes.{phase_byte}
 use Rattle.bus_dialogue.specs.Sending.{Sending, nothing_to_send}
 use Rattle.bus_dialogue.specs.Ends.{pace_by, offering_by, answering_by}
 use Rattle.bus_due.specs.Own.{own_at}
-use Rattle.bus_due.specs.Kept.{Kept, bus_of, agreement_of, process_here, carried_here}
-use Rattle.bus_due.specs.Defs.{host_of, target_def}
+use Rattle.bus_due.specs.RunState.{RunState, bus_of, agreement_of, process_here, carried_here}
+use Rattle.bus_due.specs.Defs.{host_of, target_def_of}
 use Rattle.bus_dialogue.specs.Wants.{Ready}
-use Rattle.bus_due.specs.Wants.{ready_of, wanted, callee}
+use Rattle.bus_due.specs.Wants.{ready_of, want_time, callee}
 use Rattle.bus_due.specs.Tasks.{task_of, given_of, arrival_of}
 
 -- ---- any device: the bus
 
-abbrev pub stage_of : Kept → Stage
+abbrev pub stage_of : RunState → Stage
 stage_of k =
-    stage_by (bus_of k).rst k.ages.rst k.story.wires.connection k.story.wires.call k.arbitration (free_age k.ages)
+    stage_by (bus_of k).rst k.ages.rst k.story.bus_state.connection k.story.bus_state.call k.arbitration (free_age k.ages)
 
-abbrev pub sight_of : Kept → Sight
+abbrev pub sight_of : RunState → Sight
 sight_of k = record { bus = bus_of k; ages = k.ages; stage = stage_of k }
 
 -- ---- on the way to a connection: what it wants of the bus
@@ -49,9 +49,9 @@ abbrev pub identify_byte : Option Ready → ℕ
 identify_byte None = 0x80
 identify_byte (Some r) = 0x80 + r.process.unit
 
-abbrev pub want_of : ScenarioValue → Kept → ℕ → Want
+abbrev pub want_of : ScenarioValue → RunState → ℕ → Want
 want_of s k dev = record {
-  since = wanted s k dev;
+  since = want_time s k dev;
   callee = callee s k dev (aim_of k.story.aims dev);
   reselects = not (is_host s.hosts dev);
   first = identify_byte (ready_of s k dev);
@@ -64,57 +64,57 @@ flip_of (f ∷ faults) time = if nat_le f.at time then Some f.bit else None
 
 -- ---- in a connection: what a row tells its ends, and how bytes cross
 
-abbrev pub hearing_of : Kept → Row → Doing → Hearing
+abbrev pub hearing_of : RunState → Row → RowReading → Hearing
 hearing_of k row d = record {
   change = d.change;
   crosses = d.crosses;
   out = d.out;
   into = d.into;
   fault = is_fault row.kind;
-  begun = k.talk.begun;
-  is_last = k.story.wires.dialogue.is_last;
+  begun = k.exchange.begun;
+  is_last = k.story.bus_state.dialogue.is_last;
   offered = k.handshakes.requests;
   struck = k.handshakes.struck;
 }
 
-abbrev pub pace_of : ScenarioValue → Kept → ℕ → Pace
-pace_of s k dev = pace_by k.talk.begun (bus_of k) (agreement_of k) (host_of s dev)
+abbrev pub pace_of : ScenarioValue → RunState → ℕ → Pace
+pace_of s k dev = pace_by k.exchange.begun (bus_of k) (agreement_of k) (host_of s dev)
 
 -- ---- the target
 
 -- What becomes of the command, where this is COMMAND.
-abbrev pub arrival_at : ScenarioValue → Kept → ℕ → Phase → Arrival
-arrival_at s k dev phases.Command = arrival_of s k (policy_of (target_def s dev))
+abbrev pub arrival_at : ScenarioValue → RunState → ℕ → Phase → Arrival
+arrival_at s k dev phases.Command = arrival_of s k (policy_of (target_def_of s dev))
 arrival_at s k dev _ = arrivals.Queued
 
-abbrev pub serving_at : ScenarioValue → Kept → ℕ → Phase → Serving
+abbrev pub serving_at : ScenarioValue → RunState → ℕ → Phase → Serving
 serving_at s k dev phase = record {
-  def = target_def s dev;
-  plan = k.talk.plan;
+  def = target_def_of s dev;
+  plan = k.exchange.plan;
   task = task_of s k;
   given = given_of s k;
   arrival = arrival_at s k dev phase;
 }
 
-abbrev pub serving_of : ScenarioValue → Kept → ℕ → Serving
+abbrev pub serving_of : ScenarioValue → RunState → ℕ → Serving
 serving_of s k dev = serving_at s k dev (phase_of (bus_of k))
 
-abbrev pub leave : ScenarioValue → Kept → ℕ → Phase → Leaving
-leave s k dev phase = leaves (serving_at s k dev phase) (bus_of k).atn phase
+abbrev pub leaving_at : ScenarioValue → RunState → ℕ → Phase → Leaving
+leaving_at s k dev phase = phase_leaving (serving_at s k dev phase) (bus_of k).atn phase
 
-abbrev pub leaving : ScenarioValue → Kept → ℕ → Leaving
-leaving s k dev = leaves_by (serving_of s k dev) k.talk.begun (bus_of k)
+abbrev pub leaving : ScenarioValue → RunState → ℕ → Leaving
+leaving s k dev = leaving_by (serving_of s k dev) k.exchange.begun (bus_of k)
 
 -- The byte at this place of a phase, before which so many more runs than yet will be made.
-abbrev pub byte_in : ScenarioValue → Kept → ℕ → Phase → Messages → ℕ → ℕ → ℕ
-byte_in s k dev phase messages more place = gives_in (serving_at s k dev phase) phase messages more place
+abbrev pub byte_of_phase : ScenarioValue → RunState → ℕ → Phase → Messages → ℕ → ℕ → ℕ
+byte_of_phase s k dev phase messages more place = phase_byte (serving_at s k dev phase) phase messages more place
 
-abbrev pub offering_of : ScenarioValue → Kept → ℕ → Offering
-offering_of s k dev = offering_by (serving_of s k dev) k.talk.begun (pace_of s k dev).pulsed (bus_of k) k.handshakes
+abbrev pub offering_of : ScenarioValue → RunState → ℕ → Offering
+offering_of s k dev = offering_by (serving_of s k dev) k.exchange.begun (pace_of s k dev).pulsed (bus_of k) k.handshakes
 
 -- ---- the initiator
 
-abbrev pub sending_by : Kept → Option Process → Sending
+abbrev pub sending_by : RunState → Option Process → Sending
 sending_by k None = nothing_to_send
 sending_by k (Some p) = record {
   cdb = p.cdb;
@@ -123,9 +123,9 @@ sending_by k (Some p) = record {
   moved = (carried_here k p.id).moved.active;
 }
 
-abbrev pub sending_of : ScenarioValue → Kept → Sending
+abbrev pub sending_of : ScenarioValue → RunState → Sending
 sending_of s k = sending_by k (process_here s k)
 
-abbrev pub answering_of : ScenarioValue → Kept → ℕ → Answering
+abbrev pub answering_of : ScenarioValue → RunState → ℕ → Answering
 answering_of s k dev =
-    answering_by k.talk.speech (sending_of s k) (bus_of k) k.story.wires.dialogue.heard.now.offer (own_at k.owns dev).ack
+    answering_by k.exchange.speech (sending_of s k) (bus_of k) k.story.bus_state.dialogue.heard.now.offer (own_at k.owns dev).ack

@@ -2,23 +2,24 @@
 use Rattle.std.specs.Prelude.{ℕ, Bool, not, ◌&&◌, ◌==◌, List, [], length, Option, Some, None, is_some, nat_lt, if◌then◌else◌}
 use Rattle.std.specs.List.{list_any}
 use Rattle.cdb_codec.specs.Cdb.{has_group_len, command_of}
+use Rattle.cdb_codec.specs.declared.status.TheConstants.{GOOD}
 use Rattle.scenario.specs.Needs.{is_write}
 use Rattle.disk_array.specs.Order.{range_in}
 use Rattle.bus_dialogue.specs.declared.exchange.Task.{Task}
 use Rattle.scenario.specs.declared.value.Policy.{Policy}
 use Rattle.scenario.specs.Value.{ScenarioValue}
 use Rattle.disk_array.specs.Processes.{Process}
-use Rattle.disk_array.specs.Exec.{Reply, exec, asks_sense}
-use Rattle.disk_array.specs.Units.{UnitState, Array, Place, same_place, place_of, unit_at, is_free, is_held}
-use Rattle.disk_array.specs.Steps.{met_at, count_of}
-use Rattle.disk_array.specs.Play as Play
-use Rattle.bus_story.specs.Carried.{Carried}
+use Rattle.disk_array.specs.Execution.{Reply, execution, is_request_sense}
+use Rattle.disk_array.specs.Units.{UnitState, Array, Nexus, same_nexus, nexus_of, unit_state_at, has_no_current, is_held}
+use Rattle.disk_array.specs.Steps.{context_at, process_count}
+use Rattle.disk_array.specs.ArrayHistory as Play
+use Rattle.bus_story.specs.CarriedBytes.{CarriedBytes}
 use Rattle.bus_dialogue.specs.declared.exchange.Arrival.{Arrival}
 use Rattle.bus_dialogue.specs.declared.exchange.Arrival.TheVariants as arrivals
 use Rattle.bus_dialogue.specs.declared.exchange.Room.{Room}
 use Rattle.bus_dialogue.specs.Arrivals.{arrival_by}
-use Rattle.bus_due.specs.Books.{Progress, progress_in}
-use Rattle.bus_due.specs.Kept.{Kept, array_of, process_served, carried_here}
+use Rattle.bus_due.specs.LastingState.{ProcessProgress, progress_in}
+use Rattle.bus_due.specs.RunState.{RunState, array_of, process_served, carried_here}
 
 abbrev pub size_of : Option UnitState → ℕ
 size_of None = 0
@@ -26,14 +27,14 @@ size_of (Some u) = u.size
 
 -- What the process would answer if it ran now.
 abbrev pub reply_now : Array → Process → Reply
-reply_now a p = (exec (met_at a (place_of p) (unit_at a.units p.target p.unit)) p.cdb p.sent).reply
+reply_now a p = (execution (context_at a (nexus_of p) (unit_state_at a.units p.target p.unit)) p.cdb p.sent).reply
 
-abbrev pub writes : Process → Bool
-writes p = is_write (command_of p.cdb)
+abbrev pub is_writing : Process → Bool
+is_writing p = is_write (command_of p.cdb)
 
 -- How many bytes it moves: none where it ends with CHECK CONDITION.
-abbrev pub moved_by : Process → Reply → ℕ
-moved_by p reply = if reply.status == 0x00 then (if writes p then length p.sent else length reply.bytes) else 0
+abbrev pub moved_count : Process → Reply → ℕ
+moved_count p reply = if reply.status == GOOD then (if is_writing p then length p.sent else length reply.bytes) else 0
 
 abbrev pub blocks_in : Option (ℕ × ℕ) → Option ℕ
 blocks_in None = None
@@ -44,51 +45,51 @@ abbrev pub status_by : Reply → Option Reply → ℕ
 status_by now (Some reply) = reply.status
 status_by now None = now.status
 
-abbrev pub task_with : Array → Progress → Process → Carried → Reply → Option Reply → Task
+abbrev pub task_with : Array → ProcessProgress → Process → CarriedBytes → Reply → Option Reply → Task
 task_with a made p c now given = record {
-  writes = writes p;
-  moved = moved_by p now;
+  writes = is_writing p;
+  moved = moved_count p now;
   blocks = blocks_in (range_in (command_of p.cdb));
-  size = size_of (unit_at a.units p.target p.unit);
+  size = size_of (unit_state_at a.units p.target p.unit);
   runs = made.runs;
   recoveries = made.recoveries;
-  in_hold = list_any (λ (q : Place). same_place q (place_of p)) a.holds;
+  in_hold = list_any (λ (q : Nexus). same_nexus q (nexus_of p)) a.holds;
   whole = has_group_len c.block;
   replied = is_some given;
   status = status_by now given;
 }
 
-abbrev pub task_if : ScenarioValue → Kept → Option Process → Option Task
+abbrev pub task_if : ScenarioValue → RunState → Option Process → Option Task
 task_if s k None = None
 task_if s k (Some p) =
     Some (task_with (array_of s k) (progress_in k.progress p.id) p (carried_here k p.id) (reply_now (array_of s k) p) (Play.reply_in (array_of s k).replies p.id))
 
 -- The bytes that it gives.
-abbrev pub given_if : ScenarioValue → Kept → Option Process → List ℕ
+abbrev pub given_if : ScenarioValue → RunState → Option Process → List ℕ
 given_if s k None = []
 given_if s k (Some p) = (reply_now (array_of s k) p).bytes
 
-abbrev pub given_of : ScenarioValue → Kept → List ℕ
+abbrev pub given_of : ScenarioValue → RunState → List ℕ
 given_of s k = given_if s k (process_served s k)
 
 -- The process of the connection.
-abbrev pub task_of : ScenarioValue → Kept → Option Task
+abbrev pub task_of : ScenarioValue → RunState → Option Task
 task_of s k = task_if s k (process_served s k)
 
 -- ---- a command arrives
 
 -- A unit with no current process, an empty hold and nothing that waits is idle.
-abbrev pub is_idle : Array → UnitState → Bool
-is_idle a u = is_free u.current && not (is_held a.holds u.target u.unit) && length u.waiting == 0
+abbrev pub is_idle_unit : Array → UnitState → Bool
+is_idle_unit a u = has_no_current u.current && not (is_held a.holds u.target u.unit) && length u.waiting == 0
 
 abbrev pub room_of : Array → Option UnitState → Option Room
 room_of a None = None
-room_of a (Some u) = Some (record { full = not (nat_lt (count_of u) u.depth); idle = is_idle a u })
+room_of a (Some u) = Some (record { full = not (nat_lt (process_count u) u.depth); idle = is_idle_unit a u })
 
 abbrev pub arrival_if : Policy → Array → Option Process → Arrival
 arrival_if policy a None = arrivals.Refused
 arrival_if policy a (Some p) =
-    arrival_by policy (asks_sense (command_of p.cdb)) (room_of a (unit_at a.units p.target p.unit))
+    arrival_by policy (is_request_sense (command_of p.cdb)) (room_of a (unit_state_at a.units p.target p.unit))
 
-abbrev pub arrival_of : ScenarioValue → Kept → Policy → Arrival
+abbrev pub arrival_of : ScenarioValue → RunState → Policy → Arrival
 arrival_of s k policy = arrival_if policy (array_of s k) (process_served s k)

@@ -11,15 +11,15 @@ use Rattle.bus_lines.specs.Changes.{rises}
 use Rattle.bus_lines.specs.Phases.{changes_phase}
 use Rattle.scenario.specs.Value.{ScenarioValue}
 use Rattle.disk_array.specs.Processes.{same_id}
-use Rattle.bus_story.specs.Wires.{Doing, doing}
+use Rattle.bus_story.specs.BusState.{RowReading, row_reading}
 use Rattle.bus_story.specs.Items.{Item, process, abort}
 use Rattle.bus_story.specs.Links.{Link}
-use Rattle.bus_story.specs.Shown.{shown_by, carried_if, takes, ends_of}
-use Rattle.bus_dialogue.specs.Course.{phase_of}
-use Rattle.bus_dialogue.specs.Events.{leaving_shows}
-use Rattle.bus_due.specs.Kept.{Kept, bus_of}
+use Rattle.bus_story.specs.HistoryEvents.{row_events_by, carried_if, is_completion, end_events}
+use Rattle.bus_dialogue.specs.NextPhase.{phase_of}
+use Rattle.bus_dialogue.specs.Events.{leaving_events}
+use Rattle.bus_due.specs.RunState.{RunState, bus_of}
 use Rattle.bus_due.specs.Sights.{serving_of}
-use Rattle.bus_due.specs.Known.{known}
+use Rattle.bus_due.specs.RunSteps.{run_state}
 
 -- ---- the target
 
@@ -28,28 +28,28 @@ id_of None = None
 id_of (Some (process id)) = Some id
 id_of (Some (abort n)) = None
 
-abbrev pub target_tells : ScenarioValue → Kept → Connection → Bool → List Event
-target_tells s k n stands =
-    leaving_shows (serving_of s k n.target) n k.talk.begun stands (bus_of k).atn (phase_of (bus_of k)) (id_of k.served)
+abbrev pub target_events : ScenarioValue → RunState → Connection → Bool → List Event
+target_events s k n stands =
+    leaving_events (serving_of s k n.target) n k.exchange.begun stands (bus_of k).atn (phase_of (bus_of k)) (id_of k.served)
 
 -- ---- the initiator, as it takes COMMAND COMPLETE
 
-abbrev pub initiator_tells : Kept → Option Link → Doing → List Event
-initiator_tells k None d = []
-initiator_tells k (Some l) d = if takes l d.change then ends_of (carried_if k.story l.item) else []
+abbrev pub initiator_events : RunState → Option Link → RowReading → List Event
+initiator_events k None d = []
+initiator_events k (Some l) d = if is_completion l d.change then end_events (carried_if k.story l.item) else []
 
 -- ---- a row
 
-abbrev pub tells_in : ScenarioValue → Kept → Option Connection → Doing → List Event
-tells_in s k None d = []
-tells_in s k (Some n) d =
-    if changes_phase d.change || not (is_some d.next) then target_tells s k n (is_some d.next)
-    else initiator_tells k k.story.link d
+abbrev pub events_of_ends_in : ScenarioValue → RunState → Option Connection → RowReading → List Event
+events_of_ends_in s k None d = []
+events_of_ends_in s k (Some n) d =
+    if changes_phase d.change || not (is_some d.next) then target_events s k n (is_some d.next)
+    else initiator_events k k.story.link d
 
-abbrev pub tells : ScenarioValue → Kept → Row → Doing → List Event
-tells s k row d =
+abbrev pub events_of_ends : ScenarioValue → RunState → Row → RowReading → List Event
+events_of_ends s k row d =
     if d.change.after.rst then (if rises d.change.own.rst d.change.next.rst then events.Reset row.dev ∷ [] else [])
-    else tells_in s k k.story.wires.connection d
+    else events_of_ends_in s k k.story.bus_state.connection d
 
 -- ---- one list of events is the other
 
@@ -77,10 +77,10 @@ same_events [] (f ∷ others) = false
 same_events (e ∷ more) [] = false
 same_events (e ∷ more) (f ∷ others) = same_event e f && same_events more others
 
-abbrev pub tells_truly : ScenarioValue → Kept → Row → Doing → Bool
-tells_truly s k row d = same_events (tells s k row d) (shown_by s k.story d row)
+abbrev pub is_true_telling : ScenarioValue → RunState → Row → RowReading → Bool
+is_true_telling s k row d = same_events (events_of_ends s k row d) (row_events_by s k.story d row)
 
 -- Of all rows.
 abbrev pub telling : ScenarioValue → List Row → Bool
 telling s [] = true
-telling s (row ∷ rows) = telling s rows && tells_truly s (known s rows) row (doing (known s rows).story.wires row)
+telling s (row ∷ rows) = telling s rows && is_true_telling s (run_state s rows) row (row_reading (run_state s rows).story.bus_state row)

@@ -1,7 +1,8 @@
 -- What the loop over the rounds keeps: the rounds that are left lead to the end.
-use Rattle.std.proofs.Common.{ℕ, suc, ◌≡◌, ◌+◌, ◌-◌, ◌<◌, ◌≤◌, Bool, true, false, ◌&&◌, refl, sym, ap, subst, ◌∙◌, arith}
+use Rattle.std.proofs.Common.{ℕ, suc, ◌≡◌, ◌+◌, ◌-◌, ◌<◌, ◌≤◌, Bool, true, false, sym, ap, subst, ◌∙◌, arith}
 use Rattle.std.specs.Prelude.{Result, Ok, Err, IfOk}
 use Rattle.std.specs.List.{AllByRecursion}
+use Rattle.std.proofs.lemmas.Bool.{and_parts}
 use Rattle.bus_base.specs.declared.NoMemory.{NoMemory}
 use Rattle.bus_lines.specs.OfTrace.{IsRow}
 use Rattle.bus_engine.specs.declared.request.One.{One}
@@ -23,21 +24,17 @@ pub at_start : (one : One) (z : Scene) → Fits one → z ≡ start_of one → O
 at_start one z fits e =
     record { same = (λ i. rounds_from 256 (true, e i)) ∙ ends one fits; begins = (λ i. all_early 256 (true, e i)) ∙ begins_early one fits }
 
-both : (a b : Bool) → (a && b) ≡ true → (a ≡ true) × (b ≡ true)
-both true b e = (refl, e)
-both false b e = cc
-
 -- the next round begins early
 pub next_early : (one : One) (n : ℕ) (z : Scene) → OnCourse one (suc n) (true, z) → early z ≡ true
 unfolding all_early
-next_early one n z on = (both (early z) (all_early n (round z)) on.begins).0
+next_early one n z on = (and_parts (early z) (all_early n (round z)) on.begins).0
 
 -- and goes on
 pub next : (one : One) (n : ℕ) (z : Scene) (r : Bool × Scene) → OnCourse one (suc n) (true, z) → round z ≡ r → OnCourse one n r
 unfolding rounds_from all_early
 next one n z r on e = record {
   same = sym (ap (λ (x : Bool × Scene). rounds_from n x) e) ∙ on.same;
-  begins = sym (ap (λ (x : Bool × Scene). all_early n x) e) ∙ (both (early z) (all_early n (round z)) on.begins).1;
+  begins = sym (ap (λ (x : Bool × Scene). all_early n x) e) ∙ (and_parts (early z) (all_early n (round z)) on.begins).1;
 }
 
 -- where nothing more may come, or no round is left, it is the end

@@ -1,24 +1,13 @@
 -- The selection by each initiator of each target, computed.
-use Rattle.std.proofs.Common.{ℕ, zero, suc, ◌≡◌, ◌≢◌, ◌<◌, Bool, true, false, List, Some, refl, arith}
+use Rattle.std.proofs.Common.{ℕ, ◌≡◌, ◌≢◌, ◌<◌, Bool, true, false, List, Some, refl}
 use lib.Count.{ones}
+use Rattle.bus_lines.proofs.Devices.{below_8}
 use Rattle.bus_engine.specs.Runs.{goes}
 use Rattle.bus_engine.proofs.Course.{begun, linked}
 
 -- twelve rounds lead from the start to the connection
 abbrev pub Selects : Bool → ℕ → ℕ → Type 0
 Selects o h t = (cdb : List ℕ) (disk : List (List ℕ)) → goes 12 (true, begun o h t cdb disk) ≡ Some (linked o h t cdb disk)
-
--- what holds of 0 to 7 holds of each number below 8
-below_8 : (P : ℕ → Type 0) → P 0 → P 1 → P 2 → P 3 → P 4 → P 5 → P 6 → P 7 → (n : ℕ) → n < 8 → P n
-below_8 P a b c d e f g h zero lt = a
-below_8 P a b c d e f g h (suc zero) lt = b
-below_8 P a b c d e f g h (suc (suc zero)) lt = c
-below_8 P a b c d e f g h (suc (suc (suc zero))) lt = d
-below_8 P a b c d e f g h (suc (suc (suc (suc zero)))) lt = e
-below_8 P a b c d e f g h (suc (suc (suc (suc (suc zero))))) lt = f
-below_8 P a b c d e f g h (suc (suc (suc (suc (suc (suc zero)))))) lt = g
-below_8 P a b c d e f g h (suc (suc (suc (suc (suc (suc (suc zero))))))) lt = h
-below_8 P a b c d e f g h (suc (suc (suc (suc (suc (suc (suc (suc n)))))))) lt = absurd (omega arith)
 
 by_0_1 : (o : Bool) → Selects o 0 1
 unfolding goes ones

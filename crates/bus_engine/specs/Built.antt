@@ -5,6 +5,7 @@ use Rattle.std.specs.Prelude.{ℕ, ◌+◌, ◌*◌, Bool, true, false, not, ◌
 use Rattle.text_words.specs.Words.{◌>>=◌}
 use Rattle.bus_base.specs.declared.events.Pick.{Pick}
 use Rattle.bus_base.specs.declared.events.Pick.TheVariants as picks
+use Rattle.cdb_codec.specs.declared.operation.TheConstants.{READ_6}
 use Rattle.scenario.specs.declared.value.HostDef.{HostDef}
 use Rattle.scenario.specs.declared.value.Policy.{Policy}
 use Rattle.scenario.specs.declared.value.Policy.TheVariants as policies
@@ -68,7 +69,7 @@ block_of cdb = slice_index cdb 1 * 65536 + slice_index cdb 2 * 256 + slice_index
 unfoldable pub block_read : ℕ → List ℕ → Option ℕ
 block_read blocks cdb =
     if length cdb == 6
-    then if (slice_index cdb 0 == 0x08 && slice_index cdb 4 == 0x01 && slice_index cdb 5 == 0x00) && nat_lt (block_of cdb) blocks then Some (block_of cdb) else None
+    then if (slice_index cdb 0 == READ_6 && slice_index cdb 4 == 0x01 && slice_index cdb 5 == 0x00) && nat_lt (block_of cdb) blocks then Some (block_of cdb) else None
     else None
 
 -- ---- the parts of a scenario, of each of which there is one

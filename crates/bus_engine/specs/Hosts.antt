@@ -17,6 +17,7 @@ use Rattle.bus_engine.specs.declared.hosts.Crossing.TheVariants.{Nothing, Out, I
 use Rattle.bus_engine.specs.declared.hosts.Reaction.{Reaction}
 use Rattle.bus_engine.specs.declared.outcomes.Outcome.{Outcome}
 use Rattle.bus_engine.specs.declared.outcomes.Outcome.TheVariants.{Good, Check, Lost}
+use Rattle.cdb_codec.specs.declared.status.TheConstants.{GOOD}
 use Rattle.cdb_codec.specs.declared.Command.TheVariants.{Read6}
 use Rattle.cdb_codec.specs.Cdb.{cdb_bytes}
 
@@ -114,7 +115,7 @@ new_host dev target lba = record { dev = dev; target = target; cdb = cdb_bytes (
 -- the command's end, by what came
 abbrev pub outcome_with : Option ℕ → List ℕ → Outcome
 outcome_with None received = Check None
-outcome_with (Some byte) received = if byte == 0 then Good received else Check None
+outcome_with (Some byte) received = if byte == GOOD then Good received else Check None
 
 abbrev pub outcome_of : HostState → Outcome
 outcome_of h = if h.complete then outcome_with h.status h.received else Lost

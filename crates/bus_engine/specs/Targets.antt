@@ -5,6 +5,7 @@ use Rattle.bus_base.specs.declared.Event.{Event}
 use Rattle.bus_base.specs.declared.Event.TheVariants.{Accept, Run}
 use Rattle.bus_lines.specs.declared.delays.TheConstants.{BUS_SETTLE_DELAY, SET_UP_TIME, TURN_DELAY}
 use Rattle.bus_lines.specs.LineSet.{LineSet, none, union, byte_set, has_id, ids_in, has_odd_parity}
+use Rattle.cdb_codec.specs.declared.status.TheConstants.{GOOD, CHECK_CONDITION}
 use Rattle.cdb_codec.specs.declared.Command.{Command}
 use Rattle.cdb_codec.specs.declared.Command.TheVariants.{Read6}
 use Rattle.cdb_codec.specs.declared.CdbFault.{CdbFault}
@@ -155,7 +156,7 @@ taken t (Serving phases.MessageIn done stage) byte = t
 abbrev pub applied : TargetState → Effect → TargetState
 applied t Nothing = t
 applied t (Took byte) = taken t t.service byte
-applied t (Accepts lba) = record t { sending = take 16 (slice_index_or t.disk lba []); status = 0 }
+applied t (Accepts lba) = record t { sending = take 16 (slice_index_or t.disk lba []); status = GOOD }
 applied t Refuses = t
 applied t Runs = t
 
@@ -175,4 +176,4 @@ second_shown Runs label = None
 
 -- at the start
 abbrev pub new_target : ℕ → List (List ℕ) → TargetState
-new_target dev disk = record { dev = dev; disk = disk; service = Free; cdb = []; sending = []; status = 2 }
+new_target dev disk = record { dev = dev; disk = disk; service = Free; cdb = []; sending = []; status = CHECK_CONDITION }

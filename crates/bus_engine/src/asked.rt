@@ -7,6 +7,7 @@ ghost use Rattle.bus_engine.specs.Built.{is_host, is_never, is_first, is_target,
 
 use crate::request::One;
 use bus_base::Dev;
+use cdb_codec::READ_6;
 use scenario::{
     CmdDef, FillDef, HostDef, Payload, Pick, Policy, Scenario, Tag, TargetDef, UnitDef,
 };
@@ -222,7 +223,7 @@ fn block_read(blocks: u32, cdb: &[u8]) -> Option<u32>
         return None;
     }
     let lba = u32::from(cdb[1]) * 0x1_0000 + u32::from(cdb[2]) * 0x100 + u32::from(cdb[3]);
-    if cdb[0] == 0x08 && cdb[4] == 0x01 && cdb[5] == 0x00 && lba < blocks {
+    if cdb[0] == READ_6 && cdb[4] == 0x01 && cdb[5] == 0x00 && lba < blocks {
         Some(lba)
     } else {
         None

@@ -17,7 +17,7 @@ use bus_lines::{
     ARBITRATION_DELAY, ENTRY_DELAY, LineView, Lines, QUIET_TIME, SET_UP_TIME, TWO_DESKEW,
     byte_lines,
 };
-use cdb_codec::{Command, to_cdb};
+use cdb_codec::{Command, GOOD, to_cdb};
 use std::alloc::Global;
 use std::marker::Model;
 
@@ -26,9 +26,6 @@ const IDENTIFY: u8 = 0xc0;
 
 /// COMMAND COMPLETE (6.6.5).
 const COMMAND_COMPLETE: u8 = 0x00;
-
-/// GOOD (7.3).
-const GOOD: u8 = 0x00;
 
 /// The one command of the run.
 const PROCESS: ProcId = ProcId {

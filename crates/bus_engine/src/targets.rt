@@ -15,13 +15,8 @@ use crate::phases::Phase;
 use arrayvec::ArrayVec;
 use bus_base::{Dev, Event, Ns, ProcId};
 use bus_lines::{BUS_SETTLE_DELAY, LineView, Lines, SET_UP_TIME, TURN_DELAY, byte_lines};
-use cdb_codec::{Command, from_cdb, group_len};
+use cdb_codec::{CHECK_CONDITION, Command, GOOD, from_cdb, group_len};
 use std::marker::Model;
-
-/// GOOD and CHECK CONDITION (7.3).
-const GOOD: u8 = 0x00;
-
-const CHECK_CONDITION: u8 = 0x02;
 
 /// COMMAND COMPLETE (6.6.5).
 const COMMAND_COMPLETE: u8 = 0x00;

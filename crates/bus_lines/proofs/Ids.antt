@@ -5,7 +5,7 @@ use Rattle.std.specs.Int.RustNames.{count_ones}
 use Rattle.std.proofs.Math.Nat.{pow-le-pow_right, mod-lt}
 use Rattle.std.proofs.lemmas.Nat.{pow_pos}
 use Rattle.std.proofs.lemmas.Nat.Bits.{bit_at-lt, bit_at-pow_same, bit_at-pow_other, bit_at_above, same_from_bits}
-use Rattle.std.proofs.lemmas.Bool.{cases_eq, cases_lt, le-leb, false≢true}
+use Rattle.std.proofs.lemmas.Bool.{cases_eq, cases_lt, le-leb, false≢true, and_parts}
 use Rattle.std.proofs.lemmas.Bool.Decides.{nat_tests}
 use Rattle.bus_lines.specs.LineSet.{LineSet, union, id_set, ids_set, ids_in, has_id, has_id_above, has_odd_parity}
 use Rattle.bus_lines.proofs.Bits.{or_bit, bit_at_mod}
@@ -35,15 +35,11 @@ all_below : (ℕ → Bool) → ℕ → Bool
 all_below f zero = true
 all_below f (suc n) = all_below f n && f n
 
-both_true : (a b : Bool) → (a && b) ≡ true → (a ≡ true) × (b ≡ true)
-both_true true b e = (refl, e)
-both_true false b e = absurd (false≢true e)
-
 each_below : (f : ℕ → Bool) (n : ℕ) → all_below f n ≡ true → (k : ℕ) → k < n → f k ≡ true
 unfolding all_below
 each_below f zero e k lt = absurd (omega arith)
 each_below f (suc n) e k lt =
-    let h = both_true (all_below f n) (f n) e in
+    let h = and_parts (all_below f n) (f n) e in
     elim (cases_eq k n) [
       | inl same ↦ ap f same ∙ h.1
       | inr ne ↦ each_below f n h.0 k (omega arith)
@@ -62,7 +58,7 @@ good_pairs = each_pair good_pair 8 refl
 
 good_parts : (q p o : Bool) → (q || (p && o)) ≡ true → q ≡ false → (p ≡ true) × (o ≡ true)
 good_parts true p o e n = absurd (false≢true (sym n))
-good_parts false p o e n = both_true p o e
+good_parts false p o e n = and_parts p o e
 
 two_from : (n : ℕ) → (n == 2) ≡ true → n ≡ 2
 two_from n e = grind (arith, nat_tests)

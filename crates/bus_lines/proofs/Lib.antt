@@ -6,6 +6,7 @@ pub mod Early
 pub mod Times
 pub mod OddParity
 pub mod Ids
+pub mod Devices
 pub mod Buses
 pub mod OneRow
 pub mod Ages

@@ -2,7 +2,7 @@
 use Rattle.std.proofs.Common.{IsTrue, ◌↔◌, zero, suc, ℕ, ◌≡◌, ◌≢◌, ◌+◌, ◌-◌, ◌*◌, ◌%◌, ◌^◌, ◌<◌, ◌≤◌, ◌==◌, ◌&&◌, ◌⊎◌, inl, inr, Bool, true, false, refl, arith, ap, sym, ◌∙◌}
 use Rattle.std.specs.Int.{bit_at}
 use Rattle.std.proofs.lemmas.Nat.Bits.{bit_at_above, bit_at_cat_high, bit_at_lowest}
-use Rattle.std.proofs.lemmas.Bool.{false≢true}
+use Rattle.std.proofs.lemmas.Bool.{and_parts}
 use Rattle.std.proofs.lemmas.Bool.Decides.{nat_tests}
 use Rattle.bus_lines.specs.LineSet.{LineSet, set_of, number_of, bit_value, none, same, same_set, id_set, ids_set}
 use Rattle.bus_lines.specs.Numbers.{number_back}
@@ -32,10 +32,6 @@ same_self : (a : Bool) → same a a ≡ true
 same_self true = refl
 same_self false = refl
 
-both_true : (a b : Bool) → (a && b) ≡ true → (a ≡ true) × (b ≡ true)
-both_true true b e = (refl, e)
-both_true false b e = absurd (false≢true e)
-
 record Ten (b0 b1 b2 b3 b4 b5 b6 b7 b8 b9 : Bool) : Type 0 where
   t0 : b0 ≡ true
   t1 : b1 ≡ true
@@ -50,15 +46,15 @@ record Ten (b0 b1 b2 b3 b4 b5 b6 b7 b8 b9 : Bool) : Type 0 where
 
 ten : (b0 b1 b2 b3 b4 b5 b6 b7 b8 b9 : Bool) → (b0 && b1 && b2 && b3 && b4 && b5 && b6 && b7 && b8 && b9) ≡ true → Ten b0 b1 b2 b3 b4 b5 b6 b7 b8 b9
 ten b0 b1 b2 b3 b4 b5 b6 b7 b8 b9 e =
-    let h9 = both_true (b0 && b1 && b2 && b3 && b4 && b5 && b6 && b7 && b8) b9 e in
-    let h8 = both_true (b0 && b1 && b2 && b3 && b4 && b5 && b6 && b7) b8 h9.0 in
-    let h7 = both_true (b0 && b1 && b2 && b3 && b4 && b5 && b6) b7 h8.0 in
-    let h6 = both_true (b0 && b1 && b2 && b3 && b4 && b5) b6 h7.0 in
-    let h5 = both_true (b0 && b1 && b2 && b3 && b4) b5 h6.0 in
-    let h4 = both_true (b0 && b1 && b2 && b3) b4 h5.0 in
-    let h3 = both_true (b0 && b1 && b2) b3 h4.0 in
-    let h2 = both_true (b0 && b1) b2 h3.0 in
-    let h1 = both_true b0 b1 h2.0 in
+    let h9 = and_parts (b0 && b1 && b2 && b3 && b4 && b5 && b6 && b7 && b8) b9 e in
+    let h8 = and_parts (b0 && b1 && b2 && b3 && b4 && b5 && b6 && b7) b8 h9.0 in
+    let h7 = and_parts (b0 && b1 && b2 && b3 && b4 && b5 && b6) b7 h8.0 in
+    let h6 = and_parts (b0 && b1 && b2 && b3 && b4 && b5) b6 h7.0 in
+    let h5 = and_parts (b0 && b1 && b2 && b3 && b4) b5 h6.0 in
+    let h4 = and_parts (b0 && b1 && b2 && b3) b4 h5.0 in
+    let h3 = and_parts (b0 && b1 && b2) b3 h4.0 in
+    let h2 = and_parts (b0 && b1) b2 h3.0 in
+    let h1 = and_parts b0 b1 h2.0 in
     record { t0 = h1.0; t1 = h1.1; t2 = h2.1; t3 = h3.1; t4 = h4.1; t5 = h5.1; t6 = h6.1; t7 = h7.1; t8 = h8.1; t9 = h9.1 }
 
 eq_of : (m n : ℕ) → (m == n) ≡ true → m ≡ n

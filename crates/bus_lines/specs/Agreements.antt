@@ -1,5 +1,7 @@
 -- When two agreements of synchronous data transfer are the same, and the times of a transfer period.
 use Rattle.std.specs.Prelude.{ℕ, ◌*◌, Bool, ◌&&◌, ◌||◌, Option, Some, None, nat_lt, ◌==◌, if◌then◌else◌}
+use Rattle.bus_lines.specs.declared.delays.TheConstants.{ASSERTION_PERIOD, NEGATION_PERIOD, SET_UP_TIME, DATA_HOLD, FAST_ASSERTION_PERIOD, FAST_NEGATION_PERIOD, FAST_SET_UP_TIME, FAST_DATA_HOLD}
+use Rattle.bus_lines.specs.declared.agreements.TheConstants.{LEAST_FACTOR, LEAST_SLOW_FACTOR}
 use Rattle.bus_lines.specs.declared.agreements.Agreement.{Agreement}
 use Rattle.bus_lines.specs.declared.agreements.TransferTimes.{TransferTimes}
 
@@ -11,20 +13,22 @@ is_asynchronous a = a.offset == 0
 abbrev pub same_agreement : Agreement → Agreement → Bool
 same_agreement a b = (is_asynchronous a && is_asynchronous b) || (a.period == b.period && a.offset == b.offset)
 
--- The times of a fast synchronous data transfer, in ns: a set-up time of a deskew delay of 20 and a cable
--- skew delay of 5, after which data stays for both and a hold time of 10.
+-- The times of a fast synchronous data transfer, in ns: a set-up time of a fast deskew delay and a fast cable
+-- skew delay, after which data stays for both and a fast hold time.
 abbrev pub fast_times : ℕ → TransferTimes
-fast_times factor = record { period = 4 * factor; assertion = 30; negation = 30; set_up = 25; hold = 35 }
+fast_times factor =
+    record { period = 4 * factor; assertion = FAST_ASSERTION_PERIOD; negation = FAST_NEGATION_PERIOD; set_up = FAST_SET_UP_TIME; hold = FAST_DATA_HOLD }
 
--- The times of a synchronous data transfer that is not fast, in ns: a set-up time of a deskew delay of 45
--- and a cable skew delay of 10, after which data stays for both and a hold time of 45.
+-- The times of a synchronous data transfer that is not fast, in ns: a set-up time of a deskew delay and a cable
+-- skew delay, after which data stays for both and a hold time.
 abbrev pub slow_times : ℕ → TransferTimes
-slow_times factor = record { period = 4 * factor; assertion = 90; negation = 90; set_up = 55; hold = 100 }
+slow_times factor =
+    record { period = 4 * factor; assertion = ASSERTION_PERIOD; negation = NEGATION_PERIOD; set_up = SET_UP_TIME; hold = DATA_HOLD }
 
 -- The times that go with a transfer period factor, in units of 4 ns: none below 25, those of a fast
 -- transfer up to 49, and the others from 50 on.
 abbrev pub transfer_times : ℕ → Option TransferTimes
 transfer_times factor =
-    if nat_lt factor 25 then None
-    else if nat_lt factor 50 then Some (fast_times factor)
+    if nat_lt factor LEAST_FACTOR then None
+    else if nat_lt factor LEAST_SLOW_FACTOR then Some (fast_times factor)
     else Some (slow_times factor)

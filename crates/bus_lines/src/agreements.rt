@@ -17,6 +17,9 @@ const LEAST_FACTOR: u8 = 25;
 /// The least transfer period factor of a transfer that is not fast, 200 ns.
 const LEAST_SLOW_FACTOR: u8 = 50;
 
+/// The REQ/ACK offset that means no limit (6.6.21).
+pub const UNLIMITED_OFFSET: u8 = 255;
+
 /// A data transfer agreement of an initiator and a target (6.6.21).
 #[derive(Clone, Copy, PartialEq, Eq, Debug)]
 pub struct Agreement {

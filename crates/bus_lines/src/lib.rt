@@ -33,7 +33,9 @@ mod stage;
 mod tests;
 mod view;
 
-pub use agreements::{Agreement, TransferTimes, is_same_agreement, transfer_times};
+pub use agreements::{
+    Agreement, TransferTimes, UNLIMITED_OFFSET, is_same_agreement, transfer_times,
+};
 pub use arbitration::{Arbitration, arbitration_after};
 pub use changes::{Change, drives_data, falls, is_within, rises, same_hold, same_phase};
 pub use connection::{Connection, connection_after, receiver_of};

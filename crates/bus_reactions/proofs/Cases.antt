@@ -20,18 +20,18 @@ use Rattle.bus_reactions.specs.declared.sight.Sight.{Sight}
 use Rattle.bus_lines.specs.declared.stage.Stage.{Stage}
 use Rattle.bus_lines.specs.declared.stage.Stage.TheVariants.{OnFreeBus, InArbitration, InCalling, InAnswer, InConnection, InReset}
 use Rattle.bus_lines.specs.Handshakes.{Handshakes, no_handshakes}
-use Rattle.bus_reactions.specs.Reactions.{at, sooner, time_if}
+use Rattle.bus_reactions.specs.Reactions.{due_at, sooner_time, time_if}
 use Rattle.bus_reactions.specs.Ages.{no_age, ages_of, ages_after, phase_age, free_age}
 use Rattle.bus_reactions.specs.Sight.{sight}
-use Rattle.bus_reactions.specs.Linking.{link_due, samples_at}
+use Rattle.bus_reactions.specs.Linking.{link_due, sample_time}
 use Rattle.bus_reactions.specs.Reset.{with_reset}
-use Rattle.bus_reactions.specs.Ends.{hand_due, sampled}
+use Rattle.bus_reactions.specs.Ends.{hand_due, sample_due}
 
 -- ---- records
 
 -- At this time it drives these lines, as a trace has them.
 abbrev row : ℕ → ℕ → Option Due
-row time lines = at time (set_of lines)
+row time lines = due_at time (set_of lines)
 
 abbrev me : ℕ → ℕ → Myself
 me lines since = record { dev = 3; latency = 7; own = set_of lines; since = since }
@@ -180,7 +180,7 @@ call_of_another = refl
 lost_before_the_call : called (calling 2 false (Some 11990)) 0x00208 None ≡ row (9000 + 7) 0x00000
 lost_before_the_call = refl
 
-sampled_when : samples_at (sees 0x10588 (record ages { bsy = 12000 }) (OnFreeBus 0)) (me 0x00000 0) ≡ 12000 + 400 + 7
+sampled_when : sample_time (sees 0x10588 (record ages { bsy = 12000 }) (OnFreeBus 0)) (me 0x00000 0) ≡ 12000 + 400 + 7
 sampled_when = refl
 
 -- ---- the answer: two deskew delays
@@ -277,13 +277,13 @@ some = record no_handshakes { requests = 1; answers = 1 }
 fault_strikes_a_byte : hand_due true 30020 (Some 4) (sees 0x0c212 ages connects) some (me 0x04a00 30000) (pace false) (Target (offers true)) ≡ Some (record { time = 30020; kind = Fault 4 })
 fault_strikes_a_byte = refl
 
-sampled_byte : sampled true 30020 (Some 4) (row 30027 0x00a00) ≡ Some (record { time = 30020; kind = Fault 4 })
+sampled_byte : sample_due true 30020 (Some 4) (row 30027 0x00a00) ≡ Some (record { time = 30020; kind = Fault 4 })
 sampled_byte = refl
 
-sampled_well : sampled true 30020 None (row 30027 0x00a00) ≡ row 30027 0x00a00
+sampled_well : sample_due true 30020 None (row 30027 0x00a00) ≡ row 30027 0x00a00
 sampled_well = refl
 
-not_sampled : sampled false 30020 (Some 4) (row 30027 0x00a00) ≡ row 30027 0x00a00
+not_sampled : sample_due false 30020 (Some 4) (row 30027 0x00a00) ≡ row 30027 0x00a00
 not_sampled = refl
 
 -- ---- a connection begins
@@ -659,10 +659,10 @@ bus_is_free_since = refl
 
 -- ---- the sooner of two
 
-no_sooner : sooner None None ∷ sooner (Some 5) None ∷ sooner None (Some 6) ∷ [] ≡ None ∷ Some 5 ∷ Some 6 ∷ []
+no_sooner : sooner_time None None ∷ sooner_time (Some 5) None ∷ sooner_time None (Some 6) ∷ [] ≡ None ∷ Some 5 ∷ Some 6 ∷ []
 no_sooner = refl
 
-sooner_of_two : sooner (Some 5) (Some 6) ∷ sooner (Some 6) (Some 5) ∷ [] ≡ Some 5 ∷ Some 5 ∷ []
+sooner_of_two : sooner_time (Some 5) (Some 6) ∷ sooner_time (Some 6) (Some 5) ∷ [] ≡ Some 5 ∷ Some 5 ∷ []
 sooner_of_two = refl
 
 time_where_so : time_if true 5 ∷ time_if false 5 ∷ [] ≡ Some 5 ∷ None ∷ []

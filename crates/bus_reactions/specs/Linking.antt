@@ -8,26 +8,26 @@ use Rattle.bus_reactions.specs.declared.due.Want.{Want}
 use Rattle.bus_lines.specs.declared.stage.Stage.{Stage}
 use Rattle.bus_lines.specs.declared.stage.Stage.TheVariants.{OnFreeBus, InArbitration, InCalling, InAnswer, InConnection, InReset}
 use Rattle.bus_reactions.specs.declared.sight.Sight.{Sight}
-use Rattle.bus_reactions.specs.Reactions.{at}
+use Rattle.bus_reactions.specs.Reactions.{due_at}
 use Rattle.bus_reactions.specs.FreeBus.{free_due, arbitration_due}
 use Rattle.bus_reactions.specs.Calling.{calling_due, answer_due}
 
 -- While RST is true each other device releases all its lines, and does nothing else (6.2.2).
-abbrev pub clears : Myself → ℕ → Option Due
-clears me since = if same_set me.own none then None else at (since + me.latency) none
+abbrev pub bus_clear : Myself → ℕ → Option Due
+bus_clear me since = if same_set me.own none then None else due_at (since + me.latency) none
 
 -- `flip` is the bit that a fault strikes where it samples the IDs. In a connection nothing is due of this.
-abbrev pub linking : LineSet → ℕ → ℕ → Myself → Want → Option ℕ → Stage → Option Due
-linking bus bsy sel me w flip (OnFreeBus free) = free_due me free w.since
-linking bus bsy sel me w flip (InArbitration a) = arbitration_due bus me a w.since
-linking bus bsy sel me w flip (InCalling c) = calling_due bsy sel me w flip c
-linking bus bsy sel me w flip (InAnswer c calling answered) = answer_due sel me w c calling answered
-linking bus bsy sel me w flip (InConnection n) = None
-linking bus bsy sel me w flip (InReset since) = clears me since
+abbrev pub link_due_by : LineSet → ℕ → ℕ → Myself → Want → Option ℕ → Stage → Option Due
+link_due_by bus bsy sel me w flip (OnFreeBus free) = free_due me free w.since
+link_due_by bus bsy sel me w flip (InArbitration a) = arbitration_due bus me a w.since
+link_due_by bus bsy sel me w flip (InCalling c) = calling_due bsy sel me w flip c
+link_due_by bus bsy sel me w flip (InAnswer c calling answered) = answer_due sel me w c calling answered
+link_due_by bus bsy sel me w flip (InConnection n) = None
+link_due_by bus bsy sel me w flip (InReset since) = bus_clear me since
 
 abbrev pub link_due : Sight → Myself → Want → Option ℕ → Option Due
-link_due v me w flip = linking v.bus v.ages.bsy v.ages.sel me w flip v.stage
+link_due v me w flip = link_due_by v.bus v.ages.bsy v.ages.sel me w flip v.stage
 
 -- When it samples the IDs, where it is called.
-abbrev pub samples_at : Sight → Myself → ℕ
-samples_at v me = v.ages.bsy + BUS_SETTLE_DELAY + me.latency
+abbrev pub sample_time : Sight → Myself → ℕ
+sample_time v me = v.ages.bsy + BUS_SETTLE_DELAY + me.latency

@@ -5,35 +5,35 @@ use Rattle.bus_lines.specs.declared.Kind.TheVariants.{Drives, Fault}
 use Rattle.bus_reactions.specs.declared.due.Due.{Due}
 
 -- At this time it drives these lines; or a fault strikes this bit of what it samples.
-abbrev pub at : ℕ → LineSet → Option Due
-at time lines = Some (record { time = time; kind = Drives lines })
+abbrev pub due_at : ℕ → LineSet → Option Due
+due_at time lines = Some (record { time = time; kind = Drives lines })
 
-abbrev pub strikes_at : ℕ → ℕ → Option Due
-strikes_at time bit = Some (record { time = time; kind = Fault bit })
+abbrev pub fault_due : ℕ → ℕ → Option Due
+fault_due time bit = Some (record { time = time; kind = Fault bit })
 
 -- What it makes of a sample of this time, by the bit that a fault strikes.
-abbrev pub struck_or : ℕ → Option ℕ → Option Due → Option Due
-struck_or time None plain = plain
-struck_or time (Some bit) plain = strikes_at time bit
+abbrev pub fault_or : ℕ → Option ℕ → Option Due → Option Due
+fault_or time None plain = plain
+fault_or time (Some bit) plain = fault_due time bit
 
-abbrev pub where_so : Bool → Option Due → Option Due
-where_so true x = x
-where_so false x = None
+abbrev pub due_where : Bool → Option Due → Option Due
+due_where true x = x
+due_where false x = None
 
 -- The first where it comes no later than the other.
-abbrev pub unless_later : Due → Due → Due
-unless_later x y = if nat_lt y.time x.time then y else x
+abbrev pub not_later : Due → Due → Due
+not_later x y = if nat_lt y.time x.time then y else x
 
-abbrev pub earlier : Option Due → Option Due → Option Due
-earlier None y = y
-earlier (Some x) None = Some x
-earlier (Some x) (Some y) = Some (unless_later x y)
+abbrev pub earlier_due : Option Due → Option Due → Option Due
+earlier_due None y = y
+earlier_due (Some x) None = Some x
+earlier_due (Some x) (Some y) = Some (not_later x y)
 
 -- The sooner of two times; and a time where something is so.
-abbrev pub sooner : Option ℕ → Option ℕ → Option ℕ
-sooner None b = b
-sooner (Some a) None = Some a
-sooner (Some a) (Some b) = Some (min a b)
+abbrev pub sooner_time : Option ℕ → Option ℕ → Option ℕ
+sooner_time None b = b
+sooner_time (Some a) None = Some a
+sooner_time (Some a) (Some b) = Some (min a b)
 
 abbrev pub time_if : Bool → ℕ → Option ℕ
 time_if true time = Some time

@@ -5,109 +5,109 @@ use Rattle.bus_lines.specs.declared.delays.TheConstants.{BUS_SETTLE_DELAY, TURN_
 use Rattle.bus_lines.specs.LineSet.{LineSet, byte_set}
 use Rattle.bus_reactions.specs.declared.due.Due.{Due}
 use Rattle.bus_reactions.specs.declared.due.Myself.{Myself}
-use Rattle.bus_reactions.specs.Reactions.{at}
+use Rattle.bus_reactions.specs.Reactions.{due_at}
 use Rattle.bus_reactions.specs.declared.sight.Sight.{Sight}
 use Rattle.bus_reactions.specs.declared.ends.Pace.{Pace}
 use Rattle.bus_reactions.specs.declared.ends.Offering.{Offering}
 use Rattle.bus_reactions.specs.Ages.{phase_age}
 use Rattle.bus_lines.specs.Handshakes.{Handshakes, room_by}
 
-abbrev pub bits : ℕ → ℕ
-bits byte = (byte_set byte).data_bits
+abbrev pub byte_bits : ℕ → ℕ
+byte_bits byte = (byte_set byte).data_bits
 
-abbrev pub drives_bits : LineSet → ℕ → LineSet
-drives_bits own x = record own { data_bits = x }
+abbrev pub with_data_bits : LineSet → ℕ → LineSet
+with_data_bits own x = record own { data_bits = x }
 
 -- ---- the first byte
 
 -- The phase lines turned I/O from false to true.
-abbrev pub has_turned : Sight → Bool
-has_turned v = v.bus.io && v.ages.io == phase_age v.ages
+abbrev pub has_io_turned : Sight → Bool
+has_io_turned v = v.bus.io && v.ages.io == phase_age v.ages
 
-abbrev pub raises_req : Myself → ℕ → Option Due
-raises_req me time = at (time + me.latency) (record me.own { req = true })
+abbrev pub req_assertion : Myself → ℕ → Option Due
+req_assertion me time = due_at (time + me.latency) (record me.own { req = true })
 
 -- The first REQ of a phase rises a bus settle delay after the phase lines. Where I/O turned to true the first byte comes
 -- a data release delay and a bus settle delay after them, and REQ a deskew delay and a cable skew delay after the byte
 -- (6.1.5.1, 6.1.10).
 abbrev pub first_byte : Sight → Myself → Offering → Option Due
-first_byte v me g = at (phase_age v.ages + TURN_DELAY + me.latency) (drives_bits me.own (bits g.byte))
+first_byte v me g = due_at (phase_age v.ages + TURN_DELAY + me.latency) (with_data_bits me.own (byte_bits g.byte))
 
 abbrev pub first_req : Sight → Myself → Offering → Option Due
 first_req v me g =
-    if not (has_turned v) then raises_req me (phase_age v.ages + BUS_SETTLE_DELAY)
+    if not (has_io_turned v) then req_assertion me (phase_age v.ages + BUS_SETTLE_DELAY)
     else if me.own.data_bits == 0 then first_byte v me g
-    else raises_req me (me.since + SET_UP_TIME)
+    else req_assertion me (me.since + SET_UP_TIME)
 
 -- ---- byte by byte
 
 -- On ACK it negates REQ. In the same row it drives the next byte to the initiator, or releases the data lines (6.1.5.1).
 abbrev pub bits_if : Bool → ℕ → ℕ
-bits_if follows byte = if follows then bits byte else 0
+bits_if follows byte = if follows then byte_bits byte else 0
 
-abbrev pub lowers_req : Sight → Myself → Offering → Option Due
-lowers_req v me g =
-    at (v.ages.ack + me.latency) (record me.own { req = false; data_bits = bits_if (v.bus.io && g.follows) g.byte })
+abbrev pub req_negation : Sight → Myself → Offering → Option Due
+req_negation v me g =
+    due_at (v.ages.ack + me.latency) (record me.own { req = false; data_bits = bits_if (v.bus.io && g.follows) g.byte })
 
 -- On ACK false it raises the next REQ, to the initiator a deskew delay and a cable skew delay after the byte (6.1.5.1).
 abbrev pub next_req : Sight → Myself → Option Due
-next_req v me = raises_req me (if v.bus.io then max v.ages.ack (me.since + SET_UP_TIME) else v.ages.ack)
+next_req v me = req_assertion me (if v.bus.io then max v.ages.ack (me.since + SET_UP_TIME) else v.ages.ack)
 
 -- Or it leaves the phase (6.1.10).
-abbrev pub leaves_phase : Sight → Myself → Offering → Option Due
-leaves_phase v me g = at (v.ages.ack + me.latency + g.wait) g.to
+abbrev pub phase_end : Sight → Myself → Offering → Option Due
+phase_end v me g = due_at (v.ages.ack + me.latency + g.wait) g.to
 
 abbrev pub target_turn : Sight → Handshakes → Myself → Offering → Option Due
 target_turn v b me g =
     if b.requests == 0 then first_req v me g
     else if g.follows then next_req v me
-    else leaves_phase v me g
+    else phase_end v me g
 
-abbrev pub target_shakes : Sight → Handshakes → Myself → Offering → Option Due
-target_shakes v b me g =
-    if me.own.req then (if v.bus.ack then lowers_req v me g else None)
+abbrev pub target_handshake : Sight → Handshakes → Myself → Offering → Option Due
+target_handshake v b me g =
+    if me.own.req then (if v.bus.ack then req_negation v me g else None)
     else if v.bus.ack then None
     else target_turn v b me g
 
 -- ---- by pulses
 
 -- A REQ pulse ends after the assertion period (6.1.5.2).
-abbrev pub ends_req : Sight → Myself → Pace → Option Due
-ends_req v me p = at (v.ages.req + p.times.assertion + me.latency) (record me.own { req = false })
+abbrev pub req_pulse_end : Sight → Myself → Pace → Option Due
+req_pulse_end v me p = due_at (v.ages.req + p.times.assertion + me.latency) (record me.own { req = false })
 
 -- In DATA IN the target changes the byte at the end of its hold time, after the last one to none. An equal byte makes
 -- no row, and counts as driven at that time (6.1.5.2).
-abbrev pub held_until : Handshakes → Myself → Pace → ℕ
-held_until b me p = b.last_req + p.times.hold + me.latency
+abbrev pub hold_end : Handshakes → Myself → Pace → ℕ
+hold_end b me p = b.last_req + p.times.hold + me.latency
 
-abbrev pub changes_byte : Handshakes → Myself → Pace → Offering → Option Due
-changes_byte b me p g = at (held_until b me p) (drives_bits me.own (bits_if g.follows g.byte))
+abbrev pub byte_change : Handshakes → Myself → Pace → Offering → Option Due
+byte_change b me p g = due_at (hold_end b me p) (with_data_bits me.own (bits_if g.follows g.byte))
 
 -- The next REQ pulse begins a period after the last one, a negation period after its end, a set-up time after the byte,
 -- and once fewer pulses than the offset are unanswered (6.1.5.2).
-abbrev pub byte_since : Sight → Handshakes → Myself → Pace → ℕ
-byte_since v b me p = if v.bus.io then held_until b me p + p.times.set_up else 0
+abbrev pub set_up_end : Sight → Handshakes → Myself → Pace → ℕ
+set_up_end v b me p = if v.bus.io then hold_end b me p + p.times.set_up else 0
 
-abbrev pub pulses_req : Sight → Handshakes → Myself → Pace → Option Due
-pulses_req v b me p =
-    raises_req me (max (max (b.last_req + p.times.period) (v.ages.req + p.times.negation)) (max (room_by p.offset b) (byte_since v b me p)))
+abbrev pub req_pulse : Sight → Handshakes → Myself → Pace → Option Due
+req_pulse v b me p =
+    req_assertion me (max (max (b.last_req + p.times.period) (v.ages.req + p.times.negation)) (max (room_by p.offset b) (set_up_end v b me p)))
 
 -- The phase is left once all pulses are answered, ACK is false, and the last byte has been held (6.1.5.2, 6.1.10).
-abbrev pub last_held : Sight → Handshakes → Pace → ℕ
-last_held v b p = (if v.bus.io then b.last_req else b.last_ack) + p.times.hold
+abbrev pub last_hold_end : Sight → Handshakes → Pace → ℕ
+last_hold_end v b p = (if v.bus.io then b.last_req else b.last_ack) + p.times.hold
 
-abbrev pub leaves_pulsed : Sight → Handshakes → Myself → Pace → Offering → Option Due
-leaves_pulsed v b me p g = at (max v.ages.ack (last_held v b p) + me.latency) g.to
+abbrev pub pulsed_phase_end : Sight → Handshakes → Myself → Pace → Offering → Option Due
+pulsed_phase_end v b me p g = due_at (max v.ages.ack (last_hold_end v b p) + me.latency) g.to
 
 abbrev pub pulse_turn : Sight → Handshakes → Myself → Pace → Offering → Option Due
 pulse_turn v b me p g =
-    if g.follows then (if nat_lt (length b.waiting) p.offset then pulses_req v b me p else None)
+    if g.follows then (if nat_lt (length b.waiting) p.offset then req_pulse v b me p else None)
     else if not (length b.waiting == 0) || v.bus.ack then None
-    else leaves_pulsed v b me p g
+    else pulsed_phase_end v b me p g
 
-abbrev pub target_pulses : Sight → Handshakes → Myself → Pace → Offering → Option Due
-target_pulses v b me p g =
-    if me.own.req then ends_req v me p
+abbrev pub target_pulse : Sight → Handshakes → Myself → Pace → Offering → Option Due
+target_pulse v b me p g =
+    if me.own.req then req_pulse_end v me p
     else if b.requests == 0 then first_req v me g
-    else if v.bus.io && not (me.own.data_bits == bits_if g.follows g.byte) then changes_byte b me p g
+    else if v.bus.io && not (me.own.data_bits == bits_if g.follows g.byte) then byte_change b me p g
     else pulse_turn v b me p g

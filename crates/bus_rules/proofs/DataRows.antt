@@ -12,6 +12,7 @@ use Rattle.bus_rules.specs.declared.course.Course.{Course}
 use Rattle.bus_rules.specs.declared.dialogue.Dialogue.{Dialogue}
 use Rattle.bus_rules.specs.declared.raises.Raises.{Raises}
 use Rattle.bus_lines.specs.declared.agreements.Agreement.{Agreement}
+use Rattle.std.proofs.lemmas.Bool.{and_parts, and_from}
 use Rattle.std.proofs.lemmas.Bool.Decides.{nat_tests}
 use Rattle.bus_lines.specs.Trace.{IsViewOf, drives, driven_after, since, since_line}
 use Rattle.bus_lines.specs.declared.changes.Change.{Change}
@@ -29,29 +30,25 @@ use Rattle.bus_rules.specs.Order.{is_in_order, is_news_of}
 use Rattle.bus_rules.specs.FreeBus.{is_entry, enters_well, contends_well}
 use Rattle.bus_rules.specs.Selection.{others_release, is_left, keeps_winner_of, keeps_calling_of, keeps_answer_of, keeps_end_of, keeps_time_out_of, hands_over, takes_over}
 use Rattle.bus_lines.specs.Terms.{is_fault, free_since, raised, raised_next, arbitration, arbitration_after, call, call_after, call_goes_on, connection, connection_after, receiver_of}
-use Rattle.bus_rules.specs.Dialogue.{asynchronous, agreed, closed_by, dialogue, dialogue_after, byte_crosses, byte_out, byte_in, takes_command, phase_begins}
+use Rattle.bus_rules.specs.Dialogue.{asynchronous, agreed, closed_agreement_by, dialogue, dialogue_after, byte_crosses, byte_out, byte_in, heard_with_command, phase_begins}
 use Rattle.bus_rules.specs.Reset.{is_reset, only_rst}
 use Rattle.bus_lines.specs.Phases.{is_data, is_command, is_message_out, is_message_in, is_reserved, changes_phase}
-use Rattle.bus_rules.specs.Phases.{is_held, duty_left, duty_after, no_pulses, pulses_on, pulses_after, turned_after}
-use Rattle.bus_rules.specs.Connected.{keeps_sides, keeps_lines_of, keeps_turns_of, or_new, has_no_initiator_line, has_no_target_line, raises_data, raises_in_turn, initiator_released_of, waits_for_turn, target_released_of, frees_well}
+use Rattle.bus_rules.specs.Phases.{is_attention_held, duty_left, duty_after, no_pulses, pulses_on, pulses_after, turned_after}
+use Rattle.bus_rules.specs.Connected.{keeps_sides, keeps_lines_of, keeps_data_direction_of, or_new, has_no_initiator_line, has_no_target_line, raises_data, raises_in_turn, initiator_released_of, waits_for_turn, target_released_of, frees_well}
 use Rattle.bus_rules.specs.Messages.{is_owed, is_none_or_all, is_unknown, is_opening, same_bool, opens_well, may_take}
-use Rattle.bus_rules.specs.Transfer.{crosses, is_pulsed, is_asynchronous, data_stand_since, changes_data, holds_still, is_after, pulses_well, times_of, last_crossing}
+use Rattle.bus_rules.specs.Transfer.{crosses, is_pulsed, is_asynchronous_transfer, data_stand_since, changes_data, holds_still, is_after, pulses_well, times_of, last_crossing}
 use Rattle.msg_grammar.specs.Messages.{got_out, got_in}
 use Rattle.bus_rules.specs.Reading.{reading_of, reading_out, reading_in}
 use Rattle.bus_rules.specs.Seen.{seen, seen_with, drives_bsy, initiator_called, initiator_of, initiator_data, target_data}
 use Rattle.bus_lines.specs.Changes.{change_of}
 use Rattle.bus_rules.specs.Rules.{test, keeps, judged_rules, lowest_broken, broken_rule}
-use Rattle.bus_rules.specs.DataRows.{is_data_row, crosses_in, keeps_side, asks_soon, is_in_turn, has_turned, stand_since, is_shaken, is_pulsed_well, Standing, standing_after, standing_at, may_cross, transfers_well, is_move, passes, passes_of, passes_in, duty_in_data, takes_data, transferred}
+use Rattle.bus_rules.specs.DataRows.{is_data_row, crosses_in, keeps_side, asks_soon, is_in_turn, has_turned, stand_since, is_shaken, is_pulsed_well, Standing, standing_after, standing_at, may_cross, transfers_well, is_move, passes, passes_of, passes_in, duty_in_data, takes_data, course_after_transfer}
 use Rattle.bus_rules.specs.Judging.{IsRaisesOf, IsCourseOf}
 use Rattle.bus_rules.proofs.First.{none_broken}
 use Rattle.bus_rules.proofs.Agreeing.{agreeing}
 use Rattle.bus_rules.proofs.Courses.{goes_on}
 
 -- ---- tests
-
-both : (a b : Bool) → (a && b) ≡ true → (a ≡ true) × (b ≡ true)
-both true b e = (refl, e)
-both false b e = absurd cc
 
 is_false : (a : Bool) → not a ≡ true → a ≡ false
 is_false true e = absurd cc
@@ -133,22 +130,22 @@ pub record IsQuiet (c : Change) : Type 0 where
 
 pub is_quiet : (c : Change) → is_data_row c ≡ true → IsQuiet c
 is_quiet c e =
-    let a = both _ _ e in
-    let b = both _ _ a.0 in
-    let bus = both _ _ b.0 in
-    let off = both _ _ bus.0 in
-    let on = both _ _ off.0 in
-    let phase = both _ _ bus.1 in
-    let move = both _ _ b.1 in
-    let held = both _ _ move.0 in
-    let hold = both _ _ held.0 in
-    let first = both _ _ hold.0 in
-    let kept = both _ _ held.1 in
-    let own = both _ _ a.1 in
-    let down = both _ _ own.0 in
-    let own_held = both _ _ (both _ _ own.1).0 in
-    let own_hold = both _ _ own_held.0 in
-    let own_first = both _ _ own_hold.0 in
+    let a = and_parts _ _ e in
+    let b = and_parts _ _ a.0 in
+    let bus = and_parts _ _ b.0 in
+    let off = and_parts _ _ bus.0 in
+    let on = and_parts _ _ off.0 in
+    let phase = and_parts _ _ bus.1 in
+    let move = and_parts _ _ b.1 in
+    let held = and_parts _ _ move.0 in
+    let hold = and_parts _ _ held.0 in
+    let first = and_parts _ _ hold.0 in
+    let kept = and_parts _ _ held.1 in
+    let own = and_parts _ _ a.1 in
+    let down = and_parts _ _ own.0 in
+    let own_held = and_parts _ _ (and_parts _ _ own.1).0 in
+    let own_hold = and_parts _ _ own_held.0 in
+    let own_first = and_parts _ _ own_hold.0 in
     record {
       bsy = on.0;
       sel = is_false _ on.1;
@@ -207,9 +204,6 @@ end_kept s row alone = λ i. keeps_end_of s row (alone i)
 time_out_kept : (s : Seen) (row : Row) → s.call ≡ None → test 12 s row ≡ true
 time_out_kept s row alone = λ i. keeps_time_out_of s row (alone i)
 
-both_true : (a b : Bool) → a ≡ true → b ≡ true → (a && b) ≡ true
-both_true a b ea eb = λ i. ea i && eb i
-
 taken_over : (s : Seen) (row : Row) (n : Connection) → IsQuiet s.change → takes_over s row (Some n) ≡ true
 taken_over s row n q = λ i. implies (and_false (n.reselected && row.dev == n.initiator) _ (no_fall _ _ q.own_bsy) i) (is_within s.change.next (record none { atn = true }))
 
@@ -247,11 +241,11 @@ crossing n c = go c.before.io (rises c.before.req c.after.req) (rises c.before.a
 lines_kept : (s : Seen) (row : Row) (n : Connection) → IsQuiet s.change → keeps_side n row.dev s.change.next ≡ true → asks_soon n (standing_of s) s.change row.time ≡ true → keeps_lines_of s row (Some n) ≡ true
 lines_kept s row n q side asks =
     let still = no_change s q in
-    both_true _ _ (both_true _ _ (side_kept n row.dev s.change.next side) (λ i. implies (still i) (not s.change.before.req && not s.change.before.ack))) (go (rises s.change.before.req s.change.after.req) asks)
+    and_from _ _ (and_from _ _ (side_kept n row.dev s.change.next side) (λ i. implies (still i) (not s.change.before.req && not s.change.before.ack))) (go (rises s.change.before.req s.change.after.req) asks)
   where
     go : (r : Bool) → implies r (nat_le (max s.phase_since n.began + BUS_SETTLE_DELAY) row.time && not (is_owed s.duty) && not s.initiator_bsy) ≡ true
         → implies r (not (changes_phase s.change) && not (is_reserved s.change.before) && nat_le (max s.phase_since n.began + BUS_SETTLE_DELAY) row.time) ≡ true
-    go true e = let soon = (both _ _ (both _ _ e).0).0 in λ i. not (no_change s q i) && not (q.msg i && not s.change.before.cd) && soon i
+    go true e = let soon = (and_parts _ _ (and_parts _ _ e).0).0 in λ i. not (no_change s q i) && not (q.msg i && not s.change.before.cd) && soon i
     go false e = refl
 
 asking_kept : (s : Seen) (n : Connection) (time : ℕ) → asks_soon n (standing_of s) s.change time ≡ true → (implies (rises s.change.before.req s.change.after.req) (not s.initiator_bsy) ≡ true) × (implies (rises s.change.before.req s.change.after.req && is_owed s.duty) (is_message_out s.change.before) ≡ true)
@@ -259,18 +253,18 @@ asking_kept s n time e = go (rises s.change.before.req s.change.after.req) e
   where
     go : (r : Bool) → implies r (nat_le (max s.phase_since n.began + BUS_SETTLE_DELAY) time && not (is_owed s.duty) && not s.initiator_bsy) ≡ true → (implies r (not s.initiator_bsy) ≡ true) × (implies (r && is_owed s.duty) (is_message_out s.change.before) ≡ true)
     go true e =
-        let rest = both _ _ e in
-        let owed = is_false _ (both _ _ rest.0).1 in
+        let rest = and_parts _ _ e in
+        let owed = is_false _ (and_parts _ _ rest.0).1 in
         (rest.1, λ i. implies (owed i) (is_message_out s.change.before))
     go false e = (refl, refl)
 
 reselection_kept : (s : Seen) (row : Row) (n : Connection) → IsQuiet s.change → s.call ≡ None → s.connection ≡ Some n → asks_soon n (standing_of s) s.change row.time ≡ true → test 13 s row ≡ true
 reselection_kept s row n q alone conn asks =
-    both_true _ _ (both_true _ _ (λ i. hands_over s row (alone i)) ((λ i. takes_over s row (conn i)) ∙ taken_over s row n q)) (asking_kept s n row.time asks).0
+    and_from _ _ (and_from _ _ (λ i. hands_over s row (alone i)) ((λ i. takes_over s row (conn i)) ∙ taken_over s row n q)) (asking_kept s n row.time asks).0
 
 attention_kept : (s : Seen) (row : Row) (n : Connection) → IsQuiet s.change → asks_soon n (standing_of s) s.change row.time ≡ true → test 24 s row ≡ true
 attention_kept s row n q asks =
-    always _ _ (both_true _ _ (never _ _ (λ i. q.msg i && s.change.before.cd && not s.change.before.io)) (asking_kept s n row.time asks).1)
+    always _ _ (and_from _ _ (never _ _ (λ i. q.msg i && s.change.before.cd && not s.change.before.io)) (asking_kept s n row.time asks).1)
 
 -- the end whose turn it is
 turn_of : (s : Seen) (row : Row) (n : Connection) → keeps_side n row.dev s.change.next ≡ true → is_in_turn (row.dev == n.target) s.change ≡ true → raises_in_turn n s row.dev ≡ true
@@ -296,18 +290,18 @@ turned_kept s row n q conn e =
   where
     go : (io turned : Bool) → (if io then (nat_le row.time (s.io_since + DATA_RELEASE_DELAY) || not s.initiator_data) && implies (turned && row.dev == n.target && drives_data s.change.next) (nat_le (s.io_since + TURN_DELAY) row.time) else (nat_le row.time (s.io_since + DESKEW_DELAY) || not s.target_data)) ≡ true
         → (implies io (nat_le row.time (s.io_since + DATA_RELEASE_DELAY) || not s.initiator_data) ≡ true) × (implies (io && (turned || false) && row.dev == n.target && drives_data s.change.next) (nat_le (s.io_since + TURN_DELAY) row.time) ≡ true) × (implies (not io) (nat_le row.time (s.io_since + DESKEW_DELAY) || not s.target_data) ≡ true)
-    go true true e = let two = both _ _ e in (two.0, two.1, refl)
-    go true false e = let two = both _ _ e in (two.0, refl, refl)
+    go true true e = let two = and_parts _ _ e in (two.0, two.1, refl)
+    go true false e = let two = and_parts _ _ e in (two.0, refl, refl)
     go false turned e = (refl, refl, e)
 
 -- ---- bytes
 
 first_of_two : (p a b : Bool) → implies p (a && b) ≡ true → (implies p a ≡ true) × (implies p b ≡ true)
-first_of_two true a b e = both a b e
+first_of_two true a b e = and_parts a b e
 first_of_two false a b e = (refl, refl)
 
 two_of : (p a b : Bool) → implies p a ≡ true → implies p b ≡ true → implies p (a && b) ≡ true
-two_of true a b ea eb = both_true a b ea eb
+two_of true a b ea eb = and_from a b ea eb
 two_of false a b ea eb = refl
 
 under_more : (p d y : Bool) → implies p y ≡ true → implies p (implies d y) ≡ true
@@ -345,7 +339,7 @@ messages_kept s row n q conn er cr may =
     let rest = first_of_two p (has_odd_parity s.change.after && s.begun) (not s.is_open) (first_of_two p (has_odd_parity s.change.after && s.begun && not s.is_open) (is_none_or_all s.command) may).0 in
     let begun = first_of_two p (has_odd_parity s.change.after) s.begun rest.0 in
     let still = no_change s q in
-    both_true _ _ (both_true _ _ (both_true _ _
+    and_from _ _ (and_from _ _ (and_from _ _
     ((λ i. opens_well s (conn i)) ∙ ((λ i. implies (cr i && not s.begun) (is_opening s.reading && same_bool n.reselected s.change.before.io)) ∙ not_without p s.begun _ begun.1))
     (λ i. not (is_unknown (er i))))
     (λ i. implies (still i && s.is_half) ((is_message_in s.change.before && s.change.before.atn) || falls s.change.before.bsy s.change.after.bsy)))
@@ -376,7 +370,7 @@ transfers_kept s row n q conn cr e = go (s.agreement.offset == 0) refl e
     pulsed : is_pulsed s ≡ not (s.agreement.offset == 0)
     pulsed = λ i. is_some (conn i) && ((not (q.msg i) && not (q.cd i)) && not (s.agreement.offset == 0))
 
-    shaken : is_asynchronous s ≡ not (not (s.agreement.offset == 0))
+    shaken : is_asynchronous_transfer s ≡ not (not (s.agreement.offset == 0))
     shaken = λ i. is_some (conn i) && not ((not (q.msg i) && not (q.cd i)) && not (s.agreement.offset == 0))
 
     st : data_stand_since s row.time ≡ stand_since s.change s.data_since row.time
@@ -385,17 +379,17 @@ transfers_kept s row n q conn cr e = go (s.agreement.offset == 0) refl e
     go : (b : Bool) → (s.agreement.offset == 0) ≡ b → (if b then is_shaken s.change s.data_since row.time else is_pulsed_well s.agreement s.pulses s.change s.req_since s.ack_since s.data_since row.time) ≡ true → Transfers s row
     go true eb h =
         let off : is_pulsed s ≡ false = pulsed ∙ (λ i. not (eb i)) in
-        let bytes = both _ _ h in
-        let turns = both _ _ bytes.0 in (
+        let bytes = and_parts _ _ h in
+        let turns = and_parts _ _ bytes.0 in (
           always _ _ turns.0,
-          (λ i. implies (is_asynchronous s && cr i) (nat_le (st i + SET_UP_TIME) row.time)) ∙ more_with (is_asynchronous s) _ _ turns.1,
-          more_with (is_asynchronous s) _ _ bytes.1,
+          (λ i. implies (is_asynchronous_transfer s && cr i) (nat_le (st i + SET_UP_TIME) row.time)) ∙ more_with (is_asynchronous_transfer s) _ _ turns.1,
+          more_with (is_asynchronous_transfer s) _ _ bytes.1,
           never _ _ off,
           never _ _ off,
         )
     go false eb h =
-        let off : is_asynchronous s ≡ false = shaken ∙ (λ i. not (not (eb i))) in
-        let two = both _ _ h in
+        let off : is_asynchronous_transfer s ≡ false = shaken ∙ (λ i. not (not (eb i))) in
+        let two = and_parts _ _ h in
         let times = times_of s.agreement.period in (
           never _ _ off,
           never _ _ (λ i. off i && crosses s),
@@ -432,12 +426,12 @@ in_connection : (s : Seen) (row : Row) (n : Connection) → s.reading ≡ NoMess
 in_connection s row n er conn call arbitration order move quiet h =
     let q = is_quiet s.change quiet in
     let r = is_reset s in
-    let two = both _ _ move in
-    let rest = both _ _ h in
-    let more = both _ _ rest.0 in
-    let turns = both _ _ more.0 in
-    let side = both _ _ turns.0 in
-    let turn = both _ _ turns.1 in
+    let two = and_parts _ _ move in
+    let rest = and_parts _ _ h in
+    let more = and_parts _ _ rest.0 in
+    let turns = and_parts _ _ more.0 in
+    let side = and_parts _ _ turns.0 in
+    let turn = and_parts _ _ turns.1 in
     let cr : Crosses s = (λ i. is_some (receiver_of (conn i) s.change)) ∙ crossing n s.change in
     let bytes = transfers_kept s row n q conn cr rest.1 in
     let released = turned_kept s row n q conn turn.1 in
@@ -470,9 +464,9 @@ in_connection s row n er conn call arbitration order move quiet h =
                               (
                                 by_test r _ ((λ i. keeps_lines_of s row (or_new (conn i) (connection_after s.connection s.call s.change row))) ∙ lines_kept s row n q side.0 side.1),
                                 (
-                                  by_test r _ (both_true _ _ ((λ i. keeps_turns_of s row (conn i)) ∙ turn_of s row n side.0 turn.0) ((λ i. initiator_released_of s row.time (conn i)) ∙ released.0)),
+                                  by_test r _ (and_from _ _ ((λ i. keeps_data_direction_of s row (conn i)) ∙ turn_of s row n side.0 turn.0) ((λ i. initiator_released_of s row.time (conn i)) ∙ released.0)),
                                   (
-                                    by_test r _ (both_true _ _ ((λ i. waits_for_turn s row (conn i)) ∙ released.1) ((λ i. target_released_of s row.time (conn i)) ∙ released.2)),
+                                    by_test r _ (and_from _ _ ((λ i. waits_for_turn s row (conn i)) ∙ released.1) ((λ i. target_released_of s row.time (conn i)) ∙ released.2)),
                                     (
                                       by_test r _ (parity_kept s row cr more.1),
                                       (
@@ -531,15 +525,15 @@ breaks_none_of : (s : Seen) (row : Row) → s.reading ≡ NoMessage → Passes s
 breaks_none_of s row er e = go s.connection refl a.1
   where
     a : ((nat_le s.last row.time && is_move s.change row && is_data_row s.change && (is_none s.call && is_none s.arbitration)) ≡ true) × (passes_of (standing_of s) s.change row s.connection ≡ true)
-    a = both _ _ e
+    a = and_parts _ _ e
 
     go : (n : Option Connection) → s.connection ≡ n → passes_of (standing_of s) s.change row n ≡ true → lowest_broken s row ≡ None
     go None en h = absurd cc
     go (Some n) en h =
-        let b = both _ _ a.0 in
-        let d = both _ _ b.0 in
-        let f = both _ _ d.0 in
-        let alone = both _ _ b.1 in
+        let b = and_parts _ _ a.0 in
+        let d = and_parts _ _ b.0 in
+        let f = and_parts _ _ d.0 in
+        let alone = and_parts _ _ b.1 in
         in_connection s row n er en (is_nothing _ alone.0) (is_nothing _ alone.1) f.0 f.1 d.1 h
 
 no_message : (half : List ℕ) (n : Option Connection) (c : Change) → IsQuiet c → reading_of half n c ≡ NoMessage
@@ -556,9 +550,9 @@ no_message half n c q =
 
 parts : (t : Standing) (c : Change) (row : Row) → passes t c row ≡ true → (is_data_row c ≡ true) × (t.is_alone ≡ true) × (passes_of t c row t.connection ≡ true)
 parts t c row e =
-    let a = both _ _ e in
-    let b = both _ _ a.0 in
-    let d = both _ _ b.0 in
+    let a = and_parts _ _ e in
+    let b = and_parts _ _ a.0 in
+    let d = and_parts _ _ b.0 in
     (d.1, b.1, a.1)
 
 -- a row that passes the test breaks no rule
@@ -590,7 +584,7 @@ dialogue_moves d n f c q =
     let phase : changes_phase c ≡ false = λ i. not (q.phase i) in
     let byte = c.after.data_bits % 256 in
     let crosses_is : byte_crosses d c ≡ record d { begun = true } =
-    λ i. if out i then byte_out d byte (not c.after.atn) else if inward i then byte_in d byte else if command i then record d { heard = takes_command d.heard byte; begun = true } else record d { begun = true } in
+    λ i. if out i then byte_out d byte (not c.after.atn) else if inward i then byte_in d byte else if command i then record d { heard = heard_with_command d.heard byte; begun = true } else record d { begun = true } in
     (λ i. if cross i then sym crosses_is i else d) ∙ (λ i. if is_some (receiver_of (Some n) c) then byte_crosses d c else if sym phase i then phase_begins d else d)
 
 duty_moves : (u : Duty) (n : Connection) (c : Change) (held : Bool) → IsQuiet c → duty_in_data u c held ≡ duty_after u (Some n) c held
@@ -605,7 +599,7 @@ or_none : (b : Bool) → (b || false) ≡ b
 or_none true = refl
 or_none false = refl
 
-pub moved : (rows : List Row) (row : Row) (k : Course) (held : Bool) → IsCourseOf rows k → held ≡ is_held (change_of rows row) (since_line (λ s. s.atn) rows) row.time → passes (standing_after rows) (change_of rows row) row ≡ true → IsCourseOf (row ∷ rows) (transferred k held (change_of rows row) row.time)
+pub moved : (rows : List Row) (row : Row) (k : Course) (held : Bool) → IsCourseOf rows k → held ≡ is_attention_held (change_of rows row) (since_line (λ s. s.atn) rows) row.time → passes (standing_after rows) (change_of rows row) row ≡ true → IsCourseOf (row ∷ rows) (course_after_transfer k held (change_of rows row) row.time)
 unfolding seen_with
 moved rows row k held h eh e = go (connection rows) refl p.2
   where
@@ -619,7 +613,7 @@ moved rows row k held h eh e = go (connection rows) refl p.2
     q = is_quiet (change_of rows row) p.0
 
     alone : (is_none (call rows) ≡ true) × (is_none (arbitration rows) ≡ true)
-    alone = both _ _ p.1
+    alone = and_parts _ _ p.1
 
     no_call : k.call ≡ None
     no_call = h.call ∙ is_nothing _ alone.0
@@ -643,7 +637,7 @@ moved rows row k held h eh e = go (connection rows) refl p.2
     call_is : k.call ≡ call_after k.call c row
     call_is = no_call ∙ sym (λ i. if not (sel i) then None else if rises c.before.sel c.after.sel then Some (record { caller = row.dev; at = row.time; calling = None }) else call_goes_on k.call c row)
 
-    go : (m : Option Connection) → connection rows ≡ m → passes_of (standing_after rows) c row m ≡ true → IsCourseOf (row ∷ rows) (transferred k held c row.time)
+    go : (m : Option Connection) → connection rows ≡ m → passes_of (standing_after rows) c row m ≡ true → IsCourseOf (row ∷ rows) (course_after_transfer k held c row.time)
     go None en w = absurd cc
     go (Some n) en w =
         let conn : k.connection ≡ Some n = h.connection ∙ en in
@@ -660,8 +654,8 @@ moved rows row k held h eh e = go (connection rows) refl p.2
         ((λ i. if still i then no_pulses else pulses_on k.pulses c row.time) ∙ (λ i. pulses_after k.pulses (back i) c row.time))
         (sym (or_none k.turned) ∙ ((λ i. k.turned || sym rise i) ∙ (λ i. turned_after k.turned (back i) c)))
         (duty_moves k.duty n c held q ∙ (λ i. duty_after k.duty (back i) c held))
-        (agreeing (agreed rows) (λ i t. if c.after.rst then asynchronous else closed_by k.connection c.after.bsy k.dialogue.heard.now i t (agreed rows i t)) k.agreed
-        (λ i t. sym (λ j. if rst j then asynchronous else closed_by (conn j) (bsy j) k.dialogue.heard.now i t (agreed rows i t))) h.agreed)
+        (agreeing (agreed rows) (λ i t. if c.after.rst then asynchronous else closed_agreement_by k.connection c.after.bsy k.dialogue.heard.now i t (agreed rows i t)) k.agreed
+        (λ i t. sym (λ j. if rst j then asynchronous else closed_agreement_by (conn j) (bsy j) k.dialogue.heard.now i t (agreed rows i t))) h.agreed)
         (dialogue_moves k.dialogue n (agreed rows) c q ∙ (λ i. dialogue_after k.dialogue (back i) (back i) (agreed rows) c))
 
 -- ---- what stands, by the running terms

@@ -2,6 +2,7 @@
 use Rattle.std.proofs.Common.{ℕ, ◌≡◌, ◌+◌, ◌<◌, ◌↔◌, inl, inr, Bool, true, false, List, [], ◌∷◌, length, Option, Some, None, refl, sym, ap, subst, ◌∙◌, arith, cond}
 use Rattle.std.specs.Prelude.{◌==◌, ◌&&◌, nat_lt}
 use Rattle.std.specs.List.{AllByRecursion, list_any, list_all}
+use Rattle.std.proofs.lemmas.Bool.{and_parts}
 use Rattle.std.proofs.lemmas.Bool.Decides.{nat_tests}
 use Rattle.bus_lines.specs.declared.Row.{Row}
 use Rattle.bus_rules.specs.Rules.{obeys, obeys_at_end, judged_rules, first_broken, broken_rule, broken_at_end, verdict_of, if_lawful, judged, judged_whole}
@@ -16,14 +17,10 @@ abbrev rises : List ℕ → Bool
 rises [] = true
 rises (n ∷ ns) = list_all (λ m. nat_lt n m) ns && rises ns
 
-both : (a b : Bool) → (a && b) ≡ true → (a ≡ true) × (b ≡ true)
-both true b e = (refl, e)
-both false b e = absurd cc
-
 not_below : (kept : ℕ → Bool) (n : ℕ) (ns : List ℕ) → list_all (λ m. nat_lt n m) ns ≡ true → AllByRecursion (λ m. m < n → kept m ≡ true) ns
 not_below kept n [] h = tt
 not_below kept n (m ∷ ns) h =
-    let two = both (nat_lt n m) (list_all (λ k. nat_lt n k) ns) h in
+    let two = and_parts (nat_lt n m) (list_all (λ k. nat_lt n k) ns) h in
     let up : n < m = let test = two.0 in grind (arith, nat_tests) in
     ((λ lt. absurd (omega arith)), not_below kept n ns two.1)
 
@@ -52,7 +49,7 @@ lowest_step kept n ns rule false h up later e =
 lowest : (kept : ℕ → Bool) (ns : List ℕ) → rises ns ≡ true → (rule : ℕ) → first_broken kept ns ≡ Some rule → Lowest kept ns rule
 lowest kept [] up rule e = absurd cc
 lowest kept (n ∷ ns) up rule e =
-    let two = both (list_all (λ m. nat_lt n m) ns) (rises ns) up in
+    let two = and_parts (list_all (λ m. nat_lt n m) ns) (rises ns) up in
     lowest_step kept n ns rule (kept n) refl two.0 (λ later. lowest kept ns two.1 rule later) e
 
 -- ---- no broken rule

@@ -14,7 +14,7 @@ use Rattle.bus_lines.specs.declared.selection.Call.{Call}
 use Rattle.bus_lines.specs.Changes.{change_of}
 use Rattle.bus_lines.specs.Terms.{raised, connection, free_since}
 use Rattle.bus_lines.specs.Phases.{phase_since}
-use Rattle.bus_rules.specs.Phases.{is_held}
+use Rattle.bus_rules.specs.Phases.{is_attention_held}
 use Rattle.bus_rules.specs.Dialogue.{dialogue}
 use Rattle.bus_rules.specs.Half.{is_nil}
 use Rattle.bus_rules.specs.Reading.{reading_of}
@@ -119,9 +119,9 @@ pub free_of : (rows : List Row) (dev : ℕ) (met : Seen) (q : Change) (none : Re
 unfolding seen_with
 free_of rows dev met q none em = ap (λ (s : Seen). s.free_since) em
 
-pub held_of : (rows : List Row) (row : Row) (met : Seen) (q c : Change) (none : Reading) (held : Bool) → met ≡ seen_with rows row.dev q none → c ≡ change_of rows row → held ≡ is_held c met.atn_since row.time → held ≡ is_held (change_of rows row) (since_line (λ s. s.atn) rows) row.time
+pub held_of : (rows : List Row) (row : Row) (met : Seen) (q c : Change) (none : Reading) (held : Bool) → met ≡ seen_with rows row.dev q none → c ≡ change_of rows row → held ≡ is_attention_held c met.atn_since row.time → held ≡ is_attention_held (change_of rows row) (since_line (λ s. s.atn) rows) row.time
 unfolding seen_with
-held_of rows row met q c none held em ec eh = eh ∙ (λ i. is_held (ec i) (em i).atn_since row.time)
+held_of rows row met q c none held em ec eh = eh ∙ (λ i. is_attention_held (ec i) (em i).atn_since row.time)
 
-pub held_by : (rows : List Row) (row : Row) (c : Change) (since : ℕ) (held : Bool) → c ≡ change_of rows row → since ≡ since_line (λ s. s.atn) rows → held ≡ is_held c since row.time → held ≡ is_held (change_of rows row) (since_line (λ s. s.atn) rows) row.time
-held_by rows row c since held ec es eh = eh ∙ (λ i. is_held (ec i) (es i) row.time)
+pub held_by : (rows : List Row) (row : Row) (c : Change) (since : ℕ) (held : Bool) → c ≡ change_of rows row → since ≡ since_line (λ s. s.atn) rows → held ≡ is_attention_held c since row.time → held ≡ is_attention_held (change_of rows row) (since_line (λ s. s.atn) rows) row.time
+held_by rows row c since held ec es eh = eh ∙ (λ i. is_attention_held (ec i) (es i) row.time)

@@ -17,8 +17,8 @@ abbrev pub or_new : Option Connection → Option Connection → Option Connectio
 or_new None new = new
 or_new (Some n) new = Some n
 
-abbrev pub ends_of : Seen → Row → Option Connection
-ends_of s row = or_new s.connection (connection_after s.connection s.call s.change row)
+abbrev pub connection_ends : Seen → Row → Option Connection
+connection_ends s row = or_new s.connection (connection_after s.connection s.call s.change row)
 
 -- ---- rule 14
 
@@ -52,7 +52,7 @@ keeps_lines_of s row None = true
 keeps_lines_of s row (Some n) = keeps_sides n row.dev s.change.next && changes_well s.change && asks_well n s row.time
 
 abbrev pub keeps_lines : Seen → Row → Bool
-keeps_lines s row = keeps_lines_of s row (ends_of s row)
+keeps_lines s row = keeps_lines_of s row (connection_ends s row)
 
 -- ---- rules 15 and 16
 
@@ -75,12 +75,12 @@ initiator_released_of s time (Some n) =
 abbrev pub initiator_released : Seen → ℕ → Bool
 initiator_released s time = initiator_released_of s time s.connection
 
-abbrev pub keeps_turns_of : Seen → Row → Option Connection → Bool
-keeps_turns_of s row None = true
-keeps_turns_of s row (Some n) = raises_in_turn n s row.dev
+abbrev pub keeps_data_direction_of : Seen → Row → Option Connection → Bool
+keeps_data_direction_of s row None = true
+keeps_data_direction_of s row (Some n) = raises_in_turn n s row.dev
 
-abbrev pub keeps_turns : Seen → Row → Bool
-keeps_turns s row = keeps_turns_of s row s.connection && initiator_released s row.time
+abbrev pub keeps_data_direction : Seen → Row → Bool
+keeps_data_direction s row = keeps_data_direction_of s row s.connection && initiator_released s row.time
 
 -- When I/O became true, where it is true after the row.
 abbrev pub io_true_since : Seen → ℕ → ℕ
@@ -102,8 +102,8 @@ target_released_of s time (Some n) =
 abbrev pub target_released : Seen → ℕ → Bool
 target_released s time = target_released_of s time s.connection
 
-abbrev pub keeps_turn_delay : Seen → Row → Bool
-keeps_turn_delay s row = waits_for_turn s row s.connection && target_released s row.time
+abbrev pub keeps_direction_delay : Seen → Row → Bool
+keeps_direction_delay s row = waits_for_turn s row s.connection && target_released s row.time
 
 -- ---- rule 27
 

@@ -1,6 +1,7 @@
 -- Rows of a DATA phase that change data lines, REQ and ACK alone, and a short test that such a row breaks no
 -- rule.
 use Rattle.std.specs.Prelude.{ℕ, ◌+◌, Bool, true, false, not, max, ◌&&◌, ◌||◌, ◌==◌, List, Option, Some, None, nat_le, nat_lt, is_some, is_none, slice_index, if◌then◌else◌}
+use Rattle.bus_lines.specs.declared.agreements.TheConstants.{UNLIMITED_OFFSET}
 use Rattle.bus_lines.specs.declared.delays.TheConstants.{BUS_SETTLE_DELAY, DATA_RELEASE_DELAY, DESKEW_DELAY, SET_UP_TIME, TURN_DELAY}
 use Rattle.bus_lines.specs.LineSet.{LineSet, data_of, same, same_set, has_odd_parity}
 use Rattle.bus_lines.specs.Trace.{drives, last_time, since, since_line}
@@ -149,7 +150,7 @@ is_shaken c since time =
 
 -- A byte crosses by pulses.
 abbrev pub may_ask : ℕ → Pulses → Bool
-may_ask offset p = offset == 255 || nat_lt p.req (p.ack + offset)
+may_ask offset p = offset == UNLIMITED_OFFSET || nat_lt p.req (p.ack + offset)
 
 abbrev pub keeps_count : ℕ → Pulses → Change → Bool
 keeps_count offset p c =
@@ -208,8 +209,8 @@ duty_in_data duty c held =
 abbrev pub takes_data : Dialogue → Bool → Dialogue
 takes_data d crosses = if crosses then record d { begun = true } else d
 
-abbrev pub transferred : Course → Bool → Change → ℕ → Course
-transferred k held c time = record k {
+abbrev pub course_after_transfer : Course → Bool → Change → ℕ → Course
+course_after_transfer k held c time = record k {
   receiver = receiver_of k.connection c;
   pulses = pulses_on k.pulses c time;
   duty = duty_in_data k.duty c held;

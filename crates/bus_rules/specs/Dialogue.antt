@@ -54,8 +54,8 @@ word_in _ = words.Other
 abbrev pub no_command : CommandBytes
 no_command = record { first = 0; count = 0 }
 
-abbrev pub silent : Agreement → Spoken
-silent agreement = record { agreement = agreement; offer = None; answered = None; command = no_command; device_reset = false }
+abbrev pub nothing_spoken : Agreement → Spoken
+nothing_spoken agreement = record { agreement = agreement; offer = None; answered = None; command = no_command; device_reset = false }
 
 abbrev pub asynchronous : Agreement
 asynchronous = record { period = 0; offset = 0 }
@@ -63,79 +63,79 @@ asynchronous = record { period = 0; offset = 0 }
 abbrev pub without_offset : Agreement → Agreement
 without_offset a = record a { offset = 0 }
 
-abbrev pub is_end : End → End → Bool
-is_end ends.Initiator ends.Initiator = true
-is_end ends.Target ends.Target = true
-is_end ends.Initiator ends.Target = false
-is_end ends.Target ends.Initiator = false
+abbrev pub is_same_end : End → End → Bool
+is_same_end ends.Initiator ends.Initiator = true
+is_same_end ends.Target ends.Target = true
+is_same_end ends.Initiator ends.Target = false
+is_same_end ends.Target ends.Initiator = false
 
 -- It is of the other end.
 abbrev pub is_of_other : Option End → End → Bool
 is_of_other None end = false
-is_of_other (Some e) end = not (is_end e end)
+is_of_other (Some e) end = not (is_same_end e end)
 
 -- A synchronous data transfer request (6.6.21) answers where one of the other end is open, and sets the
 -- agreement. Otherwise it is open itself, in place of an earlier one of the same end.
-abbrev pub offers : Spoken → End → Agreement → Spoken
-offers s end a =
+abbrev pub spoken_with_offer : Spoken → End → Agreement → Spoken
+spoken_with_offer s end a =
     if is_of_other s.offer end then record s { agreement = a; offer = None; answered = Some end }
     else record s { offer = Some end; answered = None }
 
 -- MESSAGE REJECT closes an open request of the other end; and it may follow an answering one of the other end
 -- as the next message. In both cases data transfer is asynchronous from then on.
-abbrev pub rejects : Spoken → End → Spoken
-rejects s end =
+abbrev pub spoken_with_reject : Spoken → End → Spoken
+spoken_with_reject s end =
     if is_of_other s.offer end then record s { agreement = without_offset s.agreement; offer = None; answered = None }
     else if is_of_other s.answered end then record s { agreement = without_offset s.agreement; answered = None }
     else record s { answered = None }
 
-abbrev pub says : Spoken → End → Word → Spoken
-says s end (words.Offer a) = offers s end a
-says s end words.Reject = rejects s end
-says s end words.Restore = record s { command = no_command; answered = None }
-says s end words.DeviceReset = record s { agreement = without_offset s.agreement; device_reset = true; answered = None }
-says s end words.ParityError = record s { answered = None }
-says s end words.Other = record s { answered = None }
+abbrev pub spoken_with_word : Spoken → End → Word → Spoken
+spoken_with_word s end (words.Offer a) = spoken_with_offer s end a
+spoken_with_word s end words.Reject = spoken_with_reject s end
+spoken_with_word s end words.Restore = record s { command = no_command; answered = None }
+spoken_with_word s end words.DeviceReset = record s { agreement = without_offset s.agreement; device_reset = true; answered = None }
+spoken_with_word s end words.ParityError = record s { answered = None }
+spoken_with_word s end words.Other = record s { answered = None }
 
 -- ---- void messages
 
-abbrev pub or_now : Option Spoken → Spoken → Spoken
-or_now None now = now
-or_now (Some s) now = s
+abbrev pub void_or_now : Option Spoken → Spoken → Spoken
+void_or_now None now = now
+void_or_now (Some s) now = s
 
 -- What held without the last message, where that came in MESSAGE IN, holds again with MESSAGE PARITY ERROR.
-abbrev pub hears_out : Heard → Word → Heard
-hears_out h words.ParityError = record { now = says (or_now h.void h.now) ends.Initiator words.ParityError; void = None }
-hears_out h word = record { now = says h.now ends.Initiator word; void = None }
+abbrev pub heard_with_out : Heard → Word → Heard
+heard_with_out h words.ParityError = record { now = spoken_with_word (void_or_now h.void h.now) ends.Initiator words.ParityError; void = None }
+heard_with_out h word = record { now = spoken_with_word h.now ends.Initiator word; void = None }
 
 -- A MESSAGE IN message begins, and one that is whole is heard.
-abbrev pub begins_in : Heard → Heard
-begins_in h = record { now = h.now; void = Some h.now }
+abbrev pub heard_before_in : Heard → Heard
+heard_before_in h = record { now = h.now; void = Some h.now }
 
-abbrev pub hears_in : Heard → Word → Heard
-hears_in h word = record h { now = says h.now ends.Target word }
+abbrev pub heard_with_in : Heard → Word → Heard
+heard_with_in h word = record h { now = spoken_with_word h.now ends.Target word }
 
 -- ---- bytes of the command
 
 abbrev pub command_on : CommandBytes → ℕ → CommandBytes
 command_on k byte = record { first = if k.count == 0 then byte else k.first; count = counted_on k.count }
 
-abbrev pub takes_byte : Spoken → ℕ → Spoken
-takes_byte s byte = record s { command = command_on s.command byte }
+abbrev pub spoken_with_byte : Spoken → ℕ → Spoken
+spoken_with_byte s byte = record s { command = command_on s.command byte }
 
-abbrev pub takes_void : Option Spoken → ℕ → Option Spoken
-takes_void None byte = None
-takes_void (Some s) byte = Some (takes_byte s byte)
+abbrev pub void_with_byte : Option Spoken → ℕ → Option Spoken
+void_with_byte None byte = None
+void_with_byte (Some s) byte = Some (spoken_with_byte s byte)
 
-abbrev pub takes_command : Heard → ℕ → Heard
-takes_command h byte = record { now = takes_byte h.now byte; void = takes_void h.void byte }
+abbrev pub heard_with_command : Heard → ℕ → Heard
+heard_with_command h byte = record { now = spoken_with_byte h.now byte; void = void_with_byte h.void byte }
 
 -- ---- a connection, row by row
 
 abbrev pub opened : Agreement → Dialogue
 opened a = record {
-  heard = record { now = silent a; void = None };
-  at_phase = record { now = silent a; void = None };
+  heard = record { now = nothing_spoken a; void = None };
+  at_phase = record { now = nothing_spoken a; void = None };
   is_last = false;
   half = [];
   fresh = [];
@@ -143,12 +143,12 @@ opened a = record {
 }
 
 abbrev pub heard_out : Heard → Got MsgOut → Heard
-heard_out h (Whole m n) = hears_out h (word_out m)
+heard_out h (Whole m n) = heard_with_out h (word_out m)
 heard_out h More = h
 heard_out h Unknown = h
 
 abbrev pub heard_in : Heard → Got MsgIn → Heard
-heard_in h (Whole m n) = hears_in h (word_in m)
+heard_in h (Whole m n) = heard_with_in h (word_in m)
 heard_in h More = h
 heard_in h Unknown = h
 
@@ -168,20 +168,20 @@ byte_out d byte last = record d {
   begun = true;
 }
 
-abbrev pub if_begins : List ℕ → Heard → Heard
-if_begins [] h = begins_in h
-if_begins (b ∷ bytes) h = h
+abbrev pub heard_if_begun : List ℕ → Heard → Heard
+heard_if_begun [] h = heard_before_in h
+heard_if_begun (b ∷ bytes) h = h
 
 abbrev pub byte_in : Dialogue → ℕ → Dialogue
 byte_in d byte = record d {
-  heard = heard_in (if_begins d.half d.heard) (got_in (d.half ++ byte ∷ []));
+  heard = heard_in (heard_if_begun d.half d.heard) (got_in (d.half ++ byte ∷ []));
   half = left_of (got_in (d.half ++ byte ∷ [])) (d.half ++ byte ∷ []);
   begun = true;
 }
 
 abbrev pub byte_else : Dialogue → LineSet → ℕ → Dialogue
 byte_else d s byte =
-    if is_command s then record d { heard = takes_command d.heard byte; begun = true } else record d { begun = true }
+    if is_command s then record d { heard = heard_with_command d.heard byte; begun = true } else record d { begun = true }
 
 -- A byte that crosses in the phase of these lines.
 abbrev pub byte_crosses : Dialogue → Change → Dialogue
@@ -204,15 +204,15 @@ dialogue_on d n c =
 
 -- The agreements at the end of a connection: that of its devices is what the messages said; BUS DEVICE RESET
 -- ended those of its target.
-abbrev pub closed : Connection → Spoken → ℕ → ℕ → Agreement → Agreement
-closed n s i t was =
+abbrev pub closed_agreement : Connection → Spoken → ℕ → ℕ → Agreement → Agreement
+closed_agreement n s i t was =
     if i == n.initiator && t == n.target then s.agreement
     else if t == n.target && s.device_reset then asynchronous
     else was
 
-abbrev pub closed_by : Option Connection → Bool → Spoken → ℕ → ℕ → Agreement → Agreement
-closed_by None stands s i t was = was
-closed_by (Some n) stands s i t was = if stands then was else closed n s i t was
+abbrev pub closed_agreement_by : Option Connection → Bool → Spoken → ℕ → ℕ → Agreement → Agreement
+closed_agreement_by None stands s i t was = was
+closed_agreement_by (Some n) stands s i t was = if stands then was else closed_agreement n s i t was
 
 abbrev pub dialogue_after : Dialogue → Option Connection → Option Connection → (ℕ → ℕ → Agreement) → Change → Dialogue
 dialogue_after d before None agreed c = opened asynchronous
@@ -225,7 +225,7 @@ abbrev mutual
   agreed [] i t = asynchronous
   agreed (row ∷ rows) i t =
       if (bus (row ∷ rows)).rst then asynchronous
-      else closed_by (connection rows) (bus (row ∷ rows)).bsy (dialogue rows).heard.now i t (agreed rows i t)
+      else closed_agreement_by (connection rows) (bus (row ∷ rows)).bsy (dialogue rows).heard.now i t (agreed rows i t)
 
   -- What the messages of the connection that stands say.
   pub dialogue : List Row → Dialogue

@@ -59,8 +59,8 @@ abbrev pub raises_sel : Seen → Bool
 raises_sel s = rises s.change.own.sel s.change.next.sel
 
 -- Rule 5. A row that raises SEL is of a contender, at least an arbitration delay after its entry (6.1.2).
-abbrev pub keeps_turn : Seen → Row → Bool
-keeps_turn s row = implies (raises_sel s) (is_contender s && nat_le (s.bsy_raised + ARBITRATION_DELAY) row.time)
+abbrev pub keeps_arbitration_delay : Seen → Row → Bool
+keeps_arbitration_delay s row = implies (raises_sel s) (is_contender s && nat_le (s.bsy_raised + ARBITRATION_DELAY) row.time)
 
 -- Rule 6. In the row that raises SEL no ID higher than the device's is true, and it adds SEL and nothing
 -- else (6.1.2).

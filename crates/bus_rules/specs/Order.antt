@@ -14,12 +14,12 @@ abbrev pub is_in_order : Seen → ℕ → Bool
 is_in_order s time = nat_le s.last time
 
 -- A fault names the byte that crossed in the row before it, at the same time, at its receiver.
-abbrev pub is_device : Option ℕ → ℕ → Bool
-is_device None dev = false
-is_device (Some d) dev = d == dev
+abbrev pub is_of_device : Option ℕ → ℕ → Bool
+is_of_device None dev = false
+is_of_device (Some d) dev = d == dev
 
 abbrev pub strikes_byte : Seen → Row → Bool
-strikes_byte s row = is_device s.receiver row.dev && s.last == row.time
+strikes_byte s row = is_of_device s.receiver row.dev && s.last == row.time
 
 -- Or the IDs, once in a calling, at the called device that has not answered: SEL and its ID are true, and
 -- BSY has been false for a bus settle delay (6.1.3, 6.1.4).

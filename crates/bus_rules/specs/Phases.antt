@@ -19,13 +19,13 @@ use Rattle.bus_lines.specs.Terms.{connection, when}
 abbrev pub no_pulses : Pulses
 no_pulses = record { req = 0; ack = 0; last_req = None; last_ack = None }
 
-abbrev pub counted : Bool → ℕ → ℕ
-counted now count = if now then counted_on count else count
+abbrev pub count_after : Bool → ℕ → ℕ
+count_after now count = if now then counted_on count else count
 
 abbrev pub pulses_on : Pulses → Change → ℕ → Pulses
 pulses_on p c time = record {
-  req = counted (rises c.before.req c.after.req) p.req;
-  ack = counted (rises c.before.ack c.after.ack) p.ack;
+  req = count_after (rises c.before.req c.after.req) p.req;
+  ack = count_after (rises c.before.ack c.after.ack) p.ack;
   last_req = when (rises c.before.req c.after.req) time p.last_req;
   last_ack = when (rises c.before.ack c.after.ack) time p.last_ack;
 }
@@ -64,8 +64,8 @@ duty_left duties.Nothing = duties.Nothing
 duty_left duties.Owed = duties.Owed
 
 -- ATN is true before and after the row, and has been so for two deskew delays.
-abbrev pub is_held : Change → ℕ → ℕ → Bool
-is_held c since time = c.before.atn && c.after.atn && nat_le (since + TWO_DESKEW) time
+abbrev pub is_attention_held : Change → ℕ → ℕ → Bool
+is_attention_held c since time = c.before.atn && c.after.atn && nat_le (since + TWO_DESKEW) time
 
 -- It begins as ACK falls after a byte while ATN is so held. It ends as ATN falls, with the next REQ, and with
 -- the connection, which here is that after the row.
@@ -80,4 +80,4 @@ duty_after duty (Some n) c held =
 abbrev pub duty : List Row → Duty
 duty [] = duties.Nothing
 duty (row ∷ rows) =
-    duty_after (duty rows) (connection (row ∷ rows)) (change_of rows row) (is_held (change_of rows row) (since_line (λ s. s.atn) rows) row.time)
+    duty_after (duty rows) (connection (row ∷ rows)) (change_of rows row) (is_attention_held (change_of rows row) (since_line (λ s. s.atn) rows) row.time)

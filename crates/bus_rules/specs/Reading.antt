@@ -16,23 +16,23 @@ use Rattle.bus_lines.specs.Phases.{is_message_out, is_message_in}
 
 -- Messages that may come first in a connection: to the target IDENTIFY, ABORT and BUS DEVICE RESET, to the
 -- initiator IDENTIFY.
-abbrev pub reads_out : MsgOut → Reading
-reads_out (to_target.Identify disc lun) = readings.Opens
-reads_out to_target.Abort = readings.Opens
-reads_out to_target.DeviceReset = readings.Opens
-reads_out _ = readings.Other
+abbrev pub reading_of_out : MsgOut → Reading
+reading_of_out (to_target.Identify disc lun) = readings.Opens
+reading_of_out to_target.Abort = readings.Opens
+reading_of_out to_target.DeviceReset = readings.Opens
+reading_of_out _ = readings.Other
 
-abbrev pub reads_in : MsgIn → Reading
-reads_in (to_initiator.Identify lun) = readings.Opens
-reads_in _ = readings.Other
+abbrev pub reading_of_in : MsgIn → Reading
+reading_of_in (to_initiator.Identify lun) = readings.Opens
+reading_of_in _ = readings.Other
 
 abbrev pub reading_out : Got MsgOut → Reading
-reading_out (Whole m n) = reads_out m
+reading_out (Whole m n) = reading_of_out m
 reading_out More = readings.Half
 reading_out Unknown = readings.Unknown
 
 abbrev pub reading_in : Got MsgIn → Reading
-reading_in (Whole m n) = reads_in m
+reading_in (Whole m n) = reading_of_in m
 reading_in More = readings.Half
 reading_in Unknown = readings.Unknown
 

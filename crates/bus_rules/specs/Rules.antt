@@ -6,9 +6,9 @@ use Rattle.bus_rules.specs.declared.verdict.Verdict.{Verdict}
 use Rattle.bus_rules.specs.declared.verdict.Verdict.TheVariants.{Lawful, Broken}
 use Rattle.bus_rules.specs.Seen.{seen, end_row}
 use Rattle.bus_rules.specs.Order.{is_in_order, is_news}
-use Rattle.bus_rules.specs.FreeBus.{keeps_free_bus, is_cleared, keeps_arbitration, keeps_turn, wins_well}
+use Rattle.bus_rules.specs.FreeBus.{keeps_free_bus, is_cleared, keeps_arbitration, keeps_arbitration_delay, wins_well}
 use Rattle.bus_rules.specs.Selection.{keeps_losers_off, is_left, keeps_winner, keeps_calling, keeps_answer, keeps_end, keeps_time_out, keeps_reselection}
-use Rattle.bus_rules.specs.Connected.{keeps_lines, keeps_turns, initiator_released, keeps_turn_delay, target_released, keeps_freeing}
+use Rattle.bus_rules.specs.Connected.{keeps_lines, keeps_data_direction, initiator_released, keeps_direction_delay, target_released, keeps_freeing}
 use Rattle.bus_rules.specs.Transfer.{has_parity, keeps_handshake, keeps_set_up, keeps_data, keeps_offset, keeps_pulses, leaves_well}
 use Rattle.bus_rules.specs.Messages.{keeps_attention, keeps_messages, keeps_command}
 use Rattle.bus_rules.specs.Reset.{is_reset, keeps_reset, is_quiet_in_reset}
@@ -22,7 +22,7 @@ test n s row =
     else if n == 2 then is_news s row
     else if n == 3 then keeps_free_bus s row
     else if n == 4 then keeps_arbitration s row
-    else if n == 5 then keeps_turn s row
+    else if n == 5 then keeps_arbitration_delay s row
     else if n == 6 then wins_well s row
     else if n == 7 then keeps_losers_off s row
     else if n == 8 then keeps_winner s row
@@ -32,8 +32,8 @@ test n s row =
     else if n == 12 then keeps_time_out s row
     else if n == 13 then keeps_reselection s row
     else if n == 14 then keeps_lines s row
-    else if n == 15 then keeps_turns s row
-    else if n == 16 then keeps_turn_delay s row
+    else if n == 15 then keeps_data_direction s row
+    else if n == 16 then keeps_direction_delay s row
     else if n == 17 then has_parity s
     else if n == 18 then keeps_handshake s
     else if n == 19 then keeps_set_up s row

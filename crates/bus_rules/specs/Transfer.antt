@@ -1,5 +1,6 @@
 -- Rules 17 to 23: REQ and ACK, asynchronous and synchronous (6.1.5.1, 6.1.5.2).
 use Rattle.std.specs.Prelude.{ℕ, ◌+◌, Bool, true, not, ◌&&◌, ◌||◌, ◌==◌, Option, Some, None, nat_le, nat_lt, is_some, if◌then◌else◌}
+use Rattle.bus_lines.specs.declared.agreements.TheConstants.{UNLIMITED_OFFSET}
 use Rattle.bus_lines.specs.declared.delays.TheConstants.{SET_UP_TIME}
 use Rattle.bus_lines.specs.LineSet.{LineSet, has_odd_parity}
 use Rattle.bus_lines.specs.Agreements.{transfer_times, slow_times}
@@ -23,8 +24,8 @@ has_parity s = implies (crosses s) (has_odd_parity s.change.after)
 abbrev pub is_pulsed : Seen → Bool
 is_pulsed s = is_some s.connection && (is_data s.change.before && not (s.agreement.offset == 0))
 
-abbrev pub is_asynchronous : Seen → Bool
-is_asynchronous s = is_some s.connection && not (is_data s.change.before && not (s.agreement.offset == 0))
+abbrev pub is_asynchronous_transfer : Seen → Bool
+is_asynchronous_transfer s = is_some s.connection && not (is_data s.change.before && not (s.agreement.offset == 0))
 
 -- Since when the data lines stand as they do after the row.
 abbrev pub data_stand_since : Seen → ℕ → ℕ
@@ -41,12 +42,12 @@ alternates c =
     && (implies (rises c.before.ack c.after.ack) c.before.req && implies (falls c.before.ack c.after.ack) (not c.before.req))
 
 abbrev pub keeps_handshake : Seen → Bool
-keeps_handshake s = implies (is_asynchronous s) (alternates s.change)
+keeps_handshake s = implies (is_asynchronous_transfer s) (alternates s.change)
 
 -- Rule 19. Asynchronous: the data lines have not changed for a deskew delay and a cable skew delay before a
 -- byte crosses.
 abbrev pub keeps_set_up : Seen → Row → Bool
-keeps_set_up s row = implies (is_asynchronous s && crosses s) (nat_le (data_stand_since s row.time + SET_UP_TIME) row.time)
+keeps_set_up s row = implies (is_asynchronous_transfer s && crosses s) (nat_le (data_stand_since s row.time + SET_UP_TIME) row.time)
 
 -- Rule 20. Asynchronous: with I/O true the data lines do not change while REQ is true and ACK false; with I/O
 -- false they do not change while both are true.
@@ -54,14 +55,14 @@ abbrev pub holds_still : LineSet → Bool
 holds_still s = if s.io then s.req && not s.ack else s.req && s.ack
 
 abbrev pub keeps_data : Seen → Bool
-keeps_data s = implies (is_asynchronous s && holds_still s.change.before) (not (changes_data s.change))
+keeps_data s = implies (is_asynchronous_transfer s && holds_still s.change.before) (not (changes_data s.change))
 
--- Rule 21. Pulsed: the rises of REQ are never fewer than those of ACK, and at most the offset more; an offset of
--- 255 means no limit.
+-- Rule 21. Pulsed: the rises of REQ are never fewer than those of ACK, and at most the offset more, where
+-- that sets a limit.
 abbrev pub keeps_offset : Seen → Bool
 keeps_offset s =
     implies (is_pulsed s)
-    (implies (rises s.change.before.req s.change.after.req) (s.agreement.offset == 255 || nat_lt s.pulses.req (s.pulses.ack + s.agreement.offset))
+    (implies (rises s.change.before.req s.change.after.req) (s.agreement.offset == UNLIMITED_OFFSET || nat_lt s.pulses.req (s.pulses.ack + s.agreement.offset))
     && implies (rises s.change.before.ack s.change.after.ack) (nat_lt s.pulses.ack s.pulses.req))
 
 -- The times of a transfer period factor; those of a factor below 25 are those of a transfer that is not fast.

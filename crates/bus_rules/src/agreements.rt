@@ -1,7 +1,7 @@
 //! The agreements of all pairs of devices.
 ghost use Rattle.std.specs.Prelude.{ℕ, ◌≡◌, ◌<◌, ◌+◌, ◌*◌, ◌==◌, ◌&&◌, if◌then◌else◌};
 ghost use Rattle.bus_lines.specs.declared.agreements.Agreement.{Agreement};
-ghost use Rattle.bus_rules.specs.Dialogue.{asynchronous, closed};
+ghost use Rattle.bus_rules.specs.Dialogue.{asynchronous, closed_agreement};
 
 use crate::spoken::{Spoken, asynchronous};
 use bus_base::Dev;
@@ -85,7 +85,7 @@ impl Agreements {
     pub fn close(&mut self, connection: Connection, spoken: Spoken)
         requires initiator { connection.initiator < 8 }
         requires target { connection.target < 8 }
-        ensures { (agreed : ℕ → ℕ → Agreement) → AreAgreements agreed self.old → AreAgreements (λ i t. closed connection spoken i t (agreed i t)) self.new }
+        ensures { (agreed : ℕ → ℕ → Agreement) → AreAgreements agreed self.old → AreAgreements (λ i t. closed_agreement connection spoken i t (agreed i t)) self.new }
     {
         self.reset_if(spoken.device_reset, connection.target);
         self.set(connection.initiator, connection.target, spoken.agreement);

@@ -1,6 +1,6 @@
 //! Attention (ANSI X3.131-1994, 6.2.1).
 ghost use Rattle.std.specs.Prelude.{◌≡◌};
-ghost use Rattle.bus_rules.specs.Phases.{duty_if_held, duty_left, is_held, duty_after};
+ghost use Rattle.bus_rules.specs.Phases.{duty_if_held, duty_left, is_attention_held, duty_after};
 
 use bus_base::Ns;
 use bus_lines::{
@@ -41,8 +41,8 @@ fn duty_left(duty: Duty) -> Duty
 }
 
 /// Whether ATN is true before and after a row, and has been so for two deskew delays.
-pub fn is_held(change: &Change, since: Ns, time: Ns) -> bool
-    ensures { result ≡ is_held change.now since time }
+pub fn is_attention_held(change: &Change, since: Ns, time: Ns) -> bool
+    ensures { result ≡ is_attention_held change.now since time }
 {
     change.before.atn() && change.after.atn() && time.saturating_sub(since) >= TWO_DESKEW
 }

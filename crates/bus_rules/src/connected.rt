@@ -2,7 +2,7 @@
 ghost use Rattle.std.specs.Prelude.{◌≡◌};
 ghost use Rattle.bus_lines.specs.Calls.{HasDevices, IsCalled};
 ghost use Rattle.bus_lines.specs.Connections.{HasEnds};
-ghost use Rattle.bus_rules.specs.Connected.{or_new, ends_of, has_no_target_line, has_no_initiator_line, keeps_sides, changes_well, asks_well, keeps_lines, raises_data, raises_in_turn, initiator_released, keeps_turns, keeps_turns_of, io_true_since, waits_for_turn, target_released, keeps_turn_delay, frees_well, keeps_freeing};
+ghost use Rattle.bus_rules.specs.Connected.{or_new, connection_ends, has_no_target_line, has_no_initiator_line, keeps_sides, changes_well, asks_well, keeps_lines, raises_data, raises_in_turn, initiator_released, keeps_data_direction, keeps_data_direction_of, io_true_since, waits_for_turn, target_released, keeps_direction_delay, frees_well, keeps_freeing};
 
 use crate::pulses::turned_after;
 use crate::seen::Seen;
@@ -13,10 +13,10 @@ use bus_lines::{
 };
 
 // The connection that stands before the row, or that begins with it.
-fn ends_of(seen: &Seen, row: &Row) -> Option<Connection>
+fn connection_ends(seen: &Seen, row: &Row) -> Option<Connection>
     requires devices { HasDevices seen.now.call }
     requires ends { HasEnds seen.now.connection }
-    ensures { result ≡ ends_of seen.now row.now }
+    ensures { result ≡ connection_ends seen.now row.now }
 {
     match seen.connection {
         Some(connection) => Some(connection),
@@ -74,7 +74,7 @@ pub fn keeps_lines(seen: &Seen, row: &Row) -> bool
     requires ends { HasEnds seen.now.connection }
     ensures { result ≡ keeps_lines seen.now row.now }
 {
-    match ends_of(seen, row) {
+    match connection_ends(seen, row) {
         None => true,
         Some(connection) => {
             keeps_sides(connection, row.dev, seen.change.next)
@@ -122,8 +122,8 @@ pub fn initiator_released(seen: &Seen, time: Ns) -> bool
 }
 
 /// Rule 15: the data lines are raised by the end whose turn I/O says, and the initiator releases them in time.
-pub fn keeps_turns(seen: &Seen, row: &Row) -> bool
-    ensures { result ≡ keeps_turns seen.now row.now }
+pub fn keeps_data_direction(seen: &Seen, row: &Row) -> bool
+    ensures { result ≡ keeps_data_direction seen.now row.now }
 {
     let in_turn = match seen.connection {
         None => true,
@@ -172,8 +172,8 @@ pub fn target_released(seen: &Seen, time: Ns) -> bool
 
 /// Rule 16: the target drives data lines once the initiator has had time to release them, and releases them in
 /// time.
-pub fn keeps_turn_delay(seen: &Seen, row: &Row) -> bool
-    ensures { result ≡ keeps_turn_delay seen.now row.now }
+pub fn keeps_direction_delay(seen: &Seen, row: &Row) -> bool
+    ensures { result ≡ keeps_direction_delay seen.now row.now }
 {
     waits_for_turn(seen, row) && target_released(seen, row.time)
 }

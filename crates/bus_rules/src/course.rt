@@ -9,13 +9,13 @@ ghost use Rattle.bus_lines.specs.Calls.{HasDevices, IsCalled};
 ghost use Rattle.bus_lines.specs.Connections.{HasEnds};
 ghost use Rattle.bus_lines.specs.Changes.{change_of};
 ghost use Rattle.bus_lines.specs.Terms.{free_since, call, connection};
-ghost use Rattle.bus_rules.specs.Phases.{is_held};
-ghost use Rattle.bus_rules.specs.Dialogue.{asynchronous, closed_by, dialogue};
+ghost use Rattle.bus_rules.specs.Phases.{is_attention_held};
+ghost use Rattle.bus_rules.specs.Dialogue.{asynchronous, closed_agreement_by, dialogue};
 ghost use Rattle.bus_rules.specs.Reading.{reading_of};
-ghost use Rattle.bus_rules.specs.DataRows.{transferred};
+ghost use Rattle.bus_rules.specs.DataRows.{course_after_transfer};
 
 use crate::agreements::Agreements;
-use crate::attention::{Duty, duty_after, is_held};
+use crate::attention::{Duty, duty_after, is_attention_held};
 use crate::data_rows::{crosses_in, duty_in_data};
 use crate::dialogue::Dialogue;
 use crate::pulses::{Pulses, no_pulses, pulses_after, turned_after};
@@ -84,7 +84,7 @@ impl Course {
     pub fn transfer(&mut self, held: bool, change: &Change, time: Ns)
         requires devices { HasDevices self.old.call }
         requires ends { HasEnds self.old.connection }
-        ensures exact { self.new ≡ transferred self.old held change.now time }
+        ensures exact { self.new ≡ course_after_transfer self.old held change.now time }
         ensures devices { HasDevices self.new.call }
         ensures ends { HasEnds self.new.connection }
     {
@@ -100,7 +100,7 @@ impl Course {
         requires device { row.now.dev < 8 }
         requires devices { HasDevices self.old.call }
         requires ends { HasEnds self.old.connection }
-        ensures kept { (rows : List Row) → IsCourseOf rows self.old → free ≡ free_since rows → change.now ≡ change_of rows row.now → held ≡ is_held (change_of rows row.now) (since_line (λ s. s.atn) rows) row.now.time → IsCourseOf (row.now ∷ rows) self.new }
+        ensures kept { (rows : List Row) → IsCourseOf rows self.old → free ≡ free_since rows → change.now ≡ change_of rows row.now → held ≡ is_attention_held (change_of rows row.now) (since_line (λ s. s.atn) rows) row.now.time → IsCourseOf (row.now ∷ rows) self.new }
         ensures reading { result ≡ reading_of self.old.dialogue.half self.old.connection change.now }
         ensures devices { HasDevices self.new.call }
         ensures ends { HasEnds self.new.connection }
@@ -129,7 +129,7 @@ impl Course {
 /// The agreements after a row with this bus, before which this connection stood and its messages said this.
 pub fn agree(agreed: &mut Agreements, connection: Option<Connection>, spoken: Spoken, bus: Lines)
     requires { HasEnds connection }
-    ensures { (f : ℕ → ℕ → Agreement) → AreAgreements f agreed.old → AreAgreements (λ i t. if bus.rst then asynchronous else closed_by connection bus.bsy spoken i t (f i t)) agreed.new }
+    ensures { (f : ℕ → ℕ → Agreement) → AreAgreements f agreed.old → AreAgreements (λ i t. if bus.rst then asynchronous else closed_agreement_by connection bus.bsy spoken i t (f i t)) agreed.new }
 {
     if bus.rst() {
         *agreed = Agreements::new();

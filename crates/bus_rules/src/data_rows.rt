@@ -19,8 +19,8 @@ use crate::transfer::{alternates, changes_data, holds_still, is_after, pulses_we
 use bus_base::{Dev, Ns};
 use bus_lines::{
     BUS_SETTLE_DELAY, Change, Connection, DATA_RELEASE_DELAY, DESKEW_DELAY, LineView, Lines, Row,
-    SET_UP_TIME, TURN_DELAY, TransferTimes, drives_data, falls, is_data, is_fault, rises,
-    same_hold, same_phase,
+    SET_UP_TIME, TURN_DELAY, TransferTimes, UNLIMITED_OFFSET, drives_data, falls, is_data,
+    is_fault, rises, same_hold, same_phase,
 };
 
 // Whether the two sets are the same but for data lines, REQ and ACK.
@@ -133,12 +133,12 @@ fn is_shaken(change: &Change, since: Ns, time: Ns) -> bool
         && (!holds_still(change.before) || !changes_data(change))
 }
 
-// Whether REQ is ahead of ACK by less than the offset; one of 255 means no limit.
+// Whether REQ is ahead of ACK by less than the offset, where it sets a limit.
 fn may_ask(offset: u8, pulses: &Pulses) -> bool
     requires { 0 < offset }
     ensures { result ≡ may_ask offset pulses.now }
 {
-    offset == 255 || pulses.req.saturating_sub(pulses.ack) < u64::from(offset)
+    offset == UNLIMITED_OFFSET || pulses.req.saturating_sub(pulses.ack) < u64::from(offset)
 }
 
 fn keeps_count(offset: u8, pulses: &Pulses, change: &Change) -> bool

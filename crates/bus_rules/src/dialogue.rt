@@ -8,12 +8,15 @@ ghost use Rattle.bus_lines.specs.Connections.{HasEnds};
 ghost use Rattle.bus_rules.specs.Judging.{AreAgreements};
 ghost use Rattle.bus_rules.specs.Reading.{reading_of, reading_out, reading_in};
 ghost use Rattle.bus_rules.specs.DataRows.{takes_data};
-ghost use Rattle.bus_rules.specs.Dialogue.{asynchronous, opened, heard_out, heard_in, if_begins, byte_out, byte_in, byte_else, byte_crosses, phase_begins, dialogue_on, dialogue_after};
+ghost use Rattle.bus_rules.specs.Dialogue.{asynchronous, opened, heard_out, heard_in, heard_if_begun, byte_out, byte_in, byte_else, byte_crosses, phase_begins, dialogue_on, dialogue_after};
 
 use crate::agreements::Agreements;
 use crate::half::Half;
 use crate::reading::{Reading, reading_in, reading_out};
-use crate::spoken::{Heard, asynchronous, begins_in, hears_in, hears_out, silent, takes_command};
+use crate::spoken::{
+    Heard, asynchronous, heard_before_in, heard_with_command, heard_with_in, heard_with_out,
+    nothing_spoken,
+};
 use crate::words::{word_in, word_out};
 use bus_lines::{
     Agreement, Change, Connection, Lines, changes_phase, is_command, is_message_in, is_message_out,
@@ -42,7 +45,7 @@ fn heard_out(heard: Heard, got: Got<MsgOut>) -> Heard
     ensures { result ≡ heard_out heard got }
 {
     match got {
-        Got::Whole(message, _) => hears_out(heard, word_out(message)),
+        Got::Whole(message, _) => heard_with_out(heard, word_out(message)),
         Got::More | Got::Unknown => heard,
     }
 }
@@ -51,16 +54,16 @@ fn heard_in(heard: Heard, got: Got<MsgIn>) -> Heard
     ensures { result ≡ heard_in heard got }
 {
     match got {
-        Got::Whole(message, _) => hears_in(heard, word_in(message)),
+        Got::Whole(message, _) => heard_with_in(heard, word_in(message)),
         Got::More | Got::Unknown => heard,
     }
 }
 
-fn if_begins(half: &Half, heard: Heard) -> Heard
-    ensures { result ≡ if_begins half.now heard }
+fn heard_if_begun(half: &Half, heard: Heard) -> Heard
+    ensures { result ≡ heard_if_begun half.now heard }
 {
     if half.is_empty() {
-        begins_in(heard)
+        heard_before_in(heard)
     } else {
         heard
     }
@@ -72,7 +75,7 @@ impl Dialogue {
         ensures { result ≡ opened agreement }
     {
         let heard = Heard {
-            now: silent(agreement),
+            now: nothing_spoken(agreement),
             void: None,
         };
         Dialogue {
@@ -105,7 +108,7 @@ impl Dialogue {
         ensures exact { self.new ≡ byte_in self.old byte }
         ensures reading { result ≡ reading_in (got_in (self.old.half ++ byte ∷ [])) }
     {
-        let heard = if_begins(&self.half, self.heard);
+        let heard = heard_if_begun(&self.half, self.heard);
         let got = self.half.take_in(byte);
         self.heard = heard_in(heard, got);
         self.begun = true;
@@ -116,7 +119,7 @@ impl Dialogue {
         ensures { self.new ≡ byte_else self.old lines byte }
     {
         if is_command(lines) {
-            self.heard = takes_command(self.heard, byte);
+            self.heard = heard_with_command(self.heard, byte);
         }
         self.begun = true;
     }

@@ -1,6 +1,6 @@
 //! Rules 3 to 6: the free bus and arbitration (ANSI X3.131-1994, 6.1.1 and 6.1.2).
 ghost use Rattle.std.specs.Prelude.{◌≡◌, ◌<◌};
-ghost use Rattle.bus_rules.specs.FreeBus.{is_entry, is_contender, is_idle, keeps_off, is_cleared, keeps_free_bus, free_before, is_soon, enters_well, contends_well, keeps_arbitration, raises_sel, keeps_turn, wins_well};
+ghost use Rattle.bus_rules.specs.FreeBus.{is_entry, is_contender, is_idle, keeps_off, is_cleared, keeps_free_bus, free_before, is_soon, enters_well, contends_well, keeps_arbitration, raises_sel, keeps_arbitration_delay, wins_well};
 
 use crate::seen::Seen;
 use bus_base::Ns;
@@ -104,8 +104,8 @@ fn raises_sel(seen: &Seen) -> bool
 }
 
 /// Rule 5: a row that raises SEL is of a contender, at least an arbitration delay after its entry.
-pub fn keeps_turn(seen: &Seen, row: &Row) -> bool
-    ensures { result ≡ keeps_turn seen.now row.now }
+pub fn keeps_arbitration_delay(seen: &Seen, row: &Row) -> bool
+    ensures { result ≡ keeps_arbitration_delay seen.now row.now }
 {
     !raises_sel(seen)
         || (is_contender(seen) && row.time.saturating_sub(seen.bsy_raised) >= ARBITRATION_DELAY)

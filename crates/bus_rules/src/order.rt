@@ -1,7 +1,7 @@
 //! Rules 1 and 2: what holds of any row.
 ghost use Rattle.std.specs.Prelude.{◌≡◌, ◌<◌, Some};
 ghost use Rattle.bus_lines.specs.Calls.{HasDevices, IsCalled};
-ghost use Rattle.bus_rules.specs.Order.{is_in_order, is_device, strikes_byte, strikes_ids, strikes_ids_of, is_news};
+ghost use Rattle.bus_rules.specs.Order.{is_in_order, is_of_device, strikes_byte, strikes_ids, strikes_ids_of, is_news};
 
 use crate::seen::Seen;
 use bus_base::{Dev, Ns};
@@ -14,8 +14,8 @@ pub fn is_in_order(seen: &Seen, time: Ns) -> bool
     seen.last <= time
 }
 
-fn is_device(device: Option<Dev>, dev: Dev) -> bool
-    ensures { result ≡ is_device device dev }
+fn is_of_device(device: Option<Dev>, dev: Dev) -> bool
+    ensures { result ≡ is_of_device device dev }
 {
     match device {
         None => false,
@@ -26,7 +26,7 @@ fn is_device(device: Option<Dev>, dev: Dev) -> bool
 fn strikes_byte(seen: &Seen, row: &Row) -> bool
     ensures { result ≡ strikes_byte seen.now row.now }
 {
-    is_device(seen.receiver, row.dev) && seen.last == row.time
+    is_of_device(seen.receiver, row.dev) && seen.last == row.time
 }
 
 fn strikes_ids_of(seen: &Seen, row: &Row, calling: Calling) -> bool

@@ -1,6 +1,6 @@
 //! The rises of REQ and ACK in a phase (ANSI X3.131-1994, 6.1.5.2).
 ghost use Rattle.std.specs.Prelude.{◌≡◌};
-ghost use Rattle.bus_rules.specs.Phases.{counted, no_pulses, pulses_on, pulses_after, turned_after};
+ghost use Rattle.bus_rules.specs.Phases.{count_after, no_pulses, pulses_on, pulses_after, turned_after};
 
 use bus_base::Ns;
 use bus_lines::{Change, Connection, changes_phase, rises, when};
@@ -32,8 +32,8 @@ pub fn no_pulses() -> Pulses
 }
 
 // A count with one more, where it happens now.
-fn counted(now: bool, count: u64) -> u64
-    ensures { result ≡ counted now count }
+fn count_after(now: bool, count: u64) -> u64
+    ensures { result ≡ count_after now count }
 {
     if now { count.saturating_add(1) } else { count }
 }
@@ -60,8 +60,8 @@ fn pulses_on(old: Pulses, change: &Change, time: Ns) -> Pulses
     let req = rises(change.before.req(), change.after.req());
     let ack = rises(change.before.ack(), change.after.ack());
     Pulses {
-        req: counted(req, old.req),
-        ack: counted(ack, old.ack),
+        req: count_after(req, old.req),
+        ack: count_after(ack, old.ack),
         last_req: when(req, time, old.last_req),
         last_ack: when(ack, time, old.last_ack),
     }

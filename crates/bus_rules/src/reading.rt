@@ -1,6 +1,6 @@
 //! What a byte makes of the bytes of a message, as they cross (ANSI X3.131-1994, 6.6).
 ghost use Rattle.std.specs.Prelude.{◌≡◌};
-ghost use Rattle.bus_rules.specs.Reading.{reads_out, reads_in, reading_out, reading_in};
+ghost use Rattle.bus_rules.specs.Reading.{reading_of_out, reading_of_in, reading_out, reading_in};
 
 use msg_grammar::{Got, MsgIn, MsgOut};
 
@@ -19,8 +19,8 @@ pub enum Reading {
     Other,
 }
 
-fn reads_out(message: MsgOut) -> Reading
-    ensures { result ≡ reads_out message }
+fn reading_of_out(message: MsgOut) -> Reading
+    ensures { result ≡ reading_of_out message }
 {
     match message {
         MsgOut::Identify { .. } | MsgOut::Abort | MsgOut::DeviceReset => Reading::Opens,
@@ -28,8 +28,8 @@ fn reads_out(message: MsgOut) -> Reading
     }
 }
 
-fn reads_in(message: MsgIn) -> Reading
-    ensures { result ≡ reads_in message }
+fn reading_of_in(message: MsgIn) -> Reading
+    ensures { result ≡ reading_of_in message }
 {
     match message {
         MsgIn::Identify { .. } => Reading::Opens,
@@ -42,7 +42,7 @@ pub fn reading_out(got: Got<MsgOut>) -> Reading
     ensures { result ≡ reading_out got }
 {
     match got {
-        Got::Whole(message, _) => reads_out(message),
+        Got::Whole(message, _) => reading_of_out(message),
         Got::More => Reading::Half,
         Got::Unknown => Reading::Unknown,
     }
@@ -53,7 +53,7 @@ pub fn reading_in(got: Got<MsgIn>) -> Reading
     ensures { result ≡ reading_in got }
 {
     match got {
-        Got::Whole(message, _) => reads_in(message),
+        Got::Whole(message, _) => reading_of_in(message),
         Got::More => Reading::Half,
         Got::Unknown => Reading::Unknown,
     }

@@ -5,9 +5,12 @@ ghost use Rattle.bus_lines.specs.Connections.{HasEnds};
 ghost use Rattle.bus_rules.specs.Rules.{lowest_broken, lowest_at_end, first_broken, test};
 
 use crate::connected::{
-    initiator_released, keeps_freeing, keeps_lines, keeps_turn_delay, keeps_turns, target_released,
+    initiator_released, keeps_data_direction, keeps_direction_delay, keeps_freeing, keeps_lines,
+    target_released,
 };
-use crate::free_bus::{is_cleared, keeps_arbitration, keeps_free_bus, keeps_turn, wins_well};
+use crate::free_bus::{
+    is_cleared, keeps_arbitration, keeps_arbitration_delay, keeps_free_bus, wins_well,
+};
 use crate::message_rules::{keeps_attention, keeps_command, keeps_messages};
 use crate::order::{is_in_order, is_news};
 use crate::reset::{is_quiet_in_reset, is_reset, keeps_reset};
@@ -56,7 +59,7 @@ fn lowest_outside_reset(seen: &Seen, row: &Row) -> Option<RuleNo>
         Some(3)
     } else if !keeps_arbitration(seen, row) {
         Some(4)
-    } else if !keeps_turn(seen, row) {
+    } else if !keeps_arbitration_delay(seen, row) {
         Some(5)
     } else if !wins_well(seen, row) {
         Some(6)
@@ -87,9 +90,9 @@ fn lowest_connected(seen: &Seen, row: &Row) -> Option<RuleNo>
 {
     if !keeps_lines(seen, row) {
         Some(14)
-    } else if !keeps_turns(seen, row) {
+    } else if !keeps_data_direction(seen, row) {
         Some(15)
-    } else if !keeps_turn_delay(seen, row) {
+    } else if !keeps_direction_delay(seen, row) {
         Some(16)
     } else if !has_parity(seen) {
         Some(17)

@@ -1,8 +1,8 @@
 //! What the messages of a connection say (ANSI X3.131-1994, 6.6).
 ghost use Rattle.std.specs.Prelude.{◌≡◌, Some, None};
-ghost use Rattle.bus_rules.specs.Dialogue.{no_command, silent, without_offset, asynchronous, is_of_other, offers, rejects, says, or_now, hears_out, begins_in, hears_in, command_on, takes_byte, takes_void, takes_command};
+ghost use Rattle.bus_rules.specs.Dialogue.{no_command, nothing_spoken, without_offset, asynchronous, is_of_other, spoken_with_offer, spoken_with_reject, spoken_with_word, void_or_now, heard_with_out, heard_before_in, heard_with_in, command_on, spoken_with_byte, void_with_byte, heard_with_command};
 
-use crate::words::{End, Word, is_end};
+use crate::words::{End, Word, is_same_end};
 use bus_lines::Agreement;
 
 /// The bytes of COMMAND that have crossed since the command pointer was restored. The count stays at the last
@@ -48,8 +48,8 @@ pub fn asynchronous() -> Agreement
 }
 
 /// No message yet, under this agreement.
-pub fn silent(agreement: Agreement) -> Spoken
-    ensures { result ≡ silent agreement }
+pub fn nothing_spoken(agreement: Agreement) -> Spoken
+    ensures { result ≡ nothing_spoken agreement }
 {
     Spoken {
         agreement,
@@ -74,12 +74,12 @@ fn is_of_other(offer: Option<End>, end: End) -> bool
 {
     match offer {
         None => false,
-        Some(e) => !is_end(e, end),
+        Some(e) => !is_same_end(e, end),
     }
 }
 
-fn offers(old: Spoken, end: End, agreement: Agreement) -> Spoken
-    ensures { result ≡ offers old end agreement }
+fn spoken_with_offer(old: Spoken, end: End, agreement: Agreement) -> Spoken
+    ensures { result ≡ spoken_with_offer old end agreement }
 {
     if is_of_other(old.offer, end) {
         Spoken {
@@ -97,8 +97,8 @@ fn offers(old: Spoken, end: End, agreement: Agreement) -> Spoken
     }
 }
 
-fn rejects(old: Spoken, end: End) -> Spoken
-    ensures { result ≡ rejects old end }
+fn spoken_with_reject(old: Spoken, end: End) -> Spoken
+    ensures { result ≡ spoken_with_reject old end }
 {
     if is_of_other(old.offer, end) {
         Spoken {
@@ -121,12 +121,12 @@ fn rejects(old: Spoken, end: End) -> Spoken
     }
 }
 
-fn says(old: Spoken, end: End, word: Word) -> Spoken
-    ensures { result ≡ says old end word }
+fn spoken_with_word(old: Spoken, end: End, word: Word) -> Spoken
+    ensures { result ≡ spoken_with_word old end word }
 {
     match word {
-        Word::Offer(agreement) => offers(old, end, agreement),
-        Word::Reject => rejects(old, end),
+        Word::Offer(agreement) => spoken_with_offer(old, end, agreement),
+        Word::Reject => spoken_with_reject(old, end),
         Word::Restore => Spoken {
             command: CommandBytes { first: 0, count: 0 },
             answered: None,
@@ -145,8 +145,8 @@ fn says(old: Spoken, end: End, word: Word) -> Spoken
     }
 }
 
-fn or_now(void: Option<Spoken>, now: Spoken) -> Spoken
-    ensures { result ≡ or_now void now }
+fn void_or_now(void: Option<Spoken>, now: Spoken) -> Spoken
+    ensures { result ≡ void_or_now void now }
 {
     match void {
         None => now,
@@ -155,22 +155,22 @@ fn or_now(void: Option<Spoken>, now: Spoken) -> Spoken
 }
 
 /// What is heard after a message to the target.
-pub fn hears_out(old: Heard, word: Word) -> Heard
-    ensures { result ≡ hears_out old word }
+pub fn heard_with_out(old: Heard, word: Word) -> Heard
+    ensures { result ≡ heard_with_out old word }
 {
     let now = match word {
-        Word::ParityError => or_now(old.void, old.now),
+        Word::ParityError => void_or_now(old.void, old.now),
         _ => old.now,
     };
     Heard {
-        now: says(now, End::Initiator, word),
+        now: spoken_with_word(now, End::Initiator, word),
         void: None,
     }
 }
 
 /// What is heard once a message to the initiator has begun.
-pub fn begins_in(old: Heard) -> Heard
-    ensures { result ≡ begins_in old }
+pub fn heard_before_in(old: Heard) -> Heard
+    ensures { result ≡ heard_before_in old }
 {
     Heard {
         now: old.now,
@@ -179,11 +179,11 @@ pub fn begins_in(old: Heard) -> Heard
 }
 
 /// What is heard after a message to the initiator.
-pub fn hears_in(old: Heard, word: Word) -> Heard
-    ensures { result ≡ hears_in old word }
+pub fn heard_with_in(old: Heard, word: Word) -> Heard
+    ensures { result ≡ heard_with_in old word }
 {
     Heard {
-        now: says(old.now, End::Target, word),
+        now: spoken_with_word(old.now, End::Target, word),
         void: old.void,
     }
 }
@@ -197,8 +197,8 @@ fn command_on(old: CommandBytes, byte: u8) -> CommandBytes
     }
 }
 
-fn takes_byte(old: Spoken, byte: u8) -> Spoken
-    ensures { result ≡ takes_byte old byte }
+fn spoken_with_byte(old: Spoken, byte: u8) -> Spoken
+    ensures { result ≡ spoken_with_byte old byte }
 {
     Spoken {
         command: command_on(old.command, byte),
@@ -206,21 +206,21 @@ fn takes_byte(old: Spoken, byte: u8) -> Spoken
     }
 }
 
-fn takes_void(old: Option<Spoken>, byte: u8) -> Option<Spoken>
-    ensures { result ≡ takes_void old byte }
+fn void_with_byte(old: Option<Spoken>, byte: u8) -> Option<Spoken>
+    ensures { result ≡ void_with_byte old byte }
 {
     match old {
         None => None,
-        Some(spoken) => Some(takes_byte(spoken, byte)),
+        Some(spoken) => Some(spoken_with_byte(spoken, byte)),
     }
 }
 
 /// What is heard after a byte of COMMAND.
-pub fn takes_command(old: Heard, byte: u8) -> Heard
-    ensures { result ≡ takes_command old byte }
+pub fn heard_with_command(old: Heard, byte: u8) -> Heard
+    ensures { result ≡ heard_with_command old byte }
 {
     Heard {
-        now: takes_byte(old.now, byte),
-        void: takes_void(old.void, byte),
+        now: spoken_with_byte(old.now, byte),
+        void: void_with_byte(old.void, byte),
     }
 }

@@ -12,7 +12,7 @@ ghost use Rattle.bus_rules.specs.Rules.{broken_rule};
 ghost use Rattle.bus_rules.specs.DataRows.{standing_after, passes};
 ghost use Rattle.bus_rules.specs.Seen.{seen, seen_with, other_drives, others_drive, others_in_call, id_since, id_since_calling, initiator_called, initiator_of, drives_bsy, initiator_data, target_data};
 
-use crate::attention::is_held;
+use crate::attention::is_attention_held;
 use crate::course::Course;
 use crate::data_rows::passes;
 use crate::reading::Reading;
@@ -157,7 +157,7 @@ impl Terms {
         requires { row.now.dev < 8 }
         ensures kept { (rows : List Row) → IsTermsOf rows self.old → change.now ≡ change_of rows row.now → passes (standing_after rows) change.now row.now ≡ true → IsTermsOf (row.now ∷ rows) self.new }
     {
-        let held = is_held(change, self.view.since_atn(), row.time);
+        let held = is_attention_held(change, self.view.since_atn(), row.time);
         self.course.transfer(held, change, row.time);
         self.view.step_to(row, change.after);
     }
@@ -219,7 +219,7 @@ impl Terms {
             own,
             next,
         };
-        let held = is_held(&change, seen.atn_since, row.time);
+        let held = is_attention_held(&change, seen.atn_since, row.time);
         seen.reading = self.course.step(seen.free_since, held, &change, row);
         seen.change = change;
         seen

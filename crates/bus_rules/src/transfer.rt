@@ -1,13 +1,13 @@
 //! Rules 17 to 23: REQ and ACK, asynchronous and synchronous (ANSI X3.131-1994, 6.1.5.1 and 6.1.5.2).
 ghost use Rattle.std.specs.Prelude.{◌≡◌, ◌<◌};
-ghost use Rattle.bus_rules.specs.Transfer.{crosses, has_parity, is_pulsed, is_asynchronous, data_stand_since, changes_data, alternates, keeps_handshake, keeps_set_up, holds_still, keeps_data, keeps_offset, times_of, is_after, pulses_well, last_crossing, pulses_of, keeps_pulses, leaves_well};
+ghost use Rattle.bus_rules.specs.Transfer.{crosses, has_parity, is_pulsed, is_asynchronous_transfer, data_stand_since, changes_data, alternates, keeps_handshake, keeps_set_up, holds_still, keeps_data, keeps_offset, times_of, is_after, pulses_well, last_crossing, pulses_of, keeps_pulses, leaves_well};
 ghost use Rattle.bus_rules.specs.Pulsing.{AreTimes};
 
 use crate::seen::Seen;
 use bus_base::Ns;
 use bus_lines::{
     ASSERTION_PERIOD, Change, DATA_HOLD, Lines, NEGATION_PERIOD, Row, SET_UP_TIME, TransferTimes,
-    changes_phase, falls, is_data, receiver_of, rises, transfer_times,
+    UNLIMITED_OFFSET, changes_phase, falls, is_data, receiver_of, rises, transfer_times,
 };
 
 /// Whether a byte crosses in the row.
@@ -31,8 +31,8 @@ fn is_pulsed(seen: &Seen) -> bool
     seen.connection.is_some() && (is_data(seen.change.before) && seen.agreement.offset != 0)
 }
 
-fn is_asynchronous(seen: &Seen) -> bool
-    ensures { result ≡ is_asynchronous seen.now }
+fn is_asynchronous_transfer(seen: &Seen) -> bool
+    ensures { result ≡ is_asynchronous_transfer seen.now }
 {
     seen.connection.is_some() && !(is_data(seen.change.before) && seen.agreement.offset != 0)
 }
@@ -69,14 +69,14 @@ pub fn alternates(change: &Change) -> bool
 pub fn keeps_handshake(seen: &Seen) -> bool
     ensures { result ≡ keeps_handshake seen.now }
 {
-    !is_asynchronous(seen) || alternates(&seen.change)
+    !is_asynchronous_transfer(seen) || alternates(&seen.change)
 }
 
 /// Rule 19: in an asynchronous phase the data lines are set up before a byte crosses.
 pub fn keeps_set_up(seen: &Seen, row: &Row) -> bool
     ensures { result ≡ keeps_set_up seen.now row.now }
 {
-    !(is_asynchronous(seen) && crosses(seen))
+    !(is_asynchronous_transfer(seen) && crosses(seen))
         || row.time.saturating_sub(data_stand_since(seen, row.time)) >= SET_UP_TIME
 }
 
@@ -95,7 +95,8 @@ pub fn holds_still(lines: Lines) -> bool
 pub fn keeps_data(seen: &Seen) -> bool
     ensures { result ≡ keeps_data seen.now }
 {
-    !(is_asynchronous(seen) && holds_still(seen.change.before)) || !changes_data(&seen.change)
+    !(is_asynchronous_transfer(seen) && holds_still(seen.change.before))
+        || !changes_data(&seen.change)
 }
 
 /// Rule 21: in a pulsed phase REQ is never behind ACK, and ahead by the offset at most.
@@ -108,7 +109,7 @@ pub fn keeps_offset(seen: &Seen) -> bool
     let (before, after) = (seen.change.before, seen.change.after);
     let (req, ack) = (seen.pulses.req, seen.pulses.ack);
     let offset = seen.agreement.offset;
-    let may_ask = offset == 255 || req.saturating_sub(ack) < u64::from(offset);
+    let may_ask = offset == UNLIMITED_OFFSET || req.saturating_sub(ack) < u64::from(offset);
     (!rises(before.req(), after.req()) || may_ask)
         && (!rises(before.ack(), after.ack()) || ack < req)
 }

@@ -1,6 +1,6 @@
 //! What a message says, as far as the rules ask (ANSI X3.131-1994, 6.6).
 ghost use Rattle.std.specs.Prelude.{◌≡◌};
-ghost use Rattle.bus_rules.specs.Dialogue.{word_out, word_in, is_end};
+ghost use Rattle.bus_rules.specs.Dialogue.{word_out, word_in, is_same_end};
 
 use bus_lines::Agreement;
 use msg_grammar::{MsgIn, MsgOut};
@@ -30,8 +30,8 @@ pub enum Word {
 }
 
 /// Whether the two are the same end.
-pub fn is_end(a: End, b: End) -> bool
-    ensures { result ≡ is_end a b }
+pub fn is_same_end(a: End, b: End) -> bool
+    ensures { result ≡ is_same_end a b }
 {
     match (a, b) {
         (End::Initiator, End::Initiator) | (End::Target, End::Target) => true,

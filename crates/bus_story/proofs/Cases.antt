@@ -5,10 +5,10 @@ use Rattle.bus_lines.specs.View.{union_below}
 use Rattle.bus_lines.specs.declared.Row.{Row}
 use Rattle.bus_lines.specs.declared.Kind.TheVariants.{Drives, Fault}
 use Rattle.msg_grammar.specs.Messages.{form_out, form_in}
-use Rattle.bus_story.specs.Told.{story}
+use Rattle.bus_story.specs.TraceHistory.{story}
 use Rattle.bus_story.specs.Outcomes.{outcomes, ended_good, ended_check, ended_full, ended_lost, ended_reset, ended_aborted}
 use Rattle.bus_story.specs.Right.{all_carried}
-use Rattle.bus_story.specs.Samples.{placed, struck}
+use Rattle.bus_story.specs.Samples.{expected_strikes, row_strikes}
 use Rattle.std.proofs.Common.{ℕ, ◌≡◌, true, false, List, [], ◌∷◌, reverse, refl}
 use Rattle.std.specs.Prelude.{Some, None}
 use lib.Count.{ones}
@@ -24,7 +24,7 @@ use Rattle.scenario.specs.declared.value.Tag.TheVariants as tags
 use Rattle.scenario.specs.declared.value.Payload.TheVariants as payloads
 use Rattle.scenario.specs.Value.{ScenarioValue}
 use Rattle.scenario.specs.Needs.{need_of, sent_of}
-use Rattle.disk_array.specs.Contents.{blank}
+use Rattle.disk_array.specs.Contents.{starting_blocks}
 
 abbrev drive : ℕ → ℕ → ℕ → Row
 drive time dev lines = record { time = time; dev = dev; kind = Drives (set_of lines) }
@@ -40,7 +40,7 @@ sense n = record { command = n; sense = true }
 
 abbrev blanks : List UnitDef → List FillDef → List (List (List ℕ))
 blanks [] fills = []
-blanks (u ∷ units) fills = blank u fills ∷ blanks units fills
+blanks (u ∷ units) fills = starting_blocks u fills ∷ blanks units fills
 
 -- ---- aborts_and_resets_run
 
@@ -141,7 +141,7 @@ called_again_for_sense_run_carried : all_carried called_again_for_sense_run (sto
 unfolding need_of sent_of ones union_below line_of form_out form_in
 called_again_for_sense_run_carried = refl
 
-called_again_for_sense_run_struck : placed called_again_for_sense_run (reverse called_again_for_sense_run_rows) ≡ struck called_again_for_sense_run_rows
+called_again_for_sense_run_struck : expected_strikes called_again_for_sense_run (reverse called_again_for_sense_run_rows) ≡ row_strikes called_again_for_sense_run_rows
 unfolding need_of sent_of ones union_below line_of form_out form_in
 called_again_for_sense_run_struck = refl
 
@@ -244,7 +244,7 @@ failures_run_carried : all_carried failures_run (story failures_run (reverse fai
 unfolding need_of sent_of ones union_below line_of form_out form_in
 failures_run_carried = refl
 
-failures_run_struck : placed failures_run (reverse failures_run_rows) ≡ struck failures_run_rows
+failures_run_struck : expected_strikes failures_run (reverse failures_run_rows) ≡ row_strikes failures_run_rows
 unfolding need_of sent_of ones union_below line_of form_out form_in
 failures_run_struck = refl
 
@@ -413,7 +413,7 @@ negotiation_run_carried : all_carried negotiation_run (story negotiation_run (re
 unfolding need_of sent_of ones union_below line_of form_out form_in
 negotiation_run_carried = refl
 
-negotiation_run_struck : placed negotiation_run (reverse negotiation_run_rows) ≡ struck negotiation_run_rows
+negotiation_run_struck : expected_strikes negotiation_run (reverse negotiation_run_rows) ≡ row_strikes negotiation_run_rows
 unfolding need_of sent_of ones union_below line_of form_out form_in
 negotiation_run_struck = refl
 
@@ -615,7 +615,7 @@ resets_with_queues_run_carried : all_carried resets_with_queues_run (story reset
 unfolding need_of sent_of ones union_below line_of form_out form_in
 resets_with_queues_run_carried = refl
 
-resets_with_queues_run_struck : placed resets_with_queues_run (reverse resets_with_queues_run_rows) ≡ struck resets_with_queues_run_rows
+resets_with_queues_run_struck : expected_strikes resets_with_queues_run (reverse resets_with_queues_run_rows) ≡ row_strikes resets_with_queues_run_rows
 unfolding need_of sent_of ones union_below line_of form_out form_in
 resets_with_queues_run_struck = refl
 
@@ -718,7 +718,7 @@ struck_command_run_carried : all_carried struck_command_run (story struck_comman
 unfolding need_of sent_of ones union_below line_of form_out form_in
 struck_command_run_carried = refl
 
-struck_command_run_struck : placed struck_command_run (reverse struck_command_run_rows) ≡ struck struck_command_run_rows
+struck_command_run_struck : expected_strikes struck_command_run (reverse struck_command_run_rows) ≡ row_strikes struck_command_run_rows
 unfolding need_of sent_of ones union_below line_of form_out form_in
 struck_command_run_struck = refl
 
@@ -755,7 +755,7 @@ struck_complete_run_carried : all_carried struck_complete_run (story struck_comp
 unfolding need_of sent_of ones union_below line_of form_out form_in
 struck_complete_run_carried = refl
 
-struck_complete_run_struck : placed struck_complete_run (reverse struck_complete_run_rows) ≡ struck struck_complete_run_rows
+struck_complete_run_struck : expected_strikes struck_complete_run (reverse struck_complete_run_rows) ≡ row_strikes struck_complete_run_rows
 unfolding need_of sent_of ones union_below line_of form_out form_in
 struck_complete_run_struck = refl
 
@@ -792,7 +792,7 @@ struck_data_run_carried : all_carried struck_data_run (story struck_data_run (re
 unfolding need_of sent_of ones union_below line_of form_out form_in
 struck_data_run_carried = refl
 
-struck_data_run_struck : placed struck_data_run (reverse struck_data_run_rows) ≡ struck struck_data_run_rows
+struck_data_run_struck : expected_strikes struck_data_run (reverse struck_data_run_rows) ≡ row_strikes struck_data_run_rows
 unfolding need_of sent_of ones union_below line_of form_out form_in
 struck_data_run_struck = refl
 
@@ -829,7 +829,7 @@ struck_disconnect_run_carried : all_carried struck_disconnect_run (story struck_
 unfolding need_of sent_of ones union_below line_of form_out form_in
 struck_disconnect_run_carried = refl
 
-struck_disconnect_run_struck : placed struck_disconnect_run (reverse struck_disconnect_run_rows) ≡ struck struck_disconnect_run_rows
+struck_disconnect_run_struck : expected_strikes struck_disconnect_run (reverse struck_disconnect_run_rows) ≡ row_strikes struck_disconnect_run_rows
 unfolding need_of sent_of ones union_below line_of form_out form_in
 struck_disconnect_run_struck = refl
 
@@ -866,7 +866,7 @@ struck_save_run_carried : all_carried struck_save_run (story struck_save_run (re
 unfolding need_of sent_of ones union_below line_of form_out form_in
 struck_save_run_carried = refl
 
-struck_save_run_struck : placed struck_save_run (reverse struck_save_run_rows) ≡ struck struck_save_run_rows
+struck_save_run_struck : expected_strikes struck_save_run (reverse struck_save_run_rows) ≡ row_strikes struck_save_run_rows
 unfolding need_of sent_of ones union_below line_of form_out form_in
 struck_save_run_struck = refl
 
@@ -903,7 +903,7 @@ two_aborts_run_carried : all_carried two_aborts_run (story two_aborts_run (rever
 unfolding need_of sent_of ones union_below line_of form_out form_in
 two_aborts_run_carried = refl
 
-two_aborts_run_struck : placed two_aborts_run (reverse two_aborts_run_rows) ≡ struck two_aborts_run_rows
+two_aborts_run_struck : expected_strikes two_aborts_run (reverse two_aborts_run_rows) ≡ row_strikes two_aborts_run_rows
 unfolding need_of sent_of ones union_below line_of form_out form_in
 two_aborts_run_struck = refl
 
@@ -940,7 +940,7 @@ unanswered_by_struck_ids_run_carried : all_carried unanswered_by_struck_ids_run 
 unfolding need_of sent_of ones union_below line_of form_out form_in
 unanswered_by_struck_ids_run_carried = refl
 
-unanswered_by_struck_ids_run_struck : placed unanswered_by_struck_ids_run (reverse unanswered_by_struck_ids_run_rows) ≡ struck unanswered_by_struck_ids_run_rows
+unanswered_by_struck_ids_run_struck : expected_strikes unanswered_by_struck_ids_run (reverse unanswered_by_struck_ids_run_rows) ≡ row_strikes unanswered_by_struck_ids_run_rows
 unfolding need_of sent_of ones union_below line_of form_out form_in
 unanswered_by_struck_ids_run_struck = refl
 

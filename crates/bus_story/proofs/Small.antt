@@ -14,7 +14,7 @@ use Rattle.scenario.specs.Needs.{need_of}
 use Rattle.bus_lines.specs.LineSet.{line_of}
 use Rattle.bus_lines.specs.View.{union_below}
 use Rattle.msg_grammar.specs.Messages.{form_out, form_in}
-use Rattle.bus_story.specs.Given.{given}
+use Rattle.bus_story.specs.CurrentAgreement.{current_agreement}
 use Rattle.bus_story.proofs.Cases.{negotiation_run_rows}
 use Rattle.bus_story.specs.Budget.{budget}
 use Rattle.bus_story.specs.Outcomes.{is_valid, is_roomy}
@@ -73,10 +73,10 @@ room_for_one : is_roomy (with_policy policies.Never [] [] 1) ≡ false
 room_for_one = refl
 
 -- A struck answer is sent again; factor 50 and offset 8 are agreed on.
-agreed_on : given (reverse negotiation_run_rows) 7 0 ≡ record { period = 50; offset = 8 }
+agreed_on : current_agreement (reverse negotiation_run_rows) 7 0 ≡ record { period = 50; offset = 8 }
 unfolding ones union_below line_of form_out form_in
 agreed_on = refl
 
-none_with_another : given (reverse negotiation_run_rows) 6 0 ≡ record { period = 0; offset = 0 }
+none_with_another : current_agreement (reverse negotiation_run_rows) 6 0 ≡ record { period = 0; offset = 0 }
 unfolding ones union_below line_of form_out form_in
 none_with_another = refl

@@ -10,7 +10,7 @@ use Rattle.scenario.specs.declared.value.Policy.{Policy}
 use Rattle.scenario.specs.declared.value.Policy.TheVariants as policies
 use Rattle.scenario.specs.Value.{ScenarioValue}
 use Rattle.scenario.specs.Needs.{need_of}
-use Rattle.disk_array.specs.Exec.{range_of}
+use Rattle.disk_array.specs.Execution.{range_of}
 
 -- ---- data runs: how often a command may come back to move data, by the policy of its target
 
@@ -44,16 +44,16 @@ abbrev pub bytes_of_all : ScenarioValue → List CmdDef → ℕ
 bytes_of_all s [] = 0
 bytes_of_all s (c ∷ commands) = (2 * need_of s c + 128) + bytes_of_all s commands
 
-abbrev pub longest : ScenarioValue → List CmdDef → ℕ
-longest s [] = 0
-longest s (c ∷ commands) = max (need_of s c) (longest s commands)
+abbrev pub longest_need : ScenarioValue → List CmdDef → ℕ
+longest_need s [] = 0
+longest_need s (c ∷ commands) = max (need_of s c) (longest_need s commands)
 
 abbrev pub runs_of_all : ScenarioValue → List CmdDef → ℕ
 runs_of_all s [] = 0
 runs_of_all s (c ∷ commands) = (data_runs s c + 8) + runs_of_all s commands
 
 abbrev pub bytes_bound : ScenarioValue → ℕ
-bytes_bound s = bytes_of_all s s.commands + length s.faults * (longest s s.commands + 64)
+bytes_bound s = bytes_of_all s s.commands + length s.faults * (longest_need s s.commands + 64)
 
 abbrev pub runs_bound : ScenarioValue → ℕ
 runs_bound s = runs_of_all s s.commands + 2 * (length s.faults + length s.aborts + length s.resets)

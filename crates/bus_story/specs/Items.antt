@@ -36,11 +36,11 @@ pub record Sent : Type 0 where
   pub checks : List ℕ
   pub tries : List Item
 
-abbrev pub command : ℕ → Item
-command n = process (record { command = n; sense = false })
+abbrev pub command_item : ℕ → Item
+command_item n = process (record { command = n; sense = false })
 
-abbrev pub sense : ℕ → Item
-sense n = process (record { command = n; sense = true })
+abbrev pub sense_item : ℕ → Item
+sense_item n = process (record { command = n; sense = true })
 
 abbrev pub is_done : Sent → Item → Bool
 is_done b item = has_item b.sent item || has_item b.over item
@@ -54,19 +54,19 @@ abort_from b dev time k (a ∷ aborts) =
 
 -- ---- then the automatic REQUEST SENSE of the command that ended first with CHECK CONDITION
 
-abbrev pub is_of : Option CmdDef → ℕ → Bool
-is_of None dev = false
-is_of (Some c) dev = c.host == dev
+abbrev pub is_of_host : Option CmdDef → ℕ → Bool
+is_of_host None dev = false
+is_of_host (Some c) dev = c.host == dev
 
 abbrev pub sense_from : ScenarioValue → Sent → ℕ → List ℕ → Option Item
 sense_from s b dev [] = None
 sense_from s b dev (n ∷ checks) =
-    if is_of (command_at s.commands n) dev && not (is_done b (sense n)) then Some (sense n) else sense_from s b dev checks
+    if is_of_host (command_at s.commands n) dev && not (is_done b (sense_item n)) then Some (sense_item n) else sense_from s b dev checks
 
 -- ---- then its first command that is neither sent nor ended, where it may send it now
 
 abbrev pub is_open : Sent → ℕ → Bool
-is_open b n = has_item b.sent (command n) && not (has_item b.over (command n))
+is_open b n = has_item b.sent (command_item n) && not (has_item b.over (command_item n))
 
 -- The open commands of this initiator, counted from n.
 abbrev pub open_from : Sent → ℕ → ℕ → List CmdDef → List CmdDef
@@ -74,34 +74,34 @@ open_from b dev n [] = []
 open_from b dev n (c ∷ commands) =
     if c.host == dev && is_open b n then c ∷ open_from b dev (n + 1) commands else open_from b dev (n + 1) commands
 
-abbrev pub number_of : Tag → Option ℕ
-number_of tags.Untagged = None
-number_of (tags.Simple n) = Some n
-number_of (tags.Ordered n) = Some n
-number_of (tags.Head n) = Some n
+abbrev pub tag_number_if : Tag → Option ℕ
+tag_number_if tags.Untagged = None
+tag_number_if (tags.Simple n) = Some n
+tag_number_if (tags.Ordered n) = Some n
+tag_number_if (tags.Head n) = Some n
 
-abbrev pub clash : Option ℕ → Option ℕ → Bool
-clash None b = true
-clash (Some a) None = true
-clash (Some a) (Some b) = a == b
+abbrev pub is_tag_clash : Option ℕ → Option ℕ → Bool
+is_tag_clash None b = true
+is_tag_clash (Some a) None = true
+is_tag_clash (Some a) (Some b) = a == b
 
 -- At one unit: an untagged command beside any, or two with one tag.
-abbrev pub clashes : CmdDef → CmdDef → Bool
-clashes c d = (c.target == d.target && c.unit == d.unit) && clash (number_of c.tag) (number_of d.tag)
+abbrev pub is_clash : CmdDef → CmdDef → Bool
+is_clash c d = (c.target == d.target && c.unit == d.unit) && is_tag_clash (tag_number_if c.tag) (tag_number_if d.tag)
 
-abbrev pub most_of : List HostDef → ℕ → ℕ
-most_of [] dev = 0
-most_of (h ∷ hosts) dev = if h.dev == dev then h.most else most_of hosts dev
+abbrev pub open_limit_of : List HostDef → ℕ → ℕ
+open_limit_of [] dev = 0
+open_limit_of (h ∷ hosts) dev = if h.dev == dev then h.most else open_limit_of hosts dev
 
 abbrev pub may_send : ScenarioValue → ℕ → List CmdDef → CmdDef → Bool
 may_send s time now c =
-    nat_le c.at time && nat_lt (length now) (most_of s.hosts c.host) && not (list_any (λ (d : CmdDef). clashes c d) now)
+    nat_le c.at time && nat_lt (length now) (open_limit_of s.hosts c.host) && not (list_any (λ (d : CmdDef). is_clash c d) now)
 
 abbrev pub command_from : ScenarioValue → Sent → ℕ → ℕ → ℕ → List CmdDef → Option Item
 command_from s b dev time n [] = None
 command_from s b dev time n (c ∷ commands) =
-    if c.host == dev && not (is_done b (command n))
-    then if may_send s time (open_from b dev 1 s.commands) c then Some (command n) else None
+    if c.host == dev && not (is_done b (command_item n))
+    then if may_send s time (open_from b dev 1 s.commands) c then Some (command_item n) else None
     else command_from s b dev time (n + 1) commands
 
 abbrev pub or_else : Option Item → Option Item → Option Item

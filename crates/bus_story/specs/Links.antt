@@ -6,15 +6,15 @@ use Rattle.msg_grammar.specs.declared.message.MsgOut.TheVariants as to_target
 use Rattle.msg_grammar.specs.declared.message.MsgIn.{MsgIn}
 use Rattle.msg_grammar.specs.declared.message.MsgIn.TheVariants as to_initiator
 use Rattle.bus_lines.specs.declared.connection.Connection.{Connection}
-use Rattle.bus_story.specs.Items.{Item, Sent, has_item, command, sense, is_open, number_of}
-use Rattle.bus_story.specs.Carried.{Carried}
+use Rattle.bus_story.specs.Items.{Item, Sent, has_item, command_item, sense_item, is_open, tag_number_if}
+use Rattle.bus_story.specs.CarriedBytes.{CarriedBytes}
 
 -- The last message, as far as it tells how the connection ends.
-pub data Last : Type 0 where
-  plain : Last
-  complete : Last
-  disconnect : Last
-  abortive : Last
+pub data LastMessage : Type 0 where
+  plain : LastMessage
+  complete : LastMessage
+  disconnect : LastMessage
+  abortive : LastMessage
 
 pub record Link : Type 0 where
   pub initiator : ℕ
@@ -22,15 +22,15 @@ pub record Link : Type 0 where
   pub item : Option Item
   -- the unit that the target has named
   pub unit : ℕ
-  pub last : Last
+  pub last : LastMessage
   -- what held before the last MESSAGE IN message
-  pub before : Last
-  pub undo : Option Carried
+  pub before : LastMessage
+  pub undo : Option CarriedBytes
 
 abbrev pub link_of : Connection → Option Item → Link
 link_of n item = record { initiator = n.initiator; target = n.target; item = item; unit = 0; last = plain; before = plain; undo = None }
 
-abbrev pub last_out : MsgOut → Link → Last
+abbrev pub last_out : MsgOut → Link → LastMessage
 last_out to_target.Abort l = abortive
 last_out to_target.AbortTag l = abortive
 last_out to_target.ClearQueue l = abortive
@@ -38,7 +38,7 @@ last_out to_target.DeviceReset l = abortive
 last_out to_target.ParityError l = l.before
 last_out _ l = plain
 
-abbrev pub last_in : MsgIn → Last
+abbrev pub last_in : MsgIn → LastMessage
 last_in to_initiator.CommandComplete = complete
 last_in to_initiator.Disconnect = disconnect
 last_in _ = plain
@@ -51,25 +51,25 @@ same_number (Some a) (Some b) = a == b
 same_number None (Some b) = false
 same_number (Some a) None = false
 
-abbrev pub is_there : CmdDef → ℕ → ℕ → ℕ → Bool
-is_there c initiator target unit = c.host == initiator && c.target == target && c.unit == unit
+abbrev pub is_of_nexus : CmdDef → ℕ → ℕ → ℕ → Bool
+is_of_nexus c initiator target unit = c.host == initiator && c.target == target && c.unit == unit
 
-abbrev pub is_sensing : Sent → ℕ → Bool
-is_sensing b n = has_item b.sent (sense n) && not (has_item b.over (sense n))
+abbrev pub is_open_sense : Sent → ℕ → Bool
+is_open_sense b n = has_item b.sent (sense_item n) && not (has_item b.over (sense_item n))
 
 -- The open process of this pair with this unit and tag; an automatic REQUEST SENSE is untagged.
-abbrev pub named_from : Sent → ℕ → ℕ → ℕ → Option ℕ → ℕ → List CmdDef → Option Item
-named_from b initiator target unit tag n [] = None
-named_from b initiator target unit tag n (c ∷ commands) =
-    if is_there c initiator target unit && is_open b n && same_number (number_of c.tag) tag then Some (command n)
-    else if is_there c initiator target unit && is_sensing b n && same_number None tag then Some (sense n)
-    else named_from b initiator target unit tag (n + 1) commands
+abbrev pub named_item_from : Sent → ℕ → ℕ → ℕ → Option ℕ → ℕ → List CmdDef → Option Item
+named_item_from b initiator target unit tag n [] = None
+named_item_from b initiator target unit tag n (c ∷ commands) =
+    if is_of_nexus c initiator target unit && is_open b n && same_number (tag_number_if c.tag) tag then Some (command_item n)
+    else if is_of_nexus c initiator target unit && is_open_sense b n && same_number None tag then Some (sense_item n)
+    else named_item_from b initiator target unit tag (n + 1) commands
 
-abbrev pub named : Sent → List CmdDef → Link → Option ℕ → Option Item
-named b commands l tag = named_from b l.initiator l.target l.unit tag 1 commands
+abbrev pub named_item : Sent → List CmdDef → Link → Option ℕ → Option Item
+named_item b commands l tag = named_item_from b l.initiator l.target l.unit tag 1 commands
 
-abbrev pub hears_name : Sent → List CmdDef → Link → MsgIn → Link
-hears_name b commands l (to_initiator.Identify lun) =
-    record l { unit = lun; item = named b commands (record l { unit = lun }) None }
-hears_name b commands l (to_initiator.SimpleTag n) = record l { item = named b commands l (Some n) }
-hears_name b commands l _ = l
+abbrev pub link_after_name : Sent → List CmdDef → Link → MsgIn → Link
+link_after_name b commands l (to_initiator.Identify lun) =
+    record l { unit = lun; item = named_item b commands (record l { unit = lun }) None }
+link_after_name b commands l (to_initiator.SimpleTag n) = record l { item = named_item b commands l (Some n) }
+link_after_name b commands l _ = l

@@ -5,6 +5,8 @@ use Rattle.bus_base.specs.declared.ProcId.{ProcId}
 use Rattle.bus_base.specs.declared.Event.{Event}
 use Rattle.bus_base.specs.declared.Event.TheVariants as events
 use Rattle.cdb_codec.specs.declared.Sense.{Sense}
+use Rattle.cdb_codec.specs.declared.operation.TheConstants.{REQUEST_SENSE, INQUIRY}
+use Rattle.cdb_codec.specs.declared.status.TheConstants.{GOOD, QUEUE_FULL}
 use Rattle.cdb_codec.specs.declared.command.Command.{Command}
 use Rattle.cdb_codec.specs.declared.command.CdbFault.{CdbFault}
 use Rattle.cdb_codec.specs.Cdb.{command_of}
@@ -14,8 +16,8 @@ use Rattle.scenario.specs.declared.value.CmdDef.{CmdDef}
 use Rattle.scenario.specs.Value.{ScenarioValue}
 use Rattle.scenario.specs.Lookups.{has_target, unit_of}
 use Rattle.disk_array.specs.Processes.{same_id}
-use Rattle.disk_array.specs.Exec.{Reply, is_opcode, range_of, is_good_range}
-use Rattle.disk_array.specs.Play.{play, reply_of}
+use Rattle.disk_array.specs.Execution.{Reply, is_opcode, range_of, is_good_range}
+use Rattle.disk_array.specs.ArrayHistory.{array_after, reply_of}
 use Rattle.bus_story.specs.Story.{Ending, by_status, by_loss, by_reset, by_abort, unanswered, Story}
 
 pub data Outcome : Type 0 where
@@ -43,12 +45,12 @@ sense_in [] = None
 sense_in (b ∷ bytes) =
     Some (record { key = slice_index (b ∷ bytes) 2; asc = slice_index (b ∷ bytes) 12; ascq = slice_index (b ∷ bytes) 13 })
 
-abbrev pub bytes_in : Option Reply → List ℕ
-bytes_in None = []
-bytes_in (Some reply) = reply.bytes
+abbrev pub reply_bytes_if : Option Reply → List ℕ
+reply_bytes_if None = []
+reply_bytes_if (Some reply) = reply.bytes
 
 abbrev pub reply_bytes : ScenarioValue → List Event → ProcId → List ℕ
-reply_bytes s history id = bytes_in (reply_of (play s history) id)
+reply_bytes s history id = reply_bytes_if (reply_of (array_after s history) id)
 
 abbrev pub sense_of_end : ScenarioValue → List Event → ProcId → Option Sense
 sense_of_end s history id = if has_end history id then sense_in (reply_bytes s history id) else None
@@ -57,8 +59,8 @@ sense_of_end s history id = if has_end history id then sense_in (reply_bytes s h
 
 abbrev pub outcome_by_status : ScenarioValue → List Event → ℕ → ℕ → Outcome
 outcome_by_status s history n status =
-    if status == 0x00 then ended_good (reply_bytes s history (record { command = n; sense = false }))
-    else if status == 0x28 then ended_full
+    if status == GOOD then ended_good (reply_bytes s history (record { command = n; sense = false }))
+    else if status == QUEUE_FULL then ended_full
     else ended_check (sense_of_end s history (record { command = n; sense = true }))
 
 abbrev pub outcome_by : ScenarioValue → List Event → ℕ → Ending → Outcome
@@ -89,18 +91,18 @@ outcomes s b = outcomes_from s b 1 s.commands
 
 -- ---- valid commands, and scenarios with room
 
-abbrev pub fits : Option UnitDef → Command → Bool
-fits None k = false
-fits (Some u) k = is_good_range u.blocks (range_of k)
+abbrev pub fits_unit : Option UnitDef → Command → Bool
+fits_unit None k = false
+fits_unit (Some u) k = is_good_range u.blocks (range_of k)
 
-abbrev pub is_sound : ScenarioValue → CmdDef → Result Command CdbFault → Bool
-is_sound s c (Err fault) = false
-is_sound s c (Ok k) = is_opcode c.cdb 0x12 || is_opcode c.cdb 0x03 || fits (unit_of s c.target c.unit) k
+abbrev pub is_sound_command : ScenarioValue → CmdDef → Result Command CdbFault → Bool
+is_sound_command s c (Err fault) = false
+is_sound_command s c (Ok k) = is_opcode c.cdb INQUIRY || is_opcode c.cdb REQUEST_SENSE || fits_unit (unit_of s c.target c.unit) k
 
 -- Its target is there; its command descriptor block has no fault; and its unit is there and its range is good, or it
 -- is INQUIRY or REQUEST SENSE.
 abbrev pub is_valid : ScenarioValue → CmdDef → Bool
-is_valid s c = has_target s c.target && is_sound s c (command_of c.cdb)
+is_valid s c = has_target s c.target && is_sound_command s c (command_of c.cdb)
 
 abbrev pub most_open : List HostDef → ℕ
 most_open [] = 0

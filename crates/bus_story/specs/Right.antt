@@ -7,15 +7,16 @@ use Rattle.bus_base.specs.declared.ProcId.{ProcId}
 use Rattle.bus_base.specs.declared.Event.{Event}
 use Rattle.bus_base.specs.declared.Event.TheVariants as events
 use Rattle.bus_lines.specs.declared.Row.{Row}
+use Rattle.cdb_codec.specs.declared.status.TheConstants.{GOOD}
 use Rattle.cdb_codec.specs.Cdb.{command_of}
 use Rattle.scenario.specs.Value.{ScenarioValue}
 use Rattle.scenario.specs.Needs.{is_write}
 use Rattle.disk_array.specs.Processes.{Process, process_of, same_id}
-use Rattle.disk_array.specs.Exec.{Reply}
-use Rattle.disk_array.specs.Play.{play, disks_of, reply_of}
-use Rattle.bus_story.specs.Carried.{Carried, carried_of}
+use Rattle.disk_array.specs.Execution.{Reply}
+use Rattle.disk_array.specs.ArrayHistory.{array_after, disks_of, reply_of}
+use Rattle.bus_story.specs.CarriedBytes.{CarriedBytes, carried_of}
 use Rattle.bus_story.specs.Story.{Story}
-use Rattle.bus_story.specs.Told.{story}
+use Rattle.bus_story.specs.TraceHistory.{story}
 use Rattle.bus_story.specs.Outcomes.{Outcome, outcomes}
 
 abbrev pub same_bytes : List ℕ → List ℕ → Bool
@@ -32,23 +33,23 @@ abbrev pub has_run : List Event → ProcId → Bool
 has_run history id = list_any (λ e. is_run_of id e) history
 
 -- The bytes that a process moves: those that its initiator sends with a write that ended GOOD, else its reply's.
-abbrev pub moved_by : Process → Reply → List ℕ
-moved_by p reply = if is_write (command_of p.cdb) && reply.status == 0x00 then p.sent else reply.bytes
+abbrev pub moved_bytes : Process → Reply → List ℕ
+moved_bytes p reply = if is_write (command_of p.cdb) && reply.status == GOOD then p.sent else reply.bytes
 
-abbrev pub carried_just : Carried → List ℕ → List ℕ → ℕ → Bool
-carried_just k block moved status =
+abbrev pub are_carried_bytes : CarriedBytes → List ℕ → List ℕ → ℕ → Bool
+are_carried_bytes k block moved status =
     same_bytes k.command.bytes block && same_bytes k.moved.bytes moved && same_bytes k.status.bytes (status ∷ [])
 
-abbrev pub carried_by : Carried → Option Process → Option Reply → ℕ → Bool
+abbrev pub carried_by : CarriedBytes → Option Process → Option Reply → ℕ → Bool
 carried_by k None reply status = false
 carried_by k (Some p) None status = false
-carried_by k (Some p) (Some reply) status = carried_just k p.cdb (moved_by p reply) status
+carried_by k (Some p) (Some reply) status = are_carried_bytes k p.cdb (moved_bytes p reply) status
 
 -- A process that ran and ended carried just its command block, just the bytes that it moves, and its status.
 abbrev pub is_carried : ScenarioValue → Story → Event → Bool
 is_carried s b (events.End id status) =
     not (has_run b.history id)
-    || carried_by (carried_of b.carried id) (process_of s id) (reply_of (play s b.history) id) status
+    || carried_by (carried_of b.carried id) (process_of s id) (reply_of (array_after s b.history) id) status
 is_carried s b _ = true
 
 abbrev pub all_carried : ScenarioValue → Story → List Event → Bool
@@ -59,7 +60,7 @@ all_carried s b (e ∷ history) = is_carried s b e && all_carried s b history
 
 pub record Right (s : ScenarioValue) (rows : List Row) (history : List Event) (ended : List (Option Outcome)) (disks : List (List (List ℕ))) : Type 0 where
   pub told : (story s (reverse rows)).history ≡ reverse history
-  pub permitted : is_some (play s (reverse history)) ≡ true
-  pub blocks : disks_of (play s (reverse history)) ≡ disks
+  pub permitted : is_some (array_after s (reverse history)) ≡ true
+  pub blocks : disks_of (array_after s (reverse history)) ≡ disks
   pub replies : outcomes s (story s (reverse rows)) ≡ ended
   pub carried : all_carried s (story s (reverse rows)) (reverse history) ≡ true

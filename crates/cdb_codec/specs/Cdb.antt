@@ -6,6 +6,7 @@ use Rattle.cdb_codec.specs.declared.command.Command.{Command}
 use Rattle.cdb_codec.specs.declared.command.Command.TheVariants.{TestUnitReady, RequestSense, Read6, Write6, Inquiry, ReadCapacity, Read10, Write10}
 use Rattle.cdb_codec.specs.declared.command.CdbFault.{CdbFault}
 use Rattle.cdb_codec.specs.declared.command.CdbFault.TheVariants.{Opcode, Length, Field}
+use Rattle.cdb_codec.specs.declared.operation.TheConstants.{TEST_UNIT_READY, REQUEST_SENSE, READ_6, WRITE_6, INQUIRY, READ_CAPACITY, READ_10, WRITE_10}
 use Rattle.cdb_codec.specs.declared.operation.Operation.{Operation}
 use Rattle.cdb_codec.specs.declared.operation.Operation.TheVariants as operations
 use Rattle.cdb_codec.specs.Operations.{operation_of}
@@ -41,14 +42,14 @@ ten_bytes code lba count = code ∷ 0x00 ∷ [] ++ big_bytes 4 lba ++ 0x00 ∷ [
 
 -- The block of a command. A command without a block's number has 0 there.
 abbrev pub cdb_bytes : Command → List ℕ
-cdb_bytes TestUnitReady = six_bytes 0x00 0 0
-cdb_bytes (RequestSense room) = six_bytes 0x03 0 room
-cdb_bytes (Read6 lba count) = six_bytes 0x08 lba count
-cdb_bytes (Write6 lba count) = six_bytes 0x0a lba count
-cdb_bytes (Inquiry room) = six_bytes 0x12 0 room
-cdb_bytes ReadCapacity = ten_bytes 0x25 0 0
-cdb_bytes (Read10 lba count) = ten_bytes 0x28 lba count
-cdb_bytes (Write10 lba count) = ten_bytes 0x2a lba count
+cdb_bytes TestUnitReady = six_bytes TEST_UNIT_READY 0 0
+cdb_bytes (RequestSense room) = six_bytes REQUEST_SENSE 0 room
+cdb_bytes (Read6 lba count) = six_bytes READ_6 lba count
+cdb_bytes (Write6 lba count) = six_bytes WRITE_6 lba count
+cdb_bytes (Inquiry room) = six_bytes INQUIRY 0 room
+cdb_bytes ReadCapacity = ten_bytes READ_CAPACITY 0 0
+cdb_bytes (Read10 lba count) = ten_bytes READ_10 lba count
+cdb_bytes (Write10 lba count) = ten_bytes WRITE_10 lba count
 
 -- The length, where there is one, is n.
 abbrev pub is_len : Option ℕ → ℕ → Bool
@@ -146,7 +147,7 @@ command_of bytes = if length bytes == 0 then Err Length else sized_of (operation
 
 -- The weight of the lowest bit of byte 1 that is ignored, by the operation code.
 abbrev pub ignored_from : ℕ → ℕ
-ignored_from code = if (code == 0x28) || (code == 0x2a) then 0x08 else 0x20
+ignored_from code = if (code == READ_10) || (code == WRITE_10) then 0x08 else 0x20
 
 -- The same bytes with the ignored bits of byte 1 cleared.
 abbrev pub without_ignored : List ℕ → List ℕ

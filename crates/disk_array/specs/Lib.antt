@@ -1,7 +1,7 @@
 pub mod Processes
 pub mod Contents
-pub mod Exec
+pub mod Execution
 pub mod Order
 pub mod Units
 pub mod Steps
-pub mod Play
+pub mod ArrayHistory

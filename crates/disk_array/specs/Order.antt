@@ -11,7 +11,7 @@ use Rattle.scenario.specs.declared.value.Tag.{Tag}
 use Rattle.scenario.specs.declared.value.Tag.TheVariants as tags
 use Rattle.scenario.specs.Needs.{is_write}
 use Rattle.disk_array.specs.Processes.{Process, same_id}
-use Rattle.disk_array.specs.Exec.{range_of}
+use Rattle.disk_array.specs.Execution.{range_of}
 
 abbrev pub is_head : Tag → Bool
 is_head (tags.Head tag) = true
@@ -52,29 +52,29 @@ last_head (p ∷ waiting) found = last_head waiting (if is_head p.tag then Some 
 abbrev pub is_held_back : List Process → Process → Bool
 is_held_back before p = list_any (λ (q : Process). q.initiator == p.initiator && conflict q p) before
 
-abbrev pub is_first : List Process → Bool
-is_first [] = true
-is_first (p ∷ before) = false
+abbrev pub has_none_before : List Process → Bool
+has_none_before [] = true
+has_none_before (p ∷ before) = false
 
 -- Without a HEAD OF QUEUE process: an ORDERED one may run if it is the first; another where no ORDERED one stands
 -- before it and no earlier one of its initiator conflicts with it. These stand before it.
-abbrev pub may_after : List Process → Process → Bool
-may_after before p =
-    if is_ordered p.tag then is_first before
+abbrev pub may_run_after : List Process → Process → Bool
+may_run_after before p =
+    if is_ordered p.tag then has_none_before before
     else not (list_any (λ (q : Process). is_ordered q.tag) before) && not (is_held_back before p)
 
 -- The waiting processes that may run, in order of arrival.
-abbrev pub able_after : List Process → List Process → List Process
-able_after before [] = []
-able_after before (p ∷ waiting) =
-    if may_after before p then p ∷ able_after (before ++ p ∷ []) waiting else able_after (before ++ p ∷ []) waiting
+abbrev pub runnable_after : List Process → List Process → List Process
+runnable_after before [] = []
+runnable_after before (p ∷ waiting) =
+    if may_run_after before p then p ∷ runnable_after (before ++ p ∷ []) waiting else runnable_after (before ++ p ∷ []) waiting
 
-abbrev pub able_by : Option Process → List Process → List Process
-able_by (Some head) waiting = head ∷ []
-able_by None waiting = able_after [] waiting
+abbrev pub runnable_by : Option Process → List Process → List Process
+runnable_by (Some head) waiting = head ∷ []
+runnable_by None waiting = runnable_after [] waiting
 
-abbrev pub able : List Process → List Process
-able waiting = able_by (last_head waiting None) waiting
+abbrev pub runnable_processes : List Process → List Process
+runnable_processes waiting = runnable_by (last_head waiting None) waiting
 
 -- ---- the choice: the first of these, or the last
 
@@ -82,15 +82,15 @@ abbrev pub last_of : Process → List Process → Process
 last_of p [] = p
 last_of p (q ∷ more) = last_of q more
 
-abbrev pub picked : Pick → List Process → Option Process
-picked pick [] = None
-picked picks.First (p ∷ more) = Some p
-picked picks.Last (p ∷ more) = Some (last_of p more)
+abbrev pub picked_process : Pick → List Process → Option Process
+picked_process pick [] = None
+picked_process picks.First (p ∷ more) = Some p
+picked_process picks.Last (p ∷ more) = Some (last_of p more)
 
 abbrev pub choice : Pick → List Process → Option Process
-choice pick waiting = picked pick (able waiting)
+choice pick waiting = picked_process pick (runnable_processes waiting)
 
 -- Without this process.
-abbrev pub without : List Process → ProcId → List Process
-without [] id = []
-without (p ∷ waiting) id = if same_id p.id id then without waiting id else p ∷ without waiting id
+abbrev pub without_process : List Process → ProcId → List Process
+without_process [] id = []
+without_process (p ∷ waiting) id = if same_id p.id id then without_process waiting id else p ∷ without_process waiting id

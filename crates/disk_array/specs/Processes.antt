@@ -1,6 +1,7 @@
 -- Processes: the commands of a scenario, and their automatic REQUEST SENSE (ANSI X3.131-1994, 7.6 and 7.8).
 use Rattle.std.specs.Prelude.{ℕ, zero, suc, ◌+◌, ◌%◌, Bool, true, false, ◌&&◌, ◌==◌, List, [], ◌∷◌, Option, Some, None, if◌then◌else◌}
 use Rattle.bus_base.specs.declared.ProcId.{ProcId}
+use Rattle.cdb_codec.specs.declared.operation.TheConstants.{REQUEST_SENSE}
 use Rattle.scenario.specs.declared.value.CmdDef.{CmdDef}
 use Rattle.scenario.specs.declared.value.Tag.{Tag}
 use Rattle.scenario.specs.declared.value.Tag.TheVariants as tags
@@ -25,10 +26,10 @@ abbrev pub bytes_from : ℕ → ℕ → List ℕ
 bytes_from first zero = []
 bytes_from first (suc n) = first % 256 ∷ bytes_from (first + 1) n
 
-abbrev pub payload_of : Payload → ℕ → List ℕ
-payload_of payloads.Nothing n = []
-payload_of (payloads.Hex bytes) n = bytes
-payload_of (payloads.From first) n = bytes_from first n
+abbrev pub payload_bytes : Payload → ℕ → List ℕ
+payload_bytes payloads.Nothing n = []
+payload_bytes (payloads.Hex bytes) n = bytes
+payload_bytes (payloads.From first) n = bytes_from first n
 
 -- The n-th command, counted from 1.
 abbrev pub command_at : List CmdDef → ℕ → Option CmdDef
@@ -39,12 +40,12 @@ command_at (c ∷ commands) (suc (suc n)) = command_at commands (suc n)
 
 -- The command itself; its automatic REQUEST SENSE is untagged and has room for 18 bytes.
 abbrev pub sense_block : List ℕ
-sense_block = 0x03 ∷ 0x00 ∷ 0x00 ∷ 0x00 ∷ 0x12 ∷ 0x00 ∷ []
+sense_block = REQUEST_SENSE ∷ 0x00 ∷ 0x00 ∷ 0x00 ∷ 0x12 ∷ 0x00 ∷ []
 
 abbrev pub process_by : ScenarioValue → ProcId → CmdDef → Process
 process_by s id c =
     if id.sense then record { id = id; initiator = c.host; target = c.target; unit = c.unit; tag = tags.Untagged; cdb = sense_block; sent = [] }
-    else record { id = id; initiator = c.host; target = c.target; unit = c.unit; tag = c.tag; cdb = c.cdb; sent = payload_of c.payload (sent_of s c) }
+    else record { id = id; initiator = c.host; target = c.target; unit = c.unit; tag = c.tag; cdb = c.cdb; sent = payload_bytes c.payload (sent_of s c) }
 
 abbrev pub process_if : ScenarioValue → ProcId → Option CmdDef → Option Process
 process_if s id None = None

@@ -1,8 +1,8 @@
 //! The plain disk array: what a history of commands does to disks, command by command, on plain lists.
 //!
 //! It is what a run of the bus is measured by: no bus, no bytes that interleave, no device. `specs/Units.antt` has
-//! its state, `specs/Exec.antt` what one command does at one unit, `specs/Order.antt` which waiting command may run,
-//! `specs/Steps.antt` what each event of a history does, and `specs/Play.antt` a whole history. It stands on
+//! its state, `specs/Execution.antt` what one command does at one unit, `specs/Order.antt` which waiting command may run,
+//! `specs/Steps.antt` what each event of a history does, and `specs/ArrayHistory.antt` a whole history. It stands on
 //! `scenario`, `cdb_codec` and `bus_base`. There is no code here but for laws: each is the contract of a function
 //! that does nothing.
 #![tactic(auto)]
@@ -10,14 +10,14 @@
 ghost use Rattle.std.specs.Prelude.{◌≡◌, List, [], ◌∷◌, Some, None};
 ghost use Rattle.bus_base.specs.declared.Event.{Event};
 ghost use Rattle.scenario.specs.Value.{ScenarioValue};
-ghost use Rattle.disk_array.specs.Units.{Array, at_start, settled};
+ghost use Rattle.disk_array.specs.Units.{Array, starting_array, settled_array};
 ghost use Rattle.disk_array.specs.Steps.{step};
-ghost use Rattle.disk_array.specs.Play.{play};
+ghost use Rattle.disk_array.specs.ArrayHistory.{array_after};
 
 /// A history of one event more is played as the history, and then the step of that event; and where a step was not
 /// allowed no later one is.
 pub fn histories_go_on()
-    ensures start { (s : ScenarioValue) → play s [] ≡ Some (settled (at_start s)) }
-    ensures more { (s : ScenarioValue) (event : Event) (history : List Event) (a : Array) → play s history ≡ Some a → play s (event ∷ history) ≡ step s event a }
-    ensures stopped { (s : ScenarioValue) (event : Event) (history : List Event) → play s history ≡ None → play s (event ∷ history) ≡ None }
+    ensures start { (s : ScenarioValue) → array_after s [] ≡ Some (settled_array (starting_array s)) }
+    ensures more { (s : ScenarioValue) (event : Event) (history : List Event) (a : Array) → array_after s history ≡ Some a → array_after s (event ∷ history) ≡ step s event a }
+    ensures stopped { (s : ScenarioValue) (event : Event) (history : List Event) → array_after s history ≡ None → array_after s (event ∷ history) ≡ None }
 {}

@@ -1,8 +1,9 @@
 -- Each message has one spelling.
-use Rattle.std.proofs.Common.{◌≡◌, ℕ, zero, suc, ◌+◌, ◌-◌, ◌<◌, ◌≤◌, ◌↔◌, Bool, true, false, ◌&&◌, cond, List, [], ◌∷◌, ◌++◌, length, Some, None, refl, ap, subst, ◌∙◌, arith}
+use Rattle.std.proofs.Common.{◌≡◌, ℕ, ◌+◌, ◌-◌, ◌<◌, ◌≤◌, ◌↔◌, Bool, true, false, ◌&&◌, cond, List, [], ◌∷◌, ◌++◌, length, Some, None, refl, ap, subst, ◌∙◌, arith}
 use Rattle.std.specs.Prelude.{option_map, ◌==◌}
 use Rattle.std.proofs.lemmas.Bool.Decides.{nat_tests}
 use Rattle.bus_lines.specs.declared.agreements.Agreement.{Agreement}
+use Rattle.bus_lines.proofs.Devices.{below_8}
 use Rattle.msg_grammar.specs.declared.message.MsgOut.{MsgOut}
 use Rattle.msg_grammar.specs.declared.message.MsgOut.TheVariants as to_target
 use Rattle.msg_grammar.specs.declared.message.MsgIn.{MsgIn}
@@ -120,30 +121,18 @@ in_spelled b =
 
 -- ---- and what is spelled so is that message
 
--- what holds of 0 to 7 holds below 8
-below_eight : (P : ℕ → Type 0) → P 0 → P 1 → P 2 → P 3 → P 4 → P 5 → P 6 → P 7 → (n : ℕ) → n < 8 → P n
-below_eight P a b c d e f g h zero l = a
-below_eight P a b c d e f g h (suc zero) l = b
-below_eight P a b c d e f g h (suc (suc zero)) l = c
-below_eight P a b c d e f g h (suc (suc (suc zero))) l = d
-below_eight P a b c d e f g h (suc (suc (suc (suc zero)))) l = e
-below_eight P a b c d e f g h (suc (suc (suc (suc (suc zero))))) l = f
-below_eight P a b c d e f g h (suc (suc (suc (suc (suc (suc zero)))))) l = g
-below_eight P a b c d e f g h (suc (suc (suc (suc (suc (suc (suc zero))))))) l = h
-below_eight P a b c d e f g h (suc (suc (suc (suc (suc (suc (suc (suc n)))))))) l = absurd (omega arith)
-
 out_reads : (m : MsgOut) → FitsOut m → msg_out_of (out_bytes m) ≡ Some m
 unfolding form_out
 out_reads (to_target.Identify false lun) h =
-    below_eight (λ n. msg_out_of ((0x80 + n) ∷ []) ≡ Some (to_target.Identify false n)) refl refl refl refl refl refl refl refl lun h
+    below_8 (λ n. msg_out_of ((0x80 + n) ∷ []) ≡ Some (to_target.Identify false n)) refl refl refl refl refl refl refl refl lun h
 out_reads (to_target.Identify true lun) h =
-    below_eight (λ n. msg_out_of ((0xc0 + n) ∷ []) ≡ Some (to_target.Identify true n)) refl refl refl refl refl refl refl refl lun h
+    below_8 (λ n. msg_out_of ((0xc0 + n) ∷ []) ≡ Some (to_target.Identify true n)) refl refl refl refl refl refl refl refl lun h
 out_reads _ h = refl
 
 in_reads : (m : MsgIn) → FitsIn m → msg_in_of (in_bytes m) ≡ Some m
 unfolding form_in
 in_reads (to_initiator.Identify lun) h =
-    below_eight (λ n. msg_in_of ((0x80 + n) ∷ []) ≡ Some (to_initiator.Identify n)) refl refl refl refl refl refl refl refl lun h
+    below_8 (λ n. msg_in_of ((0x80 + n) ∷ []) ≡ Some (to_initiator.Identify n)) refl refl refl refl refl refl refl refl lun h
 in_reads _ h = refl
 
 pub out_one : (bytes : List ℕ) (m : MsgOut) → (msg_out_of bytes ≡ Some m) ↔ ((bytes ≡ out_bytes m) × FitsOut m)

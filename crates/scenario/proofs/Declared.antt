@@ -1,6 +1,7 @@
 -- What a line that was taken declares says the line again.
 use Rattle.std.proofs.Common.{◌≡◌, ℕ, ◌-◌, ◌^◌, Bool, true, false, not, cond, length, Option, Some, None, Ok, refl, sym, ap, subst, ◌∙◌, arith}
 use Rattle.std.specs.Prelude.{nat_lt, ◌==◌, ◌||◌, is_some}
+use Rattle.scenario.specs.declared.bounds.TheConstants.{TIME_LIMIT, LATENCY_LIMIT, OPEN_LIMIT, RETRY_LIMIT, LAG_LIMIT, SEEK_LIMIT, BLOCK_LIMIT, DEPTH_LIMIT, FAULT_LIMIT}
 use Rattle.scenario.specs.declared.value.HostDef.{HostDef}
 use Rattle.scenario.specs.declared.value.TargetDef.{TargetDef}
 use Rattle.scenario.specs.declared.value.UnitDef.{UnitDef}
@@ -52,20 +53,20 @@ pub host_declared : (s : ScenarioValue) (version : ℕ) (f : HostForm) (def : Ho
 unfolding host_def
 host_declared s version f def fits e =
     let a = bind_ok (in_8 f.device) _ def e in
-    let b = bind_ok (within f.latency 0 100) _ def a.2 in
-    let c = bind_ok (within f.«open» 1 32) _ def b.2 in
-    let d = bind_ok (within f.retries 0 16) _ def c.2 in
+    let b = bind_ok (within f.latency 0 LATENCY_LIMIT) _ def a.2 in
+    let c = bind_ok (within f.«open» 1 OPEN_LIMIT) _ def b.2 in
+    let d = bind_ok (within f.retries 0 RETRY_LIMIT) _ def c.2 in
     let p = bind_ok (period_in f.period) _ def d.2 in
     let o = bind_ok (within f.offset 0 255) _ def p.2 in
-    let l = bind_ok (within f.lag 0 10000) _ def o.2 in
+    let l = bind_ok (within f.lag 0 LAG_LIMIT) _ def o.2 in
     let g = bind_ok (guard 5 (not (has_device s a.0))) _ def l.2 in
     let ra = read_within f.device 0 7 a.0 a.1 (omega arith) in
-    let rb = read_within f.latency 0 100 b.0 b.1 (omega arith) in
-    let rc = read_within f.«open» 1 32 c.0 c.1 (omega arith) in
-    let rd = read_within f.retries 0 16 d.0 d.1 (omega arith) in
+    let rb = read_within f.latency 0 LATENCY_LIMIT b.0 b.1 (omega arith) in
+    let rc = read_within f.«open» 1 OPEN_LIMIT c.0 c.1 (omega arith) in
+    let rd = read_within f.retries 0 RETRY_LIMIT d.0 d.1 (omega arith) in
     let rp = read_period f.period p.0 p.1 in
     let ro = read_within f.offset 0 255 o.0 o.1 (omega arith) in
-    let rl = read_within f.lag 0 10000 l.0 l.1 (omega arith) in
+    let rl = read_within f.lag 0 LAG_LIMIT l.0 l.1 (omega arith) in
     record {
       same = λ v. ap (said_host version) (sym (ok_is _ def g.2)) ∙ (λ i. initiator_line (record { device = sym ra.same i; latency = sym rb.same i; «open» = sym rc.same i; retries = sym rd.same i; period = sym rp.same i; offset = sym ro.same i; lag = sym rl.same i; offers = flag_again version true f.offers v fits i }));
       spelled = (ra.small, rb.small, rc.small, rd.small, rp.small, ro.small, rl.small);
@@ -75,18 +76,18 @@ pub target_declared : (s : ScenarioValue) (version : ℕ) (f : TargetForm) (def 
 unfolding target_def
 target_declared s version f def fits e =
     let a = bind_ok (in_8 f.device) _ def e in
-    let b = bind_ok (within f.latency 0 100) _ def a.2 in
-    let d = bind_ok (within f.retries 0 16) _ def b.2 in
+    let b = bind_ok (within f.latency 0 LATENCY_LIMIT) _ def a.2 in
+    let d = bind_ok (within f.retries 0 RETRY_LIMIT) _ def b.2 in
     let k = bind_ok (policy_in f.disc) _ def d.2 in
-    let t = bind_ok (within f.seek 0 1000000000) _ def k.2 in
+    let t = bind_ok (within f.seek 0 SEEK_LIMIT) _ def k.2 in
     let p = bind_ok (period_in f.period) _ def t.2 in
     let o = bind_ok (within f.offset 0 254) _ def p.2 in
     let g = bind_ok (guard 5 (not (has_device s a.0))) _ def o.2 in
     let ra = read_within f.device 0 7 a.0 a.1 (omega arith) in
-    let rb = read_within f.latency 0 100 b.0 b.1 (omega arith) in
-    let rd = read_within f.retries 0 16 d.0 d.1 (omega arith) in
+    let rb = read_within f.latency 0 LATENCY_LIMIT b.0 b.1 (omega arith) in
+    let rd = read_within f.retries 0 RETRY_LIMIT d.0 d.1 (omega arith) in
     let rk = read_policy f.disc k.0 k.1 in
-    let rt = read_within f.seek 0 1000000000 t.0 t.1 (omega arith) in
+    let rt = read_within f.seek 0 SEEK_LIMIT t.0 t.1 (omega arith) in
     let rp = read_period f.period p.0 p.1 in
     let ro = read_within f.offset 0 254 o.0 o.1 (omega arith) in
     record {
@@ -99,16 +100,16 @@ unfolding unit_def
 unit_declared s f def e =
     let a = bind_ok (in_8 f.target) _ def e in
     let b = bind_ok (in_8 f.unit) _ def a.2 in
-    let c = bind_ok (within f.blocks 1 4294967296) _ def b.2 in
+    let c = bind_ok (within f.blocks 1 BLOCK_LIMIT) _ def b.2 in
     let d = bind_ok (size_in f.size) _ def c.2 in
-    let q = bind_ok (within f.depth 1 256) _ def d.2 in
+    let q = bind_ok (within f.depth 1 DEPTH_LIMIT) _ def d.2 in
     let g = bind_ok (guard 5 (not (is_some (unit_of s a.0 b.0)))) _ def q.2 in
     let h = bind_ok (guard 6 (has_target s a.0)) _ def g.2 in
     let ra = read_within f.target 0 7 a.0 a.1 (omega arith) in
     let rb = read_within f.unit 0 7 b.0 b.1 (omega arith) in
-    let rc = read_within f.blocks 1 4294967296 c.0 c.1 (omega arith) in
+    let rc = read_within f.blocks 1 BLOCK_LIMIT c.0 c.1 (omega arith) in
     let rd = read_size f.size d.0 d.1 in
-    let rq = read_within f.depth 1 256 q.0 q.1 (omega arith) in
+    let rq = read_within f.depth 1 DEPTH_LIMIT q.0 q.1 (omega arith) in
     record {
       same = ap said_unit (sym (ok_is _ def h.2)) ∙ (λ i. unit_line (record { target = sym ra.same i; unit = sym rb.same i; blocks = sym rc.same i; size = sym rd.same i; depth = sym rq.same i }));
       spelled = (ra.small, rb.small, rc.small, rd.small, rq.small);
@@ -149,7 +150,7 @@ cmd_declared s f def hex payload e =
     let ra = read_within f.host 0 7 a.0 a.1 (omega arith) in
     let rb = read_within f.target 0 7 b.0 b.1 (omega arith) in
     let rc = read_within f.unit 0 7 c.0 c.1 (omega arith) in
-    let rd = read_within f.at 0 (10 ^ 12) d.0 d.1 (omega arith) in
+    let rd = read_within f.at 0 TIME_LIMIT d.0 d.1 (omega arith) in
     let rt = read_tag f.tag t.0 t.1 in
     let rp = payload_again f.payload in
     record {
@@ -178,7 +179,7 @@ abort_declared s f def e =
     let ra = read_within f.host 0 7 a.0 a.1 (omega arith) in
     let rb = read_within f.target 0 7 b.0 b.1 (omega arith) in
     let rc = read_within f.unit 0 7 c.0 c.1 (omega arith) in
-    let rd = read_within f.at 0 (10 ^ 12) d.0 d.1 (omega arith) in
+    let rd = read_within f.at 0 TIME_LIMIT d.0 d.1 (omega arith) in
     let rw2 = read_what f.what w.0 w.1 in
     record {
       same = ap said_abort (sym (ok_is _ def h.2)) ∙ (λ i. abort_line (record { host = sym ra.same i; target = sym rb.same i; unit = sym rc.same i; at = sym rd.same i; what = sym rw2.same i }));
@@ -193,7 +194,7 @@ reset_declared s f def e =
     let g = bind_ok (guard 6 (has_device s a.0)) _ def d.2 in
     let h = bind_ok (guard 8 (has_abort_room s)) _ def g.2 in
     let ra = read_within f.device 0 7 a.0 a.1 (omega arith) in
-    let rd = read_within f.at 0 (10 ^ 12) d.0 d.1 (omega arith) in
+    let rd = read_within f.at 0 TIME_LIMIT d.0 d.1 (omega arith) in
     record {
       same = ap said_reset (sym (ok_is _ def h.2)) ∙ (λ i. reset_line (record { device = sym ra.same i; at = sym rd.same i }));
       spelled = (ra.small, rd.small);
@@ -204,8 +205,8 @@ unfolding fault_def
 fault_declared s f def e =
     let a = bind_ok (time_in f.at) _ def e in
     let b = bind_ok (within f.bit 0 8) _ def a.2 in
-    let h = bind_ok (guard 8 (nat_lt (length s.faults) 64)) _ def b.2 in
-    let ra = read_within f.at 0 (10 ^ 12) a.0 a.1 (omega arith) in
+    let h = bind_ok (guard 8 (nat_lt (length s.faults) FAULT_LIMIT)) _ def b.2 in
+    let ra = read_within f.at 0 TIME_LIMIT a.0 a.1 (omega arith) in
     let rb = read_within f.bit 0 8 b.0 b.1 (omega arith) in
     record {
       same = ap said_fault (sym (ok_is _ def h.2)) ∙ (λ i. fault_line (record { at = sym ra.same i; bit = sym rb.same i }));

@@ -2,6 +2,7 @@
 use Rattle.std.proofs.Common.{◌≡◌, ℕ, true, List, [], ◌∷◌, ◌++◌, length, map, Ok, sym, ap, ◌∙◌}
 use Rattle.std.specs.List.{AllByRecursion}
 use Rattle.std.proofs.lemmas.Bool.{le-ltb}
+use Rattle.scenario.specs.declared.bounds.TheConstants.{LIMIT}
 use Rattle.scenario.specs.declared.value.HostDef.{HostDef}
 use Rattle.scenario.specs.declared.value.TargetDef.{TargetDef}
 use Rattle.scenario.specs.declared.value.UnitDef.{UnitDef}
@@ -134,4 +135,4 @@ read_back s h =
     let spelled = are_spelled (saids s) nothing b.0 (saids_can s h) b.1 in
     let end = ends (scsi_line s.version ∷ body_of s) nothing b.0 b.1 in
     let limit = h.limit in
-    rw (le-ltb 4194304 (length (text_of s)) limit) (text_again (saids s) spelled nothing b.0 0 b.1 end ∙ ap (λ (t : ScenarioValue). Ok t) (ok_is (b.0).scenario s b.2))
+    rw (le-ltb LIMIT (length (text_of s)) limit) (text_again (saids s) spelled nothing b.0 0 b.1 end ∙ ap (λ (t : ScenarioValue). Ok t) (ok_is (b.0).scenario s b.2))

@@ -6,6 +6,7 @@ use Rattle.bus_base.specs.declared.events.AbortKind.{AbortKind}
 use Rattle.bus_base.specs.declared.events.AbortKind.TheVariants as kills
 use Rattle.text_words.specs.Words.{Number}
 use Rattle.text_words.specs.Lines.{Line}
+use Rattle.scenario.specs.declared.bounds.TheConstants.{TIME_LIMIT, LATENCY_LIMIT, OPEN_LIMIT, RETRY_LIMIT, LAG_LIMIT, SEEK_LIMIT, BURST_LIMIT, BLOCK_LIMIT, DEPTH_LIMIT, FAULT_LIMIT}
 use Rattle.scenario.specs.declared.value.Policy.{Policy}
 use Rattle.scenario.specs.declared.value.Policy.TheVariants as policies
 use Rattle.scenario.specs.declared.value.UnitDef.{UnitDef}
@@ -124,8 +125,8 @@ policy_is : (p : PolicyForm) → policy_in p ≡ cond (is_policy p) (Ok (policy_
 unfolding policy_in policy_value
 policy_is policy_forms.Never = refl
 policy_is policy_forms.Command = refl
-policy_is (policy_forms.Burst k) = mapped_is (within k 1 65536) (is_in k 1 65536) (value k) policies.Burst (within_is k 1 65536)
-policy_is (policy_forms.NoSave k) = mapped_is (within k 1 65536) (is_in k 1 65536) (value k) policies.NoSave (within_is k 1 65536)
+policy_is (policy_forms.Burst k) = mapped_is (within k 1 BURST_LIMIT) (is_in k 1 BURST_LIMIT) (value k) policies.Burst (within_is k 1 BURST_LIMIT)
+policy_is (policy_forms.NoSave k) = mapped_is (within k 1 BURST_LIMIT) (is_in k 1 BURST_LIMIT) (value k) policies.NoSave (within_is k 1 BURST_LIMIT)
 
 tag_is : (t : TagForm) → tag_in t ≡ cond (is_tag t) (Ok (tag_value t)) (Err 4)
 unfolding tag_in
@@ -158,7 +159,7 @@ cmd_is : (s : ScenarioValue) (c : CmdSaid) (f : CmdDef → Result CmdDef ℕ) (x
     → refused (cmd_def s c >>= f) ≡ cond (not (keeps_limits (cmd_line c))) (Some 4) (cond (not (are_ends s (value c.host) (value c.target))) (Some 6) x)
 unfolding cmd_def
 cmd_is s c f x h =
-    step2 _ _ _ _ f _ _ (within_is c.host 0 7) (step2 _ _ _ _ f _ _ (within_is c.target 0 7) (step2 _ _ _ _ f _ _ (within_is c.unit 0 7) (step2 _ _ _ _ f _ _ (within_is c.at 0 (10 ^ 12)) (step2 _ _ _ _ f _ _ (tag_is c.tag)
+    step2 _ _ _ _ f _ _ (within_is c.host 0 7) (step2 _ _ _ _ f _ _ (within_is c.target 0 7) (step2 _ _ _ _ f _ _ (within_is c.unit 0 7) (step2 _ _ _ _ f _ _ (within_is c.at 0 TIME_LIMIT) (step2 _ _ _ _ f _ _ (tag_is c.tag)
     (last2 _ _ _ _ f _ (guard_is (is_block c.cdb)) (guard2 6 (are_ends s (value c.host) (value c.target)) _ f x h))))))
 
 lowest_cmd : (d : Progress) (c : CmdSaid) → refused (added d (cmd_line c)) ≡ reason_added d (cmd_line c)
@@ -170,13 +171,13 @@ lowest_added : (d : Progress) (x : Said) → refused (added d x) ≡ reason_adde
 unfolding added reason_added host_def target_def unit_def fill_def cmd_def full_cmd_def abort_def reset_def fault_def
 lowest_added d (scsi_line v) = refl
 lowest_added d (initiator_line f) = refused_then (host_def d.scenario f) _ _
-    (step _ _ _ _ _ _ (within_is f.device 0 7) (step _ _ _ _ _ _ (within_is f.latency 0 100) (step _ _ _ _ _ _ (within_is f.«open» 1 32) (step _ _ _ _ _ _ (within_is f.retries 0 16)
-    (step _ _ _ _ _ _ (period_is f.period) (step _ _ _ _ _ _ (within_is f.offset 0 255) (last _ _ _ _ _ (within_is f.lag 0 10000) (refused_not 5 (has_device d.scenario (value f.device)) _ None refl))))))))
+    (step _ _ _ _ _ _ (within_is f.device 0 7) (step _ _ _ _ _ _ (within_is f.latency 0 LATENCY_LIMIT) (step _ _ _ _ _ _ (within_is f.«open» 1 OPEN_LIMIT) (step _ _ _ _ _ _ (within_is f.retries 0 RETRY_LIMIT)
+    (step _ _ _ _ _ _ (period_is f.period) (step _ _ _ _ _ _ (within_is f.offset 0 255) (last _ _ _ _ _ (within_is f.lag 0 LAG_LIMIT) (refused_not 5 (has_device d.scenario (value f.device)) _ None refl))))))))
 lowest_added d (target_line f) = refused_then (target_def d.scenario f) _ _
-    (step _ _ _ _ _ _ (within_is f.device 0 7) (step _ _ _ _ _ _ (within_is f.latency 0 100) (step _ _ _ _ _ _ (within_is f.retries 0 16) (step _ _ _ _ _ _ (policy_is f.disc) (step _ _ _ _ _ _ (within_is f.seek 0 1000000000)
+    (step _ _ _ _ _ _ (within_is f.device 0 7) (step _ _ _ _ _ _ (within_is f.latency 0 LATENCY_LIMIT) (step _ _ _ _ _ _ (within_is f.retries 0 RETRY_LIMIT) (step _ _ _ _ _ _ (policy_is f.disc) (step _ _ _ _ _ _ (within_is f.seek 0 SEEK_LIMIT)
     (step _ _ _ _ _ _ (period_is f.period) (last _ _ _ _ _ (within_is f.offset 0 254) (refused_not 5 (has_device d.scenario (value f.device)) _ None refl))))))))
 lowest_added d (unit_line f) = refused_then (unit_def d.scenario f) _ _
-    (step _ _ _ _ _ _ (within_is f.target 0 7) (step _ _ _ _ _ _ (within_is f.unit 0 7) (step _ _ _ _ _ _ (within_is f.blocks 1 4294967296) (step _ _ _ _ _ _ (size_is f.size) (last _ _ _ _ _ (within_is f.depth 1 256)
+    (step _ _ _ _ _ _ (within_is f.target 0 7) (step _ _ _ _ _ _ (within_is f.unit 0 7) (step _ _ _ _ _ _ (within_is f.blocks 1 BLOCK_LIMIT) (step _ _ _ _ _ _ (size_is f.size) (last _ _ _ _ _ (within_is f.depth 1 DEPTH_LIMIT)
     (refused_not 5 (is_some (unit_of d.scenario (value f.target) (value f.unit))) _ _ (refused_guard 6 (has_target d.scenario (value f.target)) _ None refl)))))))
 lowest_added d (fill_line f) = refused_then (fill_def d.scenario f) _ _
     (step _ _ _ _ _ _ (within_is f.target 0 7) (step _ _ _ _ _ _ (within_is f.unit 0 7) (last _ _ _ _ _ (within_is f.lba 0 (2 ^ 64 - 1))
@@ -184,13 +185,13 @@ lowest_added d (fill_line f) = refused_then (fill_def d.scenario f) _ _
     (refused_found (unit_of d.scenario (value f.target) (value f.unit)) _ (λ o. is_block_in o (value f.lba) f.bytes) (λ u. refused_guard 7 (is_block_of u (value f.lba) f.bytes) _ None refl))))))
 lowest_added d (cmd_line c) = lowest_cmd d c
 lowest_added d (abort_line f) = refused_then (abort_def d.scenario f) _ _
-    (step _ _ _ _ _ _ (within_is f.host 0 7) (step _ _ _ _ _ _ (within_is f.target 0 7) (step _ _ _ _ _ _ (within_is f.unit 0 7) (step _ _ _ _ _ _ (within_is f.at 0 (10 ^ 12)) (last _ _ _ _ _ (what_is f.what)
+    (step _ _ _ _ _ _ (within_is f.host 0 7) (step _ _ _ _ _ _ (within_is f.target 0 7) (step _ _ _ _ _ _ (within_is f.unit 0 7) (step _ _ _ _ _ _ (within_is f.at 0 TIME_LIMIT) (last _ _ _ _ _ (what_is f.what)
     (refused_guard 6 (are_ends d.scenario (value f.host) (value f.target)) _ _ (refused_guard 8 (has_abort_room d.scenario) _ None refl)))))))
 lowest_added d (reset_line f) = refused_then (reset_def d.scenario f) _ _
-    (step _ _ _ _ _ _ (within_is f.device 0 7) (last _ _ _ _ _ (within_is f.at 0 (10 ^ 12))
+    (step _ _ _ _ _ _ (within_is f.device 0 7) (last _ _ _ _ _ (within_is f.at 0 TIME_LIMIT)
     (refused_guard 6 (has_device d.scenario (value f.device)) _ _ (refused_guard 8 (has_abort_room d.scenario) _ None refl))))
 lowest_added d (fault_line f) = refused_then (fault_def d.scenario f) _ _
-    (step _ _ _ _ _ _ (within_is f.at 0 (10 ^ 12)) (last _ _ _ _ _ (within_is f.bit 0 8) (refused_guard 8 (nat_lt (length d.scenario.faults) 64) _ None refl)))
+    (step _ _ _ _ _ _ (within_is f.at 0 TIME_LIMIT) (last _ _ _ _ _ (within_is f.bit 0 8) (refused_guard 8 (nat_lt (length d.scenario.faults) FAULT_LIMIT) _ None refl)))
 lowest_added d end_line = refl
 
 lowest_said : (d : Progress) (x : Said) → refused (said_after d x) ≡ reason_said d x

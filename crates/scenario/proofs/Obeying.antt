@@ -8,6 +8,7 @@ use Rattle.std.proofs.lemmas.Bool.Decides.{nat_tests}
 use Rattle.std.proofs.lemmas.List.{map-append, append-nil}
 use Rattle.std.proofs.lemmas.Grind.{flat_map-append}
 use Rattle.text_words.specs.Lines.{Line, lines_of, onto}
+use Rattle.scenario.specs.declared.bounds.TheConstants.{LIMIT, NEED_LIMIT, NEEDS_LIMIT}
 use Rattle.scenario.specs.declared.value.HostDef.{HostDef}
 use Rattle.scenario.specs.declared.value.TargetDef.{TargetDef}
 use Rattle.scenario.specs.declared.value.UnitDef.{UnitDef}
@@ -60,9 +61,9 @@ record AreEmpty (r : ℕ) (s : ScenarioValue) : Type 0 where
 
 -- The commands need what was counted, each and all within the limits.
 record HasNeeds (d : Progress) : Type 0 where
-  each : AllByRecursion (λ c. need_of d.scenario c ≤ 65536) d.scenario.commands
+  each : AllByRecursion (λ c. need_of d.scenario c ≤ NEED_LIMIT) d.scenario.commands
   total : d.needs ≡ sum_by (need_of d.scenario) d.scenario.commands
-  bound : d.needs ≤ 1048576
+  bound : d.needs ≤ NEEDS_LIMIT
 
 pub record IsLawful (d : Progress) : Type 0 where
   needs : HasNeeds d
@@ -294,13 +295,13 @@ all_snoc : (P : CmdDef → Type 0) (cs : List CmdDef) (c : CmdDef) → AllByRecu
 all_snoc P [] c h p = (p, tt)
 all_snoc P (x ∷ xs) c h p = (h.0, all_snoc P xs c h.1 p)
 
-room_ok : (s : ScenarioValue) (needs n : ℕ) → has_room s needs n ≡ true → (n ≤ 65536) × (needs + n ≤ 1048576)
+room_ok : (s : ScenarioValue) (needs n : ℕ) → has_room s needs n ≡ true → (n ≤ NEED_LIMIT) × (needs + n ≤ NEEDS_LIMIT)
 room_ok s needs n e = (grind (arith, nat_tests), grind (arith, nat_tests))
 
 -- While there are no commands, what is declared changes no need.
 no_needs : (d : Progress) (t : ScenarioValue) → t.commands ≡ [] → d.scenario.commands ≡ [] → HasNeeds d → HasNeeds (with_scenario d t)
 no_needs d t e f n = record {
-  each = subst (λ (cs : List CmdDef). AllByRecursion (λ c. need_of t c ≤ 65536) cs) (sym e) tt;
+  each = subst (λ (cs : List CmdDef). AllByRecursion (λ c. need_of t c ≤ NEED_LIMIT) cs) (sym e) tt;
   total = n.total ∙ (ap (sum_by (need_of d.scenario)) f ∙ sym (ap (sum_by (need_of t)) e));
   bound = n.bound;
 }
@@ -314,7 +315,7 @@ cmd_needs d def n e =
     let total = n.total in
     let one : sum_by (need_of d.scenario) (def ∷ []) ≡ need_of d.scenario def = omega arith in
     record {
-      each = all_snoc (λ c. need_of d.scenario c ≤ 65536) d.scenario.commands def n.each room.0;
+      each = all_snoc (λ c. need_of d.scenario c ≤ NEED_LIMIT) d.scenario.commands def n.each room.0;
       total = (λ i. total i + sym one i) ∙ sym sums;
       bound = room.1;
     }
@@ -453,8 +454,8 @@ record IsDone (s : ScenarioValue) (limit : ℕ) : Type 0 where
   can : AllByRecursion CanSay (saids s)
   version : IsVersion s.version
   size : length (text_of s) ≤ limit
-  each : AllByRecursion (λ c. need_of s c ≤ 65536) s.commands
-  all : sum_by (need_of s) s.commands ≤ 1048576
+  each : AllByRecursion (λ c. need_of s c ≤ NEED_LIMIT) s.commands
+  all : sum_by (need_of s) s.commands ≤ NEEDS_LIMIT
 
 done : (k : Kind) (v s : ScenarioValue) (needs n limit : ℕ) → IsLawful (record { scenario = v; last = k; needs = needs }) → length (flat_map said_line (saids_at k v)) ≤ limit
     → ◌≡◌ {A = Result ScenarioValue (ℕ × ℕ)} (cond (is_end k) (Ok v) (Err (n, 2))) (Ok s) → IsDone s limit
@@ -514,9 +515,9 @@ start = record { needs = record { each = tt; total = refl; bound = omega arith }
 
 pub read_obeys : (bytes : List ℕ) (s : ScenarioValue) → scenario_of bytes ≡ Ok s → Obeys s
 read_obeys bytes s e =
-    let p = limit_ok (ltb 4194304 (length bytes)) (read_from nothing 0 (lines_of bytes)) s e in
-    let short : length bytes ≤ 4194304 = ltb-false _ _ p.0 in
-    let d = reads (lines_of bytes) nothing 0 s 4194304 start (omega (arith, sizes_lines bytes)) p.1 in
+    let p = limit_ok (ltb LIMIT (length bytes)) (read_from nothing 0 (lines_of bytes)) s e in
+    let short : length bytes ≤ LIMIT = ltb-false _ _ p.0 in
+    let d = reads (lines_of bytes) nothing 0 s LIMIT start (omega (arith, sizes_lines bytes)) p.1 in
     let all : AllByRecursion CanSay (body_of s) = all_left CanSay (body_of s) (end_line ∷ []) (d.can).1 in
     let after_units : AllByRecursion CanSay (map said_fill s.fills ++ events_of s) = all_right CanSay (map said_unit s.units) _ (all_right CanSay (map (said_target s.version) s.targets) _ (all_right CanSay (map (said_host s.version) s.hosts) _ all)) in
     record {
@@ -532,14 +533,14 @@ answer_obeys bytes (Ok s) e = read_obeys bytes s e
 answer_obeys bytes (Err b) e = tt
 
 -- The lines of a scenario that obeys the rules are read.
-again : (s : ScenarioValue) → Obeys s → IsDone s 4194304
+again : (s : ScenarioValue) → Obeys s → IsDone s LIMIT
 again s h =
-    let p = limit_ok (ltb 4194304 (length (text_of s))) (read_from nothing 0 (lines_of (text_of s))) s (read_back s h) in
+    let p = limit_ok (ltb LIMIT (length (text_of s))) (read_from nothing 0 (lines_of (text_of s))) s (read_back s h) in
     let limit = h.limit in
-    reads (lines_of (text_of s)) nothing 0 s 4194304 start (omega (arith, sizes_lines (text_of s))) p.1
+    reads (lines_of (text_of s)) nothing 0 s LIMIT start (omega (arith, sizes_lines (text_of s))) p.1
 
-pub each_need : (s : ScenarioValue) → Obeys s → AllByRecursion (λ c. need_of s c ≤ 65536) s.commands
+pub each_need : (s : ScenarioValue) → Obeys s → AllByRecursion (λ c. need_of s c ≤ NEED_LIMIT) s.commands
 each_need s h = (again s h).each
 
-pub all_needs : (s : ScenarioValue) → Obeys s → sum_by (need_of s) s.commands ≤ 1048576
+pub all_needs : (s : ScenarioValue) → Obeys s → sum_by (need_of s) s.commands ≤ NEEDS_LIMIT
 all_needs s h = (again s h).all

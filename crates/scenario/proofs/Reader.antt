@@ -3,6 +3,7 @@ use Rattle.std.proofs.Common.{◌≡◌, ℕ, ◌+◌, ◌≤◌, ◌<◌, true,
 use Rattle.std.proofs.lemmas.Bool.{le-ltb}
 use Rattle.std.specs.Prelude.{◌==◌}
 use Rattle.std.proofs.lemmas.Bool.Decides.{nat_tests}
+use Rattle.scenario.specs.declared.bounds.TheConstants.{LIMIT}
 use Rattle.scenario.specs.Reading.{Progress as Draft}
 use Rattle.scenario.specs.declared.fault.Refusal.{Refusal}
 use Rattle.scenario.specs.declared.fault.Refusal.TheVariants as refusals
@@ -14,8 +15,8 @@ pub record IsReading (bytes : List ℕ) (draft : Draft) (n : ℕ) (rest : List �
   pub same : read_from draft n (lines_of rest) ≡ scenario_of bytes
   pub count : n + length rest ≤ length bytes
 
-pub begins : (bytes : List ℕ) → length bytes ≤ 4194304 → IsReading bytes nothing 0 bytes
-begins bytes short = record { same = rw (le-ltb 4194304 (length bytes) short) refl; count = omega arith }
+pub begins : (bytes : List ℕ) → length bytes ≤ LIMIT → IsReading bytes nothing 0 bytes
+begins bytes short = record { same = rw (le-ltb LIMIT (length bytes) short) refl; count = omega arith }
 
 pub goes_on : (bytes : List ℕ) (draft new : Draft) (n : ℕ) (rest : List ℕ) (line : Line) (more : List ℕ) → IsReading bytes draft n rest → lines_of rest ≡ line ∷ lines_of more → length more < length rest
     → line_after draft line ≡ Ok new → IsReading bytes new (n + 1) more

@@ -4,6 +4,7 @@ use Rattle.std.specs.Prelude.{nat_le, ◌==◌, ◌||◌}
 use Rattle.std.proofs.lemmas.Bool.Decides.{nat_tests}
 use Rattle.bus_base.specs.declared.events.AbortKind.{AbortKind}
 use Rattle.text_words.specs.Words.{Number}
+use Rattle.scenario.specs.declared.bounds.TheConstants.{BURST_LIMIT}
 use Rattle.scenario.specs.declared.value.Policy.{Policy}
 use Rattle.scenario.specs.declared.value.Tag.{Tag}
 use Rattle.scenario.specs.declared.form.PolicyForm.{PolicyForm}
@@ -71,12 +72,12 @@ unfolding policy_in
 read_policy policies.Never p e = subst (IsPolicyRead policies.Never) (ok_is _ p e) (record { same = refl; small = tt })
 read_policy policies.Command p e = subst (IsPolicyRead policies.Command) (ok_is _ p e) (record { same = refl; small = tt })
 read_policy (policies.Burst k) p e =
-    let a = bind_ok (within k 1 65536) _ p e in
-    let r = read_within k 1 65536 a.0 a.1 (omega arith) in
+    let a = bind_ok (within k 1 BURST_LIMIT) _ p e in
+    let r = read_within k 1 BURST_LIMIT a.0 a.1 (omega arith) in
     subst (IsPolicyRead (policies.Burst k)) (ok_is _ p a.2) (record { same = ap policies.Burst r.same; small = r.small })
 read_policy (policies.NoSave k) p e =
-    let a = bind_ok (within k 1 65536) _ p e in
-    let r = read_within k 1 65536 a.0 a.1 (omega arith) in
+    let a = bind_ok (within k 1 BURST_LIMIT) _ p e in
+    let r = read_within k 1 BURST_LIMIT a.0 a.1 (omega arith) in
     subst (IsPolicyRead (policies.NoSave k)) (ok_is _ p a.2) (record { same = ap policies.NoSave r.same; small = r.small })
 
 pub record IsTagRead (f : TagForm) (t : Tag) : Type 0 where

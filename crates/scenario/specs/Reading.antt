@@ -6,6 +6,7 @@ use Rattle.bus_base.specs.declared.events.AbortKind.TheVariants as kills
 use Rattle.cdb_codec.specs.Cdb.{group_len, is_len}
 use Rattle.text_words.specs.Words.{Number}
 use Rattle.text_words.specs.Lines.{Line, lines_of}
+use Rattle.scenario.specs.declared.bounds.TheConstants.{LIMIT, TIME_LIMIT, LATENCY_LIMIT, OPEN_LIMIT, RETRY_LIMIT, LAG_LIMIT, SEEK_LIMIT, BURST_LIMIT, BLOCK_LIMIT, DEPTH_LIMIT, COMMAND_LIMIT, NEED_LIMIT, NEEDS_LIMIT, ABORT_LIMIT, FAULT_LIMIT}
 use Rattle.scenario.specs.declared.value.HostDef.{HostDef}
 use Rattle.scenario.specs.declared.value.Policy.{Policy}
 use Rattle.scenario.specs.declared.value.Policy.TheVariants as policies
@@ -78,7 +79,7 @@ in_8 number = within number 0 7
 
 -- A time: up to 10^12 ns.
 abbrev pub time_in : Number → Result ℕ ℕ
-time_in number = within number 0 (10 ^ 12)
+time_in number = within number 0 TIME_LIMIT
 
 -- A transfer period factor: 0, or 25 to 255.
 unfoldable pub period_in : Number → Result ℕ ℕ
@@ -102,8 +103,8 @@ size_in number = do
 unfoldable pub policy_in : PolicyForm → Result Policy ℕ
 policy_in policy_forms.Never = Ok policies.Never
 policy_in policy_forms.Command = Ok policies.Command
-policy_in (policy_forms.Burst k) = within k 1 65536 >>= λ n. Ok (policies.Burst n)
-policy_in (policy_forms.NoSave k) = within k 1 65536 >>= λ n. Ok (policies.NoSave n)
+policy_in (policy_forms.Burst k) = within k 1 BURST_LIMIT >>= λ n. Ok (policies.Burst n)
+policy_in (policy_forms.NoSave k) = within k 1 BURST_LIMIT >>= λ n. Ok (policies.NoSave n)
 
 -- A tag: 0 to 255.
 unfoldable pub tag_in : TagForm → Result Tag ℕ
@@ -135,12 +136,12 @@ says otherwise (Some answer) = answer
 unfoldable pub host_def : ScenarioValue → HostForm → Result HostDef ℕ
 host_def s f = do
   dev ← in_8 f.device
-  latency ← within f.latency 0 100
-  most ← within f.«open» 1 32
-  retries ← within f.retries 0 16
+  latency ← within f.latency 0 LATENCY_LIMIT
+  most ← within f.«open» 1 OPEN_LIMIT
+  retries ← within f.retries 0 RETRY_LIMIT
   period ← period_in f.period
   offset ← within f.offset 0 255
-  lag ← within f.lag 0 10000
+  lag ← within f.lag 0 LAG_LIMIT
   new ← guard 5 (not (has_device s dev))
   Ok (record { dev = dev; latency = latency; most = most; retries = retries; period = period; offset = offset; lag = lag; offers = says true f.offers })
 
@@ -148,10 +149,10 @@ host_def s f = do
 unfoldable pub target_def : ScenarioValue → TargetForm → Result TargetDef ℕ
 target_def s f = do
   dev ← in_8 f.device
-  latency ← within f.latency 0 100
-  retries ← within f.retries 0 16
+  latency ← within f.latency 0 LATENCY_LIMIT
+  retries ← within f.retries 0 RETRY_LIMIT
   disc ← policy_in f.disc
-  seek ← within f.seek 0 1000000000
+  seek ← within f.seek 0 SEEK_LIMIT
   period ← period_in f.period
   offset ← within f.offset 0 254
   new ← guard 5 (not (has_device s dev))
@@ -162,9 +163,9 @@ unfoldable pub unit_def : ScenarioValue → UnitForm → Result UnitDef ℕ
 unit_def s f = do
   target ← in_8 f.target
   unit ← in_8 f.unit
-  blocks ← within f.blocks 1 4294967296
+  blocks ← within f.blocks 1 BLOCK_LIMIT
   size ← size_in f.size
-  depth ← within f.depth 1 256
+  depth ← within f.depth 1 DEPTH_LIMIT
   new ← guard 5 (not (is_some (unit_of s target unit)))
   known ← guard 6 (has_target s target)
   Ok (record { target = target; unit = unit; blocks = blocks; size = size; depth = depth })
@@ -219,7 +220,7 @@ is_payload n (payloads.From b) = nat_lt 0 n
 
 -- There is room for one command more, which needs n bytes, after some that need `needs` bytes.
 abbrev pub has_room : ScenarioValue → ℕ → ℕ → Bool
-has_room s needs n = nat_lt (length s.commands) 4096 && (nat_le n 65536 && nat_le (needs + n) 1048576)
+has_room s needs n = nat_lt (length s.commands) COMMAND_LIMIT && (nat_le n NEED_LIMIT && nat_le (needs + n) NEEDS_LIMIT)
 
 -- A command of which all is right; the commands before need `needs` bytes.
 unfoldable pub full_cmd_def : ScenarioValue → ℕ → CmdSaid → Result CmdDef ℕ
@@ -231,7 +232,7 @@ full_cmd_def s needs c = do
 
 -- There is room for an abort or a reset more.
 abbrev pub has_abort_room : ScenarioValue → Bool
-has_abort_room s = nat_lt (length s.aborts + length s.resets) 64
+has_abort_room s = nat_lt (length s.aborts + length s.resets) ABORT_LIMIT
 
 -- An abort message.
 unfoldable pub abort_def : ScenarioValue → AbortForm → Result AbortDef ℕ
@@ -259,7 +260,7 @@ unfoldable pub fault_def : ScenarioValue → FaultForm → Result FaultDef ℕ
 fault_def s f = do
   at ← time_in f.at
   bit ← within f.bit 0 8
-  room ← guard 8 (nat_lt (length s.faults) 64)
+  room ← guard 8 (nat_lt (length s.faults) FAULT_LIMIT)
   Ok (record { at = at; bit = bit })
 
 -- ---- The order of kinds.
@@ -393,7 +394,7 @@ nothing = record { scenario = nothing_said; last = kinds.Nothing; needs = 0 }
 -- The scenario that a text says, or the first line with a reason and its lowest reason; line 0 and
 -- reason 9 where it has more than 4,194,304 bytes.
 abbrev pub scenario_of : List ℕ → Result ScenarioValue (ℕ × ℕ)
-scenario_of bytes = if nat_lt 4194304 (length bytes) then Err (0, 9) else read_from nothing 0 (lines_of bytes)
+scenario_of bytes = if nat_lt LIMIT (length bytes) then Err (0, 9) else read_from nothing 0 (lines_of bytes)
 
 -- What the program read is this; want of memory is free.
 abbrev pub Answers : Result ScenarioValue Bad → Result ScenarioValue (ℕ × ℕ) → Type 0

@@ -3,6 +3,7 @@ use Rattle.std.specs.Prelude.{ℕ, ◌-◌, ◌^◌, Bool, true, false, not, ◌
 use Rattle.std.specs.List.{list_all}
 use Rattle.text_words.specs.Words.{Number}
 use Rattle.text_words.specs.Lines.{Line}
+use Rattle.scenario.specs.declared.bounds.TheConstants.{TIME_LIMIT, LATENCY_LIMIT, OPEN_LIMIT, RETRY_LIMIT, LAG_LIMIT, SEEK_LIMIT, BURST_LIMIT, BLOCK_LIMIT, DEPTH_LIMIT, FAULT_LIMIT}
 use Rattle.scenario.specs.declared.value.Tag.{Tag}
 use Rattle.scenario.specs.declared.value.Tag.TheVariants as tags
 use Rattle.scenario.specs.declared.value.UnitDef.{UnitDef}
@@ -35,7 +36,7 @@ is_device number = is_in number 0 7
 
 -- A time.
 abbrev pub is_time : Number → Bool
-is_time number = is_in number 0 (10 ^ 12)
+is_time number = is_in number 0 TIME_LIMIT
 
 -- A transfer period factor.
 abbrev pub is_period : Number → Bool
@@ -49,8 +50,8 @@ is_block_size number = is_in number 16 2048 && is_size (value number)
 abbrev pub is_policy : PolicyForm → Bool
 is_policy policies.Never = true
 is_policy policies.Command = true
-is_policy (policies.Burst k) = is_in k 1 65536
-is_policy (policies.NoSave k) = is_in k 1 65536
+is_policy (policies.Burst k) = is_in k 1 BURST_LIMIT
+is_policy (policies.NoSave k) = is_in k 1 BURST_LIMIT
 
 -- A tag.
 abbrev pub is_tag : TagForm → Bool
@@ -84,9 +85,9 @@ breaks_order d x = not (in_order (rank d.last) (rank (kind_of x)))
 -- All numbers of the line are within their limits.
 abbrev pub keeps_limits : Said → Bool
 keeps_limits (scsi_line v) = true
-keeps_limits (initiator_line f) = is_device f.device && (is_in f.latency 0 100 && (is_in f.«open» 1 32 && (is_in f.retries 0 16 && (is_period f.period && (is_in f.offset 0 255 && is_in f.lag 0 10000)))))
-keeps_limits (target_line f) = is_device f.device && (is_in f.latency 0 100 && (is_in f.retries 0 16 && (is_policy f.disc && (is_in f.seek 0 1000000000 && (is_period f.period && is_in f.offset 0 254)))))
-keeps_limits (unit_line f) = is_device f.target && (is_device f.unit && (is_in f.blocks 1 4294967296 && (is_block_size f.size && is_in f.depth 1 256)))
+keeps_limits (initiator_line f) = is_device f.device && (is_in f.latency 0 LATENCY_LIMIT && (is_in f.«open» 1 OPEN_LIMIT && (is_in f.retries 0 RETRY_LIMIT && (is_period f.period && (is_in f.offset 0 255 && is_in f.lag 0 LAG_LIMIT)))))
+keeps_limits (target_line f) = is_device f.device && (is_in f.latency 0 LATENCY_LIMIT && (is_in f.retries 0 RETRY_LIMIT && (is_policy f.disc && (is_in f.seek 0 SEEK_LIMIT && (is_period f.period && is_in f.offset 0 254)))))
+keeps_limits (unit_line f) = is_device f.target && (is_device f.unit && (is_in f.blocks 1 BLOCK_LIMIT && (is_block_size f.size && is_in f.depth 1 DEPTH_LIMIT)))
 keeps_limits (fill_line f) = is_device f.target && (is_device f.unit && is_in f.lba 0 (2 ^ 64 - 1))
 keeps_limits (cmd_line c) = is_device c.host && (is_device c.target && (is_device c.unit && (is_time c.at && (is_tag c.tag && is_block c.cdb))))
 keeps_limits (abort_line f) = is_device f.host && (is_device f.target && (is_device f.unit && (is_time f.at && is_what f.what)))
@@ -150,7 +151,7 @@ abbrev pub is_too_much : Progress → Said → Bool
 is_too_much d (cmd_line c) = not (has_room d.scenario d.needs (need_of d.scenario (cmd_value c)))
 is_too_much d (abort_line f) = not (has_abort_room d.scenario)
 is_too_much d (reset_line f) = not (has_abort_room d.scenario)
-is_too_much d (fault_line f) = not (nat_lt (length d.scenario.faults) 64)
+is_too_much d (fault_line f) = not (nat_lt (length d.scenario.faults) FAULT_LIMIT)
 is_too_much d (scsi_line v) = false
 is_too_much d (initiator_line f) = false
 is_too_much d (target_line f) = false

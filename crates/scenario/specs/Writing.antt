@@ -7,6 +7,7 @@ use Rattle.bus_base.specs.declared.events.AbortKind.{AbortKind}
 use Rattle.bus_base.specs.declared.events.AbortKind.TheVariants as kills
 use Rattle.text_words.specs.Words.{Number}
 use Rattle.text_words.specs.Spelling.{byte_text, hex_text, number_text, AreBytes}
+use Rattle.scenario.specs.declared.bounds.TheConstants.{LIMIT}
 use Rattle.scenario.specs.declared.value.HostDef.{HostDef}
 use Rattle.scenario.specs.declared.value.Policy.{Policy}
 use Rattle.scenario.specs.declared.value.Policy.TheVariants as policies
@@ -273,4 +274,4 @@ pub record Obeys (s : ScenarioValue) : Type 0 where
   pub lawful : tells (built nothing (saids s)) ≡ Ok s
   pub fills : AllByRecursion (λ f. IsHex f.bytes) s.fills
   pub commands : AllByRecursion (λ c. IsHex c.cdb × IsHexPayload c.payload) s.commands
-  pub limit : length (text_of s) ≤ 4194304
+  pub limit : length (text_of s) ≤ LIMIT

@@ -3,10 +3,15 @@ ghost use Rattle.std.specs.Prelude.{◌≡◌, ◌≤◌, ◌<◌, ◌-◌, ◌+
 ghost use Rattle.scenario.specs.Forms.{fill_said, cmd_said};
 ghost use Rattle.scenario.specs.Parts.{payload_said};
 ghost use Rattle.scenario.specs.Needs.{need_of};
+ghost use Rattle.scenario.specs.declared.bounds.TheConstants.{NEEDS_LIMIT};
 ghost use Rattle.scenario.specs.Lookups.{has_device, unit_of};
 ghost use Rattle.scenario.specs.Index.{IsIndexOf};
 ghost use Rattle.scenario.specs.Reading.{Gives, host_def, target_def, unit_def, found, is_block_of, fill_def, are_ends, payload_of, cmd_def, full_cmd_def, has_abort_room, abort_def, reset_def, fault_def};
 
+use crate::bounds::{
+    ABORT_LIMIT, BLOCK_LIMIT, DEPTH_LIMIT, FAULT_LIMIT, LAG_LIMIT, LATENCY_LIMIT, OPEN_LIMIT,
+    RETRY_LIMIT, SEEK_LIMIT,
+};
 use crate::fault::Refusal;
 use crate::form::{
     AbortForm, CmdForm, FaultForm, FillForm, HostForm, PayloadForm, ResetForm, TargetForm, UnitForm,
@@ -37,12 +42,12 @@ pub(crate) fn host_def(scenario: &Scenario, form: HostForm) -> Result<HostDef, R
     ensures { Gives (λ def. def) result (host_def scenario.now form) }
 {
     let dev = in_8(form.device)?;
-    let latency = small(form.latency, 0, 100)?;
-    let most = small(form.open, 1, 32)?;
-    let retries = small(form.retries, 0, 16)?;
+    let latency = small(form.latency, 0, LATENCY_LIMIT)?;
+    let most = small(form.open, 1, OPEN_LIMIT)?;
+    let retries = small(form.retries, 0, RETRY_LIMIT)?;
     let period = period_in(form.period)?;
     let offset = byte(form.offset, 255)?;
-    let lag = small(form.lag, 0, 10_000)?;
+    let lag = small(form.lag, 0, LAG_LIMIT)?;
     require(5, !has_device(scenario, dev))?;
     Ok(HostDef {
         dev,
@@ -62,10 +67,10 @@ pub(crate) fn target_def(scenario: &Scenario, form: TargetForm) -> Result<Target
     ensures { Gives (λ def. def) result (target_def scenario.now form) }
 {
     let dev = in_8(form.device)?;
-    let latency = small(form.latency, 0, 100)?;
-    let retries = small(form.retries, 0, 16)?;
+    let latency = small(form.latency, 0, LATENCY_LIMIT)?;
+    let retries = small(form.retries, 0, RETRY_LIMIT)?;
     let disc = policy_in(form.disc)?;
-    let seek = small(form.seek, 0, 1_000_000_000)?;
+    let seek = small(form.seek, 0, SEEK_LIMIT)?;
     let period = period_in(form.period)?;
     let offset = byte(form.offset, 254)?;
     require(5, !has_device(scenario, dev))?;
@@ -89,9 +94,9 @@ pub(crate) fn unit_def(scenario: &Scenario, form: UnitForm) -> Result<UnitDef, R
 {
     let target = in_8(form.target)?;
     let unit = in_8(form.unit)?;
-    let blocks = within(form.blocks, 1, 4_294_967_296)?;
+    let blocks = within(form.blocks, 1, BLOCK_LIMIT)?;
     let size = size_in(form.size)?;
-    let depth = small(form.depth, 1, 256)?;
+    let depth = small(form.depth, 1, DEPTH_LIMIT)?;
     require(5, scenario.unit(target, unit).is_none())?;
     require(6, scenario.has_target(target))?;
     Ok(UnitDef {
@@ -199,7 +204,7 @@ pub(crate) fn full_cmd_def(
     form: CmdForm<'_>,
 ) -> Result<CmdDef, Refusal>
     ensures exact { Gives (λ def. def) result (full_cmd_def scenario.now needs (cmd_said form.entry)) }
-    ensures room { IfOk result (λ def. needs + need_of scenario.now def ≤ 1048576) }
+    ensures room { IfOk result (λ def. needs + need_of scenario.now def ≤ NEEDS_LIMIT) }
 {
     let def = cmd_def(alloc, scenario, form)?;
     require(7, is_payload(sent_of(scenario, &def), &def.payload))?;
@@ -211,7 +216,7 @@ fn has_abort_room(scenario: &Scenario) -> bool
     ensures { result ≡ has_abort_room scenario.now }
 {
     let aborts = scenario.aborts.len();
-    aborts < 64 && scenario.resets.len() < 64 - aborts
+    aborts < ABORT_LIMIT && scenario.resets.len() < ABORT_LIMIT - aborts
 }
 
 /// An abort message.
@@ -254,6 +259,6 @@ pub(crate) fn fault_def(scenario: &Scenario, form: FaultForm) -> Result<FaultDef
 {
     let at = time_in(form.at)?;
     let bit = byte(form.bit, 8)?;
-    require(8, scenario.faults.len() < 64)?;
+    require(8, scenario.faults.len() < FAULT_LIMIT)?;
     Ok(FaultDef { at, bit })
 }

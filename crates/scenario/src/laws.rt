@@ -1,6 +1,7 @@
 //! Laws of the texts.
 ghost use Rattle.std.specs.Prelude.{◌≡◌, ◌≤◌, Ok};
 ghost use Rattle.std.specs.List.{AllByRecursion, sum_by};
+ghost use Rattle.scenario.specs.declared.bounds.TheConstants.{NEED_LIMIT, NEEDS_LIMIT};
 ghost use Rattle.scenario.specs.Needs.{need_of};
 ghost use Rattle.scenario.specs.Value.{ScenarioValue};
 ghost use Rattle.text_words.specs.Lines.{Line};
@@ -21,6 +22,6 @@ pub fn tells_lowest()
 /// The commands of a scenario that obeys the rules need at most 65,536 bytes each, and 1,048,576 in
 /// all.
 pub fn needs_are_bounded()
-    ensures each { (s : ScenarioValue) → Obeys s → AllByRecursion (λ c. need_of s c ≤ 65536) s.commands }
-    ensures all { (s : ScenarioValue) → Obeys s → sum_by (need_of s) s.commands ≤ 1048576 }
+    ensures each { (s : ScenarioValue) → Obeys s → AllByRecursion (λ c. need_of s c ≤ NEED_LIMIT) s.commands }
+    ensures all { (s : ScenarioValue) → Obeys s → sum_by (need_of s) s.commands ≤ NEEDS_LIMIT }
 {}

@@ -14,6 +14,7 @@
 //! rules).
 #![tactic(auto)]
 
+mod bounds;
 mod defs;
 mod draft;
 mod fault;
@@ -27,11 +28,12 @@ mod reading;
 mod value;
 mod writing;
 
+pub use bounds::LIMIT;
 pub use bus_base::{AbortKind, NoMemory, Octets, Pick};
 pub use fault::Bad;
 pub use laws::{needs_are_bounded, reads_back, tells_lowest};
 pub use needs::need;
-pub use reading::{LIMIT, read};
+pub use reading::read;
 pub use value::{
     AbortDef, CmdDef, FaultDef, FillDef, HostDef, Payload, Policy, ResetDef, Scenario, Tag,
     TargetDef, UnitDef,

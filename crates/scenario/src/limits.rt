@@ -4,6 +4,7 @@ ghost use Rattle.text_words.specs.Words.{bytes_of};
 ghost use Rattle.std.specs.List.{list_all};
 ghost use Rattle.scenario.specs.Reading.{Gives, Refuses, guard, within, in_8, time_in, period_in, is_size, size_in, policy_in, tag_in, what_in, is_block, says, is_printable, is_skipped};
 
+use crate::bounds::{BURST_LIMIT, TIME_LIMIT};
 use crate::fault::Refusal;
 use crate::form::{PolicyForm, TagForm, WhatForm};
 use crate::value::{Policy, Tag};
@@ -62,7 +63,7 @@ pub(crate) fn byte(number: Number, most: u8) -> Result<u8, Refusal>
 pub(crate) fn time_in(number: Number) -> Result<u64, Refusal>
     ensures { Gives (λ n. n) result (time_in number) }
 {
-    within(number, 0, 1_000_000_000_000)
+    within(number, 0, TIME_LIMIT)
 }
 
 /// A transfer period factor.
@@ -100,11 +101,11 @@ pub(crate) fn policy_in(form: PolicyForm) -> Result<Policy, Refusal>
         PolicyForm::Never => Ok(Policy::Never),
         PolicyForm::Command => Ok(Policy::Command),
         PolicyForm::Burst(k) => {
-            let n = small(k, 1, 65_536)?;
+            let n = small(k, 1, BURST_LIMIT)?;
             Ok(Policy::Burst(n))
         }
         PolicyForm::NoSave(k) => {
-            let n = small(k, 1, 65_536)?;
+            let n = small(k, 1, BURST_LIMIT)?;
             Ok(Policy::NoSave(n))
         }
     }

@@ -3,6 +3,7 @@ ghost use Rattle.std.specs.Prelude.{◌≡◌, ◌-◌, ◌^◌, min, length};
 ghost use Rattle.scenario.specs.Needs.{block_bytes, capacity_len, moved, moved_by, need_of, is_write, sent_of};
 ghost use Rattle.scenario.specs.Reading.{is_payload, has_room};
 
+use crate::bounds::{COMMAND_LIMIT, NEED_LIMIT, NEEDS_LIMIT};
 use crate::value::{CmdDef, Payload, Scenario, UnitDef};
 use cdb_codec::{CdbFault, Command, blocks_moved, from_cdb};
 
@@ -104,7 +105,9 @@ pub(crate) fn is_payload(len: u64, payload: &Payload) -> bool
 pub(crate) fn has_room(scenario: &Scenario, needs: u32, need: u64) -> bool
     ensures { result ≡ has_room scenario.now needs need }
 {
-    scenario.commands.len() < 4096 && need <= 65_536 && u64::from(needs) + need <= 1_048_576
+    scenario.commands.len() < COMMAND_LIMIT
+        && need <= NEED_LIMIT
+        && u64::from(needs) + need <= NEEDS_LIMIT
 }
 
 /// How many bytes a command of the scenario needs: those that its block moves. It is none where the

@@ -3,15 +3,13 @@ ghost use Rattle.std.specs.Prelude.{◌≡◌, IfOk};
 ghost use Rattle.scenario.specs.Writing.{Obeys};
 ghost use Rattle.scenario.specs.Reading.{scenario_of, told, Answers};
 
+use crate::bounds::LIMIT;
 use crate::draft::Draft;
 use crate::fault::{Bad, Refusal};
 use crate::kind::is_end;
 use crate::value::Scenario;
 use std::alloc::Global;
 use text_words::first_line;
-
-/// The longest text, in bytes.
-pub const LIMIT: usize = 4_194_304;
 
 fn told(refusal: Refusal, line: u32) -> Bad
     ensures { result ≡ told refusal line }

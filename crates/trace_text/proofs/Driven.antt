@@ -1,13 +1,9 @@
 -- Five bytes that are no lines.
 use Rattle.std.proofs.Common.{◌≡◌, ℕ, ◌<◌, Bool, true, false, ◌&&◌, ltb, [], ◌∷◌, None, refl, arith}
-use Rattle.std.proofs.lemmas.Bool.{ltb-true}
+use Rattle.std.proofs.lemmas.Bool.{ltb-true, and_parts}
 use Rattle.std.proofs.lemmas.Bool.Decides.{nat_tests}
 use Rattle.text_words.specs.Words.{is_hex, hex_value, hex_or_16}
 use Rattle.trace_text.specs.Lines.{value_of, kind_at}
-
-pub both : (x y : Bool) → (x && y) ≡ true → (x ≡ true) × (y ≡ true)
-both true y e = (refl, e)
-both false y e = absurd cc
 
 value_low : (b : ℕ) → hex_value b < 16
 value_low b = grind (arith, nat_tests)
@@ -20,11 +16,11 @@ AreLines a b c d e = (hex_or_16 a < 4) × (hex_or_16 b < 16) × (hex_or_16 c < 1
 
 are_lines : (a b c d e : ℕ) → (((((is_hex a && is_hex b) && is_hex c) && is_hex d) && is_hex e) && ltb (value_of a b c d e) 0x40000) ≡ true → AreLines a b c d e
 are_lines a b c d e t =
-    let all = both ((((is_hex a && is_hex b) && is_hex c) && is_hex d) && is_hex e) (ltb (value_of a b c d e) 0x40000) t in
-    let four = both (((is_hex a && is_hex b) && is_hex c) && is_hex d) (is_hex e) all.0 in
-    let three = both ((is_hex a && is_hex b) && is_hex c) (is_hex d) four.0 in
-    let two = both (is_hex a && is_hex b) (is_hex c) three.0 in
-    let one = both (is_hex a) (is_hex b) two.0 in
+    let all = and_parts ((((is_hex a && is_hex b) && is_hex c) && is_hex d) && is_hex e) (ltb (value_of a b c d e) 0x40000) t in
+    let four = and_parts (((is_hex a && is_hex b) && is_hex c) && is_hex d) (is_hex e) all.0 in
+    let three = and_parts ((is_hex a && is_hex b) && is_hex c) (is_hex d) four.0 in
+    let two = and_parts (is_hex a && is_hex b) (is_hex c) three.0 in
+    let one = and_parts (is_hex a) (is_hex b) two.0 in
     let low : value_of a b c d e < 0x40000 = ltb-true _ _ all.1 in
     let va = digit_low a one.0 in
     let vb = digit_low b one.1 in

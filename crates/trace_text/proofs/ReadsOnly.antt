@@ -6,6 +6,7 @@ use Rattle.std.proofs.lemmas.Bool.Decides.{nat_tests}
 use Rattle.std.proofs.lemmas.List.{reverse-append}
 use Rattle.text_words.specs.Words.{after, number_at, digit_at, is_hex, is_whole}
 use Rattle.text_words.proofs.Only.{bind_some, cond_some, digit_only}
+use Rattle.trace_text.specs.declared.limit.TheConstants.{LIMIT as TRACE_LIMIT}
 use Rattle.bus_lines.specs.LineSet.{set_of}
 use Rattle.bus_lines.specs.OfTrace.{IsKind, IsRow}
 use Rattle.bus_lines.specs.declared.Kind.{Kind}
@@ -171,7 +172,7 @@ not_long false whole rows end e = e
 pub trace_only : (bytes : List ℕ) (rows : List Row) (end : ℕ) → trace_of bytes ≡ Ok (rows, end) → AllByRecursion IsTraceRow rows × (end < 2 ^ 63)
 trace_only bytes rows end e =
     let newest : List ℕ = reverse bytes in
-    let whole : read_whole (reverse bytes) ≡ Ok (rows, end) = not_long (nat_lt 1073741824 (length bytes)) (read_whole (reverse bytes)) rows end e in
+    let whole : read_whole (reverse bytes) ≡ Ok (rows, end) = not_long (nat_lt TRACE_LIMIT (length bytes)) (read_whole (reverse bytes)) rows end e in
     let says = with_only (reverse (rows_of newest)) (end_of newest) rows end whole in
     let all : AllByRecursion IsTraceRow (reverse (rows_of newest)) = all_reverse IsTraceRow (rows_of newest) (rows_fit newest) in
     (subst (AllByRecursion IsTraceRow) says.all all, end_fits (state_of (cut_of newest).lines) (cut_of newest).rest end (state_fits (cut_of newest).lines) says.last)

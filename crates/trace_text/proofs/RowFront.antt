@@ -2,7 +2,7 @@
 use Rattle.std.proofs.Common.{◌≡◌, ℕ, ◌+◌, ◌-◌, ◌^◌, ◌<◌, ◌≤◌, true, ◌&&◌, List, [], ◌∷◌, ◌++◌, length, get_or, take, drop, take_all, Some, refl, sym, ap, ◌∙◌, arith, append_assoc}
 use Rattle.std.specs.Prelude.{nat_lt, codes, decimal}
 use Rattle.std.specs.List.{prefix_len, list_all}
-use Rattle.std.proofs.lemmas.Bool.{lt-ltb}
+use Rattle.std.proofs.lemmas.Bool.{lt-ltb, and_parts}
 use Rattle.std.proofs.lemmas.Bool.Decides.{nat_tests}
 use Rattle.std.proofs.lemmas.List.{length-append, length-drop, length-take, take_at}
 use Rattle.std.proofs.lemmas.List.Folds.{list_all-append}
@@ -16,7 +16,6 @@ use Rattle.bus_lines.specs.declared.Row.{Row}
 use Rattle.trace_text.specs.Lines.{below, value_of, kind_at, row_at}
 use Rattle.trace_text.specs.Pieces.{is_inner, text_of, StartsWithRow}
 use Rattle.trace_text.proofs.Short.{below_is}
-use Rattle.trace_text.proofs.Driven.{both}
 use Rattle.trace_text.proofs.RowAgain.{decimal_inner, digit_inner}
 use Rattle.trace_text.proofs.Pieces.{line_len_fed}
 
@@ -55,11 +54,11 @@ end_is ys kind h = spread ys h.nine ∙ (λ i. (h.first i ∷ get_or ys 1 0 ∷ 
 five_inner : (a b c d e : ℕ) (kind : Kind) → kind_at (a ∷ b ∷ c ∷ d ∷ e ∷ []) ≡ Some kind → list_all is_inner (a ∷ b ∷ c ∷ d ∷ e ∷ []) ≡ true
 five_inner a b c d e kind is =
     let p = cond_some (((((is_hex a && is_hex b) && is_hex c) && is_hex d) && is_hex e) && nat_lt (value_of a b c d e) 0x40000) (Drives (set_of (value_of a b c d e))) kind is in
-    let all = both ((((is_hex a && is_hex b) && is_hex c) && is_hex d) && is_hex e) (nat_lt (value_of a b c d e) 0x40000) p.0 in
-    let four = both (((is_hex a && is_hex b) && is_hex c) && is_hex d) (is_hex e) all.0 in
-    let three = both ((is_hex a && is_hex b) && is_hex c) (is_hex d) four.0 in
-    let two = both (is_hex a && is_hex b) (is_hex c) three.0 in
-    let one = both (is_hex a) (is_hex b) two.0 in
+    let all = and_parts ((((is_hex a && is_hex b) && is_hex c) && is_hex d) && is_hex e) (nat_lt (value_of a b c d e) 0x40000) p.0 in
+    let four = and_parts (((is_hex a && is_hex b) && is_hex c) && is_hex d) (is_hex e) all.0 in
+    let three = and_parts ((is_hex a && is_hex b) && is_hex c) (is_hex d) four.0 in
+    let two = and_parts (is_hex a && is_hex b) (is_hex c) three.0 in
+    let one = and_parts (is_hex a) (is_hex b) two.0 in
     rw (digit_inner a one.0, digit_inner b one.1, digit_inner c two.1, digit_inner d three.1, digit_inner e four.1) refl
 
 end_inner : (ys : List ℕ) (kind : Kind) → IsRowEnd ys kind → list_all is_inner (end_of_row ys) ≡ true

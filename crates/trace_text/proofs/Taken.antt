@@ -3,6 +3,7 @@ use Rattle.std.proofs.Common.{◌≡◌, ℕ, ◌+◌, ◌^◌, ◌<◌, ◌≤�
 use Rattle.std.specs.List.{prefix_len}
 use Rattle.std.proofs.lemmas.Bool.{cases_lt}
 use Rattle.std.proofs.lemmas.List.{length-take, take-append-le}
+use Rattle.trace_text.specs.declared.limit.TheConstants.{LIMIT as TRACE_LIMIT}
 use Rattle.bus_lines.specs.declared.Row.{Row}
 use Rattle.trace_text.specs.declared.stages.Stage.TheVariants as stages
 use Rattle.trace_text.specs.declared.stages.State.{State}
@@ -32,7 +33,7 @@ reader line state = record { line = line; state = state }
 abbrev pub EndsLine : TraceReader → List ℕ → State × Told → Type 0
 EndsLine r text p = count_of r.state + 1 < 2 ^ 32 → p ≡ stepped r.state (take 28 (r.line ++ text))
 
-line_is : (r : TraceReader) (text bytes : List ℕ) (p : State × Told) → EndsLine r text p → IsReaderOf bytes r → length bytes ≤ 2 ^ 30 → p ≡ stepped (state_of (cut_of bytes).lines) ((cut_of bytes).rest ++ text)
+line_is : (r : TraceReader) (text bytes : List ℕ) (p : State × Told) → EndsLine r text p → IsReaderOf bytes r → length bytes ≤ TRACE_LIMIT → p ≡ stepped (state_of (cut_of bytes).lines) ((cut_of bytes).rest ++ text)
 line_is r text bytes p ends h few =
     let count = count_bytes bytes r h in
     ends (omega arith)
@@ -43,7 +44,7 @@ line_is r text bytes p ends h few =
 -- ---- a piece with a line feed
 
 pub fed_kept : (r : TraceReader) (piece line : List ℕ) (p : State × Told) (len : ℕ) → len ≡ line_len piece → prefix_len is_inner piece < length piece → EndsLine r (text_of piece) p → line ≡ []
-    → (bytes : List ℕ) → IsReaderOf bytes r → length bytes + length piece ≤ 2 ^ 30 → IsReaderOf (reverse (take len piece) ++ bytes) (reader line p.0)
+    → (bytes : List ℕ) → IsReaderOf bytes r → length bytes + length piece ≤ TRACE_LIMIT → IsReaderOf (reverse (take len piece) ++ bytes) (reader line p.0)
 fed_kept r piece line p len len-is fed ends empty bytes h few =
     let cut = ap (λ (n : ℕ). cut_of (reverse (take n piece) ++ bytes)) len-is ∙ cut_line piece bytes fed in
     record {
@@ -52,7 +53,7 @@ fed_kept r piece line p len len-is fed ends empty bytes h few =
     }
 
 pub fed_told : (r : TraceReader) (piece : List ℕ) (p : State × Told) → prefix_len is_inner piece < length piece → EndsLine r (text_of piece) p
-    → (bytes : List ℕ) → IsReaderOf bytes r → length bytes + length piece ≤ 2 ^ 30 → p.1 ≡ told_of bytes piece
+    → (bytes : List ℕ) → IsReaderOf bytes r → length bytes + length piece ≤ TRACE_LIMIT → p.1 ≡ told_of bytes piece
 fed_told r piece p fed ends bytes h few = ap (λ (x : State × Told). x.1) (line_is r (text_of piece) bytes p ends h (omega arith)) ∙ sym (told_line piece bytes fed)
 
 -- ---- a piece with none
@@ -84,11 +85,11 @@ row_ends old new piece row len h count =
     ((λ i. (h.after few i, tolds.RowRead row)) ∙ sym (ap (moved (h.count + 1)) told) ∙ ap (λ (s : State). stepped s (text_of piece)) (sym h.before))
 
 pub row_kept : (old new : TraceReader) (piece : List ℕ) (row : Row) (len : ℕ) → IsRowTaken old new piece row len
-    → (bytes : List ℕ) → IsReaderOf bytes old → length bytes + length piece ≤ 2 ^ 30 → IsReaderOf (reverse (take len piece) ++ bytes) new
+    → (bytes : List ℕ) → IsReaderOf bytes old → length bytes + length piece ≤ TRACE_LIMIT → IsReaderOf (reverse (take len piece) ++ bytes) new
 row_kept old new piece row len h = fed_kept old piece new.line (new.state, tolds.RowRead row) len h.starts.whole h.starts.ended (row_ends old new piece row len h) h.line
 
 pub row_said : (old new : TraceReader) (piece : List ℕ) (row : Row) (len : ℕ) → IsRowTaken old new piece row len
-    → (bytes : List ℕ) → IsReaderOf bytes old → length bytes + length piece ≤ 2 ^ 30 → tolds.RowRead row ≡ told_of bytes piece
+    → (bytes : List ℕ) → IsReaderOf bytes old → length bytes + length piece ≤ TRACE_LIMIT → tolds.RowRead row ≡ told_of bytes piece
 row_said old new piece row len h = fed_told old piece (new.state, tolds.RowRead row) h.starts.ended (row_ends old new piece row len h)
 
 -- ---- the rows so far

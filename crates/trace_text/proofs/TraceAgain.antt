@@ -4,6 +4,7 @@ use Rattle.std.specs.Prelude.{◌==◌, codes, decimal}
 use Rattle.std.specs.List.{list_all, AllByRecursion}
 use Rattle.std.proofs.lemmas.Bool.{le-ltb}
 use Rattle.std.proofs.lemmas.List.{append-nil, reverse-append, reverse-reverse}
+use Rattle.trace_text.specs.declared.limit.TheConstants.{LIMIT as TRACE_LIMIT}
 use Rattle.bus_lines.specs.declared.Row.{Row}
 use Rattle.bus_engine.specs.Value.{RunValue}
 use Rattle.trace_text.specs.declared.stages.Stage.{Stage}
@@ -147,24 +148,24 @@ history_on end told rest bytes h =
 
 -- ---- whole texts
 
-says_all : (rows : List Row) (end : ℕ) (text : List ℕ) → length text ≤ 1073741824 → rows_of (onto [] text) ≡ reverse rows → end_of (onto [] text) ≡ Ok end → trace_of text ≡ Ok (rows, end)
+says_all : (rows : List Row) (end : ℕ) (text : List ℕ) → length text ≤ TRACE_LIMIT → rows_of (onto [] text) ≡ reverse rows → end_of (onto [] text) ≡ Ok end → trace_of text ≡ Ok (rows, end)
 says_all rows end text few told ends =
     let newest : onto [] text ≡ reverse text = onto_none text in
     let all : reverse (rows_of (reverse text)) ≡ rows = ap (λ (l : List ℕ). reverse (rows_of l)) (sym newest) ∙ (ap reverse told ∙ reverse-reverse rows) in
     let last : end_of (reverse text) ≡ Ok end = ap end_of (sym newest) ∙ ends in
-    rw (le-ltb 1073741824 (length text) few) (λ i. with_rows (all i) (last i))
+    rw (le-ltb TRACE_LIMIT (length text) few) (λ i. with_rows (all i) (last i))
 
-pub trace_again : (rows : List Row) (end : ℕ) → AllByRecursion IsTraceRow rows → end < 2 ^ 63 → length (trace_text rows end) ≤ 1073741824 → trace_of (trace_text rows end) ≡ Ok (rows, end)
+pub trace_again : (rows : List Row) (end : ℕ) → AllByRecursion IsTraceRow rows → end < 2 ^ 63 → length (trace_text rows end) ≤ TRACE_LIMIT → trace_of (trace_text rows end) ≡ Ok (rows, end)
 trace_again rows end fit lt few =
     let at = trace_on rows end fit lt in
     says_all rows end (trace_text rows end) few at.rows (λ i. end_told (at.state i) (at.rest i))
 
-pub followed_again : (rows : List Row) (end : ℕ) (rest : List ℕ) → AllByRecursion IsTraceRow rows → end < 2 ^ 63 → length (trace_text rows end ++ (codes "history\n" ++ rest)) ≤ 1073741824 → trace_of (trace_text rows end ++ (codes "history\n" ++ rest)) ≡ Ok (rows, end)
+pub followed_again : (rows : List Row) (end : ℕ) (rest : List ℕ) → AllByRecursion IsTraceRow rows → end < 2 ^ 63 → length (trace_text rows end ++ (codes "history\n" ++ rest)) ≤ TRACE_LIMIT → trace_of (trace_text rows end ++ (codes "history\n" ++ rest)) ≡ Ok (rows, end)
 followed_again rows end rest fit lt few =
     let past = subst (IsPast end (reverse rows)) (sym (onto_append [] (trace_text rows end) (codes "history\n" ++ rest))) (history_on end (reverse rows) rest (onto [] (trace_text rows end)) (trace_on rows end fit lt)) in
     let text : List ℕ = trace_text rows end ++ (codes "history\n" ++ rest) in
     says_all rows end (trace_text rows end ++ (codes "history\n" ++ rest)) few past.rows (λ i. end_told (past.state i) (cut_of (onto [] text)).rest)
 
-pub report_again : (units : List (ℕ × ℕ)) (run : RunValue) → AllByRecursion IsTraceRow run.rows → run.end < 2 ^ 63 → length (report_text units run) ≤ 1073741824 → trace_of (report_text units run) ≡ Ok (run.rows, run.end)
+pub report_again : (units : List (ℕ × ℕ)) (run : RunValue) → AllByRecursion IsTraceRow run.rows → run.end < 2 ^ 63 → length (report_text units run) ≤ TRACE_LIMIT → trace_of (report_text units run) ≡ Ok (run.rows, run.end)
 report_again units run fit lt few =
     followed_again run.rows run.end (flat_map event_text run.history ++ (codes "replies\n" ++ (replies_text 1 run.replies ++ (codes "blocks\n" ++ (disks_text units run.disks ++ codes "done\n"))))) fit lt few

@@ -1,5 +1,6 @@
 -- What a whole trace text says.
 use Rattle.std.specs.Prelude.{◌≡◌, ℕ, List, length, reverse, Result, Ok, Err, nat_lt, if◌then◌else◌}
+use Rattle.trace_text.specs.declared.limit.TheConstants.{LIMIT as TRACE_LIMIT}
 use Rattle.bus_lines.specs.declared.Row.{Row}
 use Rattle.trace_text.specs.declared.whole.Trace.{Trace}
 use Rattle.trace_text.specs.declared.whole.TraceBad.{TraceBad}
@@ -15,7 +16,7 @@ with_rows rows (Err line) = Err line
 -- than 1,073,741,824 bytes.
 abbrev pub trace_of : List ℕ → Result (List Row × ℕ) ℕ
 trace_of bytes =
-    if nat_lt 1073741824 (length bytes) then Err 0 else with_rows (reverse (rows_of (reverse bytes))) (end_of (reverse bytes))
+    if nat_lt TRACE_LIMIT (length bytes) then Err 0 else with_rows (reverse (rows_of (reverse bytes))) (end_of (reverse bytes))
 
 -- What was read is this; want of memory is free.
 abbrev pub Answers : Result Trace TraceBad → Result (List Row × ℕ) ℕ → Type 0

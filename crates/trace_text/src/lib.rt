@@ -15,6 +15,7 @@
 mod blocks_part;
 mod history_part;
 mod laws;
+mod limit;
 mod line_front;
 mod pages;
 mod reader;
@@ -28,10 +29,11 @@ mod whole_report;
 pub use bus_base::Ns;
 pub use bus_lines::{Kind, Lines, Row};
 pub use laws::{reads_only, reports_read_back, traces_read_back};
+pub use limit::LIMIT;
 pub use reader::TraceReader;
 pub use rows::print_row;
 pub use stages::Told;
-pub use whole::{LIMIT, Trace, TraceBad, read_trace};
+pub use whole::{Trace, TraceBad, read_trace};
 pub use whole_report::report;
 
 #[cfg(test)]

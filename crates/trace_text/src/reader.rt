@@ -1,6 +1,7 @@
 //! A reader of single bytes.
 ghost use Rattle.std.specs.Prelude.{◌≡◌, ℕ, ◌+◌, ◌<◌, ◌≤◌, ◌^◌, List, [], ◌∷◌, ◌++◌, length, reverse, take, None, IfSome};
 ghost use Rattle.std.specs.List.{prefix_len};
+ghost use Rattle.trace_text.specs.declared.limit.TheConstants.{LIMIT as TRACE_LIMIT};
 ghost use Rattle.trace_text.specs.Lines.{count_of, stepped, TellsOfBus};
 ghost use Rattle.trace_text.specs.Pieces.{is_inner, text_of, line_len, StartsWithRow};
 ghost use Rattle.trace_text.specs.Bytes.{quiet, told_at, told_of, rows_next, rows_of, end_told, end_of};
@@ -78,9 +79,9 @@ impl TraceReader {
 
     /// Takes one byte more, and says what it told. In the clauses the bytes stand newest first.
     pub fn push(&mut self, byte: u8) -> Told
-        ensures kept { (bytes : List ℕ) → IsReaderOf bytes self.old → length bytes < 2 ^ 30 → IsReaderOf (byte ∷ bytes) self.new }
+        ensures kept { (bytes : List ℕ) → IsReaderOf bytes self.old → length bytes < TRACE_LIMIT → IsReaderOf (byte ∷ bytes) self.new }
         ensures device { TellsOfBus result }
-        ensures told { (bytes : List ℕ) → IsReaderOf bytes self.old → length bytes < 2 ^ 30 → result ≡ told_at bytes byte }
+        ensures told { (bytes : List ℕ) → IsReaderOf bytes self.old → length bytes < TRACE_LIMIT → result ≡ told_at bytes byte }
     {
         if byte == b'\n' {
             let (state, told) = stepped(self.state, self.line.text());
@@ -108,8 +109,8 @@ impl TraceReader {
     // Takes the first line of the piece, or all of it where it has no line feed.
     #[inline(always)]
     fn take_line(&mut self, piece: &[u8]) -> (Told, usize)
-        ensures kept { (bytes : List ℕ) → IsReaderOf bytes self.old → length bytes + length piece.now ≤ 2 ^ 30 → IsReaderOf (reverse (take result.1 piece.now) ++ bytes) self.new }
-        ensures told { (bytes : List ℕ) → IsReaderOf bytes self.old → length bytes + length piece.now ≤ 2 ^ 30 → result.0 ≡ told_of bytes piece.now }
+        ensures kept { (bytes : List ℕ) → IsReaderOf bytes self.old → length bytes + length piece.now ≤ TRACE_LIMIT → IsReaderOf (reverse (take result.1 piece.now) ++ bytes) self.new }
+        ensures told { (bytes : List ℕ) → IsReaderOf bytes self.old → length bytes + length piece.now ≤ TRACE_LIMIT → result.0 ≡ told_of bytes piece.now }
         ensures len { result.1 ≡ line_len piece.now }
         ensures device { TellsOfBus result.0 }
     {
@@ -153,9 +154,9 @@ impl TraceReader {
     /// told, which is what the last of them does, and how many they were. In the clauses the bytes stand newest first.
     #[inline(always)]
     pub fn take(&mut self, piece: &[u8]) -> (Told, usize)
-        ensures kept { (bytes : List ℕ) → IsReaderOf bytes self.old → length bytes + length piece.now ≤ 2 ^ 30 → IsReaderOf (reverse (take result.1 piece.now) ++ bytes) self.new }
-        ensures told { (bytes : List ℕ) → IsReaderOf bytes self.old → length bytes + length piece.now ≤ 2 ^ 30 → result.0 ≡ told_of bytes piece.now }
-        ensures rows { (bytes : List ℕ) → IsReaderOf bytes self.old → length bytes + length piece.now ≤ 2 ^ 30 → rows_of (reverse (take result.1 piece.now) ++ bytes) ≡ rows_next result.0 (rows_of bytes) }
+        ensures kept { (bytes : List ℕ) → IsReaderOf bytes self.old → length bytes + length piece.now ≤ TRACE_LIMIT → IsReaderOf (reverse (take result.1 piece.now) ++ bytes) self.new }
+        ensures told { (bytes : List ℕ) → IsReaderOf bytes self.old → length bytes + length piece.now ≤ TRACE_LIMIT → result.0 ≡ told_of bytes piece.now }
+        ensures rows { (bytes : List ℕ) → IsReaderOf bytes self.old → length bytes + length piece.now ≤ TRACE_LIMIT → rows_of (reverse (take result.1 piece.now) ++ bytes) ≡ rows_next result.0 (rows_of bytes) }
         ensures len { result.1 ≡ line_len piece.now }
         ensures some { 0 < length piece.now → 0 < result.1 }
         ensures within { result.1 ≤ length piece.now }
@@ -169,7 +170,7 @@ impl TraceReader {
 
     /// The text is over: the time of its end, or the first line that breaks the form.
     pub fn finish(self) -> Result<Ns, u32>
-        ensures { (bytes : List ℕ) → IsReaderOf bytes self → length bytes ≤ 2 ^ 30 → result ≡ end_of bytes }
+        ensures { (bytes : List ℕ) → IsReaderOf bytes self → length bytes ≤ TRACE_LIMIT → result ≡ end_of bytes }
     {
         end_told(self.state, self.line.text())
     }

@@ -2,17 +2,16 @@
 ghost use Rattle.std.specs.Prelude.{◌≡◌, ◌≤◌, ◌++◌, ◌∷◌, [], length, reverse, OnOk, IfOk};
 ghost use Rattle.std.specs.List.{AllByRecursion};
 ghost use Rattle.bus_lines.specs.OfTrace.{IsRow};
+ghost use Rattle.trace_text.specs.declared.limit.TheConstants.{LIMIT as TRACE_LIMIT};
 ghost use Rattle.trace_text.specs.Bytes.{rows_next};
 ghost use Rattle.trace_text.specs.Whole.{trace_of, Answers};
 
+use crate::limit::LIMIT;
 use crate::reader::TraceReader;
 use crate::stages::Told;
 use bus_base::{Dev, Ns};
 use bus_lines::{Kind, Row};
 use std::alloc::{AllocError, Global};
-
-/// The longest text, in bytes.
-pub const LIMIT: usize = 1_073_741_824;
 
 /// What a trace text says.
 #[derive(Debug, Drop)]
@@ -64,7 +63,7 @@ pub fn read_trace(alloc: Global, bytes: &[u8]) -> Result<Trace, TraceBad>
 }
 
 fn read_bytes(alloc: Global, bytes: &[u8]) -> Result<Trace, TraceBad>
-    requires { length bytes.now ≤ 1073741824 }
+    requires { length bytes.now ≤ TRACE_LIMIT }
     ensures { Answers result (trace_of bytes.now) }
 {
     let mut reader = TraceReader::new();

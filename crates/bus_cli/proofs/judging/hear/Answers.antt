@@ -1,7 +1,7 @@
 -- What the last read tells, how many bytes were taken, and that each piece is heard.
 use Rattle.std.proofs.Common.{ℕ, reverse, arith}
 use Rattle.std.proofs.lemmas.List.{length-take, length-reverse, take-append-le}
-use Rattle.bus_cli.proofs.HeardSoFar.{read_beyond, taken_more}
+use Rattle.bus_base.proofs.ReadSoFar.{read_beyond, taken_more}
 use Rattle.bus_cli.proofs.Judged.{hears_all, hears_more}
 use Rattle.bus_cli.proofs.judging.hear.Goals as goal
 

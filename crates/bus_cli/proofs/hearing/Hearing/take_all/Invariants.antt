@@ -1,12 +1,13 @@
 -- The bytes of the piece so far have been heard.
-use Rattle.std.proofs.Common.{ℕ, List, ◌+◌, ◌-◌, ◌≤◌, ◌^◌, ◌++◌, length, reverse, take}
+use Rattle.std.proofs.Common.{ℕ, List, ◌+◌, ◌-◌, ◌≤◌, ◌++◌, length, reverse, take}
+use Rattle.trace_text.specs.declared.limit.TheConstants.{LIMIT as TRACE_LIMIT}
 use Rattle.bus_cli.specs.Hearing.{IsHearingOf}
 use Rattle.bus_cli.proofs.hearing.Hearing.take_all.Given as goal
 
 abbrev pub invariant-loop-at : goal.invariant-loop-at
 invariant-loop-at l = record {
   within : l.at ≤ length l.piece;
-  heard : (bytes : List ℕ) → IsHearingOf bytes l.initial.self → length bytes + length l.piece ≤ 2 ^ 30 → IsHearingOf (reverse (take l.at l.piece) ++ bytes) l.self;
+  heard : (bytes : List ℕ) → IsHearingOf bytes l.initial.self → length bytes + length l.piece ≤ TRACE_LIMIT → IsHearingOf (reverse (take l.at l.piece) ++ bytes) l.self;
 }
 
 abbrev pub decreases-loop-at : goal.decreases-loop-at

@@ -12,7 +12,7 @@ returns-clause-kept c = λ rows h.
     let change = change_is rows row _ _ _ _ (c.bus-before.ensures.trace rows t.view) (c.bus.ensures.trace (row ∷ rows) view) (c.drives-own.ensures.trace rows t.view) c.driven_after-next.ensures in
     record {
       view = view;
-      course = c.step-seen.ensures.kept rows t.course (free_of rows row.dev _ _ _ met) change (held_of rows row _ _ _ _ _ met change c.is_held-held.ensures);
+      course = c.step-seen.ensures.kept rows t.course (free_of rows row.dev _ _ _ met) change (held_of rows row _ _ _ _ _ met change c.is_attention_held-held.ensures);
     }
 
 pub returns-clause-seen : goal.returns-clause-seen

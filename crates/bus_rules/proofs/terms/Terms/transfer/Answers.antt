@@ -1,7 +1,7 @@
 use Rattle.std.proofs.Common.{◌≡◌, true, ◌∷◌, ◌∙◌, ap, subst, sym}
 use Rattle.bus_lines.specs.declared.changes.Change.{Change}
 use Rattle.bus_rules.specs.declared.course.Course.{Course}
-use Rattle.bus_rules.specs.DataRows.{passes, standing_after, transferred}
+use Rattle.bus_rules.specs.DataRows.{passes, standing_after, course_after_transfer}
 use Rattle.bus_rules.specs.Judging.{Running, IsTermsOf, IsCourseOf}
 use Rattle.bus_rules.proofs.DataRows.{moved}
 use Rattle.bus_rules.proofs.Running.{held_by}
@@ -13,10 +13,10 @@ returns c = record {
       let row = c.args.row.now in
       let t = subst (λ (x : Running). IsTermsOf rows x) (sym c.self.view_is) h in
       let e' = subst (λ (x : Change). passes (standing_after rows) x row ≡ true) ec e in
-      let held = held_by rows row _ _ _ ec (c.since_atn.ensures.trace rows t.view) c.is_held-held.ensures in
+      let held = held_by rows row _ _ _ ec (c.since_atn.ensures.trace rows t.view) c.is_attention_held-held.ensures in
       let course = moved rows row _ _ t.course held e' in
       record {
         view = c.step_to.ensures.trace rows t.view (ap (λ (x : Change). x.after) ec);
-        course = subst (λ (x : Course). IsCourseOf (row ∷ rows) x) (sym (c.transfer.ensures.exact ∙ ap (λ (x : Change). transferred c.self.inside.course c.is_held-held.result x row.time) ec)) course;
+        course = subst (λ (x : Course). IsCourseOf (row ∷ rows) x) (sym (c.transfer.ensures.exact ∙ ap (λ (x : Change). course_after_transfer c.self.inside.course c.is_attention_held-held.result x row.time) ec)) course;
       };
 }

@@ -1,0 +1,35 @@
+-- A history played on the plain disk array.
+use Rattle.std.specs.Prelude.{ℕ, List, [], ◌∷◌, Option, Some, None, if◌then◌else◌}
+use Rattle.bus_base.specs.declared.ProcId.{ProcId}
+use Rattle.bus_base.specs.declared.Event.{Event}
+use Rattle.scenario.specs.Value.{ScenarioValue}
+use Rattle.disk_array.specs.Processes.{same_id}
+use Rattle.disk_array.specs.Execution.{Reply}
+use Rattle.disk_array.specs.Units.{UnitState, Array, starting_array, settled_array}
+use Rattle.disk_array.specs.Steps.{step}
+
+abbrev pub array_step : ScenarioValue → Event → Option Array → Option Array
+array_step s event None = None
+array_step s event (Some a) = step s event a
+
+-- The array after these events, the newest first; nothing where a step is not allowed.
+abbrev pub array_after : ScenarioValue → List Event → Option Array
+array_after s [] = Some (settled_array (starting_array s))
+array_after s (event ∷ history) = array_step s event (array_after s history)
+
+-- What it then holds: the blocks of each unit, and the reply of a process, the last that was given.
+abbrev pub unit_blocks : List UnitState → List (List (List ℕ))
+unit_blocks [] = []
+unit_blocks (u ∷ units) = u.blocks ∷ unit_blocks units
+
+abbrev pub disks_of : Option Array → List (List (List ℕ))
+disks_of None = []
+disks_of (Some a) = unit_blocks a.units
+
+abbrev pub reply_in : List (ProcId × Reply) → ProcId → Option Reply
+reply_in [] id = None
+reply_in (entry ∷ replies) id = if same_id entry.0 id then Some entry.1 else reply_in replies id
+
+abbrev pub reply_of : Option Array → ProcId → Option Reply
+reply_of None id = None
+reply_of (Some a) id = reply_in a.replies id

@@ -1,0 +1,2 @@
+pub mod HostBuffer
+pub mod Pointers

@@ -1,0 +1,4 @@
+mod Cases
+mod Following
+mod Negotiating
+mod Telling

@@ -1,0 +1,3 @@
+pub mod Negotiation
+pub mod Exchange
+pub mod Rows
