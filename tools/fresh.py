@@ -3,9 +3,11 @@
 
     tools/fresh.py
 
-A maker's output and the file are compared without blanks and line ends, since the file was laid out. Ends with status 1 where one differs.
+A maker's output and the file are compared without blanks and line ends, since the file was laid out; a file imports no name that its
+maker does not. Ends with status 1 where one differs.
 """
 import pathlib
+import re
 import subprocess
 import sys
 
@@ -15,29 +17,42 @@ RUNS = sorted(str(path) for path in (ROOT / "tools" / "due_cases").glob("*.scn")
     str(ROOT / "tools" / "cases" / (name + ".scn"))
     for name in ("called_again_for_sense", "failures", "negotiation", "read_whole_after_a_part", "two_aborts")
 ]
+# Of each generated file its maker's words, and the file that the maker reads from standard input, where there is one.
 MADE = {
-    "crates/disk_array/proofs/Stories.antt": ["tools/array_case.py"] + CASES,
-    "crates/bus_story/proofs/Cases.antt": ["tools/story_case.py"] + CASES,
-    "crates/bus_due/proofs/Cases.antt": ["tools/due_case.py"] + RUNS,
-    "crates/bus_due/proofs/SeamCases.antt": ["tools/seam_case.py", "Cases"] + RUNS,
-    "crates/sync_nego/proofs/Cases.antt": ["tools/nego_case.py"],
+    "crates/bus_rules/proofs/Cases.antt": (["tools/rule_cases.py"], "tools/rule_cases.txt"),
+    "crates/disk_array/proofs/Stories.antt": (["tools/array_case.py"] + CASES, None),
+    "crates/bus_story/proofs/Cases.antt": (["tools/story_case.py"] + CASES, None),
+    "crates/bus_due/proofs/Cases.antt": (["tools/due_case.py"] + RUNS, None),
+    "crates/bus_due/proofs/SeamCases.antt": (["tools/seam_case.py", "Cases"] + RUNS, None),
+    "crates/sync_nego/proofs/Cases.antt": (["tools/nego_case.py"], None),
 }
+USE = re.compile(r"^use ([\w.]+)\.\{(.*)\}$")
 
 
-def words(text):
-    """The words of a file, whose uses are in any order."""
-    lines = text.splitlines()
-    uses = sorted("".join(line.split()) for line in lines if line.startswith("use "))
-    return uses, "".join("".join(line.split()) for line in lines if not line.startswith("use "))
+def uses(text):
+    """Each name that a file imports, with its module."""
+    found = (USE.match(line) for line in text.splitlines())
+    return {(use[1], name.strip()) for use in found if use for name in use[2].split(",")}
+
+
+def body(text):
+    """A file without its imports, blanks and line ends."""
+    return "".join("".join(line.split()) for line in text.splitlines() if not line.startswith("use "))
+
+
+def made(command, source):
+    """What a maker writes now."""
+    given = (ROOT / source).read_text() if source else ""
+    return subprocess.run([sys.executable] + command, cwd=ROOT, input=given, capture_output=True, text=True, check=True).stdout
 
 
 def main():
     stale = []
-    for made, command in MADE.items():
-        done = subprocess.run([sys.executable] + command, cwd=ROOT, capture_output=True, text=True, check=True)
-        if words(done.stdout)[1] != words((ROOT / made).read_text())[1]:
-            stale.append(made)
-    print("\n".join("%s is not what %s writes" % (made, MADE[made][0]) for made in stale) if stale else "the generated cases are fresh")
+    for name, (command, source) in MADE.items():
+        new, old = made(command, source), (ROOT / name).read_text()
+        if body(new) != body(old) or not uses(old) <= uses(new):
+            stale.append("%s is not what %s writes" % (name, command[0]))
+    print("\n".join(stale) if stale else "the generated cases are fresh")
     sys.exit(1 if stale else 0)
 
 
