@@ -10,14 +10,15 @@ and the best of some rounds. The driver stands nowhere but in the copy.
 """
 import pathlib
 import resource
-import shutil
 import subprocess
 import sys
 import tempfile
 
+from driver import build
+
 ROUNDS = 9
 NAME = "report_bench"
-DEPS = "bus_base bus_lines bus_engine scenario trace_text"
+DEPS = "bus_base bus_trace bus_engine scenario trace_text"
 
 DRIVER = {
     "src/main.rt": r'''//! Reads a trace, and prints a report with its rows where there is a word.
@@ -25,11 +26,11 @@ DRIVER = {
 
 ghost use Rattle.std.specs.Prelude.{◌≡◌, true};
 ghost use Rattle.std.specs.List.{AllByRecursion};
-ghost use Rattle.bus_lines.specs.OfTrace.{IsRow};
+ghost use Rattle.bus_trace.specs.OfTrace.{IsRow};
 
 use bus_base::{Sink, StdSink, StdSource, read_all};
 use bus_engine::Run;
-use bus_lines::{Kind, Row};
+use bus_trace::{Kind, Row};
 use scenario::{Scenario, read};
 use std::{env, io};
 use trace_text::{read_trace, report};
@@ -89,7 +90,7 @@ fn main(rt: HostRuntime) {
 ''',
     "proofs/are_rows/Invariants.antt": r'''use Rattle.std.proofs.Common.{drop}
 use Rattle.std.specs.List.{AllByRecursion}
-use Rattle.bus_lines.specs.OfTrace.{IsRow}
+use Rattle.bus_trace.specs.OfTrace.{IsRow}
 use Rattle.report_bench.proofs.are_rows.Given as goal
 
 abbrev pub invariant-loop-row : goal.invariant-loop-row
@@ -97,8 +98,8 @@ invariant-loop-row l = AllByRecursion IsRow (drop l.row-index l.rows) → AllByR
 ''',
     "proofs/are_rows/Answers.antt": r'''use Rattle.std.proofs.Common.{sym, subst, refl, List}
 use Rattle.std.specs.List.{AllByRecursion}
-use Rattle.bus_lines.specs.OfTrace.{IsRow}
-use Rattle.bus_lines.specs.declared.Row.{Row}
+use Rattle.bus_trace.specs.OfTrace.{IsRow}
+use Rattle.bus_trace.specs.declared.Row.{Row}
 use Rattle.trace_text.proofs.Putting.{item_next}
 use Rattle.report_bench.proofs.are_rows.Goals as goal
 
@@ -106,25 +107,6 @@ pub loop-row-preserved : goal.loop-row-preserved
 loop-row-preserved c = λ rest. c.loop-row.invariant (subst (λ (xs : List Row). AllByRecursion IsRow xs) (sym (item_next _ _ _ c.loop-row-test.true c.row-item.is)) (c.if-not-is_row.ensures refl, rest))
 ''',
 }
-
-
-def build(folder):
-    """The driver's program, made in this folder."""
-    here = pathlib.Path(__file__).resolve().parent.parent
-    skip = shutil.ignore_patterns("out")
-    shutil.copytree(here / "crates", folder / "crates", ignore=skip)
-    crate = folder / "crates" / NAME
-    for name, text in DRIVER.items():
-        (crate / name).parent.mkdir(parents=True, exist_ok=True)
-        (crate / name).write_text(text)
-    (folder / "crates.txt").write_text((here / "crates.txt").read_text() + "%s: %s\n" % (NAME, DEPS))
-    if (here / "HANDLES").exists():
-        shutil.copy(here / "HANDLES", folder / "HANDLES")
-    made = subprocess.run(["rt", "run"], cwd=crate, stdin=subprocess.DEVNULL, capture_output=True, check=False)
-    program = crate / "out" / NAME
-    if not program.exists():
-        sys.exit("the driver was not built:\n" + (made.stdout + made.stderr).decode())
-    return program
 
 
 def seconds(words, data):
@@ -148,7 +130,7 @@ def main():
     rows = text[: text.index(b"\nend ")].count(b"\n")
     theirs = seconds([other, "run"], scenario) - seconds([other, "run", "--short"], scenario)
     with tempfile.TemporaryDirectory() as folder:
-        program = build(pathlib.Path(folder))
+        program = build(pathlib.Path(folder), NAME, DEPS, DRIVER)
         printed = subprocess.run([program, "print"], input=text, capture_output=True, check=True).stdout
         if printed[: printed.index(b"history\n")] != text[: text.index(b"history\n")]:
             sys.exit("the rows differ")

@@ -20,11 +20,11 @@ CASES = [
 HEAD = """-- What both ends keep of their negotiation after whole reports of an independent simulator. Written by tools/nego_case.py.
 use Rattle.std.proofs.Common.{ℕ, ◌≡◌, Bool, true, false, List, [], ◌∷◌, reverse, refl}
 use lib.Count.{ones}
-use Rattle.bus_lines.specs.LineSet.{set_of}
-use Rattle.bus_lines.specs.View.{union_below}
-use Rattle.bus_lines.specs.declared.Row.{Row}
-use Rattle.bus_lines.specs.declared.Kind.TheVariants.{Drives, Fault}
-use Rattle.bus_rules.specs.declared.words.End.TheVariants as ends
+use Rattle.bus_trace.specs.LineSet.{set_of}
+use Rattle.bus_trace.specs.View.{union_below}
+use Rattle.bus_trace.specs.declared.Row.{Row}
+use Rattle.bus_trace.specs.declared.Kind.TheVariants.{Drives, Fault}
+use Rattle.bus_phases.specs.declared.words.End.TheVariants as ends
 use Rattle.msg_grammar.specs.Messages.{form_out, form_in}
 use Rattle.sync_nego.specs.Exchange.{side}
 use Rattle.sync_nego.specs.Rows.{turns}

@@ -15,10 +15,10 @@ HEAD = """-- Small traces and their verdicts, computed: for each rule one that b
 -- tools/rule_cases.txt, whose verdicts come from an independent judge.
 use Rattle.std.proofs.Common.{ℕ, ◌≡◌, [], ◌∷◌, reverse, refl}
 use lib.Count.{ones}
-use Rattle.bus_lines.specs.LineSet.{set_of, line_of}
-use Rattle.bus_lines.specs.View.{union_below}
-use Rattle.bus_lines.specs.declared.Row.{Row}
-use Rattle.bus_lines.specs.declared.Kind.TheVariants.{Drives, Fault}
+use Rattle.bus_trace.specs.LineSet.{set_of, line_of}
+use Rattle.bus_trace.specs.View.{union_below}
+use Rattle.bus_trace.specs.declared.Row.{Row}
+use Rattle.bus_trace.specs.declared.Kind.TheVariants.{Drives, Fault}
 use Rattle.msg_grammar.specs.Messages.{form_out, form_in}
 use Rattle.bus_rules.specs.Seen.{seen_with}
 use Rattle.bus_rules.specs.Rules.{judged_whole}

@@ -14,8 +14,8 @@ HEAD = """-- What crossed is what was to be said, each end shows the events that
 -- sound, after each row of some runs. Written by tools/seam_case.py.
 use Rattle.std.proofs.Common.{[], refl}
 use lib.Count.{ones}
-use Rattle.bus_lines.specs.LineSet.{line_of}
-use Rattle.bus_lines.specs.View.{union_below}
+use Rattle.bus_trace.specs.LineSet.{line_of}
+use Rattle.bus_trace.specs.View.{union_below}
 use Rattle.msg_grammar.specs.Messages.{form_out, form_in}
 use Rattle.scenario.specs.Needs.{need_of, sent_of}
 use Rattle.bus_due.proofs.Seams.{Hold, onto, all_hold}"""

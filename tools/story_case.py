@@ -16,10 +16,10 @@ UNFOLDING = "unfolding need_of sent_of ones union_below line_of form_out form_in
 
 HEAD = """-- Whole runs, read off the rows of their traces and computed: the histories are those of the reports, which an
 -- independent simulator printed. Written by tools/story_case.py.
-use Rattle.bus_lines.specs.LineSet.{set_of, line_of}
-use Rattle.bus_lines.specs.View.{union_below}
-use Rattle.bus_lines.specs.declared.Row.{Row}
-use Rattle.bus_lines.specs.declared.Kind.TheVariants.{Drives, Fault}
+use Rattle.bus_trace.specs.LineSet.{set_of, line_of}
+use Rattle.bus_trace.specs.View.{union_below}
+use Rattle.bus_trace.specs.declared.Row.{Row}
+use Rattle.bus_trace.specs.declared.Kind.TheVariants.{Drives, Fault}
 use Rattle.msg_grammar.specs.Messages.{form_out, form_in}
 use Rattle.bus_story.specs.TraceHistory.{story}
 use Rattle.bus_story.specs.Outcomes.{outcomes, ended_good, ended_check, ended_full, ended_unanswered, ended_lost, ended_reset, ended_aborted}

@@ -14,12 +14,15 @@ PAGE = ROOT / "docs" / "traceability.md"
 RULES = range(1, 29)
 # The crates in which reactions are defined, and the file of each heading of docs/behaviour.md in them.
 REACTING = ["bus_reactions", "bus_dialogue", "bus_due"]
+# The crates in which reactions are code, one function of the same name for each.
+CODED = ["connect", "handshake"]
 
 HEAD = """# Traceability
 
 Written by `tools/traceability.py`. Of each rule of [rules.md](rules.md): its clause in ANSI X3.131-1994, the definition, the function
 that judges it, how many traces in `tools/rule_cases.txt` break it, and the edits of its function that the check refuses. Of each
-reaction of [behaviour.md](behaviour.md): its clause, its definitions, and the edits of them that the check refuses.
+reaction of [behaviour.md](behaviour.md): its clause, its definitions, its functions, where there is code so far, and the edits of
+both that the check refuses.
 
 ## Rules
 
@@ -30,8 +33,8 @@ reaction of [behaviour.md](behaviour.md): its clause, its definitions, and the e
 REACTIONS = """
 ## Reactions
 
-| Reaction | Clause | Definitions | Edits |
-|---|---|---|---|
+| Reaction | Clause | Definitions | Functions | Edits |
+|---|---|---|---|---|
 """
 
 
@@ -133,8 +136,36 @@ def places():
     return found
 
 
+def code():
+    """Where each function of the reactions stands: the crate, the file, its lines, and the names that it calls."""
+    found = {}
+    for crate in CODED:
+        for path in sorted((ROOT / "crates" / crate / "src").glob("*.rt")):
+            lines = text(path).splitlines()
+            for at, line in enumerate(lines):
+                name = re.match(r"(?:pub )?fn (\w+)\(", line)
+                if name:
+                    last = next((k for k in range(at + 1, len(lines)) if lines[k] == "}"), len(lines))
+                    calls = re.findall(r"(\w+)\(", "\n".join(lines[at + 1:last]))
+                    found.setdefault(name.group(1), (crate, path, at, last, calls))
+    return found
+
+
+def with_helpers(name, functions, named):
+    """This function, and those that it calls which are no reactions of their own."""
+    reached, left = [], [name]
+    while left:
+        one = left.pop()
+        if one in functions and one not in reached and (one == name or one not in named):
+            reached.append(one)
+            left.extend(functions[one][4])
+    return reached
+
+
 def reaction_rows(problems):
     where = places()
+    functions = code()
+    named = set(re.findall(r"`(\w+)`", text(ROOT / "docs" / "behaviour.md")))
     heading = ""
     for line in text(ROOT / "docs" / "behaviour.md").splitlines():
         if line.startswith("## "):
@@ -149,11 +180,14 @@ def reaction_rows(problems):
         there = [where[name] for name in names if name in where]
         if not there:
             continue
-        refused = sorted({edit for crate, path, first, last in there for edit in edits_within(crate, path, first, last)})
-        yield "| %s | %s | %s | %s |" % (
+        coded = [name for name in names if name in where and name in functions]
+        parts = [functions[part][:4] for name in coded for part in with_helpers(name, functions, named)]
+        refused = sorted({edit for crate, path, first, last in there + parts for edit in edits_within(crate, path, first, last)})
+        yield "| %s | %s | %s | %s | %s |" % (
             reaction.group(1),
             heading,
             ", ".join("`%s` (`%s/%s`)" % (name, where[name][0], where[name][1].stem) for name in names if name in where),
+            ", ".join("`%s` (`%s/src/%s`)" % (name, functions[name][0], functions[name][1].name) for name in coded),
             ", ".join("`%s`" % edit for edit in refused),
         )
 

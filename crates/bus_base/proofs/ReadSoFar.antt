@@ -1,10 +1,16 @@
 -- How far a loop that reads a source through a buffer has come.
-use Rattle.std.proofs.Common.{◌≡◌, ℕ, ◌+◌, ◌<◌, ◌≤◌, List, ◌++◌, length, take, drop, append_assoc, ap, subst, sym, ◌∙◌, arith, length-append}
-use Rattle.std.specs.Prelude.{Option, Some, None, IfSome}
+use Rattle.std.proofs.Common.{◌≡◌, ℕ, ◌+◌, ◌≤◌, List, ◌++◌, length, take, drop, append_assoc, ap, subst, sym, ◌∙◌, arith, length-append}
+use Rattle.std.specs.Prelude.{Option, Some, None, IfSome, Result, Ok, Err, Vec}
+use Rattle.std.specs.Result.{IsErr, IsErrAnd}
+use Rattle.std.specs.declared.alloc.Global.{Global}
 use Rattle.std.proofs.Math.Seq.{drop-append-add, drop-append_seam}
 use Rattle.std.proofs.lemmas.List.{take-append-drop}
 use Rattle.bus_base.specs.Taken.{TakesFront}
-use Rattle.bus_base.specs.Whole.{TakesAtMost}
+use Rattle.bus_base.specs.Pieces.{ReadsPiece, TakesBeyond, end_of}
+use Rattle.bus_base.specs.Whole.{ReadsAll, TakesAtMost}
+use Rattle.bus_base.specs.declared.reading.Cut.{Cut}
+use Rattle.bus_base.specs.declared.reading.Cut.TheVariants as cuts
+use Rattle.bus_base.specs.declared.reading.ReadEnd.{ReadEnd}
 
 -- the bytes that the source had left at first, `old`, are those read so far and those left now
 abbrev pub HasRead : Option (List ℕ) → Option (List ℕ) → List ℕ → Type 0
@@ -24,13 +30,14 @@ read_more (Some xs) now next bytes into n (rest, whole, left) took =
     let front : rest ≡ take n into ++ drop n rest = sym (take-append-drop n rest) ∙ ap (λ (ys : List ℕ). ys ++ drop n rest) (sym t.bytes) in
     (drop n rest, whole ∙ ap (λ (ys : List ℕ). bytes ++ ys) front ∙ sym (append_assoc bytes (take n into) (drop n rest)), t.rest)
 
--- a read of the one byte too many
-pub read_beyond : (old now next : Option (List ℕ)) (bytes into : List ℕ) (n limit : ℕ) → HasRead old now bytes → IfSome now (λ ys. TakesFront ys next into n) → length bytes + n ≡ limit + 1 → IfSome old (λ xs. (limit < length xs) × (next ≡ Some (drop (limit + 1) xs)))
-read_beyond None now next bytes into n limit so_far took sum = tt
-read_beyond (Some xs) now next bytes into n limit (rest, is, left) took sum =
-    let took = told now next rest into n left took in (
-      omega (arith, took.within, ap length is, length-append bytes rest),
-      took.rest ∙ ap Some (sym (drop-append-add bytes rest n) ∙ ap (λ k. drop k (bytes ++ rest)) sum ∙ ap (λ ys. drop (limit + 1) ys) (sym is)),
+-- more bytes than were spared
+pub beyond : (old now next : Option (List ℕ)) (bytes : List ℕ) (spare limit : ℕ) → HasRead old now bytes → TakesBeyond now next spare → length bytes + spare ≡ limit → TakesBeyond old next limit
+beyond None now next bytes spare limit so_far took sum = tt
+beyond (Some xs) now next bytes spare limit (rest, is, left) took sum =
+    let (long, taken) = (let P : Option (List ℕ) → Type 0 = λ o. TakesBeyond o next spare in subst P left took) in
+    let all : length bytes + (spare + 1) ≡ limit + 1 = omega (arith, sum) in (
+      omega (arith, long, sum, ap length is, length-append bytes rest),
+      taken ∙ ap Some (sym (drop-append-add bytes rest (spare + 1)) ∙ ap (λ k. drop k (bytes ++ rest)) all ∙ ap (λ ys. drop (limit + 1) ys) (sym is)),
     )
 
 -- as many bytes were taken as were read
@@ -48,3 +55,21 @@ taken_more (Some xs) now next bytes into n most (rest, is, left) took few = (
   (told now next rest into n left took).rest
       ∙ ap Some (sym (drop-append-add bytes rest n) ∙ ap (λ ys. drop (length bytes + n) ys) (sym is)),
 )
+
+-- no more bytes come
+pub cut_whole : (old now next : Option (List ℕ)) (bytes into : List ℕ) (spare limit : ℕ) (cut : Cut) (r : Result (Vec ℕ Global) ReadEnd) → HasRead old now bytes → ReadsPiece now next into spare (Err cut) → length bytes + spare ≡ limit → IsErr r × IsErrAnd r (λ e. e ≡ end_of cut) → ReadsAll old next limit r
+cut_whole old now next bytes into spare limit cuts.TooLong (Err e) read piece sum (any, same) =
+    subst (λ (x : ReadEnd). ReadsAll old next limit (Err x)) (sym same) (beyond old now next bytes spare limit read piece sum)
+cut_whole old now next bytes into spare limit cuts.Fault (Err e) read piece sum (any, same) =
+    subst (λ (x : ReadEnd). ReadsAll old next limit (Err x)) (sym same) tt
+cut_whole old now next bytes into spare limit cut (Ok v) read piece sum (any, same) = absurd cc
+
+-- one byte more than the limit was taken
+one_more : (old next : Option (List ℕ)) (limit : ℕ) → TakesBeyond old next limit → TakesAtMost old next (limit + 1)
+one_more None next limit took = tt
+one_more (Some xs) next limit took = (limit + 1, omega arith, took.1)
+
+-- the one byte too many, or none
+pub cut_taken : (old now next : Option (List ℕ)) (bytes into : List ℕ) (spare limit : ℕ) (cut : Cut) → HasRead old now bytes → ReadsPiece now next into spare (Err cut) → length bytes + spare ≡ limit → TakesAtMost old next (limit + 1)
+cut_taken old now next bytes into spare limit cuts.TooLong read piece sum = one_more old next limit (beyond old now next bytes spare limit read piece sum)
+cut_taken old now next bytes into spare limit cuts.Fault read piece sum = taken_so_far old now next bytes (limit + 1) read piece (omega (arith, sum))

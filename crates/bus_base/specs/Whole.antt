@@ -1,6 +1,7 @@
 -- What reading all and writing all do, where the bytes are told.
-use Rattle.std.specs.Prelude.{◌≡◌, ℕ, ◌+◌, ◌<◌, ◌≤◌, List, [], ◌++◌, length, take, drop, Option, Some, Result, Ok, Err, IfSome, Vec, ⊤}
+use Rattle.std.specs.Prelude.{◌≡◌, ℕ, ◌≤◌, List, [], ◌++◌, take, drop, Option, Some, Result, Ok, Err, IfSome, Vec, ⊤}
 use Rattle.std.specs.declared.alloc.Global.{Global}
+use Rattle.bus_base.specs.Pieces.{TakesBeyond}
 use Rattle.bus_base.specs.declared.failures.Failed.{Failed}
 use Rattle.bus_base.specs.declared.reading.ReadEnd.{ReadEnd}
 use Rattle.bus_base.specs.declared.reading.ReadEnd.TheVariants.{TooLong, Fault, NoMemory}
@@ -9,8 +10,7 @@ use Rattle.bus_base.specs.declared.reading.ReadEnd.TheVariants.{TooLong, Fault, 
 -- more than the limit, and one more than the limit were taken.
 abbrev pub ReadsAll : Option (List ℕ) → Option (List ℕ) → ℕ → Result (Vec ℕ Global) ReadEnd → Type 0
 ReadsAll old left limit (Ok v) = IfSome old (λ xs. (v.items ≡ xs) × (left ≡ Some []))
-ReadsAll old left limit (Err TooLong) =
-    IfSome old (λ xs. (limit < length xs) × (left ≡ Some (drop (limit + 1) xs)))
+ReadsAll old left limit (Err TooLong) = TakesBeyond old left limit
 ReadsAll old left limit (Err Fault) = ⊤
 ReadsAll old left limit (Err NoMemory) = ⊤
 

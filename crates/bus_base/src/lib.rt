@@ -21,8 +21,6 @@ mod memory;
 mod output;
 mod reading;
 mod standard;
-#[cfg(test)]
-mod tests;
 mod writing;
 
 pub use counter::Steps;
@@ -33,6 +31,6 @@ pub use input::Source;
 pub use listing::Octets;
 pub use memory::{MemSink, MemSource};
 pub use output::Sink;
-pub use reading::{ReadEnd, read_all};
+pub use reading::{BUFFER, Cut, ReadEnd, read_all, read_piece};
 pub use standard::{StdSink, StdSource};
 pub use writing::write_all;

@@ -1,25 +1,27 @@
 -- What the word `judge` says of the bytes that were read.
 use Rattle.std.proofs.Common.{ℕ, ◌≡◌, ◌+◌, ◌<◌, ◌≤◌, Bool, true, false, cond, List, [], ◌∷◌, ◌++◌, Option, Some, None, Result, Ok, Err, length, take, drop, reverse, refl, sym, ap, subst, ◌∙◌, arith}
 use Rattle.std.specs.Prelude.{IfSome, nat_lt}
+use Rattle.std.specs.Result.{IsErr, IsErrAnd}
 use Rattle.std.proofs.lemmas.Bool.{lt-ltb}
 use Rattle.std.proofs.lemmas.Bool.Decides.{nat_tests}
 use Rattle.std.proofs.lemmas.List.{append-nil, reverse-append, length-reverse, length-take-le, length-append}
 use Rattle.trace_text.specs.declared.limit.TheConstants.{LIMIT as TRACE_LIMIT}
 use Rattle.bus_base.specs.Taken.{TakesFront}
-use Rattle.bus_lines.specs.declared.Row.{Row}
+use Rattle.bus_trace.specs.declared.Row.{Row}
 use Rattle.bus_rules.specs.declared.verdict.Verdict.{Verdict}
 use Rattle.bus_rules.specs.Rules.{judged_whole}
 use Rattle.trace_text.specs.Bytes.{rows_of, end_of}
 use Rattle.trace_text.specs.Whole.{trace_of, with_rows}
-use Rattle.bus_cli.specs.Lines.{SaysLine, trace_line}
+use Rattle.bus_cli.specs.Lines.{Writing, writing, SaysLine, trace_line}
 use Rattle.bus_cli.specs.Hearing.{verdict_at, heard_verdict, IsHearingOf}
 use Rattle.bus_cli.specs.declared.hearing.Hearing.{Hearing}
 use Rattle.bus_cli.specs.Judging.{verdict_of, verdict_on, SaysVerdict, JudgeSays, TellsVerdict, JudgeTells, HearsAll}
-use Rattle.bus_cli.specs.declared.judging.Cut.{Cut}
-use Rattle.bus_cli.specs.declared.judging.Cut.TheVariants.{TooLong}
+use Rattle.bus_base.specs.Pieces.{ReadsPiece}
+use Rattle.bus_base.specs.declared.reading.Cut.{Cut}
+use Rattle.bus_base.specs.declared.reading.Cut.TheVariants.{TooLong, Fault}
 use Rattle.bus_cli.specs.declared.status.Status.{Status}
 use Rattle.bus_cli.specs.declared.status.Status.TheVariants.{Done, Words, Refused, Read, Write, Memory, Broken, BadTrace, NotBuilt}
-use Rattle.bus_base.proofs.ReadSoFar.{HasRead, told, read_more}
+use Rattle.bus_base.proofs.ReadSoFar.{HasRead, told, read_more, beyond}
 use Rattle.bus_cli.proofs.TooLong.{map_some, first_of}
 
 -- ---- the verdict on bytes that were heard, the newest first
@@ -53,27 +55,35 @@ hears_all (Some xs) now next bytes into n v (rest, whole, left) took none room f
     let all : xs ≡ bytes = whole ∙ ap (λ (ys : List ℕ). bytes ++ ys) over ∙ append-nil bytes in
     (ap (λ (ys : List ℕ). verdict_on ys) all ∙ sym (heard_is bytes few) ∙ sym is, t.rest ∙ ap (λ (ys : List ℕ). let o : Option (List ℕ) = Some (drop n ys) in o) over ∙ ap (λ k. let o : Option (List ℕ) = Some (drop k []) in o) none)
 
+-- no more bytes come
+pub hears_cut : (old now next : Option (List ℕ)) (bytes into : List ℕ) (spare : ℕ) (cut : Cut) (r : Result (Result Verdict ℕ) Cut) → HasRead old now bytes → ReadsPiece now next into spare (Err cut) → length bytes + spare ≡ TRACE_LIMIT → IsErr r × IsErrAnd r (λ e. e ≡ cut) → HearsAll old next r
+hears_cut old now next bytes into spare TooLong (Err e) so_far piece sum (any, same) =
+    subst (λ (x : Cut). HearsAll old next (Err x)) (sym same) (beyond old now next bytes spare TRACE_LIMIT so_far piece sum)
+hears_cut old now next bytes into spare Fault (Err e) so_far piece sum (any, same) =
+    subst (λ (x : Cut). HearsAll old next (Err x)) (sym same) tt
+hears_cut old now next bytes into spare cut (Ok v) so_far piece sum (any, same) = absurd cc
+
 -- ---- what is said of the verdict is said of the input
 
-of_input : (status : Status) (input : Option (List ℕ)) (v : Result Verdict ℕ) (before : List ℕ) (written : Option (List ℕ)) (f g : ℕ) → IfSome input (λ xs. verdict_on xs ≡ v) → SaysVerdict status (Some v) before written f g → JudgeSays status input before written f g
-of_input status (Some xs) v before written f g same says = subst (λ (w : Result Verdict ℕ). SaysVerdict status (Some w) before written f g) (sym same) says
-of_input Done None v before written f g same says = (tt, says.1)
-of_input Write None v before written f g same says = (tt, says.1)
-of_input Broken None v before written f g same says = (says.0, says.1, tt, says.3)
-of_input BadTrace None v before written f g same says = (says.0, tt, says.2)
-of_input Words None v before written f g same says = says
-of_input Read None v before written f g same says = says
-of_input Memory None v before written f g same says = says
-of_input Refused None v before written f g same says = says
-of_input NotBuilt None v before written f g same says = says
+of_input : (status : Status) (input : Option (List ℕ)) (v : Result Verdict ℕ) (w : Writing) → IfSome input (λ xs. verdict_on xs ≡ v) → SaysVerdict status (Some v) w → JudgeSays status input w
+of_input status (Some xs) v w same says = subst (λ (u : Result Verdict ℕ). SaysVerdict status (Some u) w) (sym same) says
+of_input Done None v w same says = (tt, says.1)
+of_input Write None v w same says = (tt, says.1)
+of_input Broken None v w same says = (says.0, says.1, tt, says.3)
+of_input BadTrace None v w same says = (says.0, tt, says.2)
+of_input Words None v w same says = says
+of_input Read None v w same says = says
+of_input Memory None v w same says = says
+of_input Refused None v w same says = says
+of_input NotBuilt None v w same says = says
 
 verdict_told : (input left : Option (List ℕ)) (v : Result Verdict ℕ) → HearsAll input left (Ok v) → IfSome input (λ xs. verdict_on xs ≡ v)
 verdict_told None left v h = tt
 verdict_told (Some xs) left v h = h.0
 
-pub said_of_all : (status : Status) (input left : Option (List ℕ)) (v : Result Verdict ℕ) (old written : Option (List ℕ)) (f g : ℕ) → HearsAll input left (Ok v) → IfSome old (λ before. SaysVerdict status (Some v) before written f g) → IfSome old (λ before. JudgeSays status input before written f g)
+pub said_of_all : (status : Status) (input left : Option (List ℕ)) (v : Result Verdict ℕ) (old written : Option (List ℕ)) (f g : ℕ) → HearsAll input left (Ok v) → IfSome old (λ before. SaysVerdict status (Some v) (writing before written f g)) → IfSome old (λ before. JudgeSays status input (writing before written f g))
 said_of_all status input left v old written f g h says =
-    map_some old (λ before. SaysVerdict status (Some v) before written f g) (λ before. JudgeSays status input before written f g) (λ before. of_input status input v before written f g (verdict_told input left v h)) says
+    map_some old (λ before. SaysVerdict status (Some v) (writing before written f g)) (λ before. JudgeSays status input (writing before written f g)) (λ before. of_input status input v (writing before written f g) (verdict_told input left v h)) says
 
 pub told_of_all : (status : Status) (input left : Option (List ℕ)) (v : Result Verdict ℕ) → HearsAll input left (Ok v) → TellsVerdict status v → IfSome input (λ xs. JudgeTells status xs)
 told_of_all status None left v h tells = tt
@@ -101,13 +111,13 @@ long_of input left end e h =
 pub told_long : (input : Option (List ℕ)) → IfSome input (λ xs. TRACE_LIMIT < length xs) → IfSome input (λ xs. JudgeTells BadTrace xs)
 told_long input h = map_some input (λ xs. TRACE_LIMIT < length xs) (λ xs. JudgeTells BadTrace xs) (λ xs long. (0, too_long xs long)) h
 
-said_beyond : (input : Option (List ℕ)) (text before : List ℕ) (written : Option (List ℕ)) (f g : ℕ) → IsLong input → text ≡ trace_line 0 → SaysLine text before written f g → JudgeSays BadTrace input before written f g
-said_beyond None text before written f g long same says = (0, tt, subst (λ (x : List ℕ). SaysLine x before written f g) same says)
-said_beyond (Some xs) text before written f g long same says = (0, too_long xs long, subst (λ (x : List ℕ). SaysLine x before written f g) same says)
+said_beyond : (input : Option (List ℕ)) (text : List ℕ) (w : Writing) → IsLong input → text ≡ trace_line 0 → SaysLine text w → JudgeSays BadTrace input w
+said_beyond None text w long same says = (0, tt, subst (λ (x : List ℕ). SaysLine x w) same says)
+said_beyond (Some xs) text w long same says = (0, too_long xs long, subst (λ (x : List ℕ). SaysLine x w) same says)
 
-pub said_long : (input : Option (List ℕ)) (text : List ℕ) (old written : Option (List ℕ)) (f g : ℕ) → IfSome input (λ xs. TRACE_LIMIT < length xs) → text ≡ trace_line 0 → IfSome old (λ before. SaysLine text before written f g) → IfSome old (λ before. JudgeSays BadTrace input before written f g)
+pub said_long : (input : Option (List ℕ)) (text : List ℕ) (old written : Option (List ℕ)) (f g : ℕ) → IfSome input (λ xs. TRACE_LIMIT < length xs) → text ≡ trace_line 0 → IfSome old (λ before. SaysLine text (writing before written f g)) → IfSome old (λ before. JudgeSays BadTrace input (writing before written f g))
 said_long input text old written f g long same says =
-    map_some old (λ before. SaysLine text before written f g) (λ before. JudgeSays BadTrace input before written f g) (λ before. said_beyond input text before written f g long same) says
+    map_some old (λ before. SaysLine text (writing before written f g)) (λ before. JudgeSays BadTrace input (writing before written f g)) (λ before. said_beyond input text (writing before written f g) long same) says
 
 -- ---- a piece more
 

@@ -1,7 +1,10 @@
 -- How the program ends: what it wrote, how far it read, and what the input was.
-use Rattle.std.specs.Prelude.{ℕ, ◌≡◌, ◌+◌, ◌<◌, ◌⊎◌, List, [], length, drop, Option, Some, None}
+use Rattle.std.specs.Prelude.{ℕ, ◌≡◌, ◌+◌, ◌<◌, ◌⊎◌, List, [], length, drop, Option, Some, None, IfSome, map, String, string_bytes}
+use Rattle.std.specs.declared.alloc.Global.{Global}
 use Rattle.scenario.specs.Reading.{scenario_of}
-use Rattle.bus_cli.specs.Lines.{usage_line, SaysLine}
+use Rattle.bus_cli.specs.Lines.{Writing, usage_line, SaysLine}
+use Rattle.bus_base.specs.Whole.{TakesAtMost}
+use Rattle.bus_cli.specs.Words.{word_of, limit_of}
 use Rattle.bus_cli.specs.Running.{RunSays, RunTells, scenario_status}
 use Rattle.bus_cli.specs.Judging.{JudgeSays, JudgeTells, verdict_on, verdict_status}
 use Rattle.bus_cli.specs.declared.status.Status.{Status}
@@ -21,11 +24,15 @@ code_of Broken = 6
 code_of BadTrace = 7
 code_of NotBuilt = 9
 
+-- what the words of the program ask
+abbrev pub word_in : List (String Global) → Option Word
+word_in words = word_of (map string_bytes words)
+
 -- what was written, by the word, by the status and by the bytes that the input had left
-abbrev pub Says : Option Word → Status → Option (List ℕ) → List ℕ → Option (List ℕ) → ℕ → ℕ → Type 0
-Says None status input before written faults_old faults_new = SaysLine usage_line before written faults_old faults_new
-Says (Some words.Run) status input before written faults_old faults_new = RunSays status input before written faults_old faults_new
-Says (Some words.Judge) status input before written faults_old faults_new = JudgeSays status input before written faults_old faults_new
+abbrev pub Says : Option Word → Status → Option (List ℕ) → Writing → Type 0
+Says None status input w = SaysLine usage_line w
+Says (Some words.Run) status input w = RunSays status input w
+Says (Some words.Judge) status input w = JudgeSays status input w
 
 -- what the status says of the input's bytes
 abbrev pub TellsForm : Word → Status → List ℕ → Type 0
@@ -57,3 +64,18 @@ status_of words.Judge bytes = verdict_status (verdict_on bytes)
 -- The status is the one that is asked for; or memory ran out, or in place of Done a write failed.
 abbrev pub IsMet : Status → Status → Type 0
 IsMet asked status = (status ≡ asked) ⊎ ((status ≡ Memory) ⊎ ((asked ≡ Done) × (status ≡ Write)))
+
+-- ---- the same by what the words ask, where this is known, and the bytes that the input had left, where they are told
+
+abbrev pub ReadsFar : Option Word → Status → Option (List ℕ) → Option (List ℕ) → Type 0
+ReadsFar asked status old left = IfSome asked (λ word. IfSome old (λ bytes. Reads (limit_of word) status bytes left))
+
+-- At most one byte more than the limit was taken.
+abbrev pub TakesWithin : Option Word → Option (List ℕ) → Option (List ℕ) → Type 0
+TakesWithin asked old left = IfSome asked (λ word. TakesAtMost old left (limit_of word + 1))
+
+abbrev pub TellsInput : Option Word → Status → Option (List ℕ) → Type 0
+TellsInput asked status old = IfSome asked (λ word. IfSome old (λ bytes. TellsForm word status bytes))
+
+abbrev pub MeetsInput : Option Word → Status → Option (List ℕ) → Type 0
+MeetsInput asked status old = IfSome asked (λ word. IfSome old (λ bytes. IsMet (status_of word bytes) status))

@@ -1,14 +1,15 @@
 -- The word `judge`: the verdict on the input, what each status says of it, and what is written.
-use Rattle.std.specs.Prelude.{ℕ, ◌+◌, ◌≡◌, ◌<◌, List, [], ◌++◌, length, take, drop, reverse, Option, Some, None, option_map, IfSome, Result, Ok, Err}
+use Rattle.std.specs.Prelude.{ℕ, ◌≡◌, List, [], reverse, Option, Some, None, option_map, IfSome, Result, Ok, Err}
 use Rattle.trace_text.specs.declared.limit.TheConstants.{LIMIT as TRACE_LIMIT}
-use Rattle.bus_lines.specs.declared.Row.{Row}
+use Rattle.bus_trace.specs.declared.Row.{Row}
 use Rattle.bus_rules.specs.Rules.{judged_whole}
 use Rattle.bus_rules.specs.declared.verdict.Verdict.{Verdict}
 use Rattle.bus_rules.specs.declared.verdict.Verdict.TheVariants as verdicts
 use Rattle.trace_text.specs.Whole.{trace_of}
-use Rattle.bus_cli.specs.declared.judging.Cut.{Cut}
-use Rattle.bus_cli.specs.declared.judging.Cut.TheVariants as cuts
-use Rattle.bus_cli.specs.Lines.{usage_line, fault_line, lawful_line, broken_line, trace_line, SaysLine}
+use Rattle.bus_base.specs.Pieces.{TakesBeyond}
+use Rattle.bus_base.specs.declared.reading.Cut.{Cut}
+use Rattle.bus_base.specs.declared.reading.Cut.TheVariants as cuts
+use Rattle.bus_cli.specs.Lines.{usage_line, fault_line, lawful_line, broken_line, trace_line, Writing, Adds, AddsFront, SaysLine}
 use Rattle.bus_cli.specs.declared.status.Status.{Status}
 use Rattle.bus_cli.specs.declared.status.Status.TheVariants.{Done, Words, Refused, Read, Write, Memory, Broken, BadTrace, NotBuilt}
 
@@ -28,25 +29,25 @@ IsVerdict (Some told) verdict = told ≡ verdict
 
 -- What was written with this status, by the verdict: the answer that says it, with Write a front of the answer
 -- `lawful`; or the status' own line.
-abbrev pub SaysVerdict : Status → Option (Result Verdict ℕ) → List ℕ → Option (List ℕ) → ℕ → ℕ → Type 0
-SaysVerdict Done told before written faults_old faults_new =
-    IsVerdict told (Ok verdicts.Lawful) × (written ≡ Some (before ++ lawful_line))
-SaysVerdict Write told before written faults_old faults_new =
-    IsVerdict told (Ok verdicts.Lawful) × ((k : ℕ) × (written ≡ Some (before ++ take k lawful_line)))
-SaysVerdict Broken told before written faults_old faults_new =
-    (row : ℕ) × (rule : ℕ) × IsVerdict told (Ok (verdicts.Broken row rule)) × SaysLine (broken_line row rule) before written faults_old faults_new
-SaysVerdict BadTrace told before written faults_old faults_new =
-    (line : ℕ) × IsVerdict told (Err line) × SaysLine (trace_line line) before written faults_old faults_new
-SaysVerdict Words told before written faults_old faults_new = SaysLine usage_line before written faults_old faults_new
-SaysVerdict Read told before written faults_old faults_new = SaysLine fault_line before written faults_old faults_new
-SaysVerdict Memory told before written faults_old faults_new = ⊥
-SaysVerdict Refused told before written faults_old faults_new = ⊥
-SaysVerdict NotBuilt told before written faults_old faults_new = ⊥
+abbrev pub SaysVerdict : Status → Option (Result Verdict ℕ) → Writing → Type 0
+SaysVerdict Done told w =
+    IsVerdict told (Ok verdicts.Lawful) × Adds lawful_line w
+SaysVerdict Write told w =
+    IsVerdict told (Ok verdicts.Lawful) × AddsFront lawful_line w
+SaysVerdict Broken told w =
+    (row : ℕ) × (rule : ℕ) × IsVerdict told (Ok (verdicts.Broken row rule)) × SaysLine (broken_line row rule) w
+SaysVerdict BadTrace told w =
+    (line : ℕ) × IsVerdict told (Err line) × SaysLine (trace_line line) w
+SaysVerdict Words told w = SaysLine usage_line w
+SaysVerdict Read told w = SaysLine fault_line w
+SaysVerdict Memory told w = ⊥
+SaysVerdict Refused told w = ⊥
+SaysVerdict NotBuilt told w = ⊥
 
 -- the same, by the bytes that the input had left
-abbrev pub JudgeSays : Status → Option (List ℕ) → List ℕ → Option (List ℕ) → ℕ → ℕ → Type 0
-JudgeSays status input before written faults_old faults_new =
-    SaysVerdict status (option_map verdict_on input) before written faults_old faults_new
+abbrev pub JudgeSays : Status → Option (List ℕ) → Writing → Type 0
+JudgeSays status input w =
+    SaysVerdict status (option_map verdict_on input) w
 
 -- what the status says of the verdict
 abbrev pub TellsVerdict : Status → Result Verdict ℕ → Type 0
@@ -68,7 +69,7 @@ JudgeTells status bytes = TellsVerdict status (verdict_on bytes)
 -- than the limit was read.
 abbrev pub HearsAll : Option (List ℕ) → Option (List ℕ) → Result (Result Verdict ℕ) Cut → Type 0
 HearsAll old left (Ok verdict) = IfSome old (λ xs. (verdict_on xs ≡ verdict) × (left ≡ Some []))
-HearsAll old left (Err cuts.TooLong) = IfSome old (λ xs. (TRACE_LIMIT < length xs) × (left ≡ Some (drop (TRACE_LIMIT + 1) xs)))
+HearsAll old left (Err cuts.TooLong) = TakesBeyond old left TRACE_LIMIT
 HearsAll old left (Err cuts.Fault) = Unit {0}
 
 -- the status that a verdict asks for

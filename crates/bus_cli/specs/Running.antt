@@ -1,12 +1,12 @@
 -- The word `run`: what each status says of the input, and what is written.
-use Rattle.std.specs.Prelude.{ℕ, ◌≡◌, true, false, Bool, List, ◌++◌, take, Option, Some, None, Result, Ok, Err}
+use Rattle.std.specs.Prelude.{ℕ, ◌≡◌, true, false, Bool, List, Option, Some, None, Result, Ok, Err}
 use Rattle.scenario.specs.Value.{ScenarioValue}
 use Rattle.scenario.specs.Reading.{scenario_of}
 use Rattle.bus_engine.specs.Value.{RunValue}
 use Rattle.bus_engine.specs.Built.{is_built}
 use Rattle.bus_engine.specs.ScenarioRun.{IsRunOf}
 use Rattle.trace_text.specs.ReportText.{report_of}
-use Rattle.bus_cli.specs.Lines.{usage_line, fault_line, memory_line, form_line, refusal_line, SaysLine}
+use Rattle.bus_cli.specs.Lines.{usage_line, fault_line, memory_line, form_line, refusal_line, Writing, Adds, AddsFront, SaysLine}
 use Rattle.bus_cli.specs.declared.status.Status.{Status}
 use Rattle.bus_cli.specs.declared.status.Status.TheVariants.{Done, Words, Refused, Read, Write, Memory, Broken, BadTrace, NotBuilt}
 
@@ -35,19 +35,17 @@ IsRefused (Some bytes) line reason = scenario_of bytes ≡ Err (line, reason)
 
 -- What was written with this status, by the bytes that the input had left: the report of the run of
 -- the scenario that they say, or with Write a front of it; or the status' own line.
-abbrev pub RunSays : Status → Option (List ℕ) → List ℕ → Option (List ℕ) → ℕ → ℕ → Type 0
-RunSays Done input before written faults_old faults_new =
-    (text : List ℕ) × IsReport input text × (written ≡ Some (before ++ text))
-RunSays Write input before written faults_old faults_new =
-    (text : List ℕ) × IsReport input text × ((k : ℕ) × (written ≡ Some (before ++ take k text)))
-RunSays Words input before written faults_old faults_new = SaysLine usage_line before written faults_old faults_new
-RunSays Refused input before written faults_old faults_new =
-    (line : ℕ) × (reason : ℕ) × IsRefused input line reason × SaysLine (refusal_line line reason) before written faults_old faults_new
-RunSays Read input before written faults_old faults_new = SaysLine fault_line before written faults_old faults_new
-RunSays Memory input before written faults_old faults_new = SaysLine memory_line before written faults_old faults_new
-RunSays NotBuilt input before written faults_old faults_new = SaysLine form_line before written faults_old faults_new
-RunSays Broken input before written faults_old faults_new = ⊥
-RunSays BadTrace input before written faults_old faults_new = ⊥
+abbrev pub RunSays : Status → Option (List ℕ) → Writing → Type 0
+RunSays Done input w = (text : List ℕ) × IsReport input text × Adds text w
+RunSays Write input w = (text : List ℕ) × IsReport input text × AddsFront text w
+RunSays Words input w = SaysLine usage_line w
+RunSays Refused input w =
+    (line : ℕ) × (reason : ℕ) × IsRefused input line reason × SaysLine (refusal_line line reason) w
+RunSays Read input w = SaysLine fault_line w
+RunSays Memory input w = SaysLine memory_line w
+RunSays NotBuilt input w = SaysLine form_line w
+RunSays Broken input w = ⊥
+RunSays BadTrace input w = ⊥
 
 -- what the status says of the input's bytes
 abbrev pub RunTells : Status → List ℕ → Type 0

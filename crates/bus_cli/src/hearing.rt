@@ -30,7 +30,8 @@ impl Hearing {
     // The first line of the piece more, or all of it where it has no line feed: how many bytes they were.
     #[inline(always)]
     fn take(&mut self, piece: &[u8]) -> usize
-        ensures kept { (bytes : List ℕ) → IsHearingOf bytes self.old → length bytes + length piece.now ≤ TRACE_LIMIT → IsHearingOf (reverse (take result piece.now) ++ bytes) self.new }
+        ensures kept { (bytes : List ℕ) → IsHearingOf bytes self.old → length bytes + length piece.now ≤ TRACE_LIMIT
+            → IsHearingOf (reverse (take result piece.now) ++ bytes) self.new }
         ensures some { 0 < length piece.now → 0 < result }
         ensures within { result ≤ length piece.now }
     {
@@ -46,7 +47,8 @@ impl Hearing {
 
     /// Some bytes more. In the clauses the bytes stand newest first.
     pub fn take_all(&mut self, piece: &[u8])
-        ensures { (bytes : List ℕ) → IsHearingOf bytes self.old → length bytes + length piece.now ≤ TRACE_LIMIT → IsHearingOf (reverse piece.now ++ bytes) self.new }
+        ensures { (bytes : List ℕ) → IsHearingOf bytes self.old → length bytes + length piece.now ≤ TRACE_LIMIT
+            → IsHearingOf (reverse piece.now ++ bytes) self.new }
     {
         let mut at = 0;
         while at < piece.len() {
@@ -56,7 +58,8 @@ impl Hearing {
 
     /// The bytes are over: the verdict on their trace, or the first line that breaks the form.
     pub fn finish(self) -> Result<Verdict, u32>
-        ensures { (bytes : List ℕ) → IsHearingOf bytes self → length bytes ≤ TRACE_LIMIT → result ≡ heard_verdict bytes }
+        ensures { (bytes : List ℕ) → IsHearingOf bytes self → length bytes ≤ TRACE_LIMIT
+            → result ≡ heard_verdict bytes }
     {
         match self.reader.finish() {
             Ok(end) => Ok(self.judge.finish(end)),

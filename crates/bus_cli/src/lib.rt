@@ -23,6 +23,3 @@ mod words;
 pub use bus_base::{Sink, Source, Steps};
 pub use status::Status;
 pub use top::bus_main;
-
-#[cfg(test)]
-mod tests;

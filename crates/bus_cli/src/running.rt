@@ -3,6 +3,7 @@ ghost use Rattle.std.specs.Prelude.{◌≡◌, ◌+◌, ◌≤◌, Some, IfSome}
 ghost use Rattle.bus_base.specs.Faults.{HasRisen};
 ghost use Rattle.bus_base.specs.Whole.{TakesAtMost};
 ghost use Rattle.bus_cli.specs.Words.{limit_of};
+ghost use Rattle.bus_cli.specs.Lines.{IfTold};
 ghost use Rattle.bus_cli.specs.Running.{RunSays, RunTells};
 ghost use Rattle.bus_cli.specs.Ends.{Reads};
 ghost use Rattle.bus_cli.specs.declared.words.Word.TheVariants as words;
@@ -22,7 +23,7 @@ fn run_bytes<K: Sink>(alloc: Global, bytes: &[u8], out: &mut K) -> Status
     ensures read { result ≡ Status.Read → ⊥ }
     ensures write { result ≡ Status.Write → HasRisen (K.faults out.old) (K.faults out.new) }
     ensures form { RunTells result bytes.now }
-    ensures said { IfSome (K.written out.old) (λ before. RunSays result (Some bytes.now) before (K.written out.new) (K.faults out.old) (K.faults out.new)) }
+    ensures said { IfTold K.written K.faults out.old out.new (RunSays result (Some bytes.now)) }
     ensures never_falls { K.faults out.old ≤ K.faults out.new }
 {
     let scenario = match read(alloc, bytes) {
@@ -58,7 +59,7 @@ pub fn run<S: Source, K: Sink>(alloc: Global, input: &mut S, out: &mut K) -> Sta
     ensures far { IfSome (S.left input.old) (λ bytes. Reads (limit_of words.Run) result bytes (S.left input.new)) }
     ensures taken { TakesAtMost (S.left input.old) (S.left input.new) (limit_of words.Run + 1) }
     ensures form { IfSome (S.left input.old) (λ bytes. RunTells result bytes) }
-    ensures said { IfSome (K.written out.old) (λ before. RunSays result (S.left input.old) before (K.written out.new) (K.faults out.old) (K.faults out.new)) }
+    ensures said { IfTold K.written K.faults out.old out.new (RunSays result (S.left input.old)) }
     ensures source_falls { S.faults input.old ≤ S.faults input.new }
     ensures sink_falls { K.faults out.old ≤ K.faults out.new }
 {

@@ -1,10 +1,9 @@
 //! The program.
-ghost use Rattle.std.specs.Prelude.{◌≡◌, ◌+◌, ◌≤◌, ◌↔◌, Some, None, IfSome, map, string_bytes};
+ghost use Rattle.std.specs.Prelude.{◌≡◌, ◌≤◌, ◌↔◌, Some, None};
 ghost use Rattle.bus_base.specs.Faults.{HasRisen};
-ghost use Rattle.bus_base.specs.Whole.{TakesAtMost};
-ghost use Rattle.bus_cli.specs.Words.{word_of, limit_of};
 ghost use Rattle.bus_cli.specs.declared.words.Word.TheVariants as words_of;
-ghost use Rattle.bus_cli.specs.Ends.{Says, Reads, TellsForm, status_of, IsMet};
+ghost use Rattle.bus_cli.specs.Lines.{IfTold};
+ghost use Rattle.bus_cli.specs.Ends.{Says, word_in, ReadsFar, TakesWithin, TellsInput, MeetsInput};
 
 use crate::judging::judge;
 use crate::running::run;
@@ -34,16 +33,17 @@ pub fn bus_main<S: Source, K: Sink, L: Ledger>(
     out: &mut K,
     steps: &mut Steps<L>,
 ) -> Status
-    ensures words { (result ≡ Status.Words) ↔ (word_of (map string_bytes words.now) ≡ None) }
+    ensures words { (result ≡ Status.Words) ↔ (word_in words.now ≡ None) }
     ensures untouched { result ≡ Status.Words → input.new ≡ input.old }
-    ensures memory { word_of (map string_bytes words.now) ≡ Some words_of.Judge → result ≡ Status.Memory → ⊥ }
+    ensures memory { word_in words.now ≡ Some words_of.Judge → result ≡ Status.Memory → ⊥ }
     ensures read { result ≡ Status.Read → HasRisen (S.faults input.old) (S.faults input.new) }
     ensures write { result ≡ Status.Write → HasRisen (K.faults out.old) (K.faults out.new) }
-    ensures far { IfSome (word_of (map string_bytes words.now)) (λ word. IfSome (S.left input.old) (λ bytes. Reads (limit_of word) result bytes (S.left input.new))) }
-    ensures taken { IfSome (word_of (map string_bytes words.now)) (λ word. TakesAtMost (S.left input.old) (S.left input.new) (limit_of word + 1)) }
-    ensures form { IfSome (word_of (map string_bytes words.now)) (λ word. IfSome (S.left input.old) (λ bytes. TellsForm word result bytes)) }
-    ensures said { IfSome (K.written out.old) (λ before. Says (word_of (map string_bytes words.now)) result (S.left input.old) before (K.written out.new) (K.faults out.old) (K.faults out.new)) }
-    ensures complete { ¬ HasRisen (S.faults input.old) (S.faults input.new) → IfSome (word_of (map string_bytes words.now)) (λ word. IfSome (S.left input.old) (λ bytes. IsMet (status_of word bytes) result)) }
+    ensures far { ReadsFar (word_in words.now) result (S.left input.old) (S.left input.new) }
+    ensures taken { TakesWithin (word_in words.now) (S.left input.old) (S.left input.new) }
+    ensures form { TellsInput (word_in words.now) result (S.left input.old) }
+    ensures said { IfTold K.written K.faults out.old out.new (Says (word_in words.now) result (S.left input.old)) }
+    ensures complete { ¬ HasRisen (S.faults input.old) (S.faults input.new)
+        → MeetsInput (word_in words.now) result (S.left input.old) }
     ensures source_never_falls { S.faults input.old ≤ S.faults input.new }
     ensures sink_never_falls { K.faults out.old ≤ K.faults out.new }
     ensures steps { steps.new ≡ steps.old }

@@ -1,9 +1,9 @@
 -- What rows tell the two ends of a connection, computed: a selection, MESSAGE OUT with bytes that are begun anew, and MESSAGE
 -- IN with a byte that a fault strikes; and a reselection.
-use Rattle.bus_lines.specs.LineSet.{set_of}
-use Rattle.bus_lines.specs.View.{union_below}
-use Rattle.bus_lines.specs.declared.Row.{Row}
-use Rattle.bus_lines.specs.declared.Kind.TheVariants.{Drives, Fault}
+use Rattle.bus_trace.specs.LineSet.{set_of}
+use Rattle.bus_trace.specs.View.{union_below}
+use Rattle.bus_trace.specs.declared.Row.{Row}
+use Rattle.bus_trace.specs.declared.Kind.TheVariants.{Drives, Fault}
 use Rattle.std.proofs.Common.{ℕ, ◌≡◌, Bool, true, false, List, [], ◌∷◌, reverse, drop, Option, Some, None, refl}
 use lib.Count.{ones}
 use Rattle.msg_grammar.specs.declared.message.MsgOut.{MsgOut}

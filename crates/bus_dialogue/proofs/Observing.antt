@@ -1,18 +1,18 @@
 -- What the rows tell, one row more.
 use Rattle.std.proofs.Common.{◌≡◌, List, ◌∷◌, Bool, Option, ◌∙◌}
 use Rattle.std.specs.Prelude.{if◌then◌else◌}
-use Rattle.bus_lines.specs.declared.Row.{Row}
-use Rattle.bus_lines.specs.declared.connection.Connection.{Connection}
+use Rattle.bus_trace.specs.declared.Row.{Row}
+use Rattle.bus_trace.specs.declared.connection.Connection.{Connection}
 use Rattle.bus_lines.specs.declared.effect.RowEffect.{RowEffect}
 use Rattle.bus_lines.specs.BusView.{BusViewValue, IsBusViewOf}
-use Rattle.bus_lines.specs.Terms.{connection}
+use Rattle.bus_trace.specs.Terms.{connection}
 use Rattle.bus_lines.specs.Effect.{effect}
 use Rattle.bus_lines.specs.Handshakes.{Handshakes, handshakes}
-use Rattle.bus_rules.specs.declared.agreements.Agreements.{Agreements}
-use Rattle.bus_rules.specs.declared.dialogue.Dialogue.{Dialogue}
-use Rattle.bus_rules.specs.Dialogue.{asynchronous, closed_agreement_by, dialogue_after, agreed}
-use Rattle.bus_rules.specs.Judging.{AreAgreements}
-use Rattle.bus_rules.proofs.Agreeing.{agreeing}
+use Rattle.bus_phases.specs.declared.agreements.Agreements.{Agreements}
+use Rattle.bus_phases.specs.declared.dialogue.Dialogue.{Dialogue}
+use Rattle.bus_phases.specs.Dialogue.{asynchronous, closed_agreement_by, dialogue_after, agreed}
+use Rattle.bus_phases.specs.Tables.{AreAgreements}
+use Rattle.bus_phases.proofs.Agreeing.{agreeing}
 use Rattle.bus_dialogue.specs.declared.exchange.Hearing.{Hearing}
 use Rattle.bus_dialogue.specs.Hearing.{begun_after, hearing_by}
 use Rattle.bus_dialogue.specs.Observer.{ObserverValue, IsObserverOf}

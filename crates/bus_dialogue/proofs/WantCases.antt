@@ -1,24 +1,21 @@
 -- What an initiator sends next, what a target has ready, and what a target shows, computed on small books.
-use Rattle.std.proofs.Common.{ℕ, ◌≡◌, Bool, true, false, List, [], ◌∷◌, Option, Some, None, refl}
+use Rattle.std.proofs.Common.{ℕ, ◌≡◌, Bool, true, false, [], ◌∷◌, Option, Some, None, refl}
 use Rattle.bus_base.specs.declared.ProcId.{ProcId}
 use Rattle.bus_base.specs.declared.AbortKind.TheVariants as aborts
 use Rattle.bus_base.specs.declared.Event.TheVariants as events
-use Rattle.bus_lines.specs.declared.connection.Connection.{Connection}
+use Rattle.bus_trace.specs.declared.connection.Connection.{Connection}
 use Rattle.scenario.specs.declared.value.CmdDef.{CmdDef}
 use Rattle.scenario.specs.declared.value.Payload.TheVariants as payloads
 use Rattle.scenario.specs.declared.value.Tag.{Tag}
 use Rattle.scenario.specs.declared.value.Tag.TheVariants as tags
 use Rattle.disk_array.specs.Processes.{Process}
-use Rattle.disk_array.specs.Units.{RunningProcess}
-use Rattle.bus_story.specs.Items.{Item, abort, command_item, sense_item}
+use Rattle.bus_story.specs.Items.{abort, command_item, sense_item}
 use Rattle.bus_dialogue.specs.declared.exchange.Arrival.TheVariants as arrivals
-use Rattle.bus_dialogue.specs.declared.exchange.Cause.TheVariants as causes
 use Rattle.bus_dialogue.specs.declared.exchange.Phase.TheVariants as phases
 use Rattle.bus_dialogue.specs.declared.exchange.Plan.{Plan}
-use Rattle.bus_dialogue.specs.declared.exchange.Said.{Said}
 use Rattle.bus_dialogue.specs.Exchange.{no_plan, nothing_heard}
 use Rattle.bus_dialogue.specs.NextPhase.{Serving}
-use Rattle.bus_dialogue.specs.Wants.{OwnCommand, OwnAbort, Book, item_by, item_since, Ready, ready_in, ready_by}
+use Rattle.bus_dialogue.specs.Wants.{OwnCommand, Book, item_by, item_since, Ready, ready_in, ready_by}
 use Rattle.bus_dialogue.specs.Events.{leaving_events}
 
 -- ---- the book of an initiator

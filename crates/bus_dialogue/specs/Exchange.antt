@@ -1,6 +1,6 @@
 -- What the two devices of a connection have to say to each other.
 use Rattle.std.specs.Prelude.{ℕ, ◌+◌, Bool, true, false, List, [], ◌++◌, length, slice_index_or, Option, Some, None, nat_lt, if◌then◌else◌}
-use Rattle.bus_lines.specs.declared.agreements.Agreement.{Agreement}
+use Rattle.bus_trace.specs.declared.agreements.Agreement.{Agreement}
 use Rattle.msg_grammar.specs.declared.message.MsgOut.{MsgOut}
 use Rattle.msg_grammar.specs.declared.message.MsgOut.TheVariants as to_target
 use Rattle.msg_grammar.specs.declared.message.MsgIn.{MsgIn}
@@ -14,7 +14,7 @@ use Rattle.bus_dialogue.specs.declared.exchange.Said.{Said}
 use Rattle.bus_dialogue.specs.declared.exchange.Plan.{Plan}
 use Rattle.bus_dialogue.specs.declared.exchange.Cause.TheVariants as causes
 use Rattle.bus_dialogue.specs.declared.exchange.Next.TheVariants as nexts
-use Rattle.bus_rules.specs.Dialogue.{asynchronous}
+use Rattle.bus_phases.specs.Dialogue.{asynchronous}
 
 -- At the initiator: what it says in MESSAGE OUT, the place of its next byte, and what the target has last asked for by a
 -- synchronous data transfer request.

@@ -1,7 +1,7 @@
 // What the two ends of a connection know of each other, and what they mean to do.
 
 use bus_base::AbortKind;
-use bus_lines::{Agreement, Change};
+use bus_trace::{Agreement, Change};
 use msg_grammar::{MsgIn, MsgOut};
 use scenario::Tag;
 

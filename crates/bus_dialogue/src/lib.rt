@@ -16,8 +16,6 @@
 
 mod exchange;
 mod observer;
-#[cfg(test)]
-mod tests;
 
 pub use exchange::{
     Arrival, Cause, Hearing, Leaving, Messages, Next, Phase, Plan, Room, Said, Task,

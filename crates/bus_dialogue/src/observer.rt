@@ -1,19 +1,17 @@
 //! What the rows tell all devices.
 ghost use Rattle.std.specs.Prelude.{ℕ, ◌≡◌, ◌<◌, ◌∷◌, [], List};
 ghost use Rattle.msg_grammar.specs.declared.message.Got.{Got};
-ghost use Rattle.bus_lines.specs.declared.Row.{Row};
+ghost use Rattle.bus_trace.specs.declared.Row.{Row};
 ghost use Rattle.bus_lines.specs.BusView.{IsBusViewOf};
-ghost use Rattle.bus_rules.specs.Dialogue.{fresh_bytes, dialogue};
+ghost use Rattle.bus_phases.specs.Dialogue.{fresh_bytes, dialogue};
 ghost use Rattle.bus_story.specs.BusState.{whole_out, whole_in, message_out, message_in};
 ghost use Rattle.bus_dialogue.specs.Hearing.{begun_after, begun, hearing_by, no_hearing, last_hearing};
 ghost use Rattle.bus_dialogue.specs.Observer.{IsObserverOf};
 
 use crate::exchange::Hearing;
-use bus_lines::{
-    Agreement, BusView, Change, Connection, Row, RowEffect, changes_phase, is_message_in,
-    is_message_out, no_effect,
-};
-use bus_rules::{Agreements, Dialogue, End, Half, agree, asynchronous};
+use bus_lines::{BusView, RowEffect, no_effect};
+use bus_phases::{Agreements, Dialogue, End, Half, agree, asynchronous};
+use bus_trace::{Agreement, Change, Connection, Row, changes_phase, is_message_in, is_message_out};
 use msg_grammar::{Got, MsgIn, MsgOut};
 use std::marker::Model;
 
@@ -34,7 +32,13 @@ impl Model for Observer {
 
     ghost Value = { ObserverValue };
 
-    ghost view = { λ a. record { view = a.view; agreed = a.agreed; dialogue = a.dialogue; begun = a.begun; hearing = a.hearing } };
+    ghost view = { λ a. record {
+      view = a.view;
+      agreed = a.agreed;
+      dialogue = a.dialogue;
+      begun = a.begun;
+      hearing = a.hearing;
+    } };
 }
 
 fn whole_out(got: Got<MsgOut>) -> Option<MsgOut>

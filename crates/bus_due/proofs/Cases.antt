@@ -1,9 +1,9 @@
 -- Whole runs, computed from their scenarios by what is due: the rows and the histories are those of the reports, which
 -- an independent simulator printed. Written by tools/due_case.py.
-use Rattle.bus_lines.specs.LineSet.{set_of, line_of}
-use Rattle.bus_lines.specs.View.{union_below}
-use Rattle.bus_lines.specs.declared.Row.{Row}
-use Rattle.bus_lines.specs.declared.Kind.TheVariants.{Drives, Fault}
+use Rattle.bus_trace.specs.LineSet.{set_of, line_of}
+use Rattle.bus_trace.specs.View.{union_below}
+use Rattle.bus_trace.specs.declared.Row.{Row}
+use Rattle.bus_trace.specs.declared.Kind.TheVariants.{Drives, Fault}
 use Rattle.msg_grammar.specs.Messages.{form_out, form_in}
 use Rattle.bus_due.specs.Next.{least}
 use Rattle.bus_due.specs.Run.{Run, run_from, run_by_due, history_of}

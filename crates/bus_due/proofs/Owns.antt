@@ -3,14 +3,14 @@ use Rattle.std.proofs.Common.{inl, inr, ℕ, ◌≡◌, ◌≢◌, ◌<◌, ◌=
 use Rattle.std.specs.Prelude.{slice_set, if◌then◌else◌}
 use Rattle.std.proofs.lemmas.Bool.{cases_eq, eq-eqb, ne_eqb}
 use Rattle.std.proofs.lemmas.Grind.{common_steps, elements}
-use Rattle.bus_lines.specs.LineSet.{LineSet}
-use Rattle.bus_lines.specs.View.{driven_at}
-use Rattle.bus_lines.specs.declared.Row.{Row}
-use Rattle.bus_lines.specs.declared.Kind.{Kind}
-use Rattle.bus_lines.specs.declared.Kind.TheVariants.{Drives, Fault}
-use Rattle.bus_lines.specs.Trace.{driven_after}
-use Rattle.bus_lines.specs.declared.changes.Change.{Change}
-use Rattle.bus_lines.specs.Terms.{is_fault}
+use Rattle.bus_trace.specs.LineSet.{LineSet}
+use Rattle.bus_trace.specs.View.{driven_at}
+use Rattle.bus_trace.specs.declared.Row.{Row}
+use Rattle.bus_trace.specs.declared.Kind.{Kind}
+use Rattle.bus_trace.specs.declared.Kind.TheVariants.{Drives, Fault}
+use Rattle.bus_trace.specs.Trace.{driven_after}
+use Rattle.bus_trace.specs.declared.changes.Change.{Change}
+use Rattle.bus_trace.specs.Terms.{is_fault}
 use Rattle.scenario.specs.Value.{ScenarioValue}
 use Rattle.bus_story.specs.BusState.{change_by, row_reading}
 use Rattle.bus_reactions.specs.declared.due.Myself.{Myself}

@@ -3,9 +3,9 @@ use Rattle.std.proofs.Common.{◌≡◌, true, reverse, refl, length}
 use Rattle.std.specs.Prelude.{nat_le, is_some, Option}
 use Rattle.std.specs.List.{list_all}
 use lib.Count.{ones}
-use Rattle.bus_lines.specs.LineSet.{none, line_of}
-use Rattle.bus_lines.specs.View.{union_below}
-use Rattle.bus_lines.specs.Trace.{bus, last_time}
+use Rattle.bus_trace.specs.LineSet.{none, line_of}
+use Rattle.bus_trace.specs.View.{union_below}
+use Rattle.bus_trace.specs.Trace.{bus, last_time}
 use Rattle.msg_grammar.specs.Messages.{form_out, form_in}
 use Rattle.bus_rules.specs.Seen.{seen_with}
 use Rattle.bus_rules.specs.Rules.{judged_whole}

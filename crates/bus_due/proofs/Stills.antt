@@ -2,16 +2,16 @@
 use Rattle.std.proofs.Common.{ℕ, zero, suc, ◌≡◌, ◌==◌, Bool, true, false, List, [], ◌∷◌, ◌∙◌, refl, sym, ap, arith, Option, Some, None}
 use Rattle.std.proofs.lemmas.Bool.Decides.{nat_tests}
 use Rattle.std.specs.Prelude.{if◌then◌else◌, not, drop, slice_set, ◌&&◌, ◌||◌}
-use Rattle.bus_lines.specs.declared.Row.{Row}
-use Rattle.bus_lines.specs.declared.Kind.{Kind}
-use Rattle.bus_lines.specs.declared.Kind.TheVariants.{Drives, Fault}
-use Rattle.bus_lines.specs.declared.changes.Change.{Change}
-use Rattle.bus_lines.specs.declared.selection.Call.{Call}
-use Rattle.bus_lines.specs.declared.connection.Connection.{Connection}
-use Rattle.bus_rules.specs.declared.spoken.Spoken.{Spoken}
-use Rattle.bus_lines.specs.Changes.{falls}
-use Rattle.bus_lines.specs.Terms.{is_fault, connection_after}
-use Rattle.bus_lines.specs.Phases.{changes_phase}
+use Rattle.bus_trace.specs.declared.Row.{Row}
+use Rattle.bus_trace.specs.declared.Kind.{Kind}
+use Rattle.bus_trace.specs.declared.Kind.TheVariants.{Drives, Fault}
+use Rattle.bus_trace.specs.declared.changes.Change.{Change}
+use Rattle.bus_trace.specs.declared.selection.Call.{Call}
+use Rattle.bus_trace.specs.declared.connection.Connection.{Connection}
+use Rattle.bus_phases.specs.declared.spoken.Spoken.{Spoken}
+use Rattle.bus_trace.specs.Changes.{falls}
+use Rattle.bus_trace.specs.Terms.{is_fault, connection_after}
+use Rattle.bus_trace.specs.Phases.{changes_phase}
 use Rattle.bus_base.specs.declared.Event.{Event}
 use Rattle.scenario.specs.Value.{ScenarioValue}
 use Rattle.bus_story.specs.PairAgreements.{PairAgreement, agreements_at_end, agreements_after}
@@ -30,11 +30,11 @@ use Rattle.bus_dialogue.specs.Speaking.{speech_in_phase, speech_with_byte}
 use Rattle.bus_dialogue.specs.Planning.{plan_in_phase, plan_with_byte}
 use Rattle.bus_due.specs.RunSteps.{run_state, run_state_with, run_state_with_events, leaving_of, exchange_after, served_after, negotiated_by_connection, progress_by_leaving, progress_after}
 use Rattle.bus_due.specs.Wishes.{IsStillBy, IsStill, is_entry_row, Wishes, wishes_of}
-use Rattle.bus_lines.specs.LineSet.{none}
+use Rattle.bus_trace.specs.LineSet.{none}
 use Rattle.bus_story.specs.BusState.{quiet_bus}
 use Rattle.bus_story.specs.Story.{empty_story}
 use Rattle.bus_story.specs.TraceHistory.{aim_of}
-use Rattle.bus_reactions.specs.Ages.{no_age}
+use Rattle.bus_trace.specs.Trace.{no_times}
 use Rattle.bus_lines.specs.Handshakes.{no_handshakes}
 use Rattle.bus_due.specs.RunState.{bus_of}
 use Rattle.bus_due.specs.Wants.{want_time, callee}
@@ -204,7 +204,7 @@ shadow w attention = record {
   array = w.array;
   current_since = w.current_since;
   last = 0;
-  ages = no_age;
+  ages = no_times;
   owns = [];
   arbitration = None;
   handshakes = no_handshakes;

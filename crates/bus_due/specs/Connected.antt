@@ -1,8 +1,8 @@
 -- The two ends of a connection.
 use Rattle.std.specs.Prelude.{ℕ, Bool, false, ◌==◌, Option, Some, None, if◌then◌else◌}
-use Rattle.bus_lines.specs.declared.changes.Change.{Change}
-use Rattle.bus_lines.specs.declared.connection.Connection.{Connection}
-use Rattle.bus_lines.specs.Terms.{receiver_in}
+use Rattle.bus_trace.specs.declared.changes.Change.{Change}
+use Rattle.bus_trace.specs.declared.connection.Connection.{Connection}
+use Rattle.bus_trace.specs.Terms.{receiver_in}
 use Rattle.scenario.specs.Value.{ScenarioValue}
 use Rattle.bus_reactions.specs.declared.due.Due.{Due}
 use Rattle.bus_reactions.specs.declared.due.Myself.{Myself}

@@ -1,11 +1,11 @@
 -- What crossed unstruck is what was to be said: the opening, the command block, the data of a run, and who the ends are.
 use Rattle.std.specs.Prelude.{ℕ, ◌+◌, ◌%◌, Bool, true, false, ◌&&◌, ◌||◌, ◌==◌, List, [], ◌∷◌, slice_index_or, Option, Some, None, is_none, if◌then◌else◌}
-use Rattle.bus_lines.specs.declared.Row.{Row}
-use Rattle.bus_lines.specs.Phases.{changes_phase}
+use Rattle.bus_trace.specs.declared.Row.{Row}
+use Rattle.bus_trace.specs.Phases.{changes_phase}
 use Rattle.scenario.specs.declared.value.Tag.{Tag}
 use Rattle.scenario.specs.declared.value.Tag.TheVariants as tags
 use Rattle.scenario.specs.Value.{ScenarioValue}
-use Rattle.bus_lines.specs.declared.connection.Connection.{Connection}
+use Rattle.bus_trace.specs.declared.connection.Connection.{Connection}
 use Rattle.bus_base.specs.declared.AbortKind.{AbortKind}
 use Rattle.scenario.specs.declared.value.AbortDef.{AbortDef}
 use Rattle.bus_story.specs.Items.{Item, process, abort, same_item}

@@ -1,9 +1,9 @@
 -- The reactions of a device by the plain terms of the rows, of which the laws say that they are what is due.
 use Rattle.std.specs.Prelude.{ℕ, ◌≡◌, ◌<◌, false, List, Option, Some}
-use Rattle.bus_lines.specs.declared.Row.{Row}
-use Rattle.bus_lines.specs.declared.connection.Connection.{Connection}
-use Rattle.bus_lines.specs.Trace.{bus, last_time}
-use Rattle.bus_lines.specs.Terms.{connection, receiver}
+use Rattle.bus_trace.specs.declared.Row.{Row}
+use Rattle.bus_trace.specs.declared.connection.Connection.{Connection}
+use Rattle.bus_trace.specs.Trace.{bus, last_time}
+use Rattle.bus_trace.specs.Terms.{connection, receiver}
 use Rattle.bus_lines.specs.Handshakes.{handshakes}
 use Rattle.scenario.specs.Value.{ScenarioValue}
 use Rattle.bus_story.specs.Samples.{latency_of}

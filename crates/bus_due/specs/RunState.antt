@@ -1,10 +1,10 @@
 -- All that a device's next row depends on, kept from row to row.
 use Rattle.std.specs.Prelude.{ℕ, List, Option, Some, None}
 use Rattle.bus_base.specs.declared.ProcId.{ProcId}
-use Rattle.bus_lines.specs.LineSet.{LineSet}
-use Rattle.bus_lines.specs.View.{driven_at}
-use Rattle.bus_lines.specs.declared.agreements.Agreement.{Agreement}
-use Rattle.bus_lines.specs.declared.arbitration.Arbitration.{Arbitration}
+use Rattle.bus_trace.specs.LineSet.{LineSet}
+use Rattle.bus_trace.specs.View.{driven_at}
+use Rattle.bus_trace.specs.declared.agreements.Agreement.{Agreement}
+use Rattle.bus_trace.specs.declared.arbitration.Arbitration.{Arbitration}
 use Rattle.scenario.specs.declared.value.FaultDef.{FaultDef}
 use Rattle.scenario.specs.Value.{ScenarioValue}
 use Rattle.disk_array.specs.Processes.{Process, process_of}
@@ -13,7 +13,7 @@ use Rattle.bus_story.specs.Items.{Item, process, abort}
 use Rattle.bus_story.specs.Links.{Link}
 use Rattle.bus_story.specs.CarriedBytes.{CarriedBytes, carried_of}
 use Rattle.bus_story.specs.Story.{Story}
-use Rattle.bus_reactions.specs.declared.sight.Ages.{Ages}
+use Rattle.bus_trace.specs.declared.line_times.LineTimes.{LineTimes}
 use Rattle.bus_due.specs.Own.{Own}
 use Rattle.bus_lines.specs.Handshakes.{Handshakes}
 use Rattle.bus_dialogue.specs.Exchange.{Exchange}
@@ -27,7 +27,7 @@ pub record RunState : Type 0 where
   pub current_since : List ℕ
   -- the bus
   pub last : ℕ
-  pub ages : Ages
+  pub ages : LineTimes
   pub owns : List Own
   pub arbitration : Option Arbitration
   -- the connection that stands

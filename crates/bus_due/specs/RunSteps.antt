@@ -1,10 +1,10 @@
 -- All that is kept, row by row.
 use Rattle.std.specs.Prelude.{ℕ, Bool, true, false, not, ◌&&◌, ◌||◌, List, [], ◌∷◌, drop, length, replicate, Option, Some, None, if◌then◌else◌}
 use Rattle.bus_base.specs.declared.Event.{Event}
-use Rattle.bus_lines.specs.declared.Row.{Row}
-use Rattle.bus_lines.specs.declared.connection.Connection.{Connection}
-use Rattle.bus_lines.specs.Terms.{is_fault, arbitration_after}
-use Rattle.bus_lines.specs.Phases.{changes_phase}
+use Rattle.bus_trace.specs.declared.Row.{Row}
+use Rattle.bus_trace.specs.declared.connection.Connection.{Connection}
+use Rattle.bus_trace.specs.Terms.{is_fault, arbitration_after}
+use Rattle.bus_trace.specs.Phases.{changes_phase}
 use Rattle.scenario.specs.Value.{ScenarioValue}
 use Rattle.disk_array.specs.Processes.{Process, same_id}
 use Rattle.disk_array.specs.Units.{RunningProcess, UnitState, Array}
@@ -15,7 +15,7 @@ use Rattle.bus_story.specs.Story.{empty_story}
 use Rattle.bus_story.specs.HistoryEvents.{row_events_by}
 use Rattle.bus_story.specs.TraceHistory.{story_with, aim_of}
 use Rattle.bus_story.specs.Samples.{faults_in_order}
-use Rattle.bus_reactions.specs.Ages.{no_age, ages_after, free_age}
+use Rattle.bus_trace.specs.Trace.{no_times, times_after, free_time}
 use Rattle.bus_due.specs.Own.{idle_device, owns_after}
 use Rattle.bus_lines.specs.Handshakes.{no_handshakes, handshakes_after}
 use Rattle.bus_dialogue.specs.declared.exchange.Hearing.{Hearing}
@@ -39,7 +39,7 @@ first_run_state s = record {
   array = Play.array_after s [];
   current_since = replicate (length s.units) 0;
   last = 0;
-  ages = no_age;
+  ages = no_times;
   owns = replicate 8 idle_device;
   arbitration = None;
   handshakes = no_handshakes;
@@ -153,9 +153,9 @@ run_state_with s k row d shown array l = record {
   array = array;
   current_since = current_times_if s k shown array row.time;
   last = row.time;
-  ages = ages_after k.ages d.change row.time;
+  ages = times_after k.ages d.change.before d.change.after row.time;
   owns = owns_after k.owns row d.change;
-  arbitration = arbitration_after k.arbitration (free_age k.ages) d.change row;
+  arbitration = arbitration_after k.arbitration (free_time k.ages) d.change row;
   handshakes = handshakes_after (is_fault row.kind) d.next d.change row.time k.handshakes;
   exchange = exchange_after s k row d k.story.bus_state.connection d.next l;
   served = served_after s k k.story.bus_state.connection d.next;

@@ -1,7 +1,7 @@
 -- What each device knows after some rows, and what it wants or has to do: by what is kept of them.
 use Rattle.std.specs.Prelude.{ℕ, ◌+◌, not, List, [], ◌∷◌, Option, Some, None, nat_le, if◌then◌else◌}
-use Rattle.bus_lines.specs.declared.Row.{Row}
-use Rattle.bus_lines.specs.Terms.{is_fault}
+use Rattle.bus_trace.specs.declared.Row.{Row}
+use Rattle.bus_trace.specs.Terms.{is_fault}
 use Rattle.scenario.specs.declared.value.FaultDef.{FaultDef}
 use Rattle.scenario.specs.Value.{ScenarioValue}
 use Rattle.disk_array.specs.Processes.{Process}
@@ -13,7 +13,7 @@ use Rattle.bus_reactions.specs.declared.due.Want.{Want}
 use Rattle.bus_reactions.specs.declared.ends.Pace.{Pace}
 use Rattle.bus_reactions.specs.declared.ends.Offering.{Offering}
 use Rattle.bus_reactions.specs.declared.ends.Answering.{Answering}
-use Rattle.bus_reactions.specs.Ages.{free_age}
+use Rattle.bus_trace.specs.Trace.{free_time}
 use Rattle.bus_lines.specs.Stage.{stage_by}
 use Rattle.bus_dialogue.specs.declared.exchange.Phase.{Phase}
 use Rattle.bus_dialogue.specs.declared.exchange.Phase.TheVariants as phases
@@ -38,7 +38,7 @@ use Rattle.bus_due.specs.Tasks.{task_of, given_of, arrival_of}
 
 abbrev pub stage_of : RunState → Stage
 stage_of k =
-    stage_by (bus_of k).rst k.ages.rst k.story.bus_state.connection k.story.bus_state.call k.arbitration (free_age k.ages)
+    stage_by (bus_of k).rst k.ages.rst k.story.bus_state.connection k.story.bus_state.call k.arbitration (free_time k.ages)
 
 abbrev pub sight_of : RunState → Sight
 sight_of k = record { bus = bus_of k; ages = k.ages; stage = stage_of k }

@@ -1,11 +1,11 @@
 -- What holds on the bus after the rows of a prompt trace: which device drives what, by the stage of the bus; and nothing
 -- that is due lies in the past.
 use Rattle.std.specs.Prelude.{ℕ, Bool, true, not, ◌&&◌, ◌||◌, ◌==◌, List, [], ◌∷◌, ◌+◌, ◌^◌, Option, Some, None, is_some, is_none, nat_le, if◌then◌else◌}
-use Rattle.bus_lines.specs.LineSet.{LineSet, none, same_set}
-use Rattle.bus_lines.specs.declared.Row.{Row}
-use Rattle.bus_lines.specs.declared.selection.Call.{Call}
-use Rattle.bus_lines.specs.declared.selection.Calling.{Calling}
-use Rattle.bus_lines.specs.declared.connection.Connection.{Connection}
+use Rattle.bus_trace.specs.LineSet.{LineSet, none, same_set}
+use Rattle.bus_trace.specs.declared.Row.{Row}
+use Rattle.bus_trace.specs.declared.selection.Call.{Call}
+use Rattle.bus_trace.specs.declared.selection.Calling.{Calling}
+use Rattle.bus_trace.specs.declared.connection.Connection.{Connection}
 use Rattle.bus_rules.specs.Connected.{has_no_target_line, has_no_initiator_line}
 use Rattle.scenario.specs.Value.{ScenarioValue}
 use Rattle.bus_reactions.specs.declared.due.Due.{Due}

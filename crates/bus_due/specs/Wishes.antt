@@ -1,9 +1,9 @@
 -- A row that begins, carries and tells nothing; and what the wishes of the devices are computed from, which it keeps.
 use Rattle.std.specs.Prelude.{◌≡◌, ℕ, Bool, List, [], false, Option}
-use Rattle.bus_lines.specs.declared.Row.{Row}
-use Rattle.bus_lines.specs.Changes.{falls}
-use Rattle.bus_lines.specs.Terms.{is_fault}
-use Rattle.bus_lines.specs.Phases.{changes_phase}
+use Rattle.bus_trace.specs.declared.Row.{Row}
+use Rattle.bus_trace.specs.Changes.{falls}
+use Rattle.bus_trace.specs.Terms.{is_fault}
+use Rattle.bus_trace.specs.Phases.{changes_phase}
 use Rattle.scenario.specs.declared.value.FaultDef.{FaultDef}
 use Rattle.scenario.specs.Value.{ScenarioValue}
 use Rattle.disk_array.specs.Units.{Array}

@@ -4,8 +4,8 @@ use lib.Count.{ones}
 use Rattle.bus_base.specs.declared.Event.TheVariants.{Accept, Run, End}
 use Rattle.std.specs.Prelude.{map, take, slice_index_or}
 use Rattle.std.specs.Int.RustNames.{bit_or}
-use Rattle.bus_lines.specs.LineSet.{none, byte_set}
-use Rattle.bus_lines.specs.declared.Row.{Row}
+use Rattle.bus_trace.specs.LineSet.{none, byte_set}
+use Rattle.bus_trace.specs.declared.Row.{Row}
 use Rattle.bus_engine.specs.OneRun.{row_at, process, selection, connection, out_byte, out_bytes, message_out, command, data_in}
 use Rattle.bus_engine.specs.HostState.{HostState}
 use Rattle.bus_engine.specs.TargetState.{TargetState}

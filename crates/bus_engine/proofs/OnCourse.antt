@@ -4,7 +4,7 @@ use Rattle.std.specs.Prelude.{Result, Ok, Err, IfOk}
 use Rattle.std.specs.List.{AllByRecursion}
 use Rattle.std.proofs.lemmas.Bool.{and_parts}
 use Rattle.bus_base.specs.declared.NoMemory.{NoMemory}
-use Rattle.bus_lines.specs.OfTrace.{IsRow}
+use Rattle.bus_trace.specs.OfTrace.{IsRow}
 use Rattle.bus_engine.specs.declared.request.One.{One}
 use Rattle.bus_engine.specs.declared.made.Run.{Run}
 use Rattle.bus_engine.specs.Value.{RunValue}

@@ -1,14 +1,14 @@
 -- Each row of the run is one of the two devices.
 use Rattle.std.proofs.Common.{ℕ, ◌+◌, ◌<◌, List, [], ◌∷◌, ◌++◌}
 use Rattle.std.specs.List.{AllByRecursion}
-use Rattle.bus_lines.specs.declared.delays.TheConstants.{SET_UP_TIME}
-use Rattle.bus_lines.specs.LineSet.{LineSet, none}
-use Rattle.bus_lines.specs.declared.Row.{Row}
+use Rattle.bus_trace.specs.declared.delays.TheConstants.{SET_UP_TIME}
+use Rattle.bus_trace.specs.LineSet.{LineSet, none}
+use Rattle.bus_trace.specs.declared.Row.{Row}
 use Rattle.cdb_codec.specs.declared.Command.TheVariants.{Read6}
 use Rattle.cdb_codec.specs.Cdb.{cdb_bytes}
 use Rattle.bus_engine.specs.declared.request.One.{One}
 use Rattle.bus_engine.specs.OneRun.{Fits, row_at, out_byte, out_bytes, in_bytes, with_next, selection, connection, block_of, run_of, linked, message_asked, identified, command_asked, accepted, turned, data_asked, given, status_asked, ended, message_out, command, data_in, status, message_in}
-use Rattle.bus_lines.specs.OfTrace.{IsRow}
+use Rattle.bus_trace.specs.OfTrace.{IsRow}
 
 all_append : {A : Type 0} (P : A → Type 0) (xs ys : List A) → AllByRecursion P xs → AllByRecursion P ys → AllByRecursion P (xs ++ ys)
 all_append P [] ys h k = k

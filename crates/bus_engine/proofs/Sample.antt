@@ -2,8 +2,8 @@
 use Rattle.std.proofs.Common.{ℕ, ◌≡◌, List, [], ◌∷◌, refl}
 use Rattle.bus_base.specs.declared.Event.TheVariants.{Accept, Run, End}
 use lib.Count.{ones}
-use Rattle.bus_lines.specs.LineSet.{set_of}
-use Rattle.bus_lines.specs.declared.Row.{Row}
+use Rattle.bus_trace.specs.LineSet.{set_of}
+use Rattle.bus_trace.specs.declared.Row.{Row}
 use Rattle.bus_engine.specs.declared.request.One.{One}
 use Rattle.bus_engine.specs.OneRun.{run_of, row_at, process}
 

@@ -1,7 +1,7 @@
 -- The selection by each initiator of each target, computed.
 use Rattle.std.proofs.Common.{ℕ, ◌≡◌, ◌≢◌, ◌<◌, Bool, true, false, List, Some, refl}
 use lib.Count.{ones}
-use Rattle.bus_lines.proofs.Devices.{below_8}
+use Rattle.bus_trace.proofs.Devices.{below_8}
 use Rattle.bus_engine.specs.Runs.{goes}
 use Rattle.bus_engine.proofs.Course.{begun, linked}
 

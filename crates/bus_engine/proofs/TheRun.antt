@@ -6,8 +6,8 @@ use Rattle.std.specs.Int.Bits.{or_zero_r}
 use Rattle.std.proofs.lemmas.Bool.{lt-ltb}
 use Rattle.std.proofs.lemmas.Bool.Decides.{nat_tests}
 use Rattle.std.proofs.lemmas.List.{length-replicate, get_or-replicate, get_or-set_same, get_or-set_other, take_all}
-use Rattle.bus_lines.specs.LineSet.{byte_set}
-use Rattle.bus_lines.proofs.OddParity.{byte_back}
+use Rattle.bus_trace.specs.LineSet.{byte_set}
+use Rattle.bus_trace.proofs.OddParity.{byte_back}
 use Rattle.cdb_codec.specs.declared.Command.TheVariants.{Read6}
 use Rattle.cdb_codec.specs.Cdb.{cdb_bytes, command_of}
 use Rattle.bus_engine.specs.declared.request.One.{One}

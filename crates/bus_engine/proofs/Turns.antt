@@ -3,11 +3,11 @@ use Rattle.std.proofs.Common.{ℕ, ◌≡◌, ◌≢◌, ◌<◌, Bool, List, �
 use Rattle.std.specs.Prelude.{nat_lt, Result, Ok, Err, IfOk, OnOk}
 use Rattle.bus_base.specs.declared.NoMemory.{NoMemory}
 use Rattle.bus_base.specs.declared.Event.{Event}
-use Rattle.bus_lines.specs.LineSet.{LineSet, union}
-use Rattle.bus_lines.specs.declared.Row.{Row}
-use Rattle.bus_lines.specs.Trace.{drives, bus, since_line, newer_line}
-use Rattle.bus_lines.proofs.Buses.{below_pair}
-use Rattle.bus_lines.proofs.OneRow.{drives-own, drives-other}
+use Rattle.bus_trace.specs.LineSet.{LineSet, union}
+use Rattle.bus_trace.specs.declared.Row.{Row}
+use Rattle.bus_trace.specs.Trace.{drives, bus, since_line, newer_line}
+use Rattle.bus_trace.proofs.Buses.{below_pair}
+use Rattle.bus_trace.proofs.OneRow.{drives-own, drives-other}
 use Rattle.bus_engine.specs.Sight.{Sight, sight_of}
 use Rattle.bus_engine.specs.OneRun.{row_at}
 use Rattle.bus_engine.specs.HostState.{HostState}

@@ -1,7 +1,7 @@
 -- What a device does at its turn: its reaction where it is due by now, else the moment of it.
 use Rattle.std.specs.Prelude.{ℕ, nat_lt, Option, Some, None, if◌then◌else◌}
 use Rattle.bus_base.specs.declared.Event.{Event}
-use Rattle.bus_lines.specs.LineSet.{LineSet}
+use Rattle.bus_trace.specs.LineSet.{LineSet}
 use Rattle.bus_engine.specs.declared.acts.Act.{Act}
 use Rattle.bus_engine.specs.declared.hosts.Reaction.{Reaction}
 use Rattle.bus_base.specs.declared.ProcId.{ProcId}

@@ -1,6 +1,6 @@
 -- Moments so early that no sum of delays reaches the end of u64.
-use Rattle.std.specs.Prelude.{ℕ, ◌<◌, ◌^◌, Bool, true, ◌&&◌, nat_lt, slice_index}
-use Rattle.bus_lines.specs.View.{View}
+use Rattle.std.specs.Prelude.{ℕ, ◌<◌, ◌^◌, Bool, true, ◌&&◌, nat_lt}
+use Rattle.bus_trace.specs.View.{View, AreBefore}
 use Rattle.bus_engine.specs.declared.hosts.Standing.{Standing}
 use Rattle.bus_engine.specs.declared.hosts.Standing.TheVariants.{Waiting, Contending, Won, Calling, Asking, Linked}
 use Rattle.bus_engine.specs.declared.hosts.Hand.{Hand}
@@ -13,9 +13,9 @@ use Rattle.bus_engine.specs.declared.targets.Stage.TheVariants.{Turning, Ready, 
 abbrev pub IsEarly : ℕ → Type 0
 IsEarly time = time < 2 ^ 62
 
--- each line has stood since such a moment
+-- each line has stood since such a moment, and the last row came at one
 abbrev pub AreEarly : View → Type 0
-AreEarly view = (line : ℕ) → line < 18 → slice_index view.changed line < 2 ^ 62
+AreEarly view = AreBefore (2 ^ 62) view
 
 abbrev pub is_early : ℕ → Bool
 is_early time = nat_lt time (2 ^ 62)

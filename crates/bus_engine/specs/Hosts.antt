@@ -3,8 +3,8 @@ use Rattle.std.specs.Prelude.{ℕ, ◌+◌, ◌%◌, ◌==◌, Bool, true, false
 use Rattle.bus_base.specs.declared.ProcId.{ProcId}
 use Rattle.bus_base.specs.declared.Event.{Event}
 use Rattle.bus_base.specs.declared.Event.TheVariants.{End}
-use Rattle.bus_lines.specs.declared.delays.TheConstants.{ENTRY_DELAY, ARBITRATION_DELAY, QUIET_TIME, TWO_DESKEW, SET_UP_TIME}
-use Rattle.bus_lines.specs.LineSet.{LineSet, none, byte_set, id_set, ids_set, has_id_above}
+use Rattle.bus_trace.specs.declared.delays.TheConstants.{ENTRY_DELAY, ARBITRATION_DELAY, QUIET_TIME, TWO_DESKEW, SET_UP_TIME}
+use Rattle.bus_trace.specs.LineSet.{LineSet, none, byte_set, id_set, ids_set, has_id_above}
 use Rattle.bus_engine.specs.Sight.{Sight}
 use Rattle.bus_engine.specs.OneRun.{process}
 use Rattle.bus_engine.specs.HostState.{HostState}

@@ -4,10 +4,10 @@ use Rattle.std.specs.Prelude.{ℕ, ◌≡◌, ◌≢◌, ◌<◌, ◌≤◌, ◌
 use Rattle.std.specs.List.{AllByRecursion}
 use Rattle.bus_base.specs.declared.ProcId.{ProcId}
 use Rattle.bus_base.specs.declared.Event.TheVariants.{Accept, Run, End}
-use Rattle.bus_lines.specs.declared.delays.TheConstants.{ENTRY_DELAY, ARBITRATION_DELAY, QUIET_TIME, TWO_DESKEW, BUS_SETTLE_DELAY, SET_UP_TIME, TURN_DELAY}
-use Rattle.bus_lines.specs.LineSet.{LineSet, none, byte_set, id_set, ids_set}
-use Rattle.bus_lines.specs.declared.Row.{Row}
-use Rattle.bus_lines.specs.declared.Kind.TheVariants.{Drives}
+use Rattle.bus_trace.specs.declared.delays.TheConstants.{ENTRY_DELAY, ARBITRATION_DELAY, QUIET_TIME, TWO_DESKEW, BUS_SETTLE_DELAY, SET_UP_TIME, TURN_DELAY}
+use Rattle.bus_trace.specs.LineSet.{LineSet, none, byte_set, id_set, ids_set}
+use Rattle.bus_trace.specs.declared.Row.{Row}
+use Rattle.bus_trace.specs.declared.Kind.TheVariants.{Drives}
 use Rattle.cdb_codec.specs.declared.Command.TheVariants.{Read6}
 use Rattle.cdb_codec.specs.Cdb.{cdb_bytes}
 use Rattle.bus_engine.specs.declared.request.One.{One}

@@ -2,9 +2,9 @@
 -- far. What the rounds of the code are proved against.
 use Rattle.std.specs.Prelude.{ℕ, Bool, true, false, min, nat_lt, List, [], ◌∷◌, ◌++◌, Option, Some, None}
 use Rattle.bus_base.specs.declared.Event.{Event}
-use Rattle.bus_lines.specs.LineSet.{LineSet, union}
-use Rattle.bus_lines.specs.declared.Row.{Row}
-use Rattle.bus_lines.specs.Trace.{drives, since_line, newer_line}
+use Rattle.bus_trace.specs.LineSet.{LineSet, union}
+use Rattle.bus_trace.specs.declared.Row.{Row}
+use Rattle.bus_trace.specs.Trace.{drives, since_line, newer_line}
 use Rattle.bus_engine.specs.Sight.{Sight}
 use Rattle.bus_engine.specs.OneRun.{row_at}
 use Rattle.bus_engine.specs.HostState.{HostState}

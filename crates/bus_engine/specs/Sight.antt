@@ -1,8 +1,8 @@
 -- What a device sees of the rows so far: the bus, and when the lines that it looks at last changed.
 use Rattle.std.specs.Prelude.{ℕ, List}
-use Rattle.bus_lines.specs.LineSet.{LineSet}
-use Rattle.bus_lines.specs.declared.Row.{Row}
-use Rattle.bus_lines.specs.Trace.{bus, since_line}
+use Rattle.bus_trace.specs.LineSet.{LineSet}
+use Rattle.bus_trace.specs.declared.Row.{Row}
+use Rattle.bus_trace.specs.Trace.{bus, since_line}
 
 pub record Sight : Type 0 where
   pub bus : LineSet

@@ -1,6 +1,6 @@
 -- The scene at the start, and what is made of the scene at the end.
 use Rattle.std.specs.Prelude.{[], ◌∷◌, reverse}
-use Rattle.bus_lines.specs.Trace.{last_time}
+use Rattle.bus_trace.specs.Trace.{last_time}
 use Rattle.bus_engine.specs.declared.request.One.{One}
 use Rattle.bus_engine.specs.Value.{RunValue}
 use Rattle.bus_engine.specs.OneRun.{disk_of}

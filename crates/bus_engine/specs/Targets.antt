@@ -3,8 +3,8 @@ use Rattle.std.specs.Prelude.{ℕ, ◌+◌, ◌%◌, ◌==◌, Bool, true, false
 use Rattle.bus_base.specs.declared.ProcId.{ProcId}
 use Rattle.bus_base.specs.declared.Event.{Event}
 use Rattle.bus_base.specs.declared.Event.TheVariants.{Accept, Run}
-use Rattle.bus_lines.specs.declared.delays.TheConstants.{BUS_SETTLE_DELAY, SET_UP_TIME, TURN_DELAY}
-use Rattle.bus_lines.specs.LineSet.{LineSet, none, union, byte_set, has_id, ids_in, has_odd_parity}
+use Rattle.bus_trace.specs.declared.delays.TheConstants.{BUS_SETTLE_DELAY, SET_UP_TIME, TURN_DELAY}
+use Rattle.bus_trace.specs.LineSet.{LineSet, none, union, byte_set, has_id, ids_in, has_odd_parity}
 use Rattle.cdb_codec.specs.declared.status.TheConstants.{GOOD, CHECK_CONDITION}
 use Rattle.cdb_codec.specs.declared.Command.{Command}
 use Rattle.cdb_codec.specs.declared.Command.TheVariants.{Read6}

@@ -1,7 +1,7 @@
 -- What contracts see of a run.
 use Rattle.std.specs.Prelude.{ℕ, List}
 use Rattle.bus_base.specs.declared.Event.{Event}
-use Rattle.bus_lines.specs.declared.Row.{Row}
+use Rattle.bus_trace.specs.declared.Row.{Row}
 use Rattle.bus_engine.specs.declared.outcomes.Outcome.{Outcome}
 
 pub record RunValue : Type 0 where

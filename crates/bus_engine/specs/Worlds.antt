@@ -1,8 +1,9 @@
 -- The world of the code as a scene, and what every world keeps.
-use Rattle.std.specs.Prelude.{ℕ, ◌≡◌, ◌≢◌, ◌<◌, ◌≤◌, List, reverse, slice_index, IfSome}
-use Rattle.bus_lines.specs.LineSet.{none}
-use Rattle.bus_lines.specs.declared.Row.{Row}
-use Rattle.bus_lines.specs.Trace.{IsViewOf, drives}
+use Rattle.std.specs.Prelude.{ℕ, ◌≡◌, ◌≢◌, ◌<◌, ◌≤◌, List, reverse, IfSome}
+use Rattle.bus_trace.specs.LineSet.{none}
+use Rattle.bus_trace.specs.declared.Row.{Row}
+use Rattle.bus_trace.specs.View.{IsUpTo}
+use Rattle.bus_trace.specs.Trace.{IsViewOf, drives}
 use Rattle.bus_engine.specs.Scene.{Scene, scene_at}
 use Rattle.bus_engine.specs.declared.rounds.World.{World}
 use Rattle.bus_engine.specs.declared.rounds.Turn.{Turn}
@@ -17,7 +18,7 @@ AloneDrive a b rows = (d : ℕ) → d < 8 → d ≢ a → d ≢ b → drives row
 
 pub record IsKept (w : World) : Type 0 where
   pub is_view : IsViewOf (reverse w.record.rows.items) w.record.view
-  pub ages : (line : ℕ) → line < 18 → slice_index w.record.view.changed line ≤ w.now
+  pub ages : IsUpTo w.now w.record.view
   pub host_small : w.host.dev < 8
   pub target_small : w.target.dev < 8
   pub apart : w.host.dev ≢ w.target.dev

@@ -3,7 +3,7 @@ ghost use Rattle.std.specs.Prelude.{◌≡◌};
 ghost use Rattle.bus_engine.specs.Acts.{rests, wakes};
 
 use bus_base::{Event, Ns};
-use bus_lines::Lines;
+use bus_trace::Lines;
 
 /// What a device does at its turn: a row, or a moment to be woken at, or nothing.
 #[derive(Clone, Copy, Debug)]

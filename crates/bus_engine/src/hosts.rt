@@ -1,9 +1,9 @@
 //! The initiator: it wins the bus, calls its target, sends IDENTIFY and the command block, and takes
 //! what comes (ANSI X3.131-1994, 6.1.2, 6.1.3 and 6.1.5).
 ghost use Rattle.std.specs.Prelude.{ℕ, ◌≡◌, ◌≢◌, ◌<◌, ◌≤◌, ◌+◌, ◌^◌, ◌&&◌, not, List, [], length, Option, IfOk, IfSome, slice_index, None, true};
-ghost use Rattle.bus_lines.specs.LineSet.{LineSet};
-ghost use Rattle.bus_lines.specs.declared.Row.{Row};
-ghost use Rattle.bus_lines.specs.Trace.{IsViewOf};
+ghost use Rattle.bus_trace.specs.LineSet.{LineSet};
+ghost use Rattle.bus_trace.specs.declared.Row.{Row};
+ghost use Rattle.bus_trace.specs.Trace.{IsViewOf};
 ghost use Rattle.bus_engine.specs.Early.{IsEarly, AreEarly, stands_early};
 ghost use Rattle.bus_engine.specs.Sight.{sight_of};
 ghost use Rattle.bus_engine.specs.Hosts.{upcoming, or_atn, calling_lines, enters, looks, confirms, offered, takes, sets, sends, releases, transfers, host_reaction, kept, told, carried, event_of, new_host, outcome_of, label_of};
@@ -13,7 +13,7 @@ use crate::acts::Act;
 use crate::outcomes::Outcome;
 use arrayvec::ArrayVec;
 use bus_base::{Dev, Event, NoMemory, Ns, Octets, ProcId};
-use bus_lines::{
+use bus_trace::{
     ARBITRATION_DELAY, ENTRY_DELAY, LineView, Lines, QUIET_TIME, SET_UP_TIME, TWO_DESKEW,
     byte_lines,
 };
@@ -101,7 +101,16 @@ impl Model for Host {
 
     ghost Value = { HostState };
 
-    ghost view = { λ a. record { dev = a.dev; target = a.target; cdb = a.cdb.items; standing = a.standing; sent = a.sent; received = a.received.items; status = a.status; complete = a.is_complete } };
+    ghost view = { λ a. record {
+      dev = a.dev;
+      target = a.target;
+      cdb = a.cdb.items;
+      standing = a.standing;
+      sent = a.sent;
+      received = a.received.items;
+      status = a.status;
+      complete = a.is_complete;
+    } };
 
     ghost invariant = { λ a. (a.dev < 8) × (a.target < 8) × (a.dev ≢ a.target) };
 }
@@ -144,7 +153,7 @@ fn enters(dev: Dev, view: &LineView, now: Ns) -> Option<Reaction>
     if bus.bsy() || (bus.sel() || bus.rst()) {
         return None;
     }
-    let free = view.since_bsy().max(view.since_sel()).max(view.since_rst());
+    let free = view.times().bsy.max(view.times().sel).max(view.times().rst);
     let lines = Lines::BSY.with(Lines::id(dev));
     Some(upcoming(
         free + ENTRY_DELAY,
@@ -161,7 +170,7 @@ fn looks(dev: Dev, entry: Ns, view: &LineView, now: Ns) -> Option<Reaction>
 {
     let bus = view.bus();
     if bus.sel() {
-        return Some(upcoming(view.since_sel(), Lines::none(), Standing::Waiting));
+        return Some(upcoming(view.times().sel, Lines::none(), Standing::Waiting));
     }
     if bus.has_id_above(dev) {
         return None;
@@ -182,7 +191,7 @@ fn confirms(view: &LineView) -> Option<Reaction>
         atn: true,
         hand: Hand::Idle,
     };
-    Some(upcoming(view.since_bsy() + TWO_DESKEW, Lines::ATN, next))
+    Some(upcoming(view.times().bsy + TWO_DESKEW, Lines::ATN, next))
 }
 
 // A byte from the target is taken with ACK.
@@ -190,7 +199,7 @@ fn takes(view: &LineView, atn: bool) -> Reaction
     ensures { (p : List Row) → IsViewOf p view.now → result ≡ takes (sight_of p) atn }
 {
     Reaction {
-        due: view.since_req(),
+        due: view.times().req,
         lines: or_atn(Lines::ACK, atn),
         next: Standing::Linked {
             atn,
@@ -211,7 +220,7 @@ fn releases(view: &LineView, atn: bool) -> Option<Reaction>
         atn,
         hand: Hand::Idle,
     };
-    Some(upcoming(view.since_req(), or_atn(Lines::none(), atn), next))
+    Some(upcoming(view.times().req, or_atn(Lines::none(), atn), next))
 }
 
 impl Host {
@@ -294,7 +303,7 @@ impl Host {
             hand: Hand::Set { at: now },
         };
         let lines = or_atn(byte_lines(self.offered(is_message)), atn);
-        upcoming(view.since_req(), lines, next)
+        upcoming(view.times().req, lines, next)
     }
 
     // ACK follows the byte by the set-up time, in MESSAGE OUT also the last change of ATN by two
@@ -308,7 +317,7 @@ impl Host {
         let byte = byte_lines(self.offered(is_message));
         Reaction {
             due: if is_message {
-                (at + SET_UP_TIME).max(view.since_atn() + TWO_DESKEW)
+                (at + SET_UP_TIME).max(view.times().atn + TWO_DESKEW)
             } else {
                 at + SET_UP_TIME
             },

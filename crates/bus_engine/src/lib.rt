@@ -5,7 +5,7 @@
 //! the levels of the lines and on its own timers alone: neither sees the other, and neither knows the
 //! trace in advance.
 //!
-//! It stands on `bus_base`, `bus_lines`, `cdb_codec`, and `scenario`. Its contract: [`built`] tells
+//! It stands on `bus_base`, `bus_trace`, `cdb_codec`, and `scenario`. Its contract: [`built`] tells
 //! exactly which scenarios are run so far (`specs/Built.antt`), and [`run`] answers exactly the run that
 //! such a scenario says (`specs/ScenarioRun.antt`, over `specs/OneRun.antt`, which writes it out row by
 //! row, with its history, its reply and its disk), or want of memory. So every run ends, in BUS FREE.
@@ -25,12 +25,9 @@ mod targets;
 
 pub use blocks::DenseBlocks;
 pub use bus_base::{Dev, Event, NoMemory, Ns, Octets, ProcId};
-pub use bus_lines::{Kind, Lines, Row};
+pub use bus_trace::{Kind, Lines, Row};
 pub use cdb_codec::Sense;
 pub use made::Run;
 pub use outcomes::{Bytes, Outcome};
 pub use scenario::Scenario;
 pub use scenarios::{built, run};
-
-#[cfg(test)]
-mod tests;

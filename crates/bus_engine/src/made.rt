@@ -2,7 +2,7 @@
 use crate::blocks::DenseBlocks;
 use crate::outcomes::Outcome;
 use bus_base::{Event, Ns};
-use bus_lines::Row;
+use bus_trace::Row;
 use std::marker::Model;
 
 /// What a run made. Contracts see it as a record of lists.
@@ -25,5 +25,11 @@ impl Model for Run {
 
     ghost Value = { RunValue };
 
-    ghost view = { λ a. record { rows = a.rows.items; end = a.end; history = a.history.items; replies = a.replies.items; disks = a.disks.items } };
+    ghost view = { λ a. record {
+      rows = a.rows.items;
+      end = a.end;
+      history = a.history.items;
+      replies = a.replies.items;
+      disks = a.disks.items;
+    } };
 }

@@ -2,7 +2,7 @@
 ghost use Rattle.std.specs.Prelude.{◌≡◌};
 ghost use Rattle.bus_engine.specs.Targets.{phase_lines, is_in};
 
-use bus_lines::Lines;
+use bus_trace::Lines;
 
 /// An information transfer phase.
 #[derive(Clone, Copy, Debug)]

@@ -1,9 +1,10 @@
 //! The run: rounds of device steps, and the time between them.
 ghost use Rattle.std.specs.Prelude.{ℕ, ◌≡◌, ◌≢◌, ◌<◌, ◌≤◌, ◌+◌, ◌^◌, true, [], ◌∷◌, List, length, reverse, slice_index, OnOk, IfOk, IfSome};
-ghost use Rattle.bus_lines.specs.declared.Row.{Row};
+ghost use Rattle.bus_trace.specs.declared.Row.{Row};
 ghost use Rattle.std.specs.List.{AllByRecursion};
-ghost use Rattle.bus_lines.specs.OfTrace.{IsRow};
-ghost use Rattle.bus_lines.specs.Trace.{IsViewOf};
+ghost use Rattle.bus_trace.specs.OfTrace.{IsRow};
+ghost use Rattle.bus_trace.specs.View.{IsUpTo};
+ghost use Rattle.bus_trace.specs.Trace.{IsViewOf};
 ghost use Rattle.bus_engine.specs.Early.{IsEarly, stands_early, service_early};
 ghost use Rattle.bus_engine.specs.OneRun.{run_of, Fits};
 ghost use Rattle.bus_engine.specs.Hosts.{outcome_of};
@@ -19,7 +20,7 @@ use crate::made::Run;
 use crate::request::{BLOCK_SIZE, One};
 use crate::targets::Target;
 use bus_base::{Dev, Event, NoMemory, Ns};
-use bus_lines::{Kind, LineView, Row};
+use bus_trace::{Kind, LineView, Row};
 use std::alloc::Global;
 
 /// More rounds than any run of one READ(6) has: one for each of its rows, and one for each moment to
@@ -73,10 +74,12 @@ impl Record {
         requires { dev < 8 }
         ensures turn { IfOk result (λ turn. turn ≡ turn_of act) }
         ensures ahead { (now : ℕ) → IfSome act.wake (λ wake. now ≤ wake) → IfOk result (WaitsAhead now) }
-        ensures rows { OnOk result (reverse self.new.rows.items ≡ rows_after act time dev (reverse self.old.rows.items)) }
+        ensures rows { OnOk result
+            (reverse self.new.rows.items ≡ rows_after act time dev (reverse self.old.rows.items)) }
         ensures history { OnOk result (self.new.history.items ≡ history_after act self.old.history.items) }
-        ensures view { (p : List Row) → IsViewOf p self.old.view → OnOk result (IsViewOf (rows_after act time dev p) self.new.view) }
-        ensures ages { (line : ℕ) → line < 18 → slice_index self.old.view.changed line ≤ time → OnOk result (slice_index self.new.view.changed line ≤ time) }
+        ensures view { (p : List Row) → IsViewOf p self.old.view
+            → OnOk result (IsViewOf (rows_after act time dev p) self.new.view) }
+        ensures ages { IsUpTo time self.old.view → OnOk result (IsUpTo time self.new.view) }
     {
         let Some(lines) = act.drives else {
             return Ok(Turn::Waits(act.wake));

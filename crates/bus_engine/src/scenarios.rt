@@ -1,7 +1,7 @@
 //! The scenarios that are run so far, and their runs.
 ghost use Rattle.std.specs.Prelude.{◌≡◌, true, length, IfOk};
 ghost use Rattle.std.specs.List.{AllByRecursion};
-ghost use Rattle.bus_lines.specs.OfTrace.{IsRow};
+ghost use Rattle.bus_trace.specs.OfTrace.{IsRow};
 ghost use Rattle.bus_engine.specs.Built.{is_built};
 ghost use Rattle.bus_engine.specs.ScenarioRun.{IsRunOf};
 

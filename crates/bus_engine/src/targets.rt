@@ -1,8 +1,8 @@
 //! The target: it answers its selection, takes IDENTIFY and the command block, gives the block, the
 //! status and COMMAND COMPLETE, and frees the bus (ANSI X3.131-1994, 6.1.3 and 6.1.5 to 6.1.9).
 ghost use Rattle.std.specs.Prelude.{ℕ, ◌≡◌, ◌<◌, ◌≤◌, ◌+◌, ◌^◌, List, length, Option, IfSome, take, true};
-ghost use Rattle.bus_lines.specs.declared.Row.{Row};
-ghost use Rattle.bus_lines.specs.Trace.{IsViewOf};
+ghost use Rattle.bus_trace.specs.declared.Row.{Row};
+ghost use Rattle.bus_trace.specs.Trace.{IsViewOf};
 ghost use Rattle.bus_engine.specs.Early.{IsEarly, AreEarly, stage_early, service_early};
 ghost use Rattle.bus_engine.specs.Effects.{AsksWithin};
 ghost use Rattle.bus_engine.specs.Sight.{sight_of};
@@ -14,7 +14,7 @@ use crate::blocks::DenseBlocks;
 use crate::phases::Phase;
 use arrayvec::ArrayVec;
 use bus_base::{Dev, Event, Ns, ProcId};
-use bus_lines::{BUS_SETTLE_DELAY, LineView, Lines, SET_UP_TIME, TURN_DELAY, byte_lines};
+use bus_trace::{BUS_SETTLE_DELAY, LineView, Lines, SET_UP_TIME, TURN_DELAY, byte_lines};
 use cdb_codec::{CHECK_CONDITION, Command, GOOD, from_cdb, group_len};
 use std::marker::Model;
 
@@ -92,7 +92,14 @@ impl Model for Target {
 
     ghost Value = { TargetState };
 
-    ghost view = { λ a. record { dev = a.dev; disk = a.disk; service = a.service; cdb = a.cdb.items; sending = a.sending.items; status = a.status } };
+    ghost view = { λ a. record {
+      dev = a.dev;
+      disk = a.disk;
+      service = a.service;
+      cdb = a.cdb.items;
+      sending = a.sending.items;
+      status = a.status;
+    } };
 
     ghost invariant = { λ a. a.dev < 8 };
 }
@@ -138,7 +145,7 @@ fn answers(dev: Dev, view: &LineView) -> Option<Reaction>
     if bus.number_of_ids() != 2 || !bus.odd_parity() {
         return None;
     }
-    let called = view.since_sel().max(view.since_bsy());
+    let called = view.times().sel.max(view.times().bsy);
     Some(upcoming(
         called + BUS_SETTLE_DELAY,
         Lines::BSY,
@@ -161,7 +168,7 @@ fn opens(view: &LineView, now: Ns) -> Option<Reaction>
         due: now + BUS_SETTLE_DELAY,
     };
     Some(upcoming(
-        view.since_sel(),
+        view.times().sel,
         phase.lines(),
         serving(phase, 0, stage),
         Effect::Nothing,
@@ -361,7 +368,7 @@ impl Target {
             Effect::Took(bus.data())
         };
         let next = serving(phase, done + 1, stage);
-        Some(upcoming(view.since_ack(), self.held(phase, done + 1), next, effect))
+        Some(upcoming(view.times().ack, self.held(phase, done + 1), next, effect))
     }
 
     // The next phase, or BUS FREE.
@@ -403,13 +410,14 @@ impl Target {
     ) -> Option<Reaction>
         requires now { IsEarly now }
         requires at { IsEarly at }
-        ensures exact { (p : List Row) → IsViewOf p view.now → result ≡ goes_on self.now (block_asked self.now) (sight_of p) now phase done at atn }
+        ensures exact { (p : List Row) → IsViewOf p view.now
+            → result ≡ goes_on self.now (block_asked self.now) (sight_of p) now phase done at atn }
         ensures within { IfSome result (λ r. AsksWithin (length self.now.disk) r.effect) }
     {
         if view.bus().ack() {
             return None;
         }
-        let free = view.since_ack();
+        let free = view.times().ack;
         if !self.follows(phase, done, atn) {
             return Some(self.leaves(free, now, phase));
         }
@@ -433,7 +441,8 @@ impl Target {
         requires now { IsEarly now }
         requires done { done < 2 ^ 32 }
         requires stage { stage_early stage ≡ true }
-        ensures exact { (p : List Row) → IsViewOf p view.now → result ≡ serves self.now (block_asked self.now) (sight_of p) now phase done stage }
+        ensures exact { (p : List Row) → IsViewOf p view.now
+            → result ≡ serves self.now (block_asked self.now) (sight_of p) now phase done stage }
         ensures within { IfSome result (λ r. AsksWithin (length self.now.disk) r.effect) }
     {
         match stage {

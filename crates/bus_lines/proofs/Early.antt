@@ -3,12 +3,12 @@ use Rattle.std.proofs.Common.{ℕ, ◌≡◌, ◌+◌, ◌<◌, ◌≤◌, Bool,
 use Rattle.std.proofs.lemmas.Bool.Decides.{nat_tests}
 use Rattle.std.specs.Prelude.{nat_lt, if◌then◌else◌}
 use Rattle.std.specs.List.{AllByRecursion}
-use Rattle.bus_lines.specs.declared.rows.Row.{Row}
-use Rattle.bus_lines.specs.declared.changes.Change.{Change}
-use Rattle.bus_lines.specs.declared.connection.Connection.{Connection}
-use Rattle.bus_lines.specs.Changes.{rises, change_of}
-use Rattle.bus_lines.specs.Phases.{changes_phase}
-use Rattle.bus_lines.specs.Terms.{connection, is_fault}
+use Rattle.bus_trace.specs.declared.Row.{Row}
+use Rattle.bus_trace.specs.declared.changes.Change.{Change}
+use Rattle.bus_trace.specs.declared.connection.Connection.{Connection}
+use Rattle.bus_trace.specs.Changes.{rises, change_of}
+use Rattle.bus_trace.specs.Phases.{changes_phase}
+use Rattle.bus_trace.specs.Terms.{connection, is_fault}
 use Rattle.bus_lines.specs.declared.handshakes.Request.{Request}
 use Rattle.bus_lines.specs.Handshakes.{Handshakes, no_handshakes, handshakes, handshakes_after, handshakes_on, asked_if, answered_if, strikes_if, strikes_last, opened, or_now, or_zero, first_of, time_of}
 use Rattle.bus_lines.specs.Timely.{AreHandshakesBefore}

@@ -1,17 +1,5 @@
-pub mod Bits
-pub mod Sets
-pub mod Without
 pub mod Lasts
 pub mod Early
 pub mod Times
-pub mod OddParity
-pub mod Ids
-pub mod Devices
-pub mod Buses
-pub mod OneRow
-pub mod Ages
-pub mod Views
 pub mod Stands
-pub mod Sample
 pub mod Standing
-pub mod SameAgreement

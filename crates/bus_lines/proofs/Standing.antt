@@ -2,13 +2,13 @@
 -- IDENTIFY and the first bytes of a DATA IN phase; and on a reselection of device 7 by device 0.
 use Rattle.std.proofs.Common.{ℕ, ◌≡◌, Bool, true, false, List, [], ◌∷◌, length, replicate, Option, Some, None, refl}
 use lib.Count.{ones}
-use Rattle.bus_lines.specs.LineSet.{none, set_of}
-use Rattle.bus_lines.specs.View.{union_below}
-use Rattle.bus_lines.specs.declared.rows.Row.{Row}
-use Rattle.bus_lines.specs.declared.rows.Kind.TheVariants.{Drives, Fault}
-use Rattle.bus_lines.specs.declared.selection.Call.{Call}
-use Rattle.bus_lines.specs.declared.selection.Calling.{Calling}
-use Rattle.bus_lines.specs.declared.connection.Connection.{Connection}
+use Rattle.bus_trace.specs.LineSet.{none, set_of}
+use Rattle.bus_trace.specs.View.{union_below}
+use Rattle.bus_trace.specs.declared.Row.{Row}
+use Rattle.bus_trace.specs.declared.Kind.TheVariants.{Drives, Fault}
+use Rattle.bus_trace.specs.declared.selection.Call.{Call}
+use Rattle.bus_trace.specs.declared.selection.Calling.{Calling}
+use Rattle.bus_trace.specs.declared.connection.Connection.{Connection}
 use Rattle.bus_lines.specs.declared.handshakes.Request.{Request}
 use Rattle.bus_lines.specs.declared.stage.Stage.TheVariants.{OnFreeBus, InArbitration, InCalling, InAnswer, InConnection, InReset}
 use Rattle.bus_lines.specs.Stage.{stage}

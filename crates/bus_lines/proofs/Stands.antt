@@ -1,15 +1,15 @@
 -- A view of the bus goes on by one row.
 use Rattle.std.proofs.Common.{ℕ, ◌≡◌, ◌∙◌, List, ◌∷◌, Option}
-use Rattle.bus_lines.specs.View.{View}
-use Rattle.bus_lines.specs.Trace.{IsViewOf}
-use Rattle.bus_lines.specs.declared.rows.Row.{Row}
-use Rattle.bus_lines.specs.declared.changes.Change.{Change}
-use Rattle.bus_lines.specs.declared.arbitration.Arbitration.{Arbitration}
-use Rattle.bus_lines.specs.declared.selection.Call.{Call}
-use Rattle.bus_lines.specs.declared.connection.Connection.{Connection}
+use Rattle.bus_trace.specs.View.{View}
+use Rattle.bus_trace.specs.Trace.{IsViewOf}
+use Rattle.bus_trace.specs.declared.Row.{Row}
+use Rattle.bus_trace.specs.declared.changes.Change.{Change}
+use Rattle.bus_trace.specs.declared.arbitration.Arbitration.{Arbitration}
+use Rattle.bus_trace.specs.declared.selection.Call.{Call}
+use Rattle.bus_trace.specs.declared.connection.Connection.{Connection}
 use Rattle.bus_lines.specs.declared.effect.RowEffect.{RowEffect}
-use Rattle.bus_lines.specs.Changes.{change_of}
-use Rattle.bus_lines.specs.Terms.{free_since, arbitration_after, call_after, connection_after, connection}
+use Rattle.bus_trace.specs.Changes.{change_of}
+use Rattle.bus_trace.specs.Terms.{free_since, arbitration_after, call_after, connection_after, connection}
 use Rattle.bus_lines.specs.Effect.{effect_of}
 use Rattle.bus_lines.specs.Handshakes.{Handshakes, handshakes}
 use Rattle.bus_lines.specs.BusView.{BusViewValue, IsBusViewOf}

@@ -2,16 +2,18 @@
 use Rattle.std.proofs.Common.{ℕ, ◌<◌, Bool, true, false, List, [], ◌∷◌, sym, subst, arith, Option, Some, None}
 use Rattle.std.specs.Prelude.{not, ◌&&◌, ◌||◌, ◌==◌, if◌then◌else◌}
 use Rattle.std.specs.List.{AllByRecursion}
-use Rattle.bus_lines.specs.LineSet.{LineSet, line_of, data_of}
-use Rattle.bus_lines.specs.declared.rows.Row.{Row}
-use Rattle.bus_lines.specs.Trace.{since, since_line, last_time}
-use Rattle.bus_lines.specs.declared.changes.Change.{Change}
-use Rattle.bus_lines.specs.declared.arbitration.Arbitration.{Arbitration}
-use Rattle.bus_lines.specs.declared.selection.Call.{Call}
-use Rattle.bus_lines.specs.declared.selection.Calling.{Calling}
-use Rattle.bus_lines.specs.declared.connection.Connection.{Connection}
-use Rattle.bus_lines.specs.Changes.{rises, falls, change_of}
-use Rattle.bus_lines.specs.Terms.{is_free, free_since, when, drives_two_ids, new_calling, caller_goes_on, called_goes_on, arbitration, arbitration_after, calling_after, call_goes_on, call_after, call, connected_by, connected_of, connection_of, connection_after, connection}
+use Rattle.bus_trace.specs.LineSet.{LineSet, line_of, data_of}
+use Rattle.bus_trace.specs.declared.Row.{Row}
+use Rattle.bus_trace.specs.View.{AreTimesBefore}
+use Rattle.bus_trace.specs.declared.line_times.LineTimes.{LineTimes}
+use Rattle.bus_trace.specs.Trace.{since, since_line, line_times, last_time}
+use Rattle.bus_trace.specs.declared.changes.Change.{Change}
+use Rattle.bus_trace.specs.declared.arbitration.Arbitration.{Arbitration}
+use Rattle.bus_trace.specs.declared.selection.Call.{Call}
+use Rattle.bus_trace.specs.declared.selection.Calling.{Calling}
+use Rattle.bus_trace.specs.declared.connection.Connection.{Connection}
+use Rattle.bus_trace.specs.Changes.{rises, falls, change_of}
+use Rattle.bus_trace.specs.Terms.{is_free, free_since, when, drives_two_ids, new_calling, caller_goes_on, called_goes_on, arbitration, arbitration_after, calling_after, call_goes_on, call_after, call, connected_by, connected_of, connection_of, connection_after, connection}
 use Rattle.bus_lines.specs.Handshakes.{Handshakes}
 use Rattle.bus_lines.specs.BusView.{BusViewValue, IsBusViewOf}
 use Rattle.bus_lines.specs.Timely.{IsTimely, IsBefore, IsArbitrationBefore, IsCallingBefore, IsCallBefore, IsConnectionBefore, AreHandshakesBefore}
@@ -31,6 +33,19 @@ since_before end z seen (row ∷ rows) h = either _ _ _ end (since_before end z 
 line_before : (end : ℕ) → 0 < end → (on : LineSet → Bool) (rows : List Row) → ComeBefore end rows → since_line on rows < end
 line_before end z on [] h = z
 line_before end z on (row ∷ rows) h = either _ _ _ end (line_before end z on rows h.1) h.0
+
+times_before : (end : ℕ) → 0 < end → (rows : List Row) → ComeBefore end rows → AreTimesBefore end (line_times rows)
+times_before end z rows h = record {
+  bsy = line_before end z (λ s. s.bsy) rows h;
+  sel = line_before end z (λ s. s.sel) rows h;
+  cd = line_before end z (λ s. s.cd) rows h;
+  io = line_before end z (λ s. s.io) rows h;
+  msg = line_before end z (λ s. s.msg) rows h;
+  req = line_before end z (λ s. s.req) rows h;
+  ack = line_before end z (λ s. s.ack) rows h;
+  atn = line_before end z (λ s. s.atn) rows h;
+  rst = line_before end z (λ s. s.rst) rows h;
+}
 
 last_before : (end : ℕ) → 0 < end → (rows : List Row) → ComeBefore end rows → last_time rows < end
 last_before end z [] h = z
@@ -145,8 +160,9 @@ connection_before end z (row ∷ rows) h =
 pub timely : (end : ℕ) → 0 < end → (rows : List Row) (v : BusViewValue) → IsBusViewOf rows v → ComeBefore end rows → IsTimely end v
 timely end z rows v h b = record {
   lines = record {
-    lines = λ line l. subst (λ (x : ℕ). x < end) (sym (h.lines_are.since_are line l)) (since_before end z (line_of line) rows b);
-    data_lines = subst (λ (x : ℕ). x < end) (sym h.lines_are.data_is) (since_before end z data_of rows b);
+    data_lines = λ line l. subst (λ (x : ℕ). x < end) (sym (h.lines_are.data_lines_are line l)) (since_before end z (line_of line) rows b);
+    data_changed = subst (λ (x : ℕ). x < end) (sym h.lines_are.data_is) (since_before end z data_of rows b);
+    times = subst (λ (x : LineTimes). AreTimesBefore end x) (sym h.lines_are.times_are) (times_before end z rows b);
     last = subst (λ (x : ℕ). x < end) (sym h.lines_are.last_is) (last_before end z rows b);
   };
   arbitration = subst (λ (x : Option Arbitration). IsArbitrationBefore end x) (sym h.arbitration_is) (arbitration_before end z rows b);

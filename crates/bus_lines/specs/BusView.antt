@@ -1,13 +1,13 @@
 -- The running view of the bus, as devices have it.
 use Rattle.std.specs.Prelude.{◌≡◌, List, Option}
-use Rattle.bus_lines.specs.View.{View}
-use Rattle.bus_lines.specs.Trace.{IsViewOf}
-use Rattle.bus_lines.specs.declared.rows.Row.{Row}
-use Rattle.bus_lines.specs.declared.arbitration.Arbitration.{Arbitration}
-use Rattle.bus_lines.specs.declared.selection.Call.{Call}
-use Rattle.bus_lines.specs.declared.connection.Connection.{Connection}
+use Rattle.bus_trace.specs.View.{View}
+use Rattle.bus_trace.specs.Trace.{IsViewOf}
+use Rattle.bus_trace.specs.declared.Row.{Row}
+use Rattle.bus_trace.specs.declared.arbitration.Arbitration.{Arbitration}
+use Rattle.bus_trace.specs.declared.selection.Call.{Call}
+use Rattle.bus_trace.specs.declared.connection.Connection.{Connection}
 use Rattle.bus_lines.specs.declared.effect.RowEffect.{RowEffect}
-use Rattle.bus_lines.specs.Terms.{arbitration, call, connection}
+use Rattle.bus_trace.specs.Terms.{arbitration, call, connection}
 use Rattle.bus_lines.specs.Effect.{effect}
 use Rattle.bus_lines.specs.Handshakes.{Handshakes, handshakes}
 

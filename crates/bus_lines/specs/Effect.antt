@@ -1,12 +1,12 @@
 -- What the last row did (ANSI X3.131-1994, 6.1).
 use Rattle.std.specs.Prelude.{false, List, [], ◌∷◌, Option, None}
-use Rattle.bus_lines.specs.LineSet.{none}
-use Rattle.bus_lines.specs.declared.rows.Row.{Row}
-use Rattle.bus_lines.specs.declared.changes.Change.{Change}
-use Rattle.bus_lines.specs.declared.connection.Connection.{Connection}
+use Rattle.bus_trace.specs.LineSet.{none}
+use Rattle.bus_trace.specs.declared.Row.{Row}
+use Rattle.bus_trace.specs.declared.changes.Change.{Change}
+use Rattle.bus_trace.specs.declared.connection.Connection.{Connection}
 use Rattle.bus_lines.specs.declared.effect.RowEffect.{RowEffect}
-use Rattle.bus_lines.specs.Changes.{change_of}
-use Rattle.bus_lines.specs.Terms.{is_fault, connection, receiver_of}
+use Rattle.bus_trace.specs.Changes.{change_of}
+use Rattle.bus_trace.specs.Terms.{is_fault, connection, receiver_of}
 
 abbrev pub no_effect : RowEffect
 no_effect = record {

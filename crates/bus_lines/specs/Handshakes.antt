@@ -3,13 +3,13 @@
 -- no REQ/ACK offset is higher (6.6.21).
 use Rattle.std.specs.Prelude.{ℕ, ◌==◌, Bool, true, false, not, List, [], ◌∷◌, ◌++◌, drop, length, Option, Some, None, nat_lt, if◌then◌else◌}
 use Rattle.bus_base.specs.Faults.{counted_on}
-use Rattle.bus_lines.specs.declared.rows.Row.{Row}
-use Rattle.bus_lines.specs.declared.changes.Change.{Change}
-use Rattle.bus_lines.specs.declared.connection.Connection.{Connection}
+use Rattle.bus_trace.specs.declared.Row.{Row}
+use Rattle.bus_trace.specs.declared.changes.Change.{Change}
+use Rattle.bus_trace.specs.declared.connection.Connection.{Connection}
 use Rattle.bus_lines.specs.declared.handshakes.Request.{Request}
-use Rattle.bus_lines.specs.Changes.{rises, change_of}
-use Rattle.bus_lines.specs.Phases.{changes_phase}
-use Rattle.bus_lines.specs.Terms.{connection, is_fault}
+use Rattle.bus_trace.specs.Changes.{rises, change_of}
+use Rattle.bus_trace.specs.Phases.{changes_phase}
+use Rattle.bus_trace.specs.Terms.{connection, is_fault}
 
 pub record Handshakes : Type 0 where
   -- how often REQ and ACK rose

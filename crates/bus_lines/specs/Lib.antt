@@ -1,14 +1,3 @@
-pub mod LineSet
-pub mod Numbers
-pub mod View
-pub mod Trace
-pub mod Agreements
-pub mod OfTrace
-pub mod Changes
-pub mod Terms
-pub mod Calls
-pub mod Connections
-pub mod Phases
 pub mod Stage
 pub mod Effect
 pub mod Handshakes

@@ -1,15 +1,15 @@
 -- The stage of the bus: RST, a connection, a selection or reselection, answered or not, an arbitration, or a free bus
 -- (ANSI X3.131-1994, 6.1 and 6.2.2).
 use Rattle.std.specs.Prelude.{ℕ, Bool, true, false, List, Option, Some, None}
-use Rattle.bus_lines.specs.Trace.{bus, since_line}
-use Rattle.bus_lines.specs.declared.rows.Row.{Row}
-use Rattle.bus_lines.specs.declared.arbitration.Arbitration.{Arbitration}
-use Rattle.bus_lines.specs.declared.selection.Call.{Call}
-use Rattle.bus_lines.specs.declared.selection.Calling.{Calling}
-use Rattle.bus_lines.specs.declared.connection.Connection.{Connection}
+use Rattle.bus_trace.specs.Trace.{bus, since_line}
+use Rattle.bus_trace.specs.declared.Row.{Row}
+use Rattle.bus_trace.specs.declared.arbitration.Arbitration.{Arbitration}
+use Rattle.bus_trace.specs.declared.selection.Call.{Call}
+use Rattle.bus_trace.specs.declared.selection.Calling.{Calling}
+use Rattle.bus_trace.specs.declared.connection.Connection.{Connection}
 use Rattle.bus_lines.specs.declared.stage.Stage.{Stage}
 use Rattle.bus_lines.specs.declared.stage.Stage.TheVariants.{OnFreeBus, InArbitration, InCalling, InAnswer, InConnection, InReset}
-use Rattle.bus_lines.specs.Terms.{free_since, arbitration, call, connection}
+use Rattle.bus_trace.specs.Terms.{free_since, arbitration, call, connection}
 
 -- While SEL is true: whether the called device has answered.
 abbrev pub answer_stage : Call → Calling → Option ℕ → Stage

@@ -1,10 +1,10 @@
 -- All times in a view lie before this one.
-use Rattle.std.specs.Prelude.{ℕ, ◌<◌, Option, Some, None, ⊤, slice_index}
-use Rattle.bus_lines.specs.View.{View}
-use Rattle.bus_lines.specs.declared.arbitration.Arbitration.{Arbitration}
-use Rattle.bus_lines.specs.declared.selection.Call.{Call}
-use Rattle.bus_lines.specs.declared.selection.Calling.{Calling}
-use Rattle.bus_lines.specs.declared.connection.Connection.{Connection}
+use Rattle.std.specs.Prelude.{ℕ, ◌<◌, Option, Some, None, ⊤}
+use Rattle.bus_trace.specs.View.{AreBefore}
+use Rattle.bus_trace.specs.declared.arbitration.Arbitration.{Arbitration}
+use Rattle.bus_trace.specs.declared.selection.Call.{Call}
+use Rattle.bus_trace.specs.declared.selection.Calling.{Calling}
+use Rattle.bus_trace.specs.declared.connection.Connection.{Connection}
 use Rattle.bus_lines.specs.declared.stage.Stage.{Stage}
 use Rattle.bus_lines.specs.declared.stage.Stage.TheVariants.{OnFreeBus, InArbitration, InCalling, InAnswer, InConnection, InReset}
 use Rattle.bus_lines.specs.Handshakes.{Handshakes, first_of, time_of, or_zero}
@@ -13,11 +13,6 @@ use Rattle.bus_lines.specs.BusView.{BusViewValue}
 abbrev pub IsBefore : ℕ → Option ℕ → Type 0
 IsBefore end None = ⊤
 IsBefore end (Some time) = time < end
-
-pub record AreBefore (end : ℕ) (v : View) : Type 0 where
-  pub lines : (line : ℕ) → line < 18 → slice_index v.changed line < end
-  pub data_lines : v.data_changed < end
-  pub last : v.last < end
 
 abbrev pub IsArbitrationBefore : ℕ → Option Arbitration → Type 0
 IsArbitrationBefore end None = ⊤

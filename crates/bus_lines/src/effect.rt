@@ -2,12 +2,8 @@
 ghost use Rattle.std.specs.Prelude.{◌≡◌};
 ghost use Rattle.bus_lines.specs.Effect.{no_effect, effect_of};
 
-use crate::changes::Change;
-use crate::connection::{Connection, receiver_of};
-use crate::line_set::Lines;
-use crate::rows::Row;
-use crate::selection::is_fault;
 use bus_base::Dev;
+use bus_trace::{Change, Connection, Lines, Row, is_fault, receiver_of};
 
 /// What a row did, on the bus and to the connection.
 #[derive(Clone, Copy, Debug)]

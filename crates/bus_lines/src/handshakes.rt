@@ -1,16 +1,13 @@
 //! The rises of REQ and ACK in the present phase (ANSI X3.131-1994, 6.1.5.1 and 6.1.5.2).
 ghost use Rattle.std.specs.Prelude.{ℕ, ◌≡◌, ◌∷◌, [], List, length, not, ◌==◌, true};
-ghost use Rattle.bus_lines.specs.declared.rows.Row.{Row};
-ghost use Rattle.bus_lines.specs.Changes.{change_of};
-ghost use Rattle.bus_lines.specs.Terms.{connection, is_fault};
+ghost use Rattle.bus_trace.specs.declared.Row.{Row};
+ghost use Rattle.bus_trace.specs.Changes.{change_of};
+ghost use Rattle.bus_trace.specs.Terms.{connection, is_fault};
 ghost use Rattle.bus_lines.specs.Handshakes.{handshakes, handshakes_after, no_handshakes, asked, answered, strikes, strikes_last, first_of, room_by};
 
-use crate::changes::{Change, rises};
-use crate::connection::Connection;
-use crate::phases::changes_phase;
-use crate::rows::{Kind, Row};
 use arrayvec::ArrayVec;
 use bus_base::Ns;
+use bus_trace::{Change, Connection, Kind, Row, changes_phase, rises};
 use std::marker::Model;
 
 /// A rise of REQ that no rise of ACK has answered yet.
@@ -42,7 +39,16 @@ impl Model for Handshakes {
 
     ghost Value = { account.Handshakes };
 
-    ghost view = { λ a. record { requests = a.requests; answers = a.answers; last_req = a.last_req; last_ack = a.last_ack; struck = a.struck; reach = a.reach; relieved = a.relieved; waiting = a.waiting.items } };
+    ghost view = { λ a. record {
+      requests = a.requests;
+      answers = a.answers;
+      last_req = a.last_req;
+      last_ack = a.last_ack;
+      struck = a.struck;
+      reach = a.reach;
+      relieved = a.relieved;
+      waiting = a.waiting.items;
+    } };
 }
 
 impl Handshakes {
@@ -119,7 +125,8 @@ impl Handshakes {
     /// One row more. The connection is that after the row.
     pub fn step(&mut self, after: Option<Connection>, change: &Change, row: &Row)
         ensures exact { self.new ≡ handshakes_after (is_fault row.now.kind) after change.now row.now.time self.old }
-        ensures trace { (rows : List Row) → self.old ≡ handshakes rows → after ≡ connection (row.now ∷ rows) → change.now ≡ change_of rows row.now → self.new ≡ handshakes (row.now ∷ rows) }
+        ensures trace { (rows : List Row) → self.old ≡ handshakes rows → after ≡ connection (row.now ∷ rows)
+            → change.now ≡ change_of rows row.now → self.new ≡ handshakes (row.now ∷ rows) }
     {
         if let Kind::Fault(_) = row.kind {
             if change.before.io() {

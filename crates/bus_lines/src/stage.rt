@@ -3,10 +3,8 @@ ghost use Rattle.std.specs.Prelude.{ℕ, ◌≡◌, Some};
 ghost use Rattle.bus_lines.specs.Stage.{call_stage};
 ghost use Rattle.bus_lines.specs.Timely.{IsCallBefore, IsStageBefore};
 
-use crate::arbitration::Arbitration;
-use crate::connection::Connection;
-use crate::selection::{Call, Calling};
 use bus_base::Ns;
+use bus_trace::{Arbitration, Call, Calling, Connection};
 
 /// What goes on on the bus. RST goes before all else (6.2.2), and a connection before the rest; times are in ns.
 #[derive(Clone, Copy, Debug)]

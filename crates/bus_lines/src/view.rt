@@ -1,29 +1,27 @@
 //! The running view of the bus, as devices have it.
 ghost use Rattle.std.specs.Prelude.{ℕ, ◌≡◌, ◌<◌, ◌∷◌, [], List};
-ghost use Rattle.bus_lines.specs.declared.rows.Row.{Row};
-ghost use Rattle.bus_lines.specs.LineSet.{line_of};
-ghost use Rattle.bus_lines.specs.Trace.{IsViewOf, bus, drives, since, last_time};
-ghost use Rattle.bus_lines.specs.Calls.{HasDevices};
-ghost use Rattle.bus_lines.specs.Connections.{HasEnds};
-ghost use Rattle.bus_lines.specs.Changes.{change_of};
-ghost use Rattle.bus_lines.specs.Terms.{connection};
+ghost use Rattle.bus_trace.specs.declared.Row.{Row};
+ghost use Rattle.bus_trace.specs.LineSet.{line_of};
+ghost use Rattle.bus_trace.specs.Trace.{IsViewOf, bus, drives, since, last_time};
+ghost use Rattle.bus_trace.specs.Calls.{HasDevices};
+ghost use Rattle.bus_trace.specs.Connections.{HasEnds};
+ghost use Rattle.bus_trace.specs.Changes.{change_of};
+ghost use Rattle.bus_trace.specs.Terms.{connection};
 ghost use Rattle.bus_lines.specs.Stage.{stage};
 ghost use Rattle.bus_lines.specs.Effect.{effect};
 ghost use Rattle.bus_lines.specs.Handshakes.{handshakes};
 ghost use Rattle.bus_lines.specs.BusView.{IsBusViewOf};
-ghost use Rattle.bus_lines.specs.Timely.{IsTimely, AreBefore, IsConnectionBefore, IsStageBefore, AreHandshakesBefore};
+ghost use Rattle.bus_trace.specs.View.{AreBefore};
+ghost use Rattle.bus_lines.specs.Timely.{IsTimely, IsConnectionBefore, IsStageBefore, AreHandshakesBefore};
 
-use crate::arbitration::{Arbitration, arbitration_after};
-use crate::changes::Change;
-use crate::connection::{Connection, connection_after};
 use crate::effect::{RowEffect, effect_of, no_effect};
 use crate::handshakes::Handshakes;
-use crate::line_set::Lines;
-use crate::line_view::LineView;
-use crate::rows::Row;
-use crate::selection::{Call, call_after};
 use crate::stage::{Stage, call_stage};
 use bus_base::{Dev, Ns};
+use bus_trace::{
+    Arbitration, Call, Change, Connection, LineView, Lines, Row, arbitration_after, call_after,
+    connection_after,
+};
 use std::marker::Model;
 
 /// What any device knows of the bus after the rows of a trace so far: the lines and since when they stand as they
@@ -41,12 +39,19 @@ pub struct BusView {
 
 impl Model for BusView {
     ghost use Rattle.bus_lines.specs.BusView.{BusViewValue};
-    ghost use Rattle.bus_lines.specs.Calls.{HasDevices};
-    ghost use Rattle.bus_lines.specs.Connections.{HasEnds};
+    ghost use Rattle.bus_trace.specs.Calls.{HasDevices};
+    ghost use Rattle.bus_trace.specs.Connections.{HasEnds};
 
     ghost Value = { BusViewValue };
 
-    ghost view = { λ a. record { lines = a.lines; arbitration = a.arbitration; call = a.call; connection = a.connection; effect = a.effect; handshakes = a.handshakes } };
+    ghost view = { λ a. record {
+      lines = a.lines;
+      arbitration = a.arbitration;
+      call = a.call;
+      connection = a.connection;
+      effect = a.effect;
+      handshakes = a.handshakes;
+    } };
 
     ghost invariant = { λ a. HasDevices a.call × HasEnds a.connection };
 }
@@ -114,7 +119,7 @@ impl BusView {
         ensures timely { (end : ℕ) → IsTimely end self.now → IsStageBefore end result }
     {
         if self.lines.bus().rst() {
-            return Stage::InReset(self.lines.since_rst());
+            return Stage::InReset(self.lines.times().rst);
         }
         if let Some(connection) = self.connection {
             return Stage::InConnection(connection);

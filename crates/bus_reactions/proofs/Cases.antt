@@ -2,11 +2,11 @@
 -- docs/bus.md and the lines of a trace have it, the latency as the last summand.
 use Rattle.std.proofs.Common.{ℕ, ◌≡◌, ◌+◌, Bool, true, false, List, [], ◌∷◌, Option, Some, None, refl}
 use lib.Count.{ones}
-use Rattle.bus_lines.specs.LineSet.{set_of}
-use Rattle.bus_lines.specs.View.{union_below}
-use Rattle.bus_lines.specs.declared.Row.{Row}
-use Rattle.bus_lines.specs.declared.Kind.TheVariants.{Drives, Fault}
-use Rattle.bus_lines.specs.declared.selection.Calling.{Calling}
+use Rattle.bus_trace.specs.LineSet.{set_of}
+use Rattle.bus_trace.specs.View.{union_below}
+use Rattle.bus_trace.specs.declared.Row.{Row}
+use Rattle.bus_trace.specs.declared.Kind.TheVariants.{Drives, Fault}
+use Rattle.bus_trace.specs.declared.selection.Calling.{Calling}
 use Rattle.bus_reactions.specs.declared.due.Due.{Due}
 use Rattle.bus_reactions.specs.declared.due.Myself.{Myself}
 use Rattle.bus_reactions.specs.declared.due.Want.{Want}
@@ -15,13 +15,13 @@ use Rattle.bus_reactions.specs.declared.ends.Offering.{Offering}
 use Rattle.bus_reactions.specs.declared.ends.Answering.{Answering}
 use Rattle.bus_reactions.specs.declared.ends.Hand.TheVariants.{Initiator, Target}
 use Rattle.bus_lines.specs.declared.handshakes.Request.{Request}
-use Rattle.bus_reactions.specs.declared.sight.Ages.{Ages}
+use Rattle.bus_trace.specs.declared.line_times.LineTimes.{LineTimes}
 use Rattle.bus_reactions.specs.declared.sight.Sight.{Sight}
 use Rattle.bus_lines.specs.declared.stage.Stage.{Stage}
 use Rattle.bus_lines.specs.declared.stage.Stage.TheVariants.{OnFreeBus, InArbitration, InCalling, InAnswer, InConnection, InReset}
 use Rattle.bus_lines.specs.Handshakes.{Handshakes, no_handshakes}
 use Rattle.bus_reactions.specs.Reactions.{due_at, sooner_time, time_if}
-use Rattle.bus_reactions.specs.Ages.{no_age, ages_of, ages_after, phase_age, free_age}
+use Rattle.bus_trace.specs.Trace.{no_times, line_times, times_after, phase_time, free_time}
 use Rattle.bus_reactions.specs.Sight.{sight}
 use Rattle.bus_reactions.specs.Linking.{link_due, sample_time}
 use Rattle.bus_reactions.specs.Reset.{with_reset}
@@ -44,14 +44,14 @@ abbrev wants : Option ℕ → Want
 wants since = wants_of false since (Some 5)
 
 -- Lines that stood as they do since times of which none is another one.
-abbrev ages : Ages
+abbrev ages : LineTimes
 ages = record { bsy = 11; sel = 12; msg = 13; cd = 14; io = 15; req = 16; ack = 17; atn = 18; rst = 19 }
 
-abbrev sees : ℕ → Ages → Stage → Sight
+abbrev sees : ℕ → LineTimes → Stage → Sight
 sees lines a s = record { bus = set_of lines; ages = a; stage = s }
 
 -- What it is due to do on its way to a connection.
-abbrev links : ℕ → Ages → Stage → Myself → Want → Option Due
+abbrev links : ℕ → LineTimes → Stage → Myself → Want → Option Due
 links lines a s m w = link_due (sees lines a s) m w None
 
 -- ---- the free bus: a bus settle delay and a bus free delay
@@ -97,7 +97,7 @@ loses_to_the_highest = refl
 abbrev calls_by : ℕ → Option Calling → Stage
 calls_by caller c = InCalling (record { caller = caller; at = 9000; calling = c })
 
-abbrev sel_at_9000 : Ages
+abbrev sel_at_9000 : LineTimes
 sel_at_9000 = record ages { sel = 9000 }
 
 loser_releases : links 0x00688 sel_at_9000 (calls_by 7 None) (me 0x00208 6207) (wants (Some 100)) ≡ row (9000 + 7) 0x00000
@@ -264,10 +264,10 @@ offers follows = record { byte = 0x55; follows = follows; to = set_of 0x01a00; w
 abbrev gives : Bool → Bool → Answering
 gives attends speaks = record { byte = 0x12; attends = attends; speaks = speaks; raised = 40000 }
 
-abbrev target : ℕ → Ages → Handshakes → ℕ → Offering → Option Due
+abbrev target : ℕ → LineTimes → Handshakes → ℕ → Offering → Option Due
 target lines a b own g = hand_due true 0 None (sees lines a connects) b (me own 30000) (pace false) (Target g)
 
-abbrev initiator : ℕ → Ages → Handshakes → ℕ → Answering → Option Due
+abbrev initiator : ℕ → LineTimes → Handshakes → ℕ → Answering → Option Due
 initiator lines a b own g = hand_due true 0 None (sees lines a connects) b (me own 30000) (pace false) (Initiator g)
 
 abbrev some : Handshakes
@@ -303,10 +303,10 @@ owed_release = refl
 
 -- ---- the target, byte by byte: the first byte
 
-abbrev command_at_20000 : Ages
+abbrev command_at_20000 : LineTimes
 command_at_20000 = record ages { cd = 20000 }
 
-abbrev turned_at_20000 : Ages
+abbrev turned_at_20000 : LineTimes
 turned_at_20000 = record ages { io = 20000; cd = 20000 }
 
 first_req_of_command : target 0x00a00 command_at_20000 no_handshakes 0x00a00 (offers true) ≡ row (20000 + 400 + 7) 0x04a00
@@ -331,7 +331,7 @@ first_req_turned_back = refl
 
 -- ---- the target, byte by byte: REQ falls, and rises again
 
-abbrev acked_at_30100 : Ages
+abbrev acked_at_30100 : LineTimes
 acked_at_30100 = record ages { ack = 30100 }
 
 waits_for_ack : target 0x05b55 ages some 0x05b55 (offers true) ≡ None
@@ -367,7 +367,7 @@ leaves_after_the_seek = refl
 
 -- ---- the initiator, byte by byte: a byte to it
 
-abbrev asked_at_31000 : Ages
+abbrev asked_at_31000 : LineTimes
 asked_at_31000 = record ages { req = 31000 }
 
 waits_for_req : initiator 0x01b55 ages some 0x00000 (gives true true) ≡ None
@@ -453,7 +453,7 @@ pulses waiting = record {
   waiting = waiting;
 }
 
-abbrev pulsing : ℕ → Ages → Handshakes → ℕ → Offering → Option Due
+abbrev pulsing : ℕ → LineTimes → Handshakes → ℕ → Offering → Option Due
 pulsing lines a b own g = hand_due true 0 None (sees lines a connects) b (me own 50030) (pace true) (Target g)
 
 req_pulse_ends : pulsing 0x05355 (record ages { req = 50000 }) (pulses (request 50000 ∷ [])) 0x05355 (offers true) ≡ row (50000 + 80 + 7) 0x01355
@@ -529,7 +529,7 @@ stays_while_ack_is_true = refl
 
 -- ---- the initiator, by pulses
 
-abbrev answering : ℕ → Ages → Handshakes → ℕ → Option Due
+abbrev answering : ℕ → LineTimes → Handshakes → ℕ → Option Due
 answering lines a b own = hand_due true 0 None (sees lines a connects) b (me own 30000) (pace true) (Initiator (gives false false))
 
 ack_pulse_ends : answering 0x08212 (record ages { ack = 50000; atn = 40000 }) (pulses []) 0x08112 ≡ row (50000 + 80 + 7) 0x00112
@@ -612,7 +612,7 @@ connected =
 abbrev acked : List Row
 acked = drive 5790 7 0x18000 ∷ record { time = 5790; dev = 7; kind = Fault 3 } ∷ drive 5780 0 0x07a80 ∷ connected
 
-seen_at_the_start : sight [] ≡ sees 0x00000 no_age (OnFreeBus 0)
+seen_at_the_start : sight [] ≡ sees 0x00000 no_times (OnFreeBus 0)
 unfolding union_below
 seen_at_the_start = refl
 
@@ -620,17 +620,17 @@ seen_in_the_connection : sight connected ≡ sees 0x03a80 (record { bsy = 5290; 
 unfolding union_below ones
 seen_in_the_connection = refl
 
-lines_stand : ages_of acked ≡ record { bsy = 5290; sel = 5380; msg = 5380; cd = 5380; io = 4800; req = 5780; ack = 5790; atn = 5790; rst = 0 }
+lines_stand : line_times acked ≡ record { bsy = 5290; sel = 5380; msg = 5380; cd = 5380; io = 4800; req = 5780; ack = 5790; atn = 5790; rst = 0 }
 unfolding union_below
 lines_stand = refl
 
-lines_stand_under_rst : ages_of (drive 6000 3 0x20000 ∷ connected) ≡ record { bsy = 5290; sel = 5380; msg = 5380; cd = 5380; io = 4800; req = 0; ack = 0; atn = 0; rst = 6000 }
+lines_stand_under_rst : line_times (drive 6000 3 0x20000 ∷ connected) ≡ record { bsy = 5290; sel = 5380; msg = 5380; cd = 5380; io = 4800; req = 0; ack = 0; atn = 0; rst = 6000 }
 unfolding union_below
 lines_stand_under_rst = refl
 
 -- A row that changes one line after another, at 70.
-abbrev changes : ℕ → ℕ → Ages
-changes before after = ages_after ages (record { before = set_of before; after = set_of after; own = set_of 0x00000; next = set_of 0x00000 }) 70
+abbrev changes : ℕ → ℕ → LineTimes
+changes before after = times_after ages (set_of before) (set_of after) 70
 
 changes_every_line : changes 0x00000 0x3fe00 ≡ record { bsy = 70; sel = 70; msg = 70; cd = 70; io = 70; req = 70; ack = 70; atn = 70; rst = 70 }
 changes_every_line = refl
@@ -648,13 +648,13 @@ changes_the_others : changes 0x05400 0x10000 ≡ record ages { sel = 70; io = 70
 changes_the_others = refl
 
 -- The last of the three phase lines; of BSY, SEL and RST.
-abbrev last_of : ℕ → ℕ → ℕ → Ages
+abbrev last_of : ℕ → ℕ → ℕ → LineTimes
 last_of first second third = record ages { msg = first; cd = second; io = third; bsy = first; sel = second; rst = third }
 
-phase_lines_stand : phase_age (last_of 70 60 50) ∷ phase_age (last_of 60 70 50) ∷ phase_age (last_of 50 60 70) ∷ [] ≡ 70 ∷ 70 ∷ 70 ∷ []
+phase_lines_stand : phase_time (last_of 70 60 50) ∷ phase_time (last_of 60 70 50) ∷ phase_time (last_of 50 60 70) ∷ [] ≡ 70 ∷ 70 ∷ 70 ∷ []
 phase_lines_stand = refl
 
-bus_is_free_since : free_age (last_of 70 60 50) ∷ free_age (last_of 60 70 50) ∷ free_age (last_of 50 60 70) ∷ [] ≡ 70 ∷ 70 ∷ 70 ∷ []
+bus_is_free_since : free_time (last_of 70 60 50) ∷ free_time (last_of 60 70 50) ∷ free_time (last_of 50 60 70) ∷ [] ≡ 70 ∷ 70 ∷ 70 ∷ []
 bus_is_free_since = refl
 
 -- ---- the sooner of two

@@ -1,5 +1,4 @@
 pub mod Reactions
-pub mod Ages
 pub mod Sight
 pub mod FreeBus
 pub mod Calling

@@ -1,15 +1,15 @@
 -- What the target of a connection does next by REQ and ACK: byte by byte, and the first byte of every phase (6.1.5.1,
 -- 6.1.9, 6.1.10); and by pulses under an offset and a period (6.1.5.2, 6.6.21).
 use Rattle.std.specs.Prelude.{ℕ, ◌+◌, max, Bool, true, false, not, ◌&&◌, ◌||◌, ◌==◌, length, Option, None, nat_lt, if◌then◌else◌}
-use Rattle.bus_lines.specs.declared.delays.TheConstants.{BUS_SETTLE_DELAY, TURN_DELAY, SET_UP_TIME}
-use Rattle.bus_lines.specs.LineSet.{LineSet, byte_set}
+use Rattle.bus_trace.specs.declared.delays.TheConstants.{BUS_SETTLE_DELAY, TURN_DELAY, SET_UP_TIME}
+use Rattle.bus_trace.specs.LineSet.{LineSet, byte_set}
 use Rattle.bus_reactions.specs.declared.due.Due.{Due}
 use Rattle.bus_reactions.specs.declared.due.Myself.{Myself}
 use Rattle.bus_reactions.specs.Reactions.{due_at}
 use Rattle.bus_reactions.specs.declared.sight.Sight.{Sight}
 use Rattle.bus_reactions.specs.declared.ends.Pace.{Pace}
 use Rattle.bus_reactions.specs.declared.ends.Offering.{Offering}
-use Rattle.bus_reactions.specs.Ages.{phase_age}
+use Rattle.bus_trace.specs.Trace.{phase_time}
 use Rattle.bus_lines.specs.Handshakes.{Handshakes, room_by}
 
 abbrev pub byte_bits : ℕ → ℕ
@@ -22,7 +22,7 @@ with_data_bits own x = record own { data_bits = x }
 
 -- The phase lines turned I/O from false to true.
 abbrev pub has_io_turned : Sight → Bool
-has_io_turned v = v.bus.io && v.ages.io == phase_age v.ages
+has_io_turned v = v.bus.io && v.ages.io == phase_time v.ages
 
 abbrev pub req_assertion : Myself → ℕ → Option Due
 req_assertion me time = due_at (time + me.latency) (record me.own { req = true })
@@ -31,11 +31,11 @@ req_assertion me time = due_at (time + me.latency) (record me.own { req = true }
 -- a data release delay and a bus settle delay after them, and REQ a deskew delay and a cable skew delay after the byte
 -- (6.1.5.1, 6.1.10).
 abbrev pub first_byte : Sight → Myself → Offering → Option Due
-first_byte v me g = due_at (phase_age v.ages + TURN_DELAY + me.latency) (with_data_bits me.own (byte_bits g.byte))
+first_byte v me g = due_at (phase_time v.ages + TURN_DELAY + me.latency) (with_data_bits me.own (byte_bits g.byte))
 
 abbrev pub first_req : Sight → Myself → Offering → Option Due
 first_req v me g =
-    if not (has_io_turned v) then req_assertion me (phase_age v.ages + BUS_SETTLE_DELAY)
+    if not (has_io_turned v) then req_assertion me (phase_time v.ages + BUS_SETTLE_DELAY)
     else if me.own.data_bits == 0 then first_byte v me g
     else req_assertion me (me.since + SET_UP_TIME)
 

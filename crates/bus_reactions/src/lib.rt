@@ -1,12 +1,14 @@
-//! What a device makes next on the lines, and when, from what it knows: definitions of every reaction, on small records.
+//! What a device makes next on the lines, and when, from what it knows: definitions of every reaction, on small
+//! records.
 //!
-//! What any device knows of the bus is a [`Sight`], and the account of REQ and ACK in the present phase, both read off a
-//! `BusView`; of itself it knows what it drives and since when. On its way to a connection it goes by what it wants of the
-//! bus (`specs/FreeBus.antt` arbitration, `Calling.antt` selection and reselection, `Linking.antt` both by the stage of the
-//! bus), in a connection by how bytes cross and by what it has to do in the phase (`Target.antt` and `Initiator.antt`,
-//! byte by byte and by pulses, `Ends.antt` either end), and before all that by RST (`Reset.antt`). No scenario and no
-//! trace stands here; `bus_due` says of a scenario and its rows what each device knows and wants. There is no code but
-//! for the records and [`sight`]. Stands on `bus_lines` and `bus_base`.
+//! What any device knows of the bus is a [`Sight`], and the account of REQ and ACK in the present phase, both
+//! read off a `BusView`; of itself it knows what it drives and since when. On its way to a connection it goes
+//! by what it wants of the bus (`specs/FreeBus.antt` arbitration, `Calling.antt` selection and reselection,
+//! `Linking.antt` both by the stage of the bus), in a connection by how bytes cross and by what it has to do in
+//! the phase (`Target.antt` and `Initiator.antt`, byte by byte and by pulses, `Ends.antt` either end), and
+//! before all that by RST (`Reset.antt`). No scenario and no trace stands here; `bus_due` says of a scenario
+//! and its rows what each device knows and wants. There is no code but for the records and [`sight`]. Stands on
+//! `bus_lines`, `bus_trace` and `bus_base`.
 #![tactic(auto)]
 
 mod due;
@@ -15,4 +17,4 @@ mod sight;
 
 pub use due::{Due, Myself, Want};
 pub use ends::{Answering, Hand, Offering, Pace};
-pub use sight::{Ages, Sight, sight_of};
+pub use sight::{Sight, sight_of};

@@ -1,26 +1,27 @@
 -- The running terms, one row more.
 use Rattle.std.proofs.Common.{ℕ, ◌≡◌, List, [], ◌∷◌, Bool, Option, None, false, refl, ap, ◌∙◌}
 use Rattle.std.specs.Prelude.{if◌then◌else◌}
-use Rattle.bus_lines.specs.Trace.{since_line}
-use Rattle.bus_lines.specs.declared.Row.{Row}
-use Rattle.bus_lines.specs.declared.agreements.Agreement.{Agreement}
-use Rattle.bus_lines.specs.declared.changes.Change.{Change}
-use Rattle.bus_rules.specs.declared.raises.Raises.{Raises}
-use Rattle.bus_lines.specs.declared.arbitration.Arbitration.{Arbitration}
-use Rattle.bus_lines.specs.declared.selection.Call.{Call}
-use Rattle.bus_lines.specs.declared.connection.Connection.{Connection}
-use Rattle.bus_rules.specs.declared.pulses.Pulses.{Pulses}
-use Rattle.bus_rules.specs.declared.attention.Duty.{Duty}
-use Rattle.bus_rules.specs.declared.attention.Duty.TheVariants.{Nothing}
-use Rattle.bus_rules.specs.declared.agreements.Agreements.{Agreements}
-use Rattle.bus_rules.specs.declared.dialogue.Dialogue.{Dialogue}
+use Rattle.bus_trace.specs.Trace.{since_line}
+use Rattle.bus_trace.specs.declared.Row.{Row}
+use Rattle.bus_trace.specs.declared.agreements.Agreement.{Agreement}
+use Rattle.bus_trace.specs.declared.changes.Change.{Change}
+use Rattle.bus_phases.specs.declared.raises.Raises.{Raises}
+use Rattle.bus_trace.specs.declared.arbitration.Arbitration.{Arbitration}
+use Rattle.bus_trace.specs.declared.selection.Call.{Call}
+use Rattle.bus_trace.specs.declared.connection.Connection.{Connection}
+use Rattle.bus_phases.specs.declared.pulses.Pulses.{Pulses}
+use Rattle.bus_phases.specs.declared.attention.Duty.{Duty}
+use Rattle.bus_phases.specs.declared.attention.Duty.TheVariants.{Nothing}
+use Rattle.bus_phases.specs.declared.agreements.Agreements.{Agreements}
+use Rattle.bus_phases.specs.declared.dialogue.Dialogue.{Dialogue}
 use Rattle.bus_rules.specs.declared.course.Course.{Course}
-use Rattle.bus_lines.specs.Changes.{change_of}
-use Rattle.bus_lines.specs.Terms.{free_since, connection, arbitration_after, call_after, connection_after, receiver_of}
-use Rattle.bus_rules.specs.Phases.{no_pulses, pulses_after, turned_after, is_attention_held, duty_after}
-use Rattle.bus_rules.specs.Dialogue.{asynchronous, opened, closed_agreement_by, dialogue_after, agreed}
-use Rattle.bus_rules.specs.Judging.{IsRaisesOf, AreAgreements, IsCourseOf}
-use Rattle.bus_rules.proofs.Agreeing.{agreeing}
+use Rattle.bus_trace.specs.Changes.{change_of}
+use Rattle.bus_trace.specs.Terms.{free_since, connection, arbitration_after, call_after, connection_after, receiver_of}
+use Rattle.bus_phases.specs.Phases.{no_pulses, pulses_after, turned_after, is_attention_held, duty_after}
+use Rattle.bus_phases.specs.Dialogue.{asynchronous, opened, closed_agreement_by, dialogue_after, agreed}
+use Rattle.bus_phases.specs.Tables.{IsRaisesOf, AreAgreements}
+use Rattle.bus_rules.specs.Judging.{IsCourseOf}
+use Rattle.bus_phases.proofs.Agreeing.{agreeing}
 
 -- no row yet
 pub at_start : (b r : Raises) (p : Pulses) (a : Agreements) (s : Agreement) (d : Dialogue) → IsRaisesOf (λ s. s.bsy) [] b → IsRaisesOf (λ s. s.rst) [] r → p ≡ no_pulses → AreAgreements (λ i t. asynchronous) a → d ≡ opened s → s ≡ asynchronous

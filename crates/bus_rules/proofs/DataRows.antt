@@ -1,51 +1,54 @@
 -- A row that changes data lines, REQ and ACK alone, and passes the short test, breaks no rule.
 use Rattle.std.proofs.Common.{ℕ, ◌≡◌, ◌<◌, ◌+◌, ◌%◌, ◌++◌, [], Bool, true, false, List, ◌∷◌, Option, Some, None, refl, sym, subst, ◌∙◌, arith}
 use Rattle.std.specs.Prelude.{not, ◌&&◌, ◌||◌, ◌==◌, is_some, is_none, nat_le, max, if◌then◌else◌}
-use Rattle.bus_lines.specs.LineSet.{LineSet, same, same_set, none, has_odd_parity}
-use Rattle.bus_lines.specs.declared.Row.{Row}
-use Rattle.bus_lines.specs.declared.Kind.{Kind}
-use Rattle.bus_lines.specs.declared.Kind.TheVariants.{Drives, Fault}
-use Rattle.bus_lines.specs.declared.delays.TheConstants.{SET_UP_TIME, BUS_SETTLE_DELAY, BUS_CLEAR_DELAY, RESET_HOLD_TIME, QUIET_TIME, DATA_RELEASE_DELAY, DESKEW_DELAY, TURN_DELAY}
-use Rattle.bus_rules.specs.declared.attention.Duty.{Duty}
-use Rattle.bus_rules.specs.declared.attention.Duty.TheVariants as duties
+use Rattle.bus_trace.specs.LineSet.{LineSet, same, same_set, none, has_odd_parity}
+use Rattle.bus_trace.specs.declared.Row.{Row}
+use Rattle.bus_trace.specs.declared.Kind.{Kind}
+use Rattle.bus_trace.specs.declared.Kind.TheVariants.{Drives, Fault}
+use Rattle.bus_trace.specs.declared.delays.TheConstants.{SET_UP_TIME, BUS_SETTLE_DELAY, BUS_CLEAR_DELAY, RESET_HOLD_TIME, QUIET_TIME, DATA_RELEASE_DELAY, DESKEW_DELAY, TURN_DELAY}
+use Rattle.bus_phases.specs.declared.attention.Duty.{Duty}
+use Rattle.bus_phases.specs.declared.attention.Duty.TheVariants as duties
 use Rattle.bus_rules.specs.declared.course.Course.{Course}
-use Rattle.bus_rules.specs.declared.dialogue.Dialogue.{Dialogue}
-use Rattle.bus_rules.specs.declared.raises.Raises.{Raises}
-use Rattle.bus_lines.specs.declared.agreements.Agreement.{Agreement}
+use Rattle.bus_phases.specs.declared.dialogue.Dialogue.{Dialogue}
+use Rattle.bus_phases.specs.declared.raises.Raises.{Raises}
+use Rattle.bus_trace.specs.declared.agreements.Agreement.{Agreement}
 use Rattle.std.proofs.lemmas.Bool.{and_parts, and_from}
 use Rattle.std.proofs.lemmas.Bool.Decides.{nat_tests}
-use Rattle.bus_lines.specs.Trace.{IsViewOf, drives, driven_after, since, since_line}
-use Rattle.bus_lines.specs.declared.changes.Change.{Change}
-use Rattle.bus_lines.specs.declared.connection.Connection.{Connection}
-use Rattle.bus_lines.specs.declared.selection.Call.{Call}
-use Rattle.bus_lines.specs.declared.selection.Calling.{Calling}
-use Rattle.bus_lines.specs.Calls.{HasDevices, IsCalled}
-use Rattle.bus_lines.specs.Connections.{HasEnds}
-use Rattle.bus_lines.specs.View.{View, driven_at}
-use Rattle.bus_lines.proofs.Ages.{since_line_of, line_io, line_msg, line_cd, line_req, line_ack}
-use Rattle.bus_rules.specs.declared.reading.Reading.TheVariants.{NoMessage}
+use Rattle.bus_trace.specs.Trace.{IsViewOf, drives, driven_after, since, since_line}
+use Rattle.bus_trace.specs.declared.changes.Change.{Change}
+use Rattle.bus_trace.specs.declared.connection.Connection.{Connection}
+use Rattle.bus_trace.specs.declared.selection.Call.{Call}
+use Rattle.bus_trace.specs.declared.selection.Calling.{Calling}
+use Rattle.bus_trace.specs.Calls.{HasDevices, IsCalled}
+use Rattle.bus_trace.specs.Connections.{HasEnds}
+use Rattle.bus_trace.specs.View.{View, driven_at}
+use Rattle.bus_trace.specs.Trace.{phase_time}
+use Rattle.bus_phases.specs.declared.reading.Reading.TheVariants.{NoMessage}
 use Rattle.bus_rules.specs.declared.seen.Seen.{Seen}
-use Rattle.bus_lines.specs.Changes.{rises, falls, implies, same_phase, raises_none, raises_only, is_within, drives_data}
+use Rattle.bus_trace.specs.Changes.{rises, falls, implies, same_phase, raises_none, raises_only, is_within, drives_data}
 use Rattle.bus_rules.specs.Order.{is_in_order, is_news_of}
 use Rattle.bus_rules.specs.FreeBus.{is_entry, enters_well, contends_well}
 use Rattle.bus_rules.specs.Selection.{others_release, is_left, keeps_winner_of, keeps_calling_of, keeps_answer_of, keeps_end_of, keeps_time_out_of, hands_over, takes_over}
-use Rattle.bus_lines.specs.Terms.{is_fault, free_since, raised, raised_next, arbitration, arbitration_after, call, call_after, call_goes_on, connection, connection_after, receiver_of}
-use Rattle.bus_rules.specs.Dialogue.{asynchronous, agreed, closed_agreement_by, dialogue, dialogue_after, byte_crosses, byte_out, byte_in, heard_with_command, phase_begins}
+use Rattle.bus_trace.specs.Terms.{is_fault, free_since, raised, raised_next, arbitration, arbitration_after, call, call_after, call_goes_on, connection, connection_after, receiver_of}
+use Rattle.bus_phases.specs.Dialogue.{asynchronous, agreed, closed_agreement_by, dialogue, dialogue_after, byte_crosses, byte_out, byte_in, heard_with_command, phase_begins}
 use Rattle.bus_rules.specs.Reset.{is_reset, only_rst}
-use Rattle.bus_lines.specs.Phases.{is_data, is_command, is_message_out, is_message_in, is_reserved, changes_phase}
-use Rattle.bus_rules.specs.Phases.{is_attention_held, duty_left, duty_after, no_pulses, pulses_on, pulses_after, turned_after}
+use Rattle.bus_trace.specs.Phases.{is_data, is_command, is_message_out, is_message_in, is_reserved, changes_phase}
+use Rattle.bus_phases.specs.Phases.{is_attention_held, duty_left, duty_after, no_pulses, pulses_on, pulses_after, turned_after}
 use Rattle.bus_rules.specs.Connected.{keeps_sides, keeps_lines_of, keeps_data_direction_of, or_new, has_no_initiator_line, has_no_target_line, raises_data, raises_in_turn, initiator_released_of, waits_for_turn, target_released_of, frees_well}
 use Rattle.bus_rules.specs.Messages.{is_owed, is_none_or_all, is_unknown, is_opening, same_bool, opens_well, may_take}
-use Rattle.bus_rules.specs.Transfer.{crosses, is_pulsed, is_asynchronous_transfer, data_stand_since, changes_data, holds_still, is_after, pulses_well, times_of, last_crossing}
+use Rattle.bus_rules.specs.Transfer.{crosses, is_pulsed, is_asynchronous_transfer, data_stand_since, changes_data, holds_still, is_after, pulses_well, last_crossing}
+use Rattle.bus_trace.specs.Agreements.{times_of}
 use Rattle.msg_grammar.specs.Messages.{got_out, got_in}
-use Rattle.bus_rules.specs.Reading.{reading_of, reading_out, reading_in}
+use Rattle.bus_phases.specs.Reading.{reading_of, reading_out, reading_in}
 use Rattle.bus_rules.specs.Seen.{seen, seen_with, drives_bsy, initiator_called, initiator_of, initiator_data, target_data}
-use Rattle.bus_lines.specs.Changes.{change_of}
+use Rattle.bus_trace.specs.Changes.{change_of}
 use Rattle.bus_rules.specs.Rules.{test, keeps, judged_rules, lowest_broken, broken_rule}
-use Rattle.bus_rules.specs.DataRows.{is_data_row, crosses_in, keeps_side, asks_soon, is_in_turn, has_turned, stand_since, is_shaken, is_pulsed_well, Standing, standing_after, standing_at, may_cross, transfers_well, is_move, passes, passes_of, passes_in, duty_in_data, takes_data, course_after_transfer}
-use Rattle.bus_rules.specs.Judging.{IsRaisesOf, IsCourseOf}
+use Rattle.bus_rules.specs.DataRows.{is_data_row, crosses_in, keeps_side, asks_soon, is_in_turn, has_turned, stand_since, is_shaken, is_pulsed_well, Standing, standing_after, standing_at, may_cross, transfers_well, is_move, passes, passes_of, passes_in, duty_in_data, course_after_transfer}
+use Rattle.bus_phases.specs.Dialogue.{takes_data}
+use Rattle.bus_phases.specs.Tables.{IsRaisesOf}
+use Rattle.bus_rules.specs.Judging.{IsCourseOf}
 use Rattle.bus_rules.proofs.First.{none_broken}
-use Rattle.bus_rules.proofs.Agreeing.{agreeing}
+use Rattle.bus_phases.proofs.Agreeing.{agreeing}
 use Rattle.bus_rules.proofs.Courses.{goes_on}
 
 -- ---- tests
@@ -92,10 +95,7 @@ standing_of s = record {
   last = s.last;
   is_alone = is_none s.call && is_none s.arbitration;
   connection = s.connection;
-  phase_since = s.phase_since;
-  io_since = s.io_since;
-  req_since = s.req_since;
-  ack_since = s.ack_since;
+  times = s.times;
   data_since = s.data_since;
   initiator_bsy = s.initiator_bsy;
   initiator_data = s.initiator_data;
@@ -173,7 +173,7 @@ news s row (Fault bit) ek e = absurd cc
 free_bus : (s : Seen) (row : Row) → IsQuiet s.change → test 3 s row ≡ true
 free_bus s row q =
     let e = q.bsy in
-    λ i. implies (not (e i) && not s.change.before.sel) (raises_none s.change || is_entry s) && implies (not (e i) && not s.change.before.sel) (nat_le row.time (max s.bsy_since s.sel_since + QUIET_TIME) || is_within s.change.before only_rst)
+    λ i. implies (not (e i) && not s.change.before.sel) (raises_none s.change || is_entry s) && implies (not (e i) && not s.change.before.sel) (nat_le row.time (max s.times.bsy s.times.sel + QUIET_TIME) || is_within s.change.before only_rst)
 
 arbitration_kept : (s : Seen) (row : Row) → IsQuiet s.change → s.arbitration ≡ None → test 4 s row ≡ true
 arbitration_kept s row q alone =
@@ -214,7 +214,7 @@ reset_kept : (s : Seen) (row : Row) → IsQuiet s.change → test 28 s row ≡ t
 reset_kept s row q =
     let own = no_rise _ _ q.own_rst in
     let off = no_fall _ _ q.own_rst in
-    λ i. implies (q.rst i || own i) (raises_only only_rst s.change) && implies (q.rst i) (nat_le row.time (s.rst_since + BUS_CLEAR_DELAY) || is_within s.change.before only_rst) && implies (off i) (nat_le (s.rst_raised + RESET_HOLD_TIME) row.time)
+    λ i. implies (q.rst i || own i) (raises_only only_rst s.change) && implies (q.rst i) (nat_le row.time (s.times.rst + BUS_CLEAR_DELAY) || is_within s.change.before only_rst) && implies (off i) (nat_le (s.rst_raised + RESET_HOLD_TIME) row.time)
 
 -- ---- the rules of a connection
 
@@ -243,15 +243,15 @@ lines_kept s row n q side asks =
     let still = no_change s q in
     and_from _ _ (and_from _ _ (side_kept n row.dev s.change.next side) (λ i. implies (still i) (not s.change.before.req && not s.change.before.ack))) (go (rises s.change.before.req s.change.after.req) asks)
   where
-    go : (r : Bool) → implies r (nat_le (max s.phase_since n.began + BUS_SETTLE_DELAY) row.time && not (is_owed s.duty) && not s.initiator_bsy) ≡ true
-        → implies r (not (changes_phase s.change) && not (is_reserved s.change.before) && nat_le (max s.phase_since n.began + BUS_SETTLE_DELAY) row.time) ≡ true
+    go : (r : Bool) → implies r (nat_le (max (phase_time s.times) n.began + BUS_SETTLE_DELAY) row.time && not (is_owed s.duty) && not s.initiator_bsy) ≡ true
+        → implies r (not (changes_phase s.change) && not (is_reserved s.change.before) && nat_le (max (phase_time s.times) n.began + BUS_SETTLE_DELAY) row.time) ≡ true
     go true e = let soon = (and_parts _ _ (and_parts _ _ e).0).0 in λ i. not (no_change s q i) && not (q.msg i && not s.change.before.cd) && soon i
     go false e = refl
 
 asking_kept : (s : Seen) (n : Connection) (time : ℕ) → asks_soon n (standing_of s) s.change time ≡ true → (implies (rises s.change.before.req s.change.after.req) (not s.initiator_bsy) ≡ true) × (implies (rises s.change.before.req s.change.after.req && is_owed s.duty) (is_message_out s.change.before) ≡ true)
 asking_kept s n time e = go (rises s.change.before.req s.change.after.req) e
   where
-    go : (r : Bool) → implies r (nat_le (max s.phase_since n.began + BUS_SETTLE_DELAY) time && not (is_owed s.duty) && not s.initiator_bsy) ≡ true → (implies r (not s.initiator_bsy) ≡ true) × (implies (r && is_owed s.duty) (is_message_out s.change.before) ≡ true)
+    go : (r : Bool) → implies r (nat_le (max (phase_time s.times) n.began + BUS_SETTLE_DELAY) time && not (is_owed s.duty) && not s.initiator_bsy) ≡ true → (implies r (not s.initiator_bsy) ≡ true) × (implies (r && is_owed s.duty) (is_message_out s.change.before) ≡ true)
     go true e =
         let rest = and_parts _ _ e in
         let owed = is_false _ (and_parts _ _ rest.0).1 in
@@ -283,13 +283,13 @@ turned_kept s row n q conn e =
     let rise = no_rise _ _ q.io_after in
     let rest = go s.change.before.io s.turned e in (
       rest.0,
-      (λ i. implies (io i && (turned_after s.turned (conn i) s.change) && row.dev == n.target && drives_data s.change.next) (nat_le ((if rise i then row.time else s.io_since) + TURN_DELAY) row.time))
-          ∙ ((λ i. implies (s.change.before.io && (s.turned || rise i) && row.dev == n.target && drives_data s.change.next) (nat_le (s.io_since + TURN_DELAY) row.time)) ∙ rest.1),
+      (λ i. implies (io i && (turned_after s.turned (conn i) s.change) && row.dev == n.target && drives_data s.change.next) (nat_le ((if rise i then row.time else s.times.io) + TURN_DELAY) row.time))
+          ∙ ((λ i. implies (s.change.before.io && (s.turned || rise i) && row.dev == n.target && drives_data s.change.next) (nat_le (s.times.io + TURN_DELAY) row.time)) ∙ rest.1),
       rest.2,
     )
   where
-    go : (io turned : Bool) → (if io then (nat_le row.time (s.io_since + DATA_RELEASE_DELAY) || not s.initiator_data) && implies (turned && row.dev == n.target && drives_data s.change.next) (nat_le (s.io_since + TURN_DELAY) row.time) else (nat_le row.time (s.io_since + DESKEW_DELAY) || not s.target_data)) ≡ true
-        → (implies io (nat_le row.time (s.io_since + DATA_RELEASE_DELAY) || not s.initiator_data) ≡ true) × (implies (io && (turned || false) && row.dev == n.target && drives_data s.change.next) (nat_le (s.io_since + TURN_DELAY) row.time) ≡ true) × (implies (not io) (nat_le row.time (s.io_since + DESKEW_DELAY) || not s.target_data) ≡ true)
+    go : (io turned : Bool) → (if io then (nat_le row.time (s.times.io + DATA_RELEASE_DELAY) || not s.initiator_data) && implies (turned && row.dev == n.target && drives_data s.change.next) (nat_le (s.times.io + TURN_DELAY) row.time) else (nat_le row.time (s.times.io + DESKEW_DELAY) || not s.target_data)) ≡ true
+        → (implies io (nat_le row.time (s.times.io + DATA_RELEASE_DELAY) || not s.initiator_data) ≡ true) × (implies (io && (turned || false) && row.dev == n.target && drives_data s.change.next) (nat_le (s.times.io + TURN_DELAY) row.time) ≡ true) × (implies (not io) (nat_le row.time (s.times.io + DESKEW_DELAY) || not s.target_data) ≡ true)
     go true true e = let two = and_parts _ _ e in (two.0, two.1, refl)
     go true false e = let two = and_parts _ _ e in (two.0, refl, refl)
     go false turned e = (refl, refl, e)
@@ -376,7 +376,7 @@ transfers_kept s row n q conn cr e = go (s.agreement.offset == 0) refl e
     st : data_stand_since s row.time ≡ stand_since s.change s.data_since row.time
     st = stands s.change s.data_since row.time
 
-    go : (b : Bool) → (s.agreement.offset == 0) ≡ b → (if b then is_shaken s.change s.data_since row.time else is_pulsed_well s.agreement s.pulses s.change s.req_since s.ack_since s.data_since row.time) ≡ true → Transfers s row
+    go : (b : Bool) → (s.agreement.offset == 0) ≡ b → (if b then is_shaken s.change s.data_since row.time else is_pulsed_well s.agreement s.pulses s.change s.times.req s.times.ack s.data_since row.time) ≡ true → Transfers s row
     go true eb h =
         let off : is_pulsed s ≡ false = pulsed ∙ (λ i. not (eb i)) in
         let bytes = and_parts _ _ h in
@@ -395,7 +395,7 @@ transfers_kept s row n q conn cr e = go (s.agreement.offset == 0) refl e
           never _ _ (λ i. off i && crosses s),
           never _ _ (λ i. off i && holds_still s.change.before),
           always _ _ two.0,
-          always _ _ ((λ i. (pulses_well times s.change.before.req s.change.after.req s.req_since s.pulses.last_req row.time && pulses_well times s.change.before.ack s.change.after.ack s.ack_since s.pulses.last_ack row.time)
+          always _ _ ((λ i. (pulses_well times s.change.before.req s.change.after.req s.times.req s.pulses.last_req row.time && pulses_well times s.change.before.ack s.change.after.ack s.times.ack s.pulses.last_ack row.time)
               && (implies (cr i) (nat_le (st i + times.set_up) row.time) && implies (changes_data s.change) (is_after (last_crossing s) times.hold row.time))) ∙ two.1),
         )
 
@@ -679,21 +679,13 @@ data_same f g (Some n) same hn = ((λ i. drives_data (same n.initiator hn.0 i)),
 
 pub stands_is : (rows : List Row) (v : View) (k : Course) → IsViewOf rows v → IsCourseOf rows k → HasDevices k.call → HasEnds k.connection → standing_at v k ≡ standing_after rows
 stands_is rows v k w h hk hn =
-    let io = w.since_are 12 (omega arith) ∙ since_line_of 12 (λ s. s.io) line_io rows in
-    let msg = w.since_are 13 (omega arith) ∙ since_line_of 13 (λ s. s.msg) line_msg rows in
-    let cd = w.since_are 11 (omega arith) ∙ since_line_of 11 (λ s. s.cd) line_cd rows in
-    let req = w.since_are 14 (omega arith) ∙ since_line_of 14 (λ s. s.req) line_req rows in
-    let ack = w.since_are 15 (omega arith) ∙ since_line_of 15 (λ s. s.ack) line_ack rows in
     let bsy = drives_same (driven_at v.driven) (drives rows) k.call k.connection w.drives_are hk hn in
     let ends = data_same (driven_at v.driven) (drives rows) k.connection w.drives_are hn in
     λ i. record {
       last = w.last_is i;
       is_alone = is_none (h.call i) && is_none (h.arbitration i);
       connection = h.connection i;
-      phase_since = max (max (msg i) (cd i)) (io i);
-      io_since = io i;
-      req_since = req i;
-      ack_since = ack i;
+      times = w.times_are i;
       data_since = w.data_is i;
       initiator_bsy = (bsy ∙ (λ j. drives_bsy (drives rows) (initiator_of (h.call j) (h.connection j)))) i;
       initiator_data = (ends.0 ∙ (λ j. initiator_data (drives rows) (h.connection j))) i;

@@ -4,7 +4,7 @@ use Rattle.std.specs.Prelude.{◌==◌, ◌&&◌, nat_lt}
 use Rattle.std.specs.List.{AllByRecursion, list_any, list_all}
 use Rattle.std.proofs.lemmas.Bool.{and_parts}
 use Rattle.std.proofs.lemmas.Bool.Decides.{nat_tests}
-use Rattle.bus_lines.specs.declared.Row.{Row}
+use Rattle.bus_trace.specs.declared.Row.{Row}
 use Rattle.bus_rules.specs.Rules.{obeys, obeys_at_end, judged_rules, first_broken, broken_rule, broken_at_end, verdict_of, if_lawful, judged, judged_whole}
 use Rattle.bus_rules.specs.declared.verdict.Verdict.{Verdict}
 use Rattle.bus_rules.specs.declared.verdict.Verdict.TheVariants.{Lawful, Broken}

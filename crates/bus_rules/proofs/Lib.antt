@@ -1,4 +1,3 @@
-pub mod Agreeing
 pub mod Courses
 pub mod Running
 pub mod DataRows

@@ -2,7 +2,7 @@
 use Rattle.std.proofs.Common.{ℕ, ◌≡◌, ◌<◌, ◌+◌, List, [], ◌∷◌, ◌++◌, take, drop, reverse, length, get_or, sym, ap, ◌∙◌, arith, Option}
 use Rattle.std.proofs.lemmas.List.{reverse-append, take-append-drop, length-reverse, length-take-le}
 use Rattle.std.proofs.lemmas.Grind.{take_at_read}
-use Rattle.bus_lines.specs.declared.Row.{Row}
+use Rattle.bus_trace.specs.declared.Row.{Row}
 use Rattle.bus_rules.specs.Rules.{judged, judged_whole, if_lawful, verdict_of, broken_rule, broken_at_end}
 use Rattle.bus_rules.specs.declared.verdict.Verdict.{Verdict}
 use Rattle.bus_rules.specs.declared.verdict.Verdict.TheVariants.{Lawful, Broken}

@@ -1,40 +1,36 @@
 -- What a row meets, by the running terms.
 use Rattle.std.proofs.Common.{◌≡◌, ℕ, List, ◌∷◌, Bool, Option, ap, ◌∙◌}
 use Rattle.std.specs.Prelude.{not, is_some}
-use Rattle.bus_lines.specs.LineSet.{LineSet, data_of}
-use Rattle.bus_lines.specs.Trace.{last_time, since, since_line, bus, drives, driven_after}
-use Rattle.bus_lines.specs.declared.Row.{Row}
-use Rattle.bus_lines.specs.declared.changes.Change.{Change}
-use Rattle.bus_lines.specs.declared.connection.Connection.{Connection}
+use Rattle.bus_trace.specs.LineSet.{LineSet, data_of}
+use Rattle.bus_trace.specs.declared.line_times.LineTimes.{LineTimes}
+use Rattle.bus_trace.specs.Trace.{last_time, since, since_line, line_times, free_time, bus, drives, driven_after}
+use Rattle.bus_trace.specs.declared.Row.{Row}
+use Rattle.bus_trace.specs.declared.changes.Change.{Change}
+use Rattle.bus_trace.specs.declared.connection.Connection.{Connection}
 use Rattle.bus_rules.specs.declared.course.Course.{Course}
-use Rattle.bus_rules.specs.declared.dialogue.Dialogue.{Dialogue}
-use Rattle.bus_rules.specs.declared.reading.Reading.{Reading}
+use Rattle.bus_phases.specs.declared.dialogue.Dialogue.{Dialogue}
+use Rattle.bus_phases.specs.declared.reading.Reading.{Reading}
 use Rattle.bus_rules.specs.declared.seen.Seen.{Seen}
-use Rattle.bus_lines.specs.declared.selection.Call.{Call}
-use Rattle.bus_lines.specs.Changes.{change_of}
-use Rattle.bus_lines.specs.Terms.{raised, connection, free_since}
-use Rattle.bus_lines.specs.Phases.{phase_since}
-use Rattle.bus_rules.specs.Phases.{is_attention_held}
-use Rattle.bus_rules.specs.Dialogue.{dialogue}
-use Rattle.bus_rules.specs.Half.{is_nil}
-use Rattle.bus_rules.specs.Reading.{reading_of}
+use Rattle.bus_trace.specs.declared.selection.Call.{Call}
+use Rattle.bus_trace.specs.Changes.{change_of}
+use Rattle.bus_trace.specs.Terms.{raised, connection, free_since}
+use Rattle.bus_phases.specs.Phases.{is_attention_held}
+use Rattle.bus_phases.specs.Dialogue.{dialogue}
+use Rattle.bus_phases.specs.Half.{is_nil}
+use Rattle.bus_phases.specs.Reading.{reading_of}
 use Rattle.bus_rules.specs.Seen.{seen, seen_with, others_in_call, id_since, initiator_of, drives_bsy, initiator_data, target_data}
 use Rattle.bus_rules.specs.Judging.{IsCourseOf}
 
 -- what a row meets, by the terms
 pub met_is : (rows : List Row) (dev : ℕ) (c : Change) (reading : Reading) (k : Course) → IsCourseOf rows k
-    → (last bsy sel rst id b r free io req ack atn phase lines : ℕ) (others initiator i_data t_data empty unsettled : Bool)
-    → last ≡ last_time rows → bsy ≡ since_line (λ s. s.bsy) rows → sel ≡ since_line (λ s. s.sel) rows → rst ≡ since_line (λ s. s.rst) rows
-    → id ≡ id_since rows k.call → b ≡ raised (λ s. s.bsy) rows dev → r ≡ raised (λ s. s.rst) rows dev → free ≡ free_since rows
-    → io ≡ since_line (λ s. s.io) rows → req ≡ since_line (λ s. s.req) rows → ack ≡ since_line (λ s. s.ack) rows → atn ≡ since_line (λ s. s.atn) rows
-    → phase ≡ phase_since rows → lines ≡ since data_of rows
+    → (last : ℕ) (times : LineTimes) (id b r lines : ℕ) (others initiator i_data t_data empty unsettled : Bool)
+    → last ≡ last_time rows → times ≡ line_times rows
+    → id ≡ id_since rows k.call → b ≡ raised (λ s. s.bsy) rows dev → r ≡ raised (λ s. s.rst) rows dev → lines ≡ since data_of rows
     → others ≡ others_in_call (drives rows) k.call → initiator ≡ drives_bsy (drives rows) (initiator_of k.call k.connection) → i_data ≡ initiator_data (drives rows) k.connection → t_data ≡ target_data (drives rows) k.connection → empty ≡ is_nil k.dialogue.half → unsettled ≡ is_some k.dialogue.heard.now.offer
     → record {
       change = c;
       last = last;
-      bsy_since = bsy;
-      sel_since = sel;
-      rst_since = rst;
+      times = times;
       id_since = id;
       bsy_raised = b;
       rst_raised = r;
@@ -44,14 +40,8 @@ pub met_is : (rows : List Row) (dev : ℕ) (c : Change) (reading : Reading) (k :
       target_data = t_data;
       receiver = k.receiver;
       arbitration = k.arbitration;
-      free_since = free;
       call = k.call;
       connection = k.connection;
-      io_since = io;
-      req_since = req;
-      ack_since = ack;
-      atn_since = atn;
-      phase_since = phase;
       data_since = lines;
       pulses = k.pulses;
       turned = k.turned;
@@ -64,12 +54,10 @@ pub met_is : (rows : List Row) (dev : ℕ) (c : Change) (reading : Reading) (k :
       reading = reading;
     } ≡ seen_with rows dev c reading
 unfolding seen_with
-met_is rows dev c reading k h last bsy sel rst id b r free io req ack atn phase lines others initiator i_data t_data empty unsettled el eb es er ei ebr err ef eio erq eak eat eph eda eo en eid etd ee eu = λ i. record {
+met_is rows dev c reading k h last times id b r lines others initiator i_data t_data empty unsettled el et ei ebr err eda eo en eid etd ee eu = λ i. record {
   change = c;
   last = el i;
-  bsy_since = eb i;
-  sel_since = es i;
-  rst_since = er i;
+  times = et i;
   id_since = (ei ∙ ap (λ (x : Option Call). id_since rows x) h.call) i;
   bsy_raised = ebr i;
   rst_raised = err i;
@@ -79,14 +67,8 @@ met_is rows dev c reading k h last bsy sel rst id b r free io req ack atn phase 
   target_data = (etd ∙ ap (λ (x : Option Connection). target_data (drives rows) x) h.connection) i;
   receiver = h.receiver i;
   arbitration = h.arbitration i;
-  free_since = ef i;
   call = h.call i;
   connection = h.connection i;
-  io_since = eio i;
-  req_since = erq i;
-  ack_since = eak i;
-  atn_since = eat i;
-  phase_since = eph i;
   data_since = eda i;
   pulses = h.pulses i;
   turned = h.turned i;
@@ -115,13 +97,13 @@ seen_is rows row met q c none reading k h em ec er =
     λ i. record (em i) { change = ec i; reading = read i }
 
 -- two of its parts
-pub free_of : (rows : List Row) (dev : ℕ) (met : Seen) (q : Change) (none : Reading) → met ≡ seen_with rows dev q none → met.free_since ≡ free_since rows
+pub free_of : (rows : List Row) (dev : ℕ) (met : Seen) (q : Change) (none : Reading) → met ≡ seen_with rows dev q none → free_time met.times ≡ free_since rows
 unfolding seen_with
-free_of rows dev met q none em = ap (λ (s : Seen). s.free_since) em
+free_of rows dev met q none em = ap (λ (s : Seen). (free_time s.times)) em
 
-pub held_of : (rows : List Row) (row : Row) (met : Seen) (q c : Change) (none : Reading) (held : Bool) → met ≡ seen_with rows row.dev q none → c ≡ change_of rows row → held ≡ is_attention_held c met.atn_since row.time → held ≡ is_attention_held (change_of rows row) (since_line (λ s. s.atn) rows) row.time
+pub held_of : (rows : List Row) (row : Row) (met : Seen) (q c : Change) (none : Reading) (held : Bool) → met ≡ seen_with rows row.dev q none → c ≡ change_of rows row → held ≡ is_attention_held c met.times.atn row.time → held ≡ is_attention_held (change_of rows row) (since_line (λ s. s.atn) rows) row.time
 unfolding seen_with
-held_of rows row met q c none held em ec eh = eh ∙ (λ i. is_attention_held (ec i) (em i).atn_since row.time)
+held_of rows row met q c none held em ec eh = eh ∙ (λ i. is_attention_held (ec i) (em i).times.atn row.time)
 
 pub held_by : (rows : List Row) (row : Row) (c : Change) (since : ℕ) (held : Bool) → c ≡ change_of rows row → since ≡ since_line (λ s. s.atn) rows → held ≡ is_attention_held c since row.time → held ≡ is_attention_held (change_of rows row) (since_line (λ s. s.atn) rows) row.time
 held_by rows row c since held ec es eh = eh ∙ (λ i. is_attention_held (ec i) (es i) row.time)

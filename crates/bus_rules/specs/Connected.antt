@@ -1,16 +1,17 @@
 -- Rules 14 to 16 and 27: who drives what in a connection, and its end (6.1.5 to 6.1.9).
 use Rattle.std.specs.Prelude.{ℕ, ◌+◌, Bool, true, not, max, ◌&&◌, ◌||◌, ◌==◌, Option, Some, None, nat_le, if◌then◌else◌}
 use Rattle.std.specs.Int.RustNames.{bit_or}
-use Rattle.bus_lines.specs.declared.delays.TheConstants.{BUS_SETTLE_DELAY, DATA_RELEASE_DELAY, TURN_DELAY, DESKEW_DELAY}
-use Rattle.bus_lines.specs.LineSet.{LineSet, none, same_set}
-use Rattle.bus_lines.specs.declared.Row.{Row}
-use Rattle.bus_lines.specs.declared.connection.Connection.{Connection}
-use Rattle.bus_lines.specs.declared.changes.Change.{Change}
+use Rattle.bus_trace.specs.Trace.{phase_time}
+use Rattle.bus_trace.specs.declared.delays.TheConstants.{BUS_SETTLE_DELAY, DATA_RELEASE_DELAY, TURN_DELAY, DESKEW_DELAY}
+use Rattle.bus_trace.specs.LineSet.{LineSet, none, same_set}
+use Rattle.bus_trace.specs.declared.Row.{Row}
+use Rattle.bus_trace.specs.declared.connection.Connection.{Connection}
+use Rattle.bus_trace.specs.declared.changes.Change.{Change}
 use Rattle.bus_rules.specs.declared.seen.Seen.{Seen}
-use Rattle.bus_lines.specs.Changes.{rises, falls, implies, raises_none, drives_data}
-use Rattle.bus_lines.specs.Terms.{connection_after}
-use Rattle.bus_lines.specs.Phases.{is_reserved, changes_phase}
-use Rattle.bus_rules.specs.Phases.{turned_after}
+use Rattle.bus_trace.specs.Changes.{rises, falls, implies, raises_none, drives_data}
+use Rattle.bus_trace.specs.Terms.{connection_after}
+use Rattle.bus_trace.specs.Phases.{is_reserved, changes_phase}
+use Rattle.bus_phases.specs.Phases.{turned_after}
 
 -- The connection that stands before the row, or that begins with it.
 abbrev pub or_new : Option Connection → Option Connection → Option Connection
@@ -44,7 +45,7 @@ changes_well c = implies (changes_phase c) (not c.before.req && not c.before.ack
 abbrev pub asks_well : Connection → Seen → ℕ → Bool
 asks_well n s time =
     implies (rises s.change.before.req s.change.after.req)
-    (not (changes_phase s.change) && not (is_reserved s.change.before) && nat_le (max s.phase_since n.began + BUS_SETTLE_DELAY) time)
+    (not (changes_phase s.change) && not (is_reserved s.change.before) && nat_le (max (phase_time s.times) n.began + BUS_SETTLE_DELAY) time)
 
 -- Rule 14. These three.
 abbrev pub keeps_lines_of : Seen → Row → Option Connection → Bool
@@ -70,7 +71,7 @@ raises_in_turn n s dev =
 abbrev pub initiator_released_of : Seen → ℕ → Option Connection → Bool
 initiator_released_of s time None = true
 initiator_released_of s time (Some n) =
-    implies s.change.before.io (nat_le time (s.io_since + DATA_RELEASE_DELAY) || not s.initiator_data)
+    implies s.change.before.io (nat_le time (s.times.io + DATA_RELEASE_DELAY) || not s.initiator_data)
 
 abbrev pub initiator_released : Seen → ℕ → Bool
 initiator_released s time = initiator_released_of s time s.connection
@@ -84,7 +85,7 @@ keeps_data_direction s row = keeps_data_direction_of s row s.connection && initi
 
 -- When I/O became true, where it is true after the row.
 abbrev pub io_true_since : Seen → ℕ → ℕ
-io_true_since s time = if rises s.change.before.io s.change.after.io then time else s.io_since
+io_true_since s time = if rises s.change.before.io s.change.after.io then time else s.times.io
 
 -- Rule 16. Where I/O became true in the connection, the target drives data lines a data release delay and a bus
 -- settle delay later or more. Before a row later than a deskew delay after I/O became false it drives none.
@@ -97,7 +98,7 @@ waits_for_turn s row (Some n) =
 abbrev pub target_released_of : Seen → ℕ → Option Connection → Bool
 target_released_of s time None = true
 target_released_of s time (Some n) =
-    implies (not s.change.before.io) (nat_le time (s.io_since + DESKEW_DELAY) || not s.target_data)
+    implies (not s.change.before.io) (nat_le time (s.times.io + DESKEW_DELAY) || not s.target_data)
 
 abbrev pub target_released : Seen → ℕ → Bool
 target_released s time = target_released_of s time s.connection

@@ -1,31 +1,34 @@
 -- Rows of a DATA phase that change data lines, REQ and ACK alone, and a short test that such a row breaks no
 -- rule.
-use Rattle.std.specs.Prelude.{ℕ, ◌+◌, Bool, true, false, not, max, ◌&&◌, ◌||◌, ◌==◌, List, Option, Some, None, nat_le, nat_lt, is_some, is_none, slice_index, if◌then◌else◌}
-use Rattle.bus_lines.specs.declared.agreements.TheConstants.{UNLIMITED_OFFSET}
-use Rattle.bus_lines.specs.declared.delays.TheConstants.{BUS_SETTLE_DELAY, DATA_RELEASE_DELAY, DESKEW_DELAY, SET_UP_TIME, TURN_DELAY}
-use Rattle.bus_lines.specs.LineSet.{LineSet, data_of, same, same_set, has_odd_parity}
-use Rattle.bus_lines.specs.Trace.{drives, last_time, since, since_line}
-use Rattle.bus_lines.specs.View.{View, driven_at}
-use Rattle.bus_lines.specs.declared.agreements.Agreement.{Agreement}
-use Rattle.bus_lines.specs.declared.agreements.TransferTimes.{TransferTimes}
-use Rattle.bus_lines.specs.declared.Row.{Row}
-use Rattle.bus_rules.specs.declared.attention.Duty.{Duty}
-use Rattle.bus_rules.specs.declared.attention.Duty.TheVariants as duties
-use Rattle.bus_lines.specs.declared.changes.Change.{Change}
-use Rattle.bus_lines.specs.declared.connection.Connection.{Connection}
-use Rattle.bus_rules.specs.declared.pulses.Pulses.{Pulses}
-use Rattle.bus_rules.specs.declared.spoken.CommandBytes.{CommandBytes}
+use Rattle.std.specs.Prelude.{ℕ, ◌+◌, Bool, false, not, max, ◌&&◌, ◌||◌, ◌==◌, List, Option, Some, None, nat_le, nat_lt, is_some, is_none, if◌then◌else◌}
+use Rattle.bus_trace.specs.declared.agreements.TheConstants.{UNLIMITED_OFFSET}
+use Rattle.bus_trace.specs.declared.delays.TheConstants.{BUS_SETTLE_DELAY, DATA_RELEASE_DELAY, DESKEW_DELAY, SET_UP_TIME, TURN_DELAY}
+use Rattle.bus_trace.specs.LineSet.{LineSet, data_of, same, same_set, has_odd_parity}
+use Rattle.bus_trace.specs.Trace.{drives, last_time, since}
+use Rattle.bus_trace.specs.View.{View, driven_at}
+use Rattle.bus_trace.specs.declared.line_times.LineTimes.{LineTimes}
+use Rattle.bus_trace.specs.Trace.{line_times, phase_time}
+use Rattle.bus_trace.specs.declared.agreements.Agreement.{Agreement}
+use Rattle.bus_trace.specs.declared.agreements.TransferTimes.{TransferTimes}
+use Rattle.bus_trace.specs.declared.Row.{Row}
+use Rattle.bus_phases.specs.declared.attention.Duty.{Duty}
+use Rattle.bus_phases.specs.declared.attention.Duty.TheVariants as duties
+use Rattle.bus_trace.specs.declared.changes.Change.{Change}
+use Rattle.bus_trace.specs.declared.connection.Connection.{Connection}
+use Rattle.bus_phases.specs.declared.pulses.Pulses.{Pulses}
+use Rattle.bus_phases.specs.declared.spoken.CommandBytes.{CommandBytes}
 use Rattle.bus_rules.specs.declared.course.Course.{Course}
-use Rattle.bus_rules.specs.declared.dialogue.Dialogue.{Dialogue}
-use Rattle.bus_lines.specs.Changes.{rises, falls, implies, same_hold, same_phase, drives_data}
+use Rattle.bus_trace.specs.Changes.{rises, falls, implies, same_hold, same_phase, drives_data}
 use Rattle.bus_rules.specs.Connected.{has_no_initiator_line, has_no_target_line, raises_data}
 use Rattle.bus_rules.specs.Messages.{is_owed, is_none_or_all}
-use Rattle.bus_lines.specs.Phases.{is_data, phase_since}
-use Rattle.bus_rules.specs.Phases.{pulses, pulses_on, turned, duty}
-use Rattle.bus_rules.specs.Dialogue.{dialogue}
+use Rattle.bus_trace.specs.Phases.{is_data}
+use Rattle.bus_phases.specs.Dialogue.{takes_data}
+use Rattle.bus_phases.specs.Phases.{pulses, pulses_on, turned, duty}
+use Rattle.bus_phases.specs.Dialogue.{dialogue}
 use Rattle.bus_rules.specs.Seen.{drives_bsy, initiator_of, initiator_data, target_data}
-use Rattle.bus_lines.specs.Terms.{is_fault, arbitration, call, connection, receiver_of}
-use Rattle.bus_rules.specs.Transfer.{alternates, changes_data, holds_still, is_after, pulses_well, times_of}
+use Rattle.bus_trace.specs.Terms.{is_fault, arbitration, call, connection, receiver_of}
+use Rattle.bus_rules.specs.Transfer.{alternates, changes_data, holds_still, is_after, pulses_well}
+use Rattle.bus_trace.specs.Agreements.{times_of}
 
 -- ---- what the test asks of the rows before
 
@@ -38,10 +41,7 @@ pub record Standing : Type 0 where
   -- the connection that stands, if one does
   pub connection : Option Connection
   -- since when the phase lines, I/O, REQ, ACK and the data lines stand as they do
-  pub phase_since : ℕ
-  pub io_since : ℕ
-  pub req_since : ℕ
-  pub ack_since : ℕ
+  pub times : LineTimes
   pub data_since : ℕ
   -- the initiator drives BSY, or data lines, and the target does
   pub initiator_bsy : Bool
@@ -65,10 +65,7 @@ standing_after rows = record {
   last = last_time rows;
   is_alone = is_none (call rows) && is_none (arbitration rows);
   connection = connection rows;
-  phase_since = phase_since rows;
-  io_since = since_line (λ s. s.io) rows;
-  req_since = since_line (λ s. s.req) rows;
-  ack_since = since_line (λ s. s.ack) rows;
+  times = line_times rows;
   data_since = since data_of rows;
   initiator_bsy = drives_bsy (drives rows) (initiator_of (call rows) (connection rows));
   initiator_data = initiator_data (drives rows) (connection rows);
@@ -87,10 +84,7 @@ standing_at v k = record {
   last = v.last;
   is_alone = is_none k.call && is_none k.arbitration;
   connection = k.connection;
-  phase_since = max (max (slice_index v.changed 13) (slice_index v.changed 11)) (slice_index v.changed 12);
-  io_since = slice_index v.changed 12;
-  req_since = slice_index v.changed 14;
-  ack_since = slice_index v.changed 15;
+  times = v.times;
   data_since = v.data_changed;
   initiator_bsy = drives_bsy (driven_at v.driven) (initiator_of k.call k.connection);
   initiator_data = initiator_data (driven_at v.driven) k.connection;
@@ -128,7 +122,7 @@ keeps_side n dev s = if dev == n.target then has_no_initiator_line s else (dev =
 -- REQ rises once the phase has settled, while no MESSAGE OUT is owed and the target alone drives BSY.
 abbrev pub asks_soon : Connection → Standing → Change → ℕ → Bool
 asks_soon n s c time =
-    implies (rises c.before.req c.after.req) (nat_le (max s.phase_since n.began + BUS_SETTLE_DELAY) time && not (is_owed s.duty) && not s.initiator_bsy)
+    implies (rises c.before.req c.after.req) (nat_le (max (phase_time s.times) n.began + BUS_SETTLE_DELAY) time && not (is_owed s.duty) && not s.initiator_bsy)
 
 -- The end whose turn it is raises data lines, and the other end has released them.
 abbrev pub is_in_turn : Bool → Change → Bool
@@ -136,8 +130,8 @@ is_in_turn is_target c = implies (raises_data c) (same is_target c.before.io)
 
 abbrev pub has_turned : Standing → Bool → Change → ℕ → Bool
 has_turned s is_target c time =
-    if c.before.io then (nat_le time (s.io_since + DATA_RELEASE_DELAY) || not s.initiator_data) && implies (s.turned && is_target && drives_data c.next) (nat_le (s.io_since + TURN_DELAY) time)
-    else (nat_le time (s.io_since + DESKEW_DELAY) || not s.target_data)
+    if c.before.io then (nat_le time (s.times.io + DATA_RELEASE_DELAY) || not s.initiator_data) && implies (s.turned && is_target && drives_data c.next) (nat_le (s.times.io + TURN_DELAY) time)
+    else (nat_le time (s.times.io + DESKEW_DELAY) || not s.target_data)
 
 -- Since when the data lines stand as they do after the row.
 abbrev pub stand_since : Change → ℕ → ℕ → ℕ
@@ -175,7 +169,7 @@ may_cross s c = has_odd_parity c.after && s.begun && not s.is_open && is_none_or
 abbrev pub transfers_well : Standing → Change → ℕ → Bool
 transfers_well s c time =
     if s.agreement.offset == 0 then is_shaken c s.data_since time
-    else is_pulsed_well s.agreement s.pulses c s.req_since s.ack_since s.data_since time
+    else is_pulsed_well s.agreement s.pulses c s.times.req s.times.ack s.data_since time
 
 abbrev pub turns_well : Standing → Bool → Change → ℕ → Bool
 turns_well s is_target c time = is_in_turn is_target c && has_turned s is_target c time
@@ -205,9 +199,6 @@ passes s c row = nat_le s.last row.time && is_move c row && is_data_row c && s.i
 abbrev pub duty_in_data : Duty → Change → Bool → Duty
 duty_in_data duty c held =
     if rises c.before.req c.after.req then duties.Nothing else if falls c.before.ack c.after.ack && held then duties.Asked else duty
-
-abbrev pub takes_data : Dialogue → Bool → Dialogue
-takes_data d crosses = if crosses then record d { begun = true } else d
 
 abbrev pub course_after_transfer : Course → Bool → Change → ℕ → Course
 course_after_transfer k held c time = record k {

@@ -1,11 +1,12 @@
 -- Rules 3 to 6: the free bus and arbitration (6.1.1, 6.1.2).
 use Rattle.std.specs.Prelude.{ℕ, ◌+◌, Bool, true, not, max, ◌&&◌, ◌||◌, Option, Some, None, nat_le, is_none, is_some}
-use Rattle.bus_lines.specs.declared.delays.TheConstants.{ENTRY_DELAY, QUIET_TIME, BUS_SET_DELAY, ARBITRATION_DELAY}
-use Rattle.bus_lines.specs.LineSet.{none, same_set, id_set, has_id_above}
-use Rattle.bus_lines.specs.declared.Row.{Row}
-use Rattle.bus_lines.specs.declared.arbitration.Arbitration.{Arbitration}
+use Rattle.bus_trace.specs.Trace.{free_time}
+use Rattle.bus_trace.specs.declared.delays.TheConstants.{ENTRY_DELAY, QUIET_TIME, BUS_SET_DELAY, ARBITRATION_DELAY}
+use Rattle.bus_trace.specs.LineSet.{none, same_set, id_set, has_id_above}
+use Rattle.bus_trace.specs.declared.Row.{Row}
+use Rattle.bus_trace.specs.declared.arbitration.Arbitration.{Arbitration}
 use Rattle.bus_rules.specs.declared.seen.Seen.{Seen}
-use Rattle.bus_lines.specs.Changes.{rises, implies, is_within, raises_none, adds}
+use Rattle.bus_trace.specs.Changes.{rises, implies, is_within, raises_none, adds}
 
 -- An entry: the device raises BSY while SEL is false and no connection stands.
 abbrev pub is_entry : Seen → Bool
@@ -26,7 +27,7 @@ keeps_off s = implies (is_idle s) (raises_none s.change || is_entry s)
 
 abbrev pub is_cleared : Seen → ℕ → Bool
 is_cleared s time =
-    implies (is_idle s) (nat_le time (max s.bsy_since s.sel_since + QUIET_TIME) || is_within s.change.before (record none { rst = true }))
+    implies (is_idle s) (nat_le time (max s.times.bsy s.times.sel + QUIET_TIME) || is_within s.change.before (record none { rst = true }))
 
 abbrev pub keeps_free_bus : Seen → Row → Bool
 keeps_free_bus s row = keeps_off s && is_cleared s row.time
@@ -46,7 +47,7 @@ is_soon (Some a) time = nat_le time (a.first + BUS_SET_DELAY)
 -- Otherwise a contender only releases all its lines or raises SEL (6.1.2).
 abbrev pub enters_well : Seen → Row → Bool
 enters_well s row =
-    same_set s.change.own none && same_set s.change.next (record (id_set row.dev) { bsy = true }) && nat_le (free_before s.free_since s.arbitration + ENTRY_DELAY) row.time && is_soon s.arbitration row.time
+    same_set s.change.own none && same_set s.change.next (record (id_set row.dev) { bsy = true }) && nat_le (free_before (free_time s.times) s.arbitration + ENTRY_DELAY) row.time && is_soon s.arbitration row.time
 
 abbrev pub contends_well : Seen → Bool
 contends_well s = same_set s.change.next none || rises s.change.own.sel s.change.next.sel

@@ -1,25 +1,13 @@
 -- The running terms are those of these rows.
-use Rattle.std.specs.Prelude.{ℕ, ◌≡◌, ◌<◌, ◌+◌, ◌*◌, Bool, List, slice_index}
-use Rattle.bus_lines.specs.LineSet.{LineSet}
-use Rattle.bus_lines.specs.Trace.{IsViewOf}
-use Rattle.bus_lines.specs.declared.Row.{Row}
-use Rattle.bus_rules.specs.declared.raises.Raises.{Raises}
-use Rattle.bus_lines.specs.declared.agreements.Agreement.{Agreement}
-use Rattle.bus_lines.specs.View.{View}
-use Rattle.bus_rules.specs.declared.agreements.Agreements.{Agreements}
+use Rattle.std.specs.Prelude.{◌≡◌, List}
+use Rattle.bus_trace.specs.Trace.{IsViewOf}
+use Rattle.bus_trace.specs.declared.Row.{Row}
+use Rattle.bus_trace.specs.View.{View}
 use Rattle.bus_rules.specs.declared.course.Course.{Course}
-use Rattle.bus_lines.specs.Terms.{raised, arbitration, call, connection, receiver}
-use Rattle.bus_rules.specs.Phases.{pulses, turned, duty}
-use Rattle.bus_rules.specs.Dialogue.{agreed, dialogue}
-
--- When each device last raised a line.
-abbrev pub IsRaisesOf : (LineSet → Bool) → List Row → Raises → Type 0
-IsRaisesOf line rows r = (dev : ℕ) → dev < 8 → slice_index r.times dev ≡ raised line rows dev
-
--- The agreement of each pair.
-abbrev pub AreAgreements : (ℕ → ℕ → Agreement) → Agreements → Type 0
-AreAgreements agreed a =
-    (i t : ℕ) → i < 8 → t < 8 → (slice_index a.periods (i * 8 + t) ≡ (agreed i t).period) × (slice_index a.offsets (i * 8 + t) ≡ (agreed i t).offset)
+use Rattle.bus_trace.specs.Terms.{arbitration, call, connection, receiver}
+use Rattle.bus_phases.specs.Tables.{IsRaisesOf, AreAgreements}
+use Rattle.bus_phases.specs.Phases.{pulses, turned, duty}
+use Rattle.bus_phases.specs.Dialogue.{agreed, dialogue}
 
 -- The terms but for what a view of the bus keeps.
 pub record IsCourseOf (rows : List Row) (k : Course) : Type 0 where

@@ -1,7 +1,7 @@
 -- What a verdict means: a lawful trace, and the first row that breaks a rule with the lowest that it breaks.
 use Rattle.std.specs.Prelude.{ℕ, ◌≡◌, ◌+◌, ◌<◌, ◌⊎◌, ◌==◌, Bool, true, false, List, [], ◌∷◌, ◌++◌, length, ⊤}
 use Rattle.std.specs.List.{AllByRecursion, list_any}
-use Rattle.bus_lines.specs.declared.Row.{Row}
+use Rattle.bus_trace.specs.declared.Row.{Row}
 use Rattle.bus_rules.specs.Rules.{obeys, obeys_at_end, judged_rules}
 
 -- Every rule that is judged is kept.

@@ -1,7 +1,3 @@
-pub mod Phases
-pub mod Half
-pub mod Dialogue
-pub mod Reading
 pub mod Seen
 pub mod Order
 pub mod FreeBus

@@ -1,24 +1,24 @@
 -- Rules 24 to 26: attention, messages, and the bytes of the command (6.2.1, 6.6, 7.2).
 use Rattle.std.specs.Prelude.{ℕ, ◌+◌, ◌%◌, Bool, true, false, not, ◌&&◌, ◌||◌, ◌==◌, Option, Some, None, nat_le, nat_lt, is_some, if◌then◌else◌}
-use Rattle.bus_lines.specs.declared.delays.TheConstants.{TWO_DESKEW}
-use Rattle.bus_lines.specs.declared.Row.{Row}
+use Rattle.bus_trace.specs.declared.delays.TheConstants.{TWO_DESKEW}
+use Rattle.bus_trace.specs.declared.Row.{Row}
 use Rattle.cdb_codec.specs.Cdb.{group_len}
-use Rattle.bus_lines.specs.declared.connection.Connection.{Connection}
-use Rattle.bus_rules.specs.declared.spoken.CommandBytes.{CommandBytes}
-use Rattle.bus_rules.specs.declared.reading.Reading.{Reading}
-use Rattle.bus_rules.specs.declared.reading.Reading.TheVariants as readings
-use Rattle.bus_rules.specs.declared.attention.Duty.{Duty}
-use Rattle.bus_rules.specs.declared.attention.Duty.TheVariants as duties
+use Rattle.bus_trace.specs.declared.connection.Connection.{Connection}
+use Rattle.bus_phases.specs.declared.spoken.CommandBytes.{CommandBytes}
+use Rattle.bus_phases.specs.declared.reading.Reading.{Reading}
+use Rattle.bus_phases.specs.declared.reading.Reading.TheVariants as readings
+use Rattle.bus_phases.specs.declared.attention.Duty.{Duty}
+use Rattle.bus_phases.specs.declared.attention.Duty.TheVariants as duties
 use Rattle.bus_rules.specs.declared.seen.Seen.{Seen}
-use Rattle.bus_lines.specs.Changes.{rises, falls, implies}
-use Rattle.bus_lines.specs.Phases.{is_data, is_command, is_message_out, is_message_in, changes_phase}
+use Rattle.bus_trace.specs.Changes.{rises, falls, implies}
+use Rattle.bus_trace.specs.Phases.{is_data, is_command, is_message_out, is_message_in, changes_phase}
 use Rattle.bus_rules.specs.Transfer.{crosses}
 
 -- ---- rule 24
 
 -- Since when ATN has been false after the row, where it is.
 abbrev pub atn_false_since : Seen → ℕ → ℕ
-atn_false_since s time = if falls s.change.before.atn s.change.after.atn then time else s.atn_since
+atn_false_since s time = if falls s.change.before.atn s.change.after.atn then time else s.times.atn
 
 -- ATN does not fall while ACK is true in MESSAGE OUT. Where ACK rises in MESSAGE OUT with ATN false, ATN has been
 -- false for two deskew delays.

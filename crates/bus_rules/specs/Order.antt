@@ -1,12 +1,12 @@
 -- Rules 1 and 2: what holds of any row.
 use Rattle.std.specs.Prelude.{ℕ, ◌+◌, Bool, false, not, ◌&&◌, ◌||◌, ◌==◌, Option, Some, None, nat_le, is_none}
-use Rattle.bus_lines.specs.declared.delays.TheConstants.{BUS_SETTLE_DELAY}
-use Rattle.bus_lines.specs.LineSet.{same_set, has_id}
-use Rattle.bus_lines.specs.declared.Row.{Row}
-use Rattle.bus_lines.specs.declared.Kind.{Kind}
-use Rattle.bus_lines.specs.declared.Kind.TheVariants.{Drives, Fault}
-use Rattle.bus_lines.specs.declared.selection.Call.{Call}
-use Rattle.bus_lines.specs.declared.selection.Calling.{Calling}
+use Rattle.bus_trace.specs.declared.delays.TheConstants.{BUS_SETTLE_DELAY}
+use Rattle.bus_trace.specs.LineSet.{same_set, has_id}
+use Rattle.bus_trace.specs.declared.Row.{Row}
+use Rattle.bus_trace.specs.declared.Kind.{Kind}
+use Rattle.bus_trace.specs.declared.Kind.TheVariants.{Drives, Fault}
+use Rattle.bus_trace.specs.declared.selection.Call.{Call}
+use Rattle.bus_trace.specs.declared.selection.Calling.{Calling}
 use Rattle.bus_rules.specs.declared.seen.Seen.{Seen}
 
 -- Rule 1. A time is not below that of the row before.
@@ -26,7 +26,7 @@ strikes_byte s row = is_of_device s.receiver row.dev && s.last == row.time
 abbrev pub strikes_ids_of : Seen → Row → Option Calling → Bool
 strikes_ids_of s row None = false
 strikes_ids_of s row (Some k) =
-    (row.dev == k.called && is_none k.answered && not k.struck) && (s.change.before.sel && has_id s.change.before k.called && not s.change.before.bsy) && nat_le (s.bsy_since + BUS_SETTLE_DELAY) row.time
+    (row.dev == k.called && is_none k.answered && not k.struck) && (s.change.before.sel && has_id s.change.before k.called && not s.change.before.bsy) && nat_le (s.times.bsy + BUS_SETTLE_DELAY) row.time
 
 abbrev pub strikes_ids : Seen → Row → Option Call → Bool
 strikes_ids s row None = false

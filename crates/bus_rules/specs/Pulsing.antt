@@ -1,6 +1,6 @@
 -- The times of a transfer are not 0, but for the period of the factor 0.
 use Rattle.std.specs.Prelude.{◌<◌}
-use Rattle.bus_lines.specs.declared.agreements.TransferTimes.{TransferTimes}
+use Rattle.bus_trace.specs.declared.agreements.TransferTimes.{TransferTimes}
 
 pub record AreTimes (t : TransferTimes) : Type 0 where
   pub assertion : 0 < t.assertion

@@ -1,6 +1,6 @@
 -- The rules by their numbers, and what a judge says of a trace.
 use Rattle.std.specs.Prelude.{ℕ, ◌+◌, Bool, true, not, ◌&&◌, ◌||◌, ◌==◌, List, [], ◌∷◌, length, Option, Some, None, if◌then◌else◌}
-use Rattle.bus_lines.specs.declared.Row.{Row}
+use Rattle.bus_trace.specs.declared.Row.{Row}
 use Rattle.bus_rules.specs.declared.seen.Seen.{Seen}
 use Rattle.bus_rules.specs.declared.verdict.Verdict.{Verdict}
 use Rattle.bus_rules.specs.declared.verdict.Verdict.TheVariants.{Lawful, Broken}

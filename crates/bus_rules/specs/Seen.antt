@@ -1,22 +1,21 @@
 -- What a row meets: all that the rules ask of the rows before it.
 use Rattle.std.specs.Prelude.{ℕ, Bool, false, not, ◌||◌, ◌&&◌, ◌==◌, List, Option, Some, None, is_some, if◌then◌else◌}
-use Rattle.bus_lines.specs.LineSet.{LineSet, none, same_set, line_of, data_of}
-use Rattle.bus_lines.specs.Trace.{drives, last_time, since, since_line}
-use Rattle.bus_lines.specs.declared.Row.{Row}
-use Rattle.bus_lines.specs.declared.Kind.TheVariants.{Fault}
-use Rattle.bus_lines.specs.declared.changes.Change.{Change}
-use Rattle.bus_lines.specs.declared.selection.Call.{Call}
-use Rattle.bus_lines.specs.declared.selection.Calling.{Calling}
-use Rattle.bus_lines.specs.declared.connection.Connection.{Connection}
+use Rattle.bus_trace.specs.LineSet.{LineSet, none, same_set, line_of, data_of}
+use Rattle.bus_trace.specs.Trace.{drives, last_time, since, line_times}
+use Rattle.bus_trace.specs.declared.Row.{Row}
+use Rattle.bus_trace.specs.declared.Kind.TheVariants.{Fault}
+use Rattle.bus_trace.specs.declared.changes.Change.{Change}
+use Rattle.bus_trace.specs.declared.selection.Call.{Call}
+use Rattle.bus_trace.specs.declared.selection.Calling.{Calling}
+use Rattle.bus_trace.specs.declared.connection.Connection.{Connection}
 use Rattle.bus_rules.specs.declared.seen.Seen.{Seen}
-use Rattle.bus_rules.specs.declared.reading.Reading.{Reading}
-use Rattle.bus_lines.specs.Changes.{change_of, drives_data}
-use Rattle.bus_lines.specs.Phases.{phase_since}
-use Rattle.bus_rules.specs.Phases.{pulses, turned, duty}
-use Rattle.bus_rules.specs.Dialogue.{dialogue}
-use Rattle.bus_rules.specs.Half.{is_nil}
-use Rattle.bus_rules.specs.Reading.{reading_of}
-use Rattle.bus_lines.specs.Terms.{free_since, raised, arbitration, call, connection, receiver}
+use Rattle.bus_phases.specs.declared.reading.Reading.{Reading}
+use Rattle.bus_trace.specs.Changes.{change_of, drives_data}
+use Rattle.bus_phases.specs.Phases.{pulses, turned, duty}
+use Rattle.bus_phases.specs.Dialogue.{dialogue}
+use Rattle.bus_phases.specs.Half.{is_nil}
+use Rattle.bus_phases.specs.Reading.{reading_of}
+use Rattle.bus_trace.specs.Terms.{raised, arbitration, call, connection, receiver}
 
 -- A device but this one drives a line.
 abbrev pub other_drives : (ℕ → LineSet) → ℕ → ℕ → Bool
@@ -68,9 +67,7 @@ unfoldable pub seen_with : List Row → ℕ → Change → Reading → Seen
 seen_with rows dev c reading = record {
   change = c;
   last = last_time rows;
-  bsy_since = since_line (λ s. s.bsy) rows;
-  sel_since = since_line (λ s. s.sel) rows;
-  rst_since = since_line (λ s. s.rst) rows;
+  times = line_times rows;
   id_since = id_since rows (call rows);
   bsy_raised = raised (λ s. s.bsy) rows dev;
   rst_raised = raised (λ s. s.rst) rows dev;
@@ -80,14 +77,8 @@ seen_with rows dev c reading = record {
   target_data = target_data (drives rows) (connection rows);
   receiver = receiver rows;
   arbitration = arbitration rows;
-  free_since = free_since rows;
   call = call rows;
   connection = connection rows;
-  io_since = since_line (λ s. s.io) rows;
-  req_since = since_line (λ s. s.req) rows;
-  ack_since = since_line (λ s. s.ack) rows;
-  atn_since = since_line (λ s. s.atn) rows;
-  phase_since = phase_since rows;
   data_since = since data_of rows;
   pulses = pulses rows;
   turned = turned rows;

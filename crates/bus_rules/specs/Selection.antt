@@ -1,15 +1,15 @@
 -- Rules 7 to 13: selection and reselection (6.1.3, 6.1.4).
 use Rattle.std.specs.Prelude.{ℕ, ◌+◌, Bool, true, false, not, ◌&&◌, ◌||◌, ◌==◌, Option, Some, None, nat_le, is_none, is_some, if◌then◌else◌}
 use Rattle.std.specs.Int.{bit_at}
-use Rattle.bus_lines.specs.declared.delays.TheConstants.{BUS_CLEAR_DELAY, QUIET_TIME, TWO_DESKEW, BUS_SETTLE_DELAY, SELECTION_TIMEOUT_DELAY, SELECTION_ABORT_TIME}
-use Rattle.bus_lines.specs.LineSet.{LineSet, none, same, same_set, has_id}
-use Rattle.bus_lines.specs.declared.Row.{Row}
-use Rattle.bus_lines.specs.declared.selection.Call.{Call}
-use Rattle.bus_lines.specs.declared.selection.Calling.{Calling}
-use Rattle.bus_lines.specs.declared.connection.Connection.{Connection}
+use Rattle.bus_trace.specs.declared.delays.TheConstants.{BUS_CLEAR_DELAY, QUIET_TIME, TWO_DESKEW, BUS_SETTLE_DELAY, SELECTION_TIMEOUT_DELAY, SELECTION_ABORT_TIME}
+use Rattle.bus_trace.specs.LineSet.{LineSet, none, same, same_set, has_id}
+use Rattle.bus_trace.specs.declared.Row.{Row}
+use Rattle.bus_trace.specs.declared.selection.Call.{Call}
+use Rattle.bus_trace.specs.declared.selection.Calling.{Calling}
+use Rattle.bus_trace.specs.declared.connection.Connection.{Connection}
 use Rattle.bus_rules.specs.declared.seen.Seen.{Seen}
-use Rattle.bus_lines.specs.Changes.{rises, falls, implies, is_within, raises_none, raises_only, releases_bsy, releases_data}
-use Rattle.bus_lines.specs.Terms.{drives_two_ids}
+use Rattle.bus_trace.specs.Changes.{rises, falls, implies, is_within, raises_none, raises_only, releases_bsy, releases_data}
+use Rattle.bus_trace.specs.Terms.{drives_two_ids}
 
 -- That a line is one of a time: at least this long after a moment that has come.
 abbrev pub is_past : Option ℕ → ℕ → ℕ → Bool
@@ -81,9 +81,9 @@ drives_answer k s =
 
 abbrev pub has_settled : Seen → ℕ → Calling → Bool
 has_settled s time k =
-    (s.change.before.sel && nat_le (s.sel_since + BUS_SETTLE_DELAY) time)
+    (s.change.before.sel && nat_le (s.times.sel + BUS_SETTLE_DELAY) time)
     && (has_id s.change.before k.called && nat_le (s.id_since + BUS_SETTLE_DELAY) time)
-    && (not s.change.before.bsy && nat_le (s.bsy_since + BUS_SETTLE_DELAY) time)
+    && (not s.change.before.bsy && nat_le (s.times.bsy + BUS_SETTLE_DELAY) time)
     && is_past k.released BUS_SETTLE_DELAY time
 
 abbrev pub answers_well : Seen → Row → Calling → Bool

@@ -1,16 +1,16 @@
 -- Rules 17 to 23: REQ and ACK, asynchronous and synchronous (6.1.5.1, 6.1.5.2).
 use Rattle.std.specs.Prelude.{ℕ, ◌+◌, Bool, true, not, ◌&&◌, ◌||◌, ◌==◌, Option, Some, None, nat_le, nat_lt, is_some, if◌then◌else◌}
-use Rattle.bus_lines.specs.declared.agreements.TheConstants.{UNLIMITED_OFFSET}
-use Rattle.bus_lines.specs.declared.delays.TheConstants.{SET_UP_TIME}
-use Rattle.bus_lines.specs.LineSet.{LineSet, has_odd_parity}
-use Rattle.bus_lines.specs.Agreements.{transfer_times, slow_times}
-use Rattle.bus_lines.specs.declared.agreements.TransferTimes.{TransferTimes}
-use Rattle.bus_lines.specs.declared.Row.{Row}
-use Rattle.bus_lines.specs.declared.changes.Change.{Change}
+use Rattle.bus_trace.specs.declared.agreements.TheConstants.{UNLIMITED_OFFSET}
+use Rattle.bus_trace.specs.declared.delays.TheConstants.{SET_UP_TIME}
+use Rattle.bus_trace.specs.LineSet.{LineSet, has_odd_parity}
+use Rattle.bus_trace.specs.Agreements.{times_of}
+use Rattle.bus_trace.specs.declared.agreements.TransferTimes.{TransferTimes}
+use Rattle.bus_trace.specs.declared.Row.{Row}
+use Rattle.bus_trace.specs.declared.changes.Change.{Change}
 use Rattle.bus_rules.specs.declared.seen.Seen.{Seen}
-use Rattle.bus_lines.specs.Changes.{rises, falls, implies}
-use Rattle.bus_lines.specs.Terms.{receiver_of}
-use Rattle.bus_lines.specs.Phases.{is_data, changes_phase}
+use Rattle.bus_trace.specs.Changes.{rises, falls, implies}
+use Rattle.bus_trace.specs.Terms.{receiver_of}
+use Rattle.bus_trace.specs.Phases.{is_data, changes_phase}
 
 -- A byte crosses in the row.
 abbrev pub crosses : Seen → Bool
@@ -65,14 +65,6 @@ keeps_offset s =
     (implies (rises s.change.before.req s.change.after.req) (s.agreement.offset == UNLIMITED_OFFSET || nat_lt s.pulses.req (s.pulses.ack + s.agreement.offset))
     && implies (rises s.change.before.ack s.change.after.ack) (nat_lt s.pulses.ack s.pulses.req))
 
--- The times of a transfer period factor; those of a factor below 25 are those of a transfer that is not fast.
-abbrev pub times_or_slow : ℕ → Option TransferTimes → TransferTimes
-times_or_slow factor None = slow_times factor
-times_or_slow factor (Some t) = t
-
-abbrev pub times_of : ℕ → TransferTimes
-times_of factor = times_or_slow factor (transfer_times factor)
-
 -- At least this long after a moment, if there was one.
 abbrev pub is_after : Option ℕ → ℕ → ℕ → Bool
 is_after None delay time = true
@@ -93,8 +85,8 @@ last_crossing s = if s.change.before.io then s.pulses.last_req else s.pulses.las
 -- byte crosses, and do not change for the hold time after it.
 abbrev pub pulses_of : TransferTimes → Seen → ℕ → Bool
 pulses_of t s time =
-    (pulses_well t s.change.before.req s.change.after.req s.req_since s.pulses.last_req time
-    && pulses_well t s.change.before.ack s.change.after.ack s.ack_since s.pulses.last_ack time)
+    (pulses_well t s.change.before.req s.change.after.req s.times.req s.pulses.last_req time
+    && pulses_well t s.change.before.ack s.change.after.ack s.times.ack s.pulses.last_ack time)
     && (implies (crosses s) (nat_le (data_stand_since s time + t.set_up) time)
     && implies (changes_data s.change) (is_after (last_crossing s) t.hold time))
 

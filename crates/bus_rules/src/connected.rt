@@ -1,13 +1,13 @@
 //! Rules 14 to 16 and 27: who drives what in a connection, and its end (ANSI X3.131-1994, 6.1.5 to 6.1.9).
 ghost use Rattle.std.specs.Prelude.{◌≡◌};
-ghost use Rattle.bus_lines.specs.Calls.{HasDevices, IsCalled};
-ghost use Rattle.bus_lines.specs.Connections.{HasEnds};
+ghost use Rattle.bus_trace.specs.Calls.{HasDevices, IsCalled};
+ghost use Rattle.bus_trace.specs.Connections.{HasEnds};
 ghost use Rattle.bus_rules.specs.Connected.{or_new, connection_ends, has_no_target_line, has_no_initiator_line, keeps_sides, changes_well, asks_well, keeps_lines, raises_data, raises_in_turn, initiator_released, keeps_data_direction, keeps_data_direction_of, io_true_since, waits_for_turn, target_released, keeps_direction_delay, frees_well, keeps_freeing};
 
-use crate::pulses::turned_after;
 use crate::seen::Seen;
 use bus_base::{Dev, Ns};
-use bus_lines::{
+use bus_phases::turned_after;
+use bus_trace::{
     BUS_SETTLE_DELAY, Change, Connection, DATA_RELEASE_DELAY, DESKEW_DELAY, Lines, Row, TURN_DELAY,
     changes_phase, connection_after, drives_data, falls, is_reserved, rises,
 };
@@ -60,7 +60,7 @@ fn asks_well(connection: Connection, seen: &Seen, time: Ns) -> bool
     ensures { result ≡ asks_well connection seen.now time }
 {
     let (before, after) = (seen.change.before, seen.change.after);
-    let since = seen.phase_since.max(connection.began);
+    let since = seen.times.phase().max(connection.began);
     !rises(before.req(), after.req())
         || (!changes_phase(&seen.change)
             && !is_reserved(before)
@@ -115,7 +115,7 @@ pub fn initiator_released(seen: &Seen, time: Ns) -> bool
         None => true,
         Some(_) => {
             !seen.change.before.io()
-                || (time.saturating_sub(seen.io_since) <= DATA_RELEASE_DELAY
+                || (time.saturating_sub(seen.times.io) <= DATA_RELEASE_DELAY
                     || !seen.initiator_data)
         }
     }
@@ -138,7 +138,7 @@ fn io_true_since(seen: &Seen, time: Ns) -> Ns
     if rises(seen.change.before.io(), seen.change.after.io()) {
         time
     } else {
-        seen.io_since
+        seen.times.io
     }
 }
 
@@ -165,7 +165,7 @@ pub fn target_released(seen: &Seen, time: Ns) -> bool
         None => true,
         Some(_) => {
             seen.change.before.io()
-                || (time.saturating_sub(seen.io_since) <= DESKEW_DELAY || !seen.target_data)
+                || (time.saturating_sub(seen.times.io) <= DESKEW_DELAY || !seen.target_data)
         }
     }
 }

@@ -1,31 +1,26 @@
 //! The terms of the rules but for what a view of the bus keeps.
 ghost use Rattle.std.specs.Prelude.{ℕ, ◌≡◌, ◌<◌, ◌∷◌, [], List, if◌then◌else◌};
-ghost use Rattle.bus_lines.specs.declared.agreements.Agreement.{Agreement};
-ghost use Rattle.bus_rules.specs.Judging.{AreAgreements};
-ghost use Rattle.bus_lines.specs.LineSet.{LineSet};
-ghost use Rattle.bus_lines.specs.declared.Row.{Row};
-ghost use Rattle.bus_lines.specs.Trace.{since_line};
-ghost use Rattle.bus_lines.specs.Calls.{HasDevices, IsCalled};
-ghost use Rattle.bus_lines.specs.Connections.{HasEnds};
-ghost use Rattle.bus_lines.specs.Changes.{change_of};
-ghost use Rattle.bus_lines.specs.Terms.{free_since, call, connection};
-ghost use Rattle.bus_rules.specs.Phases.{is_attention_held};
-ghost use Rattle.bus_rules.specs.Dialogue.{asynchronous, closed_agreement_by, dialogue};
-ghost use Rattle.bus_rules.specs.Reading.{reading_of};
+ghost use Rattle.bus_trace.specs.LineSet.{LineSet};
+ghost use Rattle.bus_trace.specs.declared.Row.{Row};
+ghost use Rattle.bus_trace.specs.Trace.{since_line};
+ghost use Rattle.bus_trace.specs.Calls.{HasDevices, IsCalled};
+ghost use Rattle.bus_trace.specs.Connections.{HasEnds};
+ghost use Rattle.bus_trace.specs.Changes.{change_of};
+ghost use Rattle.bus_trace.specs.Terms.{free_since, call, connection};
+ghost use Rattle.bus_phases.specs.Phases.{is_attention_held};
+ghost use Rattle.bus_phases.specs.Dialogue.{asynchronous, closed_agreement_by, dialogue};
+ghost use Rattle.bus_phases.specs.Reading.{reading_of};
 ghost use Rattle.bus_rules.specs.DataRows.{course_after_transfer};
 
-use crate::agreements::Agreements;
-use crate::attention::{Duty, duty_after, is_attention_held};
 use crate::data_rows::{crosses_in, duty_in_data};
-use crate::dialogue::Dialogue;
-use crate::pulses::{Pulses, no_pulses, pulses_after, turned_after};
-use crate::raises::Raises;
-use crate::reading::Reading;
-use crate::spoken::{Spoken, asynchronous};
 use bus_base::{Dev, Ns};
-use bus_lines::{
-    Arbitration, Call, Change, Connection, Lines, Row, arbitration_after, call_after,
-    connection_after, receiver_of,
+use bus_phases::{
+    Agreements, Dialogue, Duty, Pulses, Raises, Reading, agree, asynchronous, duty_after,
+    is_attention_held, no_pulses, pulses_after, turned_after,
+};
+use bus_trace::{
+    Arbitration, Call, Change, Connection, Row, arbitration_after, call_after, connection_after,
+    receiver_of,
 };
 
 /// What stands on the bus after the rows of a trace so far.
@@ -100,7 +95,10 @@ impl Course {
         requires device { row.now.dev < 8 }
         requires devices { HasDevices self.old.call }
         requires ends { HasEnds self.old.connection }
-        ensures kept { (rows : List Row) → IsCourseOf rows self.old → free ≡ free_since rows → change.now ≡ change_of rows row.now → held ≡ is_attention_held (change_of rows row.now) (since_line (λ s. s.atn) rows) row.now.time → IsCourseOf (row.now ∷ rows) self.new }
+        ensures kept { (rows : List Row) → IsCourseOf rows self.old → free ≡ free_since rows
+            → change.now ≡ change_of rows row.now
+            → held ≡ is_attention_held (change_of rows row.now) (since_line (λ s. s.atn) rows) row.now.time
+            → IsCourseOf (row.now ∷ rows) self.new }
         ensures reading { result ≡ reading_of self.old.dialogue.half self.old.connection change.now }
         ensures devices { HasDevices self.new.call }
         ensures ends { HasEnds self.new.connection }
@@ -124,22 +122,4 @@ impl Course {
             .step(row.dev, row.time, own.rst(), next.rst());
         reading
     }
-}
-
-/// The agreements after a row with this bus, before which this connection stood and its messages said this.
-pub fn agree(agreed: &mut Agreements, connection: Option<Connection>, spoken: Spoken, bus: Lines)
-    requires { HasEnds connection }
-    ensures { (f : ℕ → ℕ → Agreement) → AreAgreements f agreed.old → AreAgreements (λ i t. if bus.rst then asynchronous else closed_agreement_by connection bus.bsy spoken i t (f i t)) agreed.new }
-{
-    if bus.rst() {
-        *agreed = Agreements::new();
-        return;
-    }
-    let Some(connection) = connection else {
-        return;
-    };
-    if bus.bsy() {
-        return;
-    }
-    agreed.close(connection, spoken);
 }

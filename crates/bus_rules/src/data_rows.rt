@@ -4,20 +4,19 @@
 //! Few rules ask anything of such a row. A short test tells that it breaks none, and then few terms change; a row
 //! that does not pass it is judged rule by rule.
 ghost use Rattle.std.specs.Prelude.{◌≡◌, ◌<◌, ◌&&◌, is_none, slice_index};
-ghost use Rattle.bus_lines.specs.Calls.{HasDevices};
-ghost use Rattle.bus_lines.specs.Connections.{HasEnds};
+ghost use Rattle.bus_trace.specs.Calls.{HasDevices};
+ghost use Rattle.bus_trace.specs.Connections.{HasEnds};
 ghost use Rattle.bus_rules.specs.Pulsing.{AreTimes};
 ghost use Rattle.bus_rules.specs.DataRows.{same_but_bytes, is_quiet_bus, is_data_row, crosses_in, keeps_side, asks_soon, is_in_turn, has_turned, stand_since, is_shaken, may_ask, keeps_count, last_pulse, is_timed, is_pulsed_well, standing_at, may_cross, transfers_well, turns_well, passes_in, passes_of, is_move, passes, duty_in_data};
 
-use crate::attention::Duty;
 use crate::connected::{has_no_initiator_line, has_no_target_line, raises_data};
 use crate::course::Course;
 use crate::message_rules::{is_none_or_all, is_owed};
-use crate::pulses::Pulses;
 use crate::terms::{initiator_bsy, initiator_data, target_data};
 use crate::transfer::{alternates, changes_data, holds_still, is_after, pulses_well, times_of};
 use bus_base::{Dev, Ns};
-use bus_lines::{
+use bus_phases::{Duty, Pulses};
+use bus_trace::{
     BUS_SETTLE_DELAY, Change, Connection, DATA_RELEASE_DELAY, DESKEW_DELAY, LineView, Lines, Row,
     SET_UP_TIME, TURN_DELAY, TransferTimes, UNLIMITED_OFFSET, drives_data, falls, is_data,
     is_fault, rises, same_hold, same_phase,
@@ -101,7 +100,7 @@ fn has_turned(view: &LineView, course: &Course, is_target: bool, change: &Change
     requires { HasEnds course.now.connection }
     ensures { result ≡ has_turned (standing_at view.now course.now) is_target change.now time }
 {
-    let age = time.saturating_sub(view.since_io());
+    let age = time.saturating_sub(view.times().io);
     if change.before.io() {
         (age <= DATA_RELEASE_DELAY || !initiator_data(view, course.connection))
             && (!(course.turned && is_target && drives_data(change.next)) || age >= TURN_DELAY)
@@ -168,7 +167,8 @@ fn is_timed(
     time: Ns,
 ) -> bool
     requires { AreTimes times }
-    ensures { result ≡ is_timed times pulses.now change.now (slice_index view.now.changed 14) (slice_index view.now.changed 15) view.now.data_changed time }
+    ensures { result
+        ≡ is_timed times pulses.now change.now view.now.times.req view.now.times.ack view.now.data_changed time }
 {
     let (before, after) = (change.before, change.after);
     let (req, next_req) = (before.req(), after.req());
@@ -179,14 +179,14 @@ fn is_timed(
         times,
         req,
         next_req,
-        view.since_req(),
+        view.times().req,
         pulses.last_req,
         time,
     ) && pulses_well(
         times,
         ack,
         next_ack,
-        view.since_ack(),
+        view.times().ack,
         pulses.last_ack,
         time,
     )) && ((!crosses_in(change) || age >= times.set_up) && (!changes_data(change) || held))
@@ -194,7 +194,8 @@ fn is_timed(
 
 fn is_pulsed_well(view: &LineView, course: &Course, change: &Change, time: Ns) -> bool
     requires { 0 < course.now.dialogue.heard.now.agreement.offset }
-    ensures { result ≡ is_pulsed_well course.now.dialogue.heard.now.agreement course.now.pulses change.now (slice_index view.now.changed 14) (slice_index view.now.changed 15) view.now.data_changed time }
+    ensures { result ≡ is_pulsed_well course.now.dialogue.heard.now.agreement course.now.pulses change.now
+        view.now.times.req view.now.times.ack view.now.data_changed time }
 {
     let agreement = course.dialogue.heard.now.agreement;
     keeps_count(agreement.offset, &course.pulses, change)

@@ -1,10 +1,11 @@
 //! Rules 3 to 6: the free bus and arbitration (ANSI X3.131-1994, 6.1.1 and 6.1.2).
 ghost use Rattle.std.specs.Prelude.{◌≡◌, ◌<◌};
+ghost use Rattle.bus_trace.specs.Trace.{free_time};
 ghost use Rattle.bus_rules.specs.FreeBus.{is_entry, is_contender, is_idle, keeps_off, is_cleared, keeps_free_bus, free_before, is_soon, enters_well, contends_well, keeps_arbitration, raises_sel, keeps_arbitration_delay, wins_well};
 
 use crate::seen::Seen;
 use bus_base::Ns;
-use bus_lines::{
+use bus_trace::{
     ARBITRATION_DELAY, BUS_SET_DELAY, ENTRY_DELAY, Lines, QUIET_TIME, Row, is_within, rises,
 };
 
@@ -40,7 +41,7 @@ fn keeps_off(seen: &Seen) -> bool
 pub fn is_cleared(seen: &Seen, time: Ns) -> bool
     ensures { result ≡ is_cleared seen.now time }
 {
-    let since = seen.bsy_since.max(seen.sel_since);
+    let since = seen.times.bsy.max(seen.times.sel);
     !is_idle(seen)
         || (time.saturating_sub(since) <= QUIET_TIME || is_within(seen.change.before, Lines::RST))
 }
@@ -54,10 +55,10 @@ pub fn keeps_free_bus(seen: &Seen, row: &Row) -> bool
 }
 
 fn free_before(seen: &Seen) -> Ns
-    ensures { result ≡ free_before seen.now.free_since seen.now.arbitration }
+    ensures { result ≡ free_before (free_time seen.now.times) seen.now.arbitration }
 {
     match seen.arbitration {
-        None => seen.free_since,
+        None => seen.times.free(),
         Some(arbitration) => arbitration.free,
     }
 }

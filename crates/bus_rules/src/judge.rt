@@ -1,18 +1,18 @@
 //! The judge of a whole trace.
 ghost use Rattle.std.specs.Prelude.{◌≡◌, ◌<◌, ◌+◌, length, reverse, take, slice_get, IfSome};
 ghost use Rattle.std.specs.List.{AllByRecursion};
-ghost use Rattle.bus_lines.specs.OfTrace.{IsRow};
+ghost use Rattle.bus_trace.specs.OfTrace.{IsRow};
 ghost use Rattle.bus_rules.specs.Rules.{broken_rule, broken_at_end, judged_whole};
 ghost use Rattle.bus_rules.specs.Seen.{seen, end_row};
-ghost use Rattle.bus_lines.specs.Calls.{HasDevices};
-ghost use Rattle.bus_lines.specs.Connections.{HasEnds};
+ghost use Rattle.bus_trace.specs.Calls.{HasDevices};
+ghost use Rattle.bus_trace.specs.Connections.{HasEnds};
 
 use crate::rules::{lowest_at_end, lowest_broken};
 use crate::seen::Seen;
 use crate::terms::Terms;
 use crate::verdict::{RuleNo, Verdict};
 use bus_base::Ns;
-use bus_lines::{Kind, Row};
+use bus_trace::{Kind, Row};
 
 /// The end as a row of its time, in ns, that changes nothing.
 pub fn end_row(time: Ns) -> Row

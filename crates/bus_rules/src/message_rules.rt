@@ -2,13 +2,11 @@
 ghost use Rattle.std.specs.Prelude.{◌≡◌};
 ghost use Rattle.bus_rules.specs.Messages.{atn_false_since, negates_atn_well, is_owed, heeds_atn, keeps_attention, is_unknown, is_opening, same_bool, opens_well, leaves_message_well, settles_offers, keeps_messages, is_below, may_take, is_same_length, is_none_or_all, keeps_command};
 
-use crate::attention::Duty;
-use crate::reading::Reading;
 use crate::seen::Seen;
-use crate::spoken::CommandBytes;
 use crate::transfer::crosses;
 use bus_base::Ns;
-use bus_lines::{
+use bus_phases::{CommandBytes, Duty, Reading};
+use bus_trace::{
     Row, TWO_DESKEW, changes_phase, falls, is_command, is_data, is_message_in, is_message_out,
     rises,
 };
@@ -20,7 +18,7 @@ fn atn_false_since(seen: &Seen, time: Ns) -> Ns
     if falls(seen.change.before.atn(), seen.change.after.atn()) {
         time
     } else {
-        seen.atn_since
+        seen.times.atn
     }
 }
 

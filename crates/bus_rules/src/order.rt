@@ -1,11 +1,11 @@
 //! Rules 1 and 2: what holds of any row.
 ghost use Rattle.std.specs.Prelude.{◌≡◌, ◌<◌, Some};
-ghost use Rattle.bus_lines.specs.Calls.{HasDevices, IsCalled};
+ghost use Rattle.bus_trace.specs.Calls.{HasDevices, IsCalled};
 ghost use Rattle.bus_rules.specs.Order.{is_in_order, is_of_device, strikes_byte, strikes_ids, strikes_ids_of, is_news};
 
 use crate::seen::Seen;
 use bus_base::{Dev, Ns};
-use bus_lines::{BUS_SETTLE_DELAY, Calling, Kind, Row};
+use bus_trace::{BUS_SETTLE_DELAY, Calling, Kind, Row};
 
 /// Rule 1: a time is not below that of the row before.
 pub fn is_in_order(seen: &Seen, time: Ns) -> bool
@@ -36,7 +36,7 @@ fn strikes_ids_of(seen: &Seen, row: &Row, calling: Calling) -> bool
     let bus = seen.change.before;
     let is_called = row.dev == calling.called && calling.answered.is_none() && !calling.struck;
     let has_ids = bus.sel() && bus.has_id(calling.called) && !bus.bsy();
-    is_called && has_ids && row.time.saturating_sub(seen.bsy_since) >= BUS_SETTLE_DELAY
+    is_called && has_ids && row.time.saturating_sub(seen.times.bsy) >= BUS_SETTLE_DELAY
 }
 
 fn strikes_ids(seen: &Seen, row: &Row) -> bool

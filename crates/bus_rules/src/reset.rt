@@ -4,7 +4,7 @@ ghost use Rattle.bus_rules.specs.Reset.{is_reset, raises_rst_alone, is_quiet_in_
 
 use crate::seen::Seen;
 use bus_base::Ns;
-use bus_lines::{BUS_CLEAR_DELAY, Lines, RESET_HOLD_TIME, Row, falls, is_within, rises};
+use bus_trace::{BUS_CLEAR_DELAY, Lines, RESET_HOLD_TIME, Row, falls, is_within, rises};
 
 /// Whether RST is true, or rises in this row.
 pub fn is_reset(seen: &Seen) -> bool
@@ -27,7 +27,7 @@ pub fn is_quiet_in_reset(seen: &Seen, time: Ns) -> bool
 {
     let bus = seen.change.before;
     !bus.rst()
-        || (time.saturating_sub(seen.rst_since) <= BUS_CLEAR_DELAY || is_within(bus, Lines::RST))
+        || (time.saturating_sub(seen.times.rst) <= BUS_CLEAR_DELAY || is_within(bus, Lines::RST))
 }
 
 fn holds_reset(seen: &Seen, row: &Row) -> bool

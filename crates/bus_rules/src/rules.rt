@@ -1,7 +1,7 @@
 //! The rules by their numbers.
 ghost use Rattle.std.specs.Prelude.{◌≡◌, ◌<◌, [], ◌∷◌};
-ghost use Rattle.bus_lines.specs.Calls.{HasDevices, IsCalled};
-ghost use Rattle.bus_lines.specs.Connections.{HasEnds};
+ghost use Rattle.bus_trace.specs.Calls.{HasDevices, IsCalled};
+ghost use Rattle.bus_trace.specs.Connections.{HasEnds};
 ghost use Rattle.bus_rules.specs.Rules.{lowest_broken, lowest_at_end, first_broken, test};
 
 use crate::connected::{
@@ -24,7 +24,7 @@ use crate::transfer::{
 };
 use crate::verdict::RuleNo;
 use bus_base::Ns;
-use bus_lines::Row;
+use bus_trace::Row;
 
 /// The lowest rule that a row breaks.
 pub fn lowest_broken(seen: &Seen, row: &Row) -> Option<RuleNo>
@@ -53,7 +53,10 @@ fn lowest_outside_reset(seen: &Seen, row: &Row) -> Option<RuleNo>
     requires devices { HasDevices seen.now.call }
     requires ends { HasEnds seen.now.connection }
     requires device { row.now.dev < 8 }
-    ensures { result ≡ first_broken (λ n. test n seen.now row.now) (3 ∷ 4 ∷ 5 ∷ 6 ∷ 7 ∷ 8 ∷ 9 ∷ 10 ∷ 11 ∷ 12 ∷ 13 ∷ 14 ∷ 15 ∷ 16 ∷ 17 ∷ 18 ∷ 19 ∷ 20 ∷ 21 ∷ 22 ∷ 23 ∷ 24 ∷ 25 ∷ 26 ∷ 27 ∷ 28 ∷ []) }
+    ensures { result ≡ first_broken
+        (λ n. test n seen.now row.now)
+        (3 ∷ 4 ∷ 5 ∷ 6 ∷ 7 ∷ 8 ∷ 9 ∷ 10 ∷ 11 ∷ 12 ∷ 13 ∷ 14 ∷ 15 ∷ 16 ∷ 17 ∷ 18 ∷ 19 ∷ 20 ∷ 21 ∷ 22 ∷ 23 ∷ 24 ∷ 25 ∷ 26
+        ∷ 27 ∷ 28 ∷ []) }
 {
     if !keeps_free_bus(seen, row) {
         Some(3)
@@ -86,7 +89,8 @@ fn lowest_outside_reset(seen: &Seen, row: &Row) -> Option<RuleNo>
 fn lowest_connected(seen: &Seen, row: &Row) -> Option<RuleNo>
     requires devices { HasDevices seen.now.call }
     requires ends { HasEnds seen.now.connection }
-    ensures { result ≡ first_broken (λ n. test n seen.now row.now) (14 ∷ 15 ∷ 16 ∷ 17 ∷ 18 ∷ 19 ∷ 20 ∷ 21 ∷ 22 ∷ 23 ∷ 24 ∷ 25 ∷ 26 ∷ 27 ∷ 28 ∷ []) }
+    ensures { result ≡ first_broken
+        (λ n. test n seen.now row.now) (14 ∷ 15 ∷ 16 ∷ 17 ∷ 18 ∷ 19 ∷ 20 ∷ 21 ∷ 22 ∷ 23 ∷ 24 ∷ 25 ∷ 26 ∷ 27 ∷ 28 ∷ []) }
 {
     if !keeps_lines(seen, row) {
         Some(14)

@@ -1,10 +1,7 @@
 //! What a row meets.
-use crate::attention::Duty;
-use crate::pulses::Pulses;
-use crate::reading::Reading;
-use crate::spoken::CommandBytes;
 use bus_base::{Dev, Ns};
-use bus_lines::{Agreement, Arbitration, Call, Change, Connection};
+use bus_phases::{CommandBytes, Duty, Pulses, Reading};
+use bus_trace::{Agreement, Arbitration, Call, Change, Connection, LineTimes};
 
 /// What a row meets: all that the rules ask of the rows before it. Times are in ns, 0 where the trace
 /// has nothing of the kind.
@@ -14,12 +11,8 @@ pub struct Seen {
     pub change: Change,
     /// The time of the row before.
     pub last: Ns,
-    /// Since when BSY stands as it does.
-    pub bsy_since: Ns,
-    /// Since when SEL stands as it does.
-    pub sel_since: Ns,
-    /// Since when RST stands as it does.
-    pub rst_since: Ns,
+    /// Since when each line but the data lines stands as it does.
+    pub times: LineTimes,
     /// Since when the ID of the called device stands as it does.
     pub id_since: Ns,
     /// When the device of the row last raised BSY.
@@ -38,22 +31,10 @@ pub struct Seen {
     pub receiver: Option<Dev>,
     /// The arbitration that stands, if one does.
     pub arbitration: Option<Arbitration>,
-    /// Since when BSY, SEL and RST stand as they do.
-    pub free_since: Ns,
     /// The call that stands, while SEL is true.
     pub call: Option<Call>,
     /// The connection that stands, if one does.
     pub connection: Option<Connection>,
-    /// Since when I/O stands as it does.
-    pub io_since: Ns,
-    /// Since when REQ stands as it does.
-    pub req_since: Ns,
-    /// Since when ACK stands as it does.
-    pub ack_since: Ns,
-    /// Since when ATN stands as it does.
-    pub atn_since: Ns,
-    /// Since when the phase lines stand as they do.
-    pub phase_since: Ns,
     /// Since when the data lines stand as they do.
     pub data_since: Ns,
     /// The pulses in the present phase.

@@ -1,11 +1,11 @@
 //! Rules 7 to 13: selection and reselection (ANSI X3.131-1994, 6.1.3 and 6.1.4).
 ghost use Rattle.std.specs.Prelude.{◌≡◌, ◌<◌, Some};
-ghost use Rattle.bus_lines.specs.Calls.{HasDevices, IsCalled};
+ghost use Rattle.bus_trace.specs.Calls.{HasDevices, IsCalled};
 ghost use Rattle.bus_rules.specs.Selection.{is_past, has_no_answer, answers_to, is_left, others_release, keeps_losers_off, keeps_winner_of, keeps_winner, calls_exactly, calls_well, keeps_calling_of, keeps_calling, drives_answer, has_settled, answers_well, may_raise, keeps_answer_to, keeps_answer_of, keeps_answer, releases_sel, has_only_data_and_atn, ends_call_well, keeps_end_to, keeps_end_of, keeps_end, gives_up_well, keeps_time_out_to, keeps_time_out_of, keeps_time_out, hands_over_to, hands_over, takes_over, keeps_reselection};
 
 use crate::seen::Seen;
 use bus_base::{Dev, Ns};
-use bus_lines::{
+use bus_trace::{
     BUS_CLEAR_DELAY, BUS_SETTLE_DELAY, Call, Calling, Lines, QUIET_TIME, Row, SELECTION_ABORT_TIME,
     SELECTION_TIMEOUT_DELAY, TWO_DESKEW, drives_two_ids, falls, is_within, rises,
 };
@@ -134,9 +134,9 @@ fn has_settled(seen: &Seen, time: Ns, calling: Calling) -> bool
     ensures { result ≡ has_settled seen.now time calling }
 {
     let bus = seen.change.before;
-    let sel = bus.sel() && time.saturating_sub(seen.sel_since) >= BUS_SETTLE_DELAY;
+    let sel = bus.sel() && time.saturating_sub(seen.times.sel) >= BUS_SETTLE_DELAY;
     let id = bus.has_id(calling.called) && time.saturating_sub(seen.id_since) >= BUS_SETTLE_DELAY;
-    let bsy = !bus.bsy() && time.saturating_sub(seen.bsy_since) >= BUS_SETTLE_DELAY;
+    let bsy = !bus.bsy() && time.saturating_sub(seen.times.bsy) >= BUS_SETTLE_DELAY;
     sel && id && bsy && is_past(calling.released, BUS_SETTLE_DELAY, time)
 }
 

@@ -1,26 +1,25 @@
 //! The terms of the rules, row by row.
 ghost use Rattle.std.specs.Prelude.{true, ◌≡◌, ◌<◌, ◌∷◌, [], List};
-ghost use Rattle.bus_lines.specs.LineSet.{LineSet, line_of};
-ghost use Rattle.bus_lines.specs.declared.Row.{Row};
-ghost use Rattle.bus_lines.specs.View.{driven_at};
-ghost use Rattle.bus_lines.specs.Trace.{IsViewOf, drives, since};
-ghost use Rattle.bus_lines.specs.Calls.{HasDevices, IsCalled};
-ghost use Rattle.bus_lines.specs.Connections.{HasEnds};
+ghost use Rattle.bus_trace.specs.LineSet.{LineSet, line_of};
+ghost use Rattle.bus_trace.specs.declared.Row.{Row};
+ghost use Rattle.bus_trace.specs.View.{driven_at};
+ghost use Rattle.bus_trace.specs.Trace.{IsViewOf, drives, since};
+ghost use Rattle.bus_trace.specs.Calls.{HasDevices, IsCalled};
+ghost use Rattle.bus_trace.specs.Connections.{HasEnds};
 ghost use Rattle.bus_rules.specs.Judging.{IsCourseOf};
-ghost use Rattle.bus_lines.specs.Changes.{change_of};
+ghost use Rattle.bus_trace.specs.Changes.{change_of};
 ghost use Rattle.bus_rules.specs.Rules.{broken_rule};
 ghost use Rattle.bus_rules.specs.DataRows.{standing_after, passes};
 ghost use Rattle.bus_rules.specs.Seen.{seen, seen_with, other_drives, others_drive, others_in_call, id_since, id_since_calling, initiator_called, initiator_of, drives_bsy, initiator_data, target_data};
 
-use crate::attention::is_attention_held;
 use crate::course::Course;
 use crate::data_rows::passes;
-use crate::reading::Reading;
 use crate::rules::lowest_broken;
 use crate::seen::Seen;
 use crate::verdict::RuleNo;
 use bus_base::{Dev, Ns};
-use bus_lines::{Call, Change, Connection, LineView, Row, drives_data};
+use bus_phases::{Reading, is_attention_held};
+use bus_trace::{Call, Change, Connection, LineView, Row, drives_data};
 use std::marker::Model;
 
 /// The terms of the rules after the rows of a trace so far, whatever they are.
@@ -32,8 +31,8 @@ pub struct Terms {
 
 impl Model for Terms {
     ghost use Rattle.bus_rules.specs.Judging.{Running};
-    ghost use Rattle.bus_lines.specs.Calls.{HasDevices};
-    ghost use Rattle.bus_lines.specs.Connections.{HasEnds};
+    ghost use Rattle.bus_trace.specs.Calls.{HasDevices};
+    ghost use Rattle.bus_trace.specs.Connections.{HasEnds};
 
     ghost Value = { Running };
 
@@ -106,7 +105,8 @@ pub fn initiator_bsy(view: &LineView, call: Option<Call>, connection: Option<Con
     requires devices { HasDevices call }
     requires ends { HasEnds connection }
     ensures value { result ≡ drives_bsy (driven_at view.now.driven) (initiator_of call connection) }
-    ensures trace { (rows : List Row) → IsViewOf rows view.now → result ≡ drives_bsy (drives rows) (initiator_of call connection) }
+    ensures trace { (rows : List Row) → IsViewOf rows view.now
+        → result ≡ drives_bsy (drives rows) (initiator_of call connection) }
 {
     match initiator_of(call, connection) {
         None => false,
@@ -155,9 +155,10 @@ impl Terms {
     #[inline(always)]
     fn transfer(&mut self, change: &Change, row: &Row)
         requires { row.now.dev < 8 }
-        ensures kept { (rows : List Row) → IsTermsOf rows self.old → change.now ≡ change_of rows row.now → passes (standing_after rows) change.now row.now ≡ true → IsTermsOf (row.now ∷ rows) self.new }
+        ensures kept { (rows : List Row) → IsTermsOf rows self.old → change.now ≡ change_of rows row.now
+            → passes (standing_after rows) change.now row.now ≡ true → IsTermsOf (row.now ∷ rows) self.new }
     {
-        let held = is_attention_held(change, self.view.since_atn(), row.time);
+        let held = is_attention_held(change, self.view.times().atn, row.time);
         self.course.transfer(held, change, row.time);
         self.view.step_to(row, change.after);
     }
@@ -219,8 +220,8 @@ impl Terms {
             own,
             next,
         };
-        let held = is_attention_held(&change, seen.atn_since, row.time);
-        seen.reading = self.course.step(seen.free_since, held, &change, row);
+        let held = is_attention_held(&change, seen.times.atn, row.time);
+        seen.reading = self.course.step(seen.times.free(), held, &change, row);
         seen.change = change;
         seen
     }
@@ -231,16 +232,15 @@ fn met(view: &LineView, course: &Course, dev: Dev, change: Change) -> Seen
     requires device { dev < 8 }
     requires devices { HasDevices course.now.call }
     requires ends { HasEnds course.now.connection }
-    ensures exact { (rows : List Row) → IsViewOf rows view.now → IsCourseOf rows course.now → result ≡ seen_with rows dev change Reading.NoMessage }
+    ensures exact { (rows : List Row) → IsViewOf rows view.now → IsCourseOf rows course.now
+        → result ≡ seen_with rows dev change Reading.NoMessage }
     ensures devices { HasDevices result.call }
     ensures ends { HasEnds result.connection }
 {
     Seen {
         change,
         last: view.last_time(),
-        bsy_since: view.since_bsy(),
-        sel_since: view.since_sel(),
-        rst_since: view.since_rst(),
+        times: view.times(),
         id_since: id_since(view, course.call),
         bsy_raised: course.bsy_raised.of(dev),
         rst_raised: course.rst_raised.of(dev),
@@ -250,14 +250,8 @@ fn met(view: &LineView, course: &Course, dev: Dev, change: Change) -> Seen
         target_data: target_data(view, course.connection),
         receiver: course.receiver,
         arbitration: course.arbitration,
-        free_since: view.free_since(),
         call: course.call,
         connection: course.connection,
-        io_since: view.since_io(),
-        req_since: view.since_req(),
-        ack_since: view.since_ack(),
-        atn_since: view.since_atn(),
-        phase_since: view.phase_since(),
         data_since: view.data_since(),
         pulses: course.pulses,
         turned: course.turned,

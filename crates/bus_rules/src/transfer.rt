@@ -1,11 +1,12 @@
 //! Rules 17 to 23: REQ and ACK, asynchronous and synchronous (ANSI X3.131-1994, 6.1.5.1 and 6.1.5.2).
 ghost use Rattle.std.specs.Prelude.{◌≡◌, ◌<◌};
-ghost use Rattle.bus_rules.specs.Transfer.{crosses, has_parity, is_pulsed, is_asynchronous_transfer, data_stand_since, changes_data, alternates, keeps_handshake, keeps_set_up, holds_still, keeps_data, keeps_offset, times_of, is_after, pulses_well, last_crossing, pulses_of, keeps_pulses, leaves_well};
+ghost use Rattle.bus_rules.specs.Transfer.{crosses, has_parity, is_pulsed, is_asynchronous_transfer, data_stand_since, changes_data, alternates, keeps_handshake, keeps_set_up, holds_still, keeps_data, keeps_offset, is_after, pulses_well, last_crossing, pulses_of, keeps_pulses, leaves_well};
+ghost use Rattle.bus_trace.specs.Agreements.{times_of};
 ghost use Rattle.bus_rules.specs.Pulsing.{AreTimes};
 
 use crate::seen::Seen;
 use bus_base::Ns;
-use bus_lines::{
+use bus_trace::{
     ASSERTION_PERIOD, Change, DATA_HOLD, Lines, NEGATION_PERIOD, Row, SET_UP_TIME, TransferTimes,
     UNLIMITED_OFFSET, changes_phase, falls, is_data, receiver_of, rises, transfer_times,
 };
@@ -178,8 +179,8 @@ fn pulses_of(times: TransferTimes, seen: &Seen, time: Ns) -> bool
     let (ack, next_ack) = (before.ack(), after.ack());
     let set_up = time.saturating_sub(data_stand_since(seen, time)) >= times.set_up;
     let held = is_after(last_crossing(seen), times.hold, time);
-    (pulses_well(times, req, next_req, seen.req_since, pulses.last_req, time)
-        && pulses_well(times, ack, next_ack, seen.ack_since, pulses.last_ack, time))
+    (pulses_well(times, req, next_req, seen.times.req, pulses.last_req, time)
+        && pulses_well(times, ack, next_ack, seen.times.ack, pulses.last_ack, time))
         && ((!crosses(seen) || set_up) && (!changes_data(&seen.change) || held))
 }
 

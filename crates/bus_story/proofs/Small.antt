@@ -11,8 +11,8 @@ use Rattle.scenario.specs.declared.value.Tag.TheVariants as tags
 use Rattle.scenario.specs.declared.value.Payload.TheVariants as payloads
 use Rattle.scenario.specs.Value.{ScenarioValue}
 use Rattle.scenario.specs.Needs.{need_of}
-use Rattle.bus_lines.specs.LineSet.{line_of}
-use Rattle.bus_lines.specs.View.{union_below}
+use Rattle.bus_trace.specs.LineSet.{line_of}
+use Rattle.bus_trace.specs.View.{union_below}
 use Rattle.msg_grammar.specs.Messages.{form_out, form_in}
 use Rattle.bus_story.specs.CurrentAgreement.{current_agreement}
 use Rattle.bus_story.proofs.Cases.{negotiation_run_rows}

@@ -1,10 +1,10 @@
 -- The agreement of an initiator and a target on synchronous data transfer (6.6.21), by the rows so far.
 use Rattle.std.specs.Prelude.{ℕ, ◌&&◌, ◌==◌, List, Option, Some, None, if◌then◌else◌}
-use Rattle.bus_lines.specs.declared.agreements.Agreement.{Agreement}
-use Rattle.bus_lines.specs.declared.Row.{Row}
-use Rattle.bus_lines.specs.declared.connection.Connection.{Connection}
-use Rattle.bus_lines.specs.Terms.{connection}
-use Rattle.bus_rules.specs.Dialogue.{agreed, dialogue}
+use Rattle.bus_trace.specs.declared.agreements.Agreement.{Agreement}
+use Rattle.bus_trace.specs.declared.Row.{Row}
+use Rattle.bus_trace.specs.declared.connection.Connection.{Connection}
+use Rattle.bus_trace.specs.Terms.{connection}
+use Rattle.bus_phases.specs.Dialogue.{agreed, dialogue}
 
 -- In the connection that stands, what its messages have said so far; else what earlier connections agreed.
 abbrev pub current_agreement_in : Option Connection → List Row → ℕ → ℕ → Agreement

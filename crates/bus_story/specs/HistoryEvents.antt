@@ -4,11 +4,11 @@ use Rattle.std.specs.List.{list_any}
 use Rattle.bus_base.specs.declared.ProcId.{ProcId}
 use Rattle.bus_base.specs.declared.Event.{Event}
 use Rattle.bus_base.specs.declared.Event.TheVariants as events
-use Rattle.bus_lines.specs.LineSet.{LineSet}
-use Rattle.bus_lines.specs.declared.Row.{Row}
-use Rattle.bus_lines.specs.declared.changes.Change.{Change}
-use Rattle.bus_lines.specs.Changes.{rises}
-use Rattle.bus_lines.specs.Phases.{is_command, is_message_in, changes_phase}
+use Rattle.bus_trace.specs.LineSet.{LineSet}
+use Rattle.bus_trace.specs.declared.Row.{Row}
+use Rattle.bus_trace.specs.declared.changes.Change.{Change}
+use Rattle.bus_trace.specs.Changes.{rises}
+use Rattle.bus_trace.specs.Phases.{is_command, is_message_in, changes_phase}
 use Rattle.scenario.specs.declared.value.AbortDef.{AbortDef}
 use Rattle.scenario.specs.Value.{ScenarioValue}
 use Rattle.disk_array.specs.ArrayHistory.{array_after}

@@ -5,7 +5,7 @@ use Rattle.msg_grammar.specs.declared.message.MsgOut.{MsgOut}
 use Rattle.msg_grammar.specs.declared.message.MsgOut.TheVariants as to_target
 use Rattle.msg_grammar.specs.declared.message.MsgIn.{MsgIn}
 use Rattle.msg_grammar.specs.declared.message.MsgIn.TheVariants as to_initiator
-use Rattle.bus_lines.specs.declared.connection.Connection.{Connection}
+use Rattle.bus_trace.specs.declared.connection.Connection.{Connection}
 use Rattle.bus_story.specs.Items.{Item, Sent, has_item, command_item, sense_item, is_open, tag_number_if}
 use Rattle.bus_story.specs.CarriedBytes.{CarriedBytes}
 

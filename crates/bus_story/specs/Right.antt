@@ -6,7 +6,7 @@ use Rattle.std.specs.List.{list_any}
 use Rattle.bus_base.specs.declared.ProcId.{ProcId}
 use Rattle.bus_base.specs.declared.Event.{Event}
 use Rattle.bus_base.specs.declared.Event.TheVariants as events
-use Rattle.bus_lines.specs.declared.Row.{Row}
+use Rattle.bus_trace.specs.declared.Row.{Row}
 use Rattle.cdb_codec.specs.declared.status.TheConstants.{GOOD}
 use Rattle.cdb_codec.specs.Cdb.{command_of}
 use Rattle.scenario.specs.Value.{ScenarioValue}

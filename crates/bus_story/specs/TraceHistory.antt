@@ -3,14 +3,14 @@
 use Rattle.std.specs.Prelude.{ℕ, zero, suc, ◌%◌, Bool, true, false, not, ◌&&◌, ◌==◌, List, [], ◌∷◌, ◌++◌, slice_set, Option, Some, None, is_some, is_none, nat_lt, if◌then◌else◌}
 use Rattle.std.specs.List.{list_any}
 use Rattle.bus_base.specs.declared.Event.{Event}
-use Rattle.bus_lines.specs.declared.Row.{Row}
-use Rattle.bus_lines.specs.declared.Kind.{Kind}
-use Rattle.bus_lines.specs.declared.Kind.TheVariants.{Drives, Fault}
-use Rattle.bus_lines.specs.declared.changes.Change.{Change}
-use Rattle.bus_lines.specs.declared.selection.Call.{Call}
-use Rattle.bus_lines.specs.declared.selection.Calling.{Calling}
-use Rattle.bus_lines.specs.declared.connection.Connection.{Connection}
-use Rattle.bus_lines.specs.Changes.{rises, falls}
+use Rattle.bus_trace.specs.declared.Row.{Row}
+use Rattle.bus_trace.specs.declared.Kind.{Kind}
+use Rattle.bus_trace.specs.declared.Kind.TheVariants.{Drives, Fault}
+use Rattle.bus_trace.specs.declared.changes.Change.{Change}
+use Rattle.bus_trace.specs.declared.selection.Call.{Call}
+use Rattle.bus_trace.specs.declared.selection.Calling.{Calling}
+use Rattle.bus_trace.specs.declared.connection.Connection.{Connection}
+use Rattle.bus_trace.specs.Changes.{rises, falls}
 use Rattle.msg_grammar.specs.declared.message.MsgOut.{MsgOut}
 use Rattle.msg_grammar.specs.declared.message.MsgOut.TheVariants as to_target
 use Rattle.msg_grammar.specs.declared.message.MsgIn.{MsgIn}

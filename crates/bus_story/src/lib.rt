@@ -11,7 +11,7 @@
 #![tactic(auto)]
 
 ghost use Rattle.std.specs.Prelude.{◌≡◌, List, [], ◌∷◌, ◌++◌};
-ghost use Rattle.bus_lines.specs.declared.Row.{Row};
+ghost use Rattle.bus_trace.specs.declared.Row.{Row};
 ghost use Rattle.scenario.specs.Value.{ScenarioValue};
 ghost use Rattle.bus_story.specs.Story.{empty_story};
 ghost use Rattle.bus_story.specs.TraceHistory.{story, story_after, row_events, trace_history};
@@ -19,16 +19,19 @@ ghost use Rattle.bus_story.specs.TraceHistory.{story, story_after, row_events, t
 /// The story of one row more is that of the rows before it, and then what this row does.
 pub fn stories_go_on()
     ensures start { (s : ScenarioValue) → story s [] ≡ empty_story }
-    ensures more { (s : ScenarioValue) (row : Row) (rows : List Row) → story s (row ∷ rows) ≡ story_after s (story s rows) row }
+    ensures more { (s : ScenarioValue) (row : Row) (rows : List Row)
+        → story s (row ∷ rows) ≡ story_after s (story s rows) row }
 {}
 
 /// A row more adds to the history just the events that this row shows after the rows before it.
 pub fn rows_tell()
     ensures none { (s : ScenarioValue) → trace_history s [] ≡ [] }
-    ensures more { (s : ScenarioValue) (row : Row) (rows : List Row) → trace_history s (row ∷ rows) ≡ row_events s (story s rows) row ++ trace_history s rows }
+    ensures more { (s : ScenarioValue) (row : Row) (rows : List Row)
+        → trace_history s (row ∷ rows) ≡ row_events s (story s rows) row ++ trace_history s rows }
 {}
 
 /// What the processes carried is read off scenario and rows alone: of equal rows it is equal.
 pub fn rows_carry()
-    ensures { (s : ScenarioValue) (rows others : List Row) → rows ≡ others → (story s rows).carried ≡ (story s others).carried }
+    ensures { (s : ScenarioValue) (rows others : List Row) → rows ≡ others
+        → (story s rows).carried ≡ (story s others).carried }
 {}

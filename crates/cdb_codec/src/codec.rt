@@ -108,7 +108,8 @@ pub fn reads_back()
 /// A block that is read is the block of the command that it says, but for the bits of byte 1 that
 /// are ignored.
 pub fn reads_only()
-    ensures { (bytes : List ℕ) (c : Command) → AllByRecursion (λ b. b < 256) bytes → command_of bytes ≡ Ok c → cdb_bytes c ≡ without_ignored bytes }
+    ensures { (bytes : List ℕ) (c : Command) → AllByRecursion (λ b. b < 256) bytes → command_of bytes ≡ Ok c
+        → cdb_bytes c ≡ without_ignored bytes }
 {}
 
 /// The bits of byte 1 that are ignored change nothing: the three high ones, which once held a unit's

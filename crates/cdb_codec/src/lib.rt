@@ -25,13 +25,12 @@ pub use command::{CdbFault, Command, Sense};
 pub use operation::{
     INQUIRY, READ_6, READ_10, READ_CAPACITY, REQUEST_SENSE, TEST_UNIT_READY, WRITE_6, WRITE_10,
 };
-pub use replies::{capacity_bytes, inquiry_bytes, sense_bytes};
+pub use replies::{
+    CAPACITY_LEN, INQUIRY_LEN, SENSE_LEN, capacity_bytes, inquiry_bytes, sense_bytes,
+};
 pub use sense::{
     ABORTED_COMMAND, BLOCK_OUT_OF_RANGE, COMMANDS_CLEARED, ILLEGAL_REQUEST,
     INITIATOR_DETECTED_ERROR, INVALID_FIELD, INVALID_OPERATION_CODE, NO_ADDITIONAL_SENSE, NO_SENSE,
     PARITY_ERROR, RESET_OCCURRED, UNIT_ATTENTION, UNIT_NOT_SUPPORTED,
 };
 pub use status::{CHECK_CONDITION, GOOD, QUEUE_FULL};
-
-#[cfg(test)]
-mod tests;

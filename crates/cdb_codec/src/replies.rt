@@ -5,12 +5,21 @@ ghost use Rattle.cdb_codec.specs.Replies.{sense_data, peripheral, inquiry_data, 
 use crate::command::Sense;
 use byteorder::{BigEndian, ByteOrder};
 
-/// Sense data of the fixed format (clause 8.2.14.3): 18 bytes, of which the sense key is byte 2 and
-/// the additional sense code and its qualifier are bytes 12 and 13.
-pub fn sense_bytes(sense: &Sense) -> [u8; 18]
+/// How many bytes sense data of the fixed format have (clause 8.2.14.3).
+pub const SENSE_LEN: usize = 18;
+
+/// How many bytes standard inquiry data have (clause 8.2.5.1).
+pub const INQUIRY_LEN: usize = 36;
+
+/// How many bytes READ CAPACITY data have (clause 9.2.7).
+pub const CAPACITY_LEN: usize = 8;
+
+/// Sense data of the fixed format (clause 8.2.14.3), of which the sense key is byte 2 and the additional
+/// sense code and its qualifier are bytes 12 and 13.
+pub fn sense_bytes(sense: &Sense) -> [u8; SENSE_LEN]
     ensures { result ≡ sense_data sense.now }
 {
-    let mut bytes = [0; 18];
+    let mut bytes = [0; SENSE_LEN];
     bytes[0] = 0x70;
     bytes[2] = sense.key;
     bytes[7] = 0x0a;
@@ -19,9 +28,9 @@ pub fn sense_bytes(sense: &Sense) -> [u8; 18]
     bytes
 }
 
-/// Standard inquiry data (clause 8.2.5.1): 36 bytes. It tells of a disk where the logical unit is
-/// `present`, and else that the target has no such unit.
-pub fn inquiry_bytes(present: bool) -> [u8; 36]
+/// Standard inquiry data (clause 8.2.5.1). It tells of a disk where the logical unit is `present`, and else
+/// that the target has no such unit.
+pub fn inquiry_bytes(present: bool) -> [u8; INQUIRY_LEN]
     ensures { result ≡ inquiry_data present }
 {
     let mut bytes = *b"\x00\x00\x02\x02\x1f\x00\x00\x12BUSMODELSIMULATED DISK  0001";
@@ -38,10 +47,10 @@ fn peripheral(present: bool) -> u8
 
 /// READ CAPACITY data (clause 9.2.7): the number of the last block, and the size of a block in
 /// bytes.
-pub fn capacity_bytes(last: u32, size: u32) -> [u8; 8]
+pub fn capacity_bytes(last: u32, size: u32) -> [u8; CAPACITY_LEN]
     ensures { result ≡ capacity_data last size }
 {
-    let mut bytes = [0; 8];
+    let mut bytes = [0; CAPACITY_LEN];
     BigEndian::write_u32(&mut bytes, last);
     BigEndian::write_u32(&mut bytes[4..], size);
     bytes

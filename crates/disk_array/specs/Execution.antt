@@ -2,6 +2,7 @@
 use Rattle.std.specs.Prelude.{ℕ, ◌+◌, ◌-◌, min, Bool, true, false, not, ◌&&◌, ◌==◌, List, [], length, take, slice_index, Option, Some, None, Result, Ok, Err, nat_le, nat_lt, if◌then◌else◌}
 use Rattle.cdb_codec.specs.declared.Sense.{Sense}
 use Rattle.cdb_codec.specs.declared.operation.TheConstants.{REQUEST_SENSE, INQUIRY}
+use Rattle.cdb_codec.specs.declared.replies.TheConstants.{SENSE_LEN, INQUIRY_LEN}
 use Rattle.cdb_codec.specs.declared.sense.TheConstants.{NO_SENSE, ILLEGAL_REQUEST, UNIT_ATTENTION, NO_ADDITIONAL_SENSE, INVALID_OPERATION_CODE, BLOCK_OUT_OF_RANGE, INVALID_FIELD, UNIT_NOT_SUPPORTED, RESET_OCCURRED, COMMANDS_CLEARED}
 use Rattle.cdb_codec.specs.declared.status.TheConstants.{GOOD, CHECK_CONDITION, QUEUE_FULL}
 use Rattle.cdb_codec.specs.declared.command.Command.{Command}
@@ -128,10 +129,10 @@ write_execution m lba n sent = record { blocks = with_bytes m.blocks lba n m.siz
 
 abbrev pub command_execution : CommandContext → Command → List ℕ → Execution
 command_execution m commands.TestUnitReady sent = reply_execution m (good [])
-command_execution m (commands.RequestSense room) sent = reply_execution m (good (take (min room 18) (sense_data (returned_sense m.present m.stored))))
+command_execution m (commands.RequestSense room) sent = reply_execution m (good (take (min room SENSE_LEN) (sense_data (returned_sense m.present m.stored))))
 command_execution m (commands.Read6 lba count) sent = reply_execution m (good (bytes_at m.blocks lba (blocks_moved (commands.Read6 lba count))))
 command_execution m (commands.Write6 lba count) sent = write_execution m lba (blocks_moved (commands.Write6 lba count)) sent
-command_execution m (commands.Inquiry room) sent = reply_execution m (good (take (min room 36) (inquiry_data m.present)))
+command_execution m (commands.Inquiry room) sent = reply_execution m (good (take (min room INQUIRY_LEN) (inquiry_data m.present)))
 command_execution m commands.ReadCapacity sent = reply_execution m (good (capacity_data (length m.blocks - 1) m.size))
 command_execution m (commands.Read10 lba count) sent = reply_execution m (good (bytes_at m.blocks lba count))
 command_execution m (commands.Write10 lba count) sent = write_execution m lba count sent

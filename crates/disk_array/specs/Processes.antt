@@ -2,6 +2,7 @@
 use Rattle.std.specs.Prelude.{ℕ, zero, suc, ◌+◌, ◌%◌, Bool, true, false, ◌&&◌, ◌==◌, List, [], ◌∷◌, Option, Some, None, if◌then◌else◌}
 use Rattle.bus_base.specs.declared.ProcId.{ProcId}
 use Rattle.cdb_codec.specs.declared.operation.TheConstants.{REQUEST_SENSE}
+use Rattle.cdb_codec.specs.declared.replies.TheConstants.{SENSE_LEN}
 use Rattle.scenario.specs.declared.value.CmdDef.{CmdDef}
 use Rattle.scenario.specs.declared.value.Tag.{Tag}
 use Rattle.scenario.specs.declared.value.Tag.TheVariants as tags
@@ -38,9 +39,9 @@ command_at (c ∷ commands) zero = None
 command_at (c ∷ commands) (suc zero) = Some c
 command_at (c ∷ commands) (suc (suc n)) = command_at commands (suc n)
 
--- The command itself; its automatic REQUEST SENSE is untagged and has room for 18 bytes.
+-- The command itself; its automatic REQUEST SENSE is untagged and has room for all sense data.
 abbrev pub sense_block : List ℕ
-sense_block = REQUEST_SENSE ∷ 0x00 ∷ 0x00 ∷ 0x00 ∷ 0x12 ∷ 0x00 ∷ []
+sense_block = REQUEST_SENSE ∷ 0x00 ∷ 0x00 ∷ 0x00 ∷ SENSE_LEN ∷ 0x00 ∷ []
 
 abbrev pub process_by : ScenarioValue → ProcId → CmdDef → Process
 process_by s id c =

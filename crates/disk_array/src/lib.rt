@@ -1,10 +1,10 @@
 //! The plain disk array: what a history of commands does to disks, command by command, on plain lists.
 //!
-//! It is what a run of the bus is measured by: no bus, no bytes that interleave, no device. `specs/Units.antt` has
-//! its state, `specs/Execution.antt` what one command does at one unit, `specs/Order.antt` which waiting command may run,
-//! `specs/Steps.antt` what each event of a history does, and `specs/ArrayHistory.antt` a whole history. It stands on
-//! `scenario`, `cdb_codec` and `bus_base`. There is no code here but for laws: each is the contract of a function
-//! that does nothing.
+//! It is what a run of the bus is measured by: no bus, no bytes that interleave, no device. `specs/Units.antt`
+//! has its state, `specs/Execution.antt` what one command does at one unit, `specs/Order.antt` which waiting
+//! command may run, `specs/Steps.antt` what each event of a history does, and `specs/ArrayHistory.antt` a whole
+//! history. It stands on `scenario`, `cdb_codec` and `bus_base`. There is no code here but for laws: each is
+//! the contract of a function that does nothing.
 #![tactic(auto)]
 
 ghost use Rattle.std.specs.Prelude.{◌≡◌, List, [], ◌∷◌, Some, None};
@@ -18,6 +18,8 @@ ghost use Rattle.disk_array.specs.ArrayHistory.{array_after};
 /// allowed no later one is.
 pub fn histories_go_on()
     ensures start { (s : ScenarioValue) → array_after s [] ≡ Some (settled_array (starting_array s)) }
-    ensures more { (s : ScenarioValue) (event : Event) (history : List Event) (a : Array) → array_after s history ≡ Some a → array_after s (event ∷ history) ≡ step s event a }
-    ensures stopped { (s : ScenarioValue) (event : Event) (history : List Event) → array_after s history ≡ None → array_after s (event ∷ history) ≡ None }
+    ensures more { (s : ScenarioValue) (event : Event) (history : List Event) (a : Array)
+        → array_after s history ≡ Some a → array_after s (event ∷ history) ≡ step s event a }
+    ensures stopped { (s : ScenarioValue) (event : Event) (history : List Event) → array_after s history ≡ None
+        → array_after s (event ∷ history) ≡ None }
 {}

@@ -1,8 +1,8 @@
 -- The pointers of a process (6.4): what each event does to them, where they stand in what the process carried, and the
 -- areas that they point into.
 use Rattle.std.specs.Prelude.{ℕ, ◌+◌, Bool}
-use Rattle.bus_lines.specs.LineSet.{LineSet}
-use Rattle.bus_lines.specs.Phases.{is_data, is_command}
+use Rattle.bus_trace.specs.LineSet.{LineSet}
+use Rattle.bus_trace.specs.Phases.{is_data, is_command}
 use Rattle.bus_story.specs.CarriedBytes.{CarriedBytes, is_status_phase}
 use Rattle.io_pointers.specs.declared.pointers.Area.{Area}
 use Rattle.io_pointers.specs.declared.pointers.Area.TheVariants as areas

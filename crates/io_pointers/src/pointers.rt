@@ -1,7 +1,7 @@
 //! The pointers of one process (ANSI X3.131-1994, 6.4).
 ghost use Rattle.std.specs.Prelude.{ℕ, ◌≡◌, ◌<◌, ◌≤◌, true};
 ghost use Rattle.bus_base.specs.declared.ProcId.{ProcId};
-ghost use Rattle.bus_lines.specs.LineSet.{LineSet};
+ghost use Rattle.bus_trace.specs.LineSet.{LineSet};
 ghost use Rattle.msg_grammar.specs.declared.message.MsgIn.TheVariants.{SavePointer, RestorePointers};
 ghost use Rattle.bus_story.specs.CarriedBytes.{CarriedBytes, nothing_carried, with_restored_pointers, carried_after_message, carried_after_byte};
 ghost use Rattle.io_pointers.specs.Pointers.{pointers_of, is_in, at_start, place_in, with_saved_data, with_restored, advanced};
@@ -54,7 +54,8 @@ impl Pointers {
     /// SAVE DATA POINTER (6.6.20): the active data pointer becomes the saved one.
     pub fn save_data(&mut self)
         ensures exact { self.new ≡ with_saved_data self.old }
-        ensures carried { (k : CarriedBytes) → self.old ≡ pointers_of k → self.new ≡ pointers_of (carried_after_message k SavePointer) }
+        ensures carried { (k : CarriedBytes) → self.old ≡ pointers_of k
+            → self.new ≡ pointers_of (carried_after_message k SavePointer) }
     {
         self.saved.payload = self.active.payload;
     }
@@ -62,7 +63,8 @@ impl Pointers {
     /// RESTORE POINTERS (6.6.19): the saved pointers become the active ones.
     pub fn restore(&mut self)
         ensures exact { self.new ≡ with_restored self.old }
-        ensures carried { (k : CarriedBytes) → self.old ≡ pointers_of k → self.new ≡ pointers_of (carried_after_message k RestorePointers) }
+        ensures carried { (k : CarriedBytes) → self.old ≡ pointers_of k
+            → self.new ≡ pointers_of (carried_after_message k RestorePointers) }
     {
         self.active = self.saved;
     }
@@ -70,7 +72,8 @@ impl Pointers {
     /// A connection begins, by a selection or a reselection: the saved pointers become the active ones.
     pub fn connect(&mut self)
         ensures exact { self.new ≡ with_restored self.old }
-        ensures carried { (k : CarriedBytes) → self.old ≡ pointers_of k → self.new ≡ pointers_of (with_restored_pointers k) }
+        ensures carried { (k : CarriedBytes) → self.old ≡ pointers_of k
+            → self.new ≡ pointers_of (with_restored_pointers k) }
     {
         self.restore();
     }
@@ -79,7 +82,8 @@ impl Pointers {
     pub fn advance(&mut self, area: Area)
         requires { place_in self.old.active area < 0xffffffff }
         ensures exact { self.new ≡ advanced self.old area }
-        ensures carried { (k : CarriedBytes) (s : LineSet) (byte : ℕ) → is_in area s ≡ true → self.old ≡ pointers_of k → self.new ≡ pointers_of (carried_after_byte k s byte) }
+        ensures carried { (k : CarriedBytes) (s : LineSet) (byte : ℕ) → is_in area s ≡ true → self.old ≡ pointers_of k
+            → self.new ≡ pointers_of (carried_after_byte k s byte) }
     {
         match area {
             Area::Command => self.active.command += 1,

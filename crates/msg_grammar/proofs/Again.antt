@@ -2,7 +2,7 @@
 use Rattle.std.proofs.Common.{◌≡◌, ℕ, suc, Bool, true, false, ◌&&◌, cond, List, [], ◌∷◌, ◌++◌, length, take, Some, None, refl, sym, ap, ◌∙◌}
 use Rattle.std.specs.Prelude.{option_map, ◌==◌}
 use Rattle.std.proofs.lemmas.List.{take_at}
-use Rattle.bus_lines.specs.declared.agreements.Agreement.{Agreement}
+use Rattle.bus_trace.specs.declared.agreements.Agreement.{Agreement}
 use Rattle.msg_grammar.specs.declared.message.Got.{Got}
 use Rattle.msg_grammar.specs.declared.message.Got.TheVariants.{Whole, Unknown}
 use Rattle.msg_grammar.specs.Grammar.{Form, alone, tagged, extended, reserved, as_got, msg_after, msg_by, got_after, got_by}

@@ -2,7 +2,7 @@
 -- or none ever begins so.
 use Rattle.std.proofs.Common.{◌≡◌, ℕ, zero, suc, ◌<◌, Bool, true, false, ◌&&◌, cond, List, [], ◌∷◌, ◌++◌, take, Option, Some, None, refl, ap, ◌∙◌, arith}
 use Rattle.std.specs.Prelude.{option_map, ◌==◌}
-use Rattle.bus_lines.specs.declared.agreements.Agreement.{Agreement}
+use Rattle.bus_trace.specs.declared.agreements.Agreement.{Agreement}
 use Rattle.msg_grammar.specs.declared.message.Got.{Got}
 use Rattle.msg_grammar.specs.declared.message.Got.TheVariants.{Whole, More, Unknown}
 use Rattle.msg_grammar.specs.Grammar.{Form, alone, tagged, extended, reserved, offer_of, as_got, got_code, got_fields, msg_after, msg_by, got_after, got_by, Begins, GoesOn, NeverBegins}

@@ -1,7 +1,7 @@
 -- The definitions, computed: each message by its bytes (ANSI X3.131-1994, 6.6), and some that are none.
 use Rattle.std.proofs.Common.{◌≡◌, ℕ, true, false, List, [], ◌∷◌, Some, None, refl}
 use Rattle.std.specs.Prelude.{map}
-use Rattle.bus_lines.specs.declared.agreements.Agreement.{Agreement}
+use Rattle.bus_trace.specs.declared.agreements.Agreement.{Agreement}
 use Rattle.msg_grammar.specs.declared.message.Got.TheVariants.{Whole, More, Unknown}
 use Rattle.msg_grammar.specs.declared.message.MsgOut.TheVariants as to_target
 use Rattle.msg_grammar.specs.declared.message.MsgIn.TheVariants as to_initiator

@@ -2,7 +2,7 @@
 -- begins with.
 use Rattle.std.specs.Prelude.{ℕ, ◌≡◌, ◌<◌, ◌≤◌, ◌&&◌, List, [], ◌∷◌, ◌++◌, length, take, Option, Some, None, option_map, ◌==◌, if◌then◌else◌}
 use Rattle.std.specs.List.{AllByRecursion}
-use Rattle.bus_lines.specs.declared.agreements.Agreement.{Agreement}
+use Rattle.bus_trace.specs.declared.agreements.Agreement.{Agreement}
 use Rattle.msg_grammar.specs.declared.message.Got.{Got}
 use Rattle.msg_grammar.specs.declared.message.Got.TheVariants.{Whole, More, Unknown}
 

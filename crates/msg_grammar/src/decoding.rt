@@ -7,7 +7,7 @@ ghost use Rattle.msg_grammar.specs.Grammar.{IfWhole, as_got, got_tag, got_code, 
 ghost use Rattle.msg_grammar.specs.Messages.{FitsIn, FitsOut, got_in, got_out};
 
 use crate::message::{Got, MsgIn, MsgOut};
-use bus_lines::Agreement;
+use bus_trace::Agreement;
 
 /// The message to the target that the bytes begin with.
 #[tactic(auto, unfolding(crate::specs::Messages::form_out))]

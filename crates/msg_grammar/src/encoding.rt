@@ -6,7 +6,7 @@ ghost use Rattle.msg_grammar.specs.Messages.{FitsIn, FitsOut, got_in, got_out, i
 
 use crate::message::{MsgIn, MsgOut};
 use arrayvec::ArrayVec;
-use bus_lines::Agreement;
+use bus_trace::Agreement;
 
 /// The bytes of a message to the target, one to five. A logical unit must be below 8.
 #[tactic(auto, unfolding(crate::specs::Messages::form_out))]

@@ -26,8 +26,10 @@ pub fn in_by_grammar()
 /// No message begins another of its direction: where two stand at the front of the same bytes, they are
 /// the same message, with the same bytes.
 pub fn no_message_begins_another()
-    ensures out { (a b x y : List ℕ) (m k : MsgOut) → msg_out_of a ≡ Some m → msg_out_of b ≡ Some k → a ++ x ≡ b ++ y → (a ≡ b) × (m ≡ k) }
-    ensures inward { (a b x y : List ℕ) (m k : MsgIn) → msg_in_of a ≡ Some m → msg_in_of b ≡ Some k → a ++ x ≡ b ++ y → (a ≡ b) × (m ≡ k) }
+    ensures out { (a b x y : List ℕ) (m k : MsgOut) → msg_out_of a ≡ Some m → msg_out_of b ≡ Some k → a ++ x ≡ b ++ y
+        → (a ≡ b) × (m ≡ k) }
+    ensures inward { (a b x y : List ℕ) (m k : MsgIn) → msg_in_of a ≡ Some m → msg_in_of b ≡ Some k → a ++ x ≡ b ++ y
+        → (a ≡ b) × (m ≡ k) }
 {}
 
 /// Each message has one spelling, and a logical unit below 8. What is spelled so reads back, whatever
@@ -35,6 +37,8 @@ pub fn no_message_begins_another()
 pub fn one_spelling()
     ensures out { (bytes : List ℕ) (m : MsgOut) → (msg_out_of bytes ≡ Some m) ↔ ((bytes ≡ out_bytes m) × FitsOut m) }
     ensures inward { (bytes : List ℕ) (m : MsgIn) → (msg_in_of bytes ≡ Some m) ↔ ((bytes ≡ in_bytes m) × FitsIn m) }
-    ensures out_again { (m : MsgOut) (rest : List ℕ) → FitsOut m → got_out (out_bytes m ++ rest) ≡ Whole m (length (out_bytes m)) }
-    ensures in_again { (m : MsgIn) (rest : List ℕ) → FitsIn m → got_in (in_bytes m ++ rest) ≡ Whole m (length (in_bytes m)) }
+    ensures out_again { (m : MsgOut) (rest : List ℕ) → FitsOut m
+        → got_out (out_bytes m ++ rest) ≡ Whole m (length (out_bytes m)) }
+    ensures in_again { (m : MsgIn) (rest : List ℕ) → FitsIn m
+        → got_in (in_bytes m ++ rest) ≡ Whole m (length (in_bytes m)) }
 {}

@@ -3,7 +3,7 @@
 //! `MsgOut` is a message to the target, `MsgIn` one to the initiator. `encode_out` and `encode_in` give
 //! a message's bytes; `decode_out` and `decode_in` say what a list of bytes begins with: a whole
 //! message, less than one, or none. The grammar is a table of first bytes (`specs/Messages.antt`) and
-//! what follows each (`specs/Grammar.antt`). Stands on `bus_lines` for the agreement that is offered.
+//! what follows each (`specs/Grammar.antt`). Stands on `bus_trace` for the agreement that is offered.
 //!
 //! Public contract: `Whole` is answered exactly where a front of the bytes is a message, `More` exactly
 //! where more bytes make a message of them, and `Unknown` exactly where no message can begin so
@@ -20,6 +20,3 @@ pub use decoding::{decode_in, decode_out};
 pub use encoding::{encode_in, encode_out};
 pub use laws::{in_by_grammar, no_message_begins_another, one_spelling, out_by_grammar};
 pub use message::{Got, MsgIn, MsgOut};
-
-#[cfg(test)]
-mod tests;

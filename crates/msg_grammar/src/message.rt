@@ -1,6 +1,6 @@
 //! Messages, and what a list of bytes begins with.
 
-use bus_lines::Agreement;
+use bus_trace::Agreement;
 
 /// A message to the target: MESSAGE OUT.
 #[derive(Clone, Copy, PartialEq, Eq, Debug)]

@@ -1,7 +1,7 @@
 -- What a line that was taken declares says the line again.
 use Rattle.std.proofs.Common.{◌≡◌, ℕ, ◌-◌, ◌^◌, Bool, true, false, not, cond, length, Option, Some, None, Ok, refl, sym, ap, subst, ◌∙◌, arith}
 use Rattle.std.specs.Prelude.{nat_lt, ◌==◌, ◌||◌, is_some}
-use Rattle.scenario.specs.declared.bounds.TheConstants.{TIME_LIMIT, LATENCY_LIMIT, OPEN_LIMIT, RETRY_LIMIT, LAG_LIMIT, SEEK_LIMIT, BLOCK_LIMIT, DEPTH_LIMIT, FAULT_LIMIT}
+use Rattle.scenario.specs.declared.bounds.TheConstants.{TIME_LIMIT, LATENCY_LIMIT, OPEN_LIMIT, RETRY_LIMIT, HOST_OFFSET_LIMIT, TARGET_OFFSET_LIMIT, LAG_LIMIT, SEEK_LIMIT, BLOCK_LIMIT, DEPTH_LIMIT, FAULT_LIMIT}
 use Rattle.scenario.specs.declared.value.HostDef.{HostDef}
 use Rattle.scenario.specs.declared.value.TargetDef.{TargetDef}
 use Rattle.scenario.specs.declared.value.UnitDef.{UnitDef}
@@ -57,7 +57,7 @@ host_declared s version f def fits e =
     let c = bind_ok (within f.«open» 1 OPEN_LIMIT) _ def b.2 in
     let d = bind_ok (within f.retries 0 RETRY_LIMIT) _ def c.2 in
     let p = bind_ok (period_in f.period) _ def d.2 in
-    let o = bind_ok (within f.offset 0 255) _ def p.2 in
+    let o = bind_ok (within f.offset 0 HOST_OFFSET_LIMIT) _ def p.2 in
     let l = bind_ok (within f.lag 0 LAG_LIMIT) _ def o.2 in
     let g = bind_ok (guard 5 (not (has_device s a.0))) _ def l.2 in
     let ra = read_within f.device 0 7 a.0 a.1 (omega arith) in
@@ -65,7 +65,7 @@ host_declared s version f def fits e =
     let rc = read_within f.«open» 1 OPEN_LIMIT c.0 c.1 (omega arith) in
     let rd = read_within f.retries 0 RETRY_LIMIT d.0 d.1 (omega arith) in
     let rp = read_period f.period p.0 p.1 in
-    let ro = read_within f.offset 0 255 o.0 o.1 (omega arith) in
+    let ro = read_within f.offset 0 HOST_OFFSET_LIMIT o.0 o.1 (omega arith) in
     let rl = read_within f.lag 0 LAG_LIMIT l.0 l.1 (omega arith) in
     record {
       same = λ v. ap (said_host version) (sym (ok_is _ def g.2)) ∙ (λ i. initiator_line (record { device = sym ra.same i; latency = sym rb.same i; «open» = sym rc.same i; retries = sym rd.same i; period = sym rp.same i; offset = sym ro.same i; lag = sym rl.same i; offers = flag_again version true f.offers v fits i }));
@@ -81,7 +81,7 @@ target_declared s version f def fits e =
     let k = bind_ok (policy_in f.disc) _ def d.2 in
     let t = bind_ok (within f.seek 0 SEEK_LIMIT) _ def k.2 in
     let p = bind_ok (period_in f.period) _ def t.2 in
-    let o = bind_ok (within f.offset 0 254) _ def p.2 in
+    let o = bind_ok (within f.offset 0 TARGET_OFFSET_LIMIT) _ def p.2 in
     let g = bind_ok (guard 5 (not (has_device s a.0))) _ def o.2 in
     let ra = read_within f.device 0 7 a.0 a.1 (omega arith) in
     let rb = read_within f.latency 0 LATENCY_LIMIT b.0 b.1 (omega arith) in
@@ -89,7 +89,7 @@ target_declared s version f def fits e =
     let rk = read_policy f.disc k.0 k.1 in
     let rt = read_within f.seek 0 SEEK_LIMIT t.0 t.1 (omega arith) in
     let rp = read_period f.period p.0 p.1 in
-    let ro = read_within f.offset 0 254 o.0 o.1 (omega arith) in
+    let ro = read_within f.offset 0 TARGET_OFFSET_LIMIT o.0 o.1 (omega arith) in
     record {
       same = λ v. ap (said_target version) (sym (ok_is _ def g.2)) ∙ (λ i. target_line (record { device = sym ra.same i; latency = sym rb.same i; retries = sym rd.same i; disc = sym rk.same i; pick = f.pick; seek = sym rt.same i; period = sym rp.same i; offset = sym ro.same i; begins = flag_again version false f.begins v fits i }));
       spelled = (ra.small, rb.small, rd.small, rk.small, rt.small, rp.small, ro.small);

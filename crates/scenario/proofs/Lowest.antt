@@ -6,7 +6,7 @@ use Rattle.bus_base.specs.declared.events.AbortKind.{AbortKind}
 use Rattle.bus_base.specs.declared.events.AbortKind.TheVariants as kills
 use Rattle.text_words.specs.Words.{Number}
 use Rattle.text_words.specs.Lines.{Line}
-use Rattle.scenario.specs.declared.bounds.TheConstants.{TIME_LIMIT, LATENCY_LIMIT, OPEN_LIMIT, RETRY_LIMIT, LAG_LIMIT, SEEK_LIMIT, BURST_LIMIT, BLOCK_LIMIT, DEPTH_LIMIT, FAULT_LIMIT}
+use Rattle.scenario.specs.declared.bounds.TheConstants.{TIME_LIMIT, LATENCY_LIMIT, OPEN_LIMIT, RETRY_LIMIT, LEAST_FACTOR, FACTOR_LIMIT, HOST_OFFSET_LIMIT, TARGET_OFFSET_LIMIT, TAG_LIMIT, LAG_LIMIT, SEEK_LIMIT, BURST_LIMIT, BLOCK_LIMIT, LEAST_SIZE, SIZE_LIMIT, DEPTH_LIMIT, FAULT_LIMIT}
 use Rattle.scenario.specs.declared.value.Policy.{Policy}
 use Rattle.scenario.specs.declared.value.Policy.TheVariants as policies
 use Rattle.scenario.specs.declared.value.UnitDef.{UnitDef}
@@ -109,11 +109,11 @@ mapped_is r t y g e = ap (λ (s : Result _ ℕ). s >>= λ n. Ok (g n)) e ∙ go 
 
 period_is : (u : Number) → period_in u ≡ cond (is_period u) (Ok (value u)) (Err 4)
 unfolding period_in
-period_is u = checked_is (within u 0 255) (is_in u 0 255) (value u) (λ n. n == 0 || nat_le 25 n) (within_is u 0 255)
+period_is u = checked_is (within u 0 FACTOR_LIMIT) (is_in u 0 FACTOR_LIMIT) (value u) (λ n. n == 0 || nat_le LEAST_FACTOR n) (within_is u 0 FACTOR_LIMIT)
 
 size_is : (u : Number) → size_in u ≡ cond (is_block_size u) (Ok (value u)) (Err 4)
 unfolding size_in
-size_is u = checked_is (within u 16 2048) (is_in u 16 2048) (value u) is_size (within_is u 16 2048)
+size_is u = checked_is (within u LEAST_SIZE SIZE_LIMIT) (is_in u LEAST_SIZE SIZE_LIMIT) (value u) is_size (within_is u LEAST_SIZE SIZE_LIMIT)
 
 policy_value : PolicyForm → Policy
 policy_value policy_forms.Never = policies.Never
@@ -131,9 +131,9 @@ policy_is (policy_forms.NoSave k) = mapped_is (within k 1 BURST_LIMIT) (is_in k 
 tag_is : (t : TagForm) → tag_in t ≡ cond (is_tag t) (Ok (tag_value t)) (Err 4)
 unfolding tag_in
 tag_is tag_forms.Untagged = refl
-tag_is (tag_forms.Simple k) = mapped_is (within k 0 255) (is_in k 0 255) (value k) tags.Simple (within_is k 0 255)
-tag_is (tag_forms.Ordered k) = mapped_is (within k 0 255) (is_in k 0 255) (value k) tags.Ordered (within_is k 0 255)
-tag_is (tag_forms.Head k) = mapped_is (within k 0 255) (is_in k 0 255) (value k) tags.Head (within_is k 0 255)
+tag_is (tag_forms.Simple k) = mapped_is (within k 0 TAG_LIMIT) (is_in k 0 TAG_LIMIT) (value k) tags.Simple (within_is k 0 TAG_LIMIT)
+tag_is (tag_forms.Ordered k) = mapped_is (within k 0 TAG_LIMIT) (is_in k 0 TAG_LIMIT) (value k) tags.Ordered (within_is k 0 TAG_LIMIT)
+tag_is (tag_forms.Head k) = mapped_is (within k 0 TAG_LIMIT) (is_in k 0 TAG_LIMIT) (value k) tags.Head (within_is k 0 TAG_LIMIT)
 
 what_value : WhatForm → AbortKind
 what_value whats.All = kills.All
@@ -144,7 +144,7 @@ what_value whats.Device = kills.Device
 what_is : (w : WhatForm) → what_in w ≡ cond (is_what w) (Ok (what_value w)) (Err 4)
 unfolding what_in what_value
 what_is whats.All = refl
-what_is (whats.Tag k) = mapped_is (within k 0 255) (is_in k 0 255) (value k) kills.Tag (within_is k 0 255)
+what_is (whats.Tag k) = mapped_is (within k 0 TAG_LIMIT) (is_in k 0 TAG_LIMIT) (value k) kills.Tag (within_is k 0 TAG_LIMIT)
 what_is whats.Queue = refl
 what_is whats.Device = refl
 
@@ -172,10 +172,10 @@ unfolding added reason_added host_def target_def unit_def fill_def cmd_def full_
 lowest_added d (scsi_line v) = refl
 lowest_added d (initiator_line f) = refused_then (host_def d.scenario f) _ _
     (step _ _ _ _ _ _ (within_is f.device 0 7) (step _ _ _ _ _ _ (within_is f.latency 0 LATENCY_LIMIT) (step _ _ _ _ _ _ (within_is f.«open» 1 OPEN_LIMIT) (step _ _ _ _ _ _ (within_is f.retries 0 RETRY_LIMIT)
-    (step _ _ _ _ _ _ (period_is f.period) (step _ _ _ _ _ _ (within_is f.offset 0 255) (last _ _ _ _ _ (within_is f.lag 0 LAG_LIMIT) (refused_not 5 (has_device d.scenario (value f.device)) _ None refl))))))))
+    (step _ _ _ _ _ _ (period_is f.period) (step _ _ _ _ _ _ (within_is f.offset 0 HOST_OFFSET_LIMIT) (last _ _ _ _ _ (within_is f.lag 0 LAG_LIMIT) (refused_not 5 (has_device d.scenario (value f.device)) _ None refl))))))))
 lowest_added d (target_line f) = refused_then (target_def d.scenario f) _ _
     (step _ _ _ _ _ _ (within_is f.device 0 7) (step _ _ _ _ _ _ (within_is f.latency 0 LATENCY_LIMIT) (step _ _ _ _ _ _ (within_is f.retries 0 RETRY_LIMIT) (step _ _ _ _ _ _ (policy_is f.disc) (step _ _ _ _ _ _ (within_is f.seek 0 SEEK_LIMIT)
-    (step _ _ _ _ _ _ (period_is f.period) (last _ _ _ _ _ (within_is f.offset 0 254) (refused_not 5 (has_device d.scenario (value f.device)) _ None refl))))))))
+    (step _ _ _ _ _ _ (period_is f.period) (last _ _ _ _ _ (within_is f.offset 0 TARGET_OFFSET_LIMIT) (refused_not 5 (has_device d.scenario (value f.device)) _ None refl))))))))
 lowest_added d (unit_line f) = refused_then (unit_def d.scenario f) _ _
     (step _ _ _ _ _ _ (within_is f.target 0 7) (step _ _ _ _ _ _ (within_is f.unit 0 7) (step _ _ _ _ _ _ (within_is f.blocks 1 BLOCK_LIMIT) (step _ _ _ _ _ _ (size_is f.size) (last _ _ _ _ _ (within_is f.depth 1 DEPTH_LIMIT)
     (refused_not 5 (is_some (unit_of d.scenario (value f.target) (value f.unit))) _ _ (refused_guard 6 (has_target d.scenario (value f.target)) _ None refl)))))))

@@ -4,7 +4,7 @@ use Rattle.std.specs.Prelude.{nat_le, ◌==◌, ◌||◌}
 use Rattle.std.proofs.lemmas.Bool.Decides.{nat_tests}
 use Rattle.bus_base.specs.declared.events.AbortKind.{AbortKind}
 use Rattle.text_words.specs.Words.{Number}
-use Rattle.scenario.specs.declared.bounds.TheConstants.{BURST_LIMIT}
+use Rattle.scenario.specs.declared.bounds.TheConstants.{LEAST_FACTOR, FACTOR_LIMIT, TAG_LIMIT, BURST_LIMIT, LEAST_SIZE, SIZE_LIMIT}
 use Rattle.scenario.specs.declared.value.Policy.{Policy}
 use Rattle.scenario.specs.declared.value.Tag.{Tag}
 use Rattle.scenario.specs.declared.form.PolicyForm.{PolicyForm}
@@ -52,16 +52,16 @@ read_within u least most n e lt = let p = within_ok u least most n e in record {
 pub read_period : (u : Number) (n : ℕ) → period_in u ≡ Ok n → IsRead u n
 unfolding period_in
 read_period u n e =
-    let a = bind_ok (within u 0 255) _ n e in
-    let g = bind_ok (guard 4 (a.0 == 0 || nat_le 25 a.0)) _ n a.2 in
-    subst (IsRead u) (ok_is a.0 n g.2) (read_within u 0 255 a.0 a.1 (omega arith))
+    let a = bind_ok (within u 0 FACTOR_LIMIT) _ n e in
+    let g = bind_ok (guard 4 (a.0 == 0 || nat_le LEAST_FACTOR a.0)) _ n a.2 in
+    subst (IsRead u) (ok_is a.0 n g.2) (read_within u 0 FACTOR_LIMIT a.0 a.1 (omega arith))
 
 pub read_size : (u : Number) (n : ℕ) → size_in u ≡ Ok n → IsRead u n
 unfolding size_in
 read_size u n e =
-    let a = bind_ok (within u 16 2048) _ n e in
+    let a = bind_ok (within u LEAST_SIZE SIZE_LIMIT) _ n e in
     let g = bind_ok (guard 4 (is_size a.0)) _ n a.2 in
-    subst (IsRead u) (ok_is a.0 n g.2) (read_within u 16 2048 a.0 a.1 (omega arith))
+    subst (IsRead u) (ok_is a.0 n g.2) (read_within u LEAST_SIZE SIZE_LIMIT a.0 a.1 (omega arith))
 
 pub record IsPolicyRead (f : PolicyForm) (p : Policy) : Type 0 where
   pub same : f ≡ said_policy p
@@ -88,16 +88,16 @@ pub read_tag : (f : TagForm) (t : Tag) → tag_in f ≡ Ok t → IsTagRead f t
 unfolding tag_in
 read_tag tags.Untagged t e = subst (IsTagRead tags.Untagged) (ok_is _ t e) (record { same = refl; small = tt })
 read_tag (tags.Simple k) t e =
-    let a = bind_ok (within k 0 255) _ t e in
-    let r = read_within k 0 255 a.0 a.1 (omega arith) in
+    let a = bind_ok (within k 0 TAG_LIMIT) _ t e in
+    let r = read_within k 0 TAG_LIMIT a.0 a.1 (omega arith) in
     subst (IsTagRead (tags.Simple k)) (ok_is _ t a.2) (record { same = ap tags.Simple r.same; small = r.small })
 read_tag (tags.Ordered k) t e =
-    let a = bind_ok (within k 0 255) _ t e in
-    let r = read_within k 0 255 a.0 a.1 (omega arith) in
+    let a = bind_ok (within k 0 TAG_LIMIT) _ t e in
+    let r = read_within k 0 TAG_LIMIT a.0 a.1 (omega arith) in
     subst (IsTagRead (tags.Ordered k)) (ok_is _ t a.2) (record { same = ap tags.Ordered r.same; small = r.small })
 read_tag (tags.Head k) t e =
-    let a = bind_ok (within k 0 255) _ t e in
-    let r = read_within k 0 255 a.0 a.1 (omega arith) in
+    let a = bind_ok (within k 0 TAG_LIMIT) _ t e in
+    let r = read_within k 0 TAG_LIMIT a.0 a.1 (omega arith) in
     subst (IsTagRead (tags.Head k)) (ok_is _ t a.2) (record { same = ap tags.Head r.same; small = r.small })
 
 pub record IsWhatRead (f : WhatForm) (w : AbortKind) : Type 0 where
@@ -110,6 +110,6 @@ read_what whats.All w e = subst (IsWhatRead whats.All) (ok_is _ w e) (record { s
 read_what whats.Queue w e = subst (IsWhatRead whats.Queue) (ok_is _ w e) (record { same = refl; small = tt })
 read_what whats.Device w e = subst (IsWhatRead whats.Device) (ok_is _ w e) (record { same = refl; small = tt })
 read_what (whats.Tag k) w e =
-    let a = bind_ok (within k 0 255) _ w e in
-    let r = read_within k 0 255 a.0 a.1 (omega arith) in
+    let a = bind_ok (within k 0 TAG_LIMIT) _ w e in
+    let r = read_within k 0 TAG_LIMIT a.0 a.1 (omega arith) in
     subst (IsWhatRead (whats.Tag k)) (ok_is _ w a.2) (record { same = ap whats.Tag r.same; small = r.small })

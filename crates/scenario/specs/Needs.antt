@@ -3,6 +3,7 @@ use Rattle.std.specs.Prelude.{ℕ, ◌+◌, ◌*◌, min, Bool, true, false, Opt
 use Rattle.cdb_codec.specs.declared.command.Command.{Command}
 use Rattle.cdb_codec.specs.declared.command.Command.TheVariants as commands
 use Rattle.cdb_codec.specs.declared.command.CdbFault.{CdbFault}
+use Rattle.cdb_codec.specs.declared.replies.TheConstants.{SENSE_LEN, INQUIRY_LEN, CAPACITY_LEN}
 use Rattle.cdb_codec.specs.Cdb.{command_of}
 use Rattle.cdb_codec.specs.Blocks.{blocks_moved}
 use Rattle.scenario.specs.declared.value.UnitDef.{UnitDef}
@@ -15,19 +16,19 @@ abbrev pub block_bytes : Option UnitDef → ℕ → ℕ → ℕ
 block_bytes None lba n = 0
 block_bytes (Some u) lba n = if nat_le (lba + n) u.blocks then n * u.size else 0
 
--- The bytes of READ CAPACITY: eight, or none where the unit is absent.
+-- The bytes of READ CAPACITY, or none where the unit is absent.
 abbrev pub capacity_len : Option UnitDef → ℕ
 capacity_len None = 0
-capacity_len (Some u) = 8
+capacity_len (Some u) = CAPACITY_LEN
 
--- The bytes that a command moves at this unit of a target that is there: at most 18 of sense and 36
--- of inquiry data, also where the unit is absent; and those of the blocks that it reads or writes.
+-- The bytes that a command moves at this unit of a target that is there: sense and inquiry data, also where the unit is
+-- absent; and those of the blocks that it reads or writes.
 abbrev pub moved : Command → Option UnitDef → ℕ
 moved commands.TestUnitReady unit = 0
-moved (commands.RequestSense room) unit = min room 18
+moved (commands.RequestSense room) unit = min room SENSE_LEN
 moved (commands.Read6 lba count) unit = block_bytes unit lba (blocks_moved (commands.Read6 lba count))
 moved (commands.Write6 lba count) unit = block_bytes unit lba (blocks_moved (commands.Write6 lba count))
-moved (commands.Inquiry room) unit = min room 36
+moved (commands.Inquiry room) unit = min room INQUIRY_LEN
 moved commands.ReadCapacity unit = capacity_len unit
 moved (commands.Read10 lba count) unit = block_bytes unit lba count
 moved (commands.Write10 lba count) unit = block_bytes unit lba count

@@ -6,7 +6,7 @@ use Rattle.bus_base.specs.declared.events.AbortKind.TheVariants as kills
 use Rattle.cdb_codec.specs.Cdb.{group_len, is_len}
 use Rattle.text_words.specs.Words.{Number}
 use Rattle.text_words.specs.Lines.{Line, lines_of}
-use Rattle.scenario.specs.declared.bounds.TheConstants.{LIMIT, TIME_LIMIT, LATENCY_LIMIT, OPEN_LIMIT, RETRY_LIMIT, LAG_LIMIT, SEEK_LIMIT, BURST_LIMIT, BLOCK_LIMIT, DEPTH_LIMIT, COMMAND_LIMIT, NEED_LIMIT, NEEDS_LIMIT, ABORT_LIMIT, FAULT_LIMIT}
+use Rattle.scenario.specs.declared.bounds.TheConstants.{LIMIT, TIME_LIMIT, LATENCY_LIMIT, OPEN_LIMIT, RETRY_LIMIT, LEAST_FACTOR, FACTOR_LIMIT, HOST_OFFSET_LIMIT, TARGET_OFFSET_LIMIT, TAG_LIMIT, LAG_LIMIT, SEEK_LIMIT, BURST_LIMIT, BLOCK_LIMIT, LEAST_SIZE, SIZE_LIMIT, DEPTH_LIMIT, COMMAND_LIMIT, NEED_LIMIT, NEEDS_LIMIT, ABORT_LIMIT, FAULT_LIMIT}
 use Rattle.scenario.specs.declared.value.HostDef.{HostDef}
 use Rattle.scenario.specs.declared.value.Policy.{Policy}
 use Rattle.scenario.specs.declared.value.Policy.TheVariants as policies
@@ -84,8 +84,8 @@ time_in number = within number 0 TIME_LIMIT
 -- A transfer period factor: 0, or 25 to 255.
 unfoldable pub period_in : Number → Result ℕ ℕ
 period_in number = do
-  n ← within number 0 255
-  done ← guard 4 (n == 0 || nat_le 25 n)
+  n ← within number 0 FACTOR_LIMIT
+  done ← guard 4 (n == 0 || nat_le LEAST_FACTOR n)
   Ok n
 
 -- The sizes of a block: the powers of two from 16 to 2048.
@@ -95,7 +95,7 @@ is_size n = list_any (λ size. size == n) (16 ∷ 32 ∷ 64 ∷ 128 ∷ 256 ∷ 
 -- A block size.
 unfoldable pub size_in : Number → Result ℕ ℕ
 size_in number = do
-  n ← within number 16 2048
+  n ← within number LEAST_SIZE SIZE_LIMIT
   done ← guard 4 (is_size n)
   Ok n
 
@@ -109,14 +109,14 @@ policy_in (policy_forms.NoSave k) = within k 1 BURST_LIMIT >>= λ n. Ok (policie
 -- A tag: 0 to 255.
 unfoldable pub tag_in : TagForm → Result Tag ℕ
 tag_in tag_forms.Untagged = Ok tags.Untagged
-tag_in (tag_forms.Simple t) = within t 0 255 >>= λ n. Ok (tags.Simple n)
-tag_in (tag_forms.Ordered t) = within t 0 255 >>= λ n. Ok (tags.Ordered n)
-tag_in (tag_forms.Head t) = within t 0 255 >>= λ n. Ok (tags.Head n)
+tag_in (tag_forms.Simple t) = within t 0 TAG_LIMIT >>= λ n. Ok (tags.Simple n)
+tag_in (tag_forms.Ordered t) = within t 0 TAG_LIMIT >>= λ n. Ok (tags.Ordered n)
+tag_in (tag_forms.Head t) = within t 0 TAG_LIMIT >>= λ n. Ok (tags.Head n)
 
 -- What is aborted: a tag is 0 to 255.
 unfoldable pub what_in : WhatForm → Result AbortKind ℕ
 what_in whats.All = Ok kills.All
-what_in (whats.Tag t) = within t 0 255 >>= λ n. Ok (kills.Tag n)
+what_in (whats.Tag t) = within t 0 TAG_LIMIT >>= λ n. Ok (kills.Tag n)
 what_in whats.Queue = Ok kills.WholeQueue
 what_in whats.Device = Ok kills.Device
 
@@ -140,7 +140,7 @@ host_def s f = do
   most ← within f.«open» 1 OPEN_LIMIT
   retries ← within f.retries 0 RETRY_LIMIT
   period ← period_in f.period
-  offset ← within f.offset 0 255
+  offset ← within f.offset 0 HOST_OFFSET_LIMIT
   lag ← within f.lag 0 LAG_LIMIT
   new ← guard 5 (not (has_device s dev))
   Ok (record { dev = dev; latency = latency; most = most; retries = retries; period = period; offset = offset; lag = lag; offers = says true f.offers })
@@ -154,7 +154,7 @@ target_def s f = do
   disc ← policy_in f.disc
   seek ← within f.seek 0 SEEK_LIMIT
   period ← period_in f.period
-  offset ← within f.offset 0 254
+  offset ← within f.offset 0 TARGET_OFFSET_LIMIT
   new ← guard 5 (not (has_device s dev))
   Ok (record { dev = dev; latency = latency; retries = retries; disc = disc; pick = f.pick; seek = seek; period = period; offset = offset; begins = says false f.begins })
 

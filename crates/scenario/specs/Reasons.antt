@@ -3,7 +3,7 @@ use Rattle.std.specs.Prelude.{ℕ, ◌-◌, ◌^◌, Bool, true, false, not, ◌
 use Rattle.std.specs.List.{list_all}
 use Rattle.text_words.specs.Words.{Number}
 use Rattle.text_words.specs.Lines.{Line}
-use Rattle.scenario.specs.declared.bounds.TheConstants.{TIME_LIMIT, LATENCY_LIMIT, OPEN_LIMIT, RETRY_LIMIT, LAG_LIMIT, SEEK_LIMIT, BURST_LIMIT, BLOCK_LIMIT, DEPTH_LIMIT, FAULT_LIMIT}
+use Rattle.scenario.specs.declared.bounds.TheConstants.{TIME_LIMIT, LATENCY_LIMIT, OPEN_LIMIT, RETRY_LIMIT, LEAST_FACTOR, FACTOR_LIMIT, HOST_OFFSET_LIMIT, TARGET_OFFSET_LIMIT, TAG_LIMIT, LAG_LIMIT, SEEK_LIMIT, BURST_LIMIT, BLOCK_LIMIT, LEAST_SIZE, SIZE_LIMIT, DEPTH_LIMIT, FAULT_LIMIT}
 use Rattle.scenario.specs.declared.value.Tag.{Tag}
 use Rattle.scenario.specs.declared.value.Tag.TheVariants as tags
 use Rattle.scenario.specs.declared.value.UnitDef.{UnitDef}
@@ -40,11 +40,11 @@ is_time number = is_in number 0 TIME_LIMIT
 
 -- A transfer period factor.
 abbrev pub is_period : Number → Bool
-is_period number = is_in number 0 255 && (value number == 0 || nat_le 25 (value number))
+is_period number = is_in number 0 FACTOR_LIMIT && (value number == 0 || nat_le LEAST_FACTOR (value number))
 
 -- A block size.
 abbrev pub is_block_size : Number → Bool
-is_block_size number = is_in number 16 2048 && is_size (value number)
+is_block_size number = is_in number LEAST_SIZE SIZE_LIMIT && is_size (value number)
 
 -- A policy.
 abbrev pub is_policy : PolicyForm → Bool
@@ -56,14 +56,14 @@ is_policy (policies.NoSave k) = is_in k 1 BURST_LIMIT
 -- A tag.
 abbrev pub is_tag : TagForm → Bool
 is_tag tag_forms.Untagged = true
-is_tag (tag_forms.Simple t) = is_in t 0 255
-is_tag (tag_forms.Ordered t) = is_in t 0 255
-is_tag (tag_forms.Head t) = is_in t 0 255
+is_tag (tag_forms.Simple t) = is_in t 0 TAG_LIMIT
+is_tag (tag_forms.Ordered t) = is_in t 0 TAG_LIMIT
+is_tag (tag_forms.Head t) = is_in t 0 TAG_LIMIT
 
 -- What is aborted.
 abbrev pub is_what : WhatForm → Bool
 is_what whats.All = true
-is_what (whats.Tag t) = is_in t 0 255
+is_what (whats.Tag t) = is_in t 0 TAG_LIMIT
 is_what whats.Queue = true
 is_what whats.Device = true
 
@@ -85,8 +85,8 @@ breaks_order d x = not (in_order (rank d.last) (rank (kind_of x)))
 -- All numbers of the line are within their limits.
 abbrev pub keeps_limits : Said → Bool
 keeps_limits (scsi_line v) = true
-keeps_limits (initiator_line f) = is_device f.device && (is_in f.latency 0 LATENCY_LIMIT && (is_in f.«open» 1 OPEN_LIMIT && (is_in f.retries 0 RETRY_LIMIT && (is_period f.period && (is_in f.offset 0 255 && is_in f.lag 0 LAG_LIMIT)))))
-keeps_limits (target_line f) = is_device f.device && (is_in f.latency 0 LATENCY_LIMIT && (is_in f.retries 0 RETRY_LIMIT && (is_policy f.disc && (is_in f.seek 0 SEEK_LIMIT && (is_period f.period && is_in f.offset 0 254)))))
+keeps_limits (initiator_line f) = is_device f.device && (is_in f.latency 0 LATENCY_LIMIT && (is_in f.«open» 1 OPEN_LIMIT && (is_in f.retries 0 RETRY_LIMIT && (is_period f.period && (is_in f.offset 0 HOST_OFFSET_LIMIT && is_in f.lag 0 LAG_LIMIT)))))
+keeps_limits (target_line f) = is_device f.device && (is_in f.latency 0 LATENCY_LIMIT && (is_in f.retries 0 RETRY_LIMIT && (is_policy f.disc && (is_in f.seek 0 SEEK_LIMIT && (is_period f.period && is_in f.offset 0 TARGET_OFFSET_LIMIT)))))
 keeps_limits (unit_line f) = is_device f.target && (is_device f.unit && (is_in f.blocks 1 BLOCK_LIMIT && (is_block_size f.size && is_in f.depth 1 DEPTH_LIMIT)))
 keeps_limits (fill_line f) = is_device f.target && (is_device f.unit && is_in f.lba 0 (2 ^ 64 - 1))
 keeps_limits (cmd_line c) = is_device c.host && (is_device c.target && (is_device c.unit && (is_time c.at && (is_tag c.tag && is_block c.cdb))))

@@ -9,8 +9,8 @@ ghost use Rattle.scenario.specs.Index.{IsIndexOf};
 ghost use Rattle.scenario.specs.Reading.{Gives, host_def, target_def, unit_def, found, is_block_of, fill_def, are_ends, payload_of, cmd_def, full_cmd_def, has_abort_room, abort_def, reset_def, fault_def};
 
 use crate::bounds::{
-    ABORT_LIMIT, BLOCK_LIMIT, DEPTH_LIMIT, FAULT_LIMIT, LAG_LIMIT, LATENCY_LIMIT, OPEN_LIMIT,
-    RETRY_LIMIT, SEEK_LIMIT,
+    ABORT_LIMIT, BLOCK_LIMIT, DEPTH_LIMIT, FAULT_LIMIT, HOST_OFFSET_LIMIT, LAG_LIMIT,
+    LATENCY_LIMIT, OPEN_LIMIT, RETRY_LIMIT, SEEK_LIMIT, TARGET_OFFSET_LIMIT,
 };
 use crate::fault::Refusal;
 use crate::form::{
@@ -46,7 +46,7 @@ pub(crate) fn host_def(scenario: &Scenario, form: HostForm) -> Result<HostDef, R
     let most = small(form.open, 1, OPEN_LIMIT)?;
     let retries = small(form.retries, 0, RETRY_LIMIT)?;
     let period = period_in(form.period)?;
-    let offset = byte(form.offset, 255)?;
+    let offset = byte(form.offset, HOST_OFFSET_LIMIT)?;
     let lag = small(form.lag, 0, LAG_LIMIT)?;
     require(5, !has_device(scenario, dev))?;
     Ok(HostDef {
@@ -72,7 +72,7 @@ pub(crate) fn target_def(scenario: &Scenario, form: TargetForm) -> Result<Target
     let disc = policy_in(form.disc)?;
     let seek = small(form.seek, 0, SEEK_LIMIT)?;
     let period = period_in(form.period)?;
-    let offset = byte(form.offset, 254)?;
+    let offset = byte(form.offset, TARGET_OFFSET_LIMIT)?;
     require(5, !has_device(scenario, dev))?;
     Ok(TargetDef {
         dev,

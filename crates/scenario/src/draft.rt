@@ -114,7 +114,8 @@ impl Draft {
         ended: bool,
     ) -> Result<(), Refusal>
         requires { IsIndexOf self.old.blocks self.old.scenario.fills }
-        ensures after { Gives (λ _. seen self.new) result (line_after (seen self.old) (record { text = text.now; ended = ended })) }
+        ensures after { Gives (λ _. seen self.new) result
+            (line_after (seen self.old) (record { text = text.now; ended = ended })) }
         ensures index { OnOk result (IsIndexOf self.new.blocks self.new.scenario.fills) }
     {
         require(1, are_printable(text))?;

@@ -39,6 +39,3 @@ pub use value::{
     TargetDef, UnitDef,
 };
 pub use writing::print;
-
-#[cfg(test)]
-mod tests;

@@ -4,7 +4,9 @@ ghost use Rattle.text_words.specs.Words.{bytes_of};
 ghost use Rattle.std.specs.List.{list_all};
 ghost use Rattle.scenario.specs.Reading.{Gives, Refuses, guard, within, in_8, time_in, period_in, is_size, size_in, policy_in, tag_in, what_in, is_block, says, is_printable, is_skipped};
 
-use crate::bounds::{BURST_LIMIT, TIME_LIMIT};
+use crate::bounds::{
+    BURST_LIMIT, FACTOR_LIMIT, LEAST_FACTOR, LEAST_SIZE, SIZE_LIMIT, TAG_LIMIT, TIME_LIMIT,
+};
 use crate::fault::Refusal;
 use crate::form::{PolicyForm, TagForm, WhatForm};
 use crate::value::{Policy, Tag};
@@ -71,8 +73,8 @@ pub(crate) fn time_in(number: Number) -> Result<u64, Refusal>
 pub(crate) fn period_in(number: Number) -> Result<u8, Refusal>
     ensures { Gives (λ n. n) result (period_in number) }
 {
-    let n = byte(number, 255)?;
-    require(4, n == 0 || 25 <= n)?;
+    let n = byte(number, FACTOR_LIMIT)?;
+    require(4, n == 0 || LEAST_FACTOR <= n)?;
     Ok(n)
 }
 
@@ -87,7 +89,7 @@ fn is_size(n: u32) -> bool
 pub(crate) fn size_in(number: Number) -> Result<u32, Refusal>
     ensures { Gives (λ n. n) result (size_in number) }
 {
-    let n = small(number, 16, 2048)?;
+    let n = small(number, LEAST_SIZE, SIZE_LIMIT)?;
     require(4, is_size(n))?;
     Ok(n)
 }
@@ -119,15 +121,15 @@ pub(crate) fn tag_in(form: TagForm) -> Result<Tag, Refusal>
     match form {
         TagForm::Untagged => Ok(Tag::Untagged),
         TagForm::Simple(t) => {
-            let n = byte(t, 255)?;
+            let n = byte(t, TAG_LIMIT)?;
             Ok(Tag::Simple(n))
         }
         TagForm::Ordered(t) => {
-            let n = byte(t, 255)?;
+            let n = byte(t, TAG_LIMIT)?;
             Ok(Tag::Ordered(n))
         }
         TagForm::Head(t) => {
-            let n = byte(t, 255)?;
+            let n = byte(t, TAG_LIMIT)?;
             Ok(Tag::Head(n))
         }
     }
@@ -141,7 +143,7 @@ pub(crate) fn what_in(form: WhatForm) -> Result<AbortKind, Refusal>
     match form {
         WhatForm::All => Ok(AbortKind::All),
         WhatForm::Tag(t) => {
-            let n = byte(t, 255)?;
+            let n = byte(t, TAG_LIMIT)?;
             Ok(AbortKind::Tag(n))
         }
         WhatForm::Queue => Ok(AbortKind::WholeQueue),

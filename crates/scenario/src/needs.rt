@@ -5,7 +5,7 @@ ghost use Rattle.scenario.specs.Reading.{is_payload, has_room};
 
 use crate::bounds::{COMMAND_LIMIT, NEED_LIMIT, NEEDS_LIMIT};
 use crate::value::{CmdDef, Payload, Scenario, UnitDef};
-use cdb_codec::{CdbFault, Command, blocks_moved, from_cdb};
+use cdb_codec::{CAPACITY_LEN, CdbFault, Command, INQUIRY_LEN, SENSE_LEN, blocks_moved, from_cdb};
 
 fn block_bytes(unit: Option<UnitDef>, lba: u32, count: u32) -> u64
     ensures { result ≡ block_bytes unit lba count }
@@ -27,7 +27,7 @@ fn capacity_len(unit: Option<UnitDef>) -> u64
 {
     match unit {
         None => 0,
-        Some(_) => 8,
+        Some(_) => CAPACITY_LEN as u64,
     }
 }
 
@@ -36,10 +36,10 @@ fn moved(command: &Command, unit: Option<UnitDef>) -> u64
 {
     match command {
         Command::TestUnitReady => 0,
-        Command::RequestSense { room } => u64::from((*room).min(18)),
+        Command::RequestSense { room } => u64::from(*room).min(SENSE_LEN as u64),
         Command::Read6 { lba, count: _ } => block_bytes(unit, *lba, blocks_moved(command)),
         Command::Write6 { lba, count: _ } => block_bytes(unit, *lba, blocks_moved(command)),
-        Command::Inquiry { room } => u64::from((*room).min(36)),
+        Command::Inquiry { room } => u64::from(*room).min(INQUIRY_LEN as u64),
         Command::ReadCapacity => capacity_len(unit),
         Command::Read10 { lba, count } => block_bytes(unit, *lba, u32::from(*count)),
         Command::Write10 { lba, count } => block_bytes(unit, *lba, u32::from(*count)),

@@ -199,7 +199,17 @@ impl Model for Scenario {
 
     ghost Value = { ScenarioValue };
 
-    ghost view = { λ a. record { version = a.version; hosts = a.hosts.items; targets = a.targets.items; units = a.units.items; fills = a.fills.items; commands = a.commands.items; aborts = a.aborts.items; resets = a.resets.items; faults = a.faults.items } };
+    ghost view = { λ a. record {
+      version = a.version;
+      hosts = a.hosts.items;
+      targets = a.targets.items;
+      units = a.units.items;
+      fills = a.fills.items;
+      commands = a.commands.items;
+      aborts = a.aborts.items;
+      resets = a.resets.items;
+      faults = a.faults.items;
+    } };
 }
 
 impl Scenario {

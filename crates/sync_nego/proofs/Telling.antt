@@ -2,25 +2,25 @@
 use Rattle.std.proofs.Common.{ℕ, ◌≡◌, Bool, true, false, List, [], ◌∷◌, ◌++◌, Option, Some, None, refl, sym, ap, subst, ◌∙◌, arith}
 use Rattle.std.specs.Prelude.{not, ◌==◌, ◌&&◌, ◌||◌, ◌%◌, is_some, if◌then◌else◌}
 use Rattle.std.proofs.lemmas.Bool.Decides.{nat_tests}
-use Rattle.bus_lines.specs.LineSet.{LineSet}
-use Rattle.bus_lines.specs.declared.Row.{Row}
-use Rattle.bus_lines.specs.declared.changes.Change.{Change}
-use Rattle.bus_lines.specs.declared.connection.Connection.{Connection}
-use Rattle.bus_lines.specs.declared.agreements.Agreement.{Agreement}
-use Rattle.bus_lines.specs.Changes.{change_of}
-use Rattle.bus_lines.specs.Terms.{call, connection, connection_after, receiver_of}
-use Rattle.bus_lines.specs.Phases.{is_message_out, is_message_in, is_command, changes_phase}
+use Rattle.bus_trace.specs.LineSet.{LineSet}
+use Rattle.bus_trace.specs.declared.Row.{Row}
+use Rattle.bus_trace.specs.declared.changes.Change.{Change}
+use Rattle.bus_trace.specs.declared.connection.Connection.{Connection}
+use Rattle.bus_trace.specs.declared.agreements.Agreement.{Agreement}
+use Rattle.bus_trace.specs.Changes.{change_of}
+use Rattle.bus_trace.specs.Terms.{call, connection, connection_after, receiver_of}
+use Rattle.bus_trace.specs.Phases.{is_message_out, is_message_in, is_command, changes_phase}
 use Rattle.msg_grammar.specs.declared.message.Got.{Got}
 use Rattle.msg_grammar.specs.declared.message.Got.TheVariants.{Whole, More, Unknown}
 use Rattle.msg_grammar.specs.declared.message.MsgOut.{MsgOut}
 use Rattle.msg_grammar.specs.declared.message.MsgIn.{MsgIn}
 use Rattle.msg_grammar.specs.Messages.{got_out, got_in}
-use Rattle.bus_lines.specs.Agreements.{same_agreement}
+use Rattle.bus_trace.specs.Agreements.{same_agreement}
 use Rattle.bus_story.specs.CurrentAgreement.{current_agreement, current_agreement_in}
-use Rattle.bus_rules.specs.declared.words.End.{End}
-use Rattle.bus_rules.specs.declared.spoken.Heard.{Heard}
-use Rattle.bus_rules.specs.declared.dialogue.Dialogue.{Dialogue}
-use Rattle.bus_rules.specs.Dialogue.{asynchronous, heard_out, heard_in, heard_if_begun, heard_with_command, fresh_bytes, byte_out, byte_in, byte_else, byte_crosses, phase_begins, dialogue_on, dialogue_after, closed_agreement, closed_agreement_by, opened, agreed, dialogue}
+use Rattle.bus_phases.specs.declared.words.End.{End}
+use Rattle.bus_phases.specs.declared.spoken.Heard.{Heard}
+use Rattle.bus_phases.specs.declared.dialogue.Dialogue.{Dialogue}
+use Rattle.bus_phases.specs.Dialogue.{asynchronous, heard_out, heard_in, heard_if_begun, heard_with_command, fresh_bytes, byte_out, byte_in, byte_else, byte_crosses, phase_begins, dialogue_on, dialogue_after, closed_agreement, closed_agreement_by, opened, agreed, dialogue}
 use Rattle.sync_nego.specs.Exchange.{Turn, connects, begins_phase, in_command, told, told_agreement, side}
 use Rattle.sync_nego.proofs.Following.{holds_what_is_told}
 use Rattle.sync_nego.specs.Rows.{anew_if, out_turns, begins_if, in_turns, byte_turns, dialogue_turns, resets_if, is_of_pair, ends_all, row_turns, turns}

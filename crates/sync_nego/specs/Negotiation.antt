@@ -1,11 +1,12 @@
 -- What one end keeps of its agreement with another, and what each event does to it (6.6.21).
 use Rattle.std.specs.Prelude.{Bool, true, false, ◌&&◌, ◌==◌, Option, Some, None, nat_lt, if◌then◌else◌}
-use Rattle.bus_lines.specs.declared.agreements.Agreement.{Agreement}
+use Rattle.bus_trace.specs.declared.agreements.Agreement.{Agreement}
+use Rattle.bus_trace.specs.declared.agreements.TheConstants.{UNLIMITED_OFFSET}
 use Rattle.msg_grammar.specs.declared.message.MsgOut.{MsgOut}
 use Rattle.msg_grammar.specs.declared.message.MsgOut.TheVariants as to_target
 use Rattle.msg_grammar.specs.declared.message.MsgIn.{MsgIn}
 use Rattle.msg_grammar.specs.declared.message.MsgIn.TheVariants as to_initiator
-use Rattle.bus_rules.specs.Dialogue.{asynchronous}
+use Rattle.bus_phases.specs.Dialogue.{asynchronous}
 use Rattle.bus_dialogue.specs.Words.{agreement_answer}
 
 pub record Negotiation : Type 0 where
@@ -32,9 +33,9 @@ offer_in n = if offers n then Some (to_initiator.Sdtr n.own) else None
 
 -- ---- answers
 
--- The answer to a request; to one of offset 255 there is none but MESSAGE REJECT.
+-- The answer to a request; to one of unlimited offset there is none but MESSAGE REJECT.
 abbrev pub answer_to : Agreement → Agreement → Option Agreement
-answer_to own heard = if heard.offset == 255 then None else Some (agreement_answer own.period own.offset heard)
+answer_to own heard = if heard.offset == UNLIMITED_OFFSET then None else Some (agreement_answer own.period own.offset heard)
 
 -- How a target says it.
 abbrev pub reply_by : Option Agreement → MsgIn

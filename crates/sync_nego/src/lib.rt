@@ -1,20 +1,19 @@
 //! Negotiation of synchronous data transfer between an initiator and a target (ANSI X3.131-1994, 6.6.21).
 //!
-//! Each end keeps one [`Nego`] for every device that it negotiates with: what it offers itself, what the two have agreed
-//! on, and whether it may still offer. `specs/Negotiation.antt` says what each call does; the answer to a request is that
-//! of `bus_dialogue` (`specs/Words.antt`). `specs/Exchange.antt` says what an exchange of messages is, which messages of it
-//! count, and what either end does as it says and hears them.
+//! Each end keeps one [`Nego`] for every device that it negotiates with: what it offers itself, what the two
+//! have agreed on, and whether it may still offer. `specs/Negotiation.antt` says what each call does; the
+//! answer to a request is that of `bus_dialogue` (`specs/Words.antt`). `specs/Exchange.antt` says what an
+//! exchange of messages is, which messages of it count, and what either end does as it says and hears them.
 //!
-//! Public contract: after any exchange, lawful or not, both ends hold the agreement that its messages tell by the rules
-//! (`ends_hold_what_is_told`), and so the one that the rows of a trace tell, which make such an exchange, as `specs/Rows.antt`
-//! says (`ends_hold_what_rows_tell`); and a request that is answered, after any number of void answers, settles both ends on the
-//! answer, or on asynchronous transfer where it is rejected (`requests_settle_both_ends`).
+//! Public contract: after any exchange, lawful or not, both ends hold the agreement that its messages tell by
+//! the rules (`ends_hold_what_is_told`), and so the one that the rows of a trace tell, which make such an
+//! exchange, as `specs/Rows.antt` says (`ends_hold_what_rows_tell`); and a request that is answered, after any
+//! number of void answers, settles both ends on the answer, or on asynchronous transfer where it is rejected
+//! (`requests_settle_both_ends`).
 #![tactic(auto)]
 
 mod laws;
 mod nego;
-#[cfg(test)]
-mod tests;
 
 pub use laws::{
     ends_hold_what_is_told, ends_hold_what_rows_tell, replies_are_answers,

@@ -1,14 +1,11 @@
 //! What one end keeps of its agreement with another (ANSI X3.131-1994, 6.6.21).
 ghost use Rattle.std.specs.Prelude.{◌≡◌, true, None};
-ghost use Rattle.bus_lines.specs.Agreements.{same_agreement};
+ghost use Rattle.bus_trace.specs.Agreements.{same_agreement};
 ghost use Rattle.sync_nego.specs.Negotiation.{unsettled, offers, offer_out, offer_in, answer_to, settled, cleared, renewed};
 
-use bus_lines::Agreement;
+use bus_trace::{Agreement, UNLIMITED_OFFSET};
 use msg_grammar::{MsgIn, MsgOut};
 use std::marker::Model;
-
-/// The offset to which there is no answer but MESSAGE REJECT.
-const UNLIMITED_OFFSET: u8 = 255;
 
 const ASYNCHRONOUS: Agreement = Agreement {
     period: 0,
@@ -77,8 +74,8 @@ impl Nego {
         }
     }
 
-    /// The answer of an end that would offer `own` to the request `heard`: the larger period and the smaller offset; none,
-    /// which is MESSAGE REJECT, where the offset is 255.
+    /// The answer of an end that would offer `own` to the request `heard`: the larger period and the smaller
+    /// offset; none, which is MESSAGE REJECT, where the offset is unlimited.
     pub fn answer(own: &Agreement, heard: &Agreement) -> Option<Agreement>
         ensures { result ≡ answer_to own.now heard.now }
     {
@@ -100,7 +97,8 @@ impl Nego {
     /// A negotiation ends with this answer, or without one: by MESSAGE REJECT, or because its connection ended.
     pub fn settle(&mut self, heard: Option<Agreement>)
         ensures exact { self.new ≡ settled self.old heard }
-        ensures lapsed { self.old.may_offer ≡ true → heard ≡ None → same_agreement self.new.agreed self.old.agreed ≡ true }
+        ensures lapsed { self.old.may_offer ≡ true → heard ≡ None
+            → same_agreement self.new.agreed self.old.agreed ≡ true }
     {
         self.agreed = heard.unwrap_or(ASYNCHRONOUS);
         self.may_offer = false;

@@ -25,6 +25,3 @@ pub use reading::{
     number, whole,
 };
 pub use writing::{byte_text, hex_digit};
-
-#[cfg(test)]
-mod tests;

@@ -25,7 +25,8 @@ pub fn feed_at(bytes: &[u8]) -> Option<usize>
 /// The first line of a text that is not empty: up to its line feed, or all of it where there is none.
 pub fn first_line(bytes: &[u8]) -> FirstLine<'_>
     requires { 0 < length bytes.now }
-    ensures exact { lines_of bytes.now ≡ record { text = result.text.now; ended = result.ended } ∷ lines_of result.rest.now }
+    ensures exact { lines_of bytes.now
+        ≡ record { text = result.text.now; ended = result.ended } ∷ lines_of result.rest.now }
     ensures shorter { length result.rest.now < length bytes.now }
 {
     match feed_at(bytes) {

@@ -1,6 +1,6 @@
 -- The judge has seen these rows, the newest first.
 use Rattle.std.specs.Prelude.{◌≡◌, List, length}
-use Rattle.bus_lines.specs.declared.Row.{Row}
+use Rattle.bus_trace.specs.declared.Row.{Row}
 use Rattle.bus_rules.specs.Judging.{IsTermsOf}
 use Rattle.bus_rules.specs.Rules.{judged}
 use Rattle.trace_checker.specs.declared.Judge.{Judge}

@@ -1,19 +1,19 @@
 //! A judge of traces of any length, with no memory.
 //!
 //! A [`Judge`] takes the rows of a trace one by one, and holds nothing but the running terms of the rules.
-//! It stands on `bus_rules`, `bus_lines` and `bus_base`. Its contract: after any rows [`Judge::feed`] tells
+//! It stands on `bus_rules`, `bus_trace` and `bus_base`. Its contract: after any rows [`Judge::feed`] tells
 //! the first that broke a rule with the lowest rule that it broke, and [`Judge::finish`] the same of the
 //! trace with its end; both are what `judge_plain` of `bus_rules` tells of all rows at once.
 #![tactic(auto)]
 
 ghost use Rattle.std.specs.Prelude.{◌≡◌, ◌<◌, ◌∷◌, ◌^◌, [], List, length};
-ghost use Rattle.bus_lines.specs.declared.Row.{Row};
+ghost use Rattle.bus_trace.specs.declared.Row.{Row};
 ghost use Rattle.bus_rules.specs.Rules.{judged, judged_whole, verdict_of, if_lawful};
 
 use bus_base::Ns;
-pub use bus_lines::{Kind, Lines, Row};
 pub use bus_rules::Verdict;
 use bus_rules::{RuleNo, Terms, end_row, lowest_at_end};
+pub use bus_trace::{Kind, Lines, Row};
 
 /// A judge of the rows of a trace so far.
 #[derive(Debug, Drop)]
@@ -51,8 +51,10 @@ impl Judge {
     /// Takes one row more: the verdict on the rows so far. A broken verdict stays.
     pub fn feed(&mut self, row: &Row) -> Verdict
         requires { row.now.dev < 8 }
-        ensures kept { (rows : List Row) → IsJudgeOf rows self.old → length rows < 2 ^ 63 → IsJudgeOf (row.now ∷ rows) self.new }
-        ensures verdict { (rows : List Row) → IsJudgeOf rows self.old → length rows < 2 ^ 63 → result ≡ judged (row.now ∷ rows) }
+        ensures kept { (rows : List Row) → IsJudgeOf rows self.old → length rows < 2 ^ 63
+            → IsJudgeOf (row.now ∷ rows) self.new }
+        ensures verdict { (rows : List Row) → IsJudgeOf rows self.old → length rows < 2 ^ 63
+            → result ≡ judged (row.now ∷ rows) }
     {
         let broken = self.terms.judge(row);
         self.count = self.count.saturating_add(1);
@@ -76,6 +78,3 @@ impl Judge {
         )
     }
 }
-
-#[cfg(test)]
-mod tests;

@@ -5,7 +5,7 @@ use Rattle.std.proofs.lemmas.Bool.{cases_lt}
 use Rattle.std.proofs.lemmas.Bool.Decides.{nat_tests}
 use Rattle.std.proofs.lemmas.List.{length-take, take-append-le}
 use Rattle.trace_text.specs.declared.limit.TheConstants.{LIMIT as TRACE_LIMIT}
-use Rattle.bus_lines.specs.declared.Row.{Row}
+use Rattle.bus_trace.specs.declared.Row.{Row}
 use Rattle.trace_text.specs.declared.stages.Stage.{Stage}
 use Rattle.trace_text.specs.declared.stages.Stage.TheVariants as stages
 use Rattle.trace_text.specs.declared.stages.State.{State}

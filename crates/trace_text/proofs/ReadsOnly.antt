@@ -7,11 +7,11 @@ use Rattle.std.proofs.lemmas.List.{reverse-append}
 use Rattle.text_words.specs.Words.{after, number_at, digit_at, is_hex, is_whole}
 use Rattle.text_words.proofs.Only.{bind_some, cond_some, digit_only}
 use Rattle.trace_text.specs.declared.limit.TheConstants.{LIMIT as TRACE_LIMIT}
-use Rattle.bus_lines.specs.LineSet.{set_of}
-use Rattle.bus_lines.specs.OfTrace.{IsKind, IsRow}
-use Rattle.bus_lines.specs.declared.Kind.{Kind}
-use Rattle.bus_lines.specs.declared.Kind.TheVariants.{Drives, Fault}
-use Rattle.bus_lines.specs.declared.Row.{Row}
+use Rattle.bus_trace.specs.LineSet.{set_of}
+use Rattle.bus_trace.specs.OfTrace.{IsKind, IsRow}
+use Rattle.bus_trace.specs.declared.Kind.{Kind}
+use Rattle.bus_trace.specs.declared.Kind.TheVariants.{Drives, Fault}
+use Rattle.bus_trace.specs.declared.Row.{Row}
 use Rattle.trace_text.specs.declared.stages.Stage.{Stage}
 use Rattle.trace_text.specs.declared.stages.Stage.TheVariants as stages
 use Rattle.trace_text.specs.declared.stages.State.{State}

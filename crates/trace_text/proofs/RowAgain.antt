@@ -10,12 +10,12 @@ use Rattle.std.proofs.lemmas.List.Folds.{list_all-append}
 use Rattle.text_words.specs.Words.{number_at, is_hex, hex_value}
 use Rattle.text_words.specs.Spelling.{hex_digit}
 use Rattle.text_words.proofs.Again.{after_same, number_again, digit_again, decimal_passes, hex_passes, bytes_again}
-use Rattle.bus_lines.specs.LineSet.{LineSet, set_of, number_of}
-use Rattle.bus_lines.specs.OfTrace.{IsKind}
-use Rattle.bus_lines.specs.declared.Kind.{Kind}
-use Rattle.bus_lines.specs.declared.Kind.TheVariants.{Drives, Fault}
-use Rattle.bus_lines.specs.declared.Row.{Row}
-use Rattle.bus_lines.proofs.Sets.{number_of-lt, set_back}
+use Rattle.bus_trace.specs.LineSet.{LineSet, set_of, number_of}
+use Rattle.bus_trace.specs.OfTrace.{IsKind}
+use Rattle.bus_trace.specs.declared.Kind.{Kind}
+use Rattle.bus_trace.specs.declared.Kind.TheVariants.{Drives, Fault}
+use Rattle.bus_trace.specs.declared.Row.{Row}
+use Rattle.bus_trace.proofs.Sets.{number_of-lt, set_back}
 use Rattle.trace_text.specs.RowText.{lines_text, kind_text, row_text}
 use Rattle.trace_text.specs.Readable.{FitsBus, IsTraceRow}
 use Rattle.trace_text.specs.Lines.{kind_at, row_at, end_at, value_of}

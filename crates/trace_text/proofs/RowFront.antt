@@ -9,10 +9,10 @@ use Rattle.std.proofs.lemmas.List.Folds.{list_all-append}
 use Rattle.text_words.specs.Words.{Number, number_at, is_digit, is_hex}
 use Rattle.text_words.proofs.Again.{after_same, number_again, run_of}
 use Rattle.text_words.proofs.Only.{cond_some, number_only}
-use Rattle.bus_lines.specs.LineSet.{set_of}
-use Rattle.bus_lines.specs.declared.Kind.{Kind}
-use Rattle.bus_lines.specs.declared.Kind.TheVariants.{Drives}
-use Rattle.bus_lines.specs.declared.Row.{Row}
+use Rattle.bus_trace.specs.LineSet.{set_of}
+use Rattle.bus_trace.specs.declared.Kind.{Kind}
+use Rattle.bus_trace.specs.declared.Kind.TheVariants.{Drives}
+use Rattle.bus_trace.specs.declared.Row.{Row}
 use Rattle.trace_text.specs.Lines.{below, value_of, kind_at, row_at}
 use Rattle.trace_text.specs.Pieces.{is_inner, text_of, StartsWithRow}
 use Rattle.trace_text.proofs.Short.{below_is}

@@ -7,8 +7,8 @@ use Rattle.std.proofs.lemmas.List.{length-drop, length-append}
 use Rattle.std.proofs.lemmas.Fmt.{length-decimal-le}
 use Rattle.text_words.specs.Words.{Number, after, number_at, is_digit, digit_at, is_whole}
 use Rattle.text_words.proofs.Only.{bind_some, cond_some, number_only}
-use Rattle.bus_lines.specs.declared.Kind.{Kind}
-use Rattle.bus_lines.specs.declared.Row.{Row}
+use Rattle.bus_trace.specs.declared.Kind.{Kind}
+use Rattle.bus_trace.specs.declared.Row.{Row}
 use Rattle.trace_text.specs.declared.stages.Stage.{Stage}
 use Rattle.trace_text.specs.declared.stages.Stage.TheVariants as stages
 use Rattle.trace_text.specs.Lines.{below, kind_at, row_at, end_at, is_first, is_history, stage_after}

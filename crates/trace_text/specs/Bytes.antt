@@ -1,6 +1,6 @@
 -- The bytes of a trace text, newest first: the lines that they make, and what each byte tells.
 use Rattle.std.specs.Prelude.{◌≡◌, ℕ, ◌+◌, ◌^◌, ◌<◌, List, [], ◌∷◌, ◌++◌, take, Result, Ok, Err, ◌==◌, if◌then◌else◌}
-use Rattle.bus_lines.specs.declared.Row.{Row}
+use Rattle.bus_trace.specs.declared.Row.{Row}
 use Rattle.trace_text.specs.declared.stages.Stage.TheVariants as stages
 use Rattle.trace_text.specs.declared.stages.State.{State}
 use Rattle.trace_text.specs.declared.stages.State.TheVariants as states

@@ -39,3 +39,8 @@ IsPut true false old new text = ⊥
 pub record Puts (old new : Place) (text : List ℕ) : Type 0 where
   pub bytes : IsPut old.failed new.failed old new text
   pub never_falls : old.faults ≤ new.faults
+
+-- This text was put to a sink by way of a page. It is given what tells the bytes of a sink and what counts its faults,
+-- the sink before and after, and the page before and after.
+abbrev pub Prints : {K : Type 0} → (K → Option (List ℕ)) → (K → ℕ) → K → K → Page → Page → List ℕ → Type 0
+Prints bytes faults old new page rest text = Puts (place (bytes old) (faults old) page) (place (bytes new) (faults new) rest) text

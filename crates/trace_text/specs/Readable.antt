@@ -1,9 +1,9 @@
 -- Which rows a trace text can hold.
 use Rattle.std.specs.Prelude.{◌<◌, ◌^◌}
-use Rattle.bus_lines.specs.OfTrace.{IsRow}
-use Rattle.bus_lines.specs.declared.Kind.{Kind}
-use Rattle.bus_lines.specs.declared.Kind.TheVariants.{Drives, Fault}
-use Rattle.bus_lines.specs.declared.Row.{Row}
+use Rattle.bus_trace.specs.OfTrace.{IsRow}
+use Rattle.bus_trace.specs.declared.Kind.{Kind}
+use Rattle.bus_trace.specs.declared.Kind.TheVariants.{Drives, Fault}
+use Rattle.bus_trace.specs.declared.Row.{Row}
 
 -- the data lines are nine bits
 abbrev pub FitsBus : Kind → Type 0

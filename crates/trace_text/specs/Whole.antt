@@ -1,7 +1,7 @@
 -- What a whole trace text says.
 use Rattle.std.specs.Prelude.{◌≡◌, ℕ, List, length, reverse, Result, Ok, Err, nat_lt, if◌then◌else◌}
 use Rattle.trace_text.specs.declared.limit.TheConstants.{LIMIT as TRACE_LIMIT}
-use Rattle.bus_lines.specs.declared.Row.{Row}
+use Rattle.bus_trace.specs.declared.Row.{Row}
 use Rattle.trace_text.specs.declared.whole.Trace.{Trace}
 use Rattle.trace_text.specs.declared.whole.TraceBad.{TraceBad}
 use Rattle.trace_text.specs.declared.whole.TraceBad.TheVariants as bads

@@ -2,7 +2,7 @@
 ghost use Rattle.std.specs.Prelude.{◌≡◌, map, length};
 ghost use Rattle.trace_text.specs.BlockText.{is_zero, block_text, blocks_text, disks_text};
 ghost use Rattle.trace_text.specs.ReportText.{disk_name};
-ghost use Rattle.trace_text.specs.Pages.{place, Puts};
+ghost use Rattle.trace_text.specs.Pages.{Prints};
 
 use crate::pages::{Page, put, put_hex, put_spaced};
 use bus_base::{Dev, Sink};
@@ -16,7 +16,7 @@ fn is_zero(bytes: &[u8]) -> bool
 }
 
 fn put_block<K: Sink>(out: &mut K, page: &mut Page, target: Dev, unit: u8, lba: u32, bytes: &[u8])
-    ensures { Puts (place (K.written out.old) (K.faults out.old) page.old) (place (K.written out.new) (K.faults out.new) page.new) (block_text target unit lba bytes.now) }
+    ensures { Prints K.written K.faults out.old out.new page.old page.new (block_text target unit lba bytes.now) }
 {
     if is_zero(bytes) {
         return;
@@ -30,7 +30,7 @@ fn put_block<K: Sink>(out: &mut K, page: &mut Page, target: Dev, unit: u8, lba: 
 }
 
 fn put_disk<K: Sink>(out: &mut K, page: &mut Page, target: Dev, unit: u8, disk: &DenseBlocks)
-    ensures { Puts (place (K.written out.old) (K.faults out.old) page.old) (place (K.written out.new) (K.faults out.new) page.new) (blocks_text target unit 0 disk.now) }
+    ensures { Prints K.written K.faults out.old out.new page.old page.new (blocks_text target unit 0 disk.now) }
 {
     for lba in 0..disk.count() as u32 {
         put_block(out, page, target, unit, lba, disk.block(lba));
@@ -45,7 +45,8 @@ pub(crate) fn put_disks<K: Sink>(
     disks: &[DenseBlocks],
 )
     requires { length disks.now ≡ length units.now }
-    ensures { Puts (place (K.written out.old) (K.faults out.old) page.old) (place (K.written out.new) (K.faults out.new) page.new) (disks_text (map disk_name units.now) disks.now) }
+    ensures { Prints K.written K.faults out.old out.new page.old page.new
+        (disks_text (map disk_name units.now) disks.now) }
 {
     for index in 0..units.len() {
         let unit = units[index];

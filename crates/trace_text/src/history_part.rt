@@ -3,13 +3,13 @@ ghost use Rattle.std.specs.Prelude.{◌++◌, ◌∷◌, [], decimal};
 ghost use Rattle.std.specs.List.{flat_map};
 ghost use Rattle.text_words.specs.Spelling.{byte_text};
 ghost use Rattle.trace_text.specs.EventText.{process_text, abort_text, event_words, event_text};
-ghost use Rattle.trace_text.specs.Pages.{place, Puts};
+ghost use Rattle.trace_text.specs.Pages.{Prints};
 
 use crate::pages::{Page, put, put_byte, put_number, put_spaced};
 use bus_base::{AbortKind, Dev, Event, ProcId, Sink};
 
 fn put_process<K: Sink>(out: &mut K, page: &mut Page, process: ProcId)
-    ensures { Puts (place (K.written out.old) (K.faults out.old) page.old) (place (K.written out.new) (K.faults out.new) page.new) (process_text process) }
+    ensures { Prints K.written K.faults out.old out.new page.old page.new (process_text process) }
 {
     put_number(out, page, process.command as u64);
     if process.sense {
@@ -18,7 +18,7 @@ fn put_process<K: Sink>(out: &mut K, page: &mut Page, process: ProcId)
 }
 
 fn put_abort<K: Sink>(out: &mut K, page: &mut Page, what: AbortKind)
-    ensures { Puts (place (K.written out.old) (K.faults out.old) page.old) (place (K.written out.new) (K.faults out.new) page.new) (abort_text what) }
+    ensures { Prints K.written K.faults out.old out.new page.old page.new (abort_text what) }
 {
     match what {
         AbortKind::All => put(out, page, b"all"),
@@ -33,7 +33,7 @@ fn put_abort<K: Sink>(out: &mut K, page: &mut Page, what: AbortKind)
 
 // What became of a process.
 fn put_named<K: Sink>(out: &mut K, page: &mut Page, name: &[u8], process: ProcId)
-    ensures { Puts (place (K.written out.old) (K.faults out.old) page.old) (place (K.written out.new) (K.faults out.new) page.new) (name.now ++ process_text process) }
+    ensures { Prints K.written K.faults out.old out.new page.old page.new (name.now ++ process_text process) }
 {
     put(out, page, name);
     put_process(out, page, process);
@@ -41,7 +41,8 @@ fn put_named<K: Sink>(out: &mut K, page: &mut Page, name: &[u8], process: ProcId
 
 // What became of a process, and the byte that goes with it.
 fn put_coded<K: Sink>(out: &mut K, page: &mut Page, name: &[u8], process: ProcId, code: u8)
-    ensures { Puts (place (K.written out.old) (K.faults out.old) page.old) (place (K.written out.new) (K.faults out.new) page.new) (name.now ++ (process_text process ++ (32 ∷ [] ++ byte_text code))) }
+    ensures { Prints K.written K.faults out.old out.new page.old page.new
+        (name.now ++ (process_text process ++ (32 ∷ [] ++ byte_text code))) }
 {
     put(out, page, name);
     put_process(out, page, process);
@@ -57,7 +58,8 @@ fn put_aborted<K: Sink>(
     unit: u8,
     what: AbortKind,
 )
-    ensures { Puts (place (K.written out.old) (K.faults out.old) page.old) (place (K.written out.new) (K.faults out.new) page.new) (event_words (Event.Aborted initiator target unit what)) }
+    ensures { Prints K.written K.faults out.old out.new page.old page.new
+        (event_words (Event.Aborted initiator target unit what)) }
 {
     put(out, page, b"abort ");
     put_spaced(out, page, initiator as u64);
@@ -67,14 +69,14 @@ fn put_aborted<K: Sink>(
 }
 
 fn put_reset<K: Sink>(out: &mut K, page: &mut Page, dev: Dev)
-    ensures { Puts (place (K.written out.old) (K.faults out.old) page.old) (place (K.written out.new) (K.faults out.new) page.new) (event_words (Event.Reset dev)) }
+    ensures { Prints K.written K.faults out.old out.new page.old page.new (event_words (Event.Reset dev)) }
 {
     put(out, page, b"reset ");
     put_number(out, page, dev as u64);
 }
 
 fn put_event_words<K: Sink>(out: &mut K, page: &mut Page, event: Event)
-    ensures { Puts (place (K.written out.old) (K.faults out.old) page.old) (place (K.written out.new) (K.faults out.new) page.new) (event_words event) }
+    ensures { Prints K.written K.faults out.old out.new page.old page.new (event_words event) }
 {
     match event {
         Event::Accept(process) => put_named(out, page, b"accept ", process),
@@ -91,14 +93,14 @@ fn put_event_words<K: Sink>(out: &mut K, page: &mut Page, event: Event)
 }
 
 fn put_event<K: Sink>(out: &mut K, page: &mut Page, event: Event)
-    ensures { Puts (place (K.written out.old) (K.faults out.old) page.old) (place (K.written out.new) (K.faults out.new) page.new) (event_text event) }
+    ensures { Prints K.written K.faults out.old out.new page.old page.new (event_text event) }
 {
     put_event_words(out, page, event);
     put(out, page, b"\n");
 }
 
 pub(crate) fn put_history<K: Sink>(out: &mut K, page: &mut Page, events: &[Event])
-    ensures { Puts (place (K.written out.old) (K.faults out.old) page.old) (place (K.written out.new) (K.faults out.new) page.new) (flat_map event_text events.now) }
+    ensures { Prints K.written K.faults out.old out.new page.old page.new (flat_map event_text events.now) }
 {
     for event in events {
         put_event(out, page, *event);

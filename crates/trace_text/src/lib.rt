@@ -4,7 +4,7 @@
 //! then the history, the replies and the blocks of a run. `specs/` defines these texts over plain
 //! lists; whoever prints or reads one cites these definitions.
 //!
-//! It stands on `text_words`, `bus_base`, `bus_lines`, `cdb_codec`, `scenario` and `bus_engine`. Its
+//! It stands on `text_words`, `bus_base`, `bus_trace`, `cdb_codec`, `scenario` and `bus_engine`. Its
 //! contract: [`report`] writes the report of a run to any sink, or a front of it where the sink fails;
 //! [`print_row`] is the line of a row; [`TraceReader`], which takes a trace text byte by byte or in pieces and
 //! keeps no row, tells each row and the first line that breaks the form, however the text is cut; and
@@ -27,7 +27,7 @@ mod whole;
 mod whole_report;
 
 pub use bus_base::Ns;
-pub use bus_lines::{Kind, Lines, Row};
+pub use bus_trace::{Kind, Lines, Row};
 pub use laws::{reads_only, reports_read_back, traces_read_back};
 pub use limit::LIMIT;
 pub use reader::TraceReader;
@@ -35,6 +35,3 @@ pub use rows::print_row;
 pub use stages::Told;
 pub use whole::{Trace, TraceBad, read_trace};
 pub use whole_report::report;
-
-#[cfg(test)]
-mod tests;

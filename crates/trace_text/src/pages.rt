@@ -1,7 +1,7 @@
 //! Text on its way to a sink, through a page.
 ghost use Rattle.std.specs.Prelude.{◌≡◌, ◌≤◌, [], ◌++◌, ◌∷◌, decimal, true, false};
 ghost use Rattle.text_words.specs.Spelling.{byte_text, hex_text};
-ghost use Rattle.trace_text.specs.Pages.{place, IsSent, Puts};
+ghost use Rattle.trace_text.specs.Pages.{IsSent, Puts, Prints};
 
 use arrayvec::ArrayVec;
 use bus_base::{Sink, write_all};
@@ -39,7 +39,8 @@ pub(crate) fn is_failed(page: &Page) -> bool
 
 // Writes a piece, unless a write failed before, and answers whether one has failed now.
 fn send<K: Sink>(out: &mut K, failed: bool, piece: &[u8]) -> bool
-    ensures sent { IsSent failed result (K.written out.old) (K.written out.new) (K.faults out.old) (K.faults out.new) piece.now }
+    ensures sent { IsSent failed result (K.written out.old) (K.written out.new) (K.faults out.old)
+        (K.faults out.new) piece.now }
     ensures never_falls { K.faults out.old ≤ K.faults out.new }
 {
     if failed {
@@ -50,7 +51,7 @@ fn send<K: Sink>(out: &mut K, failed: bool, piece: &[u8]) -> bool
 
 /// Writes what stands on the page.
 pub(crate) fn flush<K: Sink>(out: &mut K, page: &mut Page)
-    ensures put { Puts (place (K.written out.old) (K.faults out.old) page.old) (place (K.written out.new) (K.faults out.new) page.new) [] }
+    ensures put { Prints K.written K.faults out.old out.new page.old page.new [] }
     ensures clear { page.new.bytes.items ≡ [] }
 {
     page.failed = send(out, page.failed, page.bytes.as_slice());
@@ -69,7 +70,7 @@ fn is_added(page: &mut Page, text: &[u8]) -> bool
 
 // Puts a text for which the page has no room.
 fn put_past<K: Sink>(out: &mut K, page: &mut Page, text: &[u8])
-    ensures { Puts (place (K.written out.old) (K.faults out.old) page.old) (place (K.written out.new) (K.faults out.new) page.new) text.now }
+    ensures { Prints K.written K.faults out.old out.new page.old page.new text.now }
 {
     flush(out, page);
     if is_added(page, text) {
@@ -81,7 +82,7 @@ fn put_past<K: Sink>(out: &mut K, page: &mut Page, text: &[u8])
 /// Puts a text after what was put so far.
 #[inline]
 pub(crate) fn put<K: Sink>(out: &mut K, page: &mut Page, text: &[u8])
-    ensures { Puts (place (K.written out.old) (K.faults out.old) page.old) (place (K.written out.new) (K.faults out.new) page.new) text.now }
+    ensures { Prints K.written K.faults out.old out.new page.old page.new text.now }
 {
     if is_added(page, text) {
         return;
@@ -90,20 +91,20 @@ pub(crate) fn put<K: Sink>(out: &mut K, page: &mut Page, text: &[u8])
 }
 
 pub(crate) fn put_number<K: Sink>(out: &mut K, page: &mut Page, number: u64)
-    ensures { Puts (place (K.written out.old) (K.faults out.old) page.old) (place (K.written out.new) (K.faults out.new) page.new) (decimal number) }
+    ensures { Prints K.written K.faults out.old out.new page.old page.new (decimal number) }
 {
     let mut buffer = Buffer::new();
     put(out, page, buffer.format(number).as_bytes());
 }
 
 pub(crate) fn put_byte<K: Sink>(out: &mut K, page: &mut Page, byte: u8)
-    ensures { Puts (place (K.written out.old) (K.faults out.old) page.old) (place (K.written out.new) (K.faults out.new) page.new) (byte_text byte) }
+    ensures { Prints K.written K.faults out.old out.new page.old page.new (byte_text byte) }
 {
     put(out, page, &byte_text(byte));
 }
 
 pub(crate) fn put_hex<K: Sink>(out: &mut K, page: &mut Page, bytes: &[u8])
-    ensures { Puts (place (K.written out.old) (K.faults out.old) page.old) (place (K.written out.new) (K.faults out.new) page.new) (hex_text bytes.now) }
+    ensures { Prints K.written K.faults out.old out.new page.old page.new (hex_text bytes.now) }
 {
     for byte in bytes {
         put_byte(out, page, *byte);
@@ -112,7 +113,7 @@ pub(crate) fn put_hex<K: Sink>(out: &mut K, page: &mut Page, bytes: &[u8])
 
 /// A number and a space.
 pub(crate) fn put_spaced<K: Sink>(out: &mut K, page: &mut Page, number: u64)
-    ensures { Puts (place (K.written out.old) (K.faults out.old) page.old) (place (K.written out.new) (K.faults out.new) page.new) (decimal number ++ 32 ∷ []) }
+    ensures { Prints K.written K.faults out.old out.new page.old page.new (decimal number ++ 32 ∷ []) }
 {
     put_number(out, page, number);
     put(out, page, b" ");

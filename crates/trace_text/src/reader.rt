@@ -9,7 +9,7 @@ ghost use Rattle.trace_text.specs.Bytes.{quiet, told_at, told_of, rows_next, row
 use crate::line_front::LineFront;
 use crate::stages::{Stage, State, Told, row_front, stepped};
 use bus_base::Ns;
-use bus_lines::Row;
+use bus_trace::Row;
 
 /// Reads a trace text byte by byte or in pieces, and keeps no row. However a text is cut into pieces, each row is told
 /// with the line feed that ends its line, and the first line that breaks the form with its own, if it has
@@ -79,9 +79,11 @@ impl TraceReader {
 
     /// Takes one byte more, and says what it told. In the clauses the bytes stand newest first.
     pub fn push(&mut self, byte: u8) -> Told
-        ensures kept { (bytes : List ℕ) → IsReaderOf bytes self.old → length bytes < TRACE_LIMIT → IsReaderOf (byte ∷ bytes) self.new }
+        ensures kept { (bytes : List ℕ) → IsReaderOf bytes self.old → length bytes < TRACE_LIMIT
+            → IsReaderOf (byte ∷ bytes) self.new }
         ensures device { TellsOfBus result }
-        ensures told { (bytes : List ℕ) → IsReaderOf bytes self.old → length bytes < TRACE_LIMIT → result ≡ told_at bytes byte }
+        ensures told { (bytes : List ℕ) → IsReaderOf bytes self.old → length bytes < TRACE_LIMIT
+            → result ≡ told_at bytes byte }
     {
         if byte == b'\n' {
             let (state, told) = stepped(self.state, self.line.text());
@@ -94,9 +96,11 @@ impl TraceReader {
         }
     }
 
-    // The state after the line that these bytes end, and what its line feed tells. A line that came whole is not copied.
+    // The state after the line that these bytes end, and what its line feed tells. A line that came whole is
+    // not copied.
     fn stepped_by(&mut self, text: &[u8]) -> (State, Told)
-        ensures exact { count_of self.old.state + 1 < 2 ^ 32 → result ≡ stepped self.old.state (take 28 (self.old.line ++ text.now)) }
+        ensures exact { count_of self.old.state + 1 < 2 ^ 32
+            → result ≡ stepped self.old.state (take 28 (self.old.line ++ text.now)) }
         ensures device { TellsOfBus result.1 }
     {
         if self.line.is_empty() {
@@ -109,8 +113,10 @@ impl TraceReader {
     // Takes the first line of the piece, or all of it where it has no line feed.
     #[inline(always)]
     fn take_line(&mut self, piece: &[u8]) -> (Told, usize)
-        ensures kept { (bytes : List ℕ) → IsReaderOf bytes self.old → length bytes + length piece.now ≤ TRACE_LIMIT → IsReaderOf (reverse (take result.1 piece.now) ++ bytes) self.new }
-        ensures told { (bytes : List ℕ) → IsReaderOf bytes self.old → length bytes + length piece.now ≤ TRACE_LIMIT → result.0 ≡ told_of bytes piece.now }
+        ensures kept { (bytes : List ℕ) → IsReaderOf bytes self.old → length bytes + length piece.now ≤ TRACE_LIMIT
+            → IsReaderOf (reverse (take result.1 piece.now) ++ bytes) self.new }
+        ensures told { (bytes : List ℕ) → IsReaderOf bytes self.old → length bytes + length piece.now ≤ TRACE_LIMIT
+            → result.0 ≡ told_of bytes piece.now }
         ensures len { result.1 ≡ line_len piece.now }
         ensures device { TellsOfBus result.0 }
     {
@@ -154,9 +160,12 @@ impl TraceReader {
     /// told, which is what the last of them does, and how many they were. In the clauses the bytes stand newest first.
     #[inline(always)]
     pub fn take(&mut self, piece: &[u8]) -> (Told, usize)
-        ensures kept { (bytes : List ℕ) → IsReaderOf bytes self.old → length bytes + length piece.now ≤ TRACE_LIMIT → IsReaderOf (reverse (take result.1 piece.now) ++ bytes) self.new }
-        ensures told { (bytes : List ℕ) → IsReaderOf bytes self.old → length bytes + length piece.now ≤ TRACE_LIMIT → result.0 ≡ told_of bytes piece.now }
-        ensures rows { (bytes : List ℕ) → IsReaderOf bytes self.old → length bytes + length piece.now ≤ TRACE_LIMIT → rows_of (reverse (take result.1 piece.now) ++ bytes) ≡ rows_next result.0 (rows_of bytes) }
+        ensures kept { (bytes : List ℕ) → IsReaderOf bytes self.old → length bytes + length piece.now ≤ TRACE_LIMIT
+            → IsReaderOf (reverse (take result.1 piece.now) ++ bytes) self.new }
+        ensures told { (bytes : List ℕ) → IsReaderOf bytes self.old → length bytes + length piece.now ≤ TRACE_LIMIT
+            → result.0 ≡ told_of bytes piece.now }
+        ensures rows { (bytes : List ℕ) → IsReaderOf bytes self.old → length bytes + length piece.now ≤ TRACE_LIMIT
+            → rows_of (reverse (take result.1 piece.now) ++ bytes) ≡ rows_next result.0 (rows_of bytes) }
         ensures len { result.1 ≡ line_len piece.now }
         ensures some { 0 < length piece.now → 0 < result.1 }
         ensures within { result.1 ≤ length piece.now }

@@ -1,6 +1,6 @@
 //! The part of a report with the replies.
 ghost use Rattle.trace_text.specs.ReplyText.{bytes_text, sense_text, outcome_text, reply_text, replies_text};
-ghost use Rattle.trace_text.specs.Pages.{place, Puts};
+ghost use Rattle.trace_text.specs.Pages.{Prints};
 
 use crate::pages::{Page, put, put_byte, put_hex, put_spaced};
 use bus_base::Sink;
@@ -8,7 +8,7 @@ use bus_engine::{Outcome, Sense};
 
 // The bytes that came in, if any did.
 fn put_bytes<K: Sink>(out: &mut K, page: &mut Page, bytes: &[u8])
-    ensures { Puts (place (K.written out.old) (K.faults out.old) page.old) (place (K.written out.new) (K.faults out.new) page.new) (bytes_text bytes.now) }
+    ensures { Prints K.written K.faults out.old out.new page.old page.new (bytes_text bytes.now) }
 {
     if bytes.is_empty() {
         return;
@@ -18,7 +18,7 @@ fn put_bytes<K: Sink>(out: &mut K, page: &mut Page, bytes: &[u8])
 }
 
 fn put_sense<K: Sink>(out: &mut K, page: &mut Page, sense: Option<Sense>)
-    ensures { Puts (place (K.written out.old) (K.faults out.old) page.old) (place (K.written out.new) (K.faults out.new) page.new) (sense_text sense) }
+    ensures { Prints K.written K.faults out.old out.new page.old page.new (sense_text sense) }
 {
     match sense {
         None => put(out, page, b"none"),
@@ -31,7 +31,7 @@ fn put_sense<K: Sink>(out: &mut K, page: &mut Page, sense: Option<Sense>)
 }
 
 fn put_outcome<K: Sink>(out: &mut K, page: &mut Page, outcome: &Outcome)
-    ensures { Puts (place (K.written out.old) (K.faults out.old) page.old) (place (K.written out.new) (K.faults out.new) page.new) (outcome_text outcome.now) }
+    ensures { Prints K.written K.faults out.old out.new page.old page.new (outcome_text outcome.now) }
 {
     match outcome {
         Outcome::Good(bytes) => {
@@ -51,7 +51,7 @@ fn put_outcome<K: Sink>(out: &mut K, page: &mut Page, outcome: &Outcome)
 }
 
 fn put_reply<K: Sink>(out: &mut K, page: &mut Page, number: u64, outcome: &Outcome)
-    ensures { Puts (place (K.written out.old) (K.faults out.old) page.old) (place (K.written out.new) (K.faults out.new) page.new) (reply_text number outcome.now) }
+    ensures { Prints K.written K.faults out.old out.new page.old page.new (reply_text number outcome.now) }
 {
     put(out, page, b"cmd ");
     put_spaced(out, page, number);
@@ -61,7 +61,7 @@ fn put_reply<K: Sink>(out: &mut K, page: &mut Page, number: u64, outcome: &Outco
 
 /// The replies, numbered from 1.
 pub(crate) fn put_replies<K: Sink>(out: &mut K, page: &mut Page, outcomes: &[Outcome])
-    ensures { Puts (place (K.written out.old) (K.faults out.old) page.old) (place (K.written out.new) (K.faults out.new) page.new) (replies_text 1 outcomes.now) }
+    ensures { Prints K.written K.faults out.old out.new page.old page.new (replies_text 1 outcomes.now) }
 {
     for index in 0..outcomes.len() {
         put_reply(out, page, index as u64 + 1, &outcomes[index]);

@@ -3,11 +3,11 @@ ghost use Rattle.std.specs.Prelude.{◌≡◌, ◌<◌, ◌≤◌, ◌+◌, ◌^
 ghost use Rattle.arrayvec.specs.ArrayString.{array_string_len};
 ghost use Rattle.text_words.specs.Spelling.{hex_digit};
 ghost use Rattle.trace_text.specs.RowText.{lines_text, kind_text, row_text};
-ghost use Rattle.bus_lines.specs.OfTrace.{IsKind};
+ghost use Rattle.bus_trace.specs.OfTrace.{IsKind};
 
 use arrayvec::ArrayString;
 use bitflags::Flags;
-use bus_lines::{Kind, Row};
+use bus_trace::{Kind, Row};
 use itoa::Buffer;
 use text_words::hex_digit;
 

@@ -6,7 +6,7 @@ ghost use Rattle.trace_text.specs.Pieces.{StartsWithRow};
 
 use bitflags::Flags;
 use bus_base::Ns;
-use bus_lines::{Kind, Lines, Row};
+use bus_trace::{Kind, Lines, Row};
 use text_words::{Number, after, digit, hex_or_16, number, whole};
 
 /// Where a text stands.

@@ -1,15 +1,15 @@
 //! The part of a report with the trace.
 ghost use Rattle.std.specs.Prelude.{◌≡◌, ◌+◌, ◌<◌, ◌^◌, ◌++◌, ◌∷◌, [], decimal};
 ghost use Rattle.std.specs.List.{AllByRecursion, flat_map};
-ghost use Rattle.bus_lines.specs.OfTrace.{IsKind, IsRow};
+ghost use Rattle.bus_trace.specs.OfTrace.{IsKind, IsRow};
 ghost use Rattle.trace_text.specs.RowText.{lines_text, kind_text, row_text, trace_text};
-ghost use Rattle.trace_text.specs.Pages.{place, Puts};
+ghost use Rattle.trace_text.specs.Pages.{Prints};
 
 use crate::pages::{Page, put, put_number};
 use crate::rows::glyph;
 use bitflags::Flags;
 use bus_base::{Dev, Ns, Sink};
-use bus_lines::{Kind, Row};
+use bus_trace::{Kind, Row};
 
 // What stands after the time of a row that drives these lines.
 fn driven_end(dev: Dev, lines: u32) -> [u8; 9]
@@ -34,7 +34,8 @@ fn driven_end(dev: Dev, lines: u32) -> [u8; 9]
 fn put_end<K: Sink>(out: &mut K, page: &mut Page, dev: Dev, kind: Kind)
     requires device { dev < 8 }
     requires kind { IsKind kind }
-    ensures { Puts (place (K.written out.old) (K.faults out.old) page.old) (place (K.written out.new) (K.faults out.new) page.new) (32 ∷ (48 + dev) ∷ 32 ∷ [] ++ kind_text kind ++ 10 ∷ []) }
+    ensures { Prints K.written K.faults out.old out.new page.old page.new
+        (32 ∷ (48 + dev) ∷ 32 ∷ [] ++ kind_text kind ++ 10 ∷ []) }
 {
     match kind {
         Kind::Drives(lines) => put(out, page, &driven_end(dev, lines.bits())),
@@ -48,7 +49,7 @@ fn put_end<K: Sink>(out: &mut K, page: &mut Page, dev: Dev, kind: Kind)
 
 fn put_row<K: Sink>(out: &mut K, page: &mut Page, row: &Row)
     requires { IsRow row.now }
-    ensures { Puts (place (K.written out.old) (K.faults out.old) page.old) (place (K.written out.new) (K.faults out.new) page.new) (row_text row.now) }
+    ensures { Prints K.written K.faults out.old out.new page.old page.new (row_text row.now) }
 {
     put_number(out, page, row.time);
     put_end(out, page, row.dev, row.kind);
@@ -56,7 +57,7 @@ fn put_row<K: Sink>(out: &mut K, page: &mut Page, row: &Row)
 
 fn put_rows<K: Sink>(out: &mut K, page: &mut Page, rows: &[Row])
     requires { AllByRecursion IsRow rows.now }
-    ensures { Puts (place (K.written out.old) (K.faults out.old) page.old) (place (K.written out.new) (K.faults out.new) page.new) (flat_map row_text rows.now) }
+    ensures { Prints K.written K.faults out.old out.new page.old page.new (flat_map row_text rows.now) }
 {
     for row in rows {
         put_row(out, page, row);
@@ -65,7 +66,7 @@ fn put_rows<K: Sink>(out: &mut K, page: &mut Page, rows: &[Row])
 
 pub(crate) fn put_trace<K: Sink>(out: &mut K, page: &mut Page, rows: &[Row], end: Ns)
     requires { AllByRecursion IsRow rows.now }
-    ensures { Puts (place (K.written out.old) (K.faults out.old) page.old) (place (K.written out.new) (K.faults out.new) page.new) (trace_text rows.now end) }
+    ensures { Prints K.written K.faults out.old out.new page.old page.new (trace_text rows.now end) }
 {
     put(out, page, b"trace 1\n");
     put_rows(out, page, rows);

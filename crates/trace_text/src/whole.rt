@@ -1,7 +1,7 @@
 //! A whole trace text.
 ghost use Rattle.std.specs.Prelude.{◌≡◌, ◌≤◌, ◌++◌, ◌∷◌, [], length, reverse, OnOk, IfOk};
 ghost use Rattle.std.specs.List.{AllByRecursion};
-ghost use Rattle.bus_lines.specs.OfTrace.{IsRow};
+ghost use Rattle.bus_trace.specs.OfTrace.{IsRow};
 ghost use Rattle.trace_text.specs.declared.limit.TheConstants.{LIMIT as TRACE_LIMIT};
 ghost use Rattle.trace_text.specs.Bytes.{rows_next};
 ghost use Rattle.trace_text.specs.Whole.{trace_of, Answers};
@@ -10,7 +10,7 @@ use crate::limit::LIMIT;
 use crate::reader::TraceReader;
 use crate::stages::Told;
 use bus_base::{Dev, Ns};
-use bus_lines::{Kind, Row};
+use bus_trace::{Kind, Row};
 use std::alloc::{AllocError, Global};
 
 /// What a trace text says.

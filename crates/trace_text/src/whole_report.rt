@@ -3,9 +3,9 @@ ghost use Rattle.std.specs.Prelude.{◌≡◌, ◌≤◌, length, OnErr};
 ghost use Rattle.std.specs.List.{AllByRecursion};
 ghost use Rattle.bus_base.specs.Faults.{HasRisen};
 ghost use Rattle.bus_base.specs.Whole.{WritesAll};
-ghost use Rattle.bus_lines.specs.OfTrace.{IsRow};
+ghost use Rattle.bus_trace.specs.OfTrace.{IsRow};
 ghost use Rattle.trace_text.specs.ReportText.{report_of};
-ghost use Rattle.trace_text.specs.Pages.{place, Puts};
+ghost use Rattle.trace_text.specs.Pages.{Prints};
 
 use crate::blocks_part::put_disks;
 use crate::history_part::put_history;
@@ -19,7 +19,7 @@ use scenario::Scenario;
 fn put_report<K: Sink>(out: &mut K, page: &mut Page, s: &Scenario, run: &Run)
     requires disks { length run.now.disks ≡ length s.now.units }
     requires rows { AllByRecursion IsRow run.now.rows }
-    ensures { Puts (place (K.written out.old) (K.faults out.old) page.old) (place (K.written out.new) (K.faults out.new) page.new) (report_of s.now run.now) }
+    ensures { Prints K.written K.faults out.old out.new page.old page.new (report_of s.now run.now) }
 {
     put_trace(out, page, &run.rows, run.end);
     put(out, page, b"history\n");

@@ -1,6 +1,6 @@
 -- Each row is judged after the rows before it.
 use Rattle.std.proofs.Common.{◌≡◌, ◌+◌, ◌∙◌, List, reverse, take, sym, subst, ap, arith, take_all}
-use Rattle.bus_lines.specs.declared.Row.{Row}
+use Rattle.bus_trace.specs.declared.Row.{Row}
 use Rattle.bus_rules.specs.declared.seen.Seen.{Seen}
 use Rattle.bus_rules.specs.Seen.{end_row, seen}
 use Rattle.bus_rules.specs.Rules.{lowest_at_end, judged}

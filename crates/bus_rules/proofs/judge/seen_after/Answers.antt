@@ -1,5 +1,5 @@
 use Rattle.std.proofs.Common.{List, sym, subst}
-use Rattle.bus_lines.specs.declared.Row.{Row}
+use Rattle.bus_trace.specs.declared.Row.{Row}
 use Rattle.bus_rules.specs.Judging.{IsTermsOf}
 use Rattle.bus_rules.proofs.Past.{past_more}
 use Rattle.bus_rules.proofs.judge.seen_after.Goals as goal

@@ -1,12 +1,11 @@
-use Rattle.bus_lines.specs.LineSet.{LineSet}
+use Rattle.bus_trace.specs.LineSet.{LineSet}
 use Rattle.bus_rules.proofs.Running.{met_is}
 use Rattle.bus_rules.proofs.terms.met.Goals as goal
 
 pub returns-clause-exact : goal.returns-clause-exact
 returns-clause-exact c = λ rows v h.
-    met_is rows c.args.dev c.args.change _ c.args.course.now h _ _ _ _ _ _ _ _ _ _ _ _ _ _ _ _ _ _ _ _
-    (c.last_time.ensures.trace rows v) (c.since_bsy.ensures.trace rows v) (c.since_sel.ensures.trace rows v) (c.since_rst.ensures.trace rows v)
-    (c.id_since.ensures rows v) (c.of.ensures (λ (s : LineSet). s.bsy) rows h.bsy_raised) (c.of-2.ensures (λ (s : LineSet). s.rst) rows h.rst_raised) (c.free_since.ensures.trace rows v)
-    (c.since_io.ensures.trace rows v) (c.since_req.ensures.trace rows v) (c.since_ack.ensures.trace rows v) (c.since_atn.ensures.trace rows v)
-    (c.phase_since.ensures.trace rows v) (c.data_since.ensures.trace rows v)
+    met_is rows c.args.dev c.args.change _ c.args.course.now h _ _ _ _ _ _ _ _ _ _ _ _
+    (c.last_time.ensures.trace rows v) (c.times.ensures.trace rows v)
+    (c.id_since.ensures rows v) (c.of.ensures (λ (s : LineSet). s.bsy) rows h.bsy_raised) (c.of-2.ensures (λ (s : LineSet). s.rst) rows h.rst_raised)
+    (c.data_since.ensures.trace rows v)
     (c.others_in_call.ensures rows v) (c.initiator_bsy.ensures.trace rows v) (c.initiator_data.ensures.trace rows v) (c.target_data.ensures.trace rows v) c.is_empty.ensures c.is_some.ensures

@@ -1,5 +1,5 @@
 use Rattle.std.proofs.Common.{◌∷◌, ◌∙◌, sym, subst}
-use Rattle.bus_rules.specs.Dialogue.{agreed}
+use Rattle.bus_phases.specs.Dialogue.{agreed}
 use Rattle.bus_dialogue.specs.Hearing.{hearing_by}
 use Rattle.bus_dialogue.specs.Observer.{ObserverValue, IsObserverOf}
 use Rattle.bus_dialogue.proofs.Observing.{goes_on}

@@ -1,6 +1,6 @@
 use Rattle.std.proofs.Common.{reverse, List, ℕ, sym, ap, ◌∙◌}
 use Rattle.bus_base.specs.declared.Event.{Event}
-use Rattle.bus_lines.specs.declared.Row.{Row}
+use Rattle.bus_trace.specs.declared.Row.{Row}
 use Rattle.bus_engine.specs.Scene.{Scene, scene_at, turn_of, rows_after, history_after}
 use Rattle.bus_engine.specs.declared.rounds.Turn.{Turn}
 use Rattle.bus_engine.proofs.Turns.{Two, host_turned, where_ok}

@@ -1,6 +1,6 @@
 use Rattle.std.proofs.Common.{reverse, List, ℕ, sym, ap, ◌∙◌}
 use Rattle.bus_base.specs.declared.Event.{Event}
-use Rattle.bus_lines.specs.declared.Row.{Row}
+use Rattle.bus_trace.specs.declared.Row.{Row}
 use Rattle.bus_base.specs.declared.ProcId.{ProcId}
 use Rattle.bus_engine.specs.Sight.{sight_of}
 use Rattle.bus_engine.specs.Acts.{target_act}

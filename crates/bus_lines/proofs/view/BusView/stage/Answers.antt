@@ -1,5 +1,5 @@
 use Rattle.std.proofs.Common.{◌∙◌, sym, ap, subst, Option}
-use Rattle.bus_lines.specs.declared.selection.Call.{Call}
+use Rattle.bus_trace.specs.declared.selection.Call.{Call}
 use Rattle.bus_lines.specs.BusView.{BusViewValue}
 use Rattle.bus_lines.specs.Timely.{IsCallBefore}
 use Rattle.bus_lines.proofs.view.BusView.stage.Goals as goal

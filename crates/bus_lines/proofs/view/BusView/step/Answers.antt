@@ -1,7 +1,7 @@
 use Rattle.std.proofs.Common.{◌≡◌, sym, subst}
 use Rattle.bus_lines.specs.BusView.{BusViewValue, IsBusViewOf}
-use Rattle.bus_lines.specs.Terms.{free_since}
-use Rattle.bus_lines.specs.Changes.{change_of}
+use Rattle.bus_trace.specs.Terms.{free_since}
+use Rattle.bus_trace.specs.Changes.{change_of}
 use Rattle.bus_lines.proofs.Stands.{stands, goes_on}
 use Rattle.bus_lines.proofs.view.BusView.step.Goals as goal
 

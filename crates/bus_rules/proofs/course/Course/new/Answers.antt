@@ -1,4 +1,4 @@
-use Rattle.bus_lines.specs.LineSet.{LineSet}
+use Rattle.bus_trace.specs.LineSet.{LineSet}
 use Rattle.bus_rules.proofs.Courses.{at_start}
 use Rattle.bus_rules.proofs.course.Course.new.Goals as goal
 

@@ -1,7 +1,7 @@
 use Rattle.std.proofs.Common.{◌∙◌, refl, sym, ap}
-use Rattle.bus_lines.specs.LineSet.{LineSet}
-use Rattle.bus_lines.specs.declared.changes.Change.{Change}
-use Rattle.bus_rules.specs.Dialogue.{agreed}
+use Rattle.bus_trace.specs.LineSet.{LineSet}
+use Rattle.bus_trace.specs.declared.changes.Change.{Change}
+use Rattle.bus_phases.specs.Dialogue.{agreed}
 use Rattle.bus_rules.proofs.Courses.{goes_on}
 use Rattle.bus_rules.proofs.course.Course.step.Goals as goal
 

@@ -1,7 +1,7 @@
 use Rattle.std.proofs.Common.{◌≡◌, true, ◌∙◌, ap, refl, subst, sym}
-use Rattle.bus_lines.specs.LineSet.{LineSet}
-use Rattle.bus_lines.specs.Trace.{driven_after}
-use Rattle.bus_lines.specs.declared.changes.Change.{Change}
+use Rattle.bus_trace.specs.LineSet.{LineSet}
+use Rattle.bus_trace.specs.Trace.{driven_after}
+use Rattle.bus_trace.specs.declared.changes.Change.{Change}
 use Rattle.bus_rules.specs.DataRows.{passes, standing_after}
 use Rattle.bus_rules.specs.Judging.{Running, IsTermsOf}
 use Rattle.bus_rules.proofs.DataRows.{breaks_none, passing, stands_is}

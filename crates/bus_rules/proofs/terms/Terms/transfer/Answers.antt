@@ -1,5 +1,5 @@
 use Rattle.std.proofs.Common.{◌≡◌, true, ◌∷◌, ◌∙◌, ap, subst, sym}
-use Rattle.bus_lines.specs.declared.changes.Change.{Change}
+use Rattle.bus_trace.specs.declared.changes.Change.{Change}
 use Rattle.bus_rules.specs.declared.course.Course.{Course}
 use Rattle.bus_rules.specs.DataRows.{passes, standing_after, course_after_transfer}
 use Rattle.bus_rules.specs.Judging.{Running, IsTermsOf, IsCourseOf}
@@ -13,7 +13,7 @@ returns c = record {
       let row = c.args.row.now in
       let t = subst (λ (x : Running). IsTermsOf rows x) (sym c.self.view_is) h in
       let e' = subst (λ (x : Change). passes (standing_after rows) x row ≡ true) ec e in
-      let held = held_by rows row _ _ _ ec (c.since_atn.ensures.trace rows t.view) c.is_attention_held-held.ensures in
+      let held = held_by rows row _ _ _ ec (λ i. (c.times.ensures.trace rows t.view i).atn) c.is_attention_held-held.ensures in
       let course = moved rows row _ _ t.course held e' in
       record {
         view = c.step_to.ensures.trace rows t.view (ap (λ (x : Change). x.after) ec);

@@ -1,5 +1,0 @@
--- The ledger is the blank's.
-use Rattle.bus_base.proofs.tests.counts_steps.Given as goal
-
-abbrev pub ghosts-two_steps : goal.ghosts-two_steps
-ghosts-two_steps a = record { name = a.blank.name; parts = a.blank.parts }

@@ -1,8 +1,0 @@
-use Rattle.bus_lines.proofs.Ages.{since_le, since_line_le}
-use Rattle.bus_lines.proofs.laws.changes_are_past.Goals as goal
-
-pub returns-clause-seen : goal.returns-clause-seen
-returns-clause-seen c = since_le
-
-pub returns-clause-line : goal.returns-clause-line
-returns-clause-line c = since_line_le

@@ -1,7 +1,0 @@
-use Rattle.std.proofs.Common.{ap, ◌∙◌}
-use Rattle.bus_lines.specs.LineSet.{LineSet}
-use Rattle.bus_lines.proofs.Bits.{bit_test}
-use Rattle.bus_lines.proofs.line_set.Lines.req.Goals as goal
-
-pub returns : goal.returns
-returns c = bit_test c.self.inside.bits 14 ∙ ap (λ (s : LineSet). s.req) c.self.view_is

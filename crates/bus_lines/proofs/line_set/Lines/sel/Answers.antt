@@ -1,7 +1,0 @@
-use Rattle.std.proofs.Common.{ap, ◌∙◌}
-use Rattle.bus_lines.specs.LineSet.{LineSet}
-use Rattle.bus_lines.proofs.Bits.{bit_test}
-use Rattle.bus_lines.proofs.line_set.Lines.sel.Goals as goal
-
-pub returns : goal.returns
-returns c = bit_test c.self.inside.bits 10 ∙ ap (λ (s : LineSet). s.sel) c.self.view_is

@@ -1,6 +1,0 @@
-use Rattle.std.proofs.Common.{◌∙◌}
-use Rattle.bus_lines.proofs.Ages.{since_line_of, line_bsy}
-use Rattle.bus_lines.proofs.line_view.LineView.since_bsy.Goals as goal
-
-pub returns-clause-trace : goal.returns-clause-trace
-returns-clause-trace c = λ rows v. c.since.ensures.trace rows v ∙ since_line_of 9 (λ s. s.bsy) line_bsy rows

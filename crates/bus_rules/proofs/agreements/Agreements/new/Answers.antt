@@ -1,5 +1,0 @@
-use Rattle.bus_rules.proofs.Agreeing.{all_asynchronous}
-use Rattle.bus_rules.proofs.agreements.Agreements.new.Goals as goal
-
-pub returns : goal.returns
-returns c = all_asynchronous

@@ -1,0 +1,200 @@
+//! Tests of `bus_cli`: the program from end to end, over sources and sinks in memory.
+ghost use Rattle.std.specs.Prelude.{◌≡◌, ◌<◌};
+
+mod cut;
+mod wholes;
+
+use bus_base::{MemSink, MemSource, NoMemory, Steps};
+use bus_cli::{Status, bus_main};
+use std::alloc::Global;
+use std::marker::Brand;
+use std::sync::ledger::{Blank, Ledger};
+use wholes::{BLANK, LOW, MIDDLE, PLAIN};
+
+/// The words, the input, which read and which write fails, from 1; the status and the text that are
+/// wanted.
+type Case = (
+    &'static [&'static str],
+    &'static str,
+    u64,
+    u64,
+    Status,
+    &'static str,
+);
+
+/// How much room the sinks have, in bytes.
+const ROOM: usize = 8192;
+
+/// A scenario that cannot be run so far.
+const NOTHING: &'static str = "scsi 1\n# nothing happens\n\nend\n";
+
+/// The number of a call that is never reached.
+const NEVER: u64 = u64::MAX;
+
+fn strings(alloc: Global, words: &[&'static str]) -> Result<Vec<String>, NoMemory> {
+    let mut strings = Vec::new(alloc);
+    for word in words {
+        strings.push(String::from_str(alloc, *word)?)?;
+    }
+    Ok(strings)
+}
+
+fn end_of<L: Ledger>(
+    alloc: Global,
+    blank: Blank,
+    words: &[&'static str],
+    input: &mut MemSource,
+    out: &mut MemSink,
+) -> Result<Status, NoMemory>
+    requires name { blank.name ≡ L.name }
+    requires parts { blank.parts ≡ L.parts }
+    requires some { 0 < blank.parts }
+{
+    let words = strings(alloc, words)?;
+    let mut steps = Steps::<L>::new(blank);
+    Ok(bus_main(alloc, &words, input, out, &mut steps))
+}
+
+/// How the program ends with these words, this input and this sink.
+fn ended(
+    alloc: Global,
+    words: &[&'static str],
+    input: &mut MemSource,
+    out: &mut MemSink,
+) -> Result<Status, NoMemory> {
+    end_of::<Brand>(alloc, Blank::new(1), words, input, out)
+}
+
+#[test]
+fn ends_with_each_status(rt: HostRuntime) -> Result<(), NoMemory> {
+    let usage = "usage: scsibus run [--short] | judge | make SEED N\n";
+    let run: &'static [&'static str] = &["run"];
+    let judge: &'static [&'static str] = &["judge"];
+    let cases: [Case; 29] = [
+        (run, PLAIN.0, NEVER, NEVER, Status::Done, PLAIN.1),
+        (run, BLANK.0, NEVER, NEVER, Status::Done, BLANK.1),
+        (run, LOW.0, NEVER, NEVER, Status::Done, LOW.1),
+        (run, MIDDLE.0, NEVER, NEVER, Status::Done, MIDDLE.1),
+        (&[], PLAIN.0, NEVER, NEVER, Status::Words, usage),
+        (&["walk"], PLAIN.0, 1, NEVER, Status::Words, usage),
+        (&["run", "run"], PLAIN.0, NEVER, NEVER, Status::Words, usage),
+        (
+            &["judge", "judge"],
+            PLAIN.1,
+            NEVER,
+            NEVER,
+            Status::Words,
+            usage,
+        ),
+        (
+            run,
+            "scsi 1\n",
+            NEVER,
+            NEVER,
+            Status::Refused,
+            "scenario line 2 reason 2\n",
+        ),
+        (run, NOTHING, NEVER, NEVER, Status::NotBuilt, "not built\n"),
+        (run, NOTHING, NEVER, 1, Status::NotBuilt, ""),
+        (run, PLAIN.0, 3, NEVER, Status::Read, "read fault\n"),
+        (run, PLAIN.0, NEVER, 1, Status::Write, ""),
+        (&["walk"], PLAIN.0, NEVER, 1, Status::Words, ""),
+        (judge, PLAIN.1, NEVER, NEVER, Status::Done, "lawful\n"),
+        (judge, BLANK.1, NEVER, NEVER, Status::Done, "lawful\n"),
+        (judge, LOW.1, NEVER, NEVER, Status::Done, "lawful\n"),
+        (judge, MIDDLE.1, NEVER, NEVER, Status::Done, "lawful\n"),
+        (
+            judge,
+            "trace 1\nend 5\n",
+            NEVER,
+            NEVER,
+            Status::Done,
+            "lawful\n",
+        ),
+        (
+            judge,
+            "trace 1\n1200 6 00240\n3000 7 00280\nend 3000\n",
+            NEVER,
+            NEVER,
+            Status::Done,
+            "lawful\n",
+        ),
+        (
+            judge,
+            "trace 1\n1200 6 00240\n3001 7 00280\nend 3001\n",
+            NEVER,
+            NEVER,
+            Status::Broken,
+            "broken 2 4\n",
+        ),
+        (
+            judge,
+            "trace 1\n1200 7 00280\n3500 7 00680\nend 3500\n",
+            NEVER,
+            NEVER,
+            Status::Broken,
+            "broken 2 5\n",
+        ),
+        (
+            judge,
+            "trace 1\n1200 7 00280\n1200 6 00240\n3600 7 00680\n4400 6 00000\nend 4400\n",
+            NEVER,
+            NEVER,
+            Status::Done,
+            "lawful\n",
+        ),
+        (
+            judge,
+            "trace 1\n1200 7 00280\n1200 6 00240\n3600 7 00680\n4401 6 00000\nend 4401\n",
+            NEVER,
+            NEVER,
+            Status::Broken,
+            "broken 4 7\n",
+        ),
+        (
+            judge,
+            "trace 1\n12 8 00000\nend 12\n",
+            NEVER,
+            NEVER,
+            Status::BadTrace,
+            "trace line 2\n",
+        ),
+        (judge, PLAIN.1, 3, NEVER, Status::Read, "read fault\n"),
+        (judge, PLAIN.1, NEVER, 1, Status::Write, ""),
+        (
+            judge,
+            "trace 1\n1200 7 00280\n3500 7 00680\nend 3500\n",
+            NEVER,
+            1,
+            Status::Broken,
+            "",
+        ),
+        (judge, "walk\n", NEVER, 1, Status::BadTrace, ""),
+    ];
+    for (words, input, bad_read, bad_write, status, text) in cases {
+        let mut out = MemSink::new(rt.alloc(), ROOM, ROOM, &[bad_write])?;
+        let mut input = MemSource::new(rt.alloc(), input.as_bytes(), 64, &[bad_read])?;
+        let ended = ended(rt.alloc(), words, &mut input, &mut out)?;
+        assert_eq!(rt; ended, status, "{words:?}");
+        assert_eq!(rt; out.bytes(), text.as_bytes(), "{words:?}");
+    }
+    Ok(())
+}
+
+#[test]
+fn has_exit_statuses(rt: HostRuntime) {
+    let codes = [
+        (Status::Done, 0),
+        (Status::Words, 1),
+        (Status::Refused, 2),
+        (Status::Read, 3),
+        (Status::Write, 4),
+        (Status::Memory, 5),
+        (Status::Broken, 6),
+        (Status::BadTrace, 7),
+        (Status::NotBuilt, 9),
+    ];
+    for (status, code) in codes {
+        assert_eq!(rt; status.code(), code);
+    }
+}

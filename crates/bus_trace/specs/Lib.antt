@@ -1,0 +1,11 @@
+pub mod LineSet
+pub mod Numbers
+pub mod View
+pub mod Trace
+pub mod Agreements
+pub mod OfTrace
+pub mod Changes
+pub mod Terms
+pub mod Calls
+pub mod Connections
+pub mod Phases

@@ -1,0 +1,112 @@
+//! Connections, and the bytes that cross in them (ANSI X3.131-1994, 6.1.3 to 6.1.5).
+ghost use Rattle.std.specs.Prelude.{◌≡◌, ◌<◌};
+ghost use Rattle.bus_trace.specs.Terms.{connected, connected_by, connected_of, connection_of, connection_after, receiver_in, receiver_of};
+ghost use Rattle.bus_trace.specs.Calls.{HasDevices, IsCalled};
+ghost use Rattle.bus_trace.specs.Connections.{HasEnds};
+
+use crate::changes::{Change, falls, rises};
+use crate::rows::Row;
+use crate::selection::{Call, Calling};
+use bus_base::{Dev, Ns};
+
+/// A connection that stands.
+#[derive(Clone, Copy, Debug)]
+pub struct Connection {
+    /// Its initiator.
+    pub initiator: Dev,
+    /// Its target.
+    pub target: Dev,
+    /// The time of the row in which it began, in ns.
+    pub began: Ns,
+    /// Whether a reselection began it.
+    pub reselected: bool,
+}
+
+fn connected(caller: Dev, calling: Calling, time: Ns) -> Connection
+    requires caller { caller < 8 }
+    requires called { calling.called < 8 }
+    ensures exact { result ≡ connected caller calling time }
+    ensures initiator { result.initiator < 8 }
+    ensures target { result.target < 8 }
+{
+    let (initiator, target) = if calling.reselects {
+        (calling.called, caller)
+    } else {
+        (caller, calling.called)
+    };
+    Connection {
+        initiator,
+        target,
+        began: time,
+        reselected: calling.reselects,
+    }
+}
+
+fn connection_of(call: Option<Call>, time: Ns) -> Option<Connection>
+    requires { HasDevices call }
+    ensures exact { result ≡ connection_of call time }
+    ensures ends { HasEnds result }
+{
+    let call = call?;
+    let calling = call.calling?;
+    calling.answered?;
+    Some(connected(call.caller, calling, time))
+}
+
+/// The connection after a row.
+pub fn connection_after(
+    old: Option<Connection>,
+    call: Option<Call>,
+    change: &Change,
+    row: &Row,
+) -> Option<Connection>
+    requires devices { HasDevices call }
+    requires ends { HasEnds old }
+    ensures exact { result ≡ connection_after old call change.now row.now }
+    ensures ends { HasEnds result }
+{
+    match old {
+        None => {
+            let ends_call = falls(change.before.sel(), change.after.sel());
+            if ends_call && change.after.bsy() && !change.after.rst() {
+                connection_of(call, row.time)
+            } else {
+                None
+            }
+        }
+        Some(connection) => {
+            if change.after.bsy() {
+                Some(connection)
+            } else {
+                None
+            }
+        }
+    }
+}
+
+fn receiver_in(connection: Connection, change: &Change) -> Option<Dev>
+    ensures { result ≡ receiver_in connection change.now }
+{
+    let (before, after) = (change.before, change.after);
+    if before.io() {
+        if rises(before.req(), after.req()) {
+            Some(connection.initiator)
+        } else {
+            None
+        }
+    } else if rises(before.ack(), after.ack()) {
+        Some(connection.target)
+    } else {
+        None
+    }
+}
+
+/// The device that receives the byte that crosses in a row, if one does.
+pub fn receiver_of(connection: Option<Connection>, change: &Change) -> Option<Dev>
+    ensures { result ≡ receiver_of connection change.now }
+{
+    match connection {
+        None => None,
+        Some(connection) => receiver_in(connection, change),
+    }
+}
