@@ -23,6 +23,8 @@ mod judges;
 #[cfg(test)]
 mod line_views;
 #[cfg(test)]
+mod links;
+#[cfg(test)]
 mod messages;
 #[cfg(test)]
 mod negotiations;

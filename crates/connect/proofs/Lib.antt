@@ -1,0 +1,4 @@
+mod FirstBytes
+pub mod StepsMade
+pub mod AfterRows
+pub mod Peers
