@@ -15,6 +15,8 @@ mod commands;
 #[cfg(test)]
 mod driven_rows;
 #[cfg(test)]
+mod hands;
+#[cfg(test)]
 mod host_pointers;
 #[cfg(test)]
 mod io_pieces;

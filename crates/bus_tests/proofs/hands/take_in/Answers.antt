@@ -1,0 +1,7 @@
+use Rattle.std.proofs.Common.{◌^◌, arith}
+use Rattle.bus_tests.proofs.hands.take_in.Goals as goal
+
+pub step-requires-clause-timely : goal.step-requires-clause-timely
+step-requires-clause-timely c =
+    let early = c.requires.early in
+    c.views_are_timely.ensures (2 ^ 63) (omega arith) early.rows c.args.view.now early.view early.before

@@ -1,0 +1,4 @@
+pub mod Apart
+pub mod Hands
+pub mod Made
+pub mod Tellings

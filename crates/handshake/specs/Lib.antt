@@ -1,0 +1,5 @@
+pub mod Bounds
+pub mod Crossings
+pub mod Steps
+pub mod Telling
+pub mod Early

@@ -1,0 +1,135 @@
+// The target in a phase.
+ghost use Rattle.std.specs.Prelude.{ℕ, ◌≡◌, ◌<◌, ◌≤◌, ◌^◌, List, Option, None, true, false};
+ghost use Rattle.std.specs.Option.{ForSome};
+ghost use Rattle.bus_trace.specs.declared.rows.Row.{Row};
+ghost use Rattle.bus_lines.specs.BusView.{IsBusViewOf};
+ghost use Rattle.bus_lines.specs.Timely.{IsTimely};
+ghost use Rattle.handshake.specs.Steps.{new_state, target_hand};
+
+use crate::end_state::{EndState, new_state};
+use crate::hand::Hand;
+use crate::steps::target_hand;
+use bus_base::Ns;
+use bus_lines::BusView;
+use bus_trace::Agreement;
+use std::marker::Model;
+
+/// The target in a phase in which it sends bytes (6.1.5): DATA IN, STATUS or MESSAGE IN.
+#[derive(Clone, Copy, Debug)]
+pub struct TargetSend {
+    state: EndState,
+}
+
+impl Model for TargetSend {
+    ghost use Rattle.handshake.specs.declared.end_state.EndState.{EndState};
+    ghost use Rattle.handshake.specs.Steps.{IsBounded};
+
+    ghost Value = { EndState };
+
+    ghost view = { λ a. a.state };
+
+    ghost invariant = { λ a. IsBounded a.state };
+
+    ghost inverse = { λ e. record { state = e } };
+
+    ghost inverse_ok = { λ a h i. record { state = a.state } };
+}
+
+impl TargetSend {
+    /// The target as a phase begins under this agreement, of offset 0 for a phase without pulses, with its latency and
+    /// the lag of the initiator, in ns.
+    pub fn new(agreed: Agreement, latency: Ns, lag: Ns) -> TargetSend
+        requires latency { latency ≤ 100 }
+        requires lag { lag ≤ 10000 }
+        ensures { result ≡ new_state agreed latency lag }
+    {
+        TargetSend {
+            state: new_state(agreed, latency, lag),
+        }
+    }
+
+    /// A step at the time `now`, in ns. `offered` is the byte after those that have crossed, `None` where none follows;
+    /// `flip` is the bit, 0 to 8, that a fault strikes of the byte that crossed in the last row.
+    pub fn step(
+        self,
+        view: &BusView,
+        now: Ns,
+        offered: Option<u8>,
+        flip: Option<u8>,
+    ) -> Hand<TargetSend>
+        requires timely { IsTimely (2 ^ 63) view.now }
+        requires now { now < 2 ^ 63 }
+        requires flip { ForSome flip (λ bit. bit ≤ 8) }
+        ensures { (rows : List Row) → IsBusViewOf rows view.now →
+            result ≡ target_hand true rows self now offered flip }
+    {
+        let hand = target_hand(true, view, &self.state, now, offered, flip);
+        Hand {
+            next: TargetSend { state: hand.next },
+            drives: hand.drives,
+            wake: hand.wake,
+            crossed: hand.crossed,
+            idle: hand.idle,
+        }
+    }
+}
+
+/// The target in a phase in which it takes bytes (6.1.5): MESSAGE OUT, COMMAND or DATA OUT.
+#[derive(Clone, Copy, Debug)]
+pub struct TargetTake {
+    state: EndState,
+}
+
+impl Model for TargetTake {
+    ghost use Rattle.handshake.specs.declared.end_state.EndState.{EndState};
+    ghost use Rattle.handshake.specs.Steps.{IsBounded};
+
+    ghost Value = { EndState };
+
+    ghost view = { λ a. a.state };
+
+    ghost invariant = { λ a. IsBounded a.state };
+
+    ghost inverse = { λ e. record { state = e } };
+
+    ghost inverse_ok = { λ a h i. record { state = a.state } };
+}
+
+impl TargetTake {
+    /// The target as a phase begins under this agreement, of offset 0 for a phase without pulses, with its latency and
+    /// the lag of the initiator, in ns.
+    pub fn new(agreed: Agreement, latency: Ns, lag: Ns) -> TargetTake
+        requires latency { latency ≤ 100 }
+        requires lag { lag ≤ 10000 }
+        ensures { result ≡ new_state agreed latency lag }
+    {
+        TargetTake {
+            state: new_state(agreed, latency, lag),
+        }
+    }
+
+    /// A step at the time `now`, in ns. `offered` is `Some`, with any value, where a further byte is wanted; `flip`
+    /// is the bit, 0 to 8, that a fault strikes of the byte that crossed in the last row.
+    pub fn step(
+        self,
+        view: &BusView,
+        now: Ns,
+        offered: Option<u8>,
+        flip: Option<u8>,
+    ) -> Hand<TargetTake>
+        requires timely { IsTimely (2 ^ 63) view.now }
+        requires now { now < 2 ^ 63 }
+        requires flip { ForSome flip (λ bit. bit ≤ 8) }
+        ensures { (rows : List Row) → IsBusViewOf rows view.now →
+            result ≡ target_hand false rows self now offered flip }
+    {
+        let hand = target_hand(false, view, &self.state, now, offered, flip);
+        Hand {
+            next: TargetTake { state: hand.next },
+            drives: hand.drives,
+            wake: hand.wake,
+            crossed: hand.crossed,
+            idle: hand.idle,
+        }
+    }
+}
