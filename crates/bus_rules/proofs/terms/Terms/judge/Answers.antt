@@ -15,8 +15,8 @@ returns-then-passes-clause-broken c = λ rows h.
     let own = c.drives-own.ensures.trace rows t.view in
     let next = c.driven_after-next.ensures ∙ ap (λ (x : LineSet). driven_after row.kind x) own in
     let change = change_is rows row _ _ _ _ (c.bus.ensures.trace rows t.view) (c.bus_with.ensures rows row t.view refl next) own c.driven_after-next.ensures in
-    let stands = stands_is rows _ _ t.view t.course c.self.invariant.0 c.self.invariant.1 in
-    let passed = passing rows row _ (record { before = c.bus.result; after = c.bus_with.result; own = c.drives-own.result; next = c.driven_after-next.result }) _ c.passes.ensures c.if-passes.true stands in
+    let stands = stands_is rows _ _ t.view t.course in
+    let passed = passing rows row _ (record { before = c.bus.result; after = c.bus_with.result; own = c.drives-own.result; next = c.driven_after-next.result }) _ (c.passes.ensures rows t.view) c.if-passes.true stands in
     sym (breaks_none rows row (subst (λ (x : Change). passes (standing_after rows) x row ≡ true) change passed))
 
 pub returns-then-passes-clause-kept : goal.returns-then-passes-clause-kept
@@ -26,5 +26,5 @@ returns-then-passes-clause-kept c = λ rows h.
     let own = c.drives-own.ensures.trace rows t.view in
     let next = c.driven_after-next.ensures ∙ ap (λ (x : LineSet). driven_after row.kind x) own in
     let change = change_is rows row _ _ _ _ (c.bus.ensures.trace rows t.view) (c.bus_with.ensures rows row t.view refl next) own c.driven_after-next.ensures in
-    let stands = stands_is rows _ _ t.view t.course c.self.invariant.0 c.self.invariant.1 in
-    c.transfer.ensures.kept rows h change (passing rows row _ (record { before = c.bus.result; after = c.bus_with.result; own = c.drives-own.result; next = c.driven_after-next.result }) _ c.passes.ensures c.if-passes.true stands)
+    let stands = stands_is rows _ _ t.view t.course in
+    c.transfer.ensures.kept rows h change (passing rows row _ (record { before = c.bus.result; after = c.bus_with.result; own = c.drives-own.result; next = c.driven_after-next.result }) _ (c.passes.ensures rows t.view) c.if-passes.true stands)
