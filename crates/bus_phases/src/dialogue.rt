@@ -147,11 +147,11 @@ impl Dialogue {
         self.fresh.clear();
     }
 
-    fn on(&mut self, connection: Option<Connection>, change: &Change) -> Reading
-        ensures exact { self.new ≡ dialogue_on self.old connection change.now }
-        ensures reading { result ≡ reading_of self.old.half connection change.now }
+    fn on(&mut self, connection: &Option<Connection>, change: &Change) -> Reading
+        ensures exact { self.new ≡ dialogue_on self.old connection.now change.now }
+        ensures reading { result ≡ reading_of self.old.half connection.now change.now }
     {
-        if receiver_of(&connection, change).is_some() {
+        if receiver_of(connection, change).is_some() {
             return self.byte_crosses(change);
         }
         if changes_phase(change) {
@@ -172,14 +172,14 @@ impl Dialogue {
     /// One row more, before and after which these connections stand.
     pub fn step(
         &mut self,
-        before: Option<Connection>,
+        before: &Option<Connection>,
         after: &Option<Connection>,
         agreed: &Agreements,
         change: &Change,
     ) -> Reading
         ensures exact { (f : ℕ → ℕ → Agreement) → AreAgreements f agreed.now
-            → self.new ≡ dialogue_after self.old before after.now f change.now }
-        ensures reading { result ≡ reading_of self.old.half before change.now }
+            → self.new ≡ dialogue_after self.old before.now after.now f change.now }
+        ensures reading { result ≡ reading_of self.old.half before.now change.now }
     {
         let reading = self.on(before, change);
         match after {

@@ -95,7 +95,7 @@ impl Course {
         let spoken = self.dialogue.heard.now;
         let reading = self
             .dialogue
-            .step(self.connection, &after, &self.agreed, change);
+            .step(&self.connection, &after, &self.agreed, change);
         agree(&mut self.agreed, self.connection, spoken, change.after);
         self.receiver = receiver_of(&self.connection, change);
         self.turned = turned_after(self.turned, self.connection, change);

@@ -254,7 +254,7 @@ fn initiator_next(
         result ≡ steps.initiator_next rows state.now offered (connection rows) }
 {
     let connection = view.connection()?;
-    let me = self_of(state, view, connection.initiator);
+    let me = self_of(state, view, connection.initiator.get());
     initiator_reaction(seen, view.handshakes(), state, offered, &me)
 }
 
@@ -266,7 +266,7 @@ fn target_next(view: &BusView, seen: &Sight, state: &EndState, offered: Option<u
         result ≡ steps.target_next rows state.now offered (connection rows) }
 {
     let connection = view.connection()?;
-    let me = self_of(state, view, connection.target);
+    let me = self_of(state, view, connection.target.get());
     target_reaction(seen, view.handshakes(), state, offered, &me)
 }
 
