@@ -277,6 +277,24 @@ fn owes_release(at: &Situation<'_>) -> bool
     at.view.bus.io() && at.me.own.data_bits() != 0
 }
 
+/// The same as [`initiator_due`].
+pub fn initiator_due_at(begun: bool, at: &Situation<'_>, answering: &Answering) -> Option<Due>
+    requires { answering.now.raised < 2 ^ 63 }
+    ensures { result ≡ initiator_due begun at.now.view at.now.handshakes at.now.me at.now.pace answering.now }
+{
+    if at.me.own.bsy() {
+        bsy_release(at)
+    } else if !begun {
+        None
+    } else if at.pace.pulsed {
+        initiator_pulse(at, answering)
+    } else if owes_release(at) {
+        byte_release(at, answering)
+    } else {
+        initiator_handshake(at, answering)
+    }
+}
+
 /// What the initiator of a connection does next (6.1.4, 6.1.5, 6.2.1): nothing where it waits. `begun` says that the
 /// first phase of the connection has begun.
 pub fn initiator_due(
@@ -300,15 +318,5 @@ pub fn initiator_due(
         me,
         pace,
     };
-    if me.own.bsy() {
-        bsy_release(&at)
-    } else if !begun {
-        None
-    } else if pace.pulsed {
-        initiator_pulse(&at, answering)
-    } else if owes_release(&at) {
-        byte_release(&at, answering)
-    } else {
-        initiator_handshake(&at, answering)
-    }
+    initiator_due_at(begun, &at, answering)
 }

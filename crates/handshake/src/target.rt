@@ -263,6 +263,20 @@ fn message_out_start(at: &Situation<'_>) -> Option<Due>
     )
 }
 
+/// The same as [`target_due`].
+pub fn target_due_at(begun: bool, at: &Situation<'_>, offering: &Offering) -> Option<Due>
+    requires { offering.now.wait < 2 ^ 62 }
+    ensures { result ≡ target_due begun at.now.view at.now.handshakes at.now.me at.now.pace offering.now }
+{
+    if !begun {
+        message_out_start(at)
+    } else if at.pace.pulsed {
+        target_pulse(at, offering)
+    } else {
+        target_handshake(at, offering)
+    }
+}
+
 /// What the target of a connection does next (6.1.3, 6.1.5, 6.1.10): nothing where it waits. `begun` says that the
 /// first phase of the connection has begun.
 pub fn target_due(
@@ -286,11 +300,5 @@ pub fn target_due(
         me,
         pace,
     };
-    if !begun {
-        message_out_start(&at)
-    } else if pace.pulsed {
-        target_pulse(&at, offering)
-    } else {
-        target_handshake(&at, offering)
-    }
+    target_due_at(begun, &at, offering)
 }
