@@ -43,11 +43,11 @@ all_eight f a target n e h i t hi ht =
     go false = refl
 
 -- a reset that comes, and one that does not
-and_true : (q : Bool) (x y : Agreement) → (if q then x else y) ≡ (if q && true then x else y)
+pub and_true : (q : Bool) (x y : Agreement) → (if q then x else y) ≡ (if q && true then x else y)
 and_true true x y = refl
 and_true false x y = refl
 
-and_false : (q : Bool) (x y : Agreement) → y ≡ (if q && false then x else y)
+pub and_false : (q : Bool) (x y : Agreement) → y ≡ (if q && false then x else y)
 and_false true x y = refl
 and_false false x y = refl
 

@@ -42,7 +42,7 @@ use Rattle.bus_rules.specs.Rules.{test, keeps, judged_rules, lowest_broken, brok
 use Rattle.bus_rules.specs.DataRows.{is_data_row, crosses_in, keeps_side, asks_soon, is_in_turn, has_turned, stand_since, is_shaken, is_pulsed_well, Standing, standing_after, standing_at, may_cross, transfers_well, is_move, passes, passes_of, passes_in, duty_in_data, course_after_transfer}
 use Rattle.bus_phases.specs.Dialogue.{takes_data}
 use Rattle.bus_phases.specs.Tables.{IsRaisesOf}
-use Rattle.bus_rules.specs.Judging.{IsCourseOf}
+use Rattle.bus_rules.specs.Judging.{Running, IsCourseOf, IsTermsOf}
 use Rattle.bus_rules.proofs.First.{none_broken}
 use Rattle.bus_phases.proofs.Agreeing.{agreeing}
 use Rattle.bus_rules.proofs.Courses.{goes_on}
@@ -677,5 +677,10 @@ stands_is rows v k w h =
     }
 
 -- the test, by what it was asked
-pub passing : (rows : List Row) (row : Row) (t : Standing) (c : Change) (b : Bool) → b ≡ passes t c row → b ≡ true → t ≡ standing_after rows → passes (standing_after rows) c row ≡ true
-passing rows row t c b eb e et = sym (λ i. passes (et i) c row) ∙ (sym eb ∙ e)
+pub passing : (rows : List Row) (row : Row) (t : Running) → IsTermsOf rows t → (before after own next : LineSet) (passed : Bool)
+    → record { before = before; after = after; own = own; next = next } ≡ change_of rows row
+    → passed ≡ passes (standing_at (drives rows) t.view t.course) (record { before = before; after = after; own = own; next = next }) row
+    → passed ≡ true
+    → passes (standing_after rows) (change_of rows row) row ≡ true
+passing rows row t h before after own next passed ec ep e =
+    sym (λ i. passes (stands_is rows t.view t.course h.view h.course i) (ec i) row) ∙ (sym ep ∙ e)
