@@ -1,11 +1,11 @@
 //! What the rows tell all devices.
-ghost use Rattle.std.specs.Prelude.{ℕ, ◌≡◌, ◌<◌, ◌∷◌, [], List};
+ghost use Rattle.std.specs.Prelude.{◌≡◌, ◌<◌, ◌∷◌, [], List};
 ghost use Rattle.msg_grammar.specs.declared.message.Got.{Got};
 ghost use Rattle.bus_trace.specs.declared.Row.{Row};
 ghost use Rattle.bus_lines.specs.BusView.{IsBusViewOf};
 ghost use Rattle.bus_phases.specs.Dialogue.{fresh_bytes, dialogue};
 ghost use Rattle.bus_story.specs.BusState.{whole_out, whole_in, message_out, message_in};
-ghost use Rattle.bus_dialogue.specs.Hearing.{begun_after, begun, hearing_by, no_hearing, last_hearing};
+ghost use Rattle.bus_dialogue.specs.Hearing.{begun_after, begun, hearing_by, last_hearing};
 ghost use Rattle.bus_dialogue.specs.Observer.{IsObserverOf};
 
 use crate::exchange::Hearing;

@@ -1,6 +1,6 @@
 //! Rules 14 to 16 and 27: who drives what in a connection, and its end (ANSI X3.131-1994, 6.1.5 to 6.1.9).
 ghost use Rattle.std.specs.Prelude.{◌≡◌};
-ghost use Rattle.bus_rules.specs.Connected.{or_new, connection_ends, has_no_target_line, has_no_initiator_line, keeps_sides, changes_well, asks_well, keeps_lines, raises_data, raises_in_turn, initiator_released, keeps_data_direction, keeps_data_direction_of, io_true_since, waits_for_turn, target_released, keeps_direction_delay, frees_well, keeps_freeing};
+ghost use Rattle.bus_rules.specs.Connected.{connection_ends, has_no_target_line, has_no_initiator_line, keeps_sides, changes_well, asks_well, keeps_lines, raises_data, raises_in_turn, initiator_released, keeps_data_direction, io_true_since, waits_for_turn, target_released, keeps_direction_delay, keeps_freeing};
 
 use crate::seen::Seen;
 use bus_base::{Dev, Ns};

@@ -1,12 +1,11 @@
 //! The terms of the rules but for what a view of the bus keeps.
-ghost use Rattle.std.specs.Prelude.{ℕ, ◌≡◌, ◌<◌, ◌∷◌, [], List, if◌then◌else◌};
-ghost use Rattle.bus_trace.specs.LineSet.{LineSet};
+ghost use Rattle.std.specs.Prelude.{◌≡◌, ◌<◌, ◌∷◌, [], List};
 ghost use Rattle.bus_trace.specs.declared.Row.{Row};
 ghost use Rattle.bus_trace.specs.Trace.{since_line};
 ghost use Rattle.bus_trace.specs.Changes.{change_of};
 ghost use Rattle.bus_trace.specs.Terms.{free_since, call, connection};
 ghost use Rattle.bus_phases.specs.Phases.{is_attention_held};
-ghost use Rattle.bus_phases.specs.Dialogue.{asynchronous, closed_agreement_by, dialogue};
+ghost use Rattle.bus_phases.specs.Dialogue.{asynchronous, dialogue};
 ghost use Rattle.bus_phases.specs.Reading.{reading_of};
 ghost use Rattle.bus_rules.specs.DataRows.{course_after_transfer};
 

@@ -1,6 +1,6 @@
 //! Rules 7 to 13: selection and reselection (ANSI X3.131-1994, 6.1.3 and 6.1.4).
 ghost use Rattle.std.specs.Prelude.{◌≡◌, ◌<◌, Some};
-ghost use Rattle.bus_rules.specs.Selection.{is_past, has_no_answer, answers_to, is_left, others_release, keeps_losers_off, keeps_winner_of, keeps_winner, calls_exactly, calls_well, keeps_calling_of, keeps_calling, drives_answer, has_settled, answers_well, may_raise, keeps_answer_to, keeps_answer_of, keeps_answer, releases_sel, has_only_data_and_atn, ends_call_well, keeps_end_to, keeps_end_of, keeps_end, gives_up_well, keeps_time_out_to, keeps_time_out_of, keeps_time_out, hands_over_to, hands_over, takes_over, keeps_reselection};
+ghost use Rattle.bus_rules.specs.Selection.{is_past, has_no_answer, answers_to, is_left, others_release, keeps_losers_off, keeps_winner, calls_exactly, calls_well, keeps_calling, drives_answer, has_settled, answers_well, may_raise, keeps_answer_to, keeps_answer, releases_sel, has_only_data_and_atn, ends_call_well, keeps_end_to, keeps_end, gives_up_well, keeps_time_out_to, keeps_time_out, hands_over_to, hands_over, takes_over, keeps_reselection};
 
 use crate::seen::Seen;
 use bus_base::Ns;

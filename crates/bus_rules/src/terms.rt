@@ -1,13 +1,12 @@
 //! The terms of the rules, row by row.
 ghost use Rattle.std.specs.Prelude.{true, ◌≡◌, ◌<◌, ◌∷◌, [], List};
-ghost use Rattle.bus_trace.specs.LineSet.{LineSet, line_of};
 ghost use Rattle.bus_trace.specs.declared.Row.{Row};
 ghost use Rattle.bus_trace.specs.Trace.{IsViewOf, drives, since};
 ghost use Rattle.bus_rules.specs.Judging.{IsCourseOf};
 ghost use Rattle.bus_trace.specs.Changes.{change_of};
 ghost use Rattle.bus_rules.specs.Rules.{broken_rule};
 ghost use Rattle.bus_rules.specs.DataRows.{standing_after, passes};
-ghost use Rattle.bus_rules.specs.Seen.{seen, seen_with, other_drives, others_drive, others_in_call, id_since, id_since_calling, initiator_called, initiator_of, drives_bsy, initiator_data, target_data};
+ghost use Rattle.bus_rules.specs.Seen.{seen, seen_with, other_drives, others_drive, others_in_call, id_since, initiator_of, drives_bsy, initiator_data, target_data};
 
 use crate::course::Course;
 use crate::data_rows::passes;

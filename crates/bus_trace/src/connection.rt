@@ -1,6 +1,6 @@
 //! Connections, and the bytes that cross in them (ANSI X3.131-1994, 6.1.3 to 6.1.5).
 ghost use Rattle.std.specs.Prelude.{◌≡◌};
-ghost use Rattle.bus_trace.specs.Terms.{connected, connected_by, connected_of, connection_of, connection_after, receiver_in, receiver_of};
+ghost use Rattle.bus_trace.specs.Terms.{connected, connection_of, connection_after, receiver_in, receiver_of};
 
 use crate::changes::{Change, falls, rises};
 use crate::rows::Row;

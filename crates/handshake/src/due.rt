@@ -1,5 +1,5 @@
 // What an end of a connection does next, by the view of the bus.
-ghost use Rattle.std.specs.Prelude.{ℕ, ◌≡◌, ◌^◌, List};
+ghost use Rattle.std.specs.Prelude.{◌≡◌, ◌^◌, List};
 ghost use Rattle.bus_trace.specs.declared.rows.Row.{Row};
 ghost use Rattle.bus_trace.specs.Trace.{last_time};
 ghost use Rattle.bus_lines.specs.Handshakes.{handshakes};

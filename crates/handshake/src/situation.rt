@@ -1,7 +1,4 @@
 // What an end of a connection goes by.
-ghost use Rattle.std.specs.Prelude.{◌≡◌};
-ghost use Rattle.handshake.specs.Bounds.{IsSeen, IsTimed, IsReady, IsSteady};
-
 use bus_lines::Handshakes;
 use bus_reactions::{Myself, Pace, Sight};
 use std::marker::Model;

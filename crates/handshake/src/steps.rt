@@ -1,5 +1,5 @@
 // What a step makes of the reaction that is next.
-ghost use Rattle.std.specs.Prelude.{ℕ, ◌≡◌, ◌<◌, ◌≤◌, ◌^◌, List, Option};
+ghost use Rattle.std.specs.Prelude.{◌≡◌, ◌<◌, ◌≤◌, ◌^◌, List, Option};
 ghost use Rattle.std.specs.Option.{ForSome};
 ghost use Rattle.bus_trace.specs.declared.rows.Row.{Row};
 ghost use Rattle.bus_lines.specs.BusView.{IsBusViewOf};
