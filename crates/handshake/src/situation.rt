@@ -30,5 +30,6 @@ impl<'a> Model for Situation<'a> {
       pace = a.pace.now;
     } };
 
-    ghost invariant = { λ a. (IsSeen a.view.now × IsTimed a.handshakes.now) × (IsReady a.me.now × IsSteady a.pace.now) };
+    ghost invariant = { λ a. (IsSeen a.view.now × IsTimed a.handshakes.now)
+        × (IsReady a.me.now × IsSteady a.pace.now) };
 }
