@@ -7,12 +7,16 @@
 //! the contract of a function that does nothing.
 #![tactic(auto)]
 
+mod plain;
+
 ghost use Rattle.std.specs.Prelude.{◌≡◌, List, [], ◌∷◌, Some, None};
 ghost use Rattle.bus_base.specs.declared.Event.{Event};
 ghost use Rattle.scenario.specs.Value.{ScenarioValue};
 ghost use Rattle.disk_array.specs.Units.{Array, starting_array, settled_array};
 ghost use Rattle.disk_array.specs.Steps.{step};
 ghost use Rattle.disk_array.specs.ArrayHistory.{array_after};
+
+pub use plain::contents_are_plain_blocks;
 
 /// A history of one event more is played as the history, and then the step of that event; and where a step was not
 /// allowed no later one is.
