@@ -1,5 +1,5 @@
 -- Which waiting command may run, and which is chosen (6.6.17, 7.8.2).
-use Rattle.std.specs.Prelude.{ℕ, zero, suc, ◌+◌, Bool, true, false, not, ◌&&◌, ◌||◌, ◌==◌, List, [], ◌∷◌, Option, Some, None, Result, Ok, Err, nat_lt, if◌then◌else◌}
+use Rattle.std.specs.Prelude.{ℕ, zero, suc, ◌+◌, Bool, true, false, not, ◌&&◌, ◌||◌, ◌==◌, List, [], ◌∷◌, ◌++◌, Option, Some, None, Result, Ok, Err, nat_lt, if◌then◌else◌}
 use Rattle.std.specs.List.{list_any}
 use Rattle.bus_base.specs.declared.events.Pick.{Pick}
 use Rattle.bus_base.specs.declared.events.Pick.TheVariants as picks
@@ -102,16 +102,29 @@ abbrev pub has_ordered : List Entry → Bool
 has_ordered before = list_any (λ (q : Entry). is_ordered q.class) before
 
 -- Without a HEAD OF QUEUE entry: an ORDERED one may run if it is the first; another where no ORDERED one stands before
--- it and no earlier one of its initiator conflicts with it. These stand before it, the last first.
+-- it and no earlier one of its initiator conflicts with it. These stand before it.
 abbrev pub may_run_after : List Entry → Entry → Bool
 may_run_after before p =
     if is_ordered p.class then has_none_before before else not (has_ordered before) && not (is_held_back before p)
 
--- The places of the waiting entries that may run, in order of arrival.
+abbrev pub may_run_in_order : List Entry → List Entry → ℕ → Bool
+may_run_in_order before [] place = false
+may_run_in_order before (p ∷ waiting) zero = may_run_after before p
+may_run_in_order before (p ∷ waiting) (suc place) = may_run_in_order (before ++ p ∷ []) waiting place
+
+abbrev pub may_run_by : Option ℕ → List Entry → ℕ → Bool
+may_run_by (Some head) waiting place = head == place
+may_run_by None waiting place = may_run_in_order [] waiting place
+
+-- The waiting entry at this place may run.
+abbrev pub may_run : List Entry → ℕ → Bool
+may_run waiting place = may_run_by (last_head waiting 0 None) waiting place
+
+-- The places of the waiting entries that may run, in order of arrival; the first of these stands at this place.
 abbrev pub runnable_after : List Entry → ℕ → List Entry → List ℕ
 runnable_after before place [] = []
 runnable_after before place (p ∷ waiting) =
-    if may_run_after before p then place ∷ runnable_after (p ∷ before) (suc place) waiting else runnable_after (p ∷ before) (suc place) waiting
+    if may_run_after before p then place ∷ runnable_after (before ++ p ∷ []) (suc place) waiting else runnable_after (before ++ p ∷ []) (suc place) waiting
 
 abbrev pub runnable_by : Option ℕ → List Entry → List ℕ
 runnable_by (Some head) waiting = head ∷ []
@@ -119,10 +132,6 @@ runnable_by None waiting = runnable_after [] 0 waiting
 
 abbrev pub runnable_places : List Entry → List ℕ
 runnable_places waiting = runnable_by (last_head waiting 0 None) waiting
-
--- The waiting entry at this place may run.
-abbrev pub may_run : List Entry → ℕ → Bool
-may_run waiting place = list_any (λ (runnable : ℕ). runnable == place) (runnable_places waiting)
 
 -- ---- the choice: the first of these, or the last
 
