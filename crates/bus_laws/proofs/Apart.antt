@@ -1,0 +1,146 @@
+-- What a row of lines does to the wishes of the devices, where no connection stands before it or after it.
+use Rattle.std.proofs.Common.{ℕ, ◌≡◌, ◌<◌, ◌+◌, Bool, true, false, not, ◌&&◌, ◌∙◌, List, [], ◌∷◌, Option, Some, None, refl, sym, ap}
+use Rattle.std.specs.Prelude.{if◌then◌else◌, is_none, is_some, slice_set, ◌==◌}
+use Rattle.bus_base.specs.declared.Event.{Event}
+use Rattle.bus_base.specs.declared.Event.TheVariants as events
+use Rattle.bus_trace.specs.LineSet.{LineSet}
+use Rattle.bus_trace.specs.declared.Row.{Row}
+use Rattle.bus_trace.specs.Trace.{drives, bus}
+use Rattle.bus_trace.specs.declared.changes.Change.{Change}
+use Rattle.bus_trace.specs.declared.arbitration.Arbitration.{Arbitration}
+use Rattle.bus_trace.specs.declared.selection.Call.{Call}
+use Rattle.bus_trace.specs.declared.connection.Connection.{Connection}
+use Rattle.bus_trace.specs.Changes.{rises, falls, change_of}
+use Rattle.bus_trace.specs.Terms.{connection_after}
+use Rattle.scenario.specs.Value.{ScenarioValue}
+use Rattle.disk_array.specs.Units.{Array}
+use Rattle.bus_story.specs.BusState.{RowReading, change_by, row_reading}
+use Rattle.bus_story.specs.Links.{Link}
+use Rattle.bus_story.specs.Items.{Item, item_at}
+use Rattle.bus_story.specs.Story.{Story}
+use Rattle.bus_story.specs.HistoryEvents.{row_events_by, link_events}
+use Rattle.bus_story.specs.TraceHistory.{is_arbitration_entry, story_with_aim, story_after_calling, is_host, aim_of, story_on_free_bus, story_on_bus, story_by_change}
+use Rattle.bus_due.specs.RunState.{RunState, or_start}
+use Rattle.bus_due.specs.Wants.{want_time, ready_of, ready_among, ready_time, seek_of, item_want_time, callee, target_of, initiator_if}
+use Rattle.bus_due.specs.RunSteps.{run_state, run_state_with_events, leaving_of}
+use Rattle.bus_due.specs.Plain.{AreOfDevices}
+use Rattle.bus_due.proofs.Plains.{run_state_plain, bus_state_is, change_same}
+use Rattle.bus_laws.proofs.Rows.{lines_row, changed, Stands, change_is}
+
+-- What a row that shows nothing leaves of what is sent, of aims, of the link, of the array and of its times.
+pub record Leaves (k j : RunState) (b : Story) : Type 0 where
+  pub sent : j.story.sent ≡ b.sent
+  pub aims : j.story.aims ≡ b.aims
+  pub link : j.story.link ≡ b.link
+  pub array : j.array ≡ k.array
+  pub current : j.current_since ≡ k.current_since
+
+nothing_shown : (s : ScenarioValue) (b : Story) (d : RowReading) (row : Row) → d.change.after.rst ≡ false → b.link ≡ None → row_events_by s b d row ≡ []
+nothing_shown s b d row e f =
+    ap (λ (q : Bool). if q then (if rises d.change.own.rst d.change.next.rst then events.Reset row.dev ∷ [] else []) else link_events s b b.link d) e
+    ∙ ap (λ (x : Option Link). link_events s b x d) f
+
+on_free : (s : ScenarioValue) (b : Story) (d : RowReading) (row : Row) → d.change.after.rst ≡ false → b.bus_state.connection ≡ None → d.next ≡ None → story_by_change s b d row ≡ story_on_free_bus s b d row
+on_free s b d row e f g =
+    ap (λ (q : Bool). if q then record b { link = None } else story_on_bus s b b.bus_state.connection d.next d row) e
+    ∙ (λ i. story_on_bus s b (f i) (g i) d row)
+
+leaves_by : (s : ScenarioValue) (k : RunState) (row : Row) (d : RowReading) → d.change.after.rst ≡ false → k.story.bus_state.connection ≡ None → d.next ≡ None → k.story.link ≡ None → Leaves k (run_state_with_events s k row d (row_events_by s k.story d row)) (story_on_free_bus s k.story d row)
+leaves_by s k row d e f g h =
+    let n : row_events_by s k.story d row ≡ [] = nothing_shown s k.story d row e h in
+    let b : story_by_change s k.story d row ≡ story_on_free_bus s k.story d row = on_free s k.story d row e f g in
+    record {
+      sent = ap (λ (x : List Event). (run_state_with_events s k row d x).story.sent) n ∙ ap (λ (y : Story). y.sent) b;
+      aims = ap (λ (x : List Event). (run_state_with_events s k row d x).story.aims) n ∙ ap (λ (y : Story). y.aims) b;
+      link = ap (λ (x : List Event). (run_state_with_events s k row d x).story.link) n ∙ ap (λ (y : Story). y.link) b;
+      array = ap (λ (x : List Event). (run_state_with_events s k row d x).array) n;
+      current = ap (λ (x : List Event). (run_state_with_events s k row d x).current_since) n;
+    }
+
+-- ---- a row that enters, and one that does not and leaves SEL as it was
+
+pub record KeepsWishes (s : ScenarioValue) (p q : List Row) : Type 0 where
+  pub wants : (dev : ℕ) → want_time s (run_state s q) dev ≡ want_time s (run_state s p) dev
+  pub ready : (dev : ℕ) → ready_of s (run_state s q) dev ≡ ready_of s (run_state s p) dev
+  pub link : (run_state s q).story.link ≡ None
+
+change_plain : (s : ScenarioValue) (row : Row) (p : List Row) → AreOfDevices p → row.dev < 8 → (row_reading (run_state s p).story.bus_state row).change ≡ change_of p row
+change_plain s row p h lt =
+    let pl = run_state_plain s p h in
+    ap (λ (b : Story). change_by b.bus_state row) pl.story ∙ change_same row p _ (bus_state_is s p h) lt
+
+apart_leaves : (s : ScenarioValue) (p : List Row) (t d : ℕ) (l l' b b' o : LineSet) (a : Option Arbitration) (c : Option Call) → AreOfDevices p → d < 8 → Stands p b a c None → (run_state s p).story.link ≡ None → l ≡ l' → bus (lines_row t d l ∷ p) ≡ b' → drives p d ≡ o → b'.rst ≡ false → connection_after None c (changed b b' o l') (lines_row t d l) ≡ None
+    → Leaves (run_state s p) (run_state s (lines_row t d l ∷ p)) (story_on_free_bus s (run_state s p).story (row_reading (run_state s p).story.bus_state (lines_row t d l)) (lines_row t d l))
+apart_leaves s p t d l l' b b' o a c h lt st link el ea eo er en =
+    let k = run_state s p in
+    let row = lines_row t d l in
+    let pl = run_state_plain s p h in
+    let e = change_plain s row p h lt ∙ change_is p t d l l' b b' o el st.bus_is ea eo in
+    let con : k.story.bus_state.connection ≡ None = pl.connection ∙ st.connection_is in
+    let next : (row_reading k.story.bus_state row).next ≡ None = (λ i. connection_after (con i) ((pl.call ∙ st.call_is) i) (e i) row) ∙ en in
+    leaves_by s k row (row_reading k.story.bus_state row) (ap (λ (x : Change). x.after.rst) e ∙ er) con next link
+
+abbrev free_by : ScenarioValue → Story → Row → Bool → Bool → Option Call → Story
+free_by s b row entering falling call = if entering then story_with_aim s b row else if falling then story_after_calling s b call else b
+
+-- Wants go by what is sent, and by the array.
+wants_on : (s : ScenarioValue) (k j : RunState) → j.story.sent ≡ k.story.sent → j.array ≡ k.array → j.current_since ≡ k.current_since → (dev : ℕ) → want_time s j dev ≡ want_time s k dev
+wants_on s k j es ea ec dev =
+    λ i. if is_host s.hosts dev then item_want_time s (es i) dev else ready_time (ready_among (or_start s (ea i)) (ec i) (seek_of s.targets dev) dev)
+
+ready_on : (s : ScenarioValue) (k j : RunState) → j.array ≡ k.array → j.current_since ≡ k.current_since → (dev : ℕ) → ready_of s j dev ≡ ready_of s k dev
+ready_on s k j ea ec dev = λ i. ready_among (or_start s (ea i)) (ec i) (seek_of s.targets dev) dev
+
+pub entry_keeps : (s : ScenarioValue) (p : List Row) (t d : ℕ) (l l' b b' o : LineSet) (a : Option Arbitration) (c : Option Call) → AreOfDevices p → d < 8 → Stands p b a c None → (run_state s p).story.link ≡ None → l ≡ l' → bus (lines_row t d l ∷ p) ≡ b' → drives p d ≡ o → b'.rst ≡ false → connection_after None c (changed b b' o l') (lines_row t d l) ≡ None
+    → (rises o.bsy l'.bsy && not b.sel) ≡ true → KeepsWishes s p (lines_row t d l ∷ p)
+entry_keeps s p t d l l' b b' o a c h lt st link el ea eo er en ee =
+    let k = run_state s p in
+    let row = lines_row t d l in
+    let pl = run_state_plain s p h in
+    let z = apart_leaves s p t d l l' b b' o a c h lt st link el ea eo er en in
+    let e = change_plain s row p h lt ∙ change_is p t d l l' b b' o el st.bus_is ea eo in
+    let con : k.story.bus_state.connection ≡ None = pl.connection ∙ st.connection_is in
+    let dd = row_reading k.story.bus_state row in
+    let ent : is_arbitration_entry k.story dd ≡ true = (λ i. rises (e i).own.bsy (e i).next.bsy && not (e i).before.sel && is_none (con i)) ∙ and_yes (rises o.bsy l'.bsy) (not b.sel) ee in
+    let go : story_on_free_bus s k.story dd row ≡ story_with_aim s k.story row = ap (λ (q : Bool). free_by s k.story row q (falls dd.change.before.sel dd.change.after.sel) k.story.bus_state.call) ent in
+    record {
+      wants = wants_on s k (run_state s (row ∷ p)) (z.sent ∙ ap (λ (y : Story). y.sent) go) z.array z.current;
+      ready = ready_on s k (run_state s (row ∷ p)) z.array z.current;
+      link = z.link ∙ ap (λ (y : Story). y.link) go ∙ link;
+    }
+  where
+    and_yes : (x y : Bool) → (x && y) ≡ true → (x && y && true) ≡ true
+    and_yes true true q = refl
+    and_yes true false q = q
+    and_yes false y q = q
+
+pub record KeepsAll (s : ScenarioValue) (p q : List Row) : Type 0 where
+  pub wishes : KeepsWishes s p q
+  pub aims : (run_state s q).story.aims ≡ (run_state s p).story.aims
+
+pub still_keeps : (s : ScenarioValue) (p : List Row) (t d : ℕ) (l l' b b' o : LineSet) (a : Option Arbitration) (c : Option Call) → AreOfDevices p → d < 8 → Stands p b a c None → (run_state s p).story.link ≡ None → l ≡ l' → bus (lines_row t d l ∷ p) ≡ b' → drives p d ≡ o → b'.rst ≡ false → connection_after None c (changed b b' o l') (lines_row t d l) ≡ None
+    → (rises o.bsy l'.bsy && not b.sel) ≡ false → falls b.sel b'.sel ≡ false → KeepsAll s p (lines_row t d l ∷ p)
+still_keeps s p t d l l' b b' o a c h lt st link el ea eo er en ee ef =
+    let k = run_state s p in
+    let row = lines_row t d l in
+    let pl = run_state_plain s p h in
+    let z = apart_leaves s p t d l l' b b' o a c h lt st link el ea eo er en in
+    let e = change_plain s row p h lt ∙ change_is p t d l l' b b' o el st.bus_is ea eo in
+    let con : k.story.bus_state.connection ≡ None = pl.connection ∙ st.connection_is in
+    let dd = row_reading k.story.bus_state row in
+    let ent : is_arbitration_entry k.story dd ≡ false = (λ i. rises (e i).own.bsy (e i).next.bsy && not (e i).before.sel && is_none (con i)) ∙ and_no (rises o.bsy l'.bsy) (not b.sel) ee in
+    let fal : falls dd.change.before.sel dd.change.after.sel ≡ false = ap (λ (x : Change). falls x.before.sel x.after.sel) e ∙ ef in
+    let go : story_on_free_bus s k.story dd row ≡ k.story = λ i. free_by s k.story row (ent i) (fal i) k.story.bus_state.call in
+    record {
+      wishes = record {
+        wants = wants_on s k (run_state s (row ∷ p)) (z.sent ∙ ap (λ (y : Story). y.sent) go) z.array z.current;
+        ready = ready_on s k (run_state s (row ∷ p)) z.array z.current;
+        link = z.link ∙ ap (λ (y : Story). y.link) go ∙ link;
+      };
+      aims = z.aims ∙ ap (λ (y : Story). y.aims) go;
+    }
+  where
+    and_no : (x y : Bool) → (x && y) ≡ false → (x && y && true) ≡ false
+    and_no true true q = q
+    and_no true false q = refl
+    and_no false y q = refl

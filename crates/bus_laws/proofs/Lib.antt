@@ -1,0 +1,14 @@
+pub mod Tests
+pub mod Rows
+pub mod Held
+pub mod Seens
+pub mod Dues
+pub mod Apart
+pub mod TwoIds
+pub mod CallDues
+pub mod Obeys
+pub mod Joint
+pub mod FromFree
+pub mod FromArbitration
+pub mod FromWon
+pub mod FromCalling

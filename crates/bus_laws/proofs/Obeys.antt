@@ -1,0 +1,83 @@
+-- Rows that obey the rules.
+use Rattle.std.proofs.Common.{ℕ, ◌≡◌, ◌≢◌, ◌≤◌, ◌<◌, ◌+◌, ◌^◌, Bool, true, false, List, Option, Some, None, refl, ap, sym, ◌∙◌, arith}
+use Rattle.std.specs.Prelude.{◌==◌, nat_le, max, not, ◌&&◌, ◌||◌}
+use Rattle.std.proofs.lemmas.Bool.Decides.{nat_tests}
+use Rattle.bus_trace.specs.LineSet.{LineSet, none, has_id_above, same, line_of}
+use Rattle.bus_trace.specs.declared.Row.{Row}
+use Rattle.bus_trace.specs.Trace.{last_time, since, since_line}
+use Rattle.std.specs.Int.{bit_at}
+use Rattle.bus_trace.specs.declared.selection.Call.{Call}
+use Rattle.bus_trace.specs.declared.arbitration.Arbitration.{Arbitration}
+use Rattle.bus_trace.specs.Terms.{free_since, raised}
+use Rattle.bus_rules.specs.Rules.{lowest_broken, keeps, judged_rules}
+use Rattle.bus_rules.proofs.First.{none_broken}
+use Rattle.bus_trace.specs.Changes.{implies, raises_none}
+use Rattle.bus_rules.specs.Selection.{calls_exactly}
+use Rattle.bus_rules.specs.declared.seen.Seen.{Seen}
+use Rattle.bus_reactions.specs.FreeBus.{contender_lines}
+use Rattle.bus_laws.proofs.Rows.{lines_row, changed}
+use Rattle.bus_laws.proofs.Held.{entries, winner}
+use Rattle.bus_laws.proofs.Seens.{seen_apart}
+use Rattle.bus_laws.proofs.TwoIds.{called, IsCall}
+use Rattle.bus_laws.proofs.Tests.{eq_self, eq_other, or_true}
+use Rattle.bus_laws.proofs.CallDues.{new_call, calling_at, call_at, call_lines, asked_at, answer_lines}
+use Rattle.std.specs.Int.Bits.{or_zero_r, or_self}
+use Rattle.std.specs.Int.RustNames.{bit_or}
+
+pub entry_obeys : (p : List Row) (t d : ℕ) → last_time p ≤ t → free_since p + 1200 ≤ t → lowest_broken (seen_apart p d (changed none (contender_lines d) none (contender_lines d)) None None false) (lines_row t d (contender_lines d)) ≡ None
+entry_obeys p t d e f = grind (arith, nat_tests)
+
+pub late_entry_obeys : (p : List Row) (a : Arbitration) (t d x y : ℕ) → last_time p ≤ t → a.free + 1200 ≤ t → t ≤ a.first + 1800 → lowest_broken (seen_apart p d (changed (entries x) (entries y) none (contender_lines d)) (Some a) None false) (lines_row t d (contender_lines d)) ≡ None
+late_entry_obeys p a t d x y e f g = grind (arith, nat_tests)
+
+pub win_obeys : (p : List Row) (a : Arbitration) (t d x y : ℕ) → last_time p ≤ t → raised (λ z. z.bsy) p d + 2400 ≤ t → has_id_above (entries x) d ≡ false → lowest_broken (seen_apart p d (changed (entries x) (winner y) (contender_lines d) (record (contender_lines d) { sel = true })) (Some a) None false) (lines_row t d (record (contender_lines d) { sel = true })) ≡ None
+win_obeys p a t d x y e f g = grind (arith, nat_tests)
+
+-- ---- from the rise of SEL to both IDs
+
+pub loser_obeys : (p : List Row) (c t0 t e x y : ℕ) (o : Bool) → last_time p ≤ t → t ≤ t0 + 100 → (e == c) ≡ false → lowest_broken (seen_apart p e (changed (winner x) (winner y) (contender_lines e) none) None (Some (new_call c t0)) o) (lines_row t e none) ≡ None
+loser_obeys p c t0 t e x y o a b n = let z : bit_or (2 ^ e) 0 ≡ 2 ^ e = or_zero_r (2 ^ e) in grind (arith, nat_tests)
+
+abbrev pub won_lines : ℕ → LineSet
+won_lines c = record (contender_lines c) { sel = true }
+
+-- Where the tests that do not compute are many, they are proved one by one.
+abbrev pub call_seen : List Row → Bool → ℕ → ℕ → ℕ → Seen
+call_seen p m c k t0 = seen_apart p c (changed (won_lines c) (called m c k) (won_lines c) (called m c k)) None (Some (new_call c t0)) false
+
+call_news : (c k : ℕ) → (2 ^ c == 2 ^ c + 2 ^ k + 256) ≡ false
+call_news c k = grind (arith, nat_tests)
+
+le_true : (a b : ℕ) → a ≤ b → nat_le a b ≡ true
+le_true a b h = grind (arith, nat_tests)
+
+exactly : (m : Bool) (c k : ℕ) → IsCall m c k → calls_exactly c (called m c k) ≡ true
+exactly true c k h = λ i. ((h.two i && h.parity i) && true) && true
+exactly false c k h = λ i. ((h.two i && h.parity i) && true) && true
+
+call_said : (p : List Row) (m : Bool) (c k t0 t : ℕ) → keeps 25 (call_seen p m c k t0) (lines_row t c (called m c k)) ≡ true
+call_said p true c k t0 t = refl
+call_said p false c k t0 t = refl
+
+pub call_obeys : (p : List Row) (m : Bool) (c k t0 t : ℕ) → last_time p ≤ t → t0 + 1200 ≤ t → IsCall m c k → lowest_broken (call_seen p m c k t0) (lines_row t c (called m c k)) ≡ None
+call_obeys p m c k t0 t a b h =
+    let r : Row = lines_row t c (called m c k) in
+    let v : Seen = call_seen p m c k t0 in
+    let self = eq_self c in
+    let two : keeps 2 v r ≡ true = ap (λ (q : Bool). not (q && true && same true true && same false false && same false (not m) && same false false && same false false && same false false && same false m && same false false)) (call_news c k) in
+    let seven : keeps 7 v r ≡ true = ap (λ (q : Bool). implies (not q) (false || raises_none v.change) && (nat_le t (t0 + 800) || true)) self ∙ or_true (nat_le t (t0 + 800)) in
+    let eight : keeps 8 v r ≡ true = ap (λ (q : Bool). implies q (nat_le (t0 + 1200) t)) self ∙ le_true (t0 + 1200) t b in
+    let nine : keeps 9 v r ≡ true = ap (λ (q : Bool). implies q (calls_exactly c (called m c k))) self ∙ exactly m c k h in
+    none_broken (λ n. keeps n v r) judged_rules
+    (le_true (last_time p) t a, (two, (refl, (refl, (refl, (refl, (seven, (eight, (nine, (refl, (refl, (refl, (refl, (refl, (refl, (refl, (refl, (refl, (refl, (refl, (refl, (refl, (refl, (refl, (call_said p m c k t0 t, (refl, (refl, (refl, tt))))))))))))))))))))))))))))
+
+-- ---- a calling: the data bits are any
+
+pub asks_obeys : (p : List Row) (m : Bool) (c k x t0 t1 t : ℕ) → c ≢ k → last_time p ≤ t → t1 + 90 ≤ t → lowest_broken (seen_apart p c (changed (call_lines m true x) (call_lines m false x) (call_lines m true x) (call_lines m false x)) None (Some (call_at m c k t0 t1)) false) (lines_row t c (call_lines m false x)) ≡ None
+asks_obeys p true c k x t0 t1 t ne a b = let e = eq_self c in let o = eq_other c k ne in let u = or_self x in let v = eq_self x in grind (arith, nat_tests)
+asks_obeys p false c k x t0 t1 t ne a b = let e = eq_self c in let o = eq_other c k ne in let u = or_self x in let v = eq_self x in grind (arith, nat_tests)
+
+pub answer_obeys : (p : List Row) (m : Bool) (c k x t0 t1 t2 t : ℕ) → c ≢ k → last_time p ≤ t → t2 + 400 ≤ t → since_line (λ s. s.sel) p ≤ t2 → since (line_of k) p ≤ t2 → since_line (λ s. s.bsy) p ≤ t2 → (bit_at x k == 1) ≡ true
+    → lowest_broken (seen_apart p k (changed (call_lines m false x) (call_lines m true x) none answer_lines) None (Some (asked_at m c k t0 t1 t2)) false) (lines_row t k answer_lines) ≡ None
+answer_obeys p true c k x t0 t1 t2 t ne a b f g h i = let e = eq_self k in let o = eq_other k c (λ z. ne (sym z)) in grind (arith, nat_tests)
+answer_obeys p false c k x t0 t1 t2 t ne a b f g h i = let e = eq_self k in let o = eq_other k c (λ z. ne (sym z)) in grind (arith, nat_tests)

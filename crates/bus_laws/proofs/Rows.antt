@@ -1,0 +1,73 @@
+-- What one more row changes of what stands on the bus.
+use Rattle.std.proofs.Common.{ℕ, ◌≡◌, ◌≢◌, ◌<◌, ◌≤◌, Bool, true, false, List, [], ◌∷◌, ◌∙◌, refl, sym, ap, arith, Option, Some, None}
+use Rattle.std.specs.Prelude.{◌==◌, if◌then◌else◌, max}
+use Rattle.bus_trace.specs.LineSet.{LineSet, none}
+use Rattle.bus_trace.specs.declared.Row.{Row}
+use Rattle.bus_trace.specs.declared.Kind.TheVariants.{Drives, Fault}
+use Rattle.bus_trace.specs.Trace.{drives, bus, driven_after, since_line, newer_line}
+use Rattle.bus_trace.specs.declared.changes.Change.{Change}
+use Rattle.bus_trace.specs.declared.arbitration.Arbitration.{Arbitration}
+use Rattle.bus_trace.specs.declared.selection.Call.{Call}
+use Rattle.bus_trace.specs.declared.connection.Connection.{Connection}
+use Rattle.bus_trace.specs.Changes.{change_of}
+use Rattle.bus_trace.specs.Terms.{arbitration, arbitration_after, call, call_after, connection, connection_after, free_since, raised, raised_next}
+use Rattle.bus_due.specs.Own.{own_after}
+use Rattle.bus_lines.specs.declared.stage.Stage.{Stage}
+use Rattle.bus_lines.specs.Stage.{stage, stage_by}
+use Rattle.bus_due.specs.Own.{own_of}
+use Rattle.bus_laws.specs.Reactions.{own_time}
+use Rattle.bus_laws.proofs.Tests.{eq_self, eq_other}
+
+abbrev pub lines_row : ℕ → ℕ → LineSet → Row
+lines_row t d l = record { time = t; dev = d; kind = Drives l }
+
+abbrev pub changed : LineSet → LineSet → LineSet → LineSet → Change
+changed b a o n = record { before = b; after = a; own = o; next = n }
+
+pub drives_own : (p : List Row) (t d : ℕ) (l : LineSet) → drives (lines_row t d l ∷ p) d ≡ l
+drives_own p t d l = λ i. if eq_self d i then l else drives p d
+
+pub drives_other : (p : List Row) (t d : ℕ) (l : LineSet) (e : ℕ) → e ≢ d → drives (lines_row t d l ∷ p) e ≡ drives p e
+drives_other p t d l e ne = λ i. if eq_other d e (λ x. ne (sym x)) i then l else drives p e
+
+pub mine_own : (p : List Row) (t d : ℕ) (l : LineSet) → own_time (lines_row t d l ∷ p) d ≡ t
+mine_own p t d l = λ i. (if eq_self d i then own_after (own_of p d) (change_of p (lines_row t d l)) t else own_of p d).row
+
+pub mine_other : (p : List Row) (t d : ℕ) (l : LineSet) (e : ℕ) → e ≢ d → own_time (lines_row t d l ∷ p) e ≡ own_time p e
+mine_other p t d l e ne = λ i. (if eq_other d e (λ x. ne (sym x)) i then own_after (own_of p e) (change_of p (lines_row t d l)) t else own_of p e).row
+
+pub raised_other : (on : LineSet → Bool) (p : List Row) (t d : ℕ) (l : LineSet) (e : ℕ) → e ≢ d → raised on (lines_row t d l ∷ p) e ≡ raised on p e
+raised_other on p t d l e ne = λ i. if eq_other d e (λ x. ne (sym x)) i then raised_next (on (drives p e)) (on l) t (raised on p e) else raised on p e
+
+pub raised_own : (on : LineSet → Bool) (p : List Row) (t d : ℕ) (l : LineSet) → raised on (lines_row t d l ∷ p) d ≡ raised_next (on (drives p d)) (on l) t (raised on p d)
+raised_own on p t d l = λ i. if eq_self d i then raised_next (on (drives p d)) (on l) t (raised on p d) else raised on p d
+
+-- What stands on the bus after some rows.
+pub record Stands (p : List Row) (b : LineSet) (a : Option Arbitration) (c : Option Call) (n : Option Connection) : Type 0 where
+  pub bus_is : bus p ≡ b
+  pub arbitration_is : arbitration p ≡ a
+  pub call_is : call p ≡ c
+  pub connection_is : connection p ≡ n
+
+-- What a row of lines changes.
+pub change_is : (p : List Row) (t d : ℕ) (l l' b b' o : LineSet) → l ≡ l' → bus p ≡ b → bus (lines_row t d l ∷ p) ≡ b' → drives p d ≡ o → change_of p (lines_row t d l) ≡ changed b b' o l'
+change_is p t d l l' b b' o el eb ea eo = λ i. changed (eb i) (ea i) (eo i) (el i)
+
+pub stands_after : (p : List Row) (t d : ℕ) (l l' b b' o : LineSet) (a : Option Arbitration) (c : Option Call) (n : Option Connection) → Stands p b a c n → l ≡ l' → bus (lines_row t d l ∷ p) ≡ b' → drives p d ≡ o
+    → Stands (lines_row t d l ∷ p) b' (arbitration_after a (free_since p) (changed b b' o l') (lines_row t d l)) (call_after c (changed b b' o l') (lines_row t d l)) (connection_after n c (changed b b' o l') (lines_row t d l))
+stands_after p t d l l' b b' o a c n h el ea eo =
+    let e = change_is p t d l l' b b' o el h.bus_is ea eo in
+    record {
+      bus_is = ea;
+      arbitration_is = λ i. arbitration_after (h.arbitration_is i) (free_since p) (e i) (lines_row t d l);
+      call_is = λ i. call_after (h.call_is i) (e i) (lines_row t d l);
+      connection_is = λ i. connection_after (h.connection_is i) (h.call_is i) (e i) (lines_row t d l);
+    }
+
+-- The stage of the bus.
+pub stage_is : (p : List Row) (b : LineSet) (a : Option Arbitration) (c : Option Call) (n : Option Connection) → Stands p b a c n → stage p ≡ stage_by b.rst (since_line (λ x. x.rst) p) n c a (free_since p)
+stage_is p b a c n h = λ i. stage_by (h.bus_is i).rst (since_line (λ x. x.rst) p) (h.connection_is i) (h.call_is i) (h.arbitration_is i) (free_since p)
+
+-- Since when a line stands.
+pub since_is : (on : LineSet → Bool) (p : List Row) (row : Row) (b b' : LineSet) → bus p ≡ b → bus (row ∷ p) ≡ b' → since_line on (row ∷ p) ≡ newer_line (on b) (on b') (since_line on p) row.time
+since_is on p row b b' e f = λ i. newer_line (on (e i)) (on (f i)) (since_line on p) row.time
