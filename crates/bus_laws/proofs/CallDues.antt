@@ -42,17 +42,25 @@ call_at m c k t0 t = record { caller = c; at = t0; calling = Some (calling_at m 
 abbrev pub call_lines : Bool → Bool → ℕ → LineSet
 call_lines m b x = record none { data_bits = x; bsy = b; sel = true; atn = m; io = not m }
 
-abbrev pub asked_at : Bool → ℕ → ℕ → ℕ → ℕ → ℕ → Call
-asked_at m c k t0 t1 t2 = record { caller = c; at = t0; calling = Some (record (calling_at m k t1) { released = Some t2 }) }
+-- Once BSY is released: a fault has struck the called device, or not.
+abbrev pub asked_at : Bool → Bool → ℕ → ℕ → ℕ → ℕ → ℕ → Call
+asked_at v m c k t0 t1 t2 = record { caller = c; at = t0; calling = Some (record (calling_at m k t1) { released = Some t2; struck = v }) }
 
-abbrev pub answer_lines : LineSet
-answer_lines = record none { bsy = true }
+abbrev pub withdrawn_at : Bool → Bool → ℕ → ℕ → ℕ → ℕ → ℕ → ℕ → Call
+withdrawn_at v m c k t0 t1 t2 t3 = record { caller = c; at = t0; calling = Some (record (calling_at m k t1) { released = Some t2; withdrawn = Some t3; struck = v }) }
 
 abbrev pub answered_calling : Bool → ℕ → ℕ → ℕ → ℕ → Calling
 answered_calling m k t1 t2 t3 = record (calling_at m k t1) { released = Some t2; answered = Some t3 }
 
-abbrev pub answered_at : Bool → ℕ → ℕ → ℕ → ℕ → ℕ → ℕ → Call
-answered_at m c k t0 t1 t2 t3 = record { caller = c; at = t0; calling = Some (answered_calling m k t1 t2 t3) }
+abbrev pub answer_lines : LineSet
+answer_lines = record none { bsy = true }
+
+-- in a reselection, once the target drives BSY again
+abbrev pub resumed_calling : ℕ → ℕ → ℕ → ℕ → ℕ → Calling
+resumed_calling k t1 t2 t3 t4 = record (calling_at false k t1) { released = Some t2; answered = Some t3; resumed = Some t4 }
+
+abbrev pub call_with : ℕ → ℕ → Calling → Call
+call_with c t0 g = record { caller = c; at = t0; calling = Some g }
 
 -- What a device wants, and the fault that would strike it where it samples the IDs.
 abbrev pub want_at : ScenarioValue → List Row → ℕ → Want
@@ -137,38 +145,53 @@ before_due s p m c k t0 t e lat h lt there alone ne eg eo =
     go false = refl
 
 -- the caller waits, and withdraws in the end
-pub waits_due : (s : ScenarioValue) (p : List Row) (m : Bool) (c k t0 t1 t2 lat : ℕ) (own : LineSet) → AreOfDevices p → c < 8 → latency_of s c ≡ Some lat → connection p ≡ None → stage p ≡ InCalling (asked_at m c k t0 t1 t2) → drives p c ≡ own → unreset_due s p c ≡ due_at (t2 + 250000000 + lat) (record own { data_bits = 0 })
-waits_due s p m c k t0 t1 t2 lat own h lt there alone eg eo = as_caller s p c lat own (asked_at m c k t0 t1 t2) h lt there alone refl eg eo
+pub waits_due : (s : ScenarioValue) (p : List Row) (v m : Bool) (c k t0 t1 t2 lat : ℕ) (own : LineSet) → AreOfDevices p → c < 8 → latency_of s c ≡ Some lat → connection p ≡ None → stage p ≡ InCalling (asked_at v m c k t0 t1 t2) → drives p c ≡ own → unreset_due s p c ≡ due_at (t2 + 250000000 + lat) (record own { data_bits = 0 })
+waits_due s p v m c k t0 t1 t2 lat own h lt there alone eg eo = as_caller s p c lat own (asked_at v m c k t0 t1 t2) h lt there alone refl eg eo
 
 -- the called device answers, or a fault strikes the IDs
-pub answers_due : (s : ScenarioValue) (p : List Row) (m : Bool) (c k t0 t1 t2 lat : ℕ) → AreOfDevices p → k < 8 → latency_of s k ≡ Some lat → connection p ≡ None → c ≢ k → stage p ≡ InCalling (asked_at m c k t0 t1 t2) → drives p k ≡ none
+pub answers_due : (s : ScenarioValue) (p : List Row) (m : Bool) (c k t0 t1 t2 lat : ℕ) → AreOfDevices p → k < 8 → latency_of s k ≡ Some lat → connection p ≡ None → c ≢ k → stage p ≡ InCalling (asked_at false m c k t0 t1 t2) → drives p k ≡ none
     → unreset_due s p k ≡ fault_or ((line_times p).bsy + 400 + lat) (flip_at s p lat) (due_at ((line_times p).bsy + 400 + lat) answer_lines)
 answers_due s p m c k t0 t1 t2 lat h lt there alone ne eg eo =
-    as_other s p k lat none (asked_at m c k t0 t1 t2) h lt there alone ne eg eo
+    as_other s p k lat none (asked_at false m c k t0 t1 t2) h lt there alone ne eg eo
     ∙ ap (λ (q : Bool). if not q then None else answer (line_times p).bsy (device_with k lat none (own_time p k)) (flip_at s p lat)) (eq_self k)
 
-pub aside_due : (s : ScenarioValue) (p : List Row) (m : Bool) (c k t0 t1 t2 e lat : ℕ) → AreOfDevices p → e < 8 → latency_of s e ≡ Some lat → connection p ≡ None → c ≢ e → k ≢ e → stage p ≡ InCalling (asked_at m c k t0 t1 t2) → drives p e ≡ none → unreset_due s p e ≡ None
-aside_due s p m c k t0 t1 t2 e lat h lt there alone ne nk eg eo =
-    as_other s p e lat none (asked_at m c k t0 t1 t2) h lt there alone ne eg eo
-    ∙ ap (λ (q : Bool). if not q then None else answer (line_times p).bsy (device_with e lat none (own_time p e)) (flip_at s p lat)) (eq_other k e nk)
+-- one that a fault has struck does not answer
+pub struck_due : (s : ScenarioValue) (p : List Row) (m : Bool) (c k t0 t1 t2 lat : ℕ) → AreOfDevices p → k < 8 → latency_of s k ≡ Some lat → connection p ≡ None → c ≢ k → stage p ≡ InCalling (asked_at true m c k t0 t1 t2) → drives p k ≡ none → unreset_due s p k ≡ None
+struck_due s p m c k t0 t1 t2 lat h lt there alone ne eg eo =
+    as_other s p k lat none (asked_at true m c k t0 t1 t2) h lt there alone ne eg eo
+    ∙ ap (λ (q : Bool). let n : Option Due = None in if not q then n else n) (eq_self k)
+
+pub aside_due : (s : ScenarioValue) (p : List Row) (v m : Bool) (c k t0 t1 t2 e lat : ℕ) → AreOfDevices p → e < 8 → latency_of s e ≡ Some lat → connection p ≡ None → c ≢ e → k ≢ e → stage p ≡ InCalling (asked_at v m c k t0 t1 t2) → drives p e ≡ none → unreset_due s p e ≡ None
+aside_due s p v m c k t0 t1 t2 e lat h lt there alone ne nk eg eo =
+    as_other s p e lat none (asked_at v m c k t0 t1 t2) h lt there alone ne eg eo
+    ∙ ap (λ (q : Bool). if not q then None else if not v then answer (line_times p).bsy (device_with e lat none (own_time p e)) (flip_at s p lat) else None) (eq_other k e nk)
+
+-- the caller has withdrawn: it releases all in the end, and no other device does anything
+pub gives_up_due : (s : ScenarioValue) (p : List Row) (v m : Bool) (c k t0 t1 t2 t3 lat : ℕ) (own : LineSet) → AreOfDevices p → c < 8 → latency_of s c ≡ Some lat → connection p ≡ None → stage p ≡ InCalling (withdrawn_at v m c k t0 t1 t2 t3) → drives p c ≡ own → unreset_due s p c ≡ due_at (own_time p c + 200090 + lat) none
+gives_up_due s p v m c k t0 t1 t2 t3 lat own h lt there alone eg eo = as_caller s p c lat own (withdrawn_at v m c k t0 t1 t2 t3) h lt there alone refl eg eo
+
+pub after_withdrawal_due : (s : ScenarioValue) (p : List Row) (v m : Bool) (c k t0 t1 t2 t3 e lat : ℕ) → AreOfDevices p → e < 8 → latency_of s e ≡ Some lat → connection p ≡ None → c ≢ e → stage p ≡ InCalling (withdrawn_at v m c k t0 t1 t2 t3) → drives p e ≡ none → unreset_due s p e ≡ None
+after_withdrawal_due s p v m c k t0 t1 t2 t3 e lat h lt there alone ne eg eo =
+    as_other s p e lat none (withdrawn_at v m c k t0 t1 t2 t3) h lt there alone ne eg eo ∙ go (k == e)
+  where
+    go : (q : Bool) → (let n : Option Due = None in if not q then n else n) ≡ None
+    go true = refl
+    go false = refl
+
 
 -- once it has answered: the caller goes on, the other two wait
-pub goes_on_due : (s : ScenarioValue) (p : List Row) (m : Bool) (c k t0 t1 t2 t3 lat : ℕ) (own : LineSet) → AreOfDevices p → c < 8 → latency_of s c ≡ Some lat → connection p ≡ None → stage p ≡ InAnswer (answered_at m c k t0 t1 t2 t3) (answered_calling m k t1 t2 t3) t3 → drives p c ≡ own
-    → unreset_due s p c ≡ answered_due (device_with c lat own (own_time p c)) (want_at s p c) (answered_calling m k t1 t2 t3) t3
-goes_on_due s p m c k t0 t1 t2 t3 lat own h lt there alone eg eo =
-    due_in s p c lat own (InAnswer (answered_at m c k t0 t1 t2 t3) (answered_calling m k t1 t2 t3) t3) h lt there alone eg eo
-    ∙ ap (λ (q : Bool). if q then answered_due (device_with c lat own (own_time p c)) (want_at s p c) (answered_calling m k t1 t2 t3) t3 else if k == c then None else loser_release (line_times p).sel (device_with c lat own (own_time p c))) (eq_self c)
+pub goes_on_due : (s : ScenarioValue) (p : List Row) (g : Calling) (c t0 t3 lat : ℕ) (own : LineSet) → AreOfDevices p → c < 8 → latency_of s c ≡ Some lat → connection p ≡ None → stage p ≡ InAnswer (call_with c t0 g) g t3 → drives p c ≡ own
+    → unreset_due s p c ≡ answered_due (device_with c lat own (own_time p c)) (want_at s p c) g t3
+goes_on_due s p g c t0 t3 lat own h lt there alone eg eo =
+    due_in s p c lat own (InAnswer (call_with c t0 g) g t3) h lt there alone eg eo
+    ∙ ap (λ (q : Bool). if q then answered_due (device_with c lat own (own_time p c)) (want_at s p c) g t3 else if g.called == c then None else loser_release (line_times p).sel (device_with c lat own (own_time p c))) (eq_self c)
 
-pub waiting_due : (s : ScenarioValue) (p : List Row) (m : Bool) (c k t0 t1 t2 t3 lat : ℕ) (own : LineSet) → AreOfDevices p → k < 8 → latency_of s k ≡ Some lat → connection p ≡ None → c ≢ k → stage p ≡ InAnswer (answered_at m c k t0 t1 t2 t3) (answered_calling m k t1 t2 t3) t3 → drives p k ≡ own → unreset_due s p k ≡ None
-waiting_due s p m c k t0 t1 t2 t3 lat own h lt there alone ne eg eo =
-    due_in s p k lat own (InAnswer (answered_at m c k t0 t1 t2 t3) (answered_calling m k t1 t2 t3) t3) h lt there alone eg eo
-    ∙ (λ i. if eq_other c k ne i then answered_due (device_with k lat own (own_time p k)) (want_at s p k) (answered_calling m k t1 t2 t3) t3 else if eq_self k i then None else loser_release (line_times p).sel (device_with k lat own (own_time p k)))
+pub waiting_due : (s : ScenarioValue) (p : List Row) (g : Calling) (c t0 t3 lat : ℕ) (own : LineSet) → AreOfDevices p → g.called < 8 → latency_of s g.called ≡ Some lat → connection p ≡ None → c ≢ g.called → stage p ≡ InAnswer (call_with c t0 g) g t3 → drives p g.called ≡ own → unreset_due s p g.called ≡ None
+waiting_due s p g c t0 t3 lat own h lt there alone ne eg eo =
+    due_in s p g.called lat own (InAnswer (call_with c t0 g) g t3) h lt there alone eg eo
+    ∙ (λ i. if eq_other c g.called ne i then answered_due (device_with g.called lat own (own_time p g.called)) (want_at s p g.called) g t3 else if eq_self g.called i then None else loser_release (line_times p).sel (device_with g.called lat own (own_time p g.called)))
 
-pub apart_due : (s : ScenarioValue) (p : List Row) (m : Bool) (c k t0 t1 t2 t3 e lat : ℕ) → AreOfDevices p → e < 8 → latency_of s e ≡ Some lat → connection p ≡ None → c ≢ e → k ≢ e → stage p ≡ InAnswer (answered_at m c k t0 t1 t2 t3) (answered_calling m k t1 t2 t3) t3 → drives p e ≡ none → unreset_due s p e ≡ None
-apart_due s p m c k t0 t1 t2 t3 e lat h lt there alone ne nk eg eo =
-    due_in s p e lat none (InAnswer (answered_at m c k t0 t1 t2 t3) (answered_calling m k t1 t2 t3) t3) h lt there alone eg eo
-    ∙ (λ i. if eq_other c e ne i then answered_due (device_with e lat none (own_time p e)) (want_at s p e) (answered_calling m k t1 t2 t3) t3 else if eq_other k e nk i then None else loser_release (line_times p).sel (device_with e lat none (own_time p e)))
-
-pub resumes_at : (p : List Row) (m : Bool) (w : Want) (c k t1 t2 t3 lat since : ℕ) (own : LineSet) (x : Due) → answered_due (device_with c lat own since) w (answered_calling m k t1 t2 t3) t3 ≡ Some x → t3 ≤ x.time
-resumes_at p true w c k t1 t2 t3 lat since own x e = let v = (is_at (t3 + 90 + lat) (record none { atn = true }) x e).time_is in omega arith
-resumes_at p false w c k t1 t2 t3 lat since own x e = let v = (is_at (t3 + lat) (record own { bsy = true }) x e).time_is in omega arith
+pub apart_due : (s : ScenarioValue) (p : List Row) (g : Calling) (c t0 t3 e lat : ℕ) → AreOfDevices p → e < 8 → latency_of s e ≡ Some lat → connection p ≡ None → c ≢ e → g.called ≢ e → stage p ≡ InAnswer (call_with c t0 g) g t3 → drives p e ≡ none → unreset_due s p e ≡ None
+apart_due s p g c t0 t3 e lat h lt there alone ne nk eg eo =
+    due_in s p e lat none (InAnswer (call_with c t0 g) g t3) h lt there alone eg eo
+    ∙ (λ i. if eq_other c e ne i then answered_due (device_with e lat none (own_time p e)) (want_at s p e) g t3 else if eq_other g.called e nk i then None else loser_release (line_times p).sel (device_with e lat none (own_time p e)))

@@ -30,7 +30,7 @@ use Rattle.bus_laws.proofs.Seens.{obeys_apart}
 use Rattle.bus_laws.proofs.Obeys.{late_entry_obeys, win_obeys}
 use Rattle.bus_laws.proofs.Dues.{is_there, is_at, is_entry, is_entry_in, IsWin, win_due, idle_due, same_entry_in}
 use Rattle.bus_laws.proofs.CallDues.{new_call, loser_due, quiet_due, calls_due, is_calling}
-use Rattle.bus_laws.proofs.Apart.{entry_keeps, still_keeps}
+use Rattle.bus_laws.proofs.Apart.{entry_row_keeps, still_row_keeps}
 use Rattle.bus_laws.proofs.Joint.{Always, Contends, Lost, ArbitrationState, WonState, Goes, contest, won}
 use Rattle.bus_laws.proofs.FromFree.{row_is}
 
@@ -84,11 +84,11 @@ enters s p a t d always h o m after_free soon =
     let stands : Stands q (entries (bus q).data_bits) (Some a) None None = record { bus_is = goes.bus_is; arbitration_is = goes.arbitration_is; call_is = goes.call_is; connection_is = goes.connection_is } in
     let here : stage q ≡ InArbitration a = stage_is q _ _ _ _ stands in
     let was : stage p ≡ InArbitration a = stage_is p _ _ _ _ h.stands in
-    let books = entry_keeps s p t d l l (entries (bus p).data_bits) (entries (bus q).data_bits) none (Some a) None always.devices m.inside h.stands h.link refl after o refl refl refl in
+    let books = entry_row_keeps s p t d l l (entries (bus p).data_bits) (entries (bus q).data_bits) none (Some a) None always.devices m.inside h.stands h.link refl after o refl refl refl in
     record {
       order = order;
       obeys = obeys_apart p t d l (entries (bus p).data_bits) (entries (bus q).data_bits) none l (Some a) None false h.stands refl after o refl (late_entry_obeys p a t d (bus p).data_bits (bus q).data_bits order after_free soon);
-      ahead = λ e lt y r.
+      ahead = λ alone e lt y r.
           let w = is_there s q e y r in
           elim (each e lt) [
             | inl n ↦
@@ -125,13 +125,13 @@ wins s p a t d always h asks m turn highest =
     let goes = stands_after p t d l l (entries (bus p).data_bits) (winner (bus q).data_bits) (contender_lines d) (Some a) None None h.stands refl after asks.drive in
     let stands : Stands q (winner (bus q).data_bits) None (Some (new_call d t)) None = record { bus_is = goes.bus_is; arbitration_is = goes.arbitration_is; call_is = goes.call_is; connection_is = goes.connection_is } in
     let here : stage q ≡ InCalling (new_call d t) = stage_is q _ _ _ _ stands in
-    let books = still_keeps s p t d l l (entries (bus p).data_bits) (winner (bus q).data_bits) (contender_lines d) (Some a) None always.devices m.inside h.stands h.link refl after asks.drive refl refl refl refl in
+    let books = still_row_keeps s p t d l l (entries (bus p).data_bits) (winner (bus q).data_bits) (contender_lines d) (Some a) None always.devices m.inside h.stands h.link refl after asks.drive refl refl refl refl in
     let age : since_line (λ y. y.sel) q ≡ t = since_is (λ y. y.sel) p (lines_row t d l) (entries (bus p).data_bits) (winner (bus q).data_bits) h.stands.bus_is after in
     let no_above : has_id_above (entries (bus p).data_bits) d ≡ false = highest in
     record {
       order = order;
       obeys = obeys_apart p t d l (entries (bus p).data_bits) (winner (bus q).data_bits) (contender_lines d) l (Some a) None false h.stands refl after asks.drive refl (win_obeys p a t d (bus p).data_bits (bus q).data_bits order (let w = asks.raised_at in omega arith) no_above);
-      ahead = λ e lt y r.
+      ahead = λ alone e lt y r.
           let w = is_there s q e y r in
           elim (cases_eq e d) [
             | inl same ↦

@@ -27,7 +27,7 @@ use Rattle.bus_laws.proofs.Held.{entries}
 use Rattle.bus_laws.proofs.Seens.{obeys_apart}
 use Rattle.bus_laws.proofs.Obeys.{entry_obeys}
 use Rattle.bus_laws.proofs.Dues.{is_there, is_entry, is_entry_in, win_due, idle_due, free_due_is, same_entry}
-use Rattle.bus_laws.proofs.Apart.{entry_keeps}
+use Rattle.bus_laws.proofs.Apart.{entry_row_keeps}
 use Rattle.bus_laws.proofs.Joint.{Always, FreeState, Contends, ArbitrationState, Goes, contest}
 
 -- a row whose kind is run_state
@@ -50,7 +50,7 @@ enters s p t d a h m after_free =
     let stands : Stands q (entries (bus q).data_bits) (Some u) None None = record { bus_is = after ∙ ap entries (sym bits); arbitration_is = goes.arbitration_is; call_is = goes.call_is; connection_is = goes.connection_is } in
     let here : stage q ≡ InArbitration u = stage_is q _ _ _ _ goes in
     let was : stage p ≡ OnFreeBus (free_since p) = stage_is p _ _ _ _ h.stands in
-    let books = entry_keeps s p t d l l none l none None None a.devices m.inside h.stands h.link refl after (h.quiet d m.inside) refl refl refl in
+    let books = entry_row_keeps s p t d l l none l none None None a.devices m.inside h.stands h.link refl after (h.quiet d m.inside) refl refl refl in
     let devices : AreOfDevices q = (m.inside, a.devices) in
     let asks : Contends s q u d = record {
       drive = own;
@@ -62,7 +62,7 @@ enters s p t d a h m after_free =
     record {
       order = order;
       obeys = obeys_apart p t d l none l none l None None false h.stands refl after (h.quiet d m.inside) refl (entry_obeys p t d order after_free);
-      ahead = λ e lt y r.
+      ahead = λ alone e lt y r.
           let w = is_there s q e y r in
           elim (cases_eq e d) [
             | inl same ↦

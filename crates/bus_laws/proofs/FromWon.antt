@@ -35,7 +35,7 @@ use Rattle.bus_laws.proofs.Seens.{obeys_apart}
 use Rattle.bus_laws.proofs.Obeys.{won_lines, loser_obeys, call_obeys}
 use Rattle.bus_laws.proofs.Dues.{is_there, is_at}
 use Rattle.bus_laws.proofs.CallDues.{new_call, calling_at, call_at, loser_due, quiet_due, calls_due, is_calling, asks_due, before_due}
-use Rattle.bus_laws.proofs.Apart.{still_keeps}
+use Rattle.bus_laws.proofs.Apart.{still_row_keeps}
 use Rattle.bus_laws.proofs.Joint.{Fits, Always, Lost, WonState, CallingState, Goes, won, calls}
 use Rattle.bus_laws.proofs.FromFree.{row_is}
 use Rattle.bus_laws.proofs.FromArbitration.{lost_or}
@@ -65,13 +65,13 @@ loses s p c t0 t d always h ne_c o m soon =
     let calling : call q ≡ Some (new_call c t0) = goes.call_is ∙ ap (λ (y : Bool). Some (record (new_call c t0) { calling = if y && drives_two_ids c none then Some (new_calling c none t) else None })) (eq_other d c ne_c) in
     let stands : Stands q (winner (bus q).data_bits) None (Some (new_call c t0)) None = record { bus_is = goes.bus_is; arbitration_is = goes.arbitration_is; call_is = calling; connection_is = goes.connection_is } in
     let here : stage q ≡ InCalling (new_call c t0) = stage_is q _ _ _ _ stands in
-    let books = still_keeps s p t d none none (winner (bus p).data_bits) (winner (bus q).data_bits) (contender_lines d) None (Some (new_call c t0)) always.devices m.inside h.stands h.link refl after o refl refl refl refl in
+    let books = still_row_keeps s p t d none none (winner (bus p).data_bits) (winner (bus q).data_bits) (contender_lines d) None (Some (new_call c t0)) always.devices m.inside h.stands h.link refl after o refl refl refl refl in
     let age : since_line (λ y. y.sel) q ≡ t0 = since_is (λ y. y.sel) p (lines_row t d none) (winner (bus p).data_bits) (winner (bus q).data_bits) h.stands.bus_is after ∙ h.sel_age in
     let held : own_time q c ≡ t0 = mine_other p t d none c (λ z. ne_c (sym z)) ∙ h.caller_time in
     record {
       order = order;
       obeys = obeys_apart p t d none (winner (bus p).data_bits) (winner (bus q).data_bits) (contender_lines d) none None (Some (new_call c t0)) (others_in_call (drives p) (Some (new_call c t0))) h.stands refl after o refl (loser_obeys p c t0 t d (bus p).data_bits (bus q).data_bits (others_in_call (drives p) (Some (new_call c t0))) order soon (eq_other d c ne_c));
-      ahead = λ e lt y r.
+      ahead = λ alone e lt y r.
           let w = is_there s q e y r in
           elim (cases_eq e c) [
             | inl same ↦
@@ -141,11 +141,11 @@ makes_call s p m c k t0 t fits always h least wait lk ne_k =
     ∙ (λ i. Some (record (new_call c t0) { calling = if eq_self c i && ids.two i then Some (new_calling_is m c k t ids i) else None })) in
     let stands : Stands q l None (Some (call_at m c k t0 t)) None = record { bus_is = after; arbitration_is = goes.arbitration_is; call_is = calling; connection_is = goes.connection_is } in
     let here : stage q ≡ InCalling (call_at m c k t0 t) = stage_is q _ _ _ _ stands in
-    let books = still_keeps s p t c l l (won_lines c) l (won_lines c) None (Some (new_call c t0)) always.devices least.inside stood h.link refl after h.caller refl refl refl refl in
+    let books = still_row_keeps s p t c l l (won_lines c) l (won_lines c) None (Some (new_call c t0)) always.devices least.inside stood h.link refl after h.caller refl refl refl refl in
     record {
       order = order;
       obeys = obeys_apart p t c l (won_lines c) l (won_lines c) l None (Some (new_call c t0)) false stood refl after h.caller (quiet_others (drives p) c quiet) (call_obeys p m c k t0 t order wait ids);
-      ahead = λ e lt y r.
+      ahead = λ alone e lt y r.
           let w = is_there s q e y r in
           elim (cases_eq e c) [
             | inl same ↦

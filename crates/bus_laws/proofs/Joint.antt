@@ -12,9 +12,10 @@ use Rattle.bus_trace.proofs.Ages.{since_le, since_line_le}
 use Rattle.bus_trace.specs.declared.arbitration.Arbitration.{Arbitration}
 use Rattle.bus_trace.specs.declared.selection.Call.{Call}
 use Rattle.bus_trace.specs.declared.selection.Calling.{Calling}
+use Rattle.bus_trace.specs.declared.connection.Connection.{Connection}
 use Rattle.bus_trace.specs.Terms.{raised, arbitration, call, connection}
 use Rattle.bus_laws.proofs.TwoIds.{called}
-use Rattle.bus_laws.proofs.CallDues.{calling_at, call_at, call_lines, answer_lines, asked_at, answered_at}
+use Rattle.bus_laws.proofs.CallDues.{calling_at, call_at, call_lines, answer_lines, asked_at, withdrawn_at, answered_calling, resumed_calling}
 use Rattle.bus_rules.specs.Lawful.{AreLawful, KeepsAll}
 use Rattle.bus_rules.specs.Rules.{broken_rule}
 use Rattle.bus_rules.proofs.First.{row_none}
@@ -28,7 +29,7 @@ use Rattle.bus_due.specs.Least.{IsLeast}
 use Rattle.bus_due.specs.Plain.{AreOfDevices}
 use Rattle.bus_laws.specs.Reactions.{own_time}
 use Rattle.bus_laws.specs.Reactions.{unreset_due}
-use Rattle.bus_laws.proofs.Rows.{lines_row, Stands, mine_own, mine_other}
+use Rattle.bus_laws.proofs.Rows.{lines_row, Stands, mine_own, mine_other, own_time_fault}
 use Rattle.bus_laws.proofs.Held.{entries, winner}
 
 -- of the scenario
@@ -97,42 +98,53 @@ pub record CallingState (s : ScenarioValue) (p : List Row) (k : Call) (c d : ℕ
   pub rest : (e : ℕ) → e < 8 → e ≢ c → e ≢ d → drives p e ≡ none
   pub link : (run_state s p).story.link ≡ None
 
--- the caller has released BSY at t2, and waits for the answer
-pub record AskingState (s : ScenarioValue) (p : List Row) (m : Bool) (c k t0 t1 t2 x : ℕ) : Type 0 where
-  pub here : CallingState s p (asked_at m c k t0 t1 t2) c k (call_lines m false x) none (call_lines m false x)
+-- the caller has released BSY at t2, and waits for the answer; a fault has struck the called device, or not
+pub record AskingState (s : ScenarioValue) (p : List Row) (v m : Bool) (c k t0 t1 t2 x : ℕ) : Type 0 where
+  pub here : CallingState s p (asked_at v m c k t0 t1 t2) c k (call_lines m false x) none (call_lines m false x)
   pub bsy_age : since_line (λ z. z.bsy) p ≡ t2
   pub sel_age : since_line (λ z. z.sel) p ≤ t2
   pub id_age : since (line_of k) p ≤ t2
   pub shows : (bit_at x k == 1) ≡ true
+  pub some : (x == 0) ≡ false
+
+-- the called device drives BSY
+pub record AnsweredState (s : ScenarioValue) (p : List Row) (g : Calling) (c k t0 : ℕ) (m b : Bool) (x : ℕ) : Type 0 where
+  pub here : CallingState s p (record { caller = c; at = t0; calling = Some g }) c k (call_lines m b x) answer_lines (call_lines m true x)
+  pub some : (x == 0) ≡ false
 
 pub data Here (s : ScenarioValue) (p : List Row) : Type 0 where
   free : FreeState s p → Here s p
   contest : (a : Arbitration) → ArbitrationState s p a → Here s p
   won : (c t : ℕ) → WonState s p c t → Here s p
   calls : (m : Bool) (c k t0 t : ℕ) → own_time p c ≡ t → CallingState s p (call_at m c k t0 t) c k (called m c k) none (called m c k) → Here s p
-  asks : (m : Bool) (c k t0 t1 t2 x : ℕ) → AskingState s p m c k t0 t1 t2 x → Here s p
-  answered : (m : Bool) (c k t0 t1 t2 t3 x : ℕ) → CallingState s p (answered_at m c k t0 t1 t2 t3) c k (call_lines m false x) answer_lines (call_lines m true x) → Here s p
+  asks : (v m : Bool) (c k t0 t1 t2 x : ℕ) → AskingState s p v m c k t0 t1 t2 x → Here s p
+  withdrawn : (v m : Bool) (c k t0 t1 t2 t3 : ℕ) → own_time p c ≡ t3 → CallingState s p (withdrawn_at v m c k t0 t1 t2 t3) c k (call_lines m false 0) none (call_lines m false 0) → Here s p
+  answered : (m : Bool) (c k t0 t1 t2 t3 x : ℕ) → AnsweredState s p (answered_calling m k t1 t2 t3) c k t0 m false x → Here s p
+  resumed : (c k t0 t1 t2 t3 t4 x : ℕ) → own_time p c ≡ t4 → AnsweredState s p (resumed_calling k t1 t2 t3 t4) c k t0 false true x → Here s p
+  -- a connection stands
+  linked : (n : Connection) → connection p ≡ Some n → Here s p
 
--- a row keeps all of it and obeys the rules
+-- a row keeps all of it and obeys the rules; what is due once a connection stands is not said here
 pub record Goes (s : ScenarioValue) (p : List Row) (row : Row) : Type 0 where
   pub order : last_time p ≤ row.time
   pub obeys : broken_rule p row ≡ None
-  pub ahead : Ahead s (row ∷ p) row.time
+  pub ahead : connection (row ∷ p) ≡ None → Ahead s (row ∷ p) row.time
   pub here : Here s (row ∷ p)
 
-mine_le : (p : List Row) (t d : ℕ) (l : LineSet) (e : ℕ) → own_time p e ≤ t → own_time (lines_row t d l ∷ p) e ≤ t
-mine_le p t d l e h =
+own_time_le : (p : List Row) (t d : ℕ) (k : Kind) (e : ℕ) → own_time p e ≤ t → own_time (record { time = t; dev = d; kind = k } ∷ p) e ≤ t
+own_time_le p t d (Drives l) e h =
     elim (cases_eq e d) [
       | inl same ↦ let w = mine_own p t d l in subst (λ (x : ℕ). own_time (lines_row t d l ∷ p) x ≤ t) (sym same) (omega arith)
       | inr ne ↦ let w = mine_other p t d l e ne in omega arith
     ]
+own_time_le p t d (Fault bit) e h = let w = own_time_fault p t d bit e in omega arith
 
-pub always_next : (s : ScenarioValue) (p : List Row) (t d : ℕ) (l : LineSet) → d < 8 → Always s p → Goes s p (lines_row t d l) → Always s (lines_row t d l ∷ p)
-always_next s p t d l lt a g = record {
+pub always_next : (s : ScenarioValue) (p : List Row) (row : Row) → row.dev < 8 → Always s p → Goes s p row → connection (row ∷ p) ≡ None → Always s (row ∷ p)
+always_next s p row lt a g alone = record {
   devices = (lt, a.devices);
-  lawful = (a.lawful, (row_none p (lines_row t d l)).0 g.obeys);
-  ahead = g.ahead;
-  past = λ on. let w = a.past on in let o = g.order in since_line_le on (lines_row t d l) p (omega arith);
-  seen_past = λ see. let w = a.seen_past see in let o = g.order in since_le see (lines_row t d l) p (omega arith);
-  mine_past = λ e. let w = a.mine_past e in let o = g.order in mine_le p t d l e (omega arith);
+  lawful = (a.lawful, (row_none p row).0 g.obeys);
+  ahead = g.ahead alone;
+  past = λ on. let w = a.past on in let o = g.order in since_line_le on row p (omega arith);
+  seen_past = λ see. let w = a.seen_past see in let o = g.order in since_le see row p (omega arith);
+  mine_past = λ e. let w = a.mine_past e in let o = g.order in own_time_le p row.time row.dev row.kind e (omega arith);
 }

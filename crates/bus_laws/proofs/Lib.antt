@@ -11,4 +11,3 @@ pub mod Joint
 pub mod FromFree
 pub mod FromArbitration
 pub mod FromWon
-pub mod FromCalling

@@ -15,12 +15,12 @@ use Rattle.bus_trace.specs.Changes.{implies, raises_none}
 use Rattle.bus_rules.specs.Selection.{calls_exactly}
 use Rattle.bus_rules.specs.declared.seen.Seen.{Seen}
 use Rattle.bus_reactions.specs.FreeBus.{contender_lines}
-use Rattle.bus_laws.proofs.Rows.{lines_row, changed}
+use Rattle.bus_laws.proofs.Rows.{lines_row, fault_row, changed}
 use Rattle.bus_laws.proofs.Held.{entries, winner}
 use Rattle.bus_laws.proofs.Seens.{seen_apart}
 use Rattle.bus_laws.proofs.TwoIds.{called, IsCall}
 use Rattle.bus_laws.proofs.Tests.{eq_self, eq_other, or_true}
-use Rattle.bus_laws.proofs.CallDues.{new_call, calling_at, call_at, call_lines, asked_at, answer_lines}
+use Rattle.bus_laws.proofs.CallDues.{new_call, calling_at, call_at, call_lines, asked_at, withdrawn_at, answered_calling, resumed_calling, call_with, answer_lines}
 use Rattle.std.specs.Int.Bits.{or_zero_r, or_self}
 use Rattle.std.specs.Int.RustNames.{bit_or}
 
@@ -78,6 +78,46 @@ asks_obeys p true c k x t0 t1 t ne a b = let e = eq_self c in let o = eq_other c
 asks_obeys p false c k x t0 t1 t ne a b = let e = eq_self c in let o = eq_other c k ne in let u = or_self x in let v = eq_self x in grind (arith, nat_tests)
 
 pub answer_obeys : (p : List Row) (m : Bool) (c k x t0 t1 t2 t : ℕ) → c ≢ k → last_time p ≤ t → t2 + 400 ≤ t → since_line (λ s. s.sel) p ≤ t2 → since (line_of k) p ≤ t2 → since_line (λ s. s.bsy) p ≤ t2 → (bit_at x k == 1) ≡ true
-    → lowest_broken (seen_apart p k (changed (call_lines m false x) (call_lines m true x) none answer_lines) None (Some (asked_at m c k t0 t1 t2)) false) (lines_row t k answer_lines) ≡ None
+    → lowest_broken (seen_apart p k (changed (call_lines m false x) (call_lines m true x) none answer_lines) None (Some (asked_at false m c k t0 t1 t2)) false) (lines_row t k answer_lines) ≡ None
 answer_obeys p true c k x t0 t1 t2 t ne a b f g h i = let e = eq_self k in let o = eq_other k c (λ z. ne (sym z)) in grind (arith, nat_tests)
 answer_obeys p false c k x t0 t1 t2 t ne a b f g h i = let e = eq_self k in let o = eq_other k c (λ z. ne (sym z)) in grind (arith, nat_tests)
+
+-- ---- a fault strikes the IDs; the caller withdraws, and releases all
+
+pub struck_obeys : (p : List Row) (m : Bool) (c k x bit t0 t1 t2 t : ℕ) → c ≢ k → last_time p ≤ t → since_line (λ s. s.bsy) p + 400 ≤ t → (bit_at x k == 1) ≡ true
+    → lowest_broken (seen_apart p k (changed (call_lines m false x) (call_lines m false x) none none) None (Some (asked_at false m c k t0 t1 t2)) false) (fault_row t k bit) ≡ None
+struck_obeys p true c k x bit t0 t1 t2 t ne a b i = let e = eq_self k in let o = eq_other k c (λ z. ne (sym z)) in grind (arith, nat_tests)
+struck_obeys p false c k x bit t0 t1 t2 t ne a b i = let e = eq_self k in let o = eq_other k c (λ z. ne (sym z)) in grind (arith, nat_tests)
+
+pub withdrawal_obeys : (p : List Row) (v m : Bool) (c k x t0 t1 t2 t : ℕ) → c ≢ k → (x == 0) ≡ false → last_time p ≤ t → t2 + 250000000 ≤ t
+    → lowest_broken (seen_apart p c (changed (call_lines m false x) (call_lines m false 0) (call_lines m false x) (call_lines m false 0)) None (Some (asked_at v m c k t0 t1 t2)) false) (lines_row t c (call_lines m false 0)) ≡ None
+withdrawal_obeys p v true c k x t0 t1 t2 t ne z a b = let e = eq_self c in let n = eq_other c k ne in let u = or_zero_r x in let w = eq_self x in grind (arith, nat_tests)
+withdrawal_obeys p v false c k x t0 t1 t2 t ne z a b = let e = eq_self c in let n = eq_other c k ne in let u = or_zero_r x in let w = eq_self x in grind (arith, nat_tests)
+
+pub give_up_obeys : (p : List Row) (v m : Bool) (c k t0 t1 t2 t3 t : ℕ) → c ≢ k → last_time p ≤ t → t3 + 200090 ≤ t
+    → lowest_broken (seen_apart p c (changed (call_lines m false 0) none (call_lines m false 0) none) None (Some (withdrawn_at v m c k t0 t1 t2 t3)) false) (lines_row t c none) ≡ None
+give_up_obeys p v true c k t0 t1 t2 t3 t ne a b = let e = eq_self c in let n = eq_other c k ne in grind (arith, nat_tests)
+give_up_obeys p v false c k t0 t1 t2 t3 t ne a b = let e = eq_self c in let n = eq_other c k ne in grind (arith, nat_tests)
+
+-- ---- after the answer
+
+-- a selection ends: SEL and the IDs are released, ATN stays
+abbrev pub selected : LineSet
+selected = record none { bsy = true; atn = true }
+
+pub selection_end_obeys : (p : List Row) (c k x t0 t1 t2 t3 t : ℕ) (o : Bool) → c ≢ k → last_time p ≤ t → t3 + 90 ≤ t
+    → lowest_broken (seen_apart p c (changed (call_lines true true x) selected (call_lines true false x) (record none { atn = true })) None (Some (call_with c t0 (answered_calling true k t1 t2 t3))) o) (lines_row t c (record none { atn = true })) ≡ None
+selection_end_obeys p c k x t0 t1 t2 t3 t o ne a b = let e = eq_self c in let n = eq_other c k ne in grind (arith, nat_tests)
+
+-- in a reselection the target drives BSY on the answer
+pub takeover_obeys : (p : List Row) (c k x t0 t1 t2 t3 t : ℕ) (o : Bool) → c ≢ k → last_time p ≤ t
+    → lowest_broken (seen_apart p c (changed (call_lines false true x) (call_lines false true x) (call_lines false false x) (call_lines false true x)) None (Some (call_with c t0 (answered_calling false k t1 t2 t3))) o) (lines_row t c (call_lines false true x)) ≡ None
+takeover_obeys p c k x t0 t1 t2 t3 t o ne a = let e = eq_self c in let n = eq_other c k ne in let u = or_self x in let w = eq_self x in grind (arith, nat_tests)
+
+-- and releases SEL with the first byte of IDENTIFY
+abbrev pub reselected_lines : ℕ → LineSet
+reselected_lines y = record none { data_bits = y; bsy = true; msg = true; cd = true; io = true }
+
+pub reselection_end_obeys : (p : List Row) (c k x y t0 t1 t2 t3 t4 t : ℕ) (o : Bool) → c ≢ k → last_time p ≤ t → t4 + 90 ≤ t
+    → lowest_broken (seen_apart p c (changed (call_lines false true x) (reselected_lines y) (call_lines false true x) (reselected_lines y)) None (Some (call_with c t0 (resumed_calling k t1 t2 t3 t4))) o) (lines_row t c (reselected_lines y)) ≡ None
+reselection_end_obeys p c k x y t0 t1 t2 t3 t4 t o ne a b = let e = eq_self c in let n = eq_other c k ne in grind (arith, nat_tests)

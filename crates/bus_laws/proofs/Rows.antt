@@ -4,6 +4,7 @@ use Rattle.std.specs.Prelude.{◌==◌, if◌then◌else◌, max}
 use Rattle.bus_trace.specs.LineSet.{LineSet, none}
 use Rattle.bus_trace.specs.declared.Row.{Row}
 use Rattle.bus_trace.specs.declared.Kind.TheVariants.{Drives, Fault}
+use Rattle.bus_trace.proofs.OneRow.{bus-fault}
 use Rattle.bus_trace.specs.Trace.{drives, bus, driven_after, since_line, newer_line}
 use Rattle.bus_trace.specs.declared.changes.Change.{Change}
 use Rattle.bus_trace.specs.declared.arbitration.Arbitration.{Arbitration}
@@ -20,6 +21,9 @@ use Rattle.bus_laws.proofs.Tests.{eq_self, eq_other}
 
 abbrev pub lines_row : ℕ → ℕ → LineSet → Row
 lines_row t d l = record { time = t; dev = d; kind = Drives l }
+
+abbrev pub fault_row : ℕ → ℕ → ℕ → Row
+fault_row t d bit = record { time = t; dev = d; kind = Fault bit }
 
 abbrev pub changed : LineSet → LineSet → LineSet → LineSet → Change
 changed b a o n = record { before = b; after = a; own = o; next = n }
@@ -52,6 +56,26 @@ pub record Stands (p : List Row) (b : LineSet) (a : Option Arbitration) (c : Opt
 -- What a row of lines changes.
 pub change_is : (p : List Row) (t d : ℕ) (l l' b b' o : LineSet) → l ≡ l' → bus p ≡ b → bus (lines_row t d l ∷ p) ≡ b' → drives p d ≡ o → change_of p (lines_row t d l) ≡ changed b b' o l'
 change_is p t d l l' b b' o el eb ea eo = λ i. changed (eb i) (ea i) (eo i) (el i)
+
+pub stands_by : (p : List Row) (row : Row) (k : Change) (b : LineSet) (a : Option Arbitration) (c : Option Call) (n : Option Connection) → Stands p b a c n → change_of p row ≡ k
+    → Stands (row ∷ p) k.after (arbitration_after a (free_since p) k row) (call_after c k row) (connection_after n c k row)
+stands_by p row k b a c n h e = record {
+  bus_is = ap (λ (x : Change). x.after) e;
+  arbitration_is = λ i. arbitration_after (h.arbitration_is i) (free_since p) (e i) row;
+  call_is = λ i. call_after (h.call_is i) (e i) row;
+  connection_is = λ i. connection_after (h.connection_is i) (h.call_is i) (e i) row;
+}
+
+-- A fault row changes no line.
+pub fault_change : (p : List Row) (t d bit : ℕ) (b o : LineSet) → bus p ≡ b → drives p d ≡ o → change_of p (fault_row t d bit) ≡ changed b b o o
+fault_change p t d bit b o eb eo = let a = bus-fault (fault_row t d bit) p bit refl ∙ eb in λ i. changed (eb i) (a i) (eo i) (eo i)
+
+pub own_time_fault : (p : List Row) (t d bit e : ℕ) → own_time (fault_row t d bit ∷ p) e ≡ own_time p e
+own_time_fault p t d bit e = go (d == e)
+  where
+    go : (q : Bool) → (if q then own_of p e else own_of p e).row ≡ (own_of p e).row
+    go true = refl
+    go false = refl
 
 pub stands_after : (p : List Row) (t d : ℕ) (l l' b b' o : LineSet) (a : Option Arbitration) (c : Option Call) (n : Option Connection) → Stands p b a c n → l ≡ l' → bus (lines_row t d l ∷ p) ≡ b' → drives p d ≡ o
     → Stands (lines_row t d l ∷ p) b' (arbitration_after a (free_since p) (changed b b' o l') (lines_row t d l)) (call_after c (changed b b' o l') (lines_row t d l)) (connection_after n c (changed b b' o l') (lines_row t d l))

@@ -1,5 +1,5 @@
 -- What the rules see of a row of lines where no connection stands.
-use Rattle.std.proofs.Common.{ℕ, ◌≡◌, Bool, true, false, not, List, [], ◌∷◌, ◌∙◌, refl, Option, Some, None}
+use Rattle.std.proofs.Common.{ap, ℕ, ◌≡◌, Bool, true, false, not, List, [], ◌∷◌, ◌∙◌, refl, Option, Some, None}
 use Rattle.std.specs.Prelude.{is_some}
 use Rattle.bus_trace.specs.LineSet.{LineSet, data_of, line_of}
 use Rattle.bus_trace.specs.declared.Row.{Row}
@@ -55,10 +55,9 @@ seen_apart p dev c a k others = record {
   reading = readings.NoMessage;
 }
 
-pub seen_is : (p : List Row) (t d : ℕ) (l b b' o l' : LineSet) (a : Option Arbitration) (k : Option Call) (others : Bool) → Stands p b a k None → l ≡ l' → bus (lines_row t d l ∷ p) ≡ b' → drives p d ≡ o → others_in_call (drives p) k ≡ others → seen p (lines_row t d l) ≡ seen_apart p d (changed b b' o l') a k others
+pub seen_by : (p : List Row) (row : Row) (g : Change) (b : LineSet) (a : Option Arbitration) (k : Option Call) (others : Bool) → Stands p b a k None → change_of p row ≡ g → others_in_call (drives p) k ≡ others → seen p row ≡ seen_apart p row.dev g a k others
 unfolding seen_with
-seen_is p t d l b b' o l' a k others h el ea eo eq =
-    let c = change_is p t d l l' b b' o el h.bus_is ea eo in
+seen_by p row g b a k others h c eq =
     let q : others_in_call (drives p) (call p) ≡ others = (λ i. others_in_call (drives p) (h.call_is i)) ∙ eq in
     let di = dialogue_none p h.connection_is in
     λ i. record {
@@ -66,8 +65,8 @@ seen_is p t d l b b' o l' a k others h el ea eo eq =
       last = last_time p;
       times = line_times p;
       id_since = id_since p (h.call_is i);
-      bsy_raised = raised (λ s. s.bsy) p d;
-      rst_raised = raised (λ s. s.rst) p d;
+      bsy_raised = raised (λ s. s.bsy) p row.dev;
+      rst_raised = raised (λ s. s.rst) p row.dev;
       others_drive = q i;
       initiator_bsy = drives_bsy (drives p) (initiator_of (h.call_is i) (h.connection_is i));
       initiator_data = initiator_data (drives p) (h.connection_is i);
@@ -88,8 +87,11 @@ seen_is p t d l b b' o l' a k others h el ea eo eq =
       reading = reading_of (dialogue p).half (h.connection_is i) (c i);
     }
 
+pub obeys_by : (p : List Row) (row : Row) (g : Change) (b : LineSet) (a : Option Arbitration) (k : Option Call) (others : Bool) → Stands p b a k None → change_of p row ≡ g → others_in_call (drives p) k ≡ others → lowest_broken (seen_apart p row.dev g a k others) row ≡ None → broken_rule p row ≡ None
+obeys_by p row g b a k others h e eq z =
+    ap (λ (v : Seen). lowest_broken v row) (seen_by p row g b a k others h e eq) ∙ z
+
 pub obeys_apart : (p : List Row) (t d : ℕ) (l b b' o l' : LineSet) (a : Option Arbitration) (k : Option Call) (others : Bool) → Stands p b a k None → l ≡ l' → bus (lines_row t d l ∷ p) ≡ b' → drives p d ≡ o → others_in_call (drives p) k ≡ others → lowest_broken (seen_apart p d (changed b b' o l') a k others) (lines_row t d l') ≡ None
     → broken_rule p (lines_row t d l) ≡ None
 obeys_apart p t d l b b' o l' a k others h el ea eo eq z =
-    let e = seen_is p t d l b b' o l' a k others h el ea eo eq in
-    (λ i. lowest_broken (e i) (lines_row t d (el i))) ∙ z
+    obeys_by p (lines_row t d l) (changed b b' o l') b a k others h (change_is p t d l l' b b' o el h.bus_is ea eo) eq ((λ i. lowest_broken (seen_apart p d (changed b b' o l') a k others) (lines_row t d (el i))) ∙ z)
