@@ -11,3 +11,4 @@ pub mod Joint
 pub mod FromFree
 pub mod FromArbitration
 pub mod FromWon
+pub mod FromCalling

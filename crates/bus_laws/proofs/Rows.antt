@@ -5,7 +5,7 @@ use Rattle.bus_trace.specs.LineSet.{LineSet, none}
 use Rattle.bus_trace.specs.declared.Row.{Row}
 use Rattle.bus_trace.specs.declared.Kind.TheVariants.{Drives, Fault}
 use Rattle.bus_trace.proofs.OneRow.{bus-fault}
-use Rattle.bus_trace.specs.Trace.{drives, bus, driven_after, since_line, newer_line}
+use Rattle.bus_trace.specs.Trace.{drives, bus, driven_after, since, newer, since_line, newer_line}
 use Rattle.bus_trace.specs.declared.changes.Change.{Change}
 use Rattle.bus_trace.specs.declared.arbitration.Arbitration.{Arbitration}
 use Rattle.bus_trace.specs.declared.selection.Call.{Call}
@@ -95,3 +95,6 @@ stage_is p b a c n h = λ i. stage_by (h.bus_is i).rst (since_line (λ x. x.rst)
 -- Since when a line stands.
 pub since_is : (on : LineSet → Bool) (p : List Row) (row : Row) (b b' : LineSet) → bus p ≡ b → bus (row ∷ p) ≡ b' → since_line on (row ∷ p) ≡ newer_line (on b) (on b') (since_line on p) row.time
 since_is on p row b b' e f = λ i. newer_line (on (e i)) (on (f i)) (since_line on p) row.time
+
+pub since_same : (see : LineSet → ℕ) (p : List Row) (row : Row) (b : LineSet) → bus p ≡ b → bus (row ∷ p) ≡ b → since see (row ∷ p) ≡ since see p
+since_same see p row b e f = (λ i. newer see (e i) (f i) (since see p) row.time) ∙ ap (λ (q : Bool). if q then since see p else row.time) (eq_self (see b))
