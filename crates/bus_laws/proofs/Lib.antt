@@ -12,3 +12,4 @@ pub mod FromFree
 pub mod FromArbitration
 pub mod FromWon
 pub mod FromCalling
+pub mod FromAnswer
