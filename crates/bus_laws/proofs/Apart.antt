@@ -1,6 +1,6 @@
 -- What a row of lines does to the wishes of the devices, where no connection stands before it or after it.
-use Rattle.std.proofs.Common.{ℕ, ◌≡◌, ◌<◌, ◌+◌, Bool, true, false, not, ◌&&◌, ◌∙◌, List, [], ◌∷◌, Option, Some, None, refl, sym, ap}
-use Rattle.std.specs.Prelude.{if◌then◌else◌, is_none, is_some, nat_lt, slice_set, ◌==◌}
+use Rattle.std.proofs.Common.{ℕ, ◌≡◌, ◌<◌, Bool, true, false, not, ◌&&◌, ◌∙◌, List, [], ◌∷◌, Option, Some, None, refl, ap}
+use Rattle.std.specs.Prelude.{if◌then◌else◌, is_none, nat_lt}
 use Rattle.bus_base.specs.declared.Event.{Event}
 use Rattle.bus_base.specs.declared.Event.TheVariants as events
 use Rattle.bus_trace.specs.LineSet.{LineSet}
@@ -10,23 +10,22 @@ use Rattle.bus_trace.specs.declared.changes.Change.{Change}
 use Rattle.bus_trace.specs.declared.arbitration.Arbitration.{Arbitration}
 use Rattle.bus_trace.specs.declared.selection.Call.{Call}
 use Rattle.bus_trace.specs.declared.selection.Calling.{Calling}
-use Rattle.bus_trace.specs.declared.connection.Connection.{Connection}
 use Rattle.bus_trace.specs.Changes.{rises, falls, change_of}
 use Rattle.bus_trace.specs.Terms.{connection_after}
 use Rattle.scenario.specs.Value.{ScenarioValue}
-use Rattle.disk_array.specs.Units.{Array}
 use Rattle.bus_story.specs.BusState.{RowReading, change_by, row_reading}
 use Rattle.bus_story.specs.Links.{Link}
-use Rattle.bus_story.specs.Items.{Item, process, abort, item_at, count_item}
+use Rattle.bus_story.specs.Items.{Item, process, abort, count_item}
 use Rattle.bus_story.specs.Story.{Story}
 use Rattle.bus_story.specs.HistoryEvents.{row_events_by, link_events}
 use Rattle.bus_story.specs.TraceHistory.{is_arbitration_entry, story_with_aim, story_after_calling, story_after_calling_by, story_with_try, story_without_answer, is_counted, retries_of, is_host, aim_of, story_on_free_bus, story_on_bus, story_by_change}
 use Rattle.bus_due.specs.RunState.{RunState, or_start}
-use Rattle.bus_due.specs.Wants.{want_time, ready_of, ready_among, ready_time, seek_of, item_want_time, callee, target_of, initiator_if}
-use Rattle.bus_due.specs.RunSteps.{run_state, run_state_with_events, leaving_of}
+use Rattle.bus_due.specs.Wants.{want_time, ready_of, ready_among, ready_time, seek_of, item_want_time}
+use Rattle.bus_due.specs.RunSteps.{run_state, run_state_with_events}
 use Rattle.bus_due.specs.Plain.{AreOfDevices}
 use Rattle.bus_due.proofs.Plains.{run_state_plain, bus_state_is, change_same}
-use Rattle.bus_laws.proofs.Rows.{lines_row, changed, Stands, change_is}
+use Rattle.bus_laws.proofs.Rows.{change_is}
+use Rattle.bus_laws.specs.Rows.{Stands, changed, lines_row}
 
 -- What a row that shows nothing leaves of what is sent, of aims, of the link, of the array and of its times.
 pub record Leaves (k j : RunState) (b : Story) : Type 0 where

@@ -1,10 +1,10 @@
 -- What is due from the rise of SEL to its fall.
-use Rattle.std.proofs.Common.{ℕ, ◌≡◌, ◌≢◌, ◌≤◌, ◌<◌, ◌+◌, ◌^◌, Bool, true, false, not, ◌==◌, ◌∙◌, List, ◌∷◌, Option, Some, None, refl, sym, ap, arith}
+use Rattle.std.proofs.Common.{ℕ, ◌≡◌, ◌≢◌, ◌<◌, ◌+◌, Bool, true, false, not, ◌==◌, ◌∙◌, List, Option, Some, None, refl, sym, ap, arith}
 use Rattle.std.specs.Prelude.{if◌then◌else◌, ◌&&◌, nat_lt}
 use Rattle.std.proofs.lemmas.Bool.Decides.{nat_tests}
 use Rattle.bus_trace.specs.LineSet.{LineSet, none, same_set, ids_set}
 use Rattle.bus_trace.specs.declared.Row.{Row}
-use Rattle.bus_trace.specs.Trace.{drives, bus, since_line, line_times}
+use Rattle.bus_trace.specs.Trace.{drives, since_line, line_times}
 use Rattle.bus_trace.specs.Terms.{connection}
 use Rattle.bus_due.specs.Sights.{want_of, flip_of}
 use Rattle.bus_trace.specs.declared.selection.Call.{Call}
@@ -12,10 +12,9 @@ use Rattle.bus_trace.specs.declared.selection.Calling.{Calling}
 use Rattle.scenario.specs.Value.{ScenarioValue}
 use Rattle.bus_story.specs.Samples.{latency_of}
 use Rattle.bus_story.specs.TraceHistory.{aim_of, is_host}
-use Rattle.bus_due.specs.RunState.{RunState}
 use Rattle.bus_due.specs.Wants.{callee}
 use Rattle.bus_reactions.specs.declared.due.Due.{Due}
-use Rattle.bus_reactions.specs.Reactions.{due_at, due_where, fault_or}
+use Rattle.bus_reactions.specs.Reactions.{due_at, fault_or}
 use Rattle.bus_lines.specs.declared.stage.Stage.TheVariants.{InCalling, InAnswer}
 use Rattle.bus_lines.specs.Stage.{stage}
 use Rattle.bus_reactions.specs.FreeBus.{contender_lines}
@@ -23,44 +22,12 @@ use Rattle.bus_reactions.specs.Calling.{answer, answered_due, loser_release, cal
 use Rattle.bus_reactions.specs.declared.due.Want.{Want}
 use Rattle.bus_due.specs.RunSteps.{run_state}
 use Rattle.bus_due.specs.Plain.{AreOfDevices}
-use Rattle.bus_trace.specs.declared.Kind.TheVariants.{Drives, Fault}
-use Rattle.bus_laws.proofs.TwoIds.{called}
+use Rattle.bus_trace.specs.declared.Kind.TheVariants.{Drives}
 use Rattle.bus_laws.specs.Reactions.{own_time}
 use Rattle.bus_laws.specs.Reactions.{device_with, unreset_due}
 use Rattle.bus_laws.proofs.Tests.{eq_self, eq_other}
 use Rattle.bus_laws.proofs.Dues.{due_in, is_at, where_is}
-
-abbrev pub new_call : ℕ → ℕ → Call
-new_call c t = record { caller = c; at = t; calling = None }
-
-abbrev pub calling_at : Bool → ℕ → ℕ → Calling
-calling_at m k t = record { called = k; reselects = not m; at = t; released = None; withdrawn = None; resumed = None; answered = None; struck = false }
-
-abbrev pub call_at : Bool → ℕ → ℕ → ℕ → ℕ → Call
-call_at m c k t0 t = record { caller = c; at = t0; calling = Some (calling_at m k t) }
-
-abbrev pub call_lines : Bool → Bool → ℕ → LineSet
-call_lines m b x = record none { data_bits = x; bsy = b; sel = true; atn = m; io = not m }
-
--- Once BSY is released: a fault has struck the called device, or not.
-abbrev pub asked_at : Bool → Bool → ℕ → ℕ → ℕ → ℕ → ℕ → Call
-asked_at v m c k t0 t1 t2 = record { caller = c; at = t0; calling = Some (record (calling_at m k t1) { released = Some t2; struck = v }) }
-
-abbrev pub withdrawn_at : Bool → Bool → ℕ → ℕ → ℕ → ℕ → ℕ → ℕ → Call
-withdrawn_at v m c k t0 t1 t2 t3 = record { caller = c; at = t0; calling = Some (record (calling_at m k t1) { released = Some t2; withdrawn = Some t3; struck = v }) }
-
-abbrev pub answered_calling : Bool → ℕ → ℕ → ℕ → ℕ → Calling
-answered_calling m k t1 t2 t3 = record (calling_at m k t1) { released = Some t2; answered = Some t3 }
-
-abbrev pub answer_lines : LineSet
-answer_lines = record none { bsy = true }
-
--- in a reselection, once the target drives BSY again
-abbrev pub resumed_calling : ℕ → ℕ → ℕ → ℕ → ℕ → Calling
-resumed_calling k t1 t2 t3 t4 = record (calling_at false k t1) { released = Some t2; answered = Some t3; resumed = Some t4 }
-
-abbrev pub call_with : ℕ → ℕ → Calling → Call
-call_with c t0 g = record { caller = c; at = t0; calling = Some g }
+use Rattle.bus_laws.specs.Callings.{answer_lines, asked_at, call_at, call_with, called, new_call, withdrawn_at}
 
 -- What a device wants, and the fault that would strike it where it samples the IDs.
 abbrev pub want_at : ScenarioValue → List Row → ℕ → Want

@@ -1,6 +1,6 @@
 -- What is due, in each stage and by what a device drives.
-use Rattle.std.proofs.Common.{ℕ, ◌≡◌, ◌≢◌, ◌≤◌, ◌<◌, ◌+◌, Bool, true, false, not, ◌∙◌, List, ◌∷◌, Option, Some, None, refl, sym, ap, arith}
-use Rattle.std.specs.Prelude.{if◌then◌else◌, nat_le, max}
+use Rattle.std.proofs.Common.{ℕ, ◌≡◌, ◌≤◌, ◌<◌, ◌+◌, Bool, true, false, not, ◌∙◌, List, Option, Some, None, refl, sym, ap, arith}
+use Rattle.std.specs.Prelude.{nat_le, max}
 use Rattle.std.proofs.lemmas.Bool.Decides.{nat_tests}
 use Rattle.bus_trace.specs.LineSet.{LineSet, none, has_id_above}
 use Rattle.bus_trace.specs.declared.Row.{Row}
@@ -19,7 +19,7 @@ use Rattle.bus_lines.specs.declared.stage.Stage.TheVariants.{OnFreeBus, InArbitr
 use Rattle.bus_lines.specs.Stage.{stage}
 use Rattle.bus_due.specs.RunState.{bus_of}
 use Rattle.bus_due.specs.Wants.{want_time}
-use Rattle.bus_reactions.specs.FreeBus.{contender_lines, entry, later_entry, free_due, later_entry_if}
+use Rattle.bus_reactions.specs.FreeBus.{contender_lines, free_due, later_entry_if}
 use Rattle.bus_due.specs.RunSteps.{run_state}
 use Rattle.bus_due.specs.Due.{self_of, stage_due, link_due_of}
 use Rattle.bus_due.specs.Sights.{sight_of, want_of, flip_of}

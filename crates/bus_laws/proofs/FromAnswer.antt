@@ -1,30 +1,19 @@
 -- A row that ends a calling: after the answer, or without one.
-use Rattle.std.proofs.Common.{◌⊎◌, inl, inr, ℕ, ◌≡◌, ◌≢◌, ◌<◌, ◌≤◌, ◌+◌, ◌^◌, Bool, true, false, not, ◌||◌, ◌&&◌, ◌==◌, ◌∙◌, List, [], ◌∷◌, Option, Some, None, refl, sym, ap, subst, arith}
-use Rattle.std.specs.Prelude.{if◌then◌else◌, nat_le}
-use Rattle.std.specs.Int.{bit_at}
+use Rattle.std.proofs.Common.{inl, inr, ℕ, ◌≡◌, ◌≢◌, ◌<◌, ◌≤◌, ◌+◌, Bool, true, false, not, ◌&&◌, ◌==◌, ◌∙◌, List, ◌∷◌, Option, Some, None, refl, sym, ap, subst, arith}
+use Rattle.std.specs.Prelude.{if◌then◌else◌}
 use Rattle.std.specs.Int.Bits.{or_zero_r}
 use Rattle.std.proofs.lemmas.Bool.{cases_eq}
-use Rattle.std.proofs.lemmas.Bool.Decides.{nat_tests}
-use Rattle.bus_trace.specs.LineSet.{LineSet, none, union, line_of}
+use Rattle.bus_trace.specs.LineSet.{LineSet, none, union}
 use Rattle.bus_trace.specs.declared.Row.{Row}
-use Rattle.bus_trace.specs.declared.Kind.{Kind}
-use Rattle.bus_trace.specs.declared.Kind.TheVariants.{Drives, Fault}
-use Rattle.bus_trace.specs.Trace.{drives, bus, last_time, since, since_line, newer_line, line_times}
-use Rattle.bus_trace.proofs.Ages.{since_le, since_line_le}
+use Rattle.bus_trace.specs.declared.Kind.TheVariants.{Drives}
+use Rattle.bus_trace.specs.Trace.{drives, bus, since, since_line}
 use Rattle.bus_trace.proofs.Buses.{bus_one, bus_two}
-use Rattle.bus_trace.proofs.Ids.{has_id-ids_set}
 use Rattle.bus_trace.specs.declared.selection.Call.{Call}
 use Rattle.bus_trace.specs.declared.selection.Calling.{Calling}
-use Rattle.bus_trace.specs.declared.changes.Change.{Change}
-use Rattle.bus_trace.specs.Changes.{change_of}
-use Rattle.bus_trace.proofs.OneRow.{drives-fault}
 use Rattle.bus_trace.specs.Terms.{call, when}
-use Rattle.scenario.specs.declared.value.FaultDef.{FaultDef}
 use Rattle.scenario.specs.Value.{ScenarioValue}
 use Rattle.bus_story.specs.Samples.{latency_of}
 use Rattle.bus_reactions.specs.declared.due.Due.{Due}
-use Rattle.bus_reactions.specs.Reactions.{due_at, fault_or}
-use Rattle.bus_due.specs.Sights.{flip_of}
 use Rattle.bus_lines.specs.declared.stage.Stage.TheVariants.{InCalling, InAnswer}
 use Rattle.bus_lines.specs.Stage.{stage}
 
@@ -35,18 +24,15 @@ use Rattle.bus_laws.specs.Reactions.{own_time, device_with}
 use Rattle.bus_reactions.specs.Calling.{answered_due}
 use Rattle.bus_reactions.specs.declared.due.Want.{Want}
 use Rattle.bus_laws.specs.Reactions.{unreset_due}
-use Rattle.bus_laws.proofs.Tests.{eq_self, eq_other}
-use Rattle.bus_laws.proofs.TwoIds.{called, IsCall, is_call}
-use Rattle.bus_laws.proofs.Rows.{lines_row, fault_row, fault_change, changed, stands_by, since_same, Stands, stands_after, stage_is, since_is, drives_own, drives_other, mine_own, mine_other}
-use Rattle.bus_laws.proofs.Seens.{obeys_apart, obeys_by}
+use Rattle.bus_laws.proofs.Tests.{eq_self}
+use Rattle.bus_laws.proofs.Rows.{stands_after, stage_is, since_is, drives_own, drives_other, mine_own}
+use Rattle.bus_laws.proofs.Seens.{obeys_apart}
 use Rattle.bus_laws.proofs.Obeys.{give_up_obeys, selected, selection_end_obeys, takeover_obeys, reselected_lines, reselection_end_obeys}
 use Rattle.bus_laws.proofs.Dues.{is_there, is_at, none_some}
-use Rattle.bus_laws.proofs.CallDues.{call_with, withdrawn_at, resumed_calling, struck_due, gives_up_due, after_withdrawal_due, calling_at, call_at, call_lines, asked_at, answer_lines, answered_calling, asks_due, before_due, waits_due, answers_due, aside_due, goes_on_due, waiting_due, apart_due, want_at, flip_at}
+use Rattle.bus_laws.proofs.CallDues.{gives_up_due, after_withdrawal_due, goes_on_due, waiting_due, apart_due, want_at}
 use Rattle.bus_laws.proofs.Apart.{still_row_keeps, missed_row_keeps}
 use Rattle.bus_laws.proofs.FromWon.{quiet_others}
-use Rattle.bus_laws.proofs.Joint.{Fits, Always, CallingState, AnsweredState, FreeState, Goes, free, resumed, linked}
 use Rattle.bus_laws.proofs.FromCalling.{only_caller}
-use Rattle.bus_laws.proofs.FromFree.{row_is}
 use Rattle.bus_trace.specs.declared.connection.Connection.{Connection}
 use Rattle.bus_trace.specs.LineSet.{byte_set}
 use Rattle.bus_trace.specs.Changes.{rises}
@@ -55,6 +41,9 @@ use Rattle.bus_rules.specs.Seen.{others_in_call}
 use Rattle.bus_lines.specs.declared.stage.Stage.TheVariants.{OnFreeBus}
 use Rattle.bus_due.specs.Wants.{want_time}
 use Rattle.bus_laws.proofs.Dues.{is_entry, free_due_is}
+use Rattle.bus_laws.specs.Stages.{Always, AnsweredState, CallingState, Goes, free, linked, resumed}
+use Rattle.bus_laws.specs.Rows.{Stands, lines_row}
+use Rattle.bus_laws.specs.Callings.{answer_lines, answered_calling, call_lines, call_with, called, resumed_calling, withdrawn_at}
 
 none_link : (n : Connection) → (let a : Option Connection = Some n in a) ≡ None → ⊥
 none_link n e = absurd cc

@@ -1,19 +1,16 @@
 -- A row in an arbitration: a later entry, or the rise of SEL.
-use Rattle.std.proofs.Common.{◌⊎◌, inl, inr, ℕ, ◌≡◌, ◌≢◌, ◌<◌, ◌≤◌, ◌+◌, Bool, true, false, ◌||◌, ◌∙◌, List, [], ◌∷◌, Option, Some, None, refl, sym, ap, subst, arith}
+use Rattle.std.proofs.Common.{◌⊎◌, inl, inr, ℕ, ◌≡◌, ◌≢◌, ◌<◌, ◌≤◌, ◌+◌, true, false, ◌∙◌, List, ◌∷◌, Some, None, refl, sym, ap, subst, arith}
 use Rattle.std.proofs.lemmas.Bool.{cases_eq}
 use Rattle.bus_trace.specs.LineSet.{LineSet, none, has_id_above}
 use Rattle.bus_trace.specs.declared.Row.{Row}
-use Rattle.bus_trace.specs.declared.Kind.{Kind}
-use Rattle.bus_trace.specs.declared.Kind.TheVariants.{Drives, Fault}
-use Rattle.bus_trace.specs.Trace.{drives, bus, last_time, since_line, newer_line}
+use Rattle.bus_trace.specs.declared.Kind.TheVariants.{Drives}
+use Rattle.bus_trace.specs.Trace.{drives, bus, since_line}
 use Rattle.bus_trace.specs.declared.arbitration.Arbitration.{Arbitration}
-use Rattle.bus_trace.specs.Terms.{free_since, raised, raised_next}
+use Rattle.bus_trace.specs.Terms.{raised, raised_next}
 use Rattle.scenario.specs.Value.{ScenarioValue}
 use Rattle.bus_story.specs.TraceHistory.{aim_of}
 use Rattle.bus_story.specs.Samples.{latency_of}
 use Rattle.bus_reactions.specs.declared.due.Due.{Due}
-use Rattle.bus_reactions.specs.Reactions.{due_at}
-use Rattle.bus_lines.specs.declared.stage.Stage.{Stage}
 use Rattle.bus_lines.specs.declared.stage.Stage.TheVariants.{InArbitration, InCalling}
 use Rattle.bus_lines.specs.Stage.{stage}
 use Rattle.bus_reactions.specs.FreeBus.{contender_lines, later_entry_if}
@@ -24,15 +21,17 @@ use Rattle.bus_due.specs.Least.{IsLeast}
 use Rattle.bus_due.specs.Plain.{AreOfDevices}
 use Rattle.bus_laws.specs.Reactions.{own_time}
 use Rattle.bus_laws.specs.Reactions.{device_with, unreset_due}
-use Rattle.bus_laws.proofs.Rows.{lines_row, changed, Stands, stands_after, stage_is, since_is, drives_own, drives_other, mine_own, mine_other, raised_own, raised_other}
-use Rattle.bus_laws.proofs.Held.{entries, winner, AsksOrNot, entries_is, winner_is}
+use Rattle.bus_laws.proofs.Rows.{stands_after, stage_is, since_is, drives_own, drives_other, mine_own, mine_other, raised_own, raised_other}
+use Rattle.bus_laws.proofs.Held.{AsksOrNot, entries_is, winner_is}
 use Rattle.bus_laws.proofs.Seens.{obeys_apart}
 use Rattle.bus_laws.proofs.Obeys.{late_entry_obeys, win_obeys}
-use Rattle.bus_laws.proofs.Dues.{is_there, is_at, is_entry, is_entry_in, IsWin, win_due, idle_due, same_entry_in}
-use Rattle.bus_laws.proofs.CallDues.{new_call, loser_due, quiet_due, calls_due, is_calling}
+use Rattle.bus_laws.proofs.Dues.{is_there, is_at, is_entry, is_entry_in, win_due, idle_due, same_entry_in}
+use Rattle.bus_laws.proofs.CallDues.{loser_due, quiet_due, calls_due, is_calling}
 use Rattle.bus_laws.proofs.Apart.{entry_row_keeps, still_row_keeps}
-use Rattle.bus_laws.proofs.Joint.{Always, Contends, Lost, ArbitrationState, WonState, Goes, contest, won}
 use Rattle.bus_laws.proofs.FromFree.{row_is}
+use Rattle.bus_laws.specs.Stages.{Always, ArbitrationState, Contends, Goes, Lost, contest, won}
+use Rattle.bus_laws.specs.Rows.{Stands, lines_row}
+use Rattle.bus_laws.specs.Callings.{entries, new_call, winner}
 
 asks_or : (s : ScenarioValue) (p : List Row) (a : Arbitration) (e : ℕ) → (drives p e ≡ none) ⊎ Contends s p a e → AsksOrNot p e
 asks_or s p a e (inl n) = inl n

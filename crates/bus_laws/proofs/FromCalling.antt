@@ -1,15 +1,14 @@
 -- A row in a calling, until the answer.
-use Rattle.std.proofs.Common.{◌⊎◌, inl, inr, ℕ, ◌≡◌, ◌≢◌, ◌<◌, ◌≤◌, ◌+◌, ◌^◌, Bool, true, false, not, ◌||◌, ◌&&◌, ◌==◌, ◌∙◌, List, [], ◌∷◌, Option, Some, None, refl, sym, ap, subst, arith}
-use Rattle.std.specs.Prelude.{if◌then◌else◌, nat_le}
+use Rattle.std.proofs.Common.{◌⊎◌, inl, inr, ℕ, ◌≡◌, ◌≢◌, ◌<◌, ◌≤◌, ◌+◌, ◌^◌, Bool, true, false, not, ◌||◌, ◌&&◌, ◌==◌, ◌∙◌, List, ◌∷◌, Option, Some, None, refl, sym, ap, subst, arith}
+use Rattle.std.specs.Prelude.{if◌then◌else◌}
 use Rattle.std.specs.Int.{bit_at}
 use Rattle.std.specs.Int.Bits.{or_zero_r}
 use Rattle.std.proofs.lemmas.Bool.{cases_eq}
 use Rattle.std.proofs.lemmas.Bool.Decides.{nat_tests}
 use Rattle.bus_trace.specs.LineSet.{LineSet, none, union, line_of}
 use Rattle.bus_trace.specs.declared.Row.{Row}
-use Rattle.bus_trace.specs.declared.Kind.{Kind}
 use Rattle.bus_trace.specs.declared.Kind.TheVariants.{Drives, Fault}
-use Rattle.bus_trace.specs.Trace.{drives, bus, last_time, since, since_line, newer_line, line_times}
+use Rattle.bus_trace.specs.Trace.{drives, bus, since, since_line, line_times}
 use Rattle.bus_trace.proofs.Ages.{since_le, since_line_le}
 use Rattle.bus_trace.proofs.Buses.{bus_one, bus_two}
 use Rattle.bus_trace.proofs.Ids.{has_id-ids_set}
@@ -19,16 +18,13 @@ use Rattle.bus_trace.specs.declared.changes.Change.{Change}
 use Rattle.bus_trace.specs.Changes.{change_of}
 use Rattle.bus_trace.proofs.OneRow.{drives-fault}
 use Rattle.bus_trace.specs.Terms.{call, when}
-use Rattle.scenario.specs.declared.value.FaultDef.{FaultDef}
 use Rattle.scenario.specs.Value.{ScenarioValue}
 use Rattle.bus_story.specs.Samples.{latency_of}
 use Rattle.bus_reactions.specs.declared.due.Due.{Due}
 use Rattle.bus_reactions.specs.Reactions.{due_at, fault_or}
-use Rattle.bus_due.specs.Sights.{flip_of}
 use Rattle.bus_lines.specs.declared.stage.Stage.TheVariants.{InCalling, InAnswer}
 use Rattle.bus_lines.specs.Stage.{stage}
 
-use Rattle.bus_due.specs.RunSteps.{run_state}
 use Rattle.bus_due.specs.Least.{IsLeast}
 use Rattle.bus_due.specs.Plain.{AreOfDevices}
 use Rattle.bus_laws.specs.Reactions.{own_time, device_with}
@@ -36,15 +32,16 @@ use Rattle.bus_reactions.specs.Calling.{answered_due}
 use Rattle.bus_reactions.specs.declared.due.Want.{Want}
 use Rattle.bus_laws.specs.Reactions.{unreset_due}
 use Rattle.bus_laws.proofs.Tests.{eq_self, eq_other}
-use Rattle.bus_laws.proofs.TwoIds.{called, IsCall, is_call}
-use Rattle.bus_laws.proofs.Rows.{lines_row, fault_row, fault_change, changed, stands_by, since_same, Stands, stands_after, stage_is, since_is, drives_own, drives_other, mine_own, mine_other}
+use Rattle.bus_laws.proofs.Rows.{fault_change, stands_by, since_same, stands_after, stage_is, since_is, drives_own, drives_other, mine_own}
 use Rattle.bus_laws.proofs.Seens.{obeys_apart, obeys_by}
 use Rattle.bus_laws.proofs.Obeys.{asks_obeys, answer_obeys, struck_obeys, withdrawal_obeys}
 use Rattle.bus_laws.proofs.Dues.{is_there, is_at, none_some}
-use Rattle.bus_laws.proofs.CallDues.{call_with, withdrawn_at, struck_due, gives_up_due, after_withdrawal_due, calling_at, call_at, call_lines, asked_at, answer_lines, answered_calling, asks_due, before_due, waits_due, answers_due, aside_due, goes_on_due, waiting_due, apart_due, want_at, flip_at}
+use Rattle.bus_laws.proofs.CallDues.{struck_due, gives_up_due, after_withdrawal_due, asks_due, before_due, waits_due, answers_due, aside_due, goes_on_due, waiting_due, apart_due, want_at, flip_at}
 use Rattle.bus_laws.proofs.Apart.{still_row_keeps, still_keeps}
 use Rattle.bus_laws.proofs.FromWon.{quiet_others}
-use Rattle.bus_laws.proofs.Joint.{Fits, Always, CallingState, AskingState, Goes, asks, answered, withdrawn}
+use Rattle.bus_laws.specs.Stages.{Always, AskingState, CallingState, Fits, Goes, answered, asks, withdrawn}
+use Rattle.bus_laws.specs.Rows.{Stands, changed, fault_row, lines_row}
+use Rattle.bus_laws.specs.Callings.{answer_lines, answered_calling, asked_at, call_at, call_lines, call_with, called, calling_at, withdrawn_at}
 
 -- no device but the caller drives anything
 pub only_caller : (s : ScenarioValue) (p : List Row) (k : Call) (c d : ℕ) (x b : LineSet) → CallingState s p k c d x none b → (e : ℕ) → e < 8 → e ≢ c → drives p e ≡ none

@@ -1,34 +1,32 @@
 -- A row on a free bus.
-use Rattle.std.proofs.Common.{◌⊎◌, inl, inr, ℕ, ◌≡◌, ◌≢◌, ◌<◌, ◌≤◌, ◌+◌, Bool, true, false, ◌||◌, ◌∙◌, List, [], ◌∷◌, Option, Some, None, refl, sym, ap, subst, arith}
+use Rattle.std.proofs.Common.{inl, inr, ℕ, ◌≡◌, ◌≢◌, ◌<◌, ◌≤◌, ◌+◌, true, false, ◌∙◌, List, ◌∷◌, Some, None, refl, sym, ap, subst, arith}
 use Rattle.std.proofs.lemmas.Bool.{cases_eq}
 use Rattle.bus_trace.specs.LineSet.{LineSet, none}
 use Rattle.bus_trace.specs.declared.Row.{Row}
-use Rattle.bus_trace.specs.declared.Kind.{Kind}
-use Rattle.bus_trace.specs.declared.Kind.TheVariants.{Drives, Fault}
-use Rattle.bus_trace.specs.Trace.{drives, bus, last_time}
+use Rattle.bus_trace.specs.declared.Kind.TheVariants.{Drives}
+use Rattle.bus_trace.specs.Trace.{drives, bus}
 use Rattle.bus_trace.proofs.Buses.{bus_one}
 use Rattle.bus_trace.specs.declared.arbitration.Arbitration.{Arbitration}
 use Rattle.bus_trace.specs.Terms.{free_since, raised, raised_next}
 use Rattle.scenario.specs.Value.{ScenarioValue}
 use Rattle.bus_reactions.specs.declared.due.Due.{Due}
-use Rattle.bus_reactions.specs.Reactions.{due_at}
-use Rattle.bus_lines.specs.declared.stage.Stage.{Stage}
 use Rattle.bus_lines.specs.declared.stage.Stage.TheVariants.{OnFreeBus, InArbitration}
-use Rattle.bus_lines.specs.Stage.{stage, stage_by}
-use Rattle.bus_reactions.specs.FreeBus.{contender_lines, free_due, later_entry_if}
+use Rattle.bus_lines.specs.Stage.{stage}
+use Rattle.bus_reactions.specs.FreeBus.{contender_lines, free_due}
 use Rattle.bus_due.specs.Wants.{want_time}
 use Rattle.bus_due.specs.RunSteps.{run_state}
 use Rattle.bus_due.specs.Least.{IsLeast}
 use Rattle.bus_due.specs.Plain.{AreOfDevices}
 use Rattle.bus_laws.specs.Reactions.{own_time}
 use Rattle.bus_laws.specs.Reactions.{device_with, unreset_due}
-use Rattle.bus_laws.proofs.Rows.{lines_row, changed, Stands, stands_after, stage_is, drives_own, drives_other, mine_own, raised_own}
-use Rattle.bus_laws.proofs.Held.{entries}
+use Rattle.bus_laws.proofs.Rows.{stands_after, stage_is, drives_own, drives_other, mine_own, raised_own}
 use Rattle.bus_laws.proofs.Seens.{obeys_apart}
 use Rattle.bus_laws.proofs.Obeys.{entry_obeys}
 use Rattle.bus_laws.proofs.Dues.{is_there, is_entry, is_entry_in, win_due, idle_due, free_due_is, same_entry}
 use Rattle.bus_laws.proofs.Apart.{entry_row_keeps}
-use Rattle.bus_laws.proofs.Joint.{Always, FreeState, Contends, ArbitrationState, Goes, contest}
+use Rattle.bus_laws.specs.Stages.{Always, Contends, FreeState, Goes, contest}
+use Rattle.bus_laws.specs.Rows.{Stands, lines_row}
+use Rattle.bus_laws.specs.Callings.{entries}
 
 -- a row whose kind is run_state
 pub row_is : (row : Row) (l : LineSet) → row.kind ≡ Drives l → row ≡ lines_row row.time row.dev l

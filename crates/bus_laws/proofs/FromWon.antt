@@ -1,17 +1,13 @@
 -- A row after SEL rose, until both IDs stand: a loser releases all, or the winner calls.
-use Rattle.std.proofs.Common.{◌⊎◌, inl, inr, ℕ, ◌≡◌, ◌≢◌, ◌<◌, ◌≤◌, ◌+◌, Bool, true, false, not, ◌||◌, ◌&&◌, ◌==◌, ◌∙◌, List, [], ◌∷◌, Option, Some, None, refl, sym, ap, subst, arith}
+use Rattle.std.proofs.Common.{◌⊎◌, inl, inr, ℕ, ◌≡◌, ◌≢◌, ◌<◌, ◌≤◌, ◌+◌, Bool, true, false, not, ◌||◌, ◌&&◌, ◌==◌, ◌∙◌, List, ◌∷◌, Some, None, refl, sym, ap, subst, arith}
 use Rattle.std.specs.Prelude.{if◌then◌else◌}
 use Rattle.std.proofs.lemmas.Bool.{cases_eq}
-use Rattle.bus_trace.specs.LineSet.{LineSet, none, union, same_set}
+use Rattle.bus_trace.specs.LineSet.{LineSet, none, same_set}
 use Rattle.bus_trace.specs.declared.Row.{Row}
-use Rattle.bus_trace.specs.declared.Kind.{Kind}
-use Rattle.bus_trace.specs.declared.Kind.TheVariants.{Drives, Fault}
-use Rattle.bus_trace.specs.Trace.{drives, bus, last_time, since_line, newer_line}
-use Rattle.bus_trace.proofs.Buses.{bus_one, union-none}
-use Rattle.bus_trace.specs.declared.arbitration.Arbitration.{Arbitration}
-use Rattle.bus_trace.specs.declared.selection.Call.{Call}
-use Rattle.bus_trace.specs.declared.selection.Calling.{Calling}
-use Rattle.bus_trace.specs.Terms.{call, call_after, drives_two_ids, new_calling, other_id}
+use Rattle.bus_trace.specs.declared.Kind.TheVariants.{Drives}
+use Rattle.bus_trace.specs.Trace.{drives, bus, since_line}
+use Rattle.bus_trace.proofs.Buses.{bus_one}
+use Rattle.bus_trace.specs.Terms.{call, drives_two_ids, new_calling}
 use Rattle.bus_rules.specs.Seen.{others_in_call, others_drive}
 use Rattle.scenario.specs.Value.{ScenarioValue}
 use Rattle.bus_story.specs.TraceHistory.{aim_of, is_host}
@@ -28,17 +24,19 @@ use Rattle.bus_due.specs.Plain.{AreOfDevices}
 use Rattle.bus_laws.specs.Reactions.{own_time}
 use Rattle.bus_laws.specs.Reactions.{unreset_due}
 use Rattle.bus_laws.proofs.Tests.{eq_self, eq_other}
-use Rattle.bus_laws.proofs.TwoIds.{called, IsCall, is_call}
-use Rattle.bus_laws.proofs.Rows.{lines_row, changed, Stands, stands_after, stage_is, since_is, drives_own, drives_other, mine_own, mine_other}
-use Rattle.bus_laws.proofs.Held.{winner, AsksOrNot, winner_is}
+use Rattle.bus_laws.proofs.TwoIds.{IsCall, is_call}
+use Rattle.bus_laws.proofs.Rows.{stands_after, stage_is, since_is, drives_own, drives_other, mine_own, mine_other}
+use Rattle.bus_laws.proofs.Held.{winner_is}
 use Rattle.bus_laws.proofs.Seens.{obeys_apart}
 use Rattle.bus_laws.proofs.Obeys.{won_lines, loser_obeys, call_obeys}
 use Rattle.bus_laws.proofs.Dues.{is_there, is_at}
-use Rattle.bus_laws.proofs.CallDues.{new_call, calling_at, call_at, loser_due, quiet_due, calls_due, is_calling, asks_due, before_due}
+use Rattle.bus_laws.proofs.CallDues.{loser_due, quiet_due, calls_due, is_calling, asks_due, before_due}
 use Rattle.bus_laws.proofs.Apart.{still_row_keeps}
-use Rattle.bus_laws.proofs.Joint.{Fits, Always, Lost, WonState, CallingState, Goes, won, calls}
 use Rattle.bus_laws.proofs.FromFree.{row_is}
 use Rattle.bus_laws.proofs.FromArbitration.{lost_or}
+use Rattle.bus_laws.specs.Stages.{Always, Fits, Goes, Lost, WonState, calls, won}
+use Rattle.bus_laws.specs.Rows.{Stands, lines_row}
+use Rattle.bus_laws.specs.Callings.{call_at, called, calling_at, new_call, winner}
 
 in_won : (s : ScenarioValue) (p : List Row) (c t0 : ℕ) → WonState s p c t0 → stage p ≡ InCalling (new_call c t0)
 in_won s p c t0 h = stage_is p _ _ _ _ h.stands

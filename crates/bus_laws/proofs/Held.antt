@@ -1,5 +1,5 @@
 -- A bus on which only data lines, BSY and SEL are driven.
-use Rattle.std.proofs.Common.{◌⊎◌, inl, inr, ◌≢◌, ℕ, zero, suc, ◌≡◌, ◌<◌, Bool, true, false, ◌||◌, List, ◌∙◌, refl, sym, ap, arith}
+use Rattle.std.proofs.Common.{◌⊎◌, inl, inr, ◌≢◌, ℕ, zero, suc, ◌≡◌, ◌<◌, Bool, true, false, List, ◌∙◌, refl, sym, ap, arith}
 use Rattle.bus_trace.specs.LineSet.{LineSet, none, union}
 use Rattle.bus_trace.specs.View.{union_below}
 use Rattle.bus_trace.specs.declared.Row.{Row}
@@ -7,6 +7,7 @@ use Rattle.bus_trace.specs.Trace.{drives, bus}
 use Rattle.std.proofs.lemmas.Bool.{cases_eq}
 use Rattle.bus_trace.proofs.Buses.{bus_on, bus_off}
 use Rattle.bus_reactions.specs.FreeBus.{contender_lines}
+use Rattle.bus_laws.specs.Callings.{entries, winner}
 
 abbrev pub held : LineSet → LineSet
 held x = record none { data_bits = x.data_bits; bsy = x.bsy; sel = x.sel }
@@ -21,12 +22,6 @@ held_below f (suc n) h =
     let low = held_below f n (λ d lt. h d (omega arith)) in
     let top = h n (omega arith) in
     λ i. union (low i) (top i)
-
-abbrev pub entries : ℕ → LineSet
-entries x = record none { bsy = true; data_bits = x }
-
-abbrev pub winner : ℕ → LineSet
-winner x = record none { bsy = true; sel = true; data_bits = x }
 
 pub as_entries : (x : LineSet) → x ≡ held x → x.bsy ≡ true → x.sel ≡ false → x ≡ entries x.data_bits
 as_entries x h b s = h ∙ (λ i. record none { data_bits = x.data_bits; bsy = b i; sel = s i })

@@ -1,12 +1,11 @@
 -- Rows that obey the rules.
-use Rattle.std.proofs.Common.{ℕ, ◌≡◌, ◌≢◌, ◌≤◌, ◌<◌, ◌+◌, ◌^◌, Bool, true, false, List, Option, Some, None, refl, ap, sym, ◌∙◌, arith}
-use Rattle.std.specs.Prelude.{◌==◌, nat_le, max, not, ◌&&◌, ◌||◌}
+use Rattle.std.proofs.Common.{ℕ, ◌≡◌, ◌≢◌, ◌≤◌, ◌+◌, ◌^◌, Bool, true, false, List, Some, None, refl, ap, sym, ◌∙◌, arith}
+use Rattle.std.specs.Prelude.{◌==◌, nat_le, not, ◌&&◌, ◌||◌}
 use Rattle.std.proofs.lemmas.Bool.Decides.{nat_tests}
 use Rattle.bus_trace.specs.LineSet.{LineSet, none, has_id_above, same, line_of}
 use Rattle.bus_trace.specs.declared.Row.{Row}
 use Rattle.bus_trace.specs.Trace.{last_time, since, since_line}
 use Rattle.std.specs.Int.{bit_at}
-use Rattle.bus_trace.specs.declared.selection.Call.{Call}
 use Rattle.bus_trace.specs.declared.arbitration.Arbitration.{Arbitration}
 use Rattle.bus_trace.specs.Terms.{free_since, raised}
 use Rattle.bus_rules.specs.Rules.{lowest_broken, keeps, judged_rules}
@@ -15,14 +14,13 @@ use Rattle.bus_trace.specs.Changes.{implies, raises_none}
 use Rattle.bus_rules.specs.Selection.{calls_exactly}
 use Rattle.bus_rules.specs.declared.seen.Seen.{Seen}
 use Rattle.bus_reactions.specs.FreeBus.{contender_lines}
-use Rattle.bus_laws.proofs.Rows.{lines_row, fault_row, changed}
-use Rattle.bus_laws.proofs.Held.{entries, winner}
 use Rattle.bus_laws.proofs.Seens.{seen_apart}
-use Rattle.bus_laws.proofs.TwoIds.{called, IsCall}
+use Rattle.bus_laws.proofs.TwoIds.{IsCall}
 use Rattle.bus_laws.proofs.Tests.{eq_self, eq_other, or_true}
-use Rattle.bus_laws.proofs.CallDues.{new_call, calling_at, call_at, call_lines, asked_at, withdrawn_at, answered_calling, resumed_calling, call_with, answer_lines}
 use Rattle.std.specs.Int.Bits.{or_zero_r, or_self}
 use Rattle.std.specs.Int.RustNames.{bit_or}
+use Rattle.bus_laws.specs.Rows.{changed, fault_row, lines_row}
+use Rattle.bus_laws.specs.Callings.{answer_lines, answered_calling, asked_at, call_at, call_lines, call_with, called, entries, new_call, resumed_calling, winner, withdrawn_at}
 
 pub entry_obeys : (p : List Row) (t d : ℕ) → last_time p ≤ t → free_since p + 1200 ≤ t → lowest_broken (seen_apart p d (changed none (contender_lines d) none (contender_lines d)) None None false) (lines_row t d (contender_lines d)) ≡ None
 entry_obeys p t d e f = grind (arith, nat_tests)

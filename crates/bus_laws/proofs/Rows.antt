@@ -1,11 +1,11 @@
 -- What one more row changes of what stands on the bus.
-use Rattle.std.proofs.Common.{ℕ, ◌≡◌, ◌≢◌, ◌<◌, ◌≤◌, Bool, true, false, List, [], ◌∷◌, ◌∙◌, refl, sym, ap, arith, Option, Some, None}
-use Rattle.std.specs.Prelude.{◌==◌, if◌then◌else◌, max}
-use Rattle.bus_trace.specs.LineSet.{LineSet, none}
+use Rattle.std.proofs.Common.{ℕ, ◌≡◌, ◌≢◌, Bool, true, false, List, ◌∷◌, ◌∙◌, refl, sym, ap, Option}
+use Rattle.std.specs.Prelude.{◌==◌, if◌then◌else◌}
+use Rattle.bus_trace.specs.LineSet.{LineSet}
 use Rattle.bus_trace.specs.declared.Row.{Row}
 use Rattle.bus_trace.specs.declared.Kind.TheVariants.{Drives, Fault}
 use Rattle.bus_trace.proofs.OneRow.{bus-fault}
-use Rattle.bus_trace.specs.Trace.{drives, bus, driven_after, since, newer, since_line, newer_line}
+use Rattle.bus_trace.specs.Trace.{drives, bus, since, newer, since_line, newer_line}
 use Rattle.bus_trace.specs.declared.changes.Change.{Change}
 use Rattle.bus_trace.specs.declared.arbitration.Arbitration.{Arbitration}
 use Rattle.bus_trace.specs.declared.selection.Call.{Call}
@@ -13,20 +13,11 @@ use Rattle.bus_trace.specs.declared.connection.Connection.{Connection}
 use Rattle.bus_trace.specs.Changes.{change_of}
 use Rattle.bus_trace.specs.Terms.{arbitration, arbitration_after, call, call_after, connection, connection_after, free_since, raised, raised_next}
 use Rattle.bus_due.specs.Own.{own_after}
-use Rattle.bus_lines.specs.declared.stage.Stage.{Stage}
 use Rattle.bus_lines.specs.Stage.{stage, stage_by}
 use Rattle.bus_due.specs.Own.{own_of}
 use Rattle.bus_laws.specs.Reactions.{own_time}
 use Rattle.bus_laws.proofs.Tests.{eq_self, eq_other}
-
-abbrev pub lines_row : ℕ → ℕ → LineSet → Row
-lines_row t d l = record { time = t; dev = d; kind = Drives l }
-
-abbrev pub fault_row : ℕ → ℕ → ℕ → Row
-fault_row t d bit = record { time = t; dev = d; kind = Fault bit }
-
-abbrev pub changed : LineSet → LineSet → LineSet → LineSet → Change
-changed b a o n = record { before = b; after = a; own = o; next = n }
+use Rattle.bus_laws.specs.Rows.{Stands, changed, fault_row, lines_row}
 
 pub drives_own : (p : List Row) (t d : ℕ) (l : LineSet) → drives (lines_row t d l ∷ p) d ≡ l
 drives_own p t d l = λ i. if eq_self d i then l else drives p d
@@ -45,13 +36,6 @@ raised_other on p t d l e ne = λ i. if eq_other d e (λ x. ne (sym x)) i then r
 
 pub raised_own : (on : LineSet → Bool) (p : List Row) (t d : ℕ) (l : LineSet) → raised on (lines_row t d l ∷ p) d ≡ raised_next (on (drives p d)) (on l) t (raised on p d)
 raised_own on p t d l = λ i. if eq_self d i then raised_next (on (drives p d)) (on l) t (raised on p d) else raised on p d
-
--- What stands on the bus after some rows.
-pub record Stands (p : List Row) (b : LineSet) (a : Option Arbitration) (c : Option Call) (n : Option Connection) : Type 0 where
-  pub bus_is : bus p ≡ b
-  pub arbitration_is : arbitration p ≡ a
-  pub call_is : call p ≡ c
-  pub connection_is : connection p ≡ n
 
 -- What a row of lines changes.
 pub change_is : (p : List Row) (t d : ℕ) (l l' b b' o : LineSet) → l ≡ l' → bus p ≡ b → bus (lines_row t d l ∷ p) ≡ b' → drives p d ≡ o → change_of p (lines_row t d l) ≡ changed b b' o l'

@@ -1,5 +1,5 @@
 -- The IDs of a calling.
-use Rattle.std.proofs.Common.{inl, inr, zero, suc, ℕ, ◌≡◌, ◌≢◌, ◌+◌, ◌^◌, ◌<◌, ◌==◌, ◌||◌, ◌&&◌, Bool, true, false, not, refl, arith, ap, sym, ◌∙◌}
+use Rattle.std.proofs.Common.{inl, inr, zero, suc, ℕ, ◌≡◌, ◌≢◌, ◌+◌, ◌^◌, ◌<◌, ◌==◌, ◌||◌, ◌&&◌, Bool, true, false, not, refl, arith, ap, ◌∙◌}
 use Rattle.std.specs.Int.{bit_at}
 use Rattle.std.specs.Int.RustNames.{count_ones}
 use Rattle.std.proofs.lemmas.Bool.{cases_eq}
@@ -7,10 +7,7 @@ use Rattle.std.proofs.lemmas.Bool.Decides.{nat_tests}
 use Rattle.bus_trace.specs.LineSet.{LineSet, none}
 use Rattle.bus_trace.specs.Terms.{drives_two_ids, other_id}
 use Rattle.bus_laws.proofs.Tests.{eq_other}
-
--- A calling: a selection has ATN, a reselection I/O.
-abbrev pub called : Bool → ℕ → ℕ → LineSet
-called m c k = record none { data_bits = 2 ^ c + 2 ^ k + 256; bsy = true; sel = true; atn = m; io = not m }
+use Rattle.bus_laws.specs.Callings.{called}
 
 all_below : (ℕ → Bool) → ℕ → Bool
 all_below f zero = true
