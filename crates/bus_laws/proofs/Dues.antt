@@ -15,8 +15,8 @@ use Rattle.bus_reactions.specs.declared.due.Due.{Due}
 use Rattle.bus_reactions.specs.declared.due.Myself.{Myself}
 use Rattle.bus_reactions.specs.Reactions.{due_at, due_where}
 use Rattle.bus_lines.specs.declared.stage.Stage.{Stage}
-use Rattle.bus_lines.specs.declared.stage.Stage.TheVariants.{OnFreeBus, InArbitration}
-use Rattle.bus_lines.specs.Stage.{stage}
+use Rattle.bus_lines.specs.declared.stage.Stage.TheVariants.{OnFreeBus, InArbitration, InReset}
+use Rattle.bus_lines.specs.Stage.{stage, stage_by}
 use Rattle.bus_due.specs.RunState.{bus_of}
 use Rattle.bus_due.specs.Wants.{want_time}
 use Rattle.bus_reactions.specs.FreeBus.{contender_lines, free_due, later_entry_if}
@@ -24,8 +24,8 @@ use Rattle.bus_due.specs.RunSteps.{run_state}
 use Rattle.bus_due.specs.Due.{self_of, stage_due, link_due_of}
 use Rattle.bus_due.specs.Sights.{sight_of, want_of, flip_of}
 use Rattle.bus_reactions.specs.declared.sight.Sight.{Sight}
-use Rattle.bus_reactions.specs.Linking.{link_due_by, link_due, sample_time}
-use Rattle.bus_trace.specs.Terms.{connection}
+use Rattle.bus_reactions.specs.Linking.{bus_clear, link_due_by, link_due, sample_time}
+use Rattle.bus_trace.specs.Terms.{connection, call, arbitration, free_since}
 use Rattle.bus_trace.specs.Trace.{line_times}
 use Rattle.bus_due.specs.Plain.{AreOfDevices}
 use Rattle.bus_due.proofs.Plains.{run_state_plain}
@@ -147,3 +147,17 @@ same_entry e lat x y free (Some w) = refl
 pub same_entry_in : (e lat x y : ℕ) (a : Arbitration) (w : Option ℕ) → later_entry_if (device_with e lat none x) a w ≡ later_entry_if (device_with e lat none y) a w
 same_entry_in e lat x y a None = refl
 same_entry_in e lat x y a (Some w) = refl
+
+-- Under RST, whatever stands otherwise.
+pub due_in_reset : (s : ScenarioValue) (p : List Row) (e lat : ℕ) (own : LineSet) → AreOfDevices p → e < 8 → latency_of s e ≡ Some lat → (bus p).rst ≡ true → drives p e ≡ own
+    → unreset_due s p e ≡ bus_clear (device_with e lat own (own_time p e)) (line_times p).rst
+due_in_reset s p e lat own h lt there rst eo =
+    let k = run_state s p in
+    let a = run_state_plain s p h in
+    let o = a.drives e lt ∙ eo in
+    let w = ap (λ (x : Own). x.row) (a.own e lt) in
+    let g : stage p ≡ InReset (line_times p).rst = λ i. stage_by (rst i) (line_times p).rst (connection p) (call p) (arbitration p) (free_since p) in
+    let v : sight_of k ≡ seen_at p (InReset (line_times p).rst) = a.sight ∙ (λ i. seen_at p (g i)) in
+    ap (unreset_due_if s k e) there
+    ∙ (λ i. stage_due s k (self_of k e lat) ((ap (λ (b : LineSet). b.rst) a.bus ∙ rst) i) k.story.bus_state.connection)
+    ∙ (λ i. link_due (v i) (device_with e lat (o i) (w i)) (want_of s k e) (flip_of k.faults (sample_time (v i) (device_with e lat (o i) (w i)))))

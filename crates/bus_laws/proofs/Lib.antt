@@ -13,3 +13,4 @@ pub mod FromArbitration
 pub mod FromWon
 pub mod FromCalling
 pub mod FromAnswer
+pub mod ResetObeys
