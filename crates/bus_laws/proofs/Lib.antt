@@ -14,3 +14,4 @@ pub mod FromWon
 pub mod FromCalling
 pub mod FromAnswer
 pub mod ResetObeys
+pub mod Resets

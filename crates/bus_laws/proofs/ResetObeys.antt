@@ -18,7 +18,7 @@ use Rattle.bus_rules.specs.Reset.{is_reset, only_rst, raises_rst_alone, is_quiet
 use Rattle.bus_rules.specs.Rules.{test, stands_in_reset, keeps, judged_rules, lowest_broken, broken_rule}
 use Rattle.bus_rules.proofs.First.{none_broken}
 use Rattle.bus_laws.proofs.Tests.{and_false, or_true}
-use Rattle.bus_laws.specs.Rows.{lines_row, changed}
+use Rattle.bus_laws.specs.Rows.{changed, lines_row}
 
 other_rule : (n : ℕ) (v : Seen) (row : Row) → stands_in_reset n ≡ false → is_reset v ≡ true → keeps n v row ≡ true
 other_rule n v row a b = λ i. if not (a i) && b i then true else test n v row

@@ -1,5 +1,5 @@
 -- What holds after the rows of a prompt trace, stage by stage, as long as no connection stands.
-use Rattle.std.specs.Prelude.{ℕ, ◌≡◌, ◌≢◌, ◌<◌, ◌≤◌, ◌+◌, ◌==◌, ◌⊎◌, Bool, true, false, List, ◌∷◌, Option, Some, None}
+use Rattle.std.specs.Prelude.{is_some, not, ◌&&◌, ℕ, ◌≡◌, ◌≢◌, ◌<◌, ◌≤◌, ◌+◌, ◌==◌, ◌⊎◌, Bool, true, false, List, ◌∷◌, Option, Some, None}
 use Rattle.std.specs.Int.{bit_at}
 use Rattle.bus_trace.specs.LineSet.{LineSet, none, line_of}
 use Rattle.bus_trace.specs.declared.Row.{Row}
@@ -21,6 +21,9 @@ use Rattle.bus_due.specs.RunSteps.{run_state}
 use Rattle.bus_due.specs.Plain.{AreOfDevices}
 use Rattle.bus_laws.specs.Reactions.{own_time}
 use Rattle.bus_laws.specs.Reactions.{unreset_due}
+use Rattle.bus_rules.specs.Reset.{only_rst}
+use Rattle.bus_due.specs.Own.{own_of}
+use Rattle.bus_due.specs.Next.{due}
 use Rattle.bus_laws.specs.Rows.{Stands}
 use Rattle.bus_laws.specs.Callings.{entries, winner, called, calling_at, call_at, call_lines, answer_lines, asked_at, withdrawn_at, answered_calling, resumed_calling}
 
@@ -104,6 +107,27 @@ pub record AnsweredState (s : ScenarioValue) (p : List Row) (g : Calling) (c k t
   pub here : CallingState s p (record { caller = c; at = t0; calling = Some g }) c k (call_lines m b x) answer_lines (call_lines m true x)
   pub some : (x == 0) ≡ false
 
+-- The scenario has this device.
+pub record HasDevice (s : ScenarioValue) (d : ℕ) : Type 0 where
+  pub latency : ℕ
+  pub latency_is : latency_of s d ≡ Some latency
+
+-- RST is true: a device drives nothing, or RST alone since it raised it, or what it has not released yet (6.2.2)
+pub record HoldsReset (p : List Row) (d : ℕ) : Type 0 where
+  pub drive : drives p d ≡ only_rst
+  pub raised_at : raised (λ x. x.rst) p d ≡ (own_of p d).rst
+  pub not_before : since_line (λ x. x.rst) p ≤ (own_of p d).rst
+
+pub data UnderReset (p : List Row) (d : ℕ) : Type 0 where
+  quiet : drives p d ≡ none → UnderReset p d
+  holds : HoldsReset p d → UnderReset p d
+  lingers : (drives p d).rst ≡ false → UnderReset p d
+
+pub record ResetState (s : ScenarioValue) (p : List Row) : Type 0 where
+  pub reset : (bus p).rst ≡ true
+  pub each : (d : ℕ) → d < 8 → UnderReset p d
+  pub link : (run_state s p).story.link ≡ None
+
 pub data Here (s : ScenarioValue) (p : List Row) : Type 0 where
   free : FreeState s p → Here s p
   contest : (a : Arbitration) → ArbitrationState s p a → Here s p
@@ -113,12 +137,37 @@ pub data Here (s : ScenarioValue) (p : List Row) : Type 0 where
   withdrawn : (v m : Bool) (c k t0 t1 t2 t3 : ℕ) → own_time p c ≡ t3 → CallingState s p (withdrawn_at v m c k t0 t1 t2 t3) c k (call_lines m false 0) none (call_lines m false 0) → Here s p
   answered : (m : Bool) (c k t0 t1 t2 t3 x : ℕ) → AnsweredState s p (answered_calling m k t1 t2 t3) c k t0 m false x → Here s p
   resumed : (c k t0 t1 t2 t3 t4 x : ℕ) → own_time p c ≡ t4 → AnsweredState s p (resumed_calling k t1 t2 t3 t4) c k t0 false true x → Here s p
+  in_reset : ResetState s p → Here s p
   -- a connection stands
   linked : (n : Connection) → connection p ≡ Some n → Here s p
 
--- a row keeps all of it and obeys the rules; what is due once a connection stands is not said here
+-- A row, no reset being due before it, keeps all of it and obeys the rules; what is due once a connection stands is not said here.
 pub record Goes (s : ScenarioValue) (p : List Row) (row : Row) : Type 0 where
   pub order : last_time p ≤ row.time
   pub obeys : broken_rule p row ≡ None
   pub ahead : connection (row ∷ p) ≡ None → Ahead s (row ∷ p) row.time
+  pub here : Here s (row ∷ p)
+
+-- ---- with resets
+
+-- A connection stands, and RST is false.
+abbrev pub is_linked : List Row → Bool
+is_linked p = is_some (connection p) && not (bus p).rst
+
+-- What holds after the rows of a prompt trace while no connection stands: they obey the rules, nothing that is due lies in the past,
+-- no time is later than the last row's, and who drives a line is a device of the scenario.
+pub record Standing (s : ScenarioValue) (p : List Row) : Type 0 where
+  pub devices : AreOfDevices p
+  pub lawful : AreLawful p
+  pub ahead : (d : ℕ) → d < 8 → (x : Due) → due s p d ≡ Some x → last_time p ≤ x.time
+  pub past : (on : LineSet → Bool) → since_line on p ≤ last_time p
+  pub seen_past : (see : LineSet → ℕ) → since see p ≤ last_time p
+  pub own_past : (d : ℕ) → own_time p d ≤ last_time p
+  pub there : (d : ℕ) → d < 8 → (drives p d ≡ none) ⊎ HasDevice s d
+
+-- What the next row does: it is not before the last, it obeys all rules, a stage stands after it, and nothing that is due lies in the past.
+pub record NextRow (s : ScenarioValue) (p : List Row) (row : Row) : Type 0 where
+  pub order : last_time p ≤ row.time
+  pub obeys : broken_rule p row ≡ None
+  pub ahead : is_linked (row ∷ p) ≡ false → (d : ℕ) → d < 8 → (x : Due) → due s (row ∷ p) d ≡ Some x → row.time ≤ x.time
   pub here : Here s (row ∷ p)
