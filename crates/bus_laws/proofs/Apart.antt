@@ -64,7 +64,7 @@ pub record KeepsWishes (s : ScenarioValue) (p q : List Row) : Type 0 where
   pub ready : (dev : ℕ) → ready_of s (run_state s q) dev ≡ ready_of s (run_state s p) dev
   pub link : (run_state s q).story.link ≡ None
 
-change_plain : (s : ScenarioValue) (row : Row) (p : List Row) → AreOfDevices p → row.dev < 8 → (row_reading (run_state s p).story.bus_state row).change ≡ change_of p row
+pub change_plain : (s : ScenarioValue) (row : Row) (p : List Row) → AreOfDevices p → row.dev < 8 → (row_reading (run_state s p).story.bus_state row).change ≡ change_of p row
 change_plain s row p h lt =
     let pl = run_state_plain s p h in
     ap (λ (b : Story). change_by b.bus_state row) pl.story ∙ change_same row p _ (bus_state_is s p h) lt
@@ -170,7 +170,7 @@ try_link s b dev (Some item) = go (is_counted item && nat_lt (retries_of s.hosts
     go true (abort n) = refl
     go false i = refl
 
-calling_link : (s : ScenarioValue) (b : Story) (c : Option Call) → (story_after_calling s b c).link ≡ b.link
+pub calling_link : (s : ScenarioValue) (b : Story) (c : Option Call) → (story_after_calling s b c).link ≡ b.link
 calling_link s b None = refl
 calling_link s b (Some k) = by k.calling
   where

@@ -15,3 +15,4 @@ pub mod FromCalling
 pub mod FromAnswer
 pub mod ResetObeys
 pub mod Resets
+pub mod FromReset
