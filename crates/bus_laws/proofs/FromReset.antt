@@ -103,7 +103,7 @@ free_link s b d row = go (is_arbitration_entry b d) (falls d.change.before.sel d
     go false false = refl
 
 -- and after a row after which neither RST is true nor a connection stands
-link_apart : (s : ScenarioValue) (p : List Row) (row : Row) (g : Change) → AreOfDevices p → row.dev < 8 → change_of p row ≡ g → g.after.rst ≡ false → connection (row ∷ p) ≡ None → (run_state s p).story.link ≡ None → (run_state s (row ∷ p)).story.link ≡ None
+pub link_apart : (s : ScenarioValue) (p : List Row) (row : Row) (g : Change) → AreOfDevices p → row.dev < 8 → change_of p row ≡ g → g.after.rst ≡ false → connection (row ∷ p) ≡ None → (run_state s p).story.link ≡ None → (run_state s (row ∷ p)).story.link ≡ None
 link_apart s p row g h lt e rst alone link =
     let k = run_state s p in
     let d = row_reading k.story.bus_state row in

@@ -16,3 +16,4 @@ pub mod FromAnswer
 pub mod ResetObeys
 pub mod Resets
 pub mod FromReset
+pub mod ResetSteps

@@ -1,0 +1,167 @@
+-- The rows under RST, to the free bus, and the row that raises it.
+use Rattle.std.proofs.Common.{◌⊎◌, inl, inr, ℕ, zero, suc, ◌≡◌, ◌≢◌, ◌<◌, ◌≤◌, ◌+◌, Bool, true, false, not, ◌&&◌, ◌||◌, ◌∙◌, List, [], ◌∷◌, Option, Some, None, refl, sym, ap, subst, arith}
+use Rattle.std.specs.Prelude.{nat_lt, nat_le, if◌then◌else◌, ◌==◌, is_some}
+use Rattle.std.specs.List.{list_any}
+use Rattle.std.proofs.lemmas.Bool.{cases_eq}
+use Rattle.std.proofs.lemmas.Bool.Decides.{nat_tests}
+use Rattle.std.specs.Int.Bits.{or_zero_r}
+use Rattle.std.specs.Int.RustNames.{bit_or}
+use Rattle.bus_base.specs.declared.Event.{Event}
+use Rattle.bus_base.specs.declared.Event.TheVariants as events
+use Rattle.bus_trace.specs.LineSet.{LineSet, none, union, same_set}
+use Rattle.bus_trace.specs.View.{union_below}
+use Rattle.bus_trace.proofs.Sets.{same_set-eq, same_set-self}
+use Rattle.bus_trace.proofs.Buses.{bus_on, bus_off, bus_one, bus_none}
+use Rattle.bus_trace.specs.declared.Row.{Row}
+use Rattle.bus_trace.specs.declared.Kind.{Kind}
+use Rattle.bus_trace.specs.declared.Kind.TheVariants.{Drives, Fault}
+use Rattle.bus_trace.specs.Trace.{drives, bus, last_time, line_times, since_line, newer_line}
+use Rattle.bus_trace.specs.declared.arbitration.Arbitration.{Arbitration}
+use Rattle.bus_trace.specs.declared.selection.Call.{Call}
+use Rattle.bus_trace.specs.declared.connection.Connection.{Connection}
+use Rattle.bus_trace.specs.declared.changes.Change.{Change}
+use Rattle.bus_trace.specs.Changes.{change_of, implies, rises, falls, is_within}
+use Rattle.bus_trace.specs.Terms.{when, raised, raised_next, arbitration, arbitration_after, call, call_after, connection, connection_after, free_since}
+use Rattle.scenario.specs.declared.value.CmdDef.{CmdDef}
+use Rattle.scenario.specs.Value.{ScenarioValue}
+use Rattle.bus_story.specs.BusState.{RowReading, row_reading}
+use Rattle.bus_story.specs.Items.{is_open, sense_item}
+use Rattle.bus_story.specs.Story.{Story, Ending, by_reset, story_with_end, story_with_over, story_with_ends, story_after_events}
+use Rattle.bus_story.specs.HistoryEvents.{row_events_by, link_events}
+use Rattle.bus_story.specs.Links.{Link}
+use Rattle.bus_story.specs.TraceHistory.{is_arbitration_entry, story_with_aim, story_after_calling, story_on_free_bus, story_by_change, story_on_bus}
+use Rattle.bus_story.specs.Samples.{latency_of}
+use Rattle.bus_reactions.specs.declared.due.Due.{Due}
+use Rattle.bus_reactions.specs.Reactions.{due_at, earlier_due}
+use Rattle.bus_reactions.specs.Linking.{bus_clear}
+use Rattle.bus_due.specs.Own.{Own, own_of}
+use Rattle.bus_due.specs.RunState.{RunState}
+use Rattle.bus_due.specs.RunSteps.{run_state, run_state_with_events}
+use Rattle.bus_due.specs.Due.{reset_from}
+use Rattle.bus_due.specs.Next.{due}
+use Rattle.bus_due.specs.Least.{IsLeast}
+use Rattle.bus_due.specs.Plain.{AreOfDevices}
+use Rattle.bus_due.proofs.Plains.{run_state_plain}
+use Rattle.bus_rules.specs.Reset.{only_rst}
+use Rattle.bus_laws.specs.Reactions.{own_time, device_with, unreset_due, reset_due, reset_due_if}
+use Rattle.bus_laws.proofs.Tests.{eq_self, eq_other, and_false, or_true}
+use Rattle.bus_laws.proofs.Rows.{change_is, since_is, drives_own, drives_other, raised_own, raised_other, stage_is}
+use Rattle.bus_laws.proofs.Dues.{is_at, none_some, due_in_reset}
+use Rattle.bus_laws.proofs.FromReset.{off_at, link_in_reset, link_apart, resets_ahead}
+use Rattle.bus_laws.proofs.FromFree.{row_is}
+use Rattle.bus_laws.proofs.Dues.{is_there, is_entry, free_due_is}
+use Rattle.bus_due.specs.Wants.{want_time}
+use Rattle.bus_lines.specs.declared.stage.Stage.TheVariants.{OnFreeBus}
+use Rattle.bus_lines.specs.Stage.{stage}
+use Rattle.bus_reactions.specs.Reset.{rst_assertion}
+use Rattle.bus_trace.proofs.OneRow.{drives-other, drives-fault}
+use Rattle.bus_laws.proofs.ResetObeys.{KeepsReset, reset_row_obeys, raises_rst, none_within, implied}
+use Rattle.bus_laws.proofs.Resets.{one_of, NoLater, comes_by, comes_by_first, due_calm, due_holding, due_there, own_reset_is, reset_after, own_other, released_own, rst_own, own_fault}
+use Rattle.bus_laws.specs.Stages.{Fits, FreeState, Here, free, in_reset, NextRow, is_linked, HasDevice, HoldsReset, UnderReset, quiet, holds, lingers, ResetState, Standing}
+use Rattle.bus_laws.specs.Rows.{lines_row, fault_row, changed, Stands}
+
+-- ---- a device that does not drive RST, under RST
+
+calm_in_reset : (s : ScenarioValue) (p : List Row) (d lat : ℕ) → AreOfDevices p → d < 8 → latency_of s d ≡ Some lat → (bus p).rst ≡ true → (drives p d).rst ≡ false → due s p d ≡ earlier_due (reset_due s p d) (bus_clear (device_with d lat (drives p d) (own_time p d)) (line_times p).rst)
+calm_in_reset s p d lat h lt there rst off =
+    due_calm s p d h lt off ∙ ap (earlier_due (reset_due s p d)) (due_in_reset s p d lat (drives p d) h lt there rst refl)
+
+pub record IsClear (s : ScenarioValue) (p : List Row) (d : ℕ) (x : Due) : Type 0 where
+  pub time_is : (lat : ℕ) × ((latency_of s d ≡ Some lat) × (x.time ≡ (line_times p).rst + lat))
+  pub kind_is : x.kind ≡ Drives none
+  pub drives_some : same_set (drives p d) none ≡ false
+
+clear_is : (s : ScenarioValue) (p : List Row) (d lat : ℕ) (x : Due) → latency_of s d ≡ Some lat → bus_clear (device_with d lat (drives p d) (own_time p d)) (line_times p).rst ≡ Some x → IsClear s p d x
+clear_is s p d lat x there e = go (same_set (drives p d) none) refl e
+  where
+    go : (q : Bool) → same_set (drives p d) none ≡ q → (if q then None else due_at ((line_times p).rst + lat) none) ≡ Some x → IsClear s p d x
+    go true a z = absurd (none_some x z)
+    go false a z = let w = is_at ((line_times p).rst + lat) none x z in record { time_is = (lat, (there, w.time_is)); kind_is = w.kind_is; drives_some = a }
+
+-- ---- the bus in the last row of RST
+
+within_rst : (x : LineSet) → (x ≡ none) ⊎ (x ≡ only_rst) → x ≡ record none { rst = x.rst }
+within_rst x (inl e) = e ∙ (λ i. record none { rst = (sym e i).rst })
+within_rst x (inr e) = e ∙ (λ i. record none { rst = (sym e i).rst })
+
+-- A device that drives anything but RST releases it within its latency, so the next row is no later; else no line but RST is true.
+lingering : (s : ScenarioValue) (p : List Row) (row : Row) → Fits s → Standing s p → ResetState s p → IsLeast (due s p) 8 row → (d : ℕ) → d < 8 → ((drives p d ≡ none) ⊎ (drives p d ≡ only_rst)) ⊎ (row.time ≤ (line_times p).rst + 100)
+lingering s p row fits st rs m d lt = go (rs.each d lt)
+  where
+    lags : (drives p d).rst ≡ false → (q : Bool) → same_set (drives p d) none ≡ q → ((drives p d ≡ none) ⊎ (drives p d ≡ only_rst)) ⊎ (row.time ≤ (line_times p).rst + 100)
+    lags off true e = inl (inl (same_set-eq (drives p d) none e))
+    lags off false e = elim (st.there d lt) [
+      | inl n ↦ inl (inl n)
+      | inr l ↦
+          let x : Due = record { time = (line_times p).rst + l.latency; kind = Drives none } in
+          let c : bus_clear (device_with d l.latency (drives p d) (own_time p d)) (line_times p).rst ≡ Some x = ap (λ (q : Bool). if q then None else due_at ((line_times p).rst + l.latency) none) e in
+          let z = comes_by (reset_due s p d) (bus_clear (device_with d l.latency (drives p d) (own_time p d)) (line_times p).rst) x c in
+          let w = m.first d lt z.x (calm_in_reset s p d l.latency st.devices lt l.latency_is rs.reset off ∙ z.is) in
+          let u = fits.latency d l.latency l.latency_is in
+          let v = z.le in
+          inr (omega arith)
+    ]
+    go : UnderReset p d → ((drives p d ≡ none) ⊎ (drives p d ≡ only_rst)) ⊎ (row.time ≤ (line_times p).rst + 100)
+    go (quiet n) = inl (inl n)
+    go (holds h) = inl (inr h.drive)
+    go (lingers off) = lags off (same_set (drives p d) none) refl
+
+union_rst : (x y : LineSet) → x ≡ record none { rst = x.rst } → y ≡ record none { rst = y.rst } → union x y ≡ record none { rst = (union x y).rst }
+union_rst x y a b = (λ i. union (a i) (b i))
+
+below_rst : (f : ℕ → LineSet) (n : ℕ) → ((d : ℕ) → d < n → f d ≡ record none { rst = (f d).rst }) → union_below f n ≡ record none { rst = (union_below f n).rst }
+unfolding union_below
+below_rst f zero h = refl
+below_rst f (suc n) h = union_rst (union_below f n) (f n) (below_rst f n (λ d lt. h d (omega arith))) (h n (omega arith))
+
+all_or : (p : List Row) (t : ℕ) (n : ℕ) → ((d : ℕ) → d < n → ((drives p d ≡ none) ⊎ (drives p d ≡ only_rst)) ⊎ (t ≤ (line_times p).rst + 100)) → ((d : ℕ) → d < n → (drives p d ≡ none) ⊎ (drives p d ≡ only_rst)) ⊎ (t ≤ (line_times p).rst + 100)
+all_or p t zero f = inl (λ d lt. absurd (omega arith))
+all_or p t (suc n) f =
+    elim (all_or p t n (λ d lt. f d (omega arith))) [
+      | inr l ↦ inr l
+      | inl g ↦ elim (f n (omega arith)) [
+        | inr l ↦ inr l
+        | inl h ↦ inl (λ d lt. elim (cases_eq d n) [
+          | inl same ↦ subst (λ (k : ℕ). (drives p k ≡ none) ⊎ (drives p k ≡ only_rst)) (sym same) h
+          | inr ne ↦ g d (omega arith)
+        ])
+      ]
+    ]
+
+or_yes : (a b : Bool) → a ≡ true → (a || b) ≡ true
+or_yes a b e = λ i. e i || b
+
+le_yes : (a b : ℕ) → a ≤ b → nat_le a b ≡ true
+le_yes a b h = grind (arith, nat_tests)
+
+or_right_yes : (a b : Bool) → b ≡ true → (a || b) ≡ true
+or_right_yes true b e = refl
+or_right_yes false b e = e
+
+-- Before the next row no line but RST is true, or it comes within a bus clear delay of the rise of RST.
+quiet_enough : (s : ScenarioValue) (p : List Row) (row : Row) → Fits s → Standing s p → ResetState s p → IsLeast (due s p) 8 row → (nat_le row.time ((line_times p).rst + 800) || is_within (bus p) only_rst) ≡ true
+quiet_enough s p row fits st rs m =
+    elim (all_or p row.time 8 (lingering s p row fits st rs m)) [
+      | inr l ↦ or_yes (nat_le row.time ((line_times p).rst + 800)) (is_within (bus p) only_rst) (le_yes row.time ((line_times p).rst + 800) (omega arith))
+      | inl g ↦
+          let b : bus p ≡ record none { rst = (bus p).rst } = below_rst (drives p) 8 (λ d lt. within_rst (drives p d) (g d lt)) in
+          let c : bus p ≡ only_rst = b ∙ (λ i. record none { rst = rs.reset i }) in
+          or_right_yes (nat_le row.time ((line_times p).rst + 800)) (is_within (bus p) only_rst) (ap (λ (x : LineSet). is_within x only_rst) c)
+    ]
+
+-- ---- what is due after a row after which RST is true
+
+-- A device holds RST, or not, and then what it drives.
+ahead_in_reset : (s : ScenarioValue) (p : List Row) (row : Row) → AreOfDevices p → row.dev < 8 → IsLeast (due s p) 8 row → ((x : Due) → (d : ℕ) → d < 8 → (drives (row ∷ p) d).rst ≡ true → due s (row ∷ p) d ≡ Some x → row.time ≤ x.time) → ((bus (row ∷ p)).rst ≡ true)
+    → ((d lat : ℕ) → d < 8 → latency_of s d ≡ Some lat → (x : Due) → (drives (row ∷ p) d).rst ≡ false → bus_clear (device_with d lat (drives (row ∷ p) d) (own_time (row ∷ p) d)) (line_times (row ∷ p)).rst ≡ Some x → row.time ≤ x.time)
+    → (d : ℕ) → d < 8 → (x : Due) → due s (row ∷ p) d ≡ Some x → row.time ≤ x.time
+ahead_in_reset s p row h lt m held rst clear d ld x e = go (drives (row ∷ p) d).rst refl
+  where
+    go : (q : Bool) → (drives (row ∷ p) d).rst ≡ q → row.time ≤ x.time
+    go true on = held x d ld on e
+    go false off =
+        let l = due_there s (row ∷ p) d x e in
+        elim (one_of (reset_due s (row ∷ p) d) (bus_clear (device_with d l.latency (drives (row ∷ p) d) (own_time (row ∷ p) d)) (line_times (row ∷ p)).rst) x (sym (calm_in_reset s (row ∷ p) d l.latency (lt, h) ld l.latency_is rst off) ∙ e)) [
+          | inl r ↦ resets_ahead s p row h m d ld off x r
+          | inr c ↦ clear d l.latency ld l.latency_is x off c
+        ]
