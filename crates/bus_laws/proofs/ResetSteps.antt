@@ -43,6 +43,8 @@ use Rattle.bus_due.specs.Least.{IsLeast}
 use Rattle.bus_due.specs.Plain.{AreOfDevices}
 use Rattle.bus_due.proofs.Plains.{run_state_plain}
 use Rattle.bus_rules.specs.Reset.{only_rst}
+use Rattle.bus_rules.specs.Rules.{broken_rule}
+use Rattle.bus_trace.proofs.Ages.{since_line_le}
 use Rattle.bus_laws.specs.Reactions.{own_time, device_with, unreset_due, reset_due, reset_due_if}
 use Rattle.bus_laws.proofs.Tests.{eq_self, eq_other, and_false, or_true}
 use Rattle.bus_laws.proofs.Rows.{change_is, since_is, drives_own, drives_other, raised_own, raised_other, stage_is}
@@ -165,3 +167,177 @@ ahead_in_reset s p row h lt m held rst clear d ld x e = go (drives (row ∷ p) d
           | inl r ↦ resets_ahead s p row h m d ld off x r
           | inr c ↦ clear d l.latency ld l.latency_is x off c
         ]
+
+-- ---- a row under RST after which RST is true
+
+-- What a device does that raised RST in this row, or drives nothing after it.
+pub record Does (s : ScenarioValue) (q : List Row) (d t : ℕ) : Type 0 where
+  pub stands : UnderReset q d
+  pub held : (x : Due) → (drives q d).rst ≡ true → due s q d ≡ Some x → t ≤ x.time
+  pub cleared : (lat : ℕ) (x : Due) → (drives q d).rst ≡ false → bus_clear (device_with d lat (drives q d) (own_time q d)) (line_times q).rst ≡ Some x → t ≤ x.time
+
+goes_on : (p : List Row) (t d : ℕ) (l : LineSet) (e : ℕ) → e ≢ d → since_line (λ x. x.rst) (lines_row t d l ∷ p) ≡ since_line (λ x. x.rst) p → UnderReset p e → UnderReset (lines_row t d l ∷ p) e
+goes_on p t d l e ne since (quiet n) = quiet (drives_other p t d l e ne ∙ n)
+goes_on p t d l e ne since (holds h) =
+    let o = ap (λ (x : Own). x.rst) (own_other p (lines_row t d l) e ne) in
+    holds (record {
+      drive = drives_other p t d l e ne ∙ h.drive;
+      raised_at = raised_other (λ x. x.rst) p t d l e ne ∙ h.raised_at ∙ sym o;
+      not_before = let w = h.not_before in omega arith;
+    })
+goes_on p t d l e ne since (lingers off) = lingers (ap (λ (x : LineSet). x.rst) (drives_other p t d l e ne) ∙ off)
+
+stays : (s : ScenarioValue) (p : List Row) (t d : ℕ) (l : LineSet) → Standing s p → ResetState s p → IsLeast (due s p) 8 (lines_row t d l) → (bus (lines_row t d l ∷ p)).rst ≡ true → Does s (lines_row t d l ∷ p) d t → broken_rule p (lines_row t d l) ≡ None → NextRow s p (lines_row t d l)
+stays s p t d l st rs m on mine obeys =
+    let row : Row = lines_row t d l in
+    let q : List Row = row ∷ p in
+    let devices : AreOfDevices q = (m.inside, st.devices) in
+    let since : since_line (λ x. x.rst) q ≡ since_line (λ x. x.rst) p = since_is (λ x. x.rst) p row (bus p) (bus q) refl refl ∙ (λ i. newer_line (rs.reset i) (on i) (since_line (λ x. x.rst) p) t) in
+    let change : change_of p row ≡ changed (bus p) (bus q) (drives p d) l = change_is p t d l l (bus p) (bus q) (drives p d) refl refl refl refl in
+    record {
+      order = st.ahead d m.inside (record { time = t; kind = Drives l }) m.is_due;
+      obeys = obeys;
+      ahead = λ _. ahead_in_reset s p row st.devices m.inside m
+      (λ x e le on_e r. elim (cases_eq e d) [
+        | inl same ↦ mine.held x (ap (λ (k : ℕ). (drives q k).rst) (sym same) ∙ on_e) (ap (due s q) (sym same) ∙ r)
+        | inr ne ↦
+            let h = due_there s q e x r in
+            let was : (drives p e).rst ≡ true = ap (λ (y : LineSet). y.rst) (sym (drives_other p t d l e ne)) ∙ on_e in
+            let own = ap (λ (y : Own). y.rst) (own_other p row e ne) in
+            let z : due s p e ≡ Some x = due_holding s p e h.latency st.devices le h.latency_is was ∙ ap (λ (y : ℕ). due_at (y + 25000 + h.latency) none) (sym own) ∙ sym (due_holding s q e h.latency devices le h.latency_is on_e) ∙ r in
+            m.first e le x z
+      ])
+      on
+      (λ e lat le there x off c. elim (cases_eq e d) [
+        | inl same ↦ mine.cleared lat x (ap (λ (k : ℕ). (drives q k).rst) (sym same) ∙ off) (ap (λ (k : ℕ). bus_clear (device_with k lat (drives q k) (own_time q k)) (line_times q).rst) (sym same) ∙ c)
+        | inr ne ↦
+            let was : (drives p e).rst ≡ false = ap (λ (y : LineSet). y.rst) (sym (drives_other p t d l e ne)) ∙ off in
+            let same : bus_clear (device_with e lat (drives p e) (own_time p e)) (line_times p).rst ≡ Some x = (λ i. bus_clear (device_with e lat (sym (drives_other p t d l e ne) i) (sym (ap (λ (y : Own). y.row) (own_other p row e ne)) i)) (sym since i)) ∙ c in
+            let z = comes_by (reset_due s p e) (bus_clear (device_with e lat (drives p e) (own_time p e)) (line_times p).rst) x same in
+            let w = m.first e le z.x (calm_in_reset s p e lat st.devices le there rs.reset was ∙ z.is) in
+            let v = z.le in
+            omega arith
+      ]);
+      here = in_reset (record {
+        reset = on;
+        each = λ e le. elim (cases_eq e d) [
+          | inl same ↦ subst (λ (k : ℕ). UnderReset q k) (sym same) mine.stands
+          | inr ne ↦ goes_on p t d l e ne since (rs.each e le)
+        ];
+        link = link_in_reset s p row (changed (bus p) (bus q) (drives p d) l) st.devices m.inside change on;
+      });
+    }
+
+-- ---- it raises RST
+
+adds_rst : (o : LineSet) → union (union only_rst o) only_rst ≡ union only_rst o
+adds_rst o =
+    λ i. record {
+      data_bits = or_zero_r (bit_or 0 o.data_bits) i;
+      bsy = or_false o.bsy i;
+      sel = or_false o.sel i;
+      cd = or_false o.cd i;
+      io = or_false o.io i;
+      msg = or_false o.msg i;
+      req = or_false o.req i;
+      ack = or_false o.ack i;
+      atn = or_false o.atn i;
+      rst = true;
+    }
+  where
+    or_false : (q : Bool) → (q || false) ≡ q
+    or_false true = refl
+    or_false false = refl
+
+rst_alone : (o : LineSet) → is_within only_rst (union only_rst o) ≡ true
+rst_alone o = ap (λ (x : LineSet). same_set x (union only_rst o)) (adds_rst o) ∙ same_set-self (union only_rst o)
+
+no_fall : (o : LineSet) (r : Bool) → o.rst ≡ false → implies (falls o.rst true) r ≡ true
+no_fall o r e = λ i. implies (falls (e i) true) r
+
+no_fall_none : (o : LineSet) (r : Bool) → o.rst ≡ false → implies (falls o.rst false) r ≡ true
+no_fall_none o r e = λ i. implies (falls (e i) false) r
+
+raising : (s : ScenarioValue) (p : List Row) (t d : ℕ) → AreOfDevices p → d < 8 → (drives p d).rst ≡ false → since_line (λ x. x.rst) (lines_row t d only_rst ∷ p) ≤ t → Does s (lines_row t d only_rst ∷ p) d t
+raising s p t d h lt off since =
+    let q : List Row = lines_row t d only_rst ∷ p in
+    let own = drives_own p t d only_rst in
+    let devices : AreOfDevices q = (lt, h) in
+    let at_t : (own_of q d).rst ≡ t = rst_own p t d only_rst ∙ (λ i. if rises (off i) true then t else (own_of p d).rst) in
+    record {
+      stands = holds (record {
+        drive = own;
+        raised_at = raised_own (λ x. x.rst) p t d only_rst ∙ (λ i. raised_next (off i) true t (raised (λ x. x.rst) p d)) ∙ sym at_t;
+        not_before = omega arith;
+      });
+      held = λ x on r.
+          let l = due_there s q d x r in
+          let z = (is_at ((own_of q d).rst + 25000 + l.latency) none x (sym (due_holding s q d l.latency devices lt l.latency_is on) ∙ r)).time_is in
+          omega arith;
+      cleared = λ lat x e c. let w = sym (ap (λ (y : LineSet). y.rst) own) ∙ e in absurd cc;
+    }
+
+reset_keeps : (p : List Row) (t d : ℕ) → last_time p ≤ t → (drives p d).rst ≡ false → (bus (lines_row t d only_rst ∷ p)).rst ≡ true → implies (bus p).rst (nat_le t ((line_times p).rst + 800) || is_within (bus p) only_rst) ≡ true → broken_rule p (lines_row t d only_rst) ≡ None
+reset_keeps p t d order off on quiet_ =
+    let b' : LineSet = bus (lines_row t d only_rst ∷ p) in
+    reset_row_obeys p t d only_rst (bus p) b' (drives p d) (change_is p t d only_rst only_rst (bus p) b' (drives p d) refl refl refl refl)
+    (record {
+      reset = or_right_yes (bus p).rst b'.rst on;
+      order = order;
+      news = raises_rst (drives p d) off;
+      alone = implied ((bus p).rst || rises (drives p d).rst true) (is_within only_rst (union only_rst (drives p d))) (rst_alone (drives p d));
+      quiet = quiet_;
+      holds = no_fall (drives p d) (nat_le (raised (λ y. y.rst) p d + 25000) t) off;
+    })
+
+pub raises_again : (s : ScenarioValue) (p : List Row) (t d : ℕ) → Fits s → Standing s p → ResetState s p → (drives p d).rst ≡ false → IsLeast (due s p) 8 (lines_row t d only_rst) → NextRow s p (lines_row t d only_rst)
+raises_again s p t d fits st rs off m =
+    let row : Row = lines_row t d only_rst in
+    let q : List Row = row ∷ p in
+    let order = st.ahead d m.inside (record { time = t; kind = Drives only_rst }) m.is_due in
+    let on : (bus q).rst ≡ true = bus_on (λ y. y.rst) (λ _ _. refl) q d m.inside (ap (λ (y : LineSet). y.rst) (drives_own p t d only_rst)) in
+    let since : since_line (λ x. x.rst) q ≤ t = let w = st.past (λ x. x.rst) in since_line_le (λ x. x.rst) row p (omega arith) in
+    stays s p t d only_rst st rs m on (raising s p t d st.devices m.inside off since)
+    (reset_keeps p t d order off on (implied (bus p).rst (nat_le t ((line_times p).rst + 800) || is_within (bus p) only_rst) (quiet_enough s p row fits st rs m)))
+
+-- The first row of RST.
+pub raises : (s : ScenarioValue) (p : List Row) (t d : ℕ) → Standing s p → (bus p).rst ≡ false → IsLeast (due s p) 8 (lines_row t d only_rst) → NextRow s p (lines_row t d only_rst)
+raises s p t d st calm m =
+    let row : Row = lines_row t d only_rst in
+    let q : List Row = row ∷ p in
+    let devices : AreOfDevices q = (m.inside, st.devices) in
+    let off = off_at p calm d m.inside in
+    let order = st.ahead d m.inside (record { time = t; kind = Drives only_rst }) m.is_due in
+    let on : (bus q).rst ≡ true = bus_on (λ y. y.rst) (λ _ _. refl) q d m.inside (ap (λ (y : LineSet). y.rst) (drives_own p t d only_rst)) in
+    let since : since_line (λ x. x.rst) q ≡ t = since_is (λ x. x.rst) p row (bus p) (bus q) refl refl ∙ (λ i. newer_line (calm i) (on i) (since_line (λ x. x.rst) p) t) in
+    let mine = raising s p t d st.devices m.inside off (omega arith) in
+    let other_off : (e : ℕ) → e < 8 → e ≢ d → (drives q e).rst ≡ false = λ e le ne. ap (λ (y : LineSet). y.rst) (drives_other p t d only_rst e ne) ∙ off_at p calm e le in
+    let change : change_of p row ≡ changed (bus p) (bus q) (drives p d) only_rst = change_is p t d only_rst only_rst (bus p) (bus q) (drives p d) refl refl refl refl in
+    record {
+      order = order;
+      obeys = reset_keeps p t d order off on (λ i. implies (calm i) (nat_le t ((line_times p).rst + 800) || is_within (bus p) only_rst));
+      ahead = λ _. ahead_in_reset s p row st.devices m.inside m
+      (λ x e le on_e r. elim (cases_eq e d) [
+        | inl same ↦ mine.held x (ap (λ (k : ℕ). (drives q k).rst) (sym same) ∙ on_e) (ap (due s q) (sym same) ∙ r)
+        | inr ne ↦ let w = sym on_e ∙ other_off e le ne in absurd cc
+      ])
+      on
+      (λ e lat le there x off_e c.
+          let w = (is_cleared_at e lat x c) in
+          omega arith);
+      here = in_reset (record {
+        reset = on;
+        each = λ e le. elim (cases_eq e d) [
+          | inl same ↦ subst (λ (k : ℕ). UnderReset q k) (sym same) mine.stands
+          | inr ne ↦ lingers (other_off e le ne)
+        ];
+        link = link_in_reset s p row (changed (bus p) (bus q) (drives p d) only_rst) st.devices m.inside change on;
+      });
+    }
+  where
+    is_cleared_at : (e lat : ℕ) (x : Due) → bus_clear (device_with e lat (drives (lines_row t d only_rst ∷ p) e) (own_time (lines_row t d only_rst ∷ p) e)) (line_times (lines_row t d only_rst ∷ p)).rst ≡ Some x → x.time ≡ since_line (λ y. y.rst) (lines_row t d only_rst ∷ p) + lat
+    is_cleared_at e lat x c = go (same_set (drives (lines_row t d only_rst ∷ p) e) none) c
+      where
+        go : (g : Bool) → (if g then None else due_at (since_line (λ y. y.rst) (lines_row t d only_rst ∷ p) + lat) none) ≡ Some x → x.time ≡ since_line (λ y. y.rst) (lines_row t d only_rst ∷ p) + lat
+        go true z = absurd (none_some x z)
+        go false z = (is_at (since_line (λ y. y.rst) (lines_row t d only_rst ∷ p) + lat) none x z).time_is
