@@ -47,7 +47,7 @@ use Rattle.bus_rules.specs.Rules.{broken_rule}
 use Rattle.bus_trace.proofs.Ages.{since_line_le}
 use Rattle.bus_laws.specs.Reactions.{own_time, device_with, unreset_due, reset_due, reset_due_if}
 use Rattle.bus_laws.proofs.Tests.{eq_self, eq_other, and_false, or_true}
-use Rattle.bus_laws.proofs.Rows.{change_is, since_is, drives_own, drives_other, raised_own, raised_other, stage_is}
+use Rattle.bus_laws.proofs.Rows.{change_is, since_is, drives_own, drives_other, raised_own, raised_other, stage_is, stands_by}
 use Rattle.bus_laws.proofs.Dues.{is_at, none_some, due_in_reset}
 use Rattle.bus_laws.proofs.FromReset.{off_at, link_in_reset, link_apart, resets_ahead}
 use Rattle.bus_laws.proofs.FromFree.{row_is}
@@ -341,3 +341,159 @@ raises s p t d st calm m =
         go : (g : Bool) → (if g then None else due_at (since_line (λ y. y.rst) (lines_row t d only_rst ∷ p) + lat) none) ≡ Some x → x.time ≡ since_line (λ y. y.rst) (lines_row t d only_rst ∷ p) + lat
         go true z = absurd (none_some x z)
         go false z = (is_at (since_line (λ y. y.rst) (lines_row t d only_rst ∷ p) + lat) none x z).time_is
+
+-- ---- a device releases its lines, or RST
+
+-- What a device does that drives nothing after its row.
+silent : (s : ScenarioValue) (p : List Row) (t d : ℕ) → Does s (lines_row t d none ∷ p) d t
+silent s p t d =
+    let own = drives_own p t d none in
+    record {
+      stands = quiet own;
+      held = λ x on r. let w = sym on ∙ ap (λ (y : LineSet). y.rst) own in absurd cc;
+      cleared = λ lat x off c. absurd (none_some x ((λ i. bus_clear (device_with d lat (sym own i) (own_time (lines_row t d none ∷ p) d)) (line_times (lines_row t d none ∷ p)).rst) ∙ c));
+    }
+
+-- RST stays true where a device releases other lines.
+stays_true : (p : List Row) (t d : ℕ) → (bus p).rst ≡ true → d < 8 → (drives p d).rst ≡ false → (bus (lines_row t d none ∷ p)).rst ≡ true
+stays_true p t d rst lt off = go (bus q).rst refl
+  where
+    q : List Row
+    q = lines_row t d none ∷ p
+    all_off : (bus q).rst ≡ false → (e : ℕ) → e < 8 → (drives p e).rst ≡ false
+    all_off h e le =
+        elim (cases_eq e d) [
+          | inl same ↦ ap (λ (k : ℕ). (drives p k).rst) same ∙ off
+          | inr ne ↦ ap (λ (y : LineSet). y.rst) (sym (drives_other p t d none e ne)) ∙ off_at q h e le
+        ]
+    go : (r : Bool) → (bus q).rst ≡ r → (bus q).rst ≡ true
+    go true h = h
+    go false h = let w = sym rst ∙ bus_off (λ y. y.rst) (λ _ _. refl) refl p (all_off h) in absurd cc
+
+pub clears : (s : ScenarioValue) (p : List Row) (t d : ℕ) → Fits s → Standing s p → ResetState s p → (drives p d).rst ≡ false → same_set (drives p d) none ≡ false → IsLeast (due s p) 8 (lines_row t d none) → NextRow s p (lines_row t d none)
+clears s p t d fits st rs off some m =
+    let row : Row = lines_row t d none in
+    let b' : LineSet = bus (row ∷ p) in
+    let order = st.ahead d m.inside (record { time = t; kind = Drives none }) m.is_due in
+    let on = stays_true p t d rs.reset m.inside off in
+    stays s p t d none st rs m on (silent s p t d)
+    (reset_row_obeys p t d none (bus p) b' (drives p d) (change_is p t d none none (bus p) b' (drives p d) refl refl refl refl)
+    (record {
+      reset = or_yes (bus p).rst b'.rst rs.reset;
+      order = order;
+      news = some;
+      alone = implied ((bus p).rst || rises (drives p d).rst false) (is_within none (union only_rst (drives p d))) (none_within (union only_rst (drives p d)));
+      quiet = implied (bus p).rst (nat_le t ((line_times p).rst + 800) || is_within (bus p) only_rst) (quiet_enough s p row fits st rs m);
+      holds = no_fall_none (drives p d) (nat_le (raised (λ y. y.rst) p d + 25000) t) off;
+    }))
+
+release_keeps : (s : ScenarioValue) (p : List Row) (t d : ℕ) → Fits s → Standing s p → ResetState s p → HoldsReset p d → (own_of p d).rst + 25000 ≤ t → IsLeast (due s p) 8 (lines_row t d none) → broken_rule p (lines_row t d none) ≡ None
+release_keeps s p t d fits st rs h wait m =
+    let row : Row = lines_row t d none in
+    let b' : LineSet = bus (row ∷ p) in
+    let order = st.ahead d m.inside (record { time = t; kind = Drives none }) m.is_due in
+    reset_row_obeys p t d none (bus p) b' only_rst (change_is p t d none none (bus p) b' only_rst refl refl refl h.drive)
+    (record {
+      reset = or_yes (bus p).rst b'.rst rs.reset;
+      order = order;
+      news = refl;
+      alone = implied ((bus p).rst || rises true false) true refl;
+      quiet = implied (bus p).rst (nat_le t ((line_times p).rst + 800) || is_within (bus p) only_rst) (quiet_enough s p row fits st rs m);
+      holds = le_yes (raised (λ y. y.rst) p d + 25000) t (let w = h.raised_at in omega arith);
+    })
+
+-- What stands on the bus after a row that leaves no line true, RST having been the last.
+empty_arbitration : (a : Option Arbitration) (f t d : ℕ) → arbitration_after a f (changed only_rst none only_rst none) (lines_row t d none) ≡ None
+empty_arbitration None f t d = refl
+empty_arbitration (Some a) f t d = refl
+
+empty_connection : (n : Option Connection) (c : Option Call) (t d : ℕ) → connection_after n c (changed only_rst none only_rst none) (lines_row t d none) ≡ None
+empty_connection None c t d = refl
+empty_connection (Some n) c t d = refl
+
+-- The last device releases RST, and the bus is free.
+frees : (s : ScenarioValue) (p : List Row) (t d : ℕ) → Fits s → Standing s p → ResetState s p → HoldsReset p d → (own_of p d).rst + 25000 ≤ t → IsLeast (due s p) 8 (lines_row t d none) → (bus (lines_row t d none ∷ p)).rst ≡ false → NextRow s p (lines_row t d none)
+frees s p t d fits st rs h wait m off =
+    let row : Row = lines_row t d none in
+    let q : List Row = row ∷ p in
+    let devices : AreOfDevices q = (m.inside, st.devices) in
+    let order = st.ahead d m.inside (record { time = t; kind = Drives none }) m.is_due in
+    let own = drives_own p t d none in
+    let others : (e : ℕ) → e < 8 → e ≢ d → drives p e ≡ none = λ e le ne. elim (lingering s p row fits st rs m e le) [
+      | inl g ↦ elim g [
+        | inl n ↦ n
+        | inr o ↦ let w = sym (ap (λ (y : LineSet). y.rst) (drives_other p t d none e ne ∙ o)) ∙ off_at q off e le in absurd cc
+      ]
+      | inr soon ↦ let w = h.not_before in absurd (omega arith)
+    ] in
+    let rest : (e : ℕ) → e < 8 → drives q e ≡ none = λ e le. elim (cases_eq e d) [
+      | inl same ↦ ap (drives q) same ∙ own
+      | inr ne ↦ drives_other p t d none e ne ∙ others e le ne
+    ] in
+    let before : bus p ≡ only_rst = bus_one p d m.inside others ∙ h.drive in
+    let after : bus q ≡ none = bus_none q rest in
+    let change : change_of p row ≡ changed only_rst none only_rst none = change_is p t d none none only_rst none only_rst refl before after h.drive in
+    let goes = stands_by p row (changed only_rst none only_rst none) only_rst (arbitration p) (call p) (connection p) (record { bus_is = before; arbitration_is = refl; call_is = refl; connection_is = refl }) change in
+    let stands : Stands q none None None None = record { bus_is = after; arbitration_is = goes.arbitration_is ∙ empty_arbitration (arbitration p) (free_since p) t d; call_is = goes.call_is; connection_is = goes.connection_is ∙ empty_connection (connection p) (call p) t d } in
+    let here : stage q ≡ OnFreeBus (free_since q) = stage_is q _ _ _ _ stands in
+    let since : since_line (λ x. x.rst) q ≡ t = since_is (λ x. x.rst) p row only_rst none before after in
+    record {
+      order = order;
+      obeys = release_keeps s p t d fits st rs h wait m;
+      ahead = λ _ e le x r.
+          let l = due_there s q e x r in
+          elim (one_of (reset_due s q e) (unreset_due s q e) x (sym (due_calm s q e devices le (ap (λ (y : LineSet). y.rst) (rest e le))) ∙ r)) [
+            | inl z ↦ resets_ahead s p row st.devices m e le (ap (λ (y : LineSet). y.rst) (rest e le)) x z
+            | inr c ↦
+                let w = is_there s q e x c in
+                let v = (is_entry e w.0 (own_time q e) (free_since q) none (want_time s (run_state s q) e) x (sym (free_due_is s q e w.0 (free_since q) devices le w.1 stands.connection_is here (rest e le)) ∙ c)).after_free in
+                omega arith
+          ];
+      here = free (record {
+        stands = stands;
+        quiet = rest;
+        link = link_apart s p row (changed only_rst none only_rst none) st.devices m.inside change refl stands.connection_is rs.link;
+      });
+    }
+
+pub releases : (s : ScenarioValue) (p : List Row) (t d : ℕ) → Fits s → Standing s p → ResetState s p → HoldsReset p d → (own_of p d).rst + 25000 ≤ t → IsLeast (due s p) 8 (lines_row t d none) → NextRow s p (lines_row t d none)
+releases s p t d fits st rs h wait m = go (bus (lines_row t d none ∷ p)).rst refl
+  where
+    go : (r : Bool) → (bus (lines_row t d none ∷ p)).rst ≡ r → NextRow s p (lines_row t d none)
+    go true on = stays s p t d none st rs m on (silent s p t d) (release_keeps s p t d fits st rs h wait m)
+    go false off = frees s p t d fits st rs h wait m off
+
+-- ---- any row under RST
+
+pub from_reset : (s : ScenarioValue) (p : List Row) (row : Row) → Fits s → Standing s p → ResetState s p → IsLeast (due s p) 8 row → NextRow s p row
+from_reset s p row fits st rs m = go (drives p row.dev).rst refl (rs.each row.dev m.inside)
+  where
+    x : Due
+    x = record { time = row.time; kind = row.kind }
+
+    holding : HoldsReset p row.dev → NextRow s p row
+    holding h =
+        let l = due_there s p row.dev x m.is_due in
+        let z = is_at ((own_of p row.dev).rst + 25000 + l.latency) none x (sym (due_holding s p row.dev l.latency st.devices m.inside l.latency_is (ap (λ (y : LineSet). y.rst) h.drive)) ∙ m.is_due) in
+        let e : row ≡ lines_row row.time row.dev none = row_is row none z.kind_is in
+        let wait : (own_of p row.dev).rst + 25000 ≤ row.time = let w = z.time_is in omega arith in
+        subst (λ (r : Row). NextRow s p r) (sym e) (releases s p row.time row.dev fits st rs h wait (subst (λ (r : Row). IsLeast (due s p) 8 r) e m))
+
+    not_holding : (drives p row.dev).rst ≡ false → NextRow s p row
+    not_holding off =
+        let l = due_there s p row.dev x m.is_due in
+        elim (one_of (reset_due s p row.dev) (bus_clear (device_with row.dev l.latency (drives p row.dev) (own_time p row.dev)) (line_times p).rst) x (sym (calm_in_reset s p row.dev l.latency st.devices m.inside l.latency_is rs.reset off) ∙ m.is_due)) [
+          | inl r ↦
+              let e : row ≡ lines_row row.time row.dev only_rst = row_is row only_rst (own_reset_is s p row.dev x r).kind_is in
+              subst (λ (r : Row). NextRow s p r) (sym e) (raises_again s p row.time row.dev fits st rs off (subst (λ (r : Row). IsLeast (due s p) 8 r) e m))
+          | inr c ↦
+              let z = clear_is s p row.dev l.latency x l.latency_is c in
+              let e : row ≡ lines_row row.time row.dev none = row_is row none z.kind_is in
+              subst (λ (r : Row). NextRow s p r) (sym e) (clears s p row.time row.dev fits st rs off z.drives_some (subst (λ (r : Row). IsLeast (due s p) 8 r) e m))
+        ]
+
+    go : (q : Bool) → (drives p row.dev).rst ≡ q → UnderReset p row.dev → NextRow s p row
+    go false off u = not_holding off
+    go true on (quiet n) = let w = sym on ∙ ap (λ (y : LineSet). y.rst) n in absurd cc
+    go true on (holds h) = holding h
+    go true on (lingers off) = let w = sym on ∙ off in absurd cc
