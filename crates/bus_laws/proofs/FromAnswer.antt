@@ -89,6 +89,7 @@ makes_free s p v m c k t0 t1 t2 t3 t always h least wait =
     let sel : since_line (λ y. y.sel) q ≡ t = since_is (λ y. y.sel) p (lines_row t c none) b none h.stands.bus_is after in
     record {
       order = order;
+      calm = ap (λ (y : LineSet). y.rst) after;
       obeys = obeys_apart p t c none b none b none None (Some (withdrawn_at v m c k t0 t1 t2 t3)) false h.stands refl after h.caller (quiet_others (drives p) c quiet) (give_up_obeys p v m c k t0 t1 t2 t3 t h.apart order wait);
       ahead = λ alone e lt y r.
           let w = is_there s q e y r in
@@ -134,9 +135,10 @@ makes_selection s p c k t0 t1 t2 t3 n t always a least wait =
     let goes = stands_after p t c l l b selected (call_lines true false n) None (Some call) None h.stands refl after h.caller in
     record {
       order = order;
+      calm = ap (λ (y : LineSet). y.rst) after;
       obeys = obeys_apart p t c l b selected (call_lines true false n) l None (Some call) (others_in_call (drives p) (Some call)) h.stands refl after h.caller refl (selection_end_obeys p c k n t0 t1 t2 t3 t (others_in_call (drives p) (Some call)) h.apart order wait);
       ahead = λ alone e lt y r. absurd (none_link _ (sym goes.connection_is ∙ alone));
-      here = linked (connected c (answered_calling true k t1 t2 t3) t) goes.connection_is;
+      here = linked (connected c (answered_calling true k t1 t2 t3) t) goes.connection_is (ap (λ (y : LineSet). y.rst) after);
     }
 
 -- in a reselection the target drives BSY again
@@ -164,6 +166,7 @@ makes_takeover s p c k t0 t1 t2 t3 n t always a least =
     let books = still_row_keeps s p t c l l b b (call_lines false false n) None (Some (call_with c t0 g)) always.devices least.inside h.stands h.link refl after h.caller refl refl refl refl in
     record {
       order = order;
+      calm = ap (λ (y : LineSet). y.rst) after;
       obeys = obeys_apart p t c l b b (call_lines false false n) l None (Some (call_with c t0 g)) (others_in_call (drives p) (Some (call_with c t0 g))) h.stands refl after h.caller refl (takeover_obeys p c k n t0 t1 t2 t3 t (others_in_call (drives p) (Some (call_with c t0 g))) h.apart order);
       ahead = λ alone e lt y r.
           let w = is_there s q e y r in
@@ -210,9 +213,10 @@ makes_reselection s p c k t0 t1 t2 t3 t4 n y t always a least wait =
     let goes = stands_after p t c l l b l b None (Some call) None h.stands refl after h.caller in
     record {
       order = order;
+      calm = ap (λ (y : LineSet). y.rst) after;
       obeys = obeys_apart p t c l b l b l None (Some call) (others_in_call (drives p) (Some call)) h.stands refl after h.caller refl (reselection_end_obeys p c k n y t0 t1 t2 t3 t4 t (others_in_call (drives p) (Some call)) h.apart order wait);
       ahead = λ alone e lt y r. absurd (none_link _ (sym goes.connection_is ∙ alone));
-      here = linked (connected c (resumed_calling k t1 t2 t3 t4) t) goes.connection_is;
+      here = linked (connected c (resumed_calling k t1 t2 t3 t4) t) goes.connection_is (ap (λ (y : LineSet). y.rst) after);
     }
 
 -- no device but the caller acts once the called device has answered

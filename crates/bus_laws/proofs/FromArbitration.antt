@@ -86,6 +86,7 @@ enters s p a t d always h o m after_free soon =
     let books = entry_row_keeps s p t d l l (entries (bus p).data_bits) (entries (bus q).data_bits) none (Some a) None always.devices m.inside h.stands h.link refl after o refl refl refl in
     record {
       order = order;
+      calm = ap (λ (y : LineSet). y.rst) after;
       obeys = obeys_apart p t d l (entries (bus p).data_bits) (entries (bus q).data_bits) none l (Some a) None false h.stands refl after o refl (late_entry_obeys p a t d (bus p).data_bits (bus q).data_bits order after_free soon);
       ahead = λ alone e lt y r.
           let w = is_there s q e y r in
@@ -129,6 +130,7 @@ wins s p a t d always h asks m turn highest =
     let no_above : has_id_above (entries (bus p).data_bits) d ≡ false = highest in
     record {
       order = order;
+      calm = ap (λ (y : LineSet). y.rst) after;
       obeys = obeys_apart p t d l (entries (bus p).data_bits) (winner (bus q).data_bits) (contender_lines d) l (Some a) None false h.stands refl after asks.drive refl (win_obeys p a t d (bus p).data_bits (bus q).data_bits order (let w = asks.raised_at in omega arith) no_above);
       ahead = λ alone e lt y r.
           let w = is_there s q e y r in

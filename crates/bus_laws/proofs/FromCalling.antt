@@ -83,6 +83,7 @@ makes_asking s p m c k t0 t1 t always h least wait =
     let age : since_line (λ y. y.bsy) q ≡ t = since_is (λ y. y.bsy) p (lines_row t c l) (called m c k) l h.stands.bus_is after in
     record {
       order = order;
+      calm = ap (λ (y : LineSet). y.rst) after;
       obeys = obeys_apart p t c l (called m c k) l (called m c k) l None (Some (call_at m c k t0 t1)) false h.stands refl after h.caller (quiet_others (drives p) c quiet) (asks_obeys p m c k n t0 t1 t h.apart order wait);
       ahead = λ alone e lt y r.
           let w = is_there s q e y r in
@@ -164,6 +165,7 @@ makes_answer s p m c k t0 t1 t2 n t always a least wait =
     let books = still_row_keeps s p t k l l b b' none None (Some (asked_at false m c k t0 t1 t2)) always.devices least.inside h.stands h.link refl after h.other refl refl refl refl in
     record {
       order = order;
+      calm = ap (λ (y : LineSet). y.rst) after;
       obeys = obeys_apart p t k l b b' none l None (Some (asked_at false m c k t0 t1 t2)) false h.stands refl after h.other (quiet_others (drives p) c quiet) (answer_obeys p m c k n t0 t1 t2 t h.apart order wait a.sel_age a.id_age (let w = a.bsy_age in omega arith) a.shows);
       ahead = λ alone e lt y r.
           let w = is_there s q e y r in
@@ -224,6 +226,7 @@ makes_fault s p m c k t0 t1 t2 n t bit always a least wait soon =
     let quiet = only_caller s p _ c k _ _ h in
     record {
       order = order;
+      calm = ap (λ (y : LineSet). y.rst) goes.bus_is;
       obeys = obeys_by p row g b None (Some (asked_at false m c k t0 t1 t2)) false h.stands e (quiet_others (drives p) c quiet) (struck_obeys p m c k n bit t0 t1 t2 t h.apart order (let w = a.bsy_age in omega arith) a.shows);
       ahead = λ alone e lt y r.
           let w = is_there s q e y r in
@@ -278,6 +281,7 @@ makes_withdrawal s p v m c k t0 t1 t2 n t always a least wait =
     let books = still_row_keeps s p t c l l b l b None (Some (asked_at v m c k t0 t1 t2)) always.devices least.inside h.stands h.link refl after h.caller refl refl refl refl in
     record {
       order = order;
+      calm = ap (λ (y : LineSet). y.rst) after;
       obeys = obeys_apart p t c l b l b l None (Some (asked_at v m c k t0 t1 t2)) false h.stands refl after h.caller (quiet_others (drives p) c quiet) (withdrawal_obeys p v m c k n t0 t1 t2 t h.apart a.some order wait);
       ahead = λ alone e lt y r.
           let w = is_there s q e y r in

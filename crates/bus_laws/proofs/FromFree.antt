@@ -59,6 +59,7 @@ enters s p t d a h m after_free =
     } in
     record {
       order = order;
+      calm = ap (λ (y : LineSet). y.rst) after;
       obeys = obeys_apart p t d l none l none l None None false h.stands refl after (h.quiet d m.inside) refl (entry_obeys p t d order after_free);
       ahead = λ alone e lt y r.
           let w = is_there s q e y r in

@@ -68,6 +68,7 @@ loses s p c t0 t d always h ne_c o m soon =
     let held : own_time q c ≡ t0 = mine_other p t d none c (λ z. ne_c (sym z)) ∙ h.caller_time in
     record {
       order = order;
+      calm = ap (λ (y : LineSet). y.rst) after;
       obeys = obeys_apart p t d none (winner (bus p).data_bits) (winner (bus q).data_bits) (contender_lines d) none None (Some (new_call c t0)) (others_in_call (drives p) (Some (new_call c t0))) h.stands refl after o refl (loser_obeys p c t0 t d (bus p).data_bits (bus q).data_bits (others_in_call (drives p) (Some (new_call c t0))) order soon (eq_other d c ne_c));
       ahead = λ alone e lt y r.
           let w = is_there s q e y r in
@@ -142,6 +143,7 @@ makes_call s p m c k t0 t fits always h least wait lk ne_k =
     let books = still_row_keeps s p t c l l (won_lines c) l (won_lines c) None (Some (new_call c t0)) always.devices least.inside stood h.link refl after h.caller refl refl refl refl in
     record {
       order = order;
+      calm = ap (λ (y : LineSet). y.rst) after;
       obeys = obeys_apart p t c l (won_lines c) l (won_lines c) l None (Some (new_call c t0)) false stood refl after h.caller (quiet_others (drives p) c quiet) (call_obeys p m c k t0 t order wait ids);
       ahead = λ alone e lt y r.
           let w = is_there s q e y r in

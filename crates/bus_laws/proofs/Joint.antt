@@ -30,7 +30,7 @@ use Rattle.bus_laws.specs.Stages.{Always, Goes}
 use Rattle.bus_laws.specs.Rows.{Stands, lines_row}
 use Rattle.bus_laws.specs.Callings.{answer_lines, answered_calling, asked_at, call_at, call_lines, called, entries, resumed_calling, winner, withdrawn_at}
 
-own_time_le : (p : List Row) (t d : ℕ) (k : Kind) (e : ℕ) → own_time p e ≤ t → own_time (record { time = t; dev = d; kind = k } ∷ p) e ≤ t
+pub own_time_le : (p : List Row) (t d : ℕ) (k : Kind) (e : ℕ) → own_time p e ≤ t → own_time (record { time = t; dev = d; kind = k } ∷ p) e ≤ t
 own_time_le p t d (Drives l) e h =
     elim (cases_eq e d) [
       | inl same ↦ let w = mine_own p t d l in subst (λ (x : ℕ). own_time (lines_row t d l ∷ p) x ≤ t) (sym same) (omega arith)

@@ -17,3 +17,4 @@ pub mod ResetObeys
 pub mod Resets
 pub mod FromReset
 pub mod ResetSteps
+pub mod Together

@@ -139,12 +139,13 @@ pub data Here (s : ScenarioValue) (p : List Row) : Type 0 where
   resumed : (c k t0 t1 t2 t3 t4 x : ℕ) → own_time p c ≡ t4 → AnsweredState s p (resumed_calling k t1 t2 t3 t4) c k t0 false true x → Here s p
   in_reset : ResetState s p → Here s p
   -- a connection stands
-  linked : (n : Connection) → connection p ≡ Some n → Here s p
+  linked : (n : Connection) → connection p ≡ Some n → (bus p).rst ≡ false → Here s p
 
 -- A row, no reset being due before it, keeps all of it and obeys the rules; what is due once a connection stands is not said here.
 pub record Goes (s : ScenarioValue) (p : List Row) (row : Row) : Type 0 where
   pub order : last_time p ≤ row.time
   pub obeys : broken_rule p row ≡ None
+  pub calm : (bus (row ∷ p)).rst ≡ false
   pub ahead : connection (row ∷ p) ≡ None → Ahead s (row ∷ p) row.time
   pub here : Here s (row ∷ p)
 
