@@ -18,3 +18,5 @@ pub mod Resets
 pub mod FromReset
 pub mod ResetSteps
 pub mod Together
+pub mod Latencies
+pub mod Prompt

@@ -1,5 +1,5 @@
 -- What holds after the rows of a prompt trace, stage by stage, as long as no connection stands.
-use Rattle.std.specs.Prelude.{is_some, not, ◌&&◌, ℕ, ◌≡◌, ◌≢◌, ◌<◌, ◌≤◌, ◌+◌, ◌==◌, ◌⊎◌, Bool, true, false, List, ◌∷◌, Option, Some, None}
+use Rattle.std.specs.Prelude.{⊤, [], is_some, not, ◌&&◌, ℕ, ◌≡◌, ◌≢◌, ◌<◌, ◌≤◌, ◌+◌, ◌==◌, ◌⊎◌, Bool, true, false, List, ◌∷◌, Option, Some, None}
 use Rattle.std.specs.Int.{bit_at}
 use Rattle.bus_trace.specs.LineSet.{LineSet, none, line_of}
 use Rattle.bus_trace.specs.declared.Row.{Row}
@@ -172,3 +172,8 @@ pub record NextRow (s : ScenarioValue) (p : List Row) (row : Row) : Type 0 where
   pub obeys : broken_rule p row ≡ None
   pub ahead : is_linked (row ∷ p) ≡ false → (d : ℕ) → d < 8 → (x : Due) → due s (row ∷ p) d ≡ Some x → row.time ≤ x.time
   pub here : Here s (row ∷ p)
+
+-- No connection stands after any of these rows, but under RST.
+abbrev pub AreApart : List Row → Type 0
+AreApart [] = ⊤
+AreApart (row ∷ rows) = AreApart rows × (is_linked (row ∷ rows) ≡ false)
