@@ -145,7 +145,6 @@ after_withdrawal_due s p v m c k t0 t1 t2 t3 e lat h lt there alone ne eg eo =
     go true = refl
     go false = refl
 
-
 -- once it has answered: the caller goes on, the other two wait
 pub goes_on_due : (s : ScenarioValue) (p : List Row) (g : Calling) (c t0 t3 lat : ℕ) (own : LineSet) → AreOfDevices p → c < 8 → latency_of s c ≡ Some lat → connection p ≡ None → stage p ≡ InAnswer (call_with c t0 g) g t3 → drives p c ≡ own
     → unreset_due s p c ≡ answered_due (device_with c lat own (own_time p c)) (want_at s p c) g t3

@@ -16,7 +16,6 @@ use Rattle.bus_story.specs.Samples.{latency_of}
 use Rattle.bus_reactions.specs.declared.due.Due.{Due}
 use Rattle.bus_lines.specs.declared.stage.Stage.TheVariants.{InCalling, InAnswer}
 use Rattle.bus_lines.specs.Stage.{stage}
-
 use Rattle.bus_due.specs.RunSteps.{run_state}
 use Rattle.bus_due.specs.Least.{IsLeast}
 use Rattle.bus_due.specs.Plain.{AreOfDevices}
@@ -43,7 +42,7 @@ use Rattle.bus_due.specs.Wants.{want_time}
 use Rattle.bus_laws.proofs.Dues.{is_entry, free_due_is}
 use Rattle.bus_laws.specs.Stages.{Always, AnsweredState, CallingState, Goes, free, linked, resumed}
 use Rattle.bus_laws.specs.Rows.{Stands, lines_row}
-use Rattle.bus_laws.specs.Callings.{answer_lines, answered_calling, call_lines, call_with, called, resumed_calling, withdrawn_at}
+use Rattle.bus_laws.specs.Callings.{answer_lines, answered_calling, call_lines, call_with, resumed_calling, withdrawn_at}
 
 none_link : (n : Connection) → (let a : Option Connection = Some n in a) ≡ None → ⊥
 none_link n e = absurd cc

@@ -15,7 +15,6 @@ use Rattle.bus_lines.specs.declared.stage.Stage.TheVariants.{InArbitration, InCa
 use Rattle.bus_lines.specs.Stage.{stage}
 use Rattle.bus_reactions.specs.FreeBus.{contender_lines, later_entry_if}
 use Rattle.bus_due.specs.Wants.{want_time, callee}
-
 use Rattle.bus_due.specs.RunSteps.{run_state}
 use Rattle.bus_due.specs.Least.{IsLeast}
 use Rattle.bus_due.specs.Plain.{AreOfDevices}

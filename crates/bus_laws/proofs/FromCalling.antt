@@ -24,7 +24,6 @@ use Rattle.bus_reactions.specs.declared.due.Due.{Due}
 use Rattle.bus_reactions.specs.Reactions.{due_at, fault_or}
 use Rattle.bus_lines.specs.declared.stage.Stage.TheVariants.{InCalling, InAnswer}
 use Rattle.bus_lines.specs.Stage.{stage}
-
 use Rattle.bus_due.specs.Least.{IsLeast}
 use Rattle.bus_due.specs.Plain.{AreOfDevices}
 use Rattle.bus_laws.specs.Reactions.{own_time, device_with}

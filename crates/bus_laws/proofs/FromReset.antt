@@ -1,59 +1,42 @@
 -- A row under RST, and one that raises it.
-use Rattle.std.proofs.Common.{◌⊎◌, inl, inr, ℕ, zero, suc, ◌≡◌, ◌≢◌, ◌<◌, ◌≤◌, ◌+◌, Bool, true, false, not, ◌&&◌, ◌||◌, ◌∙◌, List, [], ◌∷◌, Option, Some, None, refl, sym, ap, subst, arith}
-use Rattle.std.specs.Prelude.{nat_lt, nat_le, if◌then◌else◌, ◌==◌, is_some}
+use Rattle.std.proofs.Common.{inl, inr, ℕ, ◌≡◌, ◌<◌, ◌≤◌, ◌+◌, Bool, true, false, ◌&&◌, ◌∙◌, List, [], ◌∷◌, Option, Some, None, refl, sym, ap, arith}
+use Rattle.std.specs.Prelude.{if◌then◌else◌, ◌==◌}
 use Rattle.std.specs.List.{list_any}
 use Rattle.std.proofs.lemmas.Bool.{cases_eq}
-use Rattle.std.proofs.lemmas.Bool.Decides.{nat_tests}
-use Rattle.std.specs.Int.Bits.{or_zero_r}
-use Rattle.std.specs.Int.RustNames.{bit_or}
-use Rattle.bus_base.specs.declared.Event.{Event}
 use Rattle.bus_base.specs.declared.Event.TheVariants as events
-use Rattle.bus_trace.specs.LineSet.{LineSet, none, union, same_set}
-use Rattle.bus_trace.specs.View.{union_below}
-use Rattle.bus_trace.proofs.Sets.{same_set-eq, same_set-self}
-use Rattle.bus_trace.proofs.Buses.{bus_on, bus_off, bus_one, bus_none}
+use Rattle.bus_trace.specs.LineSet.{LineSet}
+use Rattle.bus_trace.proofs.Buses.{bus_on}
 use Rattle.bus_trace.specs.declared.Row.{Row}
 use Rattle.bus_trace.specs.declared.Kind.{Kind}
 use Rattle.bus_trace.specs.declared.Kind.TheVariants.{Drives, Fault}
-use Rattle.bus_trace.specs.Trace.{drives, bus, last_time, line_times, since_line, newer_line}
-use Rattle.bus_trace.specs.declared.arbitration.Arbitration.{Arbitration}
-use Rattle.bus_trace.specs.declared.selection.Call.{Call}
+use Rattle.bus_trace.specs.Trace.{drives, bus}
 use Rattle.bus_trace.specs.declared.connection.Connection.{Connection}
 use Rattle.bus_trace.specs.declared.changes.Change.{Change}
-use Rattle.bus_trace.specs.Changes.{change_of, implies, rises, falls, is_within}
-use Rattle.bus_trace.specs.Terms.{when, raised, raised_next, arbitration, arbitration_after, call, call_after, connection, connection_after, free_since}
+use Rattle.bus_trace.specs.Changes.{change_of, rises, falls}
+use Rattle.bus_trace.specs.Terms.{when, connection, connection_after}
 use Rattle.scenario.specs.declared.value.CmdDef.{CmdDef}
 use Rattle.scenario.specs.Value.{ScenarioValue}
 use Rattle.bus_story.specs.BusState.{RowReading, row_reading}
 use Rattle.bus_story.specs.Items.{is_open, sense_item}
 use Rattle.bus_story.specs.Story.{Story, Ending, by_reset, story_with_end, story_with_over, story_with_ends, story_after_events}
-use Rattle.bus_story.specs.HistoryEvents.{row_events_by, link_events}
-use Rattle.bus_story.specs.Links.{Link}
-use Rattle.bus_story.specs.TraceHistory.{is_arbitration_entry, story_with_aim, story_after_calling, story_on_free_bus, story_by_change, story_on_bus}
+use Rattle.bus_story.specs.HistoryEvents.{link_events}
+use Rattle.bus_story.specs.TraceHistory.{is_arbitration_entry, story_with_aim, story_after_calling, story_on_free_bus, story_on_bus}
 use Rattle.bus_story.specs.Samples.{latency_of}
 use Rattle.bus_reactions.specs.declared.due.Due.{Due}
-use Rattle.bus_reactions.specs.Reactions.{due_at, earlier_due}
-use Rattle.bus_reactions.specs.Linking.{bus_clear}
 use Rattle.bus_due.specs.Own.{Own, own_of}
-use Rattle.bus_due.specs.RunState.{RunState}
-use Rattle.bus_due.specs.RunSteps.{run_state, run_state_with_events}
+use Rattle.bus_due.specs.RunSteps.{run_state}
 use Rattle.bus_due.specs.Due.{reset_from}
 use Rattle.bus_due.specs.Next.{due}
 use Rattle.bus_due.specs.Least.{IsLeast}
 use Rattle.bus_due.specs.Plain.{AreOfDevices}
 use Rattle.bus_due.proofs.Plains.{run_state_plain}
-use Rattle.bus_rules.specs.Reset.{only_rst}
-use Rattle.bus_laws.specs.Reactions.{own_time, device_with, unreset_due, reset_due, reset_due_if}
-use Rattle.bus_laws.proofs.Tests.{eq_self, eq_other, and_false, or_true}
-use Rattle.bus_laws.proofs.Rows.{change_is, since_is, drives_own, drives_other, raised_own, raised_other, stage_is}
-use Rattle.bus_laws.proofs.Dues.{is_at, none_some, due_in_reset}
+use Rattle.bus_laws.specs.Reactions.{unreset_due, reset_due, reset_due_if}
+use Rattle.bus_laws.proofs.Rows.{drives_own}
 use Rattle.bus_laws.proofs.Apart.{change_plain, calling_link}
 use Rattle.bus_reactions.specs.Reset.{rst_assertion}
 use Rattle.bus_trace.proofs.OneRow.{drives-other, drives-fault}
-use Rattle.bus_laws.proofs.ResetObeys.{KeepsReset, reset_row_obeys, raises_rst, none_within, implied}
-use Rattle.bus_laws.proofs.Resets.{one_of, NoLater, comes_by, comes_by_first, due_calm, due_holding, due_there, own_reset_is, reset_after, own_other, released_own, rst_own, own_fault}
-use Rattle.bus_laws.specs.Stages.{HasDevice, HoldsReset, UnderReset, quiet, holds, lingers, ResetState, Standing}
-use Rattle.bus_laws.specs.Rows.{lines_row, fault_row, changed, Stands}
+use Rattle.bus_laws.proofs.Resets.{comes_by_first, due_calm, own_reset_is, reset_after, own_other, released_own, own_fault}
+use Rattle.bus_laws.specs.Rows.{lines_row, fault_row}
 
 -- ---- RST on the bus and at the devices
 

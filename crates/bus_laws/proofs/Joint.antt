@@ -1,34 +1,17 @@
 -- What holds after the rows of a prompt trace.
-use Rattle.std.proofs.Common.{◌⊎◌, inl, inr, ℕ, ◌≡◌, ◌≢◌, ◌<◌, ◌≤◌, ◌+◌, Bool, true, false, List, ◌∷◌, Some, None, sym, subst, arith}
+use Rattle.std.proofs.Common.{inl, inr, ℕ, ◌≡◌, ◌<◌, ◌≤◌, List, ◌∷◌, None, sym, subst, arith}
 use Rattle.std.proofs.lemmas.Bool.{cases_eq}
-use Rattle.std.specs.Int.{bit_at}
-use Rattle.std.specs.Prelude.{◌==◌}
-use Rattle.bus_trace.specs.LineSet.{LineSet, none, line_of}
 use Rattle.bus_trace.specs.declared.Row.{Row}
 use Rattle.bus_trace.specs.declared.Kind.{Kind}
 use Rattle.bus_trace.specs.declared.Kind.TheVariants.{Drives, Fault}
-use Rattle.bus_trace.specs.Trace.{drives, bus, last_time, since, since_line}
 use Rattle.bus_trace.proofs.Ages.{since_le, since_line_le}
-use Rattle.bus_trace.specs.declared.arbitration.Arbitration.{Arbitration}
-use Rattle.bus_trace.specs.declared.selection.Call.{Call}
-use Rattle.bus_trace.specs.declared.selection.Calling.{Calling}
-use Rattle.bus_trace.specs.declared.connection.Connection.{Connection}
-use Rattle.bus_trace.specs.Terms.{raised, connection}
-use Rattle.bus_rules.specs.Lawful.{AreLawful}
-use Rattle.bus_rules.specs.Rules.{broken_rule}
+use Rattle.bus_trace.specs.Terms.{connection}
 use Rattle.bus_rules.proofs.First.{row_none}
 use Rattle.scenario.specs.Value.{ScenarioValue}
-use Rattle.bus_story.specs.Samples.{latency_of}
-use Rattle.bus_reactions.specs.declared.due.Due.{Due}
-use Rattle.bus_reactions.specs.FreeBus.{contender_lines}
-use Rattle.bus_due.specs.RunSteps.{run_state}
-use Rattle.bus_due.specs.Plain.{AreOfDevices}
 use Rattle.bus_laws.specs.Reactions.{own_time}
-use Rattle.bus_laws.specs.Reactions.{unreset_due}
 use Rattle.bus_laws.proofs.Rows.{mine_own, mine_other, own_time_fault}
 use Rattle.bus_laws.specs.Stages.{Always, Goes}
-use Rattle.bus_laws.specs.Rows.{Stands, lines_row}
-use Rattle.bus_laws.specs.Callings.{answer_lines, answered_calling, asked_at, call_at, call_lines, called, entries, resumed_calling, winner, withdrawn_at}
+use Rattle.bus_laws.specs.Rows.{lines_row}
 
 pub own_time_le : (p : List Row) (t d : ℕ) (k : Kind) (e : ℕ) → own_time p e ≤ t → own_time (record { time = t; dev = d; kind = k } ∷ p) e ≤ t
 own_time_le p t d (Drives l) e h =

@@ -1,5 +1,5 @@
 -- Each device of a scenario that obeys the rules of its text has a latency of at most 100 ns.
-use Rattle.std.proofs.Common.{ℕ, ◌≡◌, ◌≤◌, ◌+◌, Bool, true, false, ◌∙◌, List, [], ◌∷◌, ◌++◌, Option, Some, None, Result, Ok, Err, refl, sym, ap, subst, arith}
+use Rattle.std.proofs.Common.{ℕ, ◌≡◌, ◌≤◌, Bool, true, false, List, [], ◌∷◌, ◌++◌, Option, Some, None, Result, Ok, Err, refl, sym, ap, subst, arith}
 use Rattle.std.specs.Prelude.{not, ◌==◌, ◌&&◌, nat_le, if◌then◌else◌}
 use Rattle.std.specs.List.{find, AllByRecursion}
 use Rattle.std.proofs.lemmas.Bool.Decides.{nat_tests}
@@ -10,10 +10,10 @@ use Rattle.text_words.specs.Words.{Number}
 use Rattle.scenario.specs.Value.{ScenarioValue}
 use Rattle.scenario.specs.Lookups.{has_device}
 use Rattle.scenario.specs.Forms.{Said, scsi_line, initiator_line, target_line, unit_line, fill_line, cmd_line, abort_line, reset_line, fault_line, end_line}
-use Rattle.scenario.specs.Reading.{Progress, ◌>>=◌, guard, within, in_8, period_in, policy_in, host_def, target_def, unit_def, fill_def, full_cmd_def, abort_def, reset_def, fault_def, added, said_after, fits_version, in_order, rank, kind_of, nothing}
-use Rattle.scenario.specs.Writing.{saids, built, tells, Obeys}
-use Rattle.scenario.proofs.Steps.{bind_ok, ok_is, guard_ok}
-use Rattle.bus_story.specs.Samples.{host_latency, target_latency, latency_of}
+use Rattle.scenario.specs.Reading.{Progress, guard, within, in_8, period_in, policy_in, host_def, target_def, unit_def, fill_def, full_cmd_def, abort_def, reset_def, fault_def, added, said_after, fits_version, in_order, rank, kind_of, nothing}
+use Rattle.scenario.specs.Writing.{saids, built, Obeys}
+use Rattle.scenario.proofs.Steps.{bind_ok, ok_is}
+use Rattle.bus_story.specs.Samples.{host_latency, target_latency}
 use Rattle.bus_laws.specs.Stages.{Fits}
 
 -- ---- a line
@@ -24,6 +24,7 @@ within_most (Some m) least most n e = go (nat_le least m) (nat_le m most) refl e
   where
     le : (a b : ℕ) → nat_le a b ≡ true → a ≤ b
     le a b h = grind (arith, nat_tests)
+
     go : (q r : Bool) → nat_le m most ≡ r → (if◌then◌else◌ {A = Result ℕ ℕ} (q && r) (Ok m) (Err 4)) ≡ Ok n → n ≤ most
     go true true h z = let w = ok_is m n z in let u = le m most h in omega arith
     go true false h z = absurd cc
@@ -118,6 +119,7 @@ host_found (h ∷ hosts) dev lat a e = go (h.dev == dev) (λ z. host_found hosts
   where
     nat_eq : (x y : ℕ) → (let o : Option ℕ = Some x in o) ≡ Some y → x ≡ y
     nat_eq x y e = cc
+
     go : (q : Bool) → (host_latency (find (λ (g : HostDef). g.dev == dev) hosts) ≡ Some lat → lat ≤ 100) → host_latency (if q then Some h else find (λ (g : HostDef). g.dev == dev) hosts) ≡ Some lat → lat ≤ 100
     go true more z = let w = nat_eq h.latency lat z in let u = a.0 in omega arith
     go false more z = more z
@@ -128,6 +130,7 @@ target_found (t ∷ targets) dev lat other a f e = go (t.dev == dev) (λ z. targ
   where
     nat_eq : (x y : ℕ) → (let o : Option ℕ = Some x in o) ≡ Some y → x ≡ y
     nat_eq x y e = cc
+
     go : (q : Bool) → (target_latency (find (λ (g : TargetDef). g.dev == dev) targets) other ≡ Some lat → lat ≤ 100) → target_latency (if q then Some t else find (λ (g : TargetDef). g.dev == dev) targets) other ≡ Some lat → lat ≤ 100
     go true more z = let w = nat_eq t.latency lat z in let u = a.0 in omega arith
     go false more z = more z

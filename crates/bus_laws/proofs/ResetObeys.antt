@@ -1,23 +1,22 @@
 -- Rows under RST, and the row that raises it, obey the rules.
-use Rattle.std.proofs.Common.{◌⊎◌, inl, inr, ℕ, ◌≡◌, ◌≤◌, ◌+◌, Bool, true, false, not, ◌&&◌, ◌||◌, ◌∙◌, List, ◌∷◌, Option, Some, None, refl, sym, ap, arith}
+use Rattle.std.proofs.Common.{ℕ, ◌≡◌, ◌≤◌, ◌+◌, Bool, true, false, not, ◌&&◌, ◌||◌, ◌∙◌, List, None, refl, ap, arith}
 use Rattle.std.specs.Prelude.{if◌then◌else◌, nat_le}
 use Rattle.std.proofs.lemmas.Bool.Decides.{nat_tests}
 use Rattle.bus_trace.specs.LineSet.{LineSet, none, union, same, same_set}
 use Rattle.bus_trace.proofs.Sets.{same_set-self}
-use Rattle.bus_trace.proofs.Buses.{union-none, union_comm}
+use Rattle.bus_trace.proofs.Buses.{union-none}
 use Rattle.bus_trace.specs.declared.Row.{Row}
-use Rattle.bus_trace.specs.declared.Kind.TheVariants.{Drives}
 use Rattle.bus_trace.specs.Trace.{last_time, line_times}
 use Rattle.bus_trace.specs.declared.changes.Change.{Change}
 use Rattle.bus_trace.specs.Changes.{change_of, implies, rises, falls, is_within}
 use Rattle.bus_trace.specs.Terms.{raised}
 use Rattle.bus_rules.specs.declared.seen.Seen.{Seen}
 use Rattle.bus_rules.specs.Seen.{seen, seen_with}
-use Rattle.bus_rules.specs.Order.{is_in_order, is_news, is_news_of}
+use Rattle.bus_rules.specs.Order.{is_in_order, is_news}
 use Rattle.bus_rules.specs.Reset.{is_reset, only_rst, raises_rst_alone, is_quiet_in_reset, holds_reset, keeps_reset}
 use Rattle.bus_rules.specs.Rules.{test, stands_in_reset, keeps, judged_rules, lowest_broken, broken_rule}
 use Rattle.bus_rules.proofs.First.{none_broken}
-use Rattle.bus_laws.proofs.Tests.{and_false, or_true}
+use Rattle.bus_laws.proofs.Tests.{and_false}
 use Rattle.bus_laws.specs.Rows.{changed, lines_row}
 
 other_rule : (n : ℕ) (v : Seen) (row : Row) → stands_in_reset n ≡ false → is_reset v ≡ true → keeps n v row ≡ true

@@ -1,52 +1,36 @@
 -- The rows under RST, to the free bus, and the row that raises it.
-use Rattle.std.proofs.Common.{◌⊎◌, inl, inr, ℕ, zero, suc, ◌≡◌, ◌≢◌, ◌<◌, ◌≤◌, ◌+◌, Bool, true, false, not, ◌&&◌, ◌||◌, ◌∙◌, List, [], ◌∷◌, Option, Some, None, refl, sym, ap, subst, arith}
-use Rattle.std.specs.Prelude.{nat_lt, nat_le, if◌then◌else◌, ◌==◌, is_some}
-use Rattle.std.specs.List.{list_any}
+use Rattle.std.proofs.Common.{◌⊎◌, inl, inr, ℕ, zero, suc, ◌≡◌, ◌≢◌, ◌<◌, ◌≤◌, ◌+◌, Bool, true, false, ◌||◌, ◌∙◌, List, ◌∷◌, Option, Some, None, refl, sym, ap, subst, arith}
+use Rattle.std.specs.Prelude.{nat_le, if◌then◌else◌}
 use Rattle.std.proofs.lemmas.Bool.{cases_eq}
 use Rattle.std.proofs.lemmas.Bool.Decides.{nat_tests}
 use Rattle.std.specs.Int.Bits.{or_zero_r}
 use Rattle.std.specs.Int.RustNames.{bit_or}
-use Rattle.bus_base.specs.declared.Event.{Event}
-use Rattle.bus_base.specs.declared.Event.TheVariants as events
 use Rattle.bus_trace.specs.LineSet.{LineSet, none, union, same_set}
 use Rattle.bus_trace.specs.View.{union_below}
 use Rattle.bus_trace.proofs.Sets.{same_set-eq, same_set-self}
 use Rattle.bus_trace.proofs.Buses.{bus_on, bus_off, bus_one, bus_none}
 use Rattle.bus_trace.specs.declared.Row.{Row}
-use Rattle.bus_trace.specs.declared.Kind.{Kind}
-use Rattle.bus_trace.specs.declared.Kind.TheVariants.{Drives, Fault}
+use Rattle.bus_trace.specs.declared.Kind.TheVariants.{Drives}
 use Rattle.bus_trace.specs.Trace.{drives, bus, last_time, line_times, since_line, newer_line}
 use Rattle.bus_trace.specs.declared.arbitration.Arbitration.{Arbitration}
 use Rattle.bus_trace.specs.declared.selection.Call.{Call}
 use Rattle.bus_trace.specs.declared.connection.Connection.{Connection}
-use Rattle.bus_trace.specs.declared.changes.Change.{Change}
 use Rattle.bus_trace.specs.Changes.{change_of, implies, rises, falls, is_within}
-use Rattle.bus_trace.specs.Terms.{when, raised, raised_next, arbitration, arbitration_after, call, call_after, connection, connection_after, free_since}
-use Rattle.scenario.specs.declared.value.CmdDef.{CmdDef}
+use Rattle.bus_trace.specs.Terms.{raised, raised_next, arbitration, arbitration_after, call, connection, connection_after, free_since}
 use Rattle.scenario.specs.Value.{ScenarioValue}
-use Rattle.bus_story.specs.BusState.{RowReading, row_reading}
-use Rattle.bus_story.specs.Items.{is_open, sense_item}
-use Rattle.bus_story.specs.Story.{Story, Ending, by_reset, story_with_end, story_with_over, story_with_ends, story_after_events}
-use Rattle.bus_story.specs.HistoryEvents.{row_events_by, link_events}
-use Rattle.bus_story.specs.Links.{Link}
-use Rattle.bus_story.specs.TraceHistory.{is_arbitration_entry, story_with_aim, story_after_calling, story_on_free_bus, story_by_change, story_on_bus}
 use Rattle.bus_story.specs.Samples.{latency_of}
 use Rattle.bus_reactions.specs.declared.due.Due.{Due}
 use Rattle.bus_reactions.specs.Reactions.{due_at, earlier_due}
 use Rattle.bus_reactions.specs.Linking.{bus_clear}
 use Rattle.bus_due.specs.Own.{Own, own_of}
-use Rattle.bus_due.specs.RunState.{RunState}
-use Rattle.bus_due.specs.RunSteps.{run_state, run_state_with_events}
-use Rattle.bus_due.specs.Due.{reset_from}
+use Rattle.bus_due.specs.RunSteps.{run_state}
 use Rattle.bus_due.specs.Next.{due}
 use Rattle.bus_due.specs.Least.{IsLeast}
 use Rattle.bus_due.specs.Plain.{AreOfDevices}
-use Rattle.bus_due.proofs.Plains.{run_state_plain}
 use Rattle.bus_rules.specs.Reset.{only_rst}
 use Rattle.bus_rules.specs.Rules.{broken_rule}
 use Rattle.bus_trace.proofs.Ages.{since_line_le}
-use Rattle.bus_laws.specs.Reactions.{own_time, device_with, unreset_due, reset_due, reset_due_if}
-use Rattle.bus_laws.proofs.Tests.{eq_self, eq_other, and_false, or_true}
+use Rattle.bus_laws.specs.Reactions.{own_time, device_with, unreset_due, reset_due}
 use Rattle.bus_laws.proofs.Rows.{change_is, since_is, drives_own, drives_other, raised_own, raised_other, stage_is, stands_by}
 use Rattle.bus_laws.proofs.Dues.{is_at, none_some, due_in_reset}
 use Rattle.bus_laws.proofs.FromReset.{off_at, link_in_reset, link_apart, resets_ahead}
@@ -55,12 +39,10 @@ use Rattle.bus_laws.proofs.Dues.{is_there, is_entry, free_due_is}
 use Rattle.bus_due.specs.Wants.{want_time}
 use Rattle.bus_lines.specs.declared.stage.Stage.TheVariants.{OnFreeBus}
 use Rattle.bus_lines.specs.Stage.{stage}
-use Rattle.bus_reactions.specs.Reset.{rst_assertion}
-use Rattle.bus_trace.proofs.OneRow.{drives-other, drives-fault}
-use Rattle.bus_laws.proofs.ResetObeys.{KeepsReset, reset_row_obeys, raises_rst, none_within, implied}
-use Rattle.bus_laws.proofs.Resets.{one_of, NoLater, comes_by, comes_by_first, due_calm, due_holding, due_there, own_reset_is, reset_after, own_other, released_own, rst_own, own_fault}
-use Rattle.bus_laws.specs.Stages.{Fits, FreeState, Here, free, in_reset, NextRow, is_linked, HasDevice, HoldsReset, UnderReset, quiet, holds, lingers, ResetState, Standing}
-use Rattle.bus_laws.specs.Rows.{lines_row, fault_row, changed, Stands}
+use Rattle.bus_laws.proofs.ResetObeys.{reset_row_obeys, raises_rst, none_within, implied}
+use Rattle.bus_laws.proofs.Resets.{one_of, comes_by, due_calm, due_holding, due_there, own_reset_is, own_other, rst_own}
+use Rattle.bus_laws.specs.Stages.{Fits, free, in_reset, NextRow, HoldsReset, UnderReset, quiet, holds, lingers, ResetState, Standing}
+use Rattle.bus_laws.specs.Rows.{lines_row, changed, Stands}
 
 -- ---- a device that does not drive RST, under RST
 
@@ -103,6 +85,7 @@ lingering s p row fits st rs m d lt = go (rs.each d lt)
           let v = z.le in
           inr (omega arith)
     ]
+
     go : UnderReset p d → ((drives p d ≡ none) ⊎ (drives p d ≡ only_rst)) ⊎ (row.time ≤ (line_times p).rst + 100)
     go (quiet n) = inl (inl n)
     go (holds h) = inl (inr h.drive)
@@ -198,26 +181,26 @@ stays s p t d l st rs m on mine obeys =
       order = st.ahead d m.inside (record { time = t; kind = Drives l }) m.is_due;
       obeys = obeys;
       ahead = λ _. ahead_in_reset s p row st.devices m.inside m
-      (λ x e le on_e r. elim (cases_eq e d) [
-        | inl same ↦ mine.held x (ap (λ (k : ℕ). (drives q k).rst) (sym same) ∙ on_e) (ap (due s q) (sym same) ∙ r)
-        | inr ne ↦
-            let h = due_there s q e x r in
-            let was : (drives p e).rst ≡ true = ap (λ (y : LineSet). y.rst) (sym (drives_other p t d l e ne)) ∙ on_e in
-            let own = ap (λ (y : Own). y.rst) (own_other p row e ne) in
-            let z : due s p e ≡ Some x = due_holding s p e h.latency st.devices le h.latency_is was ∙ ap (λ (y : ℕ). due_at (y + 25000 + h.latency) none) (sym own) ∙ sym (due_holding s q e h.latency devices le h.latency_is on_e) ∙ r in
-            m.first e le x z
-      ])
-      on
-      (λ e lat le there x off c. elim (cases_eq e d) [
-        | inl same ↦ mine.cleared lat x (ap (λ (k : ℕ). (drives q k).rst) (sym same) ∙ off) (ap (λ (k : ℕ). bus_clear (device_with k lat (drives q k) (own_time q k)) (line_times q).rst) (sym same) ∙ c)
-        | inr ne ↦
-            let was : (drives p e).rst ≡ false = ap (λ (y : LineSet). y.rst) (sym (drives_other p t d l e ne)) ∙ off in
-            let same : bus_clear (device_with e lat (drives p e) (own_time p e)) (line_times p).rst ≡ Some x = (λ i. bus_clear (device_with e lat (sym (drives_other p t d l e ne) i) (sym (ap (λ (y : Own). y.row) (own_other p row e ne)) i)) (sym since i)) ∙ c in
-            let z = comes_by (reset_due s p e) (bus_clear (device_with e lat (drives p e) (own_time p e)) (line_times p).rst) x same in
-            let w = m.first e le z.x (calm_in_reset s p e lat st.devices le there rs.reset was ∙ z.is) in
-            let v = z.le in
-            omega arith
-      ]);
+          (λ x e le on_e r. elim (cases_eq e d) [
+            | inl same ↦ mine.held x (ap (λ (k : ℕ). (drives q k).rst) (sym same) ∙ on_e) (ap (due s q) (sym same) ∙ r)
+            | inr ne ↦
+                let h = due_there s q e x r in
+                let was : (drives p e).rst ≡ true = ap (λ (y : LineSet). y.rst) (sym (drives_other p t d l e ne)) ∙ on_e in
+                let own = ap (λ (y : Own). y.rst) (own_other p row e ne) in
+                let z : due s p e ≡ Some x = due_holding s p e h.latency st.devices le h.latency_is was ∙ ap (λ (y : ℕ). due_at (y + 25000 + h.latency) none) (sym own) ∙ sym (due_holding s q e h.latency devices le h.latency_is on_e) ∙ r in
+                m.first e le x z
+          ])
+          on
+          (λ e lat le there x off c. elim (cases_eq e d) [
+            | inl same ↦ mine.cleared lat x (ap (λ (k : ℕ). (drives q k).rst) (sym same) ∙ off) (ap (λ (k : ℕ). bus_clear (device_with k lat (drives q k) (own_time q k)) (line_times q).rst) (sym same) ∙ c)
+            | inr ne ↦
+                let was : (drives p e).rst ≡ false = ap (λ (y : LineSet). y.rst) (sym (drives_other p t d l e ne)) ∙ off in
+                let same : bus_clear (device_with e lat (drives p e) (own_time p e)) (line_times p).rst ≡ Some x = (λ i. bus_clear (device_with e lat (sym (drives_other p t d l e ne) i) (sym (ap (λ (y : Own). y.row) (own_other p row e ne)) i)) (sym since i)) ∙ c in
+                let z = comes_by (reset_due s p e) (bus_clear (device_with e lat (drives p e) (own_time p e)) (line_times p).rst) x same in
+                let w = m.first e le z.x (calm_in_reset s p e lat st.devices le there rs.reset was ∙ z.is) in
+                let v = z.le in
+                omega arith
+          ]);
       here = in_reset (record {
         reset = on;
         each = λ e le. elim (cases_eq e d) [
@@ -317,12 +300,12 @@ raises s p t d st calm m =
       order = order;
       obeys = reset_keeps p t d order off on (λ i. implies (calm i) (nat_le t ((line_times p).rst + 800) || is_within (bus p) only_rst));
       ahead = λ _. ahead_in_reset s p row st.devices m.inside m
-      (λ x e le on_e r. elim (cases_eq e d) [
-        | inl same ↦ mine.held x (ap (λ (k : ℕ). (drives q k).rst) (sym same) ∙ on_e) (ap (due s q) (sym same) ∙ r)
-        | inr ne ↦ let w = sym on_e ∙ other_off e le ne in absurd cc
-      ])
-      on
-      (λ e lat le there x off_e c.
+          (λ x e le on_e r. elim (cases_eq e d) [
+            | inl same ↦ mine.held x (ap (λ (k : ℕ). (drives q k).rst) (sym same) ∙ on_e) (ap (due s q) (sym same) ∙ r)
+            | inr ne ↦ let w = sym on_e ∙ other_off e le ne in absurd cc
+          ])
+          on
+          (λ e lat le there x off_e c.
           let w = (is_cleared_at e lat x c) in
           omega arith);
       here = in_reset (record {
@@ -360,12 +343,14 @@ stays_true p t d rst lt off = go (bus q).rst refl
   where
     q : List Row
     q = lines_row t d none ∷ p
+
     all_off : (bus q).rst ≡ false → (e : ℕ) → e < 8 → (drives p e).rst ≡ false
     all_off h e le =
         elim (cases_eq e d) [
           | inl same ↦ ap (λ (k : ℕ). (drives p k).rst) same ∙ off
           | inr ne ↦ ap (λ (y : LineSet). y.rst) (sym (drives_other p t d none e ne)) ∙ off_at q h e le
         ]
+
     go : (r : Bool) → (bus q).rst ≡ r → (bus q).rst ≡ true
     go true h = h
     go false h = let w = sym rst ∙ bus_off (λ y. y.rst) (λ _ _. refl) refl p (all_off h) in absurd cc

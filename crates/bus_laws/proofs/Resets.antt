@@ -1,39 +1,32 @@
 -- RST: what is due round what is due without it, and the rows that raise and release it (6.2.2).
-use Rattle.std.proofs.Common.{◌⊎◌, inl, inr, ℕ, zero, suc, ◌≡◌, ◌≢◌, ◌<◌, ◌≤◌, ◌+◌, Bool, true, false, not, ◌&&◌, ◌||◌, ◌∙◌, List, [], ◌∷◌, Option, Some, None, refl, sym, ap, subst, arith}
-use Rattle.std.specs.Prelude.{nat_lt, nat_le, if◌then◌else◌, min, ◌==◌}
-use Rattle.std.proofs.lemmas.Bool.{cases_eq, ltb-false}
+use Rattle.std.proofs.Common.{◌⊎◌, inl, inr, ℕ, ◌≡◌, ◌≢◌, ◌<◌, ◌≤◌, ◌+◌, Bool, true, false, not, ◌&&◌, ◌∙◌, List, [], ◌∷◌, Option, Some, None, refl, sym, ap, arith}
+use Rattle.std.specs.Prelude.{nat_lt, if◌then◌else◌, min, ◌==◌}
+use Rattle.std.proofs.lemmas.Bool.{ltb-false}
 use Rattle.std.proofs.lemmas.Bool.Decides.{nat_tests}
-use Rattle.std.specs.Int.Bits.{or_zero_r}
-use Rattle.bus_trace.specs.LineSet.{LineSet, none, union, same_set}
-use Rattle.bus_trace.proofs.Sets.{same_set-eq}
-use Rattle.bus_trace.proofs.Buses.{bus_on, bus_none, union-none}
+use Rattle.bus_trace.specs.LineSet.{LineSet, none}
 use Rattle.bus_trace.specs.declared.Row.{Row}
-use Rattle.bus_trace.specs.declared.Kind.{Kind}
 use Rattle.bus_trace.specs.declared.Kind.TheVariants.{Drives, Fault}
-use Rattle.bus_trace.specs.Trace.{drives, bus, last_time, line_times, since_line, newer_line}
-use Rattle.bus_trace.specs.declared.changes.Change.{Change}
-use Rattle.bus_trace.specs.Changes.{change_of, implies, rises, falls, is_within}
-use Rattle.bus_trace.specs.Terms.{when, raised, raised_next}
+use Rattle.bus_trace.specs.Trace.{drives}
+use Rattle.bus_trace.specs.Changes.{change_of, rises, falls}
+use Rattle.bus_trace.specs.Terms.{when}
 use Rattle.scenario.specs.declared.value.ResetDef.{ResetDef}
 use Rattle.scenario.specs.Value.{ScenarioValue}
 use Rattle.bus_story.specs.Samples.{latency_of}
 use Rattle.bus_reactions.specs.declared.due.Due.{Due}
-use Rattle.bus_reactions.specs.Reactions.{due_at, earlier_due, not_later, sooner_time, time_if}
-use Rattle.bus_reactions.specs.Reset.{rst_assertion, rst_release, with_reset}
+use Rattle.bus_reactions.specs.Reactions.{due_at, earlier_due, sooner_time, time_if}
+use Rattle.bus_reactions.specs.Reset.{rst_assertion, rst_release}
 use Rattle.bus_due.specs.Own.{Own, own_at, own_of, own_after, own_next}
-use Rattle.bus_due.specs.RunState.{RunState}
 use Rattle.bus_due.specs.RunSteps.{run_state}
 use Rattle.bus_due.specs.Due.{self_of, is_reset_past, reset_from, calm_due, device_due, due_if}
 use Rattle.bus_due.specs.Next.{due}
-use Rattle.bus_due.specs.Least.{IsLeast}
 use Rattle.bus_due.specs.Plain.{AreOfDevices}
 use Rattle.bus_due.proofs.Plains.{run_state_plain}
 use Rattle.bus_rules.specs.Reset.{only_rst}
-use Rattle.bus_laws.specs.Reactions.{device_with, unreset_due_if, unreset_due, reset_due_if, reset_due}
+use Rattle.bus_laws.specs.Reactions.{unreset_due_if, unreset_due, reset_due_if, reset_due}
 use Rattle.bus_laws.proofs.Tests.{eq_self, eq_other}
 use Rattle.bus_laws.proofs.Dues.{is_at, none_some}
 use Rattle.bus_laws.specs.Stages.{HasDevice}
-use Rattle.bus_laws.specs.Rows.{changed, lines_row}
+use Rattle.bus_laws.specs.Rows.{lines_row}
 
 -- ---- the first of two
 
@@ -61,6 +54,7 @@ comes_by (Some x) (Some w) y e = go (nat_lt w.time x.time) refl
   where
     same : w.time ≡ y.time
     same = ap (λ (z : Due). z.time) (some_eq w y e)
+
     go : (q : Bool) → nat_lt w.time x.time ≡ q → NoLater (Some (if q then w else x)) y.time
     go true h = let s = same in record { x = w; is = refl; le = omega arith }
     go false h = let s = same in let l = ltb-false w.time x.time h in record { x = x; is = refl; le = omega arith }
@@ -72,8 +66,10 @@ comes_by_first (Some x) (Some w) y e = go (nat_lt w.time x.time) refl
   where
     same : x.time ≡ y.time
     same = ap (λ (z : Due). z.time) (some_eq x y e)
+
     lt_le : (a b : ℕ) → nat_lt a b ≡ true → a ≤ b
     lt_le a b h = grind (arith, nat_tests)
+
     go : (q : Bool) → nat_lt w.time x.time ≡ q → NoLater (Some (if q then w else x)) y.time
     go true h = let s = same in let l = lt_le w.time x.time h in record { x = w; is = refl; le = omega arith }
     go false h = let s = same in record { x = x; is = refl; le = omega arith }
@@ -140,6 +136,7 @@ time_after t true at x e = go (nat_lt t at) refl e
   where
     lt_of : (a b : ℕ) → nat_lt a b ≡ true → a < b
     lt_of a b h = grind (arith, nat_tests)
+
     go : (r : Bool) → nat_lt t at ≡ r → time_if (not (not r)) at ≡ Some x → t < x
     go true h z = let u = nat_eq at x z in let v = lt_of t at h in omega arith
     go false h z = absurd (none_nat x z)

@@ -3,7 +3,6 @@ use Rattle.std.proofs.Common.{ℕ, ◌≡◌, ◌≢◌, Bool, true, false, List
 use Rattle.std.specs.Prelude.{◌==◌, if◌then◌else◌}
 use Rattle.bus_trace.specs.LineSet.{LineSet}
 use Rattle.bus_trace.specs.declared.Row.{Row}
-use Rattle.bus_trace.specs.declared.Kind.TheVariants.{Drives, Fault}
 use Rattle.bus_trace.proofs.OneRow.{bus-fault}
 use Rattle.bus_trace.specs.Trace.{drives, bus, since, newer, since_line, newer_line}
 use Rattle.bus_trace.specs.declared.changes.Change.{Change}
@@ -11,7 +10,7 @@ use Rattle.bus_trace.specs.declared.arbitration.Arbitration.{Arbitration}
 use Rattle.bus_trace.specs.declared.selection.Call.{Call}
 use Rattle.bus_trace.specs.declared.connection.Connection.{Connection}
 use Rattle.bus_trace.specs.Changes.{change_of}
-use Rattle.bus_trace.specs.Terms.{arbitration, arbitration_after, call, call_after, connection, connection_after, free_since, raised, raised_next}
+use Rattle.bus_trace.specs.Terms.{arbitration_after, call_after, connection_after, free_since, raised, raised_next}
 use Rattle.bus_due.specs.Own.{own_after}
 use Rattle.bus_lines.specs.Stage.{stage, stage_by}
 use Rattle.bus_due.specs.Own.{own_of}

@@ -1,16 +1,14 @@
 -- The stages together: the next row keeps all that holds, and what holds after it.
-use Rattle.std.proofs.Common.{◌⊎◌, inl, inr, ℕ, ◌≡◌, ◌≢◌, ◌<◌, ◌≤◌, Bool, true, false, not, ◌&&◌, ◌∙◌, List, [], ◌∷◌, Option, Some, None, refl, sym, ap, subst, arith}
+use Rattle.std.proofs.Common.{inl, inr, ℕ, ◌≡◌, Bool, false, not, ◌&&◌, ◌∙◌, List, [], ◌∷◌, Option, Some, None, refl, sym, ap, subst, arith}
 use Rattle.std.specs.Prelude.{is_some}
 use Rattle.std.proofs.lemmas.Bool.{cases_eq}
-use Rattle.bus_trace.specs.LineSet.{LineSet, none}
+use Rattle.bus_trace.specs.LineSet.{LineSet}
 use Rattle.bus_trace.specs.View.{union_below}
 use Rattle.bus_trace.specs.declared.Row.{Row}
-use Rattle.bus_trace.specs.declared.Kind.{Kind}
-use Rattle.bus_trace.specs.declared.Kind.TheVariants.{Drives, Fault}
 use Rattle.bus_trace.specs.declared.arbitration.Arbitration.{Arbitration}
 use Rattle.bus_trace.specs.declared.selection.Call.{Call}
 use Rattle.bus_trace.specs.declared.connection.Connection.{Connection}
-use Rattle.bus_trace.specs.Trace.{drives, bus, last_time, since, since_line}
+use Rattle.bus_trace.specs.Trace.{bus}
 use Rattle.bus_trace.specs.Terms.{connection}
 use Rattle.bus_trace.proofs.Ages.{since_le, since_line_le}
 use Rattle.bus_trace.proofs.OneRow.{drives-other}
@@ -21,10 +19,9 @@ use Rattle.bus_rules.specs.Reset.{only_rst}
 use Rattle.bus_due.specs.Next.{due}
 use Rattle.bus_due.specs.Least.{IsLeast}
 use Rattle.bus_due.specs.Plain.{AreOfDevices}
-use Rattle.bus_laws.specs.Reactions.{own_time, unreset_due, reset_due}
+use Rattle.bus_laws.specs.Reactions.{unreset_due, reset_due}
 use Rattle.bus_laws.specs.Rows.{lines_row, Stands}
 use Rattle.bus_laws.specs.Stages.{Fits, Always, Here, free, contest, won, calls, asks, withdrawn, answered, resumed, in_reset, linked, Goes, HasDevice, Standing, NextRow, is_linked}
-use Rattle.bus_laws.proofs.Dues.{none_some}
 use Rattle.bus_laws.proofs.Joint.{own_time_le}
 use Rattle.bus_laws.proofs.FromFree.{from_free, row_is}
 use Rattle.bus_laws.proofs.FromArbitration.{from_arbitration}

@@ -1,10 +1,9 @@
 -- The IDs of a calling.
-use Rattle.std.proofs.Common.{inl, inr, zero, suc, ℕ, ◌≡◌, ◌≢◌, ◌+◌, ◌^◌, ◌<◌, ◌==◌, ◌||◌, ◌&&◌, Bool, true, false, not, refl, arith, ap, ◌∙◌}
+use Rattle.std.proofs.Common.{inl, inr, zero, suc, ℕ, ◌≡◌, ◌≢◌, ◌+◌, ◌^◌, ◌<◌, ◌==◌, ◌||◌, ◌&&◌, Bool, true, false, refl, arith, ap, ◌∙◌}
 use Rattle.std.specs.Int.{bit_at}
 use Rattle.std.specs.Int.RustNames.{count_ones}
 use Rattle.std.proofs.lemmas.Bool.{cases_eq}
 use Rattle.std.proofs.lemmas.Bool.Decides.{nat_tests}
-use Rattle.bus_trace.specs.LineSet.{LineSet, none}
 use Rattle.bus_trace.specs.Terms.{drives_two_ids, other_id}
 use Rattle.bus_laws.proofs.Tests.{eq_other}
 use Rattle.bus_laws.specs.Callings.{called}

@@ -1,6 +1,6 @@
 -- The bus in arbitration and in a calling, and the callings (6.1.2 to 6.1.4).
-use Rattle.std.specs.Prelude.{ℕ, ◌+◌, ◌^◌, Bool, true, false, not, Option, Some, None}
-use Rattle.bus_trace.specs.LineSet.{LineSet, none, ids_set}
+use Rattle.std.specs.Prelude.{ℕ, ◌+◌, ◌^◌, Bool, true, false, not, Some, None}
+use Rattle.bus_trace.specs.LineSet.{LineSet, none}
 use Rattle.bus_trace.specs.declared.selection.Call.{Call}
 use Rattle.bus_trace.specs.declared.selection.Calling.{Calling}
 

@@ -1,10 +1,8 @@
 -- What holds after the rows of a prompt trace, stage by stage, as long as no connection stands.
-use Rattle.std.specs.Prelude.{⊤, [], is_some, not, ◌&&◌, ℕ, ◌≡◌, ◌≢◌, ◌<◌, ◌≤◌, ◌+◌, ◌==◌, ◌⊎◌, Bool, true, false, List, ◌∷◌, Option, Some, None}
+use Rattle.std.specs.Prelude.{⊤, [], is_some, not, ◌&&◌, ℕ, ◌≡◌, ◌≢◌, ◌<◌, ◌≤◌, ◌+◌, ◌==◌, ◌⊎◌, Bool, true, false, List, ◌∷◌, Some, None}
 use Rattle.std.specs.Int.{bit_at}
 use Rattle.bus_trace.specs.LineSet.{LineSet, none, line_of}
 use Rattle.bus_trace.specs.declared.Row.{Row}
-use Rattle.bus_trace.specs.declared.Kind.{Kind}
-use Rattle.bus_trace.specs.declared.Kind.TheVariants.{Drives, Fault}
 use Rattle.bus_trace.specs.Trace.{drives, bus, last_time, since, since_line}
 use Rattle.bus_trace.specs.declared.arbitration.Arbitration.{Arbitration}
 use Rattle.bus_trace.specs.declared.selection.Call.{Call}
@@ -25,7 +23,7 @@ use Rattle.bus_rules.specs.Reset.{only_rst}
 use Rattle.bus_due.specs.Own.{own_of}
 use Rattle.bus_due.specs.Next.{due}
 use Rattle.bus_laws.specs.Rows.{Stands}
-use Rattle.bus_laws.specs.Callings.{entries, winner, called, calling_at, call_at, call_lines, answer_lines, asked_at, withdrawn_at, answered_calling, resumed_calling}
+use Rattle.bus_laws.specs.Callings.{entries, winner, called, call_at, call_lines, answer_lines, asked_at, withdrawn_at, answered_calling, resumed_calling}
 
 -- of the scenario
 pub record Fits (s : ScenarioValue) : Type 0 where
