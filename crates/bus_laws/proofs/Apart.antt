@@ -25,7 +25,7 @@ use Rattle.bus_due.specs.RunSteps.{run_state, run_state_with_events}
 use Rattle.bus_due.specs.Plain.{AreOfDevices}
 use Rattle.bus_due.proofs.Plains.{run_state_plain, bus_state_is, change_same}
 use Rattle.bus_laws.proofs.Rows.{change_is}
-use Rattle.bus_laws.specs.Rows.{Stands, changed, lines_row}
+use Rattle.bus_laws.specs.Rows.{Stands, change_to, row_of_lines}
 
 -- What a row that shows nothing leaves of what is sent, of aims, of the link, of the array and of its times.
 pub record Leaves (k j : RunState) (b : Story) : Type 0 where
@@ -196,22 +196,22 @@ missed_keeps s p row g b a c w ee =
 
 -- ---- the same of a row of lines, by its lines and those of the bus
 
-lines_apart : (s : ScenarioValue) (p : List Row) (t d : ℕ) (l l' b b' o : LineSet) (a : Option Arbitration) (c : Option Call) → AreOfDevices p → d < 8 → Stands p b a c None → (run_state s p).story.link ≡ None → l ≡ l' → bus (lines_row t d l ∷ p) ≡ b' → drives p d ≡ o → b'.rst ≡ false → connection_after None c (changed b b' o l') (lines_row t d l) ≡ None
-    → GoesApart s p (lines_row t d l) (changed b b' o l') b a c
+lines_apart : (s : ScenarioValue) (p : List Row) (t d : ℕ) (l l' b b' o : LineSet) (a : Option Arbitration) (c : Option Call) → AreOfDevices p → d < 8 → Stands p b a c None → (run_state s p).story.link ≡ None → l ≡ l' → bus (row_of_lines t d l ∷ p) ≡ b' → drives p d ≡ o → b'.rst ≡ false → connection_after None c (change_to b b' o l') (row_of_lines t d l) ≡ None
+    → GoesApart s p (row_of_lines t d l) (change_to b b' o l') b a c
 lines_apart s p t d l l' b b' o a c h lt st link el ea eo er en =
     record { devices = h; below = lt; stands = st; link = link; change = change_is p t d l l' b b' o el st.bus_is ea eo; calm = er; alone = en }
 
-pub entry_row_keeps : (s : ScenarioValue) (p : List Row) (t d : ℕ) (l l' b b' o : LineSet) (a : Option Arbitration) (c : Option Call) → AreOfDevices p → d < 8 → Stands p b a c None → (run_state s p).story.link ≡ None → l ≡ l' → bus (lines_row t d l ∷ p) ≡ b' → drives p d ≡ o → b'.rst ≡ false → connection_after None c (changed b b' o l') (lines_row t d l) ≡ None
-    → (rises o.bsy l'.bsy && not b.sel) ≡ true → KeepsWishes s p (lines_row t d l ∷ p)
+pub entry_row_keeps : (s : ScenarioValue) (p : List Row) (t d : ℕ) (l l' b b' o : LineSet) (a : Option Arbitration) (c : Option Call) → AreOfDevices p → d < 8 → Stands p b a c None → (run_state s p).story.link ≡ None → l ≡ l' → bus (row_of_lines t d l ∷ p) ≡ b' → drives p d ≡ o → b'.rst ≡ false → connection_after None c (change_to b b' o l') (row_of_lines t d l) ≡ None
+    → (rises o.bsy l'.bsy && not b.sel) ≡ true → KeepsWishes s p (row_of_lines t d l ∷ p)
 entry_row_keeps s p t d l l' b b' o a c h lt st link el ea eo er en ee =
-    entry_keeps s p (lines_row t d l) (changed b b' o l') b a c (lines_apart s p t d l l' b b' o a c h lt st link el ea eo er en) ee
+    entry_keeps s p (row_of_lines t d l) (change_to b b' o l') b a c (lines_apart s p t d l l' b b' o a c h lt st link el ea eo er en) ee
 
-pub still_row_keeps : (s : ScenarioValue) (p : List Row) (t d : ℕ) (l l' b b' o : LineSet) (a : Option Arbitration) (c : Option Call) → AreOfDevices p → d < 8 → Stands p b a c None → (run_state s p).story.link ≡ None → l ≡ l' → bus (lines_row t d l ∷ p) ≡ b' → drives p d ≡ o → b'.rst ≡ false → connection_after None c (changed b b' o l') (lines_row t d l) ≡ None
-    → (rises o.bsy l'.bsy && not b.sel) ≡ false → falls b.sel b'.sel ≡ false → KeepsAll s p (lines_row t d l ∷ p)
+pub still_row_keeps : (s : ScenarioValue) (p : List Row) (t d : ℕ) (l l' b b' o : LineSet) (a : Option Arbitration) (c : Option Call) → AreOfDevices p → d < 8 → Stands p b a c None → (run_state s p).story.link ≡ None → l ≡ l' → bus (row_of_lines t d l ∷ p) ≡ b' → drives p d ≡ o → b'.rst ≡ false → connection_after None c (change_to b b' o l') (row_of_lines t d l) ≡ None
+    → (rises o.bsy l'.bsy && not b.sel) ≡ false → falls b.sel b'.sel ≡ false → KeepsAll s p (row_of_lines t d l ∷ p)
 still_row_keeps s p t d l l' b b' o a c h lt st link el ea eo er en ee ef =
-    still_keeps s p (lines_row t d l) (changed b b' o l') b a c (lines_apart s p t d l l' b b' o a c h lt st link el ea eo er en) ee ef
+    still_keeps s p (row_of_lines t d l) (change_to b b' o l') b a c (lines_apart s p t d l l' b b' o a c h lt st link el ea eo er en) ee ef
 
-pub missed_row_keeps : (s : ScenarioValue) (p : List Row) (t d : ℕ) (l l' b b' o : LineSet) (a : Option Arbitration) (c : Option Call) → AreOfDevices p → d < 8 → Stands p b a c None → (run_state s p).story.link ≡ None → l ≡ l' → bus (lines_row t d l ∷ p) ≡ b' → drives p d ≡ o → b'.rst ≡ false → connection_after None c (changed b b' o l') (lines_row t d l) ≡ None
-    → (rises o.bsy l'.bsy && not b.sel) ≡ false → (run_state s (lines_row t d l ∷ p)).story.link ≡ None
+pub missed_row_keeps : (s : ScenarioValue) (p : List Row) (t d : ℕ) (l l' b b' o : LineSet) (a : Option Arbitration) (c : Option Call) → AreOfDevices p → d < 8 → Stands p b a c None → (run_state s p).story.link ≡ None → l ≡ l' → bus (row_of_lines t d l ∷ p) ≡ b' → drives p d ≡ o → b'.rst ≡ false → connection_after None c (change_to b b' o l') (row_of_lines t d l) ≡ None
+    → (rises o.bsy l'.bsy && not b.sel) ≡ false → (run_state s (row_of_lines t d l ∷ p)).story.link ≡ None
 missed_row_keeps s p t d l l' b b' o a c h lt st link el ea eo er en ee =
-    missed_keeps s p (lines_row t d l) (changed b b' o l') b a c (lines_apart s p t d l l' b b' o a c h lt st link el ea eo er en) ee
+    missed_keeps s p (row_of_lines t d l) (change_to b b' o l') b a c (lines_apart s p t d l l' b b' o a c h lt st link el ea eo er en) ee

@@ -27,7 +27,7 @@ use Rattle.bus_laws.specs.Reactions.{own_time}
 use Rattle.bus_laws.specs.Reactions.{device_with, unreset_due}
 use Rattle.bus_laws.proofs.Tests.{eq_self, eq_other}
 use Rattle.bus_laws.proofs.Dues.{due_in, is_at, where_is}
-use Rattle.bus_laws.specs.Callings.{answer_lines, asked_at, call_at, call_with, called, new_call, withdrawn_at}
+use Rattle.bus_laws.specs.Callings.{answer_lines, awaiting_call, begun_call, call_with, both_ids, won_call, withdrawn_call}
 
 -- What a device wants, and the fault that would strike it where it samples the IDs.
 abbrev pub want_at : ScenarioValue → List Row → ℕ → Want
@@ -51,16 +51,16 @@ asks_some : (e : ℕ) → same_set (contender_lines e) none ≡ false
 asks_some e = grind (arith, nat_tests)
 
 -- before the calling a loser releases all as SEL rises, and who drives nothing does nothing
-pub loser_due : (s : ScenarioValue) (p : List Row) (e lat c t : ℕ) → AreOfDevices p → e < 8 → latency_of s e ≡ Some lat → connection p ≡ None → c ≢ e → stage p ≡ InCalling (new_call c t) → drives p e ≡ contender_lines e → unreset_due s p e ≡ due_at (since_line (λ x. x.sel) p + lat) none
+pub loser_due : (s : ScenarioValue) (p : List Row) (e lat c t : ℕ) → AreOfDevices p → e < 8 → latency_of s e ≡ Some lat → connection p ≡ None → c ≢ e → stage p ≡ InCalling (won_call c t) → drives p e ≡ contender_lines e → unreset_due s p e ≡ due_at (since_line (λ x. x.sel) p + lat) none
 loser_due s p e lat c t h lt there alone ne eg eo =
-    as_other s p e lat (contender_lines e) (new_call c t) h lt there alone ne eg eo
+    as_other s p e lat (contender_lines e) (won_call c t) h lt there alone ne eg eo
     ∙ ap (λ (q : Bool). if q then None else due_at (since_line (λ x. x.sel) p + lat) none) (asks_some e)
 
-pub quiet_due : (s : ScenarioValue) (p : List Row) (e lat c t : ℕ) → AreOfDevices p → e < 8 → latency_of s e ≡ Some lat → connection p ≡ None → c ≢ e → stage p ≡ InCalling (new_call c t) → drives p e ≡ none → unreset_due s p e ≡ None
-quiet_due s p e lat c t h lt there alone ne eg eo = as_other s p e lat none (new_call c t) h lt there alone ne eg eo
+pub quiet_due : (s : ScenarioValue) (p : List Row) (e lat c t : ℕ) → AreOfDevices p → e < 8 → latency_of s e ≡ Some lat → connection p ≡ None → c ≢ e → stage p ≡ InCalling (won_call c t) → drives p e ≡ none → unreset_due s p e ≡ None
+quiet_due s p e lat c t h lt there alone ne eg eo = as_other s p e lat none (won_call c t) h lt there alone ne eg eo
 
-pub calls_due : (s : ScenarioValue) (p : List Row) (c lat t : ℕ) (own : LineSet) → AreOfDevices p → c < 8 → latency_of s c ≡ Some lat → connection p ≡ None → stage p ≡ InCalling (new_call c t) → drives p c ≡ own → unreset_due s p c ≡ calling_start (not (is_host s.hosts c)) (device_with c lat own (own_time p c)) (callee s (run_state s p) c (aim_of (run_state s p).story.aims c))
-calls_due s p c lat t own h lt there alone eg eo = as_caller s p c lat own (new_call c t) h lt there alone refl eg eo
+pub calls_due : (s : ScenarioValue) (p : List Row) (c lat t : ℕ) (own : LineSet) → AreOfDevices p → c < 8 → latency_of s c ≡ Some lat → connection p ≡ None → stage p ≡ InCalling (won_call c t) → drives p c ≡ own → unreset_due s p c ≡ calling_start (not (is_host s.hosts c)) (device_with c lat own (own_time p c)) (callee s (run_state s p) c (aim_of (run_state s p).story.aims c))
+calls_due s p c lat t own h lt there alone eg eo = as_caller s p c lat own (won_call c t) h lt there alone refl eg eo
 
 -- what the calling is
 pub record IsCalling (s : ScenarioValue) (c lat since : ℕ) (other : Option ℕ) (x : Due) : Type 0 where
@@ -69,9 +69,9 @@ pub record IsCalling (s : ScenarioValue) (c lat since : ℕ) (other : Option ℕ
   pub below : k < 8
   pub apart : c ≢ k
   pub time_is : x.time ≡ since + 1200 + lat
-  pub kind_is : x.kind ≡ Drives (called (is_host s.hosts c) c k)
+  pub kind_is : x.kind ≡ Drives (both_ids (is_host s.hosts c) c k)
 
-marked_is : (m : Bool) (c k : ℕ) → with_calling_mark (not m) (record (ids_set c k) { bsy = true; sel = true }) ≡ called m c k
+marked_is : (m : Bool) (c k : ℕ) → with_calling_mark (not m) (record (ids_set c k) { bsy = true; sel = true }) ≡ both_ids m c k
 marked_is true c k = refl
 marked_is false c k = refl
 
@@ -100,46 +100,46 @@ is_calling s c lat own since (Some k) x e =
 -- ---- once both IDs stand
 
 -- the caller releases BSY; no other device does anything before that
-pub asks_due : (s : ScenarioValue) (p : List Row) (m : Bool) (c k t0 t lat : ℕ) (own : LineSet) → AreOfDevices p → c < 8 → latency_of s c ≡ Some lat → connection p ≡ None → stage p ≡ InCalling (call_at m c k t0 t) → drives p c ≡ own → unreset_due s p c ≡ due_at (own_time p c + 90 + lat) (record own { bsy = false })
-asks_due s p m c k t0 t lat own h lt there alone eg eo = as_caller s p c lat own (call_at m c k t0 t) h lt there alone refl eg eo
+pub asks_due : (s : ScenarioValue) (p : List Row) (m : Bool) (c k t0 t lat : ℕ) (own : LineSet) → AreOfDevices p → c < 8 → latency_of s c ≡ Some lat → connection p ≡ None → stage p ≡ InCalling (begun_call m c k t0 t) → drives p c ≡ own → unreset_due s p c ≡ due_at (own_time p c + 90 + lat) (record own { bsy = false })
+asks_due s p m c k t0 t lat own h lt there alone eg eo = as_caller s p c lat own (begun_call m c k t0 t) h lt there alone refl eg eo
 
-pub before_due : (s : ScenarioValue) (p : List Row) (m : Bool) (c k t0 t e lat : ℕ) → AreOfDevices p → e < 8 → latency_of s e ≡ Some lat → connection p ≡ None → c ≢ e → stage p ≡ InCalling (call_at m c k t0 t) → drives p e ≡ none → unreset_due s p e ≡ None
+pub before_due : (s : ScenarioValue) (p : List Row) (m : Bool) (c k t0 t e lat : ℕ) → AreOfDevices p → e < 8 → latency_of s e ≡ Some lat → connection p ≡ None → c ≢ e → stage p ≡ InCalling (begun_call m c k t0 t) → drives p e ≡ none → unreset_due s p e ≡ None
 before_due s p m c k t0 t e lat h lt there alone ne eg eo =
-    as_other s p e lat none (call_at m c k t0 t) h lt there alone ne eg eo ∙ go (k == e)
+    as_other s p e lat none (begun_call m c k t0 t) h lt there alone ne eg eo ∙ go (k == e)
   where
     go : (q : Bool) → (let n : Option Due = None in if not q then n else n) ≡ None
     go true = refl
     go false = refl
 
 -- the caller waits, and withdraws in the end
-pub waits_due : (s : ScenarioValue) (p : List Row) (v m : Bool) (c k t0 t1 t2 lat : ℕ) (own : LineSet) → AreOfDevices p → c < 8 → latency_of s c ≡ Some lat → connection p ≡ None → stage p ≡ InCalling (asked_at v m c k t0 t1 t2) → drives p c ≡ own → unreset_due s p c ≡ due_at (t2 + 250000000 + lat) (record own { data_bits = 0 })
-waits_due s p v m c k t0 t1 t2 lat own h lt there alone eg eo = as_caller s p c lat own (asked_at v m c k t0 t1 t2) h lt there alone refl eg eo
+pub waits_due : (s : ScenarioValue) (p : List Row) (v m : Bool) (c k t0 t1 t2 lat : ℕ) (own : LineSet) → AreOfDevices p → c < 8 → latency_of s c ≡ Some lat → connection p ≡ None → stage p ≡ InCalling (awaiting_call v m c k t0 t1 t2) → drives p c ≡ own → unreset_due s p c ≡ due_at (t2 + 250000000 + lat) (record own { data_bits = 0 })
+waits_due s p v m c k t0 t1 t2 lat own h lt there alone eg eo = as_caller s p c lat own (awaiting_call v m c k t0 t1 t2) h lt there alone refl eg eo
 
 -- the called device answers, or a fault strikes the IDs
-pub answers_due : (s : ScenarioValue) (p : List Row) (m : Bool) (c k t0 t1 t2 lat : ℕ) → AreOfDevices p → k < 8 → latency_of s k ≡ Some lat → connection p ≡ None → c ≢ k → stage p ≡ InCalling (asked_at false m c k t0 t1 t2) → drives p k ≡ none
+pub answers_due : (s : ScenarioValue) (p : List Row) (m : Bool) (c k t0 t1 t2 lat : ℕ) → AreOfDevices p → k < 8 → latency_of s k ≡ Some lat → connection p ≡ None → c ≢ k → stage p ≡ InCalling (awaiting_call false m c k t0 t1 t2) → drives p k ≡ none
     → unreset_due s p k ≡ fault_or ((line_times p).bsy + 400 + lat) (flip_at s p lat) (due_at ((line_times p).bsy + 400 + lat) answer_lines)
 answers_due s p m c k t0 t1 t2 lat h lt there alone ne eg eo =
-    as_other s p k lat none (asked_at false m c k t0 t1 t2) h lt there alone ne eg eo
+    as_other s p k lat none (awaiting_call false m c k t0 t1 t2) h lt there alone ne eg eo
     ∙ ap (λ (q : Bool). if not q then None else answer (line_times p).bsy (device_with k lat none (own_time p k)) (flip_at s p lat)) (eq_self k)
 
 -- one that a fault has struck does not answer
-pub struck_due : (s : ScenarioValue) (p : List Row) (m : Bool) (c k t0 t1 t2 lat : ℕ) → AreOfDevices p → k < 8 → latency_of s k ≡ Some lat → connection p ≡ None → c ≢ k → stage p ≡ InCalling (asked_at true m c k t0 t1 t2) → drives p k ≡ none → unreset_due s p k ≡ None
+pub struck_due : (s : ScenarioValue) (p : List Row) (m : Bool) (c k t0 t1 t2 lat : ℕ) → AreOfDevices p → k < 8 → latency_of s k ≡ Some lat → connection p ≡ None → c ≢ k → stage p ≡ InCalling (awaiting_call true m c k t0 t1 t2) → drives p k ≡ none → unreset_due s p k ≡ None
 struck_due s p m c k t0 t1 t2 lat h lt there alone ne eg eo =
-    as_other s p k lat none (asked_at true m c k t0 t1 t2) h lt there alone ne eg eo
+    as_other s p k lat none (awaiting_call true m c k t0 t1 t2) h lt there alone ne eg eo
     ∙ ap (λ (q : Bool). let n : Option Due = None in if not q then n else n) (eq_self k)
 
-pub aside_due : (s : ScenarioValue) (p : List Row) (v m : Bool) (c k t0 t1 t2 e lat : ℕ) → AreOfDevices p → e < 8 → latency_of s e ≡ Some lat → connection p ≡ None → c ≢ e → k ≢ e → stage p ≡ InCalling (asked_at v m c k t0 t1 t2) → drives p e ≡ none → unreset_due s p e ≡ None
+pub aside_due : (s : ScenarioValue) (p : List Row) (v m : Bool) (c k t0 t1 t2 e lat : ℕ) → AreOfDevices p → e < 8 → latency_of s e ≡ Some lat → connection p ≡ None → c ≢ e → k ≢ e → stage p ≡ InCalling (awaiting_call v m c k t0 t1 t2) → drives p e ≡ none → unreset_due s p e ≡ None
 aside_due s p v m c k t0 t1 t2 e lat h lt there alone ne nk eg eo =
-    as_other s p e lat none (asked_at v m c k t0 t1 t2) h lt there alone ne eg eo
+    as_other s p e lat none (awaiting_call v m c k t0 t1 t2) h lt there alone ne eg eo
     ∙ ap (λ (q : Bool). if not q then None else if not v then answer (line_times p).bsy (device_with e lat none (own_time p e)) (flip_at s p lat) else None) (eq_other k e nk)
 
 -- the caller has withdrawn: it releases all in the end, and no other device does anything
-pub gives_up_due : (s : ScenarioValue) (p : List Row) (v m : Bool) (c k t0 t1 t2 t3 lat : ℕ) (own : LineSet) → AreOfDevices p → c < 8 → latency_of s c ≡ Some lat → connection p ≡ None → stage p ≡ InCalling (withdrawn_at v m c k t0 t1 t2 t3) → drives p c ≡ own → unreset_due s p c ≡ due_at (own_time p c + 200090 + lat) none
-gives_up_due s p v m c k t0 t1 t2 t3 lat own h lt there alone eg eo = as_caller s p c lat own (withdrawn_at v m c k t0 t1 t2 t3) h lt there alone refl eg eo
+pub gives_up_due : (s : ScenarioValue) (p : List Row) (v m : Bool) (c k t0 t1 t2 t3 lat : ℕ) (own : LineSet) → AreOfDevices p → c < 8 → latency_of s c ≡ Some lat → connection p ≡ None → stage p ≡ InCalling (withdrawn_call v m c k t0 t1 t2 t3) → drives p c ≡ own → unreset_due s p c ≡ due_at (own_time p c + 200090 + lat) none
+gives_up_due s p v m c k t0 t1 t2 t3 lat own h lt there alone eg eo = as_caller s p c lat own (withdrawn_call v m c k t0 t1 t2 t3) h lt there alone refl eg eo
 
-pub after_withdrawal_due : (s : ScenarioValue) (p : List Row) (v m : Bool) (c k t0 t1 t2 t3 e lat : ℕ) → AreOfDevices p → e < 8 → latency_of s e ≡ Some lat → connection p ≡ None → c ≢ e → stage p ≡ InCalling (withdrawn_at v m c k t0 t1 t2 t3) → drives p e ≡ none → unreset_due s p e ≡ None
+pub after_withdrawal_due : (s : ScenarioValue) (p : List Row) (v m : Bool) (c k t0 t1 t2 t3 e lat : ℕ) → AreOfDevices p → e < 8 → latency_of s e ≡ Some lat → connection p ≡ None → c ≢ e → stage p ≡ InCalling (withdrawn_call v m c k t0 t1 t2 t3) → drives p e ≡ none → unreset_due s p e ≡ None
 after_withdrawal_due s p v m c k t0 t1 t2 t3 e lat h lt there alone ne eg eo =
-    as_other s p e lat none (withdrawn_at v m c k t0 t1 t2 t3) h lt there alone ne eg eo ∙ go (k == e)
+    as_other s p e lat none (withdrawn_call v m c k t0 t1 t2 t3) h lt there alone ne eg eo ∙ go (k == e)
   where
     go : (q : Bool) → (let n : Option Due = None in if not q then n else n) ≡ None
     go true = refl

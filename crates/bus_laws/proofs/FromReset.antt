@@ -36,7 +36,7 @@ use Rattle.bus_laws.proofs.Apart.{change_plain, calling_link}
 use Rattle.bus_reactions.specs.Reset.{rst_assertion}
 use Rattle.bus_trace.proofs.OneRow.{drives-other, drives-fault}
 use Rattle.bus_laws.proofs.Resets.{comes_by_first, due_calm, own_reset_is, reset_after, own_other, released_own, own_fault}
-use Rattle.bus_laws.specs.Rows.{lines_row, fault_row}
+use Rattle.bus_laws.specs.Rows.{row_of_lines, row_of_fault}
 
 -- ---- RST on the bus and at the devices
 
@@ -128,11 +128,11 @@ resets_ahead s p row h m d lt off x r =
   where
     by_kind : (k : Kind) → row.kind ≡ k → d ≡ row.dev → row.time ≤ x.time
     by_kind (Fault bit) e same =
-        let f : row ≡ fault_row row.time row.dev bit = λ i. record { time = row.time; dev = row.dev; kind = e i } in
+        let f : row ≡ row_of_fault row.time row.dev bit = λ i. record { time = row.time; dev = row.dev; kind = e i } in
         let o : own_of (row ∷ p) d ≡ own_of p d = ap (λ (w : Row). own_of (w ∷ p) d) f ∙ own_fault p row.time row.dev bit d in
         reset_no_sooner s p row d x h lt m (sym (ap (λ (l : LineSet). l.rst) (drives-fault row p bit d e)) ∙ off) (sym (resets_of_own s p (row ∷ p) d (ap (λ (y : Own). y.released) o)) ∙ r)
     by_kind (Drives l) e same =
-        let f : row ≡ lines_row row.time row.dev l = λ i. record { time = row.time; dev = row.dev; kind = e i } in
+        let f : row ≡ row_of_lines row.time row.dev l = λ i. record { time = row.time; dev = row.dev; kind = e i } in
         let n : l.rst ≡ false = ap (λ (y : LineSet). y.rst) (sym (drives_own p row.time row.dev l)) ∙ (λ i. (drives (sym f i ∷ p) (sym same i)).rst) ∙ off in
         let rel : (own_of (row ∷ p) d).released ≡ when (falls (drives p row.dev).rst l.rst) row.time (own_of p row.dev).released = (λ i. (own_of (f i ∷ p) (same i)).released) ∙ released_own p row.time row.dev l in
         go (drives p row.dev).rst refl l n rel

@@ -7,7 +7,7 @@ use Rattle.bus_trace.specs.Trace.{drives, bus}
 use Rattle.std.proofs.lemmas.Bool.{cases_eq}
 use Rattle.bus_trace.proofs.Buses.{bus_on, bus_off}
 use Rattle.bus_reactions.specs.FreeBus.{contender_lines}
-use Rattle.bus_laws.specs.Callings.{entries, winner}
+use Rattle.bus_laws.specs.Callings.{arbitration_bus, won_bus}
 
 abbrev pub held : LineSet → LineSet
 held x = record none { data_bits = x.data_bits; bsy = x.bsy; sel = x.sel }
@@ -23,36 +23,36 @@ held_below f (suc n) h =
     let top = h n (omega arith) in
     λ i. union (low i) (top i)
 
-pub as_entries : (x : LineSet) → x ≡ held x → x.bsy ≡ true → x.sel ≡ false → x ≡ entries x.data_bits
+pub as_entries : (x : LineSet) → x ≡ held x → x.bsy ≡ true → x.sel ≡ false → x ≡ arbitration_bus x.data_bits
 as_entries x h b s = h ∙ (λ i. record none { data_bits = x.data_bits; bsy = b i; sel = s i })
 
-pub as_winner : (x : LineSet) → x ≡ held x → x.bsy ≡ true → x.sel ≡ true → x ≡ winner x.data_bits
+pub as_winner : (x : LineSet) → x ≡ held x → x.bsy ≡ true → x.sel ≡ true → x ≡ won_bus x.data_bits
 as_winner x h b s = h ∙ (λ i. record none { data_bits = x.data_bits; bsy = b i; sel = s i })
 
 -- a device that drives nothing, or BSY and its ID
-abbrev pub AsksOrNot : List Row → ℕ → Type 0
-AsksOrNot p e = (drives p e ≡ none) ⊎ (drives p e ≡ contender_lines e)
+abbrev pub ContendsOrNot : List Row → ℕ → Type 0
+ContendsOrNot p e = (drives p e ≡ none) ⊎ (drives p e ≡ contender_lines e)
 
-asks_held : (p : List Row) (e : ℕ) → AsksOrNot p e → drives p e ≡ held (drives p e)
-asks_held p e (inl n) = held_by (drives p e) none n refl
-asks_held p e (inr k) = held_by (drives p e) (contender_lines e) k refl
+contender_held : (p : List Row) (e : ℕ) → ContendsOrNot p e → drives p e ≡ held (drives p e)
+contender_held p e (inl n) = held_by (drives p e) none n refl
+contender_held p e (inr k) = held_by (drives p e) (contender_lines e) k refl
 
-asks_off : (on : LineSet → Bool) (p : List Row) (e : ℕ) → on none ≡ false → ((k : ℕ) → on (contender_lines k) ≡ false) → AsksOrNot p e → on (drives p e) ≡ false
-asks_off on p e n0 n1 (inl n) = ap on n ∙ n0
-asks_off on p e n0 n1 (inr k) = ap on k ∙ n1 e
+contender_off : (on : LineSet → Bool) (p : List Row) (e : ℕ) → on none ≡ false → ((k : ℕ) → on (contender_lines k) ≡ false) → ContendsOrNot p e → on (drives p e) ≡ false
+contender_off on p e n0 n1 (inl n) = ap on n ∙ n0
+contender_off on p e n0 n1 (inr k) = ap on k ∙ n1 e
 
 -- the bus of an arbitration
-pub entries_is : (p : List Row) (d : ℕ) → d < 8 → drives p d ≡ contender_lines d → ((e : ℕ) → e < 8 → AsksOrNot p e) → bus p ≡ entries (bus p).data_bits
+pub entries_is : (p : List Row) (d : ℕ) → d < 8 → drives p d ≡ contender_lines d → ((e : ℕ) → e < 8 → ContendsOrNot p e) → bus p ≡ arbitration_bus (bus p).data_bits
 entries_is p d lt own each =
-    as_entries (bus p) (held_below (drives p) 8 (λ e l. asks_held p e (each e l))) (bus_on (λ y. y.bsy) (λ _ _. refl) p d lt (ap (λ (y : LineSet). y.bsy) own)) (bus_off (λ y. y.sel) (λ _ _. refl) refl p (λ e l. asks_off (λ y. y.sel) p e refl (λ _. refl) (each e l)))
+    as_entries (bus p) (held_below (drives p) 8 (λ e l. contender_held p e (each e l))) (bus_on (λ y. y.bsy) (λ _ _. refl) p d lt (ap (λ (y : LineSet). y.bsy) own)) (bus_off (λ y. y.sel) (λ _ _. refl) refl p (λ e l. contender_off (λ y. y.sel) p e refl (λ _. refl) (each e l)))
 
 -- and of one that is won
-pub winner_is : (p : List Row) (c : ℕ) → c < 8 → drives p c ≡ record (contender_lines c) { sel = true } → ((e : ℕ) → e < 8 → e ≢ c → AsksOrNot p e) → bus p ≡ winner (bus p).data_bits
+pub winner_is : (p : List Row) (c : ℕ) → c < 8 → drives p c ≡ record (contender_lines c) { sel = true } → ((e : ℕ) → e < 8 → e ≢ c → ContendsOrNot p e) → bus p ≡ won_bus (bus p).data_bits
 winner_is p c lt own each =
     as_winner (bus p)
     (held_below (drives p) 8 (λ e l. elim (cases_eq e c) [
       | inl same ↦ held_by (drives p e) (record (contender_lines c) { sel = true }) (ap (drives p) same ∙ own) refl
-      | inr ne ↦ asks_held p e (each e l ne)
+      | inr ne ↦ contender_held p e (each e l ne)
     ]))
     (bus_on (λ y. y.bsy) (λ _ _. refl) p c lt (ap (λ (y : LineSet). y.bsy) own))
     (bus_on (λ y. y.sel) (λ _ _. refl) p c lt (ap (λ (y : LineSet). y.sel) own))

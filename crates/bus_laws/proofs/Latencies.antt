@@ -14,7 +14,7 @@ use Rattle.scenario.specs.Reading.{Progress, guard, within, in_8, period_in, pol
 use Rattle.scenario.specs.Writing.{saids, built, Obeys}
 use Rattle.scenario.proofs.Steps.{bind_ok, ok_is}
 use Rattle.bus_story.specs.Samples.{host_latency, target_latency}
-use Rattle.bus_laws.specs.Stages.{Fits}
+use Rattle.bus_laws.specs.Stages.{HasShortLatencies}
 
 -- ---- a line
 
@@ -135,8 +135,8 @@ target_found (t ∷ targets) dev lat other a f e = go (t.dev == dev) (λ z. targ
     go true more z = let w = nat_eq t.latency lat z in let u = a.0 in omega arith
     go false more z = more z
 
-pub obeys_fits : (s : ScenarioValue) → Obeys s → Fits s
-obeys_fits s o =
+pub obeys_latencies : (s : ScenarioValue) → Obeys s → HasShortLatencies s
+obeys_latencies s o =
     let b = bind_ok (built nothing (saids s)) _ s o.lawful in
     let w = ok_is b.0.scenario s b.2 in
     let q : AreQuick s = subst (λ (z : ScenarioValue). AreQuick z) w (quick_built nothing b.0 (saids s) b.1 (record { hosts = tt; targets = tt })) in

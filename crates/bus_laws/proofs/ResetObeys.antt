@@ -17,7 +17,7 @@ use Rattle.bus_rules.specs.Reset.{is_reset, only_rst, raises_rst_alone, is_quiet
 use Rattle.bus_rules.specs.Rules.{test, stands_in_reset, keeps, judged_rules, lowest_broken, broken_rule}
 use Rattle.bus_rules.proofs.First.{none_broken}
 use Rattle.bus_laws.proofs.Tests.{and_false}
-use Rattle.bus_laws.specs.Rows.{changed, lines_row}
+use Rattle.bus_laws.specs.Rows.{change_to, row_of_lines}
 
 other_rule : (n : ℕ) (v : Seen) (row : Row) → stands_in_reset n ≡ false → is_reset v ≡ true → keeps n v row ≡ true
 other_rule n v row a b = λ i. if not (a i) && b i then true else test n v row
@@ -44,10 +44,10 @@ le_true a b h = grind (arith, nat_tests)
 both_true : (x y z : Bool) → x ≡ true → y ≡ true → z ≡ true → (x && y && z) ≡ true
 both_true x y z a b c = λ i. a i && b i && c i
 
-pub reset_row_obeys : (p : List Row) (t d : ℕ) (l b b' o : LineSet) → change_of p (lines_row t d l) ≡ changed b b' o l → KeepsReset p t d b b' o l → broken_rule p (lines_row t d l) ≡ None
+pub reset_row_obeys : (p : List Row) (t d : ℕ) (l b b' o : LineSet) → change_of p (row_of_lines t d l) ≡ change_to b b' o l → KeepsReset p t d b b' o l → broken_rule p (row_of_lines t d l) ≡ None
 unfolding seen_with
 reset_row_obeys p t d l b b' o e k =
-    let row : Row = lines_row t d l in
+    let row : Row = row_of_lines t d l in
     let v : Seen = seen p row in
     three_rules v row
     (ap (λ (c : Change). c.before.rst || c.after.rst) e ∙ k.reset)

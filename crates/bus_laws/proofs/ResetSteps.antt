@@ -41,8 +41,8 @@ use Rattle.bus_lines.specs.declared.stage.Stage.TheVariants.{OnFreeBus}
 use Rattle.bus_lines.specs.Stage.{stage}
 use Rattle.bus_laws.proofs.ResetObeys.{reset_row_obeys, raises_rst, none_within, implied}
 use Rattle.bus_laws.proofs.Resets.{one_of, comes_by, due_calm, due_holding, due_there, own_reset_is, own_other, rst_own}
-use Rattle.bus_laws.specs.Stages.{Fits, free, in_reset, NextRow, HoldsReset, UnderReset, quiet, holds, lingers, ResetState, Standing}
-use Rattle.bus_laws.specs.Rows.{lines_row, changed, Stands}
+use Rattle.bus_laws.specs.Stages.{HasShortLatencies, on_free_bus, in_reset, NextRow, HoldsReset, IsUnderRst, quiet, holds, lingers, UnderRst, Standing}
+use Rattle.bus_laws.specs.Rows.{row_of_lines, change_to, Stands}
 
 -- ---- a device that does not drive RST, under RST
 
@@ -69,7 +69,7 @@ within_rst x (inl e) = e ∙ (λ i. record none { rst = (sym e i).rst })
 within_rst x (inr e) = e ∙ (λ i. record none { rst = (sym e i).rst })
 
 -- A device that drives anything but RST releases it within its latency, so the next row is no later; else no line but RST is true.
-lingering : (s : ScenarioValue) (p : List Row) (row : Row) → Fits s → Standing s p → ResetState s p → IsLeast (due s p) 8 row → (d : ℕ) → d < 8 → ((drives p d ≡ none) ⊎ (drives p d ≡ only_rst)) ⊎ (row.time ≤ (line_times p).rst + 100)
+lingering : (s : ScenarioValue) (p : List Row) (row : Row) → HasShortLatencies s → Standing s p → UnderRst s p → IsLeast (due s p) 8 row → (d : ℕ) → d < 8 → ((drives p d ≡ none) ⊎ (drives p d ≡ only_rst)) ⊎ (row.time ≤ (line_times p).rst + 100)
 lingering s p row fits st rs m d lt = go (rs.each d lt)
   where
     lags : (drives p d).rst ≡ false → (q : Bool) → same_set (drives p d) none ≡ q → ((drives p d ≡ none) ⊎ (drives p d ≡ only_rst)) ⊎ (row.time ≤ (line_times p).rst + 100)
@@ -86,7 +86,7 @@ lingering s p row fits st rs m d lt = go (rs.each d lt)
           inr (omega arith)
     ]
 
-    go : UnderReset p d → ((drives p d ≡ none) ⊎ (drives p d ≡ only_rst)) ⊎ (row.time ≤ (line_times p).rst + 100)
+    go : IsUnderRst p d → ((drives p d ≡ none) ⊎ (drives p d ≡ only_rst)) ⊎ (row.time ≤ (line_times p).rst + 100)
     go (quiet n) = inl (inl n)
     go (holds h) = inl (inr h.drive)
     go (lingers off) = lags off (same_set (drives p d) none) refl
@@ -124,7 +124,7 @@ or_right_yes true b e = refl
 or_right_yes false b e = e
 
 -- Before the next row no line but RST is true, or it comes within a bus clear delay of the rise of RST.
-quiet_enough : (s : ScenarioValue) (p : List Row) (row : Row) → Fits s → Standing s p → ResetState s p → IsLeast (due s p) 8 row → (nat_le row.time ((line_times p).rst + 800) || is_within (bus p) only_rst) ≡ true
+quiet_enough : (s : ScenarioValue) (p : List Row) (row : Row) → HasShortLatencies s → Standing s p → UnderRst s p → IsLeast (due s p) 8 row → (nat_le row.time ((line_times p).rst + 800) || is_within (bus p) only_rst) ≡ true
 quiet_enough s p row fits st rs m =
     elim (all_or p row.time 8 (lingering s p row fits st rs m)) [
       | inr l ↦ or_yes (nat_le row.time ((line_times p).rst + 800)) (is_within (bus p) only_rst) (le_yes row.time ((line_times p).rst + 800) (omega arith))
@@ -155,14 +155,14 @@ ahead_in_reset s p row h lt m held rst clear d ld x e = go (drives (row ∷ p) d
 
 -- What a device does that raised RST in this row, or drives nothing after it.
 pub record Does (s : ScenarioValue) (q : List Row) (d t : ℕ) : Type 0 where
-  pub stands : UnderReset q d
+  pub stands : IsUnderRst q d
   pub held : (x : Due) → (drives q d).rst ≡ true → due s q d ≡ Some x → t ≤ x.time
   pub cleared : (lat : ℕ) (x : Due) → (drives q d).rst ≡ false → bus_clear (device_with d lat (drives q d) (own_time q d)) (line_times q).rst ≡ Some x → t ≤ x.time
 
-goes_on : (p : List Row) (t d : ℕ) (l : LineSet) (e : ℕ) → e ≢ d → since_line (λ x. x.rst) (lines_row t d l ∷ p) ≡ since_line (λ x. x.rst) p → UnderReset p e → UnderReset (lines_row t d l ∷ p) e
+goes_on : (p : List Row) (t d : ℕ) (l : LineSet) (e : ℕ) → e ≢ d → since_line (λ x. x.rst) (row_of_lines t d l ∷ p) ≡ since_line (λ x. x.rst) p → IsUnderRst p e → IsUnderRst (row_of_lines t d l ∷ p) e
 goes_on p t d l e ne since (quiet n) = quiet (drives_other p t d l e ne ∙ n)
 goes_on p t d l e ne since (holds h) =
-    let o = ap (λ (x : Own). x.rst) (own_other p (lines_row t d l) e ne) in
+    let o = ap (λ (x : Own). x.rst) (own_other p (row_of_lines t d l) e ne) in
     holds (record {
       drive = drives_other p t d l e ne ∙ h.drive;
       raised_at = raised_other (λ x. x.rst) p t d l e ne ∙ h.raised_at ∙ sym o;
@@ -170,13 +170,13 @@ goes_on p t d l e ne since (holds h) =
     })
 goes_on p t d l e ne since (lingers off) = lingers (ap (λ (x : LineSet). x.rst) (drives_other p t d l e ne) ∙ off)
 
-stays : (s : ScenarioValue) (p : List Row) (t d : ℕ) (l : LineSet) → Standing s p → ResetState s p → IsLeast (due s p) 8 (lines_row t d l) → (bus (lines_row t d l ∷ p)).rst ≡ true → Does s (lines_row t d l ∷ p) d t → broken_rule p (lines_row t d l) ≡ None → NextRow s p (lines_row t d l)
+stays : (s : ScenarioValue) (p : List Row) (t d : ℕ) (l : LineSet) → Standing s p → UnderRst s p → IsLeast (due s p) 8 (row_of_lines t d l) → (bus (row_of_lines t d l ∷ p)).rst ≡ true → Does s (row_of_lines t d l ∷ p) d t → broken_rule p (row_of_lines t d l) ≡ None → NextRow s p (row_of_lines t d l)
 stays s p t d l st rs m on mine obeys =
-    let row : Row = lines_row t d l in
+    let row : Row = row_of_lines t d l in
     let q : List Row = row ∷ p in
     let devices : AreOfDevices q = (m.inside, st.devices) in
     let since : since_line (λ x. x.rst) q ≡ since_line (λ x. x.rst) p = since_is (λ x. x.rst) p row (bus p) (bus q) refl refl ∙ (λ i. newer_line (rs.reset i) (on i) (since_line (λ x. x.rst) p) t) in
-    let change : change_of p row ≡ changed (bus p) (bus q) (drives p d) l = change_is p t d l l (bus p) (bus q) (drives p d) refl refl refl refl in
+    let change : change_of p row ≡ change_to (bus p) (bus q) (drives p d) l = change_is p t d l l (bus p) (bus q) (drives p d) refl refl refl refl in
     record {
       order = st.ahead d m.inside (record { time = t; kind = Drives l }) m.is_due;
       obeys = obeys;
@@ -204,10 +204,10 @@ stays s p t d l st rs m on mine obeys =
       here = in_reset (record {
         reset = on;
         each = λ e le. elim (cases_eq e d) [
-          | inl same ↦ subst (λ (k : ℕ). UnderReset q k) (sym same) mine.stands
+          | inl same ↦ subst (λ (k : ℕ). IsUnderRst q k) (sym same) mine.stands
           | inr ne ↦ goes_on p t d l e ne since (rs.each e le)
         ];
-        link = link_in_reset s p row (changed (bus p) (bus q) (drives p d) l) st.devices m.inside change on;
+        link = link_in_reset s p row (change_to (bus p) (bus q) (drives p d) l) st.devices m.inside change on;
       });
     }
 
@@ -241,9 +241,9 @@ no_fall o r e = λ i. implies (falls (e i) true) r
 no_fall_none : (o : LineSet) (r : Bool) → o.rst ≡ false → implies (falls o.rst false) r ≡ true
 no_fall_none o r e = λ i. implies (falls (e i) false) r
 
-raising : (s : ScenarioValue) (p : List Row) (t d : ℕ) → AreOfDevices p → d < 8 → (drives p d).rst ≡ false → since_line (λ x. x.rst) (lines_row t d only_rst ∷ p) ≤ t → Does s (lines_row t d only_rst ∷ p) d t
+raising : (s : ScenarioValue) (p : List Row) (t d : ℕ) → AreOfDevices p → d < 8 → (drives p d).rst ≡ false → since_line (λ x. x.rst) (row_of_lines t d only_rst ∷ p) ≤ t → Does s (row_of_lines t d only_rst ∷ p) d t
 raising s p t d h lt off since =
-    let q : List Row = lines_row t d only_rst ∷ p in
+    let q : List Row = row_of_lines t d only_rst ∷ p in
     let own = drives_own p t d only_rst in
     let devices : AreOfDevices q = (lt, h) in
     let at_t : (own_of q d).rst ≡ t = rst_own p t d only_rst ∙ (λ i. if rises (off i) true then t else (own_of p d).rst) in
@@ -260,9 +260,9 @@ raising s p t d h lt off since =
       cleared = λ lat x e c. let w = sym (ap (λ (y : LineSet). y.rst) own) ∙ e in absurd cc;
     }
 
-reset_keeps : (p : List Row) (t d : ℕ) → last_time p ≤ t → (drives p d).rst ≡ false → (bus (lines_row t d only_rst ∷ p)).rst ≡ true → implies (bus p).rst (nat_le t ((line_times p).rst + 800) || is_within (bus p) only_rst) ≡ true → broken_rule p (lines_row t d only_rst) ≡ None
+reset_keeps : (p : List Row) (t d : ℕ) → last_time p ≤ t → (drives p d).rst ≡ false → (bus (row_of_lines t d only_rst ∷ p)).rst ≡ true → implies (bus p).rst (nat_le t ((line_times p).rst + 800) || is_within (bus p) only_rst) ≡ true → broken_rule p (row_of_lines t d only_rst) ≡ None
 reset_keeps p t d order off on quiet_ =
-    let b' : LineSet = bus (lines_row t d only_rst ∷ p) in
+    let b' : LineSet = bus (row_of_lines t d only_rst ∷ p) in
     reset_row_obeys p t d only_rst (bus p) b' (drives p d) (change_is p t d only_rst only_rst (bus p) b' (drives p d) refl refl refl refl)
     (record {
       reset = or_right_yes (bus p).rst b'.rst on;
@@ -273,9 +273,9 @@ reset_keeps p t d order off on quiet_ =
       holds = no_fall (drives p d) (nat_le (raised (λ y. y.rst) p d + 25000) t) off;
     })
 
-pub raises_again : (s : ScenarioValue) (p : List Row) (t d : ℕ) → Fits s → Standing s p → ResetState s p → (drives p d).rst ≡ false → IsLeast (due s p) 8 (lines_row t d only_rst) → NextRow s p (lines_row t d only_rst)
+pub raises_again : (s : ScenarioValue) (p : List Row) (t d : ℕ) → HasShortLatencies s → Standing s p → UnderRst s p → (drives p d).rst ≡ false → IsLeast (due s p) 8 (row_of_lines t d only_rst) → NextRow s p (row_of_lines t d only_rst)
 raises_again s p t d fits st rs off m =
-    let row : Row = lines_row t d only_rst in
+    let row : Row = row_of_lines t d only_rst in
     let q : List Row = row ∷ p in
     let order = st.ahead d m.inside (record { time = t; kind = Drives only_rst }) m.is_due in
     let on : (bus q).rst ≡ true = bus_on (λ y. y.rst) (λ _ _. refl) q d m.inside (ap (λ (y : LineSet). y.rst) (drives_own p t d only_rst)) in
@@ -284,9 +284,9 @@ raises_again s p t d fits st rs off m =
     (reset_keeps p t d order off on (implied (bus p).rst (nat_le t ((line_times p).rst + 800) || is_within (bus p) only_rst) (quiet_enough s p row fits st rs m)))
 
 -- The first row of RST.
-pub raises : (s : ScenarioValue) (p : List Row) (t d : ℕ) → Standing s p → (bus p).rst ≡ false → IsLeast (due s p) 8 (lines_row t d only_rst) → NextRow s p (lines_row t d only_rst)
+pub raises : (s : ScenarioValue) (p : List Row) (t d : ℕ) → Standing s p → (bus p).rst ≡ false → IsLeast (due s p) 8 (row_of_lines t d only_rst) → NextRow s p (row_of_lines t d only_rst)
 raises s p t d st calm m =
-    let row : Row = lines_row t d only_rst in
+    let row : Row = row_of_lines t d only_rst in
     let q : List Row = row ∷ p in
     let devices : AreOfDevices q = (m.inside, st.devices) in
     let off = off_at p calm d m.inside in
@@ -295,7 +295,7 @@ raises s p t d st calm m =
     let since : since_line (λ x. x.rst) q ≡ t = since_is (λ x. x.rst) p row (bus p) (bus q) refl refl ∙ (λ i. newer_line (calm i) (on i) (since_line (λ x. x.rst) p) t) in
     let mine = raising s p t d st.devices m.inside off (omega arith) in
     let other_off : (e : ℕ) → e < 8 → e ≢ d → (drives q e).rst ≡ false = λ e le ne. ap (λ (y : LineSet). y.rst) (drives_other p t d only_rst e ne) ∙ off_at p calm e le in
-    let change : change_of p row ≡ changed (bus p) (bus q) (drives p d) only_rst = change_is p t d only_rst only_rst (bus p) (bus q) (drives p d) refl refl refl refl in
+    let change : change_of p row ≡ change_to (bus p) (bus q) (drives p d) only_rst = change_is p t d only_rst only_rst (bus p) (bus q) (drives p d) refl refl refl refl in
     record {
       order = order;
       obeys = reset_keeps p t d order off on (λ i. implies (calm i) (nat_le t ((line_times p).rst + 800) || is_within (bus p) only_rst));
@@ -311,38 +311,38 @@ raises s p t d st calm m =
       here = in_reset (record {
         reset = on;
         each = λ e le. elim (cases_eq e d) [
-          | inl same ↦ subst (λ (k : ℕ). UnderReset q k) (sym same) mine.stands
+          | inl same ↦ subst (λ (k : ℕ). IsUnderRst q k) (sym same) mine.stands
           | inr ne ↦ lingers (other_off e le ne)
         ];
-        link = link_in_reset s p row (changed (bus p) (bus q) (drives p d) only_rst) st.devices m.inside change on;
+        link = link_in_reset s p row (change_to (bus p) (bus q) (drives p d) only_rst) st.devices m.inside change on;
       });
     }
   where
-    is_cleared_at : (e lat : ℕ) (x : Due) → bus_clear (device_with e lat (drives (lines_row t d only_rst ∷ p) e) (own_time (lines_row t d only_rst ∷ p) e)) (line_times (lines_row t d only_rst ∷ p)).rst ≡ Some x → x.time ≡ since_line (λ y. y.rst) (lines_row t d only_rst ∷ p) + lat
-    is_cleared_at e lat x c = go (same_set (drives (lines_row t d only_rst ∷ p) e) none) c
+    is_cleared_at : (e lat : ℕ) (x : Due) → bus_clear (device_with e lat (drives (row_of_lines t d only_rst ∷ p) e) (own_time (row_of_lines t d only_rst ∷ p) e)) (line_times (row_of_lines t d only_rst ∷ p)).rst ≡ Some x → x.time ≡ since_line (λ y. y.rst) (row_of_lines t d only_rst ∷ p) + lat
+    is_cleared_at e lat x c = go (same_set (drives (row_of_lines t d only_rst ∷ p) e) none) c
       where
-        go : (g : Bool) → (if g then None else due_at (since_line (λ y. y.rst) (lines_row t d only_rst ∷ p) + lat) none) ≡ Some x → x.time ≡ since_line (λ y. y.rst) (lines_row t d only_rst ∷ p) + lat
+        go : (g : Bool) → (if g then None else due_at (since_line (λ y. y.rst) (row_of_lines t d only_rst ∷ p) + lat) none) ≡ Some x → x.time ≡ since_line (λ y. y.rst) (row_of_lines t d only_rst ∷ p) + lat
         go true z = absurd (none_some x z)
-        go false z = (is_at (since_line (λ y. y.rst) (lines_row t d only_rst ∷ p) + lat) none x z).time_is
+        go false z = (is_at (since_line (λ y. y.rst) (row_of_lines t d only_rst ∷ p) + lat) none x z).time_is
 
 -- ---- a device releases its lines, or RST
 
 -- What a device does that drives nothing after its row.
-silent : (s : ScenarioValue) (p : List Row) (t d : ℕ) → Does s (lines_row t d none ∷ p) d t
+silent : (s : ScenarioValue) (p : List Row) (t d : ℕ) → Does s (row_of_lines t d none ∷ p) d t
 silent s p t d =
     let own = drives_own p t d none in
     record {
       stands = quiet own;
       held = λ x on r. let w = sym on ∙ ap (λ (y : LineSet). y.rst) own in absurd cc;
-      cleared = λ lat x off c. absurd (none_some x ((λ i. bus_clear (device_with d lat (sym own i) (own_time (lines_row t d none ∷ p) d)) (line_times (lines_row t d none ∷ p)).rst) ∙ c));
+      cleared = λ lat x off c. absurd (none_some x ((λ i. bus_clear (device_with d lat (sym own i) (own_time (row_of_lines t d none ∷ p) d)) (line_times (row_of_lines t d none ∷ p)).rst) ∙ c));
     }
 
 -- RST stays true where a device releases other lines.
-stays_true : (p : List Row) (t d : ℕ) → (bus p).rst ≡ true → d < 8 → (drives p d).rst ≡ false → (bus (lines_row t d none ∷ p)).rst ≡ true
+stays_true : (p : List Row) (t d : ℕ) → (bus p).rst ≡ true → d < 8 → (drives p d).rst ≡ false → (bus (row_of_lines t d none ∷ p)).rst ≡ true
 stays_true p t d rst lt off = go (bus q).rst refl
   where
     q : List Row
-    q = lines_row t d none ∷ p
+    q = row_of_lines t d none ∷ p
 
     all_off : (bus q).rst ≡ false → (e : ℕ) → e < 8 → (drives p e).rst ≡ false
     all_off h e le =
@@ -355,9 +355,9 @@ stays_true p t d rst lt off = go (bus q).rst refl
     go true h = h
     go false h = let w = sym rst ∙ bus_off (λ y. y.rst) (λ _ _. refl) refl p (all_off h) in absurd cc
 
-pub clears : (s : ScenarioValue) (p : List Row) (t d : ℕ) → Fits s → Standing s p → ResetState s p → (drives p d).rst ≡ false → same_set (drives p d) none ≡ false → IsLeast (due s p) 8 (lines_row t d none) → NextRow s p (lines_row t d none)
+pub clears : (s : ScenarioValue) (p : List Row) (t d : ℕ) → HasShortLatencies s → Standing s p → UnderRst s p → (drives p d).rst ≡ false → same_set (drives p d) none ≡ false → IsLeast (due s p) 8 (row_of_lines t d none) → NextRow s p (row_of_lines t d none)
 clears s p t d fits st rs off some m =
-    let row : Row = lines_row t d none in
+    let row : Row = row_of_lines t d none in
     let b' : LineSet = bus (row ∷ p) in
     let order = st.ahead d m.inside (record { time = t; kind = Drives none }) m.is_due in
     let on = stays_true p t d rs.reset m.inside off in
@@ -372,9 +372,9 @@ clears s p t d fits st rs off some m =
       holds = no_fall_none (drives p d) (nat_le (raised (λ y. y.rst) p d + 25000) t) off;
     }))
 
-release_keeps : (s : ScenarioValue) (p : List Row) (t d : ℕ) → Fits s → Standing s p → ResetState s p → HoldsReset p d → (own_of p d).rst + 25000 ≤ t → IsLeast (due s p) 8 (lines_row t d none) → broken_rule p (lines_row t d none) ≡ None
+release_keeps : (s : ScenarioValue) (p : List Row) (t d : ℕ) → HasShortLatencies s → Standing s p → UnderRst s p → HoldsReset p d → (own_of p d).rst + 25000 ≤ t → IsLeast (due s p) 8 (row_of_lines t d none) → broken_rule p (row_of_lines t d none) ≡ None
 release_keeps s p t d fits st rs h wait m =
-    let row : Row = lines_row t d none in
+    let row : Row = row_of_lines t d none in
     let b' : LineSet = bus (row ∷ p) in
     let order = st.ahead d m.inside (record { time = t; kind = Drives none }) m.is_due in
     reset_row_obeys p t d none (bus p) b' only_rst (change_is p t d none none (bus p) b' only_rst refl refl refl h.drive)
@@ -388,18 +388,18 @@ release_keeps s p t d fits st rs h wait m =
     })
 
 -- What stands on the bus after a row that leaves no line true, RST having been the last.
-empty_arbitration : (a : Option Arbitration) (f t d : ℕ) → arbitration_after a f (changed only_rst none only_rst none) (lines_row t d none) ≡ None
+empty_arbitration : (a : Option Arbitration) (f t d : ℕ) → arbitration_after a f (change_to only_rst none only_rst none) (row_of_lines t d none) ≡ None
 empty_arbitration None f t d = refl
 empty_arbitration (Some a) f t d = refl
 
-empty_connection : (n : Option Connection) (c : Option Call) (t d : ℕ) → connection_after n c (changed only_rst none only_rst none) (lines_row t d none) ≡ None
+empty_connection : (n : Option Connection) (c : Option Call) (t d : ℕ) → connection_after n c (change_to only_rst none only_rst none) (row_of_lines t d none) ≡ None
 empty_connection None c t d = refl
 empty_connection (Some n) c t d = refl
 
 -- The last device releases RST, and the bus is free.
-frees : (s : ScenarioValue) (p : List Row) (t d : ℕ) → Fits s → Standing s p → ResetState s p → HoldsReset p d → (own_of p d).rst + 25000 ≤ t → IsLeast (due s p) 8 (lines_row t d none) → (bus (lines_row t d none ∷ p)).rst ≡ false → NextRow s p (lines_row t d none)
+frees : (s : ScenarioValue) (p : List Row) (t d : ℕ) → HasShortLatencies s → Standing s p → UnderRst s p → HoldsReset p d → (own_of p d).rst + 25000 ≤ t → IsLeast (due s p) 8 (row_of_lines t d none) → (bus (row_of_lines t d none ∷ p)).rst ≡ false → NextRow s p (row_of_lines t d none)
 frees s p t d fits st rs h wait m off =
-    let row : Row = lines_row t d none in
+    let row : Row = row_of_lines t d none in
     let q : List Row = row ∷ p in
     let devices : AreOfDevices q = (m.inside, st.devices) in
     let order = st.ahead d m.inside (record { time = t; kind = Drives none }) m.is_due in
@@ -417,8 +417,8 @@ frees s p t d fits st rs h wait m off =
     ] in
     let before : bus p ≡ only_rst = bus_one p d m.inside others ∙ h.drive in
     let after : bus q ≡ none = bus_none q rest in
-    let change : change_of p row ≡ changed only_rst none only_rst none = change_is p t d none none only_rst none only_rst refl before after h.drive in
-    let goes = stands_by p row (changed only_rst none only_rst none) only_rst (arbitration p) (call p) (connection p) (record { bus_is = before; arbitration_is = refl; call_is = refl; connection_is = refl }) change in
+    let change : change_of p row ≡ change_to only_rst none only_rst none = change_is p t d none none only_rst none only_rst refl before after h.drive in
+    let goes = stands_by p row (change_to only_rst none only_rst none) only_rst (arbitration p) (call p) (connection p) (record { bus_is = before; arbitration_is = refl; call_is = refl; connection_is = refl }) change in
     let stands : Stands q none None None None = record { bus_is = after; arbitration_is = goes.arbitration_is ∙ empty_arbitration (arbitration p) (free_since p) t d; call_is = goes.call_is; connection_is = goes.connection_is ∙ empty_connection (connection p) (call p) t d } in
     let here : stage q ≡ OnFreeBus (free_since q) = stage_is q _ _ _ _ stands in
     let since : since_line (λ x. x.rst) q ≡ t = since_is (λ x. x.rst) p row only_rst none before after in
@@ -434,23 +434,23 @@ frees s p t d fits st rs h wait m off =
                 let v = (is_entry e w.0 (own_time q e) (free_since q) none (want_time s (run_state s q) e) x (sym (free_due_is s q e w.0 (free_since q) devices le w.1 stands.connection_is here (rest e le)) ∙ c)).after_free in
                 omega arith
           ];
-      here = free (record {
+      here = on_free_bus (record {
         stands = stands;
         quiet = rest;
-        link = link_apart s p row (changed only_rst none only_rst none) st.devices m.inside change refl stands.connection_is rs.link;
+        link = link_apart s p row (change_to only_rst none only_rst none) st.devices m.inside change refl stands.connection_is rs.link;
       });
     }
 
-pub releases : (s : ScenarioValue) (p : List Row) (t d : ℕ) → Fits s → Standing s p → ResetState s p → HoldsReset p d → (own_of p d).rst + 25000 ≤ t → IsLeast (due s p) 8 (lines_row t d none) → NextRow s p (lines_row t d none)
-releases s p t d fits st rs h wait m = go (bus (lines_row t d none ∷ p)).rst refl
+pub releases : (s : ScenarioValue) (p : List Row) (t d : ℕ) → HasShortLatencies s → Standing s p → UnderRst s p → HoldsReset p d → (own_of p d).rst + 25000 ≤ t → IsLeast (due s p) 8 (row_of_lines t d none) → NextRow s p (row_of_lines t d none)
+releases s p t d fits st rs h wait m = go (bus (row_of_lines t d none ∷ p)).rst refl
   where
-    go : (r : Bool) → (bus (lines_row t d none ∷ p)).rst ≡ r → NextRow s p (lines_row t d none)
+    go : (r : Bool) → (bus (row_of_lines t d none ∷ p)).rst ≡ r → NextRow s p (row_of_lines t d none)
     go true on = stays s p t d none st rs m on (silent s p t d) (release_keeps s p t d fits st rs h wait m)
     go false off = frees s p t d fits st rs h wait m off
 
 -- ---- any row under RST
 
-pub from_reset : (s : ScenarioValue) (p : List Row) (row : Row) → Fits s → Standing s p → ResetState s p → IsLeast (due s p) 8 row → NextRow s p row
+pub from_reset : (s : ScenarioValue) (p : List Row) (row : Row) → HasShortLatencies s → Standing s p → UnderRst s p → IsLeast (due s p) 8 row → NextRow s p row
 from_reset s p row fits st rs m = go (drives p row.dev).rst refl (rs.each row.dev m.inside)
   where
     x : Due
@@ -460,7 +460,7 @@ from_reset s p row fits st rs m = go (drives p row.dev).rst refl (rs.each row.de
     holding h =
         let l = due_there s p row.dev x m.is_due in
         let z = is_at ((own_of p row.dev).rst + 25000 + l.latency) none x (sym (due_holding s p row.dev l.latency st.devices m.inside l.latency_is (ap (λ (y : LineSet). y.rst) h.drive)) ∙ m.is_due) in
-        let e : row ≡ lines_row row.time row.dev none = row_is row none z.kind_is in
+        let e : row ≡ row_of_lines row.time row.dev none = row_is row none z.kind_is in
         let wait : (own_of p row.dev).rst + 25000 ≤ row.time = let w = z.time_is in omega arith in
         subst (λ (r : Row). NextRow s p r) (sym e) (releases s p row.time row.dev fits st rs h wait (subst (λ (r : Row). IsLeast (due s p) 8 r) e m))
 
@@ -469,15 +469,15 @@ from_reset s p row fits st rs m = go (drives p row.dev).rst refl (rs.each row.de
         let l = due_there s p row.dev x m.is_due in
         elim (one_of (reset_due s p row.dev) (bus_clear (device_with row.dev l.latency (drives p row.dev) (own_time p row.dev)) (line_times p).rst) x (sym (calm_in_reset s p row.dev l.latency st.devices m.inside l.latency_is rs.reset off) ∙ m.is_due)) [
           | inl r ↦
-              let e : row ≡ lines_row row.time row.dev only_rst = row_is row only_rst (own_reset_is s p row.dev x r).kind_is in
+              let e : row ≡ row_of_lines row.time row.dev only_rst = row_is row only_rst (own_reset_is s p row.dev x r).kind_is in
               subst (λ (r : Row). NextRow s p r) (sym e) (raises_again s p row.time row.dev fits st rs off (subst (λ (r : Row). IsLeast (due s p) 8 r) e m))
           | inr c ↦
               let z = clear_is s p row.dev l.latency x l.latency_is c in
-              let e : row ≡ lines_row row.time row.dev none = row_is row none z.kind_is in
+              let e : row ≡ row_of_lines row.time row.dev none = row_is row none z.kind_is in
               subst (λ (r : Row). NextRow s p r) (sym e) (clears s p row.time row.dev fits st rs off z.drives_some (subst (λ (r : Row). IsLeast (due s p) 8 r) e m))
         ]
 
-    go : (q : Bool) → (drives p row.dev).rst ≡ q → UnderReset p row.dev → NextRow s p row
+    go : (q : Bool) → (drives p row.dev).rst ≡ q → IsUnderRst p row.dev → NextRow s p row
     go false off u = not_holding off
     go true on (quiet n) = let w = sym on ∙ ap (λ (y : LineSet). y.rst) n in absurd cc
     go true on (holds h) = holding h

@@ -26,7 +26,7 @@ use Rattle.bus_laws.specs.Reactions.{unreset_due_if, unreset_due, reset_due_if, 
 use Rattle.bus_laws.proofs.Tests.{eq_self, eq_other}
 use Rattle.bus_laws.proofs.Dues.{is_at, none_some}
 use Rattle.bus_laws.specs.Stages.{HasDevice}
-use Rattle.bus_laws.specs.Rows.{lines_row}
+use Rattle.bus_laws.specs.Rows.{row_of_lines}
 
 -- ---- the first of two
 
@@ -149,16 +149,16 @@ reset_after dev t (r ∷ resets) x e =
 
 -- ---- what a row leaves of a device's resets
 
-own_after_own : (p : List Row) (t d : ℕ) (l : LineSet) → own_of (lines_row t d l ∷ p) d ≡ own_after (own_of p d) (change_of p (lines_row t d l)) t
-own_after_own p t d l = λ i. if eq_self d i then own_after (own_of p d) (change_of p (lines_row t d l)) t else own_of p d
+own_after_own : (p : List Row) (t d : ℕ) (l : LineSet) → own_of (row_of_lines t d l ∷ p) d ≡ own_after (own_of p d) (change_of p (row_of_lines t d l)) t
+own_after_own p t d l = λ i. if eq_self d i then own_after (own_of p d) (change_of p (row_of_lines t d l)) t else own_of p d
 
 pub own_other : (p : List Row) (row : Row) (e : ℕ) → e ≢ row.dev → own_of (row ∷ p) e ≡ own_of p e
 own_other p row e ne = λ i. if eq_other row.dev e (λ x. ne (sym x)) i then own_next row.kind (own_of p e) (change_of p row) row.time else own_of p e
 
-pub released_own : (p : List Row) (t d : ℕ) (l : LineSet) → (own_of (lines_row t d l ∷ p) d).released ≡ when (falls (drives p d).rst l.rst) t (own_of p d).released
+pub released_own : (p : List Row) (t d : ℕ) (l : LineSet) → (own_of (row_of_lines t d l ∷ p) d).released ≡ when (falls (drives p d).rst l.rst) t (own_of p d).released
 released_own p t d l = ap (λ (o : Own). o.released) (own_after_own p t d l)
 
-pub rst_own : (p : List Row) (t d : ℕ) (l : LineSet) → (own_of (lines_row t d l ∷ p) d).rst ≡ (if rises (drives p d).rst l.rst then t else (own_of p d).rst)
+pub rst_own : (p : List Row) (t d : ℕ) (l : LineSet) → (own_of (row_of_lines t d l ∷ p) d).rst ≡ (if rises (drives p d).rst l.rst then t else (own_of p d).rst)
 rst_own p t d l = ap (λ (o : Own). o.rst) (own_after_own p t d l)
 
 pub own_fault : (p : List Row) (t d bit e : ℕ) → own_of (record { time = t; dev = d; kind = Fault bit } ∷ p) e ≡ own_of p e

@@ -16,29 +16,29 @@ use Rattle.bus_lines.specs.Stage.{stage, stage_by}
 use Rattle.bus_due.specs.Own.{own_of}
 use Rattle.bus_laws.specs.Reactions.{own_time}
 use Rattle.bus_laws.proofs.Tests.{eq_self, eq_other}
-use Rattle.bus_laws.specs.Rows.{Stands, changed, fault_row, lines_row}
+use Rattle.bus_laws.specs.Rows.{Stands, change_to, row_of_fault, row_of_lines}
 
-pub drives_own : (p : List Row) (t d : ℕ) (l : LineSet) → drives (lines_row t d l ∷ p) d ≡ l
+pub drives_own : (p : List Row) (t d : ℕ) (l : LineSet) → drives (row_of_lines t d l ∷ p) d ≡ l
 drives_own p t d l = λ i. if eq_self d i then l else drives p d
 
-pub drives_other : (p : List Row) (t d : ℕ) (l : LineSet) (e : ℕ) → e ≢ d → drives (lines_row t d l ∷ p) e ≡ drives p e
+pub drives_other : (p : List Row) (t d : ℕ) (l : LineSet) (e : ℕ) → e ≢ d → drives (row_of_lines t d l ∷ p) e ≡ drives p e
 drives_other p t d l e ne = λ i. if eq_other d e (λ x. ne (sym x)) i then l else drives p e
 
-pub mine_own : (p : List Row) (t d : ℕ) (l : LineSet) → own_time (lines_row t d l ∷ p) d ≡ t
-mine_own p t d l = λ i. (if eq_self d i then own_after (own_of p d) (change_of p (lines_row t d l)) t else own_of p d).row
+pub own_time_own : (p : List Row) (t d : ℕ) (l : LineSet) → own_time (row_of_lines t d l ∷ p) d ≡ t
+own_time_own p t d l = λ i. (if eq_self d i then own_after (own_of p d) (change_of p (row_of_lines t d l)) t else own_of p d).row
 
-pub mine_other : (p : List Row) (t d : ℕ) (l : LineSet) (e : ℕ) → e ≢ d → own_time (lines_row t d l ∷ p) e ≡ own_time p e
-mine_other p t d l e ne = λ i. (if eq_other d e (λ x. ne (sym x)) i then own_after (own_of p e) (change_of p (lines_row t d l)) t else own_of p e).row
+pub own_time_other : (p : List Row) (t d : ℕ) (l : LineSet) (e : ℕ) → e ≢ d → own_time (row_of_lines t d l ∷ p) e ≡ own_time p e
+own_time_other p t d l e ne = λ i. (if eq_other d e (λ x. ne (sym x)) i then own_after (own_of p e) (change_of p (row_of_lines t d l)) t else own_of p e).row
 
-pub raised_other : (on : LineSet → Bool) (p : List Row) (t d : ℕ) (l : LineSet) (e : ℕ) → e ≢ d → raised on (lines_row t d l ∷ p) e ≡ raised on p e
+pub raised_other : (on : LineSet → Bool) (p : List Row) (t d : ℕ) (l : LineSet) (e : ℕ) → e ≢ d → raised on (row_of_lines t d l ∷ p) e ≡ raised on p e
 raised_other on p t d l e ne = λ i. if eq_other d e (λ x. ne (sym x)) i then raised_next (on (drives p e)) (on l) t (raised on p e) else raised on p e
 
-pub raised_own : (on : LineSet → Bool) (p : List Row) (t d : ℕ) (l : LineSet) → raised on (lines_row t d l ∷ p) d ≡ raised_next (on (drives p d)) (on l) t (raised on p d)
+pub raised_own : (on : LineSet → Bool) (p : List Row) (t d : ℕ) (l : LineSet) → raised on (row_of_lines t d l ∷ p) d ≡ raised_next (on (drives p d)) (on l) t (raised on p d)
 raised_own on p t d l = λ i. if eq_self d i then raised_next (on (drives p d)) (on l) t (raised on p d) else raised on p d
 
 -- What a row of lines changes.
-pub change_is : (p : List Row) (t d : ℕ) (l l' b b' o : LineSet) → l ≡ l' → bus p ≡ b → bus (lines_row t d l ∷ p) ≡ b' → drives p d ≡ o → change_of p (lines_row t d l) ≡ changed b b' o l'
-change_is p t d l l' b b' o el eb ea eo = λ i. changed (eb i) (ea i) (eo i) (el i)
+pub change_is : (p : List Row) (t d : ℕ) (l l' b b' o : LineSet) → l ≡ l' → bus p ≡ b → bus (row_of_lines t d l ∷ p) ≡ b' → drives p d ≡ o → change_of p (row_of_lines t d l) ≡ change_to b b' o l'
+change_is p t d l l' b b' o el eb ea eo = λ i. change_to (eb i) (ea i) (eo i) (el i)
 
 pub stands_by : (p : List Row) (row : Row) (k : Change) (b : LineSet) (a : Option Arbitration) (c : Option Call) (n : Option Connection) → Stands p b a c n → change_of p row ≡ k
     → Stands (row ∷ p) k.after (arbitration_after a (free_since p) k row) (call_after c k row) (connection_after n c k row)
@@ -50,25 +50,25 @@ stands_by p row k b a c n h e = record {
 }
 
 -- A fault row changes no line.
-pub fault_change : (p : List Row) (t d bit : ℕ) (b o : LineSet) → bus p ≡ b → drives p d ≡ o → change_of p (fault_row t d bit) ≡ changed b b o o
-fault_change p t d bit b o eb eo = let a = bus-fault (fault_row t d bit) p bit refl ∙ eb in λ i. changed (eb i) (a i) (eo i) (eo i)
+pub fault_change : (p : List Row) (t d bit : ℕ) (b o : LineSet) → bus p ≡ b → drives p d ≡ o → change_of p (row_of_fault t d bit) ≡ change_to b b o o
+fault_change p t d bit b o eb eo = let a = bus-fault (row_of_fault t d bit) p bit refl ∙ eb in λ i. change_to (eb i) (a i) (eo i) (eo i)
 
-pub own_time_fault : (p : List Row) (t d bit e : ℕ) → own_time (fault_row t d bit ∷ p) e ≡ own_time p e
+pub own_time_fault : (p : List Row) (t d bit e : ℕ) → own_time (row_of_fault t d bit ∷ p) e ≡ own_time p e
 own_time_fault p t d bit e = go (d == e)
   where
     go : (q : Bool) → (if q then own_of p e else own_of p e).row ≡ (own_of p e).row
     go true = refl
     go false = refl
 
-pub stands_after : (p : List Row) (t d : ℕ) (l l' b b' o : LineSet) (a : Option Arbitration) (c : Option Call) (n : Option Connection) → Stands p b a c n → l ≡ l' → bus (lines_row t d l ∷ p) ≡ b' → drives p d ≡ o
-    → Stands (lines_row t d l ∷ p) b' (arbitration_after a (free_since p) (changed b b' o l') (lines_row t d l)) (call_after c (changed b b' o l') (lines_row t d l)) (connection_after n c (changed b b' o l') (lines_row t d l))
+pub stands_after : (p : List Row) (t d : ℕ) (l l' b b' o : LineSet) (a : Option Arbitration) (c : Option Call) (n : Option Connection) → Stands p b a c n → l ≡ l' → bus (row_of_lines t d l ∷ p) ≡ b' → drives p d ≡ o
+    → Stands (row_of_lines t d l ∷ p) b' (arbitration_after a (free_since p) (change_to b b' o l') (row_of_lines t d l)) (call_after c (change_to b b' o l') (row_of_lines t d l)) (connection_after n c (change_to b b' o l') (row_of_lines t d l))
 stands_after p t d l l' b b' o a c n h el ea eo =
     let e = change_is p t d l l' b b' o el h.bus_is ea eo in
     record {
       bus_is = ea;
-      arbitration_is = λ i. arbitration_after (h.arbitration_is i) (free_since p) (e i) (lines_row t d l);
-      call_is = λ i. call_after (h.call_is i) (e i) (lines_row t d l);
-      connection_is = λ i. connection_after (h.connection_is i) (h.call_is i) (e i) (lines_row t d l);
+      arbitration_is = λ i. arbitration_after (h.arbitration_is i) (free_since p) (e i) (row_of_lines t d l);
+      call_is = λ i. call_after (h.call_is i) (e i) (row_of_lines t d l);
+      connection_is = λ i. connection_after (h.connection_is i) (h.call_is i) (e i) (row_of_lines t d l);
     }
 
 -- The stage of the bus.

@@ -18,7 +18,7 @@ use Rattle.bus_phases.specs.Reading.{reading_of}
 use Rattle.bus_rules.specs.Seen.{seen, seen_with, others_in_call, id_since, drives_bsy, initiator_of, initiator_data, target_data}
 use Rattle.bus_rules.specs.Rules.{lowest_broken, broken_rule}
 use Rattle.bus_laws.proofs.Rows.{change_is}
-use Rattle.bus_laws.specs.Rows.{Stands, changed, lines_row}
+use Rattle.bus_laws.specs.Rows.{Stands, change_to, row_of_lines}
 
 -- what of it is of no rule here but for its times
 -- without a connection nothing was said
@@ -90,7 +90,7 @@ pub obeys_by : (p : List Row) (row : Row) (g : Change) (b : LineSet) (a : Option
 obeys_by p row g b a k others h e eq z =
     ap (λ (v : Seen). lowest_broken v row) (seen_by p row g b a k others h e eq) ∙ z
 
-pub obeys_apart : (p : List Row) (t d : ℕ) (l b b' o l' : LineSet) (a : Option Arbitration) (k : Option Call) (others : Bool) → Stands p b a k None → l ≡ l' → bus (lines_row t d l ∷ p) ≡ b' → drives p d ≡ o → others_in_call (drives p) k ≡ others → lowest_broken (seen_apart p d (changed b b' o l') a k others) (lines_row t d l') ≡ None
-    → broken_rule p (lines_row t d l) ≡ None
+pub obeys_apart : (p : List Row) (t d : ℕ) (l b b' o l' : LineSet) (a : Option Arbitration) (k : Option Call) (others : Bool) → Stands p b a k None → l ≡ l' → bus (row_of_lines t d l ∷ p) ≡ b' → drives p d ≡ o → others_in_call (drives p) k ≡ others → lowest_broken (seen_apart p d (change_to b b' o l') a k others) (row_of_lines t d l') ≡ None
+    → broken_rule p (row_of_lines t d l) ≡ None
 obeys_apart p t d l b b' o l' a k others h el ea eo eq z =
-    obeys_by p (lines_row t d l) (changed b b' o l') b a k others h (change_is p t d l l' b b' o el h.bus_is ea eo) eq ((λ i. lowest_broken (seen_apart p d (changed b b' o l') a k others) (lines_row t d (el i))) ∙ z)
+    obeys_by p (row_of_lines t d l) (change_to b b' o l') b a k others h (change_is p t d l l' b b' o el h.bus_is ea eo) eq ((λ i. lowest_broken (seen_apart p d (change_to b b' o l') a k others) (row_of_lines t d (el i))) ∙ z)

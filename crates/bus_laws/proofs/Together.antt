@@ -20,8 +20,8 @@ use Rattle.bus_due.specs.Next.{due}
 use Rattle.bus_due.specs.Least.{IsLeast}
 use Rattle.bus_due.specs.Plain.{AreOfDevices}
 use Rattle.bus_laws.specs.Reactions.{unreset_due, reset_due}
-use Rattle.bus_laws.specs.Rows.{lines_row, Stands}
-use Rattle.bus_laws.specs.Stages.{Fits, Always, Here, free, contest, won, calls, asks, withdrawn, answered, resumed, in_reset, linked, Goes, HasDevice, Standing, NextRow, is_linked}
+use Rattle.bus_laws.specs.Rows.{row_of_lines, Stands}
+use Rattle.bus_laws.specs.Stages.{HasShortLatencies, CalmStanding, BusStage, on_free_bus, in_arbitration, after_arbitration, with_both_ids, awaiting_answer, after_withdrawal, after_answer, after_takeover, in_reset, in_connection, NextCalmRow, HasDevice, Standing, NextRow, is_connected}
 use Rattle.bus_laws.proofs.Joint.{own_time_le}
 use Rattle.bus_laws.proofs.FromFree.{from_free, row_is}
 use Rattle.bus_laws.proofs.FromArbitration.{from_arbitration}
@@ -45,9 +45,9 @@ standing_first s = record {
   there = λ d lt. inl refl;
 }
 
-pub here_first : (s : ScenarioValue) → Here s []
+pub stage_first : (s : ScenarioValue) → BusStage s []
 unfolding union_below
-here_first s = free (record {
+stage_first s = on_free_bus (record {
   stands = record { bus_is = refl; arbitration_is = refl; call_is = refl; connection_is = refl };
   quiet = λ d lt. refl;
   link = refl;
@@ -55,7 +55,7 @@ here_first s = free (record {
 
 -- ---- after a row
 
-pub standing_next : (s : ScenarioValue) (p : List Row) (row : Row) → Standing s p → IsLeast (due s p) 8 row → NextRow s p row → is_linked (row ∷ p) ≡ false → Standing s (row ∷ p)
+pub standing_next : (s : ScenarioValue) (p : List Row) (row : Row) → Standing s p → IsLeast (due s p) 8 row → NextRow s p row → is_connected (row ∷ p) ≡ false → Standing s (row ∷ p)
 standing_next s p row st m g apart = record {
   devices = (m.inside, st.devices);
   lawful = (st.lawful, (row_none p row).0 g.obeys);
@@ -74,7 +74,7 @@ standing_next s p row st m g apart = record {
 
 -- ---- a row where RST is false
 
-always_is : (s : ScenarioValue) (p : List Row) → Standing s p → (bus p).rst ≡ false → Always s p
+always_is : (s : ScenarioValue) (p : List Row) → Standing s p → (bus p).rst ≡ false → CalmStanding s p
 always_is s p st calm = record {
   devices = st.devices;
   lawful = st.lawful;
@@ -85,14 +85,14 @@ always_is s p st calm = record {
       omega arith;
   past = st.past;
   seen_past = st.seen_past;
-  mine_past = st.own_past;
+  own_past = st.own_past;
 }
 
 not_linked : (o : Option Connection) (r : Bool) → (is_some o && not r) ≡ false → r ≡ false → o ≡ None
 not_linked None r e f = refl
 not_linked (Some n) r e f = let w = ap (λ (q : Bool). not q) f in let v = sym e ∙ w in absurd cc
 
-next_row : (s : ScenarioValue) (p : List Row) (row : Row) → Standing s p → IsLeast (due s p) 8 row → Goes s p row → NextRow s p row
+next_row : (s : ScenarioValue) (p : List Row) (row : Row) → Standing s p → IsLeast (due s p) 8 row → NextCalmRow s p row → NextRow s p row
 next_row s p row st m g =
     let devices : AreOfDevices (row ∷ p) = (m.inside, st.devices) in
     record {
@@ -108,13 +108,13 @@ next_row s p row st m g =
     }
 
 -- While no device drives RST the next row is the reset of a device, or the first that is due without resets.
-calm_or_reset : (s : ScenarioValue) (p : List Row) (row : Row) → Standing s p → (bus p).rst ≡ false → IsLeast (due s p) 8 row → (Always s p → IsLeast (unreset_due s p) 8 row → Goes s p row) → NextRow s p row
+calm_or_reset : (s : ScenarioValue) (p : List Row) (row : Row) → Standing s p → (bus p).rst ≡ false → IsLeast (due s p) 8 row → (CalmStanding s p → IsLeast (unreset_due s p) 8 row → NextCalmRow s p row) → NextRow s p row
 calm_or_reset s p row st calm m goes =
     let x : Due = record { time = row.time; kind = row.kind } in
     let off = off_at p calm in
     elim (one_of (reset_due s p row.dev) (unreset_due s p row.dev) x (sym (due_calm s p row.dev st.devices m.inside (off row.dev m.inside)) ∙ m.is_due)) [
       | inl r ↦
-          let e : row ≡ lines_row row.time row.dev only_rst = row_is row only_rst (own_reset_is s p row.dev x r).kind_is in
+          let e : row ≡ row_of_lines row.time row.dev only_rst = row_is row only_rst (own_reset_is s p row.dev x r).kind_is in
           subst (λ (w : Row). NextRow s p w) (sym e) (raises s p row.time row.dev st calm (subst (λ (w : Row). IsLeast (due s p) 8 w) e m))
       | inr c ↦ next_row s p row st m (goes (always_is s p st calm) (record {
         inside = m.inside;
@@ -138,14 +138,14 @@ calm_bus p b a c n h e = ap (λ (x : LineSet). x.rst) h.bus_is ∙ e
 
 -- ---- any row while no connection stands, or RST is true
 
-pub from_here : (s : ScenarioValue) (p : List Row) (row : Row) → Fits s → Standing s p → Here s p → is_linked p ≡ false → IsLeast (due s p) 8 row → NextRow s p row
-from_here s p row fits st (free h) apart m = calm_or_reset s p row st (calm_bus p _ _ _ _ h.stands refl) m (λ a l. from_free s p row a h l)
-from_here s p row fits st (contest a h) apart m = calm_or_reset s p row st (calm_bus p _ _ _ _ h.stands refl) m (λ w l. from_arbitration s p a row w h l)
-from_here s p row fits st (won c t h) apart m = calm_or_reset s p row st (calm_bus p _ _ _ _ h.stands refl) m (λ a l. from_won s p c t row fits a h l)
-from_here s p row fits st (calls g c k t0 t e h) apart m = calm_or_reset s p row st (calm_bus p _ _ _ _ h.stands refl) m (λ a l. from_calls s p g c k t0 t row a e h l)
-from_here s p row fits st (asks v g c k t0 t1 t2 x h) apart m = calm_or_reset s p row st (calm_bus p _ _ _ _ h.here.stands refl) m (λ a l. from_asking s p v g c k t0 t1 t2 x row fits a h l)
-from_here s p row fits st (withdrawn v g c k t0 t1 t2 t3 e h) apart m = calm_or_reset s p row st (calm_bus p _ _ _ _ h.stands refl) m (λ a l. from_withdrawn s p v g c k t0 t1 t2 t3 row a e h l)
-from_here s p row fits st (answered g c k t0 t1 t2 t3 x h) apart m = calm_or_reset s p row st (calm_bus p _ _ _ _ h.here.stands refl) m (λ a l. from_answered s p g c k t0 t1 t2 t3 x row a h l)
-from_here s p row fits st (resumed c k t0 t1 t2 t3 t4 x e h) apart m = calm_or_reset s p row st (calm_bus p _ _ _ _ h.here.stands refl) m (λ a l. from_resumed s p c k t0 t1 t2 t3 t4 x row a e h l)
-from_here s p row fits st (in_reset h) apart m = from_reset s p row fits st h m
-from_here s p row fits st (linked n e calm) apart m = let w = sym apart ∙ (λ i. is_some (e i) && not (calm i)) in absurd cc
+pub from_stage : (s : ScenarioValue) (p : List Row) (row : Row) → HasShortLatencies s → Standing s p → BusStage s p → is_connected p ≡ false → IsLeast (due s p) 8 row → NextRow s p row
+from_stage s p row fits st (on_free_bus h) apart m = calm_or_reset s p row st (calm_bus p _ _ _ _ h.stands refl) m (λ a l. from_free s p row a h l)
+from_stage s p row fits st (in_arbitration a h) apart m = calm_or_reset s p row st (calm_bus p _ _ _ _ h.stands refl) m (λ w l. from_arbitration s p a row w h l)
+from_stage s p row fits st (after_arbitration c t h) apart m = calm_or_reset s p row st (calm_bus p _ _ _ _ h.stands refl) m (λ a l. from_won s p c t row fits a h l)
+from_stage s p row fits st (with_both_ids g c k t0 t e h) apart m = calm_or_reset s p row st (calm_bus p _ _ _ _ h.stands refl) m (λ a l. from_calls s p g c k t0 t row a e h l)
+from_stage s p row fits st (awaiting_answer v g c k t0 t1 t2 x h) apart m = calm_or_reset s p row st (calm_bus p _ _ _ _ h.here.stands refl) m (λ a l. from_asking s p v g c k t0 t1 t2 x row fits a h l)
+from_stage s p row fits st (after_withdrawal v g c k t0 t1 t2 t3 e h) apart m = calm_or_reset s p row st (calm_bus p _ _ _ _ h.stands refl) m (λ a l. from_withdrawn s p v g c k t0 t1 t2 t3 row a e h l)
+from_stage s p row fits st (after_answer g c k t0 t1 t2 t3 x h) apart m = calm_or_reset s p row st (calm_bus p _ _ _ _ h.here.stands refl) m (λ a l. from_answered s p g c k t0 t1 t2 t3 x row a h l)
+from_stage s p row fits st (after_takeover c k t0 t1 t2 t3 t4 x e h) apart m = calm_or_reset s p row st (calm_bus p _ _ _ _ h.here.stands refl) m (λ a l. from_resumed s p c k t0 t1 t2 t3 t4 x row a e h l)
+from_stage s p row fits st (in_reset h) apart m = from_reset s p row fits st h m
+from_stage s p row fits st (in_connection n e calm) apart m = let w = sym apart ∙ (λ i. is_some (e i) && not (calm i)) in absurd cc

@@ -6,7 +6,7 @@ use Rattle.std.proofs.lemmas.Bool.{cases_eq}
 use Rattle.std.proofs.lemmas.Bool.Decides.{nat_tests}
 use Rattle.bus_trace.specs.Terms.{drives_two_ids, other_id}
 use Rattle.bus_laws.proofs.Tests.{eq_other}
-use Rattle.bus_laws.specs.Callings.{called}
+use Rattle.bus_laws.specs.Callings.{both_ids}
 
 all_below : (ℕ → Bool) → ℕ → Bool
 all_below f zero = true
@@ -27,7 +27,7 @@ each_below f (suc n) e k lt =
     ]
 
 abbrev good : Bool → ℕ → ℕ → Bool
-good m a b = (a == b) || (drives_two_ids a (called m a b) && ((other_id (called m a b) a == b) && (bit_at (called m a b).data_bits 8 == 1)))
+good m a b = (a == b) || (drives_two_ids a (both_ids m a b) && ((other_id (both_ids m a b) a == b) && (bit_at (both_ids m a b).data_bits 8 == 1)))
 
 all_good : (m : Bool) → all_below (λ a. all_below (good m a) 8) 8 ≡ true
 unfolding all_below count_ones
@@ -35,8 +35,8 @@ all_good true = refl
 all_good false = refl
 
 pub record IsCall (m : Bool) (c k : ℕ) : Type 0 where
-  pub two : drives_two_ids c (called m c k) ≡ true
-  pub other : other_id (called m c k) c ≡ k
+  pub two : drives_two_ids c (both_ids m c k) ≡ true
+  pub other : other_id (both_ids m c k) c ≡ k
   pub parity : (bit_at (2 ^ c + 2 ^ k + 256) 8 == 1) ≡ true
 
 or_right : (p q : Bool) → (p || q) ≡ true → p ≡ false → q ≡ true
@@ -49,6 +49,6 @@ same_from a b e = grind (arith, nat_tests)
 pub is_call : (m : Bool) (c k : ℕ) → c < 8 → k < 8 → c ≢ k → IsCall m c k
 is_call m c k lc lk ne =
     let g : good m c k ≡ true = each_below (good m c) 8 (each_below (λ a. all_below (good m a) 8) 8 (all_good m) c lc) k lk in
-    let h = both _ _ (or_right (c == k) (drives_two_ids c (called m c k) && ((other_id (called m c k) c == k) && (bit_at (called m c k).data_bits 8 == 1))) g (eq_other c k ne)) in
-    let j = both (other_id (called m c k) c == k) (bit_at (called m c k).data_bits 8 == 1) h.1 in
+    let h = both _ _ (or_right (c == k) (drives_two_ids c (both_ids m c k) && ((other_id (both_ids m c k) c == k) && (bit_at (both_ids m c k).data_bits 8 == 1))) g (eq_other c k ne)) in
+    let j = both (other_id (both_ids m c k) c == k) (bit_at (both_ids m c k).data_bits 8 == 1) h.1 in
     record { two = h.0; other = same_from _ _ j.0; parity = j.1 }

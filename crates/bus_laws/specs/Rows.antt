@@ -10,14 +10,15 @@ use Rattle.bus_trace.specs.declared.selection.Call.{Call}
 use Rattle.bus_trace.specs.declared.connection.Connection.{Connection}
 use Rattle.bus_trace.specs.Terms.{arbitration, call, connection}
 
-abbrev pub lines_row : ℕ → ℕ → LineSet → Row
-lines_row t d l = record { time = t; dev = d; kind = Drives l }
+abbrev pub row_of_lines : ℕ → ℕ → LineSet → Row
+row_of_lines t d l = record { time = t; dev = d; kind = Drives l }
 
-abbrev pub fault_row : ℕ → ℕ → ℕ → Row
-fault_row t d bit = record { time = t; dev = d; kind = Fault bit }
+abbrev pub row_of_fault : ℕ → ℕ → ℕ → Row
+row_of_fault t d bit = record { time = t; dev = d; kind = Fault bit }
 
-abbrev pub changed : LineSet → LineSet → LineSet → LineSet → Change
-changed b a o n = record { before = b; after = a; own = o; next = n }
+-- A row changes the bus from b to a, and what its device drives from o to n.
+abbrev pub change_to : LineSet → LineSet → LineSet → LineSet → Change
+change_to b a o n = record { before = b; after = a; own = o; next = n }
 
 -- What stands on the bus after some rows.
 pub record Stands (p : List Row) (b : LineSet) (a : Option Arbitration) (c : Option Call) (n : Option Connection) : Type 0 where
