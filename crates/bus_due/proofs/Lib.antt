@@ -1,13 +1,13 @@
 mod Cases
 mod Hearings
 mod Items
-mod Leasts
+pub mod Leasts
 mod Owns
-mod Plains
+pub mod Plains
 mod Reactions
 mod Rights
 mod Runs
 mod SeamCases
 mod Seams
-mod Stills
+pub mod Stills
 mod Traces

@@ -1,0 +1,32 @@
+-- What holds after the rows of a prompt trace.
+use Rattle.std.proofs.Common.{inl, inr, ℕ, ◌≡◌, ◌<◌, ◌≤◌, List, ◌∷◌, None, sym, subst, arith}
+use Rattle.std.proofs.lemmas.Bool.{cases_eq}
+use Rattle.bus_trace.specs.declared.Row.{Row}
+use Rattle.bus_trace.specs.declared.Kind.{Kind}
+use Rattle.bus_trace.specs.declared.Kind.TheVariants.{Drives, Fault}
+use Rattle.bus_trace.proofs.Ages.{since_le, since_line_le}
+use Rattle.bus_trace.specs.Terms.{connection}
+use Rattle.bus_rules.proofs.First.{row_none}
+use Rattle.scenario.specs.Value.{ScenarioValue}
+use Rattle.bus_laws.specs.Reactions.{own_time}
+use Rattle.bus_laws.proofs.Rows.{own_time_own, own_time_other, own_time_fault}
+use Rattle.bus_laws.specs.Stages.{CalmStanding, NextCalmRow}
+use Rattle.bus_laws.specs.Rows.{row_of_lines}
+
+pub own_time_le : (p : List Row) (t d : ℕ) (k : Kind) (e : ℕ) → own_time p e ≤ t → own_time (record { time = t; dev = d; kind = k } ∷ p) e ≤ t
+own_time_le p t d (Drives l) e h =
+    elim (cases_eq e d) [
+      | inl same ↦ let w = own_time_own p t d l in subst (λ (x : ℕ). own_time (row_of_lines t d l ∷ p) x ≤ t) (sym same) (omega arith)
+      | inr ne ↦ let w = own_time_other p t d l e ne in omega arith
+    ]
+own_time_le p t d (Fault bit) e h = let w = own_time_fault p t d bit e in omega arith
+
+pub always_next : (s : ScenarioValue) (p : List Row) (row : Row) → row.dev < 8 → CalmStanding s p → NextCalmRow s p row → connection (row ∷ p) ≡ None → CalmStanding s (row ∷ p)
+always_next s p row lt a g alone = record {
+  devices = (lt, a.devices);
+  lawful = (a.lawful, (row_none p row).0 g.obeys);
+  ahead = g.ahead alone;
+  past = λ on. let w = a.past on in let o = g.order in since_line_le on row p (omega arith);
+  seen_past = λ see. let w = a.seen_past see in let o = g.order in since_le see row p (omega arith);
+  own_past = λ e. let w = a.own_past e in let o = g.order in own_time_le p row.time row.dev row.kind e (omega arith);
+}

@@ -1,0 +1,28 @@
+-- The rows of a prompt trace while no connection stands.
+use Rattle.std.proofs.Common.{◌≡◌, false, List, [], ◌∷◌, Some, refl}
+use Rattle.bus_trace.specs.declared.Row.{Row}
+use Rattle.scenario.specs.Value.{ScenarioValue}
+use Rattle.bus_due.specs.Next.{due, next, IsPrompt}
+use Rattle.bus_due.specs.Least.{IsLeast}
+use Rattle.bus_due.proofs.Leasts.{least_some}
+use Rattle.bus_laws.specs.Stages.{HasShortLatencies, BusStage, Standing, NextRow, is_connected, HaveNoConnection}
+use Rattle.bus_laws.proofs.Together.{standing_first, stage_first, standing_next, from_stage}
+
+pub least_is : (s : ScenarioValue) (p : List Row) (row : Row) → next s p ≡ Some row → IsLeast (due s p) 8 row
+least_is s p row e = least_some (due s p) 8 row e
+
+pub next_row_is : (s : ScenarioValue) (p : List Row) (row : Row) → HasShortLatencies s → Standing s p → BusStage s p → is_connected p ≡ false → next s p ≡ Some row → NextRow s p row
+next_row_is s p row fits st here apart e = from_stage s p row fits st here apart (least_is s p row e)
+
+pub record Stood (s : ScenarioValue) (p : List Row) : Type 0 where
+  pub standing : Standing s p
+  pub here : BusStage s p
+  pub apart : is_connected p ≡ false
+
+pub stood : (s : ScenarioValue) → HasShortLatencies s → (p : List Row) → IsPrompt s p → HaveNoConnection p → Stood s p
+stood s fits [] prompt apart = record { standing = standing_first s; here = stage_first s; apart = refl }
+stood s fits (row ∷ p) prompt apart =
+    let was = stood s fits p prompt.0 apart.0 in
+    let m = least_is s p row prompt.1 in
+    let g = from_stage s p row fits was.standing was.here was.apart m in
+    record { standing = standing_next s p row was.standing m g apart.1; here = g.here; apart = apart.1 }

@@ -1,0 +1,77 @@
+-- Rows under RST, and the row that raises it, obey the rules.
+use Rattle.std.proofs.Common.{ℕ, ◌≡◌, ◌≤◌, ◌+◌, Bool, true, false, not, ◌&&◌, ◌||◌, ◌∙◌, List, None, refl, ap, arith}
+use Rattle.std.specs.Prelude.{if◌then◌else◌, nat_le}
+use Rattle.std.proofs.lemmas.Bool.Decides.{nat_tests}
+use Rattle.bus_trace.specs.LineSet.{LineSet, none, union, same, same_set}
+use Rattle.bus_trace.proofs.Sets.{same_set-self}
+use Rattle.bus_trace.proofs.Buses.{union-none}
+use Rattle.bus_trace.specs.declared.Row.{Row}
+use Rattle.bus_trace.specs.Trace.{last_time, line_times}
+use Rattle.bus_trace.specs.declared.changes.Change.{Change}
+use Rattle.bus_trace.specs.Changes.{change_of, implies, rises, falls, is_within}
+use Rattle.bus_trace.specs.Terms.{raised}
+use Rattle.bus_rules.specs.declared.seen.Seen.{Seen}
+use Rattle.bus_rules.specs.Seen.{seen, seen_with}
+use Rattle.bus_rules.specs.Order.{is_in_order, is_news}
+use Rattle.bus_rules.specs.Reset.{is_reset, only_rst, raises_rst_alone, is_quiet_in_reset, holds_reset, keeps_reset}
+use Rattle.bus_rules.specs.Rules.{test, stands_in_reset, keeps, judged_rules, lowest_broken, broken_rule}
+use Rattle.bus_rules.proofs.First.{none_broken}
+use Rattle.bus_laws.proofs.Tests.{and_false}
+use Rattle.bus_laws.specs.Rows.{change_to, row_of_lines}
+
+other_rule : (n : ℕ) (v : Seen) (row : Row) → stands_in_reset n ≡ false → is_reset v ≡ true → keeps n v row ≡ true
+other_rule n v row a b = λ i. if not (a i) && b i then true else test n v row
+
+-- While RST is true, or rises, three rules are judged.
+three_rules : (v : Seen) (row : Row) → is_reset v ≡ true → is_in_order v row.time ≡ true → is_news v row ≡ true → keeps_reset v row ≡ true → lowest_broken v row ≡ None
+three_rules v row r a b c =
+    let o : (n : ℕ) → stands_in_reset n ≡ false → keeps n v row ≡ true = λ n e. other_rule n v row e r in
+    none_broken (λ n. keeps n v row) judged_rules
+    (a, (b, (o 3 refl, (o 4 refl, (o 5 refl, (o 6 refl, (o 7 refl, (o 8 refl, (o 9 refl, (o 10 refl, (o 11 refl, (o 12 refl, (o 13 refl, (o 14 refl, (o 15 refl, (o 16 refl, (o 17 refl, (o 18 refl, (o 19 refl, (o 20 refl, (o 21 refl, (o 22 refl, (o 23 refl, (o 24 refl, (o 25 refl, (o 26 refl, (o 27 refl, (c, tt))))))))))))))))))))))))))))
+
+-- What the three ask of a row of lines, by what it changes.
+pub record KeepsReset (p : List Row) (t d : ℕ) (b b' o l : LineSet) : Type 0 where
+  pub reset : (b.rst || b'.rst) ≡ true
+  pub order : last_time p ≤ t
+  pub news : same_set o l ≡ false
+  pub alone : implies (b.rst || rises o.rst l.rst) (is_within l (union only_rst o)) ≡ true
+  pub quiet : implies b.rst (nat_le t ((line_times p).rst + 800) || is_within b only_rst) ≡ true
+  pub holds : implies (falls o.rst l.rst) (nat_le (raised (λ s. s.rst) p d + 25000) t) ≡ true
+
+le_true : (a b : ℕ) → a ≤ b → nat_le a b ≡ true
+le_true a b h = grind (arith, nat_tests)
+
+both_true : (x y z : Bool) → x ≡ true → y ≡ true → z ≡ true → (x && y && z) ≡ true
+both_true x y z a b c = λ i. a i && b i && c i
+
+pub reset_row_obeys : (p : List Row) (t d : ℕ) (l b b' o : LineSet) → change_of p (row_of_lines t d l) ≡ change_to b b' o l → KeepsReset p t d b b' o l → broken_rule p (row_of_lines t d l) ≡ None
+unfolding seen_with
+reset_row_obeys p t d l b b' o e k =
+    let row : Row = row_of_lines t d l in
+    let v : Seen = seen p row in
+    three_rules v row
+    (ap (λ (c : Change). c.before.rst || c.after.rst) e ∙ k.reset)
+    (le_true (last_time p) t k.order)
+    (ap (λ (c : Change). not (same_set c.own c.next)) e ∙ ap not k.news)
+    (both_true (raises_rst_alone v) (is_quiet_in_reset v t) (holds_reset v row)
+    (ap (λ (c : Change). implies (c.before.rst || rises c.own.rst c.next.rst) (is_within c.next (union only_rst c.own))) e ∙ k.alone)
+    (ap (λ (c : Change). implies c.before.rst (nat_le t ((line_times p).rst + 800) || is_within c.before only_rst)) e ∙ k.quiet)
+    (ap (λ (c : Change). implies (falls c.own.rst c.next.rst) (nat_le (raised (λ s. s.rst) p d + 25000) t)) e ∙ k.holds))
+
+-- ---- what rises and what does not
+
+pub raises_rst : (o : LineSet) → o.rst ≡ false → same_set o only_rst ≡ false
+raises_rst o e = last_differs _ _ (ap (λ (q : Bool). same q true) e)
+  where
+    last_differs : (x y : Bool) → y ≡ false → (x && y) ≡ false
+    last_differs x y e = (λ i. x && e i) ∙ and_false x
+
+union_twice : (a o : LineSet) → union (union a o) none ≡ union a o
+union_twice a o = union-none (union a o)
+
+pub none_within : (b : LineSet) → is_within none b ≡ true
+none_within b = ap (λ (x : LineSet). same_set x b) (union-none b) ∙ same_set-self b
+
+pub implied : (q r : Bool) → r ≡ true → implies q r ≡ true
+implied true r e = e
+implied false r e = refl

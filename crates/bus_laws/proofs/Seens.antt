@@ -1,0 +1,96 @@
+-- What the rules see of a row of lines where no connection stands.
+use Rattle.std.proofs.Common.{ap, ℕ, ◌≡◌, Bool, false, not, List, [], ◌∷◌, ◌∙◌, refl, Option, None}
+use Rattle.std.specs.Prelude.{is_some}
+use Rattle.bus_trace.specs.LineSet.{LineSet, data_of}
+use Rattle.bus_trace.specs.declared.Row.{Row}
+use Rattle.bus_trace.specs.Trace.{drives, bus, last_time, since, line_times}
+use Rattle.bus_trace.specs.declared.changes.Change.{Change}
+use Rattle.bus_trace.specs.declared.arbitration.Arbitration.{Arbitration}
+use Rattle.bus_trace.specs.declared.selection.Call.{Call}
+use Rattle.bus_phases.specs.declared.reading.Reading.TheVariants as readings
+use Rattle.bus_rules.specs.declared.seen.Seen.{Seen}
+use Rattle.bus_trace.specs.Changes.{change_of}
+use Rattle.bus_trace.specs.Terms.{raised, call, connection, receiver}
+use Rattle.bus_phases.specs.Phases.{pulses, turned, duty}
+use Rattle.bus_phases.specs.Dialogue.{dialogue, dialogue_after, agreed, opened, asynchronous, no_command}
+use Rattle.bus_phases.specs.Half.{is_nil}
+use Rattle.bus_phases.specs.Reading.{reading_of}
+use Rattle.bus_rules.specs.Seen.{seen, seen_with, others_in_call, id_since, drives_bsy, initiator_of, initiator_data, target_data}
+use Rattle.bus_rules.specs.Rules.{lowest_broken, broken_rule}
+use Rattle.bus_laws.proofs.Rows.{change_is}
+use Rattle.bus_laws.specs.Rows.{Stands, change_to, row_of_lines}
+
+-- what of it is of no rule here but for its times
+-- without a connection nothing was said
+pub dialogue_none : (p : List Row) → connection p ≡ None → dialogue p ≡ opened asynchronous
+dialogue_none [] e = refl
+dialogue_none (row ∷ rows) e = λ i. dialogue_after (dialogue rows) (connection rows) (e i) (agreed rows) (change_of rows row)
+
+abbrev pub seen_apart : List Row → ℕ → Change → Option Arbitration → Option Call → Bool → Seen
+seen_apart p dev c a k others = record {
+  change = c;
+  last = last_time p;
+  times = line_times p;
+  id_since = id_since p k;
+  bsy_raised = raised (λ s. s.bsy) p dev;
+  rst_raised = raised (λ s. s.rst) p dev;
+  others_drive = others;
+  initiator_bsy = drives_bsy (drives p) (initiator_of k None);
+  initiator_data = false;
+  target_data = false;
+  receiver = receiver p;
+  arbitration = a;
+  call = k;
+  connection = None;
+  data_since = since data_of p;
+  pulses = pulses p;
+  turned = turned p;
+  duty = duty p;
+  agreement = asynchronous;
+  is_open = false;
+  command = no_command;
+  is_half = false;
+  begun = false;
+  reading = readings.NoMessage;
+}
+
+pub seen_by : (p : List Row) (row : Row) (g : Change) (b : LineSet) (a : Option Arbitration) (k : Option Call) (others : Bool) → Stands p b a k None → change_of p row ≡ g → others_in_call (drives p) k ≡ others → seen p row ≡ seen_apart p row.dev g a k others
+unfolding seen_with
+seen_by p row g b a k others h c eq =
+    let q : others_in_call (drives p) (call p) ≡ others = (λ i. others_in_call (drives p) (h.call_is i)) ∙ eq in
+    let di = dialogue_none p h.connection_is in
+    λ i. record {
+      change = c i;
+      last = last_time p;
+      times = line_times p;
+      id_since = id_since p (h.call_is i);
+      bsy_raised = raised (λ s. s.bsy) p row.dev;
+      rst_raised = raised (λ s. s.rst) p row.dev;
+      others_drive = q i;
+      initiator_bsy = drives_bsy (drives p) (initiator_of (h.call_is i) (h.connection_is i));
+      initiator_data = initiator_data (drives p) (h.connection_is i);
+      target_data = target_data (drives p) (h.connection_is i);
+      receiver = receiver p;
+      arbitration = h.arbitration_is i;
+      call = h.call_is i;
+      connection = h.connection_is i;
+      data_since = since data_of p;
+      pulses = pulses p;
+      turned = turned p;
+      duty = duty p;
+      agreement = (di i).heard.now.agreement;
+      is_open = is_some (di i).heard.now.offer;
+      command = (di i).heard.now.command;
+      is_half = not (is_nil (di i).half);
+      begun = (di i).begun;
+      reading = reading_of (dialogue p).half (h.connection_is i) (c i);
+    }
+
+pub obeys_by : (p : List Row) (row : Row) (g : Change) (b : LineSet) (a : Option Arbitration) (k : Option Call) (others : Bool) → Stands p b a k None → change_of p row ≡ g → others_in_call (drives p) k ≡ others → lowest_broken (seen_apart p row.dev g a k others) row ≡ None → broken_rule p row ≡ None
+obeys_by p row g b a k others h e eq z =
+    ap (λ (v : Seen). lowest_broken v row) (seen_by p row g b a k others h e eq) ∙ z
+
+pub obeys_apart : (p : List Row) (t d : ℕ) (l b b' o l' : LineSet) (a : Option Arbitration) (k : Option Call) (others : Bool) → Stands p b a k None → l ≡ l' → bus (row_of_lines t d l ∷ p) ≡ b' → drives p d ≡ o → others_in_call (drives p) k ≡ others → lowest_broken (seen_apart p d (change_to b b' o l') a k others) (row_of_lines t d l') ≡ None
+    → broken_rule p (row_of_lines t d l) ≡ None
+obeys_apart p t d l b b' o l' a k others h el ea eo eq z =
+    obeys_by p (row_of_lines t d l) (change_to b b' o l') b a k others h (change_is p t d l l' b b' o el h.bus_is ea eo) eq ((λ i. lowest_broken (seen_apart p d (change_to b b' o l') a k others) (row_of_lines t d (el i))) ∙ z)

@@ -1,0 +1,151 @@
+-- The stages together: the next row keeps all that holds, and what holds after it.
+use Rattle.std.proofs.Common.{inl, inr, ℕ, ◌≡◌, Bool, false, not, ◌&&◌, ◌∙◌, List, [], ◌∷◌, Option, Some, None, refl, sym, ap, subst, arith}
+use Rattle.std.specs.Prelude.{is_some}
+use Rattle.std.proofs.lemmas.Bool.{cases_eq}
+use Rattle.bus_trace.specs.LineSet.{LineSet}
+use Rattle.bus_trace.specs.View.{union_below}
+use Rattle.bus_trace.specs.declared.Row.{Row}
+use Rattle.bus_trace.specs.declared.arbitration.Arbitration.{Arbitration}
+use Rattle.bus_trace.specs.declared.selection.Call.{Call}
+use Rattle.bus_trace.specs.declared.connection.Connection.{Connection}
+use Rattle.bus_trace.specs.Trace.{bus}
+use Rattle.bus_trace.specs.Terms.{connection}
+use Rattle.bus_trace.proofs.Ages.{since_le, since_line_le}
+use Rattle.bus_trace.proofs.OneRow.{drives-other}
+use Rattle.scenario.specs.Value.{ScenarioValue}
+use Rattle.bus_reactions.specs.declared.due.Due.{Due}
+use Rattle.bus_rules.proofs.First.{row_none}
+use Rattle.bus_rules.specs.Reset.{only_rst}
+use Rattle.bus_due.specs.Next.{due}
+use Rattle.bus_due.specs.Least.{IsLeast}
+use Rattle.bus_due.specs.Plain.{AreOfDevices}
+use Rattle.bus_laws.specs.Reactions.{unreset_due, reset_due}
+use Rattle.bus_laws.specs.Rows.{row_of_lines, Stands}
+use Rattle.bus_laws.specs.Stages.{HasShortLatencies, CalmStanding, BusStage, on_free_bus, in_arbitration, after_arbitration, with_both_ids, awaiting_answer, after_withdrawal, after_answer, after_takeover, in_reset, in_connection, NextCalmRow, HasDevice, Standing, NextRow, is_connected}
+use Rattle.bus_laws.proofs.Joint.{own_time_le}
+use Rattle.bus_laws.proofs.FromFree.{from_free, row_is}
+use Rattle.bus_laws.proofs.FromArbitration.{from_arbitration}
+use Rattle.bus_laws.proofs.FromWon.{from_won}
+use Rattle.bus_laws.proofs.FromCalling.{from_calls, from_asking}
+use Rattle.bus_laws.proofs.FromAnswer.{from_withdrawn, from_answered, from_resumed}
+use Rattle.bus_laws.proofs.Resets.{one_of, comes_by, due_calm, due_there, own_reset_is}
+use Rattle.bus_laws.proofs.FromReset.{off_at, resets_ahead}
+use Rattle.bus_laws.proofs.ResetSteps.{from_reset, raises}
+
+-- ---- before the first row
+
+pub standing_first : (s : ScenarioValue) → Standing s []
+standing_first s = record {
+  devices = tt;
+  lawful = tt;
+  ahead = λ d lt x e. omega arith;
+  past = λ on. omega arith;
+  seen_past = λ see. omega arith;
+  own_past = λ d. omega arith;
+  there = λ d lt. inl refl;
+}
+
+pub stage_first : (s : ScenarioValue) → BusStage s []
+unfolding union_below
+stage_first s = on_free_bus (record {
+  stands = record { bus_is = refl; arbitration_is = refl; call_is = refl; connection_is = refl };
+  quiet = λ d lt. refl;
+  link = refl;
+})
+
+-- ---- after a row
+
+pub standing_next : (s : ScenarioValue) (p : List Row) (row : Row) → Standing s p → IsLeast (due s p) 8 row → NextRow s p row → is_connected (row ∷ p) ≡ false → Standing s (row ∷ p)
+standing_next s p row st m g apart = record {
+  devices = (m.inside, st.devices);
+  lawful = (st.lawful, (row_none p row).0 g.obeys);
+  ahead = g.ahead apart;
+  past = λ on. let w = st.past on in let o = g.order in since_line_le on row p (omega arith);
+  seen_past = λ see. let w = st.seen_past see in let o = g.order in since_le see row p (omega arith);
+  own_past = λ e. let w = st.own_past e in let o = g.order in own_time_le p row.time row.dev row.kind e (omega arith);
+  there = λ d lt. elim (cases_eq d row.dev) [
+    | inl same ↦ inr (subst (λ (k : ℕ). HasDevice s k) (sym same) (due_there s p row.dev (record { time = row.time; kind = row.kind }) m.is_due))
+    | inr ne ↦ elim (st.there d lt) [
+      | inl n ↦ inl (drives-other row p d ne ∙ n)
+      | inr h ↦ inr h
+    ]
+  ];
+}
+
+-- ---- a row where RST is false
+
+always_is : (s : ScenarioValue) (p : List Row) → Standing s p → (bus p).rst ≡ false → CalmStanding s p
+always_is s p st calm = record {
+  devices = st.devices;
+  lawful = st.lawful;
+  ahead = λ d lt x e.
+      let z = comes_by (reset_due s p d) (unreset_due s p d) x e in
+      let w = st.ahead d lt z.x (due_calm s p d st.devices lt (off_at p calm d lt) ∙ z.is) in
+      let l = z.le in
+      omega arith;
+  past = st.past;
+  seen_past = st.seen_past;
+  own_past = st.own_past;
+}
+
+not_linked : (o : Option Connection) (r : Bool) → (is_some o && not r) ≡ false → r ≡ false → o ≡ None
+not_linked None r e f = refl
+not_linked (Some n) r e f = let w = ap (λ (q : Bool). not q) f in let v = sym e ∙ w in absurd cc
+
+next_row : (s : ScenarioValue) (p : List Row) (row : Row) → Standing s p → IsLeast (due s p) 8 row → NextCalmRow s p row → NextRow s p row
+next_row s p row st m g =
+    let devices : AreOfDevices (row ∷ p) = (m.inside, st.devices) in
+    record {
+      order = g.order;
+      obeys = g.obeys;
+      ahead = λ apart d lt x e.
+          let off = off_at (row ∷ p) g.calm d lt in
+          elim (one_of (reset_due s (row ∷ p) d) (unreset_due s (row ∷ p) d) x (sym (due_calm s (row ∷ p) d devices lt off) ∙ e)) [
+            | inl r ↦ resets_ahead s p row st.devices m d lt off x r
+            | inr c ↦ g.ahead (not_linked (connection (row ∷ p)) (bus (row ∷ p)).rst apart g.calm) d lt x c
+          ];
+      here = g.here;
+    }
+
+-- While no device drives RST the next row is the reset of a device, or the first that is due without resets.
+calm_or_reset : (s : ScenarioValue) (p : List Row) (row : Row) → Standing s p → (bus p).rst ≡ false → IsLeast (due s p) 8 row → (CalmStanding s p → IsLeast (unreset_due s p) 8 row → NextCalmRow s p row) → NextRow s p row
+calm_or_reset s p row st calm m goes =
+    let x : Due = record { time = row.time; kind = row.kind } in
+    let off = off_at p calm in
+    elim (one_of (reset_due s p row.dev) (unreset_due s p row.dev) x (sym (due_calm s p row.dev st.devices m.inside (off row.dev m.inside)) ∙ m.is_due)) [
+      | inl r ↦
+          let e : row ≡ row_of_lines row.time row.dev only_rst = row_is row only_rst (own_reset_is s p row.dev x r).kind_is in
+          subst (λ (w : Row). NextRow s p w) (sym e) (raises s p row.time row.dev st calm (subst (λ (w : Row). IsLeast (due s p) 8 w) e m))
+      | inr c ↦ next_row s p row st m (goes (always_is s p st calm) (record {
+        inside = m.inside;
+        is_due = c;
+        first = λ d lt y e.
+            let z = comes_by (reset_due s p d) (unreset_due s p d) y e in
+            let w = m.first d lt z.x (due_calm s p d st.devices lt (off d lt) ∙ z.is) in
+            let l = z.le in
+            omega arith;
+        highest = λ d lt y e t.
+            let z = comes_by (reset_due s p d) (unreset_due s p d) y e in
+            let g = due_calm s p d st.devices lt (off d lt) ∙ z.is in
+            let w = m.first d lt z.x g in
+            let l = z.le in
+            m.highest d lt z.x g (omega arith);
+      }))
+    ]
+
+calm_bus : (p : List Row) (b : LineSet) (a : Option Arbitration) (c : Option Call) (n : Option Connection) → Stands p b a c n → b.rst ≡ false → (bus p).rst ≡ false
+calm_bus p b a c n h e = ap (λ (x : LineSet). x.rst) h.bus_is ∙ e
+
+-- ---- any row while no connection stands, or RST is true
+
+pub from_stage : (s : ScenarioValue) (p : List Row) (row : Row) → HasShortLatencies s → Standing s p → BusStage s p → is_connected p ≡ false → IsLeast (due s p) 8 row → NextRow s p row
+from_stage s p row fits st (on_free_bus h) apart m = calm_or_reset s p row st (calm_bus p _ _ _ _ h.stands refl) m (λ a l. from_free s p row a h l)
+from_stage s p row fits st (in_arbitration a h) apart m = calm_or_reset s p row st (calm_bus p _ _ _ _ h.stands refl) m (λ w l. from_arbitration s p a row w h l)
+from_stage s p row fits st (after_arbitration c t h) apart m = calm_or_reset s p row st (calm_bus p _ _ _ _ h.stands refl) m (λ a l. from_won s p c t row fits a h l)
+from_stage s p row fits st (with_both_ids g c k t0 t e h) apart m = calm_or_reset s p row st (calm_bus p _ _ _ _ h.stands refl) m (λ a l. from_calls s p g c k t0 t row a e h l)
+from_stage s p row fits st (awaiting_answer v g c k t0 t1 t2 x h) apart m = calm_or_reset s p row st (calm_bus p _ _ _ _ h.here.stands refl) m (λ a l. from_asking s p v g c k t0 t1 t2 x row fits a h l)
+from_stage s p row fits st (after_withdrawal v g c k t0 t1 t2 t3 e h) apart m = calm_or_reset s p row st (calm_bus p _ _ _ _ h.stands refl) m (λ a l. from_withdrawn s p v g c k t0 t1 t2 t3 row a e h l)
+from_stage s p row fits st (after_answer g c k t0 t1 t2 t3 x h) apart m = calm_or_reset s p row st (calm_bus p _ _ _ _ h.here.stands refl) m (λ a l. from_answered s p g c k t0 t1 t2 t3 x row a h l)
+from_stage s p row fits st (after_takeover c k t0 t1 t2 t3 t4 x e h) apart m = calm_or_reset s p row st (calm_bus p _ _ _ _ h.here.stands refl) m (λ a l. from_resumed s p c k t0 t1 t2 t3 t4 x row a e h l)
+from_stage s p row fits st (in_reset h) apart m = from_reset s p row fits st h m
+from_stage s p row fits st (in_connection n e calm) apart m = let w = sym apart ∙ (λ i. is_some (e i) && not (calm i)) in absurd cc

@@ -1,0 +1,4 @@
+pub mod Reactions
+pub mod Rows
+pub mod Callings
+pub mod Stages

@@ -1,0 +1,28 @@
+-- Rows of lines and fault rows, and what stands on the bus after some rows.
+use Rattle.std.specs.Prelude.{ℕ, ◌≡◌, List, Option}
+use Rattle.bus_trace.specs.LineSet.{LineSet}
+use Rattle.bus_trace.specs.declared.Row.{Row}
+use Rattle.bus_trace.specs.declared.Kind.TheVariants.{Drives, Fault}
+use Rattle.bus_trace.specs.Trace.{bus}
+use Rattle.bus_trace.specs.declared.changes.Change.{Change}
+use Rattle.bus_trace.specs.declared.arbitration.Arbitration.{Arbitration}
+use Rattle.bus_trace.specs.declared.selection.Call.{Call}
+use Rattle.bus_trace.specs.declared.connection.Connection.{Connection}
+use Rattle.bus_trace.specs.Terms.{arbitration, call, connection}
+
+abbrev pub row_of_lines : ℕ → ℕ → LineSet → Row
+row_of_lines t d l = record { time = t; dev = d; kind = Drives l }
+
+abbrev pub row_of_fault : ℕ → ℕ → ℕ → Row
+row_of_fault t d bit = record { time = t; dev = d; kind = Fault bit }
+
+-- A row changes the bus from b to a, and what its device drives from o to n.
+abbrev pub change_to : LineSet → LineSet → LineSet → LineSet → Change
+change_to b a o n = record { before = b; after = a; own = o; next = n }
+
+-- What stands on the bus after some rows.
+pub record Stands (p : List Row) (b : LineSet) (a : Option Arbitration) (c : Option Call) (n : Option Connection) : Type 0 where
+  pub bus_is : bus p ≡ b
+  pub arbitration_is : arbitration p ≡ a
+  pub call_is : call p ≡ c
+  pub connection_is : connection p ≡ n

@@ -1,0 +1,35 @@
+// Laws of prompt traces, each named by the contract of a function that does nothing.
+
+ghost use Rattle.std.specs.Prelude.{ℕ, ◌≡◌, ◌<◌, ◌≤◌, false, List, [], ◌∷◌, Some, None};
+ghost use Rattle.bus_trace.specs.declared.Row.{Row};
+ghost use Rattle.bus_trace.specs.Trace.{last_time};
+ghost use Rattle.bus_rules.specs.Lawful.{AreLawful};
+ghost use Rattle.bus_rules.specs.Rules.{broken_rule};
+ghost use Rattle.scenario.specs.Value.{ScenarioValue};
+ghost use Rattle.scenario.specs.Writing.{Obeys};
+ghost use Rattle.bus_reactions.specs.declared.due.Due.{Due};
+ghost use Rattle.bus_due.specs.Next.{due, next, IsPrompt};
+ghost use Rattle.bus_laws.specs.Stages.{BusStage, Standing, NextRow, is_connected, HaveNoConnection};
+
+/// What stands on the bus goes on from stage to stage: the free bus, arbitration, the rise of SEL, selection and
+/// reselection with and without an answer, and the reset condition (6.1.1 to 6.1.4, 6.2.2). Before any row the bus is
+/// free (`start`). As long as no connection stands, the next row, of whichever device and whatever faults and resets the
+/// scenario has, obeys all 28 rules, comes no sooner than the last, and leaves one of these stages, or the beginning of a
+/// connection, in which nothing that is due lies in the past (`next`); and so what held before it holds after it (`holds`).
+pub fn stages_go_on()
+    ensures start { (s : ScenarioValue) → Standing s [] × BusStage s [] }
+    ensures next { (s : ScenarioValue) (rows : List Row) (row : Row) → Obeys s → Standing s rows → BusStage s rows
+        → is_connected rows ≡ false → next s rows ≡ Some row → NextRow s rows row }
+    ensures holds { (s : ScenarioValue) (rows : List Row) (row : Row) → Standing s rows → next s rows ≡ Some row
+        → NextRow s rows row → is_connected (row ∷ rows) ≡ false → Standing s (row ∷ rows) }
+{}
+
+/// Up to its first connection a prompt trace obeys every rule of the bus (`lawful`), and nothing that is due after it lies in
+/// the past (`ahead`); the row that begins the connection obeys every rule, too (`next`).
+pub fn traces_are_lawful_up_to_a_connection()
+    ensures lawful { (s : ScenarioValue) (rows : List Row) → Obeys s → IsPrompt s rows → HaveNoConnection rows → AreLawful rows }
+    ensures ahead { (s : ScenarioValue) (rows : List Row) → Obeys s → IsPrompt s rows → HaveNoConnection rows
+        → (dev : ℕ) → dev < 8 → (x : Due) → due s rows dev ≡ Some x → last_time rows ≤ x.time }
+    ensures next { (s : ScenarioValue) (rows : List Row) (row : Row) → Obeys s → IsPrompt s rows → HaveNoConnection rows
+        → next s rows ≡ Some row → broken_rule rows row ≡ None }
+{}
