@@ -28,7 +28,8 @@ pub fn stages_go_on()
 /// Up to its first connection a prompt trace obeys every rule of the bus (`lawful`), and nothing that is due after it
 /// lies in the past (`ahead`); the row that begins the connection obeys every rule, too (`next`).
 pub fn traces_are_lawful_up_to_a_connection()
-    ensures lawful { (s : ScenarioValue) (rows : List Row) → Obeys s → IsPrompt s rows → HaveNoConnection rows → AreLawful rows }
+    ensures lawful { (s : ScenarioValue) (rows : List Row) → Obeys s → IsPrompt s rows → HaveNoConnection rows
+        → AreLawful rows }
     ensures ahead { (s : ScenarioValue) (rows : List Row) → Obeys s → IsPrompt s rows → HaveNoConnection rows
         → (dev : ℕ) → dev < 8 → (x : Due) → due s rows dev ≡ Some x → last_time rows ≤ x.time }
     ensures next { (s : ScenarioValue) (rows : List Row) (row : Row) → Obeys s → IsPrompt s rows → HaveNoConnection rows
