@@ -14,6 +14,9 @@ use Rattle.bus_reactions.specs.declared.sight.Sight.{Sight}
 use Rattle.bus_reactions.specs.Linking.{link_due, sample_time}
 use Rattle.bus_reactions.specs.Reset.{with_reset}
 use Rattle.bus_reactions.specs.Ends as hand
+use Rattle.bus_lines.specs.Handshakes.{handshakes}
+use Rattle.bus_reactions.specs.Sight.{sight}
+use Rattle.bus_dialogue.specs.Hearing.{begun}
 use Rattle.bus_due.specs.Own.{Own, own_of}
 use Rattle.bus_due.specs.RunState.{bus_of}
 use Rattle.bus_due.specs.Sights.{want_of, pace_of, offering_of, answering_of, flip_of}
@@ -22,7 +25,7 @@ use Rattle.bus_due.specs.Due.{self_of, due_if, device_due, reset_from, stage_due
 use Rattle.bus_due.specs.RunSteps.{run_state}
 use Rattle.bus_due.specs.Next.{due}
 use Rattle.bus_due.specs.Plain.{crossed, crossed_if}
-use Rattle.bus_due.specs.PlainDue.{IsThere, IsLinked, under_reset, link_reaction, target_reaction, initiator_reaction}
+use Rattle.bus_due.specs.PlainDue.{IsThere, IsLinked, myself, sampled_first, under_reset, link_reaction, target_reaction, initiator_reaction}
 use Rattle.bus_due.proofs.Plains.{run_state_plain}
 
 -- What is due of a device that is there, by the rows that it has made itself.
@@ -78,8 +81,11 @@ linked s rows dev latency n h g =
     there s rows dev latency h
     ∙ (λ i. with_reset me o.rst (reset_from dev o.released s.resets) (stage_due s k me (rst i) ((p.connection ∙ g.stands) i)))
 
-pub target_is_due : (s : ScenarioValue) (rows : List Row) (dev latency : ℕ) (n : Connection) → IsThere s rows dev latency → IsLinked rows n → (n.initiator == dev) ≡ false → (n.target == dev) ≡ true → due s rows dev ≡ under_reset s rows dev latency (target_reaction s rows dev latency)
-target_is_due s rows dev latency n h g i t =
+-- By REQ and ACK, at whichever end it is.
+end_is_due : (s : ScenarioValue) (rows : List Row) (dev latency : ℕ) (n : Connection) → IsThere s rows dev latency → IsLinked rows n
+    → (is_initiator is_target : Bool) → (n.initiator == dev) ≡ is_initiator → (n.target == dev) ≡ is_target
+    → due s rows dev ≡ under_reset s rows dev latency (sampled_first s rows dev (if is_initiator then hand.initiator_due (begun rows) (sight rows) (handshakes rows) (myself s rows dev latency) (pace_of s (run_state s rows) dev) (answering_of s (run_state s rows) dev) else if is_target then hand.target_due (begun rows) (sight rows) (handshakes rows) (myself s rows dev latency) (pace_of s (run_state s rows) dev) (offering_of s (run_state s rows) dev) else None))
+end_is_due s rows dev latency n h g is_initiator is_target i t =
     let k = run_state s rows in
     let me = self_of k dev latency in
     let o = own_of rows dev in
@@ -88,12 +94,8 @@ target_is_due s rows dev latency n h g i t =
     linked s rows dev latency n h g
     ∙ (λ j. with_reset me o.rst (reset_from dev o.released s.resets) (hand.sample_due (q j) (p.last j) (flip_of k.faults (p.last j)) (if i j then hand.initiator_due (p.begun j) (p.sight j) (p.handshakes j) me (pace_of s k dev) (answering_of s k dev) else if t j then hand.target_due (p.begun j) (p.sight j) (p.handshakes j) me (pace_of s k dev) (offering_of s k dev) else None)))
 
+pub target_is_due : (s : ScenarioValue) (rows : List Row) (dev latency : ℕ) (n : Connection) → IsThere s rows dev latency → IsLinked rows n → (n.initiator == dev) ≡ false → (n.target == dev) ≡ true → due s rows dev ≡ under_reset s rows dev latency (target_reaction s rows dev latency)
+target_is_due s rows dev latency n h g i t = end_is_due s rows dev latency n h g false true i t
+
 pub initiator_is_due : (s : ScenarioValue) (rows : List Row) (dev latency : ℕ) (n : Connection) → IsThere s rows dev latency → IsLinked rows n → (n.initiator == dev) ≡ true → due s rows dev ≡ under_reset s rows dev latency (initiator_reaction s rows dev latency)
-initiator_is_due s rows dev latency n h g i =
-    let k = run_state s rows in
-    let me = self_of k dev latency in
-    let o = own_of rows dev in
-    let p = run_state_plain s rows h.rows_are in
-    let q : is_receiver n k.story.bus_state.crossed dev ≡ is_receiving (receiver rows) dev = (λ j. is_receiver n (p.crossed j) dev) ∙ receiver_is rows n dev g.stands in
-    linked s rows dev latency n h g
-    ∙ (λ j. with_reset me o.rst (reset_from dev o.released s.resets) (hand.sample_due (q j) (p.last j) (flip_of k.faults (p.last j)) (if i j then hand.initiator_due (p.begun j) (p.sight j) (p.handshakes j) me (pace_of s k dev) (answering_of s k dev) else if n.target == dev then hand.target_due (p.begun j) (p.sight j) (p.handshakes j) me (pace_of s k dev) (offering_of s k dev) else None)))
+initiator_is_due s rows dev latency n h g i = end_is_due s rows dev latency n h g true (n.target == dev) i refl
