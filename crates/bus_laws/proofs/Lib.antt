@@ -20,3 +20,4 @@ pub mod ResetSteps
 pub mod Together
 pub mod Latencies
 pub mod Prompt
+pub mod ReactionTimes
