@@ -1,11 +1,11 @@
 //! What the rows tell all devices.
-ghost use Rattle.std.specs.Prelude.{ℕ, ◌≡◌, ◌<◌, ◌∷◌, [], List};
+ghost use Rattle.std.specs.Prelude.{◌≡◌, ◌<◌, ◌∷◌, [], List};
 ghost use Rattle.msg_grammar.specs.declared.message.Got.{Got};
 ghost use Rattle.bus_trace.specs.declared.Row.{Row};
 ghost use Rattle.bus_lines.specs.BusView.{IsBusViewOf};
 ghost use Rattle.bus_phases.specs.Dialogue.{fresh_bytes, dialogue};
 ghost use Rattle.bus_story.specs.BusState.{whole_out, whole_in, message_out, message_in};
-ghost use Rattle.bus_dialogue.specs.Hearing.{begun_after, begun, hearing_by, no_hearing, last_hearing};
+ghost use Rattle.bus_dialogue.specs.Hearing.{begun_after, begun, hearing_by, last_hearing};
 ghost use Rattle.bus_dialogue.specs.Observer.{IsObserverOf};
 
 use crate::exchange::Hearing;
@@ -120,11 +120,11 @@ fn hearing_by(
 // Whether a phase has begun after a row, before and after which these connections stand.
 fn begun_after(
     begun: bool,
-    before: Option<Connection>,
-    after: Option<Connection>,
+    before: &Option<Connection>,
+    after: &Option<Connection>,
     change: &Change,
 ) -> bool
-    ensures { result ≡ begun_after begun before after change.now }
+    ensures { result ≡ begun_after begun before.now after.now change.now }
 {
     let Some(connection) = after else {
         return false;
@@ -198,11 +198,11 @@ impl Observer {
         let after = self.view.connection();
         let effect = *self.view.effect();
         self.hearing = hearing_by(&self.dialogue, self.begun, offered, struck, &effect);
-        self.begun = begun_after(self.begun, before, after, &effect.change);
+        self.begun = begun_after(self.begun, &before, &after, &effect.change);
         let spoken = self.dialogue.heard.now;
         let _ = self
             .dialogue
-            .step(before, after, &self.agreed, &effect.change);
+            .step(&before, &after, &self.agreed, &effect.change);
         agree(&mut self.agreed, before, spoken, effect.change.after);
     }
 }

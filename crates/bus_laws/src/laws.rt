@@ -13,9 +13,10 @@ ghost use Rattle.bus_laws.specs.Stages.{BusStage, Standing, NextRow, is_connecte
 
 /// What stands on the bus goes on from stage to stage: the free bus, arbitration, the rise of SEL, selection and
 /// reselection with and without an answer, and the reset condition (6.1.1 to 6.1.4, 6.2.2). Before any row the bus is
-/// free (`start`). As long as no connection stands, the next row, of whichever device and whatever faults and resets the
-/// scenario has, obeys all 28 rules, comes no sooner than the last, and leaves one of these stages, or the beginning of a
-/// connection, in which nothing that is due lies in the past (`next`); and so what held before it holds after it (`holds`).
+/// free (`start`). As long as no connection stands, the next row, of whichever device and whatever faults and resets
+/// the scenario has, obeys all 28 rules, comes no sooner than the last, and leaves one of these stages, or the
+/// beginning of a connection, in which nothing that is due lies in the past (`next`); and so what held before it
+/// holds after it (`holds`).
 pub fn stages_go_on()
     ensures start { (s : ScenarioValue) → Standing s [] × BusStage s [] }
     ensures next { (s : ScenarioValue) (rows : List Row) (row : Row) → Obeys s → Standing s rows → BusStage s rows
@@ -24,10 +25,11 @@ pub fn stages_go_on()
         → NextRow s rows row → is_connected (row ∷ rows) ≡ false → Standing s (row ∷ rows) }
 {}
 
-/// Up to its first connection a prompt trace obeys every rule of the bus (`lawful`), and nothing that is due after it lies in
-/// the past (`ahead`); the row that begins the connection obeys every rule, too (`next`).
+/// Up to its first connection a prompt trace obeys every rule of the bus (`lawful`), and nothing that is due after it
+/// lies in the past (`ahead`); the row that begins the connection obeys every rule, too (`next`).
 pub fn traces_are_lawful_up_to_a_connection()
-    ensures lawful { (s : ScenarioValue) (rows : List Row) → Obeys s → IsPrompt s rows → HaveNoConnection rows → AreLawful rows }
+    ensures lawful { (s : ScenarioValue) (rows : List Row) → Obeys s → IsPrompt s rows → HaveNoConnection rows
+        → AreLawful rows }
     ensures ahead { (s : ScenarioValue) (rows : List Row) → Obeys s → IsPrompt s rows → HaveNoConnection rows
         → (dev : ℕ) → dev < 8 → (x : Due) → due s rows dev ≡ Some x → last_time rows ≤ x.time }
     ensures next { (s : ScenarioValue) (rows : List Row) (row : Row) → Obeys s → IsPrompt s rows → HaveNoConnection rows

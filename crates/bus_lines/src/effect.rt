@@ -2,8 +2,7 @@
 ghost use Rattle.std.specs.Prelude.{◌≡◌};
 ghost use Rattle.bus_lines.specs.Effect.{no_effect, effect_of};
 
-use bus_base::Dev;
-use bus_trace::{Change, Connection, Lines, Row, is_fault, receiver_of};
+use bus_trace::{Change, Connection, Lines, Row, ScsiId, is_fault, receiver_of};
 
 /// What a row did, on the bus and to the connection.
 #[derive(Clone, Copy, Debug)]
@@ -15,7 +14,7 @@ pub struct RowEffect {
     /// The connection that stands after it.
     pub after: Option<Connection>,
     /// The device that received the byte that crossed in it (6.1.5.1), if one did.
-    pub receiver: Option<Dev>,
+    pub receiver: Option<ScsiId>,
     /// Whether it tells a fault, which changes no line.
     pub fault: bool,
 }
@@ -48,10 +47,10 @@ pub fn effect_of(
     ensures { result ≡ effect_of before after change row.now }
 {
     RowEffect {
+        receiver: receiver_of(&before, &change),
         change,
         before,
         after,
-        receiver: receiver_of(before, &change),
         fault: is_fault(row.kind),
     }
 }

@@ -21,8 +21,8 @@ pub use bus_trace::{
     BUS_SET_DELAY, BUS_SETTLE_DELAY, CABLE_SKEW_DELAY, Call, Calling, Change, Connection,
     DATA_HOLD, DATA_RELEASE_DELAY, DESKEW_DELAY, ENTRY_DELAY, HOLD_TIME, Kind, LineTimes, LineView,
     Lines, NEGATION_PERIOD, QUIET_TIME, RESET_HOLD_TIME, Row, SELECTION_ABORT_TIME,
-    SELECTION_TIMEOUT_DELAY, SET_UP_TIME, TURN_DELAY, TWO_DESKEW, TransferTimes, UNLIMITED_OFFSET,
-    byte_lines, parity, transfer_times,
+    SELECTION_TIMEOUT_DELAY, SET_UP_TIME, ScsiId, TURN_DELAY, TWO_DESKEW, TransferTimes,
+    UNLIMITED_OFFSET, byte_lines, parity, transfer_times,
 };
 pub use effect::{RowEffect, effect_of, no_effect};
 pub use handshakes::{Handshakes, Request};

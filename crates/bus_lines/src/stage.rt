@@ -28,10 +28,12 @@ pub fn call_stage(call: Call) -> Stage
     ensures exact { result ≡ call_stage call call.calling }
     ensures timely { (end : ℕ) → IsCallBefore end (Some call) → IsStageBefore end result }
 {
-    let Some(calling) = call.calling else {
+    let calling = call.calling;
+    let Some(calling) = calling else {
         return Stage::InCalling(call);
     };
-    match calling.answered {
+    let answered = calling.answered;
+    match answered {
         None => Stage::InCalling(call),
         Some(answered) => Stage::InAnswer(call, calling, answered),
     }

@@ -3,8 +3,6 @@ ghost use Rattle.std.specs.Prelude.{ℕ, ◌≡◌, ◌<◌, ◌∷◌, [], List
 ghost use Rattle.bus_trace.specs.declared.Row.{Row};
 ghost use Rattle.bus_trace.specs.LineSet.{line_of};
 ghost use Rattle.bus_trace.specs.Trace.{IsViewOf, bus, drives, since, last_time};
-ghost use Rattle.bus_trace.specs.Calls.{HasDevices};
-ghost use Rattle.bus_trace.specs.Connections.{HasEnds};
 ghost use Rattle.bus_trace.specs.Changes.{change_of};
 ghost use Rattle.bus_trace.specs.Terms.{connection};
 ghost use Rattle.bus_lines.specs.Stage.{stage};
@@ -39,8 +37,6 @@ pub struct BusView {
 
 impl Model for BusView {
     ghost use Rattle.bus_lines.specs.BusView.{BusViewValue};
-    ghost use Rattle.bus_trace.specs.Calls.{HasDevices};
-    ghost use Rattle.bus_trace.specs.Connections.{HasEnds};
 
     ghost Value = { BusViewValue };
 
@@ -52,8 +48,6 @@ impl Model for BusView {
       effect = a.effect;
       handshakes = a.handshakes;
     } };
-
-    ghost invariant = { λ a. HasDevices a.call × HasEnds a.connection };
 }
 
 impl BusView {
@@ -138,7 +132,6 @@ impl BusView {
         ensures value { result ≡ self.now.connection }
         ensures trace { (rows : List Row) → IsBusViewOf rows self.now → result ≡ connection rows }
         ensures timely { (end : ℕ) → IsTimely end self.now → IsConnectionBefore end result }
-        ensures ends { HasEnds result }
     {
         self.connection
     }
@@ -168,12 +161,11 @@ impl BusView {
         let free = self.lines.free_since();
         let change = change_by(&mut self.lines, row);
         let stood = self.connection;
-        let stands = connection_after(stood, self.call, &change, row);
-        self.connection = stands;
+        self.connection = connection_after(self.connection, self.call, &change, row);
         self.arbitration = arbitration_after(self.arbitration, free, &change, row);
         self.call = call_after(self.call, &change, row);
-        self.handshakes.step(stands, &change, row);
-        self.effect = effect_of(stood, stands, change, row);
+        self.handshakes.step(self.connection, &change, row);
+        self.effect = effect_of(stood, self.connection, change, row);
     }
 }
 

@@ -23,12 +23,12 @@ same_more : (f : ℕ → ℕ → Agreement) (target n i t : ℕ)
     → (if i == n && t == target then asynchronous else if t == target && nat_lt i n then asynchronous else f i t) ≡ (if t == target && nat_lt i (n + 1) then asynchronous else f i t)
 same_more f target n i t = grind (arith, nat_tests)
 
-pub one_more : (f : ℕ → ℕ → Agreement) (target n : ℕ) (x : Agreement) (a : Agreements) → x ≡ asynchronous
-    → AreAgreements (λ i t. if i == n && t == target then x else if t == target && nat_lt i n then asynchronous else f i t) a
+pub one_more : (f : ℕ → ℕ → Agreement) (target n m : ℕ) (x : Agreement) (a : Agreements) → m ≡ n → x ≡ asynchronous
+    → AreAgreements (λ i t. if i == m && t == target then x else if t == target && nat_lt i n then asynchronous else f i t) a
     → AreAgreements (λ i t. if t == target && nat_lt i (n + 1) then asynchronous else f i t) a
-one_more f target n x a e h =
-    agreeing (λ i t. if i == n && t == target then x else if t == target && nat_lt i n then asynchronous else f i t) (λ i t. if t == target && nat_lt i (n + 1) then asynchronous else f i t) a
-    (λ i t. (λ j. if i == n && t == target then e j else if t == target && nat_lt i n then asynchronous else f i t) ∙ same_more f target n i t) h
+one_more f target n m x a same e h =
+    agreeing (λ i t. if i == m && t == target then x else if t == target && nat_lt i n then asynchronous else f i t) (λ i t. if t == target && nat_lt i (n + 1) then asynchronous else f i t) a
+    (λ i t. (λ j. if i == same j && t == target then e j else if t == target && nat_lt i n then asynchronous else f i t) ∙ same_more f target n i t) h
 
 -- all of them
 pub all_eight : (f : ℕ → ℕ → Agreement) (a : Agreements) (target n : ℕ) → 8 ≤ n → AreAgreements (λ i t. if t == target && nat_lt i n then asynchronous else f i t) a → AreAgreements (λ i t. if t == target then asynchronous else f i t) a
@@ -43,11 +43,11 @@ all_eight f a target n e h i t hi ht =
     go false = refl
 
 -- a reset that comes, and one that does not
-and_true : (q : Bool) (x y : Agreement) → (if q then x else y) ≡ (if q && true then x else y)
+pub and_true : (q : Bool) (x y : Agreement) → (if q then x else y) ≡ (if q && true then x else y)
 and_true true x y = refl
 and_true false x y = refl
 
-and_false : (q : Bool) (x y : Agreement) → y ≡ (if q && false then x else y)
+pub and_false : (q : Bool) (x y : Agreement) → y ≡ (if q && false then x else y)
 and_false true x y = refl
 and_false false x y = refl
 

@@ -1,13 +1,11 @@
 //! The agreements of all pairs of devices.
 ghost use Rattle.std.specs.Prelude.{ℕ, ◌≡◌, ◌<◌, ◌+◌, ◌*◌, ◌==◌, ◌&&◌, if◌then◌else◌};
 ghost use Rattle.bus_trace.specs.declared.agreements.Agreement.{Agreement};
-ghost use Rattle.bus_trace.specs.Connections.{HasEnds};
 ghost use Rattle.bus_phases.specs.Dialogue.{asynchronous, closed_agreement, closed_agreement_by};
 ghost use Rattle.bus_phases.specs.Tables.{AreAgreements};
 
 use crate::spoken::{Spoken, asynchronous};
-use bus_base::Dev;
-use bus_trace::{Agreement, Connection, Lines};
+use bus_trace::{Agreement, Connection, Lines, ScsiId};
 
 /// The agreement of each pair of an initiator and a target.
 #[derive(Clone, Copy, Debug)]
@@ -17,13 +15,11 @@ pub struct Agreements {
 }
 
 // Where a pair stands.
-fn place(initiator: Dev, target: Dev) -> usize
-    requires initiator { initiator < 8 }
-    requires target { target < 8 }
+fn place(initiator: ScsiId, target: ScsiId) -> usize
     ensures exact { result ≡ initiator * 8 + target }
     ensures inside { result < 64 }
 {
-    initiator as usize * 8 + target as usize
+    initiator.get() as usize * 8 + target.get() as usize
 }
 
 impl Agreements {
@@ -40,9 +36,7 @@ impl Agreements {
     }
 
     /// The agreement of this pair.
-    pub fn of(&self, initiator: Dev, target: Dev) -> Agreement
-        requires initiator { initiator < 8 }
-        requires target { target < 8 }
+    pub fn of(&self, initiator: ScsiId, target: ScsiId) -> Agreement
         ensures { (agreed : ℕ → ℕ → Agreement) → AreAgreements agreed self.now → result ≡ agreed initiator target }
     {
         let at = place(initiator, target);
@@ -53,9 +47,7 @@ impl Agreements {
     }
 
     /// This pair agrees on this.
-    pub fn set(&mut self, initiator: Dev, target: Dev, agreement: Agreement)
-        requires initiator { initiator < 8 }
-        requires target { target < 8 }
+    pub fn set(&mut self, initiator: ScsiId, target: ScsiId, agreement: Agreement)
         ensures { (agreed : ℕ → ℕ → Agreement) → AreAgreements agreed self.old
             → AreAgreements (λ i t. if i == initiator && t == target then agreement else agreed i t) self.new }
     {
@@ -65,19 +57,17 @@ impl Agreements {
     }
 
     // BUS DEVICE RESET ends the agreements of this target.
-    fn reset(&mut self, target: Dev)
-        requires { target < 8 }
+    fn reset(&mut self, target: ScsiId)
         ensures { (agreed : ℕ → ℕ → Agreement) → AreAgreements agreed self.old
             → AreAgreements (λ i t. if t == target then asynchronous else agreed i t) self.new }
     {
         for initiator in 0..8u8 {
-            self.set(initiator, target, asynchronous());
+            self.set(ScsiId::new(initiator), target, asynchronous());
         }
     }
 
     // The same, where it comes now.
-    fn reset_if(&mut self, now: bool, target: Dev)
-        requires { target < 8 }
+    fn reset_if(&mut self, now: bool, target: ScsiId)
         ensures { (agreed : ℕ → ℕ → Agreement) → AreAgreements agreed self.old
             → AreAgreements (λ i t. if t == target && now then asynchronous else agreed i t) self.new }
     {
@@ -88,8 +78,6 @@ impl Agreements {
 
     /// A connection of these two ends, under this agreement, and after BUS DEVICE RESET where it came.
     pub fn close(&mut self, connection: Connection, spoken: Spoken)
-        requires initiator { connection.initiator < 8 }
-        requires target { connection.target < 8 }
         ensures { (agreed : ℕ → ℕ → Agreement) → AreAgreements agreed self.old
             → AreAgreements (λ i t. closed_agreement connection spoken i t (agreed i t)) self.new }
     {
@@ -100,7 +88,6 @@ impl Agreements {
 
 /// The agreements after a row with this bus, before which this connection stood and its messages said this.
 pub fn agree(agreed: &mut Agreements, connection: Option<Connection>, spoken: Spoken, bus: Lines)
-    requires { HasEnds connection }
     ensures { (f : ℕ → ℕ → Agreement) → AreAgreements f agreed.old
         → AreAgreements (λ i t. if bus.rst then asynchronous else closed_agreement_by connection bus.bsy spoken i t
         (f i t)) agreed.new }

@@ -4,7 +4,6 @@ ghost use Rattle.msg_grammar.specs.Messages.{got_out, got_in};
 ghost use Rattle.bus_trace.specs.declared.connection.Connection.{Connection};
 ghost use Rattle.bus_trace.specs.Terms.{receiver_of};
 ghost use Rattle.bus_trace.specs.declared.agreements.Agreement.{Agreement};
-ghost use Rattle.bus_trace.specs.Connections.{HasEnds};
 ghost use Rattle.bus_phases.specs.Tables.{AreAgreements};
 ghost use Rattle.bus_phases.specs.Reading.{reading_of, reading_out, reading_in};
 ghost use Rattle.bus_phases.specs.Dialogue.{takes_data, asynchronous, opened, heard_out, heard_in, heard_if_begun, byte_out, byte_in, byte_else, byte_crosses, phase_begins, dialogue_on, dialogue_after};
@@ -148,9 +147,9 @@ impl Dialogue {
         self.fresh.clear();
     }
 
-    fn on(&mut self, connection: Option<Connection>, change: &Change) -> Reading
-        ensures exact { self.new ≡ dialogue_on self.old connection change.now }
-        ensures reading { result ≡ reading_of self.old.half connection change.now }
+    fn on(&mut self, connection: &Option<Connection>, change: &Change) -> Reading
+        ensures exact { self.new ≡ dialogue_on self.old connection.now change.now }
+        ensures reading { result ≡ reading_of self.old.half connection.now change.now }
     {
         if receiver_of(connection, change).is_some() {
             return self.byte_crosses(change);
@@ -173,15 +172,14 @@ impl Dialogue {
     /// One row more, before and after which these connections stand.
     pub fn step(
         &mut self,
-        before: Option<Connection>,
-        after: Option<Connection>,
+        before: &Option<Connection>,
+        after: &Option<Connection>,
         agreed: &Agreements,
         change: &Change,
     ) -> Reading
-        requires { HasEnds after }
         ensures exact { (f : ℕ → ℕ → Agreement) → AreAgreements f agreed.now
-            → self.new ≡ dialogue_after self.old before after f change.now }
-        ensures reading { result ≡ reading_of self.old.half before change.now }
+            → self.new ≡ dialogue_after self.old before.now after.now f change.now }
+        ensures reading { result ≡ reading_of self.old.half before.now change.now }
     {
         let reading = self.on(before, change);
         match after {

@@ -1,5 +1,5 @@
 -- A row that changes data lines, REQ and ACK alone, and passes the short test, breaks no rule.
-use Rattle.std.proofs.Common.{ℕ, ◌≡◌, ◌<◌, ◌+◌, ◌%◌, ◌++◌, [], Bool, true, false, List, ◌∷◌, Option, Some, None, refl, sym, subst, ◌∙◌, arith}
+use Rattle.std.proofs.Common.{ℕ, ◌≡◌, ◌+◌, ◌%◌, ◌++◌, [], Bool, true, false, List, ◌∷◌, Option, Some, None, refl, sym, subst, ◌∙◌, arith}
 use Rattle.std.specs.Prelude.{not, ◌&&◌, ◌||◌, ◌==◌, is_some, is_none, nat_le, max, if◌then◌else◌}
 use Rattle.bus_trace.specs.LineSet.{LineSet, same, same_set, none, has_odd_parity}
 use Rattle.bus_trace.specs.declared.Row.{Row}
@@ -17,11 +17,7 @@ use Rattle.std.proofs.lemmas.Bool.Decides.{nat_tests}
 use Rattle.bus_trace.specs.Trace.{IsViewOf, drives, driven_after, since, since_line}
 use Rattle.bus_trace.specs.declared.changes.Change.{Change}
 use Rattle.bus_trace.specs.declared.connection.Connection.{Connection}
-use Rattle.bus_trace.specs.declared.selection.Call.{Call}
-use Rattle.bus_trace.specs.declared.selection.Calling.{Calling}
-use Rattle.bus_trace.specs.Calls.{HasDevices, IsCalled}
-use Rattle.bus_trace.specs.Connections.{HasEnds}
-use Rattle.bus_trace.specs.View.{View, driven_at}
+use Rattle.bus_trace.specs.View.{View}
 use Rattle.bus_trace.specs.Trace.{phase_time}
 use Rattle.bus_phases.specs.declared.reading.Reading.TheVariants.{NoMessage}
 use Rattle.bus_rules.specs.declared.seen.Seen.{Seen}
@@ -40,13 +36,13 @@ use Rattle.bus_rules.specs.Transfer.{crosses, is_pulsed, is_asynchronous_transfe
 use Rattle.bus_trace.specs.Agreements.{times_of}
 use Rattle.msg_grammar.specs.Messages.{got_out, got_in}
 use Rattle.bus_phases.specs.Reading.{reading_of, reading_out, reading_in}
-use Rattle.bus_rules.specs.Seen.{seen, seen_with, drives_bsy, initiator_called, initiator_of, initiator_data, target_data}
+use Rattle.bus_rules.specs.Seen.{seen, seen_with, drives_bsy, initiator_of, initiator_data, target_data}
 use Rattle.bus_trace.specs.Changes.{change_of}
 use Rattle.bus_rules.specs.Rules.{test, keeps, judged_rules, lowest_broken, broken_rule}
 use Rattle.bus_rules.specs.DataRows.{is_data_row, crosses_in, keeps_side, asks_soon, is_in_turn, has_turned, stand_since, is_shaken, is_pulsed_well, Standing, standing_after, standing_at, may_cross, transfers_well, is_move, passes, passes_of, passes_in, duty_in_data, course_after_transfer}
 use Rattle.bus_phases.specs.Dialogue.{takes_data}
 use Rattle.bus_phases.specs.Tables.{IsRaisesOf}
-use Rattle.bus_rules.specs.Judging.{IsCourseOf}
+use Rattle.bus_rules.specs.Judging.{Running, IsCourseOf, IsTermsOf}
 use Rattle.bus_rules.proofs.First.{none_broken}
 use Rattle.bus_phases.proofs.Agreeing.{agreeing}
 use Rattle.bus_rules.proofs.Courses.{goes_on}
@@ -660,36 +656,17 @@ moved rows row k held h eh e = go (connection rows) refl p.2
 
 -- ---- what stands, by the running terms
 
-drives_same : (f g : ℕ → LineSet) (k : Option Call) (n : Option Connection) → ((d : ℕ) → d < 8 → f d ≡ g d) → HasDevices k → HasEnds n → drives_bsy f (initiator_of k n) ≡ drives_bsy g (initiator_of k n)
-drives_same f g k (Some n) same hk hn = λ i. (same n.initiator hn.0 i).bsy
-drives_same f g None None same hk hn = refl
-drives_same f g (Some k) None same hk hn = by_calling k.calling hk.1
-  where
-    by_calling : (m : Option Calling) → IsCalled m → drives_bsy f (initiator_called m) ≡ drives_bsy g (initiator_called m)
-    by_calling None h = refl
-    by_calling (Some m) h = by_line m.reselects
-      where
-        by_line : (r : Bool) → drives_bsy f (if r then Some m.called else None) ≡ drives_bsy g (if r then Some m.called else None)
-        by_line true = λ i. (same m.called h i).bsy
-        by_line false = refl
-
-data_same : (f g : ℕ → LineSet) (n : Option Connection) → ((d : ℕ) → d < 8 → f d ≡ g d) → HasEnds n → (initiator_data f n ≡ initiator_data g n) × (target_data f n ≡ target_data g n)
-data_same f g None same hn = (refl, refl)
-data_same f g (Some n) same hn = ((λ i. drives_data (same n.initiator hn.0 i)), (λ i. drives_data (same n.target hn.1 i)))
-
-pub stands_is : (rows : List Row) (v : View) (k : Course) → IsViewOf rows v → IsCourseOf rows k → HasDevices k.call → HasEnds k.connection → standing_at v k ≡ standing_after rows
-stands_is rows v k w h hk hn =
-    let bsy = drives_same (driven_at v.driven) (drives rows) k.call k.connection w.drives_are hk hn in
-    let ends = data_same (driven_at v.driven) (drives rows) k.connection w.drives_are hn in
+pub stands_is : (rows : List Row) (v : View) (k : Course) → IsViewOf rows v → IsCourseOf rows k → standing_at (drives rows) v k ≡ standing_after rows
+stands_is rows v k w h =
     λ i. record {
       last = w.last_is i;
       is_alone = is_none (h.call i) && is_none (h.arbitration i);
       connection = h.connection i;
       times = w.times_are i;
       data_since = w.data_is i;
-      initiator_bsy = (bsy ∙ (λ j. drives_bsy (drives rows) (initiator_of (h.call j) (h.connection j)))) i;
-      initiator_data = (ends.0 ∙ (λ j. initiator_data (drives rows) (h.connection j))) i;
-      target_data = (ends.1 ∙ (λ j. target_data (drives rows) (h.connection j))) i;
+      initiator_bsy = drives_bsy (drives rows) (initiator_of (h.call i) (h.connection i));
+      initiator_data = initiator_data (drives rows) (h.connection i);
+      target_data = target_data (drives rows) (h.connection i);
       pulses = h.pulses i;
       turned = h.turned i;
       duty = h.duty i;
@@ -700,5 +677,10 @@ stands_is rows v k w h hk hn =
     }
 
 -- the test, by what it was asked
-pub passing : (rows : List Row) (row : Row) (t : Standing) (c : Change) (b : Bool) → b ≡ passes t c row → b ≡ true → t ≡ standing_after rows → passes (standing_after rows) c row ≡ true
-passing rows row t c b eb e et = sym (λ i. passes (et i) c row) ∙ (sym eb ∙ e)
+pub passing : (rows : List Row) (row : Row) (t : Running) → IsTermsOf rows t → (before after own next : LineSet) (passed : Bool)
+    → record { before = before; after = after; own = own; next = next } ≡ change_of rows row
+    → passed ≡ passes (standing_at (drives rows) t.view t.course) (record { before = before; after = after; own = own; next = next }) row
+    → passed ≡ true
+    → passes (standing_after rows) (change_of rows row) row ≡ true
+passing rows row t h before after own next passed ec ep e =
+    sym (λ i. passes (stands_is rows t.view t.course h.view h.course i) (ec i) row) ∙ (sym ep ∙ e)

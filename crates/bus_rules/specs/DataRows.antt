@@ -5,7 +5,7 @@ use Rattle.bus_trace.specs.declared.agreements.TheConstants.{UNLIMITED_OFFSET}
 use Rattle.bus_trace.specs.declared.delays.TheConstants.{BUS_SETTLE_DELAY, DATA_RELEASE_DELAY, DESKEW_DELAY, SET_UP_TIME, TURN_DELAY}
 use Rattle.bus_trace.specs.LineSet.{LineSet, data_of, same, same_set, has_odd_parity}
 use Rattle.bus_trace.specs.Trace.{drives, last_time, since}
-use Rattle.bus_trace.specs.View.{View, driven_at}
+use Rattle.bus_trace.specs.View.{View}
 use Rattle.bus_trace.specs.declared.line_times.LineTimes.{LineTimes}
 use Rattle.bus_trace.specs.Trace.{line_times, phase_time}
 use Rattle.bus_trace.specs.declared.agreements.Agreement.{Agreement}
@@ -79,16 +79,17 @@ standing_after rows = record {
   begun = (dialogue rows).begun;
 }
 
-abbrev pub standing_at : View → Course → Standing
-standing_at v k = record {
+-- The same by the view of the lines and the course, where the devices drive this.
+abbrev pub standing_at : (ℕ → LineSet) → View → Course → Standing
+standing_at f v k = record {
   last = v.last;
   is_alone = is_none k.call && is_none k.arbitration;
   connection = k.connection;
   times = v.times;
   data_since = v.data_changed;
-  initiator_bsy = drives_bsy (driven_at v.driven) (initiator_of k.call k.connection);
-  initiator_data = initiator_data (driven_at v.driven) k.connection;
-  target_data = target_data (driven_at v.driven) k.connection;
+  initiator_bsy = drives_bsy f (initiator_of k.call k.connection);
+  initiator_data = initiator_data f k.connection;
+  target_data = target_data f k.connection;
   pulses = k.pulses;
   turned = k.turned;
   duty = k.duty;

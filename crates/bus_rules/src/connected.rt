@@ -1,8 +1,6 @@
 //! Rules 14 to 16 and 27: who drives what in a connection, and its end (ANSI X3.131-1994, 6.1.5 to 6.1.9).
 ghost use Rattle.std.specs.Prelude.{◌≡◌};
-ghost use Rattle.bus_trace.specs.Calls.{HasDevices, IsCalled};
-ghost use Rattle.bus_trace.specs.Connections.{HasEnds};
-ghost use Rattle.bus_rules.specs.Connected.{or_new, connection_ends, has_no_target_line, has_no_initiator_line, keeps_sides, changes_well, asks_well, keeps_lines, raises_data, raises_in_turn, initiator_released, keeps_data_direction, keeps_data_direction_of, io_true_since, waits_for_turn, target_released, keeps_direction_delay, frees_well, keeps_freeing};
+ghost use Rattle.bus_rules.specs.Connected.{connection_ends, has_no_target_line, has_no_initiator_line, keeps_sides, changes_well, asks_well, keeps_lines, raises_data, raises_in_turn, initiator_released, keeps_data_direction, io_true_since, waits_for_turn, target_released, keeps_direction_delay, keeps_freeing};
 
 use crate::seen::Seen;
 use bus_base::{Dev, Ns};
@@ -14,8 +12,6 @@ use bus_trace::{
 
 // The connection that stands before the row, or that begins with it.
 fn connection_ends(seen: &Seen, row: &Row) -> Option<Connection>
-    requires devices { HasDevices seen.now.call }
-    requires ends { HasEnds seen.now.connection }
     ensures { result ≡ connection_ends seen.now row.now }
 {
     match seen.connection {
@@ -38,12 +34,12 @@ pub fn has_no_initiator_line(lines: Lines) -> bool
     !(lines.ack() || lines.atn())
 }
 
-fn keeps_sides(connection: Connection, dev: Dev, lines: Lines) -> bool
-    ensures { result ≡ keeps_sides connection dev lines }
+fn keeps_sides(connection: &Connection, dev: Dev, lines: Lines) -> bool
+    ensures { result ≡ keeps_sides connection.now dev lines }
 {
-    if dev == connection.target {
+    if dev == connection.target.get() {
         has_no_initiator_line(lines)
-    } else if dev == connection.initiator {
+    } else if dev == connection.initiator.get() {
         has_no_target_line(lines)
     } else {
         lines.is_none()
@@ -56,8 +52,8 @@ fn changes_well(change: &Change) -> bool
     !changes_phase(change) || (!change.before.req() && !change.before.ack())
 }
 
-fn asks_well(connection: Connection, seen: &Seen, time: Ns) -> bool
-    ensures { result ≡ asks_well connection seen.now time }
+fn asks_well(connection: &Connection, seen: &Seen, time: Ns) -> bool
+    ensures { result ≡ asks_well connection.now seen.now time }
 {
     let (before, after) = (seen.change.before, seen.change.after);
     let since = seen.times.phase().max(connection.began);
@@ -70,11 +66,9 @@ fn asks_well(connection: Connection, seen: &Seen, time: Ns) -> bool
 /// Rule 14: each line is driven by the end that it belongs to, the phase changes while REQ and ACK are false, and
 /// REQ comes once it has settled.
 pub fn keeps_lines(seen: &Seen, row: &Row) -> bool
-    requires devices { HasDevices seen.now.call }
-    requires ends { HasEnds seen.now.connection }
     ensures { result ≡ keeps_lines seen.now row.now }
 {
-    match connection_ends(seen, row) {
+    match &connection_ends(seen, row) {
         None => true,
         Some(connection) => {
             keeps_sides(connection, row.dev, seen.change.next)
@@ -91,15 +85,15 @@ pub fn raises_data(change: &Change) -> bool
     change.own.data_bits() | change.next.data_bits() != change.own.data_bits()
 }
 
-fn raises_in_turn(connection: Connection, seen: &Seen, dev: Dev) -> bool
-    ensures { result ≡ raises_in_turn connection seen.now dev }
+fn raises_in_turn(connection: &Connection, seen: &Seen, dev: Dev) -> bool
+    ensures { result ≡ raises_in_turn connection.now seen.now dev }
 {
     if !raises_data(&seen.change) {
         return true;
     }
-    if dev == connection.target {
+    if dev == connection.target.get() {
         seen.change.before.io()
-    } else if dev == connection.initiator {
+    } else if dev == connection.initiator.get() {
         !seen.change.before.io()
     } else {
         true
@@ -125,7 +119,7 @@ pub fn initiator_released(seen: &Seen, time: Ns) -> bool
 pub fn keeps_data_direction(seen: &Seen, row: &Row) -> bool
     ensures { result ≡ keeps_data_direction seen.now row.now }
 {
-    let in_turn = match seen.connection {
+    let in_turn = match &seen.connection {
         None => true,
         Some(connection) => raises_in_turn(connection, seen, row.dev),
     };
@@ -149,7 +143,7 @@ fn waits_for_turn(seen: &Seen, row: &Row) -> bool
         None => true,
         Some(connection) => {
             let turned = turned_after(seen.turned, seen.connection, &seen.change);
-            let is_target = row.dev == connection.target;
+            let is_target = row.dev == connection.target.get();
             !(seen.change.after.io() && turned && is_target && drives_data(seen.change.next))
                 || row.time.saturating_sub(io_true_since(seen, row.time)) >= TURN_DELAY
         }
@@ -186,7 +180,7 @@ pub fn keeps_freeing(seen: &Seen, row: &Row) -> bool
     match seen.connection {
         None => true,
         Some(connection) => {
-            !(row.dev == connection.target && falls(change.own.bsy(), change.next.bsy()))
+            !(row.dev == connection.target.get() && falls(change.own.bsy(), change.next.bsy()))
                 || (!change.before.req() && !change.before.ack() && change.raises_none())
         }
     }

@@ -1,26 +1,23 @@
 //! The terms of the rules but for what a view of the bus keeps.
-ghost use Rattle.std.specs.Prelude.{ℕ, ◌≡◌, ◌<◌, ◌∷◌, [], List, if◌then◌else◌};
-ghost use Rattle.bus_trace.specs.LineSet.{LineSet};
+ghost use Rattle.std.specs.Prelude.{◌≡◌, ◌<◌, ◌∷◌, [], List};
 ghost use Rattle.bus_trace.specs.declared.Row.{Row};
 ghost use Rattle.bus_trace.specs.Trace.{since_line};
-ghost use Rattle.bus_trace.specs.Calls.{HasDevices, IsCalled};
-ghost use Rattle.bus_trace.specs.Connections.{HasEnds};
 ghost use Rattle.bus_trace.specs.Changes.{change_of};
 ghost use Rattle.bus_trace.specs.Terms.{free_since, call, connection};
 ghost use Rattle.bus_phases.specs.Phases.{is_attention_held};
-ghost use Rattle.bus_phases.specs.Dialogue.{asynchronous, closed_agreement_by, dialogue};
+ghost use Rattle.bus_phases.specs.Dialogue.{asynchronous, dialogue};
 ghost use Rattle.bus_phases.specs.Reading.{reading_of};
 ghost use Rattle.bus_rules.specs.DataRows.{course_after_transfer};
 
 use crate::data_rows::{crosses_in, duty_in_data};
-use bus_base::{Dev, Ns};
+use bus_base::Ns;
 use bus_phases::{
     Agreements, Dialogue, Duty, Pulses, Raises, Reading, agree, asynchronous, duty_after,
     is_attention_held, no_pulses, pulses_after, turned_after,
 };
 use bus_trace::{
-    Arbitration, Call, Change, Connection, Row, arbitration_after, call_after, connection_after,
-    receiver_of,
+    Arbitration, Call, Change, Connection, Row, ScsiId, arbitration_after, call_after,
+    connection_after, receiver_of,
 };
 
 /// What stands on the bus after the rows of a trace so far.
@@ -37,7 +34,7 @@ pub struct Course {
     /// The connection that stands.
     pub connection: Option<Connection>,
     /// The receiver of the byte that crossed in the last row.
-    pub receiver: Option<Dev>,
+    pub receiver: Option<ScsiId>,
     /// The pulses in the present phase.
     pub pulses: Pulses,
     /// Whether I/O became true in the connection.
@@ -55,9 +52,7 @@ impl Course {
 
     /// Nothing stands on the bus.
     pub fn new() -> Course
-        ensures course { IsCourseOf [] result }
-        ensures devices { HasDevices result.call }
-        ensures ends { HasEnds result.connection }
+        ensures { IsCourseOf [] result }
     {
         Course {
             bsy_raised: Raises::new(),
@@ -77,13 +72,9 @@ impl Course {
     /// One row more that changes data lines, REQ and ACK alone in a DATA phase. `held` says whether ATN is held
     /// over it.
     pub fn transfer(&mut self, held: bool, change: &Change, time: Ns)
-        requires devices { HasDevices self.old.call }
-        requires ends { HasEnds self.old.connection }
-        ensures exact { self.new ≡ course_after_transfer self.old held change.now time }
-        ensures devices { HasDevices self.new.call }
-        ensures ends { HasEnds self.new.connection }
+        ensures { self.new ≡ course_after_transfer self.old held change.now time }
     {
-        self.receiver = receiver_of(self.connection, change);
+        self.receiver = receiver_of(&self.connection, change);
         self.pulses.count(change, time);
         self.duty = duty_in_data(self.duty, change, held);
         self.dialogue.takes_data(crosses_in(change));
@@ -92,27 +83,24 @@ impl Course {
     /// One row more that changes this, on a bus that was free since `free`, in ns. `held` says whether ATN is
     /// held over it. Tells what a byte makes of a message.
     pub fn step(&mut self, free: Ns, held: bool, change: &Change, row: &Row) -> Reading
-        requires device { row.now.dev < 8 }
-        requires devices { HasDevices self.old.call }
-        requires ends { HasEnds self.old.connection }
+        requires { row.now.dev < 8 }
         ensures kept { (rows : List Row) → IsCourseOf rows self.old → free ≡ free_since rows
             → change.now ≡ change_of rows row.now
             → held ≡ is_attention_held (change_of rows row.now) (since_line (λ s. s.atn) rows) row.now.time
             → IsCourseOf (row.now ∷ rows) self.new }
         ensures reading { result ≡ reading_of self.old.dialogue.half self.old.connection change.now }
-        ensures devices { HasDevices self.new.call }
-        ensures ends { HasEnds self.new.connection }
     {
-        let before = self.connection;
-        let after = connection_after(before, self.call, change, row);
+        let after = connection_after(self.connection, self.call, change, row);
         let spoken = self.dialogue.heard.now;
-        let reading = self.dialogue.step(before, after, &self.agreed, change);
-        agree(&mut self.agreed, before, spoken, change.after);
-        self.receiver = receiver_of(before, change);
-        self.turned = turned_after(self.turned, before, change);
-        self.pulses = pulses_after(self.pulses, after, change, row.time);
-        self.duty = duty_after(self.duty, after, change, held);
+        let reading = self
+            .dialogue
+            .step(&self.connection, &after, &self.agreed, change);
+        agree(&mut self.agreed, self.connection, spoken, change.after);
+        self.receiver = receiver_of(&self.connection, change);
+        self.turned = turned_after(self.turned, self.connection, change);
         self.connection = after;
+        self.pulses = pulses_after(self.pulses, self.connection, change, row.time);
+        self.duty = duty_after(self.duty, self.connection, change, held);
         self.arbitration = arbitration_after(self.arbitration, free, change, row);
         self.call = call_after(self.call, change, row);
         let (own, next) = (change.own, change.next);

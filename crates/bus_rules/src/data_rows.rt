@@ -3,9 +3,9 @@
 //!
 //! Few rules ask anything of such a row. A short test tells that it breaks none, and then few terms change; a row
 //! that does not pass it is judged rule by rule.
-ghost use Rattle.std.specs.Prelude.{◌≡◌, ◌<◌, ◌&&◌, is_none, slice_index};
-ghost use Rattle.bus_trace.specs.Calls.{HasDevices};
-ghost use Rattle.bus_trace.specs.Connections.{HasEnds};
+ghost use Rattle.std.specs.Prelude.{◌≡◌, ◌<◌, ◌&&◌, List, is_none};
+ghost use Rattle.bus_trace.specs.declared.Row.{Row};
+ghost use Rattle.bus_trace.specs.Trace.{IsViewOf, drives};
 ghost use Rattle.bus_rules.specs.Pulsing.{AreTimes};
 ghost use Rattle.bus_rules.specs.DataRows.{same_but_bytes, is_quiet_bus, is_data_row, crosses_in, keeps_side, asks_soon, is_in_turn, has_turned, stand_since, is_shaken, may_ask, keeps_count, last_pulse, is_timed, is_pulsed_well, standing_at, may_cross, transfers_well, turns_well, passes_in, passes_of, is_move, passes, duty_in_data};
 
@@ -60,10 +60,10 @@ pub fn crosses_in(change: &Change) -> bool
 fn keeps_side(connection: &Connection, dev: Dev, lines: Lines) -> bool
     ensures { result ≡ keeps_side connection.now dev lines }
 {
-    if dev == connection.target {
+    if dev == connection.target.get() {
         has_no_initiator_line(lines)
     } else {
-        dev == connection.initiator && has_no_target_line(lines)
+        dev == connection.initiator.get() && has_no_target_line(lines)
     }
 }
 
@@ -76,9 +76,8 @@ fn asks_soon(
     change: &Change,
     time: Ns,
 ) -> bool
-    requires devices { HasDevices course.now.call }
-    requires ends { HasEnds course.now.connection }
-    ensures { result ≡ asks_soon connection.now (standing_at view.now course.now) change.now time }
+    ensures { (rows : List Row) → IsViewOf rows view.now
+        → result ≡ asks_soon connection.now (standing_at (drives rows) view.now course.now) change.now time }
 {
     if !rises(change.before.req(), change.after.req()) {
         return true;
@@ -97,8 +96,8 @@ fn is_in_turn(is_target: bool, change: &Change) -> bool
 
 // Whether the end whose turn it is drives data lines alone, and waited for the other.
 fn has_turned(view: &LineView, course: &Course, is_target: bool, change: &Change, time: Ns) -> bool
-    requires { HasEnds course.now.connection }
-    ensures { result ≡ has_turned (standing_at view.now course.now) is_target change.now time }
+    ensures { (rows : List Row) → IsViewOf rows view.now
+        → result ≡ has_turned (standing_at (drives rows) view.now course.now) is_target change.now time }
 {
     let age = time.saturating_sub(view.times().io);
     if change.before.io() {
@@ -110,8 +109,8 @@ fn has_turned(view: &LineView, course: &Course, is_target: bool, change: &Change
 }
 
 fn turns_well(view: &LineView, course: &Course, is_target: bool, change: &Change, time: Ns) -> bool
-    requires { HasEnds course.now.connection }
-    ensures { result ≡ turns_well (standing_at view.now course.now) is_target change.now time }
+    ensures { (rows : List Row) → IsViewOf rows view.now
+        → result ≡ turns_well (standing_at (drives rows) view.now course.now) is_target change.now time }
 {
     is_in_turn(is_target, change) && has_turned(view, course, is_target, change, time)
 }
@@ -209,7 +208,8 @@ fn is_pulsed_well(view: &LineView, course: &Course, change: &Change, time: Ns) -
 }
 
 fn transfers_well(view: &LineView, course: &Course, change: &Change, time: Ns) -> bool
-    ensures { result ≡ transfers_well (standing_at view.now course.now) change.now time }
+    ensures { (rows : List Row) → IsViewOf rows view.now
+        → result ≡ transfers_well (standing_at (drives rows) view.now course.now) change.now time }
 {
     if course.dialogue.heard.now.agreement.offset == 0 {
         is_shaken(change, view.data_since(), time)
@@ -219,7 +219,8 @@ fn transfers_well(view: &LineView, course: &Course, change: &Change, time: Ns) -
 }
 
 fn may_cross(view: &LineView, course: &Course, change: &Change) -> bool
-    ensures { result ≡ may_cross (standing_at view.now course.now) change.now }
+    ensures { (rows : List Row) → IsViewOf rows view.now
+        → result ≡ may_cross (standing_at (drives rows) view.now course.now) change.now }
 {
     let spoken = &course.dialogue.heard.now;
     change.after.odd_parity()
@@ -235,13 +236,18 @@ fn passes_in(
     change: &Change,
     row: &Row,
 ) -> bool
-    requires devices { HasDevices course.now.call }
-    requires ends { HasEnds course.now.connection }
-    ensures { result ≡ passes_in connection.now (standing_at view.now course.now) change.now row.now }
+    ensures { (rows : List Row) → IsViewOf rows view.now
+        → result ≡ passes_in connection.now (standing_at (drives rows) view.now course.now) change.now row.now }
 {
     keeps_side(connection, row.dev, change.next)
         && asks_soon(connection, view, course, change, row.time)
-        && turns_well(view, course, row.dev == connection.target, change, row.time)
+        && turns_well(
+            view,
+            course,
+            row.dev == connection.target.get(),
+            change,
+            row.time,
+        )
         && (!crosses_in(change) || may_cross(view, course, change))
         && transfers_well(view, course, change, row.time)
 }
@@ -253,9 +259,8 @@ fn is_move(change: &Change, row: &Row) -> bool
 }
 
 fn passes_of(view: &LineView, course: &Course, change: &Change, row: &Row) -> bool
-    requires devices { HasDevices course.now.call }
-    requires ends { HasEnds course.now.connection }
-    ensures { result ≡ passes_of (standing_at view.now course.now) change.now row.now course.now.connection }
+    ensures { (rows : List Row) → IsViewOf rows view.now
+        → result ≡ passes_of (standing_at (drives rows) view.now course.now) change.now row.now course.now.connection }
 {
     match &course.connection {
         None => false,
@@ -272,9 +277,8 @@ fn is_alone(course: &Course) -> bool
 
 /// Whether a row that changes this passes the short test: it breaks no rule.
 pub fn passes(view: &LineView, course: &Course, change: &Change, row: &Row) -> bool
-    requires devices { HasDevices course.now.call }
-    requires ends { HasEnds course.now.connection }
-    ensures { result ≡ passes (standing_at view.now course.now) change.now row.now }
+    ensures { (rows : List Row) → IsViewOf rows view.now
+        → result ≡ passes (standing_at (drives rows) view.now course.now) change.now row.now }
 {
     view.last_time() <= row.time
         && is_move(change, row)

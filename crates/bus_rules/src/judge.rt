@@ -4,8 +4,6 @@ ghost use Rattle.std.specs.List.{AllByRecursion};
 ghost use Rattle.bus_trace.specs.OfTrace.{IsRow};
 ghost use Rattle.bus_rules.specs.Rules.{broken_rule, broken_at_end, judged_whole};
 ghost use Rattle.bus_rules.specs.Seen.{seen, end_row};
-ghost use Rattle.bus_trace.specs.Calls.{HasDevices};
-ghost use Rattle.bus_trace.specs.Connections.{HasEnds};
 
 use crate::rules::{lowest_at_end, lowest_broken};
 use crate::seen::Seen;
@@ -70,9 +68,7 @@ pub fn broken_end(rows: &[Row], end: Ns) -> Option<RuleNo>
 fn seen_after(rows: &[Row], row: &Row) -> Seen
     requires rows { AllByRecursion IsRow rows.now }
     requires device { row.now.dev < 8 }
-    ensures exact { result ≡ seen (reverse rows.now) row.now }
-    ensures devices { HasDevices result.call }
-    ensures ends { HasEnds result.connection }
+    ensures { result ≡ seen (reverse rows.now) row.now }
 {
     let mut terms = Terms::new();
     for row in rows {

@@ -1,11 +1,10 @@
 //! Rules 1 and 2: what holds of any row.
 ghost use Rattle.std.specs.Prelude.{◌≡◌, ◌<◌, Some};
-ghost use Rattle.bus_trace.specs.Calls.{HasDevices, IsCalled};
 ghost use Rattle.bus_rules.specs.Order.{is_in_order, is_of_device, strikes_byte, strikes_ids, strikes_ids_of, is_news};
 
 use crate::seen::Seen;
 use bus_base::{Dev, Ns};
-use bus_trace::{BUS_SETTLE_DELAY, Calling, Kind, Row};
+use bus_trace::{BUS_SETTLE_DELAY, Calling, Kind, Row, ScsiId};
 
 /// Rule 1: a time is not below that of the row before.
 pub fn is_in_order(seen: &Seen, time: Ns) -> bool
@@ -14,12 +13,12 @@ pub fn is_in_order(seen: &Seen, time: Ns) -> bool
     seen.last <= time
 }
 
-fn is_of_device(device: Option<Dev>, dev: Dev) -> bool
+fn is_of_device(device: Option<ScsiId>, dev: Dev) -> bool
     ensures { result ≡ is_of_device device dev }
 {
     match device {
         None => false,
-        Some(device) => device == dev,
+        Some(device) => device.get() == dev,
     }
 }
 
@@ -30,17 +29,17 @@ fn strikes_byte(seen: &Seen, row: &Row) -> bool
 }
 
 fn strikes_ids_of(seen: &Seen, row: &Row, calling: Calling) -> bool
-    requires { calling.called < 8 }
     ensures { result ≡ strikes_ids_of seen.now row.now (Some calling) }
 {
     let bus = seen.change.before;
-    let is_called = row.dev == calling.called && calling.answered.is_none() && !calling.struck;
-    let has_ids = bus.sel() && bus.has_id(calling.called) && !bus.bsy();
+    let is_called = row.dev == calling.called.get()
+        && calling.answered.is_none()
+        && !calling.struck;
+    let has_ids = bus.sel() && bus.has_id(calling.called.get()) && !bus.bsy();
     is_called && has_ids && row.time.saturating_sub(seen.times.bsy) >= BUS_SETTLE_DELAY
 }
 
 fn strikes_ids(seen: &Seen, row: &Row) -> bool
-    requires { HasDevices seen.now.call }
     ensures { result ≡ strikes_ids seen.now row.now seen.now.call }
 {
     match seen.call {
@@ -55,7 +54,6 @@ fn strikes_ids(seen: &Seen, row: &Row) -> bool
 /// Rule 2: a row of lines differs from what the device drove; a fault row names a byte, or IDs, that no
 /// fault named before.
 pub fn is_news(seen: &Seen, row: &Row) -> bool
-    requires { HasDevices seen.now.call }
     ensures { result ≡ is_news seen.now row.now }
 {
     match row.kind {

@@ -1,7 +1,5 @@
 //! The rules by their numbers.
 ghost use Rattle.std.specs.Prelude.{◌≡◌, ◌<◌, [], ◌∷◌};
-ghost use Rattle.bus_trace.specs.Calls.{HasDevices, IsCalled};
-ghost use Rattle.bus_trace.specs.Connections.{HasEnds};
 ghost use Rattle.bus_rules.specs.Rules.{lowest_broken, lowest_at_end, first_broken, test};
 
 use crate::connected::{
@@ -28,9 +26,7 @@ use bus_trace::Row;
 
 /// The lowest rule that a row breaks.
 pub fn lowest_broken(seen: &Seen, row: &Row) -> Option<RuleNo>
-    requires devices { HasDevices seen.now.call }
-    requires ends { HasEnds seen.now.connection }
-    requires device { row.now.dev < 8 }
+    requires { row.now.dev < 8 }
     ensures { result ≡ lowest_broken seen.now row.now }
 {
     if !is_in_order(seen, row.time) {
@@ -50,9 +46,7 @@ pub fn lowest_broken(seen: &Seen, row: &Row) -> Option<RuleNo>
 
 // The lowest rule but 1 and 2, where RST is false and does not rise.
 fn lowest_outside_reset(seen: &Seen, row: &Row) -> Option<RuleNo>
-    requires devices { HasDevices seen.now.call }
-    requires ends { HasEnds seen.now.connection }
-    requires device { row.now.dev < 8 }
+    requires { row.now.dev < 8 }
     ensures { result ≡ first_broken
         (λ n. test n seen.now row.now)
         (3 ∷ 4 ∷ 5 ∷ 6 ∷ 7 ∷ 8 ∷ 9 ∷ 10 ∷ 11 ∷ 12 ∷ 13 ∷ 14 ∷ 15 ∷ 16 ∷ 17 ∷ 18 ∷ 19 ∷ 20 ∷ 21 ∷ 22 ∷ 23 ∷ 24 ∷ 25 ∷ 26
@@ -87,8 +81,6 @@ fn lowest_outside_reset(seen: &Seen, row: &Row) -> Option<RuleNo>
 
 // The lowest rule from 14 on, where RST is false and does not rise.
 fn lowest_connected(seen: &Seen, row: &Row) -> Option<RuleNo>
-    requires devices { HasDevices seen.now.call }
-    requires ends { HasEnds seen.now.connection }
     ensures { result ≡ first_broken
         (λ n. test n seen.now row.now) (14 ∷ 15 ∷ 16 ∷ 17 ∷ 18 ∷ 19 ∷ 20 ∷ 21 ∷ 22 ∷ 23 ∷ 24 ∷ 25 ∷ 26 ∷ 27 ∷ 28 ∷ []) }
 {

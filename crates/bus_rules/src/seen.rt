@@ -1,7 +1,7 @@
 //! What a row meets.
-use bus_base::{Dev, Ns};
+use bus_base::Ns;
 use bus_phases::{CommandBytes, Duty, Pulses, Reading};
-use bus_trace::{Agreement, Arbitration, Call, Change, Connection, LineTimes};
+use bus_trace::{Agreement, Arbitration, Call, Change, Connection, LineTimes, ScsiId};
 
 /// What a row meets: all that the rules ask of the rows before it. Times are in ns, 0 where the trace
 /// has nothing of the kind.
@@ -28,7 +28,7 @@ pub struct Seen {
     /// Whether its target does.
     pub target_data: bool,
     /// The receiver of the byte that crossed in the row before, if one did.
-    pub receiver: Option<Dev>,
+    pub receiver: Option<ScsiId>,
     /// The arbitration that stands, if one does.
     pub arbitration: Option<Arbitration>,
     /// The call that stands, while SEL is true.

@@ -1,13 +1,12 @@
 //! Rules 7 to 13: selection and reselection (ANSI X3.131-1994, 6.1.3 and 6.1.4).
 ghost use Rattle.std.specs.Prelude.{◌≡◌, ◌<◌, Some};
-ghost use Rattle.bus_trace.specs.Calls.{HasDevices, IsCalled};
-ghost use Rattle.bus_rules.specs.Selection.{is_past, has_no_answer, answers_to, is_left, others_release, keeps_losers_off, keeps_winner_of, keeps_winner, calls_exactly, calls_well, keeps_calling_of, keeps_calling, drives_answer, has_settled, answers_well, may_raise, keeps_answer_to, keeps_answer_of, keeps_answer, releases_sel, has_only_data_and_atn, ends_call_well, keeps_end_to, keeps_end_of, keeps_end, gives_up_well, keeps_time_out_to, keeps_time_out_of, keeps_time_out, hands_over_to, hands_over, takes_over, keeps_reselection};
+ghost use Rattle.bus_rules.specs.Selection.{is_past, has_no_answer, answers_to, is_left, others_release, keeps_losers_off, keeps_winner, calls_exactly, calls_well, keeps_calling, drives_answer, has_settled, answers_well, may_raise, keeps_answer_to, keeps_answer, releases_sel, has_only_data_and_atn, ends_call_well, keeps_end_to, keeps_end, gives_up_well, keeps_time_out_to, keeps_time_out, hands_over_to, hands_over, takes_over, keeps_reselection};
 
 use crate::seen::Seen;
-use bus_base::{Dev, Ns};
+use bus_base::Ns;
 use bus_trace::{
     BUS_CLEAR_DELAY, BUS_SETTLE_DELAY, Call, Calling, Lines, QUIET_TIME, Row, SELECTION_ABORT_TIME,
-    SELECTION_TIMEOUT_DELAY, TWO_DESKEW, drives_two_ids, falls, is_within, rises,
+    SELECTION_TIMEOUT_DELAY, ScsiId, TWO_DESKEW, drives_two_ids, falls, is_within, rises,
 };
 
 // Whether a moment has come, and this long passed since.
@@ -31,14 +30,18 @@ fn has_no_answer(calling: Option<Calling>) -> bool
 }
 
 // Whether the called device raises BSY.
-fn answers_to(seen: &Seen, row: &Row, calling: Option<Calling>) -> bool
-    ensures { result ≡ answers_to seen.now row.now calling }
+fn answers(seen: &Seen, row: &Row, calling: &Calling) -> bool
+    ensures { result ≡ answers_to seen.now row.now (Some calling.now) }
+{
+    row.dev == calling.called.get() && rises(seen.change.own.bsy(), seen.change.next.bsy())
+}
+
+fn answers_to(seen: &Seen, row: &Row, calling: &Option<Calling>) -> bool
+    ensures { result ≡ answers_to seen.now row.now calling.now }
 {
     match calling {
         None => false,
-        Some(calling) => {
-            row.dev == calling.called && rises(seen.change.own.bsy(), seen.change.next.bsy())
-        }
+        Some(calling) => answers(seen, row, calling),
     }
 }
 
@@ -59,11 +62,11 @@ pub fn is_left(seen: &Seen, time: Ns) -> bool
 fn others_release(seen: &Seen, row: &Row) -> bool
     ensures { result ≡ others_release seen.now row.now seen.now.call }
 {
-    match seen.call {
+    match &seen.call {
         None => true,
         Some(call) => {
-            !(has_no_answer(call.calling) && row.dev != call.caller)
-                || (answers_to(seen, row, call.calling) || seen.change.raises_none())
+            !(has_no_answer(call.calling) && row.dev != call.caller.get())
+                || (answers_to(seen, row, &call.calling) || seen.change.raises_none())
         }
     }
 }
@@ -83,14 +86,13 @@ pub fn keeps_winner(seen: &Seen, row: &Row) -> bool
     match seen.call {
         None => true,
         Some(call) => {
-            !(call.calling.is_none() && row.dev == call.caller)
+            !(call.calling.is_none() && row.dev == call.caller.get())
                 || row.time.saturating_sub(call.at) >= QUIET_TIME
         }
     }
 }
 
-fn calls_exactly(caller: Dev, lines: Lines) -> bool
-    requires { caller < 8 }
+fn calls_exactly(caller: ScsiId, lines: Lines) -> bool
     ensures { result ≡ calls_exactly caller lines }
 {
     let has_ids = drives_two_ids(caller, lines) && lines.parity_bit();
@@ -100,7 +102,6 @@ fn calls_exactly(caller: Dev, lines: Lines) -> bool
 }
 
 fn calls_well(seen: &Seen, row: &Row, call: Call) -> bool
-    requires { call.caller < 8 }
     ensures { result ≡ calls_well seen.now row.now call.caller call.calling }
 {
     match call.calling {
@@ -114,35 +115,33 @@ fn calls_well(seen: &Seen, row: &Row, call: Call) -> bool
 
 /// Rule 9: the caller's first row after SEL rose is a calling, and its next releases BSY.
 pub fn keeps_calling(seen: &Seen, row: &Row) -> bool
-    requires { HasDevices seen.now.call }
     ensures { result ≡ keeps_calling seen.now row.now }
 {
     match seen.call {
         None => true,
-        Some(call) => row.dev != call.caller || calls_well(seen, row, call),
+        Some(call) => row.dev != call.caller.get() || calls_well(seen, row, call),
     }
 }
 
-fn drives_answer(calling: Calling, lines: Lines) -> bool
-    ensures { result ≡ drives_answer calling lines }
+fn drives_answer(calling: &Calling, lines: Lines) -> bool
+    ensures { result ≡ drives_answer calling.now lines }
 {
     lines.same(Lines::BSY) || (calling.reselects && lines.same(Lines::BSY.with(Lines::ATN)))
 }
 
-fn has_settled(seen: &Seen, time: Ns, calling: Calling) -> bool
-    requires { calling.called < 8 }
-    ensures { result ≡ has_settled seen.now time calling }
+fn has_settled(seen: &Seen, time: Ns, calling: &Calling) -> bool
+    ensures { result ≡ has_settled seen.now time calling.now }
 {
     let bus = seen.change.before;
     let sel = bus.sel() && time.saturating_sub(seen.times.sel) >= BUS_SETTLE_DELAY;
-    let id = bus.has_id(calling.called) && time.saturating_sub(seen.id_since) >= BUS_SETTLE_DELAY;
+    let id = bus.has_id(calling.called.get())
+        && time.saturating_sub(seen.id_since) >= BUS_SETTLE_DELAY;
     let bsy = !bus.bsy() && time.saturating_sub(seen.times.bsy) >= BUS_SETTLE_DELAY;
     sel && id && bsy && is_past(calling.released, BUS_SETTLE_DELAY, time)
 }
 
-fn answers_well(seen: &Seen, row: &Row, calling: Calling) -> bool
-    requires { calling.called < 8 }
-    ensures { result ≡ answers_well seen.now row.now calling }
+fn answers_well(seen: &Seen, row: &Row, calling: &Calling) -> bool
+    ensures { result ≡ answers_well seen.now row.now calling.now }
 {
     seen.change.own.is_none()
         && !calling.struck
@@ -150,19 +149,18 @@ fn answers_well(seen: &Seen, row: &Row, calling: Calling) -> bool
         && drives_answer(calling, seen.change.next)
 }
 
-fn may_raise(seen: &Seen, row: &Row, caller: Dev, calling: Calling) -> bool
-    ensures { result ≡ may_raise seen.now row.now caller calling }
+fn may_raise(seen: &Seen, row: &Row, caller: ScsiId, calling: &Calling) -> bool
+    ensures { result ≡ may_raise seen.now row.now caller calling.now }
 {
-    let by_caller = row.dev == caller && seen.change.raises_only(Lines::BSY);
-    let by_called = row.dev == calling.called && seen.change.raises_only(Lines::ATN);
+    let by_caller = row.dev == caller.get() && seen.change.raises_only(Lines::BSY);
+    let by_called = row.dev == calling.called.get() && seen.change.raises_only(Lines::ATN);
     (calling.reselects && calling.answered.is_some()) && (by_caller || by_called)
 }
 
-fn keeps_answer_to(seen: &Seen, row: &Row, caller: Dev, calling: Calling) -> bool
-    requires { calling.called < 8 }
-    ensures { result ≡ keeps_answer_to seen.now row.now caller (Some calling) }
+fn keeps_answer_to(seen: &Seen, row: &Row, caller: ScsiId, calling: &Calling) -> bool
+    ensures { result ≡ keeps_answer_to seen.now row.now caller (Some calling.now) }
 {
-    if answers_to(seen, row, Some(calling)) {
+    if answers(seen, row, calling) {
         answers_well(seen, row, calling)
     } else {
         !seen.change.after.sel()
@@ -173,12 +171,11 @@ fn keeps_answer_to(seen: &Seen, row: &Row, caller: Dev, calling: Calling) -> boo
 /// Rule 10: an answer comes when the IDs have settled, and until SEL falls no other row raises a line, but as
 /// a reselection needs it.
 pub fn keeps_answer(seen: &Seen, row: &Row) -> bool
-    requires { HasDevices seen.now.call }
     ensures { result ≡ keeps_answer seen.now row.now }
 {
-    match seen.call {
+    match &seen.call {
         None => true,
-        Some(call) => match call.calling {
+        Some(call) => match &call.calling {
             None => true,
             Some(calling) => keeps_answer_to(seen, row, call.caller, calling),
         },
@@ -204,8 +201,8 @@ fn has_only_data_and_atn(lines: Lines) -> bool
         || lines.rst())
 }
 
-fn ends_call_well(seen: &Seen, row: &Row, calling: Calling) -> bool
-    ensures { result ≡ ends_call_well seen.now row.now calling }
+fn ends_call_well(seen: &Seen, row: &Row, calling: &Calling) -> bool
+    ensures { result ≡ ends_call_well seen.now row.now calling.now }
 {
     if calling.reselects {
         is_past(calling.resumed, TWO_DESKEW, row.time)
@@ -214,10 +211,10 @@ fn ends_call_well(seen: &Seen, row: &Row, calling: Calling) -> bool
     }
 }
 
-fn keeps_end_to(seen: &Seen, row: &Row, caller: Dev, calling: Calling) -> bool
-    ensures { result ≡ keeps_end_to seen.now row.now caller (Some calling) }
+fn keeps_end_to(seen: &Seen, row: &Row, caller: ScsiId, calling: &Calling) -> bool
+    ensures { result ≡ keeps_end_to seen.now row.now caller (Some calling.now) }
 {
-    !(row.dev == caller && releases_sel(seen) && calling.answered.is_some())
+    !(row.dev == caller.get() && releases_sel(seen) && calling.answered.is_some())
         || ends_call_well(seen, row, calling)
 }
 
@@ -225,17 +222,17 @@ fn keeps_end_to(seen: &Seen, row: &Row, caller: Dev, calling: Calling) -> bool
 pub fn keeps_end(seen: &Seen, row: &Row) -> bool
     ensures { result ≡ keeps_end seen.now row.now }
 {
-    match seen.call {
+    match &seen.call {
         None => true,
-        Some(call) => match call.calling {
+        Some(call) => match &call.calling {
             None => true,
             Some(calling) => keeps_end_to(seen, row, call.caller, calling),
         },
     }
 }
 
-fn gives_up_well(seen: &Seen, row: &Row, calling: Calling) -> bool
-    ensures { result ≡ gives_up_well seen.now row.now calling calling.withdrawn }
+fn gives_up_well(seen: &Seen, row: &Row, calling: &Calling) -> bool
+    ensures { result ≡ gives_up_well seen.now row.now calling.now calling.now.withdrawn }
 {
     match calling.withdrawn {
         None => {
@@ -249,10 +246,10 @@ fn gives_up_well(seen: &Seen, row: &Row, calling: Calling) -> bool
     }
 }
 
-fn keeps_time_out_to(seen: &Seen, row: &Row, caller: Dev, calling: Calling) -> bool
-    ensures { result ≡ keeps_time_out_to seen.now row.now caller (Some calling) }
+fn keeps_time_out_to(seen: &Seen, row: &Row, caller: ScsiId, calling: &Calling) -> bool
+    ensures { result ≡ keeps_time_out_to seen.now row.now caller (Some calling.now) }
 {
-    !(row.dev == caller && calling.released.is_some() && calling.answered.is_none())
+    !(row.dev == caller.get() && calling.released.is_some() && calling.answered.is_none())
         || gives_up_well(seen, row, calling)
 }
 
@@ -260,31 +257,31 @@ fn keeps_time_out_to(seen: &Seen, row: &Row, caller: Dev, calling: Calling) -> b
 pub fn keeps_time_out(seen: &Seen, row: &Row) -> bool
     ensures { result ≡ keeps_time_out seen.now row.now }
 {
-    match seen.call {
+    match &seen.call {
         None => true,
-        Some(call) => match call.calling {
+        Some(call) => match &call.calling {
             None => true,
             Some(calling) => keeps_time_out_to(seen, row, call.caller, calling),
         },
     }
 }
 
-fn hands_over_to(seen: &Seen, row: &Row, caller: Dev, calling: Calling) -> bool
-    ensures { result ≡ hands_over_to seen.now row.now caller (Some calling) }
+fn hands_over_to(seen: &Seen, row: &Row, caller: ScsiId, calling: &Calling) -> bool
+    ensures { result ≡ hands_over_to seen.now row.now caller (Some calling.now) }
 {
     let (own, next) = (seen.change.own, seen.change.next);
     let keeps = (own.bsy() && own.io()) && (next.bsy() && next.io());
     !(calling.reselects && calling.answered.is_some())
-        || ((!(row.dev == caller && releases_sel(seen)) || keeps)
-            && (row.dev != calling.called || !falls(own.bsy(), next.bsy())))
+        || ((!(row.dev == caller.get() && releases_sel(seen)) || keeps)
+            && (row.dev != calling.called.get() || !falls(own.bsy(), next.bsy())))
 }
 
 fn hands_over(seen: &Seen, row: &Row) -> bool
     ensures { result ≡ hands_over seen.now row.now seen.now.call }
 {
-    match seen.call {
+    match &seen.call {
         None => true,
-        Some(call) => match call.calling {
+        Some(call) => match &call.calling {
             None => true,
             Some(calling) => hands_over_to(seen, row, call.caller, calling),
         },
@@ -298,7 +295,7 @@ fn takes_over(seen: &Seen, row: &Row) -> bool
     match seen.connection {
         None => true,
         Some(connection) => {
-            let is_initiator = connection.reselected && row.dev == connection.initiator;
+            let is_initiator = connection.reselected && row.dev == connection.initiator.get();
             !(is_initiator && falls(own.bsy(), next.bsy())) || is_within(next, Lines::ATN)
         }
     }

@@ -1,16 +1,12 @@
 //! The terms of the rules, row by row.
 ghost use Rattle.std.specs.Prelude.{true, ◌≡◌, ◌<◌, ◌∷◌, [], List};
-ghost use Rattle.bus_trace.specs.LineSet.{LineSet, line_of};
 ghost use Rattle.bus_trace.specs.declared.Row.{Row};
-ghost use Rattle.bus_trace.specs.View.{driven_at};
 ghost use Rattle.bus_trace.specs.Trace.{IsViewOf, drives, since};
-ghost use Rattle.bus_trace.specs.Calls.{HasDevices, IsCalled};
-ghost use Rattle.bus_trace.specs.Connections.{HasEnds};
 ghost use Rattle.bus_rules.specs.Judging.{IsCourseOf};
 ghost use Rattle.bus_trace.specs.Changes.{change_of};
 ghost use Rattle.bus_rules.specs.Rules.{broken_rule};
 ghost use Rattle.bus_rules.specs.DataRows.{standing_after, passes};
-ghost use Rattle.bus_rules.specs.Seen.{seen, seen_with, other_drives, others_drive, others_in_call, id_since, id_since_calling, initiator_called, initiator_of, drives_bsy, initiator_data, target_data};
+ghost use Rattle.bus_rules.specs.Seen.{seen, seen_with, other_drives, others_drive, others_in_call, id_since, initiator_of, drives_bsy, initiator_data, target_data};
 
 use crate::course::Course;
 use crate::data_rows::passes;
@@ -19,7 +15,7 @@ use crate::seen::Seen;
 use crate::verdict::RuleNo;
 use bus_base::{Dev, Ns};
 use bus_phases::{Reading, is_attention_held};
-use bus_trace::{Call, Change, Connection, LineView, Row, drives_data};
+use bus_trace::{Call, Change, Connection, LineView, Row, ScsiId, drives_data};
 use std::marker::Model;
 
 /// The terms of the rules after the rows of a trace so far, whatever they are.
@@ -31,14 +27,10 @@ pub struct Terms {
 
 impl Model for Terms {
     ghost use Rattle.bus_rules.specs.Judging.{Running};
-    ghost use Rattle.bus_trace.specs.Calls.{HasDevices};
-    ghost use Rattle.bus_trace.specs.Connections.{HasEnds};
 
     ghost Value = { Running };
 
     ghost view = { λ a. record { view = a.view; course = a.course } };
-
-    ghost invariant = { λ a. HasDevices a.course.call × HasEnds a.course.connection };
 }
 
 fn other_drives(view: &LineView, dev: Dev, other: Dev) -> bool
@@ -67,26 +59,25 @@ fn others_in_call(view: &LineView, call: Option<Call>) -> bool
 {
     match call {
         None => false,
-        Some(call) => others_drive(view, call.caller),
+        Some(call) => others_drive(view, call.caller.get()),
     }
 }
 
 // Since when the ID of the called device stands as it does.
 fn id_since(view: &LineView, call: Option<Call>) -> Ns
-    requires { HasDevices call }
     ensures { (rows : List Row) → IsViewOf rows view.now → result ≡ id_since rows call }
 {
     match call {
         None => 0,
         Some(call) => match call.calling {
             None => 0,
-            Some(calling) => view.since(calling.called),
+            Some(calling) => view.since(calling.called.get()),
         },
     }
 }
 
 // The initiator of the connection, or of a reselection that is not one yet.
-fn initiator_of(call: Option<Call>, connection: Option<Connection>) -> Option<Dev>
+fn initiator_of(call: Option<Call>, connection: Option<Connection>) -> Option<ScsiId>
     ensures { result ≡ initiator_of call connection }
 {
     if let Some(connection) = connection {
@@ -102,39 +93,32 @@ fn initiator_of(call: Option<Call>, connection: Option<Connection>) -> Option<De
 
 /// Whether the initiator drives BSY.
 pub fn initiator_bsy(view: &LineView, call: Option<Call>, connection: Option<Connection>) -> bool
-    requires devices { HasDevices call }
-    requires ends { HasEnds connection }
-    ensures value { result ≡ drives_bsy (driven_at view.now.driven) (initiator_of call connection) }
-    ensures trace { (rows : List Row) → IsViewOf rows view.now
+    ensures { (rows : List Row) → IsViewOf rows view.now
         → result ≡ drives_bsy (drives rows) (initiator_of call connection) }
 {
     match initiator_of(call, connection) {
         None => false,
-        Some(dev) => view.drives(dev).bsy(),
+        Some(initiator) => view.drives(initiator.get()).bsy(),
     }
 }
 
 /// Whether the initiator of the connection drives data lines.
 pub fn initiator_data(view: &LineView, connection: Option<Connection>) -> bool
-    requires { HasEnds connection }
-    ensures value { result ≡ initiator_data (driven_at view.now.driven) connection }
-    ensures trace { (rows : List Row) → IsViewOf rows view.now → result ≡ initiator_data (drives rows) connection }
+    ensures { (rows : List Row) → IsViewOf rows view.now → result ≡ initiator_data (drives rows) connection }
 {
     match connection {
         None => false,
-        Some(connection) => drives_data(view.drives(connection.initiator)),
+        Some(connection) => drives_data(view.drives(connection.initiator.get())),
     }
 }
 
 /// Whether the target of the connection drives data lines.
 pub fn target_data(view: &LineView, connection: Option<Connection>) -> bool
-    requires { HasEnds connection }
-    ensures value { result ≡ target_data (driven_at view.now.driven) connection }
-    ensures trace { (rows : List Row) → IsViewOf rows view.now → result ≡ target_data (drives rows) connection }
+    ensures { (rows : List Row) → IsViewOf rows view.now → result ≡ target_data (drives rows) connection }
 {
     match connection {
         None => false,
-        Some(connection) => drives_data(view.drives(connection.target)),
+        Some(connection) => drives_data(view.drives(connection.target.get())),
     }
 }
 
@@ -200,8 +184,6 @@ impl Terms {
         requires { row.now.dev < 8 }
         ensures kept { (rows : List Row) → IsTermsOf rows self.old → IsTermsOf (row.now ∷ rows) self.new }
         ensures seen { (rows : List Row) → IsTermsOf rows self.old → result ≡ seen rows row.now }
-        ensures devices { HasDevices result.call }
-        ensures ends { HasEnds result.connection }
     {
         let before = self.view.bus();
         let own = self.view.drives(row.dev);
@@ -229,13 +211,9 @@ impl Terms {
 
 // What a row of this device meets that changes this.
 fn met(view: &LineView, course: &Course, dev: Dev, change: Change) -> Seen
-    requires device { dev < 8 }
-    requires devices { HasDevices course.now.call }
-    requires ends { HasEnds course.now.connection }
-    ensures exact { (rows : List Row) → IsViewOf rows view.now → IsCourseOf rows course.now
+    requires { dev < 8 }
+    ensures { (rows : List Row) → IsViewOf rows view.now → IsCourseOf rows course.now
         → result ≡ seen_with rows dev change Reading.NoMessage }
-    ensures devices { HasDevices result.call }
-    ensures ends { HasEnds result.connection }
 {
     Seen {
         change,

@@ -15,7 +15,7 @@ use bus_trace::{
 pub fn crosses(seen: &Seen) -> bool
     ensures { result ≡ crosses seen.now }
 {
-    receiver_of(seen.connection, &seen.change).is_some()
+    receiver_of(&seen.connection, &seen.change).is_some()
 }
 
 /// Rule 17: the data lines of a byte that crosses have odd parity.

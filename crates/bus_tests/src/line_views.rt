@@ -115,10 +115,18 @@ fn view_of_a_selection(rt: HostRuntime) {
         return;
     };
     assert_eq!(rt;
-        (connection.initiator, connection.target, connection.began),
+        (
+            connection.initiator.get(),
+            connection.target.get(),
+            connection.began
+        ),
         (7u8, 0u8, 5380u64)
     );
-    assert_eq!(rt; view.effect().receiver, Some(0u8));
+    let Some(receiver) = view.effect().receiver else {
+        assert!(rt; false);
+        return;
+    };
+    assert_eq!(rt; receiver.get(), 0u8);
     let handshakes = view.handshakes();
     assert_eq!(rt;
         (

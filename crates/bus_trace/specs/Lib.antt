@@ -6,6 +6,4 @@ pub mod Agreements
 pub mod OfTrace
 pub mod Changes
 pub mod Terms
-pub mod Calls
-pub mod Connections
 pub mod Phases

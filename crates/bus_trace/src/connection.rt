@@ -1,33 +1,28 @@
 //! Connections, and the bytes that cross in them (ANSI X3.131-1994, 6.1.3 to 6.1.5).
-ghost use Rattle.std.specs.Prelude.{◌≡◌, ◌<◌};
-ghost use Rattle.bus_trace.specs.Terms.{connected, connected_by, connected_of, connection_of, connection_after, receiver_in, receiver_of};
-ghost use Rattle.bus_trace.specs.Calls.{HasDevices, IsCalled};
-ghost use Rattle.bus_trace.specs.Connections.{HasEnds};
+ghost use Rattle.std.specs.Prelude.{◌≡◌};
+ghost use Rattle.bus_trace.specs.Terms.{connected, connection_of, connection_after, receiver_in, receiver_of};
 
 use crate::changes::{Change, falls, rises};
 use crate::rows::Row;
+use crate::scsi_id::ScsiId;
 use crate::selection::{Call, Calling};
-use bus_base::{Dev, Ns};
+use bus_base::Ns;
 
 /// A connection that stands.
 #[derive(Clone, Copy, Debug)]
 pub struct Connection {
     /// Its initiator.
-    pub initiator: Dev,
+    pub initiator: ScsiId,
     /// Its target.
-    pub target: Dev,
+    pub target: ScsiId,
     /// The time of the row in which it began, in ns.
     pub began: Ns,
     /// Whether a reselection began it.
     pub reselected: bool,
 }
 
-fn connected(caller: Dev, calling: Calling, time: Ns) -> Connection
-    requires caller { caller < 8 }
-    requires called { calling.called < 8 }
-    ensures exact { result ≡ connected caller calling time }
-    ensures initiator { result.initiator < 8 }
-    ensures target { result.target < 8 }
+fn connected(caller: ScsiId, calling: Calling, time: Ns) -> Connection
+    ensures { result ≡ connected caller calling time }
 {
     let (initiator, target) = if calling.reselects {
         (calling.called, caller)
@@ -43,9 +38,7 @@ fn connected(caller: Dev, calling: Calling, time: Ns) -> Connection
 }
 
 fn connection_of(call: Option<Call>, time: Ns) -> Option<Connection>
-    requires { HasDevices call }
-    ensures exact { result ≡ connection_of call time }
-    ensures ends { HasEnds result }
+    ensures { result ≡ connection_of call time }
 {
     let call = call?;
     let calling = call.calling?;
@@ -60,10 +53,7 @@ pub fn connection_after(
     change: &Change,
     row: &Row,
 ) -> Option<Connection>
-    requires devices { HasDevices call }
-    requires ends { HasEnds old }
-    ensures exact { result ≡ connection_after old call change.now row.now }
-    ensures ends { HasEnds result }
+    ensures { result ≡ connection_after old call change.now row.now }
 {
     match old {
         None => {
@@ -84,8 +74,8 @@ pub fn connection_after(
     }
 }
 
-fn receiver_in(connection: Connection, change: &Change) -> Option<Dev>
-    ensures { result ≡ receiver_in connection change.now }
+fn receiver_in(connection: &Connection, change: &Change) -> Option<ScsiId>
+    ensures { result ≡ receiver_in connection.now change.now }
 {
     let (before, after) = (change.before, change.after);
     if before.io() {
@@ -102,8 +92,8 @@ fn receiver_in(connection: Connection, change: &Change) -> Option<Dev>
 }
 
 /// The device that receives the byte that crosses in a row, if one does.
-pub fn receiver_of(connection: Option<Connection>, change: &Change) -> Option<Dev>
-    ensures { result ≡ receiver_of connection change.now }
+pub fn receiver_of(connection: &Option<Connection>, change: &Change) -> Option<ScsiId>
+    ensures { result ≡ receiver_of connection.now change.now }
 {
     match connection {
         None => None,

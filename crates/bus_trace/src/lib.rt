@@ -26,6 +26,7 @@ mod line_times;
 mod line_view;
 mod phases;
 mod rows;
+mod scsi_id;
 mod selection;
 
 pub use agreements::{
@@ -52,4 +53,5 @@ pub use line_times::LineTimes;
 pub use line_view::LineView;
 pub use phases::{changes_phase, is_command, is_data, is_message_in, is_message_out, is_reserved};
 pub use rows::{Kind, Row};
+pub use scsi_id::ScsiId;
 pub use selection::{Call, Calling, call_after, drives_two_ids, is_fault, when};

@@ -1,18 +1,18 @@
 //! Selection and reselection (ANSI X3.131-1994, 6.1.3 and 6.1.4).
-ghost use Rattle.std.specs.Prelude.{◌≡◌, ◌<◌, IfSome};
+ghost use Rattle.std.specs.Prelude.{◌≡◌, ◌<◌};
 ghost use Rattle.bus_trace.specs.Terms.{is_fault, drives_two_ids, is_other_id, other_id, new_calling, when, caller_goes_on, called_goes_on, calling_after, call_goes_on, call_after};
-ghost use Rattle.bus_trace.specs.Calls.{HasDevices, IsCalled};
 
 use crate::changes::{Change, falls, rises};
 use crate::line_set::Lines;
 use crate::rows::{Kind, Row};
+use crate::scsi_id::ScsiId;
 use bus_base::{Dev, Ns};
 
 /// The caller's row that drives two IDs, and what came of it. Times are in ns.
 #[derive(Clone, Copy, Debug)]
 pub struct Calling {
     /// The device that is called.
-    pub called: Dev,
+    pub called: ScsiId,
     /// Whether the caller reselects: I/O is true in the calling.
     pub reselects: bool,
     /// The time of the calling.
@@ -33,7 +33,7 @@ pub struct Calling {
 #[derive(Clone, Copy, Debug)]
 pub struct Call {
     /// The device whose row raised SEL.
-    pub caller: Dev,
+    pub caller: ScsiId,
     /// When SEL rose, in ns.
     pub at: Ns,
     /// The calling, once it has come.
@@ -51,47 +51,44 @@ pub fn is_fault(kind: Kind) -> bool
 }
 
 /// Whether two IDs are on the data lines, of which one is this device's.
-pub fn drives_two_ids(caller: Dev, lines: Lines) -> bool
-    requires { caller < 8 }
+pub fn drives_two_ids(caller: ScsiId, lines: Lines) -> bool
     ensures { result ≡ drives_two_ids caller lines }
 {
-    lines.number_of_ids() == 2 && lines.has_id(caller)
+    lines.number_of_ids() == 2 && lines.has_id(caller.get())
 }
 
-fn is_other_id(lines: Lines, own: Dev, dev: Dev) -> bool
+fn is_other_id(lines: Lines, own: ScsiId, dev: Dev) -> bool
     requires { dev < 8 }
     ensures { result ≡ is_other_id lines own dev }
 {
-    dev != own && lines.has_id(dev)
+    dev != own.get() && lines.has_id(dev)
 }
 
 // The lowest ID on the data lines but this one.
-fn other_id(lines: Lines, own: Dev) -> Dev
-    ensures exact { result ≡ other_id lines own }
-    ensures device { result < 8 }
+fn other_id(lines: Lines, own: ScsiId) -> ScsiId
+    ensures { result ≡ other_id lines own }
 {
     if is_other_id(lines, own, 0) {
-        0
+        ScsiId::new(0)
     } else if is_other_id(lines, own, 1) {
-        1
+        ScsiId::new(1)
     } else if is_other_id(lines, own, 2) {
-        2
+        ScsiId::new(2)
     } else if is_other_id(lines, own, 3) {
-        3
+        ScsiId::new(3)
     } else if is_other_id(lines, own, 4) {
-        4
+        ScsiId::new(4)
     } else if is_other_id(lines, own, 5) {
-        5
+        ScsiId::new(5)
     } else if is_other_id(lines, own, 6) {
-        6
+        ScsiId::new(6)
     } else {
-        7
+        ScsiId::new(7)
     }
 }
 
-fn new_calling(caller: Dev, lines: Lines, time: Ns) -> Calling
-    ensures exact { result ≡ new_calling caller lines time }
-    ensures device { result.called < 8 }
+fn new_calling(caller: ScsiId, lines: Lines, time: Ns) -> Calling
+    ensures { result ≡ new_calling caller lines time }
 {
     Calling {
         called: other_id(lines, caller),
@@ -113,8 +110,7 @@ pub fn when(now: bool, time: Ns, was: Option<Ns>) -> Option<Ns>
 }
 
 fn caller_goes_on(old: Calling, change: &Change, time: Ns) -> Calling
-    ensures exact { result ≡ caller_goes_on old change.now time }
-    ensures called { result.called ≡ old.called }
+    ensures { result ≡ caller_goes_on old change.now time }
 {
     let (own, next) = (change.own, change.next);
     let withdraws = own.data_bits() != 0 && next.data_bits() == 0;
@@ -127,8 +123,7 @@ fn caller_goes_on(old: Calling, change: &Change, time: Ns) -> Calling
 }
 
 fn called_goes_on(old: Calling, change: &Change, row: &Row) -> Calling
-    ensures exact { result ≡ called_goes_on old change.now row.now }
-    ensures called { result.called ≡ old.called }
+    ensures { result ≡ called_goes_on old change.now row.now }
 {
     Calling {
         answered: when(
@@ -141,23 +136,26 @@ fn called_goes_on(old: Calling, change: &Change, row: &Row) -> Calling
     }
 }
 
-fn calling_after(caller: Dev, old: Option<Calling>, change: &Change, row: &Row) -> Option<Calling>
-    requires { caller < 8 }
-    ensures exact { result ≡ calling_after caller old change.now row.now }
-    ensures device { IsCalled old → IsCalled result }
+fn calling_after(
+    caller: ScsiId,
+    old: Option<Calling>,
+    change: &Change,
+    row: &Row,
+) -> Option<Calling>
+    ensures { result ≡ calling_after caller old change.now row.now }
 {
     match old {
         None => {
-            if row.dev == caller && drives_two_ids(caller, change.next) {
+            if row.dev == caller.get() && drives_two_ids(caller, change.next) {
                 Some(new_calling(caller, change.next, row.time))
             } else {
                 None
             }
         }
         Some(calling) => {
-            if row.dev == caller {
+            if row.dev == caller.get() {
                 Some(caller_goes_on(calling, change, row.time))
-            } else if row.dev == calling.called {
+            } else if row.dev == calling.called.get() {
                 Some(called_goes_on(calling, change, row))
             } else {
                 Some(calling)
@@ -167,9 +165,7 @@ fn calling_after(caller: Dev, old: Option<Calling>, change: &Change, row: &Row) 
 }
 
 fn call_goes_on(old: Option<Call>, change: &Change, row: &Row) -> Option<Call>
-    requires { HasDevices old }
-    ensures exact { result ≡ call_goes_on old change.now row.now }
-    ensures devices { HasDevices result }
+    ensures { result ≡ call_goes_on old change.now row.now }
 {
     let call = old?;
     Some(Call {
@@ -180,16 +176,14 @@ fn call_goes_on(old: Option<Call>, change: &Change, row: &Row) -> Option<Call>
 
 /// The call after a row.
 pub fn call_after(old: Option<Call>, change: &Change, row: &Row) -> Option<Call>
-    requires devices { HasDevices old }
-    requires device { row.now.dev < 8 }
-    ensures exact { result ≡ call_after old change.now row.now }
-    ensures devices { HasDevices result }
+    requires { row.now.dev < 8 }
+    ensures { result ≡ call_after old change.now row.now }
 {
     if !change.after.sel() {
         None
     } else if rises(change.before.sel(), change.after.sel()) {
         Some(Call {
-            caller: row.dev,
+            caller: ScsiId::new(row.dev),
             at: row.time,
             calling: None,
         })

@@ -64,7 +64,7 @@ pub fn called_due(
     let Some(calling) = calling else {
         return loser_release(me, sel);
     };
-    if calling.called != me.dev {
+    if calling.called.get() != me.dev {
         loser_release(me, sel)
     } else if is_called(calling) {
         answer(me, bsy, flip)

@@ -30,7 +30,7 @@ fn calling_due(
     requires calling { IsCallingBefore time_limit call.now.calling }
     ensures { result ≡ calling_due bsy sel me.now want.now flip call.now }
 {
-    if call.caller == me.dev {
+    if call.caller.get() == me.dev {
         return caller_due(me, want, &call.calling);
     }
     called_due(me, bsy, sel, flip, &call.calling)
@@ -49,9 +49,9 @@ fn answer_due(
     requires answered { answered < time_limit }
     ensures { result ≡ answer_due sel me.now want.now call.now calling.now answered }
 {
-    if call.caller == me.dev {
+    if call.caller.get() == me.dev {
         answered_due(me, want, calling, answered)
-    } else if calling.called == me.dev {
+    } else if calling.called.get() == me.dev {
         None
     } else {
         loser_release(me, sel)

@@ -9,7 +9,7 @@ ghost use Rattle.connect.specs.declared.states.Link.TheVariants as in_state;
 use crate::device::Device;
 use bus_base::{Dev, Ns};
 use bus_reactions::{Myself, Want};
-use bus_trace::Lines;
+use bus_trace::{Lines, ScsiId};
 
 /// It wants nothing, and has no part in a call or a connection. It drives nothing, but what it has still to release
 /// where RST cut its connection.
@@ -53,7 +53,7 @@ pub struct Answering {
 #[derive(Debug, Drop)]
 pub struct Linked {
     pub(crate) device: Device,
-    pub(crate) peer: Dev,
+    pub(crate) peer: ScsiId,
     pub(crate) is_target: bool,
 }
 
@@ -140,9 +140,10 @@ impl Waiting {
 impl Linked {
     /// The other end.
     pub fn peer(&self) -> Dev
-        ensures { result ≡ self.now.peer }
+        ensures exact { result ≡ self.now.peer }
+        ensures device { result < 8 }
     {
-        self.peer
+        self.peer.get()
     }
 
     /// Whether it is the target.

@@ -23,11 +23,11 @@ use bus_trace::{Calling, Kind, Lines};
 
 // ---- what is due
 
-fn still_drives_bsy(me: &Myself, stage: Stage) -> bool
-    ensures { result ≡ still_drives_bsy me.now stage }
+fn still_drives_bsy(me: &Myself, stage: &Stage) -> bool
+    ensures { result ≡ still_drives_bsy me.now stage.now }
 {
     match stage {
-        Stage::InConnection(connection) => connection.initiator == me.dev && me.own.bsy(),
+        Stage::InConnection(connection) => connection.initiator.get() == me.dev && me.own.bsy(),
         _ => false,
     }
 }
@@ -51,7 +51,7 @@ fn step_due(view: &BusView, me: &Myself, want: &Want, flip: Option<u8>) -> Optio
     requires since { IsBefore time_limit want.now.since }
     ensures { (rows : List Row) → IsBusViewOf rows view.now → result ≡ step_due (sight rows) me.now want.now flip }
 {
-    let drives_bsy = still_drives_bsy(me, view.stage());
+    let drives_bsy = still_drives_bsy(me, &view.stage());
     let release = bsy_release(drives_bsy, me, view.lines().times().sel);
     earlier_due(link_due(view, me, want, flip), release)
 }
@@ -69,12 +69,12 @@ fn due_of(link: &Link, view: &BusView, flip: Option<u8>) -> Option<Due>
 
 // ---- the row that is made now, or the time of a later one
 
-fn ends_reselection(me: &Myself, stage: Stage) -> bool
-    ensures { result ≡ ends_reselection me.now stage }
+fn ends_reselection(me: &Myself, stage: &Stage) -> bool
+    ensures { result ≡ ends_reselection me.now stage.now }
 {
     match stage {
         Stage::InAnswer(call, calling, _) => {
-            call.caller == me.dev && calling.reselects && calling.resumed.is_some()
+            call.caller.get() == me.dev && calling.reselects && calling.resumed.is_some()
         }
         _ => false,
     }
@@ -124,15 +124,15 @@ fn is_called_by(me: &Myself, calling: &Option<Calling>) -> bool
 {
     match calling {
         None => false,
-        Some(calling) => calling.called == me.dev && is_called(calling),
+        Some(calling) => calling.called.get() == me.dev && is_called(calling),
     }
 }
 
-fn is_asked(me: &Myself, stage: Stage) -> bool
-    ensures { result ≡ is_asked me.now stage }
+fn is_asked(me: &Myself, stage: &Stage) -> bool
+    ensures { result ≡ is_asked me.now stage.now }
 {
     match stage {
-        Stage::InCalling(call) => call.caller != me.dev && is_called_by(me, &call.calling),
+        Stage::InCalling(call) => call.caller.get() != me.dev && is_called_by(me, &call.calling),
         _ => false,
     }
 }
@@ -142,7 +142,7 @@ fn is_sampling(link: &Link, view: &BusView, now: Ns) -> bool
     ensures { (rows : List Row) → IsBusViewOf rows view.now → result ≡ is_sampling (sight rows) (myself link.now) now }
 {
     let me = link.myself();
-    let asked = is_asked(&me, view.stage());
+    let asked = is_asked(&me, &view.stage());
     asked && sample_time(view, &me) <= now
 }
 
@@ -154,7 +154,7 @@ fn step_by(link: Link, stage: Stage, now: Ns, due: Option<Due>, sampled: bool) -
     ensures { result ≡ step_by link stage now due sampled }
 {
     let me = link.myself();
-    let drives = lines_now(ends_reselection(&me, stage), now, &due);
+    let drives = lines_now(ends_reselection(&me, &stage), now, &due);
     Step {
         next: next_link(link, now, stage, &drives),
         drives,

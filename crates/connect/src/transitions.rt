@@ -6,11 +6,11 @@ ghost use Rattle.connect.specs.Links.{device_of, myself, linked_state, link_apar
 
 use crate::device::Device;
 use crate::states::{Answering, Calling, Contending, Idle, Link, Linked, Waiting, Won};
-use bus_base::{Dev, Ns};
+use bus_base::Ns;
 use bus_lines::Stage;
-use bus_trace::{Connection, Lines};
+use bus_trace::{Connection, Lines, ScsiId};
 
-fn linked_state(device: Device, peer: Dev, is_target: bool) -> Link
+fn linked_state(device: Device, peer: ScsiId, is_target: bool) -> Link
     ensures { result ≡ linked_state device peer is_target }
 {
     Link::Linked(Linked {
@@ -52,9 +52,9 @@ fn link_in_connection(own: Lines, link: Link, connection: Connection) -> Link
     ensures { result ≡ link_in_connection own link connection }
 {
     let dev = link.myself().dev;
-    if connection.initiator == dev {
+    if connection.initiator.get() == dev {
         linked_state(link.into_device().driving(own), connection.target, false)
-    } else if connection.target == dev {
+    } else if connection.target.get() == dev {
         linked_state(link.into_device().driving(own), connection.initiator, true)
     } else {
         link_apart(own, link)
@@ -94,7 +94,7 @@ fn driving_link(contends: bool, device: Device, stage: Stage) -> Link
             }
         }
         Stage::InCalling(call) => {
-            if call.caller == device.myself().dev {
+            if call.caller.get() == device.myself().dev {
                 Link::Calling(Calling { device })
             } else {
                 Link::Answering(Answering { device })

@@ -3,3 +3,4 @@ pub mod Crossings
 pub mod Steps
 pub mod Telling
 pub mod Early
+pub mod Situation

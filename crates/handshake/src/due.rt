@@ -1,5 +1,5 @@
 // What an end of a connection does next, by the view of the bus.
-ghost use Rattle.std.specs.Prelude.{ℕ, ◌≡◌, ◌^◌, List};
+ghost use Rattle.std.specs.Prelude.{◌≡◌, ◌^◌, List};
 ghost use Rattle.bus_trace.specs.declared.rows.Row.{Row};
 ghost use Rattle.bus_trace.specs.Trace.{last_time};
 ghost use Rattle.bus_lines.specs.Handshakes.{handshakes};
@@ -7,32 +7,22 @@ ghost use Rattle.bus_lines.specs.BusView.{IsBusViewOf};
 ghost use Rattle.bus_lines.specs.Timely.{IsTimely};
 ghost use Rattle.bus_reactions.specs.Sight.{sight};
 ghost use Rattle.bus_reactions.specs.Ends.{plain_due, hand_due};
-ghost use Rattle.handshake.specs.Bounds.{IsSeen, IsTimed, IsReady, IsSteady, IsHandBefore};
+ghost use Rattle.handshake.specs.Bounds.{IsReady, IsSteady, IsHandBefore};
 
-use crate::initiator::initiator_due;
-use crate::target::target_due;
-use bus_lines::{BusView, Handshakes};
-use bus_reactions::{Due, Hand, Myself, Pace, Sight, sight_of};
+use crate::initiator::initiator_due_at;
+use crate::situation::Situation;
+use crate::target::target_due_at;
+use bus_lines::BusView;
+use bus_reactions::{Due, Hand, Myself, Pace, sight_of};
 use bus_trace::Kind;
 
-fn plain_due(
-    begun: bool,
-    view: &Sight,
-    account: &Handshakes,
-    me: &Myself,
-    pace: &Pace,
-    hand: &Hand,
-) -> Option<Due>
-    requires seen { IsSeen view.now }
-    requires timed { IsTimed account.now }
-    requires ready { IsReady me.now }
-    requires steady { IsSteady pace.now }
-    requires hand { IsHandBefore hand.now }
-    ensures { result ≡ plain_due begun view.now account.now me.now pace.now hand.now }
+fn plain_due(begun: bool, at: &Situation<'_>, hand: &Hand) -> Option<Due>
+    requires { IsHandBefore hand.now }
+    ensures { result ≡ plain_due begun at.now.view at.now.handshakes at.now.me at.now.pace hand.now }
 {
     match hand {
-        Hand::Initiator(answering) => initiator_due(begun, view, account, me, pace, answering),
-        Hand::Target(offering) => target_due(begun, view, account, me, pace, offering),
+        Hand::Initiator(answering) => initiator_due_at(begun, at, answering),
+        Hand::Target(offering) => target_due_at(begun, at, offering),
     }
 }
 
@@ -61,5 +51,11 @@ pub fn hand_due(
         });
     }
     let seen = sight_of(view);
-    plain_due(begun, &seen, view.handshakes(), me, pace, hand)
+    let at = Situation {
+        view: &seen,
+        handshakes: view.handshakes(),
+        me,
+        pace,
+    };
+    plain_due(begun, &at, hand)
 }

@@ -5,6 +5,7 @@ ghost use Rattle.bus_reactions.specs.Initiator.{ack_lines, received_byte_ack, ro
 ghost use Rattle.bus_reactions.specs.Ends.{bsy_release, owes_release, initiator_due};
 ghost use Rattle.handshake.specs.Bounds.{IsSeen, IsTimed, IsReady, IsSteady};
 
+use crate::situation::Situation;
 use crate::target::{due_at, has_byte_if};
 use bus_base::Ns;
 use bus_lines::Handshakes;
@@ -24,37 +25,31 @@ fn ack_lines(speaks: bool, own: Lines) -> Lines
     }
 }
 
-fn received_byte_ack(
-    view: &Sight,
-    handshakes: &Handshakes,
-    me: &Myself,
-    answering: &Answering,
-) -> Option<Due>
-    requires seen { IsSeen view.now }
-    requires ready { IsReady me.now }
-    ensures { result ≡ received_byte_ack view.now handshakes.now me.now answering.now }
+fn received_byte_ack(at: &Situation<'_>, answering: &Answering) -> Option<Due>
+    ensures { result ≡ received_byte_ack at.now.view at.now.handshakes at.now.me answering.now }
 {
-    let speaks = handshakes.is_struck() || answering.speaks;
-    due_at(view.ages.req + me.latency, ack_lines(speaks, me.own))
+    let speaks = at.handshakes.is_struck() || answering.speaks;
+    due_at(
+        at.view.ages.req + at.me.latency,
+        ack_lines(speaks, at.me.own),
+    )
 }
 
-fn rose_with_ack(view: &Sight, me: &Myself) -> bool
-    ensures { result ≡ rose_with_ack view.now me.now }
+fn rose_with_ack(at: &Situation<'_>) -> bool
+    ensures { result ≡ rose_with_ack at.now.view at.now.me }
 {
-    me.own.atn() && view.ages.atn == view.ages.ack
+    at.me.own.atn() && at.view.ages.atn == at.view.ages.ack
 }
 
-fn ack_negation(view: &Sight, me: &Myself) -> Option<Due>
-    requires seen { IsSeen view.now }
-    requires ready { IsReady me.now }
-    ensures { result ≡ ack_negation view.now me.now }
+fn ack_negation(at: &Situation<'_>) -> Option<Due>
+    ensures { result ≡ ack_negation at.now.view at.now.me }
 {
-    let from = if rose_with_ack(view, me) {
-        view.ages.req.max(view.ages.ack + TWO_DESKEW)
+    let from = if rose_with_ack(at) {
+        at.view.ages.req.max(at.view.ages.ack + TWO_DESKEW)
     } else {
-        view.ages.req
+        at.view.ages.req
     };
-    due_at(from + me.latency, me.own.without_ack().without_data())
+    due_at(from + at.me.latency, at.me.own.without_ack().without_data())
 }
 
 // ---- it gives a byte (6.1.5.1, 6.1.9)
@@ -80,88 +75,70 @@ fn out_lines(byte: u8, attention: bool) -> Lines
     }
 }
 
-fn initiator_byte(view: &Sight, me: &Myself, answering: &Answering) -> Option<Due>
-    requires seen { IsSeen view.now }
-    requires ready { IsReady me.now }
-    ensures { result ≡ initiator_byte view.now me.now answering.now }
+fn initiator_byte(at: &Situation<'_>, answering: &Answering) -> Option<Due>
+    ensures { result ≡ initiator_byte at.now.view at.now.me answering.now }
 {
-    let attention = attends_by(view.bus, answering.attends, me.own.atn());
+    let attention = attends_by(at.view.bus, answering.attends, at.me.own.atn());
     due_at(
-        view.ages.req + me.latency,
+        at.view.ages.req + at.me.latency,
         out_lines(answering.byte, attention),
     )
 }
 
-fn sent_byte_ack(view: &Sight, me: &Myself) -> Option<Due>
-    requires seen { IsSeen view.now }
-    requires ready { IsReady me.now }
-    ensures { result ≡ sent_byte_ack view.now me.now }
+fn sent_byte_ack(at: &Situation<'_>) -> Option<Due>
+    ensures { result ≡ sent_byte_ack at.now.view at.now.me }
 {
-    let byte = me.since + SET_UP_TIME;
-    let from = if is_message_out(view.bus) {
-        byte.max(view.ages.atn + TWO_DESKEW)
+    let byte = at.me.since + SET_UP_TIME;
+    let from = if is_message_out(at.view.bus) {
+        byte.max(at.view.ages.atn + TWO_DESKEW)
     } else {
         byte
     };
-    due_at(from + me.latency, Lines::ACK.with(me.own))
+    due_at(from + at.me.latency, Lines::ACK.with(at.me.own))
 }
 
-fn initiator_turn(
-    view: &Sight,
-    handshakes: &Handshakes,
-    me: &Myself,
-    answering: &Answering,
-) -> Option<Due>
-    requires seen { IsSeen view.now }
-    requires ready { IsReady me.now }
-    ensures { result ≡ initiator_turn view.now handshakes.now me.now answering.now }
+fn initiator_turn(at: &Situation<'_>, answering: &Answering) -> Option<Due>
+    ensures { result ≡ initiator_turn at.now.view at.now.handshakes at.now.me answering.now }
 {
-    if !view.bus.req() {
+    if !at.view.bus.req() {
         None
-    } else if view.bus.io() {
-        received_byte_ack(view, handshakes, me, answering)
-    } else if me.own.data_bits() == 0 {
-        initiator_byte(view, me, answering)
+    } else if at.view.bus.io() {
+        received_byte_ack(at, answering)
+    } else if at.me.own.data_bits() == 0 {
+        initiator_byte(at, answering)
     } else {
-        sent_byte_ack(view, me)
+        sent_byte_ack(at)
     }
 }
 
-fn initiator_handshake(
-    view: &Sight,
-    handshakes: &Handshakes,
-    me: &Myself,
-    answering: &Answering,
-) -> Option<Due>
-    requires seen { IsSeen view.now }
-    requires ready { IsReady me.now }
-    ensures { result ≡ initiator_handshake view.now handshakes.now me.now answering.now }
+fn initiator_handshake(at: &Situation<'_>, answering: &Answering) -> Option<Due>
+    ensures { result ≡ initiator_handshake at.now.view at.now.handshakes at.now.me answering.now }
 {
-    if me.own.ack() {
-        if view.bus.req() {
+    if at.me.own.ack() {
+        if at.view.bus.req() {
             None
         } else {
-            ack_negation(view, me)
+            ack_negation(at)
         }
     } else {
-        initiator_turn(view, handshakes, me, answering)
+        initiator_turn(at, answering)
     }
 }
 
 // ---- by pulses (6.1.5.2)
 
-fn ack_pulse_end(view: &Sight, me: &Myself, pace: &Pace) -> Option<Due>
-    requires seen { IsSeen view.now }
-    requires ready { IsReady me.now }
-    requires steady { IsSteady pace.now }
-    ensures { result ≡ ack_pulse_end view.now me.now pace.now }
+fn ack_pulse_end(at: &Situation<'_>) -> Option<Due>
+    ensures { result ≡ ack_pulse_end at.now.view at.now.me at.now.pace }
 {
-    let assertion = if rose_with_ack(view, me) {
-        TWO_DESKEW.max(pace.times.assertion)
+    let assertion = if rose_with_ack(at) {
+        TWO_DESKEW.max(at.pace.times.assertion)
     } else {
-        pace.times.assertion
+        at.pace.times.assertion
     };
-    due_at(view.ages.ack + assertion + me.latency, me.own.without_ack())
+    due_at(
+        at.view.ages.ack + assertion + at.me.latency,
+        at.me.own.without_ack(),
+    )
 }
 
 fn oldest_req_time(handshakes: &Handshakes) -> Ns
@@ -182,182 +159,140 @@ fn is_oldest_struck(handshakes: &Handshakes) -> bool
     }
 }
 
-fn next_ack_time(view: &Sight, handshakes: &Handshakes, pace: &Pace) -> Ns
-    requires seen { IsSeen view.now }
-    requires timed { IsTimed handshakes.now }
-    requires steady { IsSteady pace.now }
-    ensures exact { result ≡ next_ack_time view.now handshakes.now pace.now }
+fn next_ack_time(at: &Situation<'_>) -> Ns
+    ensures exact { result ≡ next_ack_time at.now.view at.now.handshakes at.now.pace }
     ensures small { result < 2 ^ 63 + 2 ^ 32 }
 {
-    if handshakes.is_answered() {
-        (handshakes.last_ack() + pace.times.period).max(view.ages.ack + pace.times.negation)
+    if at.handshakes.is_answered() {
+        (at.handshakes.last_ack() + at.pace.times.period).max(
+            at.view.ages.ack + at.pace.times.negation,
+        )
     } else {
         0
     }
 }
 
-fn ack_pulse_time(view: &Sight, handshakes: &Handshakes, pace: &Pace) -> Ns
-    requires seen { IsSeen view.now }
-    requires timed { IsTimed handshakes.now }
-    requires steady { IsSteady pace.now }
-    ensures exact { result ≡ ack_pulse_time view.now handshakes.now pace.now }
+fn ack_pulse_time(at: &Situation<'_>) -> Ns
+    ensures exact { result ≡ ack_pulse_time at.now.view at.now.handshakes at.now.pace }
     ensures small { result < 2 ^ 63 + 2 ^ 32 }
 {
-    let asked = oldest_req_time(handshakes) + pace.lag;
-    asked.max(next_ack_time(view, handshakes, pace))
+    let asked = oldest_req_time(at.handshakes) + at.pace.lag;
+    asked.max(next_ack_time(at))
 }
 
-fn received_byte_pulse(
-    view: &Sight,
-    handshakes: &Handshakes,
-    me: &Myself,
-    pace: &Pace,
-) -> Option<Due>
-    requires seen { IsSeen view.now }
-    requires timed { IsTimed handshakes.now }
-    requires ready { IsReady me.now }
-    requires steady { IsSteady pace.now }
-    ensures { result ≡ received_byte_pulse view.now handshakes.now me.now pace.now }
+fn received_byte_pulse(at: &Situation<'_>) -> Option<Due>
+    ensures { result ≡ received_byte_pulse at.now.view at.now.handshakes at.now.me at.now.pace }
 {
     due_at(
-        ack_pulse_time(view, handshakes, pace) + me.latency,
-        ack_lines(is_oldest_struck(handshakes), me.own),
+        ack_pulse_time(at) + at.me.latency,
+        ack_lines(is_oldest_struck(at.handshakes), at.me.own),
     )
 }
 
-fn byte_hold_end(me: &Myself, pace: &Pace, answering: &Answering) -> Ns
-    requires ready { IsReady me.now }
-    requires steady { IsSteady pace.now }
-    requires raised { answering.now.raised < 2 ^ 63 }
-    ensures exact { result ≡ byte_hold_end me.now pace.now answering.now }
+fn byte_hold_end(at: &Situation<'_>, answering: &Answering) -> Ns
+    requires { answering.now.raised < 2 ^ 63 }
+    ensures exact { result ≡ byte_hold_end at.now.me at.now.pace answering.now }
     ensures small { result < 2 ^ 63 + 2 ^ 34 }
 {
-    answering.raised + pace.times.hold + me.latency
+    answering.raised + at.pace.times.hold + at.me.latency
 }
 
-fn byte_time(handshakes: &Handshakes, me: &Myself, pace: &Pace, answering: &Answering) -> Ns
-    requires timed { IsTimed handshakes.now }
-    requires ready { IsReady me.now }
-    requires steady { IsSteady pace.now }
-    requires raised { answering.now.raised < 2 ^ 63 }
-    ensures exact { result ≡ byte_time handshakes.now me.now pace.now answering.now }
+fn byte_time(at: &Situation<'_>, answering: &Answering) -> Ns
+    requires { answering.now.raised < 2 ^ 63 }
+    ensures exact { result ≡ byte_time at.now.handshakes at.now.me at.now.pace answering.now }
     ensures small { result < 2 ^ 63 + 2 ^ 34 }
 {
-    let asked = oldest_req_time(handshakes) + me.latency;
-    if !handshakes.is_answered() {
+    let asked = oldest_req_time(at.handshakes) + at.me.latency;
+    if !at.handshakes.is_answered() {
         return asked;
     }
-    asked.max(byte_hold_end(me, pace, answering))
+    asked.max(byte_hold_end(at, answering))
 }
 
-fn pulsed_byte(
-    handshakes: &Handshakes,
-    me: &Myself,
-    pace: &Pace,
-    answering: &Answering,
-) -> Option<Due>
-    requires timed { IsTimed handshakes.now }
-    requires ready { IsReady me.now }
-    requires steady { IsSteady pace.now }
-    requires raised { answering.now.raised < 2 ^ 63 }
-    ensures { result ≡ pulsed_byte handshakes.now me.now pace.now answering.now }
+fn pulsed_byte(at: &Situation<'_>, answering: &Answering) -> Option<Due>
+    requires { answering.now.raised < 2 ^ 63 }
+    ensures { result ≡ pulsed_byte at.now.handshakes at.now.me at.now.pace answering.now }
 {
     due_at(
-        byte_time(handshakes, me, pace, answering),
-        me.own.with_byte(answering.byte),
+        byte_time(at, answering),
+        at.me.own.with_byte(answering.byte),
     )
 }
 
-fn sent_byte_pulse(
-    view: &Sight,
-    handshakes: &Handshakes,
-    me: &Myself,
-    pace: &Pace,
-    answering: &Answering,
-) -> Option<Due>
-    requires seen { IsSeen view.now }
-    requires timed { IsTimed handshakes.now }
-    requires ready { IsReady me.now }
-    requires steady { IsSteady pace.now }
-    requires raised { answering.now.raised < 2 ^ 63 }
-    ensures { result ≡ sent_byte_pulse view.now handshakes.now me.now pace.now answering.now }
+fn sent_byte_pulse(at: &Situation<'_>, answering: &Answering) -> Option<Due>
+    requires { answering.now.raised < 2 ^ 63 }
+    ensures { result ≡ sent_byte_pulse at.now.view at.now.handshakes at.now.me at.now.pace answering.now }
 {
-    let set_up = byte_time(handshakes, me, pace, answering) + pace.times.set_up;
+    let set_up = byte_time(at, answering) + at.pace.times.set_up;
     due_at(
-        ack_pulse_time(view, handshakes, pace).max(set_up) + me.latency,
-        Lines::ACK.with(me.own),
+        ack_pulse_time(at).max(set_up) + at.me.latency,
+        Lines::ACK.with(at.me.own),
     )
 }
 
-fn byte_release(me: &Myself, pace: &Pace, answering: &Answering) -> Option<Due>
-    requires ready { IsReady me.now }
-    requires steady { IsSteady pace.now }
-    requires raised { answering.now.raised < 2 ^ 63 }
-    ensures { result ≡ byte_release me.now pace.now answering.now }
+fn byte_release(at: &Situation<'_>, answering: &Answering) -> Option<Due>
+    requires { answering.now.raised < 2 ^ 63 }
+    ensures { result ≡ byte_release at.now.me at.now.pace answering.now }
 {
-    due_at(byte_hold_end(me, pace, answering), me.own.without_data())
+    due_at(byte_hold_end(at, answering), at.me.own.without_data())
 }
 
-fn ack_pulse(
-    view: &Sight,
-    handshakes: &Handshakes,
-    me: &Myself,
-    pace: &Pace,
-    answering: &Answering,
-) -> Option<Due>
-    requires seen { IsSeen view.now }
-    requires timed { IsTimed handshakes.now }
-    requires ready { IsReady me.now }
-    requires steady { IsSteady pace.now }
-    requires raised { answering.now.raised < 2 ^ 63 }
-    ensures { result ≡ ack_pulse view.now handshakes.now me.now pace.now answering.now }
+fn ack_pulse(at: &Situation<'_>, answering: &Answering) -> Option<Due>
+    requires { answering.now.raised < 2 ^ 63 }
+    ensures { result ≡ ack_pulse at.now.view at.now.handshakes at.now.me at.now.pace answering.now }
 {
-    if view.bus.io() {
-        received_byte_pulse(view, handshakes, me, pace)
-    } else if has_byte_if(me.own, true, answering.byte) {
-        sent_byte_pulse(view, handshakes, me, pace, answering)
+    if at.view.bus.io() {
+        received_byte_pulse(at)
+    } else if has_byte_if(at.me.own, true, answering.byte) {
+        sent_byte_pulse(at, answering)
     } else {
-        pulsed_byte(handshakes, me, pace, answering)
+        pulsed_byte(at, answering)
     }
 }
 
-fn initiator_pulse(
-    view: &Sight,
-    handshakes: &Handshakes,
-    me: &Myself,
-    pace: &Pace,
-    answering: &Answering,
-) -> Option<Due>
-    requires seen { IsSeen view.now }
-    requires timed { IsTimed handshakes.now }
-    requires ready { IsReady me.now }
-    requires steady { IsSteady pace.now }
-    requires raised { answering.now.raised < 2 ^ 63 }
-    ensures { result ≡ initiator_pulse view.now handshakes.now me.now pace.now answering.now }
+fn initiator_pulse(at: &Situation<'_>, answering: &Answering) -> Option<Due>
+    requires { answering.now.raised < 2 ^ 63 }
+    ensures { result ≡ initiator_pulse at.now.view at.now.handshakes at.now.me at.now.pace answering.now }
 {
-    if me.own.ack() {
-        ack_pulse_end(view, me, pace)
-    } else if handshakes.waiting() != 0 {
-        ack_pulse(view, handshakes, me, pace, answering)
-    } else if me.own.data_bits() == 0 {
+    if at.me.own.ack() {
+        ack_pulse_end(at)
+    } else if at.handshakes.waiting() != 0 {
+        ack_pulse(at, answering)
+    } else if at.me.own.data_bits() == 0 {
         None
     } else {
-        byte_release(me, pace, answering)
+        byte_release(at, answering)
     }
 }
 
-fn bsy_release(view: &Sight, me: &Myself) -> Option<Due>
-    requires seen { IsSeen view.now }
-    requires ready { IsReady me.now }
-    ensures { result ≡ bsy_release view.now me.now }
+fn bsy_release(at: &Situation<'_>) -> Option<Due>
+    ensures { result ≡ bsy_release at.now.view at.now.me }
 {
-    due_at(view.ages.sel + me.latency, me.own.without_bsy())
+    due_at(at.view.ages.sel + at.me.latency, at.me.own.without_bsy())
 }
 
-fn owes_release(view: &Sight, me: &Myself) -> bool
-    ensures { result ≡ owes_release view.now me.now }
+fn owes_release(at: &Situation<'_>) -> bool
+    ensures { result ≡ owes_release at.now.view at.now.me }
 {
-    view.bus.io() && me.own.data_bits() != 0
+    at.view.bus.io() && at.me.own.data_bits() != 0
+}
+
+/// The same as [`initiator_due`].
+pub fn initiator_due_at(begun: bool, at: &Situation<'_>, answering: &Answering) -> Option<Due>
+    requires { answering.now.raised < 2 ^ 63 }
+    ensures { result ≡ initiator_due begun at.now.view at.now.handshakes at.now.me at.now.pace answering.now }
+{
+    if at.me.own.bsy() {
+        bsy_release(at)
+    } else if !begun {
+        None
+    } else if at.pace.pulsed {
+        initiator_pulse(at, answering)
+    } else if owes_release(at) {
+        byte_release(at, answering)
+    } else {
+        initiator_handshake(at, answering)
+    }
 }
 
 /// What the initiator of a connection does next (6.1.4, 6.1.5, 6.2.1): nothing where it waits. `begun` says that the
@@ -377,15 +312,11 @@ pub fn initiator_due(
     requires raised { answering.now.raised < 2 ^ 63 }
     ensures { result ≡ initiator_due begun view.now handshakes.now me.now pace.now answering.now }
 {
-    if me.own.bsy() {
-        bsy_release(view, me)
-    } else if !begun {
-        None
-    } else if pace.pulsed {
-        initiator_pulse(view, handshakes, me, pace, answering)
-    } else if owes_release(view, me) {
-        byte_release(me, pace, answering)
-    } else {
-        initiator_handshake(view, handshakes, me, answering)
-    }
+    let at = Situation {
+        view,
+        handshakes,
+        me,
+        pace,
+    };
+    initiator_due_at(begun, &at, answering)
 }

@@ -20,6 +20,7 @@ mod hand;
 mod hosts;
 mod initiator;
 mod laws;
+mod situation;
 mod steps;
 mod target;
 mod targets;

@@ -1,69 +1,53 @@
 // What a step makes of the reaction that is next.
-ghost use Rattle.std.specs.Prelude.{ℕ, ◌≡◌, ◌<◌, ◌≤◌, ◌^◌, List, Option};
+ghost use Rattle.std.specs.Prelude.{◌≡◌, ◌<◌, ◌≤◌, ◌^◌, List, Option};
 ghost use Rattle.std.specs.Option.{ForSome};
 ghost use Rattle.bus_trace.specs.declared.rows.Row.{Row};
 ghost use Rattle.bus_lines.specs.BusView.{IsBusViewOf};
 ghost use Rattle.bus_lines.specs.Timely.{IsTimely};
 ghost use Rattle.bus_trace.specs.Terms.{connection};
 ghost use Rattle.bus_reactions.specs.Sight.{sight};
-ghost use Rattle.handshake.specs.Bounds.{IsSeen, IsTimed, IsReady, IsSteady};
+ghost use Rattle.handshake.specs.Bounds.{IsSeen, IsTimed, IsSteady};
 ghost use Rattle.handshake.specs.Steps as steps;
 
 use crate::crossings::{crossings, untold_crossing};
 use crate::end_state::{EndState, answering_by, offering_by, self_of};
 use crate::hand::{Crossed, Hand};
-use crate::initiator::initiator_due;
-use crate::target::{last_hold_end, target_due};
+use crate::initiator::initiator_due_at;
+use crate::situation::Situation;
+use crate::target::{last_hold_end, target_due_at};
 use bitflags::Flags;
 use bus_base::Ns;
 use bus_lines::{BusView, Handshakes};
-use bus_reactions::{Due, Myself, Pace, Sight, sight_of};
+use bus_reactions::{Due, Pace, Sight, sight_of};
 use bus_trace::{Kind, Lines, rises};
 
 // ---- the next reaction
 
-fn initiator_reaction(
-    view: &Sight,
-    account: &Handshakes,
-    state: &EndState,
-    offered: Option<u8>,
-    me: &Myself,
-) -> Option<Due>
-    requires seen { IsSeen view.now }
-    requires timed { IsTimed account.now }
-    requires ready { IsReady me.now }
+fn initiator_reaction(at: &Situation<'_>, state: &EndState, offered: Option<u8>) -> Option<Due>
     requires bounded { steps.IsBounded state.now }
-    ensures { result ≡ steps.initiator_reaction view.now account.now state.now offered me.now }
+    requires pace { at.now.pace ≡ state.now.pace }
+    ensures { result ≡ steps.initiator_reaction at.now.view at.now.handshakes state.now offered at.now.me }
 {
-    if me.own.bsy() {
+    if at.me.own.bsy() {
         return None;
     }
     let answering = answering_by(state.raised, offered);
-    initiator_due(true, view, account, me, &state.pace, &answering)
+    initiator_due_at(true, at, &answering)
 }
 
-fn holds_byte(view: &Sight, account: &Handshakes, pace: &Pace, me: &Myself) -> bool
-    ensures { result ≡ steps.holds_byte view.now account.now pace.now me.now }
+fn holds_byte(at: &Situation<'_>) -> bool
+    ensures { result ≡ steps.holds_byte at.now.view at.now.handshakes at.now.pace at.now.me }
 {
-    pace.pulsed && view.bus.io() && account.is_begun() && me.own.data_bits() != 0
+    at.pace.pulsed && at.view.bus.io() && at.handshakes.is_begun() && at.me.own.data_bits() != 0
 }
 
-fn target_reaction(
-    view: &Sight,
-    account: &Handshakes,
-    state: &EndState,
-    offered: Option<u8>,
-    me: &Myself,
-) -> Option<Due>
-    requires seen { IsSeen view.now }
-    requires timed { IsTimed account.now }
-    requires ready { IsReady me.now }
-    requires bounded { steps.IsBounded state.now }
-    ensures { result ≡ steps.target_reaction view.now account.now state.now offered me.now }
+fn target_reaction(at: &Situation<'_>, state: &EndState, offered: Option<u8>) -> Option<Due>
+    requires { at.now.pace ≡ state.now.pace }
+    ensures { result ≡ steps.target_reaction at.now.view at.now.handshakes state.now offered at.now.me }
 {
-    if offered.is_some() || me.own.req() || holds_byte(view, account, &state.pace, me) {
+    if offered.is_some() || at.me.own.req() || holds_byte(at) {
         let offering = offering_by(offered);
-        return target_due(true, view, account, me, &state.pace, &offering);
+        return target_due_at(true, at, &offering);
     }
     None
 }
@@ -254,8 +238,14 @@ fn initiator_next(
         result ≡ steps.initiator_next rows state.now offered (connection rows) }
 {
     let connection = view.connection()?;
-    let me = self_of(state, view, connection.initiator);
-    initiator_reaction(seen, view.handshakes(), state, offered, &me)
+    let me = self_of(state, view, connection.initiator.get());
+    let at = Situation {
+        view: seen,
+        handshakes: view.handshakes(),
+        me: &me,
+        pace: &state.pace,
+    };
+    initiator_reaction(&at, state, offered)
 }
 
 fn target_next(view: &BusView, seen: &Sight, state: &EndState, offered: Option<u8>) -> Option<Due>
@@ -266,8 +256,14 @@ fn target_next(view: &BusView, seen: &Sight, state: &EndState, offered: Option<u
         result ≡ steps.target_next rows state.now offered (connection rows) }
 {
     let connection = view.connection()?;
-    let me = self_of(state, view, connection.target);
-    target_reaction(seen, view.handshakes(), state, offered, &me)
+    let me = self_of(state, view, connection.target.get());
+    let at = Situation {
+        view: seen,
+        handshakes: view.handshakes(),
+        me: &me,
+        pace: &state.pace,
+    };
+    target_reaction(&at, state, offered)
 }
 
 /// A step of the initiator. `into` says whether the phase is to it.

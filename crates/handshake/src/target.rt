@@ -6,6 +6,7 @@ ghost use Rattle.bus_reactions.specs.Ends.{message_out_start, target_due};
 ghost use Rattle.bus_trace.specs.Trace.{phase_time};
 ghost use Rattle.handshake.specs.Bounds.{IsSeen, IsTimed, IsReady, IsSteady};
 
+use crate::situation::Situation;
 use bus_base::Ns;
 use bus_lines::Handshakes;
 use bus_reactions::{Due, Myself, Offering, Pace, Sight};
@@ -43,205 +44,157 @@ pub fn has_byte_if(lines: Lines, follows: bool, byte: u8) -> bool
     }
 }
 
-fn req_assertion(me: &Myself, time: Ns) -> Option<Due>
-    requires ready { IsReady me.now }
-    requires time { time < 2 ^ 63 + 2 ^ 40 }
-    ensures { result ≡ req_assertion me.now time }
+fn req_assertion(at: &Situation<'_>, time: Ns) -> Option<Due>
+    requires { time < 2 ^ 63 + 2 ^ 40 }
+    ensures { result ≡ req_assertion at.now.me time }
 {
-    due_at(time + me.latency, Lines::REQ.with(me.own))
+    due_at(time + at.me.latency, Lines::REQ.with(at.me.own))
 }
 
 // ---- the first byte (6.1.5.1, 6.1.10)
 
-fn phase_time(view: &Sight) -> Ns
-    requires { IsSeen view.now }
-    ensures exact { result ≡ phase_time view.now.ages }
+fn phase_time(at: &Situation<'_>) -> Ns
+    ensures exact { result ≡ phase_time at.now.view.ages }
     ensures small { result < 2 ^ 63 }
 {
-    view.ages.msg.max(view.ages.cd).max(view.ages.io)
+    at.view.ages.msg.max(at.view.ages.cd).max(at.view.ages.io)
 }
 
-fn has_io_turned(view: &Sight) -> bool
-    requires { IsSeen view.now }
-    ensures { result ≡ has_io_turned view.now }
+fn has_io_turned(at: &Situation<'_>) -> bool
+    ensures { result ≡ has_io_turned at.now.view }
 {
-    view.bus.io() && view.ages.io == phase_time(view)
+    at.view.bus.io() && at.view.ages.io == phase_time(at)
 }
 
-fn first_byte(view: &Sight, me: &Myself, offering: &Offering) -> Option<Due>
-    requires seen { IsSeen view.now }
-    requires ready { IsReady me.now }
-    ensures { result ≡ first_byte view.now me.now offering.now }
+fn first_byte(at: &Situation<'_>, offering: &Offering) -> Option<Due>
+    ensures { result ≡ first_byte at.now.view at.now.me offering.now }
 {
     due_at(
-        phase_time(view) + TURN_DELAY + me.latency,
-        me.own.with_byte(offering.byte),
+        phase_time(at) + TURN_DELAY + at.me.latency,
+        at.me.own.with_byte(offering.byte),
     )
 }
 
-fn first_req(view: &Sight, me: &Myself, offering: &Offering) -> Option<Due>
-    requires seen { IsSeen view.now }
-    requires ready { IsReady me.now }
-    ensures { result ≡ first_req view.now me.now offering.now }
+fn first_req(at: &Situation<'_>, offering: &Offering) -> Option<Due>
+    ensures { result ≡ first_req at.now.view at.now.me offering.now }
 {
-    if !has_io_turned(view) {
-        req_assertion(me, phase_time(view) + BUS_SETTLE_DELAY)
-    } else if me.own.data_bits() == 0 {
-        first_byte(view, me, offering)
+    if !has_io_turned(at) {
+        req_assertion(at, phase_time(at) + BUS_SETTLE_DELAY)
+    } else if at.me.own.data_bits() == 0 {
+        first_byte(at, offering)
     } else {
-        req_assertion(me, me.since + SET_UP_TIME)
+        req_assertion(at, at.me.since + SET_UP_TIME)
     }
 }
 
 // ---- byte by byte (6.1.5.1)
 
-fn req_negation(view: &Sight, me: &Myself, offering: &Offering) -> Option<Due>
-    requires seen { IsSeen view.now }
-    requires ready { IsReady me.now }
-    ensures { result ≡ req_negation view.now me.now offering.now }
+fn req_negation(at: &Situation<'_>, offering: &Offering) -> Option<Due>
+    ensures { result ≡ req_negation at.now.view at.now.me offering.now }
 {
-    let follows = view.bus.io() && offering.follows;
+    let follows = at.view.bus.io() && offering.follows;
     due_at(
-        view.ages.ack + me.latency,
-        with_byte_if(me.own.without_req(), follows, offering.byte),
+        at.view.ages.ack + at.me.latency,
+        with_byte_if(at.me.own.without_req(), follows, offering.byte),
     )
 }
 
-fn next_req(view: &Sight, me: &Myself) -> Option<Due>
-    requires seen { IsSeen view.now }
-    requires ready { IsReady me.now }
-    ensures { result ≡ next_req view.now me.now }
+fn next_req(at: &Situation<'_>) -> Option<Due>
+    ensures { result ≡ next_req at.now.view at.now.me }
 {
-    if view.bus.io() {
-        req_assertion(me, view.ages.ack.max(me.since + SET_UP_TIME))
+    if at.view.bus.io() {
+        req_assertion(at, at.view.ages.ack.max(at.me.since + SET_UP_TIME))
     } else {
-        req_assertion(me, view.ages.ack)
+        req_assertion(at, at.view.ages.ack)
     }
 }
 
-fn phase_end(view: &Sight, me: &Myself, offering: &Offering) -> Option<Due>
-    requires seen { IsSeen view.now }
-    requires ready { IsReady me.now }
-    requires wait { offering.now.wait < 2 ^ 62 }
-    ensures { result ≡ phase_end view.now me.now offering.now }
+fn phase_end(at: &Situation<'_>, offering: &Offering) -> Option<Due>
+    requires { offering.now.wait < 2 ^ 62 }
+    ensures { result ≡ phase_end at.now.view at.now.me offering.now }
 {
-    due_at(view.ages.ack + me.latency + offering.wait, offering.to)
+    due_at(
+        at.view.ages.ack + at.me.latency + offering.wait,
+        offering.to,
+    )
 }
 
-fn target_turn(
-    view: &Sight,
-    handshakes: &Handshakes,
-    me: &Myself,
-    offering: &Offering,
-) -> Option<Due>
-    requires seen { IsSeen view.now }
-    requires ready { IsReady me.now }
-    requires wait { offering.now.wait < 2 ^ 62 }
-    ensures { result ≡ target_turn view.now handshakes.now me.now offering.now }
+fn target_turn(at: &Situation<'_>, offering: &Offering) -> Option<Due>
+    requires { offering.now.wait < 2 ^ 62 }
+    ensures { result ≡ target_turn at.now.view at.now.handshakes at.now.me offering.now }
 {
-    if !handshakes.is_begun() {
-        first_req(view, me, offering)
+    if !at.handshakes.is_begun() {
+        first_req(at, offering)
     } else if offering.follows {
-        next_req(view, me)
+        next_req(at)
     } else {
-        phase_end(view, me, offering)
+        phase_end(at, offering)
     }
 }
 
-fn target_handshake(
-    view: &Sight,
-    handshakes: &Handshakes,
-    me: &Myself,
-    offering: &Offering,
-) -> Option<Due>
-    requires seen { IsSeen view.now }
-    requires ready { IsReady me.now }
-    requires wait { offering.now.wait < 2 ^ 62 }
-    ensures { result ≡ target_handshake view.now handshakes.now me.now offering.now }
+fn target_handshake(at: &Situation<'_>, offering: &Offering) -> Option<Due>
+    requires { offering.now.wait < 2 ^ 62 }
+    ensures { result ≡ target_handshake at.now.view at.now.handshakes at.now.me offering.now }
 {
-    if me.own.req() {
-        if view.bus.ack() {
-            req_negation(view, me, offering)
+    if at.me.own.req() {
+        if at.view.bus.ack() {
+            req_negation(at, offering)
         } else {
             None
         }
-    } else if view.bus.ack() {
+    } else if at.view.bus.ack() {
         None
     } else {
-        target_turn(view, handshakes, me, offering)
+        target_turn(at, offering)
     }
 }
 
 // ---- by pulses (6.1.5.2)
 
-fn req_pulse_end(view: &Sight, me: &Myself, pace: &Pace) -> Option<Due>
-    requires seen { IsSeen view.now }
-    requires ready { IsReady me.now }
-    requires steady { IsSteady pace.now }
-    ensures { result ≡ req_pulse_end view.now me.now pace.now }
+fn req_pulse_end(at: &Situation<'_>) -> Option<Due>
+    ensures { result ≡ req_pulse_end at.now.view at.now.me at.now.pace }
 {
     due_at(
-        view.ages.req + pace.times.assertion + me.latency,
-        me.own.without_req(),
+        at.view.ages.req + at.pace.times.assertion + at.me.latency,
+        at.me.own.without_req(),
     )
 }
 
-fn hold_end(handshakes: &Handshakes, me: &Myself, pace: &Pace) -> Ns
-    requires timed { IsTimed handshakes.now }
-    requires ready { IsReady me.now }
-    requires steady { IsSteady pace.now }
-    ensures exact { result ≡ hold_end handshakes.now me.now pace.now }
+fn hold_end(at: &Situation<'_>) -> Ns
+    ensures exact { result ≡ hold_end at.now.handshakes at.now.me at.now.pace }
     ensures small { result < 2 ^ 63 + 2 ^ 34 }
 {
-    handshakes.last_req() + pace.times.hold + me.latency
+    at.handshakes.last_req() + at.pace.times.hold + at.me.latency
 }
 
-fn byte_change(
-    handshakes: &Handshakes,
-    me: &Myself,
-    pace: &Pace,
-    offering: &Offering,
-) -> Option<Due>
-    requires timed { IsTimed handshakes.now }
-    requires ready { IsReady me.now }
-    requires steady { IsSteady pace.now }
-    ensures { result ≡ byte_change handshakes.now me.now pace.now offering.now }
+fn byte_change(at: &Situation<'_>, offering: &Offering) -> Option<Due>
+    ensures { result ≡ byte_change at.now.handshakes at.now.me at.now.pace offering.now }
 {
     due_at(
-        hold_end(handshakes, me, pace),
-        with_byte_if(me.own, offering.follows, offering.byte),
+        hold_end(at),
+        with_byte_if(at.me.own, offering.follows, offering.byte),
     )
 }
 
-fn set_up_end(view: &Sight, handshakes: &Handshakes, me: &Myself, pace: &Pace) -> Ns
-    requires seen { IsSeen view.now }
-    requires timed { IsTimed handshakes.now }
-    requires ready { IsReady me.now }
-    requires steady { IsSteady pace.now }
-    ensures exact { result ≡ set_up_end view.now handshakes.now me.now pace.now }
+fn set_up_end(at: &Situation<'_>) -> Ns
+    ensures exact { result ≡ set_up_end at.now.view at.now.handshakes at.now.me at.now.pace }
     ensures small { result < 2 ^ 63 + 2 ^ 35 }
 {
-    if view.bus.io() {
-        hold_end(handshakes, me, pace) + pace.times.set_up
+    if at.view.bus.io() {
+        hold_end(at) + at.pace.times.set_up
     } else {
         0
     }
 }
 
-fn req_pulse(view: &Sight, handshakes: &Handshakes, me: &Myself, pace: &Pace) -> Option<Due>
-    requires seen { IsSeen view.now }
-    requires timed { IsTimed handshakes.now }
-    requires ready { IsReady me.now }
-    requires steady { IsSteady pace.now }
-    ensures { result ≡ req_pulse view.now handshakes.now me.now pace.now }
+fn req_pulse(at: &Situation<'_>) -> Option<Due>
+    ensures { result ≡ req_pulse at.now.view at.now.handshakes at.now.me at.now.pace }
 {
-    let pulse = (handshakes.last_req() + pace.times.period).max(
-        view.ages.req + pace.times.negation,
+    let pulse = (at.handshakes.last_req() + at.pace.times.period).max(
+        at.view.ages.req + at.pace.times.negation,
     );
-    let byte = handshakes
-        .room_since(pace.offset)
-        .max(set_up_end(view, handshakes, me, pace));
-    req_assertion(me, pulse.max(byte))
+    let byte = at.handshakes.room_since(at.pace.offset).max(set_up_end(at));
+    req_assertion(at, pulse.max(byte))
 }
 
 /// The end of the hold time of the last byte.
@@ -258,84 +211,70 @@ pub fn last_hold_end(view: &Sight, handshakes: &Handshakes, pace: &Pace) -> Ns
     }
 }
 
-fn pulsed_phase_end(
-    view: &Sight,
-    handshakes: &Handshakes,
-    me: &Myself,
-    pace: &Pace,
-    offering: &Offering,
-) -> Option<Due>
-    requires seen { IsSeen view.now }
-    requires timed { IsTimed handshakes.now }
-    requires ready { IsReady me.now }
-    requires steady { IsSteady pace.now }
-    ensures { result ≡ pulsed_phase_end view.now handshakes.now me.now pace.now offering.now }
+fn pulsed_phase_end(at: &Situation<'_>, offering: &Offering) -> Option<Due>
+    ensures { result ≡ pulsed_phase_end at.now.view at.now.handshakes at.now.me at.now.pace offering.now }
 {
     due_at(
-        view.ages.ack.max(last_hold_end(view, handshakes, pace)) + me.latency,
+        at.view
+            .ages
+            .ack
+            .max(last_hold_end(at.view, at.handshakes, at.pace))
+            + at.me.latency,
         offering.to,
     )
 }
 
-fn pulse_turn(
-    view: &Sight,
-    handshakes: &Handshakes,
-    me: &Myself,
-    pace: &Pace,
-    offering: &Offering,
-) -> Option<Due>
-    requires seen { IsSeen view.now }
-    requires timed { IsTimed handshakes.now }
-    requires ready { IsReady me.now }
-    requires steady { IsSteady pace.now }
-    ensures { result ≡ pulse_turn view.now handshakes.now me.now pace.now offering.now }
+fn pulse_turn(at: &Situation<'_>, offering: &Offering) -> Option<Due>
+    ensures { result ≡ pulse_turn at.now.view at.now.handshakes at.now.me at.now.pace offering.now }
 {
     if offering.follows {
-        if handshakes.waiting() < pace.offset {
-            return req_pulse(view, handshakes, me, pace);
+        if at.handshakes.waiting() < at.pace.offset {
+            return req_pulse(at);
         }
         return None;
     }
-    if handshakes.waiting() != 0 || view.bus.ack() {
+    if at.handshakes.waiting() != 0 || at.view.bus.ack() {
         return None;
     }
-    pulsed_phase_end(view, handshakes, me, pace, offering)
+    pulsed_phase_end(at, offering)
 }
 
-fn target_pulse(
-    view: &Sight,
-    handshakes: &Handshakes,
-    me: &Myself,
-    pace: &Pace,
-    offering: &Offering,
-) -> Option<Due>
-    requires seen { IsSeen view.now }
-    requires timed { IsTimed handshakes.now }
-    requires ready { IsReady me.now }
-    requires steady { IsSteady pace.now }
-    ensures { result ≡ target_pulse view.now handshakes.now me.now pace.now offering.now }
+fn target_pulse(at: &Situation<'_>, offering: &Offering) -> Option<Due>
+    ensures { result ≡ target_pulse at.now.view at.now.handshakes at.now.me at.now.pace offering.now }
 {
-    if me.own.req() {
-        return req_pulse_end(view, me, pace);
+    if at.me.own.req() {
+        return req_pulse_end(at);
     }
-    if !handshakes.is_begun() {
-        return first_req(view, me, offering);
+    if !at.handshakes.is_begun() {
+        return first_req(at, offering);
     }
-    if view.bus.io() && !has_byte_if(me.own, offering.follows, offering.byte) {
-        return byte_change(handshakes, me, pace, offering);
+    if at.view.bus.io() && !has_byte_if(at.me.own, offering.follows, offering.byte) {
+        return byte_change(at, offering);
     }
-    pulse_turn(view, handshakes, me, pace, offering)
+    pulse_turn(at, offering)
 }
 
-fn message_out_start(view: &Sight, me: &Myself) -> Option<Due>
-    requires seen { IsSeen view.now }
-    requires ready { IsReady me.now }
-    ensures { result ≡ message_out_start view.now me.now }
+fn message_out_start(at: &Situation<'_>) -> Option<Due>
+    ensures { result ≡ message_out_start at.now.view at.now.me }
 {
     due_at(
-        view.ages.sel + me.latency,
+        at.view.ages.sel + at.me.latency,
         Lines::BSY.with(Lines::MSG.with(Lines::CD)),
     )
+}
+
+/// The same as [`target_due`].
+pub fn target_due_at(begun: bool, at: &Situation<'_>, offering: &Offering) -> Option<Due>
+    requires { offering.now.wait < 2 ^ 62 }
+    ensures { result ≡ target_due begun at.now.view at.now.handshakes at.now.me at.now.pace offering.now }
+{
+    if !begun {
+        message_out_start(at)
+    } else if at.pace.pulsed {
+        target_pulse(at, offering)
+    } else {
+        target_handshake(at, offering)
+    }
 }
 
 /// What the target of a connection does next (6.1.3, 6.1.5, 6.1.10): nothing where it waits. `begun` says that the
@@ -355,11 +294,11 @@ pub fn target_due(
     requires wait { offering.now.wait < 2 ^ 62 }
     ensures { result ≡ target_due begun view.now handshakes.now me.now pace.now offering.now }
 {
-    if !begun {
-        message_out_start(view, me)
-    } else if pace.pulsed {
-        target_pulse(view, handshakes, me, pace, offering)
-    } else {
-        target_handshake(view, handshakes, me, offering)
-    }
+    let at = Situation {
+        view,
+        handshakes,
+        me,
+        pace,
+    };
+    target_due_at(begun, &at, offering)
 }

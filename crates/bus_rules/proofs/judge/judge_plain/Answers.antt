@@ -1,11 +1,8 @@
 -- Each row is judged after the rows before it.
-use Rattle.std.proofs.Common.{◌≡◌, ◌+◌, ◌∙◌, List, reverse, take, sym, subst, ap, arith, take_all}
+use Rattle.std.proofs.Common.{◌+◌, ◌∙◌, List, reverse, take, sym, subst, arith}
 use Rattle.bus_trace.specs.declared.Row.{Row}
-use Rattle.bus_rules.specs.declared.seen.Seen.{Seen}
-use Rattle.bus_rules.specs.Seen.{end_row, seen}
-use Rattle.bus_rules.specs.Rules.{lowest_at_end, judged}
 use Rattle.bus_rules.specs.Judging.{IsTermsOf}
-use Rattle.bus_rules.proofs.Past.{past_more, whole_broken, judged_next, judged_end}
+use Rattle.bus_rules.proofs.Past.{past_more, whole_broken, judged_next, judged_past}
 use Rattle.bus_rules.proofs.judge.judge_plain.Goals as goal
 
 pub returns-in-Some : goal.returns-in-Some
@@ -31,20 +28,12 @@ loop-i-preserved c =
 
 pub returns-in-Some-lowest_at_end : goal.returns-in-Some-lowest_at_end
 returns-in-Some-lowest_at_end c =
-    let xs : List Row = c.args.rows.now in
-    let all = take_all c.loop-i.i xs (let past = c.loop-i-test.false in omega arith) in
-    let lawful = ap (λ (ys : List Row). judged (reverse ys)) (sym all) ∙ c.loop-i.invariant.lawful in
-    let terms = subst (λ (ys : List Row). IsTermsOf (reverse ys) c.loop-i.terms) all c.loop-i.invariant.terms in
-    let met = c.step-seen.ensures.seen (reverse xs) terms in
-    let end : c.end_row.result ≡ end_row c.args.end = c.end_row.ensures in
-    judged_end xs c.args.end _ lawful (sym (ap (λ (s : Seen). lowest_at_end s c.args.end) (met ∙ (λ i. seen (reverse xs) (end i)))) ∙ sym c.lowest_at_end.ensures ∙ c.in-Some-lowest_at_end.is)
+    judged_past c.args.rows.now c.loop-i.i c.args.end c.loop-i.terms c.step-seen.result c.end_row.result c.lowest_at_end.result _
+    (let past = c.loop-i-test.false in omega arith) c.loop-i.invariant.lawful c.loop-i.invariant.terms c.step-seen.ensures.seen
+    c.end_row.ensures c.lowest_at_end.ensures c.in-Some-lowest_at_end.is
 
 pub returns-in-None : goal.returns-in-None
 returns-in-None c =
-    let xs : List Row = c.args.rows.now in
-    let all = take_all c.loop-i.i xs (let past = c.loop-i-test.false in omega arith) in
-    let lawful = ap (λ (ys : List Row). judged (reverse ys)) (sym all) ∙ c.loop-i.invariant.lawful in
-    let terms = subst (λ (ys : List Row). IsTermsOf (reverse ys) c.loop-i.terms) all c.loop-i.invariant.terms in
-    let met = c.step-seen.ensures.seen (reverse xs) terms in
-    let end : c.end_row.result ≡ end_row c.args.end = c.end_row.ensures in
-    judged_end xs c.args.end _ lawful (sym (ap (λ (s : Seen). lowest_at_end s c.args.end) (met ∙ (λ i. seen (reverse xs) (end i)))) ∙ sym c.lowest_at_end.ensures ∙ c.in-None.is)
+    judged_past c.args.rows.now c.loop-i.i c.args.end c.loop-i.terms c.step-seen.result c.end_row.result c.lowest_at_end.result _
+    (let past = c.loop-i-test.false in omega arith) c.loop-i.invariant.lawful c.loop-i.invariant.terms c.step-seen.ensures.seen
+    c.end_row.ensures c.lowest_at_end.ensures c.in-None.is

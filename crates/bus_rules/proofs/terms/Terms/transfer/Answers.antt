@@ -17,6 +17,6 @@ returns c = record {
       let course = moved rows row _ _ t.course held e' in
       record {
         view = c.step_to.ensures.trace rows t.view (ap (λ (x : Change). x.after) ec);
-        course = subst (λ (x : Course). IsCourseOf (row ∷ rows) x) (sym (c.transfer.ensures.exact ∙ ap (λ (x : Change). course_after_transfer c.self.inside.course c.is_attention_held-held.result x row.time) ec)) course;
+        course = subst (λ (x : Course). IsCourseOf (row ∷ rows) x) (sym (c.transfer.ensures ∙ ap (λ (x : Change). course_after_transfer c.self.inside.course c.is_attention_held-held.result x row.time) ec)) course;
       };
 }

@@ -1,6 +1,6 @@
-use Rattle.std.proofs.Common.{suc, ◌≤◌, subst, sym, ap, ◌∙◌, arith}
+use Rattle.std.proofs.Common.{suc, subst, sym, ap, ◌∙◌, arith}
 use Rattle.bus_trace.specs.LineSet.{LineSet}
-use Rattle.bus_trace.specs.View.{View, driven_at, time_of_line, IsUpTo}
+use Rattle.bus_trace.specs.View.{View, driven_at, IsUpTo}
 use Rattle.bus_trace.specs.Trace.{IsViewOf, driven_after}
 use Rattle.bus_trace.proofs.Views.{IsViewOf-step, AreBefore-step, time_of_line-step}
 use Rattle.bus_trace.proofs.line_view.LineView.step_to.Goals as goal
