@@ -18,6 +18,8 @@ pub mod Resets
 pub mod FromReset
 pub mod ResetSteps
 pub mod Together
-pub mod Latencies
+pub mod Limits
 pub mod Prompt
 pub mod ReactionTimes
+pub mod Periods
+pub mod RowTimes
