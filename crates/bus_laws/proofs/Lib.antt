@@ -23,3 +23,4 @@ pub mod Prompt
 pub mod ReactionTimes
 pub mod Periods
 pub mod RowTimes
+pub mod DueTimes

@@ -1,9 +1,8 @@
 -- The transfer period factor of every agreement is a byte: it came in a message.
-use Rattle.std.proofs.Common.{ℕ, ◌≡◌, ◌<◌, ◌≤◌, ◌%◌, Bool, true, false, not, ◌&&◌, List, [], ◌∷◌, ◌++◌, Option, Some, None, refl, sym, ap, subst, arith}
+use Rattle.std.proofs.Common.{ℕ, ◌<◌, ◌%◌, Bool, true, false, not, ◌&&◌, List, [], ◌∷◌, ◌++◌, Option, Some, None, arith}
 use Rattle.std.specs.Prelude.{if◌then◌else◌, ◌==◌, is_some}
 use Rattle.std.specs.List.{AllByRecursion}
 use Rattle.bus_trace.specs.declared.Row.{Row}
-use Rattle.bus_trace.specs.LineSet.{LineSet}
 use Rattle.bus_trace.specs.declared.agreements.Agreement.{Agreement}
 use Rattle.bus_trace.specs.declared.changes.Change.{Change}
 use Rattle.bus_trace.specs.declared.connection.Connection.{Connection}
@@ -25,7 +24,7 @@ use Rattle.bus_phases.specs.declared.spoken.Spoken.{Spoken}
 use Rattle.bus_phases.specs.declared.spoken.Heard.{Heard}
 use Rattle.bus_phases.specs.declared.dialogue.Dialogue.{Dialogue}
 use Rattle.bus_phases.specs.Half.{left_of}
-use Rattle.bus_phases.specs.Dialogue.{word_out, word_in, spoken_with_offer, spoken_with_reject, spoken_with_word, is_of_other, void_or_now, heard_with_out, heard_before_in, heard_with_in, heard_with_command, void_with_byte, opened, heard_out, heard_in, fresh_bytes, fresh_heard, byte_out, heard_if_begun, byte_in, byte_else, byte_crosses, phase_begins, dialogue_on, closed_agreement, closed_agreement_by, dialogue_after, agreed, dialogue, asynchronous}
+use Rattle.bus_phases.specs.Dialogue.{word_out, word_in, spoken_with_word, is_of_other, void_or_now, heard_with_out, heard_with_command, void_with_byte, opened, heard_out, heard_in, fresh_bytes, fresh_heard, byte_out, heard_if_begun, byte_in, byte_crosses, phase_begins, dialogue_on, closed_agreement_by, dialogue_after, agreed, dialogue, asynchronous}
 
 -- ---- messages
 
@@ -94,6 +93,7 @@ offer_short word message (len ∷ bytes) f h = by_len (len == 0x03)
     fields [] k = tt
     fields (period ∷ []) k = tt
     fields (period ∷ offset ∷ x) k = f (record { period = period; offset = offset }) k.0
+
     code : (x : List ℕ) → AreBytes x → IsShortGot word (as_got message (got_code x))
     code [] k = tt
     code (c ∷ x) k = go (c == 0x01)
@@ -101,6 +101,7 @@ offer_short word message (len ∷ bytes) f h = by_len (len == 0x03)
         go : (q : Bool) → IsShortGot word (as_got message (if q then got_fields x else Unknown))
         go true = fields x k.1
         go false = tt
+
     by_len : (q : Bool) → IsShortGot word (as_got message (if q then got_code bytes else Unknown))
     by_len true = code bytes h.1
     by_len false = tt
@@ -112,6 +113,7 @@ got_short {M = M} word form (first ∷ bytes) f h = go (form first) (f first)
     tag : (message : ℕ → M) (x : List ℕ) → ((t : ℕ) → IsShortWord (word (message t))) → IsShortGot word (as_got message (got_tag x))
     tag message [] g = tt
     tag message (t ∷ x) g = g t
+
     go : (k : Form M) → IsShortForm word k → IsShortGot word (got_after k bytes)
     go (alone m) g = g
     go (tagged message) g = tag message bytes g
@@ -209,6 +211,7 @@ out_byte_short d b last k h =
     fresh_short : (q : Bool) → AreBytes (if q then [] else d.fresh)
     fresh_short true = tt
     fresh_short false = k.fresh
+
     heard_short : (q : Bool) → IsShortHeard (if q then d.at_phase else d.heard)
     heard_short true = k.at_phase
     heard_short false = k.heard
@@ -235,6 +238,7 @@ crosses_short d c k = go (is_message_out c.before) (is_message_in c.before) (is_
   where
     b : ℕ
     b = c.after.data_bits % 256
+
     go : (q r x : Bool) → IsShortDialogue (if q then byte_out d (c.after.data_bits % 256) (not c.after.atn) else if r then byte_in d (c.after.data_bits % 256) else if x then record d { heard = heard_with_command d.heard (c.after.data_bits % 256); begun = true } else record d { begun = true })
     go true r x = out_byte_short d (c.after.data_bits % 256) (not c.after.atn) k (below_256 c.after.data_bits)
     go false true x = in_byte_short d (c.after.data_bits % 256) k (below_256 c.after.data_bits)

@@ -1,16 +1,14 @@
 -- By when a reaction comes: within the longest delay after the latest time that it looks at.
-use Rattle.std.proofs.Common.{◌⊎◌, inl, inr, ℕ, ◌≡◌, ◌<◌, ◌≤◌, ◌+◌, Bool, true, false, not, ◌&&◌, ◌||◌, ◌∙◌, List, Option, Some, None, refl, sym, ap, arith, length}
+use Rattle.std.proofs.Common.{inl, inr, ℕ, ◌≡◌, ◌<◌, ◌≤◌, ◌+◌, Bool, true, false, not, ◌&&◌, ◌||◌, Option, Some, None, ap, arith, length}
 use Rattle.std.specs.Prelude.{if◌then◌else◌, max, nat_lt, nat_le, ◌==◌, is_none}
 use Rattle.bus_trace.specs.LineSet.{LineSet, none, has_id_above, same_set}
 use Rattle.bus_trace.specs.View.{AreTimesBefore}
-use Rattle.bus_trace.specs.declared.line_times.LineTimes.{LineTimes}
 use Rattle.bus_trace.specs.declared.arbitration.Arbitration.{Arbitration}
 use Rattle.bus_trace.specs.declared.selection.Call.{Call}
 use Rattle.bus_trace.specs.declared.selection.Calling.{Calling}
-use Rattle.bus_trace.specs.Trace.{phase_time}
 use Rattle.bus_trace.specs.Phases.{is_message_out}
-use Rattle.bus_lines.specs.Handshakes.{Handshakes, room_by, first_of, time_of, or_zero}
-use Rattle.bus_lines.specs.Timely.{IsBefore, IsCallingBefore, IsCalledBefore, IsStageBefore, AreHandshakesBefore}
+use Rattle.bus_lines.specs.Handshakes.{Handshakes, room_by, or_zero}
+use Rattle.bus_lines.specs.Timely.{IsBefore, IsCallingBefore, IsStageBefore, AreHandshakesBefore}
 use Rattle.bus_lines.specs.declared.stage.Stage.{Stage}
 use Rattle.bus_lines.specs.declared.stage.Stage.TheVariants.{OnFreeBus, InArbitration, InCalling, InAnswer, InConnection, InReset}
 use Rattle.bus_reactions.specs.declared.due.Due.{Due}
@@ -20,17 +18,17 @@ use Rattle.bus_reactions.specs.declared.sight.Sight.{Sight}
 use Rattle.bus_reactions.specs.declared.ends.Pace.{Pace}
 use Rattle.bus_reactions.specs.declared.ends.Offering.{Offering}
 use Rattle.bus_reactions.specs.declared.ends.Answering.{Answering}
-use Rattle.bus_reactions.specs.Reactions.{due_at, due_where, fault_due, fault_or, earlier_due}
-use Rattle.bus_reactions.specs.FreeBus.{free_due, arbitration_due, win, later_entry_if, later_entry, entry, contender_lines}
-use Rattle.bus_reactions.specs.Calling.{loser_release, calling_start, calling_bsy_release, unanswered_due, caller_due, answered_due, answer, is_called, called_due, calling_due, answer_due}
-use Rattle.bus_reactions.specs.Linking.{bus_clear, link_due_by, link_due}
-use Rattle.bus_reactions.specs.Reset.{rst_assertion, rst_release, with_reset}
-use Rattle.bus_reactions.specs.Target.{target_handshake, target_pulse, target_turn, pulse_turn, first_req, has_io_turned, byte_bits, bits_if, hold_end, set_up_end, last_hold_end}
-use Rattle.bus_reactions.specs.Initiator.{initiator_handshake, initiator_pulse, initiator_turn, ack_pulse, rose_with_ack, oldest_req_time, next_ack_time, ack_pulse_time, byte_hold_end, byte_time}
+use Rattle.bus_reactions.specs.Reactions.{due_at, due_where, fault_due, earlier_due}
+use Rattle.bus_reactions.specs.FreeBus.{free_due, arbitration_due, later_entry_if, entry}
+use Rattle.bus_reactions.specs.Calling.{loser_release, calling_start, unanswered_due, caller_due, answer, is_called, called_due, calling_due, answer_due}
+use Rattle.bus_reactions.specs.Linking.{link_due_by}
+use Rattle.bus_reactions.specs.Reset.{rst_assertion, with_reset}
+use Rattle.bus_reactions.specs.Target.{first_req, has_io_turned, byte_bits, bits_if, hold_end, set_up_end, last_hold_end}
+use Rattle.bus_reactions.specs.Initiator.{rose_with_ack, oldest_req_time, next_ack_time, ack_pulse_time, byte_hold_end, byte_time}
 use Rattle.bus_reactions.specs.Ends.{target_due, initiator_due, sample_due, owes_release}
 use Rattle.bus_laws.proofs.Dues.{is_at, none_some}
 use Rattle.bus_laws.proofs.Resets.{one_of}
-use Rattle.bus_trace.specs.declared.Kind.TheVariants.{Drives, Fault}
+use Rattle.bus_trace.specs.declared.Kind.TheVariants.{Fault}
 
 -- ---- what comes before a time
 
@@ -212,18 +210,23 @@ calling_before end bsy sel me w flip c b s i l k =
   where
     lim : ℕ
     lim = end + longest
+
     start : (o : Option ℕ) → IsDueBefore (end + longest) (calling_start w.reselects me o)
     start None = none_before (end + longest)
     start (Some d) = where_before (end + longest) (nat_lt d 8 && not (d == me.dev)) _ (at_before (end + longest) _ _ (omega arith))
+
     unanswered : (g : Calling) (o : Option ℕ) → IsBefore end o → IsDueBefore (end + longest) (unanswered_due me g o)
     unanswered g None z = at_before (end + longest) _ _ (omega arith)
     unanswered g (Some r) z = if_before (end + longest) (is_none g.withdrawn) _ _ (at_before (end + longest) _ _ (omega arith)) (at_before (end + longest) _ _ (omega arith))
+
     caller : (o : Option Calling) → IsCallingBefore end o → IsDueBefore (end + longest) (caller_due me w o)
     caller None z = start w.callee
     caller (Some g) z = unanswered g g.released z.released
+
     sampled : (f : Option ℕ) → IsDueBefore (end + longest) (answer bsy me f)
     sampled None = at_before (end + longest) _ _ (omega arith)
     sampled (Some bit) = fault_before (end + longest) (bsy + 400 + me.latency) bit (omega arith)
+
     other : (o : Option Calling) → IsCallingBefore end o → IsDueBefore (end + longest) (called_due bsy sel me flip o)
     other None z = loser_before end sel me s l
     other (Some g) z = if_before (end + longest) (not (g.called == me.dev)) _ _ (loser_before end sel me s l) (if_before (end + longest) (is_called g) _ _ (sampled flip) (none_before (end + longest)))
@@ -262,6 +265,7 @@ reset_before end me raised reset o r l n f =
     asserted : (t : Option ℕ) → IsWantBefore end t → IsDueBefore (end + longest) (rst_assertion t)
     asserted None z = none_before (end + longest)
     asserted (Some t) z = at_before (end + longest) _ _ (omega arith)
+
     earlier : (a b : Option Due) → IsDueBefore (end + longest) a → IsDueBefore (end + longest) b → IsDueBefore (end + longest) (earlier_due a b)
     earlier a b f g x e = elim (one_of a b x e) [
       | inl h ↦ f x h

@@ -1,10 +1,10 @@
 -- All that is kept of rows which come before a time lies before it.
-use Rattle.std.proofs.Common.{ℕ, zero, suc, ◌≡◌, ◌<◌, ◌≤◌, ◌+◌, Bool, true, false, List, [], ◌∷◌, Option, Some, None, refl, sym, ap, subst, arith, length, replicate}
+use Rattle.std.proofs.Common.{ℕ, zero, suc, ◌≡◌, ◌<◌, Bool, true, false, List, [], ◌∷◌, Option, Some, None, refl, arith, length, replicate}
 use Rattle.std.specs.Prelude.{if◌then◌else◌, ◌==◌, ◌&&◌, slice_index}
 use Rattle.std.specs.List.{AllByRecursion}
 use Rattle.bus_base.specs.declared.Event.{Event}
-use Rattle.bus_trace.specs.LineSet.{LineSet, line_of, data_of}
-use Rattle.bus_trace.specs.View.{View, driven_at, AreTimesBefore, AreBefore}
+use Rattle.bus_trace.specs.LineSet.{line_of, data_of}
+use Rattle.bus_trace.specs.View.{driven_at, AreTimesBefore}
 use Rattle.bus_trace.specs.declared.Row.{Row}
 use Rattle.bus_trace.specs.declared.Kind.{Kind}
 use Rattle.bus_trace.specs.declared.Kind.TheVariants.{Drives, Fault}
@@ -13,20 +13,20 @@ use Rattle.bus_trace.specs.declared.arbitration.Arbitration.{Arbitration}
 use Rattle.bus_trace.specs.declared.selection.Call.{Call}
 use Rattle.bus_trace.specs.declared.selection.Calling.{Calling}
 use Rattle.bus_trace.specs.declared.connection.Connection.{Connection}
-use Rattle.bus_trace.specs.Trace.{drives, bus, last_time, since, line_times, IsViewOf, free_time}
-use Rattle.bus_trace.specs.Changes.{rises, falls, change_of}
-use Rattle.bus_trace.specs.Terms.{arbitration, call, connection, free_since, when}
+use Rattle.bus_trace.specs.Trace.{drives, bus, last_time, since, line_times}
+use Rattle.bus_trace.specs.Changes.{rises, change_of}
+use Rattle.bus_trace.specs.Terms.{arbitration, call, connection, free_since}
 use Rattle.bus_lines.specs.BusView.{BusViewValue, IsBusViewOf}
 use Rattle.bus_lines.specs.Effect.{effect}
 use Rattle.bus_lines.specs.Handshakes.{handshakes}
-use Rattle.bus_lines.specs.Timely.{IsBefore, IsCallingBefore, IsCalledBefore, IsCallBefore, IsConnectionBefore, IsArbitrationBefore, IsStageBefore, AreHandshakesBefore, IsTimely}
+use Rattle.bus_lines.specs.Timely.{IsBefore, IsCallingBefore, IsCallBefore, IsConnectionBefore, IsArbitrationBefore, IsStageBefore, AreHandshakesBefore, IsTimely}
 use Rattle.bus_lines.specs.Stage.{stage, stage_by, call_stage, answer_stage}
 use Rattle.bus_lines.proofs.Times.{timely}
 use Rattle.scenario.specs.Value.{ScenarioValue}
 use Rattle.disk_array.specs.Units.{UnitState, Array}
-use Rattle.bus_due.specs.Own.{Own, own_of, own_after, own_next, idle_device}
+use Rattle.bus_due.specs.Own.{Own, own_of, own_next}
 use Rattle.bus_due.specs.RunState.{RunState, or_start}
-use Rattle.bus_due.specs.RunSteps.{run_state, current_times_after, current_times_if, is_same_running, array_after_events, run_state_with_events}
+use Rattle.bus_due.specs.RunSteps.{run_state, current_times_after, current_times_if, is_same_running, array_after_events}
 use Rattle.bus_due.specs.Wants.{since_of}
 use Rattle.bus_story.specs.BusState.{row_reading}
 use Rattle.bus_story.specs.HistoryEvents.{row_events_by}
@@ -82,6 +82,7 @@ is_view rows = record {
     driven (suc (suc (suc (suc (suc (suc zero)))))) lt = refl
     driven (suc (suc (suc (suc (suc (suc (suc zero))))))) lt = refl
     driven (suc (suc (suc (suc (suc (suc (suc (suc n)))))))) lt = absurd (omega arith)
+
     data_at : (line : ℕ) → line < 9 → slice_index (view_of rows).lines.data_lines line ≡ since (line_of line) rows
     data_at zero lt = refl
     data_at (suc zero) lt = refl
@@ -159,7 +160,7 @@ own_before end some (row ∷ rows) dev h =
 
 -- ---- since when the current processes are that
 
-abbrev AreNumbersBefore : ℕ → List ℕ → Type 0
+abbrev pub AreNumbersBefore : ℕ → List ℕ → Type 0
 AreNumbersBefore end xs = AllByRecursion (λ (t : ℕ). t < end) xs
 
 zeros_before : (end n : ℕ) → 0 < end → AreNumbersBefore end (replicate n 0)
