@@ -18,5 +18,9 @@ pub mod Resets
 pub mod FromReset
 pub mod ResetSteps
 pub mod Together
-pub mod Latencies
+pub mod Limits
 pub mod Prompt
+pub mod ReactionTimes
+pub mod Periods
+pub mod RowTimes
+pub mod DueTimes

@@ -1,6 +1,7 @@
 // Laws of prompt traces, each named by the contract of a function that does nothing.
 
-ghost use Rattle.std.specs.Prelude.{ℕ, ◌≡◌, ◌<◌, ◌≤◌, false, List, [], ◌∷◌, Some, None};
+ghost use Rattle.std.specs.Prelude.{ℕ, ◌≡◌, ◌<◌, ◌≤◌, ◌+◌, ◌*◌, ◌^◌, false, List, [], ◌∷◌, length, Some, None};
+ghost use Rattle.std.specs.List.{AllByRecursion};
 ghost use Rattle.bus_trace.specs.declared.Row.{Row};
 ghost use Rattle.bus_trace.specs.Trace.{last_time};
 ghost use Rattle.bus_rules.specs.Lawful.{AreLawful};
@@ -34,4 +35,13 @@ pub fn traces_are_lawful_up_to_a_connection()
         → (dev : ℕ) → dev < 8 → (x : Due) → due s rows dev ≡ Some x → last_time rows ≤ x.time }
     ensures next { (s : ScenarioValue) (rows : List Row) (row : Row) → Obeys s → IsPrompt s rows → HaveNoConnection rows
         → next s rows ≡ Some row → broken_rule rows row ≡ None }
+{}
+
+/// A row of a prompt trace comes within 1,000,100,000 ns of the rows before it or, where that is later, of 10^12 ns,
+/// the last time that a scenario may name (`each`). So a trace of at most 2^32 rows ends before 2^62 ns (`far`).
+pub fn rows_come_in_time()
+    ensures each { (s : ScenarioValue) (rows : List Row) → Obeys s → IsPrompt s rows
+        → AllByRecursion (λ (row : Row). row.time < 1000000000001 + length rows * 1000100000) rows }
+    ensures far { (s : ScenarioValue) (rows : List Row) → Obeys s → IsPrompt s rows → length rows ≤ 2 ^ 32
+        → AllByRecursion (λ (row : Row). row.time < 2 ^ 62) rows }
 {}

@@ -1,5 +1,5 @@
 use Rattle.bus_laws.proofs.Together.{standing_first, stage_first, standing_next}
-use Rattle.bus_laws.proofs.Latencies.{obeys_latencies}
+use Rattle.bus_laws.proofs.Limits.{obeys_latencies}
 use Rattle.bus_laws.proofs.Prompt.{least_is, next_row_is}
 use Rattle.bus_laws.proofs.laws.stages_go_on.Goals as goal
 

@@ -1,0 +1,280 @@
+-- What is due comes within the longest delay of the rows and of the times of the scenario; and so do the rows of a prompt trace.
+use Rattle.std.proofs.Common.{ℕ, ◌≡◌, ◌<◌, ◌≤◌, ◌+◌, ◌*◌, ◌^◌, Bool, true, false, not, ◌&&◌, ◌||◌, List, [], ◌∷◌, Option, Some, None, refl, sym, ap, subst, arith, length}
+use Rattle.std.specs.Prelude.{if◌then◌else◌, ◌==◌, nat_lt, is_some}
+use Rattle.std.specs.List.{find, AllByRecursion}
+use Rattle.bus_trace.specs.View.{AreTimesBefore}
+use Rattle.bus_trace.specs.declared.Row.{Row}
+use Rattle.bus_trace.specs.declared.line_times.LineTimes.{LineTimes}
+use Rattle.bus_trace.specs.declared.agreements.TransferTimes.{TransferTimes}
+use Rattle.bus_trace.specs.declared.connection.Connection.{Connection}
+use Rattle.bus_trace.specs.Agreements.{fast_times, slow_times, times_or_slow, times_of}
+use Rattle.bus_phases.specs.declared.dialogue.Dialogue.{Dialogue}
+use Rattle.bus_lines.specs.declared.stage.Stage.{Stage}
+use Rattle.bus_lines.specs.Handshakes.{Handshakes}
+use Rattle.bus_lines.specs.Timely.{IsStageBefore, AreHandshakesBefore}
+use Rattle.scenario.specs.declared.value.HostDef.{HostDef}
+use Rattle.scenario.specs.declared.value.TargetDef.{TargetDef}
+use Rattle.scenario.specs.declared.value.CmdDef.{CmdDef}
+use Rattle.scenario.specs.declared.value.AbortDef.{AbortDef}
+use Rattle.scenario.specs.declared.value.ResetDef.{ResetDef}
+use Rattle.scenario.specs.Value.{ScenarioValue}
+use Rattle.scenario.specs.Writing.{Obeys}
+use Rattle.disk_array.specs.Units.{Array, RunningProcess, is_held, unit_state_at}
+use Rattle.bus_story.specs.Items.{Sent, is_done, abort}
+use Rattle.bus_story.specs.TraceHistory.{is_host}
+use Rattle.bus_story.specs.Samples.{latency_of}
+use Rattle.bus_reactions.specs.declared.due.Myself.{Myself}
+use Rattle.bus_reactions.specs.Reactions.{sooner_time, time_if}
+use Rattle.bus_reactions.specs.Linking.{sample_time}
+use Rattle.bus_dialogue.specs.Wants.{OwnCommand, Ready, open_in, may_follow, abort_since, command_since, ready_in, first_ready, is_ready_before}
+use Rattle.bus_dialogue.specs.Ends.{lag_by, seek_by}
+use Rattle.bus_due.specs.Own.{Own, own_at}
+use Rattle.bus_due.specs.RunState.{RunState, bus_of, array_of, agreement_of}
+use Rattle.bus_due.specs.RunSteps.{run_state}
+use Rattle.bus_due.specs.Wants.{own_command, own_commands, own_abort, own_aborts, book_of, item_want_time, current_of, since_of, seek_of, ready_at, ready_among, ready_of, ready_time, want_time}
+use Rattle.bus_due.specs.Sights.{sight_of, stage_of, want_of, flip_of, pace_of, offering_of, answering_of}
+use Rattle.bus_due.specs.Defs.{target_def_of}
+use Rattle.bus_due.specs.Connected.{is_receiver, end_due, connected_due}
+use Rattle.bus_due.specs.Due.{is_reset_past, reset_from, self_of, link_due_of, stage_due, calm_due, device_due, due_if}
+use Rattle.bus_due.specs.Next.{due, IsPrompt}
+use Rattle.bus_due.specs.Plain.{AreOfDevices}
+use Rattle.bus_due.proofs.Plains.{run_state_plain}
+use Rattle.bus_laws.proofs.ReactionTimes.{IsDueBefore, none_before, if_before, IsWantBefore, IsShortPace, AreAllBefore, longest, target_before, initiator_before, link_before, sample_before, reset_before}
+use Rattle.bus_laws.proofs.RowTimes.{ComeBefore, ages_before, handshakes_before, last_before, stage_before, IsOwnBefore, own_before, current_before, since_before, AreNumbersBefore}
+use Rattle.bus_laws.proofs.Periods.{period_is_byte}
+use Rattle.bus_laws.proofs.Limits.{IsHost, IsTarget, AreWithin, obeys_within, latency_within}
+use Rattle.bus_laws.proofs.Prompt.{least_is}
+
+-- ---- wants
+
+sooner_before : (limit : ℕ) (a b : Option ℕ) → IsWantBefore limit a → IsWantBefore limit b → IsWantBefore limit (sooner_time a b)
+sooner_before limit None b f g = g
+sooner_before limit (Some a) None f g = f
+sooner_before limit (Some a) (Some b) f g = omega arith
+
+time_before : (limit : ℕ) (q : Bool) (at : ℕ) → at < limit → IsWantBefore limit (time_if q at)
+time_before limit true at h = h
+time_before limit false at h = tt
+
+aborts_before : (limit : ℕ) (b : Sent) (dev n : ℕ) (aborts : List AbortDef) → 1000000000000 < limit → AllByRecursion (λ (a : AbortDef). a.at ≤ 1000000000000) aborts → IsWantBefore limit (abort_since (own_aborts b dev n aborts))
+aborts_before limit b dev n [] l h = tt
+aborts_before limit b dev n (a ∷ aborts) l h = go (a.host == dev) (aborts_before limit b dev (n + 1) aborts l h.1)
+  where
+    go : (q : Bool) → IsWantBefore limit (abort_since (own_aborts b dev (n + 1) aborts)) → IsWantBefore limit (abort_since (if q then own_abort b n a ∷ own_aborts b dev (n + 1) aborts else own_aborts b dev (n + 1) aborts))
+    go true more = let t = h.0 in sooner_before limit (time_if (not (is_done b (abort n))) a.at) (abort_since (own_aborts b dev (n + 1) aborts)) (time_before limit (not (is_done b (abort n))) a.at (omega arith)) more
+    go false more = more
+
+commands_before : (limit : ℕ) (b : Sent) (dev n most : ℕ) (now : List CmdDef) (commands : List CmdDef) → 1000000000000 < limit → AllByRecursion (λ (c : CmdDef). c.at ≤ 1000000000000) commands → IsWantBefore limit (command_since most now (own_commands b dev n commands))
+commands_before limit b dev n most now [] l h = tt
+commands_before limit b dev n most now (c ∷ commands) l h = go (c.host == dev) (commands_before limit b dev (n + 1) most now commands l h.1)
+  where
+    o : OwnCommand
+    o = own_command b n c
+
+    first : (q : Bool) → IsWantBefore limit (command_since most now (own_commands b dev (n + 1) commands)) → IsWantBefore limit (if q then time_if (may_follow most c.at now c) c.at else command_since most now (own_commands b dev (n + 1) commands))
+    first true more = let t = h.0 in time_before limit (may_follow most c.at now c) c.at (omega arith)
+    first false more = more
+
+    go : (q : Bool) → IsWantBefore limit (command_since most now (own_commands b dev (n + 1) commands)) → IsWantBefore limit (command_since most now (if q then own_command b n c ∷ own_commands b dev (n + 1) commands else own_commands b dev (n + 1) commands))
+    go true more = first (not ((own_command b n c).sent || (own_command b n c).over)) more
+    go false more = more
+
+item_before : (limit : ℕ) (s : ScenarioValue) (b : Sent) (dev : ℕ) → 1000000000000 < limit → AreWithin s → IsWantBefore limit (item_want_time s b dev)
+item_before limit s b dev l w =
+    let k = book_of s b dev in
+    sooner_before limit (abort_since k.aborts) (sooner_time (time_if (is_some k.sense) 0) (command_since k.most (open_in k.commands) k.commands))
+    (aborts_before limit b dev 1 s.aborts l w.aborts)
+    (sooner_before limit (time_if (is_some k.sense) 0) (command_since k.most (open_in k.commands) k.commands) (time_before limit (is_some k.sense) 0 (omega arith)) (commands_before limit b dev 1 k.most (open_in k.commands) s.commands l w.commands))
+
+-- ---- ready units
+
+abbrev IsReadyBefore : ℕ → Option Ready → Type 0
+IsReadyBefore limit None = Unit {0}
+IsReadyBefore limit (Some r) = r.time < limit
+
+seek_within : (targets : List TargetDef) (dev : ℕ) → AllByRecursion IsTarget targets → seek_of targets dev ≤ 1000000000
+seek_within [] dev h = omega arith
+seek_within (t ∷ targets) dev h = go (t.dev == dev) (seek_within targets dev h.1)
+  where
+    go : (q : Bool) → seek_of targets dev ≤ 1000000000 → (if q then t.seek else seek_of targets dev) ≤ 1000000000
+    go true more = h.0.1
+    go false more = more
+
+in_before : (limit : ℕ) (held : Bool) (r : Option RunningProcess) (time : ℕ) → time < limit → IsReadyBefore limit (ready_in held r time)
+in_before limit held None time h = tt
+in_before limit true (Some r) time h = tt
+in_before limit false (Some r) time h = h
+
+first_before : (limit : ℕ) (a b : Option Ready) → IsReadyBefore limit a → IsReadyBefore limit b → IsReadyBefore limit (first_ready a b)
+first_before limit None b f g = g
+first_before limit (Some a) None f g = f
+first_before limit (Some a) (Some b) f g = go (is_ready_before b a)
+  where
+    go : (q : Bool) → IsReadyBefore limit (if q then Some b else Some a)
+    go true = g
+    go false = f
+
+at_before : (end : ℕ) (a : Array) (times : List ℕ) (seek t u : ℕ) → 0 < end → AreNumbersBefore end times → seek ≤ 1000000000 → IsReadyBefore (end + 1000000000) (ready_at a times seek t u)
+at_before end a times seek t u some h k =
+    let z = since_before end some a.units times t u h in
+    in_before (end + 1000000000) (is_held a.holds t u) (current_of (unit_state_at a.units t u)) (since_of a.units times t u + seek) (omega arith)
+
+among_before : (end : ℕ) (a : Array) (times : List ℕ) (seek t : ℕ) → 0 < end → AreNumbersBefore end times → seek ≤ 1000000000 → IsReadyBefore (end + 1000000000) (ready_among a times seek t)
+among_before end a times seek t some h k =
+    let at_ : (u : ℕ) → IsReadyBefore (end + 1000000000) (ready_at a times seek t u) = λ u. at_before end a times seek t u some h k in
+    let L : ℕ = end + 1000000000 in
+    first_before L (ready_at a times seek t 0) _ (at_ 0)
+    (first_before L (ready_at a times seek t 1) _ (at_ 1)
+    (first_before L (ready_at a times seek t 2) _ (at_ 2)
+    (first_before L (ready_at a times seek t 3) _ (at_ 3)
+    (first_before L (ready_at a times seek t 4) _ (at_ 4)
+    (first_before L (ready_at a times seek t 5) _ (at_ 5)
+    (first_before L (ready_at a times seek t 6) _ (at_ 6)
+    (first_before L (ready_at a times seek t 7) _ (at_ 7) tt)))))))
+
+ready_want : (limit : ℕ) (r : Option Ready) → IsReadyBefore limit r → IsWantBefore limit (ready_time r)
+ready_want limit None h = tt
+ready_want limit (Some r) h = h
+
+want_more : (a b : ℕ) (o : Option ℕ) → a ≤ b → IsWantBefore a o → IsWantBefore b o
+want_more a b None l h = tt
+want_more a b (Some w) l h = omega arith
+
+want_before : (end : ℕ) (s : ScenarioValue) (rows : List Row) (dev : ℕ) → 1000000000000 < end → AreWithin s → ComeBefore end rows → IsWantBefore (end + 1000000000) (want_time s (run_state s rows) dev)
+want_before end s rows dev l w h = go (is_host s.hosts dev)
+  where
+    k : RunState
+    k = run_state s rows
+
+    go : (q : Bool) → IsWantBefore (end + 1000000000) (if q then item_want_time s (run_state s rows).story.sent dev else ready_time (ready_of s (run_state s rows) dev))
+    go true = item_before (end + 1000000000) s (run_state s rows).story.sent dev (omega arith) w
+    go false = ready_want (end + 1000000000) (ready_of s (run_state s rows) dev) (among_before end (array_of s (run_state s rows)) (run_state s rows).current_since (seek_of s.targets dev) dev (omega arith) (current_before end (omega arith) s rows h) (seek_within s.targets dev w.targets))
+
+-- ---- resets
+
+resets_before : (end dev : ℕ) (released : Option ℕ) (resets : List ResetDef) → 1000000000000 < end → AllByRecursion (λ (r : ResetDef). r.at ≤ 1000000000000) resets → IsWantBefore end (reset_from dev released resets)
+resets_before end dev released [] l h = tt
+resets_before end dev released (r ∷ resets) l h =
+    let t = h.0 in
+    sooner_before end (time_if (r.dev == dev && not (is_reset_past released r.at)) r.at) (reset_from dev released resets)
+    (time_before end (r.dev == dev && not (is_reset_past released r.at)) r.at (omega arith))
+    (resets_before end dev released resets l h.1)
+
+-- ---- how bytes cross, and how long a target waits
+
+record IsShortTimes (t : TransferTimes) : Type 0 where
+  period : t.period ≤ 2000
+  assertion : t.assertion ≤ 2000
+  negation : t.negation ≤ 2000
+  set_up : t.set_up ≤ 2000
+  hold : t.hold ≤ 2000
+
+slow_short : (factor : ℕ) → factor < 256 → IsShortTimes (slow_times factor)
+slow_short factor h = record { period = omega arith; assertion = omega arith; negation = omega arith; set_up = omega arith; hold = omega arith }
+
+times_short : (factor : ℕ) → factor < 256 → IsShortTimes (times_of factor)
+times_short factor h = go (nat_lt factor 25) (nat_lt factor 50)
+  where
+    go : (q r : Bool) → IsShortTimes (times_or_slow factor (if q then None else if r then Some (fast_times factor) else Some (slow_times factor)))
+    go true r = slow_short factor h
+    go false true = record { period = omega arith; assertion = omega arith; negation = omega arith; set_up = omega arith; hold = omega arith }
+    go false false = slow_short factor h
+
+lag_within : (hosts : List HostDef) (dev : ℕ) → AllByRecursion IsHost hosts → lag_by (find (λ (h : HostDef). h.dev == dev) hosts) ≤ 10000
+lag_within [] dev a = omega arith
+lag_within (h ∷ hosts) dev a = go (h.dev == dev) (lag_within hosts dev a.1)
+  where
+    go : (q : Bool) → lag_by (find (λ (g : HostDef). g.dev == dev) hosts) ≤ 10000 → lag_by (if q then Some h else find (λ (g : HostDef). g.dev == dev) hosts) ≤ 10000
+    go true more = a.0.1
+    go false more = more
+
+wait_within : (targets : List TargetDef) (dev : ℕ) → AllByRecursion IsTarget targets → seek_by (find (λ (t : TargetDef). t.dev == dev) targets) ≤ 1000000000
+wait_within [] dev a = omega arith
+wait_within (t ∷ targets) dev a = go (t.dev == dev) (wait_within targets dev a.1)
+  where
+    go : (q : Bool) → seek_by (find (λ (g : TargetDef). g.dev == dev) targets) ≤ 1000000000 → seek_by (if q then Some t else find (λ (g : TargetDef). g.dev == dev) targets) ≤ 1000000000
+    go true more = a.0.1
+    go false more = more
+
+pace_short : (s : ScenarioValue) (rows : List Row) (dev : ℕ) → AreWithin s → AreOfDevices rows → IsShortPace (pace_of s (run_state s rows) dev)
+pace_short s rows dev w h =
+    let d = (run_state_plain s rows h).dialogue in
+    let p : (agreement_of (run_state s rows)).period < 256 = let z = ap (λ (x : Dialogue). x.heard.now.agreement.period) d in let y = period_is_byte rows in omega arith in
+    let t = times_short (agreement_of (run_state s rows)).period p in
+    record { period = t.period; assertion = t.assertion; negation = t.negation; set_up = t.set_up; hold = t.hold; lag = lag_within s.hosts dev w.hosts }
+
+wait_short : (s : ScenarioValue) (rows : List Row) (dev : ℕ) → AreWithin s → (offering_of s (run_state s rows) dev).wait ≤ 1000000000
+wait_short s rows dev w = go _
+  where
+    go : (q : Bool) → (if q then seek_by (target_def_of s dev) else 0) ≤ 1000000000
+    go true = wait_within s.targets dev w.targets
+    go false = omega arith
+
+-- ---- what is due
+
+pub due_before : (end : ℕ) (s : ScenarioValue) (rows : List Row) (dev : ℕ) → 1000000000000 < end → AreWithin s → AreOfDevices rows → dev < 8 → ComeBefore end rows → IsDueBefore (end + longest) (due s rows dev)
+due_before end s rows dev l w h lt c = by (latency_of s dev) refl
+  where
+    some : 0 < end
+    some = omega arith
+
+    k : RunState
+    k = run_state s rows
+
+    reset : (lat : ℕ) → lat ≤ 100 → IsDueBefore (end + longest) (device_due s (run_state s rows) (self_of (run_state s rows) dev lat) (own_at (run_state s rows).owns dev))
+    reset lat q =
+        let pl = run_state_plain s rows h in
+        let o : IsOwnBefore end (own_at (run_state s rows).owns dev) = subst (λ (x : Own). IsOwnBefore end x) (sym (pl.own dev lt)) (own_before end some rows dev c) in
+        let ages : AreTimesBefore end (run_state s rows).ages = subst (λ (x : LineTimes). AreTimesBefore end x) (sym pl.ages) (ages_before end some rows c) in
+        let hs : AreHandshakesBefore end (run_state s rows).handshakes = subst (λ (x : Handshakes). AreHandshakesBefore end x) (sym pl.handshakes) (handshakes_before end some rows c) in
+        let st : IsStageBefore end (stage_of (run_state s rows)) = subst (λ (x : Stage). IsStageBefore end x) (sym pl.stage) (stage_before end some rows c) in
+        let last : (run_state s rows).last < end = let z = last_before end some rows c in let y = pl.last in omega arith in
+        let b = ages.bsy in let e = ages.sel in
+        let me : Myself = self_of (run_state s rows) dev lat in
+        let all : AreAllBefore end (sight_of (run_state s rows)) (run_state s rows).handshakes me = record { ages = ages; handshakes = hs; since = o.row; latency = q } in
+        let want = want_before end s rows dev l w c in
+        let link : IsDueBefore (end + longest) (link_due_of s (run_state s rows) me) = link_before end (bus_of (run_state s rows)) (run_state s rows).ages.bsy (run_state s rows).ages.sel me (want_of s (run_state s rows) dev) (flip_of (run_state s rows).faults (sample_time (sight_of (run_state s rows)) me)) (stage_of (run_state s rows)) b e o.row q want st in
+        let ends : (n : Connection) → IsDueBefore (end + longest) (connected_due s (run_state s rows) me n) = λ n.
+        sample_before end (is_receiver n (run_state s rows).story.bus_state.crossed dev) (run_state s rows).last (flip_of (run_state s rows).faults (run_state s rows).last) (end_due s (run_state s rows) me n) last
+        (if_before (end + longest) (n.initiator == dev) _ _
+        (initiator_before end (run_state s rows).exchange.begun (sight_of (run_state s rows)) (run_state s rows).handshakes me (pace_of s (run_state s rows) dev) (answering_of s (run_state s rows) dev) some all (pace_short s rows dev w h) o.ack)
+        (if_before (end + longest) (n.target == dev) _ _
+        (target_before end (run_state s rows).exchange.begun (sight_of (run_state s rows)) (run_state s rows).handshakes me (pace_of s (run_state s rows) dev) (offering_of s (run_state s rows) dev) some all (pace_short s rows dev w h) (wait_short s rows dev w))
+        (none_before (end + longest)))) in
+        reset_before end me (own_at (run_state s rows).owns dev).rst (reset_from dev (own_at (run_state s rows).owns dev).released s.resets) (calm_due s (run_state s rows) me) o.rst q (resets_before end dev (own_at (run_state s rows).owns dev).released s.resets l w.resets) (calm me link ends (bus_of (run_state s rows)).rst (run_state s rows).story.bus_state.connection)
+      where
+        calm : (me : Myself) → IsDueBefore (end + longest) (link_due_of s (run_state s rows) me) → ((n : Connection) → IsDueBefore (end + longest) (connected_due s (run_state s rows) me n)) → (r : Bool) (n : Option Connection) → IsDueBefore (end + longest) (stage_due s (run_state s rows) me r n)
+        calm me a f true n = a
+        calm me a f false None = a
+        calm me a f false (Some n) = f n
+
+    by : (o : Option ℕ) → latency_of s dev ≡ o → IsDueBefore (end + longest) (due_if s (run_state s rows) dev o)
+    by None e = none_before (end + longest)
+    by (Some lat) e = reset lat (latency_within s dev lat w e)
+
+-- ---- prompt traces
+
+later : (a b : ℕ) (rows : List Row) → a ≤ b → ComeBefore a rows → ComeBefore b rows
+later a b [] l h = tt
+later a b (row ∷ rows) l h = let z = h.0 in (omega arith, later a b rows l h.1)
+
+record IsBounded (rows : List Row) : Type 0 where
+  devices : AreOfDevices rows
+  times : ComeBefore (1000000000001 + length rows * 1000100000) rows
+
+bounded : (s : ScenarioValue) → AreWithin s → (rows : List Row) → IsPrompt s rows → IsBounded rows
+bounded s w [] p = record { devices = tt; times = tt }
+bounded s w (row ∷ rows) p =
+    let was = bounded s w rows p.0 in
+    let m = least_is s rows row p.1 in
+    let t = due_before (1000000000001 + length rows * 1000100000) s rows row.dev (omega arith) w was.devices m.inside was.times (record { time = row.time; kind = row.kind }) m.is_due in
+    record {
+      devices = (m.inside, was.devices);
+      times = (omega arith, later (1000000000001 + length rows * 1000100000) (1000000000001 + length (row ∷ rows) * 1000100000) rows (omega arith) was.times);
+    }
+
+pub times_bounded : (s : ScenarioValue) → Obeys s → (rows : List Row) → IsPrompt s rows → ComeBefore (1000000000001 + length rows * 1000100000) rows
+times_bounded s o rows p = (bounded s (obeys_within s o) rows p).times
+
+pub times_far : (s : ScenarioValue) → Obeys s → (rows : List Row) → IsPrompt s rows → length rows ≤ 2 ^ 32 → ComeBefore (2 ^ 62) rows
+times_far s o rows p l = later (1000000000001 + length rows * 1000100000) (2 ^ 62) rows (omega arith) (times_bounded s o rows p)
