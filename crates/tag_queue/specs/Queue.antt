@@ -23,7 +23,7 @@ pub record QueueState : Type 0 where
 
 abbrev pub is_current : Option ℕ → ℕ → Bool
 is_current None key = false
-is_current (Some current) key = current == key
+is_current (Some current) key = key == current
 
 abbrev pub waiting_in : Option ℕ → List Queued → List Queued
 waiting_in current [] = []

@@ -25,7 +25,7 @@ pub fn is_current(current: Option<Key>, key: Key) -> bool
     ensures { result ≡ is_current_key current key }
 {
     match current {
-        Some(current) => current == key,
+        Some(current) => key == current,
         None => false,
     }
 }
