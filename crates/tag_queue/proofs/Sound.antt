@@ -1,5 +1,6 @@
 -- The fields of a queue stay sound: as a command arrives, as one becomes current, and as one leaves.
-use Rattle.std.proofs.Common.{◌≡◌, ◌≢◌, ◌<◌, ◌≤◌, ℕ, ◌+◌, ◌-◌, zero, suc, Bool, true, false, cond, not, ◌&&◌, ◌||◌, List, [], ◌∷◌, ◌++◌, length, Option, Some, None, refl, ap, sym, subst, ◌∙◌, arith, rules, eqb, eq-eqb, append_assoc}
+use Rattle.std.proofs.Common.{◌≡◌, ◌≢◌, ◌<◌, ◌≤◌, ℕ, ◌+◌, ◌-◌, zero, suc, Bool, true, false, cond, not, ◌&&◌, ◌||◌, List, [], ◌∷◌, ◌++◌, length, Option, Some, None, refl, ap, sym, subst, ◌∙◌, arith, rules, eqb, eq-eqb, append_assoc, take, drop}
+use Rattle.std.proofs.lemmas.Grind.{common_steps}
 use Rattle.std.specs.Prelude.{◌==◌, if◌then◌else◌}
 use Rattle.std.specs.List.{filter}
 use Rattle.std.proofs.lemmas.Bool.{eqb-true}
@@ -30,10 +31,10 @@ unequal a b other = go (a == b) refl
   go false e = refl
   go true e = absurd (other (eqb-true a b e))
 
-pub Others : Slab Entry → Slab Entry → ℕ → Type 0
+abbrev pub Others : Slab Entry → Slab Entry → ℕ → Type 0
 Others s t key = (other : ℕ) → other ≢ key → get t other ≡ get s other
 
-pub keeps : (a : Arrival) → ℕ → Bool
+abbrev pub keeps : (a : Arrival) → ℕ → Bool
 keeps a key = not (a.key == key)
 
 pub among_cons : (a : Arrival) (xs : List Arrival) (key : ℕ) → is_among (a ∷ xs) key ≡ false → (a.key ≢ key) × (is_among xs key ≡ false)
@@ -57,14 +58,12 @@ fresh_key s leaving current (a ∷ xs) before key kept vacant = go (a.key == key
 
 pub kept_others : (s t : Slab Entry) (key : ℕ) (leaving current : Option ℕ) (xs : List Arrival) (before : List Entry) → AreKept s leaving current before xs
     → is_among xs key ≡ false → Others s t key → AreKept t leaving current before xs
-unfolding Others
 kept_others s t key leaving current [] before kept fresh others = tt
 kept_others s t key leaving current (a ∷ xs) before kept fresh others =
     let parts = among_cons a xs key fresh in
     (kept.0, others a.key parts.0 ∙ kept.1, kept.2, kept_others s t key leaving current xs (before_with (is_out leaving current a.key) before kept.0) kept.3 parts.1 others)
 
 pub queued_others : (s t : Slab Entry) (key : ℕ) (xs : List Arrival) → is_among xs key ≡ false → Others s t key → queued_at t xs ≡ queued_at s xs
-unfolding Others
 queued_others s t key [] fresh others = refl
 queued_others s t key (a ∷ xs) fresh others =
     let parts = among_cons a xs key fresh in
@@ -132,7 +131,6 @@ queued_push s (x ∷ xs) a p found = ap (queued_if x.key (get s x.key)) (queued_
 pub enter_sound : (s t : Slab Entry) (xs : List Arrival) (current : Option ℕ) (depth room more_room : ℕ) (a : Arrival) (p : Entry) → IsSound s xs current depth room → length xs < depth
     → get s a.key ≡ None → Updates s t a.key (Some p) → slab_len t ≡ slab_len s + 1 → t.capacity ≡ s.capacity → more_room ≡ room → a.earlier ≡ held_back_by (entries_at s current xs) p
     → IsSound t (xs ++ a ∷ []) current depth more_room
-unfolding Others
 enter_sound s t xs current depth room more_room a p sound below vacant updates counted same_room same_more held =
     let fresh = fresh_key s None current xs [] a.key sound.kept vacant in
     let same : entries_at t current xs ≡ entries_at s current xs = ap (λ (q : List Queued). entries_in (waiting_in current q)) (queued_others s t a.key xs fresh updates.others) in
@@ -287,3 +285,159 @@ start_sound s xs depth room key leaving sound found live = record {
   entries_fit = sound.entries_fit;
   arrivals_fit = sound.arrivals_fit;
 }
+
+-- ---- a command leaves
+
+among_without : (key other : ℕ) (xs : List Arrival) → other ≢ key → is_among (filter (λ a. keeps a key) xs) other ≡ is_among xs other
+among_without key other [] apart = refl
+among_without key other (a ∷ xs) apart = go (a.key == key) refl (among_without key other xs apart)
+  where
+  go : (b : Bool) → (a.key == key) ≡ b → is_among (filter (λ x. keeps x key) xs) other ≡ is_among xs other
+      → is_among (cond (not b) (a ∷ filter (λ x. keeps x key) xs) (filter (λ x. keeps x key) xs)) other ≡ (if a.key == other then true else is_among xs other)
+  go false differs rest = ap (λ (r : Bool). if a.key == other then true else r) rest
+  go true same rest = rest ∙ sym (ap (λ (r : Bool). if r then true else is_among xs other) (unequal a.key other (λ e. apart (sym e ∙ eqb-true a.key key same))))
+
+apart_without : (key : ℕ) (xs : List Arrival) → AreApart xs → AreApart (filter (λ a. keeps a key) xs)
+apart_without key [] apart = tt
+apart_without key (a ∷ xs) apart = go (a.key == key) refl (apart_without key xs apart.1)
+  where
+  go : (b : Bool) → (a.key == key) ≡ b → AreApart (filter (λ x. keeps x key) xs) → AreApart (cond (not b) (a ∷ filter (λ x. keeps x key) xs) (filter (λ x. keeps x key) xs))
+  go false differs rest = (among_without key a.key xs (differ a.key key differs) ∙ apart.0, rest)
+  go true same rest = rest
+
+all_without : (key : ℕ) (xs : List Arrival) → is_among xs key ≡ false → filter (λ a. keeps a key) xs ≡ xs
+all_without key [] fresh = refl
+all_without key (a ∷ xs) fresh =
+    let parts = among_cons a xs key fresh in
+    ap (λ (b : Bool). cond (not b) (a ∷ filter (λ x. keeps x key) xs) (filter (λ x. keeps x key) xs)) (unequal a.key key parts.0) ∙ ap (λ (rest : List Arrival). a ∷ rest) (all_without key xs parts.1)
+
+length_without : (key : ℕ) (xs : List Arrival) → AreApart xs → is_among xs key ≡ true → length (filter (λ a. keeps a key) xs) + 1 ≡ length xs
+length_without key [] apart live = absurd (true_false (sym live))
+length_without key (a ∷ xs) apart live = go (a.key == key) refl live (length_without key xs apart.1)
+  where
+  go : (b : Bool) → (a.key == key) ≡ b → (if b then true else is_among xs key) ≡ true → (is_among xs key ≡ true → length (filter (λ x. keeps x key) xs) + 1 ≡ length xs)
+      → length (cond (not b) (a ∷ filter (λ x. keeps x key) xs) (filter (λ x. keeps x key) xs)) + 1 ≡ suc (length xs)
+  go false differs e rest = let r : length (filter (λ x. keeps x key) xs) + 1 ≡ length xs = rest e in omega arith
+  go true same e rest =
+      let r : length (filter (λ x. keeps x key) xs) ≡ length xs = ap length (all_without key xs (ap (is_among xs) (sym (eqb-true a.key key same)) ∙ apart.0)) in omega arith
+
+pub kept_without : (s t : Slab Entry) (key : ℕ) (current : Option ℕ) (xs : List Arrival) (before : List Entry) → Others s t key → AreKept s (Some key) current before xs
+    → AreKept t None current before (filter (λ a. keeps a key) xs)
+kept_without s t key current [] before others kept = tt
+kept_without s t key current (a ∷ xs) before others kept =
+    go (a.key == key) refl kept (kept_without s t key current xs (before_with (is_out (Some key) current a.key) before kept.0) others kept.3)
+  where
+  go : (b : Bool) → (a.key == key) ≡ b → (k : AreKept s (Some key) current before (a ∷ xs))
+      → AreKept t None current (before_with (is_out (Some key) current a.key) before k.0) (filter (λ x. keeps x key) xs)
+      → AreKept t None current before (cond (not b) (a ∷ filter (λ x. keeps x key) xs) (filter (λ x. keeps x key) xs))
+  go false differs k rest =
+      let out : is_out (Some key) current a.key ≡ is_current current a.key = ap (λ (b : Bool). b || is_current current a.key) differs in
+      (
+        k.0,
+        others a.key (differ a.key key differs) ∙ k.1,
+        subst (λ (b : Bool). IsCounted b before k.0 a.earlier) out k.2,
+        subst (λ (b : Bool). AreKept t None current (before_with b before k.0) (filter (λ x. keeps x key) xs)) out rest,
+      )
+  go true same k rest =
+      let out : is_out (Some key) current a.key ≡ true = ap (λ (b : Bool). b || is_current current a.key) same in
+      subst (λ (b : Bool). AreKept t None current (before_with b before k.0) (filter (λ x. keeps x key) xs)) out rest
+
+pub queued_without : (s t : Slab Entry) (key : ℕ) (leaving current : Option ℕ) (xs : List Arrival) (before : List Entry) → Others s t key → AreKept s leaving current before xs
+    → queued_at t (filter (λ a. keeps a key) xs) ≡ without_key (queued_at s xs) key
+queued_without s t key leaving current [] before others kept = refl
+queued_without s t key leaving current (a ∷ xs) before others kept =
+    go (a.key == key) refl kept.0 kept.1 (queued_without s t key leaving current xs (before_with (is_out leaving current a.key) before kept.0) others kept.3)
+    ∙ sym (ap (λ (slot : Option Entry). without_key (queued_if a.key slot (queued_at s xs)) key) kept.1)
+  where
+  go : (b : Bool) → (a.key == key) ≡ b → (p : Entry) → get s a.key ≡ Some p → queued_at t (filter (λ x. keeps x key) xs) ≡ without_key (queued_at s xs) key
+      → queued_at t (cond (not b) (a ∷ filter (λ x. keeps x key) xs) (filter (λ x. keeps x key) xs))
+        ≡ (if a.key == key then without_key (queued_at s xs) key else record { key = a.key; entry = p } ∷ without_key (queued_at s xs) key)
+  go false differs p found rest =
+      (λ i. queued_if a.key ((others a.key (differ a.key key differs) ∙ found) i) (rest i))
+      ∙ sym (ap (λ (b : Bool). if b then without_key (queued_at s xs) key else record { key = a.key; entry = p } ∷ without_key (queued_at s xs) key) differs)
+  go true same p found rest = rest ∙ sym (ap (λ (b : Bool). if b then without_key (queued_at s xs) key else record { key = a.key; entry = p } ∷ without_key (queued_at s xs) key) same)
+
+current_without_live : (xs : List Arrival) (current : Option ℕ) (key : ℕ) → IsAmong xs current → is_current current key ≡ false → IsAmong (filter (λ a. keeps a key) xs) current
+current_without_live xs None key live other = tt
+current_without_live xs (Some c) key live other = among_without key c xs (λ e. differ key c other (sym e)) ∙ live
+
+-- Here the arrivals are those after it waits no longer.
+pub remove_sound : (s t : Slab Entry) (xs : List Arrival) (current : Option ℕ) (depth room more_room : ℕ) (key : ℕ) → AreKept s (Some key) current [] xs → AreApart xs → IsAmong xs current
+    → is_current current key ≡ false → is_among xs key ≡ true → slab_len s ≡ length xs → length xs ≤ depth → depth ≤ s.capacity → depth ≤ room
+    → Updates s t key None → slab_len t + 1 ≡ slab_len s → t.capacity ≡ s.capacity → more_room ≡ room
+    → IsSound t (filter (λ a. keeps a key) xs) current depth more_room
+remove_sound s t xs current depth room more_room key kept apart live other there counted fits entries_fit arrivals_fit updates fewer same_room same_more =
+    let shorter = length_without key xs apart there in
+    record {
+      kept = kept_without s t key current xs [] updates.others kept;
+      apart = apart_without key xs apart;
+      current_is_live = current_without_live xs current key live other;
+      counted = omega arith;
+      fits = omega arith;
+      entries_fit = grind (arith, entries_fit);
+      arrivals_fit = grind (arith, arrivals_fit);
+    }
+
+-- ---- the live commands by their keys
+
+pub has_key_queued : (s : Slab Entry) (key : ℕ) (leaving current : Option ℕ) (xs : List Arrival) (before : List Entry) → AreKept s leaving current before xs → has_key (queued_at s xs) key ≡ is_among xs key
+has_key_queued s key leaving current [] before kept = refl
+has_key_queued s key leaving current (a ∷ xs) before kept =
+    ap (λ (slot : Option Entry). has_key (queued_if a.key slot (queued_at s xs)) key) kept.1
+    ∙ ap (λ (b : Bool). if a.key == key then true else b) (has_key_queued s key leaving current xs (before_with (is_out leaving current a.key) before kept.0) kept.3)
+
+pub entry_queued : (s : Slab Entry) (key : ℕ) (leaving current : Option ℕ) (xs : List Arrival) (before : List Entry) → AreKept s leaving current before xs → is_among xs key ≡ true
+    → entry_at (queued_at s xs) key ≡ get s key
+entry_queued s key leaving current [] before kept live = absurd (true_false (sym live))
+entry_queued s key leaving current (a ∷ xs) before kept live =
+    ap (λ (slot : Option Entry). entry_at (queued_if a.key slot (queued_at s xs)) key) kept.1
+    ∙ go (a.key == key) refl kept.0 kept.1 live (entry_queued s key leaving current xs (before_with (is_out leaving current a.key) before kept.0) kept.3)
+  where
+  go : (b : Bool) → (a.key == key) ≡ b → (p : Entry) → get s a.key ≡ Some p → (if b then true else is_among xs key) ≡ true → (is_among xs key ≡ true → entry_at (queued_at s xs) key ≡ get s key)
+      → (if b then Some p else entry_at (queued_at s xs) key) ≡ get s key
+  go false differs p found e rest = rest e
+  go true same p found e rest = sym found ∙ ap (get s) (eqb-true a.key key same)
+
+pub live_entry : (s : Slab Entry) (key : ℕ) (leaving current : Option ℕ) (xs : List Arrival) (before : List Entry) → AreKept s leaving current before xs → is_among xs key ≡ true
+    → (p : Entry) × (get s key ≡ Some p)
+live_entry s key leaving current [] before kept live = absurd (true_false (sym live))
+live_entry s key leaving current (a ∷ xs) before kept live =
+    go (a.key == key) refl kept.0 kept.1 live (live_entry s key leaving current xs (before_with (is_out leaving current a.key) before kept.0) kept.3)
+  where
+  go : (b : Bool) → (a.key == key) ≡ b → (p : Entry) → get s a.key ≡ Some p → (if b then true else is_among xs key) ≡ true → (is_among xs key ≡ true → (q : Entry) × (get s key ≡ Some q))
+      → (q : Entry) × (get s key ≡ Some q)
+  go false differs p found e rest = rest e
+  go true same p found e rest = (p, ap (get s) (sym (eqb-true a.key key same)) ∙ found)
+
+pub length_queued : (s : Slab Entry) (leaving current : Option ℕ) (xs : List Arrival) (before : List Entry) → AreKept s leaving current before xs → length (queued_at s xs) ≡ length xs
+length_queued s leaving current [] before kept = refl
+length_queued s leaving current (a ∷ xs) before kept =
+    ap (λ (slot : Option Entry). length (queued_if a.key slot (queued_at s xs))) kept.1 ∙ ap suc (length_queued s leaving current xs (before_with (is_out leaving current a.key) before kept.0) kept.3)
+
+-- All items of a vector, written in place.
+pub put_whole : (n : ℕ) (new items : List Arrival) → length new ≡ n → take n (new ++ drop (length new) items) ≡ new
+put_whole n new items same = grind (arith, common_steps)
+
+pub current_left_sound : (s t : Slab Entry) (xs : List Arrival) (depth room more_room : ℕ) (key : ℕ) → IsSound s xs (Some key) depth room
+    → Updates s t key None → slab_len t + 1 ≡ slab_len s → t.capacity ≡ s.capacity → more_room ≡ room → IsSound t (filter (λ a. keeps a key) xs) None depth more_room
+current_left_sound s t xs depth room more_room key sound updates fewer same_room same_more =
+    remove_sound s t xs None depth room more_room key (kept_out s None (Some key) (Some key) None (λ k. sym (or_false (k == key))) xs [] sound.kept) sound.apart tt refl
+    sound.current_is_live sound.counted sound.fits sound.entries_fit sound.arrivals_fit updates fewer same_room same_more
+
+current_lowered : (s : Slab Entry) (leaving : Entry) (key : ℕ) (xs : List Arrival) (current : Option ℕ) → IsAmong xs current → IsAmong (lowered s leaving key false xs) current
+current_lowered s leaving key xs None live = tt
+current_lowered s leaving key xs (Some c) live = among_lowered s leaving key xs false c ∙ live
+
+pub waiting_left_sound : (s t : Slab Entry) (xs : List Arrival) (current : Option ℕ) (depth room more_room : ℕ) (key : ℕ) (leaving : Entry) → IsSound s xs current depth room → get s key ≡ Some leaving
+    → is_current current key ≡ false → is_among xs key ≡ true → Updates s t key None → slab_len t + 1 ≡ slab_len s → t.capacity ≡ s.capacity → more_room ≡ room
+    → IsSound t (filter (λ a. keeps a key) (lowered s leaving key false xs)) current depth more_room
+waiting_left_sound s t xs current depth room more_room key leaving sound found waits live updates fewer same_room same_more =
+    remove_sound s t (lowered s leaving key false xs) current depth room more_room key (kept_lowered s current key leaving xs [] sound.kept sound.apart found waits)
+    (apart_lowered s leaving key xs false sound.apart) (current_lowered s leaving key xs current sound.current_is_live) waits (among_lowered s leaving key xs false key ∙ live)
+    (sound.counted ∙ sym (length_lowered s leaving key xs false)) (rw (length_lowered s leaving key xs false) sound.fits) sound.entries_fit sound.arrivals_fit updates fewer same_room same_more
+
+pub waiting_left : (s t : Slab Entry) (xs : List Arrival) (current : Option ℕ) (depth room : ℕ) (key : ℕ) (leaving : Entry) → IsSound s xs current depth room → get s key ≡ Some leaving
+    → is_current current key ≡ false → Updates s t key None → queued_at t (filter (λ a. keeps a key) (lowered s leaving key false xs)) ≡ without_key (queued_at s xs) key
+waiting_left s t xs current depth room key leaving sound found waits updates =
+    queued_without s t key (Some key) current (lowered s leaving key false xs) [] updates.others (kept_lowered s current key leaving xs [] sound.kept sound.apart found waits)
+    ∙ ap (λ (q : List Queued). without_key q key) (queued_lowered s leaving key xs false)

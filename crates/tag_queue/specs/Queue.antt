@@ -1,5 +1,5 @@
 -- The queue of a logical unit, and what each call does to it (6.6.17, 7.8).
-use Rattle.std.specs.Prelude.{ℕ, zero, suc, Bool, true, false, ◌&&◌, ◌==◌, List, [], ◌∷◌, ◌++◌, Option, Some, None, slice_set, if◌then◌else◌}
+use Rattle.std.specs.Prelude.{ℕ, zero, suc, Bool, true, false, ◌&&◌, ◌==◌, List, [], ◌∷◌, ◌++◌, Option, Some, None, replicate, slice_set, if◌then◌else◌}
 use Rattle.std.specs.List.{list_any}
 use Rattle.bus_base.specs.declared.events.Pick.{Pick}
 use Rattle.disk_array.specs.declared.entries.Entry.{Entry}
@@ -77,14 +77,23 @@ may_run_key q key = may_run (entries_in (waiting_of q)) (place_of (waiting_of q)
 
 -- ---- what the calls do
 
+abbrev pub empty_queue : ℕ → QueueState
+empty_queue depth = record { depth = depth; arrived = []; current = None; hold = replicate 8 false }
+
 abbrev pub queue_with : QueueState → ℕ → Entry → QueueState
 queue_with q key entry = record q { arrived = q.arrived ++ record { key = key; entry = entry } ∷ [] }
+
+abbrev pub queue_started : QueueState → ℕ → QueueState
+queue_started q key = record q { current = Some key }
 
 abbrev pub current_without : Option ℕ → ℕ → Option ℕ
 current_without current key = if is_current current key then None else current
 
+abbrev pub queue_left : QueueState → ℕ → Option ℕ → QueueState
+queue_left q key current = record q { arrived = without_key q.arrived key; current = current }
+
 abbrev pub queue_without : QueueState → ℕ → QueueState
-queue_without q key = record q { arrived = without_key q.arrived key; current = current_without q.current key }
+queue_without q key = queue_left q key (current_without q.current key)
 
 -- The commands of one initiator, or all.
 abbrev pub is_of : Option ℕ → Entry → Bool

@@ -11,6 +11,8 @@
 #![tactic(auto)]
 
 mod arrivals;
+mod queue;
 
 pub use disk_array::{Class, Dev, Entry, Pick, ProcId};
-pub use arrivals::{Arrival, Key};
+pub use queue::{Full, Queue};
+pub use arrivals::Key;
