@@ -1,3 +1,5 @@
 pub mod Scans
 pub mod Leaving
 pub mod Sound
+pub mod Chosen
+pub mod Clearing

@@ -21,10 +21,10 @@ none_some x e = cc
 true_false : true ≡ false → ⊥
 true_false e = cc
 
-differ : (a b : ℕ) → (a == b) ≡ false → a ≢ b
+pub differ : (a b : ℕ) → (a == b) ≡ false → a ≢ b
 differ a b other same = true_false (sym (eq-eqb a b same) ∙ other)
 
-unequal : (a b : ℕ) → a ≢ b → (a == b) ≡ false
+pub unequal : (a b : ℕ) → a ≢ b → (a == b) ≡ false
 unequal a b other = go (a == b) refl
   where
   go : (r : Bool) → (a == b) ≡ r → r ≡ false

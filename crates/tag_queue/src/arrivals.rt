@@ -3,11 +3,11 @@ ghost use Rattle.std.specs.Prelude.{◌≡◌, ◌+◌, ◌-◌, ◌==◌, ◌&&
 ghost use Rattle.slab.specs.Slab.{get};
 ghost use Rattle.bus_base.specs.declared.events.Pick.TheVariants as picks;
 ghost use Rattle.disk_array.specs.declared.entries.Entry.{Entry};
-ghost use Rattle.disk_array.specs.Order.{is_head as is_head_class, is_ordered as is_ordered_class, overlap, holds_back as holds_back_entry, last_head as last_head_place, may_run_in_order, picked_place, runnable_after};
-ghost use Rattle.tag_queue.specs.Queue.{is_current as is_current_key, key_at as waiting_key, place_of, same_tag as same_tag_number, key_of as first_key_of};
+ghost use Rattle.disk_array.specs.Order.{is_head as is_head_class, is_ordered as is_ordered_class, overlap, holds_back as holds_back_entry, last_head as last_head_place, may_run_in_order, picked_place, runnable_after, chosen_place};
+ghost use Rattle.tag_queue.specs.Queue.{is_current as is_current_key, key_at as waiting_key, key_at_if, place_of, same_tag as same_tag_number, key_of as first_key_of};
 ghost use Rattle.tag_queue.specs.Stored.{queued_at, waiting_at, entries_at, held_back_by, AreKept, IsLive, lowered, lowered_by};
 
-use disk_array::{Class, Dev, Entry};
+use disk_array::{Class, Dev, Entry, Pick};
 use slab::Slab;
 
 /// What a command is called by for as long as it is live.
@@ -126,6 +126,24 @@ pub fn last_in_order(entries: &Slab<Entry>, arrivals: &[Arrival], current: Optio
         }
     }
     found
+}
+
+/// The place of the one that is chosen, by its key: the last HEAD OF QUEUE command, and without one the first or the
+/// last of those that may run. The first that waits always may.
+#[tactic(auto, using(crate::proofs::Chosen::head_chosen, crate::proofs::Chosen::first_chosen, crate::proofs::Chosen::last_chosen))]
+pub fn runnable_place(entries: &Slab<Entry>, arrivals: &[Arrival], current: Option<Key>, pick: Pick) -> Option<usize>
+    requires kept { AreKept entries.now None current [] arrivals.now }
+    ensures { key_at_if (waiting_at entries.now current arrivals.now) result
+        ≡ key_at_if (waiting_at entries.now current arrivals.now) (chosen_place pick (entries_at entries.now current arrivals.now)) }
+{
+    let head = last_head(entries, arrivals, current);
+    if head.is_some() {
+        return head;
+    }
+    match pick {
+        Pick::First => Some(0),
+        Pick::Last => last_in_order(entries, arrivals, current),
+    }
 }
 
 /// Where a command waits.

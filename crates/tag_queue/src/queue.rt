@@ -1,8 +1,9 @@
 //! The queue of a logical unit (ANSI X3.131-1994, 6.6.17 and 7.8).
-ghost use Rattle.std.specs.Prelude.{◌≡◌, ◌<◌, true, false, length, Some, None, IfOk, OnOk, OnErr, slice_index_or};
-ghost use Rattle.tag_queue.specs.Queue.{empty_queue, queue_with, queue_started, queue_left, queue_without, with_held, is_current as is_current_key, is_held, has_key, entry_at, chosen_key, may_run_key, key_of as first_key_of};
+ghost use Rattle.std.specs.Prelude.{◌≡◌, ◌<◌, ◌⊎◌, true, false, [], length, Some, None, IfNone, IfOk, OnOk, OnErr, slice_index_or};
+ghost use Rattle.disk_array.specs.Order.{chosen_place};
+ghost use Rattle.tag_queue.specs.Queue.{empty_queue, queue_with, queue_started, queue_left, queue_without, with_held, is_current as is_current_key, is_held, has_key, entry_at, waiting_of, entries_in, key_at_if, chosen_key, may_run_key, key_of as first_key_of};
 
-use super::arrivals::{Arrival, Key, earlier_conflicts, is_current, key_at, key_of, last_head, last_in_order, lower_later, place_standing};
+use super::arrivals::{Arrival, Key, earlier_conflicts, is_current, key_at, key_of, last_head, lower_later, place_standing, runnable_place};
 use bus_base::NoMemory;
 use disk_array::{Dev, Entry, Pick};
 use slab::Slab;
@@ -78,23 +79,21 @@ impl Queue {
     /// The key of the waiting command that the unit chooses: of those that may run the first or the last that arrived.
     /// `None` where nothing waits, and while the hold has a member.
     pub fn choose(&self, pick: Pick) -> Option<Key>
-        ensures { result ≡ chosen_key self.now pick }
+        ensures exact { result ≡ chosen_key self.now pick }
+        ensures none { IfNone result ((is_held self.now.hold ≡ true) ⊎ (waiting_of self.now ≡ [])) }
     {
         if self.held() {
             return None;
         }
+        self.waiting_choice(pick)
+    }
+
+    fn waiting_choice(&self, pick: Pick) -> Option<Key>
+        ensures { result ≡ key_at_if (waiting_of self.now) (chosen_place pick (entries_in (waiting_of self.now))) }
+    {
         let arrivals = self.arrivals.as_slice();
-        let place = match last_head(&self.entries, arrivals, self.current) {
-            Some(head) => Some(head),
-            None => match pick {
-                Pick::First => Some(0),
-                Pick::Last => last_in_order(&self.entries, arrivals, self.current),
-            },
-        };
-        match place {
-            Some(place) => key_at(&self.entries, arrivals, self.current, place),
-            None => None,
-        }
+        let place = runnable_place(&self.entries, arrivals, self.current, pick)?;
+        key_at(&self.entries, arrivals, self.current, place)
     }
 
     /// Whether the waiting command of this key may run.

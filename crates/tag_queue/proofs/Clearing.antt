@@ -1,0 +1,81 @@
+-- The commands of one initiator leave one after the other.
+use Rattle.std.proofs.Common.{◌≡◌, ◌≢◌, ℕ, ◌+◌, suc, Bool, true, false, List, [], ◌∷◌, length, Option, Some, None, refl, ap, sym, subst, ◌∙◌, arith, rules, eqb, eq-eqb}
+use Rattle.std.specs.Prelude.{◌==◌, if◌then◌else◌}
+use Rattle.std.proofs.lemmas.Bool.{eqb-true}
+use Rattle.slab.specs.Slab.{Slab, get}
+use Rattle.disk_array.specs.declared.entries.Entry.{Entry}
+use Rattle.tag_queue.specs.declared.arrivals.Arrival.{Arrival}
+use Rattle.tag_queue.specs.Queue.{Queued, is_current, current_without, current_among, has_key, entry_at, without_key, is_of, without_those_of}
+use Rattle.tag_queue.specs.Stored.{queued_if, queued_at, is_out, before_with, AreKept, is_among, IsAmong}
+use Rattle.tag_queue.proofs.Scans.{some_same}
+use Rattle.tag_queue.proofs.Sound.{unequal, differ, has_key_queued}
+
+-- What has this key is all of that initiator.
+abbrev pub AreOf : Option ℕ → ℕ → List Queued → Type 0
+AreOf who key [] = Unit {0}
+AreOf who key (q ∷ queued) = ((q.key == key) ≡ true → is_of who q.entry ≡ true) × AreOf who key queued
+
+pub are_of : (s : Slab Entry) (leaving current who : Option ℕ) (key : ℕ) (p : Entry) (xs : List Arrival) (before : List Entry) → AreKept s leaving current before xs → get s key ≡ Some p → is_of who p ≡ true
+    → AreOf who key (queued_at s xs)
+are_of s leaving current who key p [] before kept found theirs = tt
+are_of s leaving current who key p (a ∷ xs) before kept found theirs =
+    subst (λ (slot : Option Entry). AreOf who key (queued_if a.key slot (queued_at s xs))) (sym kept.1) (
+      λ same. ap (is_of who) (some_same kept.0 p (sym kept.1 ∙ ap (get s) (eqb-true a.key key same) ∙ found)) ∙ theirs,
+      are_of s leaving current who key p xs (before_with (is_out leaving current a.key) before kept.0) kept.3 found theirs,
+    )
+
+pub without_first : (who : Option ℕ) (key : ℕ) (queued : List Queued) → AreOf who key queued → without_those_of who (without_key queued key) ≡ without_those_of who queued
+without_first who key [] theirs = refl
+without_first who key (q ∷ queued) theirs = go (q.key == key) refl (without_first who key queued theirs.1)
+  where
+  go : (b : Bool) → (q.key == key) ≡ b → without_those_of who (without_key queued key) ≡ without_those_of who queued
+      → without_those_of who (if b then without_key queued key else q ∷ without_key queued key) ≡ (if is_of who q.entry then without_those_of who queued else q ∷ without_those_of who queued)
+  go true same rest = rest ∙ sym (ap (λ (r : Bool). if r then without_those_of who queued else q ∷ without_those_of who queued) (theirs.0 same))
+  go false other rest = ap (λ (l : List Queued). if is_of who q.entry then l else q ∷ l) rest
+
+-- ---- the current one
+
+true_false : true ≡ false → ⊥
+true_false e = cc
+
+no_key_without : (who : Option ℕ) (key : ℕ) (queued : List Queued) → AreOf who key queued → has_key (without_those_of who queued) key ≡ false
+no_key_without who key [] theirs = refl
+no_key_without who key (q ∷ queued) theirs = go (is_of who q.entry) refl (no_key_without who key queued theirs.1)
+  where
+  at : (b : Bool) → (q.key == key) ≡ b → is_of who q.entry ≡ false → has_key (without_those_of who queued) key ≡ false → (if b then true else has_key (without_those_of who queued) key) ≡ false
+  at true same kept rest = absurd (true_false (sym (theirs.0 same) ∙ kept))
+  at false other kept rest = rest
+  go : (b : Bool) → is_of who q.entry ≡ b → has_key (without_those_of who queued) key ≡ false → has_key (if b then without_those_of who queued else q ∷ without_those_of who queued) key ≡ false
+  go true theirs_is rest = rest
+  go false kept rest = at (q.key == key) refl kept rest
+
+pub current_first : (who current : Option ℕ) (key : ℕ) (queued : List Queued) → AreOf who key queued
+    → current_among (without_those_of who queued) (current_without current key) ≡ current_among (without_those_of who queued) current
+current_first who None key queued theirs = refl
+current_first who (Some c) key queued theirs = go (key == c) refl
+  where
+  go : (b : Bool) → (key == c) ≡ b → current_among (without_those_of who queued) (if b then None else Some c) ≡ current_among (without_those_of who queued) (Some c)
+  go false other = refl
+  go true same = sym (ap (λ (b : Bool). if b then Some c else None) (ap (has_key (without_those_of who queued)) (sym (eqb-true key c same)) ∙ no_key_without who key queued theirs))
+
+-- ---- the first one
+
+abbrev pub first_of : List Queued → Option ℕ → Option ℕ
+first_of [] who = None
+first_of (q ∷ queued) who = if is_of who q.entry then Some q.key else first_of queued who
+
+none_some : {A : Type 0} (x : A) → None ≡ Some x → ⊥
+none_some x e = cc
+
+pub all_stay : (who : Option ℕ) (queued : List Queued) → first_of queued who ≡ None → without_those_of who queued ≡ queued
+all_stay who [] none = refl
+all_stay who (q ∷ queued) none = go (is_of who q.entry) none (all_stay who queued)
+  where
+  go : (b : Bool) → (if b then Some q.key else first_of queued who) ≡ None → (first_of queued who ≡ None → without_those_of who queued ≡ queued)
+      → (if b then without_those_of who queued else q ∷ without_those_of who queued) ≡ q ∷ queued
+  go true e rest = absurd (none_some q.key (sym e))
+  go false e rest = ap (λ (l : List Queued). q ∷ l) (rest e)
+
+pub current_stays : (s : Slab Entry) (xs : List Arrival) (leaving now current : Option ℕ) (before : List Entry) → AreKept s leaving now before xs → IsAmong xs current → current_among (queued_at s xs) current ≡ current
+current_stays s xs leaving now None before kept live = refl
+current_stays s xs leaving now (Some c) before kept live = ap (λ (b : Bool). if b then Some c else None) (has_key_queued s c leaving now xs before kept ∙ live)
