@@ -441,3 +441,12 @@ pub waiting_left : (s t : Slab Entry) (xs : List Arrival) (current : Option ℕ)
 waiting_left s t xs current depth room key leaving sound found waits updates =
     queued_without s t key (Some key) current (lowered s leaving key false xs) [] updates.others (kept_lowered s current key leaving xs [] sound.kept sound.apart found waits)
     ∙ ap (λ (q : List Queued). without_key q key) (queued_lowered s leaving key xs false)
+
+pub one_fewer : (s t : Slab Entry) (xs ys : List Arrival) (current now : Option ℕ) (depth room more_room : ℕ) → IsSound s xs current depth room → IsSound t ys now depth more_room → slab_len t + 1 ≡ slab_len s
+    → length (queued_at t ys) + 1 ≡ length (queued_at s xs)
+one_fewer s t xs ys current now depth room more_room sound left fewer =
+    let l = length_queued s None current xs [] sound.kept in
+    let m = length_queued t None now ys [] left.kept in
+    let n = sound.counted in
+    let o = left.counted in
+    omega arith

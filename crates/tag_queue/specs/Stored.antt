@@ -4,7 +4,7 @@ use Rattle.slab.specs.Slab.{Slab, get, slab_len}
 use Rattle.disk_array.specs.declared.entries.Entry.{Entry}
 use Rattle.disk_array.specs.Order.{holds_back}
 use Rattle.tag_queue.specs.declared.arrivals.Arrival.{Arrival}
-use Rattle.tag_queue.specs.Queue.{Queued, is_current, waiting_in, entries_in}
+use Rattle.tag_queue.specs.Queue.{Queued, is_current, waiting_in, entries_in, is_of}
 
 -- ---- what they stand for
 
@@ -86,3 +86,14 @@ abbrev pub lowered : Slab Entry → Entry → ℕ → Bool → List Arrival → 
 lowered s leaving key passed [] = []
 lowered s leaving key passed (a ∷ arrivals) =
     lowered_if passed leaving (get s a.key) a ∷ lowered s leaving key (passed || a.key == key) arrivals
+
+-- ---- the first one of an initiator, or of any
+
+abbrev pub first_of : List Queued → Option ℕ → Option ℕ
+first_of [] who = None
+first_of (q ∷ queued) who = if is_of who q.entry then Some q.key else first_of queued who
+
+-- What has this key is all of that initiator.
+abbrev pub AreOf : Option ℕ → ℕ → List Queued → Type 0
+AreOf who key [] = Unit {0}
+AreOf who key (q ∷ queued) = ((q.key == key) ≡ true → is_of who q.entry ≡ true) × AreOf who key queued

@@ -4,8 +4,8 @@ ghost use Rattle.slab.specs.Slab.{get};
 ghost use Rattle.bus_base.specs.declared.events.Pick.TheVariants as picks;
 ghost use Rattle.disk_array.specs.declared.entries.Entry.{Entry};
 ghost use Rattle.disk_array.specs.Order.{is_head as is_head_class, is_ordered as is_ordered_class, overlap, holds_back as holds_back_entry, last_head as last_head_place, may_run_in_order, picked_place, runnable_after, chosen_place};
-ghost use Rattle.tag_queue.specs.Queue.{is_current as is_current_key, key_at as waiting_key, key_at_if, place_of, same_tag as same_tag_number, key_of as first_key_of};
-ghost use Rattle.tag_queue.specs.Stored.{queued_at, waiting_at, entries_at, held_back_by, AreKept, IsLive, lowered, lowered_by};
+ghost use Rattle.tag_queue.specs.Queue.{is_current as is_current_key, key_at as waiting_key, key_at_if, place_of, same_tag as same_tag_number, key_of as first_key_of, is_of as is_of_initiator};
+ghost use Rattle.tag_queue.specs.Stored.{queued_at, waiting_at, entries_at, held_back_by, AreKept, IsLive, lowered, lowered_by, first_of as first_key_of_those};
 
 use disk_array::{Class, Dev, Entry, Pick};
 use slab::Slab;
@@ -254,4 +254,26 @@ pub fn lower_later(entries: &Slab<Entry>, arrivals: &mut [Arrival], key: Key)
         *arrival = lowered_arrival(*arrival, passed && holds_back(&leaving, &entry));
         passed |= arrival.key == key;
     }
+}
+
+fn is_of(entry: Entry, who: Option<Dev>) -> bool
+    ensures { result ≡ is_of_initiator who entry }
+{
+    match who {
+        Some(dev) => entry.from == dev,
+        None => true,
+    }
+}
+
+/// The key of the first live command of an initiator, or of any.
+pub fn first_of(entries: &Slab<Entry>, arrivals: &[Arrival], who: Option<Dev>) -> Option<Key>
+    requires kept { (current : Option ℕ) × AreKept entries.now None current [] arrivals.now }
+    ensures { result ≡ first_key_of_those (queued_at entries.now arrivals.now) who }
+{
+    for arrival in arrivals {
+        if is_of(live_entry(entries, arrival.key), who) {
+            return Some(arrival.key);
+        }
+    }
+    None
 }

@@ -1,9 +1,10 @@
 //! The queue of a logical unit (ANSI X3.131-1994, 6.6.17 and 7.8).
-ghost use Rattle.std.specs.Prelude.{◌≡◌, ◌<◌, ◌⊎◌, true, false, [], length, Some, None, IfNone, IfOk, OnOk, OnErr, slice_index_or};
+ghost use Rattle.std.specs.Prelude.{◌≡◌, ◌+◌, ◌<◌, ◌⊎◌, true, false, [], length, Some, None, IfNone, IfSome, IfOk, OnOk, OnErr, slice_index_or};
 ghost use Rattle.disk_array.specs.Order.{chosen_place};
-ghost use Rattle.tag_queue.specs.Queue.{empty_queue, queue_with, queue_started, queue_left, queue_without, with_held, is_current as is_current_key, is_held, has_key, entry_at, waiting_of, entries_in, key_at_if, chosen_key, may_run_key, key_of as first_key_of};
+ghost use Rattle.tag_queue.specs.Queue.{empty_queue, queue_with, queue_started, queue_left, queue_without, queue_cleared_of, with_held, is_current as is_current_key, is_held, has_key, entry_at, waiting_of, entries_in, key_at_if, chosen_key, may_run_key, key_of as first_key_of};
+ghost use Rattle.tag_queue.specs.Stored.{AreOf};
 
-use super::arrivals::{Arrival, Key, earlier_conflicts, is_current, key_at, key_of, last_head, lower_later, place_standing, runnable_place};
+use super::arrivals::{Arrival, Key, earlier_conflicts, first_of, is_current, key_at, key_of, last_head, lower_later, place_standing, runnable_place};
 use bus_base::NoMemory;
 use disk_array::{Dev, Entry, Pick};
 use slab::Slab;
@@ -123,6 +124,7 @@ impl Queue {
         requires live { has_key self.old.arrived key ≡ true }
         ensures entry { entry_at self.old.arrived key ≡ Some result }
         ensures exact { self.new ≡ queue_without self.old key }
+        ensures one { length self.new.arrived + 1 ≡ length self.old.arrived }
     {
         if is_current(self.current, key) {
             self.remove_current(key)
@@ -135,6 +137,7 @@ impl Queue {
         requires current { self.old.current ≡ Some key }
         ensures entry { entry_at self.old.arrived key ≡ Some result }
         ensures exact { self.new ≡ queue_left self.old key None }
+        ensures one { length self.new.arrived + 1 ≡ length self.old.arrived }
     {
         self.current = None;
         self.arrivals.retain(|arrival| arrival.key != key);
@@ -146,10 +149,38 @@ impl Queue {
         requires waits { is_current_key self.old.current key ≡ false }
         ensures entry { entry_at self.old.arrived key ≡ Some result }
         ensures exact { self.new ≡ queue_left self.old key self.old.current }
+        ensures one { length self.new.arrived + 1 ≡ length self.old.arrived }
     {
         lower_later(&self.entries, self.arrivals.as_mut_slice(), key);
         self.arrivals.retain(|arrival| arrival.key != key);
         self.entries.remove(key)
+    }
+
+    /// The live commands of one initiator leave, or all; returns how many they were.
+    #[tactic(auto, using(crate::proofs::Clearing::cleared_without))]
+    pub fn clear_of(&mut self, who: Option<Dev>) -> usize
+        ensures exact { self.new ≡ queue_cleared_of self.old who }
+        ensures count { result + length self.new.arrived ≡ length self.old.arrived }
+    {
+        let before = self.live_count();
+        while let Some(key) = self.first_of(who) {
+            self.remove(key);
+        }
+        before - self.live_count()
+    }
+
+    fn live_count(&self) -> usize
+        ensures { result ≡ length self.now.arrived }
+    {
+        self.arrivals.len()
+    }
+
+    fn first_of(&self, who: Option<Dev>) -> Option<Key>
+        ensures live { IfSome result (λ key. has_key self.now.arrived key ≡ true) }
+        ensures theirs { IfSome result (λ key. AreOf who key self.now.arrived) }
+        ensures none { IfNone result (queue_cleared_of self.now who ≡ self.now) }
+    {
+        first_of(&self.entries, self.arrivals.as_slice(), who)
     }
 
     /// An initiator enters the hold.

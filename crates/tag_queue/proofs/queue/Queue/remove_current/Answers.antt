@@ -1,4 +1,4 @@
-use Rattle.std.proofs.Common.{◌≡◌, [], ℕ, List, Option, None, Some, refl, sym, ap, subst, ◌∙◌, rules}
+use Rattle.std.proofs.Common.{◌≡◌, [], ℕ, List, Option, None, Some, length, refl, sym, ap, subst, ◌∙◌, rules}
 use Rattle.std.specs.Prelude.{IsSome}
 use Rattle.std.specs.List.{filter}
 use Rattle.std.specs.Vec.{vec_capacity}
@@ -6,7 +6,7 @@ use Rattle.std.proofs.lemmas.Fn.{filter_same}
 use Rattle.tag_queue.specs.declared.arrivals.Arrival.{Arrival}
 use Rattle.tag_queue.specs.Queue.{QueueState, entry_at, queue_left, without_key}
 use Rattle.tag_queue.specs.Stored.{queued_at, IsAmong, IsSound}
-use Rattle.tag_queue.proofs.Sound.{keeps, live_entry, entry_queued, current_left_sound, queued_without}
+use Rattle.tag_queue.proofs.Sound.{keeps, live_entry, entry_queued, current_left_sound, queued_without, one_fewer}
 use Rattle.tag_queue.proofs.queue.Queue.remove_current.Goals as goal
 
 pub remove-requires : goal.remove-requires
@@ -43,3 +43,9 @@ returns-clause-exact c =
       ∙ queued_without s.entries c.remove.new.self c.args.key None s.current s.arrivals.items [] c.remove.ensures.updates.others c.self.invariant.kept in
     (λ i. record { depth = s.depth; arrived = now i; current = None; hold = s.hold })
     ∙ ap (λ (q : QueueState). queue_left q c.args.key None) c.self.view_is
+
+pub returns-clause-one : goal.returns-clause-one
+returns-clause-one c =
+    one_fewer c.self.inside.entries c.remove.new.self c.self.inside.arrivals.items c.retain.new.self.items c.self.inside.current None c.self.inside.depth (vec_capacity c.self.inside.arrivals) (vec_capacity c.retain.new.self)
+    c.self.invariant (invariant_of-self c) c.remove.ensures.len
+    ∙ ap (λ (q : QueueState). length q.arrived) c.self.view_is

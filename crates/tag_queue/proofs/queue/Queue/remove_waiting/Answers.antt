@@ -9,7 +9,7 @@ use Rattle.disk_array.specs.declared.entries.Entry.{Entry}
 use Rattle.tag_queue.specs.declared.arrivals.Arrival.{Arrival}
 use Rattle.tag_queue.specs.Queue.{QueueState, has_key, is_current, entry_at, queue_left, without_key}
 use Rattle.tag_queue.specs.Stored.{queued_at, is_among, lowered, IsSound}
-use Rattle.tag_queue.proofs.Sound.{keeps, has_key_queued, live_entry, entry_queued, waiting_left_sound, waiting_left, put_whole}
+use Rattle.tag_queue.proofs.Sound.{keeps, has_key_queued, live_entry, entry_queued, waiting_left_sound, waiting_left, put_whole, one_fewer}
 use Rattle.tag_queue.proofs.queue.Queue.remove_waiting.Goals as goal
 
 pub lower_later-requires-clause-live : goal.lower_later-requires-clause-live
@@ -64,3 +64,9 @@ returns-clause-exact c =
       ∙ waiting_left s.entries c.remove.new.self s.arrivals.items s.current s.depth (vec_capacity s.arrivals) c.args.key found.0 c.self.invariant found.1 waits c.remove.ensures.updates in
     (λ i. record { depth = s.depth; arrived = now i; current = s.current; hold = s.hold })
     ∙ ap (λ (q : QueueState). queue_left q c.args.key q.current) c.self.view_is
+
+pub returns-clause-one : goal.returns-clause-one
+returns-clause-one c =
+    one_fewer c.self.inside.entries c.remove.new.self c.self.inside.arrivals.items c.retain.new.self.items c.self.inside.current c.self.inside.current c.self.inside.depth (vec_capacity c.self.inside.arrivals) (vec_capacity c.retain.new.self)
+    c.self.invariant (invariant_of-self c) c.remove.ensures.len
+    ∙ ap (λ (q : QueueState). length q.arrived) c.self.view_is
