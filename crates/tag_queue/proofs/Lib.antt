@@ -3,3 +3,4 @@ pub mod Leaving
 pub mod Sound
 pub mod Chosen
 pub mod Clearing
+pub mod Waiting

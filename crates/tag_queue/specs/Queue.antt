@@ -10,6 +10,9 @@ pub record Queued : Type 0 where
   pub key : ℕ
   pub entry : Entry
 
+abbrev pub queued : ℕ → Entry → Queued
+queued key entry = record { key = key; entry = entry }
+
 pub record QueueState : Type 0 where
   pub depth : ℕ
   -- the live commands, in order of arrival
@@ -81,7 +84,7 @@ abbrev pub empty_queue : ℕ → QueueState
 empty_queue depth = record { depth = depth; arrived = []; current = None; hold = replicate 8 false }
 
 abbrev pub queue_with : QueueState → ℕ → Entry → QueueState
-queue_with q key entry = record q { arrived = q.arrived ++ record { key = key; entry = entry } ∷ [] }
+queue_with q key entry = record q { arrived = q.arrived ++ queued key entry ∷ [] }
 
 abbrev pub queue_started : QueueState → ℕ → QueueState
 queue_started q key = record q { current = Some key }

@@ -1,7 +1,7 @@
 //! The queue of a logical unit (ANSI X3.131-1994, 6.6.17 and 7.8).
-ghost use Rattle.std.specs.Prelude.{◌≡◌, ◌+◌, ◌<◌, ◌⊎◌, true, false, [], length, Some, None, IfNone, IfSome, IfOk, OnOk, OnErr, slice_index_or};
+ghost use Rattle.std.specs.Prelude.{◌≡◌, ◌+◌, ◌<◌, ◌⊎◌, true, false, [], ◌∷◌, ◌++◌, length, Some, None, IfNone, IfSome, IfOk, OnOk, OnErr, slice_index_or};
 ghost use Rattle.disk_array.specs.Order.{chosen_place};
-ghost use Rattle.tag_queue.specs.Queue.{empty_queue, queue_with, queue_started, queue_left, queue_without, queue_cleared_of, with_held, is_current as is_current_key, is_held, has_key, entry_at, waiting_of, entries_in, key_at_if, chosen_key, may_run_key, key_of as first_key_of};
+ghost use Rattle.tag_queue.specs.Queue.{queued, empty_queue, queue_with, queue_started, queue_left, queue_without, queue_cleared_of, with_held, is_current as is_current_key, is_held, has_key, entry_at, without_key, waiting_of, entries_in, key_at_if, chosen_key, may_run_key, key_of as first_key_of};
 ghost use Rattle.tag_queue.specs.Stored.{AreOf};
 
 use super::arrivals::{Arrival, Key, earlier_conflicts, first_of, is_current, key_at, key_of, last_head, lower_later, place_standing, runnable_place};
@@ -67,6 +67,7 @@ impl Queue {
         ensures below { OnOk result (length self.old.arrived < self.old.depth) }
         ensures fresh { IfOk result (λ key. has_key self.old.arrived key ≡ false) }
         ensures entered { IfOk result (λ key. self.new ≡ queue_with self.old key p) }
+        ensures waiting { IfOk result (λ key. waiting_of self.new ≡ waiting_of self.old ++ queued key p ∷ []) }
     {
         if self.arrivals.len() == self.depth {
             return Err(Full);
@@ -113,7 +114,8 @@ impl Queue {
     pub fn start(&mut self, key: Key)
         requires live { has_key self.old.arrived key ≡ true }
         requires none { self.old.current ≡ None }
-        ensures { self.new ≡ queue_started self.old key }
+        ensures exact { self.new ≡ queue_started self.old key }
+        ensures waiting { waiting_of self.new ≡ without_key (waiting_of self.old) key }
     {
         lower_later(&self.entries, self.arrivals.as_mut_slice(), key);
         self.current = Some(key);
@@ -124,6 +126,7 @@ impl Queue {
         requires live { has_key self.old.arrived key ≡ true }
         ensures entry { entry_at self.old.arrived key ≡ Some result }
         ensures exact { self.new ≡ queue_without self.old key }
+        ensures waiting { waiting_of self.new ≡ without_key (waiting_of self.old) key }
         ensures one { length self.new.arrived + 1 ≡ length self.old.arrived }
     {
         if is_current(self.current, key) {

@@ -3,9 +3,10 @@ use Rattle.std.proofs.lemmas.Grind.{common_steps}
 use Rattle.std.specs.Vec.{vec_capacity}
 use Rattle.disk_array.specs.declared.entries.Entry.{Entry}
 use Rattle.tag_queue.specs.declared.arrivals.Arrival.{Arrival}
-use Rattle.tag_queue.specs.Queue.{Queued, QueueState, has_key, queue_with}
+use Rattle.tag_queue.specs.Queue.{Queued, QueueState, queued, is_current, has_key, waiting_of, queue_with}
 use Rattle.tag_queue.specs.Stored.{queued_at, entries_at, held_back_by, IsSound}
-use Rattle.tag_queue.proofs.Sound.{enter_sound, fresh_key, queued_push, queued_others, has_key_queued, length_queued}
+use Rattle.tag_queue.proofs.Sound.{enter_sound, current_other, fresh_key, queued_push, queued_others, has_key_queued, length_queued}
+use Rattle.tag_queue.proofs.Waiting.{waiting_push}
 use Rattle.tag_queue.proofs.queue.Queue.enter.Goals as goal
 
 pub returns-then-len-self-clause-full : goal.returns-then-len-self-clause-full
@@ -46,3 +47,11 @@ returns-clause-entered c =
       ∙ ap (λ (q : List Queued). q ++ record { key = a.key; entry = c.args.p } ∷ []) (queued_others s.entries c.insert_reserved-key.new.self a.key s.arrivals.items fresh c.insert_reserved-key.ensures.updates.others) in
     (λ i. record { depth = s.depth; arrived = now i; current = s.current; hold = s.hold })
     ∙ ap (λ (q : QueueState). queue_with q a.key c.args.p) c.self.view_is
+
+pub returns-clause-waiting : goal.returns-clause-waiting
+returns-clause-waiting c =
+    let s = c.self.inside in
+    let fresh = fresh_key s.entries None s.current s.arrivals.items [] c.insert_reserved-key.result c.self.invariant.kept c.insert_reserved-key.ensures.was_vacant in
+    ap waiting_of (returns-clause-entered c)
+    ∙ waiting_push c.args.self.now.current c.args.self.now.arrived (queued c.insert_reserved-key.result c.args.p)
+      (sym (ap (λ (q : QueueState). is_current q.current c.insert_reserved-key.result) c.self.view_is) ∙ current_other s.arrivals.items s.current c.insert_reserved-key.result c.self.invariant.current_is_live fresh)
