@@ -27,7 +27,7 @@ use Rattle.scenario.specs.declared.value.Tag.TheVariants as tags
 use Rattle.scenario.specs.declared.value.Payload.TheVariants as payloads
 use Rattle.scenario.specs.Value.{ScenarioValue}
 use Rattle.scenario.specs.Needs.{need_of, sent_of}
-use Rattle.disk_array.specs.Contents.{starting_blocks}
+use Rattle.disk_array.specs.Contents.{Contents, starting_contents, printed_blocks}
 use Rattle.disk_array.specs.Execution.{Reply, good, check_condition, queue_full, sense_of}
 use Rattle.disk_array.specs.ArrayHistory.{array_after, disks_of, reply_of}
 
@@ -36,10 +36,16 @@ command n = record { command = n; sense = false }
 
 abbrev sense : ℕ → ProcId
 sense n = record { command = n; sense = true }
+"""
 
-abbrev blanks : List UnitDef → List FillDef → List (List (List ℕ))
-blanks [] fills = []
-blanks (u ∷ units) fills = starting_blocks u fills ∷ blanks units fills
+DISKS = """\
+abbrev printed : List Contents → List (List (ℕ × List ℕ))
+printed [] = []
+printed (c ∷ disks) = printed_blocks c ∷ printed disks
+
+abbrev started : List UnitDef → List FillDef → List Contents
+started [] fills = []
+started (u ∷ units) fills = starting_contents u fills ∷ started units fills
 """
 
 
@@ -202,7 +208,7 @@ def case(name, scn, out):
     print_events(name, parts)
     fills = [record(target=w[1], unit=w[2], lba=w[3], bytes=octets(w[4])) for w in parts["blocks"]]
     unfolding = "unfolding need_of sent_of ones"
-    print("%s_blocks : disks_of (array_after %s (reverse %s_events)) ≡ blanks %s.units (%s)" % (name, name, name, name, items(fills)))
+    print("%s_blocks : printed (disks_of (array_after %s (reverse %s_events))) ≡ printed (started %s.units (%s))" % (name, name, name, name, items(fills)))
     print("%s\n%s_blocks = refl\n" % (unfolding, name))
     for k, (who, wanted) in enumerate(replies(parts), 1):
         print("%s_reply_%d : reply_of (array_after %s (reverse %s_events)) (%s) ≡ Some (%s)" % (name, k, name, name, who, wanted))
@@ -218,6 +224,7 @@ def case(name, scn, out):
 
 def main():
     print(HEAD)
+    print(DISKS)
     for scn in sys.argv[1:]:
         name = pathlib.Path(scn).stem
         case(name if name[0].isalpha() else "case_" + name, scn, scn[: -len("scn")] + "out")

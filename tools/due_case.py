@@ -45,7 +45,7 @@ shows r = record { rows = r.rows; history = history_of r; ended = r.ended }
 def main():
     lines = (HEAD + array_case.HEAD).splitlines()
     uses = [line for line in lines if line.startswith("use ")]
-    rest = [line for line in lines if line not in uses and not line.startswith("-- ") and "blanks" not in line]
+    rest = [line for line in lines if line not in uses and not line.startswith("-- ")]
     print("\n".join(HEAD.splitlines()[:2] + uses) + "\n" + DEFINITIONS + "\n".join(rest))
     for scn in sys.argv[1:]:
         name = array_case.name_of(scn, "_due")

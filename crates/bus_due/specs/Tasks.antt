@@ -23,7 +23,7 @@ use Rattle.bus_due.specs.RunState.{RunState, array_of, process_served, carried_h
 
 abbrev pub size_of : Option UnitState → ℕ
 size_of None = 0
-size_of (Some u) = u.size
+size_of (Some u) = u.contents.size
 
 -- What the process would answer if it ran now.
 abbrev pub reply_now : Array → Process → Reply

@@ -17,14 +17,11 @@ use Rattle.bus_base.specs.declared.AbortKind.TheVariants as aborts
 use Rattle.bus_base.specs.declared.Event.{Event}
 use Rattle.bus_base.specs.declared.Event.TheVariants as events
 use Rattle.bus_base.specs.declared.events.Pick.TheVariants as picks
-use Rattle.scenario.specs.declared.value.FillDef.{FillDef}
-use Rattle.scenario.specs.declared.value.UnitDef.{UnitDef}
 use Rattle.scenario.specs.declared.value.Policy.TheVariants as policies
 use Rattle.scenario.specs.declared.value.Tag.TheVariants as tags
 use Rattle.scenario.specs.declared.value.Payload.TheVariants as payloads
 use Rattle.scenario.specs.Value.{ScenarioValue}
 use Rattle.scenario.specs.Needs.{need_of, sent_of}
-use Rattle.disk_array.specs.Contents.{starting_blocks}
 
 abbrev drive : ℕ → ℕ → ℕ → Row
 drive time dev lines = record { time = time; dev = dev; kind = Drives (set_of lines) }
@@ -37,10 +34,6 @@ command n = record { command = n; sense = false }
 
 abbrev sense : ℕ → ProcId
 sense n = record { command = n; sense = true }
-
-abbrev blanks : List UnitDef → List FillDef → List (List (List ℕ))
-blanks [] fills = []
-blanks (u ∷ units) fills = starting_blocks u fills ∷ blanks units fills
 
 -- ---- aborts_and_resets_run
 
@@ -144,6 +137,39 @@ called_again_for_sense_run_carried = refl
 called_again_for_sense_run_struck : expected_strikes called_again_for_sense_run (reverse called_again_for_sense_run_rows) ≡ row_strikes called_again_for_sense_run_rows
 unfolding need_of sent_of ones union_below line_of form_out form_in
 called_again_for_sense_run_struck = refl
+
+-- ---- capacity_of_the_largest_run
+
+abbrev capacity_of_the_largest_run : ScenarioValue
+capacity_of_the_largest_run = record {
+  version = 1;
+  hosts = record { dev = 7; latency = 0; most = 1; retries = 2; period = 0; offset = 0; lag = 0; offers = true } ∷ [];
+  targets = record { dev = 0; latency = 0; retries = 2; disc = policies.Never; pick = picks.First; seek = 0; period = 0; offset = 0; begins = false } ∷ [];
+  units = record { target = 0; unit = 0; blocks = 4294967296; size = 512; depth = 1 } ∷ [];
+  fills = [];
+  commands = record { host = 7; target = 0; unit = 0; at = 0; tag = tags.Untagged; cdb = (37 ∷ 0 ∷ 0 ∷ 0 ∷ 0 ∷ 0 ∷ 0 ∷ 0 ∷ 0 ∷ 0 ∷ []); payload = payloads.Nothing } ∷ [];
+  aborts = [];
+  resets = [];
+  faults = [];
+}
+
+abbrev pub capacity_of_the_largest_run_rows : List Row
+capacity_of_the_largest_run_rows = drive 1200 7 0x00280 ∷ drive 3600 7 0x00680 ∷ drive 4800 7 0x10781 ∷ drive 4890 7 0x10581 ∷ drive 5290 0 0x00200 ∷ drive 5380 7 0x10000 ∷ drive 5380 0 0x02a00 ∷ drive 5780 0 0x06a00 ∷ drive 5780 7 0x001c0 ∷ drive 5870 7 0x081c0 ∷ drive 5870 0 0x02a00 ∷ drive 5870 7 0x00000 ∷ drive 5870 0 0x00a00 ∷ drive 6270 0 0x04a00 ∷ drive 6270 7 0x00025 ∷ drive 6325 7 0x08025 ∷ drive 6325 0 0x00a00 ∷ drive 6325 7 0x00000 ∷ drive 6325 0 0x04a00 ∷ drive 6325 7 0x00100 ∷ drive 6380 7 0x08100 ∷ drive 6380 0 0x00a00 ∷ drive 6380 7 0x00000 ∷ drive 6380 0 0x04a00 ∷ drive 6380 7 0x00100 ∷ drive 6435 7 0x08100 ∷ drive 6435 0 0x00a00 ∷ drive 6435 7 0x00000 ∷ drive 6435 0 0x04a00 ∷ drive 6435 7 0x00100 ∷ drive 6490 7 0x08100 ∷ drive 6490 0 0x00a00 ∷ drive 6490 7 0x00000 ∷ drive 6490 0 0x04a00 ∷ drive 6490 7 0x00100 ∷ drive 6545 7 0x08100 ∷ drive 6545 0 0x00a00 ∷ drive 6545 7 0x00000 ∷ drive 6545 0 0x04a00 ∷ drive 6545 7 0x00100 ∷ drive 6600 7 0x08100 ∷ drive 6600 0 0x00a00 ∷ drive 6600 7 0x00000 ∷ drive 6600 0 0x04a00 ∷ drive 6600 7 0x00100 ∷ drive 6655 7 0x08100 ∷ drive 6655 0 0x00a00 ∷ drive 6655 7 0x00000 ∷ drive 6655 0 0x04a00 ∷ drive 6655 7 0x00100 ∷ drive 6710 7 0x08100 ∷ drive 6710 0 0x00a00 ∷ drive 6710 7 0x00000 ∷ drive 6710 0 0x04a00 ∷ drive 6710 7 0x00100 ∷ drive 6765 7 0x08100 ∷ drive 6765 0 0x00a00 ∷ drive 6765 7 0x00000 ∷ drive 6765 0 0x04a00 ∷ drive 6765 7 0x00100 ∷ drive 6820 7 0x08100 ∷ drive 6820 0 0x00a00 ∷ drive 6820 7 0x00000 ∷ drive 6820 0 0x01200 ∷ drive 7620 0 0x013ff ∷ drive 7675 0 0x053ff ∷ drive 7675 7 0x08000 ∷ drive 7675 0 0x013ff ∷ drive 7675 7 0x00000 ∷ drive 7730 0 0x053ff ∷ drive 7730 7 0x08000 ∷ drive 7730 0 0x013ff ∷ drive 7730 7 0x00000 ∷ drive 7785 0 0x053ff ∷ drive 7785 7 0x08000 ∷ drive 7785 0 0x013ff ∷ drive 7785 7 0x00000 ∷ drive 7840 0 0x053ff ∷ drive 7840 7 0x08000 ∷ drive 7840 0 0x01300 ∷ drive 7840 7 0x00000 ∷ drive 7895 0 0x05300 ∷ drive 7895 7 0x08000 ∷ drive 7895 0 0x01300 ∷ drive 7895 7 0x00000 ∷ drive 7950 0 0x05300 ∷ drive 7950 7 0x08000 ∷ drive 7950 0 0x01202 ∷ drive 7950 7 0x00000 ∷ drive 8005 0 0x05202 ∷ drive 8005 7 0x08000 ∷ drive 8005 0 0x01300 ∷ drive 8005 7 0x00000 ∷ drive 8060 0 0x05300 ∷ drive 8060 7 0x08000 ∷ drive 8060 0 0x01200 ∷ drive 8060 7 0x00000 ∷ drive 8060 0 0x01b00 ∷ drive 8460 0 0x05b00 ∷ drive 8460 7 0x08000 ∷ drive 8460 0 0x01a00 ∷ drive 8460 7 0x00000 ∷ drive 8460 0 0x03b00 ∷ drive 8860 0 0x07b00 ∷ drive 8860 7 0x08000 ∷ drive 8860 0 0x03a00 ∷ drive 8860 7 0x00000 ∷ drive 8860 0 0x00000 ∷ []
+
+abbrev capacity_of_the_largest_run_events : List Event
+capacity_of_the_largest_run_events = events.Accept (command 1) ∷ events.Run (command 1) ∷ events.End (command 1) 0 ∷ []
+
+capacity_of_the_largest_run_told : (story capacity_of_the_largest_run (reverse capacity_of_the_largest_run_rows)).history ≡ reverse capacity_of_the_largest_run_events
+unfolding need_of sent_of ones union_below line_of form_out form_in
+capacity_of_the_largest_run_told = refl
+
+capacity_of_the_largest_run_outcomes : outcomes capacity_of_the_largest_run (story capacity_of_the_largest_run (reverse capacity_of_the_largest_run_rows)) ≡ Some (ended_good (255 ∷ 255 ∷ 255 ∷ 255 ∷ 0 ∷ 0 ∷ 2 ∷ 0 ∷ [])) ∷ []
+unfolding need_of sent_of ones union_below line_of form_out form_in
+capacity_of_the_largest_run_outcomes = refl
+
+capacity_of_the_largest_run_carried : all_carried capacity_of_the_largest_run (story capacity_of_the_largest_run (reverse capacity_of_the_largest_run_rows)) (reverse capacity_of_the_largest_run_events) ≡ true
+unfolding need_of sent_of ones union_below line_of form_out form_in
+capacity_of_the_largest_run_carried = refl
 
 -- ---- checks_run
 
@@ -347,6 +373,39 @@ held_run_carried : all_carried held_run (story held_run (reverse held_run_rows))
 unfolding need_of sent_of ones union_below line_of form_out form_in
 held_run_carried = refl
 
+-- ---- last_block_written_run
+
+abbrev last_block_written_run : ScenarioValue
+last_block_written_run = record {
+  version = 1;
+  hosts = record { dev = 7; latency = 0; most = 1; retries = 2; period = 0; offset = 0; lag = 0; offers = true } ∷ [];
+  targets = record { dev = 0; latency = 0; retries = 2; disc = policies.Never; pick = picks.First; seek = 0; period = 0; offset = 0; begins = false } ∷ [];
+  units = record { target = 0; unit = 0; blocks = 4294967296; size = 512; depth = 1 } ∷ [];
+  fills = [];
+  commands = record { host = 7; target = 0; unit = 0; at = 0; tag = tags.Untagged; cdb = (42 ∷ 0 ∷ 255 ∷ 255 ∷ 255 ∷ 255 ∷ 0 ∷ 0 ∷ 1 ∷ 0 ∷ []); payload = payloads.From 0 } ∷ [];
+  aborts = [];
+  resets = [];
+  faults = [];
+}
+
+abbrev pub last_block_written_run_rows : List Row
+last_block_written_run_rows = drive 1200 7 0x00280 ∷ drive 3600 7 0x00680 ∷ drive 4800 7 0x10781 ∷ drive 4890 7 0x10581 ∷ drive 5290 0 0x00200 ∷ drive 5380 7 0x10000 ∷ drive 5380 0 0x02a00 ∷ drive 5780 0 0x06a00 ∷ drive 5780 7 0x001c0 ∷ drive 5870 7 0x081c0 ∷ drive 5870 0 0x02a00 ∷ drive 5870 7 0x00000 ∷ drive 5870 0 0x00a00 ∷ drive 6270 0 0x04a00 ∷ drive 6270 7 0x0002a ∷ drive 6325 7 0x0802a ∷ drive 6325 0 0x00a00 ∷ drive 6325 7 0x00000 ∷ drive 6325 0 0x04a00 ∷ drive 6325 7 0x00100 ∷ drive 6380 7 0x08100 ∷ drive 6380 0 0x00a00 ∷ drive 6380 7 0x00000 ∷ drive 6380 0 0x04a00 ∷ drive 6380 7 0x001ff ∷ drive 6435 7 0x081ff ∷ drive 6435 0 0x00a00 ∷ drive 6435 7 0x00000 ∷ drive 6435 0 0x04a00 ∷ drive 6435 7 0x001ff ∷ drive 6490 7 0x081ff ∷ drive 6490 0 0x00a00 ∷ drive 6490 7 0x00000 ∷ drive 6490 0 0x04a00 ∷ drive 6490 7 0x001ff ∷ drive 6545 7 0x081ff ∷ drive 6545 0 0x00a00 ∷ drive 6545 7 0x00000 ∷ drive 6545 0 0x04a00 ∷ drive 6545 7 0x001ff ∷ drive 6600 7 0x081ff ∷ drive 6600 0 0x00a00 ∷ drive 6600 7 0x00000 ∷ drive 6600 0 0x04a00 ∷ drive 6600 7 0x00100 ∷ drive 6655 7 0x08100 ∷ drive 6655 0 0x00a00 ∷ drive 6655 7 0x00000 ∷ drive 6655 0 0x04a00 ∷ drive 6655 7 0x00100 ∷ drive 6710 7 0x08100 ∷ drive 6710 0 0x00a00 ∷ drive 6710 7 0x00000 ∷ drive 6710 0 0x04a00 ∷ drive 6710 7 0x00001 ∷ drive 6765 7 0x08001 ∷ drive 6765 0 0x00a00 ∷ drive 6765 7 0x00000 ∷ drive 6765 0 0x04a00 ∷ drive 6765 7 0x00100 ∷ drive 6820 7 0x08100 ∷ drive 6820 0 0x00a00 ∷ drive 6820 7 0x00000 ∷ drive 6820 0 0x00200 ∷ drive 7220 0 0x04200 ∷ drive 7220 7 0x00100 ∷ drive 7275 7 0x08100 ∷ drive 7275 0 0x00200 ∷ drive 7275 7 0x00000 ∷ drive 7275 0 0x04200 ∷ drive 7275 7 0x00001 ∷ drive 7330 7 0x08001 ∷ drive 7330 0 0x00200 ∷ drive 7330 7 0x00000 ∷ drive 7330 0 0x04200 ∷ drive 7330 7 0x00002 ∷ drive 7385 7 0x08002 ∷ drive 7385 0 0x00200 ∷ drive 7385 7 0x00000 ∷ drive 7385 0 0x04200 ∷ drive 7385 7 0x00103 ∷ drive 7440 7 0x08103 ∷ drive 7440 0 0x00200 ∷ drive 7440 7 0x00000 ∷ drive 7440 0 0x04200 ∷ drive 7440 7 0x00004 ∷ drive 7495 7 0x08004 ∷ drive 7495 0 0x00200 ∷ drive 7495 7 0x00000 ∷ drive 7495 0 0x04200 ∷ drive 7495 7 0x00105 ∷ drive 7550 7 0x08105 ∷ drive 7550 0 0x00200 ∷ drive 7550 7 0x00000 ∷ drive 7550 0 0x04200 ∷ drive 7550 7 0x00106 ∷ drive 7605 7 0x08106 ∷ drive 7605 0 0x00200 ∷ drive 7605 7 0x00000 ∷ drive 7605 0 0x04200 ∷ drive 7605 7 0x00007 ∷ drive 7660 7 0x08007 ∷ drive 7660 0 0x00200 ∷ drive 7660 7 0x00000 ∷ drive 7660 0 0x04200 ∷ drive 7660 7 0x00008 ∷ drive 7715 7 0x08008 ∷ drive 7715 0 0x00200 ∷ drive 7715 7 0x00000 ∷ drive 7715 0 0x04200 ∷ drive 7715 7 0x00109 ∷ drive 7770 7 0x08109 ∷ drive 7770 0 0x00200 ∷ drive 7770 7 0x00000 ∷ drive 7770 0 0x04200 ∷ drive 7770 7 0x0010a ∷ drive 7825 7 0x0810a ∷ drive 7825 0 0x00200 ∷ drive 7825 7 0x00000 ∷ drive 7825 0 0x04200 ∷ drive 7825 7 0x0000b ∷ drive 7880 7 0x0800b ∷ drive 7880 0 0x00200 ∷ drive 7880 7 0x00000 ∷ drive 7880 0 0x04200 ∷ drive 7880 7 0x0010c ∷ drive 7935 7 0x0810c ∷ drive 7935 0 0x00200 ∷ drive 7935 7 0x00000 ∷ drive 7935 0 0x04200 ∷ drive 7935 7 0x0000d ∷ drive 7990 7 0x0800d ∷ drive 7990 0 0x00200 ∷ drive 7990 7 0x00000 ∷ drive 7990 0 0x04200 ∷ drive 7990 7 0x0000e ∷ drive 8045 7 0x0800e ∷ drive 8045 0 0x00200 ∷ drive 8045 7 0x00000 ∷ drive 8045 0 0x04200 ∷ drive 8045 7 0x0010f ∷ drive 8100 7 0x0810f ∷ drive 8100 0 0x00200 ∷ drive 8100 7 0x00000 ∷ drive 8100 0 0x04200 ∷ drive 8100 7 0x00010 ∷ drive 8155 7 0x08010 ∷ drive 8155 0 0x00200 ∷ drive 8155 7 0x00000 ∷ drive 8155 0 0x04200 ∷ drive 8155 7 0x00111 ∷ drive 8210 7 0x08111 ∷ drive 8210 0 0x00200 ∷ drive 8210 7 0x00000 ∷ drive 8210 0 0x04200 ∷ drive 8210 7 0x00112 ∷ drive 8265 7 0x08112 ∷ drive 8265 0 0x00200 ∷ drive 8265 7 0x00000 ∷ drive 8265 0 0x04200 ∷ drive 8265 7 0x00013 ∷ drive 8320 7 0x08013 ∷ drive 8320 0 0x00200 ∷ drive 8320 7 0x00000 ∷ drive 8320 0 0x04200 ∷ drive 8320 7 0x00114 ∷ drive 8375 7 0x08114 ∷ drive 8375 0 0x00200 ∷ drive 8375 7 0x00000 ∷ drive 8375 0 0x04200 ∷ drive 8375 7 0x00015 ∷ drive 8430 7 0x08015 ∷ drive 8430 0 0x00200 ∷ drive 8430 7 0x00000 ∷ drive 8430 0 0x04200 ∷ drive 8430 7 0x00016 ∷ drive 8485 7 0x08016 ∷ drive 8485 0 0x00200 ∷ drive 8485 7 0x00000 ∷ drive 8485 0 0x04200 ∷ drive 8485 7 0x00117 ∷ drive 8540 7 0x08117 ∷ drive 8540 0 0x00200 ∷ drive 8540 7 0x00000 ∷ drive 8540 0 0x04200 ∷ drive 8540 7 0x00118 ∷ drive 8595 7 0x08118 ∷ drive 8595 0 0x00200 ∷ drive 8595 7 0x00000 ∷ drive 8595 0 0x04200 ∷ drive 8595 7 0x00019 ∷ drive 8650 7 0x08019 ∷ drive 8650 0 0x00200 ∷ drive 8650 7 0x00000 ∷ drive 8650 0 0x04200 ∷ drive 8650 7 0x0001a ∷ drive 8705 7 0x0801a ∷ drive 8705 0 0x00200 ∷ drive 8705 7 0x00000 ∷ drive 8705 0 0x04200 ∷ drive 8705 7 0x0011b ∷ drive 8760 7 0x0811b ∷ drive 8760 0 0x00200 ∷ drive 8760 7 0x00000 ∷ drive 8760 0 0x04200 ∷ drive 8760 7 0x0001c ∷ drive 8815 7 0x0801c ∷ drive 8815 0 0x00200 ∷ drive 8815 7 0x00000 ∷ drive 8815 0 0x04200 ∷ drive 8815 7 0x0011d ∷ drive 8870 7 0x0811d ∷ drive 8870 0 0x00200 ∷ drive 8870 7 0x00000 ∷ drive 8870 0 0x04200 ∷ drive 8870 7 0x0011e ∷ drive 8925 7 0x0811e ∷ drive 8925 0 0x00200 ∷ drive 8925 7 0x00000 ∷ drive 8925 0 0x04200 ∷ drive 8925 7 0x0001f ∷ drive 8980 7 0x0801f ∷ drive 8980 0 0x00200 ∷ drive 8980 7 0x00000 ∷ drive 8980 0 0x04200 ∷ drive 8980 7 0x00020 ∷ drive 9035 7 0x08020 ∷ drive 9035 0 0x00200 ∷ drive 9035 7 0x00000 ∷ drive 9035 0 0x04200 ∷ drive 9035 7 0x00121 ∷ drive 9090 7 0x08121 ∷ drive 9090 0 0x00200 ∷ drive 9090 7 0x00000 ∷ drive 9090 0 0x04200 ∷ drive 9090 7 0x00122 ∷ drive 9145 7 0x08122 ∷ drive 9145 0 0x00200 ∷ drive 9145 7 0x00000 ∷ drive 9145 0 0x04200 ∷ drive 9145 7 0x00023 ∷ drive 9200 7 0x08023 ∷ drive 9200 0 0x00200 ∷ drive 9200 7 0x00000 ∷ drive 9200 0 0x04200 ∷ drive 9200 7 0x00124 ∷ drive 9255 7 0x08124 ∷ drive 9255 0 0x00200 ∷ drive 9255 7 0x00000 ∷ drive 9255 0 0x04200 ∷ drive 9255 7 0x00025 ∷ drive 9310 7 0x08025 ∷ drive 9310 0 0x00200 ∷ drive 9310 7 0x00000 ∷ drive 9310 0 0x04200 ∷ drive 9310 7 0x00026 ∷ drive 9365 7 0x08026 ∷ drive 9365 0 0x00200 ∷ drive 9365 7 0x00000 ∷ drive 9365 0 0x04200 ∷ drive 9365 7 0x00127 ∷ drive 9420 7 0x08127 ∷ drive 9420 0 0x00200 ∷ drive 9420 7 0x00000 ∷ drive 9420 0 0x04200 ∷ drive 9420 7 0x00128 ∷ drive 9475 7 0x08128 ∷ drive 9475 0 0x00200 ∷ drive 9475 7 0x00000 ∷ drive 9475 0 0x04200 ∷ drive 9475 7 0x00029 ∷ drive 9530 7 0x08029 ∷ drive 9530 0 0x00200 ∷ drive 9530 7 0x00000 ∷ drive 9530 0 0x04200 ∷ drive 9530 7 0x0002a ∷ drive 9585 7 0x0802a ∷ drive 9585 0 0x00200 ∷ drive 9585 7 0x00000 ∷ drive 9585 0 0x04200 ∷ drive 9585 7 0x0012b ∷ drive 9640 7 0x0812b ∷ drive 9640 0 0x00200 ∷ drive 9640 7 0x00000 ∷ drive 9640 0 0x04200 ∷ drive 9640 7 0x0002c ∷ drive 9695 7 0x0802c ∷ drive 9695 0 0x00200 ∷ drive 9695 7 0x00000 ∷ drive 9695 0 0x04200 ∷ drive 9695 7 0x0012d ∷ drive 9750 7 0x0812d ∷ drive 9750 0 0x00200 ∷ drive 9750 7 0x00000 ∷ drive 9750 0 0x04200 ∷ drive 9750 7 0x0012e ∷ drive 9805 7 0x0812e ∷ drive 9805 0 0x00200 ∷ drive 9805 7 0x00000 ∷ drive 9805 0 0x04200 ∷ drive 9805 7 0x0002f ∷ drive 9860 7 0x0802f ∷ drive 9860 0 0x00200 ∷ drive 9860 7 0x00000 ∷ drive 9860 0 0x04200 ∷ drive 9860 7 0x00130 ∷ drive 9915 7 0x08130 ∷ drive 9915 0 0x00200 ∷ drive 9915 7 0x00000 ∷ drive 9915 0 0x04200 ∷ drive 9915 7 0x00031 ∷ drive 9970 7 0x08031 ∷ drive 9970 0 0x00200 ∷ drive 9970 7 0x00000 ∷ drive 9970 0 0x04200 ∷ drive 9970 7 0x00032 ∷ drive 10025 7 0x08032 ∷ drive 10025 0 0x00200 ∷ drive 10025 7 0x00000 ∷ drive 10025 0 0x04200 ∷ drive 10025 7 0x00133 ∷ drive 10080 7 0x08133 ∷ drive 10080 0 0x00200 ∷ drive 10080 7 0x00000 ∷ drive 10080 0 0x04200 ∷ drive 10080 7 0x00034 ∷ drive 10135 7 0x08034 ∷ drive 10135 0 0x00200 ∷ drive 10135 7 0x00000 ∷ drive 10135 0 0x04200 ∷ drive 10135 7 0x00135 ∷ drive 10190 7 0x08135 ∷ drive 10190 0 0x00200 ∷ drive 10190 7 0x00000 ∷ drive 10190 0 0x04200 ∷ drive 10190 7 0x00136 ∷ drive 10245 7 0x08136 ∷ drive 10245 0 0x00200 ∷ drive 10245 7 0x00000 ∷ drive 10245 0 0x04200 ∷ drive 10245 7 0x00037 ∷ drive 10300 7 0x08037 ∷ drive 10300 0 0x00200 ∷ drive 10300 7 0x00000 ∷ drive 10300 0 0x04200 ∷ drive 10300 7 0x00038 ∷ drive 10355 7 0x08038 ∷ drive 10355 0 0x00200 ∷ drive 10355 7 0x00000 ∷ drive 10355 0 0x04200 ∷ drive 10355 7 0x00139 ∷ drive 10410 7 0x08139 ∷ drive 10410 0 0x00200 ∷ drive 10410 7 0x00000 ∷ drive 10410 0 0x04200 ∷ drive 10410 7 0x0013a ∷ drive 10465 7 0x0813a ∷ drive 10465 0 0x00200 ∷ drive 10465 7 0x00000 ∷ drive 10465 0 0x04200 ∷ drive 10465 7 0x0003b ∷ drive 10520 7 0x0803b ∷ drive 10520 0 0x00200 ∷ drive 10520 7 0x00000 ∷ drive 10520 0 0x04200 ∷ drive 10520 7 0x0013c ∷ drive 10575 7 0x0813c ∷ drive 10575 0 0x00200 ∷ drive 10575 7 0x00000 ∷ drive 10575 0 0x04200 ∷ drive 10575 7 0x0003d ∷ drive 10630 7 0x0803d ∷ drive 10630 0 0x00200 ∷ drive 10630 7 0x00000 ∷ drive 10630 0 0x04200 ∷ drive 10630 7 0x0003e ∷ drive 10685 7 0x0803e ∷ drive 10685 0 0x00200 ∷ drive 10685 7 0x00000 ∷ drive 10685 0 0x04200 ∷ drive 10685 7 0x0013f ∷ drive 10740 7 0x0813f ∷ drive 10740 0 0x00200 ∷ drive 10740 7 0x00000 ∷ drive 10740 0 0x04200 ∷ drive 10740 7 0x00040 ∷ drive 10795 7 0x08040 ∷ drive 10795 0 0x00200 ∷ drive 10795 7 0x00000 ∷ drive 10795 0 0x04200 ∷ drive 10795 7 0x00141 ∷ drive 10850 7 0x08141 ∷ drive 10850 0 0x00200 ∷ drive 10850 7 0x00000 ∷ drive 10850 0 0x04200 ∷ drive 10850 7 0x00142 ∷ drive 10905 7 0x08142 ∷ drive 10905 0 0x00200 ∷ drive 10905 7 0x00000 ∷ drive 10905 0 0x04200 ∷ drive 10905 7 0x00043 ∷ drive 10960 7 0x08043 ∷ drive 10960 0 0x00200 ∷ drive 10960 7 0x00000 ∷ drive 10960 0 0x04200 ∷ drive 10960 7 0x00144 ∷ drive 11015 7 0x08144 ∷ drive 11015 0 0x00200 ∷ drive 11015 7 0x00000 ∷ drive 11015 0 0x04200 ∷ drive 11015 7 0x00045 ∷ drive 11070 7 0x08045 ∷ drive 11070 0 0x00200 ∷ drive 11070 7 0x00000 ∷ drive 11070 0 0x04200 ∷ drive 11070 7 0x00046 ∷ drive 11125 7 0x08046 ∷ drive 11125 0 0x00200 ∷ drive 11125 7 0x00000 ∷ drive 11125 0 0x04200 ∷ drive 11125 7 0x00147 ∷ drive 11180 7 0x08147 ∷ drive 11180 0 0x00200 ∷ drive 11180 7 0x00000 ∷ drive 11180 0 0x04200 ∷ drive 11180 7 0x00148 ∷ drive 11235 7 0x08148 ∷ drive 11235 0 0x00200 ∷ drive 11235 7 0x00000 ∷ drive 11235 0 0x04200 ∷ drive 11235 7 0x00049 ∷ drive 11290 7 0x08049 ∷ drive 11290 0 0x00200 ∷ drive 11290 7 0x00000 ∷ drive 11290 0 0x04200 ∷ drive 11290 7 0x0004a ∷ drive 11345 7 0x0804a ∷ drive 11345 0 0x00200 ∷ drive 11345 7 0x00000 ∷ drive 11345 0 0x04200 ∷ drive 11345 7 0x0014b ∷ drive 11400 7 0x0814b ∷ drive 11400 0 0x00200 ∷ drive 11400 7 0x00000 ∷ drive 11400 0 0x04200 ∷ drive 11400 7 0x0004c ∷ drive 11455 7 0x0804c ∷ drive 11455 0 0x00200 ∷ drive 11455 7 0x00000 ∷ drive 11455 0 0x04200 ∷ drive 11455 7 0x0014d ∷ drive 11510 7 0x0814d ∷ drive 11510 0 0x00200 ∷ drive 11510 7 0x00000 ∷ drive 11510 0 0x04200 ∷ drive 11510 7 0x0014e ∷ drive 11565 7 0x0814e ∷ drive 11565 0 0x00200 ∷ drive 11565 7 0x00000 ∷ drive 11565 0 0x04200 ∷ drive 11565 7 0x0004f ∷ drive 11620 7 0x0804f ∷ drive 11620 0 0x00200 ∷ drive 11620 7 0x00000 ∷ drive 11620 0 0x04200 ∷ drive 11620 7 0x00150 ∷ drive 11675 7 0x08150 ∷ drive 11675 0 0x00200 ∷ drive 11675 7 0x00000 ∷ drive 11675 0 0x04200 ∷ drive 11675 7 0x00051 ∷ drive 11730 7 0x08051 ∷ drive 11730 0 0x00200 ∷ drive 11730 7 0x00000 ∷ drive 11730 0 0x04200 ∷ drive 11730 7 0x00052 ∷ drive 11785 7 0x08052 ∷ drive 11785 0 0x00200 ∷ drive 11785 7 0x00000 ∷ drive 11785 0 0x04200 ∷ drive 11785 7 0x00153 ∷ drive 11840 7 0x08153 ∷ drive 11840 0 0x00200 ∷ drive 11840 7 0x00000 ∷ drive 11840 0 0x04200 ∷ drive 11840 7 0x00054 ∷ drive 11895 7 0x08054 ∷ drive 11895 0 0x00200 ∷ drive 11895 7 0x00000 ∷ drive 11895 0 0x04200 ∷ drive 11895 7 0x00155 ∷ drive 11950 7 0x08155 ∷ drive 11950 0 0x00200 ∷ drive 11950 7 0x00000 ∷ drive 11950 0 0x04200 ∷ drive 11950 7 0x00156 ∷ drive 12005 7 0x08156 ∷ drive 12005 0 0x00200 ∷ drive 12005 7 0x00000 ∷ drive 12005 0 0x04200 ∷ drive 12005 7 0x00057 ∷ drive 12060 7 0x08057 ∷ drive 12060 0 0x00200 ∷ drive 12060 7 0x00000 ∷ drive 12060 0 0x04200 ∷ drive 12060 7 0x00058 ∷ drive 12115 7 0x08058 ∷ drive 12115 0 0x00200 ∷ drive 12115 7 0x00000 ∷ drive 12115 0 0x04200 ∷ drive 12115 7 0x00159 ∷ drive 12170 7 0x08159 ∷ drive 12170 0 0x00200 ∷ drive 12170 7 0x00000 ∷ drive 12170 0 0x04200 ∷ drive 12170 7 0x0015a ∷ drive 12225 7 0x0815a ∷ drive 12225 0 0x00200 ∷ drive 12225 7 0x00000 ∷ drive 12225 0 0x04200 ∷ drive 12225 7 0x0005b ∷ drive 12280 7 0x0805b ∷ drive 12280 0 0x00200 ∷ drive 12280 7 0x00000 ∷ drive 12280 0 0x04200 ∷ drive 12280 7 0x0015c ∷ drive 12335 7 0x0815c ∷ drive 12335 0 0x00200 ∷ drive 12335 7 0x00000 ∷ drive 12335 0 0x04200 ∷ drive 12335 7 0x0005d ∷ drive 12390 7 0x0805d ∷ drive 12390 0 0x00200 ∷ drive 12390 7 0x00000 ∷ drive 12390 0 0x04200 ∷ drive 12390 7 0x0005e ∷ drive 12445 7 0x0805e ∷ drive 12445 0 0x00200 ∷ drive 12445 7 0x00000 ∷ drive 12445 0 0x04200 ∷ drive 12445 7 0x0015f ∷ drive 12500 7 0x0815f ∷ drive 12500 0 0x00200 ∷ drive 12500 7 0x00000 ∷ drive 12500 0 0x04200 ∷ drive 12500 7 0x00160 ∷ drive 12555 7 0x08160 ∷ drive 12555 0 0x00200 ∷ drive 12555 7 0x00000 ∷ drive 12555 0 0x04200 ∷ drive 12555 7 0x00061 ∷ drive 12610 7 0x08061 ∷ drive 12610 0 0x00200 ∷ drive 12610 7 0x00000 ∷ drive 12610 0 0x04200 ∷ drive 12610 7 0x00062 ∷ drive 12665 7 0x08062 ∷ drive 12665 0 0x00200 ∷ drive 12665 7 0x00000 ∷ drive 12665 0 0x04200 ∷ drive 12665 7 0x00163 ∷ drive 12720 7 0x08163 ∷ drive 12720 0 0x00200 ∷ drive 12720 7 0x00000 ∷ drive 12720 0 0x04200 ∷ drive 12720 7 0x00064 ∷ drive 12775 7 0x08064 ∷ drive 12775 0 0x00200 ∷ drive 12775 7 0x00000 ∷ drive 12775 0 0x04200 ∷ drive 12775 7 0x00165 ∷ drive 12830 7 0x08165 ∷ drive 12830 0 0x00200 ∷ drive 12830 7 0x00000 ∷ drive 12830 0 0x04200 ∷ drive 12830 7 0x00166 ∷ drive 12885 7 0x08166 ∷ drive 12885 0 0x00200 ∷ drive 12885 7 0x00000 ∷ drive 12885 0 0x04200 ∷ drive 12885 7 0x00067 ∷ drive 12940 7 0x08067 ∷ drive 12940 0 0x00200 ∷ drive 12940 7 0x00000 ∷ drive 12940 0 0x04200 ∷ drive 12940 7 0x00068 ∷ drive 12995 7 0x08068 ∷ drive 12995 0 0x00200 ∷ drive 12995 7 0x00000 ∷ drive 12995 0 0x04200 ∷ drive 12995 7 0x00169 ∷ drive 13050 7 0x08169 ∷ drive 13050 0 0x00200 ∷ drive 13050 7 0x00000 ∷ drive 13050 0 0x04200 ∷ drive 13050 7 0x0016a ∷ drive 13105 7 0x0816a ∷ drive 13105 0 0x00200 ∷ drive 13105 7 0x00000 ∷ drive 13105 0 0x04200 ∷ drive 13105 7 0x0006b ∷ drive 13160 7 0x0806b ∷ drive 13160 0 0x00200 ∷ drive 13160 7 0x00000 ∷ drive 13160 0 0x04200 ∷ drive 13160 7 0x0016c ∷ drive 13215 7 0x0816c ∷ drive 13215 0 0x00200 ∷ drive 13215 7 0x00000 ∷ drive 13215 0 0x04200 ∷ drive 13215 7 0x0006d ∷ drive 13270 7 0x0806d ∷ drive 13270 0 0x00200 ∷ drive 13270 7 0x00000 ∷ drive 13270 0 0x04200 ∷ drive 13270 7 0x0006e ∷ drive 13325 7 0x0806e ∷ drive 13325 0 0x00200 ∷ drive 13325 7 0x00000 ∷ drive 13325 0 0x04200 ∷ drive 13325 7 0x0016f ∷ drive 13380 7 0x0816f ∷ drive 13380 0 0x00200 ∷ drive 13380 7 0x00000 ∷ drive 13380 0 0x04200 ∷ drive 13380 7 0x00070 ∷ drive 13435 7 0x08070 ∷ drive 13435 0 0x00200 ∷ drive 13435 7 0x00000 ∷ drive 13435 0 0x04200 ∷ drive 13435 7 0x00171 ∷ drive 13490 7 0x08171 ∷ drive 13490 0 0x00200 ∷ drive 13490 7 0x00000 ∷ drive 13490 0 0x04200 ∷ drive 13490 7 0x00172 ∷ drive 13545 7 0x08172 ∷ drive 13545 0 0x00200 ∷ drive 13545 7 0x00000 ∷ drive 13545 0 0x04200 ∷ drive 13545 7 0x00073 ∷ drive 13600 7 0x08073 ∷ drive 13600 0 0x00200 ∷ drive 13600 7 0x00000 ∷ drive 13600 0 0x04200 ∷ drive 13600 7 0x00174 ∷ drive 13655 7 0x08174 ∷ drive 13655 0 0x00200 ∷ drive 13655 7 0x00000 ∷ drive 13655 0 0x04200 ∷ drive 13655 7 0x00075 ∷ drive 13710 7 0x08075 ∷ drive 13710 0 0x00200 ∷ drive 13710 7 0x00000 ∷ drive 13710 0 0x04200 ∷ drive 13710 7 0x00076 ∷ drive 13765 7 0x08076 ∷ drive 13765 0 0x00200 ∷ drive 13765 7 0x00000 ∷ drive 13765 0 0x04200 ∷ drive 13765 7 0x00177 ∷ drive 13820 7 0x08177 ∷ drive 13820 0 0x00200 ∷ drive 13820 7 0x00000 ∷ drive 13820 0 0x04200 ∷ drive 13820 7 0x00178 ∷ drive 13875 7 0x08178 ∷ drive 13875 0 0x00200 ∷ drive 13875 7 0x00000 ∷ drive 13875 0 0x04200 ∷ drive 13875 7 0x00079 ∷ drive 13930 7 0x08079 ∷ drive 13930 0 0x00200 ∷ drive 13930 7 0x00000 ∷ drive 13930 0 0x04200 ∷ drive 13930 7 0x0007a ∷ drive 13985 7 0x0807a ∷ drive 13985 0 0x00200 ∷ drive 13985 7 0x00000 ∷ drive 13985 0 0x04200 ∷ drive 13985 7 0x0017b ∷ drive 14040 7 0x0817b ∷ drive 14040 0 0x00200 ∷ drive 14040 7 0x00000 ∷ drive 14040 0 0x04200 ∷ drive 14040 7 0x0007c ∷ drive 14095 7 0x0807c ∷ drive 14095 0 0x00200 ∷ drive 14095 7 0x00000 ∷ drive 14095 0 0x04200 ∷ drive 14095 7 0x0017d ∷ drive 14150 7 0x0817d ∷ drive 14150 0 0x00200 ∷ drive 14150 7 0x00000 ∷ drive 14150 0 0x04200 ∷ drive 14150 7 0x0017e ∷ drive 14205 7 0x0817e ∷ drive 14205 0 0x00200 ∷ drive 14205 7 0x00000 ∷ drive 14205 0 0x04200 ∷ drive 14205 7 0x0007f ∷ drive 14260 7 0x0807f ∷ drive 14260 0 0x00200 ∷ drive 14260 7 0x00000 ∷ drive 14260 0 0x04200 ∷ drive 14260 7 0x00080 ∷ drive 14315 7 0x08080 ∷ drive 14315 0 0x00200 ∷ drive 14315 7 0x00000 ∷ drive 14315 0 0x04200 ∷ drive 14315 7 0x00181 ∷ drive 14370 7 0x08181 ∷ drive 14370 0 0x00200 ∷ drive 14370 7 0x00000 ∷ drive 14370 0 0x04200 ∷ drive 14370 7 0x00182 ∷ drive 14425 7 0x08182 ∷ drive 14425 0 0x00200 ∷ drive 14425 7 0x00000 ∷ drive 14425 0 0x04200 ∷ drive 14425 7 0x00083 ∷ drive 14480 7 0x08083 ∷ drive 14480 0 0x00200 ∷ drive 14480 7 0x00000 ∷ drive 14480 0 0x04200 ∷ drive 14480 7 0x00184 ∷ drive 14535 7 0x08184 ∷ drive 14535 0 0x00200 ∷ drive 14535 7 0x00000 ∷ drive 14535 0 0x04200 ∷ drive 14535 7 0x00085 ∷ drive 14590 7 0x08085 ∷ drive 14590 0 0x00200 ∷ drive 14590 7 0x00000 ∷ drive 14590 0 0x04200 ∷ drive 14590 7 0x00086 ∷ drive 14645 7 0x08086 ∷ drive 14645 0 0x00200 ∷ drive 14645 7 0x00000 ∷ drive 14645 0 0x04200 ∷ drive 14645 7 0x00187 ∷ drive 14700 7 0x08187 ∷ drive 14700 0 0x00200 ∷ drive 14700 7 0x00000 ∷ drive 14700 0 0x04200 ∷ drive 14700 7 0x00188 ∷ drive 14755 7 0x08188 ∷ drive 14755 0 0x00200 ∷ drive 14755 7 0x00000 ∷ drive 14755 0 0x04200 ∷ drive 14755 7 0x00089 ∷ drive 14810 7 0x08089 ∷ drive 14810 0 0x00200 ∷ drive 14810 7 0x00000 ∷ drive 14810 0 0x04200 ∷ drive 14810 7 0x0008a ∷ drive 14865 7 0x0808a ∷ drive 14865 0 0x00200 ∷ drive 14865 7 0x00000 ∷ drive 14865 0 0x04200 ∷ drive 14865 7 0x0018b ∷ drive 14920 7 0x0818b ∷ drive 14920 0 0x00200 ∷ drive 14920 7 0x00000 ∷ drive 14920 0 0x04200 ∷ drive 14920 7 0x0008c ∷ drive 14975 7 0x0808c ∷ drive 14975 0 0x00200 ∷ drive 14975 7 0x00000 ∷ drive 14975 0 0x04200 ∷ drive 14975 7 0x0018d ∷ drive 15030 7 0x0818d ∷ drive 15030 0 0x00200 ∷ drive 15030 7 0x00000 ∷ drive 15030 0 0x04200 ∷ drive 15030 7 0x0018e ∷ drive 15085 7 0x0818e ∷ drive 15085 0 0x00200 ∷ drive 15085 7 0x00000 ∷ drive 15085 0 0x04200 ∷ drive 15085 7 0x0008f ∷ drive 15140 7 0x0808f ∷ drive 15140 0 0x00200 ∷ drive 15140 7 0x00000 ∷ drive 15140 0 0x04200 ∷ drive 15140 7 0x00190 ∷ drive 15195 7 0x08190 ∷ drive 15195 0 0x00200 ∷ drive 15195 7 0x00000 ∷ drive 15195 0 0x04200 ∷ drive 15195 7 0x00091 ∷ drive 15250 7 0x08091 ∷ drive 15250 0 0x00200 ∷ drive 15250 7 0x00000 ∷ drive 15250 0 0x04200 ∷ drive 15250 7 0x00092 ∷ drive 15305 7 0x08092 ∷ drive 15305 0 0x00200 ∷ drive 15305 7 0x00000 ∷ drive 15305 0 0x04200 ∷ drive 15305 7 0x00193 ∷ drive 15360 7 0x08193 ∷ drive 15360 0 0x00200 ∷ drive 15360 7 0x00000 ∷ drive 15360 0 0x04200 ∷ drive 15360 7 0x00094 ∷ drive 15415 7 0x08094 ∷ drive 15415 0 0x00200 ∷ drive 15415 7 0x00000 ∷ drive 15415 0 0x04200 ∷ drive 15415 7 0x00195 ∷ drive 15470 7 0x08195 ∷ drive 15470 0 0x00200 ∷ drive 15470 7 0x00000 ∷ drive 15470 0 0x04200 ∷ drive 15470 7 0x00196 ∷ drive 15525 7 0x08196 ∷ drive 15525 0 0x00200 ∷ drive 15525 7 0x00000 ∷ drive 15525 0 0x04200 ∷ drive 15525 7 0x00097 ∷ drive 15580 7 0x08097 ∷ drive 15580 0 0x00200 ∷ drive 15580 7 0x00000 ∷ drive 15580 0 0x04200 ∷ drive 15580 7 0x00098 ∷ drive 15635 7 0x08098 ∷ drive 15635 0 0x00200 ∷ drive 15635 7 0x00000 ∷ drive 15635 0 0x04200 ∷ drive 15635 7 0x00199 ∷ drive 15690 7 0x08199 ∷ drive 15690 0 0x00200 ∷ drive 15690 7 0x00000 ∷ drive 15690 0 0x04200 ∷ drive 15690 7 0x0019a ∷ drive 15745 7 0x0819a ∷ drive 15745 0 0x00200 ∷ drive 15745 7 0x00000 ∷ drive 15745 0 0x04200 ∷ drive 15745 7 0x0009b ∷ drive 15800 7 0x0809b ∷ drive 15800 0 0x00200 ∷ drive 15800 7 0x00000 ∷ drive 15800 0 0x04200 ∷ drive 15800 7 0x0019c ∷ drive 15855 7 0x0819c ∷ drive 15855 0 0x00200 ∷ drive 15855 7 0x00000 ∷ drive 15855 0 0x04200 ∷ drive 15855 7 0x0009d ∷ drive 15910 7 0x0809d ∷ drive 15910 0 0x00200 ∷ drive 15910 7 0x00000 ∷ drive 15910 0 0x04200 ∷ drive 15910 7 0x0009e ∷ drive 15965 7 0x0809e ∷ drive 15965 0 0x00200 ∷ drive 15965 7 0x00000 ∷ drive 15965 0 0x04200 ∷ drive 15965 7 0x0019f ∷ drive 16020 7 0x0819f ∷ drive 16020 0 0x00200 ∷ drive 16020 7 0x00000 ∷ drive 16020 0 0x04200 ∷ drive 16020 7 0x001a0 ∷ drive 16075 7 0x081a0 ∷ drive 16075 0 0x00200 ∷ drive 16075 7 0x00000 ∷ drive 16075 0 0x04200 ∷ drive 16075 7 0x000a1 ∷ drive 16130 7 0x080a1 ∷ drive 16130 0 0x00200 ∷ drive 16130 7 0x00000 ∷ drive 16130 0 0x04200 ∷ drive 16130 7 0x000a2 ∷ drive 16185 7 0x080a2 ∷ drive 16185 0 0x00200 ∷ drive 16185 7 0x00000 ∷ drive 16185 0 0x04200 ∷ drive 16185 7 0x001a3 ∷ drive 16240 7 0x081a3 ∷ drive 16240 0 0x00200 ∷ drive 16240 7 0x00000 ∷ drive 16240 0 0x04200 ∷ drive 16240 7 0x000a4 ∷ drive 16295 7 0x080a4 ∷ drive 16295 0 0x00200 ∷ drive 16295 7 0x00000 ∷ drive 16295 0 0x04200 ∷ drive 16295 7 0x001a5 ∷ drive 16350 7 0x081a5 ∷ drive 16350 0 0x00200 ∷ drive 16350 7 0x00000 ∷ drive 16350 0 0x04200 ∷ drive 16350 7 0x001a6 ∷ drive 16405 7 0x081a6 ∷ drive 16405 0 0x00200 ∷ drive 16405 7 0x00000 ∷ drive 16405 0 0x04200 ∷ drive 16405 7 0x000a7 ∷ drive 16460 7 0x080a7 ∷ drive 16460 0 0x00200 ∷ drive 16460 7 0x00000 ∷ drive 16460 0 0x04200 ∷ drive 16460 7 0x000a8 ∷ drive 16515 7 0x080a8 ∷ drive 16515 0 0x00200 ∷ drive 16515 7 0x00000 ∷ drive 16515 0 0x04200 ∷ drive 16515 7 0x001a9 ∷ drive 16570 7 0x081a9 ∷ drive 16570 0 0x00200 ∷ drive 16570 7 0x00000 ∷ drive 16570 0 0x04200 ∷ drive 16570 7 0x001aa ∷ drive 16625 7 0x081aa ∷ drive 16625 0 0x00200 ∷ drive 16625 7 0x00000 ∷ drive 16625 0 0x04200 ∷ drive 16625 7 0x000ab ∷ drive 16680 7 0x080ab ∷ drive 16680 0 0x00200 ∷ drive 16680 7 0x00000 ∷ drive 16680 0 0x04200 ∷ drive 16680 7 0x001ac ∷ drive 16735 7 0x081ac ∷ drive 16735 0 0x00200 ∷ drive 16735 7 0x00000 ∷ drive 16735 0 0x04200 ∷ drive 16735 7 0x000ad ∷ drive 16790 7 0x080ad ∷ drive 16790 0 0x00200 ∷ drive 16790 7 0x00000 ∷ drive 16790 0 0x04200 ∷ drive 16790 7 0x000ae ∷ drive 16845 7 0x080ae ∷ drive 16845 0 0x00200 ∷ drive 16845 7 0x00000 ∷ drive 16845 0 0x04200 ∷ drive 16845 7 0x001af ∷ drive 16900 7 0x081af ∷ drive 16900 0 0x00200 ∷ drive 16900 7 0x00000 ∷ drive 16900 0 0x04200 ∷ drive 16900 7 0x000b0 ∷ drive 16955 7 0x080b0 ∷ drive 16955 0 0x00200 ∷ drive 16955 7 0x00000 ∷ drive 16955 0 0x04200 ∷ drive 16955 7 0x001b1 ∷ drive 17010 7 0x081b1 ∷ drive 17010 0 0x00200 ∷ drive 17010 7 0x00000 ∷ drive 17010 0 0x04200 ∷ drive 17010 7 0x001b2 ∷ drive 17065 7 0x081b2 ∷ drive 17065 0 0x00200 ∷ drive 17065 7 0x00000 ∷ drive 17065 0 0x04200 ∷ drive 17065 7 0x000b3 ∷ drive 17120 7 0x080b3 ∷ drive 17120 0 0x00200 ∷ drive 17120 7 0x00000 ∷ drive 17120 0 0x04200 ∷ drive 17120 7 0x001b4 ∷ drive 17175 7 0x081b4 ∷ drive 17175 0 0x00200 ∷ drive 17175 7 0x00000 ∷ drive 17175 0 0x04200 ∷ drive 17175 7 0x000b5 ∷ drive 17230 7 0x080b5 ∷ drive 17230 0 0x00200 ∷ drive 17230 7 0x00000 ∷ drive 17230 0 0x04200 ∷ drive 17230 7 0x000b6 ∷ drive 17285 7 0x080b6 ∷ drive 17285 0 0x00200 ∷ drive 17285 7 0x00000 ∷ drive 17285 0 0x04200 ∷ drive 17285 7 0x001b7 ∷ drive 17340 7 0x081b7 ∷ drive 17340 0 0x00200 ∷ drive 17340 7 0x00000 ∷ drive 17340 0 0x04200 ∷ drive 17340 7 0x001b8 ∷ drive 17395 7 0x081b8 ∷ drive 17395 0 0x00200 ∷ drive 17395 7 0x00000 ∷ drive 17395 0 0x04200 ∷ drive 17395 7 0x000b9 ∷ drive 17450 7 0x080b9 ∷ drive 17450 0 0x00200 ∷ drive 17450 7 0x00000 ∷ drive 17450 0 0x04200 ∷ drive 17450 7 0x000ba ∷ drive 17505 7 0x080ba ∷ drive 17505 0 0x00200 ∷ drive 17505 7 0x00000 ∷ drive 17505 0 0x04200 ∷ drive 17505 7 0x001bb ∷ drive 17560 7 0x081bb ∷ drive 17560 0 0x00200 ∷ drive 17560 7 0x00000 ∷ drive 17560 0 0x04200 ∷ drive 17560 7 0x000bc ∷ drive 17615 7 0x080bc ∷ drive 17615 0 0x00200 ∷ drive 17615 7 0x00000 ∷ drive 17615 0 0x04200 ∷ drive 17615 7 0x001bd ∷ drive 17670 7 0x081bd ∷ drive 17670 0 0x00200 ∷ drive 17670 7 0x00000 ∷ drive 17670 0 0x04200 ∷ drive 17670 7 0x001be ∷ drive 17725 7 0x081be ∷ drive 17725 0 0x00200 ∷ drive 17725 7 0x00000 ∷ drive 17725 0 0x04200 ∷ drive 17725 7 0x000bf ∷ drive 17780 7 0x080bf ∷ drive 17780 0 0x00200 ∷ drive 17780 7 0x00000 ∷ drive 17780 0 0x04200 ∷ drive 17780 7 0x001c0 ∷ drive 17835 7 0x081c0 ∷ drive 17835 0 0x00200 ∷ drive 17835 7 0x00000 ∷ drive 17835 0 0x04200 ∷ drive 17835 7 0x000c1 ∷ drive 17890 7 0x080c1 ∷ drive 17890 0 0x00200 ∷ drive 17890 7 0x00000 ∷ drive 17890 0 0x04200 ∷ drive 17890 7 0x000c2 ∷ drive 17945 7 0x080c2 ∷ drive 17945 0 0x00200 ∷ drive 17945 7 0x00000 ∷ drive 17945 0 0x04200 ∷ drive 17945 7 0x001c3 ∷ drive 18000 7 0x081c3 ∷ drive 18000 0 0x00200 ∷ drive 18000 7 0x00000 ∷ drive 18000 0 0x04200 ∷ drive 18000 7 0x000c4 ∷ drive 18055 7 0x080c4 ∷ drive 18055 0 0x00200 ∷ drive 18055 7 0x00000 ∷ drive 18055 0 0x04200 ∷ drive 18055 7 0x001c5 ∷ drive 18110 7 0x081c5 ∷ drive 18110 0 0x00200 ∷ drive 18110 7 0x00000 ∷ drive 18110 0 0x04200 ∷ drive 18110 7 0x001c6 ∷ drive 18165 7 0x081c6 ∷ drive 18165 0 0x00200 ∷ drive 18165 7 0x00000 ∷ drive 18165 0 0x04200 ∷ drive 18165 7 0x000c7 ∷ drive 18220 7 0x080c7 ∷ drive 18220 0 0x00200 ∷ drive 18220 7 0x00000 ∷ drive 18220 0 0x04200 ∷ drive 18220 7 0x000c8 ∷ drive 18275 7 0x080c8 ∷ drive 18275 0 0x00200 ∷ drive 18275 7 0x00000 ∷ drive 18275 0 0x04200 ∷ drive 18275 7 0x001c9 ∷ drive 18330 7 0x081c9 ∷ drive 18330 0 0x00200 ∷ drive 18330 7 0x00000 ∷ drive 18330 0 0x04200 ∷ drive 18330 7 0x001ca ∷ drive 18385 7 0x081ca ∷ drive 18385 0 0x00200 ∷ drive 18385 7 0x00000 ∷ drive 18385 0 0x04200 ∷ drive 18385 7 0x000cb ∷ drive 18440 7 0x080cb ∷ drive 18440 0 0x00200 ∷ drive 18440 7 0x00000 ∷ drive 18440 0 0x04200 ∷ drive 18440 7 0x001cc ∷ drive 18495 7 0x081cc ∷ drive 18495 0 0x00200 ∷ drive 18495 7 0x00000 ∷ drive 18495 0 0x04200 ∷ drive 18495 7 0x000cd ∷ drive 18550 7 0x080cd ∷ drive 18550 0 0x00200 ∷ drive 18550 7 0x00000 ∷ drive 18550 0 0x04200 ∷ drive 18550 7 0x000ce ∷ drive 18605 7 0x080ce ∷ drive 18605 0 0x00200 ∷ drive 18605 7 0x00000 ∷ drive 18605 0 0x04200 ∷ drive 18605 7 0x001cf ∷ drive 18660 7 0x081cf ∷ drive 18660 0 0x00200 ∷ drive 18660 7 0x00000 ∷ drive 18660 0 0x04200 ∷ drive 18660 7 0x000d0 ∷ drive 18715 7 0x080d0 ∷ drive 18715 0 0x00200 ∷ drive 18715 7 0x00000 ∷ drive 18715 0 0x04200 ∷ drive 18715 7 0x001d1 ∷ drive 18770 7 0x081d1 ∷ drive 18770 0 0x00200 ∷ drive 18770 7 0x00000 ∷ drive 18770 0 0x04200 ∷ drive 18770 7 0x001d2 ∷ drive 18825 7 0x081d2 ∷ drive 18825 0 0x00200 ∷ drive 18825 7 0x00000 ∷ drive 18825 0 0x04200 ∷ drive 18825 7 0x000d3 ∷ drive 18880 7 0x080d3 ∷ drive 18880 0 0x00200 ∷ drive 18880 7 0x00000 ∷ drive 18880 0 0x04200 ∷ drive 18880 7 0x001d4 ∷ drive 18935 7 0x081d4 ∷ drive 18935 0 0x00200 ∷ drive 18935 7 0x00000 ∷ drive 18935 0 0x04200 ∷ drive 18935 7 0x000d5 ∷ drive 18990 7 0x080d5 ∷ drive 18990 0 0x00200 ∷ drive 18990 7 0x00000 ∷ drive 18990 0 0x04200 ∷ drive 18990 7 0x000d6 ∷ drive 19045 7 0x080d6 ∷ drive 19045 0 0x00200 ∷ drive 19045 7 0x00000 ∷ drive 19045 0 0x04200 ∷ drive 19045 7 0x001d7 ∷ drive 19100 7 0x081d7 ∷ drive 19100 0 0x00200 ∷ drive 19100 7 0x00000 ∷ drive 19100 0 0x04200 ∷ drive 19100 7 0x001d8 ∷ drive 19155 7 0x081d8 ∷ drive 19155 0 0x00200 ∷ drive 19155 7 0x00000 ∷ drive 19155 0 0x04200 ∷ drive 19155 7 0x000d9 ∷ drive 19210 7 0x080d9 ∷ drive 19210 0 0x00200 ∷ drive 19210 7 0x00000 ∷ drive 19210 0 0x04200 ∷ drive 19210 7 0x000da ∷ drive 19265 7 0x080da ∷ drive 19265 0 0x00200 ∷ drive 19265 7 0x00000 ∷ drive 19265 0 0x04200 ∷ drive 19265 7 0x001db ∷ drive 19320 7 0x081db ∷ drive 19320 0 0x00200 ∷ drive 19320 7 0x00000 ∷ drive 19320 0 0x04200 ∷ drive 19320 7 0x000dc ∷ drive 19375 7 0x080dc ∷ drive 19375 0 0x00200 ∷ drive 19375 7 0x00000 ∷ drive 19375 0 0x04200 ∷ drive 19375 7 0x001dd ∷ drive 19430 7 0x081dd ∷ drive 19430 0 0x00200 ∷ drive 19430 7 0x00000 ∷ drive 19430 0 0x04200 ∷ drive 19430 7 0x001de ∷ drive 19485 7 0x081de ∷ drive 19485 0 0x00200 ∷ drive 19485 7 0x00000 ∷ drive 19485 0 0x04200 ∷ drive 19485 7 0x000df ∷ drive 19540 7 0x080df ∷ drive 19540 0 0x00200 ∷ drive 19540 7 0x00000 ∷ drive 19540 0 0x04200 ∷ drive 19540 7 0x000e0 ∷ drive 19595 7 0x080e0 ∷ drive 19595 0 0x00200 ∷ drive 19595 7 0x00000 ∷ drive 19595 0 0x04200 ∷ drive 19595 7 0x001e1 ∷ drive 19650 7 0x081e1 ∷ drive 19650 0 0x00200 ∷ drive 19650 7 0x00000 ∷ drive 19650 0 0x04200 ∷ drive 19650 7 0x001e2 ∷ drive 19705 7 0x081e2 ∷ drive 19705 0 0x00200 ∷ drive 19705 7 0x00000 ∷ drive 19705 0 0x04200 ∷ drive 19705 7 0x000e3 ∷ drive 19760 7 0x080e3 ∷ drive 19760 0 0x00200 ∷ drive 19760 7 0x00000 ∷ drive 19760 0 0x04200 ∷ drive 19760 7 0x001e4 ∷ drive 19815 7 0x081e4 ∷ drive 19815 0 0x00200 ∷ drive 19815 7 0x00000 ∷ drive 19815 0 0x04200 ∷ drive 19815 7 0x000e5 ∷ drive 19870 7 0x080e5 ∷ drive 19870 0 0x00200 ∷ drive 19870 7 0x00000 ∷ drive 19870 0 0x04200 ∷ drive 19870 7 0x000e6 ∷ drive 19925 7 0x080e6 ∷ drive 19925 0 0x00200 ∷ drive 19925 7 0x00000 ∷ drive 19925 0 0x04200 ∷ drive 19925 7 0x001e7 ∷ drive 19980 7 0x081e7 ∷ drive 19980 0 0x00200 ∷ drive 19980 7 0x00000 ∷ drive 19980 0 0x04200 ∷ drive 19980 7 0x001e8 ∷ drive 20035 7 0x081e8 ∷ drive 20035 0 0x00200 ∷ drive 20035 7 0x00000 ∷ drive 20035 0 0x04200 ∷ drive 20035 7 0x000e9 ∷ drive 20090 7 0x080e9 ∷ drive 20090 0 0x00200 ∷ drive 20090 7 0x00000 ∷ drive 20090 0 0x04200 ∷ drive 20090 7 0x000ea ∷ drive 20145 7 0x080ea ∷ drive 20145 0 0x00200 ∷ drive 20145 7 0x00000 ∷ drive 20145 0 0x04200 ∷ drive 20145 7 0x001eb ∷ drive 20200 7 0x081eb ∷ drive 20200 0 0x00200 ∷ drive 20200 7 0x00000 ∷ drive 20200 0 0x04200 ∷ drive 20200 7 0x000ec ∷ drive 20255 7 0x080ec ∷ drive 20255 0 0x00200 ∷ drive 20255 7 0x00000 ∷ drive 20255 0 0x04200 ∷ drive 20255 7 0x001ed ∷ drive 20310 7 0x081ed ∷ drive 20310 0 0x00200 ∷ drive 20310 7 0x00000 ∷ drive 20310 0 0x04200 ∷ drive 20310 7 0x001ee ∷ drive 20365 7 0x081ee ∷ drive 20365 0 0x00200 ∷ drive 20365 7 0x00000 ∷ drive 20365 0 0x04200 ∷ drive 20365 7 0x000ef ∷ drive 20420 7 0x080ef ∷ drive 20420 0 0x00200 ∷ drive 20420 7 0x00000 ∷ drive 20420 0 0x04200 ∷ drive 20420 7 0x001f0 ∷ drive 20475 7 0x081f0 ∷ drive 20475 0 0x00200 ∷ drive 20475 7 0x00000 ∷ drive 20475 0 0x04200 ∷ drive 20475 7 0x000f1 ∷ drive 20530 7 0x080f1 ∷ drive 20530 0 0x00200 ∷ drive 20530 7 0x00000 ∷ drive 20530 0 0x04200 ∷ drive 20530 7 0x000f2 ∷ drive 20585 7 0x080f2 ∷ drive 20585 0 0x00200 ∷ drive 20585 7 0x00000 ∷ drive 20585 0 0x04200 ∷ drive 20585 7 0x001f3 ∷ drive 20640 7 0x081f3 ∷ drive 20640 0 0x00200 ∷ drive 20640 7 0x00000 ∷ drive 20640 0 0x04200 ∷ drive 20640 7 0x000f4 ∷ drive 20695 7 0x080f4 ∷ drive 20695 0 0x00200 ∷ drive 20695 7 0x00000 ∷ drive 20695 0 0x04200 ∷ drive 20695 7 0x001f5 ∷ drive 20750 7 0x081f5 ∷ drive 20750 0 0x00200 ∷ drive 20750 7 0x00000 ∷ drive 20750 0 0x04200 ∷ drive 20750 7 0x001f6 ∷ drive 20805 7 0x081f6 ∷ drive 20805 0 0x00200 ∷ drive 20805 7 0x00000 ∷ drive 20805 0 0x04200 ∷ drive 20805 7 0x000f7 ∷ drive 20860 7 0x080f7 ∷ drive 20860 0 0x00200 ∷ drive 20860 7 0x00000 ∷ drive 20860 0 0x04200 ∷ drive 20860 7 0x000f8 ∷ drive 20915 7 0x080f8 ∷ drive 20915 0 0x00200 ∷ drive 20915 7 0x00000 ∷ drive 20915 0 0x04200 ∷ drive 20915 7 0x001f9 ∷ drive 20970 7 0x081f9 ∷ drive 20970 0 0x00200 ∷ drive 20970 7 0x00000 ∷ drive 20970 0 0x04200 ∷ drive 20970 7 0x001fa ∷ drive 21025 7 0x081fa ∷ drive 21025 0 0x00200 ∷ drive 21025 7 0x00000 ∷ drive 21025 0 0x04200 ∷ drive 21025 7 0x000fb ∷ drive 21080 7 0x080fb ∷ drive 21080 0 0x00200 ∷ drive 21080 7 0x00000 ∷ drive 21080 0 0x04200 ∷ drive 21080 7 0x001fc ∷ drive 21135 7 0x081fc ∷ drive 21135 0 0x00200 ∷ drive 21135 7 0x00000 ∷ drive 21135 0 0x04200 ∷ drive 21135 7 0x000fd ∷ drive 21190 7 0x080fd ∷ drive 21190 0 0x00200 ∷ drive 21190 7 0x00000 ∷ drive 21190 0 0x04200 ∷ drive 21190 7 0x000fe ∷ drive 21245 7 0x080fe ∷ drive 21245 0 0x00200 ∷ drive 21245 7 0x00000 ∷ drive 21245 0 0x04200 ∷ drive 21245 7 0x001ff ∷ drive 21300 7 0x081ff ∷ drive 21300 0 0x00200 ∷ drive 21300 7 0x00000 ∷ drive 21300 0 0x04200 ∷ drive 21300 7 0x00100 ∷ drive 21355 7 0x08100 ∷ drive 21355 0 0x00200 ∷ drive 21355 7 0x00000 ∷ drive 21355 0 0x04200 ∷ drive 21355 7 0x00001 ∷ drive 21410 7 0x08001 ∷ drive 21410 0 0x00200 ∷ drive 21410 7 0x00000 ∷ drive 21410 0 0x04200 ∷ drive 21410 7 0x00002 ∷ drive 21465 7 0x08002 ∷ drive 21465 0 0x00200 ∷ drive 21465 7 0x00000 ∷ drive 21465 0 0x04200 ∷ drive 21465 7 0x00103 ∷ drive 21520 7 0x08103 ∷ drive 21520 0 0x00200 ∷ drive 21520 7 0x00000 ∷ drive 21520 0 0x04200 ∷ drive 21520 7 0x00004 ∷ drive 21575 7 0x08004 ∷ drive 21575 0 0x00200 ∷ drive 21575 7 0x00000 ∷ drive 21575 0 0x04200 ∷ drive 21575 7 0x00105 ∷ drive 21630 7 0x08105 ∷ drive 21630 0 0x00200 ∷ drive 21630 7 0x00000 ∷ drive 21630 0 0x04200 ∷ drive 21630 7 0x00106 ∷ drive 21685 7 0x08106 ∷ drive 21685 0 0x00200 ∷ drive 21685 7 0x00000 ∷ drive 21685 0 0x04200 ∷ drive 21685 7 0x00007 ∷ drive 21740 7 0x08007 ∷ drive 21740 0 0x00200 ∷ drive 21740 7 0x00000 ∷ drive 21740 0 0x04200 ∷ drive 21740 7 0x00008 ∷ drive 21795 7 0x08008 ∷ drive 21795 0 0x00200 ∷ drive 21795 7 0x00000 ∷ drive 21795 0 0x04200 ∷ drive 21795 7 0x00109 ∷ drive 21850 7 0x08109 ∷ drive 21850 0 0x00200 ∷ drive 21850 7 0x00000 ∷ drive 21850 0 0x04200 ∷ drive 21850 7 0x0010a ∷ drive 21905 7 0x0810a ∷ drive 21905 0 0x00200 ∷ drive 21905 7 0x00000 ∷ drive 21905 0 0x04200 ∷ drive 21905 7 0x0000b ∷ drive 21960 7 0x0800b ∷ drive 21960 0 0x00200 ∷ drive 21960 7 0x00000 ∷ drive 21960 0 0x04200 ∷ drive 21960 7 0x0010c ∷ drive 22015 7 0x0810c ∷ drive 22015 0 0x00200 ∷ drive 22015 7 0x00000 ∷ drive 22015 0 0x04200 ∷ drive 22015 7 0x0000d ∷ drive 22070 7 0x0800d ∷ drive 22070 0 0x00200 ∷ drive 22070 7 0x00000 ∷ drive 22070 0 0x04200 ∷ drive 22070 7 0x0000e ∷ drive 22125 7 0x0800e ∷ drive 22125 0 0x00200 ∷ drive 22125 7 0x00000 ∷ drive 22125 0 0x04200 ∷ drive 22125 7 0x0010f ∷ drive 22180 7 0x0810f ∷ drive 22180 0 0x00200 ∷ drive 22180 7 0x00000 ∷ drive 22180 0 0x04200 ∷ drive 22180 7 0x00010 ∷ drive 22235 7 0x08010 ∷ drive 22235 0 0x00200 ∷ drive 22235 7 0x00000 ∷ drive 22235 0 0x04200 ∷ drive 22235 7 0x00111 ∷ drive 22290 7 0x08111 ∷ drive 22290 0 0x00200 ∷ drive 22290 7 0x00000 ∷ drive 22290 0 0x04200 ∷ drive 22290 7 0x00112 ∷ drive 22345 7 0x08112 ∷ drive 22345 0 0x00200 ∷ drive 22345 7 0x00000 ∷ drive 22345 0 0x04200 ∷ drive 22345 7 0x00013 ∷ drive 22400 7 0x08013 ∷ drive 22400 0 0x00200 ∷ drive 22400 7 0x00000 ∷ drive 22400 0 0x04200 ∷ drive 22400 7 0x00114 ∷ drive 22455 7 0x08114 ∷ drive 22455 0 0x00200 ∷ drive 22455 7 0x00000 ∷ drive 22455 0 0x04200 ∷ drive 22455 7 0x00015 ∷ drive 22510 7 0x08015 ∷ drive 22510 0 0x00200 ∷ drive 22510 7 0x00000 ∷ drive 22510 0 0x04200 ∷ drive 22510 7 0x00016 ∷ drive 22565 7 0x08016 ∷ drive 22565 0 0x00200 ∷ drive 22565 7 0x00000 ∷ drive 22565 0 0x04200 ∷ drive 22565 7 0x00117 ∷ drive 22620 7 0x08117 ∷ drive 22620 0 0x00200 ∷ drive 22620 7 0x00000 ∷ drive 22620 0 0x04200 ∷ drive 22620 7 0x00118 ∷ drive 22675 7 0x08118 ∷ drive 22675 0 0x00200 ∷ drive 22675 7 0x00000 ∷ drive 22675 0 0x04200 ∷ drive 22675 7 0x00019 ∷ drive 22730 7 0x08019 ∷ drive 22730 0 0x00200 ∷ drive 22730 7 0x00000 ∷ drive 22730 0 0x04200 ∷ drive 22730 7 0x0001a ∷ drive 22785 7 0x0801a ∷ drive 22785 0 0x00200 ∷ drive 22785 7 0x00000 ∷ drive 22785 0 0x04200 ∷ drive 22785 7 0x0011b ∷ drive 22840 7 0x0811b ∷ drive 22840 0 0x00200 ∷ drive 22840 7 0x00000 ∷ drive 22840 0 0x04200 ∷ drive 22840 7 0x0001c ∷ drive 22895 7 0x0801c ∷ drive 22895 0 0x00200 ∷ drive 22895 7 0x00000 ∷ drive 22895 0 0x04200 ∷ drive 22895 7 0x0011d ∷ drive 22950 7 0x0811d ∷ drive 22950 0 0x00200 ∷ drive 22950 7 0x00000 ∷ drive 22950 0 0x04200 ∷ drive 22950 7 0x0011e ∷ drive 23005 7 0x0811e ∷ drive 23005 0 0x00200 ∷ drive 23005 7 0x00000 ∷ drive 23005 0 0x04200 ∷ drive 23005 7 0x0001f ∷ drive 23060 7 0x0801f ∷ drive 23060 0 0x00200 ∷ drive 23060 7 0x00000 ∷ drive 23060 0 0x04200 ∷ drive 23060 7 0x00020 ∷ drive 23115 7 0x08020 ∷ drive 23115 0 0x00200 ∷ drive 23115 7 0x00000 ∷ drive 23115 0 0x04200 ∷ drive 23115 7 0x00121 ∷ drive 23170 7 0x08121 ∷ drive 23170 0 0x00200 ∷ drive 23170 7 0x00000 ∷ drive 23170 0 0x04200 ∷ drive 23170 7 0x00122 ∷ drive 23225 7 0x08122 ∷ drive 23225 0 0x00200 ∷ drive 23225 7 0x00000 ∷ drive 23225 0 0x04200 ∷ drive 23225 7 0x00023 ∷ drive 23280 7 0x08023 ∷ drive 23280 0 0x00200 ∷ drive 23280 7 0x00000 ∷ drive 23280 0 0x04200 ∷ drive 23280 7 0x00124 ∷ drive 23335 7 0x08124 ∷ drive 23335 0 0x00200 ∷ drive 23335 7 0x00000 ∷ drive 23335 0 0x04200 ∷ drive 23335 7 0x00025 ∷ drive 23390 7 0x08025 ∷ drive 23390 0 0x00200 ∷ drive 23390 7 0x00000 ∷ drive 23390 0 0x04200 ∷ drive 23390 7 0x00026 ∷ drive 23445 7 0x08026 ∷ drive 23445 0 0x00200 ∷ drive 23445 7 0x00000 ∷ drive 23445 0 0x04200 ∷ drive 23445 7 0x00127 ∷ drive 23500 7 0x08127 ∷ drive 23500 0 0x00200 ∷ drive 23500 7 0x00000 ∷ drive 23500 0 0x04200 ∷ drive 23500 7 0x00128 ∷ drive 23555 7 0x08128 ∷ drive 23555 0 0x00200 ∷ drive 23555 7 0x00000 ∷ drive 23555 0 0x04200 ∷ drive 23555 7 0x00029 ∷ drive 23610 7 0x08029 ∷ drive 23610 0 0x00200 ∷ drive 23610 7 0x00000 ∷ drive 23610 0 0x04200 ∷ drive 23610 7 0x0002a ∷ drive 23665 7 0x0802a ∷ drive 23665 0 0x00200 ∷ drive 23665 7 0x00000 ∷ drive 23665 0 0x04200 ∷ drive 23665 7 0x0012b ∷ drive 23720 7 0x0812b ∷ drive 23720 0 0x00200 ∷ drive 23720 7 0x00000 ∷ drive 23720 0 0x04200 ∷ drive 23720 7 0x0002c ∷ drive 23775 7 0x0802c ∷ drive 23775 0 0x00200 ∷ drive 23775 7 0x00000 ∷ drive 23775 0 0x04200 ∷ drive 23775 7 0x0012d ∷ drive 23830 7 0x0812d ∷ drive 23830 0 0x00200 ∷ drive 23830 7 0x00000 ∷ drive 23830 0 0x04200 ∷ drive 23830 7 0x0012e ∷ drive 23885 7 0x0812e ∷ drive 23885 0 0x00200 ∷ drive 23885 7 0x00000 ∷ drive 23885 0 0x04200 ∷ drive 23885 7 0x0002f ∷ drive 23940 7 0x0802f ∷ drive 23940 0 0x00200 ∷ drive 23940 7 0x00000 ∷ drive 23940 0 0x04200 ∷ drive 23940 7 0x00130 ∷ drive 23995 7 0x08130 ∷ drive 23995 0 0x00200 ∷ drive 23995 7 0x00000 ∷ drive 23995 0 0x04200 ∷ drive 23995 7 0x00031 ∷ drive 24050 7 0x08031 ∷ drive 24050 0 0x00200 ∷ drive 24050 7 0x00000 ∷ drive 24050 0 0x04200 ∷ drive 24050 7 0x00032 ∷ drive 24105 7 0x08032 ∷ drive 24105 0 0x00200 ∷ drive 24105 7 0x00000 ∷ drive 24105 0 0x04200 ∷ drive 24105 7 0x00133 ∷ drive 24160 7 0x08133 ∷ drive 24160 0 0x00200 ∷ drive 24160 7 0x00000 ∷ drive 24160 0 0x04200 ∷ drive 24160 7 0x00034 ∷ drive 24215 7 0x08034 ∷ drive 24215 0 0x00200 ∷ drive 24215 7 0x00000 ∷ drive 24215 0 0x04200 ∷ drive 24215 7 0x00135 ∷ drive 24270 7 0x08135 ∷ drive 24270 0 0x00200 ∷ drive 24270 7 0x00000 ∷ drive 24270 0 0x04200 ∷ drive 24270 7 0x00136 ∷ drive 24325 7 0x08136 ∷ drive 24325 0 0x00200 ∷ drive 24325 7 0x00000 ∷ drive 24325 0 0x04200 ∷ drive 24325 7 0x00037 ∷ drive 24380 7 0x08037 ∷ drive 24380 0 0x00200 ∷ drive 24380 7 0x00000 ∷ drive 24380 0 0x04200 ∷ drive 24380 7 0x00038 ∷ drive 24435 7 0x08038 ∷ drive 24435 0 0x00200 ∷ drive 24435 7 0x00000 ∷ drive 24435 0 0x04200 ∷ drive 24435 7 0x00139 ∷ drive 24490 7 0x08139 ∷ drive 24490 0 0x00200 ∷ drive 24490 7 0x00000 ∷ drive 24490 0 0x04200 ∷ drive 24490 7 0x0013a ∷ drive 24545 7 0x0813a ∷ drive 24545 0 0x00200 ∷ drive 24545 7 0x00000 ∷ drive 24545 0 0x04200 ∷ drive 24545 7 0x0003b ∷ drive 24600 7 0x0803b ∷ drive 24600 0 0x00200 ∷ drive 24600 7 0x00000 ∷ drive 24600 0 0x04200 ∷ drive 24600 7 0x0013c ∷ drive 24655 7 0x0813c ∷ drive 24655 0 0x00200 ∷ drive 24655 7 0x00000 ∷ drive 24655 0 0x04200 ∷ drive 24655 7 0x0003d ∷ drive 24710 7 0x0803d ∷ drive 24710 0 0x00200 ∷ drive 24710 7 0x00000 ∷ drive 24710 0 0x04200 ∷ drive 24710 7 0x0003e ∷ drive 24765 7 0x0803e ∷ drive 24765 0 0x00200 ∷ drive 24765 7 0x00000 ∷ drive 24765 0 0x04200 ∷ drive 24765 7 0x0013f ∷ drive 24820 7 0x0813f ∷ drive 24820 0 0x00200 ∷ drive 24820 7 0x00000 ∷ drive 24820 0 0x04200 ∷ drive 24820 7 0x00040 ∷ drive 24875 7 0x08040 ∷ drive 24875 0 0x00200 ∷ drive 24875 7 0x00000 ∷ drive 24875 0 0x04200 ∷ drive 24875 7 0x00141 ∷ drive 24930 7 0x08141 ∷ drive 24930 0 0x00200 ∷ drive 24930 7 0x00000 ∷ drive 24930 0 0x04200 ∷ drive 24930 7 0x00142 ∷ drive 24985 7 0x08142 ∷ drive 24985 0 0x00200 ∷ drive 24985 7 0x00000 ∷ drive 24985 0 0x04200 ∷ drive 24985 7 0x00043 ∷ drive 25040 7 0x08043 ∷ drive 25040 0 0x00200 ∷ drive 25040 7 0x00000 ∷ drive 25040 0 0x04200 ∷ drive 25040 7 0x00144 ∷ drive 25095 7 0x08144 ∷ drive 25095 0 0x00200 ∷ drive 25095 7 0x00000 ∷ drive 25095 0 0x04200 ∷ drive 25095 7 0x00045 ∷ drive 25150 7 0x08045 ∷ drive 25150 0 0x00200 ∷ drive 25150 7 0x00000 ∷ drive 25150 0 0x04200 ∷ drive 25150 7 0x00046 ∷ drive 25205 7 0x08046 ∷ drive 25205 0 0x00200 ∷ drive 25205 7 0x00000 ∷ drive 25205 0 0x04200 ∷ drive 25205 7 0x00147 ∷ drive 25260 7 0x08147 ∷ drive 25260 0 0x00200 ∷ drive 25260 7 0x00000 ∷ drive 25260 0 0x04200 ∷ drive 25260 7 0x00148 ∷ drive 25315 7 0x08148 ∷ drive 25315 0 0x00200 ∷ drive 25315 7 0x00000 ∷ drive 25315 0 0x04200 ∷ drive 25315 7 0x00049 ∷ drive 25370 7 0x08049 ∷ drive 25370 0 0x00200 ∷ drive 25370 7 0x00000 ∷ drive 25370 0 0x04200 ∷ drive 25370 7 0x0004a ∷ drive 25425 7 0x0804a ∷ drive 25425 0 0x00200 ∷ drive 25425 7 0x00000 ∷ drive 25425 0 0x04200 ∷ drive 25425 7 0x0014b ∷ drive 25480 7 0x0814b ∷ drive 25480 0 0x00200 ∷ drive 25480 7 0x00000 ∷ drive 25480 0 0x04200 ∷ drive 25480 7 0x0004c ∷ drive 25535 7 0x0804c ∷ drive 25535 0 0x00200 ∷ drive 25535 7 0x00000 ∷ drive 25535 0 0x04200 ∷ drive 25535 7 0x0014d ∷ drive 25590 7 0x0814d ∷ drive 25590 0 0x00200 ∷ drive 25590 7 0x00000 ∷ drive 25590 0 0x04200 ∷ drive 25590 7 0x0014e ∷ drive 25645 7 0x0814e ∷ drive 25645 0 0x00200 ∷ drive 25645 7 0x00000 ∷ drive 25645 0 0x04200 ∷ drive 25645 7 0x0004f ∷ drive 25700 7 0x0804f ∷ drive 25700 0 0x00200 ∷ drive 25700 7 0x00000 ∷ drive 25700 0 0x04200 ∷ drive 25700 7 0x00150 ∷ drive 25755 7 0x08150 ∷ drive 25755 0 0x00200 ∷ drive 25755 7 0x00000 ∷ drive 25755 0 0x04200 ∷ drive 25755 7 0x00051 ∷ drive 25810 7 0x08051 ∷ drive 25810 0 0x00200 ∷ drive 25810 7 0x00000 ∷ drive 25810 0 0x04200 ∷ drive 25810 7 0x00052 ∷ drive 25865 7 0x08052 ∷ drive 25865 0 0x00200 ∷ drive 25865 7 0x00000 ∷ drive 25865 0 0x04200 ∷ drive 25865 7 0x00153 ∷ drive 25920 7 0x08153 ∷ drive 25920 0 0x00200 ∷ drive 25920 7 0x00000 ∷ drive 25920 0 0x04200 ∷ drive 25920 7 0x00054 ∷ drive 25975 7 0x08054 ∷ drive 25975 0 0x00200 ∷ drive 25975 7 0x00000 ∷ drive 25975 0 0x04200 ∷ drive 25975 7 0x00155 ∷ drive 26030 7 0x08155 ∷ drive 26030 0 0x00200 ∷ drive 26030 7 0x00000 ∷ drive 26030 0 0x04200 ∷ drive 26030 7 0x00156 ∷ drive 26085 7 0x08156 ∷ drive 26085 0 0x00200 ∷ drive 26085 7 0x00000 ∷ drive 26085 0 0x04200 ∷ drive 26085 7 0x00057 ∷ drive 26140 7 0x08057 ∷ drive 26140 0 0x00200 ∷ drive 26140 7 0x00000 ∷ drive 26140 0 0x04200 ∷ drive 26140 7 0x00058 ∷ drive 26195 7 0x08058 ∷ drive 26195 0 0x00200 ∷ drive 26195 7 0x00000 ∷ drive 26195 0 0x04200 ∷ drive 26195 7 0x00159 ∷ drive 26250 7 0x08159 ∷ drive 26250 0 0x00200 ∷ drive 26250 7 0x00000 ∷ drive 26250 0 0x04200 ∷ drive 26250 7 0x0015a ∷ drive 26305 7 0x0815a ∷ drive 26305 0 0x00200 ∷ drive 26305 7 0x00000 ∷ drive 26305 0 0x04200 ∷ drive 26305 7 0x0005b ∷ drive 26360 7 0x0805b ∷ drive 26360 0 0x00200 ∷ drive 26360 7 0x00000 ∷ drive 26360 0 0x04200 ∷ drive 26360 7 0x0015c ∷ drive 26415 7 0x0815c ∷ drive 26415 0 0x00200 ∷ drive 26415 7 0x00000 ∷ drive 26415 0 0x04200 ∷ drive 26415 7 0x0005d ∷ drive 26470 7 0x0805d ∷ drive 26470 0 0x00200 ∷ drive 26470 7 0x00000 ∷ drive 26470 0 0x04200 ∷ drive 26470 7 0x0005e ∷ drive 26525 7 0x0805e ∷ drive 26525 0 0x00200 ∷ drive 26525 7 0x00000 ∷ drive 26525 0 0x04200 ∷ drive 26525 7 0x0015f ∷ drive 26580 7 0x0815f ∷ drive 26580 0 0x00200 ∷ drive 26580 7 0x00000 ∷ drive 26580 0 0x04200 ∷ drive 26580 7 0x00160 ∷ drive 26635 7 0x08160 ∷ drive 26635 0 0x00200 ∷ drive 26635 7 0x00000 ∷ drive 26635 0 0x04200 ∷ drive 26635 7 0x00061 ∷ drive 26690 7 0x08061 ∷ drive 26690 0 0x00200 ∷ drive 26690 7 0x00000 ∷ drive 26690 0 0x04200 ∷ drive 26690 7 0x00062 ∷ drive 26745 7 0x08062 ∷ drive 26745 0 0x00200 ∷ drive 26745 7 0x00000 ∷ drive 26745 0 0x04200 ∷ drive 26745 7 0x00163 ∷ drive 26800 7 0x08163 ∷ drive 26800 0 0x00200 ∷ drive 26800 7 0x00000 ∷ drive 26800 0 0x04200 ∷ drive 26800 7 0x00064 ∷ drive 26855 7 0x08064 ∷ drive 26855 0 0x00200 ∷ drive 26855 7 0x00000 ∷ drive 26855 0 0x04200 ∷ drive 26855 7 0x00165 ∷ drive 26910 7 0x08165 ∷ drive 26910 0 0x00200 ∷ drive 26910 7 0x00000 ∷ drive 26910 0 0x04200 ∷ drive 26910 7 0x00166 ∷ drive 26965 7 0x08166 ∷ drive 26965 0 0x00200 ∷ drive 26965 7 0x00000 ∷ drive 26965 0 0x04200 ∷ drive 26965 7 0x00067 ∷ drive 27020 7 0x08067 ∷ drive 27020 0 0x00200 ∷ drive 27020 7 0x00000 ∷ drive 27020 0 0x04200 ∷ drive 27020 7 0x00068 ∷ drive 27075 7 0x08068 ∷ drive 27075 0 0x00200 ∷ drive 27075 7 0x00000 ∷ drive 27075 0 0x04200 ∷ drive 27075 7 0x00169 ∷ drive 27130 7 0x08169 ∷ drive 27130 0 0x00200 ∷ drive 27130 7 0x00000 ∷ drive 27130 0 0x04200 ∷ drive 27130 7 0x0016a ∷ drive 27185 7 0x0816a ∷ drive 27185 0 0x00200 ∷ drive 27185 7 0x00000 ∷ drive 27185 0 0x04200 ∷ drive 27185 7 0x0006b ∷ drive 27240 7 0x0806b ∷ drive 27240 0 0x00200 ∷ drive 27240 7 0x00000 ∷ drive 27240 0 0x04200 ∷ drive 27240 7 0x0016c ∷ drive 27295 7 0x0816c ∷ drive 27295 0 0x00200 ∷ drive 27295 7 0x00000 ∷ drive 27295 0 0x04200 ∷ drive 27295 7 0x0006d ∷ drive 27350 7 0x0806d ∷ drive 27350 0 0x00200 ∷ drive 27350 7 0x00000 ∷ drive 27350 0 0x04200 ∷ drive 27350 7 0x0006e ∷ drive 27405 7 0x0806e ∷ drive 27405 0 0x00200 ∷ drive 27405 7 0x00000 ∷ drive 27405 0 0x04200 ∷ drive 27405 7 0x0016f ∷ drive 27460 7 0x0816f ∷ drive 27460 0 0x00200 ∷ drive 27460 7 0x00000 ∷ drive 27460 0 0x04200 ∷ drive 27460 7 0x00070 ∷ drive 27515 7 0x08070 ∷ drive 27515 0 0x00200 ∷ drive 27515 7 0x00000 ∷ drive 27515 0 0x04200 ∷ drive 27515 7 0x00171 ∷ drive 27570 7 0x08171 ∷ drive 27570 0 0x00200 ∷ drive 27570 7 0x00000 ∷ drive 27570 0 0x04200 ∷ drive 27570 7 0x00172 ∷ drive 27625 7 0x08172 ∷ drive 27625 0 0x00200 ∷ drive 27625 7 0x00000 ∷ drive 27625 0 0x04200 ∷ drive 27625 7 0x00073 ∷ drive 27680 7 0x08073 ∷ drive 27680 0 0x00200 ∷ drive 27680 7 0x00000 ∷ drive 27680 0 0x04200 ∷ drive 27680 7 0x00174 ∷ drive 27735 7 0x08174 ∷ drive 27735 0 0x00200 ∷ drive 27735 7 0x00000 ∷ drive 27735 0 0x04200 ∷ drive 27735 7 0x00075 ∷ drive 27790 7 0x08075 ∷ drive 27790 0 0x00200 ∷ drive 27790 7 0x00000 ∷ drive 27790 0 0x04200 ∷ drive 27790 7 0x00076 ∷ drive 27845 7 0x08076 ∷ drive 27845 0 0x00200 ∷ drive 27845 7 0x00000 ∷ drive 27845 0 0x04200 ∷ drive 27845 7 0x00177 ∷ drive 27900 7 0x08177 ∷ drive 27900 0 0x00200 ∷ drive 27900 7 0x00000 ∷ drive 27900 0 0x04200 ∷ drive 27900 7 0x00178 ∷ drive 27955 7 0x08178 ∷ drive 27955 0 0x00200 ∷ drive 27955 7 0x00000 ∷ drive 27955 0 0x04200 ∷ drive 27955 7 0x00079 ∷ drive 28010 7 0x08079 ∷ drive 28010 0 0x00200 ∷ drive 28010 7 0x00000 ∷ drive 28010 0 0x04200 ∷ drive 28010 7 0x0007a ∷ drive 28065 7 0x0807a ∷ drive 28065 0 0x00200 ∷ drive 28065 7 0x00000 ∷ drive 28065 0 0x04200 ∷ drive 28065 7 0x0017b ∷ drive 28120 7 0x0817b ∷ drive 28120 0 0x00200 ∷ drive 28120 7 0x00000 ∷ drive 28120 0 0x04200 ∷ drive 28120 7 0x0007c ∷ drive 28175 7 0x0807c ∷ drive 28175 0 0x00200 ∷ drive 28175 7 0x00000 ∷ drive 28175 0 0x04200 ∷ drive 28175 7 0x0017d ∷ drive 28230 7 0x0817d ∷ drive 28230 0 0x00200 ∷ drive 28230 7 0x00000 ∷ drive 28230 0 0x04200 ∷ drive 28230 7 0x0017e ∷ drive 28285 7 0x0817e ∷ drive 28285 0 0x00200 ∷ drive 28285 7 0x00000 ∷ drive 28285 0 0x04200 ∷ drive 28285 7 0x0007f ∷ drive 28340 7 0x0807f ∷ drive 28340 0 0x00200 ∷ drive 28340 7 0x00000 ∷ drive 28340 0 0x04200 ∷ drive 28340 7 0x00080 ∷ drive 28395 7 0x08080 ∷ drive 28395 0 0x00200 ∷ drive 28395 7 0x00000 ∷ drive 28395 0 0x04200 ∷ drive 28395 7 0x00181 ∷ drive 28450 7 0x08181 ∷ drive 28450 0 0x00200 ∷ drive 28450 7 0x00000 ∷ drive 28450 0 0x04200 ∷ drive 28450 7 0x00182 ∷ drive 28505 7 0x08182 ∷ drive 28505 0 0x00200 ∷ drive 28505 7 0x00000 ∷ drive 28505 0 0x04200 ∷ drive 28505 7 0x00083 ∷ drive 28560 7 0x08083 ∷ drive 28560 0 0x00200 ∷ drive 28560 7 0x00000 ∷ drive 28560 0 0x04200 ∷ drive 28560 7 0x00184 ∷ drive 28615 7 0x08184 ∷ drive 28615 0 0x00200 ∷ drive 28615 7 0x00000 ∷ drive 28615 0 0x04200 ∷ drive 28615 7 0x00085 ∷ drive 28670 7 0x08085 ∷ drive 28670 0 0x00200 ∷ drive 28670 7 0x00000 ∷ drive 28670 0 0x04200 ∷ drive 28670 7 0x00086 ∷ drive 28725 7 0x08086 ∷ drive 28725 0 0x00200 ∷ drive 28725 7 0x00000 ∷ drive 28725 0 0x04200 ∷ drive 28725 7 0x00187 ∷ drive 28780 7 0x08187 ∷ drive 28780 0 0x00200 ∷ drive 28780 7 0x00000 ∷ drive 28780 0 0x04200 ∷ drive 28780 7 0x00188 ∷ drive 28835 7 0x08188 ∷ drive 28835 0 0x00200 ∷ drive 28835 7 0x00000 ∷ drive 28835 0 0x04200 ∷ drive 28835 7 0x00089 ∷ drive 28890 7 0x08089 ∷ drive 28890 0 0x00200 ∷ drive 28890 7 0x00000 ∷ drive 28890 0 0x04200 ∷ drive 28890 7 0x0008a ∷ drive 28945 7 0x0808a ∷ drive 28945 0 0x00200 ∷ drive 28945 7 0x00000 ∷ drive 28945 0 0x04200 ∷ drive 28945 7 0x0018b ∷ drive 29000 7 0x0818b ∷ drive 29000 0 0x00200 ∷ drive 29000 7 0x00000 ∷ drive 29000 0 0x04200 ∷ drive 29000 7 0x0008c ∷ drive 29055 7 0x0808c ∷ drive 29055 0 0x00200 ∷ drive 29055 7 0x00000 ∷ drive 29055 0 0x04200 ∷ drive 29055 7 0x0018d ∷ drive 29110 7 0x0818d ∷ drive 29110 0 0x00200 ∷ drive 29110 7 0x00000 ∷ drive 29110 0 0x04200 ∷ drive 29110 7 0x0018e ∷ drive 29165 7 0x0818e ∷ drive 29165 0 0x00200 ∷ drive 29165 7 0x00000 ∷ drive 29165 0 0x04200 ∷ drive 29165 7 0x0008f ∷ drive 29220 7 0x0808f ∷ drive 29220 0 0x00200 ∷ drive 29220 7 0x00000 ∷ drive 29220 0 0x04200 ∷ drive 29220 7 0x00190 ∷ drive 29275 7 0x08190 ∷ drive 29275 0 0x00200 ∷ drive 29275 7 0x00000 ∷ drive 29275 0 0x04200 ∷ drive 29275 7 0x00091 ∷ drive 29330 7 0x08091 ∷ drive 29330 0 0x00200 ∷ drive 29330 7 0x00000 ∷ drive 29330 0 0x04200 ∷ drive 29330 7 0x00092 ∷ drive 29385 7 0x08092 ∷ drive 29385 0 0x00200 ∷ drive 29385 7 0x00000 ∷ drive 29385 0 0x04200 ∷ drive 29385 7 0x00193 ∷ drive 29440 7 0x08193 ∷ drive 29440 0 0x00200 ∷ drive 29440 7 0x00000 ∷ drive 29440 0 0x04200 ∷ drive 29440 7 0x00094 ∷ drive 29495 7 0x08094 ∷ drive 29495 0 0x00200 ∷ drive 29495 7 0x00000 ∷ drive 29495 0 0x04200 ∷ drive 29495 7 0x00195 ∷ drive 29550 7 0x08195 ∷ drive 29550 0 0x00200 ∷ drive 29550 7 0x00000 ∷ drive 29550 0 0x04200 ∷ drive 29550 7 0x00196 ∷ drive 29605 7 0x08196 ∷ drive 29605 0 0x00200 ∷ drive 29605 7 0x00000 ∷ drive 29605 0 0x04200 ∷ drive 29605 7 0x00097 ∷ drive 29660 7 0x08097 ∷ drive 29660 0 0x00200 ∷ drive 29660 7 0x00000 ∷ drive 29660 0 0x04200 ∷ drive 29660 7 0x00098 ∷ drive 29715 7 0x08098 ∷ drive 29715 0 0x00200 ∷ drive 29715 7 0x00000 ∷ drive 29715 0 0x04200 ∷ drive 29715 7 0x00199 ∷ drive 29770 7 0x08199 ∷ drive 29770 0 0x00200 ∷ drive 29770 7 0x00000 ∷ drive 29770 0 0x04200 ∷ drive 29770 7 0x0019a ∷ drive 29825 7 0x0819a ∷ drive 29825 0 0x00200 ∷ drive 29825 7 0x00000 ∷ drive 29825 0 0x04200 ∷ drive 29825 7 0x0009b ∷ drive 29880 7 0x0809b ∷ drive 29880 0 0x00200 ∷ drive 29880 7 0x00000 ∷ drive 29880 0 0x04200 ∷ drive 29880 7 0x0019c ∷ drive 29935 7 0x0819c ∷ drive 29935 0 0x00200 ∷ drive 29935 7 0x00000 ∷ drive 29935 0 0x04200 ∷ drive 29935 7 0x0009d ∷ drive 29990 7 0x0809d ∷ drive 29990 0 0x00200 ∷ drive 29990 7 0x00000 ∷ drive 29990 0 0x04200 ∷ drive 29990 7 0x0009e ∷ drive 30045 7 0x0809e ∷ drive 30045 0 0x00200 ∷ drive 30045 7 0x00000 ∷ drive 30045 0 0x04200 ∷ drive 30045 7 0x0019f ∷ drive 30100 7 0x0819f ∷ drive 30100 0 0x00200 ∷ drive 30100 7 0x00000 ∷ drive 30100 0 0x04200 ∷ drive 30100 7 0x001a0 ∷ drive 30155 7 0x081a0 ∷ drive 30155 0 0x00200 ∷ drive 30155 7 0x00000 ∷ drive 30155 0 0x04200 ∷ drive 30155 7 0x000a1 ∷ drive 30210 7 0x080a1 ∷ drive 30210 0 0x00200 ∷ drive 30210 7 0x00000 ∷ drive 30210 0 0x04200 ∷ drive 30210 7 0x000a2 ∷ drive 30265 7 0x080a2 ∷ drive 30265 0 0x00200 ∷ drive 30265 7 0x00000 ∷ drive 30265 0 0x04200 ∷ drive 30265 7 0x001a3 ∷ drive 30320 7 0x081a3 ∷ drive 30320 0 0x00200 ∷ drive 30320 7 0x00000 ∷ drive 30320 0 0x04200 ∷ drive 30320 7 0x000a4 ∷ drive 30375 7 0x080a4 ∷ drive 30375 0 0x00200 ∷ drive 30375 7 0x00000 ∷ drive 30375 0 0x04200 ∷ drive 30375 7 0x001a5 ∷ drive 30430 7 0x081a5 ∷ drive 30430 0 0x00200 ∷ drive 30430 7 0x00000 ∷ drive 30430 0 0x04200 ∷ drive 30430 7 0x001a6 ∷ drive 30485 7 0x081a6 ∷ drive 30485 0 0x00200 ∷ drive 30485 7 0x00000 ∷ drive 30485 0 0x04200 ∷ drive 30485 7 0x000a7 ∷ drive 30540 7 0x080a7 ∷ drive 30540 0 0x00200 ∷ drive 30540 7 0x00000 ∷ drive 30540 0 0x04200 ∷ drive 30540 7 0x000a8 ∷ drive 30595 7 0x080a8 ∷ drive 30595 0 0x00200 ∷ drive 30595 7 0x00000 ∷ drive 30595 0 0x04200 ∷ drive 30595 7 0x001a9 ∷ drive 30650 7 0x081a9 ∷ drive 30650 0 0x00200 ∷ drive 30650 7 0x00000 ∷ drive 30650 0 0x04200 ∷ drive 30650 7 0x001aa ∷ drive 30705 7 0x081aa ∷ drive 30705 0 0x00200 ∷ drive 30705 7 0x00000 ∷ drive 30705 0 0x04200 ∷ drive 30705 7 0x000ab ∷ drive 30760 7 0x080ab ∷ drive 30760 0 0x00200 ∷ drive 30760 7 0x00000 ∷ drive 30760 0 0x04200 ∷ drive 30760 7 0x001ac ∷ drive 30815 7 0x081ac ∷ drive 30815 0 0x00200 ∷ drive 30815 7 0x00000 ∷ drive 30815 0 0x04200 ∷ drive 30815 7 0x000ad ∷ drive 30870 7 0x080ad ∷ drive 30870 0 0x00200 ∷ drive 30870 7 0x00000 ∷ drive 30870 0 0x04200 ∷ drive 30870 7 0x000ae ∷ drive 30925 7 0x080ae ∷ drive 30925 0 0x00200 ∷ drive 30925 7 0x00000 ∷ drive 30925 0 0x04200 ∷ drive 30925 7 0x001af ∷ drive 30980 7 0x081af ∷ drive 30980 0 0x00200 ∷ drive 30980 7 0x00000 ∷ drive 30980 0 0x04200 ∷ drive 30980 7 0x000b0 ∷ drive 31035 7 0x080b0 ∷ drive 31035 0 0x00200 ∷ drive 31035 7 0x00000 ∷ drive 31035 0 0x04200 ∷ drive 31035 7 0x001b1 ∷ drive 31090 7 0x081b1 ∷ drive 31090 0 0x00200 ∷ drive 31090 7 0x00000 ∷ drive 31090 0 0x04200 ∷ drive 31090 7 0x001b2 ∷ drive 31145 7 0x081b2 ∷ drive 31145 0 0x00200 ∷ drive 31145 7 0x00000 ∷ drive 31145 0 0x04200 ∷ drive 31145 7 0x000b3 ∷ drive 31200 7 0x080b3 ∷ drive 31200 0 0x00200 ∷ drive 31200 7 0x00000 ∷ drive 31200 0 0x04200 ∷ drive 31200 7 0x001b4 ∷ drive 31255 7 0x081b4 ∷ drive 31255 0 0x00200 ∷ drive 31255 7 0x00000 ∷ drive 31255 0 0x04200 ∷ drive 31255 7 0x000b5 ∷ drive 31310 7 0x080b5 ∷ drive 31310 0 0x00200 ∷ drive 31310 7 0x00000 ∷ drive 31310 0 0x04200 ∷ drive 31310 7 0x000b6 ∷ drive 31365 7 0x080b6 ∷ drive 31365 0 0x00200 ∷ drive 31365 7 0x00000 ∷ drive 31365 0 0x04200 ∷ drive 31365 7 0x001b7 ∷ drive 31420 7 0x081b7 ∷ drive 31420 0 0x00200 ∷ drive 31420 7 0x00000 ∷ drive 31420 0 0x04200 ∷ drive 31420 7 0x001b8 ∷ drive 31475 7 0x081b8 ∷ drive 31475 0 0x00200 ∷ drive 31475 7 0x00000 ∷ drive 31475 0 0x04200 ∷ drive 31475 7 0x000b9 ∷ drive 31530 7 0x080b9 ∷ drive 31530 0 0x00200 ∷ drive 31530 7 0x00000 ∷ drive 31530 0 0x04200 ∷ drive 31530 7 0x000ba ∷ drive 31585 7 0x080ba ∷ drive 31585 0 0x00200 ∷ drive 31585 7 0x00000 ∷ drive 31585 0 0x04200 ∷ drive 31585 7 0x001bb ∷ drive 31640 7 0x081bb ∷ drive 31640 0 0x00200 ∷ drive 31640 7 0x00000 ∷ drive 31640 0 0x04200 ∷ drive 31640 7 0x000bc ∷ drive 31695 7 0x080bc ∷ drive 31695 0 0x00200 ∷ drive 31695 7 0x00000 ∷ drive 31695 0 0x04200 ∷ drive 31695 7 0x001bd ∷ drive 31750 7 0x081bd ∷ drive 31750 0 0x00200 ∷ drive 31750 7 0x00000 ∷ drive 31750 0 0x04200 ∷ drive 31750 7 0x001be ∷ drive 31805 7 0x081be ∷ drive 31805 0 0x00200 ∷ drive 31805 7 0x00000 ∷ drive 31805 0 0x04200 ∷ drive 31805 7 0x000bf ∷ drive 31860 7 0x080bf ∷ drive 31860 0 0x00200 ∷ drive 31860 7 0x00000 ∷ drive 31860 0 0x04200 ∷ drive 31860 7 0x001c0 ∷ drive 31915 7 0x081c0 ∷ drive 31915 0 0x00200 ∷ drive 31915 7 0x00000 ∷ drive 31915 0 0x04200 ∷ drive 31915 7 0x000c1 ∷ drive 31970 7 0x080c1 ∷ drive 31970 0 0x00200 ∷ drive 31970 7 0x00000 ∷ drive 31970 0 0x04200 ∷ drive 31970 7 0x000c2 ∷ drive 32025 7 0x080c2 ∷ drive 32025 0 0x00200 ∷ drive 32025 7 0x00000 ∷ drive 32025 0 0x04200 ∷ drive 32025 7 0x001c3 ∷ drive 32080 7 0x081c3 ∷ drive 32080 0 0x00200 ∷ drive 32080 7 0x00000 ∷ drive 32080 0 0x04200 ∷ drive 32080 7 0x000c4 ∷ drive 32135 7 0x080c4 ∷ drive 32135 0 0x00200 ∷ drive 32135 7 0x00000 ∷ drive 32135 0 0x04200 ∷ drive 32135 7 0x001c5 ∷ drive 32190 7 0x081c5 ∷ drive 32190 0 0x00200 ∷ drive 32190 7 0x00000 ∷ drive 32190 0 0x04200 ∷ drive 32190 7 0x001c6 ∷ drive 32245 7 0x081c6 ∷ drive 32245 0 0x00200 ∷ drive 32245 7 0x00000 ∷ drive 32245 0 0x04200 ∷ drive 32245 7 0x000c7 ∷ drive 32300 7 0x080c7 ∷ drive 32300 0 0x00200 ∷ drive 32300 7 0x00000 ∷ drive 32300 0 0x04200 ∷ drive 32300 7 0x000c8 ∷ drive 32355 7 0x080c8 ∷ drive 32355 0 0x00200 ∷ drive 32355 7 0x00000 ∷ drive 32355 0 0x04200 ∷ drive 32355 7 0x001c9 ∷ drive 32410 7 0x081c9 ∷ drive 32410 0 0x00200 ∷ drive 32410 7 0x00000 ∷ drive 32410 0 0x04200 ∷ drive 32410 7 0x001ca ∷ drive 32465 7 0x081ca ∷ drive 32465 0 0x00200 ∷ drive 32465 7 0x00000 ∷ drive 32465 0 0x04200 ∷ drive 32465 7 0x000cb ∷ drive 32520 7 0x080cb ∷ drive 32520 0 0x00200 ∷ drive 32520 7 0x00000 ∷ drive 32520 0 0x04200 ∷ drive 32520 7 0x001cc ∷ drive 32575 7 0x081cc ∷ drive 32575 0 0x00200 ∷ drive 32575 7 0x00000 ∷ drive 32575 0 0x04200 ∷ drive 32575 7 0x000cd ∷ drive 32630 7 0x080cd ∷ drive 32630 0 0x00200 ∷ drive 32630 7 0x00000 ∷ drive 32630 0 0x04200 ∷ drive 32630 7 0x000ce ∷ drive 32685 7 0x080ce ∷ drive 32685 0 0x00200 ∷ drive 32685 7 0x00000 ∷ drive 32685 0 0x04200 ∷ drive 32685 7 0x001cf ∷ drive 32740 7 0x081cf ∷ drive 32740 0 0x00200 ∷ drive 32740 7 0x00000 ∷ drive 32740 0 0x04200 ∷ drive 32740 7 0x000d0 ∷ drive 32795 7 0x080d0 ∷ drive 32795 0 0x00200 ∷ drive 32795 7 0x00000 ∷ drive 32795 0 0x04200 ∷ drive 32795 7 0x001d1 ∷ drive 32850 7 0x081d1 ∷ drive 32850 0 0x00200 ∷ drive 32850 7 0x00000 ∷ drive 32850 0 0x04200 ∷ drive 32850 7 0x001d2 ∷ drive 32905 7 0x081d2 ∷ drive 32905 0 0x00200 ∷ drive 32905 7 0x00000 ∷ drive 32905 0 0x04200 ∷ drive 32905 7 0x000d3 ∷ drive 32960 7 0x080d3 ∷ drive 32960 0 0x00200 ∷ drive 32960 7 0x00000 ∷ drive 32960 0 0x04200 ∷ drive 32960 7 0x001d4 ∷ drive 33015 7 0x081d4 ∷ drive 33015 0 0x00200 ∷ drive 33015 7 0x00000 ∷ drive 33015 0 0x04200 ∷ drive 33015 7 0x000d5 ∷ drive 33070 7 0x080d5 ∷ drive 33070 0 0x00200 ∷ drive 33070 7 0x00000 ∷ drive 33070 0 0x04200 ∷ drive 33070 7 0x000d6 ∷ drive 33125 7 0x080d6 ∷ drive 33125 0 0x00200 ∷ drive 33125 7 0x00000 ∷ drive 33125 0 0x04200 ∷ drive 33125 7 0x001d7 ∷ drive 33180 7 0x081d7 ∷ drive 33180 0 0x00200 ∷ drive 33180 7 0x00000 ∷ drive 33180 0 0x04200 ∷ drive 33180 7 0x001d8 ∷ drive 33235 7 0x081d8 ∷ drive 33235 0 0x00200 ∷ drive 33235 7 0x00000 ∷ drive 33235 0 0x04200 ∷ drive 33235 7 0x000d9 ∷ drive 33290 7 0x080d9 ∷ drive 33290 0 0x00200 ∷ drive 33290 7 0x00000 ∷ drive 33290 0 0x04200 ∷ drive 33290 7 0x000da ∷ drive 33345 7 0x080da ∷ drive 33345 0 0x00200 ∷ drive 33345 7 0x00000 ∷ drive 33345 0 0x04200 ∷ drive 33345 7 0x001db ∷ drive 33400 7 0x081db ∷ drive 33400 0 0x00200 ∷ drive 33400 7 0x00000 ∷ drive 33400 0 0x04200 ∷ drive 33400 7 0x000dc ∷ drive 33455 7 0x080dc ∷ drive 33455 0 0x00200 ∷ drive 33455 7 0x00000 ∷ drive 33455 0 0x04200 ∷ drive 33455 7 0x001dd ∷ drive 33510 7 0x081dd ∷ drive 33510 0 0x00200 ∷ drive 33510 7 0x00000 ∷ drive 33510 0 0x04200 ∷ drive 33510 7 0x001de ∷ drive 33565 7 0x081de ∷ drive 33565 0 0x00200 ∷ drive 33565 7 0x00000 ∷ drive 33565 0 0x04200 ∷ drive 33565 7 0x000df ∷ drive 33620 7 0x080df ∷ drive 33620 0 0x00200 ∷ drive 33620 7 0x00000 ∷ drive 33620 0 0x04200 ∷ drive 33620 7 0x000e0 ∷ drive 33675 7 0x080e0 ∷ drive 33675 0 0x00200 ∷ drive 33675 7 0x00000 ∷ drive 33675 0 0x04200 ∷ drive 33675 7 0x001e1 ∷ drive 33730 7 0x081e1 ∷ drive 33730 0 0x00200 ∷ drive 33730 7 0x00000 ∷ drive 33730 0 0x04200 ∷ drive 33730 7 0x001e2 ∷ drive 33785 7 0x081e2 ∷ drive 33785 0 0x00200 ∷ drive 33785 7 0x00000 ∷ drive 33785 0 0x04200 ∷ drive 33785 7 0x000e3 ∷ drive 33840 7 0x080e3 ∷ drive 33840 0 0x00200 ∷ drive 33840 7 0x00000 ∷ drive 33840 0 0x04200 ∷ drive 33840 7 0x001e4 ∷ drive 33895 7 0x081e4 ∷ drive 33895 0 0x00200 ∷ drive 33895 7 0x00000 ∷ drive 33895 0 0x04200 ∷ drive 33895 7 0x000e5 ∷ drive 33950 7 0x080e5 ∷ drive 33950 0 0x00200 ∷ drive 33950 7 0x00000 ∷ drive 33950 0 0x04200 ∷ drive 33950 7 0x000e6 ∷ drive 34005 7 0x080e6 ∷ drive 34005 0 0x00200 ∷ drive 34005 7 0x00000 ∷ drive 34005 0 0x04200 ∷ drive 34005 7 0x001e7 ∷ drive 34060 7 0x081e7 ∷ drive 34060 0 0x00200 ∷ drive 34060 7 0x00000 ∷ drive 34060 0 0x04200 ∷ drive 34060 7 0x001e8 ∷ drive 34115 7 0x081e8 ∷ drive 34115 0 0x00200 ∷ drive 34115 7 0x00000 ∷ drive 34115 0 0x04200 ∷ drive 34115 7 0x000e9 ∷ drive 34170 7 0x080e9 ∷ drive 34170 0 0x00200 ∷ drive 34170 7 0x00000 ∷ drive 34170 0 0x04200 ∷ drive 34170 7 0x000ea ∷ drive 34225 7 0x080ea ∷ drive 34225 0 0x00200 ∷ drive 34225 7 0x00000 ∷ drive 34225 0 0x04200 ∷ drive 34225 7 0x001eb ∷ drive 34280 7 0x081eb ∷ drive 34280 0 0x00200 ∷ drive 34280 7 0x00000 ∷ drive 34280 0 0x04200 ∷ drive 34280 7 0x000ec ∷ drive 34335 7 0x080ec ∷ drive 34335 0 0x00200 ∷ drive 34335 7 0x00000 ∷ drive 34335 0 0x04200 ∷ drive 34335 7 0x001ed ∷ drive 34390 7 0x081ed ∷ drive 34390 0 0x00200 ∷ drive 34390 7 0x00000 ∷ drive 34390 0 0x04200 ∷ drive 34390 7 0x001ee ∷ drive 34445 7 0x081ee ∷ drive 34445 0 0x00200 ∷ drive 34445 7 0x00000 ∷ drive 34445 0 0x04200 ∷ drive 34445 7 0x000ef ∷ drive 34500 7 0x080ef ∷ drive 34500 0 0x00200 ∷ drive 34500 7 0x00000 ∷ drive 34500 0 0x04200 ∷ drive 34500 7 0x001f0 ∷ drive 34555 7 0x081f0 ∷ drive 34555 0 0x00200 ∷ drive 34555 7 0x00000 ∷ drive 34555 0 0x04200 ∷ drive 34555 7 0x000f1 ∷ drive 34610 7 0x080f1 ∷ drive 34610 0 0x00200 ∷ drive 34610 7 0x00000 ∷ drive 34610 0 0x04200 ∷ drive 34610 7 0x000f2 ∷ drive 34665 7 0x080f2 ∷ drive 34665 0 0x00200 ∷ drive 34665 7 0x00000 ∷ drive 34665 0 0x04200 ∷ drive 34665 7 0x001f3 ∷ drive 34720 7 0x081f3 ∷ drive 34720 0 0x00200 ∷ drive 34720 7 0x00000 ∷ drive 34720 0 0x04200 ∷ drive 34720 7 0x000f4 ∷ drive 34775 7 0x080f4 ∷ drive 34775 0 0x00200 ∷ drive 34775 7 0x00000 ∷ drive 34775 0 0x04200 ∷ drive 34775 7 0x001f5 ∷ drive 34830 7 0x081f5 ∷ drive 34830 0 0x00200 ∷ drive 34830 7 0x00000 ∷ drive 34830 0 0x04200 ∷ drive 34830 7 0x001f6 ∷ drive 34885 7 0x081f6 ∷ drive 34885 0 0x00200 ∷ drive 34885 7 0x00000 ∷ drive 34885 0 0x04200 ∷ drive 34885 7 0x000f7 ∷ drive 34940 7 0x080f7 ∷ drive 34940 0 0x00200 ∷ drive 34940 7 0x00000 ∷ drive 34940 0 0x04200 ∷ drive 34940 7 0x000f8 ∷ drive 34995 7 0x080f8 ∷ drive 34995 0 0x00200 ∷ drive 34995 7 0x00000 ∷ drive 34995 0 0x04200 ∷ drive 34995 7 0x001f9 ∷ drive 35050 7 0x081f9 ∷ drive 35050 0 0x00200 ∷ drive 35050 7 0x00000 ∷ drive 35050 0 0x04200 ∷ drive 35050 7 0x001fa ∷ drive 35105 7 0x081fa ∷ drive 35105 0 0x00200 ∷ drive 35105 7 0x00000 ∷ drive 35105 0 0x04200 ∷ drive 35105 7 0x000fb ∷ drive 35160 7 0x080fb ∷ drive 35160 0 0x00200 ∷ drive 35160 7 0x00000 ∷ drive 35160 0 0x04200 ∷ drive 35160 7 0x001fc ∷ drive 35215 7 0x081fc ∷ drive 35215 0 0x00200 ∷ drive 35215 7 0x00000 ∷ drive 35215 0 0x04200 ∷ drive 35215 7 0x000fd ∷ drive 35270 7 0x080fd ∷ drive 35270 0 0x00200 ∷ drive 35270 7 0x00000 ∷ drive 35270 0 0x04200 ∷ drive 35270 7 0x000fe ∷ drive 35325 7 0x080fe ∷ drive 35325 0 0x00200 ∷ drive 35325 7 0x00000 ∷ drive 35325 0 0x04200 ∷ drive 35325 7 0x001ff ∷ drive 35380 7 0x081ff ∷ drive 35380 0 0x00200 ∷ drive 35380 7 0x00000 ∷ drive 35380 0 0x01a00 ∷ drive 36180 0 0x01b00 ∷ drive 36235 0 0x05b00 ∷ drive 36235 7 0x08000 ∷ drive 36235 0 0x01a00 ∷ drive 36235 7 0x00000 ∷ drive 36235 0 0x03b00 ∷ drive 36635 0 0x07b00 ∷ drive 36635 7 0x08000 ∷ drive 36635 0 0x03a00 ∷ drive 36635 7 0x00000 ∷ drive 36635 0 0x00000 ∷ []
+
+abbrev last_block_written_run_events : List Event
+last_block_written_run_events = events.Accept (command 1) ∷ events.Run (command 1) ∷ events.End (command 1) 0 ∷ []
+
+last_block_written_run_told : (story last_block_written_run (reverse last_block_written_run_rows)).history ≡ reverse last_block_written_run_events
+unfolding need_of sent_of ones union_below line_of form_out form_in
+last_block_written_run_told = refl
+
+last_block_written_run_outcomes : outcomes last_block_written_run (story last_block_written_run (reverse last_block_written_run_rows)) ≡ Some (ended_good ([])) ∷ []
+unfolding need_of sent_of ones union_below line_of form_out form_in
+last_block_written_run_outcomes = refl
+
+last_block_written_run_carried : all_carried last_block_written_run (story last_block_written_run (reverse last_block_written_run_rows)) (reverse last_block_written_run_events) ≡ true
+unfolding need_of sent_of ones union_below line_of form_out form_in
+last_block_written_run_carried = refl
+
 -- ---- mixed_tags_run
 
 abbrev mixed_tags_run : ScenarioValue
@@ -482,6 +541,39 @@ queue_run_outcomes = refl
 queue_run_carried : all_carried queue_run (story queue_run (reverse queue_run_rows)) (reverse queue_run_events) ≡ true
 unfolding need_of sent_of ones union_below line_of form_out form_in
 queue_run_carried = refl
+
+-- ---- range_past_the_last_run
+
+abbrev range_past_the_last_run : ScenarioValue
+range_past_the_last_run = record {
+  version = 1;
+  hosts = record { dev = 7; latency = 0; most = 1; retries = 2; period = 0; offset = 0; lag = 0; offers = true } ∷ [];
+  targets = record { dev = 0; latency = 0; retries = 2; disc = policies.Never; pick = picks.First; seek = 0; period = 0; offset = 0; begins = false } ∷ [];
+  units = record { target = 0; unit = 0; blocks = 4294967296; size = 512; depth = 1 } ∷ [];
+  fills = [];
+  commands = record { host = 7; target = 0; unit = 0; at = 0; tag = tags.Untagged; cdb = (40 ∷ 0 ∷ 255 ∷ 255 ∷ 255 ∷ 255 ∷ 0 ∷ 0 ∷ 2 ∷ 0 ∷ []); payload = payloads.Nothing } ∷ [];
+  aborts = [];
+  resets = [];
+  faults = [];
+}
+
+abbrev pub range_past_the_last_run_rows : List Row
+range_past_the_last_run_rows = drive 1200 7 0x00280 ∷ drive 3600 7 0x00680 ∷ drive 4800 7 0x10781 ∷ drive 4890 7 0x10581 ∷ drive 5290 0 0x00200 ∷ drive 5380 7 0x10000 ∷ drive 5380 0 0x02a00 ∷ drive 5780 0 0x06a00 ∷ drive 5780 7 0x001c0 ∷ drive 5870 7 0x081c0 ∷ drive 5870 0 0x02a00 ∷ drive 5870 7 0x00000 ∷ drive 5870 0 0x00a00 ∷ drive 6270 0 0x04a00 ∷ drive 6270 7 0x00128 ∷ drive 6325 7 0x08128 ∷ drive 6325 0 0x00a00 ∷ drive 6325 7 0x00000 ∷ drive 6325 0 0x04a00 ∷ drive 6325 7 0x00100 ∷ drive 6380 7 0x08100 ∷ drive 6380 0 0x00a00 ∷ drive 6380 7 0x00000 ∷ drive 6380 0 0x04a00 ∷ drive 6380 7 0x001ff ∷ drive 6435 7 0x081ff ∷ drive 6435 0 0x00a00 ∷ drive 6435 7 0x00000 ∷ drive 6435 0 0x04a00 ∷ drive 6435 7 0x001ff ∷ drive 6490 7 0x081ff ∷ drive 6490 0 0x00a00 ∷ drive 6490 7 0x00000 ∷ drive 6490 0 0x04a00 ∷ drive 6490 7 0x001ff ∷ drive 6545 7 0x081ff ∷ drive 6545 0 0x00a00 ∷ drive 6545 7 0x00000 ∷ drive 6545 0 0x04a00 ∷ drive 6545 7 0x001ff ∷ drive 6600 7 0x081ff ∷ drive 6600 0 0x00a00 ∷ drive 6600 7 0x00000 ∷ drive 6600 0 0x04a00 ∷ drive 6600 7 0x00100 ∷ drive 6655 7 0x08100 ∷ drive 6655 0 0x00a00 ∷ drive 6655 7 0x00000 ∷ drive 6655 0 0x04a00 ∷ drive 6655 7 0x00100 ∷ drive 6710 7 0x08100 ∷ drive 6710 0 0x00a00 ∷ drive 6710 7 0x00000 ∷ drive 6710 0 0x04a00 ∷ drive 6710 7 0x00002 ∷ drive 6765 7 0x08002 ∷ drive 6765 0 0x00a00 ∷ drive 6765 7 0x00000 ∷ drive 6765 0 0x04a00 ∷ drive 6765 7 0x00100 ∷ drive 6820 7 0x08100 ∷ drive 6820 0 0x00a00 ∷ drive 6820 7 0x00000 ∷ drive 6820 0 0x01a00 ∷ drive 7620 0 0x01a02 ∷ drive 7675 0 0x05a02 ∷ drive 7675 7 0x08000 ∷ drive 7675 0 0x01a00 ∷ drive 7675 7 0x00000 ∷ drive 7675 0 0x03b00 ∷ drive 8075 0 0x07b00 ∷ drive 8075 7 0x08000 ∷ drive 8075 0 0x03a00 ∷ drive 8075 7 0x00000 ∷ drive 8075 0 0x00000 ∷ drive 9275 7 0x00280 ∷ drive 11675 7 0x00680 ∷ drive 12875 7 0x10781 ∷ drive 12965 7 0x10581 ∷ drive 13365 0 0x00200 ∷ drive 13455 7 0x10000 ∷ drive 13455 0 0x02a00 ∷ drive 13855 0 0x06a00 ∷ drive 13855 7 0x00080 ∷ drive 13945 7 0x08080 ∷ drive 13945 0 0x02a00 ∷ drive 13945 7 0x00000 ∷ drive 13945 0 0x00a00 ∷ drive 14345 0 0x04a00 ∷ drive 14345 7 0x00103 ∷ drive 14400 7 0x08103 ∷ drive 14400 0 0x00a00 ∷ drive 14400 7 0x00000 ∷ drive 14400 0 0x04a00 ∷ drive 14400 7 0x00100 ∷ drive 14455 7 0x08100 ∷ drive 14455 0 0x00a00 ∷ drive 14455 7 0x00000 ∷ drive 14455 0 0x04a00 ∷ drive 14455 7 0x00100 ∷ drive 14510 7 0x08100 ∷ drive 14510 0 0x00a00 ∷ drive 14510 7 0x00000 ∷ drive 14510 0 0x04a00 ∷ drive 14510 7 0x00100 ∷ drive 14565 7 0x08100 ∷ drive 14565 0 0x00a00 ∷ drive 14565 7 0x00000 ∷ drive 14565 0 0x04a00 ∷ drive 14565 7 0x00112 ∷ drive 14620 7 0x08112 ∷ drive 14620 0 0x00a00 ∷ drive 14620 7 0x00000 ∷ drive 14620 0 0x04a00 ∷ drive 14620 7 0x00100 ∷ drive 14675 7 0x08100 ∷ drive 14675 0 0x00a00 ∷ drive 14675 7 0x00000 ∷ drive 14675 0 0x01200 ∷ drive 15475 0 0x01270 ∷ drive 15530 0 0x05270 ∷ drive 15530 7 0x08000 ∷ drive 15530 0 0x01300 ∷ drive 15530 7 0x00000 ∷ drive 15585 0 0x05300 ∷ drive 15585 7 0x08000 ∷ drive 15585 0 0x01305 ∷ drive 15585 7 0x00000 ∷ drive 15640 0 0x05305 ∷ drive 15640 7 0x08000 ∷ drive 15640 0 0x01300 ∷ drive 15640 7 0x00000 ∷ drive 15695 0 0x05300 ∷ drive 15695 7 0x08000 ∷ drive 15695 0 0x01300 ∷ drive 15695 7 0x00000 ∷ drive 15750 0 0x05300 ∷ drive 15750 7 0x08000 ∷ drive 15750 0 0x01300 ∷ drive 15750 7 0x00000 ∷ drive 15805 0 0x05300 ∷ drive 15805 7 0x08000 ∷ drive 15805 0 0x01300 ∷ drive 15805 7 0x00000 ∷ drive 15860 0 0x05300 ∷ drive 15860 7 0x08000 ∷ drive 15860 0 0x0130a ∷ drive 15860 7 0x00000 ∷ drive 15915 0 0x0530a ∷ drive 15915 7 0x08000 ∷ drive 15915 0 0x01300 ∷ drive 15915 7 0x00000 ∷ drive 15970 0 0x05300 ∷ drive 15970 7 0x08000 ∷ drive 15970 0 0x01300 ∷ drive 15970 7 0x00000 ∷ drive 16025 0 0x05300 ∷ drive 16025 7 0x08000 ∷ drive 16025 0 0x01300 ∷ drive 16025 7 0x00000 ∷ drive 16080 0 0x05300 ∷ drive 16080 7 0x08000 ∷ drive 16080 0 0x01300 ∷ drive 16080 7 0x00000 ∷ drive 16135 0 0x05300 ∷ drive 16135 7 0x08000 ∷ drive 16135 0 0x01321 ∷ drive 16135 7 0x00000 ∷ drive 16190 0 0x05321 ∷ drive 16190 7 0x08000 ∷ drive 16190 0 0x01300 ∷ drive 16190 7 0x00000 ∷ drive 16245 0 0x05300 ∷ drive 16245 7 0x08000 ∷ drive 16245 0 0x01300 ∷ drive 16245 7 0x00000 ∷ drive 16300 0 0x05300 ∷ drive 16300 7 0x08000 ∷ drive 16300 0 0x01300 ∷ drive 16300 7 0x00000 ∷ drive 16355 0 0x05300 ∷ drive 16355 7 0x08000 ∷ drive 16355 0 0x01300 ∷ drive 16355 7 0x00000 ∷ drive 16410 0 0x05300 ∷ drive 16410 7 0x08000 ∷ drive 16410 0 0x01300 ∷ drive 16410 7 0x00000 ∷ drive 16465 0 0x05300 ∷ drive 16465 7 0x08000 ∷ drive 16465 0 0x01200 ∷ drive 16465 7 0x00000 ∷ drive 16465 0 0x01b00 ∷ drive 16865 0 0x05b00 ∷ drive 16865 7 0x08000 ∷ drive 16865 0 0x01a00 ∷ drive 16865 7 0x00000 ∷ drive 16865 0 0x03b00 ∷ drive 17265 0 0x07b00 ∷ drive 17265 7 0x08000 ∷ drive 17265 0 0x03a00 ∷ drive 17265 7 0x00000 ∷ drive 17265 0 0x00000 ∷ []
+
+abbrev range_past_the_last_run_events : List Event
+range_past_the_last_run_events = events.Accept (command 1) ∷ events.Run (command 1) ∷ events.End (command 1) 2 ∷ events.Accept (sense 1) ∷ events.Run (sense 1) ∷ events.End (sense 1) 0 ∷ []
+
+range_past_the_last_run_told : (story range_past_the_last_run (reverse range_past_the_last_run_rows)).history ≡ reverse range_past_the_last_run_events
+unfolding need_of sent_of ones union_below line_of form_out form_in
+range_past_the_last_run_told = refl
+
+range_past_the_last_run_outcomes : outcomes range_past_the_last_run (story range_past_the_last_run (reverse range_past_the_last_run_rows)) ≡ Some (ended_check (Some (record { key = 5; asc = 33; ascq = 0 }))) ∷ []
+unfolding need_of sent_of ones union_below line_of form_out form_in
+range_past_the_last_run_outcomes = refl
+
+range_past_the_last_run_carried : all_carried range_past_the_last_run (story range_past_the_last_run (reverse range_past_the_last_run_rows)) (reverse range_past_the_last_run_events) ≡ true
+unfolding need_of sent_of ones union_below line_of form_out form_in
+range_past_the_last_run_carried = refl
 
 -- ---- read_whole_after_a_part_run
 

@@ -12,6 +12,7 @@ use Rattle.cdb_codec.specs.Cdb.{command_of}
 use Rattle.scenario.specs.Value.{ScenarioValue}
 use Rattle.scenario.specs.Needs.{is_write}
 use Rattle.disk_array.specs.Processes.{Process, process_of, same_id}
+use Rattle.disk_array.specs.Contents.{Contents}
 use Rattle.disk_array.specs.Execution.{Reply}
 use Rattle.disk_array.specs.ArrayHistory.{array_after, disks_of, reply_of}
 use Rattle.bus_story.specs.CarriedBytes.{CarriedBytes, carried_of}
@@ -58,7 +59,7 @@ all_carried s b (e ∷ history) = is_carried s b e && all_carried s b history
 
 -- ---- all of it
 
-pub record Right (s : ScenarioValue) (rows : List Row) (history : List Event) (ended : List (Option Outcome)) (disks : List (List (List ℕ))) : Type 0 where
+pub record Right (s : ScenarioValue) (rows : List Row) (history : List Event) (ended : List (Option Outcome)) (disks : List Contents) : Type 0 where
   pub told : (story s (reverse rows)).history ≡ reverse history
   pub permitted : is_some (array_after s (reverse history)) ≡ true
   pub blocks : disks_of (array_after s (reverse history)) ≡ disks

@@ -1,1 +1,2 @@
 mod Stories
+pub mod Touched

@@ -1,9 +1,10 @@
 -- A history played on the plain disk array.
-use Rattle.std.specs.Prelude.{ℕ, List, [], ◌∷◌, Option, Some, None, if◌then◌else◌}
+use Rattle.std.specs.Prelude.{List, [], ◌∷◌, Option, Some, None, if◌then◌else◌}
 use Rattle.bus_base.specs.declared.ProcId.{ProcId}
 use Rattle.bus_base.specs.declared.Event.{Event}
 use Rattle.scenario.specs.Value.{ScenarioValue}
 use Rattle.disk_array.specs.Processes.{same_id}
+use Rattle.disk_array.specs.Contents.{Contents}
 use Rattle.disk_array.specs.Execution.{Reply}
 use Rattle.disk_array.specs.Units.{UnitState, Array, starting_array, settled_array}
 use Rattle.disk_array.specs.Steps.{step}
@@ -17,14 +18,14 @@ abbrev pub array_after : ScenarioValue → List Event → Option Array
 array_after s [] = Some (settled_array (starting_array s))
 array_after s (event ∷ history) = array_step s event (array_after s history)
 
--- What it then holds: the blocks of each unit, and the reply of a process, the last that was given.
-abbrev pub unit_blocks : List UnitState → List (List (List ℕ))
-unit_blocks [] = []
-unit_blocks (u ∷ units) = u.blocks ∷ unit_blocks units
+-- What it then holds: the contents of each unit, and the reply of a process, the last that was given.
+abbrev pub unit_contents : List UnitState → List Contents
+unit_contents [] = []
+unit_contents (u ∷ units) = u.contents ∷ unit_contents units
 
-abbrev pub disks_of : Option Array → List (List (List ℕ))
+abbrev pub disks_of : Option Array → List Contents
 disks_of None = []
-disks_of (Some a) = unit_blocks a.units
+disks_of (Some a) = unit_contents a.units
 
 abbrev pub reply_in : List (ProcId × Reply) → ProcId → Option Reply
 reply_in [] id = None

@@ -1,30 +1,75 @@
--- The blocks of a unit as a plain list, and its fills.
-use Rattle.std.specs.Prelude.{ℕ, zero, suc, ◌+◌, ◌==◌, ◌&&◌, List, [], ◌∷◌, ◌++◌, take, drop, replicate, slice_set, if◌then◌else◌}
+-- The blocks of a unit, and its fills.
+use Rattle.std.specs.Prelude.{ℕ, zero, suc, ◌+◌, ◌==◌, Bool, ◌&&◌, List, [], ◌∷◌, ◌++◌, take, drop, replicate, nat_lt, if◌then◌else◌}
+use Rattle.std.specs.List.{list_all}
 use Rattle.scenario.specs.declared.value.UnitDef.{UnitDef}
 use Rattle.scenario.specs.declared.value.FillDef.{FillDef}
 
+-- How many blocks there are, of how many bytes each, and the touched ones with their numbers, the lowest first. Any
+-- other block is zero.
+pub record Contents : Type 0 where
+  pub count : ℕ
+  pub size : ℕ
+  pub touched : List (ℕ × List ℕ)
+
+abbrev pub blank_contents : ℕ → ℕ → Contents
+blank_contents count size = record { count = count; size = size; touched = [] }
+
+abbrev pub no_contents : Contents
+no_contents = blank_contents 0 0
+
+abbrev pub zero_block : ℕ → List ℕ
+zero_block size = replicate size 0
+
+-- ---- one block
+
+-- The block of this number among the touched ones, or else this one.
+abbrev pub touched_block : List (ℕ × List ℕ) → ℕ → List ℕ → List ℕ
+touched_block [] lba otherwise = otherwise
+touched_block (entry ∷ touched) lba otherwise = if entry.0 == lba then entry.1 else touched_block touched lba otherwise
+
+abbrev pub block_at : Contents → ℕ → List ℕ
+block_at c lba = touched_block c.touched lba (zero_block c.size)
+
+abbrev pub touched_with : List (ℕ × List ℕ) → ℕ → List ℕ → List (ℕ × List ℕ)
+touched_with [] lba block = (lba, block) ∷ []
+touched_with (entry ∷ touched) lba block =
+    if entry.0 == lba then (lba, block) ∷ touched
+    else if nat_lt lba entry.0 then (lba, block) ∷ (entry ∷ touched)
+    else entry ∷ touched_with touched lba block
+
+abbrev pub with_block : Contents → ℕ → List ℕ → Contents
+with_block c lba block = record c { touched = touched_with c.touched lba block }
+
+-- ---- several blocks
+
 -- The bytes of n blocks from block lba on, in order.
-abbrev pub bytes_of_blocks : List (List ℕ) → List ℕ
-bytes_of_blocks [] = []
-bytes_of_blocks (block ∷ blocks) = block ++ bytes_of_blocks blocks
+abbrev pub bytes_at : Contents → ℕ → ℕ → List ℕ
+bytes_at c lba zero = []
+bytes_at c lba (suc n) = block_at c lba ++ bytes_at c (lba + 1) n
 
-abbrev pub bytes_at : List (List ℕ) → ℕ → ℕ → List ℕ
-bytes_at blocks lba n = bytes_of_blocks (take n (drop lba blocks))
+-- The contents with n blocks from block lba on replaced by these bytes.
+abbrev pub with_bytes : Contents → ℕ → ℕ → List ℕ → Contents
+with_bytes c lba zero bytes = c
+with_bytes c lba (suc n) bytes = with_bytes (with_block c lba (take c.size bytes)) (lba + 1) n (drop c.size bytes)
 
--- Bytes cut into n blocks of this size.
-abbrev pub blocks_of_bytes : ℕ → ℕ → List ℕ → List (List ℕ)
-blocks_of_bytes size zero bytes = []
-blocks_of_bytes size (suc n) bytes = take size bytes ∷ blocks_of_bytes size n (drop size bytes)
+-- ---- the start: blocks are zero but for the fills
 
--- The blocks with n blocks from block lba on replaced by these bytes.
-abbrev pub with_bytes : List (List ℕ) → ℕ → ℕ → ℕ → List ℕ → List (List ℕ)
-with_bytes blocks lba n size bytes = take lba blocks ++ (blocks_of_bytes size n bytes ++ drop (lba + n) blocks)
+abbrev pub filled_contents : UnitDef → List FillDef → Contents → Contents
+filled_contents u [] c = c
+filled_contents u (f ∷ fills) c =
+    filled_contents u fills (if f.target == u.target && f.unit == u.unit then with_block c f.lba f.bytes else c)
 
--- At the start blocks are zero but for the fills.
-abbrev pub filled_blocks : UnitDef → List FillDef → List (List ℕ) → List (List ℕ)
-filled_blocks u [] blocks = blocks
-filled_blocks u (f ∷ fills) blocks =
-    filled_blocks u fills (if f.target == u.target && f.unit == u.unit then slice_set blocks f.lba f.bytes else blocks)
+abbrev pub starting_contents : UnitDef → List FillDef → Contents
+starting_contents u fills = filled_contents u fills (blank_contents u.blocks u.size)
 
-abbrev pub starting_blocks : UnitDef → List FillDef → List (List ℕ)
-starting_blocks u fills = filled_blocks u fills (replicate u.blocks (replicate u.size 0))
+-- ---- the blocks that are not all zero, with their numbers, the lowest first
+
+abbrev pub is_zero_block : List ℕ → Bool
+is_zero_block block = list_all (λ (byte : ℕ). byte == 0) block
+
+abbrev pub nonzero_blocks : List (ℕ × List ℕ) → List (ℕ × List ℕ)
+nonzero_blocks [] = []
+nonzero_blocks (entry ∷ touched) = if is_zero_block entry.1 then nonzero_blocks touched else entry ∷ nonzero_blocks touched
+
+abbrev pub printed_blocks : Contents → List (ℕ × List ℕ)
+printed_blocks c = nonzero_blocks c.touched

@@ -12,7 +12,7 @@ use Rattle.cdb_codec.specs.declared.command.CdbFault.TheVariants as faults
 use Rattle.cdb_codec.specs.Cdb.{command_of}
 use Rattle.cdb_codec.specs.Blocks.{blocks_moved}
 use Rattle.cdb_codec.specs.Replies.{sense_data, inquiry_data, capacity_data}
-use Rattle.disk_array.specs.Contents.{bytes_at, with_bytes}
+use Rattle.disk_array.specs.Contents.{Contents, bytes_at, with_bytes}
 
 -- Status, the bytes that come back, and with CHECK CONDITION the sense.
 pub record Reply : Type 0 where
@@ -59,15 +59,14 @@ commands_cleared = sense_of UNIT_ATTENTION COMMANDS_CLEARED 0x00
 pub record CommandContext : Type 0 where
   -- whether the unit is there
   pub present : Bool
-  pub size : ℕ
-  pub blocks : List (List ℕ)
+  pub contents : Contents
   -- the sense that is stored for the initiator, and the attention that is pending for it
   pub stored : Option Sense
   pub attention : Option Sense
 
--- What the command did to the blocks, whether it reported the attention, and its reply.
+-- What the command did to the contents, whether it reported the attention, and its reply.
 pub record Execution : Type 0 where
-  pub blocks : List (List ℕ)
+  pub contents : Contents
   pub reported : Bool
   pub reply : Reply
 
@@ -122,23 +121,23 @@ returned_sense true None = no_sense
 returned_sense false None = unit_not_supported
 
 abbrev pub reply_execution : CommandContext → Reply → Execution
-reply_execution m reply = record { blocks = m.blocks; reported = false; reply = reply }
+reply_execution m reply = record { contents = m.contents; reported = false; reply = reply }
 
 abbrev pub write_execution : CommandContext → ℕ → ℕ → List ℕ → Execution
-write_execution m lba n sent = record { blocks = with_bytes m.blocks lba n m.size sent; reported = false; reply = good [] }
+write_execution m lba n sent = record { contents = with_bytes m.contents lba n sent; reported = false; reply = good [] }
 
 abbrev pub command_execution : CommandContext → Command → List ℕ → Execution
 command_execution m commands.TestUnitReady sent = reply_execution m (good [])
 command_execution m (commands.RequestSense room) sent = reply_execution m (good (take (min room SENSE_LEN) (sense_data (returned_sense m.present m.stored))))
-command_execution m (commands.Read6 lba count) sent = reply_execution m (good (bytes_at m.blocks lba (blocks_moved (commands.Read6 lba count))))
+command_execution m (commands.Read6 lba count) sent = reply_execution m (good (bytes_at m.contents lba (blocks_moved (commands.Read6 lba count))))
 command_execution m (commands.Write6 lba count) sent = write_execution m lba (blocks_moved (commands.Write6 lba count)) sent
 command_execution m (commands.Inquiry room) sent = reply_execution m (good (take (min room INQUIRY_LEN) (inquiry_data m.present)))
-command_execution m commands.ReadCapacity sent = reply_execution m (good (capacity_data (length m.blocks - 1) m.size))
-command_execution m (commands.Read10 lba count) sent = reply_execution m (good (bytes_at m.blocks lba count))
+command_execution m commands.ReadCapacity sent = reply_execution m (good (capacity_data (m.contents.count - 1) m.contents.size))
+command_execution m (commands.Read10 lba count) sent = reply_execution m (good (bytes_at m.contents lba count))
 command_execution m (commands.Write10 lba count) sent = write_execution m lba count sent
 
 abbrev pub range_execution : CommandContext → Command → List ℕ → Execution
-range_execution m c sent = if is_good_range (length m.blocks) (range_of c) then command_execution m c sent else reply_execution m (check_condition block_out_of_range)
+range_execution m c sent = if is_good_range m.contents.count (range_of c) then command_execution m c sent else reply_execution m (check_condition block_out_of_range)
 
 abbrev pub cdb_execution : CommandContext → Result Command CdbFault → List ℕ → Execution
 cdb_execution m (Ok c) sent = range_execution m c sent
@@ -149,7 +148,7 @@ cdb_execution m (Err faults.Field) sent = reply_execution m (check_condition inv
 abbrev pub attention_execution : CommandContext → Option Sense → List ℕ → List ℕ → Execution
 attention_execution m None cdb sent = cdb_execution m (command_of cdb) sent
 attention_execution m (Some attention) cdb sent =
-    if heeds_attention cdb then record { blocks = m.blocks; reported = true; reply = check_condition attention } else cdb_execution m (command_of cdb) sent
+    if heeds_attention cdb then record { contents = m.contents; reported = true; reply = check_condition attention } else cdb_execution m (command_of cdb) sent
 
 -- What a command does at the unit that it meets, with the bytes that it sends.
 abbrev pub execution : CommandContext → List ℕ → List ℕ → Execution

@@ -1,5 +1,6 @@
 pub mod Processes
 pub mod Contents
+pub mod PlainBlocks
 pub mod Execution
 pub mod Order
 pub mod Units

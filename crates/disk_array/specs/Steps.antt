@@ -15,6 +15,7 @@ use Rattle.scenario.specs.declared.value.Tag.{Tag}
 use Rattle.scenario.specs.declared.value.Tag.TheVariants as tags
 use Rattle.scenario.specs.Value.{ScenarioValue}
 use Rattle.disk_array.specs.Processes.{Process, process_of, same_id}
+use Rattle.disk_array.specs.Contents.{Contents, no_contents}
 use Rattle.disk_array.specs.Execution.{Reply, CommandContext, Execution, execution, is_request_sense, check_condition, queue_full, sense_of, reset_occurred, commands_cleared}
 use Rattle.disk_array.specs.Order.{without_process}
 use Rattle.disk_array.specs.Units.{RunningProcess, UnitState, Nexus, Array, sense_of_nexus, senses_without, nexuses_without, is_held, unit_state_at, with_unit, guest_at, without_guest, nexus_of, settled_array}
@@ -60,12 +61,12 @@ refuse_step a (Some p) = refuse_step_at a p (unit_state_at a.units p.target p.un
 -- ---- running
 
 abbrev pub context_at : Array → Nexus → Option UnitState → CommandContext
-context_at a nexus None = record { present = false; size = 0; blocks = []; stored = sense_of_nexus a.senses nexus; attention = sense_of_nexus a.attentions nexus }
-context_at a nexus (Some u) = record { present = true; size = u.size; blocks = u.blocks; stored = sense_of_nexus a.senses nexus; attention = sense_of_nexus a.attentions nexus }
+context_at a nexus None = record { present = false; contents = no_contents; stored = sense_of_nexus a.senses nexus; attention = sense_of_nexus a.attentions nexus }
+context_at a nexus (Some u) = record { present = true; contents = u.contents; stored = sense_of_nexus a.senses nexus; attention = sense_of_nexus a.attentions nexus }
 
-abbrev pub with_blocks : Array → Option UnitState → List (List ℕ) → Array
-with_blocks a None blocks = a
-with_blocks a (Some u) blocks = record a { units = with_unit a.units (record u { blocks = blocks }) }
+abbrev pub with_contents : Array → Option UnitState → Contents → Array
+with_contents a None contents = a
+with_contents a (Some u) contents = record a { units = with_unit a.units (record u { contents = contents }) }
 
 abbrev pub without_attention : Array → Bool → Nexus → Array
 without_attention a true nexus = record a { attentions = senses_without a.attentions nexus }
@@ -101,7 +102,7 @@ abbrev pub running_process : Array → ProcId → Option RunningProcess
 running_process a id = if is_some (guest_at a.guests id) then guest_at a.guests id else running_in a.units id
 
 abbrev pub after_execution : Array → Process → Option UnitState → Execution → Array
-after_execution a p u done = with_reply (with_blocks (without_attention a done.reported (nexus_of p)) u done.blocks) p.id done.reply
+after_execution a p u done = with_reply (with_contents (without_attention a done.reported (nexus_of p)) u done.contents) p.id done.reply
 
 abbrev pub after_execution_at : Array → Process → Option UnitState → Array
 after_execution_at a p u = after_execution a p u (execution (context_at a (nexus_of p) u) p.cdb p.sent)

@@ -9,7 +9,7 @@ use Rattle.scenario.specs.declared.value.TargetDef.{TargetDef}
 use Rattle.scenario.specs.declared.value.UnitDef.{UnitDef}
 use Rattle.scenario.specs.Value.{ScenarioValue}
 use Rattle.disk_array.specs.Processes.{Process, same_id}
-use Rattle.disk_array.specs.Contents.{starting_blocks}
+use Rattle.disk_array.specs.Contents.{Contents, starting_contents}
 use Rattle.disk_array.specs.Execution.{Reply}
 use Rattle.disk_array.specs.Order.{choice, without_process}
 
@@ -22,10 +22,9 @@ pub record RunningProcess : Type 0 where
 pub record UnitState : Type 0 where
   pub target : ℕ
   pub unit : ℕ
-  pub size : ℕ
   pub depth : ℕ
   pub pick : Pick
-  pub blocks : List (List ℕ)
+  pub contents : Contents
   -- in order of arrival
   pub waiting : List Process
   pub current : Option RunningProcess
@@ -122,10 +121,9 @@ abbrev pub starting_unit : ScenarioValue → UnitDef → UnitState
 starting_unit s u = record {
   target = u.target;
   unit = u.unit;
-  size = u.size;
   depth = u.depth;
   pick = pick_of s.targets u.target;
-  blocks = starting_blocks u s.fills;
+  contents = starting_contents u s.fills;
   waiting = [];
   current = None;
 }

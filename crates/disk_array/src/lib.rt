@@ -2,10 +2,13 @@
 //!
 //! It is what a run of the bus is measured by: no bus, no bytes that interleave, no device. `specs/Units.antt`
 //! has its state, `specs/Execution.antt` what one command does at one unit, `specs/Order.antt` which waiting
-//! command may run, on what a queue keeps of it (`Entry`), `specs/Steps.antt` what each event of a history does, and `specs/ArrayHistory.antt` a whole
-//! history. It stands on `scenario`, `cdb_codec` and `bus_base`. There is no code here but for laws: each is
+//! command may run, on what a queue keeps of it (`Entry`), `specs/Steps.antt` what each event of a history does,
+//! and `specs/ArrayHistory.antt` a whole history. It stands on `scenario`, `cdb_codec` and `bus_base`. There is no code here but for laws: each is
 //! the contract of a function that does nothing.
 #![tactic(auto)]
+
+mod entries;
+mod plain;
 
 ghost use Rattle.std.specs.Prelude.{◌≡◌, List, [], ◌∷◌, Some, None};
 ghost use Rattle.bus_base.specs.declared.Event.{Event};
@@ -14,10 +17,9 @@ ghost use Rattle.disk_array.specs.Units.{Array, starting_array, settled_array};
 ghost use Rattle.disk_array.specs.Steps.{step};
 ghost use Rattle.disk_array.specs.ArrayHistory.{array_after};
 
-mod entries;
-
 pub use bus_base::{Class, Dev, Pick, ProcId};
 pub use entries::Entry;
+pub use plain::contents_are_plain_blocks;
 
 /// A history of one event more is played as the history, and then the step of that event; and where a step was not
 /// allowed no later one is.
