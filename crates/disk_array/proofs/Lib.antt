@@ -1,2 +1,9 @@
 mod Stories
 pub mod Touched
+mod SeatLookups
+mod SeatSteps
+mod SeatOwn
+mod SeatEvents
+mod SeatAborts
+mod SoundArrays
+pub mod SeatLaws

@@ -5,4 +5,6 @@ pub mod Execution
 pub mod Order
 pub mod Units
 pub mod Steps
+pub mod Seats
+pub mod SoundArray
 pub mod ArrayHistory

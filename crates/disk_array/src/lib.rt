@@ -3,12 +3,14 @@
 //! It is what a run of the bus is measured by: no bus, no bytes that interleave, no device. `specs/Units.antt`
 //! has its state, `specs/Execution.antt` what one command does at one unit, `specs/Order.antt` which waiting
 //! command may run, on what a queue keeps of it (`Entry`), `specs/Steps.antt` what each event of a history does,
-//! and `specs/ArrayHistory.antt` a whole history. It stands on `scenario`, `cdb_codec` and `bus_base`. There is no code here but for laws: each is
-//! the contract of a function that does nothing.
+//! `specs/ArrayHistory.antt` a whole history, and `specs/Seats.antt` what an event leaves of one unit, there or
+//! not. It stands on `scenario`, `cdb_codec` and `bus_base`. There is no code here but for laws: each is the
+//! contract of a function that does nothing.
 #![tactic(auto)]
 
 mod entries;
 mod plain;
+mod seats;
 
 ghost use Rattle.std.specs.Prelude.{◌≡◌, List, [], ◌∷◌, Some, None};
 ghost use Rattle.bus_base.specs.declared.Event.{Event};
@@ -20,6 +22,9 @@ ghost use Rattle.disk_array.specs.ArrayHistory.{array_after};
 pub use bus_base::{Class, Dev, Pick, ProcId};
 pub use entries::Entry;
 pub use plain::contents_are_plain_blocks;
+pub use seats::{
+    aborts_change_their_seat, arrays_are_sound, other_seats_stay, processes_change_their_seat,
+};
 
 /// A history of one event more is played as the history, and then the step of that event; and where a step was not
 /// allowed no later one is.
