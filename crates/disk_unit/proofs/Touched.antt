@@ -23,7 +23,7 @@ from_lt a b h = search rules
 pub from_not_lt : (a b : ℕ) → nat_lt a b ≡ false → b ≤ a
 from_not_lt a b h = search rules
 
-unequal : (a b : ℕ) → a ≢ b → (a == b) ≡ false
+pub unequal : (a b : ℕ) → a ≢ b → (a == b) ≡ false
 unequal a b other = go (a == b) refl
   where
   go : (r : Bool) → (a == b) ≡ r → r ≡ false

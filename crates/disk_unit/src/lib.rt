@@ -9,9 +9,11 @@
 #![tactic(auto)]
 
 mod blocks;
+mod dense;
 
 mod sparse;
 
 pub use blocks::Blocks;
+pub use dense::DenseBlocks;
 
 pub use sparse::SparseBlocks;
