@@ -1,7 +1,7 @@
 -- All blocks one after the other: what a read and a write of one are.
-use Rattle.std.proofs.Common.{◌≡◌, ◌≢◌, ◌<◌, ◌≤◌, ℕ, ◌+◌, ◌-◌, ◌*◌, zero, suc, Bool, true, false, List, [], ◌∷◌, ◌++◌, length, refl, ap, sym, subst, ◌∙◌, arith, rules, eqb, eq-eqb, take, drop, replicate, append_assoc}
+use Rattle.std.proofs.Common.{◌≡◌, ◌≢◌, ◌<◌, ◌≤◌, ℕ, ◌+◌, ◌-◌, ◌*◌, zero, suc, Bool, true, false, List, ◌∷◌, ◌++◌, length, refl, ap, sym, ◌∙◌, arith, eq-eqb, take, drop, replicate}
 use Rattle.std.specs.Prelude.{◌==◌, nat_lt, if◌then◌else◌}
-use Rattle.std.proofs.lemmas.List.{drop-drop, drop-replicate, take-replicate, drop-take, take-append-le, drop-append-le, length-take-le}
+use Rattle.std.proofs.lemmas.List.{drop-drop, drop-replicate, take-replicate, drop-take, take-append-le, drop-append-le}
 use Rattle.std.proofs.Math.Seq.{take-append_seam, drop-append_seam}
 use Rattle.std.proofs.lemmas.Grind.{common_steps}
 use borrow.Rule.Slice.PartMut.{put_mid}
@@ -60,14 +60,14 @@ write_dense size first (suc n) bytes from zero within whole fits =
     let here : first ≡ first + 0 = omega arith in
     let front : take size (from ++ drop (length from) bytes) ≡ from = ap (λ (k : ℕ). take k (from ++ drop (length from) bytes)) (sym fits) ∙ take-append_seam from (drop (length from) bytes) in
     let back : drop size (from ++ drop (length from) bytes) ≡ drop size bytes =
-      ap (λ (k : ℕ). drop k (from ++ drop (length from) bytes)) (sym fits) ∙ drop-append_seam from (drop (length from) bytes) ∙ ap (λ (k : ℕ). drop k bytes) fits in
+    ap (λ (k : ℕ). drop k (from ++ drop (length from) bytes)) (sym fits) ∙ drop-append_seam from (drop (length from) bytes) ∙ ap (λ (k : ℕ). drop k bytes) fits in
     let start : 0 + length from ≡ length from = omega arith in
     ap (λ (k : ℕ). blocks_in size first (suc n) (put_at k bytes from)) none
     ∙ ap (λ (k : ℕ). blocks_in size first (suc n) (from ++ drop k bytes)) start
     ∙ (λ i. (here i, front i) ∷ blocks_in size (suc first) n (back i))
     ∙ sym (ap (λ (b : Bool). if b then (first + 0, from) ∷ blocks_in size (suc first) n (drop size bytes)
-      else if nat_lt (first + 0) first then (first + 0, from) ∷ ((first, take size bytes) ∷ blocks_in size (suc first) n (drop size bytes))
-      else (first, take size bytes) ∷ touched_with (blocks_in size (suc first) n (drop size bytes)) (first + 0) from) (eq-eqb first (first + 0) here))
+    else if nat_lt (first + 0) first then (first + 0, from) ∷ ((first, take size bytes) ∷ blocks_in size (suc first) n (drop size bytes))
+    else (first, take size bytes) ∷ touched_with (blocks_in size (suc first) n (drop size bytes)) (first + 0) from) (eq-eqb first (first + 0) here))
 write_dense size first (suc n) bytes from (suc lba) within whole fits =
     let other : first ≢ first + suc lba = omega arith in
     let not_over : nat_lt (first + suc lba) first ≡ false = lt_false (first + suc lba) first (omega arith) in
@@ -80,19 +80,20 @@ write_dense size first (suc n) bytes from (suc lba) within whole fits =
     ∙ ap (λ (t : List (ℕ × List ℕ)). (first, take size bytes) ∷ t) (write_dense size (suc first) n (drop size bytes) from lba (omega arith) rest_whole fits)
     ∙ ap (λ (k : ℕ). (first, take size bytes) ∷ touched_with (blocks_in size (suc first) n (drop size bytes)) k from) next
     ∙ sym (λ i. if unequal first (first + suc lba) other i then (first + suc lba, from) ∷ blocks_in size (suc first) n (drop size bytes)
-      else if not_over i then (first + suc lba, from) ∷ ((first, take size bytes) ∷ blocks_in size (suc first) n (drop size bytes))
-      else (first, take size bytes) ∷ touched_with (blocks_in size (suc first) n (drop size bytes)) (first + suc lba) from)
+    else if not_over i then (first + suc lba, from) ∷ ((first, take size bytes) ∷ blocks_in size (suc first) n (drop size bytes))
+    else (first, take size bytes) ∷ touched_with (blocks_in size (suc first) n (drop size bytes)) (first + suc lba) from)
 
 pub zero_dense : (size first n lba : ℕ) → touched_block (blocks_in size first n (replicate (n * size) 0)) lba (replicate size 0) ≡ replicate size 0
 zero_dense size first zero lba = refl
 zero_dense size first (suc n) lba = go (first == lba) (zero_dense size (suc first) n lba)
   where
-  back : drop {A = ℕ} size (replicate (suc n * size) 0) ≡ replicate (n * size) 0
-  back = drop-replicate size (suc n * size) 0 ∙ ap (λ (k : ℕ). replicate {A = ℕ} k 0) (let e = suc_times n size in let f : suc n * size - size ≡ n * size = omega arith in f)
-  go : (b : Bool) → touched_block (blocks_in size (suc first) n (replicate (n * size) 0)) lba (replicate size 0) ≡ replicate size 0
-      → (if b then take size (replicate (suc n * size) 0) else touched_block (blocks_in size (suc first) n (drop size (replicate (suc n * size) 0))) lba (replicate size 0)) ≡ replicate size 0
-  go true rest = take-replicate size (suc n * size) 0 (let e = suc_times n size in let f : size ≤ suc n * size = omega arith in f)
-  go false rest = ap (λ (l : List ℕ). touched_block (blocks_in size (suc first) n l) lba (replicate size 0)) back ∙ rest
+    back : drop {A = ℕ} size (replicate (suc n * size) 0) ≡ replicate (n * size) 0
+    back = drop-replicate size (suc n * size) 0 ∙ ap (λ (k : ℕ). replicate {A = ℕ} k 0) (let e = suc_times n size in let f : suc n * size - size ≡ n * size = omega arith in f)
+
+    go : (b : Bool) → touched_block (blocks_in size (suc first) n (replicate (n * size) 0)) lba (replicate size 0) ≡ replicate size 0
+        → (if b then take size (replicate (suc n * size) 0) else touched_block (blocks_in size (suc first) n (drop size (replicate (suc n * size) 0))) lba (replicate size 0)) ≡ replicate size 0
+    go true rest = take-replicate size (suc n * size) 0 (let e = suc_times n size in let f : size ≤ suc n * size = omega arith in f)
+    go false rest = ap (λ (l : List ℕ). touched_block (blocks_in size (suc first) n l) lba (replicate size 0)) back ∙ rest
 
 pub block_within : (lba n size total : ℕ) → lba < n → total ≡ n * size → lba * size + size ≤ total
 block_within lba n size total below is_total = grind (arith, common_steps)

@@ -1,7 +1,7 @@
 -- The blocks that were written: where one stands, and what a read and a write of it are.
-use Rattle.std.proofs.Common.{◌≡◌, ◌≢◌, ◌<◌, ◌≤◌, ℕ, ◌+◌, zero, suc, Bool, true, false, List, [], ◌∷◌, ◌++◌, length, Option, Some, None, refl, ap, sym, subst, ◌∙◌, arith, rules, eqb, eq-eqb, take, drop, get_or, set}
+use Rattle.std.proofs.Common.{◌≡◌, ◌≢◌, ◌<◌, ◌≤◌, ℕ, ◌+◌, zero, suc, Bool, true, false, List, [], ◌∷◌, ◌++◌, length, Some, None, refl, ap, sym, ◌∙◌, arith, rules, eq-eqb, take, drop, get_or, set}
 use Rattle.std.specs.Prelude.{◌==◌, nat_lt, if◌then◌else◌}
-use Rattle.std.specs.List.{insert, AllWithin}
+use Rattle.std.specs.List.{insert}
 use Rattle.std.specs.Global.{Vec}
 use Rattle.std.proofs.lemmas.Bool.{eqb-true}
 use Rattle.std.proofs.lemmas.Grind.{common_steps}
@@ -26,9 +26,9 @@ from_not_lt a b h = search rules
 pub unequal : (a b : ℕ) → a ≢ b → (a == b) ≡ false
 unequal a b other = go (a == b) refl
   where
-  go : (r : Bool) → (a == b) ≡ r → r ≡ false
-  go false e = refl
-  go true e = absurd (other (eqb-true a b e))
+    go : (r : Bool) → (a == b) ≡ r → r ≡ false
+    go false e = refl
+    go true e = absurd (other (eqb-true a b e))
 
 differ : (a b : ℕ) → (a == b) ≡ false → a ≢ b
 differ a b other same = true_false (sym (eq-eqb a b same) ∙ other)
@@ -54,9 +54,9 @@ pub place_within : (numbers : List ℕ) (from : ℕ) → place_in numbers from �
 place_within [] from = omega arith
 place_within (n ∷ numbers) from = go (nat_lt n from) (place_within numbers from)
   where
-  go : (b : Bool) → place_in numbers from ≤ length numbers → (if b then suc (place_in numbers from) else 0) ≤ suc (length numbers)
-  go true h = omega arith
-  go false h = omega arith
+    go : (b : Bool) → place_in numbers from ≤ length numbers → (if b then suc (place_in numbers from) else 0) ≤ suc (length numbers)
+    go true h = omega arith
+    go false h = omega arith
 
 pub at_within : (numbers : List ℕ) (place lba : ℕ) → is_at numbers place lba ≡ true → place < length numbers
 at_within [] place lba found = absurd (true_false (sym found))
@@ -81,15 +81,15 @@ pub rising_insert : (low : ℕ) (numbers : List ℕ) (lba : ℕ) → AreRising l
 rising_insert low [] lba rising above absent = (above, tt)
 rising_insert low (n ∷ numbers) lba rising above absent = go (nat_lt n lba) refl absent (rising_insert (suc n) numbers lba rising.1)
   where
-  go : (b : Bool) → nat_lt n lba ≡ b → is_at (n ∷ numbers) (if b then suc (place_in numbers lba) else 0) lba ≡ false
-      → (suc n ≤ lba → is_at numbers (place_in numbers lba) lba ≡ false → AreRising (suc n) (insert numbers (place_in numbers lba) lba))
-      → AreRising low (insert (n ∷ numbers) (if b then suc (place_in numbers lba) else 0) lba)
-  go true below e rest = let h : n < lba = from_lt n lba below in (rising.0, rest (omega arith) e)
-  go false over e rest =
-      let h : lba ≤ n = from_not_lt n lba over in
-      let other : n ≢ lba = differ n lba e in
-      let next : suc lba ≤ n = omega arith in
-      (above, (next, rising.1))
+    go : (b : Bool) → nat_lt n lba ≡ b → is_at (n ∷ numbers) (if b then suc (place_in numbers lba) else 0) lba ≡ false
+        → (suc n ≤ lba → is_at numbers (place_in numbers lba) lba ≡ false → AreRising (suc n) (insert numbers (place_in numbers lba) lba))
+        → AreRising low (insert (n ∷ numbers) (if b then suc (place_in numbers lba) else 0) lba)
+    go true below e rest = let h : n < lba = from_lt n lba below in (rising.0, rest (omega arith) e)
+    go false over e rest =
+        let h : lba ≤ n = from_not_lt n lba over in
+        let other : n ≢ lba = differ n lba e in
+        let next : suc lba ≤ n = omega arith in
+        (above, (next, rising.1))
 
 -- ---- a read
 
@@ -108,15 +108,15 @@ read_absent low [] blocks lba otherwise rising absent = refl
 read_absent low (n ∷ numbers) [] lba otherwise rising absent = refl
 read_absent low (n ∷ numbers) (block ∷ blocks) lba otherwise rising absent = go (nat_lt n lba) refl absent (read_absent (suc n) numbers blocks lba otherwise rising.1)
   where
-  go : (b : Bool) → nat_lt n lba ≡ b → is_at (n ∷ numbers) (if b then suc (place_in numbers lba) else 0) lba ≡ false
-      → (is_at numbers (place_in numbers lba) lba ≡ false → touched_block (touched_of numbers blocks) lba otherwise ≡ otherwise)
-      → (if n == lba then block.items else touched_block (touched_of numbers blocks) lba otherwise) ≡ otherwise
-  go true below e rest =
-      let h : n < lba = from_lt n lba below in let other : n ≢ lba = omega arith in
-      ap (λ (b : Bool). if b then block.items else touched_block (touched_of numbers blocks) lba otherwise) (unequal n lba other) ∙ rest e
-  go false over e rest =
-      let h : lba ≤ n = from_not_lt n lba over in
-      ap (λ (b : Bool). if b then block.items else touched_block (touched_of numbers blocks) lba otherwise) e ∙ absent_above (suc n) numbers blocks lba otherwise rising.1 (omega arith)
+    go : (b : Bool) → nat_lt n lba ≡ b → is_at (n ∷ numbers) (if b then suc (place_in numbers lba) else 0) lba ≡ false
+        → (is_at numbers (place_in numbers lba) lba ≡ false → touched_block (touched_of numbers blocks) lba otherwise ≡ otherwise)
+        → (if n == lba then block.items else touched_block (touched_of numbers blocks) lba otherwise) ≡ otherwise
+    go true below e rest =
+        let h : n < lba = from_lt n lba below in let other : n ≢ lba = omega arith in
+        ap (λ (b : Bool). if b then block.items else touched_block (touched_of numbers blocks) lba otherwise) (unequal n lba other) ∙ rest e
+    go false over e rest =
+        let h : lba ≤ n = from_not_lt n lba over in
+        ap (λ (b : Bool). if b then block.items else touched_block (touched_of numbers blocks) lba otherwise) e ∙ absent_above (suc n) numbers blocks lba otherwise rising.1 (omega arith)
 
 pub read_found : (numbers : List ℕ) (blocks : List (Vec ℕ)) (lba : ℕ) (otherwise : List ℕ) (d : Vec ℕ) → length numbers ≡ length blocks → is_at numbers (place_in numbers lba) lba ≡ true
     → touched_block (touched_of numbers blocks) lba otherwise ≡ (get_or blocks (place_in numbers lba) d).items
@@ -124,13 +124,13 @@ read_found [] blocks lba otherwise d paired found = absurd (true_false (sym foun
 read_found (n ∷ numbers) [] lba otherwise d paired found = absurd (let p : suc (length numbers) ≡ 0 = paired in let q : ⊥ = omega arith in q)
 read_found (n ∷ numbers) (block ∷ blocks) lba otherwise d paired found = go (nat_lt n lba) refl found (read_found numbers blocks lba otherwise d (omega arith))
   where
-  go : (b : Bool) → nat_lt n lba ≡ b → is_at (n ∷ numbers) (if b then suc (place_in numbers lba) else 0) lba ≡ true
-      → (is_at numbers (place_in numbers lba) lba ≡ true → touched_block (touched_of numbers blocks) lba otherwise ≡ (get_or blocks (place_in numbers lba) d).items)
-      → (if n == lba then block.items else touched_block (touched_of numbers blocks) lba otherwise) ≡ (get_or (block ∷ blocks) (if b then suc (place_in numbers lba) else 0) d).items
-  go true below e rest =
-      let h : n < lba = from_lt n lba below in let other : n ≢ lba = omega arith in
-      ap (λ (b : Bool). if b then block.items else touched_block (touched_of numbers blocks) lba otherwise) (unequal n lba other) ∙ rest e
-  go false over e rest = ap (λ (b : Bool). if b then block.items else touched_block (touched_of numbers blocks) lba otherwise) e
+    go : (b : Bool) → nat_lt n lba ≡ b → is_at (n ∷ numbers) (if b then suc (place_in numbers lba) else 0) lba ≡ true
+        → (is_at numbers (place_in numbers lba) lba ≡ true → touched_block (touched_of numbers blocks) lba otherwise ≡ (get_or blocks (place_in numbers lba) d).items)
+        → (if n == lba then block.items else touched_block (touched_of numbers blocks) lba otherwise) ≡ (get_or (block ∷ blocks) (if b then suc (place_in numbers lba) else 0) d).items
+    go true below e rest =
+        let h : n < lba = from_lt n lba below in let other : n ≢ lba = omega arith in
+        ap (λ (b : Bool). if b then block.items else touched_block (touched_of numbers blocks) lba otherwise) (unequal n lba other) ∙ rest e
+    go false over e rest = ap (λ (b : Bool). if b then block.items else touched_block (touched_of numbers blocks) lba otherwise) e
 
 -- ---- a write
 
@@ -140,17 +140,17 @@ write_found [] blocks lba new paired found = absurd (true_false (sym found))
 write_found (n ∷ numbers) [] lba new paired found = absurd (let p : suc (length numbers) ≡ 0 = paired in let q : ⊥ = omega arith in q)
 write_found (n ∷ numbers) (block ∷ blocks) lba new paired found = go (nat_lt n lba) refl found (write_found numbers blocks lba new (omega arith))
   where
-  go : (b : Bool) → nat_lt n lba ≡ b → is_at (n ∷ numbers) (if b then suc (place_in numbers lba) else 0) lba ≡ true
-      → (is_at numbers (place_in numbers lba) lba ≡ true → touched_of numbers (set blocks (place_in numbers lba) new) ≡ touched_with (touched_of numbers blocks) lba new.items)
-      → touched_of (n ∷ numbers) (set (block ∷ blocks) (if b then suc (place_in numbers lba) else 0) new)
+    go : (b : Bool) → nat_lt n lba ≡ b → is_at (n ∷ numbers) (if b then suc (place_in numbers lba) else 0) lba ≡ true
+        → (is_at numbers (place_in numbers lba) lba ≡ true → touched_of numbers (set blocks (place_in numbers lba) new) ≡ touched_with (touched_of numbers blocks) lba new.items)
+        → touched_of (n ∷ numbers) (set (block ∷ blocks) (if b then suc (place_in numbers lba) else 0) new)
         ≡ (if n == lba then (lba, new.items) ∷ touched_of numbers blocks else if nat_lt lba n then (lba, new.items) ∷ ((n, block.items) ∷ touched_of numbers blocks) else (n, block.items) ∷ touched_with (touched_of numbers blocks) lba new.items)
-  go true below e rest =
-      let h : n < lba = from_lt n lba below in let other : n ≢ lba = omega arith in let not_over : nat_lt lba n ≡ false = lt_false lba n (omega arith) in
-      ap (λ (t : List (ℕ × List ℕ)). (n, block.items) ∷ t) (rest e)
-      ∙ sym (λ i. if unequal n lba other i then (lba, new.items) ∷ touched_of numbers blocks else if not_over i then (lba, new.items) ∷ ((n, block.items) ∷ touched_of numbers blocks) else (n, block.items) ∷ touched_with (touched_of numbers blocks) lba new.items)
-  go false over e rest =
-      (λ i. (eqb-true n lba e i, new.items) ∷ touched_of numbers blocks)
-      ∙ sym (ap (λ (b : Bool). if b then (lba, new.items) ∷ touched_of numbers blocks else if nat_lt lba n then (lba, new.items) ∷ ((n, block.items) ∷ touched_of numbers blocks) else (n, block.items) ∷ touched_with (touched_of numbers blocks) lba new.items) e)
+    go true below e rest =
+        let h : n < lba = from_lt n lba below in let other : n ≢ lba = omega arith in let not_over : nat_lt lba n ≡ false = lt_false lba n (omega arith) in
+        ap (λ (t : List (ℕ × List ℕ)). (n, block.items) ∷ t) (rest e)
+        ∙ sym (λ i. if unequal n lba other i then (lba, new.items) ∷ touched_of numbers blocks else if not_over i then (lba, new.items) ∷ ((n, block.items) ∷ touched_of numbers blocks) else (n, block.items) ∷ touched_with (touched_of numbers blocks) lba new.items)
+    go false over e rest =
+        (λ i. (eqb-true n lba e i, new.items) ∷ touched_of numbers blocks)
+        ∙ sym (ap (λ (b : Bool). if b then (lba, new.items) ∷ touched_of numbers blocks else if nat_lt lba n then (lba, new.items) ∷ ((n, block.items) ∷ touched_of numbers blocks) else (n, block.items) ∷ touched_with (touched_of numbers blocks) lba new.items) e)
 
 pub write_absent : (numbers : List ℕ) (blocks : List (Vec ℕ)) (lba : ℕ) (new : Vec ℕ) → length numbers ≡ length blocks → is_at numbers (place_in numbers lba) lba ≡ false
     → touched_of (insert numbers (place_in numbers lba) lba) (insert blocks (place_in numbers lba) new) ≡ touched_with (touched_of numbers blocks) lba new.items
@@ -159,17 +159,17 @@ write_absent [] (block ∷ blocks) lba new paired absent = absurd (let p : 0 ≡
 write_absent (n ∷ numbers) [] lba new paired absent = absurd (let p : suc (length numbers) ≡ 0 = paired in let q : ⊥ = omega arith in q)
 write_absent (n ∷ numbers) (block ∷ blocks) lba new paired absent = go (nat_lt n lba) refl absent (write_absent numbers blocks lba new (omega arith))
   where
-  go : (b : Bool) → nat_lt n lba ≡ b → is_at (n ∷ numbers) (if b then suc (place_in numbers lba) else 0) lba ≡ false
-      → (is_at numbers (place_in numbers lba) lba ≡ false → touched_of (insert numbers (place_in numbers lba) lba) (insert blocks (place_in numbers lba) new) ≡ touched_with (touched_of numbers blocks) lba new.items)
-      → touched_of (insert (n ∷ numbers) (if b then suc (place_in numbers lba) else 0) lba) (insert (block ∷ blocks) (if b then suc (place_in numbers lba) else 0) new)
+    go : (b : Bool) → nat_lt n lba ≡ b → is_at (n ∷ numbers) (if b then suc (place_in numbers lba) else 0) lba ≡ false
+        → (is_at numbers (place_in numbers lba) lba ≡ false → touched_of (insert numbers (place_in numbers lba) lba) (insert blocks (place_in numbers lba) new) ≡ touched_with (touched_of numbers blocks) lba new.items)
+        → touched_of (insert (n ∷ numbers) (if b then suc (place_in numbers lba) else 0) lba) (insert (block ∷ blocks) (if b then suc (place_in numbers lba) else 0) new)
         ≡ (if n == lba then (lba, new.items) ∷ touched_of numbers blocks else if nat_lt lba n then (lba, new.items) ∷ ((n, block.items) ∷ touched_of numbers blocks) else (n, block.items) ∷ touched_with (touched_of numbers blocks) lba new.items)
-  go true below e rest =
-      let h : n < lba = from_lt n lba below in let other : n ≢ lba = omega arith in let not_over : nat_lt lba n ≡ false = lt_false lba n (omega arith) in
-      ap (λ (t : List (ℕ × List ℕ)). (n, block.items) ∷ t) (rest e)
-      ∙ sym (λ i. if unequal n lba other i then (lba, new.items) ∷ touched_of numbers blocks else if not_over i then (lba, new.items) ∷ ((n, block.items) ∷ touched_of numbers blocks) else (n, block.items) ∷ touched_with (touched_of numbers blocks) lba new.items)
-  go false over e rest =
-      let h : lba ≤ n = from_not_lt n lba over in let other : n ≢ lba = differ n lba e in let is_over : nat_lt lba n ≡ true = lt_true lba n (omega arith) in
-      sym (λ i. if e i then (lba, new.items) ∷ touched_of numbers blocks else if is_over i then (lba, new.items) ∷ ((n, block.items) ∷ touched_of numbers blocks) else (n, block.items) ∷ touched_with (touched_of numbers blocks) lba new.items)
+    go true below e rest =
+        let h : n < lba = from_lt n lba below in let other : n ≢ lba = omega arith in let not_over : nat_lt lba n ≡ false = lt_false lba n (omega arith) in
+        ap (λ (t : List (ℕ × List ℕ)). (n, block.items) ∷ t) (rest e)
+        ∙ sym (λ i. if unequal n lba other i then (lba, new.items) ∷ touched_of numbers blocks else if not_over i then (lba, new.items) ∷ ((n, block.items) ∷ touched_of numbers blocks) else (n, block.items) ∷ touched_with (touched_of numbers blocks) lba new.items)
+    go false over e rest =
+        let h : lba ≤ n = from_not_lt n lba over in let other : n ≢ lba = differ n lba e in let is_over : nat_lt lba n ≡ true = lt_true lba n (omega arith) in
+        sym (λ i. if e i then (lba, new.items) ∷ touched_of numbers blocks else if is_over i then (lba, new.items) ∷ ((n, block.items) ∷ touched_of numbers blocks) else (n, block.items) ∷ touched_with (touched_of numbers blocks) lba new.items)
 
 -- ---- sizes
 
@@ -204,9 +204,9 @@ sized_take size (block ∷ blocks) (suc n) sized = (sized.0, sized_take size blo
 lt_suc : (a b : ℕ) → nat_lt (suc a) (suc b) ≡ nat_lt a b
 lt_suc a b = go (nat_lt a b) refl
   where
-  go : (r : Bool) → nat_lt a b ≡ r → nat_lt (suc a) (suc b) ≡ r
-  go true e = let h : a < b = from_lt a b e in lt_true (suc a) (suc b) (omega arith)
-  go false e = let h : b ≤ a = from_not_lt a b e in lt_false (suc a) (suc b) (omega arith)
+    go : (r : Bool) → nat_lt a b ≡ r → nat_lt (suc a) (suc b) ≡ r
+    go true e = let h : a < b = from_lt a b e in lt_true (suc a) (suc b) (omega arith)
+    go false e = let h : b ≤ a = from_not_lt a b e in lt_false (suc a) (suc b) (omega arith)
 
 pub next_is : (numbers : List ℕ) (blocks : List (Vec ℕ)) (from : ℕ) → length numbers ≡ length blocks
     → touched_from (touched_of numbers blocks) from ≡ (if nat_lt (place_in numbers from) (length numbers) then Some (get_or numbers (place_in numbers from) 0) else None)
@@ -214,11 +214,11 @@ next_is [] blocks from paired = refl
 next_is (n ∷ numbers) [] from paired = absurd (let p : suc (length numbers) ≡ 0 = paired in let q : ⊥ = omega arith in q)
 next_is (n ∷ numbers) (block ∷ blocks) from paired = go (nat_lt n from) (next_is numbers blocks from (omega arith))
   where
-  go : (b : Bool) → touched_from (touched_of numbers blocks) from ≡ (if nat_lt (place_in numbers from) (length numbers) then Some (get_or numbers (place_in numbers from) 0) else None)
-      → (if b then touched_from (touched_of numbers blocks) from else Some n)
+    go : (b : Bool) → touched_from (touched_of numbers blocks) from ≡ (if nat_lt (place_in numbers from) (length numbers) then Some (get_or numbers (place_in numbers from) 0) else None)
+        → (if b then touched_from (touched_of numbers blocks) from else Some n)
         ≡ (if nat_lt (if b then suc (place_in numbers from) else 0) (suc (length numbers)) then Some (get_or (n ∷ numbers) (if b then suc (place_in numbers from) else 0) 0) else None)
-  go true rest = rest ∙ sym (ap (λ (b : Bool). if b then Some (get_or numbers (place_in numbers from) 0) else None) (lt_suc (place_in numbers from) (length numbers)))
-  go false rest = sym (ap (λ (b : Bool). if b then Some n else None) (lt_true 0 (suc (length numbers)) (omega arith)))
+    go true rest = rest ∙ sym (ap (λ (b : Bool). if b then Some (get_or numbers (place_in numbers from) 0) else None) (lt_suc (place_in numbers from) (length numbers)))
+    go false rest = sym (ap (λ (b : Bool). if b then Some n else None) (lt_true 0 (suc (length numbers)) (omega arith)))
 
 pub at_is : (numbers : List ℕ) (place lba : ℕ) → is_at numbers place lba ≡ (if nat_lt place (length numbers) then get_or numbers place 0 == lba else false)
 at_is [] place lba = sym (ap (λ (b : Bool). if b then 0 == lba else false) (lt_false place 0 (omega arith)))

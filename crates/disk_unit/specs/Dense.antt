@@ -1,5 +1,5 @@
 -- All blocks one after the other.
-use Rattle.std.specs.Prelude.{ℕ, zero, suc, ◌+◌, List, [], ◌∷◌, take, drop}
+use Rattle.std.specs.Prelude.{ℕ, zero, suc, List, [], ◌∷◌, take, drop}
 
 -- The blocks of these bytes, so many from this number on.
 abbrev pub blocks_in : ℕ → ℕ → ℕ → List ℕ → List (ℕ × List ℕ)

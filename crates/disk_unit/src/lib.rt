@@ -10,10 +10,8 @@
 
 mod blocks;
 mod dense;
-
 mod sparse;
 
 pub use blocks::Blocks;
 pub use dense::DenseBlocks;
-
 pub use sparse::SparseBlocks;

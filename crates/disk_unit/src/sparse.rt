@@ -95,7 +95,12 @@ fn with_bytes(mut block: Vec<u8>, from: &[u8]) -> Vec<u8>
 }
 
 // Memory for so many blocks of this size, or what there was.
-fn fill_pool(alloc: Global, pool: &mut Vec<Vec<u8>>, blocks: usize, size: usize) -> Result<(), NoMemory>
+fn fill_pool(
+    alloc: Global,
+    pool: &mut Vec<Vec<u8>>,
+    blocks: usize,
+    size: usize,
+) -> Result<(), NoMemory>
     requires fewer { vec_len pool.old ≤ blocks }
     requires room { blocks ≤ vec_capacity pool.old }
     requires sized { HaveSize size pool.old.items }

@@ -1,4 +1,4 @@
-use Rattle.std.proofs.Common.{◌≡◌, ◌≤◌, take, length}
+use Rattle.std.proofs.Common.{◌≡◌, ◌≤◌, take}
 use Rattle.std.specs.Vec.{vec_len, vec_capacity}
 use Rattle.disk_unit.specs.Sparse.{HaveSize}
 use Rattle.disk_unit.proofs.sparse.fill_pool.Given as goal
