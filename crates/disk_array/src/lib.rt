@@ -3,8 +3,8 @@
 //! It is what a run of the bus is measured by: no bus, no bytes that interleave, no device. `specs/Units.antt`
 //! has its state, `specs/Execution.antt` what one command does at one unit, `specs/Order.antt` which waiting
 //! command may run, on what a queue keeps of it (`Entry`), `specs/Steps.antt` what each event of a history does,
-//! and `specs/ArrayHistory.antt` a whole history. It stands on `scenario`, `cdb_codec` and `bus_base`. There is no code here but for laws: each is
-//! the contract of a function that does nothing.
+//! and `specs/ArrayHistory.antt` a whole history. It stands on `scenario`, `cdb_codec` and `bus_base`. There is
+//! no code here but for `Entry` and for laws: each is the contract of a function that does nothing.
 #![tactic(auto)]
 
 mod entries;

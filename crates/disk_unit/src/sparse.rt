@@ -36,7 +36,8 @@ impl Model for SparseBlocks {
       spare = length s.pool.items;
     } };
 
-    ghost invariant = { λ s. IsSparse s.size s.numbers.items s.blocks.items s.pool.items (vec_capacity s.numbers) (vec_capacity s.blocks) };
+    ghost invariant = { λ s. IsSparse
+        s.size s.numbers.items s.blocks.items s.pool.items (vec_capacity s.numbers) (vec_capacity s.blocks) };
 }
 
 // How many of the numbers are below this one.
@@ -80,7 +81,8 @@ fn is_at(numbers: &[u32], place: usize, lba: u32) -> bool
 fn overwrite(blocks: &mut Vec<Vec<u8>>, place: usize, from: &[u8])
     requires within { place < vec_len blocks.old }
     requires whole { (d : Bytes ℕ) → length (slice_index_or blocks.old.items place d).items ≡ length from.now }
-    ensures written { (new : Bytes ℕ) × (new.items ≡ from.now) × (blocks.new.items ≡ slice_set blocks.old.items place new) }
+    ensures written { (new : Bytes ℕ) × (new.items ≡ from.now)
+        × (blocks.new.items ≡ slice_set blocks.old.items place new) }
     ensures capacity { vec_capacity blocks.new ≡ vec_capacity blocks.old }
 {
     blocks[place].as_mut_slice().copy_from_slice(from);

@@ -152,7 +152,8 @@ pub fn runnable_place(
 ) -> Option<usize>
     requires kept { AreKept entries.now None current [] arrivals.now }
     ensures { key_at_if (waiting_at entries.now current arrivals.now) result
-        ≡ key_at_if (waiting_at entries.now current arrivals.now) (chosen_place pick (entries_at entries.now current arrivals.now)) }
+        ≡ key_at_if (waiting_at entries.now current arrivals.now)
+        (chosen_place pick (entries_at entries.now current arrivals.now)) }
 {
     let head = last_head(entries, arrivals, current);
     if head.is_some() {
@@ -183,7 +184,8 @@ pub fn place_standing(
 ) -> Standing
     requires kept { AreKept entries.now None current [] arrivals.now }
     ensures place { result.place ≡ place_of (waiting_at entries.now current arrivals.now) key }
-    ensures runs { result.runs ≡ may_run_in_order [] (entries_at entries.now current arrivals.now) (place_of (waiting_at entries.now current arrivals.now) key) }
+    ensures runs { result.runs ≡ may_run_in_order [] (entries_at entries.now current arrivals.now)
+        (place_of (waiting_at entries.now current arrivals.now) key) }
 {
     let mut place = 0;
     let mut ordered = false;
@@ -280,7 +282,8 @@ fn lowered_arrival(arrival: Arrival, lower: bool) -> Arrival
 pub fn lower_later(entries: &Slab<Entry>, arrivals: &mut [Arrival], key: Key)
     requires live { IsLive entries.now key }
     requires kept { (current : Option ℕ) × AreKept entries.now None current [] arrivals.old }
-    ensures { (leaving : Entry) → get entries.now key ≡ Some leaving → arrivals.new ≡ lowered entries.now leaving key false arrivals.old }
+    ensures { (leaving : Entry) → get entries.now key ≡ Some leaving
+        → arrivals.new ≡ lowered entries.now leaving key false arrivals.old }
 {
     let leaving = live_entry(entries, key);
     let mut passed = false;
