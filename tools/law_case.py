@@ -11,7 +11,7 @@ import sys
 
 import array_case
 
-UNFOLDING = "unfolding need_of sent_of ones union_below line_of form_out form_in least run_from seen_with reading_of"
+UNFOLDING = "unfolding need_of sent_of ones union_below line_of form_out form_in least run_from seen_with"
 
 HEAD = """-- Runs with few connections: their rows are prompt, lawful and sound, computed. Written by tools/law_case.py.
 use Rattle.bus_trace.specs.LineSet.{set_of, line_of}

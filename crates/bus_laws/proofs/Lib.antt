@@ -24,3 +24,4 @@ pub mod ReactionTimes
 pub mod Periods
 pub mod RowTimes
 pub mod DueTimes
+mod Cases
