@@ -3,7 +3,9 @@
 ghost use Rattle.std.specs.Prelude.{ℕ, ◌≡◌, ◌<◌, ◌≤◌, ◌+◌, ◌*◌, ◌^◌, false, List, [], ◌∷◌, length, Some, None};
 ghost use Rattle.std.specs.List.{AllByRecursion};
 ghost use Rattle.bus_trace.specs.declared.Row.{Row};
-ghost use Rattle.bus_trace.specs.Trace.{last_time};
+ghost use Rattle.bus_trace.specs.Trace.{bus, last_time};
+ghost use Rattle.bus_trace.specs.declared.Kind.TheVariants.{Drives};
+ghost use Rattle.bus_rules.specs.Reset.{only_rst};
 ghost use Rattle.bus_rules.specs.Lawful.{AreLawful};
 ghost use Rattle.bus_rules.specs.Rules.{broken_rule};
 ghost use Rattle.scenario.specs.Value.{ScenarioValue};
@@ -16,12 +18,14 @@ ghost use Rattle.bus_laws.specs.Stages.{BusStage, Standing, NextRow, is_connecte
 /// reselection with and without an answer, and the reset condition (6.1.1 to 6.1.4, 6.2.2). Before any row the bus is
 /// free (`start`). As long as no connection stands, the next row, of whichever device and whatever faults and resets
 /// the scenario has, obeys all 28 rules, comes no sooner than the last, and leaves one of these stages, or the
-/// beginning of a connection, in which nothing that is due lies in the past (`next`); and so what held before it
-/// holds after it (`holds`).
+/// beginning of a connection; and nothing that is due lies in the past (`next`). So does a row that raises RST, a
+/// connection or not (`reset`). What held before such a row holds after it (`holds`).
 pub fn stages_go_on()
     ensures start { (s : ScenarioValue) → Standing s [] × BusStage s [] }
     ensures next { (s : ScenarioValue) (rows : List Row) (row : Row) → Obeys s → Standing s rows → BusStage s rows
         → is_connected rows ≡ false → next s rows ≡ Some row → NextRow s rows row }
+    ensures reset { (s : ScenarioValue) (rows : List Row) (row : Row) → Standing s rows → (bus rows).rst ≡ false
+        → next s rows ≡ Some row → row.kind ≡ Drives only_rst → NextRow s rows row }
     ensures holds { (s : ScenarioValue) (rows : List Row) (row : Row) → Standing s rows → next s rows ≡ Some row
         → NextRow s rows row → is_connected (row ∷ rows) ≡ false → Standing s (row ∷ rows) }
 {}
