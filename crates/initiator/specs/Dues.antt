@@ -34,10 +34,13 @@ pace_of_host h t = pace_by t.begun t.sight.bus t.agreement (Some h)
 abbrev pub answering_of_host : Told → InitiatorState → Answering
 answering_of_host t i = answering_by i.speech i.sending t.sight.bus t.offer i.own.ack
 
+abbrev pub plain_by : HostDef → Told → InitiatorState → Option Due
+plain_by h t i =
+    hand.initiator_due t.begun t.sight t.handshakes (myself_by h t i) (pace_of_host h t) (answering_of_host t i)
+
+-- It samples a byte that crossed to it in the last row first.
 abbrev pub hand_by : HostDef → Told → Option FaultDef → InitiatorState → Option Due
-hand_by h t f i =
-    hand.sample_due (is_receiving t.receiver h.dev) t.last (flip_by f t.last)
-    (hand.initiator_due t.begun t.sight t.handshakes (myself_by h t i) (pace_of_host h t) (answering_of_host t i))
+hand_by h t f i = hand.sample_due (is_receiving t.receiver h.dev) t.last (flip_by f t.last) (plain_by h t i)
 
 abbrev pub connected_by : HostDef → Told → Option FaultDef → InitiatorState → Connection → Option Due
 connected_by h t f i n = if n.initiator == h.dev then hand_by h t f i else None

@@ -1,10 +1,16 @@
 //! The initiator (ANSI X3.131-1994, 6 and 7).
 #![tactic(auto)]
 
+mod due;
 mod laws;
 mod openings;
+mod own_times;
+mod resets;
 mod speech;
 
+pub use due::{Knowledge, Sending, initiator_next};
 pub use laws::dues_are_of_initiators;
 pub use openings::{Words, abort_opening, process_opening};
+pub use own_times::OwnTimes;
+pub use resets::next_reset;
 pub use speech::Speech;
