@@ -1,2 +1,3 @@
 mod Dues
+mod OwnRows
 mod Told

@@ -2,6 +2,7 @@
 #![tactic(auto)]
 
 mod due;
+mod itself;
 mod laws;
 mod openings;
 mod own_times;
@@ -9,6 +10,7 @@ mod resets;
 mod speech;
 
 pub use due::{Knowledge, Sending, initiator_next};
+pub use itself::Itself;
 pub use laws::dues_are_of_initiators;
 pub use openings::{Words, abort_opening, process_opening};
 pub use own_times::OwnTimes;
