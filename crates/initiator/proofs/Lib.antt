@@ -1,3 +1,4 @@
 mod Dues
+mod Mines
 mod OwnRows
 mod Told

@@ -1,3 +1,4 @@
 pub mod Itself
+pub mod Mines
 pub mod States
 pub mod Dues
