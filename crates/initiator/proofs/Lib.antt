@@ -1,4 +1,5 @@
 mod Dues
+mod Books
 mod Mines
 mod OwnRows
 mod Told

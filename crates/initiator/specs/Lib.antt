@@ -1,4 +1,5 @@
 pub mod Itself
 pub mod Mines
+pub mod Books
 pub mod States
 pub mod Dues

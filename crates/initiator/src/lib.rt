@@ -13,7 +13,7 @@ mod speech;
 pub use due::{Knowledge, Sending, initiator_next};
 pub use itself::Itself;
 pub use laws::dues_are_of_initiators;
-pub use mine::{Mine, MyAbort};
+pub use mine::{Mine, MyAbort, OwnItem};
 pub use openings::{Words, abort_opening, process_opening};
 pub use own_times::OwnTimes;
 pub use resets::next_reset;

@@ -42,3 +42,15 @@ pub struct MyAbort {
     /// Whether it was sent or given up.
     pub done: bool,
 }
+
+/// What an initiator sends: a command or the automatic REQUEST SENSE after it, by the number of the command among all,
+/// or an abort, by that of its line; both from 1.
+#[derive(Clone, Copy, Debug)]
+pub enum OwnItem {
+    /// A command.
+    Command(u16),
+    /// The automatic REQUEST SENSE after this command.
+    Sense(u16),
+    /// An abort.
+    Abort(u16),
+}
