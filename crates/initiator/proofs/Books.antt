@@ -14,6 +14,7 @@ use Rattle.initiator.specs.declared.mine.Mine.{Mine}
 use Rattle.initiator.specs.declared.mine.MyAbort.{MyAbort}
 use Rattle.initiator.specs.declared.mine.OwnItem.{OwnItem}
 use Rattle.initiator.specs.Mines.{mine_of, mines_of, my_abort_of, open_mines, is_open_mine, is_clash_of, may_follow_mines, is_done_mine, mines_since, mine_by, my_aborts_since, my_abort_by}
+use Rattle.initiator.proofs.Queues.{queue_is}
 use Rattle.initiator.specs.Books.{BookValue, is_sense_due, my_sense, my_book, my_since, my_item, abort_if, sense_if, command_if, item_of, item_if}
 
 abbrev mines_from : Sent → ℕ → ℕ → List CmdDef → List Mine
@@ -138,7 +139,7 @@ pub since_is : (s : ScenarioValue) (b : Sent) (dev : ℕ) → my_since (my_book 
 since_is s b dev =
     let own : List OwnCommand = own_commands b dev 1 s.commands in
     λ i. sooner_time (aborts_since (own_aborts b dev 1 s.aborts) i)
-        (sooner_time (time_if ((sym (some_sense (my_sense (mines_of b dev s.commands) b.checks)) ∙ ap (λ (x : Option Item). is_some x) (sym (senses_are s b dev b.checks))) i) 0)
+        (sooner_time (time_if ((ap (λ (x : Option ℕ). is_some x) (queue_is b dev s.commands) ∙ sym (some_sense (my_sense (mines_of b dev s.commands) b.checks)) ∙ ap (λ (x : Option Item). is_some x) (sym (senses_are s b dev b.checks))) i) 0)
             (commands_since b.checks (open_limit_of s.hosts dev) own own i))
 
 abort_first : (a : Option ℕ) (other : Option OwnItem) → item_if (abort_if a other) ≡ or_else (abort_item_if a) (item_if other)
@@ -158,6 +159,7 @@ item_is s b dev time =
     let own : List OwnCommand = own_commands b dev 1 s.commands in
     let v : BookValue = my_book s b dev in
     let command : Option ℕ = mine_by v.most time (open_mines v.mines) v.mines in
-    abort_first (my_abort_by time v.aborts) (sense_if v.sense (command_if command))
-    ∙ (λ i. or_else (aborts_by time (own_aborts b dev 1 s.aborts) i) (sense_first v.sense (command_if command) i))
-    ∙ (λ i. or_else (abort_by time (own_aborts b dev 1 s.aborts)) (or_else (sym (senses_are s b dev b.checks) i) ((command_last command ∙ commands_by b.checks (open_limit_of s.hosts dev) time own own) i)))
+    let sense : Option ℕ = my_sense v.mines v.queue in
+    abort_first (my_abort_by time v.aborts) (sense_if sense (command_if command))
+    ∙ (λ i. or_else (aborts_by time (own_aborts b dev 1 s.aborts) i) (sense_first sense (command_if command) i))
+    ∙ (λ i. or_else (abort_by time (own_aborts b dev 1 s.aborts)) (or_else ((ap (λ (n : Option ℕ). sense_item_if n) (queue_is b dev s.commands) ∙ sym (senses_are s b dev b.checks)) i) ((command_last command ∙ commands_by b.checks (open_limit_of s.hosts dev) time own own) i)))

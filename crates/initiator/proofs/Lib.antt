@@ -2,4 +2,6 @@ mod Dues
 mod Books
 mod Mines
 mod OwnRows
+mod Queues
+mod Speeches
 mod Told

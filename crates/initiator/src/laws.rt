@@ -1,5 +1,5 @@
 // Laws of an initiator, each named by the contract of a function that does nothing.
-ghost use Rattle.std.specs.Prelude.{◌≡◌, List, Option};
+ghost use Rattle.std.specs.Prelude.{◌≡◌, List, ◌∷◌, Option, Some, None};
 ghost use Rattle.bus_trace.specs.declared.Row.{Row};
 ghost use Rattle.scenario.specs.declared.value.FaultDef.{FaultDef};
 ghost use Rattle.scenario.specs.declared.value.HostDef.{HostDef};
@@ -9,8 +9,15 @@ ghost use Rattle.bus_due.specs.Plain.{AreOfDevices};
 ghost use Rattle.bus_due.specs.RunSteps.{run_state};
 ghost use Rattle.initiator.specs.States.{told, InitiatorState, IsInitiatorOf, IsHostOf, IsNoTarget, first_fault};
 ghost use Rattle.initiator.specs.Dues.{initiator_next};
+ghost use Rattle.initiator.specs.Speeches.{first_words, speech_at};
+ghost use Rattle.bus_trace.specs.declared.connection.Connection.{Connection};
+ghost use Rattle.bus_trace.specs.Terms.{connection};
+ghost use Rattle.bus_dialogue.specs.Exchange.{no_speech, speech_of};
+ghost use Rattle.bus_dialogue.specs.Speaking.{speech_after};
+ghost use Rattle.bus_dialogue.specs.Hearing.{hearing};
+ghost use Rattle.bus_due.specs.Defs.{host_of};
 
-use bus_due::{end_reactions_are_due, kept_is_plain};
+use bus_due::{end_reactions_are_due, hearings_are_plain, kept_is_plain};
 
 /// What is due of an initiator is what it does next by what all devices are told, by what it knows itself, and by the
 /// first fault that has not struck yet.
@@ -22,4 +29,18 @@ pub fn dues_are_of_initiators()
 {
     end_reactions_are_due();
     kept_is_plain();
+}
+
+/// What the initiator of a connection says goes on by what each row tells it (`Speech::hear`), whatever the rows of the
+/// eight devices are, and begins with its opening; after a reselection it has nothing to say yet.
+pub fn speeches_are_heard()
+    ensures more { (s : ScenarioValue) (rows : List Row) (row : Row) (m n : Connection) → AreOfDevices (row ∷ rows)
+        → connection rows ≡ Some m → connection (row ∷ rows) ≡ Some n
+        → speech_at s (row ∷ rows) ≡ speech_after (host_of s n.initiator) (hearing rows row) (speech_at s rows) }
+    ensures first { (s : ScenarioValue) (rows : List Row) (row : Row) (n : Connection) → AreOfDevices (row ∷ rows)
+        → connection rows ≡ None → connection (row ∷ rows) ≡ Some n
+        → speech_at s (row ∷ rows) ≡ speech_of no_speech (first_words s rows n) }
+{
+    kept_is_plain();
+    hearings_are_plain();
 }

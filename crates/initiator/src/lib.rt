@@ -12,7 +12,7 @@ mod speech;
 
 pub use due::{Knowledge, Sending, initiator_next};
 pub use itself::Itself;
-pub use laws::dues_are_of_initiators;
+pub use laws::{dues_are_of_initiators, speeches_are_heard};
 pub use mine::{Mine, MyAbort, OwnItem};
 pub use openings::{Words, abort_opening, process_opening};
 pub use own_times::OwnTimes;
