@@ -1,5 +1,6 @@
 mod Dues
 mod Books
+mod BookSteps
 mod Mines
 mod OwnRows
 mod Queues

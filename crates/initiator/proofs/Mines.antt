@@ -34,7 +34,7 @@ mines_go_on b d f dev n (c ∷ commands) h = go (mines_go_on b d f dev (n + 1) c
     go r true = λ i. h n c i ∷ r i
     go r false = r
 
-mines_stay : (b d : Sent) (dev n : ℕ) (commands : List CmdDef) → ((m : ℕ) (c : CmdDef) → mine d m c ≡ mine b m c) → mines_from d dev n commands ≡ mines_from b dev n commands
+pub mines_stay : (b d : Sent) (dev n : ℕ) (commands : List CmdDef) → ((m : ℕ) (c : CmdDef) → mine d m c ≡ mine b m c) → mines_from d dev n commands ≡ mines_from b dev n commands
 mines_stay b d dev n [] h = refl
 mines_stay b d dev n (c ∷ commands) h = go (mines_stay b d dev (n + 1) commands h) (c.host == dev)
   where

@@ -108,7 +108,7 @@ book_with_try v n = record v { mines = map (λ (m : Mine). tried_at n m) v.mines
 
 -- An abort is sent or given up.
 abbrev pub done_at : ℕ → MyAbort → MyAbort
-done_at n a = if a.number == n then record a { done = true } else a
+done_at n a = if n == a.number then record a { done = true } else a
 
 abbrev pub book_with_done : BookValue → ℕ → BookValue
 book_with_done v n = record v { aborts = map (λ (a : MyAbort). done_at n a) v.aborts }
