@@ -1,6 +1,7 @@
 mod Dues
 mod Books
 mod BookSteps
+mod Loops
 mod Mines
 mod OwnRows
 mod Queues
