@@ -1,5 +1,5 @@
 -- The book of an initiator goes on by what is sent, what is over, what was called for in vain, and by events.
-use Rattle.std.proofs.Common.{ℕ, ◌≡◌, ◌+◌, Bool, true, false, List, [], ◌∷◌, ◌++◌, ◌∙◌, refl, sym, ap, Option, Some, None, length}
+use Rattle.std.proofs.Common.{ℕ, ◌≡◌, ◌+◌, Bool, true, false, List, [], ◌∷◌, ◌++◌, ◌∙◌, refl, sym, ap, arith, Option, Some, None, length}
 use Rattle.std.specs.Prelude.{if◌then◌else◌, not, ◌&&◌, ◌||◌, ◌==◌, nat_lt, map}
 use Rattle.std.specs.List.{list_any}
 use Rattle.bus_base.specs.declared.ProcId.{ProcId}
@@ -8,13 +8,13 @@ use Rattle.bus_base.specs.declared.Event.TheVariants as events
 use Rattle.scenario.specs.declared.value.CmdDef.{CmdDef}
 use Rattle.scenario.specs.declared.value.AbortDef.{AbortDef}
 use Rattle.scenario.specs.Value.{ScenarioValue}
-use Rattle.bus_story.specs.Items.{Sent, Item, process, abort, command_item, sense_item, has_item, is_done, is_open, open_limit_of}
+use Rattle.bus_story.specs.Items.{Sent, Item, process, abort, command_item, sense_item, has_item, count_item, is_done, is_open, open_limit_of}
 use Rattle.bus_story.specs.Story.{Story, Ending, by_status, by_abort, by_reset, story_with_over, story_with_end, story_with_ends, is_aborted, is_sense_stopped, story_after_event}
-use Rattle.bus_due.specs.Wants.{own_command, own_abort, own_aborts}
+use Rattle.bus_due.specs.Wants.{own_command}
 use Rattle.initiator.specs.declared.mine.Mine.{Mine}
 use Rattle.initiator.specs.declared.mine.MyAbort.{MyAbort}
-use Rattle.initiator.specs.Mines.{mine_of, mines_of, my_abort_of, with_sent, with_over, with_status, is_check, sent_at, over_at, tried_at, mine_with_end, is_mine_aborted, is_my_sense_stopped, mine_after_event}
-use Rattle.initiator.specs.Books.{BookValue, has_number, is_new, queue_with, queue_from, my_book, book_with_sent, book_with_over, book_with_try, done_at, book_with_done, queue_after_event, book_after_event}
+use Rattle.initiator.specs.Mines.{mine_of, mines_of, capped, my_abort, my_aborts, with_sent, with_over, with_one_try, with_status, is_check, sent_at, over_at, tried_at, mine_with_end, is_mine_aborted, is_my_sense_stopped, mine_after_event}
+use Rattle.initiator.specs.Books.{BookValue, has_number, is_new, queue_with, queue_from, my_book, book_with_sent, book_with_over, book_with_try, done_at, book_with_done, abort_tried_at, book_with_abort_try, queue_after_event, book_after_event}
 use Rattle.initiator.proofs.Mines.{mines_stay, all_sent, all_over, all_tried, mines_after_event}
 
 -- ---- numbers stay
@@ -42,7 +42,7 @@ over_number id m = go (id.command == m.number) id.sense
 tried_number : (n : ℕ) (m : Mine) → (tried_at n m).number ≡ m.number
 tried_number n m = go (n == m.number)
   where
-    go : (q : Bool) → (if q then record m { tries = m.tries + 1 } else m).number ≡ m.number
+    go : (q : Bool) → (if q then with_one_try m else m).number ≡ m.number
     go true = refl
     go false = refl
 
@@ -86,23 +86,20 @@ queue_more mines room (k ∷ checks) queue n = queue_more mines room checks (que
 
 -- ---- aborts
 
-aborts_stay : (b d : Sent) (dev k : ℕ) (aborts : List AbortDef) → ((n : ℕ) → is_done d (abort n) ≡ is_done b (abort n)) → map my_abort_of (own_aborts d dev k aborts) ≡ map my_abort_of (own_aborts b dev k aborts)
+pub aborts_go_on : (b d : Sent) (f : MyAbort → MyAbort) (dev k : ℕ) (aborts : List AbortDef) → ((n : ℕ) (a : AbortDef) → my_abort d n a ≡ f (my_abort b n a)) → my_aborts d dev k aborts ≡ map f (my_aborts b dev k aborts)
+aborts_go_on b d f dev k [] h = refl
+aborts_go_on b d f dev k (a ∷ aborts) h = go (aborts_go_on b d f dev (k + 1) aborts h) (a.host == dev)
+  where
+    go : my_aborts d dev (k + 1) aborts ≡ map f (my_aborts b dev (k + 1) aborts) → (q : Bool) → (if q then my_abort d k a ∷ my_aborts d dev (k + 1) aborts else my_aborts d dev (k + 1) aborts) ≡ map f (if q then my_abort b k a ∷ my_aborts b dev (k + 1) aborts else my_aborts b dev (k + 1) aborts)
+    go r true = λ i. h k a i ∷ r i
+    go r false = r
+
+aborts_stay : (b d : Sent) (dev k : ℕ) (aborts : List AbortDef) → ((n : ℕ) (a : AbortDef) → my_abort d n a ≡ my_abort b n a) → my_aborts d dev k aborts ≡ my_aborts b dev k aborts
 aborts_stay b d dev k [] h = refl
 aborts_stay b d dev k (a ∷ aborts) h = go (aborts_stay b d dev (k + 1) aborts h) (a.host == dev)
   where
-    go : map my_abort_of (own_aborts d dev (k + 1) aborts) ≡ map my_abort_of (own_aborts b dev (k + 1) aborts) → (q : Bool) → map my_abort_of (if q then own_abort d k a ∷ own_aborts d dev (k + 1) aborts else own_aborts d dev (k + 1) aborts) ≡ map my_abort_of (if q then own_abort b k a ∷ own_aborts b dev (k + 1) aborts else own_aborts b dev (k + 1) aborts)
-    go r true = λ i. record { number = k; at = a.at; done = h k i } ∷ r i
-    go r false = r
-
-aborts_done : (b d : Sent) (n dev k : ℕ) (aborts : List AbortDef) → ((m : ℕ) → is_done d (abort m) ≡ (n == m || is_done b (abort m))) → map my_abort_of (own_aborts d dev k aborts) ≡ map (λ (a : MyAbort). done_at n a) (map my_abort_of (own_aborts b dev k aborts))
-aborts_done b d n dev k [] h = refl
-aborts_done b d n dev k (a ∷ aborts) h = go (aborts_done b d n dev (k + 1) aborts h) (a.host == dev)
-  where
-    one : (q : Bool) → (let m : MyAbort = record { number = k; at = a.at; done = q || is_done b (abort k) } in m) ≡ (if q then record { number = k; at = a.at; done = true } else record { number = k; at = a.at; done = is_done b (abort k) })
-    one true = refl
-    one false = refl
-    go : map my_abort_of (own_aborts d dev (k + 1) aborts) ≡ map (λ (a : MyAbort). done_at n a) (map my_abort_of (own_aborts b dev (k + 1) aborts)) → (q : Bool) → map my_abort_of (if q then own_abort d k a ∷ own_aborts d dev (k + 1) aborts else own_aborts d dev (k + 1) aborts) ≡ map (λ (a : MyAbort). done_at n a) (map my_abort_of (if q then own_abort b k a ∷ own_aborts b dev (k + 1) aborts else own_aborts b dev (k + 1) aborts))
-    go r true = λ i. ((λ j. record { number = k; at = a.at; done = h k j }) ∙ one (n == k)) i ∷ r i
+    go : my_aborts d dev (k + 1) aborts ≡ my_aborts b dev (k + 1) aborts → (q : Bool) → (if q then my_abort d k a ∷ my_aborts d dev (k + 1) aborts else my_aborts d dev (k + 1) aborts) ≡ (if q then my_abort b k a ∷ my_aborts b dev (k + 1) aborts else my_aborts b dev (k + 1) aborts)
+    go r true = λ i. h k a i ∷ r i
     go r false = r
 
 -- ---- what every command that two tests name leaves
@@ -122,11 +119,11 @@ step_checks drops stops e n c b = go (is_open b.sent n && drops c) (stops c && l
     go false true = refl
     go false false = refl
 
-step_aborts : (drops stops : CmdDef → Bool) (e : Ending) (n : ℕ) (c : CmdDef) (b : Story) (m : ℕ) → is_done (step drops stops e n c b).sent (abort m) ≡ is_done b.sent (abort m)
+step_aborts : (drops stops : CmdDef → Bool) (e : Ending) (n : ℕ) (c : CmdDef) (b : Story) (m : ℕ) (a : AbortDef) → my_abort (step drops stops e n c b).sent m a ≡ my_abort b.sent m a
 unfolding step
-step_aborts drops stops e n c b m = go (is_open b.sent n && drops c) (stops c && list_any (λ k. k == n) b.sent.checks)
+step_aborts drops stops e n c b m a = go (is_open b.sent n && drops c) (stops c && list_any (λ k. k == n) b.sent.checks)
   where
-    go : (p q : Bool) → is_done (if p then story_with_end b (record { command = n; sense = false }) e else if q then story_with_over b (sense_item n) else b).sent (abort m) ≡ is_done b.sent (abort m)
+    go : (p q : Bool) → my_abort (if p then story_with_end b (record { command = n; sense = false }) e else if q then story_with_over b (sense_item n) else b).sent m a ≡ my_abort b.sent m a
     go true q = refl
     go false true = refl
     go false false = refl
@@ -136,15 +133,15 @@ unfolding step
 ends_checks drops stops e n [] b = refl
 ends_checks drops stops e n (c ∷ commands) b = ends_checks drops stops e (n + 1) commands (step drops stops e n c b) ∙ step_checks drops stops e n c b
 
-ends_aborts : (drops stops : CmdDef → Bool) (e : Ending) (n : ℕ) (commands : List CmdDef) (b : Story) (m : ℕ) → is_done (story_with_ends drops stops e n commands b).sent (abort m) ≡ is_done b.sent (abort m)
+ends_aborts : (drops stops : CmdDef → Bool) (e : Ending) (n : ℕ) (commands : List CmdDef) (b : Story) (m : ℕ) (a : AbortDef) → my_abort (story_with_ends drops stops e n commands b).sent m a ≡ my_abort b.sent m a
 unfolding step
-ends_aborts drops stops e n [] b m = refl
-ends_aborts drops stops e n (c ∷ commands) b m = ends_aborts drops stops e (n + 1) commands (step drops stops e n c b) m ∙ step_aborts drops stops e n c b m
+ends_aborts drops stops e n [] b m a = refl
+ends_aborts drops stops e n (c ∷ commands) b m a = ends_aborts drops stops e (n + 1) commands (step drops stops e n c b) m a ∙ step_aborts drops stops e n c b m a
 
 -- ---- the book
 
 -- What changes marks alone.
-marks_go_on : (s : ScenarioValue) (b d : Sent) (dev : ℕ) (f : Mine → Mine) → mines_of d dev s.commands ≡ map f (mines_of b dev s.commands) → ((m : Mine) → (f m).number ≡ m.number) → ((n : ℕ) → is_done d (abort n) ≡ is_done b (abort n)) → d.checks ≡ b.checks → my_book s d dev ≡ record (my_book s b dev) { mines = map f (mines_of b dev s.commands) }
+marks_go_on : (s : ScenarioValue) (b d : Sent) (dev : ℕ) (f : Mine → Mine) → mines_of d dev s.commands ≡ map f (mines_of b dev s.commands) → ((m : Mine) → (f m).number ≡ m.number) → ((n : ℕ) (a : AbortDef) → my_abort d n a ≡ my_abort b n a) → d.checks ≡ b.checks → my_book s d dev ≡ record (my_book s b dev) { mines = map f (mines_of b dev s.commands) }
 marks_go_on s b d dev f e h a c =
     let room : ℕ = length s.commands + 1 in
     (λ i. record {
@@ -156,7 +153,7 @@ marks_go_on s b d dev f e h a c =
     })
     ∙ (λ i. record {
       mines = map f (mines_of b dev s.commands);
-      aborts = map my_abort_of (own_aborts b dev 1 s.aborts);
+      aborts = my_aborts b dev 1 s.aborts;
       queue = queue_same (mines_of b dev s.commands) (map f (mines_of b dev s.commands)) room (λ n. same_numbers f h (mines_of b dev s.commands) n) b.checks [] i;
       room = room;
       most = open_limit_of s.hosts dev;
@@ -172,40 +169,51 @@ over_or true false r = refl
 over_or false true r = refl
 over_or false false r = refl
 
-abort_step : (s : ScenarioValue) (b d : Sent) (dev n : ℕ) → ((m : ℕ) → is_done d (abort m) ≡ (n == m || is_done b (abort m))) → ((m : ℕ) (c : CmdDef) → mine_of d.checks (own_command d m c) ≡ mine_of b.checks (own_command b m c)) → d.checks ≡ b.checks → my_book s d dev ≡ book_with_done (my_book s b dev) n
-abort_step s b d dev n a m c =
+abort_step : (s : ScenarioValue) (b d : Sent) (dev : ℕ) (f : MyAbort → MyAbort) → ((m : ℕ) (a : AbortDef) → my_abort d m a ≡ f (my_abort b m a)) → ((m : ℕ) (c : CmdDef) → mine_of d.checks (own_command d m c) ≡ mine_of b.checks (own_command b m c)) → d.checks ≡ b.checks → my_book s d dev ≡ record (my_book s b dev) { aborts = map f (my_aborts b dev 1 s.aborts) }
+abort_step s b d dev f a m c =
     let room : ℕ = length s.commands + 1 in
     let marks : mines_of d dev s.commands ≡ mines_of b dev s.commands = mines_stay b d dev 1 s.commands m in
     λ i. record {
       mines = marks i;
-      aborts = aborts_done b d n dev 1 s.aborts a i;
+      aborts = aborts_go_on b d f dev 1 s.aborts a i;
       queue = queue_from (marks i) room [] (c i);
       room = room;
       most = open_limit_of s.hosts dev;
     }
 
+done_one : (b : Sent) (n m : ℕ) (a : AbortDef) (q : Bool) → record (my_abort b m a) { done = q || is_done b (abort m) } ≡ (if q then record (my_abort b m a) { done = true } else my_abort b m a)
+done_one b n m a true = refl
+done_one b n m a false = refl
+
+capped_more : (n : ℕ) → capped (n + 1) ≡ capped (capped n + 1)
+capped_more n = omega arith
+
+tried_one : (b : Sent) (m : ℕ) (a : AbortDef) (q : Bool) → record (my_abort b m a) { tries = capped (if q then count_item b.tries (abort m) + 1 else count_item b.tries (abort m)) } ≡ (if q then record (my_abort b m a) { tries = capped ((my_abort b m a).tries + 1) } else my_abort b m a)
+tried_one b m a true = λ i. record (my_abort b m a) { tries = capped_more (count_item b.tries (abort m)) i }
+tried_one b m a false = refl
+
 pub book_sent : (s : ScenarioValue) (b : Sent) (dev : ℕ) (id : ProcId) → my_book s (record b { sent = process id ∷ b.sent }) dev ≡ book_with_sent (my_book s b dev) id
-book_sent s b dev id = marks_go_on s b (record b { sent = process id ∷ b.sent }) dev (λ m. sent_at id m) (all_sent b id dev s.commands) (λ m. sent_number id m) (λ n. refl) refl
+book_sent s b dev id = marks_go_on s b (record b { sent = process id ∷ b.sent }) dev (λ m. sent_at id m) (all_sent b id dev s.commands) (λ m. sent_number id m) (λ n a. refl) refl
 
 pub book_over : (s : ScenarioValue) (b : Sent) (dev : ℕ) (id : ProcId) → my_book s (record b { over = process id ∷ b.over }) dev ≡ book_with_over (my_book s b dev) id
-book_over s b dev id = marks_go_on s b (record b { over = process id ∷ b.over }) dev (λ m. over_at id m) (all_over b id dev s.commands) (λ m. over_number id m) (λ n. refl) refl
+book_over s b dev id = marks_go_on s b (record b { over = process id ∷ b.over }) dev (λ m. over_at id m) (all_over b id dev s.commands) (λ m. over_number id m) (λ n a. refl) refl
 
 pub book_try : (s : ScenarioValue) (b : Sent) (dev n : ℕ) → my_book s (record b { tries = command_item n ∷ b.tries }) dev ≡ book_with_try (my_book s b dev) n
-book_try s b dev n = marks_go_on s b (record b { tries = command_item n ∷ b.tries }) dev (λ m. tried_at n m) (all_tried b n dev s.commands) (λ m. tried_number n m) (λ n. refl) refl
+book_try s b dev n = marks_go_on s b (record b { tries = command_item n ∷ b.tries }) dev (λ m. tried_at n m) (all_tried b n dev s.commands) (λ m. tried_number n m) (λ n a. refl) refl
 
 pub book_after : (s : ScenarioValue) (b : Story) (e : Event) (dev : ℕ) → my_book s (story_after_event s b e).sent dev ≡ book_after_event (my_book s b.sent dev) e
-book_after s b (events.Accept id) dev = marks_go_on s b.sent b.sent dev (λ m. m) (mines_after_event s b (events.Accept id) dev) (λ m. refl) (λ n. refl) refl
-book_after s b (events.Refuse id) dev = marks_go_on s b.sent b.sent dev (λ m. m) (mines_after_event s b (events.Refuse id) dev) (λ m. refl) (λ n. refl) refl
-book_after s b (events.Run id) dev = marks_go_on s b.sent b.sent dev (λ m. m) (mines_after_event s b (events.Run id) dev) (λ m. refl) (λ n. refl) refl
-book_after s b (events.Fail id code) dev = marks_go_on s b.sent b.sent dev (λ m. m) (mines_after_event s b (events.Fail id code) dev) (λ m. refl) (λ n. refl) refl
-book_after s b (events.Lost id) dev = marks_go_on s b.sent (story_after_event s b (events.Lost id)).sent dev (λ m. mine_after_event (events.Lost id) m) (mines_after_event s b (events.Lost id) dev) (λ m. event_number (events.Lost id) m) (λ n. refl) refl
+book_after s b (events.Accept id) dev = marks_go_on s b.sent b.sent dev (λ m. m) (mines_after_event s b (events.Accept id) dev) (λ m. refl) (λ n a. refl) refl
+book_after s b (events.Refuse id) dev = marks_go_on s b.sent b.sent dev (λ m. m) (mines_after_event s b (events.Refuse id) dev) (λ m. refl) (λ n a. refl) refl
+book_after s b (events.Run id) dev = marks_go_on s b.sent b.sent dev (λ m. m) (mines_after_event s b (events.Run id) dev) (λ m. refl) (λ n a. refl) refl
+book_after s b (events.Fail id code) dev = marks_go_on s b.sent b.sent dev (λ m. m) (mines_after_event s b (events.Fail id code) dev) (λ m. refl) (λ n a. refl) refl
+book_after s b (events.Lost id) dev = marks_go_on s b.sent (story_after_event s b (events.Lost id)).sent dev (λ m. mine_after_event (events.Lost id) m) (mines_after_event s b (events.Lost id) dev) (λ m. event_number (events.Lost id) m) (λ n a. refl) refl
 book_after s b (events.Aborted host target unit what) dev =
     marks_go_on s b.sent (story_after_event s b (events.Aborted host target unit what)).sent dev (λ m. mine_after_event (events.Aborted host target unit what) m) (mines_after_event s b (events.Aborted host target unit what) dev) (λ m. event_number (events.Aborted host target unit what) m)
-    (λ n. ends_aborts (is_aborted host target unit what) (is_sense_stopped host target unit what) by_abort 1 s.commands b n)
+    (λ n a. ends_aborts (is_aborted host target unit what) (is_sense_stopped host target unit what) by_abort 1 s.commands b n a)
     (ends_checks (is_aborted host target unit what) (is_sense_stopped host target unit what) by_abort 1 s.commands b)
 book_after s b (events.Reset d) dev =
     marks_go_on s b.sent (story_after_event s b (events.Reset d)).sent dev (λ m. mine_after_event (events.Reset d) m) (mines_after_event s b (events.Reset d) dev) (λ m. event_number (events.Reset d) m)
-    (λ n. ends_aborts (λ c. true) (λ c. true) by_reset 1 s.commands b n)
+    (λ n a. ends_aborts (λ c. true) (λ c. true) by_reset 1 s.commands b n a)
     (ends_checks (λ c. true) (λ c. true) by_reset 1 s.commands b)
 book_after s b (events.End id status) dev = go (is_check id status) refl
   where
@@ -221,7 +229,7 @@ book_after s b (events.End id status) dev = go (is_check id status) refl
         (λ i. my_book s (if e i then record (story_with_end b id (by_status status)) { sent = record (story_with_end b id (by_status status)).sent { checks = b.sent.checks ++ id.command ∷ [] } } else story_with_end b id (by_status status)).sent dev)
         ∙ (λ i. record {
           mines = marks i;
-          aborts = aborts_stay b.sent d dev 1 s.aborts (λ n. refl) i;
+          aborts = aborts_stay b.sent d dev 1 s.aborts (λ n a. refl) i;
           queue = (ap (λ (m : List Mine). queue_from m room [] (b.sent.checks ++ id.command ∷ [])) marks
             ∙ queue_same mines (map f mines) room (λ n. same_numbers f (λ m. event_number (events.End id status) m) mines n) (b.sent.checks ++ id.command ∷ []) []
             ∙ queue_more mines room b.sent.checks [] id.command) i;
@@ -230,7 +238,7 @@ book_after s b (events.End id status) dev = go (is_check id status) refl
         })
         ∙ (λ i. record {
           mines = map f mines;
-          aborts = map my_abort_of (own_aborts b.sent dev 1 s.aborts);
+          aborts = my_aborts b.sent dev 1 s.aborts;
           queue = if sym e i then queue_with mines room (queue_from mines room [] b.sent.checks) id.command else queue_from mines room [] b.sent.checks;
           room = room;
           most = open_limit_of s.hosts dev;
@@ -244,10 +252,10 @@ book_after s b (events.End id status) dev = go (is_check id status) refl
           (λ i. mines_of (if sym e i then record (story_with_end b id (by_status status)) { sent = record (story_with_end b id (by_status status)).sent { checks = b.sent.checks ++ id.command ∷ [] } } else story_with_end b id (by_status status)).sent dev s.commands)
           ∙ mines_after_event s b (events.End id status) dev in
         (λ i. my_book s (if e i then record (story_with_end b id (by_status status)) { sent = record (story_with_end b id (by_status status)).sent { checks = b.sent.checks ++ id.command ∷ [] } } else story_with_end b id (by_status status)).sent dev)
-        ∙ marks_go_on s b.sent d dev f marks (λ m. event_number (events.End id status) m) (λ n. refl) refl
+        ∙ marks_go_on s b.sent d dev f marks (λ m. event_number (events.End id status) m) (λ n a. refl) refl
         ∙ (λ i. record {
           mines = map f mines;
-          aborts = map my_abort_of (own_aborts b.sent dev 1 s.aborts);
+          aborts = my_aborts b.sent dev 1 s.aborts;
           queue = if sym e i then queue_with mines room (queue_from mines room [] b.sent.checks) id.command else queue_from mines room [] b.sent.checks;
           room = room;
           most = open_limit_of s.hosts dev;
@@ -256,7 +264,35 @@ book_after s b (events.End id status) dev = go (is_check id status) refl
 -- ---- an abort is sent, or given up
 
 pub book_abort_sent : (s : ScenarioValue) (b : Sent) (dev n : ℕ) → my_book s (record b { sent = abort n ∷ b.sent }) dev ≡ book_with_done (my_book s b dev) n
-book_abort_sent s b dev n = abort_step s b (record b { sent = abort n ∷ b.sent }) dev n (λ m. or_or (n == m) (has_item b.sent (abort m)) (has_item b.over (abort m))) (λ m c. refl) refl
+book_abort_sent s b dev n =
+    abort_step s b (record b { sent = abort n ∷ b.sent }) dev (λ a. done_at n a)
+    (λ m a. (λ i. record (my_abort b m a) { done = or_or (n == m) (has_item b.sent (abort m)) (has_item b.over (abort m)) i }) ∙ done_one b n m a (n == m)) (λ m c. refl) refl
 
 pub book_abort_over : (s : ScenarioValue) (b : Sent) (dev n : ℕ) → my_book s (record b { over = abort n ∷ b.over }) dev ≡ book_with_done (my_book s b dev) n
-book_abort_over s b dev n = abort_step s b (record b { over = abort n ∷ b.over }) dev n (λ m. over_or (n == m) (has_item b.sent (abort m)) (has_item b.over (abort m))) (λ m c. refl) refl
+book_abort_over s b dev n =
+    abort_step s b (record b { over = abort n ∷ b.over }) dev (λ a. done_at n a)
+    (λ m a. (λ i. record (my_abort b m a) { done = over_or (n == m) (has_item b.sent (abort m)) (has_item b.over (abort m)) i }) ∙ done_one b n m a (n == m)) (λ m c. refl) refl
+
+pub book_abort_try : (s : ScenarioValue) (b : Sent) (dev n : ℕ) → my_book s (record b { tries = abort n ∷ b.tries }) dev ≡ book_with_abort_try (my_book s b dev) n
+book_abort_try s b dev n =
+    abort_step s b (record b { tries = abort n ∷ b.tries }) dev (λ a. abort_tried_at n a) (λ m a. tried_one b m a (n == m)) (λ m c. refl) refl
+
+-- An automatic REQUEST SENSE is called for without limit, and its callings are not counted.
+no_sense : (b : Sent) (n m : ℕ) (c : CmdDef) → mine_of b.checks (own_command (record b { tries = sense_item n ∷ b.tries }) m c) ≡ mine_of b.checks (own_command b m c)
+no_sense b n m c = go (n == m)
+  where
+    go : (q : Bool) → record (mine_of b.checks (own_command b m c)) { tries = capped (if q && false then count_item b.tries (command_item m) + 1 else count_item b.tries (command_item m)) } ≡ mine_of b.checks (own_command b m c)
+    go true = refl
+    go false = refl
+
+pub book_sense_try : (s : ScenarioValue) (b : Sent) (dev n : ℕ) → my_book s (record b { tries = sense_item n ∷ b.tries }) dev ≡ my_book s b dev
+book_sense_try s b dev n =
+    let d : Sent = record b { tries = sense_item n ∷ b.tries } in
+    let marks : mines_of d dev s.commands ≡ mines_of b dev s.commands = mines_stay b d dev 1 s.commands (λ m c. no_sense b n m c) in
+    λ i. record {
+      mines = marks i;
+      aborts = aborts_stay b d dev 1 s.aborts (λ m a. refl) i;
+      queue = queue_from (marks i) (length s.commands + 1) [] b.checks;
+      room = length s.commands + 1;
+      most = open_limit_of s.hosts dev;
+    }

@@ -4,16 +4,17 @@ use Rattle.std.specs.Prelude.{if◌then◌else◌, not, ◌&&◌, ◌||◌, ◌=
 use Rattle.std.proofs.lemmas.Bool.{ne_eqb, eq-eqb}
 use Rattle.std.specs.List.{list_any}
 use Rattle.scenario.specs.declared.value.CmdDef.{CmdDef}
+use Rattle.scenario.specs.declared.value.AbortDef.{AbortDef}
 use Rattle.scenario.specs.Value.{ScenarioValue}
 use Rattle.disk_array.specs.Processes.{command_at}
 use Rattle.bus_story.specs.Items.{Item, abort, command_item, sense_item, Sent, is_done, is_of_host, is_clash, sense_from, or_else, open_limit_of}
 use Rattle.bus_reactions.specs.Reactions.{sooner_time, time_if}
-use Rattle.bus_dialogue.specs.Wants.{OwnCommand, OwnAbort, open_in, may_follow, abort_by, command_by, item_by, abort_since, command_since, item_since}
-use Rattle.bus_due.specs.Wants.{own_command, own_commands, own_aborts, book_of, item_want_time}
+use Rattle.bus_dialogue.specs.Wants.{OwnCommand, open_in, may_follow, abort_by, command_by, item_by, abort_since, command_since, item_since}
+use Rattle.bus_due.specs.Wants.{own_command, own_commands, own_abort, own_aborts, book_of, item_want_time}
 use Rattle.initiator.specs.declared.mine.Mine.{Mine}
 use Rattle.initiator.specs.declared.mine.MyAbort.{MyAbort}
 use Rattle.initiator.specs.declared.mine.OwnItem.{OwnItem}
-use Rattle.initiator.specs.Mines.{mine_of, mines_of, my_abort_of, open_mines, is_open_mine, is_clash_of, may_follow_mines, is_done_mine, mines_since, mine_by, my_aborts_since, my_abort_by}
+use Rattle.initiator.specs.Mines.{mine_of, mines_of, my_abort, my_aborts, open_mines, is_open_mine, is_clash_of, may_follow_mines, is_done_mine, mines_since, mine_by, my_aborts_since, my_abort_by}
 use Rattle.initiator.proofs.Queues.{queue_is}
 use Rattle.initiator.specs.Books.{BookValue, is_sense_due, my_sense, my_book, my_since, my_item, abort_if, sense_if, command_if, item_of, item_if}
 
@@ -113,20 +114,27 @@ commands_by checks most time all (o ∷ own) = go (commands_by checks most time 
 
 -- ---- aborts
 
-aborts_since : (aborts : List OwnAbort) → my_aborts_since (map my_abort_of aborts) ≡ abort_since aborts
-aborts_since [] = refl
-aborts_since (a ∷ aborts) = λ i. sooner_time (time_if (not a.done) a.at) (aborts_since aborts i)
+aborts_since : (b : Sent) (dev k : ℕ) (aborts : List AbortDef) → my_aborts_since (my_aborts b dev k aborts) ≡ abort_since (own_aborts b dev k aborts)
+aborts_since b dev k [] = refl
+aborts_since b dev k (a ∷ aborts) = go (aborts_since b dev (k + 1) aborts) (a.host == dev)
+  where
+    go : my_aborts_since (my_aborts b dev (k + 1) aborts) ≡ abort_since (own_aborts b dev (k + 1) aborts) → (q : Bool) → my_aborts_since (if q then my_abort b k a ∷ my_aborts b dev (k + 1) aborts else my_aborts b dev (k + 1) aborts) ≡ abort_since (if q then own_abort b k a ∷ own_aborts b dev (k + 1) aborts else own_aborts b dev (k + 1) aborts)
+    go r true = λ i. sooner_time (time_if (not (is_done b (abort k))) a.at) (r i)
+    go r false = r
 
 abbrev abort_item_if : Option ℕ → Option Item
 abort_item_if None = None
 abort_item_if (Some n) = Some (abort n)
 
-aborts_by : (time : ℕ) (aborts : List OwnAbort) → abort_item_if (my_abort_by time (map my_abort_of aborts)) ≡ abort_by time aborts
-aborts_by time [] = refl
-aborts_by time (a ∷ aborts) = go (aborts_by time aborts) (nat_le a.at time && not a.done)
+aborts_by : (b : Sent) (dev k time : ℕ) (aborts : List AbortDef) → abort_item_if (my_abort_by time (my_aborts b dev k aborts)) ≡ abort_by time (own_aborts b dev k aborts)
+aborts_by b dev k time [] = refl
+aborts_by b dev k time (a ∷ aborts) = go (aborts_by b dev (k + 1) time aborts) (a.host == dev)
   where
-    go : abort_item_if (my_abort_by time (map my_abort_of aborts)) ≡ abort_by time aborts → (q : Bool) → abort_item_if (if q then Some a.number else my_abort_by time (map my_abort_of aborts)) ≡ (if q then Some (abort a.number) else abort_by time aborts)
-    go r true = refl
+    some : abort_item_if (my_abort_by time (my_aborts b dev (k + 1) aborts)) ≡ abort_by time (own_aborts b dev (k + 1) aborts) → (q : Bool) → abort_item_if (if q then Some k else my_abort_by time (my_aborts b dev (k + 1) aborts)) ≡ (if q then Some (abort k) else abort_by time (own_aborts b dev (k + 1) aborts))
+    some r true = refl
+    some r false = r
+    go : abort_item_if (my_abort_by time (my_aborts b dev (k + 1) aborts)) ≡ abort_by time (own_aborts b dev (k + 1) aborts) → (q : Bool) → abort_item_if (my_abort_by time (if q then my_abort b k a ∷ my_aborts b dev (k + 1) aborts else my_aborts b dev (k + 1) aborts)) ≡ abort_by time (if q then own_abort b k a ∷ own_aborts b dev (k + 1) aborts else own_aborts b dev (k + 1) aborts)
+    go r true = some r (nat_le a.at time && not (is_done b (abort k)))
     go r false = r
 
 -- ---- the book
@@ -138,7 +146,7 @@ some_sense (Some n) = refl
 pub since_is : (s : ScenarioValue) (b : Sent) (dev : ℕ) → my_since (my_book s b dev) ≡ item_want_time s b dev
 since_is s b dev =
     let own : List OwnCommand = own_commands b dev 1 s.commands in
-    λ i. sooner_time (aborts_since (own_aborts b dev 1 s.aborts) i)
+    λ i. sooner_time (aborts_since b dev 1 s.aborts i)
         (sooner_time (time_if ((ap (λ (x : Option ℕ). is_some x) (queue_is b dev s.commands) ∙ sym (some_sense (my_sense (mines_of b dev s.commands) b.checks)) ∙ ap (λ (x : Option Item). is_some x) (sym (senses_are s b dev b.checks))) i) 0)
             (commands_since b.checks (open_limit_of s.hosts dev) own own i))
 
@@ -161,5 +169,5 @@ item_is s b dev time =
     let command : Option ℕ = mine_by v.most time (open_mines v.mines) v.mines in
     let sense : Option ℕ = my_sense v.mines v.queue in
     abort_first (my_abort_by time v.aborts) (sense_if sense (command_if command))
-    ∙ (λ i. or_else (aborts_by time (own_aborts b dev 1 s.aborts) i) (sense_first sense (command_if command) i))
+    ∙ (λ i. or_else (aborts_by b dev 1 time s.aborts i) (sense_first sense (command_if command) i))
     ∙ (λ i. or_else (abort_by time (own_aborts b dev 1 s.aborts)) (or_else ((ap (λ (n : Option ℕ). sense_item_if n) (queue_is b dev s.commands) ∙ sym (senses_are s b dev b.checks)) i) ((command_last command ∙ commands_by b.checks (open_limit_of s.hosts dev) time own own) i)))

@@ -16,7 +16,7 @@ use Rattle.bus_story.specs.Items.{Sent, Item, process, abort, command_item, sens
 use Rattle.bus_story.specs.Story.{Story, Ending, by_status, by_abort, by_reset, story_with_over, story_with_end, story_with_ends, with_check, is_aborted, is_sense_stopped, story_after_event}
 use Rattle.bus_due.specs.Wants.{own_command, own_commands}
 use Rattle.initiator.specs.declared.mine.Mine.{Mine}
-use Rattle.initiator.specs.Mines.{mine_of, mines_of, with_sent, with_over, with_one_try, with_checked, with_status, is_check, sent_at, over_at, tried_at, mine_with_end, is_mine_aborted, is_my_sense_stopped, mine_after_event}
+use Rattle.initiator.specs.Mines.{capped, mine_of, mines_of, with_sent, with_over, with_one_try, with_checked, with_status, is_check, sent_at, over_at, tried_at, mine_with_end, is_mine_aborted, is_my_sense_stopped, mine_after_event}
 
 abbrev mine : Sent → ℕ → CmdDef → Mine
 mine b m c = mine_of b.checks (own_command b m c)
@@ -77,11 +77,14 @@ all_over b id dev commands =
     mines_go_on b (record b { over = process id ∷ b.over }) (λ (m : Mine). over_at id m) dev 1 commands (λ m c. one_over b id.command id.sense m c)
 
 -- An unanswered calling counts for a command alone; an abort concerns none of them.
+capped_more : (n : ℕ) → capped (n + 1) ≡ capped (capped n + 1)
+capped_more n = omega arith
+
 one_try : (b : Sent) (n m : ℕ) (c : CmdDef) → mine (record b { tries = command_item n ∷ b.tries }) m c ≡ tried_at n (mine b m c)
 one_try b n m c = go (n == m)
   where
-    go : (q : Bool) → record (mine b m c) { tries = if q && true then count_item b.tries (command_item m) + 1 else count_item b.tries (command_item m) } ≡ (if q then with_one_try (mine b m c) else mine b m c)
-    go true = refl
+    go : (q : Bool) → record (mine b m c) { tries = capped (if q && true then count_item b.tries (command_item m) + 1 else count_item b.tries (command_item m)) } ≡ (if q then with_one_try (mine b m c) else mine b m c)
+    go true = λ i. record (mine b m c) { tries = capped_more (count_item b.tries (command_item m)) i }
     go false = refl
 
 pub all_tried : (b : Sent) (n dev : ℕ) (commands : List CmdDef) → mines_of (record b { tries = command_item n ∷ b.tries }) dev commands ≡ map (λ (m : Mine). tried_at n m) (mines_of b dev commands)

@@ -7,12 +7,11 @@ use Rattle.bus_base.specs.declared.Event.TheVariants as events
 use Rattle.scenario.specs.Value.{ScenarioValue}
 use Rattle.bus_story.specs.Items.{Item, abort, command_item, sense_item, Sent, open_limit_of}
 use Rattle.bus_reactions.specs.Reactions.{sooner_time, time_if}
-use Rattle.bus_due.specs.Wants.{own_aborts}
 use Rattle.initiator.specs.declared.mine.Mine.{Mine}
 use Rattle.initiator.specs.declared.mine.MyAbort.{MyAbort}
 use Rattle.initiator.specs.declared.mine.OwnItem.{OwnItem}
 use Rattle.initiator.specs.declared.mine.OwnItem.TheVariants as own
-use Rattle.initiator.specs.Mines.{mines_of, my_abort_of, is_check, sent_at, over_at, tried_at, mine_after_event, open_mines, mines_since, mine_by, my_aborts_since, my_abort_by}
+use Rattle.initiator.specs.Mines.{mines_of, my_aborts, capped, is_check, sent_at, over_at, tried_at, mine_after_event, open_mines, mines_since, mine_by, my_aborts_since, my_abort_by}
 
 -- `queue` are its commands that ended with CHECK CONDITION, in the order of that, so many at most; `most` is how many it may
 -- have open.
@@ -52,7 +51,7 @@ queue_from mines room queue (n ∷ checks) = queue_from mines room (queue_with m
 abbrev pub my_book : ScenarioValue → Sent → ℕ → BookValue
 my_book s b dev = record {
   mines = mines_of b dev s.commands;
-  aborts = map my_abort_of (own_aborts b dev 1 s.aborts);
+  aborts = my_aborts b dev 1 s.aborts;
   queue = queue_from (mines_of b dev s.commands) (length s.commands + 1) [] b.checks;
   room = length s.commands + 1;
   most = open_limit_of s.hosts dev;
@@ -112,6 +111,13 @@ done_at n a = if n == a.number then record a { done = true } else a
 
 abbrev pub book_with_done : BookValue → ℕ → BookValue
 book_with_done v n = record v { aborts = map (λ (a : MyAbort). done_at n a) v.aborts }
+
+-- An abort was called for in vain.
+abbrev pub abort_tried_at : ℕ → MyAbort → MyAbort
+abort_tried_at n a = if n == a.number then record a { tries = capped (a.tries + 1) } else a
+
+abbrev pub book_with_abort_try : BookValue → ℕ → BookValue
+book_with_abort_try v n = record v { aborts = map (λ (a : MyAbort). abort_tried_at n a) v.aborts }
 
 -- An event is shown.
 abbrev pub queue_after_end : BookValue → ProcId → ℕ → List ℕ

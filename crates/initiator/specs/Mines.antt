@@ -1,5 +1,5 @@
 -- What an initiator keeps of its own commands, and what is done to it.
-use Rattle.std.specs.Prelude.{ℕ, ◌+◌, Bool, true, false, not, ◌&&◌, ◌||◌, ◌==◌, List, [], ◌∷◌, length, map, Option, Some, None, nat_le, nat_lt, if◌then◌else◌}
+use Rattle.std.specs.Prelude.{ℕ, min, ◌+◌, Bool, true, false, not, ◌&&◌, ◌||◌, ◌==◌, List, [], ◌∷◌, length, map, Option, Some, None, nat_le, nat_lt, if◌then◌else◌}
 use Rattle.std.specs.List.{list_any}
 use Rattle.bus_base.specs.declared.AbortKind.{AbortKind}
 use Rattle.bus_base.specs.declared.AbortKind.TheVariants as aborts
@@ -8,13 +8,18 @@ use Rattle.bus_base.specs.declared.Event.{Event}
 use Rattle.bus_base.specs.declared.Event.TheVariants as events
 use Rattle.cdb_codec.specs.declared.status.TheConstants.{CHECK_CONDITION}
 use Rattle.scenario.specs.declared.value.CmdDef.{CmdDef}
+use Rattle.scenario.specs.declared.value.AbortDef.{AbortDef}
 use Rattle.disk_array.specs.Steps.{has_tag}
-use Rattle.bus_story.specs.Items.{Item, abort, command_item, tag_number_if, is_tag_clash, Sent}
+use Rattle.bus_story.specs.Items.{abort, tag_number_if, is_tag_clash, Sent, is_done, count_item}
 use Rattle.bus_reactions.specs.Reactions.{sooner_time, time_if}
-use Rattle.bus_dialogue.specs.Wants.{OwnCommand, OwnAbort}
-use Rattle.bus_due.specs.Wants.{own_commands, own_aborts}
+use Rattle.bus_dialogue.specs.Wants.{OwnCommand}
+use Rattle.bus_due.specs.Wants.{own_commands}
 use Rattle.initiator.specs.declared.mine.Mine.{Mine}
 use Rattle.initiator.specs.declared.mine.MyAbort.{MyAbort}
+
+-- Unanswered callings are counted as far as 255; no limit is as large.
+abbrev pub capped : ℕ → ℕ
+capped n = min n 255
 
 -- `checks` are the commands that ended with CHECK CONDITION.
 abbrev pub mine_of : List ℕ → OwnCommand → Mine
@@ -30,11 +35,25 @@ mine_of checks o = record {
   checked = list_any (λ k. k == o.number) checks;
   sense_sent = o.sense_sent;
   sense_over = o.sense_over;
-  tries = o.tries;
+  tries = capped o.tries;
 }
 
-abbrev pub my_abort_of : OwnAbort → MyAbort
-my_abort_of a = record { number = a.number; at = a.at; done = a.done }
+abbrev pub my_abort : Sent → ℕ → AbortDef → MyAbort
+my_abort b n a = record {
+  number = n;
+  target = a.target;
+  unit = a.unit;
+  what = a.what;
+  at = a.at;
+  done = is_done b (abort n);
+  tries = capped (count_item b.tries (abort n));
+}
+
+-- Those of a device among these abort lines, of which the first has this number.
+abbrev pub my_aborts : Sent → ℕ → ℕ → List AbortDef → List MyAbort
+my_aborts b dev n [] = []
+my_aborts b dev n (a ∷ aborts) =
+    if a.host == dev then my_abort b n a ∷ my_aborts b dev (n + 1) aborts else my_aborts b dev (n + 1) aborts
 
 -- Those of a device, by what the initiators have sent.
 abbrev pub mines_of : Sent → ℕ → List CmdDef → List Mine
@@ -96,7 +115,7 @@ abbrev pub with_checked : Mine → Mine
 with_checked m = record m { checked = true }
 
 abbrev pub with_one_try : Mine → Mine
-with_one_try m = record m { tries = m.tries + 1 }
+with_one_try m = record m { tries = capped (m.tries + 1) }
 
 -- A process of the one of this number is sent, is over, or was called for in vain.
 abbrev pub sent_at : ProcId → Mine → Mine

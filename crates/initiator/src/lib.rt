@@ -16,7 +16,7 @@ pub use choice::{abort_by, aborts_since, first_sense, has_number, mine_by, mines
 pub use due::{Knowledge, Sending, initiator_next};
 pub use itself::Itself;
 pub use laws::{dues_are_of_initiators, speeches_are_heard};
-pub use marks::{all_after_event, all_done, all_over, all_sent, is_check};
+pub use marks::{all_aborts_tried, all_after_event, all_done, all_over, all_sent, all_tried, is_check};
 pub use mine::{Mine, MyAbort, OwnItem};
 pub use openings::{Words, abort_opening, process_opening};
 pub use own_times::OwnTimes;

@@ -1,9 +1,9 @@
 // What is done to the commands and aborts of an initiator.
-ghost use Rattle.std.specs.Prelude.{◌≡◌, ◌<◌, map};
+ghost use Rattle.std.specs.Prelude.{◌≡◌, map};
 ghost use Rattle.disk_array.specs.Steps.{has_tag};
 ghost use Rattle.initiator.specs.Mines.{with_sent, with_over, with_one_try, with_checked, with_status, is_check, sent_at, over_at, tried_at, mine_with_end, is_at_unit_of, is_mine_aborted, is_my_sense_stopped, mine_after_end, mine_after_event};
 ghost use Rattle.bus_base.specs.declared.Event.TheVariants.{End};
-ghost use Rattle.initiator.specs.Books.{done_at};
+ghost use Rattle.initiator.specs.Books.{done_at, abort_tried_at};
 
 use crate::mine::{Mine, MyAbort};
 use bus_base::{AbortKind, Dev, Event, ProcId};
@@ -156,12 +156,11 @@ fn after_event(event: &Event, mine: Mine) -> Mine
 }
 
 fn tried_at(number: u16, mine: Mine) -> Mine
-    requires { mine.tries < 0xffffffffffffffff }
     ensures { result ≡ tried_at number mine }
 {
     if number == mine.number {
         Mine {
-            tries: mine.tries + 1,
+            tries: mine.tries.saturating_add(1),
             ..mine
         }
     } else {
@@ -179,6 +178,39 @@ fn done_at(number: u16, abort: MyAbort) -> MyAbort
         }
     } else {
         abort
+    }
+}
+
+fn abort_tried_at(number: u16, abort: MyAbort) -> MyAbort
+    ensures { result ≡ abort_tried_at number abort }
+{
+    if number == abort.number {
+        MyAbort {
+            tries: abort.tries.saturating_add(1),
+            ..abort
+        }
+    } else {
+        abort
+    }
+}
+
+/// A command was called for in vain.
+#[tactic(auto, using(std::proofs::lemmas::List::Edits::map_over_more))]
+pub fn all_tried(mines: &mut [Mine], number: u16)
+    ensures { mines.new ≡ map (λ m. tried_at number m) mines.old }
+{
+    for mine in mines.iter_mut() {
+        *mine = tried_at(number, *mine);
+    }
+}
+
+/// An abort was called for in vain.
+#[tactic(auto, using(std::proofs::lemmas::List::Edits::map_over_more))]
+pub fn all_aborts_tried(aborts: &mut [MyAbort], number: u16)
+    ensures { aborts.new ≡ map (λ a. abort_tried_at number a) aborts.old }
+{
+    for abort in aborts.iter_mut() {
+        *abort = abort_tried_at(number, *abort);
     }
 }
 

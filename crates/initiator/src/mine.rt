@@ -1,6 +1,6 @@
 // A command and an abort of an initiator's own.
 
-use bus_base::{Dev, Ns};
+use bus_base::{AbortKind, Dev, Ns};
 use scenario::Tag;
 
 /// A command of its own: how it is sent, and how far it has come.
@@ -28,8 +28,8 @@ pub struct Mine {
     pub sense_sent: bool,
     /// Whether that is over.
     pub sense_over: bool,
-    /// How many of its callings had no answer.
-    pub tries: u64,
+    /// How many of its callings had no answer, at most 255.
+    pub tries: u8,
 }
 
 /// An abort line of its own.
@@ -37,10 +37,18 @@ pub struct Mine {
 pub struct MyAbort {
     /// Its number among all abort lines, from 1.
     pub number: u16,
+    /// The target.
+    pub target: Dev,
+    /// The unit.
+    pub unit: u8,
+    /// What it aborts.
+    pub what: AbortKind,
     /// When it falls due, in ns.
     pub at: Ns,
     /// Whether it was sent or given up.
     pub done: bool,
+    /// How many of its callings had no answer, at most 255.
+    pub tries: u8,
 }
 
 /// What an initiator sends: a command or the automatic REQUEST SENSE after it, by the number of the command among all,
