@@ -1,6 +1,7 @@
 //! The initiator (ANSI X3.131-1994, 6 and 7).
 #![tactic(auto)]
 
+mod book;
 mod choice;
 mod due;
 mod itself;
@@ -12,6 +13,7 @@ mod own_times;
 mod resets;
 mod speech;
 
+pub use book::Book;
 pub use choice::{abort_by, aborts_since, first_sense, has_number, mine_by, mines_since};
 pub use due::{Knowledge, Sending, initiator_next};
 pub use itself::Itself;
