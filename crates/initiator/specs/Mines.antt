@@ -55,6 +55,10 @@ my_aborts b dev n [] = []
 my_aborts b dev n (a ∷ aborts) =
     if a.host == dev then my_abort b n a ∷ my_aborts b dev (n + 1) aborts else my_aborts b dev (n + 1) aborts
 
+-- Before any row.
+abbrev pub nothing_sent : Sent
+nothing_sent = record { sent = []; over = []; checks = []; tries = [] }
+
 -- Those of a device, by what the initiators have sent.
 abbrev pub mines_of : Sent → ℕ → List CmdDef → List Mine
 mines_of b dev commands = map (mine_of b.checks) (own_commands b dev 1 commands)

@@ -1,9 +1,10 @@
 //! The book of an initiator: its own commands and aborts, how far each has come, and what it sends next.
-ghost use Rattle.std.specs.Prelude.{◌≡◌, ◌<◌, ◌+◌, ◌^◌, [], length, IfOk};
-ghost use Rattle.bus_lines.specs.Timely.{IsBefore};
-ghost use Rattle.bus_story.specs.Story.{empty_story};
-ghost use Rattle.initiator.specs.Mines.{mines_of, my_aborts};
-ghost use Rattle.initiator.specs.Books.{my_book, my_since, my_item, abort_if, sense_if, command_if, queue_with, queue_after_event, book_with_sent, book_with_over, book_with_try, book_with_done, book_with_abort_try, book_after_event};
+ghost use Rattle.std.specs.Prelude.{◌≡◌, ◌<◌, ◌==◌, [], length, IfOk};
+ghost use Rattle.std.specs.List.{list_any};
+ghost use Rattle.bus_story.specs.Items.{open_limit_of};
+ghost use Rattle.bus_due.specs.Wants.{own_command};
+ghost use Rattle.initiator.specs.Mines.{nothing_sent, mine_of, mines_of, my_abort, my_aborts};
+ghost use Rattle.initiator.specs.Books.{my_book, my_since, my_item, queue_with, queue_after_event, book_with_sent, book_with_over, book_with_try, book_with_done, book_with_abort_try, book_after_event};
 
 use crate::choice::{abort_by, aborts_since, first_sense, has_number, mine_by, mines_since};
 use crate::marks::{
@@ -12,7 +13,7 @@ use crate::marks::{
 use crate::mine::{Mine, MyAbort, OwnItem};
 use crate::resets::sooner_time;
 use bus_base::{Dev, Event, NoMemory, Ns, ProcId};
-use scenario::{AbortDef, CmdDef, Scenario};
+use scenario::{AbortDef, CmdDef, HostDef, Scenario};
 use std::alloc::Global;
 use std::marker::Model;
 
@@ -44,6 +45,24 @@ impl Model for Book {
 }
 
 impl Book {
+    /// Before any row. It takes all its memory here. The lines of the scenario are fewer than 65,535 of each kind.
+    pub fn new(alloc: Global, scenario: &Scenario, dev: Dev) -> Result<Book, NoMemory>
+        requires commands { length scenario.now.commands < 0xffff }
+        requires aborts { length scenario.now.aborts < 0xffff }
+        ensures { IfOk result (λ made. made ≡ my_book scenario.now nothing_sent dev) }
+    {
+        let mines = own_mines(alloc, scenario.commands.as_slice(), dev)?;
+        let aborts = own_aborts(alloc, scenario.aborts.as_slice(), dev)?;
+        let slots = vec![in alloc; 0; scenario.commands.len() + 1]?;
+        Ok(Book {
+            mines,
+            aborts,
+            slots,
+            count: 0,
+            most: open_limit(scenario.hosts.as_slice(), dev),
+        })
+    }
+
     /// Since when it wants to send something, in ns.
     pub fn since(&self) -> Option<Ns>
         ensures { result ≡ my_since self.now }
@@ -105,4 +124,118 @@ impl Book {
     {
         all_aborts_tried(self.aborts.as_mut_slice(), number);
     }
+
+    // A command ended with CHECK CONDITION: one of its own stands in the queue once.
+    fn add_check(&mut self, number: u16)
+        ensures { self.new ≡ record self.old { queue = queue_with self.old.mines self.old.room self.old.queue number } }
+    {
+        if has_number(self.mines.as_slice(), number)
+            && !is_in(&self.slots[..self.count], number)
+            && self.count < self.slots.len()
+        {
+            self.slots[self.count] = number;
+            self.count += 1;
+        }
+    }
+
+    fn queue_event(&mut self, event: &Event)
+        ensures { self.new ≡ record self.old { queue = queue_after_event self.old event.now } }
+    {
+        if let Event::End(id, status) = *event {
+            if is_check(id, status) {
+                self.add_check(id.command);
+            }
+        }
+    }
+
+    /// An event is shown.
+    pub fn see(&mut self, event: &Event)
+        ensures { self.new ≡ book_after_event self.old event.now }
+    {
+        self.queue_event(event);
+        all_after_event(self.mines.as_mut_slice(), event);
+    }
+}
+
+fn is_in(queue: &[u16], number: u16) -> bool
+    ensures { result ≡ list_any (λ k. k == number) queue.now }
+{
+    queue.iter().any(|k| *k == number)
+}
+
+// Its own among these commands, of which the first has the number 1.
+fn own_mines(alloc: Global, commands: &[CmdDef], dev: Dev) -> Result<Vec<Mine>, NoMemory>
+    requires { length commands.now < 0xffff }
+    ensures { IfOk result (λ made. made.items ≡ mines_of nothing_sent dev commands.now) }
+{
+    let mut mines = Vec::new(alloc);
+    let mut number: u16 = 1;
+    for def in commands {
+        if def.host == dev {
+            mines.push(new_mine(number, def))?;
+        }
+        number += 1;
+    }
+    Ok(mines)
+}
+
+fn new_mine(number: u16, def: &CmdDef) -> Mine
+    ensures { result ≡ mine_of [] (own_command nothing_sent number def.now) }
+{
+    Mine {
+        number,
+        host: def.host,
+        target: def.target,
+        unit: def.unit,
+        tag: def.tag,
+        at: def.at,
+        sent: false,
+        over: false,
+        checked: false,
+        sense_sent: false,
+        sense_over: false,
+        tries: 0,
+    }
+}
+
+fn new_abort(number: u16, def: &AbortDef) -> MyAbort
+    ensures { result ≡ my_abort nothing_sent number def.now }
+{
+    MyAbort {
+        number,
+        target: def.target,
+        unit: def.unit,
+        what: def.what,
+        at: def.at,
+        done: false,
+        tries: 0,
+    }
+}
+
+// Its own among these abort lines, of which the first has the number 1.
+fn own_aborts(alloc: Global, aborts: &[AbortDef], dev: Dev) -> Result<Vec<MyAbort>, NoMemory>
+    requires { length aborts.now < 0xffff }
+    ensures { IfOk result (λ made. made.items ≡ my_aborts nothing_sent dev 1 aborts.now) }
+{
+    let mut own = Vec::new(alloc);
+    let mut number: u16 = 1;
+    for def in aborts {
+        if def.host == dev {
+            own.push(new_abort(number, def))?;
+        }
+        number += 1;
+    }
+    Ok(own)
+}
+
+// How many commands it may have open.
+fn open_limit(hosts: &[HostDef], dev: Dev) -> usize
+    ensures { result ≡ open_limit_of hosts.now dev }
+{
+    for def in hosts {
+        if def.dev == dev {
+            return def.most as usize;
+        }
+    }
+    0
 }
