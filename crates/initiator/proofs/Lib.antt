@@ -1,9 +1,11 @@
 mod Dues
 mod Books
 mod BookSteps
+mod Foreign
 mod Loops
 mod Mines
 mod OwnRows
 mod Queues
 mod Speeches
 mod Told
+mod Wishes

@@ -1,6 +1,7 @@
 pub mod Itself
 pub mod Mines
 pub mod Books
+pub mod Wishes
 pub mod Speeches
 pub mod States
 pub mod Dues
