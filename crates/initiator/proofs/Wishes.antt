@@ -16,13 +16,19 @@ use Rattle.scenario.specs.Value.{ScenarioValue}
 use Rattle.bus_story.specs.BusState.{RowReading}
 use Rattle.bus_story.specs.Items.{Item, process, abort, command_item, sense_item, Sent, count_item, item_at}
 use Rattle.bus_story.specs.Story.{Story, unanswered, story_with_end, story_with_over, story_after_event, story_after_events}
-use Rattle.bus_story.specs.TraceHistory.{aim_of, is_host, retries_of, is_counted, story_without_answer, story_with_try, story_after_calling, story_after_calling_by, story_with_restored, story_with_sent, story_after_connection}
-use Rattle.bus_story.specs.Links.{link_of}
+use Rattle.bus_story.specs.TraceHistory.{aim_of, is_host, retries_of, is_counted, story_without_answer, story_with_try, story_after_calling, story_after_calling_by, story_with_restored, story_with_sent, story_after_connection, story_with_carried, story_after_out, story_after_message, story_after_name, story_after_in, story_after_byte, story_after_crossing, story_after_fault, story_in_connection, story_with_aim, story_on_free_bus, story_on_bus, story_by_change, is_parity_error, carried_after_message_if, carried_after_byte_if, carried_after_fault_if}
+use Rattle.bus_story.specs.HistoryEvents.{carried_if}
+use Rattle.bus_story.specs.CarriedBytes.{CarriedBytes}
+use Rattle.msg_grammar.specs.declared.message.MsgOut.{MsgOut}
+use Rattle.msg_grammar.specs.declared.message.MsgIn.{MsgIn}
+use Rattle.bus_trace.specs.declared.Kind.{Kind}
+use Rattle.bus_trace.specs.declared.Kind.TheVariants.{Drives, Fault}
+use Rattle.bus_story.specs.Links.{Link, link_of, last_out, last_in, link_after_name}
 use Rattle.initiator.specs.declared.mine.OwnItem.{OwnItem}
 use Rattle.initiator.specs.declared.mine.OwnItem.TheVariants as own
 use Rattle.initiator.specs.Mines.{capped}
 use Rattle.initiator.specs.Books.{BookValue, my_book, my_item, item_if, item_of, book_with_over, book_with_done, book_with_try, book_with_abort_try}
-use Rattle.initiator.specs.Wishes.{IsItemOf, IsItemIf, tries_in, abort_tries_in, Wish, IsWishBy, AreAims, command_tried, abort_tried, book_after_try, book_after_send, is_unanswered, is_call_in_vain, wish_after_connection, book_after_events}
+use Rattle.initiator.specs.Wishes.{IsItemOf, IsItemIf, tries_in, abort_tries_in, Wish, IsWishBy, AreAims, command_tried, abort_tried, book_after_try, book_after_send, is_unanswered, is_call_in_vain, wish_after_connection, wish_with_entry, wish_on_free_bus, wish_on_bus, wish_by_change, book_after_events}
 use Rattle.bus_dialogue.specs.Wants.{item_by}
 use Rattle.bus_due.specs.Wants.{book_of}
 use Rattle.initiator.proofs.Books.{item_is}
@@ -262,3 +268,122 @@ connection_aims b n = go n.reselected
     go : (p : Bool) → (if p then record b { link = Some (link_of n None) } else story_with_restored (story_with_sent (record b { link = Some (link_of n (aim_of b.aims n.initiator)) }) (aim_of b.aims n.initiator)) (aim_of b.aims n.initiator)).aims ≡ b.aims
     go true = refl
     go false = restored_aims (story_with_sent (record b { link = Some (link_of n (aim_of b.aims n.initiator)) }) (aim_of b.aims n.initiator)) (aim_of b.aims n.initiator) ∙ sent_aims (record b { link = Some (link_of n (aim_of b.aims n.initiator)) }) (aim_of b.aims n.initiator)
+
+-- ---- in a connection nothing is sent, and no device enters arbitration
+
+-- What was sent and what was aimed at are the same.
+record IsKept (b c : Story) : Type 0 where
+  sent : c.sent ≡ b.sent
+  aims : c.aims ≡ b.aims
+
+kept_carried : (b : Story) (k : Option CarriedBytes) → IsKept b (story_with_carried b k)
+kept_carried b None = record { sent = refl; aims = refl }
+kept_carried b (Some k) = record { sent = refl; aims = refl }
+
+kept_out : (b : Story) (l : Link) (m : Option MsgOut) → IsKept b (story_after_out b l m)
+kept_out b l None = record { sent = refl; aims = refl }
+kept_out b l (Some m) =
+    let c : Story = record b { link = Some (record l { last = last_out m l }) } in
+    let x = kept_carried c (if is_parity_error m then l.undo else None) in
+    record { sent = x.sent; aims = x.aims }
+
+kept_message : (s : ScenarioValue) (b : Story) (l : Link) (m : MsgIn) → IsKept b (story_after_message s b l m)
+kept_message s b l m =
+    let c : Story = record b { link = Some l } in
+    let x = kept_carried c (carried_after_message_if (carried_if b l.item) m) in
+    record { sent = x.sent; aims = x.aims }
+
+kept_name : (s : ScenarioValue) (b : Story) (l next : Link) (m : MsgIn) → IsKept b (story_after_name s b l next m)
+kept_name s b l next m = go (is_none l.item)
+  where
+    go : (q : Bool) → IsKept b (story_after_message s (if q then story_with_restored b next.item else b) (record next { last = last_in m; before = l.last; undo = carried_if b l.item }) m)
+    go true =
+        let x = kept_message s (story_with_restored b next.item) (record next { last = last_in m; before = l.last; undo = carried_if b l.item }) m in
+        record { sent = x.sent ∙ restored_sent b next.item; aims = x.aims ∙ restored_aims b next.item }
+    go false = kept_message s b (record next { last = last_in m; before = l.last; undo = carried_if b l.item }) m
+
+kept_in : (s : ScenarioValue) (b : Story) (l : Link) (m : Option MsgIn) → IsKept b (story_after_in s b l m)
+kept_in s b l None = record { sent = refl; aims = refl }
+kept_in s b l (Some m) = kept_name s b l (link_after_name b.sent s.commands l m) m
+
+kept_byte : (b : Story) (l : Link) (d : RowReading) → IsKept b (story_after_byte b l d)
+kept_byte b l d = go d.change.before.msg
+  where
+    go : (q : Bool) → IsKept b (if q then b else story_with_carried b (carried_after_byte_if (carried_if b l.item) d))
+    go true = record { sent = refl; aims = refl }
+    go false = kept_carried b (carried_after_byte_if (carried_if b l.item) d)
+
+kept_crossing : (s : ScenarioValue) (b : Story) (l : Link) (d : RowReading) → IsKept b (story_after_crossing s b l d)
+kept_crossing s b l d = go (is_some d.out) (is_some d.into)
+  where
+    go : (p q : Bool) → IsKept b (if p then story_after_out b l d.out else if q then story_after_in s b l d.into else story_after_byte b l d)
+    go true q = kept_out b l d.out
+    go false true = kept_in s b l d.into
+    go false false = kept_byte b l d
+
+kept_fault : (b : Story) (l : Link) (k : Kind) → IsKept b (story_after_fault b l k)
+kept_fault b l (Drives lines) = record { sent = refl; aims = refl }
+kept_fault b l (Fault bit) = kept_carried b (carried_after_fault_if (carried_if b l.item) b.bus_state.crossed)
+
+kept_connected : (s : ScenarioValue) (b : Story) (l : Option Link) (d : RowReading) (row : Row) → IsKept b (story_in_connection s b l d row)
+kept_connected s b None d row = record { sent = refl; aims = refl }
+kept_connected s b (Some l) d row = go d.crosses
+  where
+    go : (q : Bool) → IsKept b (if q then story_after_crossing s b l d else story_after_fault b l row.kind)
+    go true = kept_crossing s b l d
+    go false = kept_fault b l row.kind
+
+kept_wish : (s : ScenarioValue) (b c : Story) (dev : ℕ) (w : Wish) → IsKept b c → IsWishBy s dev b w → IsWishBy s dev c w
+kept_wish s b c dev w k h = record {
+  book_is = h.book_is ∙ (λ i. my_book s (sym k.sent i) dev);
+  aim_is = h.aim_is ∙ (λ i. aim_of (sym k.aims i) dev);
+}
+
+-- ---- a row
+
+abbrev HasInitiator : Option Connection → Type 0
+HasInitiator None = ⊤
+HasInitiator (Some n) = n.initiator < 8
+
+free_wish : IsItemLaw → (s : ScenarioValue) (b : Story) (dev : ℕ) (w : Wish) (d : RowReading) (row : Row) → is_host s.hosts dev ≡ true → retries_of s.hosts dev < 255 → AreAims s b.aims → dev < 8 → row.dev < 8 → IsCaller b.bus_state.call → IsWishBy s dev b w → b.bus_state.connection ≡ None → IsWishBy s dev (story_on_free_bus s b d row) (wish_on_free_bus dev (retries_of s.hosts dev) b.bus_state.call w d.change None row.dev row.time)
+free_wish items s b dev w d row host few a lt rlt ok h e =
+    subst (λ (q : Bool). IsWishBy s dev (if q then story_with_aim s b row else if falls d.change.before.sel d.change.after.sel then story_after_calling s b b.bus_state.call else b) (wish_on_free_bus dev (retries_of s.hosts dev) b.bus_state.call w d.change None row.dev row.time))
+    (λ i. rises d.change.own.bsy d.change.next.bsy && not d.change.before.sel && is_none (sym e i))
+    (go (rises d.change.own.bsy d.change.next.bsy && not d.change.before.sel && true) (falls d.change.before.sel d.change.after.sel))
+  where
+    entry : (q : Bool) → (row.dev == dev) ≡ q → IsWishBy s dev (story_with_aim s b row) (if q then record w { aim = my_item w.book row.time } else w)
+    entry true x = record {
+      book_is = h.book_is;
+      aim_is = entry_own items s b dev row.time w host a lt h ∙ (λ i. aim_of (slice_set b.aims (sym (equal row.dev dev x) i) (if is_host s.hosts (sym (equal row.dev dev x) i) then item_at s b.sent (sym (equal row.dev dev x) i) row.time else None)) dev);
+    }
+    entry false x = record {
+      book_is = h.book_is;
+      aim_is = h.aim_is ∙ sym (aim_other b.aims row.dev dev (if is_host s.hosts row.dev then item_at s b.sent row.dev row.time else None) (unequal row.dev dev x));
+    }
+
+    calling : IsWishBy s dev (story_after_calling s b b.bus_state.call) (if is_call_in_vain dev b.bus_state.call then record w { book = book_after_try (retries_of s.hosts dev) w.book w.aim } else w)
+    calling = by_test (is_call_in_vain dev b.bus_state.call) (called_book s b dev w b.bus_state.call few a lt ok h)
+      where
+        aims : item_if w.aim ≡ aim_of (story_after_calling s b b.bus_state.call).aims dev
+        aims = h.aim_is ∙ (λ i. aim_of (sym (calling_aims s b b.bus_state.call) i) dev)
+        by_test : (q : Bool) → (if q then book_after_try (retries_of s.hosts dev) w.book w.aim else w.book) ≡ my_book s (story_after_calling s b b.bus_state.call).sent dev → IsWishBy s dev (story_after_calling s b b.bus_state.call) (if q then record w { book = book_after_try (retries_of s.hosts dev) w.book w.aim } else w)
+        by_test true x = record { book_is = x; aim_is = aims }
+        by_test false x = record { book_is = x; aim_is = aims }
+
+    go : (p q : Bool) → IsWishBy s dev (if p then story_with_aim s b row else if q then story_after_calling s b b.bus_state.call else b) (if p then wish_with_entry dev w row.dev row.time else if q then (if is_call_in_vain dev b.bus_state.call then record w { book = book_after_try (retries_of s.hosts dev) w.book w.aim } else w) else w)
+    go true q = entry (row.dev == dev) refl
+    go false true = calling
+    go false false = h
+
+change_wish : IsItemLaw → (s : ScenarioValue) (b : Story) (dev : ℕ) (w : Wish) (d : RowReading) (row : Row) → is_host s.hosts dev ≡ true → retries_of s.hosts dev < 255 → AreAims s b.aims → dev < 8 → row.dev < 8 → IsCaller b.bus_state.call → HasInitiator d.next → IsWishBy s dev b w → IsWishBy s dev (story_by_change s b d row) (wish_by_change dev (retries_of s.hosts dev) b.bus_state.call w d.change b.bus_state.connection d.next row.dev row.time)
+change_wish items s b dev w d row host few a lt rlt ok ends h = go d.change.after.rst
+  where
+    on_bus : (m n : Option Connection) → b.bus_state.connection ≡ m → HasInitiator n → IsWishBy s dev (story_on_bus s b m n d row) (wish_on_bus dev (retries_of s.hosts dev) b.bus_state.call w d.change m n row.dev row.time)
+    on_bus None None e x = free_wish items s b dev w d row host few a lt rlt ok h e
+    on_bus None (Some n) e x = connection_wish s b dev w n a x h
+    on_bus (Some m) None e x = record { book_is = h.book_is; aim_is = h.aim_is }
+    on_bus (Some m) (Some n) e x = kept_wish s b (story_in_connection s b b.link d row) dev w (kept_connected s b b.link d row) h
+
+    go : (q : Bool) → IsWishBy s dev (if q then record b { link = None } else story_on_bus s b b.bus_state.connection d.next d row) (if q then w else wish_on_bus dev (retries_of s.hosts dev) b.bus_state.call w d.change b.bus_state.connection d.next row.dev row.time)
+    go true = record { book_is = h.book_is; aim_is = h.aim_is }
+    go false = on_bus b.bus_state.connection d.next refl ends
