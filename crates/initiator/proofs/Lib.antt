@@ -9,3 +9,4 @@ mod Queues
 mod Speeches
 mod Told
 mod Wishes
+mod WishRows

@@ -115,7 +115,7 @@ try_aims s b d (Some item) = go (is_counted item && nat_lt (retries_of s.hosts d
     go true = of_item (record b { sent = record b.sent { tries = item ∷ b.sent.tries } }) item
     go false = refl
 
-calling_aims : (s : ScenarioValue) (b : Story) (c : Option Call) → (story_after_calling s b c).aims ≡ b.aims
+pub calling_aims : (s : ScenarioValue) (b : Story) (c : Option Call) → (story_after_calling s b c).aims ≡ b.aims
 calling_aims s b None = refl
 calling_aims s b (Some c) = by_calling c.calling
   where
@@ -128,7 +128,7 @@ calling_aims s b (Some c) = by_calling c.calling
         go false = refl
 
 -- The caller of a call is a device of the bus.
-abbrev IsCaller : Option Call → Type 0
+abbrev pub IsCaller : Option Call → Type 0
 IsCaller None = ⊤
 IsCaller (Some c) = c.caller < 8
 
@@ -184,7 +184,7 @@ item_if_host : (s : ScenarioValue) (b : Sent) (d time : ℕ) (q : Bool) → IsIt
 item_if_host s b d time true = own_item s b d time
 item_if_host s b d time false = tt
 
-entered : (s : ScenarioValue) (aims : List (Option Item)) (b : Sent) (d time : ℕ) → AreAims s aims → d < 8 → AreAims s (slice_set aims d (if is_host s.hosts d then item_at s b d time else None))
+pub entered : (s : ScenarioValue) (aims : List (Option Item)) (b : Sent) (d time : ℕ) → AreAims s aims → d < 8 → AreAims s (slice_set aims d (if is_host s.hosts d then item_at s b d time else None))
 entered s aims b d time a lt = record {
   eight = length-set _ _ _ ∙ a.eight;
   own_items = λ e below. elim (cases_eq d e) [
@@ -262,7 +262,7 @@ connection_wish s b dev w n a lt h = go n.reselected (n.initiator == dev) refl
           aim_is = h.aim_is ∙ (λ i. aim_of ((sym (sent_aims c (aim_of b.aims n.initiator)) ∙ sym (restored_aims (story_with_sent c (aim_of b.aims n.initiator)) (aim_of b.aims n.initiator))) i) dev);
         }
 
-connection_aims : (b : Story) (n : Connection) → (story_after_connection b n).aims ≡ b.aims
+pub connection_aims : (b : Story) (n : Connection) → (story_after_connection b n).aims ≡ b.aims
 connection_aims b n = go n.reselected
   where
     go : (p : Bool) → (if p then record b { link = Some (link_of n None) } else story_with_restored (story_with_sent (record b { link = Some (link_of n (aim_of b.aims n.initiator)) }) (aim_of b.aims n.initiator)) (aim_of b.aims n.initiator)).aims ≡ b.aims
@@ -272,9 +272,9 @@ connection_aims b n = go n.reselected
 -- ---- in a connection nothing is sent, and no device enters arbitration
 
 -- What was sent and what was aimed at are the same.
-record IsKept (b c : Story) : Type 0 where
-  sent : c.sent ≡ b.sent
-  aims : c.aims ≡ b.aims
+pub record IsKept (b c : Story) : Type 0 where
+  pub sent : c.sent ≡ b.sent
+  pub aims : c.aims ≡ b.aims
 
 kept_carried : (b : Story) (k : Option CarriedBytes) → IsKept b (story_with_carried b k)
 kept_carried b None = record { sent = refl; aims = refl }
@@ -325,7 +325,7 @@ kept_fault : (b : Story) (l : Link) (k : Kind) → IsKept b (story_after_fault b
 kept_fault b l (Drives lines) = record { sent = refl; aims = refl }
 kept_fault b l (Fault bit) = kept_carried b (carried_after_fault_if (carried_if b l.item) b.bus_state.crossed)
 
-kept_connected : (s : ScenarioValue) (b : Story) (l : Option Link) (d : RowReading) (row : Row) → IsKept b (story_in_connection s b l d row)
+pub kept_connected : (s : ScenarioValue) (b : Story) (l : Option Link) (d : RowReading) (row : Row) → IsKept b (story_in_connection s b l d row)
 kept_connected s b None d row = record { sent = refl; aims = refl }
 kept_connected s b (Some l) d row = go d.crosses
   where
@@ -341,7 +341,7 @@ kept_wish s b c dev w k h = record {
 
 -- ---- a row
 
-abbrev HasInitiator : Option Connection → Type 0
+abbrev pub HasInitiator : Option Connection → Type 0
 HasInitiator None = ⊤
 HasInitiator (Some n) = n.initiator < 8
 
@@ -375,7 +375,7 @@ free_wish items s b dev w d row host few a lt rlt ok h e =
     go false true = calling
     go false false = h
 
-change_wish : IsItemLaw → (s : ScenarioValue) (b : Story) (dev : ℕ) (w : Wish) (d : RowReading) (row : Row) → is_host s.hosts dev ≡ true → retries_of s.hosts dev < 255 → AreAims s b.aims → dev < 8 → row.dev < 8 → IsCaller b.bus_state.call → HasInitiator d.next → IsWishBy s dev b w → IsWishBy s dev (story_by_change s b d row) (wish_by_change dev (retries_of s.hosts dev) b.bus_state.call w d.change b.bus_state.connection d.next row.dev row.time)
+pub change_wish : IsItemLaw → (s : ScenarioValue) (b : Story) (dev : ℕ) (w : Wish) (d : RowReading) (row : Row) → is_host s.hosts dev ≡ true → retries_of s.hosts dev < 255 → AreAims s b.aims → dev < 8 → row.dev < 8 → IsCaller b.bus_state.call → HasInitiator d.next → IsWishBy s dev b w → IsWishBy s dev (story_by_change s b d row) (wish_by_change dev (retries_of s.hosts dev) b.bus_state.call w d.change b.bus_state.connection d.next row.dev row.time)
 change_wish items s b dev w d row host few a lt rlt ok ends h = go d.change.after.rst
   where
     on_bus : (m n : Option Connection) → b.bus_state.connection ≡ m → HasInitiator n → IsWishBy s dev (story_on_bus s b m n d row) (wish_on_bus dev (retries_of s.hosts dev) b.bus_state.call w d.change m n row.dev row.time)
