@@ -145,7 +145,7 @@ called_book s b dev w (Some c) few a lt ok h = by_calling c.calling
         ∙ tried s b dev w.aim few (subst (λ (x : Option Item). IsItemIf s dev x) (sym h.aim_is) (a.own_items dev lt))
         ∙ (λ i. book_after_try (retries_of s.hosts dev) (sym h.book_is i) w.aim)
 
-    by_calling : (k : Option Calling) → (if c.caller == dev && is_unanswered c.caller k then book_after_try (retries_of s.hosts dev) w.book w.aim else w.book) ≡ my_book s (story_after_calling_by s b c.caller k).sent dev
+    by_calling : (k : Option Calling) → (if c.caller == dev && is_unanswered k then book_after_try (retries_of s.hosts dev) w.book w.aim else w.book) ≡ my_book s (story_after_calling_by s b c.caller k).sent dev
     by_calling None = none (c.caller == dev)
       where
         none : (q : Bool) → (if q && false then book_after_try (retries_of s.hosts dev) w.book w.aim else w.book) ≡ my_book s b.sent dev

@@ -91,13 +91,13 @@ book_after_send v (Some (own.Abort n)) = book_with_done v n
 
 -- ---- a row of a device, at this time, which changes this; the call and the connection are those before it
 
-abbrev pub is_unanswered : ℕ → Option Calling → Bool
-is_unanswered caller None = false
-is_unanswered caller (Some k) = is_none k.answered && not k.reselects
+abbrev pub is_unanswered : Option Calling → Bool
+is_unanswered None = false
+is_unanswered (Some k) = is_none k.answered && not k.reselects
 
 abbrev pub is_call_in_vain : ℕ → Option Call → Bool
 is_call_in_vain dev None = false
-is_call_in_vain dev (Some c) = c.caller == dev && is_unanswered c.caller c.calling
+is_call_in_vain dev (Some c) = c.caller == dev && is_unanswered c.calling
 
 abbrev pub is_entry : Change → Option Connection → Bool
 is_entry c before = rises c.own.bsy c.next.bsy && not c.before.sel && is_none before

@@ -3,6 +3,7 @@ ghost use Rattle.std.specs.Prelude.{◌≡◌, ◌<◌, ◌==◌, [], length, If
 ghost use Rattle.std.specs.List.{list_any};
 ghost use Rattle.bus_story.specs.Items.{open_limit_of};
 ghost use Rattle.bus_due.specs.Wants.{own_command};
+ghost use Rattle.initiator.specs.Wishes.{tries_in, abort_tries_in, book_after_events};
 ghost use Rattle.initiator.specs.Mines.{nothing_sent, mine_of, mines_of, my_abort, my_aborts};
 ghost use Rattle.initiator.specs.Books.{my_book, my_since, my_item, queue_with, queue_after_event, book_with_sent, book_with_over, book_with_try, book_with_done, book_with_abort_try, book_after_event};
 
@@ -125,6 +126,30 @@ impl Book {
         all_aborts_tried(self.aborts.as_mut_slice(), number);
     }
 
+    /// How many callings for a command of its own had no answer, at most 255.
+    pub fn tries(&self, number: u16) -> u8
+        ensures { result ≡ tries_in self.now.mines number }
+    {
+        for mine in self.mines.as_slice() {
+            if mine.number == number {
+                return mine.tries;
+            }
+        }
+        0
+    }
+
+    /// How many callings for an abort of its own had no answer, at most 255.
+    pub fn abort_tries(&self, number: u16) -> u8
+        ensures { result ≡ abort_tries_in self.now.aborts number }
+    {
+        for abort in self.aborts.as_slice() {
+            if abort.number == number {
+                return abort.tries;
+            }
+        }
+        0
+    }
+
     // A command ended with CHECK CONDITION: one of its own stands in the queue once.
     fn add_check(&mut self, number: u16)
         ensures { self.new ≡ record self.old { queue = queue_with self.old.mines self.old.room self.old.queue number } }
@@ -154,6 +179,17 @@ impl Book {
     {
         self.queue_event(event);
         all_after_event(self.mines.as_mut_slice(), event);
+    }
+
+    /// Events are shown, the newest first.
+    pub fn see_all(&mut self, shown: &[Event])
+        ensures { self.new ≡ book_after_events self.old shown.now }
+    {
+        let mut left = shown.len();
+        while left > 0 {
+            left -= 1;
+            self.see(&shown[left]);
+        }
     }
 }
 

@@ -12,6 +12,7 @@ mod openings;
 mod own_times;
 mod resets;
 mod speech;
+mod wish;
 
 pub use book::Book;
 pub use choice::{abort_by, aborts_since, first_sense, has_number, mine_by, mines_since};
@@ -24,3 +25,4 @@ pub use openings::{Words, abort_opening, process_opening};
 pub use own_times::OwnTimes;
 pub use resets::next_reset;
 pub use speech::Speech;
+pub use wish::Wish;
