@@ -2,6 +2,7 @@ mod Dues
 mod Books
 mod BookSteps
 mod Foreign
+mod Intents
 mod Loops
 mod Mines
 mod OwnRows

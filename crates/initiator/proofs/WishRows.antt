@@ -90,7 +90,7 @@ change_aims s b d row lt a = go d.change.after.rst
     go true = a
     go false = on_bus b.bus_state.connection d.next
 
-no_aim : (d : ℕ) → aim_of (replicate 8 None) d ≡ None
+pub no_aim : (d : ℕ) → aim_of (replicate 8 None) d ≡ None
 no_aim zero = refl
 no_aim (suc zero) = refl
 no_aim (suc (suc zero)) = refl

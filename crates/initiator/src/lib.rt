@@ -4,6 +4,7 @@
 mod book;
 mod choice;
 mod due;
+mod intent;
 mod itself;
 mod laws;
 mod marks;
@@ -17,6 +18,7 @@ mod wish;
 pub use book::Book;
 pub use choice::{abort_by, aborts_since, first_sense, has_number, mine_by, mines_since};
 pub use due::{Knowledge, Sending, initiator_next};
+pub use intent::Intent;
 pub use itself::Itself;
 pub use laws::{dues_are_of_initiators, speeches_are_heard};
 pub use marks::{all_aborts_tried, all_after_event, all_done, all_over, all_sent, all_tried, is_check};
