@@ -7,16 +7,18 @@ use Rattle.bus_base.specs.declared.ProcId.{ProcId}
 use Rattle.scenario.specs.declared.value.CmdDef.{CmdDef}
 use Rattle.scenario.specs.declared.value.AbortDef.{AbortDef}
 use Rattle.scenario.specs.Value.{ScenarioValue}
-use Rattle.disk_array.specs.Processes.{command_at}
+use Rattle.disk_array.specs.Processes.{command_at, process_if}
 use Rattle.bus_story.specs.HistoryEvents.{abort_line_at}
 use Rattle.bus_story.specs.Items.{Item, process, abort, command_item, sense_item, Sent, is_done, is_of_host, abort_from, sense_from, command_from, open_from, may_send, or_else, item_at, count_item}
-use Rattle.bus_due.specs.Wants.{own_command, own_commands}
+use Rattle.bus_due.specs.Wants.{own_command, own_commands, target_if, abort_target, target_of}
 use Rattle.initiator.specs.declared.mine.Mine.{Mine}
 use Rattle.initiator.specs.declared.mine.MyAbort.{MyAbort}
 use Rattle.initiator.specs.Mines.{capped, mine_of, mines_of, my_abort, my_aborts, with_sent, with_over, with_one_try}
-use Rattle.initiator.specs.Books.{has_number, my_book}
+use Rattle.initiator.specs.Books.{has_number, my_book, item_if}
+use Rattle.initiator.specs.declared.mine.OwnItem.{OwnItem}
+use Rattle.initiator.specs.declared.mine.OwnItem.TheVariants as own
 use Rattle.initiator.proofs.BookSteps.{book_sent, book_over, book_try, book_abort_sent, book_abort_over, book_abort_try, book_sense_try}
-use Rattle.initiator.specs.Wishes.{is_abort_of, IsItemOf, IsItemIf, tries_in, has_abort, abort_tries_in}
+use Rattle.initiator.specs.Wishes.{is_abort_of, IsItemOf, IsItemIf, tries_in, has_abort, abort_tries_in, target_in, abort_target_in, target_by}
 
 -- ---- whose command a number is
 
@@ -233,3 +235,56 @@ abort_tries_are b dev aborts zero h = none_some (sym (no_line_first aborts dev) 
     none_some : false ≡ true → abort_tries_in (my_aborts b dev 1 aborts) 0 ≡ capped (count_item b.tries (abort 0))
     none_some z = cc
 abort_tries_are b dev aborts (suc j) h = abort_tries_from b dev 1 aborts j (suc j) (omega arith) h
+
+-- ---- whom it is for
+
+abbrev command_target : Option CmdDef → Option ℕ
+command_target None = None
+command_target (Some c) = Some c.target
+
+targets_from : (b : Sent) (dev k : ℕ) (commands : List CmdDef) (j n : ℕ) → n ≡ j + k → is_of_host (command_at commands (suc j)) dev ≡ true → target_in (map (mine_of b.checks) (own_commands b dev k commands)) n ≡ command_target (command_at commands (suc j))
+targets_from b dev k [] j n e h = cc
+targets_from b dev k (c ∷ commands) zero n e h =
+    (λ i. target_in (map (mine_of b.checks) (if h i then own_command b k c ∷ own_commands b dev (k + 1) commands else own_commands b dev (k + 1) commands)) n)
+    ∙ (λ i. if eq-eqb k n (omega (arith, e)) i then Some c.target else target_in (map (mine_of b.checks) (own_commands b dev (k + 1) commands)) n)
+targets_from b dev k (c ∷ commands) (suc j) n e h = go (targets_from b dev (k + 1) commands j n (omega (arith, e)) h) (c.host == dev)
+  where
+    go : target_in (map (mine_of b.checks) (own_commands b dev (k + 1) commands)) n ≡ command_target (command_at commands (suc j)) → (q : Bool) → target_in (map (mine_of b.checks) (if q then own_command b k c ∷ own_commands b dev (k + 1) commands else own_commands b dev (k + 1) commands)) n ≡ command_target (command_at commands (suc j))
+    go r true = (λ i. if ne_eqb k n (λ z. omega (arith, z, e)) i then Some c.target else target_in (map (mine_of b.checks) (own_commands b dev (k + 1) commands)) n) ∙ r
+    go r false = r
+
+targets_are : (b : Sent) (dev : ℕ) (commands : List CmdDef) (n : ℕ) → is_of_host (command_at commands n) dev ≡ true → target_in (mines_of b dev commands) n ≡ command_target (command_at commands n)
+targets_are b dev commands zero h = none_some (sym (no_host_first commands dev) ∙ h)
+  where
+    none_some : false ≡ true → target_in (mines_of b dev commands) 0 ≡ command_target (command_at commands 0)
+    none_some z = cc
+targets_are b dev commands (suc j) h = targets_from b dev 1 commands j (suc j) (omega arith) h
+
+abort_targets_from : (b : Sent) (dev k : ℕ) (aborts : List AbortDef) (j n : ℕ) → n ≡ j + k → is_abort_of (abort_line_at aborts (suc j)) dev ≡ true → abort_target_in (my_aborts b dev k aborts) n ≡ abort_target (abort_line_at aborts (suc j))
+abort_targets_from b dev k [] j n e h = cc
+abort_targets_from b dev k (a ∷ aborts) zero n e h =
+    (λ i. abort_target_in (if h i then my_abort b k a ∷ my_aborts b dev (k + 1) aborts else my_aborts b dev (k + 1) aborts) n)
+    ∙ (λ i. if eq-eqb k n (omega (arith, e)) i then Some a.target else abort_target_in (my_aborts b dev (k + 1) aborts) n)
+abort_targets_from b dev k (a ∷ aborts) (suc j) n e h = go (abort_targets_from b dev (k + 1) aborts j n (omega (arith, e)) h) (a.host == dev)
+  where
+    go : abort_target_in (my_aborts b dev (k + 1) aborts) n ≡ abort_target (abort_line_at aborts (suc j)) → (q : Bool) → abort_target_in (if q then my_abort b k a ∷ my_aborts b dev (k + 1) aborts else my_aborts b dev (k + 1) aborts) n ≡ abort_target (abort_line_at aborts (suc j))
+    go r true = (λ i. if ne_eqb k n (λ z. omega (arith, z, e)) i then Some a.target else abort_target_in (my_aborts b dev (k + 1) aborts) n) ∙ r
+    go r false = r
+
+abort_targets_are : (b : Sent) (dev : ℕ) (aborts : List AbortDef) (n : ℕ) → is_abort_of (abort_line_at aborts n) dev ≡ true → abort_target_in (my_aborts b dev 1 aborts) n ≡ abort_target (abort_line_at aborts n)
+abort_targets_are b dev aborts zero h = none_some (sym (no_line_first aborts dev) ∙ h)
+  where
+    none_some : false ≡ true → abort_target_in (my_aborts b dev 1 aborts) 0 ≡ abort_target (abort_line_at aborts 0)
+    none_some z = cc
+abort_targets_are b dev aborts (suc j) h = abort_targets_from b dev 1 aborts j (suc j) (omega arith) h
+
+process_target : (s : ScenarioValue) (n : ℕ) (sense : Bool) (c : Option CmdDef) → target_if (process_if s (record { command = n; sense = sense }) c) ≡ command_target c
+process_target s n sense None = refl
+process_target s n true (Some c) = refl
+process_target s n false (Some c) = refl
+
+pub target_is : (s : ScenarioValue) (b : Sent) (dev : ℕ) (i : Option OwnItem) → IsItemIf s dev (item_if i) → target_by (my_book s b dev) i ≡ target_of s (item_if i)
+target_is s b dev None h = refl
+target_is s b dev (Some (own.Command n)) h = targets_are b dev s.commands n h ∙ sym (process_target s n false (command_at s.commands n))
+target_is s b dev (Some (own.Sense n)) h = targets_are b dev s.commands n h ∙ sym (process_target s n true (command_at s.commands n))
+target_is s b dev (Some (own.Abort n)) h = abort_targets_are b dev s.aborts n h

@@ -10,16 +10,17 @@ use Rattle.bus_trace.specs.Terms.{call}
 use Rattle.scenario.specs.Value.{ScenarioValue}
 use Rattle.bus_story.specs.TraceHistory.{is_host, retries_of}
 use Rattle.initiator.specs.Books.{my_since}
-use Rattle.initiator.specs.Wishes.{Wish, IsWishOf}
+use Rattle.initiator.specs.Wishes.{Wish, IsWishOf, is_entry, target_by}
 
 pub record IntentValue : Type 0 where
   pub dev : ℕ
   -- how often it tries again
   pub retries : ℕ
   pub wish : Wish
-  -- the call that stands, and since when it wants to send something
+  -- the call that stands; since when it wants to send something; and the target of what it last entered arbitration for
   pub call : Option Call
   pub since : Option ℕ
+  pub callee : Option ℕ
 
 -- The scenario has this initiator.
 pub record IsInitiator (s : ScenarioValue) (dev retries : ℕ) : Type 0 where
@@ -32,12 +33,14 @@ pub record IsIntentOf (s : ScenarioValue) (rows : List Row) (v : IntentValue) : 
   pub wish_is : IsWishOf s v.dev rows v.wish
   pub call_is : v.call ≡ call rows
   pub since_is : v.since ≡ my_since v.wish.book
+  pub callee_is : v.callee ≡ target_by v.wish.book v.wish.aim
 
--- A row may change the book: it shows events, a connection begins, or SEL falls on a free bus.
+-- A row may change what it wants: it shows events, a connection begins, or SEL falls on a free bus, or a device enters
+-- arbitration.
 abbrev pub is_empty : List Event → Bool
 is_empty [] = true
 is_empty (e ∷ shown) = false
 
 abbrev pub is_news : Change → Option Connection → Option Connection → List Event → Bool
 is_news c before after shown =
-    not (is_empty shown) || (is_none before && (is_some after || falls c.before.sel c.after.sel))
+    is_entry c before || not (is_empty shown) || (is_none before && (is_some after || falls c.before.sel c.after.sel))

@@ -51,6 +51,22 @@ abbrev pub abort_tries_in : List MyAbort → ℕ → ℕ
 abort_tries_in [] n = 0
 abort_tries_in (a ∷ aborts) n = if a.number == n then a.tries else abort_tries_in aborts n
 
+-- ---- the target of an item
+
+abbrev pub target_in : List Mine → ℕ → Option ℕ
+target_in [] n = None
+target_in (m ∷ mines) n = if m.number == n then Some m.target else target_in mines n
+
+abbrev pub abort_target_in : List MyAbort → ℕ → Option ℕ
+abort_target_in [] n = None
+abort_target_in (a ∷ aborts) n = if a.number == n then Some a.target else abort_target_in aborts n
+
+abbrev pub target_by : BookValue → Option OwnItem → Option ℕ
+target_by v None = None
+target_by v (Some (own.Command n)) = target_in v.mines n
+target_by v (Some (own.Sense n)) = target_in v.mines n
+target_by v (Some (own.Abort n)) = abort_target_in v.aborts n
+
 -- ---- what it wants: its book, and for what it last entered arbitration
 
 pub record Wish : Type 0 where

@@ -3,7 +3,7 @@ ghost use Rattle.std.specs.Prelude.{◌≡◌, ◌<◌, ◌==◌, [], length, If
 ghost use Rattle.std.specs.List.{list_any};
 ghost use Rattle.bus_story.specs.Items.{open_limit_of};
 ghost use Rattle.bus_due.specs.Wants.{own_command};
-ghost use Rattle.initiator.specs.Wishes.{tries_in, abort_tries_in, book_after_events};
+ghost use Rattle.initiator.specs.Wishes.{tries_in, abort_tries_in, target_in, abort_target_in, target_by, book_after_events};
 ghost use Rattle.initiator.specs.Mines.{nothing_sent, mine_of, mines_of, my_abort, my_aborts};
 ghost use Rattle.initiator.specs.Books.{my_book, my_since, my_item, queue_with, queue_after_event, book_with_sent, book_with_over, book_with_try, book_with_done, book_with_abort_try, book_after_event};
 
@@ -148,6 +148,39 @@ impl Book {
             }
         }
         0
+    }
+
+    fn target(&self, number: u16) -> Option<Dev>
+        ensures { result ≡ target_in self.now.mines number }
+    {
+        for mine in self.mines.as_slice() {
+            if mine.number == number {
+                return Some(mine.target);
+            }
+        }
+        None
+    }
+
+    fn abort_target(&self, number: u16) -> Option<Dev>
+        ensures { result ≡ abort_target_in self.now.aborts number }
+    {
+        for abort in self.aborts.as_slice() {
+            if abort.number == number {
+                return Some(abort.target);
+            }
+        }
+        None
+    }
+
+    /// The target of an item of its own.
+    pub fn target_by(&self, item: Option<OwnItem>) -> Option<Dev>
+        ensures { result ≡ target_by self.now item }
+    {
+        match item {
+            None => None,
+            Some(OwnItem::Command(number) | OwnItem::Sense(number)) => self.target(number),
+            Some(OwnItem::Abort(number)) => self.abort_target(number),
+        }
     }
 
     // A command ended with CHECK CONDITION: one of its own stands in the queue once.

@@ -7,12 +7,13 @@ ghost use Rattle.bus_lines.specs.BusView.{IsBusViewOf};
 ghost use Rattle.scenario.specs.Value.{ScenarioValue};
 ghost use Rattle.bus_due.specs.Plain.{AreOfDevices};
 ghost use Rattle.bus_due.specs.RunSteps.{run_state};
-ghost use Rattle.bus_due.specs.Wants.{item_want_time};
-ghost use Rattle.initiator.specs.Wishes.{IsWishOf, wish_after, events_shown};
-ghost use Rattle.initiator.specs.Intents.{IsInitiator, IsIntentOf, is_empty, is_news};
+ghost use Rattle.bus_due.specs.Wants.{item_want_time, target_of};
+ghost use Rattle.bus_story.specs.TraceHistory.{aim_of};
+ghost use Rattle.initiator.specs.Wishes.{wish_after, events_shown, target_by};
+ghost use Rattle.initiator.specs.Intents.{IsInitiator, IsIntentOf, is_news};
 
 use crate::mine::OwnItem;
-use crate::wish::Wish;
+use crate::wish::{Wish, is_entry};
 use bus_base::{Dev, Event, NoMemory, Ns};
 use bus_due::{hearings_are_plain, kept_is_plain, wants_are_items};
 use bus_lines::{BusView, RowEffect};
@@ -29,6 +30,7 @@ pub struct Intent {
     wish: Wish,
     call: Option<Call>,
     since: Option<Ns>,
+    callee: Option<Dev>,
 }
 
 impl Model for Intent {
@@ -37,12 +39,12 @@ impl Model for Intent {
 
     ghost Value = { IntentValue };
 
-    ghost view = { λ a. record { dev = a.dev; retries = a.retries; wish = a.wish; call = a.call; since = a.since } };
+    ghost view = { λ a. record { dev = a.dev; retries = a.retries; wish = a.wish; call = a.call; since = a.since; callee = a.callee } };
 
     ghost invariant = { λ a. HasDevices a.call };
 }
 
-// A row may change the book.
+// A row may change what it wants.
 fn is_news(
     change: &Change,
     before: Option<Connection>,
@@ -51,7 +53,8 @@ fn is_news(
 ) -> bool
     ensures { result ≡ is_news change.now before after shown.now }
 {
-    !shown.is_empty()
+    is_entry(change, before)
+        || !shown.is_empty()
         || (before.is_none() && (after.is_some() || falls(change.before.sel(), change.after.sel())))
 }
 
@@ -72,6 +75,7 @@ impl Intent {
             wish,
             call: None,
             since,
+            callee: None,
         })
     }
 
@@ -82,6 +86,16 @@ impl Intent {
             → result ≡ item_want_time s (run_state s rows).story.sent self.now.dev }
     {
         self.since
+    }
+
+    /// The target of what it last entered arbitration for.
+    pub fn callee(&self) -> Option<Dev>
+        ensures value { result ≡ self.now.callee }
+        ensures trace { (s : ScenarioValue) (rows : List Row) → AreOfDevices rows → self.now.dev < 8
+            → IsIntentOf s rows self.now
+            → result ≡ target_of s (aim_of (run_state s rows).story.aims self.now.dev) }
+    {
+        self.callee
     }
 
     /// For what it last entered arbitration.
@@ -99,6 +113,7 @@ impl Intent {
         ensures wish { self.new.wish ≡ wish_after self.old.dev self.old.retries self.old.call self.old.wish effect.now.change effect.now.before effect.now.after row.now.dev row.now.time shown.now }
         ensures call { self.new.call ≡ call_after self.old.call effect.now.change row.now }
         ensures since { self.new.since ≡ (if is_news effect.now.change effect.now.before effect.now.after shown.now then my_since self.new.wish.book else self.old.since) }
+        ensures callee { self.new.callee ≡ (if is_news effect.now.change effect.now.before effect.now.after shown.now then target_by self.new.wish.book self.new.wish.aim else self.old.callee) }
     {
         let change = &effect.change;
         self.wish.see(
@@ -115,6 +130,7 @@ impl Intent {
         self.call = call_after(self.call, change, row);
         if is_news(change, effect.before, effect.after, shown) {
             self.since = self.wish.book().since();
+            self.callee = self.wish.book().target_by(self.wish.aim());
         }
     }
 

@@ -46,8 +46,8 @@ fn is_call_in_vain(dev: Dev, call: Option<Call>) -> bool
     }
 }
 
-// A device raises BSY, neither in a connection nor as an answer.
-fn is_entry(change: &Change, before: Option<Connection>) -> bool
+/// Whether a device enters arbitration: it raises BSY, neither in a connection nor as an answer (6.1.2).
+pub fn is_entry(change: &Change, before: Option<Connection>) -> bool
     ensures { result ≡ is_entry change.now before }
 {
     rises(change.own.bsy(), change.next.bsy()) && !change.before.sel() && before.is_none()
