@@ -6,6 +6,7 @@ mod Intents
 mod Loops
 mod Mines
 mod OwnRows
+mod Parts
 mod Queues
 mod Speeches
 mod Told

@@ -24,6 +24,8 @@ use Rattle.bus_due.specs.Wants.{ready_of, item_want_time, target_of}
 use Rattle.bus_due.specs.Sights.{sending_of}
 use Rattle.bus_due.specs.RunSteps.{run_state}
 use Rattle.bus_due.specs.Due.{reset_from}
+use Rattle.initiator.specs.Itself.{ItselfValue}
+use Rattle.initiator.specs.Intents.{IntentValue}
 
 -- ---- what any device is told after some rows, and what this one drives
 
@@ -103,3 +105,14 @@ first_fault (f ∷ faults) = Some f
 abbrev pub flip_by : Option FaultDef → ℕ → Option ℕ
 flip_by None time = None
 flip_by (Some f) time = if nat_le f.at time then Some f.bit else None
+
+-- What it knows, by its parts.
+abbrev pub state_by : ItselfValue → IntentValue → Speech → Sending → InitiatorState
+state_by v w speech sending = record {
+  own = v.own;
+  reset = v.reset;
+  since = w.since;
+  callee = w.callee;
+  speech = speech;
+  sending = sending;
+}

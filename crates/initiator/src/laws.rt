@@ -1,5 +1,5 @@
 // Laws of an initiator, each named by the contract of a function that does nothing.
-ghost use Rattle.std.specs.Prelude.{◌≡◌, List, ◌∷◌, Option, Some, None};
+ghost use Rattle.std.specs.Prelude.{◌≡◌, ◌<◌, List, ◌∷◌, Option, Some, None};
 ghost use Rattle.bus_trace.specs.declared.Row.{Row};
 ghost use Rattle.scenario.specs.declared.value.FaultDef.{FaultDef};
 ghost use Rattle.scenario.specs.declared.value.HostDef.{HostDef};
@@ -7,7 +7,12 @@ ghost use Rattle.scenario.specs.Value.{ScenarioValue};
 ghost use Rattle.bus_due.specs.Next.{due};
 ghost use Rattle.bus_due.specs.Plain.{AreOfDevices};
 ghost use Rattle.bus_due.specs.RunSteps.{run_state};
-ghost use Rattle.initiator.specs.States.{told, InitiatorState, IsInitiatorOf, IsHostOf, IsNoTarget, first_fault};
+ghost use Rattle.bus_dialogue.specs.Exchange.{Speech};
+ghost use Rattle.bus_dialogue.specs.Sending.{Sending};
+ghost use Rattle.bus_due.specs.Sights.{sending_of};
+ghost use Rattle.initiator.specs.Itself.{ItselfValue, IsItselfOf};
+ghost use Rattle.initiator.specs.Intents.{IntentValue, IsIntentOf};
+ghost use Rattle.initiator.specs.States.{told, InitiatorState, IsOwnConnection, IsInitiatorOf, IsHostOf, IsNoTarget, first_fault, state_by};
 ghost use Rattle.initiator.specs.Dues.{initiator_next};
 ghost use Rattle.initiator.specs.Speeches.{first_words, speech_at};
 ghost use Rattle.bus_trace.specs.declared.connection.Connection.{Connection};
@@ -44,3 +49,14 @@ pub fn speeches_are_heard()
     kept_is_plain();
     hearings_are_plain();
 }
+
+/// What an initiator knows itself is what its parts keep: of its own rows ([`Itself`](crate::Itself)), of what it wants
+/// ([`Intent`](crate::Intent)), and, in a connection of its own, of what it says and what it sends.
+pub fn initiators_are_their_parts()
+    ensures { (s : ScenarioValue) (rows : List Row) (h : HostDef) (v : ItselfValue) (w : IntentValue)
+        (speech : Speech) (sending : Sending) → AreOfDevices rows → h.dev < 8 → v.dev ≡ h.dev → w.dev ≡ h.dev
+        → IsItselfOf s rows v → IsIntentOf s rows w
+        → ((n : Connection) → IsOwnConnection rows h.dev n → speech ≡ speech_at s rows)
+        → ((n : Connection) → IsOwnConnection rows h.dev n → sending ≡ sending_of s (run_state s rows))
+        → IsInitiatorOf s rows h (state_by v w speech sending) }
+{}

@@ -20,7 +20,7 @@ pub use choice::{abort_by, aborts_since, first_sense, has_number, mine_by, mines
 pub use due::{Knowledge, Sending, initiator_next};
 pub use intent::Intent;
 pub use itself::Itself;
-pub use laws::{dues_are_of_initiators, speeches_are_heard};
+pub use laws::{dues_are_of_initiators, initiators_are_their_parts, speeches_are_heard};
 pub use marks::{all_aborts_tried, all_after_event, all_done, all_over, all_sent, all_tried, is_check};
 pub use mine::{Mine, MyAbort, OwnItem};
 pub use openings::{Words, abort_opening, process_opening};
