@@ -1,5 +1,5 @@
 -- The book of an initiator goes on by what is sent, what is over, what was called for in vain, and by events.
-use Rattle.std.proofs.Common.{ℕ, ◌≡◌, ◌+◌, Bool, true, false, List, [], ◌∷◌, ◌++◌, ◌∙◌, refl, sym, ap, arith, Option, Some, None, length}
+use Rattle.std.proofs.Common.{ℕ, ◌≡◌, ◌+◌, Bool, true, false, List, [], ◌∷◌, ◌++◌, ◌∙◌, refl, sym, ap, arith, length}
 use Rattle.std.specs.Prelude.{if◌then◌else◌, not, ◌&&◌, ◌||◌, ◌==◌, nat_lt, map}
 use Rattle.std.specs.List.{list_any}
 use Rattle.bus_base.specs.declared.ProcId.{ProcId}
@@ -8,13 +8,13 @@ use Rattle.bus_base.specs.declared.Event.TheVariants as events
 use Rattle.scenario.specs.declared.value.CmdDef.{CmdDef}
 use Rattle.scenario.specs.declared.value.AbortDef.{AbortDef}
 use Rattle.scenario.specs.Value.{ScenarioValue}
-use Rattle.bus_story.specs.Items.{Sent, Item, process, abort, command_item, sense_item, has_item, count_item, is_done, is_open, open_limit_of}
+use Rattle.bus_story.specs.Items.{Sent, process, abort, command_item, sense_item, has_item, count_item, is_done, is_open, open_limit_of}
 use Rattle.bus_story.specs.Story.{Story, Ending, by_status, by_abort, by_reset, story_with_over, story_with_end, story_with_ends, is_aborted, is_sense_stopped, story_after_event}
 use Rattle.bus_due.specs.Wants.{own_command}
 use Rattle.initiator.specs.declared.mine.Mine.{Mine}
 use Rattle.initiator.specs.declared.mine.MyAbort.{MyAbort}
 use Rattle.initiator.specs.Mines.{mine_of, mines_of, capped, my_abort, my_aborts, with_sent, with_over, with_one_try, with_status, is_check, sent_at, over_at, tried_at, mine_with_end, is_mine_aborted, is_my_sense_stopped, mine_after_event}
-use Rattle.initiator.specs.Books.{BookValue, has_number, is_new, queue_with, queue_from, my_book, book_with_sent, book_with_over, book_with_try, done_at, book_with_done, abort_tried_at, book_with_abort_try, queue_after_event, book_after_event}
+use Rattle.initiator.specs.Books.{has_number, queue_with, queue_from, my_book, book_with_sent, book_with_over, book_with_try, done_at, book_with_done, abort_tried_at, book_with_abort_try, book_after_event}
 use Rattle.initiator.proofs.Mines.{mines_stay, all_sent, all_over, all_tried, mines_after_event}
 
 -- ---- numbers stay
@@ -224,15 +224,15 @@ book_after s b (events.End id status) dev = go (is_check id status) refl
         let f : Mine → Mine = λ m. mine_after_event (events.End id status) m in
         let d : Sent = record b.sent { over = process id ∷ b.sent.over; checks = b.sent.checks ++ id.command ∷ [] } in
         let marks : mines_of d dev s.commands ≡ map f mines =
-          (λ i. mines_of (if sym e i then record (story_with_end b id (by_status status)) { sent = record (story_with_end b id (by_status status)).sent { checks = b.sent.checks ++ id.command ∷ [] } } else story_with_end b id (by_status status)).sent dev s.commands)
-          ∙ mines_after_event s b (events.End id status) dev in
+        (λ i. mines_of (if sym e i then record (story_with_end b id (by_status status)) { sent = record (story_with_end b id (by_status status)).sent { checks = b.sent.checks ++ id.command ∷ [] } } else story_with_end b id (by_status status)).sent dev s.commands)
+        ∙ mines_after_event s b (events.End id status) dev in
         (λ i. my_book s (if e i then record (story_with_end b id (by_status status)) { sent = record (story_with_end b id (by_status status)).sent { checks = b.sent.checks ++ id.command ∷ [] } } else story_with_end b id (by_status status)).sent dev)
         ∙ (λ i. record {
           mines = marks i;
           aborts = aborts_stay b.sent d dev 1 s.aborts (λ n a. refl) i;
           queue = (ap (λ (m : List Mine). queue_from m room [] (b.sent.checks ++ id.command ∷ [])) marks
-            ∙ queue_same mines (map f mines) room (λ n. same_numbers f (λ m. event_number (events.End id status) m) mines n) (b.sent.checks ++ id.command ∷ []) []
-            ∙ queue_more mines room b.sent.checks [] id.command) i;
+              ∙ queue_same mines (map f mines) room (λ n. same_numbers f (λ m. event_number (events.End id status) m) mines n) (b.sent.checks ++ id.command ∷ []) []
+              ∙ queue_more mines room b.sent.checks [] id.command) i;
           room = room;
           most = open_limit_of s.hosts dev;
         })
@@ -249,8 +249,8 @@ book_after s b (events.End id status) dev = go (is_check id status) refl
         let f : Mine → Mine = λ m. mine_after_event (events.End id status) m in
         let d : Sent = record b.sent { over = process id ∷ b.sent.over } in
         let marks : mines_of d dev s.commands ≡ map f mines =
-          (λ i. mines_of (if sym e i then record (story_with_end b id (by_status status)) { sent = record (story_with_end b id (by_status status)).sent { checks = b.sent.checks ++ id.command ∷ [] } } else story_with_end b id (by_status status)).sent dev s.commands)
-          ∙ mines_after_event s b (events.End id status) dev in
+        (λ i. mines_of (if sym e i then record (story_with_end b id (by_status status)) { sent = record (story_with_end b id (by_status status)).sent { checks = b.sent.checks ++ id.command ∷ [] } } else story_with_end b id (by_status status)).sent dev s.commands)
+        ∙ mines_after_event s b (events.End id status) dev in
         (λ i. my_book s (if e i then record (story_with_end b id (by_status status)) { sent = record (story_with_end b id (by_status status)).sent { checks = b.sent.checks ++ id.command ∷ [] } } else story_with_end b id (by_status status)).sent dev)
         ∙ marks_go_on s b.sent d dev f marks (λ m. event_number (events.End id status) m) (λ n a. refl) refl
         ∙ (λ i. record {

@@ -9,14 +9,13 @@ use Rattle.scenario.specs.Value.{ScenarioValue}
 use Rattle.disk_array.specs.Processes.{command_at}
 use Rattle.bus_story.specs.Items.{Item, abort, command_item, sense_item, Sent, is_done, is_of_host, is_clash, sense_from, or_else, open_limit_of}
 use Rattle.bus_reactions.specs.Reactions.{sooner_time, time_if}
-use Rattle.bus_dialogue.specs.Wants.{OwnCommand, open_in, may_follow, abort_by, command_by, item_by, abort_since, command_since, item_since}
+use Rattle.bus_dialogue.specs.Wants.{OwnCommand, open_in, may_follow, abort_by, command_by, item_by, abort_since, command_since}
 use Rattle.bus_due.specs.Wants.{own_command, own_commands, own_abort, own_aborts, book_of, item_want_time}
 use Rattle.initiator.specs.declared.mine.Mine.{Mine}
-use Rattle.initiator.specs.declared.mine.MyAbort.{MyAbort}
 use Rattle.initiator.specs.declared.mine.OwnItem.{OwnItem}
-use Rattle.initiator.specs.Mines.{mine_of, mines_of, my_abort, my_aborts, open_mines, is_open_mine, is_clash_of, may_follow_mines, is_done_mine, mines_since, mine_by, my_aborts_since, my_abort_by}
+use Rattle.initiator.specs.Mines.{mine_of, mines_of, my_abort, my_aborts, open_mines, is_clash_of, may_follow_mines, mines_since, mine_by, my_aborts_since, my_abort_by}
 use Rattle.initiator.proofs.Queues.{queue_is}
-use Rattle.initiator.specs.Books.{BookValue, is_sense_due, my_sense, my_book, my_since, my_item, abort_if, sense_if, command_if, item_of, item_if}
+use Rattle.initiator.specs.Books.{BookValue, is_sense_due, my_sense, my_book, my_since, my_item, abort_if, sense_if, command_if, item_if}
 
 abbrev mines_from : Sent → ℕ → ℕ → List CmdDef → List Mine
 mines_from b dev n commands = map (mine_of b.checks) (own_commands b dev n commands)
@@ -37,8 +36,10 @@ sense_due b dev k (c ∷ commands) zero n e = go (below b dev (k + 1) n commands
   where
     here : (k == n) ≡ true
     here = eq-eqb k n (omega (arith, e))
+
     same : k ≡ n
     same = omega (arith, e)
+
     go : is_sense_due (mines_from b dev (k + 1) commands) n ≡ false → (q : Bool) → is_sense_due (map (mine_of b.checks) (if q then own_command b k c ∷ own_commands b dev (k + 1) commands else own_commands b dev (k + 1) commands)) n ≡ (q && not (is_done b (sense_item n)))
     go r true = (λ i. if here i then not (is_done b (sense_item k)) else is_sense_due (mines_from b dev (k + 1) commands) n) ∙ (λ i. not (is_done b (sense_item (same i))))
     go r false = r
@@ -108,6 +109,7 @@ commands_by checks most time all (o ∷ own) = go (commands_by checks most time 
     some : (q : Bool) → command_item_if (if q then Some o.number else None) ≡ (if q then Some (command_item o.number) else None)
     some true = refl
     some false = refl
+
     go : command_item_if (mine_by most time (open_mines (map (mine_of checks) all)) (map (mine_of checks) own)) ≡ command_by most time (open_in all) own → (q : Bool) → command_item_if (if q then mine_by most time (open_mines (map (mine_of checks) all)) (map (mine_of checks) own) else if may_follow_mines most time (open_mines (map (mine_of checks) all)) (mine_of checks o) then Some o.number else None) ≡ (if not q then (if may_follow most time (open_in all) o.def then Some (command_item o.number) else None) else command_by most time (open_in all) own)
     go r true = r
     go r false = some (may_follow_mines most time (open_mines (map (mine_of checks) all)) (mine_of checks o)) ∙ (λ i. if follows_are checks most time all o i then Some (command_item o.number) else None)
@@ -133,6 +135,7 @@ aborts_by b dev k time (a ∷ aborts) = go (aborts_by b dev (k + 1) time aborts)
     some : abort_item_if (my_abort_by time (my_aborts b dev (k + 1) aborts)) ≡ abort_by time (own_aborts b dev (k + 1) aborts) → (q : Bool) → abort_item_if (if q then Some k else my_abort_by time (my_aborts b dev (k + 1) aborts)) ≡ (if q then Some (abort k) else abort_by time (own_aborts b dev (k + 1) aborts))
     some r true = refl
     some r false = r
+
     go : abort_item_if (my_abort_by time (my_aborts b dev (k + 1) aborts)) ≡ abort_by time (own_aborts b dev (k + 1) aborts) → (q : Bool) → abort_item_if (my_abort_by time (if q then my_abort b k a ∷ my_aborts b dev (k + 1) aborts else my_aborts b dev (k + 1) aborts)) ≡ abort_by time (if q then own_abort b k a ∷ own_aborts b dev (k + 1) aborts else own_aborts b dev (k + 1) aborts)
     go r true = some r (nat_le a.at time && not (is_done b (abort k)))
     go r false = r
@@ -147,8 +150,8 @@ pub since_is : (s : ScenarioValue) (b : Sent) (dev : ℕ) → my_since (my_book 
 since_is s b dev =
     let own : List OwnCommand = own_commands b dev 1 s.commands in
     λ i. sooner_time (aborts_since b dev 1 s.aborts i)
-        (sooner_time (time_if ((ap (λ (x : Option ℕ). is_some x) (queue_is b dev s.commands) ∙ sym (some_sense (my_sense (mines_of b dev s.commands) b.checks)) ∙ ap (λ (x : Option Item). is_some x) (sym (senses_are s b dev b.checks))) i) 0)
-            (commands_since b.checks (open_limit_of s.hosts dev) own own i))
+    (sooner_time (time_if ((ap (λ (x : Option ℕ). is_some x) (queue_is b dev s.commands) ∙ sym (some_sense (my_sense (mines_of b dev s.commands) b.checks)) ∙ ap (λ (x : Option Item). is_some x) (sym (senses_are s b dev b.checks))) i) 0)
+    (commands_since b.checks (open_limit_of s.hosts dev) own own i))
 
 abort_first : (a : Option ℕ) (other : Option OwnItem) → item_if (abort_if a other) ≡ or_else (abort_item_if a) (item_if other)
 abort_first None other = refl

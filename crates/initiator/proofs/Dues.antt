@@ -1,5 +1,5 @@
 -- What is due of an initiator is what it does next by what it knows.
-use Rattle.std.proofs.Common.{ℕ, ◌≡◌, ◌==◌, ◌∙◌, Bool, true, false, List, [], ◌∷◌, refl, sym, ap, Option, Some, None}
+use Rattle.std.proofs.Common.{ℕ, ◌≡◌, ◌==◌, ◌∙◌, Bool, true, false, List, [], ◌∷◌, refl, sym, Option, Some, None}
 use Rattle.std.specs.Prelude.{if◌then◌else◌, not}
 use Rattle.bus_trace.specs.declared.Row.{Row}
 use Rattle.bus_trace.specs.declared.changes.Change.{Change}
@@ -12,29 +12,26 @@ use Rattle.bus_reactions.specs.Sight.{sight}
 use Rattle.bus_dialogue.specs.Hearing.{begun}
 use Rattle.scenario.specs.declared.value.FaultDef.{FaultDef}
 use Rattle.scenario.specs.declared.value.HostDef.{HostDef}
-use Rattle.scenario.specs.declared.value.TargetDef.{TargetDef}
 use Rattle.scenario.specs.Value.{ScenarioValue}
 use Rattle.bus_story.specs.Samples.{latency_of, host_latency, target_latency}
 use Rattle.bus_reactions.specs.declared.due.Due.{Due}
 use Rattle.bus_reactions.specs.declared.due.Myself.{Myself}
-use Rattle.bus_reactions.specs.declared.due.Want.{Want}
 use Rattle.bus_reactions.specs.Linking.{link_due, sample_time}
 use Rattle.bus_reactions.specs.Reset.{with_reset}
 use Rattle.bus_reactions.specs.Ends as hand
 use Rattle.bus_dialogue.specs.Ends.{pace_by, answering_by}
-use Rattle.bus_due.specs.Own.{Own, own_at, own_of}
 use Rattle.bus_due.specs.Connected.{is_receiving, is_receiver, initiator_end_due, target_end_due, connected_due}
-use Rattle.bus_due.specs.RunState.{RunState, bus_of}
+use Rattle.bus_due.specs.RunState.{RunState}
 use Rattle.bus_due.specs.RunSteps.{run_state}
-use Rattle.bus_due.specs.Sights.{flip_of, identify_byte, want_of, sending_of, sight_of}
+use Rattle.bus_due.specs.Sights.{flip_of, identify_byte, want_of}
 use Rattle.bus_due.specs.Wants.{ready_time, initiator_if, ready_of, target_of, item_want_time}
 use Rattle.bus_story.specs.TraceHistory.{aim_of}
 use Rattle.bus_due.specs.Due.{self_of, due_if, stage_due, link_due_of, reset_from}
 use Rattle.bus_due.specs.Next.{due}
 use Rattle.bus_due.specs.Plain.{IsPlain, AreOfDevices}
 use Rattle.bus_due.specs.PlainDue.{IsThere, IsLinked, under_reset, initiator_reaction}
-use Rattle.initiator.specs.States.{Told, told, InitiatorState, IsOwnConnection, IsInitiatorOf, IsHostOf, IsNoTarget, first_fault, flip_by}
-use Rattle.initiator.specs.Dues.{myself_by, want_by, link_by, hand_by, connected_by, calm_by, initiator_next}
+use Rattle.initiator.specs.States.{told, InitiatorState, IsOwnConnection, IsInitiatorOf, IsHostOf, IsNoTarget, first_fault, flip_by}
+use Rattle.initiator.specs.Dues.{myself_by, want_by, link_by, hand_by, calm_by, initiator_next}
 
 -- ---- the scenario
 
@@ -88,7 +85,7 @@ other_receiver n (Some c) dev x y = no_receiver n c dev x y
 others_are : (s : ScenarioValue) (k : RunState) (me : Myself) (n : Connection) → (n.initiator == me.dev) ≡ false → (n.target == me.dev) ≡ false → connected_due s k me n ≡ None
 others_are s k me n x y =
     λ j. hand.sample_due (other_receiver n k.story.bus_state.crossed me.dev x y j) k.last (flip_of k.faults k.last)
-        (if x j then initiator_end_due s k me else if y j then target_end_due s k me else None)
+    (if x j then initiator_end_due s k me else if y j then target_end_due s k me else None)
 
 -- ---- in a connection of its own
 
@@ -97,9 +94,9 @@ hands_are s rows h i f n g p r e o =
     let k : RunState = run_state s rows in
     let last : ℕ = last_time rows in
     λ j. hand.sample_due (is_receiving (receiver rows) h.dev) last (flips_are k.faults f last e j)
-        (hand.initiator_due (begun rows) (sight rows) (handshakes rows) (myself_is s rows h i g p r j)
-            (pace_by (p.begun j) (p.bus j) (p.dialogue j).heard.now.agreement (g.host_is j))
-            (answering_by (sym (r.speech_is n o) j) (sym (r.sending_is n o) j) (p.bus j) (p.dialogue j).heard.now.offer ((p.own h.dev g.below ∙ sym r.own_is) j).ack))
+    (hand.initiator_due (begun rows) (sight rows) (handshakes rows) (myself_is s rows h i g p r j)
+    (pace_by (p.begun j) (p.bus j) (p.dialogue j).heard.now.agreement (g.host_is j))
+    (answering_by (sym (r.speech_is n o) j) (sym (r.sending_is n o) j) (p.bus j) (p.dialogue j).heard.now.offer ((p.own h.dev g.below ∙ sym r.own_is) j).ack))
 
 -- ---- whatever stands
 

@@ -3,7 +3,6 @@ use Rattle.std.proofs.Common.{ℕ, suc, zero, ◌≡◌, ◌≢◌, ◌+◌, ◌
 use Rattle.std.specs.Prelude.{if◌then◌else◌, not, ◌&&◌, ◌||◌, ◌==◌, map, nat_le}
 use Rattle.std.proofs.lemmas.Bool.{ne_eqb, eq-eqb}
 use Rattle.std.proofs.lemmas.Bool.Decides.{nat_tests}
-use Rattle.bus_base.specs.declared.ProcId.{ProcId}
 use Rattle.scenario.specs.declared.value.CmdDef.{CmdDef}
 use Rattle.scenario.specs.declared.value.AbortDef.{AbortDef}
 use Rattle.scenario.specs.Value.{ScenarioValue}
@@ -186,7 +185,7 @@ pub own_item : (s : ScenarioValue) (b : Sent) (dev time : ℕ) → IsItemIf s de
 own_item s b dev time =
     either_item s dev (abort_from b dev time 1 s.aborts) _ (own_abort_item s b dev time 1 s.aborts (λ j n e. ap (λ (x : ℕ). abort_line_at s.aborts x) (omega (arith, e))))
     (either_item s dev (sense_from s b dev b.checks) _ (own_sense_item s b dev b.checks)
-        (own_command_item s b dev time 1 s.commands (λ j n e. ap (λ (x : ℕ). command_at s.commands x) (omega (arith, e)))))
+    (own_command_item s b dev time 1 s.commands (λ j n e. ap (λ (x : ℕ). command_at s.commands x) (omega (arith, e)))))
 
 -- ---- how often it was called for in vain
 

@@ -1,6 +1,6 @@
 -- What an initiator wants of the bus, and since when, goes on row by row.
 use Rattle.std.proofs.Common.{ℕ, ◌≡◌, ◌<◌, Bool, true, false, List, [], ◌∷◌, ◌∙◌, refl, sym, ap, subst, Option, Some, None}
-use Rattle.std.specs.Prelude.{if◌then◌else◌, not, ◌&&◌, ◌||◌, ◌==◌, is_some, is_none}
+use Rattle.std.specs.Prelude.{if◌then◌else◌, ◌&&◌, ◌||◌, is_some, is_none}
 use Rattle.bus_base.specs.declared.Event.{Event}
 use Rattle.bus_trace.specs.declared.Row.{Row}
 use Rattle.bus_trace.specs.declared.changes.Change.{Change}
@@ -20,9 +20,9 @@ use Rattle.bus_due.specs.Sights.{hearing_of}
 use Rattle.bus_due.specs.Plain.{IsPlain, AreOfDevices}
 use Rattle.bus_due.specs.Wants.{item_want_time, target_of}
 use Rattle.bus_story.specs.Items.{Item}
-use Rattle.initiator.specs.Books.{BookValue, my_book, my_since, my_item}
-use Rattle.initiator.specs.Wishes.{Wish, IsWishOf, is_entry, is_call_in_vain, book_after_try, wish_with_entry, wish_on_free_bus, wish_on_bus, wish_by_change, wish_after, events_shown, IsItemIf, target_by}
-use Rattle.initiator.specs.Intents.{IntentValue, IsInitiator, IsIntentOf, is_empty, is_news}
+use Rattle.initiator.specs.Books.{BookValue, my_book, my_since}
+use Rattle.initiator.specs.Wishes.{Wish, IsWishOf, is_entry, is_call_in_vain, book_after_try, wish_with_entry, wish_on_bus, wish_after, events_shown, IsItemIf, target_by}
+use Rattle.initiator.specs.Intents.{IntentValue, IsInitiator, IsIntentOf, is_news}
 use Rattle.initiator.proofs.Books.{since_is}
 use Rattle.initiator.proofs.Wishes.{IsItemLaw, HasInitiator}
 use Rattle.initiator.specs.Mines.{nothing_sent}
@@ -47,9 +47,11 @@ same_wish dev retries called w c before after row_dev time [] e = go c.after.rst
     left : (p q : Bool) → (p || false || q) ≡ false → p ≡ false
     left true q z = cc
     left false q z = refl
+
     right : (p q : Bool) → (p || false || q) ≡ false → q ≡ false
     right true q z = cc
     right false q z = z
+
     go : (q : Bool) → is_entry c before ≡ false → (is_none before && (is_some after || falls c.before.sel c.after.sel)) ≡ false → (if q then w else wish_on_bus dev retries called w c before after row_dev time) ≡ w
     go true x y = refl
     go false x y = same_on_bus dev retries called w c before after row_dev time x y
@@ -67,7 +69,7 @@ intent_goes_on items s rows row v w e shown dev wish called since callee is p q 
     let few : retries_of s.hosts v.dev < 255 = subst (λ (n : ℕ). n < 255) i.retries_are i.few in
     let x = wish_goes_on items s rows row v.dev v.wish p q heard d i.is_one few i.below ends h.wish_is in
     let y : wish_after v.dev (retries_of s.hosts v.dev) (call rows) v.wish (change_of rows row) (connection rows) (connection (row ∷ rows)) row.dev row.time (events_shown s rows row) ≡ w.wish =
-      (λ j. wish_after v.dev (sym i.retries_are j) (sym h.call_is j) v.wish (sym is j).change (sym is j).before (sym is j).after row.dev row.time (sym told j)) ∙ sym wish in
+    (λ j. wish_after v.dev (sym i.retries_are j) (sym h.call_is j) v.wish (sym is j).change (sym is j).before (sym is j).after row.dev row.time (sym told j)) ∙ sym wish in
     record {
       wish_is = subst (λ (z : ℕ). IsWishOf s z (row ∷ rows) w.wish) (sym dev) (subst (λ (z : Wish). IsWishOf s v.dev (row ∷ rows) z) y x);
       call_is = called ∙ (λ j. call_after (h.call_is j) (is j).change row);
@@ -77,9 +79,11 @@ intent_goes_on items s rows row v w e shown dev wish called since callee is p q 
   where
     unchanged : is_news e.change e.before e.after shown ≡ false → v.wish ≡ w.wish
     unchanged n = sym (same_wish v.dev v.retries v.call v.wish e.change e.before e.after row.dev row.time shown n) ∙ sym wish
+
     go : (q : Bool) → is_news e.change e.before e.after shown ≡ q → w.since ≡ (if q then my_since w.wish.book else v.since) → w.since ≡ my_since w.wish.book
     go true n x = x
     go false n x = x ∙ h.since_is ∙ (λ j. my_since (unchanged n j).book)
+
     to : (q : Bool) → is_news e.change e.before e.after shown ≡ q → w.callee ≡ (if q then target_by w.wish.book w.wish.aim else v.callee) → w.callee ≡ target_by w.wish.book w.wish.aim
     to true n x = x
     to false n x = x ∙ h.callee_is ∙ (λ j. target_by (unchanged n j).book (unchanged n j).aim)

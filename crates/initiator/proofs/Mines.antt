@@ -1,6 +1,6 @@
 -- What an initiator keeps of its own commands goes on by what is sent, what is over, and by events.
-use Rattle.std.proofs.Common.{ℕ, ◌≡◌, ◌+◌, ◌<◌, ◌≤◌, Bool, true, false, List, [], ◌∷◌, ◌∙◌, refl, sym, ap, arith}
-use Rattle.std.specs.Prelude.{if◌then◌else◌, not, ◌&&◌, ◌||◌, ◌==◌, ◌++◌, map}
+use Rattle.std.proofs.Common.{ℕ, ◌≡◌, ◌+◌, ◌<◌, Bool, true, false, List, [], ◌∷◌, ◌∙◌, refl, sym, ap, arith}
+use Rattle.std.specs.Prelude.{if◌then◌else◌, ◌&&◌, ◌||◌, ◌==◌, ◌++◌, map}
 use Rattle.std.proofs.lemmas.Bool.{ne_eqb, eq-eqb}
 use Rattle.std.proofs.lemmas.List.Folds.{list_any-append}
 use Rattle.std.specs.List.{list_any}
@@ -9,11 +9,10 @@ use Rattle.bus_base.specs.declared.AbortKind.{AbortKind}
 use Rattle.bus_base.specs.declared.AbortKind.TheVariants as aborts
 use Rattle.bus_base.specs.declared.Event.{Event}
 use Rattle.bus_base.specs.declared.Event.TheVariants as events
-use Rattle.cdb_codec.specs.declared.status.TheConstants.{CHECK_CONDITION}
 use Rattle.scenario.specs.declared.value.CmdDef.{CmdDef}
 use Rattle.scenario.specs.Value.{ScenarioValue}
-use Rattle.bus_story.specs.Items.{Sent, Item, process, abort, command_item, sense_item, has_item, count_item, is_open}
-use Rattle.bus_story.specs.Story.{Story, Ending, by_status, by_abort, by_reset, story_with_over, story_with_end, story_with_ends, with_check, is_aborted, is_sense_stopped, story_after_event}
+use Rattle.bus_story.specs.Items.{Sent, process, command_item, sense_item, has_item, count_item, is_open}
+use Rattle.bus_story.specs.Story.{Story, Ending, by_status, by_abort, by_reset, story_with_over, story_with_end, story_with_ends, is_aborted, is_sense_stopped, story_after_event}
 use Rattle.bus_due.specs.Wants.{own_command, own_commands}
 use Rattle.initiator.specs.declared.mine.Mine.{Mine}
 use Rattle.initiator.specs.Mines.{capped, mine_of, mines_of, with_sent, with_over, with_one_try, with_checked, with_status, is_check, sent_at, over_at, tried_at, mine_with_end, is_mine_aborted, is_my_sense_stopped, mine_after_event}
@@ -165,6 +164,7 @@ all_over_by drops stops f g x y e dev n (c ∷ commands) b =
   where
     this : mine (story_with_ends drops stops e (n + 1) commands (step drops stops e n c b)).sent n c ≡ mine_with_end (f (mine b.sent n c)) (g (mine b.sent n c)) (mine b.sent n c)
     this = earlier drops stops e commands (step drops stops e n c b) (n + 1) n c (omega arith) ∙ step_this drops stops f g x y e n c b
+
     go : mines_from (story_with_ends drops stops e (n + 1) commands (step drops stops e n c b)).sent dev (n + 1) commands ≡ map (λ (m : Mine). mine_with_end (f m) (g m) m) (mines_from b.sent dev (n + 1) commands) → (q : Bool) → map (mine_of (story_with_ends drops stops e (n + 1) commands (step drops stops e n c b)).sent.checks) (if q then own_command (story_with_ends drops stops e (n + 1) commands (step drops stops e n c b)).sent n c ∷ own_commands (story_with_ends drops stops e (n + 1) commands (step drops stops e n c b)).sent dev (n + 1) commands else own_commands (story_with_ends drops stops e (n + 1) commands (step drops stops e n c b)).sent dev (n + 1) commands) ≡ map (λ (m : Mine). mine_with_end (f m) (g m) m) (map (mine_of b.sent.checks) (if q then own_command b.sent n c ∷ own_commands b.sent dev (n + 1) commands else own_commands b.sent dev (n + 1) commands))
     go r true = λ i. this i ∷ r i
     go r false = r

@@ -1,14 +1,13 @@
 -- What an initiator knows is what its parts keep.
-use Rattle.std.proofs.Common.{ℕ, ◌≡◌, ◌<◌, ◌==◌, Bool, true, List, ◌∙◌, sym, ap, subst, Option, Some}
+use Rattle.std.proofs.Common.{ℕ, ◌≡◌, ◌<◌, List, ◌∙◌, sym, subst}
 use Rattle.bus_trace.specs.declared.Row.{Row}
 use Rattle.bus_trace.specs.declared.connection.Connection.{Connection}
 use Rattle.scenario.specs.declared.value.HostDef.{HostDef}
-use Rattle.scenario.specs.declared.value.ResetDef.{ResetDef}
 use Rattle.scenario.specs.Value.{ScenarioValue}
 use Rattle.bus_story.specs.TraceHistory.{aim_of}
 use Rattle.bus_dialogue.specs.Exchange.{Speech}
 use Rattle.bus_dialogue.specs.Sending.{Sending}
-use Rattle.bus_due.specs.Own.{Own, own_of}
+use Rattle.bus_due.specs.Own.{own_of}
 use Rattle.bus_due.specs.Due.{reset_from}
 use Rattle.bus_due.specs.Wants.{item_want_time, target_of}
 use Rattle.bus_due.specs.Sights.{sending_of}

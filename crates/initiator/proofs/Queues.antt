@@ -1,5 +1,5 @@
 -- The queue of an initiator has its commands that ended with CHECK CONDITION, each once, in their order.
-use Rattle.std.proofs.Common.{inl, inr, ℕ, suc, zero, ◌≡◌, ◌≢◌, ◌+◌, ◌<◌, ◌≤◌, Bool, true, false, List, [], ◌∷◌, ◌++◌, ◌∙◌, refl, sym, ap, subst, arith, Option, Some, None, length}
+use Rattle.std.proofs.Common.{inl, inr, ℕ, suc, zero, ◌≡◌, ◌+◌, ◌<◌, ◌≤◌, Bool, true, false, List, [], ◌∷◌, ◌++◌, ◌∙◌, refl, sym, ap, arith, Option, Some, None, length}
 use Rattle.std.specs.Prelude.{if◌then◌else◌, not, ◌&&◌, ◌||◌, ◌==◌, nat_lt, is_some, map}
 use Rattle.std.proofs.lemmas.Bool.{cases_eq, ne_eqb, eq-eqb}
 use Rattle.std.proofs.lemmas.Bool.Decides.{nat_tests}
@@ -10,7 +10,7 @@ use Rattle.bus_story.specs.Items.{Sent}
 use Rattle.bus_due.specs.Wants.{own_command, own_commands}
 use Rattle.initiator.specs.declared.mine.Mine.{Mine}
 use Rattle.initiator.specs.Mines.{mine_of, mines_of}
-use Rattle.initiator.specs.Books.{is_sense_due, my_sense, has_number, is_new, queue_with, queue_from}
+use Rattle.initiator.specs.Books.{is_sense_due, my_sense, has_number, queue_with, queue_from}
 
 -- ---- which sense comes first
 
@@ -52,6 +52,7 @@ due_in_queue mines n (k ∷ queue) d h = go (is_sense_due mines k) refl (k == n)
   where
     same : (k == n) ≡ true → k ≡ n
     same e = grind (arith, nat_tests)
+
     go : (p : Bool) → is_sense_due mines k ≡ p → (q : Bool) → (k == n) ≡ q → (q || list_any (λ k. k == n) queue) ≡ true → (list_any (λ k. k == n) queue ≡ true → is_some (my_sense mines queue) ≡ true) → is_some (if p then Some k else my_sense mines queue) ≡ true
     go true e q f x r = refl
     go false e true f x r = absurd (no_false (sym e ∙ ap (λ (z : ℕ). is_sense_due mines z) (same f) ∙ d))
@@ -87,8 +88,8 @@ missing zero n queue h e = omega (arith, h)
 missing (suc b) n queue h e =
     elim (cases_eq n b) [
       | inl x ↦
-        let none : bit (list_any (λ k. k == b) queue) ≡ 0 = ap (λ (z : ℕ). bit (list_any (λ k. k == z) queue)) (sym x) ∙ ap (λ (q : Bool). bit q) e in
-        omega (arith, none, at_most b queue)
+          let none : bit (list_any (λ k. k == b) queue) ≡ 0 = ap (λ (z : ℕ). bit (list_any (λ k. k == z) queue)) (sym x) ∙ ap (λ (q : Bool). bit q) e in
+          omega (arith, none, at_most b queue)
       | inr x ↦ omega (arith, small (list_any (λ k. k == b) queue), missing b n queue (omega (arith, h, x)) e)
     ]
 
@@ -114,15 +115,15 @@ grows zero n queue h e = omega (arith, h)
 grows (suc b) n queue h e =
     elim (cases_eq n b) [
       | inl x ↦
-        let none : list_any (λ k. k == b) queue ≡ false = ap (λ (z : ℕ). list_any (λ k. k == z) queue) (sym x) ∙ e in
-        let now : list_any (λ k. k == b) (queue ++ n ∷ []) ≡ true = any_with queue n b ∙ (λ i. none i || eq-eqb n b x i) in
-        let was : bit (list_any (λ k. k == b) queue) ≡ 0 = ap (λ (q : Bool). bit q) none in
-        let is : bit (list_any (λ k. k == b) (queue ++ n ∷ [])) ≡ 1 = ap (λ (q : Bool). bit q) now in
-        omega (arith, was, is, stays b n queue (omega (arith, x)))
+          let none : list_any (λ k. k == b) queue ≡ false = ap (λ (z : ℕ). list_any (λ k. k == z) queue) (sym x) ∙ e in
+          let now : list_any (λ k. k == b) (queue ++ n ∷ []) ≡ true = any_with queue n b ∙ (λ i. none i || eq-eqb n b x i) in
+          let was : bit (list_any (λ k. k == b) queue) ≡ 0 = ap (λ (q : Bool). bit q) none in
+          let is : bit (list_any (λ k. k == b) (queue ++ n ∷ [])) ≡ 1 = ap (λ (q : Bool). bit q) now in
+          omega (arith, was, is, stays b n queue (omega (arith, x)))
       | inr x ↦
-        let other : list_any (λ k. k == b) (queue ++ n ∷ []) ≡ list_any (λ k. k == b) queue = any_with queue n b ∙ (λ i. list_any (λ k. k == b) queue || ne_eqb n b x i) ∙ or_false (list_any (λ k. k == b) queue) in
-        let same : bit (list_any (λ k. k == b) (queue ++ n ∷ [])) ≡ bit (list_any (λ k. k == b) queue) = ap (λ (q : Bool). bit q) other in
-        omega (arith, same, grows b n queue (omega (arith, h, x)) e)
+          let other : list_any (λ k. k == b) (queue ++ n ∷ []) ≡ list_any (λ k. k == b) queue = any_with queue n b ∙ (λ i. list_any (λ k. k == b) queue || ne_eqb n b x i) ∙ or_false (list_any (λ k. k == b) queue) in
+          let same : bit (list_any (λ k. k == b) (queue ++ n ∷ [])) ≡ bit (list_any (λ k. k == b) queue) = ap (λ (q : Bool). bit q) other in
+          omega (arith, same, grows b n queue (omega (arith, h, x)) e)
     ]
 
 length_with : (queue : List ℕ) (n : ℕ) → length (queue ++ n ∷ []) ≡ length queue + 1
@@ -168,9 +169,11 @@ in_range b dev k (c ∷ commands) n h = go (c.host == dev) h (λ x. in_range b d
   where
     same : (k == n) ≡ true → k ≡ n
     same e = grind (arith, nat_tests)
+
     found : (q : Bool) → (k == n) ≡ q → (q || has_number (map (mine_of b.checks) (own_commands b dev (k + 1) commands)) n) ≡ true → (has_number (map (mine_of b.checks) (own_commands b dev (k + 1) commands)) n ≡ true → n < length commands + (k + 1)) → n < length (c ∷ commands) + k
     found true e x r = omega (arith, same e)
     found false e x r = omega (arith, r x)
+
     go : (q : Bool) → has_number (map (mine_of b.checks) (if q then own_command b k c ∷ own_commands b dev (k + 1) commands else own_commands b dev (k + 1) commands)) n ≡ true → (has_number (map (mine_of b.checks) (own_commands b dev (k + 1) commands)) n ≡ true → n < length commands + (k + 1)) → n < length (c ∷ commands) + k
     go true x r = found (k == n) refl x r
     go false x r = omega (arith, r x)

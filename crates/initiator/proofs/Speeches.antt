@@ -1,12 +1,11 @@
 -- What the initiator of a connection says goes on by what it hears.
-use Rattle.std.proofs.Common.{ℕ, ◌≡◌, ◌∙◌, List, ◌∷◌, refl, sym, Option, Some, None}
+use Rattle.std.proofs.Common.{◌≡◌, ◌∙◌, List, ◌∷◌, Some, None}
 use Rattle.bus_trace.specs.declared.Row.{Row}
 use Rattle.bus_trace.specs.declared.connection.Connection.{Connection}
 use Rattle.bus_trace.specs.Terms.{connection}
 use Rattle.scenario.specs.Value.{ScenarioValue}
 use Rattle.bus_story.specs.BusState.{RowReading, row_reading}
-use Rattle.bus_dialogue.specs.declared.exchange.Hearing.{Hearing}
-use Rattle.bus_dialogue.specs.Exchange.{Speech, no_speech, speech_of}
+use Rattle.bus_dialogue.specs.Exchange.{no_speech, speech_of}
 use Rattle.bus_dialogue.specs.Speaking.{speech_after}
 use Rattle.bus_dialogue.specs.Hearing.{hearing}
 use Rattle.bus_due.specs.Defs.{host_of}

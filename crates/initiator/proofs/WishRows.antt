@@ -1,29 +1,26 @@
 -- What an initiator wants goes on row by row.
-use Rattle.std.proofs.Common.{ℕ, suc, zero, ◌≡◌, ◌+◌, ◌<◌, Bool, true, false, List, [], ◌∷◌, ◌∙◌, refl, sym, ap, subst, Option, Some, None, length}
-use Rattle.std.specs.Prelude.{if◌then◌else◌, not, ◌&&◌, ◌||◌, ◌==◌, is_none, replicate, ◌++◌}
+use Rattle.std.proofs.Common.{ℕ, suc, zero, ◌≡◌, ◌+◌, ◌<◌, Bool, true, false, List, [], ◌∷◌, ◌∙◌, refl, sym, subst, Option, Some, None}
+use Rattle.std.specs.Prelude.{if◌then◌else◌, not, ◌&&◌, ◌==◌, is_none, replicate, ◌++◌}
 use Rattle.std.specs.List.{list_any}
 use Rattle.bus_base.specs.declared.Event.{Event}
 use Rattle.bus_base.specs.declared.Event.TheVariants as events
 use Rattle.bus_trace.specs.declared.Row.{Row}
-use Rattle.bus_trace.specs.declared.changes.Change.{Change}
 use Rattle.bus_trace.specs.declared.connection.Connection.{Connection}
 use Rattle.bus_trace.specs.declared.selection.Call.{Call}
 use Rattle.bus_trace.specs.Changes.{rises, falls, change_of}
-use Rattle.bus_trace.specs.Terms.{call, call_after, call_goes_on, connection}
+use Rattle.bus_trace.specs.Terms.{call, call_goes_on, connection}
 use Rattle.scenario.specs.declared.value.CmdDef.{CmdDef}
 use Rattle.scenario.specs.Value.{ScenarioValue}
 use Rattle.bus_story.specs.BusState.{RowReading, row_reading}
-use Rattle.bus_story.specs.Items.{Item, Sent, sense_item, is_open, item_at}
-use Rattle.bus_story.specs.Story.{Story, Ending, by_abort, by_reset, by_status, story_with_end, story_with_over, story_with_ends, with_check, is_aborted, is_sense_stopped, story_after_event, story_after_events}
-use Rattle.bus_story.specs.TraceHistory.{aim_of, is_host, retries_of, story_with_aim, story_after_calling, story_after_connection, story_in_connection, story_on_free_bus, story_on_bus, story_by_change}
-use Rattle.bus_dialogue.specs.declared.exchange.Hearing.{Hearing}
+use Rattle.bus_story.specs.Items.{Item, sense_item, is_open}
+use Rattle.bus_story.specs.Story.{Story, Ending, by_abort, by_reset, by_status, story_with_end, story_with_over, story_with_ends, is_aborted, is_sense_stopped, story_after_event, story_after_events}
+use Rattle.bus_story.specs.TraceHistory.{aim_of, is_host, retries_of, story_with_aim, story_after_calling, story_on_free_bus, story_on_bus, story_by_change}
 use Rattle.bus_dialogue.specs.Hearing.{hearing}
-use Rattle.bus_due.specs.RunState.{RunState}
 use Rattle.bus_due.specs.RunSteps.{run_state}
 use Rattle.bus_due.specs.Sights.{hearing_of}
 use Rattle.bus_due.specs.Plain.{IsPlain, AreOfDevices}
 use Rattle.cdb_codec.specs.declared.status.TheConstants.{CHECK_CONDITION}
-use Rattle.initiator.specs.Books.{BookValue, my_book, book_after_event}
+use Rattle.initiator.specs.Books.{my_book, book_after_event}
 use Rattle.initiator.specs.Wishes.{IsItemIf, Wish, IsWishBy, IsWishOf, AreAims, wish_by_change, book_after_events, wish_after, events_shown}
 use Rattle.initiator.proofs.BookSteps.{book_after}
 use Rattle.initiator.proofs.Wishes.{IsItemLaw, IsCaller, HasInitiator, entered, calling_aims, connection_aims, kept_connected, change_wish}
@@ -86,6 +83,7 @@ change_aims s b d row lt a = go d.change.after.rst
     on_bus None (Some n) = subst (λ (x : List (Option Item)). AreAims s x) (sym (connection_aims b n)) a
     on_bus (Some m) None = a
     on_bus (Some m) (Some n) = subst (λ (x : List (Option Item)). AreAims s x) (sym (kept_connected s b b.link d row).aims) a
+
     go : (q : Bool) → AreAims s (if q then record b { link = None } else story_on_bus s b b.bus_state.connection d.next d row).aims
     go true = a
     go false = on_bus b.bus_state.connection d.next
@@ -131,12 +129,12 @@ wish_goes_on items s rows row dev w p q heard d host few lt ends h =
     let c : Story = story_by_change s b r row in
     let plain : Wish = wish_by_change dev (retries_of s.hosts dev) (call rows) w (change_of rows row) (connection rows) (connection (row ∷ rows)) row.dev row.time in
     let known : wish_by_change dev (retries_of s.hosts dev) b.bus_state.call w r.change b.bus_state.connection r.next row.dev row.time ≡ plain =
-      λ i. wish_by_change dev (retries_of s.hosts dev) (p.call i) w (heard i).change (p.connection i) (q.connection i) row.dev row.time in
+    λ i. wish_by_change dev (retries_of s.hosts dev) (p.call i) w (heard i).change (p.connection i) (q.connection i) row.dev row.time in
     let x : IsWishBy s dev c plain =
-      subst (λ (z : Wish). IsWishBy s dev c z) known
-      (change_wish items s b dev w r row host few (aims_are s rows d.1) lt d.0
-        (subst (λ (z : Option Call). IsCaller z) (sym p.call) (callers_are rows d.1))
-        (subst (λ (z : Option Connection). HasInitiator z) (sym q.connection) ends) h) in
+    subst (λ (z : Wish). IsWishBy s dev c z) known
+    (change_wish items s b dev w r row host few (aims_are s rows d.1) lt d.0
+    (subst (λ (z : Option Call). IsCaller z) (sym p.call) (callers_are rows d.1))
+    (subst (λ (z : Option Connection). HasInitiator z) (sym q.connection) ends) h) in
     record {
       book_is = (λ i. book_after_events (x.book_is i) shown) ∙ sym (events_book s c dev shown);
       aim_is = x.aim_is ∙ (λ i. aim_of (sym (events_aims s c shown) i) dev);

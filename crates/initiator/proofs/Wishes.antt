@@ -1,21 +1,18 @@
 -- What an initiator wants goes on by what each row does.
-use Rattle.std.proofs.Common.{inl, inr, ℕ, suc, zero, ◌≡◌, ◌≢◌, ◌+◌, ◌<◌, Bool, true, false, List, [], ◌∷◌, ◌∙◌, refl, sym, ap, subst, arith, Option, Some, None, length, length-set}
-use Rattle.std.specs.Prelude.{if◌then◌else◌, not, ◌&&◌, ◌||◌, ◌==◌, slice_set, slice_index_or, is_some, is_none, nat_lt, ⊤}
-use Rattle.std.proofs.lemmas.Bool.{cases_eq, ne_eqb, eq-eqb}
+use Rattle.std.proofs.Common.{inl, inr, ℕ, suc, zero, ◌≡◌, ◌≢◌, ◌<◌, Bool, true, false, List, [], ◌∷◌, ◌∙◌, refl, sym, ap, subst, arith, Option, Some, None, length, length-set}
+use Rattle.std.specs.Prelude.{if◌then◌else◌, not, ◌&&◌, ◌==◌, slice_set, slice_index_or, is_some, is_none, nat_lt, ⊤}
+use Rattle.std.proofs.lemmas.Bool.{cases_eq, eq-eqb}
 use Rattle.std.proofs.lemmas.Bool.Decides.{nat_tests}
 use Rattle.std.proofs.lemmas.Grind.{common_steps, elements}
-use Rattle.bus_base.specs.declared.ProcId.{ProcId}
-use Rattle.bus_base.specs.declared.Event.{Event}
 use Rattle.bus_trace.specs.declared.Row.{Row}
-use Rattle.bus_trace.specs.declared.changes.Change.{Change}
 use Rattle.bus_trace.specs.declared.connection.Connection.{Connection}
 use Rattle.bus_trace.specs.declared.selection.Call.{Call}
 use Rattle.bus_trace.specs.declared.selection.Calling.{Calling}
 use Rattle.bus_trace.specs.Changes.{rises, falls}
 use Rattle.scenario.specs.Value.{ScenarioValue}
 use Rattle.bus_story.specs.BusState.{RowReading}
-use Rattle.bus_story.specs.Items.{Item, process, abort, command_item, sense_item, Sent, count_item, item_at}
-use Rattle.bus_story.specs.Story.{Story, unanswered, story_with_end, story_with_over, story_after_event, story_after_events}
+use Rattle.bus_story.specs.Items.{Item, process, abort, command_item, Sent, count_item, item_at}
+use Rattle.bus_story.specs.Story.{Story}
 use Rattle.bus_story.specs.TraceHistory.{aim_of, is_host, retries_of, is_counted, story_without_answer, story_with_try, story_after_calling, story_after_calling_by, story_with_restored, story_with_sent, story_after_connection, story_with_carried, story_after_out, story_after_message, story_after_name, story_after_in, story_after_byte, story_after_crossing, story_after_fault, story_in_connection, story_with_aim, story_on_free_bus, story_on_bus, story_by_change, is_parity_error, carried_after_message_if, carried_after_byte_if, carried_after_fault_if}
 use Rattle.bus_story.specs.HistoryEvents.{carried_if}
 use Rattle.bus_story.specs.CarriedBytes.{CarriedBytes}
@@ -27,12 +24,12 @@ use Rattle.bus_story.specs.Links.{Link, link_of, last_out, last_in, link_after_n
 use Rattle.initiator.specs.declared.mine.OwnItem.{OwnItem}
 use Rattle.initiator.specs.declared.mine.OwnItem.TheVariants as own
 use Rattle.initiator.specs.Mines.{capped}
-use Rattle.initiator.specs.Books.{BookValue, my_book, my_item, item_if, item_of, book_with_over, book_with_done, book_with_try, book_with_abort_try}
-use Rattle.initiator.specs.Wishes.{IsItemOf, IsItemIf, tries_in, abort_tries_in, Wish, IsWishBy, AreAims, command_tried, abort_tried, book_after_try, book_after_send, is_unanswered, is_call_in_vain, wish_after_connection, wish_with_entry, wish_on_free_bus, wish_on_bus, wish_by_change, book_after_events}
+use Rattle.initiator.specs.Books.{my_book, my_item, item_if, book_with_over, book_with_done}
+use Rattle.initiator.specs.Wishes.{IsItemOf, IsItemIf, tries_in, abort_tries_in, Wish, IsWishBy, AreAims, command_tried, abort_tried, book_after_try, book_after_send, is_unanswered, is_call_in_vain, wish_after_connection, wish_with_entry, wish_on_free_bus, wish_on_bus, wish_by_change}
 use Rattle.bus_dialogue.specs.Wants.{item_by}
 use Rattle.bus_due.specs.Wants.{book_of}
 use Rattle.initiator.proofs.Books.{item_is}
-use Rattle.initiator.proofs.BookSteps.{book_sent, book_over, book_try, book_after, book_abort_sent, book_abort_over, book_abort_try, book_sense_try}
+use Rattle.initiator.proofs.BookSteps.{book_sent, book_over, book_try, book_abort_sent, book_abort_over, book_abort_try, book_sense_try}
 use Rattle.initiator.proofs.Foreign.{others_sent, others_over, others_try, own_item, tries_are, abort_tries_are}
 
 -- ---- what each device last entered arbitration for
@@ -58,7 +55,7 @@ tried_command s b dev n few h =
     let d : Sent = record b.sent { tries = command_item n ∷ b.sent.tries } in
     let count : ℕ = count_item d.tries (command_item n) in
     let known : nat_lt r (tries_in (my_book s d dev).mines n) ≡ nat_lt r count =
-      ap (λ (x : ℕ). nat_lt r x) (tries_are d dev s.commands n h) ∙ no_more r count few in
+    ap (λ (x : ℕ). nat_lt r x) (tries_are d dev s.commands n h) ∙ no_more r count few in
     go (nat_lt r count) refl
     ∙ (λ i. if sym known i then book_with_over (my_book s d dev) (record { command = n; sense = false }) else my_book s d dev)
     ∙ (λ i. command_tried r (book_try s b.sent dev n i) n)
@@ -73,7 +70,7 @@ tried_abort s b dev n few h =
     let d : Sent = record b.sent { tries = abort n ∷ b.sent.tries } in
     let count : ℕ = count_item d.tries (abort n) in
     let known : nat_lt r (abort_tries_in (my_book s d dev).aborts n) ≡ nat_lt r count =
-      ap (λ (x : ℕ). nat_lt r x) (abort_tries_are d dev s.aborts n h) ∙ no_more r count few in
+    ap (λ (x : ℕ). nat_lt r x) (abort_tries_are d dev s.aborts n h) ∙ no_more r count few in
     go (nat_lt r count)
     ∙ (λ i. if sym known i then book_with_done (my_book s d dev) n else my_book s d dev)
     ∙ (λ i. abort_tried r (book_abort_try s b.sent dev n i) n)
@@ -111,6 +108,7 @@ try_aims s b d (Some item) = go (is_counted item && nat_lt (retries_of s.hosts d
     of_item : (b : Story) (item : Item) → (story_without_answer b item).aims ≡ b.aims
     of_item b (process id) = refl
     of_item b (abort k) = refl
+
     go : (q : Bool) → (if q then story_without_answer (record b { sent = record b.sent { tries = item ∷ b.sent.tries } }) item else record b { sent = record b.sent { tries = item ∷ b.sent.tries } }).aims ≡ b.aims
     go true = of_item (record b { sent = record b.sent { tries = item ∷ b.sent.tries } }) item
     go false = refl
@@ -155,11 +153,13 @@ called_book s b dev w (Some c) few a lt ok h = by_calling c.calling
       where
         same : (x y : ℕ) → (x == y) ≡ true → x ≡ y
         same x y e = grind (arith, nat_tests)
+
         other : (x y : ℕ) → (x == y) ≡ false → x ≢ y
         other x y e z = no (sym e ∙ eq-eqb x y z)
           where
             no : false ≡ true → ⊥
             no q = cc
+
         go : (q : Bool) → (c.caller == dev) ≡ q → (p : Bool) → (if q && p then book_after_try (retries_of s.hosts dev) w.book w.aim else w.book) ≡ my_book s (if p then story_with_try s b c.caller (aim_of b.aims c.caller) else b).sent dev
         go true e true = sym own_try ∙ (λ i. my_book s (story_with_try s b (sym (same c.caller dev e) i) (aim_of b.aims (sym (same c.caller dev e) i))).sent dev)
         go true e false = h.book_is
@@ -366,6 +366,7 @@ free_wish items s b dev w d row host few a lt rlt ok h e =
       where
         aims : item_if w.aim ≡ aim_of (story_after_calling s b b.bus_state.call).aims dev
         aims = h.aim_is ∙ (λ i. aim_of (sym (calling_aims s b b.bus_state.call) i) dev)
+
         by_test : (q : Bool) → (if q then book_after_try (retries_of s.hosts dev) w.book w.aim else w.book) ≡ my_book s (story_after_calling s b b.bus_state.call).sent dev → IsWishBy s dev (story_after_calling s b b.bus_state.call) (if q then record w { book = book_after_try (retries_of s.hosts dev) w.book w.aim } else w)
         by_test true x = record { book_is = x; aim_is = aims }
         by_test false x = record { book_is = x; aim_is = aims }

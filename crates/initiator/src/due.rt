@@ -30,8 +30,8 @@ use bus_lines::BusView;
 use bus_phases::End;
 use bus_reactions::{Answering, Due, Myself, Pace, Want, sight_of};
 use bus_trace::{
-    ASSERTION_PERIOD, DATA_HOLD, Kind, Lines, NEGATION_PERIOD, SET_UP_TIME, TransferTimes, is_command,
-    is_data, is_message_out, transfer_times,
+    ASSERTION_PERIOD, DATA_HOLD, Kind, Lines, NEGATION_PERIOD, SET_UP_TIME, TransferTimes,
+    is_command, is_data, is_message_out, transfer_times,
 };
 use connect::{due_with_reset, link_due, sample_time};
 use handshake::initiator_due;

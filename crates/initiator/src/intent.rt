@@ -60,7 +60,12 @@ fn is_news(
 
 impl Intent {
     /// Of this initiator, which tries again so often, before any row. It takes all its memory here.
-    pub fn new(alloc: Global, scenario: &Scenario, dev: Dev, retries: u8) -> Result<Intent, NoMemory>
+    pub fn new(
+        alloc: Global,
+        scenario: &Scenario,
+        dev: Dev,
+        retries: u8,
+    ) -> Result<Intent, NoMemory>
         requires commands { length scenario.now.commands < 0xffff }
         requires aborts { length scenario.now.aborts < 0xffff }
         ensures named { IfOk result (λ made. made.dev ≡ dev) }

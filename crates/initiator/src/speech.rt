@@ -56,11 +56,7 @@ fn words_after(host: &HostDef, hearing: &Hearing, asked: Agreement) -> ArrayVec<
     } else if hearing.struck {
         encode_out(&MsgOut::ParityError)
     } else {
-        encode_out(&MsgOut::Sdtr(agreement_answer(
-            host.period,
-            host.offset,
-            asked,
-        )))
+        encode_out(&MsgOut::Sdtr(agreement_answer(host.period, host.offset, asked)))
     }
 }
 

@@ -1,4 +1,4 @@
-use Rattle.std.proofs.Common.{◌≡◌, ◌∷◌, subst, Option}
+use Rattle.std.proofs.Common.{◌∷◌, subst, Option}
 use Rattle.bus_trace.specs.declared.connection.Connection.{Connection}
 use Rattle.initiator.proofs.Wishes.{HasInitiator}
 use Rattle.initiator.proofs.Intents.{intent_goes_on, has_initiator}

@@ -1,4 +1,4 @@
-use Rattle.std.proofs.Common.{◌≡◌, ◌∙◌, ap}
+use Rattle.std.proofs.Common.{◌∙◌, ap}
 use Rattle.initiator.specs.Intents.{IntentValue}
 use Rattle.initiator.proofs.Intents.{wants_since}
 use Rattle.initiator.proofs.intent.Intent.since.Goals as goal

@@ -1,4 +1,4 @@
-use Rattle.std.proofs.Common.{◌≡◌, ◌^◌, ◌∷◌, ap}
+use Rattle.std.proofs.Common.{◌^◌, ◌∷◌, ap}
 use Rattle.bus_lines.specs.declared.effect.RowEffect.{RowEffect}
 use Rattle.initiator.proofs.OwnRows.{itself_goes_on}
 use Rattle.initiator.proofs.itself.Itself.see.Goals as goal
