@@ -21,6 +21,8 @@ mod hands;
 #[cfg(test)]
 mod host_pointers;
 #[cfg(test)]
+mod initiators;
+#[cfg(test)]
 mod io_pieces;
 #[cfg(test)]
 mod judges;

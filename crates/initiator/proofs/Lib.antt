@@ -1,0 +1,14 @@
+mod Dues
+mod Books
+mod BookSteps
+mod Foreign
+mod Intents
+mod Loops
+mod Mines
+mod OwnRows
+mod Parts
+mod Queues
+mod Speeches
+mod Told
+mod Wishes
+mod WishRows

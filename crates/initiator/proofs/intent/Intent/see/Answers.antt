@@ -1,0 +1,17 @@
+use Rattle.std.proofs.Common.{◌∷◌, subst, Option}
+use Rattle.bus_trace.specs.declared.connection.Connection.{Connection}
+use Rattle.initiator.proofs.Wishes.{HasInitiator}
+use Rattle.initiator.proofs.Intents.{intent_goes_on, has_initiator}
+use Rattle.initiator.proofs.intent.Intent.see.Goals as goal
+
+pub returns : goal.returns
+returns c = λ s rows v d i told h.
+    let row = c.args.row.now in
+    let e = c.effect.ensures.trace (row ∷ rows) v in
+    let n = c.connection.ensures.trace (row ∷ rows) v in
+    intent_goes_on c.wants_are_items.ensures.items s rows row c.args.self.now c.after_effect.new.self _ c.args.shown.now
+    c.after_effect.ensures.dev c.after_effect.ensures.wish c.after_effect.ensures.call c.after_effect.ensures.since c.after_effect.ensures.callee
+    (λ j. record { change = (e j).change; before = (e j).before; after = n j; receiver = (e j).receiver; fault = (e j).fault })
+    (c.kept_is_plain.ensures.rows s rows d.1) (c.kept_is_plain.ensures.rows s (row ∷ rows) d)
+    (c.hearings_are_plain.ensures.hearing s rows row d.1 d.0) d
+    (subst (λ (z : Option Connection). HasInitiator z) n (has_initiator _ c.connection.ensures.ends)) i told h

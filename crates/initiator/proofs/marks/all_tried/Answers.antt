@@ -1,0 +1,11 @@
+use Rattle.std.proofs.Common.{◌∙◌}
+use Rattle.std.specs.Prelude.{slice_set}
+use Rattle.initiator.specs.declared.mine.Mine.{Mine}
+use Rattle.initiator.specs.Mines.{tried_at}
+use Rattle.initiator.proofs.Loops.{writes_more}
+use Rattle.initiator.proofs.marks.all_tried.Goals as goal
+
+pub loop-mine-preserved : goal.loop-mine-preserved
+loop-mine-preserved c =
+    (λ j. slice_set c.loop-mine.mines c.loop-mine.mine-index (c.tried_at.ensures j))
+    ∙ writes_more (λ (m : Mine). tried_at c.args.number m) c.args.mines.now c.loop-mine.mines c.loop-mine.mine-index _ c.loop-mine-test.true c.loop-mine.auto.mines c.loop-mine.invariant

@@ -1,0 +1,57 @@
+-- What an initiator does next, and when, by what all devices are told and by what it knows itself.
+use Rattle.std.specs.Prelude.{◌==◌, Bool, true, false, Option, Some, None, if◌then◌else◌}
+use Rattle.bus_trace.specs.declared.connection.Connection.{Connection}
+use Rattle.scenario.specs.declared.value.FaultDef.{FaultDef}
+use Rattle.scenario.specs.declared.value.HostDef.{HostDef}
+use Rattle.bus_reactions.specs.declared.due.Due.{Due}
+use Rattle.bus_reactions.specs.declared.due.Myself.{Myself}
+use Rattle.bus_reactions.specs.declared.due.Want.{Want}
+use Rattle.bus_reactions.specs.declared.ends.Answering.{Answering}
+use Rattle.bus_reactions.specs.declared.ends.Pace.{Pace}
+use Rattle.bus_reactions.specs.Linking.{link_due, sample_time}
+use Rattle.bus_reactions.specs.Ends as hand
+use Rattle.bus_reactions.specs.Reset.{with_reset}
+use Rattle.bus_dialogue.specs.Ends.{pace_by, answering_by}
+use Rattle.bus_due.specs.Connected.{is_receiving}
+use Rattle.initiator.specs.States.{Told, InitiatorState, flip_by}
+
+abbrev pub myself_by : HostDef → Told → InitiatorState → Myself
+myself_by h t i = record { dev = h.dev; latency = h.latency; own = t.lines; since = i.own.row }
+
+-- An initiator selects, and never reselects; the first byte after a reselection is a target's.
+abbrev pub want_by : InitiatorState → Want
+want_by i = record { since = i.since; callee = i.callee; reselects = false; first = 0x80 }
+
+-- On its way to a connection (6.1.1 to 6.1.4).
+abbrev pub link_by : HostDef → Told → Option FaultDef → InitiatorState → Option Due
+link_by h t f i =
+    link_due t.sight (myself_by h t i) (want_by i) (flip_by f (sample_time t.sight (myself_by h t i)))
+
+-- In a connection of its own (6.1.5, 6.2.1); in one of others it does nothing.
+abbrev pub pace_of_host : HostDef → Told → Pace
+pace_of_host h t = pace_by t.begun t.sight.bus t.agreement (Some h)
+
+abbrev pub answering_of_host : Told → InitiatorState → Answering
+answering_of_host t i = answering_by i.speech i.sending t.sight.bus t.offer i.own.ack
+
+abbrev pub plain_by : HostDef → Told → InitiatorState → Option Due
+plain_by h t i =
+    hand.initiator_due t.begun t.sight t.handshakes (myself_by h t i) (pace_of_host h t) (answering_of_host t i)
+
+-- It samples a byte that crossed to it in the last row first.
+abbrev pub hand_by : HostDef → Told → Option FaultDef → InitiatorState → Option Due
+hand_by h t f i = hand.sample_due (is_receiving t.receiver h.dev) t.last (flip_by f t.last) (plain_by h t i)
+
+abbrev pub connected_by : HostDef → Told → Option FaultDef → InitiatorState → Connection → Option Due
+connected_by h t f i n = if n.initiator == h.dev then hand_by h t f i else None
+
+-- While RST is true it goes by that, whatever stands (6.2.2).
+abbrev pub calm_by : HostDef → Told → Option FaultDef → InitiatorState → Bool → Option Connection → Option Due
+calm_by h t f i true n = link_by h t f i
+calm_by h t f i false None = link_by h t f i
+calm_by h t f i false (Some n) = connected_by h t f i n
+
+-- A reset of its own goes before all that (6.2.2).
+abbrev pub initiator_next : HostDef → Told → Option FaultDef → InitiatorState → Option Due
+initiator_next h t f i =
+    with_reset (myself_by h t i) i.own.rst i.reset (calm_by h t f i t.sight.bus.rst t.connection)

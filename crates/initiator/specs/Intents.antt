@@ -1,0 +1,46 @@
+-- What an initiator wants of the bus after some rows, and since when.
+use Rattle.std.specs.Prelude.{ℕ, ◌≡◌, ◌<◌, Bool, true, false, not, ◌&&◌, ◌||◌, List, [], ◌∷◌, Option, is_some, is_none}
+use Rattle.bus_base.specs.declared.Event.{Event}
+use Rattle.bus_trace.specs.declared.Row.{Row}
+use Rattle.bus_trace.specs.declared.changes.Change.{Change}
+use Rattle.bus_trace.specs.declared.connection.Connection.{Connection}
+use Rattle.bus_trace.specs.declared.selection.Call.{Call}
+use Rattle.bus_trace.specs.Changes.{falls}
+use Rattle.bus_trace.specs.Terms.{call}
+use Rattle.scenario.specs.Value.{ScenarioValue}
+use Rattle.bus_story.specs.TraceHistory.{is_host, retries_of}
+use Rattle.initiator.specs.Books.{my_since}
+use Rattle.initiator.specs.Wishes.{Wish, IsWishOf, is_entry, target_by}
+
+pub record IntentValue : Type 0 where
+  pub dev : ℕ
+  -- how often it tries again
+  pub retries : ℕ
+  pub wish : Wish
+  -- the call that stands; since when it wants to send something; and the target of what it last entered arbitration for
+  pub call : Option Call
+  pub since : Option ℕ
+  pub callee : Option ℕ
+
+-- The scenario has this initiator.
+pub record IsInitiator (s : ScenarioValue) (dev retries : ℕ) : Type 0 where
+  pub below : dev < 8
+  pub is_one : is_host s.hosts dev ≡ true
+  pub retries_are : retries ≡ retries_of s.hosts dev
+  pub few : retries < 255
+
+pub record IsIntentOf (s : ScenarioValue) (rows : List Row) (v : IntentValue) : Type 0 where
+  pub wish_is : IsWishOf s v.dev rows v.wish
+  pub call_is : v.call ≡ call rows
+  pub since_is : v.since ≡ my_since v.wish.book
+  pub callee_is : v.callee ≡ target_by v.wish.book v.wish.aim
+
+-- A row may change what it wants: it shows events, a connection begins, or SEL falls on a free bus, or a device enters
+-- arbitration.
+abbrev pub is_empty : List Event → Bool
+is_empty [] = true
+is_empty (e ∷ shown) = false
+
+abbrev pub is_news : Change → Option Connection → Option Connection → List Event → Bool
+is_news c before after shown =
+    is_entry c before || not (is_empty shown) || (is_none before && (is_some after || falls c.before.sel c.after.sel))

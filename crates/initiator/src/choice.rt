@@ -1,0 +1,167 @@
+// What an initiator sends next, and since when it wants to, by its own commands and aborts.
+ghost use Rattle.std.specs.Prelude.{◌≡◌, length};
+ghost use Rattle.std.specs.List.{list_any};
+ghost use Rattle.bus_story.specs.Items.{tag_number_if, is_tag_clash};
+ghost use Rattle.bus_reactions.specs.Reactions.{time_if};
+ghost use Rattle.initiator.specs.Mines.{open_mines, is_open_mine, is_done_mine, is_clash_of, may_follow_mines, mines_since, mine_by, my_aborts_since, my_abort_by};
+ghost use Rattle.initiator.specs.Books.{is_sense_due, my_sense, has_number};
+
+use crate::mine::{Mine, MyAbort};
+use crate::resets::sooner_time;
+use bus_base::Ns;
+use scenario::Tag;
+
+fn is_open(mine: &Mine) -> bool
+    ensures { result ≡ is_open_mine mine.now }
+{
+    mine.sent && !mine.over
+}
+
+fn is_done(mine: &Mine) -> bool
+    ensures { result ≡ is_done_mine mine.now }
+{
+    mine.sent || mine.over
+}
+
+fn tag_number(tag: Tag) -> Option<u8>
+    ensures { result ≡ tag_number_if tag }
+{
+    match tag {
+        Tag::Untagged => None,
+        Tag::Simple(number) | Tag::Ordered(number) | Tag::Head(number) => Some(number),
+    }
+}
+
+fn is_tag_clash(a: Option<u8>, b: Option<u8>) -> bool
+    ensures { result ≡ is_tag_clash a b }
+{
+    match (a, b) {
+        (Some(a), Some(b)) => a == b,
+        _ => true,
+    }
+}
+
+// At one unit: an untagged command beside any, or two with one tag (6.6.17, 7.8).
+fn is_clash(mine: &Mine, other: &Mine) -> bool
+    ensures { result ≡ is_clash_of mine.now other.now }
+{
+    mine.target == other.target
+        && mine.unit == other.unit
+        && is_tag_clash(tag_number(mine.tag), tag_number(other.tag))
+}
+
+fn open_count(mines: &[Mine]) -> usize
+    ensures { result ≡ length (open_mines mines.now) }
+{
+    let mut count = 0;
+    for mine in mines {
+        if is_open(mine) {
+            count += 1;
+        }
+    }
+    count
+}
+
+fn has_clash(mines: &[Mine], mine: &Mine) -> bool
+    ensures { result ≡ list_any (λ d. is_clash_of mine.now d) (open_mines mines.now) }
+{
+    for other in mines {
+        if is_open(other) && is_clash(mine, other) {
+            return true;
+        }
+    }
+    false
+}
+
+fn may_follow(most: usize, time: Ns, mines: &[Mine], mine: &Mine) -> bool
+    ensures { result ≡ may_follow_mines most time (open_mines mines.now) mine.now }
+{
+    mine.at <= time && open_count(mines) < most && !has_clash(mines, mine)
+}
+
+/// Since when the first command that is still to be sent may be sent, in ns.
+pub fn mines_since(most: usize, mines: &[Mine]) -> Option<Ns>
+    ensures { result ≡ mines_since most (open_mines mines.now) mines.now }
+{
+    for mine in mines {
+        if !is_done(mine) {
+            return if may_follow(most, mine.at, mines, mine) {
+                Some(mine.at)
+            } else {
+                None
+            };
+        }
+    }
+    None
+}
+
+/// Its number, where it may be sent at this time.
+pub fn mine_by(most: usize, time: Ns, mines: &[Mine]) -> Option<u16>
+    ensures { result ≡ mine_by most time (open_mines mines.now) mines.now }
+{
+    for mine in mines {
+        if !is_done(mine) {
+            return if may_follow(most, time, mines, mine) {
+                Some(mine.number)
+            } else {
+                None
+            };
+        }
+    }
+    None
+}
+
+/// When the first abort that is still to be sent falls due, in ns.
+pub fn aborts_since(aborts: &[MyAbort]) -> Option<Ns>
+    ensures { result ≡ my_aborts_since aborts.now }
+{
+    let mut since = None;
+    for abort in aborts {
+        if !abort.done {
+            since = sooner_time(since, Some(abort.at));
+        }
+    }
+    since
+}
+
+/// The first line of one that is due at this time and still to be sent.
+pub fn abort_by(time: Ns, aborts: &[MyAbort]) -> Option<u16>
+    ensures { result ≡ my_abort_by time aborts.now }
+{
+    for abort in aborts {
+        if abort.at <= time && !abort.done {
+            return Some(abort.number);
+        }
+    }
+    None
+}
+
+/// Whether the command of this number is one of these.
+pub fn has_number(mines: &[Mine], number: u16) -> bool
+    ensures { result ≡ has_number mines.now number }
+{
+    mines.iter().any(|mine| mine.number == number)
+}
+
+fn is_sense_due(mines: &[Mine], number: u16) -> bool
+    ensures { result ≡ is_sense_due mines.now number }
+{
+    for mine in mines {
+        if mine.number == number {
+            return !(mine.sense_sent || mine.sense_over);
+        }
+    }
+    false
+}
+
+/// The first of these commands whose automatic REQUEST SENSE is still to be sent.
+pub fn first_sense(mines: &[Mine], queue: &[u16]) -> Option<u16>
+    ensures { result ≡ my_sense mines.now queue.now }
+{
+    for number in queue {
+        if is_sense_due(mines, *number) {
+            return Some(*number);
+        }
+    }
+    None
+}

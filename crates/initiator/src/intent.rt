@@ -1,0 +1,159 @@
+//! What an initiator wants of the bus, row by row.
+ghost use Rattle.std.specs.Prelude.{◌≡◌, ◌<◌, [], ◌∷◌, List, length, if◌then◌else◌, IfOk};
+ghost use Rattle.bus_trace.specs.Terms.{call_after};
+ghost use Rattle.initiator.specs.Books.{my_since};
+ghost use Rattle.bus_trace.specs.declared.rows.Row.{Row};
+ghost use Rattle.bus_lines.specs.BusView.{IsBusViewOf};
+ghost use Rattle.scenario.specs.Value.{ScenarioValue};
+ghost use Rattle.bus_due.specs.Plain.{AreOfDevices};
+ghost use Rattle.bus_due.specs.RunSteps.{run_state};
+ghost use Rattle.bus_due.specs.Wants.{item_want_time, target_of};
+ghost use Rattle.bus_story.specs.TraceHistory.{aim_of};
+ghost use Rattle.initiator.specs.Wishes.{wish_after, events_shown, target_by};
+ghost use Rattle.initiator.specs.Intents.{IsInitiator, IsIntentOf, is_news};
+
+use crate::mine::OwnItem;
+use crate::wish::{Wish, is_entry};
+use bus_base::{Dev, Event, NoMemory, Ns};
+use bus_due::{hearings_are_plain, kept_is_plain, wants_are_items};
+use bus_lines::{BusView, RowEffect};
+use bus_trace::{Call, Change, Connection, Row, call_after, falls};
+use scenario::Scenario;
+use std::alloc::Global;
+use std::marker::Model;
+
+/// What an initiator wants of the bus, and since when.
+#[derive(Debug, Drop)]
+pub struct Intent {
+    dev: Dev,
+    retries: u8,
+    wish: Wish,
+    call: Option<Call>,
+    since: Option<Ns>,
+    callee: Option<Dev>,
+}
+
+impl Model for Intent {
+    ghost use Rattle.bus_trace.specs.Calls.{HasDevices};
+    ghost use Rattle.initiator.specs.Intents.{IntentValue};
+
+    ghost Value = { IntentValue };
+
+    ghost view = { λ a. record { dev = a.dev; retries = a.retries; wish = a.wish; call = a.call; since = a.since; callee = a.callee } };
+
+    ghost invariant = { λ a. HasDevices a.call };
+}
+
+// A row may change what it wants.
+fn is_news(
+    change: &Change,
+    before: Option<Connection>,
+    after: Option<Connection>,
+    shown: &[Event],
+) -> bool
+    ensures { result ≡ is_news change.now before after shown.now }
+{
+    is_entry(change, before)
+        || !shown.is_empty()
+        || (before.is_none() && (after.is_some() || falls(change.before.sel(), change.after.sel())))
+}
+
+impl Intent {
+    /// Of this initiator, which tries again so often, before any row. It takes all its memory here.
+    pub fn new(
+        alloc: Global,
+        scenario: &Scenario,
+        dev: Dev,
+        retries: u8,
+    ) -> Result<Intent, NoMemory>
+        requires commands { length scenario.now.commands < 0xffff }
+        requires aborts { length scenario.now.aborts < 0xffff }
+        ensures named { IfOk result (λ made. made.dev ≡ dev) }
+        ensures tries { IfOk result (λ made. made.retries ≡ retries) }
+        ensures trace { IfOk result (λ made. IsIntentOf scenario.now [] made) }
+    {
+        let wish = Wish::new(alloc, scenario, dev)?;
+        let since = wish.book().since();
+        Ok(Intent {
+            dev,
+            retries,
+            wish,
+            call: None,
+            since,
+            callee: None,
+        })
+    }
+
+    /// Since when it wants to send something, in ns.
+    pub fn since(&self) -> Option<Ns>
+        ensures value { result ≡ self.now.since }
+        ensures trace { (s : ScenarioValue) (rows : List Row) → IsIntentOf s rows self.now
+            → result ≡ item_want_time s (run_state s rows).story.sent self.now.dev }
+    {
+        self.since
+    }
+
+    /// The target of what it last entered arbitration for.
+    pub fn callee(&self) -> Option<Dev>
+        ensures value { result ≡ self.now.callee }
+        ensures trace { (s : ScenarioValue) (rows : List Row) → AreOfDevices rows → self.now.dev < 8
+            → IsIntentOf s rows self.now
+            → result ≡ target_of s (aim_of (run_state s rows).story.aims self.now.dev) }
+    {
+        self.callee
+    }
+
+    /// For what it last entered arbitration.
+    pub fn aim(&self) -> Option<OwnItem>
+        ensures { result ≡ self.now.wish.aim }
+    {
+        self.wish.aim()
+    }
+
+    // What it wants after a row that did this.
+    fn after_effect(&mut self, effect: &RowEffect, row: &Row, shown: &[Event])
+        requires { row.now.dev < 8 }
+        ensures dev { self.new.dev ≡ self.old.dev }
+        ensures retries { self.new.retries ≡ self.old.retries }
+        ensures wish { self.new.wish ≡ wish_after self.old.dev self.old.retries self.old.call self.old.wish effect.now.change effect.now.before effect.now.after row.now.dev row.now.time shown.now }
+        ensures call { self.new.call ≡ call_after self.old.call effect.now.change row.now }
+        ensures since { self.new.since ≡ (if is_news effect.now.change effect.now.before effect.now.after shown.now then my_since self.new.wish.book else self.old.since) }
+        ensures callee { self.new.callee ≡ (if is_news effect.now.change effect.now.before effect.now.after shown.now then target_by self.new.wish.book self.new.wish.aim else self.old.callee) }
+    {
+        let change = &effect.change;
+        self.wish.see(
+            self.dev,
+            self.retries,
+            self.call,
+            change,
+            effect.before,
+            effect.after,
+            row.dev,
+            row.time,
+            shown,
+        );
+        self.call = call_after(self.call, change, row);
+        if is_news(change, effect.before, effect.after, shown) {
+            self.since = self.wish.book().since();
+            self.callee = self.wish.book().target_by(self.wish.aim());
+        }
+    }
+
+    /// One more row, of any device, which shows these events, the newest first; the view is that after it.
+    pub fn see(&mut self, view: &BusView, row: &Row, shown: &[Event])
+        requires { row.now.dev < 8 }
+        ensures { (s : ScenarioValue) (rows : List Row) → IsBusViewOf (row.now ∷ rows) view.now
+            → AreOfDevices (row.now ∷ rows) → IsInitiator s self.old.dev self.old.retries
+            → shown.now ≡ events_shown s rows row.now
+            → IsIntentOf s rows self.old → IsIntentOf s (row.now ∷ rows) self.new }
+    {
+        kept_is_plain();
+        hearings_are_plain();
+        wants_are_items();
+        let effect = RowEffect {
+            after: view.connection(),
+            ..*view.effect()
+        };
+        self.after_effect(&effect, row, shown);
+    }
+}

@@ -1,0 +1,154 @@
+//! What the initiator of a connection has to say in MESSAGE OUT (ANSI X3.131-1994, 6.1.9, 6.2.1 and 6.6).
+ghost use Rattle.std.specs.Prelude.{◌≡◌, ◌≤◌, length, Some};
+ghost use Rattle.bus_dialogue.specs.Exchange.{no_speech, next_word, attends_with, speech_after_byte, speech_of, speech_after_request};
+ghost use Rattle.bus_dialogue.specs.Words.{agreement_answer, host_answer};
+ghost use Rattle.bus_dialogue.specs.Speaking.{words_after, speech_in_phase, speech_with_byte, speech_after};
+
+use arrayvec::ArrayVec;
+use bus_dialogue::Hearing;
+use bus_trace::{Agreement, changes_phase, is_message_in, is_message_out};
+use msg_grammar::{MsgIn, MsgOut, encode_out};
+use scenario::HostDef;
+use std::marker::Model;
+
+/// What the initiator says in MESSAGE OUT, the place of its next byte, and what the target has last asked for by a
+/// synchronous data transfer request.
+#[derive(Debug, Drop)]
+pub struct Speech {
+    words: ArrayVec<u8, 8>,
+    place: usize,
+    asked: Agreement,
+}
+
+impl Model for Speech {
+    ghost use Rattle.std.specs.Prelude.{◌≤◌, length};
+    ghost use Rattle.bus_dialogue.specs.Exchange as exchange;
+
+    ghost Value = { exchange.Speech };
+
+    ghost view = { λ a. record { words = a.words.items; place = a.place; asked = a.asked } };
+
+    ghost invariant = { λ a. (a.place ≤ length a.words.items) × (length a.words.items ≤ 8) };
+}
+
+// The answer to a synchronous data transfer request (6.6.21).
+fn agreement_answer(period: u8, offset: u8, heard: Agreement) -> Agreement
+    ensures { result ≡ agreement_answer period offset heard }
+{
+    if period == 0 {
+        return Agreement {
+            period: heard.period,
+            offset: 0,
+        };
+    }
+    Agreement {
+        period: period.max(heard.period),
+        offset: offset.min(heard.offset),
+    }
+}
+
+// What it says of the phase before MESSAGE OUT.
+fn words_after(host: &HostDef, hearing: &Hearing, asked: Agreement) -> ArrayVec<u8, 5>
+    ensures { result.items ≡ words_after (Some host.now) hearing.now asked }
+{
+    if !is_message_in(hearing.change.before) {
+        encode_out(&MsgOut::DetectedError)
+    } else if hearing.struck {
+        encode_out(&MsgOut::ParityError)
+    } else {
+        encode_out(&MsgOut::Sdtr(agreement_answer(host.period, host.offset, asked)))
+    }
+}
+
+impl Speech {
+    /// It says nothing, and was asked for nothing.
+    pub fn new() -> Speech
+        ensures { result ≡ no_speech }
+    {
+        Speech {
+            words: ArrayVec::new(),
+            place: 0,
+            asked: Agreement {
+                period: 0,
+                offset: 0,
+            },
+        }
+    }
+
+    /// It says these bytes, eight at most, from the first on.
+    pub fn say(&mut self, words: &[u8])
+        requires { length words.now ≤ 8 }
+        ensures { self.new ≡ speech_of self.old words.now }
+    {
+        self.place = 0;
+        self.words.clear();
+        let _ = self.words.try_extend_from_slice(words);
+    }
+
+    /// The byte that it says next; 00 past the last one.
+    pub fn next_word(&self) -> u8
+        ensures { result ≡ next_word self.now }
+    {
+        match self.words.get(self.place) {
+            Some(byte) => *byte,
+            None => 0,
+        }
+    }
+
+    /// Whether ATN is true with that byte: whether a further one follows (6.1.9, 6.2.1).
+    pub fn attends(&self) -> bool
+        ensures { result ≡ attends_with self.now }
+    {
+        self.place + 1 < self.words.len()
+    }
+
+    fn after_byte(&mut self)
+        ensures { self.new ≡ speech_after_byte self.old }
+    {
+        if self.place + 1 < self.words.len() {
+            self.place += 1;
+        } else {
+            self.place = 0;
+        }
+    }
+
+    fn after_request(&mut self, message: Option<MsgIn>)
+        ensures { self.new ≡ speech_after_request self.old message }
+    {
+        if let Some(MsgIn::Sdtr(asked)) = message {
+            self.asked = asked;
+        }
+    }
+
+    fn in_phase(&mut self, host: &HostDef, hearing: &Hearing)
+        ensures { self.new ≡ speech_in_phase (Some host.now) hearing.now self.old }
+    {
+        if is_message_out(hearing.change.after) && hearing.begun {
+            let words = words_after(host, hearing, self.asked);
+            self.say(words.as_slice());
+        } else {
+            self.place = 0;
+        }
+    }
+
+    fn with_byte(&mut self, hearing: &Hearing)
+        ensures { self.new ≡ speech_with_byte hearing.now self.old }
+    {
+        if is_message_out(hearing.change.before) {
+            self.after_byte();
+        } else {
+            self.after_request(hearing.into);
+        }
+    }
+
+    /// A row of the connection told this.
+    pub fn hear(&mut self, host: &HostDef, hearing: &Hearing)
+        ensures { self.new ≡ speech_after (Some host.now) hearing.now self.old }
+    {
+        if changes_phase(&hearing.change) {
+            self.in_phase(host, hearing);
+        } else if hearing.crosses {
+            self.with_byte(hearing);
+        }
+    }
+}
