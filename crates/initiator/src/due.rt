@@ -30,7 +30,7 @@ use bus_lines::BusView;
 use bus_phases::End;
 use bus_reactions::{Answering, Due, Myself, Pace, Want, sight_of};
 use bus_trace::{
-    ASSERTION_PERIOD, DATA_HOLD, Kind, Lines, NEGATION_PERIOD, SET_UP_TIME, TransferTimes,
+    ASSERTION_PERIOD, DATA_HOLD, Kind, Lines, NEGATION_PERIOD, SET_UP_TIME, ScsiId, TransferTimes,
     is_command, is_data, is_message_out, transfer_times,
 };
 use connect::{due_with_reset, link_due, sample_time};
@@ -167,12 +167,12 @@ fn speaks(offer: Option<End>) -> bool
     }
 }
 
-fn is_receiving(receiver: Option<Dev>, dev: Dev) -> bool
+fn is_receiving(receiver: Option<ScsiId>, dev: Dev) -> bool
     ensures { result ≡ is_receiving receiver dev }
 {
     match receiver {
         None => false,
-        Some(receiver) => receiver == dev,
+        Some(receiver) => receiver.get() == dev,
     }
 }
 
@@ -282,7 +282,7 @@ fn calm_due(
     }
     match view.connection() {
         None => link_due_of(host, observer, known, fault),
-        Some(connection) if connection.initiator == host.dev => {
+        Some(connection) if connection.initiator.get() == host.dev => {
             hand_due(host, observer, known, fault)
         }
         Some(_) => None,
