@@ -7,10 +7,11 @@ use Rattle.bus_trace.specs.declared.connection.Connection.{Connection}
 use Rattle.bus_trace.specs.declared.selection.Call.{Call}
 use Rattle.bus_trace.specs.Changes.{falls}
 use Rattle.bus_trace.specs.Terms.{call}
+use Rattle.bus_lines.specs.declared.effect.RowEffect.{RowEffect}
 use Rattle.scenario.specs.Value.{ScenarioValue}
 use Rattle.bus_story.specs.TraceHistory.{is_host, retries_of}
 use Rattle.initiator.specs.Books.{my_since}
-use Rattle.initiator.specs.Wishes.{Wish, IsWishOf, is_entry, target_by}
+use Rattle.initiator.specs.Wishes.{Wish, IsWishOf, is_entry, target_by, wish_after}
 
 pub record IntentValue : Type 0 where
   pub dev : ℕ
@@ -44,3 +45,10 @@ is_empty (e ∷ shown) = false
 abbrev pub is_news : Change → Option Connection → Option Connection → List Event → Bool
 is_news c before after shown =
     is_entry c before || not (is_empty shown) || (is_none before && (is_some after || falls c.before.sel c.after.sel))
+
+-- What it wants after a row that did this.
+abbrev pub news_in : RowEffect → List Event → Bool
+news_in e shown = is_news e.change e.before e.after shown
+
+abbrev pub wish_next : IntentValue → RowEffect → Row → List Event → Wish
+wish_next v e row shown = wish_after v.dev v.retries v.call v.wish e.change e.before e.after row.dev row.time shown

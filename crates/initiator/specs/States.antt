@@ -24,6 +24,8 @@ use Rattle.bus_due.specs.Wants.{ready_of, item_want_time, target_of}
 use Rattle.bus_due.specs.Sights.{sending_of}
 use Rattle.bus_due.specs.RunSteps.{run_state}
 use Rattle.bus_due.specs.Due.{reset_from}
+use Rattle.initiator.specs.declared.due.Knowledge.{Knowledge}
+use Rattle.initiator.specs.declared.due.Sending as known
 use Rattle.initiator.specs.Itself.{ItselfValue}
 use Rattle.initiator.specs.Intents.{IntentValue}
 
@@ -115,4 +117,18 @@ state_by v w speech sending = record {
   callee = w.callee;
   speech = speech;
   sending = sending;
+}
+
+-- What the code is told of it.
+abbrev pub sending_known : known.Sending → Sending
+sending_known o = record { cdb = o.cdb.now; sent = o.sent.now; command = o.command; moved = o.moved }
+
+abbrev pub state_known : Knowledge → InitiatorState
+state_known k = record {
+  own = k.own.now;
+  reset = k.reset;
+  since = k.since;
+  callee = k.callee;
+  speech = k.speech.now;
+  sending = sending_known k.sending;
 }

@@ -18,7 +18,7 @@ ghost use Rattle.bus_due.specs.Next.{due};
 ghost use Rattle.bus_due.specs.Plain.{AreOfDevices};
 ghost use Rattle.bus_due.specs.RunSteps.{run_state};
 ghost use Rattle.bus_due.specs.Connected.{is_receiving};
-ghost use Rattle.initiator.specs.States.{told, IsInitiatorOf, IsHostOf, IsNoTarget, first_fault, flip_by};
+ghost use Rattle.initiator.specs.States.{sending_known, state_known, told, IsInitiatorOf, IsHostOf, IsNoTarget, first_fault, flip_by};
 ghost use Rattle.initiator.specs.Dues.{myself_by, want_by, link_by, pace_of_host, answering_of_host, plain_by, hand_by, calm_by, initiator_next};
 
 use crate::laws::dues_are_of_initiators;
@@ -79,7 +79,7 @@ fn byte_at(bytes: &[u8], place: usize) -> u8
 
 // The byte that it gives next in the phase of these lines.
 fn byte_to_send(bus: Lines, speech: &Speech, sending: &Sending<'_>) -> u8
-    ensures { result ≡ byte_to_send bus speech.now (record { cdb = sending.now.cdb.now; sent = sending.now.sent.now; command = sending.now.command; moved = sending.now.moved }) }
+    ensures { result ≡ byte_to_send bus speech.now (sending_known sending.now) }
 {
     if is_message_out(bus) {
         speech.next_word()
@@ -134,7 +134,13 @@ fn pace(host: &HostDef, observer: &Observer) -> Pace
 fn myself(host: &HostDef, view: &BusView, own: &OwnTimes) -> Myself
     requires below { host.now.dev < 8 }
     requires latency { host.now.latency ≤ 100 }
-    ensures exact { (rows : List Row) → IsBusViewOf rows view.now → result ≡ record { dev = host.now.dev; latency = host.now.latency; own = drives rows host.now.dev; since = own.now.row } }
+    ensures exact { (rows : List Row) → IsBusViewOf rows view.now
+        → result ≡ record {
+          dev = host.now.dev;
+          latency = host.now.latency;
+          own = drives rows host.now.dev;
+          since = own.now.row;
+        } }
     ensures ready { IsReady result }
     ensures linkable { link.IsReady result }
 {
@@ -192,7 +198,7 @@ fn sampled(receives: bool, last: Ns, flip: Option<u8>, plain: Option<Due>) -> Op
 // What it has to do in the phase.
 fn answering(observer: &Observer, known: &Knowledge<'_>) -> Answering
     ensures exact { (rows : List Row) (dev : ℕ) → IsObserverOf rows observer.now
-        → result ≡ answering_of_host (told rows dev) (record { own = known.now.own.now; reset = known.now.reset; since = known.now.since; callee = known.now.callee; speech = known.now.speech.now; sending = (record { cdb = known.now.sending.cdb.now; sent = known.now.sending.sent.now; command = known.now.sending.command; moved = known.now.sending.moved }) }) }
+        → result ≡ answering_of_host (told rows dev) (state_known known.now) }
     ensures raised { result.raised < 2 ^ 63 }
 {
     Answering {
@@ -209,7 +215,7 @@ fn plain_due(host: &HostDef, observer: &Observer, known: &Knowledge<'_>) -> Opti
     requires below { host.now.dev < 8 }
     requires latency { host.now.latency ≤ 100 }
     ensures { (rows : List Row) → IsObserverOf rows observer.now
-        → result ≡ plain_by host.now (told rows host.now.dev) (record { own = known.now.own.now; reset = known.now.reset; since = known.now.since; callee = known.now.callee; speech = known.now.speech.now; sending = (record { cdb = known.now.sending.cdb.now; sent = known.now.sending.sent.now; command = known.now.sending.command; moved = known.now.sending.moved }) }) }
+        → result ≡ plain_by host.now (told rows host.now.dev) (state_known known.now) }
 {
     let view = observer.view();
     initiator_due(
@@ -233,7 +239,7 @@ fn hand_due(
     requires below { host.now.dev < 8 }
     requires latency { host.now.latency ≤ 100 }
     ensures { (rows : List Row) → IsObserverOf rows observer.now
-        → result ≡ hand_by host.now (told rows host.now.dev) fault (record { own = known.now.own.now; reset = known.now.reset; since = known.now.since; callee = known.now.callee; speech = known.now.speech.now; sending = (record { cdb = known.now.sending.cdb.now; sent = known.now.sending.sent.now; command = known.now.sending.command; moved = known.now.sending.moved }) }) }
+        → result ≡ hand_by host.now (told rows host.now.dev) fault (state_known known.now) }
 {
     let view = observer.view();
     let last = view.last_time();
@@ -254,7 +260,7 @@ fn link_due_of(
     requires latency { host.now.latency ≤ 100 }
     requires since { IsBefore (2 ^ 63) known.now.since }
     ensures { (rows : List Row) → IsObserverOf rows observer.now
-        → result ≡ link_by host.now (told rows host.now.dev) fault (record { own = known.now.own.now; reset = known.now.reset; since = known.now.since; callee = known.now.callee; speech = known.now.speech.now; sending = (record { cdb = known.now.sending.cdb.now; sent = known.now.sending.sent.now; command = known.now.sending.command; moved = known.now.sending.moved }) }) }
+        → result ≡ link_by host.now (told rows host.now.dev) fault (state_known known.now) }
 {
     let view = observer.view();
     let me = myself(host, view, known.own);
@@ -274,7 +280,8 @@ fn calm_due(
     requires latency { host.now.latency ≤ 100 }
     requires since { IsBefore (2 ^ 63) known.now.since }
     ensures { (rows : List Row) → IsObserverOf rows observer.now
-        → result ≡ calm_by host.now (told rows host.now.dev) fault (record { own = known.now.own.now; reset = known.now.reset; since = known.now.since; callee = known.now.callee; speech = known.now.speech.now; sending = (record { cdb = known.now.sending.cdb.now; sent = known.now.sending.sent.now; command = known.now.sending.command; moved = known.now.sending.moved }) }) (bus rows).rst (connection rows) }
+        → result
+        ≡ calm_by host.now (told rows host.now.dev) fault (state_known known.now) (bus rows).rst (connection rows) }
 {
     let view = observer.view();
     if view.bus().rst() {
@@ -301,17 +308,17 @@ fn next_by(
     requires latency { host.now.latency ≤ 100 }
     requires since { IsBefore (2 ^ 63) known.now.since }
     ensures { (rows : List Row) → IsObserverOf rows observer.now
-        → result ≡ initiator_next host.now (told rows host.now.dev) fault (record { own = known.now.own.now; reset = known.now.reset; since = known.now.since; callee = known.now.callee; speech = known.now.speech.now; sending = (record { cdb = known.now.sending.cdb.now; sent = known.now.sending.sent.now; command = known.now.sending.command; moved = known.now.sending.moved }) }) }
+        → result ≡ initiator_next host.now (told rows host.now.dev) fault (state_known known.now) }
 {
     let me = myself(host, observer.view(), known.own);
     let calm = calm_due(host, observer, known, fault);
     due_with_reset(&me, known.own.rst(), known.reset, calm)
 }
 
-/// What an initiator does next, and when, in ns, by what all devices are told, by what it knows itself, and by the first
-/// fault that has not struck yet. It is exactly what is due of it, where it knows what the rows so far made known to
-/// it. A reset of its own goes before all else, then RST of others; in a connection of its own it goes by REQ and ACK,
-/// in one of others it does nothing, and else by what it wants of the bus.
+/// What an initiator does next, and when, in ns, by what all devices are told, by what it knows itself, and by the
+/// first fault that has not struck yet. It is exactly what is due of it, where it knows what the rows so far made known
+/// to it. A reset of its own goes before all else, then RST of others; in a connection of its own it goes by REQ and
+/// ACK, in one of others it does nothing, and else by what it wants of the bus.
 pub fn initiator_next(
     host: &HostDef,
     observer: &Observer,
@@ -323,10 +330,10 @@ pub fn initiator_next(
     requires latency { host.now.latency ≤ 100 }
     requires since { IsBefore (2 ^ 63) known.now.since }
     ensures exact { (rows : List Row) → IsObserverOf rows observer.now
-        → result ≡ initiator_next host.now (told rows host.now.dev) fault (record { own = known.now.own.now; reset = known.now.reset; since = known.now.since; callee = known.now.callee; speech = known.now.speech.now; sending = (record { cdb = known.now.sending.cdb.now; sent = known.now.sending.sent.now; command = known.now.sending.command; moved = known.now.sending.moved }) }) }
+        → result ≡ initiator_next host.now (told rows host.now.dev) fault (state_known known.now) }
     ensures due { (s : ScenarioValue) (rows : List Row) → IsObserverOf rows observer.now
         → IsHostOf s host.now → AreOfDevices rows → IsNoTarget s rows host.now.dev
-        → IsInitiatorOf s rows host.now (record { own = known.now.own.now; reset = known.now.reset; since = known.now.since; callee = known.now.callee; speech = known.now.speech.now; sending = (record { cdb = known.now.sending.cdb.now; sent = known.now.sending.sent.now; command = known.now.sending.command; moved = known.now.sending.moved }) }) → fault ≡ first_fault (run_state s rows).faults
+        → IsInitiatorOf s rows host.now (state_known known.now) → fault ≡ first_fault (run_state s rows).faults
         → result ≡ due s rows host.now.dev }
 {
     dues_are_of_initiators();

@@ -9,8 +9,8 @@ ghost use Rattle.bus_due.specs.Plain.{AreOfDevices};
 ghost use Rattle.bus_due.specs.RunSteps.{run_state};
 ghost use Rattle.bus_due.specs.Wants.{item_want_time, target_of};
 ghost use Rattle.bus_story.specs.TraceHistory.{aim_of};
-ghost use Rattle.initiator.specs.Wishes.{wish_after, events_shown, target_by};
-ghost use Rattle.initiator.specs.Intents.{IsInitiator, IsIntentOf, is_news};
+ghost use Rattle.initiator.specs.Wishes.{events_shown, target_by};
+ghost use Rattle.initiator.specs.Intents.{IsInitiator, IsIntentOf, is_news, news_in, wish_next};
 
 use crate::mine::OwnItem;
 use crate::wish::{Wish, is_entry};
@@ -39,7 +39,14 @@ impl Model for Intent {
 
     ghost Value = { IntentValue };
 
-    ghost view = { λ a. record { dev = a.dev; retries = a.retries; wish = a.wish; call = a.call; since = a.since; callee = a.callee } };
+    ghost view = { λ a. record {
+      dev = a.dev;
+      retries = a.retries;
+      wish = a.wish;
+      call = a.call;
+      since = a.since;
+      callee = a.callee;
+    } };
 
     ghost invariant = { λ a. HasDevices a.call };
 }
@@ -115,10 +122,12 @@ impl Intent {
         requires { row.now.dev < 8 }
         ensures dev { self.new.dev ≡ self.old.dev }
         ensures retries { self.new.retries ≡ self.old.retries }
-        ensures wish { self.new.wish ≡ wish_after self.old.dev self.old.retries self.old.call self.old.wish effect.now.change effect.now.before effect.now.after row.now.dev row.now.time shown.now }
+        ensures wish { self.new.wish ≡ wish_next self.old effect.now row.now shown.now }
         ensures call { self.new.call ≡ call_after self.old.call effect.now.change row.now }
-        ensures since { self.new.since ≡ (if is_news effect.now.change effect.now.before effect.now.after shown.now then my_since self.new.wish.book else self.old.since) }
-        ensures callee { self.new.callee ≡ (if is_news effect.now.change effect.now.before effect.now.after shown.now then target_by self.new.wish.book self.new.wish.aim else self.old.callee) }
+        ensures since { self.new.since ≡ (if news_in effect.now shown.now then my_since self.new.wish.book
+            else self.old.since) }
+        ensures callee { self.new.callee ≡ (if news_in effect.now shown.now
+            then target_by self.new.wish.book self.new.wish.aim else self.old.callee) }
     {
         let change = &effect.change;
         self.wish.see(

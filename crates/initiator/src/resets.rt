@@ -26,8 +26,8 @@ fn is_reset_past(released: Option<Ns>, time: Ns) -> bool
     }
 }
 
-/// When a device drives RST next, in ns, by these lines: one that falls while it drives RST, or as it releases it, which
-/// it last did at `released`, is dropped.
+/// When a device drives RST next, in ns, by these lines: one that falls while it drives RST, or as it releases it,
+/// which it last did at `released`, is dropped.
 pub fn next_reset(dev: Dev, released: Option<Ns>, resets: &[ResetDef]) -> Option<Ns>
     ensures { result ≡ reset_from dev released resets.now }
 {

@@ -79,7 +79,10 @@ impl Wish {
     }
 
     fn try_command(&mut self, retries: u8, number: u16)
-        ensures { self.new ≡ record self.old { book = command_tried retries (book_with_try self.old.book number) number } }
+        ensures { self.new ≡ record self.old {
+          book = command_tried retries
+              (book_with_try self.old.book number) number;
+        } }
     {
         self.book.try_again(number);
         if self.book.tries(number) > retries {
@@ -91,7 +94,10 @@ impl Wish {
     }
 
     fn try_abort(&mut self, retries: u8, number: u16)
-        ensures { self.new ≡ record self.old { book = abort_tried retries (book_with_abort_try self.old.book number) number } }
+        ensures { self.new ≡ record self.old {
+          book = abort_tried retries
+              (book_with_abort_try self.old.book number) number;
+        } }
     {
         self.book.try_abort_again(number);
         if self.book.abort_tries(number) > retries {
@@ -202,8 +208,8 @@ impl Wish {
     }
 
     /// A row of a device, of this time, in ns, which changed this, and before and after which these connections stood;
-    /// `call` is the call that stood before it, and `shown` are the events that it shows, the newest first. `dev` is the
-    /// initiator, and `retries` how often it tries again.
+    /// `call` is the call that stood before it, and `shown` are the events that it shows, the newest first. `dev` is
+    /// the initiator, and `retries` how often it tries again.
     pub fn see(
         &mut self,
         dev: Dev,
