@@ -42,7 +42,7 @@ fn is_call_in_vain(dev: Dev, call: Option<Call>) -> bool
 {
     match call {
         None => false,
-        Some(call) => call.caller == dev && is_unanswered(call.calling),
+        Some(call) => call.caller.get() == dev && is_unanswered(call.calling),
     }
 }
 
@@ -164,7 +164,7 @@ impl Wish {
     fn after_connection(&mut self, dev: Dev, connection: Connection)
         ensures { self.new ≡ wish_after_connection dev self.old connection }
     {
-        if !connection.reselected && connection.initiator == dev {
+        if !connection.reselected && connection.initiator.get() == dev {
             self.send();
         }
     }
