@@ -8,7 +8,6 @@ use Rattle.bus_trace.specs.declared.connection.Connection.{Connection}
 use Rattle.bus_trace.specs.declared.selection.Call.{Call}
 use Rattle.bus_trace.specs.Changes.{falls, change_of}
 use Rattle.bus_trace.specs.Terms.{call, call_after, connection}
-use Rattle.bus_trace.specs.Connections.{HasEnds}
 use Rattle.bus_lines.specs.declared.effect.RowEffect.{RowEffect}
 use Rattle.bus_lines.specs.Effect.{effect}
 use Rattle.scenario.specs.Value.{ScenarioValue}
@@ -90,10 +89,6 @@ intent_goes_on items s rows row v w e shown dev wish called since callee is p q 
 
 pub wants_since : (s : ScenarioValue) (rows : List Row) (v : IntentValue) → IsIntentOf s rows v → v.since ≡ item_want_time s (run_state s rows).story.sent v.dev
 wants_since s rows v h = h.since_is ∙ ap (λ (b : BookValue). my_since b) h.wish_is.book_is ∙ since_is s (run_state s rows).story.sent v.dev
-
-pub has_initiator : (n : Option Connection) → HasEnds n → HasInitiator n
-has_initiator None h = tt
-has_initiator (Some n) h = h.0
 
 pub callee_told : (s : ScenarioValue) (rows : List Row) (v : IntentValue) → AreOfDevices rows → v.dev < 8 → IsIntentOf s rows v → v.callee ≡ target_of s (aim_of (run_state s rows).story.aims v.dev)
 callee_told s rows v d lt h =

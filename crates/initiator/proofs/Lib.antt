@@ -1,4 +1,5 @@
 mod Dues
+mod Ends
 mod Books
 mod BookSteps
 mod Foreign

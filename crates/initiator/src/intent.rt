@@ -34,7 +34,6 @@ pub struct Intent {
 }
 
 impl Model for Intent {
-    ghost use Rattle.bus_trace.specs.Calls.{HasDevices};
     ghost use Rattle.initiator.specs.Intents.{IntentValue};
 
     ghost Value = { IntentValue };
@@ -47,8 +46,6 @@ impl Model for Intent {
       since = a.since;
       callee = a.callee;
     } };
-
-    ghost invariant = { λ a. HasDevices a.call };
 }
 
 // A row may change what it wants.

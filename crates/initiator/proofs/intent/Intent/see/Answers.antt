@@ -1,7 +1,6 @@
-use Rattle.std.proofs.Common.{◌∷◌, subst, Option}
-use Rattle.bus_trace.specs.declared.connection.Connection.{Connection}
-use Rattle.initiator.proofs.Wishes.{HasInitiator}
-use Rattle.initiator.proofs.Intents.{intent_goes_on, has_initiator}
+use Rattle.std.proofs.Common.{◌∷◌}
+use Rattle.initiator.proofs.Ends.{initiators_are}
+use Rattle.initiator.proofs.Intents.{intent_goes_on}
 use Rattle.initiator.proofs.intent.Intent.see.Goals as goal
 
 pub returns : goal.returns
@@ -14,4 +13,4 @@ returns c = λ s rows v d i told h.
     (λ j. record { change = (e j).change; before = (e j).before; after = n j; receiver = (e j).receiver; fault = (e j).fault })
     (c.kept_is_plain.ensures.rows s rows d.1) (c.kept_is_plain.ensures.rows s (row ∷ rows) d)
     (c.hearings_are_plain.ensures.hearing s rows row d.1 d.0) d
-    (subst (λ (z : Option Connection). HasInitiator z) n (has_initiator _ c.connection.ensures.ends)) i told h
+    (initiators_are (row ∷ rows) d) i told h
