@@ -13,6 +13,8 @@ mod built_runs;
 #[cfg(test)]
 mod commands;
 #[cfg(test)]
+mod disks;
+#[cfg(test)]
 mod driven_rows;
 #[cfg(test)]
 mod hands;
@@ -32,6 +34,8 @@ mod messages;
 mod negotiations;
 #[cfg(test)]
 mod observers;
+#[cfg(test)]
+mod queues;
 #[cfg(test)]
 mod scenario_texts;
 #[cfg(test)]

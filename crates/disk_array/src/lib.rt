@@ -4,8 +4,8 @@
 //! has its state, `specs/Execution.antt` what one command does at one unit, `specs/Order.antt` which waiting
 //! command may run, on what a queue keeps of it (`Entry`), `specs/Steps.antt` what each event of a history does,
 //! `specs/ArrayHistory.antt` a whole history, and `specs/Seats.antt` what an event leaves of one unit, there or
-//! not. It stands on `scenario`, `cdb_codec` and `bus_base`. There is no code here but for laws: each is the
-//! contract of a function that does nothing.
+//! not. It stands on `scenario`, `cdb_codec` and `bus_base`. There is no code here but for `Entry` and for laws:
+//! each is the contract of a function that does nothing.
 #![tactic(auto)]
 
 mod entries;

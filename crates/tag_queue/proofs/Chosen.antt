@@ -1,10 +1,10 @@
 -- What is chosen of the waiting commands, and that one is wherever any waits.
-use Rattle.std.proofs.Common.{◌≡◌, ◌≢◌, ◌<◌, ℕ, ◌+◌, zero, suc, Bool, true, false, not, ◌&&◌, List, [], ◌∷◌, ◌++◌, length, Option, Some, None, refl, ap, sym, subst, ◌∙◌, arith, ◌⊎◌, inl, inr}
+use Rattle.std.proofs.Common.{◌≡◌, ◌<◌, ℕ, ◌+◌, zero, suc, Bool, true, false, List, [], ◌∷◌, ◌++◌, length, Option, Some, None, refl, ap, sym, ◌∙◌, arith}
 use Rattle.std.specs.Prelude.{if◌then◌else◌}
 use Rattle.bus_base.specs.declared.events.Pick.{Pick}
 use Rattle.bus_base.specs.declared.events.Pick.TheVariants as picks
 use Rattle.disk_array.specs.declared.entries.Entry.{Entry}
-use Rattle.disk_array.specs.Order.{is_head, is_ordered, last_head, may_run_after, runnable_after, runnable_by, runnable_places, picked_place, last_of, chosen_place}
+use Rattle.disk_array.specs.Order.{is_head, is_ordered, last_head, may_run_after, runnable_after, runnable_by, picked_place, last_of, chosen_place}
 use Rattle.tag_queue.specs.Queue.{Queued, key_at, key_at_if, entries_in}
 use Rattle.tag_queue.proofs.Scans.{some_same}
 
@@ -15,9 +15,9 @@ head_chosen picks.Last waiting head found = ap (λ (h : Option ℕ). picked_plac
 first_runs : (p : Entry) → may_run_after [] p ≡ true
 first_runs p = go (is_ordered p.class)
   where
-  go : (b : Bool) → (if b then true else true) ≡ true
-  go true = refl
-  go false = refl
+    go : (b : Bool) → (if b then true else true) ≡ true
+    go true = refl
+    go false = refl
 
 pub first_chosen : (waiting : List Queued) → last_head (entries_in waiting) 0 None ≡ None → key_at_if waiting (chosen_place picks.First (entries_in waiting)) ≡ key_at waiting 0
 first_chosen [] none = refl
@@ -50,19 +50,19 @@ unfolding IsBelow
 head_below [] place found bound whole below = below
 head_below (p ∷ waiting) place found bound whole below = head_below waiting (suc place) _ bound (omega arith) (go (is_head p.class))
   where
-  go : (b : Bool) → IsBelow bound (if b then Some place else found)
-  go true = λ other same. let e : place ≡ other = some_same place other same in omega arith
-  go false = below
+    go : (b : Bool) → IsBelow bound (if b then Some place else found)
+    go true = λ other same. let e : place ≡ other = some_same place other same in omega arith
+    go false = below
 
 last_below : (before : List Entry) (place : ℕ) (waiting : List Entry) (bound first : ℕ) → place + length waiting ≡ bound → first < bound → last_of first (runnable_after before place waiting) < bound
 last_below before place [] bound first whole below = below
 last_below before place (p ∷ waiting) bound first whole below =
     go (may_run_after before p) (last_below (before ++ p ∷ []) (suc place) waiting bound first (omega arith) below) (last_below (before ++ p ∷ []) (suc place) waiting bound place (omega arith) (omega arith))
   where
-  go : (b : Bool) → last_of first (runnable_after (before ++ p ∷ []) (suc place) waiting) < bound → last_of place (runnable_after (before ++ p ∷ []) (suc place) waiting) < bound
-      → last_of first (if b then place ∷ runnable_after (before ++ p ∷ []) (suc place) waiting else runnable_after (before ++ p ∷ []) (suc place) waiting) < bound
-  go true without with_it = with_it
-  go false without with_it = without
+    go : (b : Bool) → last_of first (runnable_after (before ++ p ∷ []) (suc place) waiting) < bound → last_of place (runnable_after (before ++ p ∷ []) (suc place) waiting) < bound
+        → last_of first (if b then place ∷ runnable_after (before ++ p ∷ []) (suc place) waiting else runnable_after (before ++ p ∷ []) (suc place) waiting) < bound
+    go true without with_it = with_it
+    go false without with_it = without
 
 -- Without a HEAD OF QUEUE command.
 chosen_in_order : (pick : Pick) (q : Queued) (waiting : List Queued) → key_at_if (q ∷ waiting) (picked_place pick (runnable_after [] 0 (entries_in (q ∷ waiting)))) ≡ None → ⊥
@@ -78,10 +78,10 @@ unfolding IsBelow
 chosen_none pick [] none = refl
 chosen_none pick (q ∷ waiting) none = absurd (go (last_head (entries_in (q ∷ waiting)) 0 None) refl)
   where
-  go : (h : Option ℕ) → last_head (entries_in (q ∷ waiting)) 0 None ≡ h → ⊥
-  go (Some head) found =
-      let length_is = length_entries waiting in
-      key_there (q ∷ waiting) head
-      (head_below (entries_in (q ∷ waiting)) 0 None (length (q ∷ waiting)) (omega arith) (λ place same. absurd (some_none place (sym same))) head found)
-      (sym (ap (key_at_if (q ∷ waiting)) (head_chosen pick (entries_in (q ∷ waiting)) head found)) ∙ none)
-  go None found = chosen_in_order pick q waiting (sym (ap (λ (h : Option ℕ). key_at_if (q ∷ waiting) (picked_place pick (runnable_by h (entries_in (q ∷ waiting))))) found) ∙ none)
+    go : (h : Option ℕ) → last_head (entries_in (q ∷ waiting)) 0 None ≡ h → ⊥
+    go (Some head) found =
+        let length_is = length_entries waiting in
+        key_there (q ∷ waiting) head
+        (head_below (entries_in (q ∷ waiting)) 0 None (length (q ∷ waiting)) (omega arith) (λ place same. absurd (some_none place (sym same))) head found)
+        (sym (ap (key_at_if (q ∷ waiting)) (head_chosen pick (entries_in (q ∷ waiting)) head found)) ∙ none)
+    go None found = chosen_in_order pick q waiting (sym (ap (λ (h : Option ℕ). key_at_if (q ∷ waiting) (picked_place pick (runnable_by h (entries_in (q ∷ waiting))))) found) ∙ none)

@@ -1,8 +1,6 @@
 -- What a scan of the waiting commands keeps, and what a place tells of those that stand before it.
-use Rattle.std.proofs.Common.{◌≡◌, ◌≢◌, ℕ, ◌+◌, ◌-◌, zero, suc, Bool, true, false, cond, not, ◌&&◌, ◌||◌, List, [], ◌∷◌, ◌++◌, length, Option, Some, None, refl, ap, sym, subst, ◌∙◌, arith, rules, eqb, eq-eqb}
-use Rattle.std.specs.Prelude.{◌==◌, if◌then◌else◌, count_by}
-use Rattle.std.specs.List.{list_any}
-use Rattle.std.proofs.lemmas.List.Folds.{list_any-append}
+use Rattle.std.proofs.Common.{◌≡◌, ◌≢◌, ℕ, ◌+◌, ◌-◌, zero, suc, Bool, true, false, not, ◌&&◌, ◌||◌, List, [], ◌∷◌, ◌++◌, length, Option, Some, None, refl, ap, sym, subst, ◌∙◌, arith, rules, eq-eqb}
+use Rattle.std.specs.Prelude.{◌==◌, if◌then◌else◌}
 use Rattle.bus_base.specs.declared.events.Pick.TheVariants as picks
 use Rattle.disk_array.specs.declared.entries.Entry.{Entry}
 use Rattle.disk_array.specs.Order.{picked_place, last_of, is_ordered, has_ordered, has_none_before, is_held_back, holds_back, may_run_after, may_run_in_order, runnable_after}
@@ -50,20 +48,20 @@ none_holds_back : (before : List Entry) (p : Entry) → (held_back_by before p =
 none_holds_back [] p = refl
 none_holds_back (q ∷ before) p = go (holds_back q p) (none_holds_back before p)
   where
-  go : (b : Bool) → (held_back_by before p == 0) ≡ not (is_held_back before p) → ((if b then held_back_by before p + 1 else held_back_by before p) == 0) ≡ not (b || is_held_back before p)
-  go true rest = not_0 (held_back_by before p)
-  go false rest = rest
+    go : (b : Bool) → (held_back_by before p == 0) ≡ not (is_held_back before p) → ((if b then held_back_by before p + 1 else held_back_by before p) == 0) ≡ not (b || is_held_back before p)
+    go true rest = not_0 (held_back_by before p)
+    go false rest = rest
 
 pub may_run_after_by : (before : List Entry) (p : Entry) (place earlier : ℕ) (ordered : Bool) → place ≡ length before → ordered ≡ has_ordered before
     → earlier ≡ held_back_by before p → may_run_after before p ≡ (if is_ordered p.class then place == 0 else not ordered && earlier == 0)
 may_run_after_by before p place earlier ordered at is_ordered_before counted = go (is_ordered p.class)
   where
-  go : (b : Bool) → (if b then has_none_before before else not (has_ordered before) && not (is_held_back before p)) ≡ (if b then place == 0 else not ordered && earlier == 0)
-  go true = none_before before ∙ ap (λ (n : ℕ). n == 0) (sym at)
-  go false =
-      ap (λ (o : Bool). not o && not (is_held_back before p)) (sym is_ordered_before)
-      ∙ ap (λ (h : Bool). not ordered && h) (sym (none_holds_back before p))
-      ∙ ap (λ (n : ℕ). not ordered && n == 0) (sym counted)
+    go : (b : Bool) → (if b then has_none_before before else not (has_ordered before) && not (is_held_back before p)) ≡ (if b then place == 0 else not ordered && earlier == 0)
+    go true = none_before before ∙ ap (λ (n : ℕ). n == 0) (sym at)
+    go false =
+        ap (λ (o : Bool). not o && not (is_held_back before p)) (sym is_ordered_before)
+        ∙ ap (λ (h : Bool). not ordered && h) (sym (none_holds_back before p))
+        ∙ ap (λ (n : ℕ). not ordered && n == 0) (sym counted)
 
 -- ---- one arrival of those that are left
 
@@ -108,17 +106,17 @@ runs_here s current before a rest p key place ordered kept found waits same at i
 pub last_here : (s : Slab Entry) (current : Option ℕ) (before : List Entry) (a : Arrival) (rest : List Arrival) (p : Entry) (place : ℕ) (ordered : Bool) (found : Option ℕ)
     → AreKept s None current before (a ∷ rest) → get s a.key ≡ Some p → is_current current a.key ≡ false → place ≡ length before → ordered ≡ has_ordered before
     → last_or found (runnable_after before place (entries_at s current (a ∷ rest)))
-      ≡ last_or (if (if is_ordered p.class then place == 0 else not ordered && a.earlier == 0) then Some place else found) (runnable_after (before ++ p ∷ []) (suc place) (entries_at s current rest))
+    ≡ last_or (if (if is_ordered p.class then place == 0 else not ordered && a.earlier == 0) then Some place else found) (runnable_after (before ++ p ∷ []) (suc place) (entries_at s current rest))
 last_here s current before a rest p place ordered found kept at_key waits at is_ordered_before =
     ap (λ (w : List Queued). last_or found (runnable_after before place (entries_in w))) (waits_first s current a rest p at_key waits)
     ∙ go (may_run_after before p)
     ∙ ap (λ (b : Bool). last_or (if b then Some place else found) (runnable_after (before ++ p ∷ []) (suc place) (entries_at s current rest)))
-      (may_run_after_by before p place a.earlier ordered at is_ordered_before (kept_counted s current before a rest p kept at_key waits))
+    (may_run_after_by before p place a.earlier ordered at is_ordered_before (kept_counted s current before a rest p kept at_key waits))
   where
-  go : (b : Bool) → last_or found (if b then place ∷ runnable_after (before ++ p ∷ []) (suc place) (entries_at s current rest) else runnable_after (before ++ p ∷ []) (suc place) (entries_at s current rest))
-      ≡ last_or (if b then Some place else found) (runnable_after (before ++ p ∷ []) (suc place) (entries_at s current rest))
-  go true = refl
-  go false = refl
+    go : (b : Bool) → last_or found (if b then place ∷ runnable_after (before ++ p ∷ []) (suc place) (entries_at s current rest) else runnable_after (before ++ p ∷ []) (suc place) (entries_at s current rest))
+        ≡ last_or (if b then Some place else found) (runnable_after (before ++ p ∷ []) (suc place) (entries_at s current rest))
+    go true = refl
+    go false = refl
 
 -- ---- the current one is passed over
 

@@ -45,7 +45,11 @@ fn is_ordered(class: Class) -> bool
 fn head_place(found: Option<usize>, place: usize, entry: Entry) -> Option<usize>
     ensures { result ≡ (if is_head_class entry.class then Some place else found) }
 {
-    if is_head(entry.class) { Some(place) } else { found }
+    if is_head(entry.class) {
+        Some(place)
+    } else {
+        found
+    }
 }
 
 fn live_entry(entries: &Slab<Entry>, key: Key) -> Entry
@@ -73,7 +77,12 @@ pub fn last_head(entries: &Slab<Entry>, arrivals: &[Arrival], current: Option<Ke
 
 /// The key of the one that waits at this place.
 #[tactic(auto, using(crate::proofs::Scans::key_at_later))]
-pub fn key_at(entries: &Slab<Entry>, arrivals: &[Arrival], current: Option<Key>, place: usize) -> Option<Key>
+pub fn key_at(
+    entries: &Slab<Entry>,
+    arrivals: &[Arrival],
+    current: Option<Key>,
+    place: usize,
+) -> Option<Key>
     requires kept { AreKept entries.now None current [] arrivals.now }
     ensures { result ≡ waiting_key (waiting_at entries.now current arrivals.now) place }
 {
@@ -109,7 +118,11 @@ fn place_if(found: Option<usize>, runs: bool, place: usize) -> Option<usize>
 
 #[tactic(auto, using(crate::proofs::Scans::may_run_after_by, crate::proofs::Scans::has_ordered_more, crate::proofs::Scans::last_or_picked))]
 /// The place of the last of those that wait and may run where no HEAD OF QUEUE command waits.
-pub fn last_in_order(entries: &Slab<Entry>, arrivals: &[Arrival], current: Option<Key>) -> Option<usize>
+pub fn last_in_order(
+    entries: &Slab<Entry>,
+    arrivals: &[Arrival],
+    current: Option<Key>,
+) -> Option<usize>
     requires kept { AreKept entries.now None current [] arrivals.now }
     ensures { result ≡ picked_place picks.Last (runnable_after [] 0 (entries_at entries.now current arrivals.now)) }
 {
@@ -131,10 +144,16 @@ pub fn last_in_order(entries: &Slab<Entry>, arrivals: &[Arrival], current: Optio
 /// The place of the one that is chosen, by its key: the last HEAD OF QUEUE command, and without one the first or the
 /// last of those that may run. The first that waits always may.
 #[tactic(auto, using(crate::proofs::Chosen::head_chosen, crate::proofs::Chosen::first_chosen, crate::proofs::Chosen::last_chosen))]
-pub fn runnable_place(entries: &Slab<Entry>, arrivals: &[Arrival], current: Option<Key>, pick: Pick) -> Option<usize>
+pub fn runnable_place(
+    entries: &Slab<Entry>,
+    arrivals: &[Arrival],
+    current: Option<Key>,
+    pick: Pick,
+) -> Option<usize>
     requires kept { AreKept entries.now None current [] arrivals.now }
     ensures { key_at_if (waiting_at entries.now current arrivals.now) result
-        ≡ key_at_if (waiting_at entries.now current arrivals.now) (chosen_place pick (entries_at entries.now current arrivals.now)) }
+        ≡ key_at_if (waiting_at entries.now current arrivals.now)
+        (chosen_place pick (entries_at entries.now current arrivals.now)) }
 {
     let head = last_head(entries, arrivals, current);
     if head.is_some() {
@@ -157,10 +176,16 @@ pub struct Standing {
 
 #[tactic(auto, using(crate::proofs::Scans::may_run_after_by, crate::proofs::Scans::has_ordered_more))]
 /// Where the command of this key waits.
-pub fn place_standing(entries: &Slab<Entry>, arrivals: &[Arrival], current: Option<Key>, key: Key) -> Standing
+pub fn place_standing(
+    entries: &Slab<Entry>,
+    arrivals: &[Arrival],
+    current: Option<Key>,
+    key: Key,
+) -> Standing
     requires kept { AreKept entries.now None current [] arrivals.now }
     ensures place { result.place ≡ place_of (waiting_at entries.now current arrivals.now) key }
-    ensures runs { result.runs ≡ may_run_in_order [] (entries_at entries.now current arrivals.now) (place_of (waiting_at entries.now current arrivals.now) key) }
+    ensures runs { result.runs ≡ may_run_in_order [] (entries_at entries.now current arrivals.now)
+        (place_of (waiting_at entries.now current arrivals.now) key) }
 {
     let mut place = 0;
     let mut ordered = false;
@@ -189,7 +214,12 @@ fn same_tag(one: Option<u8>, other: Option<u8>) -> bool
 }
 
 /// The key of the first live command of an initiator with this tag, or without one.
-pub fn key_of(entries: &Slab<Entry>, arrivals: &[Arrival], from: Dev, tag: Option<u8>) -> Option<Key>
+pub fn key_of(
+    entries: &Slab<Entry>,
+    arrivals: &[Arrival],
+    from: Dev,
+    tag: Option<u8>,
+) -> Option<Key>
     requires kept { (current : Option ℕ) × AreKept entries.now None current [] arrivals.now }
     ensures { result ≡ first_key_of (queued_at entries.now arrivals.now) from tag }
 {
@@ -218,13 +248,20 @@ fn holds_back(earlier: &Entry, entry: &Entry) -> bool
 }
 
 /// How many of those that wait hold a command back that arrives now.
-pub fn earlier_conflicts(entries: &Slab<Entry>, arrivals: &[Arrival], current: Option<Key>, entry: &Entry) -> usize
+pub fn earlier_conflicts(
+    entries: &Slab<Entry>,
+    arrivals: &[Arrival],
+    current: Option<Key>,
+    entry: &Entry,
+) -> usize
     requires kept { AreKept entries.now None current [] arrivals.now }
     ensures { result ≡ held_back_by (entries_at entries.now current arrivals.now) entry.now }
 {
     let mut count = 0;
     for arrival in arrivals {
-        if !is_current(current, arrival.key) && holds_back(&live_entry(entries, arrival.key), entry) {
+        if !is_current(current, arrival.key)
+            && holds_back(&live_entry(entries, arrival.key), entry)
+        {
             count += 1;
         }
     }
@@ -245,7 +282,8 @@ fn lowered_arrival(arrival: Arrival, lower: bool) -> Arrival
 pub fn lower_later(entries: &Slab<Entry>, arrivals: &mut [Arrival], key: Key)
     requires live { IsLive entries.now key }
     requires kept { (current : Option ℕ) × AreKept entries.now None current [] arrivals.old }
-    ensures { (leaving : Entry) → get entries.now key ≡ Some leaving → arrivals.new ≡ lowered entries.now leaving key false arrivals.old }
+    ensures { (leaving : Entry) → get entries.now key ≡ Some leaving
+        → arrivals.new ≡ lowered entries.now leaving key false arrivals.old }
 {
     let leaving = live_entry(entries, key);
     let mut passed = false;

@@ -13,6 +13,6 @@
 mod arrivals;
 mod queue;
 
+pub use arrivals::Key;
 pub use disk_array::{Class, Dev, Entry, Pick, ProcId};
 pub use queue::{Full, Queue};
-pub use arrivals::Key;

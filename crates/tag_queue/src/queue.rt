@@ -4,7 +4,10 @@ ghost use Rattle.disk_array.specs.Order.{chosen_place};
 ghost use Rattle.tag_queue.specs.Queue.{queued, empty_queue, queue_with, queue_started, queue_left, queue_without, queue_cleared_of, with_held, is_current as is_current_key, is_held, has_key, entry_at, without_key, waiting_of, entries_in, key_at_if, chosen_key, may_run_key, key_of as first_key_of};
 ghost use Rattle.tag_queue.specs.Stored.{AreOf};
 
-use super::arrivals::{Arrival, Key, earlier_conflicts, first_of, is_current, key_at, key_of, last_head, lower_later, place_standing, runnable_place};
+use super::arrivals::{
+    Arrival, Key, earlier_conflicts, first_of, is_current, key_at, key_of, last_head, lower_later,
+    place_standing, runnable_place,
+};
 use bus_base::NoMemory;
 use disk_array::{Dev, Entry, Pick};
 use slab::Slab;

@@ -1,10 +1,7 @@
-use Rattle.std.proofs.Common.{◌≡◌, ◌≤◌, ◌+◌, ◌||◌, List, Option, None, Some, ℕ, [], ◌∷◌, ◌++◌, length, drop, take}
-use Rattle.std.proofs.Common.{false}
+use Rattle.std.proofs.Common.{◌≡◌, List, None, drop}
 use Rattle.disk_array.specs.declared.entries.Entry.{Entry}
-use Rattle.disk_array.specs.Order.{may_run_in_order, runnable_after, has_ordered}
-use Rattle.tag_queue.specs.Queue.{key_at, place_of, key_of}
-use Rattle.tag_queue.specs.Stored.{queued_at, waiting_at, entries_at, held_back_by, AreKept, lowered}
-use Rattle.tag_queue.proofs.Scans.{last_or}
+use Rattle.tag_queue.specs.Queue.{key_at}
+use Rattle.tag_queue.specs.Stored.{waiting_at, AreKept}
 use Rattle.tag_queue.proofs.arrivals.key_at.Given as goal
 
 abbrev pub invariant-loop-arrival : goal.invariant-loop-arrival

@@ -9,5 +9,5 @@ invariant-loop-arrival l =
     (before : List Entry)
     × AreKept l.entries None l.current before (drop l.arrival-index l.arrivals)
     × (last_head (entries_at l.entries l.current (drop l.arrival-index l.arrivals)) l.place l.found
-      ≡ last_head (entries_at l.entries l.current l.arrivals) 0 None)
+    ≡ last_head (entries_at l.entries l.current l.arrivals) 0 None)
     × (l.place ≤ l.arrival-index)

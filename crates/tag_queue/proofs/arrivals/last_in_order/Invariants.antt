@@ -1,9 +1,7 @@
-use Rattle.std.proofs.Common.{◌≡◌, ◌≤◌, ◌+◌, ◌||◌, List, Option, None, Some, ℕ, [], ◌∷◌, ◌++◌, length, drop, take}
-use Rattle.std.proofs.Common.{false}
+use Rattle.std.proofs.Common.{◌≡◌, ◌≤◌, List, None, [], length, drop}
 use Rattle.disk_array.specs.declared.entries.Entry.{Entry}
-use Rattle.disk_array.specs.Order.{may_run_in_order, runnable_after, has_ordered}
-use Rattle.tag_queue.specs.Queue.{key_at, place_of, key_of}
-use Rattle.tag_queue.specs.Stored.{queued_at, waiting_at, entries_at, held_back_by, AreKept, lowered}
+use Rattle.disk_array.specs.Order.{runnable_after, has_ordered}
+use Rattle.tag_queue.specs.Stored.{entries_at, AreKept}
 use Rattle.tag_queue.proofs.Scans.{last_or}
 use Rattle.tag_queue.proofs.arrivals.last_in_order.Given as goal
 
@@ -13,5 +11,5 @@ invariant-loop-arrival l =
     × AreKept l.entries None l.current before (drop l.arrival-index l.arrivals)
     × (l.place ≡ length before) × (l.ordered ≡ has_ordered before)
     × (last_or l.found (runnable_after before l.place (entries_at l.entries l.current (drop l.arrival-index l.arrivals)))
-      ≡ last_or None (runnable_after [] 0 (entries_at l.entries l.current l.arrivals)))
+    ≡ last_or None (runnable_after [] 0 (entries_at l.entries l.current l.arrivals)))
     × (l.place ≤ l.arrival-index)

@@ -1,10 +1,8 @@
-use Rattle.std.proofs.Common.{◌≡◌, ◌≤◌, ◌+◌, ◌||◌, List, Option, None, Some, ℕ, [], ◌∷◌, ◌++◌, length, drop, take}
-use Rattle.std.proofs.Common.{false}
+use Rattle.std.proofs.Common.{◌≡◌, ◌≤◌, ◌+◌, List, None, [], length, drop}
 use Rattle.disk_array.specs.declared.entries.Entry.{Entry}
-use Rattle.disk_array.specs.Order.{may_run_in_order, runnable_after, has_ordered}
-use Rattle.tag_queue.specs.Queue.{key_at, place_of, key_of}
-use Rattle.tag_queue.specs.Stored.{queued_at, waiting_at, entries_at, held_back_by, AreKept, lowered}
-use Rattle.tag_queue.proofs.Scans.{last_or}
+use Rattle.disk_array.specs.Order.{may_run_in_order, has_ordered}
+use Rattle.tag_queue.specs.Queue.{place_of}
+use Rattle.tag_queue.specs.Stored.{waiting_at, entries_at, AreKept}
 use Rattle.tag_queue.proofs.arrivals.place_standing.Given as goal
 
 abbrev pub invariant-loop-arrival : goal.invariant-loop-arrival
@@ -14,5 +12,5 @@ invariant-loop-arrival l =
     × (l.place ≡ length before) × (l.ordered ≡ has_ordered before)
     × (l.place + place_of (waiting_at l.entries l.current (drop l.arrival-index l.arrivals)) l.key ≡ place_of (waiting_at l.entries l.current l.arrivals) l.key)
     × (may_run_in_order before (entries_at l.entries l.current (drop l.arrival-index l.arrivals)) (place_of (waiting_at l.entries l.current (drop l.arrival-index l.arrivals)) l.key)
-      ≡ may_run_in_order [] (entries_at l.entries l.current l.arrivals) (place_of (waiting_at l.entries l.current l.arrivals) l.key))
+    ≡ may_run_in_order [] (entries_at l.entries l.current l.arrivals) (place_of (waiting_at l.entries l.current l.arrivals) l.key))
     × (l.place ≤ l.arrival-index)

@@ -1,7 +1,6 @@
-use Rattle.std.proofs.Common.{◌≡◌, ◌<◌, ◌++◌, [], ◌∷◌, length, List, None, Some, sym, ap, subst, ◌∙◌, arith}
+use Rattle.std.proofs.Common.{◌≡◌, ◌<◌, ◌++◌, [], ◌∷◌, length, List, None, sym, ap, subst, ◌∙◌, arith}
 use Rattle.std.proofs.lemmas.Grind.{common_steps}
 use Rattle.std.specs.Vec.{vec_capacity}
-use Rattle.disk_array.specs.declared.entries.Entry.{Entry}
 use Rattle.tag_queue.specs.declared.arrivals.Arrival.{Arrival}
 use Rattle.tag_queue.specs.Queue.{Queued, QueueState, queued, is_current, has_key, waiting_of, queue_with}
 use Rattle.tag_queue.specs.Stored.{queued_at, entries_at, held_back_by, IsSound}
@@ -33,8 +32,8 @@ invariant_of-self c =
     let below : length s.arrivals.items < s.depth = grind (arith, common_steps, c.self.invariant.fits) in
     subst (λ (xs : List Arrival). IsSound c.insert_reserved-key.new.self xs s.current s.depth (vec_capacity c.push_reserved.new.self)) (sym c.push_reserved.ensures.items)
     (enter_sound s.entries c.insert_reserved-key.new.self s.arrivals.items s.current s.depth (vec_capacity s.arrivals) _ a c.args.p c.self.invariant below
-      c.insert_reserved-key.ensures.was_vacant c.insert_reserved-key.ensures.updates c.insert_reserved-key.ensures.len c.insert_reserved-key.ensures.capacity c.push_reserved.ensures.capacity
-      (c.earlier_conflicts-earlier.ensures ∙ ap (λ (xs : List Arrival). held_back_by (entries_at s.entries s.current xs) c.args.p) c.as_slice.ensures.value))
+    c.insert_reserved-key.ensures.was_vacant c.insert_reserved-key.ensures.updates c.insert_reserved-key.ensures.len c.insert_reserved-key.ensures.capacity c.push_reserved.ensures.capacity
+    (c.earlier_conflicts-earlier.ensures ∙ ap (λ (xs : List Arrival). held_back_by (entries_at s.entries s.current xs) c.args.p) c.as_slice.ensures.value))
 
 pub returns-clause-entered : goal.returns-clause-entered
 returns-clause-entered c =
@@ -42,9 +41,9 @@ returns-clause-entered c =
     let a : Arrival = record { key = c.insert_reserved-key.result; earlier = c.earlier_conflicts-earlier.result } in
     let fresh = fresh_key s.entries None s.current s.arrivals.items [] a.key c.self.invariant.kept c.insert_reserved-key.ensures.was_vacant in
     let now : queued_at c.insert_reserved-key.new.self c.push_reserved.new.self.items ≡ queued_at s.entries s.arrivals.items ++ record { key = a.key; entry = c.args.p } ∷ [] =
-      ap (queued_at c.insert_reserved-key.new.self) c.push_reserved.ensures.items
-      ∙ queued_push c.insert_reserved-key.new.self s.arrivals.items a c.args.p c.insert_reserved-key.ensures.updates.changed
-      ∙ ap (λ (q : List Queued). q ++ record { key = a.key; entry = c.args.p } ∷ []) (queued_others s.entries c.insert_reserved-key.new.self a.key s.arrivals.items fresh c.insert_reserved-key.ensures.updates.others) in
+    ap (queued_at c.insert_reserved-key.new.self) c.push_reserved.ensures.items
+    ∙ queued_push c.insert_reserved-key.new.self s.arrivals.items a c.args.p c.insert_reserved-key.ensures.updates.changed
+    ∙ ap (λ (q : List Queued). q ++ record { key = a.key; entry = c.args.p } ∷ []) (queued_others s.entries c.insert_reserved-key.new.self a.key s.arrivals.items fresh c.insert_reserved-key.ensures.updates.others) in
     (λ i. record { depth = s.depth; arrived = now i; current = s.current; hold = s.hold })
     ∙ ap (λ (q : QueueState). queue_with q a.key c.args.p) c.self.view_is
 
@@ -54,4 +53,4 @@ returns-clause-waiting c =
     let fresh = fresh_key s.entries None s.current s.arrivals.items [] c.insert_reserved-key.result c.self.invariant.kept c.insert_reserved-key.ensures.was_vacant in
     ap waiting_of (returns-clause-entered c)
     ∙ waiting_push c.args.self.now.current c.args.self.now.arrived (queued c.insert_reserved-key.result c.args.p)
-      (sym (ap (λ (q : QueueState). is_current q.current c.insert_reserved-key.result) c.self.view_is) ∙ current_other s.arrivals.items s.current c.insert_reserved-key.result c.self.invariant.current_is_live fresh)
+    (sym (ap (λ (q : QueueState). is_current q.current c.insert_reserved-key.result) c.self.view_is) ∙ current_other s.arrivals.items s.current c.insert_reserved-key.result c.self.invariant.current_is_live fresh)

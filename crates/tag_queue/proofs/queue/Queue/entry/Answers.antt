@@ -1,4 +1,4 @@
-use Rattle.std.proofs.Common.{◌≡◌, [], None, Some, true, refl, sym, ap, subst, ◌∙◌}
+use Rattle.std.proofs.Common.{[], None, refl, sym, ap, subst, ◌∙◌}
 use Rattle.std.specs.Prelude.{IsSome}
 use Rattle.tag_queue.specs.Queue.{QueueState, has_key, entry_at}
 use Rattle.tag_queue.proofs.Sound.{has_key_queued, entry_queued, live_entry}

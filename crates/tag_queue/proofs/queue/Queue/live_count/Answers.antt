@@ -1,6 +1,5 @@
-use Rattle.std.proofs.Common.{[], None, length, ap, sym, ◌∙◌, arith}
+use Rattle.std.proofs.Common.{[], None, arith}
 use Rattle.std.proofs.lemmas.Grind.{common_steps}
-use Rattle.tag_queue.specs.Queue.{QueueState}
 use Rattle.tag_queue.proofs.Sound.{length_queued}
 use Rattle.tag_queue.proofs.queue.Queue.live_count.Goals as goal
 

@@ -39,8 +39,8 @@ returns-clause-exact c =
     let s = c.self.inside in
     let left : c.retain.new.self.items ≡ filter (λ a. keeps a c.args.key) s.arrivals.items = filter_same _ _ _ (λ x b f' k. search rules) _ _ c.retain.ensures.filtered in
     let now : queued_at c.remove.new.self c.retain.new.self.items ≡ without_key (queued_at s.entries s.arrivals.items) c.args.key =
-      ap (queued_at c.remove.new.self) left
-      ∙ queued_without s.entries c.remove.new.self c.args.key None s.current s.arrivals.items [] c.remove.ensures.updates.others c.self.invariant.kept in
+    ap (queued_at c.remove.new.self) left
+    ∙ queued_without s.entries c.remove.new.self c.args.key None s.current s.arrivals.items [] c.remove.ensures.updates.others c.self.invariant.kept in
     (λ i. record { depth = s.depth; arrived = now i; current = None; hold = s.hold })
     ∙ ap (λ (q : QueueState). queue_left q c.args.key None) c.self.view_is
 

@@ -1,14 +1,12 @@
-use Rattle.std.proofs.Common.{◌≡◌, ◌++◌, [], ℕ, List, Option, None, Some, true, false, length, take, drop, refl, sym, ap, subst, ◌∙◌, arith, rules}
+use Rattle.std.proofs.Common.{◌≡◌, ◌++◌, [], List, None, false, length, take, drop, refl, sym, ap, subst, ◌∙◌, arith, rules}
 use Rattle.std.specs.Prelude.{IsSome}
 use Rattle.std.specs.List.{filter}
 use Rattle.std.specs.Vec.{vec_capacity}
 use Rattle.std.proofs.lemmas.Fn.{filter_same}
 use Rattle.std.proofs.lemmas.Grind.{common_steps}
-use Rattle.slab.specs.Slab.{get}
-use Rattle.disk_array.specs.declared.entries.Entry.{Entry}
 use Rattle.tag_queue.specs.declared.arrivals.Arrival.{Arrival}
 use Rattle.tag_queue.specs.Queue.{QueueState, has_key, is_current, entry_at, queue_left, without_key}
-use Rattle.tag_queue.specs.Stored.{queued_at, is_among, lowered, IsSound}
+use Rattle.tag_queue.specs.Stored.{queued_at, lowered, IsSound}
 use Rattle.tag_queue.proofs.Sound.{keeps, has_key_queued, live_entry, entry_queued, waiting_left_sound, waiting_left, put_whole, one_fewer}
 use Rattle.tag_queue.proofs.queue.Queue.remove_waiting.Goals as goal
 
@@ -32,13 +30,13 @@ invariant_of-self c =
     let found = live_entry s.entries c.args.key None s.current s.arrivals.items [] c.self.invariant.kept live in
     let waits = ap (λ (q : QueueState). is_current q.current c.args.key) c.self.view_is ∙ c.requires.waits in
     let lower : c.lower_later.new.arrivals ≡ lowered s.entries found.0 c.args.key false s.arrivals.items =
-      c.lower_later.ensures found.0 found.1 ∙ ap (lowered s.entries found.0 c.args.key false) c.as_mut_slice.ensures.value in
+    c.lower_later.ensures found.0 found.1 ∙ ap (lowered s.entries found.0 c.args.key false) c.as_mut_slice.ensures.value in
     let left : c.retain.new.self.items ≡ filter (λ a. keeps a c.args.key) (take s.arrivals.len (c.lower_later.new.arrivals ++ drop (length c.lower_later.new.arrivals) s.arrivals.items)) =
-      filter_same _ _ _ (λ x b f' k. search rules) _ _ c.retain.ensures.filtered in
+    filter_same _ _ _ (λ x b f' k. search rules) _ _ c.retain.ensures.filtered in
     let whole = put_whole s.arrivals.len c.lower_later.new.arrivals s.arrivals.items (grind (arith, common_steps)) ∙ lower in
     subst (λ (xs : List Arrival). IsSound c.remove.new.self xs s.current s.depth (vec_capacity c.retain.new.self)) (sym (left ∙ ap (filter (λ (a : Arrival). keeps a c.args.key)) whole))
     (waiting_left_sound s.entries c.remove.new.self s.arrivals.items s.current s.depth (vec_capacity s.arrivals) _ c.args.key found.0 c.self.invariant found.1 waits live
-      c.remove.ensures.updates c.remove.ensures.len c.remove.ensures.capacity c.retain.ensures.capacity)
+    c.remove.ensures.updates c.remove.ensures.len c.remove.ensures.capacity c.retain.ensures.capacity)
 
 pub returns-clause-entry : goal.returns-clause-entry
 returns-clause-entry c =
@@ -55,13 +53,13 @@ returns-clause-exact c =
     let found = live_entry s.entries c.args.key None s.current s.arrivals.items [] c.self.invariant.kept live in
     let waits = ap (λ (q : QueueState). is_current q.current c.args.key) c.self.view_is ∙ c.requires.waits in
     let lower : c.lower_later.new.arrivals ≡ lowered s.entries found.0 c.args.key false s.arrivals.items =
-      c.lower_later.ensures found.0 found.1 ∙ ap (lowered s.entries found.0 c.args.key false) c.as_mut_slice.ensures.value in
+    c.lower_later.ensures found.0 found.1 ∙ ap (lowered s.entries found.0 c.args.key false) c.as_mut_slice.ensures.value in
     let left : c.retain.new.self.items ≡ filter (λ a. keeps a c.args.key) (take s.arrivals.len (c.lower_later.new.arrivals ++ drop (length c.lower_later.new.arrivals) s.arrivals.items)) =
-      filter_same _ _ _ (λ x b f' k. search rules) _ _ c.retain.ensures.filtered in
+    filter_same _ _ _ (λ x b f' k. search rules) _ _ c.retain.ensures.filtered in
     let whole = put_whole s.arrivals.len c.lower_later.new.arrivals s.arrivals.items (grind (arith, common_steps)) ∙ lower in
     let now : queued_at c.remove.new.self c.retain.new.self.items ≡ without_key (queued_at s.entries s.arrivals.items) c.args.key =
-      ap (queued_at c.remove.new.self) (left ∙ ap (filter (λ (a : Arrival). keeps a c.args.key)) whole)
-      ∙ waiting_left s.entries c.remove.new.self s.arrivals.items s.current s.depth (vec_capacity s.arrivals) c.args.key found.0 c.self.invariant found.1 waits c.remove.ensures.updates in
+    ap (queued_at c.remove.new.self) (left ∙ ap (filter (λ (a : Arrival). keeps a c.args.key)) whole)
+    ∙ waiting_left s.entries c.remove.new.self s.arrivals.items s.current s.depth (vec_capacity s.arrivals) c.args.key found.0 c.self.invariant found.1 waits c.remove.ensures.updates in
     (λ i. record { depth = s.depth; arrived = now i; current = s.current; hold = s.hold })
     ∙ ap (λ (q : QueueState). queue_left q c.args.key q.current) c.self.view_is
 

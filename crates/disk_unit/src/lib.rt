@@ -1,0 +1,17 @@
+//! The logical units of a target (ANSI X3.131-1994, clauses 7 to 9).
+//!
+//! [`Blocks`] is what a disk keeps its blocks in: [`DenseBlocks`] keeps the bytes of all of them, [`SparseBlocks`]
+//! those that were written alone, so that a disk of 4,294,967,296 blocks takes memory for these only. What the
+//! blocks of a disk are is said by `disk_array` (`specs/Contents.antt`): a count, a size, and a look-up by number.
+//!
+//! Public contract: the trait `Blocks`, which both kinds meet: a read gives the block of the contents, a write changes
+//! that block alone, and only `new` and `reserve` take memory.
+#![tactic(auto)]
+
+mod blocks;
+mod dense;
+mod sparse;
+
+pub use blocks::Blocks;
+pub use dense::DenseBlocks;
+pub use sparse::SparseBlocks;
