@@ -1,7 +1,7 @@
 -- All blocks one after the other: what a read and a write of one are.
 use Rattle.std.proofs.Common.{◌≡◌, ◌≢◌, ◌<◌, ◌≤◌, ℕ, ◌+◌, ◌-◌, ◌*◌, zero, suc, Bool, true, false, List, ◌∷◌, ◌++◌, length, refl, ap, sym, ◌∙◌, arith, eq-eqb, take, drop, replicate}
 use Rattle.std.specs.Prelude.{◌==◌, nat_lt, if◌then◌else◌}
-use Rattle.std.proofs.lemmas.List.{drop-drop, drop-replicate, take-replicate, drop-take, take-append-le, drop-append-le}
+use Rattle.std.proofs.lemmas.List.{length-drop, length-take-le, length-replicate, drop-drop, drop-replicate, take-replicate, drop-take, take-append-le, drop-append-le}
 use Rattle.std.proofs.Math.Seq.{take-append_seam, drop-append_seam}
 use Rattle.std.proofs.lemmas.Grind.{common_steps}
 use borrow.Rule.Slice.PartMut.{put_mid}
@@ -97,3 +97,15 @@ zero_dense size first (suc n) lba = go (first == lba) (zero_dense size (suc firs
 
 pub block_within : (lba n size total : ℕ) → lba < n → total ≡ n * size → lba * size + size ≤ total
 block_within lba n size total below is_total = grind (arith, common_steps)
+
+-- Every block has the size.
+pub dense_whole : (size first n lba : ℕ) (bytes : List ℕ) → length bytes ≡ n * size → length (touched_block (blocks_in size first n bytes) lba (replicate size 0)) ≡ size
+dense_whole size first zero lba bytes whole = length-replicate size 0
+dense_whole size first (suc n) lba bytes whole =
+    let e : suc n * size ≡ size + n * size = suc_times n size in
+    let left : length (drop size bytes) ≡ length bytes - size = length-drop size bytes in
+    go (first == lba) (length-take-le size bytes (omega arith)) (dense_whole size (suc first) n lba (drop size bytes) (omega arith))
+  where
+    go : (x : Bool) → length (take size bytes) ≡ size → length (touched_block (blocks_in size (suc first) n (drop size bytes)) lba (replicate size 0)) ≡ size → length (if x then take size bytes else touched_block (blocks_in size (suc first) n (drop size bytes)) lba (replicate size 0)) ≡ size
+    go true one more = one
+    go false one more = more

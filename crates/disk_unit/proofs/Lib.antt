@@ -1,2 +1,4 @@
+pub mod Parts
 pub mod Touched
 pub mod AllBlocks
+pub mod Replies

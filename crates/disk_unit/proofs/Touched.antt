@@ -1,9 +1,10 @@
 -- The blocks that were written: where one stands, and what a read and a write of it are.
-use Rattle.std.proofs.Common.{◌≡◌, ◌≢◌, ◌<◌, ◌≤◌, ℕ, ◌+◌, zero, suc, Bool, true, false, List, [], ◌∷◌, ◌++◌, length, Some, None, refl, ap, sym, ◌∙◌, arith, rules, eq-eqb, take, drop, get_or, set}
+use Rattle.std.proofs.Common.{◌≡◌, ◌≢◌, ◌<◌, ◌≤◌, ℕ, ◌+◌, zero, suc, Bool, true, false, List, [], ◌∷◌, ◌++◌, length, Some, None, refl, ap, sym, ◌∙◌, arith, rules, eq-eqb, take, drop, get_or, set, replicate}
 use Rattle.std.specs.Prelude.{◌==◌, nat_lt, if◌then◌else◌}
 use Rattle.std.specs.List.{insert}
 use Rattle.std.specs.Global.{Vec}
 use Rattle.std.proofs.lemmas.Bool.{eqb-true}
+use Rattle.std.proofs.lemmas.List.{length-replicate}
 use Rattle.std.proofs.lemmas.Grind.{common_steps}
 use Rattle.disk_array.specs.Contents.{touched_block, touched_with}
 use Rattle.disk_unit.specs.Sparse.{touched_of, AreRising, HaveSize, place_in, is_at, touched_from, IsSparse}
@@ -248,11 +249,15 @@ length_last (block ∷ blocks) last = let h : length (blocks ++ last ∷ []) ≡
 
 -- ---- a write, on the fields
 
-pub overwrite_sound : (size : ℕ) (numbers : List ℕ) (blocks pool : List (Vec ℕ)) (room more_room same_room : ℕ) (place : ℕ) (new : Vec ℕ) → IsSparse size numbers blocks pool room more_room → length new.items ≡ size
-    → same_room ≡ more_room → IsSparse size numbers (set blocks place new) pool room same_room
-overwrite_sound size numbers blocks pool room more_room same_room place new sound fits same =
+pub overwrite_sound : (count size : ℕ) (numbers : List ℕ) (blocks pool : List (Vec ℕ)) (room more_room same_room : ℕ) (place : ℕ) (new : Vec ℕ) → IsSparse count size numbers blocks pool room more_room → length new.items ≡ size
+    → same_room ≡ more_room → IsSparse count size numbers (set blocks place new) pool room same_room
+overwrite_sound count size numbers blocks pool room more_room same_room place new sound fits same =
     let l : length (set blocks place new) ≡ length blocks = grind (arith, common_steps) in
     record {
+      some = sound.some;
+      most = sound.most;
+      some_size = sound.some_size;
+      most_size = sound.most_size;
       rising = sound.rising;
       paired = sound.paired ∙ sym l;
       sized = sized_set size blocks place new sound.sized fits;
@@ -261,14 +266,18 @@ overwrite_sound size numbers blocks pool room more_room same_room place new soun
       blocks_fit = let h = sound.blocks_fit in omega arith;
     }
 
-pub touch_sound : (size : ℕ) (numbers : List ℕ) (blocks pool : List (Vec ℕ)) (room more_room later later_more : ℕ) (lba : ℕ) (new last : Vec ℕ) → IsSparse size numbers blocks (pool ++ last ∷ []) room more_room
+pub touch_sound : (count size : ℕ) (numbers : List ℕ) (blocks pool : List (Vec ℕ)) (room more_room later later_more : ℕ) (lba : ℕ) (new last : Vec ℕ) → IsSparse count size numbers blocks (pool ++ last ∷ []) room more_room
     → is_at numbers (place_in numbers lba) lba ≡ false → length new.items ≡ size → room ≤ later → more_room ≤ later_more
-    → IsSparse size (insert numbers (place_in numbers lba) lba) (insert blocks (place_in numbers lba) new) pool later later_more
-touch_sound size numbers blocks pool room more_room later later_more lba new last sound absent fits more most =
+    → IsSparse count size (insert numbers (place_in numbers lba) lba) (insert blocks (place_in numbers lba) new) pool later later_more
+touch_sound count size numbers blocks pool room more_room later later_more lba new last sound absent fits more most =
     let l = length_insert numbers (place_in numbers lba) lba in
     let m = length_insert blocks (place_in numbers lba) new in
     let n = length_last pool last in
     record {
+      some = sound.some;
+      most = sound.most;
+      some_size = sound.some_size;
+      most_size = sound.most_size;
       rising = rising_insert 0 numbers lba sound.rising (omega arith) absent;
       paired = l ∙ ap (λ (k : ℕ). k + 1) sound.paired ∙ sym m;
       sized = sized_insert size blocks (place_in numbers lba) new sound.sized fits;
@@ -276,3 +285,13 @@ touch_sound size numbers blocks pool room more_room later later_more lba new las
       numbers_fit = let h = sound.numbers_fit in omega arith;
       blocks_fit = let h = sound.blocks_fit in omega arith;
     }
+
+-- Every block has the size.
+pub touched_whole : (size : ℕ) (numbers : List ℕ) (blocks : List (Vec ℕ)) (lba : ℕ) → HaveSize size blocks → length (touched_block (touched_of numbers blocks) lba (replicate size 0)) ≡ size
+touched_whole size [] blocks lba sized = length-replicate size 0
+touched_whole size (n ∷ numbers) [] lba sized = length-replicate size 0
+touched_whole size (n ∷ numbers) (block ∷ blocks) lba sized = go (n == lba) (touched_whole size numbers blocks lba sized.1)
+  where
+    go : (x : Bool) → length (touched_block (touched_of numbers blocks) lba (replicate size 0)) ≡ size → length (if x then block.items else touched_block (touched_of numbers blocks) lba (replicate size 0)) ≡ size
+    go true h = sized.0
+    go false h = h

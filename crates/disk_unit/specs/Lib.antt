@@ -1,2 +1,4 @@
+pub mod Plans
+pub mod Disk
 pub mod Sparse
 pub mod Dense

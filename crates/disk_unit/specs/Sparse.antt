@@ -28,7 +28,11 @@ abbrev pub place_in : List ℕ → ℕ → ℕ
 place_in [] from = 0
 place_in (n ∷ numbers) from = if nat_lt n from then suc (place_in numbers from) else 0
 
-pub record IsSparse (size : ℕ) (numbers : List ℕ) (blocks pool : List (Vec ℕ)) (room more_room : ℕ) : Type 0 where
+pub record IsSparse (count size : ℕ) (numbers : List ℕ) (blocks pool : List (Vec ℕ)) (room more_room : ℕ) : Type 0 where
+  pub some : 1 ≤ count
+  pub most : count ≤ 4294967296
+  pub some_size : 1 ≤ size
+  pub most_size : size ≤ 2048
   pub rising : AreRising 0 numbers
   pub paired : length numbers ≡ length blocks
   pub sized : HaveSize size blocks

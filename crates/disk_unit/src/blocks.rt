@@ -14,11 +14,16 @@ pub trait Blocks {
 
     /// How many blocks there are.
     fn count(&self) -> u64
-        ensures { result ≡ (contents self.now).count };
+        ensures exact { result ≡ (contents self.now).count }
+        ensures some { 1 ≤ (contents self.now).count }
+        ensures most { (contents self.now).count ≤ 4294967296 };
 
     /// How many bytes a block has.
     fn size(&self) -> usize
-        ensures { result ≡ (contents self.now).size };
+        ensures exact { result ≡ (contents self.now).size }
+        ensures some { 1 ≤ (contents self.now).size }
+        ensures most { (contents self.now).size ≤ 2048 }
+        ensures whole { (lba : ℕ) → length (block_at (contents self.now) lba) ≡ (contents self.now).size };
 
     /// How many blocks may be written for the first time before more are reserved.
     fn spare(&self) -> u64

@@ -10,8 +10,13 @@
 
 mod blocks;
 mod dense;
+mod disk;
+mod media;
 mod sparse;
+mod transfer;
 
 pub use blocks::Blocks;
 pub use dense::DenseBlocks;
+pub use disk::DiskMedium;
+pub use media::{Extent, Medium, Plan};
 pub use sparse::SparseBlocks;

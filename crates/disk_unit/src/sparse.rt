@@ -37,7 +37,7 @@ impl Model for SparseBlocks {
     } };
 
     ghost invariant = { λ s. IsSparse
-        s.size s.numbers.items s.blocks.items s.pool.items (vec_capacity s.numbers) (vec_capacity s.blocks) };
+        s.count s.size s.numbers.items s.blocks.items s.pool.items (vec_capacity s.numbers) (vec_capacity s.blocks) };
 }
 
 // How many of the numbers are below this one.

@@ -33,20 +33,20 @@ pub invariant_of-self : goal.invariant_of-self
 invariant_of-self c =
     let s = c.self.inside in
     let written = c.overwrite.ensures.written in
-    subst (λ (blocks : List (Vec ℕ)). IsSparse s.size s.numbers.items blocks s.pool.items (vec_capacity s.numbers) (vec_capacity c.overwrite.new.blocks)) (sym written.2)
-    (overwrite_sound s.size s.numbers.items s.blocks.items s.pool.items (vec_capacity s.numbers) (vec_capacity s.blocks) _ c.place_of-place.result written.0 c.self.invariant
+    subst (λ (blocks : List (Vec ℕ)). IsSparse s.count s.size s.numbers.items blocks s.pool.items (vec_capacity s.numbers) (vec_capacity c.overwrite.new.blocks)) (sym written.2)
+    (overwrite_sound s.count s.size s.numbers.items s.blocks.items s.pool.items (vec_capacity s.numbers) (vec_capacity s.blocks) _ c.place_of-place.result written.0 c.self.invariant
     (ap length written.1 ∙ c.requires.whole ∙ sym (ap (λ (t : Store). t.contents.size) c.self.view_is)) c.overwrite.ensures.capacity)
 
 pub with_bytes-requires : goal.with_bytes-requires
 with_bytes-requires c =
     let s = c.self.inside in
-    let pooled = subst (λ (pool : List (Vec ℕ)). IsSparse s.size s.numbers.items s.blocks.items pool (vec_capacity s.numbers) (vec_capacity s.blocks)) c.in-Some.ensures.items c.self.invariant in
+    let pooled = subst (λ (pool : List (Vec ℕ)). IsSparse s.count s.size s.numbers.items s.blocks.items pool (vec_capacity s.numbers) (vec_capacity s.blocks)) c.in-Some.ensures.items c.self.invariant in
     record { whole = sized_last s.size c.pop.new.self.items c.in-Some.block pooled.pooled ∙ ap (λ (t : Store). t.contents.size) c.self.view_is ∙ sym c.requires.whole }
 
 pub invariant_of-self-in-Some : goal.invariant_of-self-in-Some
 invariant_of-self-in-Some c =
     let s = c.self.inside in
-    let pooled = subst (λ (pool : List (Vec ℕ)). IsSparse s.size s.numbers.items s.blocks.items pool (vec_capacity s.numbers) (vec_capacity s.blocks)) c.in-Some.ensures.items c.self.invariant in
+    let pooled = subst (λ (pool : List (Vec ℕ)). IsSparse s.count s.size s.numbers.items s.blocks.items pool (vec_capacity s.numbers) (vec_capacity s.blocks)) c.in-Some.ensures.items c.self.invariant in
     let place : c.place_of-place.result ≡ place_in s.numbers.items c.args.lba = c.place_of-place.ensures.exact ∙ (λ i. place_in (c.as_slice.ensures.value i) (c.from.ensures i)) in
     let at : is_at s.numbers.items (place_in s.numbers.items c.args.lba) c.args.lba ≡ false =
     sym (λ i. is_at (c.as_slice-2.ensures.value i) (place i) c.args.lba) ∙ sym c.is_at.ensures ∙ c.if-is_at.false in
@@ -54,9 +54,9 @@ invariant_of-self-in-Some c =
     c.insert_within.ensures.items ∙ ap (λ (k : ℕ). insert s.numbers.items k c.args.lba) place in
     let blocks : c.insert_within-in-Some.new.list.items ≡ insert s.blocks.items (place_in s.numbers.items c.args.lba) c.with_bytes.result =
     c.insert_within-in-Some.ensures.items ∙ ap (λ (k : ℕ). insert s.blocks.items k c.with_bytes.result) place in
-    subst (λ (xs : List ℕ). IsSparse s.size xs c.insert_within-in-Some.new.list.items c.pop.new.self.items (vec_capacity c.insert_within.new.list) (vec_capacity c.insert_within-in-Some.new.list)) (sym numbers)
-    (subst (λ (xs : List (Vec ℕ)). IsSparse s.size (insert s.numbers.items (place_in s.numbers.items c.args.lba) c.args.lba) xs c.pop.new.self.items (vec_capacity c.insert_within.new.list) (vec_capacity c.insert_within-in-Some.new.list)) (sym blocks)
-    (touch_sound s.size s.numbers.items s.blocks.items c.pop.new.self.items (vec_capacity s.numbers) (vec_capacity s.blocks) _ _ c.args.lba c.with_bytes.result c.in-Some.block pooled at
+    subst (λ (xs : List ℕ). IsSparse s.count s.size xs c.insert_within-in-Some.new.list.items c.pop.new.self.items (vec_capacity c.insert_within.new.list) (vec_capacity c.insert_within-in-Some.new.list)) (sym numbers)
+    (subst (λ (xs : List (Vec ℕ)). IsSparse s.count s.size (insert s.numbers.items (place_in s.numbers.items c.args.lba) c.args.lba) xs c.pop.new.self.items (vec_capacity c.insert_within.new.list) (vec_capacity c.insert_within-in-Some.new.list)) (sym blocks)
+    (touch_sound s.count s.size s.numbers.items s.blocks.items c.pop.new.self.items (vec_capacity s.numbers) (vec_capacity s.blocks) _ _ c.args.lba c.with_bytes.result c.in-Some.block pooled at
     (ap length c.with_bytes.ensures ∙ c.requires.whole ∙ sym (ap (λ (t : Store). t.contents.size) c.self.view_is)) c.insert_within.ensures.capacity c.insert_within-in-Some.ensures.capacity))
 
 pub returns-then-is_at-clause-written : goal.returns-then-is_at-clause-written
