@@ -153,7 +153,8 @@ impl Observer {
 
     /// The view of the bus.
     pub fn view(&self) -> &BusView
-        ensures { (rows : List Row) → IsObserverOf rows self.now → IsBusViewOf rows result.now }
+        ensures value { result.now ≡ self.now.view }
+        ensures trace { (rows : List Row) → IsObserverOf rows self.now → IsBusViewOf rows result.now }
     {
         &self.view
     }

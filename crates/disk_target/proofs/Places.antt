@@ -1,9 +1,13 @@
 -- Places in bytes that stay at a last one.
-use Rattle.std.proofs.Common.{ℕ, ◌≡◌, ◌∙◌, ◌+◌, ◌*◌, ◌-◌, ◌<◌, ◌≤◌, ◌^◌, ◌⊎◌, inl, inr, zero, suc, min, List, length, refl, sym}
+use Rattle.std.proofs.Common.{ℕ, ◌≡◌, ◌∙◌, ◌+◌, ◌*◌, ◌-◌, ◌<◌, ◌≤◌, ◌^◌, ◌⊎◌, inl, inr, zero, suc, min, List, length, refl, sym, Option, Some, None}
 use Rattle.std.specs.Prelude.{slice_index_or}
 use Rattle.std.proofs.Math.Nat.{min-eq_left, min-eq_right, mul-zero, zero-mul, mul_comm, le-mul_of_pos_right}
 use Rattle.std.proofs.lemmas.Bool.{cases_lt}
 use native.Mathlib.Omega.{arith}
+use Rattle.scenario.specs.declared.value.Policy.{Policy}
+use Rattle.scenario.specs.declared.value.Policy.TheVariants as policies
+use Rattle.bus_dialogue.specs.declared.exchange.Task.{Task}
+use Rattle.bus_dialogue.specs.DataRuns.{run_at, run_in}
 use Rattle.std.proofs.lemmas.List.{get_or_past}
 
 both_past : (x y m : ℕ) → m ≤ x → m ≤ y → min x m ≡ min y m
@@ -50,6 +54,12 @@ held_second a b m h p = (λ j. min (sym (min-eq_left (below a m h)) j * min b m)
     below : (a m : ℕ) → a < suc m → a ≤ m
     below a m h = omega arith
 
+pub held_first : (a b m : ℕ) → 0 < m → min (min a m * b) m ≡ min (a * b) m
+held_first a b m p = sym (held_second (min a m) b m (below a m) p) ∙ held_product a b m p
+  where
+    below : (a m : ℕ) → min a m < suc m
+    below a m = omega arith
+
 -- Past the end of a list stands 0.
 pub held_place : (xs : List ℕ) (i m : ℕ) → length xs ≤ m → slice_index_or xs (min i m) 0 ≡ slice_index_or xs i 0
 held_place xs i m p = go (cases_lt m i)
@@ -63,3 +73,18 @@ held_place xs i m p = go (cases_lt m i)
         (λ j. slice_index_or xs (min-eq_right (weaker m i x) j) 0)
         ∙ get_or_past xs m 0 p
         ∙ sym (get_or_past xs i 0 (longer m i x p))
+
+-- The first place of a run, where the number of the run is held at the last place.
+pub start_held : (policy : Policy) (t : Task) (n m : ℕ) → 0 < m → min (run_at policy t (min n m)).start m ≡ min (run_at policy t n).start m
+start_held policy t n m p = go t.blocks policy
+  where
+    go : (b : Option ℕ) (q : Policy) → min (run_in q b t.size t.moved (min n m)).start m ≡ min (run_in q b t.size t.moved n).start m
+    go None q = refl
+    go (Some k) policies.Never = refl
+    go (Some k) policies.Command = refl
+    go (Some k) (policies.Burst most) = held_first n (most * t.size) m p
+    go (Some k) (policies.NoSave most) = refl
+
+-- A sum, of which the first number is held there.
+pub held_sum : (a b m : ℕ) → min (min a m + b) m ≡ min (a + b) m
+held_sum a b m = omega arith

@@ -2,8 +2,9 @@
 //! bytes that is past the last u64 is that; no data reach so far.
 ghost use Rattle.std.specs.Prelude.{ℕ, ◌≡◌, ◌+◌, ◌*◌, ◌<◌, ◌^◌, min, ◌-◌, ◌==◌, ◌&&◌, if◌then◌else◌, length, slice_index_or, nat_lt, List};
 ghost use Rattle.bus_dialogue.specs.DataRuns.{runs_in, runs_in_all, run_at, run_length, run_byte};
-ghost use Rattle.bus_dialogue.specs.PhaseBytes.{run_length_if, one_if};
+ghost use Rattle.bus_dialogue.specs.PhaseBytes.{run_length_if, data_byte, one_if};
 ghost use Rattle.bus_story.specs.Budget.{runs_by};
+ghost use Rattle.disk_target.specs.Servings.{byte_if};
 ghost use Rattle.scenario.specs.declared.value.Policy.TheVariants.{Burst};
 
 use bus_dialogue::Task;
@@ -117,5 +118,36 @@ pub fn run_length_if(policy: Policy, task: &Option<Task>) -> u64
     match task {
         None => 0,
         Some(task) => run_length(policy, task),
+    }
+}
+
+fn one_if(done: bool) -> u64
+    ensures { result ≡ one_if done }
+{
+    if done { 1 } else { 0 }
+}
+
+fn run_byte_place(policy: Policy, task: &Task, done: bool, place: u64) -> u64
+    ensures { (given : List ℕ) → length given < 2 ^ 64
+        → slice_index_or given result 0 ≡ run_byte policy task.now given (task.now.runs + one_if done) place }
+{
+    let run = task.runs.saturating_add(one_if(done));
+    run_start(policy, task, run).saturating_add(place)
+}
+
+/// At which place among the bytes that the process gives stands this byte, counted from 0, of its present run, or with
+/// `done` of the run after that; none where no process is served.
+pub fn process_byte_place(
+    policy: Policy,
+    task: &Option<Task>,
+    done: bool,
+    place: u64,
+) -> Option<u64>
+    ensures { (given : List ℕ) → length given < 2 ^ 64
+        → byte_if given result ≡ data_byte policy task.now given (one_if done) place }
+{
+    match task {
+        None => None,
+        Some(task) => Some(run_byte_place(policy, task, done, place)),
     }
 }

@@ -5,6 +5,7 @@ ghost use Rattle.bus_dialogue.specs.Exchange.{one_message, two_messages};
 ghost use Rattle.bus_dialogue.specs.Words.{agreement_answer, reply_to, request_by, is_naming};
 ghost use Rattle.bus_dialogue.specs.NextPhase.{phase_of, bus_free, phase_entry, message_in_entry, recovery, pointer_restoration, next_data_phase, request_or_command, after_offer, after_opening, message_repetition, after_refusal, message_out_leaving, after_messages, disconnection, with_task, after_arrival, command_leaving, waits_seek, disconnect_messages, after_run, data_in_leaving, data_out_leaving, unless_attention, phase_leaving, leaving_by};
 ghost use Rattle.msg_grammar.specs.declared.message.MsgIn.TheVariants as to_initiator;
+ghost use Rattle.disk_target.specs.Fits.{AreFit};
 ghost use Rattle.disk_target.specs.Servings.{serving_with};
 
 use crate::data_runs::{has_further_run, runs_in_all};
@@ -352,9 +353,7 @@ pub fn phase_leaving(serving: &Serving, attention: bool, phase: Phase) -> Leavin
     }
 }
 
-/// How it leaves the phase of these lines; `begun` says that the first phase of the connection has begun. After a
-/// selection that is MESSAGE OUT (6.1.3, 6.3).
-pub fn leaving_by(serving: &Serving, begun: bool, bus: Lines) -> Leaving
+fn leaving_if(serving: &Serving, begun: bool, bus: Lines) -> Leaving
     ensures { (given : List ℕ) → result ≡ leaving_by (serving_with serving.now given) begun bus }
 {
     if begun {
@@ -362,4 +361,13 @@ pub fn leaving_by(serving: &Serving, begun: bool, bus: Lines) -> Leaving
     } else {
         phase_entry(Phase::MessageOut)
     }
+}
+
+/// How it leaves the phase of these lines; `begun` says that the first phase of the connection has begun. After a
+/// selection that is MESSAGE OUT (6.1.3, 6.3).
+pub fn leaving_by(serving: &Serving, begun: bool, bus: Lines) -> Leaving
+    ensures exact { (given : List ℕ) → result ≡ leaving_by (serving_with serving.now given) begun bus }
+    ensures fits { AreFit serving.now.plan.messages → AreFit result.messages }
+{
+    leaving_if(serving, begun, bus)
 }

@@ -2,6 +2,7 @@
 ghost use Rattle.std.specs.Prelude.{◌≡◌, length};
 ghost use Rattle.bus_dialogue.specs.Exchange.{no_messages, nothing_heard, no_plan, plan_anew, tag_number, said_with, said_with_if, plan_anew_if, plan_after_message, struck_plan, message_bytes, from_byte};
 ghost use Rattle.bus_dialogue.specs.Planning.{first_plan, cause_after, plan_in_message_out, plan_in_phase, plan_with_byte, plan_after};
+ghost use Rattle.disk_target.specs.Fits.{AreFit};
 
 use bus_base::AbortKind;
 use bus_dialogue::{Cause, Hearing, Leaving, Messages, Next, Plan, Said};
@@ -241,8 +242,7 @@ fn struck_plan(plan: &Plan) -> Plan
     }
 }
 
-/// The plan after a row of the connection that told this, where the phase that stood before it was left so.
-pub fn plan_after(hearing: &Hearing, leaving: &Leaving, plan: &Plan) -> Plan
+fn plan_by(hearing: &Hearing, leaving: &Leaving, plan: &Plan) -> Plan
     ensures { result ≡ plan_after hearing.now leaving.now plan.now }
 {
     if changes_phase(&hearing.change) {
@@ -254,4 +254,12 @@ pub fn plan_after(hearing: &Hearing, leaving: &Leaving, plan: &Plan) -> Plan
     } else {
         *plan
     }
+}
+
+/// The plan after a row of the connection that told this, where the phase that stood before it was left so.
+pub fn plan_after(hearing: &Hearing, leaving: &Leaving, plan: &Plan) -> Plan
+    ensures exact { result ≡ plan_after hearing.now leaving.now plan.now }
+    ensures fits { AreFit plan.now.messages → AreFit leaving.now.messages → AreFit result.messages }
+{
+    plan_by(hearing, leaving, plan)
 }
