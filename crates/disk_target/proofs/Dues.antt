@@ -1,5 +1,5 @@
 -- What is due of a target is what it does next by what it knows.
-use Rattle.std.proofs.Common.{ℕ, ◌≡◌, ◌==◌, ◌+◌, ◌∙◌, Bool, true, false, List, [], ◌∷◌, refl, sym, ap, Option, Some, None}
+use Rattle.std.proofs.Common.{ℕ, ◌≡◌, ◌==◌, ◌∙◌, Bool, true, false, List, [], ◌∷◌, refl, sym, Option, Some, None}
 use Rattle.std.specs.Prelude.{if◌then◌else◌, not}
 use Rattle.bus_trace.specs.declared.Row.{Row}
 use Rattle.bus_trace.specs.declared.changes.Change.{Change}
@@ -12,7 +12,6 @@ use Rattle.bus_reactions.specs.Sight.{sight}
 use Rattle.bus_dialogue.specs.Hearing.{begun}
 use Rattle.bus_dialogue.specs.Wants as wants
 use Rattle.scenario.specs.declared.value.FaultDef.{FaultDef}
-use Rattle.scenario.specs.declared.value.HostDef.{HostDef}
 use Rattle.scenario.specs.declared.value.TargetDef.{TargetDef}
 use Rattle.scenario.specs.Value.{ScenarioValue}
 use Rattle.bus_story.specs.Samples.{latency_of, host_latency, target_latency}
@@ -24,19 +23,18 @@ use Rattle.bus_reactions.specs.Linking.{link_due, sample_time}
 use Rattle.bus_reactions.specs.Reset.{with_reset}
 use Rattle.bus_reactions.specs.Ends as hand
 use Rattle.bus_dialogue.specs.Ends.{pace_by, offering_by}
-use Rattle.bus_due.specs.Own.{Own, own_at, own_of}
 use Rattle.bus_due.specs.Connected.{is_receiving, is_receiver, initiator_end_due, target_end_due, connected_due}
 use Rattle.bus_due.specs.Defs.{host_of}
-use Rattle.bus_due.specs.RunState.{RunState, bus_of}
+use Rattle.bus_due.specs.RunState.{RunState}
 use Rattle.bus_due.specs.RunSteps.{run_state}
-use Rattle.bus_due.specs.Sights.{flip_of, identify_byte, want_of, serving_of, sight_of}
+use Rattle.bus_due.specs.Sights.{flip_of, identify_byte, want_of}
 use Rattle.bus_due.specs.Wants.{ready_time, initiator_if, ready_of, target_of, item_want_time}
 use Rattle.bus_due.specs.Due.{self_of, due_if, stage_due, link_due_of, reset_from}
 use Rattle.bus_due.specs.Next.{due}
 use Rattle.bus_due.specs.Plain.{IsPlain, AreOfDevices}
 use Rattle.bus_due.specs.PlainDue.{IsThere, IsLinked, under_reset, target_reaction}
-use Rattle.disk_target.specs.States.{Told, told, TargetState, ready_unit, IsOwnConnection, IsTargetOf, IsTargetLine, IsNoInitiator, first_fault, flip_by}
-use Rattle.disk_target.specs.Dues.{myself_by, want_of_ready, link_by, hand_by, connected_by, calm_by, target_next}
+use Rattle.disk_target.specs.States.{told, TargetState, ready_unit, IsOwnConnection, IsTargetOf, IsTargetLine, IsNoInitiator, first_fault, flip_by}
+use Rattle.disk_target.specs.Dues.{myself_by, want_of_ready, link_by, hand_by, calm_by, target_next}
 
 -- ---- the scenario
 
@@ -99,7 +97,7 @@ other_receiver n (Some c) dev x y = no_receiver n c dev x y
 others_are : (s : ScenarioValue) (k : RunState) (me : Myself) (n : Connection) → (n.initiator == me.dev) ≡ false → (n.target == me.dev) ≡ false → connected_due s k me n ≡ None
 others_are s k me n x y =
     λ j. hand.sample_due (other_receiver n k.story.bus_state.crossed me.dev x y j) k.last (flip_of k.faults k.last)
-        (if x j then initiator_end_due s k me else if y j then target_end_due s k me else None)
+    (if x j then initiator_end_due s k me else if y j then target_end_due s k me else None)
 
 -- ---- in a connection of its own
 
@@ -108,9 +106,9 @@ hands_are s rows d i f n g p r e o =
     let k : RunState = run_state s rows in
     let last : ℕ = last_time rows in
     λ j. hand.sample_due (is_receiving (receiver rows) d.dev) last (flips_are k.faults f last e j)
-        (hand.target_due (begun rows) (sight rows) (handshakes rows) (myself_is s rows d i g p r j)
-            (pace_by (p.begun j) (p.bus j) (p.dialogue j).heard.now.agreement (g.no_host j))
-            (offering_by (sym (r.serving_is n o) j) (p.begun j) (pace_by (p.begun j) (p.bus j) (p.dialogue j).heard.now.agreement (g.no_host j)).pulsed (p.bus j) (p.handshakes j)))
+    (hand.target_due (begun rows) (sight rows) (handshakes rows) (myself_is s rows d i g p r j)
+    (pace_by (p.begun j) (p.bus j) (p.dialogue j).heard.now.agreement (g.no_host j))
+    (offering_by (sym (r.serving_is n o) j) (p.begun j) (pace_by (p.begun j) (p.bus j) (p.dialogue j).heard.now.agreement (g.no_host j)).pulsed (p.bus j) (p.handshakes j)))
 
 -- ---- whatever stands
 

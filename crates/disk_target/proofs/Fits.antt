@@ -1,10 +1,9 @@
 -- The messages that a target plans fit, where those that it is to repeat do.
-use Rattle.std.specs.Prelude.{ℕ, ◌+◌, ◌-◌, ◌==◌, ◌&&◌, not, length, Bool, true, false, Option, Some, None, is_some, nat_lt, if◌then◌else◌}
+use Rattle.std.specs.Prelude.{◌+◌, ◌-◌, ◌==◌, ◌&&◌, not, length, Bool, true, false, Option, Some, None, is_some, nat_lt, if◌then◌else◌}
 use Rattle.bus_trace.specs.LineSet.{LineSet}
 use Rattle.bus_trace.specs.Phases.{is_message_out, is_message_in, changes_phase}
 use Rattle.bus_trace.specs.declared.agreements.Agreement.{Agreement}
 use Rattle.bus_trace.specs.declared.agreements.TheConstants.{UNLIMITED_OFFSET}
-use Rattle.msg_grammar.specs.declared.message.MsgIn.{MsgIn}
 use Rattle.msg_grammar.specs.declared.message.MsgIn.TheVariants as to_initiator
 use Rattle.scenario.specs.declared.value.TargetDef.{TargetDef}
 use Rattle.scenario.specs.declared.value.Policy.{Policy}
@@ -26,7 +25,7 @@ use Rattle.bus_dialogue.specs.Planning.{plan_in_message_out, plan_in_phase, plan
 use Rattle.bus_dialogue.specs.Words.{target_answer, reply_to, request_by, is_naming}
 use Rattle.bus_dialogue.specs.Arrivals.{policy_of}
 use Rattle.bus_dialogue.specs.DataRuns.{runs_in_all}
-use Rattle.bus_dialogue.specs.NextPhase.{Serving, phase_of, bus_free, phase_entry, with_task, recovery, recovery_limit, pointer_restoration, next_data_phase, request_or_command, after_offer, after_opening, message_repetition, after_refusal, message_out_leaving, after_messages, disconnection, after_arrival, command_leaving, disconnect_messages, after_run, data_in_leaving, data_out_leaving, unless_attention, phase_leaving, leaving_by}
+use Rattle.bus_dialogue.specs.NextPhase.{Serving, phase_of, bus_free, phase_entry, with_task, recovery, recovery_limit, pointer_restoration, next_data_phase, request_or_command, after_offer, message_repetition, after_refusal, message_out_leaving, after_messages, disconnection, after_arrival, command_leaving, disconnect_messages, after_run, data_in_leaving, data_out_leaving, unless_attention, phase_leaving, leaving_by}
 use Rattle.disk_target.specs.Fits.{FitsIf, AreFit}
 
 -- Either of two.
@@ -53,7 +52,7 @@ restoration_fits n = record { first = tt; second = tt }
 recovery_fits : (def : Option TargetDef) (t : Task) (again gives_up : Leaving) → AreFit again.messages → AreFit gives_up.messages → AreFit (recovery def t again gives_up).messages
 recovery_fits def t again gives_up x y =
     either t.in_hold again (if nat_lt t.recoveries (recovery_limit def) then record again { counts = true } else gives_up) x
-        (either (nat_lt t.recoveries (recovery_limit def)) (record again { counts = true }) gives_up x y)
+    (either (nat_lt t.recoveries (recovery_limit def)) (record again { counts = true }) gives_up x y)
 
 reply_fits : (def : Option TargetDef) (offer : Agreement) → FitsIf (Some (reply_to def offer))
 reply_fits def offer = go (offer.offset == UNLIMITED_OFFSET)
@@ -77,8 +76,8 @@ offer_fits def negotiates None = either negotiates (request_or_command (request_
 refusal_fits : (v : Serving) → AreFit v.plan.messages → AreFit (after_refusal v).messages
 refusal_fits v x =
     either (is_some v.plan.said.offer) (phase_entry phases.Command) (if is_naming v.plan.messages.first then message_repetition v.plan else with_task v.task (λ t. recovery v.def t (message_repetition v.plan) bus_free)) (entry_fits phases.Command)
-        (either (is_naming v.plan.messages.first) (message_repetition v.plan) (with_task v.task (λ t. recovery v.def t (message_repetition v.plan) bus_free)) x
-            (of_task v.task (λ t. recovery v.def t (message_repetition v.plan) bus_free) (λ t. recovery_fits v.def t (message_repetition v.plan) bus_free x free_fits)))
+    (either (is_naming v.plan.messages.first) (message_repetition v.plan) (with_task v.task (λ t. recovery v.def t (message_repetition v.plan) bus_free)) x
+    (of_task v.task (λ t. recovery v.def t (message_repetition v.plan) bus_free) (λ t. recovery_fits v.def t (message_repetition v.plan) bus_free x free_fits)))
 
 restores_fit : (v : Serving) (n : Next) (gives_up : Leaving) → AreFit gives_up.messages → AreFit (with_task v.task (λ t. recovery v.def t (pointer_restoration n) gives_up)).messages
 restores_fit v n gives_up x =
@@ -127,8 +126,8 @@ command_fits v a = go v.task
     go None = free_fits
     go (Some t) =
         either v.plan.struck (again t) (after_arrival v.def t a)
-            (recovery_fits v.def t (pointer_restoration nexts.Command) (phase_entry phases.Status) (restoration_fits nexts.Command) (entry_fits phases.Status))
-            (arrival_fits v.def t a)
+        (recovery_fits v.def t (pointer_restoration nexts.Command) (phase_entry phases.Status) (restoration_fits nexts.Command) (entry_fits phases.Status))
+        (arrival_fits v.def t a)
 
 data_out_fits : (v : Serving) → AreFit (data_out_leaving v).messages
 data_out_fits v = go v.task
@@ -140,8 +139,8 @@ data_out_fits v = go v.task
     go None = free_fits
     go (Some t) =
         either v.plan.struck (again t) (after_run (policy_of v.def) t)
-            (recovery_fits v.def t (pointer_restoration nexts.GoOn) (phase_entry phases.Status) (restoration_fits nexts.GoOn) (entry_fits phases.Status))
-            (run_fits (policy_of v.def) t)
+        (recovery_fits v.def t (pointer_restoration nexts.GoOn) (phase_entry phases.Status) (restoration_fits nexts.GoOn) (entry_fits phases.Status))
+        (run_fits (policy_of v.def) t)
 
 phase_fits : (v : Serving) (attention : Bool) (p : Phase) → AreFit v.plan.messages → AreFit (phase_leaving v attention p).messages
 phase_fits v attention phases.MessageOut x = message_out_fits v v.plan.cause x

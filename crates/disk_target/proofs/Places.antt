@@ -1,7 +1,7 @@
 -- Places in bytes that stay at a last one.
-use Rattle.std.proofs.Common.{ℕ, ◌≡◌, ◌∙◌, ◌+◌, ◌*◌, ◌-◌, ◌<◌, ◌≤◌, ◌^◌, ◌⊎◌, inl, inr, zero, suc, min, List, length, refl, sym, Option, Some, None}
+use Rattle.std.proofs.Common.{ℕ, ◌≡◌, ◌∙◌, ◌+◌, ◌*◌, ◌<◌, ◌≤◌, ◌⊎◌, inl, inr, zero, suc, min, List, length, refl, sym, Option, Some, None}
 use Rattle.std.specs.Prelude.{slice_index_or}
-use Rattle.std.proofs.Math.Nat.{min-eq_left, min-eq_right, mul-zero, zero-mul, mul_comm, le-mul_of_pos_right}
+use Rattle.std.proofs.Math.Nat.{min-eq_left, min-eq_right, mul-zero, mul_comm, le-mul_of_pos_right}
 use Rattle.std.proofs.lemmas.Bool.{cases_lt}
 use native.Mathlib.Omega.{arith}
 use Rattle.scenario.specs.declared.value.Policy.{Policy}

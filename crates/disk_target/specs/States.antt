@@ -17,7 +17,7 @@ use Rattle.bus_reactions.specs.Sight.{sight}
 use Rattle.bus_dialogue.specs.NextPhase as next_phase
 use Rattle.bus_dialogue.specs.Hearing.{begun}
 use Rattle.bus_dialogue.specs.Wants as wants
-use Rattle.bus_due.specs.Own.{Own, own_of}
+use Rattle.bus_due.specs.Own.{own_of}
 use Rattle.bus_due.specs.Defs.{host_of, target_def_of}
 use Rattle.bus_due.specs.Wants.{ready_of}
 use Rattle.bus_due.specs.Sights.{serving_of}

@@ -25,9 +25,7 @@ fn runs_by(policy: Policy, blocks: u32) -> u64
     match policy {
         Policy::Never | Policy::Command => 1,
         Policy::Burst(most) => burst_count(most, blocks),
-        Policy::NoSave(most) => {
-            if blocks <= most { 1 } else { 2 }
-        }
+        Policy::NoSave(most) => { if blocks <= most { 1 } else { 2 } }
     }
 }
 
@@ -44,7 +42,11 @@ fn runs_in(policy: Policy, blocks: Option<u32>) -> u64
 pub fn runs_in_all(policy: Policy, task: &Task) -> u64
     ensures { result ≡ runs_in_all policy task.now }
 {
-    if task.moved == 0 { 0 } else { runs_in(policy, task.blocks) }
+    if task.moved == 0 {
+        0
+    } else {
+        runs_in(policy, task.blocks)
+    }
 }
 
 /// Whether a run follows the present one.

@@ -164,7 +164,12 @@ fn link_due_of(observer: &Observer, known: &Knowledge, fault: Option<FaultDef>) 
     let view = observer.view();
     let me = myself(known, view);
     let sampled_at = sample_time(view, &me);
-    link_due(view, &me, &want_of_ready(known.ready), flip(fault, sampled_at))
+    link_due(
+        view,
+        &me,
+        &want_of_ready(known.ready),
+        flip(fault, sampled_at),
+    )
 }
 
 // Without a reset of its own.

@@ -21,9 +21,17 @@ pub fn phase_of(bus: Lines) -> Phase
     ensures { result ≡ phase_of bus }
 {
     if bus.msg() {
-        if bus.io() { Phase::MessageIn } else { Phase::MessageOut }
+        if bus.io() {
+            Phase::MessageIn
+        } else {
+            Phase::MessageOut
+        }
     } else if bus.cd() {
-        if bus.io() { Phase::Status } else { Phase::Command }
+        if bus.io() {
+            Phase::Status
+        } else {
+            Phase::Command
+        }
     } else if bus.io() {
         Phase::DataIn
     } else {
@@ -112,7 +120,11 @@ fn next_data_phase(policy: Policy, task: &Task, made: u64) -> Phase
     ensures { result ≡ next_data_phase policy task.now made }
 {
     if !task.replied && made < runs_in_all(policy, task) {
-        if task.writes { Phase::DataOut } else { Phase::DataIn }
+        if task.writes {
+            Phase::DataOut
+        } else {
+            Phase::DataIn
+        }
     } else {
         Phase::Status
     }
@@ -329,7 +341,11 @@ fn data_out_leaving(serving: &Serving) -> Leaving
 fn unless_attention(attention: bool, leaving: Leaving) -> Leaving
     ensures { result ≡ unless_attention attention leaving }
 {
-    if attention { phase_entry(Phase::MessageOut) } else { leaving }
+    if attention {
+        phase_entry(Phase::MessageOut)
+    } else {
+        leaving
+    }
 }
 
 fn command_complete() -> Leaving

@@ -62,7 +62,13 @@ fn status_byte(task: &Option<Task>) -> u8
 
 /// The byte that the target gives at this place of a phase in which it sends these messages; `process_byte` is the byte that its
 /// process gives there, before which so many more data runs than yet are made.
-pub fn phase_byte(serving: &Serving, phase: Phase, messages: &Messages, process_byte: u8, place: u64) -> u8
+pub fn phase_byte(
+    serving: &Serving,
+    phase: Phase,
+    messages: &Messages,
+    process_byte: u8,
+    place: u64,
+) -> u8
     requires { AreFit messages.now }
     ensures { (given : List ℕ) (more : ℕ)
         → process_byte ≡ data_byte (policy_of (Some serving.now.def)) serving.now.task given more place

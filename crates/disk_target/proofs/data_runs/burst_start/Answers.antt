@@ -1,4 +1,4 @@
-use Rattle.std.proofs.Common.{◌≡◌, ◌∙◌, ◌*◌, ◌-◌, ◌<◌, ◌^◌, min}
+use Rattle.std.proofs.Common.{◌∙◌, ◌*◌, ◌-◌, ◌^◌, min}
 use native.Mathlib.Omega.{arith}
 use Rattle.disk_target.proofs.Places.{held_second}
 use Rattle.disk_target.proofs.data_runs.burst_start.Goals as goal

@@ -1,4 +1,4 @@
-use Rattle.std.proofs.Common.{ℕ, ◌≡◌, ◌<◌, ◌≤◌, ◌+◌, ◌-◌, ◌^◌, ◌∙◌, min, List, length, arith}
+use Rattle.std.proofs.Common.{ℕ, ◌<◌, ◌≤◌, ◌+◌, ◌-◌, ◌^◌, ◌∙◌, min, List, length, arith}
 use Rattle.std.specs.Prelude.{slice_index_or}
 use Rattle.scenario.specs.declared.value.Policy.{Policy}
 use Rattle.bus_dialogue.specs.declared.exchange.Task.{Task}

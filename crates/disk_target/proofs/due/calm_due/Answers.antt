@@ -1,4 +1,4 @@
-use Rattle.std.proofs.Common.{◌≡◌, ◌∙◌, sym}
+use Rattle.std.proofs.Common.{◌∙◌, sym}
 use Rattle.bus_trace.specs.Terms.{connection}
 use Rattle.disk_target.specs.States.{told, state_of}
 use Rattle.disk_target.specs.Dues.{calm_by}

@@ -1,4 +1,4 @@
-use Rattle.std.proofs.Common.{ℕ, ◌≡◌, ◌^◌, ◌∙◌, sym, subst}
+use Rattle.std.proofs.Common.{ℕ, ◌^◌, ◌∙◌, sym, subst}
 use Rattle.bus_lines.specs.BusView.{BusViewValue}
 use Rattle.bus_lines.specs.Timely.{IsTimely}
 use Rattle.bus_reactions.specs.Ends as hand

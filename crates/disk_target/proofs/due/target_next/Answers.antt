@@ -1,4 +1,4 @@
-use Rattle.std.proofs.Common.{◌≡◌, ◌∙◌, sym}
+use Rattle.std.proofs.Common.{◌∙◌, sym}
 use Rattle.disk_target.proofs.due.target_next.Goals as goal
 
 pub returns-clause-due : goal.returns-clause-due

@@ -1,4 +1,4 @@
-use Rattle.std.proofs.Common.{◌≡◌, [], sym, subst}
+use Rattle.std.proofs.Common.{[], sym, subst}
 use Rattle.bus_dialogue.specs.declared.exchange.Leaving.{Leaving}
 use Rattle.disk_target.specs.Fits.{AreFit}
 use Rattle.disk_target.specs.Servings.{serving_with}

@@ -1,4 +1,4 @@
-use Rattle.std.proofs.Common.{ℕ, ◌≡◌, ◌∙◌, List, Some, sym}
+use Rattle.std.proofs.Common.{◌∙◌, sym}
 use Rattle.bus_dialogue.specs.Arrivals.{policy_of}
 use Rattle.bus_dialogue.specs.NextPhase as next_phase
 use Rattle.bus_dialogue.specs.PhaseBytes.{data_byte, phase_byte, lines_by, one_if}

@@ -1,4 +1,4 @@
-use Rattle.std.proofs.Common.{◌≡◌, sym, subst}
+use Rattle.std.proofs.Common.{sym, subst}
 use Rattle.bus_dialogue.specs.declared.exchange.Plan.{Plan}
 use Rattle.disk_target.specs.Fits.{AreFit}
 use Rattle.disk_target.proofs.Fits.{plan_fits}
