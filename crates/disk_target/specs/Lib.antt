@@ -1,0 +1,4 @@
+pub mod Servings
+pub mod Fits
+pub mod States
+pub mod Dues

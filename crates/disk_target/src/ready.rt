@@ -1,0 +1,32 @@
+// What a target has ready, and what it knows itself.
+
+use crate::serving::{DataBytes, Serving};
+use bus_base::{Dev, Ns};
+
+/// A unit whose current process is ready for a reselection.
+#[derive(Clone, Copy, Debug)]
+pub struct Ready {
+    /// From when on, in ns.
+    pub time: Ns,
+    /// The initiator of the process.
+    pub initiator: Dev,
+    /// The unit, 0 to 7.
+    pub unit: u8,
+}
+
+/// What a target knows itself.
+#[derive(Clone, Copy, Debug)]
+pub struct Knowledge {
+    /// When it made its last row of lines, in ns.
+    pub row: Ns,
+    /// When it last raised RST, in ns.
+    pub rst: Ns,
+    /// When it drives RST next, in ns.
+    pub reset: Option<Ns>,
+    /// The unit that is ready first.
+    pub ready: Option<Ready>,
+    /// In a connection of its own: what it decides by.
+    pub serving: Serving,
+    /// And the bytes that the process gives.
+    pub bytes: DataBytes,
+}

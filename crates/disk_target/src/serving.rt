@@ -1,0 +1,27 @@
+// What the target of a connection goes by.
+
+use bus_dialogue::{Arrival, Plan, Task};
+use scenario::TargetDef;
+
+/// What the target of a connection decides by: its line of the scenario, what was said, and the process that it
+/// serves.
+#[derive(Clone, Copy, Debug)]
+pub struct Serving {
+    /// Its line of the scenario.
+    pub def: TargetDef,
+    /// What it plans in the connection.
+    pub plan: Plan,
+    /// The process that it serves.
+    pub task: Option<Task>,
+    /// What becomes of its command, where this is COMMAND.
+    pub arrival: Arrival,
+}
+
+/// The bytes that the target has from its unit for DATA IN, which the process gives.
+#[derive(Clone, Copy, Debug)]
+pub struct DataBytes {
+    /// The one after those that it has given in this phase.
+    pub next: u8,
+    /// The first one of the run that begins as it leaves the phase.
+    pub first: u8,
+}
