@@ -1,13 +1,16 @@
-//! Tests of `initiator`: what it wants over a selection, the end of a command and a calling in vain, and what it says.
+//! Tests of `initiator`: what it wants over a selection and the end of a command, and what it says.
+
+ghost use Rattle.std.specs.Prelude.{◌<◌};
 
 use crate::driven_rows::drive;
 use bus_base::{Event, ProcId};
 use bus_lines::BusView;
-use initiator::{Intent, OwnItem, Speech, process_opening};
+use bus_trace::Row;
+use initiator::{Intent, Itself, OwnItem, Speech, process_opening};
 use scenario::{HostDef, Tag, read};
 use std::test::Fail;
 
-// Two untagged commands at one unit, and an abort.
+// Two untagged commands at one unit, an abort and a reset.
 const TEXT: &str = "scsi 1
 initiator 7 latency 0 open 2 retries 1 sync 50 8 lag 0
 target 0 latency 0 retries 2 disc never pick first seek 0 sync 0 0
@@ -15,43 +18,58 @@ unit 0 0 blocks 2 size 16 depth 2
 cmd 7 0 0 at 0 untagged cdb 080000000100 none
 cmd 7 0 0 at 5000 untagged cdb 080000000100 none
 abort 7 0 0 at 20000 all
+reset 7 at 30000
 end
 ";
 
+// One row more, which shows these events.
+fn tell(view: &mut BusView, intent: &mut Intent, row: &Row, shown: &[Event])
+    requires { row.now.dev < 8 }
+{
+    view.step(row);
+    intent.see(view, row, shown);
+}
+
+// Initiator 7 enters arbitration, wins, and selects target 0, which answers.
+fn select(view: &mut BusView, intent: &mut Intent) {
+    tell(view, intent, &drive(1200, 7, 0x00280), [].as_slice());
+    tell(view, intent, &drive(3600, 7, 0x00680), [].as_slice());
+    tell(view, intent, &drive(4800, 7, 0x10781), [].as_slice());
+    tell(view, intent, &drive(4890, 7, 0x10581), [].as_slice());
+    tell(view, intent, &drive(5300, 0, 0x00200), [].as_slice());
+}
+
 #[test]
 fn wants_its_commands_in_order(rt: HostRuntime) -> Result<(), Fail> {
-    let scenario = read(rt.alloc(), TEXT.as_bytes()).ok().ok_or("it is a text")?;
+    let scenario = read(rt.alloc(), TEXT.as_bytes())
+        .ok()
+        .ok_or("it is a text")?;
     assert!(rt; scenario.commands.len() < 0xffff);
     assert!(rt; scenario.aborts.len() < 0xffff);
+    let itself = Itself::new(rt.alloc(), &scenario, 7)?;
+    assert_eq!(rt; itself.reset(), Some(30000));
     let mut view = BusView::new();
     let mut intent = Intent::new(rt.alloc(), &scenario, 7, 1)?;
     assert_eq!(rt; intent.since(), Some(0));
     assert!(rt; intent.callee().is_none());
-    for row in [
-        drive(1200, 7, 0x00280),
-        drive(3600, 7, 0x00680),
-        drive(4800, 7, 0x10781),
-        drive(4890, 7, 0x10581),
-        drive(5300, 0, 0x00200),
-    ] {
-        view.step(&row);
-        intent.see(&view, &row, [].as_slice());
-    }
+    select(&mut view, &mut intent);
     assert!(rt; matches!(intent.aim(), Some(OwnItem::Command(1))));
     assert_eq!(rt; intent.callee(), Some(0));
     assert_eq!(rt; intent.since(), Some(0));
     // The connection begins. Beside an untagged command no other may be open at its unit, so the abort comes next.
-    let row = drive(5390, 7, 0x10000);
-    view.step(&row);
-    intent.see(&view, &row, [].as_slice());
+    tell(
+        &mut view,
+        &mut intent,
+        &drive(5390, 7, 0x10000),
+        [].as_slice(),
+    );
     assert_eq!(rt; intent.since(), Some(20000));
-    let row = drive(5400, 0, 0x02a00);
-    view.step(&row);
     let id = ProcId {
         command: 1,
         sense: false,
     };
-    intent.see(&view, &row, [Event::End(id, 2)].as_slice());
+    let row = drive(5400, 0, 0x02a00);
+    tell(&mut view, &mut intent, &row, [Event::End(id, 2)].as_slice());
     // It ended with CHECK CONDITION: its REQUEST SENSE is sent before the second command.
     assert_eq!(rt; intent.since(), Some(0));
     Ok(())
@@ -70,7 +88,10 @@ fn says_its_opening(rt: HostRuntime) {
         offers: true,
     };
     let words = process_opening(&host, true, false, 2, Tag::Simple(3));
-    assert_eq!(rt; words.as_slice(), [0xc2, 0x20, 3, 1, 3, 1, 50, 8].as_slice());
+    assert_eq!(rt;
+        words.as_slice(),
+        [0xc2, 0x20, 3, 1, 3, 1, 50, 8].as_slice()
+    );
     let mut speech = Speech::new();
     speech.say(words.as_slice());
     assert_eq!(rt; speech.next_word(), 0xc2);
