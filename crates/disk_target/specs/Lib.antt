@@ -2,3 +2,4 @@ pub mod Servings
 pub mod Fits
 pub mod States
 pub mod Dues
+pub mod Plans

@@ -78,8 +78,8 @@ pub fn follows_by(serving: &Serving, pulsed: bool, bus: Lines, handshakes: &Hand
     }
 }
 
-/// What the target of a connection has to do in the phase of these lines, by what it decides by and by the bytes that its
-/// process gives; `begun` says that the first phase of the connection has begun.
+/// What the target of a connection has to do in the phase of these lines, by what it decides by and by the bytes that
+/// its process gives; `begun` says that the first phase of the connection has begun.
 pub fn offering_by(
     serving: &Serving,
     bytes: DataBytes,

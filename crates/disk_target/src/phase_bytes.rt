@@ -123,8 +123,8 @@ pub fn phase_lines(phase: Phase) -> Lines
     }
 }
 
-/// What it drives as it leaves a phase so: the lines of the next one, with its first byte where I/O, `io` before the row,
-/// stays true. `process_byte` is the first byte of data that its process gives then.
+/// What it drives as it leaves a phase so: the lines of the next one, with its first byte where I/O, `io` before the
+/// row, stays true. `process_byte` is the first byte of data that its process gives then.
 pub fn lines_by(serving: &Serving, io: bool, leaving: &Leaving, process_byte: u8) -> Lines
     requires { AreFit leaving.now.messages }
     ensures { (given : List ℕ)
