@@ -21,5 +21,5 @@ leaving_after s rows dev = leaving s (run_state s rows) dev
 abbrev pub plan_begun : ScenarioValue → List Row → Connection → Plan
 plan_begun s rows n =
     first_plan n.reselected
-        (not n.reselected && may_negotiate (run_state s rows) n (aim_of (run_state s rows).story.aims n.initiator))
-        (naming_of s (run_state s rows) n)
+    (not n.reselected && may_negotiate (run_state s rows) n (aim_of (run_state s rows).story.aims n.initiator))
+    (naming_of s (run_state s rows) n)

@@ -41,7 +41,13 @@ fn flip(fault: Option<FaultDef>, time: Ns) -> Option<u8>
 // What it is, by what the view shows of it.
 fn myself(known: &Knowledge, view: &BusView) -> Myself
     requires within { IsWithin known.now }
-    ensures exact { (rows : List Row) → IsBusViewOf rows view.now → result ≡ record { dev = known.now.serving.def.dev; latency = known.now.serving.def.latency; own = drives rows known.now.serving.def.dev; since = known.now.row } }
+    ensures exact { (rows : List Row) → IsBusViewOf rows view.now
+        → result ≡ record {
+          dev = known.now.serving.def.dev;
+          latency = known.now.serving.def.latency;
+          own = drives rows known.now.serving.def.dev;
+          since = known.now.row;
+        } }
     ensures ready { IsReady result }
     ensures linkable { link.IsReady result }
 {
@@ -141,7 +147,8 @@ fn hand_due(observer: &Observer, known: &Knowledge, fault: Option<FaultDef>) -> 
     requires timely { IsTimely (2 ^ 63) observer.now.view }
     requires within { IsWithin known.now }
     ensures { (rows : List Row) (given : List ℕ) → IsObserverOf rows observer.now → HasBytesOf rows known.now given
-        → result ≡ hand_by known.now.serving.def (told rows known.now.serving.def.dev) fault (state_of known.now given) }
+        → result ≡ hand_by known.now.serving.def (told rows known.now.serving.def.dev) fault
+        (state_of known.now given) }
 {
     let view = observer.view();
     let last = view.last_time();
@@ -155,7 +162,8 @@ fn link_due_of(observer: &Observer, known: &Knowledge, fault: Option<FaultDef>) 
     requires timely { IsTimely (2 ^ 63) observer.now.view }
     requires within { IsWithin known.now }
     ensures { (rows : List Row) (given : List ℕ) → IsObserverOf rows observer.now
-        → result ≡ link_by known.now.serving.def (told rows known.now.serving.def.dev) fault (state_of known.now given) }
+        → result ≡ link_by known.now.serving.def (told rows known.now.serving.def.dev) fault
+        (state_of known.now given) }
 {
     let view = observer.view();
     let me = myself(known, view);
@@ -173,7 +181,8 @@ fn calm_due(observer: &Observer, known: &Knowledge, fault: Option<FaultDef>) -> 
     requires timely { IsTimely (2 ^ 63) observer.now.view }
     requires within { IsWithin known.now }
     ensures { (rows : List Row) (given : List ℕ) → IsObserverOf rows observer.now → HasBytesOf rows known.now given
-        → result ≡ calm_by known.now.serving.def (told rows known.now.serving.def.dev) fault (state_of known.now given) (bus rows).rst (connection rows) }
+        → result ≡ calm_by known.now.serving.def (told rows known.now.serving.def.dev) fault
+        (state_of known.now given) (bus rows).rst (connection rows) }
 {
     let view = observer.view();
     if view.bus().rst() {
@@ -193,7 +202,8 @@ fn next_by(observer: &Observer, known: &Knowledge, fault: Option<FaultDef>) -> O
     requires timely { IsTimely (2 ^ 63) observer.now.view }
     requires within { IsWithin known.now }
     ensures { (rows : List Row) (given : List ℕ) → IsObserverOf rows observer.now → HasBytesOf rows known.now given
-        → result ≡ target_next known.now.serving.def (told rows known.now.serving.def.dev) fault (state_of known.now given) }
+        → result ≡ target_next known.now.serving.def (told rows known.now.serving.def.dev) fault
+        (state_of known.now given) }
 {
     let me = myself(known, observer.view());
     let calm = calm_due(observer, known, fault);
@@ -207,11 +217,15 @@ fn next_by(observer: &Observer, known: &Knowledge, fault: Option<FaultDef>) -> O
 pub fn target_next(observer: &Observer, known: &Knowledge, fault: Option<FaultDef>) -> Option<Due>
     requires timely { IsTimely (2 ^ 63) observer.now.view }
     requires within { IsWithin known.now }
-    ensures exact { (rows : List Row) (given : List ℕ) → IsObserverOf rows observer.now → HasBytesOf rows known.now given
-        → result ≡ target_next known.now.serving.def (told rows known.now.serving.def.dev) fault (state_of known.now given) }
-    ensures due { (s : ScenarioValue) (rows : List Row) (given : List ℕ) → IsObserverOf rows observer.now → HasBytesOf rows known.now given
+    ensures exact { (rows : List Row) (given : List ℕ) → IsObserverOf rows observer.now
+        → HasBytesOf rows known.now given
+        → result ≡ target_next known.now.serving.def (told rows known.now.serving.def.dev) fault
+        (state_of known.now given) }
+    ensures due { (s : ScenarioValue) (rows : List Row) (given : List ℕ) → IsObserverOf rows observer.now
+        → HasBytesOf rows known.now given
         → IsTargetLine s known.now.serving.def → AreOfDevices rows → IsNoInitiator rows known.now.serving.def.dev
-        → IsTargetOf s rows known.now.serving.def (state_of known.now given) → fault ≡ first_fault (run_state s rows).faults
+        → IsTargetOf s rows known.now.serving.def (state_of known.now given)
+        → fault ≡ first_fault (run_state s rows).faults
         → result ≡ due s rows known.now.serving.def.dev }
 {
     dues_are_of_targets();

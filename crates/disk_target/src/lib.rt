@@ -25,9 +25,7 @@ mod ready;
 mod serving;
 
 pub use arrivals::arrival_by;
-pub use data_runs::{
-    has_further_run, process_byte_place, run_length, run_length_if, runs_in_all,
-};
+pub use data_runs::{has_further_run, process_byte_place, run_length, run_length_if, runs_in_all};
 pub use due::{target_next, want_of_ready};
 pub use laws::{dues_are_of_targets, plans_are_heard};
 pub use next_phase::{leaving_by, phase_leaving, phase_of, waits_seek};

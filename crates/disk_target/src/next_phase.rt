@@ -230,7 +230,8 @@ fn after_refusal(serving: &Serving) -> Leaving
 
 // It goes on from the pointers that were saved, or gives up so.
 fn restoration(serving: &Serving, next: Next, gives_up: Leaving) -> Leaving
-    ensures { result ≡ with_task serving.now.task (λ t. recovery (Some serving.now.def) t (pointer_restoration next) gives_up) }
+    ensures { result ≡ with_task serving.now.task
+        (λ t. recovery (Some serving.now.def) t (pointer_restoration next) gives_up) }
 {
     match &serving.task {
         None => bus_free(),
@@ -250,7 +251,8 @@ fn message_out_leaving(serving: &Serving) -> Leaving
 }
 
 fn data_phase_entry(serving: &Serving) -> Leaving
-    ensures { result ≡ with_task serving.now.task (λ t. phase_entry (next_data_phase (policy_of (Some serving.now.def)) t t.runs)) }
+    ensures { result ≡ with_task serving.now.task
+        (λ t. phase_entry (next_data_phase (policy_of (Some serving.now.def)) t t.runs)) }
 {
     match &serving.task {
         None => bus_free(),

@@ -90,7 +90,8 @@ pub fn offering_by(
 ) -> Offering
     requires fits { AreFit serving.now.plan.messages }
     ensures exact { (given : List ℕ)
-        → AreBytesOf (serving_with serving.now given) (leaving_by (serving_with serving.now given) begun bus) handshakes.now.requests bytes
+        → AreBytesOf (serving_with serving.now given) (leaving_by (serving_with serving.now given) begun bus)
+        handshakes.now.requests bytes
         → result ≡ offering_by (serving_with serving.now given) begun pulsed bus handshakes.now }
     ensures wait { result.wait < 2 ^ 62 }
 {

@@ -60,8 +60,8 @@ fn status_byte(task: &Option<Task>) -> u8
     }
 }
 
-/// The byte that the target gives at this place of a phase in which it sends these messages; `process_byte` is the byte that its
-/// process gives there, before which so many more data runs than yet are made.
+/// The byte that the target gives at this place of a phase in which it sends these messages; `process_byte` is the one
+/// that its process gives there, before which so many more data runs than yet are made.
 pub fn phase_byte(
     serving: &Serving,
     phase: Phase,
