@@ -3,3 +3,4 @@ pub mod Fits
 pub mod States
 pub mod Dues
 pub mod Plans
+pub mod Shown

@@ -213,7 +213,7 @@ fn next_by(observer: &Observer, known: &Knowledge, fault: Option<FaultDef>) -> O
 /// What a target does next, and when, in ns, by what all devices are told, by what it knows itself, and by the first
 /// fault that has not struck yet. It is exactly what is due of it, where it knows what the rows so far made known to
 /// it, and has the bytes that its process gives. A reset of its own goes before all else, then RST of others; in a
-/// connection of its own it goes by REQ and ACK, in one of others it does nothing, and else by what it wants of the bus.
+/// connection of its own it goes by REQ and ACK, in one of others it does nothing, else by what it wants of the bus.
 pub fn target_next(observer: &Observer, known: &Knowledge, fault: Option<FaultDef>) -> Option<Due>
     requires timely { IsTimely (2 ^ 63) observer.now.view }
     requires within { IsWithin known.now }
