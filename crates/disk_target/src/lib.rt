@@ -4,9 +4,9 @@
 //! ([`first_plan`], [`plan_after`]), and decides by its [`Serving`]: its line of the scenario, the plan, and a `Task`
 //! of the process that it serves. [`leaving_by`] says how it leaves a phase, [`arrival_by`] what becomes of a command
 //! as it arrives, [`offering_by`] which byte it gives, whether one follows, and what it drives as it leaves, and
-//! [`leaving_shown`] which events it shows then. What its unit gives comes in as a task, the room of the unit's queue, the unit that is [`Ready`] first, and two bytes, which
-//! stand at the places that [`process_byte_place`] names. Stands on the definitions of `bus_dialogue` and `bus_due`,
-//! and on `connect` and `handshake`.
+//! [`leaving_shown`] which events it shows then. What its unit gives comes in as a task, the room of the unit's queue,
+//! the unit that is [`Ready`] first, and two bytes, which stand at the places that [`process_byte_place`] names. Stands
+//! on the definitions of `bus_dialogue` and `bus_due`, and on `connect` and `handshake`.
 //!
 //! Public contract: each of these is exactly the definition of the same name, whatever it is given; a plan that is kept
 //! so is the one that the rows tell (`plans_are_heard`); and after any rows [`target_next`] is exactly what is due of
