@@ -188,8 +188,8 @@ fn connection_end(connection: &Connection, plan: &Plan, phase: Phase, id: Option
 }
 
 /// What the target of a connection shows with the row that leaves this phase, where it serves this process: that a
-/// command arrived, that it runs or fails with its reply, that it is lost, or what was aborted. `begun` says that a phase
-/// has begun in the connection, `stands` that the connection stands after the row.
+/// command arrived, that it runs or fails with its reply, that it is lost, or what was aborted. `begun` says that a
+/// phase has begun in the connection, `stands` that the connection stands after the row.
 pub fn leaving_shown(
     serving: &Serving,
     connection: &Connection,
