@@ -1,3 +1,4 @@
 mod Places
 mod Fits
 mod Dues
+mod Heard

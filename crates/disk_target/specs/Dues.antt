@@ -1,6 +1,8 @@
 -- What a target does next, and when, by what all devices are told and by what it knows itself.
-use Rattle.std.specs.Prelude.{◌+◌, ◌==◌, Bool, true, false, Option, Some, None, if◌then◌else◌}
+use Rattle.std.specs.Prelude.{ℕ, List, ◌+◌, ◌==◌, Bool, true, false, Option, Some, None, if◌then◌else◌}
+use Rattle.bus_trace.specs.declared.Row.{Row}
 use Rattle.bus_trace.specs.declared.connection.Connection.{Connection}
+use Rattle.bus_lines.specs.Handshakes.{handshakes}
 use Rattle.scenario.specs.declared.value.FaultDef.{FaultDef}
 use Rattle.scenario.specs.declared.value.TargetDef.{TargetDef}
 use Rattle.bus_reactions.specs.declared.due.Due.{Due}
@@ -16,7 +18,9 @@ use Rattle.bus_dialogue.specs.NextPhase.{leaving_by}
 use Rattle.bus_dialogue.specs.Ends.{pace_by, offering_by}
 use Rattle.bus_due.specs.Connected.{is_receiving}
 use Rattle.disk_target.specs.declared.ready.Ready.{Ready}
-use Rattle.disk_target.specs.States.{Told, TargetState, flip_by}
+use Rattle.disk_target.specs.declared.ready.Knowledge.{Knowledge}
+use Rattle.disk_target.specs.Servings.{serving_with, AreBytesOf}
+use Rattle.disk_target.specs.States.{Told, told, TargetState, state_of, flip_by}
 
 abbrev pub myself_by : TargetDef → Told → TargetState → Myself
 myself_by d t i = record { dev = d.dev; latency = d.latency; own = t.lines; since = i.row }
@@ -61,3 +65,9 @@ calm_by d t f i false (Some n) = connected_by d t f i n
 -- A reset of its own goes before all that (6.2.2).
 abbrev pub target_next : TargetDef → Told → Option FaultDef → TargetState → Option Due
 target_next d t f i = with_reset (myself_by d t i) i.rst i.reset (calm_by d t f i t.sight.bus.rst t.connection)
+
+-- ---- the bytes that its process gives, which it has of these after these rows
+
+abbrev pub HasBytesOf : List Row → Knowledge → List ℕ → Type 0
+HasBytesOf rows k given =
+    AreBytesOf (serving_with k.serving given) (leaving_of_target (told rows k.serving.def.dev) (state_of k given)) (handshakes rows).requests k.bytes

@@ -23,9 +23,9 @@ fn arrival_in(policy: Policy, room: Room) -> Arrival
     }
 }
 
-/// What becomes of a command as it arrives at a target of this policy, by the room of its unit, if that is there; `senses`
-/// says that it is a REQUEST SENSE. One of those, and any command to a unit that is not there, stays outside the queue; at
-/// a full queue it is refused; of a target that never disconnects it runs at once at an idle unit.
+/// What becomes of a command as it arrives at a target of this policy, by the room of its unit, if that is there;
+/// `senses` says that it is a REQUEST SENSE. One of those, and any command to a unit that is not there, stays outside
+/// the queue; at a full queue it is refused; of a target that never disconnects it runs at once at an idle unit.
 pub fn arrival_by(policy: Policy, senses: bool, room: Option<Room>) -> Arrival
     ensures { result ≡ arrival_by policy senses room }
 {

@@ -1,5 +1,5 @@
-//! The data runs of a process: in how many goes, and which bytes in each, its data are moved (6.6.6, 6.6.20). A place in
-//! bytes that is past the last u64 is that; no data reach so far.
+//! The data runs of a process: in how many goes, and which bytes in each, its data are moved (ANSI X3.131-1994, 6.6.6,
+//! 6.6.20). A place among bytes that is past the last u64 counts as that one; no data reach so far.
 ghost use Rattle.std.specs.Prelude.{ℕ, ◌≡◌, ◌+◌, ◌*◌, ◌<◌, ◌^◌, min, ◌-◌, ◌==◌, ◌&&◌, if◌then◌else◌, length, slice_index_or, nat_lt, List};
 ghost use Rattle.bus_dialogue.specs.DataRuns.{runs_in, runs_in_all, run_at, run_length, run_byte};
 ghost use Rattle.bus_dialogue.specs.PhaseBytes.{run_length_if, data_byte, one_if};

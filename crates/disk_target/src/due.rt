@@ -14,9 +14,8 @@ ghost use Rattle.bus_due.specs.Next.{due};
 ghost use Rattle.bus_due.specs.Plain.{AreOfDevices};
 ghost use Rattle.bus_due.specs.RunSteps.{run_state};
 ghost use Rattle.bus_due.specs.Connected.{is_receiving};
-ghost use Rattle.disk_target.specs.Servings.{AreBytesOf};
 ghost use Rattle.disk_target.specs.States.{told, state_of, IsTargetOf, IsTargetLine, IsNoInitiator, IsReadyWithin, IsWithin, first_fault, flip_by};
-ghost use Rattle.disk_target.specs.Dues.{want_of_ready, pace_of_target, link_by, leaving_of_target, offering_of_target, plain_by, hand_by, calm_by, target_next};
+ghost use Rattle.disk_target.specs.Dues.{want_of_ready, pace_of_target, link_by, HasBytesOf, offering_of_target, plain_by, hand_by, calm_by, target_next};
 
 use crate::laws::dues_are_of_targets;
 use crate::offering::{offering_by, pace};
@@ -42,7 +41,13 @@ fn flip(fault: Option<FaultDef>, time: Ns) -> Option<u8>
 // What it is, by what the view shows of it.
 fn myself(known: &Knowledge, view: &BusView) -> Myself
     requires within { IsWithin known.now }
-    ensures exact { (rows : List Row) → IsBusViewOf rows view.now → result ≡ record { dev = known.now.serving.def.dev; latency = known.now.serving.def.latency; own = drives rows known.now.serving.def.dev; since = known.now.row } }
+    ensures exact { (rows : List Row) → IsBusViewOf rows view.now
+        → result ≡ record {
+          dev = known.now.serving.def.dev;
+          latency = known.now.serving.def.latency;
+          own = drives rows known.now.serving.def.dev;
+          since = known.now.row;
+        } }
     ensures ready { IsReady result }
     ensures linkable { link.IsReady result }
 {
@@ -55,8 +60,8 @@ fn myself(known: &Knowledge, view: &BusView) -> Myself
     }
 }
 
-/// What a target wants of the bus: to reselect the initiator of the process that is ready first, since its time. The first
-/// byte that it sends then is IDENTIFY with the unit (6.1.4, 6.6.7).
+/// What a target wants of the bus: to reselect the initiator of the process that is ready first, since its time. The
+/// first byte that it sends then is IDENTIFY with the unit (6.1.4, 6.6.7).
 pub fn want_of_ready(ready: Option<Ready>) -> Want
     requires { IsReadyWithin ready }
     ensures { result ≡ want_of_ready ready }
@@ -102,10 +107,9 @@ fn sampled(receives: bool, last: Ns, flip: Option<u8>, plain: Option<Due>) -> Op
 // What it has to do in the phase.
 fn offering(observer: &Observer, known: &Knowledge, pulsed: bool) -> Offering
     requires within { IsWithin known.now }
-    ensures exact { (rows : List Row) (dev : ℕ) (given : List ℕ) → IsObserverOf rows observer.now
-        → pulsed ≡ (pace_of_target (told rows dev)).pulsed
-        → AreBytesOf (state_of known.now given).serving (leaving_of_target (told rows dev) (state_of known.now given)) (told rows dev).handshakes.requests known.now.bytes
-        → result ≡ offering_of_target (told rows dev) (state_of known.now given) }
+    ensures exact { (rows : List Row) (given : List ℕ) → IsObserverOf rows observer.now
+        → HasBytesOf rows known.now given → pulsed ≡ (pace_of_target (told rows known.now.serving.def.dev)).pulsed
+        → result ≡ offering_of_target (told rows known.now.serving.def.dev) (state_of known.now given) }
     ensures wait { result.wait < 2 ^ 62 }
 {
     let view = observer.view();
@@ -123,8 +127,7 @@ fn offering(observer: &Observer, known: &Knowledge, pulsed: bool) -> Offering
 fn plain_due(observer: &Observer, known: &Knowledge) -> Option<Due>
     requires timely { IsTimely (2 ^ 63) observer.now.view }
     requires within { IsWithin known.now }
-    ensures { (rows : List Row) (given : List ℕ) → IsObserverOf rows observer.now
-        → AreBytesOf (state_of known.now given).serving (leaving_of_target (told rows known.now.serving.def.dev) (state_of known.now given)) (told rows known.now.serving.def.dev).handshakes.requests known.now.bytes
+    ensures { (rows : List Row) (given : List ℕ) → IsObserverOf rows observer.now → HasBytesOf rows known.now given
         → result ≡ plain_by known.now.serving.def (told rows known.now.serving.def.dev) (state_of known.now given) }
 {
     let view = observer.view();
@@ -143,9 +146,9 @@ fn plain_due(observer: &Observer, known: &Knowledge) -> Option<Due>
 fn hand_due(observer: &Observer, known: &Knowledge, fault: Option<FaultDef>) -> Option<Due>
     requires timely { IsTimely (2 ^ 63) observer.now.view }
     requires within { IsWithin known.now }
-    ensures { (rows : List Row) (given : List ℕ) → IsObserverOf rows observer.now
-        → AreBytesOf (state_of known.now given).serving (leaving_of_target (told rows known.now.serving.def.dev) (state_of known.now given)) (told rows known.now.serving.def.dev).handshakes.requests known.now.bytes
-        → result ≡ hand_by known.now.serving.def (told rows known.now.serving.def.dev) fault (state_of known.now given) }
+    ensures { (rows : List Row) (given : List ℕ) → IsObserverOf rows observer.now → HasBytesOf rows known.now given
+        → result ≡ hand_by known.now.serving.def (told rows known.now.serving.def.dev) fault
+        (state_of known.now given) }
 {
     let view = observer.view();
     let last = view.last_time();
@@ -159,7 +162,8 @@ fn link_due_of(observer: &Observer, known: &Knowledge, fault: Option<FaultDef>) 
     requires timely { IsTimely (2 ^ 63) observer.now.view }
     requires within { IsWithin known.now }
     ensures { (rows : List Row) (given : List ℕ) → IsObserverOf rows observer.now
-        → result ≡ link_by known.now.serving.def (told rows known.now.serving.def.dev) fault (state_of known.now given) }
+        → result ≡ link_by known.now.serving.def (told rows known.now.serving.def.dev) fault
+        (state_of known.now given) }
 {
     let view = observer.view();
     let me = myself(known, view);
@@ -176,9 +180,9 @@ fn link_due_of(observer: &Observer, known: &Knowledge, fault: Option<FaultDef>) 
 fn calm_due(observer: &Observer, known: &Knowledge, fault: Option<FaultDef>) -> Option<Due>
     requires timely { IsTimely (2 ^ 63) observer.now.view }
     requires within { IsWithin known.now }
-    ensures { (rows : List Row) (given : List ℕ) → IsObserverOf rows observer.now
-        → AreBytesOf (state_of known.now given).serving (leaving_of_target (told rows known.now.serving.def.dev) (state_of known.now given)) (told rows known.now.serving.def.dev).handshakes.requests known.now.bytes
-        → result ≡ calm_by known.now.serving.def (told rows known.now.serving.def.dev) fault (state_of known.now given) (bus rows).rst (connection rows) }
+    ensures { (rows : List Row) (given : List ℕ) → IsObserverOf rows observer.now → HasBytesOf rows known.now given
+        → result ≡ calm_by known.now.serving.def (told rows known.now.serving.def.dev) fault
+        (state_of known.now given) (bus rows).rst (connection rows) }
 {
     let view = observer.view();
     if view.bus().rst() {
@@ -197,29 +201,31 @@ fn calm_due(observer: &Observer, known: &Knowledge, fault: Option<FaultDef>) -> 
 fn next_by(observer: &Observer, known: &Knowledge, fault: Option<FaultDef>) -> Option<Due>
     requires timely { IsTimely (2 ^ 63) observer.now.view }
     requires within { IsWithin known.now }
-    ensures { (rows : List Row) (given : List ℕ) → IsObserverOf rows observer.now
-        → AreBytesOf (state_of known.now given).serving (leaving_of_target (told rows known.now.serving.def.dev) (state_of known.now given)) (told rows known.now.serving.def.dev).handshakes.requests known.now.bytes
-        → result ≡ target_next known.now.serving.def (told rows known.now.serving.def.dev) fault (state_of known.now given) }
+    ensures { (rows : List Row) (given : List ℕ) → IsObserverOf rows observer.now → HasBytesOf rows known.now given
+        → result ≡ target_next known.now.serving.def (told rows known.now.serving.def.dev) fault
+        (state_of known.now given) }
 {
     let me = myself(known, observer.view());
     let calm = calm_due(observer, known, fault);
     due_with_reset(&me, known.rst, known.reset, calm)
 }
 
-/// What a target does next, and when, in ns, by what all devices are told, by what it knows itself, and by the first fault
-/// that has not struck yet. It is exactly what is due of it, where it knows what the rows so far made known to it, and
-/// has the bytes that its process gives. A reset of its own goes before all else, then RST of others; in a connection of
-/// its own it goes by REQ and ACK, in one of others it does nothing, and else by what it wants of the bus.
+/// What a target does next, and when, in ns, by what all devices are told, by what it knows itself, and by the first
+/// fault that has not struck yet. It is exactly what is due of it, where it knows what the rows so far made known to
+/// it, and has the bytes that its process gives. A reset of its own goes before all else, then RST of others; in a
+/// connection of its own it goes by REQ and ACK, in one of others it does nothing, else by what it wants of the bus.
 pub fn target_next(observer: &Observer, known: &Knowledge, fault: Option<FaultDef>) -> Option<Due>
     requires timely { IsTimely (2 ^ 63) observer.now.view }
     requires within { IsWithin known.now }
     ensures exact { (rows : List Row) (given : List ℕ) → IsObserverOf rows observer.now
-        → AreBytesOf (state_of known.now given).serving (leaving_of_target (told rows known.now.serving.def.dev) (state_of known.now given)) (told rows known.now.serving.def.dev).handshakes.requests known.now.bytes
-        → result ≡ target_next known.now.serving.def (told rows known.now.serving.def.dev) fault (state_of known.now given) }
+        → HasBytesOf rows known.now given
+        → result ≡ target_next known.now.serving.def (told rows known.now.serving.def.dev) fault
+        (state_of known.now given) }
     ensures due { (s : ScenarioValue) (rows : List Row) (given : List ℕ) → IsObserverOf rows observer.now
-        → AreBytesOf (state_of known.now given).serving (leaving_of_target (told rows known.now.serving.def.dev) (state_of known.now given)) (told rows known.now.serving.def.dev).handshakes.requests known.now.bytes
+        → HasBytesOf rows known.now given
         → IsTargetLine s known.now.serving.def → AreOfDevices rows → IsNoInitiator rows known.now.serving.def.dev
-        → IsTargetOf s rows known.now.serving.def (state_of known.now given) → fault ≡ first_fault (run_state s rows).faults
+        → IsTargetOf s rows known.now.serving.def (state_of known.now given)
+        → fault ≡ first_fault (run_state s rows).faults
         → result ≡ due s rows known.now.serving.def.dev }
 {
     dues_are_of_targets();

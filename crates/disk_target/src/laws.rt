@@ -9,8 +9,13 @@ ghost use Rattle.bus_due.specs.Plain.{AreOfDevices};
 ghost use Rattle.bus_due.specs.RunSteps.{run_state};
 ghost use Rattle.disk_target.specs.States.{told, TargetState, IsTargetOf, IsTargetLine, IsNoInitiator, first_fault};
 ghost use Rattle.disk_target.specs.Dues.{target_next};
+ghost use Rattle.disk_target.specs.Plans.{plan_at, leaving_after, plan_begun};
+ghost use Rattle.bus_trace.specs.declared.connection.Connection.{Connection};
+ghost use Rattle.bus_trace.specs.Terms.{connection};
+ghost use Rattle.bus_dialogue.specs.Planning.{plan_after};
+ghost use Rattle.bus_dialogue.specs.Hearing.{hearing};
 
-use bus_due::{end_reactions_are_due, kept_is_plain};
+use bus_due::{end_reactions_are_due, hearings_are_plain, kept_is_plain};
 
 /// What is due of a target is what it does next by what all devices are told, by what it knows itself, and by the first
 /// fault that has not struck yet.
@@ -22,4 +27,19 @@ pub fn dues_are_of_targets()
 {
     end_reactions_are_due();
     kept_is_plain();
+}
+
+/// What the target of a connection plans goes on by what each row tells it and by how it leaves the phase that stands
+/// (`plan_after`, `leaving_by`), whatever the rows of the eight devices are, and begins with the names of the process
+/// after a reselection, and with whether it may negotiate after a selection (`first_plan`).
+pub fn plans_are_heard()
+    ensures more { (s : ScenarioValue) (rows : List Row) (row : Row) (m n : Connection) → AreOfDevices (row ∷ rows)
+        → connection rows ≡ Some m → connection (row ∷ rows) ≡ Some n
+        → plan_at s (row ∷ rows) ≡ plan_after (hearing rows row) (leaving_after s rows m.target) (plan_at s rows) }
+    ensures first { (s : ScenarioValue) (rows : List Row) (row : Row) (n : Connection) → AreOfDevices (row ∷ rows)
+        → connection rows ≡ None → connection (row ∷ rows) ≡ Some n
+        → plan_at s (row ∷ rows) ≡ plan_begun s rows n }
+{
+    kept_is_plain();
+    hearings_are_plain();
 }

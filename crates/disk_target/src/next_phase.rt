@@ -1,4 +1,5 @@
-//! The course of a connection at its target: which phase follows, and what is said in it (ANSI X3.131-1994, 6.1.5, 6.6).
+//! The course of a connection at its target: which phase follows, and what is said in it (ANSI X3.131-1994, 6.1.5 and
+//! 6.6).
 ghost use Rattle.std.specs.Prelude.{ℕ, ◌≡◌, List, Some};
 ghost use Rattle.bus_dialogue.specs.Arrivals.{policy_of};
 ghost use Rattle.bus_dialogue.specs.Exchange.{one_message, two_messages};
@@ -229,7 +230,8 @@ fn after_refusal(serving: &Serving) -> Leaving
 
 // It goes on from the pointers that were saved, or gives up so.
 fn restoration(serving: &Serving, next: Next, gives_up: Leaving) -> Leaving
-    ensures { result ≡ with_task serving.now.task (λ t. recovery (Some serving.now.def) t (pointer_restoration next) gives_up) }
+    ensures { result ≡ with_task serving.now.task
+        (λ t. recovery (Some serving.now.def) t (pointer_restoration next) gives_up) }
 {
     match &serving.task {
         None => bus_free(),
@@ -249,7 +251,8 @@ fn message_out_leaving(serving: &Serving) -> Leaving
 }
 
 fn data_phase_entry(serving: &Serving) -> Leaving
-    ensures { result ≡ with_task serving.now.task (λ t. phase_entry (next_data_phase (policy_of (Some serving.now.def)) t t.runs)) }
+    ensures { result ≡ with_task serving.now.task
+        (λ t. phase_entry (next_data_phase (policy_of (Some serving.now.def)) t t.runs)) }
 {
     match &serving.task {
         None => bus_free(),
@@ -354,8 +357,8 @@ fn command_complete() -> Leaving
     disconnection(one_message(MsgIn::CommandComplete))
 }
 
-/// How the target of a connection leaves this phase, where ATN is true or not as it does: to which phase or to BUS FREE,
-/// with which messages, and whether a recovery is counted or a data run done (6.1.5, 6.6).
+/// How the target of a connection leaves this phase, where ATN is true or not as it does: to which phase or to BUS
+/// FREE, with which messages, and whether a recovery is counted or a data run done (6.1.5, 6.6).
 pub fn phase_leaving(serving: &Serving, attention: bool, phase: Phase) -> Leaving
     ensures { (given : List ℕ) → result ≡ phase_leaving (serving_with serving.now given) attention phase }
 {

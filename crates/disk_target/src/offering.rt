@@ -78,8 +78,8 @@ pub fn follows_by(serving: &Serving, pulsed: bool, bus: Lines, handshakes: &Hand
     }
 }
 
-/// What the target of a connection has to do in the phase of these lines, by what it decides by and by the bytes that its
-/// process gives; `begun` says that the first phase of the connection has begun.
+/// What the target of a connection has to do in the phase of these lines, by what it decides by and by the bytes that
+/// its process gives; `begun` says that the first phase of the connection has begun.
 pub fn offering_by(
     serving: &Serving,
     bytes: DataBytes,
@@ -90,7 +90,8 @@ pub fn offering_by(
 ) -> Offering
     requires fits { AreFit serving.now.plan.messages }
     ensures exact { (given : List ℕ)
-        → AreBytesOf (serving_with serving.now given) (leaving_by (serving_with serving.now given) begun bus) handshakes.now.requests bytes
+        → AreBytesOf (serving_with serving.now given) (leaving_by (serving_with serving.now given) begun bus)
+        handshakes.now.requests bytes
         → result ≡ offering_by (serving_with serving.now given) begun pulsed bus handshakes.now }
     ensures wait { result.wait < 2 ^ 62 }
 {

@@ -60,8 +60,8 @@ fn status_byte(task: &Option<Task>) -> u8
     }
 }
 
-/// The byte that the target gives at this place of a phase in which it sends these messages; `process_byte` is the byte that its
-/// process gives there, before which so many more data runs than yet are made.
+/// The byte that the target gives at this place of a phase in which it sends these messages; `process_byte` is the one
+/// that its process gives there, before which so many more data runs than yet are made.
 pub fn phase_byte(
     serving: &Serving,
     phase: Phase,
@@ -123,8 +123,8 @@ pub fn phase_lines(phase: Phase) -> Lines
     }
 }
 
-/// What it drives as it leaves a phase so: the lines of the next one, with its first byte where I/O, `io` before the row,
-/// stays true. `process_byte` is the first byte of data that its process gives then.
+/// What it drives as it leaves a phase so: the lines of the next one, with its first byte where I/O, `io` before the
+/// row, stays true. `process_byte` is the first byte of data that its process gives then.
 pub fn lines_by(serving: &Serving, io: bool, leaving: &Leaving, process_byte: u8) -> Lines
     requires { AreFit leaving.now.messages }
     ensures { (given : List ℕ)

@@ -7,7 +7,7 @@ use Rattle.disk_target.specs.Servings.{serving_with, AreBytesOf}
 use Rattle.disk_target.proofs.due.offering.Goals as goal
 
 pub returns-clause-exact : goal.returns-clause-exact
-returns-clause-exact c = λ rows dev given o e b.
+returns-clause-exact c = λ rows given o b e.
     let v = c.view-view.ensures.trace rows o in
     let sv : next_phase.Serving = serving_with c.args.known.now.serving given in
     let asked = c.handshakes.ensures.trace rows v in

@@ -14,4 +14,4 @@ returns c = λ rows given o b.
     let dev : ℕ = c.args.known.now.serving.def.dev in
     let paced = c.pace-pace.ensures.exact rows dev o in
     c.target_due.ensures
-    ∙ (λ j. hand.target_due (c.begun.ensures rows o j) (c.sight_of.ensures.trace rows v j) (c.handshakes.ensures.trace rows v j) (c.myself.ensures.exact rows v j) (paced j) (c.offering.ensures.exact rows dev given o (λ i. (paced i).pulsed) b j))
+    ∙ (λ j. hand.target_due (c.begun.ensures rows o j) (c.sight_of.ensures.trace rows v j) (c.handshakes.ensures.trace rows v j) (c.myself.ensures.exact rows v j) (paced j) (c.offering.ensures.exact rows given o b (λ i. (paced i).pulsed) j))
