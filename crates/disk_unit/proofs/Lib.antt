@@ -2,3 +2,4 @@ pub mod Parts
 pub mod Touched
 pub mod AllBlocks
 pub mod Replies
+pub mod BookLists

@@ -10,13 +10,17 @@
 
 mod blocks;
 mod dense;
+mod books;
+mod command_block;
 mod disk;
 mod media;
 mod sparse;
 mod transfer;
+mod unit;
 
 pub use blocks::Blocks;
 pub use dense::DenseBlocks;
 pub use disk::DiskMedium;
 pub use media::{Extent, Medium, Plan};
 pub use sparse::SparseBlocks;
+pub use unit::{Accepted, Reply, Unit};

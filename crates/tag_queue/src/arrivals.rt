@@ -7,6 +7,7 @@ ghost use Rattle.disk_array.specs.Order.{is_head as is_head_class, is_ordered as
 ghost use Rattle.tag_queue.specs.Queue.{is_current as is_current_key, key_at as waiting_key, key_at_if, place_of, same_tag as same_tag_number, key_of as first_key_of, is_of as is_of_initiator};
 ghost use Rattle.tag_queue.specs.Stored.{queued_at, waiting_at, entries_at, held_back_by, AreKept, IsLive, lowered, lowered_by, first_of as first_key_of_those};
 
+use super::those::Those;
 use disk_array::{Class, Dev, Entry, Pick};
 use slab::Slab;
 
@@ -116,7 +117,8 @@ fn place_if(found: Option<usize>, runs: bool, place: usize) -> Option<usize>
     if runs { Some(place) } else { found }
 }
 
-#[tactic(auto, using(crate::proofs::Scans::may_run_after_by, crate::proofs::Scans::has_ordered_more, crate::proofs::Scans::last_or_picked))]
+#[tactic(auto, using(crate::proofs::Scans::may_run_after_by, crate::proofs::Scans::has_ordered_more,
+    crate::proofs::Scans::last_or_picked))]
 /// The place of the last of those that wait and may run where no HEAD OF QUEUE command waits.
 pub fn last_in_order(
     entries: &Slab<Entry>,
@@ -143,7 +145,8 @@ pub fn last_in_order(
 
 /// The place of the one that is chosen, by its key: the last HEAD OF QUEUE command, and without one the first or the
 /// last of those that may run. The first that waits always may.
-#[tactic(auto, using(crate::proofs::Chosen::head_chosen, crate::proofs::Chosen::first_chosen, crate::proofs::Chosen::last_chosen))]
+#[tactic(auto, using(crate::proofs::Chosen::head_chosen, crate::proofs::Chosen::first_chosen,
+    crate::proofs::Chosen::last_chosen))]
 pub fn runnable_place(
     entries: &Slab<Entry>,
     arrivals: &[Arrival],
@@ -294,17 +297,18 @@ pub fn lower_later(entries: &Slab<Entry>, arrivals: &mut [Arrival], key: Key)
     }
 }
 
-fn is_of(entry: Entry, who: Option<Dev>) -> bool
+fn is_of(entry: Entry, who: Those) -> bool
     ensures { result ≡ is_of_initiator who entry }
 {
     match who {
-        Some(dev) => entry.from == dev,
-        None => true,
+        Those::All => true,
+        Those::Of(dev) => entry.from == dev,
+        Those::Tagged(dev, tag) => entry.from == dev && same_tag(entry.tag, Some(tag)),
     }
 }
 
 /// The key of the first live command of an initiator, or of any.
-pub fn first_of(entries: &Slab<Entry>, arrivals: &[Arrival], who: Option<Dev>) -> Option<Key>
+pub fn first_of(entries: &Slab<Entry>, arrivals: &[Arrival], who: Those) -> Option<Key>
     requires kept { (current : Option ℕ) × AreKept entries.now None current [] arrivals.now }
     ensures { result ≡ first_key_of_those (queued_at entries.now arrivals.now) who }
 {
