@@ -1,4 +1,5 @@
-//! The live commands of a queue as they are stored: a slab of entries, and the arrivals in their order.
+//! The live commands of a queue as they are stored: a slab of entries, and the arrivals in their order. What reads or
+//! changes them takes these two and not the queue, which is not whole in between.
 ghost use Rattle.std.specs.Prelude.{◌≡◌, ◌+◌, ◌-◌, ◌==◌, ◌&&◌, ◌||◌, ℕ, [], not, Option, Some, None, false, if◌then◌else◌};
 ghost use Rattle.slab.specs.Slab.{get};
 ghost use Rattle.bus_base.specs.declared.events.Pick.TheVariants as picks;
@@ -117,9 +118,8 @@ fn place_if(found: Option<usize>, runs: bool, place: usize) -> Option<usize>
     if runs { Some(place) } else { found }
 }
 
-#[tactic(auto, using(crate::proofs::Scans::may_run_after_by, crate::proofs::Scans::has_ordered_more,
-    crate::proofs::Scans::last_or_picked))]
 /// The place of the last of those that wait and may run where no HEAD OF QUEUE command waits.
+#[tactic(auto, using(crate::proofs::Scans::may_run_after_by, crate::proofs::Scans::has_ordered_more, crate::proofs::Scans::last_or_picked))]
 pub fn last_in_order(
     entries: &Slab<Entry>,
     arrivals: &[Arrival],
@@ -177,8 +177,8 @@ pub struct Standing {
     pub runs: bool,
 }
 
-#[tactic(auto, using(crate::proofs::Scans::may_run_after_by, crate::proofs::Scans::has_ordered_more))]
 /// Where the command of this key waits.
+#[tactic(auto, using(crate::proofs::Scans::may_run_after_by, crate::proofs::Scans::has_ordered_more))]
 pub fn place_standing(
     entries: &Slab<Entry>,
     arrivals: &[Arrival],
@@ -271,6 +271,7 @@ pub fn earlier_conflicts(
     count
 }
 
+// The count is not 0 where it is lowered: the one that leaves was counted.
 fn lowered_arrival(arrival: Arrival, lower: bool) -> Arrival
     ensures { result ≡ lowered_by lower arrival }
 {
