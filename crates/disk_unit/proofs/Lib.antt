@@ -3,3 +3,4 @@ pub mod Touched
 pub mod AllBlocks
 pub mod Replies
 pub mod BookLists
+pub mod Executions

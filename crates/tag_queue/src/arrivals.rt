@@ -145,8 +145,7 @@ pub fn last_in_order(
 
 /// The place of the one that is chosen, by its key: the last HEAD OF QUEUE command, and without one the first or the
 /// last of those that may run. The first that waits always may.
-#[tactic(auto, using(crate::proofs::Chosen::head_chosen, crate::proofs::Chosen::first_chosen,
-    crate::proofs::Chosen::last_chosen))]
+#[tactic(auto, using(crate::proofs::Chosen::head_chosen, crate::proofs::Chosen::first_chosen, crate::proofs::Chosen::last_chosen))]
 pub fn runnable_place(
     entries: &Slab<Entry>,
     arrivals: &[Arrival],
