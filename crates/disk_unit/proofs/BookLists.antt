@@ -73,6 +73,7 @@ waiting_live current (q ∷ qs) key h = go (is_current current q.key) h (λ k. w
     here : (y : Bool) → (if y then true else has_key (waiting_in current qs) key) ≡ true → (has_key (waiting_in current qs) key ≡ true → has_key qs key ≡ true) → (if y then true else has_key qs key) ≡ true
     here true k more = refl
     here false k more = more k
+
     go : (x : Bool) → has_key (if x then waiting_in current qs else q ∷ waiting_in current qs) key ≡ true → (has_key (waiting_in current qs) key ≡ true → has_key qs key ≡ true) → has_key (q ∷ qs) key ≡ true
     go true k more = or_live q qs key (more k)
     go false k more = here (q.key == key) k more

@@ -31,8 +31,13 @@ impl Model for Books {
 
     ghost use Rattle.disk_unit.specs.Books.{blocks_of, AreBounded};
 
-    ghost view = { λ b. record { queue = b.queue; blocks = blocks_of b.blocks.items; senses = b.senses; attentions
-        = b.attentions } };
+    ghost view = { λ b. record {
+      queue = b.queue;
+      blocks = blocks_of b.blocks.items;
+      senses = b.senses;
+      attentions
+          = b.attentions;
+    } };
 
     ghost invariant = { λ b. (b.queue.keys ≤ length b.blocks.items) × AreBounded b.queue.keys b.queue.arrived };
 }

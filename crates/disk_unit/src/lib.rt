@@ -9,9 +9,9 @@
 #![tactic(auto)]
 
 mod blocks;
-mod dense;
 mod books;
 mod command_block;
+mod dense;
 mod disk;
 mod laws;
 mod media;

@@ -11,8 +11,10 @@ ghost use Rattle.disk_unit.specs.Units.{is_reported, reply_with, entry_with, tol
 use super::books::Books;
 use super::media::{Extent, Medium, Plan};
 use bus_base::{AbortKind, NoMemory};
-use cdb_codec::{CHECK_CONDITION, CdbFault, Command, INQUIRY, NO_ADDITIONAL_SENSE, NO_SENSE, REQUEST_SENSE, Sense,
-    from_cdb};
+use cdb_codec::{
+    CHECK_CONDITION, CdbFault, Command, INQUIRY, NO_ADDITIONAL_SENSE, NO_SENSE, REQUEST_SENSE,
+    Sense, from_cdb,
+};
 use std::alloc::Global;
 use tag_queue::{Class, Dev, Entry, Full, Key, Pick, ProcId};
 
@@ -67,7 +69,11 @@ fn reported(attention: Option<Sense>, cdb: &[u8]) -> Option<Sense>
     ensures { result ≡ (if is_reported attention cdb.now then attention else None) }
 {
     let attention = attention?;
-    if heeds_attention(cdb) { Some(attention) } else { None }
+    if heeds_attention(cdb) {
+        Some(attention)
+    } else {
+        None
+    }
 }
 
 fn entry_of(id: ProcId, from: Dev, tag: Option<u8>, class: Class, extent: Extent) -> Entry
@@ -121,7 +127,14 @@ fn reply_of(plan: Plan) -> Reply
 impl<M: Medium> Unit<M> {
     /// A command arrives: it waits as the last one, or is a REQUEST SENSE that runs at once, or the queue is
     /// at its depth.
-    pub fn accept(&mut self, id: ProcId, from: Dev, tag: Option<u8>, class: Class, cdb: &[u8]) -> Accepted
+    pub fn accept(
+        &mut self,
+        id: ProcId,
+        from: Dev,
+        tag: Option<u8>,
+        class: Class,
+        cdb: &[u8],
+    ) -> Accepted
         requires device { from < 8 }
         requires most { length cdb.now ≤ 10 }
         ensures books { IsAccepted (requests_sense (command_of cdb.now)) self.old.books
@@ -185,7 +198,7 @@ impl<M: Medium> Unit<M> {
             (M.reply_to self.old.medium (block_at self.old.books key))) }
         ensures books { self.new.books ≡ books_if_reported self.old.books
             (is_reported (attention_at self.old.books key)
-                (block_at self.old.books key)) (initiator_at self.old.books key) }
+            (block_at self.old.books key)) (initiator_at self.old.books key) }
         ensures reported { is_reported (attention_at self.old.books key) (block_at self.old.books key) ≡ true
             → self.new.medium ≡ self.old.medium }
         ensures unchanged { M.is_changed_by self.old.medium (block_at self.old.books key) ≡ false

@@ -10,7 +10,7 @@ loop-dev-preserved c =
     record {
       long = length-set c.loop-dev.attentions c.loop-dev.dev c.attention_told.result ∙ c.loop-dev.invariant.long;
       done = below_more _ _
-        (λ k h. let ne : k ≢ c.loop-dev.dev = omega arith in rw get_or-set_other (c.loop-dev.invariant.done k h))
-        (rw get_or-set_same (c.attention_told.ensures ∙ ap (λ (a : Option Sense). attention_after_clear (is_told c.args.by c.args.queue.now.arrived c.loop-dev.dev) a) here));
+          (λ k h. let ne : k ≢ c.loop-dev.dev = omega arith in rw get_or-set_other (c.loop-dev.invariant.done k h))
+          (rw get_or-set_same (c.attention_told.ensures ∙ ap (λ (a : Option Sense). attention_after_clear (is_told c.args.by c.args.queue.now.arrived c.loop-dev.dev) a) here));
       rest = λ k h. let ne : k ≢ c.loop-dev.dev = omega arith in rw get_or-set_other (c.loop-dev.invariant.rest k (omega arith));
     }
