@@ -2,3 +2,5 @@ pub mod Plans
 pub mod Disk
 pub mod Sparse
 pub mod Dense
+pub mod Books
+pub mod Units

@@ -25,7 +25,8 @@ impl Model for DenseBlocks {
 
     ghost view = { λ d. record { count = d.count; size = d.size; touched = blocks_in d.size 0 d.count d.bytes.items } };
 
-    ghost invariant = { λ d. (length d.bytes.items ≡ d.count * d.size) × (d.count ≤ 4294967296) × (d.size ≤ 2048) × (1 ≤ d.count) × (1 ≤ d.size) };
+    ghost invariant = { λ d. (length d.bytes.items
+        ≡ d.count * d.size) × (d.count ≤ 4294967296) × (d.size ≤ 2048) × (1 ≤ d.count) × (1 ≤ d.size) };
 }
 
 impl DenseBlocks {

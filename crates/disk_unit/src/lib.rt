@@ -9,14 +9,20 @@
 #![tactic(auto)]
 
 mod blocks;
+mod books;
+mod command_block;
 mod dense;
 mod disk;
+mod laws;
 mod media;
 mod sparse;
 mod transfer;
+mod unit;
 
 pub use blocks::Blocks;
 pub use dense::DenseBlocks;
 pub use disk::DiskMedium;
+pub use laws::disks_execute_as_the_array;
 pub use media::{Extent, Medium, Plan};
 pub use sparse::SparseBlocks;
+pub use unit::{Accepted, Reply, Unit};

@@ -1,16 +1,17 @@
 -- The commands of one initiator leave one after the other.
 use Rattle.std.proofs.Common.{◌≡◌, ℕ, Bool, true, false, List, [], ◌∷◌, Option, Some, None, refl, ap, sym, subst, ◌∙◌, eq-eqb}
-use Rattle.std.specs.Prelude.{◌==◌, if◌then◌else◌}
+use Rattle.std.specs.Prelude.{◌==◌, is_some, if◌then◌else◌}
 use Rattle.std.proofs.lemmas.Bool.{eqb-true}
 use Rattle.slab.specs.Slab.{Slab, get}
 use Rattle.disk_array.specs.declared.entries.Entry.{Entry}
+use Rattle.tag_queue.specs.declared.those.Those.{Those}
 use Rattle.tag_queue.specs.declared.arrivals.Arrival.{Arrival}
-use Rattle.tag_queue.specs.Queue.{Queued, QueueState, queue_without, queue_cleared_of, current_without, current_among, has_key, without_key, is_of, without_those_of}
+use Rattle.tag_queue.specs.Queue.{Queued, QueueState, queue_without, queue_cleared_of, current_without, current_among, has_key, without_key, is_of, has_any, without_those_of}
 use Rattle.tag_queue.specs.Stored.{queued_if, queued_at, is_out, before_with, AreKept, IsAmong, AreOf, first_of}
 use Rattle.tag_queue.proofs.Scans.{some_same}
 use Rattle.tag_queue.proofs.Sound.{has_key_queued}
 
-pub are_of : (s : Slab Entry) (leaving current who : Option ℕ) (key : ℕ) (p : Entry) (xs : List Arrival) (before : List Entry) → AreKept s leaving current before xs → get s key ≡ Some p → is_of who p ≡ true
+pub are_of : (s : Slab Entry) (leaving current : Option ℕ) (who : Those) (key : ℕ) (p : Entry) (xs : List Arrival) (before : List Entry) → AreKept s leaving current before xs → get s key ≡ Some p → is_of who p ≡ true
     → AreOf who key (queued_at s xs)
 are_of s leaving current who key p [] before kept found theirs = tt
 are_of s leaving current who key p (a ∷ xs) before kept found theirs =
@@ -19,7 +20,7 @@ are_of s leaving current who key p (a ∷ xs) before kept found theirs =
       are_of s leaving current who key p xs (before_with (is_out leaving current a.key) before kept.0) kept.3 found theirs,
     )
 
-pub without_first : (who : Option ℕ) (key : ℕ) (queued : List Queued) → AreOf who key queued → without_those_of who (without_key queued key) ≡ without_those_of who queued
+pub without_first : (who : Those) (key : ℕ) (queued : List Queued) → AreOf who key queued → without_those_of who (without_key queued key) ≡ without_those_of who queued
 without_first who key [] theirs = refl
 without_first who key (q ∷ queued) theirs = go (q.key == key) refl (without_first who key queued theirs.1)
   where
@@ -33,7 +34,7 @@ without_first who key (q ∷ queued) theirs = go (q.key == key) refl (without_fi
 true_false : true ≡ false → ⊥
 true_false e = cc
 
-no_key_without : (who : Option ℕ) (key : ℕ) (queued : List Queued) → AreOf who key queued → has_key (without_those_of who queued) key ≡ false
+no_key_without : (who : Those) (key : ℕ) (queued : List Queued) → AreOf who key queued → has_key (without_those_of who queued) key ≡ false
 no_key_without who key [] theirs = refl
 no_key_without who key (q ∷ queued) theirs = go (is_of who q.entry) refl (no_key_without who key queued theirs.1)
   where
@@ -45,7 +46,7 @@ no_key_without who key (q ∷ queued) theirs = go (is_of who q.entry) refl (no_k
     go true theirs_is rest = rest
     go false kept rest = at (q.key == key) refl kept rest
 
-pub current_first : (who current : Option ℕ) (key : ℕ) (queued : List Queued) → AreOf who key queued
+pub current_first : (who : Those) (current : Option ℕ) (key : ℕ) (queued : List Queued) → AreOf who key queued
     → current_among (without_those_of who queued) (current_without current key) ≡ current_among (without_those_of who queued) current
 current_first who None key queued theirs = refl
 current_first who (Some c) key queued theirs = go (key == c) refl
@@ -59,7 +60,7 @@ current_first who (Some c) key queued theirs = go (key == c) refl
 none_some : {A : Type 0} (x : A) → None ≡ Some x → ⊥
 none_some x e = cc
 
-pub all_stay : (who : Option ℕ) (queued : List Queued) → first_of queued who ≡ None → without_those_of who queued ≡ queued
+pub all_stay : (who : Those) (queued : List Queued) → first_of queued who ≡ None → without_those_of who queued ≡ queued
 all_stay who [] none = refl
 all_stay who (q ∷ queued) none = go (is_of who q.entry) none (all_stay who queued)
   where
@@ -77,7 +78,7 @@ current_stays s xs leaving now (Some c) before kept live = ap (λ (b : Bool). if
 some_none : {A : Type 0} (x : A) → Some x ≡ None → ⊥
 some_none x e = cc
 
-pub first_live : (queued : List Queued) (who : Option ℕ) (key : ℕ) → first_of queued who ≡ Some key → has_key queued key ≡ true
+pub first_live : (queued : List Queued) (who : Those) (key : ℕ) → first_of queued who ≡ Some key → has_key queued key ≡ true
 first_live [] who key found = absurd (none_some key found)
 first_live (q ∷ queued) who key found = go (is_of who q.entry) found (first_live queued who key)
   where
@@ -89,7 +90,7 @@ first_live (q ∷ queued) who key found = go (is_of who q.entry) found (first_li
         either true h = refl
         either false h = h
 
-pub first_entry : (s : Slab Entry) (leaving current who : Option ℕ) (key : ℕ) (xs : List Arrival) (before : List Entry) → AreKept s leaving current before xs → first_of (queued_at s xs) who ≡ Some key
+pub first_entry : (s : Slab Entry) (leaving current : Option ℕ) (who : Those) (key : ℕ) (xs : List Arrival) (before : List Entry) → AreKept s leaving current before xs → first_of (queued_at s xs) who ≡ Some key
     → (p : Entry) × (get s key ≡ Some p) × (is_of who p ≡ true)
 first_entry s leaving current who key [] before kept found = absurd (none_some key found)
 first_entry s leaving current who key (a ∷ xs) before kept found =
@@ -103,8 +104,16 @@ first_entry s leaving current who key (a ∷ xs) before kept found =
         (p, ap (get s) (sym same) ∙ at, theirs)
     go p at false theirs e rest = rest (sym (ap (λ (b : Bool). if b then Some a.key else first_of (queued_at s xs) who) theirs) ∙ e)
 
-pub cleared_without : (q : QueueState) (who : Option ℕ) (key : ℕ) → AreOf who key q.arrived → queue_cleared_of (queue_without q key) who ≡ queue_cleared_of q who
+pub cleared_without : (q : QueueState) (who : Those) (key : ℕ) → AreOf who key q.arrived → queue_cleared_of (queue_without q key) who ≡ queue_cleared_of q who
 cleared_without q who key theirs =
     let first = without_first who key q.arrived theirs in
-    (λ i. record { depth = q.depth; arrived = first i; current = current_among (first i) (current_without q.current key); hold = q.hold })
-    ∙ (λ i. record { depth = q.depth; arrived = without_those_of who q.arrived; current = current_first who q.current key q.arrived theirs i; hold = q.hold })
+    (λ i. record { depth = q.depth; keys = q.keys; arrived = first i; current = current_among (first i) (current_without q.current key); hold = q.hold })
+    ∙ (λ i. record { depth = q.depth; keys = q.keys; arrived = without_those_of who q.arrived; current = current_first who q.current key q.arrived theirs i; hold = q.hold })
+
+pub any_first : (who : Those) (queued : List Queued) → is_some (first_of queued who) ≡ has_any who queued
+any_first who [] = refl
+any_first who (q ∷ queued) = go (is_of who q.entry) (any_first who queued)
+  where
+    go : (x : Bool) → is_some (first_of queued who) ≡ has_any who queued → is_some (if x then Some q.key else first_of queued who) ≡ (if x then true else has_any who queued)
+    go true h = refl
+    go false h = h

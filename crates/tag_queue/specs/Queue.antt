@@ -3,6 +3,8 @@ use Rattle.std.specs.Prelude.{ℕ, zero, suc, Bool, true, false, ◌&&◌, ◌==
 use Rattle.std.specs.List.{list_any}
 use Rattle.bus_base.specs.declared.events.Pick.{Pick}
 use Rattle.disk_array.specs.declared.entries.Entry.{Entry}
+use Rattle.tag_queue.specs.declared.those.Those.{Those}
+use Rattle.tag_queue.specs.declared.those.Those.TheVariants as those
 use Rattle.disk_array.specs.Order.{chosen_place, may_run}
 
 -- A live command, under its key.
@@ -15,6 +17,8 @@ queued key entry = record { key = key; entry = entry }
 
 pub record QueueState : Type 0 where
   pub depth : ℕ
+  -- every key is below this
+  pub keys : ℕ
   -- the live commands, in order of arrival
   pub arrived : List Queued
   -- the key of the one that is current; the others wait
@@ -80,8 +84,8 @@ may_run_key q key = may_run (entries_in (waiting_of q)) (place_of (waiting_of q)
 
 -- ---- what the calls do
 
-abbrev pub empty_queue : ℕ → QueueState
-empty_queue depth = record { depth = depth; arrived = []; current = None; hold = replicate 8 false }
+abbrev pub empty_queue : ℕ → ℕ → QueueState
+empty_queue depth keys = record { depth = depth; keys = keys; arrived = []; current = None; hold = replicate 8 false }
 
 abbrev pub queue_with : QueueState → ℕ → Entry → QueueState
 queue_with q key entry = record q { arrived = q.arrived ++ queued key entry ∷ [] }
@@ -98,12 +102,29 @@ queue_left q key current = record q { arrived = without_key q.arrived key; curre
 abbrev pub queue_without : QueueState → ℕ → QueueState
 queue_without q key = queue_left q key (current_without q.current key)
 
--- The commands of one initiator, or all.
-abbrev pub is_of : Option ℕ → Entry → Bool
-is_of None entry = true
-is_of (Some dev) entry = entry.from == dev
+abbrev pub same_tag : Option ℕ → Option ℕ → Bool
+same_tag None None = true
+same_tag None (Some n) = false
+same_tag (Some m) None = false
+same_tag (Some m) (Some n) = m == n
 
-abbrev pub without_those_of : Option ℕ → List Queued → List Queued
+-- All commands, those of one initiator, or those of one initiator with one tag.
+abbrev pub is_of : Those → Entry → Bool
+is_of those.All entry = true
+is_of (those.Of dev) entry = entry.from == dev
+is_of (those.Tagged dev n) entry = entry.from == dev && same_tag entry.tag (Some n)
+
+-- One of these is such a command.
+abbrev pub has_any : Those → List Queued → Bool
+has_any who [] = false
+has_any who (q ∷ queued) = if is_of who q.entry then true else has_any who queued
+
+-- Those of one initiator, or all.
+abbrev pub those_of : Option ℕ → Those
+those_of None = those.All
+those_of (Some dev) = those.Of dev
+
+abbrev pub without_those_of : Those → List Queued → List Queued
 without_those_of who [] = []
 without_those_of who (q ∷ queued) = if is_of who q.entry then without_those_of who queued else q ∷ without_those_of who queued
 
@@ -111,20 +132,17 @@ abbrev pub current_among : List Queued → Option ℕ → Option ℕ
 current_among queued None = None
 current_among queued (Some key) = if has_key queued key then Some key else None
 
-abbrev pub queue_cleared_of : QueueState → Option ℕ → QueueState
+abbrev pub queue_cleared_of : QueueState → Those → QueueState
 queue_cleared_of q who =
     record q { arrived = without_those_of who q.arrived; current = current_among (without_those_of who q.arrived) q.current }
 
 abbrev pub with_held : QueueState → ℕ → Bool → QueueState
 with_held q dev held = record q { hold = slice_set q.hold dev held }
 
--- ---- the first live command of an initiator and a tag
+abbrev pub with_none_held : QueueState → QueueState
+with_none_held q = record q { hold = replicate 8 false }
 
-abbrev pub same_tag : Option ℕ → Option ℕ → Bool
-same_tag None None = true
-same_tag None (Some n) = false
-same_tag (Some m) None = false
-same_tag (Some m) (Some n) = m == n
+-- ---- the first live command of an initiator and a tag
 
 abbrev pub key_of : List Queued → ℕ → Option ℕ → Option ℕ
 key_of [] from tag = None

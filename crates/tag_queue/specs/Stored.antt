@@ -3,6 +3,7 @@ use Rattle.std.specs.Prelude.{◌≡◌, ℕ, ◌+◌, ◌-◌, ◌≤◌, Bool,
 use Rattle.slab.specs.Slab.{Slab, get, slab_len}
 use Rattle.disk_array.specs.declared.entries.Entry.{Entry}
 use Rattle.disk_array.specs.Order.{holds_back}
+use Rattle.tag_queue.specs.declared.those.Those.{Those}
 use Rattle.tag_queue.specs.declared.arrivals.Arrival.{Arrival}
 use Rattle.tag_queue.specs.Queue.{Queued, is_current, waiting_in, entries_in, is_of}
 
@@ -89,11 +90,11 @@ lowered s leaving key passed (a ∷ arrivals) =
 
 -- ---- the first one of an initiator, or of any
 
-abbrev pub first_of : List Queued → Option ℕ → Option ℕ
+abbrev pub first_of : List Queued → Those → Option ℕ
 first_of [] who = None
 first_of (q ∷ queued) who = if is_of who q.entry then Some q.key else first_of queued who
 
 -- What has this key is all of that initiator.
-abbrev pub AreOf : Option ℕ → ℕ → List Queued → Type 0
+abbrev pub AreOf : Those → ℕ → List Queued → Type 0
 AreOf who key [] = Unit {0}
 AreOf who key (q ∷ queued) = ((q.key == key) ≡ true → is_of who q.entry ≡ true) × AreOf who key queued

@@ -8,6 +8,7 @@ ghost use Rattle.disk_array.specs.Order.{is_head as is_head_class, is_ordered as
 ghost use Rattle.tag_queue.specs.Queue.{is_current as is_current_key, key_at as waiting_key, key_at_if, place_of, same_tag as same_tag_number, key_of as first_key_of, is_of as is_of_initiator};
 ghost use Rattle.tag_queue.specs.Stored.{queued_at, waiting_at, entries_at, held_back_by, AreKept, IsLive, lowered, lowered_by, first_of as first_key_of_those};
 
+use super::those::Those;
 use disk_array::{Class, Dev, Entry, Pick};
 use slab::Slab;
 
@@ -296,17 +297,18 @@ pub fn lower_later(entries: &Slab<Entry>, arrivals: &mut [Arrival], key: Key)
     }
 }
 
-fn is_of(entry: Entry, who: Option<Dev>) -> bool
+fn is_of(entry: Entry, who: Those) -> bool
     ensures { result ≡ is_of_initiator who entry }
 {
     match who {
-        Some(dev) => entry.from == dev,
-        None => true,
+        Those::All => true,
+        Those::Of(dev) => entry.from == dev,
+        Those::Tagged(dev, tag) => entry.from == dev && same_tag(entry.tag, Some(tag)),
     }
 }
 
 /// The key of the first live command of an initiator, or of any.
-pub fn first_of(entries: &Slab<Entry>, arrivals: &[Arrival], who: Option<Dev>) -> Option<Key>
+pub fn first_of(entries: &Slab<Entry>, arrivals: &[Arrival], who: Those) -> Option<Key>
     requires kept { (current : Option ℕ) × AreKept entries.now None current [] arrivals.now }
     ensures { result ≡ first_key_of_those (queued_at entries.now arrivals.now) who }
 {

@@ -12,7 +12,9 @@
 
 mod arrivals;
 mod queue;
+mod those;
 
 pub use arrivals::Key;
 pub use disk_array::{Class, Dev, Entry, Pick, ProcId};
 pub use queue::{Full, Queue};
+pub use those::Those;

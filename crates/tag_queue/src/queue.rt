@@ -1,13 +1,14 @@
 //! The queue of a logical unit (ANSI X3.131-1994, 6.6.17 and 7.8).
 ghost use Rattle.std.specs.Prelude.{◌≡◌, ◌+◌, ◌<◌, ◌⊎◌, true, false, [], ◌∷◌, ◌++◌, length, Some, None, IfNone, IfSome, IfOk, OnOk, OnErr, slice_index_or};
 ghost use Rattle.disk_array.specs.Order.{chosen_place};
-ghost use Rattle.tag_queue.specs.Queue.{queued, empty_queue, queue_with, queue_started, queue_left, queue_without, queue_cleared_of, with_held, is_current as is_current_key, is_held, has_key, entry_at, without_key, waiting_of, entries_in, key_at_if, chosen_key, may_run_key, key_of as first_key_of};
+ghost use Rattle.tag_queue.specs.Queue.{queued, empty_queue, queue_with, queue_started, queue_left, queue_without, queue_cleared_of, those_of, has_any as any_of, with_held, with_none_held, is_current as is_current_key, is_held, has_key, entry_at, without_key, waiting_of, entries_in, key_at_if, chosen_key, may_run_key, key_of as first_key_of};
 ghost use Rattle.tag_queue.specs.Stored.{AreOf};
 
 use super::arrivals::{
     Arrival, Key, earlier_conflicts, first_of, is_current, key_at, key_of, last_head, lower_later,
     place_standing, runnable_place,
 };
+use super::those::Those;
 use bus_base::NoMemory;
 use disk_array::{Dev, Entry, Pick};
 use slab::Slab;
@@ -39,6 +40,7 @@ impl Model for Queue {
 
     ghost view = { λ q. record {
       depth = q.depth;
+      keys = q.entries.capacity;
       arrived = queued_at q.entries q.arrivals.items;
       current = q.current;
       hold = q.hold;
@@ -50,7 +52,7 @@ impl Model for Queue {
 impl Queue {
     /// An empty queue for `depth` commands, the current one among them. It takes all the memory that it ever has.
     pub fn new(alloc: Global, depth: usize) -> Result<Queue, NoMemory>
-        ensures { IfOk result (λ made. made ≡ empty_queue depth) }
+        ensures { IfOk result (λ made. made ≡ empty_queue depth made.keys) }
     {
         let entries = Slab::with_capacity(alloc, depth)?;
         let arrivals = Vec::with_capacity(alloc, depth)?;
@@ -69,6 +71,7 @@ impl Queue {
         ensures unchanged { OnErr result (self.new ≡ self.old) }
         ensures below { OnOk result (length self.old.arrived < self.old.depth) }
         ensures fresh { IfOk result (λ key. has_key self.old.arrived key ≡ false) }
+        ensures low { IfOk result (λ key. key < self.old.keys) }
         ensures entered { IfOk result (λ key. self.new ≡ queue_with self.old key p) }
         ensures waiting { IfOk result (λ key. waiting_of self.new ≡ waiting_of self.old ++ queued key p ∷ []) }
     {
@@ -79,6 +82,20 @@ impl Queue {
         let key = self.entries.insert_reserved(p);
         self.arrivals.push_reserved(Arrival { key, earlier });
         Ok(key)
+    }
+
+    /// The key of the current command.
+    pub fn current(&self) -> Option<Key>
+        ensures { result ≡ self.now.current }
+    {
+        self.current
+    }
+
+    /// Every key is below this number.
+    pub fn keys(&self) -> usize
+        ensures { result ≡ self.now.keys }
+    {
+        self.entries.capacity()
     }
 
     /// The key of the waiting command that the unit chooses: of those that may run the first or the last that arrived.
@@ -163,8 +180,19 @@ impl Queue {
     }
 
     /// The live commands of one initiator leave, or all; returns how many they were.
-    #[tactic(auto, using(crate::proofs::Clearing::cleared_without))]
     pub fn clear_of(&mut self, who: Option<Dev>) -> usize
+        ensures exact { self.new ≡ queue_cleared_of self.old (those_of who) }
+        ensures count { result + length self.new.arrived ≡ length self.old.arrived }
+    {
+        match who {
+            Some(dev) => self.clear(Those::Of(dev)),
+            None => self.clear(Those::All),
+        }
+    }
+
+    /// These live commands leave; returns how many they were.
+    #[tactic(auto, using(crate::proofs::Clearing::cleared_without))]
+    pub fn clear(&mut self, who: Those) -> usize
         ensures exact { self.new ≡ queue_cleared_of self.old who }
         ensures count { result + length self.new.arrived ≡ length self.old.arrived }
     {
@@ -181,12 +209,19 @@ impl Queue {
         self.arrivals.len()
     }
 
-    fn first_of(&self, who: Option<Dev>) -> Option<Key>
+    fn first_of(&self, who: Those) -> Option<Key>
         ensures live { IfSome result (λ key. has_key self.now.arrived key ≡ true) }
         ensures theirs { IfSome result (λ key. AreOf who key self.now.arrived) }
         ensures none { IfNone result (queue_cleared_of self.now who ≡ self.now) }
     {
         first_of(&self.entries, self.arrivals.as_slice(), who)
+    }
+
+    /// Whether one of the live commands is such a one.
+    pub fn has_any(&self, who: Those) -> bool
+        ensures { result ≡ any_of who self.now.arrived }
+    {
+        first_of(&self.entries, self.arrivals.as_slice(), who).is_some()
     }
 
     /// An initiator enters the hold.
@@ -203,6 +238,13 @@ impl Queue {
         ensures { self.new ≡ with_held self.old dev false }
     {
         self.hold[dev as usize] = false;
+    }
+
+    /// Every initiator leaves the hold.
+    pub fn release_all(&mut self)
+        ensures { self.new ≡ with_none_held self.old }
+    {
+        self.hold = [false; 8];
     }
 
     /// Whether an initiator stands in the hold.

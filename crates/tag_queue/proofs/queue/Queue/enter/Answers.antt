@@ -44,7 +44,7 @@ returns-clause-entered c =
     ap (queued_at c.insert_reserved-key.new.self) c.push_reserved.ensures.items
     ∙ queued_push c.insert_reserved-key.new.self s.arrivals.items a c.args.p c.insert_reserved-key.ensures.updates.changed
     ∙ ap (λ (q : List Queued). q ++ record { key = a.key; entry = c.args.p } ∷ []) (queued_others s.entries c.insert_reserved-key.new.self a.key s.arrivals.items fresh c.insert_reserved-key.ensures.updates.others) in
-    (λ i. record { depth = s.depth; arrived = now i; current = s.current; hold = s.hold })
+    (λ i. record { depth = s.depth; keys = c.insert_reserved-key.ensures.capacity i; arrived = now i; current = s.current; hold = s.hold })
     ∙ ap (λ (q : QueueState). queue_with q a.key c.args.p) c.self.view_is
 
 pub returns-clause-waiting : goal.returns-clause-waiting

@@ -35,9 +35,10 @@ returns-clause-none c = go c.first_of.result (c.first_of.ensures ∙ ap (λ (xs 
         let s = c.self.inside in
         let stay = all_stay c.args.who (queued_at s.entries s.arrivals.items) (sym e) in
         sym (ap (λ (q : QueueState). queue_cleared_of q c.args.who) c.self.view_is)
-        ∙ (λ i. record { depth = s.depth; arrived = stay i; current = current_among (stay i) s.current; hold = s.hold })
+        ∙ (λ i. record { depth = s.depth; keys = s.entries.capacity; arrived = stay i; current = current_among (stay i) s.current; hold = s.hold })
         ∙ (λ i. record {
           depth = s.depth;
+          keys = s.entries.capacity;
           arrived = queued_at s.entries s.arrivals.items;
           current = current_stays s.entries s.arrivals.items None s.current s.current [] c.self.invariant.kept c.self.invariant.current_is_live i;
           hold = s.hold;

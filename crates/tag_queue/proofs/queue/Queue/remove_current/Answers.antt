@@ -41,7 +41,7 @@ returns-clause-exact c =
     let now : queued_at c.remove.new.self c.retain.new.self.items ≡ without_key (queued_at s.entries s.arrivals.items) c.args.key =
     ap (queued_at c.remove.new.self) left
     ∙ queued_without s.entries c.remove.new.self c.args.key None s.current s.arrivals.items [] c.remove.ensures.updates.others c.self.invariant.kept in
-    (λ i. record { depth = s.depth; arrived = now i; current = None; hold = s.hold })
+    (λ i. record { depth = s.depth; keys = c.remove.ensures.capacity i; arrived = now i; current = None; hold = s.hold })
     ∙ ap (λ (q : QueueState). queue_left q c.args.key None) c.self.view_is
 
 pub returns-clause-one : goal.returns-clause-one

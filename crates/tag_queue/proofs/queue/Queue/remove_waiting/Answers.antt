@@ -60,7 +60,7 @@ returns-clause-exact c =
     let now : queued_at c.remove.new.self c.retain.new.self.items ≡ without_key (queued_at s.entries s.arrivals.items) c.args.key =
     ap (queued_at c.remove.new.self) (left ∙ ap (filter (λ (a : Arrival). keeps a c.args.key)) whole)
     ∙ waiting_left s.entries c.remove.new.self s.arrivals.items s.current s.depth (vec_capacity s.arrivals) c.args.key found.0 c.self.invariant found.1 waits c.remove.ensures.updates in
-    (λ i. record { depth = s.depth; arrived = now i; current = s.current; hold = s.hold })
+    (λ i. record { depth = s.depth; keys = c.remove.ensures.capacity i; arrived = now i; current = s.current; hold = s.hold })
     ∙ ap (λ (q : QueueState). queue_left q c.args.key q.current) c.self.view_is
 
 pub returns-clause-one : goal.returns-clause-one

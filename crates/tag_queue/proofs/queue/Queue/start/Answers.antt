@@ -35,7 +35,7 @@ returns-clause-exact c =
     c.lower_later.ensures found.0 found.1 ∙ ap (lowered s.entries found.0 c.args.key false) c.as_mut_slice.ensures.value in
     let same : queued_at s.entries (take s.arrivals.len (c.lower_later.new.arrivals ++ drop (length c.lower_later.new.arrivals) s.arrivals.items)) ≡ queued_at s.entries s.arrivals.items =
     ap (queued_at s.entries) (put_whole _ c.lower_later.new.arrivals s.arrivals.items (grind (arith, common_steps)) ∙ lower) ∙ queued_lowered s.entries found.0 c.args.key s.arrivals.items false in
-    (λ i. record { depth = s.depth; arrived = same i; current = Some c.args.key; hold = s.hold })
+    (λ i. record { depth = s.depth; keys = s.entries.capacity; arrived = same i; current = Some c.args.key; hold = s.hold })
     ∙ ap (λ (q : QueueState). queue_started q c.args.key) c.self.view_is
 
 pub returns-clause-waiting : goal.returns-clause-waiting
