@@ -1,5 +1,5 @@
 -- A disk and what is kept for an initiator make one execution of the plain disk array.
-use Rattle.std.proofs.Common.{ℕ, ◌≡◌, Bool, true, false, List, [], ◌∙◌, refl, sym, ap, Option, Some, None, Result, Ok, Err}
+use Rattle.std.proofs.Common.{ℕ, ◌≡◌, Bool, true, false, List, [], refl, Option, Some, None, Result, Ok, Err}
 use Rattle.std.specs.Prelude.{if◌then◌else◌}
 use Rattle.cdb_codec.specs.declared.Sense.{Sense}
 use Rattle.cdb_codec.specs.declared.command.Command.{Command}
@@ -8,7 +8,7 @@ use Rattle.cdb_codec.specs.declared.command.CdbFault.{CdbFault}
 use Rattle.cdb_codec.specs.declared.command.CdbFault.TheVariants as faults
 use Rattle.cdb_codec.specs.Cdb.{command_of}
 use Rattle.disk_array.specs.Contents.{Contents}
-use Rattle.disk_array.specs.Execution.{CommandContext, Execution, execution, cdb_execution, range_execution, command_execution, reply_execution, check_condition, block_out_of_range, is_good_range, range_of, is_request_sense, heeds_attention}
+use Rattle.disk_array.specs.Execution.{CommandContext, Execution, execution, cdb_execution, command_execution, reply_execution, check_condition, block_out_of_range, is_good_range, range_of, is_request_sense, heeds_attention}
 use Rattle.disk_unit.specs.Disk.{disk_context, disk_execution, disk_reply}
 use Rattle.disk_unit.specs.Units.{is_reported, reply_with}
 

@@ -1,8 +1,7 @@
 -- What a unit keeps of its commands, and for each initiator, and what each call does to that.
-use Rattle.std.specs.Prelude.{◌≡◌, ℕ, ◌<◌, ◌==◌, Bool, true, false, not, ◌&&◌, List, [], ◌∷◌, Option, Some, None, is_some, map, replicate, slice_set, slice_index_or, take, if◌then◌else◌}
+use Rattle.std.specs.Prelude.{◌≡◌, ℕ, ◌<◌, ◌==◌, Bool, true, false, not, ◌&&◌, List, [], ◌∷◌, Option, Some, None, is_some, replicate, slice_set, slice_index_or, take, if◌then◌else◌}
 use Rattle.bus_base.specs.declared.events.Pick.{Pick}
 use Rattle.cdb_codec.specs.declared.Sense.{Sense}
-use Rattle.cdb_codec.specs.declared.status.TheConstants.{CHECK_CONDITION}
 use Rattle.disk_array.specs.declared.entries.Entry.{Entry}
 use Rattle.disk_array.specs.Execution.{no_sense, reset_occurred, commands_cleared}
 use Rattle.disk_array.specs.Steps.{is_reset_pending}

@@ -1,5 +1,5 @@
 -- What a unit answers, with the attention of the initiator.
-use Rattle.std.specs.Prelude.{◌≡◌, ◌<◌, ℕ, Bool, true, false, List, [], length, Option, Some, None, if◌then◌else◌}
+use Rattle.std.specs.Prelude.{◌≡◌, ◌<◌, ℕ, Bool, true, false, List, length, Option, Some, None, if◌then◌else◌}
 use Rattle.bus_base.specs.declared.AbortKind.{AbortKind}
 use Rattle.bus_base.specs.declared.AbortKind.TheVariants as aborts
 use Rattle.bus_base.specs.declared.ProcId.{ProcId}

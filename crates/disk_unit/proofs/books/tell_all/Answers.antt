@@ -1,4 +1,4 @@
-use Rattle.std.proofs.Common.{◌≡◌, ◌≢◌, ℕ, ◌<◌, ◌≤◌, ◌+◌, ◌∙◌, ap, sym, arith, length, length-set, get_or, get_or-set_other, get_or-set_same, below_more, None, Option}
+use Rattle.std.proofs.Common.{◌≡◌, ◌≢◌, ◌<◌, ◌∙◌, ap, arith, length, length-set, get_or, get_or-set_other, get_or-set_same, below_more, None, Option}
 use Rattle.cdb_codec.specs.declared.Sense.{Sense}
 use Rattle.disk_unit.specs.Books.{attention_after_clear, is_told}
 use Rattle.disk_unit.proofs.books.tell_all.Goals as goal

@@ -1,4 +1,4 @@
-use Rattle.std.proofs.Common.{ℕ, ◌≡◌, ◌<◌, ◌≤◌, ◌∙◌, true, length, sym, ap, arith}
+use Rattle.std.proofs.Common.{◌≡◌, ◌<◌, ◌∙◌, true, length, sym, ap, arith}
 use Rattle.tag_queue.specs.Queue.{has_key}
 use Rattle.disk_unit.specs.Books.{UnitBooks, block_at, block_bytes}
 use Rattle.disk_unit.proofs.BookLists.{bounded_key, blocks_at}

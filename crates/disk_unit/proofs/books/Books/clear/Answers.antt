@@ -1,5 +1,5 @@
-use Rattle.std.proofs.Common.{ℕ, ◌≤◌, ◌≡◌, length, sym, subst, Some, None}
-use Rattle.tag_queue.specs.Queue.{QueueState, queue_cleared_of}
+use Rattle.std.proofs.Common.{◌≤◌, length, sym, subst}
+use Rattle.tag_queue.specs.Queue.{QueueState}
 use Rattle.disk_unit.specs.Books.{AreBounded}
 use Rattle.disk_unit.proofs.BookLists.{bounded_cleared}
 use Rattle.disk_unit.proofs.books.Books.clear.Goals as goal

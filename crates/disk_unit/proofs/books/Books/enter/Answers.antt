@@ -1,6 +1,6 @@
-use Rattle.std.proofs.Common.{ℕ, List, ◌≡◌, ◌<◌, ◌≤◌, ◌∙◌, true, length, sym, ap, subst, arith, set, length-set}
-use Rattle.tag_queue.specs.Queue.{QueueState, Queued, has_key, queue_with}
-use Rattle.disk_unit.specs.Books.{UnitBooks, block_at, AreBounded, books_with, block_bytes, blocks_of}
+use Rattle.std.proofs.Common.{ℕ, List, ◌≡◌, ◌∙◌, length, sym, ap, subst, arith, set, length-set}
+use Rattle.tag_queue.specs.Queue.{QueueState, queue_with}
+use Rattle.disk_unit.specs.Books.{UnitBooks, AreBounded, books_with, blocks_of}
 use Rattle.disk_unit.proofs.BookLists.{bounded_append, blocks_set}
 use Rattle.disk_unit.proofs.books.Books.enter.Goals as goal
 

@@ -1,4 +1,4 @@
-use Rattle.std.proofs.Common.{ℕ, ◌≤◌, ◌≡◌, length, sym, subst}
+use Rattle.std.proofs.Common.{◌≤◌, length, sym, subst}
 use Rattle.tag_queue.specs.Queue.{QueueState}
 use Rattle.disk_unit.specs.Books.{AreBounded}
 use Rattle.disk_unit.proofs.BookLists.{bounded_from, bounded_without}
