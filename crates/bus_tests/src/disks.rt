@@ -31,7 +31,11 @@ const TABLE: [Access; 12] = [
 // What the blocks of the reads begin with.
 const ANSWERS: [u8; 7] = [0x00, 0x33, 0x00, 0x34, 0x77, 0x10, 0x22];
 
-fn answer<B: Blocks>(blocks: &mut B, access: Access, answers: &mut Vec<u8>) -> Result<(), NoMemory> {
+fn answer<B: Blocks>(
+    blocks: &mut B,
+    access: Access,
+    answers: &mut Vec<u8>,
+) -> Result<(), NoMemory> {
     let mut block = [0u8; 16];
     match access {
         Access::Read(lba) => {
