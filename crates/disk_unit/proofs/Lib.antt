@@ -4,3 +4,4 @@ pub mod AllBlocks
 pub mod Replies
 pub mod BookLists
 pub mod Executions
+pub mod Keeping

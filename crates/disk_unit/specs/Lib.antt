@@ -4,3 +4,4 @@ pub mod Sparse
 pub mod Dense
 pub mod Books
 pub mod Units
+pub mod Keeping
