@@ -4,3 +4,6 @@ pub mod AllBlocks
 pub mod Replies
 pub mod BookLists
 pub mod Executions
+pub mod LiveCommands
+pub mod Keeping
+pub mod AtSeats

@@ -1,5 +1,5 @@
 -- What a unit keeps of its commands, and for each initiator, and what each call does to that.
-use Rattle.std.specs.Prelude.{◌≡◌, ℕ, ◌<◌, ◌==◌, Bool, true, false, not, ◌&&◌, List, [], ◌∷◌, Option, Some, None, is_some, replicate, slice_set, slice_index_or, take, if◌then◌else◌}
+use Rattle.std.specs.Prelude.{◌≡◌, ℕ, ◌<◌, ◌==◌, Bool, true, false, not, ◌&&◌, List, [], ◌∷◌, Option, Some, None, is_some, replicate, length, slice_set, slice_index_or, take, if◌then◌else◌}
 use Rattle.bus_base.specs.declared.events.Pick.{Pick}
 use Rattle.cdb_codec.specs.declared.Sense.{Sense}
 use Rattle.disk_array.specs.declared.entries.Entry.{Entry}
@@ -101,6 +101,7 @@ pub record IsCleared (by : ℕ) (old new : UnitBooks) : Type 0 where
   pub queue : new.queue ≡ queue_cleared_of old.queue those.All
   pub blocks : new.blocks ≡ old.blocks
   pub senses : new.senses ≡ old.senses
+  pub eight : length new.attentions ≡ 8
   pub attentions : (dev : ℕ) → dev < 8 → slice_index_or new.attentions dev None ≡ attention_after_clear (is_told by old.queue.arrived dev) (slice_index_or old.attentions dev None)
 
 abbrev pub books_after_reset : UnitBooks → UnitBooks

@@ -4,3 +4,6 @@ pub mod Sparse
 pub mod Dense
 pub mod Books
 pub mod Units
+pub mod LiveCommands
+pub mod Keeping
+pub mod AtSeats

@@ -46,7 +46,7 @@ IsAccepted true old entry cdb new (accepted.Queued key) = ⊥
 IsAccepted true old entry cdb new accepted.Full = ⊥
 IsAccepted false old entry cdb new accepted.AtOnce = ⊥
 IsAccepted false old entry cdb new (accepted.Queued key) =
-    (length old.queue.arrived < old.queue.depth) × (has_key old.queue.arrived key ≡ false) × (new ≡ books_with old key entry cdb)
+    (length old.queue.arrived < old.queue.depth) × (has_key old.queue.arrived key ≡ false) × (key < length old.blocks) × (new ≡ books_with old key entry cdb)
 IsAccepted false old entry cdb new accepted.Full = (length old.queue.arrived ≡ old.queue.depth) × (new ≡ old)
 
 abbrev pub books_if_reported : UnitBooks → Bool → ℕ → UnitBooks

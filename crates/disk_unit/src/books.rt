@@ -35,8 +35,7 @@ impl Model for Books {
       queue = b.queue;
       blocks = blocks_of b.blocks.items;
       senses = b.senses;
-      attentions
-          = b.attentions;
+      attentions = b.attentions;
     } };
 
     ghost invariant = { λ b. (b.queue.keys ≤ length b.blocks.items) × AreBounded b.queue.keys b.queue.arrived };
@@ -65,6 +64,7 @@ impl Books {
         ensures unchanged { OnErr result (self.new ≡ self.old) }
         ensures below { OnOk result (length self.old.queue.arrived < self.old.queue.depth) }
         ensures fresh { IfOk result (λ key. has_key self.old.queue.arrived key ≡ false) }
+        ensures place { IfOk result (λ key. key < length self.old.blocks) }
         ensures entered { IfOk result (λ key. self.new ≡ books_with self.old key entry cdb.now) }
     {
         let key = self.queue.enter(entry)?;
@@ -234,7 +234,8 @@ const RESET: Sense = Sense {
 
 // Each other initiator that has a command in the queue is told that it is cleared.
 fn tell_all(queue: &Queue, by: Dev, attentions: &mut [Option<Sense>; 8])
-    ensures { (dev : ℕ) → dev < 8 → slice_index_or attentions.new dev None
+    ensures eight { length attentions.new ≡ 8 }
+    ensures told { (dev : ℕ) → dev < 8 → slice_index_or attentions.new dev None
         ≡ attention_after_clear (is_told by queue.now.arrived dev) (slice_index_or attentions.old dev None) }
 {
     for dev in 0..8 {

@@ -22,7 +22,7 @@ mod unit;
 pub use blocks::Blocks;
 pub use dense::DenseBlocks;
 pub use disk::DiskMedium;
-pub use laws::disks_execute_as_the_array;
+pub use laws::{disks_execute_as_the_array, units_are_seats, units_keep_what_seats_keep};
 pub use media::{Extent, Medium, Plan};
 pub use sparse::SparseBlocks;
 pub use unit::{Accepted, Reply, Unit};

@@ -1,7 +1,7 @@
-use Rattle.std.proofs.Common.{ℕ, List, ◌≡◌, ◌∙◌, length, sym, ap, subst, arith, set, length-set}
+use Rattle.std.proofs.Common.{ℕ, List, ◌≡◌, ◌<◌, ◌∙◌, length, sym, ap, subst, arith, set, length-set}
 use Rattle.tag_queue.specs.Queue.{QueueState, queue_with}
 use Rattle.disk_unit.specs.Books.{UnitBooks, AreBounded, books_with, blocks_of}
-use Rattle.disk_unit.proofs.BookLists.{bounded_append, blocks_set}
+use Rattle.disk_unit.proofs.BookLists.{bounded_append, blocks_set, length_blocks}
 use Rattle.disk_unit.proofs.books.Books.enter.Goals as goal
 
 pub invariant_of-self-2 : goal.invariant_of-self-2
@@ -20,3 +20,11 @@ returns-clause-entered c =
     blocks_set c.self.inside.blocks.items c.in_ok-key.key c.new.result ∙ ap (λ (b : List ℕ). set (blocks_of c.self.inside.blocks.items) c.in_ok-key.key b) c.new.ensures in
     (λ i. record { queue = after i; blocks = blocks i; senses = c.self.inside.senses; attentions = c.self.inside.attentions })
     ∙ ap (λ (b : UnitBooks). books_with b c.in_ok-key.key c.args.entry c.args.cdb.now) c.self.view_is
+
+pub returns-clause-place : goal.returns-clause-place
+returns-clause-place c =
+    let room = c.self.invariant.0 in
+    let low = c.in_ok-key.ensures.low in
+    let long : length (blocks_of c.self.inside.blocks.items) ≡ length c.self.inside.blocks.items = length_blocks c.self.inside.blocks.items in
+    let here : c.in_ok-key.key < length (blocks_of c.self.inside.blocks.items) = omega arith in
+    subst (λ (b : UnitBooks). c.in_ok-key.key < length b.blocks) c.self.view_is here

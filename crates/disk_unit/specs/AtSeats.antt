@@ -1,0 +1,17 @@
+-- A unit at its seat of the plain disk array.
+use Rattle.std.specs.Prelude.{◌≡◌, List, Some}
+use Rattle.scenario.specs.declared.value.HostDef.{HostDef}
+use Rattle.disk_array.specs.Contents.{Contents}
+use Rattle.disk_array.specs.Seats.{Seat}
+use Rattle.disk_array.specs.Units.{UnitState}
+use Rattle.disk_unit.specs.Books.{UnitBooks}
+use Rattle.disk_unit.specs.Keeping.{IsKeptAt}
+use Rattle.disk_unit.specs.LiveCommands.{LiveCommand, HasLive}
+
+-- The unit of this seat is there; what a unit of code keeps of its commands, with these live, and for each initiator is
+-- what the seat has, and these are its contents.
+pub record IsUnitAt (hosts : List HostDef) (live : List LiveCommand) (c : Contents) (u : UnitState) (seat : Seat) (b : UnitBooks) : Type 0 where
+  pub there : seat.unit ≡ Some u
+  pub contents : u.contents ≡ c
+  pub commands : HasLive live u b
+  pub kept : IsKeptAt hosts seat b
