@@ -125,8 +125,8 @@ fn reply_of(plan: Plan) -> Reply
 }
 
 impl<M: Medium> Unit<M> {
-    /// A command arrives: it waits as the last one, or is a REQUEST SENSE that runs at once, or the queue is
-    /// at its depth.
+    /// A command arrives: it waits as the last one, or is a REQUEST SENSE that runs at once, or the queue is at its
+    /// depth.
     pub fn accept(
         &mut self,
         id: ProcId,
@@ -186,9 +186,8 @@ impl<M: Medium> Unit<M> {
         }
     }
 
-    /// The live command of this key runs: the attention of its initiator is reported, or the medium changes
-    /// as the command
-    /// says, with the bytes that it sent.
+    /// The live command of this key runs: the attention of its initiator is reported, or the medium changes as the
+    /// command says, with the bytes that it sent.
     pub fn run(&mut self, key: Key, sent: &[u8]) -> Reply
         requires live { has_key self.old.books.queue.arrived key ≡ true }
         requires whole { length sent.now ≡ bytes_taken self.old.books key
@@ -275,9 +274,8 @@ impl<M: Medium> Unit<M> {
         self.books.reset();
     }
 
-    /// The waiting command that is chosen becomes current; returns its key. `None` where one is current,
-    /// nothing waits, or
-    /// the hold has a member.
+    /// The waiting command that is chosen becomes current; returns its key. `None` where one is current, nothing
+    /// waits, or the hold has a member.
     pub fn choose(&mut self, pick: Pick) -> Option<Key>
         ensures key { result ≡ choice_of self.old.books pick }
         ensures books { self.new.books ≡ books_after_choice self.old.books pick }
