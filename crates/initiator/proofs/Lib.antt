@@ -12,4 +12,5 @@ mod Queues
 mod Speeches
 mod Told
 mod Wishes
+mod NegotiationRows
 mod WishRows

@@ -1,5 +1,5 @@
 -- What an initiator wants of the bus after some rows, and since when.
-use Rattle.std.specs.Prelude.{ℕ, ◌≡◌, ◌<◌, Bool, true, false, not, ◌&&◌, ◌||◌, List, [], ◌∷◌, Option, is_some, is_none}
+use Rattle.std.specs.Prelude.{ℕ, ◌≡◌, ◌<◌, Bool, true, false, not, ◌&&◌, ◌||◌, List, [], ◌∷◌, Option, Some, None, is_some, is_none}
 use Rattle.bus_base.specs.declared.Event.{Event}
 use Rattle.bus_trace.specs.declared.Row.{Row}
 use Rattle.bus_trace.specs.declared.changes.Change.{Change}
@@ -10,6 +10,8 @@ use Rattle.bus_trace.specs.Terms.{call}
 use Rattle.bus_lines.specs.declared.effect.RowEffect.{RowEffect}
 use Rattle.scenario.specs.Value.{ScenarioValue}
 use Rattle.bus_story.specs.TraceHistory.{is_host, retries_of}
+use Rattle.initiator.specs.declared.mine.OwnItem.{OwnItem}
+use Rattle.initiator.specs.declared.mine.OwnItem.TheVariants as own
 use Rattle.initiator.specs.Books.{my_since}
 use Rattle.initiator.specs.Wishes.{Wish, IsWishOf, is_entry, target_by, wish_after}
 
@@ -52,3 +54,10 @@ news_in e shown = is_news e.change e.before e.after shown
 
 abbrev pub wish_next : IntentValue → RowEffect → Row → List Event → Wish
 wish_next v e row shown = wish_after v.dev v.retries v.call v.wish e.change e.before e.after row.dev row.time shown
+
+-- It last entered arbitration for a process, and not for an abort.
+abbrev pub is_for_own_process : Option OwnItem → Bool
+is_for_own_process None = false
+is_for_own_process (Some (own.Command n)) = true
+is_for_own_process (Some (own.Sense n)) = true
+is_for_own_process (Some (own.Abort n)) = false

@@ -2,6 +2,7 @@ pub mod Itself
 pub mod Mines
 pub mod Books
 pub mod Wishes
+pub mod Negotiations
 pub mod Intents
 pub mod Speeches
 pub mod States

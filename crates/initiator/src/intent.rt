@@ -10,7 +10,8 @@ ghost use Rattle.bus_due.specs.RunSteps.{run_state};
 ghost use Rattle.bus_due.specs.Wants.{item_want_time, target_of};
 ghost use Rattle.bus_story.specs.TraceHistory.{aim_of};
 ghost use Rattle.initiator.specs.Wishes.{events_shown, target_by};
-ghost use Rattle.initiator.specs.Intents.{IsInitiator, IsIntentOf, is_news, news_in, wish_next};
+ghost use Rattle.initiator.specs.Intents.{IsInitiator, IsIntentOf, is_news, news_in, wish_next, is_for_own_process};
+ghost use Rattle.initiator.specs.Negotiations.{aims_at_process};
 
 use crate::mine::OwnItem;
 use crate::wish::{Wish, is_entry};
@@ -60,6 +61,13 @@ fn is_news(
     is_entry(change, before)
         || !shown.is_empty()
         || (before.is_none() && (after.is_some() || falls(change.before.sel(), change.after.sel())))
+}
+
+// A command or an automatic REQUEST SENSE, and no abort.
+fn is_process(aim: Option<OwnItem>) -> bool
+    ensures { result ≡ is_for_own_process aim }
+{
+    matches!(aim, Some(OwnItem::Command(_) | OwnItem::Sense(_)))
 }
 
 impl Intent {
@@ -112,6 +120,15 @@ impl Intent {
         ensures { result ≡ self.now.wish.aim }
     {
         self.wish.aim()
+    }
+
+    /// Whether it last entered arbitration for a process, and not for an abort.
+    pub fn is_for_process(&self) -> bool
+        ensures value { result ≡ is_for_own_process self.now.wish.aim }
+        ensures trace { (s : ScenarioValue) (rows : List Row) → IsIntentOf s rows self.now
+            → result ≡ aims_at_process s rows self.now.dev }
+    {
+        is_process(self.wish.aim())
     }
 
     // What it wants after a row that did this.
