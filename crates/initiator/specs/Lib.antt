@@ -5,4 +5,5 @@ pub mod Wishes
 pub mod Intents
 pub mod Speeches
 pub mod States
+pub mod NoUnits
 pub mod Dues
