@@ -6,6 +6,7 @@ mod Foreign
 mod Intents
 mod Loops
 mod Mines
+mod NoUnits
 mod OwnRows
 mod Parts
 mod Queues

@@ -6,4 +6,5 @@ pub mod Negotiations
 pub mod Intents
 pub mod Speeches
 pub mod States
+pub mod NoUnits
 pub mod Dues

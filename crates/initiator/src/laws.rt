@@ -1,5 +1,5 @@
 // Laws of an initiator, each named by the contract of a function that does nothing.
-ghost use Rattle.std.specs.Prelude.{◌≡◌, ◌<◌, List, ◌∷◌, Option, Some, None};
+ghost use Rattle.std.specs.Prelude.{ℕ, ◌≡◌, ◌<◌, ◌==◌, false, List, ◌∷◌, Option, Some, None};
 ghost use Rattle.bus_trace.specs.declared.Row.{Row};
 ghost use Rattle.scenario.specs.declared.value.FaultDef.{FaultDef};
 ghost use Rattle.scenario.specs.declared.value.HostDef.{HostDef};
@@ -7,12 +7,14 @@ ghost use Rattle.scenario.specs.Value.{ScenarioValue};
 ghost use Rattle.bus_due.specs.Next.{due};
 ghost use Rattle.bus_due.specs.Plain.{AreOfDevices};
 ghost use Rattle.bus_due.specs.RunSteps.{run_state};
+ghost use Rattle.bus_due.specs.Wants.{ready_of};
 ghost use Rattle.bus_dialogue.specs.Exchange.{Speech};
 ghost use Rattle.bus_dialogue.specs.Sending.{Sending};
 ghost use Rattle.bus_due.specs.Sights.{sending_of};
 ghost use Rattle.initiator.specs.Itself.{ItselfValue, IsItselfOf};
 ghost use Rattle.initiator.specs.Intents.{IntentValue, IsIntentOf};
 ghost use Rattle.initiator.specs.States.{told, InitiatorState, IsOwnConnection, IsInitiatorOf, IsHostOf, IsNoTarget, first_fault, state_by};
+ghost use Rattle.initiator.specs.NoUnits.{HasNoUnit};
 ghost use Rattle.initiator.specs.Dues.{initiator_next};
 ghost use Rattle.initiator.specs.Speeches.{first_words, speech_at};
 ghost use Rattle.bus_trace.specs.declared.connection.Connection.{Connection};
@@ -59,4 +61,14 @@ pub fn initiators_are_their_parts()
         → ((n : Connection) → IsOwnConnection rows h.dev n → speech ≡ speech_at s rows)
         → ((n : Connection) → IsOwnConnection rows h.dev n → sending ≡ sending_of s (run_state s rows))
         → IsInitiatorOf s rows h (state_by v w speech sending) }
+{}
+
+/// No process is ever ready at a device of which the scenario has no unit, whatever the rows are (`ready`); so where no
+/// connection stands of which it is the target, it is no target (`no_target`).
+pub fn initiators_have_no_unit()
+    ensures ready { (s : ScenarioValue) (rows : List Row) (dev : ℕ) → HasNoUnit s dev
+        → ready_of s (run_state s rows) dev ≡ None }
+    ensures no_target { (s : ScenarioValue) (rows : List Row) (dev : ℕ) → HasNoUnit s dev
+        → ((n : Connection) → connection rows ≡ Some n → (n.target == dev) ≡ false)
+        → IsNoTarget s rows dev }
 {}

@@ -32,7 +32,9 @@ mod wish;
 pub use due::{Knowledge, Sending, initiator_next};
 pub use intent::Intent;
 pub use itself::Itself;
-pub use laws::{dues_are_of_initiators, initiators_are_their_parts, speeches_are_heard};
+pub use laws::{
+    dues_are_of_initiators, initiators_are_their_parts, initiators_have_no_unit, speeches_are_heard,
+};
 pub use mine::{Mine, MyAbort, OwnItem};
 pub use negotiations::Negotiations;
 pub use openings::{Words, abort_opening, process_opening};
