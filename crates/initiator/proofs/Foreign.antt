@@ -201,7 +201,7 @@ tries_from b dev k (c ∷ commands) (suc j) n e h = go (tries_from b dev (k + 1)
     go r true = (λ i. if ne_eqb k n (λ z. omega (arith, z, e)) i then capped (count_item b.tries (command_item k)) else tries_in (map (mine_of b.checks) (own_commands b dev (k + 1) commands)) n) ∙ r
     go r false = r
 
-no_host_first : (commands : List CmdDef) (dev : ℕ) → is_of_host (command_at commands zero) dev ≡ false
+pub no_host_first : (commands : List CmdDef) (dev : ℕ) → is_of_host (command_at commands zero) dev ≡ false
 no_host_first [] dev = refl
 no_host_first (c ∷ commands) dev = refl
 
@@ -224,7 +224,7 @@ abort_tries_from b dev k (a ∷ aborts) (suc j) n e h = go (abort_tries_from b d
     go r true = (λ i. if ne_eqb k n (λ z. omega (arith, z, e)) i then capped (count_item b.tries (abort k)) else abort_tries_in (my_aborts b dev (k + 1) aborts) n) ∙ r
     go r false = r
 
-no_line_first : (aborts : List AbortDef) (dev : ℕ) → is_abort_of (abort_line_at aborts zero) dev ≡ false
+pub no_line_first : (aborts : List AbortDef) (dev : ℕ) → is_abort_of (abort_line_at aborts zero) dev ≡ false
 no_line_first [] dev = refl
 no_line_first (a ∷ aborts) dev = refl
 

@@ -8,6 +8,7 @@ mod Loops
 mod Mines
 mod NoUnits
 mod OwnRows
+mod FirstWords
 mod Parts
 mod Queues
 mod Speeches

@@ -3,6 +3,7 @@ pub mod Mines
 pub mod Books
 pub mod Wishes
 pub mod Negotiations
+pub mod Openings
 pub mod Intents
 pub mod Speeches
 pub mod States

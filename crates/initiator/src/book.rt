@@ -3,6 +3,7 @@ ghost use Rattle.std.specs.Prelude.{◌≡◌, ◌<◌, ◌==◌, [], length, If
 ghost use Rattle.std.specs.List.{list_any};
 ghost use Rattle.bus_story.specs.Items.{open_limit_of};
 ghost use Rattle.bus_due.specs.Wants.{own_command};
+ghost use Rattle.initiator.specs.Openings.{mine_at, my_abort_at};
 ghost use Rattle.initiator.specs.Wishes.{tries_in, abort_tries_in, target_in, abort_target_in, target_by, book_after_events};
 ghost use Rattle.initiator.specs.Mines.{nothing_sent, mine_of, mines_of, my_abort, my_aborts};
 ghost use Rattle.initiator.specs.Books.{my_book, my_since, my_item, queue_with, queue_after_event, book_with_sent, book_with_over, book_with_try, book_with_done, book_with_abort_try, book_after_event};
@@ -167,6 +168,30 @@ impl Book {
         for abort in self.aborts.as_slice() {
             if abort.number == number {
                 return Some(abort.target);
+            }
+        }
+        None
+    }
+
+    /// The command of this number among all, if it is its own.
+    pub fn mine(&self, number: u16) -> Option<Mine>
+        ensures { result ≡ mine_at self.now.mines number }
+    {
+        for mine in self.mines.as_slice() {
+            if mine.number == number {
+                return Some(*mine);
+            }
+        }
+        None
+    }
+
+    /// The abort line of this number among all, if it is its own.
+    pub fn abort_line(&self, number: u16) -> Option<MyAbort>
+        ensures { result ≡ my_abort_at self.now.aborts number }
+    {
+        for abort in self.aborts.as_slice() {
+            if abort.number == number {
+                return Some(*abort);
             }
         }
         None

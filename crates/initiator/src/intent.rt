@@ -12,14 +12,17 @@ ghost use Rattle.bus_story.specs.TraceHistory.{aim_of};
 ghost use Rattle.initiator.specs.Wishes.{events_shown, target_by};
 ghost use Rattle.initiator.specs.Intents.{IsInitiator, IsIntentOf, is_news, news_in, wish_next, is_for_own_process};
 ghost use Rattle.initiator.specs.Negotiations.{aims_at_process};
+ghost use Rattle.initiator.specs.Openings.{opening_by, AreUnits};
+ghost use Rattle.bus_due.specs.Defs.{host_of, opening};
 
 use crate::mine::OwnItem;
+use crate::openings::{Words, item_opening};
 use crate::wish::{Wish, is_entry};
 use bus_base::{Dev, Event, NoMemory, Ns};
 use bus_due::{hearings_are_plain, kept_is_plain, wants_are_items};
 use bus_lines::{BusView, RowEffect};
 use bus_trace::{Call, Change, Connection, Row, call_after, falls};
-use scenario::Scenario;
+use scenario::{HostDef, Scenario};
 use std::alloc::Global;
 use std::marker::Model;
 
@@ -129,6 +132,16 @@ impl Intent {
             → result ≡ aims_at_process s rows self.now.dev }
     {
         is_process(self.wish.aim())
+    }
+
+    /// What it says first in a connection that it begins for that; `negotiates` says whether the two may negotiate.
+    pub fn opening(&self, host: &HostDef, negotiates: bool) -> Words
+        ensures value { result.items ≡ opening_by (Some host.now) negotiates self.now.wish.book self.now.wish.aim }
+        ensures trace { (s : ScenarioValue) (rows : List Row) → AreOfDevices rows → self.now.dev < 8 → AreUnits s
+            → host_of s self.now.dev ≡ Some host.now → IsIntentOf s rows self.now
+            → result.items ≡ opening s self.now.dev negotiates (aim_of (run_state s rows).story.aims self.now.dev) }
+    {
+        item_opening(host, negotiates, self.wish.book(), self.wish.aim())
     }
 
     // What it wants after a row that did this.

@@ -1,9 +1,13 @@
 // What an initiator says first in a connection that it began (6.6.7, 6.6.17, 6.6.21).
-ghost use Rattle.std.specs.Prelude.{◌≡◌, ◌<◌, ◌≤◌, ◌+◌, ◌++◌, length, not, Some};
+ghost use Rattle.std.specs.Prelude.{◌≡◌, ◌<◌, ◌≤◌, ◌+◌, ◌++◌, length, not, false, Some};
 ghost use Rattle.msg_grammar.specs.Messages.{FitsOut, out_bytes};
 ghost use Rattle.disk_array.specs.Processes.{Process};
+ghost use Rattle.msg_grammar.specs.declared.MsgOut.TheVariants as to_target;
+ghost use Rattle.initiator.specs.Openings.{mine_opening, my_abort_opening, opening_by};
 ghost use Rattle.bus_dialogue.specs.Words.{offer_if, tag_bytes, abort_bytes, process_opening, abort_opening};
 
+use crate::book::Book;
+use crate::mine::{Mine, MyAbort, OwnItem};
 use arrayvec::ArrayVec;
 use bus_base::AbortKind;
 use bus_trace::Agreement;
@@ -58,7 +62,9 @@ fn add_offer(words: &mut Words, negotiates: bool, host: &HostDef)
 /// negotiate in this connection (6.6.7, 6.6.17, 6.6.21).
 pub fn process_opening(host: &HostDef, negotiates: bool, sense: bool, unit: u8, tag: Tag) -> Words
     requires { unit < 8 }
-    ensures { (p : Process) → p.id.sense ≡ sense → p.unit ≡ unit → p.tag ≡ tag
+    ensures exact { result.items ≡ out_bytes (to_target.Identify (not sense) unit)
+        ++ (tag_bytes tag ++ offer_if negotiates (Some host.now)) }
+    ensures process { (p : Process) → p.id.sense ≡ sense → p.unit ≡ unit → p.tag ≡ tag
         → result.items ≡ process_opening (Some host.now) negotiates (Some p) }
 {
     let mut words = Words::new();
@@ -89,20 +95,63 @@ fn add_abort(words: &mut Words, what: AbortKind)
     }
 }
 
-/// What is said for an abort: IDENTIFY without the privilege, the queue tag message of the process that ABORT TAG is
-/// for, and the message (6.6.1 to 6.6.4, 6.6.7).
-pub fn abort_opening(abort: &AbortDef) -> Words
-    requires { abort.now.unit < 8 }
-    ensures { result.items ≡ abort_opening (Some abort.now) }
+fn abort_words(unit: u8, what: AbortKind) -> Words
+    requires { unit < 8 }
+    ensures { result.items ≡ out_bytes (to_target.Identify false unit) ++ abort_bytes what }
 {
     let mut words = Words::new();
     add(
         &mut words,
         &MsgOut::Identify {
             disc: false,
-            lun: abort.unit,
+            lun: unit,
         },
     );
-    add_abort(&mut words, abort.what);
+    add_abort(&mut words, what);
     words
+}
+
+/// What is said for an abort: IDENTIFY without the privilege, the queue tag message of the process that ABORT TAG is
+/// for, and the message (6.6.1 to 6.6.4, 6.6.7).
+pub fn abort_opening(abort: &AbortDef) -> Words
+    requires { abort.now.unit < 8 }
+    ensures { result.items ≡ abort_opening (Some abort.now) }
+{
+    abort_words(abort.unit, abort.what)
+}
+
+// IDENTIFY has room for a unit of 0 to 7; an automatic REQUEST SENSE is untagged.
+fn mine_opening(host: &HostDef, negotiates: bool, sense: bool, mine: Option<Mine>) -> Words
+    ensures { result.items ≡ mine_opening (Some host.now) negotiates sense mine }
+{
+    match mine {
+        None => Words::new(),
+        Some(mine) => {
+            let tag = if sense { Tag::Untagged } else { mine.tag };
+            process_opening(host, negotiates, sense, mine.unit % 8, tag)
+        }
+    }
+}
+
+fn my_abort_opening(abort: Option<MyAbort>) -> Words
+    ensures { result.items ≡ my_abort_opening abort }
+{
+    match abort {
+        None => Words::new(),
+        Some(abort) => abort_words(abort.unit % 8, abort.what),
+    }
+}
+
+/// What is said first for an item of this book, if for one.
+pub fn item_opening(host: &HostDef, negotiates: bool, book: &Book, item: Option<OwnItem>) -> Words
+    ensures { result.items ≡ opening_by (Some host.now) negotiates book.now item }
+{
+    match item {
+        None => Words::new(),
+        Some(OwnItem::Command(number)) => {
+            mine_opening(host, negotiates, false, book.mine(number))
+        }
+        Some(OwnItem::Sense(number)) => mine_opening(host, negotiates, true, book.mine(number)),
+        Some(OwnItem::Abort(number)) => my_abort_opening(book.abort_line(number)),
+    }
 }
