@@ -1,12 +1,21 @@
 //! What the initiator of a connection has to say in MESSAGE OUT (ANSI X3.131-1994, 6.1.9, 6.2.1 and 6.6).
-ghost use Rattle.std.specs.Prelude.{◌≡◌, ◌≤◌, length, Some};
+ghost use Rattle.std.specs.Prelude.{◌≡◌, ◌≤◌, ◌∷◌, length, List, Some};
+ghost use Rattle.bus_trace.specs.declared.Row.{Row};
+ghost use Rattle.bus_trace.specs.Terms.{connection};
+ghost use Rattle.scenario.specs.Value.{ScenarioValue};
+ghost use Rattle.bus_dialogue.specs.Hearing.{hearing as hearing_in};
+ghost use Rattle.bus_due.specs.Defs.{host_of};
+ghost use Rattle.bus_due.specs.Plain.{AreOfDevices};
+ghost use Rattle.initiator.specs.Speeches.{speech_in, speech_by, IsSpeechOf, IsOpeningOf};
 ghost use Rattle.bus_dialogue.specs.Exchange.{no_speech, next_word, attends_with, speech_after_byte, speech_of, speech_after_request};
 ghost use Rattle.bus_dialogue.specs.Words.{agreement_answer, host_answer};
 ghost use Rattle.bus_dialogue.specs.Speaking.{words_after, speech_in_phase, speech_with_byte, speech_after};
 
+use crate::openings::Words;
 use arrayvec::ArrayVec;
 use bus_dialogue::Hearing;
-use bus_trace::{Agreement, changes_phase, is_message_in, is_message_out};
+use bus_due::{hearings_are_plain, kept_is_plain};
+use bus_trace::{Agreement, Connection, changes_phase, is_message_in, is_message_out};
 use msg_grammar::{MsgIn, MsgOut, encode_out};
 use scenario::HostDef;
 use std::marker::Model;
@@ -149,6 +158,52 @@ impl Speech {
             self.in_phase(host, hearing);
         } else if hearing.crosses {
             self.with_byte(hearing);
+        }
+    }
+
+    // In a connection of its own, after a row in which it began or went on.
+    fn see_own(
+        &mut self,
+        host: &HostDef,
+        opening: &Words,
+        hearing: &Hearing,
+        before: Option<Connection>,
+        connection: Connection,
+    )
+        ensures { self.new ≡ speech_in host.now opening.now.items hearing.now before connection self.old }
+    {
+        if before.is_some() {
+            self.hear(host, hearing);
+        } else if connection.reselected {
+            *self = Speech::new();
+        } else {
+            *self = Speech::new();
+            self.say(opening.as_slice());
+        }
+    }
+
+    /// A row was made: the connection before and after it, and what it told. `opening` is what the initiator says
+    /// first, where the row begins a connection of its own by a selection.
+    pub fn see(
+        &mut self,
+        host: &HostDef,
+        opening: &Words,
+        hearing: &Hearing,
+        before: Option<Connection>,
+        after: Option<Connection>,
+    )
+        ensures exact { self.new ≡ speech_by host.now opening.now.items hearing.now before after self.old }
+        ensures trace { (s : ScenarioValue) (rows : List Row) (row : Row) → AreOfDevices (row ∷ rows)
+            → host_of s host.now.dev ≡ Some host.now → hearing.now ≡ hearing_in rows row → before ≡ connection rows
+            → after ≡ connection (row ∷ rows) → IsOpeningOf s rows row host.now.dev opening.now.items
+            → IsSpeechOf s rows host.now.dev self.old → IsSpeechOf s (row ∷ rows) host.now.dev self.new }
+    {
+        kept_is_plain();
+        hearings_are_plain();
+        if let Some(connection) = after {
+            if connection.initiator.get() == host.dev {
+                self.see_own(host, opening, hearing, before, connection);
+            }
         }
     }
 }
