@@ -43,6 +43,8 @@ mod scenario_texts;
 #[cfg(test)]
 mod trace_texts;
 #[cfg(test)]
+mod units;
+#[cfg(test)]
 mod whole_program;
 #[cfg(test)]
 mod words;

@@ -4,8 +4,13 @@
 //! those that were written alone, so that a disk of 4,294,967,296 blocks takes memory for these only. What the
 //! blocks of a disk are is said by `disk_array` (`specs/Contents.antt`): a count, a size, and a look-up by number.
 //!
-//! Public contract: the trait `Blocks`, which both kinds meet: a read gives the block of the contents, a write changes
-//! that block alone, and only `new` and `reserve` take memory.
+//! [`Medium`] is what a unit stands over, and [`DiskMedium`] a disk of any blocks as one. A [`Unit`] keeps the queue,
+//! the hold, and for each initiator a sense and an attention.
+//!
+//! Public contract: the traits `Blocks` and `Medium`, which all kinds meet: a read gives the block of the contents, a
+//! write changes that block alone, and a disk answers as the plain disk array does (`disks_execute_as_the_array`);
+//! each call of a unit is exact on what it keeps (`specs/Books.antt`), and is the step of its seat of the plain disk
+//! array (`units_are_seats`). No call but `new` and `reserve` takes memory.
 #![tactic(auto)]
 
 mod blocks;
