@@ -20,7 +20,7 @@ use Rattle.bus_base.specs.Pieces.{ReadsPiece}
 use Rattle.bus_base.specs.declared.reading.Cut.{Cut}
 use Rattle.bus_base.specs.declared.reading.Cut.TheVariants.{TooLong, Fault}
 use Rattle.bus_cli.specs.declared.status.Status.{Status}
-use Rattle.bus_cli.specs.declared.status.Status.TheVariants.{Done, Words, Refused, Read, Write, Memory, Broken, BadTrace, NotBuilt}
+use Rattle.bus_cli.specs.declared.status.Status.TheVariants.{Done, Words, Refused, Read, Write, Memory, Broken, BadTrace, NotBuilt, BadDump}
 use Rattle.bus_base.proofs.ReadSoFar.{HasRead, told, read_more, beyond}
 use Rattle.bus_cli.proofs.TooLong.{map_some, first_of}
 
@@ -76,6 +76,7 @@ of_input Read None v w same says = says
 of_input Memory None v w same says = says
 of_input Refused None v w same says = says
 of_input NotBuilt None v w same says = says
+of_input BadDump None v w same says = says
 
 verdict_told : (input left : Option (List ℕ)) (v : Result Verdict ℕ) → HearsAll input left (Ok v) → IfSome input (λ xs. verdict_on xs ≡ v)
 verdict_told None left v h = tt
@@ -91,7 +92,7 @@ told_of_all status (Some xs) left v h tells = subst (λ (w : Result Verdict ℕ)
 
 -- ---- more bytes than the limit
 
-too_long : (bytes : List ℕ) → TRACE_LIMIT < length bytes → verdict_on bytes ≡ Err 0
+pub too_long : (bytes : List ℕ) → TRACE_LIMIT < length bytes → verdict_on bytes ≡ Err 0
 too_long bytes h =
     let e : trace_of bytes ≡ Err 0 = first_of _ _ _ (lt-ltb TRACE_LIMIT (length bytes) h) in
     λ i. verdict_of (e i)

@@ -2,3 +2,6 @@ pub mod TooLong
 pub mod Refusals
 pub mod Heard
 pub mod Judged
+pub mod Dumped
+pub mod Undumped
+mod LawfulDumps

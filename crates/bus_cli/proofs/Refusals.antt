@@ -15,7 +15,7 @@ use Rattle.bus_cli.proofs.TooLong.{map_some, first_of, IsLong, is_long}
 use Rattle.bus_cli.specs.Lines.{Writing, writing, SaysLine, refusal_line}
 use Rattle.bus_cli.specs.Running.{RunSays, RunTells, IsReport}
 use Rattle.bus_cli.specs.declared.status.Status.{Status}
-use Rattle.bus_cli.specs.declared.status.Status.TheVariants.{Done, Words, Refused, Read, Write, Memory, Broken, BadTrace, NotBuilt}
+use Rattle.bus_cli.specs.declared.status.Status.TheVariants.{Done, Words, Refused, Read, Write, Memory, Broken, BadTrace, NotBuilt, BadDump}
 
 -- ---- a text that is too long
 
@@ -62,6 +62,7 @@ of_input Done None bytes w same says = (says.0, report_of_any bytes says.0 says.
 of_input Write None bytes w same says = (says.0, report_of_any bytes says.0 says.1, says.2)
 of_input Broken None bytes w same says = elim says [ ]
 of_input BadTrace None bytes w same says = elim says [ ]
+of_input BadDump None bytes w same says = elim says [ ]
 of_input Refused None bytes w same says = (says.0, says.1, tt, says.3)
 of_input Words None bytes w same says = says
 of_input Read None bytes w same says = says

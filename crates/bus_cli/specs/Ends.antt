@@ -7,8 +7,10 @@ use Rattle.bus_base.specs.Whole.{TakesAtMost}
 use Rattle.bus_cli.specs.Words.{word_of, limit_of}
 use Rattle.bus_cli.specs.Running.{RunSays, RunTells, scenario_status}
 use Rattle.bus_cli.specs.Judging.{JudgeSays, JudgeTells, verdict_on, verdict_status}
+use Rattle.bus_cli.specs.Vcd.{VcdSays, VcdTells}
+use Rattle.bus_cli.specs.Unvcd.{UnvcdSays, UnvcdTells, dump_on, dump_status}
 use Rattle.bus_cli.specs.declared.status.Status.{Status}
-use Rattle.bus_cli.specs.declared.status.Status.TheVariants.{Done, Words, Refused, Read, Write, Memory, Broken, BadTrace, NotBuilt}
+use Rattle.bus_cli.specs.declared.status.Status.TheVariants.{Done, Words, Refused, Read, Write, Memory, Broken, BadTrace, NotBuilt, BadDump}
 use Rattle.bus_cli.specs.declared.words.Word.{Word}
 use Rattle.bus_cli.specs.declared.words.Word.TheVariants as words
 
@@ -23,6 +25,7 @@ code_of Memory = 5
 code_of Broken = 6
 code_of BadTrace = 7
 code_of NotBuilt = 9
+code_of BadDump = 10
 
 -- what the words of the program ask
 abbrev pub word_in : List (String Global) → Option Word
@@ -33,11 +36,15 @@ abbrev pub Says : Option Word → Status → Option (List ℕ) → Writing → T
 Says None status input w = SaysLine usage_line w
 Says (Some words.Run) status input w = RunSays status input w
 Says (Some words.Judge) status input w = JudgeSays status input w
+Says (Some words.Vcd) status input w = VcdSays status input w
+Says (Some words.Unvcd) status input w = UnvcdSays status input w
 
 -- what the status says of the input's bytes
 abbrev pub TellsForm : Word → Status → List ℕ → Type 0
 TellsForm words.Run status bytes = RunTells status bytes
 TellsForm words.Judge status bytes = JudgeTells status bytes
+TellsForm words.Vcd status bytes = VcdTells status bytes
+TellsForm words.Unvcd status bytes = UnvcdTells status bytes
 
 -- All bytes were read; or they are more than the limit, and one more than the limit was read.
 abbrev pub ReadsOut : ℕ → List ℕ → Option (List ℕ) → Type 0
@@ -52,6 +59,7 @@ Reads limit Broken bytes left = left ≡ Some []
 Reads limit NotBuilt bytes left = left ≡ Some []
 Reads limit Refused bytes left = ReadsOut limit bytes left
 Reads limit BadTrace bytes left = ReadsOut limit bytes left
+Reads limit BadDump bytes left = ReadsOut limit bytes left
 Reads limit Words bytes left = left ≡ Some bytes
 Reads limit Read bytes left = Unit {0}
 Reads limit Memory bytes left = Unit {0}
@@ -60,6 +68,8 @@ Reads limit Memory bytes left = Unit {0}
 abbrev pub status_of : Word → List ℕ → Status
 status_of words.Run bytes = scenario_status (scenario_of bytes)
 status_of words.Judge bytes = verdict_status (verdict_on bytes)
+status_of words.Vcd bytes = verdict_status (verdict_on bytes)
+status_of words.Unvcd bytes = dump_status (dump_on bytes)
 
 -- The status is the one that is asked for; or memory ran out, or in place of Done a write failed.
 abbrev pub IsMet : Status → Status → Type 0

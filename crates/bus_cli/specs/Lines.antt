@@ -3,7 +3,7 @@ use Rattle.std.specs.Prelude.{ℕ, ◌≡◌, ◌⊎◌, List, ◌++◌, take, O
 use Rattle.bus_base.specs.Faults.{HasRisen}
 
 abbrev pub usage_line : List ℕ
-usage_line = codes "usage: scsibus run [--short] | judge | make SEED N\n"
+usage_line = codes "usage: scsibus run [--short|--transcript] | judge | make SEED N | transcript | vcd | unvcd\n"
 
 abbrev pub fault_line : List ℕ
 fault_line = codes "read fault\n"
@@ -28,6 +28,10 @@ broken_line row rule = codes "broken " ++ (decimal row ++ (codes " " ++ (decimal
 -- the line that tells of the first line of a trace text that breaks its form
 abbrev pub trace_line : ℕ → List ℕ
 trace_line line = codes "trace line " ++ (decimal line ++ codes "\n")
+
+-- the line that tells of the first token of a value change dump that breaks its form
+abbrev pub dump_line : ℕ → List ℕ
+dump_line line = codes "vcd line " ++ (decimal line ++ codes "\n")
 
 -- What was written to a sink: the bytes that it held before and, where that is told, holds after, and its count of
 -- faults before and after.

@@ -8,7 +8,7 @@ use Rattle.bus_engine.specs.ScenarioRun.{IsRunOf}
 use Rattle.trace_text.specs.ReportText.{report_of}
 use Rattle.bus_cli.specs.Lines.{usage_line, fault_line, memory_line, form_line, refusal_line, Writing, Adds, AddsFront, SaysLine}
 use Rattle.bus_cli.specs.declared.status.Status.{Status}
-use Rattle.bus_cli.specs.declared.status.Status.TheVariants.{Done, Words, Refused, Read, Write, Memory, Broken, BadTrace, NotBuilt}
+use Rattle.bus_cli.specs.declared.status.Status.TheVariants.{Done, Words, Refused, Read, Write, Memory, Broken, BadTrace, NotBuilt, BadDump}
 
 -- these bytes are a text of this scenario, and it can be run so far
 abbrev pub Asks : List ℕ → ScenarioValue → Type 0
@@ -46,6 +46,7 @@ RunSays Memory input w = SaysLine memory_line w
 RunSays NotBuilt input w = SaysLine form_line w
 RunSays Broken input w = ⊥
 RunSays BadTrace input w = ⊥
+RunSays BadDump input w = ⊥
 
 -- what the status says of the input's bytes
 abbrev pub RunTells : Status → List ℕ → Type 0
@@ -58,6 +59,7 @@ RunTells Read bytes = Unit {0}
 RunTells Memory bytes = Unit {0}
 RunTells Broken bytes = ⊥
 RunTells BadTrace bytes = ⊥
+RunTells BadDump bytes = ⊥
 
 -- the status that a scenario asks for
 abbrev pub built_status : Bool → Status

@@ -1,6 +1,6 @@
 //! The lines that tell of a place in the input, with no memory.
 ghost use Rattle.std.specs.Prelude.{◌≡◌};
-ghost use Rattle.bus_cli.specs.Lines.{refusal_line, broken_line, trace_line};
+ghost use Rattle.bus_cli.specs.Lines.{refusal_line, broken_line, trace_line, dump_line};
 
 use arrayvec::ArrayString;
 use bus_rules::RuleNo;
@@ -39,6 +39,17 @@ pub fn trace_line(line: u32) -> ArrayString<48>
 {
     let mut text = ArrayString::new();
     text.push_str("trace line ");
+    text.push_str(Buffer::new().format(line));
+    text.push_str("\n");
+    text
+}
+
+/// The line that tells of the first token of a value change dump that breaks its form.
+pub fn dump_line(line: u32) -> ArrayString<48>
+    ensures { result.bytes ≡ dump_line line }
+{
+    let mut text = ArrayString::new();
+    text.push_str("vcd line ");
     text.push_str(Buffer::new().format(line));
     text.push_str("\n");
     text

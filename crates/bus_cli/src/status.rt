@@ -5,7 +5,7 @@ ghost use Rattle.bus_cli.specs.Ends.{code_of};
 /// How the program ended.
 #[derive(Clone, Copy, PartialEq, Eq, Debug)]
 pub enum Status {
-    /// The report was written, or the answer that the trace is lawful.
+    /// What was asked for was written: the report, the answer that the trace is lawful, the dump or the trace text.
     Done = 0,
     /// The words are none of the program's.
     Words = 1,
@@ -13,7 +13,7 @@ pub enum Status {
     Refused = 2,
     /// A read failed.
     Read = 3,
-    /// A write of the report failed, or of the answer that the trace is lawful.
+    /// A write of what was asked for failed.
     Write = 4,
     /// There was no memory left.
     Memory = 5,
@@ -23,6 +23,8 @@ pub enum Status {
     BadTrace = 7,
     /// The input is a scenario that cannot be run so far.
     NotBuilt = 9,
+    /// The input is no value change dump: the line tells the line of the first token that breaks its form.
+    BadDump = 10,
 }
 
 impl Status {
@@ -40,6 +42,7 @@ impl Status {
             Status::Broken => 6,
             Status::BadTrace => 7,
             Status::NotBuilt => 9,
+            Status::BadDump => 10,
         }
     }
 }

@@ -5,10 +5,12 @@ ghost use Rattle.bus_cli.specs.declared.words.Word.TheVariants as words_of;
 ghost use Rattle.bus_cli.specs.Lines.{IfTold};
 ghost use Rattle.bus_cli.specs.Ends.{Says, word_in, ReadsFar, TakesWithin, TellsInput, MeetsInput};
 
+use crate::dumping::vcd;
 use crate::judging::judge;
 use crate::running::run;
 use crate::saying::say;
 use crate::status::Status;
+use crate::undumping::unvcd;
 use crate::words::{Word, word_of};
 use bus_base::{Sink, Source, Steps};
 use std::alloc::Global;
@@ -16,16 +18,17 @@ use std::sync::ledger::Ledger;
 
 /// The whole program, but for its runtime.
 ///
-/// `words` are the arguments after the program's name: exactly one word, `run` or `judge`. With `run` it
-/// reads all of `input`, at most 4,194,304 bytes, runs the scenario that it says, and writes the report of
-/// the run to `out`. With `judge` it reads all of `input`, at most 1,073,741,824 bytes, judges the trace
-/// that it says, and writes the verdict in one line. A refusal writes its one line to `out` instead. Where
-/// a line cannot be written the status stays; but a report and the answer `lawful` that cannot be written
-/// end with `Write`. No step is counted in `steps` yet.
+/// `words` are the arguments after the program's name: exactly one word. With `run` it reads all of `input`, at
+/// most 4,194,304 bytes, runs the scenario that it says, and writes the report of the run to `out`. With
+/// `judge` it reads all of `input`, at most 1,073,741,824 bytes, judges the trace that it says, and writes the
+/// verdict in one line. With `vcd` it judges as with `judge`, and writes the value change dump of a trace that is
+/// lawful. With `unvcd` it reads a value change dump of as many bytes, and writes the text of its trace. A refusal
+/// writes its one line to `out` instead. Where a line cannot be written the status stays; but what was asked for
+/// ends with `Write` where it cannot be written, and so does the answer `lawful`. No step is counted in `steps` yet.
 ///
-/// The words are looked at first, then the input is read, then it is read as a scenario or a trace, then
+/// The words are looked at first, then the input is read, then it is read as a scenario, a trace or a dump, then
 /// it is asked whether the scenario can be run so far, or the trace is judged; the first refusal is the
-/// answer. Want of memory can come at any time after the word `run`; `judge` takes none.
+/// answer. Want of memory can come at any time after the words; `judge` takes none.
 pub fn bus_main<S: Source, K: Sink, L: Ledger>(
     alloc: Global,
     words: &[String],
@@ -52,8 +55,13 @@ pub fn bus_main<S: Source, K: Sink, L: Ledger>(
     match word_of(words) {
         Some(Word::Run) => run(alloc, input, out),
         Some(Word::Judge) => judge(input, out),
+        Some(Word::Vcd) => vcd(alloc, input, out),
+        Some(Word::Unvcd) => unvcd(alloc, input, out),
         None => {
-            say(out, b"usage: scsibus run [--short] | judge | make SEED N\n");
+            say(
+                out,
+                b"usage: scsibus run [--short|--transcript] | judge | make SEED N | transcript | vcd | unvcd\n",
+            );
             Status::Words
         }
     }

@@ -9,6 +9,10 @@ pub enum Word {
     Run,
     /// `judge`: judge the trace of the input.
     Judge,
+    /// `vcd`: write the value change dump of the trace of the input.
+    Vcd,
+    /// `unvcd`: write the trace of the value change dump of the input.
+    Unvcd,
 }
 
 /// What the words ask, or `None` where they are none of the program's.
@@ -18,6 +22,8 @@ pub fn word_of(words: &[String]) -> Option<Word>
     match words {
         [word] if word.as_str() == "run" => Some(Word::Run),
         [word] if word.as_str() == "judge" => Some(Word::Judge),
+        [word] if word.as_str() == "vcd" => Some(Word::Vcd),
+        [word] if word.as_str() == "unvcd" => Some(Word::Unvcd),
         _ => None,
     }
 }

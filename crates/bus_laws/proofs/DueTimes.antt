@@ -1,6 +1,6 @@
 -- What is due comes within the longest delay of the rows and of the times of the scenario; and so do the rows of a prompt trace.
-use Rattle.std.proofs.Common.{ℕ, ◌≡◌, ◌<◌, ◌≤◌, ◌+◌, ◌*◌, ◌^◌, Bool, true, false, not, ◌&&◌, ◌||◌, List, [], ◌∷◌, Option, Some, None, refl, sym, ap, subst, arith, length}
-use Rattle.std.specs.Prelude.{if◌then◌else◌, ◌==◌, nat_lt, is_some}
+use Rattle.std.proofs.Common.{ℕ, ◌≡◌, ◌<◌, ◌≤◌, ◌+◌, ◌*◌, ◌^◌, Bool, true, false, List, [], ◌∷◌, Option, Some, None, refl, sym, ap, subst, arith, length}
+use Rattle.std.specs.Prelude.{if◌then◌else◌, ◌==◌, nat_lt}
 use Rattle.std.specs.List.{find, AllByRecursion}
 use Rattle.bus_trace.specs.View.{AreTimesBefore}
 use Rattle.bus_trace.specs.declared.Row.{Row}
@@ -11,80 +11,37 @@ use Rattle.bus_trace.specs.Agreements.{fast_times, slow_times, times_or_slow, ti
 use Rattle.bus_phases.specs.declared.dialogue.Dialogue.{Dialogue}
 use Rattle.bus_lines.specs.declared.stage.Stage.{Stage}
 use Rattle.bus_lines.specs.Handshakes.{Handshakes}
-use Rattle.bus_lines.specs.Timely.{IsStageBefore, AreHandshakesBefore}
+use Rattle.bus_lines.specs.Timely.{IsBefore, IsStageBefore, AreHandshakesBefore}
 use Rattle.scenario.specs.declared.value.HostDef.{HostDef}
 use Rattle.scenario.specs.declared.value.TargetDef.{TargetDef}
-use Rattle.scenario.specs.declared.value.CmdDef.{CmdDef}
-use Rattle.scenario.specs.declared.value.AbortDef.{AbortDef}
-use Rattle.scenario.specs.declared.value.ResetDef.{ResetDef}
 use Rattle.scenario.specs.Value.{ScenarioValue}
 use Rattle.scenario.specs.Writing.{Obeys}
 use Rattle.disk_array.specs.Units.{Array, RunningProcess, is_held, unit_state_at}
-use Rattle.bus_story.specs.Items.{Sent, is_done, abort}
 use Rattle.bus_story.specs.TraceHistory.{is_host}
 use Rattle.bus_story.specs.Samples.{latency_of}
 use Rattle.bus_reactions.specs.declared.due.Myself.{Myself}
-use Rattle.bus_reactions.specs.Reactions.{sooner_time, time_if}
 use Rattle.bus_reactions.specs.Linking.{sample_time}
-use Rattle.bus_dialogue.specs.Wants.{OwnCommand, Ready, open_in, may_follow, abort_since, command_since, ready_in, first_ready, is_ready_before}
+use Rattle.bus_dialogue.specs.Wants.{Ready, ready_in, first_ready, is_ready_before}
 use Rattle.bus_dialogue.specs.Ends.{lag_by, seek_by}
 use Rattle.bus_due.specs.Own.{Own, own_at}
 use Rattle.bus_due.specs.RunState.{RunState, bus_of, array_of, agreement_of}
 use Rattle.bus_due.specs.RunSteps.{run_state}
-use Rattle.bus_due.specs.Wants.{own_command, own_commands, own_abort, own_aborts, book_of, item_want_time, current_of, since_of, seek_of, ready_at, ready_among, ready_of, ready_time, want_time}
+use Rattle.bus_due.specs.Wants.{item_want_time, current_of, since_of, seek_of, ready_at, ready_among, ready_of, ready_time, want_time}
 use Rattle.bus_due.specs.Sights.{sight_of, stage_of, want_of, flip_of, pace_of, offering_of, answering_of}
 use Rattle.bus_due.specs.Defs.{target_def_of}
 use Rattle.bus_due.specs.Connected.{is_receiver, end_due, connected_due}
-use Rattle.bus_due.specs.Due.{is_reset_past, reset_from, self_of, link_due_of, stage_due, calm_due, device_due, due_if}
+use Rattle.bus_due.specs.Due.{reset_from, self_of, link_due_of, stage_due, calm_due, device_due, due_if}
 use Rattle.bus_due.specs.Next.{due, IsPrompt}
 use Rattle.bus_due.specs.Plain.{AreOfDevices}
 use Rattle.bus_due.proofs.Plains.{run_state_plain}
-use Rattle.bus_laws.proofs.ReactionTimes.{IsDueBefore, none_before, if_before, IsWantBefore, IsShortPace, AreAllBefore, longest, target_before, initiator_before, link_before, sample_before, reset_before}
+use Rattle.scsi_device.specs.Lines.{IsHostLine, IsTargetLine, FitsBus}
+use Rattle.scsi_device.proofs.FitLines.{obeys_fits}
+use Rattle.scsi_device.proofs.WantTimes.{wants_before, next_reset_before}
+use Rattle.bus_laws.proofs.ReactionTimes.{IsDueBefore, none_before, if_before, IsShortPace, AreAllBefore, longest, target_before, initiator_before, link_before, sample_before, reset_before}
 use Rattle.bus_laws.proofs.RowTimes.{ComeBefore, ages_before, handshakes_before, last_before, stage_before, IsOwnBefore, own_before, current_before, since_before, AreNumbersBefore}
 use Rattle.bus_laws.proofs.Periods.{period_is_byte}
-use Rattle.bus_laws.proofs.Limits.{IsHost, IsTarget, AreWithin, obeys_within, latency_within}
+use Rattle.bus_laws.proofs.Limits.{latency_within}
 use Rattle.bus_laws.proofs.Prompt.{least_is}
-
--- ---- wants
-
-sooner_before : (limit : ℕ) (a b : Option ℕ) → IsWantBefore limit a → IsWantBefore limit b → IsWantBefore limit (sooner_time a b)
-sooner_before limit None b f g = g
-sooner_before limit (Some a) None f g = f
-sooner_before limit (Some a) (Some b) f g = omega arith
-
-time_before : (limit : ℕ) (q : Bool) (at : ℕ) → at < limit → IsWantBefore limit (time_if q at)
-time_before limit true at h = h
-time_before limit false at h = tt
-
-aborts_before : (limit : ℕ) (b : Sent) (dev n : ℕ) (aborts : List AbortDef) → 1000000000000 < limit → AllByRecursion (λ (a : AbortDef). a.at ≤ 1000000000000) aborts → IsWantBefore limit (abort_since (own_aborts b dev n aborts))
-aborts_before limit b dev n [] l h = tt
-aborts_before limit b dev n (a ∷ aborts) l h = go (a.host == dev) (aborts_before limit b dev (n + 1) aborts l h.1)
-  where
-    go : (q : Bool) → IsWantBefore limit (abort_since (own_aborts b dev (n + 1) aborts)) → IsWantBefore limit (abort_since (if q then own_abort b n a ∷ own_aborts b dev (n + 1) aborts else own_aborts b dev (n + 1) aborts))
-    go true more = let t = h.0 in sooner_before limit (time_if (not (is_done b (abort n))) a.at) (abort_since (own_aborts b dev (n + 1) aborts)) (time_before limit (not (is_done b (abort n))) a.at (omega arith)) more
-    go false more = more
-
-commands_before : (limit : ℕ) (b : Sent) (dev n most : ℕ) (now : List CmdDef) (commands : List CmdDef) → 1000000000000 < limit → AllByRecursion (λ (c : CmdDef). c.at ≤ 1000000000000) commands → IsWantBefore limit (command_since most now (own_commands b dev n commands))
-commands_before limit b dev n most now [] l h = tt
-commands_before limit b dev n most now (c ∷ commands) l h = go (c.host == dev) (commands_before limit b dev (n + 1) most now commands l h.1)
-  where
-    o : OwnCommand
-    o = own_command b n c
-
-    first : (q : Bool) → IsWantBefore limit (command_since most now (own_commands b dev (n + 1) commands)) → IsWantBefore limit (if q then time_if (may_follow most c.at now c) c.at else command_since most now (own_commands b dev (n + 1) commands))
-    first true more = let t = h.0 in time_before limit (may_follow most c.at now c) c.at (omega arith)
-    first false more = more
-
-    go : (q : Bool) → IsWantBefore limit (command_since most now (own_commands b dev (n + 1) commands)) → IsWantBefore limit (command_since most now (if q then own_command b n c ∷ own_commands b dev (n + 1) commands else own_commands b dev (n + 1) commands))
-    go true more = first (not ((own_command b n c).sent || (own_command b n c).over)) more
-    go false more = more
-
-item_before : (limit : ℕ) (s : ScenarioValue) (b : Sent) (dev : ℕ) → 1000000000000 < limit → AreWithin s → IsWantBefore limit (item_want_time s b dev)
-item_before limit s b dev l w =
-    let k = book_of s b dev in
-    sooner_before limit (abort_since k.aborts) (sooner_time (time_if (is_some k.sense) 0) (command_since k.most (open_in k.commands) k.commands))
-    (aborts_before limit b dev 1 s.aborts l w.aborts)
-    (sooner_before limit (time_if (is_some k.sense) 0) (command_since k.most (open_in k.commands) k.commands) (time_before limit (is_some k.sense) 0 (omega arith)) (commands_before limit b dev 1 k.most (open_in k.commands) s.commands l w.commands))
 
 -- ---- ready units
 
@@ -92,12 +49,12 @@ abbrev IsReadyBefore : ℕ → Option Ready → Type 0
 IsReadyBefore limit None = Unit {0}
 IsReadyBefore limit (Some r) = r.time < limit
 
-seek_within : (targets : List TargetDef) (dev : ℕ) → AllByRecursion IsTarget targets → seek_of targets dev ≤ 1000000000
-seek_within [] dev h = omega arith
-seek_within (t ∷ targets) dev h = go (t.dev == dev) (seek_within targets dev h.1)
+seek_within : (s : ScenarioValue) (targets : List TargetDef) (dev : ℕ) → AllByRecursion (IsTargetLine s) targets → seek_of targets dev ≤ 1000000000
+seek_within s [] dev h = omega arith
+seek_within s (t ∷ targets) dev h = go (t.dev == dev) (seek_within s targets dev h.1)
   where
     go : (q : Bool) → seek_of targets dev ≤ 1000000000 → (if q then t.seek else seek_of targets dev) ≤ 1000000000
-    go true more = h.0.1
+    go true more = (h.0).seek
     go false more = more
 
 in_before : (limit : ℕ) (held : Bool) (r : Option RunningProcess) (time : ℕ) → time < limit → IsReadyBefore limit (ready_in held r time)
@@ -132,33 +89,23 @@ among_before end a times seek t some h k =
     (first_before L (ready_at a times seek t 6) _ (at_ 6)
     (first_before L (ready_at a times seek t 7) _ (at_ 7) tt)))))))
 
-ready_want : (limit : ℕ) (r : Option Ready) → IsReadyBefore limit r → IsWantBefore limit (ready_time r)
+ready_want : (limit : ℕ) (r : Option Ready) → IsReadyBefore limit r → IsBefore limit (ready_time r)
 ready_want limit None h = tt
 ready_want limit (Some r) h = h
 
-want_more : (a b : ℕ) (o : Option ℕ) → a ≤ b → IsWantBefore a o → IsWantBefore b o
+want_more : (a b : ℕ) (o : Option ℕ) → a ≤ b → IsBefore a o → IsBefore b o
 want_more a b None l h = tt
 want_more a b (Some w) l h = omega arith
 
-want_before : (end : ℕ) (s : ScenarioValue) (rows : List Row) (dev : ℕ) → 1000000000000 < end → AreWithin s → ComeBefore end rows → IsWantBefore (end + 1000000000) (want_time s (run_state s rows) dev)
+want_before : (end : ℕ) (s : ScenarioValue) (rows : List Row) (dev : ℕ) → 1000000000000 < end → FitsBus s → ComeBefore end rows → IsBefore (end + 1000000000) (want_time s (run_state s rows) dev)
 want_before end s rows dev l w h = go (is_host s.hosts dev)
   where
     k : RunState
     k = run_state s rows
 
-    go : (q : Bool) → IsWantBefore (end + 1000000000) (if q then item_want_time s (run_state s rows).story.sent dev else ready_time (ready_of s (run_state s rows) dev))
-    go true = item_before (end + 1000000000) s (run_state s rows).story.sent dev (omega arith) w
-    go false = ready_want (end + 1000000000) (ready_of s (run_state s rows) dev) (among_before end (array_of s (run_state s rows)) (run_state s rows).current_since (seek_of s.targets dev) dev (omega arith) (current_before end (omega arith) s rows h) (seek_within s.targets dev w.targets))
-
--- ---- resets
-
-resets_before : (end dev : ℕ) (released : Option ℕ) (resets : List ResetDef) → 1000000000000 < end → AllByRecursion (λ (r : ResetDef). r.at ≤ 1000000000000) resets → IsWantBefore end (reset_from dev released resets)
-resets_before end dev released [] l h = tt
-resets_before end dev released (r ∷ resets) l h =
-    let t = h.0 in
-    sooner_before end (time_if (r.dev == dev && not (is_reset_past released r.at)) r.at) (reset_from dev released resets)
-    (time_before end (r.dev == dev && not (is_reset_past released r.at)) r.at (omega arith))
-    (resets_before end dev released resets l h.1)
+    go : (q : Bool) → IsBefore (end + 1000000000) (if q then item_want_time s (run_state s rows).story.sent dev else ready_time (ready_of s (run_state s rows) dev))
+    go true = wants_before (end + 1000000000) s (run_state s rows).story.sent dev (omega arith) w
+    go false = ready_want (end + 1000000000) (ready_of s (run_state s rows) dev) (among_before end (array_of s (run_state s rows)) (run_state s rows).current_since (seek_of s.targets dev) dev (omega arith) (current_before end (omega arith) s rows h) (seek_within s s.targets dev w.targets))
 
 -- ---- how bytes cross, and how long a target waits
 
@@ -180,39 +127,39 @@ times_short factor h = go (nat_lt factor 25) (nat_lt factor 50)
     go false true = record { period = omega arith; assertion = omega arith; negation = omega arith; set_up = omega arith; hold = omega arith }
     go false false = slow_short factor h
 
-lag_within : (hosts : List HostDef) (dev : ℕ) → AllByRecursion IsHost hosts → lag_by (find (λ (h : HostDef). h.dev == dev) hosts) ≤ 10000
-lag_within [] dev a = omega arith
-lag_within (h ∷ hosts) dev a = go (h.dev == dev) (lag_within hosts dev a.1)
+lag_within : (s : ScenarioValue) (hosts : List HostDef) (dev : ℕ) → AllByRecursion (IsHostLine s) hosts → lag_by (find (λ (h : HostDef). h.dev == dev) hosts) ≤ 10000
+lag_within s [] dev a = omega arith
+lag_within s (h ∷ hosts) dev a = go (h.dev == dev) (lag_within s hosts dev a.1)
   where
     go : (q : Bool) → lag_by (find (λ (g : HostDef). g.dev == dev) hosts) ≤ 10000 → lag_by (if q then Some h else find (λ (g : HostDef). g.dev == dev) hosts) ≤ 10000
-    go true more = a.0.1
+    go true more = (a.0).lag
     go false more = more
 
-wait_within : (targets : List TargetDef) (dev : ℕ) → AllByRecursion IsTarget targets → seek_by (find (λ (t : TargetDef). t.dev == dev) targets) ≤ 1000000000
-wait_within [] dev a = omega arith
-wait_within (t ∷ targets) dev a = go (t.dev == dev) (wait_within targets dev a.1)
+wait_within : (s : ScenarioValue) (targets : List TargetDef) (dev : ℕ) → AllByRecursion (IsTargetLine s) targets → seek_by (find (λ (t : TargetDef). t.dev == dev) targets) ≤ 1000000000
+wait_within s [] dev a = omega arith
+wait_within s (t ∷ targets) dev a = go (t.dev == dev) (wait_within s targets dev a.1)
   where
     go : (q : Bool) → seek_by (find (λ (g : TargetDef). g.dev == dev) targets) ≤ 1000000000 → seek_by (if q then Some t else find (λ (g : TargetDef). g.dev == dev) targets) ≤ 1000000000
-    go true more = a.0.1
+    go true more = (a.0).seek
     go false more = more
 
-pace_short : (s : ScenarioValue) (rows : List Row) (dev : ℕ) → AreWithin s → AreOfDevices rows → IsShortPace (pace_of s (run_state s rows) dev)
+pace_short : (s : ScenarioValue) (rows : List Row) (dev : ℕ) → FitsBus s → AreOfDevices rows → IsShortPace (pace_of s (run_state s rows) dev)
 pace_short s rows dev w h =
     let d = (run_state_plain s rows h).dialogue in
     let p : (agreement_of (run_state s rows)).period < 256 = let z = ap (λ (x : Dialogue). x.heard.now.agreement.period) d in let y = period_is_byte rows in omega arith in
     let t = times_short (agreement_of (run_state s rows)).period p in
-    record { period = t.period; assertion = t.assertion; negation = t.negation; set_up = t.set_up; hold = t.hold; lag = lag_within s.hosts dev w.hosts }
+    record { period = t.period; assertion = t.assertion; negation = t.negation; set_up = t.set_up; hold = t.hold; lag = lag_within s s.hosts dev w.hosts }
 
-wait_short : (s : ScenarioValue) (rows : List Row) (dev : ℕ) → AreWithin s → (offering_of s (run_state s rows) dev).wait ≤ 1000000000
+wait_short : (s : ScenarioValue) (rows : List Row) (dev : ℕ) → FitsBus s → (offering_of s (run_state s rows) dev).wait ≤ 1000000000
 wait_short s rows dev w = go _
   where
     go : (q : Bool) → (if q then seek_by (target_def_of s dev) else 0) ≤ 1000000000
-    go true = wait_within s.targets dev w.targets
+    go true = wait_within s s.targets dev w.targets
     go false = omega arith
 
 -- ---- what is due
 
-pub due_before : (end : ℕ) (s : ScenarioValue) (rows : List Row) (dev : ℕ) → 1000000000000 < end → AreWithin s → AreOfDevices rows → dev < 8 → ComeBefore end rows → IsDueBefore (end + longest) (due s rows dev)
+pub due_before : (end : ℕ) (s : ScenarioValue) (rows : List Row) (dev : ℕ) → 1000000000000 < end → FitsBus s → AreOfDevices rows → dev < 8 → ComeBefore end rows → IsDueBefore (end + longest) (due s rows dev)
 due_before end s rows dev l w h lt c = by (latency_of s dev) refl
   where
     some : 0 < end
@@ -241,7 +188,7 @@ due_before end s rows dev l w h lt c = by (latency_of s dev) refl
         (if_before (end + longest) (n.target == dev) _ _
         (target_before end (run_state s rows).exchange.begun (sight_of (run_state s rows)) (run_state s rows).handshakes me (pace_of s (run_state s rows) dev) (offering_of s (run_state s rows) dev) some all (pace_short s rows dev w h) (wait_short s rows dev w))
         (none_before (end + longest)))) in
-        reset_before end me (own_at (run_state s rows).owns dev).rst (reset_from dev (own_at (run_state s rows).owns dev).released s.resets) (calm_due s (run_state s rows) me) o.rst q (resets_before end dev (own_at (run_state s rows).owns dev).released s.resets l w.resets) (calm me link ends (bus_of (run_state s rows)).rst (run_state s rows).story.bus_state.connection)
+        reset_before end me (own_at (run_state s rows).owns dev).rst (reset_from dev (own_at (run_state s rows).owns dev).released s.resets) (calm_due s (run_state s rows) me) o.rst q (next_reset_before end s dev (own_at (run_state s rows).owns dev).released l w) (calm me link ends (bus_of (run_state s rows)).rst (run_state s rows).story.bus_state.connection)
       where
         calm : (me : Myself) → IsDueBefore (end + longest) (link_due_of s (run_state s rows) me) → ((n : Connection) → IsDueBefore (end + longest) (connected_due s (run_state s rows) me n)) → (r : Bool) (n : Option Connection) → IsDueBefore (end + longest) (stage_due s (run_state s rows) me r n)
         calm me a f true n = a
@@ -262,7 +209,7 @@ record IsBounded (rows : List Row) : Type 0 where
   devices : AreOfDevices rows
   times : ComeBefore (1000000000001 + length rows * 1000100000) rows
 
-bounded : (s : ScenarioValue) → AreWithin s → (rows : List Row) → IsPrompt s rows → IsBounded rows
+bounded : (s : ScenarioValue) → FitsBus s → (rows : List Row) → IsPrompt s rows → IsBounded rows
 bounded s w [] p = record { devices = tt; times = tt }
 bounded s w (row ∷ rows) p =
     let was = bounded s w rows p.0 in
@@ -274,7 +221,7 @@ bounded s w (row ∷ rows) p =
     }
 
 pub times_bounded : (s : ScenarioValue) → Obeys s → (rows : List Row) → IsPrompt s rows → ComeBefore (1000000000001 + length rows * 1000100000) rows
-times_bounded s o rows p = (bounded s (obeys_within s o) rows p).times
+times_bounded s o rows p = (bounded s (obeys_fits s o) rows p).times
 
 pub times_far : (s : ScenarioValue) → Obeys s → (rows : List Row) → IsPrompt s rows → length rows ≤ 2 ^ 32 → ComeBefore (2 ^ 62) rows
 times_far s o rows p l = later (1000000000001 + length rows * 1000100000) (2 ^ 62) rows (omega arith) (times_bounded s o rows p)

@@ -180,24 +180,20 @@ initiator_before end begun v b me p g some a q raised =
 
 -- ---- on the way to a connection, and under RST
 
-abbrev pub IsWantBefore : ℕ → Option ℕ → Type 0
-IsWantBefore limit None = Unit {0}
-IsWantBefore limit (Some w) = w < limit
-
 entry_before : (end : ℕ) (me : Myself) (free w : ℕ) → free < end → w < end + 1000000000 → me.latency ≤ 100 → IsDueBefore (end + longest) (entry me free w)
 entry_before end me free w f g l = at_before (end + longest) _ _ (omega arith)
 
-free_before : (end : ℕ) (me : Myself) (free : ℕ) (w : Option ℕ) → free < end → IsWantBefore (end + 1000000000) w → me.latency ≤ 100 → IsDueBefore (end + longest) (free_due me free w)
+free_before : (end : ℕ) (me : Myself) (free : ℕ) (w : Option ℕ) → free < end → IsBefore (end + 1000000000) w → me.latency ≤ 100 → IsDueBefore (end + longest) (free_due me free w)
 free_before end me free None f g l = none_before (end + longest)
 free_before end me free (Some w) f g l = entry_before end me free w f g l
 
-arbitration_before : (end : ℕ) (bus : LineSet) (me : Myself) (a : Arbitration) (w : Option ℕ) → a.free < end → me.since < end → IsWantBefore (end + 1000000000) w → me.latency ≤ 100 → IsDueBefore (end + longest) (arbitration_due bus me a w)
+arbitration_before : (end : ℕ) (bus : LineSet) (me : Myself) (a : Arbitration) (w : Option ℕ) → a.free < end → me.since < end → IsBefore (end + 1000000000) w → me.latency ≤ 100 → IsDueBefore (end + longest) (arbitration_due bus me a w)
 arbitration_before end bus me a w f s g l =
     if_before (end + longest) me.own.bsy _ _
     (where_before (end + longest) (not (has_id_above bus me.dev)) _ (at_before (end + longest) _ _ (omega arith)))
     (later w g)
   where
-    later : (w : Option ℕ) → IsWantBefore (end + 1000000000) w → IsDueBefore (end + longest) (later_entry_if me a w)
+    later : (w : Option ℕ) → IsBefore (end + 1000000000) w → IsDueBefore (end + longest) (later_entry_if me a w)
     later None g = none_before (end + longest)
     later (Some w) g = where_before (end + longest) (nat_le (max (a.free + 1200) w + me.latency) (a.first + 1800)) _ (entry_before end me a.free w f g l)
 
@@ -243,7 +239,7 @@ answer_before end sel me w c k answered s i l a =
     (none_before (end + longest))
     (loser_before end sel me s l))
 
-pub link_before : (end : ℕ) (bus : LineSet) (bsy sel : ℕ) (me : Myself) (w : Want) (flip : Option ℕ) (g : Stage) → bsy < end → sel < end → me.since < end → me.latency ≤ 100 → IsWantBefore (end + 1000000000) w.since → IsStageBefore end g → IsDueBefore (end + longest) (link_due_by bus bsy sel me w flip g)
+pub link_before : (end : ℕ) (bus : LineSet) (bsy sel : ℕ) (me : Myself) (w : Want) (flip : Option ℕ) (g : Stage) → bsy < end → sel < end → me.since < end → me.latency ≤ 100 → IsBefore (end + 1000000000) w.since → IsStageBefore end g → IsDueBefore (end + longest) (link_due_by bus bsy sel me w flip g)
 link_before end bus bsy sel me w flip (OnFreeBus free) b s i l n z = free_before end me free w.since z n l
 link_before end bus bsy sel me w flip (InArbitration a) b s i l n z = arbitration_before end bus me a w.since z.0 i n l
 link_before end bus bsy sel me w flip (InCalling c) b s i l n z = calling_before end bsy sel me w flip c b s i l z.1
@@ -258,11 +254,11 @@ sample_before end true last None o l f = f
 sample_before end true last (Some bit) o l f = fault_before (end + longest) last bit (omega arith)
 sample_before end false last flip o l f = f
 
-pub reset_before : (end : ℕ) (me : Myself) (raised : ℕ) (reset : Option ℕ) (o : Option Due) → raised < end → me.latency ≤ 100 → IsWantBefore end reset → IsDueBefore (end + longest) o → IsDueBefore (end + longest) (with_reset me raised reset o)
+pub reset_before : (end : ℕ) (me : Myself) (raised : ℕ) (reset : Option ℕ) (o : Option Due) → raised < end → me.latency ≤ 100 → IsBefore end reset → IsDueBefore (end + longest) o → IsDueBefore (end + longest) (with_reset me raised reset o)
 reset_before end me raised reset o r l n f =
     if_before (end + longest) me.own.rst _ _ (at_before (end + longest) _ _ (omega arith)) (earlier (rst_assertion reset) o (asserted reset n) f)
   where
-    asserted : (t : Option ℕ) → IsWantBefore end t → IsDueBefore (end + longest) (rst_assertion t)
+    asserted : (t : Option ℕ) → IsBefore end t → IsDueBefore (end + longest) (rst_assertion t)
     asserted None z = none_before (end + longest)
     asserted (Some t) z = at_before (end + longest) _ _ (omega arith)
 

@@ -6,8 +6,9 @@ use crate::driven_rows::drive;
 use bus_base::{Event, ProcId};
 use bus_lines::BusView;
 use bus_trace::Row;
-use initiator::{Intent, Itself, OwnItem, Speech, process_opening};
+use initiator::{Intent, OwnItem, Speech, process_opening};
 use scenario::{HostDef, Tag, read};
+use scsi_device::Itself;
 use std::test::Fail;
 
 // Two untagged commands at one unit, an abort and a reset.

@@ -17,6 +17,8 @@ mod disks;
 #[cfg(test)]
 mod driven_rows;
 #[cfg(test)]
+mod dumps;
+#[cfg(test)]
 mod hands;
 #[cfg(test)]
 mod host_pointers;

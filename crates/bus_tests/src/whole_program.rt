@@ -28,6 +28,22 @@ const ROOM: usize = 8192;
 /// A scenario that cannot be run so far.
 const NOTHING: &'static str = "scsi 1\n# nothing happens\n\nend\n";
 
+/// A trace, its dump, and a dump of one line with a clock beside the device.
+const SHORT_TRACE: &'static str = "trace 1\n1200 7 00280\n3600 7 00680\nend 3600\n";
+
+const SHORT_DUMP: &'static str =
+    "$timescale 1 ns $end\n$scope module scsi $end\n$var wire 18 a d0 $end\n\
+    $var wire 18 b d1 $end\n$var wire 18 c d2 $end\n$var wire 18 d d3 $end\n$var wire 18 e d4 $end\n\
+    $var wire 18 f d5 $end\n$var wire 18 g d6 $end\n$var wire 18 h d7 $end\n\
+    $upscope $end\n$enddefinitions $end\n#0\n$dumpvars\n\
+    b000000000000000000 a\nb000000000000000000 b\nb000000000000000000 c\nb000000000000000000 d\nb000000000000000000 e\n\
+    b000000000000000000 f\nb000000000000000000 g\nb000000000000000000 h\n$end\n#1200\nb000000001010000000 h\n\
+    #3600\nb000000011010000000 h\n";
+
+const ONE_LINE: &'static str =
+    "$timescale 1ns $end $var reg 18 ! d7 [17:0] $end $var wire 1 % clk $end \
+    $enddefinitions $end #0 0% b0 ! #1200 1% b1010000000 !";
+
 /// The number of a call that is never reached.
 const NEVER: u64 = u64::MAX;
 
@@ -67,7 +83,8 @@ fn ended(
 
 #[test]
 fn ends_with_each_status(rt: HostRuntime) -> Result<(), NoMemory> {
-    let usage = "usage: scsibus run [--short] | judge | make SEED N\n";
+    let usage =
+        "usage: scsibus run [--short|--transcript] | judge | make SEED N | transcript | vcd | unvcd\n";
     let run: &'static [&'static str] = &["run"];
     let judge: &'static [&'static str] = &["judge"];
     let cases: [Case; 29] = [
@@ -182,6 +199,61 @@ fn ends_with_each_status(rt: HostRuntime) -> Result<(), NoMemory> {
 }
 
 #[test]
+fn ends_with_each_status_of_dumps(rt: HostRuntime) -> Result<(), NoMemory> {
+    let vcd: &'static [&'static str] = &["vcd"];
+    let unvcd: &'static [&'static str] = &["unvcd"];
+    let cases: [Case; 11] = [
+        (vcd, SHORT_TRACE, NEVER, NEVER, Status::Done, SHORT_DUMP),
+        (vcd, SHORT_TRACE, NEVER, 1, Status::Write, ""),
+        (vcd, SHORT_TRACE, 2, NEVER, Status::Read, "read fault\n"),
+        (
+            vcd,
+            "trace 1\n1200 6 00240\n3001 7 00280\nend 3001\n",
+            NEVER,
+            NEVER,
+            Status::Broken,
+            "broken 2 4\n",
+        ),
+        (
+            vcd,
+            "trace 1\n12 8 00000\nend 12\n",
+            NEVER,
+            NEVER,
+            Status::BadTrace,
+            "trace line 2\n",
+        ),
+        (unvcd, SHORT_DUMP, NEVER, NEVER, Status::Done, SHORT_TRACE),
+        (unvcd, SHORT_DUMP, NEVER, 1, Status::Write, ""),
+        (unvcd, SHORT_DUMP, 3, NEVER, Status::Read, "read fault\n"),
+        (
+            unvcd,
+            ONE_LINE,
+            NEVER,
+            NEVER,
+            Status::Done,
+            "trace 1\n1200 7 00280\nend 1200\n",
+        ),
+        (
+            unvcd,
+            "walk\n",
+            NEVER,
+            NEVER,
+            Status::BadDump,
+            "vcd line 1\n",
+        ),
+        (unvcd, "\n\nwalk\n", NEVER, 1, Status::BadDump, ""),
+    ];
+    for (words, input, bad_read, bad_write, status, text) in cases {
+        let mut out = MemSink::new(rt.alloc(), ROOM, ROOM, &[bad_write])?;
+        let mut input = MemSource::new(rt.alloc(), input.as_bytes(), 64, &[bad_read])?;
+        let ended = ended(rt.alloc(), words, &mut input, &mut out)?;
+        assert_eq!(rt; ended, status, "{words:?}");
+        assert_eq!(rt; out.bytes(), text.as_bytes(), "{words:?}");
+    }
+    Ok(())
+}
+
+#[test]
 fn has_exit_statuses(rt: HostRuntime) {
     let codes = [
         (Status::Done, 0),
@@ -193,6 +265,7 @@ fn has_exit_statuses(rt: HostRuntime) {
         (Status::Broken, 6),
         (Status::BadTrace, 7),
         (Status::NotBuilt, 9),
+        (Status::BadDump, 10),
     ];
     for (status, code) in codes {
         assert_eq!(rt; status.code(), code);

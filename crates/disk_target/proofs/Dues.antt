@@ -1,10 +1,8 @@
 -- What is due of a target is what it does next by what it knows.
-use Rattle.std.proofs.Common.{ℕ, ◌≡◌, ◌==◌, ◌∙◌, Bool, true, false, List, [], ◌∷◌, refl, sym, Option, Some, None}
+use Rattle.std.proofs.Common.{ℕ, ◌≡◌, ◌==◌, ◌∙◌, Bool, true, false, List, refl, sym, Option, Some, None}
 use Rattle.std.specs.Prelude.{if◌then◌else◌, not}
 use Rattle.bus_trace.specs.declared.Row.{Row}
-use Rattle.bus_trace.specs.declared.changes.Change.{Change}
 use Rattle.bus_trace.specs.declared.connection.Connection.{Connection}
-use Rattle.bus_trace.specs.Changes.{rises}
 use Rattle.bus_trace.specs.Trace.{bus, last_time}
 use Rattle.bus_trace.specs.Terms.{connection, receiver}
 use Rattle.bus_lines.specs.Handshakes.{handshakes}
@@ -23,33 +21,40 @@ use Rattle.bus_reactions.specs.Linking.{link_due, sample_time}
 use Rattle.bus_reactions.specs.Reset.{with_reset}
 use Rattle.bus_reactions.specs.Ends as hand
 use Rattle.bus_dialogue.specs.Ends.{pace_by, offering_by}
-use Rattle.bus_due.specs.Connected.{is_receiving, is_receiver, initiator_end_due, target_end_due, connected_due}
+use Rattle.bus_due.specs.Connected.{is_receiving, connected_due}
 use Rattle.bus_due.specs.Defs.{host_of}
 use Rattle.bus_due.specs.RunState.{RunState}
 use Rattle.bus_due.specs.RunSteps.{run_state}
-use Rattle.bus_due.specs.Sights.{flip_of, identify_byte, want_of}
+use Rattle.bus_due.specs.Sights.{flip_of, identify_byte, want_of, serving_of}
 use Rattle.bus_due.specs.Wants.{ready_time, initiator_if, ready_of, target_of, item_want_time}
 use Rattle.bus_due.specs.Due.{self_of, due_if, stage_due, link_due_of, reset_from}
 use Rattle.bus_due.specs.Next.{due}
 use Rattle.bus_due.specs.Plain.{IsPlain, AreOfDevices}
 use Rattle.bus_due.specs.PlainDue.{IsThere, IsLinked, under_reset, target_reaction}
-use Rattle.disk_target.specs.States.{told, TargetState, ready_unit, IsOwnConnection, IsTargetOf, IsTargetLine, IsNoInitiator, first_fault, flip_by}
+use Rattle.bus_reactions.specs.declared.ends.Pace.{Pace}
+use Rattle.scsi_device.specs.Told.{told, pace_of, first_fault, flip_by}
+use Rattle.disk_target.specs.States.{offering_in, TargetState, ready_unit, IsOwnConnection, IsTargetOf, IsTargetLine, IsNoInitiator}
+use Rattle.disk_target.proofs.Alike.{dues_alike}
 use Rattle.disk_target.specs.Dues.{myself_by, want_of_ready, link_by, hand_by, calm_by, target_next}
+
+-- ---- what holds of any device: the fault that strikes, and that a connection of others is none of its
+
+abbrev pub AreFlips : Type 0
+AreFlips = (faults : List FaultDef) (f : Option FaultDef) (time : ℕ) → f ≡ first_fault faults → flip_of faults time ≡ flip_by f time
+
+abbrev pub AreOthers : Type 0
+AreOthers = (s : ScenarioValue) (k : RunState) (me : Myself) (n : Connection) → (n.initiator == me.dev) ≡ false → (n.target == me.dev) ≡ false → connected_due s k me n ≡ None
 
 -- ---- the scenario
 
 latency_is : (s : ScenarioValue) (d : TargetDef) → IsTargetLine s d → latency_of s d.dev ≡ Some d.latency
 latency_is s d g = λ j. target_latency (g.target_is j) (host_latency (host_of s d.dev))
 
-flips_are : (faults : List FaultDef) (f : Option FaultDef) (time : ℕ) → f ≡ first_fault faults → flip_of faults time ≡ flip_by f time
-flips_are [] f time e = λ j. flip_by (sym e j) time
-flips_are (g ∷ faults) f time e = λ j. flip_by (sym e j) time
-
 -- ---- what it is itself, and wants
 
 myself_is : (s : ScenarioValue) (rows : List Row) (d : TargetDef) (i : TargetState) → IsTargetLine s d → IsPlain s rows (run_state s rows) → IsTargetOf s rows d i → self_of (run_state s rows) d.dev d.latency ≡ myself_by d (told rows d.dev) i
 myself_is s rows d i g p r =
-    λ j. record { dev = d.dev; latency = d.latency; own = p.drives d.dev g.below j; since = ((λ k. (p.own d.dev g.below k).row) ∙ sym r.row_is) j }
+    λ j. record { dev = d.dev; latency = d.latency; own = p.drives d.dev g.below j; since = ((p.own d.dev g.below ∙ sym r.own_is) j).row }
 
 -- A target wants what its first ready unit asks for.
 abbrev want_by : Option wants.Ready → Want
@@ -73,49 +78,34 @@ want_is s rows d i g r =
 
 -- ---- on its way to a connection
 
-links_are : (s : ScenarioValue) (rows : List Row) (d : TargetDef) (i : TargetState) (f : Option FaultDef) → IsTargetLine s d → IsPlain s rows (run_state s rows) → IsTargetOf s rows d i → f ≡ first_fault (run_state s rows).faults → link_due_of s (run_state s rows) (myself_by d (told rows d.dev) i) ≡ link_by d (told rows d.dev) f i
-links_are s rows d i f g p r e =
+links_are : AreFlips → (s : ScenarioValue) (rows : List Row) (d : TargetDef) (i : TargetState) (f : Option FaultDef) → IsTargetLine s d → IsPlain s rows (run_state s rows) → IsTargetOf s rows d i → f ≡ first_fault (run_state s rows).faults → link_due_of s (run_state s rows) (myself_by d (told rows d.dev) i) ≡ link_by d (told rows d.dev) f i
+links_are flips_are s rows d i f g p r e =
     let k : RunState = run_state s rows in
     let me : Myself = myself_by d (told rows d.dev) i in
     λ j. link_due (p.sight j) me (want_is s rows d i g r j) (flips_are k.faults f (sample_time (p.sight j) me) e j)
 
--- ---- in a connection of others
-
-no_receiver : (n : Connection) (c : Change) (dev : ℕ) → (n.initiator == dev) ≡ false → (n.target == dev) ≡ false → is_receiver n (Some c) dev ≡ false
-no_receiver n c dev x y = go c.before.io (rises c.before.req c.after.req) (rises c.before.ack c.after.ack)
-  where
-    go : (io req ack : Bool) → is_receiving (if io then (if req then Some n.initiator else None) else (if ack then Some n.target else None)) dev ≡ false
-    go true true ack = x
-    go true false ack = refl
-    go false req true = y
-    go false req false = refl
-
-other_receiver : (n : Connection) (c : Option Change) (dev : ℕ) → (n.initiator == dev) ≡ false → (n.target == dev) ≡ false → is_receiver n c dev ≡ false
-other_receiver n None dev x y = refl
-other_receiver n (Some c) dev x y = no_receiver n c dev x y
-
-others_are : (s : ScenarioValue) (k : RunState) (me : Myself) (n : Connection) → (n.initiator == me.dev) ≡ false → (n.target == me.dev) ≡ false → connected_due s k me n ≡ None
-others_are s k me n x y =
-    λ j. hand.sample_due (other_receiver n k.story.bus_state.crossed me.dev x y j) k.last (flip_of k.faults k.last)
-    (if x j then initiator_end_due s k me else if y j then target_end_due s k me else None)
-
 -- ---- in a connection of its own
 
-hands_are : (s : ScenarioValue) (rows : List Row) (d : TargetDef) (i : TargetState) (f : Option FaultDef) (n : Connection) → IsTargetLine s d → IsPlain s rows (run_state s rows) → IsTargetOf s rows d i → f ≡ first_fault (run_state s rows).faults → IsOwnConnection rows d.dev n → target_reaction s rows d.dev d.latency ≡ hand_by d (told rows d.dev) f i
-hands_are s rows d i f n g p r e o =
+hands_are : AreFlips → (s : ScenarioValue) (rows : List Row) (d : TargetDef) (i : TargetState) (f : Option FaultDef) (n : Connection) → IsTargetLine s d → IsPlain s rows (run_state s rows) → IsTargetOf s rows d i → f ≡ first_fault (run_state s rows).faults → IsOwnConnection rows d.dev n → target_reaction s rows d.dev d.latency ≡ hand_by d (told rows d.dev) f i
+hands_are flips_are s rows d i f n g p r e o =
     let k : RunState = run_state s rows in
     let last : ℕ = last_time rows in
-    λ j. hand.sample_due (is_receiving (receiver rows) d.dev) last (flips_are k.faults f last e j)
+    let me : Myself = myself_by d (told rows d.dev) i in
+    let pace : Pace = pace_of (told rows d.dev) None in
+    (λ j. hand.sample_due (is_receiving (receiver rows) d.dev) last (flips_are k.faults f last e j)
     (hand.target_due (begun rows) (sight rows) (handshakes rows) (myself_is s rows d i g p r j)
     (pace_by (p.begun j) (p.bus j) (p.dialogue j).heard.now.agreement (g.no_host j))
-    (offering_by (sym (r.serving_is n o) j) (p.begun j) (pace_by (p.begun j) (p.bus j) (p.dialogue j).heard.now.agreement (g.no_host j)).pulsed (p.bus j) (p.handshakes j)))
+    (offering_by (serving_of s k d.dev) (p.begun j) (pace_by (p.begun j) (p.bus j) (p.dialogue j).heard.now.agreement (g.no_host j)).pulsed (p.bus j) (p.handshakes j))))
+    ∙ (λ j. hand.sample_due (is_receiving (receiver rows) d.dev) last (flip_by f last)
+    (sym (dues_alike (begun rows) (sight rows) (handshakes rows) me pace (offering_in rows i.serving) (offering_in rows (serving_of s k d.dev)) (r.serving_is n o)) j))
 
 -- ---- whatever stands
 
 pub dues_are : ((s : ScenarioValue) (rows : List Row) (dev latency : ℕ) (n : Connection) → IsThere s rows dev latency → IsLinked rows n → (n.initiator == dev) ≡ false → (n.target == dev) ≡ true → due s rows dev ≡ under_reset s rows dev latency (target_reaction s rows dev latency))
+    → AreFlips → AreOthers
     → (s : ScenarioValue) (rows : List Row) (d : TargetDef) (i : TargetState) (f : Option FaultDef) → IsTargetLine s d → AreOfDevices rows → IsPlain s rows (run_state s rows) → IsNoInitiator rows d.dev → IsTargetOf s rows d i → f ≡ first_fault (run_state s rows).faults
     → due s rows d.dev ≡ target_next d (told rows d.dev) f i
-dues_are law s rows d i f g q p t r e = go (bus rows).rst refl (connection rows) refl
+dues_are law flips_are others_are s rows d i f g q p t r e = go (bus rows).rst refl (connection rows) refl
   where
     k : RunState
     k = run_state s rows
@@ -130,32 +120,32 @@ dues_are law s rows d i f g q p t r e = go (bus rows).rst refl (connection rows)
     there = record { rows_are = q; below = g.below; latency_is = latency_is s d g }
 
     reset_by : Option Due → Option Due
-    reset_by calm = with_reset me i.rst i.reset calm
+    reset_by calm = with_reset me i.own.rst i.reset calm
 
     -- by the stage
-    staged : due s rows d.dev ≡ with_reset me i.rst i.reset (stage_due s k me (bus rows).rst (connection rows))
+    staged : due s rows d.dev ≡ with_reset me i.own.rst i.reset (stage_due s k me (bus rows).rst (connection rows))
     staged =
         (λ j. due_if s k d.dev (latency_is s d g j))
-        ∙ (λ j. with_reset (mine j) (((λ l. (p.own d.dev g.below l).rst) ∙ sym r.rst_is) j) (reset_from d.dev (p.own d.dev g.below j).released s.resets) (stage_due s k (mine j) (p.bus j).rst (p.connection j)))
-        ∙ (λ j. with_reset me i.rst (sym r.reset_is j) (stage_due s k me (bus rows).rst (connection rows)))
+        ∙ (λ j. with_reset (mine j) ((p.own d.dev g.below ∙ sym r.own_is) j).rst (reset_from d.dev (p.own d.dev g.below j).released s.resets) (stage_due s k (mine j) (p.bus j).rst (p.connection j)))
+        ∙ (λ j. with_reset me i.own.rst (sym r.reset_is j) (stage_due s k me (bus rows).rst (connection rows)))
 
     go : (x : Bool) → (bus rows).rst ≡ x → (y : Option Connection) → connection rows ≡ y → due s rows d.dev ≡ target_next d (told rows d.dev) f i
     go true rst y c =
         staged
         ∙ (λ j. reset_by (stage_due s k me (rst j) (connection rows)))
-        ∙ (λ j. reset_by (links_are s rows d i f g p r e j))
+        ∙ (λ j. reset_by (links_are flips_are s rows d i f g p r e j))
         ∙ (λ j. reset_by (calm_by d (told rows d.dev) f i (sym rst j) (connection rows)))
     go false rst None c =
         staged
         ∙ (λ j. reset_by (stage_due s k me (rst j) (c j)))
-        ∙ (λ j. reset_by (links_are s rows d i f g p r e j))
+        ∙ (λ j. reset_by (links_are flips_are s rows d i f g p r e j))
         ∙ (λ j. reset_by (calm_by d (told rows d.dev) f i (sym rst j) (sym c j)))
     go false rst (Some n) c = linked (n.target == d.dev) refl
       where
         linked : (z : Bool) → (n.target == d.dev) ≡ z → due s rows d.dev ≡ target_next d (told rows d.dev) f i
         linked true z =
             law s rows d.dev d.latency n there (record { calm = rst; stands = c }) (t.not_calling n c) z
-            ∙ (λ j. with_reset (mine j) (sym r.rst_is j) (sym r.reset_is j) (hands_are s rows d i f n g p r e (record { stands = c; own = z }) j))
+            ∙ (λ j. with_reset (mine j) (sym r.own_is j).rst (sym r.reset_is j) (hands_are flips_are s rows d i f n g p r e (record { stands = c; own = z }) j))
             ∙ (λ j. reset_by (if sym z j then hand_by d (told rows d.dev) f i else None))
             ∙ (λ j. reset_by (calm_by d (told rows d.dev) f i (sym rst j) (sym c j)))
         linked false z =

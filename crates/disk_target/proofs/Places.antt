@@ -1,6 +1,5 @@
 -- Places in bytes that stay at a last one.
-use Rattle.std.proofs.Common.{ℕ, ◌≡◌, ◌∙◌, ◌+◌, ◌*◌, ◌<◌, ◌≤◌, ◌⊎◌, inl, inr, zero, suc, min, List, length, refl, sym, Option, Some, None}
-use Rattle.std.specs.Prelude.{slice_index_or}
+use Rattle.std.proofs.Common.{ℕ, ◌≡◌, ◌∙◌, ◌+◌, ◌*◌, ◌<◌, ◌≤◌, ◌⊎◌, inl, inr, zero, suc, min, refl, sym, Option, Some, None}
 use Rattle.std.proofs.Math.Nat.{min-eq_left, min-eq_right, mul-zero, mul_comm, le-mul_of_pos_right}
 use Rattle.std.proofs.lemmas.Bool.{cases_lt}
 use native.Mathlib.Omega.{arith}
@@ -8,7 +7,6 @@ use Rattle.scenario.specs.declared.value.Policy.{Policy}
 use Rattle.scenario.specs.declared.value.Policy.TheVariants as policies
 use Rattle.bus_dialogue.specs.declared.exchange.Task.{Task}
 use Rattle.bus_dialogue.specs.DataRuns.{run_at, run_in}
-use Rattle.std.proofs.lemmas.List.{get_or_past}
 
 both_past : (x y m : ℕ) → m ≤ x → m ≤ y → min x m ≡ min y m
 both_past x y m p q = min-eq_right p ∙ sym (min-eq_right q)
@@ -59,20 +57,6 @@ held_first a b m p = sym (held_second (min a m) b m (below a m) p) ∙ held_prod
   where
     below : (a m : ℕ) → min a m < suc m
     below a m = omega arith
-
--- Past the end of a list stands 0.
-pub held_place : (xs : List ℕ) (i m : ℕ) → length xs ≤ m → slice_index_or xs (min i m) 0 ≡ slice_index_or xs i 0
-held_place xs i m p = go (cases_lt m i)
-  where
-    longer : (m i : ℕ) → m < i → length xs ≤ m → length xs ≤ i
-    longer m i x p = omega arith
-
-    go : (m < i) ⊎ (i ≤ m) → slice_index_or xs (min i m) 0 ≡ slice_index_or xs i 0
-    go (inr x) = λ j. slice_index_or xs (min-eq_left x j) 0
-    go (inl x) =
-        (λ j. slice_index_or xs (min-eq_right (weaker m i x) j) 0)
-        ∙ get_or_past xs m 0 p
-        ∙ sym (get_or_past xs i 0 (longer m i x p))
 
 -- The first place of a run, where the number of the run is held at the last place.
 pub start_held : (policy : Policy) (t : Task) (n m : ℕ) → 0 < m → min (run_at policy t (min n m)).start m ≡ min (run_at policy t n).start m

@@ -9,21 +9,21 @@ use Rattle.bus_reactions.specs.declared.due.Due.{Due}
 use Rattle.bus_reactions.specs.declared.due.Myself.{Myself}
 use Rattle.bus_reactions.specs.declared.due.Want.{Want}
 use Rattle.bus_reactions.specs.declared.ends.Offering.{Offering}
-use Rattle.bus_reactions.specs.declared.ends.Pace.{Pace}
 use Rattle.bus_reactions.specs.Linking.{link_due, sample_time}
 use Rattle.bus_reactions.specs.Ends as hand
 use Rattle.bus_reactions.specs.Reset.{with_reset}
 use Rattle.bus_dialogue.specs.declared.exchange.Leaving.{Leaving}
 use Rattle.bus_dialogue.specs.NextPhase.{leaving_by}
-use Rattle.bus_dialogue.specs.Ends.{pace_by, offering_by}
+use Rattle.bus_dialogue.specs.Ends.{offering_by}
 use Rattle.bus_due.specs.Connected.{is_receiving}
 use Rattle.disk_target.specs.declared.ready.Ready.{Ready}
 use Rattle.disk_target.specs.declared.ready.Knowledge.{Knowledge}
 use Rattle.disk_target.specs.Servings.{serving_with, AreBytesOf}
-use Rattle.disk_target.specs.States.{Told, told, TargetState, state_of, flip_by}
+use Rattle.scsi_device.specs.Told.{Told, told, pace_of, flip_by}
+use Rattle.disk_target.specs.States.{TargetState, state_of}
 
 abbrev pub myself_by : TargetDef → Told → TargetState → Myself
-myself_by d t i = record { dev = d.dev; latency = d.latency; own = t.lines; since = i.row }
+myself_by d t i = record { dev = d.dev; latency = d.latency; own = t.lines; since = i.own.row }
 
 -- A target reselects, for the unit that is ready first, and never selects; the first byte that it sends then is IDENTIFY.
 abbrev pub want_of_ready : Option Ready → Want
@@ -36,18 +36,15 @@ link_by d t f i =
     link_due t.sight (myself_by d t i) (want_of_ready i.ready) (flip_by f (sample_time t.sight (myself_by d t i)))
 
 -- In a connection of its own (6.1.5, 6.2.1); in one of others it does nothing. A target has no lag.
-abbrev pub pace_of_target : Told → Pace
-pace_of_target t = pace_by t.begun t.sight.bus t.agreement None
-
 abbrev pub leaving_of_target : Told → TargetState → Leaving
 leaving_of_target t i = leaving_by i.serving t.begun t.sight.bus
 
 abbrev pub offering_of_target : Told → TargetState → Offering
-offering_of_target t i = offering_by i.serving t.begun (pace_of_target t).pulsed t.sight.bus t.handshakes
+offering_of_target t i = offering_by i.serving t.begun (pace_of t None).pulsed t.sight.bus t.handshakes
 
 abbrev pub plain_by : TargetDef → Told → TargetState → Option Due
 plain_by d t i =
-    hand.target_due t.begun t.sight t.handshakes (myself_by d t i) (pace_of_target t) (offering_of_target t i)
+    hand.target_due t.begun t.sight t.handshakes (myself_by d t i) (pace_of t None) (offering_of_target t i)
 
 -- It samples a byte that crossed to it in the last row first.
 abbrev pub hand_by : TargetDef → Told → Option FaultDef → TargetState → Option Due
@@ -64,7 +61,7 @@ calm_by d t f i false (Some n) = connected_by d t f i n
 
 -- A reset of its own goes before all that (6.2.2).
 abbrev pub target_next : TargetDef → Told → Option FaultDef → TargetState → Option Due
-target_next d t f i = with_reset (myself_by d t i) i.rst i.reset (calm_by d t f i t.sight.bus.rst t.connection)
+target_next d t f i = with_reset (myself_by d t i) i.own.rst i.reset (calm_by d t f i t.sight.bus.rst t.connection)
 
 -- ---- the bytes that its process gives, which it has of these after these rows
 

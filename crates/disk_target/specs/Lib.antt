@@ -1,6 +1,10 @@
 pub mod Servings
 pub mod Fits
+pub mod Alike
 pub mod States
 pub mod Dues
 pub mod Plans
 pub mod Shown
+pub mod Seated
+pub mod Units
+pub mod Fillings

@@ -1,23 +1,21 @@
--- What a target knows beside what the lines show, and what all devices are told.
-use Rattle.std.specs.Prelude.{ℕ, ◌≡◌, ◌<◌, ◌≤◌, ◌^◌, ◌==◌, Bool, true, false, List, [], ◌∷◌, Option, Some, None, nat_le, if◌then◌else◌}
-use Rattle.bus_trace.specs.LineSet.{LineSet}
-use Rattle.bus_trace.specs.Trace.{drives, last_time}
-use Rattle.bus_trace.specs.Terms.{connection, receiver}
+-- What a target knows beside what all devices are told.
+use Rattle.std.specs.Prelude.{ℕ, ◌≡◌, ◌<◌, ◌≤◌, ◌^◌, ◌==◌, true, false, List, Option, Some, None}
+use Rattle.bus_trace.specs.Terms.{connection}
 use Rattle.bus_trace.specs.declared.Row.{Row}
-use Rattle.bus_trace.specs.declared.agreements.Agreement.{Agreement}
 use Rattle.bus_trace.specs.declared.connection.Connection.{Connection}
-use Rattle.bus_lines.specs.Handshakes.{Handshakes, handshakes}
-use Rattle.bus_phases.specs.Dialogue.{dialogue}
-use Rattle.scenario.specs.declared.value.FaultDef.{FaultDef}
 use Rattle.scenario.specs.declared.value.TargetDef.{TargetDef}
 use Rattle.scenario.specs.Value.{ScenarioValue}
 use Rattle.bus_story.specs.TraceHistory.{is_host}
-use Rattle.bus_reactions.specs.declared.sight.Sight.{Sight}
-use Rattle.bus_reactions.specs.Sight.{sight}
-use Rattle.bus_dialogue.specs.NextPhase as next_phase
+use Rattle.bus_trace.specs.Trace.{bus}
+use Rattle.bus_lines.specs.Handshakes.{handshakes}
+use Rattle.bus_reactions.specs.declared.ends.Offering.{Offering}
+use Rattle.bus_dialogue.specs.Ends.{offering_by}
 use Rattle.bus_dialogue.specs.Hearing.{begun}
+use Rattle.scsi_device.specs.Told.{told, pace_of}
+use Rattle.disk_target.specs.Alike.{AreAlike}
+use Rattle.bus_dialogue.specs.NextPhase as next_phase
 use Rattle.bus_dialogue.specs.Wants as wants
-use Rattle.bus_due.specs.Own.{own_of}
+use Rattle.bus_due.specs.Own.{Own, own_of}
 use Rattle.bus_due.specs.Defs.{host_of, target_def_of}
 use Rattle.bus_due.specs.Wants.{ready_of}
 use Rattle.bus_due.specs.Sights.{serving_of}
@@ -28,38 +26,11 @@ use Rattle.disk_target.specs.declared.ready.Knowledge.{Knowledge}
 use Rattle.disk_target.specs.Fits.{AreFit}
 use Rattle.disk_target.specs.Servings.{serving_with}
 
--- ---- what any device is told after some rows, and what this one drives
-
-pub record Told : Type 0 where
-  pub sight : Sight
-  pub handshakes : Handshakes
-  pub last : ℕ
-  pub receiver : Option ℕ
-  pub connection : Option Connection
-  -- of the connection: whether a phase has begun in it, and its agreement
-  pub begun : Bool
-  pub agreement : Agreement
-  pub lines : LineSet
-
-abbrev pub told : List Row → ℕ → Told
-told rows dev = record {
-  sight = sight rows;
-  handshakes = handshakes rows;
-  last = last_time rows;
-  receiver = receiver rows;
-  connection = connection rows;
-  begun = begun rows;
-  agreement = (dialogue rows).heard.now.agreement;
-  lines = drives rows dev;
-}
-
 -- ---- what it knows itself
 
 pub record TargetState : Type 0 where
-  -- when it made its last row of lines, and when it last raised RST
-  pub row : ℕ
-  pub rst : ℕ
-  -- its next reset
+  -- when it made rows, raised and released RST; and its next reset
+  pub own : Own
   pub reset : Option ℕ
   -- the unit that is ready first
   pub ready : Option Ready
@@ -67,7 +38,7 @@ pub record TargetState : Type 0 where
   pub serving : next_phase.Serving
 
 abbrev pub state_of : Knowledge → List ℕ → TargetState
-state_of k given = record { row = k.row; rst = k.rst; reset = k.reset; ready = k.ready; serving = serving_with k.serving given }
+state_of k given = record { own = k.itself.now.own; reset = k.itself.now.reset; ready = k.ready; serving = serving_with k.serving given }
 
 -- Of a ready process it needs its time, its initiator and its unit.
 abbrev pub ready_unit : Option wants.Ready → Option Ready
@@ -79,13 +50,18 @@ pub record IsOwnConnection (rows : List Row) (dev : ℕ) (n : Connection) : Type
   pub stands : connection rows ≡ Some n
   pub own : (n.target == dev) ≡ true
 
--- This is what the target of this line of the scenario knows after these rows.
+-- What it has to do in the phase by what it decides by, and what the rows have it do.
+abbrev pub offering_in : List Row → next_phase.Serving → Offering
+offering_in rows v =
+    offering_by v (begun rows) (pace_of (told rows 0) None).pulsed (bus rows) (handshakes rows)
+
+-- This is what the target of this line of the scenario knows after these rows. In a connection of its own it may know less
+-- than the rows tell of the process, as long as nothing that it does next tells between them.
 pub record IsTargetOf (s : ScenarioValue) (rows : List Row) (t : TargetDef) (i : TargetState) : Type 0 where
-  pub row_is : i.row ≡ (own_of rows t.dev).row
-  pub rst_is : i.rst ≡ (own_of rows t.dev).rst
+  pub own_is : i.own ≡ own_of rows t.dev
   pub reset_is : i.reset ≡ reset_from t.dev (own_of rows t.dev).released s.resets
   pub ready_is : i.ready ≡ ready_unit (ready_of s (run_state s rows) t.dev)
-  pub serving_is : (n : Connection) → IsOwnConnection rows t.dev n → i.serving ≡ serving_of s (run_state s rows) t.dev
+  pub serving_is : (n : Connection) → IsOwnConnection rows t.dev n → AreAlike (begun rows) (bus rows).io (handshakes rows).requests (offering_in rows i.serving) (offering_in rows (serving_of s (run_state s rows) t.dev))
 
 -- ---- what the scenario says of it
 
@@ -100,16 +76,6 @@ pub record IsTargetLine (s : ScenarioValue) (t : TargetDef) : Type 0 where
 pub record IsNoInitiator (rows : List Row) (dev : ℕ) : Type 0 where
   pub not_calling : (n : Connection) → connection rows ≡ Some n → (n.initiator == dev) ≡ false
 
--- ---- faults: the first that has not struck yet
-
-abbrev pub first_fault : List FaultDef → Option FaultDef
-first_fault [] = None
-first_fault (f ∷ faults) = Some f
-
-abbrev pub flip_by : Option FaultDef → ℕ → Option ℕ
-flip_by None time = None
-flip_by (Some f) time = if nat_le f.at time then Some f.bit else None
-
 -- ---- bounds: a device of the bus, with a latency of at most 100 ns, at times below 2 ^ 63, and logical units below 8
 
 abbrev pub IsReadyWithin : Option Ready → Type 0
@@ -119,7 +85,5 @@ IsReadyWithin (Some r) = (r.time < 2 ^ 63) × (r.unit < 8)
 pub record IsWithin (k : Knowledge) : Type 0 where
   pub below : k.serving.def.dev < 8
   pub latency : k.serving.def.latency ≤ 100
-  pub row : k.row < 2 ^ 63
-  pub rst : k.rst < 2 ^ 63
   pub ready : IsReadyWithin k.ready
   pub fits : AreFit k.serving.plan.messages

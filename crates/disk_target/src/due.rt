@@ -1,5 +1,5 @@
 // What a target does next, and when.
-ghost use Rattle.std.specs.Prelude.{ℕ, ◌≡◌, ◌<◌, ◌≤◌, ◌^◌, List};
+ghost use Rattle.std.specs.Prelude.{ℕ, ◌≡◌, ◌<◌, ◌≤◌, ◌^◌, List, None};
 ghost use Rattle.bus_trace.specs.declared.Row.{Row};
 ghost use Rattle.bus_trace.specs.Trace.{bus, drives};
 ghost use Rattle.bus_trace.specs.Terms.{connection};
@@ -7,46 +7,36 @@ ghost use Rattle.bus_lines.specs.BusView.{IsBusViewOf};
 ghost use Rattle.bus_lines.specs.Timely.{IsTimely};
 ghost use Rattle.connect.specs.Ready as link;
 ghost use Rattle.handshake.specs.Bounds.{IsReady};
-ghost use Rattle.bus_reactions.specs.Ends.{sample_due};
 ghost use Rattle.scenario.specs.Value.{ScenarioValue};
 ghost use Rattle.bus_dialogue.specs.Observer.{IsObserverOf};
 ghost use Rattle.bus_due.specs.Next.{due};
 ghost use Rattle.bus_due.specs.Plain.{AreOfDevices};
 ghost use Rattle.bus_due.specs.RunSteps.{run_state};
-ghost use Rattle.bus_due.specs.Connected.{is_receiving};
-ghost use Rattle.disk_target.specs.States.{told, state_of, IsTargetOf, IsTargetLine, IsNoInitiator, IsReadyWithin, IsWithin, first_fault, flip_by};
-ghost use Rattle.disk_target.specs.Dues.{want_of_ready, pace_of_target, link_by, HasBytesOf, offering_of_target, plain_by, hand_by, calm_by, target_next};
+ghost use Rattle.scsi_device.specs.Told.{told, pace_of, first_fault};
+ghost use Rattle.disk_target.specs.States.{state_of, IsTargetOf, IsTargetLine, IsNoInitiator, IsReadyWithin, IsWithin};
+ghost use Rattle.disk_target.specs.Dues.{want_of_ready, link_by, HasBytesOf, offering_of_target, plain_by, hand_by, calm_by, target_next};
 
 use crate::laws::dues_are_of_targets;
-use crate::offering::{offering_by, pace};
+use crate::offering::offering_by;
 use crate::ready::{Knowledge, Ready};
-use bus_base::{Dev, Ns};
+use bus_base::Ns;
 use bus_dialogue::Observer;
 use bus_lines::BusView;
 use bus_reactions::{Due, Myself, Offering, Want, sight_of};
-use bus_trace::{Kind, ScsiId};
 use connect::{due_with_reset, link_due, sample_time};
 use handshake::target_due;
 use scenario::FaultDef;
-
-fn flip(fault: Option<FaultDef>, time: Ns) -> Option<u8>
-    ensures { result ≡ flip_by fault time }
-{
-    match fault {
-        Some(fault) if fault.at <= time => Some(fault.bit),
-        _ => None,
-    }
-}
+use scsi_device::{flip, is_receiving, pace, sampled};
 
 // What it is, by what the view shows of it.
-fn myself(known: &Knowledge, view: &BusView) -> Myself
+fn myself(known: &Knowledge<'_>, view: &BusView) -> Myself
     requires within { IsWithin known.now }
     ensures exact { (rows : List Row) → IsBusViewOf rows view.now
         → result ≡ record {
           dev = known.now.serving.def.dev;
           latency = known.now.serving.def.latency;
           own = drives rows known.now.serving.def.dev;
-          since = known.now.row;
+          since = known.now.itself.now.own.row;
         } }
     ensures ready { IsReady result }
     ensures linkable { link.IsReady result }
@@ -56,7 +46,7 @@ fn myself(known: &Knowledge, view: &BusView) -> Myself
         dev: def.dev,
         latency: Ns::from(def.latency),
         own: view.drives(def.dev),
-        since: known.row,
+        since: known.itself.own().row(),
     }
 }
 
@@ -82,33 +72,11 @@ pub fn want_of_ready(ready: Option<Ready>) -> Want
     }
 }
 
-fn is_receiving(receiver: Option<ScsiId>, dev: Dev) -> bool
-    ensures { result ≡ is_receiving receiver dev }
-{
-    match receiver {
-        None => false,
-        Some(receiver) => receiver.get() == dev,
-    }
-}
-
-// The receiver of a byte takes a fault of it first.
-fn sampled(receives: bool, last: Ns, flip: Option<u8>, plain: Option<Due>) -> Option<Due>
-    ensures { result ≡ sample_due receives last flip plain }
-{
-    match flip {
-        Some(bit) if receives => Some(Due {
-            time: last,
-            kind: Kind::Fault(bit),
-        }),
-        _ => plain,
-    }
-}
-
 // What it has to do in the phase.
-fn offering(observer: &Observer, known: &Knowledge, pulsed: bool) -> Offering
+fn offering(observer: &Observer, known: &Knowledge<'_>, pulsed: bool) -> Offering
     requires within { IsWithin known.now }
     ensures exact { (rows : List Row) (given : List ℕ) → IsObserverOf rows observer.now
-        → HasBytesOf rows known.now given → pulsed ≡ (pace_of_target (told rows known.now.serving.def.dev)).pulsed
+        → HasBytesOf rows known.now given → pulsed ≡ (pace_of (told rows known.now.serving.def.dev) None).pulsed
         → result ≡ offering_of_target (told rows known.now.serving.def.dev) (state_of known.now given) }
     ensures wait { result.wait < 2 ^ 62 }
 {
@@ -124,14 +92,14 @@ fn offering(observer: &Observer, known: &Knowledge, pulsed: bool) -> Offering
 }
 
 // By REQ and ACK, where it takes no fault.
-fn plain_due(observer: &Observer, known: &Knowledge) -> Option<Due>
+fn plain_due(observer: &Observer, known: &Knowledge<'_>) -> Option<Due>
     requires timely { IsTimely (2 ^ 63) observer.now.view }
     requires within { IsWithin known.now }
     ensures { (rows : List Row) (given : List ℕ) → IsObserverOf rows observer.now → HasBytesOf rows known.now given
         → result ≡ plain_by known.now.serving.def (told rows known.now.serving.def.dev) (state_of known.now given) }
 {
     let view = observer.view();
-    let pace = pace(observer);
+    let pace = pace(observer, 0);
     target_due(
         observer.begun(),
         &sight_of(view),
@@ -143,7 +111,7 @@ fn plain_due(observer: &Observer, known: &Knowledge) -> Option<Due>
 }
 
 // In a connection of its own.
-fn hand_due(observer: &Observer, known: &Knowledge, fault: Option<FaultDef>) -> Option<Due>
+fn hand_due(observer: &Observer, known: &Knowledge<'_>, fault: Option<FaultDef>) -> Option<Due>
     requires timely { IsTimely (2 ^ 63) observer.now.view }
     requires within { IsWithin known.now }
     ensures { (rows : List Row) (given : List ℕ) → IsObserverOf rows observer.now → HasBytesOf rows known.now given
@@ -158,7 +126,7 @@ fn hand_due(observer: &Observer, known: &Knowledge, fault: Option<FaultDef>) -> 
 }
 
 // On its way to a connection, and while another device drives RST.
-fn link_due_of(observer: &Observer, known: &Knowledge, fault: Option<FaultDef>) -> Option<Due>
+fn link_due_of(observer: &Observer, known: &Knowledge<'_>, fault: Option<FaultDef>) -> Option<Due>
     requires timely { IsTimely (2 ^ 63) observer.now.view }
     requires within { IsWithin known.now }
     ensures { (rows : List Row) (given : List ℕ) → IsObserverOf rows observer.now
@@ -177,7 +145,7 @@ fn link_due_of(observer: &Observer, known: &Knowledge, fault: Option<FaultDef>) 
 }
 
 // Without a reset of its own.
-fn calm_due(observer: &Observer, known: &Knowledge, fault: Option<FaultDef>) -> Option<Due>
+fn calm_due(observer: &Observer, known: &Knowledge<'_>, fault: Option<FaultDef>) -> Option<Due>
     requires timely { IsTimely (2 ^ 63) observer.now.view }
     requires within { IsWithin known.now }
     ensures { (rows : List Row) (given : List ℕ) → IsObserverOf rows observer.now → HasBytesOf rows known.now given
@@ -198,7 +166,7 @@ fn calm_due(observer: &Observer, known: &Knowledge, fault: Option<FaultDef>) -> 
 }
 
 // A reset of its own goes before all that.
-fn next_by(observer: &Observer, known: &Knowledge, fault: Option<FaultDef>) -> Option<Due>
+fn next_by(observer: &Observer, known: &Knowledge<'_>, fault: Option<FaultDef>) -> Option<Due>
     requires timely { IsTimely (2 ^ 63) observer.now.view }
     requires within { IsWithin known.now }
     ensures { (rows : List Row) (given : List ℕ) → IsObserverOf rows observer.now → HasBytesOf rows known.now given
@@ -207,14 +175,18 @@ fn next_by(observer: &Observer, known: &Knowledge, fault: Option<FaultDef>) -> O
 {
     let me = myself(known, observer.view());
     let calm = calm_due(observer, known, fault);
-    due_with_reset(&me, known.rst, known.reset, calm)
+    due_with_reset(&me, known.itself.own().rst(), known.itself.reset(), calm)
 }
 
 /// What a target does next, and when, in ns, by what all devices are told, by what it knows itself, and by the first
 /// fault that has not struck yet. It is exactly what is due of it, where it knows what the rows so far made known to
 /// it, and has the bytes that its process gives. A reset of its own goes before all else, then RST of others; in a
 /// connection of its own it goes by REQ and ACK, in one of others it does nothing, else by what it wants of the bus.
-pub fn target_next(observer: &Observer, known: &Knowledge, fault: Option<FaultDef>) -> Option<Due>
+pub fn target_next(
+    observer: &Observer,
+    known: &Knowledge<'_>,
+    fault: Option<FaultDef>,
+) -> Option<Due>
     requires timely { IsTimely (2 ^ 63) observer.now.view }
     requires within { IsWithin known.now }
     ensures exact { (rows : List Row) (given : List ℕ) → IsObserverOf rows observer.now

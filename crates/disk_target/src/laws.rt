@@ -7,7 +7,8 @@ ghost use Rattle.scenario.specs.Value.{ScenarioValue};
 ghost use Rattle.bus_due.specs.Next.{due};
 ghost use Rattle.bus_due.specs.Plain.{AreOfDevices};
 ghost use Rattle.bus_due.specs.RunSteps.{run_state};
-ghost use Rattle.disk_target.specs.States.{told, TargetState, IsTargetOf, IsTargetLine, IsNoInitiator, first_fault};
+ghost use Rattle.scsi_device.specs.Told.{told, first_fault};
+ghost use Rattle.disk_target.specs.States.{TargetState, IsTargetOf, IsTargetLine, IsNoInitiator};
 ghost use Rattle.disk_target.specs.Dues.{target_next};
 ghost use Rattle.disk_target.specs.Plans.{plan_at, leaving_after, plan_begun};
 ghost use Rattle.bus_trace.specs.declared.connection.Connection.{Connection};
@@ -16,6 +17,7 @@ ghost use Rattle.bus_dialogue.specs.Planning.{plan_after};
 ghost use Rattle.bus_dialogue.specs.Hearing.{hearing};
 
 use bus_due::{end_reactions_are_due, hearings_are_plain, kept_is_plain};
+use scsi_device::devices_know_enough;
 
 /// What is due of a target is what it does next by what all devices are told, by what it knows itself, and by the first
 /// fault that has not struck yet.
@@ -27,6 +29,7 @@ pub fn dues_are_of_targets()
 {
     end_reactions_are_due();
     kept_is_plain();
+    devices_know_enough();
 }
 
 /// What the target of a connection plans goes on by what each row tells it and by how it leaves the phase that stands

@@ -3,7 +3,7 @@
 ghost use Rattle.std.specs.Prelude.{ℕ, ◌≡◌, List, Some};
 ghost use Rattle.bus_dialogue.specs.Arrivals.{policy_of};
 ghost use Rattle.bus_dialogue.specs.Exchange.{one_message, two_messages};
-ghost use Rattle.bus_dialogue.specs.Words.{agreement_answer, reply_to, request_by, is_naming};
+ghost use Rattle.bus_dialogue.specs.Words.{reply_to, request_by, is_naming};
 ghost use Rattle.bus_dialogue.specs.NextPhase.{phase_of, bus_free, phase_entry, message_in_entry, recovery, pointer_restoration, next_data_phase, request_or_command, after_offer, after_opening, message_repetition, after_refusal, message_out_leaving, after_messages, disconnection, with_task, after_arrival, command_leaving, waits_seek, disconnect_messages, after_run, data_in_leaving, data_out_leaving, unless_attention, phase_leaving, leaving_by};
 ghost use Rattle.msg_grammar.specs.declared.message.MsgIn.TheVariants as to_initiator;
 ghost use Rattle.disk_target.specs.Fits.{AreFit};
@@ -16,6 +16,7 @@ use bus_dialogue::{Arrival, Cause, Leaving, Messages, Next, Phase, Plan, Task};
 use bus_trace::{Agreement, Lines, UNLIMITED_OFFSET};
 use msg_grammar::MsgIn;
 use scenario::{Policy, TargetDef};
+use scsi_device::agreement_answer;
 
 /// The phase of these lines (6.1.5).
 pub fn phase_of(bus: Lines) -> Phase
@@ -128,22 +129,6 @@ fn next_data_phase(policy: Policy, task: &Task, made: u64) -> Phase
         }
     } else {
         Phase::Status
-    }
-}
-
-// The answer to a synchronous data transfer request (6.6.21).
-fn agreement_answer(period: u8, offset: u8, heard: Agreement) -> Agreement
-    ensures { result ≡ agreement_answer period offset heard }
-{
-    if period == 0 {
-        return Agreement {
-            period: heard.period,
-            offset: 0,
-        };
-    }
-    Agreement {
-        period: period.max(heard.period),
-        offset: offset.min(heard.offset),
     }
 }
 

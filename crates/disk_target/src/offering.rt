@@ -1,59 +1,18 @@
 //! What the target of a connection has to do in the phase (ANSI X3.131-1994, 6.1.5, 6.1.9, 6.2.1).
 ghost use Rattle.std.specs.Prelude.{ℕ, ◌≡◌, ◌<◌, ◌^◌, List};
-ghost use Rattle.bus_trace.specs.declared.Row.{Row};
-ghost use Rattle.bus_trace.specs.Agreements.{times_of};
-ghost use Rattle.bus_dialogue.specs.Observer.{IsObserverOf};
 ghost use Rattle.bus_dialogue.specs.NextPhase.{leaving_by};
 ghost use Rattle.bus_dialogue.specs.Ends.{seek_before, follows_by, offering_by};
-ghost use Rattle.handshake.specs.Bounds.{IsSteady};
-ghost use Rattle.disk_target.specs.Dues.{pace_of_target};
 ghost use Rattle.disk_target.specs.Fits.{AreFit};
 ghost use Rattle.disk_target.specs.Servings.{serving_with, AreBytesOf};
-ghost use Rattle.disk_target.specs.States.{told};
 
 use crate::data_runs::run_length_if;
 use crate::next_phase::{leaving_by, phase_of, waits_seek};
 use crate::phase_bytes::{follows_in, lines_by, phase_byte};
 use crate::serving::{DataBytes, Serving};
 use bus_base::Ns;
-use bus_dialogue::Observer;
 use bus_lines::Handshakes;
-use bus_reactions::{Offering, Pace};
-use bus_trace::{
-    ASSERTION_PERIOD, DATA_HOLD, Lines, NEGATION_PERIOD, SET_UP_TIME, TransferTimes, is_command,
-    is_data, transfer_times,
-};
-
-// The times of a transfer period factor; one that is served nowhere has those of a transfer that is not fast.
-fn times_of(factor: u8) -> TransferTimes
-    ensures { result ≡ times_of factor }
-{
-    match transfer_times(factor) {
-        Some(times) => times,
-        None => TransferTimes {
-            period: 4 * Ns::from(factor),
-            assertion: ASSERTION_PERIOD,
-            negation: NEGATION_PERIOD,
-            set_up: SET_UP_TIME,
-            hold: DATA_HOLD,
-        },
-    }
-}
-
-/// How bytes cross in the phase: by pulses where an agreement with an offset holds (6.1.5.2).
-pub fn pace(observer: &Observer) -> Pace
-    ensures exact { (rows : List Row) (dev : ℕ) → IsObserverOf rows observer.now
-        → result ≡ pace_of_target (told rows dev) }
-    ensures steady { IsSteady result }
-{
-    let agreement = observer.agreement();
-    Pace {
-        pulsed: observer.begun() && is_data(observer.view().bus()) && agreement.offset > 0,
-        offset: agreement.offset,
-        times: times_of(agreement.period),
-        lag: 0,
-    }
-}
+use bus_reactions::Offering;
+use bus_trace::{Lines, is_command};
 
 // How long it waits before it leaves the phase of these lines.
 fn seek_before(serving: &Serving, bus: Lines) -> Ns

@@ -2,6 +2,7 @@
 
 use crate::serving::{DataBytes, Serving};
 use bus_base::{Dev, Ns};
+use scsi_device::Itself;
 
 /// A unit whose current process is ready for a reselection.
 #[derive(Clone, Copy, Debug)]
@@ -16,13 +17,9 @@ pub struct Ready {
 
 /// What a target knows itself.
 #[derive(Clone, Copy, Debug)]
-pub struct Knowledge {
-    /// When it made its last row of lines, in ns.
-    pub row: Ns,
-    /// When it last raised RST, in ns.
-    pub rst: Ns,
-    /// When it drives RST next, in ns.
-    pub reset: Option<Ns>,
+pub struct Knowledge<'a> {
+    /// When it made its own rows, and when it drives RST next.
+    pub itself: &'a Itself,
     /// The unit that is ready first.
     pub ready: Option<Ready>,
     /// In a connection of its own: what it decides by.

@@ -63,6 +63,10 @@ bytes_taken b key taken = if is_reported (attention_at b key) (block_at b key) t
 abbrev pub unit_plan : UnitBooks → ℕ → Reply → ℕ → Plan
 unit_plan b key reply taken = plan_of (unit_reply b key reply) (bytes_taken b key taken)
 
+-- The same of a command of an initiator with this attention.
+abbrev pub plan_for : Option Sense → List ℕ → Reply → ℕ → Plan
+plan_for attention cdb reply taken = plan_of (reply_with attention cdb reply) (if is_reported attention cdb then 0 else taken)
+
 -- The books before and after an abort of an initiator.
 abbrev pub IsAborted : AbortKind → ℕ → UnitBooks → UnitBooks → Type 0
 IsAborted aborts.All by old new = new ≡ books_after_abort old by

@@ -1,6 +1,6 @@
 //! What a logical unit keeps of its commands, and for each initiator.
-ghost use Rattle.std.specs.Prelude.{◌≡◌, ℕ, ◌⊎◌, ◌+◌, ◌<◌, ◌≤◌, Bool, true, false, [], length, Some, None, IfOk, IfSome, IfNone, OnOk, OnErr, slice_index_or, slice_set, replicate, is_some};
-ghost use Rattle.tag_queue.specs.Queue.{has_key, entry_at, is_held, key_of, waiting_of};
+ghost use Rattle.std.specs.Prelude.{◌≡◌, ℕ, ◌⊎◌, ◌+◌, ◌==◌, not, nat_lt, ◌<◌, ◌≤◌, Bool, true, false, [], length, Some, None, IfOk, IfSome, IfNone, OnOk, OnErr, slice_index_or, slice_set, replicate, is_some};
+ghost use Rattle.tag_queue.specs.Queue.{has_key, entry_at, is_held, key_of, key_of_process as first_of_process, waiting_of};
 ghost use Rattle.disk_unit.specs.Books.{empty_books, block_at, books_with, choice_of, books_after_choice, books_without, books_with_sense, books_without_sense, sense_or_none, books_with_status, books_after_end, books_without_attention, books_after_abort, books_after_abort_tag, books_after_reset, books_without_those, initiator_at, IsCleared, attention_after_clear, is_told};
 ghost use Rattle.disk_array.specs.Steps.{is_reset_pending as reset_pending};
 
@@ -9,7 +9,7 @@ use bus_base::NoMemory;
 use cdb_codec::{COMMANDS_CLEARED, RESET_OCCURRED, Sense, UNIT_ATTENTION};
 use std::alloc::Global;
 use std::marker::Model;
-use tag_queue::{Dev, Entry, Full, Key, Pick, Queue, Those};
+use tag_queue::{Dev, Entry, Full, Key, Pick, ProcId, Queue, Those};
 
 /// The commands that wait or are current, with their command descriptor blocks, the hold, and for each of the eight
 /// initiators its stored sense and its pending attention.
@@ -87,9 +87,31 @@ impl Books {
 
     /// The key of the current command.
     pub fn current(&self) -> Option<Key>
-        ensures { result ≡ self.now.queue.current }
+        ensures exact { result ≡ self.now.queue.current }
+        ensures live { IfSome result (λ key. has_key self.now.queue.arrived key ≡ true) }
     {
         self.queue.current()
+    }
+
+    /// Whether there are as many live commands as the depth of the queue.
+    pub fn is_full(&self) -> bool
+        ensures { result ≡ not (nat_lt (length self.now.queue.arrived) self.now.queue.depth) }
+    {
+        self.queue.is_full()
+    }
+
+    /// Whether there is no live command.
+    pub fn is_empty(&self) -> bool
+        ensures { result ≡ (length self.now.queue.arrived == 0) }
+    {
+        self.queue.is_empty()
+    }
+
+    /// The key of the first live command of a process.
+    pub fn find(&self, id: ProcId) -> Option<Key>
+        ensures { result ≡ first_of_process self.now.queue.arrived id }
+    {
+        self.queue.find_process(id)
     }
 
     /// What the queue keeps of the live command of this key.

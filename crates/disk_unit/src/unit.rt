@@ -1,12 +1,12 @@
 //! A logical unit: its medium, its queue, and what it keeps for each initiator.
-ghost use Rattle.std.specs.Prelude.{◌≡◌, ℕ, ◌+◌, ◌*◌, ◌<◌, ◌≤◌, Bool, true, false, List, [], length, take, drop, Option, Some, None, IfOk, IfSome, is_some, slice_index_or, if◌then◌else◌};
+ghost use Rattle.std.specs.Prelude.{◌≡◌, ℕ, ◌+◌, ◌*◌, ◌<◌, ◌≤◌, ◌==◌, not, nat_lt, Bool, true, false, List, [], length, take, drop, Option, Some, None, IfOk, IfSome, is_some, slice_index_or, if◌then◌else◌};
 ghost use Rattle.cdb_codec.specs.Cdb.{command_of};
 ghost use Rattle.disk_array.specs.declared.entries.Entry.{Entry};
 ghost use Rattle.disk_array.specs.Execution.{Reply as ArrayReply, check_condition, is_request_sense as requests_sense, heeds_attention as heeds};
-ghost use Rattle.tag_queue.specs.Queue.{has_key, entry_at, is_held};
+ghost use Rattle.tag_queue.specs.Queue.{has_key, entry_at, is_held, key_of_process};
 ghost use Rattle.disk_unit.specs.Plans.{plan_of};
 ghost use Rattle.disk_unit.specs.Books.{UnitBooks, empty_books, block_at, books_with, choice_of, books_after_choice, books_without, books_with_sense, books_without_sense, sense_or_none, books_after_end, books_without_attention, books_after_abort, books_after_reset, initiator_at, attention_at};
-ghost use Rattle.disk_unit.specs.Units.{is_reported, reply_with, entry_with, told_of, IsAccepted, books_if_reported, unit_reply, unit_plan, bytes_taken, IsAborted};
+ghost use Rattle.disk_unit.specs.Units.{is_reported, reply_with, entry_with, told_of, IsAccepted, books_if_reported, unit_reply, unit_plan, bytes_taken, plan_for, IsAborted};
 
 use super::books::Books;
 use super::media::{Extent, Medium, Plan};
@@ -286,9 +286,72 @@ impl<M: Medium> Unit<M> {
 
     /// The key of the current command.
     pub fn current(&self) -> Option<Key>
-        ensures { result ≡ self.now.books.queue.current }
+        ensures exact { result ≡ self.now.books.queue.current }
+        ensures live { IfSome result (λ key. has_key self.now.books.queue.arrived key ≡ true) }
     {
         self.books.current()
+    }
+
+    /// Whether there are as many live commands as the depth of the queue.
+    pub fn is_full(&self) -> bool
+        ensures { result ≡ not (nat_lt (length self.now.books.queue.arrived) self.now.books.queue.depth) }
+    {
+        self.books.is_full()
+    }
+
+    /// Whether there is no live command.
+    pub fn is_empty(&self) -> bool
+        ensures { result ≡ (length self.now.books.queue.arrived == 0) }
+    {
+        self.books.is_empty()
+    }
+
+    /// The command descriptor block of the live command of this key.
+    pub fn block(&self, key: Key) -> &[u8]
+        requires live { has_key self.now.books.queue.arrived key ≡ true }
+        ensures { result.now ≡ block_at self.now.books key }
+    {
+        self.books.block(key)
+    }
+
+    /// How many blocks the live command of this key writes at most.
+    pub fn cost(&self, key: Key) -> u64
+        requires live { has_key self.now.books.queue.arrived key ≡ true }
+        ensures { result ≡ M.written_by self.now.medium (block_at self.now.books key) }
+    {
+        self.medium.cost(self.books.block(key))
+    }
+
+    /// How a command of an initiator would end if it ran now, whether or not it has arrived.
+    pub fn plan_for(&self, dev: Dev, cdb: &[u8]) -> Plan
+        requires device { dev < 8 }
+        ensures { result ≡ plan_for (slice_index_or self.now.books.attentions dev None) cdb.now
+            (M.reply_to self.now.medium cdb.now) (M.taken_by self.now.medium cdb.now) }
+    {
+        match reported(self.books.attention(dev), cdb) {
+            Some(attention) => attention_plan(attention),
+            None => self.medium.plan(cdb),
+        }
+    }
+
+    /// The bytes of the reply that a command of an initiator would have now, from `at` on, as many as `into` has.
+    pub fn fetch_for(&self, dev: Dev, cdb: &[u8], at: u32, into: &mut [u8])
+        requires device { dev < 8 }
+        requires within { at + length into.old ≤ length (reply_with
+            (slice_index_or self.now.books.attentions dev None) cdb.now (M.reply_to self.now.medium cdb.now)).bytes }
+        ensures { into.new ≡ take (length into.old) (drop at (reply_with
+            (slice_index_or self.now.books.attentions dev None) cdb.now (M.reply_to self.now.medium cdb.now)).bytes) }
+    {
+        if reported(self.books.attention(dev), cdb).is_none() {
+            self.medium.fetch(cdb, at, into);
+        }
+    }
+
+    /// The key of the first live command of a process.
+    pub fn find(&self, id: ProcId) -> Option<Key>
+        ensures { result ≡ key_of_process self.now.books.queue.arrived id }
+    {
+        self.books.find(id)
     }
 
     /// What the queue keeps of the live command of this key.

@@ -1,10 +1,8 @@
 -- What is due of an initiator is what it does next by what it knows.
-use Rattle.std.proofs.Common.{ℕ, ◌≡◌, ◌==◌, ◌∙◌, Bool, true, false, List, [], ◌∷◌, refl, sym, Option, Some, None}
+use Rattle.std.proofs.Common.{ℕ, ◌≡◌, ◌==◌, ◌∙◌, Bool, true, false, List, refl, sym, Option, Some, None}
 use Rattle.std.specs.Prelude.{if◌then◌else◌, not}
 use Rattle.bus_trace.specs.declared.Row.{Row}
-use Rattle.bus_trace.specs.declared.changes.Change.{Change}
 use Rattle.bus_trace.specs.declared.connection.Connection.{Connection}
-use Rattle.bus_trace.specs.Changes.{rises}
 use Rattle.bus_trace.specs.Trace.{bus, last_time}
 use Rattle.bus_trace.specs.Terms.{connection, receiver}
 use Rattle.bus_lines.specs.Handshakes.{handshakes}
@@ -20,7 +18,7 @@ use Rattle.bus_reactions.specs.Linking.{link_due, sample_time}
 use Rattle.bus_reactions.specs.Reset.{with_reset}
 use Rattle.bus_reactions.specs.Ends as hand
 use Rattle.bus_dialogue.specs.Ends.{pace_by, answering_by}
-use Rattle.bus_due.specs.Connected.{is_receiving, is_receiver, initiator_end_due, target_end_due, connected_due}
+use Rattle.bus_due.specs.Connected.{is_receiving, connected_due}
 use Rattle.bus_due.specs.RunState.{RunState}
 use Rattle.bus_due.specs.RunSteps.{run_state}
 use Rattle.bus_due.specs.Sights.{flip_of, identify_byte, want_of}
@@ -30,17 +28,25 @@ use Rattle.bus_due.specs.Due.{self_of, due_if, stage_due, link_due_of, reset_fro
 use Rattle.bus_due.specs.Next.{due}
 use Rattle.bus_due.specs.Plain.{IsPlain, AreOfDevices}
 use Rattle.bus_due.specs.PlainDue.{IsThere, IsLinked, under_reset, initiator_reaction}
-use Rattle.initiator.specs.States.{told, InitiatorState, IsOwnConnection, IsInitiatorOf, IsHostOf, IsNoTarget, first_fault, flip_by}
-use Rattle.initiator.specs.Dues.{myself_by, want_by, link_by, hand_by, calm_by, initiator_next}
+use Rattle.bus_reactions.specs.declared.ends.Answering.{Answering}
+use Rattle.bus_reactions.specs.declared.ends.Pace.{Pace}
+use Rattle.bus_due.specs.Sights.{sending_of}
+use Rattle.scsi_device.specs.Told.{told, pace_of, first_fault, flip_by}
+use Rattle.initiator.specs.States.{InitiatorState, IsOwnConnection, IsInitiatorOf, IsHostOf, IsNoTarget}
+use Rattle.initiator.specs.Dues.{answering_of_host, myself_by, want_by, link_by, hand_by, calm_by, initiator_next}
+
+-- ---- what holds of any device: the fault that strikes, and that a connection of others is none of its
+
+abbrev pub AreFlips : Type 0
+AreFlips = (faults : List FaultDef) (f : Option FaultDef) (time : ℕ) → f ≡ first_fault faults → flip_of faults time ≡ flip_by f time
+
+abbrev pub AreOthers : Type 0
+AreOthers = (s : ScenarioValue) (k : RunState) (me : Myself) (n : Connection) → (n.initiator == me.dev) ≡ false → (n.target == me.dev) ≡ false → connected_due s k me n ≡ None
 
 -- ---- the scenario
 
 pub latency_is : (s : ScenarioValue) (h : HostDef) → IsHostOf s h → latency_of s h.dev ≡ Some h.latency
 latency_is s h g = λ j. target_latency (g.no_target j) (host_latency (g.host_is j))
-
-flips_are : (faults : List FaultDef) (f : Option FaultDef) (time : ℕ) → f ≡ first_fault faults → flip_of faults time ≡ flip_by f time
-flips_are [] f time e = λ j. flip_by (sym e j) time
-flips_are (g ∷ faults) f time e = λ j. flip_by (sym e j) time
 
 -- ---- what it is itself, and wants
 
@@ -61,49 +67,35 @@ want_is s rows h i g t r =
 
 -- ---- on its way to a connection
 
-links_are : (s : ScenarioValue) (rows : List Row) (h : HostDef) (i : InitiatorState) (f : Option FaultDef) → IsHostOf s h → IsNoTarget s rows h.dev → IsPlain s rows (run_state s rows) → IsInitiatorOf s rows h i → f ≡ first_fault (run_state s rows).faults → link_due_of s (run_state s rows) (myself_by h (told rows h.dev) i) ≡ link_by h (told rows h.dev) f i
-links_are s rows h i f g t p r e =
+links_are : AreFlips → (s : ScenarioValue) (rows : List Row) (h : HostDef) (i : InitiatorState) (f : Option FaultDef) → IsHostOf s h → IsNoTarget s rows h.dev → IsPlain s rows (run_state s rows) → IsInitiatorOf s rows h i → f ≡ first_fault (run_state s rows).faults → link_due_of s (run_state s rows) (myself_by h (told rows h.dev) i) ≡ link_by h (told rows h.dev) f i
+links_are flips_are s rows h i f g t p r e =
     let k : RunState = run_state s rows in
     let me : Myself = myself_by h (told rows h.dev) i in
     λ j. link_due (p.sight j) me (want_is s rows h i g t r j) (flips_are k.faults f (sample_time (p.sight j) me) e j)
 
--- ---- in a connection of others
-
-no_receiver : (n : Connection) (c : Change) (dev : ℕ) → (n.initiator == dev) ≡ false → (n.target == dev) ≡ false → is_receiver n (Some c) dev ≡ false
-no_receiver n c dev x y = go c.before.io (rises c.before.req c.after.req) (rises c.before.ack c.after.ack)
-  where
-    go : (io req ack : Bool) → is_receiving (if io then (if req then Some n.initiator else None) else (if ack then Some n.target else None)) dev ≡ false
-    go true true ack = x
-    go true false ack = refl
-    go false req true = y
-    go false req false = refl
-
-other_receiver : (n : Connection) (c : Option Change) (dev : ℕ) → (n.initiator == dev) ≡ false → (n.target == dev) ≡ false → is_receiver n c dev ≡ false
-other_receiver n None dev x y = refl
-other_receiver n (Some c) dev x y = no_receiver n c dev x y
-
-others_are : (s : ScenarioValue) (k : RunState) (me : Myself) (n : Connection) → (n.initiator == me.dev) ≡ false → (n.target == me.dev) ≡ false → connected_due s k me n ≡ None
-others_are s k me n x y =
-    λ j. hand.sample_due (other_receiver n k.story.bus_state.crossed me.dev x y j) k.last (flip_of k.faults k.last)
-    (if x j then initiator_end_due s k me else if y j then target_end_due s k me else None)
-
 -- ---- in a connection of its own
 
-hands_are : (s : ScenarioValue) (rows : List Row) (h : HostDef) (i : InitiatorState) (f : Option FaultDef) (n : Connection) → IsHostOf s h → IsPlain s rows (run_state s rows) → IsInitiatorOf s rows h i → f ≡ first_fault (run_state s rows).faults → IsOwnConnection rows h.dev n → initiator_reaction s rows h.dev h.latency ≡ hand_by h (told rows h.dev) f i
-hands_are s rows h i f n g p r e o =
+hands_are : AreFlips → (s : ScenarioValue) (rows : List Row) (h : HostDef) (i : InitiatorState) (f : Option FaultDef) (n : Connection) → IsHostOf s h → IsPlain s rows (run_state s rows) → IsInitiatorOf s rows h i → f ≡ first_fault (run_state s rows).faults → IsOwnConnection rows h.dev n → initiator_reaction s rows h.dev h.latency ≡ hand_by h (told rows h.dev) f i
+hands_are flips_are s rows h i f n g p r e o =
     let k : RunState = run_state s rows in
     let last : ℕ = last_time rows in
-    λ j. hand.sample_due (is_receiving (receiver rows) h.dev) last (flips_are k.faults f last e j)
+    let me : Myself = myself_by h (told rows h.dev) i in
+    let pace : Pace = pace_of (told rows h.dev) (Some h) in
+    let a : Answering = answering_of_host (told rows h.dev) i in
+    (λ j. hand.sample_due (is_receiving (receiver rows) h.dev) last (flips_are k.faults f last e j)
     (hand.initiator_due (begun rows) (sight rows) (handshakes rows) (myself_is s rows h i g p r j)
     (pace_by (p.begun j) (p.bus j) (p.dialogue j).heard.now.agreement (g.host_is j))
-    (answering_by (sym (r.speech_is n o) j) (sym (r.sending_is n o) j) (p.bus j) (p.dialogue j).heard.now.offer ((p.own h.dev g.below ∙ sym r.own_is) j).ack))
+    (answering_by (sym (r.speech_is n o) j) (sending_of s k) (p.bus j) (p.dialogue j).heard.now.offer ((p.own h.dev g.below ∙ sym r.own_is) j).ack)))
+    ∙ (λ j. hand.sample_due (is_receiving (receiver rows) h.dev) last (flip_by f last)
+    (hand.initiator_due (begun rows) (sight rows) (handshakes rows) me pace (record a { byte = sym (r.sending_is n o (bus rows) i.speech) j })))
 
 -- ---- whatever stands
 
 pub dues_are : ((s : ScenarioValue) (rows : List Row) (dev latency : ℕ) (n : Connection) → IsThere s rows dev latency → IsLinked rows n → (n.initiator == dev) ≡ true → due s rows dev ≡ under_reset s rows dev latency (initiator_reaction s rows dev latency))
+    → AreFlips → AreOthers
     → (s : ScenarioValue) (rows : List Row) (h : HostDef) (i : InitiatorState) (f : Option FaultDef) → IsHostOf s h → AreOfDevices rows → IsPlain s rows (run_state s rows) → IsNoTarget s rows h.dev → IsInitiatorOf s rows h i → f ≡ first_fault (run_state s rows).faults
     → due s rows h.dev ≡ initiator_next h (told rows h.dev) f i
-dues_are law s rows h i f g d p t r e = go (bus rows).rst refl (connection rows) refl
+dues_are law flips_are others_are s rows h i f g d p t r e = go (bus rows).rst refl (connection rows) refl
   where
     k : RunState
     k = run_state s rows
@@ -131,19 +123,19 @@ dues_are law s rows h i f g d p t r e = go (bus rows).rst refl (connection rows)
     go true rst x c =
         staged
         ∙ (λ j. reset_by (stage_due s k me (rst j) (connection rows)))
-        ∙ (λ j. reset_by (links_are s rows h i f g t p r e j))
+        ∙ (λ j. reset_by (links_are flips_are s rows h i f g t p r e j))
         ∙ (λ j. reset_by (calm_by h (told rows h.dev) f i (sym rst j) (connection rows)))
     go false rst None c =
         staged
         ∙ (λ j. reset_by (stage_due s k me (rst j) (c j)))
-        ∙ (λ j. reset_by (links_are s rows h i f g t p r e j))
+        ∙ (λ j. reset_by (links_are flips_are s rows h i f g t p r e j))
         ∙ (λ j. reset_by (calm_by h (told rows h.dev) f i (sym rst j) (sym c j)))
     go false rst (Some n) c = linked (n.initiator == h.dev) refl
       where
         linked : (q : Bool) → (n.initiator == h.dev) ≡ q → due s rows h.dev ≡ initiator_next h (told rows h.dev) f i
         linked true x =
             law s rows h.dev h.latency n there (record { calm = rst; stands = c }) x
-            ∙ (λ j. with_reset (mine j) (sym r.own_is j).rst (sym r.reset_is j) (hands_are s rows h i f n g p r e (record { stands = c; own = x }) j))
+            ∙ (λ j. with_reset (mine j) (sym r.own_is j).rst (sym r.reset_is j) (hands_are flips_are s rows h i f n g p r e (record { stands = c; own = x }) j))
             ∙ (λ j. reset_by (if sym x j then hand_by h (told rows h.dev) f i else None))
             ∙ (λ j. reset_by (calm_by h (told rows h.dev) f i (sym rst j) (sym c j)))
         linked false x =

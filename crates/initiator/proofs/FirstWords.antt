@@ -14,12 +14,13 @@ use Rattle.bus_story.specs.Items.{Sent, is_of_host}
 use Rattle.bus_dialogue.specs.Words.{process_opening, abort_opening, abort_bytes}
 use Rattle.bus_due.specs.Defs.{opening, host_of}
 use Rattle.bus_due.specs.Wants.{own_command, own_commands}
+use Rattle.scsi_device.specs.Lines.{AreUnits}
 use Rattle.initiator.specs.declared.mine.OwnItem.{OwnItem}
 use Rattle.initiator.specs.declared.mine.OwnItem.TheVariants as own
 use Rattle.initiator.specs.Mines.{mine_of, mines_of, my_abort, my_aborts}
 use Rattle.initiator.specs.Books.{my_book, item_if}
 use Rattle.initiator.specs.Wishes.{is_abort_of, IsItemIf}
-use Rattle.initiator.specs.Openings.{mine_at, my_abort_at, opening_for, mine_opening, my_abort_opening, opening_by, AreUnits}
+use Rattle.initiator.specs.Openings.{mine_at, my_abort_at, opening_for, mine_opening, my_abort_opening, opening_by}
 use Rattle.initiator.proofs.Foreign.{no_host_first, no_line_first}
 
 abbrev def_opening : Option HostDef → Bool → Bool → Option CmdDef → List ℕ

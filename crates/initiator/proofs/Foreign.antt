@@ -101,7 +101,7 @@ abort_elsewhere n f (a ∷ aborts) h = go (a.number == n) refl h (λ x. abort_el
     go true e x r = cc
     go false e x r = λ i. (if (equal_tests n a.number ∙ e) i then f a else a) ∷ r x i
 
-not_both : (h : Option CmdDef) (d dev : ℕ) → d ≢ dev → is_of_host h d ≡ true → is_of_host h dev ≡ false
+pub not_both : (h : Option CmdDef) (d dev : ℕ) → d ≢ dev → is_of_host h d ≡ true → is_of_host h dev ≡ false
 not_both None d dev ne e = refl
 not_both (Some c) d dev ne e = ne_eqb c.host dev (λ x. ne (sym (same c.host d e) ∙ x))
   where

@@ -19,7 +19,7 @@ use Rattle.bus_due.specs.RunState.{RunState}
 use Rattle.bus_due.specs.RunSteps.{run_state, is_for_process, negotiated_by_connection}
 use Rattle.initiator.specs.Wishes.{events_shown}
 use Rattle.bus_due.specs.LastingState.{Negotiated, none_negotiated, has_negotiated, with_negotiated, pairs_without, negotiated_after_event, negotiated_after}
-use Rattle.initiator.specs.Negotiations.{NegotiationsValue, no_negotiations, had_in, had_by_connection, had_after_event, had_after_events, negotiations_after, HasHad, IsNegotiationsOf, aims_at_process}
+use Rattle.initiator.specs.Negotiations.{NegotiationsValue, no_negotiations, had_in, had_by_connection, had_after_abort, had_after_event, had_after_events, negotiations_after, HasHad, IsNegotiationsOf, aims_at_process}
 
 -- ---- what is kept of all pairs, and what this initiator keeps
 
@@ -256,3 +256,39 @@ negotiations_go_on s rows row v process before after shown p q b a e told h =
       version_is = version_stays (had_by_connection v process before after) shown ∙ version_had v process before after ∙ h.version_is;
       kept = subst (λ (z : NegotiationsValue). HasHad (run_state s (row ∷ rows)).negotiated z) path y;
     }
+
+-- ---- they are those of the same initiator
+
+same_in : (v : NegotiationsValue) (process : Bool) (n : Connection) → (had_in v process n).dev ≡ v.dev
+same_in v process n = go n.reselected (n.initiator == v.dev) process
+  where
+    go : (p q r : Bool) → (if p then v else if q then (if r then record v { had = set v.had n.target true } else v) else v).dev ≡ v.dev
+    go true q r = refl
+    go false false r = refl
+    go false true true = refl
+    go false true false = refl
+
+pub same_by_connection : (v : NegotiationsValue) (process : Bool) (before after : Option Connection) → (had_by_connection v process before after).dev ≡ v.dev
+same_by_connection v process None None = refl
+same_by_connection v process None (Some n) = same_in v process n
+same_by_connection v process (Some m) after = refl
+
+same_after_abort : (v : NegotiationsValue) (target : ℕ) (what : AbortKind) → (had_after_abort v target what).dev ≡ v.dev
+same_after_abort v target aborts.Device = refl
+same_after_abort v target aborts.All = refl
+same_after_abort v target (aborts.Tag n) = refl
+same_after_abort v target aborts.WholeQueue = refl
+
+same_after_event : (v : NegotiationsValue) (e : Event) → (had_after_event v e).dev ≡ v.dev
+same_after_event v (events.Aborted host target unit what) = same_after_abort v target what
+same_after_event v (events.Reset dev) = refl
+same_after_event v (events.Accept id) = refl
+same_after_event v (events.Refuse id) = refl
+same_after_event v (events.Run id) = refl
+same_after_event v (events.Fail id code) = refl
+same_after_event v (events.End id status) = refl
+same_after_event v (events.Lost id) = refl
+
+pub same_after_events : (v : NegotiationsValue) (shown : List Event) → (had_after_events v shown).dev ≡ v.dev
+same_after_events v [] = refl
+same_after_events v (e ∷ shown) = same_after_event (had_after_events v shown) e ∙ same_after_events v shown

@@ -29,7 +29,7 @@ use Rattle.bus_due.specs.RunState.{or_start, array_of, RunState}
 use Rattle.bus_due.specs.RunSteps.{array_after_events, run_state}
 use Rattle.bus_due.specs.Wants.{current_of, since_of, seek_of, ready_among, ready_of}
 use Rattle.bus_dialogue.specs.Wants.{Ready, ready_in, ready_by}
-use Rattle.initiator.specs.NoUnits.{has_unit, HasNoUnit}
+use Rattle.scsi_device.specs.NoUnits.{has_unit, HasNoUnit}
 use Rattle.initiator.specs.States.{IsNoTarget}
 
 -- ---- the units of a device

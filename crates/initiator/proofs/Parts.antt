@@ -13,12 +13,12 @@ use Rattle.bus_due.specs.Wants.{item_want_time, target_of}
 use Rattle.bus_due.specs.Sights.{sending_of}
 use Rattle.bus_due.specs.RunSteps.{run_state}
 use Rattle.bus_due.specs.Plain.{AreOfDevices}
-use Rattle.initiator.specs.States.{IsOwnConnection, IsInitiatorOf, state_by}
-use Rattle.initiator.specs.Itself.{ItselfValue, IsItselfOf}
+use Rattle.initiator.specs.States.{AreSameBytes, IsOwnConnection, IsInitiatorOf, state_by}
+use Rattle.scsi_device.specs.Itself.{ItselfValue, IsItselfOf}
 use Rattle.initiator.specs.Intents.{IntentValue, IsIntentOf}
 use Rattle.initiator.proofs.Intents.{wants_since, callee_told}
 
-pub parts_are : (s : ScenarioValue) (rows : List Row) (h : HostDef) (v : ItselfValue) (w : IntentValue) (speech : Speech) (sending : Sending) → AreOfDevices rows → h.dev < 8 → v.dev ≡ h.dev → w.dev ≡ h.dev → IsItselfOf s rows v → IsIntentOf s rows w → ((n : Connection) → IsOwnConnection rows h.dev n → speech ≡ (run_state s rows).exchange.speech) → ((n : Connection) → IsOwnConnection rows h.dev n → sending ≡ sending_of s (run_state s rows)) → IsInitiatorOf s rows h (state_by v w speech sending)
+pub parts_are : (s : ScenarioValue) (rows : List Row) (h : HostDef) (v : ItselfValue) (w : IntentValue) (speech : Speech) (sending : Sending) → AreOfDevices rows → h.dev < 8 → v.dev ≡ h.dev → w.dev ≡ h.dev → IsItselfOf s rows v → IsIntentOf s rows w → ((n : Connection) → IsOwnConnection rows h.dev n → speech ≡ (run_state s rows).exchange.speech) → ((n : Connection) → IsOwnConnection rows h.dev n → AreSameBytes sending (sending_of s (run_state s rows))) → IsInitiatorOf s rows h (state_by v w speech sending)
 parts_are s rows h v w speech sending d lt x y i j p q =
     let own : v.own ≡ own_of rows h.dev = i.own_is ∙ (λ k. own_of rows (x k)) in
     record {

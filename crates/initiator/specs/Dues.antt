@@ -7,13 +7,13 @@ use Rattle.bus_reactions.specs.declared.due.Due.{Due}
 use Rattle.bus_reactions.specs.declared.due.Myself.{Myself}
 use Rattle.bus_reactions.specs.declared.due.Want.{Want}
 use Rattle.bus_reactions.specs.declared.ends.Answering.{Answering}
-use Rattle.bus_reactions.specs.declared.ends.Pace.{Pace}
 use Rattle.bus_reactions.specs.Linking.{link_due, sample_time}
 use Rattle.bus_reactions.specs.Ends as hand
 use Rattle.bus_reactions.specs.Reset.{with_reset}
-use Rattle.bus_dialogue.specs.Ends.{pace_by, answering_by}
+use Rattle.bus_dialogue.specs.Ends.{answering_by}
 use Rattle.bus_due.specs.Connected.{is_receiving}
-use Rattle.initiator.specs.States.{Told, InitiatorState, flip_by}
+use Rattle.scsi_device.specs.Told.{Told, pace_of, flip_by}
+use Rattle.initiator.specs.States.{InitiatorState}
 
 abbrev pub myself_by : HostDef → Told → InitiatorState → Myself
 myself_by h t i = record { dev = h.dev; latency = h.latency; own = t.lines; since = i.own.row }
@@ -28,15 +28,12 @@ link_by h t f i =
     link_due t.sight (myself_by h t i) (want_by i) (flip_by f (sample_time t.sight (myself_by h t i)))
 
 -- In a connection of its own (6.1.5, 6.2.1); in one of others it does nothing.
-abbrev pub pace_of_host : HostDef → Told → Pace
-pace_of_host h t = pace_by t.begun t.sight.bus t.agreement (Some h)
-
 abbrev pub answering_of_host : Told → InitiatorState → Answering
 answering_of_host t i = answering_by i.speech i.sending t.sight.bus t.offer i.own.ack
 
 abbrev pub plain_by : HostDef → Told → InitiatorState → Option Due
 plain_by h t i =
-    hand.initiator_due t.begun t.sight t.handshakes (myself_by h t i) (pace_of_host h t) (answering_of_host t i)
+    hand.initiator_due t.begun t.sight t.handshakes (myself_by h t i) (pace_of t (Some h)) (answering_of_host t i)
 
 -- It samples a byte that crossed to it in the last row first.
 abbrev pub hand_by : HostDef → Told → Option FaultDef → InitiatorState → Option Due

@@ -1,15 +1,10 @@
 -- What an initiator says first for an item of its own, by its book.
-use Rattle.std.specs.Prelude.{ℕ, ◌≡◌, ◌<◌, ◌++◌, ◌%◌, ◌==◌, Bool, true, false, not, List, [], ◌∷◌, Option, Some, None, if◌then◌else◌}
+use Rattle.std.specs.Prelude.{ℕ, ◌++◌, ◌%◌, ◌==◌, Bool, true, false, not, List, [], ◌∷◌, Option, Some, None, if◌then◌else◌}
 use Rattle.msg_grammar.specs.declared.MsgOut.TheVariants as to_target
 use Rattle.msg_grammar.specs.Messages.{out_bytes}
-use Rattle.scenario.specs.declared.value.AbortDef.{AbortDef}
-use Rattle.scenario.specs.declared.value.CmdDef.{CmdDef}
 use Rattle.scenario.specs.declared.value.HostDef.{HostDef}
 use Rattle.scenario.specs.declared.value.Tag.{Tag}
 use Rattle.scenario.specs.declared.value.Tag.TheVariants as tags
-use Rattle.scenario.specs.Value.{ScenarioValue}
-use Rattle.disk_array.specs.Processes.{command_at}
-use Rattle.bus_story.specs.HistoryEvents.{abort_line_at}
 use Rattle.bus_dialogue.specs.Words.{tag_bytes, offer_if, abort_bytes}
 use Rattle.initiator.specs.declared.mine.Mine.{Mine}
 use Rattle.initiator.specs.declared.mine.MyAbort.{MyAbort}
@@ -47,8 +42,3 @@ opening_by h negotiates v None = []
 opening_by h negotiates v (Some (own.Command n)) = mine_opening h negotiates false (mine_at v.mines n)
 opening_by h negotiates v (Some (own.Sense n)) = mine_opening h negotiates true (mine_at v.mines n)
 opening_by h negotiates v (Some (own.Abort n)) = my_abort_opening (my_abort_at v.aborts n)
-
--- The units that a scenario names are 0 to 7.
-pub record AreUnits (s : ScenarioValue) : Type 0 where
-  pub commands : (n : ℕ) (c : CmdDef) → command_at s.commands n ≡ Some c → c.unit < 8
-  pub aborts : (n : ℕ) (a : AbortDef) → abort_line_at s.aborts n ≡ Some a → a.unit < 8

@@ -1,23 +1,14 @@
--- What an initiator knows beside what the lines show, and what all devices are told.
-use Rattle.std.specs.Prelude.{ℕ, ◌≡◌, ◌<◌, ◌==◌, Bool, true, false, List, [], ◌∷◌, Option, Some, None, nat_le, if◌then◌else◌}
+-- What an initiator knows beside what all devices are told.
+use Rattle.std.specs.Prelude.{ℕ, ◌≡◌, ◌<◌, ◌==◌, true, false, List, Option, Some, None}
 use Rattle.bus_trace.specs.LineSet.{LineSet}
-use Rattle.bus_trace.specs.Trace.{drives, last_time}
-use Rattle.bus_trace.specs.Terms.{connection, receiver}
+use Rattle.bus_trace.specs.Terms.{connection}
 use Rattle.bus_trace.specs.declared.Row.{Row}
-use Rattle.bus_trace.specs.declared.agreements.Agreement.{Agreement}
 use Rattle.bus_trace.specs.declared.connection.Connection.{Connection}
-use Rattle.bus_lines.specs.Handshakes.{Handshakes, handshakes}
-use Rattle.bus_phases.specs.declared.words.End.{End}
-use Rattle.bus_phases.specs.Dialogue.{dialogue}
-use Rattle.scenario.specs.declared.value.FaultDef.{FaultDef}
 use Rattle.scenario.specs.declared.value.HostDef.{HostDef}
 use Rattle.scenario.specs.Value.{ScenarioValue}
 use Rattle.bus_story.specs.TraceHistory.{is_host, aim_of}
-use Rattle.bus_reactions.specs.declared.sight.Sight.{Sight}
-use Rattle.bus_reactions.specs.Sight.{sight}
 use Rattle.bus_dialogue.specs.Exchange.{Speech}
-use Rattle.bus_dialogue.specs.Hearing.{begun}
-use Rattle.bus_dialogue.specs.Sending.{Sending}
+use Rattle.bus_dialogue.specs.Sending.{Sending, byte_to_send}
 use Rattle.bus_due.specs.Own.{Own, own_of}
 use Rattle.bus_due.specs.Defs.{host_of, target_def_of}
 use Rattle.bus_due.specs.Wants.{ready_of, item_want_time, target_of}
@@ -26,35 +17,8 @@ use Rattle.bus_due.specs.RunSteps.{run_state}
 use Rattle.bus_due.specs.Due.{reset_from}
 use Rattle.initiator.specs.declared.due.Knowledge.{Knowledge}
 use Rattle.initiator.specs.declared.due.Sending as known
-use Rattle.initiator.specs.Itself.{ItselfValue}
+use Rattle.scsi_device.specs.Itself.{ItselfValue}
 use Rattle.initiator.specs.Intents.{IntentValue}
-
--- ---- what any device is told after some rows, and what this one drives
-
-pub record Told : Type 0 where
-  pub sight : Sight
-  pub handshakes : Handshakes
-  pub last : ℕ
-  pub receiver : Option ℕ
-  pub connection : Option Connection
-  -- of the connection: whether a phase has begun in it, its agreement, and whose request is open
-  pub begun : Bool
-  pub agreement : Agreement
-  pub offer : Option End
-  pub lines : LineSet
-
-abbrev pub told : List Row → ℕ → Told
-told rows dev = record {
-  sight = sight rows;
-  handshakes = handshakes rows;
-  last = last_time rows;
-  receiver = receiver rows;
-  connection = connection rows;
-  begun = begun rows;
-  agreement = (dialogue rows).heard.now.agreement;
-  offer = (dialogue rows).heard.now.offer;
-  lines = drives rows dev;
-}
 
 -- ---- what it knows itself
 
@@ -75,6 +39,10 @@ pub record IsOwnConnection (rows : List Row) (dev : ℕ) (n : Connection) : Type
   pub stands : connection rows ≡ Some n
   pub own : (n.initiator == dev) ≡ true
 
+-- Whatever the phase, these give the same byte.
+abbrev pub AreSameBytes : Sending → Sending → Type 0
+AreSameBytes a b = (bus : LineSet) (p : Speech) → byte_to_send bus p a ≡ byte_to_send bus p b
+
 -- This is what the initiator of this line of the scenario knows after these rows.
 pub record IsInitiatorOf (s : ScenarioValue) (rows : List Row) (h : HostDef) (i : InitiatorState) : Type 0 where
   pub own_is : i.own ≡ own_of rows h.dev
@@ -82,7 +50,7 @@ pub record IsInitiatorOf (s : ScenarioValue) (rows : List Row) (h : HostDef) (i 
   pub since_is : i.since ≡ item_want_time s (run_state s rows).story.sent h.dev
   pub callee_is : i.callee ≡ target_of s (aim_of (run_state s rows).story.aims h.dev)
   pub speech_is : (n : Connection) → IsOwnConnection rows h.dev n → i.speech ≡ (run_state s rows).exchange.speech
-  pub sending_is : (n : Connection) → IsOwnConnection rows h.dev n → i.sending ≡ sending_of s (run_state s rows)
+  pub sending_is : (n : Connection) → IsOwnConnection rows h.dev n → AreSameBytes i.sending (sending_of s (run_state s rows))
 
 -- ---- what the scenario says of it
 
@@ -97,16 +65,6 @@ pub record IsHostOf (s : ScenarioValue) (h : HostDef) : Type 0 where
 pub record IsNoTarget (s : ScenarioValue) (rows : List Row) (dev : ℕ) : Type 0 where
   pub no_process : ready_of s (run_state s rows) dev ≡ None
   pub not_called : (n : Connection) → connection rows ≡ Some n → (n.target == dev) ≡ false
-
--- ---- faults: the first that has not struck yet
-
-abbrev pub first_fault : List FaultDef → Option FaultDef
-first_fault [] = None
-first_fault (f ∷ faults) = Some f
-
-abbrev pub flip_by : Option FaultDef → ℕ → Option ℕ
-flip_by None time = None
-flip_by (Some f) time = if nat_le f.at time then Some f.bit else None
 
 -- What it knows, by its parts.
 abbrev pub state_by : ItselfValue → IntentValue → Speech → Sending → InitiatorState

@@ -1,6 +1,7 @@
 //! The book of an initiator: its own commands and aborts, how far each has come, and what it sends next.
 ghost use Rattle.std.specs.Prelude.{◌≡◌, ◌<◌, ◌==◌, [], length, IfOk};
-ghost use Rattle.std.specs.List.{list_any};
+ghost use Rattle.std.specs.List.{list_any, list_all};
+ghost use Rattle.initiator.specs.declared.mine.MyAbort.{MyAbort};
 ghost use Rattle.bus_story.specs.Items.{open_limit_of};
 ghost use Rattle.bus_due.specs.Wants.{own_command};
 ghost use Rattle.initiator.specs.Openings.{mine_at, my_abort_at};
@@ -13,9 +14,9 @@ use crate::marks::{
     all_aborts_tried, all_after_event, all_done, all_over, all_sent, all_tried, is_check,
 };
 use crate::mine::{Mine, MyAbort, OwnItem};
-use crate::resets::sooner_time;
 use bus_base::{Dev, Event, NoMemory, Ns, ProcId};
 use scenario::{AbortDef, CmdDef, HostDef, Scenario};
+use scsi_device::sooner_time;
 use std::alloc::Global;
 use std::marker::Model;
 
@@ -63,6 +64,13 @@ impl Book {
             count: 0,
             most: open_limit(scenario.hosts.as_slice(), dev),
         })
+    }
+
+    /// Its own commands, in the order of their numbers.
+    pub fn mines(&self) -> &[Mine]
+        ensures { result.now ≡ self.now.mines }
+    {
+        self.mines.as_slice()
     }
 
     /// Since when it wants to send something, in ns.
@@ -149,6 +157,13 @@ impl Book {
             }
         }
         0
+    }
+
+    /// Whether each abort of its own is sent, or given up.
+    pub fn aborts_done(&self) -> bool
+        ensures { result ≡ list_all (λ (a : MyAbort). a.done) self.now.aborts }
+    {
+        self.aborts.as_slice().iter().all(|abort| abort.done)
     }
 
     fn target(&self, number: u16) -> Option<Dev>

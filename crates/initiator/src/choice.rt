@@ -7,9 +7,9 @@ ghost use Rattle.initiator.specs.Mines.{open_mines, is_open_mine, is_done_mine, 
 ghost use Rattle.initiator.specs.Books.{is_sense_due, my_sense, has_number};
 
 use crate::mine::{Mine, MyAbort};
-use crate::resets::sooner_time;
 use bus_base::Ns;
 use scenario::Tag;
+use scsi_device::sooner_time;
 
 fn is_open(mine: &Mine) -> bool
     ensures { result ≡ is_open_mine mine.now }

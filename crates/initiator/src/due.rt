@@ -1,41 +1,36 @@
 // What an initiator does next, and when.
 ghost use Rattle.std.specs.Prelude.{ℕ, ◌≡◌, ◌<◌, ◌≤◌, ◌^◌, false, slice_index_or, List, Some};
 ghost use Rattle.bus_trace.specs.declared.Row.{Row};
-ghost use Rattle.bus_trace.specs.Agreements.{times_of};
 ghost use Rattle.bus_trace.specs.Trace.{bus, drives};
 ghost use Rattle.bus_trace.specs.Terms.{connection};
 ghost use Rattle.bus_lines.specs.BusView.{IsBusViewOf};
 ghost use Rattle.bus_lines.specs.Timely.{IsTimely, IsBefore};
 ghost use Rattle.connect.specs.Ready as link;
-ghost use Rattle.handshake.specs.Bounds.{IsReady, IsSteady};
+ghost use Rattle.handshake.specs.Bounds.{IsReady};
 ghost use Rattle.bus_phases.specs.declared.words.End.TheVariants.{Initiator};
 ghost use Rattle.bus_phases.specs.Dialogue.{is_of_other};
-ghost use Rattle.bus_reactions.specs.Ends.{sample_due};
 ghost use Rattle.scenario.specs.Value.{ScenarioValue};
 ghost use Rattle.bus_dialogue.specs.Observer.{IsObserverOf};
 ghost use Rattle.bus_dialogue.specs.Sending.{byte_to_send};
 ghost use Rattle.bus_due.specs.Next.{due};
 ghost use Rattle.bus_due.specs.Plain.{AreOfDevices};
 ghost use Rattle.bus_due.specs.RunSteps.{run_state};
-ghost use Rattle.bus_due.specs.Connected.{is_receiving};
-ghost use Rattle.initiator.specs.States.{sending_known, state_known, told, IsInitiatorOf, IsHostOf, IsNoTarget, first_fault, flip_by};
-ghost use Rattle.initiator.specs.Dues.{myself_by, want_by, link_by, pace_of_host, answering_of_host, plain_by, hand_by, calm_by, initiator_next};
+ghost use Rattle.scsi_device.specs.Told.{told, first_fault};
+ghost use Rattle.initiator.specs.States.{sending_known, state_known, IsInitiatorOf, IsHostOf, IsNoTarget};
+ghost use Rattle.initiator.specs.Dues.{myself_by, want_by, link_by, answering_of_host, plain_by, hand_by, calm_by, initiator_next};
 
 use crate::laws::dues_are_of_initiators;
-use crate::own_times::OwnTimes;
 use crate::speech::Speech;
 use bus_base::{Dev, Ns};
 use bus_dialogue::Observer;
 use bus_lines::BusView;
 use bus_phases::End;
-use bus_reactions::{Answering, Due, Myself, Pace, Want, sight_of};
-use bus_trace::{
-    ASSERTION_PERIOD, DATA_HOLD, Kind, Lines, NEGATION_PERIOD, SET_UP_TIME, ScsiId, TransferTimes,
-    is_command, is_data, is_message_out, transfer_times,
-};
+use bus_reactions::{Answering, Due, Myself, Want, sight_of};
+use bus_trace::{Lines, is_command, is_message_out};
 use connect::{due_with_reset, link_due, sample_time};
 use handshake::initiator_due;
 use scenario::{FaultDef, HostDef};
+use scsi_device::{OwnTimes, flip, is_receiving, pace, sampled};
 
 /// What an initiator sends of the process of its connection but for messages: the bytes of its command block and of its
 /// data, and the active pointers to them, in bytes.
@@ -90,46 +85,6 @@ fn byte_to_send(bus: Lines, speech: &Speech, sending: &Sending<'_>) -> u8
     }
 }
 
-fn flip(fault: Option<FaultDef>, time: Ns) -> Option<u8>
-    ensures { result ≡ flip_by fault time }
-{
-    match fault {
-        Some(fault) if fault.at <= time => Some(fault.bit),
-        _ => None,
-    }
-}
-
-// The times of a transfer period factor; one that is served nowhere has those of a transfer that is not fast.
-fn times_of(factor: u8) -> TransferTimes
-    ensures { result ≡ times_of factor }
-{
-    match transfer_times(factor) {
-        Some(times) => times,
-        None => TransferTimes {
-            period: 4 * Ns::from(factor),
-            assertion: ASSERTION_PERIOD,
-            negation: NEGATION_PERIOD,
-            set_up: SET_UP_TIME,
-            hold: DATA_HOLD,
-        },
-    }
-}
-
-// How bytes cross in the phase: by pulses where an agreement with an offset holds (6.1.5.2).
-fn pace(host: &HostDef, observer: &Observer) -> Pace
-    ensures exact { (rows : List Row) → IsObserverOf rows observer.now
-        → result ≡ pace_of_host host.now (told rows host.now.dev) }
-    ensures steady { IsSteady result }
-{
-    let agreement = observer.agreement();
-    Pace {
-        pulsed: observer.begun() && is_data(observer.view().bus()) && agreement.offset > 0,
-        offset: agreement.offset,
-        times: times_of(agreement.period),
-        lag: Ns::from(host.lag),
-    }
-}
-
 // What it is, by what the view shows of it.
 fn myself(host: &HostDef, view: &BusView, own: &OwnTimes) -> Myself
     requires below { host.now.dev < 8 }
@@ -173,28 +128,6 @@ fn speaks(offer: Option<End>) -> bool
     }
 }
 
-fn is_receiving(receiver: Option<ScsiId>, dev: Dev) -> bool
-    ensures { result ≡ is_receiving receiver dev }
-{
-    match receiver {
-        None => false,
-        Some(receiver) => receiver.get() == dev,
-    }
-}
-
-// The receiver of a byte takes a fault of it first.
-fn sampled(receives: bool, last: Ns, flip: Option<u8>, plain: Option<Due>) -> Option<Due>
-    ensures { result ≡ sample_due receives last flip plain }
-{
-    match flip {
-        Some(bit) if receives => Some(Due {
-            time: last,
-            kind: Kind::Fault(bit),
-        }),
-        _ => plain,
-    }
-}
-
 // What it has to do in the phase.
 fn answering(observer: &Observer, known: &Knowledge<'_>) -> Answering
     ensures exact { (rows : List Row) (dev : ℕ) → IsObserverOf rows observer.now
@@ -223,7 +156,7 @@ fn plain_due(host: &HostDef, observer: &Observer, known: &Knowledge<'_>) -> Opti
         &sight_of(view),
         view.handshakes(),
         &myself(host, view, known.own),
-        &pace(host, observer),
+        &pace(observer, host.lag),
         &answering(observer, known),
     )
 }

@@ -12,9 +12,11 @@ ghost use Rattle.bus_story.specs.TraceHistory.{aim_of};
 ghost use Rattle.initiator.specs.Wishes.{events_shown, target_by};
 ghost use Rattle.initiator.specs.Intents.{IsInitiator, IsIntentOf, is_news, news_in, wish_next, is_for_own_process};
 ghost use Rattle.initiator.specs.Negotiations.{aims_at_process};
-ghost use Rattle.initiator.specs.Openings.{opening_by, AreUnits};
+ghost use Rattle.initiator.specs.Openings.{opening_by};
+ghost use Rattle.scsi_device.specs.Lines.{AreUnits};
 ghost use Rattle.bus_due.specs.Defs.{host_of, opening};
 
+use crate::book::Book;
 use crate::mine::OwnItem;
 use crate::openings::{Words, item_opening};
 use crate::wish::{Wish, is_entry};
@@ -118,6 +120,13 @@ impl Intent {
         self.callee
     }
 
+    /// Its own commands and aborts, and how far each has come.
+    pub fn book(&self) -> &Book
+        ensures { result.now ≡ self.now.wish.book }
+    {
+        self.wish.book()
+    }
+
     /// For what it last entered arbitration.
     pub fn aim(&self) -> Option<OwnItem>
         ensures { result ≡ self.now.wish.aim }
@@ -178,7 +187,9 @@ impl Intent {
     /// One more row, of any device, which shows these events, the newest first; the view is that after it.
     pub fn see(&mut self, view: &BusView, row: &Row, shown: &[Event])
         requires { row.now.dev < 8 }
-        ensures { (s : ScenarioValue) (rows : List Row) → IsBusViewOf (row.now ∷ rows) view.now
+        ensures dev { self.new.dev ≡ self.old.dev }
+        ensures retries { self.new.retries ≡ self.old.retries }
+        ensures trace { (s : ScenarioValue) (rows : List Row) → IsBusViewOf (row.now ∷ rows) view.now
             → AreOfDevices (row.now ∷ rows) → IsInitiator s self.old.dev self.old.retries
             → shown.now ≡ events_shown s rows row.now
             → IsIntentOf s rows self.old → IsIntentOf s (row.now ∷ rows) self.new }

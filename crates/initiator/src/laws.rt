@@ -11,10 +11,11 @@ ghost use Rattle.bus_due.specs.Wants.{ready_of};
 ghost use Rattle.bus_dialogue.specs.Exchange.{Speech};
 ghost use Rattle.bus_dialogue.specs.Sending.{Sending};
 ghost use Rattle.bus_due.specs.Sights.{sending_of};
-ghost use Rattle.initiator.specs.Itself.{ItselfValue, IsItselfOf};
+ghost use Rattle.scsi_device.specs.Itself.{ItselfValue, IsItselfOf};
 ghost use Rattle.initiator.specs.Intents.{IntentValue, IsIntentOf};
-ghost use Rattle.initiator.specs.States.{told, InitiatorState, IsOwnConnection, IsInitiatorOf, IsHostOf, IsNoTarget, first_fault, state_by};
-ghost use Rattle.initiator.specs.NoUnits.{HasNoUnit};
+ghost use Rattle.scsi_device.specs.Told.{told, first_fault};
+ghost use Rattle.initiator.specs.States.{AreSameBytes, InitiatorState, IsOwnConnection, IsInitiatorOf, IsHostOf, IsNoTarget, state_by};
+ghost use Rattle.scsi_device.specs.NoUnits.{HasNoUnit};
 ghost use Rattle.initiator.specs.Dues.{initiator_next};
 ghost use Rattle.initiator.specs.Speeches.{first_words, speech_at};
 ghost use Rattle.bus_trace.specs.declared.connection.Connection.{Connection};
@@ -25,6 +26,7 @@ ghost use Rattle.bus_dialogue.specs.Hearing.{hearing};
 ghost use Rattle.bus_due.specs.Defs.{host_of};
 
 use bus_due::{end_reactions_are_due, hearings_are_plain, kept_is_plain};
+use scsi_device::devices_know_enough;
 
 /// What is due of an initiator is what it does next by what all devices are told, by what it knows itself, and by the
 /// first fault that has not struck yet.
@@ -36,6 +38,7 @@ pub fn dues_are_of_initiators()
 {
     end_reactions_are_due();
     kept_is_plain();
+    devices_know_enough();
 }
 
 /// What the initiator of a connection says goes on by what each row tells it (`Speech::hear`), whatever the rows of the
@@ -52,14 +55,14 @@ pub fn speeches_are_heard()
     hearings_are_plain();
 }
 
-/// What an initiator knows itself is what its parts keep: of its own rows ([`Itself`](crate::Itself)), of what it wants
-/// ([`Intent`](crate::Intent)), and, in a connection of its own, of what it says and what it sends.
+/// What an initiator knows itself is what its parts keep: of its own rows ([`Itself`](scsi_device::Itself)), of what it
+/// wants ([`Intent`](crate::Intent)), and, in a connection of its own, of what it says and what it sends.
 pub fn initiators_are_their_parts()
     ensures { (s : ScenarioValue) (rows : List Row) (h : HostDef) (v : ItselfValue) (w : IntentValue)
         (speech : Speech) (sending : Sending) → AreOfDevices rows → h.dev < 8 → v.dev ≡ h.dev → w.dev ≡ h.dev
         → IsItselfOf s rows v → IsIntentOf s rows w
         → ((n : Connection) → IsOwnConnection rows h.dev n → speech ≡ speech_at s rows)
-        → ((n : Connection) → IsOwnConnection rows h.dev n → sending ≡ sending_of s (run_state s rows))
+        → ((n : Connection) → IsOwnConnection rows h.dev n → AreSameBytes sending (sending_of s (run_state s rows)))
         → IsInitiatorOf s rows h (state_by v w speech sending) }
 {}
 

@@ -116,7 +116,8 @@ fn has_tag(tag: Tag, number: u8) -> bool
     }
 }
 
-fn is_aborted(host: Dev, target: Dev, unit: u8, what: AbortKind, mine: &Mine) -> bool
+/// Whether an abort concerns a command of its own.
+pub fn is_aborted(host: Dev, target: Dev, unit: u8, what: AbortKind, mine: &Mine) -> bool
     ensures { result ≡ is_mine_aborted host target unit what mine.now }
 {
     match what {

@@ -17,7 +17,7 @@ use std::marker::Model;
 /// With which targets this initiator has had the connection in which the two may negotiate: the first one for a
 /// process that the initiator began, since the last reset of either. In a scenario of version 1 nobody negotiates after
 /// a reset.
-#[derive(Debug)]
+#[derive(Debug, Drop)]
 pub struct Negotiations {
     dev: Dev,
     version: u8,
@@ -107,6 +107,7 @@ impl Negotiations {
         after: Option<Connection>,
         shown: &[Event],
     )
+        ensures dev { self.new.dev ≡ self.old.dev }
         ensures exact { self.new ≡ negotiations_after self.old process before after shown.now }
         ensures trace { (s : ScenarioValue) (rows : List Row) (row : Row) → AreOfDevices (row ∷ rows)
             → before ≡ connection rows → after ≡ connection (row ∷ rows)

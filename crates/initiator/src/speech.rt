@@ -8,7 +8,7 @@ ghost use Rattle.bus_due.specs.Defs.{host_of};
 ghost use Rattle.bus_due.specs.Plain.{AreOfDevices};
 ghost use Rattle.initiator.specs.Speeches.{speech_in, speech_by, IsSpeechOf, IsOpeningOf};
 ghost use Rattle.bus_dialogue.specs.Exchange.{no_speech, next_word, attends_with, speech_after_byte, speech_of, speech_after_request};
-ghost use Rattle.bus_dialogue.specs.Words.{agreement_answer, host_answer};
+ghost use Rattle.bus_dialogue.specs.Words.{host_answer};
 ghost use Rattle.bus_dialogue.specs.Speaking.{words_after, speech_in_phase, speech_with_byte, speech_after};
 
 use crate::openings::Words;
@@ -18,6 +18,7 @@ use bus_due::{hearings_are_plain, kept_is_plain};
 use bus_trace::{Agreement, Connection, changes_phase, is_message_in, is_message_out};
 use msg_grammar::{MsgIn, MsgOut, encode_out};
 use scenario::HostDef;
+use scsi_device::agreement_answer;
 use std::marker::Model;
 
 /// What the initiator says in MESSAGE OUT, the place of its next byte, and what the target has last asked for by a
@@ -38,22 +39,6 @@ impl Model for Speech {
     ghost view = { λ a. record { words = a.words.items; place = a.place; asked = a.asked } };
 
     ghost invariant = { λ a. (a.place ≤ length a.words.items) × (length a.words.items ≤ 8) };
-}
-
-// The answer to a synchronous data transfer request (6.6.21).
-fn agreement_answer(period: u8, offset: u8, heard: Agreement) -> Agreement
-    ensures { result ≡ agreement_answer period offset heard }
-{
-    if period == 0 {
-        return Agreement {
-            period: heard.period,
-            offset: 0,
-        };
-    }
-    Agreement {
-        period: period.max(heard.period),
-        offset: offset.min(heard.offset),
-    }
 }
 
 // What it says of the phase before MESSAGE OUT.

@@ -2,7 +2,9 @@
 use Rattle.std.specs.Prelude.{ℕ, zero, suc, Bool, true, false, ◌&&◌, ◌==◌, List, [], ◌∷◌, ◌++◌, Option, Some, None, replicate, slice_set, if◌then◌else◌}
 use Rattle.std.specs.List.{list_any}
 use Rattle.bus_base.specs.declared.events.Pick.{Pick}
+use Rattle.bus_base.specs.declared.ProcId.{ProcId}
 use Rattle.disk_array.specs.declared.entries.Entry.{Entry}
+use Rattle.disk_array.specs.Processes.{same_id}
 use Rattle.tag_queue.specs.declared.those.Those.{Those}
 use Rattle.tag_queue.specs.declared.those.Those.TheVariants as those
 use Rattle.disk_array.specs.Order.{chosen_place, may_run}
@@ -147,3 +149,9 @@ with_none_held q = record q { hold = replicate 8 false }
 abbrev pub key_of : List Queued → ℕ → Option ℕ → Option ℕ
 key_of [] from tag = None
 key_of (q ∷ queued) from tag = if q.entry.from == from && same_tag q.entry.tag tag then Some q.key else key_of queued from tag
+
+-- ---- the first live command of a process
+
+abbrev pub key_of_process : List Queued → ProcId → Option ℕ
+key_of_process [] id = None
+key_of_process (q ∷ queued) id = if same_id q.entry.id id then Some q.key else key_of_process queued id

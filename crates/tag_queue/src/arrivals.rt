@@ -4,12 +4,13 @@ ghost use Rattle.std.specs.Prelude.{◌≡◌, ◌+◌, ◌-◌, ◌==◌, ◌&&
 ghost use Rattle.slab.specs.Slab.{get};
 ghost use Rattle.bus_base.specs.declared.events.Pick.TheVariants as picks;
 ghost use Rattle.disk_array.specs.declared.entries.Entry.{Entry};
+ghost use Rattle.disk_array.specs.Processes.{same_bool, same_id};
 ghost use Rattle.disk_array.specs.Order.{is_head as is_head_class, is_ordered as is_ordered_class, overlap, holds_back as holds_back_entry, last_head as last_head_place, may_run_in_order, picked_place, runnable_after, chosen_place};
-ghost use Rattle.tag_queue.specs.Queue.{is_current as is_current_key, key_at as waiting_key, key_at_if, place_of, same_tag as same_tag_number, key_of as first_key_of, is_of as is_of_initiator};
+ghost use Rattle.tag_queue.specs.Queue.{is_current as is_current_key, key_at as waiting_key, key_at_if, place_of, same_tag as same_tag_number, key_of as first_key_of, key_of_process as first_of_process, is_of as is_of_initiator};
 ghost use Rattle.tag_queue.specs.Stored.{queued_at, waiting_at, entries_at, held_back_by, AreKept, IsLive, lowered, lowered_by, first_of as first_key_of_those};
 
 use super::those::Those;
-use disk_array::{Class, Dev, Entry, Pick};
+use disk_array::{Class, Dev, Entry, Pick, ProcId};
 use slab::Slab;
 
 /// What a command is called by for as long as it is live.
@@ -228,6 +229,32 @@ pub fn key_of(
     for arrival in arrivals {
         let entry = live_entry(entries, arrival.key);
         if entry.from == from && same_tag(entry.tag, tag) {
+            return Some(arrival.key);
+        }
+    }
+    None
+}
+
+fn same_kind(one: bool, other: bool) -> bool
+    ensures { result ≡ same_bool one other }
+{
+    if one { other } else { !other }
+}
+
+fn is_process(one: ProcId, other: ProcId) -> bool
+    ensures { result ≡ same_id one other }
+{
+    one.command == other.command && same_kind(one.sense, other.sense)
+}
+
+/// The key of the first live command of a process.
+pub fn key_of_process(entries: &Slab<Entry>, arrivals: &[Arrival], id: ProcId) -> Option<Key>
+    requires kept { (current : Option ℕ) × AreKept entries.now None current [] arrivals.now }
+    ensures { result ≡ first_of_process (queued_at entries.now arrivals.now) id }
+{
+    for arrival in arrivals {
+        let entry = live_entry(entries, arrival.key);
+        if is_process(entry.id, id) {
             return Some(arrival.key);
         }
     }

@@ -1,16 +1,16 @@
 //! The queue of a logical unit (ANSI X3.131-1994, 6.6.17 and 7.8).
-ghost use Rattle.std.specs.Prelude.{◌≡◌, ◌+◌, ◌<◌, ◌⊎◌, true, false, [], ◌∷◌, ◌++◌, length, Some, None, IfNone, IfSome, IfOk, OnOk, OnErr, slice_index_or};
+ghost use Rattle.std.specs.Prelude.{◌≡◌, ◌+◌, ◌<◌, ◌==◌, not, nat_lt, ◌⊎◌, true, false, [], ◌∷◌, ◌++◌, length, Some, None, IfNone, IfSome, IfOk, OnOk, OnErr, slice_index_or};
 ghost use Rattle.disk_array.specs.Order.{chosen_place};
-ghost use Rattle.tag_queue.specs.Queue.{queued, empty_queue, queue_with, queue_started, queue_left, queue_without, queue_cleared_of, those_of, has_any as any_of, with_held, with_none_held, is_current as is_current_key, is_held, has_key, entry_at, without_key, waiting_of, entries_in, key_at_if, chosen_key, may_run_key, key_of as first_key_of};
+ghost use Rattle.tag_queue.specs.Queue.{queued, empty_queue, queue_with, queue_started, queue_left, queue_without, queue_cleared_of, those_of, has_any as any_of, with_held, with_none_held, is_current as is_current_key, is_held, has_key, entry_at, without_key, waiting_of, entries_in, key_at_if, chosen_key, may_run_key, key_of as first_key_of, key_of_process as first_of_process};
 ghost use Rattle.tag_queue.specs.Stored.{AreOf};
 
 use super::arrivals::{
-    Arrival, Key, earlier_conflicts, first_of, is_current, key_at, key_of, last_head, lower_later,
-    place_standing, runnable_place,
+    Arrival, Key, earlier_conflicts, first_of, is_current, key_at, key_of, key_of_process,
+    last_head, lower_later, place_standing, runnable_place,
 };
 use super::those::Those;
 use bus_base::NoMemory;
-use disk_array::{Dev, Entry, Pick};
+use disk_array::{Dev, Entry, Pick, ProcId};
 use slab::Slab;
 use std::alloc::Global;
 use std::marker::Model;
@@ -86,7 +86,8 @@ impl Queue {
 
     /// The key of the current command.
     pub fn current(&self) -> Option<Key>
-        ensures { result ≡ self.now.current }
+        ensures exact { result ≡ self.now.current }
+        ensures live { IfSome result (λ key. has_key self.now.arrived key ≡ true) }
     {
         self.current
     }
@@ -275,5 +276,26 @@ impl Queue {
         ensures { result ≡ first_key_of self.now.arrived from tag }
     {
         key_of(&self.entries, self.arrivals.as_slice(), from, tag)
+    }
+
+    /// Whether there are as many live commands as its depth.
+    pub fn is_full(&self) -> bool
+        ensures { result ≡ not (nat_lt (length self.now.arrived) self.now.depth) }
+    {
+        !(self.live_count() < self.depth)
+    }
+
+    /// Whether there is no live command.
+    pub fn is_empty(&self) -> bool
+        ensures { result ≡ (length self.now.arrived == 0) }
+    {
+        self.live_count() == 0
+    }
+
+    /// The key of the first live command of a process.
+    pub fn find_process(&self, id: ProcId) -> Option<Key>
+        ensures { result ≡ first_of_process self.now.arrived id }
+    {
+        key_of_process(&self.entries, self.arrivals.as_slice(), id)
     }
 }

@@ -4,7 +4,8 @@ use Rattle.scenario.specs.declared.value.Policy.{Policy}
 use Rattle.bus_dialogue.specs.declared.exchange.Task.{Task}
 use Rattle.bus_dialogue.specs.DataRuns.{run_at}
 use Rattle.bus_dialogue.specs.PhaseBytes.{one_if}
-use Rattle.disk_target.proofs.Places.{held_place, start_held, held_sum}
+use Rattle.scsi_device.proofs.Places.{held_place}
+use Rattle.disk_target.proofs.Places.{start_held, held_sum}
 use Rattle.disk_target.proofs.data_runs.run_byte_place.Goals as goal
 
 within : (given : List ℕ) → length given < 2 ^ 64 → length given ≤ 2 ^ 64 - 1

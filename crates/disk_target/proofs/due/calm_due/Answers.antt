@@ -1,6 +1,7 @@
 use Rattle.std.proofs.Common.{◌∙◌, sym}
 use Rattle.bus_trace.specs.Terms.{connection}
-use Rattle.disk_target.specs.States.{told, state_of}
+use Rattle.scsi_device.specs.Told.{told}
+use Rattle.disk_target.specs.States.{state_of}
 use Rattle.disk_target.specs.Dues.{calm_by}
 use Rattle.disk_target.proofs.due.calm_due.Goals as goal
 

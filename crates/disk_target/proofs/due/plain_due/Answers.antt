@@ -1,4 +1,4 @@
-use Rattle.std.proofs.Common.{ℕ, ◌^◌, ◌∙◌, sym, subst}
+use Rattle.std.proofs.Common.{ℕ, ◌^◌, ◌∙◌, refl, sym, subst, None}
 use Rattle.bus_lines.specs.BusView.{BusViewValue}
 use Rattle.bus_lines.specs.Timely.{IsTimely}
 use Rattle.bus_reactions.specs.Ends as hand
@@ -12,6 +12,6 @@ pub returns : goal.returns
 returns c = λ rows given o b.
     let v = c.view-view.ensures.trace rows o in
     let dev : ℕ = c.args.known.now.serving.def.dev in
-    let paced = c.pace-pace.ensures.exact rows dev o in
+    let paced = c.pace-pace.ensures.exact rows dev None o refl in
     c.target_due.ensures
     ∙ (λ j. hand.target_due (c.begun.ensures rows o j) (c.sight_of.ensures.trace rows v j) (c.handshakes.ensures.trace rows v j) (c.myself.ensures.exact rows v j) (paced j) (c.offering.ensures.exact rows given o b (λ i. (paced i).pulsed) j))

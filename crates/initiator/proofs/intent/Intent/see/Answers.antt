@@ -3,8 +3,8 @@ use Rattle.initiator.proofs.Ends.{initiators_are}
 use Rattle.initiator.proofs.Intents.{intent_goes_on}
 use Rattle.initiator.proofs.intent.Intent.see.Goals as goal
 
-pub returns : goal.returns
-returns c = λ s rows v d i told h.
+pub returns-clause-trace : goal.returns-clause-trace
+returns-clause-trace c = λ s rows v d i told h.
     let row = c.args.row.now in
     let e = c.effect.ensures.trace (row ∷ rows) v in
     let n = c.connection.ensures.trace (row ∷ rows) v in

@@ -1,0 +1,124 @@
+//! Tests of `vcd_text` and `text_pages`: each public function once, pieces of every length, and sinks that fail at
+//! every call.
+ghost use Rattle.std.specs.Prelude.{◌<◌};
+ghost use Rattle.std.specs.List.{AllByRecursion};
+ghost use Rattle.bus_trace.specs.OfTrace.{IsRow};
+
+use bitflags::Flags;
+use bus_base::MemSink;
+use bus_trace::{Kind, Lines, Row};
+use std::test::Fail;
+use text_pages::{flush, is_failed, new_page, put, put_number};
+use vcd_text::{VcdBad, VcdReader, VcdRows, read_vcd, write_vcd};
+
+// One of each word that a dump may have.
+const MIXED: &'static str =
+    "$comment a $end $timescale 1 ns $end $scope module x $end $var wire 18 a d3 $end \
+    $var real 64 r t $end $upscope $end $enddefinitions $end $dumpall b1 a r1.5e3 r $end #5 B010 a $comment b $end \
+    bx1z r 0r #007";
+
+// Dumps, each with how many rows it has and its end, or the line of the first token that breaks the form.
+const DUMPS: [(&'static str, Result<(usize, u64), u32>); 10] = [
+    (MIXED, Ok((2, 7))),
+    ("$timescale 1ns $end $enddefinitions $end", Ok((0, 0))),
+    ("", Err(1)),
+    ("\n\n$end\n", Err(3)),
+    ("$timescale 1us $end", Err(1)),
+    ("$timescale 1ns $end\n$enddefinitions\n$end\n#", Err(4)),
+    (
+        "$timescale 1ns $end\n$enddefinitions\n$end\n$dumpoff $end",
+        Err(4),
+    ),
+    ("$timescale 1ns $end $enddefinitions $end\n#5\n#4", Err(3)),
+    (
+        "$timescale 1ns $end $var wire 18 a d0 $end $enddefinitions $end\nb2 a",
+        Err(2),
+    ),
+    (
+        "$timescale 1ns $end $var wire 18 a d0 $end $enddefinitions $end\nb1\nb",
+        Err(3),
+    ),
+];
+
+fn is_as_wanted(read: &Result<VcdRows, VcdBad>, wanted: Result<(usize, u64), u32>) -> bool {
+    match (read, wanted) {
+        (Ok(dump), Ok((count, end))) => dump.rows.len() == count && dump.end == end,
+        (Err(VcdBad::At { line }), Err(at)) => *line == at,
+        _ => false,
+    }
+}
+
+#[test]
+fn reads_dumps(rt: HostRuntime) -> Result<(), Fail> {
+    for (text, wanted) in DUMPS {
+        let read = read_vcd(rt.alloc(), text.as_bytes());
+        assert!(rt; is_as_wanted(&read, wanted), "{text:?}");
+    }
+    Ok(())
+}
+
+#[test]
+fn reads_pieces(rt: HostRuntime) -> Result<(), Fail> {
+    for len in 1..40 {
+        let mut reader = VcdReader::new(rt.alloc());
+        for piece in MIXED.as_bytes().chunks(len) {
+            reader.take_all(rt.alloc(), piece)?;
+        }
+        let read = reader.finish(rt.alloc());
+        assert!(rt; is_as_wanted(&read, Ok((2, 7))), "{len}");
+    }
+    Ok(())
+}
+
+fn driven(time: u64, dev: u8, bits: u32) -> Row
+    requires { dev < 8 }
+    ensures { IsRow result }
+{
+    Row {
+        time,
+        dev,
+        kind: Kind::Drives(Lines::from_bits_retain(bits)),
+    }
+}
+
+fn two_rows() -> [Row; 2]
+    ensures { AllByRecursion IsRow result }
+{
+    [driven(1200, 7, 0x280), driven(1200, 7, 0x680)]
+}
+
+#[test]
+fn writes_dumps(rt: HostRuntime) -> Result<(), Fail> {
+    let rows = two_rows();
+    let mut out = MemSink::new(rt.alloc(), 8192, 100, &[])?;
+    assert!(rt; write_vcd(&rows, 1300, &mut out).is_ok());
+    let end = b"#1200\nb000000001010000000 h\nb000000011010000000 h\n#1300\n";
+    assert!(rt; out.bytes().ends_with(end));
+    let read = read_vcd(rt.alloc(), out.bytes());
+    assert!(rt; is_as_wanted(&read, Ok((2, 1300))));
+    Ok(())
+}
+
+#[test]
+fn fails_with_the_sink(rt: HostRuntime) -> Result<(), Fail> {
+    let rows = two_rows();
+    for bad in 1..6 {
+        let mut out = MemSink::new(rt.alloc(), 8192, 100, &[bad])?;
+        assert!(rt; write_vcd(&rows, 1200, &mut out).is_err(), "{bad}");
+    }
+    Ok(())
+}
+
+#[test]
+fn puts_past_a_page(rt: HostRuntime) -> Result<(), Fail> {
+    let mut out = MemSink::new(rt.alloc(), 16384, 5000, &[])?;
+    let mut page = new_page();
+    put(&mut out, &mut page, b"ab");
+    put_number(&mut out, &mut page, 12);
+    put(&mut out, &mut page, &[b'c'; 5000]);
+    flush(&mut out, &mut page);
+    assert!(rt; !is_failed(&page));
+    assert_eq!(rt; out.bytes().len(), 5004);
+    assert!(rt; out.bytes().starts_with(b"ab12c"));
+    Ok(())
+}

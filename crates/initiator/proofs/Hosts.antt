@@ -1,0 +1,100 @@
+-- An initiator by its parts.
+use Rattle.std.proofs.Common.{ℕ, ◌≡◌, ◌==◌, ◌∙◌, ◌<◌, ◌≤◌, Bool, true, false, List, [], sym, subst, Option, Some, None}
+use Rattle.std.specs.Prelude.{if◌then◌else◌, not, ◌&&◌}
+use Rattle.std.proofs.lemmas.Bool.Decides.{nat_tests}
+use native.Mathlib.Omega.{arith}
+use Rattle.bus_trace.specs.declared.Row.{Row}
+use Rattle.bus_trace.specs.declared.connection.Connection.{Connection}
+use Rattle.bus_trace.specs.Terms.{connection}
+use Rattle.scenario.specs.Value.{ScenarioValue}
+use Rattle.bus_story.specs.Links.{Link}
+use Rattle.bus_story.specs.TraceHistory.{aim_of, is_host, retries_of}
+use Rattle.scenario.specs.declared.value.HostDef.{HostDef}
+use Rattle.scsi_device.specs.Lines.{IsHostLine}
+use Rattle.initiator.specs.Intents.{IsInitiator}
+use Rattle.bus_due.specs.Defs.{opening}
+use Rattle.bus_due.specs.LastingState.{has_negotiated}
+use Rattle.bus_due.specs.RunState.{RunState, item_of}
+use Rattle.bus_due.specs.RunSteps.{run_state, is_for_process, may_negotiate}
+use Rattle.bus_due.specs.Sights.{sending_of}
+use Rattle.bus_due.specs.Telling.{id_of}
+use Rattle.scenario.specs.declared.value.CmdDef.{CmdDef}
+use Rattle.disk_array.specs.Processes.{command_at}
+use Rattle.bus_dialogue.specs.Sending.{byte_to_send}
+use Rattle.bus_due.specs.Plain.{AreOfDevices, IsPlain}
+use Rattle.scsi_device.specs.Lines.{IsCommandLine}
+use Rattle.initiator.specs.Hosts.{HostValue, IsHostAfter}
+use Rattle.initiator.specs.OwnBytes.{sending_from}
+use Rattle.initiator.specs.Wishes.{IsItemIf}
+use Rattle.initiator.proofs.OwnedLinks.{IsOwnedIf}
+use Rattle.initiator.proofs.Sendings.{sendings_are}
+use Rattle.initiator.proofs.TransferRows.{process_is, pointers_are, link_owned}
+use Rattle.initiator.specs.OwnLinks.{own_link}
+use Rattle.initiator.specs.Speeches.{first_words}
+use Rattle.initiator.specs.States.{IsOwnConnection, AreSameBytes}
+use Rattle.initiator.specs.Transfers.{active_of, active_at, process_of_link}
+
+same_number : (a b : ℕ) → (a == b) ≡ true → a ≡ b
+same_number a b e = grind (arith, nat_tests)
+
+-- What it says first in a connection that it begins, where it knows whether the two may negotiate.
+pub first_is : (s : ScenarioValue) (rows : List Row) (dev target : ℕ) (x : Bool) (n : Connection) → (n.initiator == dev) ≡ true → n.target ≡ target → n.reselected ≡ false
+    → x ≡ (is_for_process (aim_of (run_state s rows).story.aims dev) && not (has_negotiated (run_state s rows).negotiated dev target))
+    → opening s dev x (aim_of (run_state s rows).story.aims dev) ≡ first_words s rows n
+first_is s rows dev target x n own called first e =
+    let k : RunState = run_state s rows in
+    let same : dev ≡ n.initiator = sym (same_number n.initiator dev own) in
+    (λ i. opening s dev (e i) (aim_of k.story.aims dev))
+    ∙ (λ i. opening s (same i) (is_for_process (aim_of k.story.aims (same i)) && not (has_negotiated k.negotiated (same i) (sym called i))) (aim_of k.story.aims (same i)))
+    ∙ (λ i. if sym first i then [] else opening s n.initiator (may_negotiate k n (aim_of k.story.aims n.initiator)) (aim_of k.story.aims n.initiator))
+
+-- In a connection of its own the link that it knows is that of the connection.
+pub own_link_is : (rows : List Row) (dev : ℕ) (n : Connection) (l : Option Link) → IsOwnConnection rows dev n → own_link dev (connection rows) l ≡ l
+own_link_is rows dev n l o = (λ i. own_link dev (o.stands i) l) ∙ (λ i. if o.own i then l else None)
+
+-- It is the initiator that its line names, and has its limit of tries.
+pub is_initiator : (s : ScenarioValue) (h : HostDef) (dev retries : ℕ) → IsHostLine s h → dev ≡ h.dev → retries ≡ h.retries → IsInitiator s dev retries
+is_initiator s h dev retries line e r = record {
+  below = subst (λ (n : ℕ). n < 8) (sym e) line.below;
+  is_one = (λ i. is_host s.hosts (e i)) ∙ line.is_one;
+  retries_are = r ∙ line.retries_are ∙ (λ i. retries_of s.hosts (sym e i));
+  few = below_255 retries h.retries r line.few;
+}
+  where
+    below_255 : (n k : ℕ) → n ≡ k → k ≤ 16 → n < 255
+    below_255 n k e h = omega (arith, e, h)
+
+-- ---- what it sends
+
+item_owned : (s : ScenarioValue) (dev : ℕ) (l : Option Link) → IsOwnedIf s dev l → IsItemIf s dev (item_of l)
+item_owned s dev None h = tt
+item_owned s dev (Some l) h = h.item
+
+-- In a connection of its own it sends what the scenario has it send.
+pub host_sends : (s : ScenarioValue) (rows : List Row) (v : HostValue) → ((m : ℕ) (c : CmdDef) → command_at s.commands m ≡ Some c → IsCommandLine s c) → IsPlain s rows (run_state s rows) → AreOfDevices rows → IsHostAfter s rows v → (n : Connection) → IsOwnConnection rows v.def.dev n
+    → AreSameBytes (sending_from v.bytes (process_of_link v.transfers.link) (active_at v.transfers.held (process_of_link v.transfers.link))) (sending_of s (run_state s rows))
+host_sends s rows v lines p d h n o = λ bus q.
+    (λ i. byte_to_send bus q (sending_from (h.bytes_are i) (serves i) (place i)))
+    ∙ sendings_are s k v.def.dev (item_of k.story.link) lines mine bus q
+  where
+    k : RunState
+    k = run_state s rows
+
+    linked : own_link v.transfers.dev (connection rows) k.story.link ≡ k.story.link
+    linked = (λ i. own_link (h.transfers_dev i) (connection rows) k.story.link) ∙ own_link_is rows v.def.dev n k.story.link o
+
+    serves : process_of_link v.transfers.link ≡ id_of (item_of k.story.link)
+    serves = process_is s rows v.transfers h.transfers_are ∙ (λ i. id_of (item_of (linked i)))
+
+    place : active_at v.transfers.held (process_of_link v.transfers.link) ≡ active_of k (id_of (item_of k.story.link))
+    place = pointers_are s rows v.transfers p d h.transfers_are ∙ (λ i. active_of k (id_of (item_of (linked i))))
+
+    owned : IsOwnedIf s v.transfers.dev k.story.link
+    owned = subst (λ (l : Option Link). IsOwnedIf s v.transfers.dev l) linked (link_owned s rows v.transfers.dev p d)
+
+    mine : IsItemIf s v.def.dev (item_of k.story.link)
+    mine = item_owned s v.def.dev k.story.link (subst (λ (z : ℕ). IsOwnedIf s z k.story.link) h.transfers_dev owned)
+
+pub and_right : (p q : Bool) → (p && q) ≡ true → q ≡ true
+and_right true q e = e
+and_right false q e = cc

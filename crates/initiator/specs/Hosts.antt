@@ -1,0 +1,65 @@
+-- An initiator of a scenario: its line, and what it knows after some rows.
+use Rattle.std.specs.Prelude.{ℕ, ◌≡◌, ◌==◌, Bool, true, false, List, Option, Some, None}
+use Rattle.std.specs.List.{list_all}
+use Rattle.bus_base.specs.declared.ProcId.{ProcId}
+use Rattle.bus_due.specs.RunSteps.{run_state}
+use Rattle.initiator.specs.declared.mine.MyAbort.{MyAbort}
+use Rattle.initiator.specs.Mines.{my_aborts}
+use Rattle.bus_trace.specs.declared.Row.{Row}
+use Rattle.bus_trace.specs.declared.connection.Connection.{Connection}
+use Rattle.bus_trace.specs.Terms.{connection}
+use Rattle.scenario.specs.declared.value.HostDef.{HostDef}
+use Rattle.scenario.specs.Value.{ScenarioValue}
+use Rattle.bus_dialogue.specs.Exchange as exchange
+use Rattle.scsi_device.specs.Itself.{ItselfValue, IsItselfOf}
+use Rattle.scsi_device.specs.Lines.{IsHostLine}
+use Rattle.initiator.specs.declared.endings.CommandEnd.{CommandEnd}
+use Rattle.initiator.specs.Endings.{AreEndingsOf}
+use Rattle.initiator.specs.Received.{BufferPairValue, AreReceived, undoes_no_byte}
+use Rattle.initiator.specs.Intents.{IntentValue, IsIntentOf}
+use Rattle.initiator.specs.Negotiations.{NegotiationsValue, IsNegotiationsOf}
+use Rattle.initiator.specs.OwnBytes.{CommandBytesValue, own_bytes}
+use Rattle.initiator.specs.Speeches.{IsSpeechOf}
+use Rattle.initiator.specs.Transfers.{TransfersValue, IsTransfersOf}
+
+pub record HostValue : Type 0 where
+  pub def : HostDef
+  pub itself : ItselfValue
+  pub intent : IntentValue
+  pub negotiations : NegotiationsValue
+  pub speech : exchange.Speech
+  pub transfers : TransfersValue
+  pub received : List BufferPairValue
+  pub endings : List CommandEnd
+  pub bytes : List CommandBytesValue
+
+-- Its parts are of this initiator of the scenario, and each knows what these rows make known.
+pub record IsHostAfter (s : ScenarioValue) (rows : List Row) (v : HostValue) : Type 0 where
+  pub line : IsHostLine s v.def
+  pub itself_dev : v.itself.dev ≡ v.def.dev
+  pub intent_dev : v.intent.dev ≡ v.def.dev
+  pub intent_retries : v.intent.retries ≡ v.def.retries
+  pub negotiations_dev : v.negotiations.dev ≡ v.def.dev
+  pub transfers_dev : v.transfers.dev ≡ v.def.dev
+  pub itself_is : IsItselfOf s rows v.itself
+  pub intent_is : IsIntentOf s rows v.intent
+  pub negotiations_are : IsNegotiationsOf s rows v.negotiations
+  pub speech_is : IsSpeechOf s rows v.def.dev v.speech
+  pub transfers_are : IsTransfersOf s rows v.transfers
+  -- where no row takes a byte of data back
+  pub received_is : undoes_no_byte s rows ≡ true → AreReceived s rows v.def.dev v.received
+  pub endings_are : AreEndingsOf s rows v.def.dev v.endings
+  pub bytes_are : v.bytes ≡ own_bytes s v.def.dev
+
+-- No connection stands of which this device is the target.
+abbrev pub IsNeverCalled : List Row → ℕ → Type 0
+IsNeverCalled rows dev = (n : Connection) → connection rows ≡ Some n → (n.target == dev) ≡ false
+
+-- Of no process the command is 0.
+abbrev pub process_or_none : Option ProcId → ProcId
+process_or_none None = record { command = 0; sense = false }
+process_or_none (Some id) = id
+
+-- Each abort line of this initiator is sent, or dropped.
+abbrev pub are_aborts_done : ScenarioValue → List Row → ℕ → Bool
+are_aborts_done s rows dev = list_all (λ (a : MyAbort). a.done) (my_aborts (run_state s rows).story.sent dev 1 s.aborts)

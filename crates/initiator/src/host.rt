@@ -1,0 +1,359 @@
+//! An initiator of a scenario: what it knows, row by row, and what it does next (ANSI X3.131-1994, 6 and 7).
+ghost use Rattle.std.specs.Prelude.{◌≡◌, ◌<◌, ◌≤◌, ◌==◌, ◌^◌, [], ◌∷◌, List, length, is_some, true, IfOk};
+ghost use Rattle.std.specs.List.{find};
+ghost use Rattle.bus_trace.specs.declared.Row.{Row};
+ghost use Rattle.bus_trace.specs.Terms.{connection};
+ghost use Rattle.bus_lines.specs.BusView.{IsBusViewOf};
+ghost use Rattle.bus_lines.specs.Timely.{IsTimely, IsBefore};
+ghost use Rattle.bus_dialogue.specs.Hearing.{hearing as hearing_in};
+ghost use Rattle.bus_dialogue.specs.Observer.{IsObserverOf};
+ghost use Rattle.bus_due.specs.Defs.{host_of};
+ghost use Rattle.bus_due.specs.Next.{due};
+ghost use Rattle.bus_due.specs.Plain.{AreOfDevices};
+ghost use Rattle.bus_due.specs.RunSteps.{run_state};
+ghost use Rattle.scenario.specs.Value.{ScenarioValue};
+ghost use Rattle.scenario.specs.Writing.{Obeys};
+ghost use Rattle.scsi_device.specs.Lines.{FitsBus, IsHostLine, AreUnits};
+ghost use Rattle.scsi_device.specs.Told.{first_fault};
+ghost use Rattle.bus_trace.specs.declared.connection.Connection.{Connection};
+ghost use Rattle.bus_story.specs.BusState.{row_reading};
+ghost use Rattle.bus_due.specs.RunState.{item_of};
+ghost use Rattle.bus_due.specs.Telling.{id_of, initiator_events};
+ghost use Rattle.scsi_device.specs.Acts.{act_of};
+ghost use Rattle.initiator.specs.Hosts.{IsHostAfter, IsNeverCalled, process_or_none, are_aborts_done};
+ghost use Rattle.scenario.specs.declared.value.CmdDef.{CmdDef};
+ghost use Rattle.disk_array.specs.Processes.{command_at};
+ghost use Rattle.initiator.specs.Books.{my_book};
+ghost use Rattle.initiator.specs.Endings.{end_at};
+ghost use Rattle.initiator.specs.Openings.{mine_at};
+ghost use Rattle.initiator.specs.Outcomes.{are_replies, told_outcome_if, settled_outcome, is_sense_over};
+ghost use Rattle.initiator.specs.Received.{pair_at};
+ghost use Rattle.initiator.specs.OwnBytes.{sending_from};
+ghost use Rattle.initiator.specs.Speeches.{IsOpeningOf};
+ghost use Rattle.initiator.specs.States.{sending_known, IsOwnConnection};
+ghost use Rattle.initiator.specs.Intents.{IsIntentOf};
+ghost use Rattle.initiator.specs.Transfers.{active_at, process_of_link, IsTransfersOf, event_if};
+ghost use Rattle.initiator.specs.Wishes.{events_shown};
+
+use crate::due::{Knowledge, Sending, initiator_next};
+use crate::endings::{Endings, see_endings};
+use crate::intent::Intent;
+use crate::laws::{initiators_are_their_parts, initiators_have_no_unit};
+use crate::negotiations::Negotiations;
+use crate::openings::Words;
+use crate::outcome::Outcome;
+use crate::own_bytes::OwnBytes;
+use crate::received::{Received, see_received};
+use crate::speech::Speech;
+use crate::transfers::Transfers;
+use bus_base::{Dev, Event, NoMemory, Ns, ProcId};
+use bus_dialogue::{Hearing, Observer};
+use bus_due::kept_is_plain;
+use bus_lines::BusView;
+use bus_reactions::Due;
+use bus_trace::{Connection, Row};
+use scenario::{FaultDef, HostDef, Scenario};
+use scsi_device::{Act, Itself, scenarios_fit_the_bus};
+use std::alloc::Global;
+use std::marker::Model;
+
+/// An initiator of a scenario.
+#[derive(Debug, Drop)]
+pub struct Host {
+    def: HostDef,
+    itself: Itself,
+    intent: Intent,
+    negotiations: Negotiations,
+    speech: Speech,
+    transfers: Transfers,
+    received: Received,
+    endings: Endings,
+    bytes: OwnBytes,
+}
+
+impl Model for Host {
+    ghost use Rattle.std.specs.Prelude.{◌<◌, ◌≤◌};
+    ghost use Rattle.initiator.specs.Hosts.{HostValue};
+
+    ghost Value = { HostValue };
+
+    ghost view = { λ a. record {
+      def = a.def;
+      itself = a.itself;
+      intent = a.intent;
+      negotiations = a.negotiations;
+      speech = a.speech;
+      transfers = a.transfers;
+      received = a.received;
+      endings = a.endings;
+      bytes = a.bytes;
+    } };
+
+    ghost invariant = { λ a. (a.def.dev < 8) × (a.def.latency ≤ 100) };
+}
+
+// A time below 2^63, as all times of a scenario are.
+fn bounded(time: Option<Ns>) -> Option<Ns>
+    ensures bound { IsBefore (2 ^ 63) result }
+    ensures same { IsBefore (2 ^ 63) time → result ≡ time }
+{
+    match time {
+        Some(time) if time < 1 << 63 => Some(time),
+        _ => None,
+    }
+}
+
+// The connection before the last row.
+fn connection_before(view: &BusView) -> Option<Connection>
+    ensures { (rows : List Row) (row : Row) → IsBusViewOf (row ∷ rows) view.now → result ≡ connection rows }
+{
+    view.effect().before
+}
+
+// A row told this, before and after which these connections stand; the initiator has not gone on by it yet.
+fn see_transfers(
+    transfers: &mut Transfers,
+    intent: &Intent,
+    hearing: &Hearing,
+    before: Option<Connection>,
+    after: Option<Connection>,
+)
+    ensures dev { transfers.new.dev ≡ transfers.old.dev }
+    ensures trace { (s : ScenarioValue) (rows : List Row) (row : Row) → AreOfDevices (row ∷ rows)
+        → hearing.now ≡ hearing_in rows row → before ≡ connection rows → after ≡ connection (row ∷ rows)
+        → intent.now.dev ≡ transfers.old.dev → IsIntentOf s rows intent.now
+        → IsTransfersOf s rows transfers.old → IsTransfersOf s (row ∷ rows) transfers.new }
+{
+    transfers.see(intent.book(), intent.aim(), hearing, before, after);
+}
+
+// The line of this initiator.
+fn host_line(hosts: &[HostDef], dev: Dev) -> Option<HostDef>
+    ensures { result ≡ find (λ (h : HostDef). h.dev == dev) hosts.now }
+{
+    for def in hosts {
+        if def.dev == dev {
+            return Some(*def);
+        }
+    }
+    None
+}
+
+impl Host {
+    // Of this line of the scenario.
+    fn of_line(alloc: Global, scenario: &Scenario, def: HostDef) -> Result<Host, NoMemory>
+        requires few_commands { length scenario.now.commands < 0xffff }
+        requires few_aborts { length scenario.now.aborts < 0xffff }
+        requires below { def.dev < 8 }
+        requires latency { def.latency ≤ 100 }
+        requires few { def.retries < 255 }
+        ensures named { IfOk result (λ made. made.def ≡ def) }
+        ensures trace { IsHostLine scenario.now def → IfOk result (λ made. IsHostAfter scenario.now [] made) }
+    {
+        let itself = Itself::new(alloc, scenario, def.dev)?;
+        let intent = Intent::new(alloc, scenario, def.dev, def.retries as u8)?;
+        let transfers = Transfers::new(alloc, scenario, def.dev)?;
+        let received = Received::new(alloc, scenario, def.dev)?;
+        let endings = Endings::new(alloc, scenario)?;
+        let bytes = OwnBytes::new(alloc, scenario, def.dev)?;
+        Ok(Host {
+            def,
+            itself,
+            intent,
+            negotiations: Negotiations::new(def.dev, scenario.version),
+            speech: Speech::new(),
+            transfers,
+            received,
+            endings,
+            bytes,
+        })
+    }
+
+    /// The initiator `dev` of a scenario that obeys the rules of its text, before any row. It takes all memory that it
+    /// ever has.
+    pub fn new(alloc: Global, scenario: &Scenario, dev: Dev) -> Result<Host, NoMemory>
+        requires lawful { Obeys scenario.now }
+        requires host { is_some (host_of scenario.now dev) ≡ true }
+        ensures named { IfOk result (λ made. made.def.dev ≡ dev) }
+        ensures trace { IfOk result (λ made. IsHostAfter scenario.now [] made) }
+    {
+        scenarios_fit_the_bus();
+        match host_line(scenario.hosts.as_slice(), dev) {
+            Some(def) => Host::of_line(alloc, scenario, def),
+            None => unreachable!(),
+        }
+    }
+
+    // What it says first, where this connection has begun by a selection of its own.
+    fn opening(&self, after: Option<Connection>) -> Words
+        ensures { (s : ScenarioValue) (rows : List Row) (row : Row) → AreOfDevices (row ∷ rows) → AreUnits s
+            → IsHostAfter s rows self.now → after ≡ connection (row ∷ rows)
+            → IsOpeningOf s rows row self.now.def.dev result.items }
+    {
+        let Some(connection) = after else {
+            return Words::new();
+        };
+        let negotiates = self.intent.is_for_process()
+            && !self.negotiations.includes(connection.target);
+        self.intent.opening(&self.def, negotiates)
+    }
+
+    /// One more row, of any device, which shows these events, the newest first; the observer has seen it.
+    pub fn see(&mut self, observer: &Observer, row: &Row, shown: &[Event])
+        requires device { row.now.dev < 8 }
+        requires timely { IsTimely (2 ^ 63) observer.now.view }
+        ensures def { self.new.def ≡ self.old.def }
+        ensures trace { (s : ScenarioValue) (rows : List Row) → FitsBus s → IsObserverOf (row.now ∷ rows) observer.now
+            → AreOfDevices (row.now ∷ rows) → shown.now ≡ events_shown s rows row.now
+            → IsHostAfter s rows self.old → IsHostAfter s (row.now ∷ rows) self.new }
+    {
+        scenarios_fit_the_bus();
+        let view = observer.view();
+        let hearing = observer.hearing();
+        let opening = self.opening(view.connection());
+        let process = self.intent.is_for_process();
+        let aim = self.intent.aim();
+        self.speech.see(
+            &self.def,
+            &opening,
+            hearing,
+            connection_before(view),
+            view.connection(),
+        );
+        see_received(
+            &mut self.received,
+            &self.transfers,
+            hearing,
+            view.connection(),
+        );
+        see_transfers(
+            &mut self.transfers,
+            &self.intent,
+            hearing,
+            connection_before(view),
+            view.connection(),
+        );
+        self.negotiations
+            .see(process, connection_before(view), view.connection(), shown);
+        self.itself.see(view, row);
+        self.intent.see(view, row, shown);
+        see_endings(&mut self.endings, &self.intent, aim, shown);
+    }
+
+    // What it sends of the process of its connection but for messages.
+    fn sending(&self) -> Sending<'_>
+        ensures { sending_known result ≡ sending_from self.now.bytes (process_of_link self.now.transfers.link)
+            (active_at self.now.transfers.held (process_of_link self.now.transfers.link)) }
+    {
+        let bytes = self.bytes.of(self.transfers.process());
+        let place = self.transfers.pointers();
+        Sending {
+            cdb: bytes.cdb(),
+            sent: bytes.sent(),
+            command: place.command as usize,
+            moved: place.payload as usize,
+        }
+    }
+
+    /// What it does next, and when, in ns, by the first fault that has not struck yet: exactly what is due of it, where
+    /// it was told of all rows and no connection stands of which it is the target. It changes nothing.
+    pub fn due(&self, observer: &Observer, fault: Option<FaultDef>) -> Option<Due>
+        requires timely { IsTimely (2 ^ 63) observer.now.view }
+        ensures { (s : ScenarioValue) (rows : List Row) → FitsBus s → IsObserverOf rows observer.now
+            → AreOfDevices rows → IsNeverCalled rows self.now.def.dev → IsHostAfter s rows self.now
+            → fault ≡ first_fault (run_state s rows).faults → result ≡ due s rows self.now.def.dev }
+    {
+        scenarios_fit_the_bus();
+        initiators_are_their_parts();
+        initiators_have_no_unit();
+        kept_is_plain();
+        let known = Knowledge {
+            own: self.itself.own(),
+            reset: self.itself.reset(),
+            since: bounded(self.intent.since()),
+            callee: self.intent.callee(),
+            speech: &self.speech,
+            sending: self.sending(),
+        };
+        initiator_next(&self.def, observer, &known, fault)
+    }
+
+    /// What it does at this moment, in ns: the row that is due by then, or when its next one is. It changes nothing.
+    pub fn step(&self, observer: &Observer, now: Ns, fault: Option<FaultDef>) -> Act
+        requires timely { IsTimely (2 ^ 63) observer.now.view }
+        ensures { (s : ScenarioValue) (rows : List Row) → FitsBus s → IsObserverOf rows observer.now
+            → AreOfDevices rows → IsNeverCalled rows self.now.def.dev → IsHostAfter s rows self.now
+            → fault ≡ first_fault (run_state s rows).faults → result ≡ act_of (due s rows self.now.def.dev) now }
+    {
+        Act::of(self.due(observer, fault), now)
+    }
+
+    /// The event that it shows in the last row, which the observer has seen and it has not: the end of a process, as it
+    /// takes COMMAND COMPLETE (6.6.5).
+    pub fn completion(&self, observer: &Observer) -> Option<Event>
+        ensures { (s : ScenarioValue) (rows : List Row) (row : Row) (n : Connection)
+            → IsObserverOf (row ∷ rows) observer.now → AreOfDevices (row ∷ rows) → IsHostAfter s rows self.now
+            → IsOwnConnection rows self.now.def.dev n → event_if result
+            ≡ initiator_events (run_state s rows) (run_state s rows).story.link
+            (row_reading (run_state s rows).story.bus_state row) }
+    {
+        self.transfers.completion(observer.hearing())
+    }
+
+    /// The process of the connection in which it stands; its command is 0 where it stands in none, or knows of no
+    /// process there.
+    pub fn process(&self) -> ProcId
+        ensures { (s : ScenarioValue) (rows : List Row) (n : Connection) → IsHostAfter s rows self.now
+            → IsOwnConnection rows self.now.def.dev n
+            → result ≡ process_or_none (id_of (item_of (run_state s rows).story.link)) }
+    {
+        match self.transfers.process() {
+            Some(id) => id,
+            None => ProcId {
+                command: 0,
+                sense: false,
+            },
+        }
+    }
+
+    /// Whether each abort line of its own is sent, or dropped.
+    pub fn aborts_done(&self) -> bool
+        ensures { (s : ScenarioValue) (rows : List Row) → IsHostAfter s rows self.now
+            → result ≡ are_aborts_done s rows self.now.def.dev }
+    {
+        self.intent.book().aborts_done()
+    }
+
+    // Whether the automatic REQUEST SENSE of a command of its own is over.
+    fn is_sense_over(&self, number: u16) -> bool
+        ensures { result ≡ is_sense_over (mine_at self.now.intent.wish.book.mines number) }
+    {
+        match self.intent.book().mine(number) {
+            Some(mine) => mine.sense_over,
+            None => false,
+        }
+    }
+
+    /// The outcome of a command of its own, by its number from 1, with the bytes that came to it, which are handed out.
+    /// None until it is known: while the command has not ended, and after CHECK CONDITION until its automatic REQUEST
+    /// SENSE has ended or is over without an end. It is the outcome that the rows tell, where what came to the command,
+    /// and to its automatic REQUEST SENSE, is the reply (`are_replies`). It takes no memory.
+    pub fn take_outcome(&mut self, alloc: Global, number: u16) -> Option<Outcome>
+        ensures { (s : ScenarioValue) (rows : List Row) (c : CmdDef) → IsHostAfter s rows self.old
+            → command_at s.commands number ≡ Some c → (c.host == self.old.def.dev) ≡ true
+            → are_replies s (run_state s rows).story number (end_at self.old.endings number)
+            (pair_at self.old.received number).command.bytes (pair_at self.old.received number).sense.bytes ≡ true
+            → told_outcome_if result ≡ settled_outcome s (run_state s rows).story number
+            (end_at self.old.endings number)
+            (is_sense_over (mine_at (my_book s (run_state s rows).story.sent self.old.def.dev).mines number)) }
+    {
+        let end = self.endings.end(number);
+        let over = self.is_sense_over(number);
+        let bytes = self.received.take(alloc, number);
+        let sense = self.received.bytes(ProcId {
+            command: number,
+            sense: true,
+        });
+        Outcome::new(end, over, bytes, sense)
+    }
+}

@@ -1,0 +1,10 @@
+pub mod Places
+mod Told
+mod OwnRows
+mod Dues
+pub mod Finds
+pub mod LineReads
+pub mod LinesSoFar
+pub mod LinesBuilt
+pub mod FitLines
+pub mod WantTimes

@@ -1,0 +1,5 @@
+pub mod NoUnits
+pub mod Lines
+pub mod Told
+pub mod Itself
+pub mod Acts

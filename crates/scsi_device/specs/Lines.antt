@@ -1,0 +1,95 @@
+-- What a scenario that obeys the rules of its text says of its devices, units, commands and aborts.
+use Rattle.std.specs.Prelude.{ℕ, ◌≡◌, ◌≤◌, ◌<◌, true, false, length, Some, None}
+use Rattle.std.specs.List.{AllByRecursion}
+use Rattle.text_words.specs.Spelling.{AreBytes}
+use Rattle.scenario.specs.declared.value.HostDef.{HostDef}
+use Rattle.scenario.specs.declared.value.TargetDef.{TargetDef}
+use Rattle.scenario.specs.declared.value.UnitDef.{UnitDef}
+use Rattle.scenario.specs.declared.value.CmdDef.{CmdDef}
+use Rattle.scenario.specs.declared.value.AbortDef.{AbortDef}
+use Rattle.scenario.specs.declared.value.ResetDef.{ResetDef}
+use Rattle.scenario.specs.declared.value.FaultDef.{FaultDef}
+use Rattle.scenario.specs.Lookups.{unit_of}
+use Rattle.scenario.specs.Needs.{need_of, sent_of}
+use Rattle.scenario.specs.Value.{ScenarioValue}
+use Rattle.disk_array.specs.Processes.{command_at, payload_bytes}
+use Rattle.disk_array.specs.SoundArray.{AreApart}
+use Rattle.disk_array.specs.Units.{starting_unit, starting_units, unit_state_at}
+use Rattle.bus_story.specs.HistoryEvents.{abort_line_at}
+use Rattle.bus_story.specs.TraceHistory.{is_host, retries_of}
+use Rattle.bus_due.specs.Defs.{host_of, target_def_of}
+use Rattle.scsi_device.specs.NoUnits.{HasNoUnit}
+
+pub record IsHostLine (s : ScenarioValue) (h : HostDef) : Type 0 where
+  pub below : h.dev < 8
+  pub latency : h.latency ≤ 100
+  pub lag : h.lag ≤ 10000
+  pub most : h.most ≤ 32
+  pub few : h.retries ≤ 16
+  pub host_is : host_of s h.dev ≡ Some h
+  pub is_one : is_host s.hosts h.dev ≡ true
+  pub no_target : target_def_of s h.dev ≡ None
+  pub retries_are : h.retries ≡ retries_of s.hosts h.dev
+  pub no_unit : HasNoUnit s h.dev
+
+pub record IsTargetLine (s : ScenarioValue) (t : TargetDef) : Type 0 where
+  pub below : t.dev < 8
+  pub latency : t.latency ≤ 100
+  pub few : t.retries ≤ 16
+  pub seek : t.seek ≤ 1000000000
+  pub target_is : target_def_of s t.dev ≡ Some t
+  pub no_host : host_of s t.dev ≡ None
+  pub is_none : is_host s.hosts t.dev ≡ false
+
+pub record IsUnitLine (s : ScenarioValue) (u : UnitDef) : Type 0 where
+  pub target : u.target < 8
+  pub unit : u.unit < 8
+  pub some_blocks : 1 ≤ u.blocks
+  pub most_blocks : u.blocks ≤ 4294967296
+  pub least_size : 16 ≤ u.size
+  pub most_size : u.size ≤ 2048
+  pub some_depth : 1 ≤ u.depth
+  pub most_depth : u.depth ≤ 256
+  pub unit_is : unit_of s u.target u.unit ≡ Some u
+  pub starts : unit_state_at (starting_units s s.units) u.target u.unit ≡ Some (starting_unit s u)
+  pub no_host : is_host s.hosts u.target ≡ false
+
+-- Its data are as many bytes as it sends.
+pub record IsCommandLine (s : ScenarioValue) (c : CmdDef) : Type 0 where
+  pub host : c.host < 8
+  pub target : c.target < 8
+  pub unit : c.unit < 8
+  pub host_is : is_host s.hosts c.host ≡ true
+  pub target_is : is_host s.hosts c.target ≡ false
+  pub time : c.at ≤ 1000000000000
+  pub some_block : 1 ≤ length c.cdb
+  pub most_block : length c.cdb ≤ 10
+  pub block : AreBytes c.cdb
+  pub sent : length (payload_bytes c.payload (sent_of s c)) ≡ sent_of s c
+  pub need : need_of s c ≤ 65536
+
+pub record IsAbortLine (s : ScenarioValue) (a : AbortDef) : Type 0 where
+  pub host : a.host < 8
+  pub target : a.target < 8
+  pub unit : a.unit < 8
+  pub host_is : is_host s.hosts a.host ≡ true
+  pub target_is : is_host s.hosts a.target ≡ false
+  pub time : a.at ≤ 1000000000000
+
+-- Beside what each line says: units stand once, and commands and aborts are few.
+pub record FitsBus (s : ScenarioValue) : Type 0 where
+  pub hosts : AllByRecursion (λ h. IsHostLine s h) s.hosts
+  pub targets : AllByRecursion (λ t. IsTargetLine s t) s.targets
+  pub units : AllByRecursion (λ u. IsUnitLine s u) s.units
+  pub apart : AreApart (starting_units s s.units)
+  pub commands : AllByRecursion (λ c. IsCommandLine s c) s.commands
+  pub aborts : AllByRecursion (λ a. IsAbortLine s a) s.aborts
+  pub resets : AllByRecursion (λ (r : ResetDef). r.at ≤ 1000000000000) s.resets
+  pub faults : AllByRecursion (λ (f : FaultDef). (f.at ≤ 1000000000000) × (f.bit ≤ 8)) s.faults
+  pub few_commands : length s.commands ≤ 4096
+  pub few_aborts : length s.aborts ≤ 64
+
+-- The units that a scenario names are 0 to 7.
+pub record AreUnits (s : ScenarioValue) : Type 0 where
+  pub commands : (n : ℕ) (c : CmdDef) → command_at s.commands n ≡ Some c → c.unit < 8
+  pub aborts : (n : ℕ) (a : AbortDef) → abort_line_at s.aborts n ≡ Some a → a.unit < 8

@@ -1,0 +1,8 @@
+mod Written
+mod CodeSets
+pub mod Pieces
+mod Numbers
+mod Cases
+mod TraceCases
+mod BackTokens
+pub mod ReadBack

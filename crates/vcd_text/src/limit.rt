@@ -1,0 +1,4 @@
+//! How long a dump may be.
+
+/// The longest dump, in bytes.
+pub const LIMIT: usize = 1_073_741_824;

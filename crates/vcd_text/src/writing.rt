@@ -1,0 +1,161 @@
+//! The dump of a trace.
+ghost use Rattle.std.specs.Prelude.{◌≡◌, ◌≤◌, ◌<◌, ◌^◌, ◌++◌, ◌∷◌, [], OnErr, decimal};
+ghost use Rattle.std.specs.List.{AllByRecursion};
+ghost use Rattle.bus_base.specs.Faults.{HasRisen};
+ghost use Rattle.bus_base.specs.Whole.{WritesAll};
+ghost use Rattle.bus_trace.specs.OfTrace.{IsRow};
+ghost use Rattle.text_pages.specs.Pages.{Prints};
+ghost use Rattle.vcd_text.specs.DumpText.{head_text, bit_text, value_text, time_text, later, change_text, time_after, rows_text, time_written, dump_text};
+
+use bitflags::Flags;
+use bus_base::{Dev, Failed, Ns, Sink};
+use bus_trace::{Kind, Row};
+use text_pages::{Page, flush, is_failed, new_page, put, put_number};
+
+fn put_head<K: Sink>(out: &mut K, page: &mut Page)
+    ensures { Prints K.written K.faults out.old out.new page.old page.new head_text }
+{
+    put(
+        out,
+        page,
+        b"$timescale 1 ns $end\n$scope module scsi $end\n",
+    );
+    put(
+        out,
+        page,
+        b"$var wire 18 a d0 $end\n$var wire 18 b d1 $end\n$var wire 18 c d2 $end\n$var wire 18 d d3 $end\n",
+    );
+    put(
+        out,
+        page,
+        b"$var wire 18 e d4 $end\n$var wire 18 f d5 $end\n$var wire 18 g d6 $end\n$var wire 18 h d7 $end\n",
+    );
+    put(
+        out,
+        page,
+        b"$upscope $end\n$enddefinitions $end\n#0\n$dumpvars\n",
+    );
+    put(
+        out,
+        page,
+        b"b000000000000000000 a\nb000000000000000000 b\nb000000000000000000 c\nb000000000000000000 d\n",
+    );
+    put(
+        out,
+        page,
+        b"b000000000000000000 e\nb000000000000000000 f\nb000000000000000000 g\nb000000000000000000 h\n$end\n",
+    );
+}
+
+// The binary digit of this weight.
+fn bit(lines: u32, weight: u32) -> u8
+    requires { 0 < weight }
+    ensures { result ≡ bit_text lines weight }
+{
+    b'0' + (lines / weight % 2) as u8
+}
+
+// What the change of a device is in a dump.
+fn value_line(dev: Dev, lines: u32) -> [u8; 22]
+    requires { dev < 8 }
+    ensures { result ≡ value_text dev lines }
+{
+    [
+        b'b',
+        bit(lines, 0x2_0000),
+        bit(lines, 0x1_0000),
+        bit(lines, 0x8000),
+        bit(lines, 0x4000),
+        bit(lines, 0x2000),
+        bit(lines, 0x1000),
+        bit(lines, 0x800),
+        bit(lines, 0x400),
+        bit(lines, 0x200),
+        bit(lines, 0x100),
+        bit(lines, 0x80),
+        bit(lines, 0x40),
+        bit(lines, 0x20),
+        bit(lines, 0x10),
+        bit(lines, 8),
+        bit(lines, 4),
+        bit(lines, 2),
+        bit(lines, 1),
+        b' ',
+        b'a' + dev,
+        b'\n',
+    ]
+}
+
+// The time, where it is above the last that was written; and the last then.
+fn put_time<K: Sink>(out: &mut K, page: &mut Page, last: Ns, time: Ns) -> Ns
+    ensures text { Prints K.written K.faults out.old out.new page.old page.new (time_text last time) }
+    ensures last { result ≡ later last time }
+{
+    if last >= time {
+        return last;
+    }
+    put(out, page, b"#");
+    put_number(out, page, time);
+    put(out, page, b"\n");
+    time
+}
+
+// What a row writes after this time, and the last time then.
+fn put_row<K: Sink>(out: &mut K, page: &mut Page, last: Ns, row: &Row) -> Ns
+    requires { row.now.dev < 8 }
+    ensures text { Prints K.written K.faults out.old out.new page.old page.new
+        (change_text last row.now.time row.now.dev row.now.kind) }
+    ensures last { result ≡ time_after last row.now.time row.now.kind }
+{
+    match row.kind {
+        Kind::Drives(lines) => {
+            let last = put_time(out, page, last, row.time);
+            put(out, page, &value_line(row.dev, lines.bits()));
+            last
+        }
+        Kind::Fault(_) => last,
+    }
+}
+
+fn put_rows<K: Sink>(out: &mut K, page: &mut Page, rows: &[Row]) -> Ns
+    requires { AllByRecursion IsRow rows.now }
+    ensures text { Prints K.written K.faults out.old out.new page.old page.new (rows_text 0 rows.now) }
+    ensures last { result ≡ time_written 0 rows.now }
+{
+    let mut last = 0;
+    for row in rows {
+        last = put_row(out, page, last, row);
+    }
+    last
+}
+
+fn put_dump<K: Sink>(out: &mut K, page: &mut Page, rows: &[Row], end: Ns)
+    requires { AllByRecursion IsRow rows.now }
+    ensures { Prints K.written K.faults out.old out.new page.old page.new (dump_text rows.now end) }
+{
+    put_head(out, page);
+    let last = put_rows(out, page, rows);
+    let _ = put_time(out, page, last, end);
+}
+
+/// Writes the dump of these rows, the oldest first, and this end. It takes no memory, and the sink gets it in
+/// pieces of up to some KiB.
+///
+/// # Errors
+///
+/// `Failed` where the sink failed, whose count of faults then rose; a front of the dump was written.
+pub fn write_vcd<K: Sink>(rows: &[Row], end: Ns, out: &mut K) -> Result<(), Failed>
+    requires { AllByRecursion IsRow rows.now }
+    ensures whole { WritesAll (K.written out.old) (K.written out.new) (dump_text rows.now end) result }
+    ensures failed { OnErr result (HasRisen (K.faults out.old) (K.faults out.new)) }
+    ensures never_falls { K.faults out.old ≤ K.faults out.new }
+{
+    let mut page = new_page();
+    put_dump(out, &mut page, rows, end);
+    flush(out, &mut page);
+    if is_failed(&page) {
+        Err(Failed)
+    } else {
+        Ok(())
+    }
+}
