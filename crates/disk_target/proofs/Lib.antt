@@ -12,3 +12,6 @@ pub mod UnitSteps
 pub mod Holds
 pub mod UnitTellings
 pub mod Starts
+mod ServedEnds
+mod ProgressRows
+mod NegotiatedRows

@@ -8,3 +8,5 @@ pub mod Shown
 pub mod Seated
 pub mod Units
 pub mod Fillings
+pub mod Progress
+pub mod Negotiated
