@@ -15,3 +15,4 @@ pub mod Starts
 mod ServedEnds
 mod ProgressRows
 mod NegotiatedRows
+mod GatheredRows

@@ -10,3 +10,4 @@ pub mod Units
 pub mod Fillings
 pub mod Progress
 pub mod Negotiated
+pub mod Gathered

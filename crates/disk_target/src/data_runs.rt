@@ -85,8 +85,8 @@ fn part_end(most: u32, size: u64, moved: u64, n: u64) -> u64
     if n == 0 && step < moved { step } else { moved }
 }
 
-// Where the n-th run begins, in bytes.
-fn run_start(policy: Policy, task: &Task, n: u64) -> u64
+/// Where the n-th run begins, in bytes.
+pub fn run_start(policy: Policy, task: &Task, n: u64) -> u64
     ensures { result ≡ min (run_at policy task.now n).start (2 ^ 64 - 1) }
 {
     match (task.blocks, policy) {

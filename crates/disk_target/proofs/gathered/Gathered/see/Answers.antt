@@ -1,0 +1,15 @@
+use Rattle.std.proofs.Common.{◌∷◌, ◌∙◌, ap, sym, subst}
+use Rattle.disk_target.specs.Gathered.{GatheredValue, IsGatheredOf}
+use Rattle.disk_target.proofs.GatheredRows.{gathered_goes_on, same_target}
+use Rattle.disk_target.proofs.gathered.Gathered.see.Goals as goal
+
+pub returns-clause-trace : goal.returns-clause-trace
+returns-clause-trace c = λ s rows row d told b f says h.
+    subst (λ (z : GatheredValue). IsGatheredOf s z) (sym c.after_row.ensures)
+    (gathered_goes_on s rows row c.args.self.now c.args.process c.args.unit c.args.place c.args.hearing.now c.args.before
+    (c.kept_is_plain.ensures.rows s) (c.hearings_are_plain.ensures.hearing s rows row d.1 d.0) d told b f says h)
+
+pub returns-clause-dev : goal.returns-clause-dev
+returns-clause-dev c =
+    ap (λ (z : GatheredValue). z.dev) c.after_row.ensures
+    ∙ same_target c.args.self.now c.args.process c.args.unit c.args.place c.args.hearing.now c.args.before
