@@ -1,4 +1,4 @@
-mod Cases
+pub mod Cases
 mod Hearings
 mod Items
 pub mod Leasts
@@ -8,6 +8,6 @@ mod Reactions
 mod Rights
 mod Runs
 mod SeamCases
-mod Seams
+pub mod Seams
 pub mod Stills
 mod Traces

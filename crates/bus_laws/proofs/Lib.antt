@@ -25,3 +25,5 @@ pub mod Periods
 pub mod RowTimes
 pub mod DueTimes
 mod Cases
+mod HeardRuns
+mod HeardCases

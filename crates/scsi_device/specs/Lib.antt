@@ -3,3 +3,4 @@ pub mod Lines
 pub mod Told
 pub mod Itself
 pub mod Acts
+pub mod Heard
