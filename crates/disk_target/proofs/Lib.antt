@@ -14,5 +14,6 @@ pub mod UnitTellings
 pub mod Starts
 mod ServedEnds
 mod ProgressRows
+mod HeardOpenings
 mod NegotiatedRows
 mod GatheredRows

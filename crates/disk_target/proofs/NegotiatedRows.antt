@@ -11,6 +11,7 @@ use Rattle.bus_base.specs.declared.Event.{Event}
 use Rattle.bus_base.specs.declared.Event.TheVariants as events
 use Rattle.bus_trace.specs.Changes.{rises, falls}
 use Rattle.bus_trace.specs.LineSet.{LineSet, none, union}
+use Rattle.bus_trace.specs.Phases.{changes_phase}
 use Rattle.bus_trace.specs.Terms.{connection, connection_after, connection_of}
 use Rattle.bus_trace.specs.Trace.{bus, drives, driven_after}
 use Rattle.bus_trace.specs.declared.Row.{Row}
@@ -23,15 +24,19 @@ use Rattle.bus_story.specs.HistoryEvents.{row_events_by, link_events}
 use Rattle.bus_story.specs.Items.{Item}
 use Rattle.bus_story.specs.TraceHistory.{aim_of}
 use Rattle.bus_dialogue.specs.Hearing.{hearing}
+use Rattle.bus_dialogue.specs.Planning.{first_plan}
 use Rattle.bus_dialogue.specs.declared.exchange.Hearing.{Hearing}
 use Rattle.bus_due.specs.LastingState.{Negotiated, none_negotiated, has_negotiated, with_negotiated, pairs_without, negotiated_after_event, negotiated_after}
 use Rattle.bus_due.specs.Plain.{IsPlain, AreOfDevices}
 use Rattle.bus_due.specs.RunState.{RunState}
-use Rattle.bus_due.specs.RunSteps.{run_state, is_for_process, negotiated_by_connection, served_after, item_if}
-use Rattle.bus_due.specs.Sights.{hearing_of}
+use Rattle.bus_due.specs.RunSteps.{run_state, is_for_process, negotiated_by_connection, served_after, item_if, may_negotiate, naming_of, first_exchange, exchange_on, exchange_after, leaving_of}
+use Rattle.bus_due.specs.Defs.{host_of}
+use Rattle.bus_due.specs.Sights.{hearing_of, leaving}
 use Rattle.bus_due.specs.Wants.{ready_of}
 use Rattle.disk_target.specs.Negotiated.{NegotiatedValue, nobody_met, opened_in, met_by_opening, is_opening_left, met_by_connection, met_after_reset, met_after_abort, met_after_event, met_after_events, negotiated_seen, is_open_to, HasMet, IsOpening, IsOpeningIf, IsNegotiatedOf, IsHeardSo, events_of_row}
 use Rattle.disk_target.specs.Progress.{is_phase_left}
+use Rattle.scsi_device.specs.Heard.{heard}
+use Rattle.disk_target.proofs.HeardOpenings.{left_told, cause_stays, phase_stays}
 use Rattle.disk_target.proofs.ServedEnds.{connection_stays}
 
 -- ---- eight alike
@@ -321,26 +326,26 @@ events_dev : (v : NegotiatedValue) (shown : List Event) → (met_after_events v 
 events_dev v [] = refl
 events_dev v (e ∷ shown) = event_dev (met_after_events v shown) e ∙ events_dev v shown
 
-device_opens : (v : NegotiatedValue) (rows : List Row) (dev : ℕ) (q : Bool) → IsOpeningIf rows dev v.opening → IsOpeningIf rows dev (if q then met_after_reset v else v).opening
-device_opens v rows dev true h = tt
-device_opens v rows dev false h = h
+device_opens : (s : ScenarioValue) (v : NegotiatedValue) (rows : List Row) (dev : ℕ) (q : Bool) → IsOpeningIf s rows dev v.opening → IsOpeningIf s rows dev (if q then met_after_reset v else v).opening
+device_opens s v rows dev true h = tt
+device_opens s v rows dev false h = h
 
-event_opens : (v : NegotiatedValue) (rows : List Row) (dev : ℕ) (e : Event) → IsOpeningIf rows dev v.opening → IsOpeningIf rows dev (met_after_event v e).opening
-event_opens v rows dev (events.Aborted host target unit aborts.Device) h = device_opens v rows dev (target == v.dev) h
-event_opens v rows dev (events.Aborted host target unit aborts.All) h = h
-event_opens v rows dev (events.Aborted host target unit (aborts.Tag n)) h = h
-event_opens v rows dev (events.Aborted host target unit aborts.WholeQueue) h = h
-event_opens v rows dev (events.Reset by) h = tt
-event_opens v rows dev (events.Accept id) h = h
-event_opens v rows dev (events.Refuse id) h = h
-event_opens v rows dev (events.Run id) h = h
-event_opens v rows dev (events.Fail id code) h = h
-event_opens v rows dev (events.End id status) h = h
-event_opens v rows dev (events.Lost id) h = h
+event_opens : (s : ScenarioValue) (v : NegotiatedValue) (rows : List Row) (dev : ℕ) (e : Event) → IsOpeningIf s rows dev v.opening → IsOpeningIf s rows dev (met_after_event v e).opening
+event_opens s v rows dev (events.Aborted host target unit aborts.Device) h = device_opens s v rows dev (target == v.dev) h
+event_opens s v rows dev (events.Aborted host target unit aborts.All) h = h
+event_opens s v rows dev (events.Aborted host target unit (aborts.Tag n)) h = h
+event_opens s v rows dev (events.Aborted host target unit aborts.WholeQueue) h = h
+event_opens s v rows dev (events.Reset by) h = tt
+event_opens s v rows dev (events.Accept id) h = h
+event_opens s v rows dev (events.Refuse id) h = h
+event_opens s v rows dev (events.Run id) h = h
+event_opens s v rows dev (events.Fail id code) h = h
+event_opens s v rows dev (events.End id status) h = h
+event_opens s v rows dev (events.Lost id) h = h
 
-events_open : (v : NegotiatedValue) (rows : List Row) (dev : ℕ) (shown : List Event) → IsOpeningIf rows dev v.opening → IsOpeningIf rows dev (met_after_events v shown).opening
-events_open v rows dev [] h = h
-events_open v rows dev (e ∷ shown) h = event_opens (met_after_events v shown) rows dev e (events_open v rows dev shown h)
+events_open : (s : ScenarioValue) (v : NegotiatedValue) (rows : List Row) (dev : ℕ) (shown : List Event) → IsOpeningIf s rows dev v.opening → IsOpeningIf s rows dev (met_after_events v shown).opening
+events_open s v rows dev [] h = h
+events_open s v rows dev (e ∷ shown) h = event_opens s (met_after_events v shown) rows dev e (events_open s v rows dev shown h)
 
 events_so : (m : Negotiated) (v : NegotiatedValue) (p : Bool) (shown : List Event) → HasMet m p v → HasMet (negotiated_after v.version m shown) p (met_after_events v shown)
 events_so m v p [] h = h
@@ -451,53 +456,92 @@ begins_calm call c row n e = go (falls c.before.sel c.after.sel) c.after.bsy c.a
     go true false true f = cc
     go false y true f = cc
 
-opens_so : (rows : List Row) (row : Row) (v : NegotiatedValue) (aborts : Bool) (w : Hearing) (call : Option Call) (c : Change) (before after : Option Connection)
-    → connection_after before call c row ≡ after → connection rows ≡ before → connection (row ∷ rows) ≡ after → c.after.rst ≡ (bus (row ∷ rows)).rst → (before ≡ None → v.opening ≡ None) → ((i : ℕ) → v.opening ≡ Some i → c.after.rst ≡ false)
-    → IsOpeningIf rows v.dev v.opening → IsOpeningIf (row ∷ rows) v.dev (met_by_connection v aborts w before after).opening
-opens_so rows row v aborts w call c None None e b a rst free calm h =
-    subst (λ (z : Option ℕ). IsOpeningIf (row ∷ rows) v.dev z) (sym (free refl)) tt
-opens_so rows row v aborts w call c None (Some n) e b a rst free calm h = go n.reselected refl (n.target == v.dev) refl
+opens_so : (s : ScenarioValue) (rows : List Row) (row : Row) (v : NegotiatedValue) (aborts : Bool) (w : Hearing) (before after : Option Connection)
+    → IsPlain s rows (run_state s rows) → IsPlain s (row ∷ rows) (run_state s (row ∷ rows)) → w ≡ hearing_of (run_state s rows) row (row_reading (run_state s rows).story.bus_state row) → heard s (row ∷ rows) ≡ true
+    → (run_state s rows).story.bus_state.connection ≡ before → (row_reading (run_state s rows).story.bus_state row).next ≡ after → (before ≡ None → v.opening ≡ None)
+    → ((i : ℕ) → v.opening ≡ Some i → (row_reading (run_state s rows).story.bus_state row).change.after.rst ≡ false)
+    → IsOpeningIf s rows v.dev v.opening → IsOpeningIf s (row ∷ rows) v.dev (met_by_connection v aborts w before after).opening
+opens_so s rows row v aborts w None None p q told hears b a free calm h =
+    subst (λ (z : Option ℕ). IsOpeningIf s (row ∷ rows) v.dev z) (sym (free refl)) tt
+opens_so s rows row v aborts w None (Some n) p q told hears b a free calm h = go n.reselected refl (n.target == v.dev) refl
   where
-    stays : IsOpeningIf (row ∷ rows) v.dev v.opening
-    stays = subst (λ (z : Option ℕ). IsOpeningIf (row ∷ rows) v.dev z) (sym (free refl)) tt
+    k : RunState
+    k = run_state s rows
 
-    go : (r : Bool) → n.reselected ≡ r → (o : Bool) → (n.target == v.dev) ≡ o → IsOpeningIf (row ∷ rows) v.dev (if not n.reselected && n.target == v.dev then record v { opening = Some n.initiator } else v).opening
-    go true f o g = subst (λ (z : Bool). IsOpeningIf (row ∷ rows) v.dev (if not z && n.target == v.dev then record v { opening = Some n.initiator } else v).opening) (sym f) stays
+    d : RowReading
+    d = row_reading k.story.bus_state row
+
+    stays : IsOpeningIf s (row ∷ rows) v.dev v.opening
+    stays = subst (λ (z : Option ℕ). IsOpeningIf s (row ∷ rows) v.dev z) (sym (free refl)) tt
+
+    exchange : (run_state s (row ∷ rows)).exchange ≡ first_exchange s k n (aim_of k.story.aims n.initiator)
+    exchange = λ i. exchange_after s k row d (b i) (a i) (leaving_of s k (b i))
+
+    go : (r : Bool) → n.reselected ≡ r → (o : Bool) → (n.target == v.dev) ≡ o → IsOpeningIf s (row ∷ rows) v.dev (if not n.reselected && n.target == v.dev then record v { opening = Some n.initiator } else v).opening
+    go true f o g = subst (λ (z : Bool). IsOpeningIf s (row ∷ rows) v.dev (if not z && n.target == v.dev then record v { opening = Some n.initiator } else v).opening) (sym f) stays
     go false f false g =
-        subst (λ (z : Bool). IsOpeningIf (row ∷ rows) v.dev (if not z && n.target == v.dev then record v { opening = Some n.initiator } else v).opening) (sym f)
-        (subst (λ (z : Bool). IsOpeningIf (row ∷ rows) v.dev (if z then record v { opening = Some n.initiator } else v).opening) (sym g) stays)
+        subst (λ (z : Bool). IsOpeningIf s (row ∷ rows) v.dev (if not z && n.target == v.dev then record v { opening = Some n.initiator } else v).opening) (sym f)
+        (subst (λ (z : Bool). IsOpeningIf s (row ∷ rows) v.dev (if z then record v { opening = Some n.initiator } else v).opening) (sym g) stays)
     go false f true g =
-        subst (λ (z : Bool). IsOpeningIf (row ∷ rows) v.dev (if not z && n.target == v.dev then record v { opening = Some n.initiator } else v).opening) (sym f)
-        (subst (λ (z : Bool). IsOpeningIf (row ∷ rows) v.dev (if z then record v { opening = Some n.initiator } else v).opening) (sym g)
-        (n, record { stands = a; own = g; selects = f; by = refl; calm = sym rst ∙ begins_calm call c row n e }))
-opens_so rows row v aborts w call c (Some m) None e b a rst free calm h = go v.opening refl
+        subst (λ (z : Bool). IsOpeningIf s (row ∷ rows) v.dev (if not z && n.target == v.dev then record v { opening = Some n.initiator } else v).opening) (sym f)
+        (subst (λ (z : Bool). IsOpeningIf s (row ∷ rows) v.dev (if z then record v { opening = Some n.initiator } else v).opening) (sym g)
+        (
+          n,
+          record {
+            stands = sym q.connection ∙ a;
+            own = g;
+            by = refl;
+            calm = sym (λ i. (q.bus i).rst) ∙ begins_calm k.story.bus_state.call d.change row n (sym (λ i. connection_after (b i) k.story.bus_state.call d.change row) ∙ a);
+            cause = (λ i. (exchange i).plan.cause) ∙ (λ i. (first_plan (f i) (not n.reselected && may_negotiate k n (aim_of k.story.aims n.initiator)) (naming_of s k n)).cause);
+            first = λ x. (let bad : true ≡ false = sym x ∙ (λ i. (exchange i).begun) ∙ f in cc);
+          },
+        ))
+opens_so s rows row v aborts w (Some m) None p q told hears b a free calm h = go v.opening refl
   where
-    go : (o : Option ℕ) → v.opening ≡ o → IsOpeningIf (row ∷ rows) v.dev (met_by_opening v aborts v.opening).opening
-    go None f = subst (λ (z : Option ℕ). IsOpeningIf (row ∷ rows) v.dev (met_by_opening v aborts z).opening) (sym f) (subst (λ (z : Option ℕ). IsOpeningIf (row ∷ rows) v.dev z) (sym f) tt)
-    go (Some i) f = subst (λ (z : Option ℕ). IsOpeningIf (row ∷ rows) v.dev (met_by_opening v aborts z).opening) (sym f) tt
-opens_so rows row v aborts w call c (Some m) (Some n) e b a rst free calm h = go (is_phase_left w) v.opening refl
+    go : (o : Option ℕ) → v.opening ≡ o → IsOpeningIf s (row ∷ rows) v.dev (met_by_opening v aborts v.opening).opening
+    go None f = subst (λ (z : Option ℕ). IsOpeningIf s (row ∷ rows) v.dev (met_by_opening v aborts z).opening) (sym f) (subst (λ (z : Option ℕ). IsOpeningIf s (row ∷ rows) v.dev z) (sym f) tt)
+    go (Some i) f = subst (λ (z : Option ℕ). IsOpeningIf s (row ∷ rows) v.dev (met_by_opening v aborts z).opening) (sym f) tt
+opens_so s rows row v aborts w (Some m) (Some n) p q told hears b a free calm h = go (is_phase_left w) refl v.opening refl
   where
+    k : RunState
+    k = run_state s rows
+
+    d : RowReading
+    d = row_reading k.story.bus_state row
+
     same : m ≡ n
-    same = connection_stays (Some m) (Some n) call c row m n e refl refl
+    same = connection_stays k.story.bus_state.connection d.next k.story.bus_state.call d.change row m n refl b a
 
-    kept : (o : Option ℕ) → v.opening ≡ o → IsOpeningIf rows v.dev o → IsOpeningIf (row ∷ rows) v.dev o
-    kept None f x = tt
-    kept (Some i) f x = (
-        n,
-        (let is : x.0 ≡ n = same_Some x.0 n (sym x.1.stands ∙ b ∙ (λ j. Some (same j))) in
-        record {
-          stands = a;
-          own = (λ j. (sym is j).target == v.dev) ∙ x.1.own;
-          selects = (λ j. (sym is j).reselected) ∙ x.1.selects;
-          by = (λ j. (sym is j).initiator) ∙ x.1.by;
-          calm = sym rst ∙ calm i f;
-        }),
-    )
+    exchange : (run_state s (row ∷ rows)).exchange ≡ exchange_on (host_of s n.initiator) (hearing_of k row d) (leaving s k m.target) k.exchange
+    exchange = λ i. exchange_after s k row d (b i) (a i) (leaving_of s k (b i))
 
-    go : (q : Bool) (o : Option ℕ) → v.opening ≡ o → IsOpeningIf (row ∷ rows) v.dev (if q then met_by_opening v aborts v.opening else v).opening
-    go true None f = subst (λ (z : Option ℕ). IsOpeningIf (row ∷ rows) v.dev (met_by_opening v aborts z).opening) (sym f) (subst (λ (z : Option ℕ). IsOpeningIf (row ∷ rows) v.dev z) (sym f) tt)
-    go true (Some i) f = subst (λ (z : Option ℕ). IsOpeningIf (row ∷ rows) v.dev (met_by_opening v aborts z).opening) (sym f) tt
-    go false o f = subst (λ (z : Option ℕ). IsOpeningIf (row ∷ rows) v.dev z) (sym f) (kept o f (subst (λ (z : Option ℕ). IsOpeningIf rows v.dev z) f h))
+    kept : is_phase_left w ≡ false → (o : Option ℕ) → v.opening ≡ o → IsOpeningIf s rows v.dev o → IsOpeningIf s (row ∷ rows) v.dev o
+    kept e None f x = tt
+    kept e (Some i) f x =
+        let is : x.0 ≡ n = same_Some x.0 n (sym x.1.stands ∙ sym p.connection ∙ b ∙ (λ j. Some (same j))) in
+        let still : (changes_phase d.change && k.exchange.begun) ≡ false = sym (λ j. changes_phase (told j).change && (told j).begun) ∙ e in
+        (
+          n,
+          record {
+            stands = sym q.connection ∙ a;
+            own = (λ j. (sym is j).target == v.dev) ∙ x.1.own;
+            by = (λ j. (sym is j).initiator) ∙ x.1.by;
+            calm = sym (λ j. (q.bus j).rst) ∙ calm i f;
+            cause = (λ j. (exchange j).plan.cause) ∙ cause_stays (hearing_of k row d) (leaving s k m.target) k.exchange.plan still ∙ x.1.cause;
+            first = λ y. phase_stays s rows row n n p hears (x.1.stands ∙ (λ j. Some (is j))) a (calm i f) still x.1.first (sym (λ j. (exchange j).begun) ∙ y);
+          },
+        )
+
+    go : (q : Bool) → is_phase_left w ≡ q → (o : Option ℕ) → v.opening ≡ o → IsOpeningIf s (row ∷ rows) v.dev (if is_phase_left w then met_by_opening v aborts v.opening else v).opening
+    go true e None f =
+        subst (λ (z : Bool). IsOpeningIf s (row ∷ rows) v.dev (if z then met_by_opening v aborts v.opening else v).opening) (sym e)
+        (subst (λ (z : Option ℕ). IsOpeningIf s (row ∷ rows) v.dev (met_by_opening v aborts z).opening) (sym f) (subst (λ (z : Option ℕ). IsOpeningIf s (row ∷ rows) v.dev z) (sym f) tt))
+    go true e (Some i) f =
+        subst (λ (z : Bool). IsOpeningIf s (row ∷ rows) v.dev (if z then met_by_opening v aborts v.opening else v).opening) (sym e)
+        (subst (λ (z : Option ℕ). IsOpeningIf s (row ∷ rows) v.dev (met_by_opening v aborts z).opening) (sym f) tt)
+    go false e o f =
+        subst (λ (z : Bool). IsOpeningIf s (row ∷ rows) v.dev (if z then met_by_opening v aborts v.opening else v).opening) (sym e)
+        (subst (λ (z : Option ℕ). IsOpeningIf s (row ∷ rows) v.dev z) (sym f) (kept e o f (subst (λ (z : Option ℕ). IsOpeningIf s rows v.dev z) f h)))
 
 -- ---- a row that raises RST ends the opening, and shows a reset
 
@@ -518,9 +562,9 @@ unbarred_by k v None (Some n) h = go (not n.reselected && is_for_process (aim_of
 
 pub negotiated_goes_on : (s : ScenarioValue) (rows : List Row) (row : Row) (v : NegotiatedValue) (aborts : Bool) (w : Hearing) (before after : Option Connection) (shown : List Event)
     → IsPlain s rows (run_state s rows) → IsPlain s (row ∷ rows) (run_state s (row ∷ rows)) → hearing_of (run_state s rows) row (row_reading (run_state s rows).story.bus_state row) ≡ hearing rows row → IsOn rows → IsOff (row ∷ rows)
-    → AreOfDevices (row ∷ rows) → w ≡ hearing rows row → before ≡ connection rows → after ≡ connection (row ∷ rows) → shown ≡ events_of_row s rows row → IsHeardSo s rows v.opening w after aborts
+    → AreOfDevices (row ∷ rows) → w ≡ hearing rows row → before ≡ connection rows → after ≡ connection (row ∷ rows) → shown ≡ events_of_row s rows row → heard s (row ∷ rows) ≡ true → IsHeardSo s rows v.dev aborts
     → IsNegotiatedOf s rows v → IsNegotiatedOf s (row ∷ rows) (negotiated_seen v aborts w before after shown)
-negotiated_goes_on s rows row v aborts w before after shown p q heard on off d told b a events_are says h =
+negotiated_goes_on s rows row v aborts w before after shown p q hears on off d told b a events_are hears_all says h =
     subst (λ (z : NegotiatedValue). IsNegotiatedOf s (row ∷ rows) z)
     (λ i. met_after_events (met_by_connection v aborts w (first i) (last i)) (sym events_are i))
     (go r.change.after.rst refl v.opening refl)
@@ -535,7 +579,7 @@ negotiated_goes_on s rows row v aborts w before after shown p q heard on off d t
     u = met_by_connection v aborts w k.story.bus_state.connection r.next
 
     same : w ≡ hearing_of k row r
-    same = told ∙ sym heard
+    same = told ∙ sym hears
 
     first : k.story.bus_state.connection ≡ before
     first = p.connection ∙ sym b
@@ -549,27 +593,33 @@ negotiated_goes_on s rows row v aborts w before after shown p q heard on off d t
     free : k.story.bus_state.connection ≡ None → v.opening ≡ None
     free e = by v.opening refl h.opens
       where
-        by : (o : Option ℕ) → v.opening ≡ o → IsOpeningIf rows v.dev o → v.opening ≡ None
+        by : (o : Option ℕ) → v.opening ≡ o → IsOpeningIf s rows v.dev o → v.opening ≡ None
         by None f x = f
         by (Some i) f x = (let bad : Some x.0 ≡ None = sym x.1.stands ∙ sym p.connection ∙ e in cc)
 
-    by_events : HasMet (negotiated_by_connection k k.story.bus_state.connection r.next) (is_for_process (served_after s k k.story.bus_state.connection r.next)) u → IsOpeningIf (row ∷ rows) v.dev u.opening → IsNegotiatedOf s (row ∷ rows) (met_after_events u (events_of_row s rows row))
+    by_events : HasMet (negotiated_by_connection k k.story.bus_state.connection r.next) (is_for_process (served_after s k k.story.bus_state.connection r.next)) u → IsOpeningIf s (row ∷ rows) v.dev u.opening → IsNegotiatedOf s (row ∷ rows) (met_after_events u (events_of_row s rows row))
     by_events x o = record {
       version_is = events_version u (events_of_row s rows row) ∙ versions;
       kept =
           subst (λ (n : ℕ). HasMet (negotiated_after n (negotiated_by_connection k k.story.bus_state.connection r.next) (events_of_row s rows row)) (is_for_process (served_after s k k.story.bus_state.connection r.next)) (met_after_events u (events_of_row s rows row))) versions
           (events_so (negotiated_by_connection k k.story.bus_state.connection r.next) u (is_for_process (served_after s k k.story.bus_state.connection r.next)) (events_of_row s rows row) x);
       opens =
-          subst (λ (n : ℕ). IsOpeningIf (row ∷ rows) n (met_after_events u (events_of_row s rows row)).opening) (sym (events_dev u (events_of_row s rows row) ∙ met_dev v aborts w k.story.bus_state.connection r.next))
-          (events_open u (row ∷ rows) v.dev (events_of_row s rows row) o);
+          subst (λ (n : ℕ). IsOpeningIf s (row ∷ rows) n (met_after_events u (events_of_row s rows row)).opening) (sym (events_dev u (events_of_row s rows row) ∙ met_dev v aborts w k.story.bus_state.connection r.next))
+          (events_open s u (row ∷ rows) v.dev (events_of_row s rows row) o);
     }
+
+    told_at : (i : ℕ) → v.opening ≡ Some i → r.change.after.rst ≡ false → (n : Connection) × IsOpening s rows v.dev i n → (after : Option Connection) → r.next ≡ after → is_opening_left w after ≡ true → aborts ≡ not (is_for_process k.served)
+    told_at i f off x after e left =
+        says x.0 (record { stands = x.1.stands; own = x.1.own })
+        ∙ left_told s rows row x.0 p hears_all x.1.stands x.1.calm off x.1.cause x.1.first after e
+        (λ m g. sym (λ j. changes_phase (same j).change && (same j).begun) ∙ sym (λ j. is_opening_left w (g j)) ∙ left)
 
     step : ((i : ℕ) → v.opening ≡ Some i → r.change.after.rst ≡ false) → IsNegotiatedOf s (row ∷ rows) (met_after_events u (events_of_row s rows row))
     step calm =
         by_events
         (row_so s k v aborts w k.story.bus_state.connection r.next free
-        (λ i f left. says i f ((λ j. (same j).change.after.rst) ∙ calm i f) ((λ j. is_opening_left w (sym last j)) ∙ left)) h.kept)
-        (opens_so rows row v aborts w k.story.bus_state.call r.change k.story.bus_state.connection r.next refl (sym p.connection) (sym q.connection) (λ j. (q.bus j).rst) free calm h.opens)
+        (λ i f left. told_at i f (calm i f) (subst (λ (z : Option ℕ). IsOpeningIf s rows v.dev z) f h.opens) r.next refl left) h.kept)
+        (opens_so s rows row v aborts w k.story.bus_state.connection r.next p q same hears_all refl refl free calm h.opens)
 
     go : (x : Bool) → r.change.after.rst ≡ x → (o : Option ℕ) → v.opening ≡ o → IsNegotiatedOf s (row ∷ rows) (met_after_events u (events_of_row s rows row))
     go false e o f = step (λ i g. e)
@@ -586,8 +636,8 @@ negotiated_goes_on s rows row v aborts w before after shown p q heard on off d t
           opens = tt;
         })
       where
-        stands : (n : Connection) × IsOpening rows v.dev i n
-        stands = subst (λ (z : Option ℕ). IsOpeningIf rows v.dev z) f h.opens
+        stands : (n : Connection) × IsOpening s rows v.dev i n
+        stands = subst (λ (z : Option ℕ). IsOpeningIf s rows v.dev z) f h.opens
 
         raised : rises (drives rows row.dev).rst (driven_after row.kind (drives rows row.dev)).rst ≡ true
         raised = raises rows row d.0 on off stands.1.calm ((λ j. (sym q.bus j).rst) ∙ e)
@@ -609,6 +659,6 @@ negotiated_starts s dev = record {
 pub included : (s : ScenarioValue) (rows : List Row) (v : NegotiatedValue) (i : ℕ) → i < 8 → connection rows ≡ None → IsNegotiatedOf s rows v → get_or v.had i false ≡ has_negotiated (run_state s rows).negotiated i v.dev
 included s rows v i l e h = sym (had_is (run_state s rows).negotiated (is_for_process (run_state s rows).served) v (by v.opening refl h.opens) h.kept i l)
   where
-    by : (o : Option ℕ) → v.opening ≡ o → IsOpeningIf rows v.dev o → v.opening ≡ None
+    by : (o : Option ℕ) → v.opening ≡ o → IsOpeningIf s rows v.dev o → v.opening ≡ None
     by None f x = f
     by (Some i) f x = (let bad : Some x.0 ≡ None = sym x.1.stands ∙ e in cc)

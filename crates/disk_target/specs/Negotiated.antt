@@ -1,5 +1,5 @@
 -- With which initiators a target has had the connection in which the two may negotiate (6.6.21).
-use Rattle.std.specs.Prelude.{ℕ, ◌≡◌, ◌<◌, ⊤, Bool, true, false, not, ◌==◌, ◌&&◌, ◌||◌, List, [], ◌∷◌, length, Option, Some, None, replicate, slice_set, slice_index_or, if◌then◌else◌}
+use Rattle.std.specs.Prelude.{ℕ, ◌≡◌, ◌<◌, ⊤, Bool, true, false, not, ◌==◌, ◌&&◌, ◌||◌, List, [], ◌∷◌, length, Option, Some, None, is_some, replicate, slice_set, slice_index_or, if◌then◌else◌}
 use Rattle.bus_base.specs.declared.AbortKind.{AbortKind}
 use Rattle.bus_base.specs.declared.AbortKind.TheVariants as aborts
 use Rattle.bus_base.specs.declared.Event.{Event}
@@ -11,10 +11,16 @@ use Rattle.bus_trace.specs.declared.connection.Connection.{Connection}
 use Rattle.scenario.specs.Value.{ScenarioValue}
 use Rattle.bus_story.specs.BusState.{row_reading}
 use Rattle.bus_story.specs.HistoryEvents.{row_events_by}
+use Rattle.bus_dialogue.specs.NextPhase.{phase_of}
+use Rattle.bus_dialogue.specs.declared.exchange.Cause.TheVariants as causes
 use Rattle.bus_dialogue.specs.declared.exchange.Hearing.{Hearing}
+use Rattle.bus_dialogue.specs.declared.exchange.Phase.TheVariants as phases
 use Rattle.bus_due.specs.LastingState.{Negotiated, has_negotiated}
+use Rattle.bus_due.specs.RunState.{bus_of}
 use Rattle.bus_due.specs.RunSteps.{run_state, is_for_process}
+use Rattle.disk_target.specs.Plans.{plan_at}
 use Rattle.disk_target.specs.Progress.{is_phase_left}
+use Rattle.disk_target.specs.States.{IsOwnConnection}
 
 pub record NegotiatedValue : Type 0 where
   pub dev : ℕ
@@ -90,29 +96,29 @@ pub record HasMet (m : Negotiated) (process : Bool) (v : NegotiatedValue) : Type
   pub met : (i : ℕ) → i < 8 → has_negotiated m i v.dev ≡ (slice_index_or v.had i false || is_open_to v.opening i && process)
   pub unbarred : (v.version == 1) ≡ false → (m.all ≡ false) × (m.targets ≡ [])
 
--- An opening is that of a connection of this target, under which RST is false.
-pub record IsOpening (rows : List Row) (dev initiator : ℕ) (n : Connection) : Type 0 where
+-- An opening is that of a connection of this target that began by a selection, under which RST is false; no phase but the
+-- first, MESSAGE OUT, has begun in it.
+pub record IsOpening (s : ScenarioValue) (rows : List Row) (dev initiator : ℕ) (n : Connection) : Type 0 where
   pub stands : connection rows ≡ Some n
   pub own : (n.target == dev) ≡ true
-  pub selects : n.reselected ≡ false
   pub by : n.initiator ≡ initiator
   pub calm : (bus rows).rst ≡ false
+  pub cause : (plan_at s rows).cause ≡ causes.Selected
+  pub first : (run_state s rows).exchange.begun ≡ true → phase_of (bus_of (run_state s rows)) ≡ phases.MessageOut
 
-abbrev pub IsOpeningIf : List Row → ℕ → Option ℕ → Type 0
-IsOpeningIf rows dev None = ⊤
-IsOpeningIf rows dev (Some initiator) = (n : Connection) × IsOpening rows dev initiator n
+abbrev pub IsOpeningIf : ScenarioValue → List Row → ℕ → Option ℕ → Type 0
+IsOpeningIf s rows dev None = ⊤
+IsOpeningIf s rows dev (Some initiator) = (n : Connection) × IsOpening s rows dev initiator n
 
 -- After these rows.
 pub record IsNegotiatedOf (s : ScenarioValue) (rows : List Row) (v : NegotiatedValue) : Type 0 where
   pub version_is : v.version ≡ s.version
   pub kept : HasMet (run_state s rows).negotiated (is_for_process (run_state s rows).served) v
-  pub opens : IsOpeningIf rows v.dev v.opening
+  pub opens : IsOpeningIf s rows v.dev v.opening
 
--- As the opening of this initiator is left, RST being false, an abort was heard in it unless the connection is for a
--- process.
-abbrev pub IsHeardSo : ScenarioValue → List Row → Option ℕ → Hearing → Option Connection → Bool → Type 0
-IsHeardSo s rows opening w after aborts =
-    (i : ℕ) → opening ≡ Some i → w.change.after.rst ≡ false → is_opening_left w after ≡ true → aborts ≡ not (is_for_process (run_state s rows).served)
+-- In a connection of its own, whether the target has heard an abort in the present MESSAGE OUT phase.
+abbrev pub IsHeardSo : ScenarioValue → List Row → ℕ → Bool → Type 0
+IsHeardSo s rows dev aborts = (n : Connection) → IsOwnConnection rows dev n → aborts ≡ is_some (plan_at s rows).said.aborts
 
 -- The events that a row shows, the newest first.
 abbrev pub events_of_row : ScenarioValue → List Row → Row → List Event

@@ -7,6 +7,7 @@ ghost use Rattle.bus_dialogue.specs.Hearing.{hearing as hearing_in};
 ghost use Rattle.bus_due.specs.LastingState.{has_negotiated};
 ghost use Rattle.bus_due.specs.Plain.{AreOfDevices};
 ghost use Rattle.bus_due.specs.RunSteps.{run_state, is_for_process};
+ghost use Rattle.scsi_device.specs.Heard.{heard};
 ghost use Rattle.disk_target.specs.Negotiated.{nobody_met, opened_in, met_by_opening, is_opening_left, met_by_connection, met_after_reset, met_after_event, met_after_events, negotiated_seen, is_open_to, IsNegotiatedOf, IsHeardSo, events_of_row};
 
 use crate::progress::is_phase_left;
@@ -153,8 +154,9 @@ impl Negotiated {
         }
     }
 
-    /// A row was made, of any device, that told this, and before and after which these connections stand, and the events
-    /// that it shows, the newest first. `aborts` says whether the target had heard an abort in the opening before it.
+    /// A row was made, of any device, that told this, and before and after which these connections stand; it shows these
+    /// events, the newest first. `aborts` says whether the target has heard an abort before it in the MESSAGE OUT phase
+    /// that stands.
     pub fn see(
         &mut self,
         aborts: bool,
@@ -167,7 +169,8 @@ impl Negotiated {
         ensures exact { self.new ≡ negotiated_seen self.old aborts hearing.now before after shown.now }
         ensures trace { (s : ScenarioValue) (rows : List Row) (row : Row) → AreOfDevices (row ∷ rows)
             → hearing.now ≡ hearing_in rows row → before ≡ connection rows → after ≡ connection (row ∷ rows)
-            → shown.now ≡ events_of_row s rows row → IsHeardSo s rows self.old.opening hearing.now after aborts
+            → shown.now ≡ events_of_row s rows row → heard s (row ∷ rows) ≡ true
+            → IsHeardSo s rows self.old.dev aborts
             → IsNegotiatedOf s rows self.old → IsNegotiatedOf s (row ∷ rows) self.new }
     {
         kept_is_plain();
