@@ -6,5 +6,6 @@ pub mod Dues
 pub mod Plans
 pub mod Shown
 pub mod Seated
+pub mod Absent
 pub mod Units
 pub mod Fillings
