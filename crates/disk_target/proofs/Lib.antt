@@ -6,6 +6,8 @@ mod Heard
 pub mod LiveQueue
 pub mod SenseBlocks
 pub mod SeatSteps
+pub mod AbsentReplies
+pub mod AbsentSteps
 pub mod Tellings
 pub mod UnitTimes
 pub mod UnitSteps

@@ -1,6 +1,6 @@
 -- A unit before any event is that of the starting array.
-use Rattle.std.proofs.Common.{ℕ, zero, suc, replicate, Result, Ok, Err, ◌≡◌, ◌<◌, Bool, true, false, List, [], ◌∷◌, ◌∙◌, refl, sym, ap, subst, length, Option, Some, None}
-use Rattle.std.specs.Prelude.{if◌then◌else◌, IfOk, ◌==◌, ◌&&◌, slice_index_or}
+use Rattle.std.proofs.Common.{ℕ, zero, suc, replicate, Result, Ok, Err, ◌≡◌, ◌<◌, Bool, true, false, List, [], ◌∷◌, ◌∙◌, refl, sym, ap, subst, length, Some}
+use Rattle.std.specs.Prelude.{if◌then◌else◌, IfOk, ◌==◌, ◌&&◌}
 use Rattle.bus_base.specs.declared.events.Pick.{Pick}
 use Rattle.scenario.specs.declared.value.FillDef.{FillDef}
 use Rattle.scenario.specs.declared.value.UnitDef.{UnitDef}
@@ -9,7 +9,8 @@ use Rattle.disk_array.specs.Contents.{Contents, starting_contents, with_block}
 use Rattle.disk_array.specs.Seats.{seat_of}
 use Rattle.disk_array.specs.Units.{Array, UnitState, starting_array, starting_unit, starting_units, units_after_choice, settled_array, pick_of}
 use Rattle.bus_due.specs.Wants.{since_of}
-use Rattle.disk_target.specs.Units.{IsUnitOf, AreUnitsOf}
+use Rattle.disk_target.specs.declared.logical.LogicalUnit.{LogicalUnit}
+use Rattle.disk_target.specs.Units.{IsUnitOf, AreUnitsOf, unit_in}
 use Rattle.disk_unit.specs.AtSeats.{IsUnitAt}
 use Rattle.disk_unit.specs.Books.{UnitBooks}
 use Rattle.disk_unit.proofs.AtSeats as seats
@@ -73,12 +74,12 @@ since_start (u ∷ us) (suc k) t n = go (u.target == t && u.unit == n) (since_st
     go true h = refl
     go false h = h
 
-pub units_start : (s : ScenarioValue) (dev : ℕ) (units : List (Option SeatedState)) → length units ≡ 8 → ((n : ℕ) → n < 8 → IsUnitOf s.hosts (seat_of (starting_array s) dev n) 0 (slice_index_or units n None))
+pub units_start : (s : ScenarioValue) (dev : ℕ) (units : List LogicalUnit) → length units ≡ 8 → ((n : ℕ) → n < 8 → IsUnitOf s.hosts (seat_of (starting_array s) dev n) 0 (unit_in units n))
     → AreUnitsOf s (settled_array (starting_array s)) (replicate (length s.units) 0) dev units
 units_start s dev units eight h =
     subst (λ (a : Array). AreUnitsOf s a (replicate (length s.units) 0) dev units) (sym (start_settled s))
     (record {
       timed = times_length (length s.units) ∙ sym (start_length s s.units);
       eight = eight;
-      each = λ n lt. subst (λ (t : ℕ). IsUnitOf s.hosts (seat_of (starting_array s) dev n) t (slice_index_or units n None)) (sym (since_start (starting_units s s.units) (length s.units) dev n)) (h n lt);
+      each = λ n lt. subst (λ (t : ℕ). IsUnitOf s.hosts (seat_of (starting_array s) dev n) t (unit_in units n)) (sym (since_start (starting_units s s.units) (length s.units) dev n)) (h n lt);
     })

@@ -14,10 +14,8 @@ use Rattle.cdb_codec.specs.declared.command.CdbFault.TheVariants as faults
 use Rattle.cdb_codec.specs.Cdb.{command_of}
 use Rattle.cdb_codec.specs.Replies.{sense_data}
 use Rattle.scenario.specs.declared.value.HostDef.{HostDef}
-use Rattle.disk_array.specs.declared.entries.Entry.{Entry}
 use Rattle.disk_array.specs.Contents.{Contents}
 use Rattle.disk_array.specs.Execution.{Reply, CommandContext, execution, attention_execution, cdb_execution, command_execution, reply_execution, check_condition, block_out_of_range, unit_not_supported, is_good_range, range_of, is_request_sense, heeds_attention, needs_unit, no_sense, returned_sense, Execution}
-use Rattle.disk_array.specs.Order.{entry_of}
 use Rattle.disk_array.specs.Units.{RunningProcess, UnitState, has_no_current}
 use Rattle.disk_array.specs.Steps.{process_count, running_count}
 use Rattle.disk_array.specs.Seats
@@ -34,7 +32,7 @@ use Rattle.disk_unit.proofs.Executions.{executed}
 use Rattle.disk_unit.proofs.Keeping as keeping
 use Rattle.disk_unit.proofs.LiveCommands.{entry_found, block_found, room_is}
 use Rattle.disk_target.specs.States.{ready_unit}
-use Rattle.disk_target.specs.Seated.{SeatedState, IsAtSeat, IsSince, seated_context, entry_under, current_entry, block_under, ready_by_entry, room_by, room_at}
+use Rattle.disk_target.specs.Seated.{SeatedState, IsAtSeat, IsSince, seated_context, running_entry, running_block, current_reply, entry_under, current_entry, block_under, ready_by_entry, room_by, room_at}
 use Rattle.disk_unit.proofs.Replies.{take_part}
 use Rattle.disk_target.proofs.SenseBlocks.{heeds_none}
 
@@ -79,14 +77,10 @@ room_seen hosts seat time v u h there =
 
 -- ---- the current process
 
-abbrev entry_if : Option RunningProcess → Option Entry
-entry_if None = None
-entry_if (Some r) = Some (entry_of r.process)
-
-entry_is : (l : List LiveCommand) (u : UnitState) (b : UnitBooks) → HasLive l u b → current_entry b ≡ entry_if u.current
+entry_is : (l : List LiveCommand) (u : UnitState) (b : UnitBooks) → HasLive l u b → current_entry b ≡ running_entry u.current
 entry_is l u b h = (λ i. entry_under (h.arrived i) b.queue.current) ∙ go b.queue.current u.current h.current
   where
-    go : (c : Option ℕ) (r : Option RunningProcess) → IsCurrentOf l c r → entry_under (queued_of l) c ≡ entry_if r
+    go : (c : Option ℕ) (r : Option RunningProcess) → IsCurrentOf l c r → entry_under (queued_of l) c ≡ running_entry r
     go None None k = refl
     go None (Some r) k = absurd k
     go (Some key) None k = absurd k
@@ -96,13 +90,13 @@ pub ready_seen : (hosts : List HostDef) (seat : Seat) (time : ℕ) (v : SeatedSt
     → ready_by_entry unit (min (v.since + seek) (2 ^ 64 - 1)) (is_held v.books.queue.hold) (current_entry v.books) ≡ ready_unit (ready_in (Seats.is_any_held seat.hold) (Seats.current_of seat.unit) (time + seek))
 ready_seen hosts seat time v unit seek h lt own =
     let held : is_held v.books.queue.hold ≡ Seats.is_any_held seat.hold = keeping.held hosts seat v.books h.2.kept.kept in
-    let entry : current_entry v.books ≡ entry_if h.1.current = entry_is h.0 h.1 v.books h.2.kept.commands in
+    let entry : current_entry v.books ≡ running_entry h.1.current = entry_is h.0 h.1 v.books h.2.kept.commands in
     (λ i. ready_by_entry unit (min (v.since + seek) (2 ^ 64 - 1)) (held i) (entry i))
     ∙ go h.1.current h.2.since (λ r e. own r ((λ i. Seats.current_of (h.2.kept.there i)) ∙ e)) (Seats.is_any_held seat.hold)
     ∙ (λ i. ready_unit (ready_in (Seats.is_any_held seat.hold) (Seats.current_of (sym h.2.kept.there i)) (time + seek)))
   where
     go : (r : Option RunningProcess) → IsSince r time v.since → ((q : RunningProcess) → r ≡ Some q → q.process.unit ≡ unit) → (y : Bool)
-        → ready_by_entry unit (min (v.since + seek) (2 ^ 64 - 1)) y (entry_if r) ≡ ready_unit (ready_in y r (time + seek))
+        → ready_by_entry unit (min (v.since + seek) (2 ^ 64 - 1)) y (running_entry r) ≡ ready_unit (ready_in y r (time + seek))
     go None k f y = refl
     go (Some q) k f true = refl
     go (Some q) k f false =
@@ -110,16 +104,24 @@ ready_seen hosts seat time v unit seek h lt own =
         let sum : min (v.since + seek) (2 ^ 64 - 1) ≡ time + seek = (λ i. min (k i + seek) (2 ^ 64 - 1)) ∙ min-eq_left (omega (arith, lt)) in
         λ i. Some (record { time = sum i; initiator = q.process.initiator; unit = sym number i })
 
-pub block_seen : (hosts : List HostDef) (seat : Seat) (time : ℕ) (v : SeatedState) (r : RunningProcess) → IsAtSeat hosts seat time v → Seats.current_of seat.unit ≡ Some r → block_under v.books v.books.queue.current ≡ r.process.cdb
-block_seen hosts seat time v r h e = go v.books.queue.current h.1.current h.2.kept.commands.current ((λ i. Seats.current_of (sym h.2.kept.there i)) ∙ e)
+pub block_seen : (hosts : List HostDef) (seat : Seat) (time : ℕ) (v : SeatedState) → IsAtSeat hosts seat time v → block_under v.books v.books.queue.current ≡ running_block (Seats.current_of seat.unit)
+block_seen hosts seat time v h =
+    go v.books.queue.current h.1.current h.2.kept.commands.current
+    ∙ (λ i. running_block (Seats.current_of (sym h.2.kept.there i)))
   where
-    go : (c : Option ℕ) (q : Option RunningProcess) → IsCurrentOf h.0 c q → q ≡ Some r → block_under v.books c ≡ r.process.cdb
-    go None None k f = cc
-    go None (Some q) k f = absurd k
-    go (Some key) None k f = absurd k
-    go (Some key) (Some q) k f =
-        let same : q ≡ r = cc in
-        block_found v.books.blocks h.0 key q.process h.2.kept.commands.blocks k ∙ (λ i. (same i).process.cdb)
+    go : (c : Option ℕ) (r : Option RunningProcess) → IsCurrentOf h.0 c r → block_under v.books c ≡ running_block r
+    go None None k = refl
+    go None (Some r) k = absurd k
+    go (Some key) None k = absurd k
+    go (Some key) (Some r) k = block_found v.books.blocks h.0 key r.process h.2.kept.commands.blocks k
+
+pub entry_seen : (hosts : List HostDef) (seat : Seat) (time : ℕ) (v : SeatedState) → IsAtSeat hosts seat time v → current_entry v.books ≡ running_entry (Seats.current_of seat.unit)
+entry_seen hosts seat time v h =
+    entry_is h.0 h.1 v.books h.2.kept.commands
+    ∙ (λ i. running_entry (Seats.current_of (sym h.2.kept.there i)))
+
+pub reply_seen : (hosts : List HostDef) (seat : Seat) (time : ℕ) (v : SeatedState) → IsAtSeat hosts seat time v → v.reply ≡ current_reply (Seats.current_of seat.unit)
+reply_seen hosts seat time v h = h.2.reply ∙ (λ i. current_reply (Seats.current_of (sym h.2.kept.there i)))
 
 -- ---- what a command would answer
 

@@ -21,10 +21,18 @@ use Rattle.disk_array.proofs.SeatLaws as laws
 use Rattle.disk_unit.proofs.LiveCommands.{id_self, same_id_is}
 use Rattle.bus_due.specs.Wants.{since_of}
 use Rattle.bus_due.specs.RunSteps.{is_same_running, current_times_after}
+use Rattle.disk_target.specs.declared.logical.LogicalUnit.{LogicalUnit}
+use Rattle.disk_target.specs.declared.logical.LogicalUnit.TheVariants as kinds
+use Rattle.disk_target.specs.Absent.{nothing_kept}
 use Rattle.disk_target.specs.Seated.{SeatedState, IsAtSeat, IsSince, seat_time}
-use Rattle.disk_target.specs.Units.{IsUnitOf, AreUnitsOf, AreUnitsAfter, IsStep, unit_in, unit_after_reset, state_after_reset, is_of_one}
+use Rattle.disk_target.specs.Units.{IsUnitOf, AreUnitsOf, AreUnitsAfter, IsStep, unit_in, unit_after_reset, is_of_one}
+use Rattle.disk_target.proofs.AbsentSteps as absent
 use Rattle.disk_target.proofs.SeatSteps.{resets}
 use Rattle.disk_target.proofs.UnitTimes.{AreSame, step_same, none_after, times_after, since_after}
+
+-- What stands past the eight units.
+abbrev no_unit : LogicalUnit
+no_unit = kinds.Absent nothing_kept
 
 -- ---- one unit
 
@@ -35,11 +43,20 @@ none_stays : (s : ScenarioValue) (event : Event) (a b : Array) (dev n : ℕ) →
 none_stays s event a b dev n st h = none_after a.units b.units dev n (same_units s event a b st) h
 
 -- Its time is that beside the units of the array.
-pub unit_goes : (s : ScenarioValue) (event : Event) (a b : Array) (times : List ℕ) (now dev n : ℕ) (v w : SeatedState) → IsStep s event a b → length times ≡ length a.units → IsAtSeat s.hosts (seat_of a dev n) (since_of a.units times dev n) v
+seated_goes : (s : ScenarioValue) (event : Event) (a b : Array) (times : List ℕ) (now dev n : ℕ) (v w : SeatedState) → IsStep s event a b → length times ≡ length a.units → IsAtSeat s.hosts (seat_of a dev n) (since_of a.units times dev n) v
     → IsAtSeat s.hosts (seat_of b dev n) (seat_time (seat_of a dev n) (seat_of b dev n) (since_of a.units times dev n) now) w
     → IsAtSeat s.hosts (seat_of b dev n) (since_of b.units (current_times_after a.units b.units times now) dev n) w
-unit_goes s event a b times now dev n v w st timed h k =
+seated_goes s event a b times now dev n v w st timed h k =
     subst (λ (t : ℕ). IsAtSeat s.hosts (seat_of b dev n) t w) (sym (since_after a.units b.units times now dev n h.1 (same_units s event a b st) timed h.2.kept.there)) k
+
+pub unit_goes : (s : ScenarioValue) (event : Event) (a b : Array) (times : List ℕ) (now dev n : ℕ) (u w : LogicalUnit) → IsStep s event a b → length times ≡ length a.units → IsUnitOf s.hosts (seat_of a dev n) (since_of a.units times dev n) u
+    → IsUnitOf s.hosts (seat_of b dev n) (seat_time (seat_of a dev n) (seat_of b dev n) (since_of a.units times dev n) now) w
+    → IsUnitOf s.hosts (seat_of b dev n) (since_of b.units (current_times_after a.units b.units times now) dev n) w
+unit_goes s event a b times now dev n u (kinds.Absent w) st timed h k = k
+unit_goes s event a b times now dev n (kinds.There v) (kinds.There w) st timed h k = seated_goes s event a b times now dev n v w st timed h k
+unit_goes s event a b times now dev n (kinds.Absent v) (kinds.There w) st timed h k =
+    let bad : None ≡ Some k.1 = sym (none_stays s event a b dev n st h.none) ∙ k.2.kept.there in
+    cc
 
 -- At a seat that stays.
 stays : (hosts : List HostDef) (seat : Seat) (time now : ℕ) (v : SeatedState) → IsAtSeat hosts seat time v → IsAtSeat hosts seat (seat_time seat seat time now) v
@@ -59,20 +76,23 @@ stays hosts seat time now v h = (
     go None k = tt
     go (Some r) k = k ∙ (λ i. if sym (id_self r.process.id) i then time else now)
 
-elsewhere_unit : (s : ScenarioValue) (event : Event) (a b : Array) (times : List ℕ) (now dev n : ℕ) (x : Option SeatedState) → IsStep s event a b → length times ≡ length a.units → is_elsewhere s event dev n ≡ true → IsUnitOf s.hosts (seat_of a dev n) (since_of a.units times dev n) x
-    → IsUnitOf s.hosts (seat_of b dev n) (since_of b.units (current_times_after a.units b.units times now) dev n) x
-elsewhere_unit s event a b times now dev n None st timed o h = none_stays s event a b dev n st h
-elsewhere_unit s event a b times now dev n (Some v) st timed o h =
+unit_stays : (hosts : List HostDef) (seat : Seat) (time now : ℕ) (u : LogicalUnit) → IsUnitOf hosts seat time u → IsUnitOf hosts seat (seat_time seat seat time now) u
+unit_stays hosts seat time now (kinds.There v) h = stays hosts seat time now v h
+unit_stays hosts seat time now (kinds.Absent v) h = h
+
+elsewhere_unit : (s : ScenarioValue) (event : Event) (a b : Array) (times : List ℕ) (now dev n : ℕ) (u : LogicalUnit) → IsStep s event a b → length times ≡ length a.units → is_elsewhere s event dev n ≡ true → IsUnitOf s.hosts (seat_of a dev n) (since_of a.units times dev n) u
+    → IsUnitOf s.hosts (seat_of b dev n) (since_of b.units (current_times_after a.units b.units times now) dev n) u
+elsewhere_unit s event a b times now dev n u st timed o h =
     let same : seat_of b dev n ≡ seat_of a dev n = laws.other_law s a b event dev n st.seats st.sound o st.step_is in
-    unit_goes s event a b times now dev n v v st timed h
-    (subst (λ (q : Seat). IsAtSeat s.hosts q (seat_time (seat_of a dev n) q (since_of a.units times dev n) now) v) (sym same) (stays s.hosts (seat_of a dev n) (since_of a.units times dev n) now v h))
+    unit_goes s event a b times now dev n u u st timed h
+    (subst (λ (q : Seat). IsUnitOf s.hosts q (seat_time (seat_of a dev n) q (since_of a.units times dev n) now) u) (sym same) (unit_stays s.hosts (seat_of a dev n) (since_of a.units times dev n) now u h))
 
 -- ---- all of them
 
 timed_after : (s : ScenarioValue) (event : Event) (a b : Array) (times : List ℕ) (now : ℕ) → IsStep s event a b → length times ≡ length a.units → length (current_times_after a.units b.units times now) ≡ length b.units
 timed_after s event a b times now st timed = times_after a.units b.units times now (same_units s event a b st) timed
 
-pub all_stay : (s : ScenarioValue) (event : Event) (a b : Array) (times : List ℕ) (now dev : ℕ) (units : List (Option SeatedState)) → IsStep s event a b → AreUnitsOf s a times dev units → ((n : ℕ) → n < 8 → is_elsewhere s event dev n ≡ true) → AreUnitsAfter s a b times now dev units
+pub all_stay : (s : ScenarioValue) (event : Event) (a b : Array) (times : List ℕ) (now dev : ℕ) (units : List LogicalUnit) → IsStep s event a b → AreUnitsOf s a times dev units → ((n : ℕ) → n < 8 → is_elsewhere s event dev n ≡ true) → AreUnitsAfter s a b times now dev units
 all_stay s event a b times now dev units st h o = record {
   timed = timed_after s event a b times now st h.timed;
   eight = h.eight;
@@ -80,7 +100,7 @@ all_stay s event a b times now dev units st h o = record {
 }
 
 -- One of them becomes this one.
-pub one_goes : (s : ScenarioValue) (event : Event) (a b : Array) (times : List ℕ) (now dev n : ℕ) (units : List (Option SeatedState)) (x : Option SeatedState) → n < 8 → IsStep s event a b → AreUnitsOf s a times dev units
+pub one_goes : (s : ScenarioValue) (event : Event) (a b : Array) (times : List ℕ) (now dev n : ℕ) (units : List LogicalUnit) (x : LogicalUnit) → n < 8 → IsStep s event a b → AreUnitsOf s a times dev units
     → ((m : ℕ) → (n == m) ≡ false → is_elsewhere s event dev m ≡ true)
     → IsUnitOf s.hosts (seat_of b dev n) (since_of b.units (current_times_after a.units b.units times now) dev n) x
     → AreUnitsAfter s a b times now dev (set units n x)
@@ -93,30 +113,13 @@ one_goes s event a b times now dev n units x lt st h o k = record {
     go : (m : ℕ) → m < 8 → (y : Bool) → (n == m) ≡ y → IsUnitOf s.hosts (seat_of b dev m) (since_of b.units (current_times_after a.units b.units times now) dev m) (unit_in (set units n x) m)
     go m below true e =
         let same : n ≡ m = eqb-true n m e in
-        let here : get_or (set units n x) n None ≡ x = get_or-set_same units n x None (omega (arith, h.eight, lt)) in
+        let here : get_or (set units n x) n no_unit ≡ x = get_or-set_same units n x no_unit (omega (arith, h.eight, lt)) in
         subst (λ (j : ℕ). IsUnitOf s.hosts (seat_of b dev j) (since_of b.units (current_times_after a.units b.units times now) dev j) (unit_in (set units n x) j)) same
-        (subst (λ (z : Option SeatedState). IsUnitOf s.hosts (seat_of b dev n) (since_of b.units (current_times_after a.units b.units times now) dev n) z) (sym here) k)
+        (subst (λ (z : LogicalUnit). IsUnitOf s.hosts (seat_of b dev n) (since_of b.units (current_times_after a.units b.units times now) dev n) z) (sym here) k)
     go m below false e =
-        let there : get_or (set units n x) m None ≡ get_or units m None = get_or-set_other units n m x None (λ f. eqb-false n m e (sym f)) in
-        subst (λ (z : Option SeatedState). IsUnitOf s.hosts (seat_of b dev m) (since_of b.units (current_times_after a.units b.units times now) dev m) z) (sym there)
+        let there : get_or (set units n x) m no_unit ≡ get_or units m no_unit = get_or-set_other units n m x no_unit (λ f. eqb-false n m e (sym f)) in
+        subst (λ (z : LogicalUnit). IsUnitOf s.hosts (seat_of b dev m) (since_of b.units (current_times_after a.units b.units times now) dev m) z) (sym there)
         (elsewhere_unit s event a b times now dev m (unit_in units m) st h.timed (o m e) (h.each m below))
-
--- None of them is there: nothing changes.
-pub none_goes : (s : ScenarioValue) (event : Event) (a b : Array) (times : List ℕ) (now dev n : ℕ) (units : List (Option SeatedState)) → IsStep s event a b → AreUnitsOf s a times dev units
-    → ((m : ℕ) → (n == m) ≡ false → is_elsewhere s event dev m ≡ true) → unit_in units n ≡ None → AreUnitsAfter s a b times now dev units
-none_goes s event a b times now dev n units st h o none = record {
-  timed = timed_after s event a b times now st h.timed;
-  eight = h.eight;
-  each = λ m below. go m below (n == m) refl;
-}
-  where
-    go : (m : ℕ) → m < 8 → (y : Bool) → (n == m) ≡ y → IsUnitOf s.hosts (seat_of b dev m) (since_of b.units (current_times_after a.units b.units times now) dev m) (unit_in units m)
-    go m below true e =
-        let same : n ≡ m = eqb-true n m e in
-        let here : unit_in units m ≡ None = (λ i. unit_in units (sym same i)) ∙ none in
-        let old : IsUnitOf s.hosts (seat_of a dev m) (since_of a.units times dev m) None = subst (λ (z : Option SeatedState). IsUnitOf s.hosts (seat_of a dev m) (since_of a.units times dev m) z) here (h.each m below) in
-        subst (λ (z : Option SeatedState). IsUnitOf s.hosts (seat_of b dev m) (since_of b.units (current_times_after a.units b.units times now) dev m) z) (sym here) (none_stays s event a b dev m st old)
-    go m below false e = elsewhere_unit s event a b times now dev m (unit_in units m) st h.timed (o m e) (h.each m below)
 
 -- ---- the seat of a process after its event
 
@@ -173,19 +176,6 @@ other_place s p dev n m own e =
 pub other_abort : (dev n m : ℕ) → (n == m) ≡ false → not (dev == dev && n == m) ≡ true
 other_abort dev n m e = (λ i. not (dev == dev && e i)) ∙ (λ i. not (and_none (dev == dev) i))
 
--- ---- one process event, where the unit is there
-
--- What a call tells of its unit is what becomes of the target's units.
-pub goes_with : (s : ScenarioValue) (event : Event) (a b : Array) (times : List ℕ) (now dev n : ℕ) (units : List (Option SeatedState)) (v w : SeatedState) (x : Option Seat) → n < 8 → IsStep s event a b → AreUnitsOf s a times dev units
-    → ((m : ℕ) → (n == m) ≡ false → is_elsewhere s event dev m ≡ true) → unit_in units n ≡ Some v → IsLeft x (seat_of b dev n)
-    → ((after : Seat) → x ≡ Some after → IsAtSeat s.hosts (seat_of a dev n) (since_of a.units times dev n) v → IsAtSeat s.hosts (settled_seat after) (seat_time (seat_of a dev n) (settled_seat after) (since_of a.units times dev n) now) w)
-    → AreUnitsAfter s a b times now dev (set units n (Some w))
-goes_with s event a b times now dev n units v w x lt st h o is_v left f =
-    let old : IsAtSeat s.hosts (seat_of a dev n) (since_of a.units times dev n) v = subst (λ (z : Option SeatedState). IsUnitOf s.hosts (seat_of a dev n) (since_of a.units times dev n) z) is_v (h.each n lt) in
-    let next : IsAtSeat s.hosts (seat_of b dev n) (seat_time (seat_of a dev n) (seat_of b dev n) (since_of a.units times dev n) now) w =
-    subst (λ (q : Seat). IsAtSeat s.hosts q (seat_time (seat_of a dev n) q (since_of a.units times dev n) now) w) left.settles (f left.seat left.is old) in
-    one_goes s event a b times now dev n units (Some w) lt st h o (unit_goes s event a b times now dev n v w st h.timed old next)
-
 -- ---- as a call changes one place of eight
 
 in_range : {X : Type 0} (xs : List X) (n : ℕ) (d e : X) → n < length xs → get_or xs n d ≡ get_or xs n e
@@ -193,25 +183,21 @@ in_range [] n d e lt = absurd (omega (arith, lt))
 in_range (x ∷ xs) zero d e lt = refl
 in_range (x ∷ xs) (suc n) d e lt = in_range xs n d e (omega (arith, lt))
 
-place_is : (units inside : List (Option SeatedState)) (n : ℕ) (d x : Option SeatedState) → length units ≡ 8 → n < 8 → inside ≡ units → get_or inside n d ≡ x → unit_in units n ≡ x
+pub place_is : (units inside : List LogicalUnit) (n : ℕ) (d x : LogicalUnit) → length units ≡ 8 → n < 8 → inside ≡ units → get_or inside n d ≡ x → unit_in units n ≡ x
 place_is units inside n d x eight lt same h =
-    in_range units n None d (omega (arith, eight, lt)) ∙ (λ i. get_or (sym same i) n d) ∙ h
+    in_range units n no_unit d (omega (arith, eight, lt)) ∙ (λ i. get_or (sym same i) n d) ∙ h
 
-pub some_set : (s : ScenarioValue) (event : Event) (a b : Array) (times : List ℕ) (now dev n : ℕ) (units inside last : List (Option SeatedState)) (d : Option SeatedState) (v w : SeatedState) (x : Option Seat) → n < 8 → IsStep s event a b → AreUnitsOf s a times dev units
-    → ((m : ℕ) → (n == m) ≡ false → is_elsewhere s event dev m ≡ true) → inside ≡ units → get_or inside n d ≡ Some v → last ≡ set inside n (Some w) → IsLeft x (seat_of b dev n)
-    → ((after : Seat) → x ≡ Some after → IsAtSeat s.hosts (seat_of a dev n) (since_of a.units times dev n) v → IsAtSeat s.hosts (settled_seat after) (seat_time (seat_of a dev n) (settled_seat after) (since_of a.units times dev n) now) w)
+-- What a call tells of its unit is what becomes of the target's units.
+pub one_set : (s : ScenarioValue) (event : Event) (a b : Array) (times : List ℕ) (now dev n : ℕ) (units inside last : List LogicalUnit) (d u w : LogicalUnit) (x : Option Seat) → n < 8 → IsStep s event a b → AreUnitsOf s a times dev units
+    → ((m : ℕ) → (n == m) ≡ false → is_elsewhere s event dev m ≡ true) → inside ≡ units → get_or inside n d ≡ u → last ≡ set inside n w → IsLeft x (seat_of b dev n)
+    → ((after : Seat) → x ≡ Some after → IsUnitOf s.hosts (seat_of a dev n) (since_of a.units times dev n) u → IsUnitOf s.hosts (settled_seat after) (seat_time (seat_of a dev n) (settled_seat after) (since_of a.units times dev n) now) w)
     → AreUnitsAfter s a b times now dev last
-some_set s event a b times now dev n units inside last d v w x lt st h o same is last_is left f =
-    subst (λ (z : List (Option SeatedState)). AreUnitsAfter s a b times now dev z) (sym (last_is ∙ (λ i. set (same i) n (Some w))))
-    (goes_with s event a b times now dev n units v w x lt st h o (place_is units inside n d (Some v) h.eight lt same is) left f)
-
-pub none_set : (s : ScenarioValue) (event : Event) (a b : Array) (times : List ℕ) (now dev n : ℕ) (units inside last : List (Option SeatedState)) (d : Option SeatedState) → n < 8 → IsStep s event a b → AreUnitsOf s a times dev units
-    → ((m : ℕ) → (n == m) ≡ false → is_elsewhere s event dev m ≡ true) → inside ≡ units → get_or inside n d ≡ None → last ≡ set inside n None → AreUnitsAfter s a b times now dev last
-none_set s event a b times now dev n units inside last d lt st h o same is last_is =
-    let none : unit_in units n ≡ None = place_is units inside n d None h.eight lt same is in
-    let old : IsUnitOf s.hosts (seat_of a dev n) (since_of a.units times dev n) None = subst (λ (z : Option SeatedState). IsUnitOf s.hosts (seat_of a dev n) (since_of a.units times dev n) z) none (h.each n lt) in
-    subst (λ (z : List (Option SeatedState)). AreUnitsAfter s a b times now dev z) (sym (last_is ∙ (λ i. set (same i) n None)))
-    (one_goes s event a b times now dev n units None lt st h o (none_stays s event a b dev n st old))
+one_set s event a b times now dev n units inside last d u w x lt st h o same is last_is left f =
+    let old : IsUnitOf s.hosts (seat_of a dev n) (since_of a.units times dev n) u = subst (λ (z : LogicalUnit). IsUnitOf s.hosts (seat_of a dev n) (since_of a.units times dev n) z) (place_is units inside n d u h.eight lt same is) (h.each n lt) in
+    let next : IsUnitOf s.hosts (seat_of b dev n) (seat_time (seat_of a dev n) (seat_of b dev n) (since_of a.units times dev n) now) w =
+    subst (λ (q : Seat). IsUnitOf s.hosts q (seat_time (seat_of a dev n) q (since_of a.units times dev n) now) w) left.settles (f left.seat left.is old) in
+    subst (λ (z : List LogicalUnit). AreUnitsAfter s a b times now dev z) (sym (last_is ∙ (λ i. set (same i) n w)))
+    (one_goes s event a b times now dev n units w lt st h o (unit_goes s event a b times now dev n u w st h.timed old next))
 
 -- ---- aborts and resets
 
@@ -235,21 +221,21 @@ reset_seat s a b by dev n st =
     (λ j. settled_seat (same j)) ∙ x.settles
 
 -- Each of them is reset.
-pub all_reset : (s : ScenarioValue) (event : Event) (a b : Array) (times : List ℕ) (now dev : ℕ) (units last : List (Option SeatedState)) → IsStep s event a b → AreUnitsOf s a times dev units
+unit_resets : (hosts : List HostDef) (seat : Seat) (time now : ℕ) (u : LogicalUnit) → IsUnitOf hosts seat time u → IsUnitOf hosts (settled_seat (Seats.seat_after_reset hosts seat)) (seat_time seat (settled_seat (Seats.seat_after_reset hosts seat)) time now) (unit_after_reset now u)
+unit_resets hosts seat time now (kinds.There v) h = resets hosts seat time now v h
+unit_resets hosts seat time now (kinds.Absent v) h = absent.resets hosts seat v h
+
+pub all_reset : (s : ScenarioValue) (event : Event) (a b : Array) (times : List ℕ) (now dev : ℕ) (units last : List LogicalUnit) → IsStep s event a b → AreUnitsOf s a times dev units
     → ((n : ℕ) → settled_seat (Seats.seat_after_reset s.hosts (seat_of a dev n)) ≡ seat_of b dev n) → length last ≡ 8 → ((n : ℕ) → n < 8 → unit_in last n ≡ unit_after_reset now (unit_in units n)) → AreUnitsAfter s a b times now dev last
 all_reset s event a b times now dev units last st h seat eight each = record {
   timed = timed_after s event a b times now st h.timed;
   eight = eight;
   each = λ n lt.
-      subst (λ (z : Option SeatedState). IsUnitOf s.hosts (seat_of b dev n) (since_of b.units (current_times_after a.units b.units times now) dev n) z) (sym (each n lt))
-      (go n (unit_in units n) (h.each n lt));
+      subst (λ (z : LogicalUnit). IsUnitOf s.hosts (seat_of b dev n) (since_of b.units (current_times_after a.units b.units times now) dev n) z) (sym (each n lt))
+      (unit_goes s event a b times now dev n (unit_in units n) (unit_after_reset now (unit_in units n)) st h.timed (h.each n lt)
+      (subst (λ (q : Seat). IsUnitOf s.hosts q (seat_time (seat_of a dev n) q (since_of a.units times dev n) now) (unit_after_reset now (unit_in units n))) (seat n)
+      (unit_resets s.hosts (seat_of a dev n) (since_of a.units times dev n) now (unit_in units n) (h.each n lt))));
 }
-  where
-    go : (n : ℕ) (x : Option SeatedState) → IsUnitOf s.hosts (seat_of a dev n) (since_of a.units times dev n) x → IsUnitOf s.hosts (seat_of b dev n) (since_of b.units (current_times_after a.units b.units times now) dev n) (unit_after_reset now x)
-    go n None k = none_stays s event a b dev n st k
-    go n (Some v) k =
-        unit_goes s event a b times now dev n v (state_after_reset now v) st h.timed k
-        (subst (λ (q : Seat). IsAtSeat s.hosts q (seat_time (seat_of a dev n) q (since_of a.units times dev n) now) (state_after_reset now v)) (seat n) (resets s.hosts (seat_of a dev n) (since_of a.units times dev n) now v k))
 
 -- ---- the process that runs
 
@@ -276,9 +262,9 @@ own_current s t n (Some q) r p h e is = go (same_id q.process.id p.id) refl e
         (λ i. (sym same i).process) ∙ it
 
 -- Where the run of a process that is not outside the queue is allowed, it is current, and has no reply.
-pub running_own : (s : ScenarioValue) (a : Array) (dev n : ℕ) (u : UnitState) (p : Process) (after : Seat) → IsSound s a → IsOwn s dev n p → (seat_of a dev n).unit ≡ Some u → guest_at (seat_of a dev n).guests p.id ≡ None → Seats.seat_after_run p.id (seat_of a dev n) ≡ Some after
+running_there : (s : ScenarioValue) (a : Array) (dev n : ℕ) (u : UnitState) (p : Process) (after : Seat) → IsSound s a → IsOwn s dev n p → (seat_of a dev n).unit ≡ Some u → guest_at (seat_of a dev n).guests p.id ≡ None → Seats.seat_after_run p.id (seat_of a dev n) ≡ Some after
     → Seats.running_at (seat_of a dev n) p.id ≡ Some (record { process = p; reply = None })
-running_own s a dev n u p after sound own there none e =
+running_there s a dev n u p after sound own there none e =
     let at : Seats.running_at (seat_of a dev n) p.id ≡ running_if u.current p.id = (λ i. if is_some (none i) then none i else running_if (current_of (there i)) p.id) in
     at ∙ go (running_if u.current p.id) refl ((λ i. Seats.seat_after_run_of (seat_of a dev n) (is_some (sym none i)) (sym at i)) ∙ e)
   where
@@ -292,6 +278,17 @@ running_own s a dev n u p after sound own there none e =
         unanswered None f k same = λ i. Some (record { process = same i; reply = f i })
         unanswered (Some given) f k same = cc
 
+pub running_own : (s : ScenarioValue) (a : Array) (dev n : ℕ) (p : Process) (after : Seat) → IsSound s a → IsOwn s dev n p → guest_at (seat_of a dev n).guests p.id ≡ None → Seats.seat_after_run p.id (seat_of a dev n) ≡ Some after
+    → Seats.running_at (seat_of a dev n) p.id ≡ Some (record { process = p; reply = None })
+running_own s a dev n p after sound own none e = go (seat_of a dev n).unit refl
+  where
+    go : (x : Option UnitState) → (seat_of a dev n).unit ≡ x → Seats.running_at (seat_of a dev n) p.id ≡ Some (record { process = p; reply = None })
+    go (Some u) there = running_there s a dev n u p after sound own there none e
+    go None there =
+        let nothing : Seats.running_at (seat_of a dev n) p.id ≡ None = (λ i. if is_some (none i) then none i else running_if (current_of (there i)) p.id) in
+        let bad : None ≡ Some after = (λ i. Seats.seat_after_run_of (seat_of a dev n) (is_some (sym none i)) (sym nothing i)) ∙ e in
+        cc
+
 -- An abort of one unit leaves the others.
 pub elsewhere_abort : (s : ScenarioValue) (i dev n m : ℕ) (what : AbortKind) → is_of_one what ≡ true → (n == m) ≡ false → is_elsewhere s (events.Aborted i dev n what) dev m ≡ true
 elsewhere_abort s i dev n m aborts.All one e = other_abort dev n m e
@@ -299,20 +296,21 @@ elsewhere_abort s i dev n m (aborts.Tag tag) one e = other_abort dev n m e
 elsewhere_abort s i dev n m aborts.WholeQueue one e = other_abort dev n m e
 elsewhere_abort s i dev n m aborts.Device one e = cc
 
-pub by_after : (hosts : List HostDef) (before one after : Seat) (time now : ℕ) (w : SeatedState) → Some one ≡ Some after → IsAtSeat hosts (settled_seat one) (seat_time before (settled_seat one) time now) w → IsAtSeat hosts (settled_seat after) (seat_time before (settled_seat after) time now) w
-by_after hosts before one after time now w e h =
+pub seated_after : (hosts : List HostDef) (before one after : Seat) (time now : ℕ) (w : SeatedState) → Some one ≡ Some after → IsAtSeat hosts (settled_seat one) (seat_time before (settled_seat one) time now) w → IsAtSeat hosts (settled_seat after) (seat_time before (settled_seat after) time now) w
+seated_after hosts before one after time now w e h =
     let same : one ≡ after = cc in
     subst (λ (q : Seat). IsAtSeat hosts (settled_seat q) (seat_time before (settled_seat q) time now) w) same h
 
+pub by_after : (hosts : List HostDef) (before one after : Seat) (time now : ℕ) (w : LogicalUnit) → Some one ≡ Some after → IsUnitOf hosts (settled_seat one) (seat_time before (settled_seat one) time now) w → IsUnitOf hosts (settled_seat after) (seat_time before (settled_seat after) time now) w
+by_after hosts before one after time now w e h =
+    let same : one ≡ after = cc in
+    subst (λ (q : Seat). IsUnitOf hosts (settled_seat q) (seat_time before (settled_seat q) time now) w) same h
+
 -- ---- a unit that is looked at
 
-pub unit_seen : (s : ScenarioValue) (a : Array) (times : List ℕ) (dev n : ℕ) (units inside : List (Option SeatedState)) (d : Option SeatedState) → n < 8 → AreUnitsOf s a times dev units → inside ≡ units → IsUnitOf s.hosts (seat_of a dev n) (since_of a.units times dev n) (get_or inside n d)
+pub unit_seen : (s : ScenarioValue) (a : Array) (times : List ℕ) (dev n : ℕ) (units inside : List LogicalUnit) (d : LogicalUnit) → n < 8 → AreUnitsOf s a times dev units → inside ≡ units → IsUnitOf s.hosts (seat_of a dev n) (since_of a.units times dev n) (get_or inside n d)
 unit_seen s a times dev n units inside d lt h same =
-    subst (λ (z : Option SeatedState). IsUnitOf s.hosts (seat_of a dev n) (since_of a.units times dev n) z) (place_is units inside n d (get_or inside n d) h.eight lt same refl) (h.each n lt)
-
-pub seated_at : (s : ScenarioValue) (a : Array) (times : List ℕ) (dev n : ℕ) (units inside : List (Option SeatedState)) (d : Option SeatedState) (v : SeatedState) → n < 8 → AreUnitsOf s a times dev units → inside ≡ units → get_or inside n d ≡ Some v → IsAtSeat s.hosts (seat_of a dev n) (since_of a.units times dev n) v
-seated_at s a times dev n units inside d v lt h same is =
-    subst (λ (z : Option SeatedState). IsUnitOf s.hosts (seat_of a dev n) (since_of a.units times dev n) z) is (unit_seen s a times dev n units inside d lt h same)
+    subst (λ (z : LogicalUnit). IsUnitOf s.hosts (seat_of a dev n) (since_of a.units times dev n) z) (place_is units inside n d (get_or inside n d) h.eight lt same refl) (h.each n lt)
 
 -- Where the seat does not allow an arrival the array does not.
 pub accept_none : (s : ScenarioValue) (a : Array) (p : Process) (dev n : ℕ) → HasSeats s → IsSound s a → IsOwn s dev n p → Seats.seat_after_accept p (seat_of a dev n) ≡ None → step s (events.Accept p.id) a ≡ None

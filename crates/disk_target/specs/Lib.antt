@@ -6,6 +6,7 @@ pub mod Dues
 pub mod Plans
 pub mod Shown
 pub mod Seated
+pub mod Absent
 pub mod Units
 pub mod Fillings
 pub mod Progress

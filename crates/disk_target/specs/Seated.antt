@@ -12,7 +12,7 @@ use Rattle.scenario.specs.declared.value.HostDef.{HostDef}
 use Rattle.disk_array.specs.declared.entries.Entry.{Entry}
 use Rattle.disk_array.specs.Contents.{Contents}
 use Rattle.disk_array.specs.Execution.{Reply, CommandContext, execution, is_request_sense, check_condition, sense_of}
-use Rattle.disk_array.specs.Order.{class_of, tag_number}
+use Rattle.disk_array.specs.Order.{class_of, tag_number, entry_of}
 use Rattle.disk_array.specs.Processes.{Process, same_id}
 use Rattle.disk_array.specs.Units.{RunningProcess, UnitState, guest_at, has_no_current}
 use Rattle.disk_array.specs.Steps.{running_if, process_count}
@@ -85,6 +85,15 @@ seat_time before after time now =
 abbrev pub running_id : Option RunningProcess → Option ProcId
 running_id None = None
 running_id (Some r) = Some r.process.id
+
+-- What the queue keeps of it, and its command descriptor block.
+abbrev pub running_entry : Option RunningProcess → Option Entry
+running_entry None = None
+running_entry (Some r) = Some (entry_of r.process)
+
+abbrev pub running_block : Option RunningProcess → List ℕ
+running_block None = []
+running_block (Some r) = r.process.cdb
 
 abbrev pub entry_id : Option Entry → Option ProcId
 entry_id None = None

@@ -13,6 +13,7 @@
 //! the target, where it knows what they made known to it (`specs/States.antt`, `IsTargetOf`). No call takes memory.
 #![tactic(auto)]
 
+mod absent;
 mod arrivals;
 mod data_runs;
 mod due;
@@ -20,9 +21,11 @@ mod events;
 mod fillings;
 mod gathered;
 mod laws;
+mod logical;
 mod negotiated;
 mod next_phase;
 mod offering;
+mod parts;
 mod phase_bytes;
 mod plans;
 mod progress;
@@ -31,6 +34,7 @@ mod seated;
 mod serving;
 mod units;
 
+pub use absent::AbsentUnit;
 pub use arrivals::arrival_by;
 pub use data_runs::{has_further_run, process_byte_place, run_length, run_length_if, runs_in_all};
 pub use due::{target_next, want_of_ready};
@@ -38,6 +42,7 @@ pub use events::{Shown, leaving_shown};
 pub use gathered::{Gathered, place_in_run};
 pub use laws::{dues_are_of_targets, plans_are_heard};
 pub use negotiated::Negotiated;
+pub use logical::LogicalUnit;
 pub use next_phase::{leaving_by, phase_leaving, phase_of, waits_seek};
 pub use offering::{follows_by, offering_by};
 pub use phase_bytes::{follows_in, lines_by, phase_byte, phase_lines};

@@ -16,20 +16,19 @@ ghost use Rattle.disk_unit.specs.Disk.{disk_extent, disk_reply, blocks_written};
 ghost use Rattle.disk_unit.specs.declared.unit.Accepted.TheVariants as accepted;
 ghost use Rattle.disk_target.specs.Fillings.{IsFresh, AreFilled};
 ghost use Rattle.scenario.specs.Value.{ScenarioValue};
-ghost use Rattle.disk_target.specs.Seated.{SeatedState, IsAtSeat, seat_time, running_id, current_id, is_same_process, reply_kept, since_after, settled, with_books, IsProcess, IsNew, IsArrived, can_run, IsRun, IsRunLive, HasSent, aborted_reply, state_after_failure, state_after_end, state_after_loss, books_after_guest, IsCut, seated_context, current_entry, block_under, entry_from, ready_by_entry, room_by, room_at};
+ghost use Rattle.disk_target.specs.Seated.{SeatedState, IsAtSeat, seat_time, running_id, running_entry, running_block, current_reply, current_id, is_same_process, reply_kept, since_after, settled, with_books, IsProcess, IsNew, IsArrived, can_run, IsRun, IsRunLive, HasSent, aborted_reply, state_after_failure, state_after_end, state_after_loss, books_after_guest, IsCut, seated_context, current_entry, block_under, entry_from, ready_by_entry, room_by, room_at};
 
 use crate::fillings::fill;
+use crate::parts::{copy_part, is_sense};
 use crate::ready::Ready;
 use bus_base::{AbortKind, Class, Dev, NoMemory, Ns, Pick, ProcId};
 use bus_dialogue::Room;
-use cdb_codec::{
-    ABORTED_COMMAND, CHECK_CONDITION, CdbFault, Command, GOOD, Sense, from_cdb, sense_bytes,
-};
+use cdb_codec::{ABORTED_COMMAND, CHECK_CONDITION, GOOD, Sense, from_cdb, sense_bytes};
 use disk_unit::{Accepted, Blocks, DiskMedium, Plan, Reply, SparseBlocks, Unit};
 use scenario::{FillDef, UnitDef};
 use std::alloc::Global;
 use std::marker::Model;
-use tag_queue::Key;
+use tag_queue::{Entry, Key};
 
 /// A logical unit of a target: a disk with its queue, the reply of its current process once that has one, and since
 /// when this is the current one.
@@ -112,21 +111,6 @@ fn reply_of_failure(fails: bool, reply: Option<Reply>, code: u8) -> Option<Reply
     } else {
         reply
     }
-}
-
-// Some of these bytes, from `at` on.
-fn copy_part(bytes: &[u8], at: u32, into: &mut [u8])
-    requires within { at + length into.old ≤ length bytes.now }
-    ensures { into.new ≡ take (length into.old) (drop at bytes.now) }
-{
-    let at = at as usize;
-    into.copy_from_slice(&bytes[at..at + into.len()]);
-}
-
-fn is_sense(command: Result<Command, CdbFault>) -> bool
-    ensures { result ≡ is_request_sense command }
-{
-    matches!(command, Ok(Command::RequestSense { room: _ }))
 }
 
 fn ready_unless(held: bool, unit: u8, time: Ns, initiator: Dev) -> Option<Ready>
@@ -551,10 +535,35 @@ impl SeatedUnit {
     /// The command descriptor block of the current process; no bytes where there is none.
     pub fn block(&self) -> &[u8]
         ensures exact { result.now ≡ block_under self.now.books self.now.books.queue.current }
-        ensures seat { (hosts : List HostDef) (seat : Seat) (time : ℕ) (r : RunningProcess)
-            → IsAtSeat hosts seat time self.now → current_of seat.unit ≡ Some r → result.now ≡ r.process.cdb }
+        ensures seat { (hosts : List HostDef) (seat : Seat) (time : ℕ) → IsAtSeat hosts seat time self.now
+            → result.now ≡ running_block (current_of seat.unit) }
     {
         self.block_now()
+    }
+
+    fn entry(&self) -> Option<Entry>
+        ensures { result ≡ current_entry self.now.books }
+    {
+        let key = self.unit.current()?;
+        Some(*self.unit.entry(key))
+    }
+
+    /// What the queue keeps of the current process.
+    pub fn command(&self) -> Option<Entry>
+        ensures exact { result ≡ current_entry self.now.books }
+        ensures seat { (hosts : List HostDef) (seat : Seat) (time : ℕ) → IsAtSeat hosts seat time self.now
+            → result ≡ running_entry (current_of seat.unit) }
+    {
+        self.entry()
+    }
+
+    /// The reply of the current process, once it has one.
+    pub fn reply(&self) -> Option<Reply>
+        ensures exact { result ≡ self.now.reply }
+        ensures seat { (hosts : List HostDef) (seat : Seat) (time : ℕ) → IsAtSeat hosts seat time self.now
+            → result ≡ current_reply (current_of seat.unit) }
+    {
+        self.reply
     }
 
     fn plan_now(&self, from: Dev, cdb: &[u8]) -> Plan

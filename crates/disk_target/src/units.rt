@@ -1,39 +1,40 @@
 //! The logical units of a target, each at its seat of the plain disk array.
-ghost use Rattle.std.specs.Prelude.{◌≡◌, ◌<◌, ◌≤◌, ◌+◌, ◌^◌, ◌-◌, min, ℕ, Bool, true, false, List, length, Option, Some, None, is_some, slice_index_or, replicate};
+ghost use Rattle.std.specs.Prelude.{◌≡◌, ◌<◌, ◌≤◌, ◌+◌, ℕ, Bool, true, List, length, Option, Some, None, is_some, replicate, take, drop};
 ghost use Rattle.bus_base.specs.declared.AbortKind.TheVariants as aborts;
 ghost use Rattle.bus_base.specs.declared.Event.{Event};
 ghost use Rattle.bus_base.specs.declared.Event.TheVariants as events;
 ghost use Rattle.cdb_codec.specs.Cdb.{command_of};
 ghost use Rattle.scenario.specs.Value.{ScenarioValue};
-ghost use Rattle.disk_array.specs.Execution.{Reply as ArrayReply, execution, is_request_sense};
+ghost use Rattle.disk_array.specs.Execution.{Reply as ArrayReply, is_request_sense};
 ghost use Rattle.disk_array.specs.Processes.{Process};
-ghost use Rattle.disk_array.specs.Seats.{Seat, seat_of, context_of, contents_of, current_of, is_any_held, in_hold, nexus_at, is_elsewhere, is_initiator};
+ghost use Rattle.disk_array.specs.Seats.{seat_of, current_of, in_hold, nexus_at, is_elsewhere, is_initiator};
 ghost use Rattle.disk_array.specs.SoundArray.{IsOwn, IsSound, HasSeats};
 ghost use Rattle.disk_array.specs.Steps.{step};
 ghost use Rattle.disk_array.specs.Units.{Array, RunningProcess, guest_at, unit_state_at, starting_array, settled_array};
+ghost use Rattle.disk_unit.specs.Plans.{plan_of};
 ghost use Rattle.disk_unit.specs.Units.{told_of};
 ghost use Rattle.disk_unit.specs.declared.unit.Accepted.TheVariants as accepted;
-ghost use Rattle.disk_target.specs.Seated.{IsProcess, IsNew, HasSent, SeatedState, running_id};
-ghost use Rattle.disk_target.specs.Units.{IsUnitOf, AreUnitsOf, AreUnitsAfter, AreEarly, IsStep, unit_in, unit_after_reset, is_of_one, room_if, plan_if, out_in, first_unit, is_before as is_before_unit};
+ghost use Rattle.disk_target.specs.Seated.{IsProcess, IsNew, HasSent, running_id, running_entry, running_block, current_reply};
+ghost use Rattle.disk_target.specs.Units.{IsUnitOf, AreUnitsOf, AreUnitsAfter, AreEarly, IsStep, unit_in, unit_after_reset, is_of_one, first_unit, reply_at, is_before as is_before_unit};
 ghost use Rattle.disk_target.specs.States.{ready_unit};
-ghost use Rattle.bus_dialogue.specs.Wants.{ready_in};
+ghost use Rattle.disk_target.specs.declared.logical.LogicalUnit.{LogicalUnit as LogicalUnitValue};
 ghost use Rattle.bus_due.specs.Wants.{ready_at, ready_among};
 ghost use Rattle.bus_due.specs.Tasks.{room_of, size_of, reply_now};
-ghost use Rattle.scenario.specs.declared.value.HostDef.{HostDef};
 
+use crate::logical::LogicalUnit;
 use crate::ready::Ready;
-use crate::seated::SeatedUnit;
 use bus_base::{AbortKind, Class, Dev, Ns, ProcId};
 use bus_dialogue::Room;
 use disk_unit::{Accepted, Plan, Reply};
 use std::marker::Model;
+use tag_queue::Entry;
 
 /// The logical units of a target, by number.
 #[derive(Drop)]
 pub struct Units {
     dev: Dev,
     seek: u32,
-    units: [Option<SeatedUnit>; 8],
+    units: [LogicalUnit; 8],
 }
 
 impl Model for Units {
@@ -45,94 +46,18 @@ impl Model for Units {
 }
 
 // There are eight of them.
-fn are_eight(units: &[Option<SeatedUnit>; 8])
+fn are_eight(units: &[LogicalUnit; 8])
     ensures { length units.now ≡ 8 }
 {
     let _ = units.len();
 }
 
-// The unit, if it is there, is reset.
-fn reset_if(unit: &mut Option<SeatedUnit>, now: Ns)
-    ensures { unit.new ≡ unit_after_reset now unit.old }
-{
-    match unit {
-        Some(seated) => seated.reset(now),
-        None => {}
-    }
-}
-
-fn reset_each(units: &mut [Option<SeatedUnit>; 8], now: Ns)
+fn reset_each(units: &mut [LogicalUnit; 8], now: Ns)
     ensures eight { length units.new ≡ 8 }
     ensures each { (n : ℕ) → n < 8 → unit_in units.new n ≡ unit_after_reset now (unit_in units.old n) }
 {
     for n in 0..8 {
-        reset_if(&mut units[n], now);
-    }
-}
-
-// ---- what a unit tells, if it is there
-
-fn current_if(unit: &Option<SeatedUnit>) -> Option<ProcId>
-    ensures { (hosts : List HostDef) (seat : Seat) (time : ℕ) → IsUnitOf hosts seat time unit.now
-        → result ≡ running_id (current_of seat.unit) }
-{
-    match unit {
-        Some(seated) => seated.current(),
-        None => None,
-    }
-}
-
-fn size_if(unit: &Option<SeatedUnit>) -> usize
-    ensures { (hosts : List HostDef) (seat : Seat) (time : ℕ) → IsUnitOf hosts seat time unit.now
-        → result ≡ (contents_of seat.unit).size }
-{
-    match unit {
-        Some(seated) => seated.block_size(),
-        None => 0,
-    }
-}
-
-fn room_of_unit(unit: &Option<SeatedUnit>) -> Option<Room>
-    ensures { (hosts : List HostDef) (seat : Seat) (time : ℕ) → IsUnitOf hosts seat time unit.now
-        → result ≡ room_if (is_any_held seat.hold) seat.unit }
-{
-    match unit {
-        Some(seated) => Some(seated.room()),
-        None => None,
-    }
-}
-
-fn holds_if(unit: &Option<SeatedUnit>, from: Dev) -> bool
-    requires device { from < 8 }
-    ensures { (hosts : List HostDef) (seat : Seat) (time : ℕ) → IsUnitOf hosts seat time unit.now
-        → is_some seat.unit ≡ true → result ≡ seat.hold from }
-{
-    match unit {
-        Some(seated) => seated.holds(from),
-        None => false,
-    }
-}
-
-fn plan_of_unit(unit: &Option<SeatedUnit>, from: Dev, cdb: &[u8]) -> Option<Plan>
-    requires device { from < 8 }
-    ensures { (hosts : List HostDef) (seat : Seat) (time : ℕ) (sent : List ℕ) → IsUnitOf hosts seat time unit.now
-        → is_initiator hosts from ≡ true
-        → result ≡ plan_if seat.unit (execution (context_of seat from) cdb.now sent).reply (out_in result) }
-{
-    match unit {
-        Some(seated) => Some(seated.plan(from, cdb)),
-        None => None,
-    }
-}
-
-fn ready_if(unit: &Option<SeatedUnit>, number: u8, seek: u32) -> Option<Ready>
-    ensures { (hosts : List HostDef) (seat : Seat) (time : ℕ) → IsUnitOf hosts seat time unit.now
-        → time + seek < 2 ^ 64 → ((r : RunningProcess) → current_of seat.unit ≡ Some r → r.process.unit ≡ number)
-        → result ≡ ready_unit (ready_in (is_any_held seat.hold) (current_of seat.unit) (time + seek)) }
-{
-    match unit {
-        Some(seated) => seated.ready(number, seek),
-        None => None,
+        units[n].reset(now);
     }
 }
 
@@ -160,7 +85,7 @@ fn first(one: Option<Ready>, other: Option<Ready>) -> Option<Ready>
 
 impl Units {
     /// The units of a target with this seek time, by number.
-    pub fn new(dev: Dev, seek: u32, units: [Option<SeatedUnit>; 8]) -> Units
+    pub fn new(dev: Dev, seek: u32, units: [LogicalUnit; 8]) -> Units
         ensures exact { result ≡ record { dev = dev; seek = seek; units = units } }
         ensures start { (s : ScenarioValue)
             → ((n : ℕ) → n < 8 → IsUnitOf s.hosts (seat_of (starting_array s) dev n) 0 (unit_in units n))
@@ -177,7 +102,7 @@ impl Units {
             → AreUnitsOf s a times self.now.dev self.now.units
             → result ≡ running_id (current_of (unit_state_at a.units self.now.dev unit)) }
     {
-        current_if(&self.units[unit as usize])
+        self.units[unit as usize].current()
     }
 
     /// How many bytes a block of a unit has; 0 where it is not there.
@@ -187,7 +112,7 @@ impl Units {
             → AreUnitsOf s a times self.now.dev self.now.units
             → result ≡ size_of (unit_state_at a.units self.now.dev unit) }
     {
-        size_if(&self.units[unit as usize])
+        self.units[unit as usize].block_size()
     }
 
     /// The queue of a unit that is there: whether it is full, and whether the unit is idle.
@@ -197,31 +122,76 @@ impl Units {
             → AreUnitsOf s a times self.now.dev self.now.units
             → result ≡ room_of a (unit_state_at a.units self.now.dev unit) }
     {
-        room_of_unit(&self.units[unit as usize])
+        self.units[unit as usize].room()
     }
 
-    /// Whether an initiator stands in the hold of a unit that is there.
+    /// Whether an initiator stands in the hold of a unit.
     pub fn holds(&self, unit: u8, from: Dev) -> bool
         requires unit { unit < 8 }
         requires device { from < 8 }
         ensures { (s : ScenarioValue) (a : Array) (times : List ℕ)
             → AreUnitsOf s a times self.now.dev self.now.units
-            → is_some (unit_state_at a.units self.now.dev unit) ≡ true
             → result ≡ in_hold a.holds (nexus_at self.now.dev unit from) }
     {
-        holds_if(&self.units[unit as usize], from)
+        self.units[unit as usize].holds(from)
     }
 
-    /// How a command of an initiator would end if it ran now at a unit that is there, whether or not it has arrived.
-    pub fn plan(&self, unit: u8, from: Dev, cdb: &[u8]) -> Option<Plan>
+    /// How a command of an initiator would end if it ran now, whether or not it has arrived.
+    pub fn plan(&self, unit: u8, from: Dev, cdb: &[u8]) -> Plan
         requires unit { unit < 8 }
         requires device { from < 8 }
+        ensures exact { result ≡ plan_of (reply_at (unit_in self.now.units unit) from cdb.now) result.out_len }
+        ensures array { (s : ScenarioValue) (a : Array) (times : List ℕ) (p : Process)
+            → AreUnitsOf s a times self.now.dev self.now.units → is_initiator s.hosts from ≡ true
+            → p.target ≡ self.now.dev → p.unit ≡ unit → p.initiator ≡ from → p.cdb ≡ cdb.now
+            → result ≡ plan_of (reply_now a p) result.out_len }
+    {
+        self.units[unit as usize].plan(from, cdb)
+    }
+
+    /// The bytes of the reply that a command of an initiator would have now, from `at` on, as many as `into` has.
+    pub fn fetch(&self, unit: u8, from: Dev, cdb: &[u8], at: u32, into: &mut [u8])
+        requires unit { unit < 8 }
+        requires device { from < 8 }
+        requires within { at + length into.old
+            ≤ length (reply_at (unit_in self.now.units unit) from cdb.now).bytes }
         ensures { (s : ScenarioValue) (a : Array) (times : List ℕ) (p : Process)
             → AreUnitsOf s a times self.now.dev self.now.units → is_initiator s.hosts from ≡ true
             → p.target ≡ self.now.dev → p.unit ≡ unit → p.initiator ≡ from → p.cdb ≡ cdb.now
-            → result ≡ plan_if (unit_state_at a.units self.now.dev unit) (reply_now a p) (out_in result) }
+            → into.new ≡ take (length into.old) (drop at (reply_now a p).bytes) }
     {
-        plan_of_unit(&self.units[unit as usize], from, cdb)
+        self.units[unit as usize].fetch(from, cdb, at, into);
+    }
+
+    /// What the queue of a unit keeps of the current process: its number, its initiator, its tag and its class among
+    /// others.
+    pub fn current_command(&self, unit: u8) -> Option<Entry>
+        requires unit { unit < 8 }
+        ensures { (s : ScenarioValue) (a : Array) (times : List ℕ)
+            → AreUnitsOf s a times self.now.dev self.now.units
+            → result ≡ running_entry (current_of (unit_state_at a.units self.now.dev unit)) }
+    {
+        self.units[unit as usize].command()
+    }
+
+    /// The command descriptor block of the current process of a unit; no bytes where there is none.
+    pub fn current_block(&self, unit: u8) -> &[u8]
+        requires unit { unit < 8 }
+        ensures { (s : ScenarioValue) (a : Array) (times : List ℕ)
+            → AreUnitsOf s a times self.now.dev self.now.units
+            → result.now ≡ running_block (current_of (unit_state_at a.units self.now.dev unit)) }
+    {
+        self.units[unit as usize].block()
+    }
+
+    /// The reply of the current process of a unit, once it has one.
+    pub fn reply(&self, unit: u8) -> Option<Reply>
+        requires unit { unit < 8 }
+        ensures { (s : ScenarioValue) (a : Array) (times : List ℕ)
+            → AreUnitsOf s a times self.now.dev self.now.units
+            → result ≡ current_reply (current_of (unit_state_at a.units self.now.dev unit)) }
+    {
+        self.units[unit as usize].reply()
     }
 
     // The unit of this number.
@@ -231,7 +201,7 @@ impl Units {
             → AreUnitsOf s a times self.now.dev self.now.units → AreEarly a times self.now.dev self.now.seek
             → result ≡ ready_unit (ready_at a times self.now.seek self.now.dev unit) }
     {
-        ready_if(&self.units[unit as usize], unit, self.seek)
+        self.units[unit as usize].ready(unit, self.seek)
     }
 
     // Of these units from this one on.
@@ -278,8 +248,7 @@ impl Units {
         self.ready_lower(self.ready_upper())
     }
 
-    /// The command of a process arrives at `now`, in ns. At a unit that is not there it runs at once, outside every
-    /// queue.
+    /// The command of a process arrives at `now`, in ns (`LogicalUnit::accept`).
     pub fn accept(
         &mut self,
         unit: u8,
@@ -309,13 +278,10 @@ impl Units {
         ensures dev { self.new.dev ≡ self.old.dev }
         ensures seek { self.new.seek ≡ self.old.seek }
     {
-        match &mut self.units[unit as usize] {
-            Some(seated) => seated.accept(id, from, tag, class, cdb, now),
-            None => Accepted::AtOnce,
-        }
+        self.units[unit as usize].accept(id, from, tag, class, cdb, now)
     }
 
-    /// A process runs at `now`, in ns, with the bytes that it sent (`SeatedUnit::run`).
+    /// A process runs at `now`, in ns, with the bytes that it sent (`LogicalUnit::run`).
     pub fn run(&mut self, unit: u8, id: ProcId, sent: &[u8], now: Ns) -> Option<Reply>
         requires unit { unit < 8 }
         ensures array { (s : ScenarioValue) (a b : Array) (times : List ℕ) (p : Process)
@@ -323,18 +289,20 @@ impl Units {
             → guest_at (seat_of a self.old.dev unit).guests id ≡ None → HasSent (seat_of a self.old.dev unit) p sent.now
             → is_some result ≡ true → IsStep s (events.Run id) a b
             → AreUnitsAfter s a b times now self.old.dev self.new.units }
+        ensures reply { (s : ScenarioValue) (a b : Array) (times : List ℕ) (p : Process)
+            → AreUnitsOf s a times self.old.dev self.old.units → IsOwn s self.old.dev unit p → p.id ≡ id
+            → guest_at (seat_of a self.old.dev unit).guests id ≡ None → HasSent (seat_of a self.old.dev unit) p sent.now
+            → is_some result ≡ true → IsStep s (events.Run id) a b → result ≡ Some (told_of (reply_now a p)) }
         ensures guest { (s : ScenarioValue) (a b : Array) (times : List ℕ) (p : Process) (r : RunningProcess)
             → AreUnitsOf s a times self.old.dev self.old.units → IsOwn s self.old.dev unit p → p.id ≡ id
             → guest_at (seat_of a self.old.dev unit).guests id ≡ Some r
-            → is_request_sense (command_of r.process.cdb) ≡ true → IsStep s (events.Run id) a b
+            → (is_some (unit_state_at a.units self.old.dev unit) ≡ true
+            → is_request_sense (command_of r.process.cdb) ≡ true) → IsStep s (events.Run id) a b
             → AreUnitsAfter s a b times now self.old.dev self.new.units }
         ensures dev { self.new.dev ≡ self.old.dev }
         ensures seek { self.new.seek ≡ self.old.seek }
     {
-        match &mut self.units[unit as usize] {
-            Some(seated) => seated.run(id, sent, now),
-            None => None,
-        }
+        self.units[unit as usize].run(id, sent, now)
     }
 
     /// A process fails at `now`, in ns, with this code.
@@ -346,10 +314,7 @@ impl Units {
         ensures dev { self.new.dev ≡ self.old.dev }
         ensures seek { self.new.seek ≡ self.old.seek }
     {
-        match &mut self.units[unit as usize] {
-            Some(seated) => seated.fail(id, code, now),
-            None => {}
-        }
+        self.units[unit as usize].fail(id, code, now);
     }
 
     /// A process of the queue ends at `now`, in ns.
@@ -362,13 +327,10 @@ impl Units {
         ensures dev { self.new.dev ≡ self.old.dev }
         ensures seek { self.new.seek ≡ self.old.seek }
     {
-        match &mut self.units[unit as usize] {
-            Some(seated) => seated.end(id, now),
-            None => {}
-        }
+        self.units[unit as usize].end(id, now);
     }
 
-    /// A process outside the queue ends at `now`, in ns, with this reply (`SeatedUnit::end_guest`).
+    /// A process outside the queue ends at `now`, in ns, with this reply (`LogicalUnit::end_guest`).
     pub fn end_guest(&mut self, unit: u8, from: Dev, reply: &Reply, senses: bool, now: Ns)
         requires unit { unit < 8 }
         requires device { from < 8 }
@@ -380,10 +342,7 @@ impl Units {
         ensures dev { self.new.dev ≡ self.old.dev }
         ensures seek { self.new.seek ≡ self.old.seek }
     {
-        match &mut self.units[unit as usize] {
-            Some(seated) => seated.end_guest(from, reply, senses, now),
-            None => {}
-        }
+        self.units[unit as usize].end_guest(from, reply, senses, now);
     }
 
     /// A process is lost at `now`, in ns.
@@ -395,10 +354,7 @@ impl Units {
         ensures dev { self.new.dev ≡ self.old.dev }
         ensures seek { self.new.seek ≡ self.old.seek }
     {
-        match &mut self.units[unit as usize] {
-            Some(seated) => seated.lose(id, now),
-            None => {}
-        }
+        self.units[unit as usize].lose(id, now);
     }
 
     /// ABORT, ABORT TAG or CLEAR QUEUE of this initiator ended at `now`, in ns, at a unit.
@@ -412,10 +368,7 @@ impl Units {
         ensures dev { self.new.dev ≡ self.old.dev }
         ensures seek { self.new.seek ≡ self.old.seek }
     {
-        match &mut self.units[unit as usize] {
-            Some(seated) => seated.abort(kind, by, now),
-            None => {}
-        }
+        self.units[unit as usize].abort(kind, by, now);
     }
 
     fn clear(&mut self, now: Ns)
@@ -446,6 +399,6 @@ impl Units {
 /// An event of a process of another target, or an abort there, changes nothing of the units of a target.
 pub fn units_stay()
     ensures { (s : ScenarioValue) (event : Event) (a b : Array) (times : List ℕ) (now dev : ℕ)
-        (units : List (Option SeatedState)) → IsStep s event a b → AreUnitsOf s a times dev units
+        (units : List LogicalUnitValue) → IsStep s event a b → AreUnitsOf s a times dev units
         → ((n : ℕ) → n < 8 → is_elsewhere s event dev n ≡ true) → AreUnitsAfter s a b times now dev units }
 {}

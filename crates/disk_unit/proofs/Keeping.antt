@@ -26,7 +26,7 @@ use Rattle.disk_unit.specs.Keeping.{IsKeptAt, books_after_status}
 
 -- ---- one place of eight
 
-set_at : {X : Type 0} (xs : List X) (dev other : ℕ) (x y d : X) → length xs ≡ 8 → dev < 8 → get_or xs other d ≡ y → get_or (set xs dev x) other d ≡ (if dev == other then x else y)
+pub set_at : {X : Type 0} (xs : List X) (dev other : ℕ) (x y d : X) → length xs ≡ 8 → dev < 8 → get_or xs other d ≡ y → get_or (set xs dev x) other d ≡ (if dev == other then x else y)
 set_at xs dev other x y d n l h = go (dev == other) refl
   where
     go : (z : Bool) → (dev == other) ≡ z → get_or (set xs dev x) other d ≡ (if z then x else y)
@@ -35,7 +35,7 @@ set_at xs dev other x y d n l h = go (dev == other) refl
         (λ i. get_or (set xs dev x) (sym e i) d) ∙ get_or-set_same xs dev x d (omega (arith, n, l))
     go false z = get_or-set_other xs dev other x d (λ e. eqb-false dev other z (sym e)) ∙ h
 
-length_set : {X : Type 0} (xs : List X) (dev : ℕ) (x : X) → length xs ≡ 8 → length (set xs dev x) ≡ 8
+pub length_set : {X : Type 0} (xs : List X) (dev : ℕ) (x : X) → length xs ≡ 8 → length (set xs dev x) ≡ 8
 length_set xs dev x n = length-set xs dev x ∙ n
 
 -- ---- a sense and the hold of one initiator

@@ -3,4 +3,4 @@ use Rattle.disk_target.proofs.Tellings.{block_seen}
 use Rattle.disk_target.proofs.seated.SeatedUnit.block.Goals as goal
 
 pub returns-clause-seat : goal.returns-clause-seat
-returns-clause-seat c = λ hosts seat time r h e. c.block_now.ensures ∙ block_seen hosts seat time c.args.self.now r h e
+returns-clause-seat c = λ hosts seat time h. c.block_now.ensures ∙ block_seen hosts seat time c.args.self.now h

@@ -1,26 +1,15 @@
-use Rattle.std.proofs.Common.{ℕ, ◌≡◌, ◌∙◌, set}
+use Rattle.std.proofs.Common.{ℕ, ◌≡◌, refl, set, get_or}
 use Rattle.bus_base.specs.declared.Event.TheVariants as events
-use Rattle.disk_array.specs.Seats.{seat_of}
 use Rattle.bus_due.specs.Wants.{since_of}
-use Rattle.disk_target.specs.Units.{IsStep}
-use Rattle.disk_target.proofs.UnitSteps.{some_set, none_set, other_place, end_left}
+use Rattle.disk_array.specs.Seats.{seat_of}
+use Rattle.disk_target.proofs.UnitSteps.{one_set, other_place, end_left}
 use Rattle.disk_target.proofs.units.Units.end_guest.Goals as goal
-use Rattle.disk_target.proofs.units.Units.end_guest.Goals.{in-Some, in-None}
 
 pub returns-clause-array : goal.returns-clause-array
 returns-clause-array c = λ s a b times p given status h own g from told sense st.
     let dev : ℕ = c.args.self.now.dev in
     let n : ℕ = c.args.unit in
-    let units = c.args.self.now.units in
-    let inside = c.self.inside.units in
-    let same_units : inside ≡ units = λ i. (c.self.view_is i).units in
-    let step : IsStep s (events.End p.id status) a b = st in
-    elim c.match-self-unit.branch [
-      | in-Some w ↦
-          some_set s (events.End p.id status) a b times c.args.now dev n units inside c.match-self-unit.self-inside.units c.index-self-unit.result w.in-Some.seated w.end_guest.new.self _ c.requires.unit step h
-          (λ m e. other_place s p dev n m own e) same_units w.in-Some.is (λ i. (w.self-inside-is i).units) (end_left s a b p status dev n step own) (λ after e k. w.end_guest.ensures.seat s.hosts (seat_of a dev n) after (since_of a.units times dev n) status p.id p given k g from told sense e)
-      | in-None w ↦
-          none_set s (events.End p.id status) a b times c.args.now dev n units inside c.match-self-unit.self-inside.units c.index-self-unit.result c.requires.unit step h
-          (λ m e. other_place s p dev n m own e) same_units w.in-None.is
-          ((λ i. (w.self-inside-is i).units) ∙ (λ i. set inside n (w.in-None.is i)))
-    ]
+    let same_units : c.self.inside.units ≡ c.args.self.now.units = λ i. (c.self.view_is i).units in
+    one_set s (events.End p.id status) a b times c.args.now dev n c.args.self.now.units c.self.inside.units (set c.self.inside.units n c.end_guest.new.self) c.index-self-unit.result (get_or c.self.inside.units n c.index-self-unit.result) c.end_guest.new.self _ c.requires.unit st h
+    (λ m e. other_place s p dev n m own e) same_units refl refl (end_left s a b p status dev n st own)
+    (λ after e k. c.end_guest.ensures s.hosts (seat_of a dev n) after (since_of a.units times dev n) status p.id p given k g from told sense e)

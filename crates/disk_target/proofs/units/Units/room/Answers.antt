@@ -10,4 +10,4 @@ returns c = λ s a times sound h.
     let dev : ℕ = c.args.self.now.dev in
     let n : ℕ = c.args.unit in
     let seen = unit_seen s a times dev n c.args.self.now.units c.self.inside.units c.index-self-unit.result c.requires.unit h (λ i. (c.self.view_is i).units) in
-    c.room_of_unit.ensures s.hosts (seat_of a dev n) (since_of a.units times dev n) seen ∙ room_is s a dev n sound
+    c.room.ensures s.hosts (seat_of a dev n) (since_of a.units times dev n) seen ∙ room_is s a dev n sound
