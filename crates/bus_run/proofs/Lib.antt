@@ -1,0 +1,9 @@
+pub mod OnePlace
+pub mod Firsts
+pub mod Tellings
+pub mod Seams
+pub mod Rows
+pub mod FaultLists
+pub mod Absent
+pub mod Told
+pub mod Going

@@ -1,0 +1,79 @@
+use Rattle.std.proofs.Common.{ℕ, ◌≡◌, ◌<◌, ◌≤◌, ◌+◌, ◌^◌, ◌∷◌, ◌∙◌, List, Some, length, reverse, sym, ap, arith}
+use Rattle.std.proofs.lemmas.List.{length-reverse}
+use Rattle.bus_trace.specs.declared.Row.{Row}
+use Rattle.scenario.specs.declared.value.FaultDef.{FaultDef}
+use Rattle.bus_story.specs.Story.{Story}
+use Rattle.bus_due.specs.Next.{next}
+use Rattle.scsi_device.specs.Told.{first_fault}
+use Rattle.bus_run.proofs.Going.{seen, goes_on, observed_on, devices_on, early_on, too_late}
+use Rattle.bus_run.proofs.running.run.Goals as goal
+
+pub next-requires-clause-timely : goal.next-requires-clause-timely
+next-requires-clause-timely g c =
+    c.observers_are_timely.ensures (reverse c.loop.trace.rows.items) c.loop.invariant.observed c.loop.invariant.early
+
+pub returns-in_default-clause-ended : goal.returns-in_default-clause-ended
+returns-in_default-clause-ended g c = λ h p.
+    let s = c.args.scenario.now in
+    let rows : List Row = reverse c.loop.trace.rows.items in
+    let i = c.loop.invariant in
+    let going = i.going h p in
+    sym (c.next.ensures.exact s rows (seen s rows c.loop.observer (c.scenarios_fit_the_bus.ensures.lines s c.requires.lawful) h going.prompt i.observed i.devices) going.devices (c.first.ensures ∙ ap (λ (xs : List FaultDef). first_fault xs) going.pending))
+    ∙ c.in_default.is
+
+pub returns-in_default-clause-history : goal.returns-in_default-clause-history
+returns-in_default-clause-history g c = λ h p.
+    let rows : List Row = reverse c.loop.trace.rows.items in
+    (c.loop.invariant.going h p).told
+    ∙ ap (λ (b : Story). b.history) (c.kept_is_plain.ensures.rows c.args.scenario.now rows c.loop.invariant.devices).story
+
+pub returns-in_default-clause-places : goal.returns-in_default-clause-places
+returns-in_default-clause-places g c = λ h p. (c.loop.invariant.going h p).devices
+
+pub returns-then-row-ge-END-clause-unfinished : goal.returns-then-row-ge-END-clause-unfinished
+returns-then-row-ge-END-clause-unfinished g c = λ h p e.
+    let s = c.args.scenario.now in
+    let rows : List Row = reverse c.loop.trace.rows.items in
+    let i = c.loop.invariant in
+    let going = i.going h p in
+    let row : Row = c.in-Some.row in
+    let few : length (row ∷ rows) ≤ 2 ^ 32 = omega (arith, length-reverse c.loop.trace.rows.items, i.count, c.loop-test.true, c.requires.most) in
+    absurd (too_late s rows row
+    (c.rows_come_in_time.ensures.far s (row ∷ rows) c.requires.lawful
+    (going.prompt, sym (c.next.ensures.exact s rows (seen s rows c.loop.observer (c.scenarios_fit_the_bus.ensures.lines s c.requires.lawful) h going.prompt i.observed i.devices) going.devices (c.first.ensures ∙ ap (λ (xs : List FaultDef). first_fault xs) going.pending)) ∙ c.in-Some.is) few)
+    c.if-row-ge-END.true)
+
+pub loop-preserved : goal.loop-preserved
+loop-preserved g c =
+    let s = c.args.scenario.now in
+    let rows : List Row = reverse c.loop.trace.rows.items in
+    let row : Row = c.in-Some.row in
+    let i = c.loop.invariant in
+    let new : reverse c.add.new.self.rows.items ≡ row ∷ rows = c.in_ok-add.ensures.rows in
+    let early : row.time < 2 ^ 62 = c.if-row-ge-END.false in
+    let observed = c.tell-shown.ensures.observer rows i.observed in
+    record {
+      observed = observed_on rows _ row _ new observed;
+      devices = devices_on rows _ row new c.in-Some.ensures.device i.devices;
+      early = early_on rows _ row new early i.early;
+      count = c.in_ok-add.ensures.count ∙ ap (λ (n : ℕ). n + 1) i.count;
+      steps = omega (arith, c.next.ensures.steps, i.steps);
+      going = λ h p.
+          let going = i.going h p in
+          let fits = c.scenarios_fit_the_bus.ensures.lines s c.requires.lawful in
+          let is : next s rows ≡ Some row = sym (c.next.ensures.exact s rows (seen s rows c.loop.observer fits h going.prompt i.observed i.devices) going.devices (c.first.ensures ∙ ap (λ (xs : List FaultDef). first_fault xs) going.pending)) ∙ c.in-Some.is in
+          let all = seen s (row ∷ rows) c.tell-shown.new.observer fits h (going.prompt, is) observed (c.in-Some.ensures.device, i.devices) in
+          goes_on g.D.Device.IsOf s rows _ row c.loop.places c.loop.faults (reverse c.loop.trace.history.items) c.tell-shown.new.places c.see.new.self _ (reverse c.add.new.self.history.items)
+          new going is (c.tell-shown.ensures.places s rows all going.devices) c.see.ensures (c.tell-shown.ensures.shown s rows all going.devices) c.in_ok-add.ensures.history;
+    }
+
+pub returns-clause-unfinished : goal.returns-clause-unfinished
+returns-clause-unfinished g c = λ h p e.
+    let all : c.loop.counter ≡ c.args.most = omega (arith, c.loop-test.false, c.loop.auto.counter-end) in (
+      record {
+        rows = reverse c.loop.trace.rows.items;
+        prompt = (c.loop.invariant.going h p).prompt;
+        count = length-reverse c.loop.trace.rows.items ∙ c.loop.invariant.count ∙ all;
+      },
+      omega (arith, c.loop.invariant.steps, all),
+    )

@@ -1,0 +1,18 @@
+use Rattle.std.proofs.Common.{◌≡◌, ◌+◌, ◌*◌, [], length, reverse}
+use Rattle.bus_dialogue.specs.Observer.{IsObserverOf}
+use Rattle.bus_due.specs.Plain.{AreOfDevices}
+use Rattle.bus_run.specs.Places.{AreIn}
+use Rattle.bus_run.specs.Runs.{AreEarly}
+use Rattle.bus_run.specs.Seams.{SeamsHold}
+use Rattle.bus_run.proofs.Going.{IsGoing}
+use Rattle.bus_run.proofs.running.run.Given as goal
+
+abbrev pub invariant-loop : goal.invariant-loop
+invariant-loop g l = record {
+  observed : IsObserverOf (reverse l.trace.rows.items) l.observer;
+  devices : AreOfDevices (reverse l.trace.rows.items);
+  early : AreEarly (reverse l.trace.rows.items);
+  count : length l.trace.rows.items ≡ l.counter;
+  steps : l.steps ≡ l.initial.steps + 8 * l.counter;
+  going : SeamsHold l.scenario → AreIn g.D.Device.IsOf l.scenario [] l.initial.places → IsGoing g.D.Device.IsOf l.scenario (reverse l.trace.rows.items) l.places l.faults (reverse l.trace.history.items);
+}

@@ -1,0 +1,30 @@
+//! The run of any devices that do what is due.
+//!
+//! A [`Device`] is told of every row, its own included, and says what it makes next, and when. For each row of a trace
+//! [`run`] asks all eight places of the bus, makes the least of what is due, of the highest ID where several are due at
+//! one time, and tells all devices of it, with the events that the row shows. Nothing else decides: there are no
+//! rounds, no clock and no moments that were set. What a device knows is its own affair, and stands here as a relation
+//! between the device and the rows that it was told of (`IsOf`); `specs/Seams.antt` says what it may rest on beside.
+//! Stands on `scsi_device`, `bus_dialogue`, `bus_due` and `bus_laws`.
+//!
+//! Public contract: what [`run`] returns is the prompt trace of the scenario, after which nothing is due, with the
+//! history that its rows tell, where every prompt trace of the scenario ties what devices know to what rows tell
+//! (`SeamsHold`). Without that, each row is of one of the eight devices, the steps are eight for each row and eight
+//! more, and of rows and steps there are no more than were granted.
+#![tactic(auto)]
+
+mod device;
+mod faults;
+mod laws;
+mod places;
+mod running;
+mod shown;
+mod telling;
+mod trace;
+
+pub use device::Device;
+pub use faults::Faults;
+pub use laws::rows_tie_devices;
+pub use running::{RunEnd, run};
+pub use shown::Shown;
+pub use trace::Trace;

@@ -1,0 +1,137 @@
+//! The run.
+ghost use Rattle.std.specs.Prelude.{ℕ, ◌≡◌, ◌<◌, ◌≤◌, ◌+◌, ◌*◌, ◌^◌, ◌∷◌, [], List, Err, IfOk, IfErr, reverse, length};
+ghost use Rattle.std.specs.List.{AllByRecursion};
+ghost use Rattle.bus_trace.specs.declared.Row.{Row};
+ghost use Rattle.bus_lines.specs.Timely.{IsTimely};
+ghost use Rattle.scenario.specs.Value.{ScenarioValue};
+ghost use Rattle.scenario.specs.Writing.{Obeys};
+ghost use Rattle.bus_story.specs.TraceHistory.{trace_history};
+ghost use Rattle.bus_dialogue.specs.Observer.{IsObserverOf};
+ghost use Rattle.bus_due.specs.Next.{next, IsPrompt, IsEnded};
+ghost use Rattle.bus_due.specs.Plain.{AreOfDevices};
+ghost use Rattle.bus_due.specs.RunSteps.{run_state};
+ghost use Rattle.bus_run.specs.declared.running.RunEnd.TheVariants.{NoMemory, Unfinished};
+ghost use Rattle.bus_run.specs.Places.{AreIn};
+ghost use Rattle.bus_run.specs.Runs.{AreEarly, HasSeenEarly, IsLong};
+ghost use Rattle.bus_run.specs.Seams.{SeamsHold};
+ghost use Rattle.bus_run.specs.Seen.{AreSeen};
+ghost use Rattle.bus_run.specs.Shown.{shown_events, events_shown};
+
+use crate::device::Device;
+use crate::faults::Faults;
+use crate::places::next;
+use crate::shown::Shown;
+use crate::telling::{row_shown, see_all};
+use crate::trace::Trace;
+use bus_base::{NoMemory, Ns, Steps};
+use bus_dialogue::Observer;
+use bus_due::kept_is_plain;
+use bus_laws::rows_come_in_time;
+use bus_lines::views_are_timely;
+use bus_trace::Row;
+use scenario::Scenario;
+use scsi_device::scenarios_fit_the_bus;
+use std::alloc::Global;
+use std::sync::ledger::Ledger;
+
+/// Why a run has no result.
+#[derive(Clone, Copy, Debug)]
+pub enum RunEnd {
+    /// Memory ran out.
+    NoMemory,
+    /// It made as many rows as it may, and has not ended.
+    Unfinished,
+}
+
+impl From<NoMemory> for RunEnd {
+    ghost from_gives = { λ _ e. e ≡ NoMemory };
+
+    fn from(_error: NoMemory) -> RunEnd {
+        RunEnd::NoMemory
+    }
+}
+
+/// No row comes as late as this, in ns.
+const END: Ns = 1 << 62;
+
+// The times of an observer of such rows.
+fn observers_are_timely(observer: &Observer)
+    ensures { (rows : List Row) → IsObserverOf rows observer.now → AreEarly rows → IsTimely (2 ^ 63) observer.now.view }
+{
+    views_are_timely();
+}
+
+// All devices are told of a row, of which the observer has not been told yet; and the events that it shows.
+fn tell<D: Device>(places: &mut [Option<D>], observer: &mut Observer, row: &Row) -> Shown
+    requires eight { length places.old ≡ 8 }
+    requires device { row.now.dev < 8 }
+    requires early { row.now.time < 2 ^ 62 }
+    requires seen { HasSeenEarly observer.old }
+    ensures observer { (rows : List Row) → IsObserverOf rows observer.old
+        → IsObserverOf (row.now ∷ rows) observer.new }
+    ensures shown { (s : ScenarioValue) (rows : List Row) → AreSeen s (row.now ∷ rows) observer.new
+        → AreIn D.IsOf s rows places.old → shown_events result ≡ events_shown s rows row.now }
+    ensures places { (s : ScenarioValue) (rows : List Row) → AreSeen s (row.now ∷ rows) observer.new
+        → AreIn D.IsOf s rows places.old → AreIn D.IsOf s (row.now ∷ rows) places.new }
+{
+    observer.step(row);
+    observers_are_timely(observer);
+    let shown = row_shown(places, observer, row);
+    see_all(places, observer, row, shown.as_slice());
+    shown
+}
+
+/// The run of a scenario by these devices, each in the place of its ID, until nothing is due, in at most so many rows.
+/// Every place that is asked is a step. Only the rows and the history take memory.
+pub fn run<D: Device, L: Ledger>(
+    alloc: Global,
+    scenario: &Scenario,
+    places: &mut [Option<D>],
+    most: u64,
+    steps: &mut Steps<L>,
+) -> Result<Trace, RunEnd>
+    requires lawful { Obeys scenario.now }
+    requires eight { length places.old ≡ 8 }
+    requires most { most ≤ 2 ^ 32 }
+    // It is the prompt trace of the scenario, whole,
+    ensures prompt { SeamsHold scenario.now → AreIn D.IsOf scenario.now [] places.old
+        → IfOk result (λ trace. IsPrompt scenario.now (reverse trace.rows.items)) }
+    ensures ended { SeamsHold scenario.now → AreIn D.IsOf scenario.now [] places.old
+        → IfOk result (λ trace. IsEnded scenario.now (reverse trace.rows.items)) }
+    // with what it tells,
+    ensures history { SeamsHold scenario.now → AreIn D.IsOf scenario.now [] places.old
+        → IfOk result (λ trace. reverse trace.history.items
+        ≡ trace_history scenario.now (reverse trace.rows.items)) }
+    // of which every device was told.
+    ensures places { SeamsHold scenario.now → AreIn D.IsOf scenario.now [] places.old
+        → IfOk result (λ trace. AreIn D.IsOf scenario.now (reverse trace.rows.items) places.new) }
+    // It is unfinished only where the prompt trace has so many rows, and each took its eight steps.
+    ensures unfinished { SeamsHold scenario.now → AreIn D.IsOf scenario.now [] places.old
+        → result ≡ Err Unfinished → IsLong scenario.now most × (steps.new ≡ steps.old + 8 * most) }
+    // Whatever the devices are:
+    ensures devices { IfOk result (λ trace. AreOfDevices (reverse trace.rows.items)) }
+    ensures early { IfOk result (λ trace. AreEarly (reverse trace.rows.items)) }
+    ensures few { IfOk result (λ trace. length trace.rows.items < most) }
+    ensures counted { IfOk result (λ trace. steps.new ≡ steps.old + 8 * (length trace.rows.items + 1)) }
+    ensures steps { steps.new ≤ steps.old + 8 * most }
+{
+    scenarios_fit_the_bus();
+    rows_come_in_time();
+    kept_is_plain();
+    let mut trace = Trace::new(alloc);
+    let mut observer = Observer::new();
+    let mut faults = Faults::new(alloc, scenario.faults.as_slice())?;
+    for _ in 0..most {
+        observers_are_timely(&observer);
+        let Some(row) = next(places, &observer, faults.first(), steps) else {
+            return Ok(trace);
+        };
+        if row.time >= END {
+            return Err(RunEnd::Unfinished);
+        }
+        let shown = tell(places, &mut observer, &row);
+        faults.see(row.kind);
+        trace.add(&row, shown)?;
+    }
+    Err(RunEnd::Unfinished)
+}

@@ -1,0 +1,161 @@
+//! All devices are told of a row.
+ghost use Rattle.std.specs.Prelude.{ℕ, ◌≡◌, ◌≢◌, ◌<◌, ◌+◌, ◌^◌, ◌∷◌, [], true, false, List, Option, Some, None, length, slice_index_or};
+ghost use Rattle.bus_trace.specs.declared.Row.{Row};
+ghost use Rattle.bus_trace.specs.declared.connection.Connection.{Connection};
+ghost use Rattle.bus_trace.specs.Terms.{connection};
+ghost use Rattle.bus_lines.specs.Timely.{IsTimely};
+ghost use Rattle.scenario.specs.Value.{ScenarioValue};
+ghost use Rattle.bus_run.specs.Label.{process_known, id_or_none};
+ghost use Rattle.bus_run.specs.Places.{AreIn, is_one, AreKnownBut};
+ghost use Rattle.bus_run.specs.Seen.{AreSeen};
+ghost use Rattle.bus_run.specs.Shown.{shown_events, reading, events_shown, is_left, teller, reset_events};
+
+use crate::device::Device;
+use crate::laws::rows_tie_devices;
+use crate::places::{process_in, see_in, shown_in};
+use crate::shown::Shown;
+use bus_base::{Dev, Event, ProcId};
+use bus_dialogue::Observer;
+use bus_due::{hearings_are_plain, kept_is_plain};
+use bus_trace::{Change, Connection, Row, changes_phase, rises};
+
+// Whether a phase is left, or the bus; this connection stands after the row.
+fn is_left(change: &Change, after: &Option<Connection>) -> bool
+    ensures { result ≡ is_left change.now after.now }
+{
+    changes_phase(change) || after.is_none()
+}
+
+// The end of the connection that tells what the row shows.
+fn teller(connection: &Connection, change: &Change, after: &Option<Connection>) -> Dev
+    ensures exact { result ≡ teller connection.now change.now after.now }
+    ensures below { result < 8 }
+{
+    if is_left(change, after) {
+        connection.target.get()
+    } else {
+        connection.initiator.get()
+    }
+}
+
+// What a row shows of this device, after which RST is true.
+fn reset_shown(change: &Change, dev: Dev) -> Shown
+    ensures { shown_events result ≡ reset_events change.now dev }
+{
+    if rises(change.own.rst(), change.next.rst()) {
+        Shown::One([Event::Reset(dev)])
+    } else {
+        Shown::Nothing
+    }
+}
+
+/// The events that a row shows, which the observer has seen and the devices have not: a reset of the device that raises
+/// RST; while RST is true no other; and in a connection those that one of its ends shows.
+pub fn row_shown<D: Device>(places: &[Option<D>], observer: &Observer, row: &Row) -> Shown
+    requires { length places.now ≡ 8 }
+    ensures { (s : ScenarioValue) (rows : List Row) → AreSeen s (row.now ∷ rows) observer.now
+        → AreIn D.IsOf s rows places.now → shown_events result ≡ events_shown s rows row.now }
+{
+    rows_tie_devices();
+    hearings_are_plain();
+    kept_is_plain();
+    let effect = observer.view().effect();
+    if effect.change.after.rst() {
+        return reset_shown(&effect.change, row.dev);
+    }
+    match &effect.before {
+        None => Shown::Nothing,
+        Some(connection) => {
+            let dev = teller(connection, &effect.change, &effect.after);
+            shown_in(&places[dev as usize], observer)
+        }
+    }
+}
+
+// Whether it is this one.
+fn is_one(one: Option<Dev>, dev: Dev) -> bool
+    ensures { result ≡ is_one one dev }
+{
+    match one {
+        None => false,
+        Some(one) => one == dev,
+    }
+}
+
+// The device in the place of this ID is told of a row, unless it is the one that was told of it first.
+fn see_unless<D: Device>(
+    places: &mut [Option<D>],
+    one: Option<Dev>,
+    dev: Dev,
+    observer: &Observer,
+    row: &Row,
+    label: ProcId,
+    shown: &[Event],
+)
+    requires eight { length places.old ≡ 8 }
+    requires place { dev < 8 }
+    requires device { row.now.dev < 8 }
+    requires timely { IsTimely (2 ^ 63) observer.now.view }
+    ensures { (s : ScenarioValue) (rows : List Row) → AreSeen s (row.now ∷ rows) observer.now
+        → shown.now ≡ events_shown s rows row.now
+        → ((n : Connection) → connection (row.now ∷ rows) ≡ Some n → label ≡ process_known s (row.now ∷ rows))
+        → AreKnownBut D.IsOf s rows row.now dev one places.old
+        → AreKnownBut D.IsOf s rows row.now (dev + 1) one places.new }
+{
+    if !is_one(one, dev) {
+        see_in(places, dev, observer, row, label, shown);
+    }
+}
+
+// All devices are told of a row but for the one that was told of it first.
+fn see_others<D: Device>(
+    places: &mut [Option<D>],
+    one: Option<Dev>,
+    observer: &Observer,
+    row: &Row,
+    label: ProcId,
+    shown: &[Event],
+)
+    requires eight { length places.old ≡ 8 }
+    requires device { row.now.dev < 8 }
+    requires timely { IsTimely (2 ^ 63) observer.now.view }
+    ensures { (s : ScenarioValue) (rows : List Row) → AreSeen s (row.now ∷ rows) observer.now
+        → shown.now ≡ events_shown s rows row.now
+        → ((n : Connection) → connection (row.now ∷ rows) ≡ Some n → label ≡ process_known s (row.now ∷ rows))
+        → AreKnownBut D.IsOf s rows row.now 0 one places.old → AreIn D.IsOf s (row.now ∷ rows) places.new }
+{
+    for dev in 0..8 {
+        see_unless(places, one, dev, observer, row, label, shown);
+    }
+}
+
+// The process of a connection of which nothing is known.
+fn no_process() -> ProcId
+    ensures { result ≡ id_or_none None }
+{
+    ProcId {
+        command: 0,
+        sense: false,
+    }
+}
+
+/// All devices are told of a row, which shows these events, the newest first: the initiator of the connection that
+/// stands after it first, since the others are told what that knows to be its process.
+pub fn see_all<D: Device>(places: &mut [Option<D>], observer: &Observer, row: &Row, shown: &[Event])
+    requires eight { length places.old ≡ 8 }
+    requires device { row.now.dev < 8 }
+    requires timely { IsTimely (2 ^ 63) observer.now.view }
+    ensures { (s : ScenarioValue) (rows : List Row) → AreSeen s (row.now ∷ rows) observer.now
+        → shown.now ≡ events_shown s rows row.now
+        → AreIn D.IsOf s rows places.old → AreIn D.IsOf s (row.now ∷ rows) places.new }
+{
+    match observer.view().connection() {
+        None => see_others(places, None, observer, row, no_process(), shown),
+        Some(connection) => {
+            let first = connection.initiator.get();
+            see_in(places, first, observer, row, no_process(), shown);
+            let label = process_in(&places[first as usize]);
+            see_others(places, Some(first), observer, row, label, shown);
+        }
+    }
+}
