@@ -95,3 +95,8 @@ reply_at (kinds.Absent v) from cdb = absent_reply v from cdb
 -- No time of theirs is past the last one, with the seek time.
 abbrev pub AreEarly : Array → List ℕ → ℕ → ℕ → Type 0
 AreEarly a times dev seek = (n : ℕ) → n < 8 → since_of a.units times dev n + seek < 2 ^ 64
+
+-- How many blocks may still be written for the first time.
+abbrev pub spare_of : LogicalUnit → ℕ
+spare_of (kinds.There v) = v.spare
+spare_of (kinds.Absent v) = 0

@@ -1,25 +1,33 @@
 //! A logical unit of a target, there or not, at its seat of the plain disk array.
-ghost use Rattle.std.specs.Prelude.{◌≡◌, ◌<◌, ◌≤◌, ◌+◌, ◌^◌, ℕ, Bool, true, List, length, Option, Some, None, is_some, take, drop};
+ghost use Rattle.std.specs.Prelude.{◌≡◌, ◌<◌, ◌≤◌, ◌+◌, ◌^◌, ℕ, Bool, true, List, length, Option, Some, None, is_some, take, drop, ◌==◌, ◌&&◌, IfOk};
+ghost use Rattle.std.specs.List.{find};
 ghost use Rattle.cdb_codec.specs.Cdb.{command_of};
 ghost use Rattle.scenario.specs.declared.value.HostDef.{HostDef};
+ghost use Rattle.scenario.specs.declared.value.UnitDef.{UnitDef as UnitLine};
+ghost use Rattle.scenario.specs.Lookups.{unit_of};
+ghost use Rattle.scsi_device.specs.Lines.{FitsBus};
+ghost use Rattle.bus_due.specs.Defs.{target_def_of};
 ghost use Rattle.disk_array.specs.Execution.{Reply as ArrayReply, execution, is_request_sense, queue_full};
 ghost use Rattle.disk_array.specs.Processes.{Process};
-ghost use Rattle.disk_array.specs.Units.{RunningProcess, guest_at};
-ghost use Rattle.disk_array.specs.Seats.{Seat, settled_seat, seat_after_accept, seat_after_refuse, seat_after_run, seat_after_failure, seat_after_end, seat_after_loss, seat_after_aborted, current_of, running_at, context_of, contents_of, is_any_held, is_initiator};
+ghost use Rattle.disk_array.specs.Units.{RunningProcess, guest_at, starting_array};
+ghost use Rattle.disk_array.specs.Seats.{Seat, seat_of, settled_seat, seat_after_accept, seat_after_refuse, seat_after_run, seat_after_failure, seat_after_end, seat_after_loss, seat_after_aborted, current_of, running_at, context_of, contents_of, is_any_held, is_initiator};
 ghost use Rattle.bus_dialogue.specs.Wants.{ready_in};
 ghost use Rattle.disk_unit.specs.Units.{told_of};
 ghost use Rattle.disk_unit.specs.Plans.{plan_of};
 ghost use Rattle.disk_unit.specs.declared.unit.Accepted.TheVariants as accepted;
 ghost use Rattle.disk_target.specs.Seated.{seat_time, running_id, running_entry, running_block, current_reply, IsProcess, IsNew, HasSent, aborted_reply};
 ghost use Rattle.disk_target.specs.States.{ready_unit};
-ghost use Rattle.disk_target.specs.Units.{IsUnitOf, reply_at, room_if, unit_after_reset};
+ghost use Rattle.disk_target.specs.Fillings.{blocks_at};
+ghost use Rattle.disk_target.specs.Units.{IsUnitOf, reply_at, room_if, spare_of, unit_after_reset};
 
 use crate::absent::AbsentUnit;
 use crate::ready::Ready;
 use crate::seated::SeatedUnit;
-use bus_base::{AbortKind, Class, Dev, Ns, ProcId};
+use bus_base::{AbortKind, Class, Dev, NoMemory, Ns, ProcId};
 use bus_dialogue::Room;
 use disk_unit::{Accepted, Plan, Reply};
+use scenario::{Scenario, TargetDef, UnitDef};
+use std::alloc::Global;
 use tag_queue::Entry;
 
 /// A logical unit of a target.
@@ -29,6 +37,46 @@ pub enum LogicalUnit {
     There(SeatedUnit),
     /// It is not there (ANSI X3.131-1994, 7.5.3).
     Absent(AbsentUnit),
+}
+
+// The line of a unit.
+fn unit_line(units: &[UnitDef], target: Dev, unit: u8) -> Option<UnitDef>
+    ensures { result ≡ find (λ (u : UnitLine). u.target == target && u.unit == unit) units.now }
+{
+    for def in units {
+        if def.target == target && def.unit == unit {
+            return Some(*def);
+        }
+    }
+    None
+}
+
+impl LogicalUnit {
+    /// The unit of this number of a target of a scenario, before any event: there where the scenario has a line of it,
+    /// with memory for the blocks that its commands write. It takes all the memory that it ever has.
+    pub fn of(
+        alloc: Global,
+        scenario: &Scenario,
+        def: &TargetDef,
+        number: u8,
+    ) -> Result<LogicalUnit, NoMemory>
+        requires fits { FitsBus scenario.now }
+        requires target { target_def_of scenario.now def.now.dev ≡ Some def.now }
+        ensures start { IfOk result (λ made. IsUnitOf scenario.now.hosts
+            (seat_of (starting_array scenario.now) def.now.dev number) 0 made) }
+        ensures spare { IfOk result (λ made. blocks_at (unit_of scenario.now def.now.dev number) scenario.now.commands
+            ≤ spare_of made) }
+    {
+        match unit_line(scenario.units.as_slice(), def.dev, number) {
+            Some(line) => {
+                let fills = scenario.fills.as_slice();
+                let commands = scenario.commands.as_slice();
+                let seated = SeatedUnit::new(alloc, &line, def.pick, fills, commands)?;
+                Ok(LogicalUnit::There(seated))
+            }
+            None => Ok(LogicalUnit::Absent(AbsentUnit::new())),
+        }
+    }
 }
 
 // ---- what it tells

@@ -14,18 +14,18 @@ ghost use Rattle.disk_unit.specs.Units.{told_of, entry_with, plan_for};
 ghost use Rattle.disk_unit.specs.Plans.{plan_of};
 ghost use Rattle.disk_unit.specs.Disk.{disk_extent, disk_reply, blocks_written};
 ghost use Rattle.disk_unit.specs.declared.unit.Accepted.TheVariants as accepted;
-ghost use Rattle.disk_target.specs.Fillings.{IsFresh, AreFilled};
+ghost use Rattle.disk_target.specs.Fillings.{IsFresh, AreFilled, blocks_by_all as blocks_of_all};
 ghost use Rattle.scenario.specs.Value.{ScenarioValue};
 ghost use Rattle.disk_target.specs.Seated.{SeatedState, IsAtSeat, seat_time, running_id, running_entry, running_block, current_reply, current_id, is_same_process, reply_kept, since_after, settled, with_books, IsProcess, IsNew, IsArrived, can_run, IsRun, IsRunLive, HasSent, aborted_reply, state_after_failure, state_after_end, state_after_loss, books_after_guest, IsCut, seated_context, current_entry, block_under, entry_from, ready_by_entry, room_by, room_at};
 
-use crate::fillings::fill;
+use crate::fillings::{blocks_by_all, blocks_in_all, fill, fill_count};
 use crate::parts::{copy_part, is_sense};
 use crate::ready::Ready;
 use bus_base::{AbortKind, Class, Dev, NoMemory, Ns, Pick, ProcId};
 use bus_dialogue::Room;
 use cdb_codec::{ABORTED_COMMAND, CHECK_CONDITION, GOOD, Sense, from_cdb, sense_bytes};
 use disk_unit::{Accepted, Blocks, DiskMedium, Plan, Reply, SparseBlocks, Unit};
-use scenario::{FillDef, UnitDef};
+use scenario::{CmdDef, FillDef, UnitDef};
 use std::alloc::Global;
 use std::marker::Model;
 use tag_queue::{Entry, Key};
@@ -128,28 +128,27 @@ fn ready_unless(held: bool, unit: u8, time: Ns, initiator: Dev) -> Option<Ready>
 }
 
 impl SeatedUnit {
-    /// The unit of this line of a scenario, with these fills, and with memory for so many blocks that commands write.
+    /// The unit of this line of a scenario, with these fills, and with memory for the blocks that these commands write.
     /// It takes all the memory that it ever has.
     pub fn new(
         alloc: Global,
         def: &UnitDef,
         pick: Pick,
         fills: &[FillDef],
-        written: usize,
+        commands: &[CmdDef],
     ) -> Result<SeatedUnit, NoMemory>
         requires some { 1 ≤ def.now.blocks }
         requires most { def.now.blocks ≤ 4294967296 }
         requires least_size { 16 ≤ def.now.size }
         requires most_size { def.now.size ≤ 2048 }
         requires filled { AreFilled def.now fills.now }
-        requires room { length fills.now + written ≤ 4294967296 }
-        ensures fresh { IfOk result (λ made. IsFresh def.now pick fills.now written made) }
+        ensures fresh { IfOk result (λ made. IsFresh def.now pick fills.now (blocks_of_all def.now commands.now) made) }
         ensures seat { (s : ScenarioValue) → s.fills ≡ fills.now → pick ≡ pick_of s.targets def.now.target
             → (seat_of (starting_array s) def.now.target def.now.unit).unit ≡ Some (starting_unit s def.now)
             → IfOk result (λ made. IsAtSeat s.hosts
             (seat_of (starting_array s) def.now.target def.now.unit) 0 made) }
     {
-        SeatedUnit::fresh(alloc, def, pick, fills, written)
+        SeatedUnit::fresh(alloc, def, pick, fills, commands)
     }
 
     fn fresh(
@@ -157,18 +156,19 @@ impl SeatedUnit {
         def: &UnitDef,
         pick: Pick,
         fills: &[FillDef],
-        written: usize,
+        commands: &[CmdDef],
     ) -> Result<SeatedUnit, NoMemory>
         requires some { 1 ≤ def.now.blocks }
         requires most { def.now.blocks ≤ 4294967296 }
         requires least_size { 16 ≤ def.now.size }
         requires most_size { def.now.size ≤ 2048 }
         requires filled { AreFilled def.now fills.now }
-        requires room { length fills.now + written ≤ 4294967296 }
-        ensures { IfOk result (λ made. IsFresh def.now pick fills.now written made) }
+        ensures { IfOk result (λ made. IsFresh def.now pick fills.now (blocks_of_all def.now commands.now) made) }
     {
-        let mut blocks = SparseBlocks::new(alloc, def.blocks, def.size as usize)?;
-        blocks.reserve(fills.len() + written)?;
+        let blank = DiskMedium::new(SparseBlocks::new(alloc, def.blocks, def.size as usize)?);
+        let written = blocks_by_all(&blank, def, commands);
+        let mut blocks = blank.into_blocks();
+        blocks.reserve(blocks_in_all(fill_count(def, fills), written)?)?;
         fill(&mut blocks, def, fills);
         let unit = Unit::new(alloc, DiskMedium::new(blocks), def.depth as usize)?;
         Ok(SeatedUnit {

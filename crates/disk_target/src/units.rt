@@ -1,10 +1,13 @@
 //! The logical units of a target, each at its seat of the plain disk array.
-ghost use Rattle.std.specs.Prelude.{◌≡◌, ◌<◌, ◌≤◌, ◌+◌, ℕ, Bool, true, List, length, Option, Some, None, is_some, replicate, take, drop};
+ghost use Rattle.std.specs.Prelude.{◌≡◌, ◌<◌, ◌≤◌, ◌+◌, ℕ, Bool, true, List, length, Option, Some, None, is_some, replicate, take, drop, IfOk};
 ghost use Rattle.bus_base.specs.declared.AbortKind.TheVariants as aborts;
 ghost use Rattle.bus_base.specs.declared.Event.{Event};
 ghost use Rattle.bus_base.specs.declared.Event.TheVariants as events;
 ghost use Rattle.cdb_codec.specs.Cdb.{command_of};
+ghost use Rattle.scenario.specs.Lookups.{unit_of};
 ghost use Rattle.scenario.specs.Value.{ScenarioValue};
+ghost use Rattle.scenario.specs.Writing.{Obeys};
+ghost use Rattle.bus_due.specs.Defs.{target_def_of};
 ghost use Rattle.disk_array.specs.Execution.{Reply as ArrayReply, is_request_sense};
 ghost use Rattle.disk_array.specs.Processes.{Process};
 ghost use Rattle.disk_array.specs.Seats.{seat_of, current_of, in_hold, nexus_at, is_elsewhere, is_initiator};
@@ -15,7 +18,8 @@ ghost use Rattle.disk_unit.specs.Plans.{plan_of};
 ghost use Rattle.disk_unit.specs.Units.{told_of};
 ghost use Rattle.disk_unit.specs.declared.unit.Accepted.TheVariants as accepted;
 ghost use Rattle.disk_target.specs.Seated.{IsProcess, IsNew, HasSent, running_id, running_entry, running_block, current_reply};
-ghost use Rattle.disk_target.specs.Units.{IsUnitOf, AreUnitsOf, AreUnitsAfter, AreEarly, IsStep, unit_in, unit_after_reset, is_of_one, first_unit, reply_at, is_before as is_before_unit};
+ghost use Rattle.disk_target.specs.Units.{IsUnitOf, AreUnitsOf, AreUnitsAfter, AreEarly, IsStep, unit_in, unit_after_reset, is_of_one, first_unit, reply_at, spare_of, is_before as is_before_unit};
+ghost use Rattle.disk_target.specs.Fillings.{blocks_at};
 ghost use Rattle.disk_target.specs.States.{ready_unit};
 ghost use Rattle.disk_target.specs.declared.logical.LogicalUnit.{LogicalUnit as LogicalUnitValue};
 ghost use Rattle.bus_due.specs.Wants.{ready_at, ready_among};
@@ -23,9 +27,12 @@ ghost use Rattle.bus_due.specs.Tasks.{room_of, size_of, reply_now};
 
 use crate::logical::LogicalUnit;
 use crate::ready::Ready;
-use bus_base::{AbortKind, Class, Dev, Ns, ProcId};
+use bus_base::{AbortKind, Class, Dev, NoMemory, Ns, ProcId};
 use bus_dialogue::Room;
 use disk_unit::{Accepted, Plan, Reply};
+use scenario::{Scenario, TargetDef};
+use scsi_device::scenarios_fit_the_bus;
+use std::alloc::Global;
 use std::marker::Model;
 use tag_queue::Entry;
 
@@ -93,6 +100,34 @@ impl Units {
     {
         are_eight(&units);
         Units { dev, seek, units }
+    }
+
+    /// The units of a target of a scenario that obeys the rules of its text, before any event. They take all the memory
+    /// that they ever have.
+    pub fn of(alloc: Global, scenario: &Scenario, def: &TargetDef) -> Result<Units, NoMemory>
+        requires lawful { Obeys scenario.now }
+        requires target { target_def_of scenario.now def.now.dev ≡ Some def.now }
+        ensures dev { IfOk result (λ made. made.dev ≡ def.now.dev) }
+        ensures seek { IfOk result (λ made. made.seek ≡ def.now.seek) }
+        ensures start { IfOk result (λ made. AreUnitsOf scenario.now
+            (settled_array (starting_array scenario.now)) (replicate (length scenario.now.units) 0) def.now.dev
+            made.units) }
+        ensures spare { IfOk result (λ made. (n : ℕ) → n < 8
+            → blocks_at (unit_of scenario.now def.now.dev n) scenario.now.commands
+            ≤ spare_of (unit_in made.units n)) }
+    {
+        scenarios_fit_the_bus();
+        let units = [
+            LogicalUnit::of(alloc, scenario, def, 0)?,
+            LogicalUnit::of(alloc, scenario, def, 1)?,
+            LogicalUnit::of(alloc, scenario, def, 2)?,
+            LogicalUnit::of(alloc, scenario, def, 3)?,
+            LogicalUnit::of(alloc, scenario, def, 4)?,
+            LogicalUnit::of(alloc, scenario, def, 5)?,
+            LogicalUnit::of(alloc, scenario, def, 6)?,
+            LogicalUnit::of(alloc, scenario, def, 7)?,
+        ];
+        Ok(Units::new(def.dev, def.seek, units))
     }
 
     /// The current process of a unit.

@@ -96,7 +96,7 @@ starts_found s (v ∷ units) target unit u e = go (v.target == target && v.unit 
     go true more z = ap (λ (x : UnitDef). Some (starting_unit s x)) (some_is v u z)
     go false more z = more z
 
-starts_none : (s : ScenarioValue) (units : List UnitDef) (target unit : ℕ) → unit_at units target unit ≡ None → unit_state_at (starting_units s units) target unit ≡ None
+pub starts_none : (s : ScenarioValue) (units : List UnitDef) (target unit : ℕ) → unit_at units target unit ≡ None → unit_state_at (starting_units s units) target unit ≡ None
 starts_none s [] target unit e = refl
 starts_none s (v ∷ units) target unit e = go (v.target == target && v.unit == unit) (λ z. starts_none s units target unit z) e
   where
@@ -170,6 +170,7 @@ obeys_fits s o =
       targets = all_both (IsTargetFit s.hosts) (λ (t : TargetDef). target_at s.targets t.dev ≡ Some t) (IsTargetLine s) s.targets (λ t w e. target_line s t w e) a.targets a.targets_once;
       units = all_both (IsUnitFit s.hosts) (λ (u : UnitDef). unit_at s.units u.target u.unit ≡ Some u) (IsUnitLine s) s.units (λ u w e. unit_line s u w e) a.units a.units_once;
       apart = starts_apart s s.units a.units_apart;
+      fills = a.fills;
       commands = all_both (λ (c : CmdDef). IsCommandFit s.hosts (sent_of s c) (need_of s c) c) (λ (c : CmdDef). IsHex c.cdb × IsHexPayload c.payload) (IsCommandLine s) s.commands (λ c w h. command_line s c w h) a.commands o.commands;
       aborts = all_are (IsAbortFit s.hosts) (IsAbortLine s) s.aborts (λ b w. abort_line s b w) a.aborts;
       resets = a.resets;

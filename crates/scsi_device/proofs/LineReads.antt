@@ -1,5 +1,5 @@
 -- What one line of a scenario shows that has no reason.
-use Rattle.std.proofs.Common.{ℕ, ◌≡◌, ◌≤◌, ◌<◌, Bool, true, false, not, List, [], ◌∷◌, length, Some, None, Result, Ok, Err, subst, arith}
+use Rattle.std.proofs.Common.{ℕ, ◌≡◌, ◌≤◌, ◌<◌, ◌-◌, ◌^◌, ◌∙◌, Bool, true, false, not, List, [], ◌∷◌, length, Option, Some, None, Result, Ok, Err, subst, arith}
 use Rattle.std.specs.Prelude.{is_some, nat_lt, if◌then◌else◌}
 use Rattle.std.proofs.lemmas.Bool.Decides.{nat_tests}
 use Rattle.cdb_codec.specs.Cdb.{is_len}
@@ -8,15 +8,17 @@ use Rattle.scenario.specs.declared.bounds.TheConstants.{LATENCY_LIMIT, OPEN_LIMI
 use Rattle.scenario.specs.declared.value.HostDef.{HostDef}
 use Rattle.scenario.specs.declared.value.TargetDef.{TargetDef}
 use Rattle.scenario.specs.declared.value.UnitDef.{UnitDef}
+use Rattle.scenario.specs.declared.value.FillDef.{FillDef}
 use Rattle.scenario.specs.declared.value.CmdDef.{CmdDef}
 use Rattle.scenario.specs.declared.value.AbortDef.{AbortDef}
 use Rattle.scenario.specs.declared.value.ResetDef.{ResetDef}
 use Rattle.scenario.specs.declared.value.FaultDef.{FaultDef}
 use Rattle.scenario.specs.Value.{ScenarioValue}
-use Rattle.scenario.specs.Lookups.{has_target, has_device, unit_of}
+use Rattle.scenario.specs.Lookups.{has_target, has_device, unit_of, has_fill}
 use Rattle.scenario.specs.Needs.{need_of, sent_of}
-use Rattle.scenario.specs.Forms.{Said, CmdSaid, initiator_line, target_line, unit_line, abort_line, reset_line, fault_line}
-use Rattle.scenario.specs.Reading.{guard, within, in_8, period_in, policy_in, time_in, tag_in, what_in, size_in, is_size, is_block, are_ends, is_payload, has_room, has_abort_room, host_def, target_def, unit_def, cmd_def, full_cmd_def, abort_def, reset_def, fault_def}
+use Rattle.scenario.specs.Forms.{Said, CmdSaid, initiator_line, target_line, unit_line, fill_line, abort_line, reset_line, fault_line}
+use Rattle.scenario.specs.Reasons.{is_block_in}
+use Rattle.scenario.specs.Reading.{guard, found, is_block_of, fill_def, within, in_8, period_in, policy_in, time_in, tag_in, what_in, size_in, is_size, is_block, are_ends, is_payload, has_room, has_abort_room, host_def, target_def, unit_def, cmd_def, full_cmd_def, abort_def, reset_def, fault_def}
 use Rattle.scenario.proofs.Steps.{bind_ok, ok_is, guard_ok, within_ok}
 use Rattle.scsi_device.proofs.Finds.{not_true, none_is}
 
@@ -252,6 +254,28 @@ abort_read s (abort_line f) a e =
       room = guard_ok 8 _ b7.0 b7.1;
     })
 abort_read s _ a e = absurd cc
+
+abbrev pub fill_by : ScenarioValue → Said → Result FillDef ℕ
+fill_by s (fill_line f) = fill_def s f
+fill_by s _ = Err 0
+
+found_is : (o : Option UnitDef) (u : UnitDef) → found o ≡ Ok u → o ≡ Some u
+found_is None u e = absurd cc
+found_is (Some v) u e = cc
+
+-- A fill is of a block of its unit.
+pub fill_read : (s : ScenarioValue) (x : Said) (d : FillDef) → fill_by s x ≡ Ok d → is_block_in (unit_of s d.target d.unit) d.lba d.bytes ≡ true
+unfolding fill_def
+fill_read s (fill_line f) d e =
+    let b1 = bind_ok (in_8 f.target) _ d e in
+    let b2 = bind_ok (in_8 f.unit) _ d b1.2 in
+    let b3 = bind_ok (within f.lba 0 (2 ^ 64 - 1)) _ d b2.2 in
+    let b4 = bind_ok (guard 5 (not (has_fill s.fills b1.0 b2.0 b3.0))) _ d b3.2 in
+    let b5 = bind_ok (found (unit_of s b1.0 b2.0)) _ d b4.2 in
+    let b6 = bind_ok (guard 7 (is_block_of b5.0 b3.0 f.bytes)) _ d b5.2 in
+    subst (λ (x : FillDef). is_block_in (unit_of s x.target x.unit) x.lba x.bytes ≡ true) (ok_is _ d b6.2)
+    ((λ i. is_block_in (found_is (unit_of s b1.0 b2.0) b5.0 b5.1 i) b3.0 f.bytes) ∙ guard_ok 7 _ b6.0 b6.1)
+fill_read s _ d e = absurd cc
 
 abbrev pub reset_by : ScenarioValue → Said → Result ResetDef ℕ
 reset_by s (reset_line f) = reset_def s f

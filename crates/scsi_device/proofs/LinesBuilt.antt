@@ -1,15 +1,18 @@
 -- What holds of all lines of a scenario that obeys the rules of its text.
-use Rattle.std.proofs.Common.{◌≡◌, ◌≤◌, List, [], ◌∷◌, Ok, refl, subst, arith}
+use Rattle.std.proofs.Common.{true, ◌≡◌, ◌≤◌, List, [], ◌∷◌, Ok, refl, subst, arith}
+use Rattle.scenario.specs.declared.value.FillDef.{FillDef}
 use Rattle.scenario.specs.declared.value.ResetDef.{ResetDef}
 use Rattle.scenario.specs.declared.value.FaultDef.{FaultDef}
 use Rattle.scenario.specs.Value.{ScenarioValue}
+use Rattle.scenario.specs.Lookups.{unit_of}
 use Rattle.scenario.specs.Needs.{need_of, sent_of}
+use Rattle.scenario.specs.Reasons.{is_block_in}
 use Rattle.scenario.specs.Forms.{Said, scsi_line, initiator_line, target_line, unit_line, fill_line, cmd_line, abort_line, reset_line, fault_line, end_line}
 use Rattle.scenario.specs.Reading.{Progress, guard, host_def, target_def, unit_def, fill_def, full_cmd_def, abort_def, reset_def, fault_def, added, said_after, fits_version, in_order, rank, kind_of, nothing}
 use Rattle.scenario.specs.Writing.{saids, built, Obeys}
 use Rattle.scenario.proofs.Steps.{bind_ok, ok_is, guard_ok}
 use Rattle.scsi_device.proofs.Finds.{all_more}
-use Rattle.scsi_device.proofs.LineReads.{host_read, target_read, unit_read, full_cmd_read, abort_read, reset_read, fault_read}
+use Rattle.scsi_device.proofs.LineReads.{host_read, target_read, unit_read, fill_read, full_cmd_read, abort_read, reset_read, fault_read}
 use Rattle.scsi_device.proofs.LinesSoFar.{AreFit, AreLater, no_sooner, still, with_host, with_target, with_unit, with_command, with_abort}
 
 -- ---- any line more
@@ -17,7 +20,7 @@ use Rattle.scsi_device.proofs.LinesSoFar.{AreFit, AreLater, no_sooner, still, wi
 fit_added : (d z : Progress) (x : Said) → added d x ≡ Ok z → AreFit d.scenario → AreLater (rank (kind_of x)) d.scenario → AreFit z.scenario
 unfolding added need_of sent_of
 fit_added d z (scsi_line v) e a l =
-    subst (λ (p : Progress). AreFit p.scenario) (ok_is _ z e) (record { hosts = a.hosts; hosts_once = a.hosts_once; targets = a.targets; targets_once = a.targets_once; units = a.units; units_once = a.units_once; units_apart = a.units_apart; commands = a.commands; aborts = a.aborts; resets = a.resets; faults = a.faults; few_commands = a.few_commands; few_aborts = a.few_aborts })
+    subst (λ (p : Progress). AreFit p.scenario) (ok_is _ z e) (record { hosts = a.hosts; hosts_once = a.hosts_once; targets = a.targets; targets_once = a.targets_once; units = a.units; units_once = a.units_once; units_apart = a.units_apart; fills = a.fills; commands = a.commands; aborts = a.aborts; resets = a.resets; faults = a.faults; few_commands = a.few_commands; few_aborts = a.few_aborts })
 fit_added d z (initiator_line f) e a l =
     let b = bind_ok (host_def d.scenario f) _ z e in
     subst (λ (p : Progress). AreFit p.scenario) (ok_is _ z b.2) (with_host d.scenario b.0 a l (host_read d.scenario (initiator_line f) b.0 b.1))
@@ -29,7 +32,8 @@ fit_added d z (unit_line f) e a l =
     subst (λ (p : Progress). AreFit p.scenario) (ok_is _ z b.2) (with_unit d.scenario b.0 a l (unit_read d.scenario (unit_line f) b.0 b.1))
 fit_added d z (fill_line f) e a l =
     let b = bind_ok (fill_def d.scenario f) _ z e in
-    subst (λ (p : Progress). AreFit p.scenario) (ok_is _ z b.2) (record { hosts = a.hosts; hosts_once = a.hosts_once; targets = a.targets; targets_once = a.targets_once; units = a.units; units_once = a.units_once; units_apart = a.units_apart; commands = a.commands; aborts = a.aborts; resets = a.resets; faults = a.faults; few_commands = a.few_commands; few_aborts = a.few_aborts })
+    let r = all_more (λ (x : FillDef). is_block_in (unit_of d.scenario x.target x.unit) x.lba x.bytes ≡ true) d.scenario.fills b.0 a.fills (fill_read d.scenario (fill_line f) b.0 b.1) in
+    subst (λ (p : Progress). AreFit p.scenario) (ok_is _ z b.2) (record { hosts = a.hosts; hosts_once = a.hosts_once; targets = a.targets; targets_once = a.targets_once; units = a.units; units_once = a.units_once; units_apart = a.units_apart; fills = r; commands = a.commands; aborts = a.aborts; resets = a.resets; faults = a.faults; few_commands = a.few_commands; few_aborts = a.few_aborts })
 fit_added d z (cmd_line f) e a l =
     let b = bind_ok (full_cmd_def d.scenario d.needs f) _ z e in
     subst (λ (p : Progress). AreFit p.scenario) (ok_is _ z b.2) (with_command d.scenario d.needs b.0 a (full_cmd_read d.scenario d.needs f b.0 b.1))
@@ -39,40 +43,40 @@ fit_added d z (abort_line f) e a l =
 fit_added d z (reset_line f) e a l =
     let b = bind_ok (reset_def d.scenario f) _ z e in
     let r = all_more (λ (r : ResetDef). r.at ≤ 1000000000000) d.scenario.resets b.0 a.resets (reset_read d.scenario (reset_line f) b.0 b.1) in
-    subst (λ (p : Progress). AreFit p.scenario) (ok_is _ z b.2) (record { hosts = a.hosts; hosts_once = a.hosts_once; targets = a.targets; targets_once = a.targets_once; units = a.units; units_once = a.units_once; units_apart = a.units_apart; commands = a.commands; aborts = a.aborts; resets = r; faults = a.faults; few_commands = a.few_commands; few_aborts = a.few_aborts })
+    subst (λ (p : Progress). AreFit p.scenario) (ok_is _ z b.2) (record { hosts = a.hosts; hosts_once = a.hosts_once; targets = a.targets; targets_once = a.targets_once; units = a.units; units_once = a.units_once; units_apart = a.units_apart; fills = a.fills; commands = a.commands; aborts = a.aborts; resets = r; faults = a.faults; few_commands = a.few_commands; few_aborts = a.few_aborts })
 fit_added d z (fault_line f) e a l =
     let b = bind_ok (fault_def d.scenario f) _ z e in
     let r = all_more (λ (f : FaultDef). (f.at ≤ 1000000000000) × (f.bit ≤ 8)) d.scenario.faults b.0 a.faults (fault_read d.scenario (fault_line f) b.0 b.1) in
-    subst (λ (p : Progress). AreFit p.scenario) (ok_is _ z b.2) (record { hosts = a.hosts; hosts_once = a.hosts_once; targets = a.targets; targets_once = a.targets_once; units = a.units; units_once = a.units_once; units_apart = a.units_apart; commands = a.commands; aborts = a.aborts; resets = a.resets; faults = r; few_commands = a.few_commands; few_aborts = a.few_aborts })
+    subst (λ (p : Progress). AreFit p.scenario) (ok_is _ z b.2) (record { hosts = a.hosts; hosts_once = a.hosts_once; targets = a.targets; targets_once = a.targets_once; units = a.units; units_once = a.units_once; units_apart = a.units_apart; fills = a.fills; commands = a.commands; aborts = a.aborts; resets = a.resets; faults = r; few_commands = a.few_commands; few_aborts = a.few_aborts })
 fit_added d z end_line e a l = subst (λ (p : Progress). AreFit p.scenario) (ok_is d z e) a
 
 later_added : (d z : Progress) (x : Said) → added d x ≡ Ok z → AreLater (rank (kind_of x)) d.scenario → AreLater (rank (kind_of x)) z.scenario
 unfolding added
-later_added d z (scsi_line v) e l = subst (λ (p : Progress). AreLater 1 p.scenario) (ok_is _ z e) (record { targets = l.targets; units = l.units; commands = l.commands; aborts = l.aborts })
+later_added d z (scsi_line v) e l = subst (λ (p : Progress). AreLater 1 p.scenario) (ok_is _ z e) (record { targets = l.targets; units = l.units; fills = l.fills; commands = l.commands; aborts = l.aborts })
 later_added d z (initiator_line f) e l =
     let b = bind_ok (host_def d.scenario f) _ z e in
-    subst (λ (p : Progress). AreLater 2 p.scenario) (ok_is _ z b.2) (record { targets = l.targets; units = l.units; commands = l.commands; aborts = l.aborts })
+    subst (λ (p : Progress). AreLater 2 p.scenario) (ok_is _ z b.2) (record { targets = l.targets; units = l.units; fills = l.fills; commands = l.commands; aborts = l.aborts })
 later_added d z (target_line f) e l =
     let b = bind_ok (target_def d.scenario f) _ z e in
-    subst (λ (p : Progress). AreLater 3 p.scenario) (ok_is _ z b.2) (record { targets = λ w. absurd (omega arith); units = l.units; commands = l.commands; aborts = l.aborts })
+    subst (λ (p : Progress). AreLater 3 p.scenario) (ok_is _ z b.2) (record { targets = λ w. absurd (omega arith); units = l.units; fills = l.fills; commands = l.commands; aborts = l.aborts })
 later_added d z (unit_line f) e l =
     let b = bind_ok (unit_def d.scenario f) _ z e in
-    subst (λ (p : Progress). AreLater 4 p.scenario) (ok_is _ z b.2) (record { targets = λ w. absurd (omega arith); units = λ w. absurd (omega arith); commands = l.commands; aborts = l.aborts })
+    subst (λ (p : Progress). AreLater 4 p.scenario) (ok_is _ z b.2) (record { targets = λ w. absurd (omega arith); units = λ w. absurd (omega arith); fills = l.fills; commands = l.commands; aborts = l.aborts })
 later_added d z (fill_line f) e l =
     let b = bind_ok (fill_def d.scenario f) _ z e in
-    subst (λ (p : Progress). AreLater 5 p.scenario) (ok_is _ z b.2) (record { targets = l.targets; units = l.units; commands = l.commands; aborts = l.aborts })
+    subst (λ (p : Progress). AreLater 5 p.scenario) (ok_is _ z b.2) (record { targets = l.targets; units = l.units; fills = λ w. absurd (omega arith); commands = l.commands; aborts = l.aborts })
 later_added d z (cmd_line f) e l =
     let b = bind_ok (full_cmd_def d.scenario d.needs f) _ z e in
-    subst (λ (p : Progress). AreLater 6 p.scenario) (ok_is _ z b.2) (record { targets = l.targets; units = l.units; commands = λ w. absurd (omega arith); aborts = l.aborts })
+    subst (λ (p : Progress). AreLater 6 p.scenario) (ok_is _ z b.2) (record { targets = l.targets; units = l.units; fills = l.fills; commands = λ w. absurd (omega arith); aborts = l.aborts })
 later_added d z (abort_line f) e l =
     let b = bind_ok (abort_def d.scenario f) _ z e in
-    subst (λ (p : Progress). AreLater 7 p.scenario) (ok_is _ z b.2) (record { targets = l.targets; units = l.units; commands = l.commands; aborts = λ w. absurd (omega arith) })
+    subst (λ (p : Progress). AreLater 7 p.scenario) (ok_is _ z b.2) (record { targets = l.targets; units = l.units; fills = l.fills; commands = l.commands; aborts = λ w. absurd (omega arith) })
 later_added d z (reset_line f) e l =
     let b = bind_ok (reset_def d.scenario f) _ z e in
-    subst (λ (p : Progress). AreLater 8 p.scenario) (ok_is _ z b.2) (record { targets = l.targets; units = l.units; commands = l.commands; aborts = l.aborts })
+    subst (λ (p : Progress). AreLater 8 p.scenario) (ok_is _ z b.2) (record { targets = l.targets; units = l.units; fills = l.fills; commands = l.commands; aborts = l.aborts })
 later_added d z (fault_line f) e l =
     let b = bind_ok (fault_def d.scenario f) _ z e in
-    subst (λ (p : Progress). AreLater 9 p.scenario) (ok_is _ z b.2) (record { targets = l.targets; units = l.units; commands = l.commands; aborts = l.aborts })
+    subst (λ (p : Progress). AreLater 9 p.scenario) (ok_is _ z b.2) (record { targets = l.targets; units = l.units; fills = l.fills; commands = l.commands; aborts = l.aborts })
 later_added d z end_line e l = subst (λ (p : Progress). AreLater 10 p.scenario) (ok_is d z e) l
 
 -- ---- all lines
@@ -96,8 +100,8 @@ fit_built d z (x ∷ xs) e a = let b = bind_ok (said_after d x) _ z e in fit_bui
 
 fit_nothing : IsFitSoFar nothing
 fit_nothing = record {
-  fit = record { hosts = tt; hosts_once = tt; targets = tt; targets_once = tt; units = tt; units_once = tt; units_apart = tt; commands = tt; aborts = tt; resets = tt; faults = tt; few_commands = omega arith; few_aborts = omega arith };
-  later = record { targets = λ w. refl; units = λ w. refl; commands = λ w. refl; aborts = λ w. refl };
+  fit = record { hosts = tt; hosts_once = tt; targets = tt; targets_once = tt; units = tt; units_once = tt; units_apart = tt; fills = tt; commands = tt; aborts = tt; resets = tt; faults = tt; few_commands = omega arith; few_aborts = omega arith };
+  later = record { targets = λ w. refl; units = λ w. refl; fills = λ w. refl; commands = λ w. refl; aborts = λ w. refl };
 }
 
 pub obeys_fit : (s : ScenarioValue) → Obeys s → AreFit s

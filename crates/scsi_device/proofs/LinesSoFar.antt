@@ -6,6 +6,7 @@ use Rattle.std.proofs.lemmas.Bool.Decides.{nat_tests}
 use Rattle.scenario.specs.declared.value.HostDef.{HostDef}
 use Rattle.scenario.specs.declared.value.TargetDef.{TargetDef}
 use Rattle.scenario.specs.declared.value.UnitDef.{UnitDef}
+use Rattle.scenario.specs.declared.value.FillDef.{FillDef}
 use Rattle.scenario.specs.declared.value.CmdDef.{CmdDef}
 use Rattle.scenario.specs.declared.value.AbortDef.{AbortDef}
 use Rattle.scenario.specs.declared.value.ResetDef.{ResetDef}
@@ -13,6 +14,7 @@ use Rattle.scenario.specs.declared.value.FaultDef.{FaultDef}
 use Rattle.scenario.specs.Value.{ScenarioValue}
 use Rattle.scenario.specs.Lookups.{has_host, has_target, has_device}
 use Rattle.scenario.specs.Needs.{need_of, sent_of}
+use Rattle.scenario.specs.Reasons.{is_block_in}
 use Rattle.scenario.specs.Reading.{is_payload, has_room, has_abort_room, in_order}
 use Rattle.scsi_device.proofs.Finds.{not_true, or_false, and_true, same_number, number_is, all_more, all_are, all_of_none, find_kept, find_new, find_not, find_none, find_rest}
 use Rattle.scsi_device.proofs.LineReads.{IsHostWithin, IsTargetWithin, IsUnitWithin, IsCommandWithin, IsAbortWithin, IsUnitRead, IsFullCommandRead, IsAbortRead}
@@ -65,6 +67,7 @@ pub record AreFit (s : ScenarioValue) : Type 0 where
   pub units : AllByRecursion (IsUnitFit s.hosts) s.units
   pub units_once : AllByRecursion (λ u. unit_at s.units u.target u.unit ≡ Some u) s.units
   pub units_apart : AreUnitsApart s.units
+  pub fills : AllByRecursion (λ (f : FillDef). is_block_in (unit_at s.units f.target f.unit) f.lba f.bytes ≡ true) s.fills
   pub commands : AllByRecursion (λ c. IsCommandFit s.hosts (sent_of s c) (need_of s c) c) s.commands
   pub aborts : AllByRecursion (IsAbortFit s.hosts) s.aborts
   pub resets : AllByRecursion (λ (r : ResetDef). r.at ≤ 1000000000000) s.resets
@@ -77,6 +80,7 @@ pub record AreFit (s : ScenarioValue) : Type 0 where
 pub record AreLater (r : ℕ) (s : ScenarioValue) : Type 0 where
   pub targets : r < 3 → s.targets ≡ []
   pub units : r < 4 → s.units ≡ []
+  pub fills : r < 5 → s.fills ≡ []
   pub commands : r < 6 → s.commands ≡ []
   pub aborts : r < 7 → s.aborts ≡ []
 
@@ -87,7 +91,7 @@ no_sooner last next e = go (last == 0) refl e where
   go false a h = grind (arith, nat_tests)
 
 pub still : (s : ScenarioValue) (r q : ℕ) → AreLater r s → r ≤ q → AreLater q s
-still s r q a le = record { targets = λ z. a.targets (omega arith); units = λ z. a.units (omega arith); commands = λ z. a.commands (omega arith); aborts = λ z. a.aborts (omega arith) }
+still s r q a le = record { targets = λ z. a.targets (omega arith); units = λ z. a.units (omega arith); fills = λ z. a.fills (omega arith); commands = λ z. a.commands (omega arith); aborts = λ z. a.aborts (omega arith) }
 
 -- ---- one line more
 
@@ -107,6 +111,7 @@ with_host s h a l r =
       units = all_of_none (IsUnitFit hs) s.units (l.units (omega arith));
       units_once = a.units_once;
       units_apart = a.units_apart;
+      fills = a.fills;
       commands = all_of_none (λ (c : CmdDef). IsCommandFit hs (sent_of s c) (need_of s c) c) s.commands (l.commands (omega arith));
       aborts = all_of_none (IsAbortFit hs) s.aborts (l.aborts (omega arith));
       resets = a.resets;
@@ -131,6 +136,7 @@ with_target s t a l r =
       units = a.units;
       units_once = a.units_once;
       units_apart = a.units_apart;
+      fills = a.fills;
       commands = all_of_none (λ (c : CmdDef). IsCommandFit s.hosts (sent_of z c) (need_of z c) c) s.commands (l.commands (omega arith));
       aborts = a.aborts;
       resets = a.resets;
@@ -175,6 +181,7 @@ with_unit s u a l r =
           (all_are (λ (g : UnitDef). unit_at s.units g.target g.unit ≡ Some g) (λ (g : UnitDef). unit_at us g.target g.unit ≡ Some g) s.units (λ g e. find_kept (λ (x : UnitDef). x.target == g.target && x.unit == g.unit) s.units u g e) a.units_once)
           (find_new (λ (x : UnitDef). x.target == u.target && x.unit == u.unit) s.units u r.new (unit_itself u.target u.unit));
       units_apart = apart_more s.units u a.units_apart r.new;
+      fills = all_of_none (λ (f : FillDef). is_block_in (unit_at us f.target f.unit) f.lba f.bytes ≡ true) s.fills (l.fills (omega arith));
       commands = all_of_none (λ (c : CmdDef). IsCommandFit s.hosts (sent_of z c) (need_of z c) c) s.commands (l.commands (omega arith));
       aborts = a.aborts;
       resets = a.resets;
@@ -208,6 +215,7 @@ with_command s needs c a r =
       units = a.units;
       units_once = a.units_once;
       units_apart = a.units_apart;
+      fills = a.fills;
       commands = all_more (λ (d : CmdDef). IsCommandFit s.hosts (sent_of s d) (need_of s d) d) s.commands c a.commands
           (record { limits = r.is.limits; host_is = ends.0; target_is = ends.1; sends = r.sends; room = room.1 });
       aborts = a.aborts;
@@ -229,6 +237,7 @@ with_abort s b a r =
       units = a.units;
       units_once = a.units_once;
       units_apart = a.units_apart;
+      fills = a.fills;
       commands = a.commands;
       aborts = all_more (IsAbortFit s.hosts) s.aborts b a.aborts (record { limits = r.limits; host_is = ends.0; target_is = ends.1 });
       resets = a.resets;

@@ -5,12 +5,14 @@ use Rattle.text_words.specs.Spelling.{AreBytes}
 use Rattle.scenario.specs.declared.value.HostDef.{HostDef}
 use Rattle.scenario.specs.declared.value.TargetDef.{TargetDef}
 use Rattle.scenario.specs.declared.value.UnitDef.{UnitDef}
+use Rattle.scenario.specs.declared.value.FillDef.{FillDef}
 use Rattle.scenario.specs.declared.value.CmdDef.{CmdDef}
 use Rattle.scenario.specs.declared.value.AbortDef.{AbortDef}
 use Rattle.scenario.specs.declared.value.ResetDef.{ResetDef}
 use Rattle.scenario.specs.declared.value.FaultDef.{FaultDef}
 use Rattle.scenario.specs.Lookups.{unit_of}
 use Rattle.scenario.specs.Needs.{need_of, sent_of}
+use Rattle.scenario.specs.Reasons.{is_block_in}
 use Rattle.scenario.specs.Value.{ScenarioValue}
 use Rattle.disk_array.specs.Processes.{command_at, payload_bytes}
 use Rattle.disk_array.specs.SoundArray.{AreApart}
@@ -76,12 +78,13 @@ pub record IsAbortLine (s : ScenarioValue) (a : AbortDef) : Type 0 where
   pub target_is : is_host s.hosts a.target ≡ false
   pub time : a.at ≤ 1000000000000
 
--- Beside what each line says: units stand once, and commands and aborts are few.
+-- Beside what each line says: units stand once, a fill is of a block of its unit, and commands and aborts are few.
 pub record FitsBus (s : ScenarioValue) : Type 0 where
   pub hosts : AllByRecursion (λ h. IsHostLine s h) s.hosts
   pub targets : AllByRecursion (λ t. IsTargetLine s t) s.targets
   pub units : AllByRecursion (λ u. IsUnitLine s u) s.units
   pub apart : AreApart (starting_units s s.units)
+  pub fills : AllByRecursion (λ (f : FillDef). is_block_in (unit_of s f.target f.unit) f.lba f.bytes ≡ true) s.fills
   pub commands : AllByRecursion (λ c. IsCommandLine s c) s.commands
   pub aborts : AllByRecursion (λ a. IsAbortLine s a) s.aborts
   pub resets : AllByRecursion (λ (r : ResetDef). r.at ≤ 1000000000000) s.resets

@@ -1,6 +1,6 @@
 use Rattle.std.proofs.Common.{◌≡◌, ◌+◌, ◌≤◌, length, drop}
 use Rattle.disk_array.specs.Contents.{filled_contents}
-use Rattle.disk_target.specs.Fillings.{AreFilled}
+use Rattle.disk_target.specs.Fillings.{AreFilled, fill_count}
 use Rattle.disk_target.proofs.fillings.fill.Given as goal
 
 abbrev pub invariant-loop-one : goal.invariant-loop-one
@@ -9,6 +9,7 @@ invariant-loop-one l = record {
   count : l.blocks.contents.count ≡ l.def.blocks;
   size : l.blocks.contents.size ≡ l.def.size;
   within : l.one-index ≤ length l.fills;
-  spare : l.initial.blocks.spare ≤ l.blocks.spare + l.one-index;
+  room : fill_count l.def (drop l.one-index l.fills) ≤ l.blocks.spare;
+  spare : l.initial.blocks.spare + fill_count l.def (drop l.one-index l.fills) ≤ l.blocks.spare + fill_count l.def l.fills;
   contents : filled_contents l.def (drop l.one-index l.fills) l.blocks.contents ≡ filled_contents l.def l.fills l.initial.blocks.contents;
 }
