@@ -5,5 +5,5 @@ mod SeatSteps
 mod SeatOwn
 mod SeatEvents
 mod SeatAborts
-mod SoundArrays
+pub mod SoundArrays
 pub mod SeatLaws

@@ -28,8 +28,8 @@ first_is v me g h k = go v.bus.io (v.ages.io == phase_time v.ages) (me.own.data_
     go true true false k = refl
     go true true true k = λ j. due_at (phase_time v.ages + TURN_DELAY + me.latency) (with_data_bits me.own (byte_bits (k refl j)))
 
-turn_is : (v : Sight) (b : Handshakes) (me : Myself) (g h : Offering) → AreAlike true v.bus.io b.requests g h → target_turn v b me g ≡ target_turn v b me h
-turn_is v b me g h a = go (b.requests == 0) g.follows h.follows (a.follows refl) (λ x y. a.to refl x y) (λ x y. a.wait refl x y)
+turn_is : (v : Sight) (b : Handshakes) (me : Myself) (g h : Offering) → me.own.req ≡ false → AreAlike true me.own.req v.bus.io b.requests g h → target_turn v b me g ≡ target_turn v b me h
+turn_is v b me g h q a = go (b.requests == 0) g.follows h.follows (a.follows refl) (λ x y. a.to refl q x y) (λ x y. a.wait refl q x y)
   where
     go : (none f e : Bool) → f ≡ e → (f ≡ false → none ≡ false → g.to ≡ h.to) → (f ≡ false → none ≡ false → g.wait ≡ h.wait)
         → (if none then first_req v me g else if f then next_req v me else phase_end v me g)
@@ -40,21 +40,21 @@ turn_is v b me g h a = go (b.requests == 0) g.follows h.follows (a.follows refl)
     go false true false x to wait = absurd cc
     go false false true x to wait = absurd cc
 
-handshake_is : (v : Sight) (b : Handshakes) (me : Myself) (g h : Offering) → AreAlike true v.bus.io b.requests g h → target_handshake v b me g ≡ target_handshake v b me h
-handshake_is v b me g h a = go me.own.req v.bus.ack
+handshake_is : (v : Sight) (b : Handshakes) (me : Myself) (g h : Offering) → AreAlike true me.own.req v.bus.io b.requests g h → target_handshake v b me g ≡ target_handshake v b me h
+handshake_is v b me g h a = go me.own.req v.bus.ack refl
   where
     negation : req_negation v me g ≡ req_negation v me h
     negation = λ j. due_at (v.ages.ack + me.latency) (record me.own { req = false; data_bits = bits_are v.bus.io g.follows h.follows g.byte h.byte (a.follows refl) (a.byte refl) j })
 
-    go : (req ack : Bool) → (if req then (if ack then req_negation v me g else None) else if ack then None else target_turn v b me g)
+    go : (req ack : Bool) → me.own.req ≡ req → (if req then (if ack then req_negation v me g else None) else if ack then None else target_turn v b me g)
         ≡ (if req then (if ack then req_negation v me h else None) else if ack then None else target_turn v b me h)
-    go true true = negation
-    go true false = refl
-    go false true = refl
-    go false false = turn_is v b me g h a
+    go true true q = negation
+    go true false q = refl
+    go false true q = refl
+    go false false q = turn_is v b me g h q a
 
-pulse_turn_is : (v : Sight) (b : Handshakes) (me : Myself) (p : Pace) (g h : Offering) → (b.requests == 0) ≡ false → AreAlike true v.bus.io b.requests g h → pulse_turn v b me p g ≡ pulse_turn v b me p h
-pulse_turn_is v b me p g h z a = go g.follows h.follows (not (length b.waiting == 0) || v.bus.ack) (a.follows refl) (λ x. a.to refl x z)
+pulse_turn_is : (v : Sight) (b : Handshakes) (me : Myself) (p : Pace) (g h : Offering) → me.own.req ≡ false → (b.requests == 0) ≡ false → AreAlike true me.own.req v.bus.io b.requests g h → pulse_turn v b me p g ≡ pulse_turn v b me p h
+pulse_turn_is v b me p g h q z a = go g.follows h.follows (not (length b.waiting == 0) || v.bus.ack) (a.follows refl) (λ x. a.to refl q x z)
   where
     go : (f e busy : Bool) → f ≡ e → (f ≡ false → g.to ≡ h.to)
         → (if f then (if nat_lt (length b.waiting) p.offset then req_pulse v b me p else None) else if busy then None else pulsed_phase_end v b me p g)
@@ -65,34 +65,34 @@ pulse_turn_is v b me p g h z a = go g.follows h.follows (not (length b.waiting =
     go true false busy x to = absurd cc
     go false true busy x to = absurd cc
 
-pulse_is : (v : Sight) (b : Handshakes) (me : Myself) (p : Pace) (g h : Offering) → AreAlike true v.bus.io b.requests g h → target_pulse v b me p g ≡ target_pulse v b me p h
-pulse_is v b me p g h a = go me.own.req (b.requests == 0) (λ z. turn z)
+pulse_is : (v : Sight) (b : Handshakes) (me : Myself) (p : Pace) (g h : Offering) → AreAlike true me.own.req v.bus.io b.requests g h → target_pulse v b me p g ≡ target_pulse v b me p h
+pulse_is v b me p g h a = go me.own.req (b.requests == 0) (λ q z. turn q z)
   where
     bits : v.bus.io ≡ true → bits_if g.follows g.byte ≡ bits_if h.follows h.byte
     bits io = λ j. bits_if (a.follows refl j) (a.byte refl io j)
 
-    turn : (b.requests == 0) ≡ false
+    turn : me.own.req ≡ false → (b.requests == 0) ≡ false
         → (if v.bus.io && not (me.own.data_bits == bits_if g.follows g.byte) then byte_change b me p g else pulse_turn v b me p g)
         ≡ (if v.bus.io && not (me.own.data_bits == bits_if h.follows h.byte) then byte_change b me p h else pulse_turn v b me p h)
-    turn z = by_io v.bus.io bits
+    turn q z = by_io v.bus.io bits
       where
         by_io : (io : Bool) → (io ≡ true → bits_if g.follows g.byte ≡ bits_if h.follows h.byte)
             → (if io && not (me.own.data_bits == bits_if g.follows g.byte) then byte_change b me p g else pulse_turn v b me p g)
             ≡ (if io && not (me.own.data_bits == bits_if h.follows h.byte) then byte_change b me p h else pulse_turn v b me p h)
-        by_io false k = pulse_turn_is v b me p g h z a
-        by_io true k = λ j. if not (me.own.data_bits == k refl j) then due_at (hold_end b me p) (with_data_bits me.own (k refl j)) else pulse_turn_is v b me p g h z a j
+        by_io false k = pulse_turn_is v b me p g h q z a
+        by_io true k = λ j. if not (me.own.data_bits == k refl j) then due_at (hold_end b me p) (with_data_bits me.own (k refl j)) else pulse_turn_is v b me p g h q z a j
 
     go : (req none : Bool)
-        → (none ≡ false
+        → (req ≡ false → none ≡ false
         → (if v.bus.io && not (me.own.data_bits == bits_if g.follows g.byte) then byte_change b me p g else pulse_turn v b me p g)
         ≡ (if v.bus.io && not (me.own.data_bits == bits_if h.follows h.byte) then byte_change b me p h else pulse_turn v b me p h))
         → (if req then req_pulse_end v me p else if none then first_req v me g else if v.bus.io && not (me.own.data_bits == bits_if g.follows g.byte) then byte_change b me p g else pulse_turn v b me p g)
         ≡ (if req then req_pulse_end v me p else if none then first_req v me h else if v.bus.io && not (me.own.data_bits == bits_if h.follows h.byte) then byte_change b me p h else pulse_turn v b me p h)
     go true none x = refl
     go false true x = first_is v me g h (a.byte refl)
-    go false false x = x refl
+    go false false x = x refl refl
 
-pub dues_alike : (begun : Bool) (v : Sight) (b : Handshakes) (me : Myself) (p : Pace) (g h : Offering) → AreAlike begun v.bus.io b.requests g h → hand.target_due begun v b me p g ≡ hand.target_due begun v b me p h
+pub dues_alike : (begun : Bool) (v : Sight) (b : Handshakes) (me : Myself) (p : Pace) (g h : Offering) → AreAlike begun me.own.req v.bus.io b.requests g h → hand.target_due begun v b me p g ≡ hand.target_due begun v b me p h
 dues_alike false v b me p g h a = refl
 dues_alike true v b me p g h a = go p.pulsed
   where

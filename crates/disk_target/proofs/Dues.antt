@@ -86,8 +86,8 @@ links_are flips_are s rows d i f g p r e =
 
 -- ---- in a connection of its own
 
-hands_are : AreFlips → (s : ScenarioValue) (rows : List Row) (d : TargetDef) (i : TargetState) (f : Option FaultDef) (n : Connection) → IsTargetLine s d → IsPlain s rows (run_state s rows) → IsTargetOf s rows d i → f ≡ first_fault (run_state s rows).faults → IsOwnConnection rows d.dev n → target_reaction s rows d.dev d.latency ≡ hand_by d (told rows d.dev) f i
-hands_are flips_are s rows d i f n g p r e o =
+hands_are : AreFlips → (s : ScenarioValue) (rows : List Row) (d : TargetDef) (i : TargetState) (f : Option FaultDef) (n : Connection) → IsTargetLine s d → IsPlain s rows (run_state s rows) → IsTargetOf s rows d i → f ≡ first_fault (run_state s rows).faults → IsOwnConnection rows d.dev n → (bus rows).rst ≡ false → target_reaction s rows d.dev d.latency ≡ hand_by d (told rows d.dev) f i
+hands_are flips_are s rows d i f n g p r e o calm =
     let k : RunState = run_state s rows in
     let last : ℕ = last_time rows in
     let me : Myself = myself_by d (told rows d.dev) i in
@@ -97,7 +97,7 @@ hands_are flips_are s rows d i f n g p r e o =
     (pace_by (p.begun j) (p.bus j) (p.dialogue j).heard.now.agreement (g.no_host j))
     (offering_by (serving_of s k d.dev) (p.begun j) (pace_by (p.begun j) (p.bus j) (p.dialogue j).heard.now.agreement (g.no_host j)).pulsed (p.bus j) (p.handshakes j))))
     ∙ (λ j. hand.sample_due (is_receiving (receiver rows) d.dev) last (flip_by f last)
-    (sym (dues_alike (begun rows) (sight rows) (handshakes rows) me pace (offering_in rows i.serving) (offering_in rows (serving_of s k d.dev)) (r.serving_is n o)) j))
+    (sym (dues_alike (begun rows) (sight rows) (handshakes rows) me pace (offering_in rows i.serving) (offering_in rows (serving_of s k d.dev)) (r.serving_is n o calm)) j))
 
 -- ---- whatever stands
 
@@ -145,7 +145,7 @@ dues_are law flips_are others_are s rows d i f g q p t r e = go (bus rows).rst r
         linked : (z : Bool) → (n.target == d.dev) ≡ z → due s rows d.dev ≡ target_next d (told rows d.dev) f i
         linked true z =
             law s rows d.dev d.latency n there (record { calm = rst; stands = c }) (t.not_calling n c) z
-            ∙ (λ j. with_reset (mine j) (sym r.own_is j).rst (sym r.reset_is j) (hands_are flips_are s rows d i f n g p r e (record { stands = c; own = z }) j))
+            ∙ (λ j. with_reset (mine j) (sym r.own_is j).rst (sym r.reset_is j) (hands_are flips_are s rows d i f n g p r e (record { stands = c; own = z }) rst j))
             ∙ (λ j. reset_by (if sym z j then hand_by d (told rows d.dev) f i else None))
             ∙ (λ j. reset_by (calm_by d (told rows d.dev) f i (sym rst j) (sym c j)))
         linked false z =

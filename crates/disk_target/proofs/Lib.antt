@@ -1,8 +1,13 @@
 mod Alike
+pub mod Agreeing
+pub mod Courses
+pub mod CourseBegins
+pub mod CourseAgrees
+pub mod CourseRows
 mod Places
 mod Fits
 mod Dues
-mod Heard
+pub mod Heard
 pub mod LiveQueue
 pub mod SenseBlocks
 pub mod SeatSteps

@@ -1,6 +1,8 @@
 pub mod Servings
 pub mod Fits
 pub mod Alike
+pub mod Agreeing
+pub mod Courses
 pub mod States
 pub mod Dues
 pub mod Plans

@@ -6,7 +6,7 @@ use Rattle.bus_trace.specs.declared.connection.Connection.{Connection}
 use Rattle.scenario.specs.declared.value.TargetDef.{TargetDef}
 use Rattle.scenario.specs.Value.{ScenarioValue}
 use Rattle.bus_story.specs.TraceHistory.{is_host}
-use Rattle.bus_trace.specs.Trace.{bus}
+use Rattle.bus_trace.specs.Trace.{bus, drives}
 use Rattle.bus_lines.specs.Handshakes.{handshakes}
 use Rattle.bus_reactions.specs.declared.ends.Offering.{Offering}
 use Rattle.bus_dialogue.specs.Ends.{offering_by}
@@ -55,13 +55,13 @@ abbrev pub offering_in : List Row → next_phase.Serving → Offering
 offering_in rows v =
     offering_by v (begun rows) (pace_of (told rows 0) None).pulsed (bus rows) (handshakes rows)
 
--- This is what the target of this line of the scenario knows after these rows. In a connection of its own it may know less
--- than the rows tell of the process, as long as nothing that it does next tells between them.
+-- This is what the target of this line of the scenario knows after these rows. In a connection of its own, while RST is
+-- false, it may know less than the rows tell of the process, as long as nothing that it does next tells between them.
 pub record IsTargetOf (s : ScenarioValue) (rows : List Row) (t : TargetDef) (i : TargetState) : Type 0 where
   pub own_is : i.own ≡ own_of rows t.dev
   pub reset_is : i.reset ≡ reset_from t.dev (own_of rows t.dev).released s.resets
   pub ready_is : i.ready ≡ ready_unit (ready_of s (run_state s rows) t.dev)
-  pub serving_is : (n : Connection) → IsOwnConnection rows t.dev n → AreAlike (begun rows) (bus rows).io (handshakes rows).requests (offering_in rows i.serving) (offering_in rows (serving_of s (run_state s rows) t.dev))
+  pub serving_is : (n : Connection) → IsOwnConnection rows t.dev n → (bus rows).rst ≡ false → AreAlike (begun rows) (drives rows t.dev).req (bus rows).io (handshakes rows).requests (offering_in rows i.serving) (offering_in rows (serving_of s (run_state s rows) t.dev))
 
 -- ---- what the scenario says of it
 

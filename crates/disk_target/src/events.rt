@@ -129,7 +129,8 @@ fn turn_shown(serving: &Serving, attention: bool, phase: Phase, id: ProcId) -> S
     shown_in_order(arrival, reply)
 }
 
-fn nothing_shown() -> Shown
+/// Nothing.
+pub fn nothing_shown() -> Shown
     ensures { shown_list result ≡ [] }
 {
     Shown {

@@ -15,6 +15,8 @@
 
 mod absent;
 mod arrivals;
+mod commands;
+mod course;
 mod data_runs;
 mod due;
 mod events;
@@ -36,6 +38,7 @@ mod units;
 
 pub use absent::AbsentUnit;
 pub use arrivals::arrival_by;
+pub use course::{Course, Name, ProcessState};
 pub use data_runs::{has_further_run, process_byte_place, run_length, run_length_if, runs_in_all};
 pub use due::{target_next, want_of_ready};
 pub use events::{Shown, leaving_shown};

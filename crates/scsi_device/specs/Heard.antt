@@ -64,12 +64,15 @@ block_after w block =
     else block
 
 -- The plan is that before the row.
-abbrev pub instructions_on : Hearing → Plan → Instructions → Instructions
-instructions_on w p i = record {
+abbrev pub instructions_with : Hearing → Plan → Instructions → Instructions
+instructions_with w p i = record {
   opening = if leaves_opening w p then Some p.said else i.opening;
-  block = if i.known then i.block else block_after w i.block;
-  known = i.known || leaves_command w p;
+  block = block_after w i.block;
+  known = leaves_command w p;
 }
+
+abbrev pub instructions_on : Hearing → Plan → Instructions → Instructions
+instructions_on w p i = if i.known then i else instructions_with w p i
 
 abbrev pub instructions_after : Option Connection → Option Connection → Hearing → Plan → Instructions → Instructions
 instructions_after before None w p i = no_instructions
