@@ -245,8 +245,8 @@ impl Endings {
     }
 }
 
-/// A row shows these events, the newest first; the initiator has gone on by it. Before it, it aimed at this, and so many
-/// of its first commands were past.
+/// A row shows these events, the newest first; the initiator has gone on by it. Before it, it aimed at this, and so
+/// many of its first commands were past.
 pub fn see_endings(
     endings: &mut Endings,
     intent: &Intent,
