@@ -50,14 +50,14 @@ put_at v k n x l = go (k == n) refl
         (λ i. end_at (set v k x) (sym here i)) ∙ get_or-set_same v k x no_end within
     go false e = let other : n ≢ k = (λ z. eqb-false k n e (sym z)) in get_or-set_other v k n x no_end other
 
-with_at : (v : List CommandEnd) (k n : ℕ) (e : Ending) → n < length v → end_at (ends_with v k e) n ≡ (if k == n then ended_so e (end_at v n) else end_at v n)
+pub with_at : (v : List CommandEnd) (k n : ℕ) (e : Ending) → n < length v → end_at (ends_with v k e) n ≡ (if k == n then ended_so e (end_at v n) else end_at v n)
 with_at v k n e l = put_at v k n (ended_so e (end_at v k)) l ∙ go (k == n) refl
   where
     go : (y : Bool) → (k == n) ≡ y → (if y then ended_so e (end_at v k) else end_at v n) ≡ (if y then ended_so e (end_at v n) else end_at v n)
     go true z = λ i. ended_so e (end_at v (eqb-true k n z i))
     go false z = refl
 
-with_sense_at : (v : List CommandEnd) (k n : ℕ) → n < length v → end_at (ends_with_sense v k) n ≡ (if k == n then with_sense_end (end_at v n) else end_at v n)
+pub with_sense_at : (v : List CommandEnd) (k n : ℕ) → n < length v → end_at (ends_with_sense v k) n ≡ (if k == n then with_sense_end (end_at v n) else end_at v n)
 with_sense_at v k n l = put_at v k n (with_sense_end (end_at v k)) l ∙ go (k == n) refl
   where
     go : (y : Bool) → (k == n) ≡ y → (if y then with_sense_end (end_at v k) else end_at v n) ≡ (if y then with_sense_end (end_at v n) else end_at v n)

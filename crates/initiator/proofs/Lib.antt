@@ -29,3 +29,7 @@ mod TransferSteps
 mod TransferRows
 mod MovedBytes
 mod ReceivedRows
+mod OwnCommands
+mod KeptCommands
+mod PastEndings
+mod CheckQueues

@@ -1,5 +1,5 @@
 -- How each command of an initiator's own ended, and what each row does to that.
-use Rattle.std.specs.Prelude.{ℕ, ◌≡◌, ◌+◌, ◌==◌, ◌&&◌, Bool, true, false, List, [], ◌∷◌, length, Option, Some, None, is_none, slice_set, slice_index_or, if◌then◌else◌}
+use Rattle.std.specs.Prelude.{ℕ, ◌≡◌, ◌+◌, ◌==◌, ◌&&◌, Bool, true, false, List, [], ◌∷◌, length, drop, Option, Some, None, is_none, is_some, slice_set, slice_index_or, if◌then◌else◌}
 use Rattle.bus_base.specs.declared.ProcId.{ProcId}
 use Rattle.bus_base.specs.declared.Event.{Event}
 use Rattle.bus_base.specs.declared.Event.TheVariants as events
@@ -92,6 +92,15 @@ ends_after_calling mines v (Some (own.Abort n)) = v
 abbrev pub ends_after : BookValue → Option OwnItem → List CommandEnd → List Event → List CommandEnd
 ends_after book aim v shown =
     if is_empty shown then ends_after_calling book.mines v aim else ends_after_events book.mines v shown
+
+-- The same, where all commands before this place had ended before the row.
+abbrev pub ends_after_from : ℕ → BookValue → Option OwnItem → List CommandEnd → List Event → List CommandEnd
+ends_after_from first book aim v shown =
+    if is_empty shown then ends_after_calling book.mines v aim else ends_after_events (drop first book.mines) v shown
+
+abbrev pub have_ended : List CommandEnd → List Mine → Bool
+have_ended v [] = true
+have_ended v (m ∷ mines) = is_some (end_at v m.number).ending && have_ended v mines
 
 -- ---- what the rows tell
 

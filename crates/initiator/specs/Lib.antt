@@ -1,5 +1,7 @@
 pub mod Mines
 pub mod Books
+pub mod Commands
+pub mod Checks
 pub mod Wishes
 pub mod Negotiations
 pub mod Openings

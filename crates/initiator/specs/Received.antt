@@ -62,6 +62,10 @@ buffer_at v id = half_of (pair_at v id.command) id.sense
 abbrev pub received_with : List BufferPairValue → ProcId → ℕ → ℕ → List BufferPairValue
 received_with v id place byte = slice_set v id.command (pair_with (pair_at v id.command) id.sense place byte)
 
+-- What came to a command is handed out, and its room with it.
+abbrev pub received_taken : List BufferPairValue → ℕ → List BufferPairValue
+received_taken v n = slice_set v n (record (pair_at v n) { command = empty_buffer 0 })
+
 -- ---- before any row
 
 -- A write has room for none.

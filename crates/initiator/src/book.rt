@@ -1,50 +1,56 @@
 //! The book of an initiator: its own commands and aborts, how far each has come, and what it sends next.
-ghost use Rattle.std.specs.Prelude.{◌≡◌, ◌<◌, ◌==◌, [], length, IfOk};
-ghost use Rattle.std.specs.List.{list_any, list_all};
+ghost use Rattle.std.specs.Prelude.{ℕ, ◌≡◌, ◌<◌, true, List, drop, length, take, IfOk};
+ghost use Rattle.std.specs.List.{list_all};
 ghost use Rattle.initiator.specs.declared.mine.MyAbort.{MyAbort};
 ghost use Rattle.bus_story.specs.Items.{open_limit_of};
-ghost use Rattle.bus_due.specs.Wants.{own_command};
+ghost use Rattle.bus_base.specs.declared.Event.{Event};
+ghost use Rattle.initiator.specs.Commands.{all_past};
+ghost use Rattle.initiator.specs.Endings.{ends_after_events};
+ghost use Rattle.initiator.specs.declared.endings.CommandEnd.{CommandEnd};
+ghost use Rattle.initiator.specs.OwnLinks.{named_in};
 ghost use Rattle.initiator.specs.Openings.{mine_at, my_abort_at};
 ghost use Rattle.initiator.specs.Wishes.{tries_in, abort_tries_in, target_in, abort_target_in, target_by, book_after_events};
-ghost use Rattle.initiator.specs.Mines.{nothing_sent, mine_of, mines_of, my_abort, my_aborts};
-ghost use Rattle.initiator.specs.Books.{my_book, my_since, my_item, queue_with, queue_after_event, book_with_sent, book_with_over, book_with_try, book_with_done, book_with_abort_try, book_after_event};
+ghost use Rattle.initiator.specs.Mines.{nothing_sent, my_abort, my_aborts};
+ghost use Rattle.initiator.specs.Books.{my_book, my_sense, my_since, my_item, queue_with, queue_after_event, book_with_sent, book_with_over, book_with_try, book_with_done, book_with_abort_try, book_after_event};
 
-use crate::choice::{abort_by, aborts_since, first_sense, has_number, mine_by, mines_since};
-use crate::marks::{
-    all_aborts_tried, all_after_event, all_done, all_over, all_sent, all_tried, is_check,
-};
+use crate::checks::Checks;
+use crate::choice::{abort_by, aborts_since, first_sense, mine_by, mines_since, settled_from};
+use crate::commands::Commands;
+use crate::marks::{all_aborts_tried, all_done, is_check};
 use crate::mine::{Mine, MyAbort, OwnItem};
+use crate::own_link::named_in;
 use bus_base::{Dev, Event, NoMemory, Ns, ProcId};
-use scenario::{AbortDef, CmdDef, HostDef, Scenario};
+use scenario::{AbortDef, HostDef, Scenario};
 use scsi_device::sooner_time;
 use std::alloc::Global;
 use std::marker::Model;
 
-/// The book of an initiator.
+/// The book of an initiator. What it costs does not grow with the commands that are done.
 #[derive(Debug, Drop)]
 pub struct Book {
-    mines: Vec<Mine>,
+    commands: Commands,
     aborts: Vec<MyAbort>,
-    slots: Vec<u16>,
-    count: usize,
+    checks: Checks,
+    // Of no check before this place the automatic REQUEST SENSE is still to be sent.
+    settled: usize,
     most: usize,
 }
 
 impl Model for Book {
-    ghost use Rattle.std.specs.Prelude.{◌≤◌, length, take};
     ghost use Rattle.initiator.specs.Books.{BookValue};
+    ghost use Rattle.initiator.specs.Checks.{IsSettled};
 
     ghost Value = { BookValue };
 
     ghost view = { λ a. record {
-      mines = a.mines.items;
+      mines = a.commands.mines;
       aborts = a.aborts.items;
-      queue = take a.count a.slots.items;
-      room = length a.slots.items;
+      queue = a.checks.queue;
+      room = a.checks.room;
       most = a.most;
     } };
 
-    ghost invariant = { λ a. a.count ≤ length a.slots.items };
+    ghost invariant = { λ a. IsSettled a.commands.mines a.commands.limit a.checks.queue a.checks.room a.settled };
 }
 
 impl Book {
@@ -54,34 +60,40 @@ impl Book {
         requires aborts { length scenario.now.aborts < 0xffff }
         ensures { IfOk result (λ made. made ≡ my_book scenario.now nothing_sent dev) }
     {
-        let mines = own_mines(alloc, scenario.commands.as_slice(), dev)?;
+        let commands = Commands::new(alloc, scenario.commands.as_slice(), dev)?;
         let aborts = own_aborts(alloc, scenario.aborts.as_slice(), dev)?;
-        let slots = vec![in alloc; 0; scenario.commands.len() + 1]?;
+        let checks = Checks::new(alloc, scenario.commands.len() + 1)?;
         Ok(Book {
-            mines,
+            commands,
             aborts,
-            slots,
-            count: 0,
+            checks,
+            settled: 0,
             most: open_limit(scenario.hosts.as_slice(), dev),
         })
     }
 
-    /// Its own commands, in the order of their numbers.
-    pub fn mines(&self) -> &[Mine]
-        ensures { result.now ≡ self.now.mines }
+    // The first of its checks whose automatic REQUEST SENSE is still to be sent.
+    fn sense(&self) -> Option<u16>
+        ensures { result ≡ my_sense self.now.mines self.now.queue }
     {
-        self.mines.as_slice()
+        first_sense(&self.commands, &self.checks.numbers()[self.settled..])
     }
 
     /// Since when it wants to send something, in ns.
     pub fn since(&self) -> Option<Ns>
         ensures { result ≡ my_since self.now }
     {
-        let sense = first_sense(self.mines.as_slice(), &self.slots[..self.count]);
-        let sense_since = if sense.is_some() { Some(0) } else { None };
+        let sense_since = if self.sense().is_some() {
+            Some(0)
+        } else {
+            None
+        };
         sooner_time(
             aborts_since(self.aborts.as_slice()),
-            sooner_time(sense_since, mines_since(self.most, self.mines.as_slice())),
+            sooner_time(
+                sense_since,
+                mines_since(self.most, self.commands.open(), self.commands.rest()),
+            ),
         )
     }
 
@@ -93,10 +105,10 @@ impl Book {
         if let Some(number) = abort_by(time, self.aborts.as_slice()) {
             return Some(OwnItem::Abort(number));
         }
-        if let Some(number) = first_sense(self.mines.as_slice(), &self.slots[..self.count]) {
+        if let Some(number) = self.sense() {
             return Some(OwnItem::Sense(number));
         }
-        let number = mine_by(self.most, time, self.mines.as_slice())?;
+        let number = mine_by(self.most, time, self.commands.open(), self.commands.rest())?;
         Some(OwnItem::Command(number))
     }
 
@@ -104,21 +116,22 @@ impl Book {
     pub fn send(&mut self, id: ProcId)
         ensures { self.new ≡ book_with_sent self.old id }
     {
-        all_sent(self.mines.as_mut_slice(), id);
+        self.commands.send(id);
+        self.settled = settled_from(&self.commands, self.checks.numbers(), self.settled);
     }
 
     /// A command of its own is over, for its callings had no answer.
     pub fn give_up(&mut self, id: ProcId)
         ensures { self.new ≡ book_with_over self.old id }
     {
-        all_over(self.mines.as_mut_slice(), id);
+        self.commands.give_up(id);
     }
 
     /// A calling for a command of its own had no answer.
     pub fn try_again(&mut self, number: u16)
         ensures { self.new ≡ book_with_try self.old number }
     {
-        all_tried(self.mines.as_mut_slice(), number);
+        self.commands.try_again(number);
     }
 
     /// An abort of its own is sent, or given up.
@@ -139,12 +152,10 @@ impl Book {
     pub fn tries(&self, number: u16) -> u8
         ensures { result ≡ tries_in self.now.mines number }
     {
-        for mine in self.mines.as_slice() {
-            if mine.number == number {
-                return mine.tries;
-            }
+        match self.commands.mine(number) {
+            None => 0,
+            Some(mine) => mine.tries,
         }
-        0
     }
 
     /// How many callings for an abort of its own had no answer, at most 255.
@@ -169,12 +180,10 @@ impl Book {
     fn target(&self, number: u16) -> Option<Dev>
         ensures { result ≡ target_in self.now.mines number }
     {
-        for mine in self.mines.as_slice() {
-            if mine.number == number {
-                return Some(mine.target);
-            }
+        match self.commands.mine(number) {
+            None => None,
+            Some(mine) => Some(mine.target),
         }
-        None
     }
 
     fn abort_target(&self, number: u16) -> Option<Dev>
@@ -192,12 +201,30 @@ impl Book {
     pub fn mine(&self, number: u16) -> Option<Mine>
         ensures { result ≡ mine_at self.now.mines number }
     {
-        for mine in self.mines.as_slice() {
-            if mine.number == number {
-                return Some(*mine);
-            }
-        }
-        None
+        self.commands.mine(number)
+    }
+
+    /// The first of its own processes that is open, of this target, unit and tag; an automatic REQUEST SENSE is
+    /// untagged.
+    pub fn named(&self, target: Dev, unit: u8, tag: Option<u8>) -> Option<OwnItem>
+        ensures { result ≡ named_in self.now.mines target unit tag }
+    {
+        named_in(self.commands.open(), target, unit, tag)
+    }
+
+    /// How many of the first of its own commands are past: over, and their automatic REQUEST SENSE too.
+    pub fn past(&self) -> usize
+        ensures { all_past (take result self.now.mines) ≡ true }
+    {
+        self.commands.past()
+    }
+
+    /// Some of its own commands from this place on, in their order: no event ends another of them.
+    pub fn mines_since(&self, first: usize) -> &[Mine]
+        ensures { (v : List CommandEnd) (shown : List Event)
+            → ends_after_events result.now v shown ≡ ends_after_events (drop first self.now.mines) v shown }
+    {
+        self.commands.since(first)
     }
 
     /// The abort line of this number among all, if it is its own.
@@ -227,12 +254,9 @@ impl Book {
     fn add_check(&mut self, number: u16)
         ensures { self.new ≡ record self.old { queue = queue_with self.old.mines self.old.room self.old.queue number } }
     {
-        if has_number(self.mines.as_slice(), number)
-            && !is_in(&self.slots[..self.count], number)
-            && self.count < self.slots.len()
-        {
-            self.slots[self.count] = number;
-            self.count += 1;
+        match self.commands.mine(number) {
+            None => {}
+            Some(_) => self.checks.add(number),
         }
     }
 
@@ -251,7 +275,8 @@ impl Book {
         ensures { self.new ≡ book_after_event self.old event.now }
     {
         self.queue_event(event);
-        all_after_event(self.mines.as_mut_slice(), event);
+        self.commands.see(event);
+        self.settled = settled_from(&self.commands, self.checks.numbers(), self.settled);
     }
 
     /// Events are shown, the newest first.
@@ -263,47 +288,6 @@ impl Book {
             left -= 1;
             self.see(&shown[left]);
         }
-    }
-}
-
-fn is_in(queue: &[u16], number: u16) -> bool
-    ensures { result ≡ list_any (λ k. k == number) queue.now }
-{
-    queue.iter().any(|k| *k == number)
-}
-
-// Its own among these commands, of which the first has the number 1.
-fn own_mines(alloc: Global, commands: &[CmdDef], dev: Dev) -> Result<Vec<Mine>, NoMemory>
-    requires { length commands.now < 0xffff }
-    ensures { IfOk result (λ made. made.items ≡ mines_of nothing_sent dev commands.now) }
-{
-    let mut mines = Vec::new(alloc);
-    let mut number: u16 = 1;
-    for def in commands {
-        if def.host == dev {
-            mines.push(new_mine(number, def))?;
-        }
-        number += 1;
-    }
-    Ok(mines)
-}
-
-fn new_mine(number: u16, def: &CmdDef) -> Mine
-    ensures { result ≡ mine_of [] (own_command nothing_sent number def.now) }
-{
-    Mine {
-        number,
-        host: def.host,
-        target: def.target,
-        unit: def.unit,
-        tag: def.tag,
-        at: def.at,
-        sent: false,
-        over: false,
-        checked: false,
-        sense_sent: false,
-        sense_over: false,
-        tries: 0,
     }
 }
 

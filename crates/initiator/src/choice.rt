@@ -1,11 +1,13 @@
 // What an initiator sends next, and since when it wants to, by its own commands and aborts.
-ghost use Rattle.std.specs.Prelude.{◌≡◌, length};
+ghost use Rattle.std.specs.Prelude.{◌≡◌, ◌≤◌, true, length, take};
 ghost use Rattle.std.specs.List.{list_any};
 ghost use Rattle.bus_story.specs.Items.{tag_number_if, is_tag_clash};
 ghost use Rattle.bus_reactions.specs.Reactions.{time_if};
 ghost use Rattle.initiator.specs.Mines.{open_mines, is_open_mine, is_done_mine, is_clash_of, may_follow_mines, mines_since, mine_by, my_aborts_since, my_abort_by};
-ghost use Rattle.initiator.specs.Books.{is_sense_due, my_sense, has_number};
+ghost use Rattle.initiator.specs.Books.{my_sense};
+ghost use Rattle.initiator.specs.Checks.{none_due};
 
+use crate::commands::Commands;
 use crate::mine::{Mine, MyAbort};
 use bus_base::Ns;
 use scenario::Tag;
@@ -73,19 +75,19 @@ fn has_clash(mines: &[Mine], mine: &Mine) -> bool
     false
 }
 
-fn may_follow(most: usize, time: Ns, mines: &[Mine], mine: &Mine) -> bool
-    ensures { result ≡ may_follow_mines most time (open_mines mines.now) mine.now }
+fn may_follow(most: usize, time: Ns, beside: &[Mine], mine: &Mine) -> bool
+    ensures { result ≡ may_follow_mines most time (open_mines beside.now) mine.now }
 {
-    mine.at <= time && open_count(mines) < most && !has_clash(mines, mine)
+    mine.at <= time && open_count(beside) < most && !has_clash(beside, mine)
 }
 
-/// Since when the first command that is still to be sent may be sent, in ns.
-pub fn mines_since(most: usize, mines: &[Mine]) -> Option<Ns>
-    ensures { result ≡ mines_since most (open_mines mines.now) mines.now }
+/// Since when the first of these commands that is still to be sent may be sent, in ns, beside those that are open.
+pub fn mines_since(most: usize, beside: &[Mine], mines: &[Mine]) -> Option<Ns>
+    ensures { result ≡ mines_since most (open_mines beside.now) mines.now }
 {
     for mine in mines {
         if !is_done(mine) {
-            return if may_follow(most, mine.at, mines, mine) {
+            return if may_follow(most, mine.at, beside, mine) {
                 Some(mine.at)
             } else {
                 None
@@ -96,12 +98,12 @@ pub fn mines_since(most: usize, mines: &[Mine]) -> Option<Ns>
 }
 
 /// Its number, where it may be sent at this time.
-pub fn mine_by(most: usize, time: Ns, mines: &[Mine]) -> Option<u16>
-    ensures { result ≡ mine_by most time (open_mines mines.now) mines.now }
+pub fn mine_by(most: usize, time: Ns, beside: &[Mine], mines: &[Mine]) -> Option<u16>
+    ensures { result ≡ mine_by most time (open_mines beside.now) mines.now }
 {
     for mine in mines {
         if !is_done(mine) {
-            return if may_follow(most, time, mines, mine) {
+            return if may_follow(most, time, beside, mine) {
                 Some(mine.number)
             } else {
                 None
@@ -136,32 +138,28 @@ pub fn abort_by(time: Ns, aborts: &[MyAbort]) -> Option<u16>
     None
 }
 
-/// Whether the command of this number is one of these.
-pub fn has_number(mines: &[Mine], number: u16) -> bool
-    ensures { result ≡ has_number mines.now number }
+/// The first of these commands, by their numbers, whose automatic REQUEST SENSE is still to be sent.
+pub fn first_sense(commands: &Commands, numbers: &[u16]) -> Option<u16>
+    ensures { result ≡ my_sense commands.now.mines numbers.now }
 {
-    mines.iter().any(|mine| mine.number == number)
-}
-
-fn is_sense_due(mines: &[Mine], number: u16) -> bool
-    ensures { result ≡ is_sense_due mines.now number }
-{
-    for mine in mines {
-        if mine.number == number {
-            return !(mine.sense_sent || mine.sense_over);
-        }
-    }
-    false
-}
-
-/// The first of these commands whose automatic REQUEST SENSE is still to be sent.
-pub fn first_sense(mines: &[Mine], queue: &[u16]) -> Option<u16>
-    ensures { result ≡ my_sense mines.now queue.now }
-{
-    for number in queue {
-        if is_sense_due(mines, *number) {
+    for number in numbers {
+        if commands.is_sense_due(*number) {
             return Some(*number);
         }
     }
     None
+}
+
+/// How many of these are settled, from so many on: of none of the first of them it is still to be sent.
+pub fn settled_from(commands: &Commands, numbers: &[u16], settled: usize) -> usize
+    requires within { settled ≤ length numbers.now }
+    requires settled { none_due commands.now.mines (take settled numbers.now) ≡ true }
+    ensures within { result ≤ length numbers.now }
+    ensures settled { none_due commands.now.mines (take result numbers.now) ≡ true }
+{
+    let mut count = settled;
+    while count < numbers.len() && !commands.is_sense_due(numbers[count]) {
+        count += 1;
+    }
+    count
 }

@@ -1,5 +1,5 @@
 //! How each command of an initiator's own ended, row by row (ANSI X3.131-1994, 6.1.1, 6.2.2, 6.6 and 7.3).
-ghost use Rattle.std.specs.Prelude.{ℕ, ◌≡◌, ◌+◌, ◌==◌, [], ◌∷◌, List, Some, true, length, replicate, IfOk};
+ghost use Rattle.std.specs.Prelude.{ℕ, ◌≡◌, ◌+◌, ◌==◌, [], ◌∷◌, List, Some, true, length, replicate, take, IfOk};
 ghost use Rattle.bus_trace.specs.declared.Row.{Row};
 ghost use Rattle.scenario.specs.declared.value.CmdDef.{CmdDef};
 ghost use Rattle.scenario.specs.Value.{ScenarioValue};
@@ -8,9 +8,10 @@ ghost use Rattle.bus_story.specs.TraceHistory.{aim_of};
 ghost use Rattle.bus_due.specs.Plain.{AreOfDevices};
 ghost use Rattle.bus_due.specs.RunSteps.{run_state};
 ghost use Rattle.initiator.specs.Books.{my_book, item_if};
+ghost use Rattle.initiator.specs.Commands.{all_past};
 ghost use Rattle.initiator.specs.Intents.{IsIntentOf};
 ghost use Rattle.initiator.specs.Wishes.{events_shown};
-ghost use Rattle.initiator.specs.Endings.{no_end, ended_so, end_at, ends_with, ends_with_sense, ends_after_end, ends_after_loss, is_named, ends_of_mines, ends_after_event, ends_after_events, is_over, ends_after_calling, ends_after, IsEndOf, AreEndingsOf};
+ghost use Rattle.initiator.specs.Endings.{no_end, ended_so, end_at, ends_with, ends_with_sense, ends_after_end, ends_after_loss, is_named, ends_of_mines, ends_after_event, ends_after_events, is_over, ends_after_calling, ends_after_from, IsEndOf, AreEndingsOf};
 
 use crate::book::Book;
 use crate::intent::Intent;
@@ -218,36 +219,47 @@ impl Endings {
         }
     }
 
-    fn after_row(&mut self, book: &Book, aim: Option<OwnItem>, shown: &[Event])
-        ensures { self.new ≡ ends_after book.now aim self.old shown.now }
+    fn after_row(&mut self, book: &Book, past: usize, aim: Option<OwnItem>, shown: &[Event])
+        ensures { self.new ≡ ends_after_from past book.now aim self.old shown.now }
     {
         if shown.is_empty() {
             self.see_calling(book, aim);
         } else {
-            self.see_all(book.mines(), shown);
+            self.see_all(book.mines_since(past), shown);
         }
     }
 
     /// One more row, of any device, which shows these events, the newest first: `book` is the initiator's book after
-    /// it, and `aim` that for which the initiator last entered arbitration before it.
-    pub fn see(&mut self, book: &Book, aim: Option<OwnItem>, shown: &[Event])
-        ensures exact { self.new ≡ ends_after book.now aim self.old shown.now }
+    /// it, and `aim` that for which the initiator last entered arbitration before it. So many of its first commands
+    /// were past before the row.
+    pub fn see(&mut self, book: &Book, past: usize, aim: Option<OwnItem>, shown: &[Event])
+        ensures exact { self.new ≡ ends_after_from past book.now aim self.old shown.now }
         ensures trace { (s : ScenarioValue) (rows : List Row) (row : Row) (dev : ℕ) → AreOfDevices (row ∷ rows)
             → book.now ≡ my_book s (run_state s (row ∷ rows)).story.sent dev
+            → all_past (take past (my_book s (run_state s rows).story.sent dev).mines) ≡ true
             → item_if aim ≡ aim_of (run_state s rows).story.aims dev → shown.now ≡ events_shown s rows row
             → AreEndingsOf s rows dev self.old → AreEndingsOf s (row ∷ rows) dev self.new }
     {
         kept_is_plain();
-        self.after_row(book, aim, shown);
+        self.after_row(book, past, aim, shown);
     }
 }
 
-/// A row shows these events, the newest first; the initiator has gone on by it, and aimed at this before it.
-pub fn see_endings(endings: &mut Endings, intent: &Intent, aim: Option<OwnItem>, shown: &[Event])
+/// A row shows these events, the newest first; the initiator has gone on by it. Before it, it aimed at this, and so
+/// many of its first commands were past.
+pub fn see_endings(
+    endings: &mut Endings,
+    intent: &Intent,
+    past: usize,
+    aim: Option<OwnItem>,
+    shown: &[Event],
+)
     ensures { (s : ScenarioValue) (rows : List Row) (row : Row) → AreOfDevices (row ∷ rows)
-        → IsIntentOf s (row ∷ rows) intent.now → item_if aim ≡ aim_of (run_state s rows).story.aims intent.now.dev
+        → IsIntentOf s (row ∷ rows) intent.now
+        → all_past (take past (my_book s (run_state s rows).story.sent intent.now.dev).mines) ≡ true
+        → item_if aim ≡ aim_of (run_state s rows).story.aims intent.now.dev
         → shown.now ≡ events_shown s rows row → AreEndingsOf s rows intent.now.dev endings.old
         → AreEndingsOf s (row ∷ rows) intent.now.dev endings.new }
 {
-    endings.see(intent.book(), aim, shown);
+    endings.see(intent.book(), past, aim, shown);
 }

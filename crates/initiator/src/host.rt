@@ -1,5 +1,5 @@
 //! An initiator of a scenario: what it knows, row by row, and what it does next (ANSI X3.131-1994, 6 and 7).
-ghost use Rattle.std.specs.Prelude.{◌≡◌, ◌<◌, ◌≤◌, ◌==◌, ◌^◌, [], ◌∷◌, List, length, is_some, true, IfOk};
+ghost use Rattle.std.specs.Prelude.{◌≡◌, ◌<◌, ◌≤◌, ◌==◌, ◌^◌, [], ◌∷◌, List, length, is_some, true, if◌then◌else◌, IfOk};
 ghost use Rattle.std.specs.List.{find};
 ghost use Rattle.bus_trace.specs.declared.Row.{Row};
 ghost use Rattle.bus_trace.specs.Terms.{connection};
@@ -26,8 +26,9 @@ ghost use Rattle.disk_array.specs.Processes.{command_at};
 ghost use Rattle.initiator.specs.Books.{my_book};
 ghost use Rattle.initiator.specs.Endings.{end_at};
 ghost use Rattle.initiator.specs.Openings.{mine_at};
-ghost use Rattle.initiator.specs.Outcomes.{are_replies, told_outcome_if, settled_outcome, is_sense_over};
-ghost use Rattle.initiator.specs.Received.{pair_at};
+ghost use Rattle.initiator.specs.Outcomes.{are_replies, told_outcome_if, settled_outcome, is_settled, is_sense_over};
+ghost use Rattle.initiator.specs.OwnLinks.{own_link};
+ghost use Rattle.initiator.specs.Received.{pair_at, received_taken};
 ghost use Rattle.initiator.specs.OwnBytes.{sending_from};
 ghost use Rattle.initiator.specs.Speeches.{IsOpeningOf};
 ghost use Rattle.initiator.specs.States.{sending_known, IsOwnConnection};
@@ -41,7 +42,7 @@ use crate::intent::Intent;
 use crate::laws::{initiators_are_their_parts, initiators_have_no_unit};
 use crate::negotiations::Negotiations;
 use crate::openings::Words;
-use crate::outcome::Outcome;
+use crate::outcome::{Outcome, is_settled};
 use crate::own_bytes::OwnBytes;
 use crate::received::{Received, see_received};
 use crate::speech::Speech;
@@ -213,6 +214,7 @@ impl Host {
         let opening = self.opening(view.connection());
         let process = self.intent.is_for_process();
         let aim = self.intent.aim();
+        let past = self.intent.book().past();
         self.speech.see(
             &self.def,
             &opening,
@@ -237,7 +239,7 @@ impl Host {
             .see(process, connection_before(view), view.connection(), shown);
         self.itself.see(view, row);
         self.intent.see(view, row, shown);
-        see_endings(&mut self.endings, &self.intent, aim, shown);
+        see_endings(&mut self.endings, &self.intent, past, aim, shown);
     }
 
     // What it sends of the process of its connection but for messages.
@@ -291,7 +293,12 @@ impl Host {
     /// The event that it shows in the last row, which the observer has seen and it has not: the end of a process, as it
     /// takes COMMAND COMPLETE (6.6.5).
     pub fn completion(&self, observer: &Observer) -> Option<Event>
-        ensures { (s : ScenarioValue) (rows : List Row) (row : Row) (n : Connection)
+        ensures rows { (s : ScenarioValue) (rows : List Row) (row : Row) → IsObserverOf (row ∷ rows) observer.now
+            → AreOfDevices (row ∷ rows) → IsHostAfter s rows self.now → event_if result
+            ≡ initiator_events (run_state s rows)
+            (own_link self.now.def.dev (connection rows) (run_state s rows).story.link)
+            (row_reading (run_state s rows).story.bus_state row) }
+        ensures trace { (s : ScenarioValue) (rows : List Row) (row : Row) (n : Connection)
             → IsObserverOf (row ∷ rows) observer.now → AreOfDevices (row ∷ rows) → IsHostAfter s rows self.now
             → IsOwnConnection rows self.now.def.dev n → event_if result
             ≡ initiator_events (run_state s rows) (run_state s rows).story.link
@@ -303,7 +310,9 @@ impl Host {
     /// The process of the connection in which it stands; its command is 0 where it stands in none, or knows of no
     /// process there.
     pub fn process(&self) -> ProcId
-        ensures { (s : ScenarioValue) (rows : List Row) (n : Connection) → IsHostAfter s rows self.now
+        ensures rows { (s : ScenarioValue) (rows : List Row) → IsHostAfter s rows self.now → result ≡ process_or_none
+            (id_of (item_of (own_link self.now.def.dev (connection rows) (run_state s rows).story.link))) }
+        ensures trace { (s : ScenarioValue) (rows : List Row) (n : Connection) → IsHostAfter s rows self.now
             → IsOwnConnection rows self.now.def.dev n
             → result ≡ process_or_none (id_of (item_of (run_state s rows).story.link)) }
     {
@@ -334,21 +343,31 @@ impl Host {
         }
     }
 
-    /// The outcome of a command of its own, by its number from 1, with the bytes that came to it, which are handed out.
-    /// None until it is known: while the command has not ended, and after CHECK CONDITION until its automatic REQUEST
-    /// SENSE has ended or is over without an end. It is the outcome that the rows tell, where what came to the command,
-    /// and to its automatic REQUEST SENSE, is the reply (`are_replies`). It takes no memory.
+    /// The outcome of a command of its own, by its number from 1, with the bytes that came to it, which are handed out
+    /// once. None until it is known: while the command has not ended, and after CHECK CONDITION until its automatic
+    /// REQUEST SENSE has ended or is over without an end; then nothing is handed out. It is the outcome that the rows
+    /// tell, where what came to the command, and to its automatic REQUEST SENSE, is the reply (`are_replies`). What it
+    /// knows else stays. It takes no memory.
     pub fn take_outcome(&mut self, alloc: Global, number: u16) -> Option<Outcome>
-        ensures { (s : ScenarioValue) (rows : List Row) (c : CmdDef) → IsHostAfter s rows self.old
+        ensures trace { (s : ScenarioValue) (rows : List Row) (c : CmdDef) → IsHostAfter s rows self.old
             → command_at s.commands number ≡ Some c → (c.host == self.old.def.dev) ≡ true
             → are_replies s (run_state s rows).story number (end_at self.old.endings number)
             (pair_at self.old.received number).command.bytes (pair_at self.old.received number).sense.bytes ≡ true
             → told_outcome_if result ≡ settled_outcome s (run_state s rows).story number
             (end_at self.old.endings number)
             (is_sense_over (mine_at (my_book s (run_state s rows).story.sent self.old.def.dev).mines number)) }
+        ensures rest { self.new ≡ record self.old {
+          received = if is_settled (end_at self.old.endings number)
+              (is_sense_over (mine_at self.old.intent.wish.book.mines number))
+              then received_taken self.old.received number
+              else self.old.received;
+        } }
     {
         let end = self.endings.end(number);
         let over = self.is_sense_over(number);
+        if !is_settled(end, over) {
+            return None;
+        }
         let bytes = self.received.take(alloc, number);
         let sense = self.received.bytes(ProcId {
             command: number,

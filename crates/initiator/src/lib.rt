@@ -18,7 +18,9 @@
 
 mod book;
 mod causes;
+mod checks;
 mod choice;
+mod commands;
 mod due;
 mod endings;
 mod held;

@@ -36,7 +36,8 @@ fn with_over(sense: bool, mine: Mine) -> Mine
     }
 }
 
-fn sent_at(id: ProcId, mine: Mine) -> Mine
+/// A command, where this process is sent.
+pub fn sent_at(id: ProcId, mine: Mine) -> Mine
     ensures { result ≡ sent_at id mine }
 {
     if id.command == mine.number {
@@ -46,7 +47,8 @@ fn sent_at(id: ProcId, mine: Mine) -> Mine
     }
 }
 
-fn over_at(id: ProcId, mine: Mine) -> Mine
+/// A command, where this process is over.
+pub fn over_at(id: ProcId, mine: Mine) -> Mine
     ensures { result ≡ over_at id mine }
 {
     if id.command == mine.number {
@@ -76,7 +78,8 @@ fn with_status(check: bool, mine: Mine) -> Mine
     }
 }
 
-fn after_end(id: ProcId, status: u8, mine: Mine) -> Mine
+/// A command, where this process ended with this status.
+pub fn after_end(id: ProcId, status: u8, mine: Mine) -> Mine
     ensures { result ≡ mine_after_event (End id status) mine }
 {
     if id.command == mine.number {
@@ -156,7 +159,8 @@ fn after_event(event: &Event, mine: Mine) -> Mine
     }
 }
 
-fn tried_at(number: u16, mine: Mine) -> Mine
+/// A command, where that of this number was called for in vain.
+pub fn tried_at(number: u16, mine: Mine) -> Mine
     ensures { result ≡ tried_at number mine }
 {
     if number == mine.number {
@@ -195,16 +199,6 @@ fn abort_tried_at(number: u16, abort: MyAbort) -> MyAbort
     }
 }
 
-/// A command was called for in vain.
-#[tactic(auto, using(std::proofs::lemmas::List::Edits::map_over_more))]
-pub fn all_tried(mines: &mut [Mine], number: u16)
-    ensures { mines.new ≡ map (λ m. tried_at number m) mines.old }
-{
-    for mine in mines.iter_mut() {
-        *mine = tried_at(number, *mine);
-    }
-}
-
 /// An abort was called for in vain.
 #[tactic(auto, using(std::proofs::lemmas::List::Edits::map_over_more))]
 pub fn all_aborts_tried(aborts: &mut [MyAbort], number: u16)
@@ -212,26 +206,6 @@ pub fn all_aborts_tried(aborts: &mut [MyAbort], number: u16)
 {
     for abort in aborts.iter_mut() {
         *abort = abort_tried_at(number, *abort);
-    }
-}
-
-/// A process is sent.
-#[tactic(auto, using(std::proofs::lemmas::List::Edits::map_over_more))]
-pub fn all_sent(mines: &mut [Mine], id: ProcId)
-    ensures { mines.new ≡ map (λ m. sent_at id m) mines.old }
-{
-    for mine in mines.iter_mut() {
-        *mine = sent_at(id, *mine);
-    }
-}
-
-/// A process is over.
-#[tactic(auto, using(std::proofs::lemmas::List::Edits::map_over_more))]
-pub fn all_over(mines: &mut [Mine], id: ProcId)
-    ensures { mines.new ≡ map (λ m. over_at id m) mines.old }
-{
-    for mine in mines.iter_mut() {
-        *mine = over_at(id, *mine);
     }
 }
 

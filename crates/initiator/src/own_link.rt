@@ -5,6 +5,7 @@ ghost use Rattle.bus_story.specs.Links.{same_number};
 ghost use Rattle.initiator.specs.OwnLinks.{process_in, is_at_unit, is_open_sense_of, named_in, link_with_name, last_after_out, last_after_in, new_link, undo_of, undone};
 ghost use Rattle.initiator.specs.Mines.{is_open_mine};
 
+use crate::book::Book;
 use crate::held::{Held, HeldPair, held_at, set_held};
 use crate::mine::{Mine, OwnItem};
 use bus_base::{Dev, ProcId};
@@ -104,8 +105,8 @@ fn is_open_sense(mine: &Mine) -> bool
     mine.sense_sent && !mine.sense_over
 }
 
-// The first of these that is open, of this target, unit and tag; an automatic REQUEST SENSE is untagged.
-fn named_in(mines: &[Mine], target: Dev, unit: u8, tag: Option<u8>) -> Option<OwnItem>
+/// The first of these that is open, of this target, unit and tag; an automatic REQUEST SENSE is untagged.
+pub fn named_in(mines: &[Mine], target: Dev, unit: u8, tag: Option<u8>) -> Option<OwnItem>
     ensures { result ≡ named_in mines.now target unit tag }
 {
     for mine in mines {
@@ -191,18 +192,18 @@ impl OwnLink {
         }
     }
 
-    /// The target says this: IDENTIFY and SIMPLE QUEUE TAG name a process of these commands (6.6.7, 6.6.17).
-    pub fn with_name(self, mines: &[Mine], message: MsgIn) -> OwnLink
-        ensures { result ≡ link_with_name mines.now self message }
+    /// The target says this: IDENTIFY and SIMPLE QUEUE TAG name a process of this book (6.6.7, 6.6.17).
+    pub fn with_name(self, book: &Book, message: MsgIn) -> OwnLink
+        ensures { result ≡ link_with_name book.now.mines self message }
     {
         match message {
             MsgIn::Identify { lun } => OwnLink {
                 unit: lun,
-                item: named_in(mines, self.target, lun, None),
+                item: book.named(self.target, lun, None),
                 ..self
             },
             MsgIn::SimpleTag(tag) => OwnLink {
-                item: named_in(mines, self.target, self.unit, Some(tag)),
+                item: book.named(self.target, self.unit, Some(tag)),
                 ..self
             },
             _ => self,

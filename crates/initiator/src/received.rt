@@ -12,7 +12,7 @@ ghost use Rattle.bus_due.specs.RunSteps.{run_state};
 ghost use Rattle.bus_due.specs.Telling.{id_of};
 ghost use Rattle.initiator.specs.OwnLinks.{own_link};
 ghost use Rattle.initiator.specs.Transfers.{active_of, IsTransfersOf};
-ghost use Rattle.initiator.specs.Received.{empty_buffer, buffer_with, no_buffers, half_of, pair_with, pair_at, buffer_at, received_with, data_room, room_of, buffers_if_own, nothing_received, brings_data, received_after, moved_of, AreReceived, undoes_no_byte};
+ghost use Rattle.initiator.specs.Received.{empty_buffer, buffer_with, no_buffers, half_of, pair_with, pair_at, buffer_at, received_with, received_taken, data_room, room_of, buffers_if_own, nothing_received, brings_data, received_after, moved_of, AreReceived, undoes_no_byte};
 
 use crate::own_bytes::is_write;
 use crate::transfers::Transfers;
@@ -70,9 +70,10 @@ impl Buffer {
         &self.bytes[..self.count]
     }
 
-    // All that came is handed out.
+    // All that came is handed out, and the room with it.
     fn take(&mut self, alloc: Global) -> Octets
-        ensures { result ≡ self.old.bytes }
+        ensures bytes { result ≡ self.old.bytes }
+        ensures rest { self.new ≡ empty_buffer 0 }
     {
         let count = self.count;
         self.count = 0;
@@ -223,9 +224,10 @@ impl Received {
         self.held(id)
     }
 
-    /// Those of a command, which are handed out.
+    /// Those of a command, which are handed out, and its room with them; what came of all else stays.
     pub fn take(&mut self, alloc: Global, number: u16) -> Octets
         ensures bytes { result ≡ (pair_at self.old number).command.bytes }
+        ensures rest { self.new ≡ received_taken self.old number }
         ensures sense { (pair_at self.new number).sense ≡ (pair_at self.old number).sense }
     {
         let place = number as usize;

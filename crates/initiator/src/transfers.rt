@@ -19,7 +19,7 @@ ghost use Rattle.initiator.specs.Transfers.{transfers_begun, transfers_after_out
 
 use crate::book::Book;
 use crate::held::{HeldPair, carry, hear, held_at, restore};
-use crate::mine::{Mine, OwnItem};
+use crate::mine::OwnItem;
 use crate::own_link::{LastMessage, OwnLink, bring_back, process_in, undo_of};
 use bus_base::{Dev, Event, NoMemory, ProcId};
 use bus_dialogue::Hearing;
@@ -219,10 +219,10 @@ impl Transfers {
         self.link = Some(next.after_in(message, link.last, undo));
     }
 
-    fn hear(&mut self, mines: &[Mine], message: MsgIn, link: OwnLink)
-        ensures { self.new ≡ transfers_after_in mines.now message link self.old }
+    fn hear(&mut self, book: &Book, message: MsgIn, link: OwnLink)
+        ensures { self.new ≡ transfers_after_in book.now.mines message link self.old }
     {
-        self.hear_named(message, link, link.with_name(mines, message));
+        self.hear_named(message, link, link.with_name(book, message));
     }
 
     fn carry(&mut self, change: &Change, link: OwnLink)
@@ -239,38 +239,38 @@ impl Transfers {
         }
     }
 
-    fn cross(&mut self, mines: &[Mine], hearing: &Hearing, link: OwnLink)
-        ensures { self.new ≡ transfers_after_crossing mines.now hearing.now.change hearing.now.out hearing.now.into link
-            self.old }
+    fn cross(&mut self, book: &Book, hearing: &Hearing, link: OwnLink)
+        ensures { self.new ≡ transfers_after_crossing book.now.mines hearing.now.change hearing.now.out hearing.now.into
+            link self.old }
     {
         if let Some(message) = hearing.out {
             self.say(message, link);
         } else if let Some(message) = hearing.into {
-            self.hear(mines, message, link);
+            self.hear(book, message, link);
         } else {
             self.carry(&hearing.change, link);
         }
     }
 
-    fn in_link(&mut self, mines: &[Mine], hearing: &Hearing)
-        ensures { self.new ≡ transfers_in_link mines.now hearing.now self.old.link self.old }
+    fn in_link(&mut self, book: &Book, hearing: &Hearing)
+        ensures { self.new ≡ transfers_in_link book.now.mines hearing.now self.old.link self.old }
     {
         if let Some(link) = self.link {
             if hearing.crosses {
-                self.cross(mines, hearing, link);
+                self.cross(book, hearing, link);
             }
         }
     }
 
     fn on_bus(
         &mut self,
-        mines: &[Mine],
+        book: &Book,
         aim: Option<OwnItem>,
         hearing: &Hearing,
         before: Option<Connection>,
         after: Option<Connection>,
     )
-        ensures { self.new ≡ transfers_on_bus mines.now aim hearing.now before after self.old }
+        ensures { self.new ≡ transfers_on_bus book.now.mines aim hearing.now before after self.old }
     {
         match (before, after) {
             (None, None) => {}
@@ -282,7 +282,7 @@ impl Transfers {
             (Some(_), None) => self.link = None,
             (Some(_), Some(connection)) => {
                 if connection.initiator.get() == self.dev {
-                    self.in_link(mines, hearing);
+                    self.in_link(book, hearing);
                 }
             }
         }
@@ -290,18 +290,18 @@ impl Transfers {
 
     fn after(
         &mut self,
-        mines: &[Mine],
+        book: &Book,
         aim: Option<OwnItem>,
         hearing: &Hearing,
         before: Option<Connection>,
         after: Option<Connection>,
     )
-        ensures { self.new ≡ transfers_after mines.now aim hearing.now before after self.old }
+        ensures { self.new ≡ transfers_after book.now.mines aim hearing.now before after self.old }
     {
         if hearing.change.after.rst() {
             self.link = None;
         } else {
-            self.on_bus(mines, aim, hearing, before, after);
+            self.on_bus(book, aim, hearing, before, after);
         }
     }
 
@@ -325,6 +325,6 @@ impl Transfers {
     {
         kept_is_plain();
         hearings_are_plain();
-        self.after(book.mines(), aim, hearing, before, after);
+        self.after(book, aim, hearing, before, after);
     }
 }

@@ -4,4 +4,4 @@ use Rattle.initiator.proofs.choice.mine_by.Given as goal
 
 abbrev pub invariant-loop-mine : goal.invariant-loop-mine
 invariant-loop-mine l =
-    mine_by l.most l.time (open_mines l.mines) (drop l.mine-index l.mines) ≡ mine_by l.most l.time (open_mines l.mines) l.mines
+    mine_by l.most l.time (open_mines l.beside) (drop l.mine-index l.mines) ≡ mine_by l.most l.time (open_mines l.beside) l.mines

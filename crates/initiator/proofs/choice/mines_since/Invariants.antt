@@ -4,4 +4,4 @@ use Rattle.initiator.proofs.choice.mines_since.Given as goal
 
 abbrev pub invariant-loop-mine : goal.invariant-loop-mine
 invariant-loop-mine l =
-    mines_since l.most (open_mines l.mines) (drop l.mine-index l.mines) ≡ mines_since l.most (open_mines l.mines) l.mines
+    mines_since l.most (open_mines l.beside) (drop l.mine-index l.mines) ≡ mines_since l.most (open_mines l.beside) l.mines

@@ -5,7 +5,9 @@ use Rattle.initiator.specs.Speeches.{IsOpeningOf}
 use Rattle.bus_due.specs.RunSteps.{run_state}
 use Rattle.bus_story.specs.TraceHistory.{aim_of}
 use Rattle.initiator.specs.declared.mine.OwnItem.{OwnItem}
-use Rattle.initiator.specs.Books.{item_if}
+use Rattle.std.specs.Prelude.{take}
+use Rattle.initiator.specs.Books.{item_if, my_book}
+use Rattle.initiator.specs.Commands.{all_past}
 use Rattle.initiator.specs.Received.{AreReceived}
 use Rattle.initiator.specs.Endings.{AreEndingsOf}
 use Rattle.initiator.proofs.Hosts.{is_initiator, and_right}
@@ -46,6 +48,7 @@ returns-clause-trace c = λ s rows f o d shown h.
           let dev = c.see-4.ensures.dev ∙ g.intent_dev in
           subst (λ (n : ℕ). AreEndingsOf s (row ∷ rows) n c.see_endings.new.endings) dev
           (c.see_endings.ensures s rows row d (c.see-4.ensures.trace s rows v d (is_initiator s c.self.inside.def c.self.inside.intent.dev c.self.inside.intent.retries g.line g.intent_dev g.intent_retries) shown g.intent_is)
+          ((λ i. all_past (take c.past-past.result (sym (c.book.ensures ∙ g.intent_is.wish_is.book_is ∙ (λ j. my_book s (run_state s rows).story.sent (sym c.see-4.ensures.dev j))) i).mines)) ∙ c.past-past.ensures)
           (ap (λ (a : Option OwnItem). item_if a) c.aim-aim.ensures ∙ g.intent_is.wish_is.aim_is ∙ (λ i. aim_of (run_state s rows).story.aims (sym c.see-4.ensures.dev i)))
           shown (subst (λ (n : ℕ). AreEndingsOf s rows n c.self.inside.endings) (sym dev) g.endings_are));
       bytes_are = g.bytes_are;

@@ -1,8 +1,0 @@
-use Rattle.std.specs.Prelude.{◌≡◌, ◌++◌, map, take, drop}
-use Rattle.initiator.specs.declared.mine.Mine.{Mine}
-use Rattle.initiator.specs.Mines.{over_at}
-use Rattle.initiator.proofs.marks.all_over.Given as goal
-
-abbrev pub invariant-loop-mine : goal.invariant-loop-mine
-invariant-loop-mine l =
-    l.mines ≡ map (λ (m : Mine). over_at l.id m) (take l.mine-index l.initial.mines) ++ drop l.mine-index l.initial.mines
