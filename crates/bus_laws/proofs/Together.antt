@@ -146,6 +146,6 @@ from_stage s p row fits st (with_both_ids g c k t0 t e h) apart m = calm_or_rese
 from_stage s p row fits st (awaiting_answer v g c k t0 t1 t2 x h) apart m = calm_or_reset s p row st (calm_bus p _ _ _ _ h.here.stands refl) m (λ a l. from_asking s p v g c k t0 t1 t2 x row fits a h l)
 from_stage s p row fits st (after_withdrawal v g c k t0 t1 t2 t3 e h) apart m = calm_or_reset s p row st (calm_bus p _ _ _ _ h.stands refl) m (λ a l. from_withdrawn s p v g c k t0 t1 t2 t3 row a e h l)
 from_stage s p row fits st (after_answer g c k t0 t1 t2 t3 x h) apart m = calm_or_reset s p row st (calm_bus p _ _ _ _ h.here.stands refl) m (λ a l. from_answered s p g c k t0 t1 t2 t3 x row a h l)
-from_stage s p row fits st (after_takeover c k t0 t1 t2 t3 t4 x e h) apart m = calm_or_reset s p row st (calm_bus p _ _ _ _ h.here.stands refl) m (λ a l. from_resumed s p c k t0 t1 t2 t3 t4 x row a e h l)
+from_stage s p row fits st (after_takeover c k t0 t1 t2 t3 t4 x e f h) apart m = calm_or_reset s p row st (calm_bus p _ _ _ _ h.here.stands refl) m (λ a l. from_resumed s p c k t0 t1 t2 t3 t4 x row a e f h l)
 from_stage s p row fits st (in_reset h) apart m = from_reset s p row fits st h m
-from_stage s p row fits st (in_connection n e calm) apart m = let w = sym apart ∙ (λ i. is_some (e i) && not (calm i)) in absurd cc
+from_stage s p row fits st (in_connection n e calm h) apart m = let w = sym apart ∙ (λ i. is_some (e i) && not (calm i)) in absurd cc
