@@ -39,7 +39,7 @@ use Rattle.bus_laws.proofs.FromCalling.{only_caller}
 use Rattle.bus_trace.specs.declared.connection.Connection.{Connection}
 use Rattle.bus_trace.specs.LineSet.{byte_set}
 use Rattle.bus_trace.specs.Changes.{rises}
-use Rattle.bus_trace.specs.Terms.{free_since, connected}
+use Rattle.bus_trace.specs.Terms.{free_since, connected, receiver_of}
 use Rattle.bus_rules.specs.Seen.{others_in_call}
 use Rattle.bus_lines.specs.declared.stage.Stage.TheVariants.{OnFreeBus}
 use Rattle.bus_due.specs.Wants.{want_time}
@@ -150,6 +150,7 @@ makes_selection s p c k t0 t1 t2 t3 n t always a least wait =
             (λ i. duty_after (duty p) (goes.connection_is i) (ec i) (is_attention_held (ec i) (since_line (λ y. y.atn) p) t))
             ∙ duty_none p h.stands.connection_is;
         turned_is = λ i. turned_after (turned p) (h.stands.connection_is i) (ec i);
+        receiver_is = λ i. receiver_of (h.stands.connection_is i) (ec i);
         began = refl;
         sel_age = since_is (λ y. y.sel) p (row_of_lines t c l) b selected h.stands.bus_is after;
       }));
@@ -234,11 +235,13 @@ makes_reselection s p c k t0 t1 t2 t3 t4 n y t always io_age a least wait =
       here = in_connection (connected c (resumed_calling k t1 t2 t3 t4) t) goes.connection_is (ap (λ (y : LineSet). y.rst) after) (by_reselection y (record {
         linked = record { stands = goes; initiator_below = h.called_below; target_below = h.caller_below; apart = λ z. h.apart (sym z); initiator = holds; target = own; rest = λ e lt n1 n2. rest e lt n2 n1 };
         begun_is = λ i. begun_after (begun p) (h.stands.connection_is i) (goes.connection_is i) (ec i);
+        pulses_are = λ i. pulses_after (pulses p) (goes.connection_is i) (ec i) t;
         handshakes_are = λ i. handshakes_after false (goes.connection_is i) (ec i) t (handshakes p);
         duty_is =
             (λ i. duty_after (duty p) (goes.connection_is i) (ec i) (is_attention_held (ec i) (since_line (λ y. y.atn) p) t))
             ∙ ap duty_left (duty_none p h.stands.connection_is);
         turned_is = λ i. turned_after (turned p) (h.stands.connection_is i) (ec i);
+        receiver_is = λ i. receiver_of (h.stands.connection_is i) (ec i);
         began = refl;
         sel_age = since_is (λ y. y.sel) p (row_of_lines t c l) b l h.stands.bus_is after;
         msg_age = since_is (λ y. y.msg) p (row_of_lines t c l) b l h.stands.bus_is after;

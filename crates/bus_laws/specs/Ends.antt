@@ -5,6 +5,7 @@ use Rattle.bus_trace.specs.LineSet.{LineSet, none}
 use Rattle.bus_trace.specs.declared.Row.{Row}
 use Rattle.bus_trace.specs.declared.connection.Connection.{Connection}
 use Rattle.bus_trace.specs.Trace.{drives, last_time, line_times}
+use Rattle.bus_trace.specs.Terms.{receiver}
 use Rattle.bus_phases.specs.declared.attention.Duty.TheVariants as duties
 use Rattle.bus_phases.specs.Phases.{pulses, no_pulses, duty, turned}
 use Rattle.bus_lines.specs.Handshakes.{handshakes, no_handshakes}
@@ -56,6 +57,7 @@ pub record BeginsSelected (p : List Row) (n : Connection) : Type 0 where
   pub pulses_are : pulses p ≡ no_pulses
   pub duty_is : duty p ≡ duties.Nothing
   pub turned_is : turned p ≡ false
+  pub receiver_is : receiver p ≡ None
   pub began : n.began ≡ last_time p
   pub sel_age : (line_times p).sel ≡ last_time p
 
@@ -63,8 +65,10 @@ pub record BeginsReselected (p : List Row) (n : Connection) (y : ℕ) : Type 0 w
   pub linked : Linked p n (ends_reselected y)
   pub begun_is : begun p ≡ true
   pub handshakes_are : handshakes p ≡ no_handshakes
+  pub pulses_are : pulses p ≡ no_pulses
   pub duty_is : duty p ≡ duties.Nothing
   pub turned_is : turned p ≡ false
+  pub receiver_is : receiver p ≡ None
   pub began : n.began ≡ last_time p
   pub sel_age : (line_times p).sel ≡ last_time p
   pub msg_age : (line_times p).msg ≡ last_time p
