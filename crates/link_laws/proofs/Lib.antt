@@ -16,3 +16,4 @@ pub mod Faults
 pub mod PhaseEnds
 pub mod FromLink
 pub mod Traces
+mod Cases
