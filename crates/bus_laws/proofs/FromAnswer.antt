@@ -24,8 +24,12 @@ use Rattle.bus_reactions.specs.Calling.{answered_due}
 use Rattle.bus_reactions.specs.declared.due.Want.{Want}
 use Rattle.bus_laws.specs.Reactions.{unreset_due}
 use Rattle.bus_laws.proofs.Tests.{eq_self}
-use Rattle.bus_laws.proofs.Rows.{stands_after, stage_is, since_is, drives_own, drives_other, own_time_own}
-use Rattle.bus_laws.proofs.Seens.{obeys_apart}
+use Rattle.bus_laws.proofs.Rows.{change_is, stands_after, stage_is, since_is, drives_own, drives_other, own_time_own}
+use Rattle.bus_laws.proofs.Seens.{obeys_apart, duty_none, pulses_none}
+use Rattle.bus_laws.specs.Ends.{by_selection, by_reselection}
+use Rattle.bus_phases.specs.Phases.{pulses, pulses_after, duty, duty_after, duty_left, turned, turned_after, is_attention_held}
+use Rattle.bus_lines.specs.Handshakes.{handshakes, handshakes_after}
+use Rattle.bus_dialogue.specs.Hearing.{begun, begun_after}
 use Rattle.bus_laws.proofs.Obeys.{give_up_obeys, selected, selection_end_obeys, takeover_obeys, reselected_lines, reselection_end_obeys}
 use Rattle.bus_laws.proofs.Dues.{is_there, is_at, none_some}
 use Rattle.bus_laws.proofs.CallDues.{gives_up_due, after_withdrawal_due, goes_on_due, waiting_due, apart_due, want_at}
@@ -35,7 +39,7 @@ use Rattle.bus_laws.proofs.FromCalling.{only_caller}
 use Rattle.bus_trace.specs.declared.connection.Connection.{Connection}
 use Rattle.bus_trace.specs.LineSet.{byte_set}
 use Rattle.bus_trace.specs.Changes.{rises}
-use Rattle.bus_trace.specs.Terms.{free_since, connected}
+use Rattle.bus_trace.specs.Terms.{free_since, connected, receiver_of}
 use Rattle.bus_rules.specs.Seen.{others_in_call}
 use Rattle.bus_lines.specs.declared.stage.Stage.TheVariants.{OnFreeBus}
 use Rattle.bus_due.specs.Wants.{want_time}
@@ -132,12 +136,24 @@ makes_selection s p c k t0 t1 t2 t3 n t always a least wait =
     let after : bus q ≡ selected = bus_two q c k h.apart h.caller_below h.called_below rest ∙ (λ i. union (own i) (holds i)) in
     let call : Call = call_with c t0 (answered_calling true k t1 t2 t3) in
     let goes = stands_after p t c l l b selected (calling_lines true false n) None (Some call) None h.stands refl after h.caller in
+    let ec = change_is p t c l l b selected (calling_lines true false n) refl h.stands.bus_is after h.caller in
     record {
       order = order;
       calm = ap (λ (y : LineSet). y.rst) after;
       obeys = obeys_apart p t c l b selected (calling_lines true false n) l None (Some call) (others_in_call (drives p) (Some call)) h.stands refl after h.caller refl (selection_end_obeys p c k n t0 t1 t2 t3 t (others_in_call (drives p) (Some call)) h.apart order wait);
       ahead = λ alone e lt y r. absurd (none_link _ (sym goes.connection_is ∙ alone));
-      here = in_connection (connected c (answered_calling true k t1 t2 t3) t) goes.connection_is (ap (λ (y : LineSet). y.rst) after);
+      here = in_connection (connected c (answered_calling true k t1 t2 t3) t) goes.connection_is (ap (λ (y : LineSet). y.rst) after) (by_selection (record {
+        linked = record { stands = goes; initiator_below = h.caller_below; target_below = h.called_below; apart = h.apart; initiator = own; target = holds; rest = rest };
+        begun_is = λ i. begun_after (begun p) (h.stands.connection_is i) (goes.connection_is i) (ec i);
+        pulses_are = (λ i. pulses_after (pulses p) (goes.connection_is i) (ec i) t) ∙ pulses_none p h.stands.connection_is;
+        duty_is =
+            (λ i. duty_after (duty p) (goes.connection_is i) (ec i) (is_attention_held (ec i) (since_line (λ y. y.atn) p) t))
+            ∙ duty_none p h.stands.connection_is;
+        turned_is = λ i. turned_after (turned p) (h.stands.connection_is i) (ec i);
+        receiver_is = λ i. receiver_of (h.stands.connection_is i) (ec i);
+        began = refl;
+        sel_age = since_is (λ y. y.sel) p (row_of_lines t c l) b selected h.stands.bus_is after;
+      }));
     }
 
 -- in a reselection the target drives BSY again
@@ -180,7 +196,7 @@ makes_takeover s p c k t0 t1 t2 t3 n t always a least =
               | inr nk ↦ absurd (none_some y (sym (apart_due s q f c t0 t3 e w.0 devices lt w.1 goes.connection_is (λ z. nc (sym z)) (λ z. nk (sym z)) here (rest e lt nc nk)) ∙ r))
             ]
           ];
-      here = after_takeover c k t0 t1 t2 t3 t n (own_time_own p t c l) (record {
+      here = after_takeover c k t0 t1 t2 t3 t n (own_time_own p t c l) (let w = since_is (λ y. y.io) p (row_of_lines t c l) b b h.stands.bus_is after in let u = always.past (λ y. y.io) in omega arith) (record {
         here = record {
           stands = stands;
           caller_below = h.caller_below;
@@ -196,8 +212,8 @@ makes_takeover s p c k t0 t1 t2 t3 n t always a least =
     }
 
 -- and then it releases SEL, and the connection begins
-makes_reselection : (s : ScenarioValue) (p : List Row) (c k t0 t1 t2 t3 t4 n y t : ℕ) → CalmStanding s p → IsAnswered s p (resumed_calling k t1 t2 t3 t4) c k t0 false true n → IsLeast (unreset_due s p) 8 (row_of_lines t c (reselected_lines y)) → t4 + 90 ≤ t → NextCalmRow s p (row_of_lines t c (reselected_lines y))
-makes_reselection s p c k t0 t1 t2 t3 t4 n y t always a least wait =
+makes_reselection : (s : ScenarioValue) (p : List Row) (c k t0 t1 t2 t3 t4 n y t : ℕ) → CalmStanding s p → since_line (λ z. z.io) p ≤ t4 → IsAnswered s p (resumed_calling k t1 t2 t3 t4) c k t0 false true n → IsLeast (unreset_due s p) 8 (row_of_lines t c (reselected_lines y)) → t4 + 90 ≤ t → NextCalmRow s p (row_of_lines t c (reselected_lines y))
+makes_reselection s p c k t0 t1 t2 t3 t4 n y t always io_age a least wait =
     let h = a.here in
     let b : LineSet = calling_lines false true n in
     let l : LineSet = reselected_lines y in
@@ -210,12 +226,27 @@ makes_reselection s p c k t0 t1 t2 t3 t4 n y t always a least wait =
     let after : bus q ≡ l = bus_two q c k h.apart h.caller_below h.called_below rest ∙ (λ i. union (own i) (holds i)) ∙ (λ i. record l { data_bits = or_zero_r y i }) in
     let call : Call = call_with c t0 (resumed_calling k t1 t2 t3 t4) in
     let goes = stands_after p t c l l b l b None (Some call) None h.stands refl after h.caller in
+    let ec = change_is p t c l l b l b refl h.stands.bus_is after h.caller in
     record {
       order = order;
       calm = ap (λ (y : LineSet). y.rst) after;
       obeys = obeys_apart p t c l b l b l None (Some call) (others_in_call (drives p) (Some call)) h.stands refl after h.caller refl (reselection_end_obeys p c k n y t0 t1 t2 t3 t4 t (others_in_call (drives p) (Some call)) h.apart order wait);
       ahead = λ alone e lt y r. absurd (none_link _ (sym goes.connection_is ∙ alone));
-      here = in_connection (connected c (resumed_calling k t1 t2 t3 t4) t) goes.connection_is (ap (λ (y : LineSet). y.rst) after);
+      here = in_connection (connected c (resumed_calling k t1 t2 t3 t4) t) goes.connection_is (ap (λ (y : LineSet). y.rst) after) (by_reselection y (record {
+        linked = record { stands = goes; initiator_below = h.called_below; target_below = h.caller_below; apart = λ z. h.apart (sym z); initiator = holds; target = own; rest = λ e lt n1 n2. rest e lt n2 n1 };
+        begun_is = λ i. begun_after (begun p) (h.stands.connection_is i) (goes.connection_is i) (ec i);
+        pulses_are = λ i. pulses_after (pulses p) (goes.connection_is i) (ec i) t;
+        handshakes_are = λ i. handshakes_after false (goes.connection_is i) (ec i) t (handshakes p);
+        duty_is =
+            (λ i. duty_after (duty p) (goes.connection_is i) (ec i) (is_attention_held (ec i) (since_line (λ y. y.atn) p) t))
+            ∙ ap duty_left (duty_none p h.stands.connection_is);
+        turned_is = λ i. turned_after (turned p) (h.stands.connection_is i) (ec i);
+        receiver_is = λ i. receiver_of (h.stands.connection_is i) (ec i);
+        began = refl;
+        sel_age = since_is (λ y. y.sel) p (row_of_lines t c l) b l h.stands.bus_is after;
+        msg_age = since_is (λ y. y.msg) p (row_of_lines t c l) b l h.stands.bus_is after;
+        io_age = let w = since_is (λ y. y.io) p (row_of_lines t c l) b l h.stands.bus_is after in omega arith;
+      }));
     }
 
 -- no device but the caller acts once the called device has answered
@@ -253,8 +284,8 @@ from_answered s p m c k t0 t1 t2 t3 n row always a least =
         let e : row ≡ row_of_lines row.time c (calling_lines false true n) = λ i. record { time = row.time; dev = same i; kind = (sym ek ∙ z.kind_is) i } in
         subst (λ (r : Row). NextCalmRow s p r) (sym e) (makes_takeover s p c k t0 t1 t2 t3 n row.time always a (subst (λ (r : Row). IsLeast (unreset_due s p) 8 r) e least))
 
-pub from_resumed : (s : ScenarioValue) (p : List Row) (c k t0 t1 t2 t3 t4 n : ℕ) (row : Row) → CalmStanding s p → own_time p c ≡ t4 → IsAnswered s p (resumed_calling k t1 t2 t3 t4) c k t0 false true n → IsLeast (unreset_due s p) 8 row → NextCalmRow s p row
-from_resumed s p c k t0 t1 t2 t3 t4 n row always at_t4 a least =
+pub from_resumed : (s : ScenarioValue) (p : List Row) (c k t0 t1 t2 t3 t4 n : ℕ) (row : Row) → CalmStanding s p → own_time p c ≡ t4 → since_line (λ z. z.io) p ≤ t4 → IsAnswered s p (resumed_calling k t1 t2 t3 t4) c k t0 false true n → IsLeast (unreset_due s p) 8 row → NextCalmRow s p row
+from_resumed s p c k t0 t1 t2 t3 t4 n row always at_t4 io_age a least =
     let h = a.here in
     let g : Calling = resumed_calling k t1 t2 t3 t4 in
     let was : stage p ≡ InAnswer (call_with c t0 g) g t3 = stage_is p _ _ _ _ h.stands in
@@ -265,6 +296,6 @@ from_resumed s p c k t0 t1 t2 t3 t4 n row always at_t4 a least =
           let z = ends_at (want_at s p c) c k t1 t2 t3 t4 w.0 (own_time p c) (calling_lines false true n) x (sym (goes_on_due s p g c t0 t3 w.0 (calling_lines false true n) always.devices h.caller_below (ap (latency_of s) (sym same) ∙ w.1) h.stands.connection_is was h.caller) ∙ ap (unreset_due s p) (sym same) ∙ least.is_due) in
           let e : row ≡ row_of_lines row.time c (reselected_lines z.y) = λ i. record { time = row.time; dev = same i; kind = z.kind_is i } in
           let wait : t4 + 90 ≤ row.time = let u = z.time_is in omega arith in
-          subst (λ (r : Row). NextCalmRow s p r) (sym e) (makes_reselection s p c k t0 t1 t2 t3 t4 n z.y row.time always a (subst (λ (r : Row). IsLeast (unreset_due s p) 8 r) e least) wait)
+          subst (λ (r : Row). NextCalmRow s p r) (sym e) (makes_reselection s p c k t0 t1 t2 t3 t4 n z.y row.time always io_age a (subst (λ (r : Row). IsLeast (unreset_due s p) 8 r) e least) wait)
       | inr nc ↦ absurd (only_caller_acts s p g c t0 t3 (calling_lines false true n) answer_lines (calling_lines false true n) row always h was least nc)
     ]

@@ -52,7 +52,7 @@ true_false z = cc
 
 -- ---- the link
 
-ends_link : (f g : CmdDef → Bool) (e : Ending) (n : ℕ) (commands : List CmdDef) (b : Story) → (story_with_ends f g e n commands b).link ≡ b.link
+pub ends_link : (f g : CmdDef → Bool) (e : Ending) (n : ℕ) (commands : List CmdDef) (b : Story) → (story_with_ends f g e n commands b).link ≡ b.link
 ends_link f g e n [] b = refl
 ends_link f g e n (c ∷ commands) b =
     ends_link f g e (n + 1) commands (if is_open b.sent n && f c then story_with_end b (record { command = n; sense = false }) e else if g c && list_any (λ k. k == n) b.sent.checks then story_with_over b (sense_item n) else b)

@@ -3,7 +3,7 @@ use Rattle.std.proofs.Common.{ap, ℕ, ◌≡◌, Bool, false, not, List, [], �
 use Rattle.std.specs.Prelude.{is_some}
 use Rattle.bus_trace.specs.LineSet.{LineSet, data_of}
 use Rattle.bus_trace.specs.declared.Row.{Row}
-use Rattle.bus_trace.specs.Trace.{drives, bus, last_time, since, line_times}
+use Rattle.bus_trace.specs.Trace.{drives, bus, last_time, since, since_line, line_times}
 use Rattle.bus_trace.specs.declared.changes.Change.{Change}
 use Rattle.bus_trace.specs.declared.arbitration.Arbitration.{Arbitration}
 use Rattle.bus_trace.specs.declared.selection.Call.{Call}
@@ -11,7 +11,8 @@ use Rattle.bus_phases.specs.declared.reading.Reading.TheVariants as readings
 use Rattle.bus_rules.specs.declared.seen.Seen.{Seen}
 use Rattle.bus_trace.specs.Changes.{change_of}
 use Rattle.bus_trace.specs.Terms.{raised, call, connection, receiver}
-use Rattle.bus_phases.specs.Phases.{pulses, turned, duty}
+use Rattle.bus_phases.specs.declared.attention.Duty.TheVariants as duties
+use Rattle.bus_phases.specs.Phases.{pulses, pulses_after, no_pulses, turned, duty, duty_after, is_attention_held}
 use Rattle.bus_phases.specs.Dialogue.{dialogue, dialogue_after, agreed, opened, asynchronous, no_command}
 use Rattle.bus_phases.specs.Half.{is_nil}
 use Rattle.bus_phases.specs.Reading.{reading_of}
@@ -25,6 +26,14 @@ use Rattle.bus_laws.specs.Rows.{Stands, change_to, row_of_lines}
 pub dialogue_none : (p : List Row) → connection p ≡ None → dialogue p ≡ opened asynchronous
 dialogue_none [] e = refl
 dialogue_none (row ∷ rows) e = λ i. dialogue_after (dialogue rows) (connection rows) (e i) (agreed rows) (change_of rows row)
+
+pub duty_none : (p : List Row) → connection p ≡ None → duty p ≡ duties.Nothing
+duty_none [] e = refl
+duty_none (row ∷ rows) e = λ i. duty_after (duty rows) (e i) (change_of rows row) (is_attention_held (change_of rows row) (since_line (λ s. s.atn) rows) row.time)
+
+pub pulses_none : (p : List Row) → connection p ≡ None → pulses p ≡ no_pulses
+pulses_none [] e = refl
+pulses_none (row ∷ rows) e = λ i. pulses_after (pulses rows) (e i) (change_of rows row) row.time
 
 abbrev pub seen_apart : List Row → ℕ → Change → Option Arbitration → Option Call → Bool → Seen
 seen_apart p dev c a k others = record {

@@ -1,5 +1,5 @@
 -- The stages together: the next row keeps all that holds, and what holds after it.
-use Rattle.std.proofs.Common.{inl, inr, ℕ, ◌≡◌, Bool, false, not, ◌&&◌, ◌∙◌, List, [], ◌∷◌, Option, Some, None, refl, sym, ap, subst, arith}
+use Rattle.std.proofs.Common.{inl, inr, ℕ, ◌≡◌, ◌<◌, ◌≤◌, Bool, false, not, ◌&&◌, ◌∙◌, List, [], ◌∷◌, Option, Some, None, refl, sym, ap, subst, arith}
 use Rattle.std.specs.Prelude.{is_some}
 use Rattle.std.proofs.lemmas.Bool.{cases_eq}
 use Rattle.bus_trace.specs.LineSet.{LineSet}
@@ -8,12 +8,13 @@ use Rattle.bus_trace.specs.declared.Row.{Row}
 use Rattle.bus_trace.specs.declared.arbitration.Arbitration.{Arbitration}
 use Rattle.bus_trace.specs.declared.selection.Call.{Call}
 use Rattle.bus_trace.specs.declared.connection.Connection.{Connection}
-use Rattle.bus_trace.specs.Trace.{bus}
+use Rattle.bus_trace.specs.Trace.{bus, last_time}
 use Rattle.bus_trace.specs.Terms.{connection}
 use Rattle.bus_trace.proofs.Ages.{since_le, since_line_le}
 use Rattle.bus_trace.proofs.OneRow.{drives-other}
 use Rattle.scenario.specs.Value.{ScenarioValue}
 use Rattle.bus_reactions.specs.declared.due.Due.{Due}
+use Rattle.bus_rules.specs.Rules.{broken_rule}
 use Rattle.bus_rules.proofs.First.{row_none}
 use Rattle.bus_rules.specs.Reset.{only_rst}
 use Rattle.bus_due.specs.Next.{due}
@@ -21,7 +22,7 @@ use Rattle.bus_due.specs.Least.{IsLeast}
 use Rattle.bus_due.specs.Plain.{AreOfDevices}
 use Rattle.bus_laws.specs.Reactions.{unreset_due, reset_due}
 use Rattle.bus_laws.specs.Rows.{row_of_lines, Stands}
-use Rattle.bus_laws.specs.Stages.{HasShortLatencies, CalmStanding, BusStage, on_free_bus, in_arbitration, after_arbitration, with_both_ids, awaiting_answer, after_withdrawal, after_answer, after_takeover, in_reset, in_connection, NextCalmRow, HasDevice, Standing, NextRow, is_connected}
+use Rattle.bus_laws.specs.Stages.{HasShortLatencies, CalmStanding, AreAhead, BusStage, on_free_bus, in_arbitration, after_arbitration, with_both_ids, awaiting_answer, after_withdrawal, after_answer, after_takeover, in_reset, in_connection, NextCalmRow, HasDevice, Standing, NextRow, is_connected}
 use Rattle.bus_laws.proofs.Joint.{own_time_le}
 use Rattle.bus_laws.proofs.FromFree.{from_free, row_is}
 use Rattle.bus_laws.proofs.FromArbitration.{from_arbitration}
@@ -55,14 +56,14 @@ stage_first s = on_free_bus (record {
 
 -- ---- after a row
 
-pub standing_next : (s : ScenarioValue) (p : List Row) (row : Row) → Standing s p → IsLeast (due s p) 8 row → NextRow s p row → is_connected (row ∷ p) ≡ false → Standing s (row ∷ p)
-standing_next s p row st m g apart = record {
+pub standing_after : (s : ScenarioValue) (p : List Row) (row : Row) → Standing s p → IsLeast (due s p) 8 row → last_time p ≤ row.time → broken_rule p row ≡ None → ((d : ℕ) → d < 8 → (x : Due) → due s (row ∷ p) d ≡ Some x → row.time ≤ x.time) → Standing s (row ∷ p)
+standing_after s p row st m order obeys ahead = record {
   devices = (m.inside, st.devices);
-  lawful = (st.lawful, (row_none p row).0 g.obeys);
-  ahead = g.ahead apart;
-  past = λ on. let w = st.past on in let o = g.order in since_line_le on row p (omega arith);
-  seen_past = λ see. let w = st.seen_past see in let o = g.order in since_le see row p (omega arith);
-  own_past = λ e. let w = st.own_past e in let o = g.order in own_time_le p row.time row.dev row.kind e (omega arith);
+  lawful = (st.lawful, (row_none p row).0 obeys);
+  ahead = ahead;
+  past = λ on. let w = st.past on in since_line_le on row p (omega arith);
+  seen_past = λ see. let w = st.seen_past see in since_le see row p (omega arith);
+  own_past = λ e. let w = st.own_past e in own_time_le p row.time row.dev row.kind e (omega arith);
   there = λ d lt. elim (cases_eq d row.dev) [
     | inl same ↦ inr (subst (λ (k : ℕ). HasDevice s k) (sym same) (due_there s p row.dev (record { time = row.time; kind = row.kind }) m.is_due))
     | inr ne ↦ elim (st.there d lt) [
@@ -71,6 +72,9 @@ standing_next s p row st m g apart = record {
     ]
   ];
 }
+
+pub standing_next : (s : ScenarioValue) (p : List Row) (row : Row) → Standing s p → IsLeast (due s p) 8 row → NextRow s p row → is_connected (row ∷ p) ≡ false → Standing s (row ∷ p)
+standing_next s p row st m g apart = standing_after s p row st m g.order g.obeys (g.ahead apart)
 
 -- ---- a row where RST is false
 
@@ -92,31 +96,36 @@ not_linked : (o : Option Connection) (r : Bool) → (is_some o && not r) ≡ fal
 not_linked None r e f = refl
 not_linked (Some n) r e f = let w = ap (λ (q : Bool). not q) f in let v = sym e ∙ w in absurd cc
 
-next_row : (s : ScenarioValue) (p : List Row) (row : Row) → Standing s p → IsLeast (due s p) 8 row → NextCalmRow s p row → NextRow s p row
-next_row s p row st m g =
+-- The resets that are still to come lie ahead, too.
+pub ahead_with_resets : (s : ScenarioValue) (p : List Row) (row : Row) → Standing s p → IsLeast (due s p) 8 row → (bus (row ∷ p)).rst ≡ false → AreAhead s (row ∷ p) row.time → (d : ℕ) → d < 8 → (x : Due) → due s (row ∷ p) d ≡ Some x → row.time ≤ x.time
+ahead_with_resets s p row st m calm ahead d lt x e =
     let devices : AreOfDevices (row ∷ p) = (m.inside, st.devices) in
-    record {
-      order = g.order;
-      obeys = g.obeys;
-      ahead = λ apart d lt x e.
-          let off = off_at (row ∷ p) g.calm d lt in
-          elim (one_of (reset_due s (row ∷ p) d) (unreset_due s (row ∷ p) d) x (sym (due_calm s (row ∷ p) d devices lt off) ∙ e)) [
-            | inl r ↦ resets_ahead s p row st.devices m d lt off x r
-            | inr c ↦ g.ahead (not_linked (connection (row ∷ p)) (bus (row ∷ p)).rst apart g.calm) d lt x c
-          ];
-      here = g.here;
-    }
+    let off = off_at (row ∷ p) calm d lt in
+    elim (one_of (reset_due s (row ∷ p) d) (unreset_due s (row ∷ p) d) x (sym (due_calm s (row ∷ p) d devices lt off) ∙ e)) [
+      | inl r ↦ resets_ahead s p row st.devices m d lt off x r
+      | inr c ↦ ahead d lt x c
+    ]
+
+next_row : (s : ScenarioValue) (p : List Row) (row : Row) → Standing s p → IsLeast (due s p) 8 row → NextCalmRow s p row → NextRow s p row
+next_row s p row st m g = record {
+  order = g.order;
+  obeys = g.obeys;
+  ahead = λ apart. ahead_with_resets s p row st m g.calm (g.ahead (not_linked (connection (row ∷ p)) (bus (row ∷ p)).rst apart g.calm));
+  here = g.here;
+}
 
 -- While no device drives RST the next row is the reset of a device, or the first that is due without resets.
-calm_or_reset : (s : ScenarioValue) (p : List Row) (row : Row) → Standing s p → (bus p).rst ≡ false → IsLeast (due s p) 8 row → (CalmStanding s p → IsLeast (unreset_due s p) 8 row → NextCalmRow s p row) → NextRow s p row
-calm_or_reset s p row st calm m goes =
+pub data ResetOrCalm (s : ScenarioValue) (p : List Row) (row : Row) : Type 0 where
+  by_reset : row ≡ row_of_lines row.time row.dev only_rst → ResetOrCalm s p row
+  by_calm : CalmStanding s p → IsLeast (unreset_due s p) 8 row → ResetOrCalm s p row
+
+pub reset_or_calm : (s : ScenarioValue) (p : List Row) (row : Row) → Standing s p → (bus p).rst ≡ false → IsLeast (due s p) 8 row → ResetOrCalm s p row
+reset_or_calm s p row st calm m =
     let x : Due = record { time = row.time; kind = row.kind } in
     let off = off_at p calm in
     elim (one_of (reset_due s p row.dev) (unreset_due s p row.dev) x (sym (due_calm s p row.dev st.devices m.inside (off row.dev m.inside)) ∙ m.is_due)) [
-      | inl r ↦
-          let e : row ≡ row_of_lines row.time row.dev only_rst = row_is row only_rst (own_reset_is s p row.dev x r).kind_is in
-          subst (λ (w : Row). NextRow s p w) (sym e) (raises s p row.time row.dev st calm (subst (λ (w : Row). IsLeast (due s p) 8 w) e m))
-      | inr c ↦ next_row s p row st m (goes (always_is s p st calm) (record {
+      | inl r ↦ by_reset (row_is row only_rst (own_reset_is s p row.dev x r).kind_is)
+      | inr c ↦ by_calm (always_is s p st calm) (record {
         inside = m.inside;
         is_due = c;
         first = λ d lt y e.
@@ -130,7 +139,14 @@ calm_or_reset s p row st calm m goes =
             let w = m.first d lt z.x g in
             let l = z.le in
             m.highest d lt z.x g (omega arith);
-      }))
+      })
+    ]
+
+calm_or_reset : (s : ScenarioValue) (p : List Row) (row : Row) → Standing s p → (bus p).rst ≡ false → IsLeast (due s p) 8 row → (CalmStanding s p → IsLeast (unreset_due s p) 8 row → NextCalmRow s p row) → NextRow s p row
+calm_or_reset s p row st calm m goes =
+    elim (reset_or_calm s p row st calm m) [
+      | by_reset e ↦ subst (λ (w : Row). NextRow s p w) (sym e) (raises s p row.time row.dev st calm (subst (λ (w : Row). IsLeast (due s p) 8 w) e m))
+      | by_calm always least ↦ next_row s p row st m (goes always least)
     ]
 
 calm_bus : (p : List Row) (b : LineSet) (a : Option Arbitration) (c : Option Call) (n : Option Connection) → Stands p b a c n → b.rst ≡ false → (bus p).rst ≡ false
@@ -146,6 +162,6 @@ from_stage s p row fits st (with_both_ids g c k t0 t e h) apart m = calm_or_rese
 from_stage s p row fits st (awaiting_answer v g c k t0 t1 t2 x h) apart m = calm_or_reset s p row st (calm_bus p _ _ _ _ h.here.stands refl) m (λ a l. from_asking s p v g c k t0 t1 t2 x row fits a h l)
 from_stage s p row fits st (after_withdrawal v g c k t0 t1 t2 t3 e h) apart m = calm_or_reset s p row st (calm_bus p _ _ _ _ h.stands refl) m (λ a l. from_withdrawn s p v g c k t0 t1 t2 t3 row a e h l)
 from_stage s p row fits st (after_answer g c k t0 t1 t2 t3 x h) apart m = calm_or_reset s p row st (calm_bus p _ _ _ _ h.here.stands refl) m (λ a l. from_answered s p g c k t0 t1 t2 t3 x row a h l)
-from_stage s p row fits st (after_takeover c k t0 t1 t2 t3 t4 x e h) apart m = calm_or_reset s p row st (calm_bus p _ _ _ _ h.here.stands refl) m (λ a l. from_resumed s p c k t0 t1 t2 t3 t4 x row a e h l)
+from_stage s p row fits st (after_takeover c k t0 t1 t2 t3 t4 x e f h) apart m = calm_or_reset s p row st (calm_bus p _ _ _ _ h.here.stands refl) m (λ a l. from_resumed s p c k t0 t1 t2 t3 t4 x row a e f h l)
 from_stage s p row fits st (in_reset h) apart m = from_reset s p row fits st h m
-from_stage s p row fits st (in_connection n e calm) apart m = let w = sym apart ∙ (λ i. is_some (e i) && not (calm i)) in absurd cc
+from_stage s p row fits st (in_connection n e calm h) apart m = let w = sym apart ∙ (λ i. is_some (e i) && not (calm i)) in absurd cc

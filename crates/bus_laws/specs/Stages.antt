@@ -23,6 +23,7 @@ use Rattle.bus_rules.specs.Reset.{only_rst}
 use Rattle.bus_due.specs.Own.{own_of}
 use Rattle.bus_due.specs.Next.{due}
 use Rattle.bus_laws.specs.Rows.{Stands}
+use Rattle.bus_laws.specs.Ends.{BeginsConnection}
 use Rattle.bus_laws.specs.Callings.{arbitration_bus, won_bus, both_ids, begun_call, calling_lines, answer_lines, awaiting_call, withdrawn_call, answered_calling, resumed_calling}
 
 -- No device of the scenario has a latency above 100 ns.
@@ -140,9 +141,9 @@ pub data BusStage (s : ScenarioValue) (p : List Row) : Type 0 where
   awaiting_answer : (v m : Bool) (c k t0 t1 t2 x : ℕ) → AwaitsAnswer s p v m c k t0 t1 t2 x → BusStage s p
   after_withdrawal : (v m : Bool) (c k t0 t1 t2 t3 : ℕ) → own_time p c ≡ t3 → Calls s p (withdrawn_call v m c k t0 t1 t2 t3) c k (calling_lines m false 0) none (calling_lines m false 0) → BusStage s p
   after_answer : (m : Bool) (c k t0 t1 t2 t3 x : ℕ) → IsAnswered s p (answered_calling m k t1 t2 t3) c k t0 m false x → BusStage s p
-  after_takeover : (c k t0 t1 t2 t3 t4 x : ℕ) → own_time p c ≡ t4 → IsAnswered s p (resumed_calling k t1 t2 t3 t4) c k t0 false true x → BusStage s p
+  after_takeover : (c k t0 t1 t2 t3 t4 x : ℕ) → own_time p c ≡ t4 → since_line (λ z. z.io) p ≤ t4 → IsAnswered s p (resumed_calling k t1 t2 t3 t4) c k t0 false true x → BusStage s p
   in_reset : UnderRst s p → BusStage s p
-  in_connection : (n : Connection) → connection p ≡ Some n → (bus p).rst ≡ false → BusStage s p
+  in_connection : (n : Connection) → connection p ≡ Some n → (bus p).rst ≡ false → BeginsConnection p n → BusStage s p
 
 -- What a row does that is the first due, resets apart. What is due once a connection stands is not said here.
 pub record NextCalmRow (s : ScenarioValue) (p : List Row) (row : Row) : Type 0 where

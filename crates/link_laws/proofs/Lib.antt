@@ -1,0 +1,19 @@
+pub mod Moves
+pub mod LinkSeen
+pub mod Duties
+pub mod LinkObeys
+pub mod FaultObeys
+pub mod EndDues
+pub mod StageDues
+pub mod Ahead
+pub mod Goes
+pub mod Shakes
+pub mod Leaves
+pub mod EdgeObeys
+pub mod Enters
+pub mod Asks
+pub mod Faults
+pub mod PhaseEnds
+pub mod FromLink
+pub mod Traces
+mod Cases

@@ -1,0 +1,187 @@
+-- Rows of prompt traces, connections and all.
+use Rattle.std.proofs.Common.{◌≡◌, ◌≤◌, Bool, true, false, not, ◌&&◌, ◌∙◌, List, [], ◌∷◌, Some, None, refl, sym, ap, subst, arith}
+use Rattle.std.specs.Prelude.{is_some}
+use Rattle.std.proofs.lemmas.Bool.{and_parts}
+use Rattle.bus_trace.specs.LineSet.{LineSet, data_of}
+use Rattle.bus_trace.specs.declared.Row.{Row}
+use Rattle.bus_trace.specs.declared.connection.Connection.{Connection}
+use Rattle.bus_trace.specs.Changes.{implies}
+use Rattle.bus_trace.specs.Trace.{bus, last_time, since, line_times, phase_time}
+use Rattle.bus_trace.specs.Terms.{connection}
+use Rattle.bus_trace.proofs.Ages.{since_le}
+use Rattle.bus_phases.specs.declared.attention.Duty.{Duty}
+use Rattle.bus_rules.specs.Rules.{broken_rule}
+use Rattle.scenario.specs.Value.{ScenarioValue}
+use Rattle.bus_due.specs.Next.{due, next, IsPrompt}
+use Rattle.bus_due.specs.Least.{IsLeast}
+use Rattle.bus_due.specs.Plain.{AreOfDevices}
+use Rattle.bus_laws.specs.Ends.{BeginsConnection, by_selection, by_reselection}
+use Rattle.bus_laws.specs.Stages.{HasShortLatencies, BusStage, on_free_bus, in_arbitration, after_arbitration, with_both_ids, awaiting_answer, after_withdrawal, after_answer, after_takeover, in_reset, in_connection, Standing, NextRow, is_connected}
+use Rattle.bus_laws.proofs.Tests.{and_false}
+use Rattle.bus_laws.proofs.Prompt.{least_is}
+use Rattle.bus_laws.proofs.ResetSteps.{raises}
+use Rattle.bus_laws.proofs.Together.{standing_first, stage_first, standing_after, standing_next, from_stage, ahead_with_resets, by_reset, by_calm, reset_or_calm}
+use Rattle.link_laws.specs.Books.{has_odd_byte, has_whole_messages, has_whole_command, is_byte_by_byte, KeepsBooksIn, in_connections, have_odd_bytes, have_whole_messages, have_whole_commands, go_byte_by_byte}
+use Rattle.link_laws.specs.Phases.{fits_duty, is_owed_out, LinkStage, when_selected, when_settling, when_turning, when_offering, when_shaking}
+use Rattle.link_laws.proofs.Ahead.{stage_ahead}
+use Rattle.link_laws.proofs.Enters.{below_differs}
+use Rattle.link_laws.proofs.PhaseEnds.{AfterLink, goes_on, frees}
+use Rattle.link_laws.proofs.FromLink.{from_link}
+
+-- What stands after some rows: one of the stages without a connection, or one of a connection.
+pub data AnyStage (s : ScenarioValue) (p : List Row) : Type 0 where
+  apart : BusStage s p → is_connected p ≡ false → AnyStage s p
+  linked : (n : Connection) → LinkStage s p n → AnyStage s p
+
+-- What the next row does.
+pub record NextAny (s : ScenarioValue) (p : List Row) (row : Row) : Type 0 where
+  pub obeys : broken_rule p row ≡ None
+  pub standing : Standing s (row ∷ p)
+  pub here : AnyStage s (row ∷ p)
+
+-- ---- a connection begins
+
+first_stage : (s : ScenarioValue) (p : List Row) (n : Connection) → since data_of p ≤ last_time p → BeginsConnection p n → LinkStage s p n
+first_stage s p n past (by_selection h) = when_selected h
+first_stage s p n past (by_reselection y h) = when_settling true false true true true y (record {
+  linked = h.linked;
+  phase = record {
+    begun_is = h.begun_is;
+    began = let u = h.began in let w = h.msg_age in omega arith;
+    known = refl;
+    asks = refl;
+    owes = ap (λ (d : Duty). fits_duty d false true) h.duty_is;
+  };
+  quiet = h.handshakes_are;
+  pulses_are = h.pulses_are;
+  receiver_is = h.receiver_is;
+  unturned = below_differs (line_times p).io (phase_time (line_times p)) (let u = h.io_age in let w = h.msg_age in omega arith);
+  duty_is = ap (λ (d : Duty). is_owed_out d true) h.duty_is;
+  side = refl;
+  turned = λ a b. let w = sym a ∙ h.turned_is in absurd cc;
+  driven = let w = h.msg_age in omega arith;
+  fresh = let w = h.msg_age in omega arith;
+  hands = λ b. let u = h.sel_age in let w = h.msg_age in (refl, omega arith, omega arith);
+})
+
+record Begun (s : ScenarioValue) (p : List Row) : Type 0 where
+  pub n : Connection
+  pub calm : (bus p).rst ≡ false
+  pub begins : BeginsConnection p n
+
+not_apart : (s : ScenarioValue) (p : List Row) → connection p ≡ None → is_connected p ≡ true → Begun s p
+not_apart s p e z = let w = sym z ∙ (λ i. is_some (e i) && not (bus p).rst) in absurd cc
+
+connected_begins : (s : ScenarioValue) (p : List Row) → BusStage s p → is_connected p ≡ true → Begun s p
+connected_begins s p (on_free_bus h) z = not_apart s p h.stands.connection_is z
+connected_begins s p (in_arbitration a h) z = not_apart s p h.stands.connection_is z
+connected_begins s p (after_arbitration c t h) z = not_apart s p h.stands.connection_is z
+connected_begins s p (with_both_ids m c k t0 t e h) z = not_apart s p h.stands.connection_is z
+connected_begins s p (awaiting_answer v m c k t0 t1 t2 x h) z = not_apart s p h.here.stands.connection_is z
+connected_begins s p (after_withdrawal v m c k t0 t1 t2 t3 e h) z = not_apart s p h.stands.connection_is z
+connected_begins s p (after_answer m c k t0 t1 t2 t3 x h) z = not_apart s p h.here.stands.connection_is z
+connected_begins s p (after_takeover c k t0 t1 t2 t3 t4 x e f h) z = not_apart s p h.here.stands.connection_is z
+connected_begins s p (in_reset h) z = let w = sym z ∙ (λ i. is_some (connection p) && not (h.reset i)) ∙ and_false (is_some (connection p)) in absurd cc
+connected_begins s p (in_connection n e calm h) z = record { n = n; calm = calm; begins = h }
+
+-- ---- any row
+
+-- What stands after a row that leaves one of these stages.
+after_stage : (s : ScenarioValue) (p : List Row) (row : Row) → Standing s p → IsLeast (due s p) 8 row → NextRow s p row → NextAny s p row
+after_stage s p row st m g = go (is_connected (row ∷ p)) refl
+  where
+    go : (q : Bool) → is_connected (row ∷ p) ≡ q → NextAny s p row
+    go false alone = record { obeys = g.obeys; standing = standing_next s p row st m g alone; here = apart g.here alone }
+    go true stood =
+        let b = connected_begins s (row ∷ p) g.here stood in
+        let order = g.order in
+        let past = st.seen_past data_of in
+        let here = first_stage s (row ∷ p) b.n (since_le data_of row p (omega arith)) b.begins in
+        let devices : AreOfDevices (row ∷ p) = (m.inside, st.devices) in
+        record {
+          obeys = g.obeys;
+          standing = standing_after s p row st m g.order g.obeys (ahead_with_resets s p row st m b.calm (λ d lt x e. stage_ahead s (row ∷ p) b.n devices here d x e));
+          here = linked b.n here;
+        }
+
+link_calm : (s : ScenarioValue) (p : List Row) (n : Connection) → LinkStage s p n → (bus p).rst ≡ false
+link_calm s p n (when_selected h) = ap (λ (l : LineSet). l.rst) h.linked.stands.bus_is
+link_calm s p n (when_settling bsy atn msg cd io y h) = ap (λ (l : LineSet). l.rst) h.linked.stands.bus_is
+link_calm s p n (when_turning atn x msg cd h) = ap (λ (l : LineSet). l.rst) h.linked.stands.bus_is
+link_calm s p n (when_offering atn msg cd y h) = ap (λ (l : LineSet). l.rst) h.linked.stands.bus_is
+link_calm s p n (when_shaking msg cd io req ack atn x y h) = ap (λ (l : LineSet). l.rst) h.linked.stands.bus_is
+
+from_linked : (s : ScenarioValue) (p : List Row) (row : Row) (n : Connection) → HasShortLatencies s → Standing s p → LinkStage s p n → KeepsBooksIn p row → IsLeast (due s p) 8 row → NextAny s p row
+from_linked s p row n fits st h books m =
+    elim (reset_or_calm s p row st calm m) [
+      | by_reset e ↦ after_stage s p row st m (subst (λ (w : Row). NextRow s p w) (sym e) (raises s p row.time row.dev st calm (subst (λ (w : Row). IsLeast (due s p) 8 w) e m)))
+      | by_calm always least ↦ after (from_link s p row n fits always st.there h books least)
+    ]
+  where
+    calm : (bus p).rst ≡ false
+    calm = link_calm s p n h
+
+    after : AfterLink s p row n → NextAny s p row
+    after (goes_on g) =
+        let devices : AreOfDevices (row ∷ p) = (m.inside, st.devices) in
+        record {
+          obeys = g.obeys;
+          standing = standing_after s p row st m g.order g.obeys (ahead_with_resets s p row st m (link_calm s (row ∷ p) n g.stage) (λ d lt x e. stage_ahead s (row ∷ p) n devices g.stage d x e));
+          here = linked n g.stage;
+        }
+    after (frees g) =
+        record {
+          obeys = g.obeys;
+          standing = standing_after s p row st m g.order g.obeys (ahead_with_resets s p row st m (ap (λ (l : LineSet). l.rst) g.here.stands.bus_is) g.ahead);
+          here = apart (on_free_bus g.here) (λ i. is_some (g.here.stands.connection_is i) && not (bus (row ∷ p)).rst);
+        }
+
+-- The next row, whatever stands.
+from_any : (s : ScenarioValue) (p : List Row) (row : Row) → HasShortLatencies s → Standing s p → AnyStage s p → KeepsBooksIn p row → IsLeast (due s p) 8 row → NextAny s p row
+from_any s p row fits st (apart h alone) books m = after_stage s p row st m (from_stage s p row fits st h alone m)
+from_any s p row fits st (linked n h) books m = from_linked s p row n fits st h books m
+
+-- ---- all rows
+
+pub record Books (p : List Row) : Type 0 where
+  pub bytes : have_odd_bytes p ≡ true
+  pub messages : have_whole_messages p ≡ true
+  pub commands : have_whole_commands p ≡ true
+  pub slow : go_byte_by_byte p ≡ true
+
+implied : (q r : Bool) → implies q r ≡ true → q ≡ true → r ≡ true
+implied true r e f = e
+implied false r e f = absurd cc
+
+books_before : (p : List Row) (row : Row) → Books (row ∷ p) → Books p
+books_before p row b = record {
+  bytes = (and_parts _ _ b.bytes).0;
+  messages = (and_parts _ _ b.messages).0;
+  commands = (and_parts _ _ b.commands).0;
+  slow = (and_parts _ _ b.slow).0;
+}
+
+books_at : (p : List Row) (row : Row) → Books (row ∷ p) → KeepsBooksIn p row
+books_at p row b now = record {
+  byte = implied _ _ (and_parts (in_connections has_odd_byte p) _ b.bytes).1 now;
+  messages = implied _ _ (and_parts (in_connections has_whole_messages p) _ b.messages).1 now;
+  command = implied _ _ (and_parts (in_connections has_whole_command p) _ b.commands).1 now;
+  slow = implied _ _ (and_parts (in_connections is_byte_by_byte p) _ b.slow).1 now;
+}
+
+pub record Stood (s : ScenarioValue) (p : List Row) : Type 0 where
+  pub standing : Standing s p
+  pub here : AnyStage s p
+
+pub stood : (s : ScenarioValue) → HasShortLatencies s → (p : List Row) → IsPrompt s p → Books p → Stood s p
+stood s fits [] prompt b = record { standing = standing_first s; here = apart (stage_first s) refl }
+stood s fits (row ∷ p) prompt b =
+    let was = stood s fits p prompt.0 (books_before p row b) in
+    let g = from_any s p row fits was.standing was.here (books_at p row b) (least_is s p row prompt.1) in
+    record { standing = g.standing; here = g.here }
+
+-- The next row obeys all rules where what it says does.
+pub obeys_next : (s : ScenarioValue) → HasShortLatencies s → (p : List Row) (row : Row) → IsPrompt s p → Books p → KeepsBooksIn p row → next s p ≡ Some row → broken_rule p row ≡ None
+obeys_next s fits p row prompt b books e =
+    let was = stood s fits p prompt b in
+    (from_any s p row fits was.standing was.here books (least_is s p row e)).obeys
