@@ -1,4 +1,4 @@
-mod Cases
+pub mod Cases
 mod Hearings
 mod Items
 pub mod Leasts

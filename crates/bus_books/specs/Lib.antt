@@ -1,0 +1,6 @@
+pub mod Listening
+pub mod Accounts
+pub mod Tests
+pub mod Rows
+pub mod Speaking
+pub mod Items
