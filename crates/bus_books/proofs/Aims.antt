@@ -1,5 +1,5 @@
 -- What a device calls for is an item of the scenario, after any rows.
-use Rattle.std.proofs.Common.{ℕ, zero, suc, ◌≡◌, ◌+◌, Bool, true, false, not, ◌&&◌, ◌||◌, ◌∙◌, List, [], ◌∷◌, ◌++◌, Option, Some, None, refl, sym, ap, subst, arith, true≢false}
+use Rattle.std.proofs.Common.{ℕ, zero, suc, ◌≡◌, ◌+◌, Bool, true, false, not, ◌&&◌, ◌∙◌, List, [], ◌∷◌, ◌++◌, Option, Some, None, refl, sym, ap, subst, arith}
 use Rattle.std.specs.Prelude.{if◌then◌else◌, ◌==◌, nat_le, slice_set, is_some, is_none}
 use Rattle.std.specs.List.{list_any}
 use Rattle.bus_base.specs.declared.ProcId.{ProcId}
@@ -18,16 +18,16 @@ use Rattle.cdb_codec.specs.declared.status.TheConstants.{CHECK_CONDITION}
 use Rattle.scenario.specs.declared.value.CmdDef.{CmdDef}
 use Rattle.scenario.specs.declared.value.AbortDef.{AbortDef}
 use Rattle.scenario.specs.Value.{ScenarioValue}
-use Rattle.disk_array.specs.Processes.{Process, process_of, process_if, process_by, command_at}
+use Rattle.disk_array.specs.Processes.{process_if, process_by, command_at}
 use Rattle.bus_story.specs.BusState.{RowReading, row_reading}
 use Rattle.bus_story.specs.CarriedBytes.{CarriedBytes}
 use Rattle.bus_story.specs.Items.{Item, process, abort, command_item, sense_item, Sent, is_done, is_open, abort_from, is_of_host, sense_from, may_send, open_from, command_from, or_else, item_at}
-use Rattle.bus_story.specs.Links.{Link, link_of, link_after_name, last_in}
+use Rattle.bus_story.specs.Links.{Link, link_of, link_after_name}
 use Rattle.bus_story.specs.HistoryEvents.{abort_line_at, carried_if, row_events_by}
 use Rattle.bus_story.specs.Story.{Story, empty_story, Ending, by_abort, by_reset, is_aborted, is_sense_stopped, story_with_ends, story_with_end, story_with_over, story_after_event, story_after_events, with_check}
-use Rattle.bus_story.specs.TraceHistory.{is_host, is_counted, retries_of, aim_of, is_arbitration_entry, story_with_aim, story_without_answer, story_with_try, story_after_calling_by, story_after_calling, story_on_free_bus, story_with_restored, story_with_sent, story_after_connection, story_with_carried, story_after_out, story_after_message, story_after_name, story_after_in, story_after_byte, story_after_fault, story_after_crossing, story_in_connection, story_on_bus, story_by_change, is_parity_error, carried_after_message_if, carried_after_byte_if, carried_after_fault_if}
+use Rattle.bus_story.specs.TraceHistory.{is_host, aim_of, is_arbitration_entry, story_with_aim, story_without_answer, story_with_try, story_after_calling_by, story_after_calling, story_on_free_bus, story_with_restored, story_with_sent, story_after_connection, story_with_carried, story_after_out, story_after_in, story_after_byte, story_after_fault, story_in_connection, story_on_bus, story_by_change, is_parity_error, carried_after_byte_if, carried_after_fault_if}
 use Rattle.bus_due.specs.RunState.{RunState}
-use Rattle.bus_due.specs.RunSteps.{first_run_state, run_state, run_state_after}
+use Rattle.bus_due.specs.RunSteps.{run_state, run_state_after}
 use Rattle.bus_books.specs.Items.{IsItem, is_process, is_abort, AimsAreItems}
 
 -- ---- what an initiator sends next is of the scenario
@@ -45,10 +45,13 @@ aborts_are s b dev time j (a ∷ aborts) h =
   where
     one_more : (n : ℕ) → suc (suc n) ≡ suc n + 1
     one_more n = omega arith
+
     moved : (n m : ℕ) → n + suc m ≡ suc n + m
     moved n m = omega arith
+
     same : (n : ℕ) → n + 0 ≡ n
     same n = omega arith
+
     go : (q : Bool) → IsItemIf s (abort_from b dev time (suc j + 1) aborts) → IsItemIf s (if q then Some (abort (suc j)) else abort_from b dev time (suc j + 1) aborts)
     go true rest = is_abort (suc j) a (ap (λ (n : ℕ). abort_line_at s.aborts (suc n)) (sym (same j)) ∙ sym (h 0))
     go false rest = rest
@@ -62,10 +65,13 @@ commands_are s b dev time j (c ∷ commands) h =
   where
     one_more : (n : ℕ) → suc (suc n) ≡ suc n + 1
     one_more n = omega arith
+
     moved : (n m : ℕ) → n + suc m ≡ suc n + m
     moved n m = omega arith
+
     same : (n : ℕ) → n + 0 ≡ n
     same n = omega arith
+
     go : (q r : Bool) → IsItemIf s (command_from s b dev time (suc j + 1) commands) → IsItemIf s (if q then if r then Some (command_item (suc j)) else None else command_from s b dev time (suc j + 1) commands)
     go true true rest =
         is_process (record { command = suc j; sense = false }) (process_by s (record { command = suc j; sense = false }) c)
@@ -80,6 +86,7 @@ senses_are s b dev (n ∷ checks) = go (senses_are s b dev checks) (command_at s
     later : (q : Bool) → IsItemIf s (sense_from s b dev checks) → (q ≡ true → IsItem s (sense_item n)) → IsItemIf s (if q then Some (sense_item n) else sense_from s b dev checks)
     later true rest own = own refl
     later false rest own = rest
+
     go : IsItemIf s (sense_from s b dev checks) → (c : Option CmdDef) → command_at s.commands n ≡ c → IsItemIf s (if is_of_host (command_at s.commands n) dev && not (is_done b (sense_item n)) then Some (sense_item n) else sense_from s b dev checks)
     go rest None e =
         subst (λ (x : Option CmdDef). IsItemIf s (if is_of_host x dev && not (is_done b (sense_item n)) then Some (sense_item n) else sense_from s b dev checks)) (sym e) rest

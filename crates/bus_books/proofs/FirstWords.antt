@@ -1,5 +1,5 @@
 -- A connection begins: what the initiator says first is what it was made for.
-use Rattle.std.proofs.Common.{ℕ, zero, suc, ◌≡◌, ◌<◌, Bool, true, false, not, ◌&&◌, ◌∙◌, List, [], ◌∷◌, ◌++◌, Option, Some, None, refl, sym, ap, subst, true≢false}
+use Rattle.std.proofs.Common.{ℕ, ◌≡◌, ◌<◌, Bool, true, false, not, ◌&&◌, ◌∙◌, List, [], ◌∷◌, Option, Some, None, refl, sym, ap, subst, true≢false}
 use Rattle.std.specs.Prelude.{if◌then◌else◌}
 use Rattle.bus_base.specs.declared.ProcId.{ProcId}
 use Rattle.bus_trace.specs.LineSet.{LineSet}
@@ -12,10 +12,8 @@ use Rattle.scenario.specs.declared.value.AbortDef.{AbortDef}
 use Rattle.scenario.specs.Value.{ScenarioValue}
 use Rattle.disk_array.specs.Processes.{Process, process_of, process_if, process_by, command_at}
 use Rattle.bus_story.specs.BusState.{row_reading}
-use Rattle.bus_story.specs.Items.{Item, process, abort}
-use Rattle.bus_story.specs.HistoryEvents.{abort_line_at}
+use Rattle.bus_story.specs.Items.{Item}
 use Rattle.bus_story.specs.TraceHistory.{aim_of}
-use Rattle.bus_dialogue.specs.declared.exchange.Leaving.{Leaving}
 use Rattle.bus_dialogue.specs.declared.exchange.Cause.TheVariants as causes
 use Rattle.bus_dialogue.specs.Planning.{first_plan}
 use Rattle.bus_dialogue.specs.Exchange.{Exchange, no_messages}
@@ -28,7 +26,7 @@ use Rattle.scsi_device.specs.Lines.{AreUnits}
 use Rattle.bus_books.specs.Listening.{nothing_understood, form_messages}
 use Rattle.bus_books.specs.Items.{IsItem, is_process, is_abort, AimsAreItems}
 use Rattle.bus_books.specs.Rows.{IsFirstRow}
-use Rattle.bus_books.specs.Speaking.{IsAboutToSpeak, SpeaksBy, Speaks}
+use Rattle.bus_books.specs.Speaking.{SpeaksBy, Speaks}
 use Rattle.bus_books.proofs.Reading.{opening_reads, abort_opening_reads}
 
 -- ---- the units that processes and aborts name
@@ -46,6 +44,7 @@ process_unit s id p u e = go (command_at s.commands id.command) refl
     by : (c : CmdDef) (sense : Bool) → (process_by s (record { command = id.command; sense = sense }) c).unit ≡ c.unit
     by c true = refl
     by c false = refl
+
     go : (c : Option CmdDef) → command_at s.commands id.command ≡ c → p.unit < 8
     go None f = absurd (none_some p (sym (ap (λ (x : Option CmdDef). process_if s id x) f) ∙ e))
     go (Some c) f =
@@ -107,6 +106,7 @@ by_way s k n item d b false e u out known =
     cause : (r : Bool) → (first_plan r (not r && may_negotiate k n item) (if r then messages_if (ready_of s k n.target) else no_messages)).cause ≡ causes.Selected
     cause true = refl
     cause false = refl
+
     negotiated : (r : Bool) → r ≡ false → (first_plan r (not r && may_negotiate k n item) (if r then messages_if (ready_of s k n.target) else no_messages)).negotiates ≡ may_negotiate k n item
     negotiated true f = absurd (true≢false f)
     negotiated false f = refl

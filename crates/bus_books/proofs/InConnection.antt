@@ -1,5 +1,5 @@
 -- A row in a connection that stands before and after it: what it makes of what is kept.
-use Rattle.std.proofs.Common.{ℕ, ◌≡◌, Bool, true, false, not, ◌&&◌, ◌||◌, ◌∙◌, List, [], ◌∷◌, Option, Some, None, refl, sym, ap, true≢false}
+use Rattle.std.proofs.Common.{◌≡◌, Bool, true, false, not, ◌&&◌, ◌||◌, ◌∙◌, Option, Some, None, refl, sym, ap, true≢false}
 use Rattle.std.specs.Prelude.{if◌then◌else◌, is_some}
 use Rattle.bus_trace.specs.LineSet.{LineSet, same}
 use Rattle.bus_trace.specs.declared.Row.{Row}
@@ -7,13 +7,13 @@ use Rattle.bus_trace.specs.declared.changes.Change.{Change}
 use Rattle.bus_trace.specs.declared.connection.Connection.{Connection}
 use Rattle.bus_trace.specs.Changes.{same_phase}
 use Rattle.bus_trace.specs.Terms.{is_fault, connection_after, receiver_in, receiver_of}
-use Rattle.bus_trace.specs.Phases.{changes_phase, is_message_out}
+use Rattle.bus_trace.specs.Phases.{changes_phase}
 use Rattle.bus_phases.specs.declared.dialogue.Dialogue.{Dialogue}
-use Rattle.bus_phases.specs.Dialogue.{dialogue_after, dialogue_on, byte_crosses, phase_begins}
+use Rattle.bus_phases.specs.Dialogue.{dialogue_after, byte_crosses, phase_begins}
 use Rattle.scenario.specs.declared.value.HostDef.{HostDef}
 use Rattle.scenario.specs.Value.{ScenarioValue}
 use Rattle.bus_story.specs.PairAgreements.{agreement_in}
-use Rattle.bus_story.specs.BusState.{RowReading, row_reading, message_out, message_in}
+use Rattle.bus_story.specs.BusState.{row_reading, message_out, message_in}
 use Rattle.bus_dialogue.specs.declared.exchange.Hearing.{Hearing}
 use Rattle.bus_dialogue.specs.declared.exchange.Leaving.{Leaving}
 use Rattle.bus_dialogue.specs.Exchange.{Exchange, struck_plan}
@@ -23,8 +23,8 @@ use Rattle.bus_lines.specs.Handshakes.{handshakes_after}
 use Rattle.bus_due.specs.RunState.{RunState}
 use Rattle.bus_due.specs.Defs.{host_of}
 use Rattle.bus_due.specs.Sights.{hearing_of, leaving}
-use Rattle.bus_due.specs.RunSteps.{run_state_after, exchange_after, exchange_on, served_after, leaving_of}
-use Rattle.bus_books.specs.Rows.{RowKind, still, strikes, crosses, turns, IsRowIn, reading_in}
+use Rattle.bus_due.specs.RunSteps.{run_state_after, exchange_after, served_after, leaving_of}
+use Rattle.bus_books.specs.Rows.{IsRowIn, reading_in}
 
 pub reading_is : (k : RunState) (row : Row) (n : Connection) (c : Change) (q : Bool) → IsRowIn k row n c → is_some (receiver_in n c) ≡ q → row_reading k.story.bus_state row ≡ reading_in k.story.bus_state n c q
 reading_is k row n c q h e =

@@ -8,3 +8,12 @@ pub mod Speaks
 pub mod Aims
 pub mod FirstWords
 pub mod Opened
+pub mod Areas
+pub mod Lookups
+pub mod Carried
+pub mod CarriedRows
+pub mod Blocks
+pub mod Leavings
+pub mod Gives
+pub mod Given
+pub mod CarriedBlocks

@@ -1,13 +1,11 @@
 -- What the target has heard as MESSAGE OUT is left, and what a byte of it makes.
-use Rattle.std.proofs.Common.{ℕ, ◌≡◌, Bool, true, false, not, ◌&&◌, ◌||◌, ◌∙◌, List, [], ◌∷◌, ◌++◌, Option, Some, None, refl, sym, ap, true≢false}
+use Rattle.std.proofs.Common.{ℕ, ◌≡◌, Bool, true, false, ◌||◌, ◌∙◌, List, [], ◌∷◌, ◌++◌, Option, Some, None, refl, ap}
 use Rattle.std.specs.Prelude.{if◌then◌else◌, is_some, ◌%◌}
-use Rattle.bus_base.specs.declared.ProcId.{ProcId}
 use Rattle.bus_trace.specs.declared.changes.Change.{Change}
 use Rattle.bus_trace.specs.declared.connection.Connection.{Connection}
 use Rattle.bus_trace.specs.Terms.{receiver_in}
 use Rattle.bus_trace.specs.Phases.{is_message_out, is_message_in}
 use Rattle.bus_phases.specs.declared.dialogue.Dialogue.{Dialogue}
-use Rattle.bus_phases.specs.declared.reading.Reading.{Reading}
 use Rattle.bus_phases.specs.declared.reading.Reading.TheVariants as readings
 use Rattle.bus_phases.specs.Reading.{reading_out, reading_in, reading_of}
 use Rattle.msg_grammar.specs.Messages.{got_out, got_in}
@@ -26,9 +24,9 @@ use Rattle.bus_due.specs.Faithful.{is_process_named, is_abort_named, is_item_nam
 use Rattle.bus_due.specs.RunState.{RunState, bus_of}
 use Rattle.scsi_device.specs.Lines.{AreUnits}
 use Rattle.bus_books.specs.Listening.{Understanding, nothing_understood, understood, understanding}
-use Rattle.bus_books.specs.Speaking.{AreWordsFor, opens, refuses, answers, rejects_data, rejects_status, IsSpeaking, Speaks, SaysNext}
+use Rattle.bus_books.specs.Speaking.{AreWordsFor, opens, refuses, answers, rejects_data, rejects_status, Speaks, SaysNext}
 use Rattle.bus_books.proofs.Openings.{opening_heard, abort_heard}
-use Rattle.bus_books.proofs.Reading.{Reads, reads_byte}
+use Rattle.bus_books.proofs.Reading.{reads_byte}
 use Rattle.bus_books.proofs.FirstWords.{process_unit}
 
 or_true : (q : Bool) → (q || true) ≡ true
@@ -81,6 +79,7 @@ out_is_known s k n c h eb ec eo says = go (is_some (receiver_in n c)) refl
   where
     half : List ℕ
     half = k.story.bus_state.dialogue.half
+
     go : (q : Bool) → is_some (receiver_in n c) ≡ q → is_unknown (reading_of k.story.bus_state.dialogue.half (Some n) c) ≡ false
     go false e =
         ap (λ (q : Bool). is_unknown (if q then if is_message_out c.before then reading_out (got_out (k.story.bus_state.dialogue.half ++ c.after.data_bits % 256 ∷ [])) else if is_message_in c.before then reading_in (got_in (k.story.bus_state.dialogue.half ++ c.after.data_bits % 256 ∷ [])) else readings.NoMessage else readings.NoMessage)) e

@@ -1,7 +1,6 @@
 -- What a target makes of whole messages, and of the opening.
-use Rattle.std.proofs.Common.{ℕ, ◌≡◌, ◌<◌, ◌+◌, zero, suc, Bool, true, false, not, ◌&&◌, ◌∙◌, List, [], ◌∷◌, ◌++◌, length, Option, Some, None, refl, sym, ap, subst, arith, append-nil}
-use Rattle.std.specs.Prelude.{if◌then◌else◌, ◌==◌, nat_lt, is_none}
-use Rattle.bus_trace.specs.declared.agreements.Agreement.{Agreement}
+use Rattle.std.proofs.Common.{ℕ, ◌≡◌, ◌<◌, zero, suc, Bool, true, false, not, ◌&&◌, ◌∙◌, [], ◌++◌, Option, Some, None, refl, ap, arith}
+use Rattle.std.specs.Prelude.{if◌then◌else◌, nat_lt, is_none}
 use Rattle.msg_grammar.specs.declared.message.MsgOut.{MsgOut}
 use Rattle.msg_grammar.specs.declared.message.MsgOut.TheVariants as to_target
 use Rattle.msg_grammar.specs.Messages.{form_out, out_bytes, FitsOut}
@@ -14,9 +13,9 @@ use Rattle.scenario.specs.declared.value.Tag.TheVariants as tags
 use Rattle.disk_array.specs.Processes.{Process}
 use Rattle.bus_dialogue.specs.declared.exchange.Said.{Said}
 use Rattle.bus_dialogue.specs.Exchange.{nothing_heard, said_with}
-use Rattle.bus_dialogue.specs.Words.{process_opening, abort_opening, abort_bytes, tag_bytes, offer_if, offer_by}
+use Rattle.bus_dialogue.specs.Words.{process_opening, abort_opening, abort_bytes, tag_bytes, offer_if}
 use Rattle.bus_due.specs.Faithful.{is_process_named, is_abort_named, is_kind, is_unit, same_tag}
-use Rattle.bus_books.specs.Listening.{Understanding, nothing_understood, understood_byte, understood}
+use Rattle.bus_books.specs.Listening.{Understanding, nothing_understood, understood}
 use Rattle.bus_books.proofs.Lists.{understood_append, eq_self}
 
 abbrev after : Said → Understanding
@@ -85,14 +84,15 @@ opening_heard h negotiates p lt =
     let m : MsgOut = to_target.Identify (not p.id.sense) p.unit in
     let one : Said = said_with m nothing_heard in
     let two = hears_tag p.tag one refl in
-    let three = hears_offer negotiates h two.0 in
-    (three.0,
-        understood_append nothing_understood (out_bytes m) (tag_bytes p.tag ++ offer_if negotiates h)
-        ∙ ap (λ (x : Understanding). understood x (tag_bytes p.tag ++ offer_if negotiates h)) (hears_message m nothing_heard lt)
-        ∙ understood_append (after one) (tag_bytes p.tag) (offer_if negotiates h)
-        ∙ ap (λ (x : Understanding). understood x (offer_if negotiates h)) two.1
-        ∙ three.1,
-        (λ i. is_none ((three.4 ∙ two.4) i) && is_unit ((three.2 ∙ two.2) i) p.unit && same_tag (three.3 i) p.tag) ∙ (λ i. eq_self p.unit i && two.3 i))
+    let three = hears_offer negotiates h two.0 in (
+      three.0,
+      understood_append nothing_understood (out_bytes m) (tag_bytes p.tag ++ offer_if negotiates h)
+          ∙ ap (λ (x : Understanding). understood x (tag_bytes p.tag ++ offer_if negotiates h)) (hears_message m nothing_heard lt)
+          ∙ understood_append (after one) (tag_bytes p.tag) (offer_if negotiates h)
+          ∙ ap (λ (x : Understanding). understood x (offer_if negotiates h)) two.1
+          ∙ three.1,
+      (λ i. is_none ((three.4 ∙ two.4) i) && is_unit ((three.2 ∙ two.2) i) p.unit && same_tag (three.3 i) p.tag) ∙ (λ i. eq_self p.unit i && two.3 i),
+    )
 
 -- The opening of an abort names its unit, and what it aborts.
 abort_said : (what : AbortKind) (said : Said) → (x : Said) × (understood (after said) (abort_bytes what) ≡ after x) × (x.unit ≡ said.unit) × (is_kind x.aborts what ≡ true)
@@ -106,9 +106,10 @@ pub abort_heard : (a : AbortDef) → a.unit < 8 → (x : Said) × (understood no
 abort_heard a lt =
     let m : MsgOut = to_target.Identify false a.unit in
     let one : Said = said_with m nothing_heard in
-    let two = abort_said a.what one in
-    (two.0,
-        understood_append nothing_understood (out_bytes m) (abort_bytes a.what)
-        ∙ ap (λ (x : Understanding). understood x (abort_bytes a.what)) (hears_message m nothing_heard lt)
-        ∙ two.1,
-        (λ i. is_unit (two.2 i) a.unit && is_kind two.0.aborts a.what) ∙ (λ i. eq_self a.unit i && two.3 i))
+    let two = abort_said a.what one in (
+      two.0,
+      understood_append nothing_understood (out_bytes m) (abort_bytes a.what)
+          ∙ ap (λ (x : Understanding). understood x (abort_bytes a.what)) (hears_message m nothing_heard lt)
+          ∙ two.1,
+      (λ i. is_unit (two.2 i) a.unit && is_kind two.0.aborts a.what) ∙ (λ i. eq_self a.unit i && two.3 i),
+    )

@@ -1,6 +1,6 @@
 -- Rule 25 in MESSAGE OUT: the bytes form messages, and none is half sent as the phase is left.
-use Rattle.std.proofs.Common.{ℕ, ◌≡◌, ◌<◌, ◌+◌, zero, suc, Bool, true, false, not, ◌&&◌, ◌∙◌, List, [], ◌∷◌, ◌++◌, length, Option, Some, None, refl, sym, ap, subst, arith, append-nil, append_assoc, true≢false}
-use Rattle.std.specs.Prelude.{if◌then◌else◌, ◌==◌, nat_lt}
+use Rattle.std.proofs.Common.{ℕ, ◌≡◌, ◌<◌, zero, suc, Bool, true, false, not, ◌&&◌, ◌∙◌, List, [], ◌∷◌, ◌++◌, Option, Some, None, refl, sym, ap, arith, true≢false}
+use Rattle.std.specs.Prelude.{if◌then◌else◌, nat_lt}
 use Rattle.bus_trace.specs.declared.agreements.Agreement.{Agreement}
 use Rattle.msg_grammar.specs.declared.message.MsgOut.{MsgOut}
 use Rattle.msg_grammar.specs.declared.message.MsgOut.TheVariants as to_target
@@ -11,7 +11,7 @@ use Rattle.bus_phases.specs.declared.dialogue.Dialogue.{Dialogue}
 use Rattle.bus_phases.specs.Dialogue.{fresh_bytes, byte_out}
 use Rattle.bus_phases.specs.Half.{is_nil, left_of}
 use Rattle.bus_phases.specs.Reading.{reading_out}
-use Rattle.bus_rules.specs.Messages.{is_unknown, is_opening}
+use Rattle.bus_rules.specs.Messages.{is_unknown}
 use Rattle.scenario.specs.declared.value.HostDef.{HostDef}
 use Rattle.scenario.specs.declared.value.AbortDef.{AbortDef}
 use Rattle.scenario.specs.declared.value.Tag.{Tag}
@@ -20,8 +20,8 @@ use Rattle.disk_array.specs.Processes.{Process}
 use Rattle.bus_dialogue.specs.declared.exchange.Plan.{Plan}
 use Rattle.bus_dialogue.specs.declared.exchange.Said.{Said}
 use Rattle.bus_dialogue.specs.Exchange.{Speech, next_word, attends_with, speech_after_byte, nothing_heard, said_with}
-use Rattle.bus_dialogue.specs.Words.{process_opening, abort_opening, abort_bytes, tag_bytes, offer_if, parity_error, detected_error, answer_bytes, host_answer}
-use Rattle.bus_books.specs.Listening.{Understanding, nothing_understood, understood_byte, understood, form_messages, understanding_anew}
+use Rattle.bus_dialogue.specs.Words.{process_opening, abort_opening, abort_bytes, tag_bytes, offer_if, parity_error, detected_error, answer_bytes}
+use Rattle.bus_books.specs.Listening.{Understanding, nothing_understood, understood_byte, understood, form_messages}
 use Rattle.bus_books.specs.Speaking.{AreWordsHeard}
 use Rattle.bus_books.proofs.Lists.{understood_append}
 use Rattle.bus_books.proofs.Saying.{says_byte, says_more}
@@ -70,6 +70,7 @@ reads_on v p d byte h r e = record { whole = r.whole; half_is = go h.rest (says_
   where
     half_next : left_of (got_out (d.half ++ byte ∷ [])) (d.half ++ byte ∷ []) ≡ left_of (got_out (fresh_bytes d ++ byte ∷ [])) (fresh_bytes d ++ byte ∷ [])
     half_next = λ i. left_of (got_out (r.half_is i ++ byte ∷ [])) (r.half_is i ++ byte ∷ [])
+
     go : (rest : List ℕ) → attends_with v ≡ not (is_nil rest) → v.words ≡ h.before ++ h.byte ∷ rest → left_of (got_out (d.half ++ byte ∷ [])) (d.half ++ byte ∷ []) ≡ fresh_bytes (byte_out d byte (not (attends_with v)))
     go [] more words =
         half_next

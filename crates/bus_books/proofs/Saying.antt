@@ -1,5 +1,5 @@
 -- MESSAGE OUT: a byte crosses.
-use Rattle.std.proofs.Common.{ℕ, ◌≡◌, ◌+◌, Bool, true, false, not, List, [], ◌∷◌, ◌++◌, ◌∙◌, length, Option, refl, sym, ap, arith, append_assoc, length-append, true≢false}
+use Rattle.std.proofs.Common.{ℕ, ◌≡◌, ◌+◌, Bool, not, List, [], ◌∷◌, ◌++◌, ◌∙◌, length, Option, refl, sym, ap, append_assoc, length-append, true≢false}
 use Rattle.std.specs.Prelude.{slice_index_or, nat_lt, if◌then◌else◌}
 use Rattle.msg_grammar.specs.declared.message.MsgOut.{MsgOut}
 use Rattle.msg_grammar.specs.Messages.{got_out}
@@ -8,7 +8,7 @@ use Rattle.bus_phases.specs.Dialogue.{fresh_bytes, byte_out}
 use Rattle.bus_phases.specs.Half.{is_nil, left_of}
 use Rattle.bus_story.specs.BusState.{whole_out}
 use Rattle.bus_dialogue.specs.declared.exchange.Plan.{Plan}
-use Rattle.bus_dialogue.specs.Exchange.{Speech, next_word, attends_with, speech_after_byte, plan_after_message, said_with_if, plan_anew_if, struck_plan}
+use Rattle.bus_dialogue.specs.Exchange.{Speech, next_word, attends_with, speech_after_byte, plan_after_message, said_with_if, plan_anew_if}
 use Rattle.bus_books.specs.Listening.{Understanding, nothing_understood, understood_byte, understood, understanding, understanding_anew}
 use Rattle.bus_books.specs.Speaking.{AreWordsHeard}
 use Rattle.bus_books.proofs.Lists.{word_at, more_after, understood_append}
@@ -44,19 +44,28 @@ says_on v p d byte m h eb em = go h.rest refl
       where
         by : (before rest : List ℕ) → not (attends_with v) ≡ not (not (is_nil rest)) → attends_with v ≡ not (is_nil rest) → v.words ≡ before ++ byte ∷ rest → understanding (plan_after_message p d.is_last m) (byte_out d byte (not (attends_with v))) ≡ understood nothing_understood (before ++ byte ∷ []) → v.place ≡ length before → AreWordsHeard (speech_after_byte v) (plan_after_message p d.is_last m) (byte_out d byte (not (attends_with v)))
         by [] [] last more words carried_after_message place = record {
-          before = []; byte = byte; rest = []; words_are = words;
+          before = [];
+          byte = byte;
+          rest = [];
+          words_are = words;
           place_is = ap (λ (q : Bool). if q then v.place + 1 else 0) more;
           anew = λ i. understanding_anew (plan_after_message p d.is_last m) (byte_out d byte (last i));
           last = λ e. carried_after_message ∙ ap (understood nothing_understood) (sym words);
         }
         by (x ∷ before) [] last more words carried_after_message place = record {
-          before = []; byte = x; rest = before ++ byte ∷ []; words_are = words;
+          before = [];
+          byte = x;
+          rest = before ++ byte ∷ [];
+          words_are = words;
           place_is = ap (λ (q : Bool). if q then v.place + 1 else 0) more;
           anew = λ i. understanding_anew (plan_after_message p d.is_last m) (byte_out d byte (last i));
           last = λ e. carried_after_message ∙ ap (understood nothing_understood) (sym words);
         }
         by before (c ∷ rest) last more words carried_after_message place = record {
-          before = before ++ byte ∷ []; byte = c; rest = rest; words_are = words ∙ sym (append_assoc before (byte ∷ []) (c ∷ rest));
+          before = before ++ byte ∷ [];
+          byte = c;
+          rest = rest;
+          words_are = words ∙ sym (append_assoc before (byte ∷ []) (c ∷ rest));
           place_is = ap (λ (q : Bool). if q then v.place + 1 else 0) more ∙ ap (λ (x : ℕ). x + 1) place ∙ sym (length-append before (byte ∷ []));
           anew = (λ i. understanding_anew (plan_after_message p d.is_last m) (byte_out d byte (last i))) ∙ carried_after_message;
           last = λ e. absurd (true≢false (sym e ∙ last));

@@ -1,5 +1,5 @@
 -- What is said in a connection goes on with each of its rows.
-use Rattle.std.proofs.Common.{ℕ, ◌≡◌, Bool, true, false, not, ◌&&◌, ◌||◌, ◌∙◌, List, [], ◌∷◌, ◌++◌, Option, Some, None, refl, sym, ap, subst, true≢false}
+use Rattle.std.proofs.Common.{ℕ, ◌≡◌, Bool, true, false, not, ◌&&◌, ◌∙◌, List, [], ◌∷◌, ◌++◌, Option, Some, None, refl, sym, ap, subst, true≢false}
 use Rattle.std.specs.Prelude.{if◌then◌else◌, is_some, ◌%◌}
 use Rattle.bus_trace.specs.LineSet.{LineSet}
 use Rattle.bus_trace.specs.declared.Row.{Row}
@@ -30,11 +30,11 @@ use Rattle.bus_due.specs.Defs.{host_of, opening}
 use Rattle.bus_due.specs.Sights.{hearing_of, leaving}
 use Rattle.bus_due.specs.RunState.{RunState, bus_of}
 use Rattle.bus_due.specs.RunSteps.{run_state_after}
-use Rattle.bus_books.specs.Listening.{nothing_understood, understood, form_messages, understanding_anew}
+use Rattle.bus_books.specs.Listening.{nothing_understood, form_messages}
 use Rattle.bus_books.specs.Rows.{RowKind, still, strikes, crosses, turns, IsRowIn, reading_in}
 use Rattle.bus_books.specs.Speaking.{AreWordsHeard, AreWordsFor, opens, refuses, answers, rejects_data, rejects_status, IsAboutToSpeak, IsSpeaking, SpeaksBy, Speaks, SaysNext}
 use Rattle.bus_books.proofs.Saying.{says_on}
-use Rattle.bus_books.proofs.Reading.{Reads, reads_on, errors_read, answer_reads}
+use Rattle.bus_books.proofs.Reading.{reads_on, errors_read, answer_reads}
 use Rattle.bus_books.proofs.InConnection.{exchange_by, dialogue_by, InConnection, in_connection, SamePhase, same_phase_is}
 
 -- ---- what is kept is known otherwise
@@ -75,7 +75,11 @@ still_said false p = refl
 
 heard_struck : (v : Speech) (p : Plan) (d : Dialogue) → AreWordsHeard v p d → AreWordsHeard v (struck_plan p) d
 heard_struck v p d h = record {
-  before = h.before; byte = h.byte; rest = h.rest; words_are = h.words_are; place_is = h.place_is;
+  before = h.before;
+  byte = h.byte;
+  rest = h.rest;
+  words_are = h.words_are;
+  place_is = h.place_is;
   anew = (λ i. record { said = still_said d.is_last p i; half = fresh_bytes d }) ∙ h.anew;
   last = h.last;
 }
@@ -132,10 +136,13 @@ byte_on : (s : ScenarioValue) (n : Connection) (v : Option Item) (x : Exchange) 
     → SpeaksBy s n v (heard_byte x d.is_last (whole_out (got_out (fresh_bytes d ++ byte ∷ [])))) (byte_out d byte (not (attends_with x.speech))) b
 byte_on s n v x d byte a b same out e h = record {
   before_all = λ f. let w = h.before_all f in record {
-      cause_is = kept_cause d.is_last x.plan ∙ w.cause_is;
-      words_are = w.words_are ∙ ap (λ (r : Bool). opening s n.initiator r v) (sym (kept_negotiates d.is_last x.plan));
-      first = w.first; rest = w.rest; some = w.some; whole = w.whole;
-    };
+    cause_is = kept_cause d.is_last x.plan ∙ w.cause_is;
+    words_are = w.words_are ∙ ap (λ (r : Bool). opening s n.initiator r v) (sym (kept_negotiates d.is_last x.plan));
+    first = w.first;
+    rest = w.rest;
+    some = w.some;
+    whole = w.whole;
+  };
   in_message_out = λ f g. heard_on s n v x d byte e (h.in_message_out f out);
 }
 
@@ -216,10 +223,13 @@ cross_on s k row n c dev fault eb says ep er h = go (is_message_out c.before) re
   where
     x : Exchange
     x = k.exchange
+
     d : Dialogue
     d = k.story.bus_state.dialogue
+
     byte : ℕ
     byte = c.after.data_bits % 256
+
     go : (q : Bool) → is_message_out c.before ≡ q
         → SpeaksBy s n k.served (exchange_by false true fault (host_of s n.initiator) (hearing_of k row (reading_in k.story.bus_state n c true)) (leaving s k n.target) k.exchange) (byte_crosses k.story.bus_state.dialogue c) c.after
     go true e =
@@ -262,16 +272,20 @@ speaks_on s k row n c r says h = go r.kind
   where
     d : Dialogue
     d = k.story.bus_state.dialogue
+
     was : SpeaksBy s n k.served k.exchange k.story.bus_state.dialogue c.before
     was = subst (λ (z : LineSet). SpeaksBy s n k.served k.exchange k.story.bus_state.dialogue z) r.bus_is h
+
     to : (phase now fault : Bool) → InConnection s k row n c phase now fault
         → SpeaksBy s n k.served (exchange_by phase now fault (host_of s n.initiator) (hearing_of k row (reading_in k.story.bus_state n c now)) (leaving s k n.target) k.exchange) (dialogue_by phase now c k.story.bus_state.dialogue) c.after
         → Speaks s (run_state_after s k row) n
     to phase now fault i =
         speaks_as s n (run_state_after s k row).served k.served (run_state_after s k row).exchange (exchange_by phase now fault (host_of s n.initiator) (hearing_of k row (reading_in k.story.bus_state n c now)) (leaving s k n.target) k.exchange)
         (run_state_after s k row).story.bus_state.dialogue (dialogue_by phase now c k.story.bus_state.dialogue) (bus_of (run_state_after s k row)) c.after i.served_is i.exchange_is i.dialogue_is i.bus_is
+
     none_crosses : receiver_in n c ≡ None → is_some (receiver_in n c) ≡ false
     none_crosses e = ap (λ (z : Option ℕ). is_some z) e
+
     go : RowKind row n c → Speaks s (run_state_after s k row) n
     go (still ef ep er) = to false false false (in_connection s k row n c false false false r ep (none_crosses er) ef) (stays_on s n k.served k.exchange k.story.bus_state.dialogue c.before c.after (same_phase_is c ep) was)
     go (strikes ef ep er) =

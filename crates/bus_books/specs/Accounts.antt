@@ -1,12 +1,11 @@
 -- What the books of one process ask of all that is kept.
-use Rattle.std.specs.Prelude.{ℕ, Bool, true, false, not, ◌&&◌, ◌||◌, ◌++◌, List, [], ◌∷◌, length, Option, Some, None, is_some, nat_lt, if◌then◌else◌}
+use Rattle.std.specs.Prelude.{ℕ, Bool, true, false, not, ◌&&◌, ◌||◌, List, [], ◌∷◌, length, Option, Some, None, is_some, nat_lt, if◌then◌else◌}
 use Rattle.bus_base.specs.declared.ProcId.{ProcId}
 use Rattle.msg_grammar.specs.declared.message.MsgIn.{MsgIn}
 use Rattle.msg_grammar.specs.Messages.{in_bytes}
 use Rattle.scenario.specs.declared.value.Policy.{Policy}
 use Rattle.scenario.specs.Value.{ScenarioValue}
 use Rattle.disk_array.specs.Processes.{Process}
-use Rattle.disk_array.specs.Execution.{Reply}
 use Rattle.disk_array.specs.Units.{Array}
 use Rattle.disk_array.specs.Steps.{is_waiting, running_process}
 use Rattle.disk_array.specs.ArrayHistory.{reply_in}
@@ -20,7 +19,7 @@ use Rattle.bus_dialogue.specs.declared.exchange.Phase.TheVariants as phases
 use Rattle.bus_dialogue.specs.declared.exchange.Task.{Task}
 use Rattle.bus_dialogue.specs.Exchange.{bytes_of_messages}
 use Rattle.bus_dialogue.specs.Arrivals.{policy_of}
-use Rattle.bus_dialogue.specs.DataRuns.{run_at, runs_in_all}
+use Rattle.bus_dialogue.specs.DataRuns.{run_at}
 use Rattle.bus_dialogue.specs.NextPhase.{phase_of}
 use Rattle.bus_due.specs.LastingState.{ProcessProgress, progress_in}
 use Rattle.bus_due.specs.RunState.{RunState, bus_of, array_of, item_of, carried_here}

@@ -1,5 +1,5 @@
 -- The items that devices call for are those of the scenario.
-use Rattle.std.specs.Prelude.{ℕ, ◌≡◌, Option, Some}
+use Rattle.std.specs.Prelude.{ℕ, ◌≡◌, Some}
 use Rattle.bus_base.specs.declared.ProcId.{ProcId}
 use Rattle.scenario.specs.declared.value.AbortDef.{AbortDef}
 use Rattle.scenario.specs.Value.{ScenarioValue}

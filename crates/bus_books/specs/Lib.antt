@@ -4,3 +4,5 @@ pub mod Tests
 pub mod Rows
 pub mod Speaking
 pub mod Items
+pub mod Carrying
+pub mod Giving

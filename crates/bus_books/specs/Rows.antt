@@ -1,8 +1,9 @@
 -- What a row does in a connection that stands before and after it, where RST is false: facts of the lines alone.
-use Rattle.std.specs.Prelude.{ℕ, ◌≡◌, Bool, true, false, Option, Some, None}
+use Rattle.std.specs.Prelude.{ℕ, ◌≡◌, Bool, true, false, Some, None}
 use Rattle.bus_trace.specs.declared.Row.{Row}
 use Rattle.bus_trace.specs.declared.changes.Change.{Change}
 use Rattle.bus_trace.specs.declared.connection.Connection.{Connection}
+use Rattle.bus_trace.specs.Changes.{rises}
 use Rattle.bus_trace.specs.Terms.{is_fault, receiver_in}
 use Rattle.bus_trace.specs.Phases.{changes_phase, is_message_out}
 use Rattle.bus_story.specs.BusState.{BusState, RowReading, row_reading, change_by, message_out, message_in}
@@ -28,9 +29,12 @@ pub record IsRowIn (k : RunState) (row : Row) (n : Connection) (c : Change) : Ty
 abbrev pub reading_in : BusState → Connection → Change → Bool → RowReading
 reading_in w n c now = record { change = c; next = Some n; crosses = now; out = message_out w.dialogue c now; into = message_in w.dialogue c now }
 
--- A connection begins with the row, in no MESSAGE OUT phase: after a selection without the lines of any phase, after a
--- reselection in MESSAGE IN (6.1.3, 6.1.4).
+-- A connection begins with the row, and REQ has not risen in it; not in MESSAGE OUT: after a selection without the lines of any
+-- phase, after a reselection in MESSAGE IN (6.1.3, 6.1.4).
 pub record IsFirstRow (k : RunState) (row : Row) (n : Connection) : Type 0 where
   pub connection_is : k.story.bus_state.connection ≡ None
   pub next_is : (row_reading k.story.bus_state row).next ≡ Some n
+  pub lines : is_fault row.kind ≡ false
   pub phase : is_message_out (row_reading k.story.bus_state row).change.after ≡ false
+  pub none_asked : k.handshakes.requests ≡ 0
+  pub asks_none : rises (row_reading k.story.bus_state row).change.before.req (row_reading k.story.bus_state row).change.after.req ≡ false

@@ -1,6 +1,6 @@
 -- MESSAGE OUT: what the initiator says is what it was asked for, and the target has heard what stands before the place of its
 -- next byte (6.6).
-use Rattle.std.specs.Prelude.{ℕ, ◌%◌, ◌≡◌, is_some, Bool, true, false, List, [], ◌∷◌, ◌++◌, length, Option}
+use Rattle.std.specs.Prelude.{ℕ, ◌%◌, ◌≡◌, is_some, true, false, List, ◌∷◌, ◌++◌, length, Option}
 use Rattle.bus_trace.specs.LineSet.{LineSet}
 use Rattle.bus_trace.specs.declared.changes.Change.{Change}
 use Rattle.bus_trace.specs.declared.connection.Connection.{Connection}

@@ -1,22 +1,29 @@
 // Laws of what is said, given and carried, each named by the contract of a function that does nothing.
 
-ghost use Rattle.std.specs.Prelude.{ℕ, ◌≡◌, true, false, List, [], ◌∷◌, Some};
+ghost use Rattle.std.specs.Prelude.{ℕ, ◌≡◌, ◌<◌, true, false, List, [], ◌∷◌, length, Some};
 ghost use Rattle.bus_trace.specs.declared.Row.{Row};
 ghost use Rattle.bus_trace.specs.declared.changes.Change.{Change};
 ghost use Rattle.bus_trace.specs.declared.connection.Connection.{Connection};
-ghost use Rattle.bus_trace.specs.Phases.{is_message_out};
+ghost use Rattle.bus_trace.specs.Phases.{is_message_out, is_message_in};
 ghost use Rattle.bus_phases.specs.Reading.{reading_of};
 ghost use Rattle.bus_rules.specs.Messages.{is_unknown};
+ghost use Rattle.cdb_codec.specs.Cdb.{has_group_len};
 ghost use Rattle.scenario.specs.Value.{ScenarioValue};
+ghost use Rattle.disk_array.specs.Processes.{Process, process_of};
 ghost use Rattle.bus_story.specs.Items.{Item};
 ghost use Rattle.bus_story.specs.TraceHistory.{aim_of};
-ghost use Rattle.bus_due.specs.Faithful.{is_opening_named};
-ghost use Rattle.bus_due.specs.RunState.{RunState, bus_of};
+ghost use Rattle.bus_dialogue.specs.Exchange.{bytes_of_messages};
+ghost use Rattle.bus_dialogue.specs.Wants.{Ready};
+ghost use Rattle.bus_due.specs.Wants.{ready_of};
+ghost use Rattle.bus_due.specs.Faithful.{is_opening_named, is_block_of_process};
+ghost use Rattle.bus_due.specs.RunState.{RunState, bus_of, process_served, carried_here};
 ghost use Rattle.bus_due.specs.RunSteps.{run_state};
 ghost use Rattle.scsi_device.specs.Lines.{AreUnits};
 ghost use Rattle.bus_books.specs.Items.{IsItem, AimsAreItems};
 ghost use Rattle.bus_books.specs.Rows.{IsRowIn, IsFirstRow};
 ghost use Rattle.bus_books.specs.Speaking.{Speaks, SaysNext};
+ghost use Rattle.bus_books.specs.Giving.{Gives, GivesNext};
+ghost use Rattle.bus_books.specs.Carrying.{AllCarryOwn, AllSendOwn, SendsOwn};
 
 /// After any rows, what a device calls for is an item of the scenario: a command of it, the automatic REQUEST SENSE of
 /// one, or an abort.
@@ -51,4 +58,45 @@ pub fn openings_are_heard()
     ensures known { (s : ScenarioValue) (k : RunState) (n : Connection) (c : Change) → Speaks s k n
         → k.exchange.begun ≡ true → bus_of k ≡ c.before → is_message_out c.before ≡ true → SaysNext k n c
         → is_unknown (reading_of k.story.bus_state.dialogue.half (Some n) c) ≡ false }
+{}
+
+/// What the target of a connection gives in MESSAGE IN are the bytes of the messages that it plans, one after the other from
+/// the first, and the initiator has heard those that crossed (6.6). It is so when a connection begins (`first`), and each
+/// row of the connection keeps it (`next`), where a byte that crosses in MESSAGE IN is the next one.
+pub fn targets_give_what_they_plan()
+    ensures first { (s : ScenarioValue) (rows : List Row) (row : Row) (n : Connection)
+        → IsFirstRow (run_state s rows) row n
+        → (n.reselected ≡ true → (r : Ready) → ready_of s (run_state s rows) n.target ≡ Some r → r.process.unit < 8)
+        → Gives (run_state s (row ∷ rows)) }
+    ensures next { (s : ScenarioValue) (rows : List Row) (row : Row) (n : Connection) (c : Change)
+        → IsRowIn (run_state s rows) row n c → GivesNext (run_state s rows) n c → Gives (run_state s rows)
+        → Gives (run_state s (row ∷ rows)) }
+{}
+
+/// So after the last byte of MESSAGE IN the initiator has heard no message half (`whole`), and no byte of it makes an
+/// unknown message (`known`).
+pub fn messages_are_given_whole()
+    ensures whole { (k : RunState) → Gives k → k.exchange.begun ≡ true → is_message_in (bus_of k) ≡ true
+        → k.handshakes.requests ≡ length (bytes_of_messages k.exchange.plan.messages)
+        → k.story.bus_state.dialogue.half ≡ [] }
+    ensures known { (k : RunState) (n : Connection) (c : Change) → Gives k → k.exchange.begun ≡ true
+        → bus_of k ≡ c.before → is_message_in c.before ≡ true → is_message_out c.before ≡ false → GivesNext k n c
+        → is_unknown (reading_of k.story.bus_state.dialogue.half (Some n) c) ≡ false }
+{}
+
+/// After any rows, lawful or not, each process has carried its own bytes alone, in COMMAND and in what it writes, and its
+/// pointers stand in them, where each byte that crosses is the one at the pointer of the process of the connection
+/// (`rows`, `next`). A block of the length of its group is then that of the process (`block`), and while it is shorter a
+/// byte of it follows (`follows`).
+pub fn processes_carry_their_own_bytes()
+    ensures rows { (s : ScenarioValue) (rows : List Row) → AllSendOwn s rows → AllCarryOwn s (run_state s rows) }
+    ensures next { (s : ScenarioValue) (rows : List Row) (row : Row) → SendsOwn s (run_state s rows) row
+        → AllCarryOwn s (run_state s rows) → AllCarryOwn s (run_state s (row ∷ rows)) }
+    ensures block { (s : ScenarioValue) (k : RunState) (p : Process) → AllCarryOwn s k → process_served s k ≡ Some p
+        → has_group_len p.cdb ≡ true
+        → (k.exchange.plan.struck ≡ false → has_group_len (carried_here k p.id).block ≡ true)
+        → is_block_of_process s k (Some p) ≡ true }
+    ensures follows { (s : ScenarioValue) (k : RunState) (p : Process) → AllCarryOwn s k → process_of s p.id ≡ Some p
+        → has_group_len p.cdb ≡ true → has_group_len (carried_here k p.id).block ≡ false
+        → (carried_here k p.id).command.active < length p.cdb }
 {}
