@@ -63,7 +63,7 @@ link_own s l h m c e f = h c (ap (λ (x : Link). x.undo) (ap (or_link l) e) ∙ 
 
 -- ---- events
 
-ends_keep : (drops stops : CmdDef → Bool) (e : Ending) (n : ℕ) (commands : List CmdDef) (b : Story) → ((story_with_ends drops stops e n commands b).carried ≡ b.carried) × ((story_with_ends drops stops e n commands b).link ≡ b.link)
+pub ends_keep : (drops stops : CmdDef → Bool) (e : Ending) (n : ℕ) (commands : List CmdDef) (b : Story) → ((story_with_ends drops stops e n commands b).carried ≡ b.carried) × ((story_with_ends drops stops e n commands b).link ≡ b.link)
 ends_keep drops stops e n [] b = (refl, refl)
 ends_keep drops stops e n (c ∷ commands) b =
     let rest = ends_keep drops stops e (n + 1) commands
@@ -78,7 +78,7 @@ ends_keep drops stops e n (c ∷ commands) b =
     go false true = (refl, refl)
     go false false = (refl, refl)
 
-check_keeps : (b : Story) (id : ProcId) (status : ℕ) → ((with_check b id status).carried ≡ b.carried) × ((with_check b id status).link ≡ b.link)
+pub check_keeps : (b : Story) (id : ProcId) (status : ℕ) → ((with_check b id status).carried ≡ b.carried) × ((with_check b id status).link ≡ b.link)
 check_keeps b id status = go (not id.sense && status == CHECK_CONDITION)
   where
     go : (q : Bool) → ((if q then record b { sent = record b.sent { checks = b.sent.checks ++ id.command ∷ [] } } else b).carried ≡ b.carried) × ((if q then record b { sent = record b.sent { checks = b.sent.checks ++ id.command ∷ [] } } else b).link ≡ b.link)

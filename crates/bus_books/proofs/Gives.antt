@@ -187,7 +187,7 @@ gives_byte k n c dev x t eb em ep er next g = record {
     by d byte last true r eo ei e = absurd (not_both c.before eo ei)
     by d byte last false r eo ei e = ap (λ (q : Bool). (if q then byte_in d byte else byte_else d c.before byte).half) e
 
-byte_messages : (o last : Bool) (m : Option MsgOut) (p : Plan) → (if o then plan_after_message p last m else p).messages ≡ p.messages
+pub byte_messages : (o last : Bool) (m : Option MsgOut) (p : Plan) → (if o then plan_after_message p last m else p).messages ≡ p.messages
 byte_messages true last m p = kept_messages last p
 byte_messages false last m p = refl
 

@@ -17,3 +17,7 @@ pub mod Leavings
 pub mod Gives
 pub mod Given
 pub mod CarriedBlocks
+pub mod Hearable
+pub mod Knows
+pub mod Faith
+pub mod FirstLinks

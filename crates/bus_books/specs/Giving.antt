@@ -40,8 +40,9 @@ pub record GivesBy (x : Exchange) (d : Dialogue) (h : Handshakes) (b : LineSet) 
 abbrev pub Gives : RunState → Type 0
 Gives k = GivesBy k.exchange k.story.bus_state.dialogue k.handshakes (bus_of k)
 
--- A byte of MESSAGE IN that crosses in the row is the next one: what the target is due to drive while one follows.
+-- A byte of MESSAGE IN that crosses in the row is the next one, in a phase that has begun: what the target is due to drive while one
+-- follows.
 abbrev pub GivesNext : RunState → Connection → Change → Type 0
 GivesNext k n c =
     is_message_in c.before ≡ true → is_some (receiver_in n c) ≡ true
-    → (c.after.data_bits % 256 ≡ slice_index_or (bytes_of_messages k.exchange.plan.messages) k.handshakes.requests 0) × (k.handshakes.requests < length (bytes_of_messages k.exchange.plan.messages))
+    → (c.after.data_bits % 256 ≡ slice_index_or (bytes_of_messages k.exchange.plan.messages) k.handshakes.requests 0) × (k.handshakes.requests < length (bytes_of_messages k.exchange.plan.messages)) × (k.exchange.begun ≡ true)

@@ -6,3 +6,5 @@ pub mod Speaking
 pub mod Items
 pub mod Carrying
 pub mod Giving
+pub mod Knowing
+pub mod Hearing

@@ -35,6 +35,7 @@ pub record IsFirstRow (k : RunState) (row : Row) (n : Connection) : Type 0 where
   pub connection_is : k.story.bus_state.connection ≡ None
   pub next_is : (row_reading k.story.bus_state row).next ≡ Some n
   pub lines : is_fault row.kind ≡ false
+  pub calm : (row_reading k.story.bus_state row).change.after.rst ≡ false
   pub phase : is_message_out (row_reading k.story.bus_state row).change.after ≡ false
   pub none_asked : k.handshakes.requests ≡ 0
   pub asks_none : rises (row_reading k.story.bus_state row).change.before.req (row_reading k.story.bus_state row).change.after.req ≡ false

@@ -15,7 +15,9 @@ ghost use Rattle.bus_story.specs.TraceHistory.{aim_of};
 ghost use Rattle.bus_dialogue.specs.Exchange.{bytes_of_messages};
 ghost use Rattle.bus_dialogue.specs.Wants.{Ready};
 ghost use Rattle.bus_due.specs.Wants.{ready_of};
-ghost use Rattle.bus_due.specs.Faithful.{is_opening_named, is_block_of_process};
+ghost use Rattle.bus_trace.specs.Phases.{changes_phase};
+ghost use Rattle.bus_story.specs.BusState.{row_reading};
+ghost use Rattle.bus_due.specs.Faithful.{is_opening_named, is_block_of_process, is_faithful};
 ghost use Rattle.bus_due.specs.RunState.{RunState, bus_of, process_served, carried_here};
 ghost use Rattle.bus_due.specs.RunSteps.{run_state};
 ghost use Rattle.scsi_device.specs.Lines.{AreUnits};
@@ -24,6 +26,8 @@ ghost use Rattle.bus_books.specs.Rows.{IsRowIn, IsFirstRow};
 ghost use Rattle.bus_books.specs.Speaking.{Speaks, SaysNext};
 ghost use Rattle.bus_books.specs.Giving.{Gives, GivesNext};
 ghost use Rattle.bus_books.specs.Carrying.{AllCarryOwn, AllSendOwn, SendsOwn};
+ghost use Rattle.bus_books.specs.Knowing.{Knows, NamesServed};
+ghost use Rattle.bus_books.specs.Hearing.{HasPhase, LeavesWhole, MovesRuns};
 
 /// After any rows, what a device calls for is an item of the scenario: a command of it, the automatic REQUEST SENSE of
 /// one, or an abort.
@@ -99,4 +103,30 @@ pub fn processes_carry_their_own_bytes()
     ensures follows { (s : ScenarioValue) (k : RunState) (p : Process) → AllCarryOwn s k → process_of s p.id ≡ Some p
         → has_group_len p.cdb ≡ true → has_group_len (carried_here k p.id).block ≡ false
         → (carried_here k p.id).command.active < length p.cdb }
+{}
+
+/// The initiator of a connection knows the process that the target serves: after a selection from the first, for the target
+/// says no name then; after a reselection, once a name was heard, where each names that process (6.1.4, 6.6.7, 6.6.17). It
+/// is so when a connection begins (`first`), and each row of the connection keeps it (`next`).
+pub fn initiators_know_the_process()
+    ensures first { (s : ScenarioValue) (rows : List Row) (row : Row) (n : Connection)
+        → IsFirstRow (run_state s rows) row n → Knows s (run_state s (row ∷ rows)) n }
+    ensures next { (s : ScenarioValue) (rows : List Row) (row : Row) (n : Connection) (c : Change)
+        → IsRowIn (run_state s rows) row n c → Gives (run_state s rows) → GivesNext (run_state s rows) n c
+        → NamesServed s (run_state s rows) row n → Knows s (run_state s rows) n
+        → Knows s (run_state s (row ∷ rows)) n }
+{}
+
+/// A row with which a connection goes on or ends tells what was to be said: a byte of DATA OUT is the one that the process
+/// sends there; as a phase is left both ends know the process, an unstruck block is that of the process, and the opening
+/// names what is served. So it is by the books, where the bytes that cross are those at the pointers, a phase is left as the
+/// target is due to leave it, and the data pointer stands as far in the run as bytes were answered.
+pub fn rows_of_connections_are_faithful()
+    ensures { (s : ScenarioValue) (rows : List Row) (row : Row) (n : Connection) → AreUnits s
+        → Speaks s (run_state s rows) n → Knows s (run_state s rows) n → AllCarryOwn s (run_state s rows)
+        → HasPhase (run_state s rows) → (run_state s rows).story.bus_state.connection ≡ Some n
+        → SendsOwn s (run_state s rows) row → MovesRuns s (run_state s rows) n
+        → (changes_phase (row_reading (run_state s rows).story.bus_state row).change ≡ true
+            → LeavesWhole s (run_state s rows) n)
+        → is_faithful s (run_state s rows) (row_reading (run_state s rows).story.bus_state row) ≡ true }
 {}
