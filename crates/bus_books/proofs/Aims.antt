@@ -29,18 +29,19 @@ use Rattle.bus_story.specs.TraceHistory.{is_host, aim_of, is_arbitration_entry, 
 use Rattle.bus_due.specs.RunState.{RunState}
 use Rattle.bus_due.specs.RunSteps.{run_state, run_state_after}
 use Rattle.bus_books.specs.Items.{IsItem, is_process, is_abort, AimsAreItems}
+use Rattle.bus_books.proofs.Lookups.{first_is, number_is}
 
 -- ---- what an initiator sends next is of the scenario
 
-abbrev IsItemIf : ScenarioValue → Option Item → Type 0
-IsItemIf s None = Unit {0}
-IsItemIf s (Some item) = IsItem s item
+abbrev IsItemIf : ScenarioValue → ℕ → Option Item → Type 0
+IsItemIf s dev None = Unit {0}
+IsItemIf s dev (Some item) = IsItem s dev item
 
-aborts_are : (s : ScenarioValue) (b : Sent) (dev time j : ℕ) (aborts : List AbortDef) → ((m : ℕ) → abort_line_at aborts (suc m) ≡ abort_line_at s.aborts (suc (j + m))) → IsItemIf s (abort_from b dev time (suc j) aborts)
+aborts_are : (s : ScenarioValue) (b : Sent) (dev time j : ℕ) (aborts : List AbortDef) → ((m : ℕ) → abort_line_at aborts (suc m) ≡ abort_line_at s.aborts (suc (j + m))) → IsItemIf s dev (abort_from b dev time (suc j) aborts)
 aborts_are s b dev time j [] h = tt
 aborts_are s b dev time j (a ∷ aborts) h =
-    go (a.host == dev && nat_le a.at time && not (is_done b (abort (suc j))))
-    (subst (λ (n : ℕ). IsItemIf s (abort_from b dev time n aborts)) (one_more j)
+    go (a.host == dev && nat_le a.at time && not (is_done b (abort (suc j)))) refl
+    (subst (λ (n : ℕ). IsItemIf s dev (abort_from b dev time n aborts)) (one_more j)
     (aborts_are s b dev time (suc j) aborts (λ m. h (suc m) ∙ ap (λ (n : ℕ). abort_line_at s.aborts (suc n)) (moved j m))))
   where
     one_more : (n : ℕ) → suc (suc n) ≡ suc n + 1
@@ -52,15 +53,17 @@ aborts_are s b dev time j (a ∷ aborts) h =
     same : (n : ℕ) → n + 0 ≡ n
     same n = omega arith
 
-    go : (q : Bool) → IsItemIf s (abort_from b dev time (suc j + 1) aborts) → IsItemIf s (if q then Some (abort (suc j)) else abort_from b dev time (suc j + 1) aborts)
-    go true rest = is_abort (suc j) a (ap (λ (n : ℕ). abort_line_at s.aborts (suc n)) (sym (same j)) ∙ sym (h 0))
-    go false rest = rest
+    go : (q : Bool) → (a.host == dev && nat_le a.at time && not (is_done b (abort (suc j)))) ≡ q → IsItemIf s dev (abort_from b dev time (suc j + 1) aborts) → IsItemIf s dev (if q then Some (abort (suc j)) else abort_from b dev time (suc j + 1) aborts)
+    go true z rest =
+        is_abort (suc j) a (ap (λ (n : ℕ). abort_line_at s.aborts (suc n)) (sym (same j)) ∙ sym (h 0))
+        (number_is a.host dev (first_is (a.host == dev) (nat_le a.at time) (first_is (a.host == dev && nat_le a.at time) (not (is_done b (abort (suc j)))) z)))
+    go false z rest = rest
 
-commands_are : (s : ScenarioValue) (b : Sent) (dev time j : ℕ) (commands : List CmdDef) → ((m : ℕ) → command_at commands (suc m) ≡ command_at s.commands (suc (j + m))) → IsItemIf s (command_from s b dev time (suc j) commands)
+commands_are : (s : ScenarioValue) (b : Sent) (dev time j : ℕ) (commands : List CmdDef) → ((m : ℕ) → command_at commands (suc m) ≡ command_at s.commands (suc (j + m))) → IsItemIf s dev (command_from s b dev time (suc j) commands)
 commands_are s b dev time j [] h = tt
 commands_are s b dev time j (c ∷ commands) h =
-    go (c.host == dev && not (is_done b (command_item (suc j)))) (may_send s time (open_from b dev 1 s.commands) c)
-    (subst (λ (n : ℕ). IsItemIf s (command_from s b dev time n commands)) (one_more j)
+    go (c.host == dev && not (is_done b (command_item (suc j)))) (may_send s time (open_from b dev 1 s.commands) c) refl
+    (subst (λ (n : ℕ). IsItemIf s dev (command_from s b dev time n commands)) (one_more j)
     (commands_are s b dev time (suc j) commands (λ m. h (suc m) ∙ ap (λ (n : ℕ). command_at s.commands (suc n)) (moved j m))))
   where
     one_more : (n : ℕ) → suc (suc n) ≡ suc n + 1
@@ -72,36 +75,39 @@ commands_are s b dev time j (c ∷ commands) h =
     same : (n : ℕ) → n + 0 ≡ n
     same n = omega arith
 
-    go : (q r : Bool) → IsItemIf s (command_from s b dev time (suc j + 1) commands) → IsItemIf s (if q then if r then Some (command_item (suc j)) else None else command_from s b dev time (suc j + 1) commands)
-    go true true rest =
+    go : (q r : Bool) → (c.host == dev && not (is_done b (command_item (suc j)))) ≡ q → IsItemIf s dev (command_from s b dev time (suc j + 1) commands) → IsItemIf s dev (if q then if r then Some (command_item (suc j)) else None else command_from s b dev time (suc j + 1) commands)
+    go true true z rest =
         is_process (record { command = suc j; sense = false }) (process_by s (record { command = suc j; sense = false }) c)
         (ap (λ (x : Option CmdDef). process_if s (record { command = suc j; sense = false }) x) (ap (λ (n : ℕ). command_at s.commands (suc n)) (sym (same j)) ∙ sym (h 0)))
-    go true false rest = tt
-    go false r rest = rest
+        (number_is c.host dev (first_is (c.host == dev) (not (is_done b (command_item (suc j)))) z))
+    go true false z rest = tt
+    go false r z rest = rest
 
-senses_are : (s : ScenarioValue) (b : Sent) (dev : ℕ) (checks : List ℕ) → IsItemIf s (sense_from s b dev checks)
+senses_are : (s : ScenarioValue) (b : Sent) (dev : ℕ) (checks : List ℕ) → IsItemIf s dev (sense_from s b dev checks)
 senses_are s b dev [] = tt
 senses_are s b dev (n ∷ checks) = go (senses_are s b dev checks) (command_at s.commands n) refl
   where
-    later : (q : Bool) → IsItemIf s (sense_from s b dev checks) → (q ≡ true → IsItem s (sense_item n)) → IsItemIf s (if q then Some (sense_item n) else sense_from s b dev checks)
-    later true rest own = own refl
-    later false rest own = rest
+    later : (q : Bool) → IsItemIf s dev (sense_from s b dev checks) → ((is_of_host (command_at s.commands n) dev && not (is_done b (sense_item n))) ≡ q → q ≡ true → IsItem s dev (sense_item n)) → (is_of_host (command_at s.commands n) dev && not (is_done b (sense_item n))) ≡ q → IsItemIf s dev (if q then Some (sense_item n) else sense_from s b dev checks)
+    later true rest own z = own z refl
+    later false rest own z = rest
 
-    go : IsItemIf s (sense_from s b dev checks) → (c : Option CmdDef) → command_at s.commands n ≡ c → IsItemIf s (if is_of_host (command_at s.commands n) dev && not (is_done b (sense_item n)) then Some (sense_item n) else sense_from s b dev checks)
+    go : IsItemIf s dev (sense_from s b dev checks) → (c : Option CmdDef) → command_at s.commands n ≡ c → IsItemIf s dev (if is_of_host (command_at s.commands n) dev && not (is_done b (sense_item n)) then Some (sense_item n) else sense_from s b dev checks)
     go rest None e =
-        subst (λ (x : Option CmdDef). IsItemIf s (if is_of_host x dev && not (is_done b (sense_item n)) then Some (sense_item n) else sense_from s b dev checks)) (sym e) rest
+        subst (λ (x : Option CmdDef). IsItemIf s dev (if is_of_host x dev && not (is_done b (sense_item n)) then Some (sense_item n) else sense_from s b dev checks)) (sym e) rest
     go rest (Some c) e =
         later (is_of_host (command_at s.commands n) dev && not (is_done b (sense_item n))) rest
-        (λ z. is_process (record { command = n; sense = true }) (process_by s (record { command = n; sense = true }) c) (ap (λ (x : Option CmdDef). process_if s (record { command = n; sense = true }) x) e))
+        (λ z y. is_process (record { command = n; sense = true }) (process_by s (record { command = n; sense = true }) c) (ap (λ (x : Option CmdDef). process_if s (record { command = n; sense = true }) x) e)
+        (number_is c.host dev (sym (ap (λ (x : Option CmdDef). is_of_host x dev) e) ∙ first_is (is_of_host (command_at s.commands n) dev) (not (is_done b (sense_item n))) (z ∙ y))))
+        refl
 
-either_is : (s : ScenarioValue) (x y : Option Item) → IsItemIf s x → IsItemIf s y → IsItemIf s (or_else x y)
-either_is s None y h g = g
-either_is s (Some item) y h g = h
+either_is : (s : ScenarioValue) (dev : ℕ) (x y : Option Item) → IsItemIf s dev x → IsItemIf s dev y → IsItemIf s dev (or_else x y)
+either_is s dev None y h g = g
+either_is s dev (Some item) y h g = h
 
-sent_next_is : (s : ScenarioValue) (b : Sent) (dev time : ℕ) → IsItemIf s (item_at s b dev time)
+sent_next_is : (s : ScenarioValue) (b : Sent) (dev time : ℕ) → IsItemIf s dev (item_at s b dev time)
 sent_next_is s b dev time =
-    either_is s (abort_from b dev time 1 s.aborts) (or_else (sense_from s b dev b.checks) (command_from s b dev time 1 s.commands)) (aborts_are s b dev time 0 s.aborts (λ m. ap (λ (n : ℕ). abort_line_at s.aborts (suc n)) (none_more m)))
-    (either_is s (sense_from s b dev b.checks) (command_from s b dev time 1 s.commands) (senses_are s b dev b.checks) (commands_are s b dev time 0 s.commands (λ m. ap (λ (n : ℕ). command_at s.commands (suc n)) (none_more m))))
+    either_is s dev (abort_from b dev time 1 s.aborts) (or_else (sense_from s b dev b.checks) (command_from s b dev time 1 s.commands)) (aborts_are s b dev time 0 s.aborts (λ m. ap (λ (n : ℕ). abort_line_at s.aborts (suc n)) (none_more m)))
+    (either_is s dev (sense_from s b dev b.checks) (command_from s b dev time 1 s.commands) (senses_are s b dev b.checks) (commands_are s b dev time 0 s.commands (λ m. ap (λ (n : ℕ). command_at s.commands (suc n)) (none_more m))))
   where
     none_more : (m : ℕ) → m ≡ 0 + m
     none_more m = omega arith
@@ -144,22 +150,32 @@ events_aims s b [] = refl
 events_aims s b (event ∷ shown) = event_aims s (story_after_events s b shown) event ∙ events_aims s b shown
 
 abbrev AreItems : ScenarioValue → List (Option Item) → Type 0
-AreItems s aims = (dev : ℕ) (item : Item) → aim_of aims dev ≡ Some item → IsItem s item
+AreItems s aims = (dev : ℕ) (item : Item) → aim_of aims dev ≡ Some item → IsItem s dev item
 
 items_as : (s : ScenarioValue) (a b : List (Option Item)) → a ≡ b → AreItems s b → AreItems s a
 items_as s a b e h = subst (λ (x : List (Option Item)). AreItems s x) (sym e) h
 
-with_item : (s : ScenarioValue) (all : List (Option Item)) (at : ℕ) (x : Option Item) → IsItemIf s x → AreItems s all → AreItems s (slice_set all at x)
-with_item s [] at x g h dev item e = h dev item e
-with_item s (a ∷ all) zero x g h zero item e = subst (λ (z : Option Item). IsItemIf s z) e g
-with_item s (a ∷ all) zero x g h (suc dev) item e = h (suc dev) item e
-with_item s (a ∷ all) (suc at) x g h zero item e = h 0 item e
-with_item s (a ∷ all) (suc at) x g h (suc dev) item e = with_item s all at x g (λ d i f. h (suc d) i f) dev item e
+-- Of the devices from this one on.
+with_item : (s : ScenarioValue) (from : ℕ) (all : List (Option Item)) (at : ℕ) (x : Option Item) → IsItemIf s (from + at) x → ((dev : ℕ) (item : Item) → aim_of all dev ≡ Some item → IsItem s (from + dev) item) → (dev : ℕ) (item : Item) → aim_of (slice_set all at x) dev ≡ Some item → IsItem s (from + dev) item
+with_item s from [] at x g h dev item e = h dev item e
+with_item s from (a ∷ all) zero x g h zero item e = subst (λ (z : Option Item). IsItemIf s (from + 0) z) e g
+with_item s from (a ∷ all) zero x g h (suc dev) item e = h (suc dev) item e
+with_item s from (a ∷ all) (suc at) x g h zero item e = h 0 item e
+with_item s from (a ∷ all) (suc at) x g h (suc dev) item e =
+    subst (λ (n : ℕ). IsItem s n item) (sym (moved from dev))
+    (with_item s (suc from) all at x (subst (λ (n : ℕ). IsItemIf s n x) (moved from at) g) (λ d i f. subst (λ (n : ℕ). IsItem s n i) (moved from d) (h (suc d) i f)) dev item e)
+  where
+    moved : (n m : ℕ) → n + suc m ≡ suc n + m
+    moved n m = omega arith
 
 aimed : (s : ScenarioValue) (b : Story) (row : Row) → AreItems s b.aims → AreItems s (story_with_aim s b row).aims
-aimed s b row h = with_item s b.aims row.dev (if is_host s.hosts row.dev then item_at s b.sent row.dev row.time else None) (own (is_host s.hosts row.dev)) h
+aimed s b row h = λ dev item e. subst (λ (n : ℕ). IsItem s n item) (none_more dev)
+    (with_item s 0 b.aims row.dev (if is_host s.hosts row.dev then item_at s b.sent row.dev row.time else None) (subst (λ (n : ℕ). IsItemIf s n (if is_host s.hosts row.dev then item_at s b.sent row.dev row.time else None)) (sym (none_more row.dev)) (own (is_host s.hosts row.dev))) (λ d i f. subst (λ (n : ℕ). IsItem s n i) (sym (none_more d)) (h d i f)) dev item e)
   where
-    own : (q : Bool) → IsItemIf s (if q then item_at s b.sent row.dev row.time else None)
+    none_more : (m : ℕ) → 0 + m ≡ m
+    none_more m = omega arith
+
+    own : (q : Bool) → IsItemIf s row.dev (if q then item_at s b.sent row.dev row.time else None)
     own true = sent_next_is s b.sent row.dev row.time
     own false = tt
 
@@ -266,7 +282,7 @@ aims_on s k row h =
 pub aims_are : (s : ScenarioValue) (rows : List Row) → AimsAreItems s (run_state s rows)
 aims_are s [] = first
   where
-    first : (dev : ℕ) (item : Item) → aim_of (empty_story).aims dev ≡ Some item → IsItem s item
+    first : (dev : ℕ) (item : Item) → aim_of (empty_story).aims dev ≡ Some item → IsItem s dev item
     first zero item e = cc
     first (suc zero) item e = cc
     first (suc (suc zero)) item e = cc

@@ -128,14 +128,14 @@ crossed s k row n h sends runs ec (Some p) ep phases.DataIn e = refl
 
 -- ---- a row, with which the connection goes on or ends
 
-pub row_is_faithful : (s : ScenarioValue) (k : RunState) (row : Row) (n : Connection) → AreUnits s → Speaks s k n → Knows s k n → AllCarryOwn s k → HasPhase k → k.story.bus_state.connection ≡ Some n → SendsOwn s k row → MovesRuns s k n → (changes_phase (row_reading k.story.bus_state row).change ≡ true → LeavesWhole s k n) → is_faithful s k (row_reading k.story.bus_state row) ≡ true
+pub row_is_faithful : (s : ScenarioValue) (k : RunState) (row : Row) (n : Connection) → AreUnits s → Speaks s k n → Knows s k n → AllCarryOwn s k → HasPhase k → k.story.bus_state.connection ≡ Some n → SendsOwn s k row → ((row_reading k.story.bus_state row).crosses ≡ true → MovesRuns s k n) → (changes_phase (row_reading k.story.bus_state row).change ≡ true → LeavesWhole s k n) → is_faithful s k (row_reading k.story.bus_state row) ≡ true
 row_is_faithful s k row n u speaks knows carry lines con sends runs leaves =
     (λ i. is_true_beginning s k (con i) (row_reading k.story.bus_state row).next && ((row_reading k.story.bus_state row).change.after.rst || is_true_hearing s k (row_reading k.story.bus_state row)))
     ∙ or_true (row_reading k.story.bus_state row).change.after.rst (is_true_hearing s k (row_reading k.story.bus_state row)) (λ e. hearing (row_reading k.story.bus_state row).crosses refl (changes_phase (row_reading k.story.bus_state row).change) refl k.exchange.begun refl)
   where
     hearing : (q : Bool) → (row_reading k.story.bus_state row).crosses ≡ q → (r : Bool) → changes_phase (row_reading k.story.bus_state row).change ≡ r → (b : Bool) → k.exchange.begun ≡ b
         → (if q then is_true_crossing s k (process_served s k) ((row_reading k.story.bus_state row).change.after.data_bits % 256) (phase_of (bus_of k)) else if r && b then is_known_process k (phase_of (bus_of k)) && is_true_leaving s k (process_served s k) (phase_of (bus_of k)) else true) ≡ true
-    hearing true ec r er b eb = crossed s k row n knows sends runs ec (process_served s k) refl (phase_of (bus_of k)) refl
+    hearing true ec r er b eb = crossed s k row n knows sends (runs ec) ec (process_served s k) refl (phase_of (bus_of k)) refl
     hearing false ec true er true eb =
         (λ i. known_left s k n knows (leaves er) (phase_of (bus_of k)) refl i && is_true_leaving s k (process_served s k) (phase_of (bus_of k)))
         ∙ said_left s k n u speaks carry (leaves er) lines eb (phase_of (bus_of k)) refl

@@ -59,11 +59,11 @@ pub record IsOpening (words : List ℕ) : Type 0 where
   pub some : words ≡ first ∷ rest
   pub whole : form_messages nothing_understood words ≡ true
 
-opening_is : (s : ScenarioValue) (dev : ℕ) (negotiates : Bool) (item : Item) → AreUnits s → IsItem s item → IsOpening (opening s dev negotiates (Some item))
-opening_is s dev negotiates _ u (is_process id p e) =
+opening_is : (s : ScenarioValue) (dev : ℕ) (negotiates : Bool) (item : Item) → AreUnits s → IsItem s dev item → IsOpening (opening s dev negotiates (Some item))
+opening_is s dev negotiates _ u (is_process id p e own) =
     subst (λ (x : Option Process). IsOpening (process_opening (host_of s dev) negotiates x)) (sym e)
     (record { first = _; rest = _; some = refl; whole = opening_reads (host_of s dev) negotiates p (process_unit s id p u e) })
-opening_is s dev negotiates _ u (is_abort n a e) =
+opening_is s dev negotiates _ u (is_abort n a e own) =
     subst (λ (x : Option AbortDef). IsOpening (abort_opening x)) (sym e)
     (record { first = _; rest = _; some = refl; whole = abort_opening_reads a (u.aborts n a e) })
 
@@ -75,7 +75,7 @@ begins_as s n v v' x x' d b ev ex h = subst (λ (z : Option Item). SpeaksBy s n 
 abbrev first_served : ScenarioValue → RunState → Connection → Option Item
 first_served s k n = if n.reselected then item_if (ready_of s k n.target) else aim_of k.story.aims n.initiator
 
-by_way : (s : ScenarioValue) (k : RunState) (n : Connection) (item : Option Item) (d : Dialogue) (b : LineSet) (q : Bool) → n.reselected ≡ q → AreUnits s → is_message_out b ≡ false → (q ≡ false → (i : Item) × (item ≡ Some i) × IsItem s i)
+by_way : (s : ScenarioValue) (k : RunState) (n : Connection) (item : Option Item) (d : Dialogue) (b : LineSet) (q : Bool) → n.reselected ≡ q → AreUnits s → is_message_out b ≡ false → (q ≡ false → (i : Item) × (item ≡ Some i) × IsItem s n.initiator i)
     → SpeaksBy s n (if n.reselected then item_if (ready_of s k n.target) else item) (first_exchange s k n item) d b
 by_way s k n item d b true e u out known = record {
   before_all = λ f. absurd (true≢false (sym e ∙ f));

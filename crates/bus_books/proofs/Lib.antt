@@ -21,3 +21,4 @@ pub mod Hearable
 pub mod Knows
 pub mod Faith
 pub mod FirstLinks
+pub mod Traces

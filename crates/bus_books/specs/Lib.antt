@@ -8,3 +8,4 @@ pub mod Carrying
 pub mod Giving
 pub mod Knowing
 pub mod Hearing
+pub mod Traces

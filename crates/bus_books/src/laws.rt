@@ -17,7 +17,7 @@ ghost use Rattle.bus_dialogue.specs.Wants.{Ready};
 ghost use Rattle.bus_due.specs.Wants.{ready_of};
 ghost use Rattle.bus_trace.specs.Phases.{changes_phase};
 ghost use Rattle.bus_story.specs.BusState.{row_reading};
-ghost use Rattle.bus_due.specs.Faithful.{is_opening_named, is_block_of_process, is_faithful};
+ghost use Rattle.bus_due.specs.Faithful.{is_opening_named, is_block_of_process, is_faithful, faithful};
 ghost use Rattle.bus_due.specs.RunState.{RunState, bus_of, process_served, carried_here};
 ghost use Rattle.bus_due.specs.RunSteps.{run_state};
 ghost use Rattle.scsi_device.specs.Lines.{AreUnits};
@@ -28,6 +28,7 @@ ghost use Rattle.bus_books.specs.Giving.{Gives, GivesNext};
 ghost use Rattle.bus_books.specs.Carrying.{AllCarryOwn, AllSendOwn, SendsOwn};
 ghost use Rattle.bus_books.specs.Knowing.{Knows, NamesServed};
 ghost use Rattle.bus_books.specs.Hearing.{HasPhase, LeavesWhole, MovesRuns};
+ghost use Rattle.bus_books.specs.Traces.{RowOf, AreRowsOf, Books};
 
 /// After any rows, what a device calls for is an item of the scenario: a command of it, the automatic REQUEST SENSE of
 /// one, or an abort.
@@ -125,8 +126,21 @@ pub fn rows_of_connections_are_faithful()
     ensures { (s : ScenarioValue) (rows : List Row) (row : Row) (n : Connection) → AreUnits s
         → Speaks s (run_state s rows) n → Knows s (run_state s rows) n → AllCarryOwn s (run_state s rows)
         → HasPhase (run_state s rows) → (run_state s rows).story.bus_state.connection ≡ Some n
-        → SendsOwn s (run_state s rows) row → MovesRuns s (run_state s rows) n
+        → SendsOwn s (run_state s rows) row
+        → ((row_reading (run_state s rows).story.bus_state row).crosses ≡ true → MovesRuns s (run_state s rows) n)
         → (changes_phase (row_reading (run_state s rows).story.bus_state row).change ≡ true
             → LeavesWhole s (run_state s rows) n)
         → is_faithful s (run_state s rows) (row_reading (run_state s rows).story.bus_state row) ≡ true }
+{}
+
+/// These books hold together after all rows of a trace (`rows`), since each row keeps them (`next`), where each row is one of
+/// these: outside a connection; the first of one, made for the item of its initiator or the process that its target has
+/// ready; one of a connection, with the bytes that its ends are due to drive; its last; or a row after which RST is true.
+/// Then what crosses in the trace is what was to be said (`faithful`).
+pub fn books_hold_after_all_rows()
+    ensures rows { (s : ScenarioValue) (rows : List Row) → AreUnits s → AreRowsOf s rows → Books s (run_state s rows) }
+    ensures next { (s : ScenarioValue) (rows : List Row) (row : Row) → AreUnits s → RowOf s (run_state s rows) row
+        → Books s (run_state s rows) → Books s (run_state s (row ∷ rows)) }
+    ensures faithful { (s : ScenarioValue) (rows : List Row) → AreUnits s → AreRowsOf s rows
+        → faithful s rows ≡ true }
 {}
