@@ -1,0 +1,64 @@
+-- A connection begins: after a selection its initiator knows the process from the first.
+use Rattle.std.proofs.Common.{◌≡◌, ◌⊎◌, inl, inr, Bool, true, false, not, ◌&&◌, ◌∙◌, Option, Some, None, refl, sym, ap, subst, true≢false}
+use Rattle.std.specs.Prelude.{if◌then◌else◌}
+use Rattle.bus_trace.specs.declared.Row.{Row}
+use Rattle.bus_trace.specs.declared.connection.Connection.{Connection}
+use Rattle.scenario.specs.Value.{ScenarioValue}
+use Rattle.bus_story.specs.BusState.{row_reading}
+use Rattle.bus_story.specs.Items.{Item, process, abort}
+use Rattle.bus_story.specs.Links.{Link, link_of}
+use Rattle.bus_story.specs.HistoryEvents.{row_events_by}
+use Rattle.bus_story.specs.Story.{Story}
+use Rattle.bus_story.specs.TraceHistory.{aim_of, story_with_restored, story_with_sent, story_after_connection, story_on_bus, story_by_change}
+use Rattle.bus_dialogue.specs.Exchange.{Exchange, no_messages}
+use Rattle.bus_dialogue.specs.Planning.{first_plan}
+use Rattle.bus_due.specs.RunState.{RunState}
+use Rattle.bus_due.specs.RunSteps.{run_state_after, first_exchange, exchange_after, served_after, may_negotiate, item_if, messages_if, leaving_of}
+use Rattle.bus_due.specs.Wants.{ready_of}
+use Rattle.bus_books.specs.Giving.{OnMessages}
+use Rattle.bus_books.specs.Knowing.{IsNoName, Knows}
+use Rattle.bus_books.specs.Rows.{IsFirstRow}
+use Rattle.bus_books.proofs.Knows.{events_link}
+
+restored_link : (b : Story) (item : Option Item) → (story_with_restored b item).link ≡ b.link
+restored_link b None = refl
+restored_link b (Some (process id)) = refl
+restored_link b (Some (abort n)) = refl
+
+sent_link : (b : Story) (item : Option Item) → (story_with_sent b item).link ≡ b.link
+sent_link b None = refl
+sent_link b (Some item) = refl
+
+first_link : (b : Story) (n : Connection) → (story_after_connection b n).link ≡ Some (link_of n (if n.reselected then None else aim_of b.aims n.initiator))
+first_link b n = go n.reselected (aim_of b.aims n.initiator)
+  where
+    go : (q : Bool) (item : Option Item) → (if q then record b { link = Some (link_of n None) } else story_with_restored (story_with_sent (record b { link = Some (link_of n item) }) item) item).link ≡ Some (link_of n (if q then None else item))
+    go true item = refl
+    go false item = restored_link (story_with_sent (record b { link = Some (link_of n item) }) item) item ∙ sent_link (record b { link = Some (link_of n item) }) item
+
+pub knows_first : (s : ScenarioValue) (k : RunState) (row : Row) (n : Connection) → IsFirstRow k row n → Knows s (run_state_after s k row) n
+knows_first s k row n h = record {
+  link = link_of n (if n.reselected then None else aim_of k.story.aims n.initiator);
+  link_is =
+      events_link s (story_by_change s k.story (row_reading k.story.bus_state row) row) (row_events_by s k.story (row_reading k.story.bus_state row) row)
+      ∙ ap (λ (q : Bool). (if q then record k.story { link = None } else story_on_bus s k.story k.story.bus_state.connection (row_reading k.story.bus_state row).next (row_reading k.story.bus_state row) row).link) h.calm
+      ∙ (λ i. (story_on_bus s k.story (h.connection_is i) (h.next_is i) (row_reading k.story.bus_state row) row).link)
+      ∙ first_link k.story n;
+  initiator_is = refl;
+  target_is = refl;
+  nameless = λ e. subst (λ (x : Exchange). OnMessages IsNoName x.plan.messages) (sym made) (none n.reselected e);
+  item_is = known n.reselected refl;
+}
+  where
+    made : (run_state_after s k row).exchange ≡ first_exchange s k n (aim_of k.story.aims n.initiator)
+    made = λ i. exchange_after s k row (row_reading k.story.bus_state row) (h.connection_is i) (h.next_is i) (leaving_of s k k.story.bus_state.connection)
+    served : (run_state_after s k row).served ≡ (if n.reselected then item_if (ready_of s k n.target) else aim_of k.story.aims n.initiator)
+    served = λ i. served_after s k (h.connection_is i) (h.next_is i)
+    none : (q : Bool) → q ≡ false → OnMessages IsNoName (first_plan q (not q && may_negotiate k n (aim_of k.story.aims n.initiator)) (if q then messages_if (ready_of s k n.target) else no_messages)).messages
+    none true e = absurd (true≢false e)
+    none false e = (tt, tt)
+    known : (q : Bool) → n.reselected ≡ q → ((if n.reselected then None else aim_of k.story.aims n.initiator) ≡ (run_state_after s k row).served) ⊎ ((n.reselected ≡ true) × ((if n.reselected then None else aim_of k.story.aims n.initiator) ≡ None))
+    known true e = inr (e, ap (λ (q : Bool). if q then None else aim_of k.story.aims n.initiator) e)
+    known false e =
+        inl (ap (λ (q : Bool). if q then None else aim_of k.story.aims n.initiator) e
+        ∙ sym (served ∙ ap (λ (q : Bool). if q then item_if (ready_of s k n.target) else aim_of k.story.aims n.initiator) e))

@@ -1,0 +1,175 @@
+-- MESSAGE IN begins with a reselection; and no byte of it makes an unknown message, nor is one half given at the end.
+use Rattle.std.proofs.Common.{ℕ, zero, suc, ◌≡◌, ◌<◌, Bool, true, false, not, ◌&&◌, ◌∙◌, List, [], ◌∷◌, ◌++◌, length, Option, Some, None, refl, sym, ap, subst, arith, append-nil, length-append, true≢false}
+use Rattle.std.specs.Prelude.{if◌then◌else◌, is_some, slice_index_or, ◌%◌}
+use Rattle.bus_trace.specs.declared.Row.{Row}
+use Rattle.bus_trace.specs.declared.changes.Change.{Change}
+use Rattle.bus_trace.specs.declared.connection.Connection.{Connection}
+use Rattle.bus_trace.specs.Changes.{rises}
+use Rattle.bus_trace.specs.Terms.{receiver_in}
+use Rattle.bus_trace.specs.Phases.{changes_phase, is_message_out, is_message_in}
+use Rattle.bus_lines.specs.Handshakes.{Handshakes, no_handshakes, handshakes_after, asked_if, answered_if}
+use Rattle.bus_phases.specs.declared.reading.Reading.TheVariants as readings
+use Rattle.bus_phases.specs.Dialogue.{opened, dialogue_after}
+use Rattle.bus_phases.specs.Half.{left_of, is_nil}
+use Rattle.bus_phases.specs.Reading.{reading_out, reading_in, reading_of}
+use Rattle.bus_rules.specs.Messages.{is_unknown}
+use Rattle.msg_grammar.specs.declared.message.MsgIn.{MsgIn}
+use Rattle.msg_grammar.specs.declared.message.MsgIn.TheVariants as to_initiator
+use Rattle.msg_grammar.specs.Messages.{form_in, FitsIn, got_out, got_in, in_bytes}
+use Rattle.scenario.specs.declared.value.Tag.{Tag}
+use Rattle.scenario.specs.declared.value.Tag.TheVariants as tags
+use Rattle.scenario.specs.Value.{ScenarioValue}
+use Rattle.bus_story.specs.PairAgreements.{agreement_in}
+use Rattle.bus_story.specs.BusState.{row_reading}
+use Rattle.bus_story.specs.TraceHistory.{aim_of}
+use Rattle.bus_dialogue.specs.declared.exchange.Messages.{Messages}
+use Rattle.bus_dialogue.specs.Exchange.{no_messages, bytes_of_messages, message_bytes}
+use Rattle.bus_dialogue.specs.Planning.{first_plan}
+use Rattle.bus_dialogue.specs.Words.{tag_named}
+use Rattle.bus_dialogue.specs.Wants.{Ready}
+use Rattle.bus_due.specs.RunState.{RunState, bus_of}
+use Rattle.bus_due.specs.RunSteps.{run_state_after, messages_if, first_exchange, exchange_after, may_negotiate, leaving_of}
+use Rattle.bus_due.specs.Wants.{ready_of}
+use Rattle.bus_books.specs.Listening.{half_after, form_messages_in}
+use Rattle.bus_books.specs.Giving.{OnMessage, OnMessages, Gives, GivesNext}
+use Rattle.bus_books.specs.Rows.{IsFirstRow}
+use Rattle.bus_books.proofs.Lists.{word_at}
+use Rattle.bus_books.proofs.Areas.{split_at}
+use Rattle.bus_books.proofs.Gives.{gives_as}
+
+-- ---- the first row
+
+names_fit : (r : Option Ready) → ((x : Ready) → r ≡ Some x → x.process.unit < 8) → OnMessages FitsIn (messages_if r)
+names_fit None h = (tt, tt)
+names_fit (Some r) h = (h r refl, tagged r.process.tag)
+  where
+    tagged : (t : Tag) → OnMessage FitsIn (tag_named t)
+    tagged tags.Untagged = tt
+    tagged (tags.Simple n) = tt
+    tagged (tags.Ordered n) = tt
+    tagged (tags.Head n) = tt
+
+pub gives_first : (s : ScenarioValue) (k : RunState) (row : Row) (n : Connection) → IsFirstRow k row n → (n.reselected ≡ true → (r : Ready) → ready_of s k n.target ≡ Some r → r.process.unit < 8) → Gives (run_state_after s k row)
+gives_first s k row n h named =
+    let d = row_reading k.story.bus_state row in
+    let k' = run_state_after s k row in
+    gives_as k'.exchange (first_exchange s k n (aim_of k.story.aims n.initiator)) k'.story.bus_state.dialogue (opened (agreement_in k.story.bus_state.agreed n.initiator n.target)) k'.handshakes (bus_of k') d.change.after
+    (λ i. exchange_after s k row d (h.connection_is i) (h.next_is i) (leaving_of s k k.story.bus_state.connection))
+    (λ i. dialogue_after k.story.bus_state.dialogue (h.connection_is i) (h.next_is i) (λ j u. agreement_in k.story.bus_state.agreed j u) d.change)
+    refl
+    (record {
+      fit = fits n.reselected refl;
+      in_message_in = λ f g. record { before = []; rest = bytes_of_messages (first_exchange s k n (aim_of k.story.aims n.initiator)).plan.messages; bytes_are = refl; count_is = counted; half_is = refl };
+    })
+  where
+    fits : (q : Bool) → n.reselected ≡ q → OnMessages FitsIn (first_plan n.reselected (not n.reselected && may_negotiate k n (aim_of k.story.aims n.initiator)) (if n.reselected then messages_if (ready_of s k n.target) else no_messages)).messages
+    fits true e =
+        subst (λ (q : Bool). OnMessages FitsIn (first_plan q (not q && may_negotiate k n (aim_of k.story.aims n.initiator)) (if q then messages_if (ready_of s k n.target) else no_messages)).messages) (sym e)
+        (names_fit (ready_of s k n.target) (named e))
+    fits false e =
+        subst (λ (q : Bool). OnMessages FitsIn (first_plan q (not q && may_negotiate k n (aim_of k.story.aims n.initiator)) (if q then messages_if (ready_of s k n.target) else no_messages)).messages) (sym e) (tt, tt)
+
+    answered : (q : Bool) (t : ℕ) (z : Handshakes) → (answered_if q t z).requests ≡ z.requests
+    answered true t z = refl
+    answered false t z = refl
+
+    begun : (q r : Bool) → (if q then no_handshakes else answered_if r row.time k.handshakes).requests ≡ 0
+    begun true r = refl
+    begun false r = answered r row.time k.handshakes ∙ h.none_asked
+
+    counted : (run_state_after s k row).handshakes.requests ≡ 0
+    counted =
+        (λ i. (handshakes_after (h.lines i) (h.next_is i) (row_reading k.story.bus_state row).change row.time k.handshakes).requests)
+        ∙ ap (λ (q : Bool). (if changes_phase (row_reading k.story.bus_state row).change then no_handshakes else answered_if (rises (row_reading k.story.bus_state row).change.before.ack (row_reading k.story.bus_state row).change.after.ack) row.time (asked_if q row.time k.handshakes)).requests) h.asks_none
+        ∙ begun (changes_phase (row_reading k.story.bus_state row).change) (rises (row_reading k.story.bus_state row).change.before.ack (row_reading k.story.bus_state row).change.after.ack)
+
+-- ---- messages
+
+and_first : (a b : Bool) → (a && b) ≡ true → a ≡ true
+and_first true b e = refl
+and_first false b e = absurd (true≢false (sym e))
+
+and_second : (a b : Bool) → (a && b) ≡ true → b ≡ true
+and_second true b e = e
+and_second false b e = absurd (true≢false (sym e))
+
+named_whole : (lun : ℕ) (rest : List ℕ) → lun < 8 → form_messages_in [] rest ≡ true → form_messages_in [] (in_bytes (to_initiator.Identify lun) ++ rest) ≡ true
+unfolding form_in
+named_whole zero rest lt e = e
+named_whole (suc zero) rest lt e = e
+named_whole (suc (suc zero)) rest lt e = e
+named_whole (suc (suc (suc zero))) rest lt e = e
+named_whole (suc (suc (suc (suc zero)))) rest lt e = e
+named_whole (suc (suc (suc (suc (suc zero))))) rest lt e = e
+named_whole (suc (suc (suc (suc (suc (suc zero)))))) rest lt e = e
+named_whole (suc (suc (suc (suc (suc (suc (suc zero))))))) rest lt e = e
+named_whole (suc (suc (suc (suc (suc (suc (suc (suc n)))))))) rest lt e = absurd omega (arith, lt)
+
+message_whole : (m : MsgIn) (rest : List ℕ) → FitsIn m → form_messages_in [] rest ≡ true → form_messages_in [] (in_bytes m ++ rest) ≡ true
+unfolding form_in
+message_whole to_initiator.CommandComplete rest h e = e
+message_whole to_initiator.SavePointer rest h e = e
+message_whole to_initiator.RestorePointers rest h e = e
+message_whole to_initiator.Disconnect rest h e = e
+message_whole (to_initiator.Identify lun) rest h e = named_whole lun rest h e
+message_whole (to_initiator.SimpleTag tag) rest h e = e
+message_whole (to_initiator.Sdtr offer) rest h e = e
+message_whole to_initiator.Reject rest h e = e
+
+whole_if : (m : Option MsgIn) (rest : List ℕ) → OnMessage FitsIn m → form_messages_in [] rest ≡ true → form_messages_in [] (message_bytes m ++ rest) ≡ true
+whole_if None rest h e = e
+whole_if (Some m) rest h e = message_whole m rest h e
+
+messages_whole : (m : Messages) → OnMessages FitsIn m → form_messages_in [] (bytes_of_messages m) ≡ true
+messages_whole m h =
+    whole_if m.first (message_bytes m.second) h.0 (ap (form_messages_in []) (sym (append-nil (message_bytes m.second))) ∙ whole_if m.second [] h.1 refl)
+
+nil_is : (xs : List ℕ) → is_nil xs ≡ true → xs ≡ []
+nil_is [] e = refl
+nil_is (x ∷ xs) e = absurd (true≢false (sym e))
+
+abbrev next_half : List ℕ → ℕ → List ℕ
+next_half half b = left_of (got_in (half ++ b ∷ [])) (half ++ b ∷ [])
+
+whole_at : (half xs : List ℕ) (b : ℕ) (ys : List ℕ) → form_messages_in half (xs ++ b ∷ ys) ≡ true → not (is_unknown (reading_in (got_in (half_after half xs ++ b ∷ [])))) ≡ true
+whole_at half [] b ys e = and_first (not (is_unknown (reading_in (got_in (half ++ b ∷ []))))) (form_messages_in (next_half half b) ys) e
+whole_at half (x ∷ xs) b ys e = whole_at (next_half half x) xs b ys (and_second (not (is_unknown (reading_in (got_in (half ++ x ∷ []))))) (form_messages_in (next_half half x) (xs ++ b ∷ ys)) e)
+
+whole_end : (half xs : List ℕ) → form_messages_in half xs ≡ true → half_after half xs ≡ []
+whole_end half [] e = nil_is half e
+whole_end half (x ∷ xs) e = whole_end (next_half half x) xs (and_second (not (is_unknown (reading_in (got_in (half ++ x ∷ []))))) (form_messages_in (next_half half x) xs) e)
+
+none_left : (xs ys all : List ℕ) → all ≡ xs ++ ys → length all ≡ length xs → xs ≡ all
+none_left xs [] all e l = sym (append-nil xs) ∙ sym e
+none_left xs (y ∷ ys) all e l = let a = ap length e in let b = length-append xs (y ∷ ys) in absurd omega (arith, a, b, l)
+
+-- After the last byte no message is heard half.
+pub in_is_whole : (k : RunState) → Gives k → k.exchange.begun ≡ true → is_message_in (bus_of k) ≡ true → k.handshakes.requests ≡ length (bytes_of_messages k.exchange.plan.messages) → k.story.bus_state.dialogue.half ≡ []
+in_is_whole k g eb ei el =
+    let w = g.in_message_in eb ei in
+    let all = none_left w.before w.rest (bytes_of_messages k.exchange.plan.messages) w.bytes_are (sym el ∙ w.count_is) in
+    w.half_is ∙ ap (half_after []) all ∙ whole_end [] (bytes_of_messages k.exchange.plan.messages) (messages_whole k.exchange.plan.messages g.fit)
+
+-- No byte makes an unknown message.
+pub in_is_known : (k : RunState) (n : Connection) (c : Change) → Gives k → k.exchange.begun ≡ true → bus_of k ≡ c.before → is_message_in c.before ≡ true → is_message_out c.before ≡ false → GivesNext k n c → is_unknown (reading_of k.story.bus_state.dialogue.half (Some n) c) ≡ false
+in_is_known k n c g eb ec ei eo next = go (is_some (receiver_in n c)) refl
+  where
+    flip : (q : Bool) → not q ≡ true → q ≡ false
+    flip true z = absurd (true≢false (sym z))
+    flip false z = refl
+
+    go : (q : Bool) → is_some (receiver_in n c) ≡ q → is_unknown (reading_of k.story.bus_state.dialogue.half (Some n) c) ≡ false
+    go false e =
+        ap (λ (q : Bool). is_unknown (if q then if is_message_out c.before then reading_out (got_out (k.story.bus_state.dialogue.half ++ c.after.data_bits % 256 ∷ [])) else if is_message_in c.before then reading_in (got_in (k.story.bus_state.dialogue.half ++ c.after.data_bits % 256 ∷ [])) else readings.NoMessage else readings.NoMessage)) e
+    go true e =
+        let w = g.in_message_in eb (ap is_message_in ec ∙ ei) in
+        let y = next ei e in
+        let bytes = bytes_of_messages k.exchange.plan.messages in
+        let lt : length w.before < length bytes = let a = w.count_is in let b = y.1 in omega arith in
+        let sp = split_at w.before w.rest bytes (sym w.bytes_are) lt in
+        let all : bytes ≡ w.before ++ sp.0 ∷ sp.1 = w.bytes_are ∙ ap (λ (r : List ℕ). w.before ++ r) sp.2 in
+        let is : c.after.data_bits % 256 ≡ sp.0 = y.0 ∙ (λ i. slice_index_or (all i) (w.count_is i) 0) ∙ word_at w.before sp.0 sp.1 in
+        (λ i. is_unknown (if e i then if eo i then reading_out (got_out (k.story.bus_state.dialogue.half ++ c.after.data_bits % 256 ∷ [])) else if ei i then reading_in (got_in (k.story.bus_state.dialogue.half ++ c.after.data_bits % 256 ∷ [])) else readings.NoMessage else readings.NoMessage))
+        ∙ (λ i. is_unknown (reading_in (got_in (w.half_is i ++ is i ∷ []))))
+        ∙ flip (is_unknown (reading_in (got_in (half_after [] w.before ++ sp.0 ∷ []))))
+        (whole_at [] w.before sp.0 sp.1 (ap (form_messages_in []) (sym all) ∙ messages_whole k.exchange.plan.messages g.fit))

@@ -1,0 +1,261 @@
+-- What is given in MESSAGE IN goes on with each row of a connection.
+use Rattle.std.proofs.Common.{ℕ, ◌≡◌, ◌<◌, ◌+◌, Bool, true, false, not, ◌&&◌, ◌∙◌, List, [], ◌∷◌, ◌++◌, length, Option, Some, None, refl, sym, ap, subst, arith, append_assoc, length-append, true≢false}
+use Rattle.std.specs.Prelude.{if◌then◌else◌, is_some, slice_index_or, nat_lt, ◌-◌, ◌%◌}
+use Rattle.bus_base.specs.Faults.{counted_on}
+use Rattle.bus_trace.specs.LineSet.{LineSet}
+use Rattle.bus_trace.specs.declared.Row.{Row}
+use Rattle.bus_trace.specs.declared.changes.Change.{Change}
+use Rattle.bus_trace.specs.declared.connection.Connection.{Connection}
+use Rattle.bus_trace.specs.Changes.{rises}
+use Rattle.bus_trace.specs.Terms.{receiver_in}
+use Rattle.bus_trace.specs.Phases.{changes_phase, is_message_out, is_message_in}
+use Rattle.bus_lines.specs.Handshakes.{Handshakes, no_handshakes, handshakes_on, handshakes_after, asked_if, answered_if, strikes_if}
+use Rattle.bus_phases.specs.declared.dialogue.Dialogue.{Dialogue}
+use Rattle.bus_phases.specs.Dialogue.{byte_out, byte_in, byte_else, byte_crosses, phase_begins}
+use Rattle.bus_phases.specs.Half.{left_of}
+use Rattle.msg_grammar.specs.declared.message.MsgIn.{MsgIn}
+use Rattle.msg_grammar.specs.declared.message.MsgIn.TheVariants as to_initiator
+use Rattle.msg_grammar.specs.declared.message.MsgOut.{MsgOut}
+use Rattle.msg_grammar.specs.Messages.{FitsIn, got_in, in_bytes}
+use Rattle.scenario.specs.declared.value.HostDef.{HostDef}
+use Rattle.scenario.specs.Value.{ScenarioValue}
+use Rattle.bus_dialogue.specs.declared.exchange.Hearing.{Hearing}
+use Rattle.bus_dialogue.specs.declared.exchange.Leaving.{Leaving}
+use Rattle.bus_dialogue.specs.declared.exchange.Messages.{Messages}
+use Rattle.bus_dialogue.specs.declared.exchange.Plan.{Plan}
+use Rattle.bus_dialogue.specs.Exchange.{Exchange, bytes_of_messages, message_bytes, from_byte, plan_anew, plan_anew_if, plan_after_message, struck_plan}
+use Rattle.bus_dialogue.specs.Planning.{plan_in_phase, plan_in_message_out}
+use Rattle.bus_due.specs.RunState.{RunState, bus_of}
+use Rattle.bus_due.specs.Defs.{host_of}
+use Rattle.bus_due.specs.Sights.{hearing_of, leaving, serving_of}
+use Rattle.bus_due.specs.RunSteps.{run_state_after}
+use Rattle.bus_books.specs.Listening.{half_after}
+use Rattle.bus_books.specs.Giving.{AreGiven, OnMessages, GivesBy, Gives, GivesNext}
+use Rattle.bus_books.specs.Rows.{RowKind, still, strikes, crosses, turns, IsRowIn, reading_in}
+use Rattle.bus_books.proofs.Lists.{word_at}
+use Rattle.bus_books.proofs.Areas.{split_at}
+use Rattle.bus_books.proofs.InConnection.{exchange_by, dialogue_by, InConnection, in_connection, SamePhase, same_phase_is}
+use Rattle.bus_books.proofs.Leavings.{IsOfOthers, left_messages}
+
+-- ---- bytes
+
+half_append : (half xs ys : List ℕ) → half_after half (xs ++ ys) ≡ half_after (half_after half xs) ys
+half_append half [] ys = refl
+half_append half (x ∷ xs) ys = half_append (left_of (got_in (half ++ x ∷ [])) (half ++ x ∷ [])) xs ys
+
+pub given_on : (bytes half : List ℕ) (count byte : ℕ) → AreGiven bytes half count → byte ≡ slice_index_or bytes count 0 → count < length bytes → AreGiven bytes (left_of (got_in (half ++ byte ∷ [])) (half ++ byte ∷ [])) (count + 1)
+given_on bytes half count byte h e lt =
+    let n = h.count_is in
+    let sp = split_at h.before h.rest bytes (sym h.bytes_are) (omega arith) in
+    let whole : bytes ≡ h.before ++ sp.0 ∷ sp.1 = h.bytes_are ∙ ap (λ (r : List ℕ). h.before ++ r) sp.2 in
+    let is : byte ≡ sp.0 = e ∙ (λ i. slice_index_or (whole i) (n i) 0) ∙ word_at h.before sp.0 sp.1 in
+    record {
+      before = h.before ++ sp.0 ∷ [];
+      rest = sp.1;
+      bytes_are = whole ∙ sym (append_assoc h.before (sp.0 ∷ []) sp.1);
+      count_is = ap (λ (x : ℕ). x + 1) n ∙ sym (length-append h.before (sp.0 ∷ []));
+      half_is = (λ i. left_of (got_in (h.half_is i ++ is i ∷ [])) (h.half_is i ++ is i ∷ [])) ∙ sym (half_append [] h.before (sp.0 ∷ []));
+    }
+
+-- The messages of a phase are few bytes.
+few_bytes : (m : MsgIn) → length (in_bytes m) < 6
+few_bytes to_initiator.CommandComplete = omega arith
+few_bytes to_initiator.SavePointer = omega arith
+few_bytes to_initiator.RestorePointers = omega arith
+few_bytes to_initiator.Disconnect = omega arith
+few_bytes (to_initiator.Identify lun) = omega arith
+few_bytes (to_initiator.SimpleTag tag) = omega arith
+few_bytes (to_initiator.Sdtr offer) = omega arith
+few_bytes to_initiator.Reject = omega arith
+
+few_of : (m : Option MsgIn) → length (message_bytes m) < 6
+few_of None = omega arith
+few_of (Some m) = few_bytes m
+
+few_messages : (m : Messages) → length (bytes_of_messages m) < 12
+few_messages m =
+    let a = few_of m.first in
+    let b = few_of m.second in
+    let c = length-append (message_bytes m.first) (message_bytes m.second) in
+    omega arith
+
+counted : (n m : ℕ) → n < m → m < 12 → counted_on n ≡ n + 1
+counted n m a b = omega (arith, a, b)
+
+-- ---- handshakes
+
+answered_same : (q : Bool) (t : ℕ) (h : Handshakes) → (answered_if q t h).requests ≡ h.requests
+answered_same true t h = refl
+answered_same false t h = refl
+
+rises_none : (io q : Bool) (x y : ℕ) (z : Option ℕ) → io ≡ true → (if io then (if q then Some x else None) else z) ≡ None → q ≡ false
+rises_none io true x y z e f = absurd (some_none x (sym (ap (λ (r : Bool). if r then Some x else z) e) ∙ f))
+  where
+    some_none : (x : ℕ) → Some x ≡ (let a : Option ℕ = None in a) → ⊥
+    some_none x e = cc
+rises_none io false x y z e f = refl
+
+rises_some : (io q : Bool) (x dev : ℕ) (z : Option ℕ) → io ≡ true → (if io then (if q then Some x else None) else z) ≡ Some dev → q ≡ true
+rises_some io true x dev z e f = refl
+rises_some io false x dev z e f = absurd (none_some dev (sym (ap (λ (r : Bool). if r then None else z) e) ∙ f))
+  where
+    none_some : (x : ℕ) → (let a : Option ℕ = None in a) ≡ Some x → ⊥
+    none_some x e = cc
+
+requests_stay : (n : Connection) (c : Change) (t : ℕ) (h : Handshakes) → changes_phase c ≡ false → c.before.io ≡ true → receiver_in n c ≡ None → (handshakes_on (Some n) c t h).requests ≡ h.requests
+requests_stay n c t h ep io er =
+    (λ i. (if ep i then no_handshakes else answered_if (rises c.before.ack c.after.ack) t (asked_if (rises_none c.before.io (rises c.before.req c.after.req) n.initiator 0 (if rises c.before.ack c.after.ack then Some n.target else None) io er i) t h)).requests)
+    ∙ answered_same (rises c.before.ack c.after.ack) t h
+
+requests_rise : (n : Connection) (c : Change) (t dev : ℕ) (h : Handshakes) → changes_phase c ≡ false → c.before.io ≡ true → receiver_in n c ≡ Some dev → (handshakes_on (Some n) c t h).requests ≡ counted_on h.requests
+requests_rise n c t dev h ep io er =
+    (λ i. (if ep i then no_handshakes else answered_if (rises c.before.ack c.after.ack) t (asked_if (rises_some c.before.io (rises c.before.req c.after.req) n.initiator dev (if rises c.before.ack c.after.ack then Some n.target else None) io er i) t h)).requests)
+    ∙ answered_same (rises c.before.ack c.after.ack) t (asked_if true t h)
+
+struck_same : (q : Bool) (h : Handshakes) → (strikes_if q h).requests ≡ h.requests
+struck_same true h = refl
+struck_same false h = refl
+
+-- ---- what is kept is known otherwise
+
+pub gives_as : (x x' : Exchange) (d d' : Dialogue) (h : Handshakes) (b b' : LineSet) → x ≡ x' → d ≡ d' → b ≡ b' → GivesBy x' d' h b' → GivesBy x d h b
+gives_as x x' d d' h b b' ex ed eb g =
+    subst (λ (z : Exchange). GivesBy z d h b) (sym ex) (subst (λ (z : Dialogue). GivesBy x' z h b) (sym ed) (subst (λ (z : LineSet). GivesBy x' d' h z) (sym eb) g))
+
+in_same : (a b : LineSet) → SamePhase a b → is_message_in b ≡ is_message_in a
+in_same a b h = λ i. h.msg i && h.cd i && h.io i
+
+in_io : (b : LineSet) → is_message_in b ≡ true → b.io ≡ true
+in_io b e = last (b.msg && b.cd) b.io e
+  where
+    last : (q r : Bool) → (q && r) ≡ true → r ≡ true
+    last true r z = z
+    last false r z = absurd (true≢false (sym z))
+
+-- MESSAGE OUT is not MESSAGE IN.
+not_both : (b : LineSet) → is_message_out b ≡ true → is_message_in b ≡ true → ⊥
+not_both b o i = true≢false (sym (in_io b i) ∙ out b.msg b.cd b.io o)
+  where
+    out : (q r t : Bool) → (q && r && not t) ≡ true → t ≡ false
+    out true true false e = refl
+    out true true true e = absurd (true≢false (sym e))
+    out true false t e = absurd (true≢false (sym e))
+    out false r t e = absurd (true≢false (sym e))
+
+-- ---- the rows
+
+count_as : (bytes half : List ℕ) (a b : ℕ) → a ≡ b → AreGiven bytes half b → AreGiven bytes half a
+count_as bytes half a b e h = subst (λ (x : ℕ). AreGiven bytes half x) (sym e) h
+
+kept_messages : (q : Bool) (p : Plan) → (plan_anew_if q p).messages ≡ p.messages
+kept_messages true p = refl
+kept_messages false p = refl
+
+-- Lines change, or a byte is struck.
+gives_still : (n : Connection) (c : Change) (x : Exchange) (d : Dialogue) (h h' : Handshakes) → SamePhase c.before c.after → (c.before.io ≡ true → h'.requests ≡ h.requests) → GivesBy x d h c.before → GivesBy x d h' c.after
+gives_still n c x d h h' same e g = record {
+  fit = g.fit;
+  in_message_in = λ f i.
+      let was : is_message_in c.before ≡ true = sym (in_same c.before c.after same) ∙ i in
+      count_as (bytes_of_messages x.plan.messages) d.half h'.requests h.requests (e (in_io c.before was)) (g.in_message_in f was);
+}
+
+gives_struck : (x : Exchange) (d : Dialogue) (h : Handshakes) (b : LineSet) (io : Bool) → GivesBy x d h b → GivesBy (record { begun = x.begun; speech = x.speech; plan = if true && not io then struck_plan x.plan else x.plan }) d h b
+gives_struck x d h b true g = g
+gives_struck x d h b false g = record { fit = g.fit; in_message_in = g.in_message_in }
+
+-- A byte crosses, in MESSAGE IN or else.
+gives_byte : (k : RunState) (n : Connection) (c : Change) (dev : ℕ) (x : Exchange) (t : ℕ) → x.begun ≡ k.exchange.begun → x.plan.messages ≡ k.exchange.plan.messages → changes_phase c ≡ false → receiver_in n c ≡ Some dev → GivesNext k n c → GivesBy k.exchange k.story.bus_state.dialogue k.handshakes c.before
+    → GivesBy x (byte_crosses k.story.bus_state.dialogue c) (handshakes_on (Some n) c t k.handshakes) c.after
+gives_byte k n c dev x t eb em ep er next g = record {
+  fit = subst (λ (m : Messages). OnMessages FitsIn m) (sym em) g.fit;
+  in_message_in = λ f i.
+      let was : is_message_in c.before ≡ true = sym (in_same c.before c.after (same_phase_is c ep)) ∙ i in
+      let y = next was (ap (λ (z : Option ℕ). is_some z) er) in
+      let d : Dialogue = k.story.bus_state.dialogue in
+      let count : ℕ = k.handshakes.requests in
+      let byte : ℕ = c.after.data_bits % 256 in
+      let half : (byte_crosses d c).half ≡ left_of (got_in (d.half ++ byte ∷ [])) (d.half ++ byte ∷ []) = by d byte (not c.after.atn) (is_message_out c.before) (is_message_in c.before) refl was was in
+      let more : counted_on count ≡ count + 1 = counted count (length (bytes_of_messages k.exchange.plan.messages)) y.1 (few_messages k.exchange.plan.messages) in
+      let one = given_on (bytes_of_messages k.exchange.plan.messages) d.half count byte (g.in_message_in (sym eb ∙ f) was) y.0 y.1 in
+      subst (λ (m : Messages). AreGiven (bytes_of_messages m) (byte_crosses d c).half (handshakes_on (Some n) c t k.handshakes).requests) (sym em)
+      (subst (λ (z : List ℕ). AreGiven (bytes_of_messages k.exchange.plan.messages) z (handshakes_on (Some n) c t k.handshakes).requests) (sym half)
+      (count_as (bytes_of_messages k.exchange.plan.messages) (left_of (got_in (d.half ++ byte ∷ [])) (d.half ++ byte ∷ [])) (handshakes_on (Some n) c t k.handshakes).requests (count + 1) (requests_rise n c t dev k.handshakes ep (in_io c.before was) er ∙ more) one));
+}
+  where
+    by : (d : Dialogue) (byte : ℕ) (last : Bool) (o r : Bool) → is_message_out c.before ≡ o → is_message_in c.before ≡ true → r ≡ true → (if o then byte_out d byte last else if r then byte_in d byte else byte_else d c.before byte).half ≡ left_of (got_in (d.half ++ byte ∷ [])) (d.half ++ byte ∷ [])
+    by d byte last true r eo ei e = absurd (not_both c.before eo ei)
+    by d byte last false r eo ei e = ap (λ (q : Bool). (if q then byte_in d byte else byte_else d c.before byte).half) e
+
+pub byte_messages : (o last : Bool) (m : Option MsgOut) (p : Plan) → (if o then plan_after_message p last m else p).messages ≡ p.messages
+byte_messages true last m p = kept_messages last p
+byte_messages false last m p = refl
+
+-- A phase begins.
+from_fit : (m : Messages) (n : ℕ) → OnMessages FitsIn m → OnMessages FitsIn (from_byte m n)
+from_fit m n h = go (nat_lt n (length (message_bytes m.first)))
+  where
+    go : (q : Bool) → OnMessages FitsIn (if q then m else record { first = m.second; second = None })
+    go true = h
+    go false = (h.1, tt)
+
+others_fit : IsOfOthers FitsIn
+others_fit = record { complete = tt; save = tt; restore = tt; disconnect = tt; sdtr = λ a. tt; reject = tt }
+
+gives_turn : (x : Exchange) (w : Hearing) (l : Leaving) (h : Option HostDef) (now fault : Bool) (d : Dialogue) (y : Handshakes) → OnMessages FitsIn x.plan.messages → OnMessages FitsIn l.messages → y.requests ≡ 0 → GivesBy (exchange_by true now fault h w l x) (phase_begins d) y w.change.after
+gives_turn x w l h now fault d y was next zero = record {
+  fit = go (is_message_out w.change.after) w.begun;
+  in_message_in = λ f i. record { before = []; rest = bytes_of_messages (plan_in_phase w l x.plan).messages; bytes_are = refl; count_is = zero; half_is = refl };
+}
+  where
+    refused : (q : Bool) → OnMessages FitsIn (if q then from_byte x.plan.messages (w.offered - 1) else x.plan.messages)
+    refused true = from_fit x.plan.messages (w.offered - 1) was
+    refused false = was
+
+    go : (o b : Bool) → OnMessages FitsIn (if not o then record (plan_anew x.plan) { messages = l.messages; next = l.next } else if b then plan_in_message_out w x.plan else plan_anew x.plan).messages
+    go false b = next
+    go true true = refused (is_message_in w.change.before)
+    go true false = was
+
+pub gives_on : (s : ScenarioValue) (k : RunState) (row : Row) (n : Connection) (c : Change) → IsRowIn k row n c → GivesNext k n c → Gives k → Gives (run_state_after s k row)
+gives_on s k row n c r next g = go r.kind
+  where
+    was : GivesBy k.exchange k.story.bus_state.dialogue k.handshakes c.before
+    was = subst (λ (z : LineSet). GivesBy k.exchange k.story.bus_state.dialogue k.handshakes z) r.bus_is g
+
+    to : (phase now fault : Bool) → InConnection s k row n c phase now fault
+        → GivesBy (exchange_by phase now fault (host_of s n.initiator) (hearing_of k row (reading_in k.story.bus_state n c now)) (leaving s k n.target) k.exchange) (dialogue_by phase now c k.story.bus_state.dialogue) (run_state_after s k row).handshakes c.after
+        → Gives (run_state_after s k row)
+    to phase now fault i =
+        gives_as (run_state_after s k row).exchange (exchange_by phase now fault (host_of s n.initiator) (hearing_of k row (reading_in k.story.bus_state n c now)) (leaving s k n.target) k.exchange)
+        (run_state_after s k row).story.bus_state.dialogue (dialogue_by phase now c k.story.bus_state.dialogue) (run_state_after s k row).handshakes (bus_of (run_state_after s k row)) c.after i.exchange_is i.dialogue_is i.bus_is
+
+    none_crosses : receiver_in n c ≡ None → is_some (receiver_in n c) ≡ false
+    none_crosses e = ap (λ (z : Option ℕ). is_some z) e
+
+    go : RowKind row n c → Gives (run_state_after s k row)
+    go (still ef ep er) =
+        let i = in_connection s k row n c false false false r ep (none_crosses er) ef in
+        to false false false i
+        (gives_still n c k.exchange k.story.bus_state.dialogue k.handshakes (run_state_after s k row).handshakes (same_phase_is c ep)
+        (λ io. ap (λ (z : Handshakes). z.requests) (i.handshakes_is ∙ ap (λ (q : Bool). handshakes_after q (Some n) c row.time k.handshakes) ef) ∙ requests_stay n c row.time k.handshakes ep io er) was)
+    go (strikes ef ep er) =
+        let i = in_connection s k row n c false false true r ep (none_crosses er) ef in
+        to false false true i
+        (gives_struck k.exchange k.story.bus_state.dialogue (run_state_after s k row).handshakes c.after c.before.io
+        (gives_still n c k.exchange k.story.bus_state.dialogue k.handshakes (run_state_after s k row).handshakes (same_phase_is c ep)
+        (λ io. ap (λ (z : Handshakes). z.requests) (i.handshakes_is ∙ ap (λ (q : Bool). handshakes_after q (Some n) c row.time k.handshakes) ef) ∙ struck_same c.before.io k.handshakes) was))
+    go (crosses dev ef ep er) =
+        let i = in_connection s k row n c false true false r ep (ap (λ (z : Option ℕ). is_some z) er) ef in
+        to false true false i
+        (subst (λ (z : Handshakes). GivesBy (exchange_by false true false (host_of s n.initiator) (hearing_of k row (reading_in k.story.bus_state n c true)) (leaving s k n.target) k.exchange) (byte_crosses k.story.bus_state.dialogue c) z c.after)
+        (sym (i.handshakes_is ∙ ap (λ (q : Bool). handshakes_after q (Some n) c row.time k.handshakes) ef))
+        (gives_byte k n c dev (exchange_by false true false (host_of s n.initiator) (hearing_of k row (reading_in k.story.bus_state n c true)) (leaving s k n.target) k.exchange) row.time refl
+        (byte_messages (is_message_out c.before) k.story.bus_state.dialogue.is_last (hearing_of k row (reading_in k.story.bus_state n c true)).out k.exchange.plan) ep er next was))
+    go (turns ef ep er) =
+        let i = in_connection s k row n c true false false r ep (none_crosses er) ef in
+        to true false false i
+        (gives_turn k.exchange (hearing_of k row (reading_in k.story.bus_state n c false)) (leaving s k n.target) (host_of s n.initiator) false false k.story.bus_state.dialogue (run_state_after s k row).handshakes g.fit
+        (left_messages FitsIn others_fit (serving_of s k n.target) k.exchange.begun (bus_of k) g.fit)
+        (ap (λ (z : Handshakes). z.requests) (i.handshakes_is ∙ ap (λ (q : Bool). handshakes_after q (Some n) c row.time k.handshakes) ef)
+        ∙ ap (λ (q : Bool). (if q then no_handshakes else answered_if (rises c.before.ack c.after.ack) row.time (asked_if (rises c.before.req c.after.req) row.time k.handshakes)).requests) ep))

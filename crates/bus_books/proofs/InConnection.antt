@@ -1,0 +1,96 @@
+-- A row in a connection that stands before and after it: what it makes of what is kept.
+use Rattle.std.proofs.Common.{◌≡◌, Bool, true, false, not, ◌&&◌, ◌||◌, ◌∙◌, Option, Some, None, refl, sym, ap, true≢false}
+use Rattle.std.specs.Prelude.{if◌then◌else◌, is_some}
+use Rattle.bus_trace.specs.LineSet.{LineSet, same}
+use Rattle.bus_trace.specs.declared.Row.{Row}
+use Rattle.bus_trace.specs.declared.changes.Change.{Change}
+use Rattle.bus_trace.specs.declared.connection.Connection.{Connection}
+use Rattle.bus_trace.specs.Changes.{same_phase}
+use Rattle.bus_trace.specs.Terms.{is_fault, connection_after, receiver_in, receiver_of}
+use Rattle.bus_trace.specs.Phases.{changes_phase}
+use Rattle.bus_phases.specs.declared.dialogue.Dialogue.{Dialogue}
+use Rattle.bus_phases.specs.Dialogue.{dialogue_after, byte_crosses, phase_begins}
+use Rattle.scenario.specs.declared.value.HostDef.{HostDef}
+use Rattle.scenario.specs.Value.{ScenarioValue}
+use Rattle.bus_story.specs.PairAgreements.{agreement_in}
+use Rattle.bus_story.specs.BusState.{row_reading, message_out, message_in}
+use Rattle.bus_dialogue.specs.declared.exchange.Hearing.{Hearing}
+use Rattle.bus_dialogue.specs.declared.exchange.Leaving.{Leaving}
+use Rattle.bus_dialogue.specs.Exchange.{Exchange, struck_plan}
+use Rattle.bus_dialogue.specs.Speaking.{speech_in_phase, speech_with_byte}
+use Rattle.bus_dialogue.specs.Planning.{plan_in_phase, plan_with_byte}
+use Rattle.bus_lines.specs.Handshakes.{handshakes_after}
+use Rattle.bus_due.specs.RunState.{RunState}
+use Rattle.bus_due.specs.Defs.{host_of}
+use Rattle.bus_due.specs.Sights.{hearing_of, leaving}
+use Rattle.bus_due.specs.RunSteps.{run_state_after, exchange_after, served_after, leaving_of}
+use Rattle.bus_books.specs.Rows.{IsRowIn, reading_in}
+
+pub reading_is : (k : RunState) (row : Row) (n : Connection) (c : Change) (q : Bool) → IsRowIn k row n c → is_some (receiver_in n c) ≡ q → row_reading k.story.bus_state row ≡ reading_in k.story.bus_state n c q
+reading_is k row n c q h e =
+    let w = k.story.bus_state in
+    let next : (row_reading w row).next ≡ Some n = (λ i. connection_after (h.connection_is i) w.call (h.change_is i) row) ∙ ap (λ (r : Bool). if r then Some n else None) h.stands in
+    let now : (row_reading w row).crosses ≡ q = (λ i. is_some (receiver_of (h.connection_is i) (h.change_is i))) ∙ e in
+    λ i. record { change = h.change_is i; next = next i; crosses = now i; out = message_out w.dialogue (h.change_is i) (now i); into = message_in w.dialogue (h.change_is i) (now i) }
+
+-- Of the two ends: what was said, heard and served.
+abbrev pub exchange_by : Bool → Bool → Bool → Option HostDef → Hearing → Leaving → Exchange → Exchange
+exchange_by phase now fault h w l x = record {
+  begun = phase || x.begun;
+  speech = if phase then speech_in_phase h w x.speech else if now then speech_with_byte w x.speech else x.speech;
+  plan = if phase then plan_in_phase w l x.plan else if now then plan_with_byte w x.plan else if fault && not w.change.before.io then struck_plan x.plan else x.plan;
+}
+
+abbrev pub dialogue_by : Bool → Bool → Change → Dialogue → Dialogue
+dialogue_by phase now c d = if now then byte_crosses d c else if phase then phase_begins d else d
+
+pub record InConnection (s : ScenarioValue) (k : RunState) (row : Row) (n : Connection) (c : Change) (phase now fault : Bool) : Type 0 where
+  pub exchange_is : (run_state_after s k row).exchange ≡ exchange_by phase now fault (host_of s n.initiator) (hearing_of k row (reading_in k.story.bus_state n c now)) (leaving s k n.target) k.exchange
+  pub dialogue_is : (run_state_after s k row).story.bus_state.dialogue ≡ dialogue_by phase now c k.story.bus_state.dialogue
+  pub served_is : (run_state_after s k row).served ≡ k.served
+  pub bus_is : (run_state_after s k row).story.bus_state.bus ≡ c.after
+  pub connection_is : (run_state_after s k row).story.bus_state.connection ≡ Some n
+  pub handshakes_is : (run_state_after s k row).handshakes ≡ handshakes_after (is_fault row.kind) (Some n) c row.time k.handshakes
+
+pub in_connection : (s : ScenarioValue) (k : RunState) (row : Row) (n : Connection) (c : Change) (phase now fault : Bool) → IsRowIn k row n c → changes_phase c ≡ phase → is_some (receiver_in n c) ≡ now → is_fault row.kind ≡ fault → InConnection s k row n c phase now fault
+in_connection s k row n c phase now fault h ep en ef =
+    let w = k.story.bus_state in
+    let d : row_reading w row ≡ reading_in w n c now = reading_is k row n c now h en in
+    record {
+      exchange_is =
+          (λ i. exchange_after s k row (d i) (h.connection_is i) (d i).next (leaving_of s k (h.connection_is i)))
+          ∙ (λ i. exchange_by (ep i) now (ef i) (host_of s n.initiator) (hearing_of k row (reading_in w n c now)) (leaving s k n.target) k.exchange);
+      dialogue_is =
+          (λ i. dialogue_after w.dialogue (h.connection_is i) (d i).next (λ j u. agreement_in w.agreed j u) (d i).change)
+          ∙ (λ i. dialogue_by (ep i) (en i) c w.dialogue);
+      served_is = λ i. served_after s k (h.connection_is i) (d i).next;
+      bus_is = λ i. (d i).change.after;
+      connection_is = λ i. (d i).next;
+      handshakes_is = λ i. handshakes_after (is_fault row.kind) (d i).next (d i).change row.time k.handshakes;
+    }
+
+-- The phase lines stay.
+same_lines : (a b : Bool) → same a b ≡ true → b ≡ a
+same_lines true b e = e
+same_lines false true e = absurd (true≢false (sym e))
+same_lines false false e = refl
+
+both : (a b : Bool) → (a && b) ≡ true → (a ≡ true) × (b ≡ true)
+both true b e = (refl, e)
+both false b e = absurd (true≢false (sym e))
+
+was_not : (q : Bool) → not q ≡ false → q ≡ true
+was_not true e = refl
+was_not false e = absurd (true≢false e)
+
+pub record SamePhase (a b : LineSet) : Type 0 where
+  pub msg : b.msg ≡ a.msg
+  pub cd : b.cd ≡ a.cd
+  pub io : b.io ≡ a.io
+
+pub same_phase_is : (c : Change) → changes_phase c ≡ false → SamePhase c.before c.after
+same_phase_is c e =
+    let all = was_not (same_phase c.before c.after) e in
+    let two = both (same c.before.msg c.after.msg && same c.before.cd c.after.cd) (same c.before.io c.after.io) all in
+    let one = both (same c.before.msg c.after.msg) (same c.before.cd c.after.cd) two.0 in
+    record { msg = same_lines c.before.msg c.after.msg one.0; cd = same_lines c.before.cd c.after.cd one.1; io = same_lines c.before.io c.after.io two.1 }

@@ -1,0 +1,24 @@
+mod Cases
+pub mod Lists
+pub mod Saying
+pub mod Reading
+pub mod Openings
+pub mod InConnection
+pub mod Speaks
+pub mod Aims
+pub mod FirstWords
+pub mod Opened
+pub mod Areas
+pub mod Lookups
+pub mod Carried
+pub mod CarriedRows
+pub mod Blocks
+pub mod Leavings
+pub mod Gives
+pub mod Given
+pub mod CarriedBlocks
+pub mod Hearable
+pub mod Knows
+pub mod Faith
+pub mod FirstLinks
+pub mod Traces

@@ -1,0 +1,16 @@
+use Rattle.bus_books.proofs.laws.books_hold_after_all_rows.Goals as goal
+use Rattle.bus_due.specs.RunSteps.{run_state}
+use Rattle.bus_books.proofs.Aims.{aims_are}
+use Rattle.bus_books.proofs.Traces.{books_on, books_are, trace_faithful}
+
+-- src/laws.rt
+pub returns-clause-rows : goal.returns-clause-rows
+returns-clause-rows c = λ s rows units h. books_are s rows units h
+
+-- src/laws.rt
+pub returns-clause-next : goal.returns-clause-next
+returns-clause-next c = λ s rows row units of books. books_on s (run_state s rows) row units (aims_are s rows) of books
+
+-- src/laws.rt
+pub returns-clause-faithful : goal.returns-clause-faithful
+returns-clause-faithful c = λ s rows units h. trace_faithful s rows units h

@@ -1,0 +1,13 @@
+use Rattle.bus_books.proofs.laws.initiators_say_what_is_asked.Goals as goal
+use Rattle.bus_due.specs.RunSteps.{run_state}
+use Rattle.bus_books.proofs.Aims.{aims_are}
+use Rattle.bus_books.proofs.FirstWords.{speaks_first}
+use Rattle.bus_books.proofs.Speaks.{speaks_on}
+
+-- src/laws.rt
+pub returns-clause-first : goal.returns-clause-first
+returns-clause-first c = λ s rows row n units begins aimed. speaks_first s (run_state s rows) row n units (aims_are s rows) begins aimed
+
+-- src/laws.rt
+pub returns-clause-next : goal.returns-clause-next
+returns-clause-next c = λ s rows row n change h says k. speaks_on s (run_state s rows) row n change h says k

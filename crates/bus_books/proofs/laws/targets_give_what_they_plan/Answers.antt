@@ -1,0 +1,12 @@
+use Rattle.bus_books.proofs.laws.targets_give_what_they_plan.Goals as goal
+use Rattle.bus_due.specs.RunSteps.{run_state}
+use Rattle.bus_books.proofs.Given.{gives_first}
+use Rattle.bus_books.proofs.Gives.{gives_on}
+
+-- src/laws.rt
+pub returns-clause-first : goal.returns-clause-first
+returns-clause-first c = λ s rows row n begins named. gives_first s (run_state s rows) row n begins named
+
+-- src/laws.rt
+pub returns-clause-next : goal.returns-clause-next
+returns-clause-next c = λ s rows row n change h gives k. gives_on s (run_state s rows) row n change h gives k

@@ -1,0 +1,46 @@
+-- What devices are due to do as they leave a phase, and what is still to be proved of the data runs: with these, a row of a
+-- connection tells what was to be said.
+use Rattle.std.specs.Prelude.{ℕ, ◌+◌, ◌≡◌, Bool, true, false, ◌&&◌, is_some, Some}
+use Rattle.bus_trace.specs.declared.connection.Connection.{Connection}
+use Rattle.cdb_codec.specs.Cdb.{has_group_len}
+use Rattle.scenario.specs.Value.{ScenarioValue}
+use Rattle.disk_array.specs.Processes.{Process}
+use Rattle.bus_dialogue.specs.declared.exchange.Phase.{Phase}
+use Rattle.bus_dialogue.specs.declared.exchange.Phase.TheVariants as phases
+use Rattle.bus_dialogue.specs.declared.exchange.Task.{Task}
+use Rattle.bus_dialogue.specs.Arrivals.{policy_of}
+use Rattle.bus_dialogue.specs.DataRuns.{run_at}
+use Rattle.bus_dialogue.specs.NextPhase.{phase_of}
+use Rattle.bus_due.specs.Defs.{target_def_of}
+use Rattle.bus_due.specs.RunState.{RunState, bus_of, item_of, process_served, carried_here}
+use Rattle.bus_due.specs.Tasks.{is_writing, task_of}
+
+abbrev pub is_in_phase : Phase → Bool
+is_in_phase phases.MessageIn = true
+is_in_phase _ = false
+
+abbrev pub is_out_phase : Phase → Bool
+is_out_phase phases.MessageOut = true
+is_out_phase _ = false
+
+-- Messages are of the phases with C/D; the reserved phases are not used (6.1.5).
+abbrev pub HasPhase : RunState → Type 0
+HasPhase k = (bus_of k).msg ≡ true → (bus_of k).cd ≡ true
+
+-- The present phase may be left: MESSAGE OUT after a byte with ATN false, COMMAND struck or once the block has the length of its
+-- group, and after a reselection any other phase once a name was heard, but MESSAGE IN with ATN true (6.1.6, 6.2.1).
+pub record LeavesWhole (s : ScenarioValue) (k : RunState) (n : Connection) : Type 0 where
+  pub out : phase_of (bus_of k) ≡ phases.MessageOut → k.story.bus_state.dialogue.is_last ≡ true
+  pub command : (p : Process) → process_served s k ≡ Some p → phase_of (bus_of k) ≡ phases.Command → (has_group_len p.cdb ≡ true) × (k.exchange.plan.struck ≡ false → has_group_len (carried_here k p.id).block ≡ true)
+  pub named : n.reselected ≡ true → is_out_phase (phase_of (bus_of k)) ≡ false → (is_in_phase (phase_of (bus_of k)) && (bus_of k).atn) ≡ false → is_some (item_of k.story.link) ≡ true
+
+-- In DATA OUT the process writes, its initiator knows it, and its pointer stands as many bytes after the beginning of its run as
+-- were answered.
+pub record IsAtRun (s : ScenarioValue) (k : RunState) (n : Connection) (p : Process) (t : Task) : Type 0 where
+  pub named : n.reselected ≡ true → is_some (item_of k.story.link) ≡ true
+  pub writes : is_writing p ≡ true
+  pub active_is : (carried_here k p.id).moved.active ≡ (run_at (policy_of (target_def_of s p.target)) t t.runs).start + k.handshakes.answers
+
+abbrev pub MovesRuns : ScenarioValue → RunState → Connection → Type 0
+MovesRuns s k n =
+    (p : Process) (t : Task) → process_served s k ≡ Some p → task_of s k ≡ Some t → phase_of (bus_of k) ≡ phases.DataOut → IsAtRun s k n p t

@@ -1,0 +1,11 @@
+pub mod Listening
+pub mod Accounts
+pub mod Tests
+pub mod Rows
+pub mod Speaking
+pub mod Items
+pub mod Carrying
+pub mod Giving
+pub mod Knowing
+pub mod Hearing
+pub mod Traces
