@@ -21,8 +21,8 @@ use bus_reactions::Due;
 use bus_trace::Row;
 use scenario::FaultDef;
 
-/// A device of the bus. `IsOf s rows dev device` says that it is the device `dev` of the scenario `s`, which was told of
-/// these rows. No call takes memory.
+/// A device of the bus. `IsOf s rows dev device` says that it is the device `dev` of the scenario `s`, which was told
+/// of these rows. No call takes memory.
 pub trait Device: Drop {
     ghost IsOf: { ScenarioValue → List Row → ℕ → Self → Type 0 };
 
