@@ -18,7 +18,8 @@ use Rattle.vcd_text.specs.declared.reader.VcdReader.{VcdReader}
 use Rattle.vcd_text.specs.declared.whole.VcdBad.{VcdBad}
 use Rattle.vcd_text.specs.declared.whole.VcdBad.TheVariants.{At}
 use Rattle.vcd_text.specs.Reading.{no_bytes, taken, read_of, vcd_of, Answers}
-use Rattle.vcd_text.proofs.Pieces.{taken_append}
+use Rattle.vcd_text.specs.Kept.{ReadsAs}
+use Rattle.vcd_text.proofs.ReadAlike.{reads_through, reads_after}
 use Rattle.bus_cli.specs.Lines.{Writing, writing, SaysLine, dump_line}
 use Rattle.bus_cli.specs.Unvcd.{dump_on, SaysRead, UnvcdSays, TellsRead, UnvcdTells, TakesDump}
 use Rattle.bus_cli.specs.declared.status.Status.{Status}
@@ -28,23 +29,23 @@ use Rattle.bus_cli.proofs.TooLong.{map_some, first_of}
 -- ---- a piece more
 
 pub takes_more : (old now next : Option (List ℕ)) (bytes into piece : List ℕ) (n count : ℕ) (r s : VcdReader) → HasRead old now bytes → IfSome now (λ ys. TakesFront ys next into n) → length bytes ≡ count → piece ≡ take n into → n ≤ length into
-    → r ≡ taken no_bytes bytes → s ≡ taken r piece → (xs : List ℕ) × HasRead old next xs × (length xs ≡ count + n) × (s ≡ taken no_bytes xs)
+    → ReadsAs r (taken no_bytes bytes) → ReadsAs s (taken r piece) → (xs : List ℕ) × HasRead old next xs × (length xs ≡ count + n) × ReadsAs s (taken no_bytes xs)
 takes_more old now next bytes into piece n count r s read took len same within before after = (
   bytes ++ take n into,
   read_more old now next bytes into n read took,
   length-append bytes (take n into) ∙ (λ i. len i + (length-take-le n into within) i),
-  after ∙ (λ i. taken (before i) (same i)) ∙ sym (taken_append bytes (take n into) no_bytes),
+  reads_after no_bytes r s bytes (take n into) before (reads_through s (taken r piece) (taken r (take n into)) after (ap (taken r) same)),
 )
 
 -- ---- the end of the input
 
-pub takes_all : (old now next : Option (List ℕ)) (bytes into : List ℕ) (n : ℕ) (r : VcdReader) → HasRead old now bytes → IfSome now (λ ys. TakesFront ys next into n) → n ≡ 0 → 0 < length into → length bytes ≤ DUMP_LIMIT → r ≡ taken no_bytes bytes → TakesDump old next (Ok r)
+pub takes_all : (old now next : Option (List ℕ)) (bytes into : List ℕ) (n : ℕ) (r : VcdReader) → HasRead old now bytes → IfSome now (λ ys. TakesFront ys next into n) → n ≡ 0 → 0 < length into → length bytes ≤ DUMP_LIMIT → ReadsAs r (taken no_bytes bytes) → TakesDump old next (Ok r)
 takes_all None now next bytes into n r so_far took none room few is = tt
 takes_all (Some xs) now next bytes into n r (rest, whole, left) took none room few is =
     let t = told now next rest into n left took in
     let over : rest ≡ [] = t.ends none room in
     let all : xs ≡ bytes = whole ∙ ap (λ (ys : List ℕ). bytes ++ ys) over ∙ append-nil bytes in (
-      is ∙ ap (taken no_bytes) (sym all),
+      is [] ∙ ap vcd_of (sym all),
       omega (arith, few, ap (λ (ys : List ℕ). length ys) all),
       t.rest ∙ ap (λ (ys : List ℕ). let o : Option (List ℕ) = Some (drop n ys) in o) over ∙ ap (λ k. let o : Option (List ℕ) = Some (drop k []) in o) none,
     )
@@ -63,10 +64,10 @@ not_first : {A : Type 0} (q : Bool) (x y : A) → q ≡ false → cond q x y ≡
 not_first true x y e = absurd cc
 not_first false x y e = refl
 
-read_is : (bytes : List ℕ) (r : VcdReader) → length bytes ≤ DUMP_LIMIT → r ≡ taken no_bytes bytes → read_of r ≡ dump_on bytes
+read_is : (bytes : List ℕ) (r : VcdReader) → length bytes ≤ DUMP_LIMIT → read_of r ≡ vcd_of bytes → read_of r ≡ dump_on bytes
 read_is bytes r few is =
     let short : nat_lt DUMP_LIMIT (length bytes) ≡ false = grind (arith, nat_tests) in
-    ap read_of is ∙ sym (not_first (nat_lt DUMP_LIMIT (length bytes)) (Err 0) (vcd_of bytes) short)
+    is ∙ sym (not_first (nat_lt DUMP_LIMIT (length bytes)) (Err 0) (vcd_of bytes) short)
 
 pub told_of_all : (status : Status) (input left : Option (List ℕ)) (r : VcdReader) → TakesDump input left (Ok r) → TellsRead status (read_of r) → IfSome input (λ xs. UnvcdTells status xs)
 told_of_all status None left r h tells = tt

@@ -7,7 +7,7 @@ use Rattle.bus_trace.specs.declared.rows.Row.{Row}
 use Rattle.trace_text.specs.RowText.{trace_text}
 use Rattle.vcd_text.specs.declared.limit.TheConstants.{LIMIT as DUMP_LIMIT}
 use Rattle.vcd_text.specs.declared.reader.VcdReader.{VcdReader}
-use Rattle.vcd_text.specs.Reading.{no_bytes, taken, vcd_of}
+use Rattle.vcd_text.specs.Reading.{read_of, vcd_of}
 use Rattle.bus_cli.specs.Lines.{usage_line, fault_line, memory_line, dump_line, Writing, Adds, AddsFront, SaysLine}
 use Rattle.bus_cli.specs.declared.status.Status.{Status}
 use Rattle.bus_cli.specs.declared.status.Status.TheVariants.{Done, Words, Refused, Read, Write, Memory, Broken, BadTrace, NotBuilt, BadDump}
@@ -61,7 +61,7 @@ UnvcdTells status bytes = TellsRead status (dump_on bytes)
 -- was read.
 abbrev pub TakesDump : Option (List ℕ) → Option (List ℕ) → Result VcdReader ReadEnd → Type 0
 TakesDump old left (Ok reader) =
-    IfSome old (λ xs. (reader ≡ taken no_bytes xs) × (length xs ≤ DUMP_LIMIT) × (left ≡ Some []))
+    IfSome old (λ xs. (read_of reader ≡ vcd_of xs) × (length xs ≤ DUMP_LIMIT) × (left ≡ Some []))
 TakesDump old left (Err ends.TooLong) = TakesBeyond old left DUMP_LIMIT
 TakesDump old left (Err ends.Fault) = Unit {0}
 TakesDump old left (Err ends.NoMemory) = Unit {0}

@@ -7,6 +7,7 @@ ghost use Rattle.bus_trace.specs.OfTrace.{IsRow};
 use bitflags::Flags;
 use bus_base::MemSink;
 use bus_trace::{Kind, Lines, Row};
+use std::alloc::Global;
 use std::test::Fail;
 use text_pages::{flush, is_failed, new_page, put, put_number};
 use vcd_text::{VcdBad, VcdReader, VcdRows, read_vcd, write_vcd};
@@ -66,6 +67,46 @@ fn reads_pieces(rt: HostRuntime) -> Result<(), Fail> {
         }
         let read = reader.finish(rt.alloc());
         assert!(rt; is_as_wanted(&read, Ok((2, 7))), "{len}");
+    }
+    Ok(())
+}
+
+// What stands before a long token, the byte that it repeats, what stands after it, and what is read.
+const LONG: [(&'static str, u8, &'static str, Result<(usize, u64), u32>); 9] = [
+    ("$comment ", b'x', " $end $timescale 1ns $end $enddefinitions $end", Ok((0, 0))),
+    ("$comment ", b'x', "\x7f $end", Err(1)),
+    ("\n", b'$', " $end", Err(2)),
+    (DECLARED, b'0', "7\n", Ok((0, 7))),
+    (DECLARED, b'0', "x\n", Err(2)),
+    (DECLARED, b'9', "\n", Err(2)),
+    (DECLARED_VALUE, b'z', "1 ! #3", Ok((0, 3))),
+    (DECLARED_VALUE, b'z', "2 !", Err(2)),
+    (DECLARED_CODE, b'!', "", Err(2)),
+];
+
+const DECLARED: &'static str = "$timescale 1ns $end $var wire 1 ! clk $end $enddefinitions $end\n#";
+
+const DECLARED_VALUE: &'static str = "$timescale 1ns $end $var wire 1 ! clk $end $enddefinitions $end\nb";
+
+const DECLARED_CODE: &'static str = "$timescale 1ns $end $var wire 1 ! clk $end $enddefinitions $end\n0";
+
+// Reads a dump with a token of a million bytes that comes in pieces.
+fn read_long(alloc: Global, before: &str, byte: u8, after: &str) -> Result<VcdRows, VcdBad> {
+    let mut reader = VcdReader::new(alloc);
+    reader.take_all(alloc, before.as_bytes())?;
+    let piece = [byte; 1000];
+    for _ in 0..1000 {
+        reader.take_all(alloc, &piece)?;
+    }
+    reader.take_all(alloc, after.as_bytes())?;
+    reader.finish(alloc)
+}
+
+#[test]
+fn reads_long_tokens(rt: HostRuntime) -> Result<(), Fail> {
+    for (before, byte, after, wanted) in LONG {
+        let read = read_long(rt.alloc(), before, byte, after);
+        assert!(rt; is_as_wanted(&read, wanted), "{before:?} {byte}");
     }
     Ok(())
 }

@@ -2,6 +2,9 @@ mod Written
 mod CodeSets
 pub mod Pieces
 mod Numbers
+mod LongTokens
+mod KeptTokens
+pub mod ReadAlike
 mod Cases
 mod TraceCases
 mod BackTokens

@@ -3,7 +3,7 @@ use Rattle.std.proofs.Common.{◌≡◌, ℕ, ◌≤◌, Bool, true, false, get_
 use Rattle.std.specs.Prelude.{◌==◌, nat_lt, if◌then◌else◌}
 use Rattle.vcd_text.specs.Tokens.{more_decimal, decimal_after, decimal_of, more_bits, bits_after, bits_of}
 
-decimal_none : (ds : List ℕ) → decimal_after None ds ≡ None
+pub decimal_none : (ds : List ℕ) → decimal_after None ds ≡ None
 decimal_none [] = refl
 decimal_none (d ∷ ds) = decimal_none ds
 

@@ -4,7 +4,7 @@ use Rattle.std.specs.Prelude.{not, if◌then◌else◌}
 use Rattle.std.specs.List.{prefix_len}
 use Rattle.std.specs.Option.{is_some}
 use Rattle.std.proofs.Math.Seq.{take-add}
-use Rattle.std.proofs.lemmas.List.{take_more, take-append-drop, length-drop}
+use Rattle.std.proofs.lemmas.List.{take_more, length-drop}
 use Rattle.std.proofs.lemmas.List.Sums.{prefix_len_stops}
 use Rattle.vcd_text.specs.declared.dump.Dump.{Dump}
 use Rattle.vcd_text.specs.declared.reader.VcdReader.{VcdReader}
@@ -51,7 +51,7 @@ text_inner (b ∷ piece) r fine = go (λ s h. text_inner piece s h) (is_space b)
       ap (taken r) front ∙ inner_more r b (take (prefix_len (λ b. not (is_space b)) piece) piece) fine e more ∙ ap (λ (text : List ℕ). record r { word = r.word ++ text }) (sym front)
 
 -- what a token made does not depend on the word that stands
-word_free_by : (r : VcdReader) (x y : List ℕ) (made : Option Dump) (b : ℕ) → spaced (stepped (record r { word = x }) made) b ≡ spaced (stepped (record r { word = y }) made) b
+pub word_free_by : (r : VcdReader) (x y : List ℕ) (made : Option Dump) (b : ℕ) → spaced (stepped (record r { word = x }) made) b ≡ spaced (stepped (record r { word = y }) made) b
 word_free_by r x y None b = refl
 word_free_by r x y (Some d) b = refl
 
@@ -60,11 +60,11 @@ word_free r x y [] b = refl
 word_free r x y (t ∷ token) b = word_free_by r x y (if is_token (t ∷ token) then step r.dump (t ∷ token) else None) b
 
 -- all of the piece is within a token
-pub piece_inner : (r : VcdReader) (piece : List ℕ) (len : ℕ) (word : List ℕ) → r.bad ≡ None → len ≡ prefix_len (λ b. not (is_space b)) piece → length piece ≡ len → word ≡ r.word ++ piece → record r { word = word } ≡ taken r (take len piece)
-piece_inner r piece len word fine is whole added =
+pub piece_inner : (r : VcdReader) (piece : List ℕ) (len : ℕ) → r.bad ≡ None → len ≡ prefix_len (λ b. not (is_space b)) piece → length piece ≡ len → record r { word = r.word ++ piece } ≡ taken r (take len piece)
+piece_inner r piece len fine is whole =
     let all : take len piece ≡ piece = ap (λ (n : ℕ). take n piece) (sym whole) ∙ take_all (length piece) piece (omega arith) in
     let text : take len piece ≡ take (prefix_len (λ b. not (is_space b)) piece) piece = ap (λ (n : ℕ). take n piece) is in
-    ap (λ (w : List ℕ). record r { word = w }) (added ∙ ap (λ (t : List ℕ). r.word ++ t) (sym all ∙ text)) ∙ sym (text_inner piece r fine) ∙ ap (taken r) (sym text)
+    ap (λ (t : List ℕ). record r { word = r.word ++ t }) (sym all ∙ text) ∙ sym (text_inner piece r fine) ∙ ap (taken r) (sym text)
 
 space_is : (q : Bool) → not q ≡ false → q ≡ true
 space_is true h = refl
@@ -81,22 +81,6 @@ piece_ended r s n piece len b d fine is below at ended spaced_is =
     spaced_is ∙ ap (λ (t : VcdReader). spaced t b) ended ∙ word_free r s.word (r.word ++ take len piece) (r.word ++ take len piece) b
     ∙ sym (byte_space (record r { word = r.word ++ take len piece }) b fine (space_is (is_space b) stops))
     ∙ sym (ap (λ (t : VcdReader). taken t (b ∷ [])) read) ∙ sym (taken_append (take len piece) (b ∷ []) r) ∙ ap (taken r) (sym more)
-
--- a part of a piece more
-pub part_more : (r s n : VcdReader) (piece : List ℕ) (at more : ℕ) → s ≡ taken r (take at piece) → n ≡ taken s (take more (drop at piece)) → n ≡ taken r (take (at + more) piece)
-part_more r s n piece at more before now =
-    now ∙ ap (λ (t : VcdReader). taken t (take more (drop at piece))) before ∙ sym (taken_append (take at piece) (take more (drop at piece)) r) ∙ ap (taken r) (sym (take-add at more piece))
-
--- after a token that breaks the form none is looked at
-some_line : (bad : Option ℕ) → is_some bad ≡ true → (line : ℕ) × (bad ≡ Some line)
-some_line (Some line) h = (line, refl)
-some_line None h = cc
-
-pub rest_bad : (r s : VcdReader) (piece : List ℕ) (at : ℕ) → s ≡ taken r (take at piece) → is_some s.bad ≡ true → s ≡ taken r piece
-rest_bad r s piece at before bad =
-    let whole : take at piece ++ drop at piece ≡ piece = take-append-drop at piece in
-    let line = some_line s.bad bad in
-    sym (taken_bad (drop at piece) s line.0 line.1) ∙ ap (λ (t : VcdReader). taken t (drop at piece)) before ∙ sym (taken_append (take at piece) (drop at piece) r) ∙ ap (taken r) whole
 
 pub open_none : (bad : Option ℕ) → false ≡ is_some bad → bad ≡ None
 open_none None h = refl

@@ -2,6 +2,8 @@ pub mod DumpText
 pub mod Tokens
 pub mod CodeLists
 pub mod Codes
+pub mod KeptDigits
 pub mod Steps
 pub mod Reading
+pub mod Kept
 pub mod Readable

@@ -1,6 +1,7 @@
 //! The codes of variables.
 ghost use Rattle.std.specs.Prelude.{◌≡◌, ◌<◌, [], ◌∷◌, ◌++◌, nat_eq, OnOk, IfOk, IfSome};
 ghost use Rattle.std.specs.Cmp.Lexicographic.{pointwise};
+ghost use Rattle.vcd_text.specs.CodeLists.{longest_code, longest_device};
 ghost use Rattle.vcd_text.specs.Codes.{with_code, has_code, device_of, has_device};
 
 use bus_base::Dev;
@@ -12,15 +13,18 @@ use std::marker::Model;
 #[derive(Drop)]
 pub(crate) struct CodeSet {
     codes: BTreeSet<Vec<u8>>,
+    longest: usize,
 }
 
 impl Model for CodeSet {
-    ghost use Rattle.std.specs.Prelude.{ℕ, List, map};
-    ghost use Rattle.vcd_text.specs.CodeLists.{bytes_in};
+    ghost use Rattle.std.specs.Prelude.{◌≡◌, ℕ, List, map};
+    ghost use Rattle.vcd_text.specs.CodeLists.{bytes_in, longest_code};
 
     ghost Value = { List (List ℕ) };
 
     ghost view = { λ a. map bytes_in a.codes.keys };
+
+    ghost invariant = { λ a. a.longest ≡ longest_code (map bytes_in a.codes.keys) };
 }
 
 impl CodeSet {
@@ -29,6 +33,7 @@ impl CodeSet {
     {
         CodeSet {
             codes: BTreeSet::new(alloc),
+            longest: 0,
         }
     }
 
@@ -36,9 +41,18 @@ impl CodeSet {
     pub(crate) fn add(&mut self, alloc: Global, code: &[u8]) -> Result<(), AllocError>
         ensures { OnOk result (self.new ≡ with_code self.old code.now) }
     {
+        let len = code.len();
         let code = Vec::from_slice(alloc, code)?;
         self.codes.insert(code)?;
+        self.longest = self.longest.max(len);
         Ok(())
+    }
+
+    /// How many bytes the longest code has.
+    pub(crate) fn longest(&self) -> usize
+        ensures { result ≡ longest_code self.now }
+    {
+        self.longest
     }
 
     pub(crate) fn has(&self, code: &[u8]) -> bool
@@ -88,17 +102,19 @@ impl DeviceCode {
 #[derive(Drop)]
 pub(crate) struct DeviceCodes {
     codes: Vec<DeviceCode>,
+    longest: usize,
 }
 
 impl Model for DeviceCodes {
-    ghost use Rattle.std.specs.Prelude.{ℕ, List, ◌<◌};
+    ghost use Rattle.std.specs.Prelude.{◌≡◌, ℕ, List, ◌<◌};
     ghost use Rattle.std.specs.List.{AllByRecursion};
+    ghost use Rattle.vcd_text.specs.CodeLists.{longest_device};
 
     ghost Value = { List (ℕ × List ℕ) };
 
     ghost view = { λ a. a.codes.items };
 
-    ghost invariant = { λ a. AllByRecursion (λ x. x.0 < 8) a.codes.items };
+    ghost invariant = { λ a. AllByRecursion (λ x. x.0 < 8) a.codes.items × (a.longest ≡ longest_device a.codes.items) };
 }
 
 impl DeviceCodes {
@@ -107,6 +123,7 @@ impl DeviceCodes {
     {
         DeviceCodes {
             codes: Vec::new(alloc),
+            longest: 0,
         }
     }
 
@@ -117,7 +134,15 @@ impl DeviceCodes {
     {
         let named = DeviceCode::new(alloc, device, code)?;
         self.codes.push(named)?;
+        self.longest = self.longest.max(code.len());
         Ok(())
+    }
+
+    /// How many bytes the longest code has.
+    pub(crate) fn longest(&self) -> usize
+        ensures { result ≡ longest_device self.now }
+    {
+        self.longest
     }
 
     /// The device of which this is the code.

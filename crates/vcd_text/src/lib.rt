@@ -6,14 +6,16 @@
 //!
 //! It stands on `text_pages` for writing and on `bus_trace` for rows. Its contract: [`write_vcd`] writes the dump of
 //! some rows and an end to any sink, or a front of it where the sink fails; [`VcdReader`], which takes a dump in any
-//! pieces, and [`read_vcd`] give its rows and its end, or the line of the first token that breaks the form. What was
-//! written is read again ([`dumps_read_back`]).
+//! pieces, and [`read_vcd`] give its rows and its end, or the line of the first token that breaks the form; of a token
+//! that has not ended few bytes are kept, however long it is (`specs/Kept.antt`). What was written is read again
+//! ([`dumps_read_back`]).
 #![tactic(auto)]
 
 mod awaits;
 mod codes;
 mod driven_rows;
 mod dump;
+mod kept;
 mod laws;
 mod limit;
 mod reader;

@@ -5,10 +5,12 @@ ghost use Rattle.bus_trace.specs.OfTrace.{IsRow};
 ghost use Rattle.std.specs.Option.{is_some};
 ghost use Rattle.vcd_text.specs.Tokens.{is_space, is_token};
 ghost use Rattle.vcd_text.specs.Steps.{step, Steps};
+ghost use Rattle.vcd_text.specs.Kept.{ReadsAs, IsShort};
 ghost use Rattle.vcd_text.specs.Reading.{no_bytes, token_ended, line_after, spaced, taken, is_whole, read_by, read_of, Answers};
 
 use crate::awaits::Awaits;
 use crate::dump::{Dump, no_dump};
+use crate::kept::keep_all;
 use crate::steps::step;
 use crate::tokens::{is_space, is_token};
 use crate::whole::{VcdBad, VcdRows};
@@ -121,8 +123,23 @@ impl VcdReader {
         if self.word.is_empty() {
             return self.end_text(alloc, text);
         }
-        self.word.add(text)?;
-        self.end_word(alloc)
+        if keep_all(&self.dump, &mut self.word, text)? {
+            return self.end_word(alloc);
+        }
+        self.bad = Some(self.line);
+        Ok(())
+    }
+
+    // These bytes are within a token.
+    fn grow(&mut self, text: &[u8]) -> Result<(), AllocError>
+        requires open { self.old.bad ≡ None }
+        ensures read { OnOk result (ReadsAs self.new (record self.old { word = self.old.word ++ text.now })) }
+        ensures short { OnOk result (IsShort self.old.dump self.old.word → IsShort self.new.dump self.new.word) }
+    {
+        if !keep_all(&self.dump, &mut self.word, text)? {
+            self.bad = Some(self.line);
+        }
+        Ok(())
     }
 
     // A byte between tokens.
@@ -137,13 +154,14 @@ impl VcdReader {
     fn take(&mut self, alloc: Global, piece: &[u8]) -> Result<usize, AllocError>
         requires open { self.old.bad ≡ None }
         requires some { 0 < length piece.now }
-        ensures taken { IfOk result (λ n. self.new ≡ taken self.old (take n piece.now)) }
+        ensures taken { IfOk result (λ n. ReadsAs self.new (taken self.old (take n piece.now))) }
+        ensures short { OnOk result (IsShort self.old.dump self.old.word → IsShort self.new.dump self.new.word) }
         ensures some { IfOk result (λ n. 0 < n) }
         ensures within { IfOk result (λ n. n ≤ length piece.now) }
     {
         let len = inner_len(piece);
         if len == piece.len() {
-            self.word.add(piece)?;
+            self.grow(piece)?;
             return Ok(len);
         }
         self.end_token(alloc, &piece[..len])?;
@@ -158,9 +176,11 @@ impl VcdReader {
         self.bad.is_some()
     }
 
-    /// Takes these bytes more.
+    /// Takes these bytes more. Of a token that has not ended it keeps at most 24 bytes more than the longest code of a
+    /// variable and the longest of a device have, and a new code whole.
     pub fn take_all(&mut self, alloc: Global, piece: &[u8]) -> Result<(), AllocError>
-        ensures { OnOk result (self.new ≡ taken self.old piece.now) }
+        ensures read { OnOk result (ReadsAs self.new (taken self.old piece.now)) }
+        ensures short { OnOk result (IsShort self.old.dump self.old.word → IsShort self.new.dump self.new.word) }
     {
         let mut at = 0;
         while at < piece.len() {

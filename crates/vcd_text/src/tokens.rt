@@ -2,7 +2,7 @@
 ghost use Rattle.std.specs.Prelude.{◌≡◌, ◌<◌, ◌^◌, nat_eq, Some, IfSome, if◌then◌else◌};
 ghost use Rattle.std.specs.List.{list_all};
 ghost use Rattle.std.specs.Cmp.Lexicographic.{pointwise};
-ghost use Rattle.vcd_text.specs.Tokens.{is_space, is_token, is_end, more_decimal, decimal_of, more_bits, bits_of, lines_of, is_bit, is_state, are_states, is_letter, device_named, given, after_keyword, after_timescale, after_width, after_part, after_change_keyword, after_value};
+ghost use Rattle.vcd_text.specs.Tokens.{is_space, is_printable, is_token, is_end, more_decimal, decimal_of, more_bits, bits_of, lines_of, is_bit, is_state, are_states, is_letter, device_named, given, after_keyword, after_timescale, after_width, after_part, after_change_keyword, after_value};
 
 use crate::awaits::Awaits;
 use bitflags::Flags;
@@ -17,11 +17,19 @@ pub(crate) fn is_space(byte: u8) -> bool
     byte == b' ' || byte == b'\t' || byte == b'\r' || byte == b'\n'
 }
 
+/// Whether a token may have this byte.
+#[inline]
+pub(crate) fn is_printable(byte: u8) -> bool
+    ensures { result ≡ is_printable byte }
+{
+    33 <= byte && byte <= 126
+}
+
 /// Whether all bytes are 21 to 7e.
 pub(crate) fn is_token(token: &[u8]) -> bool
     ensures { result ≡ is_token token.now }
 {
-    token.iter().all(|b| 33 <= *b && *b <= 126)
+    token.iter().all(|b| is_printable(*b))
 }
 
 /// Whether the token is this word.

@@ -38,7 +38,7 @@ impl From<AllocError> for VcdBad {
 }
 
 /// The rows and the end that a dump says, or the line of its first token that breaks the form. Memory is linear in
-/// the rows, the codes of the variables and the longest token.
+/// the rows and the codes of the variables.
 pub fn read_vcd(alloc: Global, bytes: &[u8]) -> Result<VcdRows, VcdBad>
     ensures exact { Answers result (vcd_of bytes.now) }
     // Each row is of one of the eight devices.

@@ -1,5 +1,6 @@
 //! The bytes of a token.
-ghost use Rattle.std.specs.Prelude.{◌≡◌, ◌↔◌, [], ◌++◌, OnOk, IsTrue};
+ghost use Rattle.std.specs.Prelude.{◌≡◌, ◌<◌, ◌↔◌, [], ◌∷◌, ◌++◌, length, IfOk, OnOk, IsTrue};
+ghost use Rattle.vcd_text.specs.KeptDigits.{DigitKept};
 
 use std::alloc::{AllocError, Global};
 use std::marker::Model;
@@ -35,6 +36,27 @@ impl Word {
         Ok(())
     }
 
+    /// Adds a byte.
+    pub(crate) fn push(&mut self, byte: u8) -> Result<(), AllocError>
+        ensures { OnOk result (self.new ≡ self.old ++ byte ∷ []) }
+    {
+        self.bytes.push(byte)?;
+        Ok(())
+    }
+
+    /// A digit more of the number from this place on, in place of the zero in front of it; false where it has none.
+    pub(crate) fn push_digit(&mut self, at: usize, digit: u8) -> Result<bool, AllocError>
+        requires { at < length self.old }
+        ensures { IfOk result (λ ok. DigitKept ok at self.old self.new digit) }
+    {
+        if self.bytes[at] != b'0' {
+            return Ok(false);
+        }
+        self.bytes.remove(at);
+        self.bytes.push(digit)?;
+        Ok(true)
+    }
+
     pub(crate) fn clear(&mut self)
         ensures { self.new ≡ [] }
     {
@@ -45,6 +67,12 @@ impl Word {
         ensures { IsTrue result ↔ (self.now ≡ []) }
     {
         self.bytes.is_empty()
+    }
+
+    pub(crate) fn len(&self) -> usize
+        ensures { result ≡ length self.now }
+    {
+        self.bytes.len()
     }
 
     pub(crate) fn as_slice(&self) -> &[u8]

@@ -31,7 +31,7 @@ loop-reader-preserved g c =
     record {
       within = omega (arith, c.in_ok-more.ensures.spare);
       never_falls = omega arith;
-      read = takes_more _ _ _ bytes _ _ c.in_ok-more.more c.loop-reader.count _ _ read c.in_ok-more.ensures.piece len refl (omega (arith, c.in_ok-more.ensures.within, c.read_piece.array_long)) is c.in_ok-take_all.ensures;
+      read = takes_more _ _ _ bytes _ _ c.in_ok-more.more c.loop-reader.count _ _ read c.in_ok-more.ensures.piece len refl (omega (arith, c.in_ok-more.ensures.within, c.read_piece.array_long)) is c.in_ok-take_all.ensures.read;
     }
 
 pub returns-in_err-take_all-clause-taken : goal.returns-in_err-take_all-clause-taken
