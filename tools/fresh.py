@@ -28,6 +28,7 @@ MADE = {
     "crates/bus_due/proofs/SeamCases.antt": (["tools/seam_case.py", "Cases"] + RUNS, None),
     "crates/bus_laws/proofs/HeardCases.antt": (["tools/heard_case.py", "Cases"] + RUNS, None),
     "crates/bus_books/proofs/Cases.antt": (["tools/books_case.py"] + RUNS, None),
+    "crates/bus_laws/proofs/WrittenCases.antt": (["tools/written_case.py", "Cases"] + RUNS, None),
     "crates/bus_laws/proofs/Cases.antt": (["tools/law_case.py"] + LAWS, None),
     "crates/vcd_text/proofs/TraceCases.antt": (["tools/dump_case.py"] + DUMPS, None),
     "crates/sync_nego/proofs/Cases.antt": (["tools/nego_case.py"], None),

@@ -27,3 +27,5 @@ pub mod DueTimes
 mod Cases
 mod HeardRuns
 mod HeardCases
+mod WrittenRuns
+mod WrittenCases

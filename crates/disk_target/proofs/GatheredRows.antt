@@ -1,9 +1,9 @@
 -- What came to a target of the data of writes goes on row by row.
-use Rattle.std.proofs.Common.{ℕ, zero, suc, ◌≡◌, ◌≢◌, ◌+◌, ◌<◌, ◌≤◌, Bool, true, false, List, [], ◌∷◌, ◌++◌, ◌∙◌, refl, sym, ap, subst, arith, length, take, get_or, set, Option, Some, None}
-use Rattle.std.specs.Prelude.{if◌then◌else◌, min, max, not, ◌^◌, ◌-◌, ◌%◌, ◌&&◌, ◌||◌, ◌==◌, nat_lt, slice_set}
+use Rattle.std.proofs.Common.{ℕ, zero, suc, ◌≡◌, ◌≢◌, ◌+◌, ◌<◌, ◌≤◌, Bool, true, false, List, [], ◌∷◌, ◌++◌, ◌∙◌, refl, sym, subst, arith, length, take, get_or, set, Option, Some, None}
+use Rattle.std.specs.Prelude.{if◌then◌else◌, min, not, ◌^◌, ◌-◌, ◌%◌, ◌&&◌, ◌||◌, ◌==◌, nat_lt, slice_set}
 use Rattle.std.proofs.lemmas.Bool.{eqb-true, eqb-false, and_parts}
 use Rattle.std.proofs.lemmas.Bool.Decides.{nat_tests}
-use Rattle.std.proofs.lemmas.List.{get_or-set_same, get_or-set_other, length-set, length-append, length-take}
+use Rattle.std.proofs.lemmas.List.{get_or-set_same, get_or-set_other, length-set, length-append, length-take, get_or-take}
 use Rattle.std.proofs.lemmas.Option.{same_Some, none-some}
 use Rattle.std.proofs.Math.Seq.{take-set-lt}
 use Rattle.bus_base.specs.declared.ProcId.{ProcId}
@@ -15,7 +15,7 @@ use Rattle.scenario.specs.Needs.{sent_of}
 use Rattle.scenario.specs.Value.{ScenarioValue}
 use Rattle.scenario.specs.declared.value.CmdDef.{CmdDef}
 use Rattle.disk_array.specs.ArrayHistory as Play
-use Rattle.disk_array.specs.Processes.{Process, process_of, same_id}
+use Rattle.disk_array.specs.Processes.{Process, process_of}
 use Rattle.bus_story.specs.BusState.{RowReading, row_reading}
 use Rattle.bus_story.specs.Items.{Item, process, abort}
 use Rattle.bus_dialogue.specs.Arrivals.{policy_of}
@@ -35,10 +35,10 @@ use Rattle.bus_due.specs.RunSteps.{run_state}
 use Rattle.bus_due.specs.Sights.{hearing_of}
 use Rattle.bus_due.specs.Tasks.{reply_now, task_with, task_if, task_of}
 use Rattle.bus_due.specs.Telling.{id_of}
-use Rattle.disk_target.specs.Gathered.{Gathering, empty_gathering, gathering_of, gathering_with, bytes_of, GatheredValue, gathering_at, gathered_with, sent_room, write_room, most_room, unit_room, empty_unit, nothing_gathered, is_data_out, brings_byte, gathered_seen, place_in_run, IsGatheringOf, IsGatheredOf, place_at, IsSentSo}
+use Rattle.scsi_device.specs.Writes.{is_data_out, brings_byte}
+use Rattle.disk_target.specs.Gathered.{Gathering, empty_gathering, gathering_of, gathering_with, bytes_of, GatheredValue, gathering_at, gathered_with, most_room, unit_room, empty_unit, nothing_gathered, gathered_seen, place_in_run, IsGatheringOf, IsGatheredOf, IsSentSo}
 use Rattle.disk_target.specs.Seated.{is_same_process}
-use Rattle.disk_target.specs.States.{IsOwnConnection}
-use Rattle.disk_target.proofs.ServedEnds.{same_id_is, process_id, ends_are}
+use Rattle.disk_target.proofs.ServedEnds.{same_id_is, ends_are}
 
 -- ---- a buffer
 
@@ -77,7 +77,7 @@ added_last : (xs : List ℕ) (x : ℕ) → get_or (xs ++ x ∷ []) (length xs) 0
 added_last [] x = refl
 added_last (y ∷ xs) x = added_last xs x
 
-unit_put : (v : List Gathering) (k n : ℕ) (x : Gathering) → n < length v → gathering_at (set v k x) n ≡ (if k == n then x else gathering_at v n)
+pub unit_put : (v : List Gathering) (k n : ℕ) (x : Gathering) → n < length v → gathering_at (set v k x) n ≡ (if k == n then x else gathering_at v n)
 unit_put v k n x l = go (k == n) refl
   where
     go : (y : Bool) → (k == n) ≡ y → gathering_at (set v k x) n ≡ (if y then x else gathering_at v n)
@@ -96,7 +96,7 @@ IsSentAt s id place byte = (p : Process) → process_of s id ≡ Some p → plac
 abbrev IsOwnedBy : Gathering → ProcId → Type 0
 IsOwnedBy g id = (o : ProcId) → g.owner ≡ Some o → o ≡ id
 
-own_so : (s : ScenarioValue) (g : Gathering) (id : ProcId) → IsGatheringOf s g → IsGatheringOf s (gathering_of g id) × IsOwnedBy (gathering_of g id) id × ((gathering_of g id).room ≡ g.room)
+pub own_so : (s : ScenarioValue) (g : Gathering) (id : ProcId) → IsGatheringOf s g → IsGatheringOf s (gathering_of g id) × IsOwnedBy (gathering_of g id) id × ((gathering_of g id).room ≡ g.room)
 own_so s g id h = go (is_same_process g.owner (Some id)) refl
   where
     mine : (o : Option ProcId) → is_same_process o (Some id) ≡ true → (x : ProcId) → o ≡ Some x → x ≡ id
@@ -119,8 +119,7 @@ put_so s g id place byte mine is h = go (nat_lt place (length g.bytes)) refl (pl
         let lt : place < length g.bytes = lt_of place (length g.bytes) e in
         let long : length (set g.bytes place byte) ≡ length g.bytes = length-set g.bytes place byte in
         let fits = h.fits in
-        let small = h.small in
-        (
+        let small = h.small in (
           record {
             fits = omega (arith, long, fits);
             small = h.small;
@@ -136,8 +135,7 @@ put_so s g id place byte mine is h = go (nat_lt place (length g.bytes)) refl (pl
         let lt : place < g.room = lt_of place g.room k in
         let end : place ≡ length g.bytes = eqb-true place (length g.bytes) f in
         let long : length (g.bytes ++ byte ∷ []) ≡ length g.bytes + 1 = length-append g.bytes (byte ∷ []) in
-        let small = h.small in
-        (
+        let small = h.small in (
           record {
             fits = omega (arith, long, lt, end);
             small = h.small;
@@ -221,7 +219,7 @@ crossing_so s k row p f served calm crosses phase =
     other : Bool
     other = if changes_phase d.change && k.exchange.begun then is_known_process k (phase_of (bus_of k)) && is_true_leaving s k (process_served s k) (phase_of (bus_of k)) else true
 
-no_task : (s : ScenarioValue) (k : RunState) (p : Process) → process_served s k ≡ Some p → task_of s k ≢ None
+pub no_task : (s : ScenarioValue) (k : RunState) (p : Process) → process_served s k ≡ Some p → task_of s k ≢ None
 no_task s k p e f = none-some (task_with (array_of s k) (progress_in k.progress p.id) p (carried_here k p.id) (reply_now (array_of s k) p) (Play.reply_in (array_of s k).replies p.id)) (sym f ∙ (λ i. task_if s k (e i)))
 
 pub gathered_goes_on : (s : ScenarioValue) (rows : List Row) (row : Row) (v : GatheredValue) (known : Option ProcId) (unit place : ℕ) (w : Hearing) (before : Option Connection)
@@ -320,3 +318,33 @@ gathered_starts s dev = record { eight = refl; rooms = λ n l. room n l; each = 
     empty (suc (suc (suc (suc (suc (suc zero)))))) l = fresh 6
     empty (suc (suc (suc (suc (suc (suc (suc zero))))))) l = fresh 7
     empty (suc (suc (suc (suc (suc (suc (suc (suc t)))))))) l = absurd (omega arith)
+
+-- ---- what it tells
+
+take_same : (bytes sent : List ℕ) → length bytes ≤ length sent → ((j : ℕ) → j < length bytes → get_or bytes j 0 ≡ get_or sent j 0) → bytes ≡ take (length bytes) sent
+take_same [] sent l h = refl
+take_same (b ∷ bytes) [] l h = absurd (omega (arith, l))
+take_same (b ∷ bytes) (x ∷ sent) l h =
+    let first : b ≡ x = h 0 (omega arith) in
+    let more : bytes ≡ take (length bytes) sent = take_same bytes sent (omega (arith, l)) (λ j lt. h (suc j) (omega (arith, lt))) in
+    λ i. first i ∷ more i
+
+pub bytes_sent : (s : ScenarioValue) (g : Gathering) (id : ProcId) (count : ℕ) (p : Process) (bytes : List ℕ) → IsGatheringOf s g → process_of s id ≡ Some p → bytes ≡ bytes_of g id count → length bytes ≤ length p.sent → bytes ≡ take (length bytes) p.sent
+bytes_sent s g id count p bytes h e is l = go (is_same_process g.owner (Some id)) refl
+  where
+    mine : (o : Option ProcId) → is_same_process o (Some id) ≡ true → o ≡ Some id
+    mine None f = cc
+    mine (Some y) f = λ i. Some (same_id_is y id f i)
+
+    into : (xs : List ℕ) → bytes ≡ xs → (length xs ≤ length p.sent → xs ≡ take (length xs) p.sent) → bytes ≡ take (length bytes) p.sent
+    into xs f x = subst (λ (z : List ℕ). z ≡ take (length z) p.sent) (sym f) (x (subst (λ (z : List ℕ). length z ≤ length p.sent) f l))
+
+    go : (q : Bool) → is_same_process g.owner (Some id) ≡ q → bytes ≡ take (length bytes) p.sent
+    go false f = into [] (is ∙ (λ i. if f i then take count g.bytes else [])) (λ x. refl)
+    go true f =
+        into (take count g.bytes) (is ∙ (λ i. if f i then take count g.bytes else []))
+        (λ x.
+        take_same (take count g.bytes) p.sent x
+        (λ j lt.
+        get_or-take count g.bytes j 0 (let k = length-take count g.bytes in omega (arith, lt, k))
+        ∙ h.sent id p j (mine g.owner f) e (let k = length-take count g.bytes in omega (arith, lt, k))))

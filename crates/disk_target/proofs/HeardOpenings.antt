@@ -1,5 +1,5 @@
 -- As the opening of a connection is left, an abort was heard in it unless the connection is for a process.
-use Rattle.std.proofs.Common.{ℕ, ◌≡◌, Bool, true, false, List, [], ◌∷◌, ◌∙◌, refl, sym, ap, subst, Option, Some, None}
+use Rattle.std.proofs.Common.{◌≡◌, Bool, true, false, List, [], ◌∷◌, ◌∙◌, refl, sym, Option, Some, None}
 use Rattle.std.specs.Prelude.{◌&&◌, ◌||◌, ◌==◌, not, nat_lt, is_some, is_none, if◌then◌else◌}
 use Rattle.std.proofs.lemmas.Bool.{and_parts}
 use Rattle.bus_base.specs.declared.AbortKind.{AbortKind}
@@ -16,13 +16,12 @@ use Rattle.disk_array.specs.Processes.{Process, process_of}
 use Rattle.bus_story.specs.BusState.{RowReading, row_reading}
 use Rattle.bus_story.specs.HistoryEvents.{abort_line_at}
 use Rattle.bus_story.specs.Items.{Item, process, abort}
-use Rattle.bus_dialogue.specs.Ends.{follows_by, is_pulsed_phase}
+use Rattle.bus_dialogue.specs.Ends.{follows_by}
 use Rattle.bus_dialogue.specs.Arrivals.{policy_of}
 use Rattle.bus_dialogue.specs.Exchange.{plan_anew, plan_anew_if, said_with_if, struck_plan}
 use Rattle.bus_dialogue.specs.NextPhase.{phase_of, phase_entry, phase_leaving}
 use Rattle.bus_dialogue.specs.PhaseBytes.{follows_in, run_length_if}
 use Rattle.bus_dialogue.specs.Planning.{plan_after, plan_in_phase, plan_in_message_out, plan_with_byte}
-use Rattle.bus_dialogue.specs.declared.exchange.Cause.{Cause}
 use Rattle.bus_dialogue.specs.declared.exchange.Cause.TheVariants as causes
 use Rattle.bus_dialogue.specs.declared.exchange.Hearing.{Hearing}
 use Rattle.bus_dialogue.specs.declared.exchange.Leaving.{Leaving}
@@ -31,8 +30,8 @@ use Rattle.bus_dialogue.specs.declared.exchange.Phase.TheVariants as phases
 use Rattle.bus_dialogue.specs.declared.exchange.Plan.{Plan}
 use Rattle.bus_dialogue.specs.declared.exchange.Said.{Said}
 use Rattle.bus_due.specs.Faithful.{is_unit, same_tag, is_process_named, is_kind, is_abort_named, is_item_named, is_opening_named, is_true_leaving}
-use Rattle.bus_due.specs.Plain.{IsPlain, AreOfDevices}
-use Rattle.bus_due.specs.RunState.{RunState, agreement_of, bus_of, drives_of, process_item, process_served}
+use Rattle.bus_due.specs.Plain.{IsPlain}
+use Rattle.bus_due.specs.RunState.{RunState, agreement_of, bus_of, drives_of, process_served}
 use Rattle.bus_due.specs.RunSteps.{run_state, is_for_process}
 use Rattle.bus_due.specs.Sights.{pace_of, serving_of, leaving}
 use Rattle.scsi_device.specs.Heard as hears
@@ -58,10 +57,10 @@ phase_same a b e =
     let c : a.cd ≡ b.cd = same_is a.cd b.cd three.1 in
     let o : a.io ≡ b.io = same_is a.io b.io two.1 in
     λ i.
-        if m i then (if o i then phases.MessageIn else phases.MessageOut)
-        else if c i then (if o i then phases.Status else phases.Command)
-        else if o i then phases.DataIn
-        else phases.DataOut
+    if m i then (if o i then phases.MessageIn else phases.MessageOut)
+    else if c i then (if o i then phases.Status else phases.Command)
+    else if o i then phases.DataIn
+    else phases.DataOut
 
 no_data : (b : LineSet) → phase_of b ≡ phases.MessageOut → is_data b ≡ false
 no_data b e = go b.msg b.cd b.io e

@@ -24,3 +24,7 @@ mod ProgressRows
 mod HeardOpenings
 mod NegotiatedRows
 mod GatheredRows
+mod GatheredWhole
+mod GatheredSteps
+mod GatheredMore
+mod GatheredAll

@@ -1,16 +1,15 @@
 -- With which initiators a target has had the connection in which the two may negotiate goes on row by row.
-use Rattle.std.proofs.Common.{ℕ, zero, suc, ◌≡◌, ◌≢◌, ◌<◌, Bool, true, false, List, [], ◌∷◌, ◌∙◌, refl, sym, ap, subst, arith, length, get_or, set, replicate, Option, Some, None}
+use Rattle.std.proofs.Common.{ℕ, zero, suc, ◌≡◌, ◌≢◌, ◌<◌, Bool, true, false, List, [], ◌∷◌, ◌∙◌, refl, sym, subst, arith, length, get_or, set, replicate, Option, Some, None}
 use Rattle.std.specs.Prelude.{if◌then◌else◌, ◌&&◌, ◌||◌, ◌==◌, not}
 use Rattle.std.specs.List.{list_any}
 use Rattle.std.proofs.lemmas.Bool.{eqb-true, eqb-false}
 use Rattle.std.proofs.lemmas.List.{get_or-set_same, get_or-set_other, length-set}
 use Rattle.std.proofs.lemmas.Option.{same_Some}
-use Rattle.bus_base.specs.declared.AbortKind.{AbortKind}
 use Rattle.bus_base.specs.declared.AbortKind.TheVariants as aborts
 use Rattle.bus_base.specs.declared.Event.{Event}
 use Rattle.bus_base.specs.declared.Event.TheVariants as events
 use Rattle.bus_trace.specs.Changes.{rises, falls}
-use Rattle.bus_trace.specs.LineSet.{LineSet, none, union}
+use Rattle.bus_trace.specs.LineSet.{LineSet, union}
 use Rattle.bus_trace.specs.Phases.{changes_phase}
 use Rattle.bus_trace.specs.Terms.{connection, connection_after, connection_of}
 use Rattle.bus_trace.specs.Trace.{bus, drives, driven_after}
@@ -21,19 +20,18 @@ use Rattle.bus_trace.specs.declared.selection.Call.{Call}
 use Rattle.scenario.specs.Value.{ScenarioValue}
 use Rattle.bus_story.specs.BusState.{RowReading, row_reading}
 use Rattle.bus_story.specs.HistoryEvents.{row_events_by, link_events}
-use Rattle.bus_story.specs.Items.{Item}
 use Rattle.bus_story.specs.TraceHistory.{aim_of}
 use Rattle.bus_dialogue.specs.Hearing.{hearing}
 use Rattle.bus_dialogue.specs.Planning.{first_plan}
 use Rattle.bus_dialogue.specs.declared.exchange.Hearing.{Hearing}
-use Rattle.bus_due.specs.LastingState.{Negotiated, none_negotiated, has_negotiated, with_negotiated, pairs_without, negotiated_after_event, negotiated_after}
+use Rattle.bus_due.specs.LastingState.{Negotiated, has_negotiated, with_negotiated, pairs_without, negotiated_after_event, negotiated_after}
 use Rattle.bus_due.specs.Plain.{IsPlain, AreOfDevices}
 use Rattle.bus_due.specs.RunState.{RunState}
 use Rattle.bus_due.specs.RunSteps.{run_state, is_for_process, negotiated_by_connection, served_after, item_if, may_negotiate, naming_of, first_exchange, exchange_on, exchange_after, leaving_of}
 use Rattle.bus_due.specs.Defs.{host_of}
 use Rattle.bus_due.specs.Sights.{hearing_of, leaving}
 use Rattle.bus_due.specs.Wants.{ready_of}
-use Rattle.disk_target.specs.Negotiated.{NegotiatedValue, nobody_met, opened_in, met_by_opening, is_opening_left, met_by_connection, met_after_reset, met_after_abort, met_after_event, met_after_events, negotiated_seen, is_open_to, HasMet, IsOpening, IsOpeningIf, IsNegotiatedOf, IsHeardSo, events_of_row}
+use Rattle.disk_target.specs.Negotiated.{NegotiatedValue, nobody_met, opened_in, met_by_opening, is_opening_left, met_by_connection, met_after_reset, met_after_event, met_after_events, negotiated_seen, is_open_to, HasMet, IsOpening, IsOpeningIf, IsNegotiatedOf, IsHeardSo, events_of_row}
 use Rattle.disk_target.specs.Progress.{is_phase_left}
 use Rattle.scsi_device.specs.Heard.{heard}
 use Rattle.disk_target.proofs.HeardOpenings.{left_told, cause_stays, phase_stays}
@@ -484,8 +482,7 @@ opens_so s rows row v aborts w None (Some n) p q told hears b a free calm h = go
         (subst (λ (z : Bool). IsOpeningIf s (row ∷ rows) v.dev (if z then record v { opening = Some n.initiator } else v).opening) (sym g) stays)
     go false f true g =
         subst (λ (z : Bool). IsOpeningIf s (row ∷ rows) v.dev (if not z && n.target == v.dev then record v { opening = Some n.initiator } else v).opening) (sym f)
-        (subst (λ (z : Bool). IsOpeningIf s (row ∷ rows) v.dev (if z then record v { opening = Some n.initiator } else v).opening) (sym g)
-        (
+        (subst (λ (z : Bool). IsOpeningIf s (row ∷ rows) v.dev (if z then record v { opening = Some n.initiator } else v).opening) (sym g) (
           n,
           record {
             stands = sym q.connection ∙ a;
@@ -519,8 +516,7 @@ opens_so s rows row v aborts w (Some m) (Some n) p q told hears b a free calm h 
     kept e None f x = tt
     kept e (Some i) f x =
         let is : x.0 ≡ n = same_Some x.0 n (sym x.1.stands ∙ sym p.connection ∙ b ∙ (λ j. Some (same j))) in
-        let still : (changes_phase d.change && k.exchange.begun) ≡ false = sym (λ j. changes_phase (told j).change && (told j).begun) ∙ e in
-        (
+        let still : (changes_phase d.change && k.exchange.begun) ≡ false = sym (λ j. changes_phase (told j).change && (told j).begun) ∙ e in (
           n,
           record {
             stands = sym q.connection ∙ a;

@@ -1,10 +1,9 @@
 -- How far the processes of a target have come goes on row by row.
-use Rattle.std.proofs.Common.{ℕ, zero, suc, ◌≡◌, ◌≢◌, ◌+◌, ◌<◌, ◌≤◌, Bool, true, false, List, [], ◌∷◌, ◌∙◌, refl, sym, ap, subst, arith, length, get_or, set, replicate, Option, Some, None}
-use Rattle.std.specs.Prelude.{if◌then◌else◌, min, not, ◌^◌, ◌-◌, ◌&&◌, ◌||◌, ◌==◌}
-use Rattle.std.proofs.lemmas.Bool.{eqb-true, eqb-false, eq-eqb, and_parts}
+use Rattle.std.proofs.Common.{ℕ, zero, suc, ◌≡◌, ◌≢◌, ◌+◌, ◌<◌, ◌≤◌, Bool, true, false, List, [], ◌∷◌, ◌∙◌, refl, sym, ap, subst, arith, length, set, replicate, Option, Some, None}
+use Rattle.std.specs.Prelude.{if◌then◌else◌, min, ◌^◌, ◌-◌, ◌&&◌, ◌||◌, ◌==◌}
+use Rattle.std.proofs.lemmas.Bool.{eqb-true, eqb-false, and_parts}
 use Rattle.std.proofs.lemmas.List.{get_or-set_same, get_or-set_other, length-set, length-replicate}
 use Rattle.std.proofs.lemmas.Option.{same_Some}
-use Rattle.bus_base.specs.Faults.{counted_on}
 use Rattle.bus_base.specs.declared.ProcId.{ProcId}
 use Rattle.bus_trace.specs.declared.Row.{Row}
 use Rattle.bus_trace.specs.declared.connection.Connection.{Connection}
@@ -27,7 +26,6 @@ use Rattle.bus_due.specs.RunSteps.{run_state, progress_by_leaving, progress_afte
 use Rattle.bus_due.specs.Sights.{leaving, hearing_of}
 use Rattle.bus_due.specs.Telling.{id_of}
 use Rattle.disk_target.specs.Progress.{no_counts, counted_if, counts_after, no_pair, half_of, pair_after, pair_at, counts_at, pairs_after, ProgressValue, no_progress, is_phase_left, progress_counted, progress_seen, counts_of, AreCounted, IsProgressOf, IsLeftSo, AreExactly}
-use Rattle.disk_target.specs.States.{IsOwnConnection}
 use Rattle.disk_target.specs.declared.progress.Counts.{Counts}
 use Rattle.disk_target.specs.declared.progress.CountsPair.{CountsPair}
 use Rattle.disk_target.proofs.ServedEnds.{same_id_is, process_id, ends_are}
@@ -64,7 +62,7 @@ counts_put v p id l lt = (λ i. half_of (pair_put v p.command id.command (pair_a
     go false e = refl
 
 -- A process that is counted, and any other.
-abbrev entry_with : List ProcessProgress → ProcId → Bool → Bool → ProcessProgress
+abbrev pub entry_with : List ProcessProgress → ProcId → Bool → Bool → ProcessProgress
 entry_with all id x y = record { id = id; runs = (progress_in all id).runs + one_if x; recoveries = (progress_in all id).recoveries + one_if y }
 
 abbrev counts_with : List ProcessProgress → ProcId → Bool → Bool → Counts
@@ -83,7 +81,7 @@ found_counted all a id l e =
     subst (λ (z : ProcId). counts_of (progress_in (progress_with all z l.done l.counts) id) ≡ counts_with all id l.done l.counts) (sym (same_id_is a id e))
     (self_counted all id l.done l.counts ((λ i. same_id (sym (same_id_is a id e) i) id) ∙ e))
 
-other_kept : (all : List ProcessProgress) (a id : ProcId) (x y : Bool) → same_id a id ≡ false → progress_in (progress_with all a x y) id ≡ progress_in all id
+pub other_kept : (all : List ProcessProgress) (a id : ProcId) (x y : Bool) → same_id a id ≡ false → progress_in (progress_with all a x y) id ≡ progress_in all id
 other_kept all a id x y e = go (x || y)
   where
     go : (q : Bool) → progress_in (if q then entry_with all a x y ∷ all else all) id ≡ progress_in all id
@@ -161,7 +159,7 @@ left_by_own s k v (Some (process id)) l e h = go (process_of s id) refl
     go None f = none_counted s k.progress v id l f h
     go (Some p) f = own_counted s k.progress v id p l f h
 
-named_so : (s : ScenarioValue) (served : Option Item) (p : Process) → process_item s served ≡ Some p → process_of s p.id ≡ Some p
+pub named_so : (s : ScenarioValue) (served : Option Item) (p : Process) → process_item s served ≡ Some p → process_of s p.id ≡ Some p
 named_so s None p e = cc
 named_so s (Some (abort n)) p e = cc
 named_so s (Some (process id)) p e = (λ i. process_of s (process_id s id p e i)) ∙ e

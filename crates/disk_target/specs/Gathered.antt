@@ -1,26 +1,31 @@
 -- The bytes that came to a target of the data of writes (6.1.5.1, 6.4): of each unit those of the process that last sent it
 -- some.
-use Rattle.std.specs.Prelude.{ℕ, min, max, ◌≡◌, ◌<◌, ◌≤◌, ◌+◌, ◌-◌, ◌^◌, ◌%◌, ◌==◌, ◌&&◌, ◌++◌, not, Bool, true, false, List, [], ◌∷◌, length, take, nat_lt, Option, Some, None, slice_set, slice_index_or, if◌then◌else◌}
+use Rattle.std.specs.Prelude.{ℕ, min, max, ◌≡◌, ◌<◌, ◌≤◌, ◌+◌, ◌-◌, ◌^◌, ◌%◌, ◌==◌, ◌&&◌, ◌++◌, true, false, List, [], ◌∷◌, length, take, nat_lt, Option, Some, None, slice_set, slice_index_or, if◌then◌else◌}
 use Rattle.bus_base.specs.declared.ProcId.{ProcId}
+use Rattle.bus_trace.specs.Trace.{bus}
 use Rattle.bus_trace.specs.declared.Row.{Row}
 use Rattle.bus_trace.specs.declared.connection.Connection.{Connection}
+use Rattle.cdb_codec.specs.Cdb.{command_of}
+use Rattle.scenario.specs.Lookups.{unit_of}
 use Rattle.scenario.specs.Needs.{sent_of}
 use Rattle.scenario.specs.Value.{ScenarioValue}
 use Rattle.scenario.specs.declared.value.CmdDef.{CmdDef}
 use Rattle.scenario.specs.declared.value.Policy.{Policy}
+use Rattle.disk_array.specs.Order.{range_in}
 use Rattle.disk_array.specs.Processes.{Process, process_of}
 use Rattle.bus_dialogue.specs.Arrivals.{policy_of}
-use Rattle.bus_dialogue.specs.DataRuns.{run_at}
+use Rattle.bus_dialogue.specs.DataRuns.{run_at, run_in}
 use Rattle.bus_dialogue.specs.NextPhase.{phase_of}
 use Rattle.bus_dialogue.specs.declared.exchange.Hearing.{Hearing}
-use Rattle.bus_dialogue.specs.declared.exchange.Phase.{Phase}
 use Rattle.bus_dialogue.specs.declared.exchange.Phase.TheVariants as phases
 use Rattle.bus_dialogue.specs.declared.exchange.Task.{Task}
 use Rattle.bus_due.specs.Defs.{target_def_of}
-use Rattle.bus_due.specs.RunState.{RunState}
+use Rattle.bus_due.specs.LastingState.{progress_in}
+use Rattle.bus_due.specs.RunState.{RunState, bus_of, process_served}
 use Rattle.bus_due.specs.RunSteps.{run_state}
-use Rattle.bus_due.specs.Tasks.{task_of}
+use Rattle.bus_due.specs.Tasks.{blocks_in, task_of}
 use Rattle.bus_due.specs.Telling.{id_of}
+use Rattle.scsi_device.specs.Writes.{brings_byte, block_size, writer_of, writers}
 use Rattle.disk_target.specs.Seated.{is_same_process}
 use Rattle.disk_target.specs.States.{IsOwnConnection}
 
@@ -91,18 +96,6 @@ nothing_gathered s dev = record {
 
 -- ---- a row that tells this, before which this connection stands
 
-abbrev pub is_data_out : Phase → Bool
-is_data_out phases.DataOut = true
-is_data_out phases.DataIn = false
-is_data_out phases.Command = false
-is_data_out phases.Status = false
-is_data_out phases.MessageOut = false
-is_data_out phases.MessageIn = false
-
--- A byte of DATA OUT crosses, and RST is false after it.
-abbrev pub brings_byte : Hearing → Bool
-brings_byte w = w.crosses && is_data_out (phase_of w.change.before) && not w.change.after.rst
-
 -- In a connection of its own the target serves this process, which is of this unit; the byte is that at this place of its
 -- data.
 abbrev pub gathered_seen : GatheredValue → Option ProcId → ℕ → ℕ → Hearing → Option Connection → GatheredValue
@@ -137,3 +130,33 @@ place_at s k dev = place_in_run (policy_of (target_def_of s dev)) (task_of s k) 
 abbrev pub IsSentSo : ScenarioValue → List Row → ℕ → Hearing → Option ProcId → ℕ → Type 0
 IsSentSo s rows dev w process place =
     (n : Connection) → IsOwnConnection rows dev n → brings_byte w ≡ true → (process ≡ id_of (run_state s rows).served) × (place ≡ place_at s (run_state s rows) dev)
+
+-- And that process is of this unit.
+abbrev pub IsAtUnit : ScenarioValue → List Row → ℕ → Hearing → ℕ → Type 0
+IsAtUnit s rows dev w unit =
+    (n : Connection) (p : Process) → IsOwnConnection rows dev n → brings_byte w ≡ true → process_served s (run_state s rows) ≡ Some p → unit ≡ p.unit
+
+-- ---- how much of it has come
+
+-- Where the n-th run of a process begins, by the size of a block that the scenario says.
+abbrev pub run_start_of : ScenarioValue → Process → ℕ → ℕ
+run_start_of s p n = (run_in (policy_of (target_def_of s p.target)) (blocks_in (range_in (command_of p.cdb))) (block_size (unit_of s p.target p.unit)) 0 n).start
+
+-- So many bytes, of those that the process sends, have come to its unit.
+abbrev pub HasCome : GatheredValue → Process → ℕ → Type 0
+HasCome v p count = min count (length p.sent) ≤ length (gathering_at v.units p.unit).bytes
+
+pub record IsRunningIn (s : ScenarioValue) (rows : List Row) (dev : ℕ) (p : Process) (n : Connection) : Type 0 where
+  pub own : IsOwnConnection rows dev n
+  pub served : process_served s (run_state s rows) ≡ Some p
+  pub calm : (bus rows).rst ≡ false
+  pub begun : (run_state s rows).exchange.begun ≡ true
+  pub phase : phase_of (bus_of (run_state s rows)) ≡ phases.DataOut
+
+-- Of the process that last sent a unit a byte all data of the runs that it has made have come, and in DATA OUT of the present
+-- run as many bytes as crossed.
+pub record AreAllGathered (s : ScenarioValue) (rows : List Row) (v : GatheredValue) : Type 0 where
+  pub owned : (id : ProcId) (p : Process) → process_of s id ≡ Some p → p.target ≡ v.dev → writer_of (writers s rows) p.target p.unit ≡ Some id → (gathering_at v.units p.unit).owner ≡ Some id
+  pub made : (id : ProcId) (p : Process) → process_of s id ≡ Some p → p.target ≡ v.dev → writer_of (writers s rows) p.target p.unit ≡ Some id → HasCome v p (run_start_of s p (progress_in (run_state s rows).progress id).runs)
+  pub present : (p : Process) (n : Connection) → IsRunningIn s rows v.dev p n → 0 < (run_state s rows).handshakes.answers → writer_of (writers s rows) p.target p.unit ≡ Some p.id
+  pub come : (p : Process) (n : Connection) → IsRunningIn s rows v.dev p n → writer_of (writers s rows) p.target p.unit ≡ Some p.id → HasCome v p (run_start_of s p (progress_in (run_state s rows).progress p.id).runs + (run_state s rows).handshakes.answers)

@@ -1,5 +1,5 @@
 //! The bytes that came to a target of the data of writes (ANSI X3.131-1994, 6.1.5.1 and 6.4).
-ghost use Rattle.std.specs.Prelude.{ℕ, ◌≡◌, ◌<◌, ◌≤◌, [], ◌∷◌, List, Some, true, length, take, IfOk};
+ghost use Rattle.std.specs.Prelude.{ℕ, ◌≡◌, ◌<◌, ◌≤◌, ◌+◌, [], ◌∷◌, List, Some, true, length, take, IfOk};
 ghost use Rattle.bus_trace.specs.declared.Row.{Row};
 ghost use Rattle.bus_trace.specs.Terms.{connection as connection_after};
 ghost use Rattle.scenario.specs.Needs.{is_write};
@@ -7,8 +7,12 @@ ghost use Rattle.scenario.specs.Value.{ScenarioValue};
 ghost use Rattle.disk_array.specs.Processes.{Process, process_of};
 ghost use Rattle.bus_dialogue.specs.Hearing.{hearing as hearing_in};
 ghost use Rattle.bus_due.specs.Faithful.{faithful};
+ghost use Rattle.bus_due.specs.LastingState.{progress_in};
 ghost use Rattle.bus_due.specs.Plain.{AreOfDevices};
-ghost use Rattle.disk_target.specs.Gathered.{empty_gathering, gathering_of, gathering_with, bytes_of, gathering_at, gathered_with, sent_room, write_room, unit_room, empty_unit, nothing_gathered, is_data_out, brings_byte, gathered_seen, place_in_run, IsGatheredOf, IsSentSo};
+ghost use Rattle.bus_due.specs.RunSteps.{run_state};
+ghost use Rattle.scsi_device.specs.Lines.{FitsBus};
+ghost use Rattle.scsi_device.specs.Writes.{is_data_out, brings_byte, written};
+ghost use Rattle.disk_target.specs.Gathered.{empty_gathering, gathering_of, gathering_with, bytes_of, gathering_at, gathered_with, sent_room, write_room, unit_room, empty_unit, nothing_gathered, gathered_seen, place_in_run, run_start_of, IsRunningIn, IsGatheredOf, AreAllGathered, IsSentSo, IsAtUnit};
 ghost use Rattle.disk_target.specs.Seated.{is_same_process};
 
 use crate::data_runs::run_start;
@@ -16,9 +20,10 @@ use crate::next_phase::phase_of;
 use bus_base::{Dev, NoMemory, ProcId};
 use bus_dialogue::{Hearing, Phase, Task};
 use bus_due::{hearings_are_plain, kept_is_plain};
-use bus_trace::Connection;
+use bus_trace::{Connection, rows_change_one_device};
 use cdb_codec::{CdbFault, Command, from_cdb};
 use scenario::{CmdDef, Policy, Scenario, need};
+use scsi_device::scenarios_fit_the_bus;
 use std::alloc::Global;
 use std::marker::Model;
 
@@ -179,9 +184,7 @@ fn is_data_out(phase: Phase) -> bool
 fn brings_byte(hearing: &Hearing) -> bool
     ensures { result ≡ brings_byte hearing.now }
 {
-    hearing.crosses
-        && is_data_out(phase_of(hearing.change.before))
-        && !hearing.change.after.rst()
+    hearing.crosses && is_data_out(phase_of(hearing.change.before)) && !hearing.change.after.rst()
 }
 
 /// At which place of the data of the process that is served, counted from 0, stands the next byte of its present run,
@@ -224,6 +227,7 @@ impl Gathered {
     pub fn new(alloc: Global, scenario: &Scenario, dev: Dev) -> Result<Gathered, NoMemory>
         ensures exact { IfOk result (λ made. made ≡ nothing_gathered scenario.now dev) }
         ensures trace { IfOk result (λ made. IsGatheredOf scenario.now made) }
+        ensures whole { IfOk result (λ made. AreAllGathered scenario.now [] made) }
     {
         Gathered::empty(alloc, scenario, dev)
     }
@@ -236,12 +240,17 @@ impl Gathered {
     }
 
     /// What came of this process to its unit, from the first byte on, and of that so many bytes at most: the bytes that
-    /// the process sends, as many as these are.
+    /// the process sends, as many as these are; and all of them, in DATA OUT where the last byte of its last run came.
     pub fn bytes(&self, unit: u8, id: ProcId, count: u64) -> &[u8]
         requires unit { unit < 8 }
         ensures value { result.now ≡ bytes_of (gathering_at self.now.units unit) id count }
         ensures sent { (s : ScenarioValue) (p : Process) → IsGatheredOf s self.now → process_of s id ≡ Some p
             → length result.now ≤ length p.sent → result.now ≡ take (length result.now) p.sent }
+        ensures whole { (s : ScenarioValue) (rows : List Row) (p : Process) (n : Connection) → IsGatheredOf s self.now
+            → AreAllGathered s rows self.now → IsRunningIn s rows self.now.dev p n → p.target ≡ self.now.dev
+            → unit ≡ p.unit → id ≡ p.id → count ≡ length p.sent → 0 < (run_state s rows).handshakes.answers
+            → length p.sent ≤ run_start_of s p (progress_in (run_state s rows).progress p.id).runs
+            + (run_state s rows).handshakes.answers → result.now ≡ p.sent }
     {
         self.held(unit, id, count)
     }
@@ -291,9 +300,16 @@ impl Gathered {
             → hearing.now ≡ hearing_in rows row → before ≡ connection_after rows → faithful s (row ∷ rows) ≡ true
             → IsSentSo s rows self.old.dev hearing.now process place
             → IsGatheredOf s self.old → IsGatheredOf s self.new }
+        ensures whole { (s : ScenarioValue) (rows : List Row) (row : Row) → FitsBus s → AreOfDevices (row ∷ rows)
+            → hearing.now ≡ hearing_in rows row → before ≡ connection_after rows → faithful s (row ∷ rows) ≡ true
+            → written s (row ∷ rows) ≡ true → IsSentSo s rows self.old.dev hearing.now process place
+            → IsAtUnit s rows self.old.dev hearing.now unit → IsGatheredOf s self.old
+            → AreAllGathered s rows self.old → AreAllGathered s (row ∷ rows) self.new }
     {
         kept_is_plain();
         hearings_are_plain();
+        rows_change_one_device();
+        scenarios_fit_the_bus();
         self.after_row(process, unit, place, hearing, before);
     }
 }

@@ -6,7 +6,9 @@
 //! as it arrives, [`offering_by`] which byte it gives, whether one follows, and what it drives as it leaves, and
 //! [`leaving_shown`] which events it shows then. What its unit gives comes in as a task, the room of the unit's queue,
 //! the unit that is [`Ready`] first, and two bytes, which stand at the places that [`process_byte_place`] names. Stands
-//! on the definitions of `bus_dialogue` and `bus_due`, and on `connect` and `handshake`.
+//! on the definitions of `bus_dialogue` and `bus_due`, and on `connect` and `handshake`. Beside its units ([`Units`]) a
+//! target keeps how far its processes have come ([`Progress`]), with whom it has negotiated ([`Negotiated`]), and which
+//! bytes came of its present writes ([`Gathered`]); each is told of every row.
 //!
 //! Public contract: each of these is exactly the definition of the same name, whatever it is given; a plan that is kept
 //! so is the one that the rows tell (`plans_are_heard`); and after any rows [`target_next`] is exactly what is due of

@@ -154,9 +154,9 @@ impl Negotiated {
         }
     }
 
-    /// A row was made, of any device, that told this, and before and after which these connections stand; it shows these
-    /// events, the newest first. `aborts` says whether the target has heard an abort before it in the MESSAGE OUT phase
-    /// that stands.
+    /// A row was made, of any device, that told this, and before and after which these connections stand; it shows
+    /// these events, the newest first. `aborts` says whether the target has heard an abort before it in the MESSAGE OUT
+    /// phase that stands.
     pub fn see(
         &mut self,
         aborts: bool,

@@ -1,3 +1,4 @@
+pub mod Writes
 pub mod NoUnits
 pub mod Lines
 pub mod Told

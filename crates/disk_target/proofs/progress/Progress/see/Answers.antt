@@ -1,5 +1,4 @@
-use Rattle.std.proofs.Common.{◌∷◌, ◌∙◌, ap, sym, subst, List, Bool, true, false, ◌≡◌, Option, Some, None}
-use Rattle.std.specs.Prelude.{if◌then◌else◌, ◌&&◌, ◌==◌}
+use Rattle.std.proofs.Common.{◌∷◌, ◌∙◌, ap, sym, subst}
 use Rattle.disk_target.specs.Progress.{ProgressValue, IsProgressOf}
 use Rattle.disk_target.proofs.ProgressRows.{progress_goes_on, same_target}
 use Rattle.disk_target.proofs.progress.Progress.see.Goals as goal
