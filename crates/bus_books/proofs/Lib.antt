@@ -22,3 +22,5 @@ pub mod Knows
 pub mod Faith
 pub mod FirstLinks
 pub mod Traces
+pub mod RowTies
+pub mod Reactions

@@ -34,7 +34,7 @@ use Rattle.bus_books.proofs.CarriedBlocks.{process_own}
 use Rattle.bus_books.proofs.CarriedRows.{carry_on, all_carry}
 use Rattle.bus_books.proofs.Faith.{row_is_faithful}
 use Rattle.bus_books.proofs.FirstLinks.{knows_first}
-use Rattle.bus_books.proofs.FirstWords.{speaks_first, process_unit}
+use Rattle.bus_books.proofs.FirstWords.{speaks_first}
 use Rattle.bus_books.proofs.Given.{gives_first}
 use Rattle.bus_books.proofs.Gives.{gives_on}
 use Rattle.bus_books.proofs.Knows.{knows_on}
@@ -111,9 +111,8 @@ books_reset s k row carry h r = record {
   knows = λ m f z. absurd (true≢false (sym r ∙ z));
 }
 
-ready_unit : (s : ScenarioValue) (k : RunState) (n : Connection) → AreUnits s → IsReadyFor s k n → (r : Ready) → ready_of s k n.target ≡ Some r → r.process.unit < 8
-ready_unit s k n u h r e =
-    subst (λ (x : Ready). x.process.unit < 8) (ap (or_ready r) (sym h.ready_is ∙ e)) (process_unit s h.ready.process.id h.ready.process u h.process_is)
+ready_unit : (s : ScenarioValue) (k : RunState) (n : Connection) → IsReadyFor s k n → (r : Ready) → ready_of s k n.target ≡ Some r → r.process.unit < 8
+ready_unit s k n h r e = subst (λ (x : Ready). x.process.unit < 8) (ap (or_ready r) (sym h.ready_is ∙ e)) h.unit_in
   where
     or_ready : Ready → Option Ready → Ready
     or_ready x None = x
@@ -127,7 +126,7 @@ books_on s k row u aims (apart e f) h = books_apart s k row (carry_on s k row (s
 books_on s k row u aims (begins n b) h =
     books_in s k row n (carry_on s k row (sends_none s k row (apart_carries_none k row b.first.connection_is)) h.carry) b.first.next_is
     (speaks_first s k row n u aims b.first (λ e. let a = b.selects e in (a.item, a.aim_is)))
-    (gives_first s k row n b.first (λ e. ready_unit s k n u (b.reselects e)))
+    (gives_first s k row n b.first (λ e. ready_unit s k n (b.reselects e)))
     (knows_first s k row n b.first)
 books_on s k row u aims (goes_on n c g) h =
     let con = g.row_is.connection_is in
@@ -177,7 +176,7 @@ begins_truly s k row n aims b = go n.reselected refl
         ap (λ (q : Bool). has_ends (process_item s (if q then item_if (ready_of s k n.target) else aim_of k.story.aims n.initiator)) n) e
         ∙ ap (λ (x : Option Ready). has_ends (process_item s (item_if x)) n) r.ready_is
         ∙ ap (λ (x : Option Process). has_ends x n) r.process_is
-        ∙ ends_are s k n r.ready.process r.initiator_is r.target_is
+        ∙ ends_are s k n r.process r.initiator_is r.target_is
     go false e =
         let a = b.selects e in
         ap (λ (q : Bool). has_ends (process_item s (if q then item_if (ready_of s k n.target) else aim_of k.story.aims n.initiator)) n) e
