@@ -24,3 +24,5 @@ pub mod FirstLinks
 pub mod Traces
 pub mod RowTies
 pub mod Reactions
+pub mod Quiet
+pub mod MessageRules

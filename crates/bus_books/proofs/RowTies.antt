@@ -80,6 +80,7 @@ left s k n e =
     let named = second_is (is_phase_whole s k (phase_of (bus_of k))) _ e in
     record {
       out = λ f. sym (ap (is_phase_whole s k) f) ∙ whole;
+      given = λ f a. number_is k.handshakes.requests (length (bytes_of_messages k.exchange.plan.messages)) (or_right (bus_of k).atn _ (sym (ap (is_phase_whole s k) f) ∙ whole) a);
       command = λ p ep f.
           let block : is_block_whole k (Some p) ≡ true = sym (ap (is_block_whole k) ep) ∙ sym (ap (is_phase_whole s k) f) ∙ whole in
           (first_is (has_group_len p.cdb) _ block, λ z. or_right k.exchange.plan.struck _ (second_is (has_group_len p.cdb) _ block) z);
@@ -89,7 +90,9 @@ left s k n e =
     }
 
 phase_is : (k : RunState) → has_phase k ≡ true → HasPhase k
-phase_is k e f = implied (bus_of k).msg (bus_of k).cd e f
+phase_is k e f =
+    let b = implied (bus_of k).msg ((bus_of k).cd && k.exchange.begun) e f in
+    (first_is (bus_of k).cd k.exchange.begun b, second_is (bus_of k).cd k.exchange.begun b)
 
 -- ---- the first row of a connection
 

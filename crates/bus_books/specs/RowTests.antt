@@ -67,6 +67,7 @@ is_block_whole k (Some p) = has_group_len p.cdb && (k.exchange.plan.struck || ha
 abbrev pub is_phase_whole : ScenarioValue → RunState → Phase → Bool
 is_phase_whole s k phases.MessageOut = k.story.bus_state.dialogue.is_last
 is_phase_whole s k phases.Command = is_block_whole k (process_served s k)
+is_phase_whole s k phases.MessageIn = (bus_of k).atn || k.handshakes.requests == length (bytes_of_messages k.exchange.plan.messages)
 is_phase_whole s k _ = true
 
 abbrev pub leaves_whole : ScenarioValue → RunState → Connection → Bool
@@ -75,7 +76,7 @@ leaves_whole s k n =
     && (not n.reselected || is_out_phase (phase_of (bus_of k)) || (is_in_phase (phase_of (bus_of k)) && (bus_of k).atn) || is_some (item_of k.story.link))
 
 abbrev pub has_phase : RunState → Bool
-has_phase k = not (bus_of k).msg || (bus_of k).cd
+has_phase k = not (bus_of k).msg || ((bus_of k).cd && k.exchange.begun)
 
 -- ---- a byte crosses
 

@@ -15,7 +15,7 @@ use Rattle.bus_due.specs.RunState.{RunState, bus_of, process_item}
 use Rattle.bus_due.specs.RunSteps.{run_state}
 use Rattle.bus_due.specs.Wants.{ready_of}
 use Rattle.bus_books.specs.Carrying.{AllCarryOwn, SendsOwn}
-use Rattle.bus_books.specs.Giving.{Gives, GivesNext}
+use Rattle.bus_books.specs.Giving.{Gives, GivesNext, IsQuiet}
 use Rattle.bus_books.specs.Hearing.{HasPhase, LeavesWhole, MovesRuns}
 use Rattle.bus_books.specs.Knowing.{Knows, NamesServed}
 use Rattle.bus_books.specs.Rows.{IsRowIn, IsFirstRow}
@@ -83,3 +83,4 @@ pub record Books (s : ScenarioValue) (k : RunState) : Type 0 where
   pub speaks : (n : Connection) → k.story.bus_state.connection ≡ Some n → (bus_of k).rst ≡ false → Speaks s k n
   pub gives : (n : Connection) → k.story.bus_state.connection ≡ Some n → (bus_of k).rst ≡ false → Gives k
   pub knows : (n : Connection) → k.story.bus_state.connection ≡ Some n → (bus_of k).rst ≡ false → Knows s k n
+  pub quiet : (n : Connection) → k.story.bus_state.connection ≡ Some n → (bus_of k).rst ≡ false → IsQuiet k

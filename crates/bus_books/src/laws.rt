@@ -7,7 +7,8 @@ ghost use Rattle.bus_trace.specs.declared.connection.Connection.{Connection};
 ghost use Rattle.bus_trace.specs.Phases.{is_command, is_data, is_message_out, is_message_in};
 ghost use Rattle.bus_trace.specs.Terms.{receiver_in};
 ghost use Rattle.bus_phases.specs.Reading.{reading_of};
-ghost use Rattle.bus_rules.specs.Messages.{is_unknown};
+ghost use Rattle.bus_rules.specs.Messages.{is_unknown, leaves_message_well};
+ghost use Rattle.bus_rules.specs.Seen.{seen};
 ghost use Rattle.cdb_codec.specs.Cdb.{has_group_len};
 ghost use Rattle.scenario.specs.Value.{ScenarioValue};
 ghost use Rattle.disk_array.specs.Processes.{Process, process_of};
@@ -21,6 +22,7 @@ ghost use Rattle.bus_story.specs.BusState.{row_reading};
 ghost use Rattle.bus_due.specs.Faithful.{is_opening_named, is_block_of_process, is_faithful, faithful};
 ghost use Rattle.bus_due.specs.RunState.{RunState, bus_of, process_here, process_served, carried_here};
 ghost use Rattle.bus_due.specs.RunSteps.{run_state};
+ghost use Rattle.bus_due.specs.Plain.{AreOfDevices};
 ghost use Rattle.scsi_device.specs.Lines.{AreUnits};
 ghost use Rattle.bus_books.specs.Items.{IsItem, AimsAreItems};
 ghost use Rattle.bus_books.specs.Rows.{IsRowIn, IsFirstRow};
@@ -31,7 +33,7 @@ ghost use Rattle.bus_books.specs.Knowing.{Knows, NamesServed};
 ghost use Rattle.bus_books.specs.Hearing.{HasPhase, LeavesWhole, MovesRuns};
 ghost use Rattle.bus_books.specs.Reactions.{IsAnswered, IsOffered, IsOver};
 ghost use Rattle.bus_books.specs.RowTests.{is_row_of};
-ghost use Rattle.bus_books.specs.Traces.{RowOf, AreRowsOf, Books};
+ghost use Rattle.bus_books.specs.Traces.{RowOf, AreRowsOf, Books, GoesOn};
 
 /// After any rows, what a device calls for is an item of the scenario: a command of it, the automatic REQUEST SENSE of
 /// one, or an abort.
@@ -170,4 +172,16 @@ pub fn bytes_that_are_due_are_next()
     ensures command { (s : ScenarioValue) (k : RunState) (n : Connection) (p : Process) → is_command (bus_of k) ≡ true
         → IsOver s k n → process_served s k ≡ Some p → k.exchange.plan.struck ≡ false
         → has_group_len (carried_here k p.id).block ≡ true }
+{}
+
+/// So of the rule of messages (6.6) a row of a connection keeps that no byte of a message phase makes an unknown message
+/// (`known`), and that such a phase is left with no message half sent, but for MESSAGE IN with ATN true (`left`). Which
+/// message comes first, and that no request is open as data cross, are not said here.
+pub fn message_phases_are_whole()
+    ensures known { (s : ScenarioValue) (rows : List Row) (row : Row) (n : Connection) (c : Change) → AreOfDevices rows
+        → row.dev < 8 → Books s (run_state s rows) → GoesOn s (run_state s rows) row n c
+        → is_unknown (seen rows row).reading ≡ false }
+    ensures left { (s : ScenarioValue) (rows : List Row) (row : Row) (n : Connection) (c : Change) → AreOfDevices rows
+        → row.dev < 8 → Books s (run_state s rows) → GoesOn s (run_state s rows) row n c
+        → leaves_message_well (seen rows row) ≡ true }
 {}
