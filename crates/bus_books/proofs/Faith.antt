@@ -96,7 +96,7 @@ block_left s k n c w e None f = refl
 block_left s k n c w e (Some p) f = let b = w.command p f e in block_own s k p c f b.0 b.1
 
 said_left : (s : ScenarioValue) (k : RunState) (n : Connection) → AreUnits s → Speaks s k n → AllCarryOwn s k → LeavesWhole s k n → HasPhase k → k.exchange.begun ≡ true → (phase : Phase) → phase_of (bus_of k) ≡ phase → is_true_leaving s k (process_served s k) phase ≡ true
-said_left s k n u h c w lines eb phases.MessageOut e = opening_named s k n u h eb (out_lines (bus_of k) e lines) (w.out e)
+said_left s k n u h c w lines eb phases.MessageOut e = opening_named s k n u h eb (out_lines (bus_of k) e (λ m. (lines m).0)) (w.out e)
 said_left s k n u h c w lines eb phases.MessageIn e = refl
 said_left s k n u h c w lines eb phases.Command e = block_left s k n c w e (process_served s k) refl
 said_left s k n u h c w lines eb phases.Status e = refl

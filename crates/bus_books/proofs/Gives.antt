@@ -125,7 +125,7 @@ gives_as x x' d d' h b b' ex ed eb g =
 in_same : (a b : LineSet) → SamePhase a b → is_message_in b ≡ is_message_in a
 in_same a b h = λ i. h.msg i && h.cd i && h.io i
 
-in_io : (b : LineSet) → is_message_in b ≡ true → b.io ≡ true
+pub in_io : (b : LineSet) → is_message_in b ≡ true → b.io ≡ true
 in_io b e = last (b.msg && b.cd) b.io e
   where
     last : (q r : Bool) → (q && r) ≡ true → r ≡ true

@@ -22,3 +22,7 @@ pub mod Knows
 pub mod Faith
 pub mod FirstLinks
 pub mod Traces
+pub mod RowTies
+pub mod Reactions
+pub mod Quiet
+pub mod MessageRules

@@ -14,7 +14,7 @@ self_bool false = refl
 pub self_id : (a : ProcId) → same_id a a ≡ true
 self_id a = (λ i. eq_self a.command i && same_bool a.sense a.sense) ∙ self_bool a.sense
 
-is_bool : (a b : Bool) → same_bool a b ≡ true → a ≡ b
+pub is_bool : (a b : Bool) → same_bool a b ≡ true → a ≡ b
 is_bool true true e = refl
 is_bool false false e = refl
 is_bool true false e = absurd (true≢false (sym e))

@@ -23,7 +23,7 @@ use Rattle.bus_due.specs.RunSteps.{first_run_state, run_state, run_state_after, 
 use Rattle.bus_due.specs.Wants.{ready_of}
 use Rattle.scsi_device.specs.Lines.{AreUnits}
 use Rattle.bus_books.specs.Carrying.{AllCarryOwn, SendsOwn}
-use Rattle.bus_books.specs.Giving.{Gives}
+use Rattle.bus_books.specs.Giving.{Gives, IsQuiet}
 use Rattle.bus_books.specs.Items.{IsItem, is_process, is_abort, AimsAreItems}
 use Rattle.bus_books.specs.Knowing.{Knows}
 use Rattle.bus_books.specs.Rows.{IsRowIn}
@@ -34,11 +34,12 @@ use Rattle.bus_books.proofs.CarriedBlocks.{process_own}
 use Rattle.bus_books.proofs.CarriedRows.{carry_on, all_carry}
 use Rattle.bus_books.proofs.Faith.{row_is_faithful}
 use Rattle.bus_books.proofs.FirstLinks.{knows_first}
-use Rattle.bus_books.proofs.FirstWords.{speaks_first, process_unit}
+use Rattle.bus_books.proofs.FirstWords.{speaks_first}
 use Rattle.bus_books.proofs.Given.{gives_first}
 use Rattle.bus_books.proofs.Gives.{gives_on}
 use Rattle.bus_books.proofs.Knows.{knows_on}
 use Rattle.bus_books.proofs.Lists.{eq_self}
+use Rattle.bus_books.proofs.Quiet.{quiet_first, quiet_on}
 use Rattle.bus_books.proofs.Speaks.{speaks_on}
 
 -- ---- small facts
@@ -76,13 +77,14 @@ unbegun_on s k row h e = go k.story.bus_state.connection refl
 -- ---- the books of a row
 
 -- The connection after the row, with what holds in it.
-books_in : (s : ScenarioValue) (k : RunState) (row : Row) (n : Connection) → AllCarryOwn s (run_state_after s k row) → (row_reading k.story.bus_state row).next ≡ Some n → Speaks s (run_state_after s k row) n → Gives (run_state_after s k row) → Knows s (run_state_after s k row) n → Books s (run_state_after s k row)
-books_in s k row n carry e speaks gives knows = record {
+books_in : (s : ScenarioValue) (k : RunState) (row : Row) (n : Connection) → AllCarryOwn s (run_state_after s k row) → (row_reading k.story.bus_state row).next ≡ Some n → Speaks s (run_state_after s k row) n → Gives (run_state_after s k row) → Knows s (run_state_after s k row) n → IsQuiet (run_state_after s k row) → Books s (run_state_after s k row)
+books_in s k row n carry e speaks gives knows quiet = record {
   carry = carry;
   unbegun = λ f. absurd (none_some n (sym f ∙ e));
   speaks = λ m f z. subst (λ (x : Connection). Speaks s (run_state_after s k row) x) (same_connection n m (sym e ∙ f)) speaks;
   gives = λ m f z. gives;
   knows = λ m f z. subst (λ (x : Connection). Knows s (run_state_after s k row) x) (same_connection n m (sym e ∙ f)) knows;
+  quiet = λ m f z. quiet;
 }
 
 books_apart : (s : ScenarioValue) (k : RunState) (row : Row) → AllCarryOwn s (run_state_after s k row) → (k.story.bus_state.connection ≡ None → k.exchange.begun ≡ false) → (row_reading k.story.bus_state row).next ≡ None → Books s (run_state_after s k row)
@@ -92,6 +94,7 @@ books_apart s k row carry h e = record {
   speaks = λ m f z. absurd (none_some m (sym e ∙ f));
   gives = λ m f z. absurd (none_some m (sym e ∙ f));
   knows = λ m f z. absurd (none_some m (sym e ∙ f));
+  quiet = λ m f z. absurd (none_some m (sym e ∙ f));
 }
 
 -- RST ends a connection.
@@ -109,11 +112,11 @@ books_reset s k row carry h r = record {
   speaks = λ m f z. absurd (true≢false (sym r ∙ z));
   gives = λ m f z. absurd (true≢false (sym r ∙ z));
   knows = λ m f z. absurd (true≢false (sym r ∙ z));
+  quiet = λ m f z. absurd (true≢false (sym r ∙ z));
 }
 
-ready_unit : (s : ScenarioValue) (k : RunState) (n : Connection) → AreUnits s → IsReadyFor s k n → (r : Ready) → ready_of s k n.target ≡ Some r → r.process.unit < 8
-ready_unit s k n u h r e =
-    subst (λ (x : Ready). x.process.unit < 8) (ap (or_ready r) (sym h.ready_is ∙ e)) (process_unit s h.ready.process.id h.ready.process u h.process_is)
+ready_unit : (s : ScenarioValue) (k : RunState) (n : Connection) → IsReadyFor s k n → (r : Ready) → ready_of s k n.target ≡ Some r → r.process.unit < 8
+ready_unit s k n h r e = subst (λ (x : Ready). x.process.unit < 8) (ap (or_ready r) (sym h.ready_is ∙ e)) h.unit_in
   where
     or_ready : Ready → Option Ready → Ready
     or_ready x None = x
@@ -127,14 +130,16 @@ books_on s k row u aims (apart e f) h = books_apart s k row (carry_on s k row (s
 books_on s k row u aims (begins n b) h =
     books_in s k row n (carry_on s k row (sends_none s k row (apart_carries_none k row b.first.connection_is)) h.carry) b.first.next_is
     (speaks_first s k row n u aims b.first (λ e. let a = b.selects e in (a.item, a.aim_is)))
-    (gives_first s k row n b.first (λ e. ready_unit s k n u (b.reselects e)))
+    (gives_first s k row n b.first (λ e. ready_unit s k n (b.reselects e)))
     (knows_first s k row n b.first)
+    (quiet_first s k row n b.first)
 books_on s k row u aims (goes_on n c g) h =
     let con = g.row_is.connection_is in
     books_in s k row n (carry_on s k row g.sends h.carry) (next_is k row n c g.row_is)
     (speaks_on s k row n c g.row_is g.says (h.speaks n con g.calm))
     (gives_on s k row n c g.row_is g.gives (h.gives n con g.calm))
     (knows_on s k row n c g.row_is (h.gives n con g.calm) g.gives g.names (h.knows n con g.calm))
+    (quiet_on s k row n c g.row_is (h.quiet n con g.calm))
 books_on s k row u aims (ends n g) h = books_apart s k row (carry_on s k row (sends_none s k row g.carries_none) h.carry) h.unbegun g.next_is
 books_on s k row u aims (under_reset r e) h = books_reset s k row (carry_on s k row (sends_none s k row e) h.carry) h.unbegun r
 
@@ -177,7 +182,7 @@ begins_truly s k row n aims b = go n.reselected refl
         ap (λ (q : Bool). has_ends (process_item s (if q then item_if (ready_of s k n.target) else aim_of k.story.aims n.initiator)) n) e
         ∙ ap (λ (x : Option Ready). has_ends (process_item s (item_if x)) n) r.ready_is
         ∙ ap (λ (x : Option Process). has_ends x n) r.process_is
-        ∙ ends_are s k n r.ready.process r.initiator_is r.target_is
+        ∙ ends_are s k n r.process r.initiator_is r.target_is
     go false e =
         let a = b.selects e in
         ap (λ (q : Bool). has_ends (process_item s (if q then item_if (ready_of s k n.target) else aim_of k.story.aims n.initiator)) n) e
@@ -212,6 +217,7 @@ first_books s carry = record {
   speaks = λ m f z. absurd (none_some m f);
   gives = λ m f z. absurd (none_some m f);
   knows = λ m f z. absurd (none_some m f);
+  quiet = λ m f z. absurd (none_some m f);
 }
 
 pub books_are : (s : ScenarioValue) (rows : List Row) → AreUnits s → AreRowsOf s rows → Books s (run_state s rows)

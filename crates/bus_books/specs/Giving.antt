@@ -1,11 +1,11 @@
 -- MESSAGE IN: what the target gives are the bytes of its messages, one after the other, and the initiator has heard those that
 -- crossed (6.6).
-use Rattle.std.specs.Prelude.{ℕ, ◌%◌, ◌≡◌, ◌<◌, is_some, true, List, [], ◌++◌, length, slice_index_or, Option, Some, None, ⊤}
+use Rattle.std.specs.Prelude.{false, ℕ, ◌%◌, ◌≡◌, ◌<◌, is_some, true, List, [], ◌++◌, length, slice_index_or, Option, Some, None, ⊤}
 use Rattle.bus_trace.specs.LineSet.{LineSet}
 use Rattle.bus_trace.specs.declared.changes.Change.{Change}
 use Rattle.bus_trace.specs.declared.connection.Connection.{Connection}
 use Rattle.bus_trace.specs.Terms.{receiver_in}
-use Rattle.bus_trace.specs.Phases.{is_message_in}
+use Rattle.bus_trace.specs.Phases.{is_message_out, is_message_in}
 use Rattle.bus_lines.specs.Handshakes.{Handshakes}
 use Rattle.bus_phases.specs.declared.dialogue.Dialogue.{Dialogue}
 use Rattle.msg_grammar.specs.declared.message.MsgIn.{MsgIn}
@@ -39,6 +39,13 @@ pub record GivesBy (x : Exchange) (d : Dialogue) (h : Handshakes) (b : LineSet) 
 
 abbrev pub Gives : RunState → Type 0
 Gives k = GivesBy k.exchange k.story.bus_state.dialogue k.handshakes (bus_of k)
+
+-- Outside the message phases no message is heard half.
+abbrev pub IsQuietBy : Dialogue → LineSet → Type 0
+IsQuietBy d b = is_message_out b ≡ false → is_message_in b ≡ false → d.half ≡ []
+
+abbrev pub IsQuiet : RunState → Type 0
+IsQuiet k = IsQuietBy k.story.bus_state.dialogue (bus_of k)
 
 -- A byte of MESSAGE IN that crosses in the row is the next one, in a phase that has begun: what the target is due to drive while one
 -- follows.

@@ -1,6 +1,6 @@
 -- What devices are due to do as they leave a phase, and what is still to be proved of the data runs: with these, a row of a
 -- connection tells what was to be said.
-use Rattle.std.specs.Prelude.{ℕ, ◌+◌, ◌≡◌, Bool, true, false, ◌&&◌, is_some, Some}
+use Rattle.std.specs.Prelude.{ℕ, ◌+◌, ◌≡◌, Bool, true, false, ◌&&◌, is_some, length, Some}
 use Rattle.bus_trace.specs.declared.connection.Connection.{Connection}
 use Rattle.cdb_codec.specs.Cdb.{has_group_len}
 use Rattle.scenario.specs.Value.{ScenarioValue}
@@ -10,6 +10,7 @@ use Rattle.bus_dialogue.specs.declared.exchange.Phase.TheVariants as phases
 use Rattle.bus_dialogue.specs.declared.exchange.Task.{Task}
 use Rattle.bus_dialogue.specs.Arrivals.{policy_of}
 use Rattle.bus_dialogue.specs.DataRuns.{run_at}
+use Rattle.bus_dialogue.specs.Exchange.{bytes_of_messages}
 use Rattle.bus_dialogue.specs.NextPhase.{phase_of}
 use Rattle.bus_due.specs.Defs.{target_def_of}
 use Rattle.bus_due.specs.RunState.{RunState, bus_of, item_of, process_served, carried_here}
@@ -23,14 +24,15 @@ abbrev pub is_out_phase : Phase → Bool
 is_out_phase phases.MessageOut = true
 is_out_phase _ = false
 
--- Messages are of the phases with C/D; the reserved phases are not used (6.1.5).
+-- Messages are of the phases with C/D, which have begun; the reserved phases are not used (6.1.5).
 abbrev pub HasPhase : RunState → Type 0
-HasPhase k = (bus_of k).msg ≡ true → (bus_of k).cd ≡ true
+HasPhase k = (bus_of k).msg ≡ true → ((bus_of k).cd ≡ true) × (k.exchange.begun ≡ true)
 
--- The present phase may be left: MESSAGE OUT after a byte with ATN false, COMMAND struck or once the block has the length of its
--- group, and after a reselection any other phase once a name was heard, but MESSAGE IN with ATN true (6.1.6, 6.2.1).
+-- The present phase may be left: MESSAGE OUT after a byte with ATN false, MESSAGE IN after all bytes unless ATN is true, COMMAND
+-- struck or once the block has the length of its group, and after a reselection any other phase once a name was heard, but MESSAGE IN with ATN true (6.1.6, 6.2.1).
 pub record LeavesWhole (s : ScenarioValue) (k : RunState) (n : Connection) : Type 0 where
   pub out : phase_of (bus_of k) ≡ phases.MessageOut → k.story.bus_state.dialogue.is_last ≡ true
+  pub given : phase_of (bus_of k) ≡ phases.MessageIn → (bus_of k).atn ≡ false → k.handshakes.requests ≡ length (bytes_of_messages k.exchange.plan.messages)
   pub command : (p : Process) → process_served s k ≡ Some p → phase_of (bus_of k) ≡ phases.Command → (has_group_len p.cdb ≡ true) × (k.exchange.plan.struck ≡ false → has_group_len (carried_here k p.id).block ≡ true)
   pub named : n.reselected ≡ true → is_out_phase (phase_of (bus_of k)) ≡ false → (is_in_phase (phase_of (bus_of k)) && (bus_of k).atn) ≡ false → is_some (item_of k.story.link) ≡ true
 

@@ -9,3 +9,5 @@ pub mod Giving
 pub mod Knowing
 pub mod Hearing
 pub mod Traces
+pub mod RowTests
+pub mod Reactions

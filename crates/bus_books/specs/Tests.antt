@@ -288,8 +288,3 @@ abbrev pub are_books : ScenarioValue → RunState → Bool
 are_books s k =
     is_some k.array && are_items_well s k
     && ((bus_of k).rst || (is_connected_well s k k.story.bus_state.connection && all_stand s k 1 s.commands))
-
--- After the rows of a run, the oldest first, and after each front of them.
-abbrev pub keep_books : ScenarioValue → RunState → List Row → Bool
-keep_books s k [] = are_books s k
-keep_books s k (row ∷ rows) = are_books s k && keep_books s (run_state_after s k row) rows

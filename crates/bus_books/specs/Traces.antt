@@ -1,6 +1,6 @@
 -- The rows of a trace, by what they do with a connection: what the lines show, and what devices are due to do. With these the books
 -- hold after all of them.
-use Rattle.std.specs.Prelude.{ℕ, ◌≡◌, Bool, true, false, List, [], ◌∷◌, Option, Some, None, ⊤}
+use Rattle.std.specs.Prelude.{ℕ, ◌≡◌, ◌<◌, Bool, true, false, List, [], ◌∷◌, Option, Some, None, ⊤}
 use Rattle.bus_trace.specs.declared.Row.{Row}
 use Rattle.bus_trace.specs.declared.changes.Change.{Change}
 use Rattle.bus_trace.specs.declared.connection.Connection.{Connection}
@@ -15,19 +15,21 @@ use Rattle.bus_due.specs.RunState.{RunState, bus_of, process_item}
 use Rattle.bus_due.specs.RunSteps.{run_state}
 use Rattle.bus_due.specs.Wants.{ready_of}
 use Rattle.bus_books.specs.Carrying.{AllCarryOwn, SendsOwn}
-use Rattle.bus_books.specs.Giving.{Gives, GivesNext}
+use Rattle.bus_books.specs.Giving.{Gives, GivesNext, IsQuiet}
 use Rattle.bus_books.specs.Hearing.{HasPhase, LeavesWhole, MovesRuns}
 use Rattle.bus_books.specs.Knowing.{Knows, NamesServed}
 use Rattle.bus_books.specs.Rows.{IsRowIn, IsFirstRow}
 use Rattle.bus_books.specs.Speaking.{Speaks, SaysNext}
 
--- The process that a target has ready is of the scenario, and of the ends of the connection that it makes.
+-- The process that a target has ready is of the scenario, and of the ends of the connection that it makes; its unit is 0 to 7.
 pub record IsReadyFor (s : ScenarioValue) (k : RunState) (n : Connection) : Type 0 where
   pub ready : Ready
   pub ready_is : ready_of s k n.target ≡ Some ready
-  pub process_is : process_of s ready.process.id ≡ Some ready.process
-  pub initiator_is : ready.process.initiator ≡ n.initiator
-  pub target_is : ready.process.target ≡ n.target
+  pub unit_in : ready.process.unit < 8
+  pub process : Process
+  pub process_is : process_of s ready.process.id ≡ Some process
+  pub initiator_is : process.initiator ≡ n.initiator
+  pub target_is : process.target ≡ n.target
 
 -- An initiator selects for its item, and its target.
 pub record IsAimedAt (s : ScenarioValue) (k : RunState) (n : Connection) : Type 0 where
@@ -81,3 +83,4 @@ pub record Books (s : ScenarioValue) (k : RunState) : Type 0 where
   pub speaks : (n : Connection) → k.story.bus_state.connection ≡ Some n → (bus_of k).rst ≡ false → Speaks s k n
   pub gives : (n : Connection) → k.story.bus_state.connection ≡ Some n → (bus_of k).rst ≡ false → Gives k
   pub knows : (n : Connection) → k.story.bus_state.connection ≡ Some n → (bus_of k).rst ≡ false → Knows s k n
+  pub quiet : (n : Connection) → k.story.bus_state.connection ≡ Some n → (bus_of k).rst ≡ false → IsQuiet k

@@ -1,12 +1,14 @@
 // Laws of what is said, given and carried, each named by the contract of a function that does nothing.
 
-ghost use Rattle.std.specs.Prelude.{ℕ, ◌≡◌, ◌<◌, true, false, List, [], ◌∷◌, length, Some};
+ghost use Rattle.std.specs.Prelude.{ℕ, ◌≡◌, ◌<◌, ◌%◌, true, false, is_some, List, [], ◌∷◌, length, slice_index_or, Some};
 ghost use Rattle.bus_trace.specs.declared.Row.{Row};
 ghost use Rattle.bus_trace.specs.declared.changes.Change.{Change};
 ghost use Rattle.bus_trace.specs.declared.connection.Connection.{Connection};
-ghost use Rattle.bus_trace.specs.Phases.{is_message_out, is_message_in};
+ghost use Rattle.bus_trace.specs.Phases.{is_command, is_data, is_message_out, is_message_in};
+ghost use Rattle.bus_trace.specs.Terms.{receiver_in};
 ghost use Rattle.bus_phases.specs.Reading.{reading_of};
-ghost use Rattle.bus_rules.specs.Messages.{is_unknown};
+ghost use Rattle.bus_rules.specs.Messages.{is_unknown, leaves_message_well};
+ghost use Rattle.bus_rules.specs.Seen.{seen};
 ghost use Rattle.cdb_codec.specs.Cdb.{has_group_len};
 ghost use Rattle.scenario.specs.Value.{ScenarioValue};
 ghost use Rattle.disk_array.specs.Processes.{Process, process_of};
@@ -18,8 +20,9 @@ ghost use Rattle.bus_due.specs.Wants.{ready_of};
 ghost use Rattle.bus_trace.specs.Phases.{changes_phase};
 ghost use Rattle.bus_story.specs.BusState.{row_reading};
 ghost use Rattle.bus_due.specs.Faithful.{is_opening_named, is_block_of_process, is_faithful, faithful};
-ghost use Rattle.bus_due.specs.RunState.{RunState, bus_of, process_served, carried_here};
+ghost use Rattle.bus_due.specs.RunState.{RunState, bus_of, process_here, process_served, carried_here};
 ghost use Rattle.bus_due.specs.RunSteps.{run_state};
+ghost use Rattle.bus_due.specs.Plain.{AreOfDevices};
 ghost use Rattle.scsi_device.specs.Lines.{AreUnits};
 ghost use Rattle.bus_books.specs.Items.{IsItem, AimsAreItems};
 ghost use Rattle.bus_books.specs.Rows.{IsRowIn, IsFirstRow};
@@ -28,7 +31,9 @@ ghost use Rattle.bus_books.specs.Giving.{Gives, GivesNext};
 ghost use Rattle.bus_books.specs.Carrying.{AllCarryOwn, AllSendOwn, SendsOwn};
 ghost use Rattle.bus_books.specs.Knowing.{Knows, NamesServed};
 ghost use Rattle.bus_books.specs.Hearing.{HasPhase, LeavesWhole, MovesRuns};
-ghost use Rattle.bus_books.specs.Traces.{RowOf, AreRowsOf, Books};
+ghost use Rattle.bus_books.specs.Reactions.{IsAnswered, IsOffered, IsOver};
+ghost use Rattle.bus_books.specs.RowTests.{is_row_of};
+ghost use Rattle.bus_books.specs.Traces.{RowOf, AreRowsOf, Books, GoesOn};
 
 /// After any rows, what a device calls for is an item of the scenario: a command of it, the automatic REQUEST SENSE of
 /// one, or an abort.
@@ -136,11 +141,47 @@ pub fn rows_of_connections_are_faithful()
 /// These books hold together after all rows of a trace (`rows`), since each row keeps them (`next`), where each row is one of
 /// these: outside a connection; the first of one, made for the item of its initiator or the process that its target has
 /// ready; one of a connection, with the bytes that its ends are due to drive; its last; or a row after which RST is true.
-/// Then what crosses in the trace is what was to be said (`faithful`).
+/// Then what crosses in the trace is what was to be said (`faithful`). A test decides that a row is one of these (`tested`).
 pub fn books_hold_after_all_rows()
     ensures rows { (s : ScenarioValue) (rows : List Row) → AreUnits s → AreRowsOf s rows → Books s (run_state s rows) }
     ensures next { (s : ScenarioValue) (rows : List Row) (row : Row) → AreUnits s → RowOf s (run_state s rows) row
         → Books s (run_state s rows) → Books s (run_state s (row ∷ rows)) }
     ensures faithful { (s : ScenarioValue) (rows : List Row) → AreUnits s → AreRowsOf s rows
         → faithful s rows ≡ true }
+    ensures tested { (s : ScenarioValue) (k : RunState) (row : Row) → is_row_of s k row ≡ true → RowOf s k row }
+{}
+
+/// What the rows are asked above is what the two ends are due to do. A byte that the initiator drives when it is due, with
+/// ATN as it is due, is the next of MESSAGE OUT (`says`), and in COMMAND and DATA OUT that at the pointer of the process
+/// (`sends`); a byte of MESSAGE IN that the target drives when it is due is the next of its messages (`gives`). Where the
+/// target leaves a phase as no byte follows, MESSAGE OUT was left after a byte with ATN false (`out`), and COMMAND struck or
+/// with a block of the length of its group (`command`).
+pub fn bytes_that_are_due_are_next()
+    ensures says { (s : ScenarioValue) (k : RunState) (n : Connection) (c : Change) → bus_of k ≡ c.before
+        → IsAnswered s k n c → SaysNext k n c }
+    ensures sends { (s : ScenarioValue) (k : RunState) (n : Connection) (c : Change) (p : Process) → bus_of k ≡ c.before
+        → IsAnswered s k n c → process_here s k ≡ Some p → is_some (receiver_in n c) ≡ true → c.before.io ≡ false
+        → ((is_command c.before ≡ true
+            → c.after.data_bits % 256 ≡ slice_index_or p.cdb (carried_here k p.id).command.active 0)
+        × (is_data c.before ≡ true
+            → c.after.data_bits % 256 ≡ slice_index_or p.sent (carried_here k p.id).moved.active 0)) }
+    ensures gives { (s : ScenarioValue) (k : RunState) (n : Connection) (c : Change) → bus_of k ≡ c.before
+        → IsOffered s k n c → GivesNext k n c }
+    ensures out { (s : ScenarioValue) (k : RunState) (n : Connection) → is_message_out (bus_of k) ≡ true
+        → IsOver s k n → k.story.bus_state.dialogue.is_last ≡ true }
+    ensures command { (s : ScenarioValue) (k : RunState) (n : Connection) (p : Process) → is_command (bus_of k) ≡ true
+        → IsOver s k n → process_served s k ≡ Some p → k.exchange.plan.struck ≡ false
+        → has_group_len (carried_here k p.id).block ≡ true }
+{}
+
+/// So of the rule of messages (6.6) a row of a connection keeps that no byte of a message phase makes an unknown message
+/// (`known`), and that such a phase is left with no message half sent, but for MESSAGE IN with ATN true (`left`). Which
+/// message comes first, and that no request is open as data cross, are not said here.
+pub fn message_phases_are_whole()
+    ensures known { (s : ScenarioValue) (rows : List Row) (row : Row) (n : Connection) (c : Change) → AreOfDevices rows
+        → row.dev < 8 → Books s (run_state s rows) → GoesOn s (run_state s rows) row n c
+        → is_unknown (seen rows row).reading ≡ false }
+    ensures left { (s : ScenarioValue) (rows : List Row) (row : Row) (n : Connection) (c : Change) → AreOfDevices rows
+        → row.dev < 8 → Books s (run_state s rows) → GoesOn s (run_state s rows) row n c
+        → leaves_message_well (seen rows row) ≡ true }
 {}

@@ -1,6 +1,7 @@
 use Rattle.bus_books.proofs.laws.books_hold_after_all_rows.Goals as goal
 use Rattle.bus_due.specs.RunSteps.{run_state}
 use Rattle.bus_books.proofs.Aims.{aims_are}
+use Rattle.bus_books.proofs.RowTies.{row_of}
 use Rattle.bus_books.proofs.Traces.{books_on, books_are, trace_faithful}
 
 -- src/laws.rt
@@ -14,3 +15,7 @@ returns-clause-next c = λ s rows row units of books. books_on s (run_state s ro
 -- src/laws.rt
 pub returns-clause-faithful : goal.returns-clause-faithful
 returns-clause-faithful c = λ s rows units h. trace_faithful s rows units h
+
+-- src/laws.rt
+pub returns-clause-tested : goal.returns-clause-tested
+returns-clause-tested c = λ s k row e. row_of s k row e

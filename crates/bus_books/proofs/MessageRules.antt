@@ -1,0 +1,121 @@
+-- The bytes of message phases form messages, and none is half sent as the phase is left (6.6).
+use Rattle.std.proofs.Common.{ℕ, ◌≡◌, ◌<◌, Bool, true, false, not, ◌&&◌, ◌||◌, ◌∙◌, List, [], ◌∷◌, ◌++◌, Option, Some, None, refl, sym, ap, subst, true≢false}
+use Rattle.std.specs.Prelude.{if◌then◌else◌, is_some, ◌%◌}
+use Rattle.bus_trace.specs.LineSet.{LineSet}
+use Rattle.bus_trace.specs.declared.Row.{Row}
+use Rattle.bus_trace.specs.declared.changes.Change.{Change}
+use Rattle.bus_trace.specs.declared.connection.Connection.{Connection}
+use Rattle.bus_trace.specs.Changes.{falls, change_of}
+use Rattle.bus_trace.specs.Terms.{connection, receiver_in}
+use Rattle.bus_trace.specs.Phases.{changes_phase, is_message_out, is_message_in}
+use Rattle.bus_phases.specs.declared.dialogue.Dialogue.{Dialogue}
+use Rattle.bus_phases.specs.declared.reading.Reading.TheVariants as readings
+use Rattle.bus_phases.specs.Dialogue.{dialogue}
+use Rattle.bus_phases.specs.Half.{is_nil}
+use Rattle.bus_phases.specs.Reading.{reading_out, reading_in, reading_of}
+use Rattle.msg_grammar.specs.Messages.{got_out, got_in}
+use Rattle.bus_rules.specs.Messages.{is_unknown, leaves_message_well}
+use Rattle.bus_rules.specs.Seen.{seen, seen_with}
+use Rattle.scenario.specs.Value.{ScenarioValue}
+use Rattle.bus_story.specs.Story.{Story}
+use Rattle.bus_dialogue.specs.declared.exchange.Phase.TheVariants as phases
+use Rattle.bus_dialogue.specs.NextPhase.{phase_of}
+use Rattle.bus_due.specs.Plain.{AreOfDevices}
+use Rattle.bus_due.specs.RunState.{RunState, bus_of}
+use Rattle.bus_due.specs.RunSteps.{run_state}
+use Rattle.bus_due.proofs.Plains.{IsBusStateOf, run_state_plain, bus_state_is, change_same}
+use Rattle.bus_books.specs.Traces.{GoesOn, Books}
+use Rattle.bus_books.proofs.Given.{in_is_whole, in_is_known}
+use Rattle.bus_books.proofs.Opened.{out_is_whole, out_is_known}
+use Rattle.bus_books.proofs.Gives.{in_io}
+
+-- ---- phases by the lines
+
+of_out : (b : LineSet) → is_message_out b ≡ true → (b.msg ≡ true) × (phase_of b ≡ phases.MessageOut) × (is_message_in b ≡ false)
+of_out b e = go b.msg b.cd b.io e
+  where
+    go : (m d i : Bool) → (m && d && not i) ≡ true → (m ≡ true) × ((if m then (if i then phases.MessageIn else phases.MessageOut) else if d then (if i then phases.Status else phases.Command) else if i then phases.DataIn else phases.DataOut) ≡ phases.MessageOut) × ((m && d && i) ≡ false)
+    go true true true z = absurd (true≢false (sym z))
+    go true true false z = (refl, refl, refl)
+    go true false i z = absurd (true≢false (sym z))
+    go false d i z = absurd (true≢false (sym z))
+
+of_in : (b : LineSet) → is_message_in b ≡ true → (b.msg ≡ true) × (phase_of b ≡ phases.MessageIn) × (is_message_out b ≡ false)
+of_in b e = go b.msg b.cd b.io e
+  where
+    go : (m d i : Bool) → (m && d && i) ≡ true → (m ≡ true) × ((if m then (if i then phases.MessageIn else phases.MessageOut) else if d then (if i then phases.Status else phases.Command) else if i then phases.DataIn else phases.DataOut) ≡ phases.MessageIn) × ((m && d && not i) ≡ false)
+    go true true true z = (refl, refl, refl)
+    go true true false z = absurd (true≢false (sym z))
+    go true false i z = absurd (true≢false (sym z))
+    go false d i z = absurd (true≢false (sym z))
+
+-- ---- of what is kept
+
+known_row : (s : ScenarioValue) (k : RunState) (row : Row) (n : Connection) (c : Change) → GoesOn s k row n c → Books s k → is_unknown (reading_of k.story.bus_state.dialogue.half (Some n) c) ≡ false
+known_row s k row n c g h = go (is_message_out c.before) refl (is_message_in c.before) refl
+  where
+    half : List ℕ
+    half = k.story.bus_state.dialogue.half
+    go : (o : Bool) → is_message_out c.before ≡ o → (i : Bool) → is_message_in c.before ≡ i → is_unknown (reading_of k.story.bus_state.dialogue.half (Some n) c) ≡ false
+    go true eo i ei =
+        let begun = (g.phase (ap (λ (b : LineSet). b.msg) g.row_is.bus_is ∙ (of_out c.before eo).0)).1 in
+        out_is_known s k n c (h.speaks n g.row_is.connection_is g.calm) begun g.row_is.bus_is eo g.says
+    go false eo true ei =
+        let begun = (g.phase (ap (λ (b : LineSet). b.msg) g.row_is.bus_is ∙ (of_in c.before ei).0)).1 in
+        in_is_known k n c (h.gives n g.row_is.connection_is g.calm) begun g.row_is.bus_is ei eo g.gives
+    go false eo false ei =
+        (λ j. is_unknown (if is_some (receiver_in n c) then if eo j then reading_out (got_out (k.story.bus_state.dialogue.half ++ c.after.data_bits % 256 ∷ [])) else if ei j then reading_in (got_in (k.story.bus_state.dialogue.half ++ c.after.data_bits % 256 ∷ [])) else readings.NoMessage else readings.NoMessage))
+        ∙ none (is_some (receiver_in n c))
+      where
+        none : (q : Bool) → is_unknown (if q then readings.NoMessage else readings.NoMessage) ≡ false
+        none true = refl
+        none false = refl
+
+half_left : (s : ScenarioValue) (k : RunState) (row : Row) (n : Connection) (c : Change) → GoesOn s k row n c → Books s k → changes_phase c ≡ true → (is_message_in c.before && c.before.atn) ≡ false → k.story.bus_state.dialogue.half ≡ []
+half_left s k row n c g h ep ea = go (is_message_out c.before) refl (is_message_in c.before) refl
+  where
+    con : k.story.bus_state.connection ≡ Some n
+    con = g.row_is.connection_is
+    go : (o : Bool) → is_message_out c.before ≡ o → (i : Bool) → is_message_in c.before ≡ i → k.story.bus_state.dialogue.half ≡ []
+    go true eo i ei =
+        let here : is_message_out (bus_of k) ≡ true = ap is_message_out g.row_is.bus_is ∙ eo in
+        let o = of_out (bus_of k) here in
+        out_is_whole s k n (h.speaks n con g.calm) (g.phase o.0).1 here ((g.leaves (ap changes_phase g.row_is.change_is ∙ ep)).out o.1)
+    go false eo true ei =
+        let here : is_message_in (bus_of k) ≡ true = ap is_message_in g.row_is.bus_is ∙ ei in
+        let o = of_in (bus_of k) here in
+        let atn : (bus_of k).atn ≡ false = ap (λ (b : LineSet). b.atn) g.row_is.bus_is ∙ (λ j. sym ei j && c.before.atn) ∙ ea in
+        in_is_whole k (h.gives n con g.calm) (g.phase o.0).1 here ((g.leaves (ap changes_phase g.row_is.change_is ∙ ep)).given o.1 atn)
+    go false eo false ei = h.quiet n con g.calm (ap is_message_out g.row_is.bus_is ∙ eo) (ap is_message_in g.row_is.bus_is ∙ ei)
+
+left_by : (p a half z : Bool) → (p ≡ true → a ≡ false → half ≡ false) → (not (p && half) || (a || z)) ≡ true
+left_by false a half z h = refl
+left_by true true true z h = refl
+left_by true true false z h = refl
+left_by true false true z h = absurd (true≢false (h refl refl))
+left_by true false false z h = refl
+
+-- ---- of the rows
+
+change_is : (s : ScenarioValue) (rows : List Row) (row : Row) (n : Connection) (c : Change) → AreOfDevices rows → row.dev < 8 → GoesOn s (run_state s rows) row n c → c ≡ change_of rows row
+change_is s rows row n c dev lt g =
+    let plain = run_state_plain s rows dev in
+    sym g.row_is.change_is ∙ change_same row rows (run_state s rows).story.bus_state (subst (λ (b : Story). IsBusStateOf rows b.bus_state) (sym plain.story) (bus_state_is s rows dev)) lt
+
+pub row_known : (s : ScenarioValue) (rows : List Row) (row : Row) (n : Connection) (c : Change) → AreOfDevices rows → row.dev < 8 → Books s (run_state s rows) → GoesOn s (run_state s rows) row n c → is_unknown (seen rows row).reading ≡ false
+unfolding seen_with
+row_known s rows row n c dev lt h g =
+    let k = run_state s rows in
+    let plain = run_state_plain s rows dev in
+    (λ i. is_unknown (reading_of (sym plain.dialogue i).half ((sym plain.connection ∙ g.row_is.connection_is) i) (sym (change_is s rows row n c dev lt g) i)))
+    ∙ known_row s k row n c g h
+
+pub row_left : (s : ScenarioValue) (rows : List Row) (row : Row) (n : Connection) (c : Change) → AreOfDevices rows → row.dev < 8 → Books s (run_state s rows) → GoesOn s (run_state s rows) row n c → leaves_message_well (seen rows row) ≡ true
+unfolding seen_with
+row_left s rows row n c dev lt h g =
+    let k = run_state s rows in
+    let plain = run_state_plain s rows dev in
+    (λ i. not (changes_phase (sym (change_is s rows row n c dev lt g) i) && not (is_nil (dialogue rows).half))
+    || ((is_message_in (sym (change_is s rows row n c dev lt g) i).before && (sym (change_is s rows row n c dev lt g) i).before.atn) || falls (sym (change_is s rows row n c dev lt g) i).before.bsy (sym (change_is s rows row n c dev lt g) i).after.bsy))
+    ∙ left_by (changes_phase c) (is_message_in c.before && c.before.atn) (not (is_nil (dialogue rows).half)) (falls c.before.bsy c.after.bsy)
+    (λ p a. (λ i. not (is_nil (sym plain.dialogue i).half)) ∙ (λ i. not (is_nil (half_left s k row n c g h p a i))))

@@ -1,0 +1,150 @@
+-- What the two ends are due to drive is what is next.
+use Rattle.std.proofs.Common.{ℕ, ◌≡◌, ◌<◌, ◌+◌, Bool, true, false, not, ◌&&◌, ◌||◌, ◌∙◌, List, [], ◌∷◌, length, Option, Some, None, refl, sym, ap, arith, true≢false}
+use Rattle.std.specs.Prelude.{if◌then◌else◌, is_some, ◌==◌, ◌%◌, nat_lt, slice_index_or}
+use Rattle.std.proofs.lemmas.Bool.Decides.{nat_tests}
+use Rattle.bus_trace.specs.LineSet.{LineSet}
+use Rattle.bus_trace.specs.declared.changes.Change.{Change}
+use Rattle.bus_trace.specs.declared.connection.Connection.{Connection}
+use Rattle.bus_trace.specs.Terms.{receiver_in}
+use Rattle.bus_trace.specs.Phases.{is_command, is_data, is_message_out, is_message_in}
+use Rattle.cdb_codec.specs.Cdb.{has_group_len}
+use Rattle.scenario.specs.Value.{ScenarioValue}
+use Rattle.disk_array.specs.Processes.{Process}
+use Rattle.bus_dialogue.specs.declared.exchange.Phase.{Phase}
+use Rattle.bus_dialogue.specs.declared.exchange.Phase.TheVariants as phases
+use Rattle.bus_dialogue.specs.Exchange.{next_word, bytes_of_messages}
+use Rattle.bus_dialogue.specs.Ends.{is_pulsed_phase, follows_by}
+use Rattle.bus_dialogue.specs.NextPhase.{phase_of}
+use Rattle.bus_dialogue.specs.PhaseBytes.{phase_byte, run_length_if, has_whole_block, follows_in}
+use Rattle.bus_dialogue.specs.Sending.{Sending, byte_to_send}
+use Rattle.bus_due.specs.RunState.{RunState, bus_of, process_here, process_served, carried_here}
+use Rattle.bus_due.specs.Sights.{serving_of, offering_of, answering_of, pace_of, sending_by, sending_of}
+use Rattle.bus_due.specs.Tasks.{task_if, task_of}
+use Rattle.bus_books.specs.Giving.{GivesNext}
+use Rattle.bus_books.specs.Reactions.{IsAnswered, IsOffered, IsOver}
+use Rattle.bus_books.specs.Speaking.{SaysNext}
+use Rattle.bus_books.proofs.Lookups.{first_is, second_is}
+
+-- ---- the initiator
+
+pub answers_next : (s : ScenarioValue) (k : RunState) (n : Connection) (c : Change) → bus_of k ≡ c.before → IsAnswered s k n c → SaysNext k n c
+answers_next s k n c eb h eo er =
+    (h.byte_is (io c.before.msg c.before.cd c.before.io eo) er ∙ ap (λ (b : LineSet). byte_to_send b k.exchange.speech (sending_of s k)) eb ∙ ap (λ (q : Bool). if q then next_word k.exchange.speech else if is_command c.before then slice_index_or (sending_of s k).cdb (sending_of s k).command 0 else slice_index_or (sending_of s k).sent (sending_of s k).moved 0) eo,
+        h.attends_is eo er)
+  where
+    io : (m d i : Bool) → (m && d && not i) ≡ true → i ≡ false
+    io true true true e = sym e
+    io true true false e = refl
+    io true false i e = absurd (true≢false (sym e))
+    io false d i e = absurd (true≢false (sym e))
+
+-- In COMMAND and DATA OUT it is the byte at the pointer.
+pub answers_own : (s : ScenarioValue) (k : RunState) (n : Connection) (c : Change) (p : Process) → bus_of k ≡ c.before → IsAnswered s k n c → process_here s k ≡ Some p → is_some (receiver_in n c) ≡ true → c.before.io ≡ false
+    → ((is_command c.before ≡ true → c.after.data_bits % 256 ≡ slice_index_or p.cdb (carried_here k p.id).command.active 0)
+    × (is_data c.before ≡ true → c.after.data_bits % 256 ≡ slice_index_or p.sent (carried_here k p.id).moved.active 0))
+answers_own s k n c p eb h ep er ei =
+    let is : c.after.data_bits % 256 ≡ byte_to_send c.before k.exchange.speech (sending_by k (Some p)) =
+    h.byte_is ei er ∙ (λ i. byte_to_send (eb i) k.exchange.speech (sending_by k (ep i))) in
+    (λ e. is ∙ by c.before.msg c.before.cd c.before.io e, λ e. is ∙ of_data c.before.msg c.before.cd c.before.io e)
+  where
+    o : Sending
+    o = sending_by k (Some p)
+    by : (m d i : Bool) → (not m && d && not i) ≡ true → (if m && d && not i then next_word k.exchange.speech else if not m && d && not i then slice_index_or p.cdb (carried_here k p.id).command.active 0 else slice_index_or p.sent (carried_here k p.id).moved.active 0) ≡ slice_index_or p.cdb (carried_here k p.id).command.active 0
+    by true d i e = absurd (true≢false (sym e))
+    by false true true e = absurd (true≢false (sym e))
+    by false true false e = refl
+    by false false i e = absurd (true≢false (sym e))
+    of_data : (m d i : Bool) → (not m && not d) ≡ true → (if m && d && not i then next_word k.exchange.speech else if not m && d && not i then slice_index_or p.cdb (carried_here k p.id).command.active 0 else slice_index_or p.sent (carried_here k p.id).moved.active 0) ≡ slice_index_or p.sent (carried_here k p.id).moved.active 0
+    of_data true d i e = absurd (true≢false (sym e))
+    of_data false true i e = absurd (true≢false (sym e))
+    of_data false false i e = refl
+
+-- ---- the target
+
+in_phase : (b : LineSet) → is_message_in b ≡ true → phase_of b ≡ phases.MessageIn
+in_phase b e = go b.msg b.cd b.io e
+  where
+    go : (m d i : Bool) → (m && d && i) ≡ true → (if m then (if i then phases.MessageIn else phases.MessageOut) else if d then (if i then phases.Status else phases.Command) else if i then phases.DataIn else phases.DataOut) ≡ phases.MessageIn
+    go true true true e = refl
+    go true true false e = absurd (true≢false (sym e))
+    go true false i e = absurd (true≢false (sym e))
+    go false d i e = absurd (true≢false (sym e))
+
+lt_is : (a b : ℕ) → nat_lt a b ≡ true → a < b
+lt_is a b e = grind (arith, nat_tests)
+
+-- A phase of messages is not pulsed.
+in_unpulsed : (begun some : Bool) (b : LineSet) → is_message_in b ≡ true → (begun && is_data b && some) ≡ false
+in_unpulsed begun some b e = go begun b.msg b.cd b.io some e
+  where
+    go : (q m d i r : Bool) → (m && d && i) ≡ true → (q && (not m && not d) && r) ≡ false
+    go true true d i r z = refl
+    go false true d i r z = refl
+    go q false d i r z = absurd (true≢false (sym z))
+
+pub offers_next : (s : ScenarioValue) (k : RunState) (n : Connection) (c : Change) → bus_of k ≡ c.before → IsOffered s k n c → GivesNext k n c
+offers_next s k n c eb h ei er =
+    let here : is_message_in (bus_of k) ≡ true = ap is_message_in eb ∙ ei in
+    let phase = in_phase (bus_of k) here in
+    let bytes = bytes_of_messages k.exchange.plan.messages in
+    let follows : follows_in (serving_of s k n.target) k.handshakes (bus_of k).atn phases.MessageIn ≡ true =
+    sym (ap (λ (q : Bool). follows_by (serving_of s k n.target) q (bus_of k) k.handshakes) (in_unpulsed k.exchange.begun _ (bus_of k) here)
+    ∙ ap (follows_in (serving_of s k n.target) k.handshakes (bus_of k).atn) phase)
+    ∙ h.follows ei er in
+    (h.byte_is ei er ∙ ap (λ (f : Phase). phase_byte (serving_of s k n.target) f k.exchange.plan.messages 0 k.handshakes.requests) phase,
+        lt_is k.handshakes.requests (length bytes) (second_is (k.handshakes.requests == 0 || not (bus_of k).atn) (nat_lt k.handshakes.requests (length bytes)) follows),
+        h.begun ei er)
+
+-- ---- a phase is left
+
+or_none : (q r : Bool) → (q || r) ≡ false → (q ≡ false) × (r ≡ false)
+or_none true r e = absurd (true≢false e)
+or_none false r e = (refl, e)
+
+unpulsed : (begun some : Bool) (b : LineSet) → is_data b ≡ false → (begun && is_data b && some) ≡ false
+unpulsed true some b e = ap (λ (q : Bool). q && some) e
+unpulsed false some b e = refl
+
+over_in : (s : ScenarioValue) (k : RunState) (n : Connection) (phase : Phase) → is_data (bus_of k) ≡ false → phase_of (bus_of k) ≡ phase → IsOver s k n → follows_in (serving_of s k n.target) k.handshakes (bus_of k).atn phase ≡ false
+over_in s k n phase ed ep h =
+    sym (ap (λ (q : Bool). follows_by (serving_of s k n.target) q (bus_of k) k.handshakes) (unpulsed k.exchange.begun _ (bus_of k) ed)
+    ∙ ap (follows_in (serving_of s k n.target) k.handshakes (bus_of k).atn) ep)
+    ∙ h.follows
+
+-- MESSAGE OUT was left after a byte with ATN false.
+pub out_over : (s : ScenarioValue) (k : RunState) (n : Connection) → is_message_out (bus_of k) ≡ true → IsOver s k n → k.story.bus_state.dialogue.is_last ≡ true
+out_over s k n eo h =
+    let f = over_in s k n phases.MessageOut (data_none (bus_of k).msg (bus_of k).cd (bus_of k).io eo) (out_phase (bus_of k).msg (bus_of k).cd (bus_of k).io eo) h in
+    let atn = (or_none (k.handshakes.answers == 0) (bus_of k).atn (or_none (k.handshakes.answers == 0 || (bus_of k).atn) k.exchange.plan.struck f).0).1 in
+    flip k.story.bus_state.dialogue.is_last (sym (h.attention eo) ∙ atn)
+  where
+    flip : (q : Bool) → not q ≡ false → q ≡ true
+    flip true e = refl
+    flip false e = absurd (true≢false e)
+    data_none : (m d i : Bool) → (m && d && not i) ≡ true → (not m && not d) ≡ false
+    data_none true d i e = refl
+    data_none false d i e = absurd (true≢false (sym e))
+    out_phase : (m d i : Bool) → (m && d && not i) ≡ true → (if m then (if i then phases.MessageIn else phases.MessageOut) else if d then (if i then phases.Status else phases.Command) else if i then phases.DataIn else phases.DataOut) ≡ phases.MessageOut
+    out_phase true true true e = absurd (true≢false (sym e))
+    out_phase true true false e = refl
+    out_phase true false i e = absurd (true≢false (sym e))
+    out_phase false d i e = absurd (true≢false (sym e))
+
+-- COMMAND was left struck, or once the block had the length of its group.
+pub command_over : (s : ScenarioValue) (k : RunState) (n : Connection) (p : Process) → is_command (bus_of k) ≡ true → IsOver s k n → process_served s k ≡ Some p → k.exchange.plan.struck ≡ false → has_group_len (carried_here k p.id).block ≡ true
+command_over s k n p ec h ep es =
+    let f = over_in s k n phases.Command (data_none (bus_of k).msg (bus_of k).cd (bus_of k).io ec) (command_phase (bus_of k).msg (bus_of k).cd (bus_of k).io ec) h in
+    flip (has_group_len (carried_here k p.id).block) (sym (λ i. not (es i) && not (has_whole_block (task_if s k (ep i)))) ∙ f)
+  where
+    flip : (q : Bool) → not q ≡ false → q ≡ true
+    flip true e = refl
+    flip false e = absurd (true≢false e)
+    data_none : (m d i : Bool) → (not m && d && not i) ≡ true → (not m && not d) ≡ false
+    data_none true d i e = refl
+    data_none false true i e = refl
+    data_none false false i e = absurd (true≢false (sym e))
+    command_phase : (m d i : Bool) → (not m && d && not i) ≡ true → (if m then (if i then phases.MessageIn else phases.MessageOut) else if d then (if i then phases.Status else phases.Command) else if i then phases.DataIn else phases.DataOut) ≡ phases.Command
+    command_phase true d i e = absurd (true≢false (sym e))
+    command_phase false true true e = absurd (true≢false (sym e))
+    command_phase false true false e = refl
+    command_phase false false i e = absurd (true≢false (sym e))

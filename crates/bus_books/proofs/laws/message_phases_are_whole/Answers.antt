@@ -1,0 +1,10 @@
+use Rattle.bus_books.proofs.laws.message_phases_are_whole.Goals as goal
+use Rattle.bus_books.proofs.MessageRules.{row_known, row_left}
+
+-- src/laws.rt
+pub returns-clause-known : goal.returns-clause-known
+returns-clause-known c = λ s rows row n change devices below books goes. row_known s rows row n change devices below books goes
+
+-- src/laws.rt
+pub returns-clause-left : goal.returns-clause-left
+returns-clause-left c = λ s rows row n change devices below books goes. row_left s rows row n change devices below books goes
