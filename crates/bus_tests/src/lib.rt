@@ -23,6 +23,8 @@ mod hands;
 #[cfg(test)]
 mod host_pointers;
 #[cfg(test)]
+mod hosts;
+#[cfg(test)]
 mod initiators;
 #[cfg(test)]
 mod io_pieces;

@@ -2,7 +2,7 @@
 ghost use Rattle.std.specs.Prelude.{◌≡◌, ◌<◌};
 
 mod cut;
-mod wholes;
+pub mod wholes;
 
 use bus_base::{MemSink, MemSource, NoMemory, Steps};
 use bus_cli::{Status, bus_main};

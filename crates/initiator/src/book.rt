@@ -220,11 +220,11 @@ impl Book {
     }
 
     /// Some of its own commands from this place on, in their order: no event ends another of them.
-    pub fn mines_since(&self, first: usize) -> &[Mine]
+    pub fn mines_from(&self, first: usize) -> &[Mine]
         ensures { (v : List CommandEnd) (shown : List Event)
             → ends_after_events result.now v shown ≡ ends_after_events (drop first self.now.mines) v shown }
     {
-        self.commands.since(first)
+        self.commands.from_place(first)
     }
 
     /// The abort line of this number among all, if it is its own.

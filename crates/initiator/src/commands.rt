@@ -224,7 +224,7 @@ impl Commands {
     }
 
     /// Some of those from this place on, in their order: no event ends another of them.
-    pub fn since(&self, first: usize) -> &[Mine]
+    pub fn from_place(&self, first: usize) -> &[Mine]
         ensures { (v : List CommandEnd) (shown : List Event)
             → ends_after_events result.now v shown ≡ ends_after_events (drop first self.now.mines) v shown }
     {

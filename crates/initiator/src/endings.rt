@@ -225,7 +225,7 @@ impl Endings {
         if shown.is_empty() {
             self.see_calling(book, aim);
         } else {
-            self.see_all(book.mines_since(past), shown);
+            self.see_all(book.mines_from(past), shown);
         }
     }
 

@@ -6,7 +6,7 @@ use Rattle.initiator.specs.Commands.{CommandsValue}
 use Rattle.initiator.specs.Endings.{ends_after_events}
 use Rattle.initiator.proofs.KeptCommands.{later_fresh}
 use Rattle.initiator.proofs.PastEndings.{events_before_fresh}
-use Rattle.initiator.proofs.commands.Commands.since.Goals as goal
+use Rattle.initiator.proofs.commands.Commands.from_place.Goals as goal
 
 pub returns-then-first-self : goal.returns-then-first-self
 returns-then-first-self c = λ v shown.
