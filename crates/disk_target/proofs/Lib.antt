@@ -4,6 +4,8 @@ pub mod Courses
 pub mod CourseBegins
 pub mod CourseAgrees
 pub mod CourseRows
+pub mod ReplySteps
+pub mod ReplyRows
 mod Places
 mod Fits
 mod Dues

@@ -3,6 +3,7 @@ pub mod Fits
 pub mod Alike
 pub mod Agreeing
 pub mod Courses
+pub mod Replies
 pub mod States
 pub mod Dues
 pub mod Plans

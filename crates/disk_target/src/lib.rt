@@ -4,11 +4,12 @@
 //! ([`first_plan`], [`plan_after`]), and decides by its [`Serving`]: its line of the scenario, the plan, and a `Task`
 //! of the process that it serves. [`leaving_by`] says how it leaves a phase, [`arrival_by`] what becomes of a command
 //! as it arrives, [`offering_by`] which byte it gives, whether one follows, and what it drives as it leaves, and
-//! [`leaving_shown`] which events it shows then. What its unit gives comes in as a task, the room of the unit's queue,
-//! the unit that is [`Ready`] first, and two bytes, which stand at the places that [`process_byte_place`] names. Stands
-//! on the definitions of `bus_dialogue` and `bus_due`, and on `connect` and `handshake`. Beside its units ([`Units`]) a
-//! target keeps how far its processes have come ([`Progress`]), with whom it has negotiated ([`Negotiated`]), and which
-//! bytes came of its present writes ([`Gathered`]); each is told of every row.
+//! [`leaving_shown`] which events it shows then. A [`Course`] is what it has heard in the connection, of which it makes
+//! the serving. What its unit gives comes in as a [`ProcessState`], the unit that is [`Ready`] first, and two bytes,
+//! which stand at the places that [`process_byte_place`] names. Beside its units ([`Units`]) a target keeps how far its
+//! processes have come ([`Progress`]), with whom it has negotiated ([`Negotiated`]), and which bytes came of its present
+//! writes ([`Gathered`]); each is told of every row. Stands on the definitions of `bus_dialogue` and `bus_due`, and on
+//! `connect` and `handshake`.
 //!
 //! Public contract: each of these is exactly the definition of the same name, whatever it is given; a plan that is kept
 //! so is the one that the rows tell (`plans_are_heard`); and after any rows [`target_next`] is exactly what is due of
@@ -34,6 +35,7 @@ mod phase_bytes;
 mod plans;
 mod progress;
 mod ready;
+mod replies;
 mod seated;
 mod serving;
 mod units;
@@ -54,6 +56,7 @@ pub use phase_bytes::{follows_in, lines_by, phase_byte, phase_lines};
 pub use plans::{first_plan, no_plan, plan_after};
 pub use progress::{Counts, CountsPair, Progress, is_phase_left};
 pub use ready::{Knowledge, Ready};
+pub use replies::{replies_come_later, reply_after};
 pub use seated::SeatedUnit;
 pub use serving::{DataBytes, Serving};
 pub use units::{Units, units_stay};
