@@ -14,6 +14,7 @@ use Rattle.scenario.specs.declared.fault.Bad.TheVariants.{At}
 use Rattle.bus_cli.proofs.TooLong.{map_some, first_of, IsLong, is_long}
 use Rattle.bus_cli.specs.Lines.{Writing, writing, SaysLine, refusal_line}
 use Rattle.bus_cli.specs.Running.{RunSays, RunTells, IsReport}
+use Rattle.bus_cli.specs.declared.words.Extent.{Extent}
 use Rattle.bus_cli.specs.declared.status.Status.{Status}
 use Rattle.bus_cli.specs.declared.status.Status.TheVariants.{Done, Words, Refused, Read, Write, Memory, Broken, BadTrace, NotBuilt, BadDump}
 
@@ -33,46 +34,46 @@ refused_at bad line reason read e h = subst (λ (b : Bad). Answers (Err b) read)
 
 -- ---- what is written
 
-said_refused : (bytes text : List ℕ) (w : Writing) (line reason : ℕ) → scenario_of bytes ≡ Err (line, reason) → text ≡ refusal_line line reason → SaysLine text w → RunSays Refused (Some bytes) w
-said_refused bytes text w line reason e same says =
+said_refused : (extent : Extent) (bytes text : List ℕ) (w : Writing) (line reason : ℕ) → scenario_of bytes ≡ Err (line, reason) → text ≡ refusal_line line reason → SaysLine text w → RunSays extent Refused (Some bytes) w
+said_refused extent bytes text w line reason e same says =
     (line, reason, e, subst (λ (x : List ℕ). SaysLine x w) same says)
 
-pub said_at : (bytes text : List ℕ) (old written : Option (List ℕ)) (line reason f g : ℕ) → scenario_of bytes ≡ Err (line, reason) → text ≡ refusal_line line reason → IfSome old (λ before. SaysLine text (writing before written f g)) → IfSome old (λ before. RunSays Refused (Some bytes) (writing before written f g))
-said_at bytes text old written line reason f g e same says =
-    map_some old (λ before. SaysLine text (writing before written f g)) (λ before. RunSays Refused (Some bytes) (writing before written f g)) (λ before. said_refused bytes text (writing before written f g) line reason e same) says
+pub said_at : (extent : Extent) (bytes text : List ℕ) (old written : Option (List ℕ)) (line reason f g : ℕ) → scenario_of bytes ≡ Err (line, reason) → text ≡ refusal_line line reason → IfSome old (λ before. SaysLine text (writing before written f g)) → IfSome old (λ before. RunSays extent Refused (Some bytes) (writing before written f g))
+said_at extent bytes text old written line reason f g e same says =
+    map_some old (λ before. SaysLine text (writing before written f g)) (λ before. RunSays extent Refused (Some bytes) (writing before written f g)) (λ before. said_refused extent bytes text (writing before written f g) line reason e same) says
 
-said_beyond : (input : Option (List ℕ)) (text : List ℕ) (w : Writing) → IsLong SCENARIO_LIMIT input → text ≡ refusal_line 0 9 → SaysLine text w → RunSays Refused input w
-said_beyond None text w long same says =
+said_beyond : (extent : Extent) (input : Option (List ℕ)) (text : List ℕ) (w : Writing) → IsLong SCENARIO_LIMIT input → text ≡ refusal_line 0 9 → SaysLine text w → RunSays extent Refused input w
+said_beyond extent None text w long same says =
     (0, 9, tt, subst (λ (x : List ℕ). SaysLine x w) same says)
-said_beyond (Some xs) text w long same says =
-    said_refused xs text w 0 9 (too_long xs long) same says
+said_beyond extent (Some xs) text w long same says =
+    said_refused extent xs text w 0 9 (too_long xs long) same says
 
-pub said_long : (input left : Option (List ℕ)) (end : ReadEnd) (text : List ℕ) (old written : Option (List ℕ)) (f g : ℕ) → end ≡ TooLong → ReadsAll input left SCENARIO_LIMIT (Err end) → text ≡ refusal_line 0 9 → IfSome old (λ before. SaysLine text (writing before written f g)) → IfSome old (λ before. RunSays Refused input (writing before written f g))
-said_long input left end text old written f g e h same says =
-    map_some old (λ before. SaysLine text (writing before written f g)) (λ before. RunSays Refused input (writing before written f g)) (λ before. said_beyond input text (writing before written f g) (is_long SCENARIO_LIMIT input left end e h) same) says
+pub said_long : (extent : Extent) (input left : Option (List ℕ)) (end : ReadEnd) (text : List ℕ) (old written : Option (List ℕ)) (f g : ℕ) → end ≡ TooLong → ReadsAll input left SCENARIO_LIMIT (Err end) → text ≡ refusal_line 0 9 → IfSome old (λ before. SaysLine text (writing before written f g)) → IfSome old (λ before. RunSays extent Refused input (writing before written f g))
+said_long extent input left end text old written f g e h same says =
+    map_some old (λ before. SaysLine text (writing before written f g)) (λ before. RunSays extent Refused input (writing before written f g)) (λ before. said_beyond extent input text (writing before written f g) (is_long SCENARIO_LIMIT input left end e h) same) says
 
 -- ---- what is said of bytes is said of the input that they are
 
-report_of_any : (bytes text : List ℕ) → IsReport (Some bytes) text → IsReport None text
-report_of_any bytes text r = (r.0, r.1, r.2.1, r.3, r.4)
+report_of_any : (extent : Extent) (bytes text : List ℕ) → IsReport extent (Some bytes) text → IsReport extent None text
+report_of_any extent bytes text r = (r.0, r.1, r.2.1, r.3, r.4)
 
-of_input : (status : Status) (input : Option (List ℕ)) (bytes : List ℕ) (w : Writing) → IfSome input (λ xs. bytes ≡ xs) → RunSays status (Some bytes) w → RunSays status input w
-of_input status (Some xs) bytes w same says = subst (λ (b : List ℕ). RunSays status (Some b) w) same says
-of_input Done None bytes w same says = (says.0, report_of_any bytes says.0 says.1, says.2)
-of_input Write None bytes w same says = (says.0, report_of_any bytes says.0 says.1, says.2)
-of_input Broken None bytes w same says = elim says [ ]
-of_input BadTrace None bytes w same says = elim says [ ]
-of_input BadDump None bytes w same says = elim says [ ]
-of_input Refused None bytes w same says = (says.0, says.1, tt, says.3)
-of_input Words None bytes w same says = says
-of_input Read None bytes w same says = says
-of_input Memory None bytes w same says = says
-of_input NotBuilt None bytes w same says = says
+of_input : (extent : Extent) (status : Status) (input : Option (List ℕ)) (bytes : List ℕ) (w : Writing) → IfSome input (λ xs. bytes ≡ xs) → RunSays extent status (Some bytes) w → RunSays extent status input w
+of_input extent status (Some xs) bytes w same says = subst (λ (b : List ℕ). RunSays extent status (Some b) w) same says
+of_input extent Done None bytes w same says = (says.0, report_of_any extent bytes says.0 says.1, says.2)
+of_input extent Write None bytes w same says = (says.0, report_of_any extent bytes says.0 says.1, says.2)
+of_input extent Broken None bytes w same says = elim says [ ]
+of_input extent BadTrace None bytes w same says = elim says [ ]
+of_input extent BadDump None bytes w same says = elim says [ ]
+of_input extent Refused None bytes w same says = (says.0, says.1, tt, says.3)
+of_input extent Words None bytes w same says = says
+of_input extent Read None bytes w same says = says
+of_input extent Memory None bytes w same says = says
+of_input extent NotBuilt None bytes w same says = says
 
 all_of : (input left : Option (List ℕ)) (v : Vec ℕ Global) (bytes : List ℕ) → bytes ≡ v.items → ReadsAll input left SCENARIO_LIMIT (Ok v) → IfSome input (λ xs. bytes ≡ xs)
 all_of None left v bytes same h = tt
 all_of (Some xs) left v bytes same h = same ∙ h.0
 
-pub said_of_all : (status : Status) (input left old written : Option (List ℕ)) (v : Vec ℕ Global) (bytes : List ℕ) (f g : ℕ) → bytes ≡ v.items → ReadsAll input left SCENARIO_LIMIT (Ok v) → IfSome old (λ before. RunSays status (Some bytes) (writing before written f g)) → IfSome old (λ before. RunSays status input (writing before written f g))
-said_of_all status input left old written v bytes f g same h says =
-    map_some old (λ before. RunSays status (Some bytes) (writing before written f g)) (λ before. RunSays status input (writing before written f g)) (λ before. of_input status input bytes (writing before written f g) (all_of input left v bytes same h)) says
+pub said_of_all : (extent : Extent) (status : Status) (input left old written : Option (List ℕ)) (v : Vec ℕ Global) (bytes : List ℕ) (f g : ℕ) → bytes ≡ v.items → ReadsAll input left SCENARIO_LIMIT (Ok v) → IfSome old (λ before. RunSays extent status (Some bytes) (writing before written f g)) → IfSome old (λ before. RunSays extent status input (writing before written f g))
+said_of_all extent status input left old written v bytes f g same h says =
+    map_some old (λ before. RunSays extent status (Some bytes) (writing before written f g)) (λ before. RunSays extent status input (writing before written f g)) (λ before. of_input extent status input bytes (writing before written f g) (all_of input left v bytes same h)) says

@@ -1,6 +1,7 @@
 pub mod Words
 pub mod Lines
 pub mod Running
+pub mod Making
 pub mod Judging
 pub mod Vcd
 pub mod Unvcd

@@ -6,6 +6,9 @@ use Rattle.bus_engine.specs.Value.{RunValue}
 use Rattle.bus_engine.specs.Built.{is_built}
 use Rattle.bus_engine.specs.ScenarioRun.{IsRunOf}
 use Rattle.trace_text.specs.ReportText.{report_of}
+use Rattle.trace_text.specs.ShortText.{short_text}
+use Rattle.bus_cli.specs.declared.words.Extent.{Extent}
+use Rattle.bus_cli.specs.declared.words.Extent.TheVariants.{Whole, Short}
 use Rattle.bus_cli.specs.Lines.{usage_line, fault_line, memory_line, form_line, refusal_line, Writing, Adds, AddsFront, SaysLine}
 use Rattle.bus_cli.specs.declared.status.Status.{Status}
 use Rattle.bus_cli.specs.declared.status.Status.TheVariants.{Done, Words, Refused, Read, Write, Memory, Broken, BadTrace, NotBuilt, BadDump}
@@ -23,10 +26,15 @@ abbrev pub IsSaid : Option (List ℕ) → ScenarioValue → Type 0
 IsSaid None s = is_built s ≡ true
 IsSaid (Some bytes) s = Asks bytes s
 
--- this is the report of the run of the scenario that the input says
-abbrev pub IsReport : Option (List ℕ) → List ℕ → Type 0
-IsReport input text =
-    (s : ScenarioValue) × (run : RunValue) × IsSaid input s × IsRunOf s run × (text ≡ report_of s run)
+-- the report of a run, or the short one
+abbrev pub run_text : Extent → ScenarioValue → RunValue → List ℕ
+run_text Whole s run = report_of s run
+run_text Short s run = short_text run
+
+-- this is what is reported of the run of the scenario that the input says
+abbrev pub IsReport : Extent → Option (List ℕ) → List ℕ → Type 0
+IsReport extent input text =
+    (s : ScenarioValue) × (run : RunValue) × IsSaid input s × IsRunOf s run × (text ≡ run_text extent s run)
 
 -- the first line with a reason, and its lowest reason, that refuse the input
 abbrev pub IsRefused : Option (List ℕ) → ℕ → ℕ → Type 0
@@ -35,18 +43,18 @@ IsRefused (Some bytes) line reason = scenario_of bytes ≡ Err (line, reason)
 
 -- What was written with this status, by the bytes that the input had left: the report of the run of
 -- the scenario that they say, or with Write a front of it; or the status' own line.
-abbrev pub RunSays : Status → Option (List ℕ) → Writing → Type 0
-RunSays Done input w = (text : List ℕ) × IsReport input text × Adds text w
-RunSays Write input w = (text : List ℕ) × IsReport input text × AddsFront text w
-RunSays Words input w = SaysLine usage_line w
-RunSays Refused input w =
+abbrev pub RunSays : Extent → Status → Option (List ℕ) → Writing → Type 0
+RunSays extent Done input w = (text : List ℕ) × IsReport extent input text × Adds text w
+RunSays extent Write input w = (text : List ℕ) × IsReport extent input text × AddsFront text w
+RunSays extent Words input w = SaysLine usage_line w
+RunSays extent Refused input w =
     (line : ℕ) × (reason : ℕ) × IsRefused input line reason × SaysLine (refusal_line line reason) w
-RunSays Read input w = SaysLine fault_line w
-RunSays Memory input w = SaysLine memory_line w
-RunSays NotBuilt input w = SaysLine form_line w
-RunSays Broken input w = ⊥
-RunSays BadTrace input w = ⊥
-RunSays BadDump input w = ⊥
+RunSays extent Read input w = SaysLine fault_line w
+RunSays extent Memory input w = SaysLine memory_line w
+RunSays extent NotBuilt input w = SaysLine form_line w
+RunSays extent Broken input w = ⊥
+RunSays extent BadTrace input w = ⊥
+RunSays extent BadDump input w = ⊥
 
 -- what the status says of the input's bytes
 abbrev pub RunTells : Status → List ℕ → Type 0

@@ -1,29 +1,52 @@
-//! The word `run`.
-ghost use Rattle.std.specs.Prelude.{◌≡◌, ◌+◌, ◌≤◌, Some, IfSome};
+//! The words `run` and `run --short`.
+ghost use Rattle.std.specs.Prelude.{◌≡◌, ◌+◌, ◌≤◌, Some, IfSome, OnErr, length};
+ghost use Rattle.std.specs.List.{AllByRecursion};
 ghost use Rattle.bus_base.specs.Faults.{HasRisen};
-ghost use Rattle.bus_base.specs.Whole.{TakesAtMost};
+ghost use Rattle.bus_base.specs.Whole.{TakesAtMost, WritesAll};
+ghost use Rattle.bus_trace.specs.OfTrace.{IsRow};
 ghost use Rattle.bus_cli.specs.Words.{limit_of};
 ghost use Rattle.bus_cli.specs.Lines.{IfTold};
-ghost use Rattle.bus_cli.specs.Running.{RunSays, RunTells};
+ghost use Rattle.bus_cli.specs.Running.{run_text, RunSays, RunTells};
 ghost use Rattle.bus_cli.specs.Ends.{Reads};
 ghost use Rattle.bus_cli.specs.declared.words.Word.TheVariants as words;
 
 use crate::answers::refusal_line;
 use crate::saying::say;
 use crate::status::Status;
-use bus_base::{ReadEnd, Sink, Source, read_all};
-use bus_engine::built;
-use scenario::{Bad, LIMIT, read};
+use crate::words::Extent;
+use bus_base::{Failed, ReadEnd, Sink, Source, read_all};
+use bus_engine::{Run, built};
+use scenario::{Bad, LIMIT, Scenario, read};
 use std::alloc::Global;
-use trace_text::report;
+use trace_text::{report, short_report};
+
+// Writes what is reported of a run of this scenario.
+fn write_report<K: Sink>(
+    scenario: &Scenario,
+    run: &Run,
+    extent: Extent,
+    out: &mut K,
+) -> Result<(), Failed>
+    requires replies { length run.now.replies ≡ length scenario.now.commands }
+    requires disks { length run.now.disks ≡ length scenario.now.units }
+    requires rows { AllByRecursion IsRow run.now.rows }
+    ensures whole { WritesAll (K.written out.old) (K.written out.new) (run_text extent scenario.now run.now) result }
+    ensures failed { OnErr result (HasRisen (K.faults out.old) (K.faults out.new)) }
+    ensures never_falls { K.faults out.old ≤ K.faults out.new }
+{
+    match extent {
+        Extent::Whole => report(scenario, run, out),
+        Extent::Short => short_report(run, out),
+    }
+}
 
 // Runs the scenario that these bytes say.
-fn run_bytes<K: Sink>(alloc: Global, bytes: &[u8], out: &mut K) -> Status
+fn run_bytes<K: Sink>(alloc: Global, extent: Extent, bytes: &[u8], out: &mut K) -> Status
     ensures words { result ≡ Status.Words → ⊥ }
     ensures read { result ≡ Status.Read → ⊥ }
     ensures write { result ≡ Status.Write → HasRisen (K.faults out.old) (K.faults out.new) }
     ensures form { RunTells result bytes.now }
-    ensures said { IfTold K.written K.faults out.old out.new (RunSays result (Some bytes.now)) }
+    ensures said { IfTold K.written K.faults out.old out.new (RunSays extent result (Some bytes.now)) }
     ensures never_falls { K.faults out.old ≤ K.faults out.new }
 {
     let scenario = match read(alloc, bytes) {
@@ -45,26 +68,27 @@ fn run_bytes<K: Sink>(alloc: Global, bytes: &[u8], out: &mut K) -> Status
         say(out, b"no memory\n");
         return Status::Memory;
     };
-    match report(&scenario, &run, out) {
+    match write_report(&scenario, &run, extent, out) {
         Ok(()) => Status::Done,
         Err(_) => Status::Write,
     }
 }
 
-/// Reads the input, and runs the scenario that it says.
-pub fn run<S: Source, K: Sink>(alloc: Global, input: &mut S, out: &mut K) -> Status
+/// Reads the input, runs the scenario that it says, and writes what is reported of the run.
+pub fn run<S: Source, K: Sink>(alloc: Global, extent: Extent, input: &mut S, out: &mut K) -> Status
     ensures words { result ≡ Status.Words → ⊥ }
     ensures read { result ≡ Status.Read → HasRisen (S.faults input.old) (S.faults input.new) }
     ensures write { result ≡ Status.Write → HasRisen (K.faults out.old) (K.faults out.new) }
-    ensures far { IfSome (S.left input.old) (λ bytes. Reads (limit_of words.Run) result bytes (S.left input.new)) }
-    ensures taken { TakesAtMost (S.left input.old) (S.left input.new) (limit_of words.Run + 1) }
+    ensures far { IfSome (S.left input.old)
+        (λ bytes. Reads (limit_of (words.Run extent)) result bytes (S.left input.new)) }
+    ensures taken { TakesAtMost (S.left input.old) (S.left input.new) (limit_of (words.Run extent) + 1) }
     ensures form { IfSome (S.left input.old) (λ bytes. RunTells result bytes) }
-    ensures said { IfTold K.written K.faults out.old out.new (RunSays result (S.left input.old)) }
+    ensures said { IfTold K.written K.faults out.old out.new (RunSays extent result (S.left input.old)) }
     ensures source_falls { S.faults input.old ≤ S.faults input.new }
     ensures sink_falls { K.faults out.old ≤ K.faults out.new }
 {
     match read_all(alloc, input, LIMIT) {
-        Ok(bytes) => run_bytes(alloc, &bytes, out),
+        Ok(bytes) => run_bytes(alloc, extent, &bytes, out),
         Err(ReadEnd::TooLong) => {
             say(out, refusal_line(0, 9).as_str().as_bytes());
             Status::Refused

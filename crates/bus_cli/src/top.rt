@@ -3,10 +3,11 @@ ghost use Rattle.std.specs.Prelude.{◌≡◌, ◌≤◌, ◌↔◌, Some, None}
 ghost use Rattle.bus_base.specs.Faults.{HasRisen};
 ghost use Rattle.bus_cli.specs.declared.words.Word.TheVariants as words_of;
 ghost use Rattle.bus_cli.specs.Lines.{IfTold};
-ghost use Rattle.bus_cli.specs.Ends.{Says, word_in, ReadsFar, TakesWithin, TellsInput, MeetsInput};
+ghost use Rattle.bus_cli.specs.Ends.{Says, word_in, IsMaking, ReadsFar, TakesWithin, TellsInput, MeetsInput};
 
 use crate::dumping::vcd;
 use crate::judging::judge;
+use crate::making::make;
 use crate::running::run;
 use crate::saying::say;
 use crate::status::Status;
@@ -18,10 +19,11 @@ use std::sync::ledger::Ledger;
 
 /// The whole program, but for its runtime.
 ///
-/// `words` are the arguments after the program's name: exactly one word. With `run` it reads all of `input`, at
-/// most 4,194,304 bytes, runs the scenario that it says, and writes the report of the run to `out`. With
-/// `judge` it reads all of `input`, at most 1,073,741,824 bytes, judges the trace that it says, and writes the
-/// verdict in one line. With `vcd` it judges as with `judge`, and writes the value change dump of a trace that is
+/// `words` are the arguments after the program's name. With `run` it reads all of `input`, at most 4,194,304
+/// bytes, runs the scenario that it says, and writes the report of the run to `out`, or with `run --short` the
+/// short report. With `make SEED N` it reads nothing, and writes the scenario of this number. With `judge` it
+/// reads all of `input`, at most 1,073,741,824 bytes, judges the trace that it says, and writes the verdict in one
+/// line. With `vcd` it judges as with `judge`, and writes the value change dump of a trace that is
 /// lawful. With `unvcd` it reads a value change dump of as many bytes, and writes the text of its trace. A refusal
 /// writes its one line to `out` instead. Where a line cannot be written the status stays; but what was asked for
 /// ends with `Write` where it cannot be written, and so does the answer `lawful`. No step is counted in `steps` yet.
@@ -38,6 +40,7 @@ pub fn bus_main<S: Source, K: Sink, L: Ledger>(
 ) -> Status
     ensures words { (result ≡ Status.Words) ↔ (word_in words.now ≡ None) }
     ensures untouched { result ≡ Status.Words → input.new ≡ input.old }
+    ensures idle { IsMaking (word_in words.now) → input.new ≡ input.old }
     ensures memory { word_in words.now ≡ Some words_of.Judge → result ≡ Status.Memory → ⊥ }
     ensures read { result ≡ Status.Read → HasRisen (S.faults input.old) (S.faults input.new) }
     ensures write { result ≡ Status.Write → HasRisen (K.faults out.old) (K.faults out.new) }
@@ -53,8 +56,9 @@ pub fn bus_main<S: Source, K: Sink, L: Ledger>(
 {
     let _ = steps;
     match word_of(words) {
-        Some(Word::Run) => run(alloc, input, out),
+        Some(Word::Run(extent)) => run(alloc, extent, input, out),
         Some(Word::Judge) => judge(input, out),
+        Some(Word::Make { seed, n }) => make(alloc, seed, n, out),
         Some(Word::Vcd) => vcd(alloc, input, out),
         Some(Word::Unvcd) => unvcd(alloc, input, out),
         None => {

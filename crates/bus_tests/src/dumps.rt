@@ -73,7 +73,12 @@ fn reads_pieces(rt: HostRuntime) -> Result<(), Fail> {
 
 // What stands before a long token, the byte that it repeats, what stands after it, and what is read.
 const LONG: [(&'static str, u8, &'static str, Result<(usize, u64), u32>); 9] = [
-    ("$comment ", b'x', " $end $timescale 1ns $end $enddefinitions $end", Ok((0, 0))),
+    (
+        "$comment ",
+        b'x',
+        " $end $timescale 1ns $end $enddefinitions $end",
+        Ok((0, 0)),
+    ),
     ("$comment ", b'x', "\x7f $end", Err(1)),
     ("\n", b'$', " $end", Err(2)),
     (DECLARED, b'0', "7\n", Ok((0, 7))),
@@ -86,9 +91,11 @@ const LONG: [(&'static str, u8, &'static str, Result<(usize, u64), u32>); 9] = [
 
 const DECLARED: &'static str = "$timescale 1ns $end $var wire 1 ! clk $end $enddefinitions $end\n#";
 
-const DECLARED_VALUE: &'static str = "$timescale 1ns $end $var wire 1 ! clk $end $enddefinitions $end\nb";
+const DECLARED_VALUE: &'static str =
+    "$timescale 1ns $end $var wire 1 ! clk $end $enddefinitions $end\nb";
 
-const DECLARED_CODE: &'static str = "$timescale 1ns $end $var wire 1 ! clk $end $enddefinitions $end\n0";
+const DECLARED_CODE: &'static str =
+    "$timescale 1ns $end $var wire 1 ! clk $end $enddefinitions $end\n0";
 
 // Reads a dump with a token of a million bytes that comes in pieces.
 fn read_long(alloc: Global, before: &str, byte: u8, after: &str) -> Result<VcdRows, VcdBad> {

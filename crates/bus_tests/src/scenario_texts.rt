@@ -1,6 +1,6 @@
 //! Tests of `scenario`: every reason by its bad lines, the limits, and texts printed as they were read.
 
-use scenario::{Bad, need, print, read};
+use scenario::{Bad, make, need, print, read};
 use std::alloc::Global;
 use std::test::Fail;
 
@@ -572,5 +572,16 @@ fn tells_needs(rt: HostRuntime) -> Result<(), Fail> {
         needs.push(need(&scenario, command))?;
     }
     assert_eq!(rt; needs.as_slice(), [32, 0, 36, 18, 8, 0, 5].as_slice());
+    Ok(())
+}
+
+#[test]
+fn makes_scenarios(rt: HostRuntime) -> Result<(), Fail> {
+    let made = make(rt.alloc(), 7, 4096)?;
+    let text = print(rt.alloc(), &made)?;
+    let scenario = read(rt.alloc(), &text).ok().ok_or("it is a text")?;
+    assert_eq!(rt; scenario.commands.len(), 4096);
+    let again = print(rt.alloc(), &scenario)?;
+    assert_eq!(rt; again.as_slice(), text.as_slice());
     Ok(())
 }

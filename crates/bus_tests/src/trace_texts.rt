@@ -10,7 +10,7 @@ use bus_trace::{Kind, Lines, Row};
 use scenario::read;
 use std::alloc::Global;
 use std::test::Fail;
-use trace_text::{Told, TraceBad, TraceReader, print_row, read_trace, report};
+use trace_text::{Told, TraceBad, TraceReader, print_row, read_trace, report, short_report};
 
 #[test]
 fn prints_rows(rt: HostRuntime) -> Result<(), Fail> {
@@ -198,5 +198,19 @@ fn prints_reports(rt: HostRuntime) -> Result<(), NoMemory> {
             assert!(rt; REPORT.as_bytes().starts_with(taken), "call {call}");
         }
     }
+    Ok(())
+}
+
+const SHORT_REPORT: &str =
+    "short 1\nrows 2\nend 7055\ngood 1\ncheck 0\nqfull 0\nseltimeout 0\nlost 0\nreset 0\naborted 0\n";
+
+#[test]
+fn prints_short_reports(rt: HostRuntime) -> Result<(), NoMemory> {
+    let run = sample_run(rt.alloc())?;
+    let mut sink = MemSink::new(rt.alloc(), 4096, 3, &[])?;
+    assert_eq!(rt; short_report(&run, &mut sink), Ok(()));
+    assert_eq!(rt; sink.bytes(), SHORT_REPORT.as_bytes());
+    let mut sink = MemSink::new(rt.alloc(), 4096, 3, &[2])?;
+    assert_eq!(rt; short_report(&run, &mut sink), Err(Failed));
     Ok(())
 }

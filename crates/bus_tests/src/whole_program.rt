@@ -2,6 +2,7 @@
 ghost use Rattle.std.specs.Prelude.{◌≡◌, ◌<◌};
 
 mod cut;
+mod makes;
 pub mod wholes;
 
 use bus_base::{MemSink, MemSource, NoMemory, Steps};

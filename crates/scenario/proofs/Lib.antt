@@ -9,4 +9,6 @@ pub mod Lawful
 pub mod Lowest
 pub mod Only
 pub mod Obeying
+pub mod Made
+mod MadeCases
 pub mod Computed

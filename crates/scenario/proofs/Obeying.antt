@@ -350,7 +350,7 @@ built_step : (r : Result Progress ℕ) (xs ys : List Said) (e : Progress) → (r
 built_step (Ok d) xs ys e h ih = ih d h
 built_step (Err r) xs ys e h ih = absurd cc
 
-built-append : (xs ys : List Said) (d e : Progress) → built d xs ≡ Ok e → built d (xs ++ ys) ≡ built e ys
+pub built-append : (xs ys : List Said) (d e : Progress) → built d xs ≡ Ok e → built d (xs ++ ys) ≡ built e ys
 built-append [] ys d e h = ap (λ (f : Progress). built f ys) (ok_is d e h)
 built-append (x ∷ xs) ys d e h = built_step (said_after d x) xs ys e h (λ f g. built-append xs ys f e g)
 

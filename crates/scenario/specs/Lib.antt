@@ -8,3 +8,4 @@ pub mod Index
 pub mod Seen
 pub mod Writing
 pub mod Reasons
+pub mod Making

@@ -8,10 +8,10 @@
 //! Public contract: [`read`] gives the scenario that the bytes say, or the first line with a reason
 //! and the lowest reason there, for every list of bytes, and only want of memory is free; what is
 //! read obeys the rules. [`print`] gives the one spelling of a scenario, and reading it gives that
-//! scenario back ([`reads_back`]). [`need`] tells how many bytes a command moves. The definitions
-//! stand in specs/: `Forms` and `Parts` (what a line says), `Reading` (line after line), `Reasons`
-//! (each reason as a test, of which the lowest is told), `Needs`, and `Writing` (the spelling, and the
-//! rules).
+//! scenario back ([`reads_back`]). [`make`] gives the scenario of a number, which obeys the rules. [`need`]
+//! tells how many bytes a command moves. The definitions stand in specs/: `Forms` and `Parts` (what a line
+//! says), `Reading` (line after line), `Reasons` (each reason as a test, of which the lowest is told), `Needs`,
+//! `Writing` (the spelling, and the rules), and `Making` (the scenario of a number).
 #![tactic(auto)]
 
 mod bounds;
@@ -23,15 +23,17 @@ mod index;
 mod kind;
 mod laws;
 mod limits;
+mod making;
 mod needs;
 mod reading;
 mod value;
 mod writing;
 
-pub use bounds::LIMIT;
+pub use bounds::{COMMAND_LIMIT, LIMIT};
 pub use bus_base::{AbortKind, NoMemory, Octets, Pick};
 pub use fault::Bad;
 pub use laws::{needs_are_bounded, reads_back, tells_lowest};
+pub use making::make;
 pub use needs::need;
 pub use reading::read;
 pub use value::{

@@ -4,6 +4,7 @@ pub mod EventText
 pub mod ReplyText
 pub mod BlockText
 pub mod ReportText
+pub mod ShortText
 pub mod Lines
 pub mod Pieces
 pub mod Bytes

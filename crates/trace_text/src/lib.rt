@@ -5,7 +5,8 @@
 //! lists; whoever prints or reads one cites these definitions.
 //!
 //! It stands on `text_words`, `bus_base`, `bus_trace`, `cdb_codec`, `scenario` and `bus_engine`. Its
-//! contract: [`report`] writes the report of a run to any sink, or a front of it where the sink fails;
+//! contract: [`report`] writes the report of a run to any sink, or a front of it where the sink fails, and
+//! [`short_report`] the short one;
 //! [`print_row`] is the line of a row; [`TraceReader`], which takes a trace text byte by byte or in pieces and
 //! keeps no row, tells each row and the first line that breaks the form, however the text is cut; and
 //! [`read_trace`] is all rows and the end, or that line. What is printed is read again
@@ -21,6 +22,7 @@ mod pages;
 mod reader;
 mod replies_part;
 mod rows;
+mod short_form;
 mod stages;
 mod trace_part;
 mod whole;
@@ -32,6 +34,7 @@ pub use laws::{reads_only, reports_read_back, traces_read_back};
 pub use limit::LIMIT;
 pub use reader::TraceReader;
 pub use rows::print_row;
+pub use short_form::short_report;
 pub use stages::Told;
 pub use whole::{Trace, TraceBad, read_trace};
 pub use whole_report::report;

@@ -5,4 +5,4 @@ use Rattle.bus_cli.proofs.Refusals.{refused_at, said_at}
 use Rattle.bus_cli.proofs.running.run_bytes.Goals as goal
 
 pub returns-in-Err-At-clause-said : goal.returns-in-Err-At-clause-said
-returns-in-Err-At-clause-said g c = said_at _ _ _ _ _ _ _ _ (refused_at _ _ _ _ c.in-Err-At.field-0-is c.in-Err-At.ensures.exact) (c.as_bytes.ensures.value ∙ c.as_str.ensures.value ∙ c.refusal_line.ensures ∙ (λ j. refusal_line (c.in-Err-At.line-is j) (c.in-Err-At.reason-is j))) c.say.ensures.said
+returns-in-Err-At-clause-said g c = said_at c.args.extent _ _ _ _ _ _ _ _ (refused_at _ _ _ _ c.in-Err-At.field-0-is c.in-Err-At.ensures.exact) (c.as_bytes.ensures.value ∙ c.as_str.ensures.value ∙ c.refusal_line.ensures ∙ (λ j. refusal_line (c.in-Err-At.line-is j) (c.in-Err-At.reason-is j))) c.say.ensures.said

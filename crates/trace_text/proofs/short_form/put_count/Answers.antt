@@ -1,0 +1,5 @@
+use Rattle.trace_text.proofs.Putting.{and_then}
+use Rattle.trace_text.proofs.short_form.put_count.Goals as goal
+
+pub returns : goal.returns
+returns g c = and_then c.put.ensures (and_then c.put-2.ensures (and_then c.put_number.ensures c.put-3.ensures))
