@@ -6,4 +6,6 @@ mod SeatOwn
 mod SeatEvents
 mod SeatAborts
 mod SoundArrays
+mod SeatReplies
 pub mod SeatLaws
+mod ArrayReplies

@@ -115,7 +115,7 @@ refused_other a b p t n o h = go (unit_state_at a.units p.target p.unit) h
 pub running_own : (s : ScenarioValue) (a : Array) (id : ProcId) (p : Process) → IsSound s a → process_of s id ≡ Some p → running_process a id ≡ Seats.running_at (Seats.seat_of a p.target p.unit) id
 running_own s a id p b e = λ i. if is_some (guest_own s a.guests id p b.guests e i) then guest_own s a.guests id p b.guests e i else running_unit s a.units id p b.units b.apart e i
 
-running_process_is : (s : ScenarioValue) (a : Array) (id : ProcId) (p : Process) (r : RunningProcess) → IsSound s a → process_of s id ≡ Some p → running_process a id ≡ Some r → p ≡ r.process
+pub running_process_is : (s : ScenarioValue) (a : Array) (id : ProcId) (p : Process) (r : RunningProcess) → IsSound s a → process_of s id ≡ Some p → running_process a id ≡ Some r → p ≡ r.process
 running_process_is s a id p r b e h = go (guest_at a.guests id) refl h
   where
     go : (x : Option RunningProcess) → guest_at a.guests id ≡ x → (if is_some x then x else Rattle.disk_array.specs.Steps.running_in a.units id) ≡ Some r → p ≡ r.process
@@ -130,7 +130,7 @@ replied_own s a id p reply b e = λ i. record (Seats.seat_of a p.target p.unit) 
   guests = guests_replied_own s a.guests id p reply b e i;
 }
 
-turned : (p : Process) (t n : ℕ) (u : UnitState) → u.target ≡ t → u.unit ≡ n → is_of_unit p t n ≡ false → is_place u p.target p.unit ≡ false
+pub turned : (p : Process) (t n : ℕ) (u : UnitState) → u.target ≡ t → u.unit ≡ n → is_of_unit p t n ≡ false → is_place u p.target p.unit ≡ false
 turned p t n u a b o = go (is_place u p.target p.unit) refl
   where
     go : (x : Bool) → is_place u p.target p.unit ≡ x → is_place u p.target p.unit ≡ false
@@ -199,7 +199,7 @@ guests_kept a p contents false None = refl
 guests_kept a p contents true (Some u) = refl
 guests_kept a p contents false (Some u) = refl
 
-context_same : (a : Array) (p : Process) → context_at a (nexus_of p) (unit_state_at a.units p.target p.unit) ≡ Seats.context_of (Seats.seat_of a p.target p.unit) p.initiator
+pub context_same : (a : Array) (p : Process) → context_at a (nexus_of p) (unit_state_at a.units p.target p.unit) ≡ Seats.context_of (Seats.seat_of a p.target p.unit) p.initiator
 context_same a p = go (unit_state_at a.units p.target p.unit)
   where
     go : (x : Option UnitState) → context_at a (nexus_of p) x ≡ record { present = is_some x; contents = Seats.contents_of x; stored = sense_of_nexus a.senses (nexus_of p); attention = sense_of_nexus a.attentions (nexus_of p) }

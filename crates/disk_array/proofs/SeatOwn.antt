@@ -101,7 +101,7 @@ current_place s u r id p b e z =
     let same : r.process ≡ p = own_is s r.process p id b.is z e in
     place_is u p.target p.unit (sym b.target_is ∙ (λ i. (same i).target)) (sym b.unit_is ∙ (λ i. (same i).unit))
 
-none_running : (s : ScenarioValue) (u : UnitState) (id : ProcId) (p : Process) → IsOwnUnit s u → process_of s id ≡ Some p → is_place u p.target p.unit ≡ false → running_if u.current id ≡ None
+pub none_running : (s : ScenarioValue) (u : UnitState) (id : ProcId) (p : Process) → IsOwnUnit s u → process_of s id ≡ Some p → is_place u p.target p.unit ≡ false → running_if u.current id ≡ None
 none_running s u id p b e o = go u.current b.current
   where
     inner : (r : RunningProcess) → IsOwn s u.target u.unit r.process → (x : Bool) → same_id r.process.id id ≡ x → (if x then Some r else None) ≡ None
@@ -168,7 +168,7 @@ without_other s u id p b e o = λ i. record u { waiting = waiting_other s u u.wa
     go = λ i. if is_some (none_running s u id p b e o i) then None else u.current
 
 -- No process of this number waits at another unit.
-waits_other : (s : ScenarioValue) (u : UnitState) (waiting : List Process) (id : ProcId) (p : Process) → AllOwn s u.target u.unit waiting → process_of s id ≡ Some p → is_place u p.target p.unit ≡ false → list_any (λ (q : Process). same_id q.id id) waiting ≡ false
+pub waits_other : (s : ScenarioValue) (u : UnitState) (waiting : List Process) (id : ProcId) (p : Process) → AllOwn s u.target u.unit waiting → process_of s id ≡ Some p → is_place u p.target p.unit ≡ false → list_any (λ (q : Process). same_id q.id id) waiting ≡ false
 waits_other s u [] id p b e o = refl
 waits_other s u (q ∷ waiting) id p b e o = go (waits_other s u waiting id p b.1 e o) (same_id q.id id) refl
   where

@@ -8,3 +8,4 @@ pub mod Steps
 pub mod Seats
 pub mod SoundArray
 pub mod ArrayHistory
+pub mod SeatReplies

@@ -24,6 +24,7 @@ pub use entries::Entry;
 pub use plain::contents_are_plain_blocks;
 pub use seats::{
     aborts_change_their_seat, arrays_are_sound, other_seats_stay, processes_change_their_seat,
+    replies_are_of_those_that_run,
 };
 
 /// A history of one event more is played as the history, and then the step of that event; and where a step was not

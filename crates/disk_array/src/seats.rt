@@ -8,11 +8,12 @@ ghost use Rattle.cdb_codec.specs.declared.sense.TheConstants.{ABORTED_COMMAND};
 ghost use Rattle.scenario.specs.Value.{ScenarioValue};
 ghost use Rattle.disk_array.specs.Processes.{Process, process_of};
 ghost use Rattle.disk_array.specs.Execution.{check_condition, sense_of};
-ghost use Rattle.disk_array.specs.Units.{Array};
+ghost use Rattle.disk_array.specs.Units.{Array, starting_array, settled_array};
 ghost use Rattle.disk_array.specs.Steps.{step, has_ended};
 ghost use Rattle.disk_array.specs.ArrayHistory.{array_after};
 ghost use Rattle.disk_array.specs.Seats.{seat_of, seat_if, settled_seat, settled_seat_if, seat_after_accept, seat_after_refuse, seat_after_run, seat_after_failure, seat_after_end, seat_after_loss, seat_after_aborted, seat_after_reset, is_elsewhere};
 ghost use Rattle.disk_array.specs.SoundArray.{IsSound, HasSeats};
+ghost use Rattle.disk_array.specs.SeatReplies.{HaveReplies, ArrivesOnce};
 
 /// After every history that is allowed each process is of its unit and of the scenario, only initiators 0 to 7 stand in
 /// a hold, units stand once, and no unit still has to choose.
@@ -73,4 +74,13 @@ pub fn other_seats_stay()
     ensures stay { (s : ScenarioValue) (a b : Array) (event : Event) (target unit : ℕ) → HasSeats s → IsSound s a
         → is_elsewhere s event target unit ≡ true → step s event a ≡ Some b
         → seat_of b target unit ≡ seat_of a target unit }
+{}
+
+/// Of the replies of the array the last one of a process that runs, current or guest, is the one that it has, if any,
+/// and a process that waits has none: after any events of which each that lets a process arrive is the first of it
+/// (`ArrivesOnce`).
+pub fn replies_are_of_those_that_run()
+    ensures start { (s : ScenarioValue) → HaveReplies (settled_array (starting_array s)) }
+    ensures goes_on { (s : ScenarioValue) (a b : Array) (event : Event) → HasSeats s → IsSound s a
+        → ArrivesOnce s a event → step s event a ≡ Some b → HaveReplies a → HaveReplies b }
 {}
