@@ -76,8 +76,8 @@ pub fn other_seats_stay()
         → seat_of b target unit ≡ seat_of a target unit }
 {}
 
-/// Of the replies of the array the last one of a process that runs, current or guest, is the one that it has, if any, and
-/// a process that waits has none: after any events of which each that lets a process arrive is the first of it
+/// Of the replies of the array the last one of a process that runs, current or guest, is the one that it has, if any,
+/// and a process that waits has none: after any events of which each that lets a process arrive is the first of it
 /// (`ArrivesOnce`).
 pub fn replies_are_of_those_that_run()
     ensures start { (s : ScenarioValue) → HaveReplies (settled_array (starting_array s)) }

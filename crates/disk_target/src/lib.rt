@@ -7,9 +7,9 @@
 //! [`leaving_shown`] which events it shows then. A [`Course`] is what it has heard in the connection, of which it makes
 //! the serving. What its unit gives comes in as a [`ProcessState`], the unit that is [`Ready`] first, and two bytes,
 //! which stand at the places that [`process_byte_place`] names. Beside its units ([`Units`]) a target keeps how far its
-//! processes have come ([`Progress`]), with whom it has negotiated ([`Negotiated`]), and which bytes came of its present
-//! writes ([`Gathered`]); each is told of every row. Stands on the definitions of `bus_dialogue` and `bus_due`, and on
-//! `connect` and `handshake`.
+//! processes have come ([`Progress`]), with whom it has negotiated ([`Negotiated`]), and which bytes came of its
+//! present writes ([`Gathered`]); each is told of every row. Stands on the definitions of `bus_dialogue` and `bus_due`,
+//! and on `connect` and `handshake`.
 //!
 //! Public contract: each of these is exactly the definition of the same name, whatever it is given; a plan that is kept
 //! so is the one that the rows tell (`plans_are_heard`); and after any rows [`target_next`] is exactly what is due of
