@@ -1,14 +1,13 @@
 -- The bytes of message phases form messages, and none is half sent as the phase is left (6.6).
-use Rattle.std.proofs.Common.{ℕ, ◌≡◌, ◌<◌, Bool, true, false, not, ◌&&◌, ◌||◌, ◌∙◌, List, [], ◌∷◌, ◌++◌, Option, Some, None, refl, sym, ap, subst, true≢false}
+use Rattle.std.proofs.Common.{ℕ, ◌≡◌, ◌<◌, Bool, true, false, not, ◌&&◌, ◌||◌, ◌∙◌, List, [], ◌∷◌, ◌++◌, Some, refl, sym, ap, subst, true≢false}
 use Rattle.std.specs.Prelude.{if◌then◌else◌, is_some, ◌%◌}
 use Rattle.bus_trace.specs.LineSet.{LineSet}
 use Rattle.bus_trace.specs.declared.Row.{Row}
 use Rattle.bus_trace.specs.declared.changes.Change.{Change}
 use Rattle.bus_trace.specs.declared.connection.Connection.{Connection}
 use Rattle.bus_trace.specs.Changes.{falls, change_of}
-use Rattle.bus_trace.specs.Terms.{connection, receiver_in}
+use Rattle.bus_trace.specs.Terms.{receiver_in}
 use Rattle.bus_trace.specs.Phases.{changes_phase, is_message_out, is_message_in}
-use Rattle.bus_phases.specs.declared.dialogue.Dialogue.{Dialogue}
 use Rattle.bus_phases.specs.declared.reading.Reading.TheVariants as readings
 use Rattle.bus_phases.specs.Dialogue.{dialogue}
 use Rattle.bus_phases.specs.Half.{is_nil}
@@ -27,7 +26,6 @@ use Rattle.bus_due.proofs.Plains.{IsBusStateOf, run_state_plain, bus_state_is, c
 use Rattle.bus_books.specs.Traces.{GoesOn, Books}
 use Rattle.bus_books.proofs.Given.{in_is_whole, in_is_known}
 use Rattle.bus_books.proofs.Opened.{out_is_whole, out_is_known}
-use Rattle.bus_books.proofs.Gives.{in_io}
 
 -- ---- phases by the lines
 
@@ -56,6 +54,7 @@ known_row s k row n c g h = go (is_message_out c.before) refl (is_message_in c.b
   where
     half : List ℕ
     half = k.story.bus_state.dialogue.half
+
     go : (o : Bool) → is_message_out c.before ≡ o → (i : Bool) → is_message_in c.before ≡ i → is_unknown (reading_of k.story.bus_state.dialogue.half (Some n) c) ≡ false
     go true eo i ei =
         let begun = (g.phase (ap (λ (b : LineSet). b.msg) g.row_is.bus_is ∙ (of_out c.before eo).0)).1 in
@@ -76,6 +75,7 @@ half_left s k row n c g h ep ea = go (is_message_out c.before) refl (is_message_
   where
     con : k.story.bus_state.connection ≡ Some n
     con = g.row_is.connection_is
+
     go : (o : Bool) → is_message_out c.before ≡ o → (i : Bool) → is_message_in c.before ≡ i → k.story.bus_state.dialogue.half ≡ []
     go true eo i ei =
         let here : is_message_out (bus_of k) ≡ true = ap is_message_out g.row_is.bus_is ∙ eo in

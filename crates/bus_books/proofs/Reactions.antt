@@ -1,5 +1,5 @@
 -- What the two ends are due to drive is what is next.
-use Rattle.std.proofs.Common.{ℕ, ◌≡◌, ◌<◌, ◌+◌, Bool, true, false, not, ◌&&◌, ◌||◌, ◌∙◌, List, [], ◌∷◌, length, Option, Some, None, refl, sym, ap, arith, true≢false}
+use Rattle.std.proofs.Common.{ℕ, ◌≡◌, ◌<◌, Bool, true, false, not, ◌&&◌, ◌||◌, ◌∙◌, length, Some, refl, sym, ap, arith, true≢false}
 use Rattle.std.specs.Prelude.{if◌then◌else◌, is_some, ◌==◌, ◌%◌, nat_lt, slice_index_or}
 use Rattle.std.proofs.lemmas.Bool.Decides.{nat_tests}
 use Rattle.bus_trace.specs.LineSet.{LineSet}
@@ -13,24 +13,25 @@ use Rattle.disk_array.specs.Processes.{Process}
 use Rattle.bus_dialogue.specs.declared.exchange.Phase.{Phase}
 use Rattle.bus_dialogue.specs.declared.exchange.Phase.TheVariants as phases
 use Rattle.bus_dialogue.specs.Exchange.{next_word, bytes_of_messages}
-use Rattle.bus_dialogue.specs.Ends.{is_pulsed_phase, follows_by}
+use Rattle.bus_dialogue.specs.Ends.{follows_by}
 use Rattle.bus_dialogue.specs.NextPhase.{phase_of}
-use Rattle.bus_dialogue.specs.PhaseBytes.{phase_byte, run_length_if, has_whole_block, follows_in}
+use Rattle.bus_dialogue.specs.PhaseBytes.{phase_byte, has_whole_block, follows_in}
 use Rattle.bus_dialogue.specs.Sending.{Sending, byte_to_send}
 use Rattle.bus_due.specs.RunState.{RunState, bus_of, process_here, process_served, carried_here}
-use Rattle.bus_due.specs.Sights.{serving_of, offering_of, answering_of, pace_of, sending_by, sending_of}
-use Rattle.bus_due.specs.Tasks.{task_if, task_of}
+use Rattle.bus_due.specs.Sights.{serving_of, sending_by, sending_of}
+use Rattle.bus_due.specs.Tasks.{task_if}
 use Rattle.bus_books.specs.Giving.{GivesNext}
 use Rattle.bus_books.specs.Reactions.{IsAnswered, IsOffered, IsOver}
 use Rattle.bus_books.specs.Speaking.{SaysNext}
-use Rattle.bus_books.proofs.Lookups.{first_is, second_is}
+use Rattle.bus_books.proofs.Lookups.{second_is}
 
 -- ---- the initiator
 
 pub answers_next : (s : ScenarioValue) (k : RunState) (n : Connection) (c : Change) → bus_of k ≡ c.before → IsAnswered s k n c → SaysNext k n c
-answers_next s k n c eb h eo er =
-    (h.byte_is (io c.before.msg c.before.cd c.before.io eo) er ∙ ap (λ (b : LineSet). byte_to_send b k.exchange.speech (sending_of s k)) eb ∙ ap (λ (q : Bool). if q then next_word k.exchange.speech else if is_command c.before then slice_index_or (sending_of s k).cdb (sending_of s k).command 0 else slice_index_or (sending_of s k).sent (sending_of s k).moved 0) eo,
-        h.attends_is eo er)
+answers_next s k n c eb h eo er = (
+  h.byte_is (io c.before.msg c.before.cd c.before.io eo) er ∙ ap (λ (b : LineSet). byte_to_send b k.exchange.speech (sending_of s k)) eb ∙ ap (λ (q : Bool). if q then next_word k.exchange.speech else if is_command c.before then slice_index_or (sending_of s k).cdb (sending_of s k).command 0 else slice_index_or (sending_of s k).sent (sending_of s k).moved 0) eo,
+  h.attends_is eo er,
+)
   where
     io : (m d i : Bool) → (m && d && not i) ≡ true → i ≡ false
     io true true true e = sym e
@@ -49,11 +50,13 @@ answers_own s k n c p eb h ep er ei =
   where
     o : Sending
     o = sending_by k (Some p)
+
     by : (m d i : Bool) → (not m && d && not i) ≡ true → (if m && d && not i then next_word k.exchange.speech else if not m && d && not i then slice_index_or p.cdb (carried_here k p.id).command.active 0 else slice_index_or p.sent (carried_here k p.id).moved.active 0) ≡ slice_index_or p.cdb (carried_here k p.id).command.active 0
     by true d i e = absurd (true≢false (sym e))
     by false true true e = absurd (true≢false (sym e))
     by false true false e = refl
     by false false i e = absurd (true≢false (sym e))
+
     of_data : (m d i : Bool) → (not m && not d) ≡ true → (if m && d && not i then next_word k.exchange.speech else if not m && d && not i then slice_index_or p.cdb (carried_here k p.id).command.active 0 else slice_index_or p.sent (carried_here k p.id).moved.active 0) ≡ slice_index_or p.sent (carried_here k p.id).moved.active 0
     of_data true d i e = absurd (true≢false (sym e))
     of_data false true i e = absurd (true≢false (sym e))
@@ -90,10 +93,11 @@ offers_next s k n c eb h ei er =
     let follows : follows_in (serving_of s k n.target) k.handshakes (bus_of k).atn phases.MessageIn ≡ true =
     sym (ap (λ (q : Bool). follows_by (serving_of s k n.target) q (bus_of k) k.handshakes) (in_unpulsed k.exchange.begun _ (bus_of k) here)
     ∙ ap (follows_in (serving_of s k n.target) k.handshakes (bus_of k).atn) phase)
-    ∙ h.follows ei er in
-    (h.byte_is ei er ∙ ap (λ (f : Phase). phase_byte (serving_of s k n.target) f k.exchange.plan.messages 0 k.handshakes.requests) phase,
-        lt_is k.handshakes.requests (length bytes) (second_is (k.handshakes.requests == 0 || not (bus_of k).atn) (nat_lt k.handshakes.requests (length bytes)) follows),
-        h.begun ei er)
+    ∙ h.follows ei er in (
+      h.byte_is ei er ∙ ap (λ (f : Phase). phase_byte (serving_of s k n.target) f k.exchange.plan.messages 0 k.handshakes.requests) phase,
+      lt_is k.handshakes.requests (length bytes) (second_is (k.handshakes.requests == 0 || not (bus_of k).atn) (nat_lt k.handshakes.requests (length bytes)) follows),
+      h.begun ei er,
+    )
 
 -- ---- a phase is left
 
@@ -121,9 +125,11 @@ out_over s k n eo h =
     flip : (q : Bool) → not q ≡ false → q ≡ true
     flip true e = refl
     flip false e = absurd (true≢false e)
+
     data_none : (m d i : Bool) → (m && d && not i) ≡ true → (not m && not d) ≡ false
     data_none true d i e = refl
     data_none false d i e = absurd (true≢false (sym e))
+
     out_phase : (m d i : Bool) → (m && d && not i) ≡ true → (if m then (if i then phases.MessageIn else phases.MessageOut) else if d then (if i then phases.Status else phases.Command) else if i then phases.DataIn else phases.DataOut) ≡ phases.MessageOut
     out_phase true true true e = absurd (true≢false (sym e))
     out_phase true true false e = refl
@@ -139,10 +145,12 @@ command_over s k n p ec h ep es =
     flip : (q : Bool) → not q ≡ false → q ≡ true
     flip true e = refl
     flip false e = absurd (true≢false e)
+
     data_none : (m d i : Bool) → (not m && d && not i) ≡ true → (not m && not d) ≡ false
     data_none true d i e = refl
     data_none false true i e = refl
     data_none false false i e = absurd (true≢false (sym e))
+
     command_phase : (m d i : Bool) → (not m && d && not i) ≡ true → (if m then (if i then phases.MessageIn else phases.MessageOut) else if d then (if i then phases.Status else phases.Command) else if i then phases.DataIn else phases.DataOut) ≡ phases.Command
     command_phase true d i e = absurd (true≢false (sym e))
     command_phase false true true e = absurd (true≢false (sym e))

@@ -1,9 +1,8 @@
 -- The tests of a row say what they are called for.
-use Rattle.std.proofs.Common.{ℕ, ◌≡◌, ◌<◌, ◌+◌, ◌⊎◌, inl, inr, Bool, true, false, not, ◌&&◌, ◌||◌, ◌∙◌, List, [], ◌∷◌, length, Option, Some, None, refl, sym, ap, arith, true≢false}
+use Rattle.std.proofs.Common.{ℕ, ◌≡◌, ◌<◌, ◌+◌, ◌⊎◌, inl, inr, Bool, true, false, not, ◌&&◌, ◌||◌, ◌∙◌, length, Option, Some, None, refl, sym, ap, arith, true≢false}
 use Rattle.std.specs.Prelude.{if◌then◌else◌, is_some, is_none, ◌==◌, ◌%◌, nat_lt, slice_index_or}
 use Rattle.std.proofs.lemmas.Bool.Decides.{nat_tests}
 use Rattle.bus_base.specs.declared.ProcId.{ProcId}
-use Rattle.bus_trace.specs.LineSet.{LineSet}
 use Rattle.bus_trace.specs.declared.Row.{Row}
 use Rattle.bus_trace.specs.declared.changes.Change.{Change}
 use Rattle.bus_trace.specs.declared.connection.Connection.{Connection}
@@ -13,10 +12,10 @@ use Rattle.bus_trace.specs.Phases.{changes_phase, is_command, is_data, is_messag
 use Rattle.cdb_codec.specs.Cdb.{has_group_len}
 use Rattle.msg_grammar.specs.declared.message.MsgIn.{MsgIn}
 use Rattle.scenario.specs.Value.{ScenarioValue}
-use Rattle.disk_array.specs.Processes.{Process, process_of, same_bool, same_id}
-use Rattle.bus_story.specs.BusState.{RowReading, row_reading, message_in}
+use Rattle.disk_array.specs.Processes.{Process, process_of, same_bool}
+use Rattle.bus_story.specs.BusState.{row_reading, message_in}
 use Rattle.bus_story.specs.Items.{Item, process, abort}
-use Rattle.bus_story.specs.Links.{Link, link_after_name}
+use Rattle.bus_story.specs.Links.{link_after_name}
 use Rattle.bus_story.specs.TraceHistory.{aim_of}
 use Rattle.bus_dialogue.specs.declared.exchange.Phase.TheVariants as phases
 use Rattle.bus_dialogue.specs.declared.exchange.Task.{Task}
@@ -27,13 +26,13 @@ use Rattle.bus_dialogue.specs.NextPhase.{phase_of}
 use Rattle.bus_dialogue.specs.Wants.{Ready}
 use Rattle.bus_dialogue.specs.Words.{is_name}
 use Rattle.bus_due.specs.Defs.{target_def_of}
-use Rattle.bus_due.specs.RunState.{RunState, bus_of, item_of, process_item, process_here, process_served, carried_here}
+use Rattle.bus_due.specs.RunState.{RunState, bus_of, item_of, process_here, process_served, carried_here}
 use Rattle.bus_due.specs.Tasks.{is_writing, task_of}
 use Rattle.bus_due.specs.Wants.{ready_of}
-use Rattle.bus_books.specs.Carrying.{SendsNext, SendsOwn}
+use Rattle.bus_books.specs.Carrying.{SendsOwn}
 use Rattle.bus_books.specs.Hearing.{is_in_phase, is_out_phase, HasPhase, LeavesWhole, IsAtRun}
-use Rattle.bus_books.specs.Rows.{RowKind, still, strikes, crosses, turns, IsRowIn, IsFirstRow}
-use Rattle.bus_books.specs.RowTests.{is_of_target, is_aimed_at, is_between, is_ready_for, is_made_for, is_first_row, is_block_whole, is_phase_whole, leaves_whole, has_phase, says_next, gives_next, sends_next, is_at_run, same_item_if, names_served, crosses_well, is_of_kind, is_row_in, is_last_row, is_row_by, is_row_reading, is_row_of}
+use Rattle.bus_books.specs.Rows.{RowKind, still, strikes, crosses, turns}
+use Rattle.bus_books.specs.RowTests.{is_of_target, is_aimed_at, is_between, is_ready_for, is_made_for, is_first_row, is_block_whole, is_phase_whole, leaves_whole, has_phase, says_next, gives_next, sends_next, is_at_run, same_item_if, names_served, crosses_well, is_of_kind, is_row_in, is_last_row, is_row_by, is_row_of}
 use Rattle.bus_books.specs.Traces.{IsReadyFor, IsAimedAt, Begins, GoesOn, Ends, RowOf, apart, begins, goes_on, ends, under_reset}
 use Rattle.bus_books.proofs.Lookups.{first_is, second_is, number_is, is_bool, id_is}
 
@@ -116,6 +115,7 @@ made_ready s k n e = go (ready_of s k n.target) refl
       where
         here : is_ready_for s n (Some r) ≡ true
         here = sym (ap (is_ready_for s n) f) ∙ e
+
         by : (p : Option Process) → process_of s r.process.id ≡ p → IsReadyFor s k n
         by None g = absurd (true≢false (sym (second_is (nat_lt r.process.unit 8) (is_between (process_of s r.process.id) n) here) ∙ ap (λ (x : Option Process). is_between x n) g))
         by (Some p) g =
@@ -162,13 +162,15 @@ sent s k row t p e f =
     let two = second_is (not (is_command c.before) || (v == slice_index_or p.cdb (carried_here k p.id).command.active 0 && nat_lt (carried_here k p.id).command.active (length p.cdb))) _ here in
     record {
       command = λ g.
-          let b = implied (is_command c.before) (v == slice_index_or p.cdb (carried_here k p.id).command.active 0 && nat_lt (carried_here k p.id).command.active (length p.cdb)) one g in
-          (number_is v (slice_index_or p.cdb (carried_here k p.id).command.active 0) (first_is (v == slice_index_or p.cdb (carried_here k p.id).command.active 0) (nat_lt (carried_here k p.id).command.active (length p.cdb)) b),
-              lt_is (carried_here k p.id).command.active (length p.cdb) (second_is (v == slice_index_or p.cdb (carried_here k p.id).command.active 0) (nat_lt (carried_here k p.id).command.active (length p.cdb)) b));
+          let b = implied (is_command c.before) (v == slice_index_or p.cdb (carried_here k p.id).command.active 0 && nat_lt (carried_here k p.id).command.active (length p.cdb)) one g in (
+            number_is v (slice_index_or p.cdb (carried_here k p.id).command.active 0) (first_is (v == slice_index_or p.cdb (carried_here k p.id).command.active 0) (nat_lt (carried_here k p.id).command.active (length p.cdb)) b),
+            lt_is (carried_here k p.id).command.active (length p.cdb) (second_is (v == slice_index_or p.cdb (carried_here k p.id).command.active 0) (nat_lt (carried_here k p.id).command.active (length p.cdb)) b),
+          );
       moved = λ g w.
-          let b = or_right (not (is_data c.before) || not (is_writing p)) (v == slice_index_or p.sent (carried_here k p.id).moved.active 0 && nat_lt (carried_here k p.id).moved.active (length p.sent)) two (λ i. not (g i) || not (w i)) in
-          (number_is v (slice_index_or p.sent (carried_here k p.id).moved.active 0) (first_is (v == slice_index_or p.sent (carried_here k p.id).moved.active 0) (nat_lt (carried_here k p.id).moved.active (length p.sent)) b),
-              lt_is (carried_here k p.id).moved.active (length p.sent) (second_is (v == slice_index_or p.sent (carried_here k p.id).moved.active 0) (nat_lt (carried_here k p.id).moved.active (length p.sent)) b));
+          let b = or_right (not (is_data c.before) || not (is_writing p)) (v == slice_index_or p.sent (carried_here k p.id).moved.active 0 && nat_lt (carried_here k p.id).moved.active (length p.sent)) two (λ i. not (g i) || not (w i)) in (
+            number_is v (slice_index_or p.sent (carried_here k p.id).moved.active 0) (first_is (v == slice_index_or p.sent (carried_here k p.id).moved.active 0) (nat_lt (carried_here k p.id).moved.active (length p.sent)) b),
+            lt_is (carried_here k p.id).moved.active (length p.sent) (second_is (v == slice_index_or p.sent (carried_here k p.id).moved.active 0) (nat_lt (carried_here k p.id).moved.active (length p.sent)) b),
+          );
     }
 
 at_run : (s : ScenarioValue) (k : RunState) (n : Connection) (p : Process) (t : Task) → is_at_run s k n (Some p) (Some t) phases.DataOut ≡ true → IsAtRun s k n p t
@@ -186,6 +188,7 @@ heard_crosses k row m e = go (row_reading k.story.bus_state row).crosses refl
   where
     none_some : (let a : Option MsgIn = None in a) ≡ Some m → ⊥
     none_some z = cc
+
     go : (q : Bool) → (row_reading k.story.bus_state row).crosses ≡ q → (row_reading k.story.bus_state row).crosses ≡ true
     go true f = f
     go false f = absurd (none_some (sym (ap (λ (q : Bool). message_in k.story.bus_state.dialogue (row_reading k.story.bus_state row).change q) f) ∙ e))
@@ -231,16 +234,18 @@ row_in s k row n e r t =
       calm = not_is (bus_of k).rst (second_is c.after.bsy (not (bus_of k).rst) t2);
       phase = phase_is k (second_is (c.after.bsy && not (bus_of k).rst) (has_phase k) t3);
       says = λ o z.
-          let b = implied (is_message_out c.before) (c.after.data_bits % 256 == next_word k.exchange.speech && same_bool c.after.atn (attends_with k.exchange.speech)) (first_is (says_next k c) (gives_next k c) (w2 (now ∙ z))) o in
-          (number_is (c.after.data_bits % 256) (next_word k.exchange.speech) (first_is (c.after.data_bits % 256 == next_word k.exchange.speech) (same_bool c.after.atn (attends_with k.exchange.speech)) b),
-              is_bool c.after.atn (attends_with k.exchange.speech) (second_is (c.after.data_bits % 256 == next_word k.exchange.speech) (same_bool c.after.atn (attends_with k.exchange.speech)) b));
+          let b = implied (is_message_out c.before) (c.after.data_bits % 256 == next_word k.exchange.speech && same_bool c.after.atn (attends_with k.exchange.speech)) (first_is (says_next k c) (gives_next k c) (w2 (now ∙ z))) o in (
+            number_is (c.after.data_bits % 256) (next_word k.exchange.speech) (first_is (c.after.data_bits % 256 == next_word k.exchange.speech) (same_bool c.after.atn (attends_with k.exchange.speech)) b),
+            is_bool c.after.atn (attends_with k.exchange.speech) (second_is (c.after.data_bits % 256 == next_word k.exchange.speech) (same_bool c.after.atn (attends_with k.exchange.speech)) b),
+          );
       gives = λ o z.
           let count : ℕ = k.handshakes.requests in
           let b = implied (is_message_in c.before) (c.after.data_bits % 256 == slice_index_or (bytes_of_messages k.exchange.plan.messages) count 0 && nat_lt count (length (bytes_of_messages k.exchange.plan.messages)) && k.exchange.begun) (second_is (says_next k c) (gives_next k c) (w2 (now ∙ z))) o in
-          let a = first_is (c.after.data_bits % 256 == slice_index_or (bytes_of_messages k.exchange.plan.messages) count 0 && nat_lt count (length (bytes_of_messages k.exchange.plan.messages))) k.exchange.begun b in
-          (number_is (c.after.data_bits % 256) (slice_index_or (bytes_of_messages k.exchange.plan.messages) count 0) (first_is (c.after.data_bits % 256 == slice_index_or (bytes_of_messages k.exchange.plan.messages) count 0) (nat_lt count (length (bytes_of_messages k.exchange.plan.messages))) a),
-              lt_is count (length (bytes_of_messages k.exchange.plan.messages)) (second_is (c.after.data_bits % 256 == slice_index_or (bytes_of_messages k.exchange.plan.messages) count 0) (nat_lt count (length (bytes_of_messages k.exchange.plan.messages))) a),
-              second_is (c.after.data_bits % 256 == slice_index_or (bytes_of_messages k.exchange.plan.messages) count 0 && nat_lt count (length (bytes_of_messages k.exchange.plan.messages))) k.exchange.begun b);
+          let a = first_is (c.after.data_bits % 256 == slice_index_or (bytes_of_messages k.exchange.plan.messages) count 0 && nat_lt count (length (bytes_of_messages k.exchange.plan.messages))) k.exchange.begun b in (
+            number_is (c.after.data_bits % 256) (slice_index_or (bytes_of_messages k.exchange.plan.messages) count 0) (first_is (c.after.data_bits % 256 == slice_index_or (bytes_of_messages k.exchange.plan.messages) count 0) (nat_lt count (length (bytes_of_messages k.exchange.plan.messages))) a),
+            lt_is count (length (bytes_of_messages k.exchange.plan.messages)) (second_is (c.after.data_bits % 256 == slice_index_or (bytes_of_messages k.exchange.plan.messages) count 0) (nat_lt count (length (bytes_of_messages k.exchange.plan.messages))) a),
+            second_is (c.after.data_bits % 256 == slice_index_or (bytes_of_messages k.exchange.plan.messages) count 0 && nat_lt count (length (bytes_of_messages k.exchange.plan.messages))) k.exchange.begun b,
+          );
       names = λ l m g el em nm.
           let named : names_served s k n (Some l) (Some m) ≡ true = (λ i. names_served s k n (sym el i) (sym em i)) ∙ second_is _ (names_served s k n k.story.link d.into) (well (heard_crosses k row m em)) in
           one_of (link_after_name k.story.sent s.commands l m).item k.served
@@ -281,6 +286,7 @@ row_of s k row t = go (row_reading k.story.bus_state row).change.after.rst refl
     by r None (Some n) e f z = begins n (first_row s k row n e f r z)
     by r (Some m) None e f z = ends m (last_row s k row m e f z)
     by r (Some m) (Some n) e f z = goes_on m (row_reading k.story.bus_state row).change (row_in s k row m e r z)
+
     go : (q : Bool) → (row_reading k.story.bus_state row).change.after.rst ≡ q → RowOf s k row
     go true r =
         under_reset r (not_is (row_reading k.story.bus_state row).crosses (sym (ap (λ (q : Bool). if q then not (row_reading k.story.bus_state row).crosses else is_row_by s k row (row_reading k.story.bus_state row) k.story.bus_state.connection (row_reading k.story.bus_state row).next) r) ∙ t))

@@ -1,8 +1,6 @@
 -- The books hold after every row of a trace, and each tells what was to be said.
 use Rattle.std.proofs.Common.{ℕ, ◌≡◌, ◌<◌, Bool, true, false, not, ◌&&◌, ◌||◌, ◌∙◌, List, [], ◌∷◌, Option, Some, None, refl, sym, ap, subst, true≢false}
 use Rattle.std.specs.Prelude.{if◌then◌else◌, is_some, ◌==◌, ◌%◌}
-use Rattle.bus_base.specs.declared.ProcId.{ProcId}
-use Rattle.bus_trace.specs.LineSet.{LineSet}
 use Rattle.bus_trace.specs.declared.Row.{Row}
 use Rattle.bus_trace.specs.declared.changes.Change.{Change}
 use Rattle.bus_trace.specs.declared.connection.Connection.{Connection}
@@ -10,16 +8,15 @@ use Rattle.bus_trace.specs.Changes.{falls}
 use Rattle.bus_trace.specs.Terms.{connection_of, connection_after, receiver_of}
 use Rattle.bus_trace.specs.Phases.{changes_phase}
 use Rattle.scenario.specs.Value.{ScenarioValue}
-use Rattle.disk_array.specs.Processes.{Process, process_of}
+use Rattle.disk_array.specs.Processes.{Process}
 use Rattle.bus_story.specs.BusState.{row_reading}
-use Rattle.bus_story.specs.Items.{Item, process, abort}
+use Rattle.bus_story.specs.Items.{Item}
 use Rattle.bus_story.specs.TraceHistory.{aim_of}
-use Rattle.bus_dialogue.specs.Exchange.{Exchange}
 use Rattle.bus_dialogue.specs.NextPhase.{phase_of}
 use Rattle.bus_dialogue.specs.Wants.{Ready}
 use Rattle.bus_due.specs.Faithful.{has_ends, is_known_process, is_true_leaving, is_true_crossing, is_true_beginning, is_true_hearing, is_faithful, faithful}
 use Rattle.bus_due.specs.RunState.{RunState, bus_of, process_item, process_served}
-use Rattle.bus_due.specs.RunSteps.{first_run_state, run_state, run_state_after, exchange_after, served_after, item_if, leaving_of}
+use Rattle.bus_due.specs.RunSteps.{run_state, run_state_after, exchange_after, served_after, item_if, leaving_of}
 use Rattle.bus_due.specs.Wants.{ready_of}
 use Rattle.scsi_device.specs.Lines.{AreUnits}
 use Rattle.bus_books.specs.Carrying.{AllCarryOwn, SendsOwn}
@@ -28,9 +25,8 @@ use Rattle.bus_books.specs.Items.{IsItem, is_process, is_abort, AimsAreItems}
 use Rattle.bus_books.specs.Knowing.{Knows}
 use Rattle.bus_books.specs.Rows.{IsRowIn}
 use Rattle.bus_books.specs.Speaking.{Speaks}
-use Rattle.bus_books.specs.Traces.{IsReadyFor, IsAimedAt, Begins, GoesOn, Ends, RowOf, apart, begins, goes_on, ends, under_reset, AreRowsOf, Books}
+use Rattle.bus_books.specs.Traces.{IsReadyFor, Begins, RowOf, apart, begins, goes_on, ends, under_reset, AreRowsOf, Books}
 use Rattle.bus_books.proofs.Aims.{aims_are}
-use Rattle.bus_books.proofs.CarriedBlocks.{process_own}
 use Rattle.bus_books.proofs.CarriedRows.{carry_on, all_carry}
 use Rattle.bus_books.proofs.Faith.{row_is_faithful}
 use Rattle.bus_books.proofs.FirstLinks.{knows_first}

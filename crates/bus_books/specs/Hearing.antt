@@ -1,6 +1,6 @@
 -- What devices are due to do as they leave a phase, and what is still to be proved of the data runs: with these, a row of a
 -- connection tells what was to be said.
-use Rattle.std.specs.Prelude.{ℕ, ◌+◌, ◌≡◌, Bool, true, false, ◌&&◌, is_some, length, Some}
+use Rattle.std.specs.Prelude.{◌+◌, ◌≡◌, Bool, true, false, ◌&&◌, is_some, length, Some}
 use Rattle.bus_trace.specs.declared.connection.Connection.{Connection}
 use Rattle.cdb_codec.specs.Cdb.{has_group_len}
 use Rattle.scenario.specs.Value.{ScenarioValue}

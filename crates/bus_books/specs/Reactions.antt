@@ -1,6 +1,6 @@
 -- What the two ends of a connection are due to drive and to do, as facts of a row: by these reactions the bytes that cross are the
 -- next ones, and a phase is left whole.
-use Rattle.std.specs.Prelude.{ℕ, ◌%◌, ◌≡◌, Bool, true, false, not, is_some}
+use Rattle.std.specs.Prelude.{◌%◌, ◌≡◌, true, false, not, is_some}
 use Rattle.bus_trace.specs.declared.changes.Change.{Change}
 use Rattle.bus_trace.specs.declared.connection.Connection.{Connection}
 use Rattle.bus_trace.specs.Terms.{receiver_in}

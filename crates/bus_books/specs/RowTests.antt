@@ -3,7 +3,7 @@ use Rattle.std.specs.Prelude.{ℕ, ◌+◌, ◌%◌, Bool, true, false, not, ◌
 use Rattle.bus_trace.specs.declared.Row.{Row}
 use Rattle.bus_trace.specs.declared.changes.Change.{Change}
 use Rattle.bus_trace.specs.declared.connection.Connection.{Connection}
-use Rattle.bus_trace.specs.Changes.{rises, implies}
+use Rattle.bus_trace.specs.Changes.{rises}
 use Rattle.bus_trace.specs.Terms.{is_fault, receiver_in}
 use Rattle.bus_trace.specs.Phases.{changes_phase, is_command, is_data, is_message_out, is_message_in}
 use Rattle.cdb_codec.specs.Cdb.{has_group_len}
