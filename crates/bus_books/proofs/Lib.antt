@@ -26,3 +26,4 @@ pub mod RowTies
 pub mod Reactions
 pub mod Quiet
 pub mod MessageRules
+pub mod FirstBytes

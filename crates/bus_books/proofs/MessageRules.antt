@@ -1,19 +1,19 @@
 -- The bytes of message phases form messages, and none is half sent as the phase is left (6.6).
-use Rattle.std.proofs.Common.{ℕ, ◌≡◌, ◌<◌, Bool, true, false, not, ◌&&◌, ◌||◌, ◌∙◌, List, [], ◌∷◌, ◌++◌, Some, refl, sym, ap, subst, true≢false}
-use Rattle.std.specs.Prelude.{if◌then◌else◌, is_some, ◌%◌}
+use Rattle.std.proofs.Common.{ℕ, ◌≡◌, ◌<◌, Bool, true, false, not, ◌&&◌, ◌||◌, ◌∙◌, List, [], ◌∷◌, ◌++◌, Some, refl, sym, ap, subst, true≢false, zero, suc, ◌+◌, length, arith}
+use Rattle.std.specs.Prelude.{if◌then◌else◌, is_some, ◌%◌, slice_index_or}
 use Rattle.bus_trace.specs.LineSet.{LineSet}
 use Rattle.bus_trace.specs.declared.Row.{Row}
 use Rattle.bus_trace.specs.declared.changes.Change.{Change}
 use Rattle.bus_trace.specs.declared.connection.Connection.{Connection}
 use Rattle.bus_trace.specs.Changes.{falls, change_of}
-use Rattle.bus_trace.specs.Terms.{receiver_in}
+use Rattle.bus_trace.specs.Terms.{receiver_in, receiver_of, connection}
 use Rattle.bus_trace.specs.Phases.{changes_phase, is_message_out, is_message_in}
 use Rattle.bus_phases.specs.declared.reading.Reading.TheVariants as readings
 use Rattle.bus_phases.specs.Dialogue.{dialogue}
 use Rattle.bus_phases.specs.Half.{is_nil}
 use Rattle.bus_phases.specs.Reading.{reading_out, reading_in, reading_of}
-use Rattle.msg_grammar.specs.Messages.{got_out, got_in}
-use Rattle.bus_rules.specs.Messages.{is_unknown, leaves_message_well}
+use Rattle.msg_grammar.specs.Messages.{got_out, got_in, form_in}
+use Rattle.bus_rules.specs.Messages.{is_unknown, leaves_message_well, is_opening, opens_well, same_bool}
 use Rattle.bus_rules.specs.Seen.{seen, seen_with}
 use Rattle.scenario.specs.Value.{ScenarioValue}
 use Rattle.bus_story.specs.Story.{Story}
@@ -23,8 +23,13 @@ use Rattle.bus_due.specs.Plain.{AreOfDevices}
 use Rattle.bus_due.specs.RunState.{RunState, bus_of}
 use Rattle.bus_due.specs.RunSteps.{run_state}
 use Rattle.bus_due.proofs.Plains.{IsBusStateOf, run_state_plain, bus_state_is, change_same}
+use Rattle.bus_story.specs.BusState.{row_reading}
+use Rattle.bus_dialogue.specs.Exchange.{message_bytes}
+use Rattle.bus_books.specs.FirstBytes.{IsUnopened, before_all, in_opening, in_names}
+use Rattle.bus_books.specs.Listening.{Understanding, nothing_understood, understood, half_after}
 use Rattle.bus_books.specs.Traces.{GoesOn, Books}
 use Rattle.bus_books.proofs.Given.{in_is_whole, in_is_known}
+use Rattle.bus_books.proofs.Gives.{in_io}
 use Rattle.bus_books.proofs.Opened.{out_is_whole, out_is_known}
 
 -- ---- phases by the lines
@@ -95,6 +100,65 @@ left_by true true false z h = refl
 left_by true false true z h = absurd (true≢false (h refl refl))
 left_by true false false z h = refl
 
+-- ---- the first byte of a connection
+
+name_opens : (lun : ℕ) → lun < 8 → is_opening (reading_in (got_in ((0x80 + lun) ∷ []))) ≡ true
+unfolding form_in
+name_opens zero lt = refl
+name_opens (suc zero) lt = refl
+name_opens (suc (suc zero)) lt = refl
+name_opens (suc (suc (suc zero))) lt = refl
+name_opens (suc (suc (suc (suc zero)))) lt = refl
+name_opens (suc (suc (suc (suc (suc zero))))) lt = refl
+name_opens (suc (suc (suc (suc (suc (suc zero)))))) lt = refl
+name_opens (suc (suc (suc (suc (suc (suc (suc zero))))))) lt = refl
+name_opens (suc (suc (suc (suc (suc (suc (suc (suc n)))))))) lt = absurd omega (arith, lt)
+
+nil_of : (xs : List ℕ) → length xs ≡ 0 → xs ≡ []
+nil_of [] e = refl
+nil_of (x ∷ xs) e = absurd omega (arith, e)
+
+io_of_out : (b : LineSet) → is_message_out b ≡ true → b.io ≡ false
+io_of_out b e = go (b.msg && b.cd) b.io e
+  where
+    go : (q i : Bool) → (q && not i) ≡ true → i ≡ false
+    go true true z = sym z
+    go true false z = refl
+    go false i z = absurd (true≢false (sym z))
+
+opened_row : (s : ScenarioValue) (k : RunState) (row : Row) (n : Connection) (c : Change) → GoesOn s k row n c → Books s k → is_some (receiver_in n c) ≡ true → k.story.bus_state.dialogue.begun ≡ false
+    → (is_opening (reading_of k.story.bus_state.dialogue.half (Some n) c) && same_bool n.reselected c.before.io) ≡ true
+opened_row s k row n c g h er eb = go (h.opens n g.row_is.connection_is g.calm eb)
+  where
+    con : k.story.bus_state.connection ≡ Some n
+    con = g.row_is.connection_is
+    now : (row_reading k.story.bus_state row).crosses ≡ true
+    now = (λ i. is_some (receiver_of (g.row_is.connection_is i) (g.row_is.change_is i))) ∙ er
+    go : IsUnopened n k.exchange k.story.bus_state.dialogue k.handshakes (bus_of k) → (is_opening (reading_of k.story.bus_state.dialogue.half (Some n) c) && same_bool n.reselected c.before.io) ≡ true
+    go (before_all r b o) = absurd (true≢false (sym (g.begun now) ∙ b))
+    go (in_opening r b p q last o) =
+        let eo : is_message_out c.before ≡ true = ap is_message_out (sym g.row_is.bus_is) ∙ p in
+        let w = (h.speaks n con g.calm).in_message_out b p in
+        let none : w.heard.before ≡ [] = nil_of w.heard.before (sym w.heard.place_is ∙ q) in
+        let half : k.story.bus_state.dialogue.half ≡ [] = w.half ∙ ap (λ (u : Understanding). u.half) (w.heard.anew ∙ ap (understood nothing_understood) none) in
+        let byte : c.after.data_bits % 256 ≡ o.first = (g.says eo er).0 ∙ (λ i. slice_index_or (o.words_are i) (q i) 0) in
+        (λ i. is_opening (if er i then if eo i then reading_out (got_out (half i ++ byte i ∷ [])) else if is_message_in c.before then reading_in (got_in (half i ++ byte i ∷ [])) else readings.NoMessage else readings.NoMessage) && same_bool (r i) (io_of_out c.before eo i))
+        ∙ (λ i. o.opens i && true)
+    go (in_names r b p q lun m lt) =
+        let ei : is_message_in c.before ≡ true = ap is_message_in (sym g.row_is.bus_is) ∙ p in
+        let eo : is_message_out c.before ≡ false = (of_in c.before ei).2 in
+        let w = (h.gives n con g.calm).in_message_in b p in
+        let none : w.before ≡ [] = nil_of w.before (sym w.count_is ∙ q) in
+        let half : k.story.bus_state.dialogue.half ≡ [] = w.half_is ∙ ap (half_after []) none in
+        let byte : c.after.data_bits % 256 ≡ 0x80 + lun = (g.gives ei er).0 ∙ (λ i. slice_index_or (message_bytes (m i) ++ message_bytes k.exchange.plan.messages.second) (q i) 0) in
+        (λ i. is_opening (if er i then if eo i then reading_out (got_out (half i ++ byte i ∷ [])) else if ei i then reading_in (got_in (half i ++ byte i ∷ [])) else readings.NoMessage else readings.NoMessage) && same_bool (r i) (in_io c.before ei i))
+        ∙ (λ i. name_opens lun lt i && true)
+
+opened_by : (now begun a : Bool) → (now ≡ true → begun ≡ false → a ≡ true) → (not (now && not begun) || a) ≡ true
+opened_by true false a h = h refl refl
+opened_by true true a h = refl
+opened_by false begun a h = refl
+
 -- ---- of the rows
 
 change_is : (s : ScenarioValue) (rows : List Row) (row : Row) (n : Connection) (c : Change) → AreOfDevices rows → row.dev < 8 → GoesOn s (run_state s rows) row n c → c ≡ change_of rows row
@@ -119,3 +183,14 @@ row_left s rows row n c dev lt h g =
     || ((is_message_in (sym (change_is s rows row n c dev lt g) i).before && (sym (change_is s rows row n c dev lt g) i).before.atn) || falls (sym (change_is s rows row n c dev lt g) i).before.bsy (sym (change_is s rows row n c dev lt g) i).after.bsy))
     ∙ left_by (changes_phase c) (is_message_in c.before && c.before.atn) (not (is_nil (dialogue rows).half)) (falls c.before.bsy c.after.bsy)
     (λ p a. (λ i. not (is_nil (sym plain.dialogue i).half)) ∙ (λ i. not (is_nil (half_left s k row n c g h p a i))))
+
+pub row_opens : (s : ScenarioValue) (rows : List Row) (row : Row) (n : Connection) (c : Change) → AreOfDevices rows → row.dev < 8 → Books s (run_state s rows) → GoesOn s (run_state s rows) row n c → opens_well (seen rows row) (connection rows) ≡ true
+unfolding seen_with
+row_opens s rows row n c dev lt h g =
+    let k = run_state s rows in
+    let plain = run_state_plain s rows dev in
+    let e = change_is s rows row n c dev lt g in
+    let con : connection rows ≡ Some n = sym plain.connection ∙ g.row_is.connection_is in
+    (λ i. opens_well (seen rows row) (con i))
+    ∙ (λ i. not (is_some (receiver_of (con i) (sym e i)) && not (sym plain.dialogue i).begun) || (is_opening (reading_of (sym plain.dialogue i).half (con i) (sym e i)) && same_bool n.reselected (sym e i).before.io))
+    ∙ opened_by (is_some (receiver_in n c)) k.story.bus_state.dialogue.begun (is_opening (reading_of k.story.bus_state.dialogue.half (Some n) c) && same_bool n.reselected c.before.io) (opened_row s k row n c g h)

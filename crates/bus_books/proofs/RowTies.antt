@@ -79,7 +79,11 @@ left s k n e =
     let named = second_is (is_phase_whole s k (phase_of (bus_of k))) _ e in
     record {
       out = λ f. sym (ap (is_phase_whole s k) f) ∙ whole;
-      given = λ f a. number_is k.handshakes.requests (length (bytes_of_messages k.exchange.plan.messages)) (or_right (bus_of k).atn _ (sym (ap (is_phase_whole s k) f) ∙ whole) a);
+      some = λ f. not_is (k.handshakes.requests == 0) (first_is (not (k.handshakes.requests == 0)) ((bus_of k).atn || k.handshakes.requests == length (bytes_of_messages k.exchange.plan.messages)) (sym (ap (is_phase_whole s k) f) ∙ whole));
+      given = λ f a.
+          number_is k.handshakes.requests (length (bytes_of_messages k.exchange.plan.messages))
+          (or_right (bus_of k).atn (k.handshakes.requests == length (bytes_of_messages k.exchange.plan.messages))
+          (second_is (not (k.handshakes.requests == 0)) ((bus_of k).atn || k.handshakes.requests == length (bytes_of_messages k.exchange.plan.messages)) (sym (ap (is_phase_whole s k) f) ∙ whole)) a);
       command = λ p ep f.
           let block : is_block_whole k (Some p) ≡ true = sym (ap (is_block_whole k) ep) ∙ sym (ap (is_phase_whole s k) f) ∙ whole in
           (first_is (has_group_len p.cdb) _ block, λ z. or_right k.exchange.plan.struck _ (second_is (has_group_len p.cdb) _ block) z);
@@ -133,8 +137,9 @@ made_ready s k n e = go (ready_of s k n.target) refl
 first_row : (s : ScenarioValue) (k : RunState) (row : Row) (n : Connection) → k.story.bus_state.connection ≡ None → (row_reading k.story.bus_state row).next ≡ Some n → (row_reading k.story.bus_state row).change.after.rst ≡ false → is_first_row s k row (row_reading k.story.bus_state row) n ≡ true → Begins s k row n
 first_row s k row n e f r t =
     let d = row_reading k.story.bus_state row in
-    let t4 = first_is (not (is_fault row.kind) && not (is_message_out d.change.after) && k.handshakes.requests == 0 && not (rises d.change.before.req d.change.after.req)) (is_made_for s k n n.reselected) t in
-    let made = second_is (not (is_fault row.kind) && not (is_message_out d.change.after) && k.handshakes.requests == 0 && not (rises d.change.before.req d.change.after.req)) (is_made_for s k n n.reselected) t in
+    let t4 = first_is (not (is_fault row.kind) && not (is_message_out d.change.after) && k.handshakes.requests == 0 && not (rises d.change.before.req d.change.after.req)) (is_made_for s k n n.reselected && (not n.reselected || is_message_in d.change.after)) t in
+    let both = second_is (not (is_fault row.kind) && not (is_message_out d.change.after) && k.handshakes.requests == 0 && not (rises d.change.before.req d.change.after.req)) (is_made_for s k n n.reselected && (not n.reselected || is_message_in d.change.after)) t in
+    let made = first_is (is_made_for s k n n.reselected) (not n.reselected || is_message_in d.change.after) both in
     let t3 = first_is (not (is_fault row.kind) && not (is_message_out d.change.after) && k.handshakes.requests == 0) (not (rises d.change.before.req d.change.after.req)) t4 in
     let t2 = first_is (not (is_fault row.kind) && not (is_message_out d.change.after)) (k.handshakes.requests == 0) t3 in
     record {
@@ -149,6 +154,7 @@ first_row s k row n e f r t =
       };
       selects = λ z. aimed s k n (sym (ap (is_made_for s k n) z) ∙ made);
       reselects = λ z. made_ready s k n (sym (ap (is_made_for s k n) z) ∙ made);
+      names = λ z. implied n.reselected (is_message_in d.change.after) (second_is (is_made_for s k n n.reselected) (not n.reselected || is_message_in d.change.after) both) z;
     }
 
 -- ---- a byte crosses
@@ -211,17 +217,18 @@ row_in : (s : ScenarioValue) (k : RunState) (row : Row) (n : Connection) → k.s
 row_in s k row n e r t =
     let d = row_reading k.story.bus_state row in
     let c : Change = d.change in
-    let t5 = first_is (c.after.bsy && not (bus_of k).rst && has_phase k && is_of_kind (is_fault row.kind) (changes_phase c) (is_some (receiver_in n c)) && (not d.crosses || crosses_well s k n d)) (not (changes_phase c) || leaves_whole s k n) t in
-    let leaving = second_is (c.after.bsy && not (bus_of k).rst && has_phase k && is_of_kind (is_fault row.kind) (changes_phase c) (is_some (receiver_in n c)) && (not d.crosses || crosses_well s k n d)) (not (changes_phase c) || leaves_whole s k n) t in
+    let t5 = first_is (c.after.bsy && not (bus_of k).rst && has_phase k && is_of_kind (is_fault row.kind) (changes_phase c) (is_some (receiver_in n c)) && (not d.crosses || crosses_well s k n d)) (not (changes_phase c) || (leaves_whole s k n && (k.exchange.begun || is_message_out c.after))) t in
+    let leaving = second_is (c.after.bsy && not (bus_of k).rst && has_phase k && is_of_kind (is_fault row.kind) (changes_phase c) (is_some (receiver_in n c)) && (not d.crosses || crosses_well s k n d)) (not (changes_phase c) || (leaves_whole s k n && (k.exchange.begun || is_message_out c.after))) t in
     let t4 = first_is (c.after.bsy && not (bus_of k).rst && has_phase k && is_of_kind (is_fault row.kind) (changes_phase c) (is_some (receiver_in n c))) (not d.crosses || crosses_well s k n d) t5 in
     let crossing = second_is (c.after.bsy && not (bus_of k).rst && has_phase k && is_of_kind (is_fault row.kind) (changes_phase c) (is_some (receiver_in n c))) (not d.crosses || crosses_well s k n d) t5 in
     let t3 = first_is (c.after.bsy && not (bus_of k).rst && has_phase k) (is_of_kind (is_fault row.kind) (changes_phase c) (is_some (receiver_in n c))) t4 in
     let t2 = first_is (c.after.bsy && not (bus_of k).rst) (has_phase k) t3 in
     let now : d.crosses ≡ is_some (receiver_in n c) = ap (λ (x : Option Connection). is_some (receiver_of x c)) e in
     let well : d.crosses ≡ true → crosses_well s k n d ≡ true = λ z. implied d.crosses (crosses_well s k n d) crossing z in
-    let w4 : d.crosses ≡ true → (says_next k c && gives_next k c && sends_next k c (process_here s k) && is_at_run s k n (process_served s k) (task_of s k) (phase_of (bus_of k))) ≡ true = λ z. first_is _ (names_served s k n k.story.link d.into) (well z) in
-    let w3 : d.crosses ≡ true → (says_next k c && gives_next k c && sends_next k c (process_here s k)) ≡ true = λ z. first_is _ (is_at_run s k n (process_served s k) (task_of s k) (phase_of (bus_of k))) (w4 z) in
-    let w2 : d.crosses ≡ true → (says_next k c && gives_next k c) ≡ true = λ z. first_is _ (sends_next k c (process_here s k)) (w3 z) in
+    let w4 : d.crosses ≡ true → (says_next k c && gives_next k c && k.exchange.begun && sends_next k c (process_here s k) && is_at_run s k n (process_served s k) (task_of s k) (phase_of (bus_of k))) ≡ true = λ z. first_is _ (names_served s k n k.story.link d.into) (well z) in
+    let w3 : d.crosses ≡ true → (says_next k c && gives_next k c && k.exchange.begun && sends_next k c (process_here s k)) ≡ true = λ z. first_is _ (is_at_run s k n (process_served s k) (task_of s k) (phase_of (bus_of k))) (w4 z) in
+    let wb : d.crosses ≡ true → (says_next k c && gives_next k c && k.exchange.begun) ≡ true = λ z. first_is (says_next k c && gives_next k c && k.exchange.begun) (sends_next k c (process_here s k)) (w3 z) in
+    let w2 : d.crosses ≡ true → (says_next k c && gives_next k c) ≡ true = λ z. first_is (says_next k c && gives_next k c) k.exchange.begun (wb z) in
     record {
       row_is = record {
         connection_is = e;
@@ -250,9 +257,11 @@ row_in s k row n e r t =
           let named : names_served s k n (Some l) (Some m) ≡ true = (λ i. names_served s k n (sym el i) (sym em i)) ∙ second_is _ (names_served s k n k.story.link d.into) (well (heard_crosses k row m em)) in
           one_of (link_after_name k.story.sent s.commands l m).item k.served
           (or_right (not n.reselected || not (is_name m)) (same_item_if (link_after_name k.story.sent s.commands l m).item k.served || is_none (link_after_name k.story.sent s.commands l m).item) named (λ i. not (g i) || not (nm i)));
-      sends = sent s k row (λ z. second_is (says_next k c && gives_next k c) (sends_next k c (process_here s k)) (w3 z));
+      sends = sent s k row (λ z. second_is (says_next k c && gives_next k c && k.exchange.begun) (sends_next k c (process_here s k)) (w3 z));
       runs = λ z p u ep eu ef. at_run s k n p u ((λ i. is_at_run s k n (sym ep i) (sym eu i) (sym ef i)) ∙ second_is _ (is_at_run s k n (process_served s k) (task_of s k) (phase_of (bus_of k))) (w4 z));
-      leaves = λ z. left s k n (implied (changes_phase c) (leaves_whole s k n) leaving z);
+      begun = λ z. second_is (says_next k c && gives_next k c) k.exchange.begun (wb z);
+      first = λ z b. or_right k.exchange.begun (is_message_out c.after) (second_is (leaves_whole s k n) (k.exchange.begun || is_message_out c.after) (implied (changes_phase c) (leaves_whole s k n && (k.exchange.begun || is_message_out c.after)) leaving z)) b;
+      leaves = λ z. left s k n (first_is (leaves_whole s k n) (k.exchange.begun || is_message_out c.after) (implied (changes_phase c) (leaves_whole s k n && (k.exchange.begun || is_message_out c.after)) leaving z));
     }
   where
     one_of : (a b : Option Item) → (same_item_if a b || is_none a) ≡ true → (a ≡ b) ⊎ (a ≡ None)

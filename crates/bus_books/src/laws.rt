@@ -5,9 +5,9 @@ ghost use Rattle.bus_trace.specs.declared.Row.{Row};
 ghost use Rattle.bus_trace.specs.declared.changes.Change.{Change};
 ghost use Rattle.bus_trace.specs.declared.connection.Connection.{Connection};
 ghost use Rattle.bus_trace.specs.Phases.{is_command, is_data, is_message_out, is_message_in};
-ghost use Rattle.bus_trace.specs.Terms.{receiver_in};
+ghost use Rattle.bus_trace.specs.Terms.{connection, receiver_in};
 ghost use Rattle.bus_phases.specs.Reading.{reading_of};
-ghost use Rattle.bus_rules.specs.Messages.{is_unknown, leaves_message_well};
+ghost use Rattle.bus_rules.specs.Messages.{is_unknown, opens_well, leaves_message_well};
 ghost use Rattle.bus_rules.specs.Seen.{seen};
 ghost use Rattle.cdb_codec.specs.Cdb.{has_group_len};
 ghost use Rattle.scenario.specs.Value.{ScenarioValue};
@@ -178,9 +178,10 @@ pub fn bytes_that_are_due_are_next()
         → has_group_len (carried_here k p.id).block ≡ true }
 {}
 
-/// So of the rule of messages (6.6) a row of a connection keeps that no byte of a message phase makes an unknown
-/// message (`known`), and that such a phase is left with no message half sent, but for MESSAGE IN with ATN true
-/// (`left`). Which message comes first, and that no request is open as data cross, are not said here.
+/// So of the rule of messages (6.6) a row of a connection keeps that the first byte after a selection begins an IDENTIFY in
+/// MESSAGE OUT, after a reselection one in MESSAGE IN (`opens`), that no byte of a message phase makes an unknown
+/// message (`known`), and that such a phase is left with no message half sent, but for MESSAGE IN with ATN true (`left`).
+/// That no request is open as data cross is not said here.
 pub fn message_phases_are_whole()
     ensures known { (s : ScenarioValue) (rows : List Row) (row : Row) (n : Connection) (c : Change) → AreOfDevices rows
         → row.dev < 8 → Books s (run_state s rows) → GoesOn s (run_state s rows) row n c
@@ -188,4 +189,7 @@ pub fn message_phases_are_whole()
     ensures left { (s : ScenarioValue) (rows : List Row) (row : Row) (n : Connection) (c : Change) → AreOfDevices rows
         → row.dev < 8 → Books s (run_state s rows) → GoesOn s (run_state s rows) row n c
         → leaves_message_well (seen rows row) ≡ true }
+    ensures opens { (s : ScenarioValue) (rows : List Row) (row : Row) (n : Connection) (c : Change) → AreOfDevices rows
+        → row.dev < 8 → Books s (run_state s rows) → GoesOn s (run_state s rows) row n c
+        → opens_well (seen rows row) (connection rows) ≡ true }
 {}
