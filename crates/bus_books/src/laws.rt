@@ -7,7 +7,7 @@ ghost use Rattle.bus_trace.specs.declared.connection.Connection.{Connection};
 ghost use Rattle.bus_trace.specs.Phases.{is_command, is_data, is_message_out, is_message_in};
 ghost use Rattle.bus_trace.specs.Terms.{connection, receiver_in};
 ghost use Rattle.bus_phases.specs.Reading.{reading_of};
-ghost use Rattle.bus_rules.specs.Messages.{is_unknown, opens_well, leaves_message_well};
+ghost use Rattle.bus_rules.specs.Messages.{is_unknown, opens_well, leaves_message_well, settles_offers, keeps_messages};
 ghost use Rattle.bus_rules.specs.Seen.{seen};
 ghost use Rattle.cdb_codec.specs.Cdb.{has_group_len};
 ghost use Rattle.scenario.specs.Value.{ScenarioValue};
@@ -33,7 +33,7 @@ ghost use Rattle.bus_books.specs.Knowing.{Knows, NamesServed};
 ghost use Rattle.bus_books.specs.Hearing.{HasPhase, LeavesWhole, MovesRuns};
 ghost use Rattle.bus_books.specs.Reactions.{IsAnswered, IsOffered, IsOver};
 ghost use Rattle.bus_books.specs.RowTests.{is_row_of};
-ghost use Rattle.bus_books.specs.Traces.{RowOf, AreRowsOf, Books, GoesOn};
+ghost use Rattle.bus_books.specs.Traces.{RowOf, AreRowsOf, Books, GoesOn, Ends};
 
 /// After any rows, what a device calls for is an item of the scenario: a command of it, the automatic REQUEST SENSE
 /// of one, or an abort.
@@ -181,7 +181,8 @@ pub fn bytes_that_are_due_are_next()
 /// So of the rule of messages (6.6) a row of a connection keeps that the first byte after a selection begins an IDENTIFY in
 /// MESSAGE OUT, after a reselection one in MESSAGE IN (`opens`), that no byte of a message phase makes an unknown
 /// message (`known`), and that such a phase is left with no message half sent, but for MESSAGE IN with ATN true (`left`).
-/// That no request is open as data cross is not said here.
+/// Where no request is open as data cross, that is all of the rule (`keeps`); and the last row of a connection keeps it
+/// (`ends`).
 pub fn message_phases_are_whole()
     ensures known { (s : ScenarioValue) (rows : List Row) (row : Row) (n : Connection) (c : Change) → AreOfDevices rows
         → row.dev < 8 → Books s (run_state s rows) → GoesOn s (run_state s rows) row n c
@@ -192,4 +193,9 @@ pub fn message_phases_are_whole()
     ensures opens { (s : ScenarioValue) (rows : List Row) (row : Row) (n : Connection) (c : Change) → AreOfDevices rows
         → row.dev < 8 → Books s (run_state s rows) → GoesOn s (run_state s rows) row n c
         → opens_well (seen rows row) (connection rows) ≡ true }
+    ensures keeps { (s : ScenarioValue) (rows : List Row) (row : Row) (n : Connection) (c : Change) → AreOfDevices rows
+        → row.dev < 8 → Books s (run_state s rows) → GoesOn s (run_state s rows) row n c
+        → settles_offers (seen rows row) ≡ true → keeps_messages (seen rows row) ≡ true }
+    ensures ends { (s : ScenarioValue) (rows : List Row) (row : Row) (n : Connection) → AreOfDevices rows → row.dev < 8
+        → Ends s (run_state s rows) row n → keeps_messages (seen rows row) ≡ true }
 {}
