@@ -1,6 +1,6 @@
 // Laws of what is said, given and carried, each named by the contract of a function that does nothing.
 
-ghost use Rattle.std.specs.Prelude.{ℕ, ◌≡◌, ◌<◌, ◌%◌, true, false, is_some, List, [], ◌∷◌, length, slice_index_or, Some};
+ghost use Rattle.std.specs.Prelude.{ℕ, ◌≡◌, ◌<◌, ◌%◌, ◌&&◌, true, false, is_some, List, [], ◌∷◌, length, slice_index_or, Some};
 ghost use Rattle.bus_trace.specs.declared.Row.{Row};
 ghost use Rattle.bus_trace.specs.declared.changes.Change.{Change};
 ghost use Rattle.bus_trace.specs.declared.connection.Connection.{Connection};
@@ -15,12 +15,13 @@ ghost use Rattle.disk_array.specs.Processes.{Process, process_of};
 ghost use Rattle.bus_story.specs.Items.{Item};
 ghost use Rattle.bus_story.specs.TraceHistory.{aim_of};
 ghost use Rattle.bus_dialogue.specs.Exchange.{bytes_of_messages};
+ghost use Rattle.bus_dialogue.specs.NextPhase.{phase_of};
 ghost use Rattle.bus_dialogue.specs.Wants.{Ready};
 ghost use Rattle.bus_due.specs.Wants.{ready_of};
 ghost use Rattle.bus_trace.specs.Phases.{changes_phase};
 ghost use Rattle.bus_story.specs.BusState.{row_reading};
 ghost use Rattle.bus_due.specs.Faithful.{is_opening_named, is_block_of_process, is_faithful, faithful};
-ghost use Rattle.bus_due.specs.RunState.{RunState, bus_of, process_here, process_served, carried_here};
+ghost use Rattle.bus_due.specs.RunState.{RunState, bus_of, item_of, process_here, process_served, carried_here};
 ghost use Rattle.bus_due.specs.RunSteps.{run_state};
 ghost use Rattle.bus_due.specs.Plain.{AreOfDevices};
 ghost use Rattle.scsi_device.specs.Lines.{AreUnits};
@@ -30,8 +31,8 @@ ghost use Rattle.bus_books.specs.Speaking.{Speaks, SaysNext};
 ghost use Rattle.bus_books.specs.Giving.{Gives, GivesNext};
 ghost use Rattle.bus_books.specs.Carrying.{AllCarryOwn, AllSendOwn, SendsOwn};
 ghost use Rattle.bus_books.specs.Knowing.{Knows, NamesServed};
-ghost use Rattle.bus_books.specs.Hearing.{HasPhase, LeavesWhole, MovesRuns};
-ghost use Rattle.bus_books.specs.Reactions.{IsAnswered, IsOffered, IsOver};
+ghost use Rattle.bus_books.specs.Hearing.{HasPhase, LeavesWhole, MovesRuns, is_in_phase, is_out_phase};
+ghost use Rattle.bus_books.specs.Reactions.{IsAnswered, IsOffered, IsOver, HasMessage};
 ghost use Rattle.bus_books.specs.RowTests.{is_row_of};
 ghost use Rattle.bus_books.specs.Traces.{RowOf, AreRowsOf, Books, GoesOn, Ends};
 
@@ -157,9 +158,9 @@ pub fn books_hold_after_all_rows()
 
 /// What the rows are asked above is what the two ends are due to do. A byte that the initiator drives when it is due,
 /// with ATN as it is due, is the next of MESSAGE OUT (`says`), and in COMMAND and DATA OUT that at the pointer of the
-/// process (`sends`); a byte of MESSAGE IN that the target drives when it is due is the next of its messages
-/// (`gives`). Where the target leaves a phase as no byte follows, MESSAGE OUT was left after a byte with ATN false
-/// (`out`), and COMMAND struck or with a block of the length of its group (`command`).
+/// process (`sends`); a byte of MESSAGE IN that the target drives when it is due is the next of its messages (`gives`).
+/// Where the target leaves a phase as no byte follows, MESSAGE OUT was left after a byte with ATN false (`out`), and
+/// COMMAND struck or with a block of the length of its group (`command`); so every phase is left whole (`leaves`).
 pub fn bytes_that_are_due_are_next()
     ensures says { (s : ScenarioValue) (k : RunState) (n : Connection) (c : Change) → bus_of k ≡ c.before
         → IsAnswered s k n c → SaysNext k n c }
@@ -176,6 +177,11 @@ pub fn bytes_that_are_due_are_next()
     ensures command { (s : ScenarioValue) (k : RunState) (n : Connection) (p : Process) → is_command (bus_of k) ≡ true
         → IsOver s k n → process_served s k ≡ Some p → k.exchange.plan.struck ≡ false
         → has_group_len (carried_here k p.id).block ≡ true }
+    ensures leaves { (s : ScenarioValue) (k : RunState) (n : Connection) → Gives k → HasPhase k → IsOver s k n
+        → HasMessage k
+        → (n.reselected ≡ true → is_out_phase (phase_of (bus_of k)) ≡ false
+            → (is_in_phase (phase_of (bus_of k)) && (bus_of k).atn) ≡ false → is_some (item_of k.story.link) ≡ true)
+        → ((p : Process) → process_served s k ≡ Some p → has_group_len p.cdb ≡ true) → LeavesWhole s k n }
 {}
 
 /// So of the rule of messages (6.6) a row of a connection keeps that the first byte after a selection begins an IDENTIFY in
