@@ -1,7 +1,6 @@
 -- The first byte of a connection begins an IDENTIFY.
-use Rattle.std.proofs.Common.{ℕ, zero, suc, ◌≡◌, ◌<◌, ◌+◌, Bool, true, false, not, ◌&&◌, ◌||◌, ◌∙◌, List, [], ◌∷◌, ◌++◌, length, Option, Some, None, refl, sym, ap, subst, arith, true≢false}
-use Rattle.std.specs.Prelude.{if◌then◌else◌, is_some, ◌==◌, ◌%◌, slice_index_or}
-use Rattle.std.proofs.lemmas.Bool.Decides.{nat_tests}
+use Rattle.std.proofs.Common.{ℕ, ◌≡◌, Bool, true, false, not, ◌&&◌, ◌∙◌, [], Option, Some, None, refl, sym, ap, subst, true≢false}
+use Rattle.std.specs.Prelude.{if◌then◌else◌, is_some, ◌==◌, ◌%◌}
 use Rattle.bus_trace.specs.LineSet.{LineSet}
 use Rattle.bus_trace.specs.declared.Row.{Row}
 use Rattle.bus_trace.specs.declared.changes.Change.{Change}
@@ -10,12 +9,7 @@ use Rattle.bus_trace.specs.Terms.{receiver_in}
 use Rattle.bus_trace.specs.Phases.{changes_phase, is_command, is_message_out, is_message_in}
 use Rattle.bus_lines.specs.Handshakes.{Handshakes, handshakes_after}
 use Rattle.bus_phases.specs.declared.dialogue.Dialogue.{Dialogue}
-use Rattle.bus_phases.specs.Dialogue.{opened, dialogue_after, byte_out, byte_in, byte_else, byte_crosses, heard_with_command, phase_begins}
-use Rattle.bus_phases.specs.Reading.{reading_out}
-use Rattle.bus_rules.specs.Messages.{is_opening}
-use Rattle.msg_grammar.specs.declared.message.MsgIn.{MsgIn}
-use Rattle.msg_grammar.specs.declared.message.MsgIn.TheVariants as to_initiator
-use Rattle.msg_grammar.specs.Messages.{form_in, got_in, got_out}
+use Rattle.bus_phases.specs.Dialogue.{opened, dialogue_after, byte_out, byte_in, byte_crosses, heard_with_command, phase_begins}
 use Rattle.scenario.specs.Value.{ScenarioValue}
 use Rattle.bus_story.specs.PairAgreements.{agreement_in}
 use Rattle.bus_story.specs.BusState.{row_reading}
@@ -23,7 +17,7 @@ use Rattle.bus_story.specs.Items.{Item}
 use Rattle.bus_story.specs.TraceHistory.{aim_of}
 use Rattle.bus_dialogue.specs.declared.exchange.Leaving.{Leaving}
 use Rattle.bus_dialogue.specs.declared.exchange.Hearing.{Hearing}
-use Rattle.bus_dialogue.specs.Exchange.{Speech, Exchange, speech_of, no_messages, bytes_of_messages, message_bytes, struck_plan}
+use Rattle.bus_dialogue.specs.Exchange.{Speech, Exchange, speech_of, no_messages, struck_plan}
 use Rattle.bus_dialogue.specs.Planning.{first_plan}
 use Rattle.bus_dialogue.specs.Speaking.{words_after}
 use Rattle.bus_dialogue.specs.Wants.{Ready}
@@ -35,11 +29,11 @@ use Rattle.bus_due.specs.RunSteps.{run_state_after, first_exchange, exchange_aft
 use Rattle.bus_due.specs.Sights.{hearing_of, leaving}
 use Rattle.bus_due.specs.Wants.{ready_of}
 use Rattle.scsi_device.specs.Lines.{AreUnits}
-use Rattle.bus_books.specs.FirstBytes.{OpensConnection, IsUnopened, before_all, in_opening, in_names, OpensBy, Opens}
+use Rattle.bus_books.specs.FirstBytes.{IsUnopened, before_all, in_opening, in_names, OpensBy, Opens}
 use Rattle.bus_books.specs.Hearing.{LeavesWhole}
-use Rattle.bus_books.specs.Items.{IsItem, AimsAreItems}
-use Rattle.bus_books.specs.Rows.{RowKind, still, strikes, crosses, turns, IsRowIn, reading_in}
-use Rattle.bus_books.specs.Traces.{IsReadyFor, IsAimedAt, Begins, GoesOn}
+use Rattle.bus_books.specs.Items.{AimsAreItems}
+use Rattle.bus_books.specs.Rows.{RowKind, still, strikes, crosses, turns, reading_in}
+use Rattle.bus_books.specs.Traces.{Begins, GoesOn}
 use Rattle.bus_books.proofs.FirstWords.{opening_is}
 use Rattle.bus_books.proofs.Given.{first_requests}
 use Rattle.bus_books.proofs.Gives.{requests_stay, struck_same, in_io}
@@ -140,8 +134,10 @@ opens_turn s k n c w l h' ew ec leaves first g z = go (g z)
     by true true e = absurd (true≢false e)
     by true false e = refl
     by false r e = refl
+
     still_spoken : k.exchange.begun ≡ false → (exchange_by true false false (host_of s n.initiator) w l k.exchange).speech ≡ record k.exchange.speech { place = 0 }
     still_spoken b = by (is_message_out w.change.after) w.begun (ew ∙ b)
+
     go : IsUnopened n k.exchange k.story.bus_state.dialogue k.handshakes (bus_of k) → IsUnopened n (exchange_by true false false (host_of s n.initiator) w l k.exchange) (phase_begins k.story.bus_state.dialogue) h' c.after
     go (before_all r b o) =
         let spoken : (exchange_by true false false (host_of s n.initiator) w l k.exchange).speech ≡ record k.exchange.speech { place = 0 } = still_spoken b in
@@ -154,14 +150,17 @@ opens_on s k row n c g h = go g.row_is.kind
   where
     was : OpensBy n k.exchange k.story.bus_state.dialogue k.handshakes c.before
     was = subst (λ (z : LineSet). OpensBy n k.exchange k.story.bus_state.dialogue k.handshakes z) g.row_is.bus_is h
+
     to : (phase now fault : Bool) → InConnection s k row n c phase now fault
         → OpensBy n (exchange_by phase now fault (host_of s n.initiator) (hearing_of k row (reading_in k.story.bus_state n c now)) (leaving s k n.target) k.exchange) (dialogue_by phase now c k.story.bus_state.dialogue) (run_state_after s k row).handshakes c.after
         → Opens (run_state_after s k row) n
     to phase now fault i =
         opens_as n (run_state_after s k row).exchange (exchange_by phase now fault (host_of s n.initiator) (hearing_of k row (reading_in k.story.bus_state n c now)) (leaving s k n.target) k.exchange)
         (run_state_after s k row).story.bus_state.dialogue (dialogue_by phase now c k.story.bus_state.dialogue) (run_state_after s k row).handshakes (bus_of (run_state_after s k row)) c.after i.exchange_is i.dialogue_is i.bus_is
+
     none_crosses : receiver_in n c ≡ None → is_some (receiver_in n c) ≡ false
     none_crosses e = ap (λ (z : Option ℕ). is_some z) e
+
     go : RowKind row n c → Opens (run_state_after s k row) n
     go (still ef ep er) =
         let i = in_connection s k row n c false false false g.row_is ep (none_crosses er) ef in

@@ -133,8 +133,10 @@ opened_row s k row n c g h er eb = go (h.opens n g.row_is.connection_is g.calm e
   where
     con : k.story.bus_state.connection ≡ Some n
     con = g.row_is.connection_is
+
     now : (row_reading k.story.bus_state row).crosses ≡ true
     now = (λ i. is_some (receiver_of (g.row_is.connection_is i) (g.row_is.change_is i))) ∙ er
+
     go : IsUnopened n k.exchange k.story.bus_state.dialogue k.handshakes (bus_of k) → (is_opening (reading_of k.story.bus_state.dialogue.half (Some n) c) && same_bool n.reselected c.before.io) ≡ true
     go (before_all r b o) = absurd (true≢false (sym (g.begun now) ∙ b))
     go (in_opening r b p q last o) =
@@ -213,13 +215,16 @@ bsy_stands (row ∷ rows) n e = go (connection rows) refl
   where
     none_some : (x : Connection) → (let a : Option Connection = None in a) ≡ Some x → ⊥
     none_some x z = cc
+
     kept : (q : Bool) (x : Option Connection) → (if q then x else None) ≡ Some n → q ≡ true
     kept true x z = refl
     kept false x z = absurd (none_some n z)
+
     made : (f b r : Bool) (x : Option Connection) → (if f && b && not r then x else None) ≡ Some n → b ≡ true
     made true true r x z = refl
     made true false r x z = absurd (none_some n z)
     made false b r x z = absurd (none_some n z)
+
     go : (m : Option Connection) → connection rows ≡ m → (bus (row ∷ rows)).bsy ≡ true
     go None f = made (falls (change_of rows row).before.sel (change_of rows row).after.sel) (change_of rows row).after.bsy (change_of rows row).after.rst (connection_of (call rows) row.time) (sym (ap (λ (x : Option Connection). connection_after x (call rows) (change_of rows row) row) f) ∙ e)
     go (Some m) f = kept (change_of rows row).after.bsy (Some m) (sym (ap (λ (x : Option Connection). connection_after x (call rows) (change_of rows row) row) f) ∙ e)

@@ -256,6 +256,7 @@ leaves_by s k n g lines h message named group = record {
     out_lines false true false z = absurd (true≢false (sym z))
     out_lines false false true z = absurd (true≢false (sym z))
     out_lines false false false z = absurd (true≢false (sym z))
+
     command_lines : (m d i : Bool) → is_command_phase (if m then (if i then phases.MessageIn else phases.MessageOut) else if d then (if i then phases.Status else phases.Command) else if i then phases.DataIn else phases.DataOut) ≡ true → (not m && d && not i) ≡ true
     command_lines true d true z = absurd (true≢false (sym z))
     command_lines true d false z = absurd (true≢false (sym z))

@@ -1,6 +1,6 @@
 -- Until a byte has crossed in a connection, the next one begins an IDENTIFY: the opening of the initiator after a selection, the names
 -- of the target after a reselection (6.1.3, 6.1.4, 6.6.7).
-use Rattle.std.specs.Prelude.{ℕ, ◌≡◌, ◌<◌, Bool, true, false, List, [], ◌∷◌, Option, Some}
+use Rattle.std.specs.Prelude.{ℕ, ◌≡◌, ◌<◌, true, false, List, [], ◌∷◌, Some}
 use Rattle.bus_trace.specs.LineSet.{LineSet}
 use Rattle.bus_trace.specs.declared.connection.Connection.{Connection}
 use Rattle.bus_trace.specs.Phases.{is_message_out, is_message_in}

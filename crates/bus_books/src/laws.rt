@@ -158,9 +158,10 @@ pub fn books_hold_after_all_rows()
 
 /// What the rows are asked above is what the two ends are due to do. A byte that the initiator drives when it is due,
 /// with ATN as it is due, is the next of MESSAGE OUT (`says`), and in COMMAND and DATA OUT that at the pointer of the
-/// process (`sends`); a byte of MESSAGE IN that the target drives when it is due is the next of its messages (`gives`).
-/// Where the target leaves a phase as no byte follows, MESSAGE OUT was left after a byte with ATN false (`out`), and
-/// COMMAND struck or with a block of the length of its group (`command`); so every phase is left whole (`leaves`).
+/// process (`sends`); a byte of MESSAGE IN that the target drives when it is due is the next of its messages
+/// (`gives`). Where the target leaves a phase as no byte follows, MESSAGE OUT was left after a byte with ATN false
+/// (`out`), and COMMAND struck or with a block of the length of its group (`command`); so every phase is left whole
+/// (`leaves`).
 pub fn bytes_that_are_due_are_next()
     ensures says { (s : ScenarioValue) (k : RunState) (n : Connection) (c : Change) → bus_of k ≡ c.before
         → IsAnswered s k n c → SaysNext k n c }
@@ -180,15 +181,15 @@ pub fn bytes_that_are_due_are_next()
     ensures leaves { (s : ScenarioValue) (k : RunState) (n : Connection) → Gives k → HasPhase k → IsOver s k n
         → HasMessage k
         → (n.reselected ≡ true → is_out_phase (phase_of (bus_of k)) ≡ false
-            → (is_in_phase (phase_of (bus_of k)) && (bus_of k).atn) ≡ false → is_some (item_of k.story.link) ≡ true)
+        → (is_in_phase (phase_of (bus_of k)) && (bus_of k).atn) ≡ false → is_some (item_of k.story.link) ≡ true)
         → ((p : Process) → process_served s k ≡ Some p → has_group_len p.cdb ≡ true) → LeavesWhole s k n }
 {}
 
-/// So of the rule of messages (6.6) a row of a connection keeps that the first byte after a selection begins an IDENTIFY in
-/// MESSAGE OUT, after a reselection one in MESSAGE IN (`opens`), that no byte of a message phase makes an unknown
-/// message (`known`), and that such a phase is left with no message half sent, but for MESSAGE IN with ATN true (`left`).
-/// Where no request is open as data cross, that is all of the rule (`keeps`); and the last row of a connection keeps it
-/// (`ends`).
+/// So of the rule of messages (6.6) a row of a connection keeps that the first byte after a selection begins an
+/// IDENTIFY in MESSAGE OUT, after a reselection one in MESSAGE IN (`opens`), that no byte of a message phase makes an
+/// unknown message (`known`), and that such a phase is left with no message half sent, but for MESSAGE IN with ATN
+/// true (`left`). Where no request is open as data cross, that is all of the rule (`keeps`); and the last row of a
+/// connection keeps it (`ends`).
 pub fn message_phases_are_whole()
     ensures known { (s : ScenarioValue) (rows : List Row) (row : Row) (n : Connection) (c : Change) → AreOfDevices rows
         → row.dev < 8 → Books s (run_state s rows) → GoesOn s (run_state s rows) row n c
