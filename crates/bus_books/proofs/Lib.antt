@@ -27,3 +27,4 @@ pub mod Reactions
 pub mod Quiet
 pub mod MessageRules
 pub mod FirstBytes
+pub mod ReadyProcesses

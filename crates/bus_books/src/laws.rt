@@ -13,15 +13,16 @@ ghost use Rattle.cdb_codec.specs.Cdb.{has_group_len};
 ghost use Rattle.scenario.specs.Value.{ScenarioValue};
 ghost use Rattle.disk_array.specs.Processes.{Process, process_of};
 ghost use Rattle.bus_story.specs.Items.{Item};
-ghost use Rattle.bus_story.specs.TraceHistory.{aim_of};
+ghost use Rattle.disk_array.specs.SoundArray.{IsSound};
+ghost use Rattle.bus_story.specs.TraceHistory.{aim_of, is_host};
 ghost use Rattle.bus_dialogue.specs.Exchange.{bytes_of_messages};
 ghost use Rattle.bus_dialogue.specs.NextPhase.{phase_of};
 ghost use Rattle.bus_dialogue.specs.Wants.{Ready};
-ghost use Rattle.bus_due.specs.Wants.{ready_of};
+ghost use Rattle.bus_due.specs.Wants.{ready_of, callee};
 ghost use Rattle.bus_trace.specs.Phases.{changes_phase};
 ghost use Rattle.bus_story.specs.BusState.{row_reading};
 ghost use Rattle.bus_due.specs.Faithful.{is_opening_named, is_block_of_process, is_faithful, faithful};
-ghost use Rattle.bus_due.specs.RunState.{RunState, bus_of, item_of, process_here, process_served, carried_here};
+ghost use Rattle.bus_due.specs.RunState.{RunState, array_of, bus_of, item_of, process_here, process_served, carried_here};
 ghost use Rattle.bus_due.specs.RunSteps.{run_state};
 ghost use Rattle.bus_due.specs.Plain.{AreOfDevices};
 ghost use Rattle.scsi_device.specs.Lines.{AreUnits};
@@ -34,7 +35,7 @@ ghost use Rattle.bus_books.specs.Knowing.{Knows, NamesServed};
 ghost use Rattle.bus_books.specs.Hearing.{HasPhase, LeavesWhole, MovesRuns, is_in_phase, is_out_phase};
 ghost use Rattle.bus_books.specs.Reactions.{IsAnswered, IsOffered, IsOver, HasMessage};
 ghost use Rattle.bus_books.specs.RowTests.{is_row_of};
-ghost use Rattle.bus_books.specs.Traces.{RowOf, AreRowsOf, Books, GoesOn, Ends};
+ghost use Rattle.bus_books.specs.Traces.{IsAimedAt, IsReadyFor, RowOf, AreRowsOf, Books, GoesOn, Ends};
 
 /// After any rows, what a device calls for is an item of the scenario: a command of it, the automatic REQUEST SENSE
 /// of one, or an abort.
@@ -205,4 +206,15 @@ pub fn message_phases_are_whole()
         → settles_offers (seen rows row) ≡ true → keeps_messages (seen rows row) ≡ true }
     ensures ends { (s : ScenarioValue) (rows : List Row) (row : Row) (n : Connection) → AreOfDevices rows → row.dev < 8
         → Ends s (run_state s rows) row n → keeps_messages (seen rows row) ≡ true }
+{}
+
+/// A connection is made for the item of its initiator, and its target, where this called the device that it is due to
+/// call (`selects`); and for the process that its target has ready, which is of the scenario and of both ends
+/// (`reselects`).
+pub fn callees_are_the_other_end()
+    ensures selects { (s : ScenarioValue) (k : RunState) (n : Connection) → is_host s.hosts n.initiator ≡ true
+        → callee s k n.initiator (aim_of k.story.aims n.initiator) ≡ Some n.target → IsAimedAt s k n }
+    ensures reselects { (s : ScenarioValue) (k : RunState) (n : Connection) → AreUnits s → IsSound s (array_of s k)
+        → is_host s.hosts n.target ≡ false → callee s k n.target (aim_of k.story.aims n.target) ≡ Some n.initiator
+        → IsReadyFor s k n }
 {}
