@@ -6,7 +6,7 @@ use Rattle.bus_trace.specs.declared.connection.Connection.{Connection}
 use Rattle.scenario.specs.Value.{ScenarioValue}
 use Rattle.bus_story.specs.BusState.{row_reading}
 use Rattle.bus_story.specs.Items.{Item, process, abort}
-use Rattle.bus_story.specs.Links.{Link, link_of}
+use Rattle.bus_story.specs.Links.{link_of}
 use Rattle.bus_story.specs.HistoryEvents.{row_events_by}
 use Rattle.bus_story.specs.Story.{Story}
 use Rattle.bus_story.specs.TraceHistory.{aim_of, story_with_restored, story_with_sent, story_after_connection, story_on_bus, story_by_change}
@@ -52,11 +52,14 @@ knows_first s k row n h = record {
   where
     made : (run_state_after s k row).exchange ≡ first_exchange s k n (aim_of k.story.aims n.initiator)
     made = λ i. exchange_after s k row (row_reading k.story.bus_state row) (h.connection_is i) (h.next_is i) (leaving_of s k k.story.bus_state.connection)
+
     served : (run_state_after s k row).served ≡ (if n.reselected then item_if (ready_of s k n.target) else aim_of k.story.aims n.initiator)
     served = λ i. served_after s k (h.connection_is i) (h.next_is i)
+
     none : (q : Bool) → q ≡ false → OnMessages IsNoName (first_plan q (not q && may_negotiate k n (aim_of k.story.aims n.initiator)) (if q then messages_if (ready_of s k n.target) else no_messages)).messages
     none true e = absurd (true≢false e)
     none false e = (tt, tt)
+
     known : (q : Bool) → n.reselected ≡ q → ((if n.reselected then None else aim_of k.story.aims n.initiator) ≡ (run_state_after s k row).served) ⊎ ((n.reselected ≡ true) × ((if n.reselected then None else aim_of k.story.aims n.initiator) ≡ None))
     known true e = inr (e, ap (λ (q : Bool). if q then None else aim_of k.story.aims n.initiator) e)
     known false e =

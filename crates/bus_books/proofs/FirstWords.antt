@@ -1,5 +1,5 @@
 -- A connection begins: what the initiator says first is what it was made for.
-use Rattle.std.proofs.Common.{ℕ, ◌≡◌, ◌<◌, Bool, true, false, not, ◌&&◌, ◌∙◌, List, [], ◌∷◌, Option, Some, None, refl, sym, ap, subst, true≢false}
+use Rattle.std.proofs.Common.{ℕ, zero, suc, ◌≡◌, ◌<◌, Bool, true, false, not, ◌&&◌, ◌∙◌, List, [], ◌∷◌, Option, Some, None, refl, sym, ap, subst, arith, true≢false}
 use Rattle.std.specs.Prelude.{if◌then◌else◌}
 use Rattle.bus_base.specs.declared.ProcId.{ProcId}
 use Rattle.bus_trace.specs.LineSet.{LineSet}
@@ -7,6 +7,10 @@ use Rattle.bus_trace.specs.declared.Row.{Row}
 use Rattle.bus_trace.specs.declared.connection.Connection.{Connection}
 use Rattle.bus_trace.specs.Phases.{is_message_out}
 use Rattle.bus_phases.specs.declared.dialogue.Dialogue.{Dialogue}
+use Rattle.bus_phases.specs.Reading.{reading_out}
+use Rattle.bus_rules.specs.Messages.{is_opening}
+use Rattle.msg_grammar.specs.declared.message.MsgOut.TheVariants as to_target
+use Rattle.msg_grammar.specs.Messages.{form_out, got_out, out_bytes}
 use Rattle.scenario.specs.declared.value.CmdDef.{CmdDef}
 use Rattle.scenario.specs.declared.value.AbortDef.{AbortDef}
 use Rattle.scenario.specs.Value.{ScenarioValue}
@@ -58,14 +62,36 @@ pub record IsOpening (words : List ℕ) : Type 0 where
   pub rest : List ℕ
   pub some : words ≡ first ∷ rest
   pub whole : form_messages nothing_understood words ≡ true
+  pub opens : is_opening (reading_out (got_out (first ∷ []))) ≡ true
 
-opening_is : (s : ScenarioValue) (dev : ℕ) (negotiates : Bool) (item : Item) → AreUnits s → IsItem s dev item → IsOpening (opening s dev negotiates (Some item))
+-- IDENTIFY may open a connection.
+identify_opens : (disc : Bool) (lun : ℕ) → lun < 8 → is_opening (reading_out (got_out (out_bytes (to_target.Identify disc lun)))) ≡ true
+unfolding form_out
+identify_opens true zero lt = refl
+identify_opens true (suc zero) lt = refl
+identify_opens true (suc (suc zero)) lt = refl
+identify_opens true (suc (suc (suc zero))) lt = refl
+identify_opens true (suc (suc (suc (suc zero)))) lt = refl
+identify_opens true (suc (suc (suc (suc (suc zero))))) lt = refl
+identify_opens true (suc (suc (suc (suc (suc (suc zero)))))) lt = refl
+identify_opens true (suc (suc (suc (suc (suc (suc (suc zero))))))) lt = refl
+identify_opens false zero lt = refl
+identify_opens false (suc zero) lt = refl
+identify_opens false (suc (suc zero)) lt = refl
+identify_opens false (suc (suc (suc zero))) lt = refl
+identify_opens false (suc (suc (suc (suc zero)))) lt = refl
+identify_opens false (suc (suc (suc (suc (suc zero))))) lt = refl
+identify_opens false (suc (suc (suc (suc (suc (suc zero)))))) lt = refl
+identify_opens false (suc (suc (suc (suc (suc (suc (suc zero))))))) lt = refl
+identify_opens disc (suc (suc (suc (suc (suc (suc (suc (suc n)))))))) lt = absurd omega (arith, lt)
+
+pub opening_is : (s : ScenarioValue) (dev : ℕ) (negotiates : Bool) (item : Item) → AreUnits s → IsItem s dev item → IsOpening (opening s dev negotiates (Some item))
 opening_is s dev negotiates _ u (is_process id p e own) =
     subst (λ (x : Option Process). IsOpening (process_opening (host_of s dev) negotiates x)) (sym e)
-    (record { first = _; rest = _; some = refl; whole = opening_reads (host_of s dev) negotiates p (process_unit s id p u e) })
+    (record { first = _; rest = _; some = refl; whole = opening_reads (host_of s dev) negotiates p (process_unit s id p u e); opens = identify_opens (not p.id.sense) p.unit (process_unit s id p u e) })
 opening_is s dev negotiates _ u (is_abort n a e own) =
     subst (λ (x : Option AbortDef). IsOpening (abort_opening x)) (sym e)
-    (record { first = _; rest = _; some = refl; whole = abort_opening_reads a (u.aborts n a e) })
+    (record { first = _; rest = _; some = refl; whole = abort_opening_reads a (u.aborts n a e); opens = identify_opens false a.unit (u.aborts n a e) })
 
 -- ---- the first row
 

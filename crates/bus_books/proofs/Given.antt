@@ -49,6 +49,21 @@ names_fit (Some r) h = (h r refl, tagged r.process.tag)
     tagged (tags.Ordered n) = tt
     tagged (tags.Head n) = tt
 
+answered_requests : (q : Bool) (t : ℕ) (z : Handshakes) → (answered_if q t z).requests ≡ z.requests
+answered_requests true t z = refl
+answered_requests false t z = refl
+
+-- REQ has not risen yet.
+pub first_requests : (s : ScenarioValue) (k : RunState) (row : Row) (n : Connection) → IsFirstRow k row n → (run_state_after s k row).handshakes.requests ≡ 0
+first_requests s k row n h =
+    (λ i. (handshakes_after (h.lines i) (h.next_is i) (row_reading k.story.bus_state row).change row.time k.handshakes).requests)
+    ∙ ap (λ (q : Bool). (if changes_phase (row_reading k.story.bus_state row).change then no_handshakes else answered_if (rises (row_reading k.story.bus_state row).change.before.ack (row_reading k.story.bus_state row).change.after.ack) row.time (asked_if q row.time k.handshakes)).requests) h.asks_none
+    ∙ begun (changes_phase (row_reading k.story.bus_state row).change) (rises (row_reading k.story.bus_state row).change.before.ack (row_reading k.story.bus_state row).change.after.ack)
+  where
+    begun : (q r : Bool) → (if q then no_handshakes else answered_if r row.time k.handshakes).requests ≡ 0
+    begun true r = refl
+    begun false r = answered_requests r row.time k.handshakes ∙ h.none_asked
+
 pub gives_first : (s : ScenarioValue) (k : RunState) (row : Row) (n : Connection) → IsFirstRow k row n → (n.reselected ≡ true → (r : Ready) → ready_of s k n.target ≡ Some r → r.process.unit < 8) → Gives (run_state_after s k row)
 gives_first s k row n h named =
     let d = row_reading k.story.bus_state row in
@@ -59,7 +74,7 @@ gives_first s k row n h named =
     refl
     (record {
       fit = fits n.reselected refl;
-      in_message_in = λ f g. record { before = []; rest = bytes_of_messages (first_exchange s k n (aim_of k.story.aims n.initiator)).plan.messages; bytes_are = refl; count_is = counted; half_is = refl };
+      in_message_in = λ f g. record { before = []; rest = bytes_of_messages (first_exchange s k n (aim_of k.story.aims n.initiator)).plan.messages; bytes_are = refl; count_is = first_requests s k row n h; half_is = refl };
     })
   where
     fits : (q : Bool) → n.reselected ≡ q → OnMessages FitsIn (first_plan n.reselected (not n.reselected && may_negotiate k n (aim_of k.story.aims n.initiator)) (if n.reselected then messages_if (ready_of s k n.target) else no_messages)).messages
@@ -68,20 +83,6 @@ gives_first s k row n h named =
         (names_fit (ready_of s k n.target) (named e))
     fits false e =
         subst (λ (q : Bool). OnMessages FitsIn (first_plan q (not q && may_negotiate k n (aim_of k.story.aims n.initiator)) (if q then messages_if (ready_of s k n.target) else no_messages)).messages) (sym e) (tt, tt)
-
-    answered : (q : Bool) (t : ℕ) (z : Handshakes) → (answered_if q t z).requests ≡ z.requests
-    answered true t z = refl
-    answered false t z = refl
-
-    begun : (q r : Bool) → (if q then no_handshakes else answered_if r row.time k.handshakes).requests ≡ 0
-    begun true r = refl
-    begun false r = answered r row.time k.handshakes ∙ h.none_asked
-
-    counted : (run_state_after s k row).handshakes.requests ≡ 0
-    counted =
-        (λ i. (handshakes_after (h.lines i) (h.next_is i) (row_reading k.story.bus_state row).change row.time k.handshakes).requests)
-        ∙ ap (λ (q : Bool). (if changes_phase (row_reading k.story.bus_state row).change then no_handshakes else answered_if (rises (row_reading k.story.bus_state row).change.before.ack (row_reading k.story.bus_state row).change.after.ack) row.time (asked_if q row.time k.handshakes)).requests) h.asks_none
-        ∙ begun (changes_phase (row_reading k.story.bus_state row).change) (rises (row_reading k.story.bus_state row).change.before.ack (row_reading k.story.bus_state row).change.after.ack)
 
 -- ---- messages
 

@@ -102,7 +102,7 @@ rises_some io false x dev z e f = absurd (none_some dev (sym (ap (λ (r : Bool).
     none_some : (x : ℕ) → (let a : Option ℕ = None in a) ≡ Some x → ⊥
     none_some x e = cc
 
-requests_stay : (n : Connection) (c : Change) (t : ℕ) (h : Handshakes) → changes_phase c ≡ false → c.before.io ≡ true → receiver_in n c ≡ None → (handshakes_on (Some n) c t h).requests ≡ h.requests
+pub requests_stay : (n : Connection) (c : Change) (t : ℕ) (h : Handshakes) → changes_phase c ≡ false → c.before.io ≡ true → receiver_in n c ≡ None → (handshakes_on (Some n) c t h).requests ≡ h.requests
 requests_stay n c t h ep io er =
     (λ i. (if ep i then no_handshakes else answered_if (rises c.before.ack c.after.ack) t (asked_if (rises_none c.before.io (rises c.before.req c.after.req) n.initiator 0 (if rises c.before.ack c.after.ack then Some n.target else None) io er i) t h)).requests)
     ∙ answered_same (rises c.before.ack c.after.ack) t h
@@ -112,7 +112,7 @@ requests_rise n c t dev h ep io er =
     (λ i. (if ep i then no_handshakes else answered_if (rises c.before.ack c.after.ack) t (asked_if (rises_some c.before.io (rises c.before.req c.after.req) n.initiator dev (if rises c.before.ack c.after.ack then Some n.target else None) io er i) t h)).requests)
     ∙ answered_same (rises c.before.ack c.after.ack) t (asked_if true t h)
 
-struck_same : (q : Bool) (h : Handshakes) → (strikes_if q h).requests ≡ h.requests
+pub struck_same : (q : Bool) (h : Handshakes) → (strikes_if q h).requests ≡ h.requests
 struck_same true h = refl
 struck_same false h = refl
 

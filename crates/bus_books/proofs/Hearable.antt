@@ -1,5 +1,5 @@
 -- The initiator hears of a target just the messages that this plans.
-use Rattle.std.proofs.Common.{ℕ, zero, suc, ◌≡◌, ◌<◌, ◌+◌, Bool, true, false, not, ◌&&◌, ◌∙◌, List, [], ◌∷◌, ◌++◌, length, Option, Some, None, refl, sym, ap, subst, arith, append-nil, length-append}
+use Rattle.std.proofs.Common.{ℕ, zero, suc, ◌≡◌, ◌<◌, ◌∙◌, List, [], ◌∷◌, ◌++◌, length, Option, Some, None, sym, ap, subst, arith, append-nil}
 use Rattle.std.specs.Prelude.{slice_index_or, ⊤}
 use Rattle.bus_phases.specs.Half.{left_of}
 use Rattle.msg_grammar.specs.declared.message.MsgIn.{MsgIn}

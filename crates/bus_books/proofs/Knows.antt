@@ -1,11 +1,8 @@
 -- That the initiator knows the process goes on with each row of a connection.
-use Rattle.std.proofs.Common.{ℕ, ◌≡◌, ◌<◌, ◌+◌, ◌⊎◌, inl, inr, Bool, true, false, not, ◌&&◌, ◌∙◌, List, [], ◌∷◌, ◌++◌, Option, Some, None, refl, sym, ap, subst, true≢false}
-use Rattle.std.specs.Prelude.{if◌then◌else◌, is_some, is_none, ◌%◌, ◌==◌, ⊤, nat_lt, ◌-◌, length}
-use Rattle.std.specs.List.{list_any}
-use Rattle.bus_base.specs.declared.ProcId.{ProcId}
+use Rattle.std.proofs.Common.{ℕ, ◌≡◌, ◌⊎◌, inl, inr, Bool, true, false, not, ◌&&◌, ◌∙◌, List, [], ◌∷◌, ◌++◌, Option, Some, None, refl, sym, ap, subst, true≢false}
+use Rattle.std.specs.Prelude.{if◌then◌else◌, is_some, is_none, ◌%◌, nat_lt, ◌-◌, length}
 use Rattle.bus_base.specs.declared.Event.{Event}
 use Rattle.bus_base.specs.declared.Event.TheVariants as events
-use Rattle.bus_trace.specs.LineSet.{LineSet}
 use Rattle.bus_trace.specs.declared.Row.{Row}
 use Rattle.bus_trace.specs.declared.Kind.{Kind}
 use Rattle.bus_trace.specs.declared.Kind.TheVariants.{Drives, Fault}
@@ -16,25 +13,23 @@ use Rattle.bus_trace.specs.Phases.{is_message_out, is_message_in}
 use Rattle.msg_grammar.specs.declared.message.MsgIn.{MsgIn}
 use Rattle.msg_grammar.specs.declared.message.MsgIn.TheVariants as to_initiator
 use Rattle.msg_grammar.specs.declared.message.MsgOut.{MsgOut}
-use Rattle.msg_grammar.specs.Messages.{FitsIn, got_in}
+use Rattle.msg_grammar.specs.Messages.{got_in}
 use Rattle.scenario.specs.declared.value.CmdDef.{CmdDef}
 use Rattle.scenario.specs.Value.{ScenarioValue}
 use Rattle.bus_story.specs.BusState.{RowReading, row_reading, whole_in, message_in}
 use Rattle.bus_story.specs.CarriedBytes.{CarriedBytes}
-use Rattle.bus_story.specs.Items.{Item, process, abort, Sent}
+use Rattle.bus_story.specs.Items.{Item, Sent}
 use Rattle.bus_story.specs.Links.{Link, last_out, last_in, link_after_name}
 use Rattle.bus_story.specs.HistoryEvents.{carried_if, row_events_by}
 use Rattle.bus_story.specs.Story.{Story, by_abort, by_reset, is_aborted, is_sense_stopped, story_with_end, story_after_event, story_after_events}
-use Rattle.bus_story.specs.TraceHistory.{story_with_restored, story_with_carried, is_parity_error, story_after_out, carried_after_message_if, story_after_in, carried_after_byte_if, story_after_byte, carried_after_fault_if, story_after_fault, story_after_crossing, story_in_connection, story_on_bus, story_by_change}
+use Rattle.bus_story.specs.TraceHistory.{story_with_restored, story_with_carried, is_parity_error, story_after_out, carried_after_message_if, story_after_in, carried_after_byte_if, story_after_byte, carried_after_fault_if, story_after_fault, story_in_connection, story_on_bus, story_by_change}
 use Rattle.bus_dialogue.specs.declared.exchange.Messages.{Messages}
 use Rattle.bus_dialogue.specs.declared.exchange.Leaving.{Leaving}
 use Rattle.bus_dialogue.specs.declared.exchange.Hearing.{Hearing}
-use Rattle.bus_dialogue.specs.declared.exchange.Plan.{Plan}
-use Rattle.bus_dialogue.specs.Exchange.{Exchange, message_bytes, from_byte, plan_anew, plan_after_message, struck_plan}
+use Rattle.bus_dialogue.specs.Exchange.{Exchange, message_bytes, from_byte, plan_anew, struck_plan}
 use Rattle.bus_dialogue.specs.Planning.{plan_in_message_out}
 use Rattle.bus_dialogue.specs.Words.{is_name}
 use Rattle.bus_due.specs.RunState.{RunState, bus_of}
-use Rattle.bus_due.specs.Defs.{host_of}
 use Rattle.bus_due.specs.Sights.{hearing_of, leaving, serving_of}
 use Rattle.bus_due.specs.RunSteps.{run_state_after}
 use Rattle.bus_books.specs.Giving.{OnMessage, OnMessages, Gives, GivesNext}
@@ -133,9 +128,11 @@ linked_on s b l d row el = go d.crosses d.out d.into
   where
     same : (after : Story) → after.link ≡ b.link → LinkTo s b after l l.item
     same after e = record { link = l; link_is = e ∙ el; initiator = refl; target = refl; item_is = refl }
+
     by_in : Option MsgIn → Option Item
     by_in None = l.item
     by_in (Some m) = (link_after_name b.sent s.commands l m).item
+
     go : (q : Bool) (o : Option MsgOut) (m : Option MsgIn)
         → LinkTo s b (if q then (if is_some o then story_after_out b l o else if is_some m then story_after_in s b l m else story_after_byte b l d) else story_after_fault b l row.kind) l (item_after s b l (record d { crosses = q; out = o; into = m }))
     go false o m = same (story_after_fault b l row.kind) (fault_link b l row.kind)
@@ -170,6 +167,7 @@ nameless_turn x w l was next = go (is_message_out w.change.after) w.begun
     refused : (q : Bool) → OnMessages IsNoName (if q then from_byte x.plan.messages (w.offered - 1) else x.plan.messages)
     refused true = from_nameless x.plan.messages (w.offered - 1) was
     refused false = was
+
     go : (o b : Bool) → OnMessages IsNoName (if not o then record (plan_anew x.plan) { messages = l.messages; next = l.next } else if b then plan_in_message_out w x.plan else plan_anew x.plan).messages
     go false b = next
     go true true = refused (is_message_in w.change.before)
@@ -192,6 +190,7 @@ heard_nameless k n c m g next eb er h e = go (is_message_in c.before) refl
   where
     none_some : (let a : Option MsgIn = None in a) ≡ Some m → ⊥
     none_some z = cc
+
     go : (q : Bool) → is_message_in c.before ≡ q → is_name m ≡ false
     go false f = absurd (none_some (sym (ap (λ (q : Bool). if q then whole_in (got_in (k.story.bus_state.dialogue.half ++ c.after.data_bits % 256 ∷ [])) else None) f) ∙ e))
     go true f =
@@ -214,10 +213,12 @@ item_on s k row n c true l r er g next names el nameless h = by (reading_in k.st
   where
     reads : (row_reading k.story.bus_state row).into ≡ message_in k.story.bus_state.dialogue c true
     reads = ap (λ (d : RowReading). d.into) (reading_is k row n c true r er)
+
     named : (m : MsgIn) → message_in k.story.bus_state.dialogue c true ≡ Some m → (q t : Bool) → is_name m ≡ q → n.reselected ≡ t → IsKnown n (link_after_name k.story.sent s.commands l m).item k.served
     named m e false t f g2 = known_as n (link_after_name k.story.sent s.commands l m).item l.item k.served (nameless_item k.story.sent s.commands l m f) h
-    named m e true true f g2 = elim (names l m g2 el (reads ∙ e) f) [ | inl z ↦ inl z | inr z ↦ inr (g2, z) ]
+    named m e true true f g2 = elim (names l m g2 el (reads ∙ e) f) [ inl z ↦ inl z | inr z ↦ inr (g2, z) ]
     named m e true false f g2 = absurd (true≢false (sym f ∙ heard_nameless k n c m g next r.bus_is er (nameless g2) e))
+
     by : (o : Option MsgOut) (m : Option MsgIn) → message_in k.story.bus_state.dialogue c true ≡ m → IsKnown n (item_after s k.story l (record (reading_in k.story.bus_state n c true) { out = o; into = m })) k.served
     by (Some o) m e = h
     by None None e = h
@@ -242,8 +243,10 @@ knows_on s k row n c r g next names h = go r.kind
           item_is = subst (λ (x : Option Item). IsKnown n made.link.item x) (sym i.served_is)
               (known_as n made.link.item (item_after s k.story h.link d) k.served made.item_is (item_on s k row n c now h.link r en g next names h.link_is h.nameless h.item_is));
         }
+
     none_crosses : receiver_in n c ≡ None → is_some (receiver_in n c) ≡ false
     none_crosses e = ap (λ (z : Option ℕ). is_some z) e
+
     go : RowKind row n c → Knows s (run_state_after s k row) n
     go (still ef ep er) = to false false false (none_crosses er) (in_connection s k row n c false false false r ep (none_crosses er) ef)
     go (strikes ef ep er) = to false false true (none_crosses er) (in_connection s k row n c false false true r ep (none_crosses er) ef)

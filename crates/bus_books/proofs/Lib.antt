@@ -26,3 +26,5 @@ pub mod RowTies
 pub mod Reactions
 pub mod Quiet
 pub mod MessageRules
+pub mod FirstBytes
+pub mod ReadyProcesses

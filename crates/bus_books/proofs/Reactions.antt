@@ -1,5 +1,5 @@
 -- What the two ends are due to drive is what is next.
-use Rattle.std.proofs.Common.{ℕ, ◌≡◌, ◌<◌, ◌+◌, Bool, true, false, not, ◌&&◌, ◌||◌, ◌∙◌, List, [], ◌∷◌, length, Option, Some, None, refl, sym, ap, arith, true≢false}
+use Rattle.std.proofs.Common.{ℕ, ◌≡◌, ◌<◌, Bool, true, false, not, ◌&&◌, ◌||◌, ◌∙◌, length, Some, refl, sym, ap, arith, true≢false, ◌≤◌, ◌++◌, [], ◌∷◌, List, Option, None, length-append, suc}
 use Rattle.std.specs.Prelude.{if◌then◌else◌, is_some, ◌==◌, ◌%◌, nat_lt, slice_index_or}
 use Rattle.std.proofs.lemmas.Bool.Decides.{nat_tests}
 use Rattle.bus_trace.specs.LineSet.{LineSet}
@@ -12,25 +12,31 @@ use Rattle.scenario.specs.Value.{ScenarioValue}
 use Rattle.disk_array.specs.Processes.{Process}
 use Rattle.bus_dialogue.specs.declared.exchange.Phase.{Phase}
 use Rattle.bus_dialogue.specs.declared.exchange.Phase.TheVariants as phases
-use Rattle.bus_dialogue.specs.Exchange.{next_word, bytes_of_messages}
-use Rattle.bus_dialogue.specs.Ends.{is_pulsed_phase, follows_by}
+use Rattle.bus_dialogue.specs.Exchange.{next_word, bytes_of_messages, message_bytes}
+use Rattle.bus_dialogue.specs.Ends.{follows_by}
 use Rattle.bus_dialogue.specs.NextPhase.{phase_of}
-use Rattle.bus_dialogue.specs.PhaseBytes.{phase_byte, run_length_if, has_whole_block, follows_in}
+use Rattle.bus_dialogue.specs.PhaseBytes.{phase_byte, has_whole_block, follows_in}
 use Rattle.bus_dialogue.specs.Sending.{Sending, byte_to_send}
-use Rattle.bus_due.specs.RunState.{RunState, bus_of, process_here, process_served, carried_here}
-use Rattle.bus_due.specs.Sights.{serving_of, offering_of, answering_of, pace_of, sending_by, sending_of}
-use Rattle.bus_due.specs.Tasks.{task_if, task_of}
-use Rattle.bus_books.specs.Giving.{GivesNext}
-use Rattle.bus_books.specs.Reactions.{IsAnswered, IsOffered, IsOver}
+use Rattle.bus_due.specs.RunState.{RunState, bus_of, process_here, process_served, carried_here, item_of}
+use Rattle.bus_due.specs.Sights.{serving_of, sending_by, sending_of}
+use Rattle.bus_due.specs.Tasks.{task_if}
+use Rattle.msg_grammar.specs.declared.message.MsgIn.{MsgIn}
+use Rattle.msg_grammar.specs.declared.message.MsgIn.TheVariants as to_initiator
+use Rattle.msg_grammar.specs.Messages.{in_bytes}
+use Rattle.bus_dialogue.specs.declared.exchange.Messages.{Messages}
+use Rattle.bus_books.specs.Hearing.{is_in_phase, is_out_phase, HasPhase, LeavesWhole}
+use Rattle.bus_books.specs.Giving.{GivesNext, Gives}
+use Rattle.bus_books.specs.Reactions.{IsAnswered, IsOffered, IsOver, HasMessage, is_command_phase}
 use Rattle.bus_books.specs.Speaking.{SaysNext}
-use Rattle.bus_books.proofs.Lookups.{first_is, second_is}
+use Rattle.bus_books.proofs.Lookups.{second_is}
 
 -- ---- the initiator
 
 pub answers_next : (s : ScenarioValue) (k : RunState) (n : Connection) (c : Change) → bus_of k ≡ c.before → IsAnswered s k n c → SaysNext k n c
-answers_next s k n c eb h eo er =
-    (h.byte_is (io c.before.msg c.before.cd c.before.io eo) er ∙ ap (λ (b : LineSet). byte_to_send b k.exchange.speech (sending_of s k)) eb ∙ ap (λ (q : Bool). if q then next_word k.exchange.speech else if is_command c.before then slice_index_or (sending_of s k).cdb (sending_of s k).command 0 else slice_index_or (sending_of s k).sent (sending_of s k).moved 0) eo,
-        h.attends_is eo er)
+answers_next s k n c eb h eo er = (
+  h.byte_is (io c.before.msg c.before.cd c.before.io eo) er ∙ ap (λ (b : LineSet). byte_to_send b k.exchange.speech (sending_of s k)) eb ∙ ap (λ (q : Bool). if q then next_word k.exchange.speech else if is_command c.before then slice_index_or (sending_of s k).cdb (sending_of s k).command 0 else slice_index_or (sending_of s k).sent (sending_of s k).moved 0) eo,
+  h.attends_is eo er,
+)
   where
     io : (m d i : Bool) → (m && d && not i) ≡ true → i ≡ false
     io true true true e = sym e
@@ -49,11 +55,13 @@ answers_own s k n c p eb h ep er ei =
   where
     o : Sending
     o = sending_by k (Some p)
+
     by : (m d i : Bool) → (not m && d && not i) ≡ true → (if m && d && not i then next_word k.exchange.speech else if not m && d && not i then slice_index_or p.cdb (carried_here k p.id).command.active 0 else slice_index_or p.sent (carried_here k p.id).moved.active 0) ≡ slice_index_or p.cdb (carried_here k p.id).command.active 0
     by true d i e = absurd (true≢false (sym e))
     by false true true e = absurd (true≢false (sym e))
     by false true false e = refl
     by false false i e = absurd (true≢false (sym e))
+
     of_data : (m d i : Bool) → (not m && not d) ≡ true → (if m && d && not i then next_word k.exchange.speech else if not m && d && not i then slice_index_or p.cdb (carried_here k p.id).command.active 0 else slice_index_or p.sent (carried_here k p.id).moved.active 0) ≡ slice_index_or p.sent (carried_here k p.id).moved.active 0
     of_data true d i e = absurd (true≢false (sym e))
     of_data false true i e = absurd (true≢false (sym e))
@@ -90,10 +98,11 @@ offers_next s k n c eb h ei er =
     let follows : follows_in (serving_of s k n.target) k.handshakes (bus_of k).atn phases.MessageIn ≡ true =
     sym (ap (λ (q : Bool). follows_by (serving_of s k n.target) q (bus_of k) k.handshakes) (in_unpulsed k.exchange.begun _ (bus_of k) here)
     ∙ ap (follows_in (serving_of s k n.target) k.handshakes (bus_of k).atn) phase)
-    ∙ h.follows ei er in
-    (h.byte_is ei er ∙ ap (λ (f : Phase). phase_byte (serving_of s k n.target) f k.exchange.plan.messages 0 k.handshakes.requests) phase,
-        lt_is k.handshakes.requests (length bytes) (second_is (k.handshakes.requests == 0 || not (bus_of k).atn) (nat_lt k.handshakes.requests (length bytes)) follows),
-        h.begun ei er)
+    ∙ h.follows ei er in (
+      h.byte_is ei er ∙ ap (λ (f : Phase). phase_byte (serving_of s k n.target) f k.exchange.plan.messages 0 k.handshakes.requests) phase,
+      lt_is k.handshakes.requests (length bytes) (second_is (k.handshakes.requests == 0 || not (bus_of k).atn) (nat_lt k.handshakes.requests (length bytes)) follows),
+      h.begun ei er,
+    )
 
 -- ---- a phase is left
 
@@ -121,9 +130,11 @@ out_over s k n eo h =
     flip : (q : Bool) → not q ≡ false → q ≡ true
     flip true e = refl
     flip false e = absurd (true≢false e)
+
     data_none : (m d i : Bool) → (m && d && not i) ≡ true → (not m && not d) ≡ false
     data_none true d i e = refl
     data_none false d i e = absurd (true≢false (sym e))
+
     out_phase : (m d i : Bool) → (m && d && not i) ≡ true → (if m then (if i then phases.MessageIn else phases.MessageOut) else if d then (if i then phases.Status else phases.Command) else if i then phases.DataIn else phases.DataOut) ≡ phases.MessageOut
     out_phase true true true e = absurd (true≢false (sym e))
     out_phase true true false e = refl
@@ -139,12 +150,117 @@ command_over s k n p ec h ep es =
     flip : (q : Bool) → not q ≡ false → q ≡ true
     flip true e = refl
     flip false e = absurd (true≢false e)
+
     data_none : (m d i : Bool) → (not m && d && not i) ≡ true → (not m && not d) ≡ false
     data_none true d i e = refl
     data_none false true i e = refl
     data_none false false i e = absurd (true≢false (sym e))
+
     command_phase : (m d i : Bool) → (not m && d && not i) ≡ true → (if m then (if i then phases.MessageIn else phases.MessageOut) else if d then (if i then phases.Status else phases.Command) else if i then phases.DataIn else phases.DataOut) ≡ phases.Command
     command_phase true d i e = absurd (true≢false (sym e))
     command_phase false true true e = absurd (true≢false (sym e))
     command_phase false true false e = refl
     command_phase false false i e = absurd (true≢false (sym e))
+
+-- MESSAGE IN was left after all its bytes, or after one with ATN true.
+in_over : (s : ScenarioValue) (k : RunState) (n : Connection) → phase_of (bus_of k) ≡ phases.MessageIn → IsOver s k n → ((k.handshakes.requests == 0 || not (bus_of k).atn) && nat_lt k.handshakes.requests (length (bytes_of_messages k.exchange.plan.messages))) ≡ false
+in_over s k n e h = over_in s k n phases.MessageIn (data_none (bus_of k).msg (bus_of k).cd (bus_of k).io (ap is_in_phase e)) e h
+  where
+    data_none : (m d i : Bool) → is_in_phase (if m then (if i then phases.MessageIn else phases.MessageOut) else if d then (if i then phases.Status else phases.Command) else if i then phases.DataIn else phases.DataOut) ≡ true → (not m && not d) ≡ false
+    data_none true d i z = refl
+    data_none false true i z = refl
+    data_none false false true z = absurd (true≢false (sym z))
+    data_none false false false z = absurd (true≢false (sym z))
+
+all_given : (q a l : Bool) → ((q || not a) && l) ≡ false → a ≡ false → l ≡ false
+all_given true a l e f = e
+all_given false true l e f = absurd (true≢false f)
+all_given false false l e f = e
+
+one_given : (q a l : Bool) → ((q || not a) && l) ≡ false → l ≡ true → q ≡ false
+one_given true a l e f = absurd (true≢false (sym f ∙ e))
+one_given false a l e f = refl
+
+at_end : (n m : ℕ) → n ≤ m → nat_lt n m ≡ false → n ≡ m
+at_end n m h e = grind (arith, nat_tests)
+
+some_bytes : (m : MsgIn) → nat_lt 0 (length (in_bytes m)) ≡ true
+some_bytes to_initiator.CommandComplete = refl
+some_bytes to_initiator.SavePointer = refl
+some_bytes to_initiator.RestorePointers = refl
+some_bytes to_initiator.Disconnect = refl
+some_bytes (to_initiator.Identify lun) = refl
+some_bytes (to_initiator.SimpleTag tag) = refl
+some_bytes (to_initiator.Sdtr offer) = refl
+some_bytes to_initiator.Reject = refl
+
+some_more : (n : ℕ) → nat_lt 0 (suc n) ≡ true
+some_more n = grind (arith, nat_tests)
+
+more_bytes : (xs ys : List ℕ) → nat_lt 0 (length xs) ≡ true → nat_lt 0 (length (xs ++ ys)) ≡ true
+more_bytes [] ys e = absurd (true≢false (sym e))
+more_bytes (x ∷ xs) ys e = some_more (length (xs ++ ys))
+
+messages_some : (m : Messages) → is_some m.first ≡ true → nat_lt 0 (length (bytes_of_messages m)) ≡ true
+messages_some m e = go m.first e
+  where
+    go : (f : Option MsgIn) → is_some f ≡ true → nat_lt 0 (length (message_bytes f ++ message_bytes m.second)) ≡ true
+    go None z = absurd (true≢false (sym z))
+    go (Some x) z = more_bytes (in_bytes x) (message_bytes m.second) (some_bytes x)
+
+zero_is : (n : ℕ) → (n == 0) ≡ true → n ≡ 0
+zero_is n e = grind (arith, nat_tests)
+
+in_some : (s : ScenarioValue) (k : RunState) (n : Connection) → phase_of (bus_of k) ≡ phases.MessageIn → is_some k.exchange.plan.messages.first ≡ true → IsOver s k n → (k.handshakes.requests == 0) ≡ false
+in_some s k n e em h = go (k.handshakes.requests == 0) refl
+  where
+    go : (q : Bool) → (k.handshakes.requests == 0) ≡ q → (k.handshakes.requests == 0) ≡ false
+    go false f = f
+    go true f =
+        one_given (k.handshakes.requests == 0) (bus_of k).atn (nat_lt k.handshakes.requests (length (bytes_of_messages k.exchange.plan.messages))) (in_over s k n e h)
+        (ap (λ (x : ℕ). nat_lt x (length (bytes_of_messages k.exchange.plan.messages))) (zero_is k.handshakes.requests f) ∙ messages_some k.exchange.plan.messages em)
+
+in_given : (s : ScenarioValue) (k : RunState) (n : Connection) → Gives k → HasPhase k → phase_of (bus_of k) ≡ phases.MessageIn → IsOver s k n → (bus_of k).atn ≡ false → k.handshakes.requests ≡ length (bytes_of_messages k.exchange.plan.messages)
+in_given s k n g p e h a =
+    let msg = in_lines (bus_of k).msg (bus_of k).cd (bus_of k).io (ap is_in_phase e) in
+    let lines = p msg.0 in
+    let w = g.in_message_in lines.1 ((λ i. msg.0 i && lines.0 i && msg.1 i)) in
+    let all = ap (λ (x : List ℕ). length x) w.bytes_are in
+    let two = length-append w.before w.rest in
+    let count = w.count_is in
+    at_end k.handshakes.requests (length (bytes_of_messages k.exchange.plan.messages)) (omega arith)
+    (all_given (k.handshakes.requests == 0) (bus_of k).atn (nat_lt k.handshakes.requests (length (bytes_of_messages k.exchange.plan.messages))) (in_over s k n e h) a)
+  where
+    in_lines : (m d i : Bool) → is_in_phase (if m then (if i then phases.MessageIn else phases.MessageOut) else if d then (if i then phases.Status else phases.Command) else if i then phases.DataIn else phases.DataOut) ≡ true → (m ≡ true) × (i ≡ true)
+    in_lines true d true z = (refl, refl)
+    in_lines true d false z = absurd (true≢false (sym z))
+    in_lines false true true z = absurd (true≢false (sym z))
+    in_lines false true false z = absurd (true≢false (sym z))
+    in_lines false false true z = absurd (true≢false (sym z))
+    in_lines false false false z = absurd (true≢false (sym z))
+
+-- A phase that the target leaves as no byte follows is left whole.
+pub leaves_by : (s : ScenarioValue) (k : RunState) (n : Connection) → Gives k → HasPhase k → IsOver s k n → HasMessage k → (n.reselected ≡ true → is_out_phase (phase_of (bus_of k)) ≡ false → (is_in_phase (phase_of (bus_of k)) && (bus_of k).atn) ≡ false → is_some (item_of k.story.link) ≡ true) → ((p : Process) → process_served s k ≡ Some p → has_group_len p.cdb ≡ true) → LeavesWhole s k n
+leaves_by s k n g lines h message named group = record {
+  out = λ e. let w = out_lines (bus_of k).msg (bus_of k).cd (bus_of k).io (ap is_out_phase e) in out_over s k n ((λ i. w.0 i && (lines w.0).0 i && not (w.1 i))) h;
+  some = λ e. in_some s k n e (message e) h;
+  given = λ e a. in_given s k n g lines e h a;
+  command = λ p ep e. (group p ep, λ z. command_over s k n p (command_lines (bus_of k).msg (bus_of k).cd (bus_of k).io (ap is_command_phase e)) h ep z);
+  named = named;
+}
+  where
+    out_lines : (m d i : Bool) → is_out_phase (if m then (if i then phases.MessageIn else phases.MessageOut) else if d then (if i then phases.Status else phases.Command) else if i then phases.DataIn else phases.DataOut) ≡ true → (m ≡ true) × (i ≡ false)
+    out_lines true d false z = (refl, refl)
+    out_lines true d true z = absurd (true≢false (sym z))
+    out_lines false true true z = absurd (true≢false (sym z))
+    out_lines false true false z = absurd (true≢false (sym z))
+    out_lines false false true z = absurd (true≢false (sym z))
+    out_lines false false false z = absurd (true≢false (sym z))
+
+    command_lines : (m d i : Bool) → is_command_phase (if m then (if i then phases.MessageIn else phases.MessageOut) else if d then (if i then phases.Status else phases.Command) else if i then phases.DataIn else phases.DataOut) ≡ true → (not m && d && not i) ≡ true
+    command_lines true d true z = absurd (true≢false (sym z))
+    command_lines true d false z = absurd (true≢false (sym z))
+    command_lines false true true z = absurd (true≢false (sym z))
+    command_lines false true false z = refl
+    command_lines false false true z = absurd (true≢false (sym z))
+    command_lines false false false z = absurd (true≢false (sym z))

@@ -1,9 +1,8 @@
 -- The tests of a row say what they are called for.
-use Rattle.std.proofs.Common.{ℕ, ◌≡◌, ◌<◌, ◌+◌, ◌⊎◌, inl, inr, Bool, true, false, not, ◌&&◌, ◌||◌, ◌∙◌, List, [], ◌∷◌, length, Option, Some, None, refl, sym, ap, arith, true≢false}
+use Rattle.std.proofs.Common.{ℕ, ◌≡◌, ◌<◌, ◌+◌, ◌⊎◌, inl, inr, Bool, true, false, not, ◌&&◌, ◌||◌, ◌∙◌, length, Option, Some, None, refl, sym, ap, arith, true≢false}
 use Rattle.std.specs.Prelude.{if◌then◌else◌, is_some, is_none, ◌==◌, ◌%◌, nat_lt, slice_index_or}
 use Rattle.std.proofs.lemmas.Bool.Decides.{nat_tests}
 use Rattle.bus_base.specs.declared.ProcId.{ProcId}
-use Rattle.bus_trace.specs.LineSet.{LineSet}
 use Rattle.bus_trace.specs.declared.Row.{Row}
 use Rattle.bus_trace.specs.declared.changes.Change.{Change}
 use Rattle.bus_trace.specs.declared.connection.Connection.{Connection}
@@ -13,10 +12,10 @@ use Rattle.bus_trace.specs.Phases.{changes_phase, is_command, is_data, is_messag
 use Rattle.cdb_codec.specs.Cdb.{has_group_len}
 use Rattle.msg_grammar.specs.declared.message.MsgIn.{MsgIn}
 use Rattle.scenario.specs.Value.{ScenarioValue}
-use Rattle.disk_array.specs.Processes.{Process, process_of, same_bool, same_id}
-use Rattle.bus_story.specs.BusState.{RowReading, row_reading, message_in}
+use Rattle.disk_array.specs.Processes.{Process, process_of, same_bool}
+use Rattle.bus_story.specs.BusState.{row_reading, message_in}
 use Rattle.bus_story.specs.Items.{Item, process, abort}
-use Rattle.bus_story.specs.Links.{Link, link_after_name}
+use Rattle.bus_story.specs.Links.{link_after_name}
 use Rattle.bus_story.specs.TraceHistory.{aim_of}
 use Rattle.bus_dialogue.specs.declared.exchange.Phase.TheVariants as phases
 use Rattle.bus_dialogue.specs.declared.exchange.Task.{Task}
@@ -27,13 +26,13 @@ use Rattle.bus_dialogue.specs.NextPhase.{phase_of}
 use Rattle.bus_dialogue.specs.Wants.{Ready}
 use Rattle.bus_dialogue.specs.Words.{is_name}
 use Rattle.bus_due.specs.Defs.{target_def_of}
-use Rattle.bus_due.specs.RunState.{RunState, bus_of, item_of, process_item, process_here, process_served, carried_here}
+use Rattle.bus_due.specs.RunState.{RunState, bus_of, item_of, process_here, process_served, carried_here}
 use Rattle.bus_due.specs.Tasks.{is_writing, task_of}
 use Rattle.bus_due.specs.Wants.{ready_of}
-use Rattle.bus_books.specs.Carrying.{SendsNext, SendsOwn}
+use Rattle.bus_books.specs.Carrying.{SendsOwn}
 use Rattle.bus_books.specs.Hearing.{is_in_phase, is_out_phase, HasPhase, LeavesWhole, IsAtRun}
-use Rattle.bus_books.specs.Rows.{RowKind, still, strikes, crosses, turns, IsRowIn, IsFirstRow}
-use Rattle.bus_books.specs.RowTests.{is_of_target, is_aimed_at, is_between, is_ready_for, is_made_for, is_first_row, is_block_whole, is_phase_whole, leaves_whole, has_phase, says_next, gives_next, sends_next, is_at_run, same_item_if, names_served, crosses_well, is_of_kind, is_row_in, is_last_row, is_row_by, is_row_reading, is_row_of}
+use Rattle.bus_books.specs.Rows.{RowKind, still, strikes, crosses, turns}
+use Rattle.bus_books.specs.RowTests.{is_of_target, is_aimed_at, is_between, is_ready_for, is_made_for, is_first_row, is_block_whole, is_phase_whole, leaves_whole, has_phase, says_next, gives_next, sends_next, is_at_run, same_item_if, names_served, crosses_well, is_of_kind, is_row_in, is_last_row, is_row_by, is_row_of}
 use Rattle.bus_books.specs.Traces.{IsReadyFor, IsAimedAt, Begins, GoesOn, Ends, RowOf, apart, begins, goes_on, ends, under_reset}
 use Rattle.bus_books.proofs.Lookups.{first_is, second_is, number_is, is_bool, id_is}
 
@@ -80,7 +79,11 @@ left s k n e =
     let named = second_is (is_phase_whole s k (phase_of (bus_of k))) _ e in
     record {
       out = λ f. sym (ap (is_phase_whole s k) f) ∙ whole;
-      given = λ f a. number_is k.handshakes.requests (length (bytes_of_messages k.exchange.plan.messages)) (or_right (bus_of k).atn _ (sym (ap (is_phase_whole s k) f) ∙ whole) a);
+      some = λ f. not_is (k.handshakes.requests == 0) (first_is (not (k.handshakes.requests == 0)) ((bus_of k).atn || k.handshakes.requests == length (bytes_of_messages k.exchange.plan.messages)) (sym (ap (is_phase_whole s k) f) ∙ whole));
+      given = λ f a.
+          number_is k.handshakes.requests (length (bytes_of_messages k.exchange.plan.messages))
+          (or_right (bus_of k).atn (k.handshakes.requests == length (bytes_of_messages k.exchange.plan.messages))
+          (second_is (not (k.handshakes.requests == 0)) ((bus_of k).atn || k.handshakes.requests == length (bytes_of_messages k.exchange.plan.messages)) (sym (ap (is_phase_whole s k) f) ∙ whole)) a);
       command = λ p ep f.
           let block : is_block_whole k (Some p) ≡ true = sym (ap (is_block_whole k) ep) ∙ sym (ap (is_phase_whole s k) f) ∙ whole in
           (first_is (has_group_len p.cdb) _ block, λ z. or_right k.exchange.plan.struck _ (second_is (has_group_len p.cdb) _ block) z);
@@ -116,6 +119,7 @@ made_ready s k n e = go (ready_of s k n.target) refl
       where
         here : is_ready_for s n (Some r) ≡ true
         here = sym (ap (is_ready_for s n) f) ∙ e
+
         by : (p : Option Process) → process_of s r.process.id ≡ p → IsReadyFor s k n
         by None g = absurd (true≢false (sym (second_is (nat_lt r.process.unit 8) (is_between (process_of s r.process.id) n) here) ∙ ap (λ (x : Option Process). is_between x n) g))
         by (Some p) g =
@@ -133,8 +137,9 @@ made_ready s k n e = go (ready_of s k n.target) refl
 first_row : (s : ScenarioValue) (k : RunState) (row : Row) (n : Connection) → k.story.bus_state.connection ≡ None → (row_reading k.story.bus_state row).next ≡ Some n → (row_reading k.story.bus_state row).change.after.rst ≡ false → is_first_row s k row (row_reading k.story.bus_state row) n ≡ true → Begins s k row n
 first_row s k row n e f r t =
     let d = row_reading k.story.bus_state row in
-    let t4 = first_is (not (is_fault row.kind) && not (is_message_out d.change.after) && k.handshakes.requests == 0 && not (rises d.change.before.req d.change.after.req)) (is_made_for s k n n.reselected) t in
-    let made = second_is (not (is_fault row.kind) && not (is_message_out d.change.after) && k.handshakes.requests == 0 && not (rises d.change.before.req d.change.after.req)) (is_made_for s k n n.reselected) t in
+    let t4 = first_is (not (is_fault row.kind) && not (is_message_out d.change.after) && k.handshakes.requests == 0 && not (rises d.change.before.req d.change.after.req)) (is_made_for s k n n.reselected && (not n.reselected || is_message_in d.change.after)) t in
+    let both = second_is (not (is_fault row.kind) && not (is_message_out d.change.after) && k.handshakes.requests == 0 && not (rises d.change.before.req d.change.after.req)) (is_made_for s k n n.reselected && (not n.reselected || is_message_in d.change.after)) t in
+    let made = first_is (is_made_for s k n n.reselected) (not n.reselected || is_message_in d.change.after) both in
     let t3 = first_is (not (is_fault row.kind) && not (is_message_out d.change.after) && k.handshakes.requests == 0) (not (rises d.change.before.req d.change.after.req)) t4 in
     let t2 = first_is (not (is_fault row.kind) && not (is_message_out d.change.after)) (k.handshakes.requests == 0) t3 in
     record {
@@ -149,6 +154,7 @@ first_row s k row n e f r t =
       };
       selects = λ z. aimed s k n (sym (ap (is_made_for s k n) z) ∙ made);
       reselects = λ z. made_ready s k n (sym (ap (is_made_for s k n) z) ∙ made);
+      names = λ z. implied n.reselected (is_message_in d.change.after) (second_is (is_made_for s k n n.reselected) (not n.reselected || is_message_in d.change.after) both) z;
     }
 
 -- ---- a byte crosses
@@ -162,13 +168,15 @@ sent s k row t p e f =
     let two = second_is (not (is_command c.before) || (v == slice_index_or p.cdb (carried_here k p.id).command.active 0 && nat_lt (carried_here k p.id).command.active (length p.cdb))) _ here in
     record {
       command = λ g.
-          let b = implied (is_command c.before) (v == slice_index_or p.cdb (carried_here k p.id).command.active 0 && nat_lt (carried_here k p.id).command.active (length p.cdb)) one g in
-          (number_is v (slice_index_or p.cdb (carried_here k p.id).command.active 0) (first_is (v == slice_index_or p.cdb (carried_here k p.id).command.active 0) (nat_lt (carried_here k p.id).command.active (length p.cdb)) b),
-              lt_is (carried_here k p.id).command.active (length p.cdb) (second_is (v == slice_index_or p.cdb (carried_here k p.id).command.active 0) (nat_lt (carried_here k p.id).command.active (length p.cdb)) b));
+          let b = implied (is_command c.before) (v == slice_index_or p.cdb (carried_here k p.id).command.active 0 && nat_lt (carried_here k p.id).command.active (length p.cdb)) one g in (
+            number_is v (slice_index_or p.cdb (carried_here k p.id).command.active 0) (first_is (v == slice_index_or p.cdb (carried_here k p.id).command.active 0) (nat_lt (carried_here k p.id).command.active (length p.cdb)) b),
+            lt_is (carried_here k p.id).command.active (length p.cdb) (second_is (v == slice_index_or p.cdb (carried_here k p.id).command.active 0) (nat_lt (carried_here k p.id).command.active (length p.cdb)) b),
+          );
       moved = λ g w.
-          let b = or_right (not (is_data c.before) || not (is_writing p)) (v == slice_index_or p.sent (carried_here k p.id).moved.active 0 && nat_lt (carried_here k p.id).moved.active (length p.sent)) two (λ i. not (g i) || not (w i)) in
-          (number_is v (slice_index_or p.sent (carried_here k p.id).moved.active 0) (first_is (v == slice_index_or p.sent (carried_here k p.id).moved.active 0) (nat_lt (carried_here k p.id).moved.active (length p.sent)) b),
-              lt_is (carried_here k p.id).moved.active (length p.sent) (second_is (v == slice_index_or p.sent (carried_here k p.id).moved.active 0) (nat_lt (carried_here k p.id).moved.active (length p.sent)) b));
+          let b = or_right (not (is_data c.before) || not (is_writing p)) (v == slice_index_or p.sent (carried_here k p.id).moved.active 0 && nat_lt (carried_here k p.id).moved.active (length p.sent)) two (λ i. not (g i) || not (w i)) in (
+            number_is v (slice_index_or p.sent (carried_here k p.id).moved.active 0) (first_is (v == slice_index_or p.sent (carried_here k p.id).moved.active 0) (nat_lt (carried_here k p.id).moved.active (length p.sent)) b),
+            lt_is (carried_here k p.id).moved.active (length p.sent) (second_is (v == slice_index_or p.sent (carried_here k p.id).moved.active 0) (nat_lt (carried_here k p.id).moved.active (length p.sent)) b),
+          );
     }
 
 at_run : (s : ScenarioValue) (k : RunState) (n : Connection) (p : Process) (t : Task) → is_at_run s k n (Some p) (Some t) phases.DataOut ≡ true → IsAtRun s k n p t
@@ -186,6 +194,7 @@ heard_crosses k row m e = go (row_reading k.story.bus_state row).crosses refl
   where
     none_some : (let a : Option MsgIn = None in a) ≡ Some m → ⊥
     none_some z = cc
+
     go : (q : Bool) → (row_reading k.story.bus_state row).crosses ≡ q → (row_reading k.story.bus_state row).crosses ≡ true
     go true f = f
     go false f = absurd (none_some (sym (ap (λ (q : Bool). message_in k.story.bus_state.dialogue (row_reading k.story.bus_state row).change q) f) ∙ e))
@@ -208,17 +217,18 @@ row_in : (s : ScenarioValue) (k : RunState) (row : Row) (n : Connection) → k.s
 row_in s k row n e r t =
     let d = row_reading k.story.bus_state row in
     let c : Change = d.change in
-    let t5 = first_is (c.after.bsy && not (bus_of k).rst && has_phase k && is_of_kind (is_fault row.kind) (changes_phase c) (is_some (receiver_in n c)) && (not d.crosses || crosses_well s k n d)) (not (changes_phase c) || leaves_whole s k n) t in
-    let leaving = second_is (c.after.bsy && not (bus_of k).rst && has_phase k && is_of_kind (is_fault row.kind) (changes_phase c) (is_some (receiver_in n c)) && (not d.crosses || crosses_well s k n d)) (not (changes_phase c) || leaves_whole s k n) t in
+    let t5 = first_is (c.after.bsy && not (bus_of k).rst && has_phase k && is_of_kind (is_fault row.kind) (changes_phase c) (is_some (receiver_in n c)) && (not d.crosses || crosses_well s k n d)) (not (changes_phase c) || (leaves_whole s k n && (k.exchange.begun || is_message_out c.after))) t in
+    let leaving = second_is (c.after.bsy && not (bus_of k).rst && has_phase k && is_of_kind (is_fault row.kind) (changes_phase c) (is_some (receiver_in n c)) && (not d.crosses || crosses_well s k n d)) (not (changes_phase c) || (leaves_whole s k n && (k.exchange.begun || is_message_out c.after))) t in
     let t4 = first_is (c.after.bsy && not (bus_of k).rst && has_phase k && is_of_kind (is_fault row.kind) (changes_phase c) (is_some (receiver_in n c))) (not d.crosses || crosses_well s k n d) t5 in
     let crossing = second_is (c.after.bsy && not (bus_of k).rst && has_phase k && is_of_kind (is_fault row.kind) (changes_phase c) (is_some (receiver_in n c))) (not d.crosses || crosses_well s k n d) t5 in
     let t3 = first_is (c.after.bsy && not (bus_of k).rst && has_phase k) (is_of_kind (is_fault row.kind) (changes_phase c) (is_some (receiver_in n c))) t4 in
     let t2 = first_is (c.after.bsy && not (bus_of k).rst) (has_phase k) t3 in
     let now : d.crosses ≡ is_some (receiver_in n c) = ap (λ (x : Option Connection). is_some (receiver_of x c)) e in
     let well : d.crosses ≡ true → crosses_well s k n d ≡ true = λ z. implied d.crosses (crosses_well s k n d) crossing z in
-    let w4 : d.crosses ≡ true → (says_next k c && gives_next k c && sends_next k c (process_here s k) && is_at_run s k n (process_served s k) (task_of s k) (phase_of (bus_of k))) ≡ true = λ z. first_is _ (names_served s k n k.story.link d.into) (well z) in
-    let w3 : d.crosses ≡ true → (says_next k c && gives_next k c && sends_next k c (process_here s k)) ≡ true = λ z. first_is _ (is_at_run s k n (process_served s k) (task_of s k) (phase_of (bus_of k))) (w4 z) in
-    let w2 : d.crosses ≡ true → (says_next k c && gives_next k c) ≡ true = λ z. first_is _ (sends_next k c (process_here s k)) (w3 z) in
+    let w4 : d.crosses ≡ true → (says_next k c && gives_next k c && k.exchange.begun && sends_next k c (process_here s k) && is_at_run s k n (process_served s k) (task_of s k) (phase_of (bus_of k))) ≡ true = λ z. first_is _ (names_served s k n k.story.link d.into) (well z) in
+    let w3 : d.crosses ≡ true → (says_next k c && gives_next k c && k.exchange.begun && sends_next k c (process_here s k)) ≡ true = λ z. first_is _ (is_at_run s k n (process_served s k) (task_of s k) (phase_of (bus_of k))) (w4 z) in
+    let wb : d.crosses ≡ true → (says_next k c && gives_next k c && k.exchange.begun) ≡ true = λ z. first_is (says_next k c && gives_next k c && k.exchange.begun) (sends_next k c (process_here s k)) (w3 z) in
+    let w2 : d.crosses ≡ true → (says_next k c && gives_next k c) ≡ true = λ z. first_is (says_next k c && gives_next k c) k.exchange.begun (wb z) in
     record {
       row_is = record {
         connection_is = e;
@@ -231,23 +241,27 @@ row_in s k row n e r t =
       calm = not_is (bus_of k).rst (second_is c.after.bsy (not (bus_of k).rst) t2);
       phase = phase_is k (second_is (c.after.bsy && not (bus_of k).rst) (has_phase k) t3);
       says = λ o z.
-          let b = implied (is_message_out c.before) (c.after.data_bits % 256 == next_word k.exchange.speech && same_bool c.after.atn (attends_with k.exchange.speech)) (first_is (says_next k c) (gives_next k c) (w2 (now ∙ z))) o in
-          (number_is (c.after.data_bits % 256) (next_word k.exchange.speech) (first_is (c.after.data_bits % 256 == next_word k.exchange.speech) (same_bool c.after.atn (attends_with k.exchange.speech)) b),
-              is_bool c.after.atn (attends_with k.exchange.speech) (second_is (c.after.data_bits % 256 == next_word k.exchange.speech) (same_bool c.after.atn (attends_with k.exchange.speech)) b));
+          let b = implied (is_message_out c.before) (c.after.data_bits % 256 == next_word k.exchange.speech && same_bool c.after.atn (attends_with k.exchange.speech)) (first_is (says_next k c) (gives_next k c) (w2 (now ∙ z))) o in (
+            number_is (c.after.data_bits % 256) (next_word k.exchange.speech) (first_is (c.after.data_bits % 256 == next_word k.exchange.speech) (same_bool c.after.atn (attends_with k.exchange.speech)) b),
+            is_bool c.after.atn (attends_with k.exchange.speech) (second_is (c.after.data_bits % 256 == next_word k.exchange.speech) (same_bool c.after.atn (attends_with k.exchange.speech)) b),
+          );
       gives = λ o z.
           let count : ℕ = k.handshakes.requests in
           let b = implied (is_message_in c.before) (c.after.data_bits % 256 == slice_index_or (bytes_of_messages k.exchange.plan.messages) count 0 && nat_lt count (length (bytes_of_messages k.exchange.plan.messages)) && k.exchange.begun) (second_is (says_next k c) (gives_next k c) (w2 (now ∙ z))) o in
-          let a = first_is (c.after.data_bits % 256 == slice_index_or (bytes_of_messages k.exchange.plan.messages) count 0 && nat_lt count (length (bytes_of_messages k.exchange.plan.messages))) k.exchange.begun b in
-          (number_is (c.after.data_bits % 256) (slice_index_or (bytes_of_messages k.exchange.plan.messages) count 0) (first_is (c.after.data_bits % 256 == slice_index_or (bytes_of_messages k.exchange.plan.messages) count 0) (nat_lt count (length (bytes_of_messages k.exchange.plan.messages))) a),
-              lt_is count (length (bytes_of_messages k.exchange.plan.messages)) (second_is (c.after.data_bits % 256 == slice_index_or (bytes_of_messages k.exchange.plan.messages) count 0) (nat_lt count (length (bytes_of_messages k.exchange.plan.messages))) a),
-              second_is (c.after.data_bits % 256 == slice_index_or (bytes_of_messages k.exchange.plan.messages) count 0 && nat_lt count (length (bytes_of_messages k.exchange.plan.messages))) k.exchange.begun b);
+          let a = first_is (c.after.data_bits % 256 == slice_index_or (bytes_of_messages k.exchange.plan.messages) count 0 && nat_lt count (length (bytes_of_messages k.exchange.plan.messages))) k.exchange.begun b in (
+            number_is (c.after.data_bits % 256) (slice_index_or (bytes_of_messages k.exchange.plan.messages) count 0) (first_is (c.after.data_bits % 256 == slice_index_or (bytes_of_messages k.exchange.plan.messages) count 0) (nat_lt count (length (bytes_of_messages k.exchange.plan.messages))) a),
+            lt_is count (length (bytes_of_messages k.exchange.plan.messages)) (second_is (c.after.data_bits % 256 == slice_index_or (bytes_of_messages k.exchange.plan.messages) count 0) (nat_lt count (length (bytes_of_messages k.exchange.plan.messages))) a),
+            second_is (c.after.data_bits % 256 == slice_index_or (bytes_of_messages k.exchange.plan.messages) count 0 && nat_lt count (length (bytes_of_messages k.exchange.plan.messages))) k.exchange.begun b,
+          );
       names = λ l m g el em nm.
           let named : names_served s k n (Some l) (Some m) ≡ true = (λ i. names_served s k n (sym el i) (sym em i)) ∙ second_is _ (names_served s k n k.story.link d.into) (well (heard_crosses k row m em)) in
           one_of (link_after_name k.story.sent s.commands l m).item k.served
           (or_right (not n.reselected || not (is_name m)) (same_item_if (link_after_name k.story.sent s.commands l m).item k.served || is_none (link_after_name k.story.sent s.commands l m).item) named (λ i. not (g i) || not (nm i)));
-      sends = sent s k row (λ z. second_is (says_next k c && gives_next k c) (sends_next k c (process_here s k)) (w3 z));
+      sends = sent s k row (λ z. second_is (says_next k c && gives_next k c && k.exchange.begun) (sends_next k c (process_here s k)) (w3 z));
       runs = λ z p u ep eu ef. at_run s k n p u ((λ i. is_at_run s k n (sym ep i) (sym eu i) (sym ef i)) ∙ second_is _ (is_at_run s k n (process_served s k) (task_of s k) (phase_of (bus_of k))) (w4 z));
-      leaves = λ z. left s k n (implied (changes_phase c) (leaves_whole s k n) leaving z);
+      begun = λ z. second_is (says_next k c && gives_next k c) k.exchange.begun (wb z);
+      first = λ z b. or_right k.exchange.begun (is_message_out c.after) (second_is (leaves_whole s k n) (k.exchange.begun || is_message_out c.after) (implied (changes_phase c) (leaves_whole s k n && (k.exchange.begun || is_message_out c.after)) leaving z)) b;
+      leaves = λ z. left s k n (first_is (leaves_whole s k n) (k.exchange.begun || is_message_out c.after) (implied (changes_phase c) (leaves_whole s k n && (k.exchange.begun || is_message_out c.after)) leaving z));
     }
   where
     one_of : (a b : Option Item) → (same_item_if a b || is_none a) ≡ true → (a ≡ b) ⊎ (a ≡ None)
@@ -281,6 +295,7 @@ row_of s k row t = go (row_reading k.story.bus_state row).change.after.rst refl
     by r None (Some n) e f z = begins n (first_row s k row n e f r z)
     by r (Some m) None e f z = ends m (last_row s k row m e f z)
     by r (Some m) (Some n) e f z = goes_on m (row_reading k.story.bus_state row).change (row_in s k row m e r z)
+
     go : (q : Bool) → (row_reading k.story.bus_state row).change.after.rst ≡ q → RowOf s k row
     go true r =
         under_reset r (not_is (row_reading k.story.bus_state row).crosses (sym (ap (λ (q : Bool). if q then not (row_reading k.story.bus_state row).crosses else is_row_by s k row (row_reading k.story.bus_state row) k.story.bus_state.connection (row_reading k.story.bus_state row).next) r) ∙ t))

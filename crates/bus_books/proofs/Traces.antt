@@ -1,8 +1,6 @@
 -- The books hold after every row of a trace, and each tells what was to be said.
 use Rattle.std.proofs.Common.{ℕ, ◌≡◌, ◌<◌, Bool, true, false, not, ◌&&◌, ◌||◌, ◌∙◌, List, [], ◌∷◌, Option, Some, None, refl, sym, ap, subst, true≢false}
 use Rattle.std.specs.Prelude.{if◌then◌else◌, is_some, ◌==◌, ◌%◌}
-use Rattle.bus_base.specs.declared.ProcId.{ProcId}
-use Rattle.bus_trace.specs.LineSet.{LineSet}
 use Rattle.bus_trace.specs.declared.Row.{Row}
 use Rattle.bus_trace.specs.declared.changes.Change.{Change}
 use Rattle.bus_trace.specs.declared.connection.Connection.{Connection}
@@ -10,29 +8,29 @@ use Rattle.bus_trace.specs.Changes.{falls}
 use Rattle.bus_trace.specs.Terms.{connection_of, connection_after, receiver_of}
 use Rattle.bus_trace.specs.Phases.{changes_phase}
 use Rattle.scenario.specs.Value.{ScenarioValue}
-use Rattle.disk_array.specs.Processes.{Process, process_of}
+use Rattle.disk_array.specs.Processes.{Process}
 use Rattle.bus_story.specs.BusState.{row_reading}
-use Rattle.bus_story.specs.Items.{Item, process, abort}
+use Rattle.bus_story.specs.Items.{Item}
 use Rattle.bus_story.specs.TraceHistory.{aim_of}
-use Rattle.bus_dialogue.specs.Exchange.{Exchange}
 use Rattle.bus_dialogue.specs.NextPhase.{phase_of}
 use Rattle.bus_dialogue.specs.Wants.{Ready}
 use Rattle.bus_due.specs.Faithful.{has_ends, is_known_process, is_true_leaving, is_true_crossing, is_true_beginning, is_true_hearing, is_faithful, faithful}
 use Rattle.bus_due.specs.RunState.{RunState, bus_of, process_item, process_served}
-use Rattle.bus_due.specs.RunSteps.{first_run_state, run_state, run_state_after, exchange_after, served_after, item_if, leaving_of}
+use Rattle.bus_due.specs.RunSteps.{run_state, run_state_after, exchange_after, served_after, item_if, leaving_of}
 use Rattle.bus_due.specs.Wants.{ready_of}
 use Rattle.scsi_device.specs.Lines.{AreUnits}
 use Rattle.bus_books.specs.Carrying.{AllCarryOwn, SendsOwn}
+use Rattle.bus_books.specs.FirstBytes.{Opens}
 use Rattle.bus_books.specs.Giving.{Gives, IsQuiet}
 use Rattle.bus_books.specs.Items.{IsItem, is_process, is_abort, AimsAreItems}
 use Rattle.bus_books.specs.Knowing.{Knows}
 use Rattle.bus_books.specs.Rows.{IsRowIn}
 use Rattle.bus_books.specs.Speaking.{Speaks}
-use Rattle.bus_books.specs.Traces.{IsReadyFor, IsAimedAt, Begins, GoesOn, Ends, RowOf, apart, begins, goes_on, ends, under_reset, AreRowsOf, Books}
+use Rattle.bus_books.specs.Traces.{IsReadyFor, Begins, RowOf, apart, begins, goes_on, ends, under_reset, AreRowsOf, Books}
 use Rattle.bus_books.proofs.Aims.{aims_are}
-use Rattle.bus_books.proofs.CarriedBlocks.{process_own}
 use Rattle.bus_books.proofs.CarriedRows.{carry_on, all_carry}
 use Rattle.bus_books.proofs.Faith.{row_is_faithful}
+use Rattle.bus_books.proofs.FirstBytes.{opens_first, opens_on}
 use Rattle.bus_books.proofs.FirstLinks.{knows_first}
 use Rattle.bus_books.proofs.FirstWords.{speaks_first}
 use Rattle.bus_books.proofs.Given.{gives_first}
@@ -77,14 +75,15 @@ unbegun_on s k row h e = go k.story.bus_state.connection refl
 -- ---- the books of a row
 
 -- The connection after the row, with what holds in it.
-books_in : (s : ScenarioValue) (k : RunState) (row : Row) (n : Connection) → AllCarryOwn s (run_state_after s k row) → (row_reading k.story.bus_state row).next ≡ Some n → Speaks s (run_state_after s k row) n → Gives (run_state_after s k row) → Knows s (run_state_after s k row) n → IsQuiet (run_state_after s k row) → Books s (run_state_after s k row)
-books_in s k row n carry e speaks gives knows quiet = record {
+books_in : (s : ScenarioValue) (k : RunState) (row : Row) (n : Connection) → AllCarryOwn s (run_state_after s k row) → (row_reading k.story.bus_state row).next ≡ Some n → Speaks s (run_state_after s k row) n → Gives (run_state_after s k row) → Knows s (run_state_after s k row) n → IsQuiet (run_state_after s k row) → Opens (run_state_after s k row) n → Books s (run_state_after s k row)
+books_in s k row n carry e speaks gives knows quiet opens = record {
   carry = carry;
   unbegun = λ f. absurd (none_some n (sym f ∙ e));
   speaks = λ m f z. subst (λ (x : Connection). Speaks s (run_state_after s k row) x) (same_connection n m (sym e ∙ f)) speaks;
   gives = λ m f z. gives;
   knows = λ m f z. subst (λ (x : Connection). Knows s (run_state_after s k row) x) (same_connection n m (sym e ∙ f)) knows;
   quiet = λ m f z. quiet;
+  opens = λ m f z. subst (λ (x : Connection). Opens (run_state_after s k row) x) (same_connection n m (sym e ∙ f)) opens;
 }
 
 books_apart : (s : ScenarioValue) (k : RunState) (row : Row) → AllCarryOwn s (run_state_after s k row) → (k.story.bus_state.connection ≡ None → k.exchange.begun ≡ false) → (row_reading k.story.bus_state row).next ≡ None → Books s (run_state_after s k row)
@@ -95,6 +94,7 @@ books_apart s k row carry h e = record {
   gives = λ m f z. absurd (none_some m (sym e ∙ f));
   knows = λ m f z. absurd (none_some m (sym e ∙ f));
   quiet = λ m f z. absurd (none_some m (sym e ∙ f));
+  opens = λ m f z. absurd (none_some m (sym e ∙ f));
 }
 
 -- RST ends a connection.
@@ -113,6 +113,7 @@ books_reset s k row carry h r = record {
   gives = λ m f z. absurd (true≢false (sym r ∙ z));
   knows = λ m f z. absurd (true≢false (sym r ∙ z));
   quiet = λ m f z. absurd (true≢false (sym r ∙ z));
+  opens = λ m f z. absurd (true≢false (sym r ∙ z));
 }
 
 ready_unit : (s : ScenarioValue) (k : RunState) (n : Connection) → IsReadyFor s k n → (r : Ready) → ready_of s k n.target ≡ Some r → r.process.unit < 8
@@ -133,6 +134,7 @@ books_on s k row u aims (begins n b) h =
     (gives_first s k row n b.first (λ e. ready_unit s k n (b.reselects e)))
     (knows_first s k row n b.first)
     (quiet_first s k row n b.first)
+    (opens_first s k row n u aims b)
 books_on s k row u aims (goes_on n c g) h =
     let con = g.row_is.connection_is in
     books_in s k row n (carry_on s k row g.sends h.carry) (next_is k row n c g.row_is)
@@ -140,6 +142,7 @@ books_on s k row u aims (goes_on n c g) h =
     (gives_on s k row n c g.row_is g.gives (h.gives n con g.calm))
     (knows_on s k row n c g.row_is (h.gives n con g.calm) g.gives g.names (h.knows n con g.calm))
     (quiet_on s k row n c g.row_is (h.quiet n con g.calm))
+    (opens_on s k row n c g (h.opens n con g.calm))
 books_on s k row u aims (ends n g) h = books_apart s k row (carry_on s k row (sends_none s k row g.carries_none) h.carry) h.unbegun g.next_is
 books_on s k row u aims (under_reset r e) h = books_reset s k row (carry_on s k row (sends_none s k row e) h.carry) h.unbegun r
 
@@ -218,6 +221,7 @@ first_books s carry = record {
   gives = λ m f z. absurd (none_some m f);
   knows = λ m f z. absurd (none_some m f);
   quiet = λ m f z. absurd (none_some m f);
+  opens = λ m f z. absurd (none_some m f);
 }
 
 pub books_are : (s : ScenarioValue) (rows : List Row) → AreUnits s → AreRowsOf s rows → Books s (run_state s rows)

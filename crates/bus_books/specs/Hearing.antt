@@ -1,6 +1,6 @@
 -- What devices are due to do as they leave a phase, and what is still to be proved of the data runs: with these, a row of a
 -- connection tells what was to be said.
-use Rattle.std.specs.Prelude.{ℕ, ◌+◌, ◌≡◌, Bool, true, false, ◌&&◌, is_some, length, Some}
+use Rattle.std.specs.Prelude.{◌+◌, ◌≡◌, Bool, true, false, ◌&&◌, is_some, length, Some, ◌==◌}
 use Rattle.bus_trace.specs.declared.connection.Connection.{Connection}
 use Rattle.cdb_codec.specs.Cdb.{has_group_len}
 use Rattle.scenario.specs.Value.{ScenarioValue}
@@ -28,10 +28,11 @@ is_out_phase _ = false
 abbrev pub HasPhase : RunState → Type 0
 HasPhase k = (bus_of k).msg ≡ true → ((bus_of k).cd ≡ true) × (k.exchange.begun ≡ true)
 
--- The present phase may be left: MESSAGE OUT after a byte with ATN false, MESSAGE IN after all bytes unless ATN is true, COMMAND
+-- The present phase may be left: MESSAGE OUT after a byte with ATN false, MESSAGE IN after all bytes, or one where ATN is true, COMMAND
 -- struck or once the block has the length of its group, and after a reselection any other phase once a name was heard, but MESSAGE IN with ATN true (6.1.6, 6.2.1).
 pub record LeavesWhole (s : ScenarioValue) (k : RunState) (n : Connection) : Type 0 where
   pub out : phase_of (bus_of k) ≡ phases.MessageOut → k.story.bus_state.dialogue.is_last ≡ true
+  pub some : phase_of (bus_of k) ≡ phases.MessageIn → (k.handshakes.requests == 0) ≡ false
   pub given : phase_of (bus_of k) ≡ phases.MessageIn → (bus_of k).atn ≡ false → k.handshakes.requests ≡ length (bytes_of_messages k.exchange.plan.messages)
   pub command : (p : Process) → process_served s k ≡ Some p → phase_of (bus_of k) ≡ phases.Command → (has_group_len p.cdb ≡ true) × (k.exchange.plan.struck ≡ false → has_group_len (carried_here k p.id).block ≡ true)
   pub named : n.reselected ≡ true → is_out_phase (phase_of (bus_of k)) ≡ false → (is_in_phase (phase_of (bus_of k)) && (bus_of k).atn) ≡ false → is_some (item_of k.story.link) ≡ true

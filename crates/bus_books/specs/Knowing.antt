@@ -1,6 +1,6 @@
 -- The initiator of a connection knows the process that the target serves: by its own item after a selection, by its names after a
 -- reselection (6.1.4, 6.6.7, 6.6.17).
-use Rattle.std.specs.Prelude.{◌≡◌, ◌⊎◌, Bool, true, false, Option, Some, None}
+use Rattle.std.specs.Prelude.{◌≡◌, ◌⊎◌, true, false, Some, None}
 use Rattle.bus_trace.specs.declared.Row.{Row}
 use Rattle.bus_trace.specs.declared.connection.Connection.{Connection}
 use Rattle.msg_grammar.specs.declared.message.MsgIn.{MsgIn}

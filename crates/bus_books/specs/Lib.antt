@@ -11,3 +11,4 @@ pub mod Hearing
 pub mod Traces
 pub mod RowTests
 pub mod Reactions
+pub mod FirstBytes

@@ -3,7 +3,7 @@ use Rattle.std.specs.Prelude.{ℕ, ◌+◌, ◌%◌, Bool, true, false, not, ◌
 use Rattle.bus_trace.specs.declared.Row.{Row}
 use Rattle.bus_trace.specs.declared.changes.Change.{Change}
 use Rattle.bus_trace.specs.declared.connection.Connection.{Connection}
-use Rattle.bus_trace.specs.Changes.{rises, implies}
+use Rattle.bus_trace.specs.Changes.{rises}
 use Rattle.bus_trace.specs.Terms.{is_fault, receiver_in}
 use Rattle.bus_trace.specs.Phases.{changes_phase, is_command, is_data, is_message_out, is_message_in}
 use Rattle.cdb_codec.specs.Cdb.{has_group_len}
@@ -56,7 +56,7 @@ is_made_for s k n false = is_aimed_at s n (aim_of k.story.aims n.initiator)
 abbrev pub is_first_row : ScenarioValue → RunState → Row → RowReading → Connection → Bool
 is_first_row s k row d n =
     not (is_fault row.kind) && not (is_message_out d.change.after) && k.handshakes.requests == 0
-    && not (rises d.change.before.req d.change.after.req) && is_made_for s k n n.reselected
+    && not (rises d.change.before.req d.change.after.req) && (is_made_for s k n n.reselected && (not n.reselected || is_message_in d.change.after))
 
 -- ---- a phase is left
 
@@ -67,7 +67,8 @@ is_block_whole k (Some p) = has_group_len p.cdb && (k.exchange.plan.struck || ha
 abbrev pub is_phase_whole : ScenarioValue → RunState → Phase → Bool
 is_phase_whole s k phases.MessageOut = k.story.bus_state.dialogue.is_last
 is_phase_whole s k phases.Command = is_block_whole k (process_served s k)
-is_phase_whole s k phases.MessageIn = (bus_of k).atn || k.handshakes.requests == length (bytes_of_messages k.exchange.plan.messages)
+is_phase_whole s k phases.MessageIn =
+    not (k.handshakes.requests == 0) && ((bus_of k).atn || k.handshakes.requests == length (bytes_of_messages k.exchange.plan.messages))
 is_phase_whole s k _ = true
 
 abbrev pub leaves_whole : ScenarioValue → RunState → Connection → Bool
@@ -119,7 +120,7 @@ names_served s k n l m = true
 
 abbrev pub crosses_well : ScenarioValue → RunState → Connection → RowReading → Bool
 crosses_well s k n d =
-    says_next k d.change && gives_next k d.change && sends_next k d.change (process_here s k)
+    says_next k d.change && gives_next k d.change && k.exchange.begun && sends_next k d.change (process_here s k)
     && is_at_run s k n (process_served s k) (task_of s k) (phase_of (bus_of k)) && names_served s k n k.story.link d.into
 
 -- ---- a row of a connection
@@ -131,7 +132,7 @@ abbrev pub is_row_in : ScenarioValue → RunState → Row → RowReading → Con
 is_row_in s k row d n =
     d.change.after.bsy && not (bus_of k).rst && has_phase k
     && is_of_kind (is_fault row.kind) (changes_phase d.change) (is_some (receiver_in n d.change))
-    && (not d.crosses || crosses_well s k n d) && (not (changes_phase d.change) || leaves_whole s k n)
+    && (not d.crosses || crosses_well s k n d) && (not (changes_phase d.change) || (leaves_whole s k n && (k.exchange.begun || is_message_out d.change.after)))
 
 abbrev pub is_last_row : ScenarioValue → RunState → RowReading → Connection → Bool
 is_last_row s k d n =

@@ -4,7 +4,6 @@ use Rattle.std.specs.Prelude.{ℕ, ◌+◌, Bool, true, false, not, ◌&&◌, �
 use Rattle.std.specs.List.{list_all}
 use Rattle.bus_base.specs.declared.ProcId.{ProcId}
 use Rattle.bus_base.specs.declared.AbortKind.{AbortKind}
-use Rattle.bus_trace.specs.declared.Row.{Row}
 use Rattle.bus_trace.specs.declared.agreements.Agreement.{Agreement}
 use Rattle.bus_trace.specs.declared.connection.Connection.{Connection}
 use Rattle.bus_phases.specs.declared.dialogue.Dialogue.{Dialogue}
@@ -35,7 +34,6 @@ use Rattle.bus_dialogue.specs.Words.{parity_error, detected_error, answer_bytes,
 use Rattle.bus_dialogue.specs.DataRuns.{run_length, runs_in_all}
 use Rattle.bus_dialogue.specs.NextPhase.{phase_of}
 use Rattle.bus_due.specs.RunState.{RunState, bus_of, array_of, process_served}
-use Rattle.bus_due.specs.RunSteps.{run_state_after}
 use Rattle.bus_due.specs.Defs.{host_of, opening}
 use Rattle.bus_due.specs.Faithful.{same_tag, is_kind, same_process}
 use Rattle.bus_books.specs.Listening.{Understanding, nothing_understood, understood, form_messages, understanding, understanding_anew, half_after, form_messages_in}

@@ -1,10 +1,10 @@
 -- The rows of a trace, by what they do with a connection: what the lines show, and what devices are due to do. With these the books
 -- hold after all of them.
-use Rattle.std.specs.Prelude.{ℕ, ◌≡◌, ◌<◌, Bool, true, false, List, [], ◌∷◌, Option, Some, None, ⊤}
+use Rattle.std.specs.Prelude.{◌≡◌, ◌<◌, true, false, List, [], ◌∷◌, Some, None, ⊤}
 use Rattle.bus_trace.specs.declared.Row.{Row}
 use Rattle.bus_trace.specs.declared.changes.Change.{Change}
 use Rattle.bus_trace.specs.declared.connection.Connection.{Connection}
-use Rattle.bus_trace.specs.Phases.{changes_phase}
+use Rattle.bus_trace.specs.Phases.{changes_phase, is_message_out, is_message_in}
 use Rattle.scenario.specs.Value.{ScenarioValue}
 use Rattle.disk_array.specs.Processes.{Process, process_of}
 use Rattle.bus_story.specs.BusState.{row_reading}
@@ -15,6 +15,7 @@ use Rattle.bus_due.specs.RunState.{RunState, bus_of, process_item}
 use Rattle.bus_due.specs.RunSteps.{run_state}
 use Rattle.bus_due.specs.Wants.{ready_of}
 use Rattle.bus_books.specs.Carrying.{AllCarryOwn, SendsOwn}
+use Rattle.bus_books.specs.FirstBytes.{Opens}
 use Rattle.bus_books.specs.Giving.{Gives, GivesNext, IsQuiet}
 use Rattle.bus_books.specs.Hearing.{HasPhase, LeavesWhole, MovesRuns}
 use Rattle.bus_books.specs.Knowing.{Knows, NamesServed}
@@ -41,9 +42,11 @@ pub record Begins (s : ScenarioValue) (k : RunState) (row : Row) (n : Connection
   pub first : IsFirstRow k row n
   pub selects : n.reselected ≡ false → IsAimedAt s k n
   pub reselects : n.reselected ≡ true → IsReadyFor s k n
+  pub names : n.reselected ≡ true → is_message_in (row_reading k.story.bus_state row).change.after ≡ true
 
 -- A row of a connection, before and after which RST is false: the bytes that cross are those that the two ends are due to drive,
--- names are of the process that is served, the data pointer stands where the run does, and a phase is left as it is due to be.
+-- and cross in a phase that has begun; the first phase is MESSAGE OUT; names are of the process that is served, the data pointer
+-- stands where the run does, and a phase is left as it is due to be.
 pub record GoesOn (s : ScenarioValue) (k : RunState) (row : Row) (n : Connection) (c : Change) : Type 0 where
   pub row_is : IsRowIn k row n c
   pub calm : (bus_of k).rst ≡ false
@@ -52,6 +55,8 @@ pub record GoesOn (s : ScenarioValue) (k : RunState) (row : Row) (n : Connection
   pub gives : GivesNext k n c
   pub names : NamesServed s k row n
   pub sends : SendsOwn s k row
+  pub begun : (row_reading k.story.bus_state row).crosses ≡ true → k.exchange.begun ≡ true
+  pub first : changes_phase (row_reading k.story.bus_state row).change ≡ true → k.exchange.begun ≡ false → is_message_out (row_reading k.story.bus_state row).change.after ≡ true
   pub runs : (row_reading k.story.bus_state row).crosses ≡ true → MovesRuns s k n
   pub leaves : changes_phase (row_reading k.story.bus_state row).change ≡ true → LeavesWhole s k n
 
@@ -83,4 +88,5 @@ pub record Books (s : ScenarioValue) (k : RunState) : Type 0 where
   pub speaks : (n : Connection) → k.story.bus_state.connection ≡ Some n → (bus_of k).rst ≡ false → Speaks s k n
   pub gives : (n : Connection) → k.story.bus_state.connection ≡ Some n → (bus_of k).rst ≡ false → Gives k
   pub knows : (n : Connection) → k.story.bus_state.connection ≡ Some n → (bus_of k).rst ≡ false → Knows s k n
+  pub opens : (n : Connection) → k.story.bus_state.connection ≡ Some n → (bus_of k).rst ≡ false → Opens k n
   pub quiet : (n : Connection) → k.story.bus_state.connection ≡ Some n → (bus_of k).rst ≡ false → IsQuiet k

@@ -1,5 +1,5 @@
 use Rattle.bus_books.proofs.laws.bytes_that_are_due_are_next.Goals as goal
-use Rattle.bus_books.proofs.Reactions.{answers_next, answers_own, offers_next, out_over, command_over}
+use Rattle.bus_books.proofs.Reactions.{answers_next, answers_own, offers_next, out_over, command_over, leaves_by}
 
 -- src/laws.rt
 pub returns-clause-says : goal.returns-clause-says
@@ -20,3 +20,7 @@ returns-clause-out c = λ s k n out over. out_over s k n out over
 -- src/laws.rt
 pub returns-clause-command : goal.returns-clause-command
 returns-clause-command c = λ s k n p command over served struck. command_over s k n p command over served struck
+
+-- src/laws.rt
+pub returns-clause-leaves : goal.returns-clause-leaves
+returns-clause-leaves c = λ s k n gives phase over message named group. leaves_by s k n gives phase over message named group

@@ -1,0 +1,185 @@
+-- The first byte of a connection begins an IDENTIFY.
+use Rattle.std.proofs.Common.{ℕ, ◌≡◌, Bool, true, false, not, ◌&&◌, ◌∙◌, [], Option, Some, None, refl, sym, ap, subst, true≢false}
+use Rattle.std.specs.Prelude.{if◌then◌else◌, is_some, ◌==◌, ◌%◌}
+use Rattle.bus_trace.specs.LineSet.{LineSet}
+use Rattle.bus_trace.specs.declared.Row.{Row}
+use Rattle.bus_trace.specs.declared.changes.Change.{Change}
+use Rattle.bus_trace.specs.declared.connection.Connection.{Connection}
+use Rattle.bus_trace.specs.Terms.{receiver_in}
+use Rattle.bus_trace.specs.Phases.{changes_phase, is_command, is_message_out, is_message_in}
+use Rattle.bus_lines.specs.Handshakes.{Handshakes, handshakes_after}
+use Rattle.bus_phases.specs.declared.dialogue.Dialogue.{Dialogue}
+use Rattle.bus_phases.specs.Dialogue.{opened, dialogue_after, byte_out, byte_in, byte_crosses, heard_with_command, phase_begins}
+use Rattle.scenario.specs.Value.{ScenarioValue}
+use Rattle.bus_story.specs.PairAgreements.{agreement_in}
+use Rattle.bus_story.specs.BusState.{row_reading}
+use Rattle.bus_story.specs.Items.{Item}
+use Rattle.bus_story.specs.TraceHistory.{aim_of}
+use Rattle.bus_dialogue.specs.declared.exchange.Leaving.{Leaving}
+use Rattle.bus_dialogue.specs.declared.exchange.Hearing.{Hearing}
+use Rattle.bus_dialogue.specs.Exchange.{Speech, Exchange, speech_of, no_messages, struck_plan}
+use Rattle.bus_dialogue.specs.Planning.{first_plan}
+use Rattle.bus_dialogue.specs.Speaking.{words_after}
+use Rattle.bus_dialogue.specs.Wants.{Ready}
+use Rattle.bus_dialogue.specs.NextPhase.{phase_of}
+use Rattle.bus_dialogue.specs.declared.exchange.Phase.TheVariants as phases
+use Rattle.bus_due.specs.Defs.{host_of, opening}
+use Rattle.bus_due.specs.RunState.{RunState, bus_of}
+use Rattle.bus_due.specs.RunSteps.{run_state_after, first_exchange, exchange_after, messages_if, may_negotiate, leaving_of}
+use Rattle.bus_due.specs.Sights.{hearing_of, leaving}
+use Rattle.bus_due.specs.Wants.{ready_of}
+use Rattle.scsi_device.specs.Lines.{AreUnits}
+use Rattle.bus_books.specs.FirstBytes.{IsUnopened, before_all, in_opening, in_names, OpensBy, Opens}
+use Rattle.bus_books.specs.Hearing.{LeavesWhole}
+use Rattle.bus_books.specs.Items.{AimsAreItems}
+use Rattle.bus_books.specs.Rows.{RowKind, still, strikes, crosses, turns, reading_in}
+use Rattle.bus_books.specs.Traces.{Begins, GoesOn}
+use Rattle.bus_books.proofs.FirstWords.{opening_is}
+use Rattle.bus_books.proofs.Given.{first_requests}
+use Rattle.bus_books.proofs.Gives.{requests_stay, struck_same, in_io}
+use Rattle.bus_books.proofs.InConnection.{exchange_by, dialogue_by, InConnection, in_connection, SamePhase, same_phase_is}
+
+-- ---- what is kept is known otherwise
+
+opens_as : (n : Connection) (x x' : Exchange) (d d' : Dialogue) (h : Handshakes) (b b' : LineSet) → x ≡ x' → d ≡ d' → b ≡ b' → OpensBy n x' d' h b' → OpensBy n x d h b
+opens_as n x x' d d' h b b' ex ed eb g =
+    subst (λ (z : Exchange). OpensBy n z d h b) (sym ex) (subst (λ (z : Dialogue). OpensBy n x' z h b) (sym ed) (subst (λ (z : LineSet). OpensBy n x' d' h z) (sym eb) g))
+
+-- ---- the first row
+
+pub opens_first : (s : ScenarioValue) (k : RunState) (row : Row) (n : Connection) → AreUnits s → AimsAreItems s k → Begins s k row n → Opens (run_state_after s k row) n
+opens_first s k row n u aims b =
+    let k' = run_state_after s k row in
+    let h = b.first in
+    opens_as n k'.exchange (first_exchange s k n (aim_of k.story.aims n.initiator)) k'.story.bus_state.dialogue (opened (agreement_in k.story.bus_state.agreed n.initiator n.target)) k'.handshakes (bus_of k') (bus_of k')
+    (λ i. exchange_after s k row (row_reading k.story.bus_state row) (h.connection_is i) (h.next_is i) (leaving_of s k k.story.bus_state.connection))
+    (λ i. dialogue_after k.story.bus_state.dialogue (h.connection_is i) (h.next_is i) (λ j v. agreement_in k.story.bus_state.agreed j v) (row_reading k.story.bus_state row).change)
+    refl
+    (λ z. go n.reselected refl)
+  where
+    go : (q : Bool) → n.reselected ≡ q → IsUnopened n (first_exchange s k n (aim_of k.story.aims n.initiator)) (opened (agreement_in k.story.bus_state.agreed n.initiator n.target)) (run_state_after s k row).handshakes (bus_of (run_state_after s k row))
+    go true e =
+        let r = b.reselects e in
+        in_names e e (b.names e) (first_requests s k row n b.first) r.ready.process.unit (planned n.reselected e ∙ ap (λ (z : Option Ready). (messages_if z).first) r.ready_is) r.unit_in
+      where
+        planned : (q : Bool) → q ≡ true → (first_plan q (not q && may_negotiate k n (aim_of k.story.aims n.initiator)) (if q then messages_if (ready_of s k n.target) else no_messages)).messages.first ≡ (messages_if (ready_of s k n.target)).first
+        planned true f = refl
+        planned false f = absurd (true≢false (sym f))
+    go false e =
+        let a = b.selects e in
+        let o = opening_is s n.initiator (may_negotiate k n (aim_of k.story.aims n.initiator)) a.item u (aims n.initiator a.item a.aim_is) in
+        let words : (first_exchange s k n (aim_of k.story.aims n.initiator)).speech.words ≡ opening s n.initiator (may_negotiate k n (aim_of k.story.aims n.initiator)) (Some a.item) =
+        ap (λ (q : Bool). if q then [] else opening s n.initiator (may_negotiate k n (aim_of k.story.aims n.initiator)) (aim_of k.story.aims n.initiator)) e
+        ∙ ap (λ (z : Option Item). opening s n.initiator (may_negotiate k n (aim_of k.story.aims n.initiator)) z) a.aim_is in
+        before_all e e (record { first = o.first; rest = o.rest; words_are = words ∙ o.some; opens = o.opens })
+
+-- ---- a row of a connection
+
+byte_begins : (d : Dialogue) (c : Change) → (byte_crosses d c).begun ≡ true
+byte_begins d c = go (is_message_out c.before) (is_message_in c.before) (is_command c.before)
+  where
+    go : (o i m : Bool) → (if o then byte_out d (c.after.data_bits % 256) (not c.after.atn) else if i then byte_in d (c.after.data_bits % 256) else if m then record d { heard = heard_with_command d.heard (c.after.data_bits % 256); begun = true } else record d { begun = true }).begun ≡ true
+    go true i m = refl
+    go false true m = refl
+    go false false true = refl
+    go false false false = refl
+
+in_same : (a b : LineSet) → SamePhase a b → is_message_in a ≡ true → is_message_in b ≡ true
+in_same a b h e = (λ i. h.msg i && h.cd i && h.io i) ∙ e
+
+out_same : (a b : LineSet) → SamePhase a b → is_message_out a ≡ true → is_message_out b ≡ true
+out_same a b h e = (λ i. h.msg i && h.cd i && not (h.io i)) ∙ e
+
+opens_still : (n : Connection) (c : Change) (x : Exchange) (d : Dialogue) (h h' : Handshakes) → SamePhase c.before c.after → (c.before.io ≡ true → h'.requests ≡ h.requests) → OpensBy n x d h c.before → OpensBy n x d h' c.after
+opens_still n c x d h h' same e g z = go (g z)
+  where
+    go : IsUnopened n x d h c.before → IsUnopened n x d h' c.after
+    go (before_all r b o) = before_all r b o
+    go (in_opening r b p q l o) = in_opening r b (out_same c.before c.after same p) q l o
+    go (in_names r b p q lun m lt) = in_names r b (in_same c.before c.after same p) (e (in_io c.before p) ∙ q) lun m lt
+
+opens_struck : (n : Connection) (x : Exchange) (d : Dialogue) (h : Handshakes) (b : LineSet) (io : Bool) → OpensBy n x d h b → OpensBy n (record { begun = x.begun; speech = x.speech; plan = if true && not io then struck_plan x.plan else x.plan }) d h b
+opens_struck n x d h b true g z = g z
+opens_struck n x d h b false g z = go (g z)
+  where
+    go : IsUnopened n x d h b → IsUnopened n (record { begun = x.begun; speech = x.speech; plan = struck_plan x.plan }) d h b
+    go (before_all r a o) = before_all r a o
+    go (in_opening r a p q l o) = in_opening r a p q l o
+    go (in_names r a p q lun m lt) = in_names r a p q lun m lt
+
+-- A phase is left after a byte at least; the first one is that of the opening.
+out_phase : (b : LineSet) → is_message_out b ≡ true → phase_of b ≡ phases.MessageOut
+out_phase b e = go b.msg b.cd b.io e
+  where
+    go : (m d i : Bool) → (m && d && not i) ≡ true → (if m then (if i then phases.MessageIn else phases.MessageOut) else if d then (if i then phases.Status else phases.Command) else if i then phases.DataIn else phases.DataOut) ≡ phases.MessageOut
+    go true true true e = absurd (true≢false (sym e))
+    go true true false e = refl
+    go true false i e = absurd (true≢false (sym e))
+    go false d i e = absurd (true≢false (sym e))
+
+in_phase : (b : LineSet) → is_message_in b ≡ true → phase_of b ≡ phases.MessageIn
+in_phase b e = go b.msg b.cd b.io e
+  where
+    go : (m d i : Bool) → (m && d && i) ≡ true → (if m then (if i then phases.MessageIn else phases.MessageOut) else if d then (if i then phases.Status else phases.Command) else if i then phases.DataIn else phases.DataOut) ≡ phases.MessageIn
+    go true true true e = refl
+    go true true false e = absurd (true≢false (sym e))
+    go true false i e = absurd (true≢false (sym e))
+    go false d i e = absurd (true≢false (sym e))
+
+opens_turn : (s : ScenarioValue) (k : RunState) (n : Connection) (c : Change) (w : Hearing) (l : Leaving) (h' : Handshakes) → w.begun ≡ k.exchange.begun → w.change ≡ c → LeavesWhole s k n → (k.exchange.begun ≡ false → is_message_out c.after ≡ true) → Opens k n
+    → OpensBy n (exchange_by true false false (host_of s n.initiator) w l k.exchange) (phase_begins k.story.bus_state.dialogue) h' c.after
+opens_turn s k n c w l h' ew ec leaves first g z = go (g z)
+  where
+    by : (q r : Bool) → r ≡ false → (if q && r then speech_of k.exchange.speech (words_after (host_of s n.initiator) w k.exchange.speech.asked) else record k.exchange.speech { place = 0 }) ≡ record k.exchange.speech { place = 0 }
+    by true true e = absurd (true≢false e)
+    by true false e = refl
+    by false r e = refl
+
+    still_spoken : k.exchange.begun ≡ false → (exchange_by true false false (host_of s n.initiator) w l k.exchange).speech ≡ record k.exchange.speech { place = 0 }
+    still_spoken b = by (is_message_out w.change.after) w.begun (ew ∙ b)
+
+    go : IsUnopened n k.exchange k.story.bus_state.dialogue k.handshakes (bus_of k) → IsUnopened n (exchange_by true false false (host_of s n.initiator) w l k.exchange) (phase_begins k.story.bus_state.dialogue) h' c.after
+    go (before_all r b o) =
+        let spoken : (exchange_by true false false (host_of s n.initiator) w l k.exchange).speech ≡ record k.exchange.speech { place = 0 } = still_spoken b in
+        in_opening r refl (first b) (ap (λ (v : Speech). v.place) spoken) refl (record { first = o.first; rest = o.rest; words_are = ap (λ (v : Speech). v.words) spoken ∙ o.words_are; opens = o.opens })
+    go (in_opening r b p q last o) = absurd (true≢false (sym (leaves.out (out_phase (bus_of k) p)) ∙ last))
+    go (in_names r b p q lun m lt) = absurd (true≢false (sym (ap (λ (v : ℕ). v == 0) q) ∙ leaves.some (in_phase (bus_of k) p)))
+
+pub opens_on : (s : ScenarioValue) (k : RunState) (row : Row) (n : Connection) (c : Change) → GoesOn s k row n c → Opens k n → Opens (run_state_after s k row) n
+opens_on s k row n c g h = go g.row_is.kind
+  where
+    was : OpensBy n k.exchange k.story.bus_state.dialogue k.handshakes c.before
+    was = subst (λ (z : LineSet). OpensBy n k.exchange k.story.bus_state.dialogue k.handshakes z) g.row_is.bus_is h
+
+    to : (phase now fault : Bool) → InConnection s k row n c phase now fault
+        → OpensBy n (exchange_by phase now fault (host_of s n.initiator) (hearing_of k row (reading_in k.story.bus_state n c now)) (leaving s k n.target) k.exchange) (dialogue_by phase now c k.story.bus_state.dialogue) (run_state_after s k row).handshakes c.after
+        → Opens (run_state_after s k row) n
+    to phase now fault i =
+        opens_as n (run_state_after s k row).exchange (exchange_by phase now fault (host_of s n.initiator) (hearing_of k row (reading_in k.story.bus_state n c now)) (leaving s k n.target) k.exchange)
+        (run_state_after s k row).story.bus_state.dialogue (dialogue_by phase now c k.story.bus_state.dialogue) (run_state_after s k row).handshakes (bus_of (run_state_after s k row)) c.after i.exchange_is i.dialogue_is i.bus_is
+
+    none_crosses : receiver_in n c ≡ None → is_some (receiver_in n c) ≡ false
+    none_crosses e = ap (λ (z : Option ℕ). is_some z) e
+
+    go : RowKind row n c → Opens (run_state_after s k row) n
+    go (still ef ep er) =
+        let i = in_connection s k row n c false false false g.row_is ep (none_crosses er) ef in
+        to false false false i
+        (opens_still n c k.exchange k.story.bus_state.dialogue k.handshakes (run_state_after s k row).handshakes (same_phase_is c ep)
+        (λ io. ap (λ (z : Handshakes). z.requests) (i.handshakes_is ∙ ap (λ (q : Bool). handshakes_after q (Some n) c row.time k.handshakes) ef) ∙ requests_stay n c row.time k.handshakes ep io er) was)
+    go (strikes ef ep er) =
+        let i = in_connection s k row n c false false true g.row_is ep (none_crosses er) ef in
+        to false false true i
+        (opens_struck n k.exchange k.story.bus_state.dialogue (run_state_after s k row).handshakes c.after c.before.io
+        (opens_still n c k.exchange k.story.bus_state.dialogue k.handshakes (run_state_after s k row).handshakes (same_phase_is c ep)
+        (λ io. ap (λ (z : Handshakes). z.requests) (i.handshakes_is ∙ ap (λ (q : Bool). handshakes_after q (Some n) c row.time k.handshakes) ef) ∙ struck_same c.before.io k.handshakes) was))
+    go (crosses dev ef ep er) =
+        to false true false (in_connection s k row n c false true false g.row_is ep (ap (λ (z : Option ℕ). is_some z) er) ef)
+        (λ z. absurd (true≢false (sym (byte_begins k.story.bus_state.dialogue c) ∙ z)))
+    go (turns ef ep er) =
+        let turn = ap changes_phase (same_change g.row_is.change_is) ∙ ep in
+        to true false false (in_connection s k row n c true false false g.row_is ep (none_crosses er) ef)
+        (opens_turn s k n c (hearing_of k row (reading_in k.story.bus_state n c false)) (leaving s k n.target) (run_state_after s k row).handshakes refl refl (g.leaves turn) (λ z. sym (ap (λ (y : Change). is_message_out y.after) (same_change g.row_is.change_is)) ∙ g.first turn z) h)
+      where
+        same_change : (row_reading k.story.bus_state row).change ≡ c → (row_reading k.story.bus_state row).change ≡ c
+        same_change e = e

@@ -1,0 +1,10 @@
+use Rattle.bus_books.proofs.laws.callees_are_the_other_end.Goals as goal
+use Rattle.bus_books.proofs.ReadyProcesses.{selects_for, reselects_for}
+
+-- src/laws.rt
+pub returns-clause-selects : goal.returns-clause-selects
+returns-clause-selects c = λ s k n host called. selects_for s k n host called
+
+-- src/laws.rt
+pub returns-clause-reselects : goal.returns-clause-reselects
+returns-clause-reselects c = λ s k n units sound host called. reselects_for s k n units sound host called
