@@ -10,12 +10,11 @@ use Rattle.bus_trace.specs.Trace.{bus, last_time, since, line_times, phase_time}
 use Rattle.bus_trace.specs.Terms.{connection}
 use Rattle.bus_trace.proofs.Ages.{since_le}
 use Rattle.bus_phases.specs.declared.attention.Duty.{Duty}
-use Rattle.bus_rules.specs.Rules.{broken_rule}
 use Rattle.scenario.specs.Value.{ScenarioValue}
 use Rattle.bus_due.specs.Next.{due, IsPrompt}
 use Rattle.bus_due.specs.Least.{IsLeast}
 use Rattle.bus_due.specs.Plain.{AreOfDevices}
-use Rattle.bus_laws.specs.Ends.{BeginsConnection, by_selection, by_reselection}
+use Rattle.bus_laws.specs.Ends.{EndLines, Linked, BeginsConnection, by_selection, by_reselection}
 use Rattle.bus_laws.specs.Stages.{HasShortLatencies, BusStage, on_free_bus, in_arbitration, after_arbitration, with_both_ids, awaiting_answer, after_withdrawal, after_answer, after_takeover, in_reset, in_connection, Standing, NextRow, is_connected}
 use Rattle.bus_laws.proofs.Tests.{and_false}
 use Rattle.bus_laws.proofs.Prompt.{least_is}
@@ -23,23 +22,12 @@ use Rattle.bus_laws.proofs.ResetSteps.{raises}
 use Rattle.bus_laws.proofs.Together.{standing_first, stage_first, standing_after, standing_next, from_stage, ahead_with_resets, by_reset, by_calm, reset_or_calm}
 use Rattle.link_laws.specs.Books.{has_odd_byte, has_whole_messages, has_whole_command, has_byte_offset, frees_in_time, KeepsBooksIn, in_connections, have_odd_bytes, have_whole_messages, have_whole_commands, have_byte_offsets, free_in_time}
 use Rattle.link_laws.specs.Phases.{fits_duty, is_owed_out}
-use Rattle.link_laws.specs.LinkStages.{LinkStage, when_selected, when_settling, when_turning, when_offering, when_shaking, when_pulsing}
+use Rattle.link_laws.specs.LinkStages.{LinkStage, when_selected, when_settling, when_turning, when_offering, when_shaking, when_pulsing, AnyStage, apart, linked, NextAny}
 use Rattle.link_laws.specs.LinkStages.{LinkStage, when_selected, when_settling, when_turning, when_offering, when_shaking}
 use Rattle.link_laws.proofs.Ahead.{stage_ahead}
 use Rattle.link_laws.proofs.Enters.{below_differs}
 use Rattle.link_laws.proofs.PhaseEnds.{AfterLink, goes_on, frees}
 use Rattle.link_laws.proofs.FromLink.{from_link}
-
--- What stands after some rows: one of the stages without a connection, or one of a connection.
-pub data AnyStage (s : ScenarioValue) (p : List Row) : Type 0 where
-  apart : BusStage s p → is_connected p ≡ false → AnyStage s p
-  linked : (n : Connection) → LinkStage s p n → AnyStage s p
-
--- What the next row does.
-pub record NextAny (s : ScenarioValue) (p : List Row) (row : Row) : Type 0 where
-  pub obeys : broken_rule p row ≡ None
-  pub standing : Standing s (row ∷ p)
-  pub here : AnyStage s (row ∷ p)
 
 -- ---- a connection begins
 
@@ -140,7 +128,7 @@ from_linked s p row n fits st short h books m =
         }
 
 -- The next row, whatever stands.
-from_any : (s : ScenarioValue) (p : List Row) (row : Row) → HasShortLatencies s → Standing s p → length p + 1 < 2 ^ 64 → AnyStage s p → KeepsBooksIn p row → IsLeast (due s p) 8 row → NextAny s p row
+pub from_any : (s : ScenarioValue) (p : List Row) (row : Row) → HasShortLatencies s → Standing s p → length p + 1 < 2 ^ 64 → AnyStage s p → KeepsBooksIn p row → IsLeast (due s p) 8 row → NextAny s p row
 from_any s p row fits st short (apart h alone) books m = after_stage s p row st m (from_stage s p row fits st h alone m)
 from_any s p row fits st short (linked n h) books m = from_linked s p row n fits st short h books m
 
@@ -186,3 +174,13 @@ stood s fits (row ∷ p) prompt short b =
     let was = stood s fits p prompt.0 (omega arith) (books_before p row b) in
     let g = from_any s p row fits was.standing less was.here (books_at p row b) (least_is s p row prompt.1) in
     record { standing = g.standing; here = g.here }
+
+-- ---- who drives what
+
+pub sides_are : (s : ScenarioValue) (p : List Row) (n : Connection) → LinkStage s p n → (e : EndLines) × Linked p n e
+sides_are s p n (when_selected h) = (_, h.linked)
+sides_are s p n (when_settling bsy atn msg cd io y h) = (_, h.linked)
+sides_are s p n (when_turning atn x msg cd h) = (_, h.linked)
+sides_are s p n (when_offering atn msg cd y h) = (_, h.linked)
+sides_are s p n (when_shaking msg cd io req ack atn x y h) = (_, h.linked)
+sides_are s p n (when_pulsing io req ack atn x y h a) = (_, h.linked)

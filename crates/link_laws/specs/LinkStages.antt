@@ -1,9 +1,11 @@
 -- The stages of a connection (6.1.5 to 6.1.10).
-use Rattle.std.specs.Prelude.{ℕ, Bool, List}
+use Rattle.std.specs.Prelude.{ℕ, ◌≡◌, Bool, false, List, ◌∷◌, None}
 use Rattle.bus_trace.specs.declared.Row.{Row}
 use Rattle.bus_trace.specs.declared.connection.Connection.{Connection}
 use Rattle.scenario.specs.Value.{ScenarioValue}
+use Rattle.bus_rules.specs.Rules.{broken_rule}
 use Rattle.bus_laws.specs.Ends.{BeginsSelected}
+use Rattle.bus_laws.specs.Stages.{BusStage, Standing, is_connected}
 use Rattle.link_laws.specs.Phases.{Settling, Turning, Offering, Shaking}
 use Rattle.link_laws.specs.Pulses.{Pulsing, EndsAhead}
 
@@ -16,3 +18,14 @@ pub data LinkStage (s : ScenarioValue) (p : List Row) (n : Connection) : Type 0 
   when_offering : (atn msg cd : Bool) (y : ℕ) → Offering p n atn msg cd y → LinkStage s p n
   when_shaking : (msg cd io req ack atn : Bool) (x y : ℕ) → Shaking p n msg cd io req ack atn x y → LinkStage s p n
   when_pulsing : (io req ack atn : Bool) (x y : ℕ) → Pulsing s p n io req ack atn x y → EndsAhead s p n io req ack atn x y → LinkStage s p n
+
+-- What stands after some rows: one of the stages without a connection, or one of a connection.
+pub data AnyStage (s : ScenarioValue) (p : List Row) : Type 0 where
+  apart : BusStage s p → is_connected p ≡ false → AnyStage s p
+  linked : (n : Connection) → LinkStage s p n → AnyStage s p
+
+-- What the next row does: it obeys all rules, and all holds again that held before it.
+pub record NextAny (s : ScenarioValue) (p : List Row) (row : Row) : Type 0 where
+  pub obeys : broken_rule p row ≡ None
+  pub standing : Standing s (row ∷ p)
+  pub here : AnyStage s (row ∷ p)

@@ -9,4 +9,4 @@
 
 mod laws;
 
-pub use laws::traces_are_lawful;
+pub use laws::{connections_go_on, traces_are_lawful};
