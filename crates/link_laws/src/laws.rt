@@ -26,8 +26,8 @@ ghost use Rattle.link_laws.specs.LinkStages.{LinkStage, AnyStage, NextAny};
 /// either direction, what the initiator still drives of a data phase that was left, the end of a phase and of the
 /// connection, faults and RST (6.1.1 to 6.1.10, 6.2.2). The next row, whichever it is, obeys all 28 rules, one of these
 /// stages holds after it, and nothing that is due lies in the past (`next`), where a row of a connection keeps the
-/// books: what its bytes say is not told by the lines. In a connection its two ends drive the lines of their own side, and no
-/// third device drives a line (`sides`).
+/// books: what its bytes say is not told by the lines. In a connection its two ends drive the lines of their own side,
+/// and no third device drives a line (`sides`).
 pub fn connections_go_on()
     ensures start { (s : ScenarioValue) → Standing s [] × AnyStage s [] }
     ensures next { (s : ScenarioValue) (rows : List Row) (row : Row) → Obeys s → Standing s rows → AnyStage s rows
