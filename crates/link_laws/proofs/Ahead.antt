@@ -13,7 +13,10 @@ use Rattle.bus_due.specs.Plain.{AreOfDevices}
 use Rattle.bus_laws.specs.Reactions.{own_time, unreset_due}
 use Rattle.bus_laws.specs.Ends.{target_side}
 use Rattle.bus_laws.proofs.Dues.{is_at, none_some}
-use Rattle.link_laws.specs.Phases.{ends, Turning, Settling, Shaking, LinkStage, when_selected, when_settling, when_turning, when_offering, when_shaking}
+use Rattle.link_laws.specs.Phases.{ends, Turning, Settling, Shaking}
+use Rattle.link_laws.specs.LinkStages.{LinkStage, when_selected, when_settling, when_turning, when_offering, when_shaking, when_pulsing}
+use Rattle.link_laws.specs.Pulses.{Pulsing, EndsAhead}
+use Rattle.link_laws.proofs.PulseAhead.{target_time_in, target_time_out, initiator_time_in, initiator_time_out}
 use Rattle.link_laws.proofs.EndDues.{target_plain, offering_with, ends_ahead}
 use Rattle.link_laws.proofs.StageDues.{selected_target, selected_initiator, settling_target, settling_initiator, handing_initiator, turning_target, turned_initiator, owing_initiator, offering_target, offering_initiator, answered_target, answered_initiator_in, answered_initiator_out, asking_target, asking_initiator_in, asking_initiator_out, giving_initiator_out, ending_target, ending_initiator_in, ending_initiator_out, ack_end_time, between_target, between_initiator_in, between_initiator_out}
 
@@ -119,6 +122,18 @@ turning_ahead s p n atn x msg cd d h = go (x == 0) refl
         (λ lat there z e. let w = at_time _ _ _ z (owing_initiator s p n atn x msg cd lat h some) e in let u = (h.owed some).ahead lat there in omega arith)
         (λ lat there z e. let w = at_time _ _ _ z (turning_target s p n atn x msg cd lat h) e in let u = h.fresh in omega arith)
 
+pulsing_in : (s : ScenarioValue) (p : List Row) (n : Connection) (req ack atn : Bool) (y : ℕ) → AreOfDevices p → Pulsing s p n true req ack atn 0 y → EndsAhead s p n true req ack atn 0 y → Ahead s p
+pulsing_in s p n req ack atn y d h a =
+    ends_ahead s p n true _ d h.linked h.phase.begun_is
+    (λ lat there x e. a.initiator lat there x.time (initiator_time_in s p n req ack atn y lat x (record { offset = h.offset; asked = h.facts.asked }) e))
+    (λ lat there x e. a.target lat there x.time (target_time_in s p n req ack atn y lat x (record { offset = h.offset; asked = h.facts.asked }) e))
+
+pulsing_out : (s : ScenarioValue) (p : List Row) (n : Connection) (req ack atn : Bool) (x : ℕ) → AreOfDevices p → Pulsing s p n false req ack atn x 0 → EndsAhead s p n false req ack atn x 0 → Ahead s p
+pulsing_out s p n req ack atn x d h a =
+    ends_ahead s p n true _ d h.linked h.phase.begun_is
+    (λ lat there z e. a.initiator lat there z.time (initiator_time_out s p n req ack atn x lat z h.linked (record { offset = h.offset; asked = h.facts.asked }) e))
+    (λ lat there z e. a.target lat there z.time (target_time_out s p n req ack atn x lat z (record { offset = h.offset; asked = h.facts.asked }) e))
+
 pub stage_ahead : (s : ScenarioValue) (p : List Row) (n : Connection) → AreOfDevices p → LinkStage s p n → Ahead s p
 stage_ahead s p n d (when_selected h) =
     ends_ahead s p n false _ d h.linked h.begun_is
@@ -132,3 +147,5 @@ stage_ahead s p n d (when_offering atn msg cd y h) =
     (λ lat there x e. let w = at_time _ _ _ x (offering_target s p n atn msg cd y lat h) e in let u = h.fresh in omega arith)
 stage_ahead s p n d (when_shaking msg cd true req ack atn x y h) = shaking_in s p n msg cd req ack atn y d (subst (λ z. Shaking p n msg cd true req ack atn z y) h.side h)
 stage_ahead s p n d (when_shaking msg cd false req ack atn x y h) = shaking_out s p n msg cd req ack atn x d (subst (λ z. Shaking p n msg cd false req ack atn x z) h.side h)
+stage_ahead s p n d (when_pulsing true req ack atn x y h a) = pulsing_in s p n req ack atn y d (subst (λ k. Pulsing s p n true req ack atn k y) h.side h) (subst (λ k. EndsAhead s p n true req ack atn k y) h.side a)
+stage_ahead s p n d (when_pulsing false req ack atn x y h a) = pulsing_out s p n req ack atn x d (subst (λ k. Pulsing s p n false req ack atn x k) h.side h) (subst (λ k. EndsAhead s p n false req ack atn x k) h.side a)

@@ -23,7 +23,8 @@ use Rattle.bus_laws.specs.Stages.{CalmStanding}
 use Rattle.bus_laws.specs.Ends.{EndLines, initiator_side, target_side, connected_bus, Linked}
 use Rattle.bus_laws.proofs.Rows.{own_time_own}
 use Rattle.link_laws.specs.Books.{KeepsBooksIn}
-use Rattle.link_laws.specs.Phases.{ends, is_owed_out, InPhase, Turning, when_turning, when_offering, when_shaking}
+use Rattle.link_laws.specs.Phases.{ends, is_owed_out, InPhase, Turning}
+use Rattle.link_laws.specs.LinkStages.{when_turning, when_offering, when_shaking}
 use Rattle.link_laws.proofs.Moves.{initiator_moves, target_moves, initiator_in_phase, target_in_phase}
 use Rattle.link_laws.proofs.LinkSeen.{around, obeys_linked}
 use Rattle.link_laws.proofs.LinkObeys.{MayAsk, req_rises_in, req_rises_out, first_byte_obeys, byte_release_obeys}
@@ -115,9 +116,8 @@ pub record Asking (s : ScenarioValue) (p : List Row) (n : Connection) (atn msg c
   pub duty_is : implies (is_owed (duty p)) (msg && cd && not io) ≡ true
   pub turn : turned p ≡ true → io ≡ true → (line_times p).io + 800 ≤ t
   pub set_up : io ≡ true → since data_of p + 55 ≤ t
-  pub unpulsed : is_pulsed_phase true (connected_bus (ends false false atn 0 msg cd io false y)) (dialogue p).heard.now.agreement ≡ false
 
-may_ask_by : (s : ScenarioValue) (p : List Row) (n : Connection) (atn msg cd io : Bool) (y t dev : ℕ) (c : Change) → Asking s p n atn msg cd io y t → MayAsk (around p dev n c) n msg cd io t
+pub may_ask_by : (s : ScenarioValue) (p : List Row) (n : Connection) (atn msg cd io : Bool) (y t dev : ℕ) (c : Change) → Asking s p n atn msg cd io y t → MayAsk (around p dev n c) n msg cd io t
 may_ask_by s p n atn msg cd io y t dev c h = record {
   apart = h.linked.apart;
   order = h.order;
@@ -127,8 +127,8 @@ may_ask_by s p n atn msg cd io y t dev c h = record {
   duty = h.duty_is;
 }
 
-pub asks_in : (s : ScenarioValue) (p : List Row) (n : Connection) (atn msg cd : Bool) (y t : ℕ) → Asking s p n atn msg cd true y t → KeepsBooksIn p (target_row t n (ends false false atn 0 msg cd true true y)) → NextLinked s p (target_row t n (ends false false atn 0 msg cd true true y)) n
-asks_in s p n atn msg cd y t h books =
+pub asks_in : (s : ScenarioValue) (p : List Row) (n : Connection) (atn msg cd : Bool) (y t : ℕ) → Asking s p n atn msg cd true y t → is_pulsed_phase true (connected_bus (ends false false atn 0 msg cd true false y)) (dialogue p).heard.now.agreement ≡ false → KeepsBooksIn p (target_row t n (ends false false atn 0 msg cd true true y)) → NextLinked s p (target_row t n (ends false false atn 0 msg cd true true y)) n
+asks_in s p n atn msg cd y t h slow books =
     let e : EndLines = ends false false atn 0 msg cd true false y in
     let f : EndLines = ends false false atn 0 msg cd true true y in
     let row : Row = target_row t n f in
@@ -138,12 +138,12 @@ asks_in s p n atn msg cd y t h books =
     let r = target_in_phase p n e true y t h.linked in
     record {
       order = h.order;
-      obeys = obeys_linked p row n e c h.linked m.change refl books (req_rises_in (around p n.target n c) n atn msg cd y t (may_ask_by s p n atn msg cd true y t n.target c h) (turn_test (turned p) ((line_times p).io + 800) t (λ w. h.turn w refl)) (h.set_up refl) h.unpulsed);
+      obeys = obeys_linked p row n e c h.linked m.change refl books (req_rises_in (around p n.target n c) n atn msg cd y t (may_ask_by s p n atn msg cd true y t n.target c h) (turn_test (turned p) ((line_times p).io + 800) t (λ w. h.turn w refl)) (h.set_up refl) slow);
       stage = when_shaking msg cd true true false atn 0 y (record {
         linked = m.linked;
         phase = phase_goes p q n e false false atn 0 true y t r h.phase h.phase.asks;
         asked = ap (λ (b : Handshakes). b.requests == 0) r.handshakes_are ∙ counted (handshakes p).requests;
-        unpulsed = unpulsed_goes p q n e false false atn 0 true y t r h.unpulsed;
+        unpulsed = unpulsed_goes p q n e false false atn 0 true y t r slow;
         settled = let u = h.settled in let w = r.phase_is in omega arith;
         side = refl;
         turned = λ a b. let u = h.turn (sym r.turned_is ∙ a) b in let w = r.io_is in omega arith;
@@ -153,8 +153,8 @@ asks_in s p n atn msg cd y t h books =
       });
     }
 
-pub asks_out : (s : ScenarioValue) (p : List Row) (n : Connection) (atn msg cd : Bool) (t : ℕ) → Asking s p n atn msg cd false 0 t → KeepsBooksIn p (target_row t n (ends false false atn 0 msg cd false true 0)) → NextLinked s p (target_row t n (ends false false atn 0 msg cd false true 0)) n
-asks_out s p n atn msg cd t h books =
+pub asks_out : (s : ScenarioValue) (p : List Row) (n : Connection) (atn msg cd : Bool) (t : ℕ) → Asking s p n atn msg cd false 0 t → is_pulsed_phase true (connected_bus (ends false false atn 0 msg cd false false 0)) (dialogue p).heard.now.agreement ≡ false → KeepsBooksIn p (target_row t n (ends false false atn 0 msg cd false true 0)) → NextLinked s p (target_row t n (ends false false atn 0 msg cd false true 0)) n
+asks_out s p n atn msg cd t h slow books =
     let e : EndLines = ends false false atn 0 msg cd false false 0 in
     let f : EndLines = ends false false atn 0 msg cd false true 0 in
     let row : Row = target_row t n f in
@@ -164,12 +164,12 @@ asks_out s p n atn msg cd t h books =
     let r = target_in_phase p n e true 0 t h.linked in
     record {
       order = h.order;
-      obeys = obeys_linked p row n e c h.linked m.change refl books (req_rises_out (around p n.target n c) n atn msg cd t (may_ask_by s p n atn msg cd false 0 t n.target c h) h.unpulsed);
+      obeys = obeys_linked p row n e c h.linked m.change refl books (req_rises_out (around p n.target n c) n atn msg cd t (may_ask_by s p n atn msg cd false 0 t n.target c h) slow);
       stage = when_shaking msg cd false true false atn 0 0 (record {
         linked = m.linked;
         phase = phase_goes p q n e false false atn 0 true 0 t r h.phase h.phase.asks;
         asked = ap (λ (b : Handshakes). b.requests == 0) r.handshakes_are ∙ counted (handshakes p).requests;
-        unpulsed = unpulsed_goes p q n e false false atn 0 true 0 t r h.unpulsed;
+        unpulsed = unpulsed_goes p q n e false false atn 0 true 0 t r slow;
         settled = let u = h.settled in let w = r.phase_is in omega arith;
         side = refl;
         turned = λ a b. absurd cc;

@@ -22,7 +22,8 @@ use Rattle.bus_laws.specs.Stages.{CalmStanding}
 use Rattle.bus_laws.specs.Ends.{EndLines, initiator_side, target_side, connected_bus, Linked, BeginsSelected, ends_selected}
 use Rattle.bus_laws.proofs.Tests.{eq_self}
 use Rattle.link_laws.specs.Books.{KeepsBooksIn}
-use Rattle.link_laws.specs.Phases.{ends, fits_duty, is_owed_out, InPhase, HasTurned, Settling, Turning, when_settling}
+use Rattle.link_laws.specs.Phases.{ends, fits_duty, is_owed_out, InPhase, HasTurned, Settling, Turning}
+use Rattle.link_laws.specs.LinkStages.{when_settling}
 use Rattle.link_laws.proofs.Duties.{duty_at_phase}
 use Rattle.link_laws.proofs.Moves.{initiator_moves, target_moves, initiator_in_phase, terms_of, or_false}
 use Rattle.link_laws.proofs.LinkSeen.{around, obeys_linked}
@@ -98,7 +99,7 @@ asks_too true true true e = absurd cc
 asks_too true false io e = absurd cc
 asks_too false msg io e = refl
 
-begins_phase : (p q : List Row) (n : Connection) (atn : Bool) (x : ℕ) (msg cd io : Bool) (y : ℕ) (msg' cd' io' : Bool) (z t : ℕ) → Entered p q (ends false false atn x msg cd io false y) (ends false false atn x msg' cd' io' false z) t → n.began ≤ t → (msg' && not cd') ≡ false → implies atn (msg' && not io') ≡ true → fits_duty (duty p) atn msg ≡ true
+pub begins_phase : (p q : List Row) (n : Connection) (atn : Bool) (x : ℕ) (msg cd io : Bool) (y : ℕ) (msg' cd' io' : Bool) (z t : ℕ) → Entered p q (ends false false atn x msg cd io false y) (ends false false atn x msg' cd' io' false z) t → n.began ≤ t → (msg' && not cd') ≡ false → implies atn (msg' && not io') ≡ true → fits_duty (duty p) atn msg ≡ true
     → InPhase q n (ends false false atn x msg' cd' io' false z)
 begins_phase p q n atn x msg cd io y msg' cd' io' z t w began known asks owes = record {
   begun_is = w.begun_is;
@@ -108,7 +109,7 @@ begins_phase p q n atn x msg cd io y msg' cd' io' z t w began known asks owes = 
   owes = ap (λ (d : Duty). fits_duty d atn msg') w.duty_is ∙ (duty_at_phase (duty p) atn msg msg' io' owes asks).0;
 }
 
-not_owed : (p q : List Row) (e f : EndLines) (t : ℕ) (atn msg msg' io' : Bool) → Entered p q e f t → fits_duty (duty p) atn msg ≡ true → implies atn (msg' && not io') ≡ true → is_owed_out (duty q) io' ≡ true
+pub not_owed : (p q : List Row) (e f : EndLines) (t : ℕ) (atn msg msg' io' : Bool) → Entered p q e f t → fits_duty (duty p) atn msg ≡ true → implies atn (msg' && not io') ≡ true → is_owed_out (duty q) io' ≡ true
 not_owed p q e f t atn msg msg' io' w owes asks = ap (λ (d : Duty). is_owed_out d io') w.duty_is ∙ (duty_at_phase (duty p) atn msg msg' io' owes asks).1
 
 -- to the target

@@ -1,21 +1,19 @@
 -- The next row of a connection, resets apart: of either end, or a fault.
-use Rattle.std.proofs.Common.{◌⊎◌, inl, inr, ℕ, ◌≡◌, ◌≤◌, ◌<◌, ◌+◌, Bool, true, false, not, ◌&&◌, ◌||◌, ◌==◌, ◌∙◌, List, Some, refl, sym, ap, subst, arith}
+use Rattle.std.proofs.Common.{◌⊎◌, inl, inr, ◌^◌, ℕ, ◌≡◌, ◌≤◌, ◌<◌, ◌+◌, Bool, true, false, not, ◌&&◌, ◌||◌, ◌==◌, ◌∙◌, List, Some, refl, sym, ap, subst, arith}
 use Rattle.std.specs.Prelude.{if◌then◌else◌, max, nat_le, nat_lt, is_some}
 use Rattle.std.proofs.lemmas.Bool.Decides.{nat_tests}
 use Rattle.bus_trace.specs.LineSet.{LineSet, none, bit_value, parity_of}
 use lib.Count.{ones}
 use Rattle.bus_trace.specs.declared.Row.{Row}
 use Rattle.bus_trace.specs.declared.connection.Connection.{Connection}
-use Rattle.bus_trace.specs.declared.changes.Change.{Change}
 use Rattle.bus_trace.specs.Agreements.{times_of}
-use Rattle.bus_trace.specs.Changes.{implies, rises}
+use Rattle.bus_trace.specs.Changes.{implies}
 use Rattle.bus_trace.specs.Trace.{drives, last_time, line_times, phase_time}
 use Rattle.bus_phases.specs.declared.attention.Duty.{Duty}
 use Rattle.bus_phases.specs.declared.attention.Duty.TheVariants as duties
 use Rattle.bus_phases.specs.Phases.{duty}
 use Rattle.bus_phases.specs.Dialogue.{dialogue}
 use Rattle.bus_rules.specs.Messages.{is_owed}
-use Rattle.bus_rules.specs.Transfer.{is_pulsed}
 use Rattle.bus_lines.specs.Handshakes.{handshakes}
 use Rattle.scenario.specs.Value.{ScenarioValue}
 use Rattle.bus_story.specs.Samples.{latency_of}
@@ -31,24 +29,42 @@ use Rattle.bus_dialogue.specs.Hearing.{begun}
 use Rattle.bus_trace.specs.declared.Kind.TheVariants.{Drives}
 use Rattle.bus_due.specs.Least.{IsLeast}
 use Rattle.bus_laws.specs.Reactions.{own_time, unreset_due}
-use Rattle.bus_laws.specs.Rows.{row_of_lines, change_to}
+use Rattle.bus_laws.specs.Rows.{row_of_lines}
 use Rattle.bus_laws.specs.Stages.{CalmStanding, HasShortLatencies, HasDevice}
 use Rattle.bus_laws.specs.Ends.{EndLines, initiator_side, target_side, connected_bus, Linked, BeginsSelected, ends_selected}
 use Rattle.bus_laws.proofs.Dues.{is_at}
 use Rattle.link_laws.specs.Books.{is_row_of_connection, KeepsBooksIn}
-use Rattle.link_laws.specs.Phases.{ends, fits_duty, is_owed_out, OneSide, Settling, Turning, Offering, Shaking, LinkStage, when_selected, when_settling, when_turning, when_offering, when_shaking}
+use Rattle.link_laws.specs.Phases.{ends, fits_duty, is_owed_out, OneSide, Settling, Turning, Offering, Shaking}
+use Rattle.link_laws.specs.LinkStages.{LinkStage, when_selected, when_settling, when_turning, when_offering, when_shaking, when_pulsing}
+use Rattle.link_laws.specs.LinkStages.{LinkStage, when_selected, when_settling, when_turning, when_offering, when_shaking}
 use Rattle.link_laws.proofs.Duties.{may_ask}
 use Rattle.link_laws.proofs.Moves.{target_moves}
-use Rattle.link_laws.proofs.LinkSeen.{linked_is}
 use Rattle.link_laws.proofs.EndDues.{due_of, Mover, by_fault, by_initiator, by_target, mover_is, target_plain, initiator_plain, offering_with, answering_with, initiator_is, sampled_or, sampled_by, is_sampling}
 use Rattle.link_laws.proofs.StageDues.{selected_target, selected_initiator, settling_target, settling_initiator, handing_initiator, turning_target, turned_initiator, owing_initiator, offering_target, offering_initiator, answered_target, answered_initiator_in, answered_initiator_out, asking_target, asking_initiator_in, asking_initiator_out, giving_initiator_out, ending_target, ending_initiator_in, ending_initiator_out, ack_end_time, between_target, between_initiator_in, between_initiator_out}
 use Rattle.link_laws.proofs.Ahead.{never, zero_of}
-use Rattle.link_laws.proofs.Goes.{le_test}
+use Rattle.std.proofs.Common.{None}
+use Rattle.bus_laws.proofs.Dues.{none_some}
+use Rattle.link_laws.proofs.Goes.{NextLinked, le_test}
 use Rattle.link_laws.proofs.Shakes.{target_row, initiator_row, takes_req_in, takes_req_out, ends_ack_in, ends_ack_out, answers_in, gives_byte, answers_out}
 use Rattle.link_laws.proofs.Faults.{strikes_byte}
 use Rattle.link_laws.proofs.Enters.{opens, hands_over}
 use Rattle.link_laws.proofs.Asks.{same_of, hold_short, releases_byte, offers_byte, Asking, asks_in, asks_out}
-use Rattle.link_laws.proofs.PhaseEnds.{AfterLink, goes_on, unasked, leaves_phase}
+use Rattle.std.specs.Prelude.{length}
+use Rattle.bus_lines.specs.Handshakes.{no_handshakes, first_of, is_struck}
+use Rattle.bus_phases.specs.Phases.{pulses, no_pulses}
+use Rattle.bus_dialogue.specs.declared.exchange.Leaving.{Leaving}
+use Rattle.bus_dialogue.specs.NextPhase.{Serving, phase_of, phase_leaving}
+use Rattle.bus_due.specs.Sights.{serving_at}
+use Rattle.bus_laws.proofs.Tests.{and_false}
+use Rattle.link_laws.specs.Pulses.{times_here, offset_here, run_count, next_bits}
+use Rattle.link_laws.proofs.Leaves.{data_out_to_initiator}
+use Rattle.link_laws.proofs.PulseDues.{pulsed_target_in, pulsed_target_out, pulsed_initiator_in, pulsed_initiator_out, hold_end_time, pulse_time, leaving_time, ack_pulse_end_time, answer_time, release_time, byte_driven_time, given_bits}
+use Rattle.link_laws.proofs.PulseRows.{NextPulsing, PulseHere, req_ends_in}
+use Rattle.link_laws.proofs.PulseIn.{lt_of, req_pulses_in, byte_changes_in, answers_pulse_in, ends_pulse_in}
+use Rattle.link_laws.proofs.PulseOut.{req_ends_out, req_pulses_out, answers_pulse_out, ends_pulse_out, gives_pulsed_byte, releases_pulsed_byte}
+use Rattle.link_laws.proofs.PulseStarts.{starts_in, starts_out}
+use Rattle.link_laws.proofs.PulseEnds.{pulsed_leaves_in, pulsed_leaves_out}
+use Rattle.link_laws.proofs.PhaseEnds.{leaves_lines, AfterLink, goes_on, unasked, leaves_phase}
 
 -- What the next row is due to be, of the lines of one device.
 reacts : (s : ScenarioValue) (p : List Row) (n : Connection) (row : Row) (d time : ℕ) (l : LineSet) → row.dev ≡ d → due_at time l ≡ Some (due_of row) → KeepsBooksIn p row → (row.time ≡ time → KeepsBooksIn p (row_of_lines row.time d l) → AfterLink s p (row_of_lines row.time d l) n) → AfterLink s p row n
@@ -75,26 +91,34 @@ some_byte b = go (b == 0) refl
 
 -- ---- REQ rises byte by byte
 
-no_offset : (a b : Bool) (o : ℕ) → not (true && ((not a && not b) && not (o == 0))) ≡ true → (true && (not a && not b) && nat_lt 0 o) ≡ false
-no_offset a b o e = grind (arith, nat_tests)
-
-unpulsed_at : (p : List Row) (n : Connection) (atn msg cd io : Bool) (y t : ℕ) → Linked p n (ends false false atn 0 msg cd io false y) → KeepsBooksIn p (target_row t n (ends false false atn 0 msg cd io true y)) → is_pulsed_phase true (connected_bus (ends false false atn 0 msg cd io false y)) (dialogue p).heard.now.agreement ≡ false
-unpulsed_at p n atn msg cd io y t h books =
-    let e : EndLines = ends false false atn 0 msg cd io false y in
-    let f : EndLines = ends false false atn 0 msg cd io true y in
-    let row : Row = target_row t n f in
-    let c : Change = change_to (connected_bus e) (connected_bus f) (target_side e) (target_side f) in
-    let m = target_moves p n e msg cd io true y t h in
-    let now : is_row_of_connection p row ≡ true = λ i. is_some (h.stands.connection_is i) && not (h.stands.bus_is i).rst && not (m.linked.stands.bus_is i).rst in
-    no_offset msg cd (dialogue p).heard.now.agreement.offset
-    ((λ i. implies (rises (sym h.stands.bus_is i).req (sym m.linked.stands.bus_is i).req) (not (is_pulsed (sym (linked_is p row n e c h m.change) i)))) ∙ (books now).slow)
-
-asks_by : (s : ScenarioValue) (p : List Row) (n : Connection) (atn msg cd io : Bool) (y t : ℕ) → OneSide io 0 y → Asking s p n atn msg cd io y t → KeepsBooksIn p (target_row t n (ends false false atn 0 msg cd io true y)) → AfterLink s p (target_row t n (ends false false atn 0 msg cd io true y)) n
-asks_by s p n atn msg cd true y t side h books = goes_on (asks_in s p n atn msg cd y t h books)
-asks_by s p n atn msg cd false y t side h books = zero y side h books
+asks_by : (s : ScenarioValue) (p : List Row) (n : Connection) (atn msg cd io : Bool) (y t : ℕ) → OneSide io 0 y → Asking s p n atn msg cd io y t → is_pulsed_phase true (connected_bus (ends false false atn 0 msg cd io false y)) (dialogue p).heard.now.agreement ≡ false → KeepsBooksIn p (target_row t n (ends false false atn 0 msg cd io true y)) → AfterLink s p (target_row t n (ends false false atn 0 msg cd io true y)) n
+asks_by s p n atn msg cd true y t side h slow books = goes_on (asks_in s p n atn msg cd y t h slow books)
+asks_by s p n atn msg cd false y t side h slow books = zero y side h slow books
   where
-    zero : (y : ℕ) → y ≡ 0 → Asking s p n atn msg cd false y t → KeepsBooksIn p (target_row t n (ends false false atn 0 msg cd false true y)) → AfterLink s p (target_row t n (ends false false atn 0 msg cd false true y)) n
-    zero y e h books = subst (λ k. AfterLink s p (target_row t n (ends false false atn 0 msg cd false true k)) n) (sym e) (goes_on (asks_out s p n atn msg cd t (subst (λ k. Asking s p n atn msg cd false k t) e h) (subst (λ k. KeepsBooksIn p (target_row t n (ends false false atn 0 msg cd false true k))) e books)))
+    zero : (y : ℕ) → y ≡ 0 → Asking s p n atn msg cd false y t → is_pulsed_phase true (connected_bus (ends false false atn 0 msg cd false false y)) (dialogue p).heard.now.agreement ≡ false → KeepsBooksIn p (target_row t n (ends false false atn 0 msg cd false true y)) → AfterLink s p (target_row t n (ends false false atn 0 msg cd false true y)) n
+    zero y e h slow books = subst (λ k. AfterLink s p (target_row t n (ends false false atn 0 msg cd false true k)) n) (sym e) (goes_on (asks_out s p n atn msg cd t (subst (λ k. Asking s p n atn msg cd false k t) e h) slow (subst (λ k. KeepsBooksIn p (target_row t n (ends false false atn 0 msg cd false true k))) e books)))
+
+byte_offset_at : (p : List Row) (n : Connection) (atn msg cd io : Bool) (y t : ℕ) → Linked p n (ends false false atn 0 msg cd io false y) → KeepsBooksIn p (target_row t n (ends false false atn 0 msg cd io true y)) → offset_here p < 256
+byte_offset_at p n atn msg cd io y t h books =
+    let m = target_moves p n (ends false false atn 0 msg cd io false y) msg cd io true y t h in
+    let now : is_row_of_connection p (target_row t n (ends false false atn 0 msg cd io true y)) ≡ true = λ i. is_some (h.stands.connection_is i) && not (h.stands.bus_is i).rst && not (m.linked.stands.bus_is i).rst in
+    lt_of (offset_here p) 256 (books now).offset
+
+-- The first REQ of a phase, byte by byte or by pulses.
+asks_first : (s : ScenarioValue) (p : List Row) (n : Connection) (atn msg cd io : Bool) (y t : ℕ) → OneSide io 0 y → handshakes p ≡ no_handshakes → pulses p ≡ no_pulses → Asking s p n atn msg cd io y t → KeepsBooksIn p (target_row t n (ends false false atn 0 msg cd io true y)) → AfterLink s p (target_row t n (ends false false atn 0 msg cd io true y)) n
+asks_first s p n atn msg cd io y t side quiet none h books = go (is_pulsed_phase true (connected_bus (ends false false atn 0 msg cd io false y)) (dialogue p).heard.now.agreement) refl
+  where
+    pulsed : (msg cd io : Bool) → OneSide io 0 y → Asking s p n atn msg cd io y t → KeepsBooksIn p (target_row t n (ends false false atn 0 msg cd io true y)) → is_pulsed_phase true (connected_bus (ends false false atn 0 msg cd io false y)) (dialogue p).heard.now.agreement ≡ true → AfterLink s p (target_row t n (ends false false atn 0 msg cd io true y)) n
+    pulsed true cd io side h books e = absurd cc
+    pulsed false true io side h books e = absurd cc
+    pulsed false false true side h books e = goes_on (starts_in s p n atn y t h e (byte_offset_at p n atn false false true y t h.linked books) quiet none books)
+    pulsed false false false side h books e =
+        let byte = byte_offset_at p n atn false false false y t h.linked books in
+        subst (λ k. AfterLink s p (target_row t n (ends false false atn 0 false false false true k)) n) (sym side) (goes_on (starts_out s p n atn t (subst (λ k. Asking s p n atn false false false k t) side h) e byte quiet none (subst (λ k. KeepsBooksIn p (target_row t n (ends false false atn 0 false false false true k))) side books)))
+
+    go : (q : Bool) → is_pulsed_phase true (connected_bus (ends false false atn 0 msg cd io false y)) (dialogue p).heard.now.agreement ≡ q → AfterLink s p (target_row t n (ends false false atn 0 msg cd io true y)) n
+    go false e = asks_by s p n atn msg cd io y t side h e books
+    go true e = pulsed msg cd io side h books e
 
 -- ---- a phase has begun, and REQ has not risen yet
 
@@ -118,7 +142,7 @@ not_sooner s p row n e lat time l always h begun_is there due_is late least =
 
 from_settling : (s : ScenarioValue) (p : List Row) (row : Row) (n : Connection) (bsy atn msg cd io : Bool) (y : ℕ) → HasShortLatencies s → CalmStanding s p → There s p → last_time p ≤ row.time → Settling p n bsy atn msg cd io y → KeepsBooksIn p row → IsLeast (unreset_due s p) 8 row → Mover s p n true (ends bsy false atn 0 msg cd io false y) row → AfterLink s p row n
 from_settling s p row n bsy atn msg cd io y fits always there order h books least (by_fault bit got same) =
-    subst (λ w. AfterLink s p w n) (sym same) (goes_on (strikes_byte s p n row.dev bit got (when_settling bsy atn msg cd io y h) (subst (λ w. KeepsBooksIn p w) same books)))
+    subst (λ w. AfterLink s p w n) (sym same) (goes_on (strikes_byte s p n row.dev bit always got (when_settling bsy atn msg cd io y h) (subst (λ w. KeepsBooksIn p w) same books)))
 from_settling s p row n true atn msg cd io y fits always there order h books least (by_initiator lat lat_is same e) =
     reacts s p n row n.initiator ((line_times p).sel + lat) (initiator_side (ends false false atn 0 msg cd io false y)) same (sym (handing_initiator s p n atn msg cd io y lat) ∙ e) books
     (λ at books. hands io (h.hands refl).0 h books at)
@@ -137,7 +161,7 @@ from_settling s p row n true atn msg cd io y fits always there order h books lea
     absurd (omega arith)
 from_settling s p row n false atn msg cd io y fits always there order h books least (by_target lat lat_is same e) =
     reacts s p n row n.target (phase_time (line_times p) + 400 + lat) (target_side (ends false false atn 0 msg cd io true y)) same (sym (settling_target s p n false atn msg cd io y lat h) ∙ e) books
-    (λ at books. asks_by s p n atn msg cd io y row.time h.side (record {
+    (λ at books. asks_first s p n atn msg cd io y row.time h.side h.quiet h.pulses_are (record {
       always = always;
       order = order;
       linked = h.linked;
@@ -146,12 +170,11 @@ from_settling s p row n false atn msg cd io y fits always there order h books le
       duty_is = may_ask (duty p) atn msg cd io h.phase.known h.phase.owes h.duty_is;
       turn = λ a b. let u = h.turned a b in omega arith;
       set_up = λ b. let u = h.driven in omega arith;
-      unpulsed = unpulsed_at p n atn msg cd io y row.time h.linked books;
     }) books)
 
 from_turning : (s : ScenarioValue) (p : List Row) (row : Row) (n : Connection) (atn : Bool) (x : ℕ) (msg cd : Bool) → HasShortLatencies s → CalmStanding s p → There s p → last_time p ≤ row.time → Turning s p n atn x msg cd → KeepsBooksIn p row → IsLeast (unreset_due s p) 8 row → Mover s p n true (ends false false atn x msg cd true false 0) row → AfterLink s p row n
 from_turning s p row n atn x msg cd fits always there order h books least (by_fault bit got same) =
-    subst (λ w. AfterLink s p w n) (sym same) (goes_on (strikes_byte s p n row.dev bit got (when_turning atn x msg cd h) (subst (λ w. KeepsBooksIn p w) same books)))
+    subst (λ w. AfterLink s p w n) (sym same) (goes_on (strikes_byte s p n row.dev bit always got (when_turning atn x msg cd h) (subst (λ w. KeepsBooksIn p w) same books)))
 from_turning s p row n atn x msg cd fits always there order h books least (by_initiator lat lat_is same e) = go (x == 0) refl
   where
     go : (q : Bool) → (x == 0) ≡ q → AfterLink s p row n
@@ -183,11 +206,11 @@ from_turning s p row n atn x msg cd fits always there order h books least (by_ta
 
 from_offering : (s : ScenarioValue) (p : List Row) (row : Row) (n : Connection) (atn msg cd : Bool) (y : ℕ) → CalmStanding s p → last_time p ≤ row.time → Offering p n atn msg cd y → KeepsBooksIn p row → Mover s p n true (ends false false atn 0 msg cd true false y) row → AfterLink s p row n
 from_offering s p row n atn msg cd y always order h books (by_fault bit got same) =
-    subst (λ w. AfterLink s p w n) (sym same) (goes_on (strikes_byte s p n row.dev bit got (when_offering atn msg cd y h) (subst (λ w. KeepsBooksIn p w) same books)))
+    subst (λ w. AfterLink s p w n) (sym same) (goes_on (strikes_byte s p n row.dev bit always got (when_offering atn msg cd y h) (subst (λ w. KeepsBooksIn p w) same books)))
 from_offering s p row n atn msg cd y always order h books (by_initiator lat lat_is same e) = absurd (never _ (due_of row) (offering_initiator s p n atn msg cd y lat h) e)
 from_offering s p row n atn msg cd y always order h books (by_target lat lat_is same e) =
     reacts s p n row n.target (own_time p n.target + 55 + lat) (target_side (ends false false atn 0 msg cd true true y)) same (sym (offering_target s p n atn msg cd y lat h) ∙ e) books
-    (λ at books. asks_by s p n atn msg cd true y row.time refl (record {
+    (λ at books. asks_first s p n atn msg cd true y row.time refl h.quiet h.pulses_are (record {
       always = always;
       order = order;
       linked = h.linked;
@@ -196,7 +219,6 @@ from_offering s p row n atn msg cd y always order h books (by_target lat lat_is 
       duty_is = may_ask (duty p) atn msg cd true h.phase.known h.phase.owes h.duty_is;
       turn = λ a b. let u = h.waited in omega arith;
       set_up = λ b. let u = h.driven in omega arith;
-      unpulsed = unpulsed_at p n atn msg cd true y row.time h.linked books;
     }) books)
 
 -- ---- byte by byte
@@ -245,8 +267,7 @@ between_in s p row n msg cd atn y always order h books lat same e = go (offering
           duty_is = owed_in (duty p) atn msg cd h.phase.owes h.phase.known (must_end s p n msg cd atn y h f);
           turn = λ a b. let u = h.turned a b in omega arith;
           set_up = λ b. let u = h.driven in omega arith;
-          unpulsed = h.unpulsed;
-        }) books)
+        }) h.unpulsed books)
     go false f e =
         reacts s p n row n.target ((line_times p).ack + lat + (offering_with s p n true (ends false false atn 0 msg cd true false y)).wait) (offering_with s p n true (ends false false atn 0 msg cd true false y)).to same e books
         (λ at books. leaves_phase s p n msg cd true atn 0 y row.time always order h f books)
@@ -266,8 +287,7 @@ between_out s p row n msg cd atn always order h books lat same e = go (offering_
           duty_is = may_ask (duty p) atn msg cd false h.phase.known h.phase.owes (owed_out (duty p));
           turn = λ a b. absurd cc;
           set_up = λ b. absurd cc;
-          unpulsed = h.unpulsed;
-        }) books)
+        }) h.unpulsed books)
     go false f e =
         reacts s p n row n.target ((line_times p).ack + lat + (offering_with s p n true (ends false false atn 0 msg cd false false 0)).wait) (offering_with s p n true (ends false false atn 0 msg cd false false 0)).to same e books
         (λ at books. leaves_phase s p n msg cd false atn 0 0 row.time always order h f books)
@@ -327,7 +347,7 @@ by_initiator_out s p row n msg cd false false atn x always order h books lat sam
 -- Both ends.
 shaking_in : (s : ScenarioValue) (p : List Row) (row : Row) (n : Connection) (msg cd req ack atn : Bool) (y : ℕ) → CalmStanding s p → last_time p ≤ row.time → Shaking p n msg cd true req ack atn 0 y → KeepsBooksIn p row → Mover s p n true (ends false ack atn 0 msg cd true req y) row → AfterLink s p row n
 shaking_in s p row n msg cd req ack atn y always order h books (by_fault bit got same) =
-    subst (λ w. AfterLink s p w n) (sym same) (goes_on (strikes_byte s p n row.dev bit got (when_shaking msg cd true req ack atn 0 y h) (subst (λ w. KeepsBooksIn p w) same books)))
+    subst (λ w. AfterLink s p w n) (sym same) (goes_on (strikes_byte s p n row.dev bit always got (when_shaking msg cd true req ack atn 0 y h) (subst (λ w. KeepsBooksIn p w) same books)))
 shaking_in s p row n msg cd req ack atn y always order h books (by_initiator lat lat_is same e) = by_initiator_in s p row n msg cd req ack atn y order h books lat same e
 shaking_in s p row n msg cd true true atn y always order h books (by_target lat lat_is same e) = from_answered s p row n msg cd true atn 0 y always order h books lat same e
 shaking_in s p row n msg cd true false atn y always order h books (by_target lat lat_is same e) = absurd (never _ (due_of row) (asking_target s p n msg cd true atn 0 y lat h) e)
@@ -336,7 +356,7 @@ shaking_in s p row n msg cd false false atn y always order h books (by_target la
 
 shaking_out : (s : ScenarioValue) (p : List Row) (row : Row) (n : Connection) (msg cd req ack atn : Bool) (x : ℕ) → CalmStanding s p → last_time p ≤ row.time → Shaking p n msg cd false req ack atn x 0 → KeepsBooksIn p row → Mover s p n true (ends false ack atn x msg cd false req 0) row → AfterLink s p row n
 shaking_out s p row n msg cd req ack atn x always order h books (by_fault bit got same) =
-    subst (λ w. AfterLink s p w n) (sym same) (goes_on (strikes_byte s p n row.dev bit got (when_shaking msg cd false req ack atn x 0 h) (subst (λ w. KeepsBooksIn p w) same books)))
+    subst (λ w. AfterLink s p w n) (sym same) (goes_on (strikes_byte s p n row.dev bit always got (when_shaking msg cd false req ack atn x 0 h) (subst (λ w. KeepsBooksIn p w) same books)))
 shaking_out s p row n msg cd req ack atn x always order h books (by_initiator lat lat_is same e) = by_initiator_out s p row n msg cd req ack atn x always order h books lat same e
 shaking_out s p row n msg cd true true atn x always order h books (by_target lat lat_is same e) = from_answered s p row n msg cd false atn x 0 always order h books lat same e
 shaking_out s p row n msg cd true false atn x always order h books (by_target lat lat_is same e) = absurd (never _ (due_of row) (asking_target s p n msg cd false atn x 0 lat h) e)
@@ -344,28 +364,180 @@ shaking_out s p row n msg cd false true atn x always order h books (by_target la
 shaking_out s p row n msg cd false false atn x always order h books (by_target lat lat_is same e) =
     between_out s p row n msg cd atn always order (subst (λ z. Shaking p n msg cd false false false atn z 0) h.driven h) books lat same (subst (λ z. target_plain s p n true (ends false false atn z msg cd false false 0) lat ≡ Some (due_of row)) h.driven e)
 
+-- ---- by pulses
+
+next_of : (s : ScenarioValue) (p : List Row) (row : Row) (n : Connection) (io req ack atn : Bool) (x y : ℕ) → NextPulsing s p row n io req ack atn x y → NextLinked s p row n
+next_of s p row n io req ack atn x y g = record { order = g.order; obeys = g.obeys; stage = when_pulsing io req ack atn x y g.pulsing g.ahead }
+
+pulses_react : (s : ScenarioValue) (p : List Row) (n : Connection) (row : Row) (io req ack atn : Bool) (x y d time : ℕ) (l : LineSet) → row.dev ≡ d → due_at time l ≡ Some (due_of row) → PulseHere s p row n io req ack atn x y → (row.time ≡ time → PulseHere s p (row_of_lines row.time d l) n io req ack atn x y → NextLinked s p (row_of_lines row.time d l) n) → AfterLink s p row n
+pulses_react s p n row io req ack atn x y d time l same e h f =
+    let z = is_at time l (due_of row) e in
+    let r : row ≡ row_of_lines row.time d l = λ i. record { time = row.time; dev = same i; kind = z.kind_is i } in
+    subst (λ w. AfterLink s p w n) (sym r) (goes_on (f z.time_is (subst (λ w. PulseHere s p w n io req ack atn x y) r h)))
+
+owed_data : (d : Duty) (atn : Bool) → fits_duty d atn false ≡ true → implies (is_owed d) false ≡ true
+owed_data duties.Nothing atn f = refl
+owed_data duties.Asked atn f = refl
+owed_data duties.Owed atn f = let w = sym f ∙ and_false atn in absurd cc
+
+attends_none : (q : Bool) → implies q (false || false) ≡ true → q ≡ false
+attends_none true e = sym e
+attends_none false e = refl
+
+or_parts : (a b : Bool) → (not a || b) ≡ false → (a ≡ true) × (b ≡ false)
+or_parts true b e = (refl, e)
+or_parts false b e = absurd cc
+
+is_same : (a b : ℕ) → (a == b) ≡ true → a ≡ b
+is_same a b e = grind (arith, nat_tests)
+
+by_target_in : (s : ScenarioValue) (p : List Row) (row : Row) (n : Connection) (req ack atn : Bool) (y lat : ℕ) → latency_of s n.target ≡ Some lat → row.dev ≡ n.target → PulseHere s p row n true req ack atn 0 y → target_plain s p n true (ends false ack atn 0 false false true req y) lat ≡ Some (due_of row) → AfterLink s p row n
+by_target_in s p row n true ack atn y lat there same h e =
+    pulses_react s p n row true true ack atn 0 y n.target ((line_times p).req + (times_here p).assertion + lat) (target_side (ends false ack atn 0 false false true false y)) same (sym (pulsed_target_in s p n true ack atn y lat h.pulsing.offset h.pulsing.facts.asked) ∙ e) h
+    (λ at k. next_of s p _ n true false ack atn 0 y (req_ends_in s p n ack atn y row.time lat there at k))
+by_target_in s p row n false ack atn y lat there same h e = changes (y == next_bits s p n) refl (sym (pulsed_target_in s p n false ack atn y lat h.pulsing.offset h.pulsing.facts.asked) ∙ e)
+  where
+    leaves : (q : Bool) → (not (length (handshakes p).waiting == 0) || ack) ≡ q → (if q then None else due_at (leaving_time p true lat) (offering_with s p n true (ends false ack atn 0 false false true false y)).to) ≡ Some (due_of row) → AfterLink s p row n
+    leaves true z e = absurd (none_some (due_of row) e)
+    leaves false z e =
+        let parts = or_parts (length (handshakes p).waiting == 0) ack z in
+        at_rest ack parts.1 h parts.0 e
+      where
+        at_rest : (ack : Bool) → ack ≡ false → PulseHere s p row n true false ack atn 0 y → (length (handshakes p).waiting == 0) ≡ true → due_at (leaving_time p true lat) (offering_with s p n true (ends false ack atn 0 false false true false y)).to ≡ Some (due_of row) → AfterLink s p row n
+        at_rest true a h idle e = absurd cc
+        at_rest false a h idle e =
+            let v : Serving = serving_at s (run_state s p) n.target (phase_of (connected_bus (ends false false atn 0 false false true false y))) in
+            let l : Leaving = phase_leaving v atn (phase_of (connected_bus (ends false false atn 0 false false true false y))) in
+            pulses_react s p n row true false false atn 0 y n.target (leaving_time p true lat) (offering_with s p n true (ends false false atn 0 false false true false y)).to same e h
+            (λ at k. pulsed_leaves_in s p n atn y row.time v l l.to k.always k.order k.pulsing idle (omega arith) (leaves_lines v false false true atn 0 y refl) k.books)
+
+    rooms : (q : Bool) → nat_lt (length (handshakes p).waiting) (offset_here p) ≡ q → (if q then due_at (pulse_time p true lat) (target_side (ends false ack atn 0 false false true true y)) else None) ≡ Some (due_of row) → AfterLink s p row n
+    rooms false z e = absurd (none_some (due_of row) e)
+    rooms true z e =
+        pulses_react s p n row true false ack atn 0 y n.target (pulse_time p true lat) (target_side (ends false ack atn 0 false false true true y)) same e h
+        (λ at k. next_of s p _ n true true ack atn 0 y (req_pulses_in s p n ack atn y row.time lat there at z (owed_data (duty p) atn h.pulsing.phase.owes) k))
+
+    follows : (q : Bool) → nat_lt (handshakes p).requests (run_count s p n) ≡ q → (if q then (if nat_lt (length (handshakes p).waiting) (offset_here p) then due_at (pulse_time p true lat) (target_side (ends false ack atn 0 false false true true y)) else None) else if not (length (handshakes p).waiting == 0) || ack then None else due_at (leaving_time p true lat) (offering_with s p n true (ends false ack atn 0 false false true false y)).to) ≡ Some (due_of row) → AfterLink s p row n
+    follows true z e = rooms (nat_lt (length (handshakes p).waiting) (offset_here p)) refl e
+    follows false z e = leaves (not (length (handshakes p).waiting == 0) || ack) refl e
+
+    changes : (q : Bool) → (y == next_bits s p n) ≡ q → (if not q then due_at (hold_end_time p lat) (target_side (ends false ack atn 0 false false true false (next_bits s p n))) else if nat_lt (handshakes p).requests (run_count s p n) then (if nat_lt (length (handshakes p).waiting) (offset_here p) then due_at (pulse_time p true lat) (target_side (ends false ack atn 0 false false true true y)) else None) else if not (length (handshakes p).waiting == 0) || ack then None else due_at (leaving_time p true lat) (offering_with s p n true (ends false ack atn 0 false false true false y)).to) ≡ Some (due_of row) → AfterLink s p row n
+    changes false z e =
+        pulses_react s p n row true false ack atn 0 y n.target (hold_end_time p lat) (target_side (ends false ack atn 0 false false true false (next_bits s p n))) same e h
+        (λ at k. next_of s p _ n true false ack atn 0 (next_bits s p n) (byte_changes_in s p n ack atn y row.time lat there at z k))
+    changes true z e = follows (nat_lt (handshakes p).requests (run_count s p n)) refl e
+
+by_target_out : (s : ScenarioValue) (p : List Row) (row : Row) (n : Connection) (req ack atn : Bool) (x lat : ℕ) → latency_of s n.target ≡ Some lat → row.dev ≡ n.target → PulseHere s p row n false req ack atn x 0 → target_plain s p n true (ends false ack atn x false false false req 0) lat ≡ Some (due_of row) → AfterLink s p row n
+by_target_out s p row n true ack atn x lat there same h e =
+    pulses_react s p n row false true ack atn x 0 n.target ((line_times p).req + (times_here p).assertion + lat) (target_side (ends false ack atn x false false false false 0)) same (sym (pulsed_target_out s p n true ack atn x lat h.pulsing.offset h.pulsing.facts.asked) ∙ e) h
+    (λ at k. next_of s p _ n false false ack atn x 0 (req_ends_out s p n ack atn x row.time lat there at k))
+by_target_out s p row n false ack atn x lat there same h e = follows (nat_lt (handshakes p).requests (run_count s p n)) refl (sym (pulsed_target_out s p n false ack atn x lat h.pulsing.offset h.pulsing.facts.asked) ∙ e)
+  where
+    leaves : (q : Bool) → (not (length (handshakes p).waiting == 0) || ack) ≡ q → (if q then None else due_at (leaving_time p false lat) (offering_with s p n true (ends false ack atn x false false false false 0)).to) ≡ Some (due_of row) → AfterLink s p row n
+    leaves true z e = absurd (none_some (due_of row) e)
+    leaves false z e =
+        let parts = or_parts (length (handshakes p).waiting == 0) ack z in
+        at_rest ack atn parts.1 (attends_none atn h.pulsing.phase.asks) h parts.0 e
+      where
+        at_rest : (ack atn : Bool) → ack ≡ false → atn ≡ false → PulseHere s p row n false false ack atn x 0 → (length (handshakes p).waiting == 0) ≡ true → due_at (leaving_time p false lat) (offering_with s p n true (ends false ack atn x false false false false 0)).to ≡ Some (due_of row) → AfterLink s p row n
+        at_rest true atn a b h idle e = absurd cc
+        at_rest false true a b h idle e = absurd cc
+        at_rest false false a b h idle e =
+            let v : Serving = serving_at s (run_state s p) n.target (phase_of (connected_bus (ends false false false x false false false false 0))) in
+            let l : Leaving = phase_leaving v false (phase_of (connected_bus (ends false false false x false false false false 0))) in
+            pulses_react s p n row false false false false x 0 n.target (leaving_time p false lat) (offering_with s p n true (ends false false false x false false false false 0)).to same e h
+            (λ at k. pulsed_leaves_out s p n x row.time v l l.to idle (data_out_to_initiator v) k)
+
+    rooms : (q : Bool) → nat_lt (length (handshakes p).waiting) (offset_here p) ≡ q → (if q then due_at (pulse_time p false lat) (target_side (ends false ack atn x false false false true 0)) else None) ≡ Some (due_of row) → AfterLink s p row n
+    rooms false z e = absurd (none_some (due_of row) e)
+    rooms true z e =
+        pulses_react s p n row false false ack atn x 0 n.target (pulse_time p false lat) (target_side (ends false ack atn x false false false true 0)) same e h
+        (λ at k. next_of s p _ n false true ack atn x 0 (req_pulses_out s p n ack atn x row.time lat there at z (owed_data (duty p) atn h.pulsing.phase.owes) k))
+
+    follows : (q : Bool) → nat_lt (handshakes p).requests (run_count s p n) ≡ q → (if q then (if nat_lt (length (handshakes p).waiting) (offset_here p) then due_at (pulse_time p false lat) (target_side (ends false ack atn x false false false true 0)) else None) else if not (length (handshakes p).waiting == 0) || ack then None else due_at (leaving_time p false lat) (offering_with s p n true (ends false ack atn x false false false false 0)).to) ≡ Some (due_of row) → AfterLink s p row n
+    follows true z e = rooms (nat_lt (length (handshakes p).waiting) (offset_here p)) refl e
+    follows false z e = leaves (not (length (handshakes p).waiting == 0) || ack) refl e
+
+pulsed_by_initiator_in : (s : ScenarioValue) (p : List Row) (row : Row) (n : Connection) (req ack atn : Bool) (y lat : ℕ) → row.dev ≡ n.initiator → PulseHere s p row n true req ack atn 0 y → initiator_plain s p n true (ends false ack atn 0 false false true req y) lat ≡ Some (due_of row) → AfterLink s p row n
+pulsed_by_initiator_in s p row n req true atn y lat same h e =
+    pulses_react s p n row true req true atn 0 y n.initiator (ack_pulse_end_time p atn lat) (initiator_side (ends false false atn 0 false false true req y)) same (sym (pulsed_initiator_in s p n req true atn y lat h.pulsing.offset) ∙ e) h
+    (λ at k. next_of s p _ n true req false atn 0 y (ends_pulse_in s p n req atn y row.time lat at k))
+pulsed_by_initiator_in s p row n req false atn y lat same h e = go (length (handshakes p).waiting == 0) refl (sym (pulsed_initiator_in s p n req false atn y lat h.pulsing.offset) ∙ e)
+  where
+    go : (q : Bool) → (length (handshakes p).waiting == 0) ≡ q → (if not q then due_at (answer_time s p n + lat) (initiator_side (ends false true (is_struck (first_of (handshakes p).waiting) || atn) 0 false false true req y)) else None) ≡ Some (due_of row) → AfterLink s p row n
+    go true z e = absurd (none_some (due_of row) e)
+    go false z e =
+        pulses_react s p n row true req false atn 0 y n.initiator (answer_time s p n + lat) (initiator_side (ends false true (is_struck (first_of (handshakes p).waiting) || atn) 0 false false true req y)) same e h
+        (λ at k. next_of s p _ n true req true (is_struck (first_of (handshakes p).waiting) || atn) 0 y (answers_pulse_in s p n req atn (is_struck (first_of (handshakes p).waiting) || atn) y row.time lat at z k))
+
+pulsed_by_initiator_out : (s : ScenarioValue) (p : List Row) (row : Row) (n : Connection) (req ack atn : Bool) (x lat : ℕ) → latency_of s n.initiator ≡ Some lat → row.dev ≡ n.initiator → PulseHere s p row n false req ack atn x 0 → initiator_plain s p n true (ends false ack atn x false false false req 0) lat ≡ Some (due_of row) → AfterLink s p row n
+pulsed_by_initiator_out s p row n req true atn x lat there same h e =
+    pulses_react s p n row false req true atn x 0 n.initiator (ack_pulse_end_time p atn lat) (initiator_side (ends false false atn x false false false req 0)) same (sym (pulsed_initiator_out s p n req true atn x lat h.pulsing.offset) ∙ e) h
+    (λ at k. next_of s p _ n false req false atn x 0 (ends_pulse_out s p n req atn x row.time lat there at k))
+pulsed_by_initiator_out s p row n req false atn x lat there same h e = go (length (handshakes p).waiting == 0) refl (sym (pulsed_initiator_out s p n req false atn x lat h.pulsing.offset) ∙ e)
+  where
+    given : ℕ
+    given = given_bits s p n (ends false false atn x false false false req 0)
+
+    waits : (length (handshakes p).waiting == 0) ≡ false → (q : Bool) → (x == given) ≡ q → (if q then due_at (max (answer_time s p n) (byte_driven_time p n lat + (times_here p).set_up) + lat) (initiator_side (ends false true atn x false false false req 0)) else due_at (byte_driven_time p n lat) (initiator_side (ends false false atn given false false false req 0))) ≡ Some (due_of row) → AfterLink s p row n
+    waits some true z e =
+        let byte : (x == 0) ≡ false = ap (λ (k : ℕ). k == 0) (is_same x given z) ∙ some_byte (answering_with s p n (ends false false atn x false false false req 0)).byte in
+        pulses_react s p n row false req false atn x 0 n.initiator (max (answer_time s p n) (byte_driven_time p n lat + (times_here p).set_up) + lat) (initiator_side (ends false true atn x false false false req 0)) same e h
+        (λ at k. next_of s p _ n false req true atn x 0 (answers_pulse_out s p n req atn x row.time lat there at some byte k))
+    waits some false z e =
+        pulses_react s p n row false req false atn x 0 n.initiator (byte_driven_time p n lat) (initiator_side (ends false false atn given false false false req 0)) same e h
+        (λ at k. next_of s p _ n false req false atn given 0 (gives_pulsed_byte s p n req atn x given row.time lat there at some z k))
+
+    idle : (length (handshakes p).waiting == 0) ≡ true → (q : Bool) → (x == 0) ≡ q → (if q then None else due_at (release_time p n lat) (initiator_side (ends false false atn 0 false false false req 0))) ≡ Some (due_of row) → AfterLink s p row n
+    idle empty true z e = absurd (none_some (due_of row) e)
+    idle empty false z e =
+        pulses_react s p n row false req false atn x 0 n.initiator (release_time p n lat) (initiator_side (ends false false atn 0 false false false req 0)) same e h
+        (λ at k. next_of s p _ n false req false atn 0 0 (releases_pulsed_byte s p n req atn x row.time lat there at empty z k))
+
+    go : (q : Bool) → (length (handshakes p).waiting == 0) ≡ q → (if not q then (if x == given then due_at (max (answer_time s p n) (byte_driven_time p n lat + (times_here p).set_up) + lat) (initiator_side (ends false true atn x false false false req 0)) else due_at (byte_driven_time p n lat) (initiator_side (ends false false atn given false false false req 0))) else if x == 0 then None else due_at (release_time p n lat) (initiator_side (ends false false atn 0 false false false req 0))) ≡ Some (due_of row) → AfterLink s p row n
+    go false z e = waits z (x == given) refl e
+    go true z e = idle z (x == 0) refl e
+
+from_pulsing : (s : ScenarioValue) (p : List Row) (row : Row) (n : Connection) (io req ack atn : Bool) (x y : ℕ) → PulseHere s p row n io req ack atn x y → Mover s p n true (ends false ack atn x false false io req y) row → AfterLink s p row n
+from_pulsing s p row n io req ack atn x y h (by_fault bit got same) =
+    subst (λ w. AfterLink s p w n) (sym same) (goes_on (strikes_byte s p n row.dev bit h.always got (when_pulsing io req ack atn x y h.pulsing h.ahead) (subst (λ w. KeepsBooksIn p w) same h.books)))
+from_pulsing s p row n true req ack atn x y h (by_initiator lat there same e) =
+    let z = h.pulsing.side in
+    pulsed_by_initiator_in s p row n req ack atn y lat same (subst (λ k. PulseHere s p row n true req ack atn k y) z h) (subst (λ k. initiator_plain s p n true (ends false ack atn k false false true req y) lat ≡ Some (due_of row)) z e)
+from_pulsing s p row n false req ack atn x y h (by_initiator lat there same e) =
+    let z = h.pulsing.side in
+    pulsed_by_initiator_out s p row n req ack atn x lat there same (subst (λ k. PulseHere s p row n false req ack atn x k) z h) (subst (λ k. initiator_plain s p n true (ends false ack atn x false false false req k) lat ≡ Some (due_of row)) z e)
+from_pulsing s p row n true req ack atn x y h (by_target lat there same e) =
+    let z = h.pulsing.side in
+    by_target_in s p row n req ack atn y lat there same (subst (λ k. PulseHere s p row n true req ack atn k y) z h) (subst (λ k. target_plain s p n true (ends false ack atn k false false true req y) lat ≡ Some (due_of row)) z e)
+from_pulsing s p row n false req ack atn x y h (by_target lat there same e) =
+    let z = h.pulsing.side in
+    by_target_out s p row n req ack atn x lat there same (subst (λ k. PulseHere s p row n false req ack atn x k) z h) (subst (λ k. target_plain s p n true (ends false ack atn x false false false req k) lat ≡ Some (due_of row)) z e)
+
 -- ---- any stage
 
 from_selected : (s : ScenarioValue) (p : List Row) (row : Row) (n : Connection) → CalmStanding s p → last_time p ≤ row.time → BeginsSelected p n → KeepsBooksIn p row → Mover s p n false ends_selected row → AfterLink s p row n
 from_selected s p row n always order h books (by_fault bit got same) =
-    subst (λ w. AfterLink s p w n) (sym same) (goes_on (strikes_byte s p n row.dev bit got (when_selected h) (subst (λ w. KeepsBooksIn p w) same books)))
+    subst (λ w. AfterLink s p w n) (sym same) (goes_on (strikes_byte s p n row.dev bit always got (when_selected h) (subst (λ w. KeepsBooksIn p w) same books)))
 from_selected s p row n always order h books (by_initiator lat lat_is same e) = absurd (never _ (due_of row) (selected_initiator s p n lat) e)
 from_selected s p row n always order h books (by_target lat lat_is same e) =
     reacts s p n row n.target ((line_times p).sel + lat) (target_side (ends false false true 0 true true false false 0)) same (sym (selected_target s p n lat) ∙ e) books
     (λ at books. goes_on (opens s p n row.time always order h books))
 
-pub from_link : (s : ScenarioValue) (p : List Row) (row : Row) (n : Connection) → HasShortLatencies s → CalmStanding s p → There s p → LinkStage s p n → KeepsBooksIn p row → IsLeast (unreset_due s p) 8 row → AfterLink s p row n
-from_link s p row n fits always there (when_selected h) books least =
+pub from_link : (s : ScenarioValue) (p : List Row) (row : Row) (n : Connection) → HasShortLatencies s → CalmStanding s p → There s p → length p + 1 < 2 ^ 64 → LinkStage s p n → KeepsBooksIn p row → IsLeast (unreset_due s p) 8 row → AfterLink s p row n
+from_link s p row n fits always there short (when_selected h) books least =
     from_selected s p row n always (always.ahead row.dev least.inside (due_of row) least.is_due) h books (mover_is s p n false ends_selected row always.devices h.linked h.begun_is least)
-from_link s p row n fits always there (when_settling bsy atn msg cd io y h) books least =
+from_link s p row n fits always there short (when_settling bsy atn msg cd io y h) books least =
     from_settling s p row n bsy atn msg cd io y fits always there (always.ahead row.dev least.inside (due_of row) least.is_due) h books least (mover_is s p n true _ row always.devices h.linked h.phase.begun_is least)
-from_link s p row n fits always there (when_turning atn x msg cd h) books least =
+from_link s p row n fits always there short (when_turning atn x msg cd h) books least =
     from_turning s p row n atn x msg cd fits always there (always.ahead row.dev least.inside (due_of row) least.is_due) h books least (mover_is s p n true _ row always.devices h.linked h.phase.begun_is least)
-from_link s p row n fits always there (when_offering atn msg cd y h) books least =
+from_link s p row n fits always there short (when_offering atn msg cd y h) books least =
     from_offering s p row n atn msg cd y always (always.ahead row.dev least.inside (due_of row) least.is_due) h books (mover_is s p n true _ row always.devices h.linked h.phase.begun_is least)
-from_link s p row n fits always there (when_shaking msg cd true req ack atn x y h) books least =
+from_link s p row n fits always there short (when_shaking msg cd true req ack atn x y h) books least =
     let z = subst (λ k. Shaking p n msg cd true req ack atn k y) h.side h in
     shaking_in s p row n msg cd req ack atn y always (always.ahead row.dev least.inside (due_of row) least.is_due) z books (mover_is s p n true _ row always.devices z.linked z.phase.begun_is least)
-from_link s p row n fits always there (when_shaking msg cd false req ack atn x y h) books least =
+from_link s p row n fits always there short (when_shaking msg cd false req ack atn x y h) books least =
     let z = subst (λ k. Shaking p n msg cd false req ack atn x k) h.side h in
     shaking_out s p row n msg cd req ack atn x always (always.ahead row.dev least.inside (due_of row) least.is_due) z books (mover_is s p n true _ row always.devices z.linked z.phase.begun_is least)
+from_link s p row n fits always there short (when_pulsing io req ack atn x y h a) books least =
+    from_pulsing s p row n io req ack atn x y (record { always = always; order = always.ahead row.dev least.inside (due_of row) least.is_due; pulsing = h; ahead = a; short = short; least = least; books = books }) (mover_is s p n true _ row always.devices h.linked h.phase.begun_is least)

@@ -18,7 +18,8 @@ use Rattle.bus_dialogue.specs.Ends.{is_pulsed_phase}
 use Rattle.scenario.specs.Value.{ScenarioValue}
 use Rattle.bus_laws.specs.Stages.{CalmStanding}
 use Rattle.bus_laws.specs.Ends.{EndLines, connected_bus}
-use Rattle.link_laws.specs.Phases.{ends, fits_duty, InPhase, HasTurned, LinkStage}
+use Rattle.link_laws.specs.Phases.{ends, fits_duty, InPhase, HasTurned}
+use Rattle.link_laws.specs.LinkStages.{LinkStage}
 use Rattle.link_laws.proofs.Duties.{duty_goes_on}
 use Rattle.link_laws.proofs.Moves.{InPhaseRow}
 

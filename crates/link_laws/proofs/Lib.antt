@@ -14,6 +14,16 @@ pub mod Enters
 pub mod Asks
 pub mod Faults
 pub mod PhaseEnds
+pub mod PulseObeys
+pub mod DataRows
+pub mod PulseDues
+pub mod PulseSteps
+pub mod PulseAhead
+pub mod PulseRows
+pub mod PulseIn
+pub mod PulseOut
+pub mod PulseStarts
+pub mod PulseEnds
 pub mod FromLink
 pub mod Traces
 mod Cases

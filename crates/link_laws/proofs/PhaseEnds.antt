@@ -45,7 +45,8 @@ use Rattle.bus_laws.proofs.Dues.{is_there, is_entry, free_due_is}
 use Rattle.bus_laws.proofs.Apart.{change_plain}
 use Rattle.bus_laws.proofs.FromReset.{ends_link}
 use Rattle.link_laws.specs.Books.{KeepsBooksIn}
-use Rattle.link_laws.specs.Phases.{ends, Shaking, LinkStage, when_settling, when_turning}
+use Rattle.link_laws.specs.Phases.{ends, Shaking}
+use Rattle.link_laws.specs.LinkStages.{LinkStage, when_settling, when_turning}
 use Rattle.link_laws.proofs.Moves.{target_moves}
 use Rattle.link_laws.proofs.LinkSeen.{around, obeys_linked}
 use Rattle.link_laws.proofs.LinkObeys.{same_phases, phase_goes_on_in, phase_turns_out, phase_begins_out}
@@ -167,7 +168,7 @@ link_ends s p row n h lt stood alone =
     go true = refl
     go false = refl
 
-freeing_change : (p : List Row) (n : Connection) (e : EndLines) (t : ℕ) → Linked p n e → initiator_side e ≡ none → change_of p (row_of_lines t n.target none) ≡ change_to (connected_bus e) none (target_side e) none
+pub freeing_change : (p : List Row) (n : Connection) (e : EndLines) (t : ℕ) → Linked p n e → initiator_side e ≡ none → change_of p (row_of_lines t n.target none) ≡ change_to (connected_bus e) none (target_side e) none
 freeing_change p n e t h quiet =
     let q : List Row = row_of_lines t n.target none ∷ p in
     change_is p t n.target none none (connected_bus e) none (target_side e) refl h.stands.bus_is (bus_none q (λ d lt. elim (cases_eq d n.target) [

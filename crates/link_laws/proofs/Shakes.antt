@@ -16,7 +16,8 @@ use Rattle.bus_laws.specs.Ends.{EndLines, initiator_side, target_side, connected
 use Rattle.bus_laws.proofs.Rows.{own_time_own, own_time_other}
 use Rattle.bus_laws.proofs.Tests.{eq_self}
 use Rattle.link_laws.specs.Books.{KeepsBooksIn}
-use Rattle.link_laws.specs.Phases.{ends, Shaking, when_shaking}
+use Rattle.link_laws.specs.Phases.{ends, Shaking}
+use Rattle.link_laws.specs.LinkStages.{when_shaking}
 use Rattle.link_laws.proofs.Moves.{initiator_moves, target_moves, initiator_in_phase, target_in_phase}
 use Rattle.link_laws.proofs.LinkSeen.{around, obeys_linked}
 use Rattle.link_laws.proofs.LinkObeys.{req_falls_in, req_falls_out, ack_falls_in, ack_falls_out, ack_rises_in, byte_obeys, ack_rises_out}

@@ -1,6 +1,6 @@
 -- Rows of prompt traces, connections and all.
-use Rattle.std.proofs.Common.{◌≡◌, ◌≤◌, Bool, true, false, not, ◌&&◌, ◌∙◌, List, [], ◌∷◌, Some, None, refl, sym, ap, subst, arith}
-use Rattle.std.specs.Prelude.{is_some}
+use Rattle.std.proofs.Common.{◌≡◌, ◌≤◌, Bool, true, false, not, ◌&&◌, ◌∙◌, List, [], ◌∷◌, None, refl, sym, ap, subst, arith}
+use Rattle.std.specs.Prelude.{◌<◌, ◌+◌, ◌^◌, length, is_some}
 use Rattle.std.proofs.lemmas.Bool.{and_parts}
 use Rattle.bus_trace.specs.LineSet.{LineSet, data_of}
 use Rattle.bus_trace.specs.declared.Row.{Row}
@@ -10,34 +10,24 @@ use Rattle.bus_trace.specs.Trace.{bus, last_time, since, line_times, phase_time}
 use Rattle.bus_trace.specs.Terms.{connection}
 use Rattle.bus_trace.proofs.Ages.{since_le}
 use Rattle.bus_phases.specs.declared.attention.Duty.{Duty}
-use Rattle.bus_rules.specs.Rules.{broken_rule}
 use Rattle.scenario.specs.Value.{ScenarioValue}
-use Rattle.bus_due.specs.Next.{due, next, IsPrompt}
+use Rattle.bus_due.specs.Next.{due, IsPrompt}
 use Rattle.bus_due.specs.Least.{IsLeast}
 use Rattle.bus_due.specs.Plain.{AreOfDevices}
-use Rattle.bus_laws.specs.Ends.{BeginsConnection, by_selection, by_reselection}
+use Rattle.bus_laws.specs.Ends.{EndLines, Linked, BeginsConnection, by_selection, by_reselection}
 use Rattle.bus_laws.specs.Stages.{HasShortLatencies, BusStage, on_free_bus, in_arbitration, after_arbitration, with_both_ids, awaiting_answer, after_withdrawal, after_answer, after_takeover, in_reset, in_connection, Standing, NextRow, is_connected}
 use Rattle.bus_laws.proofs.Tests.{and_false}
 use Rattle.bus_laws.proofs.Prompt.{least_is}
 use Rattle.bus_laws.proofs.ResetSteps.{raises}
 use Rattle.bus_laws.proofs.Together.{standing_first, stage_first, standing_after, standing_next, from_stage, ahead_with_resets, by_reset, by_calm, reset_or_calm}
-use Rattle.link_laws.specs.Books.{has_odd_byte, has_whole_messages, has_whole_command, is_byte_by_byte, KeepsBooksIn, in_connections, have_odd_bytes, have_whole_messages, have_whole_commands, go_byte_by_byte}
-use Rattle.link_laws.specs.Phases.{fits_duty, is_owed_out, LinkStage, when_selected, when_settling, when_turning, when_offering, when_shaking}
+use Rattle.link_laws.specs.Books.{has_odd_byte, has_whole_messages, has_whole_command, has_byte_offset, frees_in_time, KeepsBooksIn, in_connections, have_odd_bytes, have_whole_messages, have_whole_commands, have_byte_offsets, free_in_time}
+use Rattle.link_laws.specs.Phases.{fits_duty, is_owed_out}
+use Rattle.link_laws.specs.LinkStages.{LinkStage, when_selected, when_settling, when_turning, when_offering, when_shaking, when_pulsing, AnyStage, apart, linked, NextAny}
+use Rattle.link_laws.specs.LinkStages.{LinkStage, when_selected, when_settling, when_turning, when_offering, when_shaking}
 use Rattle.link_laws.proofs.Ahead.{stage_ahead}
 use Rattle.link_laws.proofs.Enters.{below_differs}
 use Rattle.link_laws.proofs.PhaseEnds.{AfterLink, goes_on, frees}
 use Rattle.link_laws.proofs.FromLink.{from_link}
-
--- What stands after some rows: one of the stages without a connection, or one of a connection.
-pub data AnyStage (s : ScenarioValue) (p : List Row) : Type 0 where
-  apart : BusStage s p → is_connected p ≡ false → AnyStage s p
-  linked : (n : Connection) → LinkStage s p n → AnyStage s p
-
--- What the next row does.
-pub record NextAny (s : ScenarioValue) (p : List Row) (row : Row) : Type 0 where
-  pub obeys : broken_rule p row ≡ None
-  pub standing : Standing s (row ∷ p)
-  pub here : AnyStage s (row ∷ p)
 
 -- ---- a connection begins
 
@@ -110,12 +100,13 @@ link_calm s p n (when_settling bsy atn msg cd io y h) = ap (λ (l : LineSet). l.
 link_calm s p n (when_turning atn x msg cd h) = ap (λ (l : LineSet). l.rst) h.linked.stands.bus_is
 link_calm s p n (when_offering atn msg cd y h) = ap (λ (l : LineSet). l.rst) h.linked.stands.bus_is
 link_calm s p n (when_shaking msg cd io req ack atn x y h) = ap (λ (l : LineSet). l.rst) h.linked.stands.bus_is
+link_calm s p n (when_pulsing io req ack atn x y h a) = ap (λ (l : LineSet). l.rst) h.linked.stands.bus_is
 
-from_linked : (s : ScenarioValue) (p : List Row) (row : Row) (n : Connection) → HasShortLatencies s → Standing s p → LinkStage s p n → KeepsBooksIn p row → IsLeast (due s p) 8 row → NextAny s p row
-from_linked s p row n fits st h books m =
+from_linked : (s : ScenarioValue) (p : List Row) (row : Row) (n : Connection) → HasShortLatencies s → Standing s p → length p + 1 < 2 ^ 64 → LinkStage s p n → KeepsBooksIn p row → IsLeast (due s p) 8 row → NextAny s p row
+from_linked s p row n fits st short h books m =
     elim (reset_or_calm s p row st calm m) [
       | by_reset e ↦ after_stage s p row st m (subst (λ (w : Row). NextRow s p w) (sym e) (raises s p row.time row.dev st calm (subst (λ (w : Row). IsLeast (due s p) 8 w) e m)))
-      | by_calm always least ↦ after (from_link s p row n fits always st.there h books least)
+      | by_calm always least ↦ after (from_link s p row n fits always st.there short h books least)
     ]
   where
     calm : (bus p).rst ≡ false
@@ -137,9 +128,9 @@ from_linked s p row n fits st h books m =
         }
 
 -- The next row, whatever stands.
-from_any : (s : ScenarioValue) (p : List Row) (row : Row) → HasShortLatencies s → Standing s p → AnyStage s p → KeepsBooksIn p row → IsLeast (due s p) 8 row → NextAny s p row
-from_any s p row fits st (apart h alone) books m = after_stage s p row st m (from_stage s p row fits st h alone m)
-from_any s p row fits st (linked n h) books m = from_linked s p row n fits st h books m
+pub from_any : (s : ScenarioValue) (p : List Row) (row : Row) → HasShortLatencies s → Standing s p → length p + 1 < 2 ^ 64 → AnyStage s p → KeepsBooksIn p row → IsLeast (due s p) 8 row → NextAny s p row
+from_any s p row fits st short (apart h alone) books m = after_stage s p row st m (from_stage s p row fits st h alone m)
+from_any s p row fits st short (linked n h) books m = from_linked s p row n fits st short h books m
 
 -- ---- all rows
 
@@ -147,7 +138,8 @@ pub record Books (p : List Row) : Type 0 where
   pub bytes : have_odd_bytes p ≡ true
   pub messages : have_whole_messages p ≡ true
   pub commands : have_whole_commands p ≡ true
-  pub slow : go_byte_by_byte p ≡ true
+  pub offsets : have_byte_offsets p ≡ true
+  pub freeing : free_in_time p ≡ true
 
 implied : (q r : Bool) → implies q r ≡ true → q ≡ true → r ≡ true
 implied true r e f = e
@@ -158,7 +150,8 @@ books_before p row b = record {
   bytes = (and_parts _ _ b.bytes).0;
   messages = (and_parts _ _ b.messages).0;
   commands = (and_parts _ _ b.commands).0;
-  slow = (and_parts _ _ b.slow).0;
+  offsets = (and_parts _ _ b.offsets).0;
+  freeing = (and_parts _ _ b.freeing).0;
 }
 
 books_at : (p : List Row) (row : Row) → Books (row ∷ p) → KeepsBooksIn p row
@@ -166,22 +159,28 @@ books_at p row b now = record {
   byte = implied _ _ (and_parts (in_connections has_odd_byte p) _ b.bytes).1 now;
   messages = implied _ _ (and_parts (in_connections has_whole_messages p) _ b.messages).1 now;
   command = implied _ _ (and_parts (in_connections has_whole_command p) _ b.commands).1 now;
-  slow = implied _ _ (and_parts (in_connections is_byte_by_byte p) _ b.slow).1 now;
+  offset = implied _ _ (and_parts (in_connections has_byte_offset p) _ b.offsets).1 now;
+  freeing = implied _ _ (and_parts (in_connections frees_in_time p) _ b.freeing).1 now;
 }
 
 pub record Stood (s : ScenarioValue) (p : List Row) : Type 0 where
   pub standing : Standing s p
   pub here : AnyStage s p
 
-pub stood : (s : ScenarioValue) → HasShortLatencies s → (p : List Row) → IsPrompt s p → Books p → Stood s p
-stood s fits [] prompt b = record { standing = standing_first s; here = apart (stage_first s) refl }
-stood s fits (row ∷ p) prompt b =
-    let was = stood s fits p prompt.0 (books_before p row b) in
-    let g = from_any s p row fits was.standing was.here (books_at p row b) (least_is s p row prompt.1) in
+pub stood : (s : ScenarioValue) → HasShortLatencies s → (p : List Row) → IsPrompt s p → length p < 2 ^ 64 → Books p → Stood s p
+stood s fits [] prompt short b = record { standing = standing_first s; here = apart (stage_first s) refl }
+stood s fits (row ∷ p) prompt short b =
+    let less : length p + 1 < 2 ^ 64 = omega arith in
+    let was = stood s fits p prompt.0 (omega arith) (books_before p row b) in
+    let g = from_any s p row fits was.standing less was.here (books_at p row b) (least_is s p row prompt.1) in
     record { standing = g.standing; here = g.here }
 
--- The next row obeys all rules where what it says does.
-pub obeys_next : (s : ScenarioValue) → HasShortLatencies s → (p : List Row) (row : Row) → IsPrompt s p → Books p → KeepsBooksIn p row → next s p ≡ Some row → broken_rule p row ≡ None
-obeys_next s fits p row prompt b books e =
-    let was = stood s fits p prompt b in
-    (from_any s p row fits was.standing was.here books (least_is s p row e)).obeys
+-- ---- who drives what
+
+pub sides_are : (s : ScenarioValue) (p : List Row) (n : Connection) → LinkStage s p n → (e : EndLines) × Linked p n e
+sides_are s p n (when_selected h) = (_, h.linked)
+sides_are s p n (when_settling bsy atn msg cd io y h) = (_, h.linked)
+sides_are s p n (when_turning atn x msg cd h) = (_, h.linked)
+sides_are s p n (when_offering atn msg cd y h) = (_, h.linked)
+sides_are s p n (when_shaking msg cd io req ack atn x y h) = (_, h.linked)
+sides_are s p n (when_pulsing io req ack atn x y h a) = (_, h.linked)

@@ -1,2 +1,4 @@
 pub mod Books
 pub mod Phases
+pub mod Pulses
+pub mod LinkStages

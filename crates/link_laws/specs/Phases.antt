@@ -20,7 +20,7 @@ use Rattle.bus_dialogue.specs.Hearing.{begun}
 use Rattle.bus_dialogue.specs.Ends.{is_pulsed_phase}
 use Rattle.bus_due.specs.Own.{own_of}
 use Rattle.bus_laws.specs.Reactions.{own_time}
-use Rattle.bus_laws.specs.Ends.{EndLines, connected_bus, Linked, BeginsSelected}
+use Rattle.bus_laws.specs.Ends.{EndLines, connected_bus, Linked}
 
 abbrev pub ends : Bool → Bool → Bool → ℕ → Bool → Bool → Bool → Bool → ℕ → EndLines
 ends bsy ack atn x msg cd io req y = record { bsy = bsy; ack = ack; atn = atn; sent = x; msg = msg; cd = cd; io = io; req = req; given = y }
@@ -129,12 +129,3 @@ pub record Shaking (p : List Row) (n : Connection) (msg cd io req ack atn : Bool
   pub driven : HasDriven (since data_of p) (own_time p n.target) (own_time p n.initiator) req ack io x
   pub fresh : last_time p ≤ shaking_time (line_times p) (own_time p n.initiator) req ack io x
   pub receives : (d : ℕ) → is_of_device (receiver p) d ≡ true → d ≡ (if io then n.initiator else n.target)
-
--- ---- all of them
-
-pub data LinkStage (s : ScenarioValue) (p : List Row) (n : Connection) : Type 0 where
-  when_selected : BeginsSelected p n → LinkStage s p n
-  when_settling : (bsy atn msg cd io : Bool) (y : ℕ) → Settling p n bsy atn msg cd io y → LinkStage s p n
-  when_turning : (atn : Bool) (x : ℕ) (msg cd : Bool) → Turning s p n atn x msg cd → LinkStage s p n
-  when_offering : (atn msg cd : Bool) (y : ℕ) → Offering p n atn msg cd y → LinkStage s p n
-  when_shaking : (msg cd io req ack atn : Bool) (x y : ℕ) → Shaking p n msg cd io req ack atn x y → LinkStage s p n

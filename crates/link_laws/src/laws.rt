@@ -1,23 +1,52 @@
 // Laws of connections, each named by the contract of a function that does nothing.
 
-ghost use Rattle.std.specs.Prelude.{ℕ, ◌≡◌, ◌<◌, ◌≤◌, List, Some, true};
+ghost use Rattle.std.specs.Prelude.{ℕ, ◌≡◌, ◌<◌, ◌≤◌, ◌+◌, ◌^◌, List, [], length, Some, true};
 ghost use Rattle.bus_trace.specs.declared.Row.{Row};
+ghost use Rattle.bus_trace.specs.declared.connection.Connection.{Connection};
 ghost use Rattle.bus_trace.specs.Trace.{last_time};
 ghost use Rattle.bus_rules.specs.Lawful.{AreLawful};
 ghost use Rattle.scenario.specs.Value.{ScenarioValue};
 ghost use Rattle.scenario.specs.Writing.{Obeys};
 ghost use Rattle.bus_reactions.specs.declared.due.Due.{Due};
-ghost use Rattle.bus_due.specs.Next.{due, IsPrompt};
-ghost use Rattle.link_laws.specs.Books.{have_odd_bytes, have_whole_messages, have_whole_commands, go_byte_by_byte};
+ghost use Rattle.bus_due.specs.Next.{due, next, IsPrompt};
+ghost use Rattle.bus_laws.specs.Ends.{EndLines, Linked};
+ghost use Rattle.bus_laws.specs.Stages.{Standing};
+ghost use Rattle.link_laws.specs.Books.{
+  KeepsBooksIn,
+  have_odd_bytes,
+  have_whole_messages,
+  have_whole_commands,
+  have_byte_offsets,
+  free_in_time,
+};
+ghost use Rattle.link_laws.specs.LinkStages.{LinkStage, AnyStage, NextAny};
 
-/// A prompt trace in whose connections each byte that crosses has odd parity, the bytes of messages form messages,
-/// those of the command are as many as it has, and data crosses byte by byte, obeys every rule of the bus, whatever
-/// connections, faults and resets it has (`lawful`); and nothing that is due after it lies in the past (`ahead`).
-pub fn traces_are_lawful_byte_by_byte()
-    ensures lawful { (s : ScenarioValue) (rows : List Row) → Obeys s → IsPrompt s rows → have_odd_bytes rows ≡ true
-        → have_whole_messages rows ≡ true → have_whole_commands rows ≡ true → go_byte_by_byte rows ≡ true
-        → AreLawful rows }
-    ensures ahead { (s : ScenarioValue) (rows : List Row) → Obeys s → IsPrompt s rows → have_odd_bytes rows ≡ true
-        → have_whole_messages rows ≡ true → have_whole_commands rows ≡ true → go_byte_by_byte rows ≡ true
+/// What stands on the bus goes on from stage to stage, those of a connection included: its beginning after a selection
+/// and after a reselection, the beginning of a phase with and without a turn of I/O, bytes one by one and by pulses in
+/// either direction, what the initiator still drives of a data phase that was left, the end of a phase and of the
+/// connection, faults and RST (6.1.1 to 6.1.10, 6.2.2). The next row, whichever it is, obeys all 28 rules, one of these
+/// stages holds after it, and nothing that is due lies in the past (`next`), where a row of a connection keeps the
+/// books: what its bytes say is not told by the lines. In a connection its two ends drive the lines of their own side,
+/// and no third device drives a line (`sides`).
+pub fn connections_go_on()
+    ensures start { (s : ScenarioValue) → Standing s [] × AnyStage s [] }
+    ensures next { (s : ScenarioValue) (rows : List Row) (row : Row) → Obeys s → Standing s rows → AnyStage s rows
+        → length rows + 1 < 2 ^ 64 → KeepsBooksIn rows row → next s rows ≡ Some row → NextAny s rows row }
+    ensures sides { (s : ScenarioValue) (rows : List Row) (n : Connection) → LinkStage s rows n
+        → (e : EndLines) × Linked rows n e }
+{}
+
+/// A prompt trace of fewer than 2^64 rows, whatever connections, faults and resets it has, obeys every rule of the bus
+/// (`lawful`), and nothing that is due after it lies in the past (`ahead`), where of the rows of its connections this
+/// is so: each byte that crosses has odd parity; the bytes of message phases form messages, are left whole, and leave
+/// no request open as data crosses; as many bytes of COMMAND cross as the command has, and data once it is whole; each
+/// REQ/ACK offset is a byte; and the bus is not freed in a data phase.
+pub fn traces_are_lawful()
+    ensures lawful { (s : ScenarioValue) (rows : List Row) → Obeys s → IsPrompt s rows → length rows < 2 ^ 64
+        → have_odd_bytes rows ≡ true → have_whole_messages rows ≡ true → have_whole_commands rows ≡ true
+        → have_byte_offsets rows ≡ true → free_in_time rows ≡ true → AreLawful rows }
+    ensures ahead { (s : ScenarioValue) (rows : List Row) → Obeys s → IsPrompt s rows → length rows < 2 ^ 64
+        → have_odd_bytes rows ≡ true → have_whole_messages rows ≡ true → have_whole_commands rows ≡ true
+        → have_byte_offsets rows ≡ true → free_in_time rows ≡ true
         → (dev : ℕ) → dev < 8 → (x : Due) → due s rows dev ≡ Some x → last_time rows ≤ x.time }
 {}
