@@ -25,7 +25,8 @@ use scsi_device::sooner_time;
 use std::alloc::Global;
 use std::marker::Model;
 
-/// The book of an initiator. What it costs does not grow with the commands that are done.
+/// The book of an initiator. It walks over no command before the first that is not past, and over none that nothing has
+/// come to yet.
 #[derive(Debug, Drop)]
 pub struct Book {
     commands: Commands,
