@@ -18,6 +18,7 @@ RUNS = sorted(str(path) for path in (ROOT / "tools" / "due_cases").glob("*.scn")
     for name in ("called_again_for_sense", "failures", "negotiation", "read_whole_after_a_part", "two_aborts")
 ]
 DUMPS = sorted(str(path) for path in (ROOT / "tools" / "dump_cases").glob("*.out"))
+MAKES = sorted(str(path) for path in (ROOT / "tools" / "make_cases").glob("*.scsi"))
 LAWS = sorted(str(path) for path in (ROOT / "tools" / "law_cases").glob("*.scn"))
 # Of each generated file its maker's words, and the file that the maker reads from standard input, where there is one.
 MADE = {
@@ -31,6 +32,7 @@ MADE = {
     "crates/bus_laws/proofs/WrittenCases.antt": (["tools/written_case.py", "Cases"] + RUNS, None),
     "crates/bus_laws/proofs/Cases.antt": (["tools/law_case.py"] + LAWS, None),
     "crates/vcd_text/proofs/TraceCases.antt": (["tools/dump_case.py"] + DUMPS, None),
+    "crates/scenario/proofs/MadeCases.antt": (["tools/make_case.py"] + MAKES, None),
     "crates/sync_nego/proofs/Cases.antt": (["tools/nego_case.py"], None),
 }
 USE = re.compile(r"^use ([\w.]+)\.\{(.*)\}$")

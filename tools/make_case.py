@@ -1,12 +1,11 @@
 #!/usr/bin/env python3
-"""Turns scenarios that a program made of numbers into lemmas: the definition makes the same.
+"""Writes, of scenarios that were made of numbers, the lemmas that the definition makes the same texts.
 
-    tools/make_case.py PROGRAM SEED N [SEED N]..
+    tools/make_case.py tools/make_cases/*.scsi > crates/scenario/proofs/MadeCases.antt
 
-Runs the program with the words `make SEED N`, and writes crates/scenario/proofs/MadeCases.antt, a lemma for each, which the kernel computes.
+SEED_N.scsi is what an independent simulator makes of SEED with N commands.
 """
 import pathlib
-import subprocess
 import sys
 
 HEAD = """-- Scenarios of numbers, as an independent simulator makes them. tools/make_case.py writes this file.
@@ -25,14 +24,18 @@ made_%s_%s = refl
 """
 
 
+def numbers(path):
+    """The two numbers of a scenario, by its name."""
+    return [int(part) for part in pathlib.Path(path).stem.split("_")]
+
+
 def main():
-    program, *numbers = sys.argv[1:]
     out = HEAD
-    for seed, n in zip(numbers[::2], numbers[1::2]):
-        text = subprocess.run([program, "make", seed, n], capture_output=True, check=True, text=True).stdout
-        out += LEMMA % (seed, n, seed, n, text.replace("\n", "\\n"), seed, n)
-    root = pathlib.Path(__file__).resolve().parent.parent
-    (root / "crates/scenario/proofs/MadeCases.antt").write_text(out)
+    for path in sorted(sys.argv[1:], key=numbers):
+        seed, n = numbers(path)
+        text = pathlib.Path(path).read_text().replace("\n", "\\n")
+        out += LEMMA % (seed, n, seed, n, text, seed, n)
+    sys.stdout.write(out)
 
 
 if __name__ == "__main__":
