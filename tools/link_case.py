@@ -1,7 +1,7 @@
 #!/usr/bin/env python3
 """Writes, of runs with connections, the lemmas that what the laws of connections ask of the bytes holds of them.
 
-    tools/link_case.py tools/due_cases/{one_read,pulses_out}.scn > crates/link_laws/proofs/Cases.antt
+    tools/link_case.py tools/due_cases/*.scn > crates/link_laws/proofs/Cases.antt
 
 Beside each NAME.scn stands its report NAME.out, which comes from outside this repository. The lemmas say that its rows are those of
 the run, and that in its connections each byte has odd parity, the bytes of messages form messages, those of commands are whole, and
