@@ -1,11 +1,11 @@
 #!/usr/bin/env python3
 """Writes, of runs with connections, the lemmas that what the laws of connections ask of the bytes holds of them.
 
-    tools/link_case.py tools/due_cases/{one_read,pulses_out}.scn > crates/link_laws/proofs/Cases.antt
+    tools/link_case.py tools/due_cases/*.scn > crates/link_laws/proofs/Cases.antt
 
 Beside each NAME.scn stands its report NAME.out, which comes from outside this repository. The lemmas say that its rows are those of
-the run, and that in its connections each byte has odd parity, the bytes of messages form messages, those of commands are whole, each
-offset is a byte, and the bus is not freed in a data phase.
+the run, and that in its connections each byte has odd parity, the bytes of messages form messages, those of commands are whole, and
+the bus is not freed in a data phase.
 """
 import sys
 
@@ -22,7 +22,7 @@ use Rattle.msg_grammar.specs.Messages.{form_out, form_in}
 use Rattle.bus_rules.specs.Seen.{seen_with}
 use Rattle.bus_due.specs.Next.{least}
 use Rattle.bus_due.specs.Run.{run_from, run_by_due}
-use Rattle.link_laws.specs.Books.{have_odd_bytes, have_whole_messages, have_whole_commands, have_byte_offsets, free_in_time}
+use Rattle.link_laws.specs.Books.{have_odd_bytes, have_whole_messages, have_whole_commands, free_in_time}
 """
 
 DEFINITIONS = """
@@ -38,11 +38,10 @@ record Shows : Type 0 where
   bytes : Bool
   messages : Bool
   commands : Bool
-  offsets : Bool
   freeing : Bool
 
 abbrev shown : List Row → Shows
-shown rows = record { rows = rows; bytes = have_odd_bytes rows; messages = have_whole_messages rows; commands = have_whole_commands rows; offsets = have_byte_offsets rows; freeing = free_in_time rows }
+shown rows = record { rows = rows; bytes = have_odd_bytes rows; messages = have_whole_messages rows; commands = have_whole_commands rows; freeing = free_in_time rows }
 
 abbrev shows : ScenarioValue → ℕ → Shows
 shows s fuel = shown (run_by_due s fuel).rows
@@ -58,7 +57,7 @@ def main():
         out = scn[: -len("scn")] + "out"
         array_case.print_scenario(name, scn)
         array_case.print_rows(name, out)
-        print("%s_shows : shows %s %d ≡ record { rows = reverse %s_rows; bytes = true; messages = true; commands = true; offsets = true; freeing = true }" % (name, name, len(array_case.rows(out)) + 1, name))
+        print("%s_shows : shows %s %d ≡ record { rows = reverse %s_rows; bytes = true; messages = true; commands = true; freeing = true }" % (name, name, len(array_case.rows(out)) + 1, name))
         print("%s\n%s_shows = refl\n" % (UNFOLDING, name))
 
 

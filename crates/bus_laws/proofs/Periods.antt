@@ -1,4 +1,4 @@
--- The transfer period factor of every agreement is a byte: it came in a message.
+-- The transfer period factor and the REQ/ACK offset of every agreement are bytes: they came in a message.
 use Rattle.std.proofs.Common.{ℕ, ◌<◌, ◌%◌, Bool, true, false, not, ◌&&◌, List, [], ◌∷◌, ◌++◌, Option, Some, None, arith}
 use Rattle.std.specs.Prelude.{if◌then◌else◌, ◌==◌, is_some}
 use Rattle.std.specs.List.{AllByRecursion}
@@ -31,8 +31,11 @@ use Rattle.bus_phases.specs.Dialogue.{word_out, word_in, spoken_with_word, is_of
 abbrev AreBytes : List ℕ → Type 0
 AreBytes bytes = AllByRecursion (λ (b : ℕ). b < 256) bytes
 
+abbrev IsByteAgreement : Agreement → Type 0
+IsByteAgreement a = (a.period < 256) × (a.offset < 256)
+
 abbrev IsShortWord : Word → Type 0
-IsShortWord (words.Offer a) = a.period < 256
+IsShortWord (words.Offer a) = IsByteAgreement a
 IsShortWord words.Reject = Unit {0}
 IsShortWord words.Restore = Unit {0}
 IsShortWord words.DeviceReset = Unit {0}
@@ -43,7 +46,7 @@ IsShortWord words.Other = Unit {0}
 abbrev IsShortForm : {M : Type 0} → (M → Word) → Form M → Type 0
 IsShortForm word (alone m) = IsShortWord (word m)
 IsShortForm word (tagged message) = (tag : ℕ) → IsShortWord (word (message tag))
-IsShortForm word (extended message) = (a : Agreement) → a.period < 256 → IsShortWord (word (message a))
+IsShortForm word (extended message) = (a : Agreement) → IsByteAgreement a → IsShortWord (word (message a))
 IsShortForm word reserved = Unit {0}
 
 form_if : {M : Type 0} → (word : M → Word) (q : Bool) (x y : Form M) → IsShortForm word x → IsShortForm word y → IsShortForm word (if q then x else y)
@@ -85,14 +88,14 @@ IsShortGot word (Whole m n) = IsShortWord (word m)
 IsShortGot word More = Unit {0}
 IsShortGot word Unknown = Unit {0}
 
-offer_short : {M : Type 0} → (word : M → Word) (message : Agreement → M) (bytes : List ℕ) → ((a : Agreement) → a.period < 256 → IsShortWord (word (message a))) → AreBytes bytes → IsShortGot word (as_got message (got_offer bytes))
+offer_short : {M : Type 0} → (word : M → Word) (message : Agreement → M) (bytes : List ℕ) → ((a : Agreement) → IsByteAgreement a → IsShortWord (word (message a))) → AreBytes bytes → IsShortGot word (as_got message (got_offer bytes))
 offer_short word message [] f h = tt
 offer_short word message (len ∷ bytes) f h = by_len (len == 0x03)
   where
     fields : (x : List ℕ) → AreBytes x → IsShortGot word (as_got message (got_fields x))
     fields [] k = tt
     fields (period ∷ []) k = tt
-    fields (period ∷ offset ∷ x) k = f (record { period = period; offset = offset }) k.0
+    fields (period ∷ offset ∷ x) k = f (record { period = period; offset = offset }) (k.0, k.1.0)
 
     code : (x : List ℕ) → AreBytes x → IsShortGot word (as_got message (got_code x))
     code [] k = tt
@@ -124,30 +127,30 @@ got_short {M = M} word form (first ∷ bytes) f h = go (form first) (f first)
 
 abbrev IsShortVoid : Option Spoken → Type 0
 IsShortVoid None = Unit {0}
-IsShortVoid (Some v) = v.agreement.period < 256
+IsShortVoid (Some v) = IsByteAgreement v.agreement
 
 record IsShortHeard (h : Heard) : Type 0 where
-  now : h.now.agreement.period < 256
+  now : IsByteAgreement h.now.agreement
   void : IsShortVoid h.void
 
-word_short : (v : Spoken) (end : End) (w : Word) → v.agreement.period < 256 → IsShortWord w → (spoken_with_word v end w).agreement.period < 256
+word_short : (v : Spoken) (end : End) (w : Word) → IsByteAgreement v.agreement → IsShortWord w → IsByteAgreement (spoken_with_word v end w).agreement
 word_short v end (words.Offer a) h g = go (is_of_other v.offer end)
   where
-    go : (q : Bool) → (if q then record v { agreement = a; offer = None; answered = Some end } else record v { offer = Some end; answered = None }).agreement.period < 256
+    go : (q : Bool) → IsByteAgreement (if q then record v { agreement = a; offer = None; answered = Some end } else record v { offer = Some end; answered = None }).agreement
     go true = g
     go false = h
 word_short v end words.Reject h g = go (is_of_other v.offer end) (is_of_other v.answered end)
   where
-    go : (q r : Bool) → (if q then record v { agreement = record v.agreement { offset = 0 }; offer = None; answered = None } else if r then record v { agreement = record v.agreement { offset = 0 }; answered = None } else record v { answered = None }).agreement.period < 256
-    go true r = h
-    go false true = h
+    go : (q r : Bool) → IsByteAgreement (if q then record v { agreement = record v.agreement { offset = 0 }; offer = None; answered = None } else if r then record v { agreement = record v.agreement { offset = 0 }; answered = None } else record v { answered = None }).agreement
+    go true r = (h.0, omega arith)
+    go false true = (h.0, omega arith)
     go false false = h
 word_short v end words.Restore h g = h
-word_short v end words.DeviceReset h g = h
+word_short v end words.DeviceReset h g = (h.0, omega arith)
 word_short v end words.ParityError h g = h
 word_short v end words.Other h g = h
 
-void_short : (o : Option Spoken) (v : Spoken) → IsShortVoid o → v.agreement.period < 256 → (void_or_now o v).agreement.period < 256
+void_short : (o : Option Spoken) (v : Spoken) → IsShortVoid o → IsByteAgreement v.agreement → IsByteAgreement (void_or_now o v).agreement
 void_short None v a b = b
 void_short (Some w) v a b = a
 
@@ -155,7 +158,7 @@ out_short : (h : Heard) (w : Word) → IsShortHeard h → IsShortWord w → IsSh
 out_short h (words.Offer a) k g = record { now = word_short h.now ends.Initiator (words.Offer a) k.now g; void = tt }
 out_short h words.Reject k g = record { now = word_short h.now ends.Initiator words.Reject k.now g; void = tt }
 out_short h words.Restore k g = record { now = k.now; void = tt }
-out_short h words.DeviceReset k g = record { now = k.now; void = tt }
+out_short h words.DeviceReset k g = record { now = (k.now.0, omega arith); void = tt }
 out_short h words.ParityError k g = record { now = void_short h.void h.now k.void k.now; void = tt }
 out_short h words.Other k g = record { now = k.now; void = tt }
 
@@ -178,6 +181,9 @@ command_short h byte k = record { now = k.now; void = go h.void k.void }
 
 -- ---- a connection
 
+asynchronous_bytes : IsByteAgreement asynchronous
+asynchronous_bytes = (omega arith, omega arith)
+
 record IsShortDialogue (d : Dialogue) : Type 0 where
   heard : IsShortHeard d.heard
   at_phase : IsShortHeard d.at_phase
@@ -193,7 +199,7 @@ left_bytes (Whole m n) bytes h = tt
 left_bytes More bytes h = h
 left_bytes Unknown bytes h = tt
 
-opened_short : (a : Agreement) → a.period < 256 → IsShortDialogue (opened a)
+opened_short : (a : Agreement) → IsByteAgreement a → IsShortDialogue (opened a)
 opened_short a h = record { heard = record { now = h; void = tt }; at_phase = record { now = h; void = tt }; half = tt; fresh = tt }
 
 out_byte_short : (d : Dialogue) (b : ℕ) (last : Bool) → IsShortDialogue d → b < 256 → IsShortDialogue (byte_out d b last)
@@ -253,31 +259,31 @@ on_short d n c k = go (is_some (receiver_of n c)) (changes_phase c)
     go false true = record { heard = k.heard; at_phase = k.heard; half = tt; fresh = tt }
     go false false = k
 
-after_short : (d : Dialogue) (m n : Option Connection) (f : ℕ → ℕ → Agreement) (c : Change) → IsShortDialogue d → ((i t : ℕ) → (f i t).period < 256) → IsShortDialogue (dialogue_after d m n f c)
-after_short d m None f c k g = opened_short asynchronous (omega arith)
+after_short : (d : Dialogue) (m n : Option Connection) (f : ℕ → ℕ → Agreement) (c : Change) → IsShortDialogue d → ((i t : ℕ) → IsByteAgreement (f i t)) → IsShortDialogue (dialogue_after d m n f c)
+after_short d m None f c k g = opened_short asynchronous asynchronous_bytes
 after_short d None (Some n) f c k g = opened_short (f n.initiator n.target) (g n.initiator n.target)
 after_short d (Some m) (Some n) f c k g = on_short d (Some m) c k
 
 record IsShort (rows : List Row) : Type 0 where
   dialogue_is : IsShortDialogue (dialogue rows)
-  agreed_is : (i t : ℕ) → (agreed rows i t).period < 256
+  agreed_is : (i t : ℕ) → IsByteAgreement (agreed rows i t)
 
-rst_short : (q : Bool) (x : Agreement) → x.period < 256 → (if q then asynchronous else x).period < 256
-rst_short true x h = omega arith
+rst_short : (q : Bool) (x : Agreement) → IsByteAgreement x → IsByteAgreement (if q then asynchronous else x)
+rst_short true x h = asynchronous_bytes
 rst_short false x h = h
 
-closed_short : (n : Option Connection) (stands : Bool) (v : Spoken) (i t : ℕ) (was : Agreement) → v.agreement.period < 256 → was.period < 256 → (closed_agreement_by n stands v i t was).period < 256
+closed_short : (n : Option Connection) (stands : Bool) (v : Spoken) (i t : ℕ) (was : Agreement) → IsByteAgreement v.agreement → IsByteAgreement was → IsByteAgreement (closed_agreement_by n stands v i t was)
 closed_short None stands v i t was a b = b
 closed_short (Some n) true v i t was a b = b
 closed_short (Some n) false v i t was a b = go (i == n.initiator && t == n.target) (t == n.target && v.device_reset)
   where
-    go : (q r : Bool) → (if q then v.agreement else if r then asynchronous else was).period < 256
+    go : (q r : Bool) → IsByteAgreement (if q then v.agreement else if r then asynchronous else was)
     go true r = a
-    go false true = omega arith
+    go false true = asynchronous_bytes
     go false false = b
 
 short_rows : (rows : List Row) → IsShort rows
-short_rows [] = record { dialogue_is = opened_short asynchronous (omega arith); agreed_is = λ i t. omega arith }
+short_rows [] = record { dialogue_is = opened_short asynchronous asynchronous_bytes; agreed_is = λ i t. asynchronous_bytes }
 short_rows (row ∷ rows) =
     let was = short_rows rows in
     record {
@@ -287,4 +293,7 @@ short_rows (row ∷ rows) =
 
 -- The agreement of the connection that stands.
 pub period_is_byte : (rows : List Row) → (dialogue rows).heard.now.agreement.period < 256
-period_is_byte rows = (short_rows rows).dialogue_is.heard.now
+period_is_byte rows = (short_rows rows).dialogue_is.heard.now.0
+
+pub offset_is_byte : (rows : List Row) → (dialogue rows).heard.now.agreement.offset < 256
+offset_is_byte rows = (short_rows rows).dialogue_is.heard.now.1

@@ -1,6 +1,6 @@
 -- The next row of a connection, resets apart: of either end, or a fault.
 use Rattle.std.proofs.Common.{◌⊎◌, inl, inr, ◌^◌, ℕ, ◌≡◌, ◌≤◌, ◌<◌, ◌+◌, Bool, true, false, not, ◌&&◌, ◌||◌, ◌==◌, ◌∙◌, List, Some, refl, sym, ap, subst, arith}
-use Rattle.std.specs.Prelude.{if◌then◌else◌, max, nat_le, nat_lt, is_some}
+use Rattle.std.specs.Prelude.{if◌then◌else◌, max, nat_le, nat_lt}
 use Rattle.std.proofs.lemmas.Bool.Decides.{nat_tests}
 use Rattle.bus_trace.specs.LineSet.{LineSet, none, bit_value, parity_of}
 use lib.Count.{ones}
@@ -33,12 +33,11 @@ use Rattle.bus_laws.specs.Rows.{row_of_lines}
 use Rattle.bus_laws.specs.Stages.{CalmStanding, HasShortLatencies, HasDevice}
 use Rattle.bus_laws.specs.Ends.{EndLines, initiator_side, target_side, connected_bus, Linked, BeginsSelected, ends_selected}
 use Rattle.bus_laws.proofs.Dues.{is_at}
-use Rattle.link_laws.specs.Books.{is_row_of_connection, KeepsBooksIn}
+use Rattle.bus_laws.proofs.Periods.{offset_is_byte}
+use Rattle.link_laws.specs.Books.{KeepsBooksIn}
 use Rattle.link_laws.specs.Phases.{ends, fits_duty, is_owed_out, OneSide, Settling, Turning, Offering, Shaking}
 use Rattle.link_laws.specs.LinkStages.{LinkStage, when_selected, when_settling, when_turning, when_offering, when_shaking, when_pulsing}
-use Rattle.link_laws.specs.LinkStages.{LinkStage, when_selected, when_settling, when_turning, when_offering, when_shaking}
 use Rattle.link_laws.proofs.Duties.{may_ask}
-use Rattle.link_laws.proofs.Moves.{target_moves}
 use Rattle.link_laws.proofs.EndDues.{due_of, Mover, by_fault, by_initiator, by_target, mover_is, target_plain, initiator_plain, offering_with, answering_with, initiator_is, sampled_or, sampled_by, is_sampling}
 use Rattle.link_laws.proofs.StageDues.{selected_target, selected_initiator, settling_target, settling_initiator, handing_initiator, turning_target, turned_initiator, owing_initiator, offering_target, offering_initiator, answered_target, answered_initiator_in, answered_initiator_out, asking_target, asking_initiator_in, asking_initiator_out, giving_initiator_out, ending_target, ending_initiator_in, ending_initiator_out, ack_end_time, between_target, between_initiator_in, between_initiator_out}
 use Rattle.link_laws.proofs.Ahead.{never, zero_of}
@@ -60,7 +59,7 @@ use Rattle.link_laws.specs.Pulses.{times_here, offset_here, run_count, next_bits
 use Rattle.link_laws.proofs.Leaves.{data_out_to_initiator}
 use Rattle.link_laws.proofs.PulseDues.{pulsed_target_in, pulsed_target_out, pulsed_initiator_in, pulsed_initiator_out, hold_end_time, pulse_time, leaving_time, ack_pulse_end_time, answer_time, release_time, byte_driven_time, given_bits}
 use Rattle.link_laws.proofs.PulseRows.{NextPulsing, PulseHere, req_ends_in}
-use Rattle.link_laws.proofs.PulseIn.{lt_of, req_pulses_in, byte_changes_in, answers_pulse_in, ends_pulse_in}
+use Rattle.link_laws.proofs.PulseIn.{req_pulses_in, byte_changes_in, answers_pulse_in, ends_pulse_in}
 use Rattle.link_laws.proofs.PulseOut.{req_ends_out, req_pulses_out, answers_pulse_out, ends_pulse_out, gives_pulsed_byte, releases_pulsed_byte}
 use Rattle.link_laws.proofs.PulseStarts.{starts_in, starts_out}
 use Rattle.link_laws.proofs.PulseEnds.{pulsed_leaves_in, pulsed_leaves_out}
@@ -98,12 +97,6 @@ asks_by s p n atn msg cd false y t side h slow books = zero y side h slow books
     zero : (y : ℕ) → y ≡ 0 → Asking s p n atn msg cd false y t → is_pulsed_phase true (connected_bus (ends false false atn 0 msg cd false false y)) (dialogue p).heard.now.agreement ≡ false → KeepsBooksIn p (target_row t n (ends false false atn 0 msg cd false true y)) → AfterLink s p (target_row t n (ends false false atn 0 msg cd false true y)) n
     zero y e h slow books = subst (λ k. AfterLink s p (target_row t n (ends false false atn 0 msg cd false true k)) n) (sym e) (goes_on (asks_out s p n atn msg cd t (subst (λ k. Asking s p n atn msg cd false k t) e h) slow (subst (λ k. KeepsBooksIn p (target_row t n (ends false false atn 0 msg cd false true k))) e books)))
 
-byte_offset_at : (p : List Row) (n : Connection) (atn msg cd io : Bool) (y t : ℕ) → Linked p n (ends false false atn 0 msg cd io false y) → KeepsBooksIn p (target_row t n (ends false false atn 0 msg cd io true y)) → offset_here p < 256
-byte_offset_at p n atn msg cd io y t h books =
-    let m = target_moves p n (ends false false atn 0 msg cd io false y) msg cd io true y t h in
-    let now : is_row_of_connection p (target_row t n (ends false false atn 0 msg cd io true y)) ≡ true = λ i. is_some (h.stands.connection_is i) && not (h.stands.bus_is i).rst && not (m.linked.stands.bus_is i).rst in
-    lt_of (offset_here p) 256 (books now).offset
-
 -- The first REQ of a phase, byte by byte or by pulses.
 asks_first : (s : ScenarioValue) (p : List Row) (n : Connection) (atn msg cd io : Bool) (y t : ℕ) → OneSide io 0 y → handshakes p ≡ no_handshakes → pulses p ≡ no_pulses → Asking s p n atn msg cd io y t → KeepsBooksIn p (target_row t n (ends false false atn 0 msg cd io true y)) → AfterLink s p (target_row t n (ends false false atn 0 msg cd io true y)) n
 asks_first s p n atn msg cd io y t side quiet none h books = go (is_pulsed_phase true (connected_bus (ends false false atn 0 msg cd io false y)) (dialogue p).heard.now.agreement) refl
@@ -111,10 +104,9 @@ asks_first s p n atn msg cd io y t side quiet none h books = go (is_pulsed_phase
     pulsed : (msg cd io : Bool) → OneSide io 0 y → Asking s p n atn msg cd io y t → KeepsBooksIn p (target_row t n (ends false false atn 0 msg cd io true y)) → is_pulsed_phase true (connected_bus (ends false false atn 0 msg cd io false y)) (dialogue p).heard.now.agreement ≡ true → AfterLink s p (target_row t n (ends false false atn 0 msg cd io true y)) n
     pulsed true cd io side h books e = absurd cc
     pulsed false true io side h books e = absurd cc
-    pulsed false false true side h books e = goes_on (starts_in s p n atn y t h e (byte_offset_at p n atn false false true y t h.linked books) quiet none books)
+    pulsed false false true side h books e = goes_on (starts_in s p n atn y t h e (offset_is_byte p) quiet none books)
     pulsed false false false side h books e =
-        let byte = byte_offset_at p n atn false false false y t h.linked books in
-        subst (λ k. AfterLink s p (target_row t n (ends false false atn 0 false false false true k)) n) (sym side) (goes_on (starts_out s p n atn t (subst (λ k. Asking s p n atn false false false k t) side h) e byte quiet none (subst (λ k. KeepsBooksIn p (target_row t n (ends false false atn 0 false false false true k))) side books)))
+        subst (λ k. AfterLink s p (target_row t n (ends false false atn 0 false false false true k)) n) (sym side) (goes_on (starts_out s p n atn t (subst (λ k. Asking s p n atn false false false k t) side h) e (offset_is_byte p) quiet none (subst (λ k. KeepsBooksIn p (target_row t n (ends false false atn 0 false false false true k))) side books)))
 
     go : (q : Bool) → is_pulsed_phase true (connected_bus (ends false false atn 0 msg cd io false y)) (dialogue p).heard.now.agreement ≡ q → AfterLink s p (target_row t n (ends false false atn 0 msg cd io true y)) n
     go false e = asks_by s p n atn msg cd io y t side h e books

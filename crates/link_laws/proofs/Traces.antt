@@ -20,7 +20,7 @@ use Rattle.bus_laws.proofs.Tests.{and_false}
 use Rattle.bus_laws.proofs.Prompt.{least_is}
 use Rattle.bus_laws.proofs.ResetSteps.{raises}
 use Rattle.bus_laws.proofs.Together.{standing_first, stage_first, standing_after, standing_next, from_stage, ahead_with_resets, by_reset, by_calm, reset_or_calm}
-use Rattle.link_laws.specs.Books.{has_odd_byte, has_whole_messages, has_whole_command, has_byte_offset, frees_in_time, KeepsBooksIn, in_connections, have_odd_bytes, have_whole_messages, have_whole_commands, have_byte_offsets, free_in_time}
+use Rattle.link_laws.specs.Books.{has_odd_byte, has_whole_messages, has_whole_command, frees_in_time, KeepsBooksIn, in_connections, have_odd_bytes, have_whole_messages, have_whole_commands, free_in_time}
 use Rattle.link_laws.specs.Phases.{fits_duty, is_owed_out}
 use Rattle.link_laws.specs.LinkStages.{LinkStage, when_selected, when_settling, when_turning, when_offering, when_shaking, when_pulsing, AnyStage, apart, linked, NextAny}
 use Rattle.link_laws.specs.LinkStages.{LinkStage, when_selected, when_settling, when_turning, when_offering, when_shaking}
@@ -138,7 +138,6 @@ pub record Books (p : List Row) : Type 0 where
   pub bytes : have_odd_bytes p ≡ true
   pub messages : have_whole_messages p ≡ true
   pub commands : have_whole_commands p ≡ true
-  pub offsets : have_byte_offsets p ≡ true
   pub freeing : free_in_time p ≡ true
 
 implied : (q r : Bool) → implies q r ≡ true → q ≡ true → r ≡ true
@@ -150,7 +149,6 @@ books_before p row b = record {
   bytes = (and_parts _ _ b.bytes).0;
   messages = (and_parts _ _ b.messages).0;
   commands = (and_parts _ _ b.commands).0;
-  offsets = (and_parts _ _ b.offsets).0;
   freeing = (and_parts _ _ b.freeing).0;
 }
 
@@ -159,7 +157,6 @@ books_at p row b now = record {
   byte = implied _ _ (and_parts (in_connections has_odd_byte p) _ b.bytes).1 now;
   messages = implied _ _ (and_parts (in_connections has_whole_messages p) _ b.messages).1 now;
   command = implied _ _ (and_parts (in_connections has_whole_command p) _ b.commands).1 now;
-  offset = implied _ _ (and_parts (in_connections has_byte_offset p) _ b.offsets).1 now;
   freeing = implied _ _ (and_parts (in_connections frees_in_time p) _ b.freeing).1 now;
 }
 

@@ -1,10 +1,9 @@
 -- What the laws of a connection do not prove of what the messages, the command and the data say: premises, one for each.
-use Rattle.std.specs.Prelude.{◌≡◌, Bool, true, not, ◌&&◌, List, [], ◌∷◌, nat_lt}
+use Rattle.std.specs.Prelude.{◌≡◌, Bool, true, not, ◌&&◌, List, [], ◌∷◌}
 use Rattle.bus_laws.specs.Stages.{is_connected}
 use Rattle.bus_trace.specs.declared.Row.{Row}
 use Rattle.bus_trace.specs.Changes.{falls, implies}
 use Rattle.bus_trace.specs.Phases.{is_data}
-use Rattle.bus_phases.specs.Dialogue.{dialogue}
 use Rattle.bus_rules.specs.Seen.{seen}
 use Rattle.bus_rules.specs.Transfer.{has_parity}
 use Rattle.bus_trace.specs.Trace.{bus}
@@ -23,10 +22,6 @@ has_whole_messages rows row = keeps_messages (seen rows row)
 abbrev pub has_whole_command : List Row → Row → Bool
 has_whole_command rows row = keeps_command (seen rows row)
 
--- The REQ/ACK offset of the agreement that holds is a byte (6.6.21).
-abbrev pub has_byte_offset : List Row → Row → Bool
-has_byte_offset rows row = nat_lt (dialogue rows).heard.now.agreement.offset 256
-
 -- The target frees the bus in a message phase, and not in a data phase (6.6).
 abbrev pub frees_in_time : List Row → Row → Bool
 frees_in_time rows row = implies (falls (bus rows).bsy (bus (row ∷ rows)).bsy) (not (is_data (bus rows)))
@@ -35,7 +30,6 @@ pub record KeepsBooks (rows : List Row) (row : Row) : Type 0 where
   pub byte : has_odd_byte rows row ≡ true
   pub messages : has_whole_messages rows row ≡ true
   pub command : has_whole_command rows row ≡ true
-  pub offset : has_byte_offset rows row ≡ true
   pub freeing : frees_in_time rows row ≡ true
 
 -- ---- the same of all rows
@@ -60,9 +54,6 @@ have_whole_messages rows = in_connections has_whole_messages rows
 
 abbrev pub have_whole_commands : List Row → Bool
 have_whole_commands rows = in_connections has_whole_command rows
-
-abbrev pub have_byte_offsets : List Row → Bool
-have_byte_offsets rows = in_connections has_byte_offset rows
 
 abbrev pub free_in_time : List Row → Bool
 free_in_time rows = in_connections frees_in_time rows

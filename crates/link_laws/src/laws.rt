@@ -16,7 +16,6 @@ ghost use Rattle.link_laws.specs.Books.{
   have_odd_bytes,
   have_whole_messages,
   have_whole_commands,
-  have_byte_offsets,
   free_in_time,
 };
 ghost use Rattle.link_laws.specs.LinkStages.{LinkStage, AnyStage, NextAny};
@@ -39,14 +38,14 @@ pub fn connections_go_on()
 /// A prompt trace of fewer than 2^64 rows, whatever connections, faults and resets it has, obeys every rule of the bus
 /// (`lawful`), and nothing that is due after it lies in the past (`ahead`), where of the rows of its connections this
 /// is so: each byte that crosses has odd parity; the bytes of message phases form messages, are left whole, and leave
-/// no request open as data crosses; as many bytes of COMMAND cross as the command has, and data once it is whole; each
-/// REQ/ACK offset is a byte; and the bus is not freed in a data phase.
+/// no request open as data crosses; as many bytes of COMMAND cross as the command has, and data once it is whole; and
+/// the bus is not freed in a data phase.
 pub fn traces_are_lawful()
     ensures lawful { (s : ScenarioValue) (rows : List Row) → Obeys s → IsPrompt s rows → length rows < 2 ^ 64
         → have_odd_bytes rows ≡ true → have_whole_messages rows ≡ true → have_whole_commands rows ≡ true
-        → have_byte_offsets rows ≡ true → free_in_time rows ≡ true → AreLawful rows }
+        → free_in_time rows ≡ true → AreLawful rows }
     ensures ahead { (s : ScenarioValue) (rows : List Row) → Obeys s → IsPrompt s rows → length rows < 2 ^ 64
         → have_odd_bytes rows ≡ true → have_whole_messages rows ≡ true → have_whole_commands rows ≡ true
-        → have_byte_offsets rows ≡ true → free_in_time rows ≡ true
+        → free_in_time rows ≡ true
         → (dev : ℕ) → dev < 8 → (x : Due) → due s rows dev ≡ Some x → last_time rows ≤ x.time }
 {}

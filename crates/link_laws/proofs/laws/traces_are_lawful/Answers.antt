@@ -3,7 +3,7 @@ use Rattle.link_laws.proofs.Traces.{stood}
 use Rattle.link_laws.proofs.laws.traces_are_lawful.Goals as goal
 
 pub returns-clause-lawful : goal.returns-clause-lawful
-returns-clause-lawful c = λ s rows o prompt short b m k d f. (stood s (obeys_latencies s o) rows prompt short (record { bytes = b; messages = m; commands = k; offsets = d; freeing = f })).standing.lawful
+returns-clause-lawful c = λ s rows o prompt short b m k f. (stood s (obeys_latencies s o) rows prompt short (record { bytes = b; messages = m; commands = k; freeing = f })).standing.lawful
 
 pub returns-clause-ahead : goal.returns-clause-ahead
-returns-clause-ahead c = λ s rows o prompt short b m k d f dev lt x e. (stood s (obeys_latencies s o) rows prompt short (record { bytes = b; messages = m; commands = k; offsets = d; freeing = f })).standing.ahead dev lt x e
+returns-clause-ahead c = λ s rows o prompt short b m k f dev lt x e. (stood s (obeys_latencies s o) rows prompt short (record { bytes = b; messages = m; commands = k; freeing = f })).standing.ahead dev lt x e
