@@ -11,7 +11,7 @@ pub returns-in-Initiator-clause-initiator : goal.returns-in-Initiator-clause-ini
 returns-in-Initiator-clause-initiator g c = λ s rows row dev n a h r k e l.
     let own = initiator_is g.T.Device.IsOf s rows dev c.args.self.now c.in-Initiator.host c.in-Initiator.is h in
     c.shown_if.ensures
-    ∙ c.completion.ensures s rows row n a.observed a.devices own.after (own_connection s rows dev c.in-Initiator.host n own k e)
+    ∙ c.completion.ensures.trace s rows row n a.observed a.devices own.after (own_connection s rows dev c.in-Initiator.host n own k e)
 
 pub returns-in-Other-clause-initiator : goal.returns-in-Other-clause-initiator
 returns-in-Other-clause-initiator g c = λ s rows row dev n a h r k e l.
