@@ -50,7 +50,7 @@ fn aborted_reply(code: u8) -> Reply
     }
 }
 
-// It is refused (7.3.3).
+// The queue is full (7.3, 7.8.2).
 fn refusal() -> Reply
     ensures { result ≡ told_of queue_full }
 {
