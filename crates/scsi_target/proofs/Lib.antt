@@ -1,0 +1,3 @@
+mod StandingSteps
+mod StandingEvents
+mod ProcessEvents
