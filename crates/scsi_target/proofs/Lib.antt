@@ -1,3 +1,4 @@
 mod StandingSteps
 mod StandingEvents
 mod ProcessEvents
+mod TimesTwice

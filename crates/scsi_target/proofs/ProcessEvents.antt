@@ -25,13 +25,14 @@ use Rattle.disk_unit.specs.declared.unit.Reply as unit
 use Rattle.disk_unit.specs.Plans.{plan_of}
 use Rattle.disk_unit.specs.Units.{told_of}
 use Rattle.bus_due.specs.Tasks.{room_of, reply_now}
-use Rattle.disk_target.specs.Seated.{IsNew, aborted_reply, reply_told}
+use Rattle.disk_target.specs.Seated.{IsNew, aborted_reply, reply_told, running_id, current_reply, is_same_process}
+use Rattle.disk_target.specs.Courses.{status_if}
 use Rattle.disk_target.specs.Units.{IsStep, AreUnitsAfter, is_of_one}
 use Rattle.disk_target.proofs.UnitSteps.{IsLeft, accept_left, refuse_left, run_left, fail_left, end_left, loss_left, running_own}
 use Rattle.disk_target.proofs.UnitTellings.{reply_same}
 use Rattle.scsi_target.specs.declared.standing.Standing.{Standing}
 use Rattle.scsi_target.specs.declared.standing.Standing.TheVariants as standings
-use Rattle.scsi_target.specs.Standings.{is_inside, IsGuest, IsNoGuest, IsStanding, standing_on_arrival, standing_on_failure, reply_planned, is_guest, outcome_of}
+use Rattle.scsi_target.specs.Standings.{is_inside, IsGuest, IsNoGuest, IsStanding, standing_on_arrival, standing_on_failure, reply_planned, is_guest, outcome_of, told_status, status_by, running_reply}
 use Rattle.scsi_target.specs.Processes.{ProcessesState, AreProcessesAfter, is_refused}
 use Rattle.scsi_target.proofs.StandingEvents
 
@@ -160,9 +161,9 @@ lost s a b p dev n st own =
     StandingEvents.after_choice left.seat (seat_of b dev n) p standings.Nowhere left.settles (StandingEvents.loses (seat_of a dev n) left.seat p (has_ended a p.id) left.is)
 
 -- What ends runs.
-running_id : (c : Option RunningProcess) (p : Process) (r : RunningProcess) → running_if c p.id ≡ Some r → r.process.id ≡ p.id
-running_id None p r e = cc
-running_id (Some q) p r e = go (same_id q.process.id p.id) refl e
+current_id : (c : Option RunningProcess) (p : Process) (r : RunningProcess) → running_if c p.id ≡ Some r → r.process.id ≡ p.id
+current_id None p r e = cc
+current_id (Some q) p r e = go (same_id q.process.id p.id) refl e
   where
     go : (y : Bool) → same_id q.process.id p.id ≡ y → (if y then Some q else None) ≡ Some r → r.process.id ≡ p.id
     go false f k = cc
@@ -177,7 +178,7 @@ inside_ends seat after p status none e =
 
     go : (x : Option RunningProcess) → running_if (Seats.current_of seat.unit) p.id ≡ x → Seats.seat_after_end_of seat status x ≡ Some after → IsNoGuest after p false
     go None f k = cc
-    go (Some r) f k = StandingEvents.ends seat after p status r (at ∙ f) (running_id (Seats.current_of seat.unit) p r f) e
+    go (Some r) f k = StandingEvents.ends seat after p status r (at ∙ f) (current_id (Seats.current_of seat.unit) p r f) e
 
 pub inside_ended : (s : ScenarioValue) (a b : Array) (p : Process) (status dev n : ℕ) → IsStep s (events.End p.id status) a b → IsOwn s dev n p → guest_at (seat_of a dev n).guests p.id ≡ None → IsNoGuest (seat_of b dev n) p false
 inside_ended s a b p status dev n st own none =
@@ -231,3 +232,28 @@ device_is aborts.All e = cc
 device_is (aborts.Tag n) e = cc
 device_is aborts.WholeQueue e = cc
 device_is aborts.Device e = refl
+
+-- ---- its status
+
+status_told : (x : Option Reply) → status_if x ≡ told_status (reply_told x)
+status_told None = refl
+status_told (Some reply) = refl
+
+inside_status : (c : Option RunningProcess) (p : Process) → status_if (running_reply (running_if c p.id)) ≡ (if is_same_process (running_id c) (Some p.id) then told_status (current_reply c) else None)
+inside_status None p = refl
+inside_status (Some r) p = go (same_id r.process.id p.id)
+  where
+    go : (y : Bool) → status_if (running_reply (if y then Some r else None)) ≡ (if y then told_status (reply_told r.reply) else None)
+    go true = status_told r.reply
+    go false = refl
+
+pub status_is : (seat : Seat) (p : Process) (v : Standing) → IsStanding seat p v → status_by v (running_id (Seats.current_of seat.unit)) (current_reply (Seats.current_of seat.unit)) p.id ≡ status_if (running_reply (Seats.running_at seat p.id))
+status_is seat p standings.Nowhere h = λ i. status_if (running_reply (sym (at) i))
+  where
+    at : Seats.running_at seat p.id ≡ None
+    at = (λ i. if is_some (h.none i) then h.none i else running_if (Seats.current_of seat.unit) p.id) ∙ not_current seat.unit p h.inside_is
+status_is seat p standings.Queued h =
+    sym ((λ i. status_if (running_reply (if is_some (h.none i) then h.none i else running_if (Seats.current_of seat.unit) p.id))) ∙ inside_status (Seats.current_of seat.unit) p)
+status_is seat p (standings.Guest reply) h =
+    (λ i. told_status (h.reply_is i)) ∙ sym (status_told h.guest.reply)
+    ∙ (λ i. status_if (running_reply (sym (StandingEvents.guest_runs_at seat p reply h) i)))

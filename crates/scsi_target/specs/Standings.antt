@@ -1,10 +1,10 @@
 -- Where a process stands at its logical unit: in the queue, outside it, or nowhere.
-use Rattle.std.specs.Prelude.{◌≡◌, ℕ, Bool, true, false, ◌||◌, List, Option, Some, None, is_some}
+use Rattle.std.specs.Prelude.{◌≡◌, ℕ, Bool, true, false, ◌||◌, List, Option, Some, None, is_some, if◌then◌else◌}
 use Rattle.std.specs.List.{list_any}
 use Rattle.bus_base.specs.declared.ProcId.{ProcId}
 use Rattle.cdb_codec.specs.Cdb.{command_of}
 use Rattle.scenario.specs.Value.{ScenarioValue}
-use Rattle.disk_array.specs.Execution.{is_request_sense}
+use Rattle.disk_array.specs.Execution.{Reply as ArrayReply, is_request_sense}
 use Rattle.disk_array.specs.Processes.{Process, same_id}
 use Rattle.disk_array.specs.Seats.{Seat, is_initiator}
 use Rattle.disk_array.specs.SoundArray.{IsOwn}
@@ -12,7 +12,7 @@ use Rattle.disk_array.specs.Steps.{running_if}
 use Rattle.disk_array.specs.Units.{RunningProcess, UnitState, guest_at}
 use Rattle.disk_unit.specs.declared.media.Plan.{Plan}
 use Rattle.disk_unit.specs.declared.unit.Reply.{Reply}
-use Rattle.disk_target.specs.Seated.{IsProcess, reply_told}
+use Rattle.disk_target.specs.Seated.{IsProcess, reply_told, is_same_process}
 use Rattle.scsi_target.specs.declared.standing.Served.{Served}
 use Rattle.scsi_target.specs.declared.standing.Standing.{Standing}
 use Rattle.scsi_target.specs.declared.standing.Standing.TheVariants as standings
@@ -79,6 +79,21 @@ abbrev pub outcome_of : Standing → Option Reply
 outcome_of standings.Nowhere = None
 outcome_of standings.Queued = None
 outcome_of (standings.Guest reply) = reply
+
+abbrev pub told_status : Option Reply → Option ℕ
+told_status None = None
+told_status (Some reply) = Some reply.status
+
+-- The status of its reply, where this is the current process of its unit, which has this reply.
+abbrev pub status_by : Standing → Option ProcId → Option Reply → ProcId → Option ℕ
+status_by standings.Nowhere current reply id = None
+status_by standings.Queued current reply id = if is_same_process current (Some id) then told_status reply else None
+status_by (standings.Guest given) current reply id = told_status given
+
+-- The reply of a process that runs, once it has one.
+abbrev pub running_reply : Option RunningProcess → Option ArrayReply
+running_reply None = None
+running_reply (Some r) = r.reply
 
 -- What a plan tells of a reply.
 abbrev pub reply_planned : Plan → Reply

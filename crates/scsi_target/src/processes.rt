@@ -1,26 +1,29 @@
 //! The units of a target, and the process of its connection.
-ghost use Rattle.std.specs.Prelude.{◌≡◌, ℕ, ◌<◌, ◌≤◌, ◌||◌, not, true, false, List, [], ◌∷◌, Option, Some, None, length, replicate, is_some, IfOk};
+ghost use Rattle.std.specs.Prelude.{◌≡◌, ℕ, ◌<◌, ◌≤◌, ◌||◌, ◌&&◌, not, true, false, List, [], ◌∷◌, Option, Some, None, length, replicate, is_some, slice_get, IfOk};
+ghost use Rattle.bus_base.specs.declared.Event.{Event as EventValue};
 ghost use Rattle.bus_base.specs.declared.Event.TheVariants.{Accept, Refuse, Run, Fail, End, Lost, Aborted, Reset};
 ghost use Rattle.cdb_codec.specs.Cdb.{command_of};
 ghost use Rattle.scenario.specs.Value.{ScenarioValue};
 ghost use Rattle.disk_array.specs.Execution.{is_request_sense, queue_full};
 ghost use Rattle.disk_array.specs.Processes.{Process};
-ghost use Rattle.disk_array.specs.Seats.{seat_of};
+ghost use Rattle.disk_array.specs.Seats.{seat_of, running_at};
 ghost use Rattle.disk_array.specs.Units.{Array, starting_array, settled_array};
 ghost use Rattle.disk_unit.specs.Units.{told_of};
-ghost use Rattle.disk_target.specs.Seated.{HasSent, aborted_reply};
+ghost use Rattle.disk_target.specs.Seated.{HasSent, aborted_reply, is_same_process};
+ghost use Rattle.disk_target.specs.Courses.{status_if};
 ghost use Rattle.disk_target.specs.Units.{AreUnitsOf, AreUnitsAfter, IsStep, is_of_one, unit_in, spare_of};
 ghost use Rattle.disk_target.specs.Fillings.{blocks_at};
 ghost use Rattle.scenario.specs.Lookups.{unit_of};
 ghost use Rattle.scenario.specs.Writing.{Obeys};
 ghost use Rattle.bus_due.specs.Defs.{target_def_of};
 ghost use Rattle.disk_unit.specs.declared.unit.Reply.{Reply};
-ghost use Rattle.scsi_target.specs.Standings.{IsServed, standing_on_arrival, standing_on_failure, reply_planned, is_guest, outcome_of, standing_at_first};
+ghost use Rattle.scsi_target.specs.Standings.{IsServed, standing_on_arrival, standing_on_failure, reply_planned, is_guest, outcome_of, standing_at_first, told_status, status_by, running_reply};
 ghost use Rattle.scsi_target.specs.Processes.{AreProcessesAt, AreProcessesAfter, IsOwnEvent, is_refused};
+ghost use Rattle.scsi_target.specs.declared.standing.Standing.{Standing as StandingValue};
 ghost use Rattle.scsi_target.specs.declared.standing.Standing.TheVariants.{Nowhere, Guest};
 
 use crate::standing::{Served, Standing};
-use bus_base::{AbortKind, Dev, Event, NoMemory, Ns};
+use bus_base::{AbortKind, Dev, Event, NoMemory, Ns, ProcId};
 use bus_dialogue::Room;
 use cdb_codec::{ABORTED_COMMAND, CHECK_CONDITION, Command, QUEUE_FULL, Sense, from_cdb};
 use disk_target::Units;
@@ -128,6 +131,61 @@ fn outcome_of(standing: Standing) -> Option<Reply>
         Standing::Guest(reply) => reply,
         Standing::Nowhere | Standing::Queued => None,
     }
+}
+
+fn told_status(reply: Option<Reply>) -> Option<u8>
+    ensures { result ≡ told_status reply }
+{
+    match reply {
+        None => None,
+        Some(reply) => Some(reply.status),
+    }
+}
+
+fn is_same_process(one: Option<ProcId>, id: ProcId) -> bool
+    ensures { result ≡ is_same_process one (Some id) }
+{
+    match one {
+        None => false,
+        Some(one) => one.command == id.command && one.sense == id.sense,
+    }
+}
+
+// The status of its reply, where this is the current process of its unit, which has this reply.
+fn status_by(
+    standing: Standing,
+    current: Option<ProcId>,
+    reply: Option<Reply>,
+    id: ProcId,
+) -> Option<u8>
+    ensures { result ≡ status_by standing current reply id }
+{
+    match standing {
+        Standing::Nowhere => None,
+        Standing::Queued => {
+            if is_same_process(current, id) {
+                told_status(reply)
+            } else {
+                None
+            }
+        }
+        Standing::Guest(given) => told_status(given),
+    }
+}
+
+fn event_at(shown: &[Event], place: usize) -> Option<Event>
+    ensures { result ≡ slice_get shown.now place }
+{
+    match shown.get(place) {
+        None => None,
+        Some(event) => Some(*event),
+    }
+}
+
+fn are_both(first: bool, second: bool) -> bool
+    ensures { result ≡ (first && second) }
+{
+    first && second
 }
 
 fn standing_at_first(reselected: bool) -> Standing
@@ -437,5 +495,67 @@ impl Processes {
         ensures { self.new ≡ record self.old { standing = standing_at_first reselected } }
     {
         self.standing = standing_at_first(reselected);
+    }
+
+    // The event, where there is one.
+    fn take_if(&mut self, event: Option<Event>, served: &Served, now: Ns) -> bool
+        requires unit { served.now.unit < 8 }
+        requires device { served.now.from < 8 }
+        requires most { length served.now.cdb.now ≤ 10 }
+        ensures none { event ≡ None → self.new ≡ self.old }
+        ensures array { (s : ScenarioValue) (a b : Array) (times : List ℕ) (p : Process) (it : EventValue)
+            → event ≡ Some it → IsServed s self.old.units.dev p served.now
+            → AreProcessesAt s a times p served.now.unit self.old
+            → IsOwnEvent (seat_of a self.old.units.dev served.now.unit) p served.now.sent.now self.old.standing it
+            → result ≡ true → IsStep s it a b → AreProcessesAfter s a b times now p served.now.unit self.new }
+        ensures dev { self.new.units.dev ≡ self.old.units.dev }
+        ensures seek { self.new.units.seek ≡ self.old.units.seek }
+    {
+        match event {
+            None => true,
+            Some(event) => self.take(&event, served, now),
+        }
+    }
+
+    /// The events that a row shows of the process of the connection, at `now`, in ns, the newest first: none, one, or
+    /// two of which the first is that its command arrives. False where one of them could not be.
+    pub fn see(&mut self, shown: &[Event], served: &Served, now: Ns) -> bool
+        requires unit { served.now.unit < 8 }
+        requires device { served.now.from < 8 }
+        requires most { length served.now.cdb.now ≤ 10 }
+        ensures nothing { shown.now ≡ [] → self.new ≡ self.old }
+        ensures one { (s : ScenarioValue) (a b : Array) (times : List ℕ) (p : Process) (it : EventValue)
+            → shown.now ≡ it ∷ [] → IsServed s self.old.units.dev p served.now
+            → AreProcessesAt s a times p served.now.unit self.old
+            → IsOwnEvent (seat_of a self.old.units.dev served.now.unit) p served.now.sent.now self.old.standing it
+            → result ≡ true → IsStep s it a b → AreProcessesAfter s a b times now p served.now.unit self.new }
+        ensures two { (s : ScenarioValue) (a b d : Array) (times : List ℕ) (p : Process) (it : EventValue)
+            → shown.now ≡ it ∷ Accept p.id ∷ [] → IsServed s self.old.units.dev p served.now
+            → AreProcessesAt s a times p served.now.unit self.old → self.old.standing ≡ Nowhere
+            → ((v : StandingValue)
+            → IsOwnEvent (seat_of b self.old.units.dev served.now.unit) p served.now.sent.now v it)
+            → result ≡ true → IsStep s (Accept p.id) a b → IsStep s it b d
+            → AreProcessesAfter s a d times now p served.now.unit self.new }
+        ensures dev { self.new.units.dev ≡ self.old.units.dev }
+        ensures seek { self.new.units.seek ≡ self.old.units.seek }
+    {
+        let first = self.take_if(event_at(shown, 1), served, now);
+        let second = self.take_if(event_at(shown, 0), served, now);
+        are_both(first, second)
+    }
+
+    /// The status of the reply of the process of the connection, at this unit, once it has one.
+    pub fn reply(&self, unit: u8, id: ProcId) -> Option<u8>
+        requires unit { unit < 8 }
+        ensures { (s : ScenarioValue) (a : Array) (times : List ℕ) (p : Process)
+            → AreProcessesAt s a times p unit self.now → p.id ≡ id
+            → result ≡ status_if (running_reply (running_at (seat_of a self.now.units.dev unit) p.id)) }
+    {
+        status_by(
+            self.standing,
+            self.units.current(unit),
+            self.units.reply(unit),
+            id,
+        )
     }
 }
