@@ -2,3 +2,4 @@ mod StandingSteps
 mod StandingEvents
 mod ProcessEvents
 mod TimesTwice
+mod RowEvents

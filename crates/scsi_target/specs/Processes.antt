@@ -1,5 +1,5 @@
 -- The units of a target, and where the process of its connection stands.
-use Rattle.std.specs.Prelude.{◌≡◌, ℕ, Bool, true, false, List}
+use Rattle.std.specs.Prelude.{◌≡◌, ℕ, Bool, true, false, List, [], ◌∷◌, Option, Some, None}
 use Rattle.bus_base.specs.declared.Event.{Event}
 use Rattle.bus_base.specs.declared.Event.TheVariants as events
 use Rattle.scenario.specs.Value.{ScenarioValue}
@@ -8,9 +8,14 @@ use Rattle.disk_array.specs.Seats.{Seat, seat_of}
 use Rattle.disk_array.specs.Units.{Array}
 use Rattle.disk_unit.specs.declared.unit.Accepted.{Accepted}
 use Rattle.disk_unit.specs.declared.unit.Accepted.TheVariants as accepted
-use Rattle.bus_due.specs.RunSteps.{current_times_after}
+use Rattle.bus_trace.specs.declared.Row.{Row}
+use Rattle.bus_story.specs.BusState.{row_reading}
+use Rattle.bus_story.specs.HistoryEvents.{row_events_by}
+use Rattle.bus_due.specs.RunState.{or_start, array_of}
+use Rattle.bus_due.specs.RunSteps.{current_times_after, run_state}
+use Rattle.disk_array.specs.SoundArray.{IsSound}
 use Rattle.disk_target.specs.Seated.{HasSent}
-use Rattle.disk_target.specs.Units.{UnitsState, AreUnitsOf}
+use Rattle.disk_target.specs.Units.{UnitsState, AreUnitsOf, IsStep}
 use Rattle.scsi_target.specs.declared.standing.Standing.{Standing}
 use Rattle.scsi_target.specs.declared.standing.Standing.TheVariants as standings
 use Rattle.scsi_target.specs.Standings.{IsStanding, is_guest}
@@ -46,3 +51,30 @@ IsOwnEvent seat p sent v (events.End id status) = id ≡ p.id
 IsOwnEvent seat p sent v (events.Lost id) = id ≡ p.id
 IsOwnEvent seat p sent v (events.Aborted by dev unit kind) = ⊥
 IsOwnEvent seat p sent v (events.Reset by) = ⊥
+
+-- These events of a row are of it, the newest first: none, one, or two of which the first is that its command arrives.
+abbrev pub AreOwnEvents : ScenarioValue → Array → ℕ → ℕ → Process → List ℕ → Standing → List Event → Type 0
+AreOwnEvents s a dev unit p sent v [] = Unit {0}
+AreOwnEvents s a dev unit p sent v (it ∷ []) = IsOwnEvent (seat_of a dev unit) p sent v it
+AreOwnEvents s a dev unit p sent v (it ∷ first ∷ []) =
+    (first ≡ events.Accept p.id) × (v ≡ standings.Nowhere)
+    × ((b : Array) (w : Standing) → IsStep s first a b → IsOwnEvent (seat_of b dev unit) p sent w it)
+AreOwnEvents s a dev unit p sent v (it ∷ first ∷ zeroth ∷ more) = ⊥
+
+-- ---- after some rows
+
+pub record AreSettledAt (s : ScenarioValue) (a : Array) (times : List ℕ) (p : Process) (unit : ℕ) (v : ProcessesState) : Type 0 where
+  pub sound : IsSound s a
+  pub at : AreProcessesAt s a times p unit v
+
+-- The units are those that the rows tell of, and this process stands so at its unit.
+abbrev pub AreProcessesOf : ScenarioValue → List Row → Process → ℕ → ProcessesState → Type 0
+AreProcessesOf s rows p unit v = AreSettledAt s (array_of s (run_state s rows)) (run_state s rows).current_since p unit v
+
+abbrev pub times_of_events : ScenarioValue → Option Array → List ℕ → List Event → Option Array → ℕ → List ℕ
+times_of_events s before times [] after now = times
+times_of_events s before times (event ∷ shown) after now = current_times_after (or_start s before).units (or_start s after).units times now
+
+-- What a row shows.
+abbrev pub events_of_row : ScenarioValue → List Row → Row → List Event
+events_of_row s rows row = row_events_by s (run_state s rows).story (row_reading (run_state s rows).story.bus_state row) row

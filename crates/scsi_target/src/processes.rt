@@ -15,10 +15,15 @@ ghost use Rattle.disk_target.specs.Units.{AreUnitsOf, AreUnitsAfter, IsStep, is_
 ghost use Rattle.disk_target.specs.Fillings.{blocks_at};
 ghost use Rattle.scenario.specs.Lookups.{unit_of};
 ghost use Rattle.scenario.specs.Writing.{Obeys};
+ghost use Rattle.bus_trace.specs.declared.Row.{Row};
+ghost use Rattle.bus_due.specs.Allowed.{allowed};
 ghost use Rattle.bus_due.specs.Defs.{target_def_of};
+ghost use Rattle.bus_due.specs.RunState.{array_of};
+ghost use Rattle.bus_due.specs.RunSteps.{run_state};
+ghost use Rattle.disk_array.specs.SoundArray.{HasSeats};
 ghost use Rattle.disk_unit.specs.declared.unit.Reply.{Reply};
 ghost use Rattle.scsi_target.specs.Standings.{IsServed, standing_on_arrival, standing_on_failure, reply_planned, is_guest, outcome_of, standing_at_first, told_status, status_by, running_reply};
-ghost use Rattle.scsi_target.specs.Processes.{AreProcessesAt, AreProcessesAfter, IsOwnEvent, is_refused};
+ghost use Rattle.scsi_target.specs.Processes.{AreProcessesAt, AreProcessesAfter, IsOwnEvent, AreOwnEvents, AreProcessesOf, events_of_row, is_refused};
 ghost use Rattle.scsi_target.specs.declared.standing.Standing.{Standing as StandingValue};
 ghost use Rattle.scsi_target.specs.declared.standing.Standing.TheVariants.{Nowhere, Guest};
 
@@ -517,9 +522,8 @@ impl Processes {
         }
     }
 
-    /// The events that a row shows of the process of the connection, at `now`, in ns, the newest first: none, one, or
-    /// two of which the first is that its command arrives. False where one of them could not be.
-    pub fn see(&mut self, shown: &[Event], served: &Served, now: Ns) -> bool
+    // The newest first: none, one, or two of which the first is that its command arrives.
+    fn take_all(&mut self, shown: &[Event], served: &Served, now: Ns) -> bool
         requires unit { served.now.unit < 8 }
         requires device { served.now.from < 8 }
         requires most { length served.now.cdb.now ≤ 10 }
@@ -542,6 +546,24 @@ impl Processes {
         let first = self.take_if(event_at(shown, 1), served, now);
         let second = self.take_if(event_at(shown, 0), served, now);
         are_both(first, second)
+    }
+
+    /// The events that a row shows of the process of the connection, at `now`, in ns, the newest first: none, one, or
+    /// two of which the first is that its command arrives. False where one of them could not be.
+    pub fn see(&mut self, shown: &[Event], served: &Served, now: Ns) -> bool
+        requires unit { served.now.unit < 8 }
+        requires device { served.now.from < 8 }
+        requires most { length served.now.cdb.now ≤ 10 }
+        ensures trace { (s : ScenarioValue) (rows : List Row) (row : Row) (p : Process) → HasSeats s
+            → allowed s (row ∷ rows) ≡ true → shown.now ≡ events_of_row s rows row → now ≡ row.time
+            → IsServed s self.old.units.dev p served.now
+            → AreOwnEvents s (array_of s (run_state s rows)) self.old.units.dev served.now.unit p served.now.sent.now
+            self.old.standing shown.now → result ≡ true → AreProcessesOf s rows p served.now.unit self.old
+            → AreProcessesOf s (row ∷ rows) p served.now.unit self.new }
+        ensures dev { self.new.units.dev ≡ self.old.units.dev }
+        ensures seek { self.new.units.seek ≡ self.old.units.seek }
+    {
+        self.take_all(shown, served, now)
     }
 
     /// The status of the reply of the process of the connection, at this unit, once it has one.

@@ -1,47 +1,21 @@
-use Rattle.std.proofs.Common.{ℕ, ◌≡◌, ◌∙◌, refl, sym, subst, Bool, true, false, List, [], ◌∷◌, Option, Some, None}
+use Rattle.std.proofs.Common.{ℕ, ◌≡◌, ◌∷◌, ◌∙◌, sym, subst, true, List}
+use Rattle.std.specs.Prelude.{is_some}
 use Rattle.bus_base.specs.declared.Event.{Event}
-use Rattle.bus_base.specs.declared.Event.TheVariants as events
-use Rattle.disk_array.specs.Seats.{seat_of, running_at}
-use Rattle.disk_target.specs.Units.{IsStep}
-use Rattle.scsi_target.specs.Standings.{IsServed, status_by, running_reply}
-use Rattle.scsi_target.specs.declared.standing.Standing.{Standing}
-use Rattle.scsi_target.specs.declared.standing.Standing.TheVariants as standings
-use Rattle.scsi_target.specs.Processes.{ProcessesState, AreProcessesAt, IsOwnEvent}
-use Rattle.std.specs.Prelude.{◌&&◌, slice_get}
-use Rattle.disk_array.specs.Units.{Array}
-use Rattle.bus_due.specs.RunSteps.{current_times_after}
-use Rattle.scsi_target.proofs.TimesTwice.{twice, arrival_keeps}
+use Rattle.bus_due.specs.Allowed.{allowed}
+use Rattle.bus_due.specs.RunState.{or_start}
+use Rattle.bus_due.specs.RunSteps.{run_state, array_after_events}
+use Rattle.scsi_target.specs.Processes.{AreSettledAt, times_of_events, events_of_row}
+use Rattle.scsi_target.proofs.RowEvents.{row_events, and_two}
 use Rattle.scsi_target.proofs.processes.Processes.see.Goals as goal
 
-and_one : (x y : Bool) → (x && y) ≡ true → x ≡ true
-and_one true y h = refl
-and_one false y h = cc
-
-and_two : (x y : Bool) → (x && y) ≡ true → y ≡ true
-and_two true y h = h
-and_two false y h = cc
-
-pub returns-clause-nothing : goal.returns-clause-nothing
-returns-clause-nothing c = λ is.
-    c.take_if-second.ensures.none (c.event_at-2.ensures ∙ (λ i. slice_get (is i) 0))
-    ∙ c.take_if-first.ensures.none (c.event_at.ensures ∙ (λ i. slice_get (is i) 1))
-
-pub returns-clause-one : goal.returns-clause-one
-returns-clause-one c = λ s a b times p it is served h own done st.
-    let same : c.take_if-first.new.self ≡ c.args.self.now = c.take_if-first.ensures.none (c.event_at.ensures ∙ (λ i. slice_get (is i) 1)) in
-    c.take_if-second.ensures.array s a b times p it (c.event_at-2.ensures ∙ (λ i. slice_get (is i) 0))
-    (subst (λ (v : ProcessesState). IsServed s v.units.dev p c.args.served.now) (sym same) served)
-    (subst (λ (v : ProcessesState). AreProcessesAt s a times p c.args.served.now.unit v) (sym same) h)
-    (subst (λ (v : ProcessesState). IsOwnEvent (seat_of a v.units.dev c.args.served.now.unit) p c.args.served.now.sent.now v.standing it) (sym same) own)
-    (and_two c.take_if-first.result c.take_if-second.result (sym c.are_both.ensures ∙ done)) st
-
-pub returns-clause-two : goal.returns-clause-two
-returns-clause-two c = λ s a b d times p it is served h new own done arrives st.
-    let both = sym c.are_both.ensures ∙ done in
-    let mid = c.take_if-first.ensures.array s a b times p (events.Accept p.id) (c.event_at.ensures ∙ (λ i. slice_get (is i) 1)) served h (refl, new) (and_one c.take_if-first.result c.take_if-second.result both) arrives in
-    let dev = c.take_if-first.ensures.dev in
-    subst (λ (ts : List ℕ). AreProcessesAt s d ts p c.args.served.now.unit c.take_if-second.new.self) (twice a.units b.units d.units times c.args.now (arrival_keeps s a b p.id arrives.step_is))
-    (c.take_if-second.ensures.array s b d (current_times_after a.units b.units times c.args.now) p it (c.event_at-2.ensures ∙ (λ i. slice_get (is i) 0))
-    (subst (λ (x : ℕ). IsServed s x p c.args.served.now) (sym dev) served) mid
-    (subst (λ (x : ℕ). IsOwnEvent (seat_of b x c.args.served.now.unit) p c.args.served.now.sent.now c.take_if-first.new.self.standing it) (sym dev) (own c.take_if-first.new.self.standing))
-    (and_two c.take_if-first.result c.take_if-second.result both) st)
+pub returns-clause-trace : goal.returns-clause-trace
+returns-clause-trace c = λ s rows row p seats permitted is time served own done h.
+    let k = run_state s rows in
+    let n : ℕ = c.args.served.now.unit in
+    let some : is_some (array_after_events s k.array c.args.shown.now) ≡ true = (λ i. is_some (array_after_events s k.array (is i))) ∙ and_two (allowed s rows) _ permitted in
+    let z = row_events s k.array k.current_since c.args.now p n c.args.served.now.sent.now c.args.self.now c.take_all.new.self c.args.shown.now seats h some own
+    c.take_all.ensures.nothing
+    (λ a b it e at it_own st. c.take_all.ensures.one s a b k.current_since p it e served at it_own done st)
+    (λ a b d it e at nowhere later first second. c.take_all.ensures.two s a b d k.current_since p it e served at nowhere later done first second) in
+    subst (λ (t : ℕ). AreSettledAt s (or_start s (array_after_events s k.array (events_of_row s rows row))) (times_of_events s k.array k.current_since (events_of_row s rows row) (array_after_events s k.array (events_of_row s rows row)) t) p n c.take_all.new.self) time
+    (subst (λ (shown : List Event). AreSettledAt s (or_start s (array_after_events s k.array shown)) (times_of_events s k.array k.current_since shown (array_after_events s k.array shown) c.args.now) p n c.take_all.new.self) is z)
