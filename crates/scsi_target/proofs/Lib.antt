@@ -3,3 +3,5 @@ mod StandingEvents
 mod ProcessEvents
 mod TimesTwice
 mod RowEvents
+mod Beginnings
+mod UnitRows

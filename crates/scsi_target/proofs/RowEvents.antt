@@ -19,7 +19,7 @@ use Rattle.scsi_target.specs.declared.standing.Standing.TheVariants as standings
 use Rattle.scsi_target.specs.Processes.{ProcessesState, AreProcessesAt, AreProcessesAfter, AreSettledAt, IsOwnEvent, AreOwnEvents, times_of_events}
 
 -- One event more.
-one_more : (s : ScenarioValue) (x : Option Array) (it : Event) (P : Array → Type 0) → HasSeats s → IsSound s (or_start s x) → is_some (array_step s it x) ≡ true → ((b : Array) → IsStep s it (or_start s x) b → P b) → P (or_start s (array_step s it x)) × IsSound s (or_start s (array_step s it x))
+pub one_more : (s : ScenarioValue) (x : Option Array) (it : Event) (P : Array → Type 0) → HasSeats s → IsSound s (or_start s x) → is_some (array_step s it x) ≡ true → ((b : Array) → IsStep s it (or_start s x) b → P b) → P (or_start s (array_step s it x)) × IsSound s (or_start s (array_step s it x))
 one_more s None it P seats sound some f = cc
 one_more s (Some a) it P seats sound some f = go (step s it a) refl some
   where
@@ -27,7 +27,7 @@ one_more s (Some a) it P seats sound some f = go (step s it a) refl some
     go None e k = cc
     go (Some b) e k = (f b (record { seats = seats; sound = sound; step_is = e }), step_sound s a b it seats sound e)
 
-some_before : (s : ScenarioValue) (x : Option Array) (it : Event) → is_some (array_step s it x) ≡ true → is_some x ≡ true
+pub some_before : (s : ScenarioValue) (x : Option Array) (it : Event) → is_some (array_step s it x) ≡ true → is_some x ≡ true
 some_before s None it e = cc
 some_before s (Some a) it e = refl
 

@@ -1,10 +1,11 @@
 -- The units of a target, and where the process of its connection stands.
-use Rattle.std.specs.Prelude.{◌≡◌, ℕ, Bool, true, false, List, [], ◌∷◌, Option, Some, None}
+use Rattle.std.specs.Prelude.{◌≡◌, ◌<◌, ℕ, Bool, true, false, List, [], ◌∷◌, Option, Some, None}
 use Rattle.bus_base.specs.declared.Event.{Event}
 use Rattle.bus_base.specs.declared.Event.TheVariants as events
+use Rattle.bus_base.specs.declared.ProcId.{ProcId}
 use Rattle.scenario.specs.Value.{ScenarioValue}
 use Rattle.disk_array.specs.Processes.{Process}
-use Rattle.disk_array.specs.Seats.{Seat, seat_of}
+use Rattle.disk_array.specs.Seats.{Seat, seat_of, is_elsewhere}
 use Rattle.disk_array.specs.Units.{Array}
 use Rattle.disk_unit.specs.declared.unit.Accepted.{Accepted}
 use Rattle.disk_unit.specs.declared.unit.Accepted.TheVariants as accepted
@@ -78,3 +79,22 @@ times_of_events s before times (event ∷ shown) after now = current_times_after
 -- What a row shows.
 abbrev pub events_of_row : ScenarioValue → List Row → Row → List Event
 events_of_row s rows row = row_events_by s (run_state s rows).story (row_reading (run_state s rows).story.bus_state row) row
+
+-- The units alone.
+pub record AreKeptAt (s : ScenarioValue) (a : Array) (times : List ℕ) (v : UnitsState) : Type 0 where
+  pub sound : IsSound s a
+  pub units : AreUnitsOf s a times v.dev v.units
+
+abbrev pub AreKeptOf : ScenarioValue → List Row → UnitsState → Type 0
+AreKeptOf s rows v = AreKeptAt s (array_of s (run_state s rows)) (run_state s rows).current_since v
+
+-- None of these events, the newest first, is of a unit of this target: none, one, or two of which the first is that a
+-- command arrives.
+abbrev pub IsOutside : ScenarioValue → ℕ → Event → Type 0
+IsOutside s dev it = (n : ℕ) → n < 8 → is_elsewhere s it dev n ≡ true
+
+abbrev pub AreOutside : ScenarioValue → ℕ → List Event → Type 0
+AreOutside s dev [] = Unit {0}
+AreOutside s dev (it ∷ []) = IsOutside s dev it
+AreOutside s dev (it ∷ first ∷ []) = (id : ProcId) × (first ≡ events.Accept id) × IsOutside s dev first × IsOutside s dev it
+AreOutside s dev (it ∷ first ∷ zeroth ∷ more) = ⊥

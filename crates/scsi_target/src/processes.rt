@@ -6,12 +6,12 @@ ghost use Rattle.cdb_codec.specs.Cdb.{command_of};
 ghost use Rattle.scenario.specs.Value.{ScenarioValue};
 ghost use Rattle.disk_array.specs.Execution.{is_request_sense, queue_full};
 ghost use Rattle.disk_array.specs.Processes.{Process};
-ghost use Rattle.disk_array.specs.Seats.{seat_of, running_at};
-ghost use Rattle.disk_array.specs.Units.{Array, starting_array, settled_array};
+ghost use Rattle.disk_array.specs.Seats.{seat_of, running_at, current_of};
+ghost use Rattle.disk_array.specs.Units.{Array, RunningProcess, guest_at, starting_array, settled_array};
 ghost use Rattle.disk_unit.specs.Units.{told_of};
 ghost use Rattle.disk_target.specs.Seated.{HasSent, aborted_reply, is_same_process};
 ghost use Rattle.disk_target.specs.Courses.{status_if};
-ghost use Rattle.disk_target.specs.Units.{AreUnitsOf, AreUnitsAfter, IsStep, is_of_one, unit_in, spare_of};
+ghost use Rattle.disk_target.specs.Units.{UnitsState, AreUnitsOf, AreUnitsAfter, IsStep, is_of_one, unit_in, spare_of};
 ghost use Rattle.disk_target.specs.Fillings.{blocks_at};
 ghost use Rattle.scenario.specs.Lookups.{unit_of};
 ghost use Rattle.scenario.specs.Writing.{Obeys};
@@ -22,8 +22,9 @@ ghost use Rattle.bus_due.specs.RunState.{array_of};
 ghost use Rattle.bus_due.specs.RunSteps.{run_state};
 ghost use Rattle.disk_array.specs.SoundArray.{HasSeats};
 ghost use Rattle.disk_unit.specs.declared.unit.Reply.{Reply};
-ghost use Rattle.scsi_target.specs.Standings.{IsServed, standing_on_arrival, standing_on_failure, reply_planned, is_guest, outcome_of, standing_at_first, told_status, status_by, running_reply};
-ghost use Rattle.scsi_target.specs.Processes.{AreProcessesAt, AreProcessesAfter, IsOwnEvent, AreOwnEvents, AreProcessesOf, events_of_row, is_refused};
+ghost use Rattle.scsi_device.specs.Heard.{is_new};
+ghost use Rattle.scsi_target.specs.Standings.{IsServed, IsStanding, standing_on_arrival, standing_on_failure, reply_planned, is_guest, outcome_of, standing_at_first, told_status, status_by, running_reply};
+ghost use Rattle.scsi_target.specs.Processes.{AreProcessesAt, AreProcessesAfter, IsOwnEvent, AreOwnEvents, AreProcessesOf, AreKeptOf, AreOutside, events_of_row, is_refused};
 ghost use Rattle.scsi_target.specs.declared.standing.Standing.{Standing as StandingValue};
 ghost use Rattle.scsi_target.specs.declared.standing.Standing.TheVariants.{Nowhere, Guest};
 
@@ -427,8 +428,7 @@ impl Processes {
         }
     }
 
-    /// An abort of this initiator ended at `now`, in ns, at a unit of this target; BUS DEVICE RESET concerns each.
-    pub fn abort(&mut self, unit: u8, kind: AbortKind, by: Dev, now: Ns)
+    fn cut(&mut self, unit: u8, kind: AbortKind, by: Dev, now: Ns)
         requires unit { unit < 8 }
         requires device { by < 8 }
         ensures array { (s : ScenarioValue) (a b : Array) (times : List ℕ)
@@ -445,8 +445,7 @@ impl Processes {
         }
     }
 
-    /// RST, at `now`, in ns.
-    pub fn reset(&mut self, now: Ns)
+    fn clear(&mut self, now: Ns)
         ensures array { (s : ScenarioValue) (a b : Array) (times : List ℕ) (by : ℕ)
             → AreUnitsOf s a times self.old.units.dev self.old.units.units → IsStep s (Reset by) a b
             → AreUnitsAfter s a b times now self.old.units.dev self.new.units.units }
@@ -456,6 +455,32 @@ impl Processes {
     {
         self.units.reset(now);
         self.standing = Standing::Nowhere;
+    }
+
+    /// An abort of this initiator ended at `now`, in ns, at a unit of this target; BUS DEVICE RESET concerns each.
+    pub fn abort(&mut self, unit: u8, kind: AbortKind, by: Dev, now: Ns)
+        requires unit { unit < 8 }
+        requires device { by < 8 }
+        ensures trace { (s : ScenarioValue) (rows : List Row) (row : Row) → HasSeats s
+            → allowed s (row ∷ rows) ≡ true → now ≡ row.time
+            → events_of_row s rows row ≡ Aborted by self.old.units.dev unit kind ∷ []
+            → AreKeptOf s rows self.old.units → AreKeptOf s (row ∷ rows) self.new.units }
+        ensures dev { self.new.units.dev ≡ self.old.units.dev }
+        ensures seek { self.new.units.seek ≡ self.old.units.seek }
+    {
+        self.cut(unit, kind, by, now);
+    }
+
+    /// RST, at `now`, in ns.
+    pub fn reset(&mut self, now: Ns)
+        ensures trace { (s : ScenarioValue) (rows : List Row) (row : Row) (by : ℕ) → HasSeats s
+            → allowed s (row ∷ rows) ≡ true → now ≡ row.time → events_of_row s rows row ≡ Reset by ∷ []
+            → AreKeptOf s rows self.old.units → AreKeptOf s (row ∷ rows) self.new.units }
+        ensures standing { self.new.standing ≡ Nowhere }
+        ensures dev { self.new.units.dev ≡ self.old.units.dev }
+        ensures seek { self.new.units.seek ≡ self.old.units.seek }
+    {
+        self.clear(now);
     }
 
     /// Of a target of a scenario that obeys the rules of its text, before any event. They take all the memory that they
@@ -497,7 +522,13 @@ impl Processes {
     /// A connection of this target begins: of a process that has not arrived by a selection, of the current process of
     /// a unit by a reselection.
     pub fn begin(&mut self, reselected: bool)
-        ensures { self.new ≡ record self.old { standing = standing_at_first reselected } }
+        ensures exact { self.new ≡ record self.old { standing = standing_at_first reselected } }
+        ensures selected { (a : Array) (p : Process) (unit : ℕ) → reselected ≡ false → is_new a p ≡ true
+            → IsStanding (seat_of a self.old.units.dev unit) p self.new.standing }
+        ensures reselected { (a : Array) (p : Process) (unit : ℕ) (r : RunningProcess) → reselected ≡ true
+            → guest_at a.guests p.id ≡ None
+            → current_of (seat_of a self.old.units.dev unit).unit ≡ Some r → r.process ≡ p
+            → IsStanding (seat_of a self.old.units.dev unit) p self.new.standing }
     {
         self.standing = standing_at_first(reselected);
     }
@@ -581,3 +612,10 @@ impl Processes {
         )
     }
 }
+
+/// A row that shows nothing of the units of a target changes nothing of them.
+pub fn units_stay_by_row()
+    ensures { (s : ScenarioValue) (rows : List Row) (row : Row) (v : UnitsState) → HasSeats s
+        → allowed s (row ∷ rows) ≡ true → AreOutside s v.dev (events_of_row s rows row)
+        → AreKeptOf s rows v → AreKeptOf s (row ∷ rows) v }
+{}

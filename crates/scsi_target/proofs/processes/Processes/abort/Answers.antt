@@ -1,21 +1,15 @@
-use Rattle.std.proofs.Common.{ℕ, ◌≡◌, ◌∙◌, refl, sym, subst, true, false, List, Option, Some, None}
+use Rattle.std.proofs.Common.{ℕ, ◌≡◌, [], ◌∷◌, sym, subst, List}
 use Rattle.bus_base.specs.declared.Event.TheVariants as events
-use Rattle.disk_target.specs.Units.{AreUnitsOf, AreUnitsAfter, IsStep}
-use Rattle.scsi_target.specs.Processes.{ProcessesState}
-use Rattle.bus_base.specs.declared.AbortKind.{AbortKind}
-use Rattle.scsi_target.proofs.ProcessEvents.{device_is}
+use Rattle.bus_due.specs.RunState.{array_of, or_start}
+use Rattle.bus_due.specs.RunSteps.{run_state}
+use Rattle.disk_target.specs.Units.{AreUnitsAfter}
+use Rattle.scsi_target.proofs.UnitRows.{by_one, by_row, some_after}
 use Rattle.scsi_target.proofs.processes.Processes.abort.Goals as goal
 
-pub returns-then-is_of_one-clause-array : goal.returns-then-is_of_one-clause-array
-returns-then-is_of_one-clause-array c = λ s a b times h st.
-    subst (λ (v : ProcessesState). AreUnitsAfter s a b times c.args.now v.units.dev c.abort.new.self.units) c.self.view_is
-    (c.abort.ensures.array s a b times (subst (λ (v : ProcessesState). AreUnitsOf s a times v.units.dev v.units.units) (sym c.self.view_is) h) (sym c.if-is_of_one.ensures)
-    (subst (λ (v : ProcessesState). IsStep s (events.Aborted c.args.by v.units.dev c.args.unit c.args.kind) a b) (sym c.self.view_is) st))
-
-pub returns-else-is_of_one-clause-array : goal.returns-else-is_of_one-clause-array
-returns-else-is_of_one-clause-array c = λ s a b times h st.
-    let kind = device_is c.args.kind (sym c.if-is_of_one.ensures) in
-    let step = subst (λ (v : ProcessesState). IsStep s (events.Aborted c.args.by v.units.dev c.args.unit c.args.kind) a b) (sym c.self.view_is) st in
-    subst (λ (v : ProcessesState). AreUnitsAfter s a b times c.args.now v.units.dev c.reset.new.self.units) c.self.view_is
-    (c.reset.ensures.device s a b times c.args.by c.args.unit (subst (λ (v : ProcessesState). AreUnitsOf s a times v.units.dev v.units.units) (sym c.self.view_is) h)
-    (subst (λ (k : AbortKind). IsStep s (events.Aborted c.args.by c.self.inside.units.dev c.args.unit k) a b) kind step))
+pub returns-clause-trace : goal.returns-clause-trace
+returns-clause-trace c = λ s rows row seats permitted time is h.
+    let k = run_state s rows in
+    by_row s rows row c.args.now (events.Aborted c.args.by c.args.self.now.units.dev c.args.unit c.args.kind ∷ []) c.cut.new.self.units time is
+    (by_one s k.array k.current_since c.args.now c.args.self.now.units c.cut.new.self.units (events.Aborted c.args.by c.args.self.now.units.dev c.args.unit c.args.kind) seats h (some_after s rows row (events.Aborted c.args.by c.args.self.now.units.dev c.args.unit c.args.kind ∷ []) permitted is)
+    (λ b st. subst (λ (d : ℕ). AreUnitsAfter s (or_start s k.array) b k.current_since c.args.now d c.cut.new.self.units.units) (sym c.cut.ensures.dev)
+    (c.cut.ensures.array s (or_start s k.array) b k.current_since h.units st)))
