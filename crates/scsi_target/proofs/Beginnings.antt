@@ -1,11 +1,9 @@
 -- Where a process stands as its connection begins.
-use Rattle.std.proofs.Common.{ℕ, ◌≡◌, Bool, true, false, List, [], ◌∷◌, ◌∙◌, refl, sym, subst, Option, Some, None}
+use Rattle.std.proofs.Common.{ℕ, ◌≡◌, Bool, true, false, List, [], ◌∷◌, ◌∙◌, refl, Option, Some, None}
 use Rattle.std.specs.Prelude.{if◌then◌else◌, not, ◌&&◌, ◌||◌, ◌==◌, is_some, is_none}
-use Rattle.std.specs.List.{list_any}
 use Rattle.bus_base.specs.declared.ProcId.{ProcId}
-use Rattle.disk_array.specs.ArrayHistory.{reply_in}
 use Rattle.disk_array.specs.Processes.{Process, same_id}
-use Rattle.disk_array.specs.Seats.{Seat, seat_of, guests_at, current_of}
+use Rattle.disk_array.specs.Seats.{seat_of, guests_at, current_of}
 use Rattle.disk_array.specs.Steps.{running_if, running_in, running_process, is_waiting, is_of_unit}
 use Rattle.disk_array.specs.Units.{RunningProcess, UnitState, Array, unit_state_at, guest_at}
 use Rattle.disk_unit.proofs.LiveCommands.{id_self}

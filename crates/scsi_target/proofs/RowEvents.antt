@@ -1,5 +1,5 @@
 -- The units of a target and the process of its connection after a row.
-use Rattle.std.proofs.Common.{ℕ, ◌≡◌, Bool, true, false, List, [], ◌∷◌, ◌∙◌, refl, sym, subst, Option, Some, None}
+use Rattle.std.proofs.Common.{ℕ, ◌≡◌, Bool, true, false, List, [], ◌∷◌, refl, sym, subst, Option, Some, None}
 use Rattle.std.specs.Prelude.{◌&&◌, is_some}
 use Rattle.bus_base.specs.declared.Event.{Event}
 use Rattle.bus_base.specs.declared.Event.TheVariants as events
@@ -12,7 +12,7 @@ use Rattle.disk_array.specs.Steps.{step}
 use Rattle.disk_array.specs.Units.{Array}
 use Rattle.disk_array.proofs.SoundArrays.{step_sound}
 use Rattle.bus_due.specs.RunState.{or_start}
-use Rattle.bus_due.specs.RunSteps.{current_times_after, array_after_events}
+use Rattle.bus_due.specs.RunSteps.{array_after_events}
 use Rattle.disk_target.specs.Units.{IsStep}
 use Rattle.scsi_target.specs.declared.standing.Standing.{Standing}
 use Rattle.scsi_target.specs.declared.standing.Standing.TheVariants as standings

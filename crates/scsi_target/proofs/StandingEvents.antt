@@ -1,17 +1,16 @@
 -- Where a process stands after each event of its own.
-use Rattle.std.proofs.Common.{ℕ, ◌≡◌, Bool, true, false, List, [], ◌∷◌, ◌++◌, ◌∙◌, refl, sym, subst, Option, Some, None}
+use Rattle.std.proofs.Common.{ℕ, ◌≡◌, Bool, true, false, [], ◌∷◌, ◌++◌, ◌∙◌, refl, sym, subst, Option, Some, None}
 use Rattle.std.specs.Prelude.{if◌then◌else◌, not, ◌&&◌, ◌||◌, ◌==◌, is_some, is_none, nat_lt}
 use Rattle.cdb_codec.specs.Cdb.{command_of}
-use Rattle.cdb_codec.specs.declared.status.TheConstants.{GOOD, CHECK_CONDITION}
 use Rattle.disk_array.specs.Execution.{Reply, execution, is_request_sense, queue_full}
-use Rattle.disk_array.specs.Processes.{Process, same_id}
+use Rattle.disk_array.specs.Processes.{Process}
 use Rattle.disk_array.specs.Units.{RunningProcess, UnitState, guest_at}
 use Rattle.disk_array.specs.Steps.{process_count, running_if}
 use Rattle.disk_array.specs.Seats
 use Rattle.disk_array.specs.Seats.{Seat, settled_seat, unit_mapped}
 use Rattle.disk_unit.specs.Units.{told_of}
 use Rattle.disk_unit.specs.declared.unit.Reply as unit
-use Rattle.disk_unit.proofs.LiveCommands.{id_self, same_id_is}
+use Rattle.disk_unit.proofs.LiveCommands.{id_self}
 use Rattle.disk_target.specs.Seated.{reply_told}
 use Rattle.scsi_target.specs.declared.standing.Standing.{Standing}
 use Rattle.scsi_target.specs.declared.standing.Standing.TheVariants as standings
@@ -22,6 +21,7 @@ use Rattle.scsi_target.proofs.StandingSteps.{settles, stands, arrived, guest_mor
 
 pub settled : (seat : Seat) (p : Process) (v : Standing) → IsStanding seat p v → IsStanding (settled_seat seat) p v
 settled seat p standings.Nowhere h = record { none = h.none; inside_is = settles (Seats.is_any_held seat.hold) seat.unit p.id ∙ h.inside_is }
+settled seat p (standings.Ended status) h = record { none = h.none; inside_is = settles (Seats.is_any_held seat.hold) seat.unit p.id ∙ h.inside_is }
 settled seat p standings.Queued h = record { none = h.none; inside_is = settles (Seats.is_any_held seat.hold) seat.unit p.id ∙ h.inside_is }
 settled seat p (standings.Guest reply) h = record {
   guest = h.guest;
@@ -156,6 +156,7 @@ fails_guest seat after p ended reply old h e =
 
 pub fails : (seat after : Seat) (p : Process) (ended : Bool) (reply : Reply) (v : Standing) → IsStanding seat p v → Seats.seat_after_failure ended p reply seat ≡ Some after → IsStanding after p (standing_on_failure v (told_of reply))
 fails seat after p ended reply standings.Nowhere h e = fails_nowhere seat after p ended reply h e
+fails seat after p ended reply (standings.Ended status) h e = fails_nowhere seat after p ended reply h e
 fails seat after p ended reply standings.Queued h e = fails_queued seat after p ended reply h e
 fails seat after p ended reply (standings.Guest old) h e = fails_guest seat after p ended reply old h e
 

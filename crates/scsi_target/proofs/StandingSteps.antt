@@ -1,10 +1,10 @@
 -- Where a process stands, as the parts of its seat change.
-use Rattle.std.proofs.Common.{ℕ, zero, suc, ◌≡◌, Bool, true, false, List, [], ◌∷◌, ◌++◌, ◌∙◌, refl, sym, subst, Option, Some, None}
-use Rattle.std.specs.Prelude.{if◌then◌else◌, not, ◌&&◌, ◌||◌, ◌==◌, is_some, is_none}
+use Rattle.std.proofs.Common.{ℕ, zero, suc, ◌≡◌, Bool, true, false, List, [], ◌∷◌, ◌++◌, ◌∙◌, refl, sym, Option, Some, None}
+use Rattle.std.specs.Prelude.{if◌then◌else◌, not, ◌&&◌, ◌||◌, is_some}
 use Rattle.bus_base.specs.declared.ProcId.{ProcId}
 use Rattle.disk_array.specs.Contents.{Contents}
 use Rattle.disk_array.specs.Execution.{Reply}
-use Rattle.disk_array.specs.Processes.{Process, same_id, same_bool}
+use Rattle.disk_array.specs.Processes.{Process, same_id}
 use Rattle.disk_array.specs.Order.{choice, process_at, process_at_if, chosen_place, entries_of, without_process}
 use Rattle.disk_array.specs.Units.{RunningProcess, UnitState, guest_at, without_guest, with_current, has_no_current}
 use Rattle.disk_array.specs.Steps.{running_if, guests_with_reply, current_with_reply, unit_without}

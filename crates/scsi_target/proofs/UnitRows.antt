@@ -1,19 +1,18 @@
 -- The units of a target after a row.
-use Rattle.std.proofs.Common.{ℕ, ◌≡◌, ◌<◌, Bool, true, false, List, [], ◌∷◌, ◌∙◌, refl, sym, subst, Option, Some, None}
-use Rattle.std.specs.Prelude.{◌&&◌, is_some}
+use Rattle.std.proofs.Common.{ℕ, ◌≡◌, true, List, [], ◌∷◌, ◌∙◌, sym, subst, Option}
+use Rattle.std.specs.Prelude.{is_some}
 use Rattle.bus_base.specs.declared.Event.{Event}
-use Rattle.bus_base.specs.declared.Event.TheVariants as events
 use Rattle.bus_trace.specs.declared.Row.{Row}
 use Rattle.scenario.specs.Value.{ScenarioValue}
 use Rattle.disk_array.specs.ArrayHistory.{array_step}
-use Rattle.disk_array.specs.SoundArray.{HasSeats, IsSound}
+use Rattle.disk_array.specs.SoundArray.{HasSeats}
 use Rattle.disk_array.specs.Units.{Array}
 use Rattle.bus_due.specs.Allowed.{allowed}
 use Rattle.bus_due.specs.RunState.{or_start}
 use Rattle.bus_due.specs.RunSteps.{current_times_after, run_state, array_after_events}
 use Rattle.disk_target.specs.Units.{UnitsState, AreUnitsOf, AreUnitsAfter, IsStep}
 use Rattle.disk_target.proofs.UnitSteps.{all_stay}
-use Rattle.scsi_target.specs.Processes.{AreKeptAt, AreKeptOf, AreOutside, IsOutside, times_of_events, events_of_row}
+use Rattle.scsi_target.specs.Processes.{AreKeptAt, AreKeptOf, AreOutside, times_of_events, events_of_row}
 use Rattle.scsi_target.proofs.RowEvents.{one_more, some_before, and_two}
 use Rattle.scsi_target.proofs.TimesTwice.{twice, arrival_keeps}
 

@@ -6,12 +6,13 @@ use Rattle.cdb_codec.specs.Cdb.{command_of}
 use Rattle.scenario.specs.Value.{ScenarioValue}
 use Rattle.disk_array.specs.Execution.{Reply as ArrayReply, is_request_sense}
 use Rattle.disk_array.specs.Processes.{Process, same_id}
-use Rattle.disk_array.specs.Seats.{Seat, is_initiator}
+use Rattle.disk_array.specs.Seats.{Seat, is_initiator, running_at}
 use Rattle.disk_array.specs.SoundArray.{IsOwn}
 use Rattle.disk_array.specs.Steps.{running_if}
 use Rattle.disk_array.specs.Units.{RunningProcess, UnitState, guest_at}
 use Rattle.disk_unit.specs.declared.media.Plan.{Plan}
 use Rattle.disk_unit.specs.declared.unit.Reply.{Reply}
+use Rattle.disk_target.specs.Courses.{status_if}
 use Rattle.disk_target.specs.Seated.{IsProcess, reply_told, is_same_process}
 use Rattle.scsi_target.specs.declared.standing.Served.{Served}
 use Rattle.scsi_target.specs.declared.standing.Standing.{Standing}
@@ -51,6 +52,7 @@ abbrev pub IsStanding : Seat → Process → Standing → Type 0
 IsStanding seat p standings.Nowhere = IsNoGuest seat p false
 IsStanding seat p standings.Queued = IsNoGuest seat p true
 IsStanding seat p (standings.Guest reply) = IsGuest seat p reply
+IsStanding seat p (standings.Ended status) = IsNoGuest seat p false
 
 -- ---- as the connection begins
 
@@ -68,17 +70,20 @@ abbrev pub standing_on_failure : Standing → Reply → Standing
 standing_on_failure standings.Nowhere reply = standings.Guest (Some reply)
 standing_on_failure standings.Queued reply = standings.Queued
 standing_on_failure (standings.Guest old) reply = standings.Guest (Some reply)
+standing_on_failure (standings.Ended status) reply = standings.Guest (Some reply)
 
 abbrev pub is_guest : Standing → Bool
 is_guest standings.Nowhere = false
 is_guest standings.Queued = false
 is_guest (standings.Guest reply) = true
+is_guest (standings.Ended status) = false
 
 -- The reply that it has outside the queue.
 abbrev pub outcome_of : Standing → Option Reply
 outcome_of standings.Nowhere = None
 outcome_of standings.Queued = None
 outcome_of (standings.Guest reply) = reply
+outcome_of (standings.Ended status) = None
 
 abbrev pub told_status : Option Reply → Option ℕ
 told_status None = None
@@ -89,11 +94,19 @@ abbrev pub status_by : Standing → Option ProcId → Option Reply → ProcId �
 status_by standings.Nowhere current reply id = None
 status_by standings.Queued current reply id = if is_same_process current (Some id) then told_status reply else None
 status_by (standings.Guest given) current reply id = told_status given
+status_by (standings.Ended status) current reply id = status
 
 -- The reply of a process that runs, once it has one.
 abbrev pub running_reply : Option RunningProcess → Option ArrayReply
 running_reply None = None
 running_reply (Some r) = r.reply
+
+-- The status of its reply: that with which it ended, or of the reply that it has at its unit.
+abbrev pub status_of : Seat → Process → Standing → Option ℕ
+status_of seat p (standings.Ended status) = status
+status_of seat p standings.Nowhere = status_if (running_reply (running_at seat p.id))
+status_of seat p standings.Queued = status_if (running_reply (running_at seat p.id))
+status_of seat p (standings.Guest reply) = status_if (running_reply (running_at seat p.id))
 
 -- What a plan tells of a reply.
 abbrev pub reply_planned : Plan → Reply

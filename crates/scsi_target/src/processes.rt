@@ -6,11 +6,10 @@ ghost use Rattle.cdb_codec.specs.Cdb.{command_of};
 ghost use Rattle.scenario.specs.Value.{ScenarioValue};
 ghost use Rattle.disk_array.specs.Execution.{is_request_sense, queue_full};
 ghost use Rattle.disk_array.specs.Processes.{Process};
-ghost use Rattle.disk_array.specs.Seats.{seat_of, running_at, current_of};
+ghost use Rattle.disk_array.specs.Seats.{seat_of, current_of};
 ghost use Rattle.disk_array.specs.Units.{Array, RunningProcess, guest_at, starting_array, settled_array};
 ghost use Rattle.disk_unit.specs.Units.{told_of};
 ghost use Rattle.disk_target.specs.Seated.{HasSent, aborted_reply, is_same_process};
-ghost use Rattle.disk_target.specs.Courses.{status_if};
 ghost use Rattle.disk_target.specs.Units.{UnitsState, AreUnitsOf, AreUnitsAfter, IsStep, is_of_one, unit_in, spare_of};
 ghost use Rattle.disk_target.specs.Fillings.{blocks_at};
 ghost use Rattle.scenario.specs.Lookups.{unit_of};
@@ -23,10 +22,10 @@ ghost use Rattle.bus_due.specs.RunSteps.{run_state};
 ghost use Rattle.disk_array.specs.SoundArray.{HasSeats};
 ghost use Rattle.disk_unit.specs.declared.unit.Reply.{Reply};
 ghost use Rattle.scsi_device.specs.Heard.{is_new};
-ghost use Rattle.scsi_target.specs.Standings.{IsServed, IsStanding, standing_on_arrival, standing_on_failure, reply_planned, is_guest, outcome_of, standing_at_first, told_status, status_by, running_reply};
+ghost use Rattle.scsi_target.specs.Standings.{IsServed, IsStanding, standing_on_arrival, standing_on_failure, reply_planned, is_guest, outcome_of, standing_at_first, told_status, status_by, status_of};
 ghost use Rattle.scsi_target.specs.Processes.{AreProcessesAt, AreProcessesAfter, IsOwnEvent, AreOwnEvents, AreProcessesOf, AreKeptOf, AreOutside, events_of_row, is_refused};
 ghost use Rattle.scsi_target.specs.declared.standing.Standing.{Standing as StandingValue};
-ghost use Rattle.scsi_target.specs.declared.standing.Standing.TheVariants.{Nowhere, Guest};
+ghost use Rattle.scsi_target.specs.declared.standing.Standing.TheVariants.{Nowhere, Guest, Ended};
 
 use crate::standing::{Served, Standing};
 use bus_base::{AbortKind, Dev, Event, NoMemory, Ns, ProcId};
@@ -82,7 +81,7 @@ fn standing_on_failure(before: Standing, reply: Reply) -> Standing
 {
     match before {
         Standing::Queued => Standing::Queued,
-        Standing::Nowhere | Standing::Guest(_) => Standing::Guest(Some(reply)),
+        Standing::Nowhere | Standing::Guest(_) | Standing::Ended(_) => Standing::Guest(Some(reply)),
     }
 }
 
@@ -135,7 +134,7 @@ fn outcome_of(standing: Standing) -> Option<Reply>
 {
     match standing {
         Standing::Guest(reply) => reply,
-        Standing::Nowhere | Standing::Queued => None,
+        Standing::Nowhere | Standing::Queued | Standing::Ended(_) => None,
     }
 }
 
@@ -176,6 +175,7 @@ fn status_by(
             }
         }
         Standing::Guest(given) => told_status(given),
+        Standing::Ended(status) => status,
     }
 }
 
@@ -340,6 +340,7 @@ impl Processes {
             → IsServed s self.old.units.dev p served.now → AreProcessesAt s a times p served.now.unit self.old
             → outcome_of self.old.standing ≡ None → IsStep s (End p.id status) a b
             → AreProcessesAfter s a b times now p served.now.unit self.new }
+        ensures standing { self.new.standing ≡ Nowhere }
         ensures dev { self.new.units.dev ≡ self.old.units.dev }
         ensures seek { self.new.units.seek ≡ self.old.units.seek }
     {
@@ -355,6 +356,7 @@ impl Processes {
             → IsServed s self.old.units.dev p served.now → AreProcessesAt s a times p served.now.unit self.old
             → self.old.standing ≡ Guest (Some reply.now) → IsStep s (End p.id status) a b
             → AreProcessesAfter s a b times now p served.now.unit self.new }
+        ensures standing { self.new.standing ≡ Nowhere }
         ensures dev { self.new.units.dev ≡ self.old.units.dev }
         ensures seek { self.new.units.seek ≡ self.old.units.seek }
     {
@@ -364,13 +366,14 @@ impl Processes {
         self.standing = Standing::Nowhere;
     }
 
-    // A process ends at `now`, in ns.
-    fn end(&mut self, served: &Served, now: Ns)
+    // A process ends at `now`, in ns, with the reply that it has.
+    fn finish(&mut self, served: &Served, now: Ns)
         requires unit { served.now.unit < 8 }
         requires device { served.now.from < 8 }
         ensures array { (s : ScenarioValue) (a b : Array) (times : List ℕ) (p : Process) (status : ℕ)
             → IsServed s self.old.units.dev p served.now → AreProcessesAt s a times p served.now.unit self.old
             → IsStep s (End p.id status) a b → AreProcessesAfter s a b times now p served.now.unit self.new }
+        ensures standing { self.new.standing ≡ Nowhere }
         ensures dev { self.new.units.dev ≡ self.old.units.dev }
         ensures seek { self.new.units.seek ≡ self.old.units.seek }
     {
@@ -378,6 +381,25 @@ impl Processes {
             Some(reply) => self.end_outside(served, &reply, now),
             None => self.end_inside(served, now),
         }
+    }
+
+    // A process ends at `now`, in ns.
+    fn end(&mut self, served: &Served, now: Ns)
+        requires unit { served.now.unit < 8 }
+        requires device { served.now.from < 8 }
+        ensures array { (s : ScenarioValue) (a b : Array) (times : List ℕ) (p : Process) (status : ℕ)
+            → IsServed s self.old.units.dev p served.now → AreProcessesAt s a times p served.now.unit self.old
+            → IsStep s (End p.id status) a b → AreProcessesAfter s a b times now p served.now.unit self.new }
+        ensures ended { (s : ScenarioValue) (a : Array) (times : List ℕ) (p : Process)
+            → IsServed s self.old.units.dev p served.now → AreProcessesAt s a times p served.now.unit self.old
+            → self.new.standing ≡ Ended (status_of
+            (seat_of a self.old.units.dev served.now.unit) p self.old.standing) }
+        ensures dev { self.new.units.dev ≡ self.old.units.dev }
+        ensures seek { self.new.units.seek ≡ self.old.units.seek }
+    {
+        let status = self.reply(served.unit, served.id);
+        self.finish(served, now);
+        self.standing = Standing::Ended(status);
     }
 
     // A process is lost at `now`, in ns.
@@ -602,7 +624,7 @@ impl Processes {
         requires unit { unit < 8 }
         ensures { (s : ScenarioValue) (a : Array) (times : List ℕ) (p : Process)
             → AreProcessesAt s a times p unit self.now → p.id ≡ id
-            → result ≡ status_if (running_reply (running_at (seat_of a self.now.units.dev unit) p.id)) }
+            → result ≡ status_of (seat_of a self.now.units.dev unit) p self.now.standing }
     {
         status_by(
             self.standing,

@@ -1,6 +1,6 @@
-use Rattle.std.proofs.Common.{ℕ, ◌≡◌, [], ◌∷◌, sym, subst, List}
+use Rattle.std.proofs.Common.{ℕ, [], ◌∷◌, sym, subst}
 use Rattle.bus_base.specs.declared.Event.TheVariants as events
-use Rattle.bus_due.specs.RunState.{array_of, or_start}
+use Rattle.bus_due.specs.RunState.{or_start}
 use Rattle.bus_due.specs.RunSteps.{run_state}
 use Rattle.disk_target.specs.Units.{AreUnitsAfter}
 use Rattle.scsi_target.proofs.UnitRows.{by_one, by_row, some_after}

@@ -1,4 +1,4 @@
-use Rattle.std.proofs.Common.{ℕ, ◌≡◌, ◌∙◌, sym, subst}
+use Rattle.std.proofs.Common.{◌∙◌, sym, subst}
 use Rattle.disk_array.specs.Seats.{seat_of}
 use Rattle.scsi_target.specs.Standings.{IsStanding, standing_at_first}
 use Rattle.scsi_target.specs.declared.standing.Standing.{Standing}

@@ -1,6 +1,5 @@
-use Rattle.std.proofs.Common.{ℕ, ◌≡◌, ◌∙◌, refl, sym, subst, true, false, List, Option, Some, None}
-use Rattle.bus_base.specs.declared.Event.TheVariants as events
-use Rattle.disk_target.specs.Units.{AreUnitsOf, AreUnitsAfter, IsStep}
+use Rattle.std.proofs.Common.{sym, subst}
+use Rattle.disk_target.specs.Units.{AreUnitsOf, AreUnitsAfter}
 use Rattle.scsi_target.specs.Processes.{ProcessesState}
 use Rattle.scsi_target.proofs.processes.Processes.clear.Goals as goal
 

@@ -1,4 +1,4 @@
-use Rattle.std.proofs.Common.{ℕ, ◌≡◌, ◌∙◌, refl, sym, subst, true, false, List, Option, Some, None}
+use Rattle.std.proofs.Common.{sym, subst}
 use Rattle.bus_base.specs.declared.Event.TheVariants as events
 use Rattle.disk_target.specs.Units.{AreUnitsOf, AreUnitsAfter, IsStep}
 use Rattle.scsi_target.specs.Processes.{ProcessesState}

@@ -1,14 +1,10 @@
-use Rattle.std.proofs.Common.{ℕ, ◌≡◌, ◌∙◌, refl, sym, subst, List, Option, Some, None, false, true}
+use Rattle.std.proofs.Common.{ℕ, ◌≡◌, sym, subst, None}
 use Rattle.bus_base.specs.declared.Event.TheVariants as events
 use Rattle.bus_base.specs.declared.ProcId.{ProcId}
-use Rattle.disk_array.specs.Seats.{seat_of, is_initiator}
+use Rattle.disk_array.specs.Seats.{seat_of}
 use Rattle.disk_array.specs.Units.{guest_at}
-use Rattle.disk_array.specs.Execution.{is_request_sense}
-use Rattle.cdb_codec.specs.Cdb.{command_of}
 use Rattle.disk_target.specs.Units.{IsStep}
-use Rattle.scsi_target.specs.declared.standing.Standing.{Standing}
-use Rattle.scsi_target.specs.declared.standing.Standing.TheVariants as standings
-use Rattle.scsi_target.specs.Standings.{IsServed, IsStanding, outcome_of}
+use Rattle.scsi_target.specs.Standings.{IsServed, outcome_of}
 use Rattle.scsi_target.specs.Processes.{ProcessesState, AreProcessesAt}
 use Rattle.scsi_target.proofs.ProcessEvents
 use Rattle.scsi_target.proofs.processes.Processes.end_inside.Goals as goal

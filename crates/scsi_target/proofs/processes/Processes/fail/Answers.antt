@@ -1,11 +1,8 @@
-use Rattle.std.proofs.Common.{ℕ, ◌≡◌, ◌∙◌, refl, sym, subst, List, Option, Some}
+use Rattle.std.proofs.Common.{ℕ, ◌∙◌, sym, subst}
 use Rattle.bus_base.specs.declared.Event.TheVariants as events
 use Rattle.bus_base.specs.declared.ProcId.{ProcId}
-use Rattle.disk_array.specs.Seats.{seat_of}
 use Rattle.disk_target.specs.Units.{IsStep}
-use Rattle.scsi_target.specs.declared.standing.Standing.{Standing}
-use Rattle.scsi_target.specs.declared.standing.Standing.TheVariants as standings
-use Rattle.scsi_target.specs.Standings.{IsServed, IsStanding, standing_on_failure}
+use Rattle.scsi_target.specs.Standings.{IsServed, standing_on_failure}
 use Rattle.scsi_target.specs.Processes.{ProcessesState, AreProcessesAt}
 use Rattle.scsi_target.proofs.ProcessEvents
 use Rattle.scsi_target.proofs.processes.Processes.fail.Goals as goal

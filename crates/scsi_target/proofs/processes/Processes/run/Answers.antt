@@ -1,4 +1,4 @@
-use Rattle.std.proofs.Common.{ℕ, ◌≡◌, ◌∙◌, refl, sym, subst, true, false, List, Option, Some, None}
+use Rattle.std.proofs.Common.{◌∙◌, sym}
 use Rattle.scsi_target.specs.Standings.{is_guest}
 use Rattle.scsi_target.proofs.processes.Processes.run.Goals as goal
 

@@ -1,13 +1,11 @@
-use Rattle.std.proofs.Common.{ℕ, ◌≡◌, ◌∙◌, refl, sym, subst, false, List, Option, Some, None}
+use Rattle.std.proofs.Common.{ℕ, ◌≡◌, ◌∙◌, sym, subst, false, None}
 use Rattle.bus_base.specs.declared.Event.TheVariants as events
 use Rattle.bus_base.specs.declared.ProcId.{ProcId}
 use Rattle.disk_array.specs.Seats.{seat_of}
 use Rattle.disk_array.specs.Units.{guest_at}
 use Rattle.disk_target.specs.Seated.{HasSent}
 use Rattle.disk_target.specs.Units.{IsStep}
-use Rattle.scsi_target.specs.declared.standing.Standing.{Standing}
-use Rattle.scsi_target.specs.declared.standing.Standing.TheVariants as standings
-use Rattle.scsi_target.specs.Standings.{IsServed, IsStanding, is_guest}
+use Rattle.scsi_target.specs.Standings.{IsServed, is_guest}
 use Rattle.scsi_target.specs.Processes.{ProcessesState, AreProcessesAt}
 use Rattle.scsi_target.proofs.ProcessEvents
 use Rattle.scsi_target.proofs.processes.Processes.run_inside.Goals as goal

@@ -1,11 +1,10 @@
-use Rattle.std.proofs.Common.{ℕ, ◌≡◌, ◌∙◌, refl, sym, subst, List, Option, Some, true}
+use Rattle.std.proofs.Common.{ℕ, ◌≡◌, sym, subst, Some, true}
 use Rattle.bus_base.specs.declared.Event.TheVariants as events
 use Rattle.bus_base.specs.declared.ProcId.{ProcId}
 use Rattle.disk_array.specs.Seats.{seat_of, is_initiator}
 use Rattle.disk_array.specs.Units.{guest_at}
 use Rattle.disk_target.specs.Units.{IsStep}
 use Rattle.scsi_target.specs.declared.standing.Standing.{Standing}
-use Rattle.scsi_target.specs.declared.standing.Standing.TheVariants as standings
 use Rattle.scsi_target.specs.Standings.{IsServed, IsStanding, is_guest}
 use Rattle.scsi_target.specs.Processes.{ProcessesState, AreProcessesAt}
 use Rattle.scsi_target.proofs.ProcessEvents

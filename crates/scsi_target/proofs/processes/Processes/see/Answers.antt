@@ -1,4 +1,4 @@
-use Rattle.std.proofs.Common.{ℕ, ◌≡◌, ◌∷◌, ◌∙◌, sym, subst, true, List}
+use Rattle.std.proofs.Common.{ℕ, ◌≡◌, ◌∙◌, subst, true, List}
 use Rattle.std.specs.Prelude.{is_some}
 use Rattle.bus_base.specs.declared.Event.{Event}
 use Rattle.bus_due.specs.Allowed.{allowed}

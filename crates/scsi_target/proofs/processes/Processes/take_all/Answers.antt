@@ -1,14 +1,9 @@
-use Rattle.std.proofs.Common.{ℕ, ◌≡◌, ◌∙◌, refl, sym, subst, Bool, true, false, List, [], ◌∷◌, Option, Some, None}
-use Rattle.bus_base.specs.declared.Event.{Event}
+use Rattle.std.proofs.Common.{ℕ, ◌≡◌, ◌∙◌, refl, sym, subst, Bool, true, false, List}
 use Rattle.bus_base.specs.declared.Event.TheVariants as events
-use Rattle.disk_array.specs.Seats.{seat_of, running_at}
-use Rattle.disk_target.specs.Units.{IsStep}
-use Rattle.scsi_target.specs.Standings.{IsServed, status_by, running_reply}
-use Rattle.scsi_target.specs.declared.standing.Standing.{Standing}
-use Rattle.scsi_target.specs.declared.standing.Standing.TheVariants as standings
+use Rattle.disk_array.specs.Seats.{seat_of}
+use Rattle.scsi_target.specs.Standings.{IsServed}
 use Rattle.scsi_target.specs.Processes.{ProcessesState, AreProcessesAt, IsOwnEvent}
 use Rattle.std.specs.Prelude.{◌&&◌, slice_get}
-use Rattle.disk_array.specs.Units.{Array}
 use Rattle.bus_due.specs.RunSteps.{current_times_after}
 use Rattle.scsi_target.proofs.TimesTwice.{twice, arrival_keeps}
 use Rattle.scsi_target.proofs.processes.Processes.take_all.Goals as goal

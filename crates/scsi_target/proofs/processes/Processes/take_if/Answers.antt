@@ -1,12 +1,8 @@
-use Rattle.std.proofs.Common.{ℕ, ◌≡◌, ◌∙◌, refl, sym, subst, Bool, true, false, List, [], ◌∷◌, Option, Some, None}
+use Rattle.std.proofs.Common.{◌≡◌, ◌∙◌, sym, subst}
 use Rattle.bus_base.specs.declared.Event.{Event}
-use Rattle.bus_base.specs.declared.Event.TheVariants as events
-use Rattle.disk_array.specs.Seats.{seat_of, running_at}
+use Rattle.disk_array.specs.Seats.{seat_of}
 use Rattle.disk_target.specs.Units.{IsStep}
-use Rattle.scsi_target.specs.Standings.{IsServed, status_by, running_reply}
-use Rattle.scsi_target.specs.declared.standing.Standing.{Standing}
-use Rattle.scsi_target.specs.declared.standing.Standing.TheVariants as standings
-use Rattle.scsi_target.specs.Processes.{ProcessesState, AreProcessesAt, IsOwnEvent}
+use Rattle.scsi_target.specs.Processes.{IsOwnEvent}
 use Rattle.scsi_target.proofs.processes.Processes.take_if.Goals as goal
 
 pub returns-in-Some-clause-array : goal.returns-in-Some-clause-array
