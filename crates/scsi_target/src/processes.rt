@@ -287,8 +287,8 @@ impl Processes {
         ensures array { (s : ScenarioValue) (a b : Array) (times : List ℕ) (p : Process)
             → IsServed s self.old.units.dev p served.now → AreProcessesAt s a times p served.now.unit self.old
             → is_guest self.old.standing ≡ false
-            → HasSent (seat_of a self.old.units.dev served.now.unit) p served.now.sent.now → result ≡ true → IsStep s (Run p.id) a b
-            → AreProcessesAfter s a b times now p served.now.unit self.new }
+            → HasSent (seat_of a self.old.units.dev served.now.unit) p served.now.sent.now → result ≡ true
+            → IsStep s (Run p.id) a b → AreProcessesAfter s a b times now p served.now.unit self.new }
         ensures dev { self.new.units.dev ≡ self.old.units.dev }
         ensures seek { self.new.units.seek ≡ self.old.units.seek }
     {
@@ -423,7 +423,8 @@ impl Processes {
         ensures array { (s : ScenarioValue) (a b : Array) (times : List ℕ) (p : Process)
             → IsServed s self.old.units.dev p served.now → AreProcessesAt s a times p served.now.unit self.old
             → IsOwnEvent (seat_of a self.old.units.dev served.now.unit) p served.now.sent.now self.old.standing
-            event.now → result ≡ true → IsStep s event.now a b → AreProcessesAfter s a b times now p served.now.unit self.new }
+            event.now → result ≡ true → IsStep s event.now a b
+            → AreProcessesAfter s a b times now p served.now.unit self.new }
         ensures dev { self.new.units.dev ≡ self.old.units.dev }
         ensures seek { self.new.units.seek ≡ self.old.units.seek }
     {
