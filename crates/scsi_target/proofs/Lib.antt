@@ -1,0 +1,7 @@
+mod StandingSteps
+mod StandingEvents
+mod ProcessEvents
+mod TimesTwice
+mod RowEvents
+mod Beginnings
+mod UnitRows
