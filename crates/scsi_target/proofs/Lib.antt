@@ -1,0 +1,5 @@
+pub mod Telling
+pub mod Lines
+pub mod Readies
+pub mod Offers
+pub mod Data
