@@ -133,8 +133,8 @@ impl Target {
         })
     }
 
-    /// The target `dev` of a scenario that obeys the rules of its text, before any row. It takes all memory that it ever
-    /// has.
+    /// The target `dev` of a scenario that obeys the rules of its text, before any row. It takes all memory that it
+    /// ever has.
     pub fn new(alloc: Global, scenario: &Scenario, dev: Dev) -> Result<Target, NoMemory>
         requires lawful { Obeys scenario.now }
         requires target { is_some (target_def_of scenario.now dev) ≡ true }
