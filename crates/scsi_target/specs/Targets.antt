@@ -17,7 +17,7 @@ use Rattle.bus_due.specs.Wants.{since_of}
 use Rattle.scsi_device.specs.Itself.{ItselfValue, IsItselfOf}
 use Rattle.scsi_device.specs.Lines.{IsTargetLine}
 use Rattle.disk_target.specs.Courses.{CourseState, IsCourseOf}
-use Rattle.disk_target.specs.Gathered.{GatheredValue, IsGatheredOf}
+use Rattle.disk_target.specs.Gathered.{GatheredValue, IsGatheredOf, AreAllGathered}
 use Rattle.disk_target.specs.Negotiated.{NegotiatedValue, IsNegotiatedOf}
 use Rattle.disk_target.specs.Progress.{ProgressValue, IsProgressOf}
 use Rattle.disk_target.specs.Replies.{IsReplyOf}
@@ -56,6 +56,7 @@ pub record IsTargetAfter (s : ScenarioValue) (rows : List Row) (v : TargetValue)
   pub progress_is : IsProgressOf s rows v.progress
   pub negotiated_are : IsNegotiatedOf s rows v.negotiated
   pub gathered_are : IsGatheredOf s v.gathered
+  pub all_gathered : AreAllGathered s rows v.gathered
   pub course_is : IsCourseIf s rows v.def.dev v.course
   pub reply_is : IsReplyOf s rows v.def.dev v.reply
 

@@ -23,6 +23,7 @@ returns-clause-trace c = λ fits line. record {
   progress_is = c.in_ok-progress.ensures.trace;
   negotiated_are = c.new-4.ensures.trace c.args.scenario.now (λ i. (c.scenario.view_is i).version);
   gathered_are = c.in_ok-gathered.ensures.trace;
+  all_gathered = c.in_ok-gathered.ensures.whole;
   course_is = λ n own. absurd (none_some n own.stands);
   reply_is = λ n p own calm is. absurd (none_some n own.stands);
 }
