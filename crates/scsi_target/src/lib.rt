@@ -4,14 +4,22 @@
 //! have come, with whom it has negotiated, which bytes came of its present writes, and, in a connection of its own,
 //! what it has heard in that ([`Course`](disk_target::Course)) with the reply of the process that it serves. It asks
 //! its units what they tell of that process, and for the two bytes of data that it may drive next, and so says what it
-//! does next and when, and which events it shows with a row. Stands on `disk_target`, `scsi_device` and the definitions
-//! of `bus_due`.
+//! does next and when, and which events it shows with a row. [`Processes`] keeps the units with the [`Standing`] of the
+//! process of the connection: whether that stands in the queue of its unit, or outside it with a reply of its own.
+//! Stands on `disk_target`, `disk_unit`, `scsi_device` and the definitions of `disk_array` and `bus_due`.
 //!
-//! Public contract: where each part knows what the rows made known (`specs/Targets.antt`, `IsTargetAfter`), what it
-//! does next is exactly what is due of it, and what it shows with a row is what the target of that connection shows.
+//! Public contract: where each part knows what the rows made known (`specs/Targets.antt`, `IsTargetAfter`), what a
+//! target does next is exactly what is due of it, and what it shows with a row is what the target of that connection
+//! shows. Each event of a row does to the units and to the process what it does to the plain disk array
+//! (`specs/Processes.antt`, `AreProcessesOf`, `AreKeptOf`), where the events are of the process that is served
+//! (`AreOwnEvents`). Only `new` takes memory.
 #![tactic(auto)]
 
 mod bytes;
+mod processes;
+mod standing;
 mod target;
 
+pub use processes::{Processes, units_stay_by_row};
+pub use standing::{Served, Standing};
 pub use target::Target;
