@@ -1,3 +1,8 @@
+pub mod Telling
+pub mod Lines
+pub mod Readies
+pub mod Offers
+pub mod Data
 mod StandingSteps
 mod StandingEvents
 mod ProcessEvents

@@ -1,2 +1,4 @@
+pub mod Bytes
+pub mod Targets
 pub mod Standings
 pub mod Processes

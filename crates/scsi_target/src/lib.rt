@@ -1,18 +1,25 @@
-//! The processes of a target: its logical units, and what the process of its connection is to them (ANSI X3.131-1994,
-//! 6.6, 7.5 and 7.8).
+//! A target of a scenario: what it knows, row by row, and what it does next (ANSI X3.131-1994, 6 and 7).
 //!
-//! [`Processes`] keeps the units of a target and the [`Standing`] of the process of its connection: whether that
-//! stands in the queue of its unit, or outside it with a reply of its own. Stands on `disk_target`, `disk_unit` and the
-//! definitions of `disk_array`.
+//! A [`Target`] puts together what `disk_target` keeps for it: its own rows, its logical units, how far its processes
+//! have come, with whom it has negotiated, which bytes came of its present writes, and, in a connection of its own,
+//! what it has heard in that ([`Course`](disk_target::Course)) with the reply of the process that it serves. It asks
+//! its units what they tell of that process, and for the two bytes of data that it may drive next, and so says what it
+//! does next and when, and which events it shows with a row. [`Processes`] keeps the units with the [`Standing`] of the
+//! process of the connection: whether that stands in the queue of its unit, or outside it with a reply of its own.
+//! Stands on `disk_target`, `disk_unit`, `scsi_device` and the definitions of `disk_array` and `bus_due`.
 //!
-//! Public contract: each event of a row does to the units and to the process what it does to the plain disk array, so
-//! that after any rows whose events the array permits they are those that the rows tell of (`specs/Processes.antt`,
-//! `AreProcessesOf`, `AreKeptOf`), where the events are of the process that is served (`AreOwnEvents`). Only `new`
-//! takes memory.
+//! Public contract: where each part knows what the rows made known (`specs/Targets.antt`, `IsTargetAfter`), what a
+//! target does next is exactly what is due of it, and what it shows with a row is what the target of that connection
+//! shows. Each event of a row does to the units and to the process what it does to the plain disk array
+//! (`specs/Processes.antt`, `AreProcessesOf`, `AreKeptOf`), where the events are of the process that is served
+//! (`AreOwnEvents`). Only `new` takes memory.
 #![tactic(auto)]
 
+mod bytes;
 mod processes;
 mod standing;
+mod target;
 
 pub use processes::{Processes, units_stay_by_row};
 pub use standing::{Served, Standing};
+pub use target::Target;
