@@ -12,7 +12,7 @@
 //! target does next is exactly what is due of it, and what it shows with a row is what the target of that connection
 //! shows. Each event of a row does to the units and to the process what it does to the plain disk array
 //! (`specs/Processes.antt`, `AreProcessesOf`, `AreKeptOf`), where the events are of the process that is served
-//! (`AreOwnEvents`). Only `new` takes memory.
+//! (`AreOwnEvents`) and the units could take them, as `Processes::see` answers. Only `new` takes memory.
 #![tactic(auto)]
 
 mod bytes;
