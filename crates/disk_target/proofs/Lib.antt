@@ -1,32 +1,12 @@
-mod Alike
-pub mod Agreeing
-pub mod Courses
-pub mod CourseBegins
-pub mod CourseAgrees
-pub mod CourseRows
-pub mod ReplySteps
-pub mod ReplyRows
-mod Places
-mod Fits
-mod Dues
-pub mod Heard
-pub mod LiveQueue
-pub mod SenseBlocks
-pub mod SeatSteps
-pub mod AbsentReplies
-pub mod AbsentSteps
-pub mod Tellings
-pub mod UnitTimes
-pub mod UnitSteps
-pub mod Holds
-pub mod UnitTellings
-pub mod Starts
-mod ServedEnds
-mod ProgressRows
-mod HeardOpenings
-mod NegotiatedRows
-mod GatheredRows
-mod GatheredWhole
-mod GatheredSteps
-mod GatheredMore
-mod GatheredAll
+pub mod Telling
+pub mod Lines
+pub mod Readies
+pub mod Offers
+pub mod Data
+mod StandingSteps
+mod StandingEvents
+mod ProcessEvents
+mod TimesTwice
+mod RowEvents
+mod Beginnings
+mod UnitRows

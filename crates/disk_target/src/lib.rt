@@ -1,62 +1,26 @@
-//! The target of a connection, and what a target does next (ANSI X3.131-1994, 6.1, 6.2 and 6.6).
+//! A target of a scenario: what it knows, row by row, and what it does next (ANSI X3.131-1994, 6 and 7).
 //!
-//! A target keeps a `Plan` of the connection in which it stands, which goes on by what each row tells it
-//! ([`first_plan`], [`plan_after`]), and decides by its [`Serving`]: its line of the scenario, the plan, and a `Task`
-//! of the process that it serves. [`leaving_by`] says how it leaves a phase, [`arrival_by`] what becomes of a command
-//! as it arrives, [`offering_by`] which byte it gives, whether one follows, and what it drives as it leaves, and
-//! [`leaving_shown`] which events it shows then. A [`Course`] is what it has heard in the connection, of which it makes
-//! the serving. What its unit gives comes in as a [`ProcessState`], the unit that is [`Ready`] first, and two bytes,
-//! which stand at the places that [`process_byte_place`] names. Beside its units ([`Units`]) a target keeps how far its
-//! processes have come ([`Progress`]), with whom it has negotiated ([`Negotiated`]), and which bytes came of its
-//! present writes ([`Gathered`]); each is told of every row. Stands on the definitions of `bus_dialogue` and `bus_due`,
-//! and on `connect` and `handshake`.
+//! A [`Target`] puts together what `target_course` and `target_units` keep for it: its own rows, its logical units, how
+//! far its processes have come, with whom it has negotiated, which bytes came of its present writes, and, in a
+//! connection of its own, what it has heard in that ([`Course`](target_course::Course)) with the reply of the process
+//! that it serves. It asks its units what they tell of that process, and for the two bytes of data that it may drive
+//! next, and so says what it does next and when, and which events it shows with a row. [`Processes`] keeps the units
+//! with the [`Standing`] of the process of the connection: whether that stands in the queue of its unit, or outside it
+//! with a reply of its own. Stands on `target_course`, `target_units`, `disk_unit`, `scsi_device` and the definitions
+//! of `disk_array` and `bus_due`.
 //!
-//! Public contract: each of these is exactly the definition of the same name, whatever it is given; a plan that is kept
-//! so is the one that the rows tell (`plans_are_heard`); and after any rows [`target_next`] is exactly what is due of
-//! the target, where it knows what they made known to it (`specs/States.antt`, `IsTargetOf`). No call takes memory.
+//! Public contract: where each part knows what the rows made known (`specs/Targets.antt`, `IsTargetAfter`), what a
+//! target does next is exactly what is due of it, and what it shows with a row is what the target of that connection
+//! shows. Each event of a row does to the units and to the process what it does to the plain disk array
+//! (`specs/Processes.antt`, `AreProcessesOf`, `AreKeptOf`), where the events are of the process that is served
+//! (`AreOwnEvents`) and the units could take them, as `Processes::see` answers. Only `new` takes memory.
 #![tactic(auto)]
 
-mod absent;
-mod arrivals;
-mod commands;
-mod course;
-mod data_runs;
-mod due;
-mod events;
-mod fillings;
-mod gathered;
-mod laws;
-mod logical;
-mod negotiated;
-mod next_phase;
-mod offering;
-mod parts;
-mod phase_bytes;
-mod plans;
-mod progress;
-mod ready;
-mod replies;
-mod seated;
-mod serving;
-mod units;
+mod bytes;
+mod processes;
+mod standing;
+mod target;
 
-pub use absent::AbsentUnit;
-pub use arrivals::arrival_by;
-pub use course::{Course, Name, ProcessState};
-pub use data_runs::{has_further_run, process_byte_place, run_length, run_length_if, runs_in_all};
-pub use due::{target_next, want_of_ready};
-pub use events::{Shown, leaving_shown};
-pub use gathered::{Gathered, place_in_run};
-pub use laws::{dues_are_of_targets, plans_are_heard};
-pub use logical::LogicalUnit;
-pub use negotiated::Negotiated;
-pub use next_phase::{leaving_by, phase_leaving, phase_of, waits_seek};
-pub use offering::{follows_by, offering_by};
-pub use phase_bytes::{follows_in, lines_by, phase_byte, phase_lines};
-pub use plans::{first_plan, no_plan, plan_after};
-pub use progress::{Counts, CountsPair, Progress, is_phase_left};
-pub use ready::{Knowledge, Ready};
-pub use replies::{replies_come_later, reply_after};
-pub use seated::SeatedUnit;
-pub use serving::{DataBytes, Serving};
-pub use units::{Units, units_stay};
+pub use processes::{Processes, units_stay_by_row};
+pub use standing::{Served, Standing};
+pub use target::Target;

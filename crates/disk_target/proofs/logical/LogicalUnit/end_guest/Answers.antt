@@ -1,8 +1,0 @@
-use Rattle.std.proofs.Common.{subst}
-use Rattle.disk_target.specs.declared.logical.LogicalUnit.{LogicalUnit}
-use Rattle.disk_target.specs.Units.{IsUnitOf}
-use Rattle.disk_target.proofs.logical.LogicalUnit.end_guest.Goals as goal
-
-pub returns-in-There : goal.returns-in-There
-returns-in-There c = λ hosts seat after time status id p given h g same told sense e.
-    c.end_guest.ensures.seat hosts seat after time status id p given (subst (λ (u : LogicalUnit). IsUnitOf hosts seat time u) c.in-There.is h) g same told sense e

@@ -1,8 +1,0 @@
-use Rattle.std.proofs.Common.{subst}
-use Rattle.disk_target.specs.declared.logical.LogicalUnit.{LogicalUnit}
-use Rattle.disk_target.specs.Units.{IsUnitOf}
-use Rattle.disk_target.proofs.logical.LogicalUnit.lose.Goals as goal
-
-pub returns-in-There : goal.returns-in-There
-returns-in-There c = λ hosts seat after time over h e.
-    c.lose.ensures.seat hosts seat after time over (subst (λ (u : LogicalUnit). IsUnitOf hosts seat time u) c.in-There.is h) e

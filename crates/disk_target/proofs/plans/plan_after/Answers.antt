@@ -1,9 +1,0 @@
-use Rattle.std.proofs.Common.{sym, subst}
-use Rattle.bus_dialogue.specs.declared.exchange.Plan.{Plan}
-use Rattle.disk_target.specs.Fits.{AreFit}
-use Rattle.disk_target.proofs.Fits.{plan_fits}
-use Rattle.disk_target.proofs.plans.plan_after.Goals as goal
-
-pub returns-clause-fits : goal.returns-clause-fits
-returns-clause-fits c = λ x y.
-    subst (λ (p : Plan). AreFit p.messages) (sym c.plan_by.ensures) (plan_fits c.args.hearing.now c.args.leaving.now c.args.plan.now x y)

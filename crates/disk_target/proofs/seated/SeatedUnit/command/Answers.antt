@@ -1,6 +1,0 @@
-use Rattle.std.proofs.Common.{◌∙◌}
-use Rattle.disk_target.proofs.Tellings.{entry_seen}
-use Rattle.disk_target.proofs.seated.SeatedUnit.command.Goals as goal
-
-pub returns-clause-seat : goal.returns-clause-seat
-returns-clause-seat c = λ hosts seat time h. c.entry.ensures ∙ entry_seen hosts seat time c.args.self.now h

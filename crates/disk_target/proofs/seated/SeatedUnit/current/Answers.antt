@@ -1,6 +1,0 @@
-use Rattle.std.proofs.Common.{◌∙◌}
-use Rattle.disk_target.proofs.SeatSteps.{current_seen}
-use Rattle.disk_target.proofs.seated.SeatedUnit.current.Goals as goal
-
-pub returns-clause-seat : goal.returns-clause-seat
-returns-clause-seat c = λ hosts seat time h. c.current_process.ensures ∙ current_seen hosts seat time c.args.self.now h

@@ -1,6 +1,0 @@
-use Rattle.std.proofs.Common.{◌∙◌}
-use Rattle.disk_target.proofs.Tellings.{ready_seen}
-use Rattle.disk_target.proofs.seated.SeatedUnit.ready.Goals as goal
-
-pub returns-clause-seat : goal.returns-clause-seat
-returns-clause-seat c = λ hosts seat time h lt own. c.ready_now.ensures ∙ ready_seen hosts seat time c.args.self.now c.args.unit c.args.seek h lt own

@@ -1,5 +1,0 @@
-use Rattle.disk_target.proofs.Starts.{units_start}
-use Rattle.disk_target.proofs.units.Units.new.Goals as goal
-
-pub returns-clause-start : goal.returns-clause-start
-returns-clause-start c = λ s h. units_start s c.args.dev c.args.units c.are_eight.ensures h

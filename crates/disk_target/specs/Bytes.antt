@@ -1,0 +1,63 @@
+-- What a target decides by in a connection of its own, with the bytes that its process gives.
+use Rattle.std.specs.Prelude.{ℕ, ◌≡◌, ◌*◌, ◌-◌, ◌^◌, min, Bool, true, false, List, Option, Some, None}
+use Rattle.bus_trace.specs.declared.Row.{Row}
+use Rattle.bus_trace.specs.declared.connection.Connection.{Connection}
+use Rattle.bus_trace.specs.Trace.{bus, drives}
+use Rattle.bus_lines.specs.Handshakes.{handshakes}
+use Rattle.cdb_codec.specs.Cdb.{command_of}
+use Rattle.scenario.specs.declared.value.TargetDef.{TargetDef}
+use Rattle.scenario.specs.Value.{ScenarioValue}
+use Rattle.disk_array.specs.Order.{range_in}
+use Rattle.disk_unit.specs.declared.unit.Reply.{Reply}
+use Rattle.bus_dialogue.specs.declared.exchange.Next.{Next}
+use Rattle.bus_dialogue.specs.declared.exchange.Phase.{Phase}
+use Rattle.bus_dialogue.specs.declared.exchange.Phase.TheVariants as phases
+use Rattle.bus_dialogue.specs.Hearing.{begun}
+use Rattle.bus_dialogue.specs.NextPhase.{leaving_by}
+use Rattle.bus_due.specs.RunSteps.{run_state}
+use Rattle.bus_due.specs.Sights.{serving_of}
+use Rattle.bus_due.specs.Tasks.{blocks_in}
+use Rattle.scsi_device.specs.Heard.{goes_on}
+use Rattle.target_course.specs.Alike.{AreAlike}
+use Rattle.target_course.specs.Servings.{serving_with, AreBytesOf}
+use Rattle.target_course.specs.States.{IsOwnConnection, offering_in}
+use Rattle.target_course.specs.declared.serving.DataBytes.{DataBytes}
+use Rattle.target_course.specs.declared.serving.Serving.{Serving}
+
+-- The status of a reply.
+abbrev pub status_in : Option Reply → Option ℕ
+status_in None = None
+status_in (Some reply) = Some reply.status
+
+-- ---- how many bytes a write takes: the blocks that it names
+
+abbrev pub count_if : Option ℕ → ℕ
+count_if None = 0
+count_if (Some count) = count
+
+abbrev pub blocks_of : List ℕ → ℕ
+blocks_of cdb = count_if (blocks_in (range_in (command_of cdb)))
+
+abbrev pub taken_by : List ℕ → ℕ → ℕ
+taken_by cdb size = min (blocks_of cdb * size) (2 ^ 32 - 1)
+
+-- ---- the bytes that the process gives are driven in DATA IN, and as the messages are over after which it goes on
+
+abbrev pub gives_data : Phase → Next → Bool
+gives_data phases.DataIn next = true
+gives_data phases.MessageIn next = goes_on next
+gives_data phases.MessageOut next = false
+gives_data phases.Command next = false
+gives_data phases.Status next = false
+gives_data phases.DataOut next = false
+
+-- A connection of its own, while RST is false; and none.
+abbrev pub IsOwnIf : List Row → ℕ → Option Connection → Type 0
+IsOwnIf rows dev None = (n : Connection) → IsOwnConnection rows dev n → (bus rows).rst ≡ true
+IsOwnIf rows dev (Some n) = IsOwnConnection rows dev n × ((bus rows).rst ≡ false)
+
+-- By this and these bytes it does what the rows have it do.
+pub record DecidesAs (s : ScenarioValue) (rows : List Row) (t : TargetDef) (v : Serving) (b : DataBytes) : Type 0 where
+  pub given : List ℕ
+  pub bytes_are : AreBytesOf (serving_with v given) (leaving_by (serving_with v given) (begun rows) (bus rows)) (handshakes rows).requests b
+  pub alike : (n : Connection) → IsOwnConnection rows t.dev n → (bus rows).rst ≡ false → AreAlike (begun rows) (drives rows t.dev).req (bus rows).io (handshakes rows).requests (offering_in rows (serving_with v given)) (offering_in rows (serving_of s (run_state s rows) t.dev))

@@ -1,0 +1,113 @@
+-- Where a process stands at its logical unit: in the queue, outside it, or nowhere.
+use Rattle.std.specs.Prelude.{◌≡◌, ℕ, Bool, true, false, ◌||◌, List, Option, Some, None, is_some, if◌then◌else◌}
+use Rattle.std.specs.List.{list_any}
+use Rattle.bus_base.specs.declared.ProcId.{ProcId}
+use Rattle.cdb_codec.specs.Cdb.{command_of}
+use Rattle.scenario.specs.Value.{ScenarioValue}
+use Rattle.disk_array.specs.Execution.{Reply as ArrayReply, is_request_sense}
+use Rattle.disk_array.specs.Processes.{Process, same_id}
+use Rattle.disk_array.specs.Seats.{Seat, is_initiator, running_at}
+use Rattle.disk_array.specs.SoundArray.{IsOwn}
+use Rattle.disk_array.specs.Steps.{running_if}
+use Rattle.disk_array.specs.Units.{RunningProcess, UnitState, guest_at}
+use Rattle.disk_unit.specs.declared.media.Plan.{Plan}
+use Rattle.disk_unit.specs.declared.unit.Reply.{Reply}
+use Rattle.target_course.specs.Courses.{status_if}
+use Rattle.target_units.specs.Seated.{IsProcess, reply_told, is_same_process}
+use Rattle.disk_target.specs.declared.standing.Served.{Served}
+use Rattle.disk_target.specs.declared.standing.Standing.{Standing}
+use Rattle.disk_target.specs.declared.standing.Standing.TheVariants as standings
+
+-- ---- a process as its target knows it
+
+pub record IsServed (s : ScenarioValue) (dev : ℕ) (p : Process) (v : Served) : Type 0 where
+  pub own : IsOwn s dev v.unit p
+  pub words : IsProcess p v.id v.from v.tag v.class v.cdb.now
+  pub host : is_initiator s.hosts p.initiator ≡ true
+
+-- ---- at its unit
+
+-- It waits there, or is current.
+abbrev pub waits_in : List Process → ProcId → Bool
+waits_in waiting id = list_any (λ (p : Process). same_id p.id id) waiting
+
+abbrev pub is_inside : Option UnitState → ProcId → Bool
+is_inside None id = false
+is_inside (Some u) id = waits_in u.waiting id || is_some (running_if u.current id)
+
+-- It stands outside the queue; one that has no reply yet at a unit that is there is a REQUEST SENSE (7.5).
+pub record IsGuest (seat : Seat) (p : Process) (reply : Option Reply) : Type 0 where
+  pub guest : RunningProcess
+  pub at : guest_at seat.guests p.id ≡ Some guest
+  pub process_is : guest.process ≡ p
+  pub reply_is : reply ≡ reply_told guest.reply
+  pub sense : guest.reply ≡ None → is_some seat.unit ≡ true → is_request_sense (command_of p.cdb) ≡ true
+
+-- It stands inside the queue or not, and not outside it.
+pub record IsNoGuest (seat : Seat) (p : Process) (inside : Bool) : Type 0 where
+  pub none : guest_at seat.guests p.id ≡ None
+  pub inside_is : is_inside seat.unit p.id ≡ inside
+
+abbrev pub IsStanding : Seat → Process → Standing → Type 0
+IsStanding seat p standings.Nowhere = IsNoGuest seat p false
+IsStanding seat p standings.Queued = IsNoGuest seat p true
+IsStanding seat p (standings.Guest reply) = IsGuest seat p reply
+IsStanding seat p (standings.Ended status) = IsNoGuest seat p false
+
+-- ---- as the connection begins
+
+abbrev pub standing_at_first : Bool → Standing
+standing_at_first true = standings.Queued
+standing_at_first false = standings.Nowhere
+
+-- ---- as its command arrives, outside the queue or in it; and as it fails with this reply
+
+abbrev pub standing_on_arrival : Bool → Standing
+standing_on_arrival true = standings.Guest None
+standing_on_arrival false = standings.Queued
+
+abbrev pub standing_on_failure : Standing → Reply → Standing
+standing_on_failure standings.Nowhere reply = standings.Guest (Some reply)
+standing_on_failure standings.Queued reply = standings.Queued
+standing_on_failure (standings.Guest old) reply = standings.Guest (Some reply)
+standing_on_failure (standings.Ended status) reply = standings.Guest (Some reply)
+
+abbrev pub is_guest : Standing → Bool
+is_guest standings.Nowhere = false
+is_guest standings.Queued = false
+is_guest (standings.Guest reply) = true
+is_guest (standings.Ended status) = false
+
+-- The reply that it has outside the queue.
+abbrev pub outcome_of : Standing → Option Reply
+outcome_of standings.Nowhere = None
+outcome_of standings.Queued = None
+outcome_of (standings.Guest reply) = reply
+outcome_of (standings.Ended status) = None
+
+abbrev pub told_status : Option Reply → Option ℕ
+told_status None = None
+told_status (Some reply) = Some reply.status
+
+-- The status of its reply, where this is the current process of its unit, which has this reply.
+abbrev pub status_by : Standing → Option ProcId → Option Reply → ProcId → Option ℕ
+status_by standings.Nowhere current reply id = None
+status_by standings.Queued current reply id = if is_same_process current (Some id) then told_status reply else None
+status_by (standings.Guest given) current reply id = told_status given
+status_by (standings.Ended status) current reply id = status
+
+-- The reply of a process that runs, once it has one.
+abbrev pub running_reply : Option RunningProcess → Option ArrayReply
+running_reply None = None
+running_reply (Some r) = r.reply
+
+-- The status of its reply: that with which it ended, or of the reply that it has at its unit.
+abbrev pub status_of : Seat → Process → Standing → Option ℕ
+status_of seat p (standings.Ended status) = status
+status_of seat p standings.Nowhere = status_if (running_reply (running_at seat p.id))
+status_of seat p standings.Queued = status_if (running_reply (running_at seat p.id))
+status_of seat p (standings.Guest reply) = status_if (running_reply (running_at seat p.id))
+
+-- What a plan tells of a reply.
+abbrev pub reply_planned : Plan → Reply
+reply_planned plan = record { status = plan.status; len = plan.in_len; sense = plan.sense }

@@ -1,0 +1,404 @@
+//! A target of a scenario: what it knows, row by row, and what it does next (ANSI X3.131-1994, 6 and 7).
+ghost use Rattle.std.specs.Prelude.{ℕ, ◌≡◌, ◌<◌, ◌≤◌, ◌^◌, ◌==◌, [], ◌∷◌, List, length, Some, None, is_some, true, false, IfOk};
+ghost use Rattle.std.specs.List.{find};
+ghost use Rattle.bus_trace.specs.declared.Row.{Row};
+ghost use Rattle.bus_trace.specs.declared.connection.Connection.{Connection};
+ghost use Rattle.bus_trace.specs.Terms.{connection};
+ghost use Rattle.bus_trace.specs.Trace.{bus};
+ghost use Rattle.bus_lines.specs.Handshakes.{handshakes};
+ghost use Rattle.bus_lines.specs.Timely.{IsTimely};
+ghost use Rattle.cdb_codec.specs.declared.status.TheConstants.{GOOD};
+ghost use Rattle.scenario.specs.declared.value.TargetDef.{TargetDef};
+ghost use Rattle.scenario.specs.Value.{ScenarioValue};
+ghost use Rattle.scenario.specs.Writing.{Obeys};
+ghost use Rattle.disk_array.specs.ArrayHistory.{reply_in};
+ghost use Rattle.disk_array.specs.Processes.{Process, process_of};
+ghost use Rattle.disk_array.specs.Seats.{is_initiator};
+ghost use Rattle.disk_array.specs.Units.{Array, unit_state_at};
+ghost use Rattle.bus_dialogue.specs.Hearing.{begun};
+ghost use Rattle.bus_dialogue.specs.NextPhase.{leaving_by};
+ghost use Rattle.bus_dialogue.specs.Observer.{IsObserverOf};
+ghost use Rattle.bus_due.specs.Defs.{target_def_of};
+ghost use Rattle.bus_due.specs.Next.{due};
+ghost use Rattle.bus_due.specs.Plain.{AreOfDevices};
+ghost use Rattle.bus_due.specs.RunState.{array_of};
+ghost use Rattle.bus_due.specs.RunSteps.{run_state};
+ghost use Rattle.bus_due.specs.Tasks.{size_of, reply_now, is_writing};
+ghost use Rattle.scsi_device.specs.Acts.{act_of};
+ghost use Rattle.scsi_device.specs.Heard.{heard};
+ghost use Rattle.scsi_device.specs.Lines.{FitsBus, IsTargetLine};
+ghost use Rattle.scsi_device.specs.Told.{first_fault};
+ghost use Rattle.target_course.specs.Courses.{events_of_target, AreToldOf, IsCourseOf, IsStateOf, IsOutlookOf};
+ghost use Rattle.target_course.specs.Fits.{AreFit};
+ghost use Rattle.target_units.specs.Seated.{reply_told};
+ghost use Rattle.target_course.specs.Servings.{serving_with, byte_if, AreBytesOf};
+ghost use Rattle.target_course.specs.Shown.{shown_list};
+ghost use Rattle.target_course.specs.States.{IsNoInitiator, IsOwnConnection};
+ghost use Rattle.target_units.specs.Units.{AreUnitsOf, reply_at, unit_in};
+ghost use Rattle.target_course.specs.declared.course.Name.{Name as NameValue};
+ghost use Rattle.disk_target.specs.Bytes.{taken_by, DecidesAs};
+ghost use Rattle.disk_target.specs.Targets.{IsServable, IsTargetAfter};
+
+use crate::bytes::{
+    Decision, bounded, gives_data, no_bytes, own_connection, status_in, taken_by, unit_named,
+};
+use bus_base::{Dev, NoMemory, Ns};
+use bus_dialogue::{Arrival, Observer};
+use bus_due::kept_is_plain;
+use bus_reactions::Due;
+use bus_trace::Connection;
+use disk_array::arrays_are_sound;
+use disk_unit::{Plan, Reply};
+use scenario::{FaultDef, Scenario, TargetDef};
+use scsi_device::{Act, Itself, scenarios_fit_the_bus};
+use std::alloc::Global;
+use std::marker::Model;
+use target_course::{
+    Course, DataBytes, Gathered, Knowledge, Negotiated, ProcessState, Progress, Serving, Shown,
+    leaving_by, no_plan, phase_of, process_byte_place, target_next,
+};
+use target_units::Units;
+
+/// A target of a scenario.
+#[derive(Drop)]
+pub struct Target {
+    def: TargetDef,
+    itself: Itself,
+    units: Units,
+    progress: Progress,
+    negotiated: Negotiated,
+    gathered: Gathered,
+    // In a connection of its own: what it has heard in it, and the reply of the process that it serves.
+    course: Option<Course>,
+    reply: Option<Reply>,
+}
+
+impl Model for Target {
+    ghost use Rattle.std.specs.Prelude.{◌<◌, ◌≤◌};
+    ghost use Rattle.disk_target.specs.Targets.{TargetValue};
+
+    ghost Value = { TargetValue };
+
+    ghost view = { λ a. record {
+      def = a.def;
+      itself = a.itself;
+      units = a.units;
+      progress = a.progress;
+      negotiated = a.negotiated;
+      gathered = a.gathered;
+      course = a.course;
+      reply = a.reply;
+    } };
+
+    ghost invariant = { λ a. (a.def.dev < 8) × (a.def.latency ≤ 100) };
+}
+
+// The line of this target.
+fn target_line(targets: &[TargetDef], dev: Dev) -> Option<TargetDef>
+    ensures { result ≡ find (λ (t : TargetDef). t.dev == dev) targets.now }
+{
+    for def in targets {
+        if def.dev == dev {
+            return Some(*def);
+        }
+    }
+    None
+}
+
+impl Target {
+    // Of this line of the scenario.
+    fn of_line(alloc: Global, scenario: &Scenario, def: TargetDef) -> Result<Target, NoMemory>
+        requires lawful { Obeys scenario.now }
+        requires target { target_def_of scenario.now def.dev ≡ Some def }
+        requires below { def.dev < 8 }
+        requires latency { def.latency ≤ 100 }
+        ensures named { IfOk result (λ made. made.def ≡ def) }
+        ensures trace { FitsBus scenario.now → IsTargetLine scenario.now def
+            → IfOk result (λ made. IsTargetAfter scenario.now [] made) }
+    {
+        arrays_are_sound();
+        scenarios_fit_the_bus();
+        let itself = Itself::new(alloc, scenario, def.dev)?;
+        let units = Units::of(alloc, scenario, &def)?;
+        let progress = Progress::new(alloc, scenario, def.dev)?;
+        let gathered = Gathered::new(alloc, scenario, def.dev)?;
+        Ok(Target {
+            def,
+            itself,
+            units,
+            progress,
+            negotiated: Negotiated::new(def.dev, scenario.version),
+            gathered,
+            course: None,
+            reply: None,
+        })
+    }
+
+    /// The target `dev` of a scenario that obeys the rules of its text, before any row. It takes all memory that it
+    /// ever has.
+    pub fn new(alloc: Global, scenario: &Scenario, dev: Dev) -> Result<Target, NoMemory>
+        requires lawful { Obeys scenario.now }
+        requires target { is_some (target_def_of scenario.now dev) ≡ true }
+        ensures named { IfOk result (λ made. made.def.dev ≡ dev) }
+        ensures trace { IfOk result (λ made. IsTargetAfter scenario.now [] made) }
+    {
+        scenarios_fit_the_bus();
+        match target_line(scenario.targets.as_slice(), dev) {
+            Some(def) => Target::of_line(alloc, scenario, def),
+            None => unreachable!(),
+        }
+    }
+
+    // What its units and its counts tell of the process of this course, which is of this unit and of this initiator.
+    fn state_at(&self, unit: u8, from: Dev, course: &Course) -> ProcessState
+        requires unit { unit < 8 }
+        requires device { from < 8 }
+        ensures state { (s : ScenarioValue) (rows : List Row) (p : Process) → IsTargetAfter s rows self.now
+            → length rows < 2 ^ 64 → process_of s course.now.id ≡ Some p → course.now.id ≡ p.id
+            → p.target ≡ self.now.def.dev → p.unit ≡ unit → p.initiator ≡ from
+            → self.now.reply ≡ reply_told (reply_in (array_of s (run_state s rows)).replies p.id)
+            → IsStateOf s (run_state s rows) p result }
+        ensures outlook { (s : ScenarioValue) (rows : List Row) (p : Process) → IsTargetAfter s rows self.now
+            → is_initiator s.hosts from ≡ true → p.target ≡ self.now.def.dev → p.unit ≡ unit → p.initiator ≡ from
+            → p.cdb ≡ course.now.block
+            → (is_writing p ≡ true → ((reply_now (array_of s (run_state s rows)) p).status == GOOD) ≡ true
+            → taken_by p.cdb (size_of (unit_state_at (array_of s (run_state s rows)).units p.target p.unit))
+            ≡ length p.sent)
+            → IsOutlookOf s (run_state s rows) p result }
+        ensures count { result.plan.in_len
+            ≡ length (reply_at (unit_in self.now.units.units unit) from course.now.block).bytes }
+    {
+        let counts = self.progress.counts(course.id());
+        let size = self.units.block_size(unit) as u64;
+        let plan = self.units.plan(unit, from, course.block());
+        ProcessState {
+            in_hold: self.units.holds(unit, from),
+            runs: counts.runs,
+            recoveries: counts.recoveries,
+            size,
+            room: self.units.room(unit),
+            plan: Plan {
+                out_len: taken_by(course.block(), size),
+                ..plan
+            },
+            reply: status_in(self.reply),
+        }
+    }
+
+    // The same, in a connection with this initiator, where the process is named so.
+    fn process_state(&self, unit: u8, from: Dev, course: &Course) -> ProcessState
+        requires unit { unit < 8 }
+        requires device { from < 8 }
+        ensures told { (s : ScenarioValue) (rows : List Row) (n : Connection) → FitsBus s
+            → IsServable s rows self.now.def → IsTargetAfter s rows self.now
+            → IsCourseOf s rows self.now.def.dev course.now → IsOwnConnection rows self.now.def.dev n
+            → (bus rows).rst ≡ false → n.initiator ≡ from
+            → ((name : NameValue) → course.now.named ≡ Some name → name.unit < 8 → unit ≡ name.unit)
+            → AreToldOf s rows course.now result }
+        ensures count { result.plan.in_len
+            ≡ length (reply_at (unit_in self.now.units.units unit) from course.now.block).bytes }
+    {
+        scenarios_fit_the_bus();
+        self.state_at(unit, from, course)
+    }
+
+    // The byte at a place of those that a command would give, which are so many.
+    fn byte_at(&self, unit: u8, from: Dev, cdb: &[u8], count: u32, place: Option<u64>) -> u8
+        requires unit { unit < 8 }
+        requires device { from < 8 }
+        requires count { count ≡ length (reply_at (unit_in self.now.units.units unit) from cdb.now).bytes }
+        ensures { (s : ScenarioValue) (a : Array) (times : List ℕ) (p : Process)
+            → AreUnitsOf s a times self.now.units.dev self.now.units.units → is_initiator s.hosts from ≡ true
+            → p.target ≡ self.now.units.dev → p.unit ≡ unit → p.initiator ≡ from → p.cdb ≡ cdb.now
+            → count ≡ length (reply_now a p).bytes → result ≡ byte_if (reply_now a p).bytes place }
+    {
+        match place {
+            Some(place) if place < u64::from(count) => {
+                let mut byte = [0];
+                self.units.fetch(unit, from, cdb, place as u32, &mut byte);
+                byte[0]
+            }
+            _ => 0,
+        }
+    }
+
+    // The two bytes that it may drive next of those that the command would give, which are so many.
+    fn bytes_at(
+        &self,
+        observer: &Observer,
+        unit: u8,
+        from: Dev,
+        cdb: &[u8],
+        count: u32,
+        serving: &Serving,
+    ) -> DataBytes
+        requires unit { unit < 8 }
+        requires device { from < 8 }
+        requires count { count ≡ length (reply_at (unit_in self.now.units.units unit) from cdb.now).bytes }
+        ensures { (s : ScenarioValue) (rows : List Row) (a : Array) (times : List ℕ) (p : Process)
+            → IsObserverOf rows observer.now
+            → AreUnitsOf s a times self.now.units.dev self.now.units.units → is_initiator s.hosts from ≡ true
+            → p.target ≡ self.now.units.dev → p.unit ≡ unit → p.initiator ≡ from → p.cdb ≡ cdb.now
+            → count ≡ length (reply_now a p).bytes
+            → AreBytesOf (serving_with serving.now (reply_now a p).bytes)
+            (leaving_by (serving_with serving.now (reply_now a p).bytes) (begun rows) (bus rows))
+            (handshakes rows).requests result }
+    {
+        let view = observer.view();
+        let leaving = leaving_by(serving, observer.begun(), view.bus());
+        let place = view.handshakes().requests();
+        let policy = serving.def.disc;
+        let next = process_byte_place(policy, &serving.task, false, place);
+        let first = process_byte_place(policy, &serving.task, leaving.done, 0);
+        DataBytes {
+            next: self.byte_at(unit, from, cdb, count, next),
+            first: self.byte_at(unit, from, cdb, count, first),
+        }
+    }
+
+    // What it decides by in a connection of its own with this initiator.
+    fn decision_in(&self, observer: &Observer, from: Dev, course: &Course) -> Decision
+        requires device { from < 8 }
+        ensures def { result.serving.def ≡ self.now.def }
+        ensures fits { AreFit result.serving.plan.messages }
+        ensures trace { (s : ScenarioValue) (rows : List Row) (n : Connection) → FitsBus s
+            → IsObserverOf rows observer.now → AreOfDevices rows → heard s rows ≡ true
+            → IsServable s rows self.now.def → IsTargetAfter s rows self.now
+            → IsCourseOf s rows self.now.def.dev course.now → IsOwnConnection rows self.now.def.dev n
+            → (bus rows).rst ≡ false → n.initiator ≡ from
+            → DecidesAs s rows self.now.def result.serving result.bytes }
+    {
+        scenarios_fit_the_bus();
+        kept_is_plain();
+        let unit = unit_named(course);
+        let state = self.process_state(unit, from, course);
+        let serving = course.serving(&self.def, &state);
+        let phase = phase_of(observer.view().bus());
+        let bytes = if observer.begun() && gives_data(phase, course.plan().next) {
+            let count = state.plan.in_len;
+            self.bytes_at(observer, unit, from, course.block(), count, &serving)
+        } else {
+            no_bytes()
+        };
+        Decision { serving, bytes }
+    }
+
+    // Where no connection of its own stands.
+    fn no_decision(&self) -> Decision
+        ensures def { result.serving.def ≡ self.now.def }
+        ensures fits { AreFit result.serving.plan.messages }
+        ensures trace { (s : ScenarioValue) (rows : List Row)
+            → ((n : Connection) → IsOwnConnection rows self.now.def.dev n → (bus rows).rst ≡ true)
+            → DecidesAs s rows self.now.def result.serving result.bytes }
+    {
+        let serving = Serving {
+            def: self.def,
+            plan: no_plan(),
+            task: None,
+            arrival: Arrival::Queued,
+        };
+        Decision {
+            serving,
+            bytes: no_bytes(),
+        }
+    }
+
+    fn decision(&self, observer: &Observer) -> Decision
+        ensures def { result.serving.def ≡ self.now.def }
+        ensures fits { AreFit result.serving.plan.messages }
+        ensures trace { (s : ScenarioValue) (rows : List Row) → FitsBus s
+            → IsObserverOf rows observer.now → AreOfDevices rows → heard s rows ≡ true
+            → IsServable s rows self.now.def → IsTargetAfter s rows self.now
+            → DecidesAs s rows self.now.def result.serving result.bytes }
+    {
+        match (own_connection(observer.view(), self.def.dev), &self.course) {
+            (Some(connection), Some(course)) => {
+                self.decision_in(observer, connection.initiator.get(), course)
+            }
+            _ => self.no_decision(),
+        }
+    }
+
+    /// What it does next, and when, in ns, by the first fault that has not struck yet: exactly what is due of it, where
+    /// it was told of all rows and is the initiator of no connection. It changes nothing.
+    pub fn due(&self, observer: &Observer, fault: Option<FaultDef>) -> Option<Due>
+        requires timely { IsTimely (2 ^ 63) observer.now.view }
+        ensures { (s : ScenarioValue) (rows : List Row) → FitsBus s → IsObserverOf rows observer.now
+            → AreOfDevices rows → IsNoInitiator rows self.now.def.dev → heard s rows ≡ true
+            → IsServable s rows self.now.def → IsTargetAfter s rows self.now
+            → fault ≡ first_fault (run_state s rows).faults → result ≡ due s rows self.now.def.dev }
+    {
+        let decision = self.decision(observer);
+        let known = Knowledge {
+            itself: &self.itself,
+            ready: bounded(self.units.ready()),
+            serving: decision.serving,
+            bytes: decision.bytes,
+        };
+        target_next(observer, &known, fault)
+    }
+
+    /// What it does at this moment, in ns: the row that is due by then, or when its next one is. It changes nothing.
+    pub fn step(&self, observer: &Observer, now: Ns, fault: Option<FaultDef>) -> Act
+        requires timely { IsTimely (2 ^ 63) observer.now.view }
+        ensures { (s : ScenarioValue) (rows : List Row) → FitsBus s → IsObserverOf rows observer.now
+            → AreOfDevices rows → IsNoInitiator rows self.now.def.dev → heard s rows ≡ true
+            → IsServable s rows self.now.def → IsTargetAfter s rows self.now
+            → fault ≡ first_fault (run_state s rows).faults → result ≡ act_of (due s rows self.now.def.dev) now }
+    {
+        Act::of(self.due(observer, fault), now)
+    }
+
+    fn shown_in(&self, observer: &Observer, connection: &Connection, course: &Course) -> Shown
+        ensures { (s : ScenarioValue) (rows : List Row) (row : Row) → FitsBus s
+            → IsObserverOf (row ∷ rows) observer.now → AreOfDevices (row ∷ rows) → heard s (row ∷ rows) ≡ true
+            → IsServable s rows self.now.def → IsTargetAfter s rows self.now
+            → IsCourseOf s rows self.now.def.dev course.now
+            → IsOwnConnection rows self.now.def.dev connection.now → (bus rows).rst ≡ false
+            → (bus (row ∷ rows)).rst ≡ false → shown_list result ≡ events_of_target s rows row connection.now }
+    {
+        let unit = unit_named(course);
+        let state = self.process_state(unit, connection.initiator.get(), course);
+        let serving = course.serving(&self.def, &state);
+        let after = observer.view().connection();
+        course.shown(&serving, connection, observer.hearing(), after)
+    }
+
+    /// The events that it shows with the last row, which the observer has seen and it has not, in a connection of which
+    /// it is the target: those of the row that leaves a phase, or the bus, and none with another.
+    pub fn shown(&self, observer: &Observer) -> Shown
+        ensures { (s : ScenarioValue) (rows : List Row) (row : Row) (n : Connection) → FitsBus s
+            → IsObserverOf (row ∷ rows) observer.now → AreOfDevices (row ∷ rows) → heard s (row ∷ rows) ≡ true
+            → IsServable s rows self.now.def → IsTargetAfter s rows self.now
+            → IsOwnConnection rows self.now.def.dev n → (bus rows).rst ≡ false → (bus (row ∷ rows)).rst ≡ false
+            → shown_list result ≡ events_of_target s rows row n }
+    {
+        match (observer.view().effect().before, &self.course) {
+            (Some(connection), Some(course)) => self.shown_in(observer, &connection, course),
+            _ => Shown {
+                event: None,
+                second: None,
+            },
+        }
+    }
+
+    /// What it keeps of its units.
+    pub fn units(&self) -> &Units
+        ensures value { result.now ≡ self.now.units }
+        ensures array { (s : ScenarioValue) (rows : List Row) → IsTargetAfter s rows self.now
+            → AreUnitsOf s (array_of s (run_state s rows)) (run_state s rows).current_since self.now.def.dev
+            result.now.units }
+    {
+        &self.units
+    }
+
+    /// What it keeps of its units, as it is over.
+    pub fn into_units(self) -> Units
+        ensures value { result ≡ self.units }
+        ensures array { (s : ScenarioValue) (rows : List Row) → IsTargetAfter s rows self
+            → AreUnitsOf s (array_of s (run_state s rows)) (run_state s rows).current_since self.def.dev
+            result.units }
+    {
+        self.units
+    }
+}

@@ -1,4 +1,0 @@
-pub mod Bytes
-pub mod Targets
-pub mod Standings
-pub mod Processes

@@ -1,0 +1,101 @@
+-- What a target does next is the same where what it has to do is alike.
+use Rattle.std.proofs.Common.{ℕ, ◌≡◌, ◌==◌, ◌+◌, Bool, true, false, refl, length, None}
+use Rattle.std.specs.Prelude.{if◌then◌else◌, not, ◌&&◌, ◌||◌, nat_lt, max}
+use Rattle.bus_trace.specs.Trace.{phase_time}
+use Rattle.bus_trace.specs.declared.delays.TheConstants.{BUS_SETTLE_DELAY, TURN_DELAY, SET_UP_TIME}
+use Rattle.bus_lines.specs.Handshakes.{Handshakes}
+use Rattle.bus_reactions.specs.Reactions.{due_at}
+use Rattle.bus_reactions.specs.declared.due.Myself.{Myself}
+use Rattle.bus_reactions.specs.declared.sight.Sight.{Sight}
+use Rattle.bus_reactions.specs.declared.ends.Pace.{Pace}
+use Rattle.bus_reactions.specs.declared.ends.Offering.{Offering}
+use Rattle.bus_reactions.specs.Target.{byte_bits, with_data_bits, req_assertion, first_byte, first_req, bits_if, req_negation, next_req, phase_end, target_turn, target_handshake, req_pulse_end, hold_end, byte_change, req_pulse, last_hold_end, pulsed_phase_end, pulse_turn, target_pulse}
+use Rattle.bus_reactions.specs.Ends as hand
+use Rattle.target_course.specs.Alike.{AreAlike}
+
+bits_are : (io f g : Bool) (x y : ℕ) → f ≡ g → (io ≡ true → x ≡ y) → bits_if (io && f) x ≡ bits_if (io && g) y
+bits_are true f g x y e k = λ j. bits_if (e j) (k refl j)
+bits_are false f g x y e k = refl
+
+first_is : (v : Sight) (me : Myself) (g h : Offering) → (v.bus.io ≡ true → g.byte ≡ h.byte) → first_req v me g ≡ first_req v me h
+first_is v me g h k = go v.bus.io (v.ages.io == phase_time v.ages) (me.own.data_bits == 0) k
+  where
+    go : (io turned bare : Bool) → (io ≡ true → g.byte ≡ h.byte)
+        → (if not (io && turned) then req_assertion me (phase_time v.ages + BUS_SETTLE_DELAY) else if bare then first_byte v me g else req_assertion me (me.since + SET_UP_TIME))
+        ≡ (if not (io && turned) then req_assertion me (phase_time v.ages + BUS_SETTLE_DELAY) else if bare then first_byte v me h else req_assertion me (me.since + SET_UP_TIME))
+    go false turned bare k = refl
+    go true false bare k = refl
+    go true true false k = refl
+    go true true true k = λ j. due_at (phase_time v.ages + TURN_DELAY + me.latency) (with_data_bits me.own (byte_bits (k refl j)))
+
+turn_is : (v : Sight) (b : Handshakes) (me : Myself) (g h : Offering) → me.own.req ≡ false → AreAlike true me.own.req v.bus.io b.requests g h → target_turn v b me g ≡ target_turn v b me h
+turn_is v b me g h q a = go (b.requests == 0) g.follows h.follows (a.follows refl) (λ x y. a.to refl q x y) (λ x y. a.wait refl q x y)
+  where
+    go : (none f e : Bool) → f ≡ e → (f ≡ false → none ≡ false → g.to ≡ h.to) → (f ≡ false → none ≡ false → g.wait ≡ h.wait)
+        → (if none then first_req v me g else if f then next_req v me else phase_end v me g)
+        ≡ (if none then first_req v me h else if e then next_req v me else phase_end v me h)
+    go true f e x to wait = first_is v me g h (a.byte refl)
+    go false true true x to wait = refl
+    go false false false x to wait = λ j. due_at (v.ages.ack + me.latency + wait refl refl j) (to refl refl j)
+    go false true false x to wait = absurd cc
+    go false false true x to wait = absurd cc
+
+handshake_is : (v : Sight) (b : Handshakes) (me : Myself) (g h : Offering) → AreAlike true me.own.req v.bus.io b.requests g h → target_handshake v b me g ≡ target_handshake v b me h
+handshake_is v b me g h a = go me.own.req v.bus.ack refl
+  where
+    negation : req_negation v me g ≡ req_negation v me h
+    negation = λ j. due_at (v.ages.ack + me.latency) (record me.own { req = false; data_bits = bits_are v.bus.io g.follows h.follows g.byte h.byte (a.follows refl) (a.byte refl) j })
+
+    go : (req ack : Bool) → me.own.req ≡ req → (if req then (if ack then req_negation v me g else None) else if ack then None else target_turn v b me g)
+        ≡ (if req then (if ack then req_negation v me h else None) else if ack then None else target_turn v b me h)
+    go true true q = negation
+    go true false q = refl
+    go false true q = refl
+    go false false q = turn_is v b me g h q a
+
+pulse_turn_is : (v : Sight) (b : Handshakes) (me : Myself) (p : Pace) (g h : Offering) → me.own.req ≡ false → (b.requests == 0) ≡ false → AreAlike true me.own.req v.bus.io b.requests g h → pulse_turn v b me p g ≡ pulse_turn v b me p h
+pulse_turn_is v b me p g h q z a = go g.follows h.follows (not (length b.waiting == 0) || v.bus.ack) (a.follows refl) (λ x. a.to refl q x z)
+  where
+    go : (f e busy : Bool) → f ≡ e → (f ≡ false → g.to ≡ h.to)
+        → (if f then (if nat_lt (length b.waiting) p.offset then req_pulse v b me p else None) else if busy then None else pulsed_phase_end v b me p g)
+        ≡ (if e then (if nat_lt (length b.waiting) p.offset then req_pulse v b me p else None) else if busy then None else pulsed_phase_end v b me p h)
+    go true true busy x to = refl
+    go false false true x to = refl
+    go false false false x to = λ j. due_at (max v.ages.ack (last_hold_end v b p) + me.latency) (to refl j)
+    go true false busy x to = absurd cc
+    go false true busy x to = absurd cc
+
+pulse_is : (v : Sight) (b : Handshakes) (me : Myself) (p : Pace) (g h : Offering) → AreAlike true me.own.req v.bus.io b.requests g h → target_pulse v b me p g ≡ target_pulse v b me p h
+pulse_is v b me p g h a = go me.own.req (b.requests == 0) (λ q z. turn q z)
+  where
+    bits : v.bus.io ≡ true → bits_if g.follows g.byte ≡ bits_if h.follows h.byte
+    bits io = λ j. bits_if (a.follows refl j) (a.byte refl io j)
+
+    turn : me.own.req ≡ false → (b.requests == 0) ≡ false
+        → (if v.bus.io && not (me.own.data_bits == bits_if g.follows g.byte) then byte_change b me p g else pulse_turn v b me p g)
+        ≡ (if v.bus.io && not (me.own.data_bits == bits_if h.follows h.byte) then byte_change b me p h else pulse_turn v b me p h)
+    turn q z = by_io v.bus.io bits
+      where
+        by_io : (io : Bool) → (io ≡ true → bits_if g.follows g.byte ≡ bits_if h.follows h.byte)
+            → (if io && not (me.own.data_bits == bits_if g.follows g.byte) then byte_change b me p g else pulse_turn v b me p g)
+            ≡ (if io && not (me.own.data_bits == bits_if h.follows h.byte) then byte_change b me p h else pulse_turn v b me p h)
+        by_io false k = pulse_turn_is v b me p g h q z a
+        by_io true k = λ j. if not (me.own.data_bits == k refl j) then due_at (hold_end b me p) (with_data_bits me.own (k refl j)) else pulse_turn_is v b me p g h q z a j
+
+    go : (req none : Bool)
+        → (req ≡ false → none ≡ false
+        → (if v.bus.io && not (me.own.data_bits == bits_if g.follows g.byte) then byte_change b me p g else pulse_turn v b me p g)
+        ≡ (if v.bus.io && not (me.own.data_bits == bits_if h.follows h.byte) then byte_change b me p h else pulse_turn v b me p h))
+        → (if req then req_pulse_end v me p else if none then first_req v me g else if v.bus.io && not (me.own.data_bits == bits_if g.follows g.byte) then byte_change b me p g else pulse_turn v b me p g)
+        ≡ (if req then req_pulse_end v me p else if none then first_req v me h else if v.bus.io && not (me.own.data_bits == bits_if h.follows h.byte) then byte_change b me p h else pulse_turn v b me p h)
+    go true none x = refl
+    go false true x = first_is v me g h (a.byte refl)
+    go false false x = x refl refl
+
+pub dues_alike : (begun : Bool) (v : Sight) (b : Handshakes) (me : Myself) (p : Pace) (g h : Offering) → AreAlike begun me.own.req v.bus.io b.requests g h → hand.target_due begun v b me p g ≡ hand.target_due begun v b me p h
+dues_alike false v b me p g h a = refl
+dues_alike true v b me p g h a = go p.pulsed
+  where
+    go : (pulsed : Bool) → (if pulsed then target_pulse v b me p g else target_handshake v b me g) ≡ (if pulsed then target_pulse v b me p h else target_handshake v b me h)
+    go true = pulse_is v b me p g h a
+    go false = handshake_is v b me g h a

@@ -1,0 +1,70 @@
+-- What a target does next, and when, by what all devices are told and by what it knows itself.
+use Rattle.std.specs.Prelude.{ℕ, List, ◌+◌, ◌==◌, Bool, true, false, Option, Some, None, if◌then◌else◌}
+use Rattle.bus_trace.specs.declared.Row.{Row}
+use Rattle.bus_trace.specs.declared.connection.Connection.{Connection}
+use Rattle.bus_lines.specs.Handshakes.{handshakes}
+use Rattle.scenario.specs.declared.value.FaultDef.{FaultDef}
+use Rattle.scenario.specs.declared.value.TargetDef.{TargetDef}
+use Rattle.bus_reactions.specs.declared.due.Due.{Due}
+use Rattle.bus_reactions.specs.declared.due.Myself.{Myself}
+use Rattle.bus_reactions.specs.declared.due.Want.{Want}
+use Rattle.bus_reactions.specs.declared.ends.Offering.{Offering}
+use Rattle.bus_reactions.specs.Linking.{link_due, sample_time}
+use Rattle.bus_reactions.specs.Ends as hand
+use Rattle.bus_reactions.specs.Reset.{with_reset}
+use Rattle.bus_dialogue.specs.declared.exchange.Leaving.{Leaving}
+use Rattle.bus_dialogue.specs.NextPhase.{leaving_by}
+use Rattle.bus_dialogue.specs.Ends.{offering_by}
+use Rattle.bus_due.specs.Connected.{is_receiving}
+use Rattle.target_units.specs.declared.ready.Ready.{Ready}
+use Rattle.target_course.specs.declared.knowledge.Knowledge.{Knowledge}
+use Rattle.target_course.specs.Servings.{serving_with, AreBytesOf}
+use Rattle.scsi_device.specs.Told.{Told, told, pace_of, flip_by}
+use Rattle.target_course.specs.States.{TargetState, state_of}
+
+abbrev pub myself_by : TargetDef → Told → TargetState → Myself
+myself_by d t i = record { dev = d.dev; latency = d.latency; own = t.lines; since = i.own.row }
+
+-- A target reselects, for the unit that is ready first, and never selects; the first byte that it sends then is IDENTIFY.
+abbrev pub want_of_ready : Option Ready → Want
+want_of_ready None = record { since = None; callee = None; reselects = true; first = 0x80 }
+want_of_ready (Some r) = record { since = Some r.time; callee = Some r.initiator; reselects = true; first = 0x80 + r.unit }
+
+-- On its way to a connection (6.1.1 to 6.1.4).
+abbrev pub link_by : TargetDef → Told → Option FaultDef → TargetState → Option Due
+link_by d t f i =
+    link_due t.sight (myself_by d t i) (want_of_ready i.ready) (flip_by f (sample_time t.sight (myself_by d t i)))
+
+-- In a connection of its own (6.1.5, 6.2.1); in one of others it does nothing. A target has no lag.
+abbrev pub leaving_of_target : Told → TargetState → Leaving
+leaving_of_target t i = leaving_by i.serving t.begun t.sight.bus
+
+abbrev pub offering_of_target : Told → TargetState → Offering
+offering_of_target t i = offering_by i.serving t.begun (pace_of t None).pulsed t.sight.bus t.handshakes
+
+abbrev pub plain_by : TargetDef → Told → TargetState → Option Due
+plain_by d t i =
+    hand.target_due t.begun t.sight t.handshakes (myself_by d t i) (pace_of t None) (offering_of_target t i)
+
+-- It samples a byte that crossed to it in the last row first.
+abbrev pub hand_by : TargetDef → Told → Option FaultDef → TargetState → Option Due
+hand_by d t f i = hand.sample_due (is_receiving t.receiver d.dev) t.last (flip_by f t.last) (plain_by d t i)
+
+abbrev pub connected_by : TargetDef → Told → Option FaultDef → TargetState → Connection → Option Due
+connected_by d t f i n = if n.target == d.dev then hand_by d t f i else None
+
+-- While RST is true it goes by that, whatever stands (6.2.2).
+abbrev pub calm_by : TargetDef → Told → Option FaultDef → TargetState → Bool → Option Connection → Option Due
+calm_by d t f i true n = link_by d t f i
+calm_by d t f i false None = link_by d t f i
+calm_by d t f i false (Some n) = connected_by d t f i n
+
+-- A reset of its own goes before all that (6.2.2).
+abbrev pub target_next : TargetDef → Told → Option FaultDef → TargetState → Option Due
+target_next d t f i = with_reset (myself_by d t i) i.own.rst i.reset (calm_by d t f i t.sight.bus.rst t.connection)
+
+-- ---- the bytes that its process gives, which it has of these after these rows
+
+abbrev pub HasBytesOf : List Row → Knowledge → List ℕ → Type 0
+HasBytesOf rows k given =
+    AreBytesOf (serving_with k.serving given) (leaving_of_target (told rows k.serving.def.dev) (state_of k given)) (handshakes rows).requests k.bytes

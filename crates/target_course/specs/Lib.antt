@@ -1,0 +1,13 @@
+pub mod Servings
+pub mod Fits
+pub mod Alike
+pub mod Agreeing
+pub mod Courses
+pub mod Replies
+pub mod States
+pub mod Dues
+pub mod Plans
+pub mod Shown
+pub mod Progress
+pub mod Negotiated
+pub mod Gathered

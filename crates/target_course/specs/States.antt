@@ -1,0 +1,84 @@
+-- What a target knows beside what all devices are told.
+use Rattle.std.specs.Prelude.{ℕ, ◌≡◌, ◌<◌, ◌≤◌, ◌^◌, ◌==◌, true, false, List, Option, Some, None}
+use Rattle.bus_trace.specs.Terms.{connection}
+use Rattle.bus_trace.specs.declared.Row.{Row}
+use Rattle.bus_trace.specs.declared.connection.Connection.{Connection}
+use Rattle.scenario.specs.declared.value.TargetDef.{TargetDef}
+use Rattle.scenario.specs.Value.{ScenarioValue}
+use Rattle.bus_story.specs.TraceHistory.{is_host}
+use Rattle.bus_trace.specs.Trace.{bus, drives}
+use Rattle.bus_lines.specs.Handshakes.{handshakes}
+use Rattle.bus_reactions.specs.declared.ends.Offering.{Offering}
+use Rattle.bus_dialogue.specs.Ends.{offering_by}
+use Rattle.bus_dialogue.specs.Hearing.{begun}
+use Rattle.scsi_device.specs.Told.{told, pace_of}
+use Rattle.target_course.specs.Alike.{AreAlike}
+use Rattle.bus_dialogue.specs.NextPhase as next_phase
+use Rattle.bus_dialogue.specs.Wants as wants
+use Rattle.bus_due.specs.Own.{Own, own_of}
+use Rattle.bus_due.specs.Defs.{host_of, target_def_of}
+use Rattle.bus_due.specs.Wants.{ready_of}
+use Rattle.bus_due.specs.Sights.{serving_of}
+use Rattle.bus_due.specs.RunSteps.{run_state}
+use Rattle.bus_due.specs.Due.{reset_from}
+use Rattle.target_units.specs.declared.ready.Ready.{Ready}
+use Rattle.target_course.specs.declared.knowledge.Knowledge.{Knowledge}
+use Rattle.target_course.specs.Fits.{AreFit}
+use Rattle.target_course.specs.Servings.{serving_with}
+
+-- ---- what it knows itself
+
+pub record TargetState : Type 0 where
+  -- when it made rows, raised and released RST; and its next reset
+  pub own : Own
+  pub reset : Option ℕ
+  -- the unit that is ready first
+  pub ready : Option Ready
+  -- in a connection of its own: what it decides by
+  pub serving : next_phase.Serving
+
+abbrev pub state_of : Knowledge → List ℕ → TargetState
+state_of k given = record { own = k.itself.now.own; reset = k.itself.now.reset; ready = k.ready; serving = serving_with k.serving given }
+
+-- A connection stands of which it is the target.
+pub record IsOwnConnection (rows : List Row) (dev : ℕ) (n : Connection) : Type 0 where
+  pub stands : connection rows ≡ Some n
+  pub own : (n.target == dev) ≡ true
+
+-- What it has to do in the phase by what it decides by, and what the rows have it do.
+abbrev pub offering_in : List Row → next_phase.Serving → Offering
+offering_in rows v =
+    offering_by v (begun rows) (pace_of (told rows 0) None).pulsed (bus rows) (handshakes rows)
+
+-- This is what the target of this line of the scenario knows after these rows. In a connection of its own, while RST is
+-- false, it may know less than the rows tell of the process, as long as nothing that it does next tells between them.
+pub record IsTargetOf (s : ScenarioValue) (rows : List Row) (t : TargetDef) (i : TargetState) : Type 0 where
+  pub own_is : i.own ≡ own_of rows t.dev
+  pub reset_is : i.reset ≡ reset_from t.dev (own_of rows t.dev).released s.resets
+  pub ready_is : i.ready ≡ ready_unit (ready_of s (run_state s rows) t.dev)
+  pub serving_is : (n : Connection) → IsOwnConnection rows t.dev n → (bus rows).rst ≡ false → AreAlike (begun rows) (drives rows t.dev).req (bus rows).io (handshakes rows).requests (offering_in rows i.serving) (offering_in rows (serving_of s (run_state s rows) t.dev))
+
+-- ---- what the scenario says of it
+
+-- It is a target of the scenario, with this line, and no initiator.
+pub record IsTargetLine (s : ScenarioValue) (t : TargetDef) : Type 0 where
+  pub below : t.dev < 8
+  pub target_is : target_def_of s t.dev ≡ Some t
+  pub no_host : host_of s t.dev ≡ None
+  pub is_none : is_host s.hosts t.dev ≡ false
+
+-- It is the initiator of no connection.
+pub record IsNoInitiator (rows : List Row) (dev : ℕ) : Type 0 where
+  pub not_calling : (n : Connection) → connection rows ≡ Some n → (n.initiator == dev) ≡ false
+
+-- ---- bounds: a device of the bus, with a latency of at most 100 ns, at times below 2 ^ 63, and logical units below 8
+
+abbrev pub IsReadyWithin : Option Ready → Type 0
+IsReadyWithin None = Unit {0}
+IsReadyWithin (Some r) = (r.time < 2 ^ 63) × (r.unit < 8)
+
+pub record IsWithin (k : Knowledge) : Type 0 where
+  pub below : k.serving.def.dev < 8
+  pub latency : k.serving.def.latency ≤ 100
+  pub ready : IsReadyWithin k.ready
+  pub fits : AreFit k.serving.plan.messages

@@ -1,0 +1,11 @@
+pub mod LiveQueue
+pub mod SenseBlocks
+pub mod SeatSteps
+pub mod AbsentReplies
+pub mod AbsentSteps
+pub mod Tellings
+pub mod UnitTimes
+pub mod UnitSteps
+pub mod Holds
+pub mod UnitTellings
+pub mod Starts

@@ -1,0 +1,124 @@
+-- What the units of a target tell is what the array has.
+use Rattle.std.proofs.Common.{ℕ, ◌≡◌, ◌+◌, Bool, true, false, List, [], ◌∷◌, ◌∙◌, refl, sym, subst, Option, Some, None}
+use Rattle.std.specs.Prelude.{if◌then◌else◌, ◌&&◌, ◌==◌, is_some}
+use Rattle.std.proofs.lemmas.Bool.{eqb-true}
+use Rattle.scenario.specs.Value.{ScenarioValue}
+use Rattle.disk_array.specs.Execution.{execution}
+use Rattle.disk_array.specs.Processes.{Process}
+use Rattle.disk_array.specs.Units.{RunningProcess, UnitState, Array, unit_state_at, is_held}
+use Rattle.disk_array.specs.Steps.{context_at}
+use Rattle.disk_array.specs.Seats
+use Rattle.disk_array.specs.Seats.{Seat, seat_of}
+use Rattle.disk_array.specs.SoundArray.{IsSound, IsOwnRunning}
+use Rattle.bus_dialogue.specs.Wants as wants
+use Rattle.bus_due.specs.Wants as due
+use Rattle.bus_due.specs.Tasks.{room_of, size_of, reply_now}
+use Rattle.target_units.specs.Readies.{ready_unit}
+use Rattle.target_units.specs.Seated.{room_at}
+use Rattle.target_units.specs.Units.{room_if, first_unit, is_before}
+use Rattle.target_units.proofs.Holds.{held_at}
+use Rattle.target_units.proofs.UnitSteps.{own_unit}
+
+-- ---- a unit that is found
+
+found_at : (us : List UnitState) (t n : ℕ) (u : UnitState) → unit_state_at us t n ≡ Some u → (u.target == t && u.unit == n) ≡ true
+found_at [] t n u h = cc
+found_at (v ∷ us) t n u h = go (v.target == t && v.unit == n) refl h (λ k. found_at us t n u k)
+  where
+    go : (y : Bool) → (v.target == t && v.unit == n) ≡ y → (if y then Some v else unit_state_at us t n) ≡ Some u → (unit_state_at us t n ≡ Some u → (u.target == t && u.unit == n) ≡ true) → (u.target == t && u.unit == n) ≡ true
+    go true e k more = let same : v ≡ u = cc in subst (λ (z : UnitState). (z.target == t && z.unit == n) ≡ true) same e
+    go false e k more = more k
+
+and_one : (x y : Bool) → (x && y) ≡ true → x ≡ true
+and_one true y h = refl
+and_one false y h = cc
+
+and_two : (x y : Bool) → (x && y) ≡ true → y ≡ true
+and_two true y h = h
+and_two false y h = cc
+
+pub target_found : (us : List UnitState) (t n : ℕ) (u : UnitState) → unit_state_at us t n ≡ Some u → u.target ≡ t
+target_found us t n u h = eqb-true u.target t (and_one (u.target == t) (u.unit == n) (found_at us t n u h))
+
+pub number_found : (us : List UnitState) (t n : ℕ) (u : UnitState) → unit_state_at us t n ≡ Some u → u.unit ≡ n
+number_found us t n u h = eqb-true u.unit n (and_two (u.target == t) (u.unit == n) (found_at us t n u h))
+
+held_is : (s : ScenarioValue) (a : Array) (dev n : ℕ) → IsSound s a → is_held a.holds dev n ≡ Seats.is_any_held (seat_of a dev n).hold
+held_is s a dev n sound = held_at a.holds dev n sound.holds
+
+-- ---- room
+
+pub room_is : (s : ScenarioValue) (a : Array) (dev n : ℕ) → IsSound s a → room_if (Seats.is_any_held (seat_of a dev n).hold) (unit_state_at a.units dev n) ≡ room_of a (unit_state_at a.units dev n)
+room_is s a dev n sound = go (unit_state_at a.units dev n) refl
+  where
+    go : (x : Option UnitState) → unit_state_at a.units dev n ≡ x → room_if (Seats.is_any_held (seat_of a dev n).hold) x ≡ room_of a x
+    go None e = refl
+    go (Some u) e =
+        let held : Seats.is_any_held (seat_of a dev n).hold ≡ is_held a.holds u.target u.unit =
+        sym (held_is s a dev n sound) ∙ (λ i. is_held a.holds (sym (target_found a.units dev n u e) i) (sym (number_found a.units dev n u e) i)) in
+        λ i. Some (room_at (held i) u)
+
+-- ---- what is ready first
+
+current_same : (x : Option UnitState) → Seats.current_of x ≡ due.current_of x
+current_same None = refl
+current_same (Some u) = refl
+
+pub ready_is : (s : ScenarioValue) (a : Array) (times : List ℕ) (dev seek n : ℕ) → IsSound s a
+    → ready_unit (wants.ready_in (Seats.is_any_held (seat_of a dev n).hold) (Seats.current_of (seat_of a dev n).unit) (due.since_of a.units times dev n + seek)) ≡ ready_unit (due.ready_at a times seek dev n)
+ready_is s a times dev seek n sound = λ i. ready_unit (wants.ready_in (sym (held_is s a dev n sound) i) (current_same (unit_state_at a.units dev n) i) (due.since_of a.units times dev n + seek))
+
+pub own_number : (s : ScenarioValue) (a : Array) (dev n : ℕ) → IsSound s a → (r : RunningProcess) → Seats.current_of (seat_of a dev n).unit ≡ Some r → r.process.unit ≡ n
+own_number s a dev n sound r e = go (unit_state_at a.units dev n) refl e
+  where
+    go : (x : Option UnitState) → unit_state_at a.units dev n ≡ x → Seats.current_of x ≡ Some r → r.process.unit ≡ n
+    go None f k = cc
+    go (Some u) f k = running u.current (own_unit s a.units dev n u sound.units f).current k ∙ number_found a.units dev n u f
+      where
+        running : (c : Option RunningProcess) → IsOwnRunning s u.target u.unit c → c ≡ Some r → r.process.unit ≡ u.unit
+        running None own m = cc
+        running (Some q) own m = let same : q ≡ r = cc in (λ i. (sym same i).process.unit) ∙ own.unit_is
+
+before_same : (x y : wants.Ready) → wants.is_ready_before x y ≡ is_before (record { time = x.time; initiator = x.process.initiator; unit = x.process.unit }) (record { time = y.time; initiator = y.process.initiator; unit = y.process.unit })
+before_same x y = refl
+
+pub first_same : (x y : Option wants.Ready) → first_unit (ready_unit x) (ready_unit y) ≡ ready_unit (wants.first_ready x y)
+first_same None y = refl
+first_same (Some x) None = refl
+first_same (Some x) (Some y) = go (wants.is_ready_before y x)
+  where
+    go : (z : Bool) → (if z then ready_unit (Some y) else ready_unit (Some x)) ≡ ready_unit (if z then Some y else Some x)
+    go true = refl
+    go false = refl
+
+-- ---- what a command would answer
+
+pub context_same : (a : Array) (dev n from : ℕ) → context_at a (record { initiator = from; target = dev; unit = n }) (unit_state_at a.units dev n) ≡ Seats.context_of (seat_of a dev n) from
+context_same a dev n from = go (unit_state_at a.units dev n)
+  where
+    go : (x : Option UnitState) → context_at a (record { initiator = from; target = dev; unit = n }) x ≡ record { present = is_some x; contents = Seats.contents_of x; stored = (seat_of a dev n).senses from; attention = (seat_of a dev n).attentions from }
+    go None = refl
+    go (Some u) = refl
+
+pub size_same : (x : Option UnitState) → (Seats.contents_of x).size ≡ size_of x
+size_same None = refl
+size_same (Some u) = refl
+
+-- The first of eight.
+pub eight_first : (a b c d e f g h : Option wants.Ready)
+    → first_unit (ready_unit a) (first_unit (ready_unit b) (first_unit (ready_unit c) (first_unit (ready_unit d) (first_unit (ready_unit e) (first_unit (ready_unit f) (first_unit (ready_unit g) (first_unit (ready_unit h) None)))))))
+    ≡ ready_unit (wants.ready_by (a ∷ b ∷ c ∷ d ∷ e ∷ f ∷ g ∷ h ∷ []))
+eight_first a b c d e f g h =
+    let r8 : first_unit (ready_unit h) None ≡ ready_unit (wants.ready_by (h ∷ [])) = first_same h None in
+    let r7 : first_unit (ready_unit g) (first_unit (ready_unit h) None) ≡ ready_unit (wants.ready_by (g ∷ h ∷ [])) = (λ i. first_unit (ready_unit g) (r8 i)) ∙ first_same g (wants.ready_by (h ∷ [])) in
+    let r6 = (λ i. first_unit (ready_unit f) (r7 i)) ∙ first_same f (wants.ready_by (g ∷ h ∷ [])) in
+    let r5 = (λ i. first_unit (ready_unit e) (r6 i)) ∙ first_same e (wants.ready_by (f ∷ g ∷ h ∷ [])) in
+    let r4 = (λ i. first_unit (ready_unit d) (r5 i)) ∙ first_same d (wants.ready_by (e ∷ f ∷ g ∷ h ∷ [])) in
+    let r3 = (λ i. first_unit (ready_unit c) (r4 i)) ∙ first_same c (wants.ready_by (d ∷ e ∷ f ∷ g ∷ h ∷ [])) in
+    let r2 = (λ i. first_unit (ready_unit b) (r3 i)) ∙ first_same b (wants.ready_by (c ∷ d ∷ e ∷ f ∷ g ∷ h ∷ [])) in
+    (λ i. first_unit (ready_unit a) (r2 i)) ∙ first_same a (wants.ready_by (b ∷ c ∷ d ∷ e ∷ f ∷ g ∷ h ∷ []))
+
+pub reply_same : (a : Array) (dev n from : ℕ) (cdb : List ℕ) (p : Process) → p.target ≡ dev → p.unit ≡ n → p.initiator ≡ from → p.cdb ≡ cdb → (execution (Seats.context_of (seat_of a dev n) from) cdb p.sent).reply ≡ reply_now a p
+reply_same a dev n from cdb p target unit initiator block =
+    (λ i. (execution (Seats.context_of (seat_of a (sym target i) (sym unit i)) (sym initiator i)) (sym block i) p.sent).reply)
+    ∙ (λ i. (execution (sym (context_same a p.target p.unit p.initiator) i) p.cdb p.sent).reply)

@@ -1,0 +1,5 @@
+pub mod Seated
+pub mod Absent
+pub mod Readies
+pub mod Units
+pub mod Fillings

@@ -1,0 +1,25 @@
+//! The logical units of a target, each at its seat of the plain disk array (ANSI X3.131-1994, clauses 7 to 9).
+//!
+//! [`Units`] are the eight of a target: a [`LogicalUnit`] is there, a [`SeatedUnit`] with its queue, its hold and its
+//! blocks, or it is not, an [`AbsentUnit`], which keeps senses and a hold all the same. [`Ready`] is the unit whose
+//! current process is ready for a reselection. Stands on `disk_unit`, `tag_queue`, `scsi_device` and the definitions of
+//! `disk_array` and `bus_due`.
+//!
+//! Public contract: where each unit stands at its seat (`specs/Units.antt`, `AreUnitsOf`), as it does before any event,
+//! it does so after every event that the array permits, with the choice that follows it; and what it tells is that of
+//! the array. Only `new` and `of` take memory.
+#![tactic(auto)]
+
+mod absent;
+mod fillings;
+mod logical;
+mod parts;
+mod ready;
+mod seated;
+mod units;
+
+pub use absent::AbsentUnit;
+pub use logical::LogicalUnit;
+pub use ready::Ready;
+pub use seated::SeatedUnit;
+pub use units::{Units, units_stay};
