@@ -1,9 +1,8 @@
-//! The tests of every crate, in one crate above them all: what no clause says, values from the standard and
-//! from an independent simulator, and each public function once on its happy path.
+//! The tests of whole texts, of the initiators of whole traces, and of the whole program: what no clause says, and
+//! whole rows from an independent simulator. Those of the parts below stand in `part_tests`.
 //!
-//! A crate that has tests is proved twice, with them and without, and so none below has any. Each module
-//! here names the crate that it tests, and uses of it what is public. `driven_rows` are the rows that
-//! several of them are made of.
+//! A crate that has tests is proved twice, with them and without, and so no other but these two has any. Each module
+//! here names the crate that it tests, and uses of it what is public.
 //!
 //! It stands on all libraries of this repository, and nothing stands on it. It has no public contract.
 #![tactic(auto)]
@@ -11,44 +10,8 @@
 #[cfg(test)]
 mod built_runs;
 #[cfg(test)]
-mod commands;
-#[cfg(test)]
-mod disks;
-#[cfg(test)]
-mod driven_rows;
-#[cfg(test)]
-mod dumps;
-#[cfg(test)]
-mod hands;
-#[cfg(test)]
-mod host_pointers;
-#[cfg(test)]
 mod hosts;
-#[cfg(test)]
-mod initiators;
-#[cfg(test)]
-mod io_pieces;
-#[cfg(test)]
-mod judges;
-#[cfg(test)]
-mod line_views;
-#[cfg(test)]
-mod links;
-#[cfg(test)]
-mod messages;
-#[cfg(test)]
-mod negotiations;
-#[cfg(test)]
-mod observers;
-#[cfg(test)]
-mod queues;
-#[cfg(test)]
-mod scenario_texts;
 #[cfg(test)]
 mod trace_texts;
 #[cfg(test)]
-mod units;
-#[cfg(test)]
 mod whole_program;
-#[cfg(test)]
-mod words;

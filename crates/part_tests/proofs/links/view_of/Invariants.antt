@@ -3,7 +3,7 @@ use Rattle.std.specs.List.{AllByRecursion}
 use Rattle.bus_trace.specs.declared.Row.{Row}
 use Rattle.bus_lines.specs.BusView.{IsBusViewOf}
 use Rattle.connect.specs.Ready.{time_limit}
-use Rattle.bus_tests.proofs.links.view_of.Given as goal
+use Rattle.part_tests.proofs.links.view_of.Given as goal
 
 -- The view is that of some rows, all before the limit.
 abbrev pub invariant-loop-time : goal.invariant-loop-time

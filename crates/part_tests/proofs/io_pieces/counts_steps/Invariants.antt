@@ -1,5 +1,5 @@
 -- The ledger is the blank's.
-use Rattle.bus_tests.proofs.io_pieces.counts_steps.Given as goal
+use Rattle.part_tests.proofs.io_pieces.counts_steps.Given as goal
 
 abbrev pub ghosts-two_steps : goal.ghosts-two_steps
 ghosts-two_steps a = record { name = a.blank.name; parts = a.blank.parts }

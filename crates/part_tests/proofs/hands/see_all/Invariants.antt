@@ -1,5 +1,5 @@
 use Rattle.handshake.specs.Early.{IsEarly}
-use Rattle.bus_tests.proofs.hands.see_all.Given as goal
+use Rattle.part_tests.proofs.hands.see_all.Given as goal
 
 abbrev pub invariant-loop-time : goal.invariant-loop-time
 invariant-loop-time l = IsEarly l.view

@@ -1,5 +1,5 @@
 use Rattle.handshake.specs.Early.{IsEarly}
-use Rattle.bus_tests.proofs.hands.are_next_in.Given as goal
+use Rattle.part_tests.proofs.hands.are_next_out.Given as goal
 
 abbrev pub invariant-loop-row : goal.invariant-loop-row
 invariant-loop-row l = IsEarly l.view

@@ -1,6 +1,6 @@
 use Rattle.std.proofs.Common.{◌<◌, arith}
 use Rattle.connect.specs.Ready.{time_limit}
-use Rattle.bus_tests.proofs.links.view_of.Goals as goal
+use Rattle.part_tests.proofs.links.view_of.Goals as goal
 
 pub returns : goal.returns
 returns c =

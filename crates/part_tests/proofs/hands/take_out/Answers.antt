@@ -1,5 +1,5 @@
 use Rattle.std.proofs.Common.{◌^◌, arith}
-use Rattle.bus_tests.proofs.hands.take_struck.Goals as goal
+use Rattle.part_tests.proofs.hands.take_out.Goals as goal
 
 pub step-requires-clause-timely : goal.step-requires-clause-timely
 step-requires-clause-timely c =
