@@ -16,9 +16,11 @@ use Rattle.disk_array.specs.Units.{RunningProcess, guest_at, starting_array}
 use Rattle.disk_array.specs.Steps.{running_if, unit_without}
 use Rattle.disk_array.specs.Seats
 use Rattle.disk_array.specs.Seats.{Seat, settled_seat}
+use Rattle.disk_unit.specs.Plans.{sense_if}
 use Rattle.disk_unit.specs.Units.{told_of}
 use Rattle.disk_unit.specs.declared.unit.Reply.{Reply as UnitReply}
 use Rattle.disk_unit.proofs.Keeping.{set_at, length_set}
+use Rattle.target_units.specs.Seated.{IsSensing}
 use Rattle.target_units.specs.Absent.{AbsentState, IsAbsentAt, nothing_kept, absent_with, absent_by_guest, absent_after_guest, absent_after_abort}
 
 -- ---- the choice
@@ -129,13 +131,25 @@ after_status seat v p reply h lt = go (reply.status == CHECK_CONDITION)
     go true = put seat (record seat { senses = Seats.with_sense_of seat.senses p.initiator (Some reply.sense); hold = Seats.with_hold_of seat.hold p.initiator true }) v p.initiator (Some reply.sense) true h lt h.none refl refl
     go false = without (reply.status == GOOD && is_request_sense (command_of p.cdb))
 
+absent_sensing : (v : AbsentState) (dev : ℕ) (p : Process) (reply : Reply) (senses : Bool) → IsSensing reply p senses → absent_after_guest v dev (told_of reply) (is_request_sense (command_of p.cdb)) ≡ absent_after_guest v dev (told_of reply) senses
+absent_sensing v dev p reply senses h = go (sense_if reply)
+  where
+    good : (y : Bool) → (y ≡ true → is_request_sense (command_of p.cdb) ≡ senses)
+        → (if y && is_request_sense (command_of p.cdb) then absent_with v dev None false else v) ≡ (if y && senses then absent_with v dev None false else v)
+    good true k = λ i. if k refl i then absent_with v dev None false else v
+    good false k = refl
+
+    go : (x : Option Sense) → absent_by_guest v dev (is_request_sense (command_of p.cdb)) reply.status x ≡ absent_by_guest v dev senses reply.status x
+    go (Some sense) = refl
+    go None = good (reply.status == GOOD) h
+
 pub guest_ends : (seat after : Seat) (v : AbsentState) (status : ℕ) (id : ProcId) (p : Process) (given : Reply) (from : ℕ) (reply : UnitReply) (senses : Bool) → from < 8 → IsAbsentAt seat v → guest_at seat.guests id ≡ Some (record { process = p; reply = Some given })
-    → p.initiator ≡ from → reply ≡ told_of given → is_request_sense (command_of p.cdb) ≡ senses → Seats.seat_after_end id status seat ≡ Some after → IsAbsentAt (settled_seat after) (absent_after_guest v from reply senses)
+    → p.initiator ≡ from → reply ≡ told_of given → IsSensing given p senses → Seats.seat_after_end id status seat ≡ Some after → IsAbsentAt (settled_seat after) (absent_after_guest v from reply senses)
 guest_ends seat after v status id p given from reply senses lt h g same told sense e =
     let seen : (if given.status == status then Some (Seats.seat_without (Seats.seat_after_status seat p given) p.id) else None) ≡ Some after =
     (λ i. Seats.seat_after_end_of seat status (if is_some (sym g i) then sym g i else running_if (Seats.current_of seat.unit) id)) ∙ e in
     let kept : IsAbsentAt (Seats.seat_after_status seat p given) (absent_after_guest v from reply senses) =
-    subst (λ (w : AbsentState). IsAbsentAt (Seats.seat_after_status seat p given) w) (λ i. absent_after_guest v (same i) (sym told i) (sense i))
+    subst (λ (w : AbsentState). IsAbsentAt (Seats.seat_after_status seat p given) w) ((λ i. absent_after_guest v (same i) (told_of given) (is_request_sense (command_of p.cdb))) ∙ absent_sensing v from p given senses sense ∙ (λ i. absent_after_guest v from (sym told i) senses))
     (after_status seat v p given h (subst (λ (n : ℕ). n < 8) (sym same) lt)) in
     go (given.status == status) seen kept
   where

@@ -5,7 +5,11 @@ pub mod AbsentReplies
 pub mod AbsentSteps
 pub mod Tellings
 pub mod UnitTimes
+pub mod Rooms
+pub mod Arrivals
 pub mod UnitSteps
+pub mod UnitRuns
 pub mod Holds
 pub mod UnitTellings
+pub mod Sendings
 pub mod Starts

@@ -1,7 +1,9 @@
 -- A unit at its seat after each event and the choice that follows it.
-use Rattle.std.proofs.Common.{ℕ, ◌≡◌, ◌<◌, Bool, true, false, List, [], ◌∷◌, ◌++◌, ◌∙◌, refl, sym, subst, Option, Some, None, Result, Ok, Err}
-use Rattle.std.specs.Prelude.{if◌then◌else◌, ◌&&◌, ◌||◌, ◌==◌, not, is_some, is_none}
+use Rattle.std.proofs.Common.{ℕ, ◌≡◌, ◌<◌, ◌≤◌, ◌+◌, ◌*◌, length, take, arith, Bool, true, false, List, [], ◌∷◌, ◌++◌, ◌∙◌, refl, sym, subst, Option, Some, None, Result, Ok, Err}
+use Rattle.std.specs.Prelude.{if◌then◌else◌, ◌&&◌, ◌||◌, ◌==◌, not, nat_le, is_some, is_none}
 use Rattle.std.proofs.lemmas.Bool.{eqb-true}
+use Rattle.std.proofs.lemmas.Bool.Decides.{nat_tests}
+use Rattle.std.proofs.lemmas.List.{take_all}
 use Rattle.bus_base.specs.declared.AbortKind.{AbortKind}
 use Rattle.bus_base.specs.declared.AbortKind.TheVariants as aborts
 use Rattle.bus_base.specs.declared.ProcId.{ProcId}
@@ -21,7 +23,7 @@ use Rattle.disk_array.specs.Execution.{Reply, CommandContext, Execution, executi
 use Rattle.disk_array.specs.Order.{entry_of, choice}
 use Rattle.disk_array.specs.Processes.{Process, same_id}
 use Rattle.disk_array.specs.Units.{RunningProcess, UnitState, with_current, has_no_current, guest_at, without_guest}
-use Rattle.disk_array.specs.Steps.{running_if, current_with_reply, unit_without, guests_with_reply, kept_running, kept_guests, has_tag}
+use Rattle.disk_array.specs.Steps.{process_count, running_if, current_with_reply, unit_without, guests_with_reply, kept_running, kept_guests, has_tag}
 use Rattle.disk_array.specs.Seats
 use Rattle.disk_array.specs.Seats.{Seat, unit_with_choice, unit_with_reply, unit_with_contents, unit_kept}
 use Rattle.tag_queue.specs.Queue.{key_of_process}
@@ -29,7 +31,7 @@ use Rattle.tag_queue.specs.declared.those.Those.TheVariants as those
 use Rattle.disk_unit.specs.AtSeats.{IsUnitAt}
 use Rattle.disk_unit.specs.Books.{UnitBooks, block_at, attention_at, initiator_at, books_with, books_after_choice, books_after_end, books_without, books_after_abort, books_after_abort_tag, books_after_reset}
 use Rattle.disk_unit.specs.Books
-use Rattle.disk_unit.specs.Disk.{disk_execution, disk_reply, disk_extent, is_carried_out, disk_context}
+use Rattle.disk_unit.specs.Disk.{blocks_written, blocks_written_by, written_of, disk_execution, disk_reply, disk_extent, is_carried_out, disk_context}
 use Rattle.disk_unit.specs.Keeping.{books_after_status}
 use Rattle.disk_unit.specs.LiveCommands.{LiveCommand, HasLive, IsCurrentOf, process_under, has_process, queued_of, live_but, has_this_key, is_one_of}
 use Rattle.disk_unit.specs.Plans.{sense_if}
@@ -39,9 +41,10 @@ use Rattle.disk_unit.specs.declared.unit.Accepted.{Accepted}
 use Rattle.disk_unit.specs.declared.unit.Accepted.TheVariants as accepted
 use Rattle.disk_unit.specs.declared.unit.Reply.{Reply as UnitReply}
 use Rattle.disk_unit.proofs.AtSeats as seats
-use Rattle.disk_unit.proofs.LiveCommands.{id_self, same_id_is, process_found}
+use Rattle.disk_unit.proofs.LiveCommands.{id_self, same_id_is, process_found, room_is}
 use Rattle.bus_due.specs.RunSteps.{is_same_running}
-use Rattle.target_units.specs.Seated.{SeatedState, IsSeated, IsAtSeat, IsSince, current_reply, reply_told, current_id, running_id, is_same_process, seat_time, settled, since_after, reply_kept, with_books, AreQueued, IsProcess, IsNew, IsArrived, IsRun, IsRunLive, HasSent, aborted_reply, state_after_failure, state_after_end, state_ended, state_after_loss, books_after_guest, books_by_guest, IsCut}
+use Rattle.target_units.specs.Rooms.{HasRoomFor}
+use Rattle.target_units.specs.Seated.{SeatedState, IsSeated, IsAtSeat, IsSince, current_reply, reply_told, current_id, running_id, is_same_process, seat_time, settled, since_after, reply_kept, with_books, AreQueued, IsProcess, IsNew, IsArrived, IsRun, IsRunLive, can_run, taken_at, HasSent, aborted_reply, state_after_failure, state_after_end, state_ended, state_after_loss, books_after_guest, books_by_guest, IsSensing, IsCut}
 use Rattle.target_units.proofs.LiveQueue as queue
 
 some_none : {A : Type 0} {X : Type 0} (x : A) → None ≡ Some x → X
@@ -199,6 +202,33 @@ refuses hosts seat time now v w p id from tag class cdb result a h words new ful
       subst (λ (z : SeatedState). AtAfter hosts seat (Seats.seat_with_guest seat p (Some queue_full)) time now (settled (current_id v.books) now z)) (sym x.2)
           (beside hosts seat time now v h p (Some queue_full) fresh),
     )
+
+-- Where the array refuses it the queue is full.
+pub refused_full : (hosts : List HostDef) (seat after : Seat) (time : ℕ) (v w : SeatedState) (p : Process) (id : ProcId) (from : ℕ) (tag : Option ℕ) (class : Class) (cdb : List ℕ) (result : Accepted) → IsArrived v (entry_with id from tag class (disk_extent cdb)) cdb result w
+    → IsAtSeat hosts seat time v → IsProcess p id from tag class cdb → Seats.seat_after_refuse p seat ≡ Some after → result ≡ accepted.Full
+refused_full hosts seat after time v w p id from tag class cdb result a h words e =
+    go result (own_words v w p id from tag class cdb result words a)
+    (full_at (not (is_request_sense (command_of p.cdb))) (process_count h.1 == h.1.depth) ((λ i. Seats.seat_after_refuse_at seat p (sym h.2.kept.there i)) ∙ e))
+  where
+    full_at : (y z : Bool) → (if y && z then Some (Seats.seat_with_guest seat p (Some queue_full)) else None) ≡ Some after → (y ≡ true) × (z ≡ true)
+    full_at true true k = (refl, refl)
+    full_at true false k = some_none after k
+    full_at false z k = some_none after k
+
+    go : (r : Accepted) → IsArrived v (entry_of p) p.cdb r w → (not (is_request_sense (command_of p.cdb)) ≡ true) × ((process_count h.1 == h.1.depth) ≡ true) → r ≡ accepted.Full
+    go accepted.Full k full = refl
+    go accepted.AtOnce k full = let bad : false ≡ true = (λ i. not (sym k.0 i)) ∙ full.0 in cc
+    go (accepted.Queued key) k full =
+        let count : process_count h.1 ≡ length v.books.queue.arrived = room_is h.0 h.1 v.books h.2.kept.commands in
+        let depth : v.books.queue.depth ≡ h.1.depth = h.2.kept.commands.depth in
+        let same : process_count h.1 ≡ h.1.depth = eqb-true (process_count h.1) h.1.depth full.1 in
+        absurd (omega (arith, count, depth, same, k.1))
+
+-- An arrival takes none of its memory.
+pub arrival_spare : (v w : SeatedState) (entry : Entry) (cdb : List ℕ) (result : Accepted) → IsArrived v entry cdb result w → w.spare ≡ v.spare
+arrival_spare v w entry cdb accepted.AtOnce a = λ i. (a.1 i).spare
+arrival_spare v w entry cdb accepted.Full a = λ i. (a.2 i).spare
+arrival_spare v w entry cdb (accepted.Queued key) a = λ i. (a.4 i).spare
 
 -- What the call of the unit tells.
 pub arrived_by : (v w : SeatedState) (entry : Entry) (cdb : List ℕ) (result : Accepted) → w ≡ with_books v w.books → Units.IsAccepted (is_request_sense (command_of cdb)) v.books entry cdb w.books result → IsArrived v entry cdb result w
@@ -391,6 +421,19 @@ ends hosts seat after time now v id status h none e =
     (queue.queued_by hosts seat.guests (without_guest seat.guests p.id) (λ other n. queue.none_without seat.guests p.id other n) (live_but (has_this_key k.key) h.0) (queue.queued_but hosts seat.guests (has_this_key k.key) h.0 h.2.queued)))
     h.2.pick (without_reply h.1.current p.id v.reply (is_reply h.1.current v.reply h.2.reply)) refl)
 
+-- No command that leaves takes of its memory.
+pub end_spare : (v : SeatedState) (x : Option ℕ) → (state_after_end v x).spare ≡ v.spare
+end_spare v None = refl
+end_spare v (Some key) = go v.reply
+  where
+    go : (reply : Option UnitReply) → (state_ended v key reply).spare ≡ v.spare
+    go None = refl
+    go (Some reply) = refl
+
+pub loss_spare : (v : SeatedState) (x : Option ℕ) → (state_after_loss v x).spare ≡ v.spare
+loss_spare v None = refl
+loss_spare v (Some key) = refl
+
 -- ---- a process outside the queue ends
 
 guest_books : (b : UnitBooks) (p : Process) (reply : Reply) → books_after_guest b p.initiator (told_of reply) (is_request_sense (command_of p.cdb)) ≡ books_after_status b p reply
@@ -399,6 +442,18 @@ guest_books b p reply = go (reply.status == CHECK_CONDITION)
     go : (y : Bool) → books_by_guest b p.initiator (is_request_sense (command_of p.cdb)) reply.status (if y then Some reply.sense else None) ≡ (if y then Books.books_with_sense b p.initiator reply.sense else if reply.status == GOOD && is_request_sense (command_of p.cdb) then Books.books_without_sense b p.initiator else b)
     go true = refl
     go false = refl
+
+guest_sensing : (b : UnitBooks) (p : Process) (reply : Reply) (senses : Bool) → IsSensing reply p senses → books_after_guest b p.initiator (told_of reply) senses ≡ books_after_guest b p.initiator (told_of reply) (is_request_sense (command_of p.cdb))
+guest_sensing b p reply senses h = go (sense_if reply)
+  where
+    good : (y : Bool) → (y ≡ true → is_request_sense (command_of p.cdb) ≡ senses)
+        → (if y && senses then Books.books_without_sense b p.initiator else b) ≡ (if y && is_request_sense (command_of p.cdb) then Books.books_without_sense b p.initiator else b)
+    good true k = λ i. if sym (k refl) i then Books.books_without_sense b p.initiator else b
+    good false k = refl
+
+    go : (x : Option Sense) → books_by_guest b p.initiator senses reply.status x ≡ books_by_guest b p.initiator (is_request_sense (command_of p.cdb)) reply.status x
+    go (Some sense) = refl
+    go None = good (reply.status == GOOD) h
 
 guest_end_step : (seat after : Seat) (id : ProcId) (status : ℕ) (p : Process) (reply : Reply) → guest_at seat.guests id ≡ Some (record { process = p; reply = Some reply }) → Seats.seat_after_end id status seat ≡ Some after → Seats.seat_without (Seats.seat_after_status seat p reply) p.id ≡ after
 guest_end_step seat after id status p reply g e =
@@ -409,7 +464,7 @@ guest_end_step seat after id status p reply g e =
     go true k = cc
 
 pub guest_ends : (hosts : List HostDef) (seat after : Seat) (time now : ℕ) (v : SeatedState) (from : ℕ) (reply : UnitReply) (senses : Bool) (status : ℕ) (id : ProcId) (p : Process) (given : Reply) → from < 8 → IsAtSeat hosts seat time v
-    → guest_at seat.guests id ≡ Some (record { process = p; reply = Some given }) → p.initiator ≡ from → reply ≡ told_of given → is_request_sense (command_of p.cdb) ≡ senses → Seats.seat_after_end id status seat ≡ Some after
+    → guest_at seat.guests id ≡ Some (record { process = p; reply = Some given }) → p.initiator ≡ from → reply ≡ told_of given → IsSensing given p senses → Seats.seat_after_end id status seat ≡ Some after
     → AtAfter hosts seat after time now (settled (current_id v.books) now (with_books v (books_after_guest v.books from reply senses)))
 guest_ends hosts seat after time now v from reply senses status id p given lt h g initiator told sense e =
     let same : p.id ≡ id = queue.guest_id seat.guests id (record { process = p; reply = Some given }) g in
@@ -418,7 +473,7 @@ guest_ends hosts seat after time now v from reply senses status id p given lt h 
     let next : Seat = Seats.seat_without (Seats.seat_after_status seat p given) p.id in
     let w : SeatedState = with_books v (books_after_status v.books p given) in
     let state : with_books v (books_after_guest v.books from reply senses) ≡ w =
-    (λ i. with_books v (books_after_guest v.books (sym initiator i) (told i) (sym sense i))) ∙ (λ i. with_books v (guest_books v.books p given i)) in
+    (λ i. with_books v (books_after_guest v.books (sym initiator i) (told i) senses)) ∙ (λ i. with_books v (guest_sensing v.books p given senses sense i)) ∙ (λ i. with_books v (guest_books v.books p given i)) in
     let guests : next.guests ≡ without_guest seat.guests p.id = (λ i. without_guest (status_guests seat p given i) p.id) in
     moved hosts seat next after time now (settled (current_id v.books) now w) (settled (current_id v.books) now (with_books v (books_after_guest v.books from reply senses))) (guest_end_step seat after id status p given g e)
     (λ i. settled (current_id v.books) now (state i))
@@ -481,23 +536,24 @@ aborts_at hosts seat time now v w kind by lt cut h = cuts hosts seat time now v 
 
 -- ---- a command runs
 
+-- Without a fault, and with a good range, a command ends GOOD.
+command_good : (c : Contents) (command : Command) → (command_execution (disk_context c) command []).reply.status ≡ GOOD
+command_good c commands.TestUnitReady = refl
+command_good c (commands.RequestSense room) = refl
+command_good c (commands.Read6 lba count) = refl
+command_good c (commands.Write6 lba count) = refl
+command_good c (commands.Inquiry room) = refl
+command_good c commands.ReadCapacity = refl
+command_good c (commands.Read10 lba count) = refl
+command_good c (commands.Write10 lba count) = refl
+
 -- A command that is not carried out changes nothing, whatever was sent.
 not_carried : (c : Contents) (cdb sent : List ℕ) → is_carried_out c cdb ≡ false → (disk_execution c cdb sent).contents ≡ c
 not_carried c cdb sent h = go (command_of cdb) h
   where
-    command_kept : (command : Command) → (command_execution (disk_context c) command []).reply.status ≡ GOOD
-    command_kept commands.TestUnitReady = refl
-    command_kept (commands.RequestSense room) = refl
-    command_kept (commands.Read6 lba count) = refl
-    command_kept (commands.Write6 lba count) = refl
-    command_kept (commands.Inquiry room) = refl
-    command_kept commands.ReadCapacity = refl
-    command_kept (commands.Read10 lba count) = refl
-    command_kept (commands.Write10 lba count) = refl
-
     good : (command : Command) (y : Bool) → ((if y then command_execution (disk_context c) command [] else reply_execution (disk_context c) (check_condition block_out_of_range)).reply.status == GOOD) ≡ false
         → (if y then command_execution (disk_context c) command sent else reply_execution (disk_context c) (check_condition block_out_of_range)).contents ≡ c
-    good command true k = let bad : true ≡ false = (λ i. sym (command_kept command) i == GOOD) ∙ k in cc
+    good command true k = let bad : true ≡ false = (λ i. sym (command_good c command) i == GOOD) ∙ k in cc
     good command false k = refl
 
     go : (r : Result Command CdbFault) → ((cdb_execution (disk_context c) r []).reply.status == GOOD) ≡ false → (cdb_execution (disk_context c) r sent).contents ≡ c
@@ -580,10 +636,91 @@ run_reply r p reply kept e h =
     let self : same_id p.id p.id ≡ true = id_self p.id in
     subst (λ (x : Option RunningProcess). IsReply x kept) (sym ((λ i. current_with_reply (e i) p.id reply) ∙ (λ i. if self i then Some (record { process = p; reply = Some reply }) else Some (record { process = p; reply = None })))) h
 
+-- A command that is not carried out writes no blocks.
+not_written : (c : Contents) (cdb : List ℕ) → is_carried_out c cdb ≡ false → blocks_written c cdb ≡ 0
+not_written c cdb h = go (command_of cdb) h
+  where
+    ranged : (command : Command) (y : Bool) → ((if y then command_execution (disk_context c) command [] else reply_execution (disk_context c) (check_condition block_out_of_range)).reply.status == GOOD) ≡ false
+        → (if y then written_of command else 0) ≡ 0
+    ranged command false k = refl
+    ranged command true k = let bad : true ≡ false = (λ i. sym (command_good c command) i == GOOD) ∙ k in cc
+
+    go : (r : Result Command CdbFault) → ((cdb_execution (disk_context c) r []).reply.status == GOOD) ≡ false → blocks_written_by c r ≡ 0
+    go (Ok command) k = ranged command (is_good_range c.count (range_of command)) k
+    go (Err fault) k = refl
+
+-- The command of this key may run with these bytes, and they are those of the process where it is carried out.
+record MayRun (seat : Seat) (v : SeatedState) (key : ℕ) (p : Process) (sent : List ℕ) : Type 0 where
+  can : can_run v key (length sent) ≡ true
+  sends : HasSent seat p (take (taken_at v key) sent)
+
+both_true : (x y : Bool) → x ≡ true → y ≡ true → (x && y) ≡ true
+both_true x y a b = (λ i. a i && y) ∙ b
+
+at_most : (m n : ℕ) → m ≤ n → nat_le m n ≡ true
+at_most m n h = grind (arith, nat_tests, h)
+
+reported_bad : (attention : Option Sense) (cdb : List ℕ) (reply : Reply) → is_reported attention cdb ≡ true → (reply_with attention cdb reply).status ≡ GOOD → ⊥
+reported_bad None cdb reply f e = cc
+reported_bad (Some a) cdb reply f e = let bad : CHECK_CONDITION ≡ GOOD = (λ i. (if sym f i then check_condition a else reply).status) ∙ e in omega (arith, bad)
+
+may_run : (hosts : List HostDef) (seat : Seat) (time : ℕ) (v : SeatedState) (p : Process) (key : ℕ) (sent : List ℕ) (h : IsAtSeat hosts seat time v) → process_under h.0 key ≡ Some p → queue.IsQueued hosts seat.guests p → HasSent seat p sent → HasRoomFor seat p v.spare → MayRun seat v key p sent
+may_run hosts seat time v p key sent h under q sending room =
+    by (is_reported (attention_at v.books key) (block_at v.books key)) refl
+  where
+    block : block_at v.books key ≡ p.cdb
+    block = (seats.ran hosts h.0 v.contents h.1 seat v.books key p h.2.kept under q.below q.host q.sense).0
+
+    contents : Seats.contents_of seat.unit ≡ v.contents
+    contents = (λ i. Seats.contents_of (h.2.kept.there i)) ∙ h.2.kept.contents
+
+    blocks : ℕ
+    blocks = blocks_written v.contents (block_at v.books key)
+
+    named : blocks_written (Seats.contents_of seat.unit) p.cdb ≡ blocks
+    named = λ i. blocks_written (contents i) (sym block i)
+
+    fits : nat_le blocks v.spare ≡ true
+    fits = at_most blocks v.spare (subst (λ (n : ℕ). n ≤ v.spare) named room.blocks)
+
+    status : (done_at seat p).reply.status ≡ (reply_with (attention_at v.books key) (block_at v.books key) (disk_reply v.contents (block_at v.books key))).status
+    status = λ i. ((seats.ran hosts h.0 v.contents h.1 seat v.books key p h.2.kept under q.below q.host q.sense).1 i).reply.status
+
+    plainly : is_reported (attention_at v.books key) (block_at v.books key) ≡ false → reply_with (attention_at v.books key) (block_at v.books key) (disk_reply v.contents (block_at v.books key)) ≡ disk_reply v.contents (block_at v.books key)
+    plainly f = unreported (attention_at v.books key) (block_at v.books key) (disk_reply v.contents (block_at v.books key)) f
+
+    -- Nothing is taken, and it is not carried out.
+    nothing : taken_at v key ≡ 0 → ((done_at seat p).reply.status ≡ GOOD → ⊥) → MayRun seat v key p sent
+    nothing none bad = record {
+      can = both_true (nat_le (taken_at v key) (length sent)) (nat_le blocks v.spare) (at_most (taken_at v key) (length sent) (omega (arith, none))) fits;
+      sends = λ good. absurd (bad good);
+    }
+
+    carried : is_reported (attention_at v.books key) (block_at v.books key) ≡ false → (y : Bool) → is_carried_out v.contents (block_at v.books key) ≡ y → MayRun seat v key p sent
+    carried f false k =
+        nothing
+        ((λ i. if f i then 0 else blocks * v.contents.size) ∙ (λ i. not_written v.contents (block_at v.books key) k i * v.contents.size) ∙ omega arith)
+        (λ good.
+        let plain : (disk_reply v.contents (block_at v.books key)).status ≡ GOOD = (λ i. (sym (plainly f) i).status) ∙ sym status ∙ good in
+        let bad : true ≡ false = (λ i. sym plain i == GOOD) ∙ k in cc)
+    carried f true k =
+        let good : (done_at seat p).reply.status ≡ GOOD = status ∙ (λ i. (plainly f i).status) ∙ eqb-true (disk_reply v.contents (block_at v.books key)).status GOOD k in
+        let same : sent ≡ p.sent = sending good in
+        let taken : taken_at v key ≡ length sent =
+        (λ i. if f i then 0 else blocks * v.contents.size) ∙ (λ i. sym named i * (sym contents i).size) ∙ sym (room.bytes good) ∙ (λ i. length (sym same i)) in
+        record {
+          can = both_true (nat_le (taken_at v key) (length sent)) (nat_le blocks v.spare) (at_most (taken_at v key) (length sent) (omega (arith, taken))) fits;
+          sends = λ g. take_all (taken_at v key) sent (omega (arith, taken)) ∙ sending g;
+        }
+
+    by : (y : Bool) → is_reported (attention_at v.books key) (block_at v.books key) ≡ y → MayRun seat v key p sent
+    by true f = nothing (λ i. if f i then 0 else blocks * v.contents.size) (λ good. reported_bad (attention_at v.books key) (block_at v.books key) (disk_reply v.contents (block_at v.books key)) f (sym status ∙ good))
+    by false f = carried f (is_carried_out v.contents (block_at v.books key)) refl
+
 pub runs : (hosts : List HostDef) (seat after : Seat) (time now : ℕ) (v w : SeatedState) (id : ProcId) (p : Process) (sent : List ℕ) (result : Option UnitReply) → IsRunLive v sent (key_of_process v.books.queue.arrived id) result w → IsAtSeat hosts seat time v → p.id ≡ id → guest_at seat.guests id ≡ None
-    → Seats.running_at seat id ≡ Some (record { process = p; reply = None }) → HasSent seat p sent → is_some result ≡ true → Seats.seat_after_run id seat ≡ Some after
-    → AtAfter hosts seat after time now (settled (current_id v.books) now w) × (result ≡ Some (told_of (done_at seat p).reply))
-runs hosts seat after time now v w id p sent result ran h same none running_is sending some e =
+    → Seats.running_at seat id ≡ Some (record { process = p; reply = None }) → HasSent seat p sent → HasRoomFor seat p v.spare → Seats.seat_after_run id seat ≡ Some after
+    → AtAfter hosts seat after time now (settled (current_id v.books) now w) × (result ≡ Some (told_of (done_at seat p).reply)) × (v.spare ≤ w.spare + blocks_written (Seats.contents_of seat.unit) p.cdb)
+runs hosts seat after time now v w id p sent result ran h same none running_is sending room e =
     let current : h.1.current ≡ Some (record { process = p; reply = None }) = current_found seat h.1 p None id h.2.kept.there none running_is in
     let k : IsCurrentKey h.0 v.books p = current_key h.0 h.1 v.books p None h.2.kept.commands current in
     let q : queue.IsQueued hosts seat.guests p = queue.queued_under hosts seat.guests h.0 k.key p h.2.queued k.under in
@@ -591,20 +728,33 @@ runs hosts seat after time now v w id p sent result ran h same none running_is s
     let own : IsRunLive v sent (Some k.key) result w = subst (λ (x : Option ℕ). IsRunLive v sent x result w) found ran in
     let step : Seats.seat_after_run id seat ≡ Some (Seats.seat_with_execution seat p (done_at seat p)) =
     (λ i. Seats.seat_after_run (sym same i) seat) ∙ seats.run_at hosts seat h.1 p h.2.kept.there current q.no_guest (hold_empty seat after id p none running_is e) in
-    go current k q (same_seat (Seats.seat_with_execution seat p (done_at seat p)) after (Seats.seat_after_run id seat) step e) result own some
+    go current k q (same_seat (Seats.seat_with_execution seat p (done_at seat p)) after (Seats.seat_after_run id seat) step e) (may_run hosts seat time v p k.key sent h k.under q sending room) result own
   where
-    go : h.1.current ≡ Some (record { process = p; reply = None }) → (k : IsCurrentKey h.0 v.books p) → queue.IsQueued hosts seat.guests p → Seats.seat_with_execution seat p (done_at seat p) ≡ after → (x : Option UnitReply) → IsRunLive v sent (Some k.key) x w → is_some x ≡ true
-        → AtAfter hosts seat after time now (settled (current_id v.books) now w) × (x ≡ Some (told_of (done_at seat p).reply))
-    go current k q it None r y = cc
-    go current k q it (Some reply) r y =
+    go : h.1.current ≡ Some (record { process = p; reply = None }) → (k : IsCurrentKey h.0 v.books p) → queue.IsQueued hosts seat.guests p → Seats.seat_with_execution seat p (done_at seat p) ≡ after → MayRun seat v k.key p sent → (x : Option UnitReply) → IsRunLive v sent (Some k.key) x w
+        → AtAfter hosts seat after time now (settled (current_id v.books) now w) × (x ≡ Some (told_of (done_at seat p).reply)) × (v.spare ≤ w.spare + blocks_written (Seats.contents_of seat.unit) p.cdb)
+    go current k q it may None r = let bad : true ≡ false = sym may.can ∙ r.0 in cc
+    go current k q it may (Some reply) r =
         let next : Seat = Seats.seat_with_execution seat p (done_at seat p) in
-        let m : IsRunning hosts seat next v w h.0 h.1 p sent = running hosts seat time v w p k.key sent h k.under q sending r.1 in (
+        let taken : List ℕ = take (taken_at v k.key) sent in
+        let m : IsRunning hosts seat next v w h.0 h.1 p taken = running hosts seat time v w p k.key taken h k.under q may.sends r.1 in
+        let block : block_at v.books k.key ≡ p.cdb = (seats.ran hosts h.0 v.contents h.1 seat v.books k.key p h.2.kept k.under q.below q.host q.sense).0 in
+        let written : blocks_written v.contents (block_at v.books k.key) ≡ blocks_written (Seats.contents_of seat.unit) p.cdb =
+        (λ i. blocks_written (sym h.2.kept.contents i) (block i)) ∙ (λ i. blocks_written (Seats.contents_of (sym h.2.kept.there i)) p.cdb) in (
           subst (λ (s : Seat). AtAfter hosts seat s time now (settled (current_id v.books) now w)) it
               (settles hosts seat time now h.0 h.1 v h.2 h.0 (unit_with_reply p.id (done_at seat p).reply (unit_with_contents (done_at seat p).contents h.1)) next w m.kept
               (queue.queued_by hosts seat.guests (guests_with_reply seat.guests p.id (done_at seat p).reply) (λ other n. queue.none_replied seat.guests p.id (done_at seat p).reply other n) h.0 h.2.queued)
               (r.1.pick ∙ h.2.pick) (run_reply h.1.current p (done_at seat p).reply w.reply current m.replied) r.1.since),
           r.2 ∙ m.replied,
+          subst (λ (n : ℕ). v.spare ≤ w.spare + n) written r.1.spare,
         )
+
+-- A process of the queue is no REQUEST SENSE.
+pub runs_plain : (hosts : List HostDef) (seat : Seat) (time : ℕ) (v : SeatedState) (id : ProcId) (p : Process) → IsAtSeat hosts seat time v → guest_at seat.guests id ≡ None → Seats.running_at seat id ≡ Some (record { process = p; reply = None }) → is_request_sense (command_of p.cdb) ≡ false
+runs_plain hosts seat time v id p h none running_is =
+    let current : h.1.current ≡ Some (record { process = p; reply = None }) = current_found seat h.1 p None id h.2.kept.there none running_is in
+    let k : IsCurrentKey h.0 v.books p = current_key h.0 h.1 v.books p None h.2.kept.commands current in
+    let q : queue.IsQueued hosts seat.guests p = queue.queued_under hosts seat.guests h.0 k.key p h.2.queued k.under in
+    q.sense
 
 -- ---- a REQUEST SENSE runs outside the queue
 
@@ -672,7 +822,7 @@ other_kept (Some r) id reply h = go (same_id r.process.id id) h
 
 pub guest_runs : (hosts : List HostDef) (seat after : Seat) (time now : ℕ) (v w : SeatedState) (id : ProcId) (r : RunningProcess) (sent : List ℕ) (result : Option UnitReply) → IsRunLive v sent (key_of_process v.books.queue.arrived id) result w → IsAtSeat hosts seat time v
     → guest_at seat.guests id ≡ Some r → is_request_sense (command_of r.process.cdb) ≡ true → heeds_attention r.process.cdb ≡ false → Seats.seat_after_run id seat ≡ Some after
-    → AtAfter hosts seat after time now (settled (current_id v.books) now w)
+    → AtAfter hosts seat after time now (settled (current_id v.books) now w) × (w.spare ≡ v.spare)
 guest_runs hosts seat after time now v w id r sent result ran h g sense heeds e =
     let p : Process = r.process in
     let done : Execution = done_at seat p in
@@ -686,13 +836,15 @@ guest_runs hosts seat after time now v w id r sent result ran h g sense heeds e 
     (λ i. Seats.seat_with_reply (record seat { unit = Seats.unit_mapped (unit_with_contents (kept.contents i)) seat.unit; attentions = if kept.reported i then Seats.with_sense_of seat.attentions p.initiator None else seat.attentions }) p.id done.reply)
     ∙ (λ i. Seats.seat_with_reply (record seat { unit = unit_kept_so seat.unit i }) p.id done.reply) in
     let current : current_with_reply h.1.current p.id done.reply ≡ h.1.current =
-    other_kept h.1.current p.id done.reply ((λ i. running_if h.1.current (same i)) ∙ not_current h.0 h.1 v.books id h.2.kept.commands fresh) in
-    moved hosts seat next after time now (settled (current_id v.books) now v) (settled (current_id v.books) now w) (sym it ∙ guest_run_step seat after id r g e)
-    (λ i. settled (current_id v.books) now (stays.1 i))
-    (settles hosts seat time now h.0 h.1 v h.2 h.0 (unit_with_reply p.id done.reply h.1) next v
-    (seats.failed hosts h.0 v.contents h.1 seat v.books p.id done.reply h.2.kept)
-    (queue.queued_by hosts seat.guests next.guests (λ other n. queue.none_replied seat.guests p.id done.reply other n) h.0 h.2.queued) h.2.pick
-    (subst (λ (x : Option RunningProcess). IsReply x v.reply) (sym current) (is_reply h.1.current v.reply h.2.reply)) refl)
+    other_kept h.1.current p.id done.reply ((λ i. running_if h.1.current (same i)) ∙ not_current h.0 h.1 v.books id h.2.kept.commands fresh) in (
+      moved hosts seat next after time now (settled (current_id v.books) now v) (settled (current_id v.books) now w) (sym it ∙ guest_run_step seat after id r g e)
+          (λ i. settled (current_id v.books) now (stays.1 i))
+          (settles hosts seat time now h.0 h.1 v h.2 h.0 (unit_with_reply p.id done.reply h.1) next v
+          (seats.failed hosts h.0 v.contents h.1 seat v.books p.id done.reply h.2.kept)
+          (queue.queued_by hosts seat.guests next.guests (λ other n. queue.none_replied seat.guests p.id done.reply other n) h.0 h.2.queued) h.2.pick
+          (subst (λ (x : Option RunningProcess). IsReply x v.reply) (sym current) (is_reply h.1.current v.reply h.2.reply)) refl),
+      λ i. (stays.1 i).spare,
+    )
 
 -- What the call of the unit tells of the contents.
 pub contents_after : (c d : Contents) (block sent : List ℕ) (reported : Bool) → (reported ≡ true → d ≡ c) → (is_carried_out c block ≡ false → d ≡ c) → (reported ≡ false → is_carried_out c block ≡ true → d ≡ (disk_execution c block sent).contents)

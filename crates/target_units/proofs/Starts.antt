@@ -10,7 +10,7 @@ use Rattle.disk_array.specs.Seats.{seat_of}
 use Rattle.disk_array.specs.Units.{Array, UnitState, starting_array, starting_unit, starting_units, units_after_choice, settled_array, pick_of}
 use Rattle.bus_due.specs.Wants.{since_of}
 use Rattle.target_units.specs.declared.logical.LogicalUnit.{LogicalUnit}
-use Rattle.target_units.specs.Units.{IsUnitOf, AreUnitsOf, unit_in}
+use Rattle.target_units.specs.Units.{IsUnitOf, AreUnitsOf, HaveRoom, unit_in}
 use Rattle.disk_unit.specs.AtSeats.{IsUnitAt}
 use Rattle.disk_unit.specs.Books.{UnitBooks}
 use Rattle.disk_unit.proofs.AtSeats as seats
@@ -66,7 +66,7 @@ chosen_start : (s : ScenarioValue) (us : List UnitDef) → units_after_choice []
 chosen_start s [] = refl
 chosen_start s (u ∷ us) = λ i. starting_unit s u ∷ chosen_start s us i
 
-start_settled : (s : ScenarioValue) → settled_array (starting_array s) ≡ starting_array s
+pub start_settled : (s : ScenarioValue) → settled_array (starting_array s) ≡ starting_array s
 start_settled s = λ i. record (starting_array s) { units = chosen_start s s.units i }
 
 start_length : (s : ScenarioValue) (us : List UnitDef) → length (starting_units s us) ≡ length us
@@ -87,13 +87,14 @@ since_start (u ∷ us) (suc k) t n = go (u.target == t && u.unit == n) (since_st
     go false h = h
 
 pub units_start : (s : ScenarioValue) (dev : ℕ) (units : List LogicalUnit) → length units ≡ 8 → ((n : ℕ) → n < 8 → IsUnitOf s.hosts (seat_of (starting_array s) dev n) 0 (unit_in units n))
-    → AreUnitsOf s (settled_array (starting_array s)) (replicate (length s.units) 0) dev units
-units_start s dev units eight h =
+    → HaveRoom s (starting_array s) dev units → AreUnitsOf s (settled_array (starting_array s)) (replicate (length s.units) 0) dev units
+units_start s dev units eight h room =
     subst (λ (a : Array). AreUnitsOf s a (replicate (length s.units) 0) dev units) (sym (start_settled s))
     (record {
       timed = times_length (length s.units) ∙ sym (start_length s s.units);
       eight = eight;
       each = λ n lt. subst (λ (t : ℕ). IsUnitOf s.hosts (seat_of (starting_array s) dev n) t (unit_in units n)) (sym (since_start (starting_units s s.units) (length s.units) dev n)) (h n lt);
+      room = room;
     })
 
 -- ---- the unit of a line, and one that is not there

@@ -1,5 +1,5 @@
 -- The units of a target after each event.
-use Rattle.std.proofs.Common.{ℕ, zero, suc, ◌≡◌, ◌<◌, Bool, true, false, List, [], ◌∷◌, ◌∙◌, refl, sym, subst, length, length-set, get_or, set, arith, Option, Some, None}
+use Rattle.std.proofs.Common.{ℕ, zero, suc, ◌≡◌, ◌<◌, ◌≤◌, Bool, true, false, List, [], ◌∷◌, ◌∙◌, refl, sym, subst, length, length-set, get_or, set, arith, Option, Some, None}
 use Rattle.std.specs.Prelude.{if◌then◌else◌, ◌&&◌, ◌||◌, ◌==◌, not, is_some, is_none}
 use Rattle.std.proofs.lemmas.Bool.{eqb-true, eqb-false}
 use Rattle.std.proofs.lemmas.List.{get_or-set_same, get_or-set_other}
@@ -8,6 +8,7 @@ use Rattle.bus_base.specs.declared.AbortKind.TheVariants as aborts
 use Rattle.bus_base.specs.declared.Event.{Event}
 use Rattle.bus_base.specs.declared.Event.TheVariants as events
 use Rattle.scenario.specs.declared.value.HostDef.{HostDef}
+use Rattle.scenario.specs.Lookups.{unit_of}
 use Rattle.scenario.specs.Value.{ScenarioValue}
 use Rattle.cdb_codec.specs.declared.sense.TheConstants.{ABORTED_COMMAND}
 use Rattle.disk_array.specs.Execution.{Reply, execution, check_condition, sense_of}
@@ -23,21 +24,21 @@ use Rattle.bus_due.specs.Wants.{since_of}
 use Rattle.bus_due.specs.RunSteps.{is_same_running, current_times_after}
 use Rattle.target_units.specs.declared.logical.LogicalUnit.{LogicalUnit}
 use Rattle.target_units.specs.declared.logical.LogicalUnit.TheVariants as kinds
-use Rattle.target_units.specs.Absent.{nothing_kept}
 use Rattle.target_units.specs.Seated.{SeatedState, IsAtSeat, IsSince, seat_time}
-use Rattle.target_units.specs.Units.{IsUnitOf, AreUnitsOf, AreUnitsAfter, IsStep, unit_in, unit_after_reset, is_of_one}
+use Rattle.target_units.specs.Rooms.{blocks_left_at}
+use Rattle.target_units.specs.Units.{IsUnitOf, AreUnitsOf, AreUnitsAfter, IsStep, unit_in, unit_after_reset, is_of_one, no_unit, contents_in, state_contents, spare_of, HaveRoom}
 use Rattle.target_units.proofs.AbsentSteps as absent
 use Rattle.target_units.proofs.SeatSteps.{resets}
-use Rattle.target_units.proofs.UnitTimes.{AreSame, step_same, none_after, times_after, since_after}
-
--- What stands past the eight units.
-abbrev no_unit : LogicalUnit
-no_unit = kinds.Absent nothing_kept
+use Rattle.target_units.proofs.Rooms.{left_at_less, lines_after}
+use Rattle.target_units.proofs.UnitTimes.{AreSame, IsLater, step_later, none_after, times_after, since_after}
 
 -- ---- one unit
 
-pub same_units : (s : ScenarioValue) (event : Event) (a b : Array) → IsStep s event a b → AreSame a.units b.units
-same_units s event a b st = step_same s a b event st.step_is
+pub later : (s : ScenarioValue) (event : Event) (a b : Array) → IsStep s event a b → IsLater a b
+later s event a b st = step_later s a b event st.step_is
+
+same_units : (s : ScenarioValue) (event : Event) (a b : Array) → IsStep s event a b → AreSame a.units b.units
+same_units s event a b st = (later s event a b st).units
 
 none_stays : (s : ScenarioValue) (event : Event) (a b : Array) (dev n : ℕ) → IsStep s event a b → (seat_of a dev n).unit ≡ None → (seat_of b dev n).unit ≡ None
 none_stays s event a b dev n st h = none_after a.units b.units dev n (same_units s event a b st) h
@@ -87,6 +88,20 @@ elsewhere_unit s event a b times now dev n u st timed o h =
     unit_goes s event a b times now dev n u u st timed h
     (subst (λ (q : Seat). IsUnitOf s.hosts q (seat_time (seat_of a dev n) q (since_of a.units times dev n) now) u) (sym same) (unit_stays s.hosts (seat_of a dev n) (since_of a.units times dev n) now u h))
 
+-- ---- the memory for what is still written
+
+pub left_kept : (s : ScenarioValue) (event : Event) (a b : Array) (dev n m : ℕ) → IsStep s event a b → blocks_left_at a.replies (unit_of s dev n) s.commands ≤ m → blocks_left_at b.replies (unit_of s dev n) s.commands ≤ m
+left_kept s event a b dev n m st k =
+    let less = left_at_less a.replies b.replies (later s event a b st).replies (unit_of s dev n) s.commands in omega (arith, less, k)
+
+room_goes : (s : ScenarioValue) (event : Event) (a b : Array) (dev : ℕ) (units last : List LogicalUnit) → IsStep s event a b → HaveRoom s a dev units → ((n : ℕ) → n < 8 → blocks_left_at b.replies (unit_of s dev n) s.commands ≤ spare_of (unit_in last n)) → HaveRoom s b dev last
+room_goes s event a b dev units last st room left = record {
+  fits = room.fits;
+  target = room.target;
+  lines = lines_after s a b (later s event a b st) room.lines;
+  left = left;
+}
+
 -- ---- all of them
 
 timed_after : (s : ScenarioValue) (event : Event) (a b : Array) (times : List ℕ) (now : ℕ) → IsStep s event a b → length times ≡ length a.units → length (current_times_after a.units b.units times now) ≡ length b.units
@@ -97,19 +112,32 @@ all_stay s event a b times now dev units st h o = record {
   timed = timed_after s event a b times now st h.timed;
   eight = h.eight;
   each = λ n lt. elsewhere_unit s event a b times now dev n (unit_in units n) st h.timed (o n lt) (h.each n lt);
+  room = room_goes s event a b dev units units st h.room (λ n lt. left_kept s event a b dev n (spare_of (unit_in units n)) st (h.room.left n lt));
 }
 
 -- One of them becomes this one.
 pub one_goes : (s : ScenarioValue) (event : Event) (a b : Array) (times : List ℕ) (now dev n : ℕ) (units : List LogicalUnit) (x : LogicalUnit) → n < 8 → IsStep s event a b → AreUnitsOf s a times dev units
     → ((m : ℕ) → (n == m) ≡ false → is_elsewhere s event dev m ≡ true)
-    → IsUnitOf s.hosts (seat_of b dev n) (since_of b.units (current_times_after a.units b.units times now) dev n) x
+    → IsUnitOf s.hosts (seat_of b dev n) (since_of b.units (current_times_after a.units b.units times now) dev n) x → blocks_left_at b.replies (unit_of s dev n) s.commands ≤ spare_of x
     → AreUnitsAfter s a b times now dev (set units n x)
-one_goes s event a b times now dev n units x lt st h o k = record {
+one_goes s event a b times now dev n units x lt st h o k left = record {
   timed = timed_after s event a b times now st h.timed;
   eight = length-set units n x ∙ h.eight;
   each = λ m below. go m below (n == m) refl;
+  room = room_goes s event a b dev units (set units n x) st h.room (λ m below. room_of m below (n == m) refl);
 }
   where
+    room_of : (m : ℕ) → m < 8 → (y : Bool) → (n == m) ≡ y → blocks_left_at b.replies (unit_of s dev m) s.commands ≤ spare_of (unit_in (set units n x) m)
+    room_of m below true e =
+        let same : n ≡ m = eqb-true n m e in
+        let here : get_or (set units n x) n no_unit ≡ x = get_or-set_same units n x no_unit (omega (arith, h.eight, lt)) in
+        subst (λ (j : ℕ). blocks_left_at b.replies (unit_of s dev j) s.commands ≤ spare_of (unit_in (set units n x) j)) same
+        (subst (λ (z : LogicalUnit). blocks_left_at b.replies (unit_of s dev n) s.commands ≤ spare_of z) (sym here) left)
+    room_of m below false e =
+        let there : get_or (set units n x) m no_unit ≡ get_or units m no_unit = get_or-set_other units n m x no_unit (λ f. eqb-false n m e (sym f)) in
+        subst (λ (z : LogicalUnit). blocks_left_at b.replies (unit_of s dev m) s.commands ≤ spare_of z) (sym there)
+        (left_kept s event a b dev m (spare_of (unit_in units m)) st (h.room.left m below))
+
     go : (m : ℕ) → m < 8 → (y : Bool) → (n == m) ≡ y → IsUnitOf s.hosts (seat_of b dev m) (since_of b.units (current_times_after a.units b.units times now) dev m) (unit_in (set units n x) m)
     go m below true e =
         let same : n ≡ m = eqb-true n m e in
@@ -191,13 +219,20 @@ place_is units inside n d x eight lt same h =
 pub one_set : (s : ScenarioValue) (event : Event) (a b : Array) (times : List ℕ) (now dev n : ℕ) (units inside last : List LogicalUnit) (d u w : LogicalUnit) (x : Option Seat) → n < 8 → IsStep s event a b → AreUnitsOf s a times dev units
     → ((m : ℕ) → (n == m) ≡ false → is_elsewhere s event dev m ≡ true) → inside ≡ units → get_or inside n d ≡ u → last ≡ set inside n w → IsLeft x (seat_of b dev n)
     → ((after : Seat) → x ≡ Some after → IsUnitOf s.hosts (seat_of a dev n) (since_of a.units times dev n) u → IsUnitOf s.hosts (settled_seat after) (seat_time (seat_of a dev n) (settled_seat after) (since_of a.units times dev n) now) w)
+    → (blocks_left_at a.replies (unit_of s dev n) s.commands ≤ spare_of u → blocks_left_at b.replies (unit_of s dev n) s.commands ≤ spare_of w)
     → AreUnitsAfter s a b times now dev last
-one_set s event a b times now dev n units inside last d u w x lt st h o same is last_is left f =
+one_set s event a b times now dev n units inside last d u w x lt st h o same is last_is left f room =
+    let before : blocks_left_at a.replies (unit_of s dev n) s.commands ≤ spare_of u =
+    subst (λ (z : LogicalUnit). blocks_left_at a.replies (unit_of s dev n) s.commands ≤ spare_of z) (place_is units inside n d u h.eight lt same is) (h.room.left n lt) in
     let old : IsUnitOf s.hosts (seat_of a dev n) (since_of a.units times dev n) u = subst (λ (z : LogicalUnit). IsUnitOf s.hosts (seat_of a dev n) (since_of a.units times dev n) z) (place_is units inside n d u h.eight lt same is) (h.each n lt) in
     let next : IsUnitOf s.hosts (seat_of b dev n) (seat_time (seat_of a dev n) (seat_of b dev n) (since_of a.units times dev n) now) w =
     subst (λ (q : Seat). IsUnitOf s.hosts q (seat_time (seat_of a dev n) q (since_of a.units times dev n) now) w) left.settles (f left.seat left.is old) in
     subst (λ (z : List LogicalUnit). AreUnitsAfter s a b times now dev z) (sym (last_is ∙ (λ i. set (same i) n w)))
-    (one_goes s event a b times now dev n units w lt st h o (unit_goes s event a b times now dev n u w st h.timed old next))
+    (one_goes s event a b times now dev n units w lt st h o (unit_goes s event a b times now dev n u w st h.timed old next) (room before))
+
+-- An event but a run takes none of its memory.
+pub spare_stays : (s : ScenarioValue) (event : Event) (a b : Array) (dev n : ℕ) (u w : LogicalUnit) → IsStep s event a b → spare_of w ≡ spare_of u → blocks_left_at a.replies (unit_of s dev n) s.commands ≤ spare_of u → blocks_left_at b.replies (unit_of s dev n) s.commands ≤ spare_of w
+spare_stays s event a b dev n u w st same k = left_kept s event a b dev n (spare_of w) st (omega (arith, same, k))
 
 -- ---- aborts and resets
 
@@ -225,6 +260,10 @@ unit_resets : (hosts : List HostDef) (seat : Seat) (time now : ℕ) (u : Logical
 unit_resets hosts seat time now (kinds.There v) h = resets hosts seat time now v h
 unit_resets hosts seat time now (kinds.Absent v) h = absent.resets hosts seat v h
 
+reset_spare : (now : ℕ) (u : LogicalUnit) → spare_of (unit_after_reset now u) ≡ spare_of u
+reset_spare now (kinds.There v) = refl
+reset_spare now (kinds.Absent v) = refl
+
 pub all_reset : (s : ScenarioValue) (event : Event) (a b : Array) (times : List ℕ) (now dev : ℕ) (units last : List LogicalUnit) → IsStep s event a b → AreUnitsOf s a times dev units
     → ((n : ℕ) → settled_seat (Seats.seat_after_reset s.hosts (seat_of a dev n)) ≡ seat_of b dev n) → length last ≡ 8 → ((n : ℕ) → n < 8 → unit_in last n ≡ unit_after_reset now (unit_in units n)) → AreUnitsAfter s a b times now dev last
 all_reset s event a b times now dev units last st h seat eight each = record {
@@ -235,6 +274,10 @@ all_reset s event a b times now dev units last st h seat eight each = record {
       (unit_goes s event a b times now dev n (unit_in units n) (unit_after_reset now (unit_in units n)) st h.timed (h.each n lt)
       (subst (λ (q : Seat). IsUnitOf s.hosts q (seat_time (seat_of a dev n) q (since_of a.units times dev n) now) (unit_after_reset now (unit_in units n))) (seat n)
       (unit_resets s.hosts (seat_of a dev n) (since_of a.units times dev n) now (unit_in units n) (h.each n lt))));
+  room = room_goes s event a b dev units last st h.room
+      (λ n lt. left_kept s event a b dev n (spare_of (unit_in last n)) st
+      (let same : spare_of (unit_in last n) ≡ spare_of (unit_in units n) = (λ i. spare_of (each n lt i)) ∙ reset_spare now (unit_in units n) in
+      let k = h.room.left n lt in omega (arith, same, k)));
 }
 
 -- ---- the process that runs
@@ -323,3 +366,12 @@ accept_none s a p dev n seats sound own none =
     go : (x : Option Array) → seat_if x p.target p.unit ≡ None → x ≡ None
     go None k = refl
     go (Some b) k = cc
+
+-- ---- the blocks of a unit
+
+held_at : (hosts : List HostDef) (a : Array) (dev n time : ℕ) (u : LogicalUnit) → IsUnitOf hosts (seat_of a dev n) time u → contents_in u ≡ state_contents (unit_state_at a.units dev n)
+held_at hosts a dev n time (kinds.Absent v) h = λ i. state_contents (sym h.none i)
+held_at hosts a dev n time (kinds.There v) h = (λ i. Some (sym h.2.kept.contents i)) ∙ (λ i. state_contents (sym h.2.kept.there i))
+
+pub blocks_held : (s : ScenarioValue) (a : Array) (times : List ℕ) (dev n : ℕ) (units : List LogicalUnit) → AreUnitsOf s a times dev units → n < 8 → contents_in (unit_in units n) ≡ state_contents (unit_state_at a.units dev n)
+blocks_held s a times dev n units h lt = held_at s.hosts a dev n (since_of a.units times dev n) (unit_in units n) (h.each n lt)

@@ -1,5 +1,6 @@
--- The units of the array stand in one order, and their times beside them.
-use Rattle.std.proofs.Common.{ℕ, ◌≡◌, suc, Bool, true, false, List, [], ◌∷◌, ◌++◌, ◌∙◌, refl, sym, ap, subst, length, Option, Some, None}
+-- The units of the array stand in one order, with as many blocks of as many bytes, and their times beside them; and what was
+-- replied stays so.
+use Rattle.std.proofs.Common.{ℕ, ◌≡◌, ◌+◌, zero, suc, take, drop, Result, Ok, Err, Bool, true, false, List, [], ◌∷◌, ◌++◌, ◌∙◌, refl, sym, ap, subst, length, Option, Some, None}
 use Rattle.std.specs.Prelude.{if◌then◌else◌, ◌&&◌, ◌||◌, ◌==◌, not, is_some, is_none, nat_lt}
 use Rattle.std.proofs.lemmas.Bool.{eqb-true}
 use Rattle.bus_base.specs.declared.AbortKind.{AbortKind}
@@ -12,9 +13,17 @@ use Rattle.cdb_codec.specs.declared.status.TheConstants.{GOOD, CHECK_CONDITION}
 use Rattle.cdb_codec.specs.Cdb.{command_of}
 use Rattle.scenario.specs.declared.value.HostDef.{HostDef}
 use Rattle.scenario.specs.Value.{ScenarioValue}
-use Rattle.disk_array.specs.Execution.{Reply, Execution, execution, is_request_sense, check_condition, sense_of, queue_full, commands_cleared}
+use Rattle.cdb_codec.specs.Blocks.{blocks_moved}
+use Rattle.cdb_codec.specs.declared.Sense.{Sense}
+use Rattle.cdb_codec.specs.declared.command.Command.{Command}
+use Rattle.cdb_codec.specs.declared.command.Command.TheVariants as commands
+use Rattle.cdb_codec.specs.declared.command.CdbFault.{CdbFault}
+use Rattle.cdb_codec.specs.declared.command.CdbFault.TheVariants as faults
+use Rattle.disk_array.specs.ArrayHistory.{reply_in}
+use Rattle.disk_array.specs.Contents.{Contents, with_block, with_bytes}
+use Rattle.disk_array.specs.Execution.{Reply, CommandContext, Execution, execution, attention_execution, cdb_execution, command_execution, reply_execution, heeds_attention, needs_unit, unit_not_supported, is_good_range, range_of, block_out_of_range, is_request_sense, check_condition, sense_of, queue_full, commands_cleared}
 use Rattle.disk_array.specs.Order.{choice}
-use Rattle.disk_array.specs.Processes.{Process, process_of}
+use Rattle.disk_array.specs.Processes.{Process, process_of, same_id}
 use Rattle.disk_array.specs.Units.{RunningProcess, UnitState, Nexus, Array, is_held, unit_state_at, with_unit, guest_at, nexus_of, with_current, has_no_current, units_after_choice, sense_of_nexus, senses_without, nexuses_without, settled_array}
 use Rattle.disk_array.specs.Steps
 use Rattle.disk_array.specs.Steps.{event_step, step, settled_array_if}
@@ -22,16 +31,27 @@ use Rattle.disk_array.specs.Seats.{current_of}
 use Rattle.bus_due.specs.Wants.{since_of}
 use Rattle.bus_due.specs.RunSteps.{is_same_running, current_times_after}
 
+-- As many blocks, of as many bytes.
+pub record HasSameExtent (c d : Contents) : Type 0 where
+  pub count : d.count ≡ c.count
+  pub size : d.size ≡ c.size
+
+pub extent_self : (c : Contents) → HasSameExtent c c
+extent_self c = record { count = refl; size = refl }
+
 -- The same targets and numbers, in one order.
 abbrev pub AreSame : List UnitState → List UnitState → Type 0
 AreSame [] [] = Unit {0}
 AreSame [] (v ∷ after) = ⊥
 AreSame (u ∷ before) [] = ⊥
-AreSame (u ∷ before) (v ∷ after) = (v.target ≡ u.target) × (v.unit ≡ u.unit) × AreSame before after
+AreSame (u ∷ before) (v ∷ after) = (v.target ≡ u.target) × (v.unit ≡ u.unit) × HasSameExtent u.contents v.contents × AreSame before after
 
 same_self : (us : List UnitState) → AreSame us us
 same_self [] = tt
-same_self (u ∷ us) = (refl, refl, same_self us)
+same_self (u ∷ us) = (refl, refl, extent_self u.contents, same_self us)
+
+pub extent_more : (c d e : Contents) → HasSameExtent c d → HasSameExtent d e → HasSameExtent c e
+extent_more c d e h k = record { count = k.count ∙ h.count; size = k.size ∙ h.size }
 
 same_more : (us vs ws : List UnitState) → AreSame us vs → AreSame vs ws → AreSame us ws
 same_more [] [] [] h k = tt
@@ -39,199 +59,410 @@ same_more [] [] (w ∷ ws) h k = absurd k
 same_more [] (v ∷ vs) ws h k = absurd h
 same_more (u ∷ us) [] ws h k = absurd h
 same_more (u ∷ us) (v ∷ vs) [] h k = absurd k
-same_more (u ∷ us) (v ∷ vs) (w ∷ ws) h k = (k.0 ∙ h.0, k.1 ∙ h.1, same_more us vs ws h.2 k.2)
+same_more (u ∷ us) (v ∷ vs) (w ∷ ws) h k = (k.0 ∙ h.0, k.1 ∙ h.1, extent_more u.contents v.contents w.contents h.2 k.2, same_more us vs ws h.3 k.3)
+
+-- Whatever has no reply afterwards had none before.
+abbrev pub HasMore : List (ProcId × Reply) → List (ProcId × Reply) → Type 0
+HasMore old new = (id : ProcId) → reply_in new id ≡ None → reply_in old id ≡ None
+
+pub one_more : (old : List (ProcId × Reply)) (id : ProcId) (reply : Reply) → HasMore old ((id, reply) ∷ old)
+one_more old given reply id e = go (same_id given id) e
+  where
+    go : (y : Bool) → (if y then Some reply else reply_in old id) ≡ None → reply_in old id ≡ None
+    go true k = cc
+    go false k = k
+
+-- The array before and after.
+pub record IsLater (a b : Array) : Type 0 where
+  pub units : AreSame a.units b.units
+  pub replies : HasMore a.replies b.replies
+
+with_same : (a : Array) (us : List UnitState) → AreSame a.units us → (b : Array) → b.units ≡ us → b.replies ≡ a.replies → IsLater a b
+with_same a us h b e f = record {
+  units = subst (λ (vs : List UnitState). AreSame a.units vs) (sym e) h;
+  replies = λ id k. (λ i. reply_in (sym f i) id) ∙ k;
+}
+
+with_reply_too : (a : Array) (us : List UnitState) (id : ProcId) (reply : Reply) → AreSame a.units us → (b : Array) → b.units ≡ us → b.replies ≡ (id, reply) ∷ a.replies → IsLater a b
+with_reply_too a us id reply h b e f = record {
+  units = subst (λ (vs : List UnitState). AreSame a.units vs) (sym e) h;
+  replies = λ one k. one_more a.replies id reply one ((λ i. reply_in (sym f i) one) ∙ k);
+}
+
+later_more : (a b c : Array) → IsLater a b → IsLater b c → IsLater a c
+later_more a b c h k = record { units = same_more a.units b.units c.units h.units k.units; replies = λ id e. h.replies id (k.replies id e) }
 
 -- ---- each part of a step
 
 same_replied : (us : List UnitState) (id : ProcId) (reply : Reply) → AreSame us (Steps.units_with_reply us id reply)
 same_replied [] id reply = tt
-same_replied (u ∷ us) id reply = (refl, refl, same_replied us id reply)
+same_replied (u ∷ us) id reply = (refl, refl, extent_self u.contents, same_replied us id reply)
 
 same_without : (us : List UnitState) (id : ProcId) → AreSame us (Steps.units_without us id)
 same_without [] id = tt
-same_without (u ∷ us) id = (refl, refl, same_without us id)
+same_without (u ∷ us) id = (refl, refl, extent_self u.contents, same_without us id)
 
 same_kept : (drops : Process → Bool) (us : List UnitState) → AreSame us (Steps.kept_units drops us)
 same_kept drops [] = tt
-same_kept drops (u ∷ us) = (refl, refl, same_kept drops us)
+same_kept drops (u ∷ us) = (refl, refl, extent_self u.contents, same_kept drops us)
 
-same_with : (us : List UnitState) (new : UnitState) → AreSame us (with_unit us new)
-same_with [] new = tt
-same_with (u ∷ us) new = go (u.target == new.target) refl (u.unit == new.unit) refl (same_with us new)
+-- A unit takes the place of the one of its target and number.
+same_with : (us : List UnitState) (old new : UnitState) → unit_state_at us new.target new.unit ≡ Some old → HasSameExtent old.contents new.contents → AreSame us (with_unit us new)
+same_with [] old new found h = tt
+same_with (u ∷ us) old new found h = go (u.target == new.target) refl (u.unit == new.unit) refl found (λ k. same_with us old new k h)
   where
-    go : (y : Bool) → (u.target == new.target) ≡ y → (z : Bool) → (u.unit == new.unit) ≡ z → AreSame us (with_unit us new) → AreSame (u ∷ us) (if y && z then new ∷ us else u ∷ with_unit us new)
-    go true e true f more = (sym (eqb-true u.target new.target e), sym (eqb-true u.unit new.unit f), same_self us)
-    go true e false f more = (refl, refl, more)
-    go false e z f more = (refl, refl, more)
+    go : (y : Bool) → (u.target == new.target) ≡ y → (z : Bool) → (u.unit == new.unit) ≡ z → (if y && z then Some u else unit_state_at us new.target new.unit) ≡ Some old
+        → (unit_state_at us new.target new.unit ≡ Some old → AreSame us (with_unit us new)) → AreSame (u ∷ us) (if y && z then new ∷ us else u ∷ with_unit us new)
+    go true e true f k more =
+        let same : u ≡ old = cc in
+        (sym (eqb-true u.target new.target e), sym (eqb-true u.unit new.unit f), subst (λ (o : UnitState). HasSameExtent o.contents new.contents) (sym same) h, same_self us)
+    go true e false f k more = (refl, refl, extent_self u.contents, more k)
+    go false e z f k more = (refl, refl, extent_self u.contents, more k)
+
+-- The unit that stands at a place is of that place.
+place_found : (us : List UnitState) (t n : ℕ) (u : UnitState) → unit_state_at us t n ≡ Some u → unit_state_at us u.target u.unit ≡ Some u
+place_found us t n u e = let at = place_of us t n u e in subst (λ (x : ℕ). unit_state_at us x u.unit ≡ Some u) (sym at.0) (subst (λ (x : ℕ). unit_state_at us t x ≡ Some u) (sym at.1) e)
+  where
+    place_of : (vs : List UnitState) (t n : ℕ) (u : UnitState) → unit_state_at vs t n ≡ Some u → (u.target ≡ t) × (u.unit ≡ n)
+    place_of [] t n u e = cc
+    place_of (v ∷ vs) t n u e = go (v.target == t) refl (v.unit == n) refl e (λ k. place_of vs t n u k)
+      where
+        go : (y : Bool) → (v.target == t) ≡ y → (z : Bool) → (v.unit == n) ≡ z → (if y && z then Some v else unit_state_at vs t n) ≡ Some u → (unit_state_at vs t n ≡ Some u → (u.target ≡ t) × (u.unit ≡ n)) → (u.target ≡ t) × (u.unit ≡ n)
+        go true f true g k more = let same : v ≡ u = cc in ((λ i. (sym same i).target) ∙ eqb-true v.target t f, (λ i. (sym same i).unit) ∙ eqb-true v.unit n g)
+        go true f false g k more = more k
+        go false f z g k more = more k
 
 same_chosen : (holds : List Nexus) (us : List UnitState) → AreSame us (units_after_choice holds us)
 same_chosen holds [] = tt
 same_chosen holds (u ∷ us) = go (has_no_current u.current && not (is_held holds u.target u.unit)) (choice u.pick u.waiting) (same_chosen holds us)
   where
     go : (y : Bool) (p : Option Process) → AreSame us (units_after_choice holds us) → AreSame (u ∷ us) ((if y then with_current u p else u) ∷ units_after_choice holds us)
-    go true None more = (refl, refl, more)
-    go true (Some p) more = (refl, refl, more)
-    go false p more = (refl, refl, more)
+    go true None more = (refl, refl, extent_self u.contents, more)
+    go true (Some p) more = (refl, refl, extent_self u.contents, more)
+    go false p more = (refl, refl, extent_self u.contents, more)
 
-cleared_units : (by : ℕ) (lost : List Process) (a : Array) → (Steps.cleared_attentions by lost a).units ≡ a.units
-cleared_units by [] a = refl
-cleared_units by (p ∷ lost) a = go (p.initiator == by) (Steps.is_reset_pending (sense_of_nexus a.attentions (nexus_of p))) (λ x. cleared_units by lost x)
+-- A command changes no number of blocks, nor their size.
+bytes_extent : (n : ℕ) (c : Contents) (lba : ℕ) (bytes : List ℕ) → HasSameExtent c (with_bytes c lba n bytes)
+bytes_extent zero c lba bytes = extent_self c
+bytes_extent (suc n) c lba bytes =
+    extent_more c (with_block c lba (take c.size bytes)) (with_bytes (with_block c lba (take c.size bytes)) (lba + 1) n (drop c.size bytes)) (record { count = refl; size = refl })
+    (bytes_extent n (with_block c lba (take c.size bytes)) (lba + 1) (drop c.size bytes))
+
+pub extent_kept : (m : CommandContext) (cdb sent : List ℕ) → HasSameExtent m.contents (execution m cdb sent).contents
+extent_kept m cdb sent = all (not m.present && needs_unit cdb)
   where
-    go : (y z : Bool) → ((x : Array) → (Steps.cleared_attentions by lost x).units ≡ x.units) → (Steps.cleared_attentions by lost (if y then a else (if z then a else record a { attentions = (nexus_of p, commands_cleared) ∷ senses_without a.attentions (nexus_of p) }))).units ≡ a.units
+    command : (c : Command) → HasSameExtent m.contents (command_execution m c sent).contents
+    command commands.TestUnitReady = extent_self m.contents
+    command (commands.RequestSense room) = extent_self m.contents
+    command (commands.Read6 lba count) = extent_self m.contents
+    command (commands.Write6 lba count) = bytes_extent (blocks_moved (commands.Write6 lba count)) m.contents lba sent
+    command (commands.Inquiry room) = extent_self m.contents
+    command commands.ReadCapacity = extent_self m.contents
+    command (commands.Read10 lba count) = extent_self m.contents
+    command (commands.Write10 lba count) = bytes_extent count m.contents lba sent
+
+    in_range : (c : Command) (y : Bool) → HasSameExtent m.contents (if y then command_execution m c sent else reply_execution m (check_condition block_out_of_range)).contents
+    in_range c true = command c
+    in_range c false = extent_self m.contents
+
+    by : (r : Result Command CdbFault) → HasSameExtent m.contents (cdb_execution m r sent).contents
+    by (Ok c) = in_range c (is_good_range m.contents.count (range_of c))
+    by (Err faults.Opcode) = extent_self m.contents
+    by (Err faults.Length) = extent_self m.contents
+    by (Err faults.Field) = extent_self m.contents
+
+    by_attention : (o : Option Sense) → HasSameExtent m.contents (attention_execution m o cdb sent).contents
+    by_attention None = by (command_of cdb)
+    by_attention (Some sense) = go (heeds_attention cdb)
+      where
+        go : (y : Bool) → HasSameExtent m.contents (if y then record { contents = m.contents; reported = true; reply = check_condition sense } else cdb_execution m (command_of cdb) sent).contents
+        go true = extent_self m.contents
+        go false = by (command_of cdb)
+
+    all : (y : Bool) → HasSameExtent m.contents (if y then reply_execution m (check_condition unit_not_supported) else attention_execution m m.attention cdb sent).contents
+    all true = extent_self m.contents
+    all false = by_attention m.attention
+
+-- ---- senses, holds and attentions are no part of them
+
+-- The same units and replies.
+record IsBeside (a b : Array) : Type 0 where
+  units : b.units ≡ a.units
+  replies : b.replies ≡ a.replies
+
+beside_self : (a : Array) → IsBeside a a
+beside_self a = record { units = refl; replies = refl }
+
+beside_more : (a b c : Array) → IsBeside a b → IsBeside b c → IsBeside a c
+beside_more a b c h k = record { units = k.units ∙ h.units; replies = k.replies ∙ h.replies }
+
+cleared_beside : (by : ℕ) (lost : List Process) (a : Array) → IsBeside a (Steps.cleared_attentions by lost a)
+cleared_beside by [] a = beside_self a
+cleared_beside by (p ∷ lost) a = go (p.initiator == by) (Steps.is_reset_pending (sense_of_nexus a.attentions (nexus_of p))) (λ x. cleared_beside by lost x)
+  where
+    go : (y z : Bool) → ((x : Array) → IsBeside x (Steps.cleared_attentions by lost x)) → IsBeside a (Steps.cleared_attentions by lost (if y then a else (if z then a else record a { attentions = (nexus_of p, commands_cleared) ∷ senses_without a.attentions (nexus_of p) })))
     go true z more = more a
     go false true more = more a
-    go false false more = more (record a { attentions = (nexus_of p, commands_cleared) ∷ senses_without a.attentions (nexus_of p) })
+    go false false more =
+        let next : Array = record a { attentions = (nexus_of p, commands_cleared) ∷ senses_without a.attentions (nexus_of p) } in
+        beside_more a next (Steps.cleared_attentions by lost next) (record { units = refl; replies = refl }) (more next)
 
-reset_units : (hosts : List HostDef) (t n : ℕ) (a : Array) → (Steps.reset_attentions hosts t n a).units ≡ a.units
-reset_units [] t n a = refl
-reset_units (h ∷ hosts) t n a = reset_units hosts t n (Steps.reset_attention a (record { initiator = h.dev; target = t; unit = n }))
+reset_beside : (hosts : List HostDef) (t n : ℕ) (a : Array) → IsBeside a (Steps.reset_attentions hosts t n a)
+reset_beside [] t n a = beside_self a
+reset_beside (h ∷ hosts) t n a =
+    let next : Array = Steps.reset_attention a (record { initiator = h.dev; target = t; unit = n }) in
+    beside_more a next (Steps.reset_attentions hosts t n next) (record { units = refl; replies = refl }) (reset_beside hosts t n next)
 
-all_reset_units : (hosts : List HostDef) (us : List UnitState) (is_one : UnitState → Bool) (a : Array) → (Steps.unit_reset_attentions hosts us is_one a).units ≡ a.units
-all_reset_units hosts [] is_one a = refl
-all_reset_units hosts (u ∷ us) is_one a = go (is_one u) (λ x. all_reset_units hosts us is_one x)
+all_reset_beside : (hosts : List HostDef) (us : List UnitState) (is_one : UnitState → Bool) (a : Array) → IsBeside a (Steps.unit_reset_attentions hosts us is_one a)
+all_reset_beside hosts [] is_one a = beside_self a
+all_reset_beside hosts (u ∷ us) is_one a = go (is_one u) (λ x. all_reset_beside hosts us is_one x)
   where
-    go : (y : Bool) → ((x : Array) → (Steps.unit_reset_attentions hosts us is_one x).units ≡ x.units) → (Steps.unit_reset_attentions hosts us is_one (if y then Steps.reset_attentions hosts u.target u.unit a else a)).units ≡ a.units
-    go true more = more (Steps.reset_attentions hosts u.target u.unit a) ∙ reset_units hosts u.target u.unit a
+    go : (y : Bool) → ((x : Array) → IsBeside x (Steps.unit_reset_attentions hosts us is_one x)) → IsBeside a (Steps.unit_reset_attentions hosts us is_one (if y then Steps.reset_attentions hosts u.target u.unit a else a))
+    go true more =
+        let next : Array = Steps.reset_attentions hosts u.target u.unit a in
+        beside_more a next (Steps.unit_reset_attentions hosts us is_one next) (reset_beside hosts u.target u.unit a) (more next)
     go false more = more a
+
+status_beside : (a : Array) (p : Process) (reply : Reply) → IsBeside a (Steps.after_status a p reply)
+status_beside a p reply = go (reply.status == CHECK_CONDITION) (reply.status == GOOD && is_request_sense (command_of p.cdb))
+  where
+    go : (y z : Bool) → IsBeside a (if y then record a { senses = (nexus_of p, reply.sense) ∷ senses_without a.senses (nexus_of p); holds = nexus_of p ∷ nexuses_without a.holds (nexus_of p) } else if z then record a { senses = senses_without a.senses (nexus_of p); holds = nexuses_without a.holds (nexus_of p) } else a)
+    go true z = record { units = refl; replies = refl }
+    go false true = record { units = refl; replies = refl }
+    go false false = beside_self a
 
 -- ---- each event
 
-by_array : (us : List UnitState) (y x : Array) → AreSame us y.units → Some y ≡ Some x → AreSame us x.units
-by_array us y x h e = let same : y ≡ x = cc in subst (λ (z : Array). AreSame us z.units) same h
+by_array : (a y x : Array) → IsLater a y → Some y ≡ Some x → IsLater a x
+by_array a y x h e = let same : y ≡ x = cc in subst (λ (z : Array). IsLater a z) same h
 
 never : {A : Type 0} (x : Array) → None ≡ Some x → A
 never x e = cc
 
-accepted : (a x : Array) (p : Option Process) → Steps.accept_step a p ≡ Some x → AreSame a.units x.units
+accepted : (a x : Array) (p : Option Process) → Steps.accept_step a p ≡ Some x → IsLater a x
 accepted a x None e = never x e
-accepted a x (Some p) e = at (unit_state_at a.units p.target p.unit) e
+accepted a x (Some p) e = at (unit_state_at a.units p.target p.unit) refl e
   where
-    at : (u : Option UnitState) → Steps.accept_step_at a p u ≡ Some x → AreSame a.units x.units
-    at None k = by_array a.units (Steps.with_guest a p None) x (same_self a.units) k
-    at (Some u) k = sense (is_request_sense (command_of p.cdb)) k
+    outside : IsLater a (Steps.with_guest a p None)
+    outside = with_same a a.units (same_self a.units) (Steps.with_guest a p None) refl refl
+
+    at : (u : Option UnitState) → unit_state_at a.units p.target p.unit ≡ u → Steps.accept_step_at a p u ≡ Some x → IsLater a x
+    at None f k = by_array a (Steps.with_guest a p None) x outside k
+    at (Some u) f k = sense (is_request_sense (command_of p.cdb)) k
       where
-        room : (z : Bool) → (if z then Some (record a { units = with_unit a.units (record u { waiting = u.waiting ++ p ∷ [] }) }) else None) ≡ Some x → AreSame a.units x.units
-        room true m = by_array a.units (record a { units = with_unit a.units (record u { waiting = u.waiting ++ p ∷ [] }) }) x (same_with a.units (record u { waiting = u.waiting ++ p ∷ [] })) m
+        room : (z : Bool) → (if z then Some (record a { units = with_unit a.units (record u { waiting = u.waiting ++ p ∷ [] }) }) else None) ≡ Some x → IsLater a x
+        room true m =
+            let new : UnitState = record u { waiting = u.waiting ++ p ∷ [] } in
+            let next : Array = record a { units = with_unit a.units new } in
+            by_array a next x (with_same a (with_unit a.units new) (same_with a.units u new (place_found a.units p.target p.unit u f) (extent_self u.contents)) next refl refl) m
         room false m = never x m
 
-        sense : (y : Bool) → (if y then Some (Steps.with_guest a p None) else Steps.queue_step a p u) ≡ Some x → AreSame a.units x.units
-        sense true m = by_array a.units (Steps.with_guest a p None) x (same_self a.units) m
+        sense : (y : Bool) → (if y then Some (Steps.with_guest a p None) else Steps.queue_step a p u) ≡ Some x → IsLater a x
+        sense true m = by_array a (Steps.with_guest a p None) x outside m
         sense false m = room (nat_lt (Steps.process_count u) u.depth) m
 
-refused : (a x : Array) (p : Option Process) → Steps.refuse_step a p ≡ Some x → AreSame a.units x.units
+refused : (a x : Array) (p : Option Process) → Steps.refuse_step a p ≡ Some x → IsLater a x
 refused a x None e = never x e
 refused a x (Some p) e = at (unit_state_at a.units p.target p.unit) e
   where
-    at : (u : Option UnitState) → Steps.refuse_step_at a p u ≡ Some x → AreSame a.units x.units
+    at : (u : Option UnitState) → Steps.refuse_step_at a p u ≡ Some x → IsLater a x
     at None k = never x k
     at (Some u) k = full (not (is_request_sense (command_of p.cdb)) && Steps.process_count u == u.depth) k
       where
-        full : (y : Bool) → (if y then Some (Steps.with_listed_reply (Steps.with_guest a p (Some queue_full)) p.id queue_full) else None) ≡ Some x → AreSame a.units x.units
-        full true m = by_array a.units (Steps.with_listed_reply (Steps.with_guest a p (Some queue_full)) p.id queue_full) x (same_self a.units) m
+        full : (y : Bool) → (if y then Some (Steps.with_listed_reply (Steps.with_guest a p (Some queue_full)) p.id queue_full) else None) ≡ Some x → IsLater a x
+        full true m =
+            let next : Array = Steps.with_listed_reply (Steps.with_guest a p (Some queue_full)) p.id queue_full in
+            by_array a next x (with_reply_too a a.units p.id queue_full (same_self a.units) next refl refl) m
         full false m = never x m
 
-executed : (a : Array) (p : Process) (u : Option UnitState) (done : Execution) → AreSame a.units (Steps.after_execution a p u done).units
-executed a p u done = same_more a.units (Steps.with_contents (Steps.without_attention a done.reported (nexus_of p)) u done.contents).units (Steps.after_execution a p u done).units (at done.reported u)
-    (same_replied (Steps.with_contents (Steps.without_attention a done.reported (nexus_of p)) u done.contents).units p.id done.reply)
-  where
-    at : (y : Bool) (u : Option UnitState) → AreSame a.units (Steps.with_contents (Steps.without_attention a y (nexus_of p)) u done.contents).units
-    at true None = same_self a.units
-    at false None = same_self a.units
-    at true (Some u) = same_with a.units (record u { contents = done.contents })
-    at false (Some u) = same_with a.units (record u { contents = done.contents })
+-- What a command did takes the place of the contents of its unit.
+contents_later : (a : Array) (p : Process) (reported : Bool) (u : Option UnitState) (c : Contents) → unit_state_at a.units p.target p.unit ≡ u → ((v : UnitState) → u ≡ Some v → HasSameExtent v.contents c) → IsLater a (Steps.with_contents (Steps.without_attention a reported (nexus_of p)) u c)
+contents_later a p true None c f h = with_same a a.units (same_self a.units) (Steps.without_attention a true (nexus_of p)) refl refl
+contents_later a p false None c f h = with_same a a.units (same_self a.units) a refl refl
+contents_later a p true (Some u) c f h =
+    let new : UnitState = record u { contents = c } in
+    with_same a (with_unit a.units new) (same_with a.units u new (place_found a.units p.target p.unit u f) (h u refl)) (Steps.with_contents (Steps.without_attention a true (nexus_of p)) (Some u) c) refl refl
+contents_later a p false (Some u) c f h =
+    let new : UnitState = record u { contents = c } in
+    with_same a (with_unit a.units new) (same_with a.units u new (place_found a.units p.target p.unit u f) (h u refl)) (Steps.with_contents a (Some u) c) refl refl
 
-ran : (a x : Array) (guest : Bool) (r : Option RunningProcess) → Steps.run_step a guest r ≡ Some x → AreSame a.units x.units
+replied_later : (a : Array) (id : ProcId) (reply : Reply) → IsLater a (Steps.with_reply a id reply)
+replied_later a id reply = with_reply_too a (Steps.units_with_reply a.units id reply) id reply (same_replied a.units id reply) (Steps.with_reply a id reply) refl refl
+
+executed : (a : Array) (p : Process) → IsLater a (Steps.after_execution_at a p (unit_state_at a.units p.target p.unit))
+executed a p = go (unit_state_at a.units p.target p.unit) refl
+  where
+    extent : (u : Option UnitState) (v : UnitState) → u ≡ Some v → HasSameExtent v.contents (execution (Steps.context_at a (nexus_of p) u) p.cdb p.sent).contents
+    extent None v e = cc
+    extent (Some u) v e = let same : u ≡ v = cc in subst (λ (z : UnitState). HasSameExtent z.contents (execution (Steps.context_at a (nexus_of p) (Some u)) p.cdb p.sent).contents) same (extent_kept (Steps.context_at a (nexus_of p) (Some u)) p.cdb p.sent)
+
+    go : (u : Option UnitState) → unit_state_at a.units p.target p.unit ≡ u → IsLater a (Steps.after_execution_at a p u)
+    go u f =
+        let done : Execution = execution (Steps.context_at a (nexus_of p) u) p.cdb p.sent in
+        let next : Array = Steps.with_contents (Steps.without_attention a done.reported (nexus_of p)) u done.contents in
+        later_more a next (Steps.with_reply next p.id done.reply) (contents_later a p done.reported u done.contents f (extent u)) (replied_later next p.id done.reply)
+
+ran : (a x : Array) (guest : Bool) (r : Option RunningProcess) → Steps.run_step a guest r ≡ Some x → IsLater a x
 ran a x guest None e = never x e
 ran a x guest (Some r) e = go (is_none r.reply && (guest || not (is_held a.holds r.process.target r.process.unit))) e
   where
-    u : Option UnitState
-    u = unit_state_at a.units r.process.target r.process.unit
+    next : Array
+    next = Steps.after_execution_at a r.process (unit_state_at a.units r.process.target r.process.unit)
 
-    go : (y : Bool) → (if y then Some (Steps.after_execution_at a r.process u) else None) ≡ Some x → AreSame a.units x.units
-    go true k = by_array a.units (Steps.after_execution_at a r.process u) x (executed a r.process u (execution (Steps.context_at a (nexus_of r.process) u) r.process.cdb r.process.sent)) k
+    go : (y : Bool) → (if y then Some next else None) ≡ Some x → IsLater a x
+    go true k = by_array a next x (executed a r.process) k
     go false k = never x k
 
-failed_new : (a x : Array) (id : ProcId) (reply : Reply) (p : Option Process) → Steps.fail_step_of_new a id reply p ≡ Some x → AreSame a.units x.units
+failed_new : (a x : Array) (id : ProcId) (reply : Reply) (p : Option Process) → Steps.fail_step_of_new a id reply p ≡ Some x → IsLater a x
 failed_new a x id reply None e = never x e
 failed_new a x id reply (Some p) e = go (Steps.is_waiting a.units id || Steps.has_ended a id) e
   where
-    go : (y : Bool) → (if y then None else Some (Steps.with_listed_reply (Steps.with_guest a p (Some reply)) id reply)) ≡ Some x → AreSame a.units x.units
-    go true k = never x k
-    go false k = by_array a.units (Steps.with_listed_reply (Steps.with_guest a p (Some reply)) id reply) x (same_self a.units) k
+    next : Array
+    next = Steps.with_listed_reply (Steps.with_guest a p (Some reply)) id reply
 
-failed : (s : ScenarioValue) (a x : Array) (id : ProcId) (reply : Reply) (r : Option RunningProcess) → Steps.fail_step s a id reply r ≡ Some x → AreSame a.units x.units
+    go : (y : Bool) → (if y then None else Some next) ≡ Some x → IsLater a x
+    go true k = never x k
+    go false k = by_array a next x (with_reply_too a a.units id reply (same_self a.units) next refl refl) k
+
+failed : (s : ScenarioValue) (a x : Array) (id : ProcId) (reply : Reply) (r : Option RunningProcess) → Steps.fail_step s a id reply r ≡ Some x → IsLater a x
 failed s a x id reply None e = failed_new a x id reply (process_of s id) e
 failed s a x id reply (Some r) e = go (is_none r.reply) e
   where
-    go : (y : Bool) → (if y then Some (Steps.with_reply a id reply) else None) ≡ Some x → AreSame a.units x.units
-    go true k = by_array a.units (Steps.with_reply a id reply) x (same_replied a.units id reply) k
+    go : (y : Bool) → (if y then Some (Steps.with_reply a id reply) else None) ≡ Some x → IsLater a x
+    go true k = by_array a (Steps.with_reply a id reply) x (replied_later a id reply) k
     go false k = never x k
 
-status_units : (a : Array) (p : Process) (reply : Reply) → (Steps.after_status a p reply).units ≡ a.units
-status_units a p reply = go (reply.status == CHECK_CONDITION) (reply.status == GOOD && is_request_sense (command_of p.cdb))
-  where
-    go : (y z : Bool) → (if y then record a { senses = (nexus_of p, reply.sense) ∷ senses_without a.senses (nexus_of p); holds = nexus_of p ∷ nexuses_without a.holds (nexus_of p) } else if z then record a { senses = senses_without a.senses (nexus_of p); holds = nexuses_without a.holds (nexus_of p) } else a).units ≡ a.units
-    go true z = refl
-    go false true = refl
-    go false false = refl
+left_later : (a b : Array) (id : ProcId) → IsBeside a b → IsLater a (Steps.array_without b id)
+left_later a b id h = with_same a (Steps.units_without a.units id) (same_without a.units id) (Steps.array_without b id) (λ i. Steps.units_without (h.units i) id) h.replies
 
-ended : (a x : Array) (status : ℕ) (r : Option RunningProcess) → Steps.end_step a status r ≡ Some x → AreSame a.units x.units
+ended : (a x : Array) (status : ℕ) (r : Option RunningProcess) → Steps.end_step a status r ≡ Some x → IsLater a x
 ended a x status None e = never x e
 ended a x status (Some r) e = with r.reply e
   where
-    with : (reply : Option Reply) → Steps.end_step_with a r.process status reply ≡ Some x → AreSame a.units x.units
+    with : (reply : Option Reply) → Steps.end_step_with a r.process status reply ≡ Some x → IsLater a x
     with None k = never x k
     with (Some reply) k = go (reply.status == status) k
       where
         left : Array
         left = Steps.array_without (Steps.after_status a r.process reply) r.process.id
 
-        kept : AreSame a.units left.units
-        kept = subst (λ (us : List UnitState). AreSame a.units (Steps.units_without us r.process.id)) (sym (status_units a r.process reply)) (same_without a.units r.process.id)
-
-        go : (y : Bool) → (if y then Some left else None) ≡ Some x → AreSame a.units x.units
-        go true m = by_array a.units left x kept m
+        go : (y : Bool) → (if y then Some left else None) ≡ Some x → IsLater a x
+        go true m = by_array a left x (left_later a (Steps.after_status a r.process reply) r.process.id (status_beside a r.process reply)) m
         go false m = never x m
 
-lost : (a x : Array) (id : ProcId) → Steps.loss_step a id ≡ Some x → AreSame a.units x.units
+lost : (a x : Array) (id : ProcId) → Steps.loss_step a id ≡ Some x → IsLater a x
 lost a x id e = go (Steps.has_ended a id) e
   where
-    go : (y : Bool) → (if y then None else Some (Steps.array_without a id)) ≡ Some x → AreSame a.units x.units
+    go : (y : Bool) → (if y then None else Some (Steps.array_without a id)) ≡ Some x → IsLater a x
     go true k = never x k
-    go false k = by_array a.units (Steps.array_without a id) x (same_without a.units id) k
+    go false k = by_array a (Steps.array_without a id) x (left_later a a id (beside_self a)) k
 
-aborted : (s : ScenarioValue) (a : Array) (i t n : ℕ) (what : AbortKind) → AreSame a.units (Steps.abort_step s a i t n what).units
-aborted s a i t n aborts.All = same_kept (λ p. p.initiator == i && Steps.is_of_unit p t n) a.units
-aborted s a i t n (aborts.Tag tag) = same_kept (λ p. p.initiator == i && Steps.is_of_unit p t n && Steps.has_tag p.tag tag) a.units
+dropped : (a : Array) (drops : Process → Bool) (b : Array) → IsBeside (Steps.without_dropped a drops) b → IsLater a b
+dropped a drops b h = with_same a (Steps.kept_units drops a.units) (same_kept drops a.units) b h.units h.replies
+
+aborted : (s : ScenarioValue) (a : Array) (i t n : ℕ) (what : AbortKind) → IsLater a (Steps.abort_step s a i t n what)
+aborted s a i t n aborts.All =
+    dropped a (λ p. p.initiator == i && Steps.is_of_unit p t n) (Steps.abort_step s a i t n aborts.All) (record { units = refl; replies = refl })
+aborted s a i t n (aborts.Tag tag) =
+    dropped a (λ p. p.initiator == i && Steps.is_of_unit p t n && Steps.has_tag p.tag tag) (Steps.abort_step s a i t n (aborts.Tag tag)) (record { units = refl; replies = refl })
 aborted s a i t n aborts.WholeQueue =
-    subst (λ (us : List UnitState). AreSame a.units us) (sym (cleared_units i (Steps.unit_processes (unit_state_at a.units t n)) (Steps.without_dropped a (λ p. Steps.is_of_unit p t n)))) (same_kept (λ p. Steps.is_of_unit p t n) a.units)
+    dropped a (λ p. Steps.is_of_unit p t n) (Steps.abort_step s a i t n aborts.WholeQueue)
+    (cleared_beside i (Steps.unit_processes (unit_state_at a.units t n)) (Steps.without_dropped a (λ p. Steps.is_of_unit p t n)))
 aborted s a i t n aborts.Device =
-    subst (λ (us : List UnitState). AreSame a.units us)
-    (sym (all_reset_units s.hosts a.units (λ u. u.target == t) (record (Steps.without_dropped a (λ p. p.target == t)) { senses = Steps.kept_senses (λ q. q.target == t) a.senses; holds = Steps.kept_nexuses (λ q. q.target == t) a.holds })))
-    (same_kept (λ p. p.target == t) a.units)
+    let left : Array = record (Steps.without_dropped a (λ p. p.target == t)) { senses = Steps.kept_senses (λ q. q.target == t) a.senses; holds = Steps.kept_nexuses (λ q. q.target == t) a.holds } in
+    dropped a (λ p. p.target == t) (Steps.abort_step s a i t n aborts.Device)
+    (beside_more (Steps.without_dropped a (λ p. p.target == t)) left (Steps.abort_step s a i t n aborts.Device) (record { units = refl; replies = refl })
+    (all_reset_beside s.hosts a.units (λ u. u.target == t) left))
 
-was_reset : (s : ScenarioValue) (a : Array) → AreSame a.units (Steps.reset_step s a).units
+was_reset : (s : ScenarioValue) (a : Array) → IsLater a (Steps.reset_step s a)
 was_reset s a =
-    subst (λ (us : List UnitState). AreSame a.units us) (sym (all_reset_units s.hosts a.units (λ u. true) (record (Steps.without_dropped a (λ p. true)) { senses = []; holds = [] })))
-    (same_kept (λ p. true) a.units)
+    let left : Array = record (Steps.without_dropped a (λ p. true)) { senses = []; holds = [] } in
+    dropped a (λ p. true) (Steps.reset_step s a)
+    (beside_more (Steps.without_dropped a (λ p. true)) left (Steps.reset_step s a) (record { units = refl; replies = refl })
+    (all_reset_beside s.hosts a.units (λ u. true) left))
 
-event_same : (s : ScenarioValue) (a x : Array) (event : Event) → event_step s a event ≡ Some x → AreSame a.units x.units
-event_same s a x (events.Accept id) e = accepted a x (process_of s id) e
-event_same s a x (events.Refuse id) e = refused a x (process_of s id) e
-event_same s a x (events.Run id) e = ran a x (is_some (guest_at a.guests id)) (Steps.running_process a id) e
-event_same s a x (events.Fail id code) e = failed s a x id (check_condition (sense_of ABORTED_COMMAND code 0x00)) (Steps.running_process a id) e
-event_same s a x (events.End id status) e = ended a x status (Steps.running_process a id) e
-event_same s a x (events.Lost id) e = lost a x id e
-event_same s a x (events.Aborted i t n what) e = by_array a.units (Steps.abort_step s a i t n what) x (aborted s a i t n what) e
-event_same s a x (events.Reset dev) e = by_array a.units (Steps.reset_step s a) x (was_reset s a) e
+event_later : (s : ScenarioValue) (a x : Array) (event : Event) → event_step s a event ≡ Some x → IsLater a x
+event_later s a x (events.Accept id) e = accepted a x (process_of s id) e
+event_later s a x (events.Refuse id) e = refused a x (process_of s id) e
+event_later s a x (events.Run id) e = ran a x (is_some (guest_at a.guests id)) (Steps.running_process a id) e
+event_later s a x (events.Fail id code) e = failed s a x id (check_condition (sense_of ABORTED_COMMAND code 0x00)) (Steps.running_process a id) e
+event_later s a x (events.End id status) e = ended a x status (Steps.running_process a id) e
+event_later s a x (events.Lost id) e = lost a x id e
+event_later s a x (events.Aborted i t n what) e = by_array a (Steps.abort_step s a i t n what) x (aborted s a i t n what) e
+event_later s a x (events.Reset dev) e = by_array a (Steps.reset_step s a) x (was_reset s a) e
 
-pub step_same : (s : ScenarioValue) (a b : Array) (event : Event) → step s event a ≡ Some b → AreSame a.units b.units
-step_same s a b event e = go (event_step s a event) refl e
+settled_later : (a : Array) → IsLater a (settled_array a)
+settled_later a = with_same a (units_after_choice a.holds a.units) (same_chosen a.holds a.units) (settled_array a) refl refl
+
+pub step_later : (s : ScenarioValue) (a b : Array) (event : Event) → step s event a ≡ Some b → IsLater a b
+step_later s a b event e = go (event_step s a event) refl e
   where
-    go : (x : Option Array) → event_step s a event ≡ x → settled_array_if x ≡ Some b → AreSame a.units b.units
+    go : (x : Option Array) → event_step s a event ≡ x → settled_array_if x ≡ Some b → IsLater a b
     go None f k = never b k
-    go (Some x) f k =
-        by_array a.units (settled_array x) b (same_more a.units x.units (units_after_choice x.holds x.units) (event_same s a x event f) (same_chosen x.holds x.units)) k
+    go (Some x) f k = by_array a (settled_array x) b (later_more a x (settled_array x) (event_later s a x event f) (settled_later x)) k
+
+-- ---- a process that ran has a reply
+
+running_is : (us : List UnitState) (id : ProcId) (r : RunningProcess) → Steps.running_in us id ≡ Some r → same_id r.process.id id ≡ true
+running_is [] id r e = cc
+running_is (u ∷ us) id r e = go (Steps.running_if u.current id) refl e (λ k. running_is us id r k)
+  where
+    own : (c : Option RunningProcess) → Steps.running_if c id ≡ Some r → same_id r.process.id id ≡ true
+    own None k = cc
+    own (Some q) k = at (same_id q.process.id id) refl k
+      where
+        at : (y : Bool) → same_id q.process.id id ≡ y → (if y then Some q else None) ≡ Some r → same_id r.process.id id ≡ true
+        at true f m = let same : q ≡ r = cc in (λ i. same_id (sym same i).process.id id) ∙ f
+        at false f m = cc
+
+    go : (x : Option RunningProcess) → Steps.running_if u.current id ≡ x → (if is_some x then x else Steps.running_in us id) ≡ Some r → (Steps.running_in us id ≡ Some r → same_id r.process.id id ≡ true) → same_id r.process.id id ≡ true
+    go None f k more = more k
+    go (Some q) f k more = own u.current (f ∙ k)
+
+guest_is : (guests : List RunningProcess) (id : ProcId) (r : RunningProcess) → guest_at guests id ≡ Some r → same_id r.process.id id ≡ true
+guest_is [] id r e = cc
+guest_is (g ∷ guests) id r e = go (same_id g.process.id id) refl e (λ k. guest_is guests id r k)
+  where
+    go : (y : Bool) → same_id g.process.id id ≡ y → (if y then Some g else guest_at guests id) ≡ Some r → (guest_at guests id ≡ Some r → same_id r.process.id id ≡ true) → same_id r.process.id id ≡ true
+    go true f k more = let same : g ≡ r = cc in (λ i. same_id (sym same i).process.id id) ∙ f
+    go false f k more = more k
+
+process_is : (a : Array) (id : ProcId) (r : RunningProcess) → Steps.running_process a id ≡ Some r → same_id r.process.id id ≡ true
+process_is a id r e = go (guest_at a.guests id) refl e
+  where
+    go : (x : Option RunningProcess) → guest_at a.guests id ≡ x → (if is_some x then x else Steps.running_in a.units id) ≡ Some r → same_id r.process.id id ≡ true
+    go None f k = running_is a.units id r k
+    go (Some g) f k = guest_is a.guests id r (f ∙ k)
+
+-- It has one.
+abbrev pub IsAnswered : List (ProcId × Reply) → ProcId → Type 0
+IsAnswered replies id = (reply : Reply) × (reply_in replies id ≡ Some reply)
+
+pub run_answered : (s : ScenarioValue) (a b : Array) (id : ProcId) → step s (events.Run id) a ≡ Some b → IsAnswered b.replies id
+run_answered s a b id e = go (Steps.running_process a id) refl e
+  where
+    go : (x : Option RunningProcess) → Steps.running_process a id ≡ x → settled_array_if (Steps.run_step a (is_some (guest_at a.guests id)) x) ≡ Some b → IsAnswered b.replies id
+    go None f k = never b k
+    go (Some r) f k = allowed (is_none r.reply && (is_some (guest_at a.guests id) || not (is_held a.holds r.process.target r.process.unit))) k
+      where
+        u : Option UnitState
+        u = unit_state_at a.units r.process.target r.process.unit
+
+        next : Array
+        next = Steps.after_execution_at a r.process u
+
+        reply : Reply
+        reply = (execution (Steps.context_at a (nexus_of r.process) u) r.process.cdb r.process.sent).reply
+
+        self : same_id r.process.id id ≡ true
+        self = process_is a id r f
+
+        allowed : (y : Bool) → settled_array_if (if y then Some next else None) ≡ Some b → IsAnswered b.replies id
+        allowed false m = never b m
+        allowed true m =
+            let same : settled_array next ≡ b = cc in
+            subst (λ (z : Array). IsAnswered z.replies id) same
+            (reply, λ i. if self i then Some reply else reply_in (Steps.with_contents (Steps.without_attention a (execution (Steps.context_at a (nexus_of r.process) u) r.process.cdb r.process.sent).reported (nexus_of r.process)) u (execution (Steps.context_at a (nexus_of r.process) u) r.process.cdb r.process.sent).contents).replies id)
 
 -- ---- what stands at a place
 
@@ -240,7 +471,7 @@ none_after [] [] t n h e = refl
 none_after [] (v ∷ vs) t n h e = absurd h
 none_after (u ∷ us) [] t n h e = absurd h
 none_after (u ∷ us) (v ∷ vs) t n h e =
-    (λ i. if h.0 i == t && h.1 i == n then Some v else unit_state_at vs t n) ∙ go (u.target == t && u.unit == n) e (λ k. none_after us vs t n h.2 k)
+    (λ i. if h.0 i == t && h.1 i == n then Some v else unit_state_at vs t n) ∙ go (u.target == t && u.unit == n) e (λ k. none_after us vs t n h.3 k)
   where
     go : (y : Bool) → (if y then Some u else unit_state_at us t n) ≡ None → (unit_state_at us t n ≡ None → unit_state_at vs t n ≡ None) → (if y then Some v else unit_state_at vs t n) ≡ None
     go true k more = cc
@@ -251,7 +482,7 @@ times_after [] [] times now h e = refl
 times_after [] (v ∷ vs) times now h e = absurd h
 times_after (u ∷ us) [] times now h e = absurd h
 times_after (u ∷ us) (v ∷ vs) [] now h e = cc
-times_after (u ∷ us) (v ∷ vs) (time ∷ times) now h e = let rest : length times ≡ length us = cc in ap (λ (k : ℕ). suc k) (times_after us vs times now h.2 rest)
+times_after (u ∷ us) (v ∷ vs) (time ∷ times) now h e = let rest : length times ≡ length us = cc in ap (λ (k : ℕ). suc k) (times_after us vs times now h.3 rest)
 
 pub since_after : (us vs : List UnitState) (times : List ℕ) (now t n : ℕ) (x : UnitState) → AreSame us vs → length times ≡ length us → unit_state_at us t n ≡ Some x
     → since_of vs (current_times_after us vs times now) t n ≡ (if is_same_running (current_of (unit_state_at us t n)) (current_of (unit_state_at vs t n)) then since_of us times t n else now)
@@ -261,7 +492,7 @@ since_after (u ∷ us) (v ∷ vs) [] now t n x h l e = cc
 since_after (u ∷ us) (v ∷ vs) (time ∷ times) now t n x h l e =
     let rest : length times ≡ length us = cc in
     (λ i. if h.0 i == t && h.1 i == n then (if is_same_running u.current v.current then time else now) else since_of vs (current_times_after us vs times now) t n)
-    ∙ go (u.target == t && u.unit == n) e (λ k. since_after us vs times now t n x h.2 rest k)
+    ∙ go (u.target == t && u.unit == n) e (λ k. since_after us vs times now t n x h.3 rest k)
     ∙ (λ i. if is_same_running (current_of (if u.target == t && u.unit == n then Some u else unit_state_at us t n)) (current_of (if sym h.0 i == t && sym h.1 i == n then Some v else unit_state_at vs t n)) then (if u.target == t && u.unit == n then time else since_of us times t n) else now)
   where
     go : (y : Bool) → (if y then Some u else unit_state_at us t n) ≡ Some x

@@ -3,3 +3,4 @@ pub mod Absent
 pub mod Readies
 pub mod Units
 pub mod Fillings
+pub mod Rooms

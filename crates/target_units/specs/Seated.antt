@@ -1,5 +1,5 @@
 -- A logical unit at its seat of the plain disk array, with what its target keeps beside it.
-use Rattle.std.specs.Prelude.{◌≡◌, ℕ, ◌<◌, ◌≤◌, ◌+◌, ◌*◌, ◌==◌, ◌&&◌, Bool, true, false, List, [], ◌∷◌, length, Option, Some, None, nat_le, nat_lt, not, slice_index_or, if◌then◌else◌}
+use Rattle.std.specs.Prelude.{◌≡◌, ℕ, ◌<◌, ◌≤◌, ◌+◌, ◌*◌, ◌==◌, ◌&&◌, Bool, true, false, List, [], ◌∷◌, length, Option, Some, None, nat_le, nat_lt, not, take, slice_index_or, if◌then◌else◌}
 use Rattle.bus_base.specs.declared.AbortKind.{AbortKind}
 use Rattle.bus_base.specs.declared.ProcId.{ProcId}
 use Rattle.bus_base.specs.declared.events.Class.{Class}
@@ -159,11 +159,13 @@ IsArrived v entry cdb (accepted.Queued key) new =
 
 -- ---- a command runs
 
--- So many bytes were sent, and its blocks have memory.
+-- How many bytes the command of this key takes as it runs.
+abbrev pub taken_at : SeatedState → ℕ → ℕ
+taken_at v key = bytes_taken v.books key (blocks_written v.contents (block_at v.books key) * v.contents.size)
+
+-- No fewer bytes were sent, and its blocks have memory.
 abbrev pub can_run : SeatedState → ℕ → ℕ → Bool
-can_run v key sent =
-    sent == bytes_taken v.books key (blocks_written v.contents (block_at v.books key) * v.contents.size)
-    && nat_le (blocks_written v.contents (block_at v.books key)) v.spare
+can_run v key sent = nat_le (taken_at v key) sent && nat_le (blocks_written v.contents (block_at v.books key)) v.spare
 
 abbrev pub is_reported_at : UnitBooks → ℕ → Bool
 is_reported_at b key = is_reported (attention_at b key) (block_at b key)
@@ -181,7 +183,7 @@ pub record IsRun (v : SeatedState) (key : ℕ) (sent : List ℕ) (new : SeatedSt
 abbrev pub IsRunLive : SeatedState → List ℕ → Option ℕ → Option UnitReply → SeatedState → Type 0
 IsRunLive v sent None reply new = (reply ≡ None) × (new ≡ v)
 IsRunLive v sent (Some key) None new = (can_run v key (length sent) ≡ false) × (new ≡ v)
-IsRunLive v sent (Some key) (Some reply) new = (can_run v key (length sent) ≡ true) × IsRun v key sent new × (Some reply ≡ new.reply)
+IsRunLive v sent (Some key) (Some reply) new = (can_run v key (length sent) ≡ true) × IsRun v key (take (taken_at v key) sent) new × (Some reply ≡ new.reply)
 
 -- Where the command is carried out, these are the bytes of the process.
 abbrev pub HasSent : Seat → Process → List ℕ → Type 0
@@ -215,6 +217,10 @@ state_after_loss v (Some key) = with_books v (books_without v.books key)
 abbrev pub books_by_guest : UnitBooks → ℕ → Bool → ℕ → Option Sense → UnitBooks
 books_by_guest b dev senses status (Some sense) = books_with_sense b dev sense
 books_by_guest b dev senses status None = if status == GOOD && senses then books_without_sense b dev else b
+
+-- `senses` says whether it is a REQUEST SENSE, where it ends GOOD.
+abbrev pub IsSensing : Reply → Process → Bool → Type 0
+IsSensing reply p senses = (reply.status == GOOD) ≡ true → is_request_sense (command_of p.cdb) ≡ senses
 
 abbrev pub books_after_guest : UnitBooks → ℕ → UnitReply → Bool → UnitBooks
 books_after_guest b dev reply senses = books_by_guest b dev senses reply.status reply.sense

@@ -1,23 +1,28 @@
 -- The eight logical units of a target, there or not, each at its seat of the plain disk array.
-use Rattle.std.specs.Prelude.{◌≡◌, ℕ, ◌<◌, ◌+◌, ◌^◌, ◌==◌, ◌&&◌, ◌||◌, Bool, true, false, List, [], length, Option, Some, None, nat_lt, slice_index_or, if◌then◌else◌}
+use Rattle.std.specs.Prelude.{◌≡◌, ℕ, ◌<◌, ◌≤◌, ◌+◌, ◌^◌, ◌==◌, ◌&&◌, ◌||◌, Bool, true, false, List, [], length, Option, Some, None, nat_lt, slice_index_or, if◌then◌else◌}
 use Rattle.bus_base.specs.declared.AbortKind.{AbortKind}
 use Rattle.bus_base.specs.declared.AbortKind.TheVariants as aborts
 use Rattle.bus_base.specs.declared.Event.{Event}
 use Rattle.scenario.specs.declared.value.HostDef.{HostDef}
+use Rattle.scenario.specs.Lookups.{has_target, unit_of}
 use Rattle.scenario.specs.Value.{ScenarioValue}
+use Rattle.scsi_device.specs.Lines.{FitsBus}
 use Rattle.disk_array.specs.Seats.{Seat, seat_of}
 use Rattle.disk_array.specs.SoundArray.{HasSeats, IsSound}
 use Rattle.disk_array.specs.Steps.{step}
 use Rattle.disk_array.specs.Execution.{Reply, execution}
 use Rattle.disk_array.specs.Units.{Array, UnitState}
 use Rattle.bus_dialogue.specs.declared.exchange.Room.{Room}
+use Rattle.disk_array.specs.Contents.{Contents}
 use Rattle.disk_unit.specs.Books.{books_after_reset}
+use Rattle.disk_unit.specs.Sparse.{Store}
 use Rattle.bus_due.specs.Wants.{since_of}
 use Rattle.bus_due.specs.RunSteps.{current_times_after}
 use Rattle.target_units.specs.declared.ready.Ready.{Ready}
 use Rattle.target_units.specs.declared.logical.LogicalUnit.{LogicalUnit}
 use Rattle.target_units.specs.declared.logical.LogicalUnit.TheVariants as kinds
 use Rattle.target_units.specs.Absent.{IsAbsentAt, nothing_kept, absent_reply}
+use Rattle.target_units.specs.Rooms.{AreOfLines, blocks_left_at}
 use Rattle.target_units.specs.Seated.{SeatedState, IsAtSeat, current_id, settled, with_books, room_at, seated_context}
 
 pub record UnitsState : Type 0 where
@@ -37,12 +42,25 @@ IsUnitOf hosts seat time (kinds.Absent v) = IsAbsentAt seat v
 abbrev pub unit_in : List LogicalUnit → ℕ → LogicalUnit
 unit_in units n = slice_index_or units n (kinds.Absent nothing_kept)
 
+-- How many blocks may still be written for the first time.
+abbrev pub spare_of : LogicalUnit → ℕ
+spare_of (kinds.There v) = v.spare
+spare_of (kinds.Absent v) = 0
+
+-- There is memory for all blocks that the commands of the scenario may still write at these units of this target.
+pub record HaveRoom (s : ScenarioValue) (a : Array) (dev : ℕ) (units : List LogicalUnit) : Type 0 where
+  pub fits : FitsBus s
+  pub target : has_target s dev ≡ true
+  pub lines : AreOfLines s a
+  pub left : (n : ℕ) → n < 8 → blocks_left_at a.replies (unit_of s dev n) s.commands ≤ spare_of (unit_in units n)
+
 -- These are the units of this target, whose current processes are that since these times, which stand beside the units of
 -- the array.
 pub record AreUnitsOf (s : ScenarioValue) (a : Array) (times : List ℕ) (dev : ℕ) (units : List LogicalUnit) : Type 0 where
   pub timed : length times ≡ length a.units
   pub eight : length units ≡ 8
   pub each : (n : ℕ) → n < 8 → IsUnitOf s.hosts (seat_of a dev n) (since_of a.units times dev n) (unit_in units n)
+  pub room : HaveRoom s a dev units
 
 -- The array before and after an event of the history, which is allowed.
 pub record IsStep (s : ScenarioValue) (event : Event) (a b : Array) : Type 0 where
@@ -96,7 +114,20 @@ reply_at (kinds.Absent v) from cdb = absent_reply v from cdb
 abbrev pub AreEarly : Array → List ℕ → ℕ → ℕ → Type 0
 AreEarly a times dev seek = (n : ℕ) → n < 8 → since_of a.units times dev n + seek < 2 ^ 64
 
--- How many blocks may still be written for the first time.
-abbrev pub spare_of : LogicalUnit → ℕ
-spare_of (kinds.There v) = v.spare
-spare_of (kinds.Absent v) = 0
+-- ---- the blocks that are handed out
+
+abbrev pub no_unit : LogicalUnit
+no_unit = kinds.Absent nothing_kept
+
+-- What a unit holds that is there.
+abbrev pub contents_in : LogicalUnit → Option Contents
+contents_in (kinds.There v) = Some v.contents
+contents_in (kinds.Absent v) = None
+
+abbrev pub state_contents : Option UnitState → Option Contents
+state_contents None = None
+state_contents (Some u) = Some u.contents
+
+abbrev pub contents_handed : Option Store → Option Contents
+contents_handed None = None
+contents_handed (Some blocks) = Some blocks.contents

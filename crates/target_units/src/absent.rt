@@ -1,14 +1,14 @@
 //! A logical unit of a target that is not there, at its seat of the plain disk array (ANSI X3.131-1994, 7.5.3).
 ghost use Rattle.std.specs.Prelude.{◌≡◌, ℕ, ◌<◌, ◌≤◌, ◌+◌, Bool, false, List, length, take, drop, Option, Some, None, slice_index_or};
-ghost use Rattle.cdb_codec.specs.Cdb.{command_of};
 ghost use Rattle.cdb_codec.specs.declared.operation.TheConstants.{INQUIRY as INQUIRY_CODE};
 ghost use Rattle.scenario.specs.declared.value.HostDef.{HostDef};
-ghost use Rattle.disk_array.specs.Execution.{Reply as ArrayReply, execution, is_request_sense, is_opcode, returned_sense, sense_of};
+ghost use Rattle.disk_array.specs.Execution.{Reply as ArrayReply, execution, is_opcode, returned_sense, sense_of};
 ghost use Rattle.disk_array.specs.Processes.{Process};
 ghost use Rattle.disk_array.specs.Seats.{Seat, settled_seat, seat_after_end, seat_after_aborted, seat_after_reset, context_of};
 ghost use Rattle.disk_array.specs.Units.{guest_at};
 ghost use Rattle.disk_unit.specs.Plans.{plan_of};
 ghost use Rattle.disk_unit.specs.Units.{told_of};
+ghost use Rattle.target_units.specs.Seated.{IsSensing};
 ghost use Rattle.target_units.specs.Absent.{AbsentState, IsAbsentAt, nothing_kept, absent_with, absent_after_guest, absent_after_abort, absent_reply, plan_in as plan_within, inquiry_room as room_to_inquire, sense_room as room_of_sense};
 
 use crate::parts::copy_part;
@@ -202,7 +202,7 @@ impl AbsentUnit {
         ensures seat { (seat after : Seat) (status : ℕ) (id : ProcId) (p : Process) (given : ArrayReply)
             → IsAbsentAt seat self.old
             → guest_at seat.guests id ≡ Some (record { process = p; reply = Some given })
-            → p.initiator ≡ from → reply.now ≡ told_of given → is_request_sense (command_of p.cdb) ≡ senses
+            → p.initiator ≡ from → reply.now ≡ told_of given → IsSensing given p senses
             → seat_after_end id status seat ≡ Some after → IsAbsentAt (settled_seat after) self.new }
     {
         self.keep_guest(from, reply, senses);

@@ -7,11 +7,13 @@
 //!
 //! Public contract: where each unit stands at its seat (`specs/Units.antt`, `AreUnitsOf`), as it does before any event,
 //! it does so after every event that the array permits, with the choice that follows it; and what it tells is that of
-//! the array. Only `new` and `of` take memory.
+//! the array. Only `new` and `of` take memory, and it is enough for the blocks of all commands that have no reply yet
+//! (`specs/Rooms.antt`). At the end the blocks of each unit are handed out.
 #![tactic(auto)]
 
 mod absent;
 mod fillings;
+mod laws;
 mod logical;
 mod parts;
 mod ready;
@@ -19,7 +21,10 @@ mod seated;
 mod units;
 
 pub use absent::AbsentUnit;
+pub use laws::{
+    arrivals_give_no_reply, units_are_of_their_lines, units_hold_their_blocks, units_stay,
+};
 pub use logical::LogicalUnit;
 pub use ready::Ready;
 pub use seated::SeatedUnit;
-pub use units::{Units, units_stay};
+pub use units::Units;

@@ -12,22 +12,25 @@ ghost use Rattle.disk_array.specs.Processes.{Process};
 ghost use Rattle.disk_array.specs.Units.{RunningProcess, guest_at, starting_array};
 ghost use Rattle.disk_array.specs.Seats.{Seat, seat_of, settled_seat, seat_after_accept, seat_after_refuse, seat_after_run, seat_after_failure, seat_after_end, seat_after_loss, seat_after_aborted, current_of, running_at, context_of, contents_of, is_any_held, is_initiator};
 ghost use Rattle.bus_dialogue.specs.Wants.{ready_in};
+ghost use Rattle.disk_unit.specs.Disk.{blocks_written};
 ghost use Rattle.disk_unit.specs.Units.{told_of};
 ghost use Rattle.disk_unit.specs.Plans.{plan_of};
 ghost use Rattle.disk_unit.specs.declared.unit.Accepted.TheVariants as accepted;
-ghost use Rattle.target_units.specs.Seated.{seat_time, running_id, running_entry, running_block, current_reply, IsProcess, IsNew, HasSent, aborted_reply};
+ghost use Rattle.target_units.specs.Seated.{seat_time, running_id, running_entry, running_block, current_reply, IsProcess, IsNew, HasSent, IsSensing, aborted_reply};
 ghost use Rattle.target_units.specs.Readies.{ready_unit};
+ghost use Rattle.target_units.specs.Rooms.{HasRoomFor};
 ghost use Rattle.target_units.specs.Fillings.{blocks_at};
-ghost use Rattle.target_units.specs.Units.{IsUnitOf, reply_at, room_if, spare_of, unit_after_reset};
+ghost use Rattle.target_units.specs.Units.{IsUnitOf, reply_at, room_if, spare_of, unit_after_reset, no_unit, contents_in, contents_handed};
 
 use crate::absent::AbsentUnit;
 use crate::ready::Ready;
 use crate::seated::SeatedUnit;
 use bus_base::{AbortKind, Class, Dev, NoMemory, Ns, ProcId};
 use bus_dialogue::Room;
-use disk_unit::{Accepted, Plan, Reply};
+use disk_unit::{Accepted, Plan, Reply, SparseBlocks};
 use scenario::{Scenario, TargetDef, UnitDef};
 use std::alloc::Global;
+use std::mem::replace;
 use tag_queue::Entry;
 
 /// A logical unit of a target.
@@ -222,13 +225,17 @@ impl LogicalUnit {
             → IsUnitOf hosts seat time self.old → IsProcess p id from tag class cdb.now → IsNew hosts seat p
             → seat_after_accept p seat ≡ Some after
             → IsUnitOf hosts (settled_seat after) (seat_time seat (settled_seat after) time now) self.new }
+        ensures refused { (hosts : List HostDef) (seat after : Seat) (time : ℕ) (p : Process)
+            → IsUnitOf hosts seat time self.old → IsProcess p id from tag class cdb.now
+            → seat_after_refuse p seat ≡ Some after → result ≡ accepted.Full }
         ensures refuses { (hosts : List HostDef) (seat after : Seat) (time : ℕ) (p : Process)
             → IsUnitOf hosts seat time self.old → IsProcess p id from tag class cdb.now → IsNew hosts seat p
-            → result ≡ accepted.Full → seat_after_refuse p seat ≡ Some after
+            → seat_after_refuse p seat ≡ Some after
             → IsUnitOf hosts (settled_seat after) (seat_time seat (settled_seat after) time now) self.new }
         ensures full { (hosts : List HostDef) (seat : Seat) (time : ℕ) (p : Process)
             → IsUnitOf hosts seat time self.old → IsProcess p id from tag class cdb.now → IsNew hosts seat p
             → result ≡ accepted.Full → seat_after_accept p seat ≡ None }
+        ensures spare { spare_of self.new ≡ spare_of self.old }
     {
         match self {
             LogicalUnit::There(seated) => seated.accept(id, from, tag, class, cdb, now),
@@ -242,14 +249,16 @@ impl LogicalUnit {
         ensures seat { (hosts : List HostDef) (seat after : Seat) (time : ℕ) (p : Process)
             → IsUnitOf hosts seat time self.old → p.id ≡ id → guest_at seat.guests id ≡ None
             → running_at seat id ≡ Some (record { process = p; reply = None }) → HasSent seat p sent.now
-            → is_some result ≡ true → seat_after_run id seat ≡ Some after
+            → HasRoomFor seat p (spare_of self.old) → seat_after_run id seat ≡ Some after
             → IsUnitOf hosts (settled_seat after) (seat_time seat (settled_seat after) time now) self.new
-            × (result ≡ Some (told_of (execution (context_of seat p.initiator) p.cdb p.sent).reply)) }
+            × (result ≡ Some (told_of (execution (context_of seat p.initiator) p.cdb p.sent).reply))
+            × (spare_of self.old ≤ spare_of self.new + blocks_written (contents_of seat.unit) p.cdb) }
         ensures guest { (hosts : List HostDef) (seat after : Seat) (time : ℕ) (r : RunningProcess)
             → IsUnitOf hosts seat time self.old → guest_at seat.guests id ≡ Some r
             → (is_some seat.unit ≡ true → is_request_sense (command_of r.process.cdb) ≡ true)
             → seat_after_run id seat ≡ Some after
-            → IsUnitOf hosts (settled_seat after) (seat_time seat (settled_seat after) time now) self.new }
+            → IsUnitOf hosts (settled_seat after) (seat_time seat (settled_seat after) time now) self.new
+            × (spare_of self.new ≡ spare_of self.old) }
     {
         match self {
             LogicalUnit::There(seated) => seated.run(id, sent, now),
@@ -259,10 +268,11 @@ impl LogicalUnit {
 
     /// A process fails at `now`, in ns, with CHECK CONDITION, ABORTED COMMAND and this code.
     pub fn fail(&mut self, id: ProcId, code: u8, now: Ns)
-        ensures { (hosts : List HostDef) (seat after : Seat) (time : ℕ) (ended : Bool) (p : Process)
+        ensures seat { (hosts : List HostDef) (seat after : Seat) (time : ℕ) (ended : Bool) (p : Process)
             → IsUnitOf hosts seat time self.old → p.id ≡ id
             → seat_after_failure ended p (aborted_reply code) seat ≡ Some after
             → IsUnitOf hosts (settled_seat after) (seat_time seat (settled_seat after) time now) self.new }
+        ensures spare { spare_of self.new ≡ spare_of self.old }
     {
         match self {
             LogicalUnit::There(seated) => seated.fail(id, code, now),
@@ -272,10 +282,11 @@ impl LogicalUnit {
 
     /// The current process ends at `now`, in ns.
     pub fn end(&mut self, id: ProcId, now: Ns)
-        ensures { (hosts : List HostDef) (seat after : Seat) (time status : ℕ)
+        ensures seat { (hosts : List HostDef) (seat after : Seat) (time status : ℕ)
             → IsUnitOf hosts seat time self.old → guest_at seat.guests id ≡ None
             → seat_after_end id status seat ≡ Some after
             → IsUnitOf hosts (settled_seat after) (seat_time seat (settled_seat after) time now) self.new }
+        ensures spare { spare_of self.new ≡ spare_of self.old }
     {
         match self {
             LogicalUnit::There(seated) => seated.end(id, now),
@@ -287,12 +298,13 @@ impl LogicalUnit {
     /// whether it is a REQUEST SENSE. A sense is stored; a REQUEST SENSE that ends GOOD takes one away.
     pub fn end_guest(&mut self, from: Dev, reply: &Reply, senses: bool, now: Ns)
         requires device { from < 8 }
-        ensures { (hosts : List HostDef) (seat after : Seat) (time status : ℕ) (id : ProcId) (p : Process)
+        ensures seat { (hosts : List HostDef) (seat after : Seat) (time status : ℕ) (id : ProcId) (p : Process)
             (given : ArrayReply) → IsUnitOf hosts seat time self.old
             → guest_at seat.guests id ≡ Some (record { process = p; reply = Some given })
-            → p.initiator ≡ from → reply.now ≡ told_of given → is_request_sense (command_of p.cdb) ≡ senses
+            → p.initiator ≡ from → reply.now ≡ told_of given → IsSensing given p senses
             → seat_after_end id status seat ≡ Some after
             → IsUnitOf hosts (settled_seat after) (seat_time seat (settled_seat after) time now) self.new }
+        ensures spare { spare_of self.new ≡ spare_of self.old }
     {
         match self {
             LogicalUnit::There(seated) => seated.end_guest(from, reply, senses, now),
@@ -302,9 +314,10 @@ impl LogicalUnit {
 
     /// A process is lost at `now`, in ns.
     pub fn lose(&mut self, id: ProcId, now: Ns)
-        ensures { (hosts : List HostDef) (seat after : Seat) (time : ℕ) (ended : Bool)
+        ensures seat { (hosts : List HostDef) (seat after : Seat) (time : ℕ) (ended : Bool)
             → IsUnitOf hosts seat time self.old → seat_after_loss ended id seat ≡ Some after
             → IsUnitOf hosts (settled_seat after) (seat_time seat (settled_seat after) time now) self.new }
+        ensures spare { spare_of self.new ≡ spare_of self.old }
     {
         match self {
             LogicalUnit::There(seated) => seated.lose(id, now),
@@ -315,9 +328,10 @@ impl LogicalUnit {
     /// An abort message of this initiator ended at `now`, in ns.
     pub fn abort(&mut self, kind: AbortKind, by: Dev, now: Ns)
         requires device { by < 8 }
-        ensures { (hosts : List HostDef) (seat : Seat) (time : ℕ) → IsUnitOf hosts seat time self.old
+        ensures seat { (hosts : List HostDef) (seat : Seat) (time : ℕ) → IsUnitOf hosts seat time self.old
             → IsUnitOf hosts (settled_seat (seat_after_aborted hosts by kind seat))
             (seat_time seat (settled_seat (seat_after_aborted hosts by kind seat)) time now) self.new }
+        ensures spare { spare_of self.new ≡ spare_of self.old }
     {
         match self {
             LogicalUnit::There(seated) => seated.abort(kind, by, now),
@@ -332,6 +346,17 @@ impl LogicalUnit {
         match self {
             LogicalUnit::There(seated) => seated.reset(now),
             LogicalUnit::Absent(absent) => absent.reset(),
+        }
+    }
+
+    /// Hands out its blocks, where it is there, and leaves a unit in its place that is not.
+    pub fn take_blocks(&mut self) -> Option<SparseBlocks>
+        ensures exact { contents_handed result ≡ contents_in self.old }
+        ensures left { self.new ≡ no_unit }
+    {
+        match replace(self, LogicalUnit::Absent(AbsentUnit::new())) {
+            LogicalUnit::There(seated) => Some(seated.into_blocks()),
+            LogicalUnit::Absent(_) => None,
         }
     }
 }

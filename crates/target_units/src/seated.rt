@@ -16,7 +16,8 @@ ghost use Rattle.disk_unit.specs.Disk.{disk_extent, disk_reply, blocks_written};
 ghost use Rattle.disk_unit.specs.declared.unit.Accepted.TheVariants as accepted;
 ghost use Rattle.target_units.specs.Fillings.{IsFresh, AreFilled, blocks_by_all as blocks_of_all};
 ghost use Rattle.scenario.specs.Value.{ScenarioValue};
-ghost use Rattle.target_units.specs.Seated.{SeatedState, IsAtSeat, seat_time, running_id, running_entry, running_block, current_reply, current_id, is_same_process, reply_kept, since_after, settled, with_books, IsProcess, IsNew, IsArrived, can_run, IsRun, IsRunLive, HasSent, aborted_reply, state_after_failure, state_after_end, state_after_loss, books_after_guest, IsCut, seated_context, current_entry, block_under, entry_from, ready_by_entry, room_by, room_at};
+ghost use Rattle.target_units.specs.Rooms.{HasRoomFor};
+ghost use Rattle.target_units.specs.Seated.{SeatedState, IsAtSeat, seat_time, taken_at, running_id, running_entry, running_block, current_reply, current_id, is_same_process, reply_kept, since_after, settled, with_books, IsProcess, IsNew, IsArrived, can_run, IsRun, IsRunLive, HasSent, IsSensing, aborted_reply, state_after_failure, state_after_end, state_after_loss, books_after_guest, IsCut, seated_context, current_entry, block_under, entry_from, ready_by_entry, room_by, room_at};
 
 use crate::fillings::{blocks_by_all, blocks_in_all, fill, fill_count};
 use crate::parts::{copy_part, is_sense};
@@ -248,12 +249,16 @@ impl SeatedUnit {
             → IsAtSeat hosts seat time self.old → IsProcess p id from tag class cdb.now → IsNew hosts seat p
             → seat_after_accept p seat ≡ Some after
             → IsAtSeat hosts (settled_seat after) (seat_time seat (settled_seat after) time now) self.new }
+        ensures refused { (hosts : List HostDef) (seat after : Seat) (time : ℕ) (p : Process)
+            → IsAtSeat hosts seat time self.old → IsProcess p id from tag class cdb.now
+            → seat_after_refuse p seat ≡ Some after → result ≡ accepted.Full }
         ensures refuses { (hosts : List HostDef) (seat : Seat) (time : ℕ) (p : Process)
             → IsAtSeat hosts seat time self.old → IsProcess p id from tag class cdb.now → IsNew hosts seat p
             → result ≡ accepted.Full → (seat_after_accept p seat ≡ None)
             × (seat_after_refuse p seat ≡ Some (seat_with_guest seat p (Some queue_full)))
             × IsAtSeat hosts (settled_seat (seat_with_guest seat p (Some queue_full)))
             (seat_time seat (settled_seat (seat_with_guest seat p (Some queue_full))) time now) self.new }
+        ensures spare { self.new.spare ≡ self.old.spare }
     {
         let before = self.current_process();
         let accepted = self.arrive(id, from, tag, class, cdb);
@@ -261,22 +266,24 @@ impl SeatedUnit {
         accepted
     }
 
-    // Whether the live command of this key may run where so many bytes were sent for it.
+    // Whether the live command of this key may run where so many bytes were sent for it: it takes no more of them, and
+    // the blocks that it writes have memory.
     fn can_run(&self, key: Key, sent: usize) -> bool
         requires live { has_key self.now.books.queue.arrived key ≡ true }
         ensures { result ≡ can_run self.now key sent }
     {
-        sent == self.unit.plan(key).out_len as usize
+        self.unit.plan(key).out_len as usize <= sent
             && self.unit.cost(key) <= self.unit.medium().blocks().spare()
     }
 
     fn run_key(&mut self, key: Key, sent: &[u8]) -> Reply
         requires live { has_key self.old.books.queue.arrived key ≡ true }
         requires can { can_run self.old key (length sent.now) ≡ true }
-        ensures exact { IsRun self.old key sent.now self.new }
+        ensures exact { IsRun self.old key (take (taken_at self.old key) sent.now) self.new }
         ensures reply { Some result ≡ self.new.reply }
     {
-        let reply = self.unit.run(key, sent);
+        let taken = self.unit.plan(key).out_len as usize;
+        let reply = self.unit.run(key, &sent[..taken]);
         self.reply = Some(reply);
         reply
     }
@@ -293,9 +300,9 @@ impl SeatedUnit {
     }
 
     /// The current process runs at `now`, in ns, with the bytes that it sent: its attention is reported, or the disk
-    /// changes as its command says. Returns its reply; `None`, with the disk as it was, where it is not in the queue,
-    /// or sent not as many bytes as its command takes, or these blocks have no memory. A process outside the queue
-    /// changes nothing as it runs.
+    /// changes as its command says, with as many of them as that takes. Returns its reply; `None`, with the disk as it
+    /// was, where it is not in the queue, or sent fewer bytes than its command takes, or the blocks that it writes have
+    /// no memory. A process outside the queue changes nothing as it runs.
     pub fn run(&mut self, id: ProcId, sent: &[u8], now: Ns) -> Option<Reply>
         ensures exact { (ran : SeatedState) × IsRunLive self.old sent.now
             (key_of_process self.old.books.queue.arrived id) result ran
@@ -303,13 +310,15 @@ impl SeatedUnit {
         ensures seat { (hosts : List HostDef) (seat after : Seat) (time : ℕ) (p : Process)
             → IsAtSeat hosts seat time self.old → p.id ≡ id → guest_at seat.guests id ≡ None
             → running_at seat id ≡ Some (record { process = p; reply = None }) → HasSent seat p sent.now
-            → is_some result ≡ true → seat_after_run id seat ≡ Some after
+            → HasRoomFor seat p self.old.spare → seat_after_run id seat ≡ Some after
             → IsAtSeat hosts (settled_seat after) (seat_time seat (settled_seat after) time now) self.new
-            × (result ≡ Some (told_of (execution (context_of seat p.initiator) p.cdb p.sent).reply)) }
+            × (result ≡ Some (told_of (execution (context_of seat p.initiator) p.cdb p.sent).reply))
+            × (self.old.spare ≤ self.new.spare + blocks_written (contents_of seat.unit) p.cdb) }
         ensures guest { (hosts : List HostDef) (seat after : Seat) (time : ℕ) (r : RunningProcess)
             → IsAtSeat hosts seat time self.old → guest_at seat.guests id ≡ Some r
             → is_request_sense (command_of r.process.cdb) ≡ true → seat_after_run id seat ≡ Some after
-            → IsAtSeat hosts (settled_seat after) (seat_time seat (settled_seat after) time now) self.new }
+            → IsAtSeat hosts (settled_seat after) (seat_time seat (settled_seat after) time now) self.new
+            × (self.new.spare ≡ self.old.spare) }
     {
         let before = self.current_process();
         let reply = self.run_live(id, sent);
@@ -382,7 +391,7 @@ impl SeatedUnit {
         ensures seat { (hosts : List HostDef) (seat after : Seat) (time status : ℕ) (id : ProcId) (p : Process)
             (given : ArrayReply) → IsAtSeat hosts seat time self.old
             → guest_at seat.guests id ≡ Some (record { process = p; reply = Some given })
-            → p.initiator ≡ from → reply.now ≡ told_of given → is_request_sense (command_of p.cdb) ≡ senses
+            → p.initiator ≡ from → reply.now ≡ told_of given → IsSensing given p senses
             → seat_after_end id status seat ≡ Some after
             → IsAtSeat hosts (settled_seat after) (seat_time seat (settled_seat after) time now) self.new }
     {
@@ -470,6 +479,13 @@ impl SeatedUnit {
             → result ≡ (contents_of seat.unit).size }
     {
         self.unit.medium().blocks().size()
+    }
+
+    /// Its blocks, handed out.
+    pub fn into_blocks(self) -> SparseBlocks
+        ensures { result ≡ record { contents = self.contents; spare = self.spare } }
+    {
+        self.unit.into_medium().into_blocks()
     }
 
     fn room_now(&self) -> Room

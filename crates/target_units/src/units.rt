@@ -1,27 +1,27 @@
 //! The logical units of a target, each at its seat of the plain disk array.
-ghost use Rattle.std.specs.Prelude.{◌≡◌, ◌<◌, ◌≤◌, ◌+◌, ℕ, Bool, true, List, length, Option, Some, None, is_some, replicate, take, drop, IfOk};
+ghost use Rattle.std.specs.Prelude.{◌≡◌, ◌<◌, ◌≤◌, ◌+◌, ◌==◌, ℕ, true, false, List, length, Option, Some, None, is_some, replicate, take, drop, IfOk};
 ghost use Rattle.bus_base.specs.declared.AbortKind.TheVariants as aborts;
-ghost use Rattle.bus_base.specs.declared.Event.{Event};
 ghost use Rattle.bus_base.specs.declared.Event.TheVariants as events;
 ghost use Rattle.cdb_codec.specs.Cdb.{command_of};
-ghost use Rattle.scenario.specs.Lookups.{unit_of};
+ghost use Rattle.scenario.specs.Lookups.{has_target, unit_of};
 ghost use Rattle.scenario.specs.Value.{ScenarioValue};
 ghost use Rattle.scenario.specs.Writing.{Obeys};
 ghost use Rattle.bus_due.specs.Defs.{target_def_of};
+ghost use Rattle.disk_array.specs.ArrayHistory.{reply_in};
 ghost use Rattle.disk_array.specs.Execution.{Reply as ArrayReply, is_request_sense};
 ghost use Rattle.disk_array.specs.Processes.{Process};
-ghost use Rattle.disk_array.specs.Seats.{seat_of, current_of, in_hold, nexus_at, is_elsewhere, is_initiator};
+ghost use Rattle.disk_array.specs.Seats.{seat_of, current_of, in_hold, nexus_at, is_initiator};
 ghost use Rattle.disk_array.specs.SoundArray.{IsOwn, IsSound, HasSeats};
 ghost use Rattle.disk_array.specs.Steps.{step};
 ghost use Rattle.disk_array.specs.Units.{Array, RunningProcess, guest_at, unit_state_at, starting_array, settled_array};
+ghost use Rattle.scsi_device.specs.Lines.{FitsBus};
 ghost use Rattle.disk_unit.specs.Plans.{plan_of};
 ghost use Rattle.disk_unit.specs.Units.{told_of};
 ghost use Rattle.disk_unit.specs.declared.unit.Accepted.TheVariants as accepted;
-ghost use Rattle.target_units.specs.Seated.{IsProcess, IsNew, HasSent, running_id, running_entry, running_block, current_reply};
-ghost use Rattle.target_units.specs.Units.{IsUnitOf, AreUnitsOf, AreUnitsAfter, AreEarly, IsStep, unit_in, unit_after_reset, is_of_one, first_unit, reply_at, spare_of, is_before as is_before_unit};
+ghost use Rattle.target_units.specs.Seated.{IsProcess, IsNew, HasSent, IsSensing, running_id, running_entry, running_block, current_reply};
+ghost use Rattle.target_units.specs.Units.{IsUnitOf, AreUnitsOf, AreUnitsAfter, AreEarly, IsStep, unit_in, unit_after_reset, is_of_one, first_unit, reply_at, spare_of, no_unit, contents_in, contents_handed, state_contents, is_before as is_before_unit};
 ghost use Rattle.target_units.specs.Fillings.{blocks_at};
 ghost use Rattle.target_units.specs.Readies.{ready_unit};
-ghost use Rattle.target_units.specs.declared.logical.LogicalUnit.{LogicalUnit as LogicalUnitValue};
 ghost use Rattle.bus_due.specs.Wants.{ready_at, ready_among};
 ghost use Rattle.bus_due.specs.Tasks.{room_of, size_of, reply_now};
 
@@ -29,7 +29,7 @@ use crate::logical::LogicalUnit;
 use crate::ready::Ready;
 use bus_base::{AbortKind, Class, Dev, NoMemory, Ns, ProcId};
 use bus_dialogue::Room;
-use disk_unit::{Accepted, Plan, Reply};
+use disk_unit::{Accepted, Plan, Reply, SparseBlocks};
 use scenario::{Scenario, TargetDef};
 use scsi_device::scenarios_fit_the_bus;
 use std::alloc::Global;
@@ -94,8 +94,9 @@ impl Units {
     /// The units of a target with this seek time, by number.
     pub fn new(dev: Dev, seek: u32, units: [LogicalUnit; 8]) -> Units
         ensures exact { result ≡ record { dev = dev; seek = seek; units = units } }
-        ensures start { (s : ScenarioValue)
+        ensures start { (s : ScenarioValue) → FitsBus s → has_target s dev ≡ true
             → ((n : ℕ) → n < 8 → IsUnitOf s.hosts (seat_of (starting_array s) dev n) 0 (unit_in units n))
+            → ((n : ℕ) → n < 8 → blocks_at (unit_of s dev n) s.commands ≤ spare_of (unit_in units n))
             → AreUnitsOf s (settled_array (starting_array s)) (replicate (length s.units) 0) dev result.units }
     {
         are_eight(&units);
@@ -305,29 +306,32 @@ impl Units {
             → AreUnitsOf s a times self.old.dev self.old.units → IsOwn s self.old.dev unit p
             → IsProcess p id from tag class cdb.now → IsNew s.hosts (seat_of a self.old.dev unit) p
             → HasSeats s → IsSound s a → result ≡ accepted.Full → step s (events.Accept id) a ≡ None }
+        ensures refused { (s : ScenarioValue) (a b : Array) (times : List ℕ) (p : Process)
+            → AreUnitsOf s a times self.old.dev self.old.units → IsOwn s self.old.dev unit p
+            → IsProcess p id from tag class cdb.now → IsStep s (events.Refuse id) a b → result ≡ accepted.Full }
         ensures refuses { (s : ScenarioValue) (a b : Array) (times : List ℕ) (p : Process)
             → AreUnitsOf s a times self.old.dev self.old.units → IsOwn s self.old.dev unit p
             → IsProcess p id from tag class cdb.now → IsNew s.hosts (seat_of a self.old.dev unit) p
-            → result ≡ accepted.Full → IsStep s (events.Refuse id) a b
-            → AreUnitsAfter s a b times now self.old.dev self.new.units }
+            → IsStep s (events.Refuse id) a b → AreUnitsAfter s a b times now self.old.dev self.new.units }
         ensures dev { self.new.dev ≡ self.old.dev }
         ensures seek { self.new.seek ≡ self.old.seek }
     {
         self.units[unit as usize].accept(id, from, tag, class, cdb, now)
     }
 
-    /// A process runs at `now`, in ns, with the bytes that it sent (`LogicalUnit::run`).
+    /// A process runs at `now`, in ns, with the bytes that it sent (`LogicalUnit::run`). A process of the queue whose
+    /// run the array allows, and which had no reply before, always runs: the blocks that it writes have memory.
     pub fn run(&mut self, unit: u8, id: ProcId, sent: &[u8], now: Ns) -> Option<Reply>
         requires unit { unit < 8 }
         ensures array { (s : ScenarioValue) (a b : Array) (times : List ℕ) (p : Process)
             → AreUnitsOf s a times self.old.dev self.old.units → IsOwn s self.old.dev unit p → p.id ≡ id
             → guest_at (seat_of a self.old.dev unit).guests id ≡ None → HasSent (seat_of a self.old.dev unit) p sent.now
-            → is_some result ≡ true → IsStep s (events.Run id) a b
+            → reply_in a.replies id ≡ None → IsStep s (events.Run id) a b
             → AreUnitsAfter s a b times now self.old.dev self.new.units }
         ensures reply { (s : ScenarioValue) (a b : Array) (times : List ℕ) (p : Process)
             → AreUnitsOf s a times self.old.dev self.old.units → IsOwn s self.old.dev unit p → p.id ≡ id
             → guest_at (seat_of a self.old.dev unit).guests id ≡ None → HasSent (seat_of a self.old.dev unit) p sent.now
-            → is_some result ≡ true → IsStep s (events.Run id) a b → result ≡ Some (told_of (reply_now a p)) }
+            → reply_in a.replies id ≡ None → IsStep s (events.Run id) a b → result ≡ Some (told_of (reply_now a p)) }
         ensures guest { (s : ScenarioValue) (a b : Array) (times : List ℕ) (p : Process) (r : RunningProcess)
             → AreUnitsOf s a times self.old.dev self.old.units → IsOwn s self.old.dev unit p → p.id ≡ id
             → guest_at (seat_of a self.old.dev unit).guests id ≡ Some r
@@ -372,7 +376,7 @@ impl Units {
         ensures array { (s : ScenarioValue) (a b : Array) (times : List ℕ) (p : Process) (given : ArrayReply)
             (status : ℕ) → AreUnitsOf s a times self.old.dev self.old.units → IsOwn s self.old.dev unit p
             → guest_at (seat_of a self.old.dev unit).guests p.id ≡ Some (record { process = p; reply = Some given })
-            → p.initiator ≡ from → reply.now ≡ told_of given → is_request_sense (command_of p.cdb) ≡ senses
+            → p.initiator ≡ from → reply.now ≡ told_of given → IsSensing given p senses
             → IsStep s (events.End p.id status) a b → AreUnitsAfter s a b times now self.old.dev self.new.units }
         ensures dev { self.new.dev ≡ self.old.dev }
         ensures seek { self.new.seek ≡ self.old.seek }
@@ -429,11 +433,21 @@ impl Units {
     {
         self.clear(now);
     }
-}
 
-/// An event of a process of another target, or an abort there, changes nothing of the units of a target.
-pub fn units_stay()
-    ensures { (s : ScenarioValue) (event : Event) (a b : Array) (times : List ℕ) (now dev : ℕ)
-        (units : List LogicalUnitValue) → IsStep s event a b → AreUnitsOf s a times dev units
-        → ((n : ℕ) → n < 8 → is_elsewhere s event dev n ≡ true) → AreUnitsAfter s a b times now dev units }
-{}
+    /// Hands out the blocks of a unit, where it is there, and leaves one in its place that is not. The other units
+    /// stay as they were.
+    pub fn take_blocks(&mut self, unit: u8) -> Option<SparseBlocks>
+        requires unit { unit < 8 }
+        ensures exact { contents_handed result ≡ contents_in (unit_in self.old.units unit) }
+        ensures array { (s : ScenarioValue) (a : Array) (times : List ℕ)
+            → AreUnitsOf s a times self.old.dev self.old.units
+            → contents_handed result ≡ state_contents (unit_state_at a.units self.old.dev unit) }
+        ensures left { unit_in self.new.units unit ≡ no_unit }
+        ensures others { (n : ℕ) → n < 8 → (n == unit) ≡ false
+            → unit_in self.new.units n ≡ unit_in self.old.units n }
+        ensures dev { self.new.dev ≡ self.old.dev }
+        ensures seek { self.new.seek ≡ self.old.seek }
+    {
+        self.units[unit as usize].take_blocks()
+    }
+}

@@ -3,7 +3,7 @@ use Rattle.disk_array.specs.Execution.{queue_full}
 use Rattle.disk_array.specs.Seats.{seat_with_guest}
 use Rattle.std.specs.Prelude.{Some}
 use Rattle.target_units.specs.Seated.{settled}
-use Rattle.target_units.proofs.SeatSteps.{by_state, accepts, refuses}
+use Rattle.target_units.proofs.SeatSteps.{by_state, accepts, refuses, refused_full, arrival_spare}
 use Rattle.target_units.proofs.seated.SeatedUnit.accept.Goals as goal
 
 pub returns-clause-accepts : goal.returns-clause-accepts
@@ -20,3 +20,11 @@ returns-clause-refuses c = λ hosts seat time p h words new full.
       by_state hosts seat (seat_with_guest seat p (Some queue_full)) time c.args.now _ _
           (c.settle.ensures ∙ (λ i. settled (c.current_process-before.ensures i) c.args.now c.arrive-accepted.new.self)) x.2,
     )
+
+pub returns-clause-refused : goal.returns-clause-refused
+returns-clause-refused c = λ hosts seat after time p h words e.
+    refused_full hosts seat after time c.args.self.now c.arrive-accepted.new.self p c.args.id c.args.from c.args.tag c.args.class c.args.cdb.now c.arrive-accepted.result c.arrive-accepted.ensures h words e
+
+pub returns-clause-spare : goal.returns-clause-spare
+returns-clause-spare c =
+    (λ i. (c.settle.ensures i).spare) ∙ arrival_spare c.args.self.now c.arrive-accepted.new.self _ c.args.cdb.now c.arrive-accepted.result c.arrive-accepted.ensures

@@ -1,0 +1,88 @@
+-- What a write of a scenario sends.
+use Rattle.std.proofs.Common.{ℕ, ◌≡◌, ◌*◌, ◌≤◌, Bool, true, false, List, [], length, ◌∙◌, refl, sym, subst, arith, Option, Some, None, Result, Ok, Err}
+use Rattle.std.specs.Prelude.{if◌then◌else◌, is_some}
+use Rattle.cdb_codec.specs.Cdb.{command_of}
+use Rattle.cdb_codec.specs.declared.command.Command.{Command}
+use Rattle.cdb_codec.specs.declared.command.Command.TheVariants as commands
+use Rattle.cdb_codec.specs.declared.command.CdbFault.{CdbFault}
+use Rattle.cdb_codec.specs.declared.status.TheConstants.{GOOD}
+use Rattle.scenario.specs.declared.value.CmdDef.{CmdDef}
+use Rattle.scenario.specs.Lookups.{has_target}
+use Rattle.scenario.specs.Needs.{is_write}
+use Rattle.scenario.specs.Value.{ScenarioValue}
+use Rattle.disk_array.specs.Contents.{Contents}
+use Rattle.disk_array.specs.Execution.{execution, is_good_range, range_of, is_request_sense}
+use Rattle.disk_array.specs.Order.{count_in, range_in}
+use Rattle.disk_array.specs.Processes.{Process, process_of, process_if, process_by, command_at}
+use Rattle.disk_array.specs.Seats.{seat_of, contents_of, context_of}
+use Rattle.disk_array.specs.Units.{Array, UnitState, unit_state_at}
+use Rattle.bus_due.specs.Tasks.{reply_now, size_of}
+use Rattle.disk_unit.specs.Disk.{blocks_written, blocks_written_by, written_of}
+use Rattle.scsi_device.specs.Lines.{FitsBus, IsCommandLine}
+use Rattle.scsi_device.proofs.FitLines.{command_fits}
+use Rattle.target_units.specs.Rooms.{AreOfLines}
+use Rattle.target_units.proofs.Rooms.{IsByLine, by_line, plain_id, good_range, Sends, sends, few_sent}
+use Rattle.target_units.proofs.UnitTellings.{reply_same}
+
+write_id : (s : ScenarioValue) (p : Process) → process_of s p.id ≡ Some p → is_write (command_of p.cdb) ≡ true → p.id.sense ≡ false
+write_id s p e writes = plain_id s p e (no_sense (command_of p.cdb) writes)
+  where
+    no_sense : (r : Result Command CdbFault) → is_write r ≡ true → is_request_sense r ≡ false
+    no_sense (Err fault) k = cc
+    no_sense (Ok commands.TestUnitReady) k = cc
+    no_sense (Ok (commands.RequestSense room)) k = cc
+    no_sense (Ok (commands.Read6 lba count)) k = cc
+    no_sense (Ok (commands.Write6 lba count)) k = refl
+    no_sense (Ok (commands.Inquiry room)) k = cc
+    no_sense (Ok commands.ReadCapacity) k = cc
+    no_sense (Ok (commands.Read10 lba count)) k = cc
+    no_sense (Ok (commands.Write10 lba count)) k = refl
+
+-- The blocks of a write that is carried out are those that it names.
+written_named : (c : Contents) (r : Result Command CdbFault) → is_write r ≡ true → ((command : Command) → r ≡ Ok command → is_good_range c.count (range_of command) ≡ true) → blocks_written_by c r ≡ count_in (range_in r)
+written_named c (Err fault) k good = cc
+written_named c (Ok command) k good =
+    (λ i. if good command refl i then written_of command else 0) ∙ (λ i. if k i then count_in (range_of command) else 0)
+
+pub named : (s : ScenarioValue) (a : Array) (p : Process) → FitsBus s → AreOfLines s a → has_target s p.target ≡ true → process_of s p.id ≡ Some p → is_write (command_of p.cdb) ≡ true → (reply_now a p).status ≡ GOOD
+    → count_in (range_in (command_of p.cdb)) * size_of (unit_state_at a.units p.target p.unit) ≡ length p.sent
+named s a p fits lines target is writes good =
+    go (unit_state_at a.units p.target p.unit) refl
+  where
+    all : Sends a p
+    all = sends s a p fits lines target is (write_id s p is writes)
+
+    status : (execution (context_of (seat_of a p.target p.unit) p.initiator) p.cdb p.sent).reply.status ≡ GOOD
+    status = (λ i. (reply_same a p.target p.unit p.initiator p.cdb p refl refl refl refl i).status) ∙ good
+
+    go : (x : Option UnitState) → unit_state_at a.units p.target p.unit ≡ x → count_in (range_in (command_of p.cdb)) * size_of (unit_state_at a.units p.target p.unit) ≡ length p.sent
+    go None f =
+        let blocks : ℕ = blocks_written (contents_of (unit_state_at a.units p.target p.unit)) p.cdb in
+        let count : ℕ = count_in (range_in (command_of p.cdb)) in
+        let nothing : count * 0 ≡ blocks * 0 = omega arith in
+        (λ i. count * size_of (f i)) ∙ nothing ∙ (λ i. blocks * (contents_of (sym f i)).size) ∙ sym (all.bytes status)
+    go (Some v) f =
+        let there : is_some (unit_state_at a.units p.target p.unit) ≡ true = λ i. is_some (f i) in
+        let count : blocks_written_by (contents_of (unit_state_at a.units p.target p.unit)) (command_of p.cdb) ≡ count_in (range_in (command_of p.cdb)) =
+        written_named (contents_of (unit_state_at a.units p.target p.unit)) (command_of p.cdb) writes (λ command e. good_range (context_of (seat_of a p.target p.unit) p.initiator) p.cdb p.sent command there e status) in
+        (λ i. sym count i * size_of (f i)) ∙ (λ i. blocks_written (contents_of (unit_state_at a.units p.target p.unit)) p.cdb * (contents_of (sym f i)).size) ∙ sym (all.bytes status)
+
+pub few_bytes : (s : ScenarioValue) (p : Process) → FitsBus s → process_of s p.id ≡ Some p → length p.sent ≤ 65536
+few_bytes s p fits e = go (command_at s.commands p.id.command) refl e
+  where
+    go : (x : Option CmdDef) → command_at s.commands p.id.command ≡ x → process_if s p.id x ≡ Some p → length p.sent ≤ 65536
+    go None f k = cc
+    go (Some c) f k = at p.id.sense refl
+      where
+        line : IsCommandLine s c
+        line = command_fits s p.id.command c fits f
+
+        at : (y : Bool) → p.id.sense ≡ y → length p.sent ≤ 65536
+        at true g =
+            let made : process_by s p.id c ≡ p = cc in
+            let none : [] ≡ p.sent = (λ i. (process_by s (record { command = p.id.command; sense = sym g i }) c).sent) ∙ (λ i. (made i).sent) in
+            subst (λ (xs : List ℕ). length xs ≤ 65536) none (omega arith)
+        at false g =
+            let by : IsByLine s p = by_line s p e g in
+            let own : IsCommandLine s by.line = command_fits s p.id.command by.line fits by.is in
+            few_sent s by.line own.need ((λ i. length (by.sent i)) ∙ own.sent)
