@@ -10,3 +10,18 @@ mod TimesTwice
 mod RowEvents
 mod Beginnings
 mod UnitRows
+pub mod AttendedRuns
+pub mod RowShapes
+pub mod RowOutside
+pub mod RowKnown
+pub mod RowSent
+pub mod RowOwn
+pub mod RowServed
+pub mod LostUnits
+pub mod RowEnds
+pub mod RowResets
+pub mod Servables
+pub mod RowBegins
+pub mod Reselected
+pub mod Turning
+mod AttendedCases

@@ -1,11 +1,13 @@
 -- The units of a target and the process of its connection after each event of that.
 use Rattle.std.proofs.Common.{ℕ, ◌≡◌, Bool, true, false, List, ◌∙◌, refl, sym, subst, Option, Some, None}
-use Rattle.std.specs.Prelude.{if◌then◌else◌, not, ◌||◌, is_some}
+use Rattle.std.specs.Prelude.{if◌then◌else◌, not, ◌||◌, ◌==◌, is_some}
+use Rattle.std.proofs.lemmas.Bool.{eqb-true}
 use Rattle.bus_base.specs.declared.AbortKind.{AbortKind}
 use Rattle.bus_base.specs.declared.AbortKind.TheVariants as aborts
 use Rattle.bus_base.specs.declared.Event.TheVariants as events
 use Rattle.bus_dialogue.specs.declared.exchange.Room.{Room}
 use Rattle.cdb_codec.specs.Cdb.{command_of}
+use Rattle.cdb_codec.specs.declared.status.TheConstants.{GOOD}
 use Rattle.scenario.specs.declared.value.HostDef.{HostDef}
 use Rattle.scenario.specs.Value.{ScenarioValue}
 use Rattle.disk_array.specs.Execution.{Reply, execution, is_request_sense, queue_full}
@@ -18,21 +20,18 @@ use Rattle.disk_array.specs.Processes.{same_id}
 use Rattle.disk_unit.proofs.LiveCommands.{same_id_is}
 use Rattle.disk_array.specs.Units.{RunningProcess, UnitState, Array, unit_state_at, guest_at}
 use Rattle.disk_unit.specs.declared.media.Plan.{Plan}
-use Rattle.disk_unit.specs.declared.unit.Accepted.{Accepted}
-use Rattle.disk_unit.specs.declared.unit.Accepted.TheVariants as accepted
 use Rattle.disk_unit.specs.declared.unit.Reply as unit
 use Rattle.disk_unit.specs.Plans.{plan_of}
 use Rattle.disk_unit.specs.Units.{told_of}
 use Rattle.bus_due.specs.Tasks.{room_of, reply_now}
-use Rattle.target_units.specs.Seated.{IsNew, aborted_reply, reply_told, running_id, current_reply, is_same_process}
-use Rattle.target_course.specs.Courses.{status_if}
+use Rattle.target_units.specs.Seated.{IsNew, aborted_reply, reply_told}
 use Rattle.target_units.specs.Units.{IsStep, AreUnitsAfter, is_of_one}
 use Rattle.target_units.proofs.UnitSteps.{accept_left, refuse_left, run_left, fail_left, end_left, loss_left, running_own}
 use Rattle.target_units.proofs.UnitTellings.{reply_same}
 use Rattle.disk_target.specs.declared.standing.Standing.{Standing}
 use Rattle.disk_target.specs.declared.standing.Standing.TheVariants as standings
-use Rattle.disk_target.specs.Standings.{is_inside, IsGuest, IsNoGuest, IsStanding, standing_on_arrival, standing_on_failure, reply_planned, is_guest, outcome_of, told_status, status_by, status_of, running_reply}
-use Rattle.disk_target.specs.Processes.{ProcessesState, AreProcessesAt, AreProcessesAfter, is_refused}
+use Rattle.disk_target.specs.Standings.{is_inside, IsGuest, IsNoGuest, IsStanding, standing_on_arrival, standing_on_failure, reply_planned, is_guest, outcome_of}
+use Rattle.disk_target.specs.Processes.{ProcessesState, AreProcessesAfter}
 use Rattle.disk_target.proofs.StandingEvents
 
 pub made : (s : ScenarioValue) (a b : Array) (times : List ℕ) (now : ℕ) (p : Process) (n dev : ℕ) (w : ProcessesState) → w.units.dev ≡ dev → AreUnitsAfter s a b times now dev w.units.units → IsStanding (seat_of b dev n) p w.standing → AreProcessesAfter s a b times now p n w
@@ -92,11 +91,6 @@ accepted_standing s a b p dev n room cdb outside v st own h room_is block outsid
     ∙ (λ i. standing_on_arrival (not (room_there a (unit_state_at a.units dev n) i) || is_request_sense (command_of p.cdb)))))
     (StandingEvents.after_choice left.seat (seat_of b dev n) p _ left.settles (StandingEvents.accepts (seat_of a dev n) left.seat p (unit_state_at a.units dev n) refl h.none left.is))
 
-pub refused_is : (x : Accepted) → is_refused x ≡ true → x ≡ accepted.Full
-refused_is accepted.Full e = refl
-refused_is accepted.AtOnce e = cc
-refused_is (accepted.Queued key) e = cc
-
 pub refused_standing : (s : ScenarioValue) (a b : Array) (p : Process) (dev n : ℕ) (reply : unit.Reply) → IsStep s (events.Refuse p.id) a b → IsOwn s dev n p → IsNoGuest (seat_of a dev n) p false → reply ≡ told_of queue_full → IsStanding (seat_of b dev n) p (standings.Guest (Some reply))
 refused_standing s a b p dev n reply st own h e =
     let left = refuse_left s a b p dev n st own in
@@ -124,13 +118,11 @@ pub no_guest_ran : (s : ScenarioValue) (a b : Array) (p : Process) (dev n : ℕ)
 no_guest_ran s a b p dev n standings.Nowhere e st own h = inside_ran s a b p dev n standings.Nowhere false refl st own h
 no_guest_ran s a b p dev n standings.Queued e st own h = inside_ran s a b p dev n standings.Queued true refl st own h
 no_guest_ran s a b p dev n (standings.Guest reply) e st own h = cc
-no_guest_ran s a b p dev n (standings.Ended status) e st own h = inside_ran s a b p dev n standings.Nowhere false refl st own h
 
 pub none_outside : (seat : Seat) (p : Process) (v : Standing) → is_guest v ≡ false → IsStanding seat p v → guest_at seat.guests p.id ≡ None
 none_outside seat p standings.Nowhere e h = h.none
 none_outside seat p standings.Queued e h = h.none
 none_outside seat p (standings.Guest reply) e h = cc
-none_outside seat p (standings.Ended status) e h = h.none
 
 pub record IsGuestWith (v : Standing) : Type 0 where
   pub reply : Option unit.Reply
@@ -139,7 +131,6 @@ pub record IsGuestWith (v : Standing) : Type 0 where
 pub guest_of : (v : Standing) → is_guest v ≡ true → IsGuestWith v
 guest_of standings.Nowhere e = cc
 guest_of standings.Queued e = cc
-guest_of (standings.Ended status) e = cc
 guest_of (standings.Guest reply) e = record { reply = reply; is = refl }
 
 pub guest_sense : (s : ScenarioValue) (a b : Array) (p : Process) (dev n : ℕ) (old : Option unit.Reply) → IsStep s (events.Run p.id) a b → IsOwn s dev n p → (h : IsGuest (seat_of a dev n) p old) → is_some (unit_state_at a.units dev n) ≡ true → is_request_sense (command_of h.guest.process.cdb) ≡ true
@@ -198,13 +189,11 @@ guest_stays seat after p status h e = go h.guest.reply refl h.reply_is ((λ i. S
 pub outcome_is : (v : Standing) (reply : unit.Reply) → outcome_of v ≡ Some reply → v ≡ standings.Guest (Some reply)
 outcome_is standings.Nowhere reply e = cc
 outcome_is standings.Queued reply e = cc
-outcome_is (standings.Ended status) reply e = cc
 outcome_is (standings.Guest given) reply e = λ i. standings.Guest (e i)
 
 pub ends_inside : (s : ScenarioValue) (a b : Array) (p : Process) (status dev n : ℕ) (v : Standing) → outcome_of v ≡ None → IsStep s (events.End p.id status) a b → IsOwn s dev n p → IsStanding (seat_of a dev n) p v → guest_at (seat_of a dev n).guests p.id ≡ None
 ends_inside s a b p status dev n standings.Nowhere e st own h = h.none
 ends_inside s a b p status dev n standings.Queued e st own h = h.none
-ends_inside s a b p status dev n (standings.Ended last) e st own h = h.none
 ends_inside s a b p status dev n (standings.Guest None) e st own h =
     let left = end_left s a b p status dev n st own in
     guest_stays (seat_of a dev n) left.seat p status h left.is
@@ -229,6 +218,19 @@ guest_ended s a b p status dev n reply st own h =
     StandingEvents.after_choice left.seat (seat_of b dev n) p standings.Nowhere left.settles
     (StandingEvents.ends (seat_of a dev n) left.seat p status h.guest (StandingEvents.guest_runs_at (seat_of a dev n) p (Some reply) h) (λ i. (h.process_is i).id) left.is)
 
+ends_so : {A : Type 0} (y : Bool) (x after : A) → (if y then Some x else None) ≡ Some after → y ≡ true
+ends_so true x after e = refl
+ends_so false x after e = cc
+
+-- A guest ends with the status of its reply.
+pub good_end : (s : ScenarioValue) (a b : Array) (p : Process) (status dev n : ℕ) (given : Reply) → IsStep s (events.End p.id status) a b → IsOwn s dev n p → guest_at (seat_of a dev n).guests p.id ≡ Some (record { process = p; reply = Some given }) → (given.status == GOOD) ≡ true → (status == GOOD) ≡ true
+good_end s a b p status dev n given st own at good =
+    let left = end_left s a b p status dev n st own in
+    let seat : Seat = seat_of a dev n in
+    let seen : Seats.seat_after_end_with seat p status (Some given) ≡ Some left.seat = (λ i. Seats.seat_after_end_of seat status (if is_some (sym at i) then sym at i else running_if (Seats.current_of seat.unit) p.id)) ∙ left.is in
+    let same : given.status ≡ status = eqb-true given.status status (ends_so (given.status == status) (Seats.seat_without (Seats.seat_after_status seat p given) p.id) left.seat seen) in
+    (λ i. sym same i == GOOD) ∙ good
+
 -- ---- aborts
 
 pub device_is : (kind : AbortKind) → is_of_one kind ≡ false → kind ≡ aborts.Device
@@ -236,35 +238,3 @@ device_is aborts.All e = cc
 device_is (aborts.Tag n) e = cc
 device_is aborts.WholeQueue e = cc
 device_is aborts.Device e = refl
-
--- ---- its status
-
-status_told : (x : Option Reply) → status_if x ≡ told_status (reply_told x)
-status_told None = refl
-status_told (Some reply) = refl
-
-inside_status : (c : Option RunningProcess) (p : Process) → status_if (running_reply (running_if c p.id)) ≡ (if is_same_process (running_id c) (Some p.id) then told_status (current_reply c) else None)
-inside_status None p = refl
-inside_status (Some r) p = go (same_id r.process.id p.id)
-  where
-    go : (y : Bool) → status_if (running_reply (if y then Some r else None)) ≡ (if y then told_status (reply_told r.reply) else None)
-    go true = status_told r.reply
-    go false = refl
-
-pub status_is : (seat : Seat) (p : Process) (v : Standing) → IsStanding seat p v → status_by v (running_id (Seats.current_of seat.unit)) (current_reply (Seats.current_of seat.unit)) p.id ≡ status_of seat p v
-status_is seat p standings.Nowhere h = λ i. status_if (running_reply (sym (at) i))
-  where
-    at : Seats.running_at seat p.id ≡ None
-    at = (λ i. if is_some (h.none i) then h.none i else running_if (Seats.current_of seat.unit) p.id) ∙ not_current seat.unit p h.inside_is
-status_is seat p standings.Queued h =
-    sym ((λ i. status_if (running_reply (if is_some (h.none i) then h.none i else running_if (Seats.current_of seat.unit) p.id))) ∙ inside_status (Seats.current_of seat.unit) p)
-status_is seat p (standings.Ended status) h = refl
-status_is seat p (standings.Guest reply) h =
-    (λ i. told_status (h.reply_is i)) ∙ sym (status_told h.guest.reply)
-    ∙ (λ i. status_if (running_reply (sym (StandingEvents.guest_runs_at seat p reply h) i)))
-
--- It has ended with this status.
-pub ended_with : (s : ScenarioValue) (b : Array) (times : List ℕ) (p : Process) (n : ℕ) (v w : ProcessesState) (status : Option ℕ) → v.standing ≡ standings.Nowhere → w ≡ record v { standing = standings.Ended status } → AreProcessesAt s b times p n v → AreProcessesAt s b times p n w
-ended_with s b times p n v w status nowhere is h =
-    subst (λ (x : ProcessesState). AreProcessesAt s b times p n x) (sym is)
-    (record { units = h.units; standing = subst (λ (x : Standing). IsStanding (seat_of b v.units.dev n) p x) nowhere h.standing })

@@ -21,7 +21,6 @@ use Rattle.disk_target.proofs.StandingSteps.{settles, stands, arrived, guest_mor
 
 pub settled : (seat : Seat) (p : Process) (v : Standing) → IsStanding seat p v → IsStanding (settled_seat seat) p v
 settled seat p standings.Nowhere h = record { none = h.none; inside_is = settles (Seats.is_any_held seat.hold) seat.unit p.id ∙ h.inside_is }
-settled seat p (standings.Ended status) h = record { none = h.none; inside_is = settles (Seats.is_any_held seat.hold) seat.unit p.id ∙ h.inside_is }
 settled seat p standings.Queued h = record { none = h.none; inside_is = settles (Seats.is_any_held seat.hold) seat.unit p.id ∙ h.inside_is }
 settled seat p (standings.Guest reply) h = record {
   guest = h.guest;
@@ -156,7 +155,6 @@ fails_guest seat after p ended reply old h e =
 
 pub fails : (seat after : Seat) (p : Process) (ended : Bool) (reply : Reply) (v : Standing) → IsStanding seat p v → Seats.seat_after_failure ended p reply seat ≡ Some after → IsStanding after p (standing_on_failure v (told_of reply))
 fails seat after p ended reply standings.Nowhere h e = fails_nowhere seat after p ended reply h e
-fails seat after p ended reply (standings.Ended status) h e = fails_nowhere seat after p ended reply h e
 fails seat after p ended reply standings.Queued h e = fails_queued seat after p ended reply h e
 fails seat after p ended reply (standings.Guest old) h e = fails_guest seat after p ended reply old h e
 

@@ -1,4 +1,6 @@
 pub mod Bytes
-pub mod Targets
 pub mod Standings
 pub mod Processes
+pub mod Attended
+pub mod Targets
+pub mod Turns

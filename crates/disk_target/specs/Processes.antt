@@ -1,14 +1,14 @@
 -- The units of a target, and where the process of its connection stands.
-use Rattle.std.specs.Prelude.{◌≡◌, ◌<◌, ℕ, Bool, true, false, List, [], ◌∷◌, Option}
+use Rattle.std.specs.Prelude.{◌≡◌, ◌<◌, ◌==◌, ℕ, true, false, List, [], ◌∷◌, Option, None}
 use Rattle.bus_base.specs.declared.Event.{Event}
 use Rattle.bus_base.specs.declared.Event.TheVariants as events
 use Rattle.bus_base.specs.declared.ProcId.{ProcId}
+use Rattle.cdb_codec.specs.declared.status.TheConstants.{GOOD}
 use Rattle.scenario.specs.Value.{ScenarioValue}
 use Rattle.disk_array.specs.Processes.{Process}
-use Rattle.disk_array.specs.Seats.{Seat, seat_of, is_elsewhere}
+use Rattle.disk_array.specs.ArrayHistory.{reply_in}
+use Rattle.disk_array.specs.Seats.{seat_of, is_elsewhere}
 use Rattle.disk_array.specs.Units.{Array}
-use Rattle.disk_unit.specs.declared.unit.Accepted.{Accepted}
-use Rattle.disk_unit.specs.declared.unit.Accepted.TheVariants as accepted
 use Rattle.bus_trace.specs.declared.Row.{Row}
 use Rattle.bus_story.specs.BusState.{row_reading}
 use Rattle.bus_story.specs.HistoryEvents.{row_events_by}
@@ -19,7 +19,8 @@ use Rattle.target_units.specs.Seated.{HasSent}
 use Rattle.target_units.specs.Units.{UnitsState, AreUnitsOf, IsStep}
 use Rattle.disk_target.specs.declared.standing.Standing.{Standing}
 use Rattle.disk_target.specs.declared.standing.Standing.TheVariants as standings
-use Rattle.disk_target.specs.Standings.{IsStanding, is_guest}
+use Rattle.disk_target.specs.declared.standing.Served.{Served}
+use Rattle.disk_target.specs.Standings.{IsStanding, HasBlock, is_guest}
 
 pub record ProcessesState : Type 0 where
   pub units : UnitsState
@@ -34,33 +35,31 @@ pub record AreProcessesAt (s : ScenarioValue) (a : Array) (times : List ℕ) (p 
 abbrev pub AreProcessesAfter : ScenarioValue → Array → Array → List ℕ → ℕ → Process → ℕ → ProcessesState → Type 0
 AreProcessesAfter s a b times now p unit v = AreProcessesAt s b (current_times_after a.units b.units times now) p unit v
 
--- ---- arrival
+-- ---- an event of this process, which stands so at its unit before it: it arrives and runs once its command is known, runs
+-- in the queue with the bytes that it sends and without a reply, and ends GOOD only where its command is known
 
-abbrev pub is_refused : Accepted → Bool
-is_refused accepted.Full = true
-is_refused accepted.AtOnce = false
-is_refused (accepted.Queued key) = false
+pub record IsRunInside (a : Array) (dev unit : ℕ) (p : Process) (x : Served) : Type 0 where
+  pub sent : HasSent (seat_of a dev unit) p x.sent.now
+  pub unanswered : reply_in a.replies p.id ≡ None
 
--- ---- an event of this process, which stands so at its unit before it; with which bytes it runs
-
-abbrev pub IsOwnEvent : Seat → Process → List ℕ → Standing → Event → Type 0
-IsOwnEvent seat p sent v (events.Accept id) = (id ≡ p.id) × (v ≡ standings.Nowhere)
-IsOwnEvent seat p sent v (events.Refuse id) = (id ≡ p.id) × (v ≡ standings.Nowhere)
-IsOwnEvent seat p sent v (events.Run id) = (id ≡ p.id) × (is_guest v ≡ false → HasSent seat p sent)
-IsOwnEvent seat p sent v (events.Fail id code) = id ≡ p.id
-IsOwnEvent seat p sent v (events.End id status) = id ≡ p.id
-IsOwnEvent seat p sent v (events.Lost id) = id ≡ p.id
-IsOwnEvent seat p sent v (events.Aborted by dev unit kind) = ⊥
-IsOwnEvent seat p sent v (events.Reset by) = ⊥
+abbrev pub IsOwnEvent : Array → ℕ → ℕ → Process → Served → Standing → Event → Type 0
+IsOwnEvent a dev unit p x v (events.Accept id) = (id ≡ p.id) × (v ≡ standings.Nowhere) × HasBlock p x
+IsOwnEvent a dev unit p x v (events.Refuse id) = (id ≡ p.id) × (v ≡ standings.Nowhere) × HasBlock p x
+IsOwnEvent a dev unit p x v (events.Run id) = (id ≡ p.id) × HasBlock p x × (is_guest v ≡ false → IsRunInside a dev unit p x)
+IsOwnEvent a dev unit p x v (events.Fail id code) = id ≡ p.id
+IsOwnEvent a dev unit p x v (events.End id status) = (id ≡ p.id) × ((status == GOOD) ≡ true → HasBlock p x)
+IsOwnEvent a dev unit p x v (events.Lost id) = id ≡ p.id
+IsOwnEvent a dev unit p x v (events.Aborted by at what kind) = ⊥
+IsOwnEvent a dev unit p x v (events.Reset by) = ⊥
 
 -- These events of a row are of it, the newest first: none, one, or two of which the first is that its command arrives.
-abbrev pub AreOwnEvents : ScenarioValue → Array → ℕ → ℕ → Process → List ℕ → Standing → List Event → Type 0
-AreOwnEvents s a dev unit p sent v [] = Unit {0}
-AreOwnEvents s a dev unit p sent v (it ∷ []) = IsOwnEvent (seat_of a dev unit) p sent v it
-AreOwnEvents s a dev unit p sent v (it ∷ first ∷ []) =
-    (first ≡ events.Accept p.id) × (v ≡ standings.Nowhere)
-    × ((b : Array) (w : Standing) → IsStep s first a b → IsOwnEvent (seat_of b dev unit) p sent w it)
-AreOwnEvents s a dev unit p sent v (it ∷ first ∷ zeroth ∷ more) = ⊥
+abbrev pub AreOwnEvents : ScenarioValue → Array → ℕ → ℕ → Process → Served → Standing → List Event → Type 0
+AreOwnEvents s a dev unit p x v [] = Unit {0}
+AreOwnEvents s a dev unit p x v (it ∷ []) = IsOwnEvent a dev unit p x v it
+AreOwnEvents s a dev unit p x v (it ∷ first ∷ []) =
+    (first ≡ events.Accept p.id) × (v ≡ standings.Nowhere) × HasBlock p x
+    × ((b : Array) (w : Standing) → IsStep s first a b → IsOwnEvent b dev unit p x w it)
+AreOwnEvents s a dev unit p x v (it ∷ first ∷ zeroth ∷ more) = ⊥
 
 -- ---- after some rows
 

@@ -1,19 +1,19 @@
 -- Where a process stands at its logical unit: in the queue, outside it, or nowhere.
-use Rattle.std.specs.Prelude.{◌≡◌, ℕ, Bool, true, false, ◌||◌, List, Option, Some, None, is_some, if◌then◌else◌}
+use Rattle.std.specs.Prelude.{◌≡◌, ℕ, Bool, true, false, ◌||◌, List, Option, Some, None, is_some}
 use Rattle.std.specs.List.{list_any}
 use Rattle.bus_base.specs.declared.ProcId.{ProcId}
 use Rattle.cdb_codec.specs.Cdb.{command_of}
 use Rattle.scenario.specs.Value.{ScenarioValue}
-use Rattle.disk_array.specs.Execution.{Reply as ArrayReply, is_request_sense}
+use Rattle.disk_array.specs.Execution.{is_request_sense}
+use Rattle.disk_array.specs.Order.{class_of, tag_number}
 use Rattle.disk_array.specs.Processes.{Process, same_id}
-use Rattle.disk_array.specs.Seats.{Seat, is_initiator, running_at}
+use Rattle.disk_array.specs.Seats.{Seat, is_initiator}
 use Rattle.disk_array.specs.SoundArray.{IsOwn}
 use Rattle.disk_array.specs.Steps.{running_if}
 use Rattle.disk_array.specs.Units.{RunningProcess, UnitState, guest_at}
 use Rattle.disk_unit.specs.declared.media.Plan.{Plan}
 use Rattle.disk_unit.specs.declared.unit.Reply.{Reply}
-use Rattle.target_course.specs.Courses.{status_if}
-use Rattle.target_units.specs.Seated.{IsProcess, reply_told, is_same_process}
+use Rattle.target_units.specs.Seated.{IsProcess, reply_told}
 use Rattle.disk_target.specs.declared.standing.Served.{Served}
 use Rattle.disk_target.specs.declared.standing.Standing.{Standing}
 use Rattle.disk_target.specs.declared.standing.Standing.TheVariants as standings
@@ -22,8 +22,18 @@ use Rattle.disk_target.specs.declared.standing.Standing.TheVariants as standings
 
 pub record IsServed (s : ScenarioValue) (dev : ℕ) (p : Process) (v : Served) : Type 0 where
   pub own : IsOwn s dev v.unit p
-  pub words : IsProcess p v.id v.from v.tag v.class v.cdb.now
+  pub id_is : p.id ≡ v.id
+  pub from_is : p.initiator ≡ v.from
+  pub tag_is : tag_number p.tag ≡ v.tag
+  pub class_is : class_of p.tag ≡ v.class
   pub host : is_initiator s.hosts p.initiator ≡ true
+
+-- Once its command is known to its target.
+abbrev pub HasBlock : Process → Served → Type 0
+HasBlock p v = p.cdb ≡ v.cdb.now
+
+abbrev pub words_of : (s : ScenarioValue) (dev : ℕ) (p : Process) (v : Served) → IsServed s dev p v → HasBlock p v → IsProcess p v.id v.from v.tag v.class v.cdb.now
+words_of s dev p v h block = record { id_is = h.id_is; from_is = h.from_is; tag_is = h.tag_is; class_is = h.class_is; cdb_is = block }
 
 -- ---- at its unit
 
@@ -52,7 +62,6 @@ abbrev pub IsStanding : Seat → Process → Standing → Type 0
 IsStanding seat p standings.Nowhere = IsNoGuest seat p false
 IsStanding seat p standings.Queued = IsNoGuest seat p true
 IsStanding seat p (standings.Guest reply) = IsGuest seat p reply
-IsStanding seat p (standings.Ended status) = IsNoGuest seat p false
 
 -- ---- as the connection begins
 
@@ -70,43 +79,17 @@ abbrev pub standing_on_failure : Standing → Reply → Standing
 standing_on_failure standings.Nowhere reply = standings.Guest (Some reply)
 standing_on_failure standings.Queued reply = standings.Queued
 standing_on_failure (standings.Guest old) reply = standings.Guest (Some reply)
-standing_on_failure (standings.Ended status) reply = standings.Guest (Some reply)
 
 abbrev pub is_guest : Standing → Bool
 is_guest standings.Nowhere = false
 is_guest standings.Queued = false
 is_guest (standings.Guest reply) = true
-is_guest (standings.Ended status) = false
 
 -- The reply that it has outside the queue.
 abbrev pub outcome_of : Standing → Option Reply
 outcome_of standings.Nowhere = None
 outcome_of standings.Queued = None
 outcome_of (standings.Guest reply) = reply
-outcome_of (standings.Ended status) = None
-
-abbrev pub told_status : Option Reply → Option ℕ
-told_status None = None
-told_status (Some reply) = Some reply.status
-
--- The status of its reply, where this is the current process of its unit, which has this reply.
-abbrev pub status_by : Standing → Option ProcId → Option Reply → ProcId → Option ℕ
-status_by standings.Nowhere current reply id = None
-status_by standings.Queued current reply id = if is_same_process current (Some id) then told_status reply else None
-status_by (standings.Guest given) current reply id = told_status given
-status_by (standings.Ended status) current reply id = status
-
--- The reply of a process that runs, once it has one.
-abbrev pub running_reply : Option RunningProcess → Option ArrayReply
-running_reply None = None
-running_reply (Some r) = r.reply
-
--- The status of its reply: that with which it ended, or of the reply that it has at its unit.
-abbrev pub status_of : Seat → Process → Standing → Option ℕ
-status_of seat p (standings.Ended status) = status
-status_of seat p standings.Nowhere = status_if (running_reply (running_at seat p.id))
-status_of seat p standings.Queued = status_if (running_reply (running_at seat p.id))
-status_of seat p (standings.Guest reply) = status_if (running_reply (running_at seat p.id))
 
 -- What a plan tells of a reply.
 abbrev pub reply_planned : Plan → Reply

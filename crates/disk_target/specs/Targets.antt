@@ -1,19 +1,24 @@
 -- A target of a scenario: its line, and what it knows after some rows.
-use Rattle.std.specs.Prelude.{ℕ, ◌≡◌, ◌<◌, ◌+◌, ◌^◌, ◌==◌, true, List, length, Option, Some, None}
+use Rattle.std.specs.Prelude.{ℕ, ◌≡◌, ◌<◌, ◌+◌, ◌^◌, true, false, List, length, Option, Some, None}
+use Rattle.std.specs.List.{AllByRecursion}
 use Rattle.bus_trace.specs.declared.Row.{Row}
 use Rattle.bus_trace.specs.declared.connection.Connection.{Connection}
 use Rattle.bus_trace.specs.Trace.{bus}
-use Rattle.cdb_codec.specs.declared.status.TheConstants.{GOOD}
+use Rattle.bus_lines.specs.Handshakes.{handshakes}
 use Rattle.scenario.specs.declared.value.TargetDef.{TargetDef}
 use Rattle.scenario.specs.Value.{ScenarioValue}
 use Rattle.disk_array.specs.Processes.{Process}
+use Rattle.disk_array.specs.Seats.{seat_of}
 use Rattle.disk_array.specs.SoundArray.{IsSound}
-use Rattle.disk_array.specs.Units.{unit_state_at}
 use Rattle.disk_unit.specs.declared.unit.Reply.{Reply}
+use Rattle.bus_due.specs.Allowed.{allowed}
+use Rattle.bus_due.specs.Faithful.{faithful}
+use Rattle.bus_due.specs.Telling.{telling}
 use Rattle.bus_due.specs.RunState.{array_of, process_served}
 use Rattle.bus_due.specs.RunSteps.{run_state}
-use Rattle.bus_due.specs.Tasks.{size_of, reply_now, is_writing}
 use Rattle.bus_due.specs.Wants.{since_of}
+use Rattle.scsi_device.specs.Heard.{heard}
+use Rattle.scsi_device.specs.Writes.{written}
 use Rattle.scsi_device.specs.Itself.{ItselfValue, IsItselfOf}
 use Rattle.scsi_device.specs.Lines.{IsTargetLine}
 use Rattle.target_course.specs.Courses.{CourseState, IsCourseOf}
@@ -23,23 +28,34 @@ use Rattle.target_course.specs.Progress.{ProgressValue, IsProgressOf}
 use Rattle.target_course.specs.Replies.{IsReplyOf}
 use Rattle.target_course.specs.States.{IsOwnConnection}
 use Rattle.target_units.specs.Units.{UnitsState, AreUnitsOf}
-use Rattle.disk_target.specs.Bytes.{taken_by}
+use Rattle.disk_target.specs.declared.standing.Standing.{Standing}
+use Rattle.disk_target.specs.Attended.{attended}
+use Rattle.disk_target.specs.Standings.{IsStanding}
 
 pub record TargetValue : Type 0 where
   pub def : TargetDef
   pub itself : ItselfValue
   pub units : UnitsState
+  -- in a connection of its own: where the process that it serves stands
+  pub standing : Standing
   pub progress : ProgressValue
   pub negotiated : NegotiatedValue
   pub gathered : GatheredValue
   -- in a connection of its own: what it has heard in it, and the reply of the process that it serves
   pub course : Option CourseState
   pub reply : Option Reply
+  -- how often ACK had risen in the present phase
+  pub answers : ℕ
 
 -- Where a connection of its own stands and RST is false it has a course.
 abbrev pub IsCourseIf : ScenarioValue → List Row → ℕ → Option CourseState → Type 0
 IsCourseIf s rows dev None = (n : Connection) → IsOwnConnection rows dev n → (bus rows).rst ≡ true
 IsCourseIf s rows dev (Some c) = IsCourseOf s rows dev c
+
+-- In a connection of its own, while RST is false, the process that it serves stands so at its unit.
+abbrev pub IsStandingOf : ScenarioValue → List Row → ℕ → Standing → Type 0
+IsStandingOf s rows dev v =
+    (n : Connection) (p : Process) → IsOwnConnection rows dev n → (bus rows).rst ≡ false → process_served s (run_state s rows) ≡ Some p → IsStanding (seat_of (array_of s (run_state s rows)) dev p.unit) p v
 
 -- Its parts are of this target of the scenario, and each knows what these rows make known.
 pub record IsTargetAfter (s : ScenarioValue) (rows : List Row) (v : TargetValue) : Type 0 where
@@ -59,12 +75,26 @@ pub record IsTargetAfter (s : ScenarioValue) (rows : List Row) (v : TargetValue)
   pub all_gathered : AreAllGathered s rows v.gathered
   pub course_is : IsCourseIf s rows v.def.dev v.course
   pub reply_is : IsReplyOf s rows v.def.dev v.reply
+  pub standing_is : IsStandingOf s rows v.def.dev v.standing
+  pub answers_is : v.answers ≡ (handshakes rows).answers
 
 -- ---- what it rests on beside what it was told
 
--- Rows are fewer than 2 ^ 64, and each time since which a process is current lies, with the seek time, before 2 ^ 63; and a
--- write that would be carried out sends the blocks that it names.
+-- Rows are fewer than 2 ^ 64, and each time since which a process is current lies, with the seek time, before 2 ^ 63.
 pub record IsServable (s : ScenarioValue) (rows : List Row) (t : TargetDef) : Type 0 where
   pub few : length rows < 2 ^ 64
   pub early : (n : ℕ) → n < 8 → since_of (array_of s (run_state s rows)).units (run_state s rows).current_since t.dev n + t.seek < 2 ^ 63
-  pub sends : (p : Process) → process_served s (run_state s rows) ≡ Some p → is_writing p ≡ true → ((reply_now (array_of s (run_state s rows)) p).status == GOOD) ≡ true → taken_by p.cdb (size_of (unit_state_at (array_of s (run_state s rows)).units p.target p.unit)) ≡ length p.sent
+
+-- What ties its knowledge to what the rows tell.
+pub record AreTied (s : ScenarioValue) (rows : List Row) : Type 0 where
+  pub faithful_are : faithful s rows ≡ true
+  pub telling_are : telling s rows ≡ true
+  pub allowed_are : allowed s rows ≡ true
+  pub heard_are : heard s rows ≡ true
+  pub written_are : written s rows ≡ true
+  pub attended_are : attended s rows ≡ true
+
+-- Rows are few, and each comes before 2 ^ 62.
+pub record AreInTime (rows : List Row) : Type 0 where
+  pub few : length rows < 2 ^ 64
+  pub early : AllByRecursion (λ (row : Row). row.time < 2 ^ 62) rows

@@ -1,6 +1,7 @@
 //! What a target decides by, and the bytes that its process gives.
-ghost use Rattle.std.specs.Prelude.{◌≡◌, ◌<◌, ◌*◌, ◌-◌, ◌^◌, min, List, Some};
+ghost use Rattle.std.specs.Prelude.{◌≡◌, ◌<◌, ◌*◌, ◌-◌, ◌^◌, min, ◌∷◌, List, Some};
 ghost use Rattle.bus_trace.specs.declared.Row.{Row};
+ghost use Rattle.bus_trace.specs.Terms.{connection};
 ghost use Rattle.bus_lines.specs.BusView.{IsBusViewOf};
 ghost use Rattle.target_course.specs.Courses.{name_of};
 ghost use Rattle.target_course.specs.States.{IsReadyWithin};
@@ -78,6 +79,26 @@ pub fn own_connection(view: &BusView, dev: Dev) -> Option<Connection>
 {
     match view.connection() {
         Some(connection) if connection.target.get() == dev && !view.bus().rst() => Some(connection),
+        _ => None,
+    }
+}
+
+/// The connection that stood before the last row.
+pub fn connection_before(view: &BusView) -> Option<Connection>
+    ensures { (rows : List Row) (row : Row) → IsBusViewOf (row ∷ rows) view.now → result ≡ connection rows }
+{
+    view.effect().before
+}
+
+/// The connection that stood before the last row, where this was its target and RST was false.
+pub fn own_before(view: &BusView, dev: Dev) -> Option<Connection>
+    ensures { (rows : List Row) (row : Row) → IsBusViewOf (row ∷ rows) view.now → IsOwnIf rows dev result }
+{
+    let effect = view.effect();
+    match effect.before {
+        Some(connection) if connection.target.get() == dev && !effect.change.before.rst() => {
+            Some(connection)
+        }
         _ => None,
     }
 }

@@ -9,17 +9,19 @@
 //! with a reply of its own. Stands on `target_course`, `target_units`, `disk_unit`, `scsi_device` and the definitions
 //! of `disk_array` and `bus_due`.
 //!
-//! Public contract: where each part knows what the rows made known (`specs/Targets.antt`, `IsTargetAfter`), what a
-//! target does next is exactly what is due of it, and what it shows with a row is what the target of that connection
-//! shows. Each event of a row does to the units and to the process what it does to the plain disk array
-//! (`specs/Processes.antt`, `AreProcessesOf`, `AreKeptOf`), where the events are of the process that is served
-//! (`AreOwnEvents`) and the units could take them, as `Processes::see` answers. Only `new` takes memory.
+//! Public contract: after `new` and a `see` for each row each part knows what the rows made known
+//! (`specs/Targets.antt`, `IsTargetAfter`). So what a target does next is exactly what is due of it, what it shows with
+//! a row is what the target of that connection shows, and its units are those of the plain disk array. `see` rests on
+//! six tests of the rows (`AreTied`), of which `attended` is stated here (`specs/Attended.antt`): which events a row
+//! shows in a connection. Each event of a row does to the units and to the process what it does to the array
+//! (`specs/Processes.antt`, `AreProcessesOf`, `AreKeptOf`). Only `new` takes memory.
 #![tactic(auto)]
 
 mod bytes;
 mod processes;
 mod standing;
 mod target;
+mod turn;
 
 pub use processes::{Processes, units_stay_by_row};
 pub use standing::{Served, Standing};

@@ -1,15 +1,16 @@
 //! The units of a target, and the process of its connection.
-ghost use Rattle.std.specs.Prelude.{◌≡◌, ℕ, ◌<◌, ◌≤◌, ◌||◌, ◌&&◌, not, true, false, List, [], ◌∷◌, Option, Some, None, length, replicate, is_some, slice_get, IfOk};
+ghost use Rattle.std.specs.Prelude.{◌≡◌, ℕ, ◌<◌, ◌≤◌, ◌==◌, ◌||◌, ◌&&◌, not, true, false, List, [], ◌∷◌, Option, Some, None, length, replicate, is_some, slice_get, IfOk};
 ghost use Rattle.bus_base.specs.declared.Event.{Event as EventValue};
 ghost use Rattle.bus_base.specs.declared.Event.TheVariants.{Accept, Refuse, Run, Fail, End, Lost, Aborted, Reset};
 ghost use Rattle.cdb_codec.specs.Cdb.{command_of};
+ghost use Rattle.cdb_codec.specs.declared.status.TheConstants.{GOOD};
 ghost use Rattle.scenario.specs.Value.{ScenarioValue};
 ghost use Rattle.disk_array.specs.Execution.{is_request_sense, queue_full};
 ghost use Rattle.disk_array.specs.Processes.{Process};
 ghost use Rattle.disk_array.specs.Seats.{seat_of, current_of};
 ghost use Rattle.disk_array.specs.Units.{Array, RunningProcess, guest_at, starting_array, settled_array};
 ghost use Rattle.disk_unit.specs.Units.{told_of};
-ghost use Rattle.target_units.specs.Seated.{HasSent, aborted_reply, is_same_process};
+ghost use Rattle.target_units.specs.Seated.{HasSent, aborted_reply};
 ghost use Rattle.target_units.specs.Units.{UnitsState, AreUnitsOf, AreUnitsAfter, IsStep, is_of_one, unit_in, spare_of};
 ghost use Rattle.target_units.specs.Fillings.{blocks_at};
 ghost use Rattle.scenario.specs.Lookups.{unit_of};
@@ -22,10 +23,10 @@ ghost use Rattle.bus_due.specs.RunSteps.{run_state};
 ghost use Rattle.disk_array.specs.SoundArray.{HasSeats};
 ghost use Rattle.disk_unit.specs.declared.unit.Reply.{Reply};
 ghost use Rattle.scsi_device.specs.Heard.{is_new};
-ghost use Rattle.disk_target.specs.Standings.{IsServed, IsStanding, standing_on_arrival, standing_on_failure, reply_planned, is_guest, outcome_of, standing_at_first, told_status, status_by, status_of};
-ghost use Rattle.disk_target.specs.Processes.{AreProcessesAt, AreProcessesAfter, IsOwnEvent, AreOwnEvents, AreProcessesOf, AreKeptOf, AreOutside, events_of_row, is_refused};
+ghost use Rattle.disk_target.specs.Standings.{IsServed, IsStanding, HasBlock, standing_on_arrival, standing_on_failure, reply_planned, is_guest, outcome_of, standing_at_first};
+ghost use Rattle.disk_target.specs.Processes.{AreProcessesAt, AreProcessesAfter, IsOwnEvent, AreOwnEvents, AreProcessesOf, AreKeptOf, AreOutside, events_of_row, IsRunInside};
 ghost use Rattle.disk_target.specs.declared.standing.Standing.{Standing as StandingValue};
-ghost use Rattle.disk_target.specs.declared.standing.Standing.TheVariants.{Nowhere, Guest, Ended};
+ghost use Rattle.disk_target.specs.declared.standing.Standing.TheVariants.{Nowhere, Guest};
 
 use crate::standing::{Served, Standing};
 use bus_base::{AbortKind, Dev, Event, NoMemory, Ns, ProcId};
@@ -81,7 +82,7 @@ fn standing_on_failure(before: Standing, reply: Reply) -> Standing
 {
     match before {
         Standing::Queued => Standing::Queued,
-        Standing::Nowhere | Standing::Guest(_) | Standing::Ended(_) => Standing::Guest(Some(reply)),
+        Standing::Nowhere | Standing::Guest(_) => Standing::Guest(Some(reply)),
     }
 }
 
@@ -134,64 +135,18 @@ fn outcome_of(standing: Standing) -> Option<Reply>
 {
     match standing {
         Standing::Guest(reply) => reply,
-        Standing::Nowhere | Standing::Queued | Standing::Ended(_) => None,
+        Standing::Nowhere | Standing::Queued => None,
     }
 }
 
-fn told_status(reply: Option<Reply>) -> Option<u8>
-    ensures { result ≡ told_status reply }
-{
-    match reply {
-        None => None,
-        Some(reply) => Some(reply.status),
-    }
-}
-
-fn is_same_process(one: Option<ProcId>, id: ProcId) -> bool
-    ensures { result ≡ is_same_process one (Some id) }
-{
-    match one {
-        None => false,
-        Some(one) => one.command == id.command && one.sense == id.sense,
-    }
-}
-
-// The status of its reply, where this is the current process of its unit, which has this reply.
-fn status_by(
-    standing: Standing,
-    current: Option<ProcId>,
-    reply: Option<Reply>,
-    id: ProcId,
-) -> Option<u8>
-    ensures { result ≡ status_by standing current reply id }
-{
-    match standing {
-        Standing::Nowhere => None,
-        Standing::Queued => {
-            if is_same_process(current, id) {
-                told_status(reply)
-            } else {
-                None
-            }
-        }
-        Standing::Guest(given) => told_status(given),
-        Standing::Ended(status) => status,
-    }
-}
-
-fn event_at(shown: &[Event], place: usize) -> Option<Event>
+/// The event at a place of those that a row shows.
+pub fn event_at(shown: &[Event], place: usize) -> Option<Event>
     ensures { result ≡ slice_get shown.now place }
 {
     match shown.get(place) {
         None => None,
         Some(event) => Some(*event),
     }
-}
-
-fn are_both(first: bool, second: bool) -> bool
-    ensures { result ≡ (first && second) }
-{
-    first && second
 }
 
 fn standing_at_first(reselected: bool) -> Standing
@@ -211,12 +166,6 @@ fn is_of_one(kind: AbortKind) -> bool
     !matches!(kind, AbortKind::Device)
 }
 
-fn is_refused(accepted: &Accepted) -> bool
-    ensures { result ≡ is_refused accepted.now }
-{
-    matches!(accepted, Accepted::Full)
-}
-
 impl Processes {
     // The command of a process arrives at `now`, in ns.
     fn accept(&mut self, served: &Served, now: Ns)
@@ -225,7 +174,7 @@ impl Processes {
         requires most { length served.now.cdb.now ≤ 10 }
         ensures array { (s : ScenarioValue) (a b : Array) (times : List ℕ) (p : Process)
             → IsServed s self.old.units.dev p served.now → AreProcessesAt s a times p served.now.unit self.old
-            → self.old.standing ≡ Nowhere → IsStep s (Accept p.id) a b
+            → self.old.standing ≡ Nowhere → HasBlock p served.now → IsStep s (Accept p.id) a b
             → AreProcessesAfter s a b times now p served.now.unit self.new }
         ensures dev { self.new.units.dev ≡ self.old.units.dev }
         ensures seek { self.new.units.seek ≡ self.old.units.seek }
@@ -243,19 +192,19 @@ impl Processes {
         self.standing = standing_on_arrival(outside);
     }
 
-    // The command of a process is refused at `now`, in ns; false where its unit does not refuse it.
-    fn refuse(&mut self, served: &Served, now: Ns) -> bool
+    // The command of a process is refused at `now`, in ns.
+    fn refuse(&mut self, served: &Served, now: Ns)
         requires unit { served.now.unit < 8 }
         requires device { served.now.from < 8 }
         requires most { length served.now.cdb.now ≤ 10 }
         ensures array { (s : ScenarioValue) (a b : Array) (times : List ℕ) (p : Process)
             → IsServed s self.old.units.dev p served.now → AreProcessesAt s a times p served.now.unit self.old
-            → self.old.standing ≡ Nowhere → result ≡ true → IsStep s (Refuse p.id) a b
+            → self.old.standing ≡ Nowhere → HasBlock p served.now → IsStep s (Refuse p.id) a b
             → AreProcessesAfter s a b times now p served.now.unit self.new }
         ensures dev { self.new.units.dev ≡ self.old.units.dev }
         ensures seek { self.new.units.seek ≡ self.old.units.seek }
     {
-        let accepted = self.units.accept(
+        self.units.accept(
             served.unit,
             served.id,
             served.from,
@@ -265,7 +214,6 @@ impl Processes {
             now,
         );
         self.standing = Standing::Guest(Some(refusal()));
-        is_refused(&accepted)
     }
 
     // A process fails at `now`, in ns, with this code.
@@ -281,20 +229,18 @@ impl Processes {
         self.standing = standing_on_failure(self.standing, failure(code));
     }
 
-    // A process that stands in the queue of its unit runs at `now`, in ns; false where its unit could not run it.
-    fn run_inside(&mut self, served: &Served, now: Ns) -> bool
+    // A process that stands in the queue of its unit runs at `now`, in ns.
+    fn run_inside(&mut self, served: &Served, now: Ns)
         requires unit { served.now.unit < 8 }
         ensures array { (s : ScenarioValue) (a b : Array) (times : List ℕ) (p : Process)
             → IsServed s self.old.units.dev p served.now → AreProcessesAt s a times p served.now.unit self.old
             → is_guest self.old.standing ≡ false
-            → HasSent (seat_of a self.old.units.dev served.now.unit) p served.now.sent.now → result ≡ true
+            → IsRunInside a self.old.units.dev served.now.unit p served.now
             → IsStep s (Run p.id) a b → AreProcessesAfter s a b times now p served.now.unit self.new }
         ensures dev { self.new.units.dev ≡ self.old.units.dev }
         ensures seek { self.new.units.seek ≡ self.old.units.seek }
     {
-        self.units
-            .run(served.unit, served.id, served.sent, now)
-            .is_some()
+        self.units.run(served.unit, served.id, served.sent, now);
     }
 
     // A process outside the queue of its unit runs at `now`, in ns.
@@ -303,7 +249,7 @@ impl Processes {
         requires device { served.now.from < 8 }
         ensures array { (s : ScenarioValue) (a b : Array) (times : List ℕ) (p : Process)
             → IsServed s self.old.units.dev p served.now → AreProcessesAt s a times p served.now.unit self.old
-            → is_guest self.old.standing ≡ true → IsStep s (Run p.id) a b
+            → is_guest self.old.standing ≡ true → HasBlock p served.now → IsStep s (Run p.id) a b
             → AreProcessesAfter s a b times now p served.now.unit self.new }
         ensures dev { self.new.units.dev ≡ self.old.units.dev }
         ensures seek { self.new.units.seek ≡ self.old.units.seek }
@@ -313,23 +259,22 @@ impl Processes {
         self.standing = Standing::Guest(Some(reply_planned(&plan)));
     }
 
-    // A process runs at `now`, in ns; false where its unit could not run it.
-    fn run(&mut self, served: &Served, now: Ns) -> bool
+    // A process runs at `now`, in ns.
+    fn run(&mut self, served: &Served, now: Ns)
         requires unit { served.now.unit < 8 }
         requires device { served.now.from < 8 }
         ensures array { (s : ScenarioValue) (a b : Array) (times : List ℕ) (p : Process)
             → IsServed s self.old.units.dev p served.now → AreProcessesAt s a times p served.now.unit self.old
-            → (is_guest self.old.standing ≡ false
-            → HasSent (seat_of a self.old.units.dev served.now.unit) p served.now.sent.now) → result ≡ true
+            → HasBlock p served.now → (is_guest self.old.standing ≡ false
+            → IsRunInside a self.old.units.dev served.now.unit p served.now)
             → IsStep s (Run p.id) a b → AreProcessesAfter s a b times now p served.now.unit self.new }
         ensures dev { self.new.units.dev ≡ self.old.units.dev }
         ensures seek { self.new.units.seek ≡ self.old.units.seek }
     {
         if is_guest(self.standing) {
             self.run_outside(served, now);
-            true
         } else {
-            self.run_inside(served, now)
+            self.run_inside(served, now);
         }
     }
 
@@ -354,7 +299,8 @@ impl Processes {
         requires device { served.now.from < 8 }
         ensures array { (s : ScenarioValue) (a b : Array) (times : List ℕ) (p : Process) (status : ℕ)
             → IsServed s self.old.units.dev p served.now → AreProcessesAt s a times p served.now.unit self.old
-            → self.old.standing ≡ Guest (Some reply.now) → IsStep s (End p.id status) a b
+            → self.old.standing ≡ Guest (Some reply.now)
+            → ((status == GOOD) ≡ true → HasBlock p served.now) → IsStep s (End p.id status) a b
             → AreProcessesAfter s a b times now p served.now.unit self.new }
         ensures standing { self.new.standing ≡ Nowhere }
         ensures dev { self.new.units.dev ≡ self.old.units.dev }
@@ -367,12 +313,13 @@ impl Processes {
     }
 
     // A process ends at `now`, in ns, with the reply that it has.
-    fn finish(&mut self, served: &Served, now: Ns)
+    fn end(&mut self, served: &Served, now: Ns)
         requires unit { served.now.unit < 8 }
         requires device { served.now.from < 8 }
         ensures array { (s : ScenarioValue) (a b : Array) (times : List ℕ) (p : Process) (status : ℕ)
             → IsServed s self.old.units.dev p served.now → AreProcessesAt s a times p served.now.unit self.old
-            → IsStep s (End p.id status) a b → AreProcessesAfter s a b times now p served.now.unit self.new }
+            → ((status == GOOD) ≡ true → HasBlock p served.now) → IsStep s (End p.id status) a b
+            → AreProcessesAfter s a b times now p served.now.unit self.new }
         ensures standing { self.new.standing ≡ Nowhere }
         ensures dev { self.new.units.dev ≡ self.old.units.dev }
         ensures seek { self.new.units.seek ≡ self.old.units.seek }
@@ -381,25 +328,6 @@ impl Processes {
             Some(reply) => self.end_outside(served, &reply, now),
             None => self.end_inside(served, now),
         }
-    }
-
-    // A process ends at `now`, in ns.
-    fn end(&mut self, served: &Served, now: Ns)
-        requires unit { served.now.unit < 8 }
-        requires device { served.now.from < 8 }
-        ensures array { (s : ScenarioValue) (a b : Array) (times : List ℕ) (p : Process) (status : ℕ)
-            → IsServed s self.old.units.dev p served.now → AreProcessesAt s a times p served.now.unit self.old
-            → IsStep s (End p.id status) a b → AreProcessesAfter s a b times now p served.now.unit self.new }
-        ensures ended { (s : ScenarioValue) (a : Array) (times : List ℕ) (p : Process)
-            → IsServed s self.old.units.dev p served.now → AreProcessesAt s a times p served.now.unit self.old
-            → self.new.standing ≡ Ended (status_of
-            (seat_of a self.old.units.dev served.now.unit) p self.old.standing) }
-        ensures dev { self.new.units.dev ≡ self.old.units.dev }
-        ensures seek { self.new.units.seek ≡ self.old.units.seek }
-    {
-        let status = self.reply(served.unit, served.id);
-        self.finish(served, now);
-        self.standing = Standing::Ended(status);
     }
 
     // A process is lost at `now`, in ns.
@@ -415,39 +343,27 @@ impl Processes {
         self.standing = Standing::Nowhere;
     }
 
-    // An event of the process of the connection, at `now`, in ns; false where it could not be.
-    fn take(&mut self, event: &Event, served: &Served, now: Ns) -> bool
+    // An event of the process of the connection, at `now`, in ns.
+    fn take(&mut self, event: &Event, served: &Served, now: Ns)
         requires unit { served.now.unit < 8 }
         requires device { served.now.from < 8 }
         requires most { length served.now.cdb.now ≤ 10 }
         ensures array { (s : ScenarioValue) (a b : Array) (times : List ℕ) (p : Process)
             → IsServed s self.old.units.dev p served.now → AreProcessesAt s a times p served.now.unit self.old
-            → IsOwnEvent (seat_of a self.old.units.dev served.now.unit) p served.now.sent.now self.old.standing
-            event.now → result ≡ true → IsStep s event.now a b
+            → IsOwnEvent a self.old.units.dev served.now.unit p served.now self.old.standing event.now
+            → IsStep s event.now a b
             → AreProcessesAfter s a b times now p served.now.unit self.new }
         ensures dev { self.new.units.dev ≡ self.old.units.dev }
         ensures seek { self.new.units.seek ≡ self.old.units.seek }
     {
         match *event {
-            Event::Accept(_) => {
-                self.accept(served, now);
-                true
-            }
+            Event::Accept(_) => self.accept(served, now),
             Event::Refuse(_) => self.refuse(served, now),
             Event::Run(_) => self.run(served, now),
-            Event::Fail(_, code) => {
-                self.fail(served, code, now);
-                true
-            }
-            Event::End(_, _) => {
-                self.end(served, now);
-                true
-            }
-            Event::Lost(_) => {
-                self.lose(served, now);
-                true
-            }
-            Event::Aborted(_, _, _, _) | Event::Reset(_) => false,
+            Event::Fail(_, code) => self.fail(served, code, now),
+            Event::End(_, _) => self.end(served, now),
+            Event::Lost(_) => self.lose(served, now),
+            Event::Aborted(_, _, _, _) | Event::Reset(_) => {}
         }
     }
 
@@ -535,6 +451,13 @@ impl Processes {
         &self.units
     }
 
+    /// The units, as the target is over.
+    pub fn into_units(self) -> Units
+        ensures { result ≡ self.units }
+    {
+        self.units
+    }
+
     /// Where the process of the connection stands.
     pub fn standing(&self) -> Standing
         ensures { result ≡ self.now.standing }
@@ -557,7 +480,7 @@ impl Processes {
     }
 
     // The event, where there is one.
-    fn take_if(&mut self, event: Option<Event>, served: &Served, now: Ns) -> bool
+    fn take_if(&mut self, event: Option<Event>, served: &Served, now: Ns)
         requires unit { served.now.unit < 8 }
         requires device { served.now.from < 8 }
         requires most { length served.now.cdb.now ≤ 10 }
@@ -565,19 +488,19 @@ impl Processes {
         ensures array { (s : ScenarioValue) (a b : Array) (times : List ℕ) (p : Process) (it : EventValue)
             → event ≡ Some it → IsServed s self.old.units.dev p served.now
             → AreProcessesAt s a times p served.now.unit self.old
-            → IsOwnEvent (seat_of a self.old.units.dev served.now.unit) p served.now.sent.now self.old.standing it
-            → result ≡ true → IsStep s it a b → AreProcessesAfter s a b times now p served.now.unit self.new }
+            → IsOwnEvent a self.old.units.dev served.now.unit p served.now self.old.standing it
+            → IsStep s it a b → AreProcessesAfter s a b times now p served.now.unit self.new }
         ensures dev { self.new.units.dev ≡ self.old.units.dev }
         ensures seek { self.new.units.seek ≡ self.old.units.seek }
     {
         match event {
-            None => true,
+            None => {}
             Some(event) => self.take(&event, served, now),
         }
     }
 
     // The newest first: none, one, or two of which the first is that its command arrives.
-    fn take_all(&mut self, shown: &[Event], served: &Served, now: Ns) -> bool
+    fn take_all(&mut self, shown: &[Event], served: &Served, now: Ns)
         requires unit { served.now.unit < 8 }
         requires device { served.now.from < 8 }
         requires most { length served.now.cdb.now ≤ 10 }
@@ -585,54 +508,39 @@ impl Processes {
         ensures one { (s : ScenarioValue) (a b : Array) (times : List ℕ) (p : Process) (it : EventValue)
             → shown.now ≡ it ∷ [] → IsServed s self.old.units.dev p served.now
             → AreProcessesAt s a times p served.now.unit self.old
-            → IsOwnEvent (seat_of a self.old.units.dev served.now.unit) p served.now.sent.now self.old.standing it
-            → result ≡ true → IsStep s it a b → AreProcessesAfter s a b times now p served.now.unit self.new }
+            → IsOwnEvent a self.old.units.dev served.now.unit p served.now self.old.standing it
+            → IsStep s it a b → AreProcessesAfter s a b times now p served.now.unit self.new }
         ensures two { (s : ScenarioValue) (a b d : Array) (times : List ℕ) (p : Process) (it : EventValue)
             → shown.now ≡ it ∷ Accept p.id ∷ [] → IsServed s self.old.units.dev p served.now
             → AreProcessesAt s a times p served.now.unit self.old → self.old.standing ≡ Nowhere
-            → ((v : StandingValue)
-            → IsOwnEvent (seat_of b self.old.units.dev served.now.unit) p served.now.sent.now v it)
-            → result ≡ true → IsStep s (Accept p.id) a b → IsStep s it b d
+            → HasBlock p served.now → ((v : StandingValue)
+            → IsOwnEvent b self.old.units.dev served.now.unit p served.now v it)
+            → IsStep s (Accept p.id) a b → IsStep s it b d
             → AreProcessesAfter s a d times now p served.now.unit self.new }
         ensures dev { self.new.units.dev ≡ self.old.units.dev }
         ensures seek { self.new.units.seek ≡ self.old.units.seek }
     {
-        let first = self.take_if(event_at(shown, 1), served, now);
-        let second = self.take_if(event_at(shown, 0), served, now);
-        are_both(first, second)
+        self.take_if(event_at(shown, 1), served, now);
+        self.take_if(event_at(shown, 0), served, now);
     }
 
     /// The events that a row shows of the process of the connection, at `now`, in ns, the newest first: none, one, or
-    /// two of which the first is that its command arrives. False where one of them could not be.
-    pub fn see(&mut self, shown: &[Event], served: &Served, now: Ns) -> bool
+    /// two of which the first is that its command arrives.
+    pub fn see(&mut self, shown: &[Event], served: &Served, now: Ns)
         requires unit { served.now.unit < 8 }
         requires device { served.now.from < 8 }
         requires most { length served.now.cdb.now ≤ 10 }
+        ensures nothing { shown.now ≡ [] → self.new ≡ self.old }
         ensures trace { (s : ScenarioValue) (rows : List Row) (row : Row) (p : Process) → HasSeats s
             → allowed s (row ∷ rows) ≡ true → shown.now ≡ events_of_row s rows row → now ≡ row.time
             → IsServed s self.old.units.dev p served.now
-            → AreOwnEvents s (array_of s (run_state s rows)) self.old.units.dev served.now.unit p served.now.sent.now
-            self.old.standing shown.now → result ≡ true → AreProcessesOf s rows p served.now.unit self.old
+            → AreOwnEvents s (array_of s (run_state s rows)) self.old.units.dev served.now.unit p served.now
+            self.old.standing shown.now → AreProcessesOf s rows p served.now.unit self.old
             → AreProcessesOf s (row ∷ rows) p served.now.unit self.new }
         ensures dev { self.new.units.dev ≡ self.old.units.dev }
         ensures seek { self.new.units.seek ≡ self.old.units.seek }
     {
-        self.take_all(shown, served, now)
-    }
-
-    /// The status of the reply of the process of the connection, at this unit, once it has one.
-    pub fn reply(&self, unit: u8, id: ProcId) -> Option<u8>
-        requires unit { unit < 8 }
-        ensures { (s : ScenarioValue) (a : Array) (times : List ℕ) (p : Process)
-            → AreProcessesAt s a times p unit self.now → p.id ≡ id
-            → result ≡ status_of (seat_of a self.now.units.dev unit) p self.now.standing }
-    {
-        status_by(
-            self.standing,
-            self.units.current(unit),
-            self.units.reply(unit),
-            id,
-        )
+        self.take_all(shown, served, now);
     }
 }
 

@@ -21,14 +21,14 @@ ghost use Rattle.bus_dialogue.specs.Observer.{IsObserverOf};
 ghost use Rattle.bus_due.specs.Defs.{target_def_of};
 ghost use Rattle.bus_due.specs.Next.{due};
 ghost use Rattle.bus_due.specs.Plain.{AreOfDevices};
-ghost use Rattle.bus_due.specs.RunState.{array_of};
+ghost use Rattle.bus_due.specs.RunState.{array_of, item_of};
 ghost use Rattle.bus_due.specs.RunSteps.{run_state};
 ghost use Rattle.bus_due.specs.Tasks.{size_of, reply_now, is_writing};
 ghost use Rattle.scsi_device.specs.Acts.{act_of};
 ghost use Rattle.scsi_device.specs.Heard.{heard};
 ghost use Rattle.scsi_device.specs.Lines.{FitsBus, IsTargetLine};
 ghost use Rattle.scsi_device.specs.Told.{first_fault};
-ghost use Rattle.target_course.specs.Courses.{events_of_target, AreToldOf, IsCourseOf, IsStateOf, IsOutlookOf};
+ghost use Rattle.target_course.specs.Courses.{events_of_target, AreToldOf, IsCourseOf, IsLabelOf, IsStateOf, IsOutlookOf};
 ghost use Rattle.target_course.specs.Fits.{AreFit};
 ghost use Rattle.target_units.specs.Seated.{reply_told};
 ghost use Rattle.target_course.specs.Servings.{serving_with, byte_if, AreBytesOf};
@@ -37,16 +37,24 @@ ghost use Rattle.target_course.specs.States.{IsNoInitiator, IsOwnConnection};
 ghost use Rattle.target_units.specs.Units.{AreUnitsOf, reply_at, unit_in};
 ghost use Rattle.target_course.specs.declared.course.Name.{Name as NameValue};
 ghost use Rattle.disk_target.specs.Bytes.{taken_by, DecidesAs};
-ghost use Rattle.disk_target.specs.Targets.{IsServable, IsTargetAfter};
+ghost use Rattle.disk_target.specs.Processes.{events_of_row};
+ghost use Rattle.disk_target.specs.Targets.{AreInTime, AreTied, IsCourseIf, IsServable, IsTargetAfter};
+ghost use Rattle.disk_target.specs.Turns.{IsTurnOf};
 
 use crate::bytes::{
-    Decision, bounded, gives_data, no_bytes, own_connection, status_in, taken_by, unit_named,
+    Decision, bounded, connection_before, gives_data, no_bytes, own_before, own_connection,
+    status_in, taken_by, unit_named,
 };
-use bus_base::{Dev, NoMemory, Ns};
+use crate::processes::Processes;
+use crate::turn::{
+    Turn, course_of, is_opening, no_turn, process_known, reply_seen, see_beginning, see_course,
+    see_events,
+};
+use bus_base::{Dev, Event, NoMemory, Ns, ProcId};
 use bus_dialogue::{Arrival, Observer};
-use bus_due::kept_is_plain;
+use bus_due::{hearings_are_plain, kept_is_plain};
 use bus_reactions::Due;
-use bus_trace::Connection;
+use bus_trace::{Connection, Row};
 use disk_array::arrays_are_sound;
 use disk_unit::{Plan, Reply};
 use scenario::{FaultDef, Scenario, TargetDef};
@@ -55,7 +63,7 @@ use std::alloc::Global;
 use std::marker::Model;
 use target_course::{
     Course, DataBytes, Gathered, Knowledge, Negotiated, ProcessState, Progress, Serving, Shown,
-    leaving_by, no_plan, phase_of, process_byte_place, target_next,
+    leaving_by, no_plan, phase_of, place_in_run, process_byte_place, target_next,
 };
 use target_units::Units;
 
@@ -64,13 +72,15 @@ use target_units::Units;
 pub struct Target {
     def: TargetDef,
     itself: Itself,
-    units: Units,
+    processes: Processes,
     progress: Progress,
     negotiated: Negotiated,
     gathered: Gathered,
     // In a connection of its own: what it has heard in it, and the reply of the process that it serves.
     course: Option<Course>,
     reply: Option<Reply>,
+    // How often ACK had risen in the present phase as of the last row.
+    answers: u64,
 }
 
 impl Model for Target {
@@ -82,12 +92,14 @@ impl Model for Target {
     ghost view = { λ a. record {
       def = a.def;
       itself = a.itself;
-      units = a.units;
+      units = a.processes.units;
+      standing = a.processes.standing;
       progress = a.progress;
       negotiated = a.negotiated;
       gathered = a.gathered;
       course = a.course;
       reply = a.reply;
+      answers = a.answers;
     } };
 
     ghost invariant = { λ a. (a.def.dev < 8) × (a.def.latency ≤ 100) };
@@ -119,18 +131,19 @@ impl Target {
         arrays_are_sound();
         scenarios_fit_the_bus();
         let itself = Itself::new(alloc, scenario, def.dev)?;
-        let units = Units::of(alloc, scenario, &def)?;
+        let processes = Processes::new(alloc, scenario, &def)?;
         let progress = Progress::new(alloc, scenario, def.dev)?;
         let gathered = Gathered::new(alloc, scenario, def.dev)?;
         Ok(Target {
             def,
             itself,
-            units,
+            processes,
             progress,
             negotiated: Negotiated::new(def.dev, scenario.version),
             gathered,
             course: None,
             reply: None,
+            answers: 0,
         })
     }
 
@@ -167,16 +180,17 @@ impl Target {
             → IsOutlookOf s (run_state s rows) p result }
         ensures count { result.plan.in_len
             ≡ length (reply_at (unit_in self.now.units.units unit) from course.now.block).bytes }
+        ensures taken { result.plan.out_len ≡ taken_by course.now.block result.size }
     {
         let counts = self.progress.counts(course.id());
-        let size = self.units.block_size(unit) as u64;
-        let plan = self.units.plan(unit, from, course.block());
+        let size = self.processes.units().block_size(unit) as u64;
+        let plan = self.processes.units().plan(unit, from, course.block());
         ProcessState {
-            in_hold: self.units.holds(unit, from),
+            in_hold: self.processes.units().holds(unit, from),
             runs: counts.runs,
             recoveries: counts.recoveries,
             size,
-            room: self.units.room(unit),
+            room: self.processes.units().room(unit),
             plan: Plan {
                 out_len: taken_by(course.block(), size),
                 ..plan
@@ -197,6 +211,7 @@ impl Target {
             → AreToldOf s rows course.now result }
         ensures count { result.plan.in_len
             ≡ length (reply_at (unit_in self.now.units.units unit) from course.now.block).bytes }
+        ensures taken { result.plan.out_len ≡ taken_by course.now.block result.size }
     {
         scenarios_fit_the_bus();
         self.state_at(unit, from, course)
@@ -215,7 +230,9 @@ impl Target {
         match place {
             Some(place) if place < u64::from(count) => {
                 let mut byte = [0];
-                self.units.fetch(unit, from, cdb, place as u32, &mut byte);
+                self.processes
+                    .units()
+                    .fetch(unit, from, cdb, place as u32, &mut byte);
                 byte[0]
             }
             _ => 0,
@@ -331,7 +348,7 @@ impl Target {
         let decision = self.decision(observer);
         let known = Knowledge {
             itself: &self.itself,
-            ready: bounded(self.units.ready()),
+            ready: bounded(self.processes.units().ready()),
             serving: decision.serving,
             bytes: decision.bytes,
         };
@@ -382,6 +399,180 @@ impl Target {
         }
     }
 
+    // What it has of this connection of its own before the last row, which the observer has seen and it has not.
+    fn turn_in(&self, observer: &Observer, connection: &Connection, course: &Course) -> Turn
+        ensures unit { result.unit < 8 }
+        ensures device { result.from < 8 }
+        ensures fits { AreFit result.leaving.messages }
+        ensures trace { (s : ScenarioValue) (rows : List Row) (row : Row) → FitsBus s
+            → IsObserverOf (row ∷ rows) observer.now → AreOfDevices (row ∷ rows) → AreTied s (row ∷ rows)
+            → AreInTime (row ∷ rows) → IsTargetAfter s rows self.now
+            → IsOwnConnection rows self.now.def.dev connection.now → (bus rows).rst ≡ false
+            → self.now.course ≡ Some course.now → IsTurnOf s rows row self.now.def self.now.course result }
+    {
+        kept_is_plain();
+        hearings_are_plain();
+        scenarios_fit_the_bus();
+        let unit = unit_named(course);
+        let from = connection.initiator.get();
+        let state = self.process_state(unit, from, course);
+        let serving = course.serving(&self.def, &state);
+        let hearing = observer.hearing();
+        let after = observer.view().connection();
+        Turn {
+            process: process_known(course),
+            unit,
+            from,
+            aborts: course.plan().said.aborts.is_some(),
+            leaving: leaving_by(&serving, hearing.begun, hearing.change.before),
+            place: place_in_run(self.def.disc, &serving.task, self.answers),
+            opening: is_opening(connection, hearing, course),
+            plan: state.plan,
+            shown: course.shown(&serving, connection, hearing, after),
+        }
+    }
+
+    fn turn(&self, observer: &Observer) -> Turn
+        ensures unit { result.unit < 8 }
+        ensures device { result.from < 8 }
+        ensures fits { AreFit result.leaving.messages }
+        ensures trace { (s : ScenarioValue) (rows : List Row) (row : Row) → FitsBus s
+            → IsObserverOf (row ∷ rows) observer.now → AreOfDevices (row ∷ rows) → AreTied s (row ∷ rows)
+            → AreInTime (row ∷ rows) → IsTargetAfter s rows self.now
+            → IsTurnOf s rows row self.now.def self.now.course result }
+    {
+        kept_is_plain();
+        hearings_are_plain();
+        match (own_before(observer.view(), self.def.dev), &self.course) {
+            (Some(connection), Some(course)) => self.turn_in(observer, &connection, course),
+            _ => no_turn(),
+        }
+    }
+
+    // The course of a connection of its own that a reselection begins: of the current process of the unit that is ready
+    // first.
+    fn course_reselected(&self) -> Option<Course>
+        ensures { (s : ScenarioValue) (rows : List Row) (row : Row) (n : Connection) → FitsBus s
+            → AreOfDevices (row ∷ rows) → AreTied s (row ∷ rows) → AreInTime (row ∷ rows)
+            → IsTargetAfter s rows self.now → connection rows ≡ None
+            → IsOwnConnection (row ∷ rows) self.now.def.dev n → (bus (row ∷ rows)).rst ≡ false → n.reselected ≡ true
+            → IsCourseIf s (row ∷ rows) self.now.def.dev result }
+    {
+        kept_is_plain();
+        scenarios_fit_the_bus();
+        let units = self.processes.units();
+        match bounded(units.ready()) {
+            None => None,
+            Some(ready) => match units.current_command(ready.unit) {
+                None => None,
+                Some(entry) => Some(course_of(&entry, ready.unit, units.current_block(ready.unit))),
+            },
+        }
+    }
+
+    // The course of this connection of its own that begins, of this process as its initiator knows it.
+    fn course_begun(&self, begun: &Connection, label: ProcId) -> Option<Course>
+        ensures { (s : ScenarioValue) (rows : List Row) (row : Row) → FitsBus s
+            → AreOfDevices (row ∷ rows) → AreTied s (row ∷ rows) → AreInTime (row ∷ rows)
+            → IsTargetAfter s rows self.now → connection rows ≡ None
+            → IsOwnConnection (row ∷ rows) self.now.def.dev begun.now → (bus (row ∷ rows)).rst ≡ false
+            → IsLabelOf (item_of (run_state s (row ∷ rows)).story.link) label
+            → IsCourseIf s (row ∷ rows) self.now.def.dev result }
+    {
+        if begun.reselected {
+            self.course_reselected()
+        } else {
+            let negotiates = !self.negotiated.includes(begun.initiator);
+            Some(Course::selected(label, negotiates))
+        }
+    }
+
+    // The course of the connection of its own that the last row began, if it did.
+    fn beginning(&self, observer: &Observer, label: ProcId) -> Option<Course>
+        ensures { (s : ScenarioValue) (rows : List Row) (row : Row) → FitsBus s
+            → IsObserverOf (row ∷ rows) observer.now → AreOfDevices (row ∷ rows) → AreTied s (row ∷ rows)
+            → AreInTime (row ∷ rows) → IsTargetAfter s rows self.now → connection rows ≡ None
+            → ((n : Connection) → IsOwnConnection (row ∷ rows) self.now.def.dev n
+            → IsLabelOf (item_of (run_state s (row ∷ rows)).story.link) label)
+            → IsCourseIf s (row ∷ rows) self.now.def.dev result }
+    {
+        match own_connection(observer.view(), self.def.dev) {
+            None => None,
+            Some(connection) => self.course_begun(&connection, label),
+        }
+    }
+
+    /// One more row, of any device, which shows these events, the newest first; the observer has seen it. `label` is
+    /// the process of the connection that stands after it, as the initiator of that connection knows it.
+    pub fn see(&mut self, observer: &Observer, row: &Row, label: ProcId, shown: &[Event])
+        requires device { row.now.dev < 8 }
+        requires timely { IsTimely (2 ^ 63) observer.now.view }
+        ensures def { self.new.def ≡ self.old.def }
+        ensures trace { (s : ScenarioValue) (rows : List Row) → FitsBus s → IsObserverOf (row.now ∷ rows) observer.now
+            → AreOfDevices (row.now ∷ rows) → AreTied s (row.now ∷ rows) → AreInTime (row.now ∷ rows)
+            → ((n : Connection) → IsOwnConnection (row.now ∷ rows) self.old.def.dev n
+            → IsLabelOf (item_of (run_state s (row.now ∷ rows)).story.link) label)
+            → shown.now ≡ events_of_row s rows row.now
+            → IsTargetAfter s rows self.old → IsTargetAfter s (row.now ∷ rows) self.new }
+    {
+        scenarios_fit_the_bus();
+        let view = observer.view();
+        let hearing = observer.hearing();
+        let turn = self.turn(observer);
+        let begun = self.beginning(observer, label);
+        see_events(
+            &mut self.processes,
+            &self.gathered,
+            &turn,
+            own_before(view, self.def.dev),
+            &self.course,
+            shown,
+            row.time,
+        );
+        see_beginning(
+            &mut self.processes,
+            connection_before(view),
+            own_connection(view, self.def.dev),
+        );
+        see_course(
+            &mut self.course,
+            begun,
+            hearing,
+            &turn,
+            connection_before(view),
+            own_connection(view, self.def.dev),
+        );
+        self.reply = reply_seen(
+            self.reply,
+            &turn,
+            connection_before(view),
+            own_connection(view, self.def.dev),
+        );
+        self.progress.see(
+            turn.process,
+            &turn.leaving,
+            hearing,
+            connection_before(view),
+            view.connection(),
+        );
+        self.gathered.see(
+            turn.process,
+            turn.unit,
+            turn.place,
+            hearing,
+            connection_before(view),
+        );
+        self.negotiated.see(
+            turn.aborts,
+            hearing,
+            connection_before(view),
+            view.connection(),
+            shown,
+        );
+        self.itself.see(view, row);
+        self.answers = view.handshakes().answers();
+    }
+
     /// What it keeps of its units.
     pub fn units(&self) -> &Units
         ensures value { result.now ≡ self.now.units }
@@ -389,7 +580,7 @@ impl Target {
             → AreUnitsOf s (array_of s (run_state s rows)) (run_state s rows).current_since self.now.def.dev
             result.now.units }
     {
-        &self.units
+        self.processes.units()
     }
 
     /// What it keeps of its units, as it is over.
@@ -399,6 +590,6 @@ impl Target {
             → AreUnitsOf s (array_of s (run_state s rows)) (run_state s rows).current_since self.def.dev
             result.units }
     {
-        self.units
+        self.processes.into_units()
     }
 }

@@ -63,7 +63,7 @@ pub other : (x y : Bool) → (x || y) ≡ true → x ≡ false → y ≡ true
 other true y e f = cc
 other false y e f = e
 
-either : (x y : Bool) → (x || y) ≡ true → (x ≡ true) ⊎ (y ≡ true)
+pub either : (x y : Bool) → (x || y) ≡ true → (x ≡ true) ⊎ (y ≡ true)
 either true y e = inl refl
 either false y e = inr e
 
@@ -106,7 +106,7 @@ pub record IsTurn (s : ScenarioValue) (k : RunState) (m : Connection) (d : RowRe
   pub calm : d.change.before.rst ≡ false
   pub turn : changes_phase d.change ≡ true → is_true_turn s k m d ≡ true
 
-calm_in : (x : Bool) → not x ≡ true → x ≡ false
+pub calm_in : (x : Bool) → not x ≡ true → x ≡ false
 calm_in true e = cc
 calm_in false e = refl
 
@@ -157,7 +157,7 @@ name_is (Some said) p e =
     go None f g = cc
     go (Some lun) f g = λ i. Some (name_with (g i) (eqb-true lun p.unit f i))
 
-bytes_are : (a b : List ℕ) → same_bytes a b ≡ true → a ≡ b
+pub bytes_are : (a b : List ℕ) → same_bytes a b ≡ true → a ≡ b
 bytes_are [] [] e = refl
 bytes_are [] (y ∷ b) e = cc
 bytes_are (x ∷ a) [] e = cc
@@ -202,7 +202,7 @@ command_closed phases.Status c e = refl
 command_closed phases.DataIn c e = refl
 command_closed phases.DataOut c e = refl
 
-phase_is_command : (phase : Phase) → is_command_phase phase ≡ true → phase ≡ phases.Command
+pub phase_is_command : (phase : Phase) → is_command_phase phase ≡ true → phase ≡ phases.Command
 phase_is_command phases.Command e = refl
 phase_is_command phases.MessageOut e = cc
 phase_is_command phases.MessageIn e = cc
@@ -210,17 +210,17 @@ phase_is_command phases.Status e = cc
 phase_is_command phases.DataIn e = cc
 phase_is_command phases.DataOut e = cc
 
-record IsServed (s : ScenarioValue) (k : RunState) (n : Connection) (i : Instructions) (c : CourseState) (p : Process) : Type 0 where
-  is : process_served s k ≡ Some p
-  id : c.id ≡ p.id
-  named : c.named ≡ Some (name_of p)
+pub record IsServed (s : ScenarioValue) (k : RunState) (n : Connection) (i : Instructions) (c : CourseState) (p : Process) : Type 0 where
+  pub is : process_served s k ≡ Some p
+  pub id : c.id ≡ p.id
+  pub named : c.named ≡ Some (name_of p)
   -- in COMMAND
-  fresh : is_command_phase (phase_of (bus_of k)) ≡ true → i.known ≡ false
-  carried : is_command_phase (phase_of (bus_of k)) ≡ true → c.block ≡ take MOST_KEPT (carried_here k p.id).block
+  pub fresh : is_command_phase (phase_of (bus_of k)) ≡ true → i.known ≡ false
+  pub carried : is_command_phase (phase_of (bus_of k)) ≡ true → c.block ≡ take MOST_KEPT (carried_here k p.id).block
   -- once its command is known
-  block : i.known ≡ true → c.block ≡ p.cdb
-  moves : moves_data (phase_of (bus_of k)) k.exchange.plan.next ≡ true → i.known ≡ true
-  gives : gives_status (phase_of (bus_of k)) k.exchange.plan.next ≡ true → is_some (reply_in (array_of s k).replies p.id) ≡ true
+  pub block : i.known ≡ true → c.block ≡ p.cdb
+  pub moves : moves_data (phase_of (bus_of k)) k.exchange.plan.next ≡ true → i.known ≡ true
+  pub gives : gives_status (phase_of (bus_of k)) k.exchange.plan.next ≡ true → is_some (reply_in (array_of s k).replies p.id) ≡ true
 
 record IsPlaced (a : Array) (p : Process) (phase : Phase) (next : Next) (known : Bool) : Type 0 where
   fresh : is_command_phase phase ≡ true → known ≡ false
@@ -260,7 +260,7 @@ instructed_is k i p e =
       block = λ f. let both = and_parts (has_group_len i.block) (same_bytes i.block p.cdb) (implied i.known (has_group_len i.block && same_bytes i.block p.cdb) last.1 f) in bytes_are i.block p.cdb both.1;
     }
 
-served_is : (s : ScenarioValue) (rows : List Row) (n : Connection) (c : CourseState) → IsFront s (run_state s rows) n (instructions s rows) → is_opening (run_state s rows) ≡ false → IsCourse s rows n c
+pub served_is : (s : ScenarioValue) (rows : List Row) (n : Connection) (c : CourseState) → IsFront s (run_state s rows) n (instructions s rows) → is_opening (run_state s rows) ≡ false → IsCourse s rows n c
     → (p : Process) × IsServed s (run_state s rows) n (instructions s rows) c p
 served_is s rows n c front closed course = go (process_served s k) refl (front.serves closed) (front.heard closed)
   where

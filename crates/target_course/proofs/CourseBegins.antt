@@ -32,7 +32,7 @@ use Rattle.target_course.proofs.Heard.{plan_begins}
 
 -- ---- the ends
 
-ends_in : (n : Connection) (p : Process) → has_ends (Some p) n ≡ true → HasEnds n p
+pub ends_in : (n : Connection) (p : Process) → has_ends (Some p) n ≡ true → HasEnds n p
 ends_in n p e =
     let both = and_parts (p.initiator == n.initiator) (p.target == n.target) e in
     record { initiator = eqb-true p.initiator n.initiator both.0; target = eqb-true p.target n.target both.1 }

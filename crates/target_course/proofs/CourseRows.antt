@@ -46,17 +46,17 @@ use Rattle.target_course.proofs.CourseBegins.{course_is_selected, course_is_rese
 use Rattle.target_course.proofs.CourseAgrees.{other, end_heard, IsFront, IsTurn, front_heard, turn_heard, courses_agree, implied, stops, pulsed_data}
 
 -- Its line of the scenario, as the target of this connection.
-line_of_own : (s : ScenarioValue) (rows : List Row) (n : Connection) (d : TargetDef) → IsOwnConnection rows d.dev n → target_def_of s d.dev ≡ Some d → target_def_of s n.target ≡ Some d
+pub line_of_own : (s : ScenarioValue) (rows : List Row) (n : Connection) (d : TargetDef) → IsOwnConnection rows d.dev n → target_def_of s d.dev ≡ Some d → target_def_of s n.target ≡ Some d
 line_of_own s rows n d o line = (λ i. target_def_of s (eqb-true n.target d.dev o.own i)) ∙ line
 
-heard_before : (s : ScenarioValue) (rows : List Row) (row : Row) → heard s (row ∷ rows) ≡ true → heard s rows ≡ true
+pub heard_before : (s : ScenarioValue) (rows : List Row) (row : Row) → heard s (row ∷ rows) ≡ true → heard s rows ≡ true
 heard_before s rows row e =
     let last = and_parts (heard s rows) (is_heard_after s (run_state s rows) (run_state s (row ∷ rows)) (row_reading (run_state s rows).story.bus_state row) (instructions s (row ∷ rows))) e in
     last.0
 
 -- ---- as a phase is left
 
-left_alike : (s : ScenarioValue) (rows : List Row) (m : Connection) (d : TargetDef) (c : CourseState) (f : ProcessState) (row : Row)
+pub left_alike : (s : ScenarioValue) (rows : List Row) (m : Connection) (d : TargetDef) (c : CourseState) (f : ProcessState) (row : Row)
     → IsFront s (run_state s rows) m (instructions s rows) → target_def_of s m.target ≡ Some d → IsCourse s rows m c → AreToldOf s rows c f
     → (y : Bool) → (run_state s rows).exchange.begun ≡ y → is_true_turn s (run_state s rows) m (row_reading (run_state s rows).story.bus_state row) ≡ true
     → leaving_by (serving_by d c f (given_of s (run_state s rows))) y (bus_of (run_state s rows)) ≡ leaving_by (serving_of s (run_state s rows) m.target) y (bus_of (run_state s rows))
@@ -135,7 +135,7 @@ numbered s id e = go (id.command == 0) refl
     go false z = refl
     go true z = let never : false ≡ true = sym ((λ i. is_some (process_if s id (command_at s.commands (eqb-true id.command 0 z i)))) ∙ (λ i. is_some (process_if s id (none_at s.commands i)))) ∙ e in cc
 
-ids_agree : (s : ScenarioValue) (x : Option Item) (id : ProcId) → is_of_scenario s x ≡ true → IsLabelOf x id → id_known id ≡ id_of x
+pub ids_agree : (s : ScenarioValue) (x : Option Item) (id : ProcId) → is_of_scenario s x ≡ true → IsLabelOf x id → id_known id ≡ id_of x
 ids_agree s None id e l = cc
 ids_agree s (Some (abort n)) id e l = λ i. if l.abort_is n refl i then None else Some id
 ids_agree s (Some (process z)) id e l =

@@ -10,11 +10,11 @@ mod Places
 mod Fits
 mod Dues
 pub mod Heard
-mod ServedEnds
-mod ProgressRows
+pub mod ServedEnds
+pub mod ProgressRows
 mod HeardOpenings
 mod NegotiatedRows
-mod GatheredRows
+pub mod GatheredRows
 mod GatheredWhole
 mod GatheredSteps
 mod GatheredMore

@@ -606,7 +606,7 @@ negotiated_goes_on s rows row v aborts w before after shown p q hears on off d t
 
     told_at : (i : ℕ) → v.opening ≡ Some i → r.change.after.rst ≡ false → (n : Connection) × IsOpening s rows v.dev i n → (after : Option Connection) → r.next ≡ after → is_opening_left w after ≡ true → aborts ≡ not (is_for_process k.served)
     told_at i f off x after e left =
-        says x.0 (record { stands = x.1.stands; own = x.1.own })
+        says x.0 (record { stands = x.1.stands; own = x.1.own }) x.1.calm
         ∙ left_told s rows row x.0 p hears_all x.1.stands x.1.calm off x.1.cause x.1.first after e
         (λ m g. sym (λ j. changes_phase (same j).change && (same j).begun) ∙ sym (λ j. is_opening_left w (g j)) ∙ left)
 

@@ -178,7 +178,7 @@ left_by_other s k v m l ends other h = go (process_served s k) refl ends
 row_counted : (s : ScenarioValue) (k : RunState) (d : RowReading) (v : ProgressValue) (known : Option ProcId) (l : Leaving) (w : Hearing) (before after : Option Connection)
     → changes_phase w.change ≡ changes_phase d.change → w.begun ≡ k.exchange.begun
     → ((n : Connection) → before ≡ Some n → has_ends (process_served s k) n ≡ true)
-    → ((n : Connection) → before ≡ Some n → (n.target == v.dev) ≡ true → is_phase_left w ≡ true → (known ≡ id_of k.served) × (l ≡ leaving s k v.dev))
+    → ((n m : Connection) → before ≡ Some n → after ≡ Some m → (n.target == v.dev) ≡ true → is_phase_left w ≡ true → (known ≡ id_of k.served) × (l ≡ leaving s k v.dev))
     → AreCounted s k.progress v → AreCounted s (progress_after s k d before after (leaving_of s k before)) (progress_seen v known l w before after)
 row_counted s k d v known l w None None c b ends left h = h
 row_counted s k d v known l w None (Some n) c b ends left h = h
@@ -199,7 +199,7 @@ row_counted s k d v known l w (Some m) (Some n) c b ends left h = go (changes_ph
         none true = h
         none false = h
     go true e true f =
-        let so = left m refl f e in
+        let so = left m n refl refl f e in
         let at : m.target ≡ v.dev = eqb-true m.target v.dev f in
         subst (λ (z : Bool). AreCounted s (if z then progress_by_leaving k (process_served s k) (leaving s k m.target) else k.progress) (if m.target == v.dev && (changes_phase w.change && w.begun) then progress_counted v known l else v)) (sym e ∙ same)
         (subst (λ (z : Bool). AreCounted s (progress_by_leaving k (process_served s k) (leaving s k m.target)) (if m.target == v.dev && z then progress_counted v known l else v)) (sym e)
@@ -214,14 +214,14 @@ row_counted s k d v known l w (Some m) (Some n) c b ends left h = go (changes_ph
 
 pub progress_goes_on : (s : ScenarioValue) (rows : List Row) (row : Row) (v : ProgressValue) (known : Option ProcId) (l : Leaving) (w : Hearing) (before after : Option Connection)
     → ((before : List Row) → AreOfDevices before → IsPlain s before (run_state s before)) → hearing_of (run_state s rows) row (row_reading (run_state s rows).story.bus_state row) ≡ hearing rows row
-    → AreOfDevices (row ∷ rows) → w ≡ hearing rows row → before ≡ connection rows → after ≡ connection (row ∷ rows) → faithful s rows ≡ true → IsLeftSo s rows v.dev w known l → IsProgressOf s rows v → IsProgressOf s (row ∷ rows) (progress_seen v known l w before after)
+    → AreOfDevices (row ∷ rows) → w ≡ hearing rows row → before ≡ connection rows → after ≡ connection (row ∷ rows) → faithful s rows ≡ true → IsLeftSo s rows v.dev w after known l → IsProgressOf s rows v → IsProgressOf s (row ∷ rows) (progress_seen v known l w before after)
 progress_goes_on s rows row v known l w before after plain heard d told b a true_so left h =
     subst (λ (z : ProgressValue). AreCounted s (progress_after s k r k.story.bus_state.connection r.next (leaving_of s k k.story.bus_state.connection)) z)
     (λ i. progress_seen v known l w (first i) (last i))
     (row_counted s k r v known l w k.story.bus_state.connection r.next
     (λ i. changes_phase (same i).change) (λ i. (same i).begun)
     (λ n e. ends_are s rows plain d.1 true_so n (sym (plain rows d.1).connection ∙ e))
-    (λ n e own is. left n (record { stands = sym (plain rows d.1).connection ∙ e; own = own }) is)
+    (λ n m e stays own is. left n m (record { stands = sym (plain rows d.1).connection ∙ e; own = own }) (sym last ∙ stays) is)
     h)
   where
     k : RunState

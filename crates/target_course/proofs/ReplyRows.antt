@@ -90,7 +90,7 @@ event_is (events.Aborted h t u x) (events.Aborted i v w y) e =
 event_is (events.Reset a) (events.Reset b) h = λ i. events.Reset (eqb-true a b h i)
 event_is _ _ h = cc
 
-events_are : (l m : List Event) → same_events l m ≡ true → l ≡ m
+pub events_are : (l m : List Event) → same_events l m ≡ true → l ≡ m
 events_are [] [] h = refl
 events_are [] (f ∷ m) h = cc
 events_are (e ∷ l) [] h = cc
@@ -101,7 +101,7 @@ events_are (e ∷ l) (f ∷ m) h =
 
 -- ---- what a target shows as it turns to another phase
 
-data Shape : Type 0 where
+pub data Shape : Type 0 where
   nothing : Shape
   accepts : Shape
   refuses : Shape
@@ -109,7 +109,7 @@ data Shape : Type 0 where
   fails : ℕ → Shape
   accepts_and_runs : Shape
 
-abbrev shown_of : ProcId → Shape → List Event
+abbrev pub shown_of : ProcId → Shape → List Event
 shown_of id nothing = []
 shown_of id accepts = events.Accept id ∷ []
 shown_of id refuses = events.Refuse id ∷ []
@@ -117,7 +117,7 @@ shown_of id runs = events.Run id ∷ []
 shown_of id (fails code) = events.Fail id code ∷ []
 shown_of id accepts_and_runs = events.Run id ∷ events.Accept id ∷ []
 
-abbrev HasShape : ProcId → List Event → Type 0
+abbrev pub HasShape : ProcId → List Event → Type 0
 HasShape id l = (x : Shape) × (l ≡ shown_of id x)
 
 detected_shape : (id : ProcId) (c : Cause) → HasShape id (newest_with (detected_events c id) [])
@@ -158,7 +158,7 @@ turn_shape id plan a phases.DataIn false = (nothing, refl)
 turn_shape id plan a phases.DataOut true = data_shape id plan.struck
 turn_shape id plan a phases.DataOut false = (nothing, refl)
 
-served_shape : (v : Serving) (n : Connection) (begun atn : Bool) (phase : Phase) (id : ProcId) → HasShape id (leaving_events v n begun true atn phase (Some id))
+pub served_shape : (v : Serving) (n : Connection) (begun atn : Bool) (phase : Phase) (id : ProcId) → HasShape id (leaving_events v n begun true atn phase (Some id))
 served_shape v n false atn phase id = (nothing, refl)
 served_shape v n true atn phase id = turn_shape id v.plan v.arrival phase (is_status_next (phase_leaving v atn phase).to && not (has_replied v.task))
 
@@ -195,19 +195,19 @@ ends_keep s a b k d (Some l) h = go (is_completion l d.change) h
     go true g = by (carried_if k.story l.item) g
     go false g = let same : a ≡ b = cc in λ i. (sym same i).replies
 
-none_stays : (s : ScenarioValue) (l : List Event) → array_after_events s None l ≡ None
+pub none_stays : (s : ScenarioValue) (l : List Event) → array_after_events s None l ≡ None
 none_stays s [] = refl
 none_stays s (e ∷ l) = let rest : array_after_events s None l ≡ None = none_stays s l in λ i. Play.array_step s e (rest i)
 
 -- ---- a row in a connection of its own
 
-ends_in : (s : ScenarioValue) (k : RunState) (row : Row) (d : RowReading) (m n : Connection) → d.change.after.rst ≡ false → k.story.bus_state.connection ≡ Some m → d.next ≡ Some n
+pub ends_in : (s : ScenarioValue) (k : RunState) (row : Row) (d : RowReading) (m n : Connection) → d.change.after.rst ≡ false → k.story.bus_state.connection ≡ Some m → d.next ≡ Some n
     → events_of_ends s k row d ≡ (if changes_phase d.change || false then target_events s k m true else initiator_events k k.story.link d)
 ends_in s k row d m n r x y =
     (λ i. if r i then (if Changes.rises d.change.own.rst d.change.next.rst then events.Reset row.dev ∷ [] else []) else events_of_ends_in s k (x i) d)
     ∙ (λ i. if changes_phase d.change || not (is_some (y i)) then target_events s k m (is_some (y i)) else initiator_events k k.story.link d)
 
-number_is : (s : ScenarioValue) (x : Option Item) (p : Process) → process_item s x ≡ Some p → (id_of x ≡ Some p.id) × (process_of s p.id ≡ Some p)
+pub number_is : (s : ScenarioValue) (x : Option Item) (p : Process) → process_item s x ≡ Some p → (id_of x ≡ Some p.id) × (process_of s p.id ≡ Some p)
 number_is s None p e = absurd cc
 number_is s (Some (abort m)) p e = absurd cc
 number_is s (Some (process z)) p e = (λ i. Some (sym (SoundArrays.id_is s z p e) i), SoundArrays.is_own s z p e)

@@ -116,9 +116,9 @@ pub record IsNegotiatedOf (s : ScenarioValue) (rows : List Row) (v : NegotiatedV
   pub kept : HasMet (run_state s rows).negotiated (is_for_process (run_state s rows).served) v
   pub opens : IsOpeningIf s rows v.dev v.opening
 
--- In a connection of its own, whether the target has heard an abort in the present MESSAGE OUT phase.
+-- In a connection of its own, while RST is false, whether the target has heard an abort in the present MESSAGE OUT phase.
 abbrev pub IsHeardSo : ScenarioValue → List Row → ℕ → Bool → Type 0
-IsHeardSo s rows dev aborts = (n : Connection) → IsOwnConnection rows dev n → aborts ≡ is_some (plan_at s rows).said.aborts
+IsHeardSo s rows dev aborts = (n : Connection) → IsOwnConnection rows dev n → (bus rows).rst ≡ false → aborts ≡ is_some (plan_at s rows).said.aborts
 
 -- The events that a row shows, the newest first.
 abbrev pub events_of_row : ScenarioValue → List Row → Row → List Event

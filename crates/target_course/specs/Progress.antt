@@ -92,10 +92,11 @@ pub record AreCounted (s : ScenarioValue) (all : List ProcessProgress) (v : Prog
 abbrev pub IsProgressOf : ScenarioValue → List Row → ProgressValue → Type 0
 IsProgressOf s rows v = AreCounted s (run_state s rows).progress v
 
--- Where a row that tells this leaves a phase of this target, which process is served there, and how the phase is left.
-abbrev pub IsLeftSo : ScenarioValue → List Row → ℕ → Hearing → Option ProcId → Leaving → Type 0
-IsLeftSo s rows dev w process l =
-    (n : Connection) → IsOwnConnection rows dev n → is_phase_left w ≡ true → (process ≡ id_of (run_state s rows).served) × (l ≡ leaving_after s rows dev)
+-- Where a row that tells this, after which this connection stands, leaves a phase of this target, which process is served
+-- there, and how the phase is left.
+abbrev pub IsLeftSo : ScenarioValue → List Row → ℕ → Hearing → Option Connection → Option ProcId → Leaving → Type 0
+IsLeftSo s rows dev w after process l =
+    (n m : Connection) → IsOwnConnection rows dev n → after ≡ Some m → is_phase_left w ≡ true → (process ≡ id_of (run_state s rows).served) × (l ≡ leaving_after s rows dev)
 
 -- This was counted, exactly.
 pub record AreExactly (p : ProcessProgress) (c : Counts) : Type 0 where

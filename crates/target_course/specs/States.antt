@@ -21,6 +21,7 @@ use Rattle.bus_due.specs.Wants.{ready_of}
 use Rattle.bus_due.specs.Sights.{serving_of}
 use Rattle.bus_due.specs.RunSteps.{run_state}
 use Rattle.bus_due.specs.Due.{reset_from}
+use Rattle.target_units.specs.Readies.{ready_unit}
 use Rattle.target_units.specs.declared.ready.Ready.{Ready}
 use Rattle.target_course.specs.declared.knowledge.Knowledge.{Knowledge}
 use Rattle.target_course.specs.Fits.{AreFit}

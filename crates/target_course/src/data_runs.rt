@@ -29,7 +29,8 @@ fn runs_by(policy: Policy, blocks: u32) -> u64
     }
 }
 
-fn runs_in(policy: Policy, blocks: Option<u32>) -> u64
+/// How many runs a process has that moves data: by the policy of its target, where it reads or writes so many blocks.
+pub fn runs_in(policy: Policy, blocks: Option<u32>) -> u64
     ensures { result ≡ runs_in policy blocks }
 {
     match blocks {

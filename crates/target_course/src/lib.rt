@@ -35,8 +35,11 @@ mod replies;
 mod serving;
 
 pub use arrivals::arrival_by;
+pub use commands::{blocks_named, is_request_sense, is_whole, is_write};
 pub use course::{Course, Name, ProcessState};
-pub use data_runs::{has_further_run, process_byte_place, run_length, run_length_if, runs_in_all};
+pub use data_runs::{
+    has_further_run, process_byte_place, run_length, run_length_if, runs_in, runs_in_all,
+};
 pub use due::{target_next, want_of_ready};
 pub use events::{Shown, leaving_shown};
 pub use gathered::{Gathered, place_in_run};

@@ -202,7 +202,7 @@ impl Progress {
         ensures trace { (s : ScenarioValue) (rows : List Row) (row : Row) → AreOfDevices (row ∷ rows)
             → hearing.now ≡ hearing_in rows row → before ≡ connection_after rows
             → after ≡ connection_after (row ∷ rows) → faithful s rows ≡ true
-            → IsLeftSo s rows self.old.dev hearing.now process leaving.now
+            → IsLeftSo s rows self.old.dev hearing.now after process leaving.now
             → IsProgressOf s rows self.old → IsProgressOf s (row ∷ rows) self.new }
     {
         kept_is_plain();

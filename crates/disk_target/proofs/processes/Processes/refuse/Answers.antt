@@ -1,23 +1,23 @@
-use Rattle.std.proofs.Common.{ℕ, ◌≡◌, ◌∙◌, sym, subst}
+use Rattle.std.proofs.Common.{ℕ, ◌≡◌, sym, subst}
 use Rattle.bus_base.specs.declared.Event.TheVariants as events
 use Rattle.bus_base.specs.declared.ProcId.{ProcId}
 use Rattle.disk_array.specs.Seats.{seat_of}
 use Rattle.target_units.specs.Units.{IsStep}
 use Rattle.disk_target.specs.declared.standing.Standing.{Standing}
 use Rattle.disk_target.specs.declared.standing.Standing.TheVariants as standings
-use Rattle.disk_target.specs.Standings.{IsServed, IsStanding}
+use Rattle.disk_target.specs.Standings.{IsServed, IsStanding, words_of}
 use Rattle.disk_target.specs.Processes.{ProcessesState, AreProcessesAt}
 use Rattle.disk_target.proofs.ProcessEvents
 use Rattle.disk_target.proofs.processes.Processes.refuse.Goals as goal
 
 pub returns-clause-array : goal.returns-clause-array
-returns-clause-array c = λ s a b times p served h stood full st.
+returns-clause-array c = λ s a b times p served h stood block st.
     let n : ℕ = c.args.served.now.unit in
     let dev : ℕ = c.self.inside.units.dev in
     let g = subst (λ (v : ProcessesState). AreProcessesAt s a times p n v) (sym c.self.view_is) h in
     let k = subst (λ (v : ProcessesState). IsServed s v.units.dev p c.args.served.now) (sym c.self.view_is) served in
-    let step : IsStep s (events.Refuse c.args.served.now.id) a b = subst (λ (x : ProcId). IsStep s (events.Refuse x) a b) k.words.id_is st in
+    let step : IsStep s (events.Refuse c.args.served.now.id) a b = subst (λ (x : ProcId). IsStep s (events.Refuse x) a b) k.id_is st in
     let at = subst (λ (v : Standing). IsStanding (seat_of a dev n) p v) (subst (λ (v : ProcessesState). v.standing ≡ standings.Nowhere) (sym c.self.view_is) stood) g.standing in
-    ProcessEvents.made s a b times c.args.now p n dev _ c.accept-accepted.ensures.dev
-    (c.accept-accepted.ensures.refuses s a b times p g.units k.own k.words (ProcessEvents.new_of s.hosts (seat_of a dev n) p k.host at) (ProcessEvents.refused_is c.accept-accepted.result (sym c.is_refused.ensures ∙ full)) step)
+    ProcessEvents.made s a b times c.args.now p n dev _ c.accept.ensures.dev
+    (c.accept.ensures.refuses s a b times p g.units k.own (words_of s dev p c.args.served.now k block) (ProcessEvents.new_of s.hosts (seat_of a dev n) p k.host at) step)
     (ProcessEvents.refused_standing s a b p dev n c.refusal.result st k.own at c.refusal.ensures)

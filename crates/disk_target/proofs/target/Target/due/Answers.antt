@@ -8,6 +8,7 @@ use Rattle.bus_due.specs.RunSteps.{run_state}
 use Rattle.bus_due.specs.Wants.{ready_among, since_of}
 use Rattle.target_course.specs.States.{IsNoInitiator, IsReadyWithin, IsTargetLine, IsTargetOf}
 use Rattle.target_units.specs.Readies.{ready_unit}
+use Rattle.target_units.specs.Units.{UnitsState, AreUnitsOf}
 use Rattle.target_units.specs.declared.ready.Ready.{Ready}
 use Rattle.target_course.specs.Servings.{serving_with}
 use Rattle.disk_target.specs.Targets.{TargetValue, IsTargetAfter}
@@ -23,11 +24,12 @@ returns c = λ s rows f o d away e able h fault.
     let def = c.decision-decision.ensures.def in
     let dev = g.itself_dev ∙ (λ i. (c.self.view_is i).def.dev) in
     let own = g.itself_is.own_is ∙ (λ i. own_of rows (dev i)) in
-    let devs = sym (g.units_dev ∙ (λ i. (c.self.view_is i).def.dev)) in
-    let seeks = sym (g.units_seek ∙ (λ i. (c.self.view_is i).def.seek)) in
+    let devs = sym ((λ i. (c.units.ensures i).dev) ∙ g.units_dev ∙ (λ i. (c.self.view_is i).def.dev)) in
+    let seeks = sym ((λ i. (c.units.ensures i).seek) ∙ g.units_seek ∙ (λ i. (c.self.view_is i).def.seek)) in
+    let are = subst (λ (x : UnitsState). AreUnitsOf s (array_of s (run_state s rows)) (run_state s rows).current_since x.dev x.units) (sym c.units.ensures) g.units_are in
     let early = λ (n : ℕ) (small : n < 8).
     subst (λ (z : ℕ). z < 2 ^ 63) (λ i. since_of (array_of s (run_state s rows)).units (run_state s rows).current_since (devs i) n + seeks i) (able.early n small) in
-    let first = c.ready.ensures s (array_of s (run_state s rows)) (run_state s rows).current_since g.sound g.units_are (λ n small. wide _ (early n small)) in
+    let first = c.ready.ensures s (array_of s (run_state s rows)) (run_state s rows).current_since g.sound are (λ n small. wide _ (early n small)) in
     let bound = subst (λ (r : Option Ready). IsReadyWithin r) (sym first) (within s (array_of s (run_state s rows)) (run_state s rows).current_since _ _ g.sound early) in
     let ready = c.bounded.ensures.same bound ∙ first
     ∙ (λ i. ready_unit (ready_among (array_of s (run_state s rows)) (run_state s rows).current_since (sym seeks i) (sym devs i)))

@@ -1,0 +1,171 @@
+-- A process that runs, and ends GOOD, has sent what its target has gathered of it.
+use Rattle.std.proofs.Common.{ℕ, ◌≡◌, ◌≤◌, ◌+◌, ◌-◌, ◌*◌, ◌^◌, ◌∙◌, ◌==◌, arith, Bool, true, false, List, [], ◌∷◌, refl, sym, length, take, Option, Some, None, ◌⊎◌, inl, inr}
+use Rattle.std.specs.Prelude.{if◌then◌else◌, not, ◌&&◌, min, nat_le}
+use Rattle.std.proofs.lemmas.Bool.{and_parts, eqb-true}
+use Rattle.std.proofs.lemmas.Bool.Decides.{nat_tests}
+use Rattle.std.proofs.lemmas.List.{take_all, length-take}
+use Rattle.bus_base.specs.declared.ProcId.{ProcId}
+use Rattle.bus_trace.specs.declared.Row.{Row}
+use Rattle.bus_trace.specs.declared.connection.Connection.{Connection}
+use Rattle.bus_trace.specs.Trace.{bus}
+use Rattle.cdb_codec.specs.Cdb.{command_of}
+use Rattle.cdb_codec.specs.declared.status.TheConstants.{GOOD}
+use Rattle.scenario.specs.Needs.{is_write}
+use Rattle.scenario.specs.Value.{ScenarioValue}
+use Rattle.disk_array.specs.Processes.{Process, process_of}
+use Rattle.disk_array.specs.Units.{Array, unit_state_at}
+use Rattle.bus_dialogue.specs.declared.exchange.Phase.{Phase}
+use Rattle.bus_dialogue.specs.declared.exchange.Phase.TheVariants as phases
+use Rattle.bus_dialogue.specs.NextPhase.{phase_of}
+use Rattle.bus_due.specs.LastingState.{progress_in}
+use Rattle.bus_due.specs.RunState.{RunState, array_of, bus_of, process_served}
+use Rattle.bus_due.specs.RunSteps.{run_state}
+use Rattle.bus_due.specs.Tasks.{is_writing, reply_now, size_of}
+use Rattle.scsi_device.specs.Writes.{is_data_out, is_writer, writer_of, writers}
+use Rattle.scsi_device.specs.Lines.{FitsBus}
+use Rattle.scenario.specs.Lookups.{has_target}
+use Rattle.disk_array.specs.Order.{count_in, range_in}
+use Rattle.bus_due.specs.Tasks.{blocks_in}
+use Rattle.target_units.specs.Rooms.{AreOfLines}
+use Rattle.target_units.specs.Seated.{is_same_process}
+use Rattle.target_units.proofs.Sendings.{few_bytes, named}
+use Rattle.target_course.specs.Gathered.{GatheredValue, Gathering, IsGatheredOf, AreAllGathered, bytes_of, gathering_at, run_start_of}
+use Rattle.target_course.specs.Courses.{CourseState}
+use Rattle.target_course.specs.States.{IsOwnConnection}
+use Rattle.target_course.proofs.CourseAgrees.{either, other}
+use Rattle.target_course.proofs.GatheredRows.{bytes_sent}
+use Rattle.target_course.proofs.ServedEnds.{same_id_is}
+use Rattle.disk_unit.proofs.LiveCommands.{id_self}
+use Rattle.disk_target.specs.Attended.{came, ends_good, is_whole_of, is_whole_run}
+use Rattle.disk_target.specs.Bytes.{count_if, taken_by}
+use Rattle.disk_target.specs.Turns.{count_sent}
+use Rattle.disk_target.specs.declared.turn.Turn.{Turn}
+
+-- ---- how many bytes
+
+few : (x n : ℕ) → x ≡ n → n ≤ 65536 → min x (2 ^ 32 - 1) ≡ n
+few x n e h = omega (arith, e, h)
+
+block_count : (x : Option (ℕ × ℕ)) → count_if (blocks_in x) ≡ count_in x
+block_count None = refl
+block_count (Some range) = refl
+
+-- A write that would end GOOD sends the blocks that it names.
+pub sends_as_named : (s : ScenarioValue) (a : Array) (p : Process) → FitsBus s → AreOfLines s a → has_target s p.target ≡ true → process_of s p.id ≡ Some p → is_writing p ≡ true → ((reply_now a p).status == GOOD) ≡ true
+    → taken_by p.cdb (size_of (unit_state_at a.units p.target p.unit)) ≡ length p.sent
+sends_as_named s a p fits lines target is writes good =
+    let size : ℕ = size_of (unit_state_at a.units p.target p.unit) in
+    few (count_if (blocks_in (range_in (command_of p.cdb))) * size) (length p.sent)
+    ((λ i. block_count (range_in (command_of p.cdb)) i * size) ∙ named s a p fits lines target is writes (eqb-true (reply_now a p).status GOOD good)) (few_bytes s p fits is)
+
+-- ---- which bytes
+
+nothing_sent : (xs : List ℕ) → length xs ≡ 0 → xs ≡ []
+nothing_sent [] e = refl
+nothing_sent (x ∷ xs) e = absurd (omega (arith, e))
+
+no_bytes : (g : Gathering) (id : ProcId) (count : ℕ) → count ≡ 0 → bytes_of g id count ≡ []
+no_bytes g id count e = (λ i. bytes_of g id (e i)) ∙ go (is_same_process g.owner (Some id)) g.bytes
+  where
+    go : (y : Bool) (xs : List ℕ) → (if y then take 0 xs else []) ≡ []
+    go true [] = refl
+    go true (x ∷ xs) = refl
+    go false xs = refl
+
+writer_is : (x : Option ProcId) (id : ProcId) → is_writer x id ≡ true → x ≡ Some id
+writer_is None id e = cc
+writer_is (Some w) id e = λ i. Some (same_id_is w id e i)
+
+enough : (a len most : ℕ) → len ≤ a → min a len ≤ most → len ≤ most
+enough a len most h k = omega arith
+
+le_from : (a b : ℕ) → nat_le a b ≡ true → a ≤ b
+le_from a b e = grind (arith, nat_tests)
+
+phase_data_out : (phase : Phase) → is_data_out phase ≡ true → phase ≡ phases.DataOut
+phase_data_out phases.DataOut e = refl
+phase_data_out phases.DataIn e = cc
+phase_data_out phases.Command e = cc
+phase_data_out phases.Status e = cc
+phase_data_out phases.MessageOut e = cc
+phase_data_out phases.MessageIn e = cc
+
+-- All of them have come.
+all_come : (s : ScenarioValue) (rows : List Row) (v : GatheredValue) (p : Process) (n : Connection) → AreAllGathered s rows v → IsOwnConnection rows v.dev n → (bus rows).rst ≡ false → (run_state s rows).exchange.begun ≡ true → process_served s (run_state s rows) ≡ Some p
+    → process_of s p.id ≡ Some p → p.target ≡ v.dev → writer_of (writers s rows) p.target p.unit ≡ Some p.id → length p.sent ≤ came s (run_state s rows) p → length p.sent ≤ length (gathering_at v.units p.unit).bytes
+all_come s rows v p n all own calm begins is process at w most = go (is_data_out (phase_of (bus_of k))) refl most
+  where
+    k : RunState
+    k = run_state s rows
+
+    start : ℕ
+    start = run_start_of s p (progress_in k.progress p.id).runs
+
+    go : (y : Bool) → is_data_out (phase_of (bus_of k)) ≡ y → length p.sent ≤ start + (if y then k.handshakes.answers else 0) → length p.sent ≤ length (gathering_at v.units p.unit).bytes
+    go true e most =
+        enough (start + k.handshakes.answers) (length p.sent) (length (gathering_at v.units p.unit).bytes) most
+        (all.come p n (record { own = own; served = is; calm = calm; begun = begins; phase = phase_data_out (phase_of (bus_of k)) e }) w)
+    go false e most =
+        enough start (length p.sent) (length (gathering_at v.units p.unit).bytes) (omega (arith, most)) (all.made p.id p process at w)
+
+whole_taken : (s : ScenarioValue) (v : GatheredValue) (p : Process) (n : ℕ) → IsGatheredOf s v → n ≡ p.unit → (gathering_at v.units p.unit).owner ≡ Some p.id → process_of s p.id ≡ Some p → p.unit ≤ 7 → length p.sent ≤ length (gathering_at v.units p.unit).bytes
+    → bytes_of (gathering_at v.units n) p.id (length p.sent) ≡ p.sent
+whole_taken s v p n g at owned process small most =
+    (λ i. bytes_of (gathering_at v.units (at i)) p.id (length p.sent))
+    ∙ bytes_sent s (gathering_at v.units p.unit) p.id (length p.sent) p (bytes_of (gathering_at v.units p.unit) p.id (length p.sent)) (g.each p.unit (omega (arith, small))) process refl (omega (arith, long))
+    ∙ (λ i. take (long i) p.sent)
+    ∙ take_all (length p.sent) p.sent (omega arith)
+  where
+    bytes : List ℕ
+    bytes = (gathering_at v.units p.unit).bytes
+
+    mine : is_same_process (gathering_at v.units p.unit).owner (Some p.id) ≡ true
+    mine = (λ i. is_same_process (owned i) (Some p.id)) ∙ id_self p.id
+
+    long : length (bytes_of (gathering_at v.units p.unit) p.id (length p.sent)) ≡ length p.sent
+    long = (λ i. length (if mine i then take (length p.sent) bytes else [])) ∙ length-take (length p.sent) bytes ∙ shorter (length p.sent) (length bytes) most
+      where
+        shorter : (a b : ℕ) → a ≤ b → min a b ≡ a
+        shorter a b h = omega arith
+
+-- As it runs.
+pub all_sent : (s : ScenarioValue) (rows : List Row) (v : GatheredValue) (p : Process) (n : Connection) (c : CourseState) (t : Turn) (unit : ℕ) → FitsBus s → AreOfLines s (array_of s (run_state s rows)) → has_target s p.target ≡ true → IsGatheredOf s v → AreAllGathered s rows v → IsOwnConnection rows v.dev n → (bus rows).rst ≡ false → (run_state s rows).exchange.begun ≡ true
+    → process_served s (run_state s rows) ≡ Some p → process_of s p.id ≡ Some p → p.target ≡ v.dev → p.unit ≤ 7 → unit ≡ p.unit → c.id ≡ p.id → c.block ≡ p.cdb
+    → t.plan.out_len ≡ taken_by c.block (size_of (unit_state_at (array_of s (run_state s rows)).units p.target p.unit))
+    → is_whole_run s (run_state s rows) (writers s rows) (Some p) ≡ true → (reply_now (array_of s (run_state s rows)) p).status ≡ GOOD → bytes_of (gathering_at v.units unit) c.id (count_sent t c) ≡ p.sent
+all_sent s rows v p n c t unit fits lines target g all own calm begins is process at small unit_is id block taken whole status =
+    (λ i. bytes_of (gathering_at v.units unit) (id i) (count_sent t c)) ∙ go (either (length p.sent == 0) (is_writing p && (is_writer (writer_of (writers s rows) p.target p.unit) p.id && nat_le (length p.sent) (came s k p))) ran)
+  where
+    k : RunState
+    k = run_state s rows
+
+    good : ends_good (array_of s k) p ≡ true
+    good = (λ i. status i == GOOD)
+
+    ran : is_whole_of s k (writers s rows) p ≡ true
+    ran = other (not (ends_good (array_of s k) p)) (is_whole_of s k (writers s rows) p) whole (λ i. not (good i))
+
+    writes : is_write (command_of c.block) ≡ is_writing p
+    writes = λ i. is_write (command_of (block i))
+
+    count : is_writing p ≡ true → count_sent t c ≡ length p.sent
+    count w =
+        (λ i. if (writes ∙ w) i then t.plan.out_len else 0)
+        ∙ taken
+        ∙ (λ i. taken_by (block i) (size_of (unit_state_at (array_of s k).units p.target p.unit)))
+        ∙ sends_as_named s (array_of s k) p fits lines target process w good
+
+    zero_count : (y : Bool) → is_writing p ≡ y → length p.sent ≡ 0 → count_sent t c ≡ 0
+    zero_count true w e = count w ∙ e
+    zero_count false w e = λ i. if (writes ∙ w) i then t.plan.out_len else 0
+
+    go : ((length p.sent == 0) ≡ true) ⊎ ((is_writing p && (is_writer (writer_of (writers s rows) p.target p.unit) p.id && nat_le (length p.sent) (came s k p))) ≡ true) → bytes_of (gathering_at v.units unit) p.id (count_sent t c) ≡ p.sent
+    go (inl e) =
+        let none : length p.sent ≡ 0 = eqb-true (length p.sent) 0 e in
+        no_bytes (gathering_at v.units unit) p.id (count_sent t c) (zero_count (is_writing p) refl none) ∙ sym (nothing_sent p.sent none)
+    go (inr e) =
+        let one = and_parts (is_writing p) (is_writer (writer_of (writers s rows) p.target p.unit) p.id && nat_le (length p.sent) (came s k p)) e in
+        let two = and_parts (is_writer (writer_of (writers s rows) p.target p.unit) p.id) (nat_le (length p.sent) (came s k p)) one.1 in
+        let w : writer_of (writers s rows) p.target p.unit ≡ Some p.id = writer_is (writer_of (writers s rows) p.target p.unit) p.id two.0 in
+        (λ i. bytes_of (gathering_at v.units unit) p.id (count one.0 i))
+        ∙ whole_taken s v p unit g unit_is (all.owned p.id p process at w) process small (all_come s rows v p n all own calm begins is process at w (le_from (length p.sent) (came s k p) two.1))
