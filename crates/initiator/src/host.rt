@@ -24,7 +24,8 @@ ghost use Rattle.initiator.specs.Hosts.{IsHostAfter, IsNeverCalled, process_or_n
 ghost use Rattle.scenario.specs.declared.value.CmdDef.{CmdDef};
 ghost use Rattle.disk_array.specs.Processes.{command_at};
 ghost use Rattle.initiator.specs.Books.{my_book};
-ghost use Rattle.initiator.specs.Endings.{end_at};
+ghost use Rattle.bus_story.specs.Story.{Story};
+ghost use Rattle.initiator.specs.Endings.{end_at, IsEndOf};
 ghost use Rattle.initiator.specs.Openings.{mine_at};
 ghost use Rattle.initiator.specs.Outcomes.{are_replies, told_outcome_if, settled_outcome, is_settled, is_sense_over};
 ghost use Rattle.initiator.specs.OwnLinks.{own_link};
@@ -346,8 +347,8 @@ impl Host {
     /// The outcome of a command of its own, by its number from 1, with the bytes that came to it, which are handed out
     /// once. None until it is known: while the command has not ended, and after CHECK CONDITION until its automatic
     /// REQUEST SENSE has ended or is over without an end; then nothing is handed out. It is the outcome that the rows
-    /// tell, where what came to the command, and to its automatic REQUEST SENSE, is the reply (`are_replies`). What it
-    /// knows else stays. It takes no memory.
+    /// tell, where what came to the command, and to its automatic REQUEST SENSE, is the reply (`are_replies`); so, too,
+    /// after outcomes of other commands were handed out (`told`). What it knows else stays. It takes no memory.
     pub fn take_outcome(&mut self, alloc: Global, number: u16) -> Option<Outcome>
         ensures trace { (s : ScenarioValue) (rows : List Row) (c : CmdDef) → IsHostAfter s rows self.old
             → command_at s.commands number ≡ Some c → (c.host == self.old.def.dev) ≡ true
@@ -356,6 +357,11 @@ impl Host {
             → told_outcome_if result ≡ settled_outcome s (run_state s rows).story number
             (end_at self.old.endings number)
             (is_sense_over (mine_at (my_book s (run_state s rows).story.sent self.old.def.dev).mines number)) }
+        ensures told { (s : ScenarioValue) (b : Story) → IsEndOf b number (end_at self.old.endings number)
+            → are_replies s b number (end_at self.old.endings number)
+            (pair_at self.old.received number).command.bytes (pair_at self.old.received number).sense.bytes ≡ true
+            → told_outcome_if result ≡ settled_outcome s b number (end_at self.old.endings number)
+            (is_sense_over (mine_at self.old.intent.wish.book.mines number)) }
         ensures rest { self.new ≡ record self.old {
           received = if is_settled (end_at self.old.endings number)
               (is_sense_over (mine_at self.old.intent.wish.book.mines number))
