@@ -18,7 +18,7 @@ from driver import build
 
 ROUNDS = 9
 NAME = "report_bench"
-DEPS = "bus_base bus_trace bus_engine scenario trace_text"
+DEPS = "bus_base bus_trace run_record scenario trace_text"
 
 DRIVER = {
     "src/main.rt": r'''//! Reads a trace, and prints a report with its rows where there is a word.
@@ -26,26 +26,23 @@ DRIVER = {
 
 ghost use Rattle.std.specs.Prelude.{◌≡◌, true};
 ghost use Rattle.std.specs.List.{AllByRecursion};
-ghost use Rattle.bus_trace.specs.OfTrace.{IsRow};
+ghost use Rattle.trace_text.specs.RowText.{IsOfEight};
 
 use bus_base::{Sink, StdSink, StdSource, read_all};
-use bus_engine::Run;
-use bus_trace::{Kind, Row};
+use run_record::Run;
+use bus_trace::Row;
 use scenario::{Scenario, read};
 use std::{env, io};
 use trace_text::{read_trace, report};
 
 fn is_row(row: &Row) -> bool
-    ensures { result ≡ true → IsRow row.now }
+    ensures { result ≡ true → IsOfEight row.now }
 {
-    match row.kind {
-        Kind::Drives(_) => row.dev < 8,
-        Kind::Fault(bit) => row.dev < 8 && bit <= 8,
-    }
+    row.dev < 8
 }
 
 fn are_rows(rows: &[Row]) -> bool
-    ensures { result ≡ true → AllByRecursion IsRow rows.now }
+    ensures { result ≡ true → AllByRecursion IsOfEight rows.now }
 {
     for row in rows {
         if !is_row(row) {
@@ -90,21 +87,21 @@ fn main(rt: HostRuntime) {
 ''',
     "proofs/are_rows/Invariants.antt": r'''use Rattle.std.proofs.Common.{drop}
 use Rattle.std.specs.List.{AllByRecursion}
-use Rattle.bus_trace.specs.OfTrace.{IsRow}
+use Rattle.trace_text.specs.RowText.{IsOfEight}
 use Rattle.report_bench.proofs.are_rows.Given as goal
 
 abbrev pub invariant-loop-row : goal.invariant-loop-row
-invariant-loop-row l = AllByRecursion IsRow (drop l.row-index l.rows) → AllByRecursion IsRow l.rows
+invariant-loop-row l = AllByRecursion IsOfEight (drop l.row-index l.rows) → AllByRecursion IsOfEight l.rows
 ''',
     "proofs/are_rows/Answers.antt": r'''use Rattle.std.proofs.Common.{sym, subst, refl, List}
 use Rattle.std.specs.List.{AllByRecursion}
-use Rattle.bus_trace.specs.OfTrace.{IsRow}
+use Rattle.trace_text.specs.RowText.{IsOfEight}
 use Rattle.bus_trace.specs.declared.Row.{Row}
 use Rattle.trace_text.proofs.Putting.{item_next}
 use Rattle.report_bench.proofs.are_rows.Goals as goal
 
 pub loop-row-preserved : goal.loop-row-preserved
-loop-row-preserved c = λ rest. c.loop-row.invariant (subst (λ (xs : List Row). AllByRecursion IsRow xs) (sym (item_next _ _ _ c.loop-row-test.true c.row-item.is)) (c.if-not-is_row.ensures refl, rest))
+loop-row-preserved c = λ rest. c.loop-row.invariant (subst (λ (xs : List Row). AllByRecursion IsOfEight xs) (sym (item_next _ _ _ c.loop-row-test.true c.row-item.is)) (c.if-not-is_row.ensures refl, rest))
 ''',
 }
 

@@ -10,3 +10,4 @@ pub mod ReadsOnly
 pub mod Putting
 pub mod RowFront
 pub mod Taken
+mod TouchedBlocks

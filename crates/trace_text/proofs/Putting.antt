@@ -7,7 +7,9 @@ use Rattle.bus_base.specs.Faults.{HasRisen}
 use Rattle.scenario.specs.declared.value.UnitDef.{UnitDef}
 use Rattle.text_words.specs.Spelling.{hex_text}
 use Rattle.trace_text.specs.ReplyText.{bytes_text}
-use Rattle.trace_text.specs.BlockText.{block_text, blocks_text, disks_text}
+use Rattle.disk_unit.specs.Sparse.{Store}
+use Rattle.run_record.specs.Value.{held_by}
+use Rattle.trace_text.specs.BlockText.{disk_text, disks_text}
 use Rattle.trace_text.specs.ReportText.{disk_name}
 use Rattle.trace_text.specs.Pages.{Place, IsSent, Takes, IsPut, Puts}
 
@@ -145,15 +147,11 @@ dropped i xs d below = rw (add-one, drop-cons xs i d) refl
 pub item_next : {A : Type 0} (i : ℕ) (xs : List A) (x : A) → i < length xs → x ≡ get_or xs i x → drop i xs ≡ x ∷ drop (i + 1) xs
 item_next i xs x below is = dropped i xs x below ∙ ap (λ y. y ∷ drop (i + 1) xs) (sym is)
 
-pub block_next : (target unit lba : ℕ) (disk : List (List ℕ)) (bytes : List ℕ) → lba < length disk → bytes ≡ get_or disk lba [] → blocks_text target unit lba (drop lba disk) ≡ block_text target unit lba bytes ++ blocks_text target unit (lba + 1) (drop (lba + 1) disk)
-block_next target unit lba disk bytes below is =
-    ap (λ blocks. blocks_text target unit lba blocks) (dropped lba disk [] below ∙ ap (λ b. b ∷ drop (lba + 1) disk) (sym is))
-
-pub disk_next : (i : ℕ) (units : List UnitDef) (disks : List (List (List ℕ))) (u : UnitDef) (disk : List (List ℕ)) → i < length units → i < length disks → disk ≡ get_or disks i disk → disks_text (map disk_name (drop i units)) (drop i disks) ≡ blocks_text (get_or units i u).target (get_or units i u).unit 0 disk ++ disks_text (map disk_name (drop (i + 1) units)) (drop (i + 1) disks)
+pub disk_next : (i : ℕ) (units : List UnitDef) (disks : List Store) (u : UnitDef) (disk : Store) → i < length units → i < length disks → disk ≡ get_or disks i disk → disks_text (map disk_name (drop i units)) (map held_by (drop i disks)) ≡ disk_text (get_or units i u).target (get_or units i u).unit disk.contents ++ disks_text (map disk_name (drop (i + 1) units)) (map held_by (drop (i + 1) disks))
 disk_next i units disks u disk in_units in_disks is_disk =
     let ds = item_next i disks disk in_disks is_disk in
     let us = dropped i units u in_units in
-    λ j. disks_text (map disk_name (us j)) (ds j)
+    λ j. disks_text (map disk_name (us j)) (map held_by (ds j))
 
 -- a text that is shown unless a test says otherwise
 pub shown : (hidden : Bool) (text : List ℕ) → false ≡ hidden → text ≡ (if hidden then [] else text)

@@ -1,8 +1,9 @@
 -- The line of a row is read again, and so is that of the end.
-use Rattle.std.proofs.Common.{◌≡◌, ℕ, ◌+◌, ◌-◌, ◌*◌, ◌/◌, ◌%◌, ◌^◌, ◌<◌, Bool, true, false, ◌&&◌, List, [], ◌∷◌, ◌++◌, Some, None, refl, sym, ap, ◌∙◌, arith, append_assoc}
+use Rattle.std.proofs.Common.{◌≡◌, ℕ, zero, suc, ◌+◌, ◌≤◌, ◌-◌, ◌*◌, ◌/◌, ◌%◌, ◌^◌, ◌<◌, Bool, true, false, ◌&&◌, List, [], ◌∷◌, ◌++◌, Some, None, refl, sym, ap, ◌∙◌, arith, append_assoc}
 use Rattle.std.specs.Prelude.{nat_le, codes, decimal}
 use Rattle.std.specs.List.{list_all}
 use Rattle.std.specs.Char.{is_ascii_digit}
+use Rattle.std.specs.Fmt.{digits}
 use Rattle.std.proofs.lemmas.Bool.{lt-ltb}
 use Rattle.std.proofs.lemmas.Bool.Decides.{nat_tests}
 use Rattle.std.proofs.lemmas.List.{append-nil}
@@ -56,13 +57,30 @@ lines_again : (n : ℕ) → n < 2 ^ 18 → kind_at (lines_text n) ≡ Some (Driv
 lines_again n lt =
     rw (digit_passes (n / 65536) (omega arith), digit_passes (n / 4096 % 16) (omega arith), digit_passes (n / 256 % 16) (omega arith), digit_passes (n / 16 % 16) (omega arith), digit_passes (n % 16) (omega arith), value_again n lt, lt-ltb n 0x40000 (omega arith)) refl
 
-kind_again : (k : Kind) → IsKind k → FitsBus k → kind_at (kind_text k) ≡ Some k
-kind_again (Drives lines) h fits = lines_again (number_of lines) (number_of-lt lines fits) ∙ ap (λ (s : LineSet). Some (Drives s)) (set_back lines fits)
-kind_again (Fault bit) h fits =
+-- the number of a bit is one digit
+pub one_digit : (bit : ℕ) → bit ≤ 8 → decimal bit ≡ (48 + bit) ∷ []
+unfolding digits
+one_digit zero h = refl
+one_digit (suc zero) h = refl
+one_digit (suc (suc zero)) h = refl
+one_digit (suc (suc (suc zero))) h = refl
+one_digit (suc (suc (suc (suc zero)))) h = refl
+one_digit (suc (suc (suc (suc (suc zero))))) h = refl
+one_digit (suc (suc (suc (suc (suc (suc zero)))))) h = refl
+one_digit (suc (suc (suc (suc (suc (suc (suc zero))))))) h = refl
+one_digit (suc (suc (suc (suc (suc (suc (suc (suc zero)))))))) h = refl
+one_digit (suc (suc (suc (suc (suc (suc (suc (suc (suc bit))))))))) h = absurd (omega arith)
+
+fault_again : (bit : ℕ) → bit ≤ 8 → kind_at (102 ∷ (48 + bit) ∷ []) ≡ Some (Fault bit)
+fault_again bit h =
     let low : nat_le 48 (48 + bit) ≡ true = grind (arith, nat_tests) in
     let high : nat_le (48 + bit) 56 ≡ true = grind (arith, nat_tests) in
     let value : (48 + bit) - 48 ≡ bit = omega arith in
     rw (low, high, value) refl
+
+kind_again : (k : Kind) → IsKind k → FitsBus k → kind_at (kind_text k) ≡ Some k
+kind_again (Drives lines) h fits = lines_again (number_of lines) (number_of-lt lines fits) ∙ ap (λ (s : LineSet). Some (Drives s)) (set_back lines fits)
+kind_again (Fault bit) h fits = ap (λ (l : List ℕ). kind_at (102 ∷ l)) (one_digit bit h) ∙ fault_again bit h
 
 -- ---- whole lines
 
@@ -118,14 +136,14 @@ lines_inner n lt =
 printed_inner : (d : ℕ) → is_inner (48 + d) ≡ true
 printed_inner d = grind (arith, nat_tests)
 
-kind_inner : (k : Kind) → FitsBus k → list_all is_inner (kind_text k) ≡ true
-kind_inner (Drives lines) fits = lines_inner (number_of lines) (number_of-lt lines fits)
-kind_inner (Fault bit) fits = rw (printed_inner bit) refl
+kind_inner : (k : Kind) → IsKind k → FitsBus k → list_all is_inner (kind_text k) ≡ true
+kind_inner (Drives lines) h fits = lines_inner (number_of lines) (number_of-lt lines fits)
+kind_inner (Fault bit) h fits = decimal_inner bit (omega (arith, h))
 
 pub row_inner : (row : Row) → IsTraceRow row → list_all is_inner (row_line row) ≡ true
 row_inner row h =
     let time = h.time in
-    list_all-append is_inner (decimal row.time) (32 ∷ (48 + row.dev) ∷ 32 ∷ kind_text row.kind) ∙ rw (decimal_inner row.time (omega arith), printed_inner row.dev, kind_inner row.kind h.lines) refl
+    list_all-append is_inner (decimal row.time) (32 ∷ (48 + row.dev) ∷ 32 ∷ kind_text row.kind) ∙ rw (decimal_inner row.time (omega arith), printed_inner row.dev, kind_inner row.kind h.named.kind h.lines) refl
 
 pub end_inner : (end : ℕ) → end < 2 ^ 63 → list_all is_inner (end_line end) ≡ true
 end_inner end lt = decimal_inner end (omega arith)

@@ -5,8 +5,8 @@ use Rattle.std.specs.Fmt.{digits}
 use Rattle.bus_trace.specs.LineSet.{set_of}
 use Rattle.bus_trace.specs.declared.Kind.TheVariants.{Drives, Fault}
 use Rattle.bus_base.specs.declared.Event.TheVariants.{Accept, End}
-use Rattle.bus_engine.specs.declared.outcomes.Outcome.TheVariants.{Good}
-use Rattle.bus_engine.specs.Value.{RunValue}
+use Rattle.initiator.specs.declared.outcome.Outcome.TheVariants.{Good}
+use Rattle.run_record.specs.Value.{RunValue}
 use Rattle.text_words.specs.Words.{after, number_at}
 use Rattle.trace_text.specs.ReportText.{report_text}
 use Rattle.trace_text.specs.Lines.{row_at, end_at}
@@ -18,10 +18,10 @@ sample = record {
   end = 7055;
   history = Accept (record { command = 1; sense = false }) ∷ End (record { command = 12; sense = true }) 2 ∷ [];
   replies = Good (0x0a ∷ 0xff ∷ []) ∷ [];
-  disks = ((0 ∷ 0 ∷ []) ∷ (1 ∷ 0xa2 ∷ []) ∷ []) ∷ [];
+  disks = record { count = 4294967296; size = 2; touched = (0, 0 ∷ 0 ∷ []) ∷ (4294967295, 1 ∷ 0xa2 ∷ []) ∷ [] } ∷ [];
 }
 
-report_of_sample : report_text ((3, 0) ∷ []) sample ≡ codes "trace 1\n4800 7 1078a\n7055 0 f8\nend 7055\nhistory\naccept 1\nend 12S 02\nreplies\ncmd 1 GOOD 0aff\nblocks\nblock 3 0 1 01a2\ndone\n"
+report_of_sample : report_text ((3, 0) ∷ []) sample ≡ codes "trace 1\n4800 7 1078a\n7055 0 f8\nend 7055\nhistory\naccept 1\nend 12S 02\nreplies\ncmd 1 GOOD 0aff\nblocks\nblock 3 0 4294967295 01a2\ndone\n"
 unfolding digits
 report_of_sample = refl
 

@@ -6,7 +6,7 @@ use Rattle.std.proofs.lemmas.Bool.{le-ltb}
 use Rattle.std.proofs.lemmas.List.{append-nil, reverse-append, reverse-reverse}
 use Rattle.trace_text.specs.declared.limit.TheConstants.{LIMIT as TRACE_LIMIT}
 use Rattle.bus_trace.specs.declared.Row.{Row}
-use Rattle.bus_engine.specs.Value.{RunValue}
+use Rattle.run_record.specs.Value.{RunValue}
 use Rattle.trace_text.specs.declared.stages.Stage.{Stage}
 use Rattle.trace_text.specs.declared.stages.Stage.TheVariants as stages
 use Rattle.trace_text.specs.declared.stages.State.TheVariants as states

@@ -3,7 +3,7 @@ use Rattle.std.specs.Prelude.{ℕ, List, ◌++◌, map, codes}
 use Rattle.std.specs.List.{flat_map}
 use Rattle.scenario.specs.declared.value.UnitDef.{UnitDef}
 use Rattle.scenario.specs.Value.{ScenarioValue}
-use Rattle.bus_engine.specs.Value.{RunValue}
+use Rattle.run_record.specs.Value.{RunValue}
 use Rattle.trace_text.specs.RowText.{trace_text}
 use Rattle.trace_text.specs.EventText.{event_text}
 use Rattle.trace_text.specs.ReplyText.{replies_text}

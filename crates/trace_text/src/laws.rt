@@ -2,7 +2,7 @@
 ghost use Rattle.std.specs.Prelude.{ℕ, ◌≡◌, ◌<◌, ◌≤◌, ◌^◌, ◌++◌, List, length, Ok, codes};
 ghost use Rattle.std.specs.List.{AllByRecursion};
 ghost use Rattle.bus_trace.specs.declared.Row.{Row};
-ghost use Rattle.bus_engine.specs.Value.{RunValue};
+ghost use Rattle.run_record.specs.Value.{RunValue};
 ghost use Rattle.trace_text.specs.declared.limit.TheConstants.{LIMIT as TRACE_LIMIT};
 ghost use Rattle.trace_text.specs.RowText.{trace_text};
 ghost use Rattle.trace_text.specs.ReportText.{report_text};

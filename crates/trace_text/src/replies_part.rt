@@ -4,7 +4,8 @@ ghost use Rattle.trace_text.specs.Pages.{Prints};
 
 use crate::pages::{Page, put, put_byte, put_hex, put_spaced};
 use bus_base::Sink;
-use bus_engine::{Outcome, Sense};
+use cdb_codec::Sense;
+use initiator::Outcome;
 
 // The bytes that came in, if any did.
 fn put_bytes<K: Sink>(out: &mut K, page: &mut Page, bytes: &[u8])

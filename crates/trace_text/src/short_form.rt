@@ -7,7 +7,8 @@ ghost use Rattle.trace_text.specs.Pages.{Prints};
 
 use crate::pages::{Page, flush, is_failed, new_page, put, put_number};
 use bus_base::{Failed, Sink};
-use bus_engine::{Outcome, Run};
+use initiator::Outcome;
+use run_record::Run;
 
 /// How a command ended, without what came with it.
 #[derive(Clone, Copy, Debug)]

@@ -1,8 +1,8 @@
 //! The part of a report with the trace.
 ghost use Rattle.std.specs.Prelude.{◌≡◌, ◌+◌, ◌<◌, ◌^◌, ◌++◌, ◌∷◌, [], decimal};
 ghost use Rattle.std.specs.List.{AllByRecursion, flat_map};
-ghost use Rattle.bus_trace.specs.OfTrace.{IsKind, IsRow};
-ghost use Rattle.trace_text.specs.RowText.{lines_text, kind_text, row_text, trace_text};
+ghost use Rattle.trace_text.specs.RowText.{IsOfEight, lines_text, kind_text, row_text, trace_text};
+ghost use Rattle.bus_trace.specs.declared.Kind.TheVariants.{Fault};
 ghost use Rattle.trace_text.specs.Pages.{Prints};
 
 use crate::pages::{Page, put, put_number};
@@ -30,25 +30,31 @@ fn driven_end(dev: Dev, lines: u32) -> [u8; 9]
     ]
 }
 
+// What stands after the time of a fault row.
+fn put_fault<K: Sink>(out: &mut K, page: &mut Page, dev: Dev, bit: u8)
+    requires { dev < 8 }
+    ensures { Prints K.written K.faults out.old out.new page.old page.new
+        (32 ∷ (48 + dev) ∷ 32 ∷ [] ++ kind_text (Fault bit) ++ 10 ∷ []) }
+{
+    put(out, page, &[b' ', b'0' + dev, b' ', b'f']);
+    put_number(out, page, bit as u64);
+    put(out, page, b"\n");
+}
+
 // What stands after the time of a row.
 fn put_end<K: Sink>(out: &mut K, page: &mut Page, dev: Dev, kind: Kind)
-    requires device { dev < 8 }
-    requires kind { IsKind kind }
+    requires { dev < 8 }
     ensures { Prints K.written K.faults out.old out.new page.old page.new
         (32 ∷ (48 + dev) ∷ 32 ∷ [] ++ kind_text kind ++ 10 ∷ []) }
 {
     match kind {
         Kind::Drives(lines) => put(out, page, &driven_end(dev, lines.bits())),
-        Kind::Fault(bit) => put(
-            out,
-            page,
-            &[b' ', b'0' + dev, b' ', b'f', b'0' + bit, b'\n'],
-        ),
+        Kind::Fault(bit) => put_fault(out, page, dev, bit),
     }
 }
 
 fn put_row<K: Sink>(out: &mut K, page: &mut Page, row: &Row)
-    requires { IsRow row.now }
+    requires { IsOfEight row.now }
     ensures { Prints K.written K.faults out.old out.new page.old page.new (row_text row.now) }
 {
     put_number(out, page, row.time);
@@ -56,7 +62,7 @@ fn put_row<K: Sink>(out: &mut K, page: &mut Page, row: &Row)
 }
 
 fn put_rows<K: Sink>(out: &mut K, page: &mut Page, rows: &[Row])
-    requires { AllByRecursion IsRow rows.now }
+    requires { AllByRecursion IsOfEight rows.now }
     ensures { Prints K.written K.faults out.old out.new page.old page.new (flat_map row_text rows.now) }
 {
     for row in rows {
@@ -65,7 +71,7 @@ fn put_rows<K: Sink>(out: &mut K, page: &mut Page, rows: &[Row])
 }
 
 pub(crate) fn put_trace<K: Sink>(out: &mut K, page: &mut Page, rows: &[Row], end: Ns)
-    requires { AllByRecursion IsRow rows.now }
+    requires { AllByRecursion IsOfEight rows.now }
     ensures { Prints K.written K.faults out.old out.new page.old page.new (trace_text rows.now end) }
 {
     put(out, page, b"trace 1\n");

@@ -1,7 +1,7 @@
 use Rattle.std.proofs.Common.{◌≡◌, ◌++◌, length, arith}
-use Rattle.std.specs.Prelude.{codes}
+use Rattle.std.specs.Prelude.{codes, map}
 use Rattle.std.proofs.lemmas.Grind.{common_steps}
-use Rattle.bus_engine.specs.Value.{RunValue}
+use Rattle.run_record.specs.Value.{RunValue, held_by}
 use Rattle.trace_text.specs.ShortText.{count_text, endings_text, short_text}
 use Rattle.trace_text.proofs.Putting.{and_then, put_as}
 use Rattle.trace_text.proofs.short_form.put_short.Goals as goal
@@ -10,7 +10,7 @@ pub returns : goal.returns
 returns g c =
     let parts = and_then c.put.ensures (and_then c.put_count.ensures (and_then c.put_count-2.ensures c.put_endings.ensures)) in
     let rows : c.len.result ≡ length c.run.inside.rows.items = grind (arith, common_steps) in
-    let view : RunValue = record { rows = c.run.inside.rows.items; end = c.run.inside.end; history = c.run.inside.history.items; replies = c.run.inside.replies.items; disks = c.run.inside.disks.items } in
+    let view : RunValue = record { rows = c.run.inside.rows.items; end = c.run.inside.end; history = c.run.inside.history.items; replies = c.run.inside.replies.items; disks = map held_by c.run.inside.disks.items } in
     put_as
     _
     (put_as (short_text view) parts (λ j. codes "short 1\n" ++ (count_text (codes "rows") (rows j) ++ (count_text (codes "end") c.run.inside.end ++ endings_text (c.deref.ensures.value j)))))

@@ -1,0 +1,36 @@
+//! What a run made.
+use bus_base::{Event, Ns};
+use bus_trace::Row;
+use disk_unit::SparseBlocks;
+use initiator::Outcome;
+use std::marker::Model;
+
+/// What a run made. Contracts see it as a record of lists.
+#[derive(Drop)]
+pub struct Run {
+    /// The rows of the trace, the oldest first.
+    pub rows: Vec<Row>,
+    /// The time of the last row, in ns, or 0.
+    pub end: Ns,
+    /// What the rows show, in their order.
+    pub history: Vec<Event>,
+    /// How each command ended, in the order of the commands.
+    pub replies: Vec<Outcome>,
+    /// What each disk holds at the end, in the order of the units.
+    pub disks: Vec<SparseBlocks>,
+}
+
+impl Model for Run {
+    ghost use Rattle.std.specs.Prelude.{map};
+    ghost use Rattle.run_record.specs.Value.{RunValue, held_by};
+
+    ghost Value = { RunValue };
+
+    ghost view = { λ a. record {
+      rows = a.rows.items;
+      end = a.end;
+      history = a.history.items;
+      replies = a.replies.items;
+      disks = map held_by a.disks.items;
+    } };
+}
