@@ -1,10 +1,7 @@
-pub mod BlockLaws
-pub mod Turns
-pub mod Course
-pub mod Selections
-pub mod Chains
-pub mod TheRun
-pub mod OnCourse
-pub mod Sample
-pub mod RunRows
-pub mod OneOfEach
+mod Names
+mod Items
+mod Replies
+mod Disks
+mod Places
+mod Leftovers
+mod Targeted

@@ -1,23 +1,52 @@
--- Rounds one after another.
-use Rattle.std.specs.Prelude.{ℕ, zero, suc, Bool, true, ◌&&◌, Option, Some, None, if◌then◌else◌}
-use Rattle.bus_engine.specs.Early.{is_early, stands_early, service_early}
-use Rattle.bus_engine.specs.Scene.{Scene, round}
+-- The run of a scenario.
+use Rattle.std.specs.Prelude.{ℕ, ◌≡◌, ◌<◌, ◌+◌, true, List, map, length, reverse, Option, Some}
+use Rattle.bus_trace.specs.declared.Row.{Row}
+use Rattle.bus_trace.specs.Trace.{last_time}
+use Rattle.scenario.specs.Value.{ScenarioValue}
+use Rattle.disk_array.specs.ArrayHistory.{array_after, disks_of}
+use Rattle.bus_story.specs.Outcomes as told
+use Rattle.bus_story.specs.Outcomes.{outcomes}
+use Rattle.bus_story.specs.TraceHistory.{story, trace_history}
+use Rattle.bus_due.specs.Next.{IsPrompt, IsEnded}
+use Rattle.bus_due.specs.Plain.{AreOfDevices}
+use Rattle.initiator.specs.declared.outcome.Outcome.{Outcome}
+use Rattle.initiator.specs.Outcomes.{told_outcome}
+use Rattle.bus_run.specs.Runs.{AreEarly, IsLong}
+use Rattle.bus_run.specs.Seams.{SeamsHold}
+use Rattle.run_record.specs.Value.{RunValue}
+use Rattle.bus_members.specs.Answers.{are_answered}
+use Rattle.bus_engine.specs.Limits.{row_limit, step_limit}
 
--- every moment that the scene holds is such a one
-abbrev pub early : Scene → Bool
-early z = is_early z.now && (stands_early z.host.standing && service_early z.target.service)
+abbrev pub told_reply : Outcome → Option told.Outcome
+told_reply outcome = Some (told_outcome outcome)
 
--- at most so many rounds more, until nothing more may come
-unfoldable pub rounds_from : ℕ → Bool × Scene → Scene
-rounds_from zero r = r.1
-rounds_from (suc n) r = if r.0 then rounds_from n (round r.1) else r.1
+-- The rows of a run, the newest first.
+abbrev pub rows_of : RunValue → List Row
+rows_of run = reverse run.rows
 
--- each of these rounds begins early
-unfoldable pub all_early : ℕ → Bool × Scene → Bool
-all_early zero r = true
-all_early (suc n) r = if r.0 then early r.1 && all_early n (round r.1) else true
+-- The run of a scenario: its rows are the prompt trace, after which nothing is due, its history is what they tell, each reply
+-- is the outcome that they tell, and its disks hold what the plain disk array holds after that history. This under one
+-- premise: that every prompt trace of the scenario ties what devices know to what rows tell (`SeamsHold`); and for the replies
+-- that what came back is the reply (`are_answered`).
+pub record IsPromptRun (s : ScenarioValue) (run : RunValue) : Type 0 where
+  pub prompt : IsPrompt s (rows_of run)
+  pub ended : IsEnded s (rows_of run)
+  pub history : reverse run.history ≡ trace_history s (rows_of run)
+  pub replies : are_answered s (rows_of run) ≡ true → map told_reply run.replies ≡ outcomes s (story s (rows_of run))
+  pub disks : run.disks ≡ disks_of (array_after s (trace_history s (rows_of run)))
 
--- the scene after exactly so many rounds, each begun early and with more to come
-unfoldable pub goes : ℕ → Bool × Scene → Option Scene
-goes zero r = if r.0 then Some r.1 else None
-goes (suc n) r = if r.0 && early r.1 then goes n (round r.1) else None
+-- Without premise each row is of one of the eight devices and comes before 2^62 ns, the end is the time of the last, the rows
+-- are fewer than the budget allows, and there are as many replies as commands and as many disks as units.
+pub record IsRunOf (s : ScenarioValue) (run : RunValue) : Type 0 where
+  pub told : SeamsHold s → IsPromptRun s run
+  pub devices : AreOfDevices run.rows
+  pub early : AreEarly run.rows
+  pub end : run.end ≡ last_time (rows_of run)
+  pub few : length run.rows < row_limit s
+  pub answered : length run.replies ≡ length s.commands
+  pub stored : length run.disks ≡ length s.units
+
+-- The run took all the steps that it may, and has not ended: the prompt trace of the scenario has as many rows, or more.
+pub record IsUnfinished (s : ScenarioValue) (before after : ℕ) : Type 0 where
+  pub long : IsLong s (row_limit s)
+  pub steps : after ≡ before + step_limit s

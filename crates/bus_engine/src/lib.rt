@@ -1,33 +1,19 @@
 //! The run of a scenario, row by row.
 //!
-//! For now the scenario is one READ(6) of one block, from one initiator to one disk. Two devices are
-//! stepped in rounds on simulated lines, an initiator (`hosts`) and a target (`targets`). Each acts on
-//! the levels of the lines and on its own timers alone: neither sees the other, and neither knows the
-//! trace in advance.
-//!
-//! It stands on `bus_base`, `bus_trace`, `cdb_codec`, and `scenario`. Its contract: [`built`] tells
-//! exactly which scenarios are run so far (`specs/Built.antt`), and [`run`] answers exactly the run that
-//! such a scenario says (`specs/ScenarioRun.antt`, over `specs/OneRun.antt`, which writes it out row by
-//! row, with its history, its reply and its disk), or want of memory. So every run ends, in BUS FREE.
+//! [`run`] makes the devices of a scenario, each initiator a [`Host`](initiator::Host) and each target a
+//! [`Target`](disk_target::Target), lets them do what is due ([`bus_run::run`]) until nothing is, and asks them then
+//! how the commands ended and what the disks hold. It stands on `bus_run`, `bus_members` and `run_record`, and on
+//! `bus_story` for the budget: a run may make so many steps, each of which asks one device.
 #![tactic(auto)]
 
-mod acts;
-mod asked;
-mod blocks;
-mod hosts;
-mod made;
-mod outcomes;
-mod phases;
-mod request;
-mod rounds;
-mod scenarios;
-mod targets;
+mod budget;
+mod finishing;
+mod running;
 
-pub use blocks::DenseBlocks;
-pub use bus_base::{Dev, Event, NoMemory, Ns, Octets, ProcId};
+pub use budget::most_rows;
+pub use bus_base::{Dev, Event, NoMemory, Ns, Octets, Steps};
+pub use bus_run::RunEnd;
 pub use bus_trace::{Kind, Lines, Row};
-pub use cdb_codec::Sense;
-pub use made::Run;
-pub use outcomes::{Bytes, Outcome};
+pub use run_record::{Outcome, Run, SparseBlocks};
+pub use running::run;
 pub use scenario::Scenario;
-pub use scenarios::{built, run};

@@ -7,19 +7,22 @@ use Rattle.bus_trace.specs.declared.Row.{Row}
 use Rattle.bus_trace.specs.declared.connection.Connection.{Connection}
 use Rattle.bus_trace.specs.Terms.{connection}
 use Rattle.scenario.specs.Value.{ScenarioValue}
+use Rattle.scsi_device.specs.Lines.{IsTargetLine}
 use Rattle.initiator.specs.Hosts.{HostValue}
-use Rattle.initiator.specs.States.{IsOwnConnection}
+use Rattle.initiator.specs.States as initiators
+use Rattle.disk_target.specs.Targets.{TargetValue}
+use Rattle.target_course.specs.States as targets
 use Rattle.bus_run.specs.Seams.{seams}
-use Rattle.bus_run.proofs.Seams.{not_called}
+use Rattle.bus_run.proofs.Seams.{not_called, not_calling}
 use Rattle.bus_members.specs.declared.member.Member.{Member}
-use Rattle.bus_members.specs.declared.member.Member.TheVariants.{Initiator, Other}
-use Rattle.bus_members.specs.Members.{IsHost, IsMember}
+use Rattle.bus_members.specs.declared.member.Member.TheVariants.{Initiator, Target}
+use Rattle.bus_members.specs.Members.{IsHost, IsTarget, IsMember}
 
-pub initiator_is : {T : Type 0} → (IsOf : ScenarioValue → List Row → ℕ → T → Type 0) (s : ScenarioValue) (rows : List Row) (dev : ℕ) (m : Member T) (host : HostValue) → m ≡ Initiator host → IsMember IsOf s rows dev m → IsHost s rows dev host
-initiator_is {T} IsOf s rows dev m host e h = subst (λ (x : Member T). IsMember IsOf s rows dev x) e h
+pub initiator_is : (s : ScenarioValue) (rows : List Row) (dev : ℕ) (m : Member) (host : HostValue) → m ≡ Initiator host → IsMember s rows dev m → IsHost s rows dev host
+initiator_is s rows dev m host e h = subst (λ (x : Member). IsMember s rows dev x) e h
 
-pub other_is : {T : Type 0} → (IsOf : ScenarioValue → List Row → ℕ → T → Type 0) (s : ScenarioValue) (rows : List Row) (dev : ℕ) (m : Member T) (device : T) → m ≡ Other device → IsMember IsOf s rows dev m → IsOf s rows dev device
-other_is {T} IsOf s rows dev m device e h = subst (λ (x : Member T). IsMember IsOf s rows dev x) e h
+pub target_is : (s : ScenarioValue) (rows : List Row) (dev : ℕ) (m : Member) (target : TargetValue) → m ≡ Target target → IsMember s rows dev m → IsTarget s rows dev target
+target_is s rows dev m target e h = subst (λ (x : Member). IsMember s rows dev x) e h
 
 same_as : (m n : ℕ) → m ≡ n → (m == n) ≡ true
 same_as m n e = ap (λ (k : ℕ). m == k) (sym e) ∙ number_is m
@@ -28,5 +31,15 @@ pub never_called : (s : ScenarioValue) (rows : List Row) (dev : ℕ) (host : Hos
 never_called s rows dev host n h t k e =
     true≢false (sym (same_as n.target host.def.dev (e ∙ sym h.named)) ∙ not_called s rows host.def n h.after.line t k)
 
-pub own_connection : (s : ScenarioValue) (rows : List Row) (dev : ℕ) (host : HostValue) (n : Connection) → IsHost s rows dev host → connection rows ≡ Some n → n.initiator ≡ dev → IsOwnConnection rows host.def.dev n
+pub calls_not : (s : ScenarioValue) (rows : List Row) (dev : ℕ) (target : TargetValue) (n : Connection) → target.def.dev ≡ dev → IsTargetLine s target.def → seams s rows ≡ true → connection rows ≡ Some n → n.initiator ≡ dev → ⊥
+calls_not s rows dev target n named line t k e =
+    true≢false (sym (same_as n.initiator target.def.dev (e ∙ sym named)) ∙ not_calling s rows target.def n line t k)
+
+pub never_calls : (s : ScenarioValue) (rows : List Row) (dev : ℕ) (target : TargetValue) (n : Connection) → IsTarget s rows dev target → seams s rows ≡ true → connection rows ≡ Some n → n.initiator ≡ dev → ⊥
+never_calls s rows dev target n h = calls_not s rows dev target n h.named h.after.line
+
+pub own_connection : (s : ScenarioValue) (rows : List Row) (dev : ℕ) (host : HostValue) (n : Connection) → IsHost s rows dev host → connection rows ≡ Some n → n.initiator ≡ dev → initiators.IsOwnConnection rows host.def.dev n
 own_connection s rows dev host n h k e = record { stands = k; own = same_as n.initiator host.def.dev (e ∙ sym h.named) }
+
+pub called_connection : (s : ScenarioValue) (rows : List Row) (dev : ℕ) (target : TargetValue) (n : Connection) → IsTarget s rows dev target → connection rows ≡ Some n → n.target ≡ dev → targets.IsOwnConnection rows target.def.dev n
+called_connection s rows dev target n h k e = record { stands = k; own = same_as n.target target.def.dev (e ∙ sym h.named) }

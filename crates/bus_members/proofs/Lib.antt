@@ -1,2 +1,9 @@
 pub mod Held
 pub mod Added
+mod Answered
+mod Overs
+mod Servable
+mod Labels
+mod Turned
+mod AnswerRuns
+mod AnswerCases

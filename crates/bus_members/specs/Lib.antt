@@ -1,2 +1,3 @@
-pub mod Idles
 pub mod Members
+pub mod Answers
+pub mod Over

@@ -1,16 +1,14 @@
-//! The devices of a run: an initiator, or a device of another kind.
+//! The devices of a run: the initiators and the targets of a scenario, each in the place of its ID.
 //!
-//! [`Member`] puts the initiators of crate `initiator` ([`Host`](initiator::Host)) and one other kind of device into
-//! one list, and meets [`Device`](bus_run::Device) where that other kind does. [`Idle`] is a device that never does
-//! anything; it stands for none of a scenario.
+//! [`Member`] puts the initiators of crate `initiator` ([`Host`](initiator::Host)) and the targets of crate
+//! `disk_target` ([`Target`](disk_target::Target)) into one list, and meets [`Device`](bus_run::Device);
+//! [`member_places`] makes those of a scenario.
 //!
 //! Public contract: a `Member` is what it holds (`IsMember`): all clauses of `Device` for each of its kinds.
 #![tactic(auto)]
 
-mod idle;
 mod member;
 mod places;
 
-pub use idle::Idle;
-pub use member::Member;
-pub use places::initiator_places;
+pub use member::{Member, runs_end};
+pub use places::member_places;

@@ -1,24 +1,42 @@
-//! Devices of two kinds.
-ghost use Rattle.std.specs.Prelude.{◌≡◌};
+//! A device of a scenario.
+ghost use Rattle.std.specs.Prelude.{ℕ, ◌≡◌, ◌≤◌, ◌+◌, List, Option, Some, true};
+ghost use Rattle.bus_trace.specs.declared.Row.{Row};
+ghost use Rattle.scenario.specs.declared.value.CmdDef.{CmdDef};
+ghost use Rattle.scenario.specs.Value.{ScenarioValue};
+ghost use Rattle.disk_array.specs.Processes.{command_at};
+ghost use Rattle.bus_story.specs.Outcomes.{outcome_of};
+ghost use Rattle.bus_story.specs.TraceHistory.{is_host};
+ghost use Rattle.bus_due.specs.RunSteps.{run_state};
+ghost use Rattle.initiator.specs.Outcomes.{told_outcome_if};
+ghost use Rattle.initiator.specs.Received.{undoes_no_byte};
 ghost use Rattle.initiator.specs.Transfers.{event_if};
+ghost use Rattle.target_course.specs.Shown.{shown_list};
 ghost use Rattle.bus_run.specs.Shown.{shown_events};
+ghost use Rattle.bus_run.specs.Places.{IsIn};
+ghost use Rattle.bus_members.specs.Answers.{is_answered};
 ghost use Rattle.bus_members.specs.Members.{IsMember};
+ghost use Rattle.bus_members.specs.Over.{IsMemberOver, IsPlaceOver, AreUnitsIf};
+ghost use Rattle.bus_members.specs.declared.member.Member.{Member as MemberValue};
 
 use bus_base::{Event, ProcId};
 use bus_dialogue::Observer;
+use bus_due::{hearings_are_plain, kept_is_plain};
 use bus_reactions::Due;
 use bus_run::{Device, Shown, rows_tie_devices};
 use bus_trace::Row;
-use initiator::Host;
+use disk_target::Target;
+use initiator::{Host, Outcome};
 use scenario::FaultDef;
+use std::alloc::Global;
+use target_units::Units;
 
-/// A device: an initiator, or one of another kind.
-#[derive(Debug, Drop)]
-pub enum Member<T> {
+/// A device of a scenario.
+#[derive(Drop)]
+pub enum Member {
     /// An initiator.
     Initiator(Host),
-    /// A device of the other kind.
-    Other(T),
+    /// A target.
+    Target(Target),
 }
 
 // One event or none.
@@ -31,36 +49,88 @@ fn shown_if(event: Option<Event>) -> Shown
     }
 }
 
-impl<T: Device> Device for Member<T> {
-    ghost IsOf = { IsMember T.IsOf };
+// One event, or two in their order, or none.
+fn shown_by(shown: target_course::Shown) -> Shown
+    ensures { shown_events result ≡ shown_list shown }
+{
+    match (shown.event, shown.second) {
+        (event, None) => shown_if(event),
+        (None, second) => shown_if(second),
+        (Some(event), Some(second)) => Shown::Two([second, event]),
+    }
+}
+
+impl Device for Member {
+    ghost IsOf = { IsMember };
 
     fn due(&self, observer: &Observer, fault: Option<FaultDef>) -> Option<Due> {
         rows_tie_devices();
         match self {
             Member::Initiator(host) => host.due(observer, fault),
-            Member::Other(device) => device.due(observer, fault),
+            Member::Target(target) => target.due(observer, fault),
         }
     }
 
     fn shown(&self, observer: &Observer) -> Shown {
         rows_tie_devices();
+        kept_is_plain();
+        hearings_are_plain();
         match self {
             Member::Initiator(host) => shown_if(host.completion(observer)),
-            Member::Other(device) => device.shown(observer),
+            Member::Target(target) => shown_by(target.shown(observer)),
         }
     }
 
     fn process(&self) -> ProcId {
         match self {
             Member::Initiator(host) => host.process(),
-            Member::Other(device) => device.process(),
+            Member::Target(_) => ProcId {
+                command: 0,
+                sense: false,
+            },
         }
     }
 
     fn see(&mut self, observer: &Observer, row: &Row, label: ProcId, shown: &[Event]) {
         match self {
             Member::Initiator(host) => host.see(observer, row, shown),
-            Member::Other(device) => device.see(observer, row, label, shown),
+            Member::Target(target) => target.see(observer, row, label, shown),
         }
     }
 }
+
+impl Member {
+    /// The outcome of a command of its own as an initiator, once it is known. It is handed out once; those of other
+    /// commands stay.
+    pub fn take_outcome(&mut self, alloc: Global, number: u16) -> Option<Outcome>
+        ensures told { (s : ScenarioValue) (rows : List Row) (dev : ℕ) (c : CmdDef)
+            → IsMemberOver s rows dev number self.old → command_at s.commands number ≡ Some c → c.host ≡ dev
+            → is_host s.hosts dev ≡ true → undoes_no_byte s rows ≡ true
+            → is_answered s (run_state s rows).story number c ≡ true
+            → told_outcome_if result ≡ outcome_of s (run_state s rows).story number }
+        ensures over { (s : ScenarioValue) (rows : List Row) (dev first : ℕ) → first ≤ number + 1
+            → IsMemberOver s rows dev first self.old → IsMemberOver s rows dev (number + 1) self.new }
+    {
+        match self {
+            Member::Initiator(host) => host.take_outcome(alloc, number),
+            Member::Target(_) => None,
+        }
+    }
+
+    /// Its units, where it is a target; it is over.
+    pub fn into_units(self) -> Option<Units>
+        ensures { (s : ScenarioValue) (rows : List Row) (dev first : ℕ) → IsMemberOver s rows dev first self
+            → AreUnitsIf s rows dev result }
+    {
+        match self {
+            Member::Initiator(_) => None,
+            Member::Target(target) => Some(target.into_units()),
+        }
+    }
+}
+
+/// After its rows a run is over, and no outcome was taken yet.
+pub fn runs_end()
+    ensures { (s : ScenarioValue) (rows : List Row) (dev : ℕ) (place : Option MemberValue)
+        → IsIn IsMember s rows dev place → IsPlaceOver s rows dev 0 place }
+{}

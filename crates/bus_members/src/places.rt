@@ -1,17 +1,18 @@
-//! The places of the bus, with the initiators of a scenario in theirs.
+//! The places of the bus, with the devices of a scenario in theirs.
 ghost use Rattle.std.specs.Prelude.{ℕ, ◌≡◌, ◌<◌, ◌==◌, [], is_some, IfOk, None, length, slice_index_or};
 ghost use Rattle.std.specs.List.{find};
 ghost use Rattle.scenario.specs.declared.value.HostDef.{HostDef};
+ghost use Rattle.scenario.specs.declared.value.TargetDef.{TargetDef};
 ghost use Rattle.scenario.specs.Writing.{Obeys};
-ghost use Rattle.bus_due.specs.Defs.{target_def_of};
-ghost use Rattle.bus_run.specs.Places.{IsIn};
+ghost use Rattle.bus_run.specs.Places.{IsIn, AreIn};
 ghost use Rattle.bus_members.specs.Members.{IsMember};
 
 use crate::member::Member;
 use bus_base::{Dev, NoMemory};
 use bus_run::Device;
+use disk_target::Target;
 use initiator::Host;
-use scenario::{HostDef, Scenario};
+use scenario::{HostDef, Scenario, TargetDef};
 use std::alloc::Global;
 
 // Whether one of these lines is of this initiator.
@@ -26,33 +27,38 @@ fn has_host(hosts: &[HostDef], dev: Dev) -> bool
     false
 }
 
-// The place of this ID, with its initiator if the scenario has one.
-fn place_of<T: Device>(
-    alloc: Global,
-    scenario: &Scenario,
-    dev: Dev,
-) -> Result<Option<Member<T>>, NoMemory>
+// Whether one of these lines is of this target.
+fn has_target(targets: &[TargetDef], dev: Dev) -> bool
+    ensures { result ≡ is_some (find (λ (t : TargetDef). t.dev == dev) targets.now) }
+{
+    for def in targets {
+        if def.dev == dev {
+            return true;
+        }
+    }
+    false
+}
+
+// The place of this ID, with its device if the scenario has one.
+fn place_of(alloc: Global, scenario: &Scenario, dev: Dev) -> Result<Option<Member>, NoMemory>
     requires { Obeys scenario.now }
-    ensures { IfOk result (λ place. target_def_of scenario.now dev ≡ None
-        → IsIn (IsMember T.IsOf) scenario.now [] dev place) }
+    ensures { IfOk result (λ place. IsIn IsMember scenario.now [] dev place) }
 {
     if has_host(scenario.hosts.as_slice(), dev) {
         Ok(Some(Member::Initiator(Host::new(alloc, scenario, dev)?)))
+    } else if has_target(scenario.targets.as_slice(), dev) {
+        Ok(Some(Member::Target(Target::new(alloc, scenario, dev)?)))
     } else {
         Ok(None)
     }
 }
 
-/// The eight places of the bus before any row, each initiator of a scenario that obeys the rules of its text in the
-/// place of its ID; the others are empty, those of its targets too.
-pub fn initiator_places<T: Device>(
-    alloc: Global,
-    scenario: &Scenario,
-) -> Result<Vec<Option<Member<T>>>, NoMemory>
+/// The eight places of the bus before any row, each device of a scenario that obeys the rules of its text in the place
+/// of its ID.
+pub fn member_places(alloc: Global, scenario: &Scenario) -> Result<Vec<Option<Member>>, NoMemory>
     requires { Obeys scenario.now }
     ensures eight { IfOk result (λ places. length places.items ≡ 8) }
-    ensures initiators { IfOk result (λ places. (dev : ℕ) → dev < 8 → target_def_of scenario.now dev ≡ None
-        → IsIn (IsMember T.IsOf) scenario.now [] dev (slice_index_or places.items dev None)) }
+    ensures devices { IfOk result (λ places. AreIn IsMember scenario.now [] places.items) }
 {
     let mut places = Vec::new(alloc);
     for dev in 0..8 {

@@ -1,7 +1,7 @@
 -- What a row does, by the observer and by what is kept; and who shows its events.
 use Rattle.std.proofs.Common.{ℕ, ◌≡◌, Bool, true, false, List, [], ◌∷◌, Option, Some, None, refl, sym, ap, subst, ◌∙◌}
-use Rattle.std.specs.Prelude.{is_some, if◌then◌else◌}
-use Rattle.std.proofs.lemmas.Bool.{and_parts}
+use Rattle.std.specs.Prelude.{◌&&◌, ◌||◌, is_some, if◌then◌else◌}
+use Rattle.std.proofs.lemmas.Bool.{and_parts, true≢false}
 use Rattle.bus_base.specs.declared.Event.{Event}
 use Rattle.bus_trace.specs.declared.Row.{Row}
 use Rattle.bus_trace.specs.declared.changes.Change.{Change}
@@ -16,11 +16,14 @@ use Rattle.bus_due.specs.Plain.{IsPlain}
 use Rattle.bus_due.specs.RunSteps.{run_state}
 use Rattle.bus_due.specs.Sights.{hearing_of}
 use Rattle.bus_due.specs.Telling.{telling, is_true_telling, events_of_ends, events_of_ends_in, target_events, initiator_events}
+use Rattle.scsi_device.specs.Heard.{instructions}
+use Rattle.scsi_device.specs.Writes.{writers}
+use Rattle.disk_target.specs.Attended.{attended, is_attended, is_attended_if, is_attended_row, is_attended_in, is_calm_turn, is_empty}
 use Rattle.bus_run.specs.Places.{IsIn}
 use Rattle.bus_run.specs.Seams.{seams}
 use Rattle.bus_run.specs.Seen.{AreSeen}
 use Rattle.bus_run.specs.Shown.{reading, events_shown, is_left, teller, reset_events}
-use Rattle.bus_run.proofs.Seams.{tied}
+use Rattle.bus_run.proofs.Seams.{tied, is_attended_after}
 use Rattle.bus_run.proofs.Tellings.{events_are}
 
 -- What the rows say of a row is what is kept of it.
@@ -61,15 +64,44 @@ in_connection s rows row n q i e r h l =
     ∙ ap (λ (o : Option Connection). events_of_ends_in s (run_state s rows) o (reading s rows row)) (sym (i.before ∙ h))
     ∙ by_rst s rows row false (ap (λ (c : Change). c.after.rst) (sym i.change) ∙ r) e
 
+-- The row that ends RST shows nothing.
+no_event : (shown : List Event) → is_empty shown ≡ true → shown ≡ []
+no_event [] e = refl
+no_event (x ∷ shown) e = absurd cc
+
+quiet_row : (a r w e t : Bool) → (a && (r || (if w then e else t))) ≡ true → r ≡ false → w ≡ true → e ≡ true
+quiet_row true false true e t h x y = h
+quiet_row true true w e t h x y = absurd (true≢false x)
+quiet_row true false false e t h x y = absurd (true≢false (sym y))
+quiet_row false r w e t h x y = absurd (true≢false (sym h))
+
+pub after_reset : (s : ScenarioValue) (rows : List Row) (row : Row) → IsRead s rows row → seams s (row ∷ rows) ≡ true → (change_of rows row).before.rst ≡ true → (change_of rows row).after.rst ≡ false → [] ≡ events_shown s rows row
+after_reset s rows row i e b r = go (connection rows) refl
+  where
+    attends : is_attended s (run_state s rows) row (reading s rows row) (instructions s rows) (writers s rows) ≡ true
+    attends = (and_parts (attended s rows) (is_attended_after s rows row) (tied s (row ∷ rows) e).attended_are).1
+
+    go : (o : Option Connection) → connection rows ≡ o → [] ≡ events_shown s rows row
+    go None h = without_connection s rows row i e r h
+    go (Some n) h =
+        let in_one : is_attended_row s (run_state s rows) (reading s rows row) (instructions s rows) (writers s rows) (events_shown s rows row) n ≡ true =
+        ap (λ (o : Option Connection). is_attended_if s (run_state s rows) (reading s rows row) (instructions s rows) (writers s rows) (events_shown s rows row) o) (sym (i.before ∙ h)) ∙ attends in
+        sym (no_event (events_shown s rows row)
+        (quiet_row (is_calm_turn (reading s rows row)) (reading s rows row).change.after.rst (reading s rows row).change.before.rst (is_empty (events_shown s rows row)) (is_attended_in s (run_state s rows) (reading s rows row) (instructions s rows) (writers s rows) (events_shown s rows row) n) in_one
+        (ap (λ (c : Change). c.after.rst) (sym i.change) ∙ r) (ap (λ (c : Change). c.before.rst) (sym i.change) ∙ b)))
+
 -- What a device in a place shows of a row.
 pub record Shows {D : Type 0} (IsOf : ScenarioValue → List Row → ℕ → D → Type 0) (o : ObserverValue) (place : Option D) (shown : List Event) : Type 0 where
-  pub target : (s : ScenarioValue) (rows : List Row) (row : Row) (n : Connection) → AreSeen s (row ∷ rows) o → IsIn IsOf s rows n.target place → (reading s rows row).change.after.rst ≡ false → connection rows ≡ Some n → is_left (reading s rows row).change (reading s rows row).next ≡ true → shown ≡ target_events s (run_state s rows) n (is_some (reading s rows row).next)
-  pub initiator : (s : ScenarioValue) (rows : List Row) (row : Row) (n : Connection) → AreSeen s (row ∷ rows) o → IsIn IsOf s rows n.initiator place → (reading s rows row).change.after.rst ≡ false → connection rows ≡ Some n → is_left (reading s rows row).change (reading s rows row).next ≡ false → shown ≡ initiator_events (run_state s rows) (run_state s rows).story.link (reading s rows row)
+  pub target : (s : ScenarioValue) (rows : List Row) (row : Row) (n : Connection) → AreSeen s (row ∷ rows) o → IsIn IsOf s rows n.target place → (reading s rows row).change.before.rst ≡ false → (reading s rows row).change.after.rst ≡ false → connection rows ≡ Some n → is_left (reading s rows row).change (reading s rows row).next ≡ true → shown ≡ target_events s (run_state s rows) n (is_some (reading s rows row).next)
+  pub initiator : (s : ScenarioValue) (rows : List Row) (row : Row) (n : Connection) → AreSeen s (row ∷ rows) o → IsIn IsOf s rows n.initiator place → (reading s rows row).change.before.rst ≡ false → (reading s rows row).change.after.rst ≡ false → connection rows ≡ Some n → is_left (reading s rows row).change (reading s rows row).next ≡ false → shown ≡ initiator_events (run_state s rows) (run_state s rows).story.link (reading s rows row)
 
-pub teller_shows : {D : Type 0} → (IsOf : ScenarioValue → List Row → ℕ → D → Type 0) (s : ScenarioValue) (rows : List Row) (row : Row) (n : Connection) (o : ObserverValue) (place : Option D) (dev : ℕ) (shown : List Event) → AreSeen s (row ∷ rows) o → IsRead s rows row → (change_of rows row).after.rst ≡ false → connection rows ≡ Some n → dev ≡ teller n (change_of rows row) (connection (row ∷ rows)) → IsIn IsOf s rows dev place → Shows IsOf o place shown → shown ≡ events_shown s rows row
-teller_shows {D} IsOf s rows row n o place dev shown a i r h t p w =
+pub teller_shows : {D : Type 0} → (IsOf : ScenarioValue → List Row → ℕ → D → Type 0) (s : ScenarioValue) (rows : List Row) (row : Row) (n : Connection) (o : ObserverValue) (place : Option D) (dev : ℕ) (shown : List Event) → AreSeen s (row ∷ rows) o → IsRead s rows row → (change_of rows row).before.rst ≡ false → (change_of rows row).after.rst ≡ false → connection rows ≡ Some n → dev ≡ teller n (change_of rows row) (connection (row ∷ rows)) → IsIn IsOf s rows dev place → Shows IsOf o place shown → shown ≡ events_shown s rows row
+teller_shows {D} IsOf s rows row n o place dev shown a i b r h t p w =
     go (is_left (reading s rows row).change (reading s rows row).next) refl
   where
+    was : (reading s rows row).change.before.rst ≡ false
+    was = ap (λ (c : Change). c.before.rst) (sym i.change) ∙ b
+
     rst : (reading s rows row).change.after.rst ≡ false
     rst = ap (λ (c : Change). c.after.rst) (sym i.change) ∙ r
 
@@ -80,5 +112,5 @@ teller_shows {D} IsOf s rows row n o place dev shown a i r h t p w =
     here q l = subst (λ (d : ℕ). IsIn IsOf s rows d place) (at ∙ ap (λ (x : Bool). if x then n.target else n.initiator) l) p
 
     go : (q : Bool) → is_left (reading s rows row).change (reading s rows row).next ≡ q → shown ≡ events_shown s rows row
-    go true l = w.target s rows row n a (here true l) rst h l ∙ in_connection s rows row n true i a.tied r h l
-    go false l = w.initiator s rows row n a (here false l) rst h l ∙ in_connection s rows row n false i a.tied r h l
+    go true l = w.target s rows row n a (here true l) was rst h l ∙ in_connection s rows row n true i a.tied r h l
+    go false l = w.initiator s rows row n a (here false l) was rst h l ∙ in_connection s rows row n false i a.tied r h l

@@ -14,30 +14,54 @@ use Rattle.bus_due.specs.Defs.{host_of, target_def_of}
 use Rattle.bus_due.specs.Faithful.{faithful, is_faithful}
 use Rattle.bus_due.specs.RunSteps.{run_state}
 use Rattle.bus_due.specs.Telling.{telling, is_true_telling}
+use Rattle.scsi_device.specs.Heard.{heard, is_heard_after, instructions}
 use Rattle.scsi_device.specs.Lines.{IsHostLine, IsTargetLine}
+use Rattle.scsi_device.specs.Writes.{written, is_written, writers}
+use Rattle.disk_target.specs.Attended.{attended, is_attended}
 use Rattle.bus_run.specs.Seams.{is_own_pair, paired, seams}
 use Rattle.bus_run.specs.Shown.{reading}
+
+-- What a row more is to fulfil.
+abbrev pub is_attended_after : ScenarioValue → List Row → Row → Bool
+is_attended_after s rows row = is_attended s (run_state s rows) row (reading s rows row) (instructions s rows) (writers s rows)
 
 pub record AreTied (s : ScenarioValue) (rows : List Row) : Type 0 where
   pub faithful_are : faithful s rows ≡ true
   pub telling_are : telling s rows ≡ true
   pub allowed_are : allowed s rows ≡ true
   pub paired_are : paired s rows ≡ true
+  pub heard_are : heard s rows ≡ true
+  pub written_are : written s rows ≡ true
+  pub attended_are : attended s rows ≡ true
 
 pub tied : (s : ScenarioValue) (rows : List Row) → seams s rows ≡ true → AreTied s rows
 unfolding seams
 tied s rows e =
-    let one = and_parts (faithful s rows) (telling s rows && (allowed s rows && paired s rows)) e in
-    let two = and_parts (telling s rows) (allowed s rows && paired s rows) one.1 in
-    let three = and_parts (allowed s rows) (paired s rows) two.1 in
-    record { faithful_are = one.0; telling_are = two.0; allowed_are = three.0; paired_are = three.1 }
+    let one = and_parts (faithful s rows) (telling s rows && (allowed s rows && (paired s rows && (heard s rows && (written s rows && attended s rows))))) e in
+    let two = and_parts (telling s rows) (allowed s rows && (paired s rows && (heard s rows && (written s rows && attended s rows)))) one.1 in
+    let three = and_parts (allowed s rows) (paired s rows && (heard s rows && (written s rows && attended s rows))) two.1 in
+    let four = and_parts (paired s rows) (heard s rows && (written s rows && attended s rows)) three.1 in
+    let five = and_parts (heard s rows) (written s rows && attended s rows) four.1 in
+    let six = and_parts (written s rows) (attended s rows) five.1 in
+    record {
+      faithful_are = one.0;
+      telling_are = two.0;
+      allowed_are = three.0;
+      paired_are = four.0;
+      heard_are = five.0;
+      written_are = six.0;
+      attended_are = six.1;
+    }
 
 pub untied : (s : ScenarioValue) (rows : List Row) → AreTied s rows → seams s rows ≡ true
 unfolding seams
 untied s rows t =
-    and_from (faithful s rows) (telling s rows && (allowed s rows && paired s rows)) t.faithful_are
-    (and_from (telling s rows) (allowed s rows && paired s rows) t.telling_are
-    (and_from (allowed s rows) (paired s rows) t.allowed_are t.paired_are))
+    and_from (faithful s rows) (telling s rows && (allowed s rows && (paired s rows && (heard s rows && (written s rows && attended s rows))))) t.faithful_are
+    (and_from (telling s rows) (allowed s rows && (paired s rows && (heard s rows && (written s rows && attended s rows)))) t.telling_are
+    (and_from (allowed s rows) (paired s rows && (heard s rows && (written s rows && attended s rows))) t.allowed_are
+    (and_from (paired s rows) (heard s rows && (written s rows && attended s rows)) t.paired_are
+    (and_from (heard s rows) (written s rows && attended s rows) t.heard_are
+    (and_from (written s rows) (attended s rows) t.written_are t.attended_are)))))
 
 pub tied_before : (s : ScenarioValue) (rows : List Row) (row : Row) → seams s (row ∷ rows) ≡ true → seams s rows ≡ true
 tied_before s rows row e =
@@ -47,6 +71,9 @@ tied_before s rows row e =
       telling_are = (and_parts (telling s rows) (is_true_telling s (run_state s rows) row (reading s rows row)) t.telling_are).0;
       allowed_are = (and_parts (allowed s rows) (is_allowed s (run_state s rows) row (reading s rows row)) t.allowed_are).0;
       paired_are = (and_parts (paired s rows) (is_own_pair s (connection (row ∷ rows))) t.paired_are).0;
+      heard_are = (and_parts (heard s rows) (is_heard_after s (run_state s rows) (run_state s (row ∷ rows)) (reading s rows row) (instructions s (row ∷ rows))) t.heard_are).0;
+      written_are = (and_parts (written s rows) (is_written s (run_state s rows) row (reading s rows row) (writers s rows)) t.written_are).0;
+      attended_are = (and_parts (attended s rows) (is_attended_after s rows row) t.attended_are).0;
     })
 
 pair_of : (s : ScenarioValue) (rows : List Row) → paired s rows ≡ true → is_own_pair s (connection rows) ≡ true

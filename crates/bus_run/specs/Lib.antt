@@ -1,6 +1,6 @@
 pub mod Seams
 pub mod Shown
+pub mod Runs
 pub mod Seen
 pub mod Label
 pub mod Places
-pub mod Runs

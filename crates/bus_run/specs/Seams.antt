@@ -10,6 +10,9 @@ use Rattle.bus_due.specs.Faithful.{faithful}
 use Rattle.bus_due.specs.Telling.{telling}
 use Rattle.bus_due.specs.Allowed.{allowed}
 use Rattle.bus_due.specs.Next.{IsPrompt}
+use Rattle.scsi_device.specs.Heard.{heard}
+use Rattle.scsi_device.specs.Writes.{written}
+use Rattle.disk_target.specs.Attended.{attended}
 
 -- The initiator of a connection is an initiator of the scenario, and its target is a target of it.
 abbrev pub is_own_pair : ScenarioValue → Option Connection → Bool
@@ -22,9 +25,13 @@ paired s [] = true
 paired s (row ∷ rows) = paired s rows && is_own_pair s (connection (row ∷ rows))
 
 -- What crossed is what was to be said, the two ends of a connection show the events that the rows show, the plain disk
--- array permits them, and the ends of a connection are of the scenario.
+-- array permits them, the ends of a connection are of the scenario, the target of a connection hears in it what is of the
+-- process that it serves, the bytes of a write come in their order, and the events of a row in a connection are of that
+-- process.
 unfoldable pub seams : ScenarioValue → List Row → Bool
-seams s rows = faithful s rows && (telling s rows && (allowed s rows && paired s rows))
+seams s rows =
+    faithful s rows
+    && (telling s rows && (allowed s rows && (paired s rows && (heard s rows && (written s rows && attended s rows)))))
 
 -- It holds of every prompt trace.
 abbrev pub SeamsHold : ScenarioValue → Type 0

@@ -33,16 +33,18 @@ pub trait Device: Drop {
             → IsOf s rows dev self.now → fault ≡ first_fault (run_state s rows).faults → result ≡ due s rows dev };
 
     /// The events that it shows with the last row, which the observer has seen and it has not: as a target with the row
-    /// that leaves a phase or the bus, as an initiator with any other row of the connection.
+    /// that leaves a phase or the bus, as an initiator with any other row of the connection; RST is and was false.
     fn shown(&self, observer: &Observer) -> Shown
         ensures target { (s : ScenarioValue) (rows : List Row) (row : Row) (dev : ℕ) (n : Connection)
             → AreSeen s (row ∷ rows) observer.now → IsOf s rows dev self.now
+            → (reading s rows row).change.before.rst ≡ false
             → (reading s rows row).change.after.rst ≡ false
             → connection rows ≡ Some n → n.target ≡ dev
             → is_left (reading s rows row).change (reading s rows row).next ≡ true
             → shown_events result ≡ target_events s (run_state s rows) n (is_some (reading s rows row).next) }
         ensures initiator { (s : ScenarioValue) (rows : List Row) (row : Row) (dev : ℕ) (n : Connection)
             → AreSeen s (row ∷ rows) observer.now → IsOf s rows dev self.now
+            → (reading s rows row).change.before.rst ≡ false
             → (reading s rows row).change.after.rst ≡ false
             → connection rows ≡ Some n → n.initiator ≡ dev
             → is_left (reading s rows row).change (reading s rows row).next ≡ false

@@ -86,11 +86,13 @@ pub fn next<D: Device, L: Ledger>(
 pub fn shown_in<D: Device>(place: &Option<D>, observer: &Observer) -> Shown
     ensures target { (s : ScenarioValue) (rows : List Row) (row : Row) (n : Connection)
         → AreSeen s (row ∷ rows) observer.now → IsIn D.IsOf s rows n.target place.now
+        → (reading s rows row).change.before.rst ≡ false
         → (reading s rows row).change.after.rst ≡ false → connection rows ≡ Some n
         → is_left (reading s rows row).change (reading s rows row).next ≡ true
         → shown_events result ≡ target_events s (run_state s rows) n (is_some (reading s rows row).next) }
     ensures initiator { (s : ScenarioValue) (rows : List Row) (row : Row) (n : Connection)
         → AreSeen s (row ∷ rows) observer.now → IsIn D.IsOf s rows n.initiator place.now
+        → (reading s rows row).change.before.rst ≡ false
         → (reading s rows row).change.after.rst ≡ false → connection rows ≡ Some n
         → is_left (reading s rows row).change (reading s rows row).next ≡ false
         → shown_events result

@@ -92,7 +92,7 @@ pub fn run<D: Device, L: Ledger>(
 ) -> Result<Trace, RunEnd>
     requires lawful { Obeys scenario.now }
     requires eight { length places.old ≡ 8 }
-    requires most { most ≤ 2 ^ 32 }
+    requires most { most < 2 ^ 32 }
     // It is the prompt trace of the scenario, whole,
     ensures prompt { SeamsHold scenario.now → AreIn D.IsOf scenario.now [] places.old
         → IfOk result (λ trace. IsPrompt scenario.now (reverse trace.rows.items)) }

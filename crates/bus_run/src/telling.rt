@@ -50,7 +50,8 @@ fn reset_shown(change: &Change, dev: Dev) -> Shown
 }
 
 /// The events that a row shows, which the observer has seen and the devices have not: a reset of the device that raises
-/// RST; while RST is true no other; and in a connection those that one of its ends shows.
+/// RST; while RST is true, and with the row that ends it, no other; and in a connection those that one of its ends
+/// shows.
 pub fn row_shown<D: Device>(places: &[Option<D>], observer: &Observer, row: &Row) -> Shown
     requires { length places.now ≡ 8 }
     ensures { (s : ScenarioValue) (rows : List Row) → AreSeen s (row.now ∷ rows) observer.now
@@ -62,6 +63,9 @@ pub fn row_shown<D: Device>(places: &[Option<D>], observer: &Observer, row: &Row
     let effect = observer.view().effect();
     if effect.change.after.rst() {
         return reset_shown(&effect.change, row.dev);
+    }
+    if effect.change.before.rst() {
+        return Shown::Nothing;
     }
     match &effect.before {
         None => Shown::Nothing,

@@ -10,6 +10,15 @@ returns-clause-telling c = λ s rows e. (tied s rows e).telling_are
 pub returns-clause-allowed : goal.returns-clause-allowed
 returns-clause-allowed c = λ s rows e. (tied s rows e).allowed_are
 
+pub returns-clause-heard : goal.returns-clause-heard
+returns-clause-heard c = λ s rows e. (tied s rows e).heard_are
+
+pub returns-clause-written : goal.returns-clause-written
+returns-clause-written c = λ s rows e. (tied s rows e).written_are
+
+pub returns-clause-attended : goal.returns-clause-attended
+returns-clause-attended c = λ s rows e. (tied s rows e).attended_are
+
 pub returns-clause-before : goal.returns-clause-before
 returns-clause-before c = λ s rows row e. tied_before s rows row e
 

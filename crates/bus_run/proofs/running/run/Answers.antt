@@ -18,7 +18,8 @@ returns-in_default-clause-ended g c = λ h p.
     let rows : List Row = reverse c.loop.trace.rows.items in
     let i = c.loop.invariant in
     let going = i.going h p in
-    sym (c.next.ensures.exact s rows (seen s rows c.loop.observer (c.scenarios_fit_the_bus.ensures.lines s c.requires.lawful) h going.prompt i.observed i.devices) going.devices (c.first.ensures ∙ ap (λ (xs : List FaultDef). first_fault xs) going.pending))
+    let few : length rows < 2 ^ 32 = omega (arith, length-reverse c.loop.trace.rows.items, i.count, c.loop-test.true, c.requires.most) in
+    sym (c.next.ensures.exact s rows (seen s rows c.loop.observer (c.scenarios_fit_the_bus.ensures.lines s c.requires.lawful) h going.prompt i.observed i.devices few i.early) going.devices (c.first.ensures ∙ ap (λ (xs : List FaultDef). first_fault xs) going.pending))
     ∙ c.in_default.is
 
 pub returns-in_default-clause-history : goal.returns-in_default-clause-history
@@ -37,10 +38,11 @@ returns-then-row-ge-END-clause-unfinished g c = λ h p e.
     let i = c.loop.invariant in
     let going = i.going h p in
     let row : Row = c.in-Some.row in
-    let few : length (row ∷ rows) ≤ 2 ^ 32 = omega (arith, length-reverse c.loop.trace.rows.items, i.count, c.loop-test.true, c.requires.most) in
+    let few : length rows < 2 ^ 32 = omega (arith, length-reverse c.loop.trace.rows.items, i.count, c.loop-test.true, c.requires.most) in
+    let few_with : length (row ∷ rows) ≤ 2 ^ 32 = omega (arith, few) in
     absurd (too_late s rows row
     (c.rows_come_in_time.ensures.far s (row ∷ rows) c.requires.lawful
-    (going.prompt, sym (c.next.ensures.exact s rows (seen s rows c.loop.observer (c.scenarios_fit_the_bus.ensures.lines s c.requires.lawful) h going.prompt i.observed i.devices) going.devices (c.first.ensures ∙ ap (λ (xs : List FaultDef). first_fault xs) going.pending)) ∙ c.in-Some.is) few)
+    (going.prompt, sym (c.next.ensures.exact s rows (seen s rows c.loop.observer (c.scenarios_fit_the_bus.ensures.lines s c.requires.lawful) h going.prompt i.observed i.devices few i.early) going.devices (c.first.ensures ∙ ap (λ (xs : List FaultDef). first_fault xs) going.pending)) ∙ c.in-Some.is) few_with)
     c.if-row-ge-END.true)
 
 pub loop-preserved : goal.loop-preserved
@@ -52,6 +54,8 @@ loop-preserved g c =
     let new : reverse c.add.new.self.rows.items ≡ row ∷ rows = c.in_ok-add.ensures.rows in
     let early : row.time < 2 ^ 62 = c.if-row-ge-END.false in
     let observed = c.tell-shown.ensures.observer rows i.observed in
+    let few : length rows < 2 ^ 32 = omega (arith, length-reverse c.loop.trace.rows.items, i.count, c.loop-test.true, c.requires.most) in
+    let few_with : length (row ∷ rows) < 2 ^ 32 = omega (arith, length-reverse c.loop.trace.rows.items, i.count, c.loop-test.true, c.requires.most) in
     record {
       observed = observed_on rows _ row _ new observed;
       devices = devices_on rows _ row new c.in-Some.ensures.device i.devices;
@@ -61,8 +65,8 @@ loop-preserved g c =
       going = λ h p.
           let going = i.going h p in
           let fits = c.scenarios_fit_the_bus.ensures.lines s c.requires.lawful in
-          let is : next s rows ≡ Some row = sym (c.next.ensures.exact s rows (seen s rows c.loop.observer fits h going.prompt i.observed i.devices) going.devices (c.first.ensures ∙ ap (λ (xs : List FaultDef). first_fault xs) going.pending)) ∙ c.in-Some.is in
-          let all = seen s (row ∷ rows) c.tell-shown.new.observer fits h (going.prompt, is) observed (c.in-Some.ensures.device, i.devices) in
+          let is : next s rows ≡ Some row = sym (c.next.ensures.exact s rows (seen s rows c.loop.observer fits h going.prompt i.observed i.devices few i.early) going.devices (c.first.ensures ∙ ap (λ (xs : List FaultDef). first_fault xs) going.pending)) ∙ c.in-Some.is in
+          let all = seen s (row ∷ rows) c.tell-shown.new.observer fits h (going.prompt, is) observed (c.in-Some.ensures.device, i.devices) few_with (early, i.early) in
           goes_on g.D.Device.IsOf s rows _ row c.loop.places c.loop.faults (reverse c.loop.trace.history.items) c.tell-shown.new.places c.see.new.self _ (reverse c.add.new.self.history.items)
           new going is (c.tell-shown.ensures.places s rows all going.devices) c.see.ensures (c.tell-shown.ensures.shown s rows all going.devices) c.in_ok-add.ensures.history;
     }

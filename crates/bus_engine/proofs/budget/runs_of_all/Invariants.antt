@@ -1,0 +1,14 @@
+use Rattle.std.proofs.Common.{◌≡◌, ◌≤◌, ◌+◌, ◌*◌, ◌^◌, drop}
+use Rattle.std.specs.List.{AllByRecursion}
+use Rattle.scenario.specs.declared.bounds.TheConstants.{NEED_LIMIT}
+use Rattle.scenario.specs.declared.value.CmdDef.{CmdDef}
+use Rattle.scenario.specs.Needs.{need_of}
+use Rattle.bus_story.specs.Budget.{runs_of_all}
+use Rattle.bus_engine.proofs.budget.runs_of_all.Given as goal
+
+abbrev pub invariant-loop-index : goal.invariant-loop-index
+invariant-loop-index l = record {
+  total : l.sum + runs_of_all l.scenario (drop l.index l.commands) ≡ runs_of_all l.scenario l.commands;
+  few : l.sum ≤ 2 ^ 65 * l.index;
+  needs : AllByRecursion (λ (c : CmdDef). need_of l.scenario c ≤ NEED_LIMIT) (drop l.index l.commands);
+}

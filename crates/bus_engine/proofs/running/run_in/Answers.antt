@@ -1,0 +1,46 @@
+use Rattle.std.proofs.Common.{ℕ, ◌≡◌, ◌<◌, ◌^◌, ◌∙◌, true, List, length, reverse, sym, ap, subst}
+use Rattle.bus_base.specs.declared.Event.{Event}
+use Rattle.bus_trace.specs.declared.Row.{Row}
+use Rattle.bus_trace.specs.Trace.{last_time}
+use Rattle.disk_array.specs.ArrayHistory.{array_after, disks_of}
+use Rattle.bus_story.specs.Outcomes.{outcomes}
+use Rattle.bus_story.specs.Story.{Story}
+use Rattle.bus_story.specs.TraceHistory.{story, trace_history}
+use Rattle.bus_due.specs.Next.{IsPrompt, IsEnded}
+use Rattle.bus_due.specs.Plain.{AreOfDevices}
+use Rattle.bus_run.specs.Runs.{AreEarly}
+use Rattle.bus_members.specs.Answers.{are_answered}
+use Rattle.bus_engine.specs.Limits.{row_limit}
+use Rattle.bus_engine.proofs.Items.{all_reversed}
+use Rattle.bus_engine.proofs.running.run_in.Goals as goal
+
+pub returns-clause-exact : goal.returns-clause-exact
+returns-clause-exact g c = λ at.
+    let s = c.args.scenario.now in
+    let items = c.in_ok-trace.trace.rows.items in
+    let all : List Row = reverse c.in_ok-trace.trace.rows.items in
+    let r = c.in_ok-finish.ensures.rows in
+    let plain = c.kept_is_plain.ensures.rows s all c.in_ok-trace.ensures.devices in
+    record {
+      told = λ h.
+          let prompt = c.in_ok-trace.ensures.prompt h at in
+          let places = c.in_ok-trace.ensures.places h at in
+          record {
+            prompt = subst (λ (l : List Row). IsPrompt s (reverse l)) (sym r) prompt;
+            ended = subst (λ (l : List Row). IsEnded s (reverse l)) (sym r) (c.in_ok-trace.ensures.ended h at);
+            history = ap (λ (l : List Event). reverse l) c.in_ok-finish.ensures.history ∙ c.in_ok-trace.ensures.history h at ∙ ap (λ (l : List Row). trace_history s (reverse l)) (sym r);
+            replies = λ answers.
+                c.in_ok-finish.ensures.replies all places (subst (λ (l : List Row). are_answered s (reverse l) ≡ true) r answers)
+                ∙ ap (λ (b : Story). outcomes s b) plain.story
+                ∙ ap (λ (l : List Row). outcomes s (story s (reverse l))) (sym r);
+            disks =
+                c.in_ok-finish.ensures.disks all plain (c.rows_tie_devices.ensures.allowed s all (h all prompt)) places
+                ∙ ap (λ (l : List Row). disks_of (array_after s (trace_history s (reverse l)))) (sym r);
+          };
+      devices = subst (λ (l : List Row). AreOfDevices l) (sym r) (all_reversed (λ (row : Row). row.dev < 8) items c.in_ok-trace.ensures.devices);
+      early = subst (λ (l : List Row). AreEarly l) (sym r) (all_reversed (λ (row : Row). row.time < 2 ^ 62) items c.in_ok-trace.ensures.early);
+      end = c.in_ok-finish.ensures.end ∙ ap (λ (l : List Row). last_time (reverse l)) (sym r);
+      few = subst (λ (l : List Row). length l < row_limit s) (sym r) (subst (λ (n : ℕ). length c.in_ok-trace.trace.rows.items < n) c.most_rows.ensures.exact c.in_ok-trace.ensures.few);
+      answered = c.in_ok-finish.ensures.answered;
+      stored = c.in_ok-finish.ensures.stored;
+    }

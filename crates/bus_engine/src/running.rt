@@ -1,0 +1,138 @@
+//! The run of a scenario.
+ghost use Rattle.std.specs.Prelude.{ℕ, ◌≡◌, ◌≤◌, ◌+◌, [], true, List, IfOk, Err, map, length, reverse};
+ghost use Rattle.std.specs.List.{AllByRecursion};
+ghost use Rattle.bus_trace.specs.declared.Row.{Row as TraceRow};
+ghost use Rattle.bus_trace.specs.Trace.{last_time};
+ghost use Rattle.scenario.specs.Value.{ScenarioValue};
+ghost use Rattle.scenario.specs.Writing.{Obeys};
+ghost use Rattle.disk_array.specs.ArrayHistory.{array_after, disks_of};
+ghost use Rattle.disk_array.specs.SoundArray.{HasSeats};
+ghost use Rattle.bus_story.specs.Outcomes.{outcomes};
+ghost use Rattle.bus_story.specs.TraceHistory.{trace_history};
+ghost use Rattle.bus_due.specs.Allowed.{allowed};
+ghost use Rattle.bus_due.specs.Plain.{IsPlain};
+ghost use Rattle.bus_due.specs.RunSteps.{run_state};
+ghost use Rattle.scsi_device.specs.Lines.{FitsBus};
+ghost use Rattle.run_record.specs.Value.{held_by};
+ghost use Rattle.bus_run.specs.declared.running.RunEnd.TheVariants.{Unfinished};
+ghost use Rattle.bus_run.specs.Places.{AreIn};
+ghost use Rattle.bus_run.specs.Seams.{SeamsHold};
+ghost use Rattle.bus_members.specs.Answers.{are_answered};
+ghost use Rattle.bus_members.specs.Members.{IsMember};
+ghost use Rattle.bus_members.specs.Over.{AreOver};
+ghost use Rattle.bus_engine.specs.Disks.{IsWithin, have_targets};
+ghost use Rattle.bus_engine.specs.Limits.{step_limit};
+ghost use Rattle.bus_engine.specs.Runs.{told_reply, IsRunOf, IsUnfinished};
+
+use crate::budget::most_rows;
+use crate::finishing::{disks, end_of, replies, units_by_target};
+use bus_base::{NoMemory, Steps};
+use bus_due::kept_is_plain;
+use bus_members::{Member, member_places, runs_end};
+use bus_run::{RunEnd, Trace, rows_tie_devices};
+use disk_array::arrays_are_sound;
+use disk_unit::SparseBlocks;
+use run_record::Run;
+use scenario::{Scenario, UnitDef};
+use scsi_device::scenarios_fit_the_bus;
+use std::alloc::Global;
+use std::sync::ledger::Ledger;
+use target_units::units_hold_their_blocks;
+
+// The blocks of the units of these targets, in the order of their lines.
+fn disks_in(
+    alloc: Global,
+    units: &[UnitDef],
+    places: &mut [Option<Member>],
+) -> Result<Vec<SparseBlocks>, NoMemory>
+    requires lines { AllByRecursion IsWithin units.now }
+    requires eight { length places.old ≡ 8 }
+    ensures count { IfOk result (λ disks. length disks.items ≡ length units.now) }
+    ensures held { (s : ScenarioValue) (rows : List TraceRow) (first : ℕ) → FitsBus s → units.now ≡ s.units
+        → HasSeats s → IsPlain s rows (run_state s rows) → allowed s rows ≡ true → have_targets s ≡ true
+        → AreOver s rows first places.old
+        → IfOk result (λ disks. map held_by disks.items ≡ disks_of (array_after s (trace_history s rows))) }
+{
+    arrays_are_sound();
+    units_hold_their_blocks();
+    let mut of_target = units_by_target(alloc, places)?;
+    disks(alloc, units, of_target.as_mut_slice())
+}
+
+// What these devices leave, which were told of these rows.
+fn finish(
+    alloc: Global,
+    scenario: &Scenario,
+    places: &mut [Option<Member>],
+    trace: Trace,
+) -> Result<Run, NoMemory>
+    requires lawful { Obeys scenario.now }
+    requires eight { length places.old ≡ 8 }
+    ensures rows { IfOk result (λ run. run.rows ≡ trace.rows.items) }
+    ensures history { IfOk result (λ run. run.history ≡ trace.history.items) }
+    ensures end { IfOk result (λ run. run.end ≡ last_time (reverse trace.rows.items)) }
+    ensures answered { IfOk result (λ run. length run.replies ≡ length scenario.now.commands) }
+    ensures stored { IfOk result (λ run. length run.disks ≡ length scenario.now.units) }
+    ensures replies { (rows : List TraceRow) → AreIn IsMember scenario.now rows places.old
+        → are_answered scenario.now rows ≡ true
+        → IfOk result (λ run. map told_reply run.replies
+        ≡ outcomes scenario.now (run_state scenario.now rows).story) }
+    ensures disks { (rows : List TraceRow) → IsPlain scenario.now rows (run_state scenario.now rows)
+        → allowed scenario.now rows ≡ true
+        → AreIn IsMember scenario.now rows places.old
+        → IfOk result (λ run. run.disks ≡ disks_of (array_after scenario.now (trace_history scenario.now rows))) }
+{
+    scenarios_fit_the_bus();
+    runs_end();
+    let replies = replies(alloc, scenario.commands.as_slice(), places)?;
+    let disks = disks_in(alloc, scenario.units.as_slice(), places)?;
+    let end = end_of(trace.rows.as_slice());
+    Ok(Run {
+        rows: trace.rows,
+        end,
+        history: trace.history,
+        replies,
+        disks,
+    })
+}
+
+// The run of a scenario by its devices, each in the place of its ID.
+fn run_in<L: Ledger>(
+    alloc: Global,
+    scenario: &Scenario,
+    places: &mut [Option<Member>],
+    steps: &mut Steps<L>,
+) -> Result<Run, RunEnd>
+    requires lawful { Obeys scenario.now }
+    requires eight { length places.old ≡ 8 }
+    ensures exact { AreIn IsMember scenario.now [] places.old → IfOk result (λ run. IsRunOf scenario.now run) }
+    ensures unfinished { AreIn IsMember scenario.now [] places.old → SeamsHold scenario.now
+        → result ≡ Err Unfinished → IsUnfinished scenario.now steps.old steps.new }
+    ensures steps { steps.new ≤ steps.old + step_limit scenario.now }
+{
+    rows_tie_devices();
+    kept_is_plain();
+    let trace = bus_run::run(alloc, scenario, places, most_rows(scenario), steps)?;
+    Ok(finish(alloc, scenario, places, trace)?)
+}
+
+/// Runs a scenario from time 0 until nothing is due. Each time that a device is asked is a step, and of steps there are
+/// at most as many as its budget has.
+///
+/// # Errors
+///
+/// `Unfinished` where it took all these steps and has not ended, `NoMemory` where memory ran out.
+pub fn run<L: Ledger>(
+    alloc: Global,
+    scenario: &Scenario,
+    steps: &mut Steps<L>,
+) -> Result<Run, RunEnd>
+    requires { Obeys scenario.now }
+    ensures exact { IfOk result (λ run. IsRunOf scenario.now run) }
+    ensures unfinished { SeamsHold scenario.now → result ≡ Err Unfinished
+        → IsUnfinished scenario.now steps.old steps.new }
+    ensures steps { steps.new ≤ steps.old + step_limit scenario.now }
+{
+    let mut places = member_places(alloc, scenario)?;
+    run_in(alloc, scenario, places.as_mut_slice(), steps)
+}
