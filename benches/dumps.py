@@ -59,4 +59,5 @@ def main():
         compared(programs, "unvcd", dumps[0], traces, rounds)
 
 
-main()
+if __name__ == "__main__":
+    main()

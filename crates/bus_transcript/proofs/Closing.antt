@@ -1,0 +1,27 @@
+-- A connection is closed by its parts alone, whatever stands in its place meanwhile; and rows one by one.
+use Rattle.std.proofs.Common.{ℕ, ◌≡◌, ◌<◌, ◌+◌, List, [], ◌∷◌, ◌++◌, take, reverse, length, get_or, refl, sym, ap, ◌∙◌}
+use Rattle.std.specs.Prelude.{Bool, false, Option}
+use Rattle.std.proofs.lemmas.List.{reverse-append}
+use Rattle.std.proofs.lemmas.Grind.{take_at_read}
+use Rattle.bus_trace.specs.declared.Row.{Row}
+use Rattle.bus_trace.specs.declared.connection.Connection.{Connection}
+use Rattle.bus_story.specs.BusState.{RowReading}
+use Rattle.bus_transcript.specs.declared.part.Part.{Part}
+use Rattle.bus_transcript.specs.declared.summary.Summary.{Summary}
+use Rattle.bus_transcript.specs.Opened.{OpenedValue, settled, phase_over}
+use Rattle.bus_transcript.specs.Rows.{TranscriberValue, closed_by, closed_with, closed_phase}
+
+closed_apart : (t : TranscriberValue) (o : Option OpenedValue) (n : Connection) (parts : List Part) (free : Bool) (s : Summary) → closed_by (record t { opened = o }) n parts free s ≡ closed_by t n parts free s
+unfolding closed_by
+closed_apart t o n parts free s = refl
+
+pub with_apart : (t : TranscriberValue) (o : Option OpenedValue) (k : OpenedValue) (free : Bool) → closed_with (record t { opened = o }) k free ≡ closed_with t k free
+with_apart t o k free = closed_apart t o _ _ _ _
+
+pub phase_apart : (t : TranscriberValue) (o : Option OpenedValue) (k : OpenedValue) (d : RowReading) (free : Bool) → closed_phase (record t { opened = o }) k d free ≡ closed_phase t k d free
+phase_apart t o k d free = with_apart t o (settled (phase_over k d.change.before t.bus_state.dialogue.half false) false) free
+
+-- one row more
+pub past_more : (xs : List Row) (i : ℕ) (x : Row) → i < length xs → x ≡ get_or xs i x → reverse (take (i + 1) xs) ≡ x ∷ reverse (take i xs)
+past_more xs i x h e =
+    ap (λ (ys : List Row). reverse ys) ((take_at_read xs i x h).1 ∙ ap (λ (y : Row). take i xs ++ y ∷ []) (sym e)) ∙ reverse-append (take i xs) (x ∷ [])

@@ -1,0 +1,5 @@
+pub mod OnOks
+pub mod Closing
+pub mod Nexuses
+pub mod Silence
+pub mod Cases
