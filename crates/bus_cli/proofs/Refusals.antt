@@ -16,7 +16,7 @@ use Rattle.bus_cli.specs.Lines.{Writing, writing, SaysLine, refusal_line}
 use Rattle.bus_cli.specs.Running.{RunSays, RunTells, IsReport}
 use Rattle.bus_cli.specs.declared.words.Extent.{Extent}
 use Rattle.bus_cli.specs.declared.status.Status.{Status}
-use Rattle.bus_cli.specs.declared.status.Status.TheVariants.{Done, Words, Refused, Read, Write, Memory, Broken, BadTrace, NotBuilt, BadDump}
+use Rattle.bus_cli.specs.declared.status.Status.TheVariants.{Done, Words, Refused, Read, Write, Memory, Broken, BadTrace, Unfinished, BadDump}
 
 -- ---- a text that is too long
 
@@ -55,7 +55,7 @@ said_long extent input left end text old written f g e h same says =
 -- ---- what is said of bytes is said of the input that they are
 
 report_of_any : (extent : Extent) (bytes text : List ℕ) → IsReport extent (Some bytes) text → IsReport extent None text
-report_of_any extent bytes text r = (r.0, r.1, r.2.1, r.3, r.4)
+report_of_any extent bytes text r = (r.0, r.1, tt, r.3, r.4)
 
 of_input : (extent : Extent) (status : Status) (input : Option (List ℕ)) (bytes : List ℕ) (w : Writing) → IfSome input (λ xs. bytes ≡ xs) → RunSays extent status (Some bytes) w → RunSays extent status input w
 of_input extent status (Some xs) bytes w same says = subst (λ (b : List ℕ). RunSays extent status (Some b) w) same says
@@ -68,7 +68,7 @@ of_input extent Refused None bytes w same says = (says.0, says.1, tt, says.3)
 of_input extent Words None bytes w same says = says
 of_input extent Read None bytes w same says = says
 of_input extent Memory None bytes w same says = says
-of_input extent NotBuilt None bytes w same says = says
+of_input extent Unfinished None bytes w same says = says
 
 all_of : (input left : Option (List ℕ)) (v : Vec ℕ Global) (bytes : List ℕ) → bytes ≡ v.items → ReadsAll input left SCENARIO_LIMIT (Ok v) → IfSome input (λ xs. bytes ≡ xs)
 all_of None left v bytes same h = tt

@@ -7,12 +7,13 @@ use Rattle.bus_cli.specs.Lines.{Writing, usage_line, SaysLine}
 use Rattle.bus_base.specs.Whole.{TakesAtMost}
 use Rattle.bus_cli.specs.Words.{word_of, limit_of}
 use Rattle.bus_cli.specs.Making.{MakeSays, MakeTells}
-use Rattle.bus_cli.specs.Running.{RunSays, RunTells, scenario_status}
+use Rattle.bus_cli.specs.Running.{RunSays, RunTells, StepsBy, scenario_status}
 use Rattle.bus_cli.specs.Judging.{JudgeSays, JudgeTells, verdict_on, verdict_status}
 use Rattle.bus_cli.specs.Vcd.{VcdSays, VcdTells}
+use Rattle.bus_cli.specs.Transcripts.{TranscriptSays}
 use Rattle.bus_cli.specs.Unvcd.{UnvcdSays, UnvcdTells, dump_on, dump_status}
 use Rattle.bus_cli.specs.declared.status.Status.{Status}
-use Rattle.bus_cli.specs.declared.status.Status.TheVariants.{Done, Words, Refused, Read, Write, Memory, Broken, BadTrace, NotBuilt, BadDump}
+use Rattle.bus_cli.specs.declared.status.Status.TheVariants.{Done, Words, Refused, Read, Write, Memory, Broken, BadTrace, Unfinished, BadDump}
 use Rattle.bus_cli.specs.declared.words.Word.{Word}
 use Rattle.bus_cli.specs.declared.words.Word.TheVariants as words
 
@@ -26,7 +27,7 @@ code_of Write = 4
 code_of Memory = 5
 code_of Broken = 6
 code_of BadTrace = 7
-code_of NotBuilt = 9
+code_of Unfinished = 8
 code_of BadDump = 10
 
 -- what the words of the program ask
@@ -41,6 +42,7 @@ Says (Some words.Judge) status input w = JudgeSays status input w
 Says (Some (words.Make seed n)) status input w = MakeSays seed n status w
 Says (Some words.Vcd) status input w = VcdSays status input w
 Says (Some words.Unvcd) status input w = UnvcdSays status input w
+Says (Some words.Transcript) status input w = TranscriptSays status input w
 
 -- what the status says of the input's bytes
 abbrev pub TellsForm : Word → Status → List ℕ → Type 0
@@ -49,6 +51,7 @@ TellsForm words.Judge status bytes = JudgeTells status bytes
 TellsForm (words.Make seed n) status bytes = MakeTells status
 TellsForm words.Vcd status bytes = VcdTells status bytes
 TellsForm words.Unvcd status bytes = UnvcdTells status bytes
+TellsForm words.Transcript status bytes = VcdTells status bytes
 
 -- All bytes were read; or they are more than the limit, and one more than the limit was read.
 abbrev pub ReadsOut : ℕ → List ℕ → Option (List ℕ) → Type 0
@@ -60,7 +63,7 @@ abbrev pub Reads : ℕ → Status → List ℕ → Option (List ℕ) → Type 0
 Reads limit Done bytes left = left ≡ Some []
 Reads limit Write bytes left = left ≡ Some []
 Reads limit Broken bytes left = left ≡ Some []
-Reads limit NotBuilt bytes left = left ≡ Some []
+Reads limit Unfinished bytes left = left ≡ Some []
 Reads limit Refused bytes left = ReadsOut limit bytes left
 Reads limit BadTrace bytes left = ReadsOut limit bytes left
 Reads limit BadDump bytes left = ReadsOut limit bytes left
@@ -75,10 +78,13 @@ status_of words.Judge bytes = verdict_status (verdict_on bytes)
 status_of (words.Make seed n) bytes = Done
 status_of words.Vcd bytes = verdict_status (verdict_on bytes)
 status_of words.Unvcd bytes = dump_status (dump_on bytes)
+status_of words.Transcript bytes = verdict_status (verdict_on bytes)
 
--- The status is the one that is asked for; or memory ran out, or in place of Done a write failed.
+-- The status is the one that is asked for; or memory ran out, or in place of Done a write failed, or a run took all its
+-- steps.
 abbrev pub IsMet : Status → Status → Type 0
-IsMet asked status = (status ≡ asked) ⊎ ((status ≡ Memory) ⊎ ((asked ≡ Done) × (status ≡ Write)))
+IsMet asked status =
+    (status ≡ asked) ⊎ ((status ≡ Memory) ⊎ ((asked ≡ Done) × ((status ≡ Write) ⊎ (status ≡ Unfinished))))
 
 -- ---- the same by what the words ask, where this is known, and the bytes that the input had left, where they are told
 
@@ -113,6 +119,15 @@ TellsBy word status old = IfSome old (λ bytes. TellsForm word status bytes)
 
 abbrev pub TellsInput : Option Word → Status → Option (List ℕ) → Type 0
 TellsInput asked status old = IfSome asked (λ word. TellsBy word status old)
+
+-- Only a run takes steps.
+abbrev pub TakesStepsBy : Word → Status → Option (List ℕ) → ℕ → ℕ → Type 0
+TakesStepsBy (words.Run extent) status old before after = IfSome old (λ bytes. StepsBy (scenario_of bytes) status before after)
+TakesStepsBy _ status old before after = after ≡ before
+
+abbrev pub TakesSteps : Option Word → Status → Option (List ℕ) → ℕ → ℕ → Type 0
+TakesSteps None status old before after = after ≡ before
+TakesSteps (Some word) status old before after = TakesStepsBy word status old before after
 
 abbrev pub MeetsBy : Word → Status → Option (List ℕ) → Type 0
 MeetsBy (words.Make seed n) status old = IsMet Done status

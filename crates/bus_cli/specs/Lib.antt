@@ -4,6 +4,7 @@ pub mod Running
 pub mod Making
 pub mod Judging
 pub mod Vcd
+pub mod Transcripts
 pub mod Unvcd
 pub mod Ends
 pub mod Hearing

@@ -11,8 +11,8 @@ fault_line = codes "read fault\n"
 abbrev pub memory_line : List ℕ
 memory_line = codes "no memory\n"
 
-abbrev pub form_line : List ℕ
-form_line = codes "not built\n"
+abbrev pub unfinished_line : List ℕ
+unfinished_line = codes "unfinished\n"
 
 abbrev pub lawful_line : List ℕ
 lawful_line = codes "lawful\n"

@@ -1,30 +1,23 @@
 -- The word `run`: what each status says of the input, and what is written.
-use Rattle.std.specs.Prelude.{ℕ, ◌≡◌, true, false, Bool, List, Option, Some, None, Result, Ok, Err}
+use Rattle.std.specs.Prelude.{ℕ, ◌≡◌, ◌≤◌, ◌+◌, List, Option, Some, None, Result, Ok, Err}
 use Rattle.scenario.specs.Value.{ScenarioValue}
 use Rattle.scenario.specs.Reading.{scenario_of}
-use Rattle.bus_engine.specs.Value.{RunValue}
-use Rattle.bus_engine.specs.Built.{is_built}
-use Rattle.bus_engine.specs.ScenarioRun.{IsRunOf}
+use Rattle.bus_run.specs.Seams.{SeamsHold}
+use Rattle.run_record.specs.Value.{RunValue}
+use Rattle.bus_engine.specs.Limits.{step_limit}
+use Rattle.bus_engine.specs.Runs.{IsRunOf, IsUnfinished}
 use Rattle.trace_text.specs.ReportText.{report_of}
 use Rattle.trace_text.specs.ShortText.{short_text}
 use Rattle.bus_cli.specs.declared.words.Extent.{Extent}
 use Rattle.bus_cli.specs.declared.words.Extent.TheVariants.{Whole, Short}
-use Rattle.bus_cli.specs.Lines.{usage_line, fault_line, memory_line, form_line, refusal_line, Writing, Adds, AddsFront, SaysLine}
+use Rattle.bus_cli.specs.Lines.{usage_line, fault_line, memory_line, unfinished_line, refusal_line, Writing, Adds, AddsFront, SaysLine}
 use Rattle.bus_cli.specs.declared.status.Status.{Status}
-use Rattle.bus_cli.specs.declared.status.Status.TheVariants.{Done, Words, Refused, Read, Write, Memory, Broken, BadTrace, NotBuilt, BadDump}
+use Rattle.bus_cli.specs.declared.status.Status.TheVariants.{Done, Words, Refused, Read, Write, Memory, Broken, BadTrace, Unfinished, BadDump}
 
--- these bytes are a text of this scenario, and it can be run so far
-abbrev pub Asks : List ℕ → ScenarioValue → Type 0
-Asks bytes s = (scenario_of bytes ≡ Ok s) × (is_built s ≡ true)
-
--- these bytes are a text of a scenario that cannot be run so far
-abbrev pub AsksMore : List ℕ → Type 0
-AsksMore bytes = (s : ScenarioValue) × (scenario_of bytes ≡ Ok s) × (is_built s ≡ false)
-
--- the scenario that the input says, which can be run; where nothing is told of the bytes, any such one
+-- the scenario that the input says; where nothing is told of the bytes, any
 abbrev pub IsSaid : Option (List ℕ) → ScenarioValue → Type 0
-IsSaid None s = is_built s ≡ true
-IsSaid (Some bytes) s = Asks bytes s
+IsSaid None s = Unit {0}
+IsSaid (Some bytes) s = scenario_of bytes ≡ Ok s
 
 -- the report of a run, or the short one
 abbrev pub run_text : Extent → ScenarioValue → RunValue → List ℕ
@@ -51,16 +44,16 @@ RunSays extent Refused input w =
     (line : ℕ) × (reason : ℕ) × IsRefused input line reason × SaysLine (refusal_line line reason) w
 RunSays extent Read input w = SaysLine fault_line w
 RunSays extent Memory input w = SaysLine memory_line w
-RunSays extent NotBuilt input w = SaysLine form_line w
+RunSays extent Unfinished input w = SaysLine unfinished_line w
 RunSays extent Broken input w = ⊥
 RunSays extent BadTrace input w = ⊥
 RunSays extent BadDump input w = ⊥
 
 -- what the status says of the input's bytes
 abbrev pub RunTells : Status → List ℕ → Type 0
-RunTells Done bytes = (s : ScenarioValue) × Asks bytes s
-RunTells Write bytes = (s : ScenarioValue) × Asks bytes s
-RunTells NotBuilt bytes = AsksMore bytes
+RunTells Done bytes = (s : ScenarioValue) × (scenario_of bytes ≡ Ok s)
+RunTells Write bytes = (s : ScenarioValue) × (scenario_of bytes ≡ Ok s)
+RunTells Unfinished bytes = (s : ScenarioValue) × (scenario_of bytes ≡ Ok s)
 RunTells Refused bytes = (line : ℕ) × (reason : ℕ) × (scenario_of bytes ≡ Err (line, reason))
 RunTells Words bytes = Unit {0}
 RunTells Read bytes = Unit {0}
@@ -70,10 +63,13 @@ RunTells BadTrace bytes = ⊥
 RunTells BadDump bytes = ⊥
 
 -- the status that a scenario asks for
-abbrev pub built_status : Bool → Status
-built_status true = Done
-built_status false = NotBuilt
-
 abbrev pub scenario_status : Result ScenarioValue (ℕ × ℕ) → Status
-scenario_status (Ok s) = built_status (is_built s)
+scenario_status (Ok s) = Done
 scenario_status (Err reason) = Refused
+
+-- The steps that a run takes: at most those of its budget; and it is unfinished only where it took them all and has not
+-- ended, under the premise of its contract. What is no scenario takes none.
+abbrev pub StepsBy : Result ScenarioValue (ℕ × ℕ) → Status → ℕ → ℕ → Type 0
+StepsBy (Ok s) status before after =
+    (after ≤ before + step_limit s) × (status ≡ Unfinished → SeamsHold s → IsUnfinished s before after)
+StepsBy (Err reason) status before after = after ≡ before

@@ -7,7 +7,7 @@ use Rattle.vcd_text.specs.declared.limit.TheConstants.{LIMIT as DUMP_LIMIT}
 use Rattle.scenario.specs.declared.bounds.TheConstants.{LIMIT as SCENARIO_LIMIT, COMMAND_LIMIT}
 use Rattle.bus_cli.specs.declared.words.Extent.TheVariants.{Whole, Short}
 use Rattle.bus_cli.specs.declared.words.Word.{Word}
-use Rattle.bus_cli.specs.declared.words.Word.TheVariants.{Run, Judge, Make, Vcd, Unvcd}
+use Rattle.bus_cli.specs.declared.words.Word.TheVariants.{Run, Judge, Make, Vcd, Unvcd, Transcript}
 
 -- A number that stands alone.
 abbrev pub alone : Number → List ℕ → Option ℕ
@@ -33,6 +33,7 @@ one_word word =
     else if pointwise nat_eq word (codes "judge") then Some Judge
     else if pointwise nat_eq word (codes "vcd") then Some Vcd
     else if pointwise nat_eq word (codes "unvcd") then Some Unvcd
+    else if pointwise nat_eq word (codes "transcript") then Some Transcript
     else None
 
 abbrev pub two_words : List ℕ → List ℕ → Option Word
@@ -58,3 +59,4 @@ limit_of Judge = TRACE_LIMIT
 limit_of (Make seed n) = 0
 limit_of Vcd = TRACE_LIMIT
 limit_of Unvcd = DUMP_LIMIT
+limit_of Transcript = TRACE_LIMIT

@@ -3,10 +3,11 @@ ghost use Rattle.std.specs.Prelude.{◌≡◌, ◌+◌, ◌≤◌, Some, IfSome,
 ghost use Rattle.std.specs.List.{AllByRecursion};
 ghost use Rattle.bus_base.specs.Faults.{HasRisen};
 ghost use Rattle.bus_base.specs.Whole.{TakesAtMost, WritesAll};
-ghost use Rattle.bus_trace.specs.OfTrace.{IsRow};
 ghost use Rattle.bus_cli.specs.Words.{limit_of};
 ghost use Rattle.bus_cli.specs.Lines.{IfTold};
-ghost use Rattle.bus_cli.specs.Running.{run_text, RunSays, RunTells};
+ghost use Rattle.scenario.specs.Reading.{scenario_of};
+ghost use Rattle.trace_text.specs.RowText.{IsOfEight};
+ghost use Rattle.bus_cli.specs.Running.{run_text, RunSays, RunTells, StepsBy};
 ghost use Rattle.bus_cli.specs.Ends.{Reads};
 ghost use Rattle.bus_cli.specs.declared.words.Word.TheVariants as words;
 
@@ -14,10 +15,11 @@ use crate::answers::refusal_line;
 use crate::saying::say;
 use crate::status::Status;
 use crate::words::Extent;
-use bus_base::{Failed, ReadEnd, Sink, Source, read_all};
-use bus_engine::{Run, built};
+use bus_base::{Failed, ReadEnd, Sink, Source, Steps, read_all};
+use bus_engine::{Run, RunEnd};
 use scenario::{Bad, LIMIT, Scenario, read};
 use std::alloc::Global;
+use std::sync::ledger::Ledger;
 use trace_text::{report, short_report};
 
 // Writes what is reported of a run of this scenario.
@@ -29,7 +31,7 @@ fn write_report<K: Sink>(
 ) -> Result<(), Failed>
     requires replies { length run.now.replies ≡ length scenario.now.commands }
     requires disks { length run.now.disks ≡ length scenario.now.units }
-    requires rows { AllByRecursion IsRow run.now.rows }
+    requires rows { AllByRecursion IsOfEight run.now.rows }
     ensures whole { WritesAll (K.written out.old) (K.written out.new) (run_text extent scenario.now run.now) result }
     ensures failed { OnErr result (HasRisen (K.faults out.old) (K.faults out.new)) }
     ensures never_falls { K.faults out.old ≤ K.faults out.new }
@@ -41,13 +43,20 @@ fn write_report<K: Sink>(
 }
 
 // Runs the scenario that these bytes say.
-fn run_bytes<K: Sink>(alloc: Global, extent: Extent, bytes: &[u8], out: &mut K) -> Status
+fn run_bytes<K: Sink, L: Ledger>(
+    alloc: Global,
+    extent: Extent,
+    bytes: &[u8],
+    out: &mut K,
+    steps: &mut Steps<L>,
+) -> Status
     ensures words { result ≡ Status.Words → ⊥ }
     ensures read { result ≡ Status.Read → ⊥ }
     ensures write { result ≡ Status.Write → HasRisen (K.faults out.old) (K.faults out.new) }
     ensures form { RunTells result bytes.now }
     ensures said { IfTold K.written K.faults out.old out.new (RunSays extent result (Some bytes.now)) }
     ensures never_falls { K.faults out.old ≤ K.faults out.new }
+    ensures steps { StepsBy (scenario_of bytes.now) result steps.old steps.new }
 {
     let scenario = match read(alloc, bytes) {
         Ok(scenario) => scenario,
@@ -60,13 +69,16 @@ fn run_bytes<K: Sink>(alloc: Global, extent: Extent, bytes: &[u8], out: &mut K) 
             return Status::Memory;
         }
     };
-    if !built(&scenario) {
-        say(out, b"not built\n");
-        return Status::NotBuilt;
-    }
-    let Ok(run) = bus_engine::run(alloc, &scenario) else {
-        say(out, b"no memory\n");
-        return Status::Memory;
+    let run = match bus_engine::run(alloc, &scenario, steps) {
+        Ok(run) => run,
+        Err(RunEnd::Unfinished) => {
+            say(out, b"unfinished\n");
+            return Status::Unfinished;
+        }
+        Err(RunEnd::NoMemory) => {
+            say(out, b"no memory\n");
+            return Status::Memory;
+        }
     };
     match write_report(&scenario, &run, extent, out) {
         Ok(()) => Status::Done,
@@ -75,7 +87,13 @@ fn run_bytes<K: Sink>(alloc: Global, extent: Extent, bytes: &[u8], out: &mut K) 
 }
 
 /// Reads the input, runs the scenario that it says, and writes what is reported of the run.
-pub fn run<S: Source, K: Sink>(alloc: Global, extent: Extent, input: &mut S, out: &mut K) -> Status
+pub fn run<S: Source, K: Sink, L: Ledger>(
+    alloc: Global,
+    extent: Extent,
+    input: &mut S,
+    out: &mut K,
+    steps: &mut Steps<L>,
+) -> Status
     ensures words { result ≡ Status.Words → ⊥ }
     ensures read { result ≡ Status.Read → HasRisen (S.faults input.old) (S.faults input.new) }
     ensures write { result ≡ Status.Write → HasRisen (K.faults out.old) (K.faults out.new) }
@@ -86,9 +104,10 @@ pub fn run<S: Source, K: Sink>(alloc: Global, extent: Extent, input: &mut S, out
     ensures said { IfTold K.written K.faults out.old out.new (RunSays extent result (S.left input.old)) }
     ensures source_falls { S.faults input.old ≤ S.faults input.new }
     ensures sink_falls { K.faults out.old ≤ K.faults out.new }
+    ensures steps { IfSome (S.left input.old) (λ bytes. StepsBy (scenario_of bytes) result steps.old steps.new) }
 {
     match read_all(alloc, input, LIMIT) {
-        Ok(bytes) => run_bytes(alloc, extent, &bytes, out),
+        Ok(bytes) => run_bytes(alloc, extent, &bytes, out, steps),
         Err(ReadEnd::TooLong) => {
             say(out, refusal_line(0, 9).as_str().as_bytes());
             Status::Refused

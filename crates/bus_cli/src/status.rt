@@ -5,7 +5,8 @@ ghost use Rattle.bus_cli.specs.Ends.{code_of};
 /// How the program ended.
 #[derive(Clone, Copy, PartialEq, Eq, Debug)]
 pub enum Status {
-    /// What was asked for was written: the report, the answer that the trace is lawful, the dump or the trace text.
+    /// What was asked for was written: the report, the answer that the trace is lawful, the transcript, the dump or the
+    /// trace text.
     Done = 0,
     /// The words are none of the program's.
     Words = 1,
@@ -21,8 +22,8 @@ pub enum Status {
     Broken = 6,
     /// The input is no trace text: the line tells its first line that breaks the form.
     BadTrace = 7,
-    /// The input is a scenario that cannot be run so far.
-    NotBuilt = 9,
+    /// The run took as many steps as its budget has, and has not ended.
+    Unfinished = 8,
     /// The input is no value change dump: the line tells the line of the first token that breaks its form.
     BadDump = 10,
 }
@@ -41,7 +42,7 @@ impl Status {
             Status::Memory => 5,
             Status::Broken => 6,
             Status::BadTrace => 7,
-            Status::NotBuilt => 9,
+            Status::Unfinished => 8,
             Status::BadDump => 10,
         }
     }

@@ -28,6 +28,8 @@ pub enum Word {
     Vcd,
     /// `unvcd`: write the trace of the value change dump of the input.
     Unvcd,
+    /// `transcript`: write the transcript of the trace of the input.
+    Transcript,
 }
 
 // The decimal number that a word is, without zeros in front and below 2^64.
@@ -63,6 +65,7 @@ fn one_word(word: &str) -> Option<Word>
         "judge" => Some(Word::Judge),
         "vcd" => Some(Word::Vcd),
         "unvcd" => Some(Word::Unvcd),
+        "transcript" => Some(Word::Transcript),
         _ => None,
     }
 }

@@ -1,0 +1,113 @@
+//! The word `transcript`.
+ghost use Rattle.std.specs.Prelude.{◌≡◌, ◌+◌, ◌≤◌, reverse, Some, Ok, IfSome};
+ghost use Rattle.std.specs.List.{AllByRecursion};
+ghost use Rattle.bus_base.specs.Faults.{HasRisen};
+ghost use Rattle.bus_base.specs.Whole.{TakesAtMost};
+ghost use Rattle.bus_trace.specs.OfTrace.{IsRow};
+ghost use Rattle.bus_rules.specs.Rules.{judged_whole};
+ghost use Rattle.bus_cli.specs.Words.{limit_of};
+ghost use Rattle.bus_cli.specs.Lines.{IfTold};
+ghost use Rattle.bus_cli.specs.Vcd.{VcdTells};
+ghost use Rattle.bus_cli.specs.Transcripts.{SaysLawful, SaysTranscript, TranscriptSays, TellsLawful, TellsTrace};
+ghost use Rattle.bus_cli.specs.Ends.{Reads};
+ghost use Rattle.bus_cli.specs.declared.words.Word.TheVariants as words;
+
+use crate::answers::{broken_line, trace_line};
+use crate::saying::say;
+use crate::status::Status;
+use bus_base::{Ns, ReadEnd, Sink, Source, read_all};
+use bus_rules::{Verdict, judge_plain};
+use bus_trace::Row;
+use bus_transcript::{print_transcript, transcribe};
+use std::alloc::Global;
+use trace_text::{LIMIT, Trace, TraceBad, read_trace};
+
+/// Writes the transcript of these rows and this end, in ns, of a lawful trace.
+pub fn write_transcript<K: Sink>(alloc: Global, rows: &[Row], end: Ns, out: &mut K) -> Status
+    requires { AllByRecursion IsRow rows.now }
+    ensures write { result ≡ Status.Write → HasRisen (K.faults out.old) (K.faults out.new) }
+    ensures form { TellsLawful result }
+    ensures said { IfTold K.written K.faults out.old out.new (SaysLawful result rows.now) }
+    ensures never_falls { K.faults out.old ≤ K.faults out.new }
+{
+    let Ok(transcript) = transcribe(alloc, rows, end) else {
+        say(out, b"no memory\n");
+        return Status::Memory;
+    };
+    match print_transcript(&transcript, out) {
+        Ok(()) => Status::Done,
+        Err(_) => Status::Write,
+    }
+}
+
+// Writes the transcript of a lawful trace, or the rule that a trace breaks.
+fn transcribe_trace<K: Sink>(alloc: Global, trace: &Trace, out: &mut K) -> Status
+    requires { AllByRecursion IsRow trace.now.rows.items }
+    ensures words { result ≡ Status.Words → ⊥ }
+    ensures read { result ≡ Status.Read → ⊥ }
+    ensures write { result ≡ Status.Write → HasRisen (K.faults out.old) (K.faults out.new) }
+    ensures form { TellsTrace result (Ok (judged_whole (reverse trace.now.rows.items) trace.now.end)) }
+    ensures said { IfTold K.written K.faults out.old out.new
+        (SaysTranscript result trace.now.rows.items trace.now.end) }
+    ensures never_falls { K.faults out.old ≤ K.faults out.new }
+{
+    match judge_plain(&trace.rows, trace.end) {
+        Verdict::Lawful => write_transcript(alloc, &trace.rows, trace.end, out),
+        Verdict::Broken { row, rule } => {
+            say(out, broken_line(row, rule).as_str().as_bytes());
+            Status::Broken
+        }
+    }
+}
+
+// Judges the trace that these bytes say, and writes its transcript.
+fn transcribe_bytes<K: Sink>(alloc: Global, bytes: &[u8], out: &mut K) -> Status
+    ensures words { result ≡ Status.Words → ⊥ }
+    ensures read { result ≡ Status.Read → ⊥ }
+    ensures write { result ≡ Status.Write → HasRisen (K.faults out.old) (K.faults out.new) }
+    ensures form { VcdTells result bytes.now }
+    ensures said { IfTold K.written K.faults out.old out.new (TranscriptSays result (Some bytes.now)) }
+    ensures never_falls { K.faults out.old ≤ K.faults out.new }
+{
+    match read_trace(alloc, bytes) {
+        Ok(trace) => transcribe_trace(alloc, &trace, out),
+        Err(TraceBad::At { line }) => {
+            say(out, trace_line(line).as_str().as_bytes());
+            Status::BadTrace
+        }
+        Err(TraceBad::NoMemory) => {
+            say(out, b"no memory\n");
+            Status::Memory
+        }
+    }
+}
+
+/// Reads the input, and writes the transcript of the trace that it says, where that is lawful.
+pub fn transcript<S: Source, K: Sink>(alloc: Global, input: &mut S, out: &mut K) -> Status
+    ensures words { result ≡ Status.Words → ⊥ }
+    ensures read { result ≡ Status.Read → HasRisen (S.faults input.old) (S.faults input.new) }
+    ensures write { result ≡ Status.Write → HasRisen (K.faults out.old) (K.faults out.new) }
+    ensures far { IfSome (S.left input.old)
+        (λ bytes. Reads (limit_of words.Transcript) result bytes (S.left input.new)) }
+    ensures taken { TakesAtMost (S.left input.old) (S.left input.new) (limit_of words.Transcript + 1) }
+    ensures form { IfSome (S.left input.old) (λ bytes. VcdTells result bytes) }
+    ensures said { IfTold K.written K.faults out.old out.new (TranscriptSays result (S.left input.old)) }
+    ensures source_falls { S.faults input.old ≤ S.faults input.new }
+    ensures sink_falls { K.faults out.old ≤ K.faults out.new }
+{
+    match read_all(alloc, input, LIMIT) {
+        Ok(bytes) => transcribe_bytes(alloc, &bytes, out),
+        Err(ReadEnd::TooLong) => {
+            say(out, trace_line(0).as_str().as_bytes());
+            Status::BadTrace
+        }
+        Err(ReadEnd::Fault) => {
+            say(out, b"read fault\n");
+            Status::Read
+        }
+        Err(ReadEnd::NoMemory) => {
+            say(out, b"no memory\n");
+            Status::Memory
+        }
+    }
+}
