@@ -8,10 +8,10 @@
 #![tactic(auto)]
 
 #[cfg(test)]
-mod built_runs;
-#[cfg(test)]
 mod hosts;
 #[cfg(test)]
 mod trace_texts;
+#[cfg(test)]
+mod transcripts;
 #[cfg(test)]
 mod whole_program;

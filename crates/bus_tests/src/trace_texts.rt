@@ -1,12 +1,14 @@
 //! Tests of `trace_text`: each public function once, and reports to sinks that fail at every call.
 ghost use Rattle.std.specs.Prelude.{◌≡◌, length, IfOk};
 ghost use Rattle.std.specs.List.{AllByRecursion};
-ghost use Rattle.bus_trace.specs.OfTrace.{IsRow};
+ghost use Rattle.trace_text.specs.RowText.{IsOfEight};
 
 use bitflags::Flags;
 use bus_base::{AbortKind, Event, Failed, MemSink, NoMemory, Octets, ProcId};
-use bus_engine::{DenseBlocks, Outcome, Run};
 use bus_trace::{Kind, Lines, Row};
+use disk_unit::{Blocks, SparseBlocks};
+use initiator::Outcome;
+use run_record::Run;
 use scenario::read;
 use std::alloc::Global;
 use std::test::Fail;
@@ -130,7 +132,7 @@ done
 
 // Two rows, two events, a reply, and a disk of which one block is shown.
 fn sample_run(alloc: Global) -> Result<Run, NoMemory>
-    ensures rows { IfOk result (λ run. AllByRecursion IsRow run.rows) }
+    ensures rows { IfOk result (λ run. AllByRecursion IsOfEight run.rows) }
     ensures replies { IfOk result (λ run. length run.replies ≡ 1) }
     ensures disks { IfOk result (λ run. length run.disks ≡ 1) }
 {
@@ -155,8 +157,10 @@ fn sample_run(alloc: Global) -> Result<Run, NoMemory>
     let bytes = Octets::new(Vec::from_slice(alloc, b"\xf7")?);
     let mut replies = Vec::new(alloc);
     replies.push(Outcome::Good(bytes))?;
-    let mut disk = DenseBlocks::new(alloc, 3, 16)?;
+    let mut disk = SparseBlocks::new(alloc, 3, 16)?;
+    disk.reserve(2)?;
     disk.write_block(1, b"0123456789abcdef");
+    disk.write_block(0, &[0; 16]);
     let mut disks = Vec::new(alloc);
     disks.push(disk)?;
     Ok(Run {

@@ -3,6 +3,8 @@ ghost use Rattle.std.specs.Prelude.{◌≡◌, ◌<◌};
 
 mod cut;
 mod makes;
+mod runs;
+mod small_runs;
 pub mod wholes;
 
 use bus_base::{MemSink, MemSource, NoMemory, Steps};
@@ -26,11 +28,19 @@ type Case = (
 /// How much room the sinks have, in bytes.
 const ROOM: usize = 8192;
 
-/// A scenario that cannot be run so far.
+/// A scenario in which nothing happens, and its report.
 const NOTHING: &'static str = "scsi 1\n# nothing happens\n\nend\n";
+
+const NOTHING_HAPPENED: &'static str = "trace 1\nend 0\nhistory\nreplies\nblocks\ndone\n";
 
 /// A trace, its dump, and a dump of one line with a clock beside the device.
 const SHORT_TRACE: &'static str = "trace 1\n1200 7 00280\n3600 7 00680\nend 3600\n";
+
+/// What the report of the first scenario carried.
+const PLAIN_TRANSCRIPT: &'static str =
+    "transcript 1\nconnect 5380 7.0.0.-.1 first\nout c0\ncommand 080000000100\n\
+    arrive 7.0.0.-.1\ndatain 0 000102030405060708090a0b0c0d0e0f\nready 7.0.0.-.1\nstatus 00\nin 00\n\
+    end 7.0.0.-.1 00\nfree 9080\ndone\n";
 
 const SHORT_DUMP: &'static str =
     "$timescale 1 ns $end\n$scope module scsi $end\n$var wire 18 a d0 $end\n\
@@ -112,8 +122,8 @@ fn ends_with_each_status(rt: HostRuntime) -> Result<(), NoMemory> {
             Status::Refused,
             "scenario line 2 reason 2\n",
         ),
-        (run, NOTHING, NEVER, NEVER, Status::NotBuilt, "not built\n"),
-        (run, NOTHING, NEVER, 1, Status::NotBuilt, ""),
+        (run, NOTHING, NEVER, NEVER, Status::Done, NOTHING_HAPPENED),
+        (run, NOTHING, NEVER, 1, Status::Write, ""),
         (run, PLAIN.0, 3, NEVER, Status::Read, "read fault\n"),
         (run, PLAIN.0, NEVER, 1, Status::Write, ""),
         (&["walk"], PLAIN.0, NEVER, 1, Status::Words, ""),
@@ -255,6 +265,55 @@ fn ends_with_each_status_of_dumps(rt: HostRuntime) -> Result<(), NoMemory> {
 }
 
 #[test]
+fn ends_with_each_status_of_transcripts(rt: HostRuntime) -> Result<(), NoMemory> {
+    let transcript: &'static [&'static str] = &["transcript"];
+    let cases: [Case; 6] = [
+        (
+            transcript,
+            PLAIN.1,
+            NEVER,
+            NEVER,
+            Status::Done,
+            PLAIN_TRANSCRIPT,
+        ),
+        (transcript, PLAIN.1, NEVER, 1, Status::Write, ""),
+        (transcript, PLAIN.1, 2, NEVER, Status::Read, "read fault\n"),
+        (
+            transcript,
+            "trace 1\n1200 7 00280\n3500 7 00680\nend 3500\n",
+            NEVER,
+            NEVER,
+            Status::Broken,
+            "broken 2 5\n",
+        ),
+        (
+            transcript,
+            "trace 1\n12 8 00000\nend 12\n",
+            NEVER,
+            NEVER,
+            Status::BadTrace,
+            "trace line 2\n",
+        ),
+        (
+            &["transcript", "transcript"],
+            PLAIN.1,
+            NEVER,
+            NEVER,
+            Status::Words,
+            "usage: scsibus run [--short|--transcript] | judge | make SEED N | transcript | vcd | unvcd\n",
+        ),
+    ];
+    for (words, input, bad_read, bad_write, status, text) in cases {
+        let mut out = MemSink::new(rt.alloc(), ROOM, ROOM, &[bad_write])?;
+        let mut input = MemSource::new(rt.alloc(), input.as_bytes(), 64, &[bad_read])?;
+        let ended = ended(rt.alloc(), words, &mut input, &mut out)?;
+        assert_eq!(rt; ended, status, "{words:?}");
+        assert_eq!(rt; out.bytes(), text.as_bytes(), "{words:?}");
+    }
+    Ok(())
+}
+
+#[test]
 fn has_exit_statuses(rt: HostRuntime) {
     let codes = [
         (Status::Done, 0),
@@ -265,7 +324,7 @@ fn has_exit_statuses(rt: HostRuntime) {
         (Status::Memory, 5),
         (Status::Broken, 6),
         (Status::BadTrace, 7),
-        (Status::NotBuilt, 9),
+        (Status::Unfinished, 8),
         (Status::BadDump, 10),
     ];
     for (status, code) in codes {

@@ -17,6 +17,10 @@ const MADE: &'static str = "scsi 1\ninitiator 7 latency 0 open 8 retries 2 sync 
     unit 2 0 blocks 2048 size 128 depth 16\ncmd 6 0 0 at 0 simple 1 cdb 080000f10200 none\n\
     cmd 7 2 0 at 0 simple 2 cdb 0a00036a0100 out from 02\nend\n";
 
+/// The short report of a scenario in which nothing happens.
+const NO_ROWS: &'static str =
+    "short 1\nrows 0\nend 0\ngood 0\ncheck 0\nqfull 0\nseltimeout 0\nlost 0\nreset 0\naborted 0\n";
+
 /// The short report of one READ(6).
 const SHORT: &'static str =
     "short 1\nrows 120\nend 9080\ngood 1\ncheck 0\nqfull 0\nseltimeout 0\nlost 0\nreset 0\naborted 0\n";
@@ -45,14 +49,7 @@ fn ends_with_each_status_of_made_scenarios(rt: HostRuntime) -> Result<(), NoMemo
         (short, PLAIN.0, NEVER, NEVER, Status::Done, SHORT),
         (short, PLAIN.0, NEVER, 1, Status::Write, ""),
         (short, PLAIN.0, 3, NEVER, Status::Read, "read fault\n"),
-        (
-            short,
-            NOTHING,
-            NEVER,
-            NEVER,
-            Status::NotBuilt,
-            "not built\n",
-        ),
+        (short, NOTHING, NEVER, NEVER, Status::Done, NO_ROWS),
         (&["run", "--long"], "", 1, NEVER, Status::Words, USAGE),
     ];
     for (words, input, bad_read, bad_write, status, text) in cases {
