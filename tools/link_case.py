@@ -2,6 +2,7 @@
 """Writes, of runs with connections, the lemmas that what the laws of connections ask of the bytes holds of them.
 
     tools/link_case.py tools/due_cases/*.scn > crates/link_laws/proofs/Cases.antt
+    tools/link_case.py tools/cases/*.scn > crates/link_laws/proofs/StoryCases.antt
 
 Beside each NAME.scn stands its report NAME.out, which comes from outside this repository. The lemmas say that its rows are those of
 the run, and that in its connections each byte has odd parity, the bytes of messages form messages, those of commands are whole, and
@@ -31,21 +32,16 @@ drive time dev lines = record { time = time; dev = dev; kind = Drives (set_of li
 
 abbrev strike : ℕ → ℕ → ℕ → Row
 strike time dev bit = record { time = time; dev = dev; kind = Fault bit }
-
--- What is computed of a run.
-record Shows : Type 0 where
-  rows : List Row
-  bytes : Bool
-  messages : Bool
-  commands : Bool
-  freeing : Bool
-
-abbrev shown : List Row → Shows
-shown rows = record { rows = rows; bytes = have_odd_bytes rows; messages = have_whole_messages rows; commands = have_whole_commands rows; freeing = free_in_time rows }
-
-abbrev shows : ScenarioValue → ℕ → Shows
-shows s fuel = shown (run_by_due s fuel).rows
 """
+
+# A longer run is not computed from its scenario, since the kernel's memory does not hold it: its rows are those of the report.
+LONGEST = 2000
+# The tests of the rows of a run.
+TESTS = {"bytes": "have_odd_bytes", "messages": "have_whole_messages", "commands": "have_whole_commands", "freeing": "free_in_time"}
+
+
+def print_lemma(name, statement):
+    print("%s : %s\n%s\n%s = refl\n" % (name, statement, UNFOLDING, name))
 
 
 def main():
@@ -57,8 +53,11 @@ def main():
         out = scn[: -len("scn")] + "out"
         array_case.print_scenario(name, scn)
         array_case.print_rows(name, out)
-        print("%s_shows : shows %s %d ≡ record { rows = reverse %s_rows; bytes = true; messages = true; commands = true; freeing = true }" % (name, name, len(array_case.rows(out)) + 1, name))
-        print("%s\n%s_shows = refl\n" % (UNFOLDING, name))
+        count = len(array_case.rows(out))
+        if count <= LONGEST:
+            print_lemma("%s_run" % name, "(run_by_due %s %d).rows ≡ reverse %s_rows" % (name, count + 1, name))
+        for what, test in TESTS.items():
+            print_lemma("%s_%s" % (name, what), "%s (reverse %s_rows) ≡ true" % (test, name))
 
 
 main()

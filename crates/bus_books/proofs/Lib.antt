@@ -1,4 +1,5 @@
 mod Cases
+mod StoryCases
 pub mod Lists
 pub mod Saying
 pub mod Reading

@@ -201,7 +201,7 @@ more_bytes : (xs ys : List ℕ) → nat_lt 0 (length xs) ≡ true → nat_lt 0 (
 more_bytes [] ys e = absurd (true≢false (sym e))
 more_bytes (x ∷ xs) ys e = some_more (length (xs ++ ys))
 
-messages_some : (m : Messages) → is_some m.first ≡ true → nat_lt 0 (length (bytes_of_messages m)) ≡ true
+pub messages_some : (m : Messages) → is_some m.first ≡ true → nat_lt 0 (length (bytes_of_messages m)) ≡ true
 messages_some m e = go m.first e
   where
     go : (f : Option MsgIn) → is_some f ≡ true → nat_lt 0 (length (message_bytes f ++ message_bytes m.second)) ≡ true

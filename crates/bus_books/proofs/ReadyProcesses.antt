@@ -46,7 +46,7 @@ pub record IsOwnReady (s : ScenarioValue) (target : ℕ) (r : Ready) : Type 0 wh
   pub target_is : r.process.target ≡ target
 
 -- Of one unit.
-ready_own : (s : ScenarioValue) (a : Array) (times : List ℕ) (seek target unit : ℕ) (r : Ready) → IsSound s a → ready_at a times seek target unit ≡ Some r → IsOwnReady s target r
+ready_own : (s : ScenarioValue) (a : Array) (times : List ℕ) (seek target unit : ℕ) (r : Ready) → AllOwnUnits s a.units → ready_at a times seek target unit ≡ Some r → IsOwnReady s target r
 ready_own s a times seek target unit r h e = go (unit_state_at a.units target unit) refl
   where
     time : ℕ
@@ -65,7 +65,7 @@ ready_own s a times seek target unit r h e = go (unit_state_at a.units target un
     go : (x : Option UnitState) → unit_state_at a.units target unit ≡ x → IsOwnReady s target r
     go None f = absurd (none_some r (sym (ap (λ (x : Option UnitState). ready_in (is_held a.holds target unit) (current_of x) (since_of a.units times target unit + seek)) f) ∙ e))
     go (Some u) f =
-        let own = found_own s a.units target unit u h.units f in
+        let own = found_own s a.units target unit u h f in
         by (is_held a.holds target unit) u u.current own.0.current own.1 (sym (ap (λ (x : Option UnitState). ready_in (is_held a.holds target unit) (current_of x) (since_of a.units times target unit + seek)) f) ∙ e)
 
 -- The first of two is one of them.
@@ -81,7 +81,7 @@ first_own s target (Some a) (Some b) h g = go (is_ready_before b a)
     go true = g
     go false = h
 
-ready_is_own : (s : ScenarioValue) (a : Array) (times : List ℕ) (seek t : ℕ) → IsSound s a → OwnIf s t (ready_among a times seek t)
+ready_is_own : (s : ScenarioValue) (a : Array) (times : List ℕ) (seek t : ℕ) → AllOwnUnits s a.units → OwnIf s t (ready_among a times seek t)
 ready_is_own s a times seek t h =
     let at : (n : ℕ) → OwnIf s t (ready_at a times seek t n) = λ n r e. ready_own s a times seek t n r h e in
     let none : OwnIf s t None = λ r e. absurd (none_some r e) in
@@ -95,7 +95,7 @@ ready_is_own s a times seek t h =
     (first_own s t (ready_at a times seek t 7) None (at 7) none)))))))
 
 -- So the process of a reselection is of both ends, where its initiator was called.
-pub ready_for : (s : ScenarioValue) (k : RunState) (n : Connection) (r : Ready) → AreUnits s → IsSound s (array_of s k) → ready_of s k n.target ≡ Some r → r.process.initiator ≡ n.initiator → IsReadyFor s k n
+pub ready_for : (s : ScenarioValue) (k : RunState) (n : Connection) (r : Ready) → AreUnits s → AllOwnUnits s (array_of s k).units → ready_of s k n.target ≡ Some r → r.process.initiator ≡ n.initiator → IsReadyFor s k n
 ready_for s k n r u h e i =
     let own = ready_is_own s (array_of s k) k.current_since (seek_of s.targets n.target) n.target h r e in
     record {
@@ -120,8 +120,9 @@ abbrev or_number : ℕ → Option ℕ → ℕ
 or_number x None = x
 or_number x (Some y) = y
 
-pub reselects_for : (s : ScenarioValue) (k : RunState) (n : Connection) → AreUnits s → IsSound s (array_of s k) → is_host s.hosts n.target ≡ false → callee s k n.target (aim_of k.story.aims n.target) ≡ Some n.initiator → IsReadyFor s k n
-reselects_for s k n u h host e = go (ready_of s k n.target) refl
+-- Of the array only that its units hold processes of their own is needed.
+pub reselects_by : (s : ScenarioValue) (k : RunState) (n : Connection) → AreUnits s → AllOwnUnits s (array_of s k).units → is_host s.hosts n.target ≡ false → callee s k n.target (aim_of k.story.aims n.target) ≡ Some n.initiator → IsReadyFor s k n
+reselects_by s k n u h host e = go (ready_of s k n.target) refl
   where
     called : initiator_if (ready_of s k n.target) ≡ Some n.initiator
     called = sym (ap (λ (q : Bool). if q then target_of s (aim_of k.story.aims n.target) else initiator_if (ready_of s k n.target)) host) ∙ e
@@ -129,6 +130,9 @@ reselects_for s k n u h host e = go (ready_of s k n.target) refl
     go : (x : Option Ready) → ready_of s k n.target ≡ x → IsReadyFor s k n
     go None f = absurd (none_number n.initiator (sym (ap initiator_if f) ∙ called))
     go (Some r) f = ready_for s k n r u h f (ap (or_number n.initiator) (sym (ap initiator_if f) ∙ called))
+
+pub reselects_for : (s : ScenarioValue) (k : RunState) (n : Connection) → AreUnits s → IsSound s (array_of s k) → is_host s.hosts n.target ≡ false → callee s k n.target (aim_of k.story.aims n.target) ≡ Some n.initiator → IsReadyFor s k n
+reselects_for s k n u h host e = reselects_by s k n u h.units host e
 
 pub selects_for : (s : ScenarioValue) (k : RunState) (n : Connection) → is_host s.hosts n.initiator ≡ true → callee s k n.initiator (aim_of k.story.aims n.initiator) ≡ Some n.target → IsAimedAt s k n
 selects_for s k n host e = go (aim_of k.story.aims n.initiator) refl

@@ -38,27 +38,27 @@ use Rattle.bus_books.proofs.Lookups.{first_is, second_is, number_is, is_bool, id
 
 -- ---- small facts
 
-not_is : (q : Bool) → not q ≡ true → q ≡ false
+pub not_is : (q : Bool) → not q ≡ true → q ≡ false
 not_is true e = absurd (true≢false (sym e))
 not_is false e = refl
 
 -- Where the first holds, the second does.
-implied : (q r : Bool) → (not q || r) ≡ true → q ≡ true → r ≡ true
+pub implied : (q r : Bool) → (not q || r) ≡ true → q ≡ true → r ≡ true
 implied true r e f = e
 implied false r e f = absurd (true≢false (sym f))
 
-or_right : (q r : Bool) → (q || r) ≡ true → q ≡ false → r ≡ true
+pub or_right : (q r : Bool) → (q || r) ≡ true → q ≡ false → r ≡ true
 or_right true r e f = absurd (true≢false f)
 or_right false r e f = e
 
-lt_is : (a b : ℕ) → nat_lt a b ≡ true → a < b
+pub lt_is : (a b : ℕ) → nat_lt a b ≡ true → a < b
 lt_is a b e = grind (arith, nat_tests)
 
-none_is : (x : Option Item) → is_none x ≡ true → x ≡ None
+pub none_is : (x : Option Item) → is_none x ≡ true → x ≡ None
 none_is None e = refl
 none_is (Some item) e = absurd (true≢false (sym e))
 
-item_if_is : (a b : Option Item) → same_item_if a b ≡ true → a ≡ b
+pub item_if_is : (a b : Option Item) → same_item_if a b ≡ true → a ≡ b
 item_if_is None None e = refl
 item_if_is None (Some b) e = absurd (true≢false (sym e))
 item_if_is (Some a) None e = wrong a e
@@ -99,7 +99,7 @@ phase_is k e f =
 
 -- ---- the first row of a connection
 
-aimed : (s : ScenarioValue) (k : RunState) (n : Connection) → is_aimed_at s n (aim_of k.story.aims n.initiator) ≡ true → IsAimedAt s k n
+pub aimed : (s : ScenarioValue) (k : RunState) (n : Connection) → is_aimed_at s n (aim_of k.story.aims n.initiator) ≡ true → IsAimedAt s k n
 aimed s k n e = go (aim_of k.story.aims n.initiator) refl
   where
     go : (x : Option Item) → aim_of k.story.aims n.initiator ≡ x → IsAimedAt s k n
@@ -110,7 +110,7 @@ aimed s k n e = go (aim_of k.story.aims n.initiator) refl
       target_is = λ p g. number_is p.target n.target (sym (ap (λ (x : Option Process). is_of_target x n.target) g) ∙ sym (ap (is_aimed_at s n) f) ∙ e);
     }
 
-made_ready : (s : ScenarioValue) (k : RunState) (n : Connection) → is_ready_for s n (ready_of s k n.target) ≡ true → IsReadyFor s k n
+pub made_ready : (s : ScenarioValue) (k : RunState) (n : Connection) → is_ready_for s n (ready_of s k n.target) ≡ true → IsReadyFor s k n
 made_ready s k n e = go (ready_of s k n.target) refl
   where
     go : (x : Option Ready) → ready_of s k n.target ≡ x → IsReadyFor s k n

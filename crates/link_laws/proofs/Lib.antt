@@ -27,3 +27,4 @@ pub mod PulseEnds
 pub mod FromLink
 pub mod Traces
 mod Cases
+mod StoryCases

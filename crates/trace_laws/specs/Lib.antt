@@ -1,0 +1,3 @@
+pub mod StillAsked
+pub mod AskedTests
+pub mod ByteValues
