@@ -10,8 +10,8 @@ import re
 import sys
 
 ROOT = pathlib.Path(__file__).resolve().parent.parent
-# A number of two parts or more, from clause 5 on, that is no decimal, version or time.
-CLAUSE = re.compile(r"(?<![\w.,])([5-9](?:\.\d{1,2}){1,3})(?![\w.]*\d)(?!\s*(?:ns|s|MiB|times|GiB|KiB|MB)\b)")
+# A number of two parts or more, from clause 5 on, that is no decimal, version, time or name of a process without a tag.
+CLAUSE = re.compile(r"(?<![\w.,])([5-9](?:\.\d{1,2}){1,3})(?![\w.]*\d)(?!\.-)(?!\s*(?:ns|s|MiB|times|GiB|KiB|MB)\b)")
 COMMENTS = {".antt": "--", ".rt": "//"}
 
 

@@ -13,12 +13,16 @@ import sys
 
 ROOT = pathlib.Path(__file__).resolve().parent.parent
 CASES = sorted(str(path) for path in (ROOT / "tools" / "cases").glob("*.scn"))
-RUNS = sorted(str(path) for path in (ROOT / "tools" / "due_cases").glob("*.scn")) + [
+DUES = sorted(str(path) for path in (ROOT / "tools" / "due_cases").glob("*.scn"))
+RUNS = DUES + [
     str(ROOT / "tools" / "cases" / (name + ".scn"))
     for name in ("called_again_for_sense", "failures", "negotiation", "read_whole_after_a_part", "two_aborts")
 ]
+STORIES = [path for path in CASES if path not in RUNS]
 DUMPS = sorted(str(path) for path in (ROOT / "tools" / "dump_cases").glob("*.out"))
+TRANSCRIPTS = sorted(str(path) for path in (ROOT / "tools" / "transcript_cases").glob("*.out"))
 MAKES = sorted(str(path) for path in (ROOT / "tools" / "make_cases").glob("*.scsi"))
+SMALL = sorted(str(path) for path in (ROOT / "tools" / "run_cases").glob("*.scn"))
 LAWS = sorted(str(path) for path in (ROOT / "tools" / "law_cases").glob("*.scn"))
 # Of each generated file its maker's words, and the file that the maker reads from standard input, where there is one.
 MADE = {
@@ -28,11 +32,20 @@ MADE = {
     "crates/bus_due/proofs/Cases.antt": (["tools/due_case.py"] + RUNS, None),
     "crates/bus_due/proofs/SeamCases.antt": (["tools/seam_case.py", "Cases"] + RUNS, None),
     "crates/bus_laws/proofs/HeardCases.antt": (["tools/heard_case.py", "Cases"] + RUNS, None),
+    "crates/bus_members/proofs/AnswerCases.antt": (["tools/answer_case.py", "Cases"] + RUNS, None),
     "crates/bus_books/proofs/Cases.antt": (["tools/books_case.py"] + RUNS, None),
+    "crates/bus_books/proofs/StoryCases.antt": (["tools/books_case.py", "--whole"] + STORIES, None),
+    "crates/trace_laws/proofs/Cases.antt": (["tools/books_case.py", "--asked"] + RUNS, None),
+    "crates/trace_laws/proofs/StoryCases.antt": (["tools/books_case.py", "--asked", "--whole"] + STORIES, None),
     "crates/bus_laws/proofs/WrittenCases.antt": (["tools/written_case.py", "Cases"] + RUNS, None),
+    "crates/disk_target/proofs/AttendedCases.antt": (["tools/attended_case.py", "Cases"] + RUNS, None),
     "crates/bus_laws/proofs/Cases.antt": (["tools/law_case.py"] + LAWS, None),
+    "crates/link_laws/proofs/Cases.antt": (["tools/link_case.py"] + DUES, None),
+    "crates/link_laws/proofs/StoryCases.antt": (["tools/link_case.py"] + CASES, None),
     "crates/vcd_text/proofs/TraceCases.antt": (["tools/dump_case.py"] + DUMPS, None),
+    "crates/bus_transcript/proofs/Cases.antt": (["tools/transcript_case.py"] + TRANSCRIPTS, None),
     "crates/scenario/proofs/MadeCases.antt": (["tools/make_case.py"] + MAKES, None),
+    "crates/bus_tests/src/whole_program/small_runs.rt": (["tools/run_case.py"] + SMALL, None),
     "crates/sync_nego/proofs/Cases.antt": (["tools/nego_case.py"], None),
 }
 USE = re.compile(r"^use ([\w.]+)\.\{(.*)\}$")
