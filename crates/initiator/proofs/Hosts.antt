@@ -1,5 +1,5 @@
 -- An initiator by its parts.
-use Rattle.std.proofs.Common.{ℕ, ◌≡◌, ◌==◌, ◌∙◌, ◌<◌, ◌≤◌, Bool, true, false, List, [], sym, subst, Option, Some, None}
+use Rattle.std.proofs.Common.{ℕ, ◌≡◌, ◌==◌, ◌∙◌, ◌<◌, ◌≤◌, Bool, true, false, List, [], ◌∷◌, sym, subst, Option, Some, None}
 use Rattle.std.specs.Prelude.{if◌then◌else◌, not, ◌&&◌}
 use Rattle.std.proofs.lemmas.Bool.Decides.{nat_tests}
 use native.Mathlib.Omega.{arith}
@@ -11,7 +11,7 @@ use Rattle.bus_story.specs.Links.{Link}
 use Rattle.bus_story.specs.TraceHistory.{aim_of, is_host, retries_of}
 use Rattle.scenario.specs.declared.value.HostDef.{HostDef}
 use Rattle.scsi_device.specs.Lines.{IsHostLine}
-use Rattle.initiator.specs.Intents.{IsInitiator}
+use Rattle.initiator.specs.Intents.{IntentValue, IsInitiator, IsIntentOf}
 use Rattle.bus_due.specs.Defs.{opening}
 use Rattle.bus_due.specs.LastingState.{has_negotiated}
 use Rattle.bus_due.specs.RunState.{RunState, item_of}
@@ -20,18 +20,21 @@ use Rattle.bus_due.specs.Sights.{sending_of}
 use Rattle.bus_due.specs.Telling.{id_of}
 use Rattle.scenario.specs.declared.value.CmdDef.{CmdDef}
 use Rattle.disk_array.specs.Processes.{command_at}
-use Rattle.bus_dialogue.specs.Sending.{byte_to_send}
+use Rattle.bus_dialogue.specs.Sending.{Sending, byte_to_send}
 use Rattle.bus_due.specs.Plain.{AreOfDevices, IsPlain}
 use Rattle.scsi_device.specs.Lines.{IsCommandLine}
-use Rattle.initiator.specs.Hosts.{HostValue, IsHostAfter}
-use Rattle.initiator.specs.OwnBytes.{sending_from}
+use Rattle.initiator.specs.Hosts.{HostValue, IsHostAfter, HasHeard}
+use Rattle.scsi_device.specs.Itself.{ItselfValue, IsItselfOf}
+use Rattle.initiator.specs.declared.endings.CommandEnd.{CommandEnd}
+use Rattle.initiator.specs.Endings.{AreEndingsOf}
+use Rattle.initiator.specs.OwnBytes.{own_bytes, sending_from}
 use Rattle.initiator.specs.Wishes.{IsItemIf}
 use Rattle.initiator.proofs.OwnedLinks.{IsOwnedIf}
 use Rattle.initiator.proofs.Sendings.{sendings_are}
 use Rattle.initiator.proofs.TransferRows.{process_is, pointers_are, link_owned}
 use Rattle.initiator.specs.OwnLinks.{own_link}
 use Rattle.initiator.specs.Speeches.{first_words}
-use Rattle.initiator.specs.States.{IsOwnConnection, AreSameBytes}
+use Rattle.initiator.specs.States.{InitiatorState, state_by, IsOwnConnection, AreSameBytes}
 use Rattle.initiator.specs.Transfers.{active_of, active_at, process_of_link}
 
 same_number : (a b : ℕ) → (a == b) ≡ true → a ≡ b
@@ -94,6 +97,33 @@ host_sends s rows v lines p d h n o = λ bus q.
 
     mine : IsItemIf s v.def.dev (item_of k.story.link)
     mine = item_owned s v.def.dev k.story.link (subst (λ (z : ℕ). IsOwnedIf s z k.story.link) h.transfers_dev owned)
+
+-- It has heard a row, and the rest goes on by the row.
+pub host_goes_on : (s : ScenarioValue) (rows : List Row) (row : Row) (v m : HostValue) (itself : ItselfValue) (intent : IntentValue) (ends : List CommandEnd) → m.def ≡ v.def → m.bytes ≡ v.bytes → itself.dev ≡ v.itself.dev → intent.dev ≡ v.intent.dev → intent.retries ≡ v.intent.retries → IsItselfOf s (row ∷ rows) itself → IsIntentOf s (row ∷ rows) intent → AreEndingsOf s (row ∷ rows) v.def.dev ends → IsHostAfter s rows v → HasHeard s rows row m → IsHostAfter s (row ∷ rows) (record m { itself = itself; intent = intent; endings = ends })
+host_goes_on s rows row v m itself intent ends def bytes itself_dev intent_dev retries itself_is intent_is endings_are h w =
+    record {
+      line = subst (λ (z : HostDef). IsHostLine s z) (sym def) h.line;
+      itself_dev = itself_dev ∙ h.itself_dev ∙ (λ i. (sym def i).dev);
+      intent_dev = intent_dev ∙ h.intent_dev ∙ (λ i. (sym def i).dev);
+      intent_retries = retries ∙ h.intent_retries ∙ (λ i. (sym def i).retries);
+      negotiations_dev = w.negotiations_dev;
+      transfers_dev = w.transfers_dev;
+      itself_is = itself_is;
+      intent_is = intent_is;
+      negotiations_are = w.negotiations_are;
+      speech_is = w.speech_is;
+      transfers_are = w.transfers_are;
+      received_is = w.received_is;
+      endings_are = subst (λ (z : HostDef). AreEndingsOf s (row ∷ rows) z.dev ends) (sym def) endings_are;
+      bytes_are = bytes ∙ h.bytes_are ∙ (λ i. own_bytes s (sym def i).dev);
+    }
+
+-- What it sends, and what it knows itself.
+abbrev pub sending_of_host : HostValue → Sending
+sending_of_host v = sending_from v.bytes (process_of_link v.transfers.link) (active_at v.transfers.held (process_of_link v.transfers.link))
+
+abbrev pub known_to_host : HostValue → InitiatorState
+known_to_host v = state_by v.itself v.intent v.speech (sending_of_host v)
 
 pub and_right : (p q : Bool) → (p && q) ≡ true → q ≡ true
 and_right true q e = e

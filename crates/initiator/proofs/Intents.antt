@@ -35,7 +35,7 @@ same_on_bus dev retries called w c None None row_dev time x e =
 same_on_bus dev retries called w c None (Some n) row_dev time x e = cc
 same_on_bus dev retries called w c (Some m) after row_dev time x e = refl
 
-same_wish : (dev retries : ℕ) (called : Option Call) (w : Wish) (c : Change) (before after : Option Connection) (row_dev time : ℕ) (shown : List Event) → is_news c before after shown ≡ false → wish_after dev retries called w c before after row_dev time shown ≡ w
+pub same_wish : (dev retries : ℕ) (called : Option Call) (w : Wish) (c : Change) (before after : Option Connection) (row_dev time : ℕ) (shown : List Event) → is_news c before after shown ≡ false → wish_after dev retries called w c before after row_dev time shown ≡ w
 same_wish dev retries called w c before after row_dev time (x ∷ shown) e = busy (is_entry c before) (is_none before && (is_some after || falls c.before.sel c.after.sel)) e
   where
     busy : (p q : Bool) → (p || true || q) ≡ false → wish_after dev retries called w c before after row_dev time (x ∷ shown) ≡ w

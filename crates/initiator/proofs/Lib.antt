@@ -33,3 +33,4 @@ mod OwnCommands
 mod KeptCommands
 mod PastEndings
 mod CheckQueues
+mod Still

@@ -204,7 +204,7 @@ own_process dev n l = go (n.initiator == dev)
     go true = refl
     go false = refl
 
-quiet : (v : List BufferPairValue) (known : Option ProcId) (place : ℕ) (w : Hearing) (after : Option Connection) → brings_data w after ≡ false → received_after v known place w after ≡ v
+pub quiet : (v : List BufferPairValue) (known : Option ProcId) (place : ℕ) (w : Hearing) (after : Option Connection) → brings_data w after ≡ false → received_after v known place w after ≡ v
 quiet v None place w after e = refl
 quiet v (Some id) place w after e = λ i. if e i then received_with v id place (w.change.after.data_bits % 256) else v
 

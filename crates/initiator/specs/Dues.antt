@@ -1,5 +1,5 @@
 -- What an initiator does next, and when, by what all devices are told and by what it knows itself.
-use Rattle.std.specs.Prelude.{◌==◌, Bool, true, false, Option, Some, None, if◌then◌else◌}
+use Rattle.std.specs.Prelude.{ℕ, ◌==◌, ◌&&◌, not, Bool, true, false, Option, Some, None, if◌then◌else◌}
 use Rattle.bus_trace.specs.declared.connection.Connection.{Connection}
 use Rattle.scenario.specs.declared.value.FaultDef.{FaultDef}
 use Rattle.scenario.specs.declared.value.HostDef.{HostDef}
@@ -47,6 +47,11 @@ abbrev pub calm_by : HostDef → Told → Option FaultDef → InitiatorState →
 calm_by h t f i true n = link_by h t f i
 calm_by h t f i false None = link_by h t f i
 calm_by h t f i false (Some n) = connected_by h t f i n
+
+-- A connection of others stands, and RST is false.
+abbrev pub is_elsewhere : Bool → Option Connection → ℕ → Bool
+is_elsewhere rst None dev = false
+is_elsewhere rst (Some n) dev = not (n.initiator == dev) && not rst
 
 -- A reset of its own goes before all that (6.2.2).
 abbrev pub initiator_next : HostDef → Told → Option FaultDef → InitiatorState → Option Due

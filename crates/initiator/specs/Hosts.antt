@@ -1,5 +1,5 @@
 -- An initiator of a scenario: its line, and what it knows after some rows.
-use Rattle.std.specs.Prelude.{ℕ, ◌≡◌, ◌==◌, Bool, true, false, List, Option, Some, None}
+use Rattle.std.specs.Prelude.{ℕ, ◌≡◌, ◌==◌, ◌&&◌, ◌||◌, not, Bool, true, false, List, ◌∷◌, Option, Some, None}
 use Rattle.std.specs.List.{list_all}
 use Rattle.bus_base.specs.declared.ProcId.{ProcId}
 use Rattle.bus_due.specs.RunSteps.{run_state}
@@ -7,7 +7,9 @@ use Rattle.initiator.specs.declared.mine.MyAbort.{MyAbort}
 use Rattle.initiator.specs.Mines.{my_aborts}
 use Rattle.bus_trace.specs.declared.Row.{Row}
 use Rattle.bus_trace.specs.declared.connection.Connection.{Connection}
+use Rattle.bus_trace.specs.Phases.{changes_phase}
 use Rattle.bus_trace.specs.Terms.{connection}
+use Rattle.bus_dialogue.specs.declared.exchange.Hearing.{Hearing}
 use Rattle.scenario.specs.declared.value.HostDef.{HostDef}
 use Rattle.scenario.specs.Value.{ScenarioValue}
 use Rattle.bus_dialogue.specs.Exchange as exchange
@@ -50,6 +52,27 @@ pub record IsHostAfter (s : ScenarioValue) (rows : List Row) (v : HostValue) : T
   pub received_is : undoes_no_byte s rows ≡ true → AreReceived s rows v.def.dev v.received
   pub endings_are : AreEndingsOf s rows v.def.dev v.endings
   pub bytes_are : v.bytes ≡ own_bytes s v.def.dev
+
+-- What it hears has gone on by a row: what it says, what it holds of its connection and its own processes, what came,
+-- and with whom it may negotiate. The rest is that before the row.
+pub record HasHeard (s : ScenarioValue) (rows : List Row) (row : Row) (v : HostValue) : Type 0 where
+  pub negotiations_dev : v.negotiations.dev ≡ v.def.dev
+  pub transfers_dev : v.transfers.dev ≡ v.def.dev
+  pub negotiations_are : IsNegotiationsOf s (row ∷ rows) v.negotiations
+  pub speech_is : IsSpeechOf s (row ∷ rows) v.def.dev v.speech
+  pub transfers_are : IsTransfersOf s (row ∷ rows) v.transfers
+  pub received_is : undoes_no_byte s (row ∷ rows) ≡ true → AreReceived s (row ∷ rows) v.def.dev v.received
+
+-- A row in a connection tells an initiator nothing: RST is false, and in a connection of its own no byte crosses and the
+-- phase stays.
+abbrev pub is_of_others : ℕ → Connection → Connection → Bool
+is_of_others dev m n = not (m.initiator == dev) && not (n.initiator == dev)
+
+abbrev pub hears_nothing : ℕ → Hearing → Option Connection → Option Connection → Bool
+hears_nothing dev h None after = false
+hears_nothing dev h (Some m) None = false
+hears_nothing dev h (Some m) (Some n) =
+    not h.change.after.rst && (is_of_others dev m n || not (h.crosses || changes_phase h.change))
 
 -- No connection stands of which this device is the target.
 abbrev pub IsNeverCalled : List Row → ℕ → Type 0

@@ -1,5 +1,5 @@
 // What an initiator does next, and when.
-ghost use Rattle.std.specs.Prelude.{ℕ, ◌≡◌, ◌<◌, ◌≤◌, ◌^◌, false, slice_index_or, List, Some};
+ghost use Rattle.std.specs.Prelude.{ℕ, ◌≡◌, ◌<◌, ◌≤◌, ◌^◌, true, false, slice_index_or, List, Option, Some};
 ghost use Rattle.bus_trace.specs.declared.Row.{Row};
 ghost use Rattle.bus_trace.specs.Trace.{bus, drives};
 ghost use Rattle.bus_trace.specs.Terms.{connection};
@@ -16,8 +16,9 @@ ghost use Rattle.bus_due.specs.Next.{due};
 ghost use Rattle.bus_due.specs.Plain.{AreOfDevices};
 ghost use Rattle.bus_due.specs.RunSteps.{run_state};
 ghost use Rattle.scsi_device.specs.Told.{told, first_fault};
-ghost use Rattle.initiator.specs.States.{sending_known, state_known, IsInitiatorOf, IsHostOf, IsNoTarget};
-ghost use Rattle.initiator.specs.Dues.{myself_by, want_by, link_by, answering_of_host, plain_by, hand_by, calm_by, initiator_next};
+ghost use Rattle.scenario.specs.declared.value.FaultDef.{FaultDef};
+ghost use Rattle.initiator.specs.States.{InitiatorState, sending_known, state_known, IsInitiatorOf, IsHostOf, IsNoTarget};
+ghost use Rattle.initiator.specs.Dues.{is_elsewhere, myself_by, want_by, link_by, answering_of_host, plain_by, hand_by, calm_by, initiator_next};
 
 use crate::laws::dues_are_of_initiators;
 use crate::speech::Speech;
@@ -227,6 +228,34 @@ fn calm_due(
         }
         Some(_) => None,
     }
+}
+
+/// Whether a connection of others stands, and RST is false.
+pub fn is_elsewhere(view: &BusView, dev: Dev) -> bool
+    ensures { (rows : List Row) → IsBusViewOf rows view.now
+        → result ≡ is_elsewhere (bus rows).rst (connection rows) dev }
+{
+    match view.connection() {
+        None => false,
+        Some(connection) => connection.initiator.get() != dev && !view.bus().rst(),
+    }
+}
+
+/// What an initiator does next, and when, in ns, while a connection of others stands and RST is false: only its reset.
+pub fn elsewhere_next(
+    host: &HostDef,
+    observer: &Observer,
+    own: &OwnTimes,
+    reset: Option<Ns>,
+) -> Option<Due>
+    requires below { host.now.dev < 8 }
+    requires latency { host.now.latency ≤ 100 }
+    ensures { (rows : List Row) (f : Option FaultDef) (i : InitiatorState) → IsObserverOf rows observer.now
+        → is_elsewhere (bus rows).rst (connection rows) host.now.dev ≡ true → i.own ≡ own.now → i.reset ≡ reset
+        → result ≡ initiator_next host.now (told rows host.now.dev) f i }
+{
+    let me = myself(host, observer.view(), own);
+    due_with_reset(&me, own.rst(), reset, None)
 }
 
 // A reset of its own goes before all that.

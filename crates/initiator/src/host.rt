@@ -1,5 +1,5 @@
 //! An initiator of a scenario: what it knows, row by row, and what it does next (ANSI X3.131-1994, 6 and 7).
-ghost use Rattle.std.specs.Prelude.{◌≡◌, ◌<◌, ◌≤◌, ◌==◌, ◌^◌, [], ◌∷◌, List, length, is_some, true, if◌then◌else◌, IfOk};
+ghost use Rattle.std.specs.Prelude.{◌≡◌, ◌<◌, ◌≤◌, ◌==◌, ◌&&◌, ◌^◌, [], ◌∷◌, List, length, is_some, true, Some, if◌then◌else◌, IfOk};
 ghost use Rattle.std.specs.List.{find};
 ghost use Rattle.bus_trace.specs.declared.Row.{Row};
 ghost use Rattle.bus_trace.specs.Terms.{connection};
@@ -20,7 +20,7 @@ ghost use Rattle.bus_story.specs.BusState.{row_reading};
 ghost use Rattle.bus_due.specs.RunState.{item_of};
 ghost use Rattle.bus_due.specs.Telling.{id_of, initiator_events};
 ghost use Rattle.scsi_device.specs.Acts.{act_of};
-ghost use Rattle.initiator.specs.Hosts.{IsHostAfter, IsNeverCalled, process_or_none, are_aborts_done};
+ghost use Rattle.initiator.specs.Hosts.{IsHostAfter, HasHeard, IsNeverCalled, is_of_others, hears_nothing, process_or_none, are_aborts_done};
 ghost use Rattle.scenario.specs.declared.value.CmdDef.{CmdDef};
 ghost use Rattle.disk_array.specs.Processes.{command_at};
 ghost use Rattle.initiator.specs.Books.{my_book};
@@ -33,14 +33,14 @@ ghost use Rattle.initiator.specs.Received.{pair_at, received_taken};
 ghost use Rattle.initiator.specs.OwnBytes.{sending_from};
 ghost use Rattle.initiator.specs.Speeches.{IsOpeningOf};
 ghost use Rattle.initiator.specs.States.{sending_known, IsOwnConnection};
-ghost use Rattle.initiator.specs.Intents.{IsIntentOf};
+ghost use Rattle.initiator.specs.Intents.{IsIntentOf, is_empty};
 ghost use Rattle.initiator.specs.Transfers.{active_at, process_of_link, IsTransfersOf, event_if};
 ghost use Rattle.initiator.specs.Wishes.{events_shown};
 
-use crate::due::{Knowledge, Sending, initiator_next};
+use crate::due::{Knowledge, Sending, elsewhere_next, initiator_next, is_elsewhere};
 use crate::endings::{Endings, see_endings};
 use crate::intent::Intent;
-use crate::laws::{initiators_are_their_parts, initiators_have_no_unit};
+use crate::laws::{dues_are_of_initiators, initiators_are_their_parts, initiators_have_no_unit};
 use crate::negotiations::Negotiations;
 use crate::openings::Words;
 use crate::outcome::{Outcome, is_settled};
@@ -50,10 +50,10 @@ use crate::speech::Speech;
 use crate::transfers::Transfers;
 use bus_base::{Dev, Event, NoMemory, Ns, ProcId};
 use bus_dialogue::{Hearing, Observer};
-use bus_due::kept_is_plain;
-use bus_lines::BusView;
+use bus_due::{hearings_are_plain, kept_is_plain};
+use bus_lines::{BusView, RowEffect};
 use bus_reactions::Due;
-use bus_trace::{Connection, Row};
+use bus_trace::{Connection, Row, changes_phase};
 use scenario::{FaultDef, HostDef, Scenario};
 use scsi_device::{Act, Itself, scenarios_fit_the_bus};
 use std::alloc::Global;
@@ -110,6 +110,39 @@ fn connection_before(view: &BusView) -> Option<Connection>
     ensures { (rows : List Row) (row : Row) → IsBusViewOf (row ∷ rows) view.now → result ≡ connection rows }
 {
     view.effect().before
+}
+
+// Whether a row in a connection tells an initiator nothing: it shows no event, RST is false, and in a connection of its
+// own no byte crosses and the phase stays.
+fn is_still(dev: Dev, effect: &RowEffect, hearing: &Hearing, shown: &[Event]) -> bool
+    ensures { result
+        ≡ (is_empty shown.now && hears_nothing dev hearing.now effect.now.before effect.now.after) }
+{
+    shown.is_empty() && hears_nothing(dev, hearing, &effect.before, &effect.after)
+}
+
+fn hears_nothing(
+    dev: Dev,
+    hearing: &Hearing,
+    before: &Option<Connection>,
+    after: &Option<Connection>,
+) -> bool
+    ensures { result ≡ hears_nothing dev hearing.now before.now after.now }
+{
+    match (before, after) {
+        (Some(before), Some(after)) => {
+            !hearing.change.after.rst()
+                && (is_of_others(dev, before, after)
+                    || !(hearing.crosses || changes_phase(&hearing.change)))
+        }
+        _ => false,
+    }
+}
+
+fn is_of_others(dev: Dev, before: &Connection, after: &Connection) -> bool
+    ensures { result ≡ is_of_others dev before.now after.now }
+{
+    before.initiator.get() != dev && after.initiator.get() != dev
 }
 
 // A row told this, before and after which these connections stand; the initiator has not gone on by it yet.
@@ -186,36 +219,48 @@ impl Host {
         }
     }
 
-    // What it says first, where this connection has begun by a selection of its own.
-    fn opening(&self, after: Option<Connection>) -> Words
+    // What it says first in a connection that begins now by a selection of its own.
+    fn opening(&self, begun: Connection) -> Words
         ensures { (s : ScenarioValue) (rows : List Row) (row : Row) → AreOfDevices (row ∷ rows) → AreUnits s
-            → IsHostAfter s rows self.now → after ≡ connection (row ∷ rows)
+            → IsHostAfter s rows self.now → connection (row ∷ rows) ≡ Some begun
             → IsOpeningOf s rows row self.now.def.dev result.items }
     {
-        let Some(connection) = after else {
-            return Words::new();
-        };
-        let negotiates = self.intent.is_for_process()
-            && !self.negotiations.includes(connection.target);
+        let negotiates = self.intent.is_for_process() && !self.negotiations.includes(begun.target);
         self.intent.opening(&self.def, negotiates)
     }
 
-    /// One more row, of any device, which shows these events, the newest first; the observer has seen it.
-    pub fn see(&mut self, observer: &Observer, row: &Row, shown: &[Event])
-        requires device { row.now.dev < 8 }
-        requires timely { IsTimely (2 ^ 63) observer.now.view }
+    // The same, where these connections stand before and after a row; nothing where no connection begins with it.
+    fn opening_by(&self, before: Option<Connection>, after: Option<Connection>) -> Words
+        ensures { (s : ScenarioValue) (rows : List Row) (row : Row) → AreOfDevices (row ∷ rows) → AreUnits s
+            → IsHostAfter s rows self.now → before ≡ connection rows → after ≡ connection (row ∷ rows)
+            → IsOpeningOf s rows row self.now.def.dev result.items }
+    {
+        if before.is_some() {
+            return Words::new();
+        }
+        match after {
+            None => Words::new(),
+            Some(begun) => self.opening(begun),
+        }
+    }
+
+    // What it hears in a row, which shows these events, the newest first: what it says, what came, what it holds of its
+    // own processes, and with whom it may still negotiate.
+    fn hear_row(&mut self, observer: &Observer, shown: &[Event])
         ensures def { self.new.def ≡ self.old.def }
-        ensures trace { (s : ScenarioValue) (rows : List Row) → FitsBus s → IsObserverOf (row.now ∷ rows) observer.now
-            → AreOfDevices (row.now ∷ rows) → shown.now ≡ events_shown s rows row.now
-            → IsHostAfter s rows self.old → IsHostAfter s (row.now ∷ rows) self.new }
+        ensures itself { self.new.itself ≡ self.old.itself }
+        ensures intent { self.new.intent ≡ self.old.intent }
+        ensures endings { self.new.endings ≡ self.old.endings }
+        ensures bytes { self.new.bytes ≡ self.old.bytes }
+        ensures trace { (s : ScenarioValue) (rows : List Row) (row : Row) → FitsBus s
+            → IsObserverOf (row ∷ rows) observer.now → AreOfDevices (row ∷ rows) → shown.now ≡ events_shown s rows row
+            → IsHostAfter s rows self.old → HasHeard s rows row self.new }
     {
         scenarios_fit_the_bus();
         let view = observer.view();
         let hearing = observer.hearing();
-        let opening = self.opening(view.connection());
+        let opening = self.opening_by(connection_before(view), view.connection());
         let process = self.intent.is_for_process();
-        let aim = self.intent.aim();
-        let past = self.intent.book().past();
         self.speech.see(
             &self.def,
             &opening,
@@ -238,6 +283,41 @@ impl Host {
         );
         self.negotiations
             .see(process, connection_before(view), view.connection(), shown);
+    }
+
+    // The same. Most rows tell it nothing.
+    fn hear(&mut self, observer: &Observer, shown: &[Event])
+        ensures def { self.new.def ≡ self.old.def }
+        ensures itself { self.new.itself ≡ self.old.itself }
+        ensures intent { self.new.intent ≡ self.old.intent }
+        ensures endings { self.new.endings ≡ self.old.endings }
+        ensures bytes { self.new.bytes ≡ self.old.bytes }
+        ensures trace { (s : ScenarioValue) (rows : List Row) (row : Row) → FitsBus s
+            → IsObserverOf (row ∷ rows) observer.now → AreOfDevices (row ∷ rows) → shown.now ≡ events_shown s rows row
+            → IsHostAfter s rows self.old → HasHeard s rows row self.new }
+    {
+        kept_is_plain();
+        hearings_are_plain();
+        let effect = observer.view().effect();
+        if is_still(self.def.dev, effect, observer.hearing(), shown) {
+            return;
+        }
+        self.hear_row(observer, shown);
+    }
+
+    /// One more row, of any device, which shows these events, the newest first; the observer has seen it.
+    pub fn see(&mut self, observer: &Observer, row: &Row, shown: &[Event])
+        requires device { row.now.dev < 8 }
+        requires timely { IsTimely (2 ^ 63) observer.now.view }
+        ensures def { self.new.def ≡ self.old.def }
+        ensures trace { (s : ScenarioValue) (rows : List Row) → FitsBus s → IsObserverOf (row.now ∷ rows) observer.now
+            → AreOfDevices (row.now ∷ rows) → shown.now ≡ events_shown s rows row.now
+            → IsHostAfter s rows self.old → IsHostAfter s (row.now ∷ rows) self.new }
+    {
+        let view = observer.view();
+        let aim = self.intent.aim();
+        let past = self.intent.book().past();
+        self.hear(observer, shown);
         self.itself.see(view, row);
         self.intent.see(view, row, shown);
         see_endings(&mut self.endings, &self.intent, past, aim, shown);
@@ -270,6 +350,11 @@ impl Host {
         initiators_are_their_parts();
         initiators_have_no_unit();
         kept_is_plain();
+        dues_are_of_initiators();
+        if is_elsewhere(observer.view(), self.def.dev) {
+            let (own, reset) = (self.itself.own(), self.itself.reset());
+            return elsewhere_next(&self.def, observer, own, reset);
+        }
         let known = Knowledge {
             own: self.itself.own(),
             reset: self.itself.reset(),

@@ -68,6 +68,16 @@ fn is_news(
         || (before.is_none() && (after.is_some() || falls(change.before.sel(), change.after.sel())))
 }
 
+// The call that stands goes on by a row. Where none stands before the row and SEL is false after it, there is none.
+fn see_call(call: &mut Option<Call>, change: &Change, row: &Row)
+    requires { row.now.dev < 8 }
+    ensures { call.new ≡ call_after call.old change.now row.now }
+{
+    if call.is_some() || change.after.sel() {
+        *call = call_after(*call, change, row);
+    }
+}
+
 // A command or an automatic REQUEST SENSE, and no abort.
 fn is_process(aim: Option<OwnItem>) -> bool
     ensures { result ≡ is_for_own_process aim }
@@ -153,6 +163,34 @@ impl Intent {
         item_opening(host, negotiates, self.wish.book(), self.wish.aim())
     }
 
+    // What it wants after a row that did this; the call that stands has not gone on yet.
+    fn see_news(&mut self, effect: &RowEffect, row: &Row, shown: &[Event])
+        ensures dev { self.new.dev ≡ self.old.dev }
+        ensures retries { self.new.retries ≡ self.old.retries }
+        ensures wish { self.new.wish ≡ wish_next self.old effect.now row.now shown.now }
+        ensures call { self.new.call ≡ self.old.call }
+        ensures since { self.new.since ≡ (if news_in effect.now shown.now then my_since self.new.wish.book
+            else self.old.since) }
+        ensures callee { self.new.callee ≡ (if news_in effect.now shown.now
+            then target_by self.new.wish.book self.new.wish.aim else self.old.callee) }
+    {
+        if is_news(&effect.change, effect.before, effect.after, shown) {
+            self.wish.see(
+                self.dev,
+                self.retries,
+                self.call,
+                &effect.change,
+                effect.before,
+                effect.after,
+                row.dev,
+                row.time,
+                shown,
+            );
+            self.since = self.wish.book().since();
+            self.callee = self.wish.book().target_by(self.wish.aim());
+        }
+    }
+
     // What it wants after a row that did this.
     fn after_effect(&mut self, effect: &RowEffect, row: &Row, shown: &[Event])
         requires { row.now.dev < 8 }
@@ -165,23 +203,8 @@ impl Intent {
         ensures callee { self.new.callee ≡ (if news_in effect.now shown.now
             then target_by self.new.wish.book self.new.wish.aim else self.old.callee) }
     {
-        let change = &effect.change;
-        self.wish.see(
-            self.dev,
-            self.retries,
-            self.call,
-            change,
-            effect.before,
-            effect.after,
-            row.dev,
-            row.time,
-            shown,
-        );
-        self.call = call_after(self.call, change, row);
-        if is_news(change, effect.before, effect.after, shown) {
-            self.since = self.wish.book().since();
-            self.callee = self.wish.book().target_by(self.wish.aim());
-        }
+        self.see_news(effect, row, shown);
+        see_call(&mut self.call, &effect.change, row);
     }
 
     /// One more row, of any device, which shows these events, the newest first; the view is that after it.
@@ -197,10 +220,6 @@ impl Intent {
         kept_is_plain();
         hearings_are_plain();
         wants_are_items();
-        let effect = RowEffect {
-            after: view.connection(),
-            ..*view.effect()
-        };
-        self.after_effect(&effect, row, shown);
+        self.after_effect(view.effect(), row, shown);
     }
 }

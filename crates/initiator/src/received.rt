@@ -169,8 +169,8 @@ fn all_buffers(alloc: Global, scenario: &Scenario, dev: Dev) -> Result<Vec<Buffe
 }
 
 // A byte of data crosses in the row that told this, and the connection stays.
-fn brings_data(hearing: &Hearing, after: Option<Connection>) -> bool
-    ensures { result ≡ brings_data hearing.now after }
+fn brings_data(hearing: &Hearing, after: &Option<Connection>) -> bool
+    ensures { result ≡ brings_data hearing.now after.now }
 {
     hearing.crosses
         && is_data(hearing.change.before)
@@ -256,7 +256,7 @@ impl Received {
         ensures { self.new ≡ received_after self.old process place hearing.now after }
     {
         if let Some(id) = process {
-            if brings_data(hearing, after) {
+            if brings_data(hearing, &after) {
                 self.put(id, place as usize, hearing.change.after.data());
             }
         }
@@ -297,6 +297,11 @@ pub fn see_received(
         → undoes_no_byte s (row ∷ rows) ≡ true → AreReceived s rows transfers.now.dev received.old
         → AreReceived s (row ∷ rows) transfers.now.dev received.new }
 {
+    kept_is_plain();
+    hearings_are_plain();
+    if !brings_data(hearing, &after) {
+        return;
+    }
     let place = transfers.pointers().payload;
     received.see(transfers.process(), place, hearing, after);
 }
