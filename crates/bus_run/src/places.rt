@@ -25,35 +25,42 @@ use bus_trace::Row;
 use scenario::FaultDef;
 use std::sync::ledger::Ledger;
 
-// The reaction of a device, or the row of one of a lower ID that comes sooner.
-fn first_row(due: Option<Due>, dev: Dev, other: Option<Row>) -> Option<Row>
-    ensures exact { result ≡ first_row due dev other }
-    ensures device { dev < 8 → IfSome other (λ row. row.dev < 8) → IfSome result (λ row. row.dev < 8) }
+// A reaction goes before the row of a device of a lower ID, unless that comes sooner.
+fn add_due(first: &mut Option<Row>, due: Due, dev: Dev)
+    ensures exact { first.new ≡ first_row (Some due) dev first.old }
+    ensures device { dev < 8 → IfSome first.old (λ row. row.dev < 8) → IfSome first.new (λ row. row.dev < 8) }
 {
-    let Some(due) = due else {
-        return other;
-    };
-    let row = Row {
-        time: due.time,
-        dev,
-        kind: due.kind,
-    };
-    match other {
-        Some(other) if other.time < due.time => Some(other),
-        _ => Some(row),
+    match first {
+        Some(other) if other.time < due.time => {}
+        _ => {
+            *first = Some(Row {
+                time: due.time,
+                dev,
+                kind: due.kind,
+            });
+        }
     }
 }
 
-// What the device in this place does next; no device does nothing.
-fn due_in<D: Device>(place: &Option<D>, observer: &Observer, fault: Option<FaultDef>) -> Option<Due>
+// The device in this place is asked what it does next; no device does nothing. `first` is the next row of those of a
+// lower ID.
+fn ask_in<D: Device>(
+    first: &mut Option<Row>,
+    place: &Option<D>,
+    dev: Dev,
+    observer: &Observer,
+    fault: Option<FaultDef>,
+)
     requires timely { IsTimely (2 ^ 63) observer.now.view }
-    ensures { (s : ScenarioValue) (rows : List Row) (dev : ℕ) → AreSeen s rows observer.now
+    ensures exact { (s : ScenarioValue) (rows : List Row) → AreSeen s rows observer.now
         → IsIn D.IsOf s rows dev place.now → fault ≡ first_fault (run_state s rows).faults
-        → result ≡ due s rows dev }
+        → first.new ≡ first_row (due s rows dev) dev first.old }
+    ensures device { dev < 8 → IfSome first.old (λ row. row.dev < 8) → IfSome first.new (λ row. row.dev < 8) }
 {
-    match place {
-        None => None,
-        Some(device) => device.due(observer, fault),
+    if let Some(device) = place {
+        if let Some(due) = device.due(observer, fault) {
+            add_due(first, due, dev);
+        }
     }
 }
 
@@ -75,8 +82,7 @@ pub fn next<D: Device, L: Ledger>(
     let mut first = None;
     for dev in 0..8 {
         steps.tick();
-        let due = due_in(&places[dev as usize], observer, fault);
-        first = first_row(due, dev, first);
+        ask_in(&mut first, &places[dev as usize], dev, observer, fault);
     }
     first
 }

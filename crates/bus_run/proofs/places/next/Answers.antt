@@ -16,9 +16,9 @@ loop-dev-preserved g c =
     let at = read_at xs i x inside c.index-places-dev.is in
     record {
       first = λ s rows a p f.
-          c.first_row-first.ensures.exact
-          ∙ (λ j. first_row (c.due_in-due.ensures s rows i a (in_at g.D.Device.IsOf s rows xs i x at (p i c.loop-dev-test.true)) f j) i (c.loop-dev.invariant.first s rows a p f j))
+          c.ask_in.ensures.exact s rows a (in_at g.D.Device.IsOf s rows xs i x at (p i c.loop-dev-test.true)) f
+          ∙ (λ j. first_row (due s rows i) i (c.loop-dev.invariant.first s rows a p f j))
           ∙ sym (least_more (due s rows) i);
-      device = c.first_row-first.ensures.device c.loop-dev-test.true c.loop-dev.invariant.device;
+      device = c.ask_in.ensures.device c.loop-dev-test.true c.loop-dev.invariant.device;
       steps = omega (arith, c.tick.ensures, c.loop-dev.invariant.steps);
     }
