@@ -1,5 +1,5 @@
 -- An initiator by its parts.
-use Rattle.std.proofs.Common.{ℕ, ◌≡◌, ◌==◌, ◌∙◌, ◌<◌, ◌≤◌, Bool, true, false, List, [], ◌∷◌, sym, subst, Option, Some, None}
+use Rattle.std.proofs.Common.{ℕ, ◌≡◌, ◌≢◌, ◌==◌, ◌∙◌, ◌<◌, ◌≤◌, Bool, true, false, List, [], ◌∷◌, sym, subst, Option, Some, None}
 use Rattle.std.specs.Prelude.{if◌then◌else◌, not, ◌&&◌}
 use Rattle.std.proofs.lemmas.Bool.Decides.{nat_tests}
 use native.Mathlib.Omega.{arith}
@@ -36,6 +36,9 @@ use Rattle.initiator.specs.OwnLinks.{own_link}
 use Rattle.initiator.specs.Speeches.{first_words}
 use Rattle.initiator.specs.States.{InitiatorState, state_by, IsOwnConnection, AreSameBytes}
 use Rattle.initiator.specs.Transfers.{active_of, active_at, process_of_link}
+
+pub other_device : (a b : ℕ) → a ≢ b → (a == b) ≡ false
+other_device a b e = grind (arith, nat_tests)
 
 same_number : (a b : ℕ) → (a == b) ≡ true → a ≡ b
 same_number a b e = grind (arith, nat_tests)

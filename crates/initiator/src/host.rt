@@ -20,6 +20,7 @@ ghost use Rattle.bus_story.specs.BusState.{row_reading};
 ghost use Rattle.bus_due.specs.RunState.{item_of};
 ghost use Rattle.bus_due.specs.Telling.{id_of, initiator_events};
 ghost use Rattle.scsi_device.specs.Acts.{act_of};
+ghost use Rattle.scsi_device.specs.Itself.{IsItselfOf};
 ghost use Rattle.initiator.specs.Hosts.{IsHostAfter, HasHeard, IsNeverCalled, is_of_others, hears_nothing, process_or_none, are_aborts_done};
 ghost use Rattle.scenario.specs.declared.value.CmdDef.{CmdDef};
 ghost use Rattle.disk_array.specs.Processes.{command_at};
@@ -160,6 +161,19 @@ fn see_transfers(
         → IsTransfersOf s rows transfers.old → IsTransfersOf s (row ∷ rows) transfers.new }
 {
     transfers.see(intent.book(), intent.aim(), hearing, before, after);
+}
+
+// A row made by another device than this one leaves what it knows of its own rows as it was.
+fn see_itself(itself: &mut Itself, dev: Dev, view: &BusView, row: &Row)
+    requires { IsTimely (2 ^ 63) view.now }
+    ensures dev { itself.new.dev ≡ itself.old.dev }
+    ensures trace { (s : ScenarioValue) (rows : List Row) → IsBusViewOf (row.now ∷ rows) view.now
+        → itself.old.dev ≡ dev → IsItselfOf s rows itself.old → IsItselfOf s (row.now ∷ rows) itself.new }
+{
+    if row.dev != dev {
+        return;
+    }
+    itself.see(view, row);
 }
 
 // The line of this initiator.
@@ -318,7 +332,7 @@ impl Host {
         let aim = self.intent.aim();
         let past = self.intent.book().past();
         self.hear(observer, shown);
-        self.itself.see(view, row);
+        see_itself(&mut self.itself, self.def.dev, view, row);
         self.intent.see(view, row, shown);
         see_endings(&mut self.endings, &self.intent, past, aim, shown);
     }

@@ -5,6 +5,7 @@ use Rattle.bus_story.specs.TraceHistory.{aim_of}
 use Rattle.scsi_device.specs.Itself.{ItselfValue, IsItselfOf}
 use Rattle.initiator.specs.declared.endings.CommandEnd.{CommandEnd}
 use Rattle.initiator.specs.declared.mine.OwnItem.{OwnItem}
+use Rattle.scenario.specs.declared.value.HostDef.{HostDef}
 use Rattle.initiator.specs.Books.{item_if, my_book}
 use Rattle.initiator.specs.Commands.{all_past}
 use Rattle.initiator.specs.Endings.{AreEndingsOf}
@@ -23,17 +24,17 @@ returns-clause-trace c = λ s rows f o d shown h.
     let itself : c.self-2.inside.itself ≡ v.itself = (λ i. let z : HostValue = c.self-2.view_is i in z.itself) ∙ c.hear.ensures.itself in
     let intent : c.self-2.inside.intent ≡ v.intent = (λ i. let z : HostValue = c.self-2.view_is i in z.intent) ∙ c.hear.ensures.intent in
     let ends : c.self-2.inside.endings ≡ v.endings = (λ i. let z : HostValue = c.self-2.view_is i in z.endings) ∙ c.hear.ensures.endings in
-    let next_dev = c.see-2.ensures.dev ∙ (λ i. (intent i).dev) in
+    let next_dev = c.see.ensures.dev ∙ (λ i. (intent i).dev) in
     let same_dev = next_dev ∙ (λ i. let z : HostValue = sym c.self.view_is i in z.intent.dev) in
     let dev = next_dev ∙ h.intent_dev in
-    let wants = c.see-2.ensures.trace s rows bus d
+    let wants = c.see.ensures.trace s rows bus d
     (is_initiator s v.def c.self-2.inside.intent.dev c.self-2.inside.intent.retries h.line ((λ i. (intent i).dev) ∙ h.intent_dev) ((λ i. (intent i).retries) ∙ h.intent_retries))
     shown (subst (λ (z : IntentValue). IsIntentOf s rows z) (sym intent) h.intent_is) in
-    host_goes_on s rows row v _ c.see.new.self c.see-2.new.self c.see_endings.new.endings
+    host_goes_on s rows row v _ c.see_itself.new.itself c.see.new.self c.see_endings.new.endings
     ((λ i. let z : HostValue = c.self-2.view_is i in z.def) ∙ c.hear.ensures.def)
     ((λ i. let z : HostValue = c.self-2.view_is i in z.bytes) ∙ c.hear.ensures.bytes)
-    (c.see.ensures.dev ∙ (λ i. (itself i).dev)) next_dev (c.see-2.ensures.retries ∙ (λ i. (intent i).retries))
-    (c.see.ensures.trace s rows bus (subst (λ (z : ItselfValue). IsItselfOf s rows z) (sym itself) h.itself_is))
+    (c.see_itself.ensures.dev ∙ (λ i. (itself i).dev)) next_dev (c.see.ensures.retries ∙ (λ i. (intent i).retries))
+    (c.see_itself.ensures.trace s rows bus ((λ i. (itself i).dev) ∙ h.itself_dev ∙ sym (ap (λ (z : HostDef). z.dev) c.hear.ensures.def) ∙ (λ i. let z : HostValue = sym c.self-2.view_is i in z.def.dev)) (subst (λ (z : ItselfValue). IsItselfOf s rows z) (sym itself) h.itself_is))
     wants
     (subst (λ (n : ℕ). AreEndingsOf s (row ∷ rows) n c.see_endings.new.endings) dev
     (c.see_endings.ensures s rows row d wants
