@@ -24,4 +24,5 @@ pub mod Servables
 pub mod RowBegins
 pub mod Reselected
 pub mod Turning
+pub mod Apart
 mod AttendedCases

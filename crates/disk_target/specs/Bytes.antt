@@ -1,7 +1,8 @@
 -- What a target decides by in a connection of its own, with the bytes that its process gives.
-use Rattle.std.specs.Prelude.{ℕ, ◌≡◌, ◌*◌, ◌-◌, ◌^◌, min, Bool, true, false, List, Option, Some, None}
+use Rattle.std.specs.Prelude.{ℕ, ◌≡◌, ◌==◌, ◌*◌, ◌-◌, ◌^◌, min, Bool, true, false, List, Option, Some, None}
 use Rattle.bus_trace.specs.declared.Row.{Row}
 use Rattle.bus_trace.specs.declared.connection.Connection.{Connection}
+use Rattle.bus_trace.specs.Terms.{connection}
 use Rattle.bus_trace.specs.Trace.{bus, drives}
 use Rattle.bus_lines.specs.Handshakes.{handshakes}
 use Rattle.cdb_codec.specs.Cdb.{command_of}
@@ -55,6 +56,16 @@ gives_data phases.DataOut next = false
 abbrev pub IsOwnIf : List Row → ℕ → Option Connection → Type 0
 IsOwnIf rows dev None = (n : Connection) → IsOwnConnection rows dev n → (bus rows).rst ≡ true
 IsOwnIf rows dev (Some n) = IsOwnConnection rows dev n × ((bus rows).rst ≡ false)
+
+-- A connection of others, while RST is false.
+pub record IsOthers (rows : List Row) (dev : ℕ) (n : Connection) : Type 0 where
+  pub stands : connection rows ≡ Some n
+  pub away : (n.target == dev) ≡ false
+  pub calm : (bus rows).rst ≡ false
+
+abbrev pub IsOthersIf : List Row → ℕ → Option Connection → Type 0
+IsOthersIf rows dev None = Unit {0}
+IsOthersIf rows dev (Some n) = IsOthers rows dev n
 
 -- By this and these bytes it does what the rows have it do.
 pub record DecidesAs (s : ScenarioValue) (rows : List Row) (t : TargetDef) (v : Serving) (b : DataBytes) : Type 0 where

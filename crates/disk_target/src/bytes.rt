@@ -6,7 +6,7 @@ ghost use Rattle.bus_lines.specs.BusView.{IsBusViewOf};
 ghost use Rattle.target_course.specs.Courses.{name_of};
 ghost use Rattle.target_course.specs.States.{IsReadyWithin};
 ghost use Rattle.target_course.specs.declared.course.Name.{Name as NameValue};
-ghost use Rattle.disk_target.specs.Bytes.{status_in, blocks_of, taken_by, gives_data, IsOwnIf};
+ghost use Rattle.disk_target.specs.Bytes.{status_in, blocks_of, taken_by, gives_data, IsOwnIf, IsOthersIf};
 
 use bus_base::Dev;
 use bus_dialogue::{Next, Phase};
@@ -99,6 +99,16 @@ pub fn own_before(view: &BusView, dev: Dev) -> Option<Connection>
         Some(connection) if connection.target.get() == dev && !effect.change.before.rst() => {
             Some(connection)
         }
+        _ => None,
+    }
+}
+
+/// The connection that stands, where this is not its target and RST is false.
+pub fn other_connection(view: &BusView, dev: Dev) -> Option<Connection>
+    ensures { (rows : List Row) → IsBusViewOf rows view.now → IsOthersIf rows dev result }
+{
+    match view.connection() {
+        Some(connection) if connection.target.get() != dev && !view.bus().rst() => Some(connection),
         _ => None,
     }
 }

@@ -18,6 +18,7 @@
 #![tactic(auto)]
 
 mod bytes;
+mod others;
 mod processes;
 mod standing;
 mod target;

@@ -42,9 +42,10 @@ ghost use Rattle.disk_target.specs.Targets.{AreInTime, AreTied, IsCourseIf, IsSe
 ghost use Rattle.disk_target.specs.Turns.{IsTurnOf};
 
 use crate::bytes::{
-    Decision, bounded, connection_before, gives_data, no_bytes, own_before, own_connection,
-    status_in, taken_by, unit_named,
+    Decision, bounded, connection_before, gives_data, no_bytes, other_connection, own_before,
+    own_connection, status_in, taken_by, unit_named,
 };
+use crate::others::next_in_others;
 use crate::processes::Processes;
 use crate::turn::{
     Turn, course_of, is_opening, no_turn, process_known, reply_seen, see_beginning, see_course,
@@ -63,7 +64,8 @@ use std::alloc::Global;
 use std::marker::Model;
 use target_course::{
     Course, DataBytes, Gathered, Knowledge, Negotiated, ProcessState, Progress, Serving, Shown,
-    leaving_by, no_plan, phase_of, place_in_run, process_byte_place, target_next,
+    dues_are_of_targets, leaving_by, no_plan, phase_of, place_in_run, process_byte_place,
+    target_next,
 };
 use target_units::Units;
 
@@ -336,9 +338,8 @@ impl Target {
         }
     }
 
-    /// What it does next, and when, in ns, by the first fault that has not struck yet: exactly what is due of it, where
-    /// it was told of all rows and is the initiator of no connection. It changes nothing.
-    pub fn due(&self, observer: &Observer, fault: Option<FaultDef>) -> Option<Due>
+    // On its way to a connection, and while RST is true.
+    fn due_outside(&self, observer: &Observer, fault: Option<FaultDef>) -> Option<Due>
         requires timely { IsTimely (2 ^ 63) observer.now.view }
         ensures { (s : ScenarioValue) (rows : List Row) → FitsBus s → IsObserverOf rows observer.now
             → AreOfDevices rows → IsNoInitiator rows self.now.def.dev → heard s rows ≡ true
@@ -353,6 +354,55 @@ impl Target {
             bytes: decision.bytes,
         };
         target_next(observer, &known, fault)
+    }
+
+    // In a connection of its own, in which it asks for no other.
+    fn due_inside(&self, observer: &Observer, fault: Option<FaultDef>) -> Option<Due>
+        requires timely { IsTimely (2 ^ 63) observer.now.view }
+        ensures { (s : ScenarioValue) (rows : List Row) (n : Connection) → FitsBus s → IsObserverOf rows observer.now
+            → AreOfDevices rows → IsNoInitiator rows self.now.def.dev → heard s rows ≡ true
+            → IsServable s rows self.now.def → IsTargetAfter s rows self.now
+            → IsOwnConnection rows self.now.def.dev n → (bus rows).rst ≡ false
+            → fault ≡ first_fault (run_state s rows).faults → result ≡ due s rows self.now.def.dev }
+    {
+        dues_are_of_targets();
+        let decision = self.decision(observer);
+        let known = Knowledge {
+            itself: &self.itself,
+            ready: None,
+            serving: decision.serving,
+            bytes: decision.bytes,
+        };
+        target_next(observer, &known, fault)
+    }
+
+    // In a connection of its own or outside all.
+    fn due_of_own(&self, observer: &Observer, fault: Option<FaultDef>) -> Option<Due>
+        requires timely { IsTimely (2 ^ 63) observer.now.view }
+        ensures { (s : ScenarioValue) (rows : List Row) → FitsBus s → IsObserverOf rows observer.now
+            → AreOfDevices rows → IsNoInitiator rows self.now.def.dev → heard s rows ≡ true
+            → IsServable s rows self.now.def → IsTargetAfter s rows self.now
+            → fault ≡ first_fault (run_state s rows).faults → result ≡ due s rows self.now.def.dev }
+    {
+        match own_connection(observer.view(), self.def.dev) {
+            None => self.due_outside(observer, fault),
+            Some(_) => self.due_inside(observer, fault),
+        }
+    }
+
+    /// What it does next, and when, in ns, by the first fault that has not struck yet: exactly what is due of it, where
+    /// it was told of all rows and is the initiator of no connection. It changes nothing.
+    pub fn due(&self, observer: &Observer, fault: Option<FaultDef>) -> Option<Due>
+        requires timely { IsTimely (2 ^ 63) observer.now.view }
+        ensures { (s : ScenarioValue) (rows : List Row) → FitsBus s → IsObserverOf rows observer.now
+            → AreOfDevices rows → IsNoInitiator rows self.now.def.dev → heard s rows ≡ true
+            → IsServable s rows self.now.def → IsTargetAfter s rows self.now
+            → fault ≡ first_fault (run_state s rows).faults → result ≡ due s rows self.now.def.dev }
+    {
+        match other_connection(observer.view(), self.def.dev) {
+            None => self.due_of_own(observer, fault),
+            Some(_) => next_in_others(observer, &self.itself, &self.def),
+        }
     }
 
     /// What it does at this moment, in ns: the row that is due by then, or when its next one is. It changes nothing.
@@ -496,9 +546,13 @@ impl Target {
             → IsLabelOf (item_of (run_state s (row ∷ rows)).story.link) label)
             → IsCourseIf s (row ∷ rows) self.now.def.dev result }
     {
-        match own_connection(observer.view(), self.def.dev) {
-            None => None,
-            Some(connection) => self.course_begun(&connection, label),
+        let view = observer.view();
+        match connection_before(view) {
+            Some(_) => None,
+            None => match own_connection(view, self.def.dev) {
+                None => None,
+                Some(connection) => self.course_begun(&connection, label),
+            },
         }
     }
 
