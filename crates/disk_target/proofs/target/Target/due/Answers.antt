@@ -1,4 +1,4 @@
-use Rattle.std.proofs.Common.{◌≡◌, ◌∙◌, refl, sym, subst, Option, Some}
+use Rattle.std.proofs.Common.{◌≡◌, ◌∙◌, refl, sym, subst, Option}
 use Rattle.bus_trace.specs.declared.connection.Connection.{Connection}
 use Rattle.scenario.specs.declared.value.TargetDef.{TargetDef}
 use Rattle.bus_due.specs.Due.{reset_from}

@@ -1,4 +1,4 @@
-use Rattle.std.proofs.Common.{ℕ, ◌∙◌, refl, sym, subst, None}
+use Rattle.std.proofs.Common.{◌∙◌, refl, sym, subst, None}
 use Rattle.scenario.specs.declared.value.TargetDef.{TargetDef}
 use Rattle.bus_due.specs.Due.{reset_from}
 use Rattle.bus_due.specs.Next.{due}

@@ -1,4 +1,4 @@
-use Rattle.std.proofs.Common.{sym, subst, Option, Some}
+use Rattle.std.proofs.Common.{subst, Option, Some}
 use Rattle.bus_trace.specs.declared.connection.Connection.{Connection}
 use Rattle.scenario.specs.declared.value.TargetDef.{TargetDef}
 use Rattle.disk_target.specs.Bytes.{IsOwnIf}
