@@ -1,5 +1,5 @@
 -- What a target decides by in a connection of its own, with the bytes that its process gives.
-use Rattle.std.specs.Prelude.{ℕ, ◌≡◌, ◌==◌, ◌*◌, ◌-◌, ◌^◌, min, Bool, true, false, List, Option, Some, None}
+use Rattle.std.specs.Prelude.{ℕ, ◌≡◌, ◌==◌, ◌*◌, ◌-◌, ◌^◌, min, if◌then◌else◌, ◌&&◌, not, Bool, true, false, List, Option, Some, None}
 use Rattle.bus_trace.specs.declared.Row.{Row}
 use Rattle.bus_trace.specs.declared.connection.Connection.{Connection}
 use Rattle.bus_trace.specs.Terms.{connection}
@@ -56,6 +56,11 @@ gives_data phases.DataOut next = false
 abbrev pub IsOwnIf : List Row → ℕ → Option Connection → Type 0
 IsOwnIf rows dev None = (n : Connection) → IsOwnConnection rows dev n → (bus rows).rst ≡ true
 IsOwnIf rows dev (Some n) = IsOwnConnection rows dev n × ((bus rows).rst ≡ false)
+
+-- This connection, where it is one of this target and RST is false.
+abbrev pub own_in : Option Connection → Bool → ℕ → Option Connection
+own_in None rst dev = None
+own_in (Some n) rst dev = if (n.target == dev) && not rst then Some n else None
 
 -- A connection of others, while RST is false.
 pub record IsOthers (rows : List Row) (dev : ℕ) (n : Connection) : Type 0 where

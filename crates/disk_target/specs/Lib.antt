@@ -4,3 +4,4 @@ pub mod Processes
 pub mod Attended
 pub mod Targets
 pub mod Turns
+pub mod Knowns

@@ -6,7 +6,7 @@ ghost use Rattle.bus_lines.specs.BusView.{IsBusViewOf};
 ghost use Rattle.target_course.specs.Courses.{name_of};
 ghost use Rattle.target_course.specs.States.{IsReadyWithin};
 ghost use Rattle.target_course.specs.declared.course.Name.{Name as NameValue};
-ghost use Rattle.disk_target.specs.Bytes.{status_in, blocks_of, taken_by, gives_data, IsOwnIf, IsOthersIf};
+ghost use Rattle.disk_target.specs.Bytes.{status_in, blocks_of, taken_by, gives_data, own_in, IsOwnIf, IsOthersIf};
 
 use bus_base::Dev;
 use bus_dialogue::{Next, Phase};
@@ -75,7 +75,8 @@ pub fn gives_data(phase: Phase, next: Next) -> bool
 
 /// The connection that stands, where this is its target and RST is false.
 pub fn own_connection(view: &BusView, dev: Dev) -> Option<Connection>
-    ensures { (rows : List Row) → IsBusViewOf rows view.now → IsOwnIf rows dev result }
+    ensures value { result ≡ own_in view.now.connection view.now.lines.present.rst dev }
+    ensures trace { (rows : List Row) → IsBusViewOf rows view.now → IsOwnIf rows dev result }
 {
     match view.connection() {
         Some(connection) if connection.target.get() == dev && !view.bus().rst() => Some(connection),
@@ -85,7 +86,8 @@ pub fn own_connection(view: &BusView, dev: Dev) -> Option<Connection>
 
 /// The connection that stood before the last row.
 pub fn connection_before(view: &BusView) -> Option<Connection>
-    ensures { (rows : List Row) (row : Row) → IsBusViewOf (row ∷ rows) view.now → result ≡ connection rows }
+    ensures value { result ≡ view.now.effect.before }
+    ensures trace { (rows : List Row) (row : Row) → IsBusViewOf (row ∷ rows) view.now → result ≡ connection rows }
 {
     view.effect().before
 }
@@ -109,6 +111,19 @@ pub fn other_connection(view: &BusView, dev: Dev) -> Option<Connection>
 {
     match view.connection() {
         Some(connection) if connection.target.get() != dev && !view.bus().rst() => Some(connection),
+        _ => None,
+    }
+}
+
+/// The connection that stood before the last row, where this was not its target and RST was false.
+pub fn other_before(view: &BusView, dev: Dev) -> Option<Connection>
+    ensures { (rows : List Row) (row : Row) → IsBusViewOf (row ∷ rows) view.now → IsOthersIf rows dev result }
+{
+    let effect = view.effect();
+    match effect.before {
+        Some(connection) if connection.target.get() != dev && !effect.change.before.rst() => {
+            Some(connection)
+        }
         _ => None,
     }
 }

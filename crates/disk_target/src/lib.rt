@@ -4,10 +4,11 @@
 //! far its processes have come, with whom it has negotiated, which bytes came of its present writes, and, in a
 //! connection of its own, what it has heard in that ([`Course`](target_course::Course)) with the reply of the process
 //! that it serves. It asks its units what they tell of that process, and for the two bytes of data that it may drive
-//! next, and so says what it does next and when, and which events it shows with a row. [`Processes`] keeps the units
-//! with the [`Standing`] of the process of the connection: whether that stands in the queue of its unit, or outside it
-//! with a reply of its own. Stands on `target_course`, `target_units`, `disk_unit`, `scsi_device` and the definitions
-//! of `disk_array` and `bus_due`.
+//! next, and so says what it does next and when, and which events it shows with a row. What it decides by in a
+//! connection of its own it keeps (`specs/Knowns.antt`), and makes it anew only with a row that changes more of it than
+//! the plan. [`Processes`] keeps the units with the [`Standing`] of the process of the connection: whether that stands
+//! in the queue of its unit, or outside it with a reply of its own. Stands on `target_course`, `target_units`,
+//! `disk_unit`, `scsi_device` and the definitions of `disk_array` and `bus_due`.
 //!
 //! Public contract: after `new` and a `see` for each row each part knows what the rows made known
 //! (`specs/Targets.antt`, `IsTargetAfter`). So what a target does next is exactly what is due of it, what it shows with
@@ -18,6 +19,7 @@
 #![tactic(auto)]
 
 mod bytes;
+mod known;
 mod others;
 mod processes;
 mod standing;

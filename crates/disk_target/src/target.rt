@@ -36,17 +36,19 @@ ghost use Rattle.target_course.specs.Shown.{shown_list};
 ghost use Rattle.target_course.specs.States.{IsNoInitiator, IsOwnConnection};
 ghost use Rattle.target_units.specs.Units.{AreUnitsOf, reply_at, unit_in};
 ghost use Rattle.target_course.specs.declared.course.Name.{Name as NameValue};
-ghost use Rattle.disk_target.specs.Bytes.{taken_by, DecidesAs};
+ghost use Rattle.disk_target.specs.Bytes.{DecidesAs, IsOthers};
 ghost use Rattle.disk_target.specs.Processes.{events_of_row};
+ghost use Rattle.disk_target.specs.Knowns.{IsKnownBy, IsKnownIf};
 ghost use Rattle.disk_target.specs.Targets.{AreInTime, AreTied, IsCourseIf, IsServable, IsTargetAfter};
 ghost use Rattle.disk_target.specs.Turns.{IsTurnOf};
 
 use crate::bytes::{
-    Decision, bounded, connection_before, gives_data, no_bytes, other_connection, own_before,
-    own_connection, status_in, taken_by, unit_named,
+    Decision, bounded, connection_before, gives_data, no_bytes, other_before, other_connection,
+    own_before, own_connection,
 };
+use crate::known::{Known, is_still, known_of, see_known};
 use crate::others::next_in_others;
-use crate::processes::Processes;
+use crate::processes::{Processes, units_stay_by_row};
 use crate::turn::{
     Turn, course_of, is_opening, no_turn, process_known, reply_seen, see_beginning, see_course,
     see_events,
@@ -57,13 +59,13 @@ use bus_due::{hearings_are_plain, kept_is_plain};
 use bus_reactions::Due;
 use bus_trace::{Connection, Row};
 use disk_array::arrays_are_sound;
-use disk_unit::{Plan, Reply};
+use disk_unit::Reply;
 use scenario::{FaultDef, Scenario, TargetDef};
 use scsi_device::{Act, Itself, scenarios_fit_the_bus};
 use std::alloc::Global;
 use std::marker::Model;
 use target_course::{
-    Course, DataBytes, Gathered, Knowledge, Negotiated, ProcessState, Progress, Serving, Shown,
+    Course, DataBytes, Gathered, Knowledge, Negotiated, Progress, Serving, Shown,
     dues_are_of_targets, leaving_by, no_plan, phase_of, place_in_run, process_byte_place,
     target_next,
 };
@@ -83,11 +85,14 @@ pub struct Target {
     reply: Option<Reply>,
     // How often ACK had risen in the present phase as of the last row.
     answers: u64,
+    // In a connection of its own: what it decides by, as long as none of all that changes.
+    known: Option<Known>,
 }
 
 impl Model for Target {
     ghost use Rattle.std.specs.Prelude.{◌<◌, ◌≤◌};
     ghost use Rattle.disk_target.specs.Targets.{TargetValue};
+    ghost use Rattle.disk_target.specs.Knowns.{IsKnownIf};
 
     ghost Value = { TargetValue };
 
@@ -104,7 +109,8 @@ impl Model for Target {
       answers = a.answers;
     } };
 
-    ghost invariant = { λ a. (a.def.dev < 8) × (a.def.latency ≤ 100) };
+    ghost invariant = { λ a. (a.def.dev < 8) × (a.def.latency ≤ 100)
+        × IsKnownIf a.def a.processes.units a.progress a.reply a.course a.known };
 }
 
 // The line of this target.
@@ -146,6 +152,7 @@ impl Target {
             course: None,
             reply: None,
             answers: 0,
+            known: None,
         })
     }
 
@@ -164,59 +171,20 @@ impl Target {
         }
     }
 
-    // What its units and its counts tell of the process of this course, which is of this unit and of this initiator.
-    fn state_at(&self, unit: u8, from: Dev, course: &Course) -> ProcessState
-        requires unit { unit < 8 }
+    // What it decides by in this connection of its own, where it has not kept it since the last row.
+    fn known_anew(&self, from: Dev, course: &Course) -> Known
         requires device { from < 8 }
-        ensures state { (s : ScenarioValue) (rows : List Row) (p : Process) → IsTargetAfter s rows self.now
-            → length rows < 2 ^ 64 → process_of s course.now.id ≡ Some p → course.now.id ≡ p.id
-            → p.target ≡ self.now.def.dev → p.unit ≡ unit → p.initiator ≡ from
-            → self.now.reply ≡ reply_told (reply_in (array_of s (run_state s rows)).replies p.id)
-            → IsStateOf s (run_state s rows) p result }
-        ensures outlook { (s : ScenarioValue) (rows : List Row) (p : Process) → IsTargetAfter s rows self.now
-            → is_initiator s.hosts from ≡ true → p.target ≡ self.now.def.dev → p.unit ≡ unit → p.initiator ≡ from
-            → p.cdb ≡ course.now.block
-            → (is_writing p ≡ true → ((reply_now (array_of s (run_state s rows)) p).status == GOOD) ≡ true
-            → taken_by p.cdb (size_of (unit_state_at (array_of s (run_state s rows)).units p.target p.unit))
-            ≡ length p.sent)
-            → IsOutlookOf s (run_state s rows) p result }
-        ensures count { result.plan.in_len
-            ≡ length (reply_at (unit_in self.now.units.units unit) from course.now.block).bytes }
-        ensures taken { result.plan.out_len ≡ taken_by course.now.block result.size }
+        ensures from { result.from ≡ from }
+        ensures known { IsKnownBy self.now.def self.now.units self.now.progress self.now.reply course.now result }
     {
-        let counts = self.progress.counts(course.id());
-        let size = self.processes.units().block_size(unit) as u64;
-        let plan = self.processes.units().plan(unit, from, course.block());
-        ProcessState {
-            in_hold: self.processes.units().holds(unit, from),
-            runs: counts.runs,
-            recoveries: counts.recoveries,
-            size,
-            room: self.processes.units().room(unit),
-            plan: Plan {
-                out_len: taken_by(course.block(), size),
-                ..plan
-            },
-            reply: status_in(self.reply),
-        }
-    }
-
-    // The same, in a connection with this initiator, where the process is named so.
-    fn process_state(&self, unit: u8, from: Dev, course: &Course) -> ProcessState
-        requires unit { unit < 8 }
-        requires device { from < 8 }
-        ensures told { (s : ScenarioValue) (rows : List Row) (n : Connection) → FitsBus s
-            → IsServable s rows self.now.def → IsTargetAfter s rows self.now
-            → IsCourseOf s rows self.now.def.dev course.now → IsOwnConnection rows self.now.def.dev n
-            → (bus rows).rst ≡ false → n.initiator ≡ from
-            → ((name : NameValue) → course.now.named ≡ Some name → name.unit < 8 → unit ≡ name.unit)
-            → AreToldOf s rows course.now result }
-        ensures count { result.plan.in_len
-            ≡ length (reply_at (unit_in self.now.units.units unit) from course.now.block).bytes }
-        ensures taken { result.plan.out_len ≡ taken_by course.now.block result.size }
-    {
-        scenarios_fit_the_bus();
-        self.state_at(unit, from, course)
+        known_of(
+            &self.def,
+            self.processes.units(),
+            &self.progress,
+            self.reply,
+            from,
+            course,
+        )
     }
 
     // The byte at a place of those that a command would give, which are so many.
@@ -275,9 +243,44 @@ impl Target {
         }
     }
 
+    // By what it knows in a connection of its own.
+    fn decision_by(&self, observer: &Observer, course: &Course, known: &Known) -> Decision
+        requires known { IsKnownBy self.now.def self.now.units self.now.progress self.now.reply course.now known.now }
+        ensures def { result.serving.def ≡ self.now.def }
+        ensures fits { AreFit result.serving.plan.messages }
+        ensures trace { (s : ScenarioValue) (rows : List Row) (n : Connection) → FitsBus s
+            → IsObserverOf rows observer.now → AreOfDevices rows → heard s rows ≡ true
+            → IsServable s rows self.now.def → IsTargetAfter s rows self.now
+            → IsCourseOf s rows self.now.def.dev course.now → IsOwnConnection rows self.now.def.dev n
+            → (bus rows).rst ≡ false → n.initiator ≡ known.now.from
+            → DecidesAs s rows self.now.def result.serving result.bytes }
+    {
+        scenarios_fit_the_bus();
+        kept_is_plain();
+        let phase = phase_of(observer.view().bus());
+        let bytes = if observer.begun() && gives_data(phase, course.plan().next) {
+            let count = known.state.plan.in_len;
+            self.bytes_at(
+                observer,
+                known.unit,
+                known.from,
+                course.block(),
+                count,
+                &known.serving,
+            )
+        } else {
+            no_bytes()
+        };
+        Decision {
+            serving: known.serving,
+            bytes,
+        }
+    }
+
     // What it decides by in a connection of its own with this initiator.
     fn decision_in(&self, observer: &Observer, from: Dev, course: &Course) -> Decision
         requires device { from < 8 }
+        requires course { self.now.course ≡ Some course.now }
         ensures def { result.serving.def ≡ self.now.def }
         ensures fits { AreFit result.serving.plan.messages }
         ensures trace { (s : ScenarioValue) (rows : List Row) (n : Connection) → FitsBus s
@@ -287,19 +290,10 @@ impl Target {
             → (bus rows).rst ≡ false → n.initiator ≡ from
             → DecidesAs s rows self.now.def result.serving result.bytes }
     {
-        scenarios_fit_the_bus();
-        kept_is_plain();
-        let unit = unit_named(course);
-        let state = self.process_state(unit, from, course);
-        let serving = course.serving(&self.def, &state);
-        let phase = phase_of(observer.view().bus());
-        let bytes = if observer.begun() && gives_data(phase, course.plan().next) {
-            let count = state.plan.in_len;
-            self.bytes_at(observer, unit, from, course.block(), count, &serving)
-        } else {
-            no_bytes()
-        };
-        Decision { serving, bytes }
+        match &self.known {
+            Some(known) if known.from == from => self.decision_by(observer, course, known),
+            _ => self.decision_by(observer, course, &self.known_anew(from, course)),
+        }
     }
 
     // Where no connection of its own stands.
@@ -416,7 +410,29 @@ impl Target {
         Act::of(self.due(observer, fault), now)
     }
 
+    // By what it knows in this connection of its own.
+    fn shown_by(
+        &self,
+        observer: &Observer,
+        connection: &Connection,
+        course: &Course,
+        known: &Known,
+    ) -> Shown
+        requires known { IsKnownBy self.now.def self.now.units self.now.progress self.now.reply course.now known.now }
+        ensures { (s : ScenarioValue) (rows : List Row) (row : Row) → FitsBus s
+            → IsObserverOf (row ∷ rows) observer.now → AreOfDevices (row ∷ rows) → heard s (row ∷ rows) ≡ true
+            → IsServable s rows self.now.def → IsTargetAfter s rows self.now
+            → IsCourseOf s rows self.now.def.dev course.now
+            → IsOwnConnection rows self.now.def.dev connection.now → (bus rows).rst ≡ false
+            → (bus (row ∷ rows)).rst ≡ false → connection.now.initiator ≡ known.now.from
+            → shown_list result ≡ events_of_target s rows row connection.now }
+    {
+        let after = observer.view().connection();
+        course.shown(&known.serving, connection, observer.hearing(), after)
+    }
+
     fn shown_in(&self, observer: &Observer, connection: &Connection, course: &Course) -> Shown
+        requires course { self.now.course ≡ Some course.now }
         ensures { (s : ScenarioValue) (rows : List Row) (row : Row) → FitsBus s
             → IsObserverOf (row ∷ rows) observer.now → AreOfDevices (row ∷ rows) → heard s (row ∷ rows) ≡ true
             → IsServable s rows self.now.def → IsTargetAfter s rows self.now
@@ -424,11 +440,11 @@ impl Target {
             → IsOwnConnection rows self.now.def.dev connection.now → (bus rows).rst ≡ false
             → (bus (row ∷ rows)).rst ≡ false → shown_list result ≡ events_of_target s rows row connection.now }
     {
-        let unit = unit_named(course);
-        let state = self.process_state(unit, connection.initiator.get(), course);
-        let serving = course.serving(&self.def, &state);
-        let after = observer.view().connection();
-        course.shown(&serving, connection, observer.hearing(), after)
+        let from = connection.initiator.get();
+        match &self.known {
+            Some(known) if known.from == from => self.shown_by(observer, connection, course, known),
+            _ => self.shown_by(observer, connection, course, &self.known_anew(from, course)),
+        }
     }
 
     /// The events that it shows with the last row, which the observer has seen and it has not, in a connection of which
@@ -449,8 +465,16 @@ impl Target {
         }
     }
 
-    // What it has of this connection of its own before the last row, which the observer has seen and it has not.
-    fn turn_in(&self, observer: &Observer, connection: &Connection, course: &Course) -> Turn
+    // What it has of this connection of its own before the last row, which the observer has seen and it has not, by
+    // what it knows in it.
+    fn turn_by(
+        &self,
+        observer: &Observer,
+        connection: &Connection,
+        course: &Course,
+        known: &Known,
+    ) -> Turn
+        requires known { IsKnownBy self.now.def self.now.units self.now.progress self.now.reply course.now known.now }
         ensures unit { result.unit < 8 }
         ensures device { result.from < 8 }
         ensures fits { AreFit result.leaving.messages }
@@ -458,27 +482,43 @@ impl Target {
             → IsObserverOf (row ∷ rows) observer.now → AreOfDevices (row ∷ rows) → AreTied s (row ∷ rows)
             → AreInTime (row ∷ rows) → IsTargetAfter s rows self.now
             → IsOwnConnection rows self.now.def.dev connection.now → (bus rows).rst ≡ false
-            → self.now.course ≡ Some course.now → IsTurnOf s rows row self.now.def self.now.course result }
+            → self.now.course ≡ Some course.now → connection.now.initiator ≡ known.now.from
+            → IsTurnOf s rows row self.now.def self.now.course result }
     {
         kept_is_plain();
         hearings_are_plain();
         scenarios_fit_the_bus();
-        let unit = unit_named(course);
-        let from = connection.initiator.get();
-        let state = self.process_state(unit, from, course);
-        let serving = course.serving(&self.def, &state);
+        let serving = &known.serving;
         let hearing = observer.hearing();
         let after = observer.view().connection();
         Turn {
             process: process_known(course),
-            unit,
-            from,
+            unit: known.unit,
+            from: known.from,
             aborts: course.plan().said.aborts.is_some(),
-            leaving: leaving_by(&serving, hearing.begun, hearing.change.before),
+            leaving: leaving_by(serving, hearing.begun, hearing.change.before),
             place: place_in_run(self.def.disc, &serving.task, self.answers),
             opening: is_opening(connection, hearing, course),
-            plan: state.plan,
-            shown: course.shown(&serving, connection, hearing, after),
+            plan: known.state.plan,
+            shown: course.shown(serving, connection, hearing, after),
+        }
+    }
+
+    fn turn_in(&self, observer: &Observer, connection: &Connection, course: &Course) -> Turn
+        requires course { self.now.course ≡ Some course.now }
+        ensures unit { result.unit < 8 }
+        ensures device { result.from < 8 }
+        ensures fits { AreFit result.leaving.messages }
+        ensures trace { (s : ScenarioValue) (rows : List Row) (row : Row) → FitsBus s
+            → IsObserverOf (row ∷ rows) observer.now → AreOfDevices (row ∷ rows) → AreTied s (row ∷ rows)
+            → AreInTime (row ∷ rows) → IsTargetAfter s rows self.now
+            → IsOwnConnection rows self.now.def.dev connection.now → (bus rows).rst ≡ false
+            → IsTurnOf s rows row self.now.def self.now.course result }
+    {
+        let from = connection.initiator.get();
+        match &self.known {
+            Some(known) if known.from == from => self.turn_by(observer, connection, course, known),
+            _ => self.turn_by(observer, connection, course, &self.known_anew(from, course)),
         }
     }
 
@@ -556,9 +596,53 @@ impl Target {
         }
     }
 
-    /// One more row, of any device, which shows these events, the newest first; the observer has seen it. `label` is
-    /// the process of the connection that stands after it, as the initiator of that connection knows it.
-    pub fn see(&mut self, observer: &Observer, row: &Row, label: ProcId, shown: &[Event])
+    // A row that shows nothing, in a connection of others that stands before and after it.
+    fn follow_others(&mut self, observer: &Observer, row: &Row, shown: &[Event])
+        requires device { row.now.dev < 8 }
+        requires timely { IsTimely (2 ^ 63) observer.now.view }
+        ensures def { self.new.def ≡ self.old.def }
+        ensures trace { (s : ScenarioValue) (rows : List Row) (m n : Connection) → FitsBus s
+            → IsObserverOf (row.now ∷ rows) observer.now
+            → AreOfDevices (row.now ∷ rows) → AreTied s (row.now ∷ rows)
+            → IsOthers rows self.old.def.dev m → IsOthers (row.now ∷ rows) self.old.def.dev n
+            → shown.now ≡ events_of_row s rows row.now → events_of_row s rows row.now ≡ []
+            → IsTargetAfter s rows self.old → IsTargetAfter s (row.now ∷ rows) self.new }
+    {
+        kept_is_plain();
+        hearings_are_plain();
+        scenarios_fit_the_bus();
+        units_stay_by_row();
+        let view = observer.view();
+        let hearing = observer.hearing();
+        let turn = no_turn();
+        self.progress.see(
+            turn.process,
+            &turn.leaving,
+            hearing,
+            connection_before(view),
+            view.connection(),
+        );
+        self.gathered.see(
+            turn.process,
+            turn.unit,
+            turn.place,
+            hearing,
+            connection_before(view),
+        );
+        self.negotiated.see(
+            turn.aborts,
+            hearing,
+            connection_before(view),
+            view.connection(),
+            shown,
+        );
+        self.itself.see(view, row);
+        self.answers = view.handshakes().answers();
+        self.known = None;
+    }
+
+    // One more row, in a connection of its own or outside all, or with events.
+    fn follow_own(&mut self, observer: &Observer, row: &Row, label: ProcId, shown: &[Event])
         requires device { row.now.dev < 8 }
         requires timely { IsTimely (2 ^ 63) observer.now.view }
         ensures def { self.new.def ≡ self.old.def }
@@ -574,6 +658,14 @@ impl Target {
         let hearing = observer.hearing();
         let turn = self.turn(observer);
         let begun = self.beginning(observer, label);
+        let still = is_still(
+            &turn,
+            hearing,
+            connection_before(view),
+            own_connection(view, self.def.dev),
+            &self.course,
+            shown,
+        );
         see_events(
             &mut self.processes,
             &self.gathered,
@@ -625,6 +717,37 @@ impl Target {
         );
         self.itself.see(view, row);
         self.answers = view.handshakes().answers();
+        see_known(
+            &mut self.known,
+            still,
+            &self.def,
+            self.processes.units(),
+            &self.progress,
+            self.reply,
+            &self.course,
+            own_connection(view, self.def.dev),
+        );
+    }
+
+    /// One more row, of any device, which shows these events, the newest first; the observer has seen it. `label` is
+    /// the process of the connection that stands after it, as the initiator of that connection knows it.
+    pub fn see(&mut self, observer: &Observer, row: &Row, label: ProcId, shown: &[Event])
+        requires device { row.now.dev < 8 }
+        requires timely { IsTimely (2 ^ 63) observer.now.view }
+        ensures def { self.new.def ≡ self.old.def }
+        ensures trace { (s : ScenarioValue) (rows : List Row) → FitsBus s → IsObserverOf (row.now ∷ rows) observer.now
+            → AreOfDevices (row.now ∷ rows) → AreTied s (row.now ∷ rows) → AreInTime (row.now ∷ rows)
+            → ((n : Connection) → IsOwnConnection (row.now ∷ rows) self.old.def.dev n
+            → IsLabelOf (item_of (run_state s (row.now ∷ rows)).story.link) label)
+            → shown.now ≡ events_of_row s rows row.now
+            → IsTargetAfter s rows self.old → IsTargetAfter s (row.now ∷ rows) self.new }
+    {
+        let view = observer.view();
+        let dev = self.def.dev;
+        match (other_before(view, dev), other_connection(view, dev)) {
+            (Some(_), Some(_)) if shown.is_empty() => self.follow_others(observer, row, shown),
+            _ => self.follow_own(observer, row, label, shown),
+        }
     }
 
     /// What it keeps of its units.

@@ -1,5 +1,5 @@
 //! What a target has of a connection of its own before a row.
-ghost use Rattle.std.specs.Prelude.{ℕ, ◌≡◌, ◌≤◌, ◌<◌, [], ◌∷◌, List, length, take, true, false, Some, None};
+ghost use Rattle.std.specs.Prelude.{ℕ, ◌≡◌, ◌≤◌, ◌<◌, [], ◌∷◌, List, length, take, is_some, true, false, Some, None};
 ghost use Rattle.bus_base.specs.declared.Event.TheVariants.{Aborted};
 ghost use Rattle.bus_trace.specs.declared.Row.{Row};
 ghost use Rattle.bus_trace.specs.declared.connection.Connection.{Connection as ConnectionValue};
@@ -17,10 +17,11 @@ ghost use Rattle.scenario.specs.Value.{ScenarioValue};
 ghost use Rattle.disk_array.specs.SoundArray.{HasSeats};
 ghost use Rattle.scsi_device.specs.Heard.{heard, is_opening_in};
 ghost use Rattle.scsi_device.specs.Lines.{FitsBus, IsTargetLine};
-ghost use Rattle.target_course.specs.Courses.{course_reselected, id_known, IsCourseOf, IsReadyProcess};
+ghost use Rattle.target_course.specs.Courses.{course_after, course_reselected, id_known, CourseState, IsCourseOf, IsReadyProcess};
 ghost use Rattle.target_course.specs.Fits.{AreFit};
 ghost use Rattle.target_course.specs.Gathered.{bytes_of, gathering_at};
 ghost use Rattle.target_course.specs.Replies.{IsReplyOf};
+ghost use Rattle.target_course.specs.Shown.{shown_list};
 ghost use Rattle.target_course.specs.States.{IsOwnConnection};
 ghost use Rattle.disk_target.specs.Bytes.{IsOwnIf};
 ghost use Rattle.disk_target.specs.Processes.{AreKeptOf, events_of_row};
@@ -211,6 +212,7 @@ fn see_served(
         → IsOwnConnection rows d.dev n → (bus rows).rst ≡ false → is_reset shown.now ≡ false
         → abort_of shown.now ≡ None → turn.now.opening ≡ false
         → AreAttendedOf s rows d.dev processes.old → AreAttendedOn s rows row d.dev processes.new }
+    ensures nothing { shown.now ≡ [] → processes.new ≡ processes.old }
     ensures dev { processes.new.units.dev ≡ processes.old.units.dev }
     ensures seek { processes.new.units.seek ≡ processes.old.units.seek }
 {
@@ -282,6 +284,7 @@ fn see_own(
         → IsRowFor s rows row d (Some course.now) turn.now gathered.now shown.now now
         → IsOwnConnection rows d.dev n → (bus rows).rst ≡ false → is_reset shown.now ≡ false
         → AreAttendedOf s rows d.dev processes.old → AreAttendedOn s rows row d.dev processes.new }
+    ensures nothing { shown.now ≡ [] → processes.new ≡ processes.old }
     ensures dev { processes.new.units.dev ≡ processes.old.units.dev }
     ensures seek { processes.new.units.seek ≡ processes.old.units.seek }
 {
@@ -312,6 +315,7 @@ pub fn see_events(
     ensures trace { (s : ScenarioValue) (rows : List Row) (row : Row) (d : TargetDef)
         → IsRowFor s rows row d course.now turn.now gathered.now shown.now now → IsOwnIf rows d.dev before
         → AreAttendedOf s rows d.dev processes.old → AreAttendedOn s rows row d.dev processes.new }
+    ensures nothing { shown.now ≡ [] → processes.new ≡ processes.old }
     ensures dev { processes.new.units.dev ≡ processes.old.units.dev }
     ensures seek { processes.new.units.seek ≡ processes.old.units.seek }
 {
@@ -350,7 +354,9 @@ pub fn see_beginning(processes: &mut Processes, before: Option<Connection>, own:
 // The course, where the connection of its own goes on.
 fn go_on(course: &mut Option<Course>, hearing: &Hearing, turn: &Turn)
     requires fits { AreFit turn.now.leaving.messages }
-    ensures { (s : ScenarioValue) (rows : List Row) (row : Row) (d : TargetDef) (m : ConnectionValue)
+    ensures exact { (c : CourseState) → course.old ≡ Some c
+        → course.new ≡ Some (course_after hearing.now turn.now.leaving c) }
+    ensures trace { (s : ScenarioValue) (rows : List Row) (row : Row) (d : TargetDef) (m : ConnectionValue)
         → AreOfDevices (row ∷ rows) → AreTied s (row ∷ rows) → IsTargetLine s d → hearing.now ≡ hearing_in rows row
         → IsOwnConnection rows d.dev m → (bus rows).rst ≡ false → IsTurnIf s rows row d course.old turn.now
         → IsCourseIf s rows d.dev course.old → IsCourseIf s (row ∷ rows) d.dev course.new }
@@ -372,7 +378,9 @@ pub fn see_course(
     own: Option<Connection>,
 )
     requires fits { AreFit turn.now.leaving.messages }
-    ensures { (s : ScenarioValue) (rows : List Row) (row : Row) (d : TargetDef) → AreOfDevices (row ∷ rows)
+    ensures goes_on { (c : CourseState) → is_some before ≡ true → is_some own ≡ true → course.old ≡ Some c
+        → course.new ≡ Some (course_after hearing.now turn.now.leaving c) }
+    ensures trace { (s : ScenarioValue) (rows : List Row) (row : Row) (d : TargetDef) → AreOfDevices (row ∷ rows)
         → AreTied s (row ∷ rows) → IsTargetLine s d → hearing.now ≡ hearing_in rows row → before ≡ connection rows
         → IsOwnIf (row ∷ rows) d.dev own → IsTurnOf s rows row d course.old turn.now
         → (before ≡ None → IsCourseIf s (row ∷ rows) d.dev begun)
@@ -395,7 +403,9 @@ pub fn reply_seen(
     before: Option<Connection>,
     own: Option<Connection>,
 ) -> Option<Reply>
-    ensures { (s : ScenarioValue) (rows : List Row) (row : Row) (d : TargetDef) → FitsBus s
+    ensures nothing { is_some before ≡ true → is_some own ≡ true → shown_list turn.now.shown ≡ []
+        → result ≡ was }
+    ensures trace { (s : ScenarioValue) (rows : List Row) (row : Row) (d : TargetDef) → FitsBus s
         → AreOfDevices (row ∷ rows) → AreTied s (row ∷ rows) → before ≡ connection rows
         → IsOwnIf (row ∷ rows) d.dev own → ((n : ConnectionValue) → IsOwnConnection rows d.dev n
         → (bus rows).rst ≡ false → (bus (row ∷ rows)).rst ≡ false

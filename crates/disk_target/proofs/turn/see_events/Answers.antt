@@ -29,3 +29,8 @@ returns-in-Some-course-clause-trace c = λ s rows row d h before att.
     let none = sym (c.is_reset_if.ensures ∙ (λ i. is_reset_if (c.event_at.ensures i))) ∙ c.if-is_reset_if.false in
     c.see_own.ensures.trace s rows row d c.in-Some.field-0
     (subst (λ (x : Option CourseState). IsRowFor s rows row d x c.args.turn.now c.args.gathered.now c.args.shown.now c.args.now) c.in-Some-course.is h) it.0 it.1 none att
+
+pub returns-then-is_reset_if-clause-nothing : goal.returns-then-is_reset_if-clause-nothing
+returns-then-is_reset_if-clause-nothing c = λ e.
+    let bad : false ≡ true = (λ i. is_reset (sym e i)) ∙ sym (c.is_reset_if.ensures ∙ (λ i. is_reset_if (c.event_at.ensures i))) ∙ c.if-is_reset_if.true in
+    absurd cc

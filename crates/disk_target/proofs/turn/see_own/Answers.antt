@@ -1,6 +1,7 @@
 use Rattle.std.proofs.Common.{◌∙◌, [], ◌∷◌, sym}
 use Rattle.std.proofs.lemmas.Bool.{eqb-true}
 use Rattle.bus_base.specs.declared.Event.TheVariants as events
+use Rattle.scsi_device.proofs.Finds.{none_some}
 use Rattle.disk_target.specs.Turns.{abort_if, abort_of, is_reset}
 use Rattle.disk_target.proofs.RowEnds.{abort_shown, opening_on, standing_ends}
 use Rattle.disk_target.proofs.turn.see_own.Goals as goal
@@ -33,3 +34,7 @@ pub returns-in-None-2-clause-trace : goal.returns-in-None-2-clause-trace
 returns-in-None-2-clause-trace c = λ s rows row d n h own calm reset att.
     let none = sym (c.abort_if.ensures ∙ (λ i. abort_if (c.event_at.ensures i))) ∙ c.in-None.is in
     c.see_served.ensures.trace s rows row d n h own calm reset none c.if-turn.false att
+
+pub returns-in-Some-clause-nothing : goal.returns-in-Some-clause-nothing
+returns-in-Some-clause-nothing c = λ e.
+    absurd (none_some c.in-Some.abort ((λ i. abort_of (sym e i)) ∙ sym (c.abort_if.ensures ∙ (λ i. abort_if (c.event_at.ensures i))) ∙ c.in-Some.is))

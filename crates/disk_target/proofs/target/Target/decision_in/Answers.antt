@@ -1,90 +1,12 @@
-use Rattle.std.proofs.Common.{ℕ, ◌≡◌, ◌<◌, ◌∙◌, true, false, List, [], sym, subst, Some, None}
-use Rattle.std.proofs.lemmas.Bool.{eqb-true}
-use Rattle.bus_trace.specs.Trace.{bus, drives}
-use Rattle.bus_lines.specs.Handshakes.{handshakes}
-use Rattle.scenario.specs.declared.value.TargetDef.{TargetDef}
-use Rattle.disk_array.specs.Seats.{is_initiator}
-use Rattle.bus_dialogue.specs.Hearing.{begun}
-use Rattle.bus_dialogue.specs.NextPhase.{phase_of}
-use Rattle.bus_due.specs.Defs.{target_def_of}
-use Rattle.bus_due.specs.RunState.{array_of}
-use Rattle.bus_due.specs.RunSteps.{run_state}
-use Rattle.bus_due.specs.Sights.{serving_of}
-use Rattle.bus_due.specs.Tasks.{given_if, given_of, reply_now}
-use Rattle.scsi_device.proofs.Finds.{some_is}
-use Rattle.scsi_device.specs.Told.{told, pace_of}
-use Rattle.target_course.specs.Alike.{AreAlike}
-use Rattle.target_course.specs.Courses.{name_of, IsCourseOf}
-use Rattle.target_course.specs.Servings.{serving_with}
-use Rattle.target_course.specs.States.{offering_in}
-use Rattle.target_course.proofs.CourseAgrees.{front_heard}
-use Rattle.disk_target.specs.Bytes.{gives_data, DecidesAs}
-use Rattle.disk_target.proofs.Data.{knows_in_data, served_of}
-use Rattle.disk_target.proofs.Lines.{line_of_process}
-use Rattle.disk_target.proofs.Offers.{alike_without}
-use Rattle.disk_target.proofs.Telling.{none_given}
-use Rattle.disk_target.proofs.target.Target.decision_in.Goals.{else-begun-via-then-begun+else-gives_data, else-begun-via-else-begun}
+use Rattle.std.proofs.Common.{subst}
+use Rattle.disk_target.specs.Knowns.{IsKnownIf}
+use Rattle.disk_target.specs.Targets.{TargetValue}
+use Rattle.disk_target.proofs.Knowing.{kept}
 use Rattle.disk_target.proofs.target.Target.decision_in.Goals as goal
 
-pub returns-then-gives_data-clause-def : goal.returns-then-gives_data-clause-def
-returns-then-gives_data-clause-def c = some_is _ _ (λ i. (c.serving-serving.ensures.exact [] i).def) ∙ (λ i. (c.self.view_is i).def)
-
-pub returns-else-begun-clause-def : goal.returns-else-begun-clause-def
-returns-else-begun-clause-def c = some_is _ _ (λ i. (c.serving-serving.ensures.exact [] i).def) ∙ (λ i. (c.self.view_is i).def)
-
-pub returns-then-gives_data-clause-trace : goal.returns-then-gives_data-clause-trace
-returns-then-gives_data-clause-trace c = λ s rows n fits o d e able h course own calm from.
-    let plain = c.kept_is_plain.ensures.rows s rows d in
-    let here = course n own calm in
-    let lines = plain.bus ∙ sym (c.bus.ensures.trace rows (c.view.ensures.trace rows o)) in
-    let next = sym (λ i. (here.plan_is i).next) ∙ (λ i. (sym c.plan.ensures i).next) in
-    let gives = (λ i. gives_data (phase_of (lines i)) (next i)) ∙ (λ i. gives_data (sym c.phase_of-phase.ensures i) c.plan.result.now.next) ∙ sym c.gives_data.ensures ∙ c.if-gives_data.true in
-    let known = knows_in_data s rows n c.args.course.now (front_heard s rows n plain e own.stands calm) here (plain.begun ∙ sym (c.begun.ensures rows o) ∙ c.if-begun.true) gives in
-    let p = known.0 in
-    let knows = known.1 in
-    let ends = here.ends_are p knows.is in
-    let line = line_of_process s p.id p (λ m x z. c.scenarios_fit_the_bus.ensures.commands s m x fits z) (served_of s rows p knows.is) in
-    let state = c.process_state-state.ensures.told s rows n fits able h course own calm from c.unit_named-unit.ensures.named in
-    let outlook = state.outlook p knows.is knows.id knows.named knows.block in
-    let same : c.self.inside.def ≡ c.args.self.now.def = λ i. (c.self.view_is i).def in
-    subst (λ (t : TargetDef). DecidesAs s rows t c.serving-serving.result c.bytes_at-bytes.result) same
-    (record {
-      given = (reply_now (array_of s (run_state s rows)) p).bytes;
-      bytes_are = c.bytes_at-bytes.ensures s rows (array_of s (run_state s rows)) (run_state s rows).current_since p o h.units_are
-          ((λ i. is_initiator s.hosts (sym (ends.initiator ∙ from) i)) ∙ line.host)
-          (ends.target ∙ eqb-true n.target c.args.self.now.def.dev own.own ∙ sym h.units_dev)
-          (sym (c.unit_named-unit.ensures.named (name_of p) knows.named line.unit))
-          (ends.initiator ∙ from) (sym knows.block ∙ sym c.block.ensures.value) (λ i. (outlook.plan i).in_len);
-      alike = λ m own calm.
-          subst (λ (bytes : List ℕ). AreAlike (begun rows) (drives rows c.self.inside.def.dev).req (bus rows).io (handshakes rows).requests (offering_in rows (serving_with c.serving-serving.result bytes)) (offering_in rows (serving_of s (run_state s rows) c.self.inside.def.dev)))
-          (λ i. given_if s (run_state s rows) (knows.is i))
-          (c.serving-serving.ensures.trace s rows m d (subst (λ (t : TargetDef). t.dev < 8) (sym same) h.line.below)
-          (subst (λ (t : TargetDef). target_def_of s t.dev ≡ Some t) (sym same) h.line.target_is) e state
-          (subst (λ (t : TargetDef). IsCourseOf s rows t.dev c.args.course.now) (sym same) course) own calm);
-    })
-
-pub returns-else-begun-clause-trace : goal.returns-else-begun-clause-trace
-returns-else-begun-clause-trace c = λ s rows n fits o d e able h course own calm from.
-    let state = c.process_state-state.ensures.told s rows n fits able h course own calm from c.unit_named-unit.ensures.named in
-    let same : c.self.inside.def ≡ c.args.self.now.def = λ i. (c.self.view_is i).def in
-    let lines = sym (c.bus.ensures.trace rows (c.view.ensures.trace rows o)) in
-    let gives : begun rows ≡ true → gives_data (phase_of (bus rows)) c.serving-serving.result.plan.next ≡ false = elim c.else-begun.branch [
-      | else-begun-via-then-begun+else-gives_data w ↦ λ (z : begun rows ≡ true).
-          (λ i. gives_data (phase_of (lines i)) ((c.serving-serving.ensures.exact [] i).plan).next)
-          ∙ (λ i. gives_data (sym c.phase_of-phase.ensures i) (sym w.plan.ensures i).next) ∙ sym w.gives_data.ensures ∙ w.if-gives_data.false
-      | else-begun-via-else-begun w ↦ λ (z : begun rows ≡ true). let never : true ≡ false = sym z ∙ sym (c.begun.ensures rows o) ∙ w.if-begun.false in absurd cc
-    ] in
-    subst (λ (t : TargetDef). DecidesAs s rows t c.serving-serving.result c.no_bytes-bytes.result) same
-    (record {
-      given = [];
-      bytes_are = record {
-        next_is = (λ i. (c.no_bytes-bytes.ensures i).next) ∙ sym (none_given _ _ _ _);
-        first_is = (λ i. (c.no_bytes-bytes.ensures i).first) ∙ sym (none_given _ _ _ _);
-      };
-      alike = λ m own calm.
-          alike_without (begun rows) (pace_of (told rows 0) None).pulsed (drives rows c.self.inside.def.dev).req (bus rows).io (bus rows) (handshakes rows)
-          (serving_with c.serving-serving.result []) (given_of s (run_state s rows)) [] (offering_in rows (serving_of s (run_state s rows) c.self.inside.def.dev)) gives
-          (c.serving-serving.ensures.trace s rows m d (subst (λ (t : TargetDef). t.dev < 8) (sym same) h.line.below)
-          (subst (λ (t : TargetDef). target_def_of s t.dev ≡ Some t) (sym same) h.line.target_is) e state
-          (subst (λ (t : TargetDef). IsCourseOf s rows t.dev c.args.course.now) (sym same) course) own calm);
-    })
+pub decision_by-requires : goal.decision_by-requires
+decision_by-requires c = record {
+  known = kept c.args.self.now c.self.inside.known c.args.course.now c.in-Some.known
+      (subst (λ (v : TargetValue). IsKnownIf v.def v.units v.progress v.reply v.course c.self.inside.known) c.self.view_is c.self.invariant.2)
+      c.requires.course c.in-Some.is;
+}

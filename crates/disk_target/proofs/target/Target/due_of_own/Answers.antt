@@ -6,6 +6,6 @@ use Rattle.disk_target.proofs.target.Target.due_of_own.Goals as goal
 
 pub returns-in-Some : goal.returns-in-Some
 returns-in-Some c = λ s rows f o d away e able h fault.
-    let own = subst (λ (x : Option Connection). IsOwnIf rows c.self.inside.def.dev x) c.in-Some.is (c.own_connection.ensures rows (c.view.ensures.trace rows o)) in
+    let own = subst (λ (x : Option Connection). IsOwnIf rows c.self.inside.def.dev x) c.in-Some.is (c.own_connection.ensures.trace rows (c.view.ensures.trace rows o)) in
     let it = subst (λ (t : TargetDef). IsOwnIf rows t.dev (Some c.in-Some.field-0)) (λ i. (c.self.view_is i).def) own in
     c.due_inside.ensures s rows c.in-Some.field-0 f o d away e able h it.0 it.1 fault

@@ -1,70 +1,20 @@
-use Rattle.std.proofs.Common.{ℕ, ◌∙◌, ◌∷◌, refl, sym, subst, Option}
-use Rattle.std.proofs.lemmas.Bool.{and_parts}
+use Rattle.std.proofs.Common.{◌∙◌, ◌∷◌, sym, subst, Option}
+use Rattle.std.proofs.lemmas.Bool.{eqb-true}
+use Rattle.std.proofs.lemmas.List.{nil_from_length}
 use Rattle.bus_trace.specs.declared.connection.Connection.{Connection}
-use Rattle.bus_trace.specs.Terms.{connection}
-use Rattle.bus_story.specs.BusState.{row_reading}
-use Rattle.bus_dialogue.specs.declared.exchange.Hearing.{Hearing}
-use Rattle.bus_due.specs.Faithful.{faithful, is_faithful}
-use Rattle.bus_due.specs.RunSteps.{run_state}
-use Rattle.target_course.specs.Gathered.{IsAtUnit, IsSentSo}
-use Rattle.target_course.specs.Negotiated.{IsHeardSo}
-use Rattle.target_course.specs.Progress.{IsLeftSo}
-use Rattle.disk_target.specs.Targets.{IsCourseIf, IsTargetAfter, TargetValue}
-use Rattle.disk_target.specs.Turns.{AreAttendedOf, IsTurnOf}
+use Rattle.scenario.specs.declared.value.TargetDef.{TargetDef}
+use Rattle.disk_target.specs.Bytes.{IsOthers, IsOthersIf}
 use Rattle.disk_target.proofs.target.Target.see.Goals as goal
 
-pub returns-clause-trace : goal.returns-clause-trace
-returns-clause-trace c = λ s rows fits o devices tied time labels shown_is h.
+pub returns-in-Some-Some-clause-trace : goal.returns-in-Some-Some-clause-trace
+returns-in-Some-Some-clause-trace c = λ s rows fits o devices tied time labels shown_is h.
     let row = c.args.row.now in
-    let v = c.self.inside in
-    let d = v.def in
-    let g = subst (λ (x : TargetValue). IsTargetAfter s rows x) (sym c.self.view_is) h in
+    let dev = c.self.inside.def.dev in
     let view = c.view-view.ensures.trace (row ∷ rows) o in
-    let hears = c.hearing-hearing.ensures (row ∷ rows) o in
-    let before = c.own_before.ensures rows row view in
-    let turn : IsTurnOf s rows row d v.course c.turn-turn.result = subst (λ (x : TargetValue). IsTurnOf s rows row x.def x.course c.turn-turn.result) (sym c.self.view_is) (c.turn-turn.ensures.trace s rows row fits o devices tied time h) in
-    let event = c.see_events.ensures.trace s rows row d
-    (record {
-      fits = fits;
-      devices = devices;
-      tied = tied;
-      line = g.line;
-      dev_is = g.gathered_dev;
-      gathered = g.gathered_are;
-      all = g.all_gathered;
-      course = g.course_is;
-      turn = turn;
-      shown_is = shown_is;
-      now_is = refl;
-    })
-    before (record { dev_is = g.units_dev; kept = record { sound = g.sound; units = g.units_are }; standing = g.standing_is }) in
-    let units : AreAttendedOf s (row ∷ rows) d.dev c.see_beginning.new.processes = c.see_beginning.ensures.trace s rows row d.dev devices tied (c.connection_before.ensures rows row view) (c.own_connection.ensures (row ∷ rows) view) event in
-    let sent = subst (λ (m : ℕ). IsSentSo s rows m c.hearing-hearing.result.now c.turn-turn.result.process c.turn-turn.result.place) (sym g.gathered_dev)
-    (subst (λ (w : Hearing). IsSentSo s rows d.dev w c.turn-turn.result.process c.turn-turn.result.place) (sym hears) turn.sends) in
-    let unit = subst (λ (m : ℕ). IsAtUnit s rows m c.hearing-hearing.result.now c.turn-turn.result.unit) (sym g.gathered_dev)
-    (subst (λ (w : Hearing). IsAtUnit s rows d.dev w c.turn-turn.result.unit) (sym hears) turn.at_unit) in
-    let left = subst (λ (m : ℕ). IsLeftSo s rows m c.hearing-hearing.result.now c.connection.result c.turn-turn.result.process c.turn-turn.result.leaving) (sym g.progress_dev)
-    (subst (λ (x : Option Connection). IsLeftSo s rows d.dev c.hearing-hearing.result.now x c.turn-turn.result.process c.turn-turn.result.leaving) (sym (c.connection.ensures.trace (row ∷ rows) view))
-    (subst (λ (w : Hearing). IsLeftSo s rows d.dev w (connection (row ∷ rows)) c.turn-turn.result.process c.turn-turn.result.leaving) (sym hears) turn.left)) in
-    let aborts = subst (λ (m : ℕ). IsHeardSo s rows m c.turn-turn.result.aborts) (sym g.negotiated_dev) turn.hears in
-    record {
-      line = g.line;
-      itself_dev = c.see-4.ensures.dev ∙ g.itself_dev;
-      units_dev = units.dev_is;
-      units_seek = (λ i. (c.see_beginning.ensures.units i).seek) ∙ c.see_events.ensures.seek ∙ g.units_seek;
-      progress_dev = c.see.ensures.dev ∙ g.progress_dev;
-      negotiated_dev = c.see-3.ensures.dev ∙ g.negotiated_dev;
-      gathered_dev = c.see-2.ensures.dev ∙ g.gathered_dev;
-      itself_is = c.see-4.ensures.trace s rows view g.itself_is;
-      units_are = units.kept.units;
-      sound = units.kept.sound;
-      progress_is = c.see.ensures.trace s rows row devices hears (c.connection_before-4.ensures rows row view) (c.connection.ensures.trace (row ∷ rows) view) (and_parts (faithful s rows) (is_faithful s (run_state s rows) (row_reading (run_state s rows).story.bus_state row)) tied.faithful_are).0 left g.progress_is;
-      negotiated_are = c.see-3.ensures.trace s rows row devices hears (c.connection_before-6.ensures rows row view) (c.connection-2.ensures.trace (row ∷ rows) view) shown_is tied.heard_are aborts g.negotiated_are;
-      gathered_are = c.see-2.ensures.trace s rows row devices hears (c.connection_before-5.ensures rows row view) tied.faithful_are sent g.gathered_are;
-      all_gathered = c.see-2.ensures.whole s rows row fits devices hears (c.connection_before-5.ensures rows row view) tied.faithful_are tied.written_are sent unit g.gathered_are g.all_gathered;
-      course_is = c.see_course.ensures s rows row d devices tied g.line hears (c.connection_before-2.ensures rows row view) (c.own_connection-2.ensures (row ∷ rows) view) turn
-          (λ none. subst (λ (x : TargetValue). IsCourseIf s (row ∷ rows) x.def.dev c.beginning-begun.result) (sym c.self.view_is) (c.beginning-begun.ensures s rows row fits o devices tied time h (sym (c.connection_before-2.ensures rows row view) ∙ none) labels)) g.course_is;
-      reply_is = c.reply_seen-self-inside.ensures s rows row d fits devices tied (c.connection_before-3.ensures rows row view) (c.own_connection-3.ensures (row ∷ rows) view) (λ n own calm after. turn.shows n own calm after) g.reply_is;
-      standing_is = units.standing;
-      answers_is = c.answers-self-inside.ensures ∙ (λ i. (c.handshakes.ensures.trace (row ∷ rows) view i).answers);
-    }
+    let was = subst (λ (x : Option Connection). IsOthersIf rows dev x) c.in-Some-Some.is-0 (c.other_before.ensures rows row view) in
+    let stands = subst (λ (x : Option Connection). IsOthersIf (row ∷ rows) dev x) c.in-Some-Some.is-1 (c.other_connection.ensures (row ∷ rows) view) in
+    let empty = nil_from_length c.args.shown.now (eqb-true _ _ (sym c.is_empty.ensures ∙ c.if-is_empty.true)) in
+    c.follow_others.ensures.trace s rows c.in-Some-Some.field-0-0 c.in-Some-Some.field-0-1 fits o devices tied
+    (subst (λ (t : TargetDef). IsOthers rows t.dev c.in-Some-Some.field-0-0) (λ i. (c.self.view_is i).def) was)
+    (subst (λ (t : TargetDef). IsOthers (row ∷ rows) t.dev c.in-Some-Some.field-0-1) (λ i. (c.self.view_is i).def) stands)
+    shown_is (sym shown_is ∙ empty) h

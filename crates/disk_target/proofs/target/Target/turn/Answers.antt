@@ -13,7 +13,7 @@ pub returns-in-Some-Some-clause-trace : goal.returns-in-Some-Some-clause-trace
 returns-in-Some-Some-clause-trace c = λ s rows row fits o devices tied time h.
     let d = c.args.self.now.def in
     let it = subst (λ (x : Option Connection). IsOwnIf rows d.dev x) c.in-Some-Some.is-0 (subst (λ (m : _). IsOwnIf rows m c.own_before.result) (λ i. (c.self.view_is i).def.dev) (c.own_before.ensures rows row (c.view.ensures.trace (row ∷ rows) o))) in
-    c.turn_in.ensures.trace s rows row fits o devices tied time h it.0 it.1 ((λ i. (sym c.self.view_is i).course) ∙ c.in-Some-Some.is-1)
+    c.turn_in.ensures.trace s rows row fits o devices tied time h it.0 it.1
 
 pub returns-in_default-clause-trace : goal.returns-in_default-clause-trace
 returns-in_default-clause-trace c = λ s rows row fits o devices tied time h.
@@ -27,3 +27,6 @@ returns-in_default-clause-trace c = λ s rows row fits o devices tied time h.
       | in_default-via-in_default w ↦ subst (λ (x : Option Connection). IsOwnIf rows d.dev x) w.in_default.is-0 own
     ] in
     no_turn_so s rows row d c.args.self.now.course _ p q heard tied away
+
+pub turn_in-requires : goal.turn_in-requires
+turn_in-requires c = record { course = (λ i. (sym c.self.view_is i).course) ∙ c.in-Some-Some.is-1 }

@@ -1,0 +1,39 @@
+use Rattle.std.proofs.Common.{◌∙◌, sym}
+use Rattle.std.proofs.lemmas.Bool.{eqb-true}
+use Rattle.disk_array.specs.Processes.{process_of}
+use Rattle.disk_array.specs.Seats.{is_initiator}
+use Rattle.scenario.specs.Lookups.{has_target}
+use Rattle.bus_due.specs.RunState.{array_of}
+use Rattle.bus_due.specs.RunSteps.{run_state}
+use Rattle.target_course.specs.Courses.{name_of}
+use Rattle.disk_target.proofs.Data.{served_of}
+use Rattle.disk_target.proofs.Lines.{line_of_process}
+use Rattle.disk_target.proofs.RowSent.{sends_as_named}
+use Rattle.disk_target.proofs.known.known_of.Goals as goal
+
+pub returns-clause-known : goal.returns-clause-known
+returns-clause-known c = record {
+  unit = c.unit_named-unit.ensures.small;
+  device = c.requires.device;
+  named = c.unit_named-unit.ensures.named;
+  told = λ s rows n fits able h replies ends own calm from. record {
+    state = λ p is id name.
+        let e = ends p is in
+        let line = line_of_process s p.id p (λ m d x. c.scenarios_fit_the_bus.ensures.commands s m d fits x) (served_of s rows p is) in
+        c.state_of-state.ensures.state s rows c.args.def.now p h able.few ((λ i. process_of s (id i)) ∙ served_of s rows p is) id
+        (e.target ∙ eqb-true n.target c.args.def.now.dev own.own) (sym (c.unit_named-unit.ensures.named (name_of p) name line.unit)) (e.initiator ∙ from)
+        (replies n p own calm is);
+    outlook = λ p is id name block.
+        let e = ends p is in
+        let line = line_of_process s p.id p (λ m d x. c.scenarios_fit_the_bus.ensures.commands s m d fits x) (served_of s rows p is) in
+        c.state_of-state.ensures.outlook s rows c.args.def.now p h ((λ i. is_initiator s.hosts (sym (e.initiator ∙ from) i)) ∙ line.host)
+        (e.target ∙ eqb-true n.target c.args.def.now.dev own.own) (sym (c.unit_named-unit.ensures.named (name_of p) name line.unit)) (e.initiator ∙ from)
+        (sym block)
+        (λ writes good. sends_as_named s (array_of s (run_state s rows)) p h.units_are.room.fits h.units_are.room.lines
+        ((λ i. has_target s ((e.target ∙ eqb-true n.target c.args.def.now.dev own.own ∙ sym h.units_dev) i)) ∙ h.units_are.room.target) (served_of s rows p is) writes good);
+  };
+  count = c.state_of-state.ensures.count;
+  taken = c.state_of-state.ensures.taken;
+  serving = c.serving-serving.ensures.exact;
+  fits = c.serving-serving.ensures.fits;
+}

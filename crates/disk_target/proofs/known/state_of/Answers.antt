@@ -1,0 +1,46 @@
+use Rattle.std.proofs.Common.{◌∙◌, ◌==◌, sym}
+use Rattle.cdb_codec.specs.declared.status.TheConstants.{GOOD}
+use Rattle.disk_array.specs.Processes.{process_of}
+use Rattle.disk_array.specs.ArrayHistory.{reply_in}
+use Rattle.disk_array.specs.Seats.{in_hold, nexus_at}
+use Rattle.disk_array.specs.Units.{unit_state_at}
+use Rattle.bus_due.specs.LastingState.{progress_in}
+use Rattle.bus_due.specs.RunState.{array_of}
+use Rattle.bus_due.specs.RunSteps.{run_state}
+use Rattle.bus_due.specs.Tasks.{room_of, size_of}
+use Rattle.disk_target.specs.Bytes.{status_in, taken_by}
+use Rattle.disk_target.proofs.Telling.{status_told}
+use Rattle.disk_target.proofs.known.state_of.Goals as goal
+
+pub returns-clause-state : goal.returns-clause-state
+returns-clause-state c = λ s rows d p h few is id target unit from reply.
+    let k = run_state s rows in
+    let a = array_of s k in
+    let units = target ∙ sym h.units_dev in
+    let counts = c.counts-counts.ensures.exact s rows p h.progress_is ((λ i. process_of s (c.id.ensures i)) ∙ is) (target ∙ sym h.progress_dev) few in
+    record {
+      in_hold = c.holds.ensures s a k.current_since h.units_are
+          ∙ (λ i. in_hold a.holds (nexus_at (sym units i) (sym unit i) (sym from i)));
+      runs = counts.runs ∙ (λ i. (progress_in k.progress ((c.id.ensures ∙ id) i)).runs);
+      recoveries = counts.recoveries ∙ (λ i. (progress_in k.progress ((c.id.ensures ∙ id) i)).recoveries);
+      size = c.block_size-size.ensures s a k.current_since h.units_are
+          ∙ (λ i. size_of (unit_state_at a.units (sym units i) (sym unit i)));
+      room = c.room.ensures s a k.current_since h.sound h.units_are
+          ∙ (λ i. room_of a (unit_state_at a.units (sym units i) (sym unit i)));
+      reply = c.status_in.ensures ∙ (λ i. status_in (reply i)) ∙ status_told (reply_in a.replies p.id);
+    }
+
+pub returns-clause-outlook : goal.returns-clause-outlook
+returns-clause-outlook c = λ s rows d p h host target unit from cdb sends.
+    let k = run_state s rows in
+    let a = array_of s k in
+    let units = target ∙ sym h.units_dev in
+    let size = c.block_size-size.ensures s a k.current_since h.units_are
+    ∙ (λ i. size_of (unit_state_at a.units (sym units i) (sym unit i))) in
+    let plan = c.plan-plan.ensures.array s a k.current_since p h.units_are host units unit from (cdb ∙ sym c.block.ensures.value) in
+    record {
+      plan = λ i. record { status = (plan i).status; sense = (plan i).sense; in_len = (plan i).in_len; out_len = c.taken_by.result };
+      sent = λ writes good. c.taken_by.ensures
+          ∙ (λ i. taken_by (sym (cdb ∙ sym c.block-2.ensures.value) i) (size i))
+          ∙ sends writes ((λ i. (sym plan i).status == GOOD) ∙ good);
+    }

@@ -1,0 +1,99 @@
+use Rattle.std.proofs.Common.{◌≡◌, ◌∙◌, List, ◌∷◌, refl, sym, subst, Option, Some}
+use Rattle.bus_trace.specs.declared.Row.{Row}
+use Rattle.bus_trace.specs.declared.connection.Connection.{Connection}
+use Rattle.std.specs.Prelude.{is_some}
+use Rattle.bus_trace.specs.Terms.{connection}
+use Rattle.disk_array.specs.Processes.{Process}
+use Rattle.bus_dialogue.specs.NextPhase.{leaving_by}
+use Rattle.bus_due.specs.RunState.{process_served}
+use Rattle.bus_due.specs.RunSteps.{run_state}
+use Rattle.bus_due.specs.Tasks.{given_of}
+use Rattle.scsi_device.specs.Heard.{instructions}
+use Rattle.target_course.specs.Courses.{CourseState, IsCourse, IsCourseOf, AreToldOf, events_of_target, name_of}
+use Rattle.target_course.specs.Gathered.{place_in_run}
+use Rattle.target_course.specs.Replies.{shows_run}
+use Rattle.target_course.proofs.CourseAgrees.{IsFront, front_heard}
+use Rattle.target_course.proofs.CourseRows.{heard_before}
+use Rattle.disk_target.specs.Bytes.{taken_by}
+use Rattle.disk_target.specs.Targets.{IsCourseIf}
+use Rattle.disk_target.specs.declared.turn.Turn.{Turn}
+use Rattle.disk_target.specs.Turns.{IsTurnIf, IsTurnIn, is_opening_by}
+use Rattle.disk_target.proofs.Data.{id_is, served_of}
+use Rattle.disk_target.proofs.Knowing.{sources}
+use Rattle.disk_target.proofs.Lines.{line_of_process}
+use Rattle.disk_target.proofs.RowOwn.{Knows, knows}
+use Rattle.disk_target.proofs.RowServed.{block_few}
+use Rattle.disk_target.proofs.Servables.{in_time_before, servable}
+use Rattle.disk_target.proofs.Turning.{byte_begins, byte_closed, byte_phase, left_so, place_so, process_so, run_known, target_shows}
+use Rattle.disk_target.proofs.target.Target.turn_by.Goals as goal
+
+one : (rows : List Row) (m n : Connection) → connection rows ≡ Some m → connection rows ≡ Some n → n ≡ m
+one rows m n e f = let both : Some n ≡ Some m = sym f ∙ e in cc
+
+pub returns-clause-trace : goal.returns-clause-trace
+returns-clause-trace c = λ s rows row fits o devices tied time h own calm course_is from.
+    let y = c.requires.known in
+    let d = c.args.self.now.def in
+    let same : c.self.inside.def ≡ d = λ i. (c.self.view_is i).def in
+    let x = c.args.course.now in
+    let n = c.args.connection.now in
+    let hears = c.hearing-hearing.ensures (row ∷ rows) o in
+    let after = c.connection-after.ensures.trace (row ∷ rows) (c.view.ensures.trace (row ∷ rows) o) in
+    let p = c.kept_is_plain.ensures.rows s rows devices.1 in
+    let q = c.kept_is_plain.ensures.rows s (row ∷ rows) devices in
+    let w = c.hearings_are_plain.ensures.hearing s rows row devices.1 devices.0 in
+    let f = c.args.known.now.state in
+    let able = servable s rows d (in_time_before rows row time) h.line in
+    let course : IsCourseOf s rows d.dev x = subst (λ (y : Option CourseState). IsCourseIf s rows d.dev y) course_is h.course_is in
+    let here : IsCourse s rows n x = course n own calm in
+    let told : AreToldOf s rows x f = y.told s rows n fits able (sources s rows c.args.self.now h) h.reply_is here.ends_are own calm from in
+    let given = given_of s (run_state s rows) in
+    let serving = y.serving given in
+    let leaving = c.leaving_by.ensures.exact given ∙ (λ i. leaving_by (serving i) (hears i).begun (hears i).change.before) in
+    let place = c.place_in_run.ensures ∙ (λ i. place_in_run (same i).disc (serving i).task (c.self.view_is i).answers) in
+    let process = c.process_known.ensures ∙ process_so s rows row n x p tied own.stands calm here in
+    let front : IsFront s (run_state s rows) n (instructions s rows) = front_heard s rows n p (heard_before s rows row tied.heard_are) own.stands calm in
+    let unit = λ (r : Process) (is : process_served s (run_state s rows) ≡ Some r) (named : x.named ≡ Some (name_of r)).
+    let line = line_of_process s r.id r (λ m y e. c.scenarios_fit_the_bus.ensures.commands s m y fits e) (served_of s rows r is) in
+    y.named (name_of r) named line.unit in
+    let it : Turn = record {
+      process = c.process_known.result;
+      unit = c.args.known.now.unit;
+      from = c.args.known.now.from;
+      aborts = c.is_some.result;
+      leaving = c.leaving_by.result;
+      place = c.place_in_run.result;
+      opening = c.is_opening.result;
+      plan = f.plan;
+      shown = c.shown.result;
+    } in
+    let turn : IsTurnIn s rows row d n x it = record {
+      state = f;
+      told = told;
+      leaving_is = leaving;
+      opening_is = c.is_opening.ensures ∙ (λ i. is_opening_by n (hears i) x);
+      from_is = sym from;
+      unit_is = unit;
+      taken = λ r is named. y.taken ∙ (λ i. taken_by x.block ((told.state r is (id_is s rows n x r here is) named).size i));
+    } in
+    record {
+      course = subst (λ (y : Option CourseState). IsTurnIf s rows row d y it) (sym course_is) (λ m own' calm'. subst (λ (y : Connection). IsTurnIn s rows row d y x it) (one rows m n own'.stands own.stands) turn);
+      left = λ m l own' stands left. (process, leaving ∙ left_so s rows row n l d x f _ p q w tied own h.line.target_is calm stands left here told refl);
+      hears = λ m own' calm'. c.is_some.ensures ∙ (λ i. is_some (c.plan.ensures i).said.aborts) ∙ (λ i. is_some (here.plan_is i).said.aborts);
+      sends = λ m own' brings. (process, place ∙ place_so s rows row n d x f c.args.self.now.answers p w tied own h.line.target_is calm brings here told h.answers_is);
+      at_unit = λ m r own' brings is.
+          let begins = byte_begins s rows row n p w tied.written_are own.stands brings in
+          let closed = byte_closed s (run_state s rows) (byte_phase s rows row p brings) begins in
+          let few = block_few s r.id r (λ m y e. c.scenarios_fit_the_bus.ensures.commands s m y fits e) (served_of s rows r is) in
+          let k : Knows s rows n x r = knows s rows n x r front here is few (λ e. closed) in
+          unit r is k.named;
+      shows = λ m own' calm' after'.
+          let shows = c.shown.ensures.trace s rows row d f devices hears after own h.line.target_is tied.heard_are calm after' told (y.serving given) course in
+          record {
+            shows = shows ∙ (λ i. events_of_target s rows row (one rows m n own'.stands own.stands i));
+            outlook = λ r is runs.
+                let shown = target_shows s rows row n p q w tied own.stands after' (sym (λ i. shows_run (shows i)) ∙ runs) in
+                let k = run_known s rows row n x r p q tied (λ m y e. c.scenarios_fit_the_bus.ensures.commands s m y fits e) own.stands calm after' here is shown in
+                (told.outlook r is k.0.id k.0.named k.1).plan;
+          };
+    }

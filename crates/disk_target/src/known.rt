@@ -1,0 +1,208 @@
+//! What a target decides by in a connection of its own.
+ghost use Rattle.std.specs.Prelude.{ℕ, ◌≡◌, ◌<◌, ◌==◌, ◌^◌, true, false, List, [], length, Option, Some, None};
+ghost use Rattle.bus_trace.specs.declared.Row.{Row};
+ghost use Rattle.cdb_codec.specs.declared.status.TheConstants.{GOOD};
+ghost use Rattle.scenario.specs.Value.{ScenarioValue};
+ghost use Rattle.disk_array.specs.ArrayHistory.{reply_in};
+ghost use Rattle.disk_array.specs.Processes.{Process, process_of};
+ghost use Rattle.disk_array.specs.Seats.{is_initiator};
+ghost use Rattle.disk_array.specs.Units.{unit_state_at};
+ghost use Rattle.bus_due.specs.RunState.{array_of};
+ghost use Rattle.bus_due.specs.RunSteps.{run_state};
+ghost use Rattle.bus_due.specs.Tasks.{size_of, reply_now, is_writing};
+ghost use Rattle.target_course.specs.Courses.{IsStateOf, IsOutlookOf};
+ghost use Rattle.target_course.specs.Progress.{is_phase_left};
+ghost use Rattle.target_course.specs.Shown.{shown_list};
+ghost use Rattle.target_units.specs.Seated.{reply_told};
+ghost use Rattle.target_units.specs.Units.{reply_at, unit_in};
+ghost use Rattle.disk_target.specs.Bytes.{taken_by};
+ghost use Rattle.disk_target.specs.Knowns.{AreSourcesOf, IsKnownBy, IsKnownIf, IsStill, knows_command, refreshed};
+
+use crate::bytes::{status_in, taken_by, unit_named};
+use crate::turn::Turn;
+use bus_base::{Dev, Event};
+use bus_dialogue::Hearing;
+use bus_trace::Connection;
+use disk_unit::{Plan, Reply};
+use scenario::TargetDef;
+use scsi_device::scenarios_fit_the_bus;
+use target_course::{Course, ProcessState, Progress, Serving, is_phase_left};
+use target_units::Units;
+
+/// What a target decides by in a connection of its own with an initiator, as long as neither its units nor what it has
+/// heard of the process change.
+#[derive(Clone, Copy, Debug)]
+pub struct Known {
+    /// The unit of the process, once it is named; 0 before.
+    pub unit: u8,
+    /// The initiator.
+    pub from: Dev,
+    /// What its units and its counts tell of the process.
+    pub state: ProcessState,
+    /// What it decides by.
+    pub serving: Serving,
+}
+
+// What the units and the counts of a target tell of the process of this course, which is of this unit and of this
+// initiator, and has this reply.
+fn state_of(
+    units: &Units,
+    progress: &Progress,
+    reply: Option<Reply>,
+    unit: u8,
+    from: Dev,
+    course: &Course,
+) -> ProcessState
+    requires unit { unit < 8 }
+    requires device { from < 8 }
+    ensures state { (s : ScenarioValue) (rows : List Row) (d : TargetDef) (p : Process)
+        → AreSourcesOf s rows d units.now progress.now
+        → length rows < 2 ^ 64 → process_of s course.now.id ≡ Some p → course.now.id ≡ p.id
+        → p.target ≡ d.dev → p.unit ≡ unit → p.initiator ≡ from
+        → reply ≡ reply_told (reply_in (array_of s (run_state s rows)).replies p.id)
+        → IsStateOf s (run_state s rows) p result }
+    ensures outlook { (s : ScenarioValue) (rows : List Row) (d : TargetDef) (p : Process)
+        → AreSourcesOf s rows d units.now progress.now
+        → is_initiator s.hosts from ≡ true → p.target ≡ d.dev → p.unit ≡ unit → p.initiator ≡ from
+        → p.cdb ≡ course.now.block
+        → (is_writing p ≡ true → ((reply_now (array_of s (run_state s rows)) p).status == GOOD) ≡ true
+        → taken_by p.cdb (size_of (unit_state_at (array_of s (run_state s rows)).units p.target p.unit))
+        ≡ length p.sent)
+        → IsOutlookOf s (run_state s rows) p result }
+    ensures count { result.plan.in_len ≡ length (reply_at (unit_in units.now.units unit) from course.now.block).bytes }
+    ensures taken { result.plan.out_len ≡ taken_by course.now.block result.size }
+{
+    let counts = progress.counts(course.id());
+    let size = units.block_size(unit) as u64;
+    let plan = units.plan(unit, from, course.block());
+    ProcessState {
+        in_hold: units.holds(unit, from),
+        runs: counts.runs,
+        recoveries: counts.recoveries,
+        size,
+        room: units.room(unit),
+        plan: Plan {
+            out_len: taken_by(course.block(), size),
+            ..plan
+        },
+        reply: status_in(reply),
+    }
+}
+
+/// What a target of this line, with these units, counts and reply, decides by in a connection of its own with this
+/// initiator, in which it has heard this.
+pub fn known_of(
+    def: &TargetDef,
+    units: &Units,
+    progress: &Progress,
+    reply: Option<Reply>,
+    from: Dev,
+    course: &Course,
+) -> Known
+    requires device { from < 8 }
+    ensures from { result.from ≡ from }
+    ensures known { IsKnownBy def.now units.now progress.now reply course.now result }
+{
+    scenarios_fit_the_bus();
+    let unit = unit_named(course);
+    let state = state_of(units, progress, reply, unit, from, course);
+    let serving = course.serving(def, &state);
+    Known {
+        unit,
+        from,
+        state,
+        serving,
+    }
+}
+
+fn is_nothing(turn: &Turn) -> bool
+    ensures { result ≡ true → shown_list turn.now.shown ≡ [] }
+{
+    turn.shown.event.is_none() && turn.shown.second.is_none()
+}
+
+fn knows_command(course: &Option<Course>) -> bool
+    ensures { result ≡ knows_command course.now }
+{
+    match course {
+        None => false,
+        Some(course) => course.is_command_known(),
+    }
+}
+
+/// Whether a row changes nothing by which a target decides in a connection of its own but its plan: the connection
+/// stands before and after it, the command is known, no phase is left, and nothing is shown.
+pub fn is_still(
+    turn: &Turn,
+    hearing: &Hearing,
+    before: Option<Connection>,
+    own: Option<Connection>,
+    course: &Option<Course>,
+    shown: &[Event],
+) -> bool
+    ensures { result ≡ true → IsStill turn.now hearing.now before own course.now shown.now }
+{
+    before.is_some()
+        && own.is_some()
+        && knows_command(course)
+        && shown.is_empty()
+        && is_nothing(turn)
+        && !is_phase_left(hearing)
+}
+
+// The plan has gone on.
+fn refresh(known: &mut Option<Known>, course: &Option<Course>)
+    ensures { known.new ≡ refreshed known.old course.now }
+{
+    match (known, course) {
+        (Some(known), Some(course)) => known.serving.plan = *course.plan(),
+        _ => {}
+    }
+}
+
+// In a connection of its own, with this initiator.
+fn known_if(
+    def: &TargetDef,
+    units: &Units,
+    progress: &Progress,
+    reply: Option<Reply>,
+    course: &Option<Course>,
+    own: Option<Connection>,
+) -> Option<Known>
+    ensures { IsKnownIf def.now units.now progress.now reply course.now result }
+{
+    match (own, course) {
+        (Some(connection), Some(course)) => Some(known_of(
+            def,
+            units,
+            progress,
+            reply,
+            connection.initiator.get(),
+            course,
+        )),
+        _ => None,
+    }
+}
+
+/// What a target decides by after a row, where this connection of its own stands then: `still` says that it is as it
+/// was but for the plan.
+pub fn see_known(
+    known: &mut Option<Known>,
+    still: bool,
+    def: &TargetDef,
+    units: &Units,
+    progress: &Progress,
+    reply: Option<Reply>,
+    course: &Option<Course>,
+    own: Option<Connection>,
+)
+    requires still { still ≡ true
+        → IsKnownIf def.now units.now progress.now reply course.now (refreshed known.old course.now) }
+    ensures { IsKnownIf def.now units.now progress.now reply course.now known.new }
+{
+    if still {
+        refresh(known, course);
+    } else {
+        *known = known_if(def, units, progress, reply, course, own);
+    }
+}
