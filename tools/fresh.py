@@ -39,6 +39,7 @@ MADE = {
     "crates/trace_laws/proofs/StoryCases.antt": (["tools/books_case.py", "--asked", "--whole"] + STORIES, None),
     "crates/bus_laws/proofs/WrittenCases.antt": (["tools/written_case.py", "Cases"] + RUNS, None),
     "crates/disk_target/proofs/AttendedCases.antt": (["tools/attended_case.py", "Cases"] + RUNS, None),
+    "crates/ending_causes/proofs/RunCases.antt": (["tools/cause_case.py", "Cases"] + RUNS, None),
     "crates/bus_laws/proofs/Cases.antt": (["tools/law_case.py"] + LAWS, None),
     "crates/link_laws/proofs/Cases.antt": (["tools/link_case.py"] + DUES, None),
     "crates/link_laws/proofs/StoryCases.antt": (["tools/link_case.py"] + CASES, None),

@@ -1,0 +1,3 @@
+pub mod FullQueues
+pub mod WrongParity
+pub mod Strikes
