@@ -20,6 +20,7 @@ RUNS = DUES + [
 ]
 STORIES = [path for path in CASES if path not in RUNS]
 DUMPS = sorted(str(path) for path in (ROOT / "tools" / "dump_cases").glob("*.out"))
+TOLD = [path for path in CASES if pathlib.Path(path).with_suffix(".transcript").exists()]
 TRANSCRIPTS = sorted(str(path) for path in (ROOT / "tools" / "transcript_cases").glob("*.out"))
 MAKES = sorted(str(path) for path in (ROOT / "tools" / "make_cases").glob("*.scsi"))
 SMALL = sorted(str(path) for path in (ROOT / "tools" / "run_cases").glob("*.scn"))
@@ -45,6 +46,7 @@ MADE = {
     "crates/link_laws/proofs/StoryCases.antt": (["tools/link_case.py"] + CASES, None),
     "crates/vcd_text/proofs/TraceCases.antt": (["tools/dump_case.py"] + DUMPS, None),
     "crates/bus_transcript/proofs/Cases.antt": (["tools/transcript_case.py"] + TRANSCRIPTS, None),
+    "crates/bus_transcript/proofs/ToldCases.antt": (["tools/told_case.py"] + TOLD, None),
     "crates/scenario/proofs/MadeCases.antt": (["tools/make_case.py"] + MAKES, None),
     "crates/bus_tests/src/whole_program/small_runs.rt": (["tools/run_case.py"] + SMALL, None),
     "crates/sync_nego/proofs/Cases.antt": (["tools/nego_case.py"], None),

@@ -6,3 +6,4 @@ pub mod Processes
 pub mod Accounts
 pub mod Rows
 pub mod Text
+pub mod Events

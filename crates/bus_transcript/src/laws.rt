@@ -1,11 +1,14 @@
 //! Laws of transcripts: each is the contract of a function that does nothing.
-ghost use Rattle.std.specs.Prelude.{◌≡◌, List, [], ◌∷◌, Bool, true, false, Option, Some, None};
+ghost use Rattle.std.specs.Prelude.{◌≡◌, List, [], ◌∷◌, reverse, Bool, true, false, Option, Some, None};
 ghost use Rattle.bus_trace.specs.declared.Row.{Row};
+ghost use Rattle.scenario.specs.Value.{ScenarioValue};
+ghost use Rattle.bus_story.specs.TraceHistory.{trace_history};
 ghost use Rattle.msg_grammar.specs.declared.message.MsgOut.{MsgOut};
 ghost use Rattle.msg_grammar.specs.declared.message.MsgOut.TheVariants as to_target;
 ghost use Rattle.bus_transcript.specs.declared.item.Name.{Name};
 ghost use Rattle.bus_transcript.specs.declared.part.Incoming.{Incoming};
 ghost use Rattle.bus_transcript.specs.declared.process.Process.{Process};
+ghost use Rattle.bus_transcript.specs.Events.{are_in, resets_shown, resets_told};
 ghost use Rattle.bus_transcript.specs.Numbers.{next_number};
 ghost use Rattle.bus_transcript.specs.Opened.{OpenedValue, settled, with_out, with_in, messages_of, with_said};
 ghost use Rattle.bus_transcript.specs.Processes.{process_after};
@@ -36,4 +39,16 @@ pub fn void_messages_leave_nothing()
         → with_out (with_in k m) to_target.ParityError ≡ with_out (settled k false) to_target.ParityError }
     ensures anew { (k : OpenedValue) (said : List MsgOut) (out : Option MsgOut)
         → with_said (record k { said = said }) true out ≡ record k { said = messages_of out } }
+{}
+
+/// Of any rows and any scenario the resets of the transcript are those of the history, in their order.
+pub fn resets_are_told()
+    ensures { (s : ScenarioValue) (rows : List Row)
+        → resets_shown (transcript_of rows) ≡ resets_told (reverse (trace_history s rows)) }
+{}
+
+/// In a transcript each event of a process stands in a connection of that process: the last `Connect` before it has its
+/// name; an abort, that of its initiator, target and unit.
+pub fn events_stand_in_connections()
+    ensures { (rows : List Row) → are_in None (transcript_of rows) ≡ true }
 {}

@@ -28,7 +28,10 @@ mod transcriber;
 pub use bus_base::{AbortKind, Dev, Failed, NoMemory, Ns, Octets, Sink};
 pub use bus_trace::Row;
 pub use item::{Item, Name, Transcript};
-pub use laws::{processes_are_numbered, transcripts_go_on, void_messages_leave_nothing};
+pub use laws::{
+    events_stand_in_connections, processes_are_numbered, resets_are_told, transcripts_go_on,
+    void_messages_leave_nothing,
+};
 pub use msg_grammar::{MsgIn, MsgOut};
 pub use printing::print_transcript;
 pub use transcriber::{Transcriber, transcribe};

@@ -3,7 +3,7 @@ ghost use Rattle.std.specs.Prelude.{◌≡◌, ◌<◌, [], ◌∷◌, Some, tru
 ghost use Rattle.std.specs.List.{AllByRecursion};
 ghost use Rattle.bus_trace.specs.OfTrace.{IsRow};
 ghost use Rattle.bus_transcript.specs.Opened.{opened_connection, settled, spoken};
-ghost use Rattle.bus_transcript.specs.Rows.{nothing_seen, with_items, name_of, account_from, account_parts, abort_item, departed, departed_if, with_account, closed_by, closed_parts, closed_with, closed_phase, closed_if, reset_items, free_items, under_reset, unanswered_by, unanswered_items, on_free_bus, in_connection, on_bus, by_change, with_bus, after_reading, after_row, finished_if, finished, transcript_of};
+ghost use Rattle.bus_transcript.specs.Rows.{nothing_seen, with_items, name_of, account_from, account_parts, abort_item, departed, departed_if, with_account, closed_by, closed_parts, closed_with, closed_phase, closed_if, reset_items, free_items, under_reset, unanswered_by, unanswered_items, on_free_bus, in_connection, on_bus, by_change, with_bus, after_reading, after_row, finished_if, finished, transcript_of, IsOfDevice};
 
 use crate::account::Account;
 use crate::bus::{Bus, Reading};
@@ -388,6 +388,18 @@ impl Transcriber {
     }
 }
 
+// The transcript of these rows of the eight devices, the oldest first.
+fn transcript(alloc: Global, rows: &[Row]) -> Result<Transcript, NoMemory>
+    requires { AllByRecursion IsOfDevice rows.now }
+    ensures { IfOk result (λ transcript. transcript.items.items ≡ transcript_of (reverse rows.now)) }
+{
+    let mut transcriber = Transcriber::new(alloc);
+    for row in rows {
+        transcriber.see(row)?;
+    }
+    transcriber.finish()
+}
+
 /// The transcript of these rows, the oldest first. The end of the trace, in ns, adds nothing to it.
 ///
 /// # Errors
@@ -398,9 +410,5 @@ pub fn transcribe(alloc: Global, rows: &[Row], end: Ns) -> Result<Transcript, No
     ensures { IfOk result (λ transcript. transcript.items.items ≡ transcript_of (reverse rows.now)) }
 {
     let _ = end;
-    let mut transcriber = Transcriber::new(alloc);
-    for row in rows {
-        transcriber.see(row)?;
-    }
-    transcriber.finish()
+    transcript(alloc, rows)
 }
