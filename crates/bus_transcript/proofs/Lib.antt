@@ -6,3 +6,4 @@ pub mod Cases
 pub mod Resets
 pub mod ToldCases
 pub mod Inside
+pub mod RunResets

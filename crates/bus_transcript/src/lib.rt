@@ -34,4 +34,6 @@ pub use laws::{
 };
 pub use msg_grammar::{MsgIn, MsgOut};
 pub use printing::print_transcript;
-pub use transcriber::{Transcriber, transcribe};
+pub use run_record::Run;
+pub use scenario::Scenario;
+pub use transcriber::{Transcriber, transcribe, transcribe_run};

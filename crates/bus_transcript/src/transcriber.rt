@@ -2,6 +2,8 @@
 ghost use Rattle.std.specs.Prelude.{◌≡◌, ◌<◌, [], ◌∷◌, Some, true, false, reverse, OnOk, IfOk, option_to_list};
 ghost use Rattle.std.specs.List.{AllByRecursion};
 ghost use Rattle.bus_trace.specs.OfTrace.{IsRow};
+ghost use Rattle.bus_story.specs.TraceHistory.{trace_history};
+ghost use Rattle.bus_transcript.specs.Events.{resets_shown, resets_told};
 ghost use Rattle.bus_transcript.specs.Opened.{opened_connection, settled, spoken};
 ghost use Rattle.bus_transcript.specs.Rows.{nothing_seen, with_items, name_of, account_from, account_parts, abort_item, departed, departed_if, with_account, closed_by, closed_parts, closed_with, closed_phase, closed_if, reset_items, free_items, under_reset, unanswered_by, unanswered_items, on_free_bus, in_connection, on_bus, by_change, with_bus, after_reading, after_row, finished_if, finished, transcript_of, IsOfDevice};
 
@@ -15,6 +17,8 @@ use crate::summary::{Departure, Summary, kind_of, summary_of};
 use bus_base::{NoMemory, Ns};
 use bus_trace::{Call, Calling, Change, Connection, Kind, Row, ScsiId, falls, rises};
 use msg_grammar::MsgOut;
+use run_record::Run;
+use scenario::Scenario;
 use std::alloc::{AllocError, Global};
 use std::collections::VecDeque;
 use std::marker::Model;
@@ -411,4 +415,20 @@ pub fn transcribe(alloc: Global, rows: &[Row], end: Ns) -> Result<Transcript, No
 {
     let _ = end;
     transcript(alloc, rows)
+}
+
+/// The transcript of the rows of a run of this scenario. Where its history is what its rows tell, the resets of the
+/// transcript are those of the history.
+///
+/// # Errors
+///
+/// `NoMemory` where there was no memory left.
+pub fn transcribe_run(alloc: Global, s: &Scenario, run: &Run) -> Result<Transcript, NoMemory>
+    requires { AllByRecursion IsOfDevice run.now.rows }
+    ensures exact { IfOk result (λ transcript. transcript.items.items ≡ transcript_of (reverse run.now.rows)) }
+    ensures resets { IfOk result (λ transcript. reverse run.now.history ≡ trace_history s.now (reverse run.now.rows)
+        → resets_shown transcript.items.items ≡ resets_told run.now.history) }
+{
+    let _ = s;
+    transcript(alloc, &run.rows)
 }
