@@ -1,4 +1,5 @@
 pub mod TooLong
+pub mod Written
 pub mod Refusals
 pub mod Heard
 pub mod Judged

@@ -14,7 +14,8 @@ use Rattle.trace_text.specs.Whole.{trace_of}
 use Rattle.bus_cli.specs.Lines.{Writing, writing, SaysLine, trace_line}
 use Rattle.bus_cli.specs.Judging.{verdict_of}
 use Rattle.bus_cli.specs.Vcd.{VcdTells}
-use Rattle.bus_cli.specs.Transcripts.{text_of_rows, IsTranscriptOf, SaysLawful, SaysTranscript, TranscriptSays, TellsLawful, TellsTrace}
+use Rattle.bus_cli.specs.Texts.{SaysText, TellsText}
+use Rattle.bus_cli.specs.Transcripts.{text_of_rows, IsTranscriptOf, SaysTranscript, TranscriptSays, TellsTrace}
 use Rattle.bus_cli.specs.declared.status.Status.{Status}
 use Rattle.bus_cli.specs.declared.status.Status.TheVariants.{Done, Words, Refused, Read, Write, Memory, Broken, BadTrace, Unfinished, BadDump}
 use Rattle.bus_cli.proofs.TooLong.{map_some, IsLong, is_long}
@@ -23,7 +24,7 @@ use Rattle.bus_cli.proofs.Dumped.{verdict_is, told_of, all_of}
 
 -- ---- a lawful trace
 
-pub told_lawful : (status : Status) (verdict : Result Verdict ℕ) → Ok Lawful ≡ verdict → TellsLawful status → TellsTrace status verdict
+pub told_lawful : (status : Status) (verdict : Result Verdict ℕ) → Ok Lawful ≡ verdict → TellsText status → TellsTrace status verdict
 told_lawful Done verdict is tells = sym is
 told_lawful Write verdict is tells = sym is
 told_lawful Memory verdict is tells = tt
@@ -35,7 +36,7 @@ told_lawful BadTrace verdict is tells = elim tells [ ]
 told_lawful Unfinished verdict is tells = elim tells [ ]
 told_lawful BadDump verdict is tells = elim tells [ ]
 
-says_lawful : (status : Status) (rows : List Row) (end : ℕ) (w : Writing) → SaysLawful status rows w → SaysTranscript status rows end w
+says_lawful : (status : Status) (rows : List Row) (end : ℕ) (w : Writing) → SaysText status (text_of_rows rows) w → SaysTranscript status rows end w
 says_lawful Done rows end w says = says
 says_lawful Write rows end w says = says
 says_lawful Memory rows end w says = says
@@ -47,9 +48,9 @@ says_lawful BadTrace rows end w says = elim says [ ]
 says_lawful Unfinished rows end w says = elim says [ ]
 says_lawful BadDump rows end w says = elim says [ ]
 
-pub said_lawful : (status : Status) (rows : List Row) (end : ℕ) (old written : Option (List ℕ)) (f g : ℕ) → IfSome old (λ before. SaysLawful status rows (writing before written f g)) → IfSome old (λ before. SaysTranscript status rows end (writing before written f g))
+pub said_lawful : (status : Status) (rows : List Row) (end : ℕ) (old written : Option (List ℕ)) (f g : ℕ) → IfSome old (λ before. SaysText status (text_of_rows rows) (writing before written f g)) → IfSome old (λ before. SaysTranscript status rows end (writing before written f g))
 said_lawful status rows end old written f g says =
-    map_some old (λ before. SaysLawful status rows (writing before written f g)) (λ before. SaysTranscript status rows end (writing before written f g)) (λ before. says_lawful status rows end (writing before written f g)) says
+    map_some old (λ before. SaysText status (text_of_rows rows) (writing before written f g)) (λ before. SaysTranscript status rows end (writing before written f g)) (λ before. says_lawful status rows end (writing before written f g)) says
 
 -- ---- a trace that was read
 

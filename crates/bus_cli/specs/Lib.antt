@@ -1,5 +1,6 @@
 pub mod Words
 pub mod Lines
+pub mod Texts
 pub mod Running
 pub mod Making
 pub mod Judging

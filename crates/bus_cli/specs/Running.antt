@@ -8,8 +8,9 @@ use Rattle.bus_engine.specs.Limits.{step_limit}
 use Rattle.bus_engine.specs.Runs.{IsRunOf, IsUnfinished}
 use Rattle.trace_text.specs.ReportText.{report_of}
 use Rattle.trace_text.specs.ShortText.{short_text}
+use Rattle.bus_cli.specs.Transcripts.{text_of_rows}
 use Rattle.bus_cli.specs.declared.words.Extent.{Extent}
-use Rattle.bus_cli.specs.declared.words.Extent.TheVariants.{Whole, Short}
+use Rattle.bus_cli.specs.declared.words.Extent.TheVariants.{Whole, Short, Transcript}
 use Rattle.bus_cli.specs.Lines.{usage_line, fault_line, memory_line, unfinished_line, refusal_line, Writing, Adds, AddsFront, SaysLine}
 use Rattle.bus_cli.specs.declared.status.Status.{Status}
 use Rattle.bus_cli.specs.declared.status.Status.TheVariants.{Done, Words, Refused, Read, Write, Memory, Broken, BadTrace, Unfinished, BadDump}
@@ -19,12 +20,13 @@ abbrev pub IsSaid : Option (List ℕ) → ScenarioValue → Type 0
 IsSaid None s = Unit {0}
 IsSaid (Some bytes) s = scenario_of bytes ≡ Ok s
 
--- the report of a run, or the short one
+-- the report of a run, or the short one, or the transcript of its rows
 abbrev pub run_text : Extent → ScenarioValue → RunValue → List ℕ
 run_text Whole s run = report_of s run
 run_text Short s run = short_text run
+run_text Transcript s run = text_of_rows run.rows
 
--- this is what is reported of the run of the scenario that the input says
+-- this is what is written of the run of the scenario that the input says
 abbrev pub IsReport : Extent → Option (List ℕ) → List ℕ → Type 0
 IsReport extent input text =
     (s : ScenarioValue) × (run : RunValue) × IsSaid input s × IsRunOf s run × (text ≡ run_text extent s run)
@@ -34,7 +36,7 @@ abbrev pub IsRefused : Option (List ℕ) → ℕ → ℕ → Type 0
 IsRefused None line reason = Unit {0}
 IsRefused (Some bytes) line reason = scenario_of bytes ≡ Err (line, reason)
 
--- What was written with this status, by the bytes that the input had left: the report of the run of
+-- What was written with this status, by the bytes that the input had left: what was asked of the run of
 -- the scenario that they say, or with Write a front of it; or the status' own line.
 abbrev pub RunSays : Extent → Status → Option (List ℕ) → Writing → Type 0
 RunSays extent Done input w = (text : List ℕ) × IsReport extent input text × Adds text w

@@ -21,15 +21,8 @@ abbrev pub IsTranscriptOf : Option (List ℕ) → List ℕ → Type 0
 IsTranscriptOf None text = (rows : List Row) × (text ≡ text_of_rows rows)
 IsTranscriptOf (Some bytes) text = (rows : List Row) × (end : ℕ) × IsLawful bytes rows end × (text ≡ text_of_rows rows)
 
--- What was written with this status of a lawful trace: its transcript, or with Write a front of it; or that there was no
--- memory.
-abbrev pub SaysLawful : Status → List Row → Writing → Type 0
-SaysLawful Done rows w = Adds (text_of_rows rows) w
-SaysLawful Write rows w = AddsFront (text_of_rows rows) w
-SaysLawful Memory rows w = SaysLine memory_line w
-SaysLawful _ rows w = ⊥
-
--- the same of any trace; or the rule that it breaks
+-- What was written with this status of a trace: its transcript, or with Write a front of it; that there was no memory; or
+-- the rule that it breaks.
 abbrev pub SaysTranscript : Status → List Row → ℕ → Writing → Type 0
 SaysTranscript Done rows end w = Adds (text_of_rows rows) w
 SaysTranscript Write rows end w = AddsFront (text_of_rows rows) w
@@ -54,13 +47,7 @@ TranscriptSays Refused input w = ⊥
 TranscriptSays Unfinished input w = ⊥
 TranscriptSays BadDump input w = ⊥
 
--- what the status says of a lawful trace, and of the verdict on any: memory may be wanting
-abbrev pub TellsLawful : Status → Type 0
-TellsLawful Done = Unit {0}
-TellsLawful Write = Unit {0}
-TellsLawful Memory = Unit {0}
-TellsLawful _ = ⊥
-
+-- what the status says of the verdict on a trace: memory may be wanting
 abbrev pub TellsTrace : Status → Result Verdict ℕ → Type 0
 TellsTrace Memory verdict = Unit {0}
 TellsTrace status verdict = TellsVerdict status verdict

@@ -5,7 +5,7 @@ use Rattle.text_words.specs.Words.{Number, number_at}
 use Rattle.trace_text.specs.declared.limit.TheConstants.{LIMIT as TRACE_LIMIT}
 use Rattle.vcd_text.specs.declared.limit.TheConstants.{LIMIT as DUMP_LIMIT}
 use Rattle.scenario.specs.declared.bounds.TheConstants.{LIMIT as SCENARIO_LIMIT, COMMAND_LIMIT}
-use Rattle.bus_cli.specs.declared.words.Extent.TheVariants.{Whole, Short}
+use Rattle.bus_cli.specs.declared.words.Extent.TheVariants as extents
 use Rattle.bus_cli.specs.declared.words.Word.{Word}
 use Rattle.bus_cli.specs.declared.words.Word.TheVariants.{Run, Judge, Make, Vcd, Unvcd, Transcript}
 
@@ -29,16 +29,22 @@ making _ _ = None
 
 abbrev pub one_word : List ℕ → Option Word
 one_word word =
-    if pointwise nat_eq word (codes "run") then Some (Run Whole)
+    if pointwise nat_eq word (codes "run") then Some (Run extents.Whole)
     else if pointwise nat_eq word (codes "judge") then Some Judge
     else if pointwise nat_eq word (codes "vcd") then Some Vcd
     else if pointwise nat_eq word (codes "unvcd") then Some Unvcd
     else if pointwise nat_eq word (codes "transcript") then Some Transcript
     else None
 
+-- `run` with this option
+abbrev pub running : List ℕ → Option Word
+running option =
+    if pointwise nat_eq option (codes "--short") then Some (Run extents.Short)
+    else if pointwise nat_eq option (codes "--transcript") then Some (Run extents.Transcript)
+    else None
+
 abbrev pub two_words : List ℕ → List ℕ → Option Word
-two_words word option =
-    if pointwise nat_eq word (codes "run") && pointwise nat_eq option (codes "--short") then Some (Run Short) else None
+two_words word option = if pointwise nat_eq word (codes "run") then running option else None
 
 abbrev pub three_words : List ℕ → List ℕ → List ℕ → Option Word
 three_words word seed n =

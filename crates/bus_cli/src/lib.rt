@@ -1,5 +1,5 @@
-//! What the program does: it runs a scenario and writes the report of the run, makes the scenario of a number, judges a
-//! trace, writes the transcript of a trace, or turns a trace into a value change dump and back.
+//! What the program does: it runs a scenario and writes the report or the transcript of the run, makes the scenario of
+//! a number, judges a trace, writes the transcript of a trace, or turns a trace into a value change dump and back.
 //!
 //! [`bus_main`] is the program over a source, a sink and a counter of steps: it looks at the words,
 //! reads the whole input, and writes the report, the verdict, or the one line of a refusal. [`Status`] is

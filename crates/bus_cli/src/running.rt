@@ -1,44 +1,66 @@
-//! The words `run` and `run --short`.
-ghost use Rattle.std.specs.Prelude.{◌≡◌, ◌+◌, ◌≤◌, Some, IfSome, OnErr, length};
+//! The words `run`, `run --short` and `run --transcript`.
+ghost use Rattle.std.specs.Prelude.{◌≡◌, ◌+◌, ◌≤◌, Some, IfSome, length};
 ghost use Rattle.std.specs.List.{AllByRecursion};
 ghost use Rattle.bus_base.specs.Faults.{HasRisen};
-ghost use Rattle.bus_base.specs.Whole.{TakesAtMost, WritesAll};
+ghost use Rattle.bus_base.specs.Whole.{TakesAtMost};
 ghost use Rattle.bus_cli.specs.Words.{limit_of};
 ghost use Rattle.bus_cli.specs.Lines.{IfTold};
+ghost use Rattle.bus_cli.specs.Texts.{SaysText, TellsText};
 ghost use Rattle.scenario.specs.Reading.{scenario_of};
 ghost use Rattle.trace_text.specs.RowText.{IsOfEight};
+ghost use Rattle.bus_cli.specs.Transcripts.{text_of_rows};
 ghost use Rattle.bus_cli.specs.Running.{run_text, RunSays, RunTells, StepsBy};
 ghost use Rattle.bus_cli.specs.Ends.{Reads};
 ghost use Rattle.bus_cli.specs.declared.words.Word.TheVariants as words;
 
 use crate::answers::refusal_line;
-use crate::saying::say;
+use crate::saying::{say, status_written};
 use crate::status::Status;
 use crate::words::Extent;
-use bus_base::{Failed, ReadEnd, Sink, Source, Steps, read_all};
+use bus_base::{ReadEnd, Sink, Source, Steps, read_all};
 use bus_engine::{Run, RunEnd};
+use bus_transcript::{print_transcript, transcribe_run};
 use scenario::{Bad, LIMIT, Scenario, read};
 use std::alloc::Global;
 use std::sync::ledger::Ledger;
 use trace_text::{report, short_report};
 
-// Writes what is reported of a run of this scenario.
-fn write_report<K: Sink>(
+// Writes the transcript of a run of this scenario.
+fn write_transcript<K: Sink>(alloc: Global, scenario: &Scenario, run: &Run, out: &mut K) -> Status
+    requires { AllByRecursion IsOfEight run.now.rows }
+    ensures write { result ≡ Status.Write → HasRisen (K.faults out.old) (K.faults out.new) }
+    ensures form { TellsText result }
+    ensures said { IfTold K.written K.faults out.old out.new (SaysText result (text_of_rows run.now.rows)) }
+    ensures never_falls { K.faults out.old ≤ K.faults out.new }
+{
+    let Ok(transcript) = transcribe_run(alloc, scenario, run) else {
+        say(out, b"no memory\n");
+        return Status::Memory;
+    };
+    status_written(print_transcript(&transcript, out))
+}
+
+// Writes what the words ask of a run of this scenario.
+fn write_run<K: Sink>(
+    alloc: Global,
     scenario: &Scenario,
     run: &Run,
     extent: Extent,
     out: &mut K,
-) -> Result<(), Failed>
+) -> Status
     requires replies { length run.now.replies ≡ length scenario.now.commands }
     requires disks { length run.now.disks ≡ length scenario.now.units }
     requires rows { AllByRecursion IsOfEight run.now.rows }
-    ensures whole { WritesAll (K.written out.old) (K.written out.new) (run_text extent scenario.now run.now) result }
-    ensures failed { OnErr result (HasRisen (K.faults out.old) (K.faults out.new)) }
+    ensures write { result ≡ Status.Write → HasRisen (K.faults out.old) (K.faults out.new) }
+    ensures form { TellsText result }
+    ensures said { IfTold K.written K.faults out.old out.new
+        (SaysText result (run_text extent scenario.now run.now)) }
     ensures never_falls { K.faults out.old ≤ K.faults out.new }
 {
     match extent {
-        Extent::Whole => report(scenario, run, out),
-        Extent::Short => short_report(run, out),
+        Extent::Whole => status_written(report(scenario, run, out)),
+        Extent::Short => status_written(short_report(run, out)),
+        Extent::Transcript => write_transcript(alloc, scenario, run, out),
     }
 }
 
@@ -80,13 +102,10 @@ fn run_bytes<K: Sink, L: Ledger>(
             return Status::Memory;
         }
     };
-    match write_report(&scenario, &run, extent, out) {
-        Ok(()) => Status::Done,
-        Err(_) => Status::Write,
-    }
+    write_run(alloc, &scenario, &run, extent, out)
 }
 
-/// Reads the input, runs the scenario that it says, and writes what is reported of the run.
+/// Reads the input, runs the scenario that it says, and writes the report of the run, the short one, or its transcript.
 pub fn run<S: Source, K: Sink, L: Ledger>(
     alloc: Global,
     extent: Extent,

@@ -22,13 +22,14 @@ use std::sync::ledger::Ledger;
 ///
 /// `words` are the arguments after the program's name. With `run` it reads all of `input`, at most 4,194,304
 /// bytes, runs the scenario that it says, and writes the report of the run to `out`, or with `run --short` the
-/// short report. With `make SEED N` it reads nothing, and writes the scenario of this number. With `judge` it
-/// reads all of `input`, at most 1,073,741,824 bytes, judges the trace that it says, and writes the verdict in
-/// one line. With `transcript` it judges as with `judge`, and writes the transcript of a trace that is lawful;
-/// with `vcd` likewise its value change dump. With `unvcd` it reads a value change dump of as many bytes, and
-/// writes the text of its trace. A refusal writes its one line to `out` instead. Where a line cannot be written
-/// the status stays; but what was asked for ends with `Write` where it cannot be written, and so does the answer
-/// `lawful`. A run counts in `steps` each time that it asks a device, and ends as `Unfinished` where it took as
+/// short report, or with `run --transcript` the transcript of its trace. With `make SEED N` it reads nothing, and
+/// writes the scenario of this number. With `judge` it reads all of `input`, at most 1,073,741,824 bytes, judges
+/// the trace that it says, and writes the verdict in one line. With `transcript` it judges as with `judge`, and
+/// writes the transcript of a trace that is lawful; with `vcd` likewise its value change dump. With `unvcd` it
+/// reads a value change dump of as many bytes, and writes the text of its trace. A refusal writes its one line to
+/// `out` instead. Where a line cannot be written the status stays; but what was asked for ends with `Write` where
+/// it cannot be written, and so does the answer `lawful`. A run counts in `steps` each time that it asks a device,
+/// and ends as `Unfinished` where it took as
 /// many as its budget has and has not ended.
 ///
 /// The words are looked at first, then the input is read, then it is read as a scenario, a trace or a dump, then

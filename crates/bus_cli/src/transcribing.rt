@@ -7,13 +7,14 @@ ghost use Rattle.bus_trace.specs.OfTrace.{IsRow};
 ghost use Rattle.bus_rules.specs.Rules.{judged_whole};
 ghost use Rattle.bus_cli.specs.Words.{limit_of};
 ghost use Rattle.bus_cli.specs.Lines.{IfTold};
+ghost use Rattle.bus_cli.specs.Texts.{SaysText, TellsText};
 ghost use Rattle.bus_cli.specs.Vcd.{VcdTells};
-ghost use Rattle.bus_cli.specs.Transcripts.{SaysLawful, SaysTranscript, TranscriptSays, TellsLawful, TellsTrace};
+ghost use Rattle.bus_cli.specs.Transcripts.{text_of_rows, SaysTranscript, TranscriptSays, TellsTrace};
 ghost use Rattle.bus_cli.specs.Ends.{Reads};
 ghost use Rattle.bus_cli.specs.declared.words.Word.TheVariants as words;
 
 use crate::answers::{broken_line, trace_line};
-use crate::saying::say;
+use crate::saying::{say, status_written};
 use crate::status::Status;
 use bus_base::{Ns, ReadEnd, Sink, Source, read_all};
 use bus_rules::{Verdict, judge_plain};
@@ -22,22 +23,19 @@ use bus_transcript::{print_transcript, transcribe};
 use std::alloc::Global;
 use trace_text::{LIMIT, Trace, TraceBad, read_trace};
 
-/// Writes the transcript of these rows and this end, in ns, of a lawful trace.
-pub fn write_transcript<K: Sink>(alloc: Global, rows: &[Row], end: Ns, out: &mut K) -> Status
+// Writes the transcript of these rows and this end, in ns.
+fn write_transcript<K: Sink>(alloc: Global, rows: &[Row], end: Ns, out: &mut K) -> Status
     requires { AllByRecursion IsRow rows.now }
     ensures write { result ≡ Status.Write → HasRisen (K.faults out.old) (K.faults out.new) }
-    ensures form { TellsLawful result }
-    ensures said { IfTold K.written K.faults out.old out.new (SaysLawful result rows.now) }
+    ensures form { TellsText result }
+    ensures said { IfTold K.written K.faults out.old out.new (SaysText result (text_of_rows rows.now)) }
     ensures never_falls { K.faults out.old ≤ K.faults out.new }
 {
     let Ok(transcript) = transcribe(alloc, rows, end) else {
         say(out, b"no memory\n");
         return Status::Memory;
     };
-    match print_transcript(&transcript, out) {
-        Ok(()) => Status::Done,
-        Err(_) => Status::Write,
-    }
+    status_written(print_transcript(&transcript, out))
 }
 
 // Writes the transcript of a lawful trace, or the rule that a trace breaks.

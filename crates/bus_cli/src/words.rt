@@ -1,24 +1,26 @@
 //! The words of the program.
 ghost use Rattle.std.specs.Prelude.{◌≡◌, ◌≤◌, map, string_bytes};
-ghost use Rattle.bus_cli.specs.Words.{number_of, making, one_word, two_words, three_words, word_of};
+ghost use Rattle.bus_cli.specs.Words.{number_of, making, running, one_word, two_words, three_words, word_of};
 ghost use Rattle.bus_cli.specs.Ends.{MakesFew};
 
 use scenario::COMMAND_LIMIT;
 use text_words::number;
 
-/// How much of a run is reported.
+/// What is written of a run.
 #[derive(Clone, Copy, PartialEq, Eq, Debug)]
 pub enum Extent {
     /// The report.
     Whole,
     /// The short report.
     Short,
+    /// The transcript of its rows.
+    Transcript,
 }
 
 /// What the words ask of the program.
 #[derive(Clone, Copy, PartialEq, Eq, Debug)]
 pub enum Word {
-    /// `run`, or `run --short`: run the scenario of the input.
+    /// `run`, `run --short` or `run --transcript`: run the scenario of the input.
     Run(Extent),
     /// `judge`: judge the trace of the input.
     Judge,
@@ -70,15 +72,23 @@ fn one_word(word: &str) -> Option<Word>
     }
 }
 
+// `run` with this option.
+fn running(option: &str) -> Option<Word>
+    ensures exact { result ≡ running option.now }
+    ensures few { MakesFew result }
+{
+    match option {
+        "--short" => Some(Word::Run(Extent::Short)),
+        "--transcript" => Some(Word::Run(Extent::Transcript)),
+        _ => None,
+    }
+}
+
 fn two_words(word: &str, option: &str) -> Option<Word>
     ensures exact { result ≡ two_words word.now option.now }
     ensures few { MakesFew result }
 {
-    if word == "run" && option == "--short" {
-        Some(Word::Run(Extent::Short))
-    } else {
-        None
-    }
+    if word == "run" { running(option) } else { None }
 }
 
 fn three_words(word: &str, seed: &str, n: &str) -> Option<Word>

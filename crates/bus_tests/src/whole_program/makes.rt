@@ -1,6 +1,6 @@
-//! Tests of the words `make` and `run --short`.
+//! Tests of the words `make`, `run --short` and `run --transcript`.
 use super::wholes::PLAIN;
-use super::{Case, NEVER, NOTHING, ROOM, ended};
+use super::{Case, NEVER, NOTHING, PLAIN_TRANSCRIPT, ROOM, ended};
 use bus_base::{MemSink, MemSource, NoMemory};
 use bus_cli::Status;
 
@@ -28,8 +28,9 @@ const SHORT: &'static str =
 #[test]
 fn ends_with_each_status_of_made_scenarios(rt: HostRuntime) -> Result<(), NoMemory> {
     let short: &'static [&'static str] = &["run", "--short"];
+    let transcript: &'static [&'static str] = &["run", "--transcript"];
     let words: &'static [&'static str] = &["make", "1", "2"];
-    let cases: [Case; 14] = [
+    let cases: [Case; 17] = [
         (words, "", 1, NEVER, Status::Done, MADE),
         (words, "", NEVER, 1, Status::Write, ""),
         (&["make", "1", "0"], "", 1, NEVER, Status::Words, USAGE),
@@ -50,6 +51,16 @@ fn ends_with_each_status_of_made_scenarios(rt: HostRuntime) -> Result<(), NoMemo
         (short, PLAIN.0, NEVER, 1, Status::Write, ""),
         (short, PLAIN.0, 3, NEVER, Status::Read, "read fault\n"),
         (short, NOTHING, NEVER, NEVER, Status::Done, NO_ROWS),
+        (
+            transcript,
+            PLAIN.0,
+            NEVER,
+            NEVER,
+            Status::Done,
+            PLAIN_TRANSCRIPT,
+        ),
+        (transcript, PLAIN.0, NEVER, 1, Status::Write, ""),
+        (transcript, PLAIN.0, 3, NEVER, Status::Read, "read fault\n"),
         (&["run", "--long"], "", 1, NEVER, Status::Words, USAGE),
     ];
     for (words, input, bad_read, bad_write, status, text) in cases {
