@@ -36,7 +36,7 @@ calls_not s rows dev target n named line t k e =
     true≢false (sym (same_as n.initiator target.def.dev (e ∙ sym named)) ∙ not_calling s rows target.def n line t k)
 
 pub never_calls : (s : ScenarioValue) (rows : List Row) (dev : ℕ) (target : TargetValue) (n : Connection) → IsTarget s rows dev target → seams s rows ≡ true → connection rows ≡ Some n → n.initiator ≡ dev → ⊥
-never_calls s rows dev target n h = calls_not s rows dev target n h.named h.after.line
+never_calls s rows dev target n h = calls_not s rows dev target n h.named h.after.knows.line
 
 pub own_connection : (s : ScenarioValue) (rows : List Row) (dev : ℕ) (host : HostValue) (n : Connection) → IsHost s rows dev host → connection rows ≡ Some n → n.initiator ≡ dev → initiators.IsOwnConnection rows host.def.dev n
 own_connection s rows dev host n h k e = record { stands = k; own = same_as n.initiator host.def.dev (e ∙ sym h.named) }

@@ -79,13 +79,13 @@ host_goes_on s rows dev first k q v w e le h =
 
 pub no_initiator : (s : ScenarioValue) (rows : List Row) (dev : ℕ) (target : TargetValue) → IsTarget s rows dev target → is_host s.hosts dev ≡ true → ⊥
 no_initiator s rows dev target h is =
-    true≢false (sym is ∙ ap (λ (d : ℕ). is_host s.hosts d) (sym h.named) ∙ h.after.line.is_none)
+    true≢false (sym is ∙ ap (λ (d : ℕ). is_host s.hosts d) (sym h.named) ∙ h.after.knows.line.is_none)
 
 -- ---- its units
 
 pub units_at : (s : ScenarioValue) (rows : List Row) (dev : ℕ) (target : TargetValue) (units : UnitsState) → IsTarget s rows dev target → units ≡ target.units → AreUnitsOf s (array_of s (run_state s rows)) (run_state s rows).current_since target.def.dev units.units → AreUnitsAt s rows dev units
 units_at s rows dev target units h e are = record {
-  named = ap (λ (u : UnitsState). u.dev) e ∙ h.after.units_dev ∙ h.named;
+  named = ap (λ (u : UnitsState). u.dev) e ∙ h.after.knows.units_dev ∙ h.named;
   units_are = subst (λ (d : ℕ). AreUnitsOf s (array_of s (run_state s rows)) (run_state s rows).current_since d units.units) h.named are;
 }
 

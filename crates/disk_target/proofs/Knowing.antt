@@ -32,12 +32,12 @@ use Rattle.target_course.specs.Progress.{ProgressValue, is_phase_left, progress_
 use Rattle.target_course.proofs.CourseRows.{course_offers}
 use Rattle.target_units.specs.Units.{UnitsState}
 use Rattle.disk_target.specs.Knowns.{AreSourcesOf, IsKnownBy, IsKnownIf, IsStill, refreshed, with_plan}
-use Rattle.disk_target.specs.Targets.{TargetValue, IsCourseIf, IsTargetAfter}
+use Rattle.disk_target.specs.Targets.{TargetValue, IsCourseIf, KnowsRows}
 use Rattle.disk_target.specs.declared.known.Known.{Known}
 use Rattle.disk_target.specs.declared.turn.Turn.{Turn}
 use Rattle.disk_target.proofs.Fitting.{plan_fits}
 
-pub sources : (s : ScenarioValue) (rows : List Row) (v : TargetValue) → IsTargetAfter s rows v → AreSourcesOf s rows v.def v.units v.progress
+pub sources : (s : ScenarioValue) (rows : List Row) (v : TargetValue) → KnowsRows s rows v → AreSourcesOf s rows v.def v.units v.progress
 sources s rows v h = record {
   units_dev = h.units_dev;
   progress_dev = h.progress_dev;

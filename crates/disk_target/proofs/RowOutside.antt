@@ -10,7 +10,7 @@ use Rattle.bus_base.specs.declared.ProcId.{ProcId}
 use Rattle.bus_trace.specs.declared.Row.{Row}
 use Rattle.bus_trace.specs.declared.connection.Connection.{Connection}
 use Rattle.bus_trace.specs.Changes.{rises}
-use Rattle.bus_trace.specs.Phases.{changes_phase}
+use Rattle.bus_trace.specs.Phases.{changes_phase, is_message_in}
 use Rattle.bus_trace.specs.Terms.{connection}
 use Rattle.bus_trace.specs.Trace.{bus}
 use Rattle.scenario.specs.Value.{ScenarioValue}
@@ -101,23 +101,23 @@ empty_after s rows row n e x before after =
     none [] f = refl
     none (y ∷ l) f = cc
 
--- A phase is left only while RST is false, where the connection stands.
+-- A phase is left only while RST is false, where the connection stands, or it is MESSAGE IN.
 pub calm_turn : (s : ScenarioValue) (rows : List Row) (row : Row) (n : Connection) → attended s (row ∷ rows) ≡ true → (run_state s rows).story.bus_state.connection ≡ Some n
     → is_some (row_reading (run_state s rows).story.bus_state row).next ≡ true → changes_phase (row_reading (run_state s rows).story.bus_state row).change ≡ true
-    → ((row_reading (run_state s rows).story.bus_state row).change.before.rst ≡ false) × ((row_reading (run_state s rows).story.bus_state row).change.after.rst ≡ false)
+    → (((row_reading (run_state s rows).story.bus_state row).change.before.rst ≡ false) × ((row_reading (run_state s rows).story.bus_state row).change.after.rst ≡ false)) ⊎ (is_message_in (row_reading (run_state s rows).story.bus_state row).change.before ≡ true)
 calm_turn s rows row n e x stands turns =
     let k : RunState = run_state s rows in
     let d : RowReading = row_reading k.story.bus_state row in
     let shown : List Event = events_of_row s rows row in
     let two = and_parts (is_calm_turn d) (d.change.after.rst || (if d.change.before.rst then is_empty shown else is_attended_in s k d (instructions s rows) (writers s rows) shown n)) (attended_row s rows row n e x) in
-    both (is_some d.next) (changes_phase d.change) d.change.before.rst d.change.after.rst two.0 stands turns
+    either (is_some d.next) (changes_phase d.change) d.change.before.rst d.change.after.rst (is_message_in d.change.before) two.0 stands turns
   where
-    both : (a b c f : Bool) → (not a || not b || (not c && not f)) ≡ true → a ≡ true → b ≡ true → (c ≡ false) × (f ≡ false)
-    both true true false false g p q = (refl, refl)
-    both true true false true g p q = cc
-    both true true true f g p q = cc
-    both true false c f g p q = cc
-    both false b c f g p q = cc
+    either : (a b c f m : Bool) → (not a || not b || (not c && not f) || m) ≡ true → a ≡ true → b ≡ true → ((c ≡ false) × (f ≡ false)) ⊎ (m ≡ true)
+    either true true false false m g p q = inl (refl, refl)
+    either true true false true m g p q = inr g
+    either true true true f m g p q = inr g
+    either true false c f m g p q = cc
+    either false b c f m g p q = cc
 
 -- ---- events of other targets
 

@@ -1,12 +1,13 @@
 -- What a target has of its connection before a row is what the rows tell.
-use Rattle.std.proofs.Common.{ℕ, ◌≡◌, ◌+◌, ◌-◌, ◌^◌, ◌∙◌, Bool, true, false, List, [], ◌∷◌, refl, sym, Option, Some, None}
+use Rattle.std.proofs.Common.{ℕ, ◌≡◌, ◌⊎◌, inl, inr, ap, ◌+◌, ◌-◌, ◌^◌, ◌∙◌, Bool, true, false, List, [], ◌∷◌, refl, sym, Option, Some, None}
 use Rattle.std.specs.Prelude.{if◌then◌else◌, not, ◌&&◌, ◌||◌, is_some, min}
 use Rattle.std.proofs.lemmas.Bool.{and_parts, eqb-true}
 use Rattle.bus_base.specs.declared.Event.{Event}
 use Rattle.bus_base.specs.declared.ProcId.{ProcId}
+use Rattle.bus_trace.specs.LineSet.{LineSet}
 use Rattle.bus_trace.specs.declared.Row.{Row}
 use Rattle.bus_trace.specs.declared.connection.Connection.{Connection}
-use Rattle.bus_trace.specs.Phases.{changes_phase}
+use Rattle.bus_trace.specs.Phases.{changes_phase, is_message_in}
 use Rattle.bus_trace.specs.Terms.{connection}
 use Rattle.bus_trace.specs.Trace.{bus}
 use Rattle.bus_lines.specs.Handshakes.{handshakes}
@@ -23,9 +24,11 @@ use Rattle.bus_dialogue.specs.declared.exchange.Phase.TheVariants as phases
 use Rattle.bus_dialogue.specs.declared.exchange.Plan.{Plan}
 use Rattle.bus_dialogue.specs.declared.exchange.Task.{Task}
 use Rattle.bus_dialogue.specs.Arrivals.{policy_of}
+use Rattle.bus_dialogue.specs.declared.exchange.Next.{Next}
+use Rattle.bus_dialogue.specs.declared.exchange.Next.TheVariants as nexts
 use Rattle.bus_dialogue.specs.DataRuns.{run_in}
 use Rattle.bus_dialogue.specs.Hearing.{begun, hearing}
-use Rattle.bus_dialogue.specs.NextPhase.{leaving_by, phase_of}
+use Rattle.bus_dialogue.specs.NextPhase.{Serving, after_messages, leaving_by, next_data_phase, phase_entry, phase_leaving, phase_of, with_task}
 use Rattle.bus_due.specs.Defs.{target_def_of}
 use Rattle.bus_due.specs.Plain.{IsPlain}
 use Rattle.bus_due.specs.RunState.{RunState, array_of, bus_of, process_served}
@@ -40,6 +43,7 @@ use Rattle.target_course.specs.declared.course.ProcessState.{ProcessState}
 use Rattle.target_course.specs.Agreeing.{AreAgreeing, HaveSameTask, IsSameCommand, needs_command}
 use Rattle.target_course.specs.Courses.{CourseState, IsCourse, AreToldOf, events_of_target, id_known, serving_by}
 use Rattle.target_course.specs.Gathered.{place_at, place_in_run}
+use Rattle.target_course.specs.Progress.{IsUncounted}
 use Rattle.target_course.specs.Replies.{shows_run}
 use Rattle.target_course.specs.States.{IsOwnConnection}
 use Rattle.target_course.proofs.CourseAgrees.{IsFront, IsTurn, courses_agree, front_heard, turn_heard}
@@ -61,23 +65,82 @@ use Rattle.disk_target.proofs.Data.{served_of}
 
 -- ---- a phase is left
 
+-- Nothing is counted as MESSAGE IN is left.
+from_in : (v : Serving) (next : Next) → IsUncounted (after_messages v next)
+from_in v nexts.Command = record { done = refl; counts = refl }
+from_in v nexts.Status = record { done = refl; counts = refl }
+from_in v nexts.FreeBus = record { done = refl; counts = refl }
+from_in v nexts.GoOn = go v.task
+  where
+    go : (o : Option Task) → IsUncounted (with_task o (λ t. phase_entry (next_data_phase (policy_of v.def) t t.runs)))
+    go None = record { done = refl; counts = refl }
+    go (Some t) = record { done = refl; counts = refl }
+
+from_message_in : (v : Serving) (atn : Bool) → IsUncounted (phase_leaving v atn phases.MessageIn)
+from_message_in v true = record { done = refl; counts = refl }
+from_message_in v false = from_in v v.plan.next
+
+in_phase : (b : LineSet) → is_message_in b ≡ true → phase_of b ≡ phases.MessageIn
+in_phase b e = go b.msg b.cd b.io e
+  where
+    go : (m d i : Bool) → (m && d && i) ≡ true → (if m then (if i then phases.MessageIn else phases.MessageOut) else if d then (if i then phases.Status else phases.Command) else if i then phases.DataIn else phases.DataOut) ≡ phases.MessageIn
+    go true true true z = refl
+    go true true false z = cc
+    go true false i z = cc
+    go false d i z = cc
+
+uncounted_in : (v : Serving) (q : Bool) (b : LineSet) → q ≡ true → is_message_in b ≡ true → IsUncounted (leaving_by v q b)
+uncounted_in v q b e m = record {
+  done = ap (λ (x : Bool). (leaving_by v x b).done) e ∙ ap (λ (x : Phase). (phase_leaving v b.atn x).done) (in_phase b m) ∙ (from_message_in v b.atn).done;
+  counts = ap (λ (x : Bool). (leaving_by v x b).counts) e ∙ ap (λ (x : Phase). (phase_leaving v b.atn x).counts) (in_phase b m) ∙ (from_message_in v b.atn).counts;
+}
+
+-- It is left as the target is due to; or nothing is counted.
+abbrev pub IsLeftOr : ScenarioValue → List Row → ℕ → Leaving → Type 0
+IsLeftOr s rows dev l = (l ≡ leaving s (run_state s rows) dev) ⊎ (IsUncounted l × IsUncounted (leaving s (run_state s rows) dev))
+
 pub left_so : (s : ScenarioValue) (rows : List Row) (row : Row) (n m : Connection) (d : TargetDef) (c : CourseState) (f : ProcessState) (l : Leaving) → IsPlain s rows (run_state s rows) → IsPlain s (row ∷ rows) (run_state s (row ∷ rows))
     → hearing_of (run_state s rows) row (row_reading (run_state s rows).story.bus_state row) ≡ hearing rows row → AreTied s (row ∷ rows) → IsOwnConnection rows d.dev n → target_def_of s d.dev ≡ Some d → (bus rows).rst ≡ false → connection (row ∷ rows) ≡ Some m
     → (changes_phase (hearing rows row).change && (hearing rows row).begun) ≡ true → IsCourse s rows n c → AreToldOf s rows c f → l ≡ leaving_by (serving_by d c f (given_of s (run_state s rows))) (begun rows) (bus rows)
-    → l ≡ leaving s (run_state s rows) d.dev
-left_so s rows row n m d c f l p q h tied own line calm after left course told is =
-    let k : RunState = run_state s rows in
-    let r : RowReading = row_reading k.story.bus_state row in
-    let both = and_parts (changes_phase (hearing rows row).change) (hearing rows row).begun left in
-    let turns : changes_phase r.change ≡ true = (λ i. changes_phase (h i).change) ∙ both.0 in
-    let stands : is_some r.next ≡ true = λ i. is_some ((q.connection ∙ after) i) in
-    let still = calm_turn s rows row n tied.attended_are (p.connection ∙ own.stands) stands turns in
-    let turn : IsTurn s k n r = turn_heard s rows row n m p q tied.heard_are own.stands after ((λ i. (sym q.bus i).rst) ∙ still.1) in
-    let front : IsFront s k n (instructions s rows) = front_heard s rows n p (heard_before s rows row tied.heard_are) own.stands calm in
-    is
-    ∙ (λ i. leaving_by (serving_by d c f (given_of s k)) (sym p.begun i) (sym p.bus i))
-    ∙ left_alike s rows n d c f row front (line_of_own s rows n d own line) course told k.exchange.begun refl (turn.turn turns)
-    ∙ (λ i. leaving s k (eqb-true n.target d.dev own.own i))
+    → IsLeftOr s rows d.dev l
+left_so s rows row n m d c f l p q h tied own line calm after left course told is = go (calm_turn s rows row n tied.attended_are (p.connection ∙ own.stands) stands turns)
+  where
+    k : RunState
+    k = run_state s rows
+
+    r : RowReading
+    r = row_reading k.story.bus_state row
+
+    turns : changes_phase r.change ≡ true
+    turns = (λ i. changes_phase (h i).change) ∙ (and_parts (changes_phase (hearing rows row).change) (hearing rows row).begun left).0
+
+    stands : is_some r.next ≡ true
+    stands = λ i. is_some ((q.connection ∙ after) i)
+
+    started : begun rows ≡ true
+    started = (and_parts (changes_phase (hearing rows row).change) (hearing rows row).begun left).1
+
+    front : IsFront s k n (instructions s rows)
+    front = front_heard s rows n p (heard_before s rows row tied.heard_are) own.stands calm
+
+    go : ((r.change.before.rst ≡ false) × (r.change.after.rst ≡ false)) ⊎ (is_message_in r.change.before ≡ true) → IsLeftOr s rows d.dev l
+    go (inl still) =
+        let turn : IsTurn s k n r = turn_heard s rows row n m p q tied.heard_are own.stands after ((λ i. (sym q.bus i).rst) ∙ still.1) in
+        inl (
+        is
+        ∙ (λ i. leaving_by (serving_by d c f (given_of s k)) (sym p.begun i) (sym p.bus i))
+        ∙ left_alike s rows n d c f row front (line_of_own s rows n d own line) course told k.exchange.begun refl (turn.turn turns)
+        ∙ (λ i. leaving s k (eqb-true n.target d.dev own.own i))
+        )
+    go (inr in_message) =
+        let own_one = uncounted_in (serving_by d c f (given_of s k)) (begun rows) (bus rows) started ((λ i. is_message_in (sym h i).change.before) ∙ in_message) in
+        let due_one = uncounted_in (serving_of s k d.dev) k.exchange.begun (bus_of k) (p.begun ∙ started) in_message in
+        inr (record { done = ap (λ (x : Leaving). x.done) is ∙ own_one.done; counts = ap (λ (x : Leaving). x.counts) is ∙ own_one.counts }, due_one)
+
+-- With the process that is served.
+pub left_with : (s : ScenarioValue) (rows : List Row) (dev : ℕ) (known : Option ProcId) (given l : Leaving) → known ≡ id_of (run_state s rows).served → given ≡ l → IsLeftOr s rows dev l → ((known ≡ id_of (run_state s rows).served) × (given ≡ leaving s (run_state s rows) dev)) ⊎ (IsUncounted given × IsUncounted (leaving s (run_state s rows) dev))
+left_with s rows dev known given l e is (inl z) = inl (e, is ∙ z)
+left_with s rows dev known given l e is (inr z) = inr (record { done = ap (λ (x : Leaving). x.done) is ∙ z.0.done; counts = ap (λ (x : Leaving). x.counts) is ∙ z.0.counts }, z.1)
 
 pub process_so : (s : ScenarioValue) (rows : List Row) (row : Row) (n : Connection) (c : CourseState) → IsPlain s rows (run_state s rows) → AreTied s (row ∷ rows) → connection rows ≡ Some n → (bus rows).rst ≡ false → IsCourse s rows n c → id_known c.id ≡ id_of (run_state s rows).served
 process_so s rows row n c p tied stands calm course =
@@ -269,9 +332,15 @@ no_course : (s : ScenarioValue) (rows : List Row) (row : Row) (d : TargetDef) (c
 no_course s rows row d None t away = away
 no_course s rows row d (Some x) t away = λ n own calm. never (bus rows).rst (away n own) calm
 
+no_leaving : (s : ScenarioValue) (rows : List Row) (row : Row) (d : TargetDef) (t : Turn) → IsUncounted t.leaving → ((row_reading (run_state s rows).story.bus_state row).change.before.rst ≡ false → ⊥) → (is_message_in (row_reading (run_state s rows).story.bus_state row).change.before ≡ true → IsUncounted (leaving s (run_state s rows) d.dev))
+    → (((row_reading (run_state s rows).story.bus_state row).change.before.rst ≡ false) × ((row_reading (run_state s rows).story.bus_state row).change.after.rst ≡ false)) ⊎ (is_message_in (row_reading (run_state s rows).story.bus_state row).change.before ≡ true)
+    → ((t.process ≡ id_of (run_state s rows).served) × (t.leaving ≡ leaving s (run_state s rows) d.dev)) ⊎ (IsUncounted t.leaving × IsUncounted (leaving s (run_state s rows) d.dev))
+no_leaving s rows row d t none quiet into (inl z) = absurd (quiet z.0)
+no_leaving s rows row d t none quiet into (inr z) = inr (none, into z)
+
 pub no_turn_so : (s : ScenarioValue) (rows : List Row) (row : Row) (d : TargetDef) (c : Option CourseState) (t : Turn) → IsPlain s rows (run_state s rows) → IsPlain s (row ∷ rows) (run_state s (row ∷ rows)) → hearing_of (run_state s rows) row (row_reading (run_state s rows).story.bus_state row) ≡ hearing rows row
-    → AreTied s (row ∷ rows) → ((n : Connection) → IsOwnConnection rows d.dev n → (bus rows).rst ≡ true) → IsTurnOf s rows row d c t
-no_turn_so s rows row d c t p q h tied away =
+    → AreTied s (row ∷ rows) → IsUncounted t.leaving → ((n : Connection) → IsOwnConnection rows d.dev n → (bus rows).rst ≡ true) → IsTurnOf s rows row d c t
+no_turn_so s rows row d c t p q h tied none away =
     let k : RunState = run_state s rows in
     let r : RowReading = row_reading k.story.bus_state row in
     record {
@@ -280,8 +349,8 @@ no_turn_so s rows row d c t p q h tied away =
           let both = and_parts (changes_phase (hearing rows row).change) (hearing rows row).begun left in
           let turns : changes_phase r.change ≡ true = (λ i. changes_phase (h i).change) ∙ both.0 in
           let stands : is_some r.next ≡ true = λ i. is_some ((q.connection ∙ after) i) in
-          let still = calm_turn s rows row n tied.attended_are (p.connection ∙ own.stands) stands turns in
-          never (bus rows).rst (away n own) ((λ i. (sym p.bus i).rst) ∙ still.0);
+          no_leaving s rows row d t none (λ still. never (bus rows).rst (away n own) ((λ i. (sym p.bus i).rst) ∙ still)) (λ in_message. uncounted_in (serving_of s k d.dev) k.exchange.begun (bus_of k) ((λ i. (h i).begun) ∙ both.1) in_message)
+          (calm_turn s rows row n tied.attended_are (p.connection ∙ own.stands) stands turns);
       hears = λ n own calm. never (bus rows).rst (away n own) calm;
       sends = λ n own brings. never (bus rows).rst (away n own) (byte_in_calm s rows row n p h tied.written_are own.stands brings);
       at_unit = λ n x own brings is. never (bus rows).rst (away n own) (byte_in_calm s rows row n p h tied.written_are own.stands brings);

@@ -6,7 +6,7 @@ use Rattle.bus_base.specs.declared.Event.TheVariants as events
 use Rattle.bus_base.specs.declared.ProcId.{ProcId}
 use Rattle.bus_trace.specs.declared.Row.{Row}
 use Rattle.bus_trace.specs.declared.connection.Connection.{Connection}
-use Rattle.bus_trace.specs.Phases.{changes_phase}
+use Rattle.bus_trace.specs.Phases.{changes_phase, is_message_in}
 use Rattle.cdb_codec.specs.declared.status.TheConstants.{GOOD}
 use Rattle.scenario.specs.Value.{ScenarioValue}
 use Rattle.disk_array.specs.Processes.{Process, same_id}
@@ -110,9 +110,11 @@ is_attended_in s k d i all shown n =
     are_in n k.served shown
     && (are_known_ends i.known shown && (is_quiet s k n (is_some d.next) shown && (not (shows_run shown) || is_whole_run s k all (process_served s k))))
 
--- A phase is left while RST is false.
+-- A phase is left while RST is false; but for MESSAGE IN, as a reselection is cut by RST: there the initiator still drives BSY, and the
+-- target lets the phase lines go (6.1.4, 6.2.2).
 abbrev pub is_calm_turn : RowReading → Bool
-is_calm_turn d = not (is_some d.next) || not (changes_phase d.change) || (not d.change.before.rst && not d.change.after.rst)
+is_calm_turn d =
+    not (is_some d.next) || not (changes_phase d.change) || (not d.change.before.rst && not d.change.after.rst) || is_message_in d.change.before
 
 abbrev pub is_attended_row : ScenarioValue → RunState → RowReading → Instructions → List Writer → List Event → Connection → Bool
 is_attended_row s k d i all shown n =

@@ -26,7 +26,7 @@ use Rattle.target_course.specs.Gathered.{GatheredValue, IsGatheredOf, AreAllGath
 use Rattle.target_course.specs.Negotiated.{NegotiatedValue, IsNegotiatedOf}
 use Rattle.target_course.specs.Progress.{ProgressValue, IsProgressOf}
 use Rattle.target_course.specs.Replies.{IsReplyOf}
-use Rattle.target_course.specs.States.{IsOwnConnection}
+use Rattle.target_course.specs.States.{IsNoInitiator, IsOwnConnection}
 use Rattle.target_units.specs.Units.{UnitsState, AreUnitsOf}
 use Rattle.disk_target.specs.declared.standing.Standing.{Standing}
 use Rattle.disk_target.specs.Attended.{attended}
@@ -58,7 +58,7 @@ IsStandingOf s rows dev v =
     (n : Connection) (p : Process) → IsOwnConnection rows dev n → (bus rows).rst ≡ false → process_served s (run_state s rows) ≡ Some p → IsStanding (seat_of (array_of s (run_state s rows)) dev p.unit) p v
 
 -- Its parts are of this target of the scenario, and each knows what these rows make known.
-pub record IsTargetAfter (s : ScenarioValue) (rows : List Row) (v : TargetValue) : Type 0 where
+pub record KnowsRows (s : ScenarioValue) (rows : List Row) (v : TargetValue) : Type 0 where
   pub line : IsTargetLine s v.def
   pub itself_dev : v.itself.dev ≡ v.def.dev
   pub units_dev : v.units.dev ≡ v.def.dev
@@ -84,6 +84,14 @@ pub record IsTargetAfter (s : ScenarioValue) (rows : List Row) (v : TargetValue)
 pub record IsServable (s : ScenarioValue) (rows : List Row) (t : TargetDef) : Type 0 where
   pub few : length rows < 2 ^ 64
   pub early : (n : ℕ) → n < 8 → since_of (array_of s (run_state s rows)).units (run_state s rows).current_since t.dev n + t.seek < 2 ^ 63
+
+-- This is the target of the scenario after these rows: it knows what they make known, what it has heard is what was to be said to it,
+-- it is the initiator of no connection, and its times are small.
+pub record IsTargetAfter (s : ScenarioValue) (rows : List Row) (v : TargetValue) : Type 0 where
+  pub knows : KnowsRows s rows v
+  pub heard_are : heard s rows ≡ true
+  pub no_initiator : IsNoInitiator rows v.def.dev
+  pub servable : IsServable s rows v.def
 
 -- What ties its knowledge to what the rows tell.
 pub record AreTied (s : ScenarioValue) (rows : List Row) : Type 0 where

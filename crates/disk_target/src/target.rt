@@ -39,7 +39,7 @@ ghost use Rattle.target_course.specs.declared.course.Name.{Name as NameValue};
 ghost use Rattle.disk_target.specs.Bytes.{DecidesAs, IsOthers};
 ghost use Rattle.disk_target.specs.Processes.{events_of_row};
 ghost use Rattle.disk_target.specs.Knowns.{IsKnownBy, IsKnownIf};
-ghost use Rattle.disk_target.specs.Targets.{AreInTime, AreTied, IsCourseIf, IsServable, IsTargetAfter};
+ghost use Rattle.disk_target.specs.Targets.{AreInTime, AreTied, IsCourseIf, IsServable, IsTargetAfter, KnowsRows};
 ghost use Rattle.disk_target.specs.Turns.{IsTurnOf};
 
 use crate::bytes::{
@@ -250,7 +250,7 @@ impl Target {
         ensures fits { AreFit result.serving.plan.messages }
         ensures trace { (s : ScenarioValue) (rows : List Row) (n : Connection) → FitsBus s
             → IsObserverOf rows observer.now → AreOfDevices rows → heard s rows ≡ true
-            → IsServable s rows self.now.def → IsTargetAfter s rows self.now
+            → IsServable s rows self.now.def → KnowsRows s rows self.now
             → IsCourseOf s rows self.now.def.dev course.now → IsOwnConnection rows self.now.def.dev n
             → (bus rows).rst ≡ false → n.initiator ≡ known.now.from
             → DecidesAs s rows self.now.def result.serving result.bytes }
@@ -285,7 +285,7 @@ impl Target {
         ensures fits { AreFit result.serving.plan.messages }
         ensures trace { (s : ScenarioValue) (rows : List Row) (n : Connection) → FitsBus s
             → IsObserverOf rows observer.now → AreOfDevices rows → heard s rows ≡ true
-            → IsServable s rows self.now.def → IsTargetAfter s rows self.now
+            → IsServable s rows self.now.def → KnowsRows s rows self.now
             → IsCourseOf s rows self.now.def.dev course.now → IsOwnConnection rows self.now.def.dev n
             → (bus rows).rst ≡ false → n.initiator ≡ from
             → DecidesAs s rows self.now.def result.serving result.bytes }
@@ -321,7 +321,7 @@ impl Target {
         ensures fits { AreFit result.serving.plan.messages }
         ensures trace { (s : ScenarioValue) (rows : List Row) → FitsBus s
             → IsObserverOf rows observer.now → AreOfDevices rows → heard s rows ≡ true
-            → IsServable s rows self.now.def → IsTargetAfter s rows self.now
+            → IsServable s rows self.now.def → KnowsRows s rows self.now
             → DecidesAs s rows self.now.def result.serving result.bytes }
     {
         match (own_connection(observer.view(), self.def.dev), &self.course) {
@@ -337,7 +337,7 @@ impl Target {
         requires timely { IsTimely (2 ^ 63) observer.now.view }
         ensures { (s : ScenarioValue) (rows : List Row) → FitsBus s → IsObserverOf rows observer.now
             → AreOfDevices rows → IsNoInitiator rows self.now.def.dev → heard s rows ≡ true
-            → IsServable s rows self.now.def → IsTargetAfter s rows self.now
+            → IsServable s rows self.now.def → KnowsRows s rows self.now
             → fault ≡ first_fault (run_state s rows).faults → result ≡ due s rows self.now.def.dev }
     {
         let decision = self.decision(observer);
@@ -355,7 +355,7 @@ impl Target {
         requires timely { IsTimely (2 ^ 63) observer.now.view }
         ensures { (s : ScenarioValue) (rows : List Row) (n : Connection) → FitsBus s → IsObserverOf rows observer.now
             → AreOfDevices rows → IsNoInitiator rows self.now.def.dev → heard s rows ≡ true
-            → IsServable s rows self.now.def → IsTargetAfter s rows self.now
+            → IsServable s rows self.now.def → KnowsRows s rows self.now
             → IsOwnConnection rows self.now.def.dev n → (bus rows).rst ≡ false
             → fault ≡ first_fault (run_state s rows).faults → result ≡ due s rows self.now.def.dev }
     {
@@ -375,7 +375,7 @@ impl Target {
         requires timely { IsTimely (2 ^ 63) observer.now.view }
         ensures { (s : ScenarioValue) (rows : List Row) → FitsBus s → IsObserverOf rows observer.now
             → AreOfDevices rows → IsNoInitiator rows self.now.def.dev → heard s rows ≡ true
-            → IsServable s rows self.now.def → IsTargetAfter s rows self.now
+            → IsServable s rows self.now.def → KnowsRows s rows self.now
             → fault ≡ first_fault (run_state s rows).faults → result ≡ due s rows self.now.def.dev }
     {
         match own_connection(observer.view(), self.def.dev) {
@@ -384,13 +384,12 @@ impl Target {
         }
     }
 
-    /// What it does next, and when, in ns, by the first fault that has not struck yet: exactly what is due of it, where
-    /// it was told of all rows and is the initiator of no connection. It changes nothing.
-    pub fn due(&self, observer: &Observer, fault: Option<FaultDef>) -> Option<Due>
+    // By what it knows.
+    fn due_known(&self, observer: &Observer, fault: Option<FaultDef>) -> Option<Due>
         requires timely { IsTimely (2 ^ 63) observer.now.view }
         ensures { (s : ScenarioValue) (rows : List Row) → FitsBus s → IsObserverOf rows observer.now
             → AreOfDevices rows → IsNoInitiator rows self.now.def.dev → heard s rows ≡ true
-            → IsServable s rows self.now.def → IsTargetAfter s rows self.now
+            → IsServable s rows self.now.def → KnowsRows s rows self.now
             → fault ≡ first_fault (run_state s rows).faults → result ≡ due s rows self.now.def.dev }
     {
         match other_connection(observer.view(), self.def.dev) {
@@ -399,12 +398,22 @@ impl Target {
         }
     }
 
+    /// What it does next, and when, in ns, by the first fault that has not struck yet: exactly what is due of it after
+    /// the rows that it was told of. It changes nothing.
+    pub fn due(&self, observer: &Observer, fault: Option<FaultDef>) -> Option<Due>
+        requires timely { IsTimely (2 ^ 63) observer.now.view }
+        ensures { (s : ScenarioValue) (rows : List Row) → FitsBus s → IsObserverOf rows observer.now
+            → AreOfDevices rows → IsTargetAfter s rows self.now
+            → fault ≡ first_fault (run_state s rows).faults → result ≡ due s rows self.now.def.dev }
+    {
+        self.due_known(observer, fault)
+    }
+
     /// What it does at this moment, in ns: the row that is due by then, or when its next one is. It changes nothing.
     pub fn step(&self, observer: &Observer, now: Ns, fault: Option<FaultDef>) -> Act
         requires timely { IsTimely (2 ^ 63) observer.now.view }
         ensures { (s : ScenarioValue) (rows : List Row) → FitsBus s → IsObserverOf rows observer.now
-            → AreOfDevices rows → IsNoInitiator rows self.now.def.dev → heard s rows ≡ true
-            → IsServable s rows self.now.def → IsTargetAfter s rows self.now
+            → AreOfDevices rows → IsTargetAfter s rows self.now
             → fault ≡ first_fault (run_state s rows).faults → result ≡ act_of (due s rows self.now.def.dev) now }
     {
         Act::of(self.due(observer, fault), now)
@@ -421,7 +430,7 @@ impl Target {
         requires known { IsKnownBy self.now.def self.now.units self.now.progress self.now.reply course.now known.now }
         ensures { (s : ScenarioValue) (rows : List Row) (row : Row) → FitsBus s
             → IsObserverOf (row ∷ rows) observer.now → AreOfDevices (row ∷ rows) → heard s (row ∷ rows) ≡ true
-            → IsServable s rows self.now.def → IsTargetAfter s rows self.now
+            → IsServable s rows self.now.def → KnowsRows s rows self.now
             → IsCourseOf s rows self.now.def.dev course.now
             → IsOwnConnection rows self.now.def.dev connection.now → (bus rows).rst ≡ false
             → (bus (row ∷ rows)).rst ≡ false → connection.now.initiator ≡ known.now.from
@@ -435,7 +444,7 @@ impl Target {
         requires course { self.now.course ≡ Some course.now }
         ensures { (s : ScenarioValue) (rows : List Row) (row : Row) → FitsBus s
             → IsObserverOf (row ∷ rows) observer.now → AreOfDevices (row ∷ rows) → heard s (row ∷ rows) ≡ true
-            → IsServable s rows self.now.def → IsTargetAfter s rows self.now
+            → IsServable s rows self.now.def → KnowsRows s rows self.now
             → IsCourseOf s rows self.now.def.dev course.now
             → IsOwnConnection rows self.now.def.dev connection.now → (bus rows).rst ≡ false
             → (bus (row ∷ rows)).rst ≡ false → shown_list result ≡ events_of_target s rows row connection.now }
@@ -447,12 +456,11 @@ impl Target {
         }
     }
 
-    /// The events that it shows with the last row, which the observer has seen and it has not, in a connection of which
-    /// it is the target: those of the row that leaves a phase, or the bus, and none with another.
-    pub fn shown(&self, observer: &Observer) -> Shown
+    // By what it knows.
+    fn shown_known(&self, observer: &Observer) -> Shown
         ensures { (s : ScenarioValue) (rows : List Row) (row : Row) (n : Connection) → FitsBus s
             → IsObserverOf (row ∷ rows) observer.now → AreOfDevices (row ∷ rows) → heard s (row ∷ rows) ≡ true
-            → IsServable s rows self.now.def → IsTargetAfter s rows self.now
+            → IsServable s rows self.now.def → KnowsRows s rows self.now
             → IsOwnConnection rows self.now.def.dev n → (bus rows).rst ≡ false → (bus (row ∷ rows)).rst ≡ false
             → shown_list result ≡ events_of_target s rows row n }
     {
@@ -463,6 +471,18 @@ impl Target {
                 second: None,
             },
         }
+    }
+
+    /// The events that it shows with the last row, which the observer has seen and it has not, in a connection of which
+    /// it is the target: those of the row that leaves a phase, or the bus, and none with another.
+    pub fn shown(&self, observer: &Observer) -> Shown
+        ensures { (s : ScenarioValue) (rows : List Row) (row : Row) (n : Connection) → FitsBus s
+            → IsObserverOf (row ∷ rows) observer.now → AreOfDevices (row ∷ rows) → heard s (row ∷ rows) ≡ true
+            → IsTargetAfter s rows self.now
+            → IsOwnConnection rows self.now.def.dev n → (bus rows).rst ≡ false → (bus (row ∷ rows)).rst ≡ false
+            → shown_list result ≡ events_of_target s rows row n }
+    {
+        self.shown_known(observer)
     }
 
     // What it has of this connection of its own before the last row, which the observer has seen and it has not, by
@@ -480,7 +500,7 @@ impl Target {
         ensures fits { AreFit result.leaving.messages }
         ensures trace { (s : ScenarioValue) (rows : List Row) (row : Row) → FitsBus s
             → IsObserverOf (row ∷ rows) observer.now → AreOfDevices (row ∷ rows) → AreTied s (row ∷ rows)
-            → AreInTime (row ∷ rows) → IsTargetAfter s rows self.now
+            → AreInTime (row ∷ rows) → KnowsRows s rows self.now
             → IsOwnConnection rows self.now.def.dev connection.now → (bus rows).rst ≡ false
             → self.now.course ≡ Some course.now → connection.now.initiator ≡ known.now.from
             → IsTurnOf s rows row self.now.def self.now.course result }
@@ -511,7 +531,7 @@ impl Target {
         ensures fits { AreFit result.leaving.messages }
         ensures trace { (s : ScenarioValue) (rows : List Row) (row : Row) → FitsBus s
             → IsObserverOf (row ∷ rows) observer.now → AreOfDevices (row ∷ rows) → AreTied s (row ∷ rows)
-            → AreInTime (row ∷ rows) → IsTargetAfter s rows self.now
+            → AreInTime (row ∷ rows) → KnowsRows s rows self.now
             → IsOwnConnection rows self.now.def.dev connection.now → (bus rows).rst ≡ false
             → IsTurnOf s rows row self.now.def self.now.course result }
     {
@@ -528,7 +548,7 @@ impl Target {
         ensures fits { AreFit result.leaving.messages }
         ensures trace { (s : ScenarioValue) (rows : List Row) (row : Row) → FitsBus s
             → IsObserverOf (row ∷ rows) observer.now → AreOfDevices (row ∷ rows) → AreTied s (row ∷ rows)
-            → AreInTime (row ∷ rows) → IsTargetAfter s rows self.now
+            → AreInTime (row ∷ rows) → KnowsRows s rows self.now
             → IsTurnOf s rows row self.now.def self.now.course result }
     {
         kept_is_plain();
@@ -544,7 +564,7 @@ impl Target {
     fn course_reselected(&self) -> Option<Course>
         ensures { (s : ScenarioValue) (rows : List Row) (row : Row) (n : Connection) → FitsBus s
             → AreOfDevices (row ∷ rows) → AreTied s (row ∷ rows) → AreInTime (row ∷ rows)
-            → IsTargetAfter s rows self.now → connection rows ≡ None
+            → KnowsRows s rows self.now → connection rows ≡ None
             → IsOwnConnection (row ∷ rows) self.now.def.dev n → (bus (row ∷ rows)).rst ≡ false → n.reselected ≡ true
             → IsCourseIf s (row ∷ rows) self.now.def.dev result }
     {
@@ -564,7 +584,7 @@ impl Target {
     fn course_begun(&self, begun: &Connection, label: ProcId) -> Option<Course>
         ensures { (s : ScenarioValue) (rows : List Row) (row : Row) → FitsBus s
             → AreOfDevices (row ∷ rows) → AreTied s (row ∷ rows) → AreInTime (row ∷ rows)
-            → IsTargetAfter s rows self.now → connection rows ≡ None
+            → KnowsRows s rows self.now → connection rows ≡ None
             → IsOwnConnection (row ∷ rows) self.now.def.dev begun.now → (bus (row ∷ rows)).rst ≡ false
             → IsLabelOf (item_of (run_state s (row ∷ rows)).story.link) label
             → IsCourseIf s (row ∷ rows) self.now.def.dev result }
@@ -581,7 +601,7 @@ impl Target {
     fn beginning(&self, observer: &Observer, label: ProcId) -> Option<Course>
         ensures { (s : ScenarioValue) (rows : List Row) (row : Row) → FitsBus s
             → IsObserverOf (row ∷ rows) observer.now → AreOfDevices (row ∷ rows) → AreTied s (row ∷ rows)
-            → AreInTime (row ∷ rows) → IsTargetAfter s rows self.now → connection rows ≡ None
+            → AreInTime (row ∷ rows) → KnowsRows s rows self.now → connection rows ≡ None
             → ((n : Connection) → IsOwnConnection (row ∷ rows) self.now.def.dev n
             → IsLabelOf (item_of (run_state s (row ∷ rows)).story.link) label)
             → IsCourseIf s (row ∷ rows) self.now.def.dev result }
@@ -606,7 +626,7 @@ impl Target {
             → AreOfDevices (row.now ∷ rows) → AreTied s (row.now ∷ rows)
             → IsOthers rows self.old.def.dev m → IsOthers (row.now ∷ rows) self.old.def.dev n
             → shown.now ≡ events_of_row s rows row.now → events_of_row s rows row.now ≡ []
-            → IsTargetAfter s rows self.old → IsTargetAfter s (row.now ∷ rows) self.new }
+            → KnowsRows s rows self.old → KnowsRows s (row.now ∷ rows) self.new }
     {
         kept_is_plain();
         hearings_are_plain();
@@ -651,7 +671,7 @@ impl Target {
             → ((n : Connection) → IsOwnConnection (row.now ∷ rows) self.old.def.dev n
             → IsLabelOf (item_of (run_state s (row.now ∷ rows)).story.link) label)
             → shown.now ≡ events_of_row s rows row.now
-            → IsTargetAfter s rows self.old → IsTargetAfter s (row.now ∷ rows) self.new }
+            → KnowsRows s rows self.old → KnowsRows s (row.now ∷ rows) self.new }
     {
         scenarios_fit_the_bus();
         let view = observer.view();
@@ -729,9 +749,8 @@ impl Target {
         );
     }
 
-    /// One more row, of any device, which shows these events, the newest first; the observer has seen it. `label` is
-    /// the process of the connection that stands after it, as the initiator of that connection knows it.
-    pub fn see(&mut self, observer: &Observer, row: &Row, label: ProcId, shown: &[Event])
+    // One more row.
+    fn follow(&mut self, observer: &Observer, row: &Row, label: ProcId, shown: &[Event])
         requires device { row.now.dev < 8 }
         requires timely { IsTimely (2 ^ 63) observer.now.view }
         ensures def { self.new.def ≡ self.old.def }
@@ -740,7 +759,7 @@ impl Target {
             → ((n : Connection) → IsOwnConnection (row.now ∷ rows) self.old.def.dev n
             → IsLabelOf (item_of (run_state s (row.now ∷ rows)).story.link) label)
             → shown.now ≡ events_of_row s rows row.now
-            → IsTargetAfter s rows self.old → IsTargetAfter s (row.now ∷ rows) self.new }
+            → KnowsRows s rows self.old → KnowsRows s (row.now ∷ rows) self.new }
     {
         let view = observer.view();
         let dev = self.def.dev;
@@ -748,6 +767,24 @@ impl Target {
             (Some(_), Some(_)) if shown.is_empty() => self.follow_others(observer, row, shown),
             _ => self.follow_own(observer, row, label, shown),
         }
+    }
+
+    /// One more row, of any device, which shows these events, the newest first; the observer has seen it. `label` is
+    /// the process of the connection that stands after it, as the initiator of that connection knows it. It is no
+    /// initiator of that.
+    pub fn see(&mut self, observer: &Observer, row: &Row, label: ProcId, shown: &[Event])
+        requires device { row.now.dev < 8 }
+        requires timely { IsTimely (2 ^ 63) observer.now.view }
+        ensures def { self.new.def ≡ self.old.def }
+        ensures trace { (s : ScenarioValue) (rows : List Row) → FitsBus s → IsObserverOf (row.now ∷ rows) observer.now
+            → AreOfDevices (row.now ∷ rows) → AreTied s (row.now ∷ rows) → AreInTime (row.now ∷ rows)
+            → IsNoInitiator (row.now ∷ rows) self.old.def.dev
+            → ((n : Connection) → IsOwnConnection (row.now ∷ rows) self.old.def.dev n
+            → IsLabelOf (item_of (run_state s (row.now ∷ rows)).story.link) label)
+            → shown.now ≡ events_of_row s rows row.now
+            → IsTargetAfter s rows self.old → IsTargetAfter s (row.now ∷ rows) self.new }
+    {
+        self.follow(observer, row, label, shown);
     }
 
     /// What it keeps of its units.

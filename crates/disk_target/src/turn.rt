@@ -20,6 +20,7 @@ ghost use Rattle.scsi_device.specs.Lines.{FitsBus, IsTargetLine};
 ghost use Rattle.target_course.specs.Courses.{course_after, course_reselected, id_known, CourseState, IsCourseOf, IsReadyProcess};
 ghost use Rattle.target_course.specs.Fits.{AreFit};
 ghost use Rattle.target_course.specs.Gathered.{bytes_of, gathering_at};
+ghost use Rattle.target_course.specs.Progress.{IsUncounted};
 ghost use Rattle.target_course.specs.Replies.{IsReplyOf};
 ghost use Rattle.target_course.specs.Shown.{shown_list};
 ghost use Rattle.target_course.specs.States.{IsOwnConnection};
@@ -73,6 +74,7 @@ pub fn no_turn() -> Turn
     ensures unit { result.unit < 8 }
     ensures device { result.from < 8 }
     ensures fits { AreFit result.leaving.messages }
+    ensures uncounted { IsUncounted result.leaving }
 {
     Turn {
         process: None,

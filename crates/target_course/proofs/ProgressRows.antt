@@ -1,5 +1,5 @@
 -- How far the processes of a target have come goes on row by row.
-use Rattle.std.proofs.Common.{ℕ, zero, suc, ◌≡◌, ◌≢◌, ◌+◌, ◌<◌, ◌≤◌, Bool, true, false, List, [], ◌∷◌, ◌∙◌, refl, sym, ap, subst, arith, length, set, replicate, Option, Some, None}
+use Rattle.std.proofs.Common.{ℕ, ◌⊎◌, inl, inr, zero, suc, ◌≡◌, ◌≢◌, ◌+◌, ◌<◌, ◌≤◌, Bool, true, false, List, [], ◌∷◌, ◌∙◌, refl, sym, ap, subst, arith, length, set, replicate, Option, Some, None}
 use Rattle.std.specs.Prelude.{if◌then◌else◌, min, ◌^◌, ◌-◌, ◌&&◌, ◌||◌, ◌==◌}
 use Rattle.std.proofs.lemmas.Bool.{eqb-true, eqb-false, and_parts}
 use Rattle.std.proofs.lemmas.List.{get_or-set_same, get_or-set_other, length-set, length-replicate}
@@ -25,7 +25,7 @@ use Rattle.bus_due.specs.RunState.{RunState, process_item, process_served}
 use Rattle.bus_due.specs.RunSteps.{run_state, progress_by_leaving, progress_after, leaving_of}
 use Rattle.bus_due.specs.Sights.{leaving, hearing_of}
 use Rattle.bus_due.specs.Telling.{id_of}
-use Rattle.target_course.specs.Progress.{no_counts, counted_if, counts_after, no_pair, half_of, pair_after, pair_at, counts_at, pairs_after, ProgressValue, no_progress, is_phase_left, progress_counted, progress_seen, counts_of, AreCounted, IsProgressOf, IsLeftSo, AreExactly}
+use Rattle.target_course.specs.Progress.{no_counts, counted_if, counts_after, no_pair, half_of, pair_after, pair_at, counts_at, pairs_after, ProgressValue, no_progress, is_phase_left, progress_counted, progress_seen, counts_of, AreCounted, IsProgressOf, IsLeftSo, IsUncounted, AreExactly}
 use Rattle.target_course.specs.declared.progress.Counts.{Counts}
 use Rattle.target_course.specs.declared.progress.CountsPair.{CountsPair}
 use Rattle.target_course.proofs.ServedEnds.{same_id_is, process_id, ends_are}
@@ -173,12 +173,45 @@ left_by_other s k v m l ends other h = go (process_served s k) refl ends
         let at : p.target ≡ m.target = eqb-true p.target m.target (and_parts (p.initiator == m.initiator) (p.target == m.target) f).1 in
         other_counted s k.progress v p l.done l.counts (named_so s k.served p e) (λ z. eqb-false m.target v.dev other (sym at ∙ z)) h
 
+-- Nothing is counted.
+same_counts : (c : Counts) (l : Leaving) → IsUncounted l → counts_after c l ≡ c
+same_counts c l u = λ i. record { runs = counted_if (u.done i) c.runs; recoveries = counted_if (u.counts i) c.recoveries }
+
+uncounted_kept : (s : ScenarioValue) (all : List ProcessProgress) (v : ProgressValue) (known : Option ProcId) (l : Leaving) → IsUncounted l → AreCounted s all v → AreCounted s all (progress_counted v known l)
+uncounted_kept s all v None l u h = h
+uncounted_kept s all v (Some a) l u h = record {
+  long = length-set v.pairs a.command (pair_after (pair_at v.pairs a.command) a.sense l) ∙ h.long;
+  counts = λ id q f t.
+      counts_put v.pairs a id l (subst (λ (n : ℕ). id.command < n) (sym h.long) (process_range s id q f))
+      ∙ either (same_id a id) (counts_at v.pairs id) (counts_after (counts_at v.pairs id) l) (same_counts (counts_at v.pairs id) l u)
+      ∙ h.counts id q f t;
+}
+  where
+    either : (r : Bool) (x y : Counts) → y ≡ x → (if r then y else x) ≡ x
+    either true x y e = e
+    either false x y e = refl
+
+uncounted_by : (s : ScenarioValue) (k : RunState) (p : Option Process) (v : ProgressValue) (l : Leaving) → IsUncounted l → AreCounted s k.progress v → AreCounted s (progress_by_leaving k p l) v
+uncounted_by s k None v l u h = h
+uncounted_by s k (Some p) v l u h = subst (λ (all : List ProcessProgress). AreCounted s all v) (λ i. progress_with k.progress p.id (sym u.done i) (sym u.counts i)) h
+
 -- ---- a row
+
+-- The process that is served leaves a phase so; or nothing is counted as it is left.
+abbrev IsLeftBy : ScenarioValue → RunState → ℕ → Option ProcId → Leaving → Type 0
+IsLeftBy s k dev known l = ((known ≡ id_of k.served) × (l ≡ leaving s k dev)) ⊎ (IsUncounted l × IsUncounted (leaving s k dev))
+
+left_counted : (s : ScenarioValue) (k : RunState) (v : ProgressValue) (known : Option ProcId) (l : Leaving) → IsLeftBy s k v.dev known l → AreCounted s k.progress v → AreCounted s (progress_by_leaving k (process_served s k) (leaving s k v.dev)) (progress_counted v known l)
+left_counted s k v known l (inl so) h =
+    subst (λ (z : Option ProcId). AreCounted s (progress_by_leaving k (process_served s k) (leaving s k v.dev)) (progress_counted v z l)) (sym so.0)
+    (subst (λ (z : Leaving). AreCounted s (progress_by_leaving k (process_served s k) (leaving s k v.dev)) (progress_counted v (id_of k.served) z)) (sym so.1)
+    (left_by_own s k v k.served (leaving s k v.dev) refl h))
+left_counted s k v known l (inr so) h = uncounted_by s k (process_served s k) (progress_counted v known l) (leaving s k v.dev) so.1 (uncounted_kept s k.progress v known l so.0 h)
 
 row_counted : (s : ScenarioValue) (k : RunState) (d : RowReading) (v : ProgressValue) (known : Option ProcId) (l : Leaving) (w : Hearing) (before after : Option Connection)
     → changes_phase w.change ≡ changes_phase d.change → w.begun ≡ k.exchange.begun
     → ((n : Connection) → before ≡ Some n → has_ends (process_served s k) n ≡ true)
-    → ((n m : Connection) → before ≡ Some n → after ≡ Some m → (n.target == v.dev) ≡ true → is_phase_left w ≡ true → (known ≡ id_of k.served) × (l ≡ leaving s k v.dev))
+    → ((n m : Connection) → before ≡ Some n → after ≡ Some m → (n.target == v.dev) ≡ true → is_phase_left w ≡ true → IsLeftBy s k v.dev known l)
     → AreCounted s k.progress v → AreCounted s (progress_after s k d before after (leaving_of s k before)) (progress_seen v known l w before after)
 row_counted s k d v known l w None None c b ends left h = h
 row_counted s k d v known l w None (Some n) c b ends left h = h
@@ -204,9 +237,7 @@ row_counted s k d v known l w (Some m) (Some n) c b ends left h = go (changes_ph
         subst (λ (z : Bool). AreCounted s (if z then progress_by_leaving k (process_served s k) (leaving s k m.target) else k.progress) (if m.target == v.dev && (changes_phase w.change && w.begun) then progress_counted v known l else v)) (sym e ∙ same)
         (subst (λ (z : Bool). AreCounted s (progress_by_leaving k (process_served s k) (leaving s k m.target)) (if m.target == v.dev && z then progress_counted v known l else v)) (sym e)
         (subst (λ (z : Bool). AreCounted s (progress_by_leaving k (process_served s k) (leaving s k m.target)) (if z && true then progress_counted v known l else v)) (sym f)
-        (subst (λ (z : Option ProcId). AreCounted s (progress_by_leaving k (process_served s k) (leaving s k m.target)) (progress_counted v z l)) (sym so.0)
-        (subst (λ (z : Leaving). AreCounted s (progress_by_leaving k (process_served s k) (leaving s k m.target)) (progress_counted v (id_of k.served) z)) ((λ i. leaving s k (at i)) ∙ sym so.1)
-        (left_by_own s k v k.served (leaving s k m.target) refl h)))))
+        (subst (λ (z : ℕ). AreCounted s (progress_by_leaving k (process_served s k) (leaving s k z)) (progress_counted v known l)) (sym at) (left_counted s k v known l so h))))
     go true e false f =
         subst (λ (z : Bool). AreCounted s (if z then progress_by_leaving k (process_served s k) (leaving s k m.target) else k.progress) (if m.target == v.dev && (changes_phase w.change && w.begun) then progress_counted v known l else v)) (sym e ∙ same)
         (subst (λ (z : Bool). AreCounted s (progress_by_leaving k (process_served s k) (leaving s k m.target)) (if z && (changes_phase w.change && w.begun) then progress_counted v known l else v)) (sym f)

@@ -1,6 +1,6 @@
 -- How far the processes of a target have come: the data runs that each has made, and the recoveries that were counted for
 -- it (6.6.10, 6.6.13, 6.6.19, 6.6.20).
-use Rattle.std.specs.Prelude.{ℕ, min, ◌≡◌, ◌+◌, ◌-◌, ◌^◌, ◌==◌, ◌&&◌, Bool, true, false, List, length, replicate, Option, Some, None, slice_set, slice_index_or, if◌then◌else◌}
+use Rattle.std.specs.Prelude.{ℕ, min, ◌≡◌, ◌⊎◌, ◌+◌, ◌-◌, ◌^◌, ◌==◌, ◌&&◌, Bool, true, false, List, length, replicate, Option, Some, None, slice_set, slice_index_or, if◌then◌else◌}
 use Rattle.bus_base.specs.Faults.{counted_on}
 use Rattle.bus_base.specs.declared.ProcId.{ProcId}
 use Rattle.bus_trace.specs.declared.Row.{Row}
@@ -92,11 +92,17 @@ pub record AreCounted (s : ScenarioValue) (all : List ProcessProgress) (v : Prog
 abbrev pub IsProgressOf : ScenarioValue → List Row → ProgressValue → Type 0
 IsProgressOf s rows v = AreCounted s (run_state s rows).progress v
 
+-- No run is made, and no recovery counted, as a phase is left so.
+pub record IsUncounted (l : Leaving) : Type 0 where
+  pub done : l.done ≡ false
+  pub counts : l.counts ≡ false
+
 -- Where a row that tells this, after which this connection stands, leaves a phase of this target, which process is served
--- there, and how the phase is left.
+-- there, and how the phase is left; or nothing is counted then, as in MESSAGE IN.
 abbrev pub IsLeftSo : ScenarioValue → List Row → ℕ → Hearing → Option Connection → Option ProcId → Leaving → Type 0
 IsLeftSo s rows dev w after process l =
-    (n m : Connection) → IsOwnConnection rows dev n → after ≡ Some m → is_phase_left w ≡ true → (process ≡ id_of (run_state s rows).served) × (l ≡ leaving_after s rows dev)
+    (n m : Connection) → IsOwnConnection rows dev n → after ≡ Some m → is_phase_left w ≡ true
+    → ((process ≡ id_of (run_state s rows).served) × (l ≡ leaving_after s rows dev)) ⊎ (IsUncounted l × IsUncounted (leaving_after s rows dev))
 
 -- This was counted, exactly.
 pub record AreExactly (p : ProcessProgress) (c : Counts) : Type 0 where

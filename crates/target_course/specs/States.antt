@@ -14,7 +14,6 @@ use Rattle.bus_dialogue.specs.Hearing.{begun}
 use Rattle.scsi_device.specs.Told.{told, pace_of}
 use Rattle.target_course.specs.Alike.{AreAlike}
 use Rattle.bus_dialogue.specs.NextPhase as next_phase
-use Rattle.bus_dialogue.specs.Wants as wants
 use Rattle.bus_due.specs.Own.{Own, own_of}
 use Rattle.bus_due.specs.Defs.{host_of, target_def_of}
 use Rattle.bus_due.specs.Wants.{ready_of}

@@ -1,5 +1,6 @@
 use Rattle.std.proofs.Common.{◌∷◌, ◌∙◌, ap}
 use Rattle.scenario.specs.declared.value.TargetDef.{TargetDef}
+use Rattle.bus_run.proofs.Seams.{not_calling}
 use Rattle.bus_members.proofs.Held.{target_is, calls_not}
 use Rattle.bus_members.proofs.Labels.{label_is}
 use Rattle.bus_members.proofs.Servable.{all_tied, in_time}
@@ -12,6 +13,7 @@ returns-in-Target c = λ s rows dev a e told h.
     record {
       named = ap (λ (d : TargetDef). d.dev) c.see-in-Target.ensures.def ∙ target.named;
       after = c.see-in-Target.ensures.trace s rows a.fits a.observed a.devices (all_tied s (row ∷ rows) a.tied) (in_time s (row ∷ rows) c.args.observer.now a)
-          (λ n own. label_is s (row ∷ rows) c.args.label (told n own.stands (calls_not s (row ∷ rows) dev c.in-Target.target n target.named target.after.line a.tied own.stands)))
+          (record { not_calling = λ n k. not_calling s (row ∷ rows) c.in-Target.target.def n target.after.knows.line a.tied k })
+          (λ n own. label_is s (row ∷ rows) c.args.label (told n own.stands (calls_not s (row ∷ rows) dev c.in-Target.target n target.named target.after.knows.line a.tied own.stands)))
           e target.after;
     }

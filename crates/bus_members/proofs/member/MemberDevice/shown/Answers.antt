@@ -1,9 +1,9 @@
-use Rattle.std.proofs.Common.{◌∙◌, ◌∷◌, ap, arith}
+use Rattle.std.proofs.Common.{◌∙◌, ◌∷◌, ap}
 use Rattle.bus_trace.specs.declared.changes.Change.{Change}
 use Rattle.bus_run.proofs.Rows.{read}
 use Rattle.bus_run.proofs.Seams.{tied_before}
 use Rattle.bus_members.proofs.Held.{initiator_is, target_is, never_called, never_calls, own_connection, called_connection}
-use Rattle.bus_members.proofs.Servable.{servable, all_tied}
+use Rattle.bus_members.proofs.Servable.{all_tied}
 use Rattle.bus_members.proofs.Turned.{left_is}
 use Rattle.bus_members.proofs.member.MemberDevice.shown.Goals as goal
 
@@ -24,7 +24,6 @@ returns-in-Target-clause-target c = λ s rows row dev n a h b r k e l.
     let i = read s rows row (c.kept_is_plain.ensures.rows s rows a.devices.1) (c.kept_is_plain.ensures.rows s (row ∷ rows) a.devices) (c.hearings_are_plain.ensures.hearing s rows row a.devices.1 a.devices.0) in
     c.shown_by.ensures
     ∙ c.shown.ensures s rows row n a.fits a.observed a.devices tied.heard_are
-    (servable s rows c.in-Target.target.def target.after.line (omega (arith, a.few)) a.early.1)
     target.after (called_connection s rows dev c.in-Target.target n target k e)
     (ap (λ (x : Change). x.before.rst) i.change ∙ b) (ap (λ (x : Change). x.after.rst) i.change ∙ r)
     ∙ left_is s rows row n i l

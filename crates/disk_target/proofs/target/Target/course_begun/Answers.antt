@@ -3,7 +3,7 @@ use Rattle.std.specs.Prelude.{not}
 use Rattle.std.proofs.lemmas.Bool.{eqb-true}
 use Rattle.bus_due.specs.LastingState.{has_negotiated}
 use Rattle.bus_due.specs.RunSteps.{run_state}
-use Rattle.disk_target.specs.Targets.{TargetValue, IsTargetAfter}
+use Rattle.disk_target.specs.Targets.{TargetValue, KnowsRows}
 use Rattle.disk_target.proofs.target.Target.course_begun.Goals as goal
 
 pub returns-then-begun : goal.returns-then-begun
@@ -12,7 +12,7 @@ returns-then-begun c = λ s rows row fits devices tied time h x own calm label.
 
 pub returns-else-begun : goal.returns-else-begun
 returns-else-begun c = λ s rows row fits devices tied time h x own calm label.
-    let g = subst (λ (v : TargetValue). IsTargetAfter s rows v) (sym c.self.view_is) h in
+    let g = subst (λ (v : TargetValue). KnowsRows s rows v) (sym c.self.view_is) h in
     let target = eqb-true c.args.begun.now.target c.args.self.now.def.dev own.own in
     let dev = g.negotiated_dev ∙ (λ i. (c.self.view_is i).def.dev) ∙ sym target in
     c.selected.ensures.trace s rows row c.args.begun.now c.args.self.now.def.dev devices x own.stands c.if-begun.false tied.faithful_are tied.heard_are label

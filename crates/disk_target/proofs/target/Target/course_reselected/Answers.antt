@@ -11,7 +11,7 @@ use Rattle.target_units.specs.Seated.{running_block, running_entry}
 use Rattle.target_units.specs.Units.{UnitsState, AreUnitsOf}
 use Rattle.target_units.specs.declared.ready.Ready.{Ready}
 use Rattle.target_course.specs.States.{IsReadyWithin}
-use Rattle.disk_target.specs.Targets.{TargetValue, IsTargetAfter}
+use Rattle.disk_target.specs.Targets.{TargetValue, KnowsRows}
 use Rattle.disk_target.proofs.Lines.{seek_is}
 use Rattle.disk_target.proofs.Readies.{within}
 use Rattle.disk_target.proofs.Reselected.{is_ready_process, never_none}
@@ -22,7 +22,7 @@ use Rattle.disk_target.proofs.target.Target.course_reselected.Goals as goal
 
 pub returns-in-None : goal.returns-in-None
 returns-in-None c = λ s rows row n fits devices tied time h x own calm r.
-    let g = subst (λ (v : TargetValue). IsTargetAfter s rows v) (sym c.self.view_is) h in
+    let g = subst (λ (v : TargetValue). KnowsRows s rows v) (sym c.self.view_is) h in
     let k = run_state s rows in
     let a = array_of s k in
     let able = servable s rows c.args.self.now.def (in_time_before rows row time) h.line in
@@ -41,7 +41,7 @@ returns-in-None c = λ s rows row n fits devices tied time h x own calm r.
 
 pub returns-in-None-current_command : goal.returns-in-None-current_command
 returns-in-None-current_command c = λ s rows row n fits devices tied time h x own calm r.
-    let g = subst (λ (v : TargetValue). IsTargetAfter s rows v) (sym c.self.view_is) h in
+    let g = subst (λ (v : TargetValue). KnowsRows s rows v) (sym c.self.view_is) h in
     let k = run_state s rows in
     let a = array_of s k in
     let able = servable s rows c.args.self.now.def (in_time_before rows row time) h.line in
@@ -60,7 +60,7 @@ returns-in-None-current_command c = λ s rows row n fits devices tied time h x o
 
 pub returns-in-Some-current_command : goal.returns-in-Some-current_command
 returns-in-Some-current_command c = λ s rows row n fits devices tied time h x own calm r.
-    let g = subst (λ (v : TargetValue). IsTargetAfter s rows v) (sym c.self.view_is) h in
+    let g = subst (λ (v : TargetValue). KnowsRows s rows v) (sym c.self.view_is) h in
     let k = run_state s rows in
     let a = array_of s k in
     let able = servable s rows c.args.self.now.def (in_time_before rows row time) h.line in

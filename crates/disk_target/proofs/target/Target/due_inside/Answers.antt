@@ -8,13 +8,13 @@ use Rattle.bus_due.specs.Wants.{ready_of}
 use Rattle.target_course.specs.States.{TargetState, IsNoInitiator, IsTargetLine, IsTargetOf}
 use Rattle.target_units.specs.Readies.{ready_unit}
 use Rattle.target_course.specs.Servings.{serving_with}
-use Rattle.disk_target.specs.Targets.{TargetValue, IsTargetAfter}
+use Rattle.disk_target.specs.Targets.{TargetValue, KnowsRows}
 use Rattle.disk_target.proofs.Apart.{ready_any}
 use Rattle.disk_target.proofs.target.Target.due_inside.Goals as goal
 
 pub returns : goal.returns
 returns c = λ s rows n f o d away e able h at calm fault.
-    let g = subst (λ (v : TargetValue). IsTargetAfter s rows v) (sym c.self.view_is) h in
+    let g = subst (λ (v : TargetValue). KnowsRows s rows v) (sym c.self.view_is) h in
     let made = c.decision-decision.ensures.trace s rows f o d e able h in
     let def = c.decision-decision.ensures.def in
     let dev = g.itself_dev ∙ (λ i. (c.self.view_is i).def.dev) in

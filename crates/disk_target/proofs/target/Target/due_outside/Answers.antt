@@ -11,7 +11,7 @@ use Rattle.target_units.specs.Readies.{ready_unit}
 use Rattle.target_units.specs.Units.{UnitsState, AreUnitsOf}
 use Rattle.target_units.specs.declared.ready.Ready.{Ready}
 use Rattle.target_course.specs.Servings.{serving_with}
-use Rattle.disk_target.specs.Targets.{TargetValue, IsTargetAfter}
+use Rattle.disk_target.specs.Targets.{TargetValue, KnowsRows}
 use Rattle.disk_target.proofs.Lines.{seek_is}
 use Rattle.disk_target.proofs.Readies.{within}
 use Rattle.disk_target.proofs.Telling.{wide}
@@ -19,7 +19,7 @@ use Rattle.disk_target.proofs.target.Target.due_outside.Goals as goal
 
 pub returns : goal.returns
 returns c = λ s rows f o d away e able h fault.
-    let g = subst (λ (v : TargetValue). IsTargetAfter s rows v) (sym c.self.view_is) h in
+    let g = subst (λ (v : TargetValue). KnowsRows s rows v) (sym c.self.view_is) h in
     let made = c.decision-decision.ensures.trace s rows f o d e able h in
     let def = c.decision-decision.ensures.def in
     let dev = g.itself_dev ∙ (λ i. (c.self.view_is i).def.dev) in

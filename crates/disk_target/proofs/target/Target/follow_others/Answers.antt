@@ -14,7 +14,7 @@ use Rattle.target_course.specs.Progress.{IsLeftSo}
 use Rattle.target_course.specs.States.{IsOwnConnection}
 use Rattle.disk_target.specs.Bytes.{IsOthers}
 use Rattle.disk_target.specs.Processes.{AreOutside}
-use Rattle.disk_target.specs.Targets.{IsTargetAfter, TargetValue}
+use Rattle.disk_target.specs.Targets.{KnowsRows, TargetValue}
 use Rattle.disk_target.specs.Turns.{IsTurnOf}
 use Rattle.disk_target.proofs.Apart.{never_own}
 use Rattle.disk_target.proofs.Knowing.{away_course}
@@ -26,7 +26,7 @@ returns-clause-trace c = λ s rows m n fits o devices tied was stands shown_is e
     let row = c.args.row.now in
     let v = c.self.inside in
     let d = v.def in
-    let g = subst (λ (x : TargetValue). IsTargetAfter s rows x) (sym c.self.view_is) h in
+    let g = subst (λ (x : TargetValue). KnowsRows s rows x) (sym c.self.view_is) h in
     let before = subst (λ (x : TargetValue). IsOthers rows x.def.dev m) (sym c.self.view_is) was in
     let now = subst (λ (x : TargetValue). IsOthers (row ∷ rows) x.def.dev n) (sym c.self.view_is) stands in
     let view = c.view-view.ensures.trace (row ∷ rows) o in
@@ -35,7 +35,7 @@ returns-clause-trace c = λ s rows m n fits o devices tied was stands shown_is e
     let q = c.kept_is_plain.ensures.rows s (row ∷ rows) devices in
     let w = c.hearings_are_plain.ensures.hearing s rows row devices.1 devices.0 in
     let away : (x : Connection) → IsOwnConnection rows d.dev x → (bus rows).rst ≡ true = λ x own. absurd (never_own rows d.dev m x before own) in
-    let turn : IsTurnOf s rows row d v.course c.no_turn-turn.result = no_turn_so s rows row d v.course c.no_turn-turn.result p q w tied away in
+    let turn : IsTurnOf s rows row d v.course c.no_turn-turn.result = no_turn_so s rows row d v.course c.no_turn-turn.result p q w tied c.no_turn-turn.ensures.uncounted away in
     let units = c.units_stay_by_row.ensures s rows row v.processes.units (c.scenarios_fit_the_bus.ensures.seats s fits) tied.allowed_are
     (subst (λ (l : List Event). AreOutside s v.processes.units.dev l) (sym empty) tt) (record { sound = g.sound; units = g.units_are }) in
     let sent = subst (λ (m : ℕ). IsSentSo s rows m c.hearing-hearing.result.now c.no_turn-turn.result.process c.no_turn-turn.result.place) (sym g.gathered_dev)

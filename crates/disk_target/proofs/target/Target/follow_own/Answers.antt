@@ -13,7 +13,7 @@ use Rattle.target_course.specs.Negotiated.{IsHeardSo}
 use Rattle.target_course.specs.Progress.{IsLeftSo, ProgressValue}
 use Rattle.target_units.specs.Units.{UnitsState}
 use Rattle.disk_target.specs.Knowns.{IsKnownIf, refreshed}
-use Rattle.disk_target.specs.Targets.{IsCourseIf, IsTargetAfter, TargetValue}
+use Rattle.disk_target.specs.Targets.{IsCourseIf, KnowsRows, TargetValue}
 use Rattle.disk_target.specs.Turns.{AreAttendedOf, IsTurnOf}
 use Rattle.disk_target.proofs.Knowing.{progress_stays, still_known}
 use Rattle.disk_target.proofs.target.Target.follow_own.Goals as goal
@@ -23,7 +23,7 @@ returns-clause-trace c = λ s rows fits o devices tied time labels shown_is h.
     let row = c.args.row.now in
     let v = c.self.inside in
     let d = v.def in
-    let g = subst (λ (x : TargetValue). IsTargetAfter s rows x) (sym c.self.view_is) h in
+    let g = subst (λ (x : TargetValue). KnowsRows s rows x) (sym c.self.view_is) h in
     let view = c.view-view.ensures.trace (row ∷ rows) o in
     let hears = c.hearing-hearing.ensures (row ∷ rows) o in
     let before = c.own_before.ensures rows row view in

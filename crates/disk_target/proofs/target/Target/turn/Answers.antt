@@ -26,7 +26,7 @@ returns-in_default-clause-trace c = λ s rows row fits o devices tied time h.
       | in_default-via-in-Some+in_default w ↦ subst (λ (x : Option CourseState). IsCourseIf s rows d.dev x) ((λ i. (sym c.self.view_is i).course) ∙ w.in_default.is-1) h.course_is
       | in_default-via-in_default w ↦ subst (λ (x : Option Connection). IsOwnIf rows d.dev x) w.in_default.is-0 own
     ] in
-    no_turn_so s rows row d c.args.self.now.course _ p q heard tied away
+    no_turn_so s rows row d c.args.self.now.course _ p q heard tied c.no_turn.ensures.uncounted away
 
 pub turn_in-requires : goal.turn_in-requires
 turn_in-requires c = record { course = (λ i. (sym c.self.view_is i).course) ∙ c.in-Some-Some.is-1 }

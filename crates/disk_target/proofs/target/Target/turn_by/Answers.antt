@@ -24,7 +24,7 @@ use Rattle.disk_target.proofs.Lines.{line_of_process}
 use Rattle.disk_target.proofs.RowOwn.{Knows, knows}
 use Rattle.disk_target.proofs.RowServed.{block_few}
 use Rattle.disk_target.proofs.Servables.{in_time_before, servable}
-use Rattle.disk_target.proofs.Turning.{byte_begins, byte_closed, byte_phase, left_so, place_so, process_so, run_known, target_shows}
+use Rattle.disk_target.proofs.Turning.{byte_begins, byte_closed, byte_phase, left_so, left_with, place_so, process_so, run_known, target_shows}
 use Rattle.disk_target.proofs.target.Target.turn_by.Goals as goal
 
 one : (rows : List Row) (m n : Connection) → connection rows ≡ Some m → connection rows ≡ Some n → n ≡ m
@@ -78,7 +78,7 @@ returns-clause-trace c = λ s rows row fits o devices tied time h own calm cours
     } in
     record {
       course = subst (λ (y : Option CourseState). IsTurnIf s rows row d y it) (sym course_is) (λ m own' calm'. subst (λ (y : Connection). IsTurnIn s rows row d y x it) (one rows m n own'.stands own.stands) turn);
-      left = λ m l own' stands left. (process, leaving ∙ left_so s rows row n l d x f _ p q w tied own h.line.target_is calm stands left here told refl);
+      left = λ m l own' stands left. left_with s rows d.dev c.process_known.result c.leaving_by.result _ process leaving (left_so s rows row n l d x f _ p q w tied own h.line.target_is calm stands left here told refl);
       hears = λ m own' calm'. c.is_some.ensures ∙ (λ i. is_some (c.plan.ensures i).said.aborts) ∙ (λ i. is_some (here.plan_is i).said.aborts);
       sends = λ m own' brings. (process, place ∙ place_so s rows row n d x f c.args.self.now.answers p w tied own h.line.target_is calm brings here told h.answers_is);
       at_unit = λ m r own' brings is.
