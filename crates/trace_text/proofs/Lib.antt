@@ -7,7 +7,7 @@ pub mod Front
 pub mod RowAgain
 pub mod TraceAgain
 pub mod ReadsOnly
-pub mod Putting
+pub mod Shown
 pub mod RowFront
 pub mod Taken
 mod TouchedBlocks

@@ -9,4 +9,3 @@ pub mod Lines
 pub mod Pieces
 pub mod Bytes
 pub mod Whole
-pub mod Pages

@@ -4,12 +4,13 @@ ghost use Rattle.disk_array.specs.Contents.{block_at};
 ghost use Rattle.run_record.specs.Value.{held_by};
 ghost use Rattle.trace_text.specs.BlockText.{is_zero, block_text, blocks_from, disk_text, disks_text};
 ghost use Rattle.trace_text.specs.ReportText.{disk_name};
-ghost use Rattle.trace_text.specs.Pages.{Prints};
+ghost use Rattle.text_pages.specs.Pages.{Prints};
 
-use crate::pages::{Page, put, put_hex, put_spaced};
+use crate::spaced::{put_hex, put_spaced};
 use bus_base::{Dev, Sink};
 use disk_unit::{Blocks, SparseBlocks};
 use scenario::UnitDef;
+use text_pages::{Page, put};
 
 /// No block has more bytes.
 const SIZE_LIMIT: usize = 2048;

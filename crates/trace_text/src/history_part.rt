@@ -3,10 +3,11 @@ ghost use Rattle.std.specs.Prelude.{◌++◌, ◌∷◌, [], decimal};
 ghost use Rattle.std.specs.List.{flat_map};
 ghost use Rattle.text_words.specs.Spelling.{byte_text};
 ghost use Rattle.trace_text.specs.EventText.{process_text, abort_text, event_words, event_text};
-ghost use Rattle.trace_text.specs.Pages.{Prints};
+ghost use Rattle.text_pages.specs.Pages.{Prints};
 
-use crate::pages::{Page, put, put_byte, put_number, put_spaced};
+use crate::spaced::{put_byte, put_spaced};
 use bus_base::{AbortKind, Dev, Event, ProcId, Sink};
+use text_pages::{Page, put, put_number};
 
 fn put_process<K: Sink>(out: &mut K, page: &mut Page, process: ProcId)
     ensures { Prints K.written K.faults out.old out.new page.old page.new (process_text process) }

@@ -4,7 +4,7 @@
 //! then the history, the replies and the blocks of a run. `specs/` defines these texts over plain
 //! lists; whoever prints or reads one cites these definitions.
 //!
-//! It stands on `text_words`, `bus_base`, `bus_trace`, `cdb_codec`, `scenario` and `run_record`. Its
+//! It stands on `text_words`, `text_pages`, `bus_base`, `bus_trace`, `cdb_codec`, `scenario` and `run_record`. Its
 //! contract: [`report`] writes the report of a run to any sink, or a front of it where the sink fails, and
 //! [`short_report`] the short one;
 //! [`print_row`] is the line of a row; [`TraceReader`], which takes a trace text byte by byte or in pieces and
@@ -18,11 +18,11 @@ mod history_part;
 mod laws;
 mod limit;
 mod line_front;
-mod pages;
 mod reader;
 mod replies_part;
 mod rows;
 mod short_form;
+mod spaced;
 mod stages;
 mod trace_part;
 mod whole;

@@ -1,11 +1,12 @@
 //! The part of a report with the replies.
 ghost use Rattle.trace_text.specs.ReplyText.{bytes_text, sense_text, outcome_text, reply_text, replies_text};
-ghost use Rattle.trace_text.specs.Pages.{Prints};
+ghost use Rattle.text_pages.specs.Pages.{Prints};
 
-use crate::pages::{Page, put, put_byte, put_hex, put_spaced};
+use crate::spaced::{put_byte, put_hex, put_spaced};
 use bus_base::Sink;
 use cdb_codec::Sense;
 use initiator::Outcome;
+use text_pages::{Page, put};
 
 // The bytes that came in, if any did.
 fn put_bytes<K: Sink>(out: &mut K, page: &mut Page, bytes: &[u8])

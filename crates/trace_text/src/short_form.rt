@@ -3,12 +3,12 @@ ghost use Rattle.std.specs.Prelude.{◌≡◌, ◌≤◌, OnErr, count_by};
 ghost use Rattle.bus_base.specs.Faults.{HasRisen};
 ghost use Rattle.bus_base.specs.Whole.{WritesAll};
 ghost use Rattle.trace_text.specs.ShortText.{has_ended, count_text, ending_text, endings_text, short_text};
-ghost use Rattle.trace_text.specs.Pages.{Prints};
+ghost use Rattle.text_pages.specs.Pages.{Prints};
 
-use crate::pages::{Page, flush, is_failed, new_page, put, put_number};
 use bus_base::{Failed, Sink};
 use initiator::Outcome;
 use run_record::Run;
+use text_pages::{Page, flush, is_failed, new_page, put, put_number};
 
 /// How a command ended, without what came with it.
 #[derive(Clone, Copy, Debug)]

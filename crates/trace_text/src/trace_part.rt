@@ -3,13 +3,13 @@ ghost use Rattle.std.specs.Prelude.{◌≡◌, ◌+◌, ◌<◌, ◌^◌, ◌++�
 ghost use Rattle.std.specs.List.{AllByRecursion, flat_map};
 ghost use Rattle.trace_text.specs.RowText.{IsOfEight, lines_text, kind_text, row_text, trace_text};
 ghost use Rattle.bus_trace.specs.declared.Kind.TheVariants.{Fault};
-ghost use Rattle.trace_text.specs.Pages.{Prints};
+ghost use Rattle.text_pages.specs.Pages.{Prints};
 
-use crate::pages::{Page, put, put_number};
 use crate::rows::glyph;
 use bitflags::Flags;
 use bus_base::{Dev, Ns, Sink};
 use bus_trace::{Kind, Row};
+use text_pages::{Page, put, put_number};
 
 // What stands after the time of a row that drives these lines.
 fn driven_end(dev: Dev, lines: u32) -> [u8; 9]

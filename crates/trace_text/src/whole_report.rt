@@ -5,16 +5,16 @@ ghost use Rattle.bus_base.specs.Faults.{HasRisen};
 ghost use Rattle.bus_base.specs.Whole.{WritesAll};
 ghost use Rattle.trace_text.specs.ReportText.{report_of};
 ghost use Rattle.trace_text.specs.RowText.{IsOfEight};
-ghost use Rattle.trace_text.specs.Pages.{Prints};
+ghost use Rattle.text_pages.specs.Pages.{Prints};
 
 use crate::blocks_part::put_disks;
 use crate::history_part::put_history;
-use crate::pages::{Page, flush, is_failed, new_page, put};
 use crate::replies_part::put_replies;
 use crate::trace_part::put_trace;
 use bus_base::{Failed, Sink};
 use run_record::Run;
 use scenario::Scenario;
+use text_pages::{Page, flush, is_failed, new_page, put};
 
 fn put_report<K: Sink>(out: &mut K, page: &mut Page, s: &Scenario, run: &Run)
     requires disks { length run.now.disks ≡ length s.now.units }

@@ -1,4 +1,5 @@
-use Rattle.trace_text.proofs.Putting.{and_then, and_spaced, put_as, shown}
+use Rattle.text_pages.proofs.Putting.{and_then, and_spaced, put_as}
+use Rattle.trace_text.proofs.Shown.{shown}
 use Rattle.trace_text.proofs.blocks_part.put_block.Goals as goal
 
 pub returns : goal.returns

@@ -1,5 +1,5 @@
 use Rattle.std.proofs.Common.{◌≤◌, arith}
-use Rattle.trace_text.proofs.Putting.{goes_on, ends}
+use Rattle.text_pages.proofs.Putting.{goes_on, ends}
 use Rattle.trace_text.proofs.TouchedBlocks.{over_is}
 use Rattle.trace_text.proofs.blocks_part.put_disk.Goals as goal
 

@@ -1,7 +1,7 @@
 use Rattle.std.proofs.Common.{◌-◌}
 use Rattle.trace_text.specs.BlockText.{disk_text, blocks_from}
-use Rattle.trace_text.specs.Pages.{place}
-use Rattle.trace_text.proofs.Putting.{IsOn}
+use Rattle.text_pages.specs.Pages.{place}
+use Rattle.text_pages.proofs.Putting.{IsOn}
 use Rattle.trace_text.proofs.blocks_part.put_disk.Given as goal
 
 abbrev pub invariant-loop-from : goal.invariant-loop-from

@@ -1,5 +1,6 @@
 use Rattle.std.proofs.Common.{arith}
-use Rattle.trace_text.proofs.Putting.{goes_on, disk_next}
+use Rattle.text_pages.proofs.Putting.{goes_on}
+use Rattle.trace_text.proofs.Shown.{disk_next}
 use Rattle.trace_text.proofs.blocks_part.put_disks.Goals as goal
 
 pub loop-index-preserved : goal.loop-index-preserved

@@ -3,8 +3,8 @@ use Rattle.std.specs.Prelude.{map}
 use Rattle.run_record.specs.Value.{held_by}
 use Rattle.trace_text.specs.BlockText.{disks_text}
 use Rattle.trace_text.specs.ReportText.{disk_name}
-use Rattle.trace_text.specs.Pages.{place}
-use Rattle.trace_text.proofs.Putting.{IsOn}
+use Rattle.text_pages.specs.Pages.{place}
+use Rattle.text_pages.proofs.Putting.{IsOn}
 use Rattle.trace_text.proofs.blocks_part.put_disks.Given as goal
 
 abbrev pub invariant-loop-index : goal.invariant-loop-index

@@ -1,6 +1,6 @@
 use Rattle.std.proofs.Common.{sym}
 use Rattle.trace_text.specs.EventText.{abort_text}
-use Rattle.trace_text.proofs.Putting.{and_then, put_as}
+use Rattle.text_pages.proofs.Putting.{and_then, put_as}
 use Rattle.trace_text.proofs.history_part.put_abort.Goals as goal
 
 pub returns-in-Tag : goal.returns-in-Tag

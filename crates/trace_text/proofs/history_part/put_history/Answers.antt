@@ -1,7 +1,7 @@
 use Rattle.std.proofs.Common.{ap}
 use Rattle.std.specs.List.{flat_map}
 use Rattle.trace_text.specs.EventText.{event_text}
-use Rattle.trace_text.proofs.Putting.{goes_on, dropped}
+use Rattle.text_pages.proofs.Putting.{goes_on, dropped}
 use Rattle.trace_text.proofs.history_part.put_history.Goals as goal
 
 pub loop-event-preserved : goal.loop-event-preserved

@@ -1,8 +1,8 @@
 use Rattle.std.proofs.Common.{drop}
 use Rattle.std.specs.List.{flat_map}
 use Rattle.trace_text.specs.EventText.{event_text}
-use Rattle.trace_text.specs.Pages.{place}
-use Rattle.trace_text.proofs.Putting.{IsOn}
+use Rattle.text_pages.specs.Pages.{place}
+use Rattle.text_pages.proofs.Putting.{IsOn}
 use Rattle.trace_text.proofs.history_part.put_history.Given as goal
 
 abbrev pub invariant-loop-event : goal.invariant-loop-event

@@ -1,6 +1,6 @@
 use Rattle.std.proofs.Common.{sym, ◌++◌, ◌∷◌, [], decimal}
 use Rattle.std.specs.Prelude.{if◌then◌else◌}
-use Rattle.trace_text.proofs.Putting.{and_then, put_as}
+use Rattle.text_pages.proofs.Putting.{and_then, put_as}
 use Rattle.trace_text.proofs.history_part.put_process.Goals as goal
 
 pub returns-then-process : goal.returns-then-process

@@ -1,4 +1,5 @@
-use Rattle.trace_text.proofs.Putting.{and_then, put_as, bytes_shown}
+use Rattle.text_pages.proofs.Putting.{and_then, put_as}
+use Rattle.trace_text.proofs.Shown.{bytes_shown}
 use Rattle.trace_text.proofs.replies_part.put_bytes.Goals as goal
 
 pub returns : goal.returns

@@ -1,7 +1,7 @@
 use Rattle.std.proofs.Common.{sym, ap, ◌∙◌, ◌++◌}
 use Rattle.std.specs.Prelude.{codes}
 use Rattle.trace_text.specs.ReplyText.{bytes_text, outcome_text}
-use Rattle.trace_text.proofs.Putting.{and_then, put_as}
+use Rattle.text_pages.proofs.Putting.{and_then, put_as}
 use Rattle.trace_text.proofs.replies_part.put_outcome.Goals as goal
 
 pub returns-in-Good : goal.returns-in-Good

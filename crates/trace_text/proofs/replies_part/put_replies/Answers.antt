@@ -1,6 +1,6 @@
 use Rattle.std.proofs.Common.{ap, ◌+◌}
 use Rattle.trace_text.specs.ReplyText.{replies_text}
-use Rattle.trace_text.proofs.Putting.{goes_on, item_next}
+use Rattle.text_pages.proofs.Putting.{goes_on, item_next}
 use Rattle.trace_text.proofs.replies_part.put_replies.Goals as goal
 
 pub loop-index-preserved : goal.loop-index-preserved

@@ -1,7 +1,7 @@
 use Rattle.std.proofs.Common.{◌+◌, drop}
 use Rattle.trace_text.specs.ReplyText.{replies_text}
-use Rattle.trace_text.specs.Pages.{place}
-use Rattle.trace_text.proofs.Putting.{IsOn}
+use Rattle.text_pages.specs.Pages.{place}
+use Rattle.text_pages.proofs.Putting.{IsOn}
 use Rattle.trace_text.proofs.replies_part.put_replies.Given as goal
 
 abbrev pub invariant-loop-index : goal.invariant-loop-index

@@ -1,4 +1,4 @@
-use Rattle.trace_text.proofs.Putting.{and_then, and_spaced}
+use Rattle.text_pages.proofs.Putting.{and_then, and_spaced}
 use Rattle.trace_text.proofs.replies_part.put_reply.Goals as goal
 
 pub returns : goal.returns

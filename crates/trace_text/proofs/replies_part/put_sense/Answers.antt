@@ -1,6 +1,6 @@
 use Rattle.std.proofs.Common.{sym}
 use Rattle.trace_text.specs.ReplyText.{sense_text}
-use Rattle.trace_text.proofs.Putting.{and_then, put_as}
+use Rattle.text_pages.proofs.Putting.{and_then, put_as}
 use Rattle.trace_text.proofs.replies_part.put_sense.Goals as goal
 
 pub returns-in-Some : goal.returns-in-Some

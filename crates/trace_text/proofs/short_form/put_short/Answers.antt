@@ -3,7 +3,7 @@ use Rattle.std.specs.Prelude.{codes, map}
 use Rattle.std.proofs.lemmas.Grind.{common_steps}
 use Rattle.run_record.specs.Value.{RunValue, held_by}
 use Rattle.trace_text.specs.ShortText.{count_text, endings_text, short_text}
-use Rattle.trace_text.proofs.Putting.{and_then, put_as}
+use Rattle.text_pages.proofs.Putting.{and_then, put_as}
 use Rattle.trace_text.proofs.short_form.put_short.Goals as goal
 
 pub returns : goal.returns

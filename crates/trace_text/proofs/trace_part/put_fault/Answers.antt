@@ -1,5 +1,5 @@
 use Rattle.std.proofs.Common.{refl}
-use Rattle.trace_text.proofs.Putting.{and_then, put_as}
+use Rattle.text_pages.proofs.Putting.{and_then, put_as}
 use Rattle.trace_text.proofs.trace_part.put_fault.Goals as goal
 
 pub returns : goal.returns

@@ -1,6 +1,6 @@
 use Rattle.std.proofs.Common.{◌≡◌, ℕ, ◌+◌, List, [], ◌∷◌, ◌++◌, append_assoc, decimal}
 use Rattle.trace_text.specs.RowText.{kind_text}
-use Rattle.trace_text.proofs.Putting.{and_then, put_as}
+use Rattle.text_pages.proofs.Putting.{and_then, put_as}
 use Rattle.trace_text.proofs.trace_part.put_row.Goals as goal
 
 line : (time name kind feed : List ℕ) → time ++ ((name ++ kind) ++ feed) ≡ ((time ++ name) ++ kind) ++ feed

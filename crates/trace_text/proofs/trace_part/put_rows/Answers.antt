@@ -1,7 +1,7 @@
 use Rattle.std.proofs.Common.{ap}
 use Rattle.std.specs.List.{flat_map}
 use Rattle.trace_text.specs.RowText.{row_text}
-use Rattle.trace_text.proofs.Putting.{goes_on, item_next}
+use Rattle.text_pages.proofs.Putting.{goes_on, item_next}
 use Rattle.trace_text.proofs.trace_part.put_rows.Goals as goal
 
 pub loop-row-preserved : goal.loop-row-preserved

@@ -1,8 +1,8 @@
 use Rattle.std.proofs.Common.{drop}
 use Rattle.std.specs.List.{flat_map}
 use Rattle.trace_text.specs.RowText.{row_text}
-use Rattle.trace_text.specs.Pages.{place}
-use Rattle.trace_text.proofs.Putting.{IsOn}
+use Rattle.text_pages.specs.Pages.{place}
+use Rattle.text_pages.proofs.Putting.{IsOn}
 use Rattle.trace_text.proofs.trace_part.put_rows.Given as goal
 
 abbrev pub invariant-loop-row : goal.invariant-loop-row

@@ -1,4 +1,4 @@
-use Rattle.trace_text.proofs.Putting.{and_then}
+use Rattle.text_pages.proofs.Putting.{and_then}
 use Rattle.trace_text.proofs.trace_part.put_trace.Goals as goal
 
 pub returns : goal.returns

@@ -2,7 +2,7 @@ use Rattle.std.proofs.Common.{◌≡◌, ap}
 use Rattle.std.specs.Prelude.{map}
 use Rattle.trace_text.specs.ReportText.{disk_name, report_text, report_of}
 use Rattle.run_record.specs.Value.{RunValue, held_by}
-use Rattle.trace_text.proofs.Putting.{and_then, put_as}
+use Rattle.text_pages.proofs.Putting.{and_then, put_as}
 use Rattle.trace_text.proofs.whole_report.put_report.Goals as goal
 
 pub returns : goal.returns

@@ -1,5 +1,5 @@
 use Rattle.std.proofs.Common.{sym, append-nil}
-use Rattle.trace_text.proofs.Putting.{and_then, put_as, whole_err}
+use Rattle.text_pages.proofs.Putting.{and_then, put_as, whole_err}
 use Rattle.trace_text.proofs.whole_report.report.Goals as goal
 
 pub returns-then-is_failed-clause-whole : goal.returns-then-is_failed-clause-whole

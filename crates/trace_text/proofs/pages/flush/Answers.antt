@@ -1,6 +1,0 @@
-use Rattle.std.proofs.Common.{sym, ◌∙◌, append-nil}
-use Rattle.trace_text.proofs.Putting.{sent}
-use Rattle.trace_text.proofs.pages.flush.Goals as goal
-
-pub returns-clause-put : goal.returns-clause-put
-returns-clause-put g c = sent _ _ _ _ c.send-page.ensures.sent c.send-page.ensures.never_falls (c.as_slice.ensures.value ∙ sym (append-nil _)) c.clear.ensures

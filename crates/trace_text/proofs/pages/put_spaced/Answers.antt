@@ -1,5 +1,0 @@
-use Rattle.trace_text.proofs.Putting.{and_then}
-use Rattle.trace_text.proofs.pages.put_spaced.Goals as goal
-
-pub returns : goal.returns
-returns g c = and_then c.put_number.ensures c.put.ensures
