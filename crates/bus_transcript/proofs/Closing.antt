@@ -1,17 +1,15 @@
 -- A connection is closed by its parts alone, whatever stands in its place meanwhile; and rows one by one.
 use Rattle.std.proofs.Common.{ℕ, ◌≡◌, ◌<◌, ◌+◌, List, [], ◌∷◌, ◌++◌, take, reverse, length, get_or, refl, sym, ap, ◌∙◌}
 use Rattle.std.specs.Prelude.{Bool, false, Option}
-use Rattle.std.specs.List.{AllByRecursion}
 use Rattle.std.proofs.lemmas.List.{reverse-append}
 use Rattle.std.proofs.lemmas.Grind.{take_at_read}
 use Rattle.bus_trace.specs.declared.Row.{Row}
-use Rattle.bus_trace.specs.OfTrace.{IsRow}
 use Rattle.bus_trace.specs.declared.connection.Connection.{Connection}
 use Rattle.bus_story.specs.BusState.{RowReading}
 use Rattle.bus_transcript.specs.declared.part.Part.{Part}
 use Rattle.bus_transcript.specs.declared.summary.Summary.{Summary}
 use Rattle.bus_transcript.specs.Opened.{OpenedValue, settled, phase_over}
-use Rattle.bus_transcript.specs.Rows.{TranscriberValue, closed_by, closed_with, closed_phase, IsOfDevice}
+use Rattle.bus_transcript.specs.Rows.{TranscriberValue, closed_by, closed_with, closed_phase}
 
 closed_apart : (t : TranscriberValue) (o : Option OpenedValue) (n : Connection) (parts : List Part) (free : Bool) (s : Summary) → closed_by (record t { opened = o }) n parts free s ≡ closed_by t n parts free s
 unfolding closed_by
@@ -27,8 +25,3 @@ phase_apart t o k d free = with_apart t o (settled (phase_over k d.change.before
 pub past_more : (xs : List Row) (i : ℕ) (x : Row) → i < length xs → x ≡ get_or xs i x → reverse (take (i + 1) xs) ≡ x ∷ reverse (take i xs)
 past_more xs i x h e =
     ap (λ (ys : List Row). reverse ys) ((take_at_read xs i x h).1 ∙ ap (λ (y : Row). take i xs ++ y ∷ []) (sym e)) ∙ reverse-append (take i xs) (x ∷ [])
-
--- the rows of a trace are of the eight devices
-pub of_devices : (rows : List Row) → AllByRecursion IsRow rows → AllByRecursion IsOfDevice rows
-of_devices [] h = tt
-of_devices (row ∷ rows) h = (h.0.device, of_devices rows h.1)

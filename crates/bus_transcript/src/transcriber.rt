@@ -1,7 +1,6 @@
 //! The transcript of a trace, row by row.
 ghost use Rattle.std.specs.Prelude.{◌≡◌, ◌<◌, [], ◌∷◌, Some, true, false, reverse, OnOk, IfOk, option_to_list};
 ghost use Rattle.std.specs.List.{AllByRecursion};
-ghost use Rattle.bus_trace.specs.OfTrace.{IsRow};
 ghost use Rattle.bus_story.specs.TraceHistory.{trace_history};
 ghost use Rattle.bus_transcript.specs.Events.{resets_shown, resets_told};
 ghost use Rattle.bus_transcript.specs.Opened.{opened_connection, settled, spoken};
@@ -410,7 +409,7 @@ fn transcript(alloc: Global, rows: &[Row]) -> Result<Transcript, NoMemory>
 ///
 /// `NoMemory` where there was no memory left.
 pub fn transcribe(alloc: Global, rows: &[Row], end: Ns) -> Result<Transcript, NoMemory>
-    requires { AllByRecursion IsRow rows.now }
+    requires { AllByRecursion IsOfDevice rows.now }
     ensures { IfOk result (λ transcript. transcript.items.items ≡ transcript_of (reverse rows.now)) }
 {
     let _ = end;
