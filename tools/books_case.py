@@ -4,9 +4,9 @@ after it.
 
     tools/books_case.py tools/due_cases/*.scn > crates/bus_books/proofs/Cases.antt
     tools/books_case.py --whole tools/cases/*.scn > crates/bus_books/proofs/StoryCases.antt
-    tools/books_case.py --asked tools/due_cases/*.scn > crates/trace_laws/proofs/Cases.antt
+    tools/books_case.py --open tools/due_cases/*.scn > crates/trace_laws/proofs/Cases.antt
 
-With `--asked` the lemmas say that each of the rows is what the laws of `trace_laws` still ask of it (`AskedTests` of its specs). With `--whole` it writes the scenarios and their rows, too, those of the report NAME.out beside each NAME.scn, which comes from outside
+With `--open` the lemmas say that no process that has shown a reply is reselected (`OpenAnew` of crates/trace_laws/specs). With `--whole` it writes the scenarios and their rows, too, those of the report NAME.out beside each NAME.scn, which comes from outside
 this repository. The books are stated as tests in `Tests` of crates/bus_books/specs, what is asked of a row in `RowTests`.
 """
 import sys
@@ -25,7 +25,7 @@ use %s"""
 
 # What the lemmas say of a run: in words, by which test, and where that stands.
 BOOKS = ("-- Each row of some runs is as it is due to be, and the books hold after it.", "keep_books", "Rattle.bus_books.specs.RowTests.{keep_books}")
-ASKED = ("-- Each row of some runs is what is still asked of it.", "are_asked", "Rattle.trace_laws.specs.AskedTests.{are_asked}")
+OPEN = ("-- In some runs no process that has shown a reply is reselected.", "keep_open", "Rattle.trace_laws.specs.OpenAnew.{keep_open}")
 UNFOLDING = "unfolding need_of sent_of ones union_below line_of form_out form_in"
 
 
@@ -61,7 +61,7 @@ def print_whole(head, test, paths):
 
 def main():
     paths = [word for word in sys.argv[1:] if not word.startswith("--")]
-    words, test, module = ASKED if "--asked" in sys.argv else BOOKS
+    words, test, module = OPEN if "--open" in sys.argv else BOOKS
     head = HEAD % (words, module)
     if "--whole" in sys.argv:
         return print_whole(head, test, paths)

@@ -6,32 +6,12 @@
 The first word is the module of crates/bus_due/proofs in which the runs of these scenarios stand. What is computed is stated in
 crates/scsi_device/specs/Heard.antt, and crates/bus_laws/proofs/HeardRuns.antt says what such a lemma means.
 """
-import sys
+import run_lemmas
 
-import array_case
+COMMENT = """-- What targets hear is of the processes that they serve, after each row of some runs. Written by tools/heard_case.py."""
 
-HEAD = """-- What targets hear is of the processes that they serve, after each row of some runs. Written by tools/heard_case.py.
-use Rattle.std.proofs.Common.{◌≡◌, true, [], refl}
-use lib.Count.{ones}
-use Rattle.bus_trace.specs.LineSet.{line_of}
-use Rattle.bus_trace.specs.View.{union_below}
-use Rattle.msg_grammar.specs.Messages.{form_out, form_in}
-use Rattle.scenario.specs.Needs.{need_of, sent_of}
-use Rattle.bus_due.proofs.Seams.{onto}
+USES = """use Rattle.bus_due.proofs.Seams.{onto}
 use Rattle.scsi_device.specs.Heard.{heard}
 use Rattle.bus_laws.proofs.HeardRuns.{all_heard}"""
 
-
-UNFOLDING = "unfolding need_of sent_of ones union_below line_of form_out form_in"
-
-
-def main():
-    names = [array_case.name_of(scn, "_due") for scn in sys.argv[2:]]
-    print(HEAD)
-    print("use Rattle.bus_due.proofs.%s.{%s}" % (sys.argv[1], ", ".join("%s, %s_rows" % (name, name) for name in names)))
-    for name in names:
-        print("\n%s_heard : heard %s (onto %s_rows []) ≡ true" % (name, name, name))
-        print("%s\n%s_heard = all_heard %s %s_rows refl" % (UNFOLDING, name, name, name))
-
-
-main()
+run_lemmas.write(COMMENT, "◌≡◌, true, [], refl", USES, "heard", "all_heard", "heard R RS ≡ true")

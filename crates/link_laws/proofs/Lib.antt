@@ -26,5 +26,3 @@ pub mod PulseStarts
 pub mod PulseEnds
 pub mod FromLink
 pub mod Traces
-mod Cases
-mod StoryCases
