@@ -25,7 +25,7 @@ pub record IsGoing {D : Type 0} (IsOf : ScenarioValue → List Row → ℕ → D
   pub told : history ≡ (run_state s rows).story.history
 
 pub seen : (s : ScenarioValue) (rows : List Row) (o : ObserverValue) → FitsBus s → SeamsHold s → IsPrompt s rows → IsObserverOf rows o → AreOfDevices rows → length rows < 2 ^ 32 → AreEarly rows → AreSeen s rows o
-seen s rows o f h p v d few early = record { fits = f; observed = v; devices = d; few = few; early = early; tied = h rows p }
+seen s rows o f h p v d few early = record { fits = f; observed = v; devices = d; few = few; early = early; tied = h rows p few }
 
 pub goes_on : {D : Type 0} → (IsOf : ScenarioValue → List Row → ℕ → D → Type 0) (s : ScenarioValue) (rows new : List Row) (row : Row) (places : List (Option D)) (faults : List FaultDef) (history : List Event) (others : List (Option D)) (more : List FaultDef) (shown longer : List Event)
     → new ≡ row ∷ rows → IsGoing IsOf s rows places faults history → next s rows ≡ Some row → AreIn IsOf s (row ∷ rows) others → more ≡ (if is_fault row.kind then drop 1 faults else faults) → shown ≡ events_shown s rows row → longer ≡ shown ++ history → IsGoing IsOf s new others more longer

@@ -1,6 +1,6 @@
 -- What ties the knowledge of devices to what rows tell, as one test of all rows so far. Devices may rest on it, and of
 -- prompt traces it is to be proved.
-use Rattle.std.specs.Prelude.{◌≡◌, Bool, true, ◌&&◌, List, [], ◌∷◌, Option, Some, None, is_some}
+use Rattle.std.specs.Prelude.{◌≡◌, ◌<◌, ◌^◌, Bool, true, ◌&&◌, List, [], ◌∷◌, length, Option, Some, None, is_some}
 use Rattle.bus_trace.specs.declared.Row.{Row}
 use Rattle.bus_trace.specs.declared.connection.Connection.{Connection}
 use Rattle.bus_trace.specs.Terms.{connection}
@@ -33,6 +33,6 @@ seams s rows =
     faithful s rows
     && (telling s rows && (allowed s rows && (paired s rows && (heard s rows && (written s rows && attended s rows)))))
 
--- It holds of every prompt trace.
+-- It holds of every prompt trace of fewer than 2^32 rows.
 abbrev pub SeamsHold : ScenarioValue → Type 0
-SeamsHold s = (rows : List Row) → IsPrompt s rows → seams s rows ≡ true
+SeamsHold s = (rows : List Row) → IsPrompt s rows → length rows < 2 ^ 32 → seams s rows ≡ true
