@@ -101,7 +101,7 @@ fresh_call s p row off k x e f =
 
 -- ---- a row with which SEL stays true changes no one's wish
 
-link_none : (s : ScenarioValue) (p : List Row) → BusStage s p → connection p ≡ None → (run_state s p).story.link ≡ None
+pub link_none : (s : ScenarioValue) (p : List Row) → BusStage s p → connection p ≡ None → (run_state s p).story.link ≡ None
 link_none s p (on_free_bus h) e = h.link
 link_none s p (in_arbitration a h) e = h.link
 link_none s p (after_arbitration c t h) e = h.link
@@ -232,11 +232,11 @@ own_units s p seats dv = go (run_state s p).array refl
     go None e = subst (λ (o : Option Array). AllOwnUnits s (or_start s o).units) (sym e) (start_units s s.units)
     go (Some a) e = subst (λ (o : Option Array). AllOwnUnits s (or_start s o).units) (sym e) (history_sound s (trace_history s p) a seats (sym (run_state_plain s p dv).array ∙ e)).units
 
-by_answer : (c : ℕ) (x : Calling) (o : Option ℕ) (t : ℕ) (n : Connection) → connected_by c x o t ≡ Some n → connected c x t ≡ n
+pub by_answer : (c : ℕ) (x : Calling) (o : Option ℕ) (t : ℕ) (n : Connection) → connected_by c x o t ≡ Some n → connected c x t ≡ n
 by_answer c x None t n e = absurd (no_connection n e)
 by_answer c x (Some a) t n e = same_Some _ n e
 
-made_of : (s : ScenarioValue) (p : List Row) (c t : ℕ) (x : Calling) (n : Connection) → AreUnits s → AllOwnUnits s (array_of s (run_state s p)).units → IsDueCall s p c x → connected c x t ≡ n → IsMadeFor s (run_state s p) n
+pub made_of : (s : ScenarioValue) (p : List Row) (c t : ℕ) (x : Calling) (n : Connection) → AreUnits s → AllOwnUnits s (array_of s (run_state s p)).units → IsDueCall s p c x → connected c x t ≡ n → IsMadeFor s (run_state s p) n
 made_of s p c t x n u own d same = record { selects = λ z. selecting z; reselects = λ z. reselecting z }
   where
     k : RunState

@@ -1,4 +1,4 @@
--- Each row of some runs is what is still asked of it. Written by tools/books_case.py.
+-- In some runs no process that has shown a reply is reselected. Written by tools/books_case.py.
 use Rattle.std.proofs.Common.{◌≡◌, true, refl}
 use lib.Count.{ones}
 use Rattle.bus_trace.specs.LineSet.{line_of}
@@ -6,229 +6,229 @@ use Rattle.bus_trace.specs.View.{union_below}
 use Rattle.msg_grammar.specs.Messages.{form_out, form_in}
 use Rattle.scenario.specs.Needs.{need_of, sent_of}
 use Rattle.bus_due.specs.RunSteps.{first_run_state}
-use Rattle.trace_laws.specs.AskedTests.{are_asked}
+use Rattle.trace_laws.specs.OpenAnew.{keep_open}
 use Rattle.bus_due.proofs.Cases.{absent_unit_due, absent_unit_due_rows, burst_without_tags_due, burst_without_tags_due_rows, command_given_up_due, command_given_up_due_rows, command_struck_twice_due, command_struck_twice_due_rows, complete_struck_due, complete_struck_due_rows, counted_due, counted_due_rows, data_in_given_up_due, data_in_given_up_due_rows, data_out_given_up_due, data_out_given_up_due_rows, delayed_ack_due, delayed_ack_due_rows, device_reset_by_message_due, device_reset_by_message_due_rows, equal_bytes_due, equal_bytes_due_rows, fast_pulses_out_due, fast_pulses_out_due_rows, field_in_a_command_due, field_in_a_command_due_rows, full_queue_due, full_queue_due_rows, given_up_due, given_up_due_rows, held_reselection_due, held_reselection_due_rows, hold_of_a_unit_due, hold_of_a_unit_due_rows, late_entry_due, late_entry_due_rows, lost_due, lost_due_rows, many_pulses_due, many_pulses_due_rows, offset_255_due, offset_255_due_rows, one_pulse_at_a_time_due, one_pulse_at_a_time_due_rows, one_read_due, one_read_due_rows, opening_given_up_due, opening_given_up_due_rows, ordered_process_due, ordered_process_due_rows, overlapping_resets_due, overlapping_resets_due_rows, own_processes_aborted_due, own_processes_aborted_due_rows, pulsed_read_struck_due, pulsed_read_struck_due_rows, pulsed_write_struck_due, pulsed_write_struck_due_rows, pulses_out_due, pulses_out_due_rows, queue_cleared_due, queue_cleared_due_rows, queue_orders_due, queue_orders_due_rows, ready_units_due, ready_units_due_rows, request_of_a_target_struck_due, request_of_a_target_struck_due_rows, requests_of_a_target_due, requests_of_a_target_due_rows, reselected_id_struck_due, reselected_id_struck_due_rows, reset_in_a_data_phase_due, reset_in_a_data_phase_due_rows, reset_in_a_reselection_due, reset_in_a_reselection_due_rows, reset_in_a_selection_due, reset_in_a_selection_due_rows, resets_dropped_due, resets_dropped_due_rows, selected_id_struck_due, selected_id_struck_due_rows, status_given_up_due, status_given_up_due_rows, status_struck_due, status_struck_due_rows, struck_names_due, struck_names_due_rows, tag_aborted_due, tag_aborted_due_rows, tagged_opening_struck_due, tagged_opening_struck_due_rows, text_two_due, text_two_due_rows, three_contenders_due, three_contenders_due_rows, two_acks_in_one_latency_due, two_acks_in_one_latency_due_rows, unanswered_due, unanswered_due_rows, wide_offset_with_lag_due, wide_offset_with_lag_due_rows, called_again_for_sense_due, called_again_for_sense_due_rows, failures_due, failures_due_rows, negotiation_due, negotiation_due_rows, read_whole_after_a_part_due, read_whole_after_a_part_due_rows, two_aborts_due, two_aborts_due_rows}
 
-absent_unit_due_asked : are_asked absent_unit_due (first_run_state absent_unit_due) absent_unit_due_rows ≡ true
+absent_unit_due_open : keep_open absent_unit_due (first_run_state absent_unit_due) absent_unit_due_rows ≡ true
 unfolding need_of sent_of ones union_below line_of form_out form_in
-absent_unit_due_asked = refl
+absent_unit_due_open = refl
 
-burst_without_tags_due_asked : are_asked burst_without_tags_due (first_run_state burst_without_tags_due) burst_without_tags_due_rows ≡ true
+burst_without_tags_due_open : keep_open burst_without_tags_due (first_run_state burst_without_tags_due) burst_without_tags_due_rows ≡ true
 unfolding need_of sent_of ones union_below line_of form_out form_in
-burst_without_tags_due_asked = refl
+burst_without_tags_due_open = refl
 
-command_given_up_due_asked : are_asked command_given_up_due (first_run_state command_given_up_due) command_given_up_due_rows ≡ true
+command_given_up_due_open : keep_open command_given_up_due (first_run_state command_given_up_due) command_given_up_due_rows ≡ true
 unfolding need_of sent_of ones union_below line_of form_out form_in
-command_given_up_due_asked = refl
+command_given_up_due_open = refl
 
-command_struck_twice_due_asked : are_asked command_struck_twice_due (first_run_state command_struck_twice_due) command_struck_twice_due_rows ≡ true
+command_struck_twice_due_open : keep_open command_struck_twice_due (first_run_state command_struck_twice_due) command_struck_twice_due_rows ≡ true
 unfolding need_of sent_of ones union_below line_of form_out form_in
-command_struck_twice_due_asked = refl
+command_struck_twice_due_open = refl
 
-complete_struck_due_asked : are_asked complete_struck_due (first_run_state complete_struck_due) complete_struck_due_rows ≡ true
+complete_struck_due_open : keep_open complete_struck_due (first_run_state complete_struck_due) complete_struck_due_rows ≡ true
 unfolding need_of sent_of ones union_below line_of form_out form_in
-complete_struck_due_asked = refl
+complete_struck_due_open = refl
 
-counted_due_asked : are_asked counted_due (first_run_state counted_due) counted_due_rows ≡ true
+counted_due_open : keep_open counted_due (first_run_state counted_due) counted_due_rows ≡ true
 unfolding need_of sent_of ones union_below line_of form_out form_in
-counted_due_asked = refl
+counted_due_open = refl
 
-data_in_given_up_due_asked : are_asked data_in_given_up_due (first_run_state data_in_given_up_due) data_in_given_up_due_rows ≡ true
+data_in_given_up_due_open : keep_open data_in_given_up_due (first_run_state data_in_given_up_due) data_in_given_up_due_rows ≡ true
 unfolding need_of sent_of ones union_below line_of form_out form_in
-data_in_given_up_due_asked = refl
+data_in_given_up_due_open = refl
 
-data_out_given_up_due_asked : are_asked data_out_given_up_due (first_run_state data_out_given_up_due) data_out_given_up_due_rows ≡ true
+data_out_given_up_due_open : keep_open data_out_given_up_due (first_run_state data_out_given_up_due) data_out_given_up_due_rows ≡ true
 unfolding need_of sent_of ones union_below line_of form_out form_in
-data_out_given_up_due_asked = refl
+data_out_given_up_due_open = refl
 
-delayed_ack_due_asked : are_asked delayed_ack_due (first_run_state delayed_ack_due) delayed_ack_due_rows ≡ true
+delayed_ack_due_open : keep_open delayed_ack_due (first_run_state delayed_ack_due) delayed_ack_due_rows ≡ true
 unfolding need_of sent_of ones union_below line_of form_out form_in
-delayed_ack_due_asked = refl
+delayed_ack_due_open = refl
 
-device_reset_by_message_due_asked : are_asked device_reset_by_message_due (first_run_state device_reset_by_message_due) device_reset_by_message_due_rows ≡ true
+device_reset_by_message_due_open : keep_open device_reset_by_message_due (first_run_state device_reset_by_message_due) device_reset_by_message_due_rows ≡ true
 unfolding need_of sent_of ones union_below line_of form_out form_in
-device_reset_by_message_due_asked = refl
+device_reset_by_message_due_open = refl
 
-equal_bytes_due_asked : are_asked equal_bytes_due (first_run_state equal_bytes_due) equal_bytes_due_rows ≡ true
+equal_bytes_due_open : keep_open equal_bytes_due (first_run_state equal_bytes_due) equal_bytes_due_rows ≡ true
 unfolding need_of sent_of ones union_below line_of form_out form_in
-equal_bytes_due_asked = refl
+equal_bytes_due_open = refl
 
-fast_pulses_out_due_asked : are_asked fast_pulses_out_due (first_run_state fast_pulses_out_due) fast_pulses_out_due_rows ≡ true
+fast_pulses_out_due_open : keep_open fast_pulses_out_due (first_run_state fast_pulses_out_due) fast_pulses_out_due_rows ≡ true
 unfolding need_of sent_of ones union_below line_of form_out form_in
-fast_pulses_out_due_asked = refl
+fast_pulses_out_due_open = refl
 
-field_in_a_command_due_asked : are_asked field_in_a_command_due (first_run_state field_in_a_command_due) field_in_a_command_due_rows ≡ true
+field_in_a_command_due_open : keep_open field_in_a_command_due (first_run_state field_in_a_command_due) field_in_a_command_due_rows ≡ true
 unfolding need_of sent_of ones union_below line_of form_out form_in
-field_in_a_command_due_asked = refl
+field_in_a_command_due_open = refl
 
-full_queue_due_asked : are_asked full_queue_due (first_run_state full_queue_due) full_queue_due_rows ≡ true
+full_queue_due_open : keep_open full_queue_due (first_run_state full_queue_due) full_queue_due_rows ≡ true
 unfolding need_of sent_of ones union_below line_of form_out form_in
-full_queue_due_asked = refl
+full_queue_due_open = refl
 
-given_up_due_asked : are_asked given_up_due (first_run_state given_up_due) given_up_due_rows ≡ true
+given_up_due_open : keep_open given_up_due (first_run_state given_up_due) given_up_due_rows ≡ true
 unfolding need_of sent_of ones union_below line_of form_out form_in
-given_up_due_asked = refl
+given_up_due_open = refl
 
-held_reselection_due_asked : are_asked held_reselection_due (first_run_state held_reselection_due) held_reselection_due_rows ≡ true
+held_reselection_due_open : keep_open held_reselection_due (first_run_state held_reselection_due) held_reselection_due_rows ≡ true
 unfolding need_of sent_of ones union_below line_of form_out form_in
-held_reselection_due_asked = refl
+held_reselection_due_open = refl
 
-hold_of_a_unit_due_asked : are_asked hold_of_a_unit_due (first_run_state hold_of_a_unit_due) hold_of_a_unit_due_rows ≡ true
+hold_of_a_unit_due_open : keep_open hold_of_a_unit_due (first_run_state hold_of_a_unit_due) hold_of_a_unit_due_rows ≡ true
 unfolding need_of sent_of ones union_below line_of form_out form_in
-hold_of_a_unit_due_asked = refl
+hold_of_a_unit_due_open = refl
 
-late_entry_due_asked : are_asked late_entry_due (first_run_state late_entry_due) late_entry_due_rows ≡ true
+late_entry_due_open : keep_open late_entry_due (first_run_state late_entry_due) late_entry_due_rows ≡ true
 unfolding need_of sent_of ones union_below line_of form_out form_in
-late_entry_due_asked = refl
+late_entry_due_open = refl
 
-lost_due_asked : are_asked lost_due (first_run_state lost_due) lost_due_rows ≡ true
+lost_due_open : keep_open lost_due (first_run_state lost_due) lost_due_rows ≡ true
 unfolding need_of sent_of ones union_below line_of form_out form_in
-lost_due_asked = refl
+lost_due_open = refl
 
-many_pulses_due_asked : are_asked many_pulses_due (first_run_state many_pulses_due) many_pulses_due_rows ≡ true
+many_pulses_due_open : keep_open many_pulses_due (first_run_state many_pulses_due) many_pulses_due_rows ≡ true
 unfolding need_of sent_of ones union_below line_of form_out form_in
-many_pulses_due_asked = refl
+many_pulses_due_open = refl
 
-offset_255_due_asked : are_asked offset_255_due (first_run_state offset_255_due) offset_255_due_rows ≡ true
+offset_255_due_open : keep_open offset_255_due (first_run_state offset_255_due) offset_255_due_rows ≡ true
 unfolding need_of sent_of ones union_below line_of form_out form_in
-offset_255_due_asked = refl
+offset_255_due_open = refl
 
-one_pulse_at_a_time_due_asked : are_asked one_pulse_at_a_time_due (first_run_state one_pulse_at_a_time_due) one_pulse_at_a_time_due_rows ≡ true
+one_pulse_at_a_time_due_open : keep_open one_pulse_at_a_time_due (first_run_state one_pulse_at_a_time_due) one_pulse_at_a_time_due_rows ≡ true
 unfolding need_of sent_of ones union_below line_of form_out form_in
-one_pulse_at_a_time_due_asked = refl
+one_pulse_at_a_time_due_open = refl
 
-one_read_due_asked : are_asked one_read_due (first_run_state one_read_due) one_read_due_rows ≡ true
+one_read_due_open : keep_open one_read_due (first_run_state one_read_due) one_read_due_rows ≡ true
 unfolding need_of sent_of ones union_below line_of form_out form_in
-one_read_due_asked = refl
+one_read_due_open = refl
 
-opening_given_up_due_asked : are_asked opening_given_up_due (first_run_state opening_given_up_due) opening_given_up_due_rows ≡ true
+opening_given_up_due_open : keep_open opening_given_up_due (first_run_state opening_given_up_due) opening_given_up_due_rows ≡ true
 unfolding need_of sent_of ones union_below line_of form_out form_in
-opening_given_up_due_asked = refl
+opening_given_up_due_open = refl
 
-ordered_process_due_asked : are_asked ordered_process_due (first_run_state ordered_process_due) ordered_process_due_rows ≡ true
+ordered_process_due_open : keep_open ordered_process_due (first_run_state ordered_process_due) ordered_process_due_rows ≡ true
 unfolding need_of sent_of ones union_below line_of form_out form_in
-ordered_process_due_asked = refl
+ordered_process_due_open = refl
 
-overlapping_resets_due_asked : are_asked overlapping_resets_due (first_run_state overlapping_resets_due) overlapping_resets_due_rows ≡ true
+overlapping_resets_due_open : keep_open overlapping_resets_due (first_run_state overlapping_resets_due) overlapping_resets_due_rows ≡ true
 unfolding need_of sent_of ones union_below line_of form_out form_in
-overlapping_resets_due_asked = refl
+overlapping_resets_due_open = refl
 
-own_processes_aborted_due_asked : are_asked own_processes_aborted_due (first_run_state own_processes_aborted_due) own_processes_aborted_due_rows ≡ true
+own_processes_aborted_due_open : keep_open own_processes_aborted_due (first_run_state own_processes_aborted_due) own_processes_aborted_due_rows ≡ true
 unfolding need_of sent_of ones union_below line_of form_out form_in
-own_processes_aborted_due_asked = refl
+own_processes_aborted_due_open = refl
 
-pulsed_read_struck_due_asked : are_asked pulsed_read_struck_due (first_run_state pulsed_read_struck_due) pulsed_read_struck_due_rows ≡ true
+pulsed_read_struck_due_open : keep_open pulsed_read_struck_due (first_run_state pulsed_read_struck_due) pulsed_read_struck_due_rows ≡ true
 unfolding need_of sent_of ones union_below line_of form_out form_in
-pulsed_read_struck_due_asked = refl
+pulsed_read_struck_due_open = refl
 
-pulsed_write_struck_due_asked : are_asked pulsed_write_struck_due (first_run_state pulsed_write_struck_due) pulsed_write_struck_due_rows ≡ true
+pulsed_write_struck_due_open : keep_open pulsed_write_struck_due (first_run_state pulsed_write_struck_due) pulsed_write_struck_due_rows ≡ true
 unfolding need_of sent_of ones union_below line_of form_out form_in
-pulsed_write_struck_due_asked = refl
+pulsed_write_struck_due_open = refl
 
-pulses_out_due_asked : are_asked pulses_out_due (first_run_state pulses_out_due) pulses_out_due_rows ≡ true
+pulses_out_due_open : keep_open pulses_out_due (first_run_state pulses_out_due) pulses_out_due_rows ≡ true
 unfolding need_of sent_of ones union_below line_of form_out form_in
-pulses_out_due_asked = refl
+pulses_out_due_open = refl
 
-queue_cleared_due_asked : are_asked queue_cleared_due (first_run_state queue_cleared_due) queue_cleared_due_rows ≡ true
+queue_cleared_due_open : keep_open queue_cleared_due (first_run_state queue_cleared_due) queue_cleared_due_rows ≡ true
 unfolding need_of sent_of ones union_below line_of form_out form_in
-queue_cleared_due_asked = refl
+queue_cleared_due_open = refl
 
-queue_orders_due_asked : are_asked queue_orders_due (first_run_state queue_orders_due) queue_orders_due_rows ≡ true
+queue_orders_due_open : keep_open queue_orders_due (first_run_state queue_orders_due) queue_orders_due_rows ≡ true
 unfolding need_of sent_of ones union_below line_of form_out form_in
-queue_orders_due_asked = refl
+queue_orders_due_open = refl
 
-ready_units_due_asked : are_asked ready_units_due (first_run_state ready_units_due) ready_units_due_rows ≡ true
+ready_units_due_open : keep_open ready_units_due (first_run_state ready_units_due) ready_units_due_rows ≡ true
 unfolding need_of sent_of ones union_below line_of form_out form_in
-ready_units_due_asked = refl
+ready_units_due_open = refl
 
-request_of_a_target_struck_due_asked : are_asked request_of_a_target_struck_due (first_run_state request_of_a_target_struck_due) request_of_a_target_struck_due_rows ≡ true
+request_of_a_target_struck_due_open : keep_open request_of_a_target_struck_due (first_run_state request_of_a_target_struck_due) request_of_a_target_struck_due_rows ≡ true
 unfolding need_of sent_of ones union_below line_of form_out form_in
-request_of_a_target_struck_due_asked = refl
+request_of_a_target_struck_due_open = refl
 
-requests_of_a_target_due_asked : are_asked requests_of_a_target_due (first_run_state requests_of_a_target_due) requests_of_a_target_due_rows ≡ true
+requests_of_a_target_due_open : keep_open requests_of_a_target_due (first_run_state requests_of_a_target_due) requests_of_a_target_due_rows ≡ true
 unfolding need_of sent_of ones union_below line_of form_out form_in
-requests_of_a_target_due_asked = refl
+requests_of_a_target_due_open = refl
 
-reselected_id_struck_due_asked : are_asked reselected_id_struck_due (first_run_state reselected_id_struck_due) reselected_id_struck_due_rows ≡ true
+reselected_id_struck_due_open : keep_open reselected_id_struck_due (first_run_state reselected_id_struck_due) reselected_id_struck_due_rows ≡ true
 unfolding need_of sent_of ones union_below line_of form_out form_in
-reselected_id_struck_due_asked = refl
+reselected_id_struck_due_open = refl
 
-reset_in_a_data_phase_due_asked : are_asked reset_in_a_data_phase_due (first_run_state reset_in_a_data_phase_due) reset_in_a_data_phase_due_rows ≡ true
+reset_in_a_data_phase_due_open : keep_open reset_in_a_data_phase_due (first_run_state reset_in_a_data_phase_due) reset_in_a_data_phase_due_rows ≡ true
 unfolding need_of sent_of ones union_below line_of form_out form_in
-reset_in_a_data_phase_due_asked = refl
+reset_in_a_data_phase_due_open = refl
 
-reset_in_a_reselection_due_asked : are_asked reset_in_a_reselection_due (first_run_state reset_in_a_reselection_due) reset_in_a_reselection_due_rows ≡ true
+reset_in_a_reselection_due_open : keep_open reset_in_a_reselection_due (first_run_state reset_in_a_reselection_due) reset_in_a_reselection_due_rows ≡ true
 unfolding need_of sent_of ones union_below line_of form_out form_in
-reset_in_a_reselection_due_asked = refl
+reset_in_a_reselection_due_open = refl
 
-reset_in_a_selection_due_asked : are_asked reset_in_a_selection_due (first_run_state reset_in_a_selection_due) reset_in_a_selection_due_rows ≡ true
+reset_in_a_selection_due_open : keep_open reset_in_a_selection_due (first_run_state reset_in_a_selection_due) reset_in_a_selection_due_rows ≡ true
 unfolding need_of sent_of ones union_below line_of form_out form_in
-reset_in_a_selection_due_asked = refl
+reset_in_a_selection_due_open = refl
 
-resets_dropped_due_asked : are_asked resets_dropped_due (first_run_state resets_dropped_due) resets_dropped_due_rows ≡ true
+resets_dropped_due_open : keep_open resets_dropped_due (first_run_state resets_dropped_due) resets_dropped_due_rows ≡ true
 unfolding need_of sent_of ones union_below line_of form_out form_in
-resets_dropped_due_asked = refl
+resets_dropped_due_open = refl
 
-selected_id_struck_due_asked : are_asked selected_id_struck_due (first_run_state selected_id_struck_due) selected_id_struck_due_rows ≡ true
+selected_id_struck_due_open : keep_open selected_id_struck_due (first_run_state selected_id_struck_due) selected_id_struck_due_rows ≡ true
 unfolding need_of sent_of ones union_below line_of form_out form_in
-selected_id_struck_due_asked = refl
+selected_id_struck_due_open = refl
 
-status_given_up_due_asked : are_asked status_given_up_due (first_run_state status_given_up_due) status_given_up_due_rows ≡ true
+status_given_up_due_open : keep_open status_given_up_due (first_run_state status_given_up_due) status_given_up_due_rows ≡ true
 unfolding need_of sent_of ones union_below line_of form_out form_in
-status_given_up_due_asked = refl
+status_given_up_due_open = refl
 
-status_struck_due_asked : are_asked status_struck_due (first_run_state status_struck_due) status_struck_due_rows ≡ true
+status_struck_due_open : keep_open status_struck_due (first_run_state status_struck_due) status_struck_due_rows ≡ true
 unfolding need_of sent_of ones union_below line_of form_out form_in
-status_struck_due_asked = refl
+status_struck_due_open = refl
 
-struck_names_due_asked : are_asked struck_names_due (first_run_state struck_names_due) struck_names_due_rows ≡ true
+struck_names_due_open : keep_open struck_names_due (first_run_state struck_names_due) struck_names_due_rows ≡ true
 unfolding need_of sent_of ones union_below line_of form_out form_in
-struck_names_due_asked = refl
+struck_names_due_open = refl
 
-tag_aborted_due_asked : are_asked tag_aborted_due (first_run_state tag_aborted_due) tag_aborted_due_rows ≡ true
+tag_aborted_due_open : keep_open tag_aborted_due (first_run_state tag_aborted_due) tag_aborted_due_rows ≡ true
 unfolding need_of sent_of ones union_below line_of form_out form_in
-tag_aborted_due_asked = refl
+tag_aborted_due_open = refl
 
-tagged_opening_struck_due_asked : are_asked tagged_opening_struck_due (first_run_state tagged_opening_struck_due) tagged_opening_struck_due_rows ≡ true
+tagged_opening_struck_due_open : keep_open tagged_opening_struck_due (first_run_state tagged_opening_struck_due) tagged_opening_struck_due_rows ≡ true
 unfolding need_of sent_of ones union_below line_of form_out form_in
-tagged_opening_struck_due_asked = refl
+tagged_opening_struck_due_open = refl
 
-text_two_due_asked : are_asked text_two_due (first_run_state text_two_due) text_two_due_rows ≡ true
+text_two_due_open : keep_open text_two_due (first_run_state text_two_due) text_two_due_rows ≡ true
 unfolding need_of sent_of ones union_below line_of form_out form_in
-text_two_due_asked = refl
+text_two_due_open = refl
 
-three_contenders_due_asked : are_asked three_contenders_due (first_run_state three_contenders_due) three_contenders_due_rows ≡ true
+three_contenders_due_open : keep_open three_contenders_due (first_run_state three_contenders_due) three_contenders_due_rows ≡ true
 unfolding need_of sent_of ones union_below line_of form_out form_in
-three_contenders_due_asked = refl
+three_contenders_due_open = refl
 
-two_acks_in_one_latency_due_asked : are_asked two_acks_in_one_latency_due (first_run_state two_acks_in_one_latency_due) two_acks_in_one_latency_due_rows ≡ true
+two_acks_in_one_latency_due_open : keep_open two_acks_in_one_latency_due (first_run_state two_acks_in_one_latency_due) two_acks_in_one_latency_due_rows ≡ true
 unfolding need_of sent_of ones union_below line_of form_out form_in
-two_acks_in_one_latency_due_asked = refl
+two_acks_in_one_latency_due_open = refl
 
-unanswered_due_asked : are_asked unanswered_due (first_run_state unanswered_due) unanswered_due_rows ≡ true
+unanswered_due_open : keep_open unanswered_due (first_run_state unanswered_due) unanswered_due_rows ≡ true
 unfolding need_of sent_of ones union_below line_of form_out form_in
-unanswered_due_asked = refl
+unanswered_due_open = refl
 
-wide_offset_with_lag_due_asked : are_asked wide_offset_with_lag_due (first_run_state wide_offset_with_lag_due) wide_offset_with_lag_due_rows ≡ true
+wide_offset_with_lag_due_open : keep_open wide_offset_with_lag_due (first_run_state wide_offset_with_lag_due) wide_offset_with_lag_due_rows ≡ true
 unfolding need_of sent_of ones union_below line_of form_out form_in
-wide_offset_with_lag_due_asked = refl
+wide_offset_with_lag_due_open = refl
 
-called_again_for_sense_due_asked : are_asked called_again_for_sense_due (first_run_state called_again_for_sense_due) called_again_for_sense_due_rows ≡ true
+called_again_for_sense_due_open : keep_open called_again_for_sense_due (first_run_state called_again_for_sense_due) called_again_for_sense_due_rows ≡ true
 unfolding need_of sent_of ones union_below line_of form_out form_in
-called_again_for_sense_due_asked = refl
+called_again_for_sense_due_open = refl
 
-failures_due_asked : are_asked failures_due (first_run_state failures_due) failures_due_rows ≡ true
+failures_due_open : keep_open failures_due (first_run_state failures_due) failures_due_rows ≡ true
 unfolding need_of sent_of ones union_below line_of form_out form_in
-failures_due_asked = refl
+failures_due_open = refl
 
-negotiation_due_asked : are_asked negotiation_due (first_run_state negotiation_due) negotiation_due_rows ≡ true
+negotiation_due_open : keep_open negotiation_due (first_run_state negotiation_due) negotiation_due_rows ≡ true
 unfolding need_of sent_of ones union_below line_of form_out form_in
-negotiation_due_asked = refl
+negotiation_due_open = refl
 
-read_whole_after_a_part_due_asked : are_asked read_whole_after_a_part_due (first_run_state read_whole_after_a_part_due) read_whole_after_a_part_due_rows ≡ true
+read_whole_after_a_part_due_open : keep_open read_whole_after_a_part_due (first_run_state read_whole_after_a_part_due) read_whole_after_a_part_due_rows ≡ true
 unfolding need_of sent_of ones union_below line_of form_out form_in
-read_whole_after_a_part_due_asked = refl
+read_whole_after_a_part_due_open = refl
 
-two_aborts_due_asked : are_asked two_aborts_due (first_run_state two_aborts_due) two_aborts_due_rows ≡ true
+two_aborts_due_open : keep_open two_aborts_due (first_run_state two_aborts_due) two_aborts_due_rows ≡ true
 unfolding need_of sent_of ones union_below line_of form_out form_in
-two_aborts_due_asked = refl
+two_aborts_due_open = refl

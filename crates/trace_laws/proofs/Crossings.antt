@@ -11,7 +11,7 @@ use Rattle.bus_trace.specs.declared.connection.Connection.{Connection}
 use Rattle.bus_trace.specs.Changes.{change_of, rises}
 use Rattle.bus_trace.specs.Phases.{changes_phase, is_message_out, is_message_in}
 use Rattle.bus_trace.specs.Terms.{connection, receiver_in}
-use Rattle.bus_trace.specs.Trace.{drives, last_time}
+use Rattle.bus_trace.specs.Trace.{bus, drives, last_time}
 use Rattle.bus_trace.proofs.OddParity.{byte_odd, byte_back}
 use Rattle.bus_phases.specs.Dialogue.{dialogue}
 use Rattle.bus_lines.specs.Handshakes.{handshakes}
@@ -69,6 +69,7 @@ pub record Stops (s : ScenarioValue) (p : List Row) (row : Row) (n : Connection)
   pub stopped : connection (row ∷ p) ≡ None
   pub begun_is : begun p ≡ true
   pub carries : is_some (receiver_in n (change_of p row)) ≡ false
+  pub low : (bus p).req ≡ false
   pub over : IsOver s (run_state s p) n
   pub whereto : (leaving s (run_state s p) n.target).to ≡ None
 
@@ -251,6 +252,7 @@ stops : (s : ScenarioValue) (p : List Row) (t : ℕ) (n : Connection) (atn msg c
 stops s p t n atn msg cd io x y h b over to =
     let e : EndLines = ends false false atn x msg cd io false y in
     ends_here (record {
+      low = ap (λ (l : LineSet). l.req) h.stands.bus_is;
       stopped = freed_connection p t n e refl h;
       begun_is = b;
       carries =
@@ -367,14 +369,14 @@ row_facts s p row n dv v d (rows.opens h b e) = subst (λ (w : Row). RowFacts s 
 row_facts s p row n dv v d (rows.strikes f bit h b got who e) = subst (λ (w : Row). RowFacts s p w n) (sym e) (fault_facts s p (last_time p) row.dev bit n f dv (who_below n f.io row.dev h.initiator_below h.target_below who) h)
 row_facts s p row n dv v d (rows.hands atn msg cd io y h b un e) = subst (λ (w : Row). RowFacts s p w n) (sym e) (of_initiator s p row.time n (ends true false atn 0 msg cd io false y) false false atn 0 dv h (none_both io))
 row_facts s p row n dv v d (rows.releases atn x msg cd h b un e) = subst (λ (w : Row). RowFacts s p w n) (sym e) (of_initiator s p row.time n (ends false false atn x msg cd true false 0) false false atn 0 dv h refl)
-row_facts s p row n dv v d (rows.answers atn to msg cd y h b e) = subst (λ (w : Row). RowFacts s p w n) (sym e) (of_initiator s p row.time n (ends false false atn 0 msg cd true true y) false true to 0 dv h refl)
+row_facts s p row n dv v d (rows.answers atn to msg cd y h b un rose e) = subst (λ (w : Row). RowFacts s p w n) (sym e) (of_initiator s p row.time n (ends false false atn 0 msg cd true true y) false true to 0 dv h refl)
 row_facts s p row n dv v d (rows.ends_ack_in atn msg cd y h b un z e) = subst (λ (w : Row). RowFacts s p w n) (sym e) (of_initiator s p row.time n (ends false true atn 0 msg cd true false y) false false atn 0 dv h refl)
 row_facts s p row n dv v d (rows.gives atn msg cd h b z e) = subst (λ (w : Row). RowFacts s p w n) (sym e) (of_initiator s p row.time n (ends false false atn 0 msg cd false true 0) false false _ _ dv h refl)
 row_facts s p row n dv v d (rows.sends atn msg cd x h b z some e) =
     let f : EndLines = ends false false atn x msg cd false true 0 in
     subst (λ (w : Row). RowFacts s p w n) (sym e) (crosses_out s p row.time n atn x msg cd true dv h b (v f h b).answered ((d f h b).said refl refl refl z some) (λ a. (d f h b).attends a refl refl some))
 row_facts s p row n dv v d (rows.ends_ack_out atn msg cd x h b e) = subst (λ (w : Row). RowFacts s p w n) (sym e) (of_initiator s p row.time n (ends false true atn x msg cd false false 0) false false atn 0 dv h refl)
-row_facts s p row n dv v d (rows.answers_pulse req atn to y h b un z e) = subst (λ (w : Row). RowFacts s p w n) (sym e) (of_initiator s p row.time n (ends false false atn 0 false false true req y) false true to 0 dv h (still_req n req))
+row_facts s p row n dv v d (rows.answers_pulse req atn to y h b un z rose e) = subst (λ (w : Row). RowFacts s p w n) (sym e) (of_initiator s p row.time n (ends false false atn 0 false false true req y) false true to 0 dv h (still_req n req))
 row_facts s p row n dv v d (rows.ends_ack_pulse io req atn x y h b un z e) = subst (λ (w : Row). RowFacts s p w n) (sym e) (of_initiator s p row.time n (ends false true atn x false false io req y) false false atn x dv h (no_pulse n io req))
 row_facts s p row n dv v d (rows.drives_pulsed req atn x y h b z e) = subst (λ (w : Row). RowFacts s p w n) (sym e) (of_initiator s p row.time n (ends false false atn x false false false req 0) false false atn y dv h refl)
 row_facts s p row n dv v d (rows.sends_pulse req atn x h b z byte e) =

@@ -63,7 +63,7 @@ use Rattle.bus_laws.proofs.Together.{from_stage, by_reset, by_calm, reset_or_cal
 use Rattle.link_laws.specs.Books.{has_odd_byte, KeepsBooksIn}
 use Rattle.link_laws.specs.LinkStages.{LinkStage, when_selected, when_settling, when_turning, when_offering, when_shaking, when_pulsing, AnyStage, apart, linked, NextAny}
 use Rattle.link_laws.proofs.Traces.{from_any}
-use Rattle.trace_laws.specs.StillAsked.{IsAskedIn, IsAsked}
+use Rattle.trace_laws.specs.Asked.{IsAskedIn, IsAsked}
 use Rattle.trace_laws.specs.ByteValues.{HasByteValues}
 use Rattle.trace_laws.proofs.ByteValues.{GivesByteValues}
 use Rattle.trace_laws.proofs.Blocks.{HasCommands, sends_bytes}
@@ -92,7 +92,7 @@ pub record NextStood (s : ScenarioValue) (p : List Row) (row : Row) : Type 0 whe
 
 -- ---- the stage of a connection
 
-link_calm : (s : ScenarioValue) (p : List Row) (n : Connection) → LinkStage s p n → (bus p).rst ≡ false
+pub link_calm : (s : ScenarioValue) (p : List Row) (n : Connection) → LinkStage s p n → (bus p).rst ≡ false
 link_calm s p n (when_selected h) = ap (λ (l : LineSet). l.rst) h.linked.stands.bus_is
 link_calm s p n (when_settling bsy atn msg cd io y h) = ap (λ (l : LineSet). l.rst) h.linked.stands.bus_is
 link_calm s p n (when_turning atn x msg cd h) = ap (λ (l : LineSet). l.rst) h.linked.stands.bus_is
@@ -108,7 +108,7 @@ link_sel s p n (when_offering atn msg cd y h) = ap (λ (l : LineSet). l.sel) h.l
 link_sel s p n (when_shaking msg cd io req ack atn x y h) = ap (λ (l : LineSet). l.sel) h.linked.stands.bus_is
 link_sel s p n (when_pulsing io req ack atn x y h a) = ap (λ (l : LineSet). l.sel) h.linked.stands.bus_is
 
-link_connection : (s : ScenarioValue) (p : List Row) (n : Connection) → LinkStage s p n → connection p ≡ Some n
+pub link_connection : (s : ScenarioValue) (p : List Row) (n : Connection) → LinkStage s p n → connection p ≡ Some n
 link_connection s p n (when_selected h) = h.linked.stands.connection_is
 link_connection s p n (when_settling bsy atn msg cd io y h) = h.linked.stands.connection_is
 link_connection s p n (when_turning atn x msg cd h) = h.linked.stands.connection_is
@@ -128,7 +128,7 @@ second false c e f = wrong' f
 by_known : (p : List Row) (b : LineSet) (g : Bool) → bus p ≡ b → (b.msg && not b.cd) ≡ false → begun p ≡ true → (bus p).msg ≡ true → ((bus p).cd ≡ true) × (begun p ≡ true)
 by_known p b g e known bg m = (ap (λ (l : LineSet). l.cd) e ∙ second b.msg b.cd known (ap (λ (l : LineSet). l.msg) (sym e) ∙ m), bg)
 
-link_phase : (s : ScenarioValue) (p : List Row) (n : Connection) → LinkStage s p n → (bus p).msg ≡ true → ((bus p).cd ≡ true) × (begun p ≡ true)
+pub link_phase : (s : ScenarioValue) (p : List Row) (n : Connection) → LinkStage s p n → (bus p).msg ≡ true → ((bus p).cd ≡ true) × (begun p ≡ true)
 link_phase s p n (when_selected h) m = wrong' (sym (ap (λ (l : LineSet). l.msg) h.linked.stands.bus_is) ∙ m)
 link_phase s p n (when_settling bsy atn msg cd io y h) m = by_known p _ true h.linked.stands.bus_is h.phase.known h.phase.begun_is m
 link_phase s p n (when_turning atn x msg cd h) m = by_known p _ true h.linked.stands.bus_is h.phase.known h.phase.begun_is m
@@ -136,7 +136,7 @@ link_phase s p n (when_offering atn msg cd y h) m = by_known p _ true h.linked.s
 link_phase s p n (when_shaking msg cd io req ack atn x y h) m = by_known p _ true h.linked.stands.bus_is h.phase.known h.phase.begun_is m
 link_phase s p n (when_pulsing io req ack atn x y h a) m = by_known p _ true h.linked.stands.bus_is h.phase.known h.phase.begun_is m
 
-link_unbegun : (s : ScenarioValue) (p : List Row) (n : Connection) → LinkStage s p n → begun p ≡ false → bus p ≡ connected_bus ends_selected
+pub link_unbegun : (s : ScenarioValue) (p : List Row) (n : Connection) → LinkStage s p n → begun p ≡ false → bus p ≡ connected_bus ends_selected
 link_unbegun s p n (when_selected h) b = h.linked.stands.bus_is
 link_unbegun s p n (when_settling bsy atn msg cd io y h) b = wrong (sym h.phase.begun_is ∙ b)
 link_unbegun s p n (when_turning atn x msg cd h) b = wrong (sym h.phase.begun_is ∙ b)
@@ -146,7 +146,7 @@ link_unbegun s p n (when_pulsing io req ack atn x y h a) b = wrong (sym h.phase.
 
 -- ---- what is asked of bytes
 
-values_of : (s : ScenarioValue) (p : List Row) (n : Connection) → HasCommands s → AreOfDevices p → HasByteValues s (run_state s p) n → HasValues s p n
+pub values_of : (s : ScenarioValue) (p : List Row) (n : Connection) → HasCommands s → AreOfDevices p → HasByteValues s (run_state s p) n → HasValues s p n
 values_of s p n gr dv v e h b =
     let k = run_state s p in
     let a = run_state_plain s p dv in
@@ -457,7 +457,7 @@ first_planned s p row n dv lt alone e f m = go f.begins
 none_some : (n : Connection) → (let a : Option Connection = None in a) ≡ Some n → ⊥
 none_some n e = absurd cc
 
-apart_connection : (s : ScenarioValue) (p : List Row) (row : Row) → row.dev < 8 → broken_rule p row ≡ None → BusStage s p → is_connected p ≡ false → (bus (row ∷ p)).rst ≡ false → connection p ≡ None
+pub apart_connection : (s : ScenarioValue) (p : List Row) (row : Row) → row.dev < 8 → broken_rule p row ≡ None → BusStage s p → is_connected p ≡ false → (bus (row ∷ p)).rst ≡ false → connection p ≡ None
 apart_connection s p row lt obeys h alone calm = go (bus p).rst refl (connection p) refl
   where
     go : (q : Bool) → (bus p).rst ≡ q → (o : Option Connection) → connection p ≡ o → connection p ≡ None

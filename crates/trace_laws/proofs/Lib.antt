@@ -1,5 +1,4 @@
 mod Cases
-mod StoryCases
 pub mod LinkRows
 pub mod Driven
 pub mod Kept
@@ -13,7 +12,6 @@ pub mod FirstRows
 pub mod Joint
 pub mod Traces
 pub mod Plans
-pub mod AskedTies
 pub mod Called
 pub mod Blocks
 pub mod SmallLines
@@ -21,5 +19,194 @@ pub mod Spoken
 pub mod SpokenPlans
 pub mod ByteExecutions
 pub mod ArrayBytes
+pub mod CloseEnds
+pub mod CloseCounts
+pub mod CloseProcesses
+pub mod CloseFacts
+pub mod CloseAsks
+pub mod CloseStays
+pub mod CloseStatus
 pub mod Codes
 pub mod ByteValues
+pub mod Ends
+pub mod CommandCounts
+pub mod BlockRows
+pub mod CommandLeavings
+pub mod CommandTurns
+pub mod CommandStays
+pub mod CommandMessages
+pub mod CommandCrossings
+pub mod CommandWaits
+pub mod CommandFirst
+pub mod CommandFacts
+pub mod CommandNext
+pub mod Commands
+pub mod PointerStories
+pub mod PointerKept
+pub mod PointerMessages
+pub mod PointerLeavings
+pub mod RunParts
+pub mod PointerHearings
+pub mod PointerStorySteps
+pub mod PointerRows
+pub mod PointerCrossings
+pub mod PointerTurns
+pub mod PointerPhases
+pub mod OneMessages
+pub mod OfferBytes
+pub mod OfferLeavings
+pub mod OfferRows
+pub mod OfferTurns
+pub mod OfferSteps
+pub mod AttentionRows
+pub mod ConnectionRows
+pub mod Offers
+pub mod Left
+pub mod PointerWaits
+pub mod PointerEnds
+pub mod PointerBegins
+pub mod RunRows
+pub mod PolicyLines
+pub mod RunFits
+pub mod RunFacts
+pub mod RunSteps
+pub mod RunPulses
+pub mod DataFacts
+pub mod RunArrivals
+pub mod RunAsks
+pub mod RunBegins
+pub mod RunBegun
+pub mod RunCountFacts
+pub mod RunEntries
+pub mod RunCountRows
+pub mod TellEvents
+pub mod TellTurns
+pub mod TellEnds
+pub mod TellRows
+pub mod TellTraces
+pub mod ListedReplies
+pub mod ShownReplies
+pub mod UndoneLeavings
+pub mod UndoneRows
+pub mod UndoneAnswers
+pub mod UndoneTurns
+pub mod UndoneFacts
+pub mod NamedStory
+pub mod NamedBytes
+pub mod NamedSteps
+pub mod NamedRows
+pub mod NamedTurns
+pub mod NamedFirst
+pub mod Named
+pub mod EachProcess
+pub mod QueueDepths
+pub mod OtherProcesses
+pub mod SeatedProcesses
+pub mod ArrivingProcesses
+pub mod AnsweredProcesses
+pub mod PlaceLeavings
+pub mod PlaceEvents
+pub mod PlaceTurns
+pub mod PlaceCommands
+pub mod PlaceTurnRows
+pub mod PlaceTurned
+pub mod PlaceStays
+pub mod PlaceEnds
+pub mod PlaceNext
+pub mod PlaceReady
+pub mod PlaceFirst
+pub mod PlaceRows
+pub mod PlaceRuns
+pub mod PlaceAsks
+pub mod ServedItems
+pub mod NextItems
+pub mod OpenCommands
+pub mod AimsFit
+pub mod RowEvents
+pub mod SentItems
+pub mod SentRows
+pub mod QueuedProcesses
+pub mod OverItems
+pub mod LastMessages
+pub mod OutMessages
+pub mod RowItems
+pub mod TalkSteps
+pub mod InMoves
+pub mod TalkRows
+pub mod TalkBytes
+pub mod TalkTurns
+pub mod FirstTalks
+pub mod ItemSteps
+pub mod ItemRows
+pub mod FirstItems
+pub mod ItemFacts
+pub mod ItemNext
+pub mod FreshItems
+pub mod MayLeave
+pub mod HeardTurns
+pub mod KnownLeavings
+pub mod InstructedSteps
+pub mod InstructedTurns
+pub mod InstructedLeavings
+pub mod InstructedRows
+pub mod Instructed
+pub mod HeardRows
+pub mod DataPremises
+pub mod LastLeavings
+pub mod LastBytes
+pub mod LastRows
+pub mod LastTurns
+pub mod LastAborts
+pub mod LastFacts
+pub mod TellFacts
+pub mod FailureBytes
+pub mod ShownEvents
+pub mod OpeningRows
+pub mod RowAttendance
+pub mod BadReplies
+pub mod UnknownTurns
+pub mod AttendedNext
+pub mod Attended
+pub mod CutConnections
+pub mod ComplaintRows
+pub mod ComplaintTurns
+pub mod Complaints
+pub mod Complained
+mod UnitsKept
+mod WriterUnits
+mod ArrivalRows
+mod DoneRuns
+mod WriteTurns
+mod WriteRows
+mod WriteNext
+mod Written
+mod LastRuns
+mod WholeRuns
+pub mod PlaceJoins
+pub mod PlaceTells
+pub mod PlaceTraces
+pub mod PlaceNames
+pub mod FailureFaults
+pub mod FailureRows
+pub mod FailureTurns
+pub mod FailureMarks
+pub mod AttendedAsked
+pub mod PlaceEndTells
+pub mod PlaceHeard
+pub mod FailureSteps
+pub mod FailureCrossings
+pub mod FailureWords
+pub mod Whole
+mod ResetRows
+mod ResetFacts
+mod CountedRuns
+mod WritePresent
+mod OutsideWrites
+mod SentBytes
+pub mod FailureEntries
+pub mod FailureTurned
+pub mod FailureCrossed
+pub mod FailureNext
+pub mod FailureLeft
+pub mod FailureFirst
+pub mod FailureAway

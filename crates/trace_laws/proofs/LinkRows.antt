@@ -57,14 +57,14 @@ pub data LinkRow (s : ScenarioValue) (p : List Row) (n : Connection) (row : Row)
   -- the initiator hands BSY over; releases a byte that it still drives; answers a byte, with ATN or not; ends ACK
   hands : (atn msg cd io : Bool) (y : ℕ) → Linked p n (ends true false atn 0 msg cd io false y) → begun p ≡ true → is_unasked p ≡ true → row ≡ initiator_row row.time n (ends false false atn 0 msg cd io false y) → LinkRow s p n row
   releases : (atn : Bool) (x : ℕ) (msg cd : Bool) → Linked p n (ends false false atn x msg cd true false 0) → begun p ≡ true → is_unasked p ≡ true → row ≡ initiator_row row.time n (ends false false atn 0 msg cd true false 0) → LinkRow s p n row
-  answers : (atn to msg cd : Bool) (y : ℕ) → Linked p n (ends false false atn 0 msg cd true true y) → begun p ≡ true → row ≡ initiator_row row.time n (ends false true to 0 msg cd true true y) → LinkRow s p n row
+  answers : (atn to msg cd : Bool) (y : ℕ) → Linked p n (ends false false atn 0 msg cd true true y) → begun p ≡ true → is_unasked p ≡ false → to ≡ (((handshakes p).struck || (answering_with s p n (ends false false atn 0 msg cd true true y)).speaks) || atn) → row ≡ initiator_row row.time n (ends false true to 0 msg cd true true y) → LinkRow s p n row
   ends_ack_in : (atn msg cd : Bool) (y : ℕ) → Linked p n (ends false true atn 0 msg cd true false y) → begun p ≡ true → is_unasked p ≡ false → is_pulsed p (ends false true atn 0 msg cd true false y) ≡ false → row ≡ initiator_row row.time n (ends false false atn 0 msg cd true false y) → LinkRow s p n row
   -- it drives its byte; raises ACK with it; ends ACK
   gives : (atn msg cd : Bool) → Linked p n (ends false false atn 0 msg cd false true 0) → begun p ≡ true → is_pulsed p (ends false false atn 0 msg cd false true 0) ≡ false → row ≡ initiator_row row.time n (ends false false (attends_by (connected_bus (ends false false atn 0 msg cd false true 0)) (answering_with s p n (ends false false atn 0 msg cd false true 0)).attends atn) (byte_bits (answering_with s p n (ends false false atn 0 msg cd false true 0)).byte) msg cd false true 0) → LinkRow s p n row
   sends : (atn msg cd : Bool) (x : ℕ) → Linked p n (ends false false atn x msg cd false true 0) → begun p ≡ true → is_pulsed p (ends false false atn x msg cd false true 0) ≡ false → (x == 0) ≡ false → row ≡ initiator_row row.time n (ends false true atn x msg cd false true 0) → LinkRow s p n row
   ends_ack_out : (atn msg cd : Bool) (x : ℕ) → Linked p n (ends false true atn x msg cd false false 0) → begun p ≡ true → row ≡ initiator_row row.time n (ends false false atn 0 msg cd false false 0) → LinkRow s p n row
   -- the same by pulses
-  answers_pulse : (req atn to : Bool) (y : ℕ) → Linked p n (ends false false atn 0 false false true req y) → begun p ≡ true → is_unasked p ≡ false → is_pulsed p (ends false false atn 0 false false true req y) ≡ true → row ≡ initiator_row row.time n (ends false true to 0 false false true req y) → LinkRow s p n row
+  answers_pulse : (req atn to : Bool) (y : ℕ) → Linked p n (ends false false atn 0 false false true req y) → begun p ≡ true → is_unasked p ≡ false → is_pulsed p (ends false false atn 0 false false true req y) ≡ true → to ≡ (is_struck (first_of (handshakes p).waiting) || atn) → row ≡ initiator_row row.time n (ends false true to 0 false false true req y) → LinkRow s p n row
   ends_ack_pulse : (io req atn : Bool) (x y : ℕ) → Linked p n (ends false true atn x false false io req y) → begun p ≡ true → is_unasked p ≡ false → is_pulsed p (ends false true atn x false false io req y) ≡ true → row ≡ initiator_row row.time n (ends false false atn x false false io req y) → LinkRow s p n row
   drives_pulsed : (req atn : Bool) (x z : ℕ) → Linked p n (ends false false atn x false false false req 0) → begun p ≡ true → is_pulsed p (ends false false atn x false false false req 0) ≡ true → row ≡ initiator_row row.time n (ends false false atn z false false false req 0) → LinkRow s p n row
   sends_pulse : (req atn : Bool) (x : ℕ) → Linked p n (ends false false atn x false false false req 0) → begun p ≡ true → is_pulsed p (ends false false atn x false false false req 0) ≡ true → x ≡ byte_bits (answering_with s p n (ends false false atn x false false false req 0)).byte → row ≡ initiator_row row.time n (ends false true atn x false false false req 0) → LinkRow s p n row
@@ -150,7 +150,7 @@ of_shaking_in s p row n msg cd req ack atn y h (by_fault bit got same) = strikes
 of_shaking_in s p row n msg cd true true atn y h (by_initiator lat there same e) = absurd (never _ (due_of row) (answered_initiator_in s p n msg cd atn y lat h) e)
 of_shaking_in s p row n msg cd true false atn y h (by_initiator lat there same e) =
     let to = ((handshakes p).struck || (answering_with s p n (ends false false atn 0 msg cd true true y)).speaks) || atn in
-    answers atn to msg cd y h.linked h.phase.begun_is (row_at row n.initiator ((line_times p).req + lat) (initiator_side (ends false true to 0 msg cd true true y)) same (sym (asking_initiator_in s p n msg cd atn y lat h) ∙ e))
+    answers atn to msg cd y h.linked h.phase.begun_is h.asked refl (row_at row n.initiator ((line_times p).req + lat) (initiator_side (ends false true to 0 msg cd true true y)) same (sym (asking_initiator_in s p n msg cd atn y lat h) ∙ e))
 of_shaking_in s p row n msg cd false true atn y h (by_initiator lat there same e) =
     ends_ack_in atn msg cd y h.linked h.phase.begun_is h.asked h.unpulsed (row_at row n.initiator (ack_end_time p atn + lat) (initiator_side (ends false false atn 0 msg cd true false y)) same (sym (ending_initiator_in s p n msg cd atn y lat h) ∙ e))
 of_shaking_in s p row n msg cd false false atn y h (by_initiator lat there same e) = absurd (never _ (due_of row) (between_initiator_in s p n msg cd atn y lat h) e)
@@ -266,7 +266,7 @@ initiator_in s p row n req false atn y lat h same e = go (length (handshakes p).
     go : (q : Bool) → (length (handshakes p).waiting == 0) ≡ q → (if not q then due_at (answer_time s p n + lat) (initiator_side (ends false true (is_struck (first_of (handshakes p).waiting) || atn) 0 false false true req y)) else None) ≡ Some (due_of row) → LinkRow s p n row
     go true z e = absurd (none_some (due_of row) e)
     go false z e =
-        answers_pulse req atn (is_struck (first_of (handshakes p).waiting) || atn) y h.linked h.phase.begun_is h.facts.asked h.offset
+        answers_pulse req atn (is_struck (first_of (handshakes p).waiting) || atn) y h.linked h.phase.begun_is h.facts.asked h.offset refl
         (row_at row n.initiator (answer_time s p n + lat) (initiator_side (ends false true (is_struck (first_of (handshakes p).waiting) || atn) 0 false false true req y)) same e)
 
 initiator_out : (s : ScenarioValue) (p : List Row) (row : Row) (n : Connection) (req ack atn : Bool) (x lat : ℕ) → Pulsing s p n false req ack atn x 0 → row.dev ≡ n.initiator → initiator_plain s p n true (ends false ack atn x false false false req 0) lat ≡ Some (due_of row) → LinkRow s p n row

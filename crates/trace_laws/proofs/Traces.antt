@@ -16,7 +16,7 @@ use Rattle.bus_laws.proofs.Limits.{obeys_latencies}
 use Rattle.bus_laws.proofs.Prompt.{least_is}
 use Rattle.bus_laws.proofs.Together.{standing_first, stage_first}
 use Rattle.link_laws.specs.LinkStages.{apart}
-use Rattle.trace_laws.specs.StillAsked.{AreAsked}
+use Rattle.trace_laws.specs.Asked.{AreAsked}
 use Rattle.trace_laws.proofs.Blocks.{HasCommands, commands_are}
 use Rattle.trace_laws.proofs.ByteValues.{GivesByteValues, byte_values}
 use Rattle.trace_laws.proofs.Joint.{Stood, next_stood}

@@ -111,6 +111,11 @@ none_rises on both zero rst p row lt within = no_rise_by (on (bus p)) (on (bus (
         let all = within_line on both (driven_after row.kind (drives p row.dev)) (union only_rst (drives p row.dev)) within next in
         wrong (sym all ∙ both only_rst (drives p row.dev) ∙ (λ i. rst i || line_off on both p e row.dev lt i))
 
+-- No line but RST rises with a row after which RST is true.
+pub none_raised : (on : LineSet → Bool) → ((a b : LineSet) → on (union a b) ≡ (on a || on b)) → on none ≡ false → on only_rst ≡ false → (p : List Row) (row : Row) → row.dev < 8 → broken_rule p row ≡ None → (bus (row ∷ p)).rst ≡ true → rises (on (bus p)) (on (bus (row ∷ p))) ≡ false
+none_raised on both zero rst p row lt obeys up =
+    none_rises on both zero rst p row lt (implied ((bus p).rst || rises (drives p row.dev).rst (driven_after row.kind (drives p row.dev)).rst) _ (reset_rule p row obeys).alone (raises_or_stands p row lt up))
+
 none_both : (q : Bool) → (let o : Option ℕ = None in if q then o else o) ≡ None
 none_both true = refl
 none_both false = refl

@@ -1,5 +1,5 @@
--- What is not proved of a row of a prompt trace yet: premises, one for each. All else that the laws of the books and those of
--- connections ask of a row follows from what is due.
+-- What the laws of the books and those of connections ask of a row of a connection beside what is due: each part is proved of the rows of
+-- prompt traces.
 use Rattle.std.specs.Prelude.{◌+◌, ◌≡◌, ◌<◌, true, false, List, [], ◌∷◌, ⊤, length, Some, is_some, ◌&&◌}
 use Rattle.bus_trace.specs.declared.Row.{Row}
 use Rattle.bus_trace.specs.declared.connection.Connection.{Connection}

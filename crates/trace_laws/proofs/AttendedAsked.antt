@@ -1,0 +1,172 @@
+-- What is asked of a row, so that its events are those that the target of its connection rests on, follows from where the processes
+-- stand in the plain disk array, and from the faults that they have met.
+use Rattle.std.proofs.Common.{inl, inr, ◌≡◌, ◌⊎◌, Bool, true, false, ◌∙◌, List, [], ◌∷◌, Option, Some, None, refl, sym, ap, subst}
+use Rattle.std.specs.Prelude.{ℕ, if◌then◌else◌, is_some}
+use Rattle.std.proofs.lemmas.Option.{same_Some}
+use Rattle.bus_base.specs.declared.ProcId.{ProcId}
+use Rattle.bus_lines.specs.Handshakes.{Handshakes}
+use Rattle.bus_trace.specs.LineSet.{LineSet}
+use Rattle.bus_trace.specs.declared.Row.{Row}
+use Rattle.cdb_codec.specs.declared.sense.TheConstants.{PARITY_ERROR}
+use Rattle.scenario.specs.Value.{ScenarioValue}
+use Rattle.disk_array.specs.ArrayHistory.{reply_in}
+use Rattle.disk_array.specs.Execution.{Reply}
+use Rattle.disk_array.specs.Processes.{Process, process_of, same_id}
+use Rattle.disk_array.specs.Steps.{has_ended, running_if, running_in}
+use Rattle.disk_array.specs.Units.{Array, RunningProcess, UnitState, guest_at}
+use Rattle.bus_dialogue.specs.declared.exchange.Cause.{Cause}
+use Rattle.bus_dialogue.specs.declared.exchange.Cause.TheVariants as causes
+use Rattle.bus_dialogue.specs.declared.exchange.Messages.{Messages}
+use Rattle.bus_dialogue.specs.declared.exchange.Next.{Next}
+use Rattle.bus_dialogue.specs.declared.exchange.Next.TheVariants as nexts
+use Rattle.bus_dialogue.specs.declared.exchange.Phase.{Phase}
+use Rattle.bus_dialogue.specs.declared.exchange.Phase.TheVariants as phases
+use Rattle.bus_dialogue.specs.declared.exchange.Plan.{Plan}
+use Rattle.bus_dialogue.specs.NextPhase.{phase_of}
+use Rattle.bus_due.specs.Plain.{AreOfDevices, IsPlain}
+use Rattle.bus_due.specs.RunState.{RunState, bus_of, carried_here, or_start, process_item}
+use Rattle.bus_due.specs.RunSteps.{run_state}
+use Rattle.bus_due.proofs.Plains.{run_state_plain}
+use Rattle.bus_books.proofs.CarriedRows.{process_id}
+use Rattle.trace_laws.specs.AttendanceAsked.{AttendanceAsked, BeginsUnanswered, HasReplyGiven, LeavesAnswered, RepliesGiven}
+use Rattle.trace_laws.specs.Places.{AnsweredOpen, Closes, IsAnswered, IsAtRest, IsAway, IsTaken, IsUnanswered, IsUntouched, MayRun, OnGuests, OnUnits, PlaceFacts, PlacedAsked, PlacedBefore, PlacedIf, PlacedIn, RunsOpen, completes, disconnects, fresh}
+use Rattle.trace_laws.specs.Tells.{FailsAsLeft, FailsIn, IsLeaving}
+use Rattle.trace_laws.proofs.FirstRows.{begun_first}
+use Rattle.trace_laws.proofs.OtherProcesses.{untouched_rests}
+use Rattle.trace_laws.proofs.PlaceRows.{allowed_row}
+
+wrong : {A : Type 0} → true ≡ false → A
+wrong e = absurd cc
+
+wrong' : {A : Type 0} → false ≡ true → A
+wrong' e = absurd cc
+
+no_reply : {A : Type 0} (reply : Reply) → (let o : Option Reply = None in o) ≡ Some reply → A
+no_reply reply e = absurd cc
+
+no_running : {A : Type 0} (r : RunningProcess) → (let o : Option RunningProcess = None in o) ≡ Some r → A
+no_running r e = absurd cc
+
+-- ---- the reply that a process has is the one that was given
+
+away_guest : (guests : List RunningProcess) (id : ProcId) (r : RunningProcess) → OnGuests (IsAway id) guests → guest_at guests id ≡ Some r → ⊥
+away_guest [] id r h e = no_running r e
+away_guest (g ∷ guests) id r h e = away_guest guests id r h.1 (sym (ap (λ (q : Bool). if q then Some g else guest_at guests id) h.0) ∙ e)
+
+unanswered : (given : Option Reply) (over : Bool) (units : List UnitState) (id : ProcId) (r : RunningProcess) → OnUnits (IsUnanswered given over id) units → running_in units id ≡ Some r → r.reply ≡ None
+unanswered given over [] id r h e = no_running r e
+unanswered given over (u ∷ units) id r h e = go (λ z. unanswered given over units id r h.1 z) u.current h.0.1 e
+  where
+    by : (running_in units id ≡ Some r → r.reply ≡ None) → (x : RunningProcess) → IsUnanswered given over id x → (q : Bool) → same_id x.process.id id ≡ q → (if is_some (if q then Some x else None) then (if q then Some x else None) else running_in units id) ≡ Some r → r.reply ≡ None
+    by rest x w true f z = ap (λ (y : RunningProcess). y.reply) (sym (same_Some x r z)) ∙ (w f).0
+    by rest x w false f z = rest z
+
+    go : (running_in units id ≡ Some r → r.reply ≡ None) → (o : Option RunningProcess) → Rattle.trace_laws.specs.Places.Runs (IsUnanswered given over id) o → (if is_some (running_if o id) then running_if o id else running_in units id) ≡ Some r → r.reply ≡ None
+    go rest None w z = rest z
+    go rest (Some x) w z = by rest x w (same_id x.process.id id) refl z
+
+rests_given : (a : Array) (id : ProcId) → IsAtRest a id → HasReplyGiven a id
+rests_given a id h r reply e f = go (guest_at a.guests id) refl e
+  where
+    go : (o : Option RunningProcess) → guest_at a.guests id ≡ o → (if is_some o then o else running_in a.units id) ≡ Some r → reply_in a.replies id ≡ Some reply
+    go None g z = no_reply reply (sym (unanswered (reply_in a.replies id) (has_ended a id) a.units id r h.units z) ∙ f)
+    go (Some x) g z = absurd (away_guest a.guests id x h.guests g)
+
+runs_given : (a : Array) (p : Process) → RunsOpen a p → HasReplyGiven a p.id
+runs_given a p h r reply e f = no_reply reply (ap (λ (y : RunningProcess). y.reply) (same_Some (fresh p) r (sym h.runs.running_is ∙ e)) ∙ f)
+
+answered_given : (a : Array) (id : ProcId) → AnsweredOpen a id → HasReplyGiven a id
+answered_given a id h r reply e f =
+    let w : IsAnswered a id = h.answered in
+    let same : w.running ≡ r = same_Some w.running r (sym w.running_is ∙ e) in
+    w.given ∙ sym w.reply_is ∙ ap (λ (y : RunningProcess). y.reply) same ∙ f
+
+before_given : (a : Array) (p : Process) (m : Messages) (next : Next) → PlacedBefore a p m next → HasReplyGiven a p.id
+before_given a p m nexts.Command h = rests_given a p.id (untouched_rests a p.id h)
+before_given a p m nexts.GoOn h = runs_given a p h
+before_given a p m nexts.Status h = answered_given a p.id h
+before_given a p m nexts.FreeBus h = go h
+  where
+    go : Closes a p m → HasReplyGiven a p.id
+    go (completes e w) = answered_given a p.id w
+    go (disconnects e w open_is) = rests_given a p.id w
+
+asked_given : (a : Array) (p : Process) (plan : Plan) (cause : Cause) → PlacedAsked a p plan cause → HasReplyGiven a p.id
+asked_given a p plan causes.Selected h = rests_given a p.id (untouched_rests a p.id h)
+asked_given a p plan causes.InMessage h = before_given a p plan.messages plan.next h
+asked_given a p plan causes.InData h = runs_given a p h
+asked_given a p plan causes.InStatus h = answered_given a p.id h
+
+placed_given : (a : Array) (p : Process) (plan : Plan) (hs : Handshakes) (atn : Bool) (phase : Phase) → PlacedIn a p plan hs atn phase → HasReplyGiven a p.id
+placed_given a p plan hs atn phases.MessageOut h = asked_given a p plan plan.cause h
+placed_given a p plan hs atn phases.Command h = rests_given a p.id (untouched_rests a p.id h)
+placed_given a p plan hs atn phases.Status h = answered_given a p.id h
+placed_given a p plan hs atn phases.DataIn h = runs_given a p h
+placed_given a p plan hs atn phases.DataOut h = runs_given a p h
+placed_given a p plan hs atn phases.MessageIn h = go h
+  where
+    go : PlacedBefore a p plan.messages plan.next ⊎ IsTaken a p plan hs atn → HasReplyGiven a p.id
+    go (inl w) = before_given a p plan.messages plan.next w
+    go (inr w) = rests_given a p.id w.rests
+
+pub replies_given : (s : ScenarioValue) (p : List Row) → AreOfDevices p → PlaceFacts s p → RepliesGiven s p
+replies_given s p dv h n id con calm served = subst (λ (o : Option Array). HasReplyGiven (or_start s o) id) (sym h.array_is) (subst (λ (x : ProcId). HasReplyGiven h.array x) (process_id s id of.0 of.1) (go k.exchange.begun placed))
+  where
+    k : RunState
+    k = run_state s p
+
+    pl : IsPlain s p k
+    pl = run_state_plain s p dv
+
+    of : (x : Process) × (process_of s id ≡ Some x)
+    of = h.of_scenario id served
+
+    placed : PlacedIf k.exchange.begun h.array of.0 k.exchange.plan k.handshakes (bus_of k).atn (phase_of (bus_of k))
+    placed = h.placed n (pl.connection ∙ con) (ap (λ (l : LineSet). l.rst) pl.bus ∙ calm) of.0 (ap (process_item s) served ∙ of.1)
+
+    go : (b : Bool) → PlacedIf b h.array of.0 k.exchange.plan k.handshakes (bus_of k).atn (phase_of (bus_of k)) → HasReplyGiven h.array of.0.id
+    go false w = rests_given h.array of.0.id (untouched_rests h.array of.0.id w)
+    go true w = placed_given h.array of.0 k.exchange.plan k.handshakes (bus_of k).atn (phase_of (bus_of k)) w
+
+-- ---- what fails has failed as a phase is left
+
+pub leaves_answered : (s : ScenarioValue) (p : List Row) (row : Row) → FailsAsLeft s p row → LeavesAnswered s p row
+leaves_answered s p row h n id con calm off begun left item = record {
+  command = λ e struck. let w = subst (λ (x : Phase). FailsIn k.exchange.plan (bus_of k).atn (carried_here k id) x) e fails in ap (λ (o : Option ℕ). is_some o) (w.1 ∙ ap (λ (q : Bool). Rattle.trace_laws.specs.Tells.code_if q PARITY_ERROR) struck);
+  message = λ e atn next. subst (λ (x : Next). Rattle.trace_laws.specs.Tells.FailsBefore (carried_here k id) x) next (subst (λ (x : Phase). FailsIn k.exchange.plan (bus_of k).atn (carried_here k id) x) e fails atn);
+}
+  where
+    k : RunState
+    k = run_state s p
+
+    fails : FailsIn k.exchange.plan (bus_of k).atn (carried_here k id) (phase_of (bus_of k))
+    fails = h n id (record { stands = con; calm = calm; calm_after = off; begun = begun; leaves = inl left }) item
+
+-- ---- as a selection begins a connection its process has no reply
+
+pub begins_unanswered : (s : ScenarioValue) (p : List Row) (row : Row) → AreOfDevices (row ∷ p) → PlaceFacts s (row ∷ p) → BeginsUnanswered s p row
+begins_unanswered s p row dv h n id alone e off re served = subst (λ (o : Option Array). reply_in (or_start s o).replies id ≡ None) (sym h.array_is) (ap (λ (x : ProcId). reply_in h.array.replies x) (sym (process_id s id of.0 of.1)) ∙ untouched.reply)
+  where
+    j : RunState
+    j = run_state s (row ∷ p)
+
+    pl : IsPlain s (row ∷ p) j
+    pl = run_state_plain s (row ∷ p) dv
+
+    of : (x : Process) × (process_of s id ≡ Some x)
+    of = h.of_scenario id served
+
+    untouched : IsUntouched h.array of.0.id
+    untouched =
+        subst (λ (b : Bool). PlacedIf b h.array of.0 j.exchange.plan j.handshakes (bus_of j).atn (phase_of (bus_of j))) (pl.begun ∙ begun_first p row n alone e ∙ re)
+        (h.placed n (pl.connection ∙ e) (ap (λ (l : LineSet). l.rst) pl.bus ∙ off) of.0 (ap (process_item s) served ∙ of.1))
+
+-- ---- all of it
+
+pub attendance_asked : (s : ScenarioValue) (p : List Row) (row : Row) → AreOfDevices (row ∷ p) → PlaceFacts s p → PlaceFacts s (row ∷ p) → FailsAsLeft s p row → AttendanceAsked s p row
+attendance_asked s p row dv places next fails = record {
+  allowed = allowed_row s p row next;
+  begins = begins_unanswered s p row dv next;
+  leaves = leaves_answered s p row fails;
+  replies = replies_given s p dv.1 places;
+}

@@ -1,0 +1,149 @@
+-- As a connection ends in MESSAGE OUT, its last message tells nothing; and in MESSAGE IN COMMAND COMPLETE was taken, where it was said
+-- (6.1.1, 6.6.5).
+use Rattle.std.proofs.Common.{ℕ, ◌≡◌, Bool, true, false, not, ◌&&◌, ◌==◌, ◌∙◌, List, ◌∷◌, length, Option, Some, None, refl, sym, ap, subst}
+use Rattle.std.specs.Prelude.{if◌then◌else◌}
+use Rattle.bus_base.specs.declared.ProcId.{ProcId}
+use Rattle.bus_trace.specs.LineSet.{LineSet}
+use Rattle.bus_trace.specs.declared.Row.{Row}
+use Rattle.bus_trace.specs.declared.changes.Change.{Change}
+use Rattle.bus_trace.specs.declared.connection.Connection.{Connection}
+use Rattle.bus_trace.specs.Phases.{is_message_in}
+use Rattle.bus_trace.specs.Terms.{connection}
+use Rattle.bus_trace.specs.Trace.{bus}
+use Rattle.scenario.specs.Value.{ScenarioValue}
+use Rattle.scenario.specs.Writing.{Obeys}
+use Rattle.disk_array.specs.Steps.{has_ended}
+use Rattle.bus_story.specs.BusState.{RowReading, row_reading}
+use Rattle.bus_story.specs.Items.{process}
+use Rattle.bus_story.specs.Links.{Link, plain}
+use Rattle.bus_dialogue.specs.declared.exchange.Phase.{Phase}
+use Rattle.bus_dialogue.specs.declared.exchange.Phase.TheVariants as phases
+use Rattle.bus_dialogue.specs.declared.exchange.Leaving.{Leaving}
+use Rattle.bus_dialogue.specs.declared.exchange.Messages.{Messages}
+use Rattle.bus_dialogue.specs.Exchange.{bytes_of_messages}
+use Rattle.bus_dialogue.specs.NextPhase.{Serving, phase_of, phase_entry, phase_leaving, after_messages, leaving_by}
+use Rattle.bus_due.specs.Next.{IsPrompt}
+use Rattle.bus_due.specs.Plain.{IsPlain, AreOfDevices}
+use Rattle.bus_due.specs.RunState.{RunState, array_of, bus_of}
+use Rattle.bus_due.specs.RunSteps.{run_state}
+use Rattle.bus_due.specs.Sights.{serving_of}
+use Rattle.bus_due.proofs.Plains.{run_state_plain}
+use Rattle.scsi_device.proofs.FitLines.{obeys_fits, units_are}
+use Rattle.bus_books.specs.Traces.{Ends}
+use Rattle.bus_books.proofs.InConnection.{reading_is}
+use Rattle.bus_laws.proofs.Apart.{change_plain}
+use Rattle.bus_laws.proofs.Prompt.{least_is}
+use Rattle.trace_laws.specs.LastTalks.{LastFacts, LastTalk, LastBy}
+use Rattle.trace_laws.specs.Closes.{IsCompleting, CloseBooks, CloseFacts}
+use Rattle.trace_laws.specs.ItemTalks.{awaits}
+use Rattle.trace_laws.proofs.ConnectionRows.{ConnectionRow, connection_row}
+use Rattle.trace_laws.proofs.Crossings.{RowFacts, Stops, stays, ends_here}
+use Rattle.trace_laws.proofs.Joint.{Stood, link_phase}
+use Rattle.trace_laws.proofs.TellFacts.{all_given}
+use Rattle.trace_laws.proofs.TellRows.{is_heard}
+use Rattle.trace_laws.proofs.UndoneFacts.{in_of}
+
+no_connection : {A : Type 0} (n : Connection) → Some n ≡ (let o : Option Connection = None in o) → A
+no_connection n e = absurd cc
+
+-- What the lines say of a row with which a connection ends.
+pub record EndsHere (s : ScenarioValue) (p : List Row) (row : Row) (n : Connection) : Type 0 where
+  pub con : connection p ≡ Some n
+  pub off : (bus p).rst ≡ false
+  pub plain_is : IsPlain s p (run_state s p)
+  pub stops : Stops s p row n
+  pub known : (bus_of (run_state s p)).msg ≡ true → (bus_of (run_state s p)).cd ≡ true
+
+pub ends_row : (s : ScenarioValue) (p : List Row) (row : Row) (n : Connection) → Obeys s → IsPrompt s (row ∷ p) → Stood s p → Ends s (run_state s p) row n → (row_reading (run_state s p).story.bus_state row).change.after.rst ≡ false → EndsHere s p row n
+ends_row s p row n o prompt was g calm = record { con = con; off = off; plain_is = pl; stops = freed r.facts; known = λ m. ap (λ (l : LineSet). l.cd) pl.bus ∙ (link_phase s p n r.stage (ap (λ (l : LineSet). l.msg) (sym pl.bus) ∙ m)).0 }
+  where
+    k : RunState
+    k = run_state s p
+
+    dv : AreOfDevices p
+    dv = was.standing.devices
+
+    pl : IsPlain s p k
+    pl = run_state_plain s p dv
+
+    con : connection p ≡ Some n
+    con = sym pl.connection ∙ g.connection_is
+
+    off : (bus p).rst ≡ false
+    off = sym (ap (λ (x : LineSet). x.rst) pl.bus) ∙ g.calm
+
+    off_after : (bus (row ∷ p)).rst ≡ false
+    off_after = sym (ap (λ (x : Change). x.after.rst) (change_plain s row p dv (least_is s p row prompt.1).inside)) ∙ calm
+
+    r : ConnectionRow s p row n
+    r = connection_row s p row n o prompt was con off off_after
+
+    freed : RowFacts s p row n → Stops s p row n
+    freed (ends_here f) = f
+    freed (stays f) =
+        let some : (row_reading k.story.bus_state row).next ≡ Some n = ap (λ (x : RowReading). x.next) (reading_is k row n f.change _ f.row_is refl) in
+        no_connection n (sym some ∙ g.next_is)
+
+pub lost_in : (s : ScenarioValue) (p : List Row) (row : Row) (n : Connection) (l : Link) (id : ProcId) → Obeys s → IsPrompt s (row ∷ p) → Stood s p → LastFacts s p → Ends s (run_state s p) row n → (row_reading (run_state s p).story.bus_state row).change.after.rst ≡ false → (run_state s p).story.link ≡ Some l → (run_state s p).served ≡ Some (process id) → phase_of (bus_of (run_state s p)) ≡ phases.MessageOut → l.last ≡ plain
+lost_in s p row n l id o prompt was facts g calm link e out = by.0 heard
+  where
+    k : RunState
+    k = run_state s p
+
+    h : EndsHere s p row n
+    h = ends_row s p row n o prompt was g calm
+
+    begun : k.exchange.begun ≡ true
+    begun = h.plain_is.begun ∙ h.stops.begun_is
+
+    heard : k.story.bus_state.dialogue.is_last ≡ true
+    heard = (is_heard s k n (units_are s (obeys_fits s o)) (was.books.speaks n g.connection_is g.calm) begun h.known h.stops.over out).last
+
+    talk : LastTalk k l
+    talk = (facts n h.con h.off).0 l id link e
+
+    by : LastBy l k.exchange.plan k.handshakes.requests k.story.bus_state.dialogue.is_last phases.MessageOut
+    by = subst (λ (x : Phase). LastBy l k.exchange.plan k.handshakes.requests k.story.bus_state.dialogue.is_last x) out (talk.begun begun)
+
+some_phase : {A : Type 0} (x : Phase) → Some x ≡ (let o : Option Phase = None in o) → A
+some_phase x e = absurd cc
+
+unattended : (q : Bool) (l : Leaving) → (if q then phase_entry phases.MessageOut else l).to ≡ None → q ≡ false
+unattended true l e = some_phase phases.MessageOut e
+unattended false l e = refl
+
+not_asked : (a b : Bool) → a ≡ false → (a && not b) ≡ false
+not_asked a b e = λ i. e i && not b
+
+pub taken_in : (s : ScenarioValue) (p : List Row) (row : Row) (n : Connection) (id : ProcId) → Obeys s → IsPrompt s (row ∷ p) → Stood s p → CloseFacts s p → Ends s (run_state s p) row n → (row_reading (run_state s p).story.bus_state row).change.after.rst ≡ false → (run_state s p).served ≡ Some (process id) → phase_of (bus_of (run_state s p)) ≡ phases.MessageIn → IsCompleting (run_state s p) → has_ended (array_of s (run_state s p)) id ≡ true
+taken_in s p row n id o prompt was closes g calm e into m = books.ended id e lines m (books.counts.given lines asked none) low
+  where
+    k : RunState
+    k = run_state s p
+
+    v : Serving
+    v = serving_of s k n.target
+
+    h : EndsHere s p row n
+    h = ends_row s p row n o prompt was g calm
+
+    books : CloseBooks s k
+    books = closes n h.con h.off
+
+    begun : k.exchange.begun ≡ true
+    begun = h.plain_is.begun ∙ h.stops.begun_is
+
+    lines : is_message_in (bus_of k) ≡ true
+    lines = in_of (bus_of k) into h.known
+
+    low : (bus_of k).atn ≡ false
+    low = unattended (bus_of k).atn (after_messages v k.exchange.plan.next) (ap (λ (y : Phase). (phase_leaving v (bus_of k).atn y).to) (sym into) ∙ ap (λ (q : Bool). (leaving_by v q (bus_of k)).to) (sym begun) ∙ h.stops.whereto)
+
+    all : k.handshakes.requests ≡ length (bytes_of_messages k.exchange.plan.messages)
+    all = all_given s k n into low h.stops.over ((was.books.gives n g.connection_is g.calm).in_message_in begun lines)
+
+    asked : (k.handshakes.requests == 0) ≡ false
+    asked = ap (λ (x : ℕ). x == 0) (all ∙ ap (λ (y : Messages). length (bytes_of_messages y)) m)
+
+    none : awaits (bus_of k) ≡ false
+    none = not_asked (bus_of k).req (bus_of k).ack (ap (λ (x : LineSet). x.req) h.plain_is.bus ∙ h.stops.low)

@@ -1,0 +1,52 @@
+-- The status that the target offers is that of the reply that was given; and what a process carries of it stays that (6.4, 6.6.19).
+use Rattle.std.proofs.Common.{ℕ, zero, suc, arith, ◌≡◌, Bool, true, false, ◌==◌, ◌∙◌, List, [], ◌∷◌, ◌++◌, Option, Some, refl, ap, true≢false}
+use Rattle.std.proofs.lemmas.Bool.Decides.{nat_tests}
+use Rattle.std.specs.Prelude.{⊤, if◌then◌else◌, nat_lt, length, slice_index, slice_set}
+use Rattle.scenario.specs.Value.{ScenarioValue}
+use Rattle.disk_array.specs.ArrayHistory.{reply_in}
+use Rattle.disk_array.specs.Execution.{Reply}
+use Rattle.disk_array.specs.Processes.{Process}
+use Rattle.bus_story.specs.CarriedBytes.{Area, area_with, restored_area}
+use Rattle.bus_dialogue.specs.declared.exchange.Messages.{Messages}
+use Rattle.bus_dialogue.specs.declared.exchange.Phase.TheVariants as phases
+use Rattle.bus_dialogue.specs.PhaseBytes.{status_byte}
+use Rattle.bus_due.specs.RunState.{RunState, array_of, process_served}
+use Rattle.bus_due.specs.Sights.{byte_of_phase}
+use Rattle.bus_due.specs.Tasks.{reply_now, status_by, task_if}
+
+-- The byte of STATUS.
+pub offers_given : (s : ScenarioValue) (k : RunState) (dev : ℕ) (p : Process) (reply : Reply) (m : Messages) (more place : ℕ) → process_served s k ≡ Some p → reply_in (array_of s k).replies p.id ≡ Some reply → byte_of_phase s k dev phases.Status m more place ≡ reply.status
+offers_given s k dev p reply m more place served given = ap (λ (x : Option Process). status_byte (task_if s k x)) served ∙ ap (λ (x : Option Reply). status_by (reply_now (array_of s k) p) x) given
+
+-- Each byte of an area is this.
+abbrev pub AreAll : ℕ → List ℕ → Type 0
+AreAll x [] = ⊤
+AreAll x (b ∷ bytes) = (b ≡ x) × AreAll x bytes
+
+set_all : (x : ℕ) (bytes : List ℕ) (at : ℕ) → AreAll x bytes → AreAll x (slice_set bytes at x)
+set_all x [] at h = tt
+set_all x (b ∷ bytes) zero h = (refl, h.1)
+set_all x (b ∷ bytes) (suc at) h = (h.0, set_all x bytes at h.1)
+
+more_all : (x : ℕ) (bytes : List ℕ) → AreAll x bytes → AreAll x (bytes ++ x ∷ [])
+more_all x [] h = (refl, tt)
+more_all x (b ∷ bytes) h = (h.0, more_all x bytes h.1)
+
+-- A byte of STATUS crosses.
+pub area_all : (x : ℕ) (a : Area) → AreAll x a.bytes → AreAll x (area_with a x).bytes
+area_all x a h = go (nat_lt a.active (length a.bytes))
+  where
+    go : (q : Bool) → AreAll x (if q then slice_set a.bytes a.active x else a.bytes ++ x ∷ [])
+    go true = set_all x a.bytes a.active h
+    go false = more_all x a.bytes h
+
+pub restored_all : (x : ℕ) (a : Area) → AreAll x a.bytes → AreAll x (restored_area a).bytes
+restored_all x a h = h
+
+-- The first of some.
+pub first_all : (x : ℕ) (bytes : List ℕ) → AreAll x bytes → (length bytes == 0) ≡ false → (x == slice_index bytes 0) ≡ true
+first_all x [] h some = absurd (true≢false some)
+first_all x (b ∷ bytes) h some = ap (λ (y : ℕ). x == y) h.0 ∙ self x
+  where
+    self : (n : ℕ) → (n == n) ≡ true
+    self n = grind (arith, nat_tests)

@@ -1,0 +1,225 @@
+-- What the rules count of COMMAND, as messages are heard and taken back (6.6.13, 6.6.19).
+use Rattle.std.proofs.Common.{ℕ, ◌≡◌, Bool, true, false, not, ◌&&◌, ◌∙◌, List, [], ◌∷◌, ◌++◌, Option, Some, None, refl, sym, ap, subst}
+use Rattle.std.specs.Prelude.{if◌then◌else◌}
+use Rattle.bus_trace.specs.declared.agreements.Agreement.{Agreement}
+use Rattle.bus_phases.specs.declared.dialogue.Dialogue.{Dialogue}
+use Rattle.bus_phases.specs.declared.spoken.CommandBytes.{CommandBytes}
+use Rattle.bus_phases.specs.declared.spoken.Heard.{Heard}
+use Rattle.bus_phases.specs.declared.spoken.Spoken.{Spoken}
+use Rattle.bus_phases.specs.declared.words.End.{End}
+use Rattle.bus_phases.specs.declared.words.End.TheVariants as ends
+use Rattle.bus_phases.specs.declared.words.Word.{Word}
+use Rattle.bus_phases.specs.declared.words.Word.TheVariants as words
+use Rattle.bus_phases.specs.Dialogue.{no_command, is_of_other, without_offset, spoken_with_word, word_out, word_in, void_or_now, heard_with_out, heard_if_begun, heard_out, heard_in, fresh_heard, fresh_bytes, byte_out, byte_in}
+use Rattle.msg_grammar.specs.declared.message.Got.{Got}
+use Rattle.msg_grammar.specs.declared.message.Got.TheVariants.{Whole, More, Unknown}
+use Rattle.msg_grammar.specs.declared.message.MsgOut.{MsgOut}
+use Rattle.msg_grammar.specs.declared.message.MsgOut.TheVariants as to_target
+use Rattle.msg_grammar.specs.declared.message.MsgIn.{MsgIn}
+use Rattle.msg_grammar.specs.declared.message.MsgIn.TheVariants as to_initiator
+use Rattle.msg_grammar.specs.Messages.{form_out, got_out, got_in}
+use Rattle.scenario.specs.declared.value.HostDef.{HostDef}
+use Rattle.bus_story.specs.BusState.{whole_out, whole_in}
+use Rattle.bus_story.specs.TraceHistory.{is_parity_error}
+use Rattle.bus_dialogue.specs.declared.exchange.Plan.{Plan}
+use Rattle.bus_dialogue.specs.Exchange.{Speech, next_word}
+use Rattle.bus_dialogue.specs.Words.{parity_error, detected_error, answer_bytes}
+use Rattle.bus_books.specs.Listening.{Understanding, nothing_understood, understood_byte, understood}
+use Rattle.bus_books.specs.Speaking.{AreWordsHeard}
+use Rattle.bus_books.proofs.Saying.{says_byte}
+use Rattle.trace_laws.specs.Commands.{IsNone, Counts}
+
+-- ---- a message
+
+word_keeps : (q : CommandBytes → Type 0) → q no_command → (x : Spoken) (e : End) (w : Word) → q x.command → q (spoken_with_word x e w).command
+word_keeps q none x e (words.Offer a) h = go (is_of_other x.offer e)
+  where
+    go : (r : Bool) → q (if r then record x { agreement = a; offer = None; answered = Some e } else record x { offer = Some e; answered = None }).command
+    go true = h
+    go false = h
+word_keeps q none x e words.Reject h = go (is_of_other x.offer e) (is_of_other x.answered e)
+  where
+    go : (r t : Bool) → q (if r then record x { agreement = without_offset x.agreement; offer = None; answered = None } else if t then record x { agreement = without_offset x.agreement; answered = None } else record x { answered = None }).command
+    go true t = h
+    go false true = h
+    go false false = h
+word_keeps q none x e words.Restore h = none
+word_keeps q none x e words.DeviceReset h = h
+word_keeps q none x e words.ParityError h = h
+word_keeps q none x e words.Other h = h
+
+no_void : {A : Type 0} (x : Spoken) → (let o : Option Spoken = None in o) ≡ Some x → A
+no_void x e = absurd cc
+
+same_void : (x y : Spoken) → (let o : Option Spoken = Some x in o) ≡ Some y → x ≡ y
+same_void x y e = ap (λ (o : Option Spoken). or_spoken o) e
+  where
+    or_spoken : Option Spoken → Spoken
+    or_spoken None = x
+    or_spoken (Some z) = z
+
+voided : (q : CommandBytes → Type 0) (h : Heard) → Counts q h → q (void_or_now h.void h.now).command
+voided q h c = go h.void refl
+  where
+    go : (o : Option Spoken) → h.void ≡ o → q (void_or_now o h.now).command
+    go None e = c.now
+    go (Some x) e = c.void x e
+
+-- ---- MESSAGE OUT
+
+said_counts : (q : CommandBytes → Type 0) → q no_command → (h : Heard) (w : Word) → Counts q h → Counts q (heard_with_out h w)
+said_counts q none h words.ParityError c = record { now = voided q h c; void = λ x e. no_void x e }
+said_counts q none h (words.Offer a) c = record { now = word_keeps q none h.now ends.Initiator (words.Offer a) c.now; void = λ x e. no_void x e }
+said_counts q none h words.Reject c = record { now = word_keeps q none h.now ends.Initiator words.Reject c.now; void = λ x e. no_void x e }
+said_counts q none h words.Restore c = record { now = none; void = λ x e. no_void x e }
+said_counts q none h words.DeviceReset c = record { now = c.now; void = λ x e. no_void x e }
+said_counts q none h words.Other c = record { now = c.now; void = λ x e. no_void x e }
+
+out_counts : (q : CommandBytes → Type 0) → q no_command → (h : Heard) (g : Got MsgOut) → Counts q h → Counts q (heard_out h g)
+out_counts q none h (Whole m n) c = said_counts q none h (word_out m) c
+out_counts q none h More c = c
+out_counts q none h Unknown c = c
+
+pub byte_out_counts : (q : CommandBytes → Type 0) → q no_command → (d : Dialogue) (byte : ℕ) (last : Bool) → Counts q d.heard → Counts q d.at_phase → Counts q (byte_out d byte last).heard
+byte_out_counts q none d byte last h p = out_counts q none (fresh_heard d) (got_out (fresh_bytes d ++ byte ∷ [])) (go d.is_last)
+  where
+    go : (r : Bool) → Counts q (if r then d.at_phase else d.heard)
+    go true = p
+    go false = h
+
+-- Any message but MESSAGE PARITY ERROR takes nothing back.
+abbrev pub is_refusal : Option MsgOut → Bool
+is_refusal None = false
+is_refusal (Some m) = is_parity_error m
+
+unrefused : {A : Type 0} → true ≡ false → A
+unrefused e = absurd cc
+
+out_now : (q : CommandBytes → Type 0) → q no_command → (h : Heard) (g : Got MsgOut) → is_refusal (whole_out g) ≡ false → q h.now.command → q (heard_out h g).now.command
+out_now q none h More e c = c
+out_now q none h Unknown e c = c
+out_now q none h (Whole m n) e c = go m e
+  where
+    go : (m : MsgOut) → is_parity_error m ≡ false → q (heard_with_out h (word_out m)).now.command
+    go (to_target.Identify disc lun) f = c
+    go (to_target.SimpleTag t) f = c
+    go (to_target.HeadTag t) f = c
+    go (to_target.OrderedTag t) f = c
+    go (to_target.Sdtr offer) f = word_keeps q none h.now ends.Initiator (words.Offer offer) c
+    go to_target.Abort f = c
+    go to_target.AbortTag f = c
+    go to_target.ClearQueue f = c
+    go to_target.DeviceReset f = c
+    go to_target.DetectedError f = c
+    go to_target.ParityError f = unrefused f
+    go to_target.Reject f = word_keeps q none h.now ends.Initiator words.Reject c
+    go to_target.Nop f = c
+
+pub byte_out_now : (q : CommandBytes → Type 0) → q no_command → (d : Dialogue) (byte : ℕ) (last : Bool) → is_refusal (whole_out (got_out (fresh_bytes d ++ byte ∷ []))) ≡ false → q d.heard.now.command → q d.at_phase.now.command → q (byte_out d byte last).heard.now.command
+byte_out_now q none d byte last e h p = out_now q none (fresh_heard d) (got_out (fresh_bytes d ++ byte ∷ [])) e (go d.is_last)
+  where
+    go : (r : Bool) → q (if r then d.at_phase else d.heard).now.command
+    go true = p
+    go false = h
+
+-- ---- what is said in MESSAGE OUT
+
+abbrev no_refusals : Understanding → List ℕ → Bool
+no_refusals u [] = true
+no_refusals u (b ∷ bytes) = not (is_refusal (whole_out (got_out (u.half ++ b ∷ [])))) && no_refusals (understood_byte u b) bytes
+
+both : (a b : Bool) → (a && b) ≡ true → (a ≡ true) × (b ≡ true)
+both true b e = (refl, e)
+both false b e = absurd cc
+
+not_is : (q : Bool) → not q ≡ true → q ≡ false
+not_is true e = absurd cc
+not_is false e = refl
+
+none_at : (u : Understanding) (before : List ℕ) (byte : ℕ) (rest : List ℕ) → no_refusals u (before ++ byte ∷ rest) ≡ true → is_refusal (whole_out (got_out ((understood u before).half ++ byte ∷ []))) ≡ false
+none_at u [] byte rest e = not_is _ (both (not (is_refusal (whole_out (got_out (u.half ++ byte ∷ []))))) (no_refusals (understood_byte u byte) rest) e).0
+none_at u (b ∷ before) byte rest e = none_at (understood_byte u b) before byte rest (both (not (is_refusal (whole_out (got_out (u.half ++ b ∷ []))))) (no_refusals (understood_byte u b) (before ++ byte ∷ rest)) e).1
+
+answers_nothing_back : (h : Option HostDef) (a : Agreement) → no_refusals nothing_understood (answer_bytes h a) ≡ true
+unfolding form_out
+answers_nothing_back h a = refl
+
+detects_nothing_back : no_refusals nothing_understood detected_error ≡ true
+unfolding form_out
+detects_nothing_back = refl
+
+said_by : (v : Speech) (p : Plan) (d : Dialogue) (byte : ℕ) → AreWordsHeard v p d → byte ≡ next_word v → no_refusals nothing_understood v.words ≡ true → is_refusal (whole_out (got_out (fresh_bytes d ++ byte ∷ []))) ≡ false
+said_by v p d byte h e none =
+    let half : fresh_bytes d ≡ (understood nothing_understood h.before).half = ap (λ (u : Understanding). u.half) h.anew in
+    let is : byte ≡ h.byte = e ∙ says_byte v p d h in
+    (λ i. is_refusal (whole_out (got_out (half i ++ is i ∷ []))))
+    ∙ none_at nothing_understood h.before h.byte h.rest (ap (no_refusals nothing_understood) (sym h.words_are) ∙ none)
+
+-- The answer to a request takes nothing back, and so INITIATOR DETECTED ERROR.
+pub answer_said : (v : Speech) (p : Plan) (d : Dialogue) (byte : ℕ) (h : Option HostDef) (a : Agreement) → AreWordsHeard v p d → byte ≡ next_word v → v.words ≡ answer_bytes h a → is_refusal (whole_out (got_out (fresh_bytes d ++ byte ∷ []))) ≡ false
+answer_said v p d byte h a heard e w = said_by v p d byte heard e (ap (no_refusals nothing_understood) w ∙ answers_nothing_back h a)
+
+pub error_said : (v : Speech) (p : Plan) (d : Dialogue) (byte : ℕ) → AreWordsHeard v p d → byte ≡ next_word v → v.words ≡ detected_error → is_refusal (whole_out (got_out (fresh_bytes d ++ byte ∷ []))) ≡ false
+error_said v p d byte heard e w = said_by v p d byte heard e (ap (no_refusals nothing_understood) w ∙ detects_nothing_back)
+
+nothing_offered : (understood nothing_understood parity_error).said.offer ≡ None
+unfolding form_out
+nothing_offered = refl
+
+-- With MESSAGE PARITY ERROR no offer is heard.
+pub refusal_offers_none : (v : Speech) (p : Plan) (d : Dialogue) → AreWordsHeard v p d → d.is_last ≡ true → v.words ≡ parity_error → p.said.offer ≡ None
+refusal_offers_none v p d h e w = ap (λ (u : Understanding). u.said.offer) (h.last e) ∙ ap (λ (x : List ℕ). (understood nothing_understood x).said.offer) w ∙ nothing_offered
+
+-- ---- MESSAGE IN
+
+in_counts : (q : CommandBytes → Type 0) → q no_command → (h : Heard) (g : Got MsgIn) → Counts q h → Counts q (heard_in h g)
+in_counts q none h (Whole m n) c = record { now = word_keeps q none h.now ends.Target (word_in m) c.now; void = c.void }
+in_counts q none h More c = c
+in_counts q none h Unknown c = c
+
+-- Once a byte has crossed what is taken back counted before it.
+pub byte_in_counts : (q : CommandBytes → Type 0) → q no_command → (d : Dialogue) (byte : ℕ) → Counts q d.heard → Counts q (byte_in d byte).heard
+byte_in_counts q none d byte h = in_counts q none (heard_if_begun d.half d.heard) (got_in (d.half ++ byte ∷ [])) (go d.half)
+  where
+    go : (half : List ℕ) → Counts q (heard_if_begun half d.heard)
+    go [] = record { now = h.now; void = λ x e. subst (λ (y : Spoken). q y.command) (same_void d.heard.now x e) h.now }
+    go (b ∷ half) = h
+
+pub byte_in_first : (q : CommandBytes → Type 0) → q no_command → (d : Dialogue) (byte : ℕ) → d.half ≡ [] → q d.heard.now.command → Counts q (byte_in d byte).heard
+byte_in_first q none d byte e h =
+    in_counts q none (heard_if_begun d.half d.heard) (got_in (d.half ++ byte ∷ []))
+    (subst (λ (half : List ℕ). Counts q (heard_if_begun half d.heard)) (sym e) (record { now = h; void = λ x f. subst (λ (y : Spoken). q y.command) (same_void d.heard.now x f) h }))
+
+pub byte_in_now : (q : CommandBytes → Type 0) → q no_command → (d : Dialogue) (byte : ℕ) → q d.heard.now.command → q (byte_in d byte).heard.now.command
+byte_in_now q none d byte h = go (got_in (d.half ++ byte ∷ []))
+  where
+    before : (half : List ℕ) → (heard_if_begun half d.heard).now ≡ d.heard.now
+    before [] = refl
+    before (b ∷ half) = refl
+
+    here : q (heard_if_begun d.half d.heard).now.command
+    here = subst (λ (x : Spoken). q x.command) (sym (before d.half)) h
+
+    go : (g : Got MsgIn) → q (heard_in (heard_if_begun d.half d.heard) g).now.command
+    go (Whole m n) = word_keeps q none (heard_if_begun d.half d.heard).now ends.Target (word_in m) here
+    go More = here
+    go Unknown = here
+
+-- RESTORE POINTERS.
+restored : (h : Heard) (g : Got MsgIn) → whole_in g ≡ Some to_initiator.RestorePointers → (heard_in h g).now.command ≡ no_command
+restored h (Whole m n) e = ap (λ (x : MsgIn). (spoken_with_word h.now ends.Target (word_in x)).command) (ap (λ (o : Option MsgIn). or_in o) e)
+  where
+    or_in : Option MsgIn → MsgIn
+    or_in None = m
+    or_in (Some x) = x
+restored h More e = absurd (no_message e)
+  where
+    no_message : (let o : Option MsgIn = None in o) ≡ Some to_initiator.RestorePointers → ⊥
+    no_message z = cc
+restored h Unknown e = absurd (no_message e)
+  where
+    no_message : (let o : Option MsgIn = None in o) ≡ Some to_initiator.RestorePointers → ⊥
+    no_message z = cc
+
+pub byte_in_restores : (d : Dialogue) (byte : ℕ) → whole_in (got_in (d.half ++ byte ∷ [])) ≡ Some to_initiator.RestorePointers → IsNone (byte_in d byte).heard.now.command
+byte_in_restores d byte e = restored (heard_if_begun d.half d.heard) (got_in (d.half ++ byte ∷ [])) e

@@ -1,0 +1,172 @@
+-- Of a prompt trace: the initiator complains only of a phase in which a byte was struck (6.6.10, 6.6.13).
+use Rattle.std.proofs.Common.{ℕ, ◌≡◌, ◌⊎◌, inl, inr, Bool, true, false, not, ◌&&◌, ◌||◌, ◌∙◌, List, ◌∷◌, Option, Some, None, refl, sym, ap}
+use Rattle.std.specs.Prelude.{if◌then◌else◌, is_none, is_some}
+use Rattle.bus_trace.specs.LineSet.{LineSet}
+use Rattle.bus_trace.specs.declared.Row.{Row}
+use Rattle.bus_trace.specs.declared.agreements.Agreement.{Agreement}
+use Rattle.bus_trace.specs.declared.changes.Change.{Change}
+use Rattle.bus_trace.specs.declared.connection.Connection.{Connection}
+use Rattle.bus_trace.specs.Changes.{change_of}
+use Rattle.bus_trace.specs.Phases.{changes_phase, is_message_in, is_message_out}
+use Rattle.bus_trace.specs.Terms.{connection, connection_after}
+use Rattle.bus_trace.specs.Trace.{bus}
+use Rattle.bus_phases.specs.declared.dialogue.Dialogue.{Dialogue}
+use Rattle.msg_grammar.specs.Messages.{form_out}
+use Rattle.scenario.specs.declared.value.HostDef.{HostDef}
+use Rattle.scenario.specs.Value.{ScenarioValue}
+use Rattle.scenario.specs.Writing.{Obeys}
+use Rattle.bus_story.specs.BusState.{RowReading, row_reading}
+use Rattle.bus_dialogue.specs.declared.exchange.Cause.{Cause}
+use Rattle.bus_dialogue.specs.declared.exchange.Cause.TheVariants as causes
+use Rattle.bus_dialogue.specs.declared.exchange.Phase.{Phase}
+use Rattle.bus_dialogue.specs.declared.exchange.Phase.TheVariants as phases
+use Rattle.bus_dialogue.specs.declared.exchange.Plan.{Plan}
+use Rattle.bus_dialogue.specs.Exchange.{Speech}
+use Rattle.bus_dialogue.specs.NextPhase.{phase_of}
+use Rattle.bus_dialogue.specs.Words.{answer_bytes, host_answer}
+use Rattle.bus_due.specs.Least.{IsLeast}
+use Rattle.bus_due.specs.Next.{due, IsPrompt}
+use Rattle.bus_due.specs.Plain.{IsPlain}
+use Rattle.bus_due.specs.RunState.{RunState, bus_of}
+use Rattle.bus_due.specs.RunSteps.{run_state}
+use Rattle.bus_due.proofs.Plains.{run_state_plain}
+use Rattle.ending_causes.specs.WrongParity.{is_complaining, is_complaint, is_left, is_refusing, is_true_complaint}
+use Rattle.bus_books.specs.Listening.{Understanding, nothing_understood, understood}
+use Rattle.bus_books.specs.Reactions.{IsOver}
+use Rattle.bus_books.specs.Speaking.{AreWordsHeard, Speaks}
+use Rattle.bus_books.proofs.Reactions.{out_over}
+use Rattle.bus_laws.proofs.Apart.{change_plain}
+use Rattle.bus_laws.proofs.Prompt.{least_is}
+use Rattle.link_laws.specs.LinkStages.{AnyStage, apart, linked}
+use Rattle.trace_laws.specs.Complaints.{ComplaintFacts, Refuses}
+use Rattle.trace_laws.proofs.CommandTurns.{out_lines}
+use Rattle.trace_laws.proofs.ConnectionRows.{connection_row, stage_of_connection}
+use Rattle.trace_laws.proofs.Crossings.{RowFacts, ends_here, stays}
+use Rattle.trace_laws.proofs.Joint.{NextStood, Stood, apart_connection, link_calm, link_phase}
+
+wrong : {A : Type 0} → true ≡ false → A
+wrong e = absurd cc
+
+wrong' : {A : Type 0} → false ≡ true → A
+wrong' e = absurd cc
+
+none_some : {A : Type 0} (n : Connection) → (let a : Option Connection = None in a) ≡ Some n → A
+none_some n e = absurd cc
+
+-- ---- the answer to a request is heard as one
+
+answer_offers : (h : Option HostDef) (a : Agreement) → (understood nothing_understood (answer_bytes h a)).said.offer ≡ Some (host_answer h a)
+unfolding form_out
+answer_offers h a = refl
+
+offered : (v : Speech) (p : Plan) (d : Dialogue) (h : Option HostDef) (a : Agreement) → AreWordsHeard v p d → d.is_last ≡ true → v.words ≡ answer_bytes h a → is_none p.said.offer ≡ false
+offered v p d h a heard last w =
+    ap (λ (u : Understanding). is_none u.said.offer) (heard.last last) ∙ ap (λ (x : List ℕ). is_none (understood nothing_understood x).said.offer) w ∙ ap (λ (o : Option Agreement). is_none o) (answer_offers h a)
+
+-- ---- as MESSAGE OUT is left
+
+refused_truly : (s : ScenarioValue) (k : RunState) (n : Connection) (refusing : Bool) → Speaks s k n → k.exchange.begun ≡ true → is_message_out (bus_of k) ≡ true → IsOver s k n → (c : Cause) → Refuses refusing k c → is_complaint k.exchange.plan c ≡ true → refusing ≡ true
+refused_truly s k n refusing speaks b out over causes.Selected h e = wrong' e
+refused_truly s k n refusing speaks b out over causes.InData h e = h
+refused_truly s k n refusing speaks b out over causes.InStatus h e = h
+refused_truly s k n refusing speaks b out over causes.InMessage (inl z) e = z
+refused_truly s k n refusing speaks b out over causes.InMessage (inr (x, a, w)) e =
+    wrong (sym e ∙ offered k.exchange.speech k.exchange.plan k.story.bus_state.dialogue x a (speaks.in_message_out b out).heard (out_over s k n out over) w)
+
+complaining_out : (p : Plan) (x : Phase) → is_complaining p x ≡ true → (x ≡ phases.MessageOut) × (is_complaint p p.cause ≡ true)
+complaining_out p phases.MessageOut e = (refl, e)
+complaining_out p phases.MessageIn e = wrong' e
+complaining_out p phases.Command e = wrong' e
+complaining_out p phases.DataIn e = wrong' e
+complaining_out p phases.DataOut e = wrong' e
+complaining_out p phases.Status e = wrong' e
+
+where_asked : (a b r : Bool) → (a ≡ true → b ≡ true → r ≡ true) → (not (a && b) || r) ≡ true
+where_asked false b r f = refl
+where_asked true false r f = refl
+where_asked true true r f = f refl refl
+
+-- A phase is left while RST is false, or it is MESSAGE IN.
+abbrev pub IsCalm : RowReading → Type 0
+IsCalm d = is_some d.next ≡ true → changes_phase d.change ≡ true → ((d.change.before.rst ≡ false) × (d.change.after.rst ≡ false)) ⊎ (is_message_in d.change.before ≡ true)
+
+not_out : (b : LineSet) → is_message_in b ≡ true → phase_of b ≡ phases.MessageOut → ⊥
+not_out b e f = go b.msg b.cd b.io e f
+  where
+    go : (m d i : Bool) → (m && d && i) ≡ true → (if m then (if i then phases.MessageIn else phases.MessageOut) else if d then (if i then phases.Status else phases.Command) else if i then phases.DataIn else phases.DataOut) ≡ phases.MessageOut → ⊥
+    go true true true z f = absurd cc
+    go true true false z f = wrong' z
+    go true false i z f = wrong' z
+    go false d i z f = wrong' z
+
+pub complained_row : (s : ScenarioValue) (p : List Row) (row : Row) → Obeys s → IsPrompt s (row ∷ p) → Stood s p → NextStood s p row → IsCalm (row_reading (run_state s p).story.bus_state row) → ComplaintFacts s p → is_true_complaint (run_state s p) (row_reading (run_state s p).story.bus_state row) (is_refusing s p) ≡ true
+complained_row s p row o prompt was nx calm facts = where_asked (is_left k d) (is_complaining k.exchange.plan (phase_of (bus_of k))) (is_refusing s p) (λ l c. go l c (connection p) refl)
+  where
+    k : RunState
+    k = run_state s p
+
+    d : RowReading
+    d = row_reading k.story.bus_state row
+
+    m : IsLeast (due s p) 8 row
+    m = least_is s p row prompt.1
+
+    pl : IsPlain s p k
+    pl = run_state_plain s p was.standing.devices
+
+    change : d.change ≡ change_of p row
+    change = change_plain s row p was.standing.devices m.inside
+
+    next : d.next ≡ connection (row ∷ p)
+    next = λ i. connection_after (pl.connection i) (pl.call i) (change i) row
+
+    parts : is_left k d ≡ true → (is_some k.story.bus_state.connection ≡ true) × (k.exchange.begun ≡ true) × ((if is_some d.next then changes_phase d.change else not d.change.after.rst) ≡ true)
+    parts e = three (is_some k.story.bus_state.connection) k.exchange.begun (if is_some d.next then changes_phase d.change else not d.change.after.rst) e
+      where
+        three : (a b c : Bool) → (a && b && c) ≡ true → (a ≡ true) × (b ≡ true) × (c ≡ true)
+        three true true c z = (refl, refl, z)
+        three true false c z = wrong' z
+        three false b c z = wrong' z
+
+    -- RST is false before and after
+    by_over : (n : Connection) → connection p ≡ Some n → (bus p).rst ≡ false → k.exchange.begun ≡ true → IsOver s k n → is_complaining k.exchange.plan (phase_of (bus_of k)) ≡ true → is_refusing s p ≡ true
+    by_over n con quiet b over c =
+        let w = complaining_out k.exchange.plan (phase_of (bus_of k)) c in
+        let stage = stage_of_connection s p n was con quiet in
+        let out = out_lines (bus_of k) w.0 (λ z. ap (λ (l : LineSet). l.cd) pl.bus ∙ (link_phase s p n stage (ap (λ (l : LineSet). l.msg) (sym pl.bus) ∙ z)).0) in
+        refused_truly s k n (is_refusing s p) (was.books.speaks n (pl.connection ∙ con) (ap (λ (l : LineSet). l.rst) pl.bus ∙ quiet)) b out over k.exchange.plan.cause ((facts n con quiet b).refuses w.0) w.1
+
+    by_facts : (n : Connection) → connection p ≡ Some n → (bus p).rst ≡ false → RowFacts s p row n → is_left k d ≡ true → is_complaining k.exchange.plan (phase_of (bus_of k)) ≡ true → is_refusing s p ≡ true
+    by_facts n con quiet (ends_here g) l c = by_over n con quiet (pl.begun ∙ g.begun_is) g.over c
+    by_facts n con quiet (stays g) l c =
+        let x = parts l in
+        let goes : is_some d.next ≡ true = (λ i. is_some (connection_after (g.row_is.connection_is i) k.story.bus_state.call (g.row_is.change_is i) row)) ∙ ap (λ (q : Bool). is_some (if q then Some n else None)) g.row_is.stands in
+        let ep : changes_phase g.change ≡ true = ap changes_phase (sym g.row_is.change_is) ∙ sym (ap (λ (q : Bool). if q then changes_phase d.change else not d.change.after.rst) goes) ∙ x.2 in
+        by_over n con quiet x.1 (g.over ep (sym pl.begun ∙ x.1)) c
+
+    -- RST is true before, or after
+    some_next : (n : Connection) → (q : Bool) → is_some d.next ≡ q → is_left k d ≡ true → (d.change.after.rst ≡ true) → (q ≡ true) × (changes_phase d.change ≡ true)
+    some_next n true e l on = (refl, sym (ap (λ (q : Bool). if q then changes_phase d.change else not d.change.after.rst) e) ∙ (parts l).2)
+    some_next n false e l on = wrong' (sym (ap (λ (q : Bool). if q then changes_phase d.change else not d.change.after.rst) e ∙ ap not on) ∙ (parts l).2)
+
+    under : (n : Connection) → is_left k d ≡ true → is_complaining k.exchange.plan (phase_of (bus_of k)) ≡ true → (bus (row ∷ p)).rst ≡ true → ⊥
+    under n l c on =
+        let after : d.change.after.rst ≡ true = ap (λ (x : Change). x.after.rst) change ∙ on in
+        let w = some_next n (is_some d.next) refl l after in
+        elim (calm w.0 w.1) [
+          | inl z ↦ wrong (sym after ∙ z.1)
+          | inr z ↦ not_out (bus_of k) z (complaining_out k.exchange.plan (phase_of (bus_of k)) c).0
+        ]
+
+    ended : AnyStage s p → (n : Connection) → connection p ≡ Some n → (bus p).rst ≡ true → (bus (row ∷ p)).rst ≡ false → ⊥
+    ended (apart h alone) n con on off = none_some n (sym (apart_connection s p row m.inside nx.obeys h alone off) ∙ con)
+    ended (linked x h) n con on off = wrong (sym on ∙ link_calm s p x h)
+
+    by_rst : (n : Connection) → connection p ≡ Some n → (q r : Bool) → (bus (row ∷ p)).rst ≡ q → (bus p).rst ≡ r → is_left k d ≡ true → is_complaining k.exchange.plan (phase_of (bus_of k)) ≡ true → is_refusing s p ≡ true
+    by_rst n con true r f g l c = absurd (under n l c f)
+    by_rst n con false true f g l c = absurd (ended was.here n con g f)
+    by_rst n con false false f g l c = by_facts n con g (connection_row s p row n o prompt was con g f).facts l c
+
+    go : is_left k d ≡ true → is_complaining k.exchange.plan (phase_of (bus_of k)) ≡ true → (x : Option Connection) → connection p ≡ x → is_refusing s p ≡ true
+    go l c None e = wrong' (sym (ap (λ (x : Option Connection). is_some x) (pl.connection ∙ e)) ∙ (parts l).0)
+    go l c (Some n) e = by_rst n e (bus (row ∷ p)).rst (bus p).rst refl refl l c

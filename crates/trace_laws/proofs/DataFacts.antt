@@ -1,0 +1,59 @@
+-- Of a prompt trace: the data pointers of processes that write stand at their runs after each row.
+use Rattle.std.proofs.Common.{◌≡◌, ◌<◌, ◌^◌, Bool, true, false, ◌∙◌, List, [], ◌∷◌, length, Some, None, sym, ap, true≢false}
+use Rattle.std.specs.Prelude.{if◌then◌else◌, is_some}
+use Rattle.bus_trace.specs.declared.Row.{Row}
+use Rattle.bus_trace.specs.declared.connection.Connection.{Connection}
+use Rattle.bus_trace.specs.Changes.{change_of}
+use Rattle.bus_trace.specs.Terms.{call, connection, connection_after, receiver_of}
+use Rattle.bus_trace.specs.Trace.{bus}
+use Rattle.scenario.specs.Value.{ScenarioValue}
+use Rattle.scenario.specs.Writing.{Obeys}
+use Rattle.bus_story.specs.BusState.{row_reading}
+use Rattle.bus_due.specs.Next.{IsPrompt}
+use Rattle.bus_due.specs.Plain.{IsPlain, AreOfDevices}
+use Rattle.bus_due.specs.RunSteps.{run_state}
+use Rattle.bus_due.proofs.Plains.{run_state_plain}
+use Rattle.bus_laws.proofs.Apart.{change_plain}
+use Rattle.bus_laws.proofs.Prompt.{least_is}
+use Rattle.trace_laws.specs.DataFacts.{DataFacts, DataPremises, DataAsked}
+use Rattle.trace_laws.specs.Offers.{OfferFacts}
+use Rattle.trace_laws.proofs.ConnectionRows.{connection_row}
+use Rattle.trace_laws.proofs.Crossings.{RowFacts, stays, ends_here}
+use Rattle.trace_laws.proofs.Joint.{Stood, NextStood}
+use Rattle.trace_laws.proofs.RunAsks.{answers_all, run_moved}
+use Rattle.trace_laws.proofs.RunCountFacts.{counts_start, counts_next}
+use Rattle.trace_laws.proofs.RunFacts.{runs_start, runs_next, run_active, crossing_begun}
+
+pub data_start : (s : ScenarioValue) → DataFacts s []
+data_start s = record { runs = runs_start s; counts = counts_start s }
+
+pub data_next : (s : ScenarioValue) (p : List Row) (row : Row) → Obeys s → IsPrompt s (row ∷ p) → length (row ∷ p) < 2 ^ 64 → Stood s p → NextStood s p row → OfferFacts s p → DataPremises s p row → DataFacts s p → DataFacts s (row ∷ p)
+data_next s p row o prompt short was nx offers asked facts = record {
+  runs = runs_next s p row o prompt short was nx offers
+      (record { anew = asked.anew; sent = asked.sent; answers = λ n con calm off after b ep. answers_all s p row n o prompt was facts.counts con calm off after b ep })
+      facts.runs;
+  counts = counts_next s p row o prompt short was nx facts.runs facts.counts;
+}
+
+-- A connection in which a byte crosses goes on.
+crossing_stands : (s : ScenarioValue) (p : List Row) (row : Row) (n : Connection) → Obeys s → IsPrompt s (row ∷ p) → Stood s p → connection p ≡ Some n → (bus p).rst ≡ false → (bus (row ∷ p)).rst ≡ false → (row_reading (run_state s p).story.bus_state row).crosses ≡ true → connection (row ∷ p) ≡ Some n
+crossing_stands s p row n o prompt was con calm off crosses = by (connection_row s p row n o prompt was con calm off).facts
+  where
+    dv : AreOfDevices p
+    dv = was.standing.devices
+
+    pl : IsPlain s p (run_state s p)
+    pl = run_state_plain s p dv
+
+    change : (row_reading (run_state s p).story.bus_state row).change ≡ change_of p row
+    change = change_plain s row p dv (least_is s p row prompt.1).inside
+
+    by : RowFacts s p row n → connection (row ∷ p) ≡ Some n
+    by (stays g) = (λ i. connection_after (con i) (call p) ((sym change ∙ g.row_is.change_is) i) row) ∙ ap (λ (b : Bool). if b then Some n else None) g.row_is.stands
+    by (ends_here g) = absurd (true≢false (sym crosses ∙ (λ i. is_some (receiver_of ((pl.connection ∙ con) i) (change i))) ∙ g.carries))
+
+pub data_asks : (s : ScenarioValue) (p : List Row) (row : Row) (n : Connection) → Obeys s → IsPrompt s (row ∷ p) → Stood s p → DataFacts s p → connection p ≡ Some n → (bus p).rst ≡ false → (bus (row ∷ p)).rst ≡ false → DataAsked s p row
+data_asks s p row n o prompt was facts con calm off = record {
+  moved = λ q known crosses bytes w. run_moved s p row n o prompt was facts.runs facts.counts con calm off (crossing_stands s p row n o prompt was con calm off crosses) q known crosses bytes w;
+  active_is = λ crosses q t served task phase. run_active s p n o was facts.runs con calm (crossing_begun s p row n o prompt was con calm off (least_is s p row prompt.1).inside crosses) q t served task phase;
+}

@@ -1,0 +1,222 @@
+-- The two ends of a connection are an initiator and a target of the scenario: its caller called the device that it is due to call,
+-- and the target drives BSY.
+use Rattle.std.proofs.Common.{inl, inr, ℕ, ◌≡◌, ◌<◌, Bool, true, false, not, ◌&&◌, ◌||◌, ◌==◌, ◌∙◌, List, [], ◌∷◌, Option, Some, None, refl, sym, ap, subst}
+use Rattle.std.specs.Prelude.{if◌then◌else◌, is_some}
+use Rattle.std.specs.List.{find}
+use Rattle.std.proofs.lemmas.Option.{same_Some}
+use Rattle.bus_trace.specs.LineSet.{LineSet, union, none}
+use Rattle.bus_trace.proofs.Sets.{same_set-eq}
+use Rattle.bus_trace.specs.declared.Row.{Row}
+use Rattle.bus_trace.specs.declared.connection.Connection.{Connection}
+use Rattle.bus_trace.specs.declared.selection.Call.{Call}
+use Rattle.bus_trace.specs.declared.selection.Calling.{Calling}
+use Rattle.bus_trace.specs.Changes.{change_of, falls}
+use Rattle.bus_trace.specs.Terms.{call, connection, connection_after, connection_of, connected, connected_of}
+use Rattle.bus_trace.specs.Trace.{bus, drives}
+use Rattle.bus_rules.specs.Reset.{only_rst}
+use Rattle.bus_rules.specs.Rules.{broken_rule}
+use Rattle.scenario.specs.declared.value.AbortDef.{AbortDef}
+use Rattle.scenario.specs.declared.value.CmdDef.{CmdDef}
+use Rattle.scenario.specs.declared.value.HostDef.{HostDef}
+use Rattle.scenario.specs.declared.value.TargetDef.{TargetDef}
+use Rattle.scenario.specs.declared.value.Tag.TheVariants as tags
+use Rattle.scenario.specs.Needs.{sent_of}
+use Rattle.scenario.specs.Value.{ScenarioValue}
+use Rattle.bus_base.specs.declared.ProcId.{ProcId}
+use Rattle.disk_array.specs.Processes.{Process, command_at, payload_bytes, process_by, process_if, process_of, sense_block}
+use Rattle.bus_story.specs.HistoryEvents.{abort_line_at}
+use Rattle.bus_story.specs.Items.{Item, process, abort}
+use Rattle.bus_story.specs.Samples.{host_latency, target_latency}
+use Rattle.bus_story.specs.TraceHistory.{is_host, aim_of}
+use Rattle.bus_due.specs.Defs.{host_of, target_def_of}
+use Rattle.bus_due.specs.Plain.{AreOfDevices}
+use Rattle.bus_due.specs.RunSteps.{run_state}
+use Rattle.bus_due.specs.Wants.{target_if, abort_target, target_of, initiator_if, ready_of}
+use Rattle.scsi_device.specs.Lines.{FitsBus}
+use Rattle.scsi_device.proofs.FitLines.{abort_fits, command_fits, seats_are, units_are}
+use Rattle.bus_laws.specs.Stages.{BusStage, HasDevice}
+use Rattle.link_laws.specs.LinkStages.{LinkStage, when_selected, when_settling, when_turning, when_offering, when_shaking, when_pulsing, AnyStage, apart, linked}
+use Rattle.trace_laws.specs.Ends.{HasEnds, AreEnds}
+use Rattle.trace_laws.proofs.Called.{IsCalled, IsMadeFor, IsDueCall, by_answer, made_of, own_units}
+use Rattle.trace_laws.proofs.Driven.{wrong, wrong'}
+use Rattle.trace_laws.proofs.FirstRows.{Made, made_is, quiet_sel, under_rst}
+use Rattle.trace_laws.proofs.Joint.{Stood, link_connection}
+use Rattle.trace_laws.proofs.UnderRst.{quiet_at_end}
+
+no_connection : (n : Connection) → (let a : Option Connection = None in a) ≡ Some n → ⊥
+no_connection n e = absurd cc
+
+no_number : (n : ℕ) → (let a : Option ℕ = None in a) ≡ Some n → ⊥
+no_number n e = absurd cc
+
+no_process : (p : Process) → (let a : Option Process = None in a) ≡ Some p → ⊥
+no_process p e = absurd cc
+
+-- ---- the lines of the scenario
+
+host_found : (hosts : List HostDef) (dev : ℕ) → is_host hosts dev ≡ true → is_some (find (λ (h : HostDef). h.dev == dev) hosts) ≡ true
+host_found [] dev e = e
+host_found (h ∷ hosts) dev e = go (h.dev == dev) (host_found hosts dev) e
+  where
+    go : (q : Bool) → (is_host hosts dev ≡ true → is_some (find (λ (h : HostDef). h.dev == dev) hosts) ≡ true) → (q || is_host hosts dev) ≡ true → is_some (if q then Some h else find (λ (h : HostDef). h.dev == dev) hosts) ≡ true
+    go true more z = refl
+    go false more z = more z
+
+host_any : (hosts : List HostDef) (dev : ℕ) → is_some (find (λ (h : HostDef). h.dev == dev) hosts) ≡ true → is_host hosts dev ≡ true
+host_any [] dev e = e
+host_any (h ∷ hosts) dev e = go (h.dev == dev) (host_any hosts dev) e
+  where
+    go : (q : Bool) → (is_some (find (λ (h : HostDef). h.dev == dev) hosts) ≡ true → is_host hosts dev ≡ true) → is_some (if q then Some h else find (λ (h : HostDef). h.dev == dev) hosts) ≡ true → (q || is_host hosts dev) ≡ true
+    go true more z = refl
+    go false more z = more z
+
+-- A device of the scenario that is no initiator is a target.
+target_found : (s : ScenarioValue) (dev : ℕ) → HasDevice s dev → is_host s.hosts dev ≡ false → is_some (target_def_of s dev) ≡ true
+target_found s dev d none = go (target_def_of s dev) (host_of s dev) refl d.latency_is
+  where
+    go : (t : Option TargetDef) (h : Option HostDef) → host_of s dev ≡ h → target_latency t (host_latency h) ≡ Some d.latency → is_some t ≡ true
+    go (Some t) h e l = refl
+    go None (Some h) e l = wrong' (sym none ∙ host_any s.hosts dev (ap (λ (x : Option HostDef). is_some x) e))
+    go None None e l = absurd (no_number d.latency l)
+
+-- ---- the ends of a process, and of what an initiator calls for
+
+abbrev sense_of : ScenarioValue → ProcId → CmdDef → Process
+sense_of s id c = record { id = id; initiator = c.host; target = c.target; unit = c.unit; tag = tags.Untagged; cdb = sense_block; sent = [] }
+
+abbrev told_of : ScenarioValue → ProcId → CmdDef → Process
+told_of s id c = record { id = id; initiator = c.host; target = c.target; unit = c.unit; tag = c.tag; cdb = c.cdb; sent = payload_bytes c.payload (sent_of s c) }
+
+-- The first is an initiator, the second none.
+abbrev AreHosts : ScenarioValue → ℕ → ℕ → Type 0
+AreHosts s a b = (is_host s.hosts a ≡ true) × (is_host s.hosts b ≡ false)
+
+by_command : (s : ScenarioValue) (id : ProcId) (c : CmdDef) → AreHosts s c.host c.target → AreHosts s (process_by s id c).initiator (process_by s id c).target
+by_command s id c h = go id.sense
+  where
+    go : (q : Bool) → AreHosts s (if q then sense_of s id c else told_of s id c).initiator (if q then sense_of s id c else told_of s id c).target
+    go true = h
+    go false = h
+
+process_ends : (s : ScenarioValue) (id : ProcId) (p : Process) → FitsBus s → process_of s id ≡ Some p → AreHosts s p.initiator p.target
+process_ends s id p fits e = go (command_at s.commands id.command) refl
+  where
+    go : (o : Option CmdDef) → command_at s.commands id.command ≡ o → AreHosts s p.initiator p.target
+    go None z = absurd (no_process p (sym (ap (process_if s id) z) ∙ e))
+    go (Some c) z =
+        let line = command_fits s id.command c fits z in
+        subst (λ (x : Process). AreHosts s x.initiator x.target) (same_Some (process_by s id c) p (sym (ap (process_if s id) z) ∙ e)) (by_command s id c (line.host_is, line.target_is))
+
+-- What an initiator calls is none.
+aim_target : (s : ScenarioValue) (aim : Option Item) (n : ℕ) → FitsBus s → target_of s aim ≡ Some n → is_host s.hosts n ≡ false
+aim_target s None n fits e = absurd (no_number n e)
+aim_target s (Some (process id)) n fits e = go (process_of s id) refl
+  where
+    go : (o : Option Process) → process_of s id ≡ o → is_host s.hosts n ≡ false
+    go None z = absurd (no_number n (sym (ap target_if z) ∙ e))
+    go (Some p) z = ap (is_host s.hosts) (sym (same_Some p.target n (sym (ap target_if z) ∙ e))) ∙ (process_ends s id p fits z).1
+aim_target s (Some (abort k)) n fits e = go (abort_line_at s.aborts k) refl
+  where
+    go : (o : Option AbortDef) → abort_line_at s.aborts k ≡ o → is_host s.hosts n ≡ false
+    go None z = absurd (no_number n (sym (ap abort_target z) ∙ e))
+    go (Some a) z = ap (is_host s.hosts) (sym (same_Some a.target n (sym (ap abort_target z) ∙ e))) ∙ (abort_fits s k a fits z).target_is
+
+-- ---- a connection begins
+
+due_ends : (s : ScenarioValue) (p : List Row) (c t : ℕ) (x : Calling) (n : Connection) → FitsBus s → AreOfDevices p → IsDueCall s p c x → connected c x t ≡ n → HasDevice s n.target → HasEnds s n
+due_ends s p c t x n fits dv d same there = go x.reselects refl
+  where
+    made : IsMadeFor s (run_state s p) n
+    made = made_of s p c t x n (units_are s fits) (own_units s p (seats_are s fits) dv) d same
+
+    ends : is_host s.hosts n.initiator ≡ true → is_host s.hosts n.target ≡ false → HasEnds s n
+    ends host none = record { initiator = host_found s.hosts n.initiator host; target = target_found s n.target there none }
+
+    go : (q : Bool) → x.reselects ≡ q → HasEnds s n
+    go true r =
+        let g : n.target ≡ c = ap (λ (w : Connection). w.target) (sym same) ∙ ap (λ (q : Bool). if q then c else x.called) r in
+        let ready = made.reselects (ap (λ (w : Connection). w.reselected) (sym same) ∙ r) in
+        ends (ap (is_host s.hosts) (sym ready.initiator_is) ∙ (process_ends s ready.ready.process.id ready.process fits ready.process_is).0) (ap (is_host s.hosts) g ∙ d.host_is ∙ ap not r)
+    go false r =
+        let i : n.initiator ≡ c = ap (λ (w : Connection). w.initiator) (sym same) ∙ ap (λ (q : Bool). if q then x.called else c) r in
+        let g : n.target ≡ x.called = ap (λ (w : Connection). w.target) (sym same) ∙ ap (λ (q : Bool). if q then c else x.called) r in
+        let host : is_host s.hosts c ≡ true = d.host_is ∙ ap not r in
+        let aim = aim_of (run_state s p).story.aims c in
+        let called : target_of s aim ≡ Some x.called = sym (ap (λ (q : Bool). if q then target_of s aim else initiator_if (ready_of s (run_state s p) c)) host) ∙ d.callee_is in
+        ends (ap (is_host s.hosts) i ∙ host) (ap (is_host s.hosts) g ∙ aim_target s aim x.called fits called)
+
+made_ends : (s : ScenarioValue) (p : List Row) (t : ℕ) (n : Connection) → FitsBus s → AreOfDevices p → IsCalled s p → HasDevice s n.target → connection_of (call p) t ≡ Some n → HasEnds s n
+made_ends s p t n fits dv was there e = by_call (call p) refl e
+  where
+    by_calling : (k : Call) → call p ≡ Some k → (o : Option Calling) → k.calling ≡ o → connected_of k.caller o t ≡ Some n → HasEnds s n
+    by_calling k ek None _ z = absurd (no_connection n z)
+    by_calling k ek (Some x) some z = due_ends s p k.caller t x n fits dv (was k x ek some) (by_answer k.caller x x.answered t n z) there
+
+    by_call : (o : Option Call) → call p ≡ o → connection_of o t ≡ Some n → HasEnds s n
+    by_call None _ z = absurd (no_connection n z)
+    by_call (Some k) some z = by_calling k some k.calling refl z
+
+-- The target of a connection drives BSY, so it is there.
+drives_none : (p : List Row) (d : ℕ) → drives p d ≡ none → (drives p d).bsy ≡ true → ⊥
+drives_none p d e b = wrong (sym b ∙ ap (λ (l : LineSet). l.bsy) e)
+
+target_drives : (s : ScenarioValue) (p : List Row) (n : Connection) → LinkStage s p n → ((drives p n.target).bsy ≡ true) × (n.target < 8)
+target_drives s p n (when_selected h) = (ap (λ (l : LineSet). l.bsy) h.linked.target, h.linked.target_below)
+target_drives s p n (when_settling bsy atn msg cd io y h) = (ap (λ (l : LineSet). l.bsy) h.linked.target, h.linked.target_below)
+target_drives s p n (when_turning atn x msg cd h) = (ap (λ (l : LineSet). l.bsy) h.linked.target, h.linked.target_below)
+target_drives s p n (when_offering atn msg cd y h) = (ap (λ (l : LineSet). l.bsy) h.linked.target, h.linked.target_below)
+target_drives s p n (when_shaking msg cd io req ack atn x y h) = (ap (λ (l : LineSet). l.bsy) h.linked.target, h.linked.target_below)
+target_drives s p n (when_pulsing io req ack atn x y h a) = (ap (λ (l : LineSet). l.bsy) h.linked.target, h.linked.target_below)
+
+target_there : (s : ScenarioValue) (p : List Row) (n : Connection) → Stood s p → connection p ≡ Some n → (bus p).rst ≡ false → HasDevice s n.target
+target_there s p n was e off = go was.here
+  where
+    by_link : (m : Connection) → LinkStage s p m → HasDevice s m.target
+    by_link m h =
+        let w = target_drives s p m h in
+        elim (was.standing.there m.target w.1) [
+          | inl quiet ↦ absurd (drives_none p m.target quiet w.0)
+          | inr there ↦ there
+        ]
+
+    go : AnyStage s p → HasDevice s n.target
+    go (apart h alone) = wrong (sym (λ i. is_some (e i) && not (off i)) ∙ alone)
+    go (linked m h) = subst (λ (x : Connection). HasDevice s x.target) (same_Some m n (sym (link_connection s p m h) ∙ e)) (by_link m h)
+
+-- ---- any row
+
+first_ends : (s : ScenarioValue) (p : List Row) (row : Row) (n : Connection) → FitsBus s → Stood s p → Stood s (row ∷ p) → row.dev < 8 → broken_rule p row ≡ None → connection p ≡ None → connection (row ∷ p) ≡ Some n → HasEnds s n
+first_ends s p row n fits was now lt obeys alone e = go (bus (row ∷ p)).rst refl (bus p).rst refl
+  where
+    made : Made p row n
+    made = made_is p row n alone e
+
+    no_fall : (q : Bool) → falls false q ≡ false
+    no_fall q = refl
+
+    stage : AnyStage s p → BusStage s p
+    stage (apart h alone) = h
+    stage (linked m h) = absurd (no_connection m (sym alone ∙ link_connection s p m h))
+
+    go : (q : Bool) → (bus (row ∷ p)).rst ≡ q → (r : Bool) → (bus p).rst ≡ r → HasEnds s n
+    go true f r g = absurd (no_connection n (sym ((λ i. connection_after (alone i) (call p) (change_of p row) row) ∙ fallen (falls (bus p).sel (bus (row ∷ p)).sel) (bus (row ∷ p)).bsy f) ∙ e))
+      where
+        fallen : (a b : Bool) → (bus (row ∷ p)).rst ≡ true → (if a && b && not (bus (row ∷ p)).rst then connection_of (call p) row.time else None) ≡ None
+        fallen true true z = ap (λ (x : Bool). if not x then connection_of (call p) row.time else None) z
+        fallen true false z = refl
+        fallen false b z = refl
+    go false f true g =
+        let quiet = quiet_sel (bus p) (same_set-eq (union only_rst (bus p)) only_rst (quiet_at_end s p row lt obeys (under_rst s p (stage was.here) g) f)) in
+        wrong' (sym (λ i. falls (quiet i) (bus (row ∷ p)).sel) ∙ made.sel)
+    go false f false g = made_ends s p row.time n fits was.standing.devices (was.called alone g) (target_there s (row ∷ p) n now e f) made.made
+
+pub ends_on : (s : ScenarioValue) (p : List Row) (row : Row) → FitsBus s → Stood s p → Stood s (row ∷ p) → row.dev < 8 → broken_rule p row ≡ None → AreEnds s p → AreEnds s (row ∷ p)
+ends_on s p row fits was now lt obeys ends n e = go (connection p) refl
+  where
+    same : (m : Connection) (q : Bool) → (if q then Some m else None) ≡ Some n → m ≡ n
+    same m true z = same_Some m n z
+    same m false z = absurd (no_connection n z)
+
+    go : (o : Option Connection) → connection p ≡ o → HasEnds s n
+    go None alone = first_ends s p row n fits was now lt obeys alone e
+    go (Some m) stood = subst (HasEnds s) (same m (bus (row ∷ p)).bsy (sym (λ i. connection_after (stood i) (call p) (change_of p row) row) ∙ e)) (ends m stood)

@@ -1,0 +1,164 @@
+-- The code of the failure of the process that is served, as a phase is entered.
+use Rattle.std.proofs.Common.{inl, inr, ℕ, ◌≡◌, ◌⊎◌, ◌≤◌, Bool, true, false, not, ◌&&◌, ◌||◌, ◌==◌, ◌∙◌, List, [], ◌∷◌, length, Some, refl, sym, ap, subst}
+use Rattle.std.specs.Prelude.{if◌then◌else◌, ◌-◌}
+use Rattle.bus_base.specs.declared.Event.{Event}
+use Rattle.bus_base.specs.declared.ProcId.{ProcId}
+use Rattle.bus_trace.specs.LineSet.{LineSet, same}
+use Rattle.bus_trace.specs.declared.Row.{Row}
+use Rattle.bus_trace.specs.declared.changes.Change.{Change}
+use Rattle.bus_trace.specs.Phases.{changes_phase, is_message_in, is_message_out}
+use Rattle.cdb_codec.specs.declared.sense.TheConstants.{PARITY_ERROR, INITIATOR_DETECTED_ERROR}
+use Rattle.scenario.specs.Value.{ScenarioValue}
+use Rattle.bus_story.specs.BusState.{row_reading}
+use Rattle.bus_story.specs.CarriedBytes.{CarriedBytes, carried_of}
+use Rattle.bus_story.specs.HistoryEvents.{row_events_by}
+use Rattle.bus_story.specs.Links.{Link}
+use Rattle.bus_story.specs.Story.{Story, story_after_events}
+use Rattle.bus_story.specs.TraceHistory.{story_by_change}
+use Rattle.bus_dialogue.specs.declared.exchange.Cause.{Cause}
+use Rattle.bus_dialogue.specs.declared.exchange.Cause.TheVariants as causes
+use Rattle.bus_dialogue.specs.declared.exchange.Messages.{Messages}
+use Rattle.bus_dialogue.specs.declared.exchange.Next.{Next}
+use Rattle.bus_dialogue.specs.declared.exchange.Next.TheVariants as nexts
+use Rattle.bus_dialogue.specs.declared.exchange.Phase.{Phase}
+use Rattle.bus_dialogue.specs.declared.exchange.Phase.TheVariants as phases
+use Rattle.bus_dialogue.specs.declared.exchange.Plan.{Plan}
+use Rattle.bus_dialogue.specs.Events.{is_status_next}
+use Rattle.bus_dialogue.specs.Exchange.{bytes_of_messages, from_byte}
+use Rattle.bus_dialogue.specs.NextPhase.{Serving, phase_of, phase_leaving}
+use Rattle.bus_dialogue.specs.Planning.{cause_after}
+use Rattle.bus_due.specs.RunState.{RunState, carried_here}
+use Rattle.bus_due.specs.RunSteps.{run_state_after}
+use Rattle.trace_laws.specs.Failures.{IsClear, ClearIn, GivesFailure, RefusesFailure, SaysFailure, FailsBy}
+use Rattle.trace_laws.specs.Tells.{has_answer, code_if, UndoesAnswers}
+use Rattle.trace_laws.proofs.ComplaintTurns.{is_to_initiator}
+use Rattle.trace_laws.proofs.FailureBytes.{SameFail}
+use Rattle.trace_laws.proofs.FailureRows.{clear_in_as, clear_out_as}
+use Rattle.trace_laws.proofs.FailureTurns.{is_sending, refuses_left}
+use Rattle.trace_laws.proofs.FailureWords.{refuses_kept}
+use Rattle.trace_laws.proofs.ListedReplies.{replies_to}
+use Rattle.trace_laws.proofs.ShownReplies.{answered_on, change_keeps}
+use Rattle.trace_laws.proofs.TellTurns.{refused}
+
+wrong : {A : Type 0} → true ≡ false → A
+wrong e = absurd cc
+
+wrong' : {A : Type 0} → false ≡ true → A
+wrong' e = absurd cc
+
+or_true : (q : Bool) → (q || true) ≡ true
+or_true true = refl
+or_true false = refl
+
+-- ---- what is carried after the row
+
+-- Its failure is as before, and it keeps an answer that it had.
+pub record KeptFail (c d : CarriedBytes) : Type 0 where
+  pub same : SameFail c d
+  pub answer : has_answer c ≡ true → has_answer d ≡ true
+
+events_answer : (s : ScenarioValue) (b : Story) (shown : List Event) (id : ProcId) → has_answer (carried_of b.carried id) ≡ true → has_answer (carried_of (story_after_events s b shown).carried id) ≡ true
+events_answer s b [] id h = h
+events_answer s b (e ∷ shown) id h =
+    answered_on s (story_after_events s b shown) e id
+    ∙ ap (λ (q : Bool). replies_to e id || q) (events_answer s b shown id h)
+    ∙ or_true (replies_to e id)
+
+pub answer_kept : (s : ScenarioValue) (k : RunState) (row : Row) (id : ProcId) → UndoesAnswers k row → has_answer (carried_here k id) ≡ true → has_answer (carried_here (run_state_after s k row) id) ≡ true
+answer_kept s k row id undoes h =
+    events_answer s (story_by_change s k.story (row_reading k.story.bus_state row) row) (row_events_by s k.story (row_reading k.story.bus_state row) row) id
+    (change_keeps s k.story (row_reading k.story.bus_state row) row undoes id ∙ h)
+
+-- ---- MESSAGE IN
+
+gives_kept : (l : Link) (c d : CarriedBytes) (p q : Plan) (count : ℕ) (next : Next) → KeptFail c d → q.messages ≡ p.messages → GivesFailure l c p count next → GivesFailure l d q count next
+gives_kept l c d p q count next w e h = go next h
+  where
+    one : ClearIn l c p.messages count → ClearIn l d q.messages count
+    one x = subst (λ (m : Messages). ClearIn l d m count) (sym e) (clear_in_as l c d p.messages count w.same x)
+
+    go : (x : Next) → GivesFailure l c p count x → GivesFailure l d q count x
+    go nexts.Command z = one z
+    go nexts.GoOn z = one z
+    go nexts.Status z = w.answer z
+    go nexts.FreeBus (inl z) = inl (w.answer z)
+    go nexts.FreeBus (inr z) = inr (one z)
+
+pub gives_entered : (l : Link) (c d : CarriedBytes) (p q : Plan) (count other : ℕ) (next : Next) → KeptFail c d → q.messages ≡ p.messages → q.next ≡ next → other ≡ count → GivesFailure l c p count next → GivesFailure l d q other q.next
+gives_entered l c d p q count other next w em en ec h = subst (GivesFailure l d q other) (sym en) (subst (λ (x : ℕ). GivesFailure l d q x next) (sym ec) (gives_kept l c d p q count next w em h))
+
+-- ---- COMMAND, data and STATUS
+
+pub sending_entered : (l : Link) (d : CarriedBytes) (q : Plan) (words : List ℕ) (count : ℕ) (phase : Phase) → is_sending (Some phase) ≡ true → IsClear d → q.struck ≡ false → FailsBy l d q words count phase
+sending_entered l d q words count phases.MessageOut e h s = wrong' e
+sending_entered l d q words count phases.MessageIn e h s = wrong' e
+sending_entered l d q words count phases.Command e h s = (h.struck ∙ sym s, h.failure ∙ ap (λ (x : Bool). code_if x PARITY_ERROR) (sym s))
+sending_entered l d q words count phases.DataOut e h s = (h.struck, h.failure ∙ ap (λ (x : Bool). code_if x PARITY_ERROR) (sym s))
+sending_entered l d q words count phases.DataIn e h s = h.struck
+sending_entered l d q words count phases.Status e h s = wrong' e
+
+-- A process that the initiator does not know yet is not left for STATUS.
+pub not_to_status : (v : Serving) (attention : Bool) (phase : Phase) → ((phase ≡ phases.MessageOut) × (v.plan.cause ≡ causes.InMessage)) ⊎ ((phase ≡ phases.MessageIn) × (attention ≡ true)) → is_status_next (phase_leaving v attention phase).to ≡ false
+not_to_status v attention phase (inl e) =
+    ap (λ (x : Phase). is_status_next (phase_leaving v attention x).to) e.0
+    ∙ ap (λ (x : Cause). is_status_next (Rattle.bus_dialogue.specs.NextPhase.message_out_leaving v x).to) e.1
+    ∙ refused v
+not_to_status v attention phase (inr e) =
+    ap (λ (x : Phase). is_status_next (phase_leaving v attention x).to) e.0
+    ∙ ap (λ (q : Bool). is_status_next (phase_leaving v q phases.MessageIn).to) e.1
+
+-- ---- MESSAGE OUT
+
+refuses_when : (l : Link) (c d : CarriedBytes) (p : Plan) (words : List ℕ) (next : Next) → KeptFail c d → RefusesFailure l c p words next → RefusesFailure l d p words next
+refuses_when l c d p words nexts.Command w h = clear_out_as l c d p.messages words w.same h
+refuses_when l c d p words nexts.GoOn w h = clear_out_as l c d p.messages words w.same h
+refuses_when l c d p words nexts.Status w h = w.answer h
+refuses_when l c d p words nexts.FreeBus w (inl h) = inl (w.answer h)
+refuses_when l c d p words nexts.FreeBus w (inr h) = inr (clear_out_as l c d p.messages words w.same h)
+
+-- From a phase to the initiator, with ATN true.
+pub record Attends (l : Link) (c : CarriedBytes) (p q : Plan) (count : ℕ) (b : LineSet) : Type 0 where
+  pub cause : q.cause ≡ cause_after b
+  pub next : q.next ≡ p.next
+  pub messages : q.messages ≡ (if is_message_in b then from_byte p.messages (count - 1) else p.messages)
+  pub lines : b.msg ≡ true → b.cd ≡ true
+  pub to_it : is_to_initiator (phase_of b) ≡ true
+  pub code : phase_of b ≡ phases.DataIn → c.failure ≡ Some INITIATOR_DETECTED_ERROR
+  pub given : phase_of b ≡ phases.MessageIn → ((count == 0) ≡ false) × (count ≤ length (bytes_of_messages p.messages))
+
+pub out_entered : (l : Link) (c d : CarriedBytes) (p q : Plan) (words others : List ℕ) (count : ℕ) (b : LineSet) → KeptFail c d → Attends l c p q count b → FailsBy l c p words count (phase_of b) → SaysFailure l d q others q.cause
+out_entered l c d p q words others count b w a h = subst (SaysFailure l d q others) (sym a.cause) (go b.msg b.cd b.io a.lines a.to_it a.code a.given a.messages h)
+  where
+    go : (m e i : Bool) → (m ≡ true → e ≡ true) → is_to_initiator (if m then (if i then phases.MessageIn else phases.MessageOut) else if e then (if i then phases.Status else phases.Command) else if i then phases.DataIn else phases.DataOut) ≡ true
+        → ((if m then (if i then phases.MessageIn else phases.MessageOut) else if e then (if i then phases.Status else phases.Command) else if i then phases.DataIn else phases.DataOut) ≡ phases.DataIn → c.failure ≡ Some INITIATOR_DETECTED_ERROR)
+        → ((if m then (if i then phases.MessageIn else phases.MessageOut) else if e then (if i then phases.Status else phases.Command) else if i then phases.DataIn else phases.DataOut) ≡ phases.MessageIn → ((count == 0) ≡ false) × (count ≤ length (bytes_of_messages p.messages)))
+        → q.messages ≡ (if m && e && i then from_byte p.messages (count - 1) else p.messages)
+        → FailsBy l c p words count (if m then (if i then phases.MessageIn else phases.MessageOut) else if e then (if i then phases.Status else phases.Command) else if i then phases.DataIn else phases.DataOut)
+        → SaysFailure l d q others (if m && e && i then causes.InMessage else if e then causes.InStatus else causes.InData)
+    go true true true known to code given em x =
+        let g = given refl in
+        subst (RefusesFailure l d q others) (sym a.next)
+        (refuses_kept l d (record p { messages = from_byte p.messages (count - 1) }) q others p.next em
+        (refuses_when l c d (record p { messages = from_byte p.messages (count - 1) }) others p.next w (refuses_left l c p count others p.next g.0 g.1 x)))
+    go true true false known to code given em x = wrong' to
+    go true false i known to code given em x = wrong' (known refl)
+    go false true true known to code given em x = w.answer x
+    go false true false known to code given em x = wrong' to
+    go false false true known to code given em x = w.same.failure ∙ code refl
+    go false false false known to code given em x = wrong' to
+
+-- MESSAGE OUT is not left for itself.
+out_lines : (b : LineSet) → is_message_out b ≡ true → (b.msg ≡ true) × (b.cd ≡ true) × (b.io ≡ false)
+out_lines b e = go b.msg b.cd b.io e
+  where
+    go : (m d i : Bool) → (m && d && not i) ≡ true → (m ≡ true) × (d ≡ true) × (i ≡ false)
+    go true true true z = wrong' z
+    go true true false z = (refl, refl, refl)
+    go true false i z = wrong' z
+    go false d i z = wrong' z
+
+pub out_stays : (c : Change) → is_message_out c.before ≡ true → is_message_out c.after ≡ true → changes_phase c ≡ false
+out_stays c e f = by (out_lines c.before e) (out_lines c.after f)
+  where
+    by : (c.before.msg ≡ true) × (c.before.cd ≡ true) × (c.before.io ≡ false) → (c.after.msg ≡ true) × (c.after.cd ≡ true) × (c.after.io ≡ false) → changes_phase c ≡ false
+    by (a, b, d) (x, y, z) = λ i. not (same (a i) (x i) && same (b i) (y i) && same (d i) (z i))

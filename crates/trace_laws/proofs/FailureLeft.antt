@@ -1,0 +1,151 @@
+-- As a phase is left the code of the failure of the process is as its target knows it.
+use Rattle.std.proofs.Common.{inl, inr, ℕ, ◌≡◌, ◌⊎◌, Bool, true, false, ◌∙◌, List, ◌∷◌, length, Option, Some, None, refl, sym, ap, subst, arith}
+use Rattle.std.specs.Prelude.{is_some}
+use Rattle.bus_base.specs.declared.ProcId.{ProcId}
+use Rattle.bus_trace.specs.LineSet.{LineSet}
+use Rattle.bus_trace.specs.declared.Row.{Row}
+use Rattle.bus_trace.specs.declared.connection.Connection.{Connection}
+use Rattle.bus_trace.specs.Phases.{changes_phase}
+use Rattle.bus_trace.specs.Terms.{receiver_in}
+use Rattle.cdb_codec.specs.declared.sense.TheConstants.{INITIATOR_DETECTED_ERROR}
+use Rattle.scenario.specs.Value.{ScenarioValue}
+use Rattle.scenario.specs.Writing.{Obeys}
+use Rattle.bus_story.specs.BusState.{RowReading, row_reading}
+use Rattle.bus_story.specs.CarriedBytes.{CarriedBytes}
+use Rattle.bus_story.specs.Items.{Item, process}
+use Rattle.bus_story.specs.Links.{Link}
+use Rattle.bus_dialogue.specs.declared.exchange.Cause.{Cause}
+use Rattle.bus_dialogue.specs.declared.exchange.Cause.TheVariants as causes
+use Rattle.bus_dialogue.specs.declared.exchange.Messages.{Messages}
+use Rattle.bus_dialogue.specs.declared.exchange.Next.{Next}
+use Rattle.bus_dialogue.specs.declared.exchange.Next.TheVariants as nexts
+use Rattle.bus_dialogue.specs.declared.exchange.Phase.{Phase}
+use Rattle.bus_dialogue.specs.declared.exchange.Phase.TheVariants as phases
+use Rattle.bus_dialogue.specs.declared.exchange.Plan.{Plan}
+use Rattle.bus_dialogue.specs.Exchange.{bytes_of_messages}
+use Rattle.bus_dialogue.specs.NextPhase.{phase_of}
+use Rattle.bus_due.specs.Next.{IsPrompt}
+use Rattle.bus_due.specs.Plain.{IsPlain}
+use Rattle.bus_due.specs.RunState.{RunState, bus_of, carried_here, item_of}
+use Rattle.bus_due.specs.RunSteps.{run_state}
+use Rattle.bus_due.proofs.Plains.{run_state_plain}
+use Rattle.bus_books.specs.Knowing.{Knows}
+use Rattle.bus_books.specs.Reactions.{IsOver}
+use Rattle.bus_books.proofs.InConnection.{reading_is}
+use Rattle.trace_laws.specs.Failures.{IsClear, ClearIn, clear, restores, GivesFailure, SaysFailure, FailsBy, FailFacts, SentAsLeft}
+use Rattle.trace_laws.specs.Tells.{has_answer, code_if, FailsAsked, FailsBefore, FailsIn, IsLeaving, FailsAsLeft}
+use Rattle.trace_laws.proofs.ConnectionRows.{ConnectionRow, connection_row}
+use Rattle.trace_laws.proofs.Crossings.{RowFacts, stays, ends_here}
+use Rattle.trace_laws.proofs.Joint.{Stood, link_phase}
+use Rattle.trace_laws.proofs.TellFacts.{all_given}
+use Rattle.trace_laws.proofs.UndoneFacts.{in_of}
+
+no_item : {A : Type 0} (i : Item) → (let o : Option Item = None in o) ≡ Some i → A
+no_item i e = absurd cc
+
+no_end : {A : Type 0} (n : Connection) → (let o : Option Connection = None in o) ≡ Some n → A
+no_end n e = absurd cc
+
+none_given : {A : Type 0} (count : ℕ) → count ≡ 0 → count ≡ 1 → A
+none_given count e f = absurd (apart count e f)
+  where
+    apart : (x : ℕ) → x ≡ 0 → x ≡ 1 → ⊥
+    apart x a b = grind (arith)
+
+-- ---- by the phase
+
+clear_given : (l : Link) (c : CarriedBytes) (m : Messages) (count : ℕ) → count ≡ length (bytes_of_messages m) → ClearIn l c m count → IsClear c
+clear_given l c m count e (clear h u) = h
+clear_given l c m count e (restores f (inl z)) = none_given count z (e ∙ ap (λ (x : Messages). length (bytes_of_messages x)) f)
+clear_given l c m count e (restores f (inr h)) = h
+
+before_as : (l : Link) (c : CarriedBytes) (p : Plan) (count : ℕ) (next : Next) → count ≡ length (bytes_of_messages p.messages) → GivesFailure l c p count next → FailsBefore c next
+before_as l c p count nexts.Command e h = tt
+before_as l c p count nexts.GoOn e h = (clear_given l c p.messages count e h).failure
+before_as l c p count nexts.Status e h = h
+before_as l c p count nexts.FreeBus e h = tt
+
+asked_as : (l : Link) (c : CarriedBytes) (p : Plan) (words : List ℕ) (cause : Cause) → SaysFailure l c p words cause → FailsAsked c cause
+asked_as l c p words causes.Selected h = tt
+asked_as l c p words causes.InMessage h = tt
+asked_as l c p words causes.InData h = h
+asked_as l c p words causes.InStatus h = tt
+
+pub fails_left : (l : Link) (c : CarriedBytes) (p : Plan) (words : List ℕ) (count : ℕ) (attention : Bool) (phase : Phase) → (phase ≡ phases.DataIn → c.failure ≡ code_if attention INITIATOR_DETECTED_ERROR) → (phase ≡ phases.MessageIn → attention ≡ false → count ≡ length (bytes_of_messages p.messages)) → FailsBy l c p words count phase → FailsIn p attention c phase
+fails_left l c p words count attention phases.MessageOut code given h = asked_as l c p words p.cause h
+fails_left l c p words count attention phases.MessageIn code given h = λ off. before_as l c p count p.next (given refl off) h
+fails_left l c p words count attention phases.Command code given h = h
+fails_left l c p words count attention phases.DataOut code given h = h.1
+fails_left l c p words count attention phases.DataIn code given h = λ off. code refl ∙ ap (λ (q : Bool). code_if q INITIATOR_DETECTED_ERROR) off
+fails_left l c p words count attention phases.Status code given h = tt
+
+pub freed_as : (l : Link) (c : CarriedBytes) (p : Plan) (count : ℕ) → count ≡ length (bytes_of_messages p.messages) → GivesFailure l c p count nexts.FreeBus → (has_answer c ≡ true) ⊎ IsClear c
+freed_as l c p count e (inl h) = inl h
+freed_as l c p count e (inr h) = inr (clear_given l c p.messages count e h)
+
+-- ---- of a prompt trace
+
+plain_of : (s : ScenarioValue) (p : List Row) → Stood s p → IsPlain s p (run_state s p)
+plain_of s p was = run_state_plain s p was.standing.devices
+
+knows_of : (s : ScenarioValue) (p : List Row) (row : Row) (n : Connection) → Stood s p → IsLeaving s p row n → Knows s (run_state s p) n
+knows_of s p row n was w =
+    let pl = plain_of s p was in
+    was.books.knows n (pl.connection ∙ w.stands) (ap (λ (x : LineSet). x.rst) pl.bus ∙ w.calm)
+
+-- MESSAGE IN is left with ATN false after all of its bytes.
+given_left : (s : ScenarioValue) (p : List Row) (row : Row) (n : Connection) → Obeys s → IsPrompt s (row ∷ p) → Stood s p → IsLeaving s p row n → phase_of (bus_of (run_state s p)) ≡ phases.MessageIn → (bus_of (run_state s p)).atn ≡ false
+    → (run_state s p).handshakes.requests ≡ length (bytes_of_messages (run_state s p).exchange.plan.messages)
+given_left s p row n o prompt was w e off = all_given s k n e off (over r.facts w.leaves) ((was.books.gives n (pl.connection ∙ w.stands) (ap (λ (x : LineSet). x.rst) pl.bus ∙ w.calm)).in_message_in w.begun (in_of (bus_of k) e lines))
+  where
+    k : RunState
+    k = run_state s p
+
+    pl : IsPlain s p k
+    pl = plain_of s p was
+
+    r : ConnectionRow s p row n
+    r = connection_row s p row n o prompt was w.stands w.calm w.calm_after
+
+    over : RowFacts s p row n → (changes_phase (row_reading k.story.bus_state row).change ≡ true) ⊎ ((row_reading k.story.bus_state row).next ≡ None) → IsOver s k n
+    over (ends_here g) leaves = g.over
+    over (stays g) (inl z) = g.over (ap changes_phase (sym g.row_is.change_is) ∙ z) (sym pl.begun ∙ w.begun)
+    over (stays g) (inr z) = no_end n (sym z ∙ ap (λ (d : RowReading). d.next) (reading_is k row n g.change (is_some (receiver_in n g.change)) g.row_is refl))
+
+    lines : (bus_of k).msg ≡ true → (bus_of k).cd ≡ true
+    lines z = ap (λ (x : LineSet). x.cd) pl.bus ∙ (link_phase s p n r.stage (ap (λ (x : LineSet). x.msg) (sym pl.bus) ∙ z)).0
+
+pub fails_as_left : (s : ScenarioValue) (p : List Row) (row : Row) → Obeys s → IsPrompt s (row ∷ p) → Stood s p → SentAsLeft s p row → FailFacts s p → FailsAsLeft s p row
+fails_as_left s p row o prompt was sent h n id w item =
+    fails_left knows.link (carried_here k id) k.exchange.plan k.exchange.speech.words k.handshakes.requests (bus_of k).atn (phase_of (bus_of k))
+    (sent n id w served) (given_left s p row n o prompt was w) ((h n w.stands w.calm knows.link id knows.link_is served).begun w.begun)
+  where
+    k : RunState
+    k = run_state s p
+
+    knows : Knows s k n
+    knows = knows_of s p row n was w
+
+    named : knows.link.item ≡ Some (process id)
+    named = ap item_of (sym knows.link_is) ∙ item
+
+    served : k.served ≡ Some (process id)
+    served = by knows.item_is
+      where
+        by : (knows.link.item ≡ k.served) ⊎ ((n.reselected ≡ true) × (knows.link.item ≡ None)) → k.served ≡ Some (process id)
+        by (inl e) = sym e ∙ named
+        by (inr e) = no_item (process id) (sym e.1 ∙ named)
+
+-- As its target frees the bus the process has an answer, or nothing has struck it.
+pub freed_as_left : (s : ScenarioValue) (p : List Row) (row : Row) (n : Connection) (id : ProcId) → Obeys s → IsPrompt s (row ∷ p) → Stood s p → FailFacts s p → IsLeaving s p row n → (run_state s p).served ≡ Some (process id) → phase_of (bus_of (run_state s p)) ≡ phases.MessageIn → (bus_of (run_state s p)).atn ≡ false → (run_state s p).exchange.plan.next ≡ nexts.FreeBus
+    → (has_answer (carried_here (run_state s p) id) ≡ true) ⊎ IsClear (carried_here (run_state s p) id)
+freed_as_left s p row n id o prompt was h w served here off free =
+    freed_as knows.link (carried_here k id) k.exchange.plan k.handshakes.requests (given_left s p row n o prompt was w here off)
+    (subst (GivesFailure knows.link (carried_here k id) k.exchange.plan k.handshakes.requests) free
+    (subst (FailsBy knows.link (carried_here k id) k.exchange.plan k.exchange.speech.words k.handshakes.requests) here ((h n w.stands w.calm knows.link id knows.link_is served).begun w.begun)))
+  where
+    k : RunState
+    k = run_state s p
+
+    knows : Knows s k n
+    knows = knows_of s p row n was w

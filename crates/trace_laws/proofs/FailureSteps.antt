@@ -1,0 +1,167 @@
+-- The code of the failure of the process that is served goes on with each row in which a phase stays.
+use Rattle.std.proofs.Common.{inl, inr, ℕ, ◌≡◌, ◌⊎◌, Bool, true, false, ◌∙◌, List, Some, None, refl, sym, ap, subst}
+use Rattle.std.specs.Prelude.{if◌then◌else◌, is_some}
+use Rattle.std.proofs.lemmas.Option.{same_Some}
+use Rattle.bus_base.specs.declared.ProcId.{ProcId}
+use Rattle.bus_trace.specs.LineSet.{LineSet}
+use Rattle.bus_trace.specs.declared.Row.{Row}
+use Rattle.bus_trace.specs.declared.Kind.{Kind}
+use Rattle.bus_trace.specs.declared.Kind.TheVariants.{Drives, Fault}
+use Rattle.bus_trace.specs.declared.changes.Change.{Change}
+use Rattle.bus_trace.specs.declared.connection.Connection.{Connection}
+use Rattle.bus_trace.specs.Phases.{changes_phase}
+use Rattle.bus_trace.specs.Terms.{is_fault, receiver_in}
+use Rattle.scenario.specs.Value.{ScenarioValue}
+use Rattle.bus_story.specs.CarriedBytes.{CarriedBytes, carried_of}
+use Rattle.bus_story.specs.Items.{process}
+use Rattle.bus_story.specs.Links.{Link}
+use Rattle.bus_story.specs.TraceHistory.{story_after_fault, story_with_carried, carried_after_fault_if}
+use Rattle.bus_story.specs.HistoryEvents.{carried_if}
+use Rattle.bus_dialogue.specs.declared.exchange.Phase.{Phase}
+use Rattle.bus_dialogue.specs.declared.exchange.Phase.TheVariants as phases
+use Rattle.bus_dialogue.specs.declared.exchange.Plan.{Plan}
+use Rattle.bus_dialogue.specs.Exchange.{Exchange}
+use Rattle.bus_dialogue.specs.NextPhase.{phase_of}
+use Rattle.bus_due.specs.RunState.{RunState, bus_of, carried_here}
+use Rattle.bus_due.specs.RunSteps.{run_state_after}
+use Rattle.bus_books.specs.Rows.{IsRowIn}
+use Rattle.bus_books.proofs.InConnection.{InConnection, in_connection}
+use Rattle.trace_laws.specs.Failures.{FailsBy, FailTalk}
+use Rattle.trace_laws.specs.Tells.{has_answer, UndoesAnswers}
+use Rattle.trace_laws.proofs.FailureBytes.{SameFail, clear_as, row_carries, still_fails}
+use Rattle.trace_laws.proofs.FailureFaults.{CrossedHere, Struck, fault_fails}
+use Rattle.trace_laws.proofs.FailureRows.{fails_as, plan_struck, IsLine, fails_struck}
+use Rattle.trace_laws.proofs.RowItems.{link_still}
+use Rattle.trace_laws.proofs.UndoneAnswers.{same_phase_of}
+use Rattle.trace_laws.proofs.UndoneRows.{answers_stay}
+
+wrong : {A : Type 0} → true ≡ false → A
+wrong e = absurd cc
+
+wrong' : {A : Type 0} → false ≡ true → A
+wrong' e = absurd cc
+
+-- The phases of messages, where alone the initiator may not know the process.
+abbrev pub is_message_phase : Phase → Bool
+is_message_phase phases.MessageOut = true
+is_message_phase phases.MessageIn = true
+is_message_phase _ = false
+
+pub record FailRow (s : ScenarioValue) (k : RunState) (row : Row) (n : Connection) (c : Change) (l : Link) (id : ProcId) : Type 0 where
+  pub row_is : IsRowIn k row n c
+  pub link_is : k.story.link ≡ Some l
+  pub item_is : (l.item ≡ Some (process id)) ⊎ ((l.item ≡ None) × (is_message_phase (phase_of (bus_of k)) ≡ true))
+  pub undoes : UndoesAnswers k row
+
+pub count_as : (l : Link) (c : CarriedBytes) (p : Plan) (words : List ℕ) (count other : ℕ) (phase : Phase) → (phase ≡ phases.MessageIn → other ≡ count) → FailsBy l c p words count phase → FailsBy l c p words other phase
+count_as l c p words count other phases.MessageIn e h = subst (λ (x : ℕ). FailsBy l c p words x phases.MessageIn) (sym (e refl)) h
+count_as l c p words count other phases.MessageOut e h = h
+count_as l c p words count other phases.Command e h = h
+count_as l c p words count other phases.DataOut e h = h
+count_as l c p words count other phases.DataIn e h = h
+count_as l c p words count other phases.Status e h = h
+
+line_of : (b : LineSet) → IsLine b.io (phase_of b)
+line_of b = go b.msg b.cd b.io
+  where
+    go : (m d i : Bool) → IsLine i (if m then (if i then phases.MessageIn else phases.MessageOut) else if d then (if i then phases.Status else phases.Command) else if i then phases.DataIn else phases.DataOut)
+    go true d true = refl
+    go true d false = refl
+    go false true true = refl
+    go false true false = refl
+    go false false true = refl
+    go false false false = refl
+
+-- ---- lines change
+
+pub still_fail : (s : ScenarioValue) (k : RunState) (row : Row) (n : Connection) (c : Change) (l m : Link) (id : ProcId) → FailRow s k row n c l id → is_fault row.kind ≡ false → changes_phase c ≡ false → is_some (receiver_in n c) ≡ false → (run_state_after s k row).story.link ≡ Some m → (phase_of (bus_of k) ≡ phases.MessageIn → (run_state_after s k row).handshakes.requests ≡ k.handshakes.requests)
+    → FailTalk k l (carried_here k id) → FailTalk (run_state_after s k row) m (carried_here (run_state_after s k row) id)
+still_fail s k row n c l m id g ef ep en em asked h =
+    subst (λ (x : Link). FailTalk j x d) (same_Some l m (sym (link_still s k row n c l g.row_is en g.link_is) ∙ em))
+    (record {
+      unbegun = λ b. let w = h.unbegun (sym begun ∙ b) in (clear_as own d same w.0, w.1);
+      begun = λ b.
+          subst (λ (x : Exchange). FailsBy l d x.plan x.speech.words j.handshakes.requests (phase_of (bus_of j))) (sym i.exchange_is)
+          (subst (FailsBy l d k.exchange.plan k.exchange.speech.words j.handshakes.requests) (sym phase)
+          (count_as l d k.exchange.plan k.exchange.speech.words k.handshakes.requests j.handshakes.requests (phase_of (bus_of k)) asked
+          (fails_as l own d k.exchange.plan k.exchange.speech.words k.handshakes.requests (phase_of (bus_of k)) same answer (h.begun (sym begun ∙ b)))));
+    })
+  where
+    j : RunState
+    j = run_state_after s k row
+
+    own : CarriedBytes
+    own = carried_here k id
+
+    d : CarriedBytes
+    d = carried_here j id
+
+    i : InConnection s k row n c false false false
+    i = in_connection s k row n c false false false g.row_is ep en ef
+
+    begun : j.exchange.begun ≡ k.exchange.begun
+    begun = ap (λ (x : Exchange). x.begun) i.exchange_is
+
+    phase : phase_of (bus_of j) ≡ phase_of (bus_of k)
+    phase = ap phase_of i.bus_is ∙ same_phase_of c ep ∙ ap phase_of (sym g.row_is.bus_is)
+
+    same : SameFail own d
+    same = still_fails s k row n c l g.row_is en g.link_is ef id
+
+    answer : has_answer d ≡ has_answer own
+    answer = answers_stay s k row n c false l g.row_is en g.link_is g.undoes (λ z. wrong' (sym ep ∙ z)) id
+
+-- ---- a fault strikes
+
+message_struck : (c d : CarriedBytes) (phase : Phase) → is_message_phase phase ≡ true → SameFail c d → Struck c d phase
+message_struck c d phases.MessageOut e h = h
+message_struck c d phases.MessageIn e h = h
+message_struck c d phases.Command e h = wrong' e
+message_struck c d phases.DataOut e h = wrong' e
+message_struck c d phases.DataIn e h = wrong' e
+message_struck c d phases.Status e h = wrong' e
+
+pub struck_fail : (s : ScenarioValue) (k : RunState) (row : Row) (n : Connection) (c : Change) (l m : Link) (id : ProcId) → FailRow s k row n c l id → is_fault row.kind ≡ true → changes_phase c ≡ false → is_some (receiver_in n c) ≡ false → is_some k.story.bus_state.crossed ≡ true → CrossedHere k → (run_state_after s k row).story.link ≡ Some m → k.exchange.begun ≡ true → (phase_of (bus_of k) ≡ phases.MessageIn → (run_state_after s k row).handshakes.requests ≡ k.handshakes.requests)
+    → FailTalk k l (carried_here k id) → FailTalk (run_state_after s k row) m (carried_here (run_state_after s k row) id)
+struck_fail s k row n c l m id g ef ep en some here em bk asked h =
+    subst (λ (x : Link). FailTalk j x d) (same_Some l m (sym (link_still s k row n c l g.row_is en g.link_is) ∙ em))
+    (record {
+      unbegun = λ b. wrong (sym (begun ∙ bk) ∙ b);
+      begun = λ b.
+          subst (λ (x : Exchange). FailsBy l d x.plan x.speech.words j.handshakes.requests (phase_of (bus_of j))) (sym i.exchange_is)
+          (subst (FailsBy l d (plan_struck c.before.io k.exchange.plan) k.exchange.speech.words j.handshakes.requests) (sym phase)
+          (count_as l d (plan_struck c.before.io k.exchange.plan) k.exchange.speech.words k.handshakes.requests j.handshakes.requests (phase_of (bus_of k)) asked
+          (fails_struck l own d k.exchange.plan k.exchange.speech.words k.handshakes.requests c.before.io (phase_of (bus_of k)) (subst (λ (x : LineSet). IsLine x.io (phase_of (bus_of k))) g.row_is.bus_is (line_of (bus_of k))) (struck g.item_is) answer (h.begun bk))));
+    })
+  where
+    j : RunState
+    j = run_state_after s k row
+
+    own : CarriedBytes
+    own = carried_here k id
+
+    d : CarriedBytes
+    d = carried_here j id
+
+    i : InConnection s k row n c false false true
+    i = in_connection s k row n c false false true g.row_is ep en ef
+
+    begun : j.exchange.begun ≡ k.exchange.begun
+    begun = ap (λ (x : Exchange). x.begun) i.exchange_is
+
+    phase : phase_of (bus_of j) ≡ phase_of (bus_of k)
+    phase = ap phase_of i.bus_is ∙ same_phase_of c ep ∙ ap phase_of (sym g.row_is.bus_is)
+
+    answer : has_answer d ≡ has_answer own
+    answer = answers_stay s k row n c false l g.row_is en g.link_is g.undoes (λ z. wrong' (sym ep ∙ z)) id
+
+    unknown : l.item ≡ None → SameFail own d
+    unknown e = subst (λ (x : CarriedBytes). SameFail x d) (go row.kind) (row_carries s k row n c false l g.row_is en g.link_is id)
+      where
+        go : (kind : Kind) → carried_of (story_after_fault k.story l kind).carried id ≡ own
+        go (Drives lines) = refl
+        go (Fault bit) = λ z. carried_of (story_with_carried k.story (carried_after_fault_if (carried_if k.story (e z)) k.story.bus_state.crossed)).carried id
+
+    struck : (l.item ≡ Some (process id)) ⊎ ((l.item ≡ None) × (is_message_phase (phase_of (bus_of k)) ≡ true)) → Struck own d (phase_of (bus_of k))
+    struck (inl e) = fault_fails s k row n c l id g.row_is en g.link_is e ef some here
+    struck (inr e) = message_struck own d (phase_of (bus_of k)) e.1 (unknown e.0)

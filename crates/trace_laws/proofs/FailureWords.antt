@@ -1,0 +1,165 @@
+-- The code of the failure of the process that is served, as a byte of MESSAGE OUT crosses.
+use Rattle.std.proofs.Common.{inl, inr, ℕ, ◌≡◌, ◌⊎◌, Bool, true, false, not, ◌&&◌, ◌%◌, ◌∙◌, List, [], ◌∷◌, ◌++◌, Option, Some, None, refl, sym, ap, subst}
+use Rattle.std.specs.Prelude.{if◌then◌else◌, is_some}
+use Rattle.std.proofs.lemmas.Option.{same_Some}
+use Rattle.bus_base.specs.declared.ProcId.{ProcId}
+use Rattle.bus_trace.specs.LineSet.{LineSet}
+use Rattle.bus_trace.specs.declared.Row.{Row}
+use Rattle.bus_trace.specs.declared.changes.Change.{Change}
+use Rattle.bus_trace.specs.declared.connection.Connection.{Connection}
+use Rattle.bus_trace.specs.Phases.{changes_phase, is_message_out, is_message_in}
+use Rattle.bus_trace.specs.Terms.{is_fault, receiver_in}
+use Rattle.bus_phases.specs.declared.dialogue.Dialogue.{Dialogue}
+use Rattle.bus_phases.specs.Dialogue.{fresh_bytes}
+use Rattle.msg_grammar.specs.declared.message.MsgIn.{MsgIn}
+use Rattle.msg_grammar.specs.declared.message.MsgOut.{MsgOut}
+use Rattle.msg_grammar.specs.Messages.{got_in, got_out}
+use Rattle.scenario.specs.Value.{ScenarioValue}
+use Rattle.bus_story.specs.BusState.{whole_in, whole_out, message_in, message_out}
+use Rattle.bus_story.specs.CarriedBytes.{CarriedBytes, carried_of}
+use Rattle.bus_story.specs.Links.{Link, last_out}
+use Rattle.bus_story.specs.TraceHistory.{story_after_out, story_after_in, story_after_byte}
+use Rattle.bus_dialogue.specs.declared.exchange.Cause.{Cause}
+use Rattle.bus_dialogue.specs.declared.exchange.Cause.TheVariants as causes
+use Rattle.bus_dialogue.specs.declared.exchange.Next.{Next}
+use Rattle.bus_dialogue.specs.declared.exchange.Next.TheVariants as nexts
+use Rattle.bus_dialogue.specs.declared.exchange.Messages.{Messages}
+use Rattle.bus_dialogue.specs.declared.exchange.Phase.TheVariants as phases
+use Rattle.bus_dialogue.specs.declared.exchange.Plan.{Plan}
+use Rattle.bus_dialogue.specs.Exchange.{Exchange}
+use Rattle.bus_dialogue.specs.NextPhase.{phase_of}
+use Rattle.bus_dialogue.specs.Words.{parity_error}
+use Rattle.bus_due.specs.Defs.{host_of}
+use Rattle.bus_due.specs.RunState.{RunState, bus_of, carried_here}
+use Rattle.bus_due.specs.RunSteps.{run_state_after}
+use Rattle.bus_books.specs.Rows.{reading_in}
+use Rattle.bus_books.specs.Speaking.{AreWordsFor, opens, refuses, answers, rejects_data, rejects_status, Speaks}
+use Rattle.bus_books.specs.Traces.{GoesOn}
+use Rattle.bus_books.proofs.InConnection.{in_connection}
+use Rattle.trace_laws.specs.Failures.{ClearOut, RefusesFailure, SaysFailure, FailsBy, FailTalk}
+use Rattle.trace_laws.specs.Tells.{has_answer}
+use Rattle.trace_laws.proofs.CommandCounts.{is_refusal, answer_said}
+use Rattle.trace_laws.proofs.FailureBytes.{SameFail, clear_as, row_carries, out_fails, out_clear}
+use Rattle.trace_laws.proofs.FailureCrossings.{quiet_same, same_words}
+use Rattle.trace_laws.proofs.FailureRows.{SaysOf, says_on}
+use Rattle.trace_laws.proofs.FailureSteps.{FailRow}
+use Rattle.trace_laws.proofs.LastRows.{KeptPlan, Stays, stays_as}
+use Rattle.trace_laws.proofs.RowItems.{LinkAfter, says, hears, link_crossed}
+use Rattle.trace_laws.proofs.RowItems as rows
+use Rattle.trace_laws.proofs.UndoneAnswers.{out_phase, detects}
+use Rattle.trace_laws.proofs.UndoneLeavings.{is_detecting}
+use Rattle.trace_laws.proofs.UndoneRows.{answers_stay}
+
+wrong : {A : Type 0} → true ≡ false → A
+wrong e = absurd cc
+
+wrong' : {A : Type 0} → false ≡ true → A
+wrong' e = absurd cc
+
+no_in : {A : Type 0} (m : MsgIn) → (let o : Option MsgIn = None in o) ≡ Some m → A
+no_in m e = absurd cc
+
+-- ---- what is planned stays
+
+pub refuses_kept : (l : Link) (c : CarriedBytes) (p q : Plan) (words : List ℕ) (next : Next) → q.messages ≡ p.messages → RefusesFailure l c p words next → RefusesFailure l c q words next
+refuses_kept l c p q words nexts.Command e h = subst (λ (m : Messages). ClearOut l c m words) (sym e) h
+refuses_kept l c p q words nexts.GoOn e h = subst (λ (m : Messages). ClearOut l c m words) (sym e) h
+refuses_kept l c p q words nexts.Status e h = h
+refuses_kept l c p q words nexts.FreeBus e (inl h) = inl h
+refuses_kept l c p q words nexts.FreeBus e (inr h) = inr (subst (λ (m : Messages). ClearOut l c m words) (sym e) h)
+
+says_kept : (l : Link) (c : CarriedBytes) (p q : Plan) (words : List ℕ) (cause : Cause) → KeptPlan p q → SaysFailure l c p words cause → SaysFailure l c q words cause
+says_kept l c p q words causes.Selected k h = h
+says_kept l c p q words causes.InMessage k h = subst (RefusesFailure l c q words) (sym k.next) (refuses_kept l c p q words p.next k.messages h)
+says_kept l c p q words causes.InData k h = h
+says_kept l c p q words causes.InStatus k h = h
+
+in_none : (b : LineSet) → is_message_out b ≡ true → is_message_in b ≡ false
+in_none b e = go b.msg b.cd b.io e
+  where
+    go : (m d i : Bool) → (m && d && not i) ≡ true → (m && d && i) ≡ false
+    go true true true z = wrong' z
+    go true true false z = refl
+    go true false i z = wrong' z
+    go false d i z = wrong' z
+
+-- ---- a byte of MESSAGE OUT
+
+pub out_fail : (s : ScenarioValue) (k : RunState) (row : Row) (n : Connection) (c : Change) (l m : Link) (id : ProcId) → FailRow s k row n c l id → GoesOn s k row n c → Speaks s k n → changes_phase c ≡ false → is_some (receiver_in n c) ≡ true → is_message_out c.before ≡ true → (run_state_after s k row).story.link ≡ Some m → k.exchange.begun ≡ true
+    → FailTalk k l (carried_here k id) → FailTalk (run_state_after s k row) m (carried_here (run_state_after s k row) id)
+out_fail s k row n c l m id g of speaks ep en out em b h = record {
+  unbegun = λ u. wrong (sym (t.begun ∙ b) ∙ u);
+  begun = λ u.
+      subst (FailsBy m d j.exchange.plan j.exchange.speech.words j.handshakes.requests) (sym (t.phase ∙ here))
+      (subst (SaysFailure m d j.exchange.plan j.exchange.speech.words) (sym t.plan.cause)
+      (subst (λ (ws : List ℕ). SaysFailure m d j.exchange.plan ws k.exchange.plan.cause) (sym words)
+      (says_kept m d k.exchange.plan j.exchange.plan k.exchange.speech.words k.exchange.plan.cause t.plan
+      (says_on l m own d k.exchange.plan k.exchange.speech.words k.exchange.plan.cause said in_message in_data (subst (FailsBy l own k.exchange.plan k.exchange.speech.words k.handshakes.requests) here (h.begun b))))));
+}
+  where
+    j : RunState
+    j = run_state_after s k row
+
+    own : CarriedBytes
+    own = carried_here k id
+
+    d : CarriedBytes
+    d = carried_here j id
+
+    dialogue : Dialogue
+    dialogue = k.story.bus_state.dialogue
+
+    t : Stays s k row n c true
+    t = stays_as s k row n c true g.row_is ep en
+
+    here : phase_of (bus_of k) ≡ phases.MessageOut
+    here = ap phase_of g.row_is.bus_is ∙ out_phase c.before out
+
+    words : j.exchange.speech.words ≡ k.exchange.speech.words
+    words = ap (λ (x : Exchange). x.speech.words) (in_connection s k row n c false true (is_fault row.kind) g.row_is ep en refl).exchange_is ∙ same_words (is_message_out c.before) k.exchange.speech (message_in dialogue c true)
+
+    none : message_in dialogue c true ≡ None
+    none = ap (λ (q : Bool). if q then whole_in (got_in (dialogue.half ++ c.after.data_bits % 256 ∷ [])) else None) (in_none c.before out)
+
+    answer : has_answer d ≡ has_answer own
+    answer = answers_stay s k row n c true l g.row_is en g.link_is g.undoes (λ z. wrong' (sym ep ∙ z)) id
+
+    carries : (x : MsgOut) → message_out dialogue c true ≡ Some x → SameFail (carried_of (story_after_out k.story l (Some x)).carried id) d
+    carries x e =
+        subst (λ (z : CarriedBytes). SameFail z d)
+        (λ i. carried_of (if is_some (e i) then story_after_out k.story l (e i) else if is_some (message_in dialogue c true) then story_after_in s k.story l (message_in dialogue c true) else story_after_byte k.story l (reading_in k.story.bus_state n c true)).carried id)
+        (row_carries s k row n c true l g.row_is en g.link_is id)
+
+    -- Nothing is taken back.
+    kept : is_refusal (message_out dialogue c true) ≡ false → SameFail own d
+    kept e = go (message_out dialogue c true) refl
+      where
+        go : (o : Option MsgOut) → message_out dialogue c true ≡ o → SameFail own d
+        go None z = quiet_same s k row n c l id g en z none
+        go (Some x) z =
+            let v = carries x z in
+            let w = out_fails k.story l x id (sym (ap is_refusal z) ∙ e) in
+            record { failure = v.failure ∙ w.failure; struck = v.struck ∙ w.struck }
+
+    in_message : k.exchange.plan.cause ≡ causes.InMessage → (k.exchange.speech.words ≡ parity_error) ⊎ SameFail own d
+    in_message ec = go k.exchange.plan.cause ec (speaks.in_message_out b (ap is_message_out g.row_is.bus_is ∙ out)).words_for
+      where
+        go : (cause : Cause) → cause ≡ causes.InMessage → AreWordsFor s n k.served k.exchange cause → (k.exchange.speech.words ≡ parity_error) ⊎ SameFail own d
+        go _ e (opens w) = absurd cc
+        go _ e (refuses w) = inl w
+        go _ e (answers w) =
+            inr (kept ((λ i. is_refusal (if out i then whole_out (got_out (fresh_bytes dialogue ++ c.after.data_bits % 256 ∷ [])) else None))
+            ∙ answer_said k.exchange.speech k.exchange.plan dialogue (c.after.data_bits % 256) (host_of s n.initiator) k.exchange.speech.asked (speaks.in_message_out b (ap is_message_out g.row_is.bus_is ∙ out)).heard (of.says out en).0 w))
+        go _ e (rejects_data w) = absurd cc
+        go _ e (rejects_status w) = absurd cc
+
+    in_data : k.exchange.plan.cause ≡ causes.InData → SameFail own d
+    in_data ec = kept (detects s k n c speaks b g.row_is.bus_is out (of.says out en).0 (ap is_detecting ec))
+
+    said : SaysOf l m own d
+    said = by (link_crossed s k row n c l g.row_is en g.link_is)
+      where
+        by : LinkAfter s k.story l (message_out dialogue c true) (message_in dialogue c true) j.story.link → SaysOf l m own d
+        by (says x e z) = record { undo = ap (λ (y : Link). y.undo) (same_Some m (record l { last = last_out x l }) (sym em ∙ z)); clears = λ u f. clear_as _ d (carries x e) (out_clear k.story l x id u f); answer = answer }
+        by (rows.stays e f z) = record { undo = ap (λ (y : Link). y.undo) (same_Some m l (sym em ∙ z)); clears = λ u v. clear_as own d (quiet_same s k row n c l id g en e none) v; answer = answer }
+        by (hears x e f z) = no_in x (sym none ∙ f)

@@ -1,0 +1,122 @@
+-- What the target of a connection has been told in it, as a phase is left.
+use Rattle.std.proofs.Common.{◌≡◌, Bool, true, false, not, ◌&&◌, ◌%◌, ◌∙◌, [], ◌∷◌, ◌++◌, Some, refl, sym, ap, subst}
+use Rattle.std.specs.Prelude.{if◌then◌else◌}
+use Rattle.bus_trace.specs.LineSet.{LineSet}
+use Rattle.bus_trace.specs.Phases.{changes_phase, is_command, is_message_out}
+use Rattle.bus_dialogue.specs.declared.exchange.Cause.{Cause}
+use Rattle.bus_dialogue.specs.declared.exchange.Cause.TheVariants as causes
+use Rattle.bus_dialogue.specs.declared.exchange.Hearing.{Hearing}
+use Rattle.bus_dialogue.specs.declared.exchange.Next.{Next}
+use Rattle.bus_dialogue.specs.declared.exchange.Phase.{Phase}
+use Rattle.bus_dialogue.specs.declared.exchange.Phase.TheVariants as phases
+use Rattle.bus_dialogue.specs.declared.exchange.Plan.{Plan}
+use Rattle.bus_dialogue.specs.NextPhase.{phase_of}
+use Rattle.bus_dialogue.specs.Planning.{cause_after}
+use Rattle.scsi_device.specs.Heard.{Instructions, instructions_on, instructions_with, is_command_phase, is_opening_in, is_selected}
+use Rattle.trace_laws.specs.Instructed.{KnownFor, KnownIn, KnownNext}
+use Rattle.trace_laws.proofs.KnownLeavings.{FitsPhase, known_after}
+
+wrong : {A : Type 0} → true ≡ false → A
+wrong e = absurd cc
+
+wrong' : {A : Type 0} → false ≡ true → A
+wrong' e = absurd cc
+
+-- ---- the lines of a phase
+
+abbrev pub is_out_phase : Phase → Bool
+is_out_phase phases.MessageOut = true
+is_out_phase _ = false
+
+pub command_is : (b : LineSet) → is_command b ≡ is_command_phase (phase_of b)
+command_is b = go b.msg b.cd b.io
+  where
+    go : (m d i : Bool) → (not m && d && not i) ≡ is_command_phase (if m then (if i then phases.MessageIn else phases.MessageOut) else if d then (if i then phases.Status else phases.Command) else if i then phases.DataIn else phases.DataOut)
+    go true d true = refl
+    go true d false = refl
+    go false true true = refl
+    go false true false = refl
+    go false false true = refl
+    go false false false = refl
+
+pub out_is : (b : LineSet) → (b.msg ≡ true → b.cd ≡ true) → is_message_out b ≡ is_out_phase (phase_of b)
+out_is b known = go b.msg b.cd b.io known
+  where
+    go : (m d i : Bool) → (m ≡ true → d ≡ true) → (m && d && not i) ≡ is_out_phase (if m then (if i then phases.MessageIn else phases.MessageOut) else if d then (if i then phases.Status else phases.Command) else if i then phases.DataIn else phases.DataOut)
+    go true true true h = refl
+    go true true false h = refl
+    go true false i h = wrong' (h refl)
+    go false true true h = refl
+    go false true false h = refl
+    go false false true h = refl
+    go false false false h = refl
+
+-- ---- what it knows then
+
+known_is : (phase : Phase) (struck : Bool) → known_after false struck phase ≡ (is_command_phase phase && not struck)
+known_is phases.MessageOut struck = refl
+known_is phases.MessageIn struck = refl
+known_is phases.Command struck = refl
+known_is phases.DataIn struck = refl
+known_is phases.DataOut struck = refl
+known_is phases.Status struck = refl
+
+known_stays : (phase : Phase) (struck : Bool) → known_after true struck phase ≡ true
+known_stays phases.MessageOut struck = refl
+known_stays phases.MessageIn struck = refl
+known_stays phases.Command struck = refl
+known_stays phases.DataIn struck = refl
+known_stays phases.DataOut struck = refl
+known_stays phases.Status struck = refl
+
+pub told_before : (w : Hearing) (p : Plan) (i : Instructions) → i.known ≡ true → instructions_on w p i ≡ i
+told_before w p i e = λ j. if e j then i else instructions_with w p i
+
+pub known_turned : (w : Hearing) (p : Plan) (i : Instructions) (phase : Phase) → w.begun ≡ true → changes_phase w.change ≡ true → is_command w.change.before ≡ is_command_phase phase → (instructions_on w p i).known ≡ known_after i.known p.struck phase
+known_turned w p i phase b ep ec = go i.known refl
+  where
+    go : (q : Bool) → i.known ≡ q → (if q then i else instructions_with w p i).known ≡ known_after q p.struck phase
+    go true e = e ∙ sym (known_stays phase p.struck)
+    go false e = (λ j. b j && ep j && ec j && not p.struck) ∙ sym (known_is phase p.struck)
+
+opens_in : (phase : Phase) (cause : Cause) → is_opening_in phase cause ≡ (is_out_phase phase && is_selected cause)
+opens_in phases.MessageOut cause = refl
+opens_in phases.MessageIn cause = refl
+opens_in phases.Command cause = refl
+opens_in phases.DataIn cause = refl
+opens_in phases.DataOut cause = refl
+opens_in phases.Status cause = refl
+
+pub opening_turned : (w : Hearing) (p : Plan) (i : Instructions) (phase : Phase) → w.begun ≡ true → changes_phase w.change ≡ true → is_message_out w.change.before ≡ is_out_phase phase → i.known ≡ false → (instructions_on w p i).opening ≡ (if is_opening_in phase p.cause then Some p.said else i.opening)
+opening_turned w p i phase b ep eo e =
+    (λ j. (if e j then i else instructions_with w p i).opening)
+    ∙ (λ j. if b j && ep j && eo j && is_selected p.cause then Some p.said else i.opening)
+    ∙ ap (λ (q : Bool). if q then Some p.said else i.opening) (sym (opens_in phase p.cause))
+
+pub block_turned : (w : Hearing) (p : Plan) (i : Instructions) → changes_phase w.change ≡ true → i.known ≡ false → (instructions_on w p i).block ≡ (if is_command w.change.after then [] else i.block)
+block_turned w p i ep e =
+    (λ j. (if e j then i else instructions_with w p i).block)
+    ∙ (λ j. if ep j then (if is_command w.change.after then [] else i.block) else if w.crosses && is_command w.change.before then i.block ++ w.change.after.data_bits % 256 ∷ [] else i.block)
+
+-- ---- the phase that begins
+
+pub enters_known : (known : Bool) (next : Next) (q : Plan) (phase : Phase) → is_out_phase phase ≡ false → q.next ≡ next → FitsPhase known next (Some phase) → KnownIn known q phase
+enters_known known next q phases.MessageOut o en h = wrong o
+enters_known known next q phases.MessageIn o en h = subst (λ (x : Next). KnownNext known x) (sym en) h
+enters_known known next q phases.Command o en h = h
+enters_known known next q phases.DataIn o en h = h
+enters_known known next q phases.DataOut o en h = h
+enters_known known next q phases.Status o en h = tt
+
+pub refused_known : (b : LineSet) (known after : Bool) (p q : Plan) → (b.msg ≡ true → b.cd ≡ true) → q.next ≡ p.next → q.cause ≡ cause_after b → after ≡ known_after known p.struck (phase_of b) → KnownIn known p (phase_of b) → KnownFor after q.next q.cause
+refused_known b known after p q lines en ec ea h = subst (λ (c : Cause). KnownFor after q.next c) (sym ec) (go b.msg b.cd b.io lines ea h)
+  where
+    go : (m d i : Bool) → (m ≡ true → d ≡ true) → after ≡ known_after known p.struck (if m then (if i then phases.MessageIn else phases.MessageOut) else if d then (if i then phases.Status else phases.Command) else if i then phases.DataIn else phases.DataOut) → KnownIn known p (if m then (if i then phases.MessageIn else phases.MessageOut) else if d then (if i then phases.Status else phases.Command) else if i then phases.DataIn else phases.DataOut)
+        → KnownFor after q.next (if m && d && i then causes.InMessage else if d then causes.InStatus else causes.InData)
+    go true true true z e x = subst (λ (k : Bool). KnownNext k q.next) (sym e) (subst (λ (y : Next). KnownNext known y) (sym en) x)
+    go true true false z e x = tt
+    go true false i z e x = wrong' (z refl)
+    go false true true z e x = tt
+    go false true false z e x = tt
+    go false false true z e x = e ∙ x
+    go false false false z e x = e ∙ x

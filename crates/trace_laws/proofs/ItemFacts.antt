@@ -1,0 +1,231 @@
+-- What holds of the items after all rows of a prompt trace.
+use Rattle.std.proofs.Common.{inl, inr, ℕ, ◌≡◌, ◌<◌, Bool, true, false, not, ◌&&◌, ◌||◌, ◌∙◌, List, [], ◌∷◌, Option, Some, None, refl, sym, ap, subst}
+use Rattle.std.specs.Prelude.{if◌then◌else◌}
+use Rattle.std.proofs.lemmas.Bool.{cases_eq}
+use Rattle.std.proofs.lemmas.Option.{same_Some}
+use Rattle.bus_trace.specs.LineSet.{LineSet, union, none}
+use Rattle.bus_trace.proofs.Sets.{same_set-eq}
+use Rattle.bus_trace.proofs.Buses.{bus_off}
+use Rattle.bus_trace.proofs.OneRow.{drives-other}
+use Rattle.bus_trace.specs.declared.Row.{Row}
+use Rattle.bus_trace.specs.declared.connection.Connection.{Connection}
+use Rattle.bus_trace.specs.declared.selection.Call.{Call}
+use Rattle.bus_trace.specs.declared.selection.Calling.{Calling}
+use Rattle.bus_trace.specs.Changes.{change_of, rises, is_within, implies}
+use Rattle.bus_trace.specs.Phases.{is_message_in}
+use Rattle.bus_trace.specs.Terms.{arbitration, call, connection, connection_of, connected, connected_of, connected_by, connection_after}
+use Rattle.bus_trace.specs.Trace.{bus, drives, driven_after}
+use Rattle.bus_rules.specs.Reset.{only_rst}
+use Rattle.bus_rules.specs.Rules.{broken_rule}
+use Rattle.scenario.specs.Value.{ScenarioValue}
+use Rattle.disk_array.specs.Units.{starting_units}
+use Rattle.bus_dialogue.specs.declared.exchange.Phase.{Phase}
+use Rattle.bus_dialogue.specs.declared.exchange.Phase.TheVariants as phases
+use Rattle.bus_story.specs.BusState.{row_reading}
+use Rattle.bus_story.specs.Items.{Item, sense_item}
+use Rattle.bus_story.specs.Links.{Link, LastMessage, plain, complete, disconnect, abortive, is_open_sense}
+use Rattle.bus_story.specs.HistoryEvents.{is_complete}
+use Rattle.bus_due.specs.Plain.{AreOfDevices, IsPlain}
+use Rattle.bus_due.specs.RunState.{RunState, array_of}
+use Rattle.bus_due.specs.RunSteps.{run_state}
+use Rattle.bus_due.proofs.Plains.{run_state_plain}
+use Rattle.bus_books.specs.Traces.{Begins, RowOf, apart as row_apart, begins, goes_on, ends, under_reset}
+use Rattle.bus_books.proofs.Lists.{eq_self}
+use Rattle.bus_books.proofs.Reactions.{out_over}
+use Rattle.bus_laws.specs.Stages.{BusStage}
+use Rattle.bus_laws.proofs.Apart.{change_plain}
+use Rattle.link_laws.specs.LinkStages.{LinkStage, when_selected, when_settling, when_turning, when_offering, when_shaking, when_pulsing}
+use Rattle.trace_laws.proofs.Called.{IsCalled}
+use Rattle.trace_laws.proofs.ConnectionRows.{ConnectionRow}
+use Rattle.trace_laws.proofs.Crossings.{RowFacts, stays, ends_here}
+use Rattle.trace_laws.proofs.FirstRows.{made_is, quiet_sel, under_rst}
+use Rattle.trace_laws.proofs.UnderRst.{reset_rule, line_off, quiet_at_end}
+use Rattle.trace_laws.proofs.SentRows.{only_are}
+use Rattle.trace_laws.proofs.QueuedProcesses.{settled_units}
+use Rattle.trace_laws.proofs.TalkSteps.{plain_last}
+use Rattle.trace_laws.proofs.TalkTurns.{taken_leaves}
+use Rattle.trace_laws.proofs.InMoves.{in_move}
+use Rattle.trace_laws.proofs.ItemSteps.{start_queued}
+use Rattle.trace_laws.proofs.ItemRows.{open_over}
+use Rattle.trace_laws.proofs.Driven.{wrong, wrong'}
+use Rattle.trace_laws.specs.ItemFacts.{IsAimed, AimsFit, UnitsP, IsQueued, ItemFacts}
+use Rattle.trace_laws.specs.ItemTalks.{is_sense_item, awaits, is_plain, talk_of, TalksBy, last_well}
+
+none_some : {A : Type 0} (n : Connection) → (let a : Option Connection = None in a) ≡ Some n → A
+none_some n e = absurd cc
+
+no_call : {A : Type 0} (c : Call) → (let a : Option Call = None in a) ≡ Some c → A
+no_call c e = absurd cc
+
+no_phase : {A : Type 0} (x : Phase) → Some x ≡ None → A
+no_phase x e = absurd cc
+
+-- ---- the start
+
+pub items_start : (s : ScenarioValue) → ItemFacts s []
+items_start s = record {
+  items = record {
+    apart = λ e. (refl, refl);
+    only = only_are s [];
+    clash = λ n m c d at ad own on om z. wrong' on;
+    checked = λ n e. wrong' e;
+    checks = λ n e. wrong' e;
+    queued = start;
+    served = λ i e. absurd cc;
+    senses = λ n e. wrong' e;
+    progress = λ id e. refl;
+    talks = λ n e rst. none_some n e;
+  };
+  aims = λ e rst. record { contends = λ dev a lt f on host. absurd cc; calls = λ c f host. no_call c f };
+}
+  where
+    start : UnitsP (IsQueued s (run_state s []).story.sent) (array_of s (run_state s [])).units
+    start = settled_units (IsQueued s (run_state s []).story.sent) [] (starting_units s s.units) (start_queued (IsQueued s (run_state s []).story.sent) s s.units)
+
+-- ---- a selection is made for what is next
+
+pub aimed_next : (s : ScenarioValue) (p : List Row) (row : Row) (n : Connection) → connection p ≡ None → connection (row ∷ p) ≡ Some n → n.reselected ≡ false → IsCalled s p → AimsFit s p → IsAimed s (run_state s p) n.initiator
+aimed_next s p row n alone e selects was h = by_call (call p) refl (made_is p row n alone e).made
+  where
+    by_calling : (k : Call) → call p ≡ Some k → (o : Option Calling) → k.calling ≡ o → connected_of k.caller o row.time ≡ Some n → IsAimed s (run_state s p) n.initiator
+    by_calling k ek None f z = none_some n z
+    by_calling k ek (Some x) f z = by_answer x.answered z
+      where
+        by_answer : (a : Option ℕ) → connected_by k.caller x a row.time ≡ Some n → IsAimed s (run_state s p) n.initiator
+        by_answer None y = none_some n y
+        by_answer (Some t) y =
+            let same : connected k.caller x row.time ≡ n = same_Some (connected k.caller x row.time) n y in
+            let re : x.reselects ≡ false = ap (λ (w : Connection). w.reselected) same ∙ selects in
+            let caller : n.initiator ≡ k.caller = ap (λ (w : Connection). w.initiator) (sym same) ∙ ap (λ (q : Bool). if q then x.called else k.caller) re in
+            subst (λ (d : ℕ). IsAimed s (run_state s p) d) (sym caller) (h.calls k ek ((was k x ek f).host_is ∙ ap not re))
+
+    by_call : (o : Option Call) → call p ≡ o → connection_of o row.time ≡ Some n → IsAimed s (run_state s p) n.initiator
+    by_call None f z = none_some n z
+    by_call (Some k) f z = by_calling k f k.calling refl z
+
+-- ---- the kinds of rows
+
+pub beginning : (s : ScenarioValue) (k : RunState) (row : Row) (n : Connection) → k.story.bus_state.connection ≡ None → (row_reading k.story.bus_state row).next ≡ Some n → (row_reading k.story.bus_state row).change.after.rst ≡ false → RowOf s k row → Begins s k row n
+beginning s k row n con next calm (row_apart e f) = none_some n (sym f ∙ next)
+beginning s k row n con next calm (begins m b) = subst (λ (x : Connection). Begins s k row x) (same_Some m n (sym b.first.next_is ∙ next)) b
+beginning s k row n con next calm (goes_on m c g) = none_some m (sym con ∙ g.row_is.connection_is)
+beginning s k row n con next calm (ends m g) = none_some m (sym con ∙ g.connection_is)
+beginning s k row n con next calm (under_reset r e) = wrong (sym r ∙ calm)
+
+pub record LinkedStands (p : List Row) : Type 0 where
+  pub arbitration_is : arbitration p ≡ None
+  pub call_is : call p ≡ None
+  pub bsy : (bus p).bsy ≡ true
+
+pub link_stands : (s : ScenarioValue) (p : List Row) (n : Connection) → LinkStage s p n → LinkedStands p
+link_stands s p n (when_selected h) = record { arbitration_is = h.linked.stands.arbitration_is; call_is = h.linked.stands.call_is; bsy = ap (λ (l : LineSet). l.bsy) h.linked.stands.bus_is }
+link_stands s p n (when_settling bsy atn msg cd io y h) = record { arbitration_is = h.linked.stands.arbitration_is; call_is = h.linked.stands.call_is; bsy = ap (λ (l : LineSet). l.bsy) h.linked.stands.bus_is }
+link_stands s p n (when_turning atn x msg cd h) = record { arbitration_is = h.linked.stands.arbitration_is; call_is = h.linked.stands.call_is; bsy = ap (λ (l : LineSet). l.bsy) h.linked.stands.bus_is }
+link_stands s p n (when_offering atn msg cd y h) = record { arbitration_is = h.linked.stands.arbitration_is; call_is = h.linked.stands.call_is; bsy = ap (λ (l : LineSet). l.bsy) h.linked.stands.bus_is }
+link_stands s p n (when_shaking msg cd io req ack atn x y h) = record { arbitration_is = h.linked.stands.arbitration_is; call_is = h.linked.stands.call_is; bsy = ap (λ (l : LineSet). l.bsy) h.linked.stands.bus_is }
+link_stands s p n (when_pulsing io req ack atn x y h a) = record { arbitration_is = h.linked.stands.arbitration_is; call_is = h.linked.stands.call_is; bsy = ap (λ (l : LineSet). l.bsy) h.linked.stands.bus_is }
+
+-- ---- RST rises, and falls
+
+own_next : (p : List Row) (row : Row) → drives (row ∷ p) row.dev ≡ driven_after row.kind (drives p row.dev)
+own_next p row = ap (λ (q : Bool). if q then driven_after row.kind (drives p row.dev) else drives p row.dev) (eq_self row.dev)
+
+pub rst_raised : (p : List Row) (row : Row) → row.dev < 8 → (bus p).rst ≡ false → (bus (row ∷ p)).rst ≡ true → rises (drives p row.dev).rst (driven_after row.kind (drives p row.dev)).rst ≡ true
+rst_raised p row lt off on = go (driven_after row.kind (drives p row.dev)).rst refl
+  where
+    was : (d : ℕ) → d < 8 → (drives p d).rst ≡ false
+    was d l = line_off (λ x. x.rst) (λ _ _. refl) p off d l
+
+    go : (q : Bool) → (driven_after row.kind (drives p row.dev)).rst ≡ q → rises (drives p row.dev).rst (driven_after row.kind (drives p row.dev)).rst ≡ true
+    go true e = λ i. not (was row.dev lt i) && e i
+    go false e =
+        wrong (sym on ∙ bus_off (λ x. x.rst) (λ _ _. refl) refl (row ∷ p) (λ d l. elim (cases_eq d row.dev) [
+          | inl same ↦ ap (λ (n : ℕ). (drives (row ∷ p) n).rst) same ∙ ap (λ (x : LineSet). x.rst) (own_next p row) ∙ e
+          | inr ne ↦ ap (λ (x : LineSet). x.rst) (drives-other row p d ne) ∙ was d l
+        ]))
+
+-- No line but RST was true before the row with which it falls, which raises none.
+pub record FallsQuiet (p : List Row) (row : Row) : Type 0 where
+  pub sel : (bus p).sel ≡ false
+  pub no_bsy : (d : ℕ) → d < 8 → (drives (row ∷ p) d).bsy ≡ false
+  pub no_sel : (bus (row ∷ p)).sel ≡ false
+
+or_true : (q : Bool) → (q || true) ≡ true
+or_true true = refl
+or_true false = refl
+
+off_in : (on : LineSet → Bool) → ((a b : LineSet) → on (union a b) ≡ (on a || on b)) → on only_rst ≡ false → (l m : LineSet) → is_within l (union only_rst m) ≡ true → on m ≡ false → on l ≡ false
+off_in on both zero l m e off = go (on l) refl
+  where
+    go : (q : Bool) → on l ≡ q → on l ≡ false
+    go false z = z
+    go true z = wrong (sym (ap on (sym (same_set-eq (union (union only_rst m) l) (union only_rst m) e)) ∙ both (union only_rst m) l ∙ (λ i. on (union only_rst m) || z i) ∙ or_true (on (union only_rst m))) ∙ both only_rst m ∙ (λ i. zero i || off i))
+
+pub falls_quiet : (s : ScenarioValue) (p : List Row) (row : Row) → row.dev < 8 → broken_rule p row ≡ None → BusStage s p → (bus p).rst ≡ true → (bus (row ∷ p)).rst ≡ false → FallsQuiet p row
+falls_quiet s p row lt obeys h on off = record { sel = sel; no_bsy = λ d l. line (λ x. x.bsy) (λ _ _. refl) refl refl (ap (λ (x : LineSet). x.bsy) all) d l; no_sel = bus_off (λ x. x.sel) (λ _ _. refl) refl (row ∷ p) (λ d l. line (λ x. x.sel) (λ _ _. refl) refl refl sel d l) }
+  where
+    all : union only_rst (bus p) ≡ only_rst
+    all = same_set-eq (union only_rst (bus p)) only_rst (quiet_at_end s p row lt obeys (under_rst s p h on) off)
+
+    sel : (bus p).sel ≡ false
+    sel = quiet_sel (bus p) all
+
+    within : is_within (driven_after row.kind (drives p row.dev)) (union only_rst (drives p row.dev)) ≡ true
+    within = sym (λ i. implies (on i || rises (drives p row.dev).rst (driven_after row.kind (drives p row.dev)).rst) (is_within (driven_after row.kind (drives p row.dev)) (union only_rst (drives p row.dev)))) ∙ (reset_rule p row obeys).alone
+
+    line : (f : LineSet → Bool) → ((a b : LineSet) → f (union a b) ≡ (f a || f b)) → f none ≡ false → f only_rst ≡ false → f (bus p) ≡ false → (d : ℕ) → d < 8 → f (drives (row ∷ p) d) ≡ false
+    line f both zero rst e d l = elim (cases_eq d row.dev) [
+      | inl same ↦ ap (λ (n : ℕ). f (drives (row ∷ p) n)) same ∙ ap f (own_next p row) ∙ off_in f both rst (driven_after row.kind (drives p row.dev)) (drives p row.dev) within (line_off f both p e row.dev lt)
+      | inr ne ↦ ap f (drives-other row p d ne) ∙ line_off f both p e d l
+    ]
+
+-- ---- the connection ends
+
+plain_is : (x : LastMessage) → is_plain x ≡ true → x ≡ plain
+plain_is plain e = refl
+plain_is complete e = wrong' e
+plain_is disconnect e = wrong' e
+plain_is abortive e = wrong' e
+
+or_first : (a b : Bool) → (a || b) ≡ true → b ≡ false → a ≡ true
+or_first true b e f = refl
+or_first false b e f = wrong (sym e ∙ f)
+
+-- An automatic REQUEST SENSE that is open then has no other last message than one that tells nothing.
+pub ends_plain : (s : ScenarioValue) (p : List Row) (row : Row) (m : Connection) → AreOfDevices p → row.dev < 8 → connection p ≡ Some m → connection (row ∷ p) ≡ None → ConnectionRow s p row m → (l : Link) → TalksBy s (talk_of (run_state s p)) m l → (n : ℕ) → (run_state s p).served ≡ Some (sense_item n) → is_open_sense (run_state s p).story.sent n ≡ true → l.last ≡ plain
+ends_plain s p row m dv lt con gone r l t n sv opens = plain_is l.last (or_first (is_plain l.last) (is_complete l.last) (plain_last true l (sym (ap (λ (x : Option Item). last_well (is_sense_item x) l) sv) ∙ t.last) refl).1 incomplete)
+  where
+    k : RunState
+    k = run_state s p
+
+    pl : IsPlain s p k
+    pl = run_state_plain s p dv
+
+    selected : m.reselected ≡ false
+    selected = t.selected (ap is_sense_item sv)
+
+    stays_on : {A : Type 0} → (bus (row ∷ p)).bsy ≡ true → A
+    stays_on e = none_some m (sym gone ∙ (λ i. connection_after (con i) (call p) (change_of p row) row) ∙ ap (λ (q : Bool). if q then Some m else None) e)
+
+    by_facts : {A : Type 0} → RowFacts s p row m → is_complete l.last ≡ true → A
+    by_facts (stays g) z = none_some m (sym ((λ i. connection_after (pl.connection i) (pl.call i) (change_plain s row p dv lt i) row) ∙ gone) ∙ (λ i. connection_after (g.row_is.connection_is i) k.story.bus_state.call (g.row_is.change_is i) row) ∙ ap (λ (q : Bool). if q then Some m else None) g.row_is.stands)
+    by_facts (ends_here f) z = elim (t.completes z) [
+      | inl x ↦ elim (t.closes selected z x.here (record { command = n; sense = true }) sv) [
+        | inl y ↦ open_over k.story.sent n opens y
+        | inr y ↦ elim y [
+          | inl a ↦ no_phase phases.MessageOut (sym (taken_leaves s k m.target x ∙ ap (λ (q : Bool). if q then Some phases.MessageOut else None) a) ∙ f.whereto)
+          | inr a ↦ elim (in_move s p row m (ap is_message_in (sym pl.bus) ∙ x.here) r.link).stands [
+            | inl b ↦ wrong (sym a ∙ ap awaits pl.bus ∙ (λ i. b i && not (bus p).ack))
+            | inr b ↦ stays_on b
+          ]
+        ]
+      ]
+      | inr x ↦ wrong (sym (out_over s k m x.0 f.over) ∙ x.1)
+    ]
+
+    incomplete : is_complete l.last ≡ false
+    incomplete = go (is_complete l.last) refl
+      where
+        go : (q : Bool) → is_complete l.last ≡ q → is_complete l.last ≡ false
+        go true z = by_facts r.facts z
+        go false z = z

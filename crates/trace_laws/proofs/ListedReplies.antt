@@ -1,0 +1,230 @@
+-- The plain disk array lists the reply of a process with the event that shows it, and keeps it.
+use Rattle.std.proofs.Common.{ℕ, ◌≡◌, Bool, true, false, List, [], ◌∷◌, ◌++◌, ◌∙◌, refl, sym, ap, subst, Option, Some, None}
+use Rattle.std.specs.Prelude.{if◌then◌else◌, not, ◌&&◌, ◌||◌, ◌==◌, is_some, is_none, nat_lt}
+use Rattle.bus_base.specs.declared.AbortKind.{AbortKind}
+use Rattle.bus_base.specs.declared.AbortKind.TheVariants as aborts
+use Rattle.bus_base.specs.declared.Event.{Event}
+use Rattle.bus_base.specs.declared.Event.TheVariants as events
+use Rattle.bus_base.specs.declared.ProcId.{ProcId}
+use Rattle.cdb_codec.specs.declared.sense.TheConstants.{ABORTED_COMMAND}
+use Rattle.cdb_codec.specs.declared.status.TheConstants.{GOOD, CHECK_CONDITION}
+use Rattle.cdb_codec.specs.Cdb.{command_of}
+use Rattle.scenario.specs.declared.value.HostDef.{HostDef}
+use Rattle.scenario.specs.Value.{ScenarioValue}
+use Rattle.disk_array.specs.ArrayHistory.{reply_in}
+use Rattle.disk_array.specs.Execution.{Reply, Execution, execution, is_request_sense, queue_full, check_condition, sense_of, commands_cleared}
+use Rattle.disk_array.specs.Processes.{Process, process_of, same_id}
+use Rattle.disk_array.specs.Units.{RunningProcess, UnitState, Array, unit_state_at, with_unit, guest_at, is_held, nexus_of, senses_without, nexuses_without, settled_array, sense_of_nexus}
+use Rattle.disk_array.specs.Steps
+use Rattle.disk_array.specs.Steps.{step, settled_array_if, is_of_unit, running_if, running_process}
+use Rattle.bus_books.proofs.CarriedRows.{process_id}
+use Rattle.bus_books.proofs.Lookups.{id_is}
+
+-- ---- what it lists after an event
+
+took : (d c : Array) (rs : List (ProcId × Reply)) → Some d ≡ Some c → d.replies ≡ rs → c.replies ≡ rs
+took d c rs e f = let same : d ≡ c = cc in (λ i. (sym same i).replies) ∙ f
+
+accept_lists : (a c : Array) (p : Process) (x : Option UnitState) → Steps.accept_step_at a p x ≡ Some c → c.replies ≡ a.replies
+accept_lists a c p None e = took (Steps.with_guest a p None) c a.replies e refl
+accept_lists a c p (Some u) e = either (is_request_sense (command_of p.cdb)) e
+  where
+    queue : (y : Bool) → (if y then Some (record a { units = with_unit a.units (record u { waiting = u.waiting ++ p ∷ [] }) }) else None) ≡ Some c → c.replies ≡ a.replies
+    queue false k = cc
+    queue true k = took (record a { units = with_unit a.units (record u { waiting = u.waiting ++ p ∷ [] }) }) c a.replies k refl
+
+    either : (y : Bool) → (if y then Some (Steps.with_guest a p None) else Steps.queue_step a p u) ≡ Some c → c.replies ≡ a.replies
+    either true k = took (Steps.with_guest a p None) c a.replies k refl
+    either false k = queue (nat_lt (Steps.process_count u) u.depth) k
+
+refuse_lists : (a c : Array) (p : Process) (x : Option UnitState) → Steps.refuse_step_at a p x ≡ Some c → c.replies ≡ (p.id, queue_full) ∷ a.replies
+refuse_lists a c p None e = cc
+refuse_lists a c p (Some u) e = either (not (is_request_sense (command_of p.cdb)) && Steps.process_count u == u.depth) e
+  where
+    either : (y : Bool) → (if y then Some (Steps.with_listed_reply (Steps.with_guest a p (Some queue_full)) p.id queue_full) else None) ≡ Some c → c.replies ≡ (p.id, queue_full) ∷ a.replies
+    either false k = cc
+    either true k = took (Steps.with_listed_reply (Steps.with_guest a p (Some queue_full)) p.id queue_full) c ((p.id, queue_full) ∷ a.replies) k refl
+
+executed_lists : (a : Array) (p : Process) (u : Option UnitState) (done : Execution) → (Steps.after_execution a p u done).replies ≡ (p.id, done.reply) ∷ a.replies
+executed_lists a p u done = λ i. (p.id, done.reply) ∷ go u done.reported i
+  where
+    go : (x : Option UnitState) (r : Bool) → (Steps.with_contents (Steps.without_attention a r (nexus_of p)) x done.contents).replies ≡ a.replies
+    go None true = refl
+    go None false = refl
+    go (Some u) true = refl
+    go (Some u) false = refl
+
+record ListsOne (id : ProcId) (before after : List (ProcId × Reply)) : Type 0 where
+  reply : Reply
+  lists : after ≡ (id, reply) ∷ before
+
+run_lists : (a c : Array) (guest : Bool) (r : RunningProcess) → Steps.run_step a guest (Some r) ≡ Some c → ListsOne r.process.id a.replies c.replies
+run_lists a c guest r e = go (is_none r.reply && (guest || not (is_held a.holds r.process.target r.process.unit))) e
+  where
+    done : Execution
+    done = execution (Steps.context_at a (nexus_of r.process) (unit_state_at a.units r.process.target r.process.unit)) r.process.cdb r.process.sent
+
+    next : Array
+    next = Steps.after_execution a r.process (unit_state_at a.units r.process.target r.process.unit) done
+
+    go : (y : Bool) → (if y then Some next else None) ≡ Some c → ListsOne r.process.id a.replies c.replies
+    go false k = cc
+    go true k = record { reply = done.reply; lists = took next c ((r.process.id, done.reply) ∷ a.replies) k (executed_lists a r.process (unit_state_at a.units r.process.target r.process.unit) done) }
+
+fail_lists : (s : ScenarioValue) (a c : Array) (id : ProcId) (reply : Reply) (x : Option RunningProcess) → Steps.fail_step s a id reply x ≡ Some c → c.replies ≡ (id, reply) ∷ a.replies
+fail_lists s a c id reply (Some r) e = given (is_none r.reply) e
+  where
+    given : (y : Bool) → (if y then Some (Steps.with_reply a id reply) else None) ≡ Some c → c.replies ≡ (id, reply) ∷ a.replies
+    given false k = cc
+    given true k = took (Steps.with_reply a id reply) c ((id, reply) ∷ a.replies) k refl
+fail_lists s a c id reply None e = new (process_of s id) e
+  where
+    fresh : (p : Process) (y : Bool) → (if y then None else Some (Steps.with_listed_reply (Steps.with_guest a p (Some reply)) id reply)) ≡ Some c → c.replies ≡ (id, reply) ∷ a.replies
+    fresh p true k = cc
+    fresh p false k = took (Steps.with_listed_reply (Steps.with_guest a p (Some reply)) id reply) c ((id, reply) ∷ a.replies) k refl
+
+    new : (o : Option Process) → Steps.fail_step_of_new a id reply o ≡ Some c → c.replies ≡ (id, reply) ∷ a.replies
+    new None k = cc
+    new (Some p) k = fresh p (Steps.is_waiting a.units id || Steps.has_ended a id) k
+
+end_lists : (a c : Array) (status : ℕ) (x : Option RunningProcess) → Steps.end_step a status x ≡ Some c → c.replies ≡ a.replies
+end_lists a c status None e = cc
+end_lists a c status (Some r) e = given r.reply e
+  where
+    kept : (reply : Reply) (y z : Bool) → (if y then record a { senses = (nexus_of r.process, reply.sense) ∷ senses_without a.senses (nexus_of r.process); holds = nexus_of r.process ∷ nexuses_without a.holds (nexus_of r.process) } else if z then record a { senses = senses_without a.senses (nexus_of r.process); holds = nexuses_without a.holds (nexus_of r.process) } else a).replies ≡ a.replies
+    kept reply true z = refl
+    kept reply false true = refl
+    kept reply false false = refl
+
+    ended : (reply : Reply) (y : Bool) → (if y then Some (Steps.array_without (Steps.after_status a r.process reply) r.process.id) else None) ≡ Some c → c.replies ≡ a.replies
+    ended reply false k = cc
+    ended reply true k = took (Steps.array_without (Steps.after_status a r.process reply) r.process.id) c a.replies k (kept reply (reply.status == CHECK_CONDITION) (reply.status == GOOD && is_request_sense (command_of r.process.cdb)))
+
+    given : (o : Option Reply) → Steps.end_step_with a r.process status o ≡ Some c → c.replies ≡ a.replies
+    given None k = cc
+    given (Some reply) k = ended reply (reply.status == status) k
+
+loss_lists : (a c : Array) (id : ProcId) → Steps.loss_step a id ≡ Some c → c.replies ≡ a.replies
+loss_lists a c id e = go (Steps.has_ended a id) e
+  where
+    go : (y : Bool) → (if y then None else Some (Steps.array_without a id)) ≡ Some c → c.replies ≡ a.replies
+    go true k = cc
+    go false k = took (Steps.array_without a id) c a.replies k refl
+
+hosts_list : (hosts : List HostDef) (t n : ℕ) (a : Array) → (Steps.reset_attentions hosts t n a).replies ≡ a.replies
+hosts_list [] t n a = refl
+hosts_list (h ∷ hosts) t n a = hosts_list hosts t n (Steps.reset_attention a (record { initiator = h.dev; target = t; unit = n }))
+
+units_list : (hosts : List HostDef) (units : List UnitState) (is_one : UnitState → Bool) (a : Array) → (Steps.unit_reset_attentions hosts units is_one a).replies ≡ a.replies
+units_list hosts [] is_one a = refl
+units_list hosts (u ∷ units) is_one a = units_list hosts units is_one (if is_one u then Steps.reset_attentions hosts u.target u.unit a else a) ∙ go (is_one u)
+  where
+    go : (y : Bool) → (if y then Steps.reset_attentions hosts u.target u.unit a else a).replies ≡ a.replies
+    go true = hosts_list hosts u.target u.unit a
+    go false = refl
+
+cleared_list : (by : ℕ) (lost : List Process) (a : Array) → (Steps.cleared_attentions by lost a).replies ≡ a.replies
+cleared_list by [] a = refl
+cleared_list by (q ∷ lost) a = cleared_list by lost (if q.initiator == by then a else Steps.cleared_attention a (nexus_of q)) ∙ go (q.initiator == by) (Steps.is_reset_pending (sense_of_nexus a.attentions (nexus_of q)))
+  where
+    told : (z : Bool) → (if z then a else record a { attentions = (nexus_of q, commands_cleared) ∷ senses_without a.attentions (nexus_of q) }).replies ≡ a.replies
+    told true = refl
+    told false = refl
+
+    go : (y z : Bool) → (if y then a else Steps.cleared_attention a (nexus_of q)).replies ≡ a.replies
+    go true z = refl
+    go false z = told (Steps.is_reset_pending (sense_of_nexus a.attentions (nexus_of q)))
+
+abort_lists : (s : ScenarioValue) (a : Array) (i t n : ℕ) (what : AbortKind) → (Steps.abort_step s a i t n what).replies ≡ a.replies
+abort_lists s a i t n aborts.All = refl
+abort_lists s a i t n (aborts.Tag tag) = refl
+abort_lists s a i t n aborts.WholeQueue = cleared_list i (Steps.unit_processes (unit_state_at a.units t n)) (Steps.without_dropped a (λ p. is_of_unit p t n))
+abort_lists s a i t n aborts.Device =
+    units_list s.hosts a.units (λ u. u.target == t) (record (Steps.without_dropped a (λ p. p.target == t)) { senses = Steps.kept_senses (λ q. q.target == t) a.senses; holds = Steps.kept_nexuses (λ q. q.target == t) a.holds })
+
+reset_lists : (s : ScenarioValue) (a : Array) → (Steps.reset_step s a).replies ≡ a.replies
+reset_lists s a = units_list s.hosts a.units (λ u. true) (record (Steps.without_dropped a (λ p. true)) { senses = []; holds = [] })
+
+-- ---- the process that runs is of its number
+
+guest_id : (guests : List RunningProcess) (id : ProcId) (r : RunningProcess) → guest_at guests id ≡ Some r → r.process.id ≡ id
+guest_id [] id r e = cc
+guest_id (g ∷ guests) id r e = go (λ k. guest_id guests id r k) (same_id g.process.id id) refl e
+  where
+    go : (guest_at guests id ≡ Some r → r.process.id ≡ id) → (x : Bool) → same_id g.process.id id ≡ x → (if x then Some g else guest_at guests id) ≡ Some r → r.process.id ≡ id
+    go later true z k = let same : g ≡ r = cc in ap (λ (y : RunningProcess). y.process.id) (sym same) ∙ id_is g.process.id id z
+    go later false z k = later k
+
+current_id : (units : List UnitState) (id : ProcId) (r : RunningProcess) → Steps.running_in units id ≡ Some r → r.process.id ≡ id
+current_id [] id r e = cc
+current_id (u ∷ units) id r e = go (λ k. current_id units id r k) u.current e
+  where
+    inner : (Steps.running_in units id ≡ Some r → r.process.id ≡ id) → (q : RunningProcess) → (x : Bool) → same_id q.process.id id ≡ x → (if is_some (if x then Some q else None) then (if x then Some q else None) else Steps.running_in units id) ≡ Some r → r.process.id ≡ id
+    inner later q true z k = let same : q ≡ r = cc in ap (λ (y : RunningProcess). y.process.id) (sym same) ∙ id_is q.process.id id z
+    inner later q false z k = later k
+
+    go : (Steps.running_in units id ≡ Some r → r.process.id ≡ id) → (x : Option RunningProcess) → (if is_some (running_if x id) then running_if x id else Steps.running_in units id) ≡ Some r → r.process.id ≡ id
+    go later None k = later k
+    go later (Some q) k = inner later q (same_id q.process.id id) refl k
+
+running_id : (a : Array) (id : ProcId) (r : RunningProcess) → running_process a id ≡ Some r → r.process.id ≡ id
+running_id a id r e = go (guest_at a.guests id) refl e
+  where
+    go : (x : Option RunningProcess) → guest_at a.guests id ≡ x → (if is_some x then x else Steps.running_in a.units id) ≡ Some r → r.process.id ≡ id
+    go None z k = current_id a.units id r k
+    go (Some g) z k = guest_id a.guests id r (z ∙ k)
+
+-- ---- which process has a reply after it
+
+-- With these events a reply is shown.
+abbrev pub replies_to : Event → ProcId → Bool
+replies_to (events.Refuse p) id = same_id p id
+replies_to (events.Run p) id = same_id p id
+replies_to (events.Fail p code) id = same_id p id
+replies_to _ id = false
+
+abbrev Lists : Event → Array → Array → Type 0
+Lists e a b = (id : ProcId) → is_some (reply_in b.replies id) ≡ (replies_to e id || is_some (reply_in a.replies id))
+
+same_list : (a b : Array) → b.replies ≡ a.replies → (id : ProcId) → is_some (reply_in b.replies id) ≡ is_some (reply_in a.replies id)
+same_list a b e id = ap (λ (x : List (ProcId × Reply)). is_some (reply_in x id)) e
+
+one_more : (a b : Array) (p : ProcId) (reply : Reply) → b.replies ≡ (p, reply) ∷ a.replies → (id : ProcId) → is_some (reply_in b.replies id) ≡ (same_id p id || is_some (reply_in a.replies id))
+one_more a b p reply e id = ap (λ (x : List (ProcId × Reply)). is_some (reply_in x id)) e ∙ go (same_id p id)
+  where
+    go : (q : Bool) → is_some (if q then Some reply else reply_in a.replies id) ≡ (q || is_some (reply_in a.replies id))
+    go true = refl
+    go false = refl
+
+-- The step of an event, before the choices that follow it.
+settles : (x : Option Array) (b : Array) (q : Array → Type 0) → ((c : Array) → x ≡ Some c → q (settled_array c)) → settled_array_if x ≡ Some b → q b
+settles None b q f e = cc
+settles (Some c) b q f e = let same : settled_array c ≡ b = cc in subst q same (f c refl)
+
+accepted : (a c : Array) (o : Option Process) → Steps.accept_step a o ≡ Some c → c.replies ≡ a.replies
+accepted a c None e = cc
+accepted a c (Some p) e = accept_lists a c p (unit_state_at a.units p.target p.unit) e
+
+refused : (s : ScenarioValue) (a c : Array) (id : ProcId) (o : Option Process) → process_of s id ≡ o → Steps.refuse_step a o ≡ Some c → c.replies ≡ (id, queue_full) ∷ a.replies
+refused s a c id None f e = cc
+refused s a c id (Some p) f e = refuse_lists a c p (unit_state_at a.units p.target p.unit) e ∙ (λ i. (process_id s id p f i, queue_full) ∷ a.replies)
+
+ran : (a c : Array) (guest : Bool) (id : ProcId) (o : Option RunningProcess) → running_process a id ≡ o → Steps.run_step a guest o ≡ Some c → ListsOne id a.replies c.replies
+ran a c guest id None f e = cc
+ran a c guest id (Some r) f e = subst (λ (x : ProcId). ListsOne x a.replies c.replies) (running_id a id r f) (run_lists a c guest r e)
+
+pub listed_on : (s : ScenarioValue) (a b : Array) (e : Event) → step s e a ≡ Some b → (id : ProcId) → is_some (reply_in b.replies id) ≡ (replies_to e id || is_some (reply_in a.replies id))
+listed_on s a b (events.Accept p) st = settles (Steps.accept_step a (process_of s p)) b (λ (x : Array). Lists (events.Accept p) a x) (λ c k. same_list a c (accepted a c (process_of s p) k)) st
+listed_on s a b (events.Refuse p) st = settles (Steps.refuse_step a (process_of s p)) b (λ (x : Array). Lists (events.Refuse p) a x) (λ c k. one_more a c p queue_full (refused s a c p (process_of s p) refl k)) st
+listed_on s a b (events.Run p) st =
+    settles (Steps.run_step a (is_some (guest_at a.guests p)) (running_process a p)) b (λ (x : Array). Lists (events.Run p) a x)
+    (λ c k. let w = ran a c (is_some (guest_at a.guests p)) p (running_process a p) refl k in one_more a c p w.reply w.lists) st
+listed_on s a b (events.Fail p code) st =
+    settles (Steps.fail_step s a p (check_condition (sense_of ABORTED_COMMAND code 0x00)) (running_process a p)) b (λ (x : Array). Lists (events.Fail p code) a x)
+    (λ c k. one_more a c p (check_condition (sense_of ABORTED_COMMAND code 0x00)) (fail_lists s a c p (check_condition (sense_of ABORTED_COMMAND code 0x00)) (running_process a p) k)) st
+listed_on s a b (events.End p status) st = settles (Steps.end_step a status (running_process a p)) b (λ (x : Array). Lists (events.End p status) a x) (λ c k. same_list a c (end_lists a c status (running_process a p) k)) st
+listed_on s a b (events.Lost p) st = settles (Steps.loss_step a p) b (λ (x : Array). Lists (events.Lost p) a x) (λ c k. same_list a c (loss_lists a c p k)) st
+listed_on s a b (events.Aborted i t n what) st =
+    settles (Some (Steps.abort_step s a i t n what)) b (λ (x : Array). Lists (events.Aborted i t n what) a x) (λ c k. same_list a c (took (Steps.abort_step s a i t n what) c a.replies k (abort_lists s a i t n what))) st
+listed_on s a b (events.Reset dev) st =
+    settles (Some (Steps.reset_step s a)) b (λ (x : Array). Lists (events.Reset dev) a x) (λ c k. same_list a c (took (Steps.reset_step s a) c a.replies k (reset_lists s a))) st

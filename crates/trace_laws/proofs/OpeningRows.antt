@@ -1,0 +1,174 @@
+-- In the opening after a selection nothing is shown while the connection stands; and the connection of a process does not end there
+-- (6.1.3, 6.6).
+use Rattle.std.proofs.Common.{ℕ, ◌≡◌, Bool, true, false, not, ◌&&◌, ◌||◌, ◌∙◌, List, [], ◌∷◌, Option, Some, None, refl, sym, ap}
+use Rattle.std.specs.Prelude.{if◌then◌else◌, is_some, is_none}
+use Rattle.std.proofs.lemmas.Bool.{and_parts}
+use Rattle.bus_base.specs.declared.AbortKind.{AbortKind}
+use Rattle.bus_base.specs.declared.ProcId.{ProcId}
+use Rattle.bus_trace.specs.LineSet.{LineSet}
+use Rattle.bus_trace.specs.declared.Row.{Row}
+use Rattle.bus_trace.specs.declared.agreements.Agreement.{Agreement}
+use Rattle.bus_trace.specs.declared.changes.Change.{Change}
+use Rattle.bus_trace.specs.declared.connection.Connection.{Connection}
+use Rattle.bus_trace.specs.Phases.{is_command, is_message_in, is_message_out}
+use Rattle.bus_trace.specs.Trace.{bus}
+use Rattle.msg_grammar.specs.declared.message.MsgIn.{MsgIn}
+use Rattle.scenario.specs.declared.value.TargetDef.{TargetDef}
+use Rattle.scenario.specs.Value.{ScenarioValue}
+use Rattle.disk_array.specs.Processes.{Process, process_of}
+use Rattle.bus_story.specs.CarriedBytes.{CarriedBytes, is_status_phase, is_whole_block}
+use Rattle.bus_story.specs.HistoryEvents.{carried_if, end_events, is_complete, is_completion, is_refuse, phase_events, queue_event, queue_events, status_event}
+use Rattle.bus_story.specs.Items.{Item, process, abort}
+use Rattle.bus_story.specs.Story.{Story}
+use Rattle.bus_dialogue.specs.declared.exchange.Cause.{Cause}
+use Rattle.bus_dialogue.specs.declared.exchange.Cause.TheVariants as causes
+use Rattle.bus_dialogue.specs.declared.exchange.Leaving.{Leaving}
+use Rattle.bus_dialogue.specs.declared.exchange.Phase.{Phase}
+use Rattle.bus_dialogue.specs.declared.exchange.Phase.TheVariants as phases
+use Rattle.bus_dialogue.specs.declared.exchange.Said.{Said}
+use Rattle.bus_dialogue.specs.Events.{is_status_next}
+use Rattle.bus_dialogue.specs.Hearing.{begun}
+use Rattle.bus_dialogue.specs.NextPhase.{Serving, after_offer, bus_free, leaving_by, message_out_leaving, phase_leaving, phase_of, request_or_command}
+use Rattle.bus_dialogue.specs.Words.{request_by}
+use Rattle.bus_due.specs.Faithful.{is_item_named, is_opening_named, is_process_named, is_unit, same_tag}
+use Rattle.bus_due.specs.RunState.{RunState, bus_of, process_item, process_served}
+use Rattle.bus_due.specs.Sights.{leaving, serving_of}
+use Rattle.scsi_device.specs.Heard.{is_opening, is_opening_in}
+use Rattle.scsi_device.specs.Lines.{AreUnits}
+use Rattle.bus_books.specs.Reactions.{IsOver}
+use Rattle.bus_books.specs.Speaking.{Speaks}
+use Rattle.bus_books.proofs.Opened.{opening_named}
+use Rattle.bus_books.proofs.Reactions.{out_over}
+use Rattle.link_laws.specs.LinkStages.{LinkStage, when_selected, when_settling, when_turning, when_offering, when_shaking, when_pulsing}
+use Rattle.trace_laws.proofs.CommandNext.{out_unstruck}
+use Rattle.trace_laws.proofs.CommandTurns.{out_lines}
+
+wrong : {A : Type 0} → true ≡ false → A
+wrong e = absurd cc
+
+wrong' : {A : Type 0} → false ≡ true → A
+wrong' e = absurd cc
+
+-- ---- a phase that is left without an event
+
+pub no_events : (s : ScenarioValue) (b : Story) (o : Option CarriedBytes) (c : Change) → is_command c.before ≡ false → is_status_phase c.after ≡ false → phase_events s b o c ≡ []
+no_events s b None c e f = refl
+no_events s b (Some own) c e f =
+    (λ i. Rattle.bus_story.specs.HistoryEvents.status_events (Some own) c.after (if e i && is_whole_block own then queue_event s b.history own.id ∷ [] else []))
+    ∙ (λ i. if f i && not own.shown && not own.refused && true then status_event own.id own.failure ∷ [] else [])
+
+pub unbegun_lines : (s : ScenarioValue) (p : List Row) (n : Connection) → LinkStage s p n → begun p ≡ false → is_command (bus p) ≡ false
+unbegun_lines s p n (when_selected h) b = ap is_command h.linked.stands.bus_is
+unbegun_lines s p n (when_settling bsy atn msg cd io y h) b = wrong (sym h.phase.begun_is ∙ b)
+unbegun_lines s p n (when_turning atn x msg cd h) b = wrong (sym h.phase.begun_is ∙ b)
+unbegun_lines s p n (when_offering atn msg cd y h) b = wrong (sym h.phase.begun_is ∙ b)
+unbegun_lines s p n (when_shaking msg cd io req ack atn x y h) b = wrong (sym h.phase.begun_is ∙ b)
+unbegun_lines s p n (when_pulsing io req ack atn x y h a) b = wrong (sym h.phase.begun_is ∙ b)
+
+pub out_no_status : (b : LineSet) → is_message_out b ≡ true → is_status_phase b ≡ false
+out_no_status b e = go b.msg b.cd b.io e
+  where
+    go : (m d i : Bool) → (m && d && not i) ≡ true → (not m && d && i) ≡ false
+    go true d i z = refl
+    go false d i z = wrong' z
+
+pub out_no_command : (b : LineSet) → is_message_out b ≡ true → (is_command b ≡ false) × (is_message_in b ≡ false)
+out_no_command b e = go b.msg b.cd b.io e
+  where
+    go : (m d i : Bool) → (m && d && not i) ≡ true → ((not m && d && not i) ≡ false) × ((m && d && i) ≡ false)
+    go true true true z = wrong' z
+    go true true false z = (refl, refl)
+    go true false i z = wrong' z
+    go false d i z = wrong' z
+
+pub status_is : (b : LineSet) → is_status_phase b ≡ is_status_next (Some (phase_of b))
+status_is b = go b.msg b.cd b.io
+  where
+    go : (m d i : Bool) → (not m && d && i) ≡ is_status_next (Some (if m then (if i then phases.MessageIn else phases.MessageOut) else if d then (if i then phases.Status else phases.Command) else if i then phases.DataIn else phases.DataOut))
+    go true d true = refl
+    go true d false = refl
+    go false true true = refl
+    go false true false = refl
+    go false false true = refl
+    go false false false = refl
+
+-- ---- where the opening leads
+
+requested : (m : Option MsgIn) → (is_status_next (request_or_command m).to ≡ false) × (is_some (request_or_command m).to ≡ true)
+requested None = (refl, refl)
+requested (Some m) = (refl, refl)
+
+offered : (def : Option TargetDef) (negotiates : Bool) (offer : Option Agreement) → (is_status_next (after_offer def negotiates offer).to ≡ false) × (is_some (after_offer def negotiates offer).to ≡ true)
+offered def negotiates (Some offer) = (refl, refl)
+offered def true None = requested (request_by def)
+offered def false None = (refl, refl)
+
+-- Not to STATUS; and to BUS FREE only where an abort was heard.
+pub opening_leads : (v : Serving) → is_status_next (message_out_leaving v causes.Selected).to ≡ false
+opening_leads v = go (is_some v.plan.said.aborts)
+  where
+    go : (q : Bool) → is_status_next (if q then bus_free else after_offer v.def v.plan.negotiates v.plan.said.offer).to ≡ false
+    go true = refl
+    go false = (offered v.def v.plan.negotiates v.plan.said.offer).0
+
+opening_goes_on : (v : Serving) → is_some v.plan.said.aborts ≡ false → is_some (message_out_leaving v causes.Selected).to ≡ true
+opening_goes_on v e = ap (λ (q : Bool). is_some (if q then bus_free else after_offer v.def v.plan.negotiates v.plan.said.offer).to) e ∙ (offered v.def v.plan.negotiates v.plan.said.offer).1
+
+-- ---- the opening
+
+pub opens_at : (phase : Phase) (cause : Cause) → is_opening_in phase cause ≡ true → (phase ≡ phases.MessageOut) × (cause ≡ causes.Selected)
+opens_at phases.MessageOut causes.Selected e = (refl, refl)
+opens_at phases.MessageOut causes.InMessage e = wrong' e
+opens_at phases.MessageOut causes.InData e = wrong' e
+opens_at phases.MessageOut causes.InStatus e = wrong' e
+opens_at phases.MessageIn cause e = wrong' e
+opens_at phases.Command cause e = wrong' e
+opens_at phases.DataIn cause e = wrong' e
+opens_at phases.DataOut cause e = wrong' e
+opens_at phases.Status cause e = wrong' e
+
+pub opening_begun : (k : RunState) → is_opening k ≡ true → k.exchange.begun ≡ true → (phase_of (bus_of k) ≡ phases.MessageOut) × (k.exchange.plan.cause ≡ causes.Selected)
+opening_begun k e b = opens_at (phase_of (bus_of k)) k.exchange.plan.cause (sym (λ i. not (b i) || is_opening_in (phase_of (bus_of k)) k.exchange.plan.cause) ∙ e)
+
+pub opening_leaving : (s : ScenarioValue) (k : RunState) (dev : ℕ) → is_opening k ≡ true → k.exchange.begun ≡ true → leaving s k dev ≡ message_out_leaving (serving_of s k dev) causes.Selected
+opening_leaving s k dev e b =
+    let at = opening_begun k e b in
+    ap (λ (q : Bool). leaving_by (serving_of s k dev) q (bus_of k)) b ∙ ap (λ (x : Phase). phase_leaving (serving_of s k dev) (bus_of k).atn x) at.0 ∙ ap (λ (x : Cause). message_out_leaving (serving_of s k dev) x) at.1
+
+-- ---- the connection of a process does not end there
+
+second : (a b : Bool) → a ≡ false → (a || b) ≡ true → b ≡ true
+second true b e z = wrong e
+second false b e z = z
+
+no_abort : (a : Option AbortKind) → is_none a ≡ true → is_some a ≡ false
+no_abort None e = refl
+no_abort (Some x) e = wrong' e
+
+named_process : (said : Said) (p : Process) → is_process_named said (Some p) ≡ true → is_some said.aborts ≡ false
+named_process said p e = no_abort said.aborts (and_parts (is_none said.aborts) (is_unit said.unit p.unit) (and_parts (is_none said.aborts && is_unit said.unit p.unit) (same_tag said.tag p.tag) e).0).0
+
+pub alone : (s : ScenarioValue) (k : RunState) (n : Connection) → AreUnits s → Speaks s k n → k.exchange.begun ≡ true → ((bus_of k).msg ≡ true → (bus_of k).cd ≡ true) → IsOver s k n → is_opening k ≡ true → (leaving s k n.target).to ≡ None → process_served s k ≡ None
+alone s k n u speaks b known over opens to = go k.served refl
+  where
+    at : (phase_of (bus_of k) ≡ phases.MessageOut) × (k.exchange.plan.cause ≡ causes.Selected)
+    at = opening_begun k opens b
+
+    out : is_message_out (bus_of k) ≡ true
+    out = out_lines (bus_of k) at.0 known
+
+    named : is_item_named s k.exchange.plan.said k.served ≡ true
+    named =
+        second k.exchange.plan.struck (is_item_named s k.exchange.plan.said k.served) (out_unstruck s k n at.0 over)
+        (sym (ap (is_opening_named s k.exchange.plan k.served) at.1) ∙ opening_named s k n u speaks b out (out_over s k n out over))
+
+    by : (id : ProcId) → k.served ≡ Some (process id) → (o : Option Process) → process_of s id ≡ o → process_served s k ≡ None
+    by id e None f = ap (process_item s) e ∙ f
+    by id e (Some p) f =
+        let none = named_process k.exchange.plan.said p (ap (is_process_named k.exchange.plan.said) (sym f) ∙ ap (is_item_named s k.exchange.plan.said) (sym e) ∙ named) in
+        wrong (sym (opening_goes_on (serving_of s k n.target) none) ∙ ap (λ (l : Leaving). is_some l.to) (sym (opening_leaving s k n.target opens b)) ∙ ap (λ (o : Option Phase). is_some o) to)
+
+    go : (o : Option Item) → k.served ≡ o → process_served s k ≡ None
+    go None e = ap (process_item s) e
+    go (Some (abort m)) e = ap (process_item s) e
+    go (Some (process id)) e = by id e (process_of s id) refl

@@ -1,0 +1,370 @@
+-- What holds of the processes in the queues of the plain disk array holds after an event, of those that it leaves there.
+use Rattle.std.proofs.Common.{ℕ, zero, suc, ◌≡◌, Bool, true, false, not, ◌&&◌, ◌||◌, ◌==◌, ◌∙◌, List, [], ◌∷◌, ◌++◌, Option, Some, None, refl, sym, ap, subst}
+use Rattle.std.specs.Prelude.{if◌then◌else◌, is_some, is_none, nat_lt, ⊤}
+use Rattle.std.proofs.lemmas.Option.{same_Some}
+use Rattle.bus_base.specs.declared.ProcId.{ProcId}
+use Rattle.bus_base.specs.declared.AbortKind.{AbortKind}
+use Rattle.bus_base.specs.declared.AbortKind.TheVariants as aborts
+use Rattle.bus_base.specs.declared.Event.{Event}
+use Rattle.bus_base.specs.declared.Event.TheVariants as events
+use Rattle.cdb_codec.specs.declared.sense.TheConstants.{ABORTED_COMMAND}
+use Rattle.cdb_codec.specs.declared.status.TheConstants.{GOOD, CHECK_CONDITION}
+use Rattle.cdb_codec.specs.Cdb.{command_of}
+use Rattle.scenario.specs.declared.value.HostDef.{HostDef}
+use Rattle.scenario.specs.Value.{ScenarioValue}
+use Rattle.disk_array.specs.Processes.{Process, process_of, same_id}
+use Rattle.disk_array.specs.Execution.{Reply, Execution, execution, is_request_sense, commands_cleared, check_condition, queue_full, sense_of}
+use Rattle.disk_array.specs.Order.{without_process, choice, chosen_place, entries_of, process_at, process_at_if}
+use Rattle.disk_array.specs.Units.{RunningProcess, UnitState, Nexus, Array, is_held, unit_state_at, with_unit, guest_at, nexus_of, has_no_current, with_current, unit_after_choice, units_after_choice, settled_array, senses_without, nexuses_without, sense_of_nexus}
+use Rattle.disk_array.specs.Steps as Steps
+use Rattle.disk_array.specs.Steps.{is_of_unit, has_tag}
+use Rattle.bus_books.proofs.Lookups.{id_is}
+use Rattle.trace_laws.specs.ItemFacts.{AllP, RunsP, UnitsP}
+
+-- ---- the processes that wait, and the current ones
+
+abbrev And : (Process → Type 0) → (Process → Bool) → Process → Type 0
+And q stays p = q p × (stays p ≡ true)
+
+map_all : (q r : Process → Type 0) → ((p : Process) → q p → r p) → (waiting : List Process) → AllP q waiting → AllP r waiting
+map_all q r f [] h = tt
+map_all q r f (p ∷ waiting) h = (f p h.0, map_all q r f waiting h.1)
+
+map_runs : (q r : Process → Type 0) → ((p : Process) → q p → r p) → (x : Option RunningProcess) → RunsP q x → RunsP r x
+map_runs q r f None h = tt
+map_runs q r f (Some x) h = f x.process h
+
+pub map_units : (q r : Process → Type 0) → ((p : Process) → q p → r p) → (units : List UnitState) → UnitsP q units → UnitsP r units
+map_units q r f [] h = tt
+map_units q r f (u ∷ units) h = ((map_all q r f u.waiting h.0.0, map_runs q r f u.current h.0.1), map_units q r f units h.1)
+
+-- ---- lists
+
+append_all : (q : Process → Type 0) (waiting : List Process) (p : Process) → AllP q waiting → q p → AllP q (waiting ++ p ∷ [])
+append_all q [] p h g = (g, tt)
+append_all q (w ∷ waiting) p h g = (h.0, append_all q waiting p h.1 g)
+
+not_by : (q : Bool) → q ≡ false → not q ≡ true
+not_by q e = ap not e
+
+without_all : (q : Process → Type 0) (waiting : List Process) (id : ProcId) → AllP q waiting → AllP (And q (λ p. not (same_id p.id id))) (without_process waiting id)
+without_all q [] id h = tt
+without_all q (p ∷ waiting) id h = go (same_id p.id id) refl (without_all q waiting id h.1)
+  where
+    go : (x : Bool) → same_id p.id id ≡ x → AllP (And q (λ w. not (same_id w.id id))) (without_process waiting id) → AllP (And q (λ w. not (same_id w.id id))) (if x then without_process waiting id else p ∷ without_process waiting id)
+    go true e k = k
+    go false e k = ((h.0, not_by (same_id p.id id) e), k)
+
+kept_all : (q : Process → Type 0) (drops : Process → Bool) (waiting : List Process) → AllP q waiting → AllP (And q (λ p. not (drops p))) (Steps.kept_processes drops waiting)
+kept_all q drops [] h = tt
+kept_all q drops (p ∷ waiting) h = go (drops p) refl (kept_all q drops waiting h.1)
+  where
+    go : (x : Bool) → drops p ≡ x → AllP (And q (λ w. not (drops w))) (Steps.kept_processes drops waiting) → AllP (And q (λ w. not (drops w))) (if x then Steps.kept_processes drops waiting else p ∷ Steps.kept_processes drops waiting)
+    go true e k = k
+    go false e k = ((h.0, not_by (drops p) e), k)
+
+no_process : (p : Process) → (let a : Option Process = None in a) ≡ Some p → ⊥
+no_process p e = absurd cc
+
+at_all : (q : Process → Type 0) (waiting : List Process) (place : ℕ) (p : Process) → AllP q waiting → process_at waiting place ≡ Some p → q p
+at_all q [] place p h e = absurd (no_process p e)
+at_all q (w ∷ waiting) zero p h e = subst q (same_Some w p e) h.0
+at_all q (w ∷ waiting) (suc place) p h e = at_all q waiting place p h.1 e
+
+choice_all : (q : Process → Type 0) (u : UnitState) (p : Process) → AllP q u.waiting → choice u.pick u.waiting ≡ Some p → q p
+choice_all q u p h e = go (chosen_place u.pick (entries_of u.waiting)) e
+  where
+    go : (x : Option ℕ) → process_at_if u.waiting x ≡ Some p → q p
+    go None k = absurd (no_process p k)
+    go (Some place) k = at_all q u.waiting place p h k
+
+with_units : (q : Process → Type 0) (units : List UnitState) (new : UnitState) → UnitsP q units → AllP q new.waiting × RunsP q new.current → UnitsP q (with_unit units new)
+with_units q [] new h g = tt
+with_units q (u ∷ units) new h g = go (u.target == new.target && u.unit == new.unit) (with_units q units new h.1 g)
+  where
+    go : (x : Bool) → UnitsP q (with_unit units new) → UnitsP q (if x then new ∷ units else u ∷ with_unit units new)
+    go true k = (g, h.1)
+    go false k = (h.0, k)
+
+no_unit : (u : UnitState) → (let a : Option UnitState = None in a) ≡ Some u → ⊥
+no_unit u e = absurd cc
+
+pub unit_at : (q : Process → Type 0) (units : List UnitState) (t n : ℕ) (u : UnitState) → unit_state_at units t n ≡ Some u → UnitsP q units → AllP q u.waiting × RunsP q u.current
+unit_at q [] t n u e h = absurd (no_unit u e)
+unit_at q (v ∷ units) t n u e h = go (v.target == t && v.unit == n) e (λ k. unit_at q units t n u k h.1)
+  where
+    go : (x : Bool) → (if x then Some v else unit_state_at units t n) ≡ Some u → (unit_state_at units t n ≡ Some u → AllP q u.waiting × RunsP q u.current) → AllP q u.waiting × RunsP q u.current
+    go true k rest = subst (λ (w : UnitState). AllP q w.waiting × RunsP q w.current) (same_Some v u k) h.0
+    go false k rest = rest k
+
+-- ---- the choice
+
+fst_all : (q : Process → Type 0) (stays : Process → Bool) (waiting : List Process) → AllP (And q stays) waiting → AllP q waiting
+fst_all q stays waiting h = map_all (And q stays) q (λ p x. x.0) waiting h
+
+chosen : (q : Process → Type 0) (holds : List Nexus) (u : UnitState) → AllP q u.waiting × RunsP q u.current → AllP q (unit_after_choice holds u).waiting × RunsP q (unit_after_choice holds u).current
+chosen q holds u h = go (has_no_current u.current && not (is_held holds u.target u.unit)) (choice u.pick u.waiting) refl
+  where
+    go : (x : Bool) (p : Option Process) → choice u.pick u.waiting ≡ p → AllP q (if x then with_current u p else u).waiting × RunsP q (if x then with_current u p else u).current
+    go true None z = h
+    go true (Some p) z = (fst_all q (λ w. not (same_id w.id p.id)) (without_process u.waiting p.id) (without_all q u.waiting p.id h.0), choice_all q u p h.0 z)
+    go false p z = h
+
+pub settled_units : (q : Process → Type 0) (holds : List Nexus) (units : List UnitState) → UnitsP q units → UnitsP q (units_after_choice holds units)
+settled_units q holds [] h = tt
+settled_units q holds (u ∷ units) h = (chosen q holds u h.0, settled_units q holds units h.1)
+
+-- ---- replies, ends and aborts
+
+replied_units : (q : Process → Type 0) (units : List UnitState) (id : ProcId) (reply : Reply) → UnitsP q units → UnitsP q (Steps.units_with_reply units id reply)
+replied_units q [] id reply h = tt
+replied_units q (u ∷ units) id reply h = ((h.0.0, go u.current h.0.1), replied_units q units id reply h.1)
+  where
+    inner : (r : RunningProcess) → q r.process → (x : Bool) → RunsP q (if x then Some (record r { reply = Some reply }) else Some r)
+    inner r k true = k
+    inner r k false = k
+
+    go : (x : Option RunningProcess) → RunsP q x → RunsP q (Steps.current_with_reply x id reply)
+    go None k = tt
+    go (Some r) k = inner r k (same_id r.process.id id)
+
+left_units : (q : Process → Type 0) (units : List UnitState) (id : ProcId) → UnitsP q units → UnitsP (And q (λ p. not (same_id p.id id))) (Steps.units_without units id)
+left_units q [] id h = tt
+left_units q (u ∷ units) id h = ((without_all q u.waiting id h.0.0, go u.current h.0.1), left_units q units id h.1)
+  where
+    inner : (r : RunningProcess) → q r.process → (x : Bool) → same_id r.process.id id ≡ x → RunsP (And q (λ p. not (same_id p.id id))) (if is_some {T = RunningProcess} (if x then Some r else None) then None else Some r)
+    inner r k true e = tt
+    inner r k false e = (k, not_by (same_id r.process.id id) e)
+
+    go : (x : Option RunningProcess) → RunsP q x → RunsP (And q (λ p. not (same_id p.id id))) (if is_some (Steps.running_if x id) then None else x)
+    go None k = tt
+    go (Some r) k = inner r k (same_id r.process.id id) refl
+
+dropped_units : (q : Process → Type 0) (drops : Process → Bool) (units : List UnitState) → UnitsP q units → UnitsP (And q (λ p. not (drops p))) (Steps.kept_units drops units)
+dropped_units q drops [] h = tt
+dropped_units q drops (u ∷ units) h = ((kept_all q drops u.waiting h.0.0, go u.current h.0.1), dropped_units q drops units h.1)
+  where
+    inner : (r : RunningProcess) → q r.process → (x : Bool) → drops r.process ≡ x → RunsP (And q (λ p. not (drops p))) (if x then None else Some r)
+    inner r k true e = tt
+    inner r k false e = (k, not_by (drops r.process) e)
+
+    go : (x : Option RunningProcess) → RunsP q x → RunsP (And q (λ p. not (drops p))) (Steps.kept_running drops x)
+    go None k = tt
+    go (Some r) k = inner r k (drops r.process) refl
+
+-- ---- what leaves the units as they are
+
+hosts_same : (hosts : List HostDef) (t n : ℕ) (a : Array) → (Steps.reset_attentions hosts t n a).units ≡ a.units
+hosts_same [] t n a = refl
+hosts_same (h ∷ hosts) t n a = hosts_same hosts t n (Steps.reset_attention a (record { initiator = h.dev; target = t; unit = n }))
+
+attended_same : (hosts : List HostDef) (units : List UnitState) (is_one : UnitState → Bool) (a : Array) → (Steps.unit_reset_attentions hosts units is_one a).units ≡ a.units
+attended_same hosts [] is_one a = refl
+attended_same hosts (u ∷ units) is_one a = attended_same hosts units is_one (if is_one u then Steps.reset_attentions hosts u.target u.unit a else a) ∙ go (is_one u)
+  where
+    go : (x : Bool) → (if x then Steps.reset_attentions hosts u.target u.unit a else a).units ≡ a.units
+    go true = hosts_same hosts u.target u.unit a
+    go false = refl
+
+cleared_same : (initiator : ℕ) (lost : List Process) (a : Array) → (Steps.cleared_attentions initiator lost a).units ≡ a.units
+cleared_same initiator [] a = refl
+cleared_same initiator (p ∷ lost) a = cleared_same initiator lost (if p.initiator == initiator then a else Steps.cleared_attention a (nexus_of p)) ∙ go (p.initiator == initiator) (Steps.is_reset_pending (sense_of_nexus a.attentions (nexus_of p)))
+  where
+    go : (x y : Bool) → (if x then a else (if y then a else record a { attentions = (nexus_of p, commands_cleared) ∷ senses_without a.attentions (nexus_of p) })).units ≡ a.units
+    go true y = refl
+    go false true = refl
+    go false false = refl
+
+-- ---- an event
+
+-- Which processes it drops.
+abbrev pub is_dropped : ℕ → ℕ → ℕ → AbortKind → Process → Bool
+is_dropped i t n aborts.All p = p.initiator == i && is_of_unit p t n
+is_dropped i t n (aborts.Tag tag) p = p.initiator == i && is_of_unit p t n && has_tag p.tag tag
+is_dropped i t n aborts.WholeQueue p = is_of_unit p t n
+is_dropped i t n aborts.Device p = p.target == t
+
+abbrev pub stays_queued : Event → Process → Bool
+stays_queued (events.Accept id) p = true
+stays_queued (events.Refuse id) p = true
+stays_queued (events.Run id) p = true
+stays_queued (events.Fail id code) p = true
+stays_queued (events.End id status) p = not (same_id p.id id)
+stays_queued (events.Lost id) p = not (same_id p.id id)
+stays_queued (events.Aborted i t n what) p = not (is_dropped i t n what p)
+stays_queued (events.Reset dev) p = false
+
+abbrev IfArray : (Process → Type 0) → Option Array → Type 0
+IfArray q None = ⊤
+IfArray q (Some a) = UnitsP q a.units
+
+aborted_units : (s : ScenarioValue) (q : Process → Type 0) (a : Array) (i t n : ℕ) (what : AbortKind) → UnitsP q a.units → UnitsP (And q (λ p. not (is_dropped i t n what p))) (Steps.abort_step s a i t n what).units
+aborted_units s q a i t n aborts.All h = dropped_units q (λ p. p.initiator == i && is_of_unit p t n) a.units h
+aborted_units s q a i t n (aborts.Tag tag) h = dropped_units q (λ p. p.initiator == i && is_of_unit p t n && has_tag p.tag tag) a.units h
+aborted_units s q a i t n aborts.WholeQueue h =
+    subst (λ (us : List UnitState). UnitsP (And q (λ p. not (is_of_unit p t n))) us) (sym (cleared_same i (Steps.unit_processes (unit_state_at a.units t n)) (Steps.without_dropped a (λ p. is_of_unit p t n))))
+    (dropped_units q (λ p. is_of_unit p t n) a.units h)
+aborted_units s q a i t n aborts.Device h =
+    subst (λ (us : List UnitState). UnitsP (And q (λ p. not (p.target == t))) us)
+    (sym (attended_same s.hosts a.units (λ u. u.target == t) (record (Steps.without_dropped a (λ p. p.target == t)) { senses = Steps.kept_senses (λ r. r.target == t) a.senses; holds = Steps.kept_nexuses (λ r. r.target == t) a.holds })))
+    (dropped_units q (λ p. p.target == t) a.units h)
+
+if_units : (q : Process → Type 0) (x : Bool) (a : Array) → UnitsP q a.units → IfArray q (if x then Some a else None)
+if_units q true a h = h
+if_units q false a h = tt
+
+accepted_units : (s : ScenarioValue) (q : Process → Type 0) (a : Array) (id : ProcId) → ((p : Process) → process_of s id ≡ Some p → is_request_sense (command_of p.cdb) ≡ false → q p) → UnitsP q a.units → IfArray q (Steps.accept_step a (process_of s id))
+accepted_units s q a id own h = go (process_of s id) refl
+  where
+    by : (p : Process) → process_of s id ≡ Some p → (u : Option UnitState) → unit_state_at a.units p.target p.unit ≡ u → IfArray q (Steps.accept_step_at a p u)
+    by p e None f = h
+    by p e (Some u) f = senses (is_request_sense (command_of p.cdb)) refl
+      where
+        senses : (x : Bool) → is_request_sense (command_of p.cdb) ≡ x → IfArray q (if x then Some (Steps.with_guest a p None) else Steps.queue_step a p u)
+        senses true z = h
+        senses false z =
+            let k = unit_at q a.units p.target p.unit u f h in
+            if_units q (nat_lt (Steps.process_count u) u.depth) (record a { units = with_unit a.units (record u { waiting = u.waiting ++ p ∷ [] }) })
+            (with_units q a.units (record u { waiting = u.waiting ++ p ∷ [] }) h (append_all q u.waiting p k.0 (own p e z), k.1))
+
+    go : (p : Option Process) → process_of s id ≡ p → IfArray q (Steps.accept_step a p)
+    go None e = tt
+    go (Some p) e = by p e (unit_state_at a.units p.target p.unit) refl
+
+refused_units : (s : ScenarioValue) (q : Process → Type 0) (a : Array) (o : Option Process) → UnitsP q a.units → IfArray q (Steps.refuse_step a o)
+refused_units s q a None h = tt
+refused_units s q a (Some p) h = go (unit_state_at a.units p.target p.unit)
+  where
+    go : (u : Option UnitState) → IfArray q (Steps.refuse_step_at a p u)
+    go None = tt
+    go (Some u) = if_units q (not (is_request_sense (command_of p.cdb)) && Steps.process_count u == u.depth) (Steps.with_listed_reply (Steps.with_guest a p (Some queue_full)) p.id queue_full) h
+
+run_units : (q : Process → Type 0) (a : Array) (guest : Bool) (o : Option RunningProcess) → UnitsP q a.units → IfArray q (Steps.run_step a guest o)
+run_units q a guest None h = tt
+run_units q a guest (Some r) h = if_units q (is_none r.reply && (guest || not (is_held a.holds r.process.target r.process.unit))) (Steps.after_execution_at a r.process (unit_state_at a.units r.process.target r.process.unit)) (go (unit_state_at a.units r.process.target r.process.unit) refl)
+  where
+    go : (u : Option UnitState) → unit_state_at a.units r.process.target r.process.unit ≡ u → UnitsP q (Steps.after_execution_at a r.process u).units
+    go None f = by (execution (Steps.context_at a (nexus_of r.process) None) r.process.cdb r.process.sent)
+      where
+        inner : (done : Execution) (x : Bool) → UnitsP q (Steps.with_reply (Steps.with_contents (Steps.without_attention a x (nexus_of r.process)) None done.contents) r.process.id done.reply).units
+        inner done true = replied_units q a.units r.process.id done.reply h
+        inner done false = replied_units q a.units r.process.id done.reply h
+
+        by : (done : Execution) → UnitsP q (Steps.after_execution a r.process None done).units
+        by done = inner done done.reported
+    go (Some u) f = by (execution (Steps.context_at a (nexus_of r.process) (Some u)) r.process.cdb r.process.sent)
+      where
+        inner : (done : Execution) (x : Bool) → UnitsP q (Steps.with_reply (Steps.with_contents (Steps.without_attention a x (nexus_of r.process)) (Some u) done.contents) r.process.id done.reply).units
+        inner done true = replied_units q (with_unit a.units (record u { contents = done.contents })) r.process.id done.reply (with_units q a.units (record u { contents = done.contents }) h (unit_at q a.units r.process.target r.process.unit u f h))
+        inner done false = replied_units q (with_unit a.units (record u { contents = done.contents })) r.process.id done.reply (with_units q a.units (record u { contents = done.contents }) h (unit_at q a.units r.process.target r.process.unit u f h))
+
+        by : (done : Execution) → UnitsP q (Steps.after_execution a r.process (Some u) done).units
+        by done = inner done done.reported
+
+failed_units : (s : ScenarioValue) (q : Process → Type 0) (a : Array) (id : ProcId) (reply : Reply) (o : Option RunningProcess) → UnitsP q a.units → IfArray q (Steps.fail_step s a id reply o)
+failed_units s q a id reply (Some r) h = if_units q (is_none r.reply) (Steps.with_reply a id reply) (replied_units q a.units id reply h)
+failed_units s q a id reply None h = go (process_of s id)
+  where
+    by : (p : Process) (x : Bool) → IfArray q (if x then None else Some (Steps.with_listed_reply (Steps.with_guest a p (Some reply)) id reply))
+    by p true = tt
+    by p false = h
+
+    go : (p : Option Process) → IfArray q (Steps.fail_step_of_new a id reply p)
+    go None = tt
+    go (Some p) = by p (Steps.is_waiting a.units id || Steps.has_ended a id)
+
+-- A guest, or a current process, is found by its id.
+guest_id : (guests : List RunningProcess) (id : ProcId) (r : RunningProcess) → guest_at guests id ≡ Some r → same_id r.process.id id ≡ true
+guest_id [] id r e = absurd (no_running r e)
+  where
+    no_running : (x : RunningProcess) → (let a : Option RunningProcess = None in a) ≡ Some x → ⊥
+    no_running x z = cc
+guest_id (g ∷ guests) id r e = go (same_id g.process.id id) refl e (λ k. guest_id guests id r k)
+  where
+    go : (x : Bool) → same_id g.process.id id ≡ x → (if x then Some g else guest_at guests id) ≡ Some r → (guest_at guests id ≡ Some r → same_id r.process.id id ≡ true) → same_id r.process.id id ≡ true
+    go true z k rest = ap (λ (y : RunningProcess). same_id y.process.id id) (sym (same_Some g r k)) ∙ z
+    go false z k rest = rest k
+
+current_id : (units : List UnitState) (id : ProcId) (r : RunningProcess) → Steps.running_in units id ≡ Some r → same_id r.process.id id ≡ true
+current_id [] id r e = absurd (no_running r e)
+  where
+    no_running : (x : RunningProcess) → (let a : Option RunningProcess = None in a) ≡ Some x → ⊥
+    no_running x z = cc
+current_id (u ∷ units) id r e = go u.current e (λ k. current_id units id r k)
+  where
+    by : (g : RunningProcess) (x : Bool) → same_id g.process.id id ≡ x → (if is_some {T = RunningProcess} (if x then Some g else None) then (if x then Some g else None) else Steps.running_in units id) ≡ Some r → (Steps.running_in units id ≡ Some r → same_id r.process.id id ≡ true) → same_id r.process.id id ≡ true
+    by g true z k rest = ap (λ (y : RunningProcess). same_id y.process.id id) (sym (same_Some g r k)) ∙ z
+    by g false z k rest = rest k
+
+    go : (o : Option RunningProcess) → (if is_some (Steps.running_if o id) then Steps.running_if o id else Steps.running_in units id) ≡ Some r → (Steps.running_in units id ≡ Some r → same_id r.process.id id ≡ true) → same_id r.process.id id ≡ true
+    go None k rest = rest k
+    go (Some g) k rest = by g (same_id g.process.id id) refl k rest
+
+running_id : (a : Array) (id : ProcId) (r : RunningProcess) → Steps.running_process a id ≡ Some r → r.process.id ≡ id
+running_id a id r e = id_is r.process.id id (go (guest_at a.guests id) refl e)
+  where
+    go : (o : Option RunningProcess) → guest_at a.guests id ≡ o → (if is_some o then o else Steps.running_in a.units id) ≡ Some r → same_id r.process.id id ≡ true
+    go None z k = current_id a.units id r k
+    go (Some g) z k = guest_id a.guests id r (z ∙ k)
+
+ended_units : (q : Process → Type 0) (a : Array) (id : ProcId) (status : ℕ) → UnitsP q a.units → IfArray (And q (λ p. not (same_id p.id id))) (Steps.end_step a status (Steps.running_process a id))
+ended_units q a id status h = go (Steps.running_process a id) refl
+  where
+    pick : (x y : Bool) (b c : Array) → b.units ≡ a.units → c.units ≡ a.units → (if x then b else if y then c else a).units ≡ a.units
+    pick true y b c eb ec = eb
+    pick false true b c eb ec = ec
+    pick false false b c eb ec = refl
+
+    status_same : (p : Process) (reply : Reply) → (Steps.after_status a p reply).units ≡ a.units
+    status_same p reply =
+        pick (reply.status == CHECK_CONDITION) (reply.status == GOOD && is_request_sense (command_of p.cdb))
+        (record a { senses = (nexus_of p, reply.sense) ∷ senses_without a.senses (nexus_of p); holds = nexus_of p ∷ nexuses_without a.holds (nexus_of p) })
+        (record a { senses = senses_without a.senses (nexus_of p); holds = nexuses_without a.holds (nexus_of p) }) refl refl
+
+    by : (r : RunningProcess) → r.process.id ≡ id → (o : Option Reply) → IfArray (And q (λ p. not (same_id p.id id))) (Steps.end_step_with a r.process status o)
+    by r e None = tt
+    by r e (Some reply) =
+        if_units (And q (λ p. not (same_id p.id id))) (reply.status == status) (Steps.array_without (Steps.after_status a r.process reply) r.process.id)
+        (subst (λ (x : ProcId). UnitsP (And q (λ p. not (same_id p.id x))) (Steps.units_without (Steps.after_status a r.process reply).units r.process.id)) e
+        (left_units q (Steps.after_status a r.process reply).units r.process.id (subst (λ (us : List UnitState). UnitsP q us) (sym (status_same r.process reply)) h)))
+
+    go : (o : Option RunningProcess) → Steps.running_process a id ≡ o → IfArray (And q (λ p. not (same_id p.id id))) (Steps.end_step a status o)
+    go None e = tt
+    go (Some r) e = by r (running_id a id r e) r.reply
+
+lost_units : (q : Process → Type 0) (a : Array) (id : ProcId) → UnitsP q a.units → IfArray (And q (λ p. not (same_id p.id id))) (Steps.loss_step a id)
+lost_units q a id h = go (Steps.has_ended a id)
+  where
+    go : (x : Bool) → IfArray (And q (λ p. not (same_id p.id id))) (if x then None else Some (Steps.array_without a id))
+    go true = tt
+    go false = left_units q a.units id h
+
+reset_units : (s : ScenarioValue) (q : Process → Type 0) (a : Array) → UnitsP q a.units → UnitsP (And q (λ p. false)) (Steps.reset_step s a).units
+reset_units s q a h =
+    subst (λ (us : List UnitState). UnitsP (And q (λ p. false)) us) (sym (attended_same s.hosts a.units (λ u. true) (record (Steps.without_dropped a (λ p. true)) { senses = []; holds = [] })))
+    (dropped_units q (λ p. true) a.units h)
+
+plain_if : (q : Process → Type 0) (o : Option Array) → IfArray q o → IfArray (And q (λ p. true)) o
+plain_if q None h = tt
+plain_if q (Some a) h = map_units q (And q (λ p. true)) (λ p x. (x, refl)) a.units h
+
+event_units : (s : ScenarioValue) (q : Process → Type 0) (a : Array) (event : Event) → ((id : ProcId) (p : Process) → event ≡ events.Accept id → process_of s id ≡ Some p → is_request_sense (command_of p.cdb) ≡ false → q p) → UnitsP q a.units → IfArray (And q (stays_queued event)) (Steps.event_step s a event)
+event_units s q a (events.Accept id) own h = plain_if q (Steps.accept_step a (process_of s id)) (accepted_units s q a id (λ p e z. own id p refl e z) h)
+event_units s q a (events.Refuse id) own h = plain_if q (Steps.refuse_step a (process_of s id)) (refused_units s q a (process_of s id) h)
+event_units s q a (events.Run id) own h = plain_if q (Steps.run_step a (is_some (guest_at a.guests id)) (Steps.running_process a id)) (run_units q a (is_some (guest_at a.guests id)) (Steps.running_process a id) h)
+event_units s q a (events.Fail id code) own h = plain_if q (Steps.event_step s a (events.Fail id code)) (failed_units s q a id (check_condition (sense_of ABORTED_COMMAND code 0x00)) (Steps.running_process a id) h)
+event_units s q a (events.End id status) own h = ended_units q a id status h
+event_units s q a (events.Lost id) own h = lost_units q a id h
+event_units s q a (events.Aborted i t n what) own h = aborted_units s q a i t n what h
+event_units s q a (events.Reset dev) own h = reset_units s q a h
+
+-- Of what was in the queues, what stays; and what is accepted.
+pub step_units : (s : ScenarioValue) (q : Process → Type 0) (a b : Array) (event : Event) → ((id : ProcId) (p : Process) → event ≡ events.Accept id → process_of s id ≡ Some p → is_request_sense (command_of p.cdb) ≡ false → q p) → UnitsP q a.units → Steps.step s event a ≡ Some b → UnitsP (λ p. q p × (stays_queued event p ≡ true)) b.units
+step_units s q a b event own h e = go (Steps.event_step s a event) (event_units s q a event own h) e
+  where
+    no_array : (x : Array) → (let y : Option Array = None in y) ≡ Some x → ⊥
+    no_array x z = absurd cc
+
+    go : (o : Option Array) → IfArray (And q (stays_queued event)) o → Steps.settled_array_if o ≡ Some b → UnitsP (And q (stays_queued event)) b.units
+    go None k z = absurd (no_array b z)
+    go (Some c) k z = subst (λ (x : Array). UnitsP (And q (stays_queued event)) x.units) (same_Some (settled_array c) b z) (settled_units (And q (stays_queued event)) c.holds c.units k)

@@ -1,0 +1,210 @@
+-- What was asked for and answered of a run goes on with each row of DATA OUT.
+use Rattle.std.proofs.Common.{ℕ, ◌≡◌, ◌⊎◌, inl, inr, ◌+◌, ◌≤◌, ◌<◌, ◌^◌, Bool, true, false, not, ◌&&◌, ◌==◌, ◌∙◌, List, ◌∷◌, Option, Some, None, refl, sym, ap, subst, arith, true≢false}
+use Rattle.std.specs.Prelude.{if◌then◌else◌, is_some, nat_lt, ◌%◌}
+use Rattle.std.proofs.lemmas.Bool.Decides.{nat_tests}
+use Rattle.bus_base.specs.Faults.{counted_on}
+use Rattle.bus_trace.specs.LineSet.{LineSet}
+use Rattle.bus_trace.specs.declared.Row.{Row}
+use Rattle.bus_trace.specs.declared.Kind.{Kind}
+use Rattle.bus_trace.specs.declared.Kind.TheVariants.{Drives, Fault}
+use Rattle.bus_trace.specs.declared.changes.Change.{Change}
+use Rattle.bus_trace.specs.declared.connection.Connection.{Connection}
+use Rattle.bus_trace.specs.Changes.{change_of, rises}
+use Rattle.bus_trace.specs.Phases.{changes_phase}
+use Rattle.bus_trace.specs.Terms.{connection, is_fault, receiver_in}
+use Rattle.bus_trace.specs.Trace.{bus, drives}
+use Rattle.bus_phases.specs.declared.dialogue.Dialogue.{Dialogue}
+use Rattle.bus_phases.specs.Dialogue.{dialogue, byte_out, byte_in, byte_else, byte_crosses}
+use Rattle.bus_lines.specs.Handshakes.{Handshakes, handshakes, no_handshakes, handshakes_after, asked_if, answered_if, strikes_if}
+use Rattle.scenario.specs.Value.{ScenarioValue}
+use Rattle.bus_dialogue.specs.declared.exchange.Phase.TheVariants as phases
+use Rattle.bus_dialogue.specs.NextPhase.{phase_of}
+use Rattle.bus_due.specs.Plain.{IsPlain, AreOfDevices}
+use Rattle.bus_due.specs.RunState.{RunState}
+use Rattle.bus_due.specs.RunSteps.{run_state}
+use Rattle.bus_due.proofs.Plains.{run_state_plain}
+use Rattle.bus_books.specs.Rows.{RowKind, still, strikes, crosses, turns, IsRowIn}
+use Rattle.bus_books.proofs.InConnection.{InConnection, in_connection, dialogue_by, SamePhase, same_phase_is}
+use Rattle.bus_laws.specs.Rows.{row_of_fault}
+use Rattle.bus_laws.proofs.Rows.{fault_change}
+use Rattle.link_laws.specs.Pulses.{run_count}
+use Rattle.link_laws.proofs.Moves.{no_rise}
+use Rattle.trace_laws.specs.RunCounts.{AreCounted, pulses_here}
+use Rattle.trace_laws.proofs.PointerRows.{run_lines, wrong'}
+use Rattle.trace_laws.proofs.RunSteps.{OutStep}
+
+-- ---- counts
+
+counted : (n : ℕ) → n + 1 < 2 ^ 64 → counted_on n ≡ n + 1
+counted n h = omega (arith, h)
+
+zero_is : (n : ℕ) → (n == 0) ≡ true → n ≡ 0
+zero_is n e = grind (arith, nat_tests)
+
+up_before : (a b : Bool) → rises a b ≡ true → (a ≡ false) × (b ≡ true)
+up_before true b e = wrong' e
+up_before false b e = (refl, e)
+
+no_both : {A : Type 0} (a b : Bool) → rises a b ≡ true → a ≡ b → A
+no_both a b e same = let u = up_before a b e in absurd (true≢false (sym u.1 ∙ sym same ∙ u.0))
+
+-- By what the row does with REQ and ACK.
+counts_by : (s : ScenarioValue) (p : List Row) (n : Connection) (c : Change) (t : ℕ) (pulsed : Bool) → pulses_here p ≡ pulsed → bus p ≡ c.before → (handshakes p).requests + 1 < 2 ^ 64 → (handshakes p).answers + 1 < 2 ^ 64 → OutStep s p n c → AreCounted (handshakes p) (bus p) (pulses_here p) (run_count s p n)
+    → AreCounted (answered_if (rises c.before.ack c.after.ack) t (asked_if (rises c.before.req c.after.req) t (handshakes p))) c.after pulsed (run_count s p n)
+counts_by s p n c t pulsed u on short_asked short_answered f k = go (rises c.before.ack c.after.ack) refl (rises c.before.req c.after.req) refl
+  where
+    h : Handshakes
+    h = handshakes p
+
+    run : ℕ
+    run = run_count s p n
+
+    pulses : pulsed ≡ true → pulses_here p ≡ true
+    pulses e = u ∙ e
+
+    plain : pulsed ≡ false → pulses_here p ≡ false
+    plain e = u ∙ e
+
+    req_before : c.before.req ≡ true → (bus p).req ≡ true
+    req_before e = ap (λ (l : LineSet). l.req) on ∙ e
+
+    ack_before : c.before.ack ≡ false → (bus p).ack ≡ false
+    ack_before e = ap (λ (l : LineSet). l.ack) on ∙ e
+
+    -- a byte is answered
+    less : rises c.before.ack c.after.ack ≡ true → (v : Bool) → pulses_here p ≡ v → (h.answers < run) × (h.answers < h.requests)
+    less e true v = let more = (f.answers e).1 v in let few = k.pulses v in (omega (arith, more, few), more)
+    less e false v = k.waits v (req_before ((f.answers e).0 v)) (ack_before (up_before c.before.ack c.after.ack e).0)
+
+    -- a byte is asked for
+    asked : rises c.before.req c.after.req ≡ true → (pulses_here p ≡ true → h.requests + 1 ≤ run) × (pulses_here p ≡ false → h.answers < run)
+    asked e = by (f.asks e).1
+      where
+        some : 1 ≤ run
+        some = k.some
+
+        by : ((h.requests == 0) ≡ true) ⊎ ((pulses_here p ≡ false → h.answers < run) × (pulses_here p ≡ true → h.requests < run)) → (pulses_here p ≡ true → h.requests + 1 ≤ run) × (pulses_here p ≡ false → h.answers < run)
+        by (inl z) = let none = zero_is h.requests z in let few = k.asked in (λ v. omega (arith, none, some), λ v. omega (arith, none, few, some))
+        by (inr z) = (λ v. let m = z.1 v in omega (arith, m), z.0)
+
+    go : (a : Bool) → rises c.before.ack c.after.ack ≡ a → (r : Bool) → rises c.before.req c.after.req ≡ r → AreCounted (answered_if a t (asked_if r t h)) c.after pulsed run
+    go true ea true er = no_both c.before.ack c.after.ack ea (f.asks er).0
+    go true ea false er =
+        let l = less ea (pulses_here p) refl in
+        let one = counted h.answers short_answered in
+        record {
+          some = k.some;
+          asked = let z = l.1 in omega (arith, one, z);
+          within = let z = l.0 in omega (arith, one, z);
+          pulses = λ e. k.pulses (pulses e);
+          waits = λ e q b. absurd (true≢false (sym (up_before c.before.ack c.after.ack ea).1 ∙ b));
+        }
+    go false ea true er =
+        let m = asked er in
+        let one = counted h.requests short_asked in
+        let few = k.asked in
+        record {
+          some = k.some;
+          asked = omega (arith, one, few);
+          within = k.within;
+          pulses = λ e. let z = m.0 (pulses e) in omega (arith, one, z);
+          waits = λ e q b. (m.1 (plain e), omega (arith, one, few));
+        }
+    go false ea false er = record {
+      some = k.some;
+      asked = k.asked;
+      within = k.within;
+      pulses = λ e. k.pulses (pulses e);
+      waits = λ e q b. let z = f.stays (plain e) q b er in k.waits (plain e) (req_before z.0) (ack_before z.1);
+    }
+
+-- A fault row changes no line.
+fault_quiet : (p : List Row) (row : Row) → is_fault row.kind ≡ true → (rises (change_of p row).before.ack (change_of p row).after.ack ≡ false) × (rises (change_of p row).before.req (change_of p row).after.req ≡ false)
+fault_quiet p row e = go row.kind refl e
+  where
+    go : (kind : Kind) → row.kind ≡ kind → is_fault kind ≡ true → (rises (change_of p row).before.ack (change_of p row).after.ack ≡ false) × (rises (change_of p row).before.req (change_of p row).after.req ≡ false)
+    go (Drives l) f g = wrong' g
+    go (Fault bit) f g =
+        let is : row ≡ row_of_fault row.time row.dev bit = λ i. record { time = row.time; dev = row.dev; kind = f i } in
+        let same = ap (change_of p) is ∙ fault_change p row.time row.dev bit (bus p) (drives p row.dev) refl refl in
+        (ap (λ (c : Change). rises c.before.ack c.after.ack) same ∙ no_rise (bus p).ack, ap (λ (c : Change). rises c.before.req c.after.req) same ∙ no_rise (bus p).req)
+
+-- ---- the agreement stays
+
+data_agreement : (d : Dialogue) (c : Change) → c.before.msg ≡ false → c.before.cd ≡ false → (byte_crosses d c).heard.now.agreement ≡ d.heard.now.agreement
+data_agreement d c em ed =
+    ap (λ (m : Bool). (if m && c.before.cd && not c.before.io then byte_out d (c.after.data_bits % 256) (not c.after.atn) else if m && c.before.cd && c.before.io then byte_in d (c.after.data_bits % 256) else byte_else d c.before (c.after.data_bits % 256)).heard.now.agreement) em
+    ∙ ap (λ (m : Bool). (if not c.before.msg && m && not c.before.io then record d { heard = Rattle.bus_phases.specs.Dialogue.heard_with_command d.heard (c.after.data_bits % 256); begun = true } else record d { begun = true }).heard.now.agreement) ed
+    ∙ ap (λ (b : Bool). (if b then record d { heard = Rattle.bus_phases.specs.Dialogue.heard_with_command d.heard (c.after.data_bits % 256); begun = true } else record d { begun = true }).heard.now.agreement) (none c.before.msg)
+  where
+    none : (m : Bool) → (not m && false && not c.before.io) ≡ false
+    none true = refl
+    none false = refl
+
+agreement_by : (now : Bool) (c : Change) (d : Dialogue) → c.before.msg ≡ false → c.before.cd ≡ false → (dialogue_by false now c d).heard.now.agreement ≡ d.heard.now.agreement
+agreement_by true c d em ed = data_agreement d c em ed
+agreement_by false c d em ed = refl
+
+pub pulses_stay : (s : ScenarioValue) (p : List Row) (row : Row) (n : Connection) (c : Change) → AreOfDevices p → row.dev < 8 → IsRowIn (run_state s p) row n c → changes_phase c ≡ false → phase_of (bus p) ≡ phases.DataOut → pulses_here (row ∷ p) ≡ pulses_here p
+pulses_stay s p row n c dv lt r ep phase = by r.kind
+  where
+    k : RunState
+    k = run_state s p
+
+    pl : IsPlain s p k
+    pl = run_state_plain s p dv
+
+    ql : IsPlain s (row ∷ p) (run_state s (row ∷ p))
+    ql = run_state_plain s (row ∷ p) (lt, dv)
+
+    before : bus p ≡ c.before
+    before = sym pl.bus ∙ r.bus_is
+
+    lines : ((bus p).msg ≡ false) × ((bus p).cd ≡ false) × ((bus p).io ≡ false)
+    lines = run_lines (bus p) phase
+
+    same : SamePhase c.before c.after
+    same = same_phase_is c ep
+
+    made : (now fault : Bool) → InConnection s k row n c false now fault → pulses_here (row ∷ p) ≡ pulses_here p
+    made now fault i =
+        let after : bus (row ∷ p) ≡ c.after = sym ql.bus ∙ i.bus_is in
+        let agreed : (dialogue (row ∷ p)).heard.now.agreement ≡ (dialogue p).heard.now.agreement =
+        ap (λ (d : Dialogue). d.heard.now.agreement) (sym ql.dialogue ∙ i.dialogue_is) ∙ agreement_by now c k.story.bus_state.dialogue (ap (λ (l : LineSet). l.msg) (sym before) ∙ lines.0) (ap (λ (l : LineSet). l.cd) (sym before) ∙ lines.1) ∙ ap (λ (d : Dialogue). d.heard.now.agreement) pl.dialogue in
+        λ i. true && (not ((ap (λ (l : LineSet). l.msg) after ∙ same.msg ∙ ap (λ (l : LineSet). l.msg) (sym before)) i) && not ((ap (λ (l : LineSet). l.cd) after ∙ same.cd ∙ ap (λ (l : LineSet). l.cd) (sym before)) i)) && nat_lt 0 (agreed i).offset
+
+    none_crosses : receiver_in n c ≡ None → is_some (receiver_in n c) ≡ false
+    none_crosses e = ap (λ (z : Option ℕ). is_some z) e
+
+    by : RowKind row n c → pulses_here (row ∷ p) ≡ pulses_here p
+    by (still ef e er) = made false false (in_connection s k row n c false false false r ep (none_crosses er) ef)
+    by (strikes ef e er) = made false true (in_connection s k row n c false false true r ep (none_crosses er) ef)
+    by (crosses dev ef e er) = made true false (in_connection s k row n c false true false r ep (ap (λ (z : Option ℕ). is_some z) er) ef)
+    by (turns ef e er) = absurd (true≢false (sym e ∙ ep))
+
+-- ---- a row of the phase
+
+pub counts_stay : (s : ScenarioValue) (p : List Row) (row : Row) (n : Connection) → changes_phase (change_of p row) ≡ false → connection (row ∷ p) ≡ Some n → pulses_here (row ∷ p) ≡ pulses_here p → run_count s (row ∷ p) n ≡ run_count s p n → phase_of (bus p) ≡ phases.DataOut → (handshakes p).requests + 1 < 2 ^ 64 → (handshakes p).answers + 1 < 2 ^ 64 → OutStep s p n (change_of p row) → AreCounted (handshakes p) (bus p) (pulses_here p) (run_count s p n)
+    → AreCounted (handshakes (row ∷ p)) (bus (row ∷ p)) (pulses_here (row ∷ p)) (run_count s (row ∷ p) n)
+counts_stay s p row n ep after pulsed run phase short_asked short_answered f k =
+    subst (λ (x : ℕ). AreCounted (handshakes (row ∷ p)) (bus (row ∷ p)) (pulses_here (row ∷ p)) x) (sym run) (go (is_fault row.kind) refl)
+  where
+    c : Change
+    c = change_of p row
+
+    all : AreCounted (answered_if (rises c.before.ack c.after.ack) row.time (asked_if (rises c.before.req c.after.req) row.time (handshakes p))) c.after (pulses_here (row ∷ p)) (run_count s p n)
+    all = counts_by s p n c row.time (pulses_here (row ∷ p)) (sym pulsed) refl short_asked short_answered f k
+
+    io : c.before.io ≡ false
+    io = (run_lines (bus p) phase).2
+
+    go : (b : Bool) → is_fault row.kind ≡ b → AreCounted (handshakes (row ∷ p)) (bus (row ∷ p)) (pulses_here (row ∷ p)) (run_count s p n)
+    go true e =
+        let quiet = fault_quiet p row e in
+        let same : handshakes (row ∷ p) ≡ handshakes p = ap (λ (b : Bool). handshakes_after b (connection (row ∷ p)) c row.time (handshakes p)) e ∙ ap (λ (b : Bool). strikes_if b (handshakes p)) io in
+        let made : answered_if (rises c.before.ack c.after.ack) row.time (asked_if (rises c.before.req c.after.req) row.time (handshakes p)) ≡ handshakes p = λ i. answered_if (quiet.0 i) row.time (asked_if (quiet.1 i) row.time (handshakes p)) in
+        subst (λ (h : Handshakes). AreCounted h (bus (row ∷ p)) (pulses_here (row ∷ p)) (run_count s p n)) (sym same) (subst (λ (h : Handshakes). AreCounted h c.after (pulses_here (row ∷ p)) (run_count s p n)) made all)
+    go false e =
+        let same : handshakes (row ∷ p) ≡ answered_if (rises c.before.ack c.after.ack) row.time (asked_if (rises c.before.req c.after.req) row.time (handshakes p)) =
+        (λ i. handshakes_after (e i) (after i) c row.time (handshakes p)) ∙ ap (λ (b : Bool). if b then no_handshakes else answered_if (rises c.before.ack c.after.ack) row.time (asked_if (rises c.before.req c.after.req) row.time (handshakes p))) ep in
+        subst (λ (h : Handshakes). AreCounted h (bus (row ∷ p)) (pulses_here (row ∷ p)) (run_count s p n)) (sym same) all

@@ -1,0 +1,410 @@
+-- Of a prompt trace: the data pointers of all processes that write after each row, and what this asks of the next row.
+use Rattle.std.proofs.Common.{ℕ, ◌≡◌, ◌⊎◌, inl, inr, ◌+◌, ◌*◌, ◌≤◌, ◌<◌, ◌^◌, Bool, true, false, not, ◌&&◌, ◌∙◌, List, [], ◌∷◌, length, Option, Some, None, Result, Ok, Err, refl, sym, ap, subst, arith, true≢false, ◌≢◌}
+use Rattle.std.specs.Prelude.{if◌then◌else◌, is_some, nat_lt, ◌==◌}
+use Rattle.std.proofs.lemmas.Bool.Decides.{nat_tests}
+use Rattle.bus_base.specs.Faults.{counted_on}
+use Rattle.bus_base.specs.declared.ProcId.{ProcId}
+use Rattle.bus_trace.specs.LineSet.{LineSet}
+use Rattle.bus_trace.proofs.Buses.{bus_off}
+use Rattle.bus_trace.proofs.OneRow.{drives-other}
+use Rattle.bus_books.proofs.Lists.{eq_self}
+use Rattle.bus_trace.specs.declared.Row.{Row}
+use Rattle.bus_trace.specs.declared.changes.Change.{Change}
+use Rattle.bus_trace.specs.declared.connection.Connection.{Connection}
+use Rattle.bus_trace.specs.Changes.{change_of, rises}
+use Rattle.bus_trace.specs.Phases.{changes_phase}
+use Rattle.bus_trace.specs.Terms.{call, connection, connection_after, is_fault, receiver_of}
+use Rattle.bus_trace.specs.Trace.{bus, drives, driven_after}
+use Rattle.bus_lines.specs.Handshakes.{Handshakes, handshakes, no_handshakes, handshakes_on, handshakes_after, asked_if, answered_if, strikes_if}
+use Rattle.cdb_codec.specs.Cdb.{command_of}
+use Rattle.cdb_codec.specs.declared.command.Command.{Command}
+use Rattle.cdb_codec.specs.declared.command.Command.TheVariants as commands
+use Rattle.cdb_codec.specs.declared.command.CdbFault.{CdbFault}
+use Rattle.scenario.specs.Needs.{is_write}
+use Rattle.scenario.specs.declared.value.Policy.{Policy}
+use Rattle.scenario.specs.Value.{ScenarioValue}
+use Rattle.scenario.specs.Writing.{Obeys}
+use Rattle.disk_array.specs.Execution.{is_request_sense}
+use Rattle.disk_array.specs.Processes.{Process}
+use Rattle.disk_array.specs.Units.{Array, UnitState, unit_state_at}
+use Rattle.bus_story.specs.BusState.{row_reading}
+use Rattle.bus_story.specs.Items.{process, has_item}
+use Rattle.bus_dialogue.specs.declared.exchange.Arrival.{Arrival}
+use Rattle.bus_dialogue.specs.declared.exchange.Arrival.TheVariants as arrivals
+use Rattle.bus_dialogue.specs.declared.exchange.Phase.{Phase}
+use Rattle.bus_dialogue.specs.declared.exchange.Phase.TheVariants as phases
+use Rattle.bus_dialogue.specs.declared.exchange.Room.{Room}
+use Rattle.bus_dialogue.specs.declared.exchange.Task.{Task}
+use Rattle.bus_dialogue.specs.Arrivals.{policy_of, is_never, arrival_by}
+use Rattle.bus_dialogue.specs.DataRuns.{run_at, run_length, runs_in_all, runs_in}
+use Rattle.bus_dialogue.specs.Hearing.{begun}
+use Rattle.bus_dialogue.specs.NextPhase.{phase_of}
+use Rattle.bus_due.specs.Defs.{target_def_of}
+use Rattle.bus_due.specs.LastingState.{progress_in}
+use Rattle.bus_due.specs.Next.{IsPrompt}
+use Rattle.bus_due.specs.Plain.{IsPlain, AreOfDevices}
+use Rattle.bus_due.specs.RunState.{RunState, bus_of, array_of, process_served, carried_here}
+use Rattle.bus_due.specs.RunSteps.{run_state}
+use Rattle.bus_due.specs.Sights.{arrival_at, leaving}
+use Rattle.bus_due.specs.Tasks.{is_writing, task_of, task_if, task_with, reply_now, arrival_of, arrival_if, room_of, size_of}
+use Rattle.disk_array.specs.ArrayHistory.{array_after, reply_in}
+use Rattle.bus_story.specs.Story.{Story}
+use Rattle.bus_due.proofs.Plains.{run_state_plain}
+use Rattle.bus_books.specs.Rows.{IsRowIn}
+use Rattle.bus_laws.proofs.Apart.{change_plain}
+use Rattle.bus_laws.proofs.FromReset.{off_at}
+use Rattle.trace_laws.specs.DataPointers.{policy_for, run_start, run_step, IsInRun, PointersIf, ServedPointers, unnamed, named, RefusesLater, IsServedAnew}
+use Rattle.trace_laws.specs.Offers.{OfferFacts}
+use Rattle.trace_laws.specs.RunFacts.{RunsBy, RunFacts}
+use Rattle.trace_laws.proofs.ConnectionRows.{connection_row, stage_of_connection}
+use Rattle.trace_laws.proofs.Crossings.{RowFacts, stays, ends_here}
+use Rattle.trace_laws.proofs.Joint.{Stood, NextStood, link_phase}
+use Rattle.trace_laws.proofs.Offers.{refuses_later}
+use Rattle.trace_laws.proofs.Plans.{writes_there}
+use Rattle.trace_laws.proofs.PointerLeavings.{MoreRuns}
+use Rattle.trace_laws.proofs.PointerRows.{out_lines}
+use Rattle.trace_laws.proofs.PointerTurns.{TurnsBy}
+use Rattle.trace_laws.proofs.RunFits.{FitsRuns, fits_runs}
+use Rattle.trace_laws.proofs.RunParts.{RunsFit, start_is, more_runs}
+use Rattle.trace_laws.proofs.RunRows.{runs_first, runs_row, served_id}
+
+-- ---- before any row
+
+pub runs_start : (s : ScenarioValue) → RunFacts s []
+runs_start s = runs_first s
+
+-- ---- counts
+
+counted_few : (n m : ℕ) → n ≤ m → counted_on n ≤ m + 1
+counted_few n m h = omega (arith, h)
+
+more_few : (n m : ℕ) → n ≤ m → n ≤ m + 1
+more_few n m h = omega (arith, h)
+
+-- There are no more answers, nor requests, than rows.
+pub few_counts : (p : List Row) → ((handshakes p).answers ≤ length p) × ((handshakes p).requests ≤ length p)
+few_counts [] = (omega arith, omega arith)
+few_counts (row ∷ p) = go (is_fault row.kind) (connection (row ∷ p)) (few_counts p)
+  where
+    h : Handshakes
+    h = handshakes p
+
+    grown : (n : ℕ) → n ≤ length p + 1 → n ≤ length (row ∷ p)
+    grown n k = omega (arith, k)
+
+    struck : (q : Bool) → (h.answers ≤ length p) × (h.requests ≤ length p) → ((strikes_if q h).answers ≤ length (row ∷ p)) × ((strikes_if q h).requests ≤ length (row ∷ p))
+    struck true k = (grown h.answers (more_few h.answers (length p) k.0), grown h.requests (more_few h.requests (length p) k.1))
+    struck false k = (grown h.answers (more_few h.answers (length p) k.0), grown h.requests (more_few h.requests (length p) k.1))
+
+    both : (a b : Bool) → (h.answers ≤ length p) × (h.requests ≤ length p) → ((answered_if a row.time (asked_if b row.time h)).answers ≤ length (row ∷ p)) × ((answered_if a row.time (asked_if b row.time h)).requests ≤ length (row ∷ p))
+    both true true k = (grown (counted_on h.answers) (counted_few h.answers (length p) k.0), grown (counted_on h.requests) (counted_few h.requests (length p) k.1))
+    both true false k = (grown (counted_on h.answers) (counted_few h.answers (length p) k.0), grown h.requests (more_few h.requests (length p) k.1))
+    both false true k = (grown h.answers (more_few h.answers (length p) k.0), grown (counted_on h.requests) (counted_few h.requests (length p) k.1))
+    both false false k = (grown h.answers (more_few h.answers (length p) k.0), grown h.requests (more_few h.requests (length p) k.1))
+
+    on : (o : Option Connection) → (h.answers ≤ length p) × (h.requests ≤ length p) → ((handshakes_on o (change_of p row) row.time h).answers ≤ length (row ∷ p)) × ((handshakes_on o (change_of p row) row.time h).requests ≤ length (row ∷ p))
+    on None k = (omega arith, omega arith)
+    on (Some n) k = by (changes_phase (change_of p row))
+      where
+        by : (q : Bool) → ((if q then no_handshakes else answered_if (rises (change_of p row).before.ack (change_of p row).after.ack) row.time (asked_if (rises (change_of p row).before.req (change_of p row).after.req) row.time h)).answers ≤ length (row ∷ p))
+            × ((if q then no_handshakes else answered_if (rises (change_of p row).before.ack (change_of p row).after.ack) row.time (asked_if (rises (change_of p row).before.req (change_of p row).after.req) row.time h)).requests ≤ length (row ∷ p))
+        by true = (omega arith, omega arith)
+        by false = both (rises (change_of p row).before.ack (change_of p row).after.ack) (rises (change_of p row).before.req (change_of p row).after.req) k
+
+    go : (f : Bool) (o : Option Connection) → (h.answers ≤ length p) × (h.requests ≤ length p) → ((handshakes_after f o (change_of p row) row.time h).answers ≤ length (row ∷ p)) × ((handshakes_after f o (change_of p row) row.time h).requests ≤ length (row ∷ p))
+    go true o k = struck (change_of p row).before.io k
+    go false o k = on o k
+
+-- ---- a command arrives
+
+none_of : {A B : Type 0} (x : A) → (let o : Option A = Some x in o) ≡ None → B
+none_of x e = absurd cc
+
+-- It runs at once only where its target never disconnects.
+at_once_never : (policy : Policy) (senses : Bool) (room : Option Room) → arrival_by policy senses room ≡ arrivals.AtOnce → is_never policy ≡ true
+at_once_never policy senses None e = let bad : arrivals.Guest ≡ arrivals.AtOnce = e in absurd cc
+at_once_never policy true (Some r) e = let bad : arrivals.Guest ≡ arrivals.AtOnce = e in absurd cc
+at_once_never policy false (Some r) e = go r.full (is_never policy) r.idle e
+  where
+    go : (f n i : Bool) → (let a : Arrival = if f then arrivals.Refused else if n && i then arrivals.AtOnce else arrivals.Queued in a) ≡ arrivals.AtOnce → n ≡ true
+    go true n i z = absurd cc
+    go false true i z = refl
+    go false false i z = absurd cc
+
+-- One that goes on outside the queue is a REQUEST SENSE, or its unit is not there.
+guest_none : (policy : Policy) (senses : Bool) (room : Option Room) → arrival_by policy senses room ≡ arrivals.Guest → (senses ≡ true) ⊎ (room ≡ None)
+guest_none policy senses None e = inr refl
+guest_none policy true (Some r) e = inl refl
+guest_none policy false (Some r) e = go r.full (is_never policy && r.idle) e
+  where
+    go : (f n : Bool) → (let a : Arrival = if f then arrivals.Refused else if n then arrivals.AtOnce else arrivals.Queued in a) ≡ arrivals.Guest → (false ≡ true) ⊎ (Some r ≡ None)
+    go true n z = absurd cc
+    go false true z = absurd cc
+    go false false z = absurd cc
+
+pub write_no_sense : (r : Result Command CdbFault) → is_write r ≡ true → is_request_sense r ≡ false
+write_no_sense (Err fault) e = absurd (true≢false (sym e))
+write_no_sense (Ok commands.TestUnitReady) e = absurd (true≢false (sym e))
+write_no_sense (Ok (commands.RequestSense room)) e = absurd (true≢false (sym e))
+write_no_sense (Ok (commands.Read6 lba count)) e = absurd (true≢false (sym e))
+write_no_sense (Ok (commands.Write6 lba count)) e = refl
+write_no_sense (Ok (commands.Inquiry room)) e = absurd (true≢false (sym e))
+write_no_sense (Ok commands.ReadCapacity) e = absurd (true≢false (sym e))
+write_no_sense (Ok (commands.Read10 lba count)) e = absurd (true≢false (sym e))
+write_no_sense (Ok (commands.Write10 lba count)) e = refl
+
+pub no_room : (a : Array) (o : Option UnitState) → room_of a o ≡ None → size_of o ≡ 0
+no_room a None e = refl
+no_room a (Some u) e = none_of (record { full = not (nat_lt (Rattle.disk_array.specs.Steps.process_count u) u.depth); idle = Rattle.bus_due.specs.Tasks.is_idle_unit a u }) e
+
+zero_times : (n : ℕ) → n * 0 ≡ 0
+zero_times n = omega arith
+
+pub none_in_all : (policy : Policy) (t : Task) → RunsFit policy t → t.size ≡ 0 → runs_in_all policy t ≡ 0
+none_in_all policy t f z = go (t.moved == 0) refl
+  where
+    go : (b : Bool) → (t.moved == 0) ≡ b → (if b then 0 else runs_in policy t.blocks) ≡ 0
+    go true e = refl
+    go false e = absurd (true≢false (sym (ap (λ (x : ℕ). x == 0) (f.moved e ∙ ap (λ (x : ℕ). f.blocks * x) z ∙ zero_times f.blocks)) ∙ e))
+
+-- ---- what a process that writes does as a phase is left
+
+-- The bytes of the run are all answered as DATA OUT is left with none struck.
+abbrev pub AnswersAll : ScenarioValue → RunState → Connection → Type 0
+AnswersAll s k n = (q : Process) (t : Task) → process_served s k ≡ Some q → task_of s k ≡ Some t → phase_of (bus_of k) ≡ phases.DataOut → k.handshakes.answers ≡ run_length (policy_of (target_def_of s n.target)) t
+
+abbrev pub task_here : ScenarioValue → RunState → Process → Task
+task_here s k q = task_with (array_of s k) (progress_in k.progress q.id) q (carried_here k q.id) (reply_now (array_of s k) q) (reply_in (array_of s k).replies q.id)
+
+turns_by : (s : ScenarioValue) (k : RunState) (n : Connection) (q : Process) → FitsRuns s k q (task_here s k q) → process_served s k ≡ Some q → is_writing q ≡ true → q.target ≡ n.target → (phase_of (bus_of k) ≡ phases.DataOut → k.exchange.plan.struck ≡ false → k.handshakes.answers ≡ run_length (policy_of (target_def_of s n.target)) (task_here s k q)) → TurnsBy s k n q
+turns_by s k n q f served w to all = record {
+  served_is = served;
+  target_is = to;
+  task = task_here s k q;
+  runs_are = refl;
+  writes_by = record {
+    task_is = ap (task_if s k) served;
+    writes = w;
+    at_once = λ e. once (phase_of (bus_of k)) e;
+    guest = λ e. guest (phase_of (bus_of k)) e;
+    more = λ z struck e. more z struck e;
+  };
+}
+  where
+    policy : Policy
+    policy = policy_of (target_def_of s n.target)
+
+    same : policy_for s q ≡ policy
+    same = ap (λ (x : ℕ). policy_of (target_def_of s x)) to
+
+    fit : RunsFit policy (task_here s k q)
+    fit = subst (λ (x : Policy). RunsFit x (task_here s k q)) same f.fit
+
+    arrives : arrival_of s k policy ≡ arrival_by policy (is_request_sense (command_of q.cdb)) (room_of (array_of s k) (unit_state_at (array_of s k).units q.target q.unit))
+    arrives = ap (arrival_if policy (array_of s k)) served
+
+    once : (x : Phase) → arrival_at s k n.target x ≡ arrivals.AtOnce → is_never policy ≡ true
+    once phases.Command e = at_once_never policy (is_request_sense (command_of q.cdb)) (room_of (array_of s k) (unit_state_at (array_of s k).units q.target q.unit)) (sym arrives ∙ e)
+    once phases.DataOut e = let bad : arrivals.Queued ≡ arrivals.AtOnce = e in absurd cc
+    once phases.DataIn e = let bad : arrivals.Queued ≡ arrivals.AtOnce = e in absurd cc
+    once phases.Status e = let bad : arrivals.Queued ≡ arrivals.AtOnce = e in absurd cc
+    once phases.MessageIn e = let bad : arrivals.Queued ≡ arrivals.AtOnce = e in absurd cc
+    once phases.MessageOut e = let bad : arrivals.Queued ≡ arrivals.AtOnce = e in absurd cc
+
+    outside : arrival_of s k policy ≡ arrivals.Guest → runs_in_all policy (task_here s k q) ≡ 0
+    outside e = by (guest_none policy (is_request_sense (command_of q.cdb)) (room_of (array_of s k) (unit_state_at (array_of s k).units q.target q.unit)) (sym arrives ∙ e))
+      where
+        by : (is_request_sense (command_of q.cdb) ≡ true) ⊎ (room_of (array_of s k) (unit_state_at (array_of s k).units q.target q.unit) ≡ None) → runs_in_all policy (task_here s k q) ≡ 0
+        by (inl z) = absurd (true≢false (sym z ∙ write_no_sense (command_of q.cdb) w))
+        by (inr z) = none_in_all policy (task_here s k q) fit (no_room (array_of s k) (unit_state_at (array_of s k).units q.target q.unit) z)
+
+    guest : (x : Phase) → arrival_at s k n.target x ≡ arrivals.Guest → runs_in_all policy (task_here s k q) ≡ 0
+    guest phases.Command e = outside e
+    guest phases.DataOut e = let bad : arrivals.Queued ≡ arrivals.Guest = e in absurd cc
+    guest phases.DataIn e = let bad : arrivals.Queued ≡ arrivals.Guest = e in absurd cc
+    guest phases.Status e = let bad : arrivals.Queued ≡ arrivals.Guest = e in absurd cc
+    guest phases.MessageIn e = let bad : arrivals.Queued ≡ arrivals.Guest = e in absurd cc
+    guest phases.MessageOut e = let bad : arrivals.Queued ≡ arrivals.Guest = e in absurd cc
+
+    more : phase_of (bus_of k) ≡ phases.DataOut → k.exchange.plan.struck ≡ false → nat_lt ((task_here s k q).runs + 1) (runs_in_all policy (task_here s k q)) ≡ true → MoreRuns policy (task_here s k q).runs (run_step s q) k.handshakes.answers
+    more z struck e =
+        subst (λ (x : ℕ). MoreRuns policy (task_here s k q).runs (run_step s q) x) (sym (all z struck))
+        (subst (λ (x : ℕ). MoreRuns policy (task_here s k q).runs x (run_length policy (task_here s k q))) (ap (λ (x : Policy). Rattle.trace_laws.specs.DataPointers.step_in x (task_here s k q).blocks (task_here s k q).size) (sym same) ∙ f.step)
+        (more_runs policy (task_here s k q) fit e))
+
+-- ---- the next row
+
+-- What is asked of it beside: that the process of a connection that begins is neither over nor has shown a reply; that the process
+-- that is served was sent; and that the bytes of a run are all answered as DATA OUT is left.
+pub record RunPremises (s : ScenarioValue) (p : List Row) (row : Row) : Type 0 where
+  pub anew : (n : Connection) → connection p ≡ None → connection (row ∷ p) ≡ Some n → IsServedAnew s (run_state s p) n
+  pub sent : (id : ProcId) → (run_state s p).served ≡ Some (process id) → has_item (run_state s p).story.sent.sent (process id) ≡ true
+  pub answers : (n : Connection) → connection p ≡ Some n → (bus p).rst ≡ false → (bus (row ∷ p)).rst ≡ false → connection (row ∷ p) ≡ Some n → begun p ≡ true → changes_phase (change_of p row) ≡ true → AnswersAll s (run_state s p) n
+
+raised_rst : (p : List Row) (row : Row) → row.dev < 8 → (bus p).rst ≡ false → (bus (row ∷ p)).rst ≡ true → rises (change_of p row).own.rst (change_of p row).next.rst ≡ true
+raised_rst p row lt off on = go (drives (row ∷ p) row.dev).rst refl
+  where
+    own : (drives p row.dev).rst ≡ false
+    own = off_at p off row.dev lt
+
+    next : drives (row ∷ p) row.dev ≡ (change_of p row).next
+    next = λ i. if eq_self row.dev i then driven_after row.kind (drives p row.dev) else drives p row.dev
+
+    go : (q : Bool) → (drives (row ∷ p) row.dev).rst ≡ q → rises (change_of p row).own.rst (change_of p row).next.rst ≡ true
+    go true e = λ i. rises (own i) ((ap (λ (l : LineSet). l.rst) (sym next) ∙ e) i)
+    go false e = absurd (true≢false (sym on ∙ bus_off (λ y. y.rst) (λ _ _. refl) refl (row ∷ p) (λ d below. each d below (d == row.dev) refl)))
+      where
+        each : (d : ℕ) → d < 8 → (q : Bool) → (d == row.dev) ≡ q → (drives (row ∷ p) d).rst ≡ false
+        each d below true f = ap (λ (x : ℕ). (drives (row ∷ p) x).rst) (same d row.dev f) ∙ e
+          where
+            same : (a b : ℕ) → (a == b) ≡ true → a ≡ b
+            same a b z = grind (arith, nat_tests)
+        each d below false f = ap (λ (l : LineSet). l.rst) (drives-other row p d (other d row.dev f)) ∙ off_at p off d below
+          where
+            other : (a b : ℕ) → (a == b) ≡ false → a ≢ b
+            other a b z e = let w : (a == b) ≡ true = grind (arith, nat_tests) in absurd (true≢false (sym w ∙ z))
+
+-- The kind of a row of a connection by the lines, of which the same is known as of what is kept.
+record LinesOf (s : ScenarioValue) (p : List Row) (row : Row) (n : Connection) (c : Change) : Type 0 where
+  con : connection p ≡ Some n
+  calm : (bus p).rst ≡ false
+  off : (bus (row ∷ p)).rst ≡ false
+  change : change_of p row ≡ c
+  after : connection (row ∷ p) ≡ Some n
+
+lines_of : (s : ScenarioValue) (p : List Row) (row : Row) (n : Connection) (c : Change) → AreOfDevices p → row.dev < 8 → (bus_of (run_state s p)).rst ≡ false → IsRowIn (run_state s p) row n c → LinesOf s p row n c
+lines_of s p row n c dv lt calm r =
+    let pl = run_state_plain s p dv in
+    let change : change_of p row ≡ c = sym (change_plain s row p dv lt) ∙ r.change_is in
+    let con : connection p ≡ Some n = sym pl.connection ∙ r.connection_is in
+    record {
+      con = con;
+      calm = ap (λ (l : LineSet). l.rst) (sym pl.bus) ∙ calm;
+      off = ap (λ (x : Change). x.after.rst) change ∙ r.calm;
+      change = change;
+      after = (λ i. connection_after (con i) (call p) (change i) row) ∙ ap (λ (b : Bool). if b then Some n else None) r.stands;
+    }
+
+none_connection : {A : Type 0} (n : Connection) → (let o : Option Connection = None in o) ≡ Some n → A
+none_connection n e = absurd cc
+
+pub runs_next : (s : ScenarioValue) (p : List Row) (row : Row) → Obeys s → IsPrompt s (row ∷ p) → length (row ∷ p) < 2 ^ 64 → Stood s p → NextStood s p row → OfferFacts s p → RunPremises s p row → RunFacts s p → RunFacts s (row ∷ p)
+runs_next s p row o prompt short was nx offers asked facts =
+    runs_row s k row (record {
+      was = facts;
+      row_is = nx.row_is;
+      speaks = was.books.speaks;
+      gives = was.books.gives;
+      knows = was.books.knows;
+      anew = λ n con next. asked.anew n (sym pl.connection ∙ con) ((λ i. connection_after (sym pl.connection i) (sym pl.call i) (sym c i) row) ∙ next);
+      sent = asked.sent;
+      refuses = λ n con calm b e cause.
+          let phase = link_phase s p n (stage_of_connection s p n was (sym pl.connection ∙ con) (ap (λ (l : LineSet). l.rst) (sym pl.bus) ∙ calm)) in
+          let lines = out_lines (bus_of k) e in
+          refuses_later s p n offers (sym pl.connection ∙ con) (ap (λ (l : LineSet). l.rst) (sym pl.bus) ∙ calm) b (λ i. lines.0 i && ((ap (λ (l : LineSet). l.cd) pl.bus ∙ (phase (ap (λ (l : LineSet). l.msg) (sym pl.bus) ∙ lines.0)).0)) i && not (lines.1 i)) cause;
+      raises = λ calm on. ap (λ (x : Change). rises x.own.rst x.next.rst) c ∙ raised_rst p row lt (ap (λ (l : LineSet). l.rst) (sym pl.bus) ∙ calm) (ap (λ (x : Change). x.after.rst) (sym c) ∙ on);
+      short = (
+        let few = (few_counts p).0 in let is : k.handshakes.answers ≡ (handshakes p).answers = ap (λ (h : Handshakes). h.answers) pl.handshakes in omega (arith, few, is, short),
+        let few = (few_counts p).1 in let is : k.handshakes.requests ≡ (handshakes p).requests = ap (λ (h : Handshakes). h.requests) pl.handshakes in omega (arith, few, is, short),
+      );
+      known = λ x n r calm z. known x n r calm z;
+      whereto = λ x n r calm ep b. whereto x n r calm ep b;
+      turns = λ x n q r calm ep served w b. turns x n q r calm ep served w b;
+    })
+  where
+    k : RunState
+    k = run_state s p
+
+    dv : AreOfDevices p
+    dv = was.standing.devices
+
+    lt : row.dev < 8
+    lt = (nx.stood.standing.devices).0
+
+    pl : IsPlain s p k
+    pl = run_state_plain s p dv
+
+    c : (row_reading k.story.bus_state row).change ≡ change_of p row
+    c = change_plain s row p dv lt
+
+    known : (x : Change) (n : Connection) → IsRowIn k row n x → (bus_of k).rst ≡ false → x.after.msg ≡ true → x.after.cd ≡ true
+    known x n r calm z =
+        let l = lines_of s p row n x dv lt calm r in
+        let here : (bus (row ∷ p)).msg ≡ true = ap (λ (y : Change). y.after.msg) l.change ∙ z in
+        ap (λ (y : Change). y.after.cd) (sym l.change) ∙ (link_phase s (row ∷ p) n (stage_of_connection s (row ∷ p) n nx.stood l.after l.off) here).0
+
+    whereto : (x : Change) (n : Connection) → IsRowIn k row n x → (bus_of k).rst ≡ false → changes_phase x ≡ true → k.exchange.begun ≡ true → (leaving s k n.target).to ≡ Some (phase_of x.after)
+    whereto x n r calm ep b = by (connection_row s p row n o prompt was l.con l.calm l.off).facts
+      where
+        l : LinesOf s p row n x
+        l = lines_of s p row n x dv lt calm r
+
+        by : RowFacts s p row n → (leaving s k n.target).to ≡ Some (phase_of x.after)
+        by (stays g) =
+            let same : g.change ≡ x = sym g.row_is.change_is ∙ r.change_is in
+            g.whereto (ap changes_phase same ∙ ep) (sym pl.begun ∙ b) ∙ ap (λ (y : Change). Some (phase_of y.after)) same
+        by (ends_here g) = none_connection n (sym g.stopped ∙ l.after)
+
+    turns : (x : Change) (n : Connection) (q : Process) → IsRowIn k row n x → (bus_of k).rst ≡ false → changes_phase x ≡ true → process_served s k ≡ Some q → is_writing q ≡ true → k.exchange.begun ≡ true → TurnsBy s k n q
+    turns x n q r calm ep served w b =
+        let l = lines_of s p row n x dv lt calm r in
+        let own = served_id s k.served q served in
+        let well = facts.served n q r.connection_is calm served w in
+        turns_by s k n q (fits_runs s k q o (pl.array ∙ ap (λ (x : Story). array_after s x.history) (sym pl.story)) own.1 w) served w well.target_is
+        (λ e struck. asked.answers n l.con l.calm l.off l.after (sym pl.begun ∙ b) (ap changes_phase l.change ∙ ep) q (task_here s k q) served (ap (task_if s k) served) e)
+
+-- ---- what is asked of a row of a connection
+
+run_phase : {A : Type 0} (x : Phase) → x ≡ phases.DataOut → (x ≡ phases.MessageIn) ⊎ (x ≡ phases.MessageOut) → A
+run_phase x e (inl z) = let bad : phases.DataOut ≡ phases.MessageIn = sym e ∙ z in absurd cc
+run_phase x e (inr z) = let bad : phases.DataOut ≡ phases.MessageOut = sym e ∙ z in absurd cc
+
+same_task : (x y : Task) → (let o : Option Task = Some x in o) ≡ Some y → x ≡ y
+same_task x y e = cc
+
+-- In DATA OUT the data pointer of the process that is served stands as many bytes after the beginning of its run as were answered.
+pub run_active : (s : ScenarioValue) (p : List Row) (n : Connection) → Obeys s → Stood s p → RunFacts s p → connection p ≡ Some n → (bus p).rst ≡ false → begun p ≡ true → (q : Process) (t : Task) → process_served s (run_state s p) ≡ Some q → task_of s (run_state s p) ≡ Some t → phase_of (bus_of (run_state s p)) ≡ phases.DataOut
+    → (carried_here (run_state s p) q.id).moved.active ≡ (run_at (policy_of (target_def_of s q.target)) t t.runs).start + (run_state s p).handshakes.answers
+run_active s p n o was facts con calm b q t served task phase = go well.pointers
+  where
+    k : RunState
+    k = run_state s p
+
+    pl : IsPlain s p k
+    pl = run_state_plain s p was.standing.devices
+
+    w : is_writing q ≡ true
+    w = writes_there s k q (was.planned n con calm) (pl.begun ∙ b) served phase
+
+    well : Rattle.trace_laws.specs.RunFacts.IsServedWell s k n q
+    well = facts.served n q (pl.connection ∙ con) (ap (λ (l : LineSet). l.rst) pl.bus ∙ calm) served w
+
+    f : FitsRuns s k q (task_here s k q)
+    f = fits_runs s k q o (pl.array ∙ ap (λ (x : Story). array_after s x.history) (sym pl.story)) (served_id s k.served q served).1 w
+
+    start : run_start s k q ≡ (run_at (policy_of (target_def_of s q.target)) (task_here s k q) (task_here s k q).runs).start
+    start = ap (λ (x : ℕ). (task_here s k q).runs * x) (sym f.step) ∙ sym (start_is (policy_for s q) (task_here s k q).blocks (task_here s k q).size (task_here s k q).moved (task_here s k q).runs)
+
+    same : task_here s k q ≡ t
+    same = same_task (task_here s k q) t (sym (ap (task_if s k) served) ∙ task)
+
+    go : ServedPointers s k q → (carried_here k q.id).moved.active ≡ (run_at (policy_of (target_def_of s q.target)) t t.runs).start + k.handshakes.answers
+    go (unnamed l el none h) = run_phase (phase_of (bus_of k)) phase (by h.phase)
+      where
+        by : (phase_of (bus_of k) ≡ phases.MessageIn) ⊎ ((phase_of (bus_of k) ≡ phases.MessageOut) × (k.exchange.plan.cause ≡ Rattle.bus_dialogue.specs.declared.exchange.Cause.TheVariants.InMessage)) → (phase_of (bus_of k) ≡ phases.MessageIn) ⊎ (phase_of (bus_of k) ≡ phases.MessageOut)
+        by (inl z) = inl z
+        by (inr z) = inr z.0
+    go (named l el own h) =
+        let x = subst (λ (y : Phase). PointersIf true (policy_for s q) l (carried_here k q.id) k.exchange.plan k.handshakes (run_start s k q) y) phase (subst (λ (y : Bool). PointersIf y (policy_for s q) l (carried_here k q.id) k.exchange.plan k.handshakes (run_start s k q) (phase_of (bus_of k))) (pl.begun ∙ b) h) in
+        x.active ∙ ap (λ (y : ℕ). y + k.handshakes.answers) (start ∙ ap (λ (y : Task). (run_at (policy_of (target_def_of s q.target)) y y.runs).start) same)
+
+-- A byte crosses in a phase that has begun.
+pub crossing_begun : (s : ScenarioValue) (p : List Row) (row : Row) (n : Connection) → Obeys s → IsPrompt s (row ∷ p) → Stood s p → connection p ≡ Some n → (bus p).rst ≡ false → (bus (row ∷ p)).rst ≡ false → row.dev < 8 → (row_reading (run_state s p).story.bus_state row).crosses ≡ true → begun p ≡ true
+crossing_begun s p row n o prompt was con calm off lt crosses = by (connection_row s p row n o prompt was con calm off).facts
+  where
+    pl : IsPlain s p (run_state s p)
+    pl = run_state_plain s p was.standing.devices
+
+    by : RowFacts s p row n → begun p ≡ true
+    by (stays g) = g.begun_is (sym (λ i. is_some (receiver_of (g.row_is.connection_is i) (g.row_is.change_is i))) ∙ crosses)
+    by (ends_here g) = absurd (true≢false (sym crosses ∙ (λ i. is_some (receiver_of ((pl.connection ∙ con) i) (change_plain s row p was.standing.devices lt i))) ∙ g.carries))

@@ -1,0 +1,157 @@
+-- A process that writes moves all the bytes of its blocks, or none; and a unit keeps the size of its blocks.
+use Rattle.std.proofs.Common.{ℕ, ◌≡◌, ◌*◌, Bool, true, false, ◌∙◌, List, length, Option, Some, None, Result, Ok, Err, refl, sym, ap, subst, arith, true≢false}
+use Rattle.std.specs.Prelude.{if◌then◌else◌, ◌==◌, is_some}
+use Rattle.std.proofs.lemmas.Bool.Decides.{nat_tests}
+use Rattle.bus_base.specs.declared.Event.{Event}
+use Rattle.cdb_codec.specs.Cdb.{command_of}
+use Rattle.cdb_codec.specs.declared.command.Command.{Command}
+use Rattle.cdb_codec.specs.declared.command.Command.TheVariants as commands
+use Rattle.cdb_codec.specs.declared.command.CdbFault.{CdbFault}
+use Rattle.cdb_codec.specs.declared.status.TheConstants.{GOOD}
+use Rattle.scenario.specs.Lookups.{has_target, unit_of}
+use Rattle.scenario.specs.Needs.{is_write, moved_by, need_of, sent_of}
+use Rattle.scenario.specs.Value.{ScenarioValue}
+use Rattle.scenario.specs.Writing.{Obeys}
+use Rattle.scenario.specs.declared.value.UnitDef.{UnitDef}
+use Rattle.disk_array.specs.ArrayHistory.{array_after, reply_in}
+use Rattle.disk_array.specs.Contents.{Contents}
+use Rattle.disk_array.specs.Execution.{execution, is_good_range, range_of}
+use Rattle.disk_array.specs.Order.{range_in, count_in}
+use Rattle.disk_array.specs.Processes.{Process, process_of}
+use Rattle.disk_array.specs.Seats.{contents_of, context_of, seat_of}
+use Rattle.disk_array.specs.Steps.{context_at}
+use Rattle.disk_array.specs.Units.{Array, UnitState, nexus_of, unit_state_at, starting_array, sense_of_nexus}
+use Rattle.disk_unit.specs.Disk.{blocks_written, blocks_written_by}
+use Rattle.bus_dialogue.specs.declared.exchange.Task.{Task}
+use Rattle.bus_due.specs.LastingState.{progress_in}
+use Rattle.bus_due.specs.RunState.{RunState, or_start, array_of, carried_here}
+use Rattle.bus_due.specs.Tasks.{is_writing, size_of, blocks_in, reply_now, moved_count, task_with}
+use Rattle.scsi_device.specs.Lines.{IsCommandLine}
+use Rattle.scsi_device.proofs.FitLines.{obeys_fits, command_fits}
+use Rattle.target_units.specs.Rooms.{IsOfLine, AreOfLines}
+use Rattle.target_units.proofs.Rooms.{by_line, good_range, lines_always, lines_start, sends}
+use Rattle.target_units.proofs.Starts.{start_settled}
+use Rattle.trace_laws.specs.DataPointers.{policy_for, step_in, run_step}
+use Rattle.trace_laws.proofs.PointerEnds.{writer_plain}
+use Rattle.trace_laws.proofs.PolicyLines.{policies_most}
+use Rattle.trace_laws.proofs.RunParts.{RunsFit}
+
+-- ---- the blocks of units
+
+lines_first : (s : ScenarioValue) → AreOfLines s (starting_array s)
+lines_first s = subst (λ (a : Array). AreOfLines s a) (start_settled s) (lines_start s)
+
+pub lines_now : (s : ScenarioValue) (history : List Event) (o : Option Array) → array_after s history ≡ o → AreOfLines s (or_start s o)
+lines_now s history None e = lines_first s
+lines_now s history (Some a) e = lines_always s history a e
+
+same_size : (o : Option UnitDef) (x y : Option UnitState) → IsOfLine o x → IsOfLine o y → size_of x ≡ size_of y
+same_size None None None h k = refl
+same_size None None (Some v) h k = absurd k
+same_size None (Some u) y h k = absurd h
+same_size (Some d) None y h k = absurd h
+same_size (Some d) (Some u) None h k = absurd k
+same_size (Some d) (Some u) (Some v) h k = h.1 ∙ sym k.1
+
+pub size_is : (s : ScenarioValue) (a : Array) (t n : ℕ) → AreOfLines s a → size_of (unit_state_at a.units t n) ≡ size_of (unit_state_at (starting_array s).units t n)
+size_is s a t n h = same_size (unit_of s t n) (unit_state_at a.units t n) (unit_state_at (starting_array s).units t n) (h t n) (lines_first s t n)
+
+-- ---- a write
+
+-- It names so many blocks.
+blocks_named : (r : Result Command CdbFault) → is_write r ≡ true → blocks_in (range_in r) ≡ Some (count_in (range_in r))
+blocks_named (Err fault) e = absurd (true≢false (sym e))
+blocks_named (Ok commands.TestUnitReady) e = absurd (true≢false (sym e))
+blocks_named (Ok (commands.RequestSense room)) e = absurd (true≢false (sym e))
+blocks_named (Ok (commands.Read6 lba count)) e = absurd (true≢false (sym e))
+blocks_named (Ok (commands.Write6 lba count)) e = refl
+blocks_named (Ok (commands.Inquiry room)) e = absurd (true≢false (sym e))
+blocks_named (Ok commands.ReadCapacity) e = absurd (true≢false (sym e))
+blocks_named (Ok (commands.Read10 lba count)) e = absurd (true≢false (sym e))
+blocks_named (Ok (commands.Write10 lba count)) e = refl
+
+written_all : (c : Contents) (r : Result Command CdbFault) → is_write r ≡ true → ((x : Command) → r ≡ Ok x → is_good_range c.count (range_of x) ≡ true) → blocks_written_by c r ≡ count_in (range_in r)
+written_all c (Err fault) w g = absurd (true≢false (sym w))
+written_all c (Ok x) w g = (λ i. if g x refl i then (if w i then count_in (range_of x) else 0) else 0)
+
+good_is : (a b : ℕ) → (a == b) ≡ true → a ≡ b
+good_is a b e = grind (arith, nat_tests)
+
+zero_times : (n : ℕ) → n * 0 ≡ 0
+zero_times n = omega arith
+
+context_same : (a : Array) (p : Process) → context_at a (nexus_of p) (unit_state_at a.units p.target p.unit) ≡ context_of (seat_of a p.target p.unit) p.initiator
+context_same a p = go (unit_state_at a.units p.target p.unit)
+  where
+    go : (x : Option UnitState) → context_at a (nexus_of p) x ≡ record { present = is_some x; contents = contents_of x; stored = sense_of_nexus a.senses (nexus_of p); attention = sense_of_nexus a.attentions (nexus_of p) }
+    go None = refl
+    go (Some u) = refl
+
+none_sent : (s : ScenarioValue) (q : Process) → Obeys s → process_of s q.id ≡ Some q → is_writing q ≡ true → has_target s q.target ≡ false → length q.sent ≡ 0
+unfolding need_of sent_of
+none_sent s q o own w e =
+    let by = by_line s q own (writer_plain s q own w) in
+    let line : IsCommandLine s by.line = command_fits s q.id.command by.line (obeys_fits s o) by.is in
+    ap (λ (x : List ℕ). length x) by.sent ∙ line.sent
+    ∙ (λ i. if is_write (command_of by.line.cdb) then (if (ap (has_target s) (sym by.target) ∙ e) i then moved_by (command_of by.line.cdb) (unit_of s by.line.target by.line.unit) else 0) else 0)
+    ∙ nothing (is_write (command_of by.line.cdb))
+  where
+    nothing : (b : Bool) → (let n : ℕ = if b then 0 else 0 in n) ≡ 0
+    nothing true = refl
+    nothing false = refl
+
+-- The bytes that it moves, where it would be carried out now.
+moved_all : (s : ScenarioValue) (a : Array) (q : Process) → Obeys s → AreOfLines s a → process_of s q.id ≡ Some q → is_writing q ≡ true → (moved_count q (reply_now a q) == 0) ≡ false → moved_count q (reply_now a q) ≡ count_in (range_in (command_of q.cdb)) * size_of (unit_state_at a.units q.target q.unit)
+moved_all s a q o lines own w some = go ((reply_now a q).status == GOOD) refl
+  where
+    moved : (g : Bool) → ((reply_now a q).status == GOOD) ≡ g → moved_count q (reply_now a q) ≡ (if g then length q.sent else 0)
+    moved g e = (λ i. if e i then (if w i then length q.sent else length (reply_now a q).bytes) else 0)
+
+    zero_moved : {A : Type 0} → moved_count q (reply_now a q) ≡ 0 → A
+    zero_moved e = absurd (true≢false (sym (ap (λ (x : ℕ). x == 0) e) ∙ some))
+
+    carried : (reply_now a q).status ≡ GOOD → has_target s q.target ≡ true → length q.sent ≡ count_in (range_in (command_of q.cdb)) * size_of (unit_state_at a.units q.target q.unit)
+    carried good there = at (unit_state_at a.units q.target q.unit) refl
+      where
+        status : (execution (context_of (seat_of a q.target q.unit) q.initiator) q.cdb q.sent).reply.status ≡ GOOD
+        status = (λ i. (execution (sym (context_same a q) i) q.cdb q.sent).reply.status) ∙ good
+
+        all : length q.sent ≡ blocks_written (contents_of (unit_state_at a.units q.target q.unit)) q.cdb * (contents_of (unit_state_at a.units q.target q.unit)).size
+        all = (sends s a q (obeys_fits s o) lines there own (writer_plain s q own w)).bytes status
+
+        at : (x : Option UnitState) → unit_state_at a.units q.target q.unit ≡ x → length q.sent ≡ count_in (range_in (command_of q.cdb)) * size_of (unit_state_at a.units q.target q.unit)
+        at None e =
+            let none : length q.sent ≡ 0 = all ∙ ap (λ (y : Option UnitState). blocks_written (contents_of y) q.cdb * (contents_of y).size) e ∙ zero_times (blocks_written (contents_of None) q.cdb) in
+            none ∙ sym (zero_times (count_in (range_in (command_of q.cdb)))) ∙ ap (λ (y : Option UnitState). count_in (range_in (command_of q.cdb)) * size_of y) (sym e)
+        at (Some u) e =
+            let written : blocks_written u.contents q.cdb ≡ count_in (range_in (command_of q.cdb)) =
+            written_all u.contents (command_of q.cdb) w (λ x f. good_range (context_at a (nexus_of q) (Some u)) q.cdb q.sent x refl f ((λ i. (execution (context_at a (nexus_of q) (sym e i)) q.cdb q.sent).reply.status) ∙ good)) in
+            all ∙ ap (λ (y : Option UnitState). blocks_written (contents_of y) q.cdb * (contents_of y).size) e
+            ∙ ap (λ (y : ℕ). y * u.contents.size) written
+            ∙ ap (λ (y : Option UnitState). count_in (range_in (command_of q.cdb)) * size_of y) (sym e)
+
+    go : (g : Bool) → ((reply_now a q).status == GOOD) ≡ g → moved_count q (reply_now a q) ≡ count_in (range_in (command_of q.cdb)) * size_of (unit_state_at a.units q.target q.unit)
+    go false e = zero_moved (moved false e)
+    go true e = by (has_target s q.target) refl
+      where
+        by : (b : Bool) → has_target s q.target ≡ b → moved_count q (reply_now a q) ≡ count_in (range_in (command_of q.cdb)) * size_of (unit_state_at a.units q.target q.unit)
+        by true there = moved true e ∙ carried (good_is (reply_now a q).status GOOD e) there
+        by false there = zero_moved (moved true e ∙ none_sent s q o own w there)
+
+-- Its runs fit what it moves, and step by the blocks of its unit.
+pub record FitsRuns (s : ScenarioValue) (k : RunState) (q : Process) (t : Task) : Type 0 where
+  pub fit : RunsFit (policy_for s q) t
+  pub step : step_in (policy_for s q) t.blocks t.size ≡ run_step s q
+
+pub fits_runs : (s : ScenarioValue) (k : RunState) (q : Process) → Obeys s → k.array ≡ array_after s k.story.history → process_of s q.id ≡ Some q → is_writing q ≡ true → FitsRuns s k q (task_with (array_of s k) (progress_in k.progress q.id) q (carried_here k q.id) (reply_now (array_of s k) q) (reply_in (array_of s k).replies q.id))
+fits_runs s k q o e own w =
+    let lines = lines_now s k.story.history k.array (sym e) in
+    record {
+      fit = record {
+        blocks = count_in (range_in (command_of q.cdb));
+        blocks_are = blocks_named (command_of q.cdb) w;
+        moved = λ some. moved_all s (array_of s k) q o lines own w some;
+        most = policies_most s q.target o;
+      };
+      step = ap (λ (x : ℕ). step_in (policy_for s q) (blocks_in (range_in (command_of q.cdb))) x) (size_is s (array_of s k) q.target q.unit lines);
+    }

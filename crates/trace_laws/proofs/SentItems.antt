@@ -1,0 +1,398 @@
+-- After any rows what was carried is of processes that were sent, and so is the item of the link.
+use Rattle.std.proofs.Common.{ℕ, ◌≡◌, ◌+◌, Bool, true, false, not, ◌&&◌, ◌||◌, ◌∙◌, List, [], ◌∷◌, ◌++◌, Option, Some, None, refl, sym, ap, subst}
+use Rattle.std.specs.Prelude.{if◌then◌else◌, is_some, is_none, ◌==◌}
+use Rattle.std.specs.List.{list_any}
+use Rattle.bus_base.specs.declared.ProcId.{ProcId}
+use Rattle.bus_base.specs.declared.Event.{Event}
+use Rattle.bus_base.specs.declared.Event.TheVariants as events
+use Rattle.bus_trace.specs.declared.Row.{Row}
+use Rattle.bus_trace.specs.declared.Kind.{Kind}
+use Rattle.bus_trace.specs.declared.Kind.TheVariants.{Drives, Fault}
+use Rattle.bus_trace.specs.declared.changes.Change.{Change}
+use Rattle.bus_trace.specs.declared.connection.Connection.{Connection}
+use Rattle.bus_trace.specs.declared.selection.Call.{Call}
+use Rattle.bus_trace.specs.declared.selection.Calling.{Calling}
+use Rattle.bus_trace.specs.Changes.{falls}
+use Rattle.cdb_codec.specs.declared.status.TheConstants.{CHECK_CONDITION}
+use Rattle.msg_grammar.specs.declared.message.MsgOut.{MsgOut}
+use Rattle.msg_grammar.specs.declared.message.MsgIn.{MsgIn}
+use Rattle.msg_grammar.specs.declared.message.MsgIn.TheVariants as to_initiator
+use Rattle.scenario.specs.declared.value.CmdDef.{CmdDef}
+use Rattle.scenario.specs.Value.{ScenarioValue}
+use Rattle.disk_array.specs.Processes.{same_id}
+use Rattle.bus_story.specs.BusState.{RowReading}
+use Rattle.bus_story.specs.CarriedBytes.{CarriedBytes, carried_at, with_carried, carried_of, with_restored_pointers, carried_after_message, carried_after_byte, carried_after_fault}
+use Rattle.bus_story.specs.Items.{Item, process, abort, same_item, has_item, command_item, sense_item, Sent, is_open, tag_number_if}
+use Rattle.bus_story.specs.Links.{Link, link_of, last_out, last_in, is_of_nexus, is_open_sense, same_number, named_item_from, link_after_name}
+use Rattle.bus_story.specs.HistoryEvents.{carried_if}
+use Rattle.bus_story.specs.Story.{Story, Ending, by_abort, by_reset, is_aborted, is_sense_stopped, marked_refused, marked_shown, story_with_over, story_with_end, with_check, story_with_ends, story_after_event, story_after_events}
+use Rattle.bus_story.specs.TraceHistory.{aim_of, is_arbitration_entry, story_with_aim, story_without_answer, story_with_try, story_after_calling_by, story_after_calling, story_on_free_bus, story_with_restored, story_with_sent, story_after_connection, story_with_carried, is_parity_error, story_after_out, carried_after_message_if, story_after_message, story_after_in, carried_after_byte_if, story_after_byte, carried_after_fault_if, story_after_fault, story_in_connection, story_on_bus}
+use Rattle.bus_books.proofs.CarriedRows.{ends_keep, check_keeps}
+use Rattle.bus_books.proofs.Lists.{eq_self}
+use Rattle.bus_books.proofs.Lookups.{first_is, second_is, self_id, id_is, carried_id}
+use Rattle.trace_laws.proofs.RowEvents.{IsOf, AllOf, carried_of_item}
+use Rattle.trace_laws.proofs.Driven.{wrong}
+use Rattle.trace_laws.specs.ItemFacts.{LinkSent, LinksSent, SentOnly}
+
+-- ---- items
+
+pub self_item : (i : Item) → same_item i i ≡ true
+self_item (process id) = self_id id
+self_item (abort k) = eq_self k
+
+or_true : (q : Bool) → (q || true) ≡ true
+or_true true = refl
+or_true false = refl
+
+pub more_has : (i j : Item) (items : List Item) → has_item items j ≡ true → has_item (i ∷ items) j ≡ true
+more_has i j items e = ap (λ (q : Bool). same_item i j || q) e ∙ or_true (same_item i j)
+
+pub own_has : (i : Item) (items : List Item) → has_item (i ∷ items) i ≡ true
+own_has i items = ap (λ (q : Bool). q || has_item items i) (self_item i)
+
+or_off : (q r : Bool) → (q || r) ≡ false → r ≡ false
+or_off true r e = wrong e
+or_off false r e = e
+
+less_has : (i j : Item) (items : List Item) → has_item (i ∷ items) j ≡ false → has_item items j ≡ false
+less_has i j items e = or_off (same_item i j) (has_item items j) e
+
+-- ---- what names find was sent
+
+find_sent : (b : Sent) (i t u : ℕ) (tag : Option ℕ) (n : ℕ) (commands : List CmdDef) (item : Item) → named_item_from b i t u tag n commands ≡ Some item → has_item b.sent item ≡ true
+find_sent b i t u tag n [] item e = absurd (no_item item e)
+  where
+    no_item : (x : Item) → (let a : Option Item = None in a) ≡ Some x → ⊥
+    no_item x z = cc
+find_sent b i t u tag n (c ∷ commands) item e =
+    go (is_of_nexus c i t u && is_open b n && same_number (tag_number_if c.tag) tag) (is_of_nexus c i t u && is_open_sense b n && same_number None tag) refl refl e (λ z. find_sent b i t u tag (n + 1) commands item z)
+  where
+    or_item : Item → Option Item → Item
+    or_item x None = x
+    or_item x (Some y) = y
+
+    go : (q r : Bool) → (is_of_nexus c i t u && is_open b n && same_number (tag_number_if c.tag) tag) ≡ q → (is_of_nexus c i t u && is_open_sense b n && same_number None tag) ≡ r
+        → (if q then Some (command_item n) else if r then Some (sense_item n) else named_item_from b i t u tag (n + 1) commands) ≡ Some item → (named_item_from b i t u tag (n + 1) commands ≡ Some item → has_item b.sent item ≡ true) → has_item b.sent item ≡ true
+    go true r x y z rest =
+        let o = second_is (is_of_nexus c i t u) (is_open b n) (first_is (is_of_nexus c i t u && is_open b n) (same_number (tag_number_if c.tag) tag) x) in
+        ap (has_item b.sent) (sym (ap (or_item item) z)) ∙ first_is (has_item b.sent (command_item n)) (not (has_item b.over (command_item n))) o
+    go false true x y z rest =
+        let o = second_is (is_of_nexus c i t u) (is_open_sense b n) (first_is (is_of_nexus c i t u && is_open_sense b n) (same_number None tag) y) in
+        ap (has_item b.sent) (sym (ap (or_item item) z)) ∙ first_is (has_item b.sent (sense_item n)) (not (has_item b.over (sense_item n))) o
+    go false false x y z rest = rest z
+
+-- ---- of a story
+
+only_by : (a b : Story) → a.carried ≡ b.carried → a.link ≡ b.link → a.sent.sent ≡ b.sent.sent → SentOnly b → SentOnly a
+only_by a b ec el es h = record {
+  carried = λ id e. ap (λ (x : List CarriedBytes). carried_at x id) ec ∙ h.carried id (ap (λ (x : List Item). has_item x (process id)) (sym es) ∙ e);
+  link = subst (λ (x : Option Link). LinksSent a.sent.sent x) (sym el) (subst (λ (x : List Item). LinksSent x b.link) (sym es) h.link);
+}
+
+pub no_links : (sent : List Item) → LinksSent sent None
+no_links sent l e = absurd (none_link l e)
+  where
+    none_link : (x : Link) → (let a : Option Link = None in a) ≡ Some x → ⊥
+    none_link x z = cc
+
+abbrev or_link : Link → Option Link → Link
+or_link x None = x
+or_link x (Some l) = l
+
+one_link : (sent : List Item) (l : Link) → LinkSent sent l → LinksSent sent (Some l)
+one_link sent l h m e = subst (λ (x : Link). LinkSent sent x) (ap (or_link l) e) h
+
+link_here : (b : Story) (l : Link) → b.link ≡ Some l → SentOnly b → LinkSent b.sent.sent l
+link_here b l e h = h.link l e
+
+-- Nothing else is found where one is put.
+kept_none : (all : List CarriedBytes) (c : CarriedBytes) (id : ProcId) → same_id c.id id ≡ false → carried_at all id ≡ None → carried_at (with_carried all c) id ≡ None
+kept_none [] c id ne e = ap (λ (q : Bool). if q then Some c else None) ne
+kept_none (k ∷ all) c id ne e = go (same_id k.id c.id) (same_id k.id id) refl refl e (kept_none all c id ne)
+  where
+    none_some : {A : Type 0} (x : CarriedBytes) → Some x ≡ None → A
+    none_some x z = absurd cc
+
+    go : (q r : Bool) → same_id k.id c.id ≡ q → same_id k.id id ≡ r → (if r then Some k else carried_at all id) ≡ None → (carried_at all id ≡ None → carried_at (with_carried all c) id ≡ None) → carried_at (if q then c ∷ all else k ∷ with_carried all c) id ≡ None
+    go q true x y z rest = none_some k z
+    go true false x y z rest = ap (λ (p : Bool). if p then Some c else carried_at all id) ne ∙ z
+    go false false x y z rest = ap (λ (p : Bool). if p then Some k else carried_at (with_carried all c) id) y ∙ rest z
+
+put : (b : Story) (c : CarriedBytes) → has_item b.sent.sent (process c.id) ≡ true → SentOnly b → SentOnly (record b { carried = with_carried b.carried c })
+put b c there h = record { carried = λ id e. kept_none b.carried c id (apart (same_id c.id id) id refl e) (h.carried id e); link = h.link }
+  where
+    apart : (q : Bool) (id : ProcId) → same_id c.id id ≡ q → has_item b.sent.sent (process id) ≡ false → same_id c.id id ≡ false
+    apart true id z e = wrong (sym there ∙ ap (λ (x : ProcId). has_item b.sent.sent (process x)) (id_is c.id id z) ∙ e)
+    apart false id z e = z
+
+put_if : (b : Story) (c : Option CarriedBytes) → ((x : CarriedBytes) → c ≡ Some x → has_item b.sent.sent (process x.id) ≡ true) → SentOnly b → SentOnly (story_with_carried b c)
+put_if b None there h = h
+put_if b (Some c) there h = put b c (there c refl) h
+
+-- ---- events
+
+ends_sent : (drops stops : CmdDef → Bool) (e : Ending) (n : ℕ) (commands : List CmdDef) (b : Story) → (story_with_ends drops stops e n commands b).sent.sent ≡ b.sent.sent
+ends_sent drops stops e n [] b = refl
+ends_sent drops stops e n (c ∷ commands) b =
+    ends_sent drops stops e (n + 1) commands
+    (if is_open b.sent n && drops c then story_with_end b (record { command = n; sense = false }) e
+    else if stops c && list_any (λ k. k == n) b.sent.checks then story_with_over b (sense_item n)
+    else b)
+    ∙ go (is_open b.sent n && drops c) (stops c && list_any (λ k. k == n) b.sent.checks)
+  where
+    go : (q r : Bool) → (if q then story_with_end b (record { command = n; sense = false }) e else if r then story_with_over b (sense_item n) else b).sent.sent ≡ b.sent.sent
+    go true r = refl
+    go false true = refl
+    go false false = refl
+
+check_sent : (b : Story) (id : ProcId) (status : ℕ) → (with_check b id status).sent.sent ≡ b.sent.sent
+check_sent b id status = go (not id.sense && status == CHECK_CONDITION)
+  where
+    go : (q : Bool) → (if q then record b { sent = record b.sent { checks = b.sent.checks ++ id.command ∷ [] } } else b).sent.sent ≡ b.sent.sent
+    go true = refl
+    go false = refl
+
+pub event_sent : (s : ScenarioValue) (b : Story) (event : Event) → (story_after_event s b event).sent.sent ≡ b.sent.sent
+event_sent s b (events.Accept id) = refl
+event_sent s b (events.Refuse id) = refl
+event_sent s b (events.Run id) = refl
+event_sent s b (events.Fail id code) = refl
+event_sent s b (events.End id status) = check_sent (story_with_end b id _) id status
+event_sent s b (events.Lost id) = refl
+event_sent s b (events.Aborted host target unit what) = ends_sent (is_aborted host target unit what) (is_sense_stopped host target unit what) by_abort 1 s.commands b
+event_sent s b (events.Reset dev) = ends_sent (λ c. true) (λ c. true) by_reset 1 s.commands b
+
+pub events_sent : (s : ScenarioValue) (b : Story) (shown : List Event) → (story_after_events s b shown).sent.sent ≡ b.sent.sent
+events_sent s b [] = refl
+events_sent s b (event ∷ shown) = event_sent s (story_after_events s b shown) event ∙ events_sent s b shown
+
+marked : (b : Story) (id : ProcId) (mark : CarriedBytes → CarriedBytes) → ((c : CarriedBytes) → (mark c).id ≡ c.id) → has_item b.sent.sent (process id) ≡ true → SentOnly b → SentOnly (record b { carried = with_carried b.carried (mark (carried_of b.carried id)) })
+marked b id mark same there h = put b (mark (carried_of b.carried id)) (ap (λ (x : ProcId). has_item b.sent.sent (process x)) (same (carried_of b.carried id) ∙ carried_id b.carried id) ∙ there) h
+
+event_only : (s : ScenarioValue) (b : Story) (item : Option Item) (event : Event) → ((i : Item) → item ≡ Some i → has_item b.sent.sent i ≡ true) → IsOf item event → SentOnly b → SentOnly (story_after_event s b event)
+event_only s b item (events.Accept id) there of h = h
+event_only s b item (events.Refuse id) there of h = marked b id (λ c. marked_refused c) (λ c. refl) (there (process id) (of id refl)) h
+event_only s b item (events.Run id) there of h = marked b id (λ c. marked_shown c) (λ c. refl) (there (process id) (of id refl)) h
+event_only s b item (events.Fail id code) there of h = marked b id (λ c. marked_shown c) (λ c. refl) (there (process id) (of id refl)) h
+event_only s b item (events.End id status) there of h =
+    let k = check_keeps (story_with_end b id _) id status in only_by (story_after_event s b (events.End id status)) b k.0 k.1 (event_sent s b (events.End id status)) h
+event_only s b item (events.Lost id) there of h = record { carried = h.carried; link = h.link }
+event_only s b item (events.Aborted host target unit what) there of h =
+    let k = ends_keep (is_aborted host target unit what) (is_sense_stopped host target unit what) by_abort 1 s.commands b in
+    only_by (story_after_event s b (events.Aborted host target unit what)) b k.0 k.1 (event_sent s b (events.Aborted host target unit what)) h
+event_only s b item (events.Reset dev) there of h =
+    let k = ends_keep (λ c. true) (λ c. true) by_reset 1 s.commands b in only_by (story_after_event s b (events.Reset dev)) b k.0 k.1 (event_sent s b (events.Reset dev)) h
+
+pub events_only : (s : ScenarioValue) (b : Story) (item : Option Item) (shown : List Event) → ((i : Item) → item ≡ Some i → has_item b.sent.sent i ≡ true) → AllOf item shown → SentOnly b → SentOnly (story_after_events s b shown)
+events_only s b item [] there of h = h
+events_only s b item (event ∷ shown) there of h =
+    event_only s (story_after_events s b shown) item event (λ i e. ap (λ (x : List Item). has_item x i) (events_sent s b shown) ∙ there i e) of.0 (events_only s b item shown there of.1 h)
+
+-- ---- outside a connection
+
+pub free_keeps : (s : ScenarioValue) (b : Story) (d : RowReading) (row : Row) → ((story_on_free_bus s b d row).carried ≡ b.carried) × ((story_on_free_bus s b d row).link ≡ b.link) × ((story_on_free_bus s b d row).sent.sent ≡ b.sent.sent)
+free_keeps s b d row = go (is_arbitration_entry b d) (falls d.change.before.sel d.change.after.sel)
+  where
+    tried : (dev : ℕ) (item : Option Item) → ((story_with_try s b dev item).carried ≡ b.carried) × ((story_with_try s b dev item).link ≡ b.link) × ((story_with_try s b dev item).sent.sent ≡ b.sent.sent)
+    tried dev None = (refl, refl, refl)
+    tried dev (Some item) = by _ item
+      where
+        next : Story
+        next = record b { sent = record b.sent { tries = item ∷ b.sent.tries } }
+
+        by : (q : Bool) (i : Item) → ((if q then story_without_answer next i else next).carried ≡ b.carried) × ((if q then story_without_answer next i else next).link ≡ b.link) × ((if q then story_without_answer next i else next).sent.sent ≡ b.sent.sent)
+        by true (process id) = (refl, refl, refl)
+        by true (abort k) = (refl, refl, refl)
+        by false i = (refl, refl, refl)
+
+    called : (call : Option Call) → ((story_after_calling s b call).carried ≡ b.carried) × ((story_after_calling s b call).link ≡ b.link) × ((story_after_calling s b call).sent.sent ≡ b.sent.sent)
+    called None = (refl, refl, refl)
+    called (Some k) = by k.calling
+      where
+        by : (g : Option Calling) → ((story_after_calling_by s b k.caller g).carried ≡ b.carried) × ((story_after_calling_by s b k.caller g).link ≡ b.link) × ((story_after_calling_by s b k.caller g).sent.sent ≡ b.sent.sent)
+        by None = (refl, refl, refl)
+        by (Some g) = one (is_none g.answered && not g.reselects)
+          where
+            one : (q : Bool) → ((if q then story_with_try s b k.caller (aim_of b.aims k.caller) else b).carried ≡ b.carried) × ((if q then story_with_try s b k.caller (aim_of b.aims k.caller) else b).link ≡ b.link) × ((if q then story_with_try s b k.caller (aim_of b.aims k.caller) else b).sent.sent ≡ b.sent.sent)
+            one true = tried k.caller (aim_of b.aims k.caller)
+            one false = (refl, refl, refl)
+
+    go : (q r : Bool) → ((if q then story_with_aim s b row else if r then story_after_calling s b b.bus_state.call else b).carried ≡ b.carried) × ((if q then story_with_aim s b row else if r then story_after_calling s b b.bus_state.call else b).link ≡ b.link) × ((if q then story_with_aim s b row else if r then story_after_calling s b b.bus_state.call else b).sent.sent ≡ b.sent.sent)
+    go true r = (refl, refl, refl)
+    go false true = called b.bus_state.call
+    go false false = (refl, refl, refl)
+
+-- ---- a connection begins
+
+restored_only : (b : Story) (item : Option Item) → ((i : Item) → item ≡ Some i → has_item b.sent.sent i ≡ true) → SentOnly b → SentOnly (story_with_restored b item)
+restored_only b None there h = h
+restored_only b (Some (process id)) there h = marked b id (λ c. with_restored_pointers c) (λ c. refl) (there (process id) refl) h
+restored_only b (Some (abort k)) there h = h
+
+sent_only : (b : Story) (i : Item) → ((id : ProcId) → has_item b.sent.sent (process id) ≡ false → carried_at b.carried id ≡ None) → LinksSent (i ∷ b.sent.sent) b.link → SentOnly (story_with_sent b (Some i))
+sent_only b i h g = record { carried = λ id e. h id (less_has i (process id) b.sent.sent e); link = g }
+
+begun_only : (b : Story) (n : Connection) → SentOnly b → SentOnly (story_after_connection b n)
+begun_only b n h = go n.reselected (aim_of b.aims n.initiator)
+  where
+    none_item : (sent : List Item) → LinkSent sent (link_of n None)
+    none_item sent = record { item = λ i e. no_item i e; undo = λ c e. no_bytes c e }
+      where
+        no_item : (x : Item) → (let a : Option Item = None in a) ≡ Some x → has_item sent x ≡ true
+        no_item x z = absurd cc
+
+        no_bytes : (x : CarriedBytes) → (let a : Option CarriedBytes = None in a) ≡ Some x → has_item sent (process x.id) ≡ true
+        no_bytes x z = absurd cc
+
+    own_item : (i : Item) → LinkSent (i ∷ b.sent.sent) (link_of n (Some i))
+    own_item i = record { item = λ j e. ap (has_item (i ∷ b.sent.sent)) (sym (ap (or_item i) e)) ∙ own_has i b.sent.sent; undo = λ c e. no_bytes c e }
+      where
+        or_item : Item → Option Item → Item
+        or_item x None = x
+        or_item x (Some y) = y
+
+        no_bytes : (x : CarriedBytes) → (let a : Option CarriedBytes = None in a) ≡ Some x → has_item (i ∷ b.sent.sent) (process x.id) ≡ true
+        no_bytes x z = absurd cc
+
+    there : (i j : Item) → Some i ≡ Some j → has_item (i ∷ b.sent.sent) j ≡ true
+    there i j e = (own_item i).item j e
+
+    go : (q : Bool) (item : Option Item) → SentOnly (if q then record b { link = Some (link_of n None) } else story_with_restored (story_with_sent (record b { link = Some (link_of n item) }) item) item)
+    go true item = record { carried = h.carried; link = one_link b.sent.sent (link_of n None) (none_item b.sent.sent) }
+    go false None = record { carried = h.carried; link = one_link b.sent.sent (link_of n None) (none_item b.sent.sent) }
+    go false (Some i) =
+        restored_only (story_with_sent (record b { link = Some (link_of n (Some i)) }) (Some i)) (Some i) (λ j e. there i j e)
+        (sent_only (record b { link = Some (link_of n (Some i)) }) i h.carried (one_link (i ∷ b.sent.sent) (link_of n (Some i)) (own_item i)))
+
+-- ---- in a connection
+
+item_there : (b : Story) (item : Option Item) → ((i : Item) → item ≡ Some i → has_item b.sent.sent i ≡ true) → (c : CarriedBytes) → carried_if b item ≡ Some c → has_item b.sent.sent (process c.id) ≡ true
+item_there b item there c e = there (process c.id) (carried_of_item b item c e)
+
+out_only : (b : Story) (l : Link) (m : Option MsgOut) → b.link ≡ Some l → SentOnly b → SentOnly (story_after_out b l m)
+out_only b l None el h = h
+out_only b l (Some m) el h =
+    let g = link_here b l el h in
+    put_if (record b { link = Some (record l { last = last_out m l }) }) (if is_parity_error m then l.undo else None) (go (is_parity_error m))
+    (record { carried = h.carried; link = one_link b.sent.sent (record l { last = last_out m l }) (record { item = g.item; undo = g.undo }) })
+  where
+    go : (q : Bool) → (x : CarriedBytes) → (if q then l.undo else None) ≡ Some x → has_item b.sent.sent (process x.id) ≡ true
+    go true x e = (link_here b l el h).undo x e
+    go false x e = no_bytes x e
+      where
+        no_bytes : (y : CarriedBytes) → (let a : Option CarriedBytes = None in a) ≡ Some y → has_item b.sent.sent (process y.id) ≡ true
+        no_bytes y z = absurd cc
+
+named_sent : (s : ScenarioValue) (b : Sent) (l : Link) (m : MsgIn) → ((i : Item) → l.item ≡ Some i → has_item b.sent i ≡ true) → (i : Item) → (link_after_name b s.commands l m).item ≡ Some i → has_item b.sent i ≡ true
+named_sent s b l to_initiator.CommandComplete there i e = there i e
+named_sent s b l to_initiator.SavePointer there i e = there i e
+named_sent s b l to_initiator.RestorePointers there i e = there i e
+named_sent s b l to_initiator.Disconnect there i e = there i e
+named_sent s b l (to_initiator.Identify lun) there i e = find_sent b l.initiator l.target lun None 1 s.commands i e
+named_sent s b l (to_initiator.SimpleTag tag) there i e = find_sent b l.initiator l.target l.unit (Some tag) 1 s.commands i e
+named_sent s b l (to_initiator.Sdtr offer) there i e = there i e
+named_sent s b l to_initiator.Reject there i e = there i e
+
+message_id : (c : CarriedBytes) (m : MsgIn) → (carried_after_message c m).id ≡ c.id
+message_id c to_initiator.CommandComplete = refl
+message_id c to_initiator.SavePointer = refl
+message_id c to_initiator.RestorePointers = refl
+message_id c to_initiator.Disconnect = refl
+message_id c (to_initiator.Identify lun) = refl
+message_id c (to_initiator.SimpleTag tag) = refl
+message_id c (to_initiator.Sdtr offer) = refl
+message_id c to_initiator.Reject = refl
+
+abbrev or_bytes : CarriedBytes → Option CarriedBytes → CarriedBytes
+or_bytes x None = x
+or_bytes x (Some y) = y
+
+messages_there : (sent : List Item) (c : Option CarriedBytes) (m : MsgIn) → ((x : CarriedBytes) → c ≡ Some x → has_item sent (process x.id) ≡ true) → (x : CarriedBytes) → carried_after_message_if c m ≡ Some x → has_item sent (process x.id) ≡ true
+messages_there sent None m there x e = there x e
+messages_there sent (Some c) m there x e = ap (λ (i : ProcId). has_item sent (process i)) (sym (ap (λ (z : CarriedBytes). z.id) (ap (or_bytes x) e)) ∙ message_id c m) ∙ there c refl
+
+pub restored_sent : (b : Story) (item : Option Item) → (story_with_restored b item).sent.sent ≡ b.sent.sent
+restored_sent b None = refl
+restored_sent b (Some (process id)) = refl
+restored_sent b (Some (abort k)) = refl
+
+in_only : (s : ScenarioValue) (b : Story) (l : Link) (m : Option MsgIn) → b.link ≡ Some l → SentOnly b → SentOnly (story_after_in s b l m)
+in_only s b l None el h = h
+in_only s b l (Some m) el h = go (is_none l.item)
+  where
+    g : LinkSent b.sent.sent l
+    g = link_here b l el h
+
+    next : Link
+    next = record (link_after_name b.sent s.commands l m) { last = last_in m; before = l.last; undo = carried_if b l.item }
+
+    fits : LinkSent b.sent.sent next
+    fits = record { item = λ i e. named_sent s b.sent l m g.item i e; undo = λ c e. item_there b l.item g.item c e }
+
+    made : (c : Story) → c.sent.sent ≡ b.sent.sent → SentOnly c → SentOnly (story_after_message s c next m)
+    made c same k =
+        let f : LinkSent c.sent.sent next = subst (λ (x : List Item). LinkSent x next) (sym same) fits in
+        put_if (record c { link = Some next }) (carried_after_message_if (carried_if c next.item) m)
+        (messages_there c.sent.sent (carried_if c next.item) m (λ x e. item_there c next.item f.item x e))
+        (record { carried = k.carried; link = one_link c.sent.sent next f })
+
+    go : (q : Bool) → SentOnly (story_after_message s (if q then story_with_restored b (link_after_name b.sent s.commands l m).item else b) next m)
+    go true = made (story_with_restored b (link_after_name b.sent s.commands l m).item) (restored_sent b (link_after_name b.sent s.commands l m).item) (restored_only b (link_after_name b.sent s.commands l m).item (λ i e. named_sent s b.sent l m g.item i e) h)
+    go false = made b refl h
+
+byte_id : (c : CarriedBytes) (d : RowReading) (byte : ℕ) → (carried_after_byte c d.change.before byte).id ≡ c.id
+byte_id c d byte = go d.change.before.msg d.change.before.cd d.change.before.io
+  where
+    go : (m x i : Bool) → (carried_after_byte c (record d.change.before { msg = m; cd = x; io = i }) byte).id ≡ c.id
+    go true x i = refl
+    go false true true = refl
+    go false true false = refl
+    go false false i = refl
+
+byte_only : (b : Story) (l : Link) (d : RowReading) → b.link ≡ Some l → SentOnly b → SentOnly (story_after_byte b l d)
+byte_only b l d el h = go d.change.before.msg
+  where
+    there : (y : Option CarriedBytes) → ((x : CarriedBytes) → y ≡ Some x → has_item b.sent.sent (process x.id) ≡ true) → (x : CarriedBytes) → carried_after_byte_if y d ≡ Some x → has_item b.sent.sent (process x.id) ≡ true
+    there None f x e = f x e
+    there (Some y) f x e = ap (λ (i : ProcId). has_item b.sent.sent (process i)) (sym (ap (λ (z : CarriedBytes). z.id) (ap (or_bytes x) e)) ∙ byte_id y d _) ∙ f y refl
+
+    go : (q : Bool) → SentOnly (if q then b else story_with_carried b (carried_after_byte_if (carried_if b l.item) d))
+    go true = h
+    go false = put_if b (carried_after_byte_if (carried_if b l.item) d) (there (carried_if b l.item) (λ x e. item_there b l.item (link_here b l el h).item x e)) h
+
+fault_id : (c : CarriedBytes) (w : Change) → (carried_after_fault c w.before).id ≡ c.id
+fault_id c w = go w.before.msg w.before.cd
+  where
+    go : (m x : Bool) → (carried_after_fault c (record w.before { msg = m; cd = x })).id ≡ c.id
+    go true x = refl
+    go false true = io w.before.io
+      where
+        io : (i : Bool) → (carried_after_fault c (record w.before { msg = false; cd = true; io = i })).id ≡ c.id
+        io true = refl
+        io false = refl
+    go false false = refl
+
+fault_only : (b : Story) (l : Link) (kind : Kind) → b.link ≡ Some l → SentOnly b → SentOnly (story_after_fault b l kind)
+fault_only b l (Drives lines) el h = h
+fault_only b l (Fault bit) el h = put_if b (carried_after_fault_if (carried_if b l.item) b.bus_state.crossed) (there (carried_if b l.item) b.bus_state.crossed (λ x e. item_there b l.item (link_here b l el h).item x e)) h
+  where
+    there : (y : Option CarriedBytes) (w : Option Change) → ((x : CarriedBytes) → y ≡ Some x → has_item b.sent.sent (process x.id) ≡ true) → (x : CarriedBytes) → carried_after_fault_if y w ≡ Some x → has_item b.sent.sent (process x.id) ≡ true
+    there None w f x e = f x e
+    there (Some y) None f x e = f x e
+    there (Some y) (Some w) f x e = ap (λ (i : ProcId). has_item b.sent.sent (process i)) (sym (ap (λ (z : CarriedBytes). z.id) (ap (or_bytes x) e)) ∙ fault_id y w) ∙ f y refl
+
+connected_only : (s : ScenarioValue) (b : Story) (l : Option Link) (d : RowReading) (row : Row) → b.link ≡ l → SentOnly b → SentOnly (story_in_connection s b l d row)
+connected_only s b None d row el h = h
+connected_only s b (Some l) d row el h = go d.crosses (is_some d.out) (is_some d.into)
+  where
+    go : (q r t : Bool) → SentOnly (if q then (if r then story_after_out b l d.out else if t then story_after_in s b l d.into else story_after_byte b l d) else story_after_fault b l row.kind)
+    go true true t = out_only b l d.out el h
+    go true false true = in_only s b l d.into el h
+    go true false false = byte_only b l d el h
+    go false r t = fault_only b l row.kind el h
+
+pub bus_only : (s : ScenarioValue) (b : Story) (m n : Option Connection) (d : RowReading) (row : Row) → SentOnly b → SentOnly (story_on_bus s b m n d row)
+bus_only s b None None d row h = let e = free_keeps s b d row in only_by (story_on_free_bus s b d row) b e.0 e.1 e.2 h
+bus_only s b None (Some n) d row h = begun_only b n h
+bus_only s b (Some m) None d row h = record { carried = h.carried; link = no_links b.sent.sent }
+bus_only s b (Some m) (Some n) d row h = connected_only s b b.link d row refl h

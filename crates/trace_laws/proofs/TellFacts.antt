@@ -1,0 +1,310 @@
+-- A prompt trace tells the events that the ends of its connections show.
+use Rattle.std.proofs.Common.{inl, inr, ℕ, ◌≡◌, ◌⊎◌, ◌<◌, ◌≤◌, ◌+◌, ◌^◌, Bool, true, false, not, ◌&&◌, ◌||◌, ◌==◌, ◌∙◌, List, [], ◌∷◌, ◌++◌, length, length-append, Option, Some, None, refl, sym, ap, subst, arith}
+use Rattle.std.specs.Prelude.{if◌then◌else◌, is_some, nat_lt}
+use Rattle.std.proofs.lemmas.Bool.{and_parts}
+use Rattle.std.proofs.lemmas.Bool.Decides.{nat_tests}
+use Rattle.bus_base.specs.declared.AbortKind.{AbortKind}
+use Rattle.bus_base.specs.declared.ProcId.{ProcId}
+use Rattle.bus_trace.specs.LineSet.{LineSet}
+use Rattle.bus_trace.specs.declared.Row.{Row}
+use Rattle.bus_trace.specs.declared.connection.Connection.{Connection}
+use Rattle.bus_trace.specs.Phases.{changes_phase, is_data}
+use Rattle.bus_trace.specs.Terms.{receiver_in}
+use Rattle.scenario.specs.Value.{ScenarioValue}
+use Rattle.scenario.specs.Writing.{Obeys}
+use Rattle.disk_array.specs.Processes.{Process, process_of}
+use Rattle.bus_story.specs.BusState.{RowReading, row_reading}
+use Rattle.bus_story.specs.Items.{Item, process, abort}
+use Rattle.bus_story.specs.Links.{Link, plain, abortive}
+use Rattle.bus_dialogue.specs.declared.exchange.Cause.{Cause}
+use Rattle.bus_dialogue.specs.declared.exchange.Cause.TheVariants as causes
+use Rattle.bus_dialogue.specs.declared.exchange.Messages.{Messages}
+use Rattle.bus_dialogue.specs.declared.exchange.Phase.{Phase}
+use Rattle.bus_dialogue.specs.declared.exchange.Phase.TheVariants as phases
+use Rattle.bus_dialogue.specs.Ends.{follows_by}
+use Rattle.bus_dialogue.specs.Exchange.{bytes_of_messages}
+use Rattle.bus_dialogue.specs.NextPhase.{phase_of}
+use Rattle.bus_dialogue.specs.PhaseBytes.{follows_in}
+use Rattle.bus_dialogue.specs.Words.{is_naming, tag_named}
+use Rattle.bus_due.specs.Allowed.{is_allowed, allowed}
+use Rattle.bus_due.specs.Next.{IsPrompt}
+use Rattle.bus_due.specs.Plain.{IsPlain}
+use Rattle.bus_due.specs.RunState.{RunState, bus_of, item_of}
+use Rattle.bus_due.specs.RunSteps.{run_state}
+use Rattle.bus_due.specs.Sights.{serving_of}
+use Rattle.bus_due.specs.Telling.{is_true_telling, telling}
+use Rattle.bus_due.proofs.Plains.{run_state_plain}
+use Rattle.scsi_device.specs.Lines.{AreUnits}
+use Rattle.scsi_device.proofs.FitLines.{obeys_fits, seats_are, units_are}
+use Rattle.bus_laws.proofs.Limits.{obeys_latencies}
+use Rattle.bus_laws.proofs.Prompt.{least_is}
+use Rattle.bus_books.specs.Giving.{AreGiven}
+use Rattle.bus_books.specs.Knowing.{Knows}
+use Rattle.bus_books.specs.Reactions.{IsOver}
+use Rattle.bus_books.specs.Speaking.{Speaks}
+use Rattle.bus_books.proofs.InConnection.{reading_is}
+use Rattle.trace_laws.specs.LastTalks.{is_freeing, LastBy}
+use Rattle.trace_laws.specs.Named.{Names, all, tag_alone, known, said, refused, Named}
+use Rattle.trace_laws.specs.Asked.{AreAsked}
+use Rattle.trace_laws.specs.TellFacts.{TellFacts}
+use Rattle.trace_laws.specs.Tells.{AreRepliesShown, LastAsked, LastIn, IsServed, of_process, of_abort, IsLeaving, TellsAsLeft, FailsAsLeft, AreFailsAsked}
+use Rattle.trace_laws.proofs.Blocks.{commands_are}
+use Rattle.trace_laws.proofs.ByteValues.{byte_values}
+use Rattle.trace_laws.proofs.ConnectionRows.{ConnectionRow, connection_row}
+use Rattle.trace_laws.proofs.Crossings.{RowFacts, stays, ends_here}
+use Rattle.trace_laws.proofs.FreshItems.{items_found}
+use Rattle.trace_laws.proofs.ItemFacts.{items_start}
+use Rattle.trace_laws.proofs.ItemNext.{items_next}
+use Rattle.trace_laws.proofs.Joint.{Stood, NextStood, next_stood, link_phase}
+use Rattle.trace_laws.proofs.LastFacts.{last_start, last_next}
+use Rattle.trace_laws.proofs.LastTurns.{ends_closing}
+use Rattle.trace_laws.proofs.Named.{named_start, named_next}
+use Rattle.trace_laws.proofs.Offers.{offers_start, offers_next}
+use Rattle.trace_laws.proofs.ServedItems.{served_start, served_next}
+use Rattle.trace_laws.proofs.ShownReplies.{replies_first, replies_next}
+use Rattle.trace_laws.proofs.TellEnds.{none_heard}
+use Rattle.trace_laws.proofs.TellRows.{is_heard}
+use Rattle.trace_laws.proofs.TellTraces.{tells_row}
+use Rattle.trace_laws.proofs.Traces.{stood_first}
+use Rattle.trace_laws.proofs.UndoneAnswers.{in_phase, out_phase}
+use Rattle.trace_laws.proofs.UndoneFacts.{undo_start, undo_asks, undo_next, in_of}
+
+wrong : {A : Type 0} → true ≡ false → A
+wrong e = absurd cc
+
+wrong' : {A : Type 0} → false ≡ true → A
+wrong' e = absurd cc
+
+-- ---- MESSAGE IN is left with ATN false after all of its bytes
+
+no_data : (q : Bool) (b : LineSet) (r : Bool) → phase_of b ≡ phases.MessageIn → (q && is_data b && r) ≡ false
+no_data q b r e = go q b.msg b.cd b.io r (ap is_in e)
+  where
+    is_in : Phase → Bool
+    is_in phases.MessageIn = true
+    is_in _ = false
+
+    go : (q m d i r : Bool) → is_in (if m then (if i then phases.MessageIn else phases.MessageOut) else if d then (if i then phases.Status else phases.Command) else if i then phases.DataIn else phases.DataOut) ≡ true → (q && (not m && not d) && r) ≡ false
+    go true true d i r z = refl
+    go false true d i r z = refl
+    go true false true true r z = wrong' z
+    go true false true false r z = wrong' z
+    go true false false true r z = wrong' z
+    go true false false false r z = wrong' z
+    go false false true true r z = wrong' z
+    go false false true false r z = wrong' z
+    go false false false true r z = wrong' z
+    go false false false false r z = wrong' z
+
+none_left : (count total : ℕ) (q : Bool) → ((count == 0 || not q) && nat_lt count total) ≡ false → q ≡ false → count ≤ total → count ≡ total
+none_left count total true e f le = wrong f
+none_left count total false e f le = go (count == 0) e
+  where
+    go : (q : Bool) → ((q || true) && nat_lt count total) ≡ false → count ≡ total
+    go true z = grind (arith, nat_tests)
+    go false z = grind (arith, nat_tests)
+
+pub front_length : (bytes half : List ℕ) (count : ℕ) → AreGiven bytes half count → count ≤ length bytes
+front_length bytes half count g =
+    let total : length bytes ≡ length (g.before ++ g.rest) = ap (λ (x : List ℕ). length x) g.bytes_are in
+    let two = length-append g.before g.rest in
+    let at = g.count_is in
+    omega arith
+
+pub all_given : (s : ScenarioValue) (k : RunState) (n : Connection) → phase_of (bus_of k) ≡ phases.MessageIn → (bus_of k).atn ≡ false → IsOver s k n → AreGiven (bytes_of_messages k.exchange.plan.messages) k.story.bus_state.dialogue.half k.handshakes.requests → k.handshakes.requests ≡ length (bytes_of_messages k.exchange.plan.messages)
+all_given s k n e off over g =
+    none_left k.handshakes.requests (length (bytes_of_messages k.exchange.plan.messages)) (bus_of k).atn
+    (sym (ap (λ (q : Bool). follows_by (serving_of s k n.target) q (bus_of k) k.handshakes) (no_data k.exchange.begun (bus_of k) _ e) ∙ ap (follows_in (serving_of s k n.target) k.handshakes (bus_of k).atn) e) ∙ over.follows)
+    off (front_length (bytes_of_messages k.exchange.plan.messages) k.story.bus_state.dialogue.half k.handshakes.requests g)
+
+-- ---- as a phase is left
+
+names_name : (p : Process) (l : Link) (m : Messages) (count : ℕ) → Names p l m count → is_naming m.first ≡ true
+names_name p l m count (all e f) = ap (λ (x : Messages). is_naming x.first) e
+names_name p l m count (tag_alone x e f g) = ap (λ (y : Messages). is_naming y.first) f ∙ tagged p.tag e
+  where
+    tagged : (t : Rattle.scenario.specs.declared.value.Tag.Tag) → tag_named t ≡ Some x → is_naming (Some x) ≡ true
+    tagged Rattle.scenario.specs.declared.value.Tag.TheVariants.Untagged z = absurd cc
+    tagged (Rattle.scenario.specs.declared.value.Tag.TheVariants.Simple n) z = ap is_naming (sym z)
+    tagged (Rattle.scenario.specs.declared.value.Tag.TheVariants.Ordered n) z = ap is_naming (sym z)
+    tagged (Rattle.scenario.specs.declared.value.Tag.TheVariants.Head n) z = ap is_naming (sym z)
+
+record Leaves (s : ScenarioValue) (p : List Row) (row : Row) (n : Connection) : Type 0 where
+  units : AreUnits s
+  was : Stood s p
+  facts : TellFacts s p
+  leaving : IsLeaving s p row n
+  over : IsOver s (run_state s p) n
+  known : (bus_of (run_state s p)).msg ≡ true → (bus_of (run_state s p)).cd ≡ true
+
+plain_of : (s : ScenarioValue) (p : List Row) (row : Row) (n : Connection) → Leaves s p row n → IsPlain s p (run_state s p)
+plain_of s p row n h = run_state_plain s p h.was.standing.devices
+
+knows_of : (s : ScenarioValue) (p : List Row) (row : Row) (n : Connection) → Leaves s p row n → Knows s (run_state s p) n
+knows_of s p row n h =
+    let pl = plain_of s p row n h in
+    h.was.books.knows n (pl.connection ∙ h.leaving.stands) (ap (λ (l : LineSet). l.rst) pl.bus ∙ h.leaving.calm)
+
+given_of : (s : ScenarioValue) (p : List Row) (row : Row) (n : Connection) → Leaves s p row n → phase_of (bus_of (run_state s p)) ≡ phases.MessageIn → AreGiven (bytes_of_messages (run_state s p).exchange.plan.messages) (run_state s p).story.bus_state.dialogue.half (run_state s p).handshakes.requests
+given_of s p row n h e =
+    let pl = plain_of s p row n h in
+    (h.was.books.gives n (pl.connection ∙ h.leaving.stands) (ap (λ (l : LineSet). l.rst) pl.bus ∙ h.leaving.calm)).in_message_in h.leaving.begun (in_of (bus_of (run_state s p)) e h.known)
+
+no_item : {A : Type 0} (item : Item) → (let o : Option Item = None in o) ≡ Some item → A
+no_item item e = absurd cc
+
+served_some : (s : ScenarioValue) (k : RunState) (n : Connection) → IsServed s k n → k.served ≡ None → ⊥
+served_some s k n (of_process id p e f) z = no_item (process id) (sym z ∙ e)
+served_some s k n (of_abort m a e line host target re alone) z = no_item (abort m) (sym z ∙ e)
+
+-- Before a name was heard the names are said, or said again.
+naming_left : (s : ScenarioValue) (p : List Row) (row : Row) (n : Connection) → Leaves s p row n → item_of (run_state s p).story.link ≡ None
+    → ((phase_of (bus_of (run_state s p)) ≡ phases.MessageOut) × ((run_state s p).exchange.plan.cause ≡ causes.InMessage) × (is_naming (run_state s p).exchange.plan.messages.first ≡ true)) ⊎ ((phase_of (bus_of (run_state s p)) ≡ phases.MessageIn) × ((bus_of (run_state s p)).atn ≡ true))
+naming_left s p row n h none = by_item w.item_is
+  where
+    k : RunState
+    k = run_state s p
+
+    w : Knows s k n
+    w = knows_of s p row n h
+
+    Told : Type 0
+    Told = ((phase_of (bus_of k) ≡ phases.MessageOut) × (k.exchange.plan.cause ≡ causes.InMessage) × (is_naming k.exchange.plan.messages.first ≡ true)) ⊎ ((phase_of (bus_of k) ≡ phases.MessageIn) × ((bus_of k).atn ≡ true))
+
+    link : (l : Link) → k.story.link ≡ Some l → l.item ≡ None
+    link l e = ap item_of (sym e) ∙ none
+
+    unknown : {A : Type 0} (l : Link) → k.story.link ≡ Some l → is_some l.item ≡ true → A
+    unknown l e f = wrong' (sym (ap (λ (x : Option Item). is_some x) (link l e)) ∙ f)
+
+    by_name : Named s k n → Told
+    by_name (known l e f g) = unknown l e f
+    by_name (refused q l naming out cause names) = inl (out_phase (bus_of k) out, cause, names_name q l k.exchange.plan.messages 0 names)
+    by_name (said q l naming into names whole) = go (bus_of k).atn refl
+      where
+        here : phase_of (bus_of k) ≡ phases.MessageIn
+        here = in_phase (bus_of k) into
+
+        go : (q : Bool) → (bus_of k).atn ≡ q → Told
+        go true e = inr (here, e)
+        go false e = unknown l naming.link_is (whole (all_given s k n here e h.over (given_of s p row n h here)))
+
+    by_item : (w.link.item ≡ k.served) ⊎ ((n.reselected ≡ true) × (w.link.item ≡ None)) → Told
+    by_item (inl same) = absurd (served_some s k n (h.facts.served n h.leaving.stands h.leaving.calm) (sym same ∙ link w.link w.link_is))
+    by_item (inr re) = by_name (h.facts.named n h.leaving.stands h.leaving.calm re.0)
+
+-- The last message tells what the target means.
+last_left : (s : ScenarioValue) (p : List Row) (row : Row) (n : Connection) → Leaves s p row n → (l : Link) → (run_state s p).story.link ≡ Some l → LastIn (run_state s p).exchange.plan (bus_of (run_state s p)).atn l.last (phase_of (bus_of (run_state s p)))
+last_left s p row n h l el = go (h.facts.served n h.leaving.stands h.leaving.calm)
+  where
+    k : RunState
+    k = run_state s p
+
+    pl : IsPlain s p k
+    pl = plain_of s p row n h
+
+    speaks : Speaks s k n
+    speaks = h.was.books.speaks n (pl.connection ∙ h.leaving.stands) (ap (λ (x : LineSet). x.rst) pl.bus ∙ h.leaving.calm)
+
+    of_one : (id : ProcId) (q : Process) → k.served ≡ Some (process id) → process_of s id ≡ Some q → (phase : Phase) → phase_of (bus_of k) ≡ phase → LastBy l k.exchange.plan k.handshakes.requests k.story.bus_state.dialogue.is_last phase → LastIn k.exchange.plan (bus_of k).atn l.last phase
+    of_one id q served of phases.MessageOut e w =
+        let heard = is_heard s k n h.units speaks h.leaving.begun h.known h.over e in
+        asked k.exchange.plan.cause (w.0 heard.last) (none_heard s k n id q speaks served of h.leaving.begun heard.out heard.last heard.named)
+      where
+        asked : (cause : Cause) → l.last ≡ plain → k.exchange.plan.said.aborts ≡ None → LastAsked k.exchange.plan l.last cause
+        asked causes.Selected last none = λ z. wrong' (sym (ap (λ (x : Option AbortKind). is_some x) none) ∙ z)
+        asked causes.InMessage last none = last
+        asked causes.InStatus last none = last
+        asked causes.InData last none = tt
+    of_one id q served of phases.MessageIn e w = λ off free. ends_closing l k.exchange.plan.messages k.exchange.plan.next k.handshakes.requests w (ap is_freeing free) (all_given s k n e off h.over (given_of s p row n h e))
+    of_one id q served of phases.Command e w = tt
+    of_one id q served of phases.DataIn e w = tt
+    of_one id q served of phases.DataOut e w = tt
+    of_one id q served of phases.Status e w = tt
+
+    go : IsServed s k n → LastIn k.exchange.plan (bus_of k).atn l.last (phase_of (bus_of k))
+    go (of_process id q served of) = of_one id q served of (phase_of (bus_of k)) refl (((h.facts.last n h.leaving.stands h.leaving.calm).0 l id el served).begun h.leaving.begun)
+    go (of_abort m a served line host target re alone) =
+        let at = alone h.leaving.begun in
+        let heard = is_heard s k n h.units speaks h.leaving.begun h.known h.over at.0 in
+        let last : l.last ≡ abortive = (h.facts.last n h.leaving.stands h.leaving.calm).1 l m el served h.leaving.begun heard.last in
+        subst (LastIn k.exchange.plan (bus_of k).atn l.last) (sym at.0) (subst (LastAsked k.exchange.plan l.last) (sym at.1) (λ z. last))
+
+no_end : {A : Type 0} (n : Connection) → (let o : Option Connection = None in o) ≡ Some n → A
+no_end n e = absurd cc
+
+-- All of it, but for the code of a failure.
+pub left_tells : (s : ScenarioValue) (p : List Row) (row : Row) → Obeys s → IsPrompt s (row ∷ p) → Stood s p → TellFacts s p → FailsAsLeft s p row → TellsAsLeft s p row
+left_tells s p row o prompt was facts fails n w = record { served = facts.served n w.stands w.calm; failure = λ id e. fails n id w e; naming = naming_left s p row n h; last = last_left s p row n h }
+  where
+    k : RunState
+    k = run_state s p
+
+    pl : IsPlain s p k
+    pl = run_state_plain s p was.standing.devices
+
+    r : ConnectionRow s p row n
+    r = connection_row s p row n o prompt was w.stands w.calm w.calm_after
+
+    over : RowFacts s p row n → (changes_phase (row_reading k.story.bus_state row).change ≡ true) ⊎ ((row_reading k.story.bus_state row).next ≡ None) → IsOver s k n
+    over (ends_here g) leaves = g.over
+    over (stays g) (inl e) = g.over (ap changes_phase (sym g.row_is.change_is) ∙ e) (sym pl.begun ∙ w.begun)
+    over (stays g) (inr e) = no_end n (sym e ∙ ap (λ (d : RowReading). d.next) (reading_is k row n g.change (is_some (receiver_in n g.change)) g.row_is refl))
+
+    h : Leaves s p row n
+    h = record {
+      units = units_are s (obeys_fits s o);
+      was = was;
+      facts = facts;
+      leaving = w;
+      over = over r.facts w.leaves;
+      known = λ m. ap (λ (l : LineSet). l.cd) pl.bus ∙ (link_phase s p n r.stage (ap (λ (l : LineSet). l.msg) (sym pl.bus) ∙ m)).0;
+    }
+
+-- ---- all rows
+
+pub tell_start : (s : ScenarioValue) → TellFacts s []
+tell_start s = record { items = items_start s; offers = offers_start s; named = named_start s; undo = undo_start s; served = served_start s; last = last_start s }
+
+pub tell_next : (s : ScenarioValue) (p : List Row) (row : Row) → Obeys s → IsPrompt s (row ∷ p) → Stood s p → NextStood s p row → TellFacts s p → TellFacts s (row ∷ p)
+tell_next s p row o prompt was next h =
+    let served = served_next s p row o prompt was next h.served in
+    record {
+      items = items_next s p row o prompt was next h.items;
+      offers = offers_next s p row o prompt was next h.offers;
+      named = named_next s p row o prompt was next h.offers (λ n con after re. items_found s p n h.items) h.named;
+      undo = undo_next s p row o prompt was next h.undo;
+      served = served;
+      last = last_next s p row o prompt was next h.served served h.last;
+    }
+
+array_some : (s : ScenarioValue) (p : List Row) → allowed s p ≡ true → is_some (run_state s p).array ≡ true
+array_some s [] e = refl
+array_some s (row ∷ p) e = (and_parts (allowed s p) (is_allowed s (run_state s p) row (row_reading (run_state s p).story.bus_state row)) e).1
+
+pub record IsTold (s : ScenarioValue) (p : List Row) : Type 0 where
+  pub stood : Stood s p
+  pub facts : TellFacts s p
+  pub shown : AreRepliesShown s (run_state s p)
+  pub told : telling s p ≡ true
+
+both : (a b : Bool) → a ≡ true → b ≡ true → (a && b) ≡ true
+both a b e f = λ i. e i && f i
+
+-- Of a scenario that obeys the rules of its text, whose plain disk array permits the events.
+pub tells_rows : (s : ScenarioValue) (p : List Row) → Obeys s → IsPrompt s p → length p < 2 ^ 64 → AreAsked s p → allowed s p ≡ true → AreFailsAsked s p → IsTold s p
+tells_rows s [] o prompt short asked array fails = record { stood = stood_first s (units_are s (obeys_fits s o)); facts = tell_start s; shown = replies_first s; told = refl }
+tells_rows s (row ∷ p) o prompt short asked array fails =
+    let k = run_state s p in
+    let f = obeys_fits s o in
+    let permits = and_parts (allowed s p) (is_allowed s k row (row_reading k.story.bus_state row)) array in
+    let less : length p + 1 < 2 ^ 64 = omega arith in
+    let was = tells_rows s p o prompt.0 (omega arith) asked.0 permits.0 fails.0 in
+    let next = next_stood s p row (units_are s f) (seats_are s f) (commands_are s o) (λ q n dv. byte_values s q n o (seats_are s f) dv) (obeys_latencies s o) was.stood less asked.1 (least_is s p row prompt.1) in
+    let row_told = tells_row s p row o prompt was.stood was.shown (array_some s p permits.0) (left_tells s p row o prompt was.stood was.facts fails.1) in
+    record {
+      stood = next.stood;
+      facts = tell_next s p row o prompt was.stood next was.facts;
+      shown = replies_next s k row permits.1 (undo_asks s p row was.stood next was.facts.undo) was.shown;
+      told = both (telling s p) (is_true_telling s k row (row_reading k.story.bus_state row)) was.told row_told;
+    }

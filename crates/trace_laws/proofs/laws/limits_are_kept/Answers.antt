@@ -1,0 +1,19 @@
+use Rattle.scsi_device.proofs.FitLines.{obeys_fits, units_are}
+use Rattle.bus_books.proofs.Traces.{trace_faithful}
+use Rattle.trace_laws.proofs.Whole.{whole}
+use Rattle.trace_laws.proofs.laws.limits_are_kept.Goals as goal
+
+pub returns-clause-failures : goal.returns-clause-failures
+returns-clause-failures c = λ s rows p code o prompt short open_are told is failed.
+    let w = whole s rows o prompt short open_are in
+    let true_so = trace_faithful s rows (units_are s (obeys_fits s o)) w.rows_are in
+    c.limits_are_passed.ensures.faults s rows p w.complains (c.limits_are_passed.ensures.failures s rows p code true_so told is failed)
+
+pub returns-clause-losses : goal.returns-clause-losses
+returns-clause-losses c = λ s rows p o prompt short open_are told is lost.
+    let w = whole s rows o prompt short open_are in
+    let true_so = trace_faithful s rows (units_are s (obeys_fits s o)) w.rows_are in
+    c.limits_are_passed.ensures.faults s rows p w.complains (c.limits_are_passed.ensures.losses s rows p true_so told w.left is lost)
+
+pub returns-clause-complains : goal.returns-clause-complains
+returns-clause-complains c = λ s rows o prompt short open_are. (whole s rows o prompt short open_are).complains

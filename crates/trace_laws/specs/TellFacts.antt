@@ -1,0 +1,17 @@
+-- What holds after any rows of a prompt trace, by which its ends show the events that the rows show.
+use Rattle.std.specs.Prelude.{List}
+use Rattle.bus_trace.specs.declared.Row.{Row}
+use Rattle.scenario.specs.Value.{ScenarioValue}
+use Rattle.trace_laws.specs.ItemFacts.{ItemFacts}
+use Rattle.trace_laws.specs.LastTalks.{LastFacts}
+use Rattle.trace_laws.specs.Named.{NamedFacts}
+use Rattle.trace_laws.specs.Offers.{OfferFacts}
+use Rattle.trace_laws.specs.Tells.{ServedFacts, UndoFacts}
+
+pub record TellFacts (s : ScenarioValue) (rows : List Row) : Type 0 where
+  pub items : ItemFacts s rows
+  pub offers : OfferFacts s rows
+  pub named : NamedFacts s rows
+  pub undo : UndoFacts s rows
+  pub served : ServedFacts s rows
+  pub last : LastFacts s rows
