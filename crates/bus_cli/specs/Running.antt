@@ -2,10 +2,10 @@
 use Rattle.std.specs.Prelude.{ℕ, ◌≡◌, ◌≤◌, ◌+◌, List, Option, Some, None, Result, Ok, Err}
 use Rattle.scenario.specs.Value.{ScenarioValue}
 use Rattle.scenario.specs.Reading.{scenario_of}
-use Rattle.bus_run.specs.Seams.{SeamsHold}
 use Rattle.run_record.specs.Value.{RunValue}
 use Rattle.bus_engine.specs.Limits.{step_limit}
 use Rattle.bus_engine.specs.Runs.{IsRunOf, IsUnfinished}
+use Rattle.bus_engine.specs.Ties.{TiesHold}
 use Rattle.trace_text.specs.ReportText.{report_of}
 use Rattle.trace_text.specs.ShortText.{short_text}
 use Rattle.bus_cli.specs.Transcripts.{text_of_rows}
@@ -73,5 +73,5 @@ scenario_status (Err reason) = Refused
 -- ended, under the premise of its contract. What is no scenario takes none.
 abbrev pub StepsBy : Result ScenarioValue (ℕ × ℕ) → Status → ℕ → ℕ → Type 0
 StepsBy (Ok s) status before after =
-    (after ≤ before + step_limit s) × (status ≡ Unfinished → SeamsHold s → IsUnfinished s before after)
+    (after ≤ before + step_limit s) × (status ≡ Unfinished → TiesHold s → IsUnfinished s before after)
 StepsBy (Err reason) status before after = after ≡ before

@@ -5,3 +5,5 @@ mod Disks
 mod Places
 mod Leftovers
 mod Targeted
+mod Ties
+mod Attendance

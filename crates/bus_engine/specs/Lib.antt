@@ -1,3 +1,4 @@
 pub mod Limits
 pub mod Disks
 pub mod Runs
+pub mod Ties

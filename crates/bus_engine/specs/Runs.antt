@@ -2,6 +2,7 @@
 use Rattle.std.specs.Prelude.{ℕ, ◌≡◌, ◌<◌, ◌+◌, true, List, map, length, reverse, Option, Some}
 use Rattle.bus_trace.specs.declared.Row.{Row}
 use Rattle.bus_trace.specs.Trace.{last_time}
+use Rattle.bus_rules.specs.Lawful.{AreLawful}
 use Rattle.scenario.specs.Value.{ScenarioValue}
 use Rattle.disk_array.specs.ArrayHistory.{array_after, disks_of}
 use Rattle.bus_story.specs.Outcomes as told
@@ -12,10 +13,10 @@ use Rattle.bus_due.specs.Plain.{AreOfDevices}
 use Rattle.initiator.specs.declared.outcome.Outcome.{Outcome}
 use Rattle.initiator.specs.Outcomes.{told_outcome}
 use Rattle.bus_run.specs.Runs.{AreEarly, IsLong}
-use Rattle.bus_run.specs.Seams.{SeamsHold}
 use Rattle.run_record.specs.Value.{RunValue}
 use Rattle.bus_members.specs.Answers.{are_answered}
 use Rattle.bus_engine.specs.Limits.{row_limit, step_limit}
+use Rattle.bus_engine.specs.Ties.{TiesHold}
 
 abbrev pub told_reply : Outcome → Option told.Outcome
 told_reply outcome = Some (told_outcome outcome)
@@ -25,11 +26,12 @@ abbrev pub rows_of : RunValue → List Row
 rows_of run = reverse run.rows
 
 -- The run of a scenario: its rows are the prompt trace, after which nothing is due, its history is what they tell, each reply
--- is the outcome that they tell, and its disks hold what the plain disk array holds after that history. This under one
--- premise: that every prompt trace of the scenario ties what devices know to what rows tell (`SeamsHold`); and for the replies
--- that what came back is the reply (`are_answered`).
+-- is the outcome that they tell, and its disks hold what the plain disk array holds after that history; and the rows obey
+-- every rule of the bus. This under one premise: that every prompt trace of the scenario ties what devices know to what rows
+-- tell (`TiesHold`); and for the replies that what came back is the reply (`are_answered`).
 pub record IsPromptRun (s : ScenarioValue) (run : RunValue) : Type 0 where
   pub prompt : IsPrompt s (rows_of run)
+  pub lawful : AreLawful (rows_of run)
   pub ended : IsEnded s (rows_of run)
   pub history : reverse run.history ≡ trace_history s (rows_of run)
   pub replies : are_answered s (rows_of run) ≡ true → map told_reply run.replies ≡ outcomes s (story s (rows_of run))
@@ -38,7 +40,7 @@ pub record IsPromptRun (s : ScenarioValue) (run : RunValue) : Type 0 where
 -- Without premise each row is of one of the eight devices and comes before 2^62 ns, the end is the time of the last, the rows
 -- are fewer than the budget allows, and there are as many replies as commands and as many disks as units.
 pub record IsRunOf (s : ScenarioValue) (run : RunValue) : Type 0 where
-  pub told : SeamsHold s → IsPromptRun s run
+  pub told : TiesHold s → IsPromptRun s run
   pub devices : AreOfDevices run.rows
   pub early : AreEarly run.rows
   pub end : run.end ≡ last_time (rows_of run)

@@ -16,13 +16,13 @@ ghost use Rattle.scsi_device.specs.Lines.{FitsBus};
 ghost use Rattle.run_record.specs.Value.{held_by};
 ghost use Rattle.bus_run.specs.declared.running.RunEnd.TheVariants.{Unfinished};
 ghost use Rattle.bus_run.specs.Places.{AreIn};
-ghost use Rattle.bus_run.specs.Seams.{SeamsHold};
 ghost use Rattle.bus_members.specs.Answers.{are_answered};
 ghost use Rattle.bus_members.specs.Members.{IsMember};
 ghost use Rattle.bus_members.specs.Over.{AreOver};
 ghost use Rattle.bus_engine.specs.Disks.{IsWithin, have_targets};
 ghost use Rattle.bus_engine.specs.Limits.{step_limit};
 ghost use Rattle.bus_engine.specs.Runs.{told_reply, IsRunOf, IsUnfinished};
+ghost use Rattle.bus_engine.specs.Ties.{TiesHold};
 
 use crate::budget::most_rows;
 use crate::finishing::{disks, end_of, replies, units_by_target};
@@ -38,6 +38,9 @@ use scsi_device::scenarios_fit_the_bus;
 use std::alloc::Global;
 use std::sync::ledger::Ledger;
 use target_units::units_hold_their_blocks;
+use trace_laws::{
+    connections_are_of_the_scenario, prompt_traces_are_lawful, prompt_traces_keep_the_books,
+};
 
 // The blocks of the units of these targets, in the order of their lines.
 fn disks_in(
@@ -106,12 +109,15 @@ fn run_in<L: Ledger>(
     requires lawful { Obeys scenario.now }
     requires eight { length places.old ≡ 8 }
     ensures exact { AreIn IsMember scenario.now [] places.old → IfOk result (λ run. IsRunOf scenario.now run) }
-    ensures unfinished { AreIn IsMember scenario.now [] places.old → SeamsHold scenario.now
+    ensures unfinished { AreIn IsMember scenario.now [] places.old → TiesHold scenario.now
         → result ≡ Err Unfinished → IsUnfinished scenario.now steps.old steps.new }
     ensures steps { steps.new ≤ steps.old + step_limit scenario.now }
 {
     rows_tie_devices();
     kept_is_plain();
+    prompt_traces_keep_the_books();
+    prompt_traces_are_lawful();
+    connections_are_of_the_scenario();
     let trace = bus_run::run(alloc, scenario, places, most_rows(scenario), steps)?;
     Ok(finish(alloc, scenario, places, trace)?)
 }
@@ -129,7 +135,7 @@ pub fn run<L: Ledger>(
 ) -> Result<Run, RunEnd>
     requires { Obeys scenario.now }
     ensures exact { IfOk result (λ run. IsRunOf scenario.now run) }
-    ensures unfinished { SeamsHold scenario.now → result ≡ Err Unfinished
+    ensures unfinished { TiesHold scenario.now → result ≡ Err Unfinished
         → IsUnfinished scenario.now steps.old steps.new }
     ensures steps { steps.new ≤ steps.old + step_limit scenario.now }
 {

@@ -1,18 +1,25 @@
-use Rattle.std.proofs.Common.{ℕ, ◌≡◌, ◌<◌, ◌^◌, ◌∙◌, true, List, length, reverse, sym, ap, subst}
+use Rattle.std.proofs.Common.{Err, Result, ◌*◌, ◌+◌, ℕ, ◌≡◌, ◌<◌, ◌^◌, ◌∙◌, true, List, length, reverse, sym, ap, subst, arith}
+use Rattle.std.proofs.lemmas.Result.{err_from_is_err_and}
 use Rattle.bus_base.specs.declared.Event.{Event}
 use Rattle.bus_trace.specs.declared.Row.{Row}
 use Rattle.bus_trace.specs.Trace.{last_time}
+use Rattle.bus_rules.specs.Lawful.{AreLawful}
 use Rattle.disk_array.specs.ArrayHistory.{array_after, disks_of}
 use Rattle.bus_story.specs.Outcomes.{outcomes}
 use Rattle.bus_story.specs.Story.{Story}
 use Rattle.bus_story.specs.TraceHistory.{story, trace_history}
 use Rattle.bus_due.specs.Next.{IsPrompt, IsEnded}
 use Rattle.bus_due.specs.Plain.{AreOfDevices}
-use Rattle.bus_run.specs.Runs.{AreEarly}
+use Rattle.bus_run.specs.Runs.{AreEarly, IsLong}
+use Rattle.bus_run.specs.declared.running.RunEnd.{RunEnd}
 use Rattle.bus_members.specs.Answers.{are_answered}
 use Rattle.bus_engine.specs.Limits.{row_limit}
 use Rattle.bus_engine.proofs.Items.{all_reversed}
+use Rattle.bus_engine.proofs.Ties.{IsProved, all_few, all_open, seams_hold}
 use Rattle.bus_engine.proofs.running.run_in.Goals as goal
+
+same_end : {T : Type 0} {x y : RunEnd} → (let r : Result T RunEnd = Err x in r) ≡ Err y → x ≡ y
+same_end e = cc
 
 pub returns-clause-exact : goal.returns-clause-exact
 returns-clause-exact g c = λ at.
@@ -20,13 +27,20 @@ returns-clause-exact g c = λ at.
     let items = c.in_ok-trace.trace.rows.items in
     let all : List Row = reverse c.in_ok-trace.trace.rows.items in
     let r = c.in_ok-finish.ensures.rows in
+    let proved : IsProved s = record {
+      faithful_are = λ rows p short open_are. c.prompt_traces_keep_the_books.ensures.faithful s rows c.requires.lawful p short open_are;
+      ends_are = λ rows p short open_are. c.connections_are_of_the_scenario.ensures.ends s rows c.requires.lawful p short open_are;
+    } in
     let plain = c.kept_is_plain.ensures.rows s all c.in_ok-trace.ensures.devices in
     record {
-      told = λ h.
+      told = λ ties.
+          let h = seams_hold s proved ties in
+          let few = all_few items c.most_rows.result c.in_ok-trace.ensures.few c.most_rows.ensures.few in
           let prompt = c.in_ok-trace.ensures.prompt h at in
           let places = c.in_ok-trace.ensures.places h at in
           record {
             prompt = subst (λ (l : List Row). IsPrompt s (reverse l)) (sym r) prompt;
+            lawful = subst (λ (l : List Row). AreLawful (reverse l)) (sym r) (c.prompt_traces_are_lawful.ensures.lawful s all c.requires.lawful prompt (omega (arith, few)) (all_open s ties all prompt few));
             ended = subst (λ (l : List Row). IsEnded s (reverse l)) (sym r) (c.in_ok-trace.ensures.ended h at);
             history = ap (λ (l : List Event). reverse l) c.in_ok-finish.ensures.history ∙ c.in_ok-trace.ensures.history h at ∙ ap (λ (l : List Row). trace_history s (reverse l)) (sym r);
             replies = λ answers.
@@ -34,7 +48,7 @@ returns-clause-exact g c = λ at.
                 ∙ ap (λ (b : Story). outcomes s b) plain.story
                 ∙ ap (λ (l : List Row). outcomes s (story s (reverse l))) (sym r);
             disks =
-                c.in_ok-finish.ensures.disks all plain (c.rows_tie_devices.ensures.allowed s all (h all prompt)) places
+                c.in_ok-finish.ensures.disks all plain (c.rows_tie_devices.ensures.allowed s all (h all prompt few)) places
                 ∙ ap (λ (l : List Row). disks_of (array_after s (trace_history s (reverse l)))) (sym r);
           };
       devices = subst (λ (l : List Row). AreOfDevices l) (sym r) (all_reversed (λ (row : Row). row.dev < 8) items c.in_ok-trace.ensures.devices);
@@ -43,4 +57,19 @@ returns-clause-exact g c = λ at.
       few = subst (λ (l : List Row). length l < row_limit s) (sym r) (subst (λ (n : ℕ). length c.in_ok-trace.trace.rows.items < n) c.most_rows.ensures.exact c.in_ok-trace.ensures.few);
       answered = c.in_ok-finish.ensures.answered;
       stored = c.in_ok-finish.ensures.stored;
+    }
+
+pub returns-in_err-trace-clause-unfinished : goal.returns-in_err-trace-clause-unfinished
+returns-in_err-trace-clause-unfinished g c = λ at ties e.
+    let s = c.args.scenario.now in
+    let proved : IsProved s = record {
+      faithful_are = λ rows p short open_are. c.prompt_traces_keep_the_books.ensures.faithful s rows c.requires.lawful p short open_are;
+      ends_are = λ rows p short open_are. c.connections_are_of_the_scenario.ensures.ends s rows c.requires.lawful p short open_are;
+    } in
+    let p = err_from_is_err_and c.from_residual.result c.from_residual.ensures.1 in
+    let is = sym p.2 ∙ same_end (sym p.1 ∙ e) in
+    let u = c.in_err-trace.ensures.unfinished (seams_hold s proved ties) at (ap (λ (x : RunEnd). Err x) is) in
+    record {
+      long = subst (λ (n : ℕ). IsLong s n) c.most_rows.ensures.exact u.0;
+      steps = u.1 ∙ ap (λ (n : ℕ). c.args.steps.now + 8 * n) c.most_rows.ensures.exact;
     }

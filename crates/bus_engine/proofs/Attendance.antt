@@ -1,0 +1,175 @@
+-- What a prompt trace shows in a connection is attended, as the target of the connection rests on it.
+use Rattle.std.proofs.Common.{ℕ, ◌≡◌, ◌<◌, Bool, true, false, not, ◌&&◌, ◌||◌, ◌==◌, ◌∙◌, List, [], ◌∷◌, length, Option, Some, None, refl, sym, ap, arith}
+use Rattle.std.specs.Prelude.{if◌then◌else◌, is_some, nat_lt}
+use Rattle.std.proofs.lemmas.Bool.Decides.{nat_tests}
+use Rattle.bus_base.specs.declared.Event.{Event}
+use Rattle.bus_base.specs.declared.Event.TheVariants as events
+use Rattle.bus_base.specs.declared.ProcId.{ProcId}
+use Rattle.bus_trace.specs.declared.Row.{Row}
+use Rattle.bus_trace.specs.declared.changes.Change.{Change}
+use Rattle.bus_trace.specs.declared.connection.Connection.{Connection}
+use Rattle.bus_trace.specs.Changes.{change_of}
+use Rattle.bus_trace.specs.Terms.{connection}
+use Rattle.bus_trace.specs.Trace.{bus}
+use Rattle.cdb_codec.specs.declared.status.TheConstants.{GOOD}
+use Rattle.scenario.specs.Value.{ScenarioValue}
+use Rattle.bus_story.specs.BusState.{RowReading, row_reading}
+use Rattle.bus_story.specs.Items.{Item, process}
+use Rattle.bus_due.specs.Next.{IsPrompt}
+use Rattle.bus_due.specs.Plain.{AreOfDevices, IsPlain}
+use Rattle.bus_due.specs.RunState.{RunState, array_of, process_served}
+use Rattle.bus_due.specs.RunSteps.{run_state}
+use Rattle.bus_due.proofs.Plains.{run_state_plain}
+use Rattle.scsi_device.specs.Heard.{Instructions, instructions, is_opening}
+use Rattle.scsi_device.specs.Writes.{Writer, writers}
+use Rattle.target_course.specs.Replies.{shows_run}
+use Rattle.disk_target.specs.Attended.{are_in, are_known_ends, attended, is_abort_in, is_attended, is_attended_if, is_attended_in, is_calm_turn, is_empty, is_known_end, is_of_item, is_quiet, is_unseen, is_whole_run}
+use Rattle.bus_books.proofs.Lists.{eq_self}
+use Rattle.bus_books.proofs.Lookups.{self_id}
+use Rattle.bus_laws.proofs.Apart.{change_plain}
+use Rattle.trace_laws.specs.Attendance.{AreShown, IsShown, Shows, ShowsIn, accepts, refuses, runs, fails, ends, loses, aborts, events_of}
+
+wrong : {A : Type 0} → true ≡ false → A
+wrong e = absurd cc
+
+or_true : (q : Bool) → (q || true) ≡ true
+or_true true = refl
+or_true false = refl
+
+-- Where a test holds it may rest on what is asked there.
+unless : (a b : Bool) → (a ≡ false → b ≡ true) → (a || b) ≡ true
+unless true b f = refl
+unless false b f = f refl
+
+where_asked : (a b : Bool) → (a ≡ true → b ≡ true) → (not a || b) ≡ true
+where_asked true b f = f refl
+where_asked false b f = refl
+
+both : (a b : Bool) → a ≡ true → b ≡ true → (a && b) ≡ true
+both a b e f = λ i. e i && f i
+
+-- ---- its events
+
+of_served : (k : RunState) (n : Connection) (id : ProcId) (e : Event) → k.served ≡ Some (process id) → is_of_item (Some (process id)) e ≡ true → (is_of_item k.served e || is_abort_in n e) ≡ true
+of_served k n id e served h = λ i. (ap (λ (o : Option Item). is_of_item o e) served ∙ h) i || is_abort_in n e
+
+same_number : (a b : ℕ) → a ≡ b → (a == b) ≡ true
+same_number a b e = ap (λ (x : ℕ). x == b) e ∙ eq_self b
+
+below : (a b : ℕ) → a < b → nat_lt a b ≡ true
+below a b h = grind (arith, nat_tests)
+
+event_in : (k : RunState) (n : Connection) (known : Bool) (e : Event) → IsShown k n known e → (is_of_item k.served e || is_abort_in n e) ≡ true
+event_in k n known _ (accepts id h) = of_served k n id (events.Accept id) h (self_id id)
+event_in k n known _ (refuses id h) = of_served k n id (events.Refuse id) h (self_id id)
+event_in k n known _ (runs id h) = of_served k n id (events.Run id) h (self_id id)
+event_in k n known _ (fails id code h) = of_served k n id (events.Fail id code) h (self_id id)
+event_in k n known _ (ends id status h good) = of_served k n id (events.End id status) h (self_id id)
+event_in k n known _ (loses id h) = of_served k n id (events.Lost id) h (self_id id)
+event_in k n known _ (aborts host target unit what eh et lu lh) =
+    (λ i. is_of_item k.served (events.Aborted host target unit what) || (same_number host n.initiator eh i && same_number target n.target et i && (below unit 8 lu i && below host 8 lh i)))
+    ∙ or_true (is_of_item k.served (events.Aborted host target unit what))
+
+event_known : (k : RunState) (n : Connection) (known : Bool) (e : Event) → IsShown k n known e → is_known_end known e ≡ true
+event_known k n known _ (accepts id h) = refl
+event_known k n known _ (refuses id h) = refl
+event_known k n known _ (runs id h) = refl
+event_known k n known _ (fails id code h) = refl
+event_known k n known _ (ends id status h good) = go (status == GOOD) known good
+  where
+    go : (q r : Bool) → (q ≡ true → r ≡ true) → (r || not q) ≡ true
+    go true r f = λ i. f refl i || false
+    go false r f = or_true r
+event_known k n known _ (loses id h) = refl
+event_known k n known _ (aborts host target unit what eh et lu lh) = refl
+
+all_in : (k : RunState) (n : Connection) (known : Bool) (shown : List Event) → AreShown k n known shown → are_in n k.served shown ≡ true
+all_in k n known [] h = refl
+all_in k n known (e ∷ shown) h = both _ _ (event_in k n known e h.0) (all_in k n known shown h.1)
+
+all_known : (k : RunState) (n : Connection) (known : Bool) (shown : List Event) → AreShown k n known shown → are_known_ends known shown ≡ true
+all_known k n known [] h = refl
+all_known k n known (e ∷ shown) h = both _ _ (event_known k n known e h.0) (all_known k n known shown h.1)
+
+-- ---- the opening
+
+middle : (a b c : Bool) → b ≡ true → (a || b || c) ≡ true
+middle true b c e = refl
+middle false b c e = λ i. e i || c
+
+quiet : (s : ScenarioValue) (rows : List Row) (row : Row) (n : Connection) → ShowsIn s rows row n → is_quiet s (run_state s rows) n (is_some (row_reading (run_state s rows).story.bus_state row).next) (events_of s rows row) ≡ true
+quiet s rows row n h = go n.reselected refl (is_opening k) refl next refl
+  where
+    k : RunState
+    k = run_state s rows
+
+    next : Option Connection
+    next = (row_reading k.story.bus_state row).next
+
+    go : (q : Bool) → n.reselected ≡ q → (r : Bool) → is_opening k ≡ r → (o : Option Connection) → next ≡ o → (n.reselected || not (is_opening k) || (if is_some next then is_empty (events_of s rows row) else is_unseen (array_of s k) (process_served s k))) ≡ true
+    go true e r f o g = λ i. e i || not (is_opening k) || (if is_some next then is_empty (events_of s rows row) else is_unseen (array_of s k) (process_served s k))
+    go false e false f o g = middle n.reselected (not (is_opening k)) _ (ap not f)
+    go false e true f None g =
+        unless (n.reselected || not (is_opening k)) _ (λ z. ap (λ (x : Option Connection). if is_some x then is_empty (events_of s rows row) else is_unseen (array_of s k) (process_served s k)) g ∙ ap (is_unseen (array_of s k)) (h.ends_alone e f g))
+    go false e true f (Some m) g =
+        let some : is_some next ≡ true = ap (λ (x : Option Connection). is_some x) g in
+        unless (n.reselected || not (is_opening k)) _ (λ z. (λ i. if some i then is_empty (events_of s rows row) else is_unseen (array_of s k) (process_served s k)) ∙ ap is_empty (h.silent e f some))
+
+-- ---- the row
+
+-- Under the last part of it: a process that runs, and would end GOOD, has sent all that it sends.
+pub row_attended : (s : ScenarioValue) (rows : List Row) (row : Row) (all : List Writer) → AreOfDevices rows → row.dev < 8 → Shows s rows row → ((n : Connection) → connection rows ≡ Some n → is_calm_turn (row_reading (run_state s rows).story.bus_state row) ≡ true)
+    → (shows_run (events_of s rows row) ≡ true → is_whole_run s (run_state s rows) all (process_served s (run_state s rows)) ≡ true)
+    → is_attended s (run_state s rows) row (row_reading (run_state s rows).story.bus_state row) (instructions s rows) all ≡ true
+row_attended s rows row all dv lt h turn whole = ap (is_attended_if s k d i all (events_of s rows row)) pl.connection ∙ go (connection rows) refl
+  where
+    k : RunState
+    k = run_state s rows
+
+    d : RowReading
+    d = row_reading k.story.bus_state row
+
+    i : Instructions
+    i = instructions s rows
+
+    pl : IsPlain s rows k
+    pl = run_state_plain s rows dv
+
+    c : d.change ≡ change_of rows row
+    c = change_plain s row rows dv lt
+
+    before : (bus rows).rst ≡ d.change.before.rst
+    before = ap (λ (x : Change). x.before.rst) (sym c)
+
+    after : (bus (row ∷ rows)).rst ≡ d.change.after.rst
+    after = ap (λ (x : Change). x.after.rst) (sym c)
+
+    inside : (n : Connection) → ShowsIn s rows row n → is_attended_in s k d i all (events_of s rows row) n ≡ true
+    inside n w =
+        both _ _ (all_in k n i.known (events_of s rows row) w.shown)
+        (both _ _ (all_known k n i.known (events_of s rows row) w.shown) (both _ _ (quiet s rows row n w) (where_asked (shows_run (events_of s rows row)) _ whole)))
+
+    by : (n : Connection) → connection rows ≡ Some n → d.change.after.rst ≡ false → (q : Bool) → d.change.before.rst ≡ q → (if d.change.before.rst then is_empty (events_of s rows row) else is_attended_in s k d i all (events_of s rows row) n) ≡ true
+    by n con off true on = (λ j. if on j then is_empty (events_of s rows row) else is_attended_in s k d i all (events_of s rows row) n) ∙ ap is_empty (h.after_reset n con (before ∙ on) (after ∙ off)).none
+    by n con off false calm = (λ j. if calm j then is_empty (events_of s rows row) else is_attended_in s k d i all (events_of s rows row) n) ∙ inside n (h.inside n con (before ∙ calm) (after ∙ off))
+
+    go : (o : Option Connection) → connection rows ≡ o → is_attended_if s k d i all (events_of s rows row) o ≡ true
+    go None e = refl
+    go (Some n) e = both _ _ (turn n e) (unless d.change.after.rst _ (λ off. by n e off d.change.before.rst refl))
+
+-- ---- all rows
+
+-- What is proved of a row, and what is left of it.
+pub record AttendsRow (s : ScenarioValue) (rows : List Row) (row : Row) : Type 0 where
+  pub devices : AreOfDevices rows
+  pub below : row.dev < 8
+  pub shows : Shows s rows row
+  pub turn : (n : Connection) → connection rows ≡ Some n → is_calm_turn (row_reading (run_state s rows).story.bus_state row) ≡ true
+  pub whole : shows_run (events_of s rows row) ≡ true → is_whole_run s (run_state s rows) (writers s rows) (process_served s (run_state s rows)) ≡ true
+
+-- Of fewer rows than this.
+pub rows_attended : (s : ScenarioValue) (most : ℕ) → ((p : List Row) (row : Row) → IsPrompt s (row ∷ p) → length (row ∷ p) < most → AttendsRow s p row) → (rows : List Row) → IsPrompt s rows → length rows < most → attended s rows ≡ true
+rows_attended s most each [] prompt few = refl
+rows_attended s most each (row ∷ rows) prompt few =
+    let h = each rows row prompt few in
+    both _ _ (rows_attended s most each rows prompt.0 (omega (arith, few))) (row_attended s rows row (writers s rows) h.devices h.below h.shows h.turn h.whole)
