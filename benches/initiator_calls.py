@@ -1,14 +1,17 @@
 #!/usr/bin/env python3
 """Times the calls of an initiator: what it costs to see a row, and to say what is due, with many commands that are done.
 
-    benches/initiator_calls.py
+    benches/initiator_calls.py [--instructions]
 
 The driver is built in a temporary copy of the crates that it stands on, and stands nowhere else. It makes an initiator of 16, 256 or
 4,096 commands, of which all but the last eight have ended, and then goes over and over through an arbitration and a selection of other
 devices. Prints, for each number of commands, the best processor time of some runs in ns for each row seen, each row seen that shows the
-end of a command, and each answer of what is due, without that of a run in which the initiator is called not at all.
+end of a command, and each answer of what is due, without that of a run in which the initiator is called not at all. With `--instructions`
+it counts the instructions of one run in place of its time (valgrind), which other work on the machine does not change.
 """
 import pathlib
+import re
+import subprocess
 import sys
 import tempfile
 
@@ -227,21 +230,35 @@ turn-requires-clause-timely c =
 }
 
 
-def run(program, place, kind):
-    """The least processor time of some runs, in seconds."""
-    time, said = least_time(ROUNDS, [program] + ["x"] * (4 * place + kind))
+def words_of(program, place, kind):
+    return [program] + ["x"] * (4 * place + kind)
+
+
+def time_of(program, place, kind):
+    """The least processor time of some runs, in ns."""
+    time, said = least_time(ROUNDS, words_of(program, place, kind))
     if not said:
         sys.exit("no initiator was made")
-    return time
+    return time * 1e9
+
+
+def instructions_of(program, place, kind):
+    """The instructions of one run."""
+    words = ["valgrind", "--tool=callgrind", "--callgrind-out-file=/dev/null"] + words_of(program, place, kind)
+    run = subprocess.run(words, stdin=subprocess.DEVNULL, capture_output=True, check=True, text=True)
+    if not run.stdout.strip():
+        sys.exit("no initiator was made")
+    return int(re.search(r"Collected : (\d+)", run.stderr).group(1))
 
 
 def main():
+    measure, unit = (instructions_of, "instructions") if sys.argv[1:] == ["--instructions"] else (time_of, "ns")
     with tempfile.TemporaryDirectory() as folder:
         program = build(pathlib.Path(folder), NAME, DEPS, DRIVER)
         for place, commands in enumerate(COMMANDS):
-            start = run(program, place, 0)
-            times = ["%s %.1f ns" % (name, (run(program, place, kind) - start) / CALLS * 1e9) for kind, name in enumerate(KINDS) if kind]
-            print("%d commands: %s" % (commands, ", ".join(times)))
+            start = measure(program, place, 0)
+            costs = ["%s %.1f %s" % (name, (measure(program, place, kind) - start) / CALLS, unit) for kind, name in enumerate(KINDS) if kind]
+            print("%d commands: %s" % (commands, ", ".join(costs)), flush=True)
 
 
 main()
