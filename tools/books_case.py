@@ -4,16 +4,15 @@ after it.
 
     tools/books_case.py tools/due_cases/*.scn > crates/bus_books/proofs/Cases.antt
     tools/books_case.py --whole tools/cases/*.scn > crates/bus_books/proofs/StoryCases.antt
-    tools/books_case.py --open tools/due_cases/*.scn > crates/trace_laws/proofs/Cases.antt
 
-With `--open` the lemmas say that no process that has shown a reply is reselected (`OpenAnew` of crates/trace_laws/specs). With `--whole` it writes the scenarios and their rows, too, those of the report NAME.out beside each NAME.scn, which comes from outside
+With `--whole` it writes the scenarios and their rows, too, those of the report NAME.out beside each NAME.scn, which comes from outside
 this repository. The books are stated as tests in `Tests` of crates/bus_books/specs, what is asked of a row in `RowTests`.
 """
 import sys
 
 import array_case
 
-HEAD = """%s Written by tools/books_case.py.
+HEAD = """-- Each row of some runs is as it is due to be, and the books hold after it. Written by tools/books_case.py.
 use Rattle.std.proofs.Common.{◌≡◌, true, refl}
 use lib.Count.{ones}
 use Rattle.bus_trace.specs.LineSet.{line_of}
@@ -21,11 +20,8 @@ use Rattle.bus_trace.specs.View.{union_below}
 use Rattle.msg_grammar.specs.Messages.{form_out, form_in}
 use Rattle.scenario.specs.Needs.{need_of, sent_of}
 use Rattle.bus_due.specs.RunSteps.{first_run_state}
-use %s"""
+use Rattle.bus_books.specs.RowTests.{keep_books}"""
 
-# What the lemmas say of a run: in words, by which test, and where that stands.
-BOOKS = ("-- Each row of some runs is as it is due to be, and the books hold after it.", "keep_books", "Rattle.bus_books.specs.RowTests.{keep_books}")
-OPEN = ("-- In some runs no process that has shown a reply is reselected.", "keep_open", "Rattle.trace_laws.specs.OpenAnew.{keep_open}")
 UNFOLDING = "unfolding need_of sent_of ones union_below line_of form_out form_in"
 
 
@@ -41,35 +37,33 @@ use Rattle.bus_trace.specs.declared.Row.{Row}
 use Rattle.bus_trace.specs.declared.Kind.TheVariants.{Drives, Fault}"""
 
 
-def print_lemma(name, test):
+def print_lemma(name):
     """The lemma of one run."""
-    lemma = "%s_%s" % (name, test.split("_")[1])
-    print("\n%s : %s %s (first_run_state %s) %s_rows ≡ true" % (lemma, test, name, name, name))
+    lemma = "%s_books" % name
+    print("\n%s : keep_books %s (first_run_state %s) %s_rows ≡ true" % (lemma, name, name, name))
     print("%s\n%s = refl" % (UNFOLDING, lemma))
 
 
-def print_whole(head, test, paths):
+def print_whole(paths):
     """The runs that stand nowhere else, with their scenarios and rows."""
-    others = [line for line in array_case.HEAD.splitlines() if line.startswith("use ") and line not in head.splitlines()]
-    print("\n".join([head, ROWS] + others) + "\n" + DEFINITIONS)
+    others = [line for line in array_case.HEAD.splitlines() if line.startswith("use ") and line not in HEAD.splitlines()]
+    print("\n".join([HEAD, ROWS] + others) + "\n" + DEFINITIONS)
     for scn in paths:
         name = array_case.name_of(scn, "_story")
         array_case.print_scenario(name, scn)
         array_case.print_rows(name, scn[: -len("scn")] + "out")
-        print_lemma(name, test)
+        print_lemma(name)
 
 
 def main():
     paths = [word for word in sys.argv[1:] if not word.startswith("--")]
-    words, test, module = OPEN if "--open" in sys.argv else BOOKS
-    head = HEAD % (words, module)
     if "--whole" in sys.argv:
-        return print_whole(head, test, paths)
+        return print_whole(paths)
     names = [array_case.name_of(scn, "_due") for scn in paths]
-    print(head)
+    print(HEAD)
     print("use Rattle.bus_due.proofs.Cases.{%s}" % ", ".join("%s, %s_rows" % (name, name) for name in names))
     for name in names:
-        print_lemma(name, test)
+        print_lemma(name)
 
 
 main()

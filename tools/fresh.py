@@ -36,7 +36,6 @@ MADE = {
     "crates/bus_members/proofs/AnswerCases.antt": (["tools/answer_case.py", "Cases"] + RUNS, None),
     "crates/bus_books/proofs/Cases.antt": (["tools/books_case.py"] + RUNS, None),
     "crates/bus_books/proofs/StoryCases.antt": (["tools/books_case.py", "--whole"] + STORIES, None),
-    "crates/trace_laws/proofs/Cases.antt": (["tools/books_case.py", "--open"] + RUNS, None),
     "crates/bus_laws/proofs/WrittenCases.antt": (["tools/written_case.py", "Cases"] + RUNS, None),
     "crates/disk_target/proofs/AttendedCases.antt": (["tools/attended_case.py", "Cases"] + RUNS, None),
     "crates/ending_causes/proofs/RunCases.antt": (["tools/cause_case.py", "Cases"] + RUNS, None),

@@ -5,7 +5,6 @@ use Rattle.scenario.specs.Reading.{scenario_of}
 use Rattle.run_record.specs.Value.{RunValue}
 use Rattle.bus_engine.specs.Limits.{step_limit}
 use Rattle.bus_engine.specs.Runs.{IsRunOf, IsUnfinished}
-use Rattle.bus_engine.specs.Ties.{TiesHold}
 use Rattle.trace_text.specs.ReportText.{report_of}
 use Rattle.trace_text.specs.ShortText.{short_text}
 use Rattle.bus_cli.specs.Transcripts.{text_of_rows}
@@ -70,8 +69,8 @@ scenario_status (Ok s) = Done
 scenario_status (Err reason) = Refused
 
 -- The steps that a run takes: at most those of its budget; and it is unfinished only where it took them all and has not
--- ended, under the premise of its contract. What is no scenario takes none.
+-- ended. What is no scenario takes none.
 abbrev pub StepsBy : Result ScenarioValue (ℕ × ℕ) → Status → ℕ → ℕ → Type 0
 StepsBy (Ok s) status before after =
-    (after ≤ before + step_limit s) × (status ≡ Unfinished → TiesHold s → IsUnfinished s before after)
+    (after ≤ before + step_limit s) × (status ≡ Unfinished → IsUnfinished s before after)
 StepsBy (Err reason) status before after = after ≡ before

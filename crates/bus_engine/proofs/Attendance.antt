@@ -1,6 +1,6 @@
 -- What a prompt trace shows in a connection is attended, as the target of the connection rests on it.
-use Rattle.std.proofs.Common.{ℕ, ◌≡◌, ◌<◌, Bool, true, false, not, ◌&&◌, ◌||◌, ◌==◌, ◌∙◌, List, [], ◌∷◌, length, Option, Some, None, refl, sym, ap, arith}
-use Rattle.std.specs.Prelude.{if◌then◌else◌, is_some, nat_lt}
+use Rattle.std.proofs.Common.{ℕ, ◌≡◌, ◌⊎◌, inl, inr, ◌<◌, Bool, true, false, not, ◌&&◌, ◌||◌, ◌==◌, ◌∙◌, List, [], ◌∷◌, length, Option, Some, None, refl, sym, ap, arith}
+use Rattle.std.specs.Prelude.{if◌then◌else◌, is_some, nat_le, nat_lt}
 use Rattle.std.proofs.lemmas.Bool.Decides.{nat_tests}
 use Rattle.bus_base.specs.declared.Event.{Event}
 use Rattle.bus_base.specs.declared.Event.TheVariants as events
@@ -9,25 +9,32 @@ use Rattle.bus_trace.specs.declared.Row.{Row}
 use Rattle.bus_trace.specs.declared.changes.Change.{Change}
 use Rattle.bus_trace.specs.declared.connection.Connection.{Connection}
 use Rattle.bus_trace.specs.Changes.{change_of}
+use Rattle.bus_trace.specs.Phases.{changes_phase, is_message_in}
 use Rattle.bus_trace.specs.Terms.{connection}
 use Rattle.bus_trace.specs.Trace.{bus}
 use Rattle.cdb_codec.specs.declared.status.TheConstants.{GOOD}
 use Rattle.scenario.specs.Value.{ScenarioValue}
+use Rattle.disk_array.specs.Processes.{Process}
 use Rattle.bus_story.specs.BusState.{RowReading, row_reading}
 use Rattle.bus_story.specs.Items.{Item, process}
 use Rattle.bus_due.specs.Next.{IsPrompt}
 use Rattle.bus_due.specs.Plain.{AreOfDevices, IsPlain}
 use Rattle.bus_due.specs.RunState.{RunState, array_of, process_served}
 use Rattle.bus_due.specs.RunSteps.{run_state}
+use Rattle.bus_due.specs.Tasks.{is_writing}
 use Rattle.bus_due.proofs.Plains.{run_state_plain}
 use Rattle.scsi_device.specs.Heard.{Instructions, instructions, is_opening}
-use Rattle.scsi_device.specs.Writes.{Writer, writers}
-use Rattle.target_course.specs.Replies.{shows_run}
-use Rattle.disk_target.specs.Attended.{are_in, are_known_ends, attended, is_abort_in, is_attended, is_attended_if, is_attended_in, is_calm_turn, is_empty, is_known_end, is_of_item, is_quiet, is_unseen, is_whole_run}
+use Rattle.scsi_device.specs.Writes.{Writer, is_writer, writer_of, writers}
+use Rattle.target_course.specs.Replies.{is_run as shows_is, shows_run}
+use Rattle.disk_target.specs.Attended.{are_in, are_known_ends, attended, came, ends_good, is_abort_in, is_attended, is_attended_if, is_attended_in, is_calm_turn, is_empty, is_known_end, is_of_item, is_quiet, is_unseen, is_whole_of, is_whole_run}
 use Rattle.bus_books.proofs.Lists.{eq_self}
 use Rattle.bus_books.proofs.Lookups.{self_id}
 use Rattle.bus_laws.proofs.Apart.{change_plain}
-use Rattle.trace_laws.specs.Attendance.{AreShown, IsShown, Shows, ShowsIn, accepts, refuses, runs, fails, ends, loses, aborts, events_of}
+use Rattle.bus_laws.proofs.Prompt.{least_is}
+use Rattle.trace_laws.specs.Attendance.{AreShown, IsShown, ShowsIn, accepts, refuses, runs, fails, ends, loses, aborts, events_of}
+use Rattle.trace_laws.specs.RunsWhole.{IsWhole, RunsWhole, ends_badly, has_run, is_run, sends_all, sends_none}
+use Rattle.trace_laws.specs.RowAttendance.{IsAttended, IsCalmTurn}
+use Rattle.trace_laws.proofs.WholeRuns.{sent_all}
 
 wrong : {A : Type 0} → true ≡ false → A
 wrong e = absurd cc
@@ -115,13 +122,60 @@ quiet s rows row n h = go n.reselected refl (is_opening k) refl next refl
         let some : is_some next ≡ true = ap (λ (x : Option Connection). is_some x) g in
         unless (n.reselected || not (is_opening k)) _ (λ z. (λ i. if some i then is_empty (events_of s rows row) else is_unseen (array_of s k) (process_served s k)) ∙ ap is_empty (h.silent e f some))
 
+-- ---- a process that runs
+
+shows_same : (shown : List Event) → shows_run shown ≡ has_run shown
+shows_same [] = refl
+shows_same (e ∷ shown) = λ i. same e i || shows_same shown i
+  where
+    same : (x : Event) → shows_is x ≡ is_run x
+    same (events.Run id) = refl
+    same (events.Accept id) = refl
+    same (events.Refuse id) = refl
+    same (events.Fail id code) = refl
+    same (events.End id status) = refl
+    same (events.Lost id) = refl
+    same (events.Aborted host target unit what) = refl
+    same (events.Reset dev) = refl
+
+second : (a b : Bool) → b ≡ true → (a || b) ≡ true
+second true b e = refl
+second false b e = e
+
+whole_is : (s : ScenarioValue) (k : RunState) (all : List Writer) (p : Process) → IsWhole s k all p → is_whole_run s k all (Some p) ≡ true
+whole_is s k all p (ends_badly e) = λ i. not (e i) || is_whole_of s k all p
+whole_is s k all p (sends_none e) = second (not (ends_good (array_of s k) p)) (is_whole_of s k all p) (λ i. e i == 0 || (is_writing p && (is_writer (writer_of all p.target p.unit) p.id && nat_le (length p.sent) (came s k p))))
+whole_is s k all p (sends_all h) = second (not (ends_good (array_of s k) p)) (is_whole_of s k all p) (second (length p.sent == 0) _ (sent_all s k all p h))
+
+whole_served : (s : ScenarioValue) (rows : List Row) (row : Row) (n : Connection) → RunsWhole s rows row → connection rows ≡ Some n → (bus rows).rst ≡ false → (bus (row ∷ rows)).rst ≡ false → shows_run (events_of s rows row) ≡ true → is_whole_run s (run_state s rows) (writers s rows) (process_served s (run_state s rows)) ≡ true
+whole_served s rows row n whole con calm off shows = go (process_served s (run_state s rows)) refl
+  where
+    go : (o : Option Process) → process_served s (run_state s rows) ≡ o → is_whole_run s (run_state s rows) (writers s rows) o ≡ true
+    go None e = refl
+    go (Some p) e = whole_is s (run_state s rows) (writers s rows) p (whole n p con calm off (sym (shows_same (events_of s rows row)) ∙ shows) e)
+
+-- ---- a phase is left
+
+where_left : (a b c d : Bool) → (a ≡ false → b ≡ false → (c || d) ≡ true) → (a || b || c || d) ≡ true
+where_left true b c d f = refl
+where_left false true c d f = refl
+where_left false false c d f = f refl refl
+
+calm_is : (d : RowReading) → IsCalmTurn d → is_calm_turn d ≡ true
+calm_is d h = where_left (not (is_some d.next)) (not (changes_phase d.change)) (not d.change.before.rst && not d.change.after.rst) (is_message_in d.change.before) (λ e f. by (h (is_not (is_some d.next) e) (is_not (changes_phase d.change) f)))
+  where
+    is_not : (q : Bool) → not q ≡ false → q ≡ true
+    is_not true e = refl
+    is_not false e = wrong e
+
+    by : ((d.change.before.rst ≡ false) × (d.change.after.rst ≡ false)) ⊎ (is_message_in d.change.before ≡ true) → ((not d.change.before.rst && not d.change.after.rst) || is_message_in d.change.before) ≡ true
+    by (inl z) = λ i. (not (z.0 i) && not (z.1 i)) || is_message_in d.change.before
+    by (inr z) = second (not d.change.before.rst && not d.change.after.rst) (is_message_in d.change.before) z
+
 -- ---- the row
 
--- Under the last part of it: a process that runs, and would end GOOD, has sent all that it sends.
-pub row_attended : (s : ScenarioValue) (rows : List Row) (row : Row) (all : List Writer) → AreOfDevices rows → row.dev < 8 → Shows s rows row → ((n : Connection) → connection rows ≡ Some n → is_calm_turn (row_reading (run_state s rows).story.bus_state row) ≡ true)
-    → (shows_run (events_of s rows row) ≡ true → is_whole_run s (run_state s rows) all (process_served s (run_state s rows)) ≡ true)
-    → is_attended s (run_state s rows) row (row_reading (run_state s rows).story.bus_state row) (instructions s rows) all ≡ true
-row_attended s rows row all dv lt h turn whole = ap (is_attended_if s k d i all (events_of s rows row)) pl.connection ∙ go (connection rows) refl
+pub row_attended : (s : ScenarioValue) (rows : List Row) (row : Row) → AreOfDevices rows → row.dev < 8 → IsAttended s rows row → is_attended s (run_state s rows) row (row_reading (run_state s rows).story.bus_state row) (instructions s rows) (writers s rows) ≡ true
+row_attended s rows row dv lt h = ap (is_attended_if s k d i all (events_of s rows row)) pl.connection ∙ go (connection rows) refl
   where
     k : RunState
     k = run_state s rows
@@ -131,6 +185,9 @@ row_attended s rows row all dv lt h turn whole = ap (is_attended_if s k d i all 
 
     i : Instructions
     i = instructions s rows
+
+    all : List Writer
+    all = writers s rows
 
     pl : IsPlain s rows k
     pl = run_state_plain s rows dv
@@ -144,32 +201,29 @@ row_attended s rows row all dv lt h turn whole = ap (is_attended_if s k d i all 
     after : (bus (row ∷ rows)).rst ≡ d.change.after.rst
     after = ap (λ (x : Change). x.after.rst) (sym c)
 
-    inside : (n : Connection) → ShowsIn s rows row n → is_attended_in s k d i all (events_of s rows row) n ≡ true
-    inside n w =
+    inside : (n : Connection) → connection rows ≡ Some n → (bus rows).rst ≡ false → (bus (row ∷ rows)).rst ≡ false → is_attended_in s k d i all (events_of s rows row) n ≡ true
+    inside n con calm off =
+        let w = h.shows.inside n con calm off in
         both _ _ (all_in k n i.known (events_of s rows row) w.shown)
-        (both _ _ (all_known k n i.known (events_of s rows row) w.shown) (both _ _ (quiet s rows row n w) (where_asked (shows_run (events_of s rows row)) _ whole)))
+        (both _ _ (all_known k n i.known (events_of s rows row) w.shown)
+        (both _ _ (quiet s rows row n w) (where_asked (shows_run (events_of s rows row)) _ (whole_served s rows row n h.whole con calm off))))
 
     by : (n : Connection) → connection rows ≡ Some n → d.change.after.rst ≡ false → (q : Bool) → d.change.before.rst ≡ q → (if d.change.before.rst then is_empty (events_of s rows row) else is_attended_in s k d i all (events_of s rows row) n) ≡ true
-    by n con off true on = (λ j. if on j then is_empty (events_of s rows row) else is_attended_in s k d i all (events_of s rows row) n) ∙ ap is_empty (h.after_reset n con (before ∙ on) (after ∙ off)).none
-    by n con off false calm = (λ j. if calm j then is_empty (events_of s rows row) else is_attended_in s k d i all (events_of s rows row) n) ∙ inside n (h.inside n con (before ∙ calm) (after ∙ off))
+    by n con off true on = (λ j. if on j then is_empty (events_of s rows row) else is_attended_in s k d i all (events_of s rows row) n) ∙ ap is_empty (h.shows.after_reset n con (before ∙ on) (after ∙ off)).none
+    by n con off false calm = (λ j. if calm j then is_empty (events_of s rows row) else is_attended_in s k d i all (events_of s rows row) n) ∙ inside n con (before ∙ calm) (after ∙ off)
 
     go : (o : Option Connection) → connection rows ≡ o → is_attended_if s k d i all (events_of s rows row) o ≡ true
     go None e = refl
-    go (Some n) e = both _ _ (turn n e) (unless d.change.after.rst _ (λ off. by n e off d.change.before.rst refl))
+    go (Some n) e = both _ _ (calm_is d h.turn) (unless d.change.after.rst _ (λ off. by n e off d.change.before.rst refl))
 
 -- ---- all rows
 
--- What is proved of a row, and what is left of it.
-pub record AttendsRow (s : ScenarioValue) (rows : List Row) (row : Row) : Type 0 where
-  pub devices : AreOfDevices rows
-  pub below : row.dev < 8
-  pub shows : Shows s rows row
-  pub turn : (n : Connection) → connection rows ≡ Some n → is_calm_turn (row_reading (run_state s rows).story.bus_state row) ≡ true
-  pub whole : shows_run (events_of s rows row) ≡ true → is_whole_run s (run_state s rows) (writers s rows) (process_served s (run_state s rows)) ≡ true
+devices_are : (s : ScenarioValue) (rows : List Row) → IsPrompt s rows → AreOfDevices rows
+devices_are s [] prompt = tt
+devices_are s (row ∷ rows) prompt = ((least_is s rows row prompt.1).inside, devices_are s rows prompt.0)
 
 -- Of fewer rows than this.
-pub rows_attended : (s : ScenarioValue) (most : ℕ) → ((p : List Row) (row : Row) → IsPrompt s (row ∷ p) → length (row ∷ p) < most → AttendsRow s p row) → (rows : List Row) → IsPrompt s rows → length rows < most → attended s rows ≡ true
+pub rows_attended : (s : ScenarioValue) (most : ℕ) → ((p : List Row) (row : Row) → IsPrompt s (row ∷ p) → length (row ∷ p) < most → IsAttended s p row) → (rows : List Row) → IsPrompt s rows → length rows < most → attended s rows ≡ true
 rows_attended s most each [] prompt few = refl
 rows_attended s most each (row ∷ rows) prompt few =
-    let h = each rows row prompt few in
-    both _ _ (rows_attended s most each rows prompt.0 (omega (arith, few))) (row_attended s rows row (writers s rows) h.devices h.below h.shows h.turn h.whole)
+    both _ _ (rows_attended s most each rows prompt.0 (omega (arith, few))) (row_attended s rows row (devices_are s rows prompt.0) (least_is s rows row prompt.1).inside (each rows row prompt few))

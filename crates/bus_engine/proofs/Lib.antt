@@ -5,5 +5,5 @@ mod Disks
 mod Places
 mod Leftovers
 mod Targeted
-mod Ties
+mod Seams
 mod Attendance

@@ -7,6 +7,7 @@ use Rattle.scenario.specs.Value.{ScenarioValue}
 use Rattle.disk_array.specs.ArrayHistory.{array_after, disks_of}
 use Rattle.bus_story.specs.Outcomes as told
 use Rattle.bus_story.specs.Outcomes.{outcomes}
+use Rattle.bus_story.specs.Samples.{expected_strikes, row_strikes}
 use Rattle.bus_story.specs.TraceHistory.{story, trace_history}
 use Rattle.bus_due.specs.Next.{IsPrompt, IsEnded}
 use Rattle.bus_due.specs.Plain.{AreOfDevices}
@@ -16,7 +17,6 @@ use Rattle.bus_run.specs.Runs.{AreEarly, IsLong}
 use Rattle.run_record.specs.Value.{RunValue}
 use Rattle.bus_members.specs.Answers.{are_answered}
 use Rattle.bus_engine.specs.Limits.{row_limit, step_limit}
-use Rattle.bus_engine.specs.Ties.{TiesHold}
 
 abbrev pub told_reply : Outcome → Option told.Outcome
 told_reply outcome = Some (told_outcome outcome)
@@ -26,21 +26,22 @@ abbrev pub rows_of : RunValue → List Row
 rows_of run = reverse run.rows
 
 -- The run of a scenario: its rows are the prompt trace, after which nothing is due, its history is what they tell, each reply
--- is the outcome that they tell, and its disks hold what the plain disk array holds after that history; and the rows obey
--- every rule of the bus. This under one premise: that every prompt trace of the scenario ties what devices know to what rows
--- tell (`TiesHold`); and for the replies that what came back is the reply (`are_answered`).
+-- is the outcome that they tell, and its disks hold what the plain disk array holds after that history; the rows obey every
+-- rule of the bus, and the fault rows among them are those of the scenario. For the replies this is so where what came back
+-- is the reply (`are_answered`).
 pub record IsPromptRun (s : ScenarioValue) (run : RunValue) : Type 0 where
   pub prompt : IsPrompt s (rows_of run)
   pub lawful : AreLawful (rows_of run)
   pub ended : IsEnded s (rows_of run)
+  pub faults : expected_strikes s (rows_of run) ≡ row_strikes run.rows
   pub history : reverse run.history ≡ trace_history s (rows_of run)
   pub replies : are_answered s (rows_of run) ≡ true → map told_reply run.replies ≡ outcomes s (story s (rows_of run))
   pub disks : run.disks ≡ disks_of (array_after s (trace_history s (rows_of run)))
 
--- Without premise each row is of one of the eight devices and comes before 2^62 ns, the end is the time of the last, the rows
--- are fewer than the budget allows, and there are as many replies as commands and as many disks as units.
+-- Each row is of one of the eight devices and comes before 2^62 ns, the end is the time of the last, the rows are fewer than the
+-- budget allows, and there are as many replies as commands and as many disks as units.
 pub record IsRunOf (s : ScenarioValue) (run : RunValue) : Type 0 where
-  pub told : TiesHold s → IsPromptRun s run
+  pub told : IsPromptRun s run
   pub devices : AreOfDevices run.rows
   pub early : AreEarly run.rows
   pub end : run.end ≡ last_time (rows_of run)

@@ -22,7 +22,6 @@ ghost use Rattle.bus_members.specs.Over.{AreOver};
 ghost use Rattle.bus_engine.specs.Disks.{IsWithin, have_targets};
 ghost use Rattle.bus_engine.specs.Limits.{step_limit};
 ghost use Rattle.bus_engine.specs.Runs.{told_reply, IsRunOf, IsUnfinished};
-ghost use Rattle.bus_engine.specs.Ties.{TiesHold};
 
 use crate::budget::most_rows;
 use crate::finishing::{disks, end_of, replies, units_by_target};
@@ -32,6 +31,7 @@ use bus_members::{Member, member_places, runs_end};
 use bus_run::{RunEnd, Trace, rows_tie_devices};
 use disk_array::arrays_are_sound;
 use disk_unit::SparseBlocks;
+use fault_laws::fault_rows_are_of_the_scenario;
 use run_record::Run;
 use scenario::{Scenario, UnitDef};
 use scsi_device::scenarios_fit_the_bus;
@@ -39,7 +39,8 @@ use std::alloc::Global;
 use std::sync::ledger::Ledger;
 use target_units::units_hold_their_blocks;
 use trace_laws::{
-    connections_are_of_the_scenario, prompt_traces_are_lawful, prompt_traces_keep_the_books,
+    connections_are_of_the_scenario, ends_know_what_rows_tell, prompt_traces_are_lawful,
+    prompt_traces_keep_the_books,
 };
 
 // The blocks of the units of these targets, in the order of their lines.
@@ -109,7 +110,7 @@ fn run_in<L: Ledger>(
     requires lawful { Obeys scenario.now }
     requires eight { length places.old ≡ 8 }
     ensures exact { AreIn IsMember scenario.now [] places.old → IfOk result (λ run. IsRunOf scenario.now run) }
-    ensures unfinished { AreIn IsMember scenario.now [] places.old → TiesHold scenario.now
+    ensures unfinished { AreIn IsMember scenario.now [] places.old
         → result ≡ Err Unfinished → IsUnfinished scenario.now steps.old steps.new }
     ensures steps { steps.new ≤ steps.old + step_limit scenario.now }
 {
@@ -117,7 +118,9 @@ fn run_in<L: Ledger>(
     kept_is_plain();
     prompt_traces_keep_the_books();
     prompt_traces_are_lawful();
+    ends_know_what_rows_tell();
     connections_are_of_the_scenario();
+    fault_rows_are_of_the_scenario();
     let trace = bus_run::run(alloc, scenario, places, most_rows(scenario), steps)?;
     Ok(finish(alloc, scenario, places, trace)?)
 }
@@ -135,8 +138,7 @@ pub fn run<L: Ledger>(
 ) -> Result<Run, RunEnd>
     requires { Obeys scenario.now }
     ensures exact { IfOk result (λ run. IsRunOf scenario.now run) }
-    ensures unfinished { TiesHold scenario.now → result ≡ Err Unfinished
-        → IsUnfinished scenario.now steps.old steps.new }
+    ensures unfinished { result ≡ Err Unfinished → IsUnfinished scenario.now steps.old steps.new }
     ensures steps { steps.new ≤ steps.old + step_limit scenario.now }
 {
     let mut places = member_places(alloc, scenario)?;

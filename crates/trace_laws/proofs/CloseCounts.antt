@@ -45,7 +45,7 @@ wrong' e = absurd (true≢false (sym e))
 
 -- ---- the counts after a row with which the phase stays
 
-counted_some : (n : ℕ) → (counted_on n == 0) ≡ false
+pub counted_some : (n : ℕ) → (counted_on n == 0) ≡ false
 counted_some n = grind (arith, nat_tests)
 
 answers_by : (q r : Bool) (t : ℕ) (h : Handshakes) → (answered_if q t (asked_if r t h)).answers ≡ (if q then counted_on h.answers else h.answers)

@@ -105,6 +105,28 @@ lost_in s p row n l id o prompt was facts g calm link e out = by.0 heard
     by : LastBy l k.exchange.plan k.handshakes.requests k.story.bus_state.dialogue.is_last phases.MessageOut
     by = subst (λ (x : Phase). LastBy l k.exchange.plan k.handshakes.requests k.story.bus_state.dialogue.is_last x) out (talk.begun begun)
 
+-- Outside the message phases the last message tells nothing.
+pub lost_by : (s : ScenarioValue) (p : List Row) (n : Connection) (l : Link) (id : ProcId) → Stood s p → LastFacts s p → {row : Row} → Ends s (run_state s p) row n → (run_state s p).story.link ≡ Some l → (run_state s p).served ≡ Some (process id) → (phase_of (bus_of (run_state s p)) ≡ phases.MessageIn → ⊥)
+    → (phase_of (bus_of (run_state s p)) ≡ phases.MessageOut → l.last ≡ plain) → (run_state s p).exchange.begun ≡ true → l.last ≡ plain
+lost_by s p n l id was facts g link e in_none out b = go (phase_of (bus_of k)) refl (talk.begun b)
+  where
+    k : RunState
+    k = run_state s p
+
+    pl : IsPlain s p k
+    pl = run_state_plain s p was.standing.devices
+
+    talk : LastTalk k l
+    talk = (facts n (sym pl.connection ∙ g.connection_is) (sym (ap (λ (x : LineSet). x.rst) pl.bus) ∙ g.calm)).0 l id link e
+
+    go : (x : Phase) → phase_of (bus_of k) ≡ x → LastBy l k.exchange.plan k.handshakes.requests k.story.bus_state.dialogue.is_last x → l.last ≡ plain
+    go phases.MessageIn z h = absurd (in_none z)
+    go phases.MessageOut z h = out z
+    go phases.Command z h = h
+    go phases.Status z h = h
+    go phases.DataIn z h = h
+    go phases.DataOut z h = h
+
 some_phase : {A : Type 0} (x : Phase) → Some x ≡ (let o : Option Phase = None in o) → A
 some_phase x e = absurd cc
 
@@ -115,14 +137,20 @@ unattended false l e = refl
 not_asked : (a b : Bool) → a ≡ false → (a && not b) ≡ false
 not_asked a b e = λ i. e i && not b
 
+-- In MESSAGE IN with ATN false.
+pub ends_low : (s : ScenarioValue) (p : List Row) (row : Row) (n : Connection) → Obeys s → IsPrompt s (row ∷ p) → Stood s p → Ends s (run_state s p) row n → (row_reading (run_state s p).story.bus_state row).change.after.rst ≡ false → phase_of (bus_of (run_state s p)) ≡ phases.MessageIn → (bus_of (run_state s p)).atn ≡ false
+ends_low s p row n o prompt was g calm into =
+    let k : RunState = run_state s p in
+    let h = ends_row s p row n o prompt was g calm in
+    let v : Serving = serving_of s k n.target in
+    unattended (bus_of k).atn (after_messages v k.exchange.plan.next)
+    (ap (λ (y : Phase). (phase_leaving v (bus_of k).atn y).to) (sym into) ∙ ap (λ (q : Bool). (leaving_by v q (bus_of k)).to) (sym (h.plain_is.begun ∙ h.stops.begun_is)) ∙ h.stops.whereto)
+
 pub taken_in : (s : ScenarioValue) (p : List Row) (row : Row) (n : Connection) (id : ProcId) → Obeys s → IsPrompt s (row ∷ p) → Stood s p → CloseFacts s p → Ends s (run_state s p) row n → (row_reading (run_state s p).story.bus_state row).change.after.rst ≡ false → (run_state s p).served ≡ Some (process id) → phase_of (bus_of (run_state s p)) ≡ phases.MessageIn → IsCompleting (run_state s p) → has_ended (array_of s (run_state s p)) id ≡ true
 taken_in s p row n id o prompt was closes g calm e into m = books.ended id e lines m (books.counts.given lines asked none) low
   where
     k : RunState
     k = run_state s p
-
-    v : Serving
-    v = serving_of s k n.target
 
     h : EndsHere s p row n
     h = ends_row s p row n o prompt was g calm
@@ -137,7 +165,7 @@ taken_in s p row n id o prompt was closes g calm e into m = books.ended id e lin
     lines = in_of (bus_of k) into h.known
 
     low : (bus_of k).atn ≡ false
-    low = unattended (bus_of k).atn (after_messages v k.exchange.plan.next) (ap (λ (y : Phase). (phase_leaving v (bus_of k).atn y).to) (sym into) ∙ ap (λ (q : Bool). (leaving_by v q (bus_of k)).to) (sym begun) ∙ h.stops.whereto)
+    low = ends_low s p row n o prompt was g calm into
 
     all : k.handshakes.requests ≡ length (bytes_of_messages k.exchange.plan.messages)
     all = all_given s k n into low h.stops.over ((was.books.gives n g.connection_is g.calm).in_message_in begun lines)

@@ -1,7 +1,7 @@
 -- The status that the target offers is that of the reply that was given; and what a process carries of it stays that (6.4, 6.6.19).
 use Rattle.std.proofs.Common.{ℕ, zero, suc, arith, ◌≡◌, Bool, true, false, ◌==◌, ◌∙◌, List, [], ◌∷◌, ◌++◌, Option, Some, refl, ap, true≢false}
 use Rattle.std.proofs.lemmas.Bool.Decides.{nat_tests}
-use Rattle.std.specs.Prelude.{⊤, if◌then◌else◌, nat_lt, length, slice_index, slice_set}
+use Rattle.std.specs.Prelude.{if◌then◌else◌, nat_lt, length, slice_index, slice_set}
 use Rattle.scenario.specs.Value.{ScenarioValue}
 use Rattle.disk_array.specs.ArrayHistory.{reply_in}
 use Rattle.disk_array.specs.Execution.{Reply}
@@ -13,15 +13,11 @@ use Rattle.bus_dialogue.specs.PhaseBytes.{status_byte}
 use Rattle.bus_due.specs.RunState.{RunState, array_of, process_served}
 use Rattle.bus_due.specs.Sights.{byte_of_phase}
 use Rattle.bus_due.specs.Tasks.{reply_now, status_by, task_if}
+use Rattle.trace_laws.specs.Statuses.{AreAll}
 
 -- The byte of STATUS.
 pub offers_given : (s : ScenarioValue) (k : RunState) (dev : ℕ) (p : Process) (reply : Reply) (m : Messages) (more place : ℕ) → process_served s k ≡ Some p → reply_in (array_of s k).replies p.id ≡ Some reply → byte_of_phase s k dev phases.Status m more place ≡ reply.status
 offers_given s k dev p reply m more place served given = ap (λ (x : Option Process). status_byte (task_if s k x)) served ∙ ap (λ (x : Option Reply). status_by (reply_now (array_of s k) p) x) given
-
--- Each byte of an area is this.
-abbrev pub AreAll : ℕ → List ℕ → Type 0
-AreAll x [] = ⊤
-AreAll x (b ∷ bytes) = (b ≡ x) × AreAll x bytes
 
 set_all : (x : ℕ) (bytes : List ℕ) (at : ℕ) → AreAll x bytes → AreAll x (slice_set bytes at x)
 set_all x [] at h = tt

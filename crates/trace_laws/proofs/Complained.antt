@@ -1,5 +1,5 @@
 -- Of a prompt trace: the initiator complains only of a phase in which a byte was struck (6.6.10, 6.6.13).
-use Rattle.std.proofs.Common.{ℕ, ◌≡◌, ◌⊎◌, inl, inr, Bool, true, false, not, ◌&&◌, ◌||◌, ◌∙◌, List, ◌∷◌, Option, Some, None, refl, sym, ap}
+use Rattle.std.proofs.Common.{ℕ, ◌≡◌, inl, inr, Bool, true, false, not, ◌&&◌, ◌||◌, ◌∙◌, List, ◌∷◌, Option, Some, None, refl, sym, ap}
 use Rattle.std.specs.Prelude.{if◌then◌else◌, is_none, is_some}
 use Rattle.bus_trace.specs.LineSet.{LineSet}
 use Rattle.bus_trace.specs.declared.Row.{Row}
@@ -38,6 +38,7 @@ use Rattle.bus_books.proofs.Reactions.{out_over}
 use Rattle.bus_laws.proofs.Apart.{change_plain}
 use Rattle.bus_laws.proofs.Prompt.{least_is}
 use Rattle.link_laws.specs.LinkStages.{AnyStage, apart, linked}
+use Rattle.trace_laws.specs.RowAttendance.{IsCalmTurn}
 use Rattle.trace_laws.specs.Complaints.{ComplaintFacts, Refuses}
 use Rattle.trace_laws.proofs.CommandTurns.{out_lines}
 use Rattle.trace_laws.proofs.ConnectionRows.{connection_row, stage_of_connection}
@@ -86,10 +87,6 @@ where_asked false b r f = refl
 where_asked true false r f = refl
 where_asked true true r f = f refl refl
 
--- A phase is left while RST is false, or it is MESSAGE IN.
-abbrev pub IsCalm : RowReading → Type 0
-IsCalm d = is_some d.next ≡ true → changes_phase d.change ≡ true → ((d.change.before.rst ≡ false) × (d.change.after.rst ≡ false)) ⊎ (is_message_in d.change.before ≡ true)
-
 not_out : (b : LineSet) → is_message_in b ≡ true → phase_of b ≡ phases.MessageOut → ⊥
 not_out b e f = go b.msg b.cd b.io e f
   where
@@ -99,7 +96,7 @@ not_out b e f = go b.msg b.cd b.io e f
     go true false i z f = wrong' z
     go false d i z f = wrong' z
 
-pub complained_row : (s : ScenarioValue) (p : List Row) (row : Row) → Obeys s → IsPrompt s (row ∷ p) → Stood s p → NextStood s p row → IsCalm (row_reading (run_state s p).story.bus_state row) → ComplaintFacts s p → is_true_complaint (run_state s p) (row_reading (run_state s p).story.bus_state row) (is_refusing s p) ≡ true
+pub complained_row : (s : ScenarioValue) (p : List Row) (row : Row) → Obeys s → IsPrompt s (row ∷ p) → Stood s p → NextStood s p row → IsCalmTurn (row_reading (run_state s p).story.bus_state row) → ComplaintFacts s p → is_true_complaint (run_state s p) (row_reading (run_state s p).story.bus_state row) (is_refusing s p) ≡ true
 complained_row s p row o prompt was nx calm facts = where_asked (is_left k d) (is_complaining k.exchange.plan (phase_of (bus_of k))) (is_refusing s p) (λ l c. go l c (connection p) refl)
   where
     k : RunState

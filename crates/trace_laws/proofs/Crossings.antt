@@ -386,7 +386,7 @@ row_facts s p row n dv v d (rows.asks_first bsy atn msg cd io y h b un first e) 
 row_facts s p row n dv v d (rows.ends_req atn msg cd io x y h b un z e) = subst (λ (w : Row). RowFacts s p w n) (sym e) (of_target s p row.time n (ends false true atn x msg cd io true y) false _ dv h (none_both io))
 row_facts s p row n dv v d (rows.asks_next atn msg cd io y h b un z follows e) = subst (λ (w : Row). RowFacts s p w n) (sym e) (next_asked s p row.time n atn msg cd io y dv h b un z follows (message_small s p n false false atn 0 msg cd io false y (v _ h b).offered) (d _ h b))
 row_facts s p row n dv v d (rows.leaves atn msg cd io x y h b known un zero follows e) =
-    subst (λ (w : Row). RowFacts s p w n) (sym e) (leaving_facts s p row.time n atn msg cd io x y dv h b known (over_by s p n atn msg cd io x y dv h b zero follows (d _ h b)))
+    subst (λ (w : Row). RowFacts s p w n) (sym e) (leaving_facts s p row.time n atn msg cd io x y dv h b known (over_by s p n atn msg cd io x y dv h b zero.0 follows (d _ h b)))
 row_facts s p row n dv v d (rows.ends_req_pulse io ack atn x y h b un z e) = subst (λ (w : Row). RowFacts s p w n) (sym e) (of_target s p row.time n (ends false ack atn x false false io true y) false y dv h (no_answer n io ack))
 row_facts s p row n dv v d (rows.changes_pulsed ack atn y z h b un pulsed e) = subst (λ (w : Row). RowFacts s p w n) (sym e) (of_target s p row.time n (ends false ack atn 0 false false true false y) false z dv h refl)
 row_facts s p row n dv v d (rows.asks_pulse io ack atn x y h b un z zero byte e) =

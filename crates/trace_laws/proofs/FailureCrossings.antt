@@ -74,8 +74,11 @@ crossed s k row n c l id g ep en out =
       phase = ap phase_of i.bus_is ∙ same_phase_of c ep ∙ ap phase_of (sym g.row_is.bus_is);
     }
 
-out_none : (k : RunState) (c : Change) → is_message_out c.before ≡ false → message_out k.story.bus_state.dialogue c true ≡ None
+pub out_none : (k : RunState) (c : Change) → is_message_out c.before ≡ false → message_out k.story.bus_state.dialogue c true ≡ None
 out_none k c e = ap (λ (q : Bool). if q then whole_out (got_out (fresh_bytes k.story.bus_state.dialogue ++ c.after.data_bits % 256 ∷ [])) else None) e
+
+pub in_none : (k : RunState) (c : Change) → is_message_in c.before ≡ false → message_in k.story.bus_state.dialogue c true ≡ None
+in_none k c e = ap (λ (q : Bool). if q then whole_in (got_in (k.story.bus_state.dialogue.half ++ c.after.data_bits % 256 ∷ [])) else None) e
 
 -- No message is whole with it.
 pub quiet_same : (s : ScenarioValue) (k : RunState) (row : Row) (n : Connection) (c : Change) (l : Link) (id : ProcId) → FailRow s k row n c l id → is_some (receiver_in n c) ≡ true → message_out k.story.bus_state.dialogue c true ≡ None → message_in k.story.bus_state.dialogue c true ≡ None → SameFail (carried_here k id) (carried_here (run_state_after s k row) id)
@@ -101,7 +104,7 @@ else_fail s k row n c l m id g ep en out into apart em b h = go (link_crossed s 
     d = carried_here j id
 
     none : message_in k.story.bus_state.dialogue c true ≡ None
-    none = ap (λ (q : Bool). if q then whole_in (got_in (k.story.bus_state.dialogue.half ++ c.after.data_bits % 256 ∷ [])) else None) into
+    none = in_none k c into
 
     x : Crossed k j
     x = crossed s k row n c l id g ep en out

@@ -45,7 +45,7 @@ some_device : (o : Option ℕ) (dev : ℕ) → is_of_device o dev ≡ true → i
 some_device None dev e = wrong' e
 some_device (Some d) dev e = refl
 
-fault_receives : (s : ScenarioValue) (p : List Row) (row : Row) (n : Connection) → is_fault row.kind ≡ true → LinkRow s p n row → is_some (receiver p) ≡ true
+pub fault_receives : (s : ScenarioValue) (p : List Row) (row : Row) (n : Connection) → is_fault row.kind ≡ true → LinkRow s p n row → is_some (receiver p) ≡ true
 fault_receives s p row n f' (rows.opens h b e) = wrong' (sym (ap (λ (w : Row). is_fault w.kind) e) ∙ f')
 fault_receives s p row n f' (rows.strikes f bit h b got who e) = some_device (receiver p) row.dev got
 fault_receives s p row n f' (rows.hands atn msg cd io y h b un e) = wrong' (sym (ap (λ (w : Row). is_fault w.kind) e) ∙ f')
@@ -119,11 +119,26 @@ sent_line b e = go b.msg b.cd b.io (ap is_out e)
     go false false true z = wrong' z
     go false false false z = refl
 
+given_line : (b : LineSet) → phase_of b ≡ phases.DataIn → b.io ≡ true
+given_line b e = go b.msg b.cd b.io (ap is_in e)
+  where
+    is_in : Phase → Bool
+    is_in phases.DataIn = true
+    is_in _ = false
+
+    go : (m d i : Bool) → is_in (if m then (if i then phases.MessageIn else phases.MessageOut) else if d then (if i then phases.Status else phases.Command) else if i then phases.DataIn else phases.DataOut) ≡ true → i ≡ true
+    go true d true z = refl
+    go true d false z = wrong' z
+    go false true true z = refl
+    go false true false z = wrong' z
+    go false false true z = refl
+    go false false false z = wrong' z
+
 -- By the phase.
 abbrev pub Struck : CarriedBytes → CarriedBytes → Phase → Type 0
 Struck c d phases.Command = (d.struck ≡ true) × (d.failure ≡ Some PARITY_ERROR)
 Struck c d phases.DataOut = (d.struck ≡ c.struck) × (d.failure ≡ Some PARITY_ERROR)
-Struck c d phases.DataIn = d.struck ≡ c.struck
+Struck c d phases.DataIn = (d.struck ≡ c.struck) × (d.failure ≡ Some INITIATOR_DETECTED_ERROR)
 Struck c d _ = SameFail c d
 
 struck_by : (c : CarriedBytes) (b : LineSet) (phase : Phase) → phase_of b ≡ phase → Struck c (carried_after_fault c b) phase
@@ -139,7 +154,7 @@ struck_by c b phase e = go phase e (is_command b) (command_lines b ∙ ap is_com
     go phases.DataOut w false z true y = (refl, λ i. Some (if sent_line b w i then INITIATOR_DETECTED_ERROR else PARITY_ERROR))
     go phases.DataOut w false z false y = wrong' y
     go phases.DataIn w true z r y = wrong z
-    go phases.DataIn w false z true y = refl
+    go phases.DataIn w false z true y = (refl, λ i. Some (if given_line b w i then INITIATOR_DETECTED_ERROR else PARITY_ERROR))
     go phases.DataIn w false z false y = wrong' y
     go phases.MessageOut w true z r y = wrong z
     go phases.MessageOut w false z true y = wrong y
@@ -154,7 +169,7 @@ struck_by c b phase e = go phase e (is_command b) (command_lines b ∙ ap is_com
 struck_as : (c d e : CarriedBytes) (phase : Phase) → SameFail d e → Struck c d phase → Struck c e phase
 struck_as c d e phases.Command w h = (w.struck ∙ h.0, w.failure ∙ h.1)
 struck_as c d e phases.DataOut w h = (w.struck ∙ h.0, w.failure ∙ h.1)
-struck_as c d e phases.DataIn w h = w.struck ∙ h
+struck_as c d e phases.DataIn w h = (w.struck ∙ h.0, w.failure ∙ h.1)
 struck_as c d e phases.MessageOut w h = record { failure = w.failure ∙ h.failure; struck = w.struck ∙ h.struck }
 struck_as c d e phases.MessageIn w h = record { failure = w.failure ∙ h.failure; struck = w.struck ∙ h.struck }
 struck_as c d e phases.Status w h = record { failure = w.failure ∙ h.failure; struck = w.struck ∙ h.struck }

@@ -1,4 +1,3 @@
-mod Cases
 pub mod LinkRows
 pub mod Driven
 pub mod Kept
@@ -181,7 +180,7 @@ mod WriteRows
 mod WriteNext
 mod Written
 mod LastRuns
-mod WholeRuns
+pub mod WholeRuns
 pub mod PlaceJoins
 pub mod PlaceTells
 pub mod PlaceTraces
@@ -210,3 +209,26 @@ pub mod FailureNext
 pub mod FailureLeft
 pub mod FailureFirst
 pub mod FailureAway
+mod Unshown
+mod PlacesHeard
+mod WritePremises
+mod WaitingRequests
+mod WaitingRows
+mod SentEntries
+mod SentStays
+pub mod SentFailures
+pub mod ClearRows
+pub mod ClearEnds
+pub mod ClearFacts
+pub mod KeptReplies
+pub mod StatusCarried
+pub mod StatusReplies
+pub mod StatusTurns
+pub mod StatusOffers
+pub mod StatusLeavings
+pub mod StatusTalks
+pub mod StatusTalkTurns
+pub mod StatusFacts
+pub mod RunEvents
+pub mod RunsLeft
+pub mod RunsWhole

@@ -1,5 +1,5 @@
 -- The next row of a connection, resets apart, by what the two ends are due to do: which lines it changes, and why.
-use Rattle.std.proofs.Common.{ℕ, ◌≡◌, Bool, true, false, not, ◌&&◌, ◌||◌, ◌==◌, ◌∙◌, List, Option, Some, None, refl, sym, ap, subst, arith}
+use Rattle.std.proofs.Common.{ℕ, ◌≡◌, Bool, true, false, not, ◌&&◌, ◌||◌, ◌==◌, ◌∙◌, List, [], ◌∷◌, Option, Some, None, refl, sym, ap, subst, arith}
 use Rattle.std.specs.Prelude.{◌+◌, if◌then◌else◌, max, nat_lt, length}
 use Rattle.std.proofs.lemmas.Bool.Decides.{nat_tests}
 use Rattle.bus_trace.specs.LineSet.{LineSet}
@@ -9,6 +9,7 @@ use Rattle.bus_trace.specs.Terms.{receiver}
 use Rattle.bus_trace.specs.Trace.{last_time, line_times, phase_time}
 use Rattle.bus_phases.specs.Dialogue.{dialogue}
 use Rattle.bus_rules.specs.Order.{is_of_device}
+use Rattle.bus_lines.specs.declared.handshakes.Request.{Request}
 use Rattle.bus_lines.specs.Handshakes.{Handshakes, handshakes, no_handshakes, first_of, is_struck}
 use Rattle.scenario.specs.Value.{ScenarioValue}
 use Rattle.bus_reactions.specs.Reactions.{due_at}
@@ -57,7 +58,7 @@ pub data LinkRow (s : ScenarioValue) (p : List Row) (n : Connection) (row : Row)
   -- the initiator hands BSY over; releases a byte that it still drives; answers a byte, with ATN or not; ends ACK
   hands : (atn msg cd io : Bool) (y : ℕ) → Linked p n (ends true false atn 0 msg cd io false y) → begun p ≡ true → is_unasked p ≡ true → row ≡ initiator_row row.time n (ends false false atn 0 msg cd io false y) → LinkRow s p n row
   releases : (atn : Bool) (x : ℕ) (msg cd : Bool) → Linked p n (ends false false atn x msg cd true false 0) → begun p ≡ true → is_unasked p ≡ true → row ≡ initiator_row row.time n (ends false false atn 0 msg cd true false 0) → LinkRow s p n row
-  answers : (atn to msg cd : Bool) (y : ℕ) → Linked p n (ends false false atn 0 msg cd true true y) → begun p ≡ true → is_unasked p ≡ false → to ≡ (((handshakes p).struck || (answering_with s p n (ends false false atn 0 msg cd true true y)).speaks) || atn) → row ≡ initiator_row row.time n (ends false true to 0 msg cd true true y) → LinkRow s p n row
+  answers : (atn to msg cd : Bool) (y : ℕ) → Linked p n (ends false false atn 0 msg cd true true y) → begun p ≡ true → (is_unasked p ≡ false) × (is_pulsed p (ends false false atn 0 msg cd true true y) ≡ false) → to ≡ (((handshakes p).struck || (answering_with s p n (ends false false atn 0 msg cd true true y)).speaks) || atn) → row ≡ initiator_row row.time n (ends false true to 0 msg cd true true y) → LinkRow s p n row
   ends_ack_in : (atn msg cd : Bool) (y : ℕ) → Linked p n (ends false true atn 0 msg cd true false y) → begun p ≡ true → is_unasked p ≡ false → is_pulsed p (ends false true atn 0 msg cd true false y) ≡ false → row ≡ initiator_row row.time n (ends false false atn 0 msg cd true false y) → LinkRow s p n row
   -- it drives its byte; raises ACK with it; ends ACK
   gives : (atn msg cd : Bool) → Linked p n (ends false false atn 0 msg cd false true 0) → begun p ≡ true → is_pulsed p (ends false false atn 0 msg cd false true 0) ≡ false → row ≡ initiator_row row.time n (ends false false (attends_by (connected_bus (ends false false atn 0 msg cd false true 0)) (answering_with s p n (ends false false atn 0 msg cd false true 0)).attends atn) (byte_bits (answering_with s p n (ends false false atn 0 msg cd false true 0)).byte) msg cd false true 0) → LinkRow s p n row
@@ -73,7 +74,7 @@ pub data LinkRow (s : ScenarioValue) (p : List Row) (n : Connection) (row : Row)
   asks_first : (bsy atn msg cd io : Bool) (y : ℕ) → Linked p n (ends bsy false atn 0 msg cd io false y) → begun p ≡ true → is_unasked p ≡ true → has_first p io y ≡ true → row ≡ target_row row.time n (ends bsy false atn 0 msg cd io true y) → LinkRow s p n row
   ends_req : (atn msg cd io : Bool) (x y : ℕ) → Linked p n (ends false true atn x msg cd io true y) → begun p ≡ true → is_unasked p ≡ false → is_pulsed p (ends false true atn x msg cd io true y) ≡ false → row ≡ target_row row.time n (ends false true atn x msg cd io false (bits_if (io && (offering_with s p n true (ends false true atn x msg cd io true y)).follows) (offering_with s p n true (ends false true atn x msg cd io true y)).byte)) → LinkRow s p n row
   asks_next : (atn msg cd io : Bool) (y : ℕ) → Linked p n (ends false false atn 0 msg cd io false y) → begun p ≡ true → is_unasked p ≡ false → is_pulsed p (ends false false atn 0 msg cd io false y) ≡ false → (offering_with s p n true (ends false false atn 0 msg cd io false y)).follows ≡ true → row ≡ target_row row.time n (ends false false atn 0 msg cd io true y) → LinkRow s p n row
-  leaves : (atn msg cd io : Bool) (x y : ℕ) → Linked p n (ends false false atn x msg cd io false y) → begun p ≡ true → (msg && not cd) ≡ false → is_unasked p ≡ false → (is_pulsed p (ends false false atn x msg cd io false y) ≡ false → x ≡ 0) → (offering_with s p n true (ends false false atn x msg cd io false y)).follows ≡ false → row ≡ row_of_lines row.time n.target (offering_with s p n true (ends false false atn x msg cd io false y)).to → LinkRow s p n row
+  leaves : (atn msg cd io : Bool) (x y : ℕ) → Linked p n (ends false false atn x msg cd io false y) → begun p ≡ true → (msg && not cd) ≡ false → is_unasked p ≡ false → (is_pulsed p (ends false false atn x msg cd io false y) ≡ false → x ≡ 0) × (is_pulsed p (ends false false atn x msg cd io false y) ≡ true → (handshakes p).waiting ≡ []) → (offering_with s p n true (ends false false atn x msg cd io false y)).follows ≡ false → row ≡ row_of_lines row.time n.target (offering_with s p n true (ends false false atn x msg cd io false y)).to → LinkRow s p n row
   -- the same by pulses
   ends_req_pulse : (io ack atn : Bool) (x y : ℕ) → Linked p n (ends false ack atn x false false io true y) → begun p ≡ true → is_unasked p ≡ false → is_pulsed p (ends false ack atn x false false io true y) ≡ true → row ≡ target_row row.time n (ends false ack atn x false false io false y) → LinkRow s p n row
   changes_pulsed : (ack atn : Bool) (y z : ℕ) → Linked p n (ends false ack atn 0 false false true false y) → begun p ≡ true → is_unasked p ≡ false → is_pulsed p (ends false ack atn 0 false false true false y) ≡ true → row ≡ target_row row.time n (ends false ack atn 0 false false true false z) → LinkRow s p n row
@@ -127,6 +128,9 @@ of_offering s p row n atn msg cd y h (by_target lat there same e) =
 
 -- ---- byte by byte
 
+unlike : true ≡ false → ⊥
+unlike e = cc
+
 between : (s : ScenarioValue) (p : List Row) (row : Row) (n : Connection) (msg cd io atn : Bool) (y lat : ℕ) → Shaking p n msg cd io false false atn 0 y → row.dev ≡ n.target → target_plain s p n true (ends false false atn 0 msg cd io false y) lat ≡ Some (due_of row) → LinkRow s p n row
 between s p row n msg cd io atn y lat h same e = go (offering_with s p n true (ends false false atn 0 msg cd io false y)).follows refl (sym (between_target s p n msg cd io atn 0 y lat h) ∙ e)
   where
@@ -136,7 +140,7 @@ between s p row n msg cd io atn y lat h same e = go (offering_with s p n true (e
         asks_next atn msg cd io y h.linked h.phase.begun_is h.asked h.unpulsed f
         (row_at row n.target ((if io then max (line_times p).ack (own_time p n.target + 55) else (line_times p).ack) + lat) (target_side (ends false false atn 0 msg cd io true y)) same e)
     go false f e =
-        leaves atn msg cd io 0 y h.linked h.phase.begun_is h.phase.known h.asked (λ z. refl) f
+        leaves atn msg cd io 0 y h.linked h.phase.begun_is h.phase.known h.asked (λ z. refl, λ z. absurd (unlike (sym z ∙ h.unpulsed))) f
         (row_at row n.target ((line_times p).ack + lat + (offering_with s p n true (ends false false atn 0 msg cd io false y)).wait) (offering_with s p n true (ends false false atn 0 msg cd io false y)).to same e)
 
 answered : (s : ScenarioValue) (p : List Row) (row : Row) (n : Connection) (msg cd io atn : Bool) (x y lat : ℕ) → Shaking p n msg cd io true true atn x y → row.dev ≡ n.target → target_plain s p n true (ends false true atn x msg cd io true y) lat ≡ Some (due_of row) → LinkRow s p n row
@@ -150,7 +154,7 @@ of_shaking_in s p row n msg cd req ack atn y h (by_fault bit got same) = strikes
 of_shaking_in s p row n msg cd true true atn y h (by_initiator lat there same e) = absurd (never _ (due_of row) (answered_initiator_in s p n msg cd atn y lat h) e)
 of_shaking_in s p row n msg cd true false atn y h (by_initiator lat there same e) =
     let to = ((handshakes p).struck || (answering_with s p n (ends false false atn 0 msg cd true true y)).speaks) || atn in
-    answers atn to msg cd y h.linked h.phase.begun_is h.asked refl (row_at row n.initiator ((line_times p).req + lat) (initiator_side (ends false true to 0 msg cd true true y)) same (sym (asking_initiator_in s p n msg cd atn y lat h) ∙ e))
+    answers atn to msg cd y h.linked h.phase.begun_is (h.asked, h.unpulsed) refl (row_at row n.initiator ((line_times p).req + lat) (initiator_side (ends false true to 0 msg cd true true y)) same (sym (asking_initiator_in s p n msg cd atn y lat h) ∙ e))
 of_shaking_in s p row n msg cd false true atn y h (by_initiator lat there same e) =
     ends_ack_in atn msg cd y h.linked h.phase.begun_is h.asked h.unpulsed (row_at row n.initiator (ack_end_time p atn + lat) (initiator_side (ends false false atn 0 msg cd true false y)) same (sym (ending_initiator_in s p n msg cd atn y lat h) ∙ e))
 of_shaking_in s p row n msg cd false false atn y h (by_initiator lat there same e) = absurd (never _ (due_of row) (between_initiator_in s p n msg cd atn y lat h) e)
@@ -192,6 +196,10 @@ or_parts false b e = absurd cc
 is_same : (a b : ℕ) → (a == b) ≡ true → a ≡ b
 is_same a b e = grind (arith, nat_tests)
 
+none_waits : (waiting : List Request) → (length waiting == 0) ≡ true → waiting ≡ []
+none_waits [] e = refl
+none_waits (r ∷ waiting) e = let u = is_same (length (r ∷ waiting)) 0 e in absurd (omega arith)
+
 -- Whether a byte follows, by the length of the run.
 follows_pulsed_in : (s : ScenarioValue) (p : List Row) (n : Connection) (ack atn : Bool) (x y : ℕ) → nat_lt 0 (offset_here p) ≡ true → (offering_with s p n true (ends false ack atn x false false true false y)).follows ≡ nat_lt (handshakes p).requests (run_count s p n)
 follows_pulsed_in s p n ack atn x y off = ap (λ (q : Bool). if q then nat_lt (handshakes p).requests (run_count s p n) else follows_in (serving_at s (run_state s p) n.target phases.DataIn) (handshakes p) atn phases.DataIn) off
@@ -209,10 +217,13 @@ target_in s p row n false ack atn y lat h same e = changes (y == next_bits s p n
     left true z f e = absurd (none_some (due_of row) e)
     left false z f e = at_rest ack (or_parts (length (handshakes p).waiting == 0) ack z).1 h e
       where
+        none : (length (handshakes p).waiting == 0) ≡ true
+        none = (or_parts (length (handshakes p).waiting == 0) ack z).0
+
         at_rest : (ack : Bool) → ack ≡ false → Pulsing s p n true false ack atn 0 y → due_at (leaving_time p true lat) (offering_with s p n true (ends false ack atn 0 false false true false y)).to ≡ Some (due_of row) → LinkRow s p n row
         at_rest true a h e = absurd cc
         at_rest false a h e =
-            leaves atn false false true 0 y h.linked h.phase.begun_is h.phase.known h.facts.asked (λ z. refl) (follows_pulsed_in s p n false atn 0 y h.offset ∙ f)
+            leaves atn false false true 0 y h.linked h.phase.begun_is h.phase.known h.facts.asked (λ z. refl, λ z. none_waits (handshakes p).waiting none) (follows_pulsed_in s p n false atn 0 y h.offset ∙ f)
             (row_at row n.target (leaving_time p true lat) (offering_with s p n true (ends false false atn 0 false false true false y)).to same e)
 
     rooms : (q : Bool) → nat_lt (length (handshakes p).waiting) (offset_here p) ≡ q → y ≡ next_bits s p n → nat_lt (handshakes p).requests (run_count s p n) ≡ true → (if q then due_at (pulse_time p true lat) (target_side (ends false ack atn 0 false false true true y)) else None) ≡ Some (due_of row) → LinkRow s p n row
@@ -241,10 +252,13 @@ target_out s p row n false ack atn x lat h same e = follows (nat_lt (handshakes 
     left true z f e = absurd (none_some (due_of row) e)
     left false z f e = at_rest ack (or_parts (length (handshakes p).waiting == 0) ack z).1 h e
       where
+        none : (length (handshakes p).waiting == 0) ≡ true
+        none = (or_parts (length (handshakes p).waiting == 0) ack z).0
+
         at_rest : (ack : Bool) → ack ≡ false → Pulsing s p n false false ack atn x 0 → due_at (leaving_time p false lat) (offering_with s p n true (ends false ack atn x false false false false 0)).to ≡ Some (due_of row) → LinkRow s p n row
         at_rest true a h e = absurd cc
         at_rest false a h e =
-            leaves atn false false false x 0 h.linked h.phase.begun_is h.phase.known h.facts.asked (λ z. let w = sym h.offset ∙ z in absurd cc) (follows_pulsed_out s p n false atn x 0 h.offset ∙ f)
+            leaves atn false false false x 0 h.linked h.phase.begun_is h.phase.known h.facts.asked (λ z. let w = sym h.offset ∙ z in absurd cc, λ z. none_waits (handshakes p).waiting none) (follows_pulsed_out s p n false atn x 0 h.offset ∙ f)
             (row_at row n.target (leaving_time p false lat) (offering_with s p n true (ends false false atn x false false false false 0)).to same e)
 
     rooms : (q : Bool) → nat_lt (length (handshakes p).waiting) (offset_here p) ≡ q → (if q then due_at (pulse_time p false lat) (target_side (ends false ack atn x false false false true 0)) else None) ≡ Some (due_of row) → LinkRow s p n row

@@ -22,7 +22,7 @@ use Rattle.bus_books.proofs.Lookups.{id_is}
 
 -- ---- what it lists after an event
 
-took : (d c : Array) (rs : List (ProcId × Reply)) → Some d ≡ Some c → d.replies ≡ rs → c.replies ≡ rs
+pub took : (d c : Array) (rs : List (ProcId × Reply)) → Some d ≡ Some c → d.replies ≡ rs → c.replies ≡ rs
 took d c rs e f = let same : d ≡ c = cc in (λ i. (sym same i).replies) ∙ f
 
 accept_lists : (a c : Array) (p : Process) (x : Option UnitState) → Steps.accept_step_at a p x ≡ Some c → c.replies ≡ a.replies
@@ -54,9 +54,9 @@ executed_lists a p u done = λ i. (p.id, done.reply) ∷ go u done.reported i
     go (Some u) true = refl
     go (Some u) false = refl
 
-record ListsOne (id : ProcId) (before after : List (ProcId × Reply)) : Type 0 where
-  reply : Reply
-  lists : after ≡ (id, reply) ∷ before
+pub record ListsOne (id : ProcId) (before after : List (ProcId × Reply)) : Type 0 where
+  pub reply : Reply
+  pub lists : after ≡ (id, reply) ∷ before
 
 run_lists : (a c : Array) (guest : Bool) (r : RunningProcess) → Steps.run_step a guest (Some r) ≡ Some c → ListsOne r.process.id a.replies c.replies
 run_lists a c guest r e = go (is_none r.reply && (guest || not (is_held a.holds r.process.target r.process.unit))) e
@@ -71,7 +71,7 @@ run_lists a c guest r e = go (is_none r.reply && (guest || not (is_held a.holds 
     go false k = cc
     go true k = record { reply = done.reply; lists = took next c ((r.process.id, done.reply) ∷ a.replies) k (executed_lists a r.process (unit_state_at a.units r.process.target r.process.unit) done) }
 
-fail_lists : (s : ScenarioValue) (a c : Array) (id : ProcId) (reply : Reply) (x : Option RunningProcess) → Steps.fail_step s a id reply x ≡ Some c → c.replies ≡ (id, reply) ∷ a.replies
+pub fail_lists : (s : ScenarioValue) (a c : Array) (id : ProcId) (reply : Reply) (x : Option RunningProcess) → Steps.fail_step s a id reply x ≡ Some c → c.replies ≡ (id, reply) ∷ a.replies
 fail_lists s a c id reply (Some r) e = given (is_none r.reply) e
   where
     given : (y : Bool) → (if y then Some (Steps.with_reply a id reply) else None) ≡ Some c → c.replies ≡ (id, reply) ∷ a.replies
@@ -87,7 +87,7 @@ fail_lists s a c id reply None e = new (process_of s id) e
     new None k = cc
     new (Some p) k = fresh p (Steps.is_waiting a.units id || Steps.has_ended a id) k
 
-end_lists : (a c : Array) (status : ℕ) (x : Option RunningProcess) → Steps.end_step a status x ≡ Some c → c.replies ≡ a.replies
+pub end_lists : (a c : Array) (status : ℕ) (x : Option RunningProcess) → Steps.end_step a status x ≡ Some c → c.replies ≡ a.replies
 end_lists a c status None e = cc
 end_lists a c status (Some r) e = given r.reply e
   where
@@ -104,7 +104,7 @@ end_lists a c status (Some r) e = given r.reply e
     given None k = cc
     given (Some reply) k = ended reply (reply.status == status) k
 
-loss_lists : (a c : Array) (id : ProcId) → Steps.loss_step a id ≡ Some c → c.replies ≡ a.replies
+pub loss_lists : (a c : Array) (id : ProcId) → Steps.loss_step a id ≡ Some c → c.replies ≡ a.replies
 loss_lists a c id e = go (Steps.has_ended a id) e
   where
     go : (y : Bool) → (if y then None else Some (Steps.array_without a id)) ≡ Some c → c.replies ≡ a.replies
@@ -135,14 +135,14 @@ cleared_list by (q ∷ lost) a = cleared_list by lost (if q.initiator == by then
     go true z = refl
     go false z = told (Steps.is_reset_pending (sense_of_nexus a.attentions (nexus_of q)))
 
-abort_lists : (s : ScenarioValue) (a : Array) (i t n : ℕ) (what : AbortKind) → (Steps.abort_step s a i t n what).replies ≡ a.replies
+pub abort_lists : (s : ScenarioValue) (a : Array) (i t n : ℕ) (what : AbortKind) → (Steps.abort_step s a i t n what).replies ≡ a.replies
 abort_lists s a i t n aborts.All = refl
 abort_lists s a i t n (aborts.Tag tag) = refl
 abort_lists s a i t n aborts.WholeQueue = cleared_list i (Steps.unit_processes (unit_state_at a.units t n)) (Steps.without_dropped a (λ p. is_of_unit p t n))
 abort_lists s a i t n aborts.Device =
     units_list s.hosts a.units (λ u. u.target == t) (record (Steps.without_dropped a (λ p. p.target == t)) { senses = Steps.kept_senses (λ q. q.target == t) a.senses; holds = Steps.kept_nexuses (λ q. q.target == t) a.holds })
 
-reset_lists : (s : ScenarioValue) (a : Array) → (Steps.reset_step s a).replies ≡ a.replies
+pub reset_lists : (s : ScenarioValue) (a : Array) → (Steps.reset_step s a).replies ≡ a.replies
 reset_lists s a = units_list s.hosts a.units (λ u. true) (record (Steps.without_dropped a (λ p. true)) { senses = []; holds = [] })
 
 -- ---- the process that runs is of its number
@@ -197,19 +197,19 @@ one_more a b p reply e id = ap (λ (x : List (ProcId × Reply)). is_some (reply_
     go false = refl
 
 -- The step of an event, before the choices that follow it.
-settles : (x : Option Array) (b : Array) (q : Array → Type 0) → ((c : Array) → x ≡ Some c → q (settled_array c)) → settled_array_if x ≡ Some b → q b
+pub settles : (x : Option Array) (b : Array) (q : Array → Type 0) → ((c : Array) → x ≡ Some c → q (settled_array c)) → settled_array_if x ≡ Some b → q b
 settles None b q f e = cc
 settles (Some c) b q f e = let same : settled_array c ≡ b = cc in subst q same (f c refl)
 
-accepted : (a c : Array) (o : Option Process) → Steps.accept_step a o ≡ Some c → c.replies ≡ a.replies
+pub accepted : (a c : Array) (o : Option Process) → Steps.accept_step a o ≡ Some c → c.replies ≡ a.replies
 accepted a c None e = cc
 accepted a c (Some p) e = accept_lists a c p (unit_state_at a.units p.target p.unit) e
 
-refused : (s : ScenarioValue) (a c : Array) (id : ProcId) (o : Option Process) → process_of s id ≡ o → Steps.refuse_step a o ≡ Some c → c.replies ≡ (id, queue_full) ∷ a.replies
+pub refused : (s : ScenarioValue) (a c : Array) (id : ProcId) (o : Option Process) → process_of s id ≡ o → Steps.refuse_step a o ≡ Some c → c.replies ≡ (id, queue_full) ∷ a.replies
 refused s a c id None f e = cc
 refused s a c id (Some p) f e = refuse_lists a c p (unit_state_at a.units p.target p.unit) e ∙ (λ i. (process_id s id p f i, queue_full) ∷ a.replies)
 
-ran : (a c : Array) (guest : Bool) (id : ProcId) (o : Option RunningProcess) → running_process a id ≡ o → Steps.run_step a guest o ≡ Some c → ListsOne id a.replies c.replies
+pub ran : (a c : Array) (guest : Bool) (id : ProcId) (o : Option RunningProcess) → running_process a id ≡ o → Steps.run_step a guest o ≡ Some c → ListsOne id a.replies c.replies
 ran a c guest id None f e = cc
 ran a c guest id (Some r) f e = subst (λ (x : ProcId). ListsOne x a.replies c.replies) (running_id a id r f) (run_lists a c guest r e)
 

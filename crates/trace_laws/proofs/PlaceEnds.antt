@@ -66,7 +66,7 @@ pub record HasFreed (s : ScenarioValue) (k : RunState) (row : Row) (a : Array) :
   pub untouched : (id : ProcId) → is_served_by k.served id ≡ false → IsUntouched a id → IsUntouched next id
   pub rests : (id : ProcId) → IsAtRest next id
 
-free_shown : (s : ScenarioValue) (k : RunState) (row : Row) (l : Link) → k.story.link ≡ Some l → (row_reading k.story.bus_state row).change.after.rst ≡ false → (row_reading k.story.bus_state row).next ≡ None → row_events_by s k.story (row_reading k.story.bus_state row) row ≡ bus_free_events s l l.last
+pub free_shown : (s : ScenarioValue) (k : RunState) (row : Row) (l : Link) → k.story.link ≡ Some l → (row_reading k.story.bus_state row).change.after.rst ≡ false → (row_reading k.story.bus_state row).next ≡ None → row_events_by s k.story (row_reading k.story.bus_state row) row ≡ bus_free_events s l l.last
 free_shown s k row l link calm none =
     let d : RowReading = row_reading k.story.bus_state row in
     (λ i. if calm i then (if rises d.change.own.rst d.change.next.rst then events.Reset row.dev ∷ [] else []) else link_events s k.story (link i) d)

@@ -177,13 +177,13 @@ reset_over (d ∷ commands) n (suc i) m c b e f sent =
     move : (x y : ℕ) → x + suc y ≡ x + 1 + y
     move x y = omega arith
 
--- With the row that raises RST a process that was sent is over.
-pub rst_over : (s : ScenarioValue) (k : RunState) (row : Row) (q : Process) → process_of s q.id ≡ Some q → is_writing q ≡ true → has_item k.story.sent.sent (process q.id) ≡ true → (row_reading k.story.bus_state row).change.after.rst ≡ true → rises (row_reading k.story.bus_state row).change.own.rst (row_reading k.story.bus_state row).change.next.rst ≡ true → has_item (run_state_after s k row).story.sent.over (process q.id) ≡ true
-rst_over s k row q own writes sent on raised =
-    ap (λ (x : Story). has_item x.sent.over (process q.id)) made ∙ subst (λ (x : ProcId). has_item (story_after_event s (record k.story { link = None }) (events.Reset row.dev)).sent.over (process x) ≡ true) (sym id_is) (number q.id.command refl)
+-- With the row that raises RST a command that was sent is over.
+pub command_over : (s : ScenarioValue) (k : RunState) (row : Row) (id : ProcId) (q : Process) → process_of s id ≡ Some q → id.sense ≡ false → has_item k.story.sent.sent (process id) ≡ true → (row_reading k.story.bus_state row).change.after.rst ≡ true → rises (row_reading k.story.bus_state row).change.own.rst (row_reading k.story.bus_state row).change.next.rst ≡ true → has_item (run_state_after s k row).story.sent.over (process id) ≡ true
+command_over s k row id q own plain_is sent on raised =
+    ap (λ (x : Story). has_item x.sent.over (process id)) made ∙ subst (λ (x : ProcId). has_item (story_after_event s (record k.story { link = None }) (events.Reset row.dev)).sent.over (process x) ≡ true) (sym id_is) (number id.command refl)
   where
-    id_is : q.id ≡ record { command = q.id.command; sense = false }
-    id_is = λ i. record { command = q.id.command; sense = (writer_plain s q own writes) i }
+    id_is : id ≡ record { command = id.command; sense = false }
+    id_is = λ i. record { command = id.command; sense = plain_is i }
 
     made : story_after_events s (story_by_change s k.story (row_reading k.story.bus_state row) row) (row_events_by s k.story (row_reading k.story.bus_state row) row) ≡ story_after_event s (record k.story { link = None }) (events.Reset row.dev)
     made =
@@ -191,7 +191,7 @@ rst_over s k row q own writes sent on raised =
         ap (λ (x : Bool). story_after_events s (if x then record k.story { link = None } else story_on_bus s k.story k.story.bus_state.connection d.next d row) (if x then (if rises d.change.own.rst d.change.next.rst then events.Reset row.dev ∷ [] else []) else link_events s k.story k.story.link d)) on
         ∙ ap (λ (x : Bool). story_after_events s (record k.story { link = None }) (if x then events.Reset row.dev ∷ [] else [])) raised
 
-    line : (o : Option CmdDef) → process_if s q.id o ≡ Some q → (c : CmdDef) × (o ≡ Some c)
+    line : (o : Option CmdDef) → process_if s id o ≡ Some q → (c : CmdDef) × (o ≡ Some c)
     line None e = absurd (none_some e)
       where
         none_some : (let o : Option Process = None in o) ≡ Some q → ⊥
@@ -202,13 +202,17 @@ rst_over s k row q own writes sent on raised =
     never_first [] c e = cc
     never_first (d ∷ cs) c e = cc
 
-    number : (m : ℕ) → q.id.command ≡ m → has_item (story_after_event s (record k.story { link = None }) (events.Reset row.dev)).sent.over (process (record { command = q.id.command; sense = false })) ≡ true
+    number : (m : ℕ) → id.command ≡ m → has_item (story_after_event s (record k.story { link = None }) (events.Reset row.dev)).sent.over (process (record { command = id.command; sense = false })) ≡ true
     number zero e =
-        let l = line (command_at s.commands q.id.command) own in absurd (never_first s.commands l.0 (ap (λ (x : ℕ). command_at s.commands x) (sym e) ∙ l.1))
+        let l = line (command_at s.commands id.command) own in absurd (never_first s.commands l.0 (ap (λ (x : ℕ). command_at s.commands x) (sym e) ∙ l.1))
     number (suc i) e =
-        let l = line (command_at s.commands q.id.command) own in
-        reset_over s.commands 1 i q.id.command l.0 (record k.story { link = None }) (e ∙ first i) (ap (λ (x : ℕ). command_at s.commands x) (sym e) ∙ l.1)
+        let l = line (command_at s.commands id.command) own in
+        reset_over s.commands 1 i id.command l.0 (record k.story { link = None }) (e ∙ first i) (ap (λ (x : ℕ). command_at s.commands x) (sym e) ∙ l.1)
         (subst (λ (x : ProcId). has_item k.story.sent.sent (process x) ≡ true) id_is sent)
       where
         first : (x : ℕ) → suc x ≡ 1 + x
         first x = omega arith
+
+-- And so is a process that writes.
+pub rst_over : (s : ScenarioValue) (k : RunState) (row : Row) (q : Process) → process_of s q.id ≡ Some q → is_writing q ≡ true → has_item k.story.sent.sent (process q.id) ≡ true → (row_reading k.story.bus_state row).change.after.rst ≡ true → rises (row_reading k.story.bus_state row).change.own.rst (row_reading k.story.bus_state row).change.next.rst ≡ true → has_item (run_state_after s k row).story.sent.over (process q.id) ≡ true
+rst_over s k row q own writes sent on raised = command_over s k row q.id q own (writer_plain s q own writes) sent on raised

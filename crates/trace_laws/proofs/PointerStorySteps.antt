@@ -39,7 +39,7 @@ fault_same c b = go (is_command b) (is_data b)
     go false true = record { moved = refl; marked = λ e. e }
     go false false = same_self c
 
-fault_id : (c : CarriedBytes) (b : LineSet) → (carried_after_fault c b).id ≡ c.id
+pub fault_id : (c : CarriedBytes) (b : LineSet) → (carried_after_fault c b).id ≡ c.id
 fault_id c b = go (is_command b) (is_data b)
   where
     go : (q r : Bool) → (if q then record c { struck = true; failure = Some PARITY_ERROR } else if r then record c { failure = Some (if b.io then INITIATOR_DETECTED_ERROR else PARITY_ERROR) } else c).id ≡ c.id

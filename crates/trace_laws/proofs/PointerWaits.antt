@@ -47,7 +47,7 @@ saved_same a b h = record { saved = ap (λ (x : Area). x.saved) h.moved; marked 
 pub saved_on : (a b c : CarriedBytes) → SamePointers a b → SameSaved b c → SameSaved a c
 saved_on a b c h g = record { saved = ap (λ (x : Area). x.saved) h.moved ∙ g.saved; marked = λ e. h.marked (g.marked e) }
 
-not_before : (a b : Bool) → (a ≡ true → b ≡ true) → b ≡ false → a ≡ false
+pub not_before : (a b : Bool) → (a ≡ true → b ≡ true) → b ≡ false → a ≡ false
 not_before true b h e = absurd (true≢false (sym (h refl) ∙ e))
 not_before false b h e = refl
 
@@ -284,7 +284,7 @@ begins_same s k row n id con next calm = carried_row s k row id (subst (λ (x : 
 
 -- ---- in a connection, of a process that is not served
 
-item_not : (id : ProcId) (k : RunState) (n : Connection) (item : Option Item) → IsNot id k.served → ((item ≡ k.served) ⊎ (item ≡ None)) → IsNot id item
+pub item_not : (id : ProcId) (k : RunState) (n : Connection) (item : Option Item) → IsNot id k.served → ((item ≡ k.served) ⊎ (item ≡ None)) → IsNot id item
 item_not id k n item h (inl e) x f = h x (sym e ∙ f)
 item_not id k n item h (inr e) x f = none_some (sym e ∙ f)
   where

@@ -47,7 +47,7 @@ counts_start s = record { counts = λ n e. absurd cc }
 -- ---- DATA OUT is entered
 
 -- Nothing was asked for as a phase begins.
-handshakes_begin : (p : List Row) (row : Row) (n : Connection) → connection (row ∷ p) ≡ Some n → changes_phase (change_of p row) ≡ true → handshakes (row ∷ p) ≡ no_handshakes
+pub handshakes_begin : (p : List Row) (row : Row) (n : Connection) → connection (row ∷ p) ≡ Some n → changes_phase (change_of p row) ≡ true → handshakes (row ∷ p) ≡ no_handshakes
 handshakes_begin p row n con ep = go row.kind refl
   where
     go : (kind : Kind) → row.kind ≡ kind → handshakes (row ∷ p) ≡ no_handshakes
@@ -58,21 +58,22 @@ handshakes_begin p row n con ep = go row.kind refl
         let stays : changes_phase (change_of p row) ≡ false = ap (λ (c : Change). changes_phase c) (ap (change_of p) is ∙ fault_change p row.time row.dev bit b (drives p row.dev) refl refl) ∙ (λ i. not (same_self b.msg i && same_self b.cd i && same_self b.io i)) in
         wrong' (sym stays ∙ ep)
 
-req_false : (s : ScenarioValue) (q : List Row) (n : Connection) → LinkStage s q n → begun q ≡ true → phase_of (bus q) ≡ phases.DataOut → (handshakes q).requests ≡ 0 → (bus q).req ≡ false
-req_false s q n (when_selected h) b phase z = absurd (true≢false (sym b ∙ h.begun_is))
-req_false s q n (when_settling bsy atn msg cd io y h) b phase z = ap (λ (l : LineSet). l.req) h.linked.stands.bus_is
-req_false s q n (when_turning atn x msg cd h) b phase z = no_in q n _ h.linked phase refl
-req_false s q n (when_offering atn msg cd y h) b phase z = no_in q n _ h.linked phase refl
-req_false s q n (when_shaking msg cd io req ack atn x y h) b phase z = absurd (true≢false (ap (λ (m : ℕ). m == 0) (sym z) ∙ h.asked))
-req_false s q n (when_pulsing io req ack atn x y h a) b phase z = absurd (true≢false (ap (λ (m : ℕ). m == 0) (sym z) ∙ h.facts.asked))
+-- Where nothing was asked for REQ is false.
+pub unasked_low : (s : ScenarioValue) (q : List Row) (n : Connection) → LinkStage s q n → (handshakes q).requests ≡ 0 → (bus q).req ≡ false
+unasked_low s q n (when_selected h) z = ap (λ (l : LineSet). l.req) h.linked.stands.bus_is
+unasked_low s q n (when_settling bsy atn msg cd io y h) z = ap (λ (l : LineSet). l.req) h.linked.stands.bus_is
+unasked_low s q n (when_turning atn x msg cd h) z = ap (λ (l : LineSet). l.req) h.linked.stands.bus_is
+unasked_low s q n (when_offering atn msg cd y h) z = ap (λ (l : LineSet). l.req) h.linked.stands.bus_is
+unasked_low s q n (when_shaking msg cd io req ack atn x y h) z = absurd (true≢false (ap (λ (m : ℕ). m == 0) (sym z) ∙ h.asked))
+unasked_low s q n (when_pulsing io req ack atn x y h a) z = absurd (true≢false (ap (λ (m : ℕ). m == 0) (sym z) ∙ h.facts.asked))
 
-entered : (s : ScenarioValue) (q : List Row) (n : Connection) → LinkStage s q n → begun q ≡ true → phase_of (bus q) ≡ phases.DataOut → handshakes q ≡ no_handshakes → 1 ≤ run_count s q n → AreCounted (handshakes q) (bus q) (pulses_here q) (run_count s q n)
-entered s q n h b phase none some = record {
+entered : (s : ScenarioValue) (q : List Row) (n : Connection) → LinkStage s q n → handshakes q ≡ no_handshakes → 1 ≤ run_count s q n → AreCounted (handshakes q) (bus q) (pulses_here q) (run_count s q n)
+entered s q n h none some = record {
   some = some;
   asked = (let a = ap (λ (x : Handshakes). x.answers) none in omega (arith, a));
   within = (let a = ap (λ (x : Handshakes). x.answers) none in omega (arith, a));
   pulses = λ u. let r = requests in omega (arith, r);
-  waits = λ u req ack. absurd (true≢false (sym req ∙ req_false s q n h b phase requests));
+  waits = λ u req ack. absurd (true≢false (sym req ∙ unasked_low s q n h requests));
 }
   where
     requests : (handshakes q).requests ≡ 0
@@ -106,7 +107,7 @@ counts_next s p row o prompt short was nx runs facts = record { counts = λ n af
 
     on : (n : Connection) → connection p ≡ Some n → (bus p).rst ≡ false → connection (row ∷ p) ≡ Some n → (bus (row ∷ p)).rst ≡ false → begun (row ∷ p) ≡ true → phase_of (bus (row ∷ p)) ≡ phases.DataOut → (q : Bool) → changes_phase c ≡ q → AreCounted (handshakes (row ∷ p)) (bus (row ∷ p)) (pulses_here (row ∷ p)) (run_count s (row ∷ p) n)
     on n con calm after off b phase true ep =
-        entered s (row ∷ p) n (stage_of_connection s (row ∷ p) n nx.stood after off) b phase (handshakes_begin p row n after ep) (run_begun s p row n o prompt was nx runs con calm off after ep phase)
+        entered s (row ∷ p) n (stage_of_connection s (row ∷ p) n nx.stood after off) (handshakes_begin p row n after ep) (run_begun s p row n o prompt was nx runs con calm off after ep phase)
     on n con calm after off b phase false ep = counts_stay s p row n ep after
         (pulses_stay s p row n c dv lt (subst (λ (x : Change). IsRowIn (run_state s p) row n x) g.change_is g.goes.row_is) ep here)
         (count_stays s p row n c (record { devices = dv; below = lt; before = con; after = after; change = refl; calm = off; phase = ep; in_data = (run_lines (bus p) here).0 }))

@@ -145,8 +145,8 @@ agreement_by : (now : Bool) (c : Change) (d : Dialogue) → c.before.msg ≡ fal
 agreement_by true c d em ed = data_agreement d c em ed
 agreement_by false c d em ed = refl
 
-pub pulses_stay : (s : ScenarioValue) (p : List Row) (row : Row) (n : Connection) (c : Change) → AreOfDevices p → row.dev < 8 → IsRowIn (run_state s p) row n c → changes_phase c ≡ false → phase_of (bus p) ≡ phases.DataOut → pulses_here (row ∷ p) ≡ pulses_here p
-pulses_stay s p row n c dv lt r ep phase = by r.kind
+pub data_pulses_stay : (s : ScenarioValue) (p : List Row) (row : Row) (n : Connection) (c : Change) → AreOfDevices p → row.dev < 8 → IsRowIn (run_state s p) row n c → changes_phase c ≡ false → (bus p).msg ≡ false → (bus p).cd ≡ false → pulses_here (row ∷ p) ≡ pulses_here p
+data_pulses_stay s p row n c dv lt r ep em ed = by r.kind
   where
     k : RunState
     k = run_state s p
@@ -160,9 +160,6 @@ pulses_stay s p row n c dv lt r ep phase = by r.kind
     before : bus p ≡ c.before
     before = sym pl.bus ∙ r.bus_is
 
-    lines : ((bus p).msg ≡ false) × ((bus p).cd ≡ false) × ((bus p).io ≡ false)
-    lines = run_lines (bus p) phase
-
     same : SamePhase c.before c.after
     same = same_phase_is c ep
 
@@ -170,7 +167,7 @@ pulses_stay s p row n c dv lt r ep phase = by r.kind
     made now fault i =
         let after : bus (row ∷ p) ≡ c.after = sym ql.bus ∙ i.bus_is in
         let agreed : (dialogue (row ∷ p)).heard.now.agreement ≡ (dialogue p).heard.now.agreement =
-        ap (λ (d : Dialogue). d.heard.now.agreement) (sym ql.dialogue ∙ i.dialogue_is) ∙ agreement_by now c k.story.bus_state.dialogue (ap (λ (l : LineSet). l.msg) (sym before) ∙ lines.0) (ap (λ (l : LineSet). l.cd) (sym before) ∙ lines.1) ∙ ap (λ (d : Dialogue). d.heard.now.agreement) pl.dialogue in
+        ap (λ (d : Dialogue). d.heard.now.agreement) (sym ql.dialogue ∙ i.dialogue_is) ∙ agreement_by now c k.story.bus_state.dialogue (ap (λ (l : LineSet). l.msg) (sym before) ∙ em) (ap (λ (l : LineSet). l.cd) (sym before) ∙ ed) ∙ ap (λ (d : Dialogue). d.heard.now.agreement) pl.dialogue in
         λ i. true && (not ((ap (λ (l : LineSet). l.msg) after ∙ same.msg ∙ ap (λ (l : LineSet). l.msg) (sym before)) i) && not ((ap (λ (l : LineSet). l.cd) after ∙ same.cd ∙ ap (λ (l : LineSet). l.cd) (sym before)) i)) && nat_lt 0 (agreed i).offset
 
     none_crosses : receiver_in n c ≡ None → is_some (receiver_in n c) ≡ false
@@ -181,6 +178,9 @@ pulses_stay s p row n c dv lt r ep phase = by r.kind
     by (strikes ef e er) = made false true (in_connection s k row n c false false true r ep (none_crosses er) ef)
     by (crosses dev ef e er) = made true false (in_connection s k row n c false true false r ep (ap (λ (z : Option ℕ). is_some z) er) ef)
     by (turns ef e er) = absurd (true≢false (sym e ∙ ep))
+
+pub pulses_stay : (s : ScenarioValue) (p : List Row) (row : Row) (n : Connection) (c : Change) → AreOfDevices p → row.dev < 8 → IsRowIn (run_state s p) row n c → changes_phase c ≡ false → phase_of (bus p) ≡ phases.DataOut → pulses_here (row ∷ p) ≡ pulses_here p
+pulses_stay s p row n c dv lt r ep phase = let lines = run_lines (bus p) phase in data_pulses_stay s p row n c dv lt r ep lines.0 lines.1
 
 -- ---- a row of the phase
 

@@ -67,11 +67,11 @@ none_item : {A : Type 0} (x : Item) → (let o : Option Item = None in o) ≡ So
 none_item x e = absurd cc
 
 -- It is the one that is served, or another.
-data Serves (item : Option Item) (id : ProcId) : Type 0 where
+pub data Serves (item : Option Item) (id : ProcId) : Type 0 where
   it : item ≡ Some (process id) → Serves item id
   another : IsNot id item → Serves item id
 
-serves : (item : Option Item) (id : ProcId) → Serves item id
+pub serves : (item : Option Item) (id : ProcId) → Serves item id
 serves None id = another (λ x e. none_item (process x) e)
 serves (Some (abort n)) id = another (λ x e. never x e)
   where

@@ -1,7 +1,6 @@
 -- A prompt trace tells the events that the ends of its connections show.
-use Rattle.std.proofs.Common.{inl, inr, ℕ, ◌≡◌, ◌⊎◌, ◌<◌, ◌≤◌, ◌+◌, ◌^◌, Bool, true, false, not, ◌&&◌, ◌||◌, ◌==◌, ◌∙◌, List, [], ◌∷◌, ◌++◌, length, length-append, Option, Some, None, refl, sym, ap, subst, arith}
+use Rattle.std.proofs.Common.{inl, inr, ℕ, ◌≡◌, ◌⊎◌, ◌≤◌, Bool, true, false, not, ◌&&◌, ◌||◌, ◌==◌, ◌∙◌, List, [], ◌∷◌, ◌++◌, length, length-append, Option, Some, None, refl, sym, ap, subst, arith}
 use Rattle.std.specs.Prelude.{if◌then◌else◌, is_some, nat_lt}
-use Rattle.std.proofs.lemmas.Bool.{and_parts}
 use Rattle.std.proofs.lemmas.Bool.Decides.{nat_tests}
 use Rattle.bus_base.specs.declared.AbortKind.{AbortKind}
 use Rattle.bus_base.specs.declared.ProcId.{ProcId}
@@ -26,18 +25,14 @@ use Rattle.bus_dialogue.specs.Exchange.{bytes_of_messages}
 use Rattle.bus_dialogue.specs.NextPhase.{phase_of}
 use Rattle.bus_dialogue.specs.PhaseBytes.{follows_in}
 use Rattle.bus_dialogue.specs.Words.{is_naming, tag_named}
-use Rattle.bus_due.specs.Allowed.{is_allowed, allowed}
 use Rattle.bus_due.specs.Next.{IsPrompt}
 use Rattle.bus_due.specs.Plain.{IsPlain}
 use Rattle.bus_due.specs.RunState.{RunState, bus_of, item_of}
 use Rattle.bus_due.specs.RunSteps.{run_state}
 use Rattle.bus_due.specs.Sights.{serving_of}
-use Rattle.bus_due.specs.Telling.{is_true_telling, telling}
 use Rattle.bus_due.proofs.Plains.{run_state_plain}
 use Rattle.scsi_device.specs.Lines.{AreUnits}
-use Rattle.scsi_device.proofs.FitLines.{obeys_fits, seats_are, units_are}
-use Rattle.bus_laws.proofs.Limits.{obeys_latencies}
-use Rattle.bus_laws.proofs.Prompt.{least_is}
+use Rattle.scsi_device.proofs.FitLines.{obeys_fits, units_are}
 use Rattle.bus_books.specs.Giving.{AreGiven}
 use Rattle.bus_books.specs.Knowing.{Knows}
 use Rattle.bus_books.specs.Reactions.{IsOver}
@@ -45,29 +40,23 @@ use Rattle.bus_books.specs.Speaking.{Speaks}
 use Rattle.bus_books.proofs.InConnection.{reading_is}
 use Rattle.trace_laws.specs.LastTalks.{is_freeing, LastBy}
 use Rattle.trace_laws.specs.Named.{Names, all, tag_alone, known, said, refused, Named}
-use Rattle.trace_laws.specs.Asked.{AreAsked}
 use Rattle.trace_laws.specs.TellFacts.{TellFacts}
-use Rattle.trace_laws.specs.Tells.{AreRepliesShown, LastAsked, LastIn, IsServed, of_process, of_abort, IsLeaving, TellsAsLeft, FailsAsLeft, AreFailsAsked}
-use Rattle.trace_laws.proofs.Blocks.{commands_are}
-use Rattle.trace_laws.proofs.ByteValues.{byte_values}
+use Rattle.trace_laws.specs.Tells.{LastAsked, LastIn, IsServed, of_process, of_abort, IsLeaving, TellsAsLeft, FailsAsLeft}
 use Rattle.trace_laws.proofs.ConnectionRows.{ConnectionRow, connection_row}
 use Rattle.trace_laws.proofs.Crossings.{RowFacts, stays, ends_here}
 use Rattle.trace_laws.proofs.FreshItems.{items_found}
 use Rattle.trace_laws.proofs.ItemFacts.{items_start}
 use Rattle.trace_laws.proofs.ItemNext.{items_next}
-use Rattle.trace_laws.proofs.Joint.{Stood, NextStood, next_stood, link_phase}
+use Rattle.trace_laws.proofs.Joint.{Stood, NextStood, link_phase}
 use Rattle.trace_laws.proofs.LastFacts.{last_start, last_next}
 use Rattle.trace_laws.proofs.LastTurns.{ends_closing}
 use Rattle.trace_laws.proofs.Named.{named_start, named_next}
 use Rattle.trace_laws.proofs.Offers.{offers_start, offers_next}
 use Rattle.trace_laws.proofs.ServedItems.{served_start, served_next}
-use Rattle.trace_laws.proofs.ShownReplies.{replies_first, replies_next}
 use Rattle.trace_laws.proofs.TellEnds.{none_heard}
 use Rattle.trace_laws.proofs.TellRows.{is_heard}
-use Rattle.trace_laws.proofs.TellTraces.{tells_row}
-use Rattle.trace_laws.proofs.Traces.{stood_first}
 use Rattle.trace_laws.proofs.UndoneAnswers.{in_phase, out_phase}
-use Rattle.trace_laws.proofs.UndoneFacts.{undo_start, undo_asks, undo_next, in_of}
+use Rattle.trace_laws.proofs.UndoneFacts.{undo_start, undo_next, in_of}
 
 wrong : {A : Type 0} → true ≡ false → A
 wrong e = absurd cc
@@ -276,35 +265,4 @@ tell_next s p row o prompt was next h =
       undo = undo_next s p row o prompt was next h.undo;
       served = served;
       last = last_next s p row o prompt was next h.served served h.last;
-    }
-
-array_some : (s : ScenarioValue) (p : List Row) → allowed s p ≡ true → is_some (run_state s p).array ≡ true
-array_some s [] e = refl
-array_some s (row ∷ p) e = (and_parts (allowed s p) (is_allowed s (run_state s p) row (row_reading (run_state s p).story.bus_state row)) e).1
-
-pub record IsTold (s : ScenarioValue) (p : List Row) : Type 0 where
-  pub stood : Stood s p
-  pub facts : TellFacts s p
-  pub shown : AreRepliesShown s (run_state s p)
-  pub told : telling s p ≡ true
-
-both : (a b : Bool) → a ≡ true → b ≡ true → (a && b) ≡ true
-both a b e f = λ i. e i && f i
-
--- Of a scenario that obeys the rules of its text, whose plain disk array permits the events.
-pub tells_rows : (s : ScenarioValue) (p : List Row) → Obeys s → IsPrompt s p → length p < 2 ^ 64 → AreAsked s p → allowed s p ≡ true → AreFailsAsked s p → IsTold s p
-tells_rows s [] o prompt short asked array fails = record { stood = stood_first s (units_are s (obeys_fits s o)); facts = tell_start s; shown = replies_first s; told = refl }
-tells_rows s (row ∷ p) o prompt short asked array fails =
-    let k = run_state s p in
-    let f = obeys_fits s o in
-    let permits = and_parts (allowed s p) (is_allowed s k row (row_reading k.story.bus_state row)) array in
-    let less : length p + 1 < 2 ^ 64 = omega arith in
-    let was = tells_rows s p o prompt.0 (omega arith) asked.0 permits.0 fails.0 in
-    let next = next_stood s p row (units_are s f) (seats_are s f) (commands_are s o) (λ q n dv. byte_values s q n o (seats_are s f) dv) (obeys_latencies s o) was.stood less asked.1 (least_is s p row prompt.1) in
-    let row_told = tells_row s p row o prompt was.stood was.shown (array_some s p permits.0) (left_tells s p row o prompt was.stood was.facts fails.1) in
-    record {
-      stood = next.stood;
-      facts = tell_next s p row o prompt was.stood next was.facts;
-      shown = replies_next s k row permits.1 (undo_asks s p row was.stood next was.facts.undo) was.shown;
-      told = both (telling s p) (is_true_telling s k row (row_reading k.story.bus_state row)) was.told row_told;
     }

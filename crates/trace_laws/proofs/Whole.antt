@@ -1,7 +1,6 @@
 -- Row by row of a prompt trace: all that is asked of its rows, and what is kept with them.
-use Rattle.std.proofs.Common.{◌≡◌, ◌⊎◌, inl, inr, ◌<◌, ◌+◌, ◌^◌, Bool, true, false, not, ◌&&◌, ◌||◌, ◌∙◌, List, [], ◌∷◌, length, Option, Some, None, refl, sym, ap, arith}
+use Rattle.std.proofs.Common.{◌≡◌, ◌⊎◌, inl, inr, ◌<◌, ◌+◌, ◌^◌, Bool, true, false, ◌&&◌, ◌∙◌, List, [], ◌∷◌, length, Option, Some, None, refl, sym, ap, arith}
 use Rattle.std.specs.Prelude.{if◌then◌else◌, is_some}
-use Rattle.std.proofs.lemmas.Bool.{and_parts}
 use Rattle.std.proofs.lemmas.Option.{same_Some}
 use Rattle.bus_trace.specs.declared.Row.{Row}
 use Rattle.bus_trace.specs.declared.connection.Connection.{Connection}
@@ -12,96 +11,149 @@ use Rattle.bus_trace.specs.Terms.{call, connection, connection_after}
 use Rattle.bus_trace.specs.Trace.{bus}
 use Rattle.scenario.specs.Value.{ScenarioValue}
 use Rattle.scenario.specs.Writing.{Obeys}
+use Rattle.disk_array.specs.Units.{Array}
 use Rattle.bus_story.specs.BusState.{RowReading, row_reading}
+use Rattle.bus_due.specs.Allowed.{allowed}
 use Rattle.bus_due.specs.Least.{IsLeast}
 use Rattle.bus_due.specs.Next.{due, IsPrompt}
 use Rattle.bus_due.specs.Plain.{IsPlain}
-use Rattle.bus_due.specs.RunState.{RunState, carried_here}
+use Rattle.bus_due.specs.RunState.{RunState}
 use Rattle.bus_due.specs.RunSteps.{run_state}
-use Rattle.bus_due.specs.Wants.{ready_of}
+use Rattle.bus_due.specs.Telling.{telling}
 use Rattle.bus_due.proofs.Plains.{run_state_plain}
+use Rattle.scsi_device.specs.Heard.{heard}
+use Rattle.scsi_device.specs.Writes.{written}
 use Rattle.scsi_device.proofs.FitLines.{obeys_fits, seats_are, units_are}
 use Rattle.bus_books.specs.Traces.{AreRowsOf}
 use Rattle.bus_laws.proofs.Apart.{change_plain}
 use Rattle.bus_laws.proofs.Limits.{obeys_latencies}
 use Rattle.bus_laws.proofs.Prompt.{least_is}
 use Rattle.ending_causes.specs.WrongParity.{complains_truly, left_as_due}
+use Rattle.trace_laws.specs.Asked.{IsAsked}
+use Rattle.trace_laws.specs.Attendance.{AttendedFacts}
+use Rattle.trace_laws.specs.ClearFacts.{ClearFacts}
+use Rattle.trace_laws.specs.Closes.{CloseFacts}
 use Rattle.trace_laws.specs.Commands.{CommandFacts}
+use Rattle.trace_laws.specs.Complaints.{ComplaintFacts}
 use Rattle.trace_laws.specs.DataFacts.{DataFacts}
 use Rattle.trace_laws.specs.Ends.{AreEnds}
-use Rattle.trace_laws.specs.ItemFacts.{ItemFacts}
-use Rattle.trace_laws.specs.Named.{NamedFacts}
-use Rattle.trace_laws.specs.Offers.{OfferFacts}
-use Rattle.trace_laws.specs.OpenAnew.{is_open_anew, is_open_by, is_open_ready, open_anew}
-use Rattle.trace_laws.specs.Asked.{IsAsked}
+use Rattle.trace_laws.specs.Failures.{FailFacts}
+use Rattle.trace_laws.specs.Instructed.{InstructedFacts}
+use Rattle.trace_laws.specs.Places.{PlaceFacts}
+use Rattle.trace_laws.specs.ResetLines.{ResetFacts}
+use Rattle.trace_laws.specs.RowAttendance.{IsAttended, IsCalmTurn}
+use Rattle.trace_laws.specs.RunsLeft.{RunsLeft}
+use Rattle.trace_laws.specs.SentFailures.{SentFacts}
+use Rattle.trace_laws.specs.TellFacts.{TellFacts}
+use Rattle.trace_laws.specs.Tells.{AreRepliesShown, FailsAsLeft, TellsAsLeft}
+use Rattle.trace_laws.specs.WriteFacts.{WriteFacts, WritesAsked}
+use Rattle.trace_laws.proofs.Attended.{attended_row}
+use Rattle.trace_laws.proofs.AttendedAsked.{attendance_asked}
+use Rattle.trace_laws.proofs.AttendedNext.{attended_next, attended_start}
 use Rattle.trace_laws.proofs.Blocks.{commands_are}
 use Rattle.trace_laws.proofs.ByteValues.{byte_values}
+use Rattle.trace_laws.proofs.ClearFacts.{clear_asks, clear_next, clear_start}
+use Rattle.trace_laws.proofs.CloseFacts.{close_next, close_start}
 use Rattle.trace_laws.proofs.Commands.{command_start, command_asks, command_next}
-use Rattle.trace_laws.specs.Complaints.{ComplaintFacts}
-use Rattle.trace_laws.proofs.Complained.{IsCalm, complained_row}
+use Rattle.trace_laws.proofs.Complained.{complained_row}
 use Rattle.trace_laws.proofs.Complaints.{complaints_next, complaints_start}
 use Rattle.trace_laws.proofs.CutConnections.{HoldFacts, cut_phase, holds_next, holds_start}
 use Rattle.trace_laws.proofs.DataFacts.{data_asks, data_next, data_start}
 use Rattle.trace_laws.proofs.DataPremises.{IsUnshown, data_premises}
 use Rattle.trace_laws.proofs.Ends.{ends_on}
-use Rattle.trace_laws.proofs.FreshItems.{calm_after, calm_before, items_found}
-use Rattle.trace_laws.proofs.ItemFacts.{items_start}
-use Rattle.trace_laws.proofs.ItemNext.{items_asks, items_next}
-use Rattle.trace_laws.proofs.Joint.{Stood, next_stood}
+use Rattle.trace_laws.proofs.FailureCrossed.{CrossedFacts, crossed_next, crossed_start}
+use Rattle.trace_laws.proofs.FailureFirst.{fail_rows}
+use Rattle.trace_laws.proofs.FailureLeft.{fails_as_left}
+use Rattle.trace_laws.proofs.FailureNext.{fail_start}
+use Rattle.trace_laws.proofs.FreshItems.{calm_after, calm_before}
+use Rattle.trace_laws.proofs.HeardRows.{HeardFacts, heard_row}
+use Rattle.trace_laws.proofs.Instructed.{instructed_next, instructed_start}
+use Rattle.trace_laws.proofs.ItemNext.{items_asks}
+use Rattle.trace_laws.proofs.Joint.{NextStood, Stood, next_stood}
 use Rattle.trace_laws.proofs.Left.{left_row}
-use Rattle.trace_laws.proofs.Named.{named_start, named_asks, named_next, named_at_run}
-use Rattle.trace_laws.proofs.Offers.{offers_start, offers_asks, offers_next}
+use Rattle.trace_laws.proofs.Named.{named_asks, named_at_run}
+use Rattle.trace_laws.proofs.Offers.{offers_asks}
+use Rattle.trace_laws.proofs.PlaceRows.{allowed_row, places_start}
+use Rattle.trace_laws.proofs.PlaceTraces.{place_row}
+use Rattle.trace_laws.proofs.PlacesHeard.{begins_placed, places_heard}
+use Rattle.trace_laws.proofs.ResetFacts.{resets_next, resets_start}
+use Rattle.trace_laws.proofs.RunsLeft.{runs_left_next, runs_left_start}
+use Rattle.trace_laws.proofs.RunsWhole.{whole_as_left}
+use Rattle.trace_laws.proofs.SentFailures.{sent_asks, sent_next, sent_start}
+use Rattle.trace_laws.proofs.ShownReplies.{replies_first, replies_next}
+use Rattle.trace_laws.proofs.StatusFacts.{StatusFacts, status_asks, status_next, status_start}
+use Rattle.trace_laws.proofs.TellFacts.{left_tells, tell_next, tell_start}
+use Rattle.trace_laws.proofs.TellTraces.{tells_row}
 use Rattle.trace_laws.proofs.Traces.{stood_first}
+use Rattle.trace_laws.proofs.UndoneFacts.{undo_asks}
+use Rattle.trace_laws.proofs.Unshown.{unshown_ready}
+use Rattle.trace_laws.proofs.WriteNext.{writes_next, writes_start}
+use Rattle.trace_laws.proofs.WritePremises.{write_premises}
+use Rattle.trace_laws.proofs.Written.{written_next}
 
 none_some : {A : Type 0} (n : Connection) → (let a : Option Connection = None in a) ≡ Some n → A
 none_some n e = absurd cc
 
+-- What is kept of the lines and of what is said.
 pub record Whole (s : ScenarioValue) (p : List Row) : Type 0 where
   pub stood : Stood s p
   pub rows_are : AreRowsOf s p
-  pub items : ItemFacts s p
-  pub offers : OfferFacts s p
+  pub facts : TellFacts s p
   pub commands : CommandFacts s p
-  pub named : NamedFacts s p
   pub sends : DataFacts s p
   pub holds : HoldFacts p
+  pub resets : ResetFacts s p
   pub complaints : ComplaintFacts s p
+  pub crossed : CrossedFacts s p
+  pub fails : FailFacts s p
+  pub sent : SentFacts s p
+  pub clear : ClearFacts s p
+  pub places : PlaceFacts s p
+  pub shown : AreRepliesShown s (run_state s p)
+  pub statuses : StatusFacts s p
+  pub closes : CloseFacts s p
+  pub instructed : InstructedFacts s p
+  pub writes : WriteFacts s p
+  pub attends : AttendedFacts s p
+  pub runs_left : RunsLeft s p
   pub ends : AreEnds s p
   pub left : left_as_due s p ≡ true
   pub complains : complains_truly s p ≡ true
+  pub told : telling s p ≡ true
+  pub permitted : allowed s p ≡ true
+  pub hears : heard s p ≡ true
+  pub wrote : written s p ≡ true
 
 first : (s : ScenarioValue) → Obeys s → Whole s []
 first s o = record {
   stood = stood_first s (units_are s (obeys_fits s o));
   rows_are = tt;
-  items = items_start s;
-  offers = offers_start s;
+  facts = tell_start s;
   commands = command_start s;
-  named = named_start s;
   sends = data_start s;
   holds = holds_start;
+  resets = resets_start s;
   complaints = complaints_start s;
+  crossed = crossed_start s;
+  fails = fail_start s;
+  sent = sent_start s;
+  clear = clear_start s;
+  places = places_start s (seats_are s (obeys_fits s o));
+  shown = replies_first s;
+  statuses = status_start s;
+  closes = close_start s;
+  instructed = instructed_start s;
+  writes = writes_start s;
+  attends = attended_start s;
+  runs_left = runs_left_start s;
   ends = λ n e. none_some n e;
   left = refl;
   complains = refl;
+  told = refl;
+  permitted = refl;
+  hears = refl;
+  wrote = refl;
 }
-
--- As a reselection begins its process has shown no reply.
-unshown : (s : ScenarioValue) (p : List Row) (row : Row) → Stood s p → row.dev < 8 → is_open_anew s (run_state s p) (row_reading (run_state s p).story.bus_state row) ≡ true → (n : Connection) → connection p ≡ None → connection (row ∷ p) ≡ Some n → IsUnshown s (run_state s p) n
-unshown s p row was lt open_is n alone after re r ready =
-    let pl = run_state_plain s p was.standing.devices in
-    let next = (λ i. connection_after (pl.connection i) (pl.call i) (change_plain s row p was.standing.devices lt i) row) ∙ after in
-    unmarked (carried_here (run_state s p) r.process.id).shown (carried_here (run_state s p) r.process.id).refused
-    (sym (ap (is_open_ready (run_state s p)) ready) ∙ here n.reselected re (sym (λ i. is_open_by s (run_state s p) ((pl.connection ∙ alone) i) (next i)) ∙ open_is))
-  where
-    here : (q : Bool) → q ≡ true → (not q || is_open_ready (run_state s p) (ready_of s (run_state s p) n.target)) ≡ true → is_open_ready (run_state s p) (ready_of s (run_state s p) n.target) ≡ true
-    here true e z = z
-    here false e z = absurd cc
-
-    unmarked : (a b : Bool) → not (a || b) ≡ true → (a || b) ≡ false
-    unmarked true b e = absurd cc
-    unmarked false true e = absurd cc
-    unmarked false false e = refl
 
 -- What is asked of the next row.
 asked : (s : ScenarioValue) (p : List Row) (row : Row) → Obeys s → IsPrompt s (row ∷ p) → length (row ∷ p) < 2 ^ 64 → Whole s p → IsAsked s p row
@@ -109,16 +161,16 @@ asked s p row o prompt short was n con calm off =
     let c = command_asks s p row o prompt short was.stood was.commands n con calm off in
     let d = data_asks s p row n o prompt was.stood was.sends con calm off in
     record {
-      names = items_asks s p row n o prompt was.stood was.items con calm off;
+      names = items_asks s p row n o prompt was.stood was.facts.items con calm off;
       pointers = λ pr e f. record { command = c.pointer pr e f; moved = d.moved pr e f };
-      runs = λ f pr t ep et ef. record { named = named_at_run s p n was.named con calm ef; active_is = d.active_is f pr t ep et ef };
-      named = named_asks s p row n o prompt was.stood was.named con calm off;
-      settles = offers_asks s p row n o prompt was.stood was.offers con calm off;
+      runs = λ f pr t ep et ef. record { named = named_at_run s p n was.facts.named con calm ef; active_is = d.active_is f pr t ep et ef };
+      named = named_asks s p row n o prompt was.stood was.facts.named con calm off;
+      settles = offers_asks s p row n o prompt was.stood was.facts.offers con calm off;
       command = c.command;
     }
 
 -- A phase is left while RST is false, or it is MESSAGE IN.
-calm : (s : ScenarioValue) (p : List Row) (row : Row) → Obeys s → IsPrompt s (row ∷ p) → Whole s p → row.dev < 8 → IsCalm (row_reading (run_state s p).story.bus_state row)
+calm : (s : ScenarioValue) (p : List Row) (row : Row) → Obeys s → IsPrompt s (row ∷ p) → Whole s p → row.dev < 8 → IsCalmTurn (row_reading (run_state s p).story.bus_state row)
 calm s p row o prompt was lt stands ep = go (connection p) refl (connection (row ∷ p)) refl
   where
     k : RunState
@@ -159,31 +211,105 @@ calm s p row o prompt was lt stands ep = go (connection p) refl (connection (row
         let is = same m n (bus (row ∷ p)).bsy (sym (λ i. connection_after (e i) (call p) (change_of p row) row) ∙ f) in
         by_rst n (e ∙ ap (λ (z : Connection). Some z) is) f (bus p).rst (bus (row ∷ p)).rst refl refl
 
-next : (s : ScenarioValue) (p : List Row) (row : Row) → Obeys s → IsPrompt s (row ∷ p) → length (row ∷ p) < 2 ^ 64 → is_open_anew s (run_state s p) (row_reading (run_state s p).story.bus_state row) ≡ true → Whole s p → Whole s (row ∷ p)
-next s p row o prompt short open_is was =
+both : (a b : Bool) → a ≡ true → b ≡ true → (a && b) ≡ true
+both a b e f = λ i. e i && f i
+
+-- The lines after the next row.
+standing_next : (s : ScenarioValue) (p : List Row) (row : Row) → Obeys s → IsPrompt s (row ∷ p) → length (row ∷ p) < 2 ^ 64 → Whole s p → NextStood s p row
+standing_next s p row o prompt short was =
     let fits = obeys_fits s o in
+    let less : length p + 1 < 2 ^ 64 = omega (arith, short) in
+    next_stood s p row (units_are s fits) (seats_are s fits) (commands_are s o) (λ q n dv. byte_values s q n o (seats_are s fits) dv) (obeys_latencies s o) was.stood less (asked s p row o prompt short was) (least_is s p row prompt.1)
+
+-- What of it the events rest on.
+record RowSteps (s : ScenarioValue) (p : List Row) (row : Row) : Type 0 where
+  stood : NextStood s p row
+  facts : TellFacts s (row ∷ p)
+  commands : CommandFacts s (row ∷ p)
+  fails : FailsAsLeft s p row
+  tells : TellsAsLeft s p row
+  places : PlaceFacts s (row ∷ p)
+  instructed : InstructedFacts s (row ∷ p)
+  writes : WritesAsked s p row
+
+steps : (s : ScenarioValue) (p : List Row) (row : Row) → Obeys s → IsPrompt s (row ∷ p) → length (row ∷ p) < 2 ^ 64 → Whole s p → RowSteps s p row
+steps s p row o prompt short was =
+    let nx = standing_next s p row o prompt short was in
+    let fails = fails_as_left s p row o prompt was.stood (sent_asks s p row o prompt was.stood was.facts was.sent) was.fails in
+    let tells = left_tells s p row o prompt was.stood was.facts fails in
+    record {
+      stood = nx;
+      facts = tell_next s p row o prompt was.stood nx was.facts;
+      commands = command_next s p row o prompt short was.stood was.facts.offers nx was.commands;
+      fails = fails;
+      tells = tells;
+      places = place_row s p row o prompt was.stood nx was.facts was.shown was.places was.closes tells (status_asks s p row o prompt was.stood nx was.facts was.statuses);
+      instructed = instructed_next s p row o prompt was.stood nx was.facts.offers was.commands was.instructed;
+      writes = write_premises s p row o prompt was.stood was.places was.sends was.resets;
+    }
+
+-- What a target has heard after the row.
+heard_next : (s : ScenarioValue) (p : List Row) (row : Row) → Obeys s → IsPrompt s (row ∷ p) → Whole s p → RowSteps s p row → heard s (row ∷ p) ≡ true
+heard_next s p row o prompt was g =
+    let begins = begins_placed s p row o prompt was.stood g.stood was.facts.items was.places in
+    let at : HeardFacts s (row ∷ p) =
+    record { stood = g.stood.stood; commands = g.commands; named = g.facts.named; told = g.instructed; placed = places_heard s (row ∷ p) g.stood.stood.standing.devices g.places } in
+    both (heard s p) _ was.hears (heard_row s p row o prompt was.stood begins at)
+
+next : (s : ScenarioValue) (p : List Row) (row : Row) → Obeys s → IsPrompt s (row ∷ p) → length (row ∷ p) < 2 ^ 64 → Whole s p → Whole s (row ∷ p)
+next s p row o prompt short was =
+    let k = run_state s p in
     let m : IsLeast (due s p) 8 row = least_is s p row prompt.1 in
-    let less : length p + 1 < 2 ^ 64 = omega arith in
-    let nx = next_stood s p row (units_are s fits) (seats_are s fits) (commands_are s o) (λ q n dv. byte_values s q n o (seats_are s fits) dv) (obeys_latencies s o) was.stood less (asked s p row o prompt short was) m in
+    let g = steps s p row o prompt short was in
+    let nx = g.stood in
     let left = left_row s p row o prompt was.stood m.inside nx.obeys in
     let truly = complained_row s p row o prompt was.stood nx (λ stands ep. calm s p row o prompt was m.inside stands ep) was.complaints in
+    let row_told = tells_row s p row o prompt was.stood was.shown (ap (λ (a : Option Array). is_some a) was.places.array_is) g.tells in
+    let sent = sent_asks s p row o prompt was.stood was.facts was.sent in
+    let unshown : (n : Connection) → connection p ≡ None → connection (row ∷ p) ≡ Some n → IsUnshown s k n = λ n alone after. unshown_ready s p n was.stood.standing.devices was.places was.shown alone in
+    let attends = attendance_asked s p row nx.stood.standing.devices was.places g.places g.fails in
     record {
       stood = nx.stood;
       rows_are = (was.rows_are, nx.row_is);
-      items = items_next s p row o prompt was.stood nx was.items;
-      offers = offers_next s p row o prompt was.stood nx was.offers;
-      commands = command_next s p row o prompt short was.stood was.offers nx was.commands;
-      named = named_next s p row o prompt was.stood nx was.offers (λ n con after re. items_found s p n was.items) was.named;
-      sends = data_next s p row o prompt short was.stood nx was.offers (data_premises s p row o prompt was.stood was.items (λ n alone after. unshown s p row was.stood m.inside open_is n alone after)) was.sends;
+      facts = g.facts;
+      commands = g.commands;
+      sends = data_next s p row o prompt short was.stood nx was.facts.offers
+          (data_premises s p row o prompt was.stood was.facts.items unshown) was.sends;
       holds = holds_next s p row o prompt was.stood nx was.holds;
-      complaints = complaints_next s p row o prompt was.stood nx was.offers was.complaints;
-      ends = ends_on s p row fits was.stood nx.stood m.inside nx.obeys was.ends;
-      left = λ i. was.left i && left i;
-      complains = λ i. was.complains i && truly i;
+      resets = resets_next s p row o prompt was.stood nx was.resets;
+      complaints = complaints_next s p row o prompt was.stood nx was.facts.offers was.complaints;
+      crossed = crossed_next s p row o prompt was.stood nx;
+      fails = fail_rows s p row o prompt was.stood nx was.facts was.crossed sent (clear_asks s p row o prompt was.stood was.facts.items unshown was.clear) was.fails;
+      sent = sent_next s p row o prompt was.stood nx was.facts was.fails was.crossed was.complaints was.sent;
+      clear = clear_next s p row o prompt was.stood nx was.facts was.fails was.places g.facts.items sent was.clear;
+      places = g.places;
+      shown = replies_next s k row (ap (λ (a : Option Array). is_some a) g.places.array_is) (undo_asks s p row was.stood nx was.facts.undo) was.shown;
+      statuses = status_next s p row o prompt was.stood nx was.facts was.places g.places g.fails was.statuses;
+      closes = close_next s p row o prompt was.stood nx was.facts was.places g.places was.closes;
+      instructed = g.instructed;
+      writes = writes_next s p row o prompt was.stood nx was.facts.items was.commands was.instructed g.writes was.writes;
+      attends = attended_next s p row (record { obeys = o; prompt = prompt; stood = was.stood; next = nx; told = was.instructed; told_next = g.instructed; asked = attends; facts = was.attends });
+      runs_left = runs_left_next s p row o prompt was.stood nx was.holds was.sends.runs g.places was.runs_left;
+      ends = ends_on s p row (obeys_fits s o) was.stood nx.stood m.inside nx.obeys was.ends;
+      left = both (left_as_due s p) _ was.left left;
+      complains = both (complains_truly s p) _ was.complains truly;
+      told = both (telling s p) _ was.told row_told;
+      permitted = both (allowed s p) _ was.permitted (allowed_row s p row g.places);
+      hears = heard_next s p row o prompt was g;
+      wrote = written_next s p row o prompt was.stood nx was.commands was.instructed g.writes was.writes was.wrote;
     }
 
-pub whole : (s : ScenarioValue) (p : List Row) → Obeys s → IsPrompt s p → length p < 2 ^ 64 → open_anew s p ≡ true → Whole s p
-whole s [] o prompt short open_are = first s o
-whole s (row ∷ p) o prompt short open_are =
-    let both = and_parts (open_anew s p) (is_open_anew s (run_state s p) (row_reading (run_state s p).story.bus_state row)) open_are in
-    next s p row o prompt short both.1 (whole s p o prompt.0 (omega (arith, short)) both.0)
+pub whole : (s : ScenarioValue) (p : List Row) → Obeys s → IsPrompt s p → length p < 2 ^ 64 → Whole s p
+whole s [] o prompt short = first s o
+whole s (row ∷ p) o prompt short = next s p row o prompt short (whole s p o prompt.0 (omega (arith, short)))
+
+-- What a row shows in a connection.
+pub row_attendance : (s : ScenarioValue) (p : List Row) (row : Row) → Obeys s → IsPrompt s (row ∷ p) → length (row ∷ p) < 2 ^ 64 → IsAttended s p row
+row_attendance s p row o prompt short =
+    let was = whole s p o prompt.0 (omega (arith, short)) in
+    let g = steps s p row o prompt short was in
+    record {
+      shows = attended_row s p row o prompt was.stood was.commands was.instructed (attendance_asked s p row g.stood.stood.standing.devices was.places g.places g.fails) was.attends;
+      whole = whole_as_left s p row o prompt was.stood g.stood was.facts was.commands was.instructed g.writes was.writes was.sends.runs was.places was.runs_left was.shown g.fails;
+      turn = calm s p row o prompt was (least_is s p row prompt.1).inside;
+    }

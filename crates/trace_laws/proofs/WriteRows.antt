@@ -171,14 +171,14 @@ runs_out s p row n q w con calm b phase served =
 
 -- ---- no run is done
 
-runs_kept : (made : List ProcessProgress) (o : Option Process) (b : Bool) (k : RunState) (l : Leaving) → k.progress ≡ made → (b ≡ true → l.done ≡ false) → (id : ProcId) → (progress_in (if b then progress_by_leaving k o l else k.progress) id).runs ≡ (progress_in made id).runs
+pub runs_kept : (made : List ProcessProgress) (o : Option Process) (b : Bool) (k : RunState) (l : Leaving) → k.progress ≡ made → (b ≡ true → l.done ≡ false) → (id : ProcId) → (progress_in (if b then progress_by_leaving k o l else k.progress) id).runs ≡ (progress_in made id).runs
 runs_kept made o false k l e f id = ap (λ (m : List ProcessProgress). (progress_in m id).runs) e
 runs_kept made None true k l e f id = ap (λ (m : List ProcessProgress). (progress_in m id).runs) e
 runs_kept made (Some q) true k l e f id =
     (λ i. (progress_in (progress_with k.progress q.id (f refl i) l.counts) id).runs) ∙ same_runs k.progress q.id l.counts id ∙ ap (λ (m : List ProcessProgress). (progress_in m id).runs) e
 
 -- Where the phase is none of data.
-not_done : (s : ScenarioValue) (k : RunState) (n : Connection) → (phase_of (bus_of k) ≡ phases.DataIn → ⊥) → (phase_of (bus_of k) ≡ phases.DataOut → ⊥) → k.exchange.begun ≡ true → (leaving s k n.target).done ≡ false
+pub not_done : (s : ScenarioValue) (k : RunState) (n : Connection) → (phase_of (bus_of k) ≡ phases.DataIn → ⊥) → (phase_of (bus_of k) ≡ phases.DataOut → ⊥) → k.exchange.begun ≡ true → (leaving s k n.target).done ≡ false
 not_done s k n fi fo b = go (leaving s k n.target).done refl
   where
     left : leaving s k n.target ≡ phase_leaving (serving_of s k n.target) (bus_of k).atn (phase_of (bus_of k))

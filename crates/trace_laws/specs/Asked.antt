@@ -1,6 +1,6 @@
 -- What the laws of the books and those of connections ask of a row of a connection beside what is due: each part is proved of the rows of
 -- prompt traces.
-use Rattle.std.specs.Prelude.{◌+◌, ◌≡◌, ◌<◌, true, false, List, [], ◌∷◌, ⊤, length, Some, is_some, ◌&&◌}
+use Rattle.std.specs.Prelude.{◌+◌, ◌≡◌, ◌<◌, true, false, List, ◌∷◌, length, Some, is_some, ◌&&◌}
 use Rattle.bus_trace.specs.declared.Row.{Row}
 use Rattle.bus_trace.specs.declared.connection.Connection.{Connection}
 use Rattle.bus_trace.specs.Phases.{changes_phase, is_command, is_data}
@@ -54,7 +54,3 @@ pub record IsAskedIn (s : ScenarioValue) (rows : List Row) (row : Row) (n : Conn
 
 abbrev pub IsAsked : ScenarioValue → List Row → Row → Type 0
 IsAsked s rows row = (n : Connection) → connection rows ≡ Some n → (bus rows).rst ≡ false → (bus (row ∷ rows)).rst ≡ false → IsAskedIn s rows row n
-
-abbrev pub AreAsked : ScenarioValue → List Row → Type 0
-AreAsked s [] = ⊤
-AreAsked s (row ∷ rows) = AreAsked s rows × IsAsked s rows row

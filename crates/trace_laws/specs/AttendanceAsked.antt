@@ -1,6 +1,6 @@
 -- What is asked of a row, so that its events are those that the target of its connection rests on: the plain disk array permits them, what
 -- begins a connection is placed, and what fails or was answered is so by the phase (6.1.6, 6.6.5, 7.3).
-use Rattle.std.specs.Prelude.{ℕ, ◌≡◌, ◌||◌, true, false, List, [], ◌∷◌, Some, None, is_some, ⊤}
+use Rattle.std.specs.Prelude.{ℕ, ◌≡◌, ◌||◌, true, false, List, [], ◌∷◌, Some, None, is_some}
 use Rattle.bus_base.specs.declared.Event.TheVariants as events
 use Rattle.bus_base.specs.declared.ProcId.{ProcId}
 use Rattle.bus_trace.specs.declared.Row.{Row}
@@ -63,8 +63,3 @@ pub record AttendanceAsked (s : ScenarioValue) (rows : List Row) (row : Row) : T
   pub begins : BeginsUnanswered s rows row
   pub leaves : LeavesAnswered s rows row
   pub replies : RepliesGiven s rows
-
--- Of all rows.
-abbrev pub AreAttendanceAsked : ScenarioValue → List Row → Type 0
-AreAttendanceAsked s [] = ⊤
-AreAttendanceAsked s (row ∷ rows) = AreAttendanceAsked s rows × AttendanceAsked s rows row

@@ -30,5 +30,10 @@ pub mod Complaints
 pub mod WriteFacts
 pub mod WriteTests
 pub mod WholeRuns
-pub mod OpenAnew
 pub mod ResetLines
+pub mod RowAttendance
+pub mod SentFailures
+pub mod RunsWhole
+pub mod ClearFacts
+pub mod Statuses
+pub mod RunsLeft

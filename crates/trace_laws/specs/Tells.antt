@@ -1,7 +1,7 @@
 -- What the target of a connection knows of the process that it serves is what the rows tell of it: whether it has a reply, and by
 -- which code it fails; and the last message tells how the connection ends as the target means it. So each end shows the events
 -- that the rows show (6.1.6, 6.6, 7.3).
-use Rattle.std.specs.Prelude.{ℕ, ◌≡◌, ◌⊎◌, Bool, true, false, ◌||◌, List, [], ◌∷◌, Option, Some, None, is_some, ⊤}
+use Rattle.std.specs.Prelude.{ℕ, ◌≡◌, ◌⊎◌, Bool, true, false, ◌||◌, List, ◌∷◌, Option, Some, None, is_some, ⊤}
 use Rattle.bus_base.specs.declared.ProcId.{ProcId}
 use Rattle.bus_trace.specs.declared.connection.Connection.{Connection}
 use Rattle.cdb_codec.specs.declared.sense.TheConstants.{PARITY_ERROR, INITIATOR_DETECTED_ERROR}
@@ -118,17 +118,13 @@ UndoesAnswers k row =
     (l : Link) (m : MsgOut) (u : CarriedBytes) → k.story.link ≡ Some l → (row_reading k.story.bus_state row).out ≡ Some m → is_parity_error m ≡ true → l.undo ≡ Some u
     → has_answer u ≡ has_answer (carried_here k u.id)
 
--- ---- what is still asked of a row, and of all rows
+-- ---- what is still asked of a row
 
 -- As a phase is left for which the initiator knows the process, the code of its failure is as the target knows it.
 abbrev pub FailsAsLeft : ScenarioValue → List Row → Row → Type 0
 FailsAsLeft s rows row =
     (n : Connection) (id : ProcId) → IsLeaving s rows row n → item_of (run_state s rows).story.link ≡ Some (process id)
     → FailsIn (run_state s rows).exchange.plan (bus_of (run_state s rows)).atn (carried_here (run_state s rows) id) (phase_of (bus_of (run_state s rows)))
-
-abbrev pub AreFailsAsked : ScenarioValue → List Row → Type 0
-AreFailsAsked s [] = ⊤
-AreFailsAsked s (row ∷ rows) = AreFailsAsked s rows × FailsAsLeft s rows row
 
 -- ---- where MESSAGE PARITY ERROR may come, what it brings back has the answer that the process has
 

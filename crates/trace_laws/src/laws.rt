@@ -1,6 +1,6 @@
 // Laws of prompt traces, each named by the contract of a function that does nothing.
 
-ghost use Rattle.std.specs.Prelude.{ℕ, ◌≡◌, ◌<◌, ◌≤◌, ◌^◌, true, List, length, Some};
+ghost use Rattle.std.specs.Prelude.{ℕ, ◌≡◌, ◌<◌, ◌≤◌, ◌^◌, true, List, ◌∷◌, length, Some};
 ghost use Rattle.bus_base.specs.declared.Event.TheVariants as events;
 ghost use Rattle.bus_trace.specs.declared.Row.{Row};
 ghost use Rattle.bus_trace.specs.declared.connection.Connection.{Connection};
@@ -11,27 +11,28 @@ ghost use Rattle.scenario.specs.Writing.{Obeys};
 ghost use Rattle.bus_reactions.specs.declared.due.Due.{Due};
 ghost use Rattle.disk_array.specs.Processes.{process_of, Process};
 ghost use Rattle.ending_causes.specs.FullQueues.{has_event};
+ghost use Rattle.bus_due.specs.Allowed.{allowed};
 ghost use Rattle.bus_due.specs.Faithful.{faithful};
 ghost use Rattle.bus_due.specs.Next.{due, IsPrompt};
 ghost use Rattle.bus_due.specs.Plain.{AreOfDevices};
 ghost use Rattle.bus_due.specs.RunSteps.{run_state};
+ghost use Rattle.scsi_device.specs.Heard.{heard};
+ghost use Rattle.scsi_device.specs.Writes.{written};
 ghost use Rattle.ending_causes.specs.WrongParity.{complains_truly, has_more_faults, left_as_due};
 ghost use Rattle.bus_books.specs.Traces.{AreRowsOf, Books};
 ghost use Rattle.bus_due.specs.Telling.{telling};
 ghost use Rattle.trace_laws.specs.ByteValues.{HasByteValues};
 ghost use Rattle.trace_laws.specs.Ends.{AreEnds};
-ghost use Rattle.trace_laws.specs.OpenAnew.{open_anew};
+ghost use Rattle.trace_laws.specs.RowAttendance.{IsAttended};
 
 use ending_causes::limits_are_passed;
 
 /// A prompt trace of fewer than 2^64 rows, whatever connections, faults and resets it has, obeys every rule of the bus
-/// (`lawful`), and nothing that is due after it lies in the past (`ahead`): where no process that has shown a reply is
-/// reselected (`open_anew`).
+/// (`lawful`), and nothing that is due after it lies in the past (`ahead`).
 pub fn prompt_traces_are_lawful()
     ensures lawful { (s : ScenarioValue) (rows : List Row) → Obeys s → IsPrompt s rows → length rows < 2 ^ 64
-        → open_anew s rows ≡ true → AreLawful rows }
+        → AreLawful rows }
     ensures ahead { (s : ScenarioValue) (rows : List Row) → Obeys s → IsPrompt s rows → length rows < 2 ^ 64
-        → open_anew s rows ≡ true
         → (dev : ℕ) → dev < 8 → (x : Due) → due s rows dev ≡ Some x → last_time rows ≤ x.time }
 {}
 
@@ -42,38 +43,56 @@ pub fn prompt_traces_are_lawful()
 /// after any rows of the eight devices (`bytes`).
 pub fn prompt_traces_keep_the_books()
     ensures rows { (s : ScenarioValue) (rows : List Row) → Obeys s → IsPrompt s rows → length rows < 2 ^ 64
-        → open_anew s rows ≡ true → AreRowsOf s rows }
+        → AreRowsOf s rows }
     ensures books { (s : ScenarioValue) (rows : List Row) → Obeys s → IsPrompt s rows → length rows < 2 ^ 64
-        → open_anew s rows ≡ true → Books s (run_state s rows) }
+        → Books s (run_state s rows) }
     ensures faithful { (s : ScenarioValue) (rows : List Row) → Obeys s → IsPrompt s rows → length rows < 2 ^ 64
-        → open_anew s rows ≡ true → faithful s rows ≡ true }
+        → faithful s rows ≡ true }
     ensures bytes { (s : ScenarioValue) (rows : List Row) (n : Connection) → Obeys s → AreOfDevices rows
         → HasByteValues s (run_state s rows) n }
+{}
+
+/// The events that the two ends of a connection show, each by what it knows itself, are those that the rows show
+/// (`telling`), and the plain disk array permits them (`allowed`). The target hears in a connection what is of the
+/// process that it serves, which stands in the array where the phase says (`heard`); the bytes of a write come in their
+/// order, and a write that runs and would end GOOD has come whole (`written`); and the events of a row in a connection
+/// are of that process, or of an abort that came in it (`attended`).
+pub fn ends_know_what_rows_tell()
+    ensures telling { (s : ScenarioValue) (rows : List Row) → Obeys s → IsPrompt s rows → length rows < 2 ^ 64
+        → telling s rows ≡ true }
+    ensures allowed { (s : ScenarioValue) (rows : List Row) → Obeys s → IsPrompt s rows → length rows < 2 ^ 64
+        → allowed s rows ≡ true }
+    ensures heard { (s : ScenarioValue) (rows : List Row) → Obeys s → IsPrompt s rows → length rows < 2 ^ 64
+        → heard s rows ≡ true }
+    ensures written { (s : ScenarioValue) (rows : List Row) → Obeys s → IsPrompt s rows → length rows < 2 ^ 64
+        → written s rows ≡ true }
+    ensures attended { (s : ScenarioValue) (rows : List Row) (row : Row) → Obeys s → IsPrompt s (row ∷ rows)
+        → length (row ∷ rows) < 2 ^ 64 → IsAttended s rows row }
 {}
 
 /// The two ends of a connection are an initiator and a target of the scenario (`ends`), and a target goes to BUS FREE
 /// only where it is due to (`left`).
 pub fn connections_are_of_the_scenario()
     ensures ends { (s : ScenarioValue) (rows : List Row) → Obeys s → IsPrompt s rows → length rows < 2 ^ 64
-        → open_anew s rows ≡ true → AreEnds s rows }
+        → AreEnds s rows }
     ensures left { (s : ScenarioValue) (rows : List Row) → Obeys s → IsPrompt s rows → length rows < 2 ^ 64
-        → open_anew s rows ≡ true → left_as_due s rows ≡ true }
+        → left_as_due s rows ≡ true }
 {}
 
 /// So a command fails with the sense of ABORTED COMMAND (`failures`), or is lost (`losses`), only where more fault rows
-/// stand in the connections of its process than the limit of its target: where the two ends of a connection show what
-/// the rows show (`telling`). The initiator complains only of a phase in which a byte was struck (`complains`).
+/// stand in the connections of its process than the limit of its target. The initiator complains only of a phase in
+/// which a byte was struck (`complains`).
 pub fn limits_are_kept()
     ensures failures { (s : ScenarioValue) (rows : List Row) (p : Process) (code : ℕ) → Obeys s → IsPrompt s rows
-        → length rows < 2 ^ 64 → open_anew s rows ≡ true → telling s rows ≡ true → process_of s p.id ≡ Some p
+        → length rows < 2 ^ 64 → process_of s p.id ≡ Some p
         → has_event (run_state s rows).story.history (events.Fail p.id code) ≡ true
         → has_more_faults s rows p ≡ true }
     ensures losses { (s : ScenarioValue) (rows : List Row) (p : Process) → Obeys s → IsPrompt s rows
-        → length rows < 2 ^ 64 → open_anew s rows ≡ true → telling s rows ≡ true → process_of s p.id ≡ Some p
+        → length rows < 2 ^ 64 → process_of s p.id ≡ Some p
         → has_event (run_state s rows).story.history (events.Lost p.id) ≡ true
         → has_more_faults s rows p ≡ true }
     ensures complains { (s : ScenarioValue) (rows : List Row) → Obeys s → IsPrompt s rows → length rows < 2 ^ 64
-        → open_anew s rows ≡ true → complains_truly s rows ≡ true }
+        → complains_truly s rows ≡ true }
 {
     limits_are_passed();
 }

@@ -1,4 +1,5 @@
 use Rattle.std.proofs.Common.{Err, Result, ◌*◌, ◌+◌, ℕ, ◌≡◌, ◌<◌, ◌^◌, ◌∙◌, true, List, length, reverse, sym, ap, subst, arith}
+use Rattle.std.proofs.lemmas.List.{reverse-reverse}
 use Rattle.std.proofs.lemmas.Result.{err_from_is_err_and}
 use Rattle.bus_base.specs.declared.Event.{Event}
 use Rattle.bus_trace.specs.declared.Row.{Row}
@@ -6,6 +7,7 @@ use Rattle.bus_trace.specs.Trace.{last_time}
 use Rattle.bus_rules.specs.Lawful.{AreLawful}
 use Rattle.disk_array.specs.ArrayHistory.{array_after, disks_of}
 use Rattle.bus_story.specs.Outcomes.{outcomes}
+use Rattle.bus_story.specs.Samples.{expected_strikes, row_strikes}
 use Rattle.bus_story.specs.Story.{Story}
 use Rattle.bus_story.specs.TraceHistory.{story, trace_history}
 use Rattle.bus_due.specs.Next.{IsPrompt, IsEnded}
@@ -15,7 +17,7 @@ use Rattle.bus_run.specs.declared.running.RunEnd.{RunEnd}
 use Rattle.bus_members.specs.Answers.{are_answered}
 use Rattle.bus_engine.specs.Limits.{row_limit}
 use Rattle.bus_engine.proofs.Items.{all_reversed}
-use Rattle.bus_engine.proofs.Ties.{IsProved, all_few, all_open, seams_hold}
+use Rattle.bus_engine.proofs.Seams.{IsProved, all_few, seams_hold}
 use Rattle.bus_engine.proofs.running.run_in.Goals as goal
 
 same_end : {T : Type 0} {x y : RunEnd} → (let r : Result T RunEnd = Err x in r) ≡ Err y → x ≡ y
@@ -28,20 +30,28 @@ returns-clause-exact g c = λ at.
     let all : List Row = reverse c.in_ok-trace.trace.rows.items in
     let r = c.in_ok-finish.ensures.rows in
     let proved : IsProved s = record {
-      faithful_are = λ rows p short open_are. c.prompt_traces_keep_the_books.ensures.faithful s rows c.requires.lawful p short open_are;
-      ends_are = λ rows p short open_are. c.connections_are_of_the_scenario.ensures.ends s rows c.requires.lawful p short open_are;
+      faithful_are = λ rows p short. c.prompt_traces_keep_the_books.ensures.faithful s rows c.requires.lawful p short;
+      telling_are = λ rows p short. c.ends_know_what_rows_tell.ensures.telling s rows c.requires.lawful p short;
+      allowed_are = λ rows p short. c.ends_know_what_rows_tell.ensures.allowed s rows c.requires.lawful p short;
+      ends_are = λ rows p short. c.connections_are_of_the_scenario.ensures.ends s rows c.requires.lawful p short;
+      heard_are = λ rows p short. c.ends_know_what_rows_tell.ensures.heard s rows c.requires.lawful p short;
+      written_are = λ rows p short. c.ends_know_what_rows_tell.ensures.written s rows c.requires.lawful p short;
+      attended_are = λ rows row p short. c.ends_know_what_rows_tell.ensures.attended s rows row c.requires.lawful p short;
     } in
     let plain = c.kept_is_plain.ensures.rows s all c.in_ok-trace.ensures.devices in
     record {
-      told = λ ties.
-          let h = seams_hold s proved ties in
+      told =
+          let h = seams_hold s proved in
           let few = all_few items c.most_rows.result c.in_ok-trace.ensures.few c.most_rows.ensures.few in
           let prompt = c.in_ok-trace.ensures.prompt h at in
           let places = c.in_ok-trace.ensures.places h at in
           record {
             prompt = subst (λ (l : List Row). IsPrompt s (reverse l)) (sym r) prompt;
-            lawful = subst (λ (l : List Row). AreLawful (reverse l)) (sym r) (c.prompt_traces_are_lawful.ensures.lawful s all c.requires.lawful prompt (omega (arith, few)) (all_open s ties all prompt few));
+            lawful = subst (λ (l : List Row). AreLawful (reverse l)) (sym r) (c.prompt_traces_are_lawful.ensures.lawful s all c.requires.lawful prompt (omega (arith, few)));
             ended = subst (λ (l : List Row). IsEnded s (reverse l)) (sym r) (c.in_ok-trace.ensures.ended h at);
+            faults =
+                subst (λ (l : List Row). expected_strikes s (reverse l) ≡ row_strikes l) (sym r)
+                (c.fault_rows_are_of_the_scenario.ensures.struck s all c.requires.lawful prompt (omega (arith, few)) (c.in_ok-trace.ensures.ended h at) ∙ ap row_strikes (reverse-reverse items));
             history = ap (λ (l : List Event). reverse l) c.in_ok-finish.ensures.history ∙ c.in_ok-trace.ensures.history h at ∙ ap (λ (l : List Row). trace_history s (reverse l)) (sym r);
             replies = λ answers.
                 c.in_ok-finish.ensures.replies all places (subst (λ (l : List Row). are_answered s (reverse l) ≡ true) r answers)
@@ -60,15 +70,20 @@ returns-clause-exact g c = λ at.
     }
 
 pub returns-in_err-trace-clause-unfinished : goal.returns-in_err-trace-clause-unfinished
-returns-in_err-trace-clause-unfinished g c = λ at ties e.
+returns-in_err-trace-clause-unfinished g c = λ at e.
     let s = c.args.scenario.now in
     let proved : IsProved s = record {
-      faithful_are = λ rows p short open_are. c.prompt_traces_keep_the_books.ensures.faithful s rows c.requires.lawful p short open_are;
-      ends_are = λ rows p short open_are. c.connections_are_of_the_scenario.ensures.ends s rows c.requires.lawful p short open_are;
+      faithful_are = λ rows p short. c.prompt_traces_keep_the_books.ensures.faithful s rows c.requires.lawful p short;
+      telling_are = λ rows p short. c.ends_know_what_rows_tell.ensures.telling s rows c.requires.lawful p short;
+      allowed_are = λ rows p short. c.ends_know_what_rows_tell.ensures.allowed s rows c.requires.lawful p short;
+      ends_are = λ rows p short. c.connections_are_of_the_scenario.ensures.ends s rows c.requires.lawful p short;
+      heard_are = λ rows p short. c.ends_know_what_rows_tell.ensures.heard s rows c.requires.lawful p short;
+      written_are = λ rows p short. c.ends_know_what_rows_tell.ensures.written s rows c.requires.lawful p short;
+      attended_are = λ rows row p short. c.ends_know_what_rows_tell.ensures.attended s rows row c.requires.lawful p short;
     } in
     let p = err_from_is_err_and c.from_residual.result c.from_residual.ensures.1 in
     let is = sym p.2 ∙ same_end (sym p.1 ∙ e) in
-    let u = c.in_err-trace.ensures.unfinished (seams_hold s proved ties) at (ap (λ (x : RunEnd). Err x) is) in
+    let u = c.in_err-trace.ensures.unfinished (seams_hold s proved) at (ap (λ (x : RunEnd). Err x) is) in
     record {
       long = subst (λ (n : ℕ). IsLong s n) c.most_rows.ensures.exact u.0;
       steps = u.1 ∙ ap (λ (n : ℕ). c.args.steps.now + 8 * n) c.most_rows.ensures.exact;

@@ -1,0 +1,15 @@
+pub mod InTurn
+pub mod Calls
+pub mod Takes
+pub mod NoFaults
+pub mod CalledSamples
+pub mod ResetSamples
+pub mod EndsOfLines
+pub mod ByteSamples
+pub mod Directions
+pub mod Taken
+pub mod Crossings
+pub mod Moments
+pub mod Puts
+pub mod NextTaken
+pub mod Strikes

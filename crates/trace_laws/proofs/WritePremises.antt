@@ -1,0 +1,224 @@
+-- What the bytes of writes ask of a row follows from where the processes stand in the plain disk array, and from how many bytes of a run
+-- were answered.
+use Rattle.std.proofs.Common.{inl, inr, ℕ, ◌≡◌, ◌⊎◌, ◌≤◌, ◌+◌, ◌-◌, ◌*◌, Bool, true, false, not, ◌&&◌, ◌==◌, ◌∙◌, List, ◌∷◌, Option, Some, None, refl, sym, ap, subst, arith}
+use Rattle.std.specs.Prelude.{if◌then◌else◌, min, nat_le, nat_lt}
+use Rattle.std.proofs.lemmas.Bool.Decides.{nat_tests}
+use Rattle.bus_trace.specs.LineSet.{LineSet}
+use Rattle.bus_trace.specs.declared.Row.{Row}
+use Rattle.bus_trace.specs.declared.connection.Connection.{Connection}
+use Rattle.bus_trace.specs.Changes.{change_of}
+use Rattle.bus_trace.specs.Phases.{changes_phase, is_data}
+use Rattle.bus_trace.specs.Terms.{connection}
+use Rattle.bus_trace.specs.Trace.{bus}
+use Rattle.cdb_codec.specs.Cdb.{command_of}
+use Rattle.scenario.specs.Lookups.{unit_of}
+use Rattle.scenario.specs.Value.{ScenarioValue}
+use Rattle.scenario.specs.Writing.{Obeys}
+use Rattle.scenario.specs.declared.value.Policy.{Policy}
+use Rattle.scenario.specs.declared.value.Policy.TheVariants as policies
+use Rattle.scenario.specs.declared.value.UnitDef.{UnitDef}
+use Rattle.disk_array.specs.ArrayHistory.{array_after}
+use Rattle.disk_array.specs.Processes.{Process, process_of}
+use Rattle.disk_array.specs.Units.{UnitState, guest_at, unit_state_at}
+use Rattle.disk_array.proofs.SoundArrays.{id_is}
+use Rattle.bus_story.specs.Items.{Item, process, abort}
+use Rattle.bus_dialogue.specs.declared.exchange.Phase.{Phase}
+use Rattle.bus_dialogue.specs.declared.exchange.Phase.TheVariants as phases
+use Rattle.bus_dialogue.specs.declared.exchange.Task.{Task}
+use Rattle.bus_dialogue.specs.Arrivals.{policy_of}
+use Rattle.bus_dialogue.specs.DataRuns.{run_at, run_in, run_length}
+use Rattle.bus_dialogue.specs.Hearing.{begun}
+use Rattle.bus_dialogue.specs.NextPhase.{phase_of}
+use Rattle.bus_dialogue.specs.PhaseBytes.{run_length_if}
+use Rattle.bus_due.specs.Defs.{target_def_of}
+use Rattle.bus_due.specs.LastingState.{progress_in}
+use Rattle.bus_due.specs.Next.{IsPrompt}
+use Rattle.bus_due.specs.Plain.{AreOfDevices, IsPlain}
+use Rattle.bus_due.specs.RunState.{RunState, array_of, or_start, bus_of, carried_here, process_item, process_served}
+use Rattle.bus_due.specs.RunSteps.{run_state}
+use Rattle.bus_due.specs.Tasks.{is_writing, reply_now, size_of, task_if, task_of, task_with}
+use Rattle.bus_due.proofs.Plains.{run_state_plain}
+use Rattle.scsi_device.specs.Writes.{block_size, is_data_out}
+use Rattle.target_units.specs.Rooms.{AreOfLines, IsOfLine}
+use Rattle.bus_books.proofs.Lists.{eq_self}
+use Rattle.trace_laws.specs.DataFacts.{DataFacts}
+use Rattle.trace_laws.specs.Places.{IsAtRest, IsOutside, PlaceFacts, PlacedIf, RunsOpen}
+use Rattle.trace_laws.specs.ResetLines.{ResetFacts}
+use Rattle.trace_laws.specs.WriteFacts.{IsAnsweredWhole, WritesAsked}
+use Rattle.trace_laws.proofs.ArrivingProcesses.{no_guest}
+use Rattle.trace_laws.proofs.Joint.{Stood}
+use Rattle.trace_laws.proofs.PlacesHeard.{places_heard}
+use Rattle.trace_laws.proofs.Plans.{is_directed, writes_of}
+use Rattle.trace_laws.proofs.RunAsks.{answers_all}
+use Rattle.trace_laws.proofs.RunFacts.{write_no_sense}
+use Rattle.trace_laws.proofs.RunFits.{FitsRuns, fits_runs, lines_now}
+
+wrong : {A : Type 0} → true ≡ false → A
+wrong e = absurd cc
+
+wrong' : {A : Type 0} → false ≡ true → A
+wrong' e = absurd cc
+
+-- ---- the size of a block
+
+size_line : (d : Option UnitDef) (u : Option UnitState) → IsOfLine d u → size_of u ≡ block_size d
+size_line None None h = refl
+size_line None (Some u) h = absurd h
+size_line (Some d) None h = absurd h
+size_line (Some d) (Some u) h = h.1
+
+-- ---- a run that has a byte
+
+part_none : (step n : ℕ) → (if n == 0 && nat_lt step 0 then step else 0) ≡ 0
+part_none step n = go (nat_lt step 0) refl (n == 0)
+  where
+    go : (q : Bool) → nat_lt step 0 ≡ q → (r : Bool) → (if r && nat_lt step 0 then step else 0) ≡ 0
+    go true e r = absurd grind (arith, nat_tests, e)
+    go false e true = λ i. if e i then step else 0
+    go false e false = refl
+
+least_none : (a : ℕ) → min a 0 ≡ 0
+least_none a = omega arith
+
+end_none : (policy : Policy) (blocks : Option ℕ) (size n : ℕ) → (run_in policy blocks size 0 n).end ≡ 0
+end_none policy None size n = refl
+end_none policies.Never (Some blocks) size n = refl
+end_none policies.Command (Some blocks) size n = refl
+end_none (policies.Burst most) (Some blocks) size n = least_none (n * (most * size) + most * size)
+end_none (policies.NoSave most) (Some blocks) size n = part_none (most * size) n
+
+is_zero : (n : ℕ) → (n == 0) ≡ true → n ≡ 0
+is_zero n e = grind (arith, nat_tests)
+
+none_left : (a b : ℕ) → a ≡ 0 → 1 ≤ a - b → ⊥
+none_left a b e h = absurd omega (arith, e, h)
+
+pub moves_some : (policy : Policy) (t : Task) → 1 ≤ run_length policy t → (t.moved == 0) ≡ false
+moves_some policy t h = go (t.moved == 0) refl
+  where
+    go : (q : Bool) → (t.moved == 0) ≡ q → (t.moved == 0) ≡ false
+    go false e = e
+    go true e =
+        let none : (run_at policy t t.runs).end ≡ 0 = (λ i. (run_in policy t.blocks t.size (is_zero t.moved e i) t.runs).end) ∙ end_none policy t.blocks t.size t.runs in
+        absurd (none_left (run_at policy t t.runs).end (run_at policy t t.runs).start none h)
+
+-- ---- a process that writes
+
+no_process : {A : Type 0} (q : Process) → (let o : Option Process = None in o) ≡ Some q → A
+no_process q e = absurd cc
+
+own_served : (s : ScenarioValue) (o : Option Item) (q : Process) → process_item s o ≡ Some q → process_of s q.id ≡ Some q
+own_served s None q e = no_process q e
+own_served s (Some (abort m)) q e = no_process q e
+own_served s (Some (process id)) q e = ap (process_of s) (id_is s id q e) ∙ e
+
+zero_size : (n moved size : ℕ) → size ≡ 0 → moved ≡ n * size → moved ≡ 0
+zero_size n moved size z e = e ∙ ap (λ (x : ℕ). n * x) z ∙ none n
+  where
+    none : (m : ℕ) → m * 0 ≡ 0
+    none m = omega arith
+
+at_least : (a b : ℕ) → a ≡ b → nat_le b a ≡ true
+at_least a b e = grind (arith, nat_tests, e)
+
+some_there : (n : ℕ) → 1 ≤ n → (n == 0) ≡ false
+some_there n h = grind (arith, nat_tests, h)
+
+-- ---- all of it
+
+pub write_premises : (s : ScenarioValue) (p : List Row) (row : Row) → Obeys s → IsPrompt s (row ∷ p) → Stood s p → PlaceFacts s p → DataFacts s p → ResetFacts s p → WritesAsked s p row
+write_premises s p row o prompt was h facts resets = record {
+  placed = places_heard s p dv h;
+  guests = λ n q con calm b phase served. no_guest_here n q con calm b phase served;
+  resets = resets.reads;
+  sizes = λ q served. ap (λ (x : ℕ). x == block_size (unit_of s q.target q.unit)) (size_line (unit_of s q.target q.unit) (unit_state_at (array_of s k).units q.target q.unit) (lines q.target q.unit)) ∙ eq_self (block_size (unit_of s q.target q.unit));
+  answered = λ n q t con calm off after b ep phase struck served task. whole n q t con calm off after b ep phase served task;
+}
+  where
+    k : RunState
+    k = run_state s p
+
+    dv : AreOfDevices p
+    dv = was.standing.devices
+
+    pl : IsPlain s p k
+    pl = run_state_plain s p dv
+
+    plays : k.array ≡ array_after s k.story.history
+    plays = pl.array ∙ (λ i. array_after s (sym pl.story i).history)
+
+    lines : AreOfLines s (array_of s k)
+    lines = lines_now s k.story.history k.array (sym plays)
+
+    out_lines : (b : LineSet) → phase_of b ≡ phases.DataOut → (is_data b ≡ true) × (b.io ≡ false)
+    out_lines b e = of b.msg b.cd b.io e
+      where
+        no_out : {A : Type 0} (x : Phase) → is_data_out x ≡ false → x ≡ phases.DataOut → A
+        no_out x f z = wrong (sym (ap is_data_out z) ∙ f)
+
+        of : (m c i : Bool) → (if m then (if i then phases.MessageIn else phases.MessageOut) else if c then (if i then phases.Status else phases.Command) else if i then phases.DataIn else phases.DataOut) ≡ phases.DataOut → ((not m && not c) ≡ true) × (i ≡ false)
+        of false false false e = (refl, refl)
+        of true c true e = no_out phases.MessageIn refl e
+        of true c false e = no_out phases.MessageOut refl e
+        of false true true e = no_out phases.Status refl e
+        of false true false e = no_out phases.Command refl e
+        of false false true e = no_out phases.DataIn refl e
+
+    writes : (n : Connection) (q : Process) → connection p ≡ Some n → (bus p).rst ≡ false → k.exchange.begun ≡ true → phase_of (bus_of k) ≡ phases.DataOut → process_served s k ≡ Some q → is_writing q ≡ true
+    writes n q con calm b phase served =
+        let at = out_lines (bus_of k) phase in
+        sym (λ i. is_directed (at.1 i) (writes_of (served i))) ∙ (was.planned n con calm).serves b at.0
+
+    task_is : (q : Process) → process_served s k ≡ Some q → task_of s k ≡ Some (task_with (array_of s k) (progress_in k.progress q.id) q (carried_here k q.id) (reply_now (array_of s k) q) (Rattle.disk_array.specs.ArrayHistory.reply_in (array_of s k).replies q.id))
+    task_is q served = ap (task_if s k) served
+
+    counted : (n : Connection) (t : Task) → connection p ≡ Some n → (bus p).rst ≡ false → k.exchange.begun ≡ true → phase_of (bus_of k) ≡ phases.DataOut → task_of s k ≡ Some t → 1 ≤ run_length (policy_of (target_def_of s n.target)) t
+    counted n t con calm b phase task =
+        subst (λ (x : ℕ). 1 ≤ x) (ap (run_length_if (policy_of (target_def_of s n.target))) task) (facts.counts.counts n con calm (sym pl.begun ∙ b) (ap phase_of (sym pl.bus) ∙ phase)).some
+
+    no_guest_here : (n : Connection) (q : Process) → connection p ≡ Some n → (bus p).rst ≡ false → k.exchange.begun ≡ true → phase_of (bus_of k) ≡ phases.DataOut → process_served s k ≡ Some q → guest_at (array_of s k).guests q.id ≡ None
+    no_guest_here n q con calm b phase served = (λ i. guest_at (or_start s (h.array_is i)).guests q.id) ∙ go runs.runs.kind
+      where
+        placed : PlacedIf true h.array q k.exchange.plan k.handshakes (bus_of k).atn phases.DataOut
+        placed =
+            subst (λ (x : Phase). PlacedIf true h.array q k.exchange.plan k.handshakes (bus_of k).atn x) phase
+            (subst (λ (x : Bool). PlacedIf x h.array q k.exchange.plan k.handshakes (bus_of k).atn (phase_of (bus_of k))) b (h.placed n (pl.connection ∙ con) (ap (λ (l : LineSet). l.rst) pl.bus ∙ calm) q served))
+
+        runs : RunsOpen h.array q
+        runs = placed
+
+        t : Task
+        t = task_with (array_of s k) (progress_in k.progress q.id) q (carried_here k q.id) (reply_now (array_of s k) q) (Rattle.disk_array.specs.ArrayHistory.reply_in (array_of s k).replies q.id)
+
+        w : is_writing q ≡ true
+        w = writes n q con calm b phase served
+
+        some : (t.moved == 0) ≡ false
+        some = moves_some (policy_of (target_def_of s n.target)) t (counted n t con calm b phase (task_is q served))
+
+        fits : FitsRuns s k q t
+        fits = fits_runs s k q o plays (own_served s k.served q served) w
+
+        by_outside : IsOutside h.array q → guest_at h.array.guests q.id ≡ None
+        by_outside (inl none) =
+            let size : t.size ≡ 0 = (λ i. size_of (unit_state_at (or_start s (h.array_is i)).units q.target q.unit)) ∙ ap size_of none in
+            let zero : t.moved ≡ 0 = zero_size fits.fit.blocks t.moved t.size size (fits.fit.moved some) in
+            wrong (sym (ap (λ (x : ℕ). x == 0) zero) ∙ some)
+        by_outside (inr sense) = wrong' (sym (write_no_sense (command_of q.cdb) w) ∙ sense)
+
+        go : IsOutside h.array q ⊎ IsAtRest h.array q.id → guest_at h.array.guests q.id ≡ None
+        go (inr rests) = no_guest h.array.guests q.id rests.guests
+        go (inl outside) = by_outside outside
+
+    whole : (n : Connection) (q : Process) (t : Task) → connection p ≡ Some n → (bus p).rst ≡ false → (bus (row ∷ p)).rst ≡ false → connection (row ∷ p) ≡ Some n → begun p ≡ true → changes_phase (change_of p row) ≡ true → phase_of (bus_of k) ≡ phases.DataOut → process_served s k ≡ Some q → task_of s k ≡ Some t → IsAnsweredWhole s k q t
+    whole n q t con calm off after b ep phase served task =
+        let kb : k.exchange.begun ≡ true = pl.begun ∙ b in
+        let w : is_writing q ≡ true = writes n q con calm kb phase served in
+        let some : 1 ≤ run_length (policy_of (target_def_of s n.target)) t = counted n t con calm kb phase task in
+        let all : k.handshakes.answers ≡ run_length (policy_of (target_def_of s n.target)) t = answers_all s p row n o prompt was facts.counts con calm off after b ep q t served task phase in
+        let target : q.target ≡ n.target = (facts.runs.served n q (pl.connection ∙ con) (ap (λ (l : LineSet). l.rst) pl.bus ∙ calm) served w).target_is in
+        record {
+          whole = at_least k.handshakes.answers (run_length (policy_of (target_def_of s q.target)) t) (all ∙ ap (λ (x : ℕ). run_length (policy_of (target_def_of s x)) t) (sym target));
+          some = some_there k.handshakes.answers (subst (λ (x : ℕ). 1 ≤ x) (sym all) some);
+          moves = moves_some (policy_of (target_def_of s n.target)) t some;
+        }

@@ -1,0 +1,27 @@
+-- A process that writes, and has no reply, has a data run left, or has made none (6.6.6, 7.3).
+use Rattle.std.specs.Prelude.{ℕ, ◌≡◌, ◌⊎◌, ◌<◌, true, List, Some, None}
+use Rattle.bus_trace.specs.declared.Row.{Row}
+use Rattle.cdb_codec.specs.Cdb.{command_of}
+use Rattle.scenario.specs.Value.{ScenarioValue}
+use Rattle.disk_array.specs.ArrayHistory.{reply_in}
+use Rattle.disk_array.specs.Order.{range_in}
+use Rattle.disk_array.specs.Processes.{Process, process_of}
+use Rattle.bus_dialogue.specs.DataRuns.{runs_in}
+use Rattle.bus_due.specs.LastingState.{progress_in}
+use Rattle.bus_due.specs.RunState.{array_of}
+use Rattle.bus_due.specs.RunSteps.{run_state}
+use Rattle.bus_due.specs.Tasks.{blocks_in, is_writing}
+use Rattle.trace_laws.specs.DataPointers.{policy_for}
+
+-- In how many runs its data are moved, if any are.
+abbrev pub run_total : ScenarioValue → Process → ℕ
+run_total s p = runs_in (policy_for s p) (blocks_in (range_in (command_of p.cdb)))
+
+-- Of so many runs in all it has made so many.
+abbrev pub HasRunLeft : ℕ → ℕ → Type 0
+HasRunLeft total made = (made ≡ 0) ⊎ (made < total)
+
+abbrev pub RunsLeft : ScenarioValue → List Row → Type 0
+RunsLeft s rows =
+    (p : Process) → process_of s p.id ≡ Some p → is_writing p ≡ true → reply_in (array_of s (run_state s rows)).replies p.id ≡ None
+    → HasRunLeft (run_total s p) (progress_in (run_state s rows).progress p.id).runs
