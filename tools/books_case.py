@@ -4,15 +4,16 @@ after it.
 
     tools/books_case.py tools/due_cases/*.scn > crates/bus_books/proofs/Cases.antt
     tools/books_case.py --whole tools/cases/*.scn > crates/bus_books/proofs/StoryCases.antt
+    tools/books_case.py --reads tools/due_cases/one_read.scn .. > crates/right_laws/proofs/Cases.antt
 
-With `--whole` it writes the scenarios and their rows, too, those of the report NAME.out beside each NAME.scn, which comes from outside
+With `--reads` the lemmas say instead what processes have carried of their data (`ReadTests` of crates/right_laws/specs). With `--whole` it writes the scenarios and their rows, too, those of the report NAME.out beside each NAME.scn, which comes from outside
 this repository. The books are stated as tests in `Tests` of crates/bus_books/specs, what is asked of a row in `RowTests`.
 """
 import sys
 
 import array_case
 
-HEAD = """-- Each row of some runs is as it is due to be, and the books hold after it. Written by tools/books_case.py.
+HEAD = """%s Written by tools/books_case.py.
 use Rattle.std.proofs.Common.{◌≡◌, true, refl}
 use lib.Count.{ones}
 use Rattle.bus_trace.specs.LineSet.{line_of}
@@ -20,8 +21,12 @@ use Rattle.bus_trace.specs.View.{union_below}
 use Rattle.msg_grammar.specs.Messages.{form_out, form_in}
 use Rattle.scenario.specs.Needs.{need_of, sent_of}
 use Rattle.bus_due.specs.RunSteps.{first_run_state}
-use Rattle.bus_books.specs.RowTests.{keep_books}"""
+use %s"""
 
+# What the lemmas say of a run: in words, by which test, and where that stands.
+BOOKS = ("-- Each row of some runs is as it is due to be, and the books hold after it.", "keep_books", "Rattle.bus_books.specs.RowTests.{keep_books}")
+READS = ("-- In some runs what processes have carried of their data is a front of what they send or give, and the pointers stand as they should.",
+         "keep_reads", "Rattle.right_laws.specs.ReadTests.{keep_reads}")
 UNFOLDING = "unfolding need_of sent_of ones union_below line_of form_out form_in"
 
 
@@ -37,33 +42,35 @@ use Rattle.bus_trace.specs.declared.Row.{Row}
 use Rattle.bus_trace.specs.declared.Kind.TheVariants.{Drives, Fault}"""
 
 
-def print_lemma(name):
+def print_lemma(name, test):
     """The lemma of one run."""
-    lemma = "%s_books" % name
-    print("\n%s : keep_books %s (first_run_state %s) %s_rows ≡ true" % (lemma, name, name, name))
+    lemma = "%s_%s" % (name, test.split("_")[1])
+    print("\n%s : %s %s (first_run_state %s) %s_rows ≡ true" % (lemma, test, name, name, name))
     print("%s\n%s = refl" % (UNFOLDING, lemma))
 
 
-def print_whole(paths):
+def print_whole(head, test, paths):
     """The runs that stand nowhere else, with their scenarios and rows."""
-    others = [line for line in array_case.HEAD.splitlines() if line.startswith("use ") and line not in HEAD.splitlines()]
-    print("\n".join([HEAD, ROWS] + others) + "\n" + DEFINITIONS)
+    others = [line for line in array_case.HEAD.splitlines() if line.startswith("use ") and line not in head.splitlines()]
+    print("\n".join([head, ROWS] + others) + "\n" + DEFINITIONS)
     for scn in paths:
         name = array_case.name_of(scn, "_story")
         array_case.print_scenario(name, scn)
         array_case.print_rows(name, scn[: -len("scn")] + "out")
-        print_lemma(name)
+        print_lemma(name, test)
 
 
 def main():
     paths = [word for word in sys.argv[1:] if not word.startswith("--")]
+    words, test, module = READS if "--reads" in sys.argv else BOOKS
+    head = HEAD % (words, module)
     if "--whole" in sys.argv:
-        return print_whole(paths)
+        return print_whole(head, test, paths)
     names = [array_case.name_of(scn, "_due") for scn in paths]
-    print(HEAD)
+    print(head)
     print("use Rattle.bus_due.proofs.Cases.{%s}" % ", ".join("%s, %s_rows" % (name, name) for name in names))
     for name in names:
-        print_lemma(name)
+        print_lemma(name, test)
 
 
 main()

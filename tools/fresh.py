@@ -18,6 +18,13 @@ RUNS = DUES + [
     str(ROOT / "tools" / "cases" / (name + ".scn"))
     for name in ("called_again_for_sense", "failures", "negotiation", "read_whole_after_a_part", "two_aborts")
 ]
+READS = [
+    str(ROOT / "tools" / "due_cases" / (name + ".scn"))
+    for name in (
+        "one_read", "data_in_given_up", "pulsed_read_struck", "burst_without_tags", "many_pulses", "reset_in_a_data_phase", "data_out_given_up",
+        "absent_unit", "given_up", "queue_orders", "own_processes_aborted", "text_two",
+    )
+] + [str(ROOT / "tools" / "cases" / "read_whole_after_a_part.scn")]
 STORIES = [path for path in CASES if path not in RUNS]
 DUMPS = sorted(str(path) for path in (ROOT / "tools" / "dump_cases").glob("*.out"))
 TOLD = [path for path in CASES if pathlib.Path(path).with_suffix(".transcript").exists()]
@@ -36,6 +43,7 @@ MADE = {
     "crates/bus_members/proofs/AnswerCases.antt": (["tools/answer_case.py", "Cases"] + RUNS, None),
     "crates/bus_books/proofs/Cases.antt": (["tools/books_case.py"] + RUNS, None),
     "crates/bus_books/proofs/StoryCases.antt": (["tools/books_case.py", "--whole"] + STORIES, None),
+    "crates/right_laws/proofs/Cases.antt": (["tools/books_case.py", "--reads"] + READS, None),
     "crates/bus_laws/proofs/WrittenCases.antt": (["tools/written_case.py", "Cases"] + RUNS, None),
     "crates/disk_target/proofs/AttendedCases.antt": (["tools/attended_case.py", "Cases"] + RUNS, None),
     "crates/ending_causes/proofs/RunCases.antt": (["tools/cause_case.py", "Cases"] + RUNS, None),
@@ -43,6 +51,7 @@ MADE = {
     "crates/vcd_text/proofs/TraceCases.antt": (["tools/dump_case.py"] + DUMPS, None),
     "crates/bus_transcript/proofs/Cases.antt": (["tools/transcript_case.py"] + TRANSCRIPTS, None),
     "crates/bus_transcript/proofs/ToldCases.antt": (["tools/told_case.py"] + TOLD, None),
+    "crates/transcript_laws/proofs/FitCases.antt": (["tools/fit_case.py"] + TOLD, None),
     "crates/scenario/proofs/MadeCases.antt": (["tools/make_case.py"] + MAKES, None),
     "crates/bus_tests/src/whole_program/small_runs.rt": (["tools/run_case.py"] + SMALL, None),
     "crates/sync_nego/proofs/Cases.antt": (["tools/nego_case.py"], None),

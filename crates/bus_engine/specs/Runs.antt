@@ -1,8 +1,9 @@
 -- The run of a scenario.
-use Rattle.std.specs.Prelude.{ℕ, ◌≡◌, ◌<◌, ◌+◌, true, List, map, length, reverse, Option, Some}
+use Rattle.std.specs.Prelude.{ℕ, ◌≡◌, ◌<◌, ◌+◌, true, List, map, length, reverse, Option, Some, is_some}
 use Rattle.bus_trace.specs.declared.Row.{Row}
-use Rattle.bus_trace.specs.Trace.{last_time}
-use Rattle.bus_rules.specs.Lawful.{AreLawful}
+use Rattle.bus_trace.specs.LineSet.{none}
+use Rattle.bus_trace.specs.Trace.{bus, last_time}
+use Rattle.bus_rules.specs.Lawful.{IsLawful}
 use Rattle.scenario.specs.Value.{ScenarioValue}
 use Rattle.disk_array.specs.ArrayHistory.{array_after, disks_of}
 use Rattle.bus_story.specs.Outcomes as told
@@ -25,16 +26,18 @@ told_reply outcome = Some (told_outcome outcome)
 abbrev pub rows_of : RunValue → List Row
 rows_of run = reverse run.rows
 
--- The run of a scenario: its rows are the prompt trace, after which nothing is due, its history is what they tell, each reply
--- is the outcome that they tell, and its disks hold what the plain disk array holds after that history; the rows obey every
--- rule of the bus, and the fault rows among them are those of the scenario. For the replies this is so where what came back
--- is the reply (`are_answered`).
+-- The run of a scenario: its rows are the prompt trace, after which nothing is due, its history is what they tell, which the
+-- plain disk array permits, each reply is the outcome that they tell, and its disks hold what the array holds after that
+-- history; the rows and the end obey every rule of the bus, the fault rows are those of the scenario, and no line is true at
+-- the end. For the replies this is so where what came back is the reply (`are_answered`).
 pub record IsPromptRun (s : ScenarioValue) (run : RunValue) : Type 0 where
   pub prompt : IsPrompt s (rows_of run)
-  pub lawful : AreLawful (rows_of run)
+  pub lawful : IsLawful (rows_of run) run.end
   pub ended : IsEnded s (rows_of run)
+  pub quiet : bus (rows_of run) ≡ none
   pub faults : expected_strikes s (rows_of run) ≡ row_strikes run.rows
   pub history : reverse run.history ≡ trace_history s (rows_of run)
+  pub permitted : is_some (array_after s (trace_history s (rows_of run))) ≡ true
   pub replies : are_answered s (rows_of run) ≡ true → map told_reply run.replies ≡ outcomes s (story s (rows_of run))
   pub disks : run.disks ≡ disks_of (array_after s (trace_history s (rows_of run)))
 

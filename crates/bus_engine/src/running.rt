@@ -32,6 +32,8 @@ use bus_run::{RunEnd, Trace, rows_tie_devices};
 use disk_array::arrays_are_sound;
 use disk_unit::SparseBlocks;
 use fault_laws::fault_rows_are_of_the_scenario;
+use progress_laws::ended_traces_are_quiet;
+use right_laws::prompt_traces_are_right;
 use run_record::Run;
 use scenario::{Scenario, UnitDef};
 use scsi_device::scenarios_fit_the_bus;
@@ -39,8 +41,7 @@ use std::alloc::Global;
 use std::sync::ledger::Ledger;
 use target_units::units_hold_their_blocks;
 use trace_laws::{
-    connections_are_of_the_scenario, ends_know_what_rows_tell, prompt_traces_are_lawful,
-    prompt_traces_keep_the_books,
+    connections_are_of_the_scenario, ends_know_what_rows_tell, prompt_traces_keep_the_books,
 };
 
 // The blocks of the units of these targets, in the order of their lines.
@@ -117,10 +118,11 @@ fn run_in<L: Ledger>(
     rows_tie_devices();
     kept_is_plain();
     prompt_traces_keep_the_books();
-    prompt_traces_are_lawful();
     ends_know_what_rows_tell();
     connections_are_of_the_scenario();
     fault_rows_are_of_the_scenario();
+    ended_traces_are_quiet();
+    prompt_traces_are_right();
     let trace = bus_run::run(alloc, scenario, places, most_rows(scenario), steps)?;
     Ok(finish(alloc, scenario, places, trace)?)
 }

@@ -33,7 +33,10 @@ pub use laws::{
     void_messages_leave_nothing,
 };
 pub use msg_grammar::{MsgIn, MsgOut};
+pub use part::{Incoming, Part};
 pub use printing::print_transcript;
+pub use process::Process;
 pub use run_record::Run;
 pub use scenario::Scenario;
+pub use summary::{Departure, Summary};
 pub use transcriber::{Transcriber, transcribe, transcribe_run};

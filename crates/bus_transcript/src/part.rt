@@ -4,7 +4,7 @@ use msg_grammar::{MsgIn, MsgOut};
 
 /// A message to the initiator.
 #[derive(Clone, Copy, Debug)]
-pub(crate) enum Incoming {
+pub enum Incoming {
     /// It came whole.
     Whole(MsgIn),
     /// Its phase was left before it was whole.
@@ -13,7 +13,7 @@ pub(crate) enum Incoming {
 
 /// A part of what a connection carries, before its process is known.
 #[derive(Debug, Drop)]
-pub(crate) enum Part {
+pub enum Part {
     /// A message to the target.
     Out(MsgOut),
     /// A message to the initiator.

@@ -10,14 +10,14 @@ use std::marker::Model;
 
 /// What is kept of a process from one connection to the next.
 #[derive(Clone, Copy, Debug)]
-pub(crate) struct Process {
-    pub(crate) name: Name,
+pub struct Process {
+    pub name: Name,
     /// The saved data pointer.
-    pub(crate) saved: u32,
+    pub saved: u32,
     /// The status that it has carried.
-    pub(crate) status: Option<u8>,
+    pub status: Option<u8>,
     /// A STATUS phase of it has begun.
-    pub(crate) shown: bool,
+    pub shown: bool,
 }
 
 fn new_process(name: Name, number: u32) -> Process

@@ -9,7 +9,7 @@ use std::collections::VecDeque;
 
 /// What it means that the target goes to BUS FREE.
 #[derive(Clone, Copy, Debug)]
-pub(crate) enum Departure {
+pub enum Departure {
     /// The process is lost.
     Loss,
     /// The target has said so, by COMMAND COMPLETE or DISCONNECT.
@@ -20,17 +20,17 @@ pub(crate) enum Departure {
 
 /// What the messages of a connection so far say of it.
 #[derive(Clone, Copy, Debug)]
-pub(crate) struct Summary {
+pub struct Summary {
     /// The unit that was named.
-    pub(crate) unit: Option<u8>,
+    pub unit: Option<u8>,
     /// The tag that was named.
-    pub(crate) tag: Option<u8>,
+    pub tag: Option<u8>,
     /// The next message of the end that names the nexus may be a tag.
-    pub(crate) awaits_tag: bool,
+    pub awaits_tag: bool,
     /// The last abort message.
-    pub(crate) abort: Option<MsgOut>,
+    pub abort: Option<MsgOut>,
     /// What BUS FREE would mean.
-    pub(crate) departure: Departure,
+    pub departure: Departure,
 }
 
 fn unit_out(message: MsgOut) -> Option<u8>

@@ -19,7 +19,6 @@ use Rattle.bus_story.specs.Samples.{latency_of}
 use Rattle.bus_reactions.specs.declared.due.Due.{Due}
 use Rattle.bus_reactions.specs.Ends.{sample_due}
 use Rattle.bus_reactions.specs.Reactions.{fault_due}
-use Rattle.bus_dialogue.specs.Ends.{is_pulsed_phase}
 use Rattle.bus_dialogue.specs.Hearing.{begun}
 use Rattle.bus_due.specs.Connected.{is_receiver, is_receiving}
 use Rattle.bus_due.specs.Least.{IsLeast}
@@ -27,26 +26,21 @@ use Rattle.bus_due.specs.Plain.{AreOfDevices, crossed, crossed_if}
 use Rattle.bus_due.specs.RunSteps.{run_state}
 use Rattle.bus_due.specs.Sights.{flip_of}
 use Rattle.bus_due.proofs.Plains.{run_state_plain}
-use Rattle.bus_laws.specs.Ends.{EndLines, initiator_side, target_side, connected_bus, Linked}
+use Rattle.bus_laws.specs.Ends.{EndLines, initiator_side, target_side, Linked}
 use Rattle.bus_laws.specs.Reactions.{device_with, own_time, unreset_due}
 use Rattle.bus_laws.specs.Stages.{CalmStanding}
 use Rattle.bus_laws.proofs.Tests.{eq_self}
-use Rattle.link_laws.proofs.EndDues.{sight_with, pace_with, offering_with, answering_with, target_plain, initiator_plain, is_sampling, target_is, initiator_is, Mover, by_fault, by_initiator, by_target, mover_is}
-use Rattle.fault_laws.proofs.Calls.{wrong'}
+use Rattle.link_laws.proofs.EndDues.{sight_with, pace_with, offering_with, answering_with, target_plain, initiator_plain, is_sampling, target_is, initiator_is, Mover, by_fault, by_initiator, by_target, mover_is, due_of}
+use Rattle.trace_laws.proofs.Impossible.{wrong'}
+use Rattle.trace_laws.proofs.LinkRows.{is_pulsed}
 use Rattle.fault_laws.proofs.EndsOfLines.{target_lines, initiator_lines, assertion_some, late_target, late_initiator}
 use Rattle.fault_laws.proofs.NoFaults.{IsOfLines, of_lines}
 use Rattle.fault_laws.proofs.Takes.{IsNoLater, Takes, Awaits}
 
-abbrev pub is_pulsed_at : List Row → EndLines → Bool
-is_pulsed_at p f = is_pulsed_phase true (connected_bus f) (dialogue p).heard.now.agreement
-
 -- What the two ends drive as a byte has crossed in the last row, and who received it.
 pub data Crossed (p : List Row) (n : Connection) (d : ℕ) : Type 0 where
-  into_initiator : (f : EndLines) → Linked p n f → begun p ≡ true → d ≡ n.initiator → f.io ≡ true → f.req ≡ true → (f.ack ≡ false) ⊎ (is_pulsed_at p f ≡ true) → (line_times p).req ≡ last_time p → Crossed p n d
-  into_target : (f : EndLines) → Linked p n f → begun p ≡ true → d ≡ n.target → f.io ≡ false → f.bsy ≡ false → f.ack ≡ true → (f.req ≡ true) ⊎ (is_pulsed_at p f ≡ true) → (line_times p).ack ≡ last_time p → Crossed p n d
-
-abbrev due_of : Row → Due
-due_of row = record { time = row.time; kind = row.kind }
+  into_initiator : (f : EndLines) → Linked p n f → begun p ≡ true → d ≡ n.initiator → f.io ≡ true → f.req ≡ true → (f.ack ≡ false) ⊎ (is_pulsed p f ≡ true) → (line_times p).req ≡ last_time p → Crossed p n d
+  into_target : (f : EndLines) → Linked p n f → begun p ≡ true → d ≡ n.target → f.io ≡ false → f.bsy ≡ false → f.ack ≡ true → (f.req ≡ true) ⊎ (is_pulsed p f ≡ true) → (line_times p).ack ≡ last_time p → Crossed p n d
 
 -- ---- who samples
 
@@ -79,9 +73,6 @@ samples_it : (s : ScenarioValue) (p : List Row) (n : Connection) (d : ℕ) → A
 samples_it s p n d dv e z = (λ i. is_receiver n ((run_state_plain s p dv).crossed i) d) ∙ receives p n d e z
 
 -- ---- what is due of its receiver
-
-some_due : (x y : Due) → (let a : Option Due = Some x in a) ≡ Some y → x ≡ y
-some_due x y e = cc
 
 struck_due : (q : Bool) (last bit : ℕ) (flip : Option ℕ) (plain : Option Due) → q ≡ true → flip ≡ Some bit → sample_due q last flip plain ≡ fault_due last bit
 struck_due q last bit flip plain e f = λ i. sample_due (e i) last (f i) plain
@@ -178,7 +169,7 @@ byte_awaits s p n d lat always z there x =
         record {
           order = ordered row (always.ahead row.dev least.inside (due_of row) least.is_due) same;
           struck = λ bit e.
-              let x = some_due (record { time = last_time p; kind = Fault bit }) (due_of row) (sym (fault_is bit e) ∙ here) in
+              let x = same_Some (record { time = last_time p; kind = Fault bit }) (due_of row) (sym (fault_is bit e) ∙ here) in
               λ i. record { time = (sym x i).time; dev = same i; kind = (sym x i).kind };
           plain = λ e. of_lines w.plain (due_of row) w.plain_lines (sym (w.due ∙ calm_due true (last_time p) flip w.plain e) ∙ here);
         }

@@ -1,5 +1,5 @@
 -- The IDs that a called device samples: what the next row makes of them while no connection stands and RST is false.
-use Rattle.std.proofs.Common.{ℕ, ◌≡◌, ◌≢◌, inl, inr, ◌<◌, ◌+◌, ◌^◌, Bool, true, false, not, ◌&&◌, ◌||◌, ◌==◌, ◌∙◌, List, ◌∷◌, Option, Some, None, refl, sym, ap, subst, arith}
+use Rattle.std.proofs.Common.{ℕ, ◌≡◌, ◌≢◌, inl, inr, ◌<◌, ◌+◌, ◌^◌, Bool, true, false, not, ◌&&◌, ◌==◌, ◌∙◌, List, ◌∷◌, Option, Some, None, refl, sym, ap, subst, arith}
 use Rattle.std.specs.Prelude.{if◌then◌else◌, is_some}
 use Rattle.std.proofs.lemmas.Bool.{cases_eq}
 use Rattle.std.proofs.lemmas.Bool.Decides.{nat_tests}
@@ -18,7 +18,6 @@ use Rattle.bus_lines.specs.declared.stage.Stage.TheVariants.{InCalling}
 use Rattle.bus_lines.specs.Stage.{stage}
 use Rattle.scenario.specs.Value.{ScenarioValue}
 use Rattle.bus_story.specs.Samples.{Sample, latency_of, samples_with_ids}
-use Rattle.bus_reactions.specs.declared.due.Due.{Due}
 use Rattle.bus_reactions.specs.Reactions.{due_at, fault_or}
 use Rattle.bus_due.specs.Least.{IsLeast}
 use Rattle.bus_laws.specs.Callings.{answer_lines, awaiting_call, begun_call, both_ids, calling_lines, new_calling_at}
@@ -26,17 +25,15 @@ use Rattle.bus_laws.specs.Reactions.{own_time, unreset_due}
 use Rattle.bus_laws.specs.Rows.{row_of_lines}
 use Rattle.bus_laws.specs.Stages.{HasShortLatencies, CalmStanding, BusStage, on_free_bus, in_arbitration, after_arbitration, with_both_ids, awaiting_answer, after_withdrawal, after_answer, after_takeover, in_reset, in_connection, AwaitsAnswer, Calls}
 use Rattle.bus_laws.proofs.CallDues.{asks_due, before_due, waits_due, answers_due, aside_due, flip_at}
-use Rattle.bus_laws.proofs.Dues.{is_there, is_at, none_some}
+use Rattle.bus_laws.proofs.Dues.{is_there, is_at}
 use Rattle.bus_laws.proofs.FromCalling.{only_caller}
 use Rattle.bus_laws.proofs.Rows.{drives_own, drives_other, since_is, stage_is, stands_after}
 use Rattle.bus_laws.proofs.Tests.{eq_self, eq_other}
+use Rattle.link_laws.proofs.EndDues.{due_of}
+use Rattle.trace_laws.proofs.Impossible.{wrong, wrong', none_some}
 use Rattle.fault_laws.specs.Awaited.{is_asked, ids_at, ids_of, awaited_ids}
-use Rattle.fault_laws.proofs.Calls.{wrong, wrong', no_call, no_calling, Follows, calling_follows, GoesOn, call_goes, answered_unasked, withdrawn_unasked, struck_unasked, unreleased_unasked, ids_none, ids_unsampled, ids_sampled, with_awaited}
-use Rattle.fault_laws.proofs.NoFaults.{no_sample}
+use Rattle.fault_laws.proofs.Calls.{Follows, calling_follows, GoesOn, call_goes, answered_unasked, withdrawn_unasked, struck_unasked, unreleased_unasked, ids_none, ids_unsampled, ids_sampled, with_awaited}
 use Rattle.fault_laws.proofs.Takes.{Takes, Awaits, fault_at, lines_at, time_at, some_at}
-
-abbrev due_of : Row → Due
-due_of row = record { time = row.time; kind = row.kind }
 
 -- ---- the called device samples next
 
@@ -94,7 +91,7 @@ call_eq : (k j : Call) → (let a : Option Call = Some k in a) ≡ Some j → k 
 call_eq k j e = same_Some k j e
 
 no_asked : {A : Type 0} (s : ScenarioValue) (p : List Row) (a : Sample) (o : Option Call) → call p ≡ o → awaited_ids s (since_line (λ z. z.bsy) p) o ≡ None → awaited_ids s (since_line (λ z. z.bsy) p) (call p) ≡ Some a → A
-no_asked s p a o eo none e = no_sample a (sym none ∙ ap (awaited_ids s (since_line (λ z. z.bsy) p)) (sym eo) ∙ e)
+no_asked s p a o eo none e = none_some a (sym none ∙ ap (awaited_ids s (since_line (λ z. z.bsy) p)) (sym eo) ∙ e)
 
 pub apart_awaits : (s : ScenarioValue) (p : List Row) (a : Sample) → HasShortLatencies s → CalmStanding s p → BusStage s p → connection p ≡ None → (bus p).rst ≡ false → awaited_ids s (since_line (λ z. z.bsy) p) (call p) ≡ Some a → Awaits s p a
 apart_awaits s p a fits always (on_free_bus h) alone calm e = no_asked s p a None h.stands.call_is refl e
@@ -131,7 +128,7 @@ ids_on_by : (s : ScenarioValue) (p : List Row) (row : Row) → ((k : Call) (h : 
 ids_on_by s p row unasked answered =
     record {
       puts = λ xs. go xs (falls (bus p).bsy (bus (row ∷ p)).bsy && (bus (row ∷ p)).sel) refl ∙ ap (λ (o : Option Sample). with_awaited o xs) (sym none);
-      now = λ a e. no_sample a (sym none ∙ e);
+      now = λ a e. none_some a (sym none ∙ e);
     }
   where
     none : awaited_ids s (since_line (λ z. z.bsy) (row ∷ p)) (call (row ∷ p)) ≡ None
@@ -174,9 +171,9 @@ ids_answered s p row j g ej eg some =
 
 -- Where SEL is true and BSY false, the caller has released BSY.
 released_stage : (s : ScenarioValue) (q : List Row) (k : Call) (h : Calling) → BusStage s q → (bus q).rst ≡ false → connection q ≡ None → (bus q).bsy ≡ false → call q ≡ Some k → k.calling ≡ Some h → is_some h.released ≡ true
-released_stage s q k h (on_free_bus z) calm alone low ek eh = no_call k (sym z.stands.call_is ∙ ek)
-released_stage s q k h (in_arbitration a z) calm alone low ek eh = no_call k (sym z.stands.call_is ∙ ek)
-released_stage s q k h (after_arbitration c t z) calm alone low ek eh = no_calling h (ap (λ (x : Call). x.calling) (call_eq _ k (sym z.stands.call_is ∙ ek)) ∙ eh)
+released_stage s q k h (on_free_bus z) calm alone low ek eh = none_some k (sym z.stands.call_is ∙ ek)
+released_stage s q k h (in_arbitration a z) calm alone low ek eh = none_some k (sym z.stands.call_is ∙ ek)
+released_stage s q k h (after_arbitration c t z) calm alone low ek eh = none_some h (ap (λ (x : Call). x.calling) (call_eq _ k (sym z.stands.call_is ∙ ek)) ∙ eh)
 released_stage s q k h (with_both_ids m c j t0 t e z) calm alone low ek eh = wrong (sym (ap (λ (l : LineSet). l.bsy) z.stands.bus_is) ∙ low)
 released_stage s q k h (awaiting_answer v m c j t0 t1 t2 x z) calm alone low ek eh = ap (λ (g : Calling). is_some g.released) (sym (same_Some _ h (ap (λ (x : Call). x.calling) (call_eq _ k (sym z.here.stands.call_is ∙ ek)) ∙ eh)))
 released_stage s q k h (after_withdrawal v m c j t0 t1 t2 t3 e z) calm alone low ek eh = ap (λ (g : Calling). is_some g.released) (sym (same_Some _ h (ap (λ (x : Call). x.calling) (call_eq _ k (sym z.stands.call_is ∙ ek)) ∙ eh)))
@@ -190,8 +187,8 @@ released_stage s q k h (in_connection n f g z) calm alone low ek eh = absurd (so
 
 new_unreleased : (q r : Bool) (a h : Calling) → is_some a.released ≡ false → (if q && r then Some a else None) ≡ Some h → is_some h.released ≡ false
 new_unreleased true true a h e z = ap (λ (g : Calling). is_some g.released) (sym (same_Some a h z)) ∙ e
-new_unreleased true false a h e z = no_calling h z
-new_unreleased false r a h e z = no_calling h z
+new_unreleased true false a h e z = none_some h z
+new_unreleased false r a h e z = none_some h z
 
 ids_won : (s : ScenarioValue) (p : List Row) (row : Row) (j : Call) → call p ≡ Some j → j.calling ≡ None → BusStage s (row ∷ p) → (bus (row ∷ p)).rst ≡ false → connection (row ∷ p) ≡ None → IdsOn s p row
 ids_won s p row j ej none next calm alone =
@@ -233,7 +230,7 @@ ids_asking s p m c k t0 t1 t h =
     }
   where
     later : (o : Option ℕ) (dev time : ℕ) (a : Sample) → ids_at o dev time ≡ Some a → time < a.time
-    later None dev time a e = no_sample a e
+    later None dev time a e = none_some a e
     later (Some lat) dev time a e = let z = ap (λ (x : Sample). x.time) (same_Some _ a e) in omega (arith, z)
 
 ids_called : (s : ScenarioValue) (p : List Row) (m : Bool) (c k t0 t1 : ℕ) (row : Row) → CalmStanding s p → Calls s p (begun_call m c k t0 t1) c k (both_ids m c k) none (both_ids m c k) → IsLeast (unreset_due s p) 8 row → IdsOn s p row
@@ -260,10 +257,6 @@ sampled_call caller k g h c row ne ek ed e =
     let no : (row.dev == caller) ≡ false = eq_other row.dev caller (λ z. ne (sym z ∙ ed)) in
     let yes : (row.dev == g.called) ≡ true = ap (λ (x : ℕ). x == g.called) (ed ∙ sym ek) ∙ eq_self g.called in
     same_Some _ h (sym (λ i. if no i then Some (caller_goes_on g c row.time) else if yes i then Some (called_goes_on g c row) else Some g) ∙ e)
-
-or_last : (a b : Bool) → b ≡ true → (a || b) ≡ true
-or_last true b e = refl
-or_last false b e = e
 
 ids_taken : (s : ScenarioValue) (p : List Row) (m : Bool) (c k t0 t1 t2 x lat : ℕ) (row : Row) → HasShortLatencies s → CalmStanding s p → AwaitsAnswer s p false m c k t0 t1 t2 x → latency_of s k ≡ Some lat → IsLeast (unreset_due s p) 8 row → IdsOn s p row
 ids_taken s p m c k t0 t1 t2 n lat row fits always a there least = ids_on_by s p row unasked (λ e kk h ek eh. low_bsy (bus p).bsy (bus (row ∷ p)).bsy (bus (row ∷ p)).sel (ap (λ (l : LineSet). l.bsy) a.here.stands.bus_is) e)
@@ -323,7 +316,7 @@ ids_absent : (s : ScenarioValue) (p : List Row) (row : Row) (j : Call) (g : Call
 ids_absent s p row j g ej eg low there =
     record {
       puts = λ xs. go xs (falls (bus p).bsy (bus (row ∷ p)).bsy && (bus (row ∷ p)).sel) refl ∙ ap (λ (o : Option Sample). with_awaited o xs) (sym (none (call (row ∷ p)) refl));
-      now = λ a e. no_sample a (sym (none (call (row ∷ p)) refl) ∙ e);
+      now = λ a e. none_some a (sym (none (call (row ∷ p)) refl) ∙ e);
     }
   where
     go : (xs : List Sample) (q : Bool) → (falls (bus p).bsy (bus (row ∷ p)).bsy && (bus (row ∷ p)).sel) ≡ q → (if q then samples_with_ids s (call (row ∷ p)) row.time xs else xs) ≡ xs

@@ -1,7 +1,8 @@
 -- A calling from row to row, and the IDs that are sampled of it.
-use Rattle.std.proofs.Common.{ℕ, ◌≡◌, Bool, true, false, not, ◌&&◌, ◌||◌, ◌==◌, ◌∙◌, List, [], ◌∷◌, Option, Some, None, refl, sym, ap, subst}
+use Rattle.std.proofs.Common.{ℕ, ◌≡◌, Bool, true, false, not, ◌&&◌, ◌==◌, ◌∙◌, List, ◌∷◌, Option, Some, None, refl, sym, ap, subst}
 use Rattle.std.specs.Prelude.{if◌then◌else◌, is_some, is_none}
 use Rattle.std.proofs.lemmas.Option.{same_Some}
+use Rattle.std.proofs.lemmas.Bool.{or_left}
 use Rattle.bus_trace.specs.declared.Row.{Row}
 use Rattle.bus_trace.specs.declared.changes.Change.{Change}
 use Rattle.bus_trace.specs.declared.selection.Call.{Call}
@@ -11,28 +12,9 @@ use Rattle.bus_trace.specs.Terms.{call, call_goes_on, calling_after, caller_goes
 use Rattle.bus_trace.specs.Trace.{bus}
 use Rattle.scenario.specs.Value.{ScenarioValue}
 use Rattle.bus_story.specs.Samples.{Sample, latency_of, samples_with_ids, samples_with_ids_of, samples_with_ids_after, with_sample}
+use Rattle.trace_laws.proofs.Called.{sel_of_call}
+use Rattle.trace_laws.proofs.Impossible.{none_some}
 use Rattle.fault_laws.specs.Awaited.{is_asked, ids_at, ids_of, awaited_ids}
-
-pub wrong : {A : Type 0} → true ≡ false → A
-wrong e = absurd cc
-
-pub wrong' : {A : Type 0} → false ≡ true → A
-wrong' e = absurd cc
-
-pub no_call : {A : Type 0} (k : Call) → (let a : Option Call = None in a) ≡ Some k → A
-no_call k e = absurd cc
-
-pub no_calling : {A : Type 0} (x : Calling) → (let a : Option Calling = None in a) ≡ Some x → A
-no_calling x e = absurd cc
-
--- A call stands while SEL is true.
-pub sel_of_call : (p : List Row) (k : Call) → call p ≡ Some k → (bus p).sel ≡ true
-sel_of_call [] k e = no_call k e
-sel_of_call (row ∷ rows) k e = go (bus (row ∷ rows)).sel refl
-  where
-    go : (q : Bool) → (bus (row ∷ rows)).sel ≡ q → (bus (row ∷ rows)).sel ≡ true
-    go true f = f
-    go false f = no_call k (sym (ap (λ (q : Bool). if not q then None else if rises (bus rows).sel q then Some (record { caller = row.dev; at = row.time; calling = None }) else call_goes_on (call rows) (change_of rows row) row) f) ∙ e)
 
 -- ---- a calling goes on
 
@@ -45,9 +27,6 @@ pub record Follows (g h : Calling) : Type 0 where
 when_some : (q : Bool) (t : ℕ) (o : Option ℕ) → is_some o ≡ true → is_some (when q t o) ≡ true
 when_some true t o e = refl
 when_some false t o e = e
-
-or_yes : (a b : Bool) → a ≡ true → (a || b) ≡ true
-or_yes a b e = ap (λ (q : Bool). q || b) e
 
 caller_follows : (g : Calling) (c : Change) (t : ℕ) → Follows g (caller_goes_on g c t)
 caller_follows g c t = record {
@@ -62,7 +41,7 @@ called_follows g c row = record {
   called = refl;
   answered = λ e. when_some (rises c.own.bsy c.next.bsy) row.time g.answered e;
   withdrawn = λ e. e;
-  struck = λ e. or_yes g.struck (is_fault row.kind) e;
+  struck = λ e. or_left g.struck (is_fault row.kind) e;
 }
 
 self_follows : (g : Calling) → Follows g g
@@ -94,7 +73,7 @@ call_goes p row k h e f = go (bus p).sel refl
     on = sel_of_call q k e
 
     by_call : (bus p).sel ≡ true → (o : Option Call) → call p ≡ o → call_goes_on o (change_of p row) row ≡ Some k → GoesOn p row k h
-    by_call before None none z = no_call k z
+    by_call before None none z = none_some k z
     by_call before (Some j) some z =
         let same : (record j { calling = calling_after j.caller j.calling (change_of p row) row }) ≡ k = same_Some _ k z in
         record {
@@ -109,7 +88,7 @@ call_goes p row k h e f = go (bus p).sel refl
     go true before = by_call before (call p) refl (sym (λ i. if not (on i) then None else if rises (before i) (on i) then Some (record { caller = row.dev; at = row.time; calling = None }) else call_goes_on (call p) (change_of p row) row) ∙ e)
     go false before =
         let new : (record { caller = row.dev; at = row.time; calling = None }) ≡ k = same_Some _ k (sym (λ i. if not (on i) then None else if rises (before i) (on i) then Some (record { caller = row.dev; at = row.time; calling = None }) else call_goes_on (call p) (change_of p row) row) ∙ e) in
-        no_calling h (ap (λ (x : Call). x.calling) new ∙ f)
+        none_some h (ap (λ (x : Call). x.calling) new ∙ f)
 
 -- What is asked of a calling that has been answered, withdrawn or struck.
 not_some : (o : Option ℕ) → is_some o ≡ true → is_none o ≡ false

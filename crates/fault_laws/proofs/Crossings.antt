@@ -30,8 +30,10 @@ use Rattle.link_laws.proofs.EndDues.{offering_with}
 use Rattle.link_laws.proofs.Moves.{initiator_in_phase, target_in_phase, target_moves, terms_of, no_rise}
 use Rattle.link_laws.proofs.Moves.{initiator_moves}
 use Rattle.link_laws.proofs.Shakes.{target_row, initiator_row}
+use Rattle.trace_laws.proofs.Crossings.{no_pulse, no_answer}
 use Rattle.trace_laws.proofs.LinkRows as rows
 use Rattle.trace_laws.proofs.LinkRows.{LinkRow}
+use Rattle.trace_laws.proofs.Tests.{none_both}
 use Rattle.fault_laws.proofs.ByteSamples.{Crossed, into_initiator, into_target}
 
 pub data Crossing (p : List Row) (row : Row) (n : Connection) : Type 0 where
@@ -39,10 +41,6 @@ pub data Crossing (p : List Row) (row : Row) (n : Connection) : Type 0 where
   carries : (d : ℕ) → (bus (row ∷ p)).rst ≡ false → receiver (row ∷ p) ≡ Some d → Crossed (row ∷ p) n d → Crossing p row n
 
 -- ---- no byte crosses
-
-none_both : (q : Bool) → (let o : Option ℕ = None in if q then o else o) ≡ None
-none_both true = refl
-none_both false = refl
 
 -- With a row after which neither REQ nor ACK is true no byte crosses.
 pub low_receiver : (n : Connection) (c : Change) → c.after.req ≡ false → c.after.ack ≡ false → receiver_in n c ≡ None
@@ -71,12 +69,6 @@ by_target p row n e req y h same r =
 -- The line stands, or falls.
 still : (n : Connection) (io req ack : Bool) → (if io then (if rises req req then Some n.initiator else None) else (if rises ack ack then Some n.target else None)) ≡ None
 still n io req ack = (λ i. if io then (if no_rise req i then Some n.initiator else None) else (if no_rise ack i then Some n.target else None)) ∙ none_both io
-
-still_req : (n : Connection) (io req : Bool) → (if io then (if rises req req then Some n.initiator else None) else None) ≡ None
-still_req n io req = (λ i. if io then (if no_rise req i then Some n.initiator else None) else None) ∙ none_both io
-
-still_ack : (n : Connection) (io ack : Bool) → (if io then None else (if rises ack ack then Some n.target else None)) ≡ None
-still_ack n io ack = (λ i. if io then None else (if no_rise ack i then Some n.target else None)) ∙ none_both io
 
 -- ---- a phase is left
 
@@ -141,8 +133,8 @@ crossing s p row n (rows.sends atn msg cd x h b z some e) =
     let m = initiator_moves p n (ends false false atn x msg cd false true 0) false true atn x row.time h in
     subst (λ (r : Row). Crossing p r n) (sym e) (carries n.target (ap (λ (l : LineSet). l.rst) m.linked.stands.bus_is) w.receiver_is (into_target f m.linked (w.begun_is ∙ b) refl refl refl refl (inl refl) w.ack_is))
 crossing s p row n (rows.ends_ack_out atn msg cd x h b e) = by_initiator p row n (ends false true atn x msg cd false false 0) false false atn 0 h e refl
-crossing s p row n (rows.answers_pulse req atn to y h b un z rose e) = by_initiator p row n (ends false false atn 0 false false true req y) false true to 0 h e (still_req n true req)
-crossing s p row n (rows.ends_ack_pulse io req atn x y h b un z e) = by_initiator p row n (ends false true atn x false false io req y) false false atn x h e (still_req n io req)
+crossing s p row n (rows.answers_pulse req atn to y h b un z rose e) = by_initiator p row n (ends false false atn 0 false false true req y) false true to 0 h e (no_pulse n true req)
+crossing s p row n (rows.ends_ack_pulse io req atn x y h b un z e) = by_initiator p row n (ends false true atn x false false io req y) false false atn x h e (no_pulse n io req)
 crossing s p row n (rows.drives_pulsed req atn x y h b z e) = by_initiator p row n (ends false false atn x false false false req 0) false false atn y h e refl
 crossing s p row n (rows.sends_pulse req atn x h b z byte e) =
     let f : EndLines = ends false true atn x false false false req 0 in
@@ -173,11 +165,11 @@ crossing s p row n (rows.leaves atn msg cd io x y h b known un zero follows e) =
     silent p row (row_of_lines row.time n.target l) n e (left_low p n f row.time l (λ y. y.rst) (λ _ _. refl) refl h (lines_low (λ y. y.rst) refl rst_low (λ phase x. rst_low phase) v io w w.to) refl)
     (ap (λ (o : Option Connection). receiver_of o (change_of p (row_of_lines row.time n.target l))) h.stands.connection_is
     ∙ low_receiver n (change_of p (row_of_lines row.time n.target l)) (left_low p n f row.time l (λ y. y.req) (λ _ _. refl) refl h req refl) (left_low p n f row.time l (λ y. y.ack) (λ _ _. refl) refl h ack refl))
-crossing s p row n (rows.ends_req_pulse io ack atn x y h b un z e) = by_target p row n (ends false ack atn x false false io true y) false y h e (still_ack n io ack)
+crossing s p row n (rows.ends_req_pulse io ack atn x y h b un z e) = by_target p row n (ends false ack atn x false false io true y) false y h e (no_answer n io ack)
 crossing s p row n (rows.changes_pulsed ack atn y z h b un pulsed e) = by_target p row n (ends false ack atn 0 false false true false y) false z h e refl
 crossing s p row n (rows.asks_pulse true ack atn x y h b un z zero byte e) =
     let f : EndLines = ends false ack atn x false false true true y in
     let w = target_in_phase p n (ends false ack atn x false false true false y) true y row.time h in
     let m = target_moves p n (ends false ack atn x false false true false y) false false true true y row.time h in
     subst (λ (r : Row). Crossing p r n) (sym e) (carries n.initiator (ap (λ (l : LineSet). l.rst) m.linked.stands.bus_is) w.receiver_is (into_initiator f m.linked (w.begun_is ∙ b) refl refl refl (inr (ap (λ (a : Agreement). is_pulsed_phase true (connected_bus f) a) (w.agreement_is refl refl) ∙ z)) w.req_is))
-crossing s p row n (rows.asks_pulse false ack atn x y h b un z zero byte e) = by_target p row n (ends false ack atn x false false false false y) true y h e (still_ack n false ack)
+crossing s p row n (rows.asks_pulse false ack atn x y h b un z zero byte e) = by_target p row n (ends false ack atn x false false false false y) true y h e (no_answer n false ack)

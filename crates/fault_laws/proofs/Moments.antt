@@ -23,15 +23,15 @@ use Rattle.link_laws.specs.LinkStages.{LinkStage, when_selected, when_settling, 
 use Rattle.link_laws.proofs.Traces.{sides_are}
 use Rattle.trace_laws.specs.Ends.{HasEnds, AreEnds}
 use Rattle.trace_laws.proofs.FirstRows.{begins_now, under_rst}
+use Rattle.trace_laws.proofs.Impossible.{none_some, wrong, wrong', some_none}
 use Rattle.trace_laws.proofs.Joint.{link_calm, link_connection}
 use Rattle.trace_laws.proofs.UnderRst.{ends_apart}
 use Rattle.fault_laws.specs.Awaited.{awaited, awaited_by, awaited_ids, byte_at}
 use Rattle.fault_laws.proofs.ByteSamples.{Crossed, into_initiator, into_target, byte_awaits, byte_none}
 use Rattle.fault_laws.proofs.CalledSamples.{apart_awaits}
-use Rattle.fault_laws.proofs.Calls.{wrong, wrong'}
 use Rattle.fault_laws.proofs.Directions.{IsDirected, directed_on, sampler}
 use Rattle.fault_laws.proofs.InTurn.{Precedes, same_precedes, sooner_precedes}
-use Rattle.fault_laws.proofs.NoFaults.{no_fault, no_sample}
+use Rattle.fault_laws.proofs.NoFaults.{no_fault}
 use Rattle.fault_laws.proofs.ResetSamples.{kept_new, kept_on}
 use Rattle.fault_laws.proofs.Taken.{IsPast}
 use Rattle.fault_laws.proofs.Takes.{Awaits, IsNoLater}
@@ -46,12 +46,6 @@ pub record Moment (s : ScenarioValue) (p : List Row) (row : Row) : Type 0 where
   pub next : AnyStage s (row ∷ p)
 
 -- ---- the stage
-
-pub some_none : {A : Type 0} (n : Connection) → Some n ≡ None → A
-some_none n z = absurd cc
-
-pub no_connection : {A : Type 0} (n : Connection) → (let a : Option Connection = None in a) ≡ Some n → A
-no_connection n z = absurd cc
 
 pub apart_of : (s : ScenarioValue) (p : List Row) → AnyStage s p → connection p ≡ None → BusStage s p
 apart_of s p (apart h alone) e = h
@@ -104,7 +98,7 @@ pub awaited_of : (s : ScenarioValue) (p : List Row) (a : Sample) → (bus p).rst
 awaited_of s p a calm e = go (connection p) refl
   where
     by_receiver : (n : Connection) → connection p ≡ Some n → (o : Option ℕ) → receiver p ≡ o → byte_at (last_time p) o ≡ Some a → Awaited s p a
-    by_receiver n en None er z = no_sample a z
+    by_receiver n en None er z = none_some a z
     by_receiver n en (Some d) er z = of_byte n d en er (sym (same_Some _ a z))
 
     go : (o : Option Connection) → connection p ≡ o → Awaited s p a

@@ -25,13 +25,13 @@ use Rattle.bus_laws.proofs.Resets.{comes_by, due_calm}
 use Rattle.bus_laws.proofs.Rows.{drives_own}
 use Rattle.link_laws.proofs.Traces.{sides_are}
 use Rattle.trace_laws.proofs.FirstRows.{made_is, quiet_sel, under_rst}
+use Rattle.trace_laws.proofs.Impossible.{wrong, wrong', none_some}
 use Rattle.trace_laws.proofs.UnderRst.{carries_none, ends_apart, quiet_at_end}
 use Rattle.fault_laws.specs.Awaited.{awaited, awaited_by}
 use Rattle.fault_laws.proofs.CalledSamples.{fresh_none}
-use Rattle.fault_laws.proofs.Calls.{wrong, wrong', with_awaited}
+use Rattle.fault_laws.proofs.Calls.{with_awaited}
 use Rattle.fault_laws.proofs.InTurn.{AreKept, kept_all, kept_last}
 use Rattle.fault_laws.proofs.Moments.{Moment, apart_of, awaits_here, directed_here, linked_of, none_here, past_new, past_next, reset_of}
-use Rattle.fault_laws.proofs.NoFaults.{no_sample}
 use Rattle.fault_laws.proofs.Puts.{Puts, apart_puts, linked_puts, puts_ids, unraised}
 use Rattle.fault_laws.proofs.ResetSamples.{CalmRow, resets, reacts, ResetRow, raises, lets_go, always_is, bare_row, calls_cut, calls_go, calls_none, calm_row, IsBare, is_kept, IsKept, kept_is, LetsCallsGo, no_ids, under_reset}
 use Rattle.fault_laws.proofs.Taken.{IsPast, Stepped, Taken, all_kept, all_precede, before_none, before_some, puts_down, stays, takes}
@@ -74,7 +74,7 @@ none_awaited s p on = λ i. awaited_by s p (on i) (connection p)
 under : (s : ScenarioValue) (p : List Row) (row : Row) (done : List Sample) → (bus (row ∷ p)).rst ≡ true → LetsCallsGo (row ∷ p) → Stepped s (row ∷ p) done → samples s (row ∷ p) ≡ done → Taken s (row ∷ p) done
 under s p row done on calls st e =
     puts_down s p row done st (e ∙ ap (λ (o : Option Sample). with_awaited o done) (sym (none_awaited s (row ∷ p) on)))
-    (λ a z. no_sample a (sym (none_awaited s (row ∷ p) on) ∙ z)) (λ n d en c er. wrong (sym on ∙ c)) (λ up. calls)
+    (λ a z. none_some a (sym (none_awaited s (row ∷ p) on) ∙ z)) (λ n d en c er. wrong (sym on ∙ c)) (λ up. calls)
 
 of_row : (row : Row) (l : LineSet) → row ≡ row_of_lines row.time row.dev l → is_fault row.kind ≡ false
 of_row row l e = ap (λ (r : Row). is_fault r.kind) e
@@ -131,7 +131,7 @@ raise_next s p row done m off r e calls w = go (awaited s p) refl
     )
 
     by_rst : (a : Sample) → awaited s p ≡ Some a → (q : Bool) → (bus p).rst ≡ q → SoFar s (row ∷ p)
-    by_rst a ea true up = no_sample a (sym (none_awaited s p up) ∙ ea)
+    by_rst a ea true up = none_some a (sym (none_awaited s p up) ∙ ea)
     by_rst a ea false calm = by_kept a ea calm (is_kept_by_reset row a) refl
 
     go : (o : Option Sample) → awaited s p ≡ o → SoFar s (row ∷ p)
@@ -182,7 +182,7 @@ release_next s p row done m on e b w = (done, go (bus (row ∷ p)).rst refl)
     go true up = under s p row done up (calls_go p row b (w.calls on)) more same
     go false off =
         puts_down s p row done more (same ∙ ap (λ (o : Option Sample). with_awaited o done) (sym (idle off)))
-        (λ a z. no_sample a (sym (idle off) ∙ z)) (λ n d en c er. absurd (no_device d (sym silent ∙ er))) (λ up. wrong (sym up ∙ off))
+        (λ a z. none_some a (sym (idle off) ∙ z)) (λ n d en c er. absurd (no_device d (sym silent ∙ er))) (λ up. wrong (sym up ∙ off))
       where
         no_device : (d : ℕ) → (let a : Option ℕ = None in a) ≡ Some d → ⊥
         no_device d z = absurd cc

@@ -1,8 +1,8 @@
 -- While no connection stands no fault is due but to a called device that samples the IDs.
-use Rattle.std.proofs.Common.{ℕ, ◌≡◌, ◌<◌, ◌+◌, Bool, true, false, not, ◌&&◌, ◌==◌, ◌∙◌, List, Option, Some, None, refl, sym, ap, subst, arith}
+use Rattle.std.proofs.Common.{ℕ, ◌≡◌, ◌<◌, ◌+◌, Bool, true, false, not, ◌&&◌, ◌==◌, ◌∙◌, List, Option, Some, None, refl, sym, ap, subst}
 use Rattle.std.specs.Prelude.{⊤, max, nat_le, nat_lt, if◌then◌else◌, is_none}
-use Rattle.std.proofs.lemmas.Bool.Decides.{nat_tests}
 use Rattle.std.proofs.lemmas.Option.{same_Some}
+use Rattle.std.proofs.lemmas.Bool.{and_from}
 use Rattle.bus_trace.specs.LineSet.{LineSet, none, same_set, ids_set, has_id_above}
 use Rattle.bus_trace.specs.declared.Row.{Row}
 use Rattle.bus_trace.specs.declared.delays.TheConstants.{ENTRY_DELAY, BUS_SET_DELAY, ARBITRATION_DELAY, QUIET_TIME}
@@ -15,7 +15,7 @@ use Rattle.bus_lines.specs.declared.stage.Stage.{Stage}
 use Rattle.bus_lines.specs.declared.stage.Stage.TheVariants.{OnFreeBus, InArbitration, InCalling, InAnswer, InConnection, InReset}
 use Rattle.bus_lines.specs.Stage.{stage, stage_by, call_stage, answer_stage}
 use Rattle.scenario.specs.Value.{ScenarioValue}
-use Rattle.bus_story.specs.Samples.{Sample, latency_of}
+use Rattle.bus_story.specs.Samples.{latency_of}
 use Rattle.bus_reactions.specs.declared.due.Due.{Due}
 use Rattle.bus_reactions.specs.declared.due.Myself.{Myself}
 use Rattle.bus_reactions.specs.declared.due.Want.{Want}
@@ -26,10 +26,11 @@ use Rattle.bus_reactions.specs.Linking.{bus_clear, link_due_by}
 use Rattle.bus_due.specs.Plain.{AreOfDevices}
 use Rattle.bus_due.specs.RunSteps.{run_state}
 use Rattle.bus_due.specs.Sights.{want_of, flip_of}
+use Rattle.bus_books.proofs.Lookups.{number_is}
 use Rattle.bus_laws.specs.Reactions.{own_time, device_with, unreset_due}
-use Rattle.bus_laws.proofs.Dues.{due_in, is_there, none_some}
+use Rattle.bus_laws.proofs.Dues.{due_in, is_there}
+use Rattle.trace_laws.proofs.Impossible.{wrong', none_some}
 use Rattle.fault_laws.specs.Awaited.{is_asked, ids_at, ids_of, awaited_ids}
-use Rattle.fault_laws.proofs.Calls.{wrong', no_call, no_calling}
 
 -- ---- rows of lines
 
@@ -138,33 +139,24 @@ call_of_stage p c calm alone e = by_call (call p) refl ((λ i. stage_by (sym cal
       call_is = ek ∙ ap (λ (x : Call). Some x) (same k z);
       unanswered = λ h eh. ap is_none (ap (λ (x : Calling). x.answered) (same_Some h g (sym eh ∙ ap (λ (x : Call). x.calling) (sym (same k z)) ∙ eg)) ∙ ea);
     }
-    by_answer k g ek eg (Some a) ea z = no_call c (ap stage_calling z)
+    by_answer k g ek eg (Some a) ea z = none_some c (ap stage_calling z)
 
     by_calling : (k : Call) → call p ≡ Some k → (o : Option Calling) → k.calling ≡ o → call_stage k o ≡ InCalling c → IsCallOf p c
     by_calling k ek None eo z = record {
       call_is = ek ∙ ap (λ (x : Call). Some x) (same k z);
-      unanswered = λ h eh. no_calling h (sym (ap (λ (x : Call). x.calling) (sym (same k z)) ∙ eo) ∙ eh);
+      unanswered = λ h eh. none_some h (sym (ap (λ (x : Call). x.calling) (sym (same k z)) ∙ eo) ∙ eh);
     }
     by_calling k ek (Some g) eo z = by_answer k g ek eo g.answered refl z
 
     by_arbitration : (o : Option Arbitration) → stage_by false t None None o (free_since p) ≡ InCalling c → IsCallOf p c
-    by_arbitration None z = no_call c (ap stage_calling z)
-    by_arbitration (Some a) z = no_call c (ap stage_calling z)
+    by_arbitration None z = none_some c (ap stage_calling z)
+    by_arbitration (Some a) z = none_some c (ap stage_calling z)
 
     by_call : (o : Option Call) → call p ≡ o → stage_by false t None (call p) (arbitration p) (free_since p) ≡ InCalling c → IsCallOf p c
     by_call None eo z = by_arbitration (arbitration p) (sym (ap (λ (x : Option Call). stage_by false t None x (arbitration p) (free_since p)) eo) ∙ z)
     by_call (Some k) eo z = by_calling k eo k.calling refl (sym (ap (λ (x : Option Call). stage_by false t None x (arbitration p) (free_since p)) eo) ∙ z)
 
 -- ---- so it is awaited
-
-is_same : (a b : ℕ) → (a == b) ≡ true → a ≡ b
-is_same a b e = grind (arith, nat_tests)
-
-both : (a b : Bool) → a ≡ true → b ≡ true → (a && b) ≡ true
-both a b e f = ap (λ (q : Bool). q && b) e ∙ f
-
-pub no_sample : {A : Type 0} (a : Sample) → (let o : Option Sample = None in o) ≡ Some a → A
-no_sample a e = absurd cc
 
 pub no_fault : (s : ScenarioValue) (p : List Row) (d : ℕ) (x : Due) → AreOfDevices p → d < 8 → (bus p).rst ≡ false → connection p ≡ None → awaited_ids s (since_line (λ y. y.bsy) p) (call p) ≡ None → unreset_due s p d ≡ Some x → is_fault x.kind ≡ false
 no_fault s p d x dv lt calm alone none e = go (is_fault x.kind) refl
@@ -175,9 +167,9 @@ no_fault s p d x dv lt calm alone none e = go (is_fault x.kind) refl
         let me : Myself = device_with d w.0 (drives p d) (own_time p d) in
         let z = fault_linking (bus p) (line_times p).bsy (line_times p).sel me (want_of s (run_state s p) d) (flip_of (run_state s p).faults ((line_times p).bsy + 400 + w.0)) (stage p) x (sym (due_in s p d w.0 (drives p d) (stage p) dv lt w.1 alone refl refl) ∙ e) f in
         let y = call_of_stage p z.c calm alone z.stage_is in
-        let at : latency_of s z.k.called ≡ Some w.0 = ap (latency_of s) (is_same z.k.called d z.called) ∙ w.1 in
-        let is : is_asked z.k ≡ true = both (is_called z.k) (is_none z.k.answered) z.asked (y.unanswered z.k z.calling_is) in
-        no_sample _
+        let at : latency_of s z.k.called ≡ Some w.0 = ap (latency_of s) (number_is z.k.called d z.called) ∙ w.1 in
+        let is : is_asked z.k ≡ true = and_from (is_called z.k) (is_none z.k.answered) z.asked (y.unanswered z.k z.calling_is) in
+        none_some _
         (sym none
         ∙ ap (awaited_ids s (since_line (λ v. v.bsy) p)) y.call_is
         ∙ ap (ids_of s (since_line (λ v. v.bsy) p)) z.calling_is

@@ -4,13 +4,10 @@ use Rattle.std.specs.Prelude.{if◌then◌else◌}
 use Rattle.std.proofs.lemmas.Option.{same_Some}
 use Rattle.bus_trace.specs.LineSet.{LineSet}
 use Rattle.bus_trace.specs.declared.Row.{Row}
-use Rattle.bus_trace.specs.declared.Kind.{Kind}
-use Rattle.bus_trace.specs.declared.Kind.TheVariants.{Drives, Fault}
 use Rattle.bus_trace.specs.declared.connection.Connection.{Connection}
 use Rattle.bus_trace.specs.Changes.{change_of, rises, falls}
 use Rattle.bus_trace.specs.Terms.{call, connection, connection_after, receiver, receiver_of}
 use Rattle.bus_trace.specs.Trace.{bus, drives, driven_after}
-use Rattle.bus_trace.proofs.OneRow.{drives-fault, drives-own}
 use Rattle.scenario.specs.Value.{ScenarioValue}
 use Rattle.bus_story.specs.Samples.{Sample, kept_samples, samples, samples_with_byte, samples_with_ids}
 use Rattle.bus_due.specs.Least.{IsLeast}
@@ -26,14 +23,16 @@ use Rattle.bus_laws.proofs.Tests.{and_false}
 use Rattle.link_laws.specs.LinkStages.{LinkStage, AnyStage}
 use Rattle.link_laws.proofs.Traces.{sides_are}
 use Rattle.trace_laws.proofs.FirstRows.{made_is}
+use Rattle.trace_laws.proofs.Impossible.{none_some, wrong, wrong', some_none}
 use Rattle.trace_laws.proofs.LinkRows.{link_row}
+use Rattle.trace_laws.proofs.UnderRst.{drives_next}
 use Rattle.fault_laws.specs.Awaited.{awaited, awaited_by, byte_at}
 use Rattle.fault_laws.proofs.ByteSamples.{Crossed, into_initiator, into_target}
 use Rattle.fault_laws.proofs.CalledSamples.{IdsOn, ids_fresh, ids_on}
-use Rattle.fault_laws.proofs.Calls.{wrong, wrong', with_awaited}
+use Rattle.fault_laws.proofs.Calls.{with_awaited}
 use Rattle.fault_laws.proofs.Crossings.{Crossing, carries_none, carries, crossing}
 use Rattle.fault_laws.proofs.InTurn.{Precedes, sooner_precedes}
-use Rattle.fault_laws.proofs.Moments.{Moment, HasCrossed, Awaited, of_byte, of_ids, apart_of, awaited_of, linked_of, no_connection, precedes_byte, some_none}
+use Rattle.fault_laws.proofs.Moments.{Moment, HasCrossed, Awaited, of_byte, of_ids, apart_of, awaited_of, linked_of, precedes_byte}
 use Rattle.fault_laws.proofs.Taken.{IsPast}
 
 pub record Puts (s : ScenarioValue) (p : List Row) (row : Row) : Type 0 where
@@ -58,13 +57,6 @@ apart_calm s p row fits a (in_connection n f g h) alone calm l = some_none n (sy
 
 -- ---- what is put down
 
-pub next_is : (p : List Row) (row : Row) → drives (row ∷ p) row.dev ≡ driven_after row.kind (drives p row.dev)
-next_is p row = go row.kind refl
-  where
-    go : (k : Kind) → row.kind ≡ k → drives (row ∷ p) row.dev ≡ driven_after row.kind (drives p row.dev)
-    go (Drives l) e = drives-own row p l e ∙ sym (ap (λ (k : Kind). driven_after k (drives p row.dev)) e)
-    go (Fault bit) e = drives-fault row p bit row.dev e ∙ sym (ap (λ (k : Kind). driven_after k (drives p row.dev)) e)
-
 abbrev pub puts_ids : List Row → Row → Bool
 puts_ids p row = falls (bus p).bsy (bus (row ∷ p)).bsy && (bus (row ∷ p)).sel
 
@@ -76,7 +68,7 @@ unraised s p row xs e =
     ((λ i. rises (drives p row.dev).rst (e i)) ∙ and_false (not (drives p row.dev).rst))
 
 calm_puts : (s : ScenarioValue) (p : List Row) (row : Row) → row.dev < 8 → (bus (row ∷ p)).rst ≡ false → samples s (row ∷ p) ≡ (if puts_ids p row then samples_with_ids s (call (row ∷ p)) row.time (samples s p) else samples_with_byte (receiver (row ∷ p)) row.time (samples s p))
-calm_puts s p row lt off = unraised s p row (samples s p) (ap (λ (l : LineSet). l.rst) (sym (next_is p row)) ∙ off_at (row ∷ p) off row.dev lt)
+calm_puts s p row lt off = unraised s p row (samples s p) (ap (λ (l : LineSet). l.rst) (sym (drives_next p row)) ∙ off_at (row ∷ p) off row.dev lt)
 
 -- ---- no connection stands after it
 
@@ -98,9 +90,6 @@ puts_apart s p row lt off alone none w =
     go a b past (of_ids en z) = let t = w.now a z in let u = past.time in sooner_precedes a b (omega (arith, t, u))
 
 -- ---- a connection stands after it
-
-no_device : {A : Type 0} (d : ℕ) → (let a : Option ℕ = None in a) ≡ Some d → A
-no_device d z = absurd cc
 
 byte_put : (o : Option ℕ) (time : ℕ) (xs : List Sample) → samples_with_byte o time xs ≡ with_awaited (byte_at time o) xs
 byte_put None time xs = refl
@@ -147,7 +136,7 @@ apart_puts s p row m calm alone always least = go (connection (row ∷ p)) refl
     go (Some n) e =
         let made = made_is p row n alone e in
         puts_linked s p row n least.inside m.next off e ((λ i. falls (bus p).bsy (bus (row ∷ p)).bsy && fell_false (bus p).sel (bus (row ∷ p)).sel made.sel i) ∙ and_false (falls (bus p).bsy (bus (row ∷ p)).bsy))
-        (λ k d ek c er. no_device d (sym none ∙ er))
+        (λ k d ek c er. none_some d (sym none ∙ er))
 
 -- ---- a row of a connection
 
@@ -156,7 +145,7 @@ still_on p row m n e f = go (bus (row ∷ p)).bsy refl (sym (ap (λ (o : Option 
   where
     go : (q : Bool) → (bus (row ∷ p)).bsy ≡ q → (if (bus (row ∷ p)).bsy then Some m else None) ≡ Some n → ((bus (row ∷ p)).bsy ≡ true) × (m ≡ n)
     go true b z = (b, same_Some m n (sym (ap (λ (q : Bool). if q then Some m else None) b) ∙ z))
-    go false b z = no_connection n (sym (ap (λ (q : Bool). if q then Some m else None) b) ∙ z)
+    go false b z = none_some n (sym (ap (λ (q : Bool). if q then Some m else None) b) ∙ z)
 
 stands_still : (q : List Row) (n : Connection) (d : ℕ) → Crossed q n d → connection q ≡ Some n
 stands_still q n d (into_initiator f h b here io req ack since) = h.stands.connection_is
@@ -184,7 +173,7 @@ linked_puts s p row n m h en always least = by (crossing s p row n (link_row s p
       where
         go : (o : Option Connection) → connection (row ∷ p) ≡ o → Puts s p row
         go None e = apart_from off e none
-        go (Some k) e = puts_linked s p row k least.inside m.next off e (unput k e) (λ j d ej c er. no_device d (sym none ∙ er))
+        go (Some k) e = puts_linked s p row k least.inside m.next off e (unput k e) (λ j d ej c er. none_some d (sym none ∙ er))
     by (carries d off r x) =
         let e = stands_still (row ∷ p) n d x in
         puts_linked s p row n least.inside m.next off e (unput n e) (crossed_by d r x)

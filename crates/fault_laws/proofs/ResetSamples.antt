@@ -30,21 +30,21 @@ use Rattle.bus_due.specs.Least.{IsLeast}
 use Rattle.bus_due.specs.Next.{due}
 use Rattle.bus_due.specs.Own.{Own, own_of}
 use Rattle.bus_due.specs.Plain.{AreOfDevices}
+use Rattle.bus_books.proofs.RowTies.{lt_is}
 use Rattle.bus_laws.specs.Reactions.{unreset_due, reset_due, reset_due_if}
 use Rattle.bus_laws.specs.Rows.{row_of_lines, row_of_fault}
 use Rattle.bus_laws.specs.Stages.{CalmStanding, Standing, BusStage, on_free_bus, in_arbitration, after_arbitration, with_both_ids, awaiting_answer, after_withdrawal, after_answer, after_takeover, in_reset, in_connection}
-use Rattle.bus_laws.proofs.Dues.{is_there, is_at, none_some, due_in_reset}
+use Rattle.bus_laws.proofs.Dues.{is_there, is_at, due_in_reset}
 use Rattle.bus_laws.proofs.FromCalling.{only_caller}
 use Rattle.bus_laws.proofs.FromFree.{row_is}
 use Rattle.bus_laws.proofs.FromReset.{off_at}
 use Rattle.bus_laws.proofs.Resets.{one_of, comes_by, comes_by_first, due_calm, due_holding, due_there, own_reset_is, reset_after, own_other, released_own, own_fault}
 use Rattle.bus_laws.proofs.Rows.{drives_own}
 use Rattle.bus_laws.proofs.Tests.{and_false}
-use Rattle.fault_laws.proofs.Calls.{wrong, wrong', no_call, no_calling, calling_follows, GoesOn, call_goes, ids_unsampled}
+use Rattle.link_laws.proofs.EndDues.{due_of}
+use Rattle.trace_laws.proofs.Impossible.{wrong, wrong', none_some}
+use Rattle.fault_laws.proofs.Calls.{calling_follows, GoesOn, call_goes, ids_unsampled}
 use Rattle.fault_laws.proofs.Takes.{IsNoLater}
-
-abbrev due_of : Row → Due
-due_of row = record { time = row.time; kind = row.kind }
 
 -- ---- the row of a reset, and others
 
@@ -164,9 +164,6 @@ resets_same s p q d e = go (latency_of s d)
     go None = refl
     go (Some lat) = ap (λ (x : Option ℕ). rst_assertion (reset_from d x s.resets)) e
 
-lt_of : (a b : ℕ) → nat_lt a b ≡ true → a < b
-lt_of a b e = grind (arith, nat_tests)
-
 earlier_first : (a u : Option Due) (x z : Due) → a ≡ Some x → earlier_due a u ≡ Some z → (z ≡ x) ⊎ (z.time < x.time)
 earlier_first None u x z e f = absurd (none_some x e)
 earlier_first (Some w) None x z e f = inl (same_Some z x (sym f ∙ e))
@@ -178,7 +175,7 @@ earlier_first (Some w) (Some y) x z e f = go (nat_lt y.time w.time) refl f
     go : (q : Bool) → nat_lt y.time w.time ≡ q → (let n : Option Due = Some (if q then y else w) in n) ≡ Some z → (z ≡ x) ⊎ (z.time < x.time)
     go true h g =
         let t = ap (λ (v : Due). v.time) (same_Some y z g) in
-        let l = lt_of y.time w.time h in
+        let l = lt_is y.time w.time h in
         let u = same in
         inr (omega (arith, t, l, u))
     go false h g = inl (sym (same_Some w z g) ∙ same_Some w x e)
@@ -337,7 +334,7 @@ pub record Called (p : List Row) : Type 0 where
   pub unanswered : is_some calling.answered ≡ false
 
 no_two : {A : Type 0} (q r : Bool) (a h : Calling) → r ≡ false → (if q && r then Some a else None) ≡ Some h → A
-no_two q r a h e z = no_calling h (sym (ap (λ (x : Bool). if x then Some a else None) ((λ i. q && e i) ∙ and_false q)) ∙ z)
+no_two q r a h e z = none_some h (sym (ap (λ (x : Bool). if x then Some a else None) ((λ i. q && e i) ∙ and_false q)) ∙ z)
 
 unanswered_by : (a b : Bool) → (a ≡ true → b ≡ true) → b ≡ false → a ≡ false
 unanswered_by true b f e = wrong (sym (f refl) ∙ e)
@@ -374,7 +371,7 @@ calls_go p row b u k h ek eh un =
 
 -- As RST rises.
 no_called : {A : Type 0} (p : List Row) → call p ≡ None → Called p → A
-no_called p e w = no_call w.was (sym e ∙ w.was_is)
+no_called p e w = none_some w.was (sym e ∙ w.was_is)
 
 called_is : (p : List Row) (j : Call) (w : Called p) → call p ≡ Some j → j.calling ≡ Some w.calling
 called_is p j w e = ap (λ (x : Call). x.calling) (same_Some j w.was (sym e ∙ w.was_is)) ∙ w.calling_is
@@ -388,7 +385,7 @@ calls_cut s p row b st calm alone k h ek eh un = go st (called_before p row k h 
     go : BusStage s p → Called p → IsLow (row ∷ p) ⊎ IsEven (row ∷ p)
     go (on_free_bus z) w = no_called p z.stands.call_is w
     go (in_arbitration a z) w = no_called p z.stands.call_is w
-    go (after_arbitration c t z) w = no_calling w.calling (called_is p _ w z.stands.call_is)
+    go (after_arbitration c t z) w = none_some w.calling (called_is p _ w z.stands.call_is)
     go (with_both_ids m c j t0 t e z) w =
         inr (even_on p row b (λ d lt ne. elim (cases_eq d c) [
           | inl same ↦ (λ i. (drives p (same i)).bsy) ∙ ap (λ (l : LineSet). l.bsy) z.caller ∙ sym ((λ i. (drives p (same i)).sel) ∙ ap (λ (l : LineSet). l.sel) z.caller)

@@ -10,7 +10,6 @@ use Rattle.scenario.specs.Value.{ScenarioValue}
 use Rattle.scenario.specs.Writing.{Obeys}
 use Rattle.bus_story.specs.Samples.{Sample, expected_strikes, faults_in_order, row_strikes, strikes_by}
 use Rattle.std.specs.Prelude.{reverse}
-use Rattle.bus_reactions.specs.declared.due.Due.{Due}
 use Rattle.bus_due.specs.Next.{due, IsPrompt, IsEnded}
 use Rattle.bus_due.specs.RunSteps.{run_state}
 use Rattle.bus_due.specs.Sights.{flip_of}
@@ -20,15 +19,14 @@ use Rattle.bus_laws.proofs.FromReset.{off_at}
 use Rattle.bus_laws.proofs.Limits.{obeys_latencies}
 use Rattle.bus_laws.proofs.Prompt.{least_is}
 use Rattle.bus_laws.proofs.Resets.{comes_by, due_calm}
+use Rattle.trace_laws.proofs.Impossible.{none_some}
 use Rattle.trace_laws.proofs.Whole.{Whole, whole}
 use Rattle.fault_laws.specs.Awaited.{awaited, awaited_by, listed}
 use Rattle.fault_laws.specs.InTurn.{strike_if}
 use Rattle.fault_laws.specs.SoFar.{StrikesSoFar}
-use Rattle.fault_laws.proofs.Calls.{no_call}
 use Rattle.fault_laws.proofs.InTurn.{in_order_last, in_turn, ordered_faults, strikes_on}
 use Rattle.fault_laws.proofs.Moments.{Moment, awaits_here}
 use Rattle.fault_laws.proofs.NextTaken.{SoFar, next_taken}
-use Rattle.fault_laws.proofs.NoFaults.{no_sample}
 use Rattle.fault_laws.proofs.ResetSamples.{always_is}
 use Rattle.fault_laws.proofs.Taken.{Taken}
 
@@ -81,9 +79,9 @@ first s = (
     left = refl;
     order = tt;
     past = tt;
-    next = λ a e. no_sample a (sym (none_first s (bus []).rst) ∙ e);
+    next = λ a e. none_some a (sym (none_first s (bus []).rst) ∙ e);
     crossed = λ n d en c er. absurd (no_connection n en);
-    calls = λ on k h ek eh un. no_call k ek;
+    calls = λ on k h ek eh un. none_some k ek;
   },
 )
   where
@@ -106,9 +104,6 @@ strikes_so_far s p k =
 
 -- ---- the end
 
-none_some : (x : Due) → (let a : Option Due = None in a) ≡ Some x → ⊥
-none_some x e = absurd cc
-
 -- What is still awaited no fault is to strike.
 unstruck : (s : ScenarioValue) (p : List Row) (done : List Sample) (a : Sample) → IsKnown s p → IsEnded s p → Taken s p done → awaited s p ≡ Some a → (flip : Option ℕ) → flip_of (run_state s p).faults a.time ≡ flip → flip ≡ None
 unstruck s p done a k ended w e None f = refl
@@ -123,7 +118,7 @@ unstruck s p done a k ended w e (Some bit) f = by_rst (bus p).rst refl
         none_some z.x (sym (least_none (due s p) 8 ended a.dev x.below) ∙ due_calm s p a.dev st.devices x.below (off_at p calm a.dev x.below) ∙ z.is)
 
     by_rst : (q : Bool) → (bus p).rst ≡ q → Some bit ≡ None
-    by_rst true on = no_sample a (sym (λ i. awaited_by s p (on i) (connection p)) ∙ e)
+    by_rst true on = none_some a (sym (λ i. awaited_by s p (on i) (connection p)) ∙ e)
     by_rst false calm = absurd (struck calm)
 
 pub strikes_at_end : (s : ScenarioValue) (p : List Row) → IsKnown s p → IsEnded s p → expected_strikes s p ≡ row_strikes (reverse p)

@@ -1,5 +1,6 @@
 -- What the next row makes of the sample that comes next, while RST is false.
 use Rattle.std.proofs.Common.{ℕ, ◌≡◌, ◌⊎◌, ◌≤◌, ◌<◌, false, ◌∙◌, List, Option, Some, None, refl, sym, ap}
+use Rattle.std.proofs.lemmas.Option.{same_Some}
 use Rattle.bus_trace.specs.LineSet.{LineSet}
 use Rattle.bus_trace.specs.declared.Row.{Row}
 use Rattle.bus_trace.specs.declared.Kind.TheVariants.{Drives, Fault}
@@ -33,12 +34,9 @@ pub record Awaits (s : ScenarioValue) (p : List Row) (a : Sample) : Type 0 where
 
 -- ---- what a fault makes of what is due
 
-due_eq : (x y : Due) → (let a : Option Due = Some x in a) ≡ Some y → x ≡ y
-due_eq x y e = cc
-
 pub fault_at : (time bit : ℕ) (plain : Option Due) (x : Due) (flip : Option ℕ) → flip ≡ Some bit → fault_or time flip plain ≡ Some x → (x.time ≡ time) × (x.kind ≡ Fault bit)
 fault_at time bit plain x flip f e =
-    let same = due_eq (record { time = time; kind = Fault bit }) x (sym (ap (λ (o : Option ℕ). fault_or time o plain) f) ∙ e) in
+    let same = same_Some (record { time = time; kind = Fault bit }) x (sym (ap (λ (o : Option ℕ). fault_or time o plain) f) ∙ e) in
     (sym (ap (λ (y : Due). y.time) same), sym (ap (λ (y : Due). y.kind) same))
 
 pub lines_at : (time : ℕ) (l : LineSet) (x : Due) (flip : Option ℕ) → flip ≡ None → fault_or time flip (due_at time l) ≡ Some x → is_fault x.kind ≡ false

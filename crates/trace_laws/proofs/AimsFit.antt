@@ -1,6 +1,6 @@
 -- While a device contends for the bus, and calls, what it entered arbitration for is what it sends next; so a selection begins a
 -- connection for an item that was neither sent nor given up.
-use Rattle.std.proofs.Common.{inl, inr, ℕ, zero, suc, ◌≡◌, ◌≢◌, ◌<◌, ◌⊎◌, Bool, true, false, not, ◌&&◌, ◌||◌, ◌==◌, ◌∙◌, List, [], ◌∷◌, Option, Some, None, refl, sym, ap, subst, arith}
+use Rattle.std.proofs.Common.{inl, inr, ℕ, zero, suc, ◌≡◌, ◌≢◌, ◌<◌, ◌⊎◌, Bool, true, false, not, ◌&&◌, ◌||◌, ◌∙◌, List, [], ◌∷◌, Option, Some, None, refl, sym, ap, subst}
 use Rattle.std.specs.Prelude.{if◌then◌else◌, is_some, is_none, slice_set}
 use Rattle.std.proofs.lemmas.Bool.{cases_eq}
 use Rattle.std.proofs.lemmas.Option.{same_Some}
@@ -22,30 +22,23 @@ use Rattle.bus_story.specs.Items.{Item, Sent, item_at}
 use Rattle.bus_story.specs.Links.{Link}
 use Rattle.bus_story.specs.HistoryEvents.{row_events_by, link_events}
 use Rattle.bus_story.specs.Story.{Story}
-use Rattle.bus_story.specs.TraceHistory.{is_host, aim_of, is_arbitration_entry, story_with_aim, story_after_calling, story_on_free_bus, story_on_bus, story_by_change}
+use Rattle.bus_story.specs.TraceHistory.{is_host, aim_of, is_arbitration_entry, story_with_aim, story_on_free_bus, story_on_bus, story_by_change}
 use Rattle.bus_due.specs.Plain.{AreOfDevices}
 use Rattle.bus_due.specs.RunState.{RunState}
 use Rattle.bus_due.specs.RunSteps.{run_state, run_state_with_events}
 use Rattle.bus_due.proofs.Plains.{run_state_plain}
-use Rattle.bus_laws.proofs.Apart.{change_plain}
-use Rattle.trace_laws.proofs.UnderRst.{line_off}
+use Rattle.bus_laws.proofs.Apart.{change_plain, free_by}
+use Rattle.trace_laws.proofs.Called.{sel_of_call}
+use Rattle.trace_laws.proofs.Impossible.{none_some, wrong, wrong'}
+use Rattle.trace_laws.proofs.Tests.{falls_true}
+use Rattle.trace_laws.proofs.UnderRst.{line_off, drives_next}
 use Rattle.trace_laws.proofs.NextItems.{IsNextIf, next_is}
-use Rattle.trace_laws.proofs.Driven.{wrong, wrong'}
 use Rattle.trace_laws.specs.ItemFacts.{IsNext, IsAimed, AimsFit}
-
-no_item : (i : Item) → (let a : Option Item = None in a) ≡ Some i → ⊥
-no_item i e = absurd cc
-
-no_call : (k : Call) → (let a : Option Call = None in a) ≡ Some k → ⊥
-no_call k e = absurd cc
-
-no_arbitration : (k : Arbitration) → (let a : Option Arbitration = None in a) ≡ Some k → ⊥
-no_arbitration k e = absurd cc
 
 -- ---- aims
 
 set_own : (all : List (Option Item)) (at : ℕ) (x : Option Item) (i : Item) → aim_of (slice_set all at x) at ≡ Some i → x ≡ Some i
-set_own [] at x i e = absurd (no_item i e)
+set_own [] at x i e = absurd (none_some i e)
 set_own (a ∷ all) zero x i e = e
 set_own (a ∷ all) (suc at) x i e = set_own all at x i e
 
@@ -57,7 +50,7 @@ set_other (a ∷ all) (suc at) zero x ne = refl
 set_other (a ∷ all) (suc at) (suc dev) x ne = set_other all at dev x (λ e. ne (ap suc e))
 
 next_of : (s : ScenarioValue) (b : Sent) (dev : ℕ) (x : Option Item) (i : Item) → x ≡ Some i → IsNextIf s b dev x → IsNext s b dev i
-next_of s b dev None i e h = absurd (no_item i e)
+next_of s b dev None i e h = absurd (none_some i e)
 next_of s b dev (Some j) i e h = subst (λ (y : Item). IsNext s b dev y) (same_Some j i e) h
 
 -- ---- a row where no connection stands before it and after it
@@ -91,10 +84,6 @@ apart_is s p row dv lt alone none calm link =
       sent = ap (λ (x : List Event). (run_state_with_events s k row d x).story.sent) n ∙ ap (λ (y : Story). y.sent) b;
       aims = ap (λ (x : List Event). (run_state_with_events s k row d x).story.aims) n ∙ ap (λ (y : Story). y.aims) b;
     }
-
--- As it enters, and else, where SEL does not fall.
-abbrev free_by : ScenarioValue → Story → Row → Bool → Bool → Option Call → Story
-free_by s b row entering falling call = if entering then story_with_aim s b row else if falling then story_after_calling s b call else b
 
 record Moves (s : ScenarioValue) (p : List Row) (row : Row) : Type 0 where
   sent : (run_state s (row ∷ p)).story.sent ≡ (run_state s p).story.sent
@@ -197,11 +186,11 @@ arbitrates p row a e = go (arbitration p) refl
 
         by : (q r t : Bool) → (if q && r && not t then Some first else None) ≡ Some a → q ≡ true
         by true r t z = refl
-        by false r t z = absurd (no_arbitration a z)
+        by false r t z = absurd (none_some a z)
 
 -- While an arbitration stands SEL is false.
 pub no_sel : (p : List Row) (a : Arbitration) → arbitration p ≡ Some a → (bus p).sel ≡ false
-no_sel [] a e = absurd (no_arbitration a e)
+no_sel [] a e = absurd (none_some a e)
 no_sel (row ∷ p) a e = go (bus (row ∷ p)).sel refl
   where
     first : Arbitration
@@ -218,10 +207,7 @@ no_sel (row ∷ p) a e = go (bus (row ∷ p)).sel refl
 
     go : (q : Bool) → (bus (row ∷ p)).sel ≡ q → (bus (row ∷ p)).sel ≡ false
     go false f = f
-    go true f = absurd (no_arbitration a (sym (none_by (arbitration p) (bus (row ∷ p)).sel f) ∙ e))
-
-own_after : (p : List Row) (row : Row) → drives (row ∷ p) row.dev ≡ driven_after row.kind (drives p row.dev)
-own_after p row = let e : (row.dev == row.dev) ≡ true = grind (arith) in ap (λ (q : Bool). if q then driven_after row.kind (drives p row.dev) else drives p row.dev) e
+    go true f = absurd (none_some a (sym (none_by (arbitration p) (bus (row ∷ p)).sel f) ∙ e))
 
 off_on : (a b : Bool) → a ≡ false → b ≡ true → rises a b ≡ true
 off_on a b e f = λ i. not (e i) && f i
@@ -237,17 +223,9 @@ raised_by p row lt off on = go (driven_after row.kind (drives p row.dev)).sel re
     go true e = off_on _ _ (was row.dev lt) e
     go false e =
         wrong (sym on ∙ bus_off (λ x. x.sel) (λ _ _. refl) refl (row ∷ p) (λ d l. elim (cases_eq d row.dev) [
-          | inl same ↦ ap (λ (n : ℕ). (drives (row ∷ p) n).sel) same ∙ ap (λ (x : LineSet). x.sel) (own_after p row) ∙ e
+          | inl same ↦ ap (λ (n : ℕ). (drives (row ∷ p) n).sel) same ∙ ap (λ (x : LineSet). x.sel) (drives_next p row) ∙ e
           | inr ne ↦ ap (λ (x : LineSet). x.sel) (drives-other row p d ne) ∙ was d l
         ]))
-
-call_sel : (p : List Row) (k : Call) → call p ≡ Some k → (bus p).sel ≡ true
-call_sel [] k e = absurd (no_call k e)
-call_sel (row ∷ p) k e = go (bus (row ∷ p)).sel refl
-  where
-    go : (q : Bool) → (bus (row ∷ p)).sel ≡ q → (bus (row ∷ p)).sel ≡ true
-    go true f = f
-    go false f = absurd (no_call k (sym (ap (λ (q : Bool). if not q then None else if rises (bus p).sel q then Some (record { caller = row.dev; at = row.time; calling = None }) else call_goes_on (call p) (change_of p row) row) f) ∙ e))
 
 -- The call that stands after a row: a new one as SEL rises, or that of before.
 pub data Called (p : List Row) (row : Row) (k : Call) : Type 0 where
@@ -258,19 +236,15 @@ called_is : (p : List Row) (row : Row) (k : Call) → call (row ∷ p) ≡ Some 
 called_is p row k e = go (bus p).sel refl (call p) refl
   where
     on : (bus (row ∷ p)).sel ≡ true
-    on = call_sel (row ∷ p) k e
+    on = sel_of_call (row ∷ p) k e
 
     after : (q : Bool) → (bus p).sel ≡ q → (o : Option Call) → call p ≡ o → (if rises q true then Some (record { caller = row.dev; at = row.time; calling = None }) else call_goes_on o (change_of p row) row) ≡ Some k
     after q f o g = sym (λ i. if not (on i) then None else if rises (f i) (on i) then Some (record { caller = row.dev; at = row.time; calling = None }) else call_goes_on (g i) (change_of p row) row) ∙ e
 
     go : (q : Bool) → (bus p).sel ≡ q → (o : Option Call) → call p ≡ o → Called p row k
     go false f o g = new f (sym (ap (λ (c : Call). c.caller) (same_Some _ k (after false f o g))))
-    go true f None g = absurd (no_call k (after true f None g))
+    go true f None g = absurd (none_some k (after true f None g))
     go true f (Some j) g = old j g (sym (ap (λ (c : Call). c.caller) (same_Some _ k (after true f (Some j) g))))
-
-no_fall : (a b : Bool) → b ≡ true → falls a b ≡ false
-no_fall true b e = ap not e
-no_fall false b e = refl
 
 low_fall : (a b : Bool) → a ≡ false → falls a b ≡ false
 low_fall a b e = ap (λ (q : Bool). q && not b) e
@@ -288,7 +262,7 @@ fits_contender s p row dv lt alone w h dev a l e on host = elim (arbitrates p ro
     k = run_state s p
 
     own : dev ≡ row.dev → (driven_after row.kind (drives p row.dev)).bsy ≡ true
-    own same = ap (λ (x : LineSet). x.bsy) (sym (own_after p row)) ∙ ap (λ (n : ℕ). (drives q n).bsy) (sym same) ∙ on
+    own same = ap (λ (x : LineSet). x.bsy) (sym (drives_next p row)) ∙ ap (λ (n : ℕ). (drives q n).bsy) (sym same) ∙ on
 
     at : dev ≡ row.dev → IsAimed s (run_state s q) row.dev → IsAimed s (run_state s q) dev
     at same g = subst (λ (n : ℕ). IsAimed s (run_state s q) n) (sym same) g
@@ -323,10 +297,10 @@ fits_caller s p row dv lt alone w rule h c e host = go (called_is p row c e)
     k = run_state s p
 
     on : (bus q).sel ≡ true
-    on = call_sel q c e
+    on = sel_of_call q c e
 
     m : Moves s p row
-    m = moves s p row dv lt alone w (no_fall (bus p).sel (bus q).sel on)
+    m = moves s p row dv lt alone w (falls_true (bus p).sel (bus q).sel on)
 
     low : (a b : Bool) → a ≡ true → (rises a b && not (bus p).sel) ≡ false
     low a b z = λ i. rises (z i) b && not (bus p).sel
@@ -342,7 +316,7 @@ fits_caller s p row dv lt alone w rule h c e host = go (called_is p row c e)
         subst (λ (n : ℕ). IsAimed s (run_state s q) n) (sym same)
         (keeps_aim s k (run_state s q) row.dev m.sent (ap (λ (v : List (Option Item)). aim_of v row.dev) (m.stays (low (drives p row.dev).bsy _ won.1))) own)
     go (old j f same) =
-        let sel : (bus p).sel ≡ true = call_sel p j f in
+        let sel : (bus p).sel ≡ true = sel_of_call p j f in
         subst (λ (n : ℕ). IsAimed s (run_state s q) n) (sym same)
         (keeps_aim s k (run_state s q) j.caller m.sent
         (ap (λ (v : List (Option Item)). aim_of v j.caller) (m.stays ((λ i. rises (drives p row.dev).bsy (driven_after row.kind (drives p row.dev)).bsy && not (sel i)) ∙ and_no _)))
@@ -359,7 +333,7 @@ aims_apart s p row dv lt alone none calm link rule h =
 
 -- Where no device drives BSY, and none SEL, nothing is asked.
 pub aims_quiet : (s : ScenarioValue) (p : List Row) → ((d : ℕ) → d < 8 → (drives p d).bsy ≡ false) → (bus p).sel ≡ false → AimsFit s p
-aims_quiet s p off sel = record { contends = λ dev a l e on host. wrong (sym on ∙ off dev l); calls = λ c e host. wrong (sym (call_sel p c e) ∙ sel) }
+aims_quiet s p off sel = record { contends = λ dev a l e on host. wrong (sym on ∙ off dev l); calls = λ c e host. wrong (sym (sel_of_call p c e) ∙ sel) }
 
 -- Nor after a connection, in which no arbitration stands and no call.
 pub aims_linked : (s : ScenarioValue) (p : List Row) (row : Row) → row.dev < 8 → arbitration p ≡ None → call p ≡ None → (bus p).bsy ≡ true → RisesWell p row → AimsFit s (row ∷ p)
@@ -367,10 +341,10 @@ aims_linked s p row lt none uncalled on rule = record { contends = λ dev a l e 
   where
     contends : {A : Type 0} (a : Arbitration) → arbitration (row ∷ p) ≡ Some a → A
     contends a e = elim (arbitrates p row a e) [
-      | inl x ↦ absurd (no_arbitration x.0 (sym none ∙ x.1))
+      | inl x ↦ absurd (none_some x.0 (sym none ∙ x.1))
       | inr f ↦ wrong (sym on ∙ (free_lines (bus p) f).0)
     ]
 
     calls : {A : Type 0} (c : Call) → Called p row c → call (row ∷ p) ≡ Some c → A
-    calls c (new off same) e = wrong' (ap (λ (o : Option Arbitration). is_some o) (sym none) ∙ (rule.won (raised_by p row lt off (call_sel (row ∷ p) c e))).0)
-    calls c (old j f same) e = absurd (no_call j (sym uncalled ∙ f))
+    calls c (new off same) e = wrong' (ap (λ (o : Option Arbitration). is_some o) (sym none) ∙ (rule.won (raised_by p row lt off (sel_of_call (row ∷ p) c e))).0)
+    calls c (old j f same) e = absurd (none_some j (sym uncalled ∙ f))

@@ -1,5 +1,5 @@
 -- A command runs, fails, ends or is lost in the plain disk array: that it may, and where its process stands then (7.3, 7.5).
-use Rattle.std.proofs.Common.{ℕ, ◌≡◌, Bool, true, false, not, ◌&&◌, ◌||◌, ◌==◌, ◌∙◌, List, [], ◌∷◌, Option, Some, None, refl, sym, ap, true≢false}
+use Rattle.std.proofs.Common.{ℕ, ◌≡◌, Bool, true, false, not, ◌&&◌, ◌||◌, ◌==◌, ◌∙◌, List, [], ◌∷◌, Option, Some, None, refl, sym, ap}
 use Rattle.std.specs.Prelude.{if◌then◌else◌, is_some}
 use Rattle.std.proofs.lemmas.Option.{same_Some}
 use Rattle.bus_base.specs.declared.ProcId.{ProcId}
@@ -21,18 +21,10 @@ use Rattle.disk_array.proofs.SoundArrays.{step_sound}
 use Rattle.bus_books.proofs.Lookups.{self_id}
 use Rattle.trace_laws.specs.Places.{fresh, Waits, Runs, OnUnits, OnGuests, IsAway, IsAtRest, MayRun, IsAnswered}
 use Rattle.trace_laws.proofs.EachProcess.{each_settled, running_id}
+use Rattle.trace_laws.proofs.Impossible.{none_some, some_none}
 use Rattle.trace_laws.proofs.OtherProcesses.{reply_at, executed, away_rests}
 use Rattle.trace_laws.proofs.ArrivingProcesses.{failed_reply}
 use Rattle.trace_laws.proofs.SeatedProcesses.{running_own}
-
-wrong : {A : Type 0} → true ≡ false → A
-wrong e = absurd (true≢false e)
-
-no_running : (x : RunningProcess) → (let a : Option RunningProcess = None in a) ≡ Some x → ⊥
-no_running x e = cc
-
-no_seat : (x : Seat) → Some x ≡ (let a : Option Seat = None in a) → ⊥
-no_seat x e = cc
 
 -- ---- a reply is given at a seat
 
@@ -46,7 +38,7 @@ record HasIt (guests : List RunningProcess) (current : Option RunningProcess) (i
   reply_is : found.reply ≡ Some reply
 
 guest_replied : (guests : List RunningProcess) (id : ProcId) (reply : Reply) (g : RunningProcess) → guest_at guests id ≡ Some g → guest_at (guests_with_reply guests id reply) id ≡ Some (record g { reply = Some reply })
-guest_replied [] id reply g e = absurd (no_running g e)
+guest_replied [] id reply g e = absurd (none_some g e)
 guest_replied (h ∷ guests) id reply g e = go (same_id h.process.id id) refl e (λ k. guest_replied guests id reply g k)
   where
     go : (x : Bool) → same_id h.process.id id ≡ x → (if x then Some h else guest_at guests id) ≡ Some g → (guest_at guests id ≡ Some g → guest_at (guests_with_reply guests id reply) id ≡ Some (record g { reply = Some reply }))
@@ -71,11 +63,11 @@ abbrev next_current : Bool → ProcId → Reply → Option UnitState → Option 
 next_current held id reply o = current_of (unit_mapped (unit_with_choice held) (unit_mapped (unit_with_reply id reply) o))
 
 unit_replied : (held : Bool) (o : Option UnitState) (id : ProcId) (reply : Reply) (r : RunningProcess) → running_if (current_of o) id ≡ Some r → running_if (next_current held id reply o) id ≡ Some (record r { reply = Some reply })
-unit_replied held None id reply r e = absurd (no_running r e)
+unit_replied held None id reply r e = absurd (none_some r e)
 unit_replied held (Some u) id reply r e = go u.current refl e
   where
     by : (q : RunningProcess) → u.current ≡ Some q → (x : Bool) → same_id q.process.id id ≡ x → (if x then Some q else None) ≡ Some r → running_if (next_current held id reply (Some u)) id ≡ Some (record r { reply = Some reply })
-    by q z false w k = absurd (no_running r k)
+    by q z false w k = absurd (none_some r k)
     by q z true w k =
         ap (λ (c : Option RunningProcess). running_if c id) (stay ∙ after)
         ∙ (λ i. if w i then Some (record q { reply = Some reply }) else None)
@@ -94,7 +86,7 @@ unit_replied held (Some u) id reply r e = go u.current refl e
         stay = ap (λ (c : Option RunningProcess). (chooses (has_no_current c && not held)).current) after
 
     go : (c : Option RunningProcess) → u.current ≡ c → running_if c id ≡ Some r → running_if (next_current held id reply (Some u)) id ≡ Some (record r { reply = Some reply })
-    go None z k = absurd (no_running r k)
+    go None z k = absurd (none_some r k)
     go (Some q) z k = by q z (same_id q.process.id id) refl k
 
 replied_has : (guests : List RunningProcess) (held : Bool) (o : Option UnitState) (id : ProcId) (reply : Reply) (r : RunningProcess) → first (guest_at guests id) (running_if (current_of o) id) ≡ Some r → HasIt (guests_with_reply guests id reply) (next_current held id reply o) id reply
@@ -128,7 +120,7 @@ context_same a p = go (unit_state_at a.units p.target p.unit)
 
 if_seat : (x : Bool) (b c : Seat) → Some b ≡ settled_seat_if (if x then Some c else None) → b ≡ settled_seat c
 if_seat true b c e = same_Some b (settled_seat c) e
-if_seat false b c e = absurd (no_seat b e)
+if_seat false b c e = absurd (some_none b e)
 
 pub run_answers : (s : ScenarioValue) (a b : Array) (p : Process) → HasSeats s → IsSound s a → process_of s p.id ≡ Some p → MayRun a p → Steps.step s (events.Run p.id) a ≡ Some b → IsAnswered b p.id
 run_answers s a b p seats sound e h f = answered

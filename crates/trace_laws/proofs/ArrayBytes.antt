@@ -2,6 +2,7 @@
 use Rattle.std.proofs.Common.{ℕ, ◌≡◌, ◌<◌, Bool, true, false, not, ◌&&◌, ◌||◌, List, [], ◌∷◌, ◌++◌, Option, Some, None, subst, arith}
 use Rattle.std.specs.Prelude.{if◌then◌else◌, is_some, is_none, nat_lt, ◌==◌}
 use Rattle.std.specs.List.{AllByRecursion}
+use Rattle.std.proofs.lemmas.Option.{same_Some}
 use Rattle.bus_base.specs.declared.AbortKind.{AbortKind}
 use Rattle.bus_base.specs.declared.AbortKind.TheVariants as aborts
 use Rattle.bus_base.specs.declared.Event.{Event}
@@ -23,7 +24,9 @@ use Rattle.disk_array.specs.Processes.{Process, process_of, same_id}
 use Rattle.disk_array.specs.SoundArray.{IsOwnRunning, AllOwnUnits, AllOwnGuests}
 use Rattle.disk_array.specs.Steps
 use Rattle.disk_array.specs.Units.{RunningProcess, UnitState, Nexus, Array, same_nexus, sense_of_nexus, senses_without, nexuses_without, is_held, unit_state_at, with_unit, guest_at, without_guest, with_current, has_no_current, units_after_choice, settled_array, starting_array, starting_units, nexus_of}
+use Rattle.scsi_device.proofs.Finds.{all_more}
 use Rattle.trace_laws.proofs.ByteExecutions.{HoldsBytes, block_small, IsByteSense, HasByteReply, check_small, HasByteContext, gives_bytes}
+use Rattle.trace_laws.proofs.Impossible.{none_some}
 
 -- ---- what is kept
 
@@ -65,10 +68,6 @@ if_so false a h = tt
 
 -- ---- lists
 
-more : {X : Type 0} (P : X → Type 0) (xs : List X) (x : X) → AllByRecursion P xs → P x → AllByRecursion P (xs ++ x ∷ [])
-more P [] x a b = (b, tt)
-more P (y ∷ xs) x a b = (a.0, more P xs x a.1 b)
-
 senses_left : (entries : List (Nexus × Sense)) (n : Nexus) → AllByRecursion IsByteEntry entries → AllByRecursion IsByteEntry (senses_without entries n)
 senses_left [] n a = tt
 senses_left (e ∷ entries) n a = go (same_nexus e.0 n) (senses_left entries n a.1)
@@ -85,18 +84,12 @@ senses_kept drops (e ∷ entries) a = go (drops e.0) (senses_kept drops entries 
     go true k = k
     go false k = (a.0, k)
 
-no_sense : (x : Sense) → (let o : Option Sense = None in o) ≡ Some x → ⊥
-no_sense x e = absurd cc
-
-same_sense : (a b : Sense) → (let o : Option Sense = Some a in o) ≡ Some b → a ≡ b
-same_sense a b e = cc
-
 sense_found : (entries : List (Nexus × Sense)) (n : Nexus) (x : Sense) → AllByRecursion IsByteEntry entries → sense_of_nexus entries n ≡ Some x → IsByteSense x
-sense_found [] n x a e = absurd (no_sense x e)
+sense_found [] n x a e = absurd (none_some x e)
 sense_found (y ∷ entries) n x a e = go (same_nexus y.0 n) (λ z. sense_found entries n x a.1 z) e
   where
     go : (q : Bool) → (sense_of_nexus entries n ≡ Some x → IsByteSense x) → (if q then Some y.1 else sense_of_nexus entries n) ≡ Some x → IsByteSense x
-    go true k z = subst IsByteSense (same_sense y.1 x z) a.0
+    go true k z = subst IsByteSense (same_Some y.1 x z) a.0
     go false k z = k z
 
 unit_put : (units : List UnitState) (new : UnitState) → AllByRecursion IsByteUnit units → IsByteUnit new → AllByRecursion IsByteUnit (with_unit units new)
@@ -191,7 +184,7 @@ settles a h = record { units = choices a.holds a.units h.units; guests = h.guest
 -- ---- a command arrives
 
 guests_more : (a : Array) (p : Process) (r : Option Reply) → HasBytes a → HasReplyIf r → HasBytes (Steps.with_guest a p r)
-guests_more a p r h b = record { units = h.units; guests = more IsByteRunning a.guests (record { process = p; reply = r }) h.guests b; senses = h.senses; attentions = h.attentions; replies = h.replies }
+guests_more a p r h b = record { units = h.units; guests = all_more IsByteRunning a.guests (record { process = p; reply = r }) h.guests b; senses = h.senses; attentions = h.attentions; replies = h.replies }
 
 units_with : (a : Array) (new : UnitState) → HasBytes a → IsByteUnit new → HasBytes (record a { units = with_unit a.units new })
 units_with a new h b = record { units = unit_put a.units new h.units b; guests = h.guests; senses = h.senses; attentions = h.attentions; replies = h.replies }

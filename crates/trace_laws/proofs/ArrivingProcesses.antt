@@ -1,6 +1,6 @@
 -- A command arrives at the plain disk array, or is refused at a full queue, or fails before it has arrived: where its process stands
 -- then (7.8).
-use Rattle.std.proofs.Common.{inl, inr, ℕ, ◌≡◌, ◌≤◌, Bool, true, false, not, ◌&&◌, ◌||◌, ◌==◌, ◌∙◌, List, [], ◌∷◌, ◌++◌, Option, Some, None, refl, sym, subst, arith, true≢false}
+use Rattle.std.proofs.Common.{inl, inr, ℕ, ◌≡◌, ◌≤◌, Bool, true, false, not, ◌&&◌, ◌||◌, ◌==◌, ◌∙◌, List, [], ◌∷◌, ◌++◌, Option, Some, None, refl, sym, subst, arith}
 use Rattle.std.specs.Prelude.{if◌then◌else◌, is_some, nat_lt}
 use Rattle.std.specs.List.{list_any}
 use Rattle.std.proofs.lemmas.Bool.Decides.{nat_tests}
@@ -22,20 +22,9 @@ use Rattle.disk_array.specs.Steps.{process_count, running_if, running_in, runnin
 use Rattle.bus_books.proofs.Lookups.{self_id, number_is, first_is, second_is}
 use Rattle.trace_laws.specs.Places.{fresh, Waits, Runs, OnUnits, OnGuests, Each, IsAway, IsUnanswered, IsAtRest, IsUntouched, IsOutside, MayRun, IsAnswered, AreWithin}
 use Rattle.trace_laws.proofs.EachProcess.{append_waits, with_units, unit_has, chosen, each_settled}
+use Rattle.trace_laws.proofs.Impossible.{none_some, some_none}
 use Rattle.trace_laws.proofs.OtherProcesses.{away_units}
 use Rattle.trace_laws.proofs.QueueDepths.{unit_within}
-
-wrong : {A : Type 0} → true ≡ false → A
-wrong e = absurd (true≢false e)
-
-no_unit : (u : UnitState) → (let a : Option UnitState = None in a) ≡ Some u → ⊥
-no_unit u e = absurd cc
-
-no_array : (x : Array) → (let y : Option Array = None in y) ≡ Some x → ⊥
-no_array x z = absurd cc
-
-some_array : (x : Array) → Some x ≡ (let y : Option Array = None in y) → ⊥
-some_array x z = absurd cc
 
 -- ---- who is away is not found
 
@@ -70,9 +59,6 @@ guest_new (g ∷ guests) r h = (λ i. if h.0 i then Some g else guest_at (guests
 
 guest_runs : (a : Array) (r : RunningProcess) → OnGuests (IsAway r.process.id) a.guests → running_process (settled_array (Steps.with_guest a r.process r.reply)) r.process.id ≡ Some r
 guest_runs a r h = λ i. if is_some (guest_new a.guests r h i) then guest_new a.guests r h i else running_in (settled_array (Steps.with_guest a r.process r.reply)).units r.process.id
-
-some_none : (u : UnitState) → Some u ≡ (let a : Option UnitState = None in a) → ⊥
-some_none u e = absurd cc
 
 chosen_at : (holds : List Nexus) (u : UnitState) (t n : ℕ) → ((unit_after_choice holds u).target == t && (unit_after_choice holds u).unit == n) ≡ (u.target == t && u.unit == n)
 chosen_at holds u t n = go (has_no_current u.current && not (is_held holds u.target u.unit)) (choice u.pick u.waiting)
@@ -156,7 +142,7 @@ made_current holds u p none idle free =
     ∙ (λ i. (with_current new (chosen_alone u.pick p i)).current)
 
 running_new : (holds : List Nexus) (units : List UnitState) (new u : UnitState) (id : ProcId) (r : RunningProcess) → OnUnits (IsAway id) units → unit_state_at units new.target new.unit ≡ Some u → running_if (unit_after_choice holds new).current id ≡ Some r → running_in (units_after_choice holds (with_unit units new)) id ≡ Some r
-running_new holds [] new u id r h e f = absurd (no_unit u e)
+running_new holds [] new u id r h e f = absurd (none_some u e)
 running_new holds (v ∷ units) new u id r h e f = go (v.target == new.target && v.unit == new.unit) e (λ k. running_new holds units new u id r h.1 k f)
   where
     go : (x : Bool) → (if x then Some v else unit_state_at units new.target new.unit) ≡ Some u → (unit_state_at units new.target new.unit ≡ Some u → running_in (units_after_choice holds (with_unit units new)) id ≡ Some r)
@@ -171,7 +157,7 @@ pub record IsFoundAt (u : UnitState) (t n : ℕ) : Type 0 where
   pub unit_is : u.unit ≡ n
 
 pub found_at : (units : List UnitState) (t n : ℕ) (u : UnitState) → unit_state_at units t n ≡ Some u → IsFoundAt u t n
-found_at [] t n u e = absurd (no_unit u e)
+found_at [] t n u e = absurd (none_some u e)
 found_at (v ∷ units) t n u e = go (v.target == t && v.unit == n) refl e (λ k. found_at units t n u k)
   where
     go : (x : Bool) → (v.target == t && v.unit == n) ≡ x → (if x then Some v else unit_state_at units t n) ≡ Some u → (unit_state_at units t n ≡ Some u → IsFoundAt u t n) → IsFoundAt u t n
@@ -212,7 +198,7 @@ arrives s a b p e f = go (unit_state_at a.units p.target p.unit) refl ((λ i. St
       where
         room : (y : Bool) → nat_lt (process_count u) u.depth ≡ y → is_request_sense (command_of p.cdb) ≡ false → Steps.settled_array_if (if y then Some (queued a p u) else None) ≡ Some b → Arrives a p b
         room true w x l = in_queue u z x w (is_it (queued a p u) l)
-        room false w x l = absurd (no_array b l)
+        room false w x l = absurd (none_some b l)
 
         senses : (x : Bool) → is_request_sense (command_of p.cdb) ≡ x → Steps.settled_array_if (if x then Some (Steps.with_guest a p None) else Steps.queue_step a p u) ≡ Some b → Arrives a p b
         senses true x l = as_guest (inr x) (is_it (Steps.with_guest a p None) l)
@@ -226,18 +212,18 @@ pub refuses : (s : ScenarioValue) (a : Array) (p : Process) → AreWithin a.unit
 refuses s a p within e f = (λ i. Steps.settled_array_if (Steps.refuse_step a (e i))) ∙ go (unit_state_at a.units p.target p.unit) refl ((λ i. Steps.settled_array_if (Steps.accept_step a (sym e i))) ∙ f)
   where
     go : (u : Option UnitState) → unit_state_at a.units p.target p.unit ≡ u → Steps.settled_array_if (Steps.accept_step_at a p u) ≡ None → Steps.settled_array_if (Steps.refuse_step_at a p u) ≡ Some (refused_array a p)
-    go None z k = absurd (some_array (settled_array (Steps.with_guest a p None)) k)
+    go None z k = absurd (some_none (settled_array (Steps.with_guest a p None)) k)
     go (Some u) z k = senses (is_request_sense (command_of p.cdb)) k
       where
         room : (y : Bool) → nat_lt (process_count u) u.depth ≡ y → Steps.settled_array_if (if y then Some (queued a p u) else None) ≡ None → (process_count u == u.depth) ≡ true
-        room true w l = absurd (some_array (settled_array (queued a p u)) l)
+        room true w l = absurd (some_none (settled_array (queued a p u)) l)
         room false w l =
             let most : process_count u ≤ u.depth = unit_within a.units p.target p.unit u z within in
             grind (arith, nat_tests)
 
         senses : (x : Bool) → Steps.settled_array_if (if x then Some (Steps.with_guest a p None) else Steps.queue_step a p u) ≡ None
             → Steps.settled_array_if (if not x && process_count u == u.depth then Some (Steps.with_listed_reply (Steps.with_guest a p (Some queue_full)) p.id queue_full) else None) ≡ Some (refused_array a p)
-        senses true l = absurd (some_array (settled_array (Steps.with_guest a p None)) l)
+        senses true l = absurd (some_none (settled_array (Steps.with_guest a p None)) l)
         senses false l = λ i. Steps.settled_array_if (if room (nat_lt (process_count u) u.depth) refl l i then Some (Steps.with_listed_reply (Steps.with_guest a p (Some queue_full)) p.id queue_full) else None)
 
 abbrev pub failed_reply : ℕ → Reply

@@ -33,14 +33,9 @@ use Rattle.trace_laws.specs.Commands.{CommandFacts}
 use Rattle.trace_laws.specs.Instructed.{InstructedFacts}
 use Rattle.trace_laws.proofs.ConnectionRows.{begins_now, goes_now, row_kind}
 use Rattle.trace_laws.proofs.FirstRows.{under_rst}
+use Rattle.trace_laws.proofs.Impossible.{wrong, none_some}
 use Rattle.trace_laws.proofs.Joint.{Stood, link_calm}
 use Rattle.trace_laws.proofs.RowAttendance.{shows_in}
-
-wrong : {A : Type 0} → true ≡ false → A
-wrong e = absurd cc
-
-none_some : {A : Type 0} (n : Connection) → (let o : Option Connection = None in o) ≡ Some n → A
-none_some n e = absurd cc
 
 -- A connection in which RST was true does not outlast it.
 pub not_after_reset : (s : ScenarioValue) (p : List Row) (row : Row) (n : Connection) → Obeys s → IsPrompt s (row ∷ p) → Stood s p → connection p ≡ Some n → (bus p).rst ≡ true → (bus (row ∷ p)).rst ≡ false → connection (row ∷ p) ≡ None
@@ -76,7 +71,7 @@ after_reset s p row n o prompt was con on off =
 
 -- ---- a process ends
 
-none_array : {A : Type 0} → (let o : Option Array = None in is_some o) ≡ true → A
+pub none_array : {A : Type 0} → (let o : Option Array = None in is_some o) ≡ true → A
 none_array e = absurd cc
 
 -- The plain disk array permits its end only with the status of its reply.

@@ -32,29 +32,18 @@ use Rattle.trace_laws.specs.AttendanceAsked.{AttendanceAsked, BeginsUnanswered, 
 use Rattle.trace_laws.specs.Places.{AnsweredOpen, Closes, IsAnswered, IsAtRest, IsAway, IsTaken, IsUnanswered, IsUntouched, MayRun, OnGuests, OnUnits, PlaceFacts, PlacedAsked, PlacedBefore, PlacedIf, PlacedIn, RunsOpen, completes, disconnects, fresh}
 use Rattle.trace_laws.specs.Tells.{FailsAsLeft, FailsIn, IsLeaving}
 use Rattle.trace_laws.proofs.FirstRows.{begun_first}
+use Rattle.trace_laws.proofs.Impossible.{none_some}
 use Rattle.trace_laws.proofs.OtherProcesses.{untouched_rests}
 use Rattle.trace_laws.proofs.PlaceRows.{allowed_row}
-
-wrong : {A : Type 0} → true ≡ false → A
-wrong e = absurd cc
-
-wrong' : {A : Type 0} → false ≡ true → A
-wrong' e = absurd cc
-
-no_reply : {A : Type 0} (reply : Reply) → (let o : Option Reply = None in o) ≡ Some reply → A
-no_reply reply e = absurd cc
-
-no_running : {A : Type 0} (r : RunningProcess) → (let o : Option RunningProcess = None in o) ≡ Some r → A
-no_running r e = absurd cc
 
 -- ---- the reply that a process has is the one that was given
 
 away_guest : (guests : List RunningProcess) (id : ProcId) (r : RunningProcess) → OnGuests (IsAway id) guests → guest_at guests id ≡ Some r → ⊥
-away_guest [] id r h e = no_running r e
+away_guest [] id r h e = none_some r e
 away_guest (g ∷ guests) id r h e = away_guest guests id r h.1 (sym (ap (λ (q : Bool). if q then Some g else guest_at guests id) h.0) ∙ e)
 
 unanswered : (given : Option Reply) (over : Bool) (units : List UnitState) (id : ProcId) (r : RunningProcess) → OnUnits (IsUnanswered given over id) units → running_in units id ≡ Some r → r.reply ≡ None
-unanswered given over [] id r h e = no_running r e
+unanswered given over [] id r h e = none_some r e
 unanswered given over (u ∷ units) id r h e = go (λ z. unanswered given over units id r h.1 z) u.current h.0.1 e
   where
     by : (running_in units id ≡ Some r → r.reply ≡ None) → (x : RunningProcess) → IsUnanswered given over id x → (q : Bool) → same_id x.process.id id ≡ q → (if is_some (if q then Some x else None) then (if q then Some x else None) else running_in units id) ≡ Some r → r.reply ≡ None
@@ -69,11 +58,11 @@ rests_given : (a : Array) (id : ProcId) → IsAtRest a id → HasReplyGiven a id
 rests_given a id h r reply e f = go (guest_at a.guests id) refl e
   where
     go : (o : Option RunningProcess) → guest_at a.guests id ≡ o → (if is_some o then o else running_in a.units id) ≡ Some r → reply_in a.replies id ≡ Some reply
-    go None g z = no_reply reply (sym (unanswered (reply_in a.replies id) (has_ended a id) a.units id r h.units z) ∙ f)
+    go None g z = none_some reply (sym (unanswered (reply_in a.replies id) (has_ended a id) a.units id r h.units z) ∙ f)
     go (Some x) g z = absurd (away_guest a.guests id x h.guests g)
 
 runs_given : (a : Array) (p : Process) → RunsOpen a p → HasReplyGiven a p.id
-runs_given a p h r reply e f = no_reply reply (ap (λ (y : RunningProcess). y.reply) (same_Some (fresh p) r (sym h.runs.running_is ∙ e)) ∙ f)
+runs_given a p h r reply e f = none_some reply (ap (λ (y : RunningProcess). y.reply) (same_Some (fresh p) r (sym h.runs.running_is ∙ e)) ∙ f)
 
 answered_given : (a : Array) (id : ProcId) → AnsweredOpen a id → HasReplyGiven a id
 answered_given a id h r reply e f =

@@ -3,7 +3,6 @@
 use Rattle.std.proofs.Common.{inl, inr, ℕ, ◌≡◌, ◌⊎◌, ◌<◌, Bool, true, false, not, ◌∙◌, List, [], ◌∷◌, Option, Some, None, refl, sym, ap, subst}
 use Rattle.std.specs.Prelude.{if◌then◌else◌, is_some}
 use Rattle.std.proofs.lemmas.Option.{same_Some}
-use Rattle.bus_base.specs.declared.ProcId.{ProcId}
 use Rattle.bus_trace.proofs.Sets.{same_set-eq}
 use Rattle.bus_trace.specs.LineSet.{LineSet, union}
 use Rattle.bus_trace.specs.declared.Row.{Row}
@@ -20,7 +19,6 @@ use Rattle.bus_rules.specs.Rules.{broken_rule}
 use Rattle.scenario.specs.Value.{ScenarioValue}
 use Rattle.scenario.specs.Writing.{Obeys}
 use Rattle.disk_array.specs.ArrayHistory.{reply_in}
-use Rattle.disk_array.specs.Execution.{Reply}
 use Rattle.disk_array.specs.Units.{Array}
 use Rattle.bus_story.specs.BusState.{RowReading, row_reading}
 use Rattle.bus_story.specs.CarriedBytes.{CarriedBytes, carried_of, is_status_phase}
@@ -52,31 +50,16 @@ use Rattle.trace_laws.proofs.Called.{IsCalled, IsDueCall}
 use Rattle.trace_laws.proofs.ConnectionRows.{ConnectionRow, RowKindOf, begins_now, connection_row, goes_now, row_kind}
 use Rattle.trace_laws.proofs.Crossings.{Goes, RowFacts, stays, ends_here}
 use Rattle.trace_laws.proofs.FirstRows.{made_is, quiet_sel, under_rst}
-use Rattle.trace_laws.proofs.InstructedTurns.{command_is, known_turned}
+use Rattle.trace_laws.proofs.Impossible.{wrong, wrong', none_some}
+use Rattle.trace_laws.proofs.InstructedTurns.{known_turned}
 use Rattle.trace_laws.proofs.Joint.{NextStood, Stood, link_connection}
 use Rattle.trace_laws.proofs.KnownLeavings.{known_after}
-use Rattle.trace_laws.proofs.OpeningRows.{out_no_status, status_is}
+use Rattle.trace_laws.proofs.OpeningRows.{status_is}
+use Rattle.trace_laws.proofs.PhaseLines.{command_is, out_no_status}
+use Rattle.trace_laws.proofs.RowAttendance.{no_item}
 use Rattle.trace_laws.proofs.ShownEvents.{row_shows}
 use Rattle.trace_laws.proofs.UnderRst.{quiet_at_end}
 use Rattle.trace_laws.proofs.UnknownTurns.{fails_first, turn_gives}
-
-wrong : {A : Type 0} → true ≡ false → A
-wrong e = absurd cc
-
-wrong' : {A : Type 0} → false ≡ true → A
-wrong' e = absurd cc
-
-none_some : {A : Type 0} (n : Connection) → (let o : Option Connection = None in o) ≡ Some n → A
-none_some n e = absurd cc
-
-no_call : {A : Type 0} (k : Call) → (let o : Option Call = None in o) ≡ Some k → A
-no_call k e = absurd cc
-
-no_reply : {A : Type 0} (reply : Reply) → (let o : Option Reply = None in o) ≡ Some reply → A
-no_reply reply e = absurd cc
-
-no_item : {A : Type 0} (id : ProcId) (m : ℕ) → Some (process id) ≡ Some (abort m) → A
-no_item id m e = absurd cc
 
 -- ---- as a selection begins a connection for an abort
 
@@ -196,7 +179,7 @@ attended_next s p row h = record { aborts = λ n e off. aborts n e off (kind n e
 
     -- replies
     answers_first : (n : Connection) → connection p ≡ None → connection q ≡ Some n → (bus q).rst ≡ false → n.reselected ≡ false → AnswersBadly s j
-    answers_first n alone e off re id served reply given = no_reply reply (sym (h.asked.begins n id alone e off re served) ∙ given)
+    answers_first n alone e off re id served reply given = none_some reply (sym (h.asked.begins n id alone e off re served) ∙ given)
 
     -- replies: a row of the connection
     answers_on : (n : Connection) → connection p ≡ Some n → (bus p).rst ≡ false → connection q ≡ Some n → (bus q).rst ≡ false → n.reselected ≡ false → (instructions s q).known ≡ false → AnswersBadly s j

@@ -20,6 +20,7 @@ use Rattle.bus_dialogue.specs.NextPhase.{Serving, phase_of, phase_lines, phase_l
 use Rattle.bus_dialogue.specs.PhaseBytes.{lines_by}
 use Rattle.bus_due.specs.RunSteps.{run_state}
 use Rattle.bus_due.specs.Sights.{serving_at}
+use Rattle.bus_books.proofs.Lookups.{first_is}
 use Rattle.bus_laws.specs.Ends.{EndLines, initiator_side, target_side, connected_bus, Linked, ends_selected}
 use Rattle.bus_laws.specs.Rows.{row_of_lines, row_of_fault, change_to}
 use Rattle.bus_laws.proofs.Rows.{fault_change}
@@ -27,11 +28,13 @@ use Rattle.link_laws.specs.Phases.{ends}
 use Rattle.link_laws.proofs.EndDues.{offering_with}
 use Rattle.link_laws.proofs.Moves.{initiator_moves, target_moves, phase_same, same_self, no_rise}
 use Rattle.trace_laws.specs.Attention.{MessageRow, keeps, asks, answers, Attention}
-use Rattle.trace_laws.proofs.Driven.{no_third, wrong, wrong'}
+use Rattle.trace_laws.proofs.Driven.{no_third}
+use Rattle.trace_laws.proofs.Impossible.{none_some, wrong, wrong'}
 use Rattle.trace_laws.proofs.InPhase.{follows_in_message}
 use Rattle.trace_laws.proofs.Kept.{turn}
 use Rattle.trace_laws.proofs.LinkRows as rows
 use Rattle.trace_laws.proofs.LinkRows.{LinkRow, is_unasked}
+use Rattle.trace_laws.proofs.Tests.{none_both}
 use Rattle.trace_laws.proofs.Turns.{freed_connection}
 
 -- Outside MESSAGE OUT and the phases to the initiator ATN is false.
@@ -56,10 +59,6 @@ idle p row n c low e m w = record {
   turns = λ ep b. (ap (λ (x : Change). x.after.atn) e ∙ w.0 ∙ ap (λ (x : Change). x.before.atn) (sym e), ap (λ (x : Change). x.before.req) e ∙ w.1);
   low = low;
 }
-
-none_both : (q : Bool) → (let o : Option ℕ = None in if q then o else o) ≡ None
-none_both true = refl
-none_both false = refl
 
 -- ---- rows of the initiator, and of the target, in a phase
 
@@ -94,10 +93,6 @@ first_asked : (p : List Row) (t : ℕ) (n : Connection) (bsy atn msg cd io : Boo
 first_asked p t n bsy atn msg cd true y low h un = of_target p t n (ends bsy false atn 0 msg cd true false y) true y low h (λ m. asks refl refl (inl un) refl)
 first_asked p t n bsy atn msg cd false y low h un = of_target p t n (ends bsy false atn 0 msg cd false false y) true y low h (λ m. to_target msg cd m)
 
-and_first : (q r : Bool) → (q && r) ≡ true → q ≡ true
-and_first true r e = refl
-and_first false r e = wrong' e
-
 not_true : (a q : Bool) → (a || not q) ≡ true → a ≡ false → q ≡ false
 not_true a true e f = wrong' (sym (λ i. f i || false) ∙ e)
 not_true a false e f = refl
@@ -105,7 +100,7 @@ not_true a false e f = refl
 next_asked : (s : ScenarioValue) (p : List Row) (t : ℕ) (n : Connection) (atn msg cd io : Bool) (y : ℕ) → IsLow p → Linked p n (ends false false atn 0 msg cd io false y) → is_unasked p ≡ false → (offering_with s p n true (ends false false atn 0 msg cd io false y)).follows ≡ true → On p n (change_of p (row_of_lines t n.target (target_side (ends false false atn 0 msg cd io true y))))
 next_asked s p t n atn msg cd true y low h un follows =
     of_target p t n (ends false false atn 0 msg cd true false y) true y low h
-    (λ m. asks refl refl (inr (not_true (is_unasked p) atn (and_first _ _ (sym (follows_in_message s p n false false atn 0 msg cd false y m) ∙ follows)) un)) refl)
+    (λ m. asks refl refl (inr (not_true (is_unasked p) atn (first_is _ _ (sym (follows_in_message s p n false false atn 0 msg cd false y m) ∙ follows)) un)) refl)
 next_asked s p t n atn msg cd false y low h un follows = of_target p t n (ends false false atn 0 msg cd false false y) true y low h (λ m. to_target msg cd m)
 
 -- ---- a phase is left
@@ -123,9 +118,6 @@ lines_are v false l atn x phases.MessageOut = (0, refl)
 lines_are v false l atn x phases.DataIn = (0, refl)
 lines_are v false l atn x phases.Status = (0, refl)
 lines_are v false l atn x phases.MessageIn = (0, refl)
-
-none_some : (n : Connection) → (let a : Option Connection = None in a) ≡ Some n → ⊥
-none_some n e = absurd cc
 
 leaves_for : (p : List Row) (t : ℕ) (n : Connection) (atn msg cd io : Bool) (x y : ℕ) (v : Serving) (l : Leaving) (o : Option Phase) → IsLow p → Linked p n (ends false false atn x msg cd io false y) → connection (row_of_lines t n.target (lines_by v io l o) ∷ p) ≡ Some n → On p n (change_of p (row_of_lines t n.target (lines_by v io l o)))
 leaves_for p t n atn msg cd io x y v l None low h con = absurd (none_some n (sym (freed_connection p t n (ends false false atn x msg cd io false y) refl h) ∙ con))

@@ -16,9 +16,7 @@ use Rattle.disk_array.specs.Steps.{accept_step, accept_step_at, after_status, ar
 use Rattle.disk_array.specs.Units.{Array, RunningProcess, UnitState, nexus_of, nexuses_without, senses_without, settled_array, unit_state_at, with_unit}
 use Rattle.bus_due.specs.RunSteps.{array_after_events}
 use Rattle.trace_laws.specs.Attendance.{IsNotGood}
-
-no_array : {A : Type 0} (c : Array) → (let o : Option Array = None in o) ≡ Some c → A
-no_array c e = absurd cc
+use Rattle.trace_laws.proofs.Impossible.{none_some, wrong'}
 
 -- ---- what is listed
 
@@ -40,7 +38,7 @@ took : (a d : Array) (id : ProcId) → (HasNone a.replies id → HasNone d.repli
 took a d id f c e h = subst (λ (x : Array). HasNone x.replies id) (same_Some d c e) (f h)
 
 none_taken : (a : Array) (id : ProcId) → Keeps a id None
-none_taken a id c e h = no_array c e
+none_taken a id c e h = none_some c e
 
 either : (a : Array) (id : ProcId) (q : Bool) (x y : Option Array) → Keeps a id x → Keeps a id y → Keeps a id (if q then x else y)
 either a id true x y f g = f
@@ -112,12 +110,9 @@ abbrev pub GiveNoGood : List Event → Type 0
 GiveNoGood [] = ⊤
 GiveNoGood (e ∷ shown) = (gives_no_good e ≡ true) × GiveNoGood shown
 
-wrong' : {A : Type 0} → false ≡ true → A
-wrong' e = absurd cc
-
 -- The choices that follow an event give no reply.
 settles : (a : Array) (id : ProcId) (o : Option Array) → Keeps a id o → Keeps a id (settled_array_if o)
-settles a id None f c e h = no_array c e
+settles a id None f c e h = none_some c e
 settles a id (Some d) f c e h = subst (λ (x : Array). HasNone x.replies id) (same_Some (settled_array d) c e) (f d refl h)
 
 event_keeps : (s : ScenarioValue) (a : Array) (id : ProcId) (e : Event) → gives_no_good e ≡ true → Keeps a id (array_step s e (Some a))
@@ -136,5 +131,5 @@ events_keep s o id [] g h c e = h c e
 events_keep s o id (x ∷ shown) g h c e = go (λ y f. events_keep s o id shown g.1 h y f) (array_after_events s o shown) refl e
   where
     go : ((y : Array) → array_after_events s o shown ≡ Some y → HasNone y.replies id) → (t : Option Array) → array_after_events s o shown ≡ t → array_step s x t ≡ Some c → HasNone c.replies id
-    go before None f z = no_array c z
+    go before None f z = none_some c z
     go before (Some y) f z = event_keeps s y id x g.0 c z (before y f)

@@ -32,6 +32,7 @@ use Rattle.bus_books.proofs.CarriedRows.{ends_keep, check_keeps}
 use Rattle.bus_books.proofs.InConnection.{reading_is}
 use Rattle.bus_books.proofs.Lookups.{carried_id, put_there, id_is, self_id}
 use Rattle.trace_laws.proofs.CommandCounts.{is_refusal}
+use Rattle.trace_laws.proofs.PointerStorySteps.{carried_link, message_id}
 
 abbrev pub block_in : Story → ProcId → List ℕ
 block_in b id = (carried_of b.carried id).block
@@ -98,10 +99,6 @@ no_flags b (Some (process x)) (Some c) id = put_flags b.carried (carried_after_f
         go false true k = (refl, refl)
         go false false k = (refl, refl)
 
-carried_link : (b : Story) (c : Option CarriedBytes) → (story_with_carried b c).link ≡ b.link
-carried_link b None = refl
-carried_link b (Some c) = refl
-
 pub quiet_block : (s : ScenarioValue) (b : Story) (l : Option Link) (d : RowReading) (row : Row) (id : ProcId) → d.crosses ≡ false → block_in (story_in_connection s b l d row) id ≡ block_in b id
 quiet_block s b None d row id e = refl
 quiet_block s b (Some l) d row id e = ap (λ (q : Bool). block_in (if q then story_after_crossing s b l d else story_after_fault b l row.kind) id) e ∙ go row.kind
@@ -124,10 +121,7 @@ quiet_link s b (Some l) d row e = ap (λ (q : Bool). (if q then story_after_cros
 abbrev UndoIs : Option Link → (List ℕ → Type 0) → Type 0
 UndoIs link q = (l : Link) (c : CarriedBytes) → link ≡ Some l → l.undo ≡ Some c → q c.block
 
-no_link : {A : Type 0} (l : Link) → (let a : Option Link = None in a) ≡ Some l → A
-no_link l e = absurd cc
-
-abbrev or_link : Link → Option Link → Link
+abbrev pub or_link : Link → Option Link → Link
 or_link x None = x
 or_link x (Some l) = l
 
@@ -166,16 +160,6 @@ message_block c (to_initiator.Identify lun) q none here = here
 message_block c (to_initiator.SimpleTag tag) q none here = here
 message_block c (to_initiator.Sdtr offer) q none here = here
 message_block c to_initiator.Reject q none here = here
-
-message_id : (c : CarriedBytes) (m : MsgIn) → (carried_after_message c m).id ≡ c.id
-message_id c to_initiator.RestorePointers = refl
-message_id c to_initiator.CommandComplete = refl
-message_id c to_initiator.SavePointer = refl
-message_id c to_initiator.Disconnect = refl
-message_id c (to_initiator.Identify lun) = refl
-message_id c (to_initiator.SimpleTag tag) = refl
-message_id c (to_initiator.Sdtr offer) = refl
-message_id c to_initiator.Reject = refl
 
 restored_block : (b : Story) (item : Option Item) (id : ProcId) (q : List ℕ → Type 0) → q [] → q (block_in b id) → q (block_in (story_with_restored b item) id)
 restored_block b None id q none here = here

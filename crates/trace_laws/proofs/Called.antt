@@ -1,7 +1,6 @@
 -- The caller of a connection called the device that it is due to call.
-use Rattle.std.proofs.Common.{ℕ, ◌≡◌, ◌<◌, Bool, true, false, not, ◌&&◌, ◌==◌, ◌∙◌, List, [], ◌∷◌, Option, Some, None, refl, sym, ap, subst, arith}
+use Rattle.std.proofs.Common.{ℕ, ◌≡◌, ◌<◌, Bool, true, false, not, ◌&&◌, ◌==◌, ◌∙◌, List, [], ◌∷◌, Option, Some, None, refl, sym, ap, subst}
 use Rattle.std.specs.Prelude.{if◌then◌else◌}
-use Rattle.std.proofs.lemmas.Bool.Decides.{nat_tests}
 use Rattle.std.proofs.lemmas.Option.{same_Some}
 use Rattle.bus_trace.specs.LineSet.{LineSet}
 use Rattle.bus_trace.specs.declared.Row.{Row}
@@ -31,6 +30,7 @@ use Rattle.bus_due.specs.Wants.{callee, target_of, initiator_if}
 use Rattle.bus_due.proofs.Plains.{run_state_plain}
 use Rattle.scsi_device.specs.Lines.{AreUnits}
 use Rattle.bus_books.specs.Traces.{IsAimedAt, IsReadyFor}
+use Rattle.bus_books.proofs.Lookups.{number_is}
 use Rattle.bus_books.proofs.ReadyProcesses.{selects_for, reselects_by}
 use Rattle.bus_laws.specs.Ends.{BeginsConnection, by_selection, by_reselection}
 use Rattle.bus_laws.specs.Callings.{both_ids, won_call}
@@ -42,7 +42,8 @@ use Rattle.bus_laws.proofs.Dues.{is_there}
 use Rattle.bus_laws.proofs.Rows.{stage_is}
 use Rattle.bus_laws.proofs.Tests.{and_false}
 use Rattle.bus_laws.proofs.TwoIds.{is_call}
-use Rattle.trace_laws.proofs.Driven.{wrong}
+use Rattle.trace_laws.proofs.Impossible.{none_some, wrong}
+use Rattle.trace_laws.proofs.Tests.{not_not, falls_true}
 
 -- A connection is made for the item of its initiator, or the process that its target has ready: the caller called the device that
 -- it is due to call.
@@ -63,41 +64,21 @@ IsCalled s p = (k : Call) (x : Calling) → call p ≡ Some k → k.calling ≡ 
 
 -- ---- small facts
 
-no_call : (k : Call) → (let a : Option Call = None in a) ≡ Some k → ⊥
-no_call k e = absurd cc
-
-no_calling : (x : Calling) → (let a : Option Calling = None in a) ≡ Some x → ⊥
-no_calling x e = absurd cc
-
-no_connection : (n : Connection) → (let a : Option Connection = None in a) ≡ Some n → ⊥
-no_connection n e = absurd cc
-
-not_not : (q : Bool) → not (not q) ≡ q
-not_not true = refl
-not_not false = refl
-
-falls_true : (a b : Bool) → b ≡ true → falls a b ≡ false
-falls_true true b e = ap not e
-falls_true false b e = refl
-
-is_same : (a b : ℕ) → (a == b) ≡ true → a ≡ b
-is_same a b e = grind (arith, nat_tests)
-
 -- A call stands while SEL is true.
-sel_of_call : (p : List Row) (k : Call) → call p ≡ Some k → (bus p).sel ≡ true
-sel_of_call [] k e = absurd (no_call k e)
+pub sel_of_call : (p : List Row) (k : Call) → call p ≡ Some k → (bus p).sel ≡ true
+sel_of_call [] k e = absurd (none_some k e)
 sel_of_call (row ∷ rows) k e = go (bus (row ∷ rows)).sel refl
   where
     go : (q : Bool) → (bus (row ∷ rows)).sel ≡ q → (bus (row ∷ rows)).sel ≡ true
     go true f = f
-    go false f = absurd (no_call k (sym (ap (λ (q : Bool). if not q then None else if rises (bus rows).sel q then Some (record { caller = row.dev; at = row.time; calling = None }) else call_goes_on (call rows) (change_of rows row) row) f) ∙ e))
+    go false f = absurd (none_some k (sym (ap (λ (q : Bool). if not q then None else if rises (bus rows).sel q then Some (record { caller = row.dev; at = row.time; calling = None }) else call_goes_on (call rows) (change_of rows row) row) f) ∙ e))
 
 -- As SEL rises no device is called yet.
 pub fresh_call : (s : ScenarioValue) (p : List Row) (row : Row) → (bus p).sel ≡ false → IsCalled s (row ∷ p)
 fresh_call s p row off k x e f =
     let on = sel_of_call (row ∷ p) k e in
     let new : (record { caller = row.dev; at = row.time; calling = None }) ≡ k = same_Some _ k (sym (λ i. if not (on i) then None else if rises (off i) (on i) then Some (record { caller = row.dev; at = row.time; calling = None }) else call_goes_on (call p) (change_of p row) row) ∙ e) in
-    absurd (no_calling x (ap (λ (c : Call). c.calling) new ∙ f))
+    absurd (none_some x (ap (λ (c : Call). c.calling) new ∙ f))
 
 -- ---- a row with which SEL stays true changes no one's wish
 
@@ -111,7 +92,7 @@ link_none s p (after_withdrawal v m c k t0 t1 t2 t3 z h) e = h.link
 link_none s p (after_answer m c k t0 t1 t2 t3 x h) e = h.here.link
 link_none s p (after_takeover c k t0 t1 t2 t3 t4 x z f h) e = h.here.link
 link_none s p (in_reset h) e = h.link
-link_none s p (in_connection n f g h) e = absurd (no_connection n (sym e ∙ f))
+link_none s p (in_connection n f g h) e = absurd (none_some n (sym e ∙ f))
 
 keeps_all : (s : ScenarioValue) (p : List Row) (row : Row) → AreOfDevices p → row.dev < 8 → BusStage s p → connection p ≡ None → (bus (row ∷ p)).rst ≡ false → (bus p).sel ≡ true → (bus (row ∷ p)).sel ≡ true → KeepsAll s p (row ∷ p)
 keeps_all s p row dv lt h alone calm before after =
@@ -136,28 +117,28 @@ same_callee s p q c k = λ i. if is_host s.hosts c then target_of s (aim_of (k.a
 
 new_by : (q r : Bool) (a x : Calling) → (if q && r then Some a else None) ≡ Some x → (a ≡ x) × (q ≡ true)
 new_by true true a x e = (same_Some a x e, refl)
-new_by true false a x e = absurd (no_calling x e)
-new_by false r a x e = absurd (no_calling x e)
+new_by true false a x e = absurd (none_some x e)
+new_by false r a x e = absurd (none_some x e)
 
 first_called : (s : ScenarioValue) (p : List Row) (row : Row) (k : Call) (x : Calling) → BusStage s p → (bus p).rst ≡ false → CalmStanding s p → IsLeast (unreset_due s p) 8 row → call p ≡ Some k → k.calling ≡ None → calling_after k.caller None (change_of p row) row ≡ Some x → IsDueCall s p k.caller x
-first_called s p row k x (on_free_bus h) calm always least e none new = absurd (no_call k (sym h.stands.call_is ∙ e))
-first_called s p row k x (in_arbitration a h) calm always least e none new = absurd (no_call k (sym h.stands.call_is ∙ e))
-first_called s p row k x (with_both_ids m c j t0 t z h) calm always least e none new = absurd (no_calling _ (sym none ∙ sym (ap (λ (w : Call). w.calling) (same_Some _ k (sym h.stands.call_is ∙ e)))))
-first_called s p row k x (awaiting_answer v m c j t0 t1 t2 y h) calm always least e none new = absurd (no_calling _ (sym none ∙ sym (ap (λ (w : Call). w.calling) (same_Some _ k (sym h.here.stands.call_is ∙ e)))))
-first_called s p row k x (after_withdrawal v m c j t0 t1 t2 t3 z h) calm always least e none new = absurd (no_calling _ (sym none ∙ sym (ap (λ (w : Call). w.calling) (same_Some _ k (sym h.stands.call_is ∙ e)))))
-first_called s p row k x (after_answer m c j t0 t1 t2 t3 y h) calm always least e none new = absurd (no_calling _ (sym none ∙ sym (ap (λ (w : Call). w.calling) (same_Some _ k (sym h.here.stands.call_is ∙ e)))))
-first_called s p row k x (after_takeover c j t0 t1 t2 t3 t4 y z f h) calm always least e none new = absurd (no_calling _ (sym none ∙ sym (ap (λ (w : Call). w.calling) (same_Some _ k (sym h.here.stands.call_is ∙ e)))))
+first_called s p row k x (on_free_bus h) calm always least e none new = absurd (none_some k (sym h.stands.call_is ∙ e))
+first_called s p row k x (in_arbitration a h) calm always least e none new = absurd (none_some k (sym h.stands.call_is ∙ e))
+first_called s p row k x (with_both_ids m c j t0 t z h) calm always least e none new = absurd (none_some _ (sym none ∙ sym (ap (λ (w : Call). w.calling) (same_Some _ k (sym h.stands.call_is ∙ e)))))
+first_called s p row k x (awaiting_answer v m c j t0 t1 t2 y h) calm always least e none new = absurd (none_some _ (sym none ∙ sym (ap (λ (w : Call). w.calling) (same_Some _ k (sym h.here.stands.call_is ∙ e)))))
+first_called s p row k x (after_withdrawal v m c j t0 t1 t2 t3 z h) calm always least e none new = absurd (none_some _ (sym none ∙ sym (ap (λ (w : Call). w.calling) (same_Some _ k (sym h.stands.call_is ∙ e)))))
+first_called s p row k x (after_answer m c j t0 t1 t2 t3 y h) calm always least e none new = absurd (none_some _ (sym none ∙ sym (ap (λ (w : Call). w.calling) (same_Some _ k (sym h.here.stands.call_is ∙ e)))))
+first_called s p row k x (after_takeover c j t0 t1 t2 t3 t4 y z f h) calm always least e none new = absurd (none_some _ (sym none ∙ sym (ap (λ (w : Call). w.calling) (same_Some _ k (sym h.here.stands.call_is ∙ e)))))
 first_called s p row k x (in_reset h) calm always least e none new = wrong (sym h.reset ∙ calm)
 first_called s p row k x (in_connection n f g h) calm always least e none new = by_connection h
   where
     by_connection : BeginsConnection p n → IsDueCall s p k.caller x
-    by_connection (by_selection b) = absurd (no_call k (sym b.linked.stands.call_is ∙ e))
-    by_connection (by_reselection y b) = absurd (no_call k (sym b.linked.stands.call_is ∙ e))
+    by_connection (by_selection b) = absurd (none_some k (sym b.linked.stands.call_is ∙ e))
+    by_connection (by_reselection y b) = absurd (none_some k (sym b.linked.stands.call_is ∙ e))
 first_called s p row k x (after_arbitration c t h) calm always least e none new =
     let same : (won_call c t) ≡ k = same_Some _ k (sym h.stands.call_is ∙ e) in
     let caller : c ≡ k.caller = ap (λ (w : Call). w.caller) same in
     let made = new_by (row.dev == k.caller) (drives_two_ids k.caller (change_of p row).next) (new_calling k.caller (change_of p row).next row.time) x new in
-    let dev : row.dev ≡ c = is_same row.dev k.caller made.1 ∙ sym caller in
+    let dev : row.dev ≡ c = number_is row.dev k.caller made.1 ∙ sym caller in
     let due : Due = record { time = row.time; kind = row.kind } in
     let w = is_there s p row.dev due least.is_due in
     let at : stage p ≡ InCalling (won_call c t) = stage_is p _ _ _ _ h.stands in
@@ -212,7 +193,7 @@ called_on s p row h alone calm off always least was k x e f = go (bus p).sel ref
         subst (λ (c : ℕ). IsDueCall s q c x) (ap (λ (c : Call). c.caller) same) (due_on s p q j.caller y x all parts.0 parts.1 (was j y ej some))
 
     by_call : (bus p).sel ≡ true → (o : Option Call) → call p ≡ o → IsDueCall s q k.caller x
-    by_call before None none = absurd (no_call k (sym (ap (λ (o : Option Call). call_goes_on o (change_of p row) row) none) ∙ stands before))
+    by_call before None none = absurd (none_some k (sym (ap (λ (o : Option Call). call_goes_on o (change_of p row) row) none) ∙ stands before))
     by_call before (Some j) some = by_calling before j some (same_Some _ k (sym (ap (λ (o : Option Call). call_goes_on o (change_of p row) row) some) ∙ stands before)) j.calling refl
 
     go : (r : Bool) → (bus p).sel ≡ r → IsDueCall s q k.caller x
@@ -233,7 +214,7 @@ own_units s p seats dv = go (run_state s p).array refl
     go (Some a) e = subst (λ (o : Option Array). AllOwnUnits s (or_start s o).units) (sym e) (history_sound s (trace_history s p) a seats (sym (run_state_plain s p dv).array ∙ e)).units
 
 pub by_answer : (c : ℕ) (x : Calling) (o : Option ℕ) (t : ℕ) (n : Connection) → connected_by c x o t ≡ Some n → connected c x t ≡ n
-by_answer c x None t n e = absurd (no_connection n e)
+by_answer c x None t n e = absurd (none_some n e)
 by_answer c x (Some a) t n e = same_Some _ n e
 
 pub made_of : (s : ScenarioValue) (p : List Row) (c t : ℕ) (x : Calling) (n : Connection) → AreUnits s → AllOwnUnits s (array_of s (run_state s p)).units → IsDueCall s p c x → connected c x t ≡ n → IsMadeFor s (run_state s p) n
@@ -260,9 +241,9 @@ pub made_for : (s : ScenarioValue) (p : List Row) (t : ℕ) (n : Connection) →
 made_for s p t n u seats dv was e = by_call (call p) refl e
   where
     by_calling : (k : Call) → call p ≡ Some k → (o : Option Calling) → k.calling ≡ o → connected_of k.caller o t ≡ Some n → IsMadeFor s (run_state s p) n
-    by_calling k ek None none z = absurd (no_connection n z)
+    by_calling k ek None none z = absurd (none_some n z)
     by_calling k ek (Some x) some z = made_of s p k.caller t x n u (own_units s p seats dv) (was k x ek some) (by_answer k.caller x x.answered t n z)
 
     by_call : (o : Option Call) → call p ≡ o → connection_of o t ≡ Some n → IsMadeFor s (run_state s p) n
-    by_call None none z = absurd (no_connection n z)
+    by_call None none z = absurd (none_some n z)
     by_call (Some k) some z = by_calling k some k.calling refl z

@@ -23,6 +23,7 @@ use Rattle.bus_due.specs.Plain.{IsPlain, AreOfDevices}
 use Rattle.bus_due.specs.RunState.{RunState, bus_of}
 use Rattle.bus_due.specs.RunSteps.{run_state, run_state_after}
 use Rattle.bus_due.proofs.Plains.{run_state_plain}
+use Rattle.bus_books.specs.Hearing.{is_in_phase}
 use Rattle.bus_books.specs.Knowing.{Knows}
 use Rattle.bus_books.specs.Traces.{Ends}
 use Rattle.bus_laws.proofs.Apart.{change_plain}
@@ -56,10 +57,6 @@ lost_now s k row l id link calm next item last =
     changed = story_by_change s k.story (row_reading k.story.bus_state row) row
 
 -- ---- a row with which a connection ends, RST being false
-
-abbrev is_in : Phase → Bool
-is_in phases.MessageIn = true
-is_in _ = false
 
 ends_calm : (s : ScenarioValue) (p : List Row) (row : Row) (n : Connection) (id : ProcId) → Obeys s → IsPrompt s (row ∷ p) → Stood s p → TellFacts s p → FailFacts s p → PlaceFacts s p → SentAsLeft s p row → Ends s (run_state s p) row n → (row_reading (run_state s p).story.bus_state row).change.after.rst ≡ false → (run_state s p).served ≡ Some (process id) → StandsClear (run_state s (row ∷ p)) id
 ends_calm s p row n id o prompt was facts fails places sent g calm served = go (phase_of (bus_of k)) refl
@@ -95,8 +92,8 @@ ends_calm s p row n id o prompt was facts fails places sent g calm served = go (
         (lost_now s k row knows.link id knows.link_is calm g.next_is (told.named id served)
         (lost_by s p n knows.link id was facts.last g knows.link_is served other (λ z. lost_in s p row n knows.link id o prompt was facts.last g calm knows.link_is served z) begun))
 
-    apart : (x : Phase) → phase_of (bus_of k) ≡ x → is_in x ≡ false → phase_of (bus_of k) ≡ phases.MessageIn → ⊥
-    apart x e f z = absurd (true≢false (ap is_in (sym z ∙ e) ∙ f))
+    apart : (x : Phase) → phase_of (bus_of k) ≡ x → is_in_phase x ≡ false → phase_of (bus_of k) ≡ phases.MessageIn → ⊥
+    apart x e f z = absurd (true≢false (ap is_in_phase (sym z ∙ e) ∙ f))
 
     go : (x : Phase) → phase_of (bus_of k) ≡ x → StandsClear (run_state s (row ∷ p)) id
     go phases.MessageIn e =

@@ -34,17 +34,13 @@ use Rattle.trace_laws.proofs.DataPremises.{IsUnshown}
 use Rattle.trace_laws.proofs.FailureAway.{apart_clear}
 use Rattle.trace_laws.proofs.FailureFirst.{BeginsClear}
 use Rattle.trace_laws.proofs.FreshItems.{items_fresh, items_ready, items_sent}
+use Rattle.trace_laws.proofs.Impossible.{none_some}
 use Rattle.trace_laws.proofs.Joint.{Stood, NextStood}
+use Rattle.trace_laws.proofs.PointerBegins.{same_process}
 use Rattle.trace_laws.proofs.RunRows.{Serves, it, another, serves}
-
-none_some : {A : Type 0} (n : Connection) → (let o : Option Connection = None in o) ≡ Some n → A
-none_some n e = absurd cc
 
 no_item : {A : Type 0} (id : ProcId) → (let o : Option Item = None in o) ≡ Some (process id) → A
 no_item id e = absurd cc
-
-same_process : (a b : ProcId) → (let o : Option Item = Some (process a) in o) ≡ Some (process b) → a ≡ b
-same_process a b e = cc
 
 -- ---- before any row
 

@@ -35,13 +35,11 @@ use Rattle.trace_laws.specs.Tells.{has_answer}
 use Rattle.trace_laws.proofs.FailureAway as away
 use Rattle.trace_laws.proofs.FailureAway.{reset_same, apart_clear}
 use Rattle.trace_laws.proofs.FailureBytes.{SameFail, clear_as, row_carries}
+use Rattle.trace_laws.proofs.Impossible.{none_some}
 use Rattle.trace_laws.proofs.PointerBegins.{begins_undoes, goes_undoes}
 use Rattle.trace_laws.proofs.PointerCrossings.{names_or}
 use Rattle.trace_laws.proofs.PointerStorySteps.{IsNot, fault_id, byte_other, out_other, in_other}
 use Rattle.trace_laws.proofs.PointerWaits.{SameSaved, not_before, over_row, apart_same, ends_same, begins_same, item_not, goes_other}
-
-none_some : {A : Type 0} (n : Connection) → (let o : Option Connection = None in o) ≡ Some n → A
-none_some n e = absurd cc
 
 -- ---- of one process
 

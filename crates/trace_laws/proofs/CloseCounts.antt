@@ -1,5 +1,5 @@
 -- The byte of COMMAND COMPLETE is asked for and answered once (6.1.5.1).
-use Rattle.std.proofs.Common.{inl, inr, ℕ, ◌≡◌, ◌⊎◌, ◌<◌, Bool, true, false, not, ◌&&◌, ◌==◌, ◌∙◌, List, ◌∷◌, length, Some, None, refl, sym, ap, subst, arith, true≢false}
+use Rattle.std.proofs.Common.{inl, inr, ℕ, ◌≡◌, ◌⊎◌, ◌<◌, Bool, true, false, not, ◌&&◌, ◌==◌, ◌∙◌, List, ◌∷◌, length, Some, None, refl, sym, ap, subst, arith}
 use Rattle.std.proofs.lemmas.Bool.Decides.{nat_tests}
 use Rattle.std.specs.Prelude.{if◌then◌else◌, is_some}
 use Rattle.bus_base.specs.Faults.{counted_on}
@@ -13,7 +13,7 @@ use Rattle.bus_trace.specs.declared.changes.Change.{Change}
 use Rattle.bus_trace.specs.declared.connection.Connection.{Connection}
 use Rattle.bus_trace.specs.Terms.{receiver_in, is_fault}
 use Rattle.bus_trace.specs.Trace.{bus, drives}
-use Rattle.bus_lines.specs.Handshakes.{Handshakes, handshakes, no_handshakes, handshakes_after, answered_if, asked_if, strikes_if}
+use Rattle.bus_lines.specs.Handshakes.{Handshakes, handshakes, no_handshakes, handshakes_after, answered_if, asked_if}
 use Rattle.scenario.specs.Value.{ScenarioValue}
 use Rattle.bus_dialogue.specs.declared.exchange.Messages.{Messages}
 use Rattle.bus_dialogue.specs.Exchange.{bytes_of_messages}
@@ -23,25 +23,22 @@ use Rattle.bus_due.specs.RunSteps.{run_state, run_state_after}
 use Rattle.bus_due.proofs.Plains.{run_state_plain}
 use Rattle.bus_books.specs.Rows.{RowKind, still, strikes, crosses, turns}
 use Rattle.bus_books.specs.Traces.{GoesOn}
+use Rattle.bus_books.proofs.Gives.{struck_same, in_io}
 use Rattle.bus_books.proofs.InConnection.{InConnection, in_connection, same_phase_is}
 use Rattle.bus_laws.specs.Ends.{BeginsConnection, by_selection, by_reselection}
 use Rattle.bus_laws.specs.Rows.{change_to}
 use Rattle.bus_laws.proofs.Apart.{change_plain}
 use Rattle.bus_laws.proofs.Rows.{fault_change}
 use Rattle.link_laws.specs.LinkStages.{LinkStage, when_selected, when_settling, when_turning, when_offering, when_shaking, when_pulsing}
+use Rattle.link_laws.proofs.Moves.{no_rise}
 use Rattle.trace_laws.specs.Closes.{IsCompleting, CloseCounts}
 use Rattle.trace_laws.specs.ItemTalks.{awaits}
 use Rattle.trace_laws.proofs.FirstRows.{IsFirst}
+use Rattle.trace_laws.proofs.Impossible.{wrong, wrong'}
 use Rattle.trace_laws.proofs.LastRows.{stays_as}
-use Rattle.trace_laws.proofs.TalkRows.{in_phase_same}
+use Rattle.trace_laws.proofs.OfferRows.{in_same}
+use Rattle.trace_laws.proofs.PointerRows.{struck_answers}
 use Rattle.trace_laws.proofs.TalkSteps.{Alternates}
-use Rattle.trace_laws.proofs.UndoneFacts.{in_line}
-
-wrong : {A : Type 0} → true ≡ false → A
-wrong e = absurd (true≢false e)
-
-wrong' : {A : Type 0} → false ≡ true → A
-wrong' e = absurd (true≢false (sym e))
 
 -- ---- the counts after a row with which the phase stays
 
@@ -70,31 +67,19 @@ counted n c t h e = record {
   requests = (λ i. (if e i then no_handshakes else answered_if (rises c.before.ack c.after.ack) t (asked_if (rises c.before.req c.after.req) t h)).requests) ∙ requests_by (rises c.before.ack c.after.ack) (rises c.before.req c.after.req) t h;
 }
 
-never_rises : (q : Bool) → rises q q ≡ false
-never_rises true = refl
-never_rises false = refl
-
-struck_answers : (q : Bool) (h : Handshakes) → (strikes_if q h).answers ≡ h.answers
-struck_answers true h = refl
-struck_answers false h = refl
-
-struck_requests : (q : Bool) (h : Handshakes) → (strikes_if q h).requests ≡ h.requests
-struck_requests true h = refl
-struck_requests false h = refl
-
 -- A fault row changes no line.
 pub counted_fault : (s : ScenarioValue) (p : List Row) (row : Row) (c : Change) (n : Connection) (h : Handshakes) → c ≡ change_of p row → is_fault row.kind ≡ true → Counted c h (handshakes_after true (Some n) c row.time h)
 counted_fault s p row c n h is fault = go row.kind refl
   where
     by : rises c.before.ack c.after.ack ≡ false → rises c.before.req c.after.req ≡ false → Counted c h (handshakes_after true (Some n) c row.time h)
-    by e f = record { answers = struck_answers c.before.io h ∙ (λ i. if sym e i then counted_on h.answers else h.answers); requests = struck_requests c.before.io h ∙ (λ i. if sym f i then counted_on h.requests else h.requests) }
+    by e f = record { answers = struck_answers c.before.io h ∙ (λ i. if sym e i then counted_on h.answers else h.answers); requests = struck_same c.before.io h ∙ (λ i. if sym f i then counted_on h.requests else h.requests) }
 
     go : (x : Kind) → row.kind ≡ x → Counted c h (handshakes_after true (Some n) c row.time h)
     go (Drives lines) f = wrong (sym fault ∙ ap is_fault f)
     go (Fault bit) f =
         let o : LineSet = drives p row.dev in
         let same : c ≡ change_to (bus p) (bus p) o o = is ∙ (λ i. change_of p (record { time = row.time; dev = row.dev; kind = f i })) ∙ fault_change p row.time row.dev bit (bus p) o refl refl in
-        by (ap (λ (x : Change). rises x.before.ack x.after.ack) same ∙ never_rises (bus p).ack) (ap (λ (x : Change). rises x.before.req x.after.req) same ∙ never_rises (bus p).req)
+        by (ap (λ (x : Change). rises x.before.ack x.after.ack) same ∙ no_rise (bus p).ack) (ap (λ (x : Change). rises x.before.req x.after.req) same ∙ no_rise (bus p).req)
 
 -- ---- the step
 
@@ -166,7 +151,7 @@ none_before : (n m : ℕ) → n < m → m ≡ 1 → n ≡ 0
 none_before n m e f = omega (arith, e, f)
 
 pub phase_line : (c : Change) → changes_phase c ≡ false → is_message_in c.after ≡ true → is_message_in c.before ≡ true
-phase_line c e z = let w = same_phase_is c e in sym (in_phase_same c.before c.after w) ∙ z
+phase_line c e z = let w = same_phase_is c e in sym (in_same c.before c.after w) ∙ z
 
 -- ---- a row
 
@@ -219,7 +204,7 @@ counts_stay s p row n c lt dv stage g ep alternates was = record { asked = asked
         by : (rises c.before.req c.after.req ≡ true) ⊎ (awaits c.before ≡ true) → (k.handshakes.answers == 0) ≡ true
         by (inr z) = was.asked (there here) messages (ap awaits g.row_is.bus_is ∙ z)
         by (inl z) =
-            let crosses : now ≡ true = λ t. is_some (if in_line c.before (before here) t then (if z t then Some n.initiator else None) else (if rises c.before.ack c.after.ack then Some n.target else None)) in
+            let crosses : now ≡ true = λ t. is_some (if in_io c.before (before here) t then (if z t then Some n.initiator else None) else (if rises c.before.ack c.after.ack then Some n.target else None)) in
             let less = (g.gives (before here) crosses).1 in
             none_answered s p n k.handshakes stage (sym (ap is_message_in pl.bus) ∙ there here) pl.handshakes (none_before k.handshakes.requests (length (bytes_of_messages k.exchange.plan.messages)) less (ap (λ (y : Messages). length (bytes_of_messages y)) messages))
 

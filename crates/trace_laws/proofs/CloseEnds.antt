@@ -1,6 +1,6 @@
 -- As a connection ends in MESSAGE OUT, its last message tells nothing; and in MESSAGE IN COMMAND COMPLETE was taken, where it was said
 -- (6.1.1, 6.6.5).
-use Rattle.std.proofs.Common.{ℕ, ◌≡◌, Bool, true, false, not, ◌&&◌, ◌==◌, ◌∙◌, List, ◌∷◌, length, Option, Some, None, refl, sym, ap, subst}
+use Rattle.std.proofs.Common.{ℕ, ◌≡◌, Bool, true, false, not, ◌&&◌, ◌==◌, ◌∙◌, List, ◌∷◌, length, Some, None, refl, sym, ap, subst}
 use Rattle.std.specs.Prelude.{if◌then◌else◌}
 use Rattle.bus_base.specs.declared.ProcId.{ProcId}
 use Rattle.bus_trace.specs.LineSet.{LineSet}
@@ -38,13 +38,11 @@ use Rattle.trace_laws.specs.Closes.{IsCompleting, CloseBooks, CloseFacts}
 use Rattle.trace_laws.specs.ItemTalks.{awaits}
 use Rattle.trace_laws.proofs.ConnectionRows.{ConnectionRow, connection_row}
 use Rattle.trace_laws.proofs.Crossings.{RowFacts, Stops, stays, ends_here}
+use Rattle.trace_laws.proofs.Impossible.{some_none}
 use Rattle.trace_laws.proofs.Joint.{Stood, link_phase}
 use Rattle.trace_laws.proofs.TellFacts.{all_given}
 use Rattle.trace_laws.proofs.TellRows.{is_heard}
 use Rattle.trace_laws.proofs.UndoneFacts.{in_of}
-
-no_connection : {A : Type 0} (n : Connection) → Some n ≡ (let o : Option Connection = None in o) → A
-no_connection n e = absurd cc
 
 -- What the lines say of a row with which a connection ends.
 pub record EndsHere (s : ScenarioValue) (p : List Row) (row : Row) (n : Connection) : Type 0 where
@@ -82,7 +80,7 @@ ends_row s p row n o prompt was g calm = record { con = con; off = off; plain_is
     freed (ends_here f) = f
     freed (stays f) =
         let some : (row_reading k.story.bus_state row).next ≡ Some n = ap (λ (x : RowReading). x.next) (reading_is k row n f.change _ f.row_is refl) in
-        no_connection n (sym some ∙ g.next_is)
+        some_none n (sym some ∙ g.next_is)
 
 pub lost_in : (s : ScenarioValue) (p : List Row) (row : Row) (n : Connection) (l : Link) (id : ProcId) → Obeys s → IsPrompt s (row ∷ p) → Stood s p → LastFacts s p → Ends s (run_state s p) row n → (row_reading (run_state s p).story.bus_state row).change.after.rst ≡ false → (run_state s p).story.link ≡ Some l → (run_state s p).served ≡ Some (process id) → phase_of (bus_of (run_state s p)) ≡ phases.MessageOut → l.last ≡ plain
 lost_in s p row n l id o prompt was facts g calm link e out = by.0 heard
@@ -127,11 +125,8 @@ lost_by s p n l id was facts g link e in_none out b = go (phase_of (bus_of k)) r
     go phases.DataIn z h = h
     go phases.DataOut z h = h
 
-some_phase : {A : Type 0} (x : Phase) → Some x ≡ (let o : Option Phase = None in o) → A
-some_phase x e = absurd cc
-
 unattended : (q : Bool) (l : Leaving) → (if q then phase_entry phases.MessageOut else l).to ≡ None → q ≡ false
-unattended true l e = some_phase phases.MessageOut e
+unattended true l e = some_none phases.MessageOut e
 unattended false l e = refl
 
 not_asked : (a b : Bool) → a ≡ false → (a && not b) ≡ false

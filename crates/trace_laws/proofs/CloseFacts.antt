@@ -1,5 +1,5 @@
 -- COMMAND COMPLETE is answered once, and its process ends with it, after any rows of a prompt trace (6.1.5.1, 6.6.5).
-use Rattle.std.proofs.Common.{inl, inr, ℕ, ◌≡◌, ◌⊎◌, ◌<◌, Bool, true, false, not, ◌&&◌, ◌==◌, ◌∙◌, List, [], ◌∷◌, Option, Some, None, refl, sym, ap, subst, true≢false}
+use Rattle.std.proofs.Common.{inl, inr, ℕ, ◌≡◌, ◌⊎◌, ◌<◌, Bool, true, false, not, ◌&&◌, ◌==◌, ◌∙◌, List, [], ◌∷◌, Option, Some, None, refl, sym, ap, subst}
 use Rattle.std.proofs.lemmas.Option.{same_Some}
 use Rattle.std.specs.Prelude.{if◌then◌else◌, is_some, slice_index}
 use Rattle.bus_base.specs.declared.Event.{Event}
@@ -46,19 +46,12 @@ use Rattle.trace_laws.proofs.CloseCounts.{Counted, counted_row, counts_goes, fre
 use Rattle.trace_laws.proofs.CloseProcesses.{ended_after}
 use Rattle.trace_laws.proofs.CloseStays.{attends_after, once_taken, awaited, alternates_at}
 use Rattle.trace_laws.proofs.ConnectionRows.{ConnectionRow, GoingRow, connection_row, going_row, RowKindOf, begins_now, goes_now, row_kind}
+use Rattle.trace_laws.proofs.Impossible.{wrong, wrong', none_some}
 use Rattle.trace_laws.proofs.Joint.{Stood, NextStood}
 use Rattle.trace_laws.proofs.LastRows.{stays_as}
-use Rattle.trace_laws.proofs.OfferTurns.{message_in_phase}
+use Rattle.trace_laws.proofs.PhaseLines.{in_phase}
 use Rattle.trace_laws.proofs.PlaceStays.{stay_shown}
-
-wrong : {A : Type 0} → true ≡ false → A
-wrong e = absurd (true≢false e)
-
-wrong' : {A : Type 0} → false ≡ true → A
-wrong' e = absurd (true≢false (sym e))
-
-none_some : {A : Type 0} (n : Connection) → (let o : Option Connection = None in o) ≡ Some n → A
-none_some n e = absurd cc
+use Rattle.trace_laws.proofs.Tests.{some_zero, all_four}
 
 pub close_start : (s : ScenarioValue) → CloseFacts s []
 close_start s n e calm = none_some n e
@@ -67,9 +60,6 @@ close_start s n e calm = none_some n e
 
 no_end : {A : Type 0} → (let x : LastMessage = complete in x) ≡ plain → A
 no_end e = wrong (ap is_complete e)
-
-some_zero : {A : Type 0} (count : ℕ) → (count == 0) ≡ false → count ≡ 0 → A
-some_zero count e f = wrong (sym (ap (λ (x : ℕ). x == 0) f) ∙ e)
 
 has_second : Messages → Bool
 has_second m = is_some m.second
@@ -101,9 +91,6 @@ item_known s k n l w names link last = ap (λ (x : Link). x.item) (same_Some l w
 
 fresh_closed : (s : ScenarioValue) (k : RunState) → (is_message_in (bus_of k) ≡ true → k.handshakes ≡ no_handshakes) → HasClosed s k
 fresh_closed s k e id served here m some calm = wrong (sym (ap (λ (h : Handshakes). h.answers == 0) (e here)) ∙ some)
-
-and_all : (a b c d : Bool) → a ≡ true → b ≡ true → c ≡ true → d ≡ false → (a && b && c && not d) ≡ true
-and_all a b c d ea eb ec ed = λ i. ea i && eb i && ec i && not (ed i)
 
 front : (a b : Bool) → (a && not b) ≡ true → a ≡ true
 front true b e = refl
@@ -196,11 +183,11 @@ closed_stay s p row n c o prompt was next facts places after r g ep h id served 
         last : l.last ≡ complete
         last =
             last_one l k.exchange.plan.messages k.exchange.plan.next k.handshakes.requests
-            (subst (λ (x : Phase). LastBy l k.exchange.plan k.handshakes.requests k.story.bus_state.dialogue.is_last x) (message_in_phase (bus_of k) there) (((facts.last n con off).0 l id knows.link_is e).begun begun))
+            (subst (λ (x : Phase). LastBy l k.exchange.plan k.handshakes.requests k.story.bus_state.dialogue.is_last x) (in_phase (bus_of k) there) (((facts.last n con off).0 l id knows.link_is e).begun begun))
             messages asked
 
         done : is_completion l c ≡ true
-        done = and_all (rises c.before.ack c.after.ack) (is_message_in c.before) (is_complete l.last) c.after.atn rose before (ap is_complete last) low
+        done = all_four (rises c.before.ack c.after.ack) (is_message_in c.before) (is_complete l.last) c.after.atn rose before (ap is_complete last) low
 
         status : ℕ
         status = slice_index (carried_here k id).status.bytes 0

@@ -12,20 +12,18 @@ use Rattle.disk_array.specs.Steps.{has_ended, running_process}
 use Rattle.disk_array.specs.Units.{RunningProcess, Array, settled_array}
 use Rattle.bus_books.proofs.Lookups.{self_id}
 use Rattle.trace_laws.proofs.EachProcess.{running_id}
-
-no_array : {A : Type 0} (a : Array) → (let o : Option Array = None in o) ≡ Some a → A
-no_array a e = absurd cc
+use Rattle.trace_laws.proofs.Impossible.{none_some}
 
 -- Where END is a step, the process has ended after it.
 pub ended_after : (s : ScenarioValue) (a b : Array) (id : ProcId) (status : ℕ) → Steps.step s (events.End id status) a ≡ Some b → has_ended b id ≡ true
 ended_after s a b id status e = by (running_process a id) refl
   where
     by : (o : Option RunningProcess) → running_process a id ≡ o → has_ended b id ≡ true
-    by None z = no_array b (sym (ap (λ (x : Option RunningProcess). Steps.settled_array_if (Steps.end_step a status x)) z) ∙ e)
+    by None z = none_some b (sym (ap (λ (x : Option RunningProcess). Steps.settled_array_if (Steps.end_step a status x)) z) ∙ e)
     by (Some r) z = of_reply r.reply refl
       where
         of_reply : (o : Option Reply) → r.reply ≡ o → has_ended b id ≡ true
-        of_reply None w = no_array b (sym ((λ i. Steps.settled_array_if (Steps.end_step a status (z i))) ∙ ap (λ (x : Option Reply). Steps.settled_array_if (Steps.end_step_with a r.process status x)) w) ∙ e)
+        of_reply None w = none_some b (sym ((λ i. Steps.settled_array_if (Steps.end_step a status (z i))) ∙ ap (λ (x : Option Reply). Steps.settled_array_if (Steps.end_step_with a r.process status x)) w) ∙ e)
         of_reply (Some reply) w = go (reply.status == status) refl
           where
             next : Array
@@ -38,4 +36,4 @@ ended_after s a b id status e = by (running_process a id) refl
             go true f =
                 let is : settled_array next ≡ b = same_Some (settled_array next) b (sym (ap (λ (x : Bool). Steps.settled_array_if (if x then Some next else None)) f) ∙ shown) in
                 ap (λ (x : Array). has_ended x id) (sym is) ∙ (λ i. (ap (λ (y : ProcId). same_id y id) (running_id a id r z) ∙ self_id id) i || has_ended (Steps.after_status a r.process reply) id)
-            go false f = no_array b (sym (ap (λ (x : Bool). Steps.settled_array_if (if x then Some next else None)) f) ∙ shown)
+            go false f = none_some b (sym (ap (λ (x : Bool). Steps.settled_array_if (if x then Some next else None)) f) ∙ shown)

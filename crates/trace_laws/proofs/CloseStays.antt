@@ -1,6 +1,6 @@
 -- As the initiator takes COMMAND COMPLETE, it is the only message that is said, once, and the bus is freed after it; and ATN stays false
 -- after it (6.6.5).
-use Rattle.std.proofs.Common.{ℕ, ◌≡◌, ◌<◌, Bool, true, false, not, ◌&&◌, ◌==◌, ◌∙◌, List, ◌∷◌, Some, refl, sym, ap, subst, true≢false}
+use Rattle.std.proofs.Common.{ℕ, ◌≡◌, ◌<◌, Bool, true, false, not, ◌&&◌, ◌==◌, ◌∙◌, List, ◌∷◌, Some, refl, sym, ap, subst}
 use Rattle.bus_trace.specs.LineSet.{LineSet}
 use Rattle.bus_trace.specs.Changes.{change_of, rises}
 use Rattle.bus_trace.specs.Phases.{is_message_in}
@@ -26,6 +26,7 @@ use Rattle.bus_due.specs.Plain.{IsPlain, AreOfDevices}
 use Rattle.bus_due.specs.RunState.{RunState, bus_of}
 use Rattle.bus_due.specs.RunSteps.{run_state}
 use Rattle.bus_due.proofs.Plains.{run_state_plain}
+use Rattle.bus_books.specs.Hearing.{is_in_phase}
 use Rattle.bus_books.specs.Traces.{GoesOn}
 use Rattle.bus_laws.proofs.Apart.{change_plain}
 use Rattle.bus_laws.proofs.Prompt.{least_is}
@@ -34,16 +35,12 @@ use Rattle.trace_laws.specs.ItemTalks.{awaits}
 use Rattle.trace_laws.specs.LastTalks.{is_freeing, LastFacts, LastBy, LastGiven, still_stays, to_close, to_save, closed}
 use Rattle.trace_laws.specs.Tells.{IsServed, of_process, of_abort, ServedFacts}
 use Rattle.trace_laws.proofs.ConnectionRows.{ConnectionRow, connection_row}
+use Rattle.trace_laws.proofs.Impossible.{wrong, wrong'}
 use Rattle.trace_laws.proofs.InMoves.{in_move, alternating}
 use Rattle.trace_laws.proofs.Joint.{Stood, NextStood}
-use Rattle.trace_laws.proofs.OfferTurns.{message_in_phase}
+use Rattle.trace_laws.proofs.PhaseLines.{in_phase}
 use Rattle.trace_laws.proofs.TalkSteps.{Alternates}
-
-wrong : {A : Type 0} → true ≡ false → A
-wrong e = absurd (true≢false e)
-
-wrong' : {A : Type 0} → false ≡ true → A
-wrong' e = absurd (true≢false (sym e))
+use Rattle.trace_laws.proofs.Tests.{risen}
 
 -- ---- the last message
 
@@ -86,10 +83,6 @@ taking k c l e = let h = parts (rises c.before.ack c.after.ack) (is_message_in c
     parts true false z t q = wrong' q
     parts false y z t q = wrong' q
 
-abbrev is_in : Phase → Bool
-is_in phases.MessageIn = true
-is_in _ = false
-
 -- What is said then.
 pub said_then : (s : ScenarioValue) (p : List Row) (row : Row) (n : Connection) (c : Change) (l : Link) → Stood s p → ServedFacts s p → LastFacts s p → GoesOn s (run_state s p) row n c → (run_state s p).story.link ≡ Some l → is_completion l c ≡ true → IsCompleting (run_state s p) × ((run_state s p).exchange.plan.next ≡ nexts.FreeBus)
 said_then s p row n c l was served facts g link done = by (served n con off)
@@ -113,7 +106,7 @@ said_then s p row n c l was served facts g link done = by (served n con off)
     lines = ap is_message_in g.row_is.bus_is ∙ t.here
 
     here : phase_of (bus_of k) ≡ phases.MessageIn
-    here = message_in_phase (bus_of k) lines
+    here = in_phase (bus_of k) lines
 
     begun : k.exchange.begun ≡ true
     begun = (g.phase (message_line (bus_of k).msg (bus_of k).cd (bus_of k).io lines)).1
@@ -126,13 +119,9 @@ said_then s p row n c l was served facts g link done = by (served n con off)
     by (of_process id pr e f) =
         closed_one l k.exchange.plan.messages k.exchange.plan.next k.handshakes.requests
         (subst (λ (x : Phase). LastBy l k.exchange.plan k.handshakes.requests k.story.bus_state.dialogue.is_last x) here (((facts n con off).0 l id link e).begun begun)) t.last
-    by (of_abort m a e line host target re alone) = wrong (ap is_in (sym here ∙ (alone begun).0))
+    by (of_abort m a e line host target re alone) = wrong (ap is_in_phase (sym here ∙ (alone begun).0))
 
 -- ---- once, and ATN after it
-
-risen : (q r : Bool) → rises q r ≡ true → q ≡ false
-risen true r e = wrong' e
-risen false r e = refl
 
 both : (a b : Bool) → a ≡ true → b ≡ false → (a && not b) ≡ true
 both a b e f = λ i. e i && not (f i)

@@ -24,10 +24,13 @@ use Rattle.bus_story.specs.TraceHistory.{is_parity_error}
 use Rattle.bus_dialogue.specs.declared.exchange.Plan.{Plan}
 use Rattle.bus_dialogue.specs.Exchange.{Speech, next_word}
 use Rattle.bus_dialogue.specs.Words.{parity_error, detected_error, answer_bytes}
+use Rattle.scsi_device.proofs.Finds.{and_true}
 use Rattle.bus_books.specs.Listening.{Understanding, nothing_understood, understood_byte, understood}
 use Rattle.bus_books.specs.Speaking.{AreWordsHeard}
+use Rattle.bus_books.proofs.RowTies.{not_is}
 use Rattle.bus_books.proofs.Saying.{says_byte}
 use Rattle.trace_laws.specs.Commands.{IsNone, Counts}
+use Rattle.trace_laws.proofs.Impossible.{none_some, wrong}
 
 -- ---- a message
 
@@ -48,9 +51,6 @@ word_keeps q none x e words.DeviceReset h = h
 word_keeps q none x e words.ParityError h = h
 word_keeps q none x e words.Other h = h
 
-no_void : {A : Type 0} (x : Spoken) → (let o : Option Spoken = None in o) ≡ Some x → A
-no_void x e = absurd cc
-
 same_void : (x y : Spoken) → (let o : Option Spoken = Some x in o) ≡ Some y → x ≡ y
 same_void x y e = ap (λ (o : Option Spoken). or_spoken o) e
   where
@@ -68,12 +68,12 @@ voided q h c = go h.void refl
 -- ---- MESSAGE OUT
 
 said_counts : (q : CommandBytes → Type 0) → q no_command → (h : Heard) (w : Word) → Counts q h → Counts q (heard_with_out h w)
-said_counts q none h words.ParityError c = record { now = voided q h c; void = λ x e. no_void x e }
-said_counts q none h (words.Offer a) c = record { now = word_keeps q none h.now ends.Initiator (words.Offer a) c.now; void = λ x e. no_void x e }
-said_counts q none h words.Reject c = record { now = word_keeps q none h.now ends.Initiator words.Reject c.now; void = λ x e. no_void x e }
-said_counts q none h words.Restore c = record { now = none; void = λ x e. no_void x e }
-said_counts q none h words.DeviceReset c = record { now = c.now; void = λ x e. no_void x e }
-said_counts q none h words.Other c = record { now = c.now; void = λ x e. no_void x e }
+said_counts q none h words.ParityError c = record { now = voided q h c; void = λ x e. none_some x e }
+said_counts q none h (words.Offer a) c = record { now = word_keeps q none h.now ends.Initiator (words.Offer a) c.now; void = λ x e. none_some x e }
+said_counts q none h words.Reject c = record { now = word_keeps q none h.now ends.Initiator words.Reject c.now; void = λ x e. none_some x e }
+said_counts q none h words.Restore c = record { now = none; void = λ x e. none_some x e }
+said_counts q none h words.DeviceReset c = record { now = c.now; void = λ x e. none_some x e }
+said_counts q none h words.Other c = record { now = c.now; void = λ x e. none_some x e }
 
 out_counts : (q : CommandBytes → Type 0) → q no_command → (h : Heard) (g : Got MsgOut) → Counts q h → Counts q (heard_out h g)
 out_counts q none h (Whole m n) c = said_counts q none h (word_out m) c
@@ -92,9 +92,6 @@ abbrev pub is_refusal : Option MsgOut → Bool
 is_refusal None = false
 is_refusal (Some m) = is_parity_error m
 
-unrefused : {A : Type 0} → true ≡ false → A
-unrefused e = absurd cc
-
 out_now : (q : CommandBytes → Type 0) → q no_command → (h : Heard) (g : Got MsgOut) → is_refusal (whole_out g) ≡ false → q h.now.command → q (heard_out h g).now.command
 out_now q none h More e c = c
 out_now q none h Unknown e c = c
@@ -111,7 +108,7 @@ out_now q none h (Whole m n) e c = go m e
     go to_target.ClearQueue f = c
     go to_target.DeviceReset f = c
     go to_target.DetectedError f = c
-    go to_target.ParityError f = unrefused f
+    go to_target.ParityError f = wrong f
     go to_target.Reject f = word_keeps q none h.now ends.Initiator words.Reject c
     go to_target.Nop f = c
 
@@ -128,17 +125,9 @@ abbrev no_refusals : Understanding → List ℕ → Bool
 no_refusals u [] = true
 no_refusals u (b ∷ bytes) = not (is_refusal (whole_out (got_out (u.half ++ b ∷ [])))) && no_refusals (understood_byte u b) bytes
 
-both : (a b : Bool) → (a && b) ≡ true → (a ≡ true) × (b ≡ true)
-both true b e = (refl, e)
-both false b e = absurd cc
-
-not_is : (q : Bool) → not q ≡ true → q ≡ false
-not_is true e = absurd cc
-not_is false e = refl
-
 none_at : (u : Understanding) (before : List ℕ) (byte : ℕ) (rest : List ℕ) → no_refusals u (before ++ byte ∷ rest) ≡ true → is_refusal (whole_out (got_out ((understood u before).half ++ byte ∷ []))) ≡ false
-none_at u [] byte rest e = not_is _ (both (not (is_refusal (whole_out (got_out (u.half ++ byte ∷ []))))) (no_refusals (understood_byte u byte) rest) e).0
-none_at u (b ∷ before) byte rest e = none_at (understood_byte u b) before byte rest (both (not (is_refusal (whole_out (got_out (u.half ++ b ∷ []))))) (no_refusals (understood_byte u b) (before ++ byte ∷ rest)) e).1
+none_at u [] byte rest e = not_is _ (and_true (not (is_refusal (whole_out (got_out (u.half ++ byte ∷ []))))) (no_refusals (understood_byte u byte) rest) e).0
+none_at u (b ∷ before) byte rest e = none_at (understood_byte u b) before byte rest (and_true (not (is_refusal (whole_out (got_out (u.half ++ b ∷ []))))) (no_refusals (understood_byte u b) (before ++ byte ∷ rest)) e).1
 
 answers_nothing_back : (h : Option HostDef) (a : Agreement) → no_refusals nothing_understood (answer_bytes h a) ≡ true
 unfolding form_out

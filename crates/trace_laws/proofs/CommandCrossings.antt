@@ -14,7 +14,6 @@ use Rattle.bus_phases.specs.declared.spoken.Heard.{Heard}
 use Rattle.bus_phases.specs.Dialogue.{command_on, heard_with_command, fresh_bytes, byte_out, byte_in, byte_else}
 use Rattle.cdb_codec.specs.Cdb.{group_len, is_len, has_group_len}
 use Rattle.msg_grammar.specs.declared.message.MsgOut.{MsgOut}
-use Rattle.msg_grammar.specs.declared.message.MsgIn.{MsgIn}
 use Rattle.msg_grammar.specs.Messages.{got_out, got_in}
 use Rattle.scenario.specs.Value.{ScenarioValue}
 use Rattle.bus_story.specs.BusState.{RowReading, whole_out, whole_in}
@@ -24,7 +23,7 @@ use Rattle.bus_dialogue.specs.declared.exchange.Next.{Next}
 use Rattle.bus_dialogue.specs.declared.exchange.Phase.{Phase}
 use Rattle.bus_dialogue.specs.declared.exchange.Phase.TheVariants as phases
 use Rattle.bus_dialogue.specs.declared.exchange.Plan.{Plan}
-use Rattle.bus_dialogue.specs.Exchange.{Exchange, Speech, plan_after_message, speech_after_byte, speech_after_request}
+use Rattle.bus_dialogue.specs.Exchange.{Exchange, plan_after_message}
 use Rattle.bus_dialogue.specs.NextPhase.{phase_of}
 use Rattle.bus_due.specs.RunState.{RunState, bus_of, carried_here}
 use Rattle.bus_due.specs.RunSteps.{run_state_after}
@@ -40,12 +39,8 @@ use Rattle.trace_laws.proofs.BlockRows.{takes_block}
 use Rattle.trace_laws.proofs.CommandStays.{Waits, WaitsThen, phase_same}
 use Rattle.trace_laws.proofs.CommandTurns.{serves_as, item_as}
 use Rattle.trace_laws.proofs.CommandMessages.{crossed_out, crossed_in, crossed_else, tells, same_item, SaidRow, said_in, GivenRow, given_for}
-
-wrong : {A : Type 0} → true ≡ false → A
-wrong e = absurd cc
-
-wrong' : {A : Type 0} → false ≡ true → A
-wrong' e = absurd cc
+use Rattle.trace_laws.proofs.Complaints.{speech_said}
+use Rattle.trace_laws.proofs.Impossible.{wrong, wrong'}
 
 -- ---- COMMAND
 
@@ -131,10 +126,6 @@ plan_said true true m p = (refl, refl, refl)
 plan_said true false m p = (refl, refl, refl)
 plan_said false last m p = (refl, refl, refl)
 
-words_said : (q : Bool) (m : Option MsgIn) (v : Speech) → (if q then speech_after_byte v else speech_after_request v m).words ≡ v.words
-words_said true m v = refl
-words_said false m v = refl
-
 -- What is asked of a row with which a byte crosses.
 pub record Crosses (s : ScenarioValue) (k : RunState) (n : Connection) (c : Change) : Type 0 where
   pub begun : k.exchange.begun ≡ true
@@ -183,7 +174,7 @@ cross_keeps s k row n c r ef ep er x w h = record {
         (ap (λ (y : Exchange). y.plan.messages) i.exchange_is ∙ p.0, ap (λ (y : Exchange). y.plan.next) i.exchange_is ∙ p.1, ap (λ (y : Exchange). y.plan.cause) i.exchange_is ∙ p.2)
 
     words : j.exchange.speech.words ≡ k.exchange.speech.words
-    words = ap (λ (y : Exchange). y.speech.words) i.exchange_is ∙ words_said (is_message_out c.before) reading.into k.exchange.speech
+    words = ap (λ (y : Exchange). y.speech.words) i.exchange_is ∙ speech_said (is_message_out c.before) reading.into k.exchange.speech
 
     tests : (p : Phase) → phase_of (bus_of k) ≡ p → record { out = is_message_out c.before; into = is_message_in c.before; command = is_command c.before; msg = c.before.msg } ≡ tests_in p
     tests p e = ap (λ (b : LineSet). record { out = is_message_out b; into = is_message_in b; command = is_command b; msg = b.msg }) (sym r.bus_is) ∙ tests_of (bus_of k) (λ z. (x.phase z).0) ∙ ap tests_in e

@@ -3,6 +3,7 @@
 use Rattle.std.proofs.Common.{ℕ, ◌≡◌, ◌<◌, ◌⊎◌, inl, inr, Bool, true, false, not, ◌&&◌, ◌%◌, ◌∙◌, List, ◌∷◌, ◌++◌, length, Option, Some, None, refl, sym, ap, subst, arith}
 use Rattle.std.specs.Prelude.{if◌then◌else◌, is_some, slice_index_or}
 use Rattle.std.proofs.lemmas.Option.{same_Some}
+use Rattle.std.proofs.lemmas.Bool.{and_from}
 use Rattle.bus_base.specs.declared.ProcId.{ProcId}
 use Rattle.bus_trace.specs.LineSet.{LineSet}
 use Rattle.bus_trace.specs.declared.Row.{Row}
@@ -44,13 +45,8 @@ use Rattle.trace_laws.proofs.Blocks.{HasCommands}
 use Rattle.trace_laws.proofs.CommandWaits.{asked_now}
 use Rattle.trace_laws.proofs.Crossings.{Goes, RowFacts, stays, ends_here}
 use Rattle.trace_laws.proofs.ConnectionRows.{ConnectionRow}
+use Rattle.trace_laws.proofs.Impossible.{wrong, wrong'}
 use Rattle.trace_laws.proofs.Joint.{Stood}
-
-wrong : {A : Type 0} → true ≡ false → A
-wrong e = absurd cc
-
-wrong' : {A : Type 0} → false ≡ true → A
-wrong' e = absurd cc
 
 -- ---- the block of the process
 
@@ -144,9 +140,6 @@ implied : (a b : Bool) → (a ≡ true → b ≡ true) → implies a b ≡ true
 implied true b f = f refl
 implied false b f = refl
 
-both_true : (a b : Bool) → a ≡ true → b ≡ true → (a && b) ≡ true
-both_true a b e f = λ i. e i && f i
-
 pub command_kept : (s : ScenarioValue) (p : List Row) (row : Row) (n : Connection) → HasCommands s → Stood s p → row.dev < 8 → CommandBooks s (run_state s p) n → ConnectionRow s p row n → (bus p).rst ≡ false → connection p ≡ Some n → has_whole_command p row ≡ true
 unfolding seen_with
 command_kept s p row n gr was lt h r calm con = implied _ _ (λ cr. go r.facts (sym (ap (λ (o : Option Connection). is_some (receiver_of o (change_of p row))) con) ∙ cr))
@@ -162,7 +155,7 @@ command_kept s p row n gr was lt h r calm con = implied _ _ (λ cr. go r.facts (
     go (stays g) cr =
         let change : g.change ≡ change_of p row = sym g.row_is.change_is ∙ change_plain s row p was.standing.devices lt in
         let crosses : is_some (receiver_in n g.change) ≡ true = ap (λ (c : Change). is_some (receiver_in n c)) change ∙ cr in
-        both_true _ _
+        and_from _ _
         (implied _ _ (λ here.
         let x = crosses_command s p row n was h r g change crosses here in
         let v = x.takes.0 in

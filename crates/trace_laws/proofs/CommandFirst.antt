@@ -6,11 +6,9 @@ use Rattle.bus_trace.specs.declared.Row.{Row}
 use Rattle.bus_trace.specs.declared.connection.Connection.{Connection}
 use Rattle.bus_phases.specs.declared.dialogue.Dialogue.{Dialogue}
 use Rattle.bus_phases.specs.declared.spoken.CommandBytes.{CommandBytes}
-use Rattle.bus_phases.specs.declared.spoken.Spoken.{Spoken}
 use Rattle.bus_phases.specs.Dialogue.{no_command, opened, dialogue_after}
 use Rattle.scenario.specs.Value.{ScenarioValue}
 use Rattle.bus_story.specs.BusState.{row_reading}
-use Rattle.bus_story.specs.CarriedBytes.{CarriedBytes}
 use Rattle.bus_story.specs.HistoryEvents.{row_events_by}
 use Rattle.bus_story.specs.Items.{Item, process, abort}
 use Rattle.bus_story.specs.Links.{link_of}
@@ -32,19 +30,8 @@ use Rattle.bus_books.specs.Traces.{Begins}
 use Rattle.bus_books.proofs.Knows.{events_link}
 use Rattle.trace_laws.specs.Commands.{IsNone, IsNoneOrAll, dialogue_of, Counts, HasNoBlock, UndoesToNone, GivesFor, StandsIn, CommandBooks}
 use Rattle.trace_laws.proofs.BlockRows.{block_in, undo_of, events_block, restored_own}
-use Rattle.trace_laws.proofs.CommandTurns.{in_phase}
-
-wrong : {A : Type 0} → true ≡ false → A
-wrong e = absurd cc
-
-wrong' : {A : Type 0} → false ≡ true → A
-wrong' e = absurd cc
-
-no_undo : {A : Type 0} (c : CarriedBytes) → (let o : Option CarriedBytes = None in o) ≡ Some c → A
-no_undo c e = absurd cc
-
-no_void : {A : Type 0} (x : Spoken) → (let o : Option Spoken = None in o) ≡ Some x → A
-no_void x e = absurd cc
+use Rattle.trace_laws.proofs.Impossible.{wrong, wrong', none_some}
+use Rattle.trace_laws.proofs.PhaseLines.{in_phase}
 
 -- The pointers of its process are restored.
 restored_first : (b : Story) (n : Connection) (id : ProcId) → n.reselected ≡ false → aim_of b.aims n.initiator ≡ Some (process id) → block_in (story_after_connection b n) id ≡ []
@@ -81,7 +68,7 @@ first_keeps s k row n aims b = go n.reselected refl
     heard = λ i. dialogue_after k.story.bus_state.dialogue (f.connection_is i) (f.next_is i) (λ x y. agreement_in k.story.bus_state.agreed x y) (row_reading k.story.bus_state row).change
 
     none : (q : CommandBytes → Type 0) → q no_command → (Counts q (dialogue_of j).heard) × (Counts q (dialogue_of j).at_phase)
-    none q h = subst (λ (d : Dialogue). (Counts q d.heard) × (Counts q d.at_phase)) (sym heard) (record { now = h; void = λ x e. no_void x e }, record { now = h; void = λ x e. no_void x e })
+    none q h = subst (λ (d : Dialogue). (Counts q d.heard) × (Counts q d.at_phase)) (sym heard) (record { now = h; void = λ x e. none_some x e }, record { now = h; void = λ x e. none_some x e })
 
     begun : j.exchange.begun ≡ n.reselected
     begun = ap (λ (x : Exchange). x.begun) made
@@ -93,7 +80,7 @@ first_keeps s k row n aims b = go n.reselected refl
         ∙ ap (λ (q : Bool). undo_of (if q then record k.story { link = None } else story_on_bus s k.story k.story.bus_state.connection (row_reading k.story.bus_state row).next (row_reading k.story.bus_state row) row).link) f.calm
         ∙ (λ i. undo_of (story_on_bus s k.story (f.connection_is i) (f.next_is i) (row_reading k.story.bus_state row) row).link)
         ∙ undo_first k.story n in
-        no_undo c (sym (sym (ap undo_of e) ∙ is) ∙ g)
+        none_some c (sym (sym (ap undo_of e) ∙ is) ∙ g)
 
     block : n.reselected ≡ false → HasNoBlock j
     block e id g =

@@ -1,7 +1,6 @@
 -- A byte of a message crosses: what counts of COMMAND after it.
 use Rattle.std.proofs.Common.{ℕ, ◌≡◌, ◌<◌, ◌⊎◌, inl, inr, Bool, true, false, ◌==◌, ◌∙◌, List, [], ◌∷◌, ◌++◌, length, Option, Some, None, refl, sym, ap, subst, arith}
 use Rattle.std.specs.Prelude.{if◌then◌else◌, is_some, slice_index_or}
-use Rattle.std.proofs.lemmas.Bool.Decides.{nat_tests}
 use Rattle.bus_base.specs.declared.ProcId.{ProcId}
 use Rattle.bus_trace.specs.declared.Row.{Row}
 use Rattle.bus_trace.specs.declared.changes.Change.{Change}
@@ -36,16 +35,12 @@ use Rattle.bus_books.specs.Listening.{half_after}
 use Rattle.bus_books.specs.Rows.{IsRowIn, reading_in}
 use Rattle.bus_books.specs.Speaking.{AreWordsFor, opens, refuses, answers, rejects_data, rejects_status, AreWordsHeard}
 use Rattle.bus_books.proofs.Knows.{link_after}
+use Rattle.link_laws.proofs.Ahead.{zero_of}
 use Rattle.trace_laws.specs.Commands.{IsNone, IsNoneOrAll, dialogue_of, Counts, UndoesToNone, IsUntaken, IsBeforeCommand, Restores, GivesBefore, opens_given, restores_given, AnswersBefore, opens_answered, restores_refused, restores_answered, GivesFor, AnswersFor, SaysFor}
 use Rattle.trace_laws.proofs.BlockRows.{block_in, undo_of, block_after, out_block, said_block, out_undo, in_block, restores_block, in_undo}
 use Rattle.trace_laws.proofs.CommandCounts.{byte_out_counts, byte_out_now, byte_in_counts, byte_in_first, byte_in_now, byte_in_restores, answer_said, error_said}
 use Rattle.trace_laws.proofs.CommandTurns.{serves_as}
-
-wrong : {A : Type 0} → true ≡ false → A
-wrong e = absurd cc
-
-wrong' : {A : Type 0} → false ≡ true → A
-wrong' e = absurd cc
+use Rattle.trace_laws.proofs.Impossible.{wrong, wrong'}
 
 -- ---- what the story tells of the byte
 
@@ -231,9 +226,6 @@ given_before : (s : ScenarioValue) (k j : RunState) (n : Connection) (l : Link) 
 given_before s k j n l byte e (opens_given h) = opens_given (given_opening s k j n l byte e h)
 given_before s k j n l byte e (restores_given r u) = restores_given (record { selected = r.selected; messages_are = e.messages_are ∙ r.messages_are }) (λ z. given_restores s k j n l byte e r)
 
-zero_is : (n : ℕ) → (n == 0) ≡ true → n ≡ 0
-zero_is n e = grind (arith, nat_tests)
-
 pub given_for : (s : ScenarioValue) (k j : RunState) (n : Connection) (l : Link) (byte : ℕ) (next : Next) → GivenRow s k j n l byte → GivesFor s k n next → GivesFor s j n next
 given_for s k j n l byte nexts.Command e (v, h) = (serves_as s k j e.served_is v, given_before s k j n l byte e h)
 given_for s k j n l byte nexts.GoOn e h =
@@ -244,7 +236,7 @@ given_for s k j n l byte nexts.GoOn e h =
     }
   where
     go : (q : Bool) → (k.handshakes.requests == 0) ≡ q → Counts IsNoneOrAll (byte_in (dialogue_of k) byte).heard
-    go true f = byte_in_first IsNoneOrAll refl (dialogue_of k) byte (none_given (dialogue_of k).half (bytes_of_messages k.exchange.plan.messages) k.handshakes.requests e.given (zero_is k.handshakes.requests f)) h.now
+    go true f = byte_in_first IsNoneOrAll refl (dialogue_of k) byte (none_given (dialogue_of k).half (bytes_of_messages k.exchange.plan.messages) k.handshakes.requests e.given (zero_of k.handshakes.requests f)) h.now
     go false f = byte_in_counts IsNoneOrAll refl (dialogue_of k) byte (h.given f)
 given_for s k j n l byte nexts.Status e h = tt
 given_for s k j n l byte nexts.FreeBus e h = tt

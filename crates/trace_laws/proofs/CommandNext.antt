@@ -8,7 +8,7 @@ use Rattle.bus_trace.specs.declared.Row.{Row}
 use Rattle.bus_trace.specs.declared.changes.Change.{Change}
 use Rattle.bus_trace.specs.declared.connection.Connection.{Connection}
 use Rattle.bus_trace.specs.Changes.{change_of, rises}
-use Rattle.bus_trace.specs.Phases.{changes_phase, is_command, is_data, is_message_out}
+use Rattle.bus_trace.specs.Phases.{changes_phase, is_command, is_message_out}
 use Rattle.bus_trace.specs.Terms.{is_fault, connection, receiver_in}
 use Rattle.bus_trace.specs.Trace.{bus}
 use Rattle.bus_lines.specs.Handshakes.{Handshakes}
@@ -37,6 +37,7 @@ use Rattle.bus_due.specs.RunState.{RunState, bus_of, carried_here}
 use Rattle.bus_due.specs.RunSteps.{run_state}
 use Rattle.bus_due.specs.Sights.{serving_of, leaving}
 use Rattle.bus_due.proofs.Plains.{run_state_plain}
+use Rattle.scsi_device.specs.Heard.{is_message}
 use Rattle.scsi_device.specs.Lines.{AreUnits}
 use Rattle.bus_books.specs.Carrying.{CarriesOwn}
 use Rattle.bus_books.specs.Items.{IsItem, is_process, is_abort}
@@ -55,47 +56,21 @@ use Rattle.trace_laws.proofs.CommandCrossings.{small_block, Crosses, cross_keeps
 use Rattle.trace_laws.proofs.CommandFacts.{served_process, same_process}
 use Rattle.trace_laws.proofs.CommandLeavings.{HasHeardAll, IsLeft}
 use Rattle.trace_laws.proofs.CommandStays.{WaitsThen, stay_keeps}
-use Rattle.trace_laws.proofs.CommandTurns.{out_lines, in_phase, same_blocks, Turns, turn_keeps}
+use Rattle.trace_laws.proofs.CommandTurns.{same_blocks, Turns, turn_keeps}
 use Rattle.trace_laws.proofs.CommandWaits.{WaitsBy, FollowsBy, unwhole, waits_on}
 use Rattle.trace_laws.proofs.Crossings.{Goes}
 use Rattle.trace_laws.proofs.ConnectionRows.{ConnectionRow, stage_of_connection}
+use Rattle.trace_laws.proofs.Impossible.{wrong, wrong'}
 use Rattle.trace_laws.proofs.Joint.{Stood, NextStood, link_phase}
-
-wrong : {A : Type 0} → true ≡ false → A
-wrong e = absurd cc
-
-wrong' : {A : Type 0} → false ≡ true → A
-wrong' e = absurd cc
-
-none_some : {A : Type 0} (n : Connection) → (let a : Option Connection = None in a) ≡ Some n → A
-none_some n e = absurd cc
+use Rattle.trace_laws.proofs.PhaseLines.{out_lines, in_phase, is_out_next, unpulsed}
 
 -- ---- MESSAGE OUT is left
-
-abbrev is_out : Phase → Bool
-is_out phases.MessageOut = true
-is_out _ = false
-
-unpulsed : (q : Bool) (b : LineSet) (r : Bool) → phase_of b ≡ phases.MessageOut → (q && is_data b && r) ≡ false
-unpulsed q b r e = go q b.msg b.cd b.io r (ap is_out e)
-  where
-    go : (q m d i r : Bool) → is_out (if m then (if i then phases.MessageIn else phases.MessageOut) else if d then (if i then phases.Status else phases.Command) else if i then phases.DataIn else phases.DataOut) ≡ true → (q && (not m && not d) && r) ≡ false
-    go true true d i r z = refl
-    go false true d i r z = refl
-    go true false true true r z = wrong' z
-    go true false true false r z = wrong' z
-    go true false false true r z = wrong' z
-    go true false false false r z = wrong' z
-    go false false true true r z = wrong' z
-    go false false true false r z = wrong' z
-    go false false false true r z = wrong' z
-    go false false false false r z = wrong' z
 
 -- No byte of it was struck.
 pub out_unstruck : (s : ScenarioValue) (k : RunState) (n : Connection) → phase_of (bus_of k) ≡ phases.MessageOut → IsOver s k n → k.exchange.plan.struck ≡ false
 out_unstruck s k n e h =
     last (k.handshakes.answers == 0 || (bus_of k).atn) k.exchange.plan.struck
-    (sym (ap (λ (q : Bool). follows_by (serving_of s k n.target) q (bus_of k) k.handshakes) (unpulsed k.exchange.begun (bus_of k) _ e) ∙ ap (follows_in (serving_of s k n.target) k.handshakes (bus_of k).atn) e) ∙ h.follows)
+    (sym (ap (λ (q : Bool). follows_by (serving_of s k n.target) q (bus_of k) k.handshakes) (unpulsed k.exchange.begun (bus_of k) _ (ap is_message e)) ∙ ap (follows_in (serving_of s k n.target) k.handshakes (bus_of k).atn) e) ∙ h.follows)
   where
     last : (a b : Bool) → (a || b) ≡ false → b ≡ false
     last true b z = wrong z
@@ -128,30 +103,26 @@ heard_all s k n u speaks b out phase last over h = record {
 
 -- ---- MESSAGE IN is left for MESSAGE OUT with ATN true
 
-abbrev to_out : Option Phase → Bool
-to_out (Some phases.MessageOut) = true
-to_out _ = false
-
-never_out : (v : Serving) (next : Next) → to_out (after_messages v next).to ≡ false
+never_out : (v : Serving) (next : Next) → is_out_next (after_messages v next).to ≡ false
 never_out v nexts.Command = refl
 never_out v nexts.Status = refl
 never_out v nexts.FreeBus = refl
 never_out v nexts.GoOn = go v.task
   where
-    to_data : (t : Task) (policy : Policy) → to_out (phase_entry (next_data_phase policy t t.runs)).to ≡ false
+    to_data : (t : Task) (policy : Policy) → is_out_next (phase_entry (next_data_phase policy t t.runs)).to ≡ false
     to_data t policy = by t.replied (nat_lt t.runs (runs_in_all policy t)) t.writes
       where
-        by : (a b c : Bool) → to_out (Some (if a then phases.Status else if b then (if c then phases.DataOut else phases.DataIn) else phases.Status)) ≡ false
+        by : (a b c : Bool) → is_out_next (Some (if a then phases.Status else if b then (if c then phases.DataOut else phases.DataIn) else phases.Status)) ≡ false
         by true b c = refl
         by false true true = refl
         by false true false = refl
         by false false c = refl
 
-    go : (o : Option Task) → to_out (with_task o (λ t. phase_entry (next_data_phase (policy_of v.def) t t.runs))).to ≡ false
+    go : (o : Option Task) → is_out_next (with_task o (λ t. phase_entry (next_data_phase (policy_of v.def) t t.runs))).to ≡ false
     go None = refl
     go (Some t) = to_data t (policy_of v.def)
 
-attended : (s : ScenarioValue) (k : RunState) (dev : ℕ) → k.exchange.begun ≡ true → phase_of (bus_of k) ≡ phases.MessageIn → to_out (leaving s k dev).to ≡ true → (bus_of k).atn ≡ true
+attended : (s : ScenarioValue) (k : RunState) (dev : ℕ) → k.exchange.begun ≡ true → phase_of (bus_of k) ≡ phases.MessageIn → is_out_next (leaving s k dev).to ≡ true → (bus_of k).atn ≡ true
 attended s k dev b e to = go (bus_of k).atn refl
   where
     v : Serving
@@ -162,7 +133,7 @@ attended s k dev b e to = go (bus_of k).atn refl
 
     go : (q : Bool) → (bus_of k).atn ≡ q → (bus_of k).atn ≡ true
     go true f = f
-    go false f = wrong (sym (sym (ap (λ (l : Leaving). to_out l.to) (is ∙ ap (λ (q : Bool). unless_attention q (after_messages v k.exchange.plan.next)) f)) ∙ to) ∙ never_out v k.exchange.plan.next)
+    go false f = wrong (sym (sym (ap (λ (l : Leaving). is_out_next l.to) (is ∙ ap (λ (q : Bool). unless_attention q (after_messages v k.exchange.plan.next)) f)) ∙ to) ∙ never_out v k.exchange.plan.next)
 
 -- ---- in COMMAND
 
@@ -258,17 +229,17 @@ turns_as s p row n u was nx lt answers h g w con calm con' calm' = turn
       asks = λ out into struck.
           let phase = in_phase (bus_of k) into in
           let b = (w.phase (first (bus_of k).msg (bus_of k).cd (bus_of k).io into)).1 in
-          answers into (attended s k n.target b phase (ap to_out (g.whereto ep (sym pl.begun ∙ b)) ∙ out_of c.after out)) struck;
+          answers into (attended s k n.target b phase (ap is_out_next (g.whereto ep (sym pl.begun ∙ b)) ∙ out_of c.after out)) struck;
     }
       where
         first : (m d i : Bool) → (m && d && i) ≡ true → m ≡ true
         first true d i z = refl
         first false d i z = wrong' z
 
-        out_of : (b : LineSet) → is_message_out b ≡ true → to_out (Some (phase_of b)) ≡ true
+        out_of : (b : LineSet) → is_message_out b ≡ true → is_out_next (Some (phase_of b)) ≡ true
         out_of b z = by b.msg b.cd b.io z
           where
-            by : (m d i : Bool) → (m && d && not i) ≡ true → to_out (Some (if m then (if i then phases.MessageIn else phases.MessageOut) else if d then (if i then phases.Status else phases.Command) else if i then phases.DataIn else phases.DataOut)) ≡ true
+            by : (m d i : Bool) → (m && d && not i) ≡ true → is_out_next (Some (if m then (if i then phases.MessageIn else phases.MessageOut) else if d then (if i then phases.Status else phases.Command) else if i then phases.DataIn else phases.DataOut)) ≡ true
             by true true true x = wrong' x
             by true true false x = refl
             by true false i x = wrong' x

@@ -23,11 +23,13 @@ use Rattle.bus_dialogue.specs.Exchange.{Exchange, struck_plan}
 use Rattle.bus_dialogue.specs.NextPhase.{phase_of}
 use Rattle.bus_due.specs.RunState.{RunState, bus_of, carried_here}
 use Rattle.bus_due.specs.RunSteps.{run_state_after}
+use Rattle.bus_books.specs.Hearing.{is_in_phase}
 use Rattle.bus_books.specs.Rows.{IsRowIn}
 use Rattle.bus_books.proofs.Gives.{requests_stay, struck_same}
 use Rattle.bus_books.proofs.InConnection.{InConnection, in_connection, SamePhase, same_phase_is}
 use Rattle.trace_laws.specs.Commands.{IsNone, IsNoneOrAll, dialogue_of, block_count, Counts, IsUntaken, IsBeforeCommand, Restores, GivesBefore, opens_given, restores_given, AnswersBefore, opens_answered, restores_refused, restores_answered, TakesBlock, GivesFor, AnswersFor, SaysFor, StandsIn, CommandBooks}
 use Rattle.trace_laws.proofs.CommandTurns.{SameBlocks, no_block_as, undo_as, serves_as, item_as, same_blocks}
+use Rattle.trace_laws.proofs.Impossible.{wrong'}
 
 -- In COMMAND a byte is asked for while the block is not whole, and the first one before any was taken.
 pub record Waits (k : RunState) (id : ProcId) : Type 0 where
@@ -128,17 +130,10 @@ plan_stays : (q : Bool) (p : Plan) → ((if q then struck_plan p else p).message
 plan_stays true p = (refl, refl, refl)
 plan_stays false p = (refl, refl, refl)
 
-abbrev is_in : Phase → Bool
-is_in phases.MessageIn = true
-is_in _ = false
-
-wrong' : {A : Type 0} → false ≡ true → A
-wrong' e = absurd cc
-
 in_io : (b : LineSet) → phase_of b ≡ phases.MessageIn → b.io ≡ true
-in_io b e = go b.msg b.cd b.io (ap is_in e)
+in_io b e = go b.msg b.cd b.io (ap is_in_phase e)
   where
-    go : (m d i : Bool) → is_in (if m then (if i then phases.MessageIn else phases.MessageOut) else if d then (if i then phases.Status else phases.Command) else if i then phases.DataIn else phases.DataOut) ≡ true → i ≡ true
+    go : (m d i : Bool) → is_in_phase (if m then (if i then phases.MessageIn else phases.MessageOut) else if d then (if i then phases.Status else phases.Command) else if i then phases.DataIn else phases.DataOut) ≡ true → i ≡ true
     go true d true z = refl
     go true d false z = wrong' z
     go false true true z = wrong' z

@@ -38,13 +38,15 @@ use Rattle.bus_due.specs.RunState.{RunState, bus_of, carried_here}
 use Rattle.bus_due.specs.RunSteps.{run_state_after}
 use Rattle.bus_due.specs.Sights.{hearing_of, leaving, serving_of}
 use Rattle.bus_books.specs.Giving.{Gives}
-use Rattle.bus_books.specs.Hearing.{HasPhase}
+use Rattle.bus_books.specs.Hearing.{HasPhase, is_out_phase}
 use Rattle.bus_books.specs.Rows.{IsRowIn, reading_in}
 use Rattle.bus_books.proofs.InConnection.{InConnection, in_connection}
 use Rattle.bus_books.proofs.Knows.{link_after}
 use Rattle.trace_laws.specs.Commands.{IsNone, IsNoneOrAll, dialogue_of, block_count, Counts, HasNoBlock, UndoesToNone, Serves, IsUntaken, IsBeforeCommand, GivesBefore, opens_given, restores_given, AnswersBefore, opens_answered, restores_refused, restores_answered, TakesBlock, RejectsOn, GivesFor, AnswersFor, SaysFor, StandsIn, ItemServed, CommandBooks}
 use Rattle.trace_laws.proofs.BlockRows.{block_after, quiet_block, quiet_link}
 use Rattle.trace_laws.proofs.CommandLeavings.{IsReady, by_opening, by_restoring, LeadsIn, LeadsTo, Leads, IsLeft, leads}
+use Rattle.trace_laws.proofs.Impossible.{wrong}
+use Rattle.trace_laws.proofs.PhaseLines.{out_lines, in_phase, out_phase}
 
 -- ---- what stays
 
@@ -75,58 +77,14 @@ same_blocks s k row n c r e served = record {
 
 -- ---- lines
 
-wrong : {A : Type 0} → true ≡ false → A
-wrong e = absurd cc
-
-wrong' : {A : Type 0} → false ≡ true → A
-wrong' e = absurd cc
-
-abbrev is_out : Phase → Bool
-is_out phases.MessageOut = true
-is_out _ = false
-
-abbrev is_into : Phase → Bool
-is_into phases.MessageIn = true
-is_into _ = false
-
-pub out_lines : (b : LineSet) → phase_of b ≡ phases.MessageOut → (b.msg ≡ true → b.cd ≡ true) → is_message_out b ≡ true
-out_lines b e known = go b.msg b.cd b.io (ap is_out e) known
+not_out : (b : LineSet) (phase : Phase) → phase_of b ≡ phase → is_out_phase phase ≡ false → is_message_out b ≡ false
+not_out b phase e f = go b.msg b.cd b.io (ap is_out_phase e ∙ f)
   where
-    go : (m d i : Bool) → is_out (if m then (if i then phases.MessageIn else phases.MessageOut) else if d then (if i then phases.Status else phases.Command) else if i then phases.DataIn else phases.DataOut) ≡ true → (m ≡ true → d ≡ true) → (m && d && not i) ≡ true
-    go true true true z h = wrong' z
-    go true true false z h = refl
-    go true false i z h = wrong' (h refl)
-    go false true true z h = wrong' z
-    go false true false z h = wrong' z
-    go false false true z h = wrong' z
-    go false false false z h = wrong' z
-
-not_out : (b : LineSet) (phase : Phase) → phase_of b ≡ phase → is_out phase ≡ false → is_message_out b ≡ false
-not_out b phase e f = go b.msg b.cd b.io (ap is_out e ∙ f)
-  where
-    go : (m d i : Bool) → is_out (if m then (if i then phases.MessageIn else phases.MessageOut) else if d then (if i then phases.Status else phases.Command) else if i then phases.DataIn else phases.DataOut) ≡ false → (m && d && not i) ≡ false
+    go : (m d i : Bool) → is_out_phase (if m then (if i then phases.MessageIn else phases.MessageOut) else if d then (if i then phases.Status else phases.Command) else if i then phases.DataIn else phases.DataOut) ≡ false → (m && d && not i) ≡ false
     go true true true z = refl
     go true true false z = wrong z
     go true false i z = refl
     go false d i z = refl
-
-pub in_phase : (b : LineSet) → is_message_in b ≡ true → phase_of b ≡ phases.MessageIn
-in_phase b e = go b.msg b.cd b.io e
-  where
-    go : (m d i : Bool) → (m && d && i) ≡ true → (if m then (if i then phases.MessageIn else phases.MessageOut) else if d then (if i then phases.Status else phases.Command) else if i then phases.DataIn else phases.DataOut) ≡ phases.MessageIn
-    go true true true z = refl
-    go true true false z = wrong' z
-    go true false i z = wrong' z
-    go false d i z = wrong' z
-
-out_is : (b : LineSet) → is_message_out b ≡ true → phase_of b ≡ phases.MessageOut
-out_is b e = go b.msg b.cd b.io e
-  where
-    go : (m d i : Bool) → (m && d && not i) ≡ true → (if m then (if i then phases.MessageIn else phases.MessageOut) else if d then (if i then phases.Status else phases.Command) else if i then phases.DataIn else phases.DataOut) ≡ phases.MessageOut
-    go true true true z = wrong' z
-    go true true false z = refl
-    go true false i z = wrong' z
-    go false d i z = wrong' z
 
 -- ---- MESSAGE OUT begins
 
@@ -163,7 +121,7 @@ before_turn k j n same ed h = record {
 untaken_turn : (k j : RunState) → SameBlocks k j → dialogue_of j ≡ phase_begins (dialogue_of k) → IsUntaken k → IsUntaken j
 untaken_turn k j same ed h = record { counts = subst (λ (d : Dialogue). IsNone d.heard.now.command) (sym ed) h.counts; block = no_block_as k j same h.block }
 
-abbrev is_command_next : Next → Bool
+abbrev pub is_command_next : Next → Bool
 is_command_next nexts.Command = true
 is_command_next _ = false
 
@@ -223,7 +181,7 @@ enters_command s k j n same ed h =
     )
 
 -- A phase other than MESSAGE OUT.
-enters : (s : ScenarioValue) (k j : RunState) (n : Connection) (l : Leaving) (phase : Phase) → SameBlocks k j → dialogue_of j ≡ phase_begins (dialogue_of k) → j.handshakes.requests ≡ 0 → j.exchange.plan.messages ≡ l.messages → j.exchange.plan.next ≡ l.next → is_out phase ≡ false → LeadsTo s k n l.next l.messages (Some phase) → StandsIn s j n phase
+enters : (s : ScenarioValue) (k j : RunState) (n : Connection) (l : Leaving) (phase : Phase) → SameBlocks k j → dialogue_of j ≡ phase_begins (dialogue_of k) → j.handshakes.requests ≡ 0 → j.exchange.plan.messages ≡ l.messages → j.exchange.plan.next ≡ l.next → is_out_phase phase ≡ false → LeadsTo s k n l.next l.messages (Some phase) → StandsIn s j n phase
 enters s k j n l phases.MessageOut same ed er em en o h = wrong o
 enters s k j n l phases.MessageIn same ed er em en o h = subst (λ (x : Next). GivesFor s j n x) (sym en) (enters_in s k j n l.next l.messages same ed er em h)
 enters s k j n l phases.Command same ed er em en o h = enters_command s k j n same ed h
@@ -299,7 +257,7 @@ turn_keeps s k row n c r phase gives ef ep er t h = record {
     plan : j.exchange.plan ≡ plan_in_phase w l k.exchange.plan
     plan = ap (λ (x : Exchange). x.plan) i.exchange_is
 
-    not_first : (phase : Phase) → phase_of c.after ≡ phase → is_out phase ≡ false → is_message_out c.after ≡ false
+    not_first : (phase : Phase) → phase_of c.after ≡ phase → is_out_phase phase ≡ false → is_message_out c.after ≡ false
     not_first phase e o = not_out c.after phase e o
 
     by_plan : (q : Bool) → is_message_out c.after ≡ q → (b : Bool) → k.exchange.begun ≡ b → j.exchange.plan ≡ (if not q then record (plan_anew k.exchange.plan) { messages = l.messages; next = l.next } else if b then plan_in_message_out w k.exchange.plan else plan_anew k.exchange.plan)
@@ -319,7 +277,7 @@ turn_keeps s k row n c r phase gives ef ep er t h = record {
         let count = g.count_is in
         omega arith
 
-    others : k.exchange.begun ≡ true → (phase : Phase) → phase_of c.after ≡ phase → is_out phase ≡ false → StandsIn s j n (phase_of c.after)
+    others : k.exchange.begun ≡ true → (phase : Phase) → phase_of c.after ≡ phase → is_out_phase phase ≡ false → StandsIn s j n (phase_of c.after)
     others b phase e o =
         let p = by_plan false (not_first phase e o) true b in
         subst (λ (x : Phase). StandsIn s j n x) (sym e)
@@ -329,7 +287,7 @@ turn_keeps s k row n c r phase gives ef ep er t h = record {
     go false b phase e =
         let out = t.first b in
         let p = by_plan true out false b in
-        subst (λ (x : Phase). StandsIn s j n x) (sym (out_is c.after out))
+        subst (λ (x : Phase). StandsIn s j n x) (sym (out_phase c.after out))
         (subst (λ (x : Cause). SaysFor s j n x) (sym (ap (λ (x : Plan). x.cause) p ∙ t.selected b)) (before_turn k j n same i.dialogue_is (h.unbegun b)))
     go true b phases.MessageOut e =
         let out = out_lines c.after e t.known in

@@ -1,7 +1,6 @@
 -- In COMMAND the target asks for a byte while the block is not whole (6.1.6, 7.2).
 use Rattle.std.proofs.Common.{ℕ, ◌≡◌, ◌≢◌, ◌<◌, Bool, true, false, not, ◌&&◌, ◌==◌, ◌∙◌, List, [], ◌∷◌, Option, Some, None, refl, sym, ap, arith}
 use Rattle.std.specs.Prelude.{if◌then◌else◌}
-use Rattle.std.proofs.lemmas.Bool.Decides.{nat_tests}
 use Rattle.bus_base.specs.Faults.{counted_on}
 use Rattle.bus_trace.specs.LineSet.{LineSet, none, union, byte_set}
 use Rattle.bus_trace.specs.declared.Row.{Row}
@@ -32,16 +31,13 @@ use Rattle.bus_laws.specs.Ends.{EndLines, connected_bus, initiator_side, target_
 use Rattle.bus_laws.specs.Rows.{row_of_lines}
 use Rattle.bus_laws.proofs.Rows.{drives_own, drives_other}
 use Rattle.link_laws.specs.Phases.{ends}
+use Rattle.link_laws.proofs.Ahead.{zero_of}
 use Rattle.link_laws.proofs.EndDues.{offering_with}
 use Rattle.link_laws.proofs.Moves.{initiator_moves, target_moves}
+use Rattle.trace_laws.proofs.Impossible.{wrong, wrong'}
 use Rattle.trace_laws.proofs.LinkRows as rows
 use Rattle.trace_laws.proofs.LinkRows.{LinkRow, is_unasked}
-
-wrong : {A : Type 0} → true ≡ false → A
-wrong e = absurd cc
-
-wrong' : {A : Type 0} → false ≡ true → A
-wrong' e = absurd cc
+use Rattle.trace_laws.proofs.StatusOffers.{left_req}
 
 -- ---- a byte follows while the block is not whole
 
@@ -96,22 +92,6 @@ none_in true c e = wrong' e
 none_in false true e = wrong' e
 none_in false false e = wrong' e
 
-no_request : (v : Serving) (io : Bool) (l : Leaving) (o : Option Phase) → (lines_by v io l o).req ≡ false
-no_request v io l None = refl
-no_request v io l (Some phase) = go (io && (phase_lines phase).io)
-  where
-    lines : (phase : Phase) → (phase_lines phase).req ≡ false
-    lines phases.DataOut = refl
-    lines phases.DataIn = refl
-    lines phases.Command = refl
-    lines phases.Status = refl
-    lines phases.MessageOut = refl
-    lines phases.MessageIn = refl
-
-    go : (q : Bool) → (if q then record (phase_lines phase) { data_bits = (byte_set (phase_byte v phase l.messages (one_if l.done) 0)).data_bits } else phase_lines phase).req ≡ false
-    go true = lines phase
-    go false = lines phase
-
 no_answer : (v : Serving) (io : Bool) (l : Leaving) (o : Option Phase) → (lines_by v io l o).ack ≡ false
 no_answer v io l None = refl
 no_answer v io l (Some phase) = go (io && (phase_lines phase).io)
@@ -127,9 +107,6 @@ no_answer v io l (Some phase) = go (io && (phase_lines phase).io)
     go : (q : Bool) → (if q then record (phase_lines phase) { data_bits = (byte_set (phase_byte v phase l.messages (one_if l.done) 0)).data_bits } else phase_lines phase).ack ≡ false
     go true = lines phase
     go false = lines phase
-
-zero_is : (n : ℕ) → (n == 0) ≡ true → n ≡ 0
-zero_is n e = grind (arith, nat_tests)
 
 -- The target drives these lines.
 left_bus : (p : List Row) (t : ℕ) (n : Connection) (e : EndLines) (l : LineSet) → Linked p n e → bus (row_of_lines t n.target l ∷ p) ≡ union (initiator_side e) l
@@ -216,7 +193,7 @@ waits_on s p row n block next link commands ec ep same follows w = go link
     go (rows.offers atn x msg cd h b un e) = here (ends false false atn x msg cd true false 0) h (λ z. none_in msg cd z)
     go (rows.asks_first bsy atn msg cd io y h b un first e) =
         asks _ _ h.stands.bus_is (by_target p row n (ends bsy false atn 0 msg cd io false y) msg cd io true y h e) refl refl
-        (ap has_group_len (w.fresh (ap (λ (l : LineSet). l.req) h.stands.bus_is) (zero_is (handshakes p).requests un)))
+        (ap has_group_len (w.fresh (ap (λ (l : LineSet). l.req) h.stands.bus_is) (zero_of (handshakes p).requests un)))
     go (rows.ends_req atn msg cd io x y h b un z e) = ended _ (by_target p row n (ends false true atn x msg cd io true y) msg cd io false _ h e) refl un
     go (rows.asks_next atn msg cd io y h b un z more e) =
         asks _ _ h.stands.bus_is (by_target p row n (ends false false atn 0 msg cd io false y) msg cd io true y h e) refl refl
@@ -225,7 +202,7 @@ waits_on s p row n block next link commands ec ep same follows w = go link
         let f : EndLines = ends false false atn x msg cd io false y in
         let v = serving_at s (run_state s p) n.target (phase_of (connected_bus f)) in
         let l = phase_leaving v atn (phase_of (connected_bus f)) in
-        ended _ (ap (λ (z : Row). bus (z ∷ p)) e ∙ left_bus p row.time n f (offering_with s p n true f).to h) (no_request v io l l.to) un
+        ended _ (ap (λ (z : Row). bus (z ∷ p)) e ∙ left_bus p row.time n f (offering_with s p n true f).to h) (left_req v io l l.to) un
     go (rows.ends_req_pulse io ack atn x y h b un z e) = here (ends false ack atn x false false io true y) h (λ z. wrong' z)
     go (rows.changes_pulsed ack atn y z h b un pulsed e) = here (ends false ack atn 0 false false true false y) h (λ z. wrong' z)
     go (rows.asks_pulse io ack atn x y h b un z zero byte e) = here (ends false ack atn x false false io false y) h (λ z. wrong' z)

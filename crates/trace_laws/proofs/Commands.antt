@@ -1,5 +1,5 @@
 -- Of a prompt trace: what is asked of each row of a connection about COMMAND, and what counts of it after the row.
-use Rattle.std.proofs.Common.{◌≡◌, ◌<◌, ◌^◌, Bool, true, false, ◌&&◌, ◌∙◌, List, [], ◌∷◌, length, Option, Some, None, refl, sym, ap, subst}
+use Rattle.std.proofs.Common.{◌≡◌, ◌<◌, ◌^◌, Bool, true, false, ◌&&◌, ◌∙◌, List, [], ◌∷◌, length, Some, None, refl, sym, ap, subst}
 use Rattle.std.specs.Prelude.{if◌then◌else◌, is_some}
 use Rattle.std.proofs.lemmas.Option.{same_Some}
 use Rattle.bus_trace.specs.LineSet.{LineSet}
@@ -34,17 +34,9 @@ use Rattle.trace_laws.proofs.CommandFirst.{first_keeps}
 use Rattle.trace_laws.proofs.CommandNext.{goes_keeps}
 use Rattle.trace_laws.proofs.Crossings.{RowFacts, stays, ends_here}
 use Rattle.trace_laws.proofs.ConnectionRows.{ConnectionRow, connection_row, stage_of_connection, going_row}
+use Rattle.trace_laws.proofs.Impossible.{wrong, wrong', none_some}
 use Rattle.trace_laws.proofs.Joint.{Stood, NextStood, link_phase}
 use Rattle.trace_laws.proofs.Offers.{answers_at_command}
-
-wrong : {A : Type 0} → true ≡ false → A
-wrong e = absurd cc
-
-wrong' : {A : Type 0} → false ≡ true → A
-wrong' e = absurd cc
-
-none_some : {A : Type 0} (n : Connection) → (let a : Option Connection = None in a) ≡ Some n → A
-none_some n e = absurd cc
 
 pub command_start : (s : ScenarioValue) → CommandFacts s []
 command_start s = record { books = λ n e calm. none_some n e }

@@ -40,19 +40,11 @@ use Rattle.bus_laws.proofs.Prompt.{least_is}
 use Rattle.link_laws.specs.LinkStages.{AnyStage, apart, linked}
 use Rattle.trace_laws.specs.RowAttendance.{IsCalmTurn}
 use Rattle.trace_laws.specs.Complaints.{ComplaintFacts, Refuses}
-use Rattle.trace_laws.proofs.CommandTurns.{out_lines}
 use Rattle.trace_laws.proofs.ConnectionRows.{connection_row, stage_of_connection}
 use Rattle.trace_laws.proofs.Crossings.{RowFacts, ends_here, stays}
+use Rattle.trace_laws.proofs.Impossible.{wrong, wrong', none_some}
 use Rattle.trace_laws.proofs.Joint.{NextStood, Stood, apart_connection, link_calm, link_phase}
-
-wrong : {A : Type 0} → true ≡ false → A
-wrong e = absurd cc
-
-wrong' : {A : Type 0} → false ≡ true → A
-wrong' e = absurd cc
-
-none_some : {A : Type 0} (n : Connection) → (let a : Option Connection = None in a) ≡ Some n → A
-none_some n e = absurd cc
+use Rattle.trace_laws.proofs.PhaseLines.{out_lines}
 
 -- ---- the answer to a request is heard as one
 

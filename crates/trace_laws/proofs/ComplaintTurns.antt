@@ -17,17 +17,13 @@ use Rattle.bus_dialogue.specs.DataRuns.{runs_in_all}
 use Rattle.bus_dialogue.specs.NextPhase.{Serving, after_arrival, after_messages, after_run, disconnect_messages, disconnection, leaving_by, next_data_phase, phase_entry, phase_leaving, phase_of, pointer_restoration, recovery, recovery_limit, with_task}
 use Rattle.bus_due.specs.RunState.{RunState, bus_of}
 use Rattle.bus_due.specs.Sights.{leaving, serving_of}
-use Rattle.trace_laws.proofs.InstructedTurns.{is_out_phase}
-
-wrong : {A : Type 0} → true ≡ false → A
-wrong e = absurd cc
-
-abbrev pub to_out : Option Phase → Bool
-to_out (Some phases.MessageOut) = true
-to_out _ = false
+use Rattle.bus_books.specs.Hearing.{is_out_phase}
+use Rattle.trace_laws.proofs.Impossible.{wrong}
+use Rattle.trace_laws.proofs.OfferTurns.{gives_in}
+use Rattle.trace_laws.proofs.PhaseLines.{is_out_next}
 
 abbrev NeverOut : Leaving → Type 0
-NeverOut l = to_out l.to ≡ false
+NeverOut l = is_out_next l.to ≡ false
 
 tasks : (t : Option Task) (f : Task → Leaving) → ((x : Task) → NeverOut (f x)) → NeverOut (with_task t f)
 tasks None f h = refl
@@ -78,7 +74,7 @@ from_data v true = tasks v.task _ (λ t. recovers v.def t (pointer_restoration n
 from_data v false = tasks v.task _ (λ t. run_over (policy_of v.def) t)
 
 -- With ATN false no phase but MESSAGE OUT is left for it.
-never_out : (v : Serving) (phase : Phase) → is_out_phase phase ≡ false → to_out (phase_leaving v false phase).to ≡ false
+never_out : (v : Serving) (phase : Phase) → is_out_phase phase ≡ false → is_out_next (phase_leaving v false phase).to ≡ false
 never_out v phases.MessageOut e = wrong e
 never_out v phases.MessageIn e = from_in v v.plan.next
 never_out v phases.Command e = from_command v v.arrival v.plan.struck
@@ -86,18 +82,11 @@ never_out v phases.DataIn e = tasks v.task _ (λ t. run_over (policy_of v.def) t
 never_out v phases.DataOut e = from_data v v.plan.struck
 never_out v phases.Status e = refl
 
--- A phase to the initiator.
-abbrev pub is_to_initiator : Phase → Bool
-is_to_initiator phases.MessageIn = true
-is_to_initiator phases.DataIn = true
-is_to_initiator phases.Status = true
-is_to_initiator _ = false
-
 pub record IsAttended (k : RunState) : Type 0 where
   pub attends : (bus_of k).atn ≡ true
-  pub phase : is_to_initiator (phase_of (bus_of k)) ≡ true
+  pub phase : gives_in (phase_of (bus_of k)) ≡ true
 
-pub attended_for : (s : ScenarioValue) (k : RunState) (dev : ℕ) → k.exchange.begun ≡ true → is_out_phase (phase_of (bus_of k)) ≡ false → to_out (leaving s k dev).to ≡ true → IsAttended k
+pub attended_for : (s : ScenarioValue) (k : RunState) (dev : ℕ) → k.exchange.begun ≡ true → is_out_phase (phase_of (bus_of k)) ≡ false → is_out_next (leaving s k dev).to ≡ true → IsAttended k
 attended_for s k dev b o to = record { attends = atn (bus_of k).atn refl; phase = here (phase_of (bus_of k)) refl }
   where
     v : Serving
@@ -108,24 +97,24 @@ attended_for s k dev b o to = record { attends = atn (bus_of k).atn refl; phase 
 
     atn : (q : Bool) → (bus_of k).atn ≡ q → (bus_of k).atn ≡ true
     atn true e = e
-    atn false e = wrong (sym to ∙ ap to_out is ∙ ap (λ (q : Bool). to_out (phase_leaving v q (phase_of (bus_of k))).to) e ∙ never_out v (phase_of (bus_of k)) o)
+    atn false e = wrong (sym to ∙ ap is_out_next is ∙ ap (λ (q : Bool). is_out_next (phase_leaving v q (phase_of (bus_of k))).to) e ∙ never_out v (phase_of (bus_of k)) o)
 
-    here : (x : Phase) → phase_of (bus_of k) ≡ x → is_to_initiator (phase_of (bus_of k)) ≡ true
-    here phases.MessageIn e = ap is_to_initiator e
-    here phases.DataIn e = ap is_to_initiator e
-    here phases.Status e = ap is_to_initiator e
+    here : (x : Phase) → phase_of (bus_of k) ≡ x → gives_in (phase_of (bus_of k)) ≡ true
+    here phases.MessageIn e = ap gives_in e
+    here phases.DataIn e = ap gives_in e
+    here phases.Status e = ap gives_in e
     here phases.MessageOut e = wrong (sym (ap is_out_phase e) ∙ o)
-    here phases.Command e = wrong (sym to ∙ ap to_out is ∙ ap (λ (x : Phase). to_out (phase_leaving v (bus_of k).atn x).to) e ∙ never_out v phases.Command refl)
-    here phases.DataOut e = wrong (sym to ∙ ap to_out is ∙ ap (λ (x : Phase). to_out (phase_leaving v (bus_of k).atn x).to) e ∙ never_out v phases.DataOut refl)
+    here phases.Command e = wrong (sym to ∙ ap is_out_next is ∙ ap (λ (x : Phase). is_out_next (phase_leaving v (bus_of k).atn x).to) e ∙ never_out v phases.Command refl)
+    here phases.DataOut e = wrong (sym to ∙ ap is_out_next is ∙ ap (λ (x : Phase). is_out_next (phase_leaving v (bus_of k).atn x).to) e ∙ never_out v phases.DataOut refl)
 
 -- With ATN true a phase to the initiator is left for MESSAGE OUT.
-pub left_for_out : (s : ScenarioValue) (k : RunState) (dev : ℕ) → k.exchange.begun ≡ true → is_to_initiator (phase_of (bus_of k)) ≡ true → (bus_of k).atn ≡ true → (leaving s k dev).to ≡ Some phases.MessageOut
+pub left_for_out : (s : ScenarioValue) (k : RunState) (dev : ℕ) → k.exchange.begun ≡ true → gives_in (phase_of (bus_of k)) ≡ true → (bus_of k).atn ≡ true → (leaving s k dev).to ≡ Some phases.MessageOut
 left_for_out s k dev b to atn = ap (λ (q : Bool). (leaving_by v q (bus_of k)).to) b ∙ ap (λ (q : Bool). (phase_leaving v q (phase_of (bus_of k))).to) atn ∙ go (phase_of (bus_of k)) to
   where
     v : Serving
     v = serving_of s k dev
 
-    go : (x : Phase) → is_to_initiator x ≡ true → (phase_leaving v true x).to ≡ Some phases.MessageOut
+    go : (x : Phase) → gives_in x ≡ true → (phase_leaving v true x).to ≡ Some phases.MessageOut
     go phases.MessageIn e = refl
     go phases.DataIn e = refl
     go phases.Status e = refl

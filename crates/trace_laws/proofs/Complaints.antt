@@ -2,6 +2,7 @@
 -- the MESSAGE OUT that follows.
 use Rattle.std.proofs.Common.{ℕ, ◌≡◌, ◌⊎◌, inl, inr, Bool, true, false, not, ◌&&◌, ◌||◌, ◌∙◌, List, [], ◌∷◌, ◌++◌, length, Option, Some, None, refl, sym, ap, subst}
 use Rattle.std.specs.Prelude.{drop, if◌then◌else◌, is_some, nat_lt}
+use Rattle.std.proofs.lemmas.Bool.{or_right}
 use Rattle.bus_trace.specs.LineSet.{LineSet, same}
 use Rattle.bus_trace.specs.declared.Row.{Row}
 use Rattle.bus_trace.specs.declared.changes.Change.{Change}
@@ -43,37 +44,28 @@ use Rattle.bus_due.specs.RunSteps.{run_state, run_state_after}
 use Rattle.bus_due.specs.Sights.{hearing_of, leaving}
 use Rattle.bus_due.proofs.Plains.{run_state_plain}
 use Rattle.ending_causes.specs.WrongParity.{is_refusing, is_struck_phase}
-use Rattle.bus_books.specs.Hearing.{HasPhase}
+use Rattle.bus_books.specs.Hearing.{HasPhase, is_out_phase}
 use Rattle.bus_books.specs.Rows.{IsRowIn, RowKind, reading_in, still, strikes, crosses, turns}
 use Rattle.bus_books.specs.Traces.{GoesOn}
 use Rattle.bus_books.proofs.InConnection.{InConnection, SamePhase, in_connection, same_phase_is}
 use Rattle.bus_laws.specs.Ends.{BeginsConnection, by_selection, by_reselection}
 use Rattle.bus_laws.proofs.Prompt.{least_is}
 use Rattle.bus_laws.proofs.Apart.{change_plain}
+use Rattle.bus_laws.proofs.Tests.{or_true}
 use Rattle.trace_laws.specs.Attention.{Attention}
 use Rattle.trace_laws.specs.Complaints.{ComplaintFacts, ComplaintsBy, Refuses, any_struck}
 use Rattle.trace_laws.specs.Offers.{OfferFacts, offer_now}
 use Rattle.trace_laws.proofs.AttentionRows.{attention_row}
 use Rattle.trace_laws.proofs.CommandStays.{phase_same}
 use Rattle.trace_laws.proofs.ComplaintRows.{On, Raised, newest, oldest, raised_row, requested, was as before}
-use Rattle.trace_laws.proofs.ComplaintTurns.{IsAttended, attended_for, is_to_initiator, left_for_out, to_out}
+use Rattle.trace_laws.proofs.ComplaintTurns.{IsAttended, attended_for, left_for_out}
 use Rattle.trace_laws.proofs.ConnectionRows.{ConnectionRow, GoingRow, RowKindOf, begins_now, connection_row, goes_now, going_row, link_low, row_kind, stage_of_connection}
 use Rattle.trace_laws.proofs.FirstRows.{IsFirst}
-use Rattle.trace_laws.proofs.InstructedTurns.{is_out_phase, out_is}
+use Rattle.trace_laws.proofs.Impossible.{wrong, wrong', none_some}
+use Rattle.trace_laws.proofs.InstructedTurns.{out_is}
 use Rattle.trace_laws.proofs.Joint.{NextStood, Stood, link_phase}
-
-wrong : {A : Type 0} → true ≡ false → A
-wrong e = absurd cc
-
-wrong' : {A : Type 0} → false ≡ true → A
-wrong' e = absurd cc
-
-none_some : {A : Type 0} (n : Connection) → (let a : Option Connection = None in a) ≡ Some n → A
-none_some n e = absurd cc
-
-or_true : (q : Bool) → (q || true) ≡ true
-or_true true = refl
-or_true false = refl
+use Rattle.trace_laws.proofs.OfferTurns.{gives_in}
+use Rattle.trace_laws.proofs.PhaseLines.{is_out_next}
 
 -- ---- the newest request, and those that wait
 
@@ -111,10 +103,10 @@ first_any (r ∷ ws) e = λ i. e i || any_struck ws
 
 -- ---- lines
 
-lines_io : (b : LineSet) → b.io ≡ true → b.msg ≡ false → is_to_initiator (phase_of b) ≡ true
-lines_io b ei em = (λ i. is_to_initiator (if em i then (if b.io then phases.MessageIn else phases.MessageOut) else if b.cd then (if ei i then phases.Status else phases.Command) else if ei i then phases.DataIn else phases.DataOut)) ∙ go b.cd
+lines_io : (b : LineSet) → b.io ≡ true → b.msg ≡ false → gives_in (phase_of b) ≡ true
+lines_io b ei em = (λ i. gives_in (if em i then (if b.io then phases.MessageIn else phases.MessageOut) else if b.cd then (if ei i then phases.Status else phases.Command) else if ei i then phases.DataIn else phases.DataOut)) ∙ go b.cd
   where
-    go : (d : Bool) → is_to_initiator (if d then phases.Status else phases.DataIn) ≡ true
+    go : (d : Bool) → gives_in (if d then phases.Status else phases.DataIn) ≡ true
     go true = refl
     go false = refl
 
@@ -175,7 +167,7 @@ plan_struck : (q : Bool) (p : Plan) → (if q then struck_plan p else p).cause �
 plan_struck true p = refl
 plan_struck false p = refl
 
-speech_said : (q : Bool) (m : Option MsgIn) (v : Speech) → (if q then speech_after_byte v else speech_after_request v m).words ≡ v.words
+pub speech_said : (q : Bool) (m : Option MsgIn) (v : Speech) → (if q then speech_after_byte v else speech_after_request v m).words ≡ v.words
 speech_said true m v = refl
 speech_said false m v = refl
 
@@ -221,16 +213,13 @@ refusing_next : (s : ScenarioValue) (p : List Row) (row : Row) (n : Connection) 
 refusing_next s p row n c q h ep =
     λ i. is_some (h.row_is.connection_is i) && is_some (h.next i) && (if (ap changes_phase h.change ∙ ep) i then (h.change i).before.io && is_struck_phase s p && is_message_out (h.change i).after else is_refusing s p)
 
-either : (a b : Bool) → b ≡ true → (a || b) ≡ true
-either a b e = ap (λ (q : Bool). a || q) e ∙ or_true a
-
 stays_true : (s : ScenarioValue) (p : List Row) (row : Row) (n : Connection) (c : Change) (now : Bool) → RowHere s p row n c → changes_phase c ≡ false → is_some (receiver_in n c) ≡ now → ComplaintsBy s (row ∷ p) (run_state s (row ∷ p))
 stays_true s p row n c now h ep er = record {
   struck = λ e. struck_next s p row n c h ep ∙ newest_is (is_fault row.kind) refl (sym (ap (λ (x : Handshakes). x.struck) at.handshakes_is) ∙ e);
   waiting = λ e. struck_next s p row n c h ep ∙ waits (is_fault row.kind) refl (sym (ap (λ (x : Handshakes). any_struck x.waiting) at.handshakes_is) ∙ e);
   attends = λ io msg atn.
       struck_next s p row n c h ep
-      ∙ either (is_fault row.kind) (is_struck_phase s p)
+      ∙ or_right (is_fault row.kind) (is_struck_phase s p)
       (attended (sym lines.io ∙ ap (λ (l : LineSet). l.io) (sym at.bus_is) ∙ io) (sym lines.msg ∙ ap (λ (l : LineSet). l.msg) (sym at.bus_is) ∙ msg) (ap (λ (l : LineSet). l.atn) (sym at.bus_is) ∙ atn));
   refuses = λ e.
       subst (λ (x : Cause). Refuses (is_refusing s (row ∷ p)) j x) (sym said.cause)
@@ -259,11 +248,11 @@ stays_true s p row n c now h ep er = record {
 
     newest_is : (r : Bool) → is_fault row.kind ≡ r → (handshakes_after (is_fault row.kind) (Some n) c row.time k.handshakes).struck ≡ true → (is_fault row.kind || is_struck_phase s p) ≡ true
     newest_is true e z = λ i. e i || is_struck_phase s p
-    newest_is false e z = either (is_fault row.kind) (is_struck_phase s p) (h.facts.struck (struck_on _ _ row.time k.handshakes (sym (ap (λ (x : Handshakes). x.struck) (hands false e)) ∙ z)))
+    newest_is false e z = or_right (is_fault row.kind) (is_struck_phase s p) (h.facts.struck (struck_on _ _ row.time k.handshakes (sym (ap (λ (x : Handshakes). x.struck) (hands false e)) ∙ z)))
 
     waits : (r : Bool) → is_fault row.kind ≡ r → any_struck (handshakes_after (is_fault row.kind) (Some n) c row.time k.handshakes).waiting ≡ true → (is_fault row.kind || is_struck_phase s p) ≡ true
     waits true e z = λ i. e i || is_struck_phase s p
-    waits false e z = either (is_fault row.kind) (is_struck_phase s p) (h.facts.waiting (waiting_on _ _ row.time k.handshakes (sym (ap (λ (x : Handshakes). any_struck x.waiting) (hands false e)) ∙ z)))
+    waits false e z = or_right (is_fault row.kind) (is_struck_phase s p) (h.facts.waiting (waiting_on _ _ row.time k.handshakes (sym (ap (λ (x : Handshakes). any_struck x.waiting) (hands false e)) ∙ z)))
 
     attended : c.before.io ≡ true → c.before.msg ≡ false → c.after.atn ≡ true → is_struck_phase s p ≡ true
     attended io msg atn = by (h.raised io atn)
@@ -320,7 +309,7 @@ turned s p row n c w ep er = record {
         on : (bus_of k).atn ≡ true
         on = ap (λ (l : LineSet). l.atn) w.here.row_is.bus_is ∙ sym w.keeps ∙ atn
 
-        into : {A : Type 0} → is_to_initiator (phase_of (bus_of k)) ≡ true → A
+        into : {A : Type 0} → gives_in (phase_of (bus_of k)) ≡ true → A
         into z = wrong (sym (out_msg c.after (phases_same (sym w.whereto ∙ left_for_out s k n.target w.here.started z on))) ∙ msg)
           where
             phases_same : (let o : Option Phase = Some (phase_of c.after) in o) ≡ Some phases.MessageOut → phase_of c.after ≡ phases.MessageOut
@@ -331,9 +320,9 @@ turned s p row n c w ep er = record {
 
         by : {A : Type 0} (x : Phase) → phase_of (bus_of k) ≡ x → A
         by phases.MessageOut e = atn_of on (ap is_out_phase e)
-        by phases.MessageIn e = into (ap is_to_initiator e)
-        by phases.DataIn e = into (ap is_to_initiator e)
-        by phases.Status e = into (ap is_to_initiator e)
+        by phases.MessageIn e = into (ap gives_in e)
+        by phases.DataIn e = into (ap gives_in e)
+        by phases.Status e = into (ap gives_in e)
         by phases.Command e = let l = to_target (bus_of k) (ap is_to_target e) in low l.0 l.1
         by phases.DataOut e = let l = to_target (bus_of k) (ap is_to_target e) in low l.0 l.1
 
@@ -357,7 +346,7 @@ turned s p row n c w ep er = record {
         refusing : c.before.io ≡ true → is_struck_phase s p ≡ true → is_refusing s (row ∷ p) ≡ true
         refusing io z = refusing_next s p row n c true w.here ep ∙ (λ i. io i && z i && out i)
 
-        of_phase : IsAttended k → (m d i : Bool) → c.before.msg ≡ m → c.before.cd ≡ d → c.before.io ≡ i → is_to_initiator (if m then (if i then phases.MessageIn else phases.MessageOut) else if d then (if i then phases.Status else phases.Command) else if i then phases.DataIn else phases.DataOut) ≡ true → Refuses (is_refusing s (row ∷ p)) j (if m && d && i then causes.InMessage else if d then causes.InStatus else causes.InData)
+        of_phase : IsAttended k → (m d i : Bool) → c.before.msg ≡ m → c.before.cd ≡ d → c.before.io ≡ i → gives_in (if m then (if i then phases.MessageIn else phases.MessageOut) else if d then (if i then phases.Status else phases.Command) else if i then phases.DataIn else phases.DataOut) ≡ true → Refuses (is_refusing s (row ∷ p)) j (if m && d && i then causes.InMessage else if d then causes.InStatus else causes.InData)
         of_phase h true false i em ed ei z = wrong' (sym ed ∙ (ap (λ (l : LineSet). l.cd) (sym w.here.row_is.bus_is) ∙ (w.phase (ap (λ (l : LineSet). l.msg) w.here.row_is.bus_is ∙ em)).0))
         of_phase h true true false em ed ei z = wrong' z
         of_phase h false true false em ed ei z = wrong' z
@@ -373,8 +362,8 @@ turned s p row n c w ep er = record {
         go : (q : Bool) → is_out_phase (phase_of (bus_of k)) ≡ q → Refuses (is_refusing s (row ∷ p)) j (cause_after c.before)
         go true o = wrong (sym out ∙ not_out_again c ep (ap is_message_out (sym w.here.row_is.bus_is) ∙ out_is (bus_of k) (λ z. (w.phase z).0) ∙ o))
         go false o =
-            let h = attended_for s k n.target w.here.started o (ap to_out w.whereto ∙ ap (λ (x : Phase). to_out (Some x)) e) in
-            of_phase h c.before.msg c.before.cd c.before.io refl refl refl (ap (λ (l : LineSet). is_to_initiator (phase_of l)) (sym w.here.row_is.bus_is) ∙ h.phase)
+            let h = attended_for s k n.target w.here.started o (ap is_out_next w.whereto ∙ ap (λ (x : Phase). is_out_next (Some x)) e) in
+            of_phase h c.before.msg c.before.cd c.before.io refl refl refl (ap (λ (l : LineSet). gives_in (phase_of l)) (sym w.here.row_is.bus_is) ∙ h.phase)
 
 -- ---- any row
 

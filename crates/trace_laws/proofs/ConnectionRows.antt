@@ -1,5 +1,5 @@
 -- A row of a connection of a prompt trace, before and after which RST is false; and the first row of one.
-use Rattle.std.proofs.Common.{◌≡◌, ◌<◌, Bool, true, false, not, ◌&&◌, ◌||◌, ◌∙◌, List, ◌∷◌, Option, Some, None, refl, sym, ap, subst}
+use Rattle.std.proofs.Common.{◌≡◌, ◌<◌, Bool, true, false, not, ◌&&◌, ◌||◌, ◌∙◌, List, ◌∷◌, Some, None, refl, sym, ap, subst}
 use Rattle.std.specs.Prelude.{is_some, if◌then◌else◌}
 use Rattle.std.proofs.lemmas.Option.{same_Some}
 use Rattle.bus_trace.specs.LineSet.{LineSet}
@@ -34,14 +34,11 @@ use Rattle.link_laws.specs.LinkStages.{LinkStage, when_selected, when_settling, 
 use Rattle.trace_laws.proofs.Blocks.{commands_are}
 use Rattle.trace_laws.proofs.ByteValues.{byte_values}
 use Rattle.trace_laws.proofs.Crossings.{RowFacts, row_facts, Goes, stays, ends_here}
-use Rattle.trace_laws.proofs.Driven.{wrong}
 use Rattle.trace_laws.proofs.FirstRows.{IsFirst, is_first}
+use Rattle.trace_laws.proofs.Impossible.{none_some, wrong}
 use Rattle.trace_laws.proofs.Joint.{Stood, link_connection, link_calm, values_of, apart_connection}
 use Rattle.trace_laws.proofs.LinkRows.{LinkRow, link_row}
 use Rattle.trace_laws.proofs.Steps.{HasValues}
-
-none_some : (n : Connection) → (let a : Option Connection = None in a) ≡ Some n → ⊥
-none_some n e = absurd cc
 
 -- ---- what stands
 

@@ -43,12 +43,14 @@ use Rattle.link_laws.proofs.Leaves.{may_leave}
 use Rattle.link_laws.proofs.LinkObeys.{same_phases}
 use Rattle.link_laws.proofs.Moves.{phase_same, same_self, no_rise}
 use Rattle.link_laws.proofs.PhaseEnds.{leaves_lines}
-use Rattle.trace_laws.proofs.Driven.{message_at, message_follows, Driven, no_third, wrong, wrong'}
+use Rattle.trace_laws.proofs.Driven.{message_at, message_follows, Driven, no_third}
+use Rattle.trace_laws.proofs.Impossible.{wrong, wrong'}
 use Rattle.trace_laws.proofs.InPhase.{offered_in, follows_in_message}
 use Rattle.trace_laws.proofs.Kept.{EndRow, turn, row_in, initiator_end, target_end}
 use Rattle.trace_laws.proofs.LinkRows as rows
 use Rattle.trace_laws.proofs.LinkRows.{LinkRow, is_pulsed, is_unasked}
 use Rattle.trace_laws.proofs.Steps.{IsDriven, HasValues}
+use Rattle.trace_laws.proofs.Tests.{none_both, not_first}
 use Rattle.trace_laws.proofs.Turns.{freed_bus, freed_connection}
 
 -- The connection goes on with the row.
@@ -135,10 +137,6 @@ turning s p t d l n e f o r ep er first over to = stays (record {
   whereto = λ z b. to b;
   odd = λ z. no_byte _ er z;
 })
-
-none_both : (q : Bool) → (let o : Option ℕ = None in if q then o else o) ≡ None
-none_both true = refl
-none_both false = refl
 
 fault_facts : (s : ScenarioValue) (p : List Row) (t d bit : ℕ) (n : Connection) (e : EndLines) → AreOfDevices p → d < 8 → Linked p n e → RowFacts s p (row_of_fault t d bit) n
 fault_facts s p t d bit n e dv lt h =
@@ -238,10 +236,6 @@ over_by s p n atn msg cd io x y dv h b zero f d =
           ap (λ (l : LineSet). l.atn) on ∙ d.attention out (ap (λ (w : ℕ). w == 0 || false) none) ∙ (λ i. not (sym a.dialogue i).is_last);
     }
 
-unsame : (q r : Bool) → (not q && r) ≡ true → q ≡ false
-unsame true r e = wrong' e
-unsame false r e = refl
-
 turns_to : (s : ScenarioValue) (p : List Row) (t : ℕ) (n : Connection) (atn msg cd io : Bool) (x y : ℕ) (msg' cd' io' : Bool) (z : ℕ) → AreOfDevices p → Linked p n (ends false false atn x msg cd io false y) → begun p ≡ true → same_phases msg cd io msg' cd' io' ≡ false → IsOver s (run_state s p) n → (leaving s (run_state s p) n.target).to ≡ Some (phase_of (connected_bus (ends false false atn x msg' cd' io' false z))) → RowFacts s p (row_of_lines t n.target (target_side (ends false false atn x msg' cd' io' false z))) n
 turns_to s p t n atn msg cd io x y msg' cd' io' z dv h b differs over to =
     let e : EndLines = ends false false atn x msg cd io false y in
@@ -264,21 +258,21 @@ stops s p t n atn msg cd io x y h b over to =
 
 leaves_in : (s : ScenarioValue) (p : List Row) (t : ℕ) (n : Connection) (atn msg cd : Bool) (x y : ℕ) (v : Serving) (l : Leaving) (o : Option Phase) → AreOfDevices p → Linked p n (ends false false atn x msg cd true false y) → begun p ≡ true → IsOver s (run_state s p) n → may_leave msg cd true atn o ≡ true → (leaving s (run_state s p) n.target).to ≡ o → RowFacts s p (row_of_lines t n.target (lines_by v true l o)) n
 leaves_in s p t n atn msg cd x y v l None dv h b over m to = stops s p t n atn msg cd true x y h b over to
-leaves_in s p t n atn msg cd x y v l (Some phases.DataOut) dv h b over m to = turns_to s p t n atn msg cd true x y false false false 0 dv h b (unsame (same_phases msg cd true false false false) _ m) over to
-leaves_in s p t n atn msg cd x y v l (Some phases.Command) dv h b over m to = turns_to s p t n atn msg cd true x y false true false 0 dv h b (unsame (same_phases msg cd true false true false) _ m) over to
-leaves_in s p t n atn msg cd x y v l (Some phases.MessageOut) dv h b over m to = turns_to s p t n atn msg cd true x y true true false 0 dv h b (unsame (same_phases msg cd true true true false) _ m) over to
-leaves_in s p t n atn msg cd x y v l (Some phases.DataIn) dv h b over m to = turns_to s p t n atn msg cd true x y false false true _ dv h b (unsame (same_phases msg cd true false false true) _ m) over to
-leaves_in s p t n atn msg cd x y v l (Some phases.Status) dv h b over m to = turns_to s p t n atn msg cd true x y false true true _ dv h b (unsame (same_phases msg cd true false true true) _ m) over to
-leaves_in s p t n atn msg cd x y v l (Some phases.MessageIn) dv h b over m to = turns_to s p t n atn msg cd true x y true true true _ dv h b (unsame (same_phases msg cd true true true true) _ m) over to
+leaves_in s p t n atn msg cd x y v l (Some phases.DataOut) dv h b over m to = turns_to s p t n atn msg cd true x y false false false 0 dv h b (not_first (same_phases msg cd true false false false) _ m) over to
+leaves_in s p t n atn msg cd x y v l (Some phases.Command) dv h b over m to = turns_to s p t n atn msg cd true x y false true false 0 dv h b (not_first (same_phases msg cd true false true false) _ m) over to
+leaves_in s p t n atn msg cd x y v l (Some phases.MessageOut) dv h b over m to = turns_to s p t n atn msg cd true x y true true false 0 dv h b (not_first (same_phases msg cd true true true false) _ m) over to
+leaves_in s p t n atn msg cd x y v l (Some phases.DataIn) dv h b over m to = turns_to s p t n atn msg cd true x y false false true _ dv h b (not_first (same_phases msg cd true false false true) _ m) over to
+leaves_in s p t n atn msg cd x y v l (Some phases.Status) dv h b over m to = turns_to s p t n atn msg cd true x y false true true _ dv h b (not_first (same_phases msg cd true false true true) _ m) over to
+leaves_in s p t n atn msg cd x y v l (Some phases.MessageIn) dv h b over m to = turns_to s p t n atn msg cd true x y true true true _ dv h b (not_first (same_phases msg cd true true true true) _ m) over to
 
 leaves_out : (s : ScenarioValue) (p : List Row) (t : ℕ) (n : Connection) (atn msg cd : Bool) (x y : ℕ) (v : Serving) (l : Leaving) (o : Option Phase) → AreOfDevices p → Linked p n (ends false false atn x msg cd false false y) → begun p ≡ true → IsOver s (run_state s p) n → may_leave msg cd false atn o ≡ true → (leaving s (run_state s p) n.target).to ≡ o → RowFacts s p (row_of_lines t n.target (lines_by v false l o)) n
 leaves_out s p t n atn msg cd x y v l None dv h b over m to = stops s p t n atn msg cd false x y h b over to
-leaves_out s p t n atn msg cd x y v l (Some phases.DataOut) dv h b over m to = turns_to s p t n atn msg cd false x y false false false 0 dv h b (unsame (same_phases msg cd false false false false) _ m) over to
-leaves_out s p t n atn msg cd x y v l (Some phases.Command) dv h b over m to = turns_to s p t n atn msg cd false x y false true false 0 dv h b (unsame (same_phases msg cd false false true false) _ m) over to
-leaves_out s p t n atn msg cd x y v l (Some phases.MessageOut) dv h b over m to = turns_to s p t n atn msg cd false x y true true false 0 dv h b (unsame (same_phases msg cd false true true false) _ m) over to
-leaves_out s p t n atn msg cd x y v l (Some phases.DataIn) dv h b over m to = turns_to s p t n atn msg cd false x y false false true 0 dv h b (unsame (same_phases msg cd false false false true) _ m) over to
-leaves_out s p t n atn msg cd x y v l (Some phases.Status) dv h b over m to = turns_to s p t n atn msg cd false x y false true true 0 dv h b (unsame (same_phases msg cd false false true true) _ m) over to
-leaves_out s p t n atn msg cd x y v l (Some phases.MessageIn) dv h b over m to = turns_to s p t n atn msg cd false x y true true true 0 dv h b (unsame (same_phases msg cd false true true true) _ m) over to
+leaves_out s p t n atn msg cd x y v l (Some phases.DataOut) dv h b over m to = turns_to s p t n atn msg cd false x y false false false 0 dv h b (not_first (same_phases msg cd false false false false) _ m) over to
+leaves_out s p t n atn msg cd x y v l (Some phases.Command) dv h b over m to = turns_to s p t n atn msg cd false x y false true false 0 dv h b (not_first (same_phases msg cd false false true false) _ m) over to
+leaves_out s p t n atn msg cd x y v l (Some phases.MessageOut) dv h b over m to = turns_to s p t n atn msg cd false x y true true false 0 dv h b (not_first (same_phases msg cd false true true false) _ m) over to
+leaves_out s p t n atn msg cd x y v l (Some phases.DataIn) dv h b over m to = turns_to s p t n atn msg cd false x y false false true 0 dv h b (not_first (same_phases msg cd false false false true) _ m) over to
+leaves_out s p t n atn msg cd x y v l (Some phases.Status) dv h b over m to = turns_to s p t n atn msg cd false x y false true true 0 dv h b (not_first (same_phases msg cd false false true true) _ m) over to
+leaves_out s p t n atn msg cd x y v l (Some phases.MessageIn) dv h b over m to = turns_to s p t n atn msg cd false x y true true true 0 dv h b (not_first (same_phases msg cd false true true true) _ m) over to
 
 leaving_facts : (s : ScenarioValue) (p : List Row) (t : ℕ) (n : Connection) (atn msg cd io : Bool) (x y : ℕ) → AreOfDevices p → Linked p n (ends false false atn x msg cd io false y) → begun p ≡ true → (msg && not cd) ≡ false → IsOver s (run_state s p) n → RowFacts s p (row_of_lines t n.target (offering_with s p n true (ends false false atn x msg cd io false y)).to) n
 leaving_facts s p t n atn msg cd true x y dv h b known over =
@@ -347,11 +341,11 @@ of_target s p t n e req y dv h er =
 still_req : (n : Connection) (req : Bool) → (if rises req req then Some n.initiator else None) ≡ None
 still_req n req = ap (λ (q : Bool). if q then Some n.initiator else None) (no_rise req)
 
-no_pulse : (n : Connection) (io req : Bool) → (if io then (if rises req req then Some n.initiator else None) else None) ≡ None
+pub no_pulse : (n : Connection) (io req : Bool) → (if io then (if rises req req then Some n.initiator else None) else None) ≡ None
 no_pulse n true req = still_req n req
 no_pulse n false req = refl
 
-no_answer : (n : Connection) (io ack : Bool) → (if io then None else (if rises ack ack then Some n.target else None)) ≡ None
+pub no_answer : (n : Connection) (io ack : Bool) → (if io then None else (if rises ack ack then Some n.target else None)) ≡ None
 no_answer n true ack = refl
 no_answer n false ack = ap (λ (q : Bool). if q then Some n.target else None) (no_rise ack)
 

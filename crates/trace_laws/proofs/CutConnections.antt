@@ -31,7 +31,7 @@ use Rattle.bus_laws.specs.Ends.{BeginsConnection, EndLines, Linked, by_reselecti
 use Rattle.bus_laws.specs.Reactions.{device_with, own_time, reset_due}
 use Rattle.bus_laws.specs.Rows.{row_of_fault, row_of_lines}
 use Rattle.bus_laws.specs.Stages.{UnderRst}
-use Rattle.bus_laws.proofs.Dues.{due_in_reset, is_at, none_some}
+use Rattle.bus_laws.proofs.Dues.{due_in_reset, is_at}
 use Rattle.bus_laws.proofs.FromFree.{row_is}
 use Rattle.bus_laws.proofs.Prompt.{least_is}
 use Rattle.bus_laws.proofs.Resets.{due_calm, due_holding, due_there, one_of, own_reset_is}
@@ -45,19 +45,11 @@ use Rattle.trace_laws.proofs.Blocks.{commands_are}
 use Rattle.trace_laws.proofs.ByteValues.{byte_values}
 use Rattle.trace_laws.proofs.Crossings.{RowFacts, ends_here, row_facts, stays}
 use Rattle.trace_laws.proofs.FirstRows.{under_rst}
+use Rattle.trace_laws.proofs.Impossible.{wrong, wrong', none_some}
 use Rattle.trace_laws.proofs.Joint.{NextStood, Stood, link_calm, values_of}
 use Rattle.trace_laws.proofs.LinkRows as rows
 use Rattle.trace_laws.proofs.LinkRows.{LinkRow, link_row}
 use Rattle.trace_laws.proofs.UnderRst.{bsy_stands}
-
-wrong : {A : Type 0} → true ≡ false → A
-wrong e = absurd cc
-
-wrong' : {A : Type 0} → false ≡ true → A
-wrong' e = absurd cc
-
-no_connection : {A : Type 0} (n : Connection) → (let a : Option Connection = None in a) ≡ Some n → A
-no_connection n e = absurd cc
 
 -- ---- a row before or after which RST is true
 
@@ -111,7 +103,7 @@ lets_go s p row n o prompt was con after cut = go (bus p).rst refl
     -- A row that is due without RST raises none.
     no_rst : (bus (row ∷ p)).rst ≡ true → RowFacts s p row n → ⊥
     no_rst on (stays g) = wrong (sym on ∙ ap (λ (x : Change). x.after.rst) (sym (sym g.row_is.change_is ∙ change_plain s row p dv m.inside)) ∙ g.row_is.calm)
-    no_rst on (ends_here g) = no_connection n (sym g.stopped ∙ after)
+    no_rst on (ends_here g) = none_some n (sym g.stopped ∙ after)
 
     raised : (bus p).rst ≡ false → (bus (row ∷ p)).rst ≡ true → LetsGo row
     raised calm on = elim (reset_or_calm s p row was.standing calm m) [
@@ -130,7 +122,7 @@ lets_go s p row n o prompt was con after cut = go (bus p).rst refl
 
 -- ---- the lines that one device drives
 
-one_drives : (on : LineSet → Bool) → ((a b : LineSet) → on (union a b) ≡ (on a || on b)) → on none ≡ false → (p : List Row) (t : ℕ) → t < 8 → ((d : ℕ) → d < 8 → d ≢ t → on (drives p d) ≡ false) → on (bus p) ≡ on (drives p t)
+pub one_drives : (on : LineSet → Bool) → ((a b : LineSet) → on (union a b) ≡ (on a || on b)) → on none ≡ false → (p : List Row) (t : ℕ) → t < 8 → ((d : ℕ) → d < 8 → d ≢ t → on (drives p d) ≡ false) → on (bus p) ≡ on (drives p t)
 one_drives on both zero p t lt others = go (on (drives p t)) refl
   where
     go : (q : Bool) → on (drives p t) ≡ q → on (bus p) ≡ on (drives p t)
@@ -328,7 +320,7 @@ same_lines c e m = go c.before.msg c.before.cd c.before.io c.after.msg c.after.c
     go false d i x y z f g = wrong' g
 
 pub holds_start : HoldFacts []
-holds_start n e = no_connection n e
+holds_start n e = none_some n e
 
 pub holds_next : (s : ScenarioValue) (p : List Row) (row : Row) → Obeys s → IsPrompt s (row ∷ p) → Stood s p → NextStood s p row → HoldFacts p → HoldFacts (row ∷ p)
 holds_next s p row o prompt was nx facts n after = go (bus (row ∷ p)).rst refl
@@ -338,7 +330,7 @@ holds_next s p row o prompt was nx facts n after = go (bus (row ∷ p)).rst refl
 
     -- RST is true
     cut : (bus q).rst ≡ true → (x : Option Connection) → connection p ≡ x → EndsHold q n
-    cut on None e = no_connection n (sym (no_beginning p row on e) ∙ after)
+    cut on None e = none_some n (sym (no_beginning p row on e) ∙ after)
     cut on (Some m) e =
         let same : m ≡ n = same_if m (bus q).bsy (sym (λ i. connection_after (e i) (call p) (change_of p row) row) ∙ after) in
         let con = e ∙ ap (λ (y : Connection). Some y) same in
@@ -346,7 +338,7 @@ holds_next s p row o prompt was nx facts n after = go (bus (row ∷ p)).rst refl
       where
         same_if : (m : Connection) (r : Bool) → (if r then Some m else None) ≡ Some n → m ≡ n
         same_if m true f = same_Some m n f
-        same_if m false f = no_connection n f
+        same_if m false f = none_some n f
 
     -- RST is false
     calm : (bus q).rst ≡ false → EndsHold q n
@@ -436,7 +428,7 @@ cut_phase s p row n o prompt was facts con after cut ep = elim (cases_eq n.targe
         -- no other device would drive BSY
         still : (b : Bool) → (drives p n.initiator).bsy ≡ b → (drives p n.initiator).bsy ≡ true
         still true e = e
-        still false e = no_connection n (sym (bsy_stands q (bus_off (λ l. l.bsy) (λ _ _. refl) refl q each)) ∙ after)
+        still false e = none_some n (sym (bsy_stands q (bus_off (λ l. l.bsy) (λ _ _. refl) refl q each)) ∙ after)
           where
             each : (d : ℕ) → d < 8 → (drives q d).bsy ≡ false
             each d lt = elim (cases_eq d row.dev) [

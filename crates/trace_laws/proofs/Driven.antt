@@ -19,6 +19,7 @@ use Rattle.bus_due.specs.RunSteps.{run_state}
 use Rattle.bus_laws.specs.Ends.{EndLines, connected_bus, Linked}
 use Rattle.link_laws.specs.Phases.{ends}
 use Rattle.link_laws.proofs.EndDues.{offering_with, answering_with}
+use Rattle.trace_laws.proofs.Impossible.{wrong, wrong'}
 use Rattle.trace_laws.proofs.LinkRows.{is_pulsed, has_first, is_unasked}
 
 -- The next byte of MESSAGE IN, and whether one follows.
@@ -75,12 +76,6 @@ no_third false c e = true≢false (sym e)
 
 pub odd_byte : (b : ℕ) → b < 256 → IsOdd (byte_bits b)
 odd_byte b h = byte_odd b h
-
-pub wrong : {A : Type 0} → true ≡ false → A
-wrong e = absurd (true≢false e)
-
-pub wrong' : {A : Type 0} → false ≡ true → A
-wrong' e = absurd (true≢false (sym e))
 
 -- ---- by the direction of the phase
 

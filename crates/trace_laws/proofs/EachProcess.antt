@@ -21,15 +21,7 @@ use Rattle.disk_array.specs.Steps as Steps
 use Rattle.disk_array.specs.Steps.{is_of_unit, has_tag}
 use Rattle.bus_books.proofs.Lookups.{id_is}
 use Rattle.trace_laws.specs.Places.{fresh, Waits, Runs, OnUnit, OnUnits, OnGuests, Each}
-
-no_running : (x : RunningProcess) → (let a : Option RunningProcess = None in a) ≡ Some x → ⊥
-no_running x e = cc
-
-no_process : (p : Process) → (let a : Option Process = None in a) ≡ Some p → ⊥
-no_process p e = absurd cc
-
-no_unit : (u : UnitState) → (let a : Option UnitState = None in a) ≡ Some u → ⊥
-no_unit u e = absurd cc
+use Rattle.trace_laws.proofs.Impossible.{none_some}
 
 -- ---- lists
 
@@ -54,7 +46,7 @@ kept_waits q drops (p ∷ waiting) h = go (drops p) (kept_waits q drops waiting 
     go false k = (h.0, k)
 
 at_waits : (q : RunningProcess → Type 0) (waiting : List Process) (place : ℕ) (p : Process) → Waits q waiting → process_at waiting place ≡ Some p → q (fresh p)
-at_waits q [] place p h e = absurd (no_process p e)
+at_waits q [] place p h e = absurd (none_some p e)
 at_waits q (w ∷ waiting) zero p h e = subst (λ (x : Process). q (fresh x)) (same_Some w p e) h.0
 at_waits q (w ∷ waiting) (suc place) p h e = at_waits q waiting place p h.1 e
 
@@ -62,7 +54,7 @@ choice_waits : (q : RunningProcess → Type 0) (u : UnitState) (p : Process) →
 choice_waits q u p h e = go (chosen_place u.pick (entries_of u.waiting)) e
   where
     go : (x : Option ℕ) → process_at_if u.waiting x ≡ Some p → q (fresh p)
-    go None k = absurd (no_process p k)
+    go None k = absurd (none_some p k)
     go (Some place) k = at_waits q u.waiting place p h k
 
 pub with_units : (q : RunningProcess → Type 0) (units : List UnitState) (new : UnitState) → OnUnits q units → OnUnit q new → OnUnits q (with_unit units new)
@@ -74,7 +66,7 @@ with_units q (u ∷ units) new h g = go (u.target == new.target && u.unit == new
     go false k = (h.0, k)
 
 pub unit_has : (q : RunningProcess → Type 0) (units : List UnitState) (t n : ℕ) (u : UnitState) → unit_state_at units t n ≡ Some u → OnUnits q units → OnUnit q u
-unit_has q [] t n u e h = absurd (no_unit u e)
+unit_has q [] t n u e h = absurd (none_some u e)
 unit_has q (v ∷ units) t n u e h = go (v.target == t && v.unit == n) e (λ k. unit_has q units t n u k h.1)
   where
     go : (x : Bool) → (if x then Some v else unit_state_at units t n) ≡ Some u → (unit_state_at units t n ≡ Some u → OnUnit q u) → OnUnit q u
@@ -272,8 +264,8 @@ refused s q g a id own h = go (process_of s id) refl
     go (Some p) e = by p e (unit_state_at a.units p.target p.unit)
 
 -- A guest, or a current process, is found by its id.
-guest_id : (guests : List RunningProcess) (id : ProcId) (r : RunningProcess) → guest_at guests id ≡ Some r → same_id r.process.id id ≡ true
-guest_id [] id r e = absurd (no_running r e)
+pub guest_id : (guests : List RunningProcess) (id : ProcId) (r : RunningProcess) → guest_at guests id ≡ Some r → same_id r.process.id id ≡ true
+guest_id [] id r e = absurd (none_some r e)
 guest_id (g ∷ guests) id r e = go (same_id g.process.id id) refl e (λ k. guest_id guests id r k)
   where
     go : (x : Bool) → same_id g.process.id id ≡ x → (if x then Some g else guest_at guests id) ≡ Some r → (guest_at guests id ≡ Some r → same_id r.process.id id ≡ true) → same_id r.process.id id ≡ true
@@ -281,7 +273,7 @@ guest_id (g ∷ guests) id r e = go (same_id g.process.id id) refl e (λ k. gues
     go false z k rest = rest k
 
 pub current_id : (units : List UnitState) (id : ProcId) (r : RunningProcess) → Steps.running_in units id ≡ Some r → same_id r.process.id id ≡ true
-current_id [] id r e = absurd (no_running r e)
+current_id [] id r e = absurd (none_some r e)
 current_id (u ∷ units) id r e = go u.current e (λ k. current_id units id r k)
   where
     by : (g : RunningProcess) (x : Bool) → same_id g.process.id id ≡ x → (if is_some {T = RunningProcess} (if x then Some g else None) then (if x then Some g else None) else Steps.running_in units id) ≡ Some r → (Steps.running_in units id ≡ Some r → same_id r.process.id id ≡ true) → same_id r.process.id id ≡ true

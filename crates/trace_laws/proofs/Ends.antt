@@ -38,19 +38,10 @@ use Rattle.bus_laws.specs.Stages.{BusStage, HasDevice}
 use Rattle.link_laws.specs.LinkStages.{LinkStage, when_selected, when_settling, when_turning, when_offering, when_shaking, when_pulsing, AnyStage, apart, linked}
 use Rattle.trace_laws.specs.Ends.{HasEnds, AreEnds}
 use Rattle.trace_laws.proofs.Called.{IsCalled, IsMadeFor, IsDueCall, by_answer, made_of, own_units}
-use Rattle.trace_laws.proofs.Driven.{wrong, wrong'}
 use Rattle.trace_laws.proofs.FirstRows.{Made, made_is, quiet_sel, under_rst}
+use Rattle.trace_laws.proofs.Impossible.{none_some, wrong, wrong'}
 use Rattle.trace_laws.proofs.Joint.{Stood, link_connection}
 use Rattle.trace_laws.proofs.UnderRst.{quiet_at_end}
-
-no_connection : (n : Connection) → (let a : Option Connection = None in a) ≡ Some n → ⊥
-no_connection n e = absurd cc
-
-no_number : (n : ℕ) → (let a : Option ℕ = None in a) ≡ Some n → ⊥
-no_number n e = absurd cc
-
-no_process : (p : Process) → (let a : Option Process = None in a) ≡ Some p → ⊥
-no_process p e = absurd cc
 
 -- ---- the lines of the scenario
 
@@ -77,7 +68,7 @@ target_found s dev d none = go (target_def_of s dev) (host_of s dev) refl d.late
     go : (t : Option TargetDef) (h : Option HostDef) → host_of s dev ≡ h → target_latency t (host_latency h) ≡ Some d.latency → is_some t ≡ true
     go (Some t) h e l = refl
     go None (Some h) e l = wrong' (sym none ∙ host_any s.hosts dev (ap (λ (x : Option HostDef). is_some x) e))
-    go None None e l = absurd (no_number d.latency l)
+    go None None e l = absurd (none_some d.latency l)
 
 -- ---- the ends of a process, and of what an initiator calls for
 
@@ -102,23 +93,23 @@ process_ends : (s : ScenarioValue) (id : ProcId) (p : Process) → FitsBus s →
 process_ends s id p fits e = go (command_at s.commands id.command) refl
   where
     go : (o : Option CmdDef) → command_at s.commands id.command ≡ o → AreHosts s p.initiator p.target
-    go None z = absurd (no_process p (sym (ap (process_if s id) z) ∙ e))
+    go None z = absurd (none_some p (sym (ap (process_if s id) z) ∙ e))
     go (Some c) z =
         let line = command_fits s id.command c fits z in
         subst (λ (x : Process). AreHosts s x.initiator x.target) (same_Some (process_by s id c) p (sym (ap (process_if s id) z) ∙ e)) (by_command s id c (line.host_is, line.target_is))
 
 -- What an initiator calls is none.
 aim_target : (s : ScenarioValue) (aim : Option Item) (n : ℕ) → FitsBus s → target_of s aim ≡ Some n → is_host s.hosts n ≡ false
-aim_target s None n fits e = absurd (no_number n e)
+aim_target s None n fits e = absurd (none_some n e)
 aim_target s (Some (process id)) n fits e = go (process_of s id) refl
   where
     go : (o : Option Process) → process_of s id ≡ o → is_host s.hosts n ≡ false
-    go None z = absurd (no_number n (sym (ap target_if z) ∙ e))
+    go None z = absurd (none_some n (sym (ap target_if z) ∙ e))
     go (Some p) z = ap (is_host s.hosts) (sym (same_Some p.target n (sym (ap target_if z) ∙ e))) ∙ (process_ends s id p fits z).1
 aim_target s (Some (abort k)) n fits e = go (abort_line_at s.aborts k) refl
   where
     go : (o : Option AbortDef) → abort_line_at s.aborts k ≡ o → is_host s.hosts n ≡ false
-    go None z = absurd (no_number n (sym (ap abort_target z) ∙ e))
+    go None z = absurd (none_some n (sym (ap abort_target z) ∙ e))
     go (Some a) z = ap (is_host s.hosts) (sym (same_Some a.target n (sym (ap abort_target z) ∙ e))) ∙ (abort_fits s k a fits z).target_is
 
 -- ---- a connection begins
@@ -149,11 +140,11 @@ made_ends : (s : ScenarioValue) (p : List Row) (t : ℕ) (n : Connection) → Fi
 made_ends s p t n fits dv was there e = by_call (call p) refl e
   where
     by_calling : (k : Call) → call p ≡ Some k → (o : Option Calling) → k.calling ≡ o → connected_of k.caller o t ≡ Some n → HasEnds s n
-    by_calling k ek None _ z = absurd (no_connection n z)
+    by_calling k ek None _ z = absurd (none_some n z)
     by_calling k ek (Some x) some z = due_ends s p k.caller t x n fits dv (was k x ek some) (by_answer k.caller x x.answered t n z) there
 
     by_call : (o : Option Call) → call p ≡ o → connection_of o t ≡ Some n → HasEnds s n
-    by_call None _ z = absurd (no_connection n z)
+    by_call None _ z = absurd (none_some n z)
     by_call (Some k) some z = by_calling k some k.calling refl z
 
 -- The target of a connection drives BSY, so it is there.
@@ -196,10 +187,10 @@ first_ends s p row n fits was now lt obeys alone e = go (bus (row ∷ p)).rst re
 
     stage : AnyStage s p → BusStage s p
     stage (apart h alone) = h
-    stage (linked m h) = absurd (no_connection m (sym alone ∙ link_connection s p m h))
+    stage (linked m h) = absurd (none_some m (sym alone ∙ link_connection s p m h))
 
     go : (q : Bool) → (bus (row ∷ p)).rst ≡ q → (r : Bool) → (bus p).rst ≡ r → HasEnds s n
-    go true f r g = absurd (no_connection n (sym ((λ i. connection_after (alone i) (call p) (change_of p row) row) ∙ fallen (falls (bus p).sel (bus (row ∷ p)).sel) (bus (row ∷ p)).bsy f) ∙ e))
+    go true f r g = absurd (none_some n (sym ((λ i. connection_after (alone i) (call p) (change_of p row) row) ∙ fallen (falls (bus p).sel (bus (row ∷ p)).sel) (bus (row ∷ p)).bsy f) ∙ e))
       where
         fallen : (a b : Bool) → (bus (row ∷ p)).rst ≡ true → (if a && b && not (bus (row ∷ p)).rst then connection_of (call p) row.time else None) ≡ None
         fallen true true z = ap (λ (x : Bool). if not x then connection_of (call p) row.time else None) z
@@ -215,7 +206,7 @@ ends_on s p row fits was now lt obeys ends n e = go (connection p) refl
   where
     same : (m : Connection) (q : Bool) → (if q then Some m else None) ≡ Some n → m ≡ n
     same m true z = same_Some m n z
-    same m false z = absurd (no_connection n z)
+    same m false z = absurd (none_some n z)
 
     go : (o : Option Connection) → connection p ≡ o → HasEnds s n
     go None alone = first_ends s p row n fits was now lt obeys alone e

@@ -30,13 +30,9 @@ use Rattle.bus_books.specs.Rows.{IsRowIn, reading_in}
 use Rattle.bus_books.proofs.InConnection.{reading_is}
 use Rattle.bus_books.proofs.Lookups.{id_is, carried_id, put_there, put_own}
 use Rattle.trace_laws.specs.Failures.{IsClear, UndoesClear}
+use Rattle.trace_laws.proofs.Impossible.{wrong}
+use Rattle.trace_laws.proofs.PointerStorySteps.{message_id}
 use Rattle.trace_laws.proofs.ShownReplies.{checked, all_ended}
-
-wrong : {A : Type 0} → true ≡ false → A
-wrong e = absurd cc
-
-wrong' : {A : Type 0} → false ≡ true → A
-wrong' e = absurd cc
 
 pub record SameFail (c d : CarriedBytes) : Type 0 where
   pub failure : d.failure ≡ c.failure
@@ -163,16 +159,6 @@ clear_message c to_initiator.Reject h = h
 clear_message c (to_initiator.Identify lun) h = h
 clear_message c (to_initiator.SimpleTag n) h = h
 clear_message c (to_initiator.Sdtr a) h = h
-
-message_id : (c : CarriedBytes) (m : MsgIn) → (carried_after_message c m).id ≡ c.id
-message_id c to_initiator.SavePointer = refl
-message_id c to_initiator.RestorePointers = refl
-message_id c to_initiator.CommandComplete = refl
-message_id c to_initiator.Disconnect = refl
-message_id c to_initiator.Reject = refl
-message_id c (to_initiator.Identify lun) = refl
-message_id c (to_initiator.SimpleTag n) = refl
-message_id c (to_initiator.Sdtr a) = refl
 
 put_clear : (all : List CarriedBytes) (c : CarriedBytes) (p id : ProcId) → c.id ≡ p → (IsClear (carried_of all p) → IsClear c) → IsClear (carried_of all id) → IsClear (carried_of (with_carried all c) id)
 put_clear all c p id same f h = subst IsClear (sym (put_there all c id)) (go (same_id c.id id) refl)

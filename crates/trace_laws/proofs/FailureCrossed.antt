@@ -23,17 +23,9 @@ use Rattle.bus_books.specs.Rows.{RowKind, still, strikes, crosses, turns}
 use Rattle.bus_books.proofs.InConnection.{in_connection, reading_is}
 use Rattle.trace_laws.proofs.ConnectionRows.{GoingRow, connection_row, going_row, RowKindOf, begins_now, goes_now, row_kind}
 use Rattle.trace_laws.proofs.FailureFaults.{CrossedHere}
+use Rattle.trace_laws.proofs.Impossible.{wrong', none_some}
 use Rattle.trace_laws.proofs.Joint.{Stood, NextStood}
 use Rattle.trace_laws.proofs.UndoneAnswers.{same_phase_of}
-
-wrong' : {A : Type 0} → false ≡ true → A
-wrong' e = absurd cc
-
-none_some : {A : Type 0} (n : Connection) → (let o : Option Connection = None in o) ≡ Some n → A
-none_some n e = absurd cc
-
-no_change : {A : Type 0} (c : Change) → (let o : Option Change = None in o) ≡ Some c → A
-no_change c e = absurd cc
 
 pub record CrossedBooks (k : RunState) : Type 0 where
   pub here : CrossedHere k
@@ -46,7 +38,7 @@ pub crossed_start : (s : ScenarioValue) → CrossedFacts s []
 crossed_start s n e calm = none_some n e
 
 none_crossed : (k : RunState) → k.story.bus_state.crossed ≡ None → CrossedBooks k
-none_crossed k e = record { here = λ g z. no_change g (sym e ∙ z); begun = λ z. wrong' (ap (λ (o : Option Change). is_some o) (sym e) ∙ z) }
+none_crossed k e = record { here = λ g z. none_some g (sym e ∙ z); begun = λ z. wrong' (ap (λ (o : Option Change). is_some o) (sym e) ∙ z) }
 
 pub crossed_next : (s : ScenarioValue) (p : List Row) (row : Row) → Obeys s → IsPrompt s (row ∷ p) → Stood s p → NextStood s p row → CrossedFacts s (row ∷ p)
 crossed_next s p row o prompt was next n after calm = go (row_kind s p row n o prompt was after calm)

@@ -11,7 +11,6 @@ use Rattle.bus_trace.specs.Terms.{is_fault, receiver_in}
 use Rattle.bus_phases.specs.Dialogue.{fresh_bytes}
 use Rattle.msg_grammar.specs.declared.message.MsgIn.{MsgIn}
 use Rattle.msg_grammar.specs.declared.message.MsgIn.TheVariants as to_initiator
-use Rattle.msg_grammar.specs.declared.message.MsgOut.{MsgOut}
 use Rattle.msg_grammar.specs.Messages.{got_in, got_out}
 use Rattle.scenario.specs.Value.{ScenarioValue}
 use Rattle.bus_story.specs.BusState.{whole_in, whole_out, message_in, message_out}
@@ -34,21 +33,10 @@ use Rattle.trace_laws.specs.Tells.{has_answer, is_short}
 use Rattle.trace_laws.proofs.FailureBytes.{SameFail, clear_as, row_carries, byte_fails, in_clear, in_restores}
 use Rattle.trace_laws.proofs.FailureRows.{fails_as, HearsOf, gives_on}
 use Rattle.trace_laws.proofs.FailureSteps.{is_message_phase, FailRow, count_as}
+use Rattle.trace_laws.proofs.Impossible.{wrong, wrong', none_some}
 use Rattle.trace_laws.proofs.RowItems.{LinkAfter, says, hears, stays, heard_link, link_crossed}
 use Rattle.trace_laws.proofs.UndoneAnswers.{same_phase_of}
 use Rattle.trace_laws.proofs.UndoneRows.{answers_stay}
-
-wrong : {A : Type 0} → true ≡ false → A
-wrong e = absurd cc
-
-wrong' : {A : Type 0} → false ≡ true → A
-wrong' e = absurd cc
-
-no_in : {A : Type 0} (m : MsgIn) → (let o : Option MsgIn = None in o) ≡ Some m → A
-no_in m e = absurd cc
-
-no_out : {A : Type 0} (m : MsgOut) → (let o : Option MsgOut = None in o) ≡ Some m → A
-no_out m e = absurd cc
 
 by_exchange : (l : Link) (c : CarriedBytes) (p q : Plan) (words others : List ℕ) (count : ℕ) (phase : Phase) → q ≡ p → others ≡ words → FailsBy l c p words count phase → FailsBy l c q others count phase
 by_exchange l c p q words others count phase ep ew h = subst (λ (x : Plan). FailsBy l c x others count phase) (sym ep) (subst (λ (x : List ℕ). FailsBy l c p x count phase) (sym ew) h)
@@ -116,8 +104,8 @@ else_fail s k row n c l m id g ep en out into apart em b h = go (link_crossed s 
     answer = answers_stay s k row n c true l g.row_is en g.link_is g.undoes (λ z. wrong' (sym ep ∙ z)) id
 
     go : LinkAfter s k.story l (message_out k.story.bus_state.dialogue c true) (message_in k.story.bus_state.dialogue c true) j.story.link → FailTalk j m d
-    go (says y e z) = no_out y (sym (out_none k c out) ∙ e)
-    go (hears y e f z) = no_in y (sym none ∙ f)
+    go (says y e z) = none_some y (sym (out_none k c out) ∙ e)
+    go (hears y e f z) = none_some y (sym none ∙ f)
     go (stays e f z) =
         subst (λ (y : Link). FailTalk j y d) (same_Some l m (sym z ∙ em))
         (record {
@@ -178,15 +166,15 @@ in_fail s k row n c l m id g ep en out here em b count named first h = record {
     of = by (link_crossed s k row n c l g.row_is en g.link_is)
       where
         by : LinkAfter s k.story l (message_out k.story.bus_state.dialogue c true) heard j.story.link → HearsOf l m own d heard
-        by (says y e z) = no_out y (sym (out_none k c out) ∙ e)
+        by (says y e z) = none_some y (sym (out_none k c out) ∙ e)
         by (stays e f z) = record {
           none = λ w. (quiet_same s k row n c l id g en (out_none k c out) f, ap (λ (y : Link). y.undo) (same_Some m l (sym em ∙ z)));
-          some = λ y w. no_in y (sym f ∙ w);
-          restored = λ w. no_in to_initiator.RestorePointers (sym f ∙ w);
+          some = λ y w. none_some y (sym f ∙ w);
+          restored = λ w. none_some to_initiator.RestorePointers (sym f ∙ w);
           answer = answer;
         }
         by (hears y e f z) = record {
-          none = λ w. no_in y (sym w ∙ f);
+          none = λ w. none_some y (sym w ∙ f);
           some = λ v w. (λ q. clear_as _ d (carries y f) (in_clear s k.story l y id q), λ q. subst UndoesClear (sym (ap (λ (v : Link). v.undo) (same_Some m (heard_link s k.story l y) (sym em ∙ z)))) (undone q));
           restored = λ w. clear_as _ d (carries to_initiator.RestorePointers w) (in_restores s k.story l id (named w));
           answer = answer;

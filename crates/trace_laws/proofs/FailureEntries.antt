@@ -3,10 +3,9 @@ use Rattle.std.proofs.Common.{inl, inr, ℕ, ◌≡◌, ◌⊎◌, ◌≤◌, Bo
 use Rattle.std.specs.Prelude.{if◌then◌else◌, ◌-◌}
 use Rattle.bus_base.specs.declared.Event.{Event}
 use Rattle.bus_base.specs.declared.ProcId.{ProcId}
-use Rattle.bus_trace.specs.LineSet.{LineSet, same}
+use Rattle.bus_trace.specs.LineSet.{LineSet}
 use Rattle.bus_trace.specs.declared.Row.{Row}
-use Rattle.bus_trace.specs.declared.changes.Change.{Change}
-use Rattle.bus_trace.specs.Phases.{changes_phase, is_message_in, is_message_out}
+use Rattle.bus_trace.specs.Phases.{is_message_in, is_message_out}
 use Rattle.cdb_codec.specs.declared.sense.TheConstants.{PARITY_ERROR, INITIATOR_DETECTED_ERROR}
 use Rattle.scenario.specs.Value.{ScenarioValue}
 use Rattle.bus_story.specs.BusState.{row_reading}
@@ -29,26 +28,18 @@ use Rattle.bus_dialogue.specs.NextPhase.{Serving, phase_of, phase_leaving}
 use Rattle.bus_dialogue.specs.Planning.{cause_after}
 use Rattle.bus_due.specs.RunState.{RunState, carried_here}
 use Rattle.bus_due.specs.RunSteps.{run_state_after}
+use Rattle.bus_laws.proofs.Tests.{or_true}
 use Rattle.trace_laws.specs.Failures.{IsClear, ClearIn, GivesFailure, RefusesFailure, SaysFailure, FailsBy}
 use Rattle.trace_laws.specs.Tells.{has_answer, code_if, UndoesAnswers}
-use Rattle.trace_laws.proofs.ComplaintTurns.{is_to_initiator}
 use Rattle.trace_laws.proofs.FailureBytes.{SameFail}
 use Rattle.trace_laws.proofs.FailureRows.{clear_in_as, clear_out_as}
 use Rattle.trace_laws.proofs.FailureTurns.{is_sending, refuses_left}
 use Rattle.trace_laws.proofs.FailureWords.{refuses_kept}
+use Rattle.trace_laws.proofs.Impossible.{wrong'}
 use Rattle.trace_laws.proofs.ListedReplies.{replies_to}
+use Rattle.trace_laws.proofs.OfferTurns.{gives_in}
 use Rattle.trace_laws.proofs.ShownReplies.{answered_on, change_keeps}
 use Rattle.trace_laws.proofs.TellTurns.{refused}
-
-wrong : {A : Type 0} → true ≡ false → A
-wrong e = absurd cc
-
-wrong' : {A : Type 0} → false ≡ true → A
-wrong' e = absurd cc
-
-or_true : (q : Bool) → (q || true) ≡ true
-or_true true = refl
-or_true false = refl
 
 -- ---- what is carried after the row
 
@@ -122,14 +113,14 @@ pub record Attends (l : Link) (c : CarriedBytes) (p q : Plan) (count : ℕ) (b :
   pub next : q.next ≡ p.next
   pub messages : q.messages ≡ (if is_message_in b then from_byte p.messages (count - 1) else p.messages)
   pub lines : b.msg ≡ true → b.cd ≡ true
-  pub to_it : is_to_initiator (phase_of b) ≡ true
+  pub to_it : gives_in (phase_of b) ≡ true
   pub code : phase_of b ≡ phases.DataIn → c.failure ≡ Some INITIATOR_DETECTED_ERROR
   pub given : phase_of b ≡ phases.MessageIn → ((count == 0) ≡ false) × (count ≤ length (bytes_of_messages p.messages))
 
 pub out_entered : (l : Link) (c d : CarriedBytes) (p q : Plan) (words others : List ℕ) (count : ℕ) (b : LineSet) → KeptFail c d → Attends l c p q count b → FailsBy l c p words count (phase_of b) → SaysFailure l d q others q.cause
 out_entered l c d p q words others count b w a h = subst (SaysFailure l d q others) (sym a.cause) (go b.msg b.cd b.io a.lines a.to_it a.code a.given a.messages h)
   where
-    go : (m e i : Bool) → (m ≡ true → e ≡ true) → is_to_initiator (if m then (if i then phases.MessageIn else phases.MessageOut) else if e then (if i then phases.Status else phases.Command) else if i then phases.DataIn else phases.DataOut) ≡ true
+    go : (m e i : Bool) → (m ≡ true → e ≡ true) → gives_in (if m then (if i then phases.MessageIn else phases.MessageOut) else if e then (if i then phases.Status else phases.Command) else if i then phases.DataIn else phases.DataOut) ≡ true
         → ((if m then (if i then phases.MessageIn else phases.MessageOut) else if e then (if i then phases.Status else phases.Command) else if i then phases.DataIn else phases.DataOut) ≡ phases.DataIn → c.failure ≡ Some INITIATOR_DETECTED_ERROR)
         → ((if m then (if i then phases.MessageIn else phases.MessageOut) else if e then (if i then phases.Status else phases.Command) else if i then phases.DataIn else phases.DataOut) ≡ phases.MessageIn → ((count == 0) ≡ false) × (count ≤ length (bytes_of_messages p.messages)))
         → q.messages ≡ (if m && e && i then from_byte p.messages (count - 1) else p.messages)
@@ -156,9 +147,3 @@ out_lines b e = go b.msg b.cd b.io e
     go true true false z = (refl, refl, refl)
     go true false i z = wrong' z
     go false d i z = wrong' z
-
-pub out_stays : (c : Change) → is_message_out c.before ≡ true → is_message_out c.after ≡ true → changes_phase c ≡ false
-out_stays c e f = by (out_lines c.before e) (out_lines c.after f)
-  where
-    by : (c.before.msg ≡ true) × (c.before.cd ≡ true) × (c.before.io ≡ false) → (c.after.msg ≡ true) × (c.after.cd ≡ true) × (c.after.io ≡ false) → changes_phase c ≡ false
-    by (a, b, d) (x, y, z) = λ i. not (same (a i) (x i) && same (b i) (y i) && same (d i) (z i))

@@ -29,15 +29,10 @@ use Rattle.bus_books.specs.Reactions.{is_command_phase}
 use Rattle.bus_books.specs.Rows.{IsRowIn}
 use Rattle.bus_books.proofs.Lookups.{carried_id, put_own}
 use Rattle.trace_laws.proofs.FailureBytes.{SameFail, same_fail, row_carries}
+use Rattle.trace_laws.proofs.Impossible.{wrong, wrong'}
 use Rattle.trace_laws.proofs.LinkRows as rows
 use Rattle.trace_laws.proofs.LinkRows.{LinkRow}
-use Rattle.trace_laws.proofs.TellTurns.{command_lines}
-
-wrong : {A : Type 0} → true ≡ false → A
-wrong e = absurd cc
-
-wrong' : {A : Type 0} → false ≡ true → A
-wrong' e = absurd cc
+use Rattle.trace_laws.proofs.PhaseLines.{data_out_io, command_is}
 
 -- ---- it strikes the byte of the last row
 
@@ -104,21 +99,6 @@ data_lines b = go b.msg b.cd b.io
     go false false true = refl
     go false false false = refl
 
-sent_line : (b : LineSet) → phase_of b ≡ phases.DataOut → b.io ≡ false
-sent_line b e = go b.msg b.cd b.io (ap is_out e)
-  where
-    is_out : Phase → Bool
-    is_out phases.DataOut = true
-    is_out _ = false
-
-    go : (m d i : Bool) → is_out (if m then (if i then phases.MessageIn else phases.MessageOut) else if d then (if i then phases.Status else phases.Command) else if i then phases.DataIn else phases.DataOut) ≡ true → i ≡ false
-    go true d true z = wrong' z
-    go true d false z = wrong' z
-    go false true true z = wrong' z
-    go false true false z = wrong' z
-    go false false true z = wrong' z
-    go false false false z = refl
-
 given_line : (b : LineSet) → phase_of b ≡ phases.DataIn → b.io ≡ true
 given_line b e = go b.msg b.cd b.io (ap is_in e)
   where
@@ -142,7 +122,7 @@ Struck c d phases.DataIn = (d.struck ≡ c.struck) × (d.failure ≡ Some INITIA
 Struck c d _ = SameFail c d
 
 struck_by : (c : CarriedBytes) (b : LineSet) (phase : Phase) → phase_of b ≡ phase → Struck c (carried_after_fault c b) phase
-struck_by c b phase e = go phase e (is_command b) (command_lines b ∙ ap is_command_phase e) (is_data b) (data_lines b ∙ ap is_data_phase e)
+struck_by c b phase e = go phase e (is_command b) (command_is b ∙ ap is_command_phase e) (is_data b) (data_lines b ∙ ap is_data_phase e)
   where
     after : Bool → Bool → CarriedBytes
     after q r = if q then record c { struck = true; failure = Some PARITY_ERROR } else if r then record c { failure = Some (if b.io then INITIATOR_DETECTED_ERROR else PARITY_ERROR) } else c
@@ -151,7 +131,7 @@ struck_by c b phase e = go phase e (is_command b) (command_lines b ∙ ap is_com
     go phases.Command w true z r y = (refl, refl)
     go phases.Command w false z r y = wrong' z
     go phases.DataOut w true z r y = wrong z
-    go phases.DataOut w false z true y = (refl, λ i. Some (if sent_line b w i then INITIATOR_DETECTED_ERROR else PARITY_ERROR))
+    go phases.DataOut w false z true y = (refl, λ i. Some (if data_out_io b w i then INITIATOR_DETECTED_ERROR else PARITY_ERROR))
     go phases.DataOut w false z false y = wrong' y
     go phases.DataIn w true z r y = wrong z
     go phases.DataIn w false z true y = (refl, λ i. Some (if given_line b w i then INITIATOR_DETECTED_ERROR else PARITY_ERROR))

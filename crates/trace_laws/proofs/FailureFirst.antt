@@ -37,10 +37,8 @@ use Rattle.trace_laws.proofs.ConnectionRows.{RowKindOf, begins_now, goes_now, ro
 use Rattle.trace_laws.proofs.FailureCrossed.{CrossedFacts}
 use Rattle.trace_laws.proofs.FailureNext.{fail_first, fail_goes}
 use Rattle.trace_laws.proofs.FirstRows.{IsFirst}
+use Rattle.trace_laws.proofs.Impossible.{wrong}
 use Rattle.trace_laws.proofs.Joint.{Stood, NextStood}
-
-wrong : {A : Type 0} → true ≡ false → A
-wrong e = absurd cc
 
 -- What is asked of it.
 abbrev pub BeginsClear : ScenarioValue → List Row → Row → Type 0

@@ -1,5 +1,5 @@
 -- As a phase is left the code of the failure of the process is as its target knows it.
-use Rattle.std.proofs.Common.{inl, inr, ℕ, ◌≡◌, ◌⊎◌, Bool, true, false, ◌∙◌, List, ◌∷◌, length, Option, Some, None, refl, sym, ap, subst, arith}
+use Rattle.std.proofs.Common.{inl, inr, ℕ, ◌≡◌, ◌⊎◌, Bool, true, false, ◌∙◌, List, ◌∷◌, length, Some, None, refl, sym, ap, subst, arith}
 use Rattle.std.specs.Prelude.{is_some}
 use Rattle.bus_base.specs.declared.ProcId.{ProcId}
 use Rattle.bus_trace.specs.LineSet.{LineSet}
@@ -12,7 +12,7 @@ use Rattle.scenario.specs.Value.{ScenarioValue}
 use Rattle.scenario.specs.Writing.{Obeys}
 use Rattle.bus_story.specs.BusState.{RowReading, row_reading}
 use Rattle.bus_story.specs.CarriedBytes.{CarriedBytes}
-use Rattle.bus_story.specs.Items.{Item, process}
+use Rattle.bus_story.specs.Items.{process}
 use Rattle.bus_story.specs.Links.{Link}
 use Rattle.bus_dialogue.specs.declared.exchange.Cause.{Cause}
 use Rattle.bus_dialogue.specs.declared.exchange.Cause.TheVariants as causes
@@ -36,15 +36,10 @@ use Rattle.trace_laws.specs.Failures.{IsClear, ClearIn, clear, restores, GivesFa
 use Rattle.trace_laws.specs.Tells.{has_answer, code_if, FailsAsked, FailsBefore, FailsIn, IsLeaving, FailsAsLeft}
 use Rattle.trace_laws.proofs.ConnectionRows.{ConnectionRow, connection_row}
 use Rattle.trace_laws.proofs.Crossings.{RowFacts, stays, ends_here}
+use Rattle.trace_laws.proofs.Impossible.{none_some}
 use Rattle.trace_laws.proofs.Joint.{Stood, link_phase}
 use Rattle.trace_laws.proofs.TellFacts.{all_given}
 use Rattle.trace_laws.proofs.UndoneFacts.{in_of}
-
-no_item : {A : Type 0} (i : Item) → (let o : Option Item = None in o) ≡ Some i → A
-no_item i e = absurd cc
-
-no_end : {A : Type 0} (n : Connection) → (let o : Option Connection = None in o) ≡ Some n → A
-no_end n e = absurd cc
 
 none_given : {A : Type 0} (count : ℕ) → count ≡ 0 → count ≡ 1 → A
 none_given count e f = absurd (apart count e f)
@@ -110,7 +105,7 @@ given_left s p row n o prompt was w e off = all_given s k n e off (over r.facts 
     over : RowFacts s p row n → (changes_phase (row_reading k.story.bus_state row).change ≡ true) ⊎ ((row_reading k.story.bus_state row).next ≡ None) → IsOver s k n
     over (ends_here g) leaves = g.over
     over (stays g) (inl z) = g.over (ap changes_phase (sym g.row_is.change_is) ∙ z) (sym pl.begun ∙ w.begun)
-    over (stays g) (inr z) = no_end n (sym z ∙ ap (λ (d : RowReading). d.next) (reading_is k row n g.change (is_some (receiver_in n g.change)) g.row_is refl))
+    over (stays g) (inr z) = none_some n (sym z ∙ ap (λ (d : RowReading). d.next) (reading_is k row n g.change (is_some (receiver_in n g.change)) g.row_is refl))
 
     lines : (bus_of k).msg ≡ true → (bus_of k).cd ≡ true
     lines z = ap (λ (x : LineSet). x.cd) pl.bus ∙ (link_phase s p n r.stage (ap (λ (x : LineSet). x.msg) (sym pl.bus) ∙ z)).0
@@ -134,7 +129,7 @@ fails_as_left s p row o prompt was sent h n id w item =
       where
         by : (knows.link.item ≡ k.served) ⊎ ((n.reselected ≡ true) × (knows.link.item ≡ None)) → k.served ≡ Some (process id)
         by (inl e) = sym e ∙ named
-        by (inr e) = no_item (process id) (sym e.1 ∙ named)
+        by (inr e) = none_some (process id) (sym e.1 ∙ named)
 
 -- As its target frees the bus the process has an answer, or nothing has struck it.
 pub freed_as_left : (s : ScenarioValue) (p : List Row) (row : Row) (n : Connection) (id : ProcId) → Obeys s → IsPrompt s (row ∷ p) → Stood s p → FailFacts s p → IsLeaving s p row n → (run_state s p).served ≡ Some (process id) → phase_of (bus_of (run_state s p)) ≡ phases.MessageIn → (bus_of (run_state s p)).atn ≡ false → (run_state s p).exchange.plan.next ≡ nexts.FreeBus

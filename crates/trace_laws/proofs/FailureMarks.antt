@@ -24,14 +24,11 @@ use Rattle.bus_due.specs.RunState.{RunState, carried_here}
 use Rattle.bus_due.specs.RunSteps.{run_state_after}
 use Rattle.bus_books.specs.Rows.{IsRowIn}
 use Rattle.bus_books.proofs.Lookups.{self_id, carried_id}
+use Rattle.bus_laws.proofs.Tests.{or_true}
 use Rattle.trace_laws.specs.Tells.{has_answer, UndoesAnswers}
 use Rattle.trace_laws.proofs.ListedReplies.{replies_to}
 use Rattle.trace_laws.proofs.RowItems.{row_shows}
 use Rattle.trace_laws.proofs.ShownReplies.{answered_on, change_keeps}
-
-or_true : (q : Bool) → (q || true) ≡ true
-or_true true = refl
-or_true false = refl
 
 -- An event that answers it, or an answer that it had, stays.
 answered : (s : ScenarioValue) (b : Story) (e : Event) (id : ProcId) → replies_to e id ≡ true → has_answer (carried_of (story_after_event s b e).carried id) ≡ true

@@ -42,7 +42,7 @@ use Rattle.bus_books.specs.Knowing.{Knows}
 use Rattle.bus_books.specs.Rows.{RowKind, still, strikes, crosses, turns}
 use Rattle.bus_books.specs.Speaking.{Speaks}
 use Rattle.bus_books.specs.Traces.{GoesOn}
-use Rattle.bus_books.proofs.Gives.{requests_stay, struck_same}
+use Rattle.bus_books.proofs.Gives.{requests_stay, struck_same, in_io}
 use Rattle.bus_books.proofs.Hearable.{heard_next}
 use Rattle.bus_books.proofs.InConnection.{in_connection, reading_is}
 use Rattle.trace_laws.specs.Failures.{IsClear, UndoesClear, clear, GivesFailure, FailTalk, FailTalks, FailFacts, FailsBy, SentAsLeft}
@@ -57,27 +57,15 @@ use Rattle.trace_laws.proofs.FailureFaults.{fault_crossed}
 use Rattle.trace_laws.proofs.FailureSteps.{is_message_phase, FailRow, still_fail, struck_fail}
 use Rattle.trace_laws.proofs.FailureTurned.{LeftHere, turn_fail}
 use Rattle.trace_laws.proofs.FailureWords.{out_fail}
+use Rattle.trace_laws.proofs.Impossible.{wrong, wrong', none_some}
 use Rattle.trace_laws.proofs.Joint.{Stood, NextStood, link_phase}
 use Rattle.trace_laws.proofs.LastBytes.{first_is}
 use Rattle.trace_laws.proofs.OfferRows.{few_messages, request_rises}
 use Rattle.trace_laws.proofs.Offers.{refuses_later}
+use Rattle.trace_laws.proofs.PhaseLines.{out_phase, in_phase, out_lines}
 use Rattle.trace_laws.proofs.TellFacts.{front_length}
 use Rattle.trace_laws.proofs.TellRows.{unbegun_lines}
-use Rattle.trace_laws.proofs.UndoneAnswers.{in_phase, out_phase}
-use Rattle.trace_laws.proofs.UndoneFacts.{in_of, in_line, undo_asks}
-use Rattle.trace_laws.proofs.UndoneTurns.{out_of}
-
-wrong : {A : Type 0} → true ≡ false → A
-wrong e = absurd cc
-
-wrong' : {A : Type 0} → false ≡ true → A
-wrong' e = absurd cc
-
-none_some : {A : Type 0} (n : Connection) → (let o : Option Connection = None in o) ≡ Some n → A
-none_some n e = absurd cc
-
-no_item : {A : Type 0} (i : Item) → (let o : Option Item = None in o) ≡ Some i → A
-no_item i e = absurd cc
+use Rattle.trace_laws.proofs.UndoneFacts.{in_of, undo_asks}
 
 -- ---- a name restores nothing
 
@@ -187,7 +175,7 @@ goes_fail s p row n w h m id em ej = go of.row_is.kind
         in_fail s k row n c l m id row_of ep there out here em b
         (ap (λ (x : Handshakes). x.requests) (in_connection s k row n c false true (is_fault row.kind) of.row_is ep there refl).handshakes_is
         ∙ ap (λ (q : Bool). (handshakes_after q (Some n) c row.time k.handshakes).requests) ef
-        ∙ request_rises n c row.time dev k.handshakes ep (in_line c.before on) er (length (bytes_of_messages k.exchange.plan.messages)) byte.1 (few_messages k.exchange.plan.messages))
+        ∙ request_rises n c row.time dev k.handshakes ep (in_io c.before on) er (length (bytes_of_messages k.exchange.plan.messages)) byte.1 (few_messages k.exchange.plan.messages))
         named
         (λ zero short. reads ∙ first_is k.exchange.plan.messages d.half k.handshakes.requests (c.after.data_bits % 256) (given b here) zero short byte.0)
         before
@@ -247,7 +235,7 @@ goes_fail s p row n w h m id em ej = go of.row_is.kind
         answered e cause offer = (next (refuses_later s p n w.facts.offers w.con w.off b out cause), other)
           where
             out : is_message_out (bus_of k) ≡ true
-            out = out_of (bus_of k) e lines
+            out = out_lines (bus_of k) e lines
 
             other : k.exchange.speech.words ≡ parity_error → ⊥
             other z = wrong' (sym (ap (λ o. is_some o) (refusal_offers_none k.exchange.speech k.exchange.plan d (speaks.in_message_out b out).heard (leaves.out e) z)) ∙ offer)
@@ -261,7 +249,7 @@ goes_fail s p row n w h m id em ej = go of.row_is.kind
         let none : is_some (receiver_in n c) ≡ false = ap (λ (z : Option ℕ). is_some z) er in
         let i = in_connection s k row n c false false (is_fault row.kind) of.row_is ep none refl in
         still_fail s k row n c l m id row_of ef ep none em
-        (λ e. ap (λ (x : Handshakes). x.requests) i.handshakes_is ∙ ap (λ (q : Bool). (handshakes_after q (Some n) c row.time k.handshakes).requests) ef ∙ requests_stay n c row.time k.handshakes ep (in_line c.before (into e)) er) before
+        (λ e. ap (λ (x : Handshakes). x.requests) i.handshakes_is ∙ ap (λ (q : Bool). (handshakes_after q (Some n) c row.time k.handshakes).requests) ef ∙ requests_stay n c row.time k.handshakes ep (in_io c.before (into e)) er) before
     go (strikes ef ep er) =
         let none : is_some (receiver_in n c) ≡ false = ap (λ (z : Option ℕ). is_some z) er in
         let i = in_connection s k row n c false false (is_fault row.kind) of.row_is ep none refl in

@@ -19,12 +19,7 @@ use Rattle.trace_laws.specs.Failures.{IsClear, UndoesClear, ClearIn, clear, rest
 use Rattle.trace_laws.specs.Tells.{has_answer, is_short}
 use Rattle.trace_laws.proofs.FailureBytes.{SameFail, clear_as}
 use Rattle.trace_laws.proofs.FailureFaults.{Struck}
-
-wrong : {A : Type 0} → true ≡ false → A
-wrong e = absurd cc
-
-wrong' : {A : Type 0} → false ≡ true → A
-wrong' e = absurd cc
+use Rattle.trace_laws.proofs.Impossible.{wrong, wrong'}
 
 -- ---- what is carried stays as it was
 

@@ -31,15 +31,10 @@ use Rattle.trace_laws.specs.Tells.{has_answer, UndoesAnswers}
 use Rattle.trace_laws.proofs.FailureBytes.{SameFail, clear_as, row_carries, still_fails}
 use Rattle.trace_laws.proofs.FailureFaults.{CrossedHere, Struck, fault_fails}
 use Rattle.trace_laws.proofs.FailureRows.{fails_as, plan_struck, IsLine, fails_struck}
+use Rattle.trace_laws.proofs.Impossible.{wrong, wrong'}
 use Rattle.trace_laws.proofs.RowItems.{link_still}
 use Rattle.trace_laws.proofs.UndoneAnswers.{same_phase_of}
 use Rattle.trace_laws.proofs.UndoneRows.{answers_stay}
-
-wrong : {A : Type 0} → true ≡ false → A
-wrong e = absurd cc
-
-wrong' : {A : Type 0} → false ≡ true → A
-wrong' e = absurd cc
 
 -- The phases of messages, where alone the initiator may not know the process.
 abbrev pub is_message_phase : Phase → Bool

@@ -31,28 +31,23 @@ use Rattle.bus_dialogue.specs.Words.{parity_error}
 use Rattle.bus_due.specs.RunState.{RunState, bus_of, carried_here}
 use Rattle.bus_due.specs.RunSteps.{run_state_after}
 use Rattle.bus_due.specs.Sights.{serving_of, leaving, hearing_of}
-use Rattle.bus_books.specs.Hearing.{LeavesWhole}
+use Rattle.bus_books.specs.Hearing.{LeavesWhole, is_out_phase}
 use Rattle.bus_books.specs.Rows.{reading_in}
 use Rattle.bus_books.proofs.InConnection.{InConnection, in_connection}
 use Rattle.trace_laws.specs.Failures.{SaysFailure, FailsBy, FailTalk}
 use Rattle.trace_laws.specs.Tells.{has_answer, code_if}
-use Rattle.trace_laws.proofs.ComplaintTurns.{IsAttended, attended_for, to_out}
+use Rattle.trace_laws.proofs.ComplaintTurns.{IsAttended, attended_for}
 use Rattle.trace_laws.proofs.FailureBytes.{clear_as, still_fails}
-use Rattle.trace_laws.proofs.FailureEntries.{KeptFail, answer_kept, gives_entered, sending_entered, not_to_status, out_entered, out_stays}
+use Rattle.trace_laws.proofs.FailureEntries.{KeptFail, answer_kept, gives_entered, sending_entered, not_to_status, out_entered}
 use Rattle.trace_laws.proofs.FailureMarks.{status_marks}
 use Rattle.trace_laws.proofs.FailureTurns.{LeftSo, gives_left, sends_clear, is_sending}
-use Rattle.trace_laws.proofs.InstructedTurns.{is_out_phase}
+use Rattle.trace_laws.proofs.Impossible.{wrong, wrong'}
+use Rattle.trace_laws.proofs.OfferSteps.{stays_out}
+use Rattle.trace_laws.proofs.PhaseLines.{out_phase, out_lines, is_out_next}
 use Rattle.trace_laws.proofs.RowItems.{link_still}
 use Rattle.trace_laws.proofs.TellTurns.{status_lines}
-use Rattle.trace_laws.proofs.UndoneAnswers.{out_phase}
 use Rattle.trace_laws.proofs.UndoneLeavings.{is_to_message_in}
-use Rattle.trace_laws.proofs.UndoneTurns.{TurnOf, out_of, not_out}
-
-wrong : {A : Type 0} → true ≡ false → A
-wrong e = absurd cc
-
-wrong' : {A : Type 0} → false ≡ true → A
-wrong' e = absurd cc
+use Rattle.trace_laws.proofs.UndoneTurns.{TurnOf, not_out}
 
 -- What is known of the phase that is left, once it has begun.
 pub record LeftHere (k : RunState) (l : Link) (id : ProcId) : Type 0 where
@@ -153,7 +148,7 @@ turn_fail s k row n c l m id t left em h =
         }) (h.begun b)
       where
         out : is_message_out c.after ≡ true
-        out = out_of c.after e t.known
+        out = out_lines c.after e t.known
 
         p : j.exchange.plan ≡ plan_in_message_out (hearing_of k row (reading_in k.story.bus_state n c false)) k.exchange.plan
         p = out_plan out true b
@@ -162,7 +157,7 @@ turn_fail s k row n c l m id t left em h =
         not_again = by (phase_of (bus_of k)) refl
           where
             by : (x : Phase) → phase_of (bus_of k) ≡ x → is_out_phase (phase_of (bus_of k)) ≡ false
-            by phases.MessageOut z = wrong (sym t.turns ∙ out_stays c (ap is_message_out (sym t.goes.row_is.bus_is) ∙ out_of (bus_of k) z known_before) out)
+            by phases.MessageOut z = wrong (sym t.turns ∙ stays_out c (ap is_message_out (sym t.goes.row_is.bus_is) ∙ out_lines (bus_of k) z known_before) out)
             by phases.MessageIn z = ap is_out_phase z
             by phases.Command z = ap is_out_phase z
             by phases.DataIn z = ap is_out_phase z
@@ -170,7 +165,7 @@ turn_fail s k row n c l m id t left em h =
             by phases.Status z = ap is_out_phase z
 
         a : IsAttended k
-        a = attended_for s k n.target b not_again (ap to_out (t.whereto b) ∙ ap (λ (x : Phase). to_out (Some x)) e)
+        a = attended_for s k n.target b not_again (ap is_out_next (t.whereto b) ∙ ap (λ (x : Phase). is_out_next (Some x)) e)
 
     gives : k.exchange.begun ≡ true → phase_of c.after ≡ phases.MessageIn → FailsBy l d j.exchange.plan j.exchange.speech.words j.handshakes.requests phases.MessageIn
     gives b e =

@@ -30,13 +30,9 @@ use Rattle.bus_dialogue.specs.NextPhase.{Serving, phase_leaving, phase_entry, wi
 use Rattle.bus_dialogue.specs.Words.{parity_error, request_by, is_naming}
 use Rattle.trace_laws.specs.Failures.{IsClear, UndoesClear, ClearIn, clear, restores, ClearOut, still_clear, restores_again, GivesFailure, RefusesFailure, SaysFailure, FailsBy}
 use Rattle.trace_laws.specs.Tells.{code_if, has_answer}
+use Rattle.trace_laws.proofs.Impossible.{wrong'}
+use Rattle.trace_laws.proofs.Tests.{some_zero}
 use Rattle.trace_laws.proofs.UndoneLeavings.{is_to_message_in, not_again, to_data}
-
-wrong : {A : Type 0} → true ≡ false → A
-wrong e = absurd cc
-
-wrong' : {A : Type 0} → false ≡ true → A
-wrong' e = absurd cc
 
 -- ---- to MESSAGE IN
 
@@ -177,12 +173,9 @@ pub record LeftSo (v : Serving) (words : List ℕ) (count : ℕ) (attention : Bo
   pub some : phase ≡ phases.MessageIn → (count == 0) ≡ false
   pub answered : phase ≡ phases.MessageOut → v.plan.cause ≡ causes.InMessage → is_some v.plan.said.offer ≡ true → (v.plan.next ≡ nexts.Command) × (words ≡ parity_error → ⊥)
 
-some_one : {A : Type 0} (count : ℕ) → (count == 0) ≡ false → count ≡ 0 → A
-some_one count e f = wrong (sym (ap (λ (x : ℕ). x == 0) f) ∙ e)
-
 given_clear : (l : Link) (c : CarriedBytes) (m : Messages) (count : ℕ) → (count == 0) ≡ false → ClearIn l c m count → IsClear c
 given_clear l c m count some (clear h u) = h
-given_clear l c m count some (restores e (inl z)) = some_one count some z
+given_clear l c m count some (restores e (inl z)) = some_zero count some z
 given_clear l c m count some (restores e (inr h)) = h
 
 said_clear : (l : Link) (c : CarriedBytes) (m : Messages) (words : List ℕ) → (words ≡ parity_error → ⊥) → ClearOut l c m words → IsClear c
@@ -246,8 +239,8 @@ front_one m count e some few = (λ i. from_byte (e i) (one i - 1)) ∙ sym e
 
 refused_clear : (l : Link) (c : CarriedBytes) (m : Messages) (count : ℕ) (words : List ℕ) → (count == 0) ≡ false → count ≤ length (bytes_of_messages m) → ClearIn l c m count → ClearOut l c (from_byte m (count - 1)) words
 refused_clear l c m count words some few (clear h (inl u)) = still_clear h u
-refused_clear l c m count words some few (clear h (inr z)) = some_one count some z.0
-refused_clear l c m count words some few (restores e (inl z)) = some_one count some z
+refused_clear l c m count words some few (clear h (inr z)) = some_zero count some z.0
+refused_clear l c m count words some few (restores e (inl z)) = some_zero count some z
 refused_clear l c m count words some few (restores e (inr h)) = restores_again (front_one m count e some few ∙ e) (inr h)
 
 -- Of MESSAGE IN, by what follows it.

@@ -1,17 +1,15 @@
 -- The code of the failure of the process that is served, as a byte of MESSAGE OUT crosses.
-use Rattle.std.proofs.Common.{inl, inr, ℕ, ◌≡◌, ◌⊎◌, Bool, true, false, not, ◌&&◌, ◌%◌, ◌∙◌, List, [], ◌∷◌, ◌++◌, Option, Some, None, refl, sym, ap, subst}
+use Rattle.std.proofs.Common.{inl, inr, ℕ, ◌≡◌, ◌⊎◌, Bool, true, false, ◌%◌, ◌∙◌, List, [], ◌∷◌, ◌++◌, Option, Some, None, refl, sym, ap, subst}
 use Rattle.std.specs.Prelude.{if◌then◌else◌, is_some}
 use Rattle.std.proofs.lemmas.Option.{same_Some}
 use Rattle.bus_base.specs.declared.ProcId.{ProcId}
-use Rattle.bus_trace.specs.LineSet.{LineSet}
 use Rattle.bus_trace.specs.declared.Row.{Row}
 use Rattle.bus_trace.specs.declared.changes.Change.{Change}
 use Rattle.bus_trace.specs.declared.connection.Connection.{Connection}
-use Rattle.bus_trace.specs.Phases.{changes_phase, is_message_out, is_message_in}
+use Rattle.bus_trace.specs.Phases.{changes_phase, is_message_out}
 use Rattle.bus_trace.specs.Terms.{is_fault, receiver_in}
 use Rattle.bus_phases.specs.declared.dialogue.Dialogue.{Dialogue}
 use Rattle.bus_phases.specs.Dialogue.{fresh_bytes}
-use Rattle.msg_grammar.specs.declared.message.MsgIn.{MsgIn}
 use Rattle.msg_grammar.specs.declared.message.MsgOut.{MsgOut}
 use Rattle.msg_grammar.specs.Messages.{got_in, got_out}
 use Rattle.scenario.specs.Value.{ScenarioValue}
@@ -43,21 +41,14 @@ use Rattle.trace_laws.proofs.FailureBytes.{SameFail, clear_as, row_carries, out_
 use Rattle.trace_laws.proofs.FailureCrossings.{quiet_same, same_words}
 use Rattle.trace_laws.proofs.FailureRows.{SaysOf, says_on}
 use Rattle.trace_laws.proofs.FailureSteps.{FailRow}
+use Rattle.trace_laws.proofs.Impossible.{wrong, wrong', none_some}
 use Rattle.trace_laws.proofs.LastRows.{KeptPlan, Stays, stays_as}
+use Rattle.trace_laws.proofs.PhaseLines.{in_out, out_phase}
 use Rattle.trace_laws.proofs.RowItems.{LinkAfter, says, hears, link_crossed}
 use Rattle.trace_laws.proofs.RowItems as rows
-use Rattle.trace_laws.proofs.UndoneAnswers.{out_phase, detects}
+use Rattle.trace_laws.proofs.UndoneAnswers.{detects}
 use Rattle.trace_laws.proofs.UndoneLeavings.{is_detecting}
 use Rattle.trace_laws.proofs.UndoneRows.{answers_stay}
-
-wrong : {A : Type 0} → true ≡ false → A
-wrong e = absurd cc
-
-wrong' : {A : Type 0} → false ≡ true → A
-wrong' e = absurd cc
-
-no_in : {A : Type 0} (m : MsgIn) → (let o : Option MsgIn = None in o) ≡ Some m → A
-no_in m e = absurd cc
 
 -- ---- what is planned stays
 
@@ -73,15 +64,6 @@ says_kept l c p q words causes.Selected k h = h
 says_kept l c p q words causes.InMessage k h = subst (RefusesFailure l c q words) (sym k.next) (refuses_kept l c p q words p.next k.messages h)
 says_kept l c p q words causes.InData k h = h
 says_kept l c p q words causes.InStatus k h = h
-
-in_none : (b : LineSet) → is_message_out b ≡ true → is_message_in b ≡ false
-in_none b e = go b.msg b.cd b.io e
-  where
-    go : (m d i : Bool) → (m && d && not i) ≡ true → (m && d && i) ≡ false
-    go true true true z = wrong' z
-    go true true false z = refl
-    go true false i z = wrong' z
-    go false d i z = wrong' z
 
 -- ---- a byte of MESSAGE OUT
 
@@ -119,7 +101,7 @@ out_fail s k row n c l m id g of speaks ep en out em b h = record {
     words = ap (λ (x : Exchange). x.speech.words) (in_connection s k row n c false true (is_fault row.kind) g.row_is ep en refl).exchange_is ∙ same_words (is_message_out c.before) k.exchange.speech (message_in dialogue c true)
 
     none : message_in dialogue c true ≡ None
-    none = ap (λ (q : Bool). if q then whole_in (got_in (dialogue.half ++ c.after.data_bits % 256 ∷ [])) else None) (in_none c.before out)
+    none = ap (λ (q : Bool). if q then whole_in (got_in (dialogue.half ++ c.after.data_bits % 256 ∷ [])) else None) (in_out c.before out)
 
     answer : has_answer d ≡ has_answer own
     answer = answers_stay s k row n c true l g.row_is en g.link_is g.undoes (λ z. wrong' (sym ep ∙ z)) id
@@ -162,4 +144,4 @@ out_fail s k row n c l m id g of speaks ep en out em b h = record {
         by : LinkAfter s k.story l (message_out dialogue c true) (message_in dialogue c true) j.story.link → SaysOf l m own d
         by (says x e z) = record { undo = ap (λ (y : Link). y.undo) (same_Some m (record l { last = last_out x l }) (sym em ∙ z)); clears = λ u f. clear_as _ d (carries x e) (out_clear k.story l x id u f); answer = answer }
         by (rows.stays e f z) = record { undo = ap (λ (y : Link). y.undo) (same_Some m l (sym em ∙ z)); clears = λ u v. clear_as own d (quiet_same s k row n c l id g en e none) v; answer = answer }
-        by (hears x e f z) = no_in x (sym none ∙ f)
+        by (hears x e f z) = none_some x (sym none ∙ f)

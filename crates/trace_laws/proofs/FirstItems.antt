@@ -15,31 +15,19 @@ use Rattle.bus_story.specs.TraceHistory.{aim_of}
 use Rattle.bus_due.specs.RunState.{RunState, or_start, array_of, bus_of}
 use Rattle.bus_due.specs.RunSteps.{run_state_after, item_if}
 use Rattle.bus_due.specs.Wants.{ready_of}
+use Rattle.scsi_device.proofs.Finds.{or_false}
 use Rattle.bus_books.specs.Traces.{Begins}
 use Rattle.bus_books.proofs.Lookups.{first_is, second_is}
+use Rattle.trace_laws.proofs.Impossible.{none_some, wrong', some_none}
 use Rattle.trace_laws.proofs.OpenCommands.{item_is, same_process, sent_clash}
 use Rattle.trace_laws.proofs.SentItems.{more_has, own_has}
 use Rattle.trace_laws.proofs.SentRows.{only_on}
 use Rattle.trace_laws.proofs.FirstTalks.{sent_with, FirstSent, first_sent, BeginsOpen, talks_first}
 use Rattle.trace_laws.proofs.ItemSteps.{ready_queued, queued_sent}
 use Rattle.trace_laws.proofs.ItemRows.{progress_on}
-use Rattle.trace_laws.proofs.Driven.{wrong, wrong'}
 use Rattle.trace_laws.specs.ItemFacts.{IsNext, is_abort, is_sense, is_command, NoClash, UnitsP, AreChecked, IsQueued, IsChecked, Items}
 use Rattle.trace_laws.specs.ItemTalks.{Talks}
-
-no_item : {A : Type 0} (i : Item) → (let a : Option Item = None in a) ≡ Some i → A
-no_item i e = absurd cc
-
-no_connection : {A : Type 0} (n : Connection) → Some n ≡ None → A
-no_connection n e = absurd cc
-
-or_no : (q r : Bool) → (q || r) ≡ false → (q ≡ false) × (r ≡ false)
-or_no true r e = wrong e
-or_no false r e = (refl, e)
-
-or_of : (q r : Bool) → (q || r) ≡ true → (q ≡ true) ⊎ (r ≡ true)
-or_of true r e = inl refl
-or_of false r e = inr e
+use Rattle.trace_laws.proofs.Tests.{or_of}
 
 -- ---- what an initiator sends next
 
@@ -49,10 +37,10 @@ undone s b dev _ (is_sense n c at own there z) = z
 undone s b dev _ (is_command n time c at own z may) = z
 
 pub next_unsent : (s : ScenarioValue) (b : Sent) (dev : ℕ) (item : Item) → IsNext s b dev item → has_item b.sent item ≡ false
-next_unsent s b dev item h = (or_no (has_item b.sent item) (has_item b.over item) (undone s b dev item h)).0
+next_unsent s b dev item h = (or_false (has_item b.sent item) (has_item b.over item) (undone s b dev item h)).0
 
 pub next_unended : (s : ScenarioValue) (b : Sent) (dev : ℕ) (item : Item) → IsNext s b dev item → has_item b.over item ≡ false
-next_unended s b dev item h = (or_no (has_item b.sent item) (has_item b.over item) (undone s b dev item h)).1
+next_unended s b dev item h = (or_false (has_item b.sent item) (has_item b.over item) (undone s b dev item h)).1
 
 next_checked : (s : ScenarioValue) (b : Sent) (dev : ℕ) (item : Item) → IsNext s b dev item → (n : ℕ) → item ≡ sense_item n → IsChecked s b n
 next_checked s b dev _ (is_abort k z) n e = absurd (no_process e)
@@ -104,14 +92,14 @@ items_first s k row n g h next = go n.reselected refl
         let served : j.served ≡ Some (process r.ready.process.id) = f.served ∙ ap (λ (x : Bool). if x then item_if (ready_of s k n.target) else aim_of k.story.aims n.initiator) e ∙ ap item_if r.ready_is in
         let q : IsQueued s k.story.sent r.ready.process = ready_queued s k (IsQueued s k.story.sent) n.target r.ready h.queued r.ready_is in
         record {
-          apart = λ z. no_connection n (sym g.first.next_is ∙ z);
+          apart = λ z. some_none n (sym g.first.next_is ∙ z);
           only = only_on s k row h.only;
           clash = subst (λ (b : Sent). NoClash s b) (sym same) h.clash;
           checked = subst (λ (b : Sent). AreChecked b) (sym same) h.checked;
           checks = subst (λ (b : Sent). (m : ℕ) → has_item b.sent (sense_item m) ≡ true → IsChecked s b m) (sym same) h.checks;
           queued = subst (λ (b : Sent). UnitsP (IsQueued s b) (array_of s j).units) (sym same) (subst (λ (a : Option Array). UnitsP (IsQueued s k.story.sent) (or_start s a).units) (sym f.array) h.queued);
           served = λ i z. (λ x. has_item (same x).sent (same_Some i (process r.ready.process.id) (sym z ∙ served) x)) ∙ q.sent;
-          senses = λ m z. no_item (sense_item m) (sym none.1 ∙ (h.senses m (ap (λ (b : Sent). is_open_sense b m) (sym same) ∙ z)).0);
+          senses = λ m z. none_some (sense_item m) (sym none.1 ∙ (h.senses m (ap (λ (b : Sent). is_open_sense b m) (sym same) ∙ z)).0);
           progress = progress_on s k row h;
           talks = talking;
         }
@@ -124,7 +112,7 @@ items_first s k row n g h next = go n.reselected refl
         let served : j.served ≡ Some item = f.served ∙ ap (λ (x : Bool). if x then item_if (ready_of s k n.target) else aim_of k.story.aims n.initiator) e ∙ a.aim_is in
         let is : IsNext s k.story.sent n.initiator item = next e item a.aim_is in
         record {
-          apart = λ z. no_connection n (sym g.first.next_is ∙ z);
+          apart = λ z. some_none n (sym g.first.next_is ∙ z);
           only = only_on s k row h.only;
           clash = subst (λ (b : Sent). NoClash s b) (sym same) (sent_clash s k.story.sent n.initiator item is h.clash);
           checked = subst (λ (b : Sent). AreChecked b) (sym same) (λ m z. h.checked m z);
@@ -135,7 +123,7 @@ items_first s k row n g h next = go n.reselected refl
           served = λ i z. (λ x. has_item (same x).sent (same_Some i item (sym z ∙ served) x)) ∙ own_has item k.story.sent.sent;
           senses = λ m z. elim (opened_sense k.story.sent item m (ap (λ (b : Sent). is_open_sense b m) (sym same) ∙ z)) [
             | inl y ↦ (served ∙ ap (λ (x : Item). Some x) y, g.first.calm)
-            | inr y ↦ no_item (sense_item m) (sym none.1 ∙ (h.senses m y).0)
+            | inr y ↦ none_some (sense_item m) (sym none.1 ∙ (h.senses m y).0)
           ];
           progress = progress_on s k row h;
           talks = talking;

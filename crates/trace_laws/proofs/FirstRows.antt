@@ -37,10 +37,12 @@ use Rattle.bus_laws.specs.Callings.{calling_lines, call_with, answer_lines, answ
 use Rattle.bus_laws.specs.Ends.{BeginsConnection}
 use Rattle.bus_laws.specs.Stages.{BusStage, on_free_bus, in_arbitration, after_arbitration, with_both_ids, awaiting_answer, after_withdrawal, after_answer, after_takeover, in_reset, in_connection, CalmStanding, Standing, Calls, IsAnswered, UnderRst, NextRow}
 use Rattle.bus_laws.proofs.CallDues.{goes_on_due, waiting_due, apart_due, want_at}
-use Rattle.bus_laws.proofs.Dues.{is_at, is_there, none_some}
+use Rattle.bus_laws.proofs.Dues.{is_at, is_there}
 use Rattle.bus_laws.proofs.Rows.{stage_is, drives_own}
 use Rattle.bus_laws.proofs.Together.{by_reset, by_calm, reset_or_calm}
-use Rattle.trace_laws.proofs.Driven.{wrong, wrong'}
+use Rattle.link_laws.proofs.Enters.{no_fall}
+use Rattle.trace_laws.proofs.Impossible.{wrong, wrong', none_some}
+use Rattle.trace_laws.proofs.Tests.{falls_true}
 use Rattle.trace_laws.proofs.UnderRst.{bsy_stands, quiet_at_end}
 
 -- ---- what a connection that begins is made of
@@ -49,9 +51,6 @@ none_if : (q : Bool) → (let o : Option Connection = None in if q then o else o
 none_if true = refl
 none_if false = refl
 
-some_none : (n : Connection) → (let a : Option Connection = None in a) ≡ Some n → ⊥
-some_none n e = absurd cc
-
 -- It is that of the calling, and SEL falls with it.
 pub record Made (p : List Row) (row : Row) (n : Connection) : Type 0 where
   pub made : connection_of (call p) row.time ≡ Some n
@@ -59,22 +58,14 @@ pub record Made (p : List Row) (row : Row) (n : Connection) : Type 0 where
 
 made_by : (q r s : Bool) (o : Option Connection) (n : Connection) → (if q && r && s then o else None) ≡ Some n → (o ≡ Some n) × (q ≡ true)
 made_by true true true o n e = (e, refl)
-made_by true true false o n e = absurd (some_none n e)
-made_by true false s o n e = absurd (some_none n e)
-made_by false r s o n e = absurd (some_none n e)
+made_by true true false o n e = absurd (none_some n e)
+made_by true false s o n e = absurd (none_some n e)
+made_by false r s o n e = absurd (none_some n e)
 
 pub made_is : (p : List Row) (row : Row) (n : Connection) → connection p ≡ None → connection (row ∷ p) ≡ Some n → Made p row n
 made_is p row n alone e =
     let w = made_by (falls (bus p).sel (bus (row ∷ p)).sel) (bus (row ∷ p)).bsy (not (bus (row ∷ p)).rst) (connection_of (call p) row.time) n (sym (λ i. connection_after (alone i) (call p) (change_of p row) row) ∙ e) in
     record { made = w.0; sel = w.1 }
-
-no_fall : (q : Bool) → falls q q ≡ false
-no_fall true = refl
-no_fall false = refl
-
-falls_true : (a b : Bool) → b ≡ true → falls a b ≡ false
-falls_true true b e = ap not e
-falls_true false b e = refl
 
 -- The row is of lines.
 pub of_lines : (p : List Row) (row : Row) (n : Connection) → Made p row n → is_fault row.kind ≡ false
@@ -102,7 +93,7 @@ requests_none (row ∷ rows) e = go (λ z. requests_none rows z) row.kind refl
     before bit f (Some m) g = bsy_stands rows (ap (λ (l : LineSet). l.bsy) (sym (bus-fault row rows bit f)) ∙ down (bus (row ∷ rows)).bsy refl (sym (λ i. connection_after (g i) (call rows) (change_of rows row) row) ∙ e))
       where
         down : (q : Bool) → (bus (row ∷ rows)).bsy ≡ q → (if (bus (row ∷ rows)).bsy then Some m else None) ≡ None → (bus (row ∷ rows)).bsy ≡ false
-        down true h z = absurd (some_none m (sym z ∙ ap (λ (r : Bool). if r then Some m else None) h))
+        down true h z = absurd (none_some m (sym z ∙ ap (λ (r : Bool). if r then Some m else None) h))
         down false h z = h
 
     go : (connection rows ≡ None → (handshakes rows).requests ≡ 0) → (k : Kind) → row.kind ≡ k → (handshakes (row ∷ rows)).requests ≡ 0
@@ -112,14 +103,14 @@ requests_none (row ∷ rows) e = go (λ z. requests_none rows z) row.kind refl
 -- ---- what stands after it
 
 pub begins_now : (s : ScenarioValue) (q : List Row) (n : Connection) → BusStage s q → connection q ≡ Some n → (bus q).rst ≡ false → BeginsConnection q n
-begins_now s q n (on_free_bus h) e calm = absurd (some_none n (sym h.stands.connection_is ∙ e))
-begins_now s q n (in_arbitration a h) e calm = absurd (some_none n (sym h.stands.connection_is ∙ e))
-begins_now s q n (after_arbitration c t h) e calm = absurd (some_none n (sym h.stands.connection_is ∙ e))
-begins_now s q n (with_both_ids m c k t0 t z h) e calm = absurd (some_none n (sym h.stands.connection_is ∙ e))
-begins_now s q n (awaiting_answer v m c k t0 t1 t2 x h) e calm = absurd (some_none n (sym h.here.stands.connection_is ∙ e))
-begins_now s q n (after_withdrawal v m c k t0 t1 t2 t3 z h) e calm = absurd (some_none n (sym h.stands.connection_is ∙ e))
-begins_now s q n (after_answer m c k t0 t1 t2 t3 x h) e calm = absurd (some_none n (sym h.here.stands.connection_is ∙ e))
-begins_now s q n (after_takeover c k t0 t1 t2 t3 t4 x z f h) e calm = absurd (some_none n (sym h.here.stands.connection_is ∙ e))
+begins_now s q n (on_free_bus h) e calm = absurd (none_some n (sym h.stands.connection_is ∙ e))
+begins_now s q n (in_arbitration a h) e calm = absurd (none_some n (sym h.stands.connection_is ∙ e))
+begins_now s q n (after_arbitration c t h) e calm = absurd (none_some n (sym h.stands.connection_is ∙ e))
+begins_now s q n (with_both_ids m c k t0 t z h) e calm = absurd (none_some n (sym h.stands.connection_is ∙ e))
+begins_now s q n (awaiting_answer v m c k t0 t1 t2 x h) e calm = absurd (none_some n (sym h.here.stands.connection_is ∙ e))
+begins_now s q n (after_withdrawal v m c k t0 t1 t2 t3 z h) e calm = absurd (none_some n (sym h.stands.connection_is ∙ e))
+begins_now s q n (after_answer m c k t0 t1 t2 t3 x h) e calm = absurd (none_some n (sym h.here.stands.connection_is ∙ e))
+begins_now s q n (after_takeover c k t0 t1 t2 t3 t4 x z f h) e calm = absurd (none_some n (sym h.here.stands.connection_is ∙ e))
 begins_now s q n (in_reset h) e calm = wrong (sym h.reset ∙ calm)
 begins_now s q n (in_connection m f g h) e calm = subst (λ (x : Connection). BeginsConnection q x) (same_Some m n (sym f ∙ e)) h
 
@@ -192,7 +183,7 @@ after_resumed s p c k t0 t1 t2 t3 t4 x row n always a least made =
 
 -- Without an answer no connection begins.
 unmade : {A : Type 0} (p : List Row) (row : Row) (n : Connection) (o : Option Call) → call p ≡ o → connection_of o row.time ≡ None → Made p row n → A
-unmade p row n o e none made = absurd (some_none n (sym none ∙ ap (λ (w : Option Call). connection_of w row.time) (sym e) ∙ made.made))
+unmade p row n o e none made = absurd (none_some n (sym none ∙ ap (λ (w : Option Call). connection_of w row.time) (sym e) ∙ made.made))
 
 drives_name : (s : ScenarioValue) (p : List Row) (row : Row) (n : Connection) → Standing s p → BusStage s p → connection p ≡ None → CalmStanding s p → IsLeast (unreset_due s p) 8 row → Made p row n → (bus p).rst ≡ false → n.reselected ≡ true → DrivesName s p row n
 drives_name s p row n st (on_free_bus h) alone always least made calm re = unmade p row n None h.stands.call_is refl made
@@ -204,7 +195,7 @@ drives_name s p row n st (after_withdrawal v m c k t0 t1 t2 t3 z h) alone always
 drives_name s p row n st (after_answer m c k t0 t1 t2 t3 x h) alone always least made calm re = after_answered s p m c k t0 t1 t2 t3 x row n always h least made re
 drives_name s p row n st (after_takeover c k t0 t1 t2 t3 t4 x z f h) alone always least made calm re = after_resumed s p c k t0 t1 t2 t3 t4 x row n always h least made
 drives_name s p row n st (in_reset h) alone always least made calm re = wrong (sym h.reset ∙ calm)
-drives_name s p row n st (in_connection m f g h) alone always least made calm re = absurd (some_none m (sym alone ∙ f))
+drives_name s p row n st (in_connection m f g h) alone always least made calm re = absurd (none_some m (sym alone ∙ f))
 
 -- ---- RST was false before it
 

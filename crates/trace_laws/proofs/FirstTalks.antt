@@ -33,9 +33,9 @@ use Rattle.bus_books.specs.Rows.{IsFirstRow}
 use Rattle.bus_books.specs.Traces.{Begins}
 use Rattle.bus_books.proofs.Given.{first_requests}
 use Rattle.bus_books.proofs.Knows.{events_link}
-use Rattle.trace_laws.proofs.Driven.{wrong, wrong'}
 use Rattle.trace_laws.specs.ItemTalks.{plans_well, is_sense_item, talk_of, IsNameOf, last_well, TalksBy, Talks}
 use Rattle.trace_laws.specs.ItemFacts.{IsQueued}
+use Rattle.trace_laws.proofs.Impossible.{wrong, wrong'}
 
 -- ---- what the row makes of what is sent, of the array and of the link
 
@@ -104,9 +104,6 @@ first_sent s k row n h none = record {
         go false item = restored (story_with_sent (record k.story { link = Some (link_of n item) }) item) item ∙ by_item (record k.story { link = Some (link_of n item) }) item
 
 -- ---- the talk
-
-no_item : {A : Type 0} (i : Item) → (let a : Option Item = None in a) ≡ Some i → A
-no_item i e = absurd cc
 
 names_well : (p : Process) (next : Next) → plans_well false (naming_messages p) next ≡ true
 names_well p next = go p.tag

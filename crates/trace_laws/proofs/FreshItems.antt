@@ -29,22 +29,16 @@ use Rattle.bus_laws.proofs.Together.{from_stage}
 use Rattle.link_laws.specs.LinkStages.{AnyStage, apart, linked}
 use Rattle.trace_laws.proofs.Called.{made_for}
 use Rattle.trace_laws.proofs.FirstRows.{made_is}
+use Rattle.trace_laws.proofs.Impossible.{none_some, wrong'}
 use Rattle.trace_laws.proofs.Joint.{Stood, link_connection}
 use Rattle.trace_laws.specs.Named.{AreFound}
 use Rattle.trace_laws.specs.Items.{IsFresh, AreSent, IsServedOpen}
 use Rattle.trace_laws.proofs.ItemSteps.{ready_queued}
-use Rattle.trace_laws.proofs.TalkTurns.{in_phase_is}
 use Rattle.trace_laws.proofs.FirstItems.{next_unsent, next_unended}
 use Rattle.trace_laws.proofs.ItemFacts.{aimed_next, falls_quiet}
-use Rattle.trace_laws.proofs.Driven.{wrong'}
 use Rattle.trace_laws.specs.ItemFacts.{IsQueued, ItemFacts}
 use Rattle.trace_laws.specs.ItemTalks.{TalksBy, talk_of}
-
-none_some : {A : Type 0} (n : Connection) → (let a : Option Connection = None in a) ≡ Some n → A
-none_some n e = absurd cc
-
-no_item : {A : Type 0} (i : Item) → (let a : Option Item = None in a) ≡ Some i → A
-no_item i e = absurd cc
+use Rattle.trace_laws.proofs.PhaseLines.{in_phase}
 
 -- ---- as a connection begins
 
@@ -109,7 +103,7 @@ pub items_sent : (s : ScenarioValue) (p : List Row) → ItemFacts s p → AreSen
 items_sent s p h = record { link = λ i e. linked_item (run_state s p).story.link refl i e; served = h.items.served; carried = h.items.only.carried; progress = h.items.progress }
   where
     linked_item : (o : Option Link) → (run_state s p).story.link ≡ o → (i : Item) → item_of o ≡ Some i → has_item (run_state s p).story.sent.sent i ≡ true
-    linked_item None f i e = no_item i e
+    linked_item None f i e = none_some i e
     linked_item (Some l) f i e = (h.items.only.link l f).item i e
 
 pub items_open : (s : ScenarioValue) (p : List Row) (n : Connection) → Stood s p → ItemFacts s p → connection p ≡ Some n → (bus p).rst ≡ false → IsServedOpen (run_state s p)
@@ -138,4 +132,4 @@ items_open s p n was h con off = record { sent = h.items.served; open_is = λ i 
       where
         go : (q : Bool) → has_item k.story.sent.over i ≡ q → has_item k.story.sent.over i ≡ false
         go false z = z
-        go true z = wrong' (sym other ∙ ap is_in_phase (in_phase_is (bus_of k) (t.over i e z).taken.here))
+        go true z = wrong' (sym other ∙ ap is_in_phase (in_phase (bus_of k) (t.over i e z).taken.here))

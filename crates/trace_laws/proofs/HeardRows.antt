@@ -2,13 +2,14 @@
 -- array as the phase says.
 use Rattle.std.proofs.Common.{◌≡◌, ◌<◌, ◌⊎◌, inl, inr, Bool, true, false, not, ◌&&◌, ◌||◌, ◌∙◌, List, ◌∷◌, Option, Some, None, refl, sym, ap, subst}
 use Rattle.std.specs.Prelude.{if◌then◌else◌, is_some, is_none}
+use Rattle.std.proofs.lemmas.Bool.{and_from}
 use Rattle.bus_base.specs.declared.ProcId.{ProcId}
 use Rattle.bus_trace.specs.LineSet.{LineSet}
 use Rattle.bus_trace.specs.declared.Row.{Row}
 use Rattle.bus_trace.specs.declared.changes.Change.{Change}
 use Rattle.bus_trace.specs.declared.connection.Connection.{Connection}
 use Rattle.bus_trace.specs.Changes.{change_of}
-use Rattle.bus_trace.specs.Phases.{is_message_out, is_message_in}
+use Rattle.bus_trace.specs.Phases.{is_message_out}
 use Rattle.bus_trace.specs.Terms.{connection, connection_after}
 use Rattle.bus_trace.specs.Trace.{bus}
 use Rattle.scenario.specs.Value.{ScenarioValue}
@@ -17,7 +18,7 @@ use Rattle.disk_array.specs.ArrayHistory.{reply_in}
 use Rattle.disk_array.specs.Processes.{Process}
 use Rattle.disk_array.specs.Steps.{running_process}
 use Rattle.bus_story.specs.BusState.{RowReading, row_reading}
-use Rattle.bus_story.specs.Items.{Item, process, abort, same_item}
+use Rattle.bus_story.specs.Items.{Item}
 use Rattle.bus_story.specs.Right.{same_bytes}
 use Rattle.bus_dialogue.specs.declared.exchange.Next.{Next}
 use Rattle.bus_dialogue.specs.declared.exchange.Next.TheVariants as nexts
@@ -33,9 +34,8 @@ use Rattle.bus_due.specs.RunSteps.{run_state}
 use Rattle.bus_due.proofs.Plains.{run_state_plain}
 use Rattle.scsi_device.specs.Heard.{Instructions, gives_status, instructions, is_answered, is_command_phase, is_heard, is_heard_after, is_heard_in, is_heard_on, is_heard_process, is_heard_row, is_instructed, is_known_item, is_message, is_new, is_of_scenario, is_opening, is_opening_in, is_said, is_served, is_true_end, is_unanswered, moves_data}
 use Rattle.scsi_device.proofs.FitLines.{obeys_fits, units_are}
+use Rattle.ending_causes.proofs.Counts.{all_three}
 use Rattle.bus_books.proofs.Blocks.{same_self}
-use Rattle.bus_books.proofs.Lists.{eq_self}
-use Rattle.bus_books.proofs.Lookups.{self_id}
 use Rattle.bus_books.specs.Items.{IsItem, is_process, is_abort}
 use Rattle.bus_books.specs.Knowing.{Knows}
 use Rattle.bus_laws.proofs.Apart.{change_plain}
@@ -49,52 +49,20 @@ use Rattle.trace_laws.proofs.Blocks.{commands_are}
 use Rattle.trace_laws.proofs.CommandFacts.{same_process as same_id_of, served_process}
 use Rattle.trace_laws.proofs.ConnectionRows.{begins_now, goes_now, row_kind, stage_of_connection}
 use Rattle.trace_laws.proofs.HeardTurns.{heard_goes}
+use Rattle.trace_laws.proofs.Impossible.{wrong, wrong', none_some}
 use Rattle.trace_laws.proofs.Joint.{Stood}
 use Rattle.trace_laws.proofs.MayLeave.{said_at}
-
-wrong : {A : Type 0} → true ≡ false → A
-wrong e = absurd cc
-
-wrong' : {A : Type 0} → false ≡ true → A
-wrong' e = absurd cc
-
-none_some : {A : Type 0} (n : Connection) → (let a : Option Connection = None in a) ≡ Some n → A
-none_some n e = absurd cc
-
-or_true : (q : Bool) → (q || true) ≡ true
-or_true true = refl
-or_true false = refl
-
--- Where a test holds it may rest on what is asked there.
-where_asked : (a b : Bool) → (a ≡ true → b ≡ true) → (not a || b) ≡ true
-where_asked true b f = f refl
-where_asked false b f = refl
+use Rattle.trace_laws.proofs.PhaseLines.{message_is}
+use Rattle.trace_laws.proofs.SentItems.{self_item}
+use Rattle.trace_laws.proofs.Tests.{implication}
 
 unless : (a b : Bool) → (a ≡ false → b ≡ true) → (a || b) ≡ true
 unless true b f = refl
 unless false b f = f refl
 
-and_2 : (a b : Bool) → a ≡ true → b ≡ true → (a && b) ≡ true
-and_2 a b e f = λ i. e i && f i
-
-and_3 : (a b c : Bool) → a ≡ true → b ≡ true → c ≡ true → (a && b && c) ≡ true
-and_3 a b c e f g = λ i. e i && f i && g i
-
-item_same : (x : Item) → same_item x x ≡ true
-item_same (process id) = self_id id
-item_same (abort n) = eq_self n
-
 process_same : (o : Option Item) → same_process o o ≡ true
 process_same None = refl
-process_same (Some x) = item_same x
-
-in_message : (b : LineSet) → is_message_in b ≡ true → is_message (phase_of b) ≡ true
-in_message b e = go b.msg b.cd b.io e
-  where
-    go : (m d i : Bool) → (m && d && i) ≡ true → is_message (if m then (if i then phases.MessageIn else phases.MessageOut) else if d then (if i then phases.Status else phases.Command) else if i then phases.DataIn else phases.DataOut) ≡ true
-    go true d true z = refl
-    go true d false z = refl
-    go false d i z = wrong' z
+process_same (Some x) = self_item x
 
 out_message : (b : LineSet) → is_message_out b ≡ true → is_message (phase_of b) ≡ true
 out_message b e = go b.msg b.cd b.io e
@@ -115,7 +83,7 @@ known_item s k n w names = go w.item_is
 
     by : (n.reselected ≡ true) → (w.link.item ≡ None) → Named s k n → (n.reselected && is_message (phase_of (bus_of k))) ≡ true
     by e none (known l el some m) = wrong (sym some ∙ ap (λ (o : Option Item). is_some o) (sym (ap item_of el) ∙ here ∙ none))
-    by e none (said p l h out names all) = λ i. e i && in_message (bus_of k) out i
+    by e none (said p l h out names all) = λ i. e i && message_is (bus_of k) out i
     by e none (refused p l h out ec names) = λ i. e i && out_message (bus_of k) out i
 
     go : (w.link.item ≡ k.served) ⊎ ((n.reselected ≡ true) × (w.link.item ≡ None)) → is_known_item k n ≡ true
@@ -133,7 +101,7 @@ served_item s k n books again = go n.reselected refl
     go true e = let v = again e in ap (is_of_scenario s) v.served_is ∙ ap (λ (o : Option Process). is_some o) v.process_is
     go false e = let h = books.serves e in ap (is_of_scenario s) h.served_is ∙ of_item h.item h.item_is
 
-begun_of : (k : RunState) → is_opening k ≡ false → k.exchange.begun ≡ true
+pub begun_of : (k : RunState) → is_opening k ≡ false → k.exchange.begun ≡ true
 begun_of k e = go k.exchange.begun (is_opening_in (phase_of (bus_of k)) k.exchange.plan.cause) e
   where
     go : (q r : Bool) → (not q || r) ≡ false → q ≡ true
@@ -165,7 +133,7 @@ known_data told k phases.MessageIn h e = go k.exchange.plan.next h e
     go nexts.FreeBus h e = wrong' e
 
 heard_process : (s : ScenarioValue) (k : RunState) (n : Connection) (i : Instructions) → CommandBooks s k n → Instructed s k i n → (v : Serves s k) → is_opening k ≡ false → IsPlacedIn (array_of s k) v.process (phase_of (bus_of k)) k.exchange.plan.next → is_heard_process s k n i (Some v.process) (phase_of (bus_of k)) ≡ true
-heard_process s k n i books told v after at = and_2 _ _ (unless n.reselected _ instructed) (and_3 _ _ _ new unanswered answered)
+heard_process s k n i books told v after at = and_from _ _ (unless n.reselected _ instructed) (all_three _ _ _ new unanswered answered)
   where
     begun : k.exchange.begun ≡ true
     begun = begun_of k after
@@ -179,9 +147,9 @@ heard_process s k n i books told v after at = and_2 _ _ (unless n.reselected _ i
     instructed : n.reselected ≡ false → is_instructed k i v.process (phase_of (bus_of k)) ≡ true
     instructed e =
         let w = told.selected e in
-        and_3 _ _ _ (w.named after v)
-        (where_asked (is_command_phase (phase_of (bus_of k))) _ (λ z. ap (λ (x : ProcId). same_bytes i.block (carried_here k x).block) same ∙ ap (same_bytes i.block) (sym (w.carried begun (command_of_phase (phase_of (bus_of k)) z) v)) ∙ same_self i.block))
-        (where_asked i.known _ (λ z. let b = w.block z v in and_2 _ _ b.0 (ap (same_bytes i.block) (sym b.1) ∙ same_self i.block)))
+        all_three _ _ _ (w.named after v)
+        (implication (is_command_phase (phase_of (bus_of k))) _ (λ z. ap (λ (x : ProcId). same_bytes i.block (carried_here k x).block) same ∙ ap (same_bytes i.block) (sym (w.carried begun (command_of_phase (phase_of (bus_of k)) z) v)) ∙ same_self i.block))
+        (implication i.known _ (λ z. let b = w.block z v in and_from _ _ b.0 (ap (same_bytes i.block) (sym b.1) ∙ same_self i.block)))
 
     unknown : is_command_phase (phase_of (bus_of k)) ≡ true → i.known ≡ false
     unknown z =
@@ -190,7 +158,7 @@ heard_process s k n i books told v after at = and_2 _ _ (unless n.reselected _ i
         subst (λ (x : Phase). KnownIn i.known k.exchange.plan x) phase (stage takes.1.selected)
 
     new : (not (is_command_phase (phase_of (bus_of k))) || (not i.known && is_new (array_of s k) v.process)) ≡ true
-    new = where_asked _ _ (λ z. and_2 _ _ (ap not (unknown z)) (at.new z))
+    new = implication _ _ (λ z. and_from _ _ (ap not (unknown z)) (at.new z))
 
     knows : moves_data (phase_of (bus_of k)) k.exchange.plan.next ≡ true → i.known ≡ true
     knows z = go n.reselected refl
@@ -200,10 +168,10 @@ heard_process s k n i books told v after at = and_2 _ _ (unless n.reselected _ i
         go false e = known_data i.known k (phase_of (bus_of k)) (stage e) z
 
     unanswered : (not (moves_data (phase_of (bus_of k)) k.exchange.plan.next) || (i.known && is_unanswered (running_process (array_of s k) v.process.id) && is_none (reply_in (array_of s k).replies v.process.id))) ≡ true
-    unanswered = where_asked _ _ (λ z. let w = at.unanswered z in and_3 _ _ _ (knows z) w.0 w.1)
+    unanswered = implication _ _ (λ z. let w = at.unanswered z in all_three _ _ _ (knows z) w.0 w.1)
 
     answered : (not (gives_status (phase_of (bus_of k)) k.exchange.plan.next) || (is_answered (running_process (array_of s k) v.process.id) && is_some (reply_in (array_of s k).replies v.process.id))) ≡ true
-    answered = where_asked _ _ (λ z. let w = at.answered z in and_2 _ _ w.0 w.1)
+    answered = implication _ _ (λ z. let w = at.answered z in and_from _ _ w.0 w.1)
 
 -- ---- after the row
 
@@ -245,7 +213,7 @@ heard_in s q n o h con calm = λ x. told_all x && named x && served x && heard x
     named = known_item s k n (h.stood.books.knows n (pl.connection ∙ con) (ap (λ (l : LineSet). l.rst) pl.bus ∙ calm)) (λ e. h.named n con calm e)
 
     served : is_served s k ≡ true
-    served = and_2 _ _ (served_item s k n books (λ e. (told.again e).1)) (unless (is_opening k) _ (λ z. ap (λ (o : Option Process). is_some o) (served_process s k (told.served z))))
+    served = and_from _ _ (served_item s k n books (λ e. (told.again e).1)) (unless (is_opening k) _ (λ z. ap (λ (o : Option Process). is_some o) (served_process s k (told.served z))))
 
     heard : (is_opening k || is_heard_process s k n (instructions s q) (process_served s k) (phase_of (bus_of k))) ≡ true
     heard = unless (is_opening k) _ by
@@ -308,7 +276,7 @@ heard_turn s p row o prompt was begins = unless d.change.after.rst _ (λ off. on
     on off = ap (λ (x : Option Connection). is_heard_on s k (run_state s q) d x d.next) pl.connection ∙ go (connection p) refl off
 
 pub heard_row : (s : ScenarioValue) (p : List Row) (row : Row) → Obeys s → IsPrompt s (row ∷ p) → Stood s p → BeginsPlaced s p row → HeardFacts s (row ∷ p) → is_heard_after s (run_state s p) (run_state s (row ∷ p)) (row_reading (run_state s p).story.bus_state row) (instructions s (row ∷ p)) ≡ true
-heard_row s p row o prompt was begins h = and_2 _ _ (heard_turn s p row o prompt was begins) (ap (λ (x : Option Connection). is_heard s j x (instructions s q)) next ∙ go (connection q) refl)
+heard_row s p row o prompt was begins h = and_from _ _ (heard_turn s p row o prompt was begins) (ap (λ (x : Option Connection). is_heard s j x (instructions s q)) next ∙ go (connection q) refl)
   where
     q : List Row
     q = row ∷ p

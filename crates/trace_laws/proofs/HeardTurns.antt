@@ -29,8 +29,8 @@ use Rattle.trace_laws.specs.Attention.{Attention}
 use Rattle.trace_laws.proofs.AttentionRows.{attention_row}
 use Rattle.trace_laws.proofs.ConnectionRows.{ConnectionRow, connection_row, link_low}
 use Rattle.trace_laws.proofs.Crossings.{Goes, RowFacts, stays, ends_here}
-use Rattle.trace_laws.proofs.Driven.{wrong'}
 use Rattle.trace_laws.proofs.Joint.{Stood}
+use Rattle.trace_laws.proofs.PhaseLines.{out_phase}
 
 -- ---- REQ is that of the target
 
@@ -51,15 +51,6 @@ same_self phases.Command = refl
 same_self phases.Status = refl
 same_self phases.DataIn = refl
 same_self phases.DataOut = refl
-
-out_phase : (b : LineSet) → is_message_out b ≡ true → phase_of b ≡ phases.MessageOut
-out_phase b e = go b.msg b.cd b.io e
-  where
-    go : (m d i : Bool) → (m && d && not i) ≡ true → (if m then (if i then phases.MessageIn else phases.MessageOut) else if d then (if i then phases.Status else phases.Command) else if i then phases.DataIn else phases.DataOut) ≡ phases.MessageOut
-    go true true true z = wrong' z
-    go true true false z = refl
-    go true false i z = wrong' z
-    go false d i z = wrong' z
 
 all_3 : (a b c : Bool) → a ≡ true → b ≡ false → c ≡ false → (a && not b && not c) ≡ true
 all_3 a b c e f g = λ i. e i && not (f i) && not (g i)

@@ -1,8 +1,7 @@
 -- What a row of MESSAGE IN does with ATN, REQ and ACK: ATN changes with ACK alone; and what the rules say of REQ and ACK, and of a row
 -- that raises SEL.
-use Rattle.std.proofs.Common.{inl, inr, ℕ, ◌≡◌, ◌⊎◌, Bool, true, false, not, ◌&&◌, ◌||◌, ◌∙◌, List, [], ◌∷◌, Option, Some, None, refl, sym, ap, subst}
-use Rattle.std.specs.Prelude.{cond, if◌then◌else◌, ◌==◌, is_some, nat_le, ◌+◌}
-use Rattle.std.specs.List.{AllByRecursion}
+use Rattle.std.proofs.Common.{inl, inr, ℕ, ◌≡◌, ◌⊎◌, Bool, true, false, not, ◌&&◌, ◌||◌, ◌∙◌, List, ◌∷◌, Option, Some, None, refl, sym, ap, subst}
+use Rattle.std.specs.Prelude.{if◌then◌else◌, ◌==◌, is_some, nat_le, ◌+◌}
 use Rattle.std.proofs.lemmas.Bool.{and_parts}
 use Rattle.bus_trace.specs.LineSet.{LineSet, byte_set}
 use Rattle.std.proofs.lemmas.Bool.{cases_eq}
@@ -17,7 +16,7 @@ use Rattle.bus_trace.specs.Terms.{arbitration, connection, raised}
 use Rattle.bus_trace.specs.Trace.{bus, drives, driven_after, last_time}
 use Rattle.bus_rules.specs.declared.seen.Seen.{Seen}
 use Rattle.bus_rules.specs.Seen.{seen, seen_with}
-use Rattle.bus_rules.specs.Rules.{keeps, first_broken, judged_rules, broken_rule}
+use Rattle.bus_rules.specs.Rules.{keeps, judged_rules, broken_rule}
 use Rattle.scenario.specs.Value.{ScenarioValue}
 use Rattle.bus_laws.specs.Ends.{EndLines, connected_bus, Linked, ends_selected}
 use Rattle.bus_dialogue.specs.declared.exchange.Leaving.{Leaving}
@@ -31,11 +30,11 @@ use Rattle.bus_laws.specs.Rows.{row_of_lines, row_of_fault}
 use Rattle.link_laws.specs.Phases.{ends}
 use Rattle.link_laws.proofs.EndDues.{offering_with}
 use Rattle.link_laws.proofs.Moves.{initiator_moves, target_moves}
+use Rattle.trace_laws.proofs.Impossible.{wrong, wrong'}
 use Rattle.trace_laws.proofs.LinkRows.{LinkRow, opens, strikes, hands, releases, answers, ends_ack_in, gives, sends, ends_ack_out, answers_pulse, ends_ack_pulse, drives_pulsed, sends_pulse, offers, asks_first, ends_req, asks_next, leaves, ends_req_pulse, changes_pulsed, asks_pulse}
-use Rattle.trace_laws.proofs.UnderRst.{line_off}
+use Rattle.trace_laws.proofs.UnderRst.{line_off, all_kept, implied}
 use Rattle.trace_laws.proofs.AimsFit.{RisesWell}
 use Rattle.trace_laws.proofs.TalkSteps.{Alternates}
-use Rattle.trace_laws.proofs.Driven.{wrong, wrong'}
 use Rattle.trace_laws.specs.ItemTalks.{awaits}
 
 -- ---- the lines
@@ -143,18 +142,6 @@ in_move s p row n z (changes_pulsed ack atn y x h b un pulsed e) = not_there p (
 in_move s p row n z (asks_pulse io ack atn x y h b un w zero byte e) = not_there p (row ∷ p) n (ends false ack atn x false false io false y) h refl z
 
 -- ---- the rules
-
-kept_step : (kept : ℕ → Bool) (n : ℕ) (ns : List ℕ) (q : Bool) → kept n ≡ q → (first_broken kept ns ≡ None → AllByRecursion (λ m. kept m ≡ true) ns) → cond q (first_broken kept ns) (Some n) ≡ None → AllByRecursion (λ m. kept m ≡ true) (n ∷ ns)
-kept_step kept n ns true h later e = (h, later e)
-kept_step kept n ns false h later e = absurd cc
-
-all_kept : (kept : ℕ → Bool) (ns : List ℕ) → first_broken kept ns ≡ None → AllByRecursion (λ n. kept n ≡ true) ns
-all_kept kept [] e = tt
-all_kept kept (n ∷ ns) e = kept_step kept n ns (kept n) refl (λ later. all_kept kept ns later) e
-
-implied : (q r : Bool) → implies q r ≡ true → q ≡ true → r ≡ true
-implied true r e f = e
-implied false r e f = wrong' f
 
 asynchronous : (l : LineSet) (x : Bool) → is_message_in l ≡ true → not (is_data l && x) ≡ true
 asynchronous l x e = go l.msg l.cd l.io e

@@ -1,5 +1,5 @@
 -- A row within a phase: what the two ends drive after it is what they are due to drive.
-use Rattle.std.proofs.Common.{ℕ, ◌≡◌, ◌<◌, Bool, true, false, not, ◌&&◌, ◌||◌, ◌==◌, ◌%◌, ◌∙◌, List, ◌∷◌, length, Option, None, refl, sym, ap, Some}
+use Rattle.std.proofs.Common.{ℕ, ◌≡◌, ◌<◌, Bool, true, false, not, ◌&&◌, ◌||◌, ◌==◌, ◌%◌, ◌∙◌, List, ◌∷◌, length, refl, sym, ap, Some}
 use Rattle.std.specs.Prelude.{if◌then◌else◌, nat_lt}
 use Rattle.std.specs.Int.RustNames.{count_ones}
 use Rattle.bus_trace.specs.declared.Row.{Row}
@@ -31,9 +31,11 @@ use Rattle.link_laws.proofs.EndDues.{offering_with, answering_with}
 use Rattle.link_laws.proofs.FromLink.{some_byte}
 use Rattle.link_laws.proofs.Moves.{terms_of, initiator_moves, target_moves, initiator_in_phase, target_in_phase, phase_same, no_rise}
 use Rattle.link_laws.proofs.Shakes.{target_row, initiator_row}
-use Rattle.trace_laws.proofs.Driven.{message_at, message_follows, IsOdd, Driven, AfterDriven, goes_on, odd_byte, wrong, wrong', driven_asked, driven_in, driven_pulsed_in, driven_pulsed_out, driven_out, driven_idle, driven_said}
+use Rattle.trace_laws.proofs.Driven.{message_at, message_follows, IsOdd, Driven, AfterDriven, goes_on, odd_byte, driven_asked, driven_in, driven_pulsed_in, driven_pulsed_out, driven_out, driven_idle, driven_said}
+use Rattle.trace_laws.proofs.Impossible.{wrong, wrong'}
 use Rattle.trace_laws.proofs.Kept.{turn, dialogue_stays, Quiet, requests_stay, message_stays, follows_stay, unasked_stays, first_stays, initiator_end, target_end, initiator_quiet, target_quiet, data_row, still_row}
 use Rattle.trace_laws.proofs.LinkRows.{is_pulsed, is_unasked}
+use Rattle.trace_laws.proofs.Tests.{not_not}
 
 -- The bytes that the two ends are due to drive are bytes.
 pub record Values (s : ScenarioValue) (p : List Row) (n : Connection) (e : EndLines) : Type 0 where
@@ -78,14 +80,6 @@ keeps_in s p q n bsy ack atn x bsy' ack' x' msg cd y k d nx =
     (λ a u. d.next_in a refl (sym un ∙ u) ∙ (λ i. bits_if (sym (follows_stay s p q n f atn k) i) (sym (message_stays s p q n f k) i)))
     (λ u z. d.first_odd refl refl (sym un ∙ u) (sym fi ∙ z))
     nx
-
-not_not : (q : Bool) → not (not q) ≡ q
-not_not true = refl
-not_not false = refl
-
-none_both : (q : Bool) → (let o : Option ℕ = None in if q then o else o) ≡ None
-none_both true = refl
-none_both false = refl
 
 -- ---- before the first REQ
 

@@ -1,5 +1,5 @@
 -- Of a prompt trace: what the target of a connection has been told in it.
-use Rattle.std.proofs.Common.{ℕ, ◌≡◌, ◌<◌, Bool, true, false, ◌||◌, ◌==◌, ◌∙◌, List, [], ◌∷◌, Option, Some, None, refl, sym, ap, subst}
+use Rattle.std.proofs.Common.{ℕ, ◌≡◌, ◌<◌, Bool, true, false, ◌==◌, ◌∙◌, List, [], ◌∷◌, Option, Some, None, refl, sym, ap, subst}
 use Rattle.std.specs.Prelude.{if◌then◌else◌, is_some}
 use Rattle.std.proofs.lemmas.Bool.{and_parts, eqb-true}
 use Rattle.std.proofs.lemmas.Option.{same_Some}
@@ -38,26 +38,15 @@ use Rattle.trace_laws.specs.Offers.{OfferFacts}
 use Rattle.trace_laws.proofs.Blocks.{commands_are}
 use Rattle.trace_laws.proofs.CommandFacts.{same_process, served_process}
 use Rattle.trace_laws.proofs.CommandNext.{out_unstruck, turns_as}
-use Rattle.trace_laws.proofs.CommandTurns.{out_lines}
 use Rattle.trace_laws.proofs.Commands.{answers_then}
 use Rattle.trace_laws.proofs.ConnectionRows.{ConnectionRow, GoingRow, connection_row, going_row}
 use Rattle.trace_laws.proofs.Crossings.{Goes}
+use Rattle.trace_laws.proofs.Impossible.{wrong, wrong', none_some}
 use Rattle.trace_laws.proofs.InstructedLeavings.{LeavesTold, leaves_told}
 use Rattle.trace_laws.proofs.InstructedRows.{begins_told, cross_told, stay_told}
 use Rattle.trace_laws.proofs.Joint.{Stood, NextStood}
-
-wrong : {A : Type 0} → true ≡ false → A
-wrong e = absurd cc
-
-wrong' : {A : Type 0} → false ≡ true → A
-wrong' e = absurd cc
-
-none_some : {A : Type 0} (n : Connection) → (let a : Option Connection = None in a) ≡ Some n → A
-none_some n e = absurd cc
-
-second : (a b : Bool) → a ≡ false → (a || b) ≡ true → b ≡ true
-second true b e z = wrong e
-second false b e z = z
+use Rattle.trace_laws.proofs.PhaseLines.{out_lines}
+use Rattle.trace_laws.proofs.Tests.{or_second}
 
 bytes_are : (a b : List ℕ) → same_bytes a b ≡ true → a ≡ b
 bytes_are [] [] e = refl
@@ -75,12 +64,12 @@ left_told s p row n o was nx lt offers books g w con calm con' calm' ep = record
   turns = turns_as s p row n u was nx lt (answers_then s p n was offers con calm) books g w con calm con' calm' ep;
   named = λ b e ec.
       let named = opening_named s k n u (was.books.speaks n here quiet) b (out_lines (bus_of k) e (λ z. (w.phase z).0)) ((leaves ep).out e) in
-      second k.exchange.plan.struck (is_item_named s k.exchange.plan.said k.served) (out_unstruck s k n e (g.over ep (sym pl.begun ∙ b))) (sym (ap (is_opening_named s k.exchange.plan k.served) ec) ∙ named);
+      or_second k.exchange.plan.struck (is_item_named s k.exchange.plan.said k.served) (out_unstruck s k n e (g.over ep (sym pl.begun ∙ b))) (sym (ap (is_opening_named s k.exchange.plan k.served) ec) ∙ named);
   whole = λ b e unstruck v.
       let whole = ((leaves ep).command v.process (served_process s k v) e).1 in
       let own = block_own s k v.process was.books.carry (served_process s k v) ((commands_are s o).group k v.process (served_process s k v)) whole in
       subst (λ (x : ProcId). (has_group_len (carried_here k x).block ≡ true) × ((carried_here k x).block ≡ v.process.cdb)) (same_process s k v)
-      (whole unstruck, bytes_are (carried_here k v.process.id).block v.process.cdb (second k.exchange.plan.struck _ unstruck own));
+      (whole unstruck, bytes_are (carried_here k v.process.id).block v.process.cdb (or_second k.exchange.plan.struck _ unstruck own));
 }
   where
     u : AreUnits s

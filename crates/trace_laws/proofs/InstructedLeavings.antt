@@ -1,7 +1,7 @@
 -- A phase is left: what the target of the connection has been told then fits the phase that begins.
 use Rattle.std.proofs.Common.{◌≡◌, Bool, true, false, not, ◌&&◌, ◌||◌, ◌∙◌, List, [], ◌∷◌, Option, Some, None, refl, sym, ap, subst}
 use Rattle.std.specs.Prelude.{if◌then◌else◌, is_some}
-use Rattle.bus_trace.specs.LineSet.{LineSet, same}
+use Rattle.bus_trace.specs.LineSet.{same}
 use Rattle.bus_trace.specs.declared.Row.{Row}
 use Rattle.bus_trace.specs.declared.changes.Change.{Change}
 use Rattle.bus_trace.specs.declared.connection.Connection.{Connection}
@@ -28,22 +28,19 @@ use Rattle.bus_due.specs.RunState.{RunState, bus_of, carried_here}
 use Rattle.bus_due.specs.RunSteps.{run_state}
 use Rattle.bus_due.specs.Sights.{hearing_of, leaving, serving_of}
 use Rattle.scsi_device.specs.Heard.{Instructions, instructions, instructions_on, instructions_with, is_command_phase, is_name, is_opening, is_opening_in}
-use Rattle.bus_books.specs.Hearing.{HasPhase}
+use Rattle.bus_books.specs.Hearing.{HasPhase, is_out_phase}
 use Rattle.bus_books.specs.Rows.{IsRowIn, reading_in}
 use Rattle.bus_books.proofs.InConnection.{InConnection, in_connection}
 use Rattle.trace_laws.specs.Commands.{AnswersFor, CommandBooks, SaysFor, Serves, StandsIn}
 use Rattle.trace_laws.specs.Instructed.{KnownFor, KnownIn, Selected, Instructed}
 use Rattle.trace_laws.proofs.CommandLeavings.{Leads, LeadsTo, leads}
 use Rattle.trace_laws.proofs.CommandTurns.{SameBlocks, Turns, same_blocks, serves_as}
+use Rattle.trace_laws.proofs.Impossible.{wrong, wrong'}
 use Rattle.trace_laws.proofs.InstructedSteps.{told_with}
-use Rattle.trace_laws.proofs.InstructedTurns.{block_turned, command_is, enters_known, is_out_phase, known_turned, opening_turned, out_is, refused_known, told_before}
+use Rattle.trace_laws.proofs.InstructedTurns.{block_turned, enters_known, known_turned, opening_turned, out_is, refused_known, told_before}
 use Rattle.trace_laws.proofs.KnownLeavings.{Fits, FitsPhase, fits, known_after}
-
-wrong : {A : Type 0} → true ≡ false → A
-wrong e = absurd cc
-
-wrong' : {A : Type 0} → false ≡ true → A
-wrong' e = absurd cc
+use Rattle.trace_laws.proofs.OpeningRows.{opens_at}
+use Rattle.trace_laws.proofs.PhaseLines.{out_phase, command_is}
 
 -- ---- lines
 
@@ -58,26 +55,6 @@ not_again c ep e = go c.before.msg c.before.cd c.before.io c.after.msg c.after.c
     go false true false false false z f g = refl
     go false true false false true true f g = refl
     go false true false false true false f g = wrong' f
-
-out_phase : (b : LineSet) → is_message_out b ≡ true → phase_of b ≡ phases.MessageOut
-out_phase b e = go b.msg b.cd b.io e
-  where
-    go : (m d i : Bool) → (m && d && not i) ≡ true → (if m then (if i then phases.MessageIn else phases.MessageOut) else if d then (if i then phases.Status else phases.Command) else if i then phases.DataIn else phases.DataOut) ≡ phases.MessageOut
-    go true true true z = wrong' z
-    go true true false z = refl
-    go true false i z = wrong' z
-    go false d i z = wrong' z
-
-opened : (phase : Phase) (cause : Cause) → is_opening_in phase cause ≡ true → (phase ≡ phases.MessageOut) × (cause ≡ causes.Selected)
-opened phases.MessageOut causes.Selected e = (refl, refl)
-opened phases.MessageOut causes.InMessage e = wrong' e
-opened phases.MessageOut causes.InData e = wrong' e
-opened phases.MessageOut causes.InStatus e = wrong' e
-opened phases.MessageIn cause e = wrong' e
-opened phases.Command cause e = wrong' e
-opened phases.DataIn cause e = wrong' e
-opened phases.DataOut cause e = wrong' e
-opened phases.Status cause e = wrong' e
 
 both_false : (a b : Bool) → a ≡ true → b ≡ false → (not a || b) ≡ false
 both_false a b e f = λ i. not (e i) || f i
@@ -163,7 +140,7 @@ leaves_told s p row n c r phase ef ep er t books h = subst (λ (x : Instructions
     serves_on b = go (is_opening_in (phase_of (bus_of k)) plan.cause) refl
       where
         go : (q : Bool) → is_opening_in (phase_of (bus_of k)) plan.cause ≡ q → Serves s k
-        go true e = let o = opened (phase_of (bus_of k)) plan.cause e in (((t.turns.left b).out o.0).serves) o.1 (cut b o.0 o.1)
+        go true e = let o = opens_at (phase_of (bus_of k)) plan.cause e in (((t.turns.left b).out o.0).serves) o.1 (cut b o.0 o.1)
         go false e = h.served (both_false k.exchange.begun (is_opening_in (phase_of (bus_of k)) plan.cause) b e)
 
     opens_out : k.exchange.begun ≡ false → is_opening j ≡ true
@@ -233,11 +210,11 @@ leaves_told s p row n c r phase ef ep er t books h = subst (λ (x : Instructions
 
         go : (q : Bool) → i.known ≡ q → (o : Bool) → is_opening_in (phase_of (bus_of k)) plan.cause ≡ o → is_name told.opening x.process ≡ true
         go true e true f =
-            let o = opened (phase_of (bus_of k)) plan.cause f in
+            let o = opens_at (phase_of (bus_of k)) plan.cause f in
             wrong (sym e ∙ subst (λ (z : Cause). KnownFor i.known plan.next z) o.1 (subst (λ (z : Phase). KnownIn i.known plan z) o.0 (w.stage b)))
         go true e false f = ap (λ (z : Instructions). is_name z.opening x.process) (told_before here plan i e) ∙ w.named (both_false k.exchange.begun _ b f) y
         go false e true f =
-            let o = opened (phase_of (bus_of k)) plan.cause f in
+            let o = opens_at (phase_of (bus_of k)) plan.cause f in
             ap (λ (z : Option Said). is_name z x.process) (opening_turned here plan i (phase_of (bus_of k)) b ep out_before e ∙ ap (λ (q : Bool). if q then Some plan.said else i.opening) f) ∙ of_said o.0 o.1
         go false e false f =
             ap (λ (z : Option Said). is_name z x.process) (opening_turned here plan i (phase_of (bus_of k)) b ep out_before e ∙ ap (λ (q : Bool). if q then Some plan.said else i.opening) f) ∙ w.named (both_false k.exchange.begun _ b f) y

@@ -26,6 +26,7 @@ use Rattle.bus_due.specs.Sights.{hearing_of}
 use Rattle.bus_due.specs.Wants.{ready_of}
 use Rattle.scsi_device.specs.Heard.{Instructions, instructions, instructions_after, instructions_on, is_opening, is_opening_in, no_instructions}
 use Rattle.bus_books.specs.Knowing.{Knows}
+use Rattle.bus_books.specs.Reactions.{is_command_phase}
 use Rattle.bus_books.specs.Rows.{IsFirstRow, IsRowIn, reading_in}
 use Rattle.bus_books.specs.Traces.{Begins}
 use Rattle.bus_books.proofs.InConnection.{InConnection, in_connection, same_phase_is}
@@ -35,14 +36,9 @@ use Rattle.trace_laws.proofs.BlockRows.{takes_block}
 use Rattle.trace_laws.proofs.CommandMessages.{crossed_else, same_item, tells}
 use Rattle.trace_laws.proofs.CommandStays.{phase_same}
 use Rattle.trace_laws.proofs.CommandTurns.{same_blocks}
+use Rattle.trace_laws.proofs.Impossible.{wrong, wrong'}
 use Rattle.trace_laws.proofs.InstructedSteps.{SameStage, byte_told, same_told, told_byte, told_none, told_with, with_byte}
-use Rattle.trace_laws.proofs.InstructedTurns.{command_is}
-
-wrong : {A : Type 0} → true ≡ false → A
-wrong e = absurd cc
-
-wrong' : {A : Type 0} → false ≡ true → A
-wrong' e = absurd cc
+use Rattle.trace_laws.proofs.PhaseLines.{command_is}
 
 -- ---- the first row
 
@@ -135,10 +131,6 @@ plan_said true true m p = (refl, refl)
 plan_said true false m p = (refl, refl)
 plan_said false last m p = (refl, refl)
 
-abbrev is_command_bits : Phase → Bool
-is_command_bits phases.Command = true
-is_command_bits _ = false
-
 -- The lines of COMMAND.
 record CommandLines (b : LineSet) : Type 0 where
   phase : phase_of b ≡ phases.Command
@@ -216,4 +208,4 @@ cross_told s p row n c r ef ep er begun knows books h = subst (λ (x : Instructi
     go true e = subst (λ (x : Instructions). Instructed s j x n) (sym (told_byte here k.exchange.plan i ep refl e (unknown e))) (in_command e)
     go false e =
         subst (λ (x : Instructions). Instructed s j x n) (sym (told_none here k.exchange.plan i ep e))
-        (same_told s k j i n stage (λ z id. wrong' (sym e ∙ ap is_command (sym r.bus_is) ∙ command_is (bus_of k) ∙ ap is_command_bits (sym stage.phase_is ∙ z))) h)
+        (same_told s k j i n stage (λ z id. wrong' (sym e ∙ ap is_command (sym r.bus_is) ∙ command_is (bus_of k) ∙ ap is_command_phase (sym stage.phase_is ∙ z))) h)

@@ -24,12 +24,7 @@ use Rattle.bus_books.proofs.InConnection.{reading_is}
 use Rattle.trace_laws.specs.Commands.{Serves}
 use Rattle.trace_laws.specs.Instructed.{KnownFor, KnownIn, KnownNext, Selected, Instructed}
 use Rattle.trace_laws.proofs.CommandTurns.{serves_as}
-
-wrong : {A : Type 0} → true ≡ false → A
-wrong e = absurd cc
-
-wrong' : {A : Type 0} → false ≡ true → A
-wrong' e = absurd cc
+use Rattle.trace_laws.proofs.Impossible.{wrong, wrong'}
 
 -- ---- a row of the connection
 

@@ -13,32 +13,14 @@ use Rattle.bus_dialogue.specs.declared.exchange.Plan.{Plan}
 use Rattle.bus_dialogue.specs.NextPhase.{phase_of}
 use Rattle.bus_dialogue.specs.Planning.{cause_after}
 use Rattle.scsi_device.specs.Heard.{Instructions, instructions_on, instructions_with, is_command_phase, is_opening_in, is_selected}
+use Rattle.bus_books.specs.Hearing.{is_out_phase}
 use Rattle.trace_laws.specs.Instructed.{KnownFor, KnownIn, KnownNext}
+use Rattle.trace_laws.proofs.Impossible.{wrong, wrong'}
 use Rattle.trace_laws.proofs.KnownLeavings.{FitsPhase, known_after}
-
-wrong : {A : Type 0} → true ≡ false → A
-wrong e = absurd cc
-
-wrong' : {A : Type 0} → false ≡ true → A
-wrong' e = absurd cc
 
 -- ---- the lines of a phase
 
-abbrev pub is_out_phase : Phase → Bool
-is_out_phase phases.MessageOut = true
-is_out_phase _ = false
-
-pub command_is : (b : LineSet) → is_command b ≡ is_command_phase (phase_of b)
-command_is b = go b.msg b.cd b.io
-  where
-    go : (m d i : Bool) → (not m && d && not i) ≡ is_command_phase (if m then (if i then phases.MessageIn else phases.MessageOut) else if d then (if i then phases.Status else phases.Command) else if i then phases.DataIn else phases.DataOut)
-    go true d true = refl
-    go true d false = refl
-    go false true true = refl
-    go false true false = refl
-    go false false true = refl
-    go false false false = refl
-
+-- Messages are of the phases with C/D.
 pub out_is : (b : LineSet) → (b.msg ≡ true → b.cd ≡ true) → is_message_out b ≡ is_out_phase (phase_of b)
 out_is b known = go b.msg b.cd b.io known
   where

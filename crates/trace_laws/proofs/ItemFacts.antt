@@ -19,7 +19,6 @@ use Rattle.bus_rules.specs.Reset.{only_rst}
 use Rattle.bus_rules.specs.Rules.{broken_rule}
 use Rattle.scenario.specs.Value.{ScenarioValue}
 use Rattle.disk_array.specs.Units.{starting_units}
-use Rattle.bus_dialogue.specs.declared.exchange.Phase.{Phase}
 use Rattle.bus_dialogue.specs.declared.exchange.Phase.TheVariants as phases
 use Rattle.bus_story.specs.BusState.{row_reading}
 use Rattle.bus_story.specs.Items.{Item, sense_item}
@@ -30,16 +29,18 @@ use Rattle.bus_due.specs.RunState.{RunState, array_of}
 use Rattle.bus_due.specs.RunSteps.{run_state}
 use Rattle.bus_due.proofs.Plains.{run_state_plain}
 use Rattle.bus_books.specs.Traces.{Begins, RowOf, apart as row_apart, begins, goes_on, ends, under_reset}
-use Rattle.bus_books.proofs.Lists.{eq_self}
 use Rattle.bus_books.proofs.Reactions.{out_over}
 use Rattle.bus_laws.specs.Stages.{BusStage}
 use Rattle.bus_laws.proofs.Apart.{change_plain}
+use Rattle.bus_laws.proofs.Tests.{or_true}
 use Rattle.link_laws.specs.LinkStages.{LinkStage, when_selected, when_settling, when_turning, when_offering, when_shaking, when_pulsing}
 use Rattle.trace_laws.proofs.Called.{IsCalled}
 use Rattle.trace_laws.proofs.ConnectionRows.{ConnectionRow}
 use Rattle.trace_laws.proofs.Crossings.{RowFacts, stays, ends_here}
 use Rattle.trace_laws.proofs.FirstRows.{made_is, quiet_sel, under_rst}
-use Rattle.trace_laws.proofs.UnderRst.{reset_rule, line_off, quiet_at_end}
+use Rattle.trace_laws.proofs.Impossible.{none_some, wrong, wrong', some_none}
+use Rattle.trace_laws.proofs.Tests.{or_first}
+use Rattle.trace_laws.proofs.UnderRst.{reset_rule, line_off, quiet_at_end, drives_next}
 use Rattle.trace_laws.proofs.SentRows.{only_are}
 use Rattle.trace_laws.proofs.QueuedProcesses.{settled_units}
 use Rattle.trace_laws.proofs.TalkSteps.{plain_last}
@@ -47,18 +48,8 @@ use Rattle.trace_laws.proofs.TalkTurns.{taken_leaves}
 use Rattle.trace_laws.proofs.InMoves.{in_move}
 use Rattle.trace_laws.proofs.ItemSteps.{start_queued}
 use Rattle.trace_laws.proofs.ItemRows.{open_over}
-use Rattle.trace_laws.proofs.Driven.{wrong, wrong'}
 use Rattle.trace_laws.specs.ItemFacts.{IsAimed, AimsFit, UnitsP, IsQueued, ItemFacts}
 use Rattle.trace_laws.specs.ItemTalks.{is_sense_item, awaits, is_plain, talk_of, TalksBy, last_well}
-
-none_some : {A : Type 0} (n : Connection) → (let a : Option Connection = None in a) ≡ Some n → A
-none_some n e = absurd cc
-
-no_call : {A : Type 0} (c : Call) → (let a : Option Call = None in a) ≡ Some c → A
-no_call c e = absurd cc
-
-no_phase : {A : Type 0} (x : Phase) → Some x ≡ None → A
-no_phase x e = absurd cc
 
 -- ---- the start
 
@@ -76,7 +67,7 @@ items_start s = record {
     progress = λ id e. refl;
     talks = λ n e rst. none_some n e;
   };
-  aims = λ e rst. record { contends = λ dev a lt f on host. absurd cc; calls = λ c f host. no_call c f };
+  aims = λ e rst. record { contends = λ dev a lt f on host. absurd cc; calls = λ c f host. none_some c f };
 }
   where
     start : UnitsP (IsQueued s (run_state s []).story.sent) (array_of s (run_state s [])).units
@@ -127,9 +118,6 @@ link_stands s p n (when_pulsing io req ack atn x y h a) = record { arbitration_i
 
 -- ---- RST rises, and falls
 
-own_next : (p : List Row) (row : Row) → drives (row ∷ p) row.dev ≡ driven_after row.kind (drives p row.dev)
-own_next p row = ap (λ (q : Bool). if q then driven_after row.kind (drives p row.dev) else drives p row.dev) (eq_self row.dev)
-
 pub rst_raised : (p : List Row) (row : Row) → row.dev < 8 → (bus p).rst ≡ false → (bus (row ∷ p)).rst ≡ true → rises (drives p row.dev).rst (driven_after row.kind (drives p row.dev)).rst ≡ true
 rst_raised p row lt off on = go (driven_after row.kind (drives p row.dev)).rst refl
   where
@@ -140,7 +128,7 @@ rst_raised p row lt off on = go (driven_after row.kind (drives p row.dev)).rst r
     go true e = λ i. not (was row.dev lt i) && e i
     go false e =
         wrong (sym on ∙ bus_off (λ x. x.rst) (λ _ _. refl) refl (row ∷ p) (λ d l. elim (cases_eq d row.dev) [
-          | inl same ↦ ap (λ (n : ℕ). (drives (row ∷ p) n).rst) same ∙ ap (λ (x : LineSet). x.rst) (own_next p row) ∙ e
+          | inl same ↦ ap (λ (n : ℕ). (drives (row ∷ p) n).rst) same ∙ ap (λ (x : LineSet). x.rst) (drives_next p row) ∙ e
           | inr ne ↦ ap (λ (x : LineSet). x.rst) (drives-other row p d ne) ∙ was d l
         ]))
 
@@ -149,10 +137,6 @@ pub record FallsQuiet (p : List Row) (row : Row) : Type 0 where
   pub sel : (bus p).sel ≡ false
   pub no_bsy : (d : ℕ) → d < 8 → (drives (row ∷ p) d).bsy ≡ false
   pub no_sel : (bus (row ∷ p)).sel ≡ false
-
-or_true : (q : Bool) → (q || true) ≡ true
-or_true true = refl
-or_true false = refl
 
 off_in : (on : LineSet → Bool) → ((a b : LineSet) → on (union a b) ≡ (on a || on b)) → on only_rst ≡ false → (l m : LineSet) → is_within l (union only_rst m) ≡ true → on m ≡ false → on l ≡ false
 off_in on both zero l m e off = go (on l) refl
@@ -175,7 +159,7 @@ falls_quiet s p row lt obeys h on off = record { sel = sel; no_bsy = λ d l. lin
 
     line : (f : LineSet → Bool) → ((a b : LineSet) → f (union a b) ≡ (f a || f b)) → f none ≡ false → f only_rst ≡ false → f (bus p) ≡ false → (d : ℕ) → d < 8 → f (drives (row ∷ p) d) ≡ false
     line f both zero rst e d l = elim (cases_eq d row.dev) [
-      | inl same ↦ ap (λ (n : ℕ). f (drives (row ∷ p) n)) same ∙ ap f (own_next p row) ∙ off_in f both rst (driven_after row.kind (drives p row.dev)) (drives p row.dev) within (line_off f both p e row.dev lt)
+      | inl same ↦ ap (λ (n : ℕ). f (drives (row ∷ p) n)) same ∙ ap f (drives_next p row) ∙ off_in f both rst (driven_after row.kind (drives p row.dev)) (drives p row.dev) within (line_off f both p e row.dev lt)
       | inr ne ↦ ap f (drives-other row p d ne) ∙ line_off f both p e d l
     ]
 
@@ -186,10 +170,6 @@ plain_is plain e = refl
 plain_is complete e = wrong' e
 plain_is disconnect e = wrong' e
 plain_is abortive e = wrong' e
-
-or_first : (a b : Bool) → (a || b) ≡ true → b ≡ false → a ≡ true
-or_first true b e f = refl
-or_first false b e f = wrong (sym e ∙ f)
 
 -- An automatic REQUEST SENSE that is open then has no other last message than one that tells nothing.
 pub ends_plain : (s : ScenarioValue) (p : List Row) (row : Row) (m : Connection) → AreOfDevices p → row.dev < 8 → connection p ≡ Some m → connection (row ∷ p) ≡ None → ConnectionRow s p row m → (l : Link) → TalksBy s (talk_of (run_state s p)) m l → (n : ℕ) → (run_state s p).served ≡ Some (sense_item n) → is_open_sense (run_state s p).story.sent n ≡ true → l.last ≡ plain
@@ -213,7 +193,7 @@ ends_plain s p row m dv lt con gone r l t n sv opens = plain_is l.last (or_first
       | inl x ↦ elim (t.closes selected z x.here (record { command = n; sense = true }) sv) [
         | inl y ↦ open_over k.story.sent n opens y
         | inr y ↦ elim y [
-          | inl a ↦ no_phase phases.MessageOut (sym (taken_leaves s k m.target x ∙ ap (λ (q : Bool). if q then Some phases.MessageOut else None) a) ∙ f.whereto)
+          | inl a ↦ some_none phases.MessageOut (sym (taken_leaves s k m.target x ∙ ap (λ (q : Bool). if q then Some phases.MessageOut else None) a) ∙ f.whereto)
           | inr a ↦ elim (in_move s p row m (ap is_message_in (sym pl.bus) ∙ x.here) r.link).stands [
             | inl b ↦ wrong (sym a ∙ ap awaits pl.bus ∙ (λ i. b i && not (bus p).ack))
             | inr b ↦ stays_on b

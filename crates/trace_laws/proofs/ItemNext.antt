@@ -2,7 +2,6 @@
 -- that is served.
 use Rattle.std.proofs.Common.{inl, inr, ℕ, ◌≡◌, ◌⊎◌, ◌<◌, Bool, true, false, not, ◌&&◌, ◌==◌, ◌%◌, ◌∙◌, List, [], ◌∷◌, ◌++◌, length, Option, Some, None, refl, sym, ap, subst, arith}
 use Rattle.std.specs.Prelude.{if◌then◌else◌, is_some, nat_lt, slice_index_or}
-use Rattle.std.proofs.lemmas.Bool.Decides.{nat_tests}
 use Rattle.std.proofs.lemmas.Option.{same_Some}
 use Rattle.bus_trace.specs.LineSet.{LineSet}
 use Rattle.bus_trace.specs.declared.Row.{Row}
@@ -40,14 +39,18 @@ use Rattle.bus_phases.specs.declared.dialogue.Dialogue.{Dialogue}
 use Rattle.bus_books.specs.Knowing.{Knows, NamesServed}
 use Rattle.bus_books.proofs.Lists.{eq_self}
 use Rattle.bus_books.proofs.Reactions.{messages_some}
+use Rattle.bus_books.proofs.RowTies.{lt_is}
 use Rattle.bus_laws.specs.Stages.{BusStage}
 use Rattle.bus_laws.proofs.Apart.{change_plain}
 use Rattle.bus_laws.proofs.Prompt.{least_is}
 use Rattle.link_laws.specs.LinkStages.{LinkStage, AnyStage, apart, linked}
+use Rattle.link_laws.proofs.Ahead.{zero_of}
 use Rattle.trace_laws.proofs.ConnectionRows.{ConnectionRow, connection_row, GoingRow, going_row, RowKindOf, begins_now, goes_now, row_kind, stage_of_connection}
 use Rattle.trace_laws.proofs.Crossings.{RowFacts, stays, ends_here, Goes}
 use Rattle.trace_laws.proofs.FirstRows.{made_is}
+use Rattle.trace_laws.proofs.Impossible.{none_some, wrong, wrong'}
 use Rattle.trace_laws.proofs.Joint.{Stood, NextStood, link_calm, link_connection, link_phase, apart_connection}
+use Rattle.trace_laws.proofs.PhaseLines.{in_phase}
 use Rattle.trace_laws.proofs.Plans.{Planned}
 use Rattle.trace_laws.proofs.OpenCommands.{IsNamed, named_is}
 use Rattle.trace_laws.proofs.AimsFit.{aims_apart, aims_quiet, aims_linked}
@@ -55,18 +58,14 @@ use Rattle.trace_laws.proofs.SentItems.{free_keeps}
 use Rattle.trace_laws.proofs.TalkSteps.{Alternates, heard_unit}
 use Rattle.trace_laws.proofs.TalkRows.{TalkRow, item_served}
 use Rattle.trace_laws.proofs.TalkBytes.{first_name, on_message}
-use Rattle.trace_laws.proofs.TalkTurns.{in_phase_is, talks_on}
+use Rattle.trace_laws.proofs.TalkTurns.{talks_on}
 use Rattle.trace_laws.proofs.InMoves.{in_move, alternating, rises_well}
 use Rattle.trace_laws.proofs.ItemSteps.{GivesUp, same_gives, free_gives, free_still}
 use Rattle.trace_laws.proofs.ItemRows.{items_reset, items_apart, items_end, items_on}
 use Rattle.trace_laws.proofs.FirstItems.{items_first, next_unsent}
 use Rattle.trace_laws.proofs.ItemFacts.{aimed_next, beginning, link_stands, rst_raised, falls_quiet, ends_plain}
-use Rattle.trace_laws.proofs.Driven.{wrong, wrong'}
 use Rattle.trace_laws.specs.ItemFacts.{IsNext, AimsFit, Items, ItemFacts}
 use Rattle.trace_laws.specs.ItemTalks.{is_sense_item, talk_of, awaits, IsNameOf, HasNames, TalksBy}
-
-none_some : {A : Type 0} (n : Connection) → (let a : Option Connection = None in a) ≡ Some n → A
-none_some n e = absurd cc
 
 -- ---- a row of a connection
 
@@ -227,12 +226,6 @@ items_next s p row o prompt was next h = go (bus q).rst refl
 
 -- ---- names
 
-lt_is : (a b : ℕ) → nat_lt a b ≡ true → a < b
-lt_is a b e = grind (arith, nat_tests)
-
-zero_is : (n : ℕ) → (n == 0) ≡ true → n ≡ 0
-zero_is n e = grind (arith, nat_tests)
-
 -- A byte of MESSAGE IN that crosses is the next one.
 gives_next : (s : ScenarioValue) (p : List Row) (row : Row) (n : Connection) → AreOfDevices p → Planned s (run_state s p) → (g : Goes s p row n) → GivesNext (run_state s p) n g.change
 gives_next s p row n dv pd g here z =
@@ -240,15 +233,12 @@ gives_next s p row n dv pd g here z =
     let pl = run_state_plain s p dv in
     let bytes = bytes_of_messages k.exchange.plan.messages in
     let requests : k.handshakes.requests ≡ (handshakes p).requests = ap (λ (w : Handshakes). w.requests) pl.handshakes in
-    let some = messages_some k.exchange.plan.messages (pd.message (in_phase_is (bus_of k) (ap is_message_in g.row_is.bus_is ∙ here))) in
+    let some = messages_some k.exchange.plan.messages (pd.message (in_phase (bus_of k) (ap is_message_in g.row_is.bus_is ∙ here))) in
     let follows : nat_lt (handshakes p).requests (length bytes) ≡ true = elim (g.follows here z) [
-      | inl u ↦ ap (λ (w : ℕ). nat_lt w (length bytes)) (zero_is (handshakes p).requests u) ∙ some
+      | inl u ↦ ap (λ (w : ℕ). nat_lt w (length bytes)) (zero_of (handshakes p).requests u) ∙ some
       | inr f ↦ f
     ] in
     (g.offered here z ∙ ap (λ (w : ℕ). slice_index_or bytes w 0) (sym requests), lt_is k.handshakes.requests (length bytes) (ap (λ (w : ℕ). nat_lt w (length bytes)) requests ∙ follows), pl.begun ∙ g.begun_is z)
-
-no_message : {A : Type 0} (m : MsgIn) → (let a : Option MsgIn = None in a) ≡ Some m → A
-no_message m e = absurd cc
 
 -- The command of the process.
 record NamedCommand (s : ScenarioValue) (p : Process) : Type 0 where
@@ -371,7 +361,7 @@ items_asks s p row n o prompt was h con off calm l m re el em is = by_facts (con
     by_facts : RowFacts s p row n → ((link_after_name k.story.sent s.commands l m).item ≡ k.served) ⊎ ((link_after_name k.story.sent s.commands l m).item ≡ None)
     by_facts (ends_here f) =
         let c = change_plain s row p dv (least_is s p row prompt.1).inside in
-        no_message m (sym ((λ i. message_in d (c i) (is_some (receiver_of (standing i) (c i)))) ∙ ap (message_in d (change_of p row)) f.carries) ∙ em)
+        none_some m (sym ((λ i. message_in d (c i) (is_some (receiver_of (standing i) (c i)))) ∙ ap (message_in d (change_of p row)) f.carries) ∙ em)
     by_facts (stays g) = heard (is_some (receiver_in n g.change)) refl (is_message_in g.change.before) refl
       where
         byte : ℕ
@@ -381,8 +371,8 @@ items_asks s p row n o prompt was h con off calm l m re el em is = by_facts (con
         reads = λ i. message_in d (g.row_is.change_is i) (is_some (receiver_of (g.row_is.connection_is i) (g.row_is.change_is i)))
 
         heard : (q : Bool) → is_some (receiver_in n g.change) ≡ q → (r : Bool) → is_message_in g.change.before ≡ r → ((link_after_name k.story.sent s.commands l m).item ≡ k.served) ⊎ ((link_after_name k.story.sent s.commands l m).item ≡ None)
-        heard false er r ei = no_message m (sym (reads ∙ ap (message_in d g.change) er) ∙ em)
-        heard true er false ei = no_message m (sym (reads ∙ ap (message_in d g.change) er ∙ ap (λ (x : Bool). if x then whole_in (got_in (d.half ++ byte ∷ [])) else None) ei) ∙ em)
+        heard false er r ei = none_some m (sym (reads ∙ ap (message_in d g.change) er) ∙ em)
+        heard true er false ei = none_some m (sym (reads ∙ ap (message_in d g.change) er ∙ ap (λ (x : Bool). if x then whole_in (got_in (d.half ++ byte ∷ [])) else None) ei) ∙ em)
         heard true er true ei = found_by s k n l w h.items el (ap (λ (x : Link). x.initiator) (sym same) ∙ knows.initiator_is) (ap (λ (x : Link). x.target) (sym same) ∙ knows.target_is) unended m is of unit
           where
             next : (byte ≡ slice_index_or (bytes_of_messages k.exchange.plan.messages) k.handshakes.requests 0) × (k.handshakes.requests < length (bytes_of_messages k.exchange.plan.messages)) × (k.exchange.begun ≡ true)

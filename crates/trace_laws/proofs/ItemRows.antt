@@ -32,20 +32,14 @@ use Rattle.bus_books.proofs.CarriedRows.{process_id}
 use Rattle.bus_books.proofs.InConnection.{reading_is}
 use Rattle.bus_books.proofs.Knows.{events_link}
 use Rattle.bus_books.proofs.Lookups.{id_is}
+use Rattle.trace_laws.proofs.Impossible.{none_some, wrong, wrong'}
 use Rattle.trace_laws.proofs.SentRows.{sent_grows, only_on}
 use Rattle.trace_laws.proofs.RowEvents.{carried_of_item}
 use Rattle.trace_laws.proofs.OverItems.{Grows, grows_same, grows_on, events_grow, fewer_senses, clash_grows, events_checked, reset_senses, lost_over}
 use Rattle.trace_laws.proofs.RowItems.{row_shows, row_sent, over_after}
 use Rattle.trace_laws.proofs.ItemSteps.{Admits, queued_on, queued_sent, GivesUp, checked_up, progress_kept}
-use Rattle.trace_laws.proofs.Driven.{wrong, wrong'}
 use Rattle.trace_laws.specs.ItemFacts.{UnitsP, AreChecked, IsQueued, no_progress, Items}
 use Rattle.trace_laws.specs.ItemTalks.{Talks}
-
-no_item : {A : Type 0} (i : Item) → (let a : Option Item = None in a) ≡ Some i → A
-no_item i e = absurd cc
-
-no_connection : {A : Type 0} (n : Connection) → (let a : Option Connection = None in a) ≡ Some n → A
-no_connection n e = absurd cc
 
 -- ---- any row
 
@@ -56,7 +50,7 @@ unsent_before s k row i e = go (has_item k.story.sent.sent i) refl
     go true z = wrong (sym (sent_grows s k row i z) ∙ e)
     go false z = z
 
-served_item : (s : ScenarioValue) (o : Option Item) (p : Process) → process_item s o ≡ Some p → o ≡ Some (process p.id)
+pub served_item : (s : ScenarioValue) (o : Option Item) (p : Process) → process_item s o ≡ Some p → o ≡ Some (process p.id)
 served_item s None p e = no_process e
   where
     no_process : {A : Type 0} → (let a : Option Process = None in a) ≡ Some p → A
@@ -172,7 +166,7 @@ items_reset s k row h on none up = items_left s k row h (record {
     kept (Some m) e i f = by d.next refl (sym (ap (λ (x : Option Connection). served_after s k x d.next) e) ∙ f)
       where
         by : (o : Option Connection) → d.next ≡ o → served_after s k (Some m) o ≡ Some i → k.served ≡ Some i
-        by None g z = no_item i z
+        by None g z = none_some i z
         by (Some n) g z = z
 
     unserved : (o : Option Connection) → k.story.bus_state.connection ≡ o → d.next ≡ None → j.served ≡ None
@@ -205,8 +199,8 @@ items_apart s k row h off con next up keeps = items_left s k row h (record {
       (subst (λ (x : List Event). UnitsP (IsQueued s free.sent) (or_start s (array_after_events s k.array x)).units) (sym shown)
       (queued_sent s k.story.sent free.sent (array_of s k).units (λ i e. ap (λ (x : List Item). has_item x i) up.grows.sent ∙ e) (λ i e o. up.over i e o) h.queued));
   served = λ i e. sym (λ x. served_after s k (con x) (next x)) ∙ e;
-  senses = λ n was e sv rst. no_item (sense_item n) (sym (h.apart con).1 ∙ sv);
-  talks = λ n e rst. no_connection n (sym next ∙ e);
+  senses = λ n was e sv rst. none_some (sense_item n) (sym (h.apart con).1 ∙ sv);
+  talks = λ n e rst. none_some n (sym next ∙ e);
 })
   where
     d : RowReading
@@ -263,9 +257,9 @@ items_end s k row m l h off con next el closes = items_left s k row h (record {
   grows = grown_by s k changed shown same;
   checked = checked_by s k changed shown same h.checked;
   queued = by_events s k changed shown same (subst (λ (x : List Event). Admits s changed x) (sym is) (freed_none s changed l l.last)) h.queued;
-  served = λ i e. no_item i (sym (λ x. served_after s k (con x) (next x)) ∙ e);
+  served = λ i e. none_some i (sym (λ x. served_after s k (con x) (next x)) ∙ e);
   senses = λ n was e sv rst. let z = closes n sv was in open_over j.story.sent n e (lost n z.0 z.1);
-  talks = λ n e rst. no_connection n (sym next ∙ e);
+  talks = λ n e rst. none_some n (sym next ∙ e);
 })
   where
     d : RowReading
@@ -350,7 +344,7 @@ items_on s k row n c l h r el opens talks = go (is_some (receiver_in n c)) refl
 
     go : (now : Bool) → is_some (receiver_in n c) ≡ now → Items s j
     go now en = items_left s k row h (record {
-      apart = λ e. no_connection n (sym e ∙ stands);
+      apart = λ e. none_some n (sym e ∙ stands);
       grows = (over_after s k row n c now l r en el).grows;
       checked = checked_by s k changed shown same h.checked;
       queued = by_events s k changed shown same (subst (λ (x : List Event). Admits s changed x) (sym is) (admits (changes_phase c) (is_completion l c))) h.queued;

@@ -33,28 +33,25 @@ use Rattle.bus_due.specs.RunState.{RunState, or_start, array_of, process_served}
 use Rattle.bus_due.specs.RunSteps.{array_after_events, progress_by_leaving, progress_after}
 use Rattle.bus_due.specs.Wants.{current_of, since_of, seek_of, ready_at, ready_among, ready_of}
 use Rattle.bus_books.proofs.CarriedRows.{process_id}
+use Rattle.trace_laws.proofs.Impossible.{none_some, wrong}
 use Rattle.trace_laws.proofs.QueuedProcesses.{map_units, unit_at, stays_queued, step_units}
 use Rattle.trace_laws.proofs.OverItems.{Grows, grows_same, still_queued}
 use Rattle.trace_laws.proofs.OpenCommands.{item_is}
 use Rattle.trace_laws.proofs.SentItems.{more_has}
-use Rattle.trace_laws.proofs.Driven.{wrong}
 use Rattle.trace_laws.specs.ItemFacts.{RunsP, UnitsP, AreChecked, IsQueued}
 
 -- ---- the process that a target has ready is in a queue
-
-no_ready : {A : Type 0} (r : Ready) → (let a : Option Ready = None in a) ≡ Some r → A
-no_ready r e = absurd cc
 
 ready_unit : (q : Process → Type 0) (a : Array) (times : List ℕ) (seek t u : ℕ) (r : Ready) → UnitsP q a.units → ready_at a times seek t u ≡ Some r → q r.process
 ready_unit q a times seek t u r h e = go (unit_state_at a.units t u) refl e
   where
     by : (held : Bool) (c : Option RunningProcess) (time : ℕ) → RunsP q c → ready_in held c time ≡ Some r → q r.process
-    by held None time g z = no_ready r z
-    by true (Some c) time g z = no_ready r z
+    by held None time g z = none_some r z
+    by true (Some c) time g z = none_some r z
     by false (Some c) time g z = subst q (ap (λ (x : Ready). x.process) (same_Some (record { time = time; process = c.process }) r z)) g
 
     go : (x : Option UnitState) → unit_state_at a.units t u ≡ x → ready_in (is_held a.holds t u) (current_of x) (since_of a.units times t u + seek) ≡ Some r → q r.process
-    go None f z = no_ready r z
+    go None f z = none_some r z
     go (Some x) f z = by (is_held a.holds t u) x.current (since_of a.units times t u + seek) (unit_at q a.units t u x f h).1 z
 
 abbrev IfReady : (Process → Type 0) → Option Ready → Type 0
@@ -72,7 +69,7 @@ first_one q (Some a) (Some b) h g = go (is_ready_before b a)
 ready_some : (q : Process → Type 0) (a : Array) (times : List ℕ) (seek t : ℕ) → UnitsP q a.units → IfReady q (ready_among a times seek t)
 ready_some q a times seek t h =
     let at : (n : ℕ) → IfReady q (ready_at a times seek t n) = λ n r e. ready_unit q a times seek t n r h e in
-    let none : IfReady q None = λ r e. no_ready r e in
+    let none : IfReady q None = λ r e. none_some r e in
     first_one q (ready_at a times seek t 0) _ (at 0)
     (first_one q (ready_at a times seek t 1) _ (at 1)
     (first_one q (ready_at a times seek t 2) _ (at 2)
@@ -207,7 +204,7 @@ checked_up b c g h n e = g.grows.over _ (h n (ap (λ (x : List ℕ). list_any (�
 
 -- ---- how far a process has come
 
-other_progress : (all : List ProcessProgress) (p id : ProcId) (runs recovers : Bool) → same_id p id ≡ false → progress_in (progress_with all p runs recovers) id ≡ progress_in all id
+pub other_progress : (all : List ProcessProgress) (p id : ProcId) (runs recovers : Bool) → same_id p id ≡ false → progress_in (progress_with all p runs recovers) id ≡ progress_in all id
 other_progress all p id runs recovers e = go (runs || recovers)
   where
     new : ProcessProgress

@@ -1,7 +1,6 @@
 -- Row by row: what the lines show, what is said, and what the two ends drive, together.
 use Rattle.std.proofs.Common.{inl, inr, ℕ, ◌≡◌, ◌⊎◌, ◌<◌, ◌+◌, ◌^◌, Bool, true, false, not, ◌&&◌, ◌==◌, ◌%◌, ◌∙◌, List, ◌∷◌, length, Option, Some, None, refl, sym, ap, subst, arith}
 use Rattle.std.specs.Prelude.{if◌then◌else◌, is_some, nat_lt, slice_index_or}
-use Rattle.std.proofs.lemmas.Bool.Decides.{nat_tests}
 use Rattle.std.proofs.lemmas.Option.{same_Some}
 use Rattle.bus_trace.specs.LineSet.{LineSet, union, has_odd_parity}
 use Rattle.bus_trace.proofs.Sets.{same_set-eq}
@@ -50,6 +49,7 @@ use Rattle.bus_books.specs.Traces.{IsReadyFor, Begins, GoesOn, Ends, RowOf, apar
 use Rattle.bus_books.proofs.Aims.{aims_are}
 use Rattle.bus_books.proofs.MessageRules.{row_keeps, end_keeps}
 use Rattle.bus_books.proofs.Reactions.{answers_next, answers_own, leaves_by, messages_some}
+use Rattle.bus_books.proofs.RowTies.{lt_is}
 use Rattle.bus_books.proofs.Traces.{books_on}
 use Rattle.bus_laws.specs.Ends.{connected_bus, BeginsConnection, by_selection, by_reselection, ends_selected, ends_reselected}
 use Rattle.bus_laws.specs.Reactions.{unreset_due}
@@ -62,6 +62,7 @@ use Rattle.bus_laws.proofs.Tests.{and_false}
 use Rattle.bus_laws.proofs.Together.{from_stage, by_reset, by_calm, reset_or_calm}
 use Rattle.link_laws.specs.Books.{has_odd_byte, KeepsBooksIn}
 use Rattle.link_laws.specs.LinkStages.{LinkStage, when_selected, when_settling, when_turning, when_offering, when_shaking, when_pulsing, AnyStage, apart, linked, NextAny}
+use Rattle.link_laws.proofs.Ahead.{zero_of}
 use Rattle.link_laws.proofs.Traces.{from_any}
 use Rattle.trace_laws.specs.Asked.{IsAskedIn, IsAsked}
 use Rattle.trace_laws.specs.ByteValues.{HasByteValues}
@@ -69,11 +70,14 @@ use Rattle.trace_laws.proofs.ByteValues.{GivesByteValues}
 use Rattle.trace_laws.proofs.Blocks.{HasCommands, sends_bytes}
 use Rattle.trace_laws.proofs.Called.{IsMadeFor, IsCalled, fresh_call, called_on, made_for}
 use Rattle.trace_laws.proofs.Crossings.{Goes, Stops, RowFacts, stays, ends_here, offering_is, byte_is, row_facts, leaving_is}
-use Rattle.trace_laws.proofs.Driven.{message_at, AfterDriven, goes_on, frees, wrong, wrong', odd_byte, driven_in}
+use Rattle.trace_laws.proofs.Driven.{message_at, AfterDriven, goes_on, frees, odd_byte, driven_in}
 use Rattle.trace_laws.proofs.FirstRows.{IsFirst, is_first, under_rst, made_is, quiet_sel}
+use Rattle.trace_laws.proofs.Impossible.{none_some, wrong, wrong'}
 use Rattle.trace_laws.proofs.LinkRows.{is_unasked, link_row}
+use Rattle.trace_laws.proofs.PhaseLines.{in_phase}
 use Rattle.trace_laws.proofs.Plans.{is_in_message, Planned, planned_on, data_goes_on, writes_of, is_directed, writes_out, writes_there}
 use Rattle.trace_laws.proofs.Steps.{IsDriven, HasValues, driven_by, after_row}
+use Rattle.trace_laws.proofs.Tests.{falls_true}
 use Rattle.trace_laws.proofs.UnderRst.{carries_none, ends_apart, quiet_at_end}
 
 pub record Stood (s : ScenarioValue) (p : List Row) : Type 0 where
@@ -176,27 +180,9 @@ unasked_reset p row on now = wrong' (sym (and_false (is_connected p)) ∙ (λ i.
 
 -- ---- a byte of MESSAGE IN follows
 
-lt_is : (a b : ℕ) → nat_lt a b ≡ true → a < b
-lt_is a b e = grind (arith, nat_tests)
-
-zero_is : (n : ℕ) → (n == 0) ≡ true → n ≡ 0
-zero_is n e = grind (arith, nat_tests)
-
-in_phase : (b : LineSet) → is_message_in b ≡ true → phase_of b ≡ phases.MessageIn
-in_phase b e = go b.msg b.cd b.io e
-  where
-    go : (m d i : Bool) → (m && d && i) ≡ true → (if m then (if i then phases.MessageIn else phases.MessageOut) else if d then (if i then phases.Status else phases.Command) else if i then phases.DataIn else phases.DataOut) ≡ phases.MessageIn
-    go true true true z = refl
-    go true true false z = wrong' z
-    go true false i z = wrong' z
-    go false d i z = wrong' z
-
 follows_some : (p : List Row) (bytes : List ℕ) → nat_lt 0 (length bytes) ≡ true → (is_unasked p ≡ true) ⊎ (nat_lt (handshakes p).requests (length bytes) ≡ true) → nat_lt (handshakes p).requests (length bytes) ≡ true
-follows_some p bytes some (inl u) = ap (λ (w : ℕ). nat_lt w (length bytes)) (zero_is (handshakes p).requests u) ∙ some
+follows_some p bytes some (inl u) = ap (λ (w : ℕ). nat_lt w (length bytes)) (zero_of (handshakes p).requests u) ∙ some
 follows_some p bytes some (inr f) = f
-
-no_process : (p : Process) → (let a : Option Process = None in a) ≡ Some p → ⊥
-no_process p e = absurd cc
 
 -- ---- a row with which the connection goes on
 
@@ -204,7 +190,7 @@ crossing_is : (s : ScenarioValue) (p : List Row) (row : Row) (n : Connection) (g
 crossing_is s p row n g = λ i. is_some (receiver_of (g.row_is.connection_is i) (g.row_is.change_is i))
 
 -- The process that the initiator knows is the one that is served.
-here_served : (s : ScenarioValue) (k : RunState) (n : Connection) (pr : Process) → Knows s k n → process_here s k ≡ Some pr → process_served s k ≡ Some pr
+pub here_served : (s : ScenarioValue) (k : RunState) (n : Connection) (pr : Process) → Knows s k n → process_here s k ≡ Some pr → process_served s k ≡ Some pr
 here_served s k n pr w e = go w.item_is
   where
     item : process_item s w.link.item ≡ Some pr
@@ -212,7 +198,7 @@ here_served s k n pr w e = go w.item_is
 
     go : (w.link.item ≡ k.served) ⊎ ((n.reselected ≡ true) × (w.link.item ≡ None)) → process_served s k ≡ Some pr
     go (inl z) = ap (process_item s) (sym z) ∙ item
-    go (inr z) = absurd (no_process pr (sym (ap (process_item s) z.1) ∙ item))
+    go (inr z) = absurd (none_some pr (sym (ap (process_item s) z.1) ∙ item))
 
 sends_own : (s : ScenarioValue) (p : List Row) (row : Row) (n : Connection) → Planned s (run_state s p) → Knows s (run_state s p) n → (run_state s p).exchange.begun ≡ begun p → IsAskedIn s p row n → (g : Goes s p row n) → SendsOwn s (run_state s p) row
 sends_own s p row n pd knows same a g pr e f =
@@ -294,10 +280,6 @@ goes s p row n gr pd dv h books a g =
           record { named = r.named; writes = writes_there s k w pd (pl.begun ∙ g.begun_is (sym (crossing_is s p row n g) ∙ z)) ep ef; active_is = r.active_is };
       leaves = λ z. left_whole s p row n gr pd dv h books a phase z (λ b. g.over (ap changes_phase (sym c) ∙ z) b);
     }
-
-falls_true : (a b : Bool) → b ≡ true → falls a b ≡ false
-falls_true true b e = ap not e
-falls_true false b e = refl
 
 -- It keeps the books that the laws of connections ask for.
 keeps : (s : ScenarioValue) (p : List Row) (row : Row) (n : Connection) → HasCommands s → Planned s (run_state s p) → AreOfDevices p → row.dev < 8 → LinkStage s p n → Books s (run_state s p) → IsAskedIn s p row n → (g : Goes s p row n) → KeepsBooksIn p row
@@ -453,9 +435,6 @@ first_planned s p row n dv lt alone e f m = go f.begins
         }
 
 -- ---- a row outside a connection
-
-none_some : (n : Connection) → (let a : Option Connection = None in a) ≡ Some n → ⊥
-none_some n e = absurd cc
 
 pub apart_connection : (s : ScenarioValue) (p : List Row) (row : Row) → row.dev < 8 → broken_rule p row ≡ None → BusStage s p → is_connected p ≡ false → (bus (row ∷ p)).rst ≡ false → connection p ≡ None
 apart_connection s p row lt obeys h alone calm = go (bus p).rst refl (connection p) refl

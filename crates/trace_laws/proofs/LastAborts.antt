@@ -5,7 +5,7 @@ use Rattle.bus_base.specs.declared.AbortKind.TheVariants as aborts
 use Rattle.bus_trace.specs.declared.connection.Connection.{Connection}
 use Rattle.bus_phases.specs.declared.dialogue.Dialogue.{Dialogue}
 use Rattle.bus_phases.specs.Dialogue.{fresh_bytes}
-use Rattle.bus_phases.specs.Half.{left_of, is_nil}
+use Rattle.bus_phases.specs.Half.{is_nil}
 use Rattle.msg_grammar.specs.declared.message.MsgOut.{MsgOut}
 use Rattle.msg_grammar.specs.declared.message.MsgOut.TheVariants as to_target
 use Rattle.msg_grammar.specs.Messages.{form_out, got_out, out_bytes}
@@ -23,20 +23,12 @@ use Rattle.scsi_device.specs.Lines.{AreUnits}
 use Rattle.bus_books.specs.Listening.{Understanding, nothing_understood, understood, understood_byte}
 use Rattle.bus_books.specs.Speaking.{AreWordsHeard, AreWordsFor, opens, refuses, answers, rejects_data, rejects_status, IsSpeaking}
 use Rattle.bus_books.proofs.Saying.{says_byte, says_more}
-use Rattle.trace_laws.proofs.OutMessages.{is_abort_out}
-
-wrong : {A : Type 0} → true ≡ false → A
-wrong e = absurd cc
-
-wrong' : {A : Type 0} → false ≡ true → A
-wrong' e = absurd cc
+use Rattle.trace_laws.proofs.Impossible.{wrong, wrong'}
+use Rattle.trace_laws.proofs.OutMessages.{is_abort_out, next_half}
 
 abbrev pub is_abort_message : Option MsgOut → Bool
 is_abort_message None = false
 is_abort_message (Some m) = is_abort_out m
-
-abbrev next_half : List ℕ → ℕ → List ℕ
-next_half half b = left_of (got_out (half ++ b ∷ [])) (half ++ b ∷ [])
 
 -- The last byte makes such a message whole.
 abbrev EndsAbort : List ℕ → List ℕ → Type 0

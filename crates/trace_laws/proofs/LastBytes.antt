@@ -20,14 +20,10 @@ use Rattle.bus_books.specs.Listening.{half_after}
 use Rattle.bus_books.proofs.Hearable.{heard_next}
 use Rattle.trace_laws.specs.Tells.{IsClosing, is_short}
 use Rattle.trace_laws.specs.LastTalks.{SaysNoEnd, SaysEnd, EndsWell, stays, closes, saves, LastGiven, still_stays, to_close, to_save, closed, CompletesBy, EndsWellIf}
+use Rattle.trace_laws.proofs.Impossible.{wrong, wrong'}
 use Rattle.trace_laws.proofs.OutMessages.{is_abort_out}
+use Rattle.trace_laws.proofs.Tests.{less_apart}
 use Rattle.trace_laws.proofs.UndoneRows.{empty_front}
-
-wrong : {A : Type 0} → true ≡ false → A
-wrong e = absurd cc
-
-wrong' : {A : Type 0} → false ≡ true → A
-wrong' e = absurd cc
 
 -- ---- which message is whole
 
@@ -89,7 +85,7 @@ end_short : (x : MsgIn) → SaysEnd x → is_short (Some x) ≡ true
 end_short x (inl e) = ap (λ (y : MsgIn). is_short (Some y)) e
 end_short x (inr e) = ap (λ (y : MsgIn). is_short (Some y)) e
 
-end_length : (x : MsgIn) → SaysEnd x → length (bytes_of_messages (one_message x)) ≡ 1
+pub end_length : (x : MsgIn) → SaysEnd x → length (bytes_of_messages (one_message x)) ≡ 1
 end_length x (inl e) = ap (λ (y : MsgIn). length (bytes_of_messages (one_message y))) e
 end_length x (inr e) = ap (λ (y : MsgIn). length (bytes_of_messages (one_message y))) e
 
@@ -118,9 +114,6 @@ completes_two last m both e = (λ f. not_told (sym f ∙ e), λ z. not_said (fir
 pub record Given (l : Link) (m : Messages) (next : Next) (count : ℕ) : Type 0 where
   pub before : l.before ≡ plain
   pub given : LastGiven l m next count
-
-less_apart : {A : Type 0} (a b : ℕ) → a < b → a ≡ b → A
-less_apart a b lt e = absurd omega (arith, lt, e)
 
 pub given_on : (l j : Link) (m : Messages) (next : Next) (half : List ℕ) (count byte : ℕ) → OnMessages FitsIn m → AreGiven (bytes_of_messages m) half count → byte ≡ slice_index_or (bytes_of_messages m) count 0 → count < length (bytes_of_messages m) → Hears l j (whole_in (got_in (half ++ byte ∷ []))) → Given l m next count → Given j m next (count + 1)
 given_on l j m next half count byte fit g e lt w h = go h.given

@@ -13,7 +13,6 @@ use Rattle.bus_trace.specs.Trace.{bus}
 use Rattle.bus_lines.specs.Handshakes.{Handshakes, handshakes_after}
 use Rattle.bus_phases.specs.declared.dialogue.Dialogue.{Dialogue}
 use Rattle.bus_phases.specs.Dialogue.{fresh_bytes, byte_out, byte_in, byte_else}
-use Rattle.msg_grammar.specs.declared.message.MsgIn.{MsgIn}
 use Rattle.msg_grammar.specs.Messages.{got_out}
 use Rattle.scenario.specs.declared.value.AbortDef.{AbortDef}
 use Rattle.scenario.specs.declared.value.Tag.{Tag}
@@ -51,34 +50,23 @@ use Rattle.bus_books.specs.Knowing.{Knows}
 use Rattle.bus_books.specs.Rows.{RowKind, still, strikes, crosses, turns}
 use Rattle.bus_books.specs.Speaking.{IsSpeaking}
 use Rattle.bus_books.specs.Traces.{GoesOn}
-use Rattle.bus_books.proofs.Gives.{requests_stay, struck_same}
+use Rattle.bus_books.proofs.Gives.{requests_stay, struck_same, in_io}
 use Rattle.bus_books.proofs.InConnection.{in_connection, reading_is}
 use Rattle.bus_books.proofs.Knows.{events_link}
 use Rattle.trace_laws.specs.LastTalks.{SaysNoEnd, EndsWell, stays, LastBy, LastTalk, LastTalks, AbortTalks, LastFacts}
 use Rattle.trace_laws.specs.Tells.{IsServed, of_process, of_abort, ServedFacts}
 use Rattle.trace_laws.proofs.ConnectionRows.{ConnectionRow, GoingRow, connection_row, going_row, stage_of_connection, RowKindOf, begins_now, goes_now, row_kind}
 use Rattle.trace_laws.proofs.FirstRows.{IsFirst}
+use Rattle.trace_laws.proofs.Impossible.{wrong, wrong', none_some}
 use Rattle.trace_laws.proofs.Joint.{Stood, NextStood, link_phase}
 use Rattle.trace_laws.proofs.LastAborts.{is_abort_message, last_aborts, abort_last}
 use Rattle.trace_laws.proofs.LastBytes.{first_given}
 use Rattle.trace_laws.proofs.LastRows.{LastRow, still_last, cross_out, cross_in, cross_else}
 use Rattle.trace_laws.proofs.LastTurns.{turn_last}
+use Rattle.trace_laws.proofs.PhaseLines.{out_lines}
 use Rattle.trace_laws.proofs.RowItems.{LinkAfter, says, hears, link_crossed, link_still}
 use Rattle.trace_laws.proofs.RowItems as rows
-use Rattle.trace_laws.proofs.UndoneFacts.{in_of, in_line}
-use Rattle.trace_laws.proofs.UndoneTurns.{out_of}
-
-wrong : {A : Type 0} → true ≡ false → A
-wrong e = absurd cc
-
-wrong' : {A : Type 0} → false ≡ true → A
-wrong' e = absurd cc
-
-none_some : {A : Type 0} (n : Connection) → (let o : Option Connection = None in o) ≡ Some n → A
-none_some n e = absurd cc
-
-no_in : {A : Type 0} (m : MsgIn) → (let o : Option MsgIn = None in o) ≡ Some m → A
-no_in m e = absurd cc
+use Rattle.trace_laws.proofs.UndoneFacts.{in_of}
 
 pub last_start : (s : ScenarioValue) → LastFacts s []
 last_start s n e calm = none_some n e
@@ -215,7 +203,7 @@ goes_last s p row n u dv was next r g after calm h m id em ej = go g.goes.row_is
         let none : is_some (receiver_in n c) ≡ false = ap (λ (z : Option ℕ). is_some z) er in
         let i = in_connection s k row n c false false (is_fault row.kind) of.row_is ep none refl in
         still_last s k row n c l m of.row_is ep none knows.link_is em
-        (λ e. ap (λ (x : Handshakes). x.requests) i.handshakes_is ∙ ap (λ (q : Bool). (handshakes_after q (Some n) c row.time k.handshakes).requests) ef ∙ requests_stay n c row.time k.handshakes ep (in_line c.before (here e)) er) was_so
+        (λ e. ap (λ (x : Handshakes). x.requests) i.handshakes_is ∙ ap (λ (q : Bool). (handshakes_after q (Some n) c row.time k.handshakes).requests) ef ∙ requests_stay n c row.time k.handshakes ep (in_io c.before (here e)) er) was_so
     go (strikes ef ep er) =
         let none : is_some (receiver_in n c) ≡ false = ap (λ (z : Option ℕ). is_some z) er in
         let i = in_connection s k row n c false false (is_fault row.kind) of.row_is ep none refl in
@@ -298,7 +286,7 @@ goes_abort s p row n u dv was g serves h m x em ej bj lj = go g.goes.row_is.kind
     crossed ep there (of_abort y a e line host target re alone) =
         let begun : k.exchange.begun ≡ true = of.begun (ap (λ (z : RowReading). z.crosses) (reading_is k row n c true of.row_is there)) in
         let at = alone begun in
-        let here : is_message_out c.before ≡ true = ap is_message_out (sym of.row_is.bus_is) ∙ out_of (bus_of k) at.0 (λ z. (of.phase z).0) in
+        let here : is_message_out c.before ≡ true = ap is_message_out (sym of.row_is.bus_is) ∙ out_lines (bus_of k) at.0 (λ z. (of.phase z).0) in
         by_last begun at.1 here y a e line
       where
         by_last : k.exchange.begun ≡ true → k.exchange.plan.cause ≡ causes.Selected → is_message_out c.before ≡ true → (y : ℕ) (a : AbortDef) → k.served ≡ Some (abort y) → abort_line_at s.aborts y ≡ Some a → m.last ≡ abortive

@@ -41,8 +41,8 @@ use Rattle.bus_due.specs.RunState.{RunState, bus_of, array_of, process_item, pro
 use Rattle.bus_due.specs.Defs.{target_def_of}
 use Rattle.bus_due.specs.Sights.{arrival_at, serving_of}
 use Rattle.bus_due.specs.Tasks.{task_if, blocks_in, room_of, arrival_if}
-use Rattle.trace_laws.proofs.Driven.{wrong, wrong'}
 use Rattle.trace_laws.specs.ItemTalks.{is_complete_in, is_disconnect_in, frees_bus, plans_well, is_sense_item}
+use Rattle.trace_laws.proofs.Impossible.{none_some, wrong, wrong'}
 
 abbrev Well : Bool → Leaving → Type 0
 Well stays l = plans_well stays l.messages l.next ≡ true
@@ -203,9 +203,6 @@ from_well stays m next count h = go (nat_lt count (length (message_bytes m.first
 
 -- ---- an automatic REQUEST SENSE stays
 
-no_process : (p : Process) → (let a : Option Process = None in a) ≡ Some p → ⊥
-no_process p e = absurd cc
-
 -- Its command descriptor block.
 sense_cdb : (s : ScenarioValue) (id : ProcId) (p : Process) → process_of s id ≡ Some p → id.sense ≡ true → p.cdb ≡ sense_block
 sense_cdb s id p e f = go (command_at s.commands id.command) refl
@@ -215,7 +212,7 @@ sense_cdb s id p e f = go (command_at s.commands id.command) refl
     by false c z = wrong' z
 
     go : (c : Option CmdDef) → command_at s.commands id.command ≡ c → p.cdb ≡ sense_block
-    go None z = absurd (no_process p (sym (ap (λ (x : Option CmdDef). process_if s id x) z) ∙ e))
+    go None z = absurd (none_some p (sym (ap (λ (x : Option CmdDef). process_if s id x) z) ∙ e))
     go (Some c) z = sym (ap (λ (x : Process). x.cdb) (same_Some (process_by s id c) p (sym (ap (λ (x : Option CmdDef). process_if s id x) z) ∙ e))) ∙ by id.sense c f
 
 guest : (a : Array) (policy : Policy) (p : Process) → is_request_sense (command_of p.cdb) ≡ true → is_queued (arrival_if policy a (Some p)) ≡ false
@@ -225,15 +222,13 @@ guest a policy p e = ap (λ (q : Bool). is_queued (arrival_by policy q (room_of 
     go None = refl
     go (Some room) = refl
 
-one_run : (policy : Policy) (t : Task) → t.blocks ≡ None → nat_lt (t.runs + 1) (runs_in_all policy t) ≡ false
+-- Only reads and writes of blocks have more than one run.
+pub one_run : (policy : Policy) (t : Task) → t.blocks ≡ None → nat_lt (t.runs + 1) (runs_in_all policy t) ≡ false
 one_run policy t e = ap (λ (b : Option ℕ). nat_lt (t.runs + 1) (if t.moved == 0 then 0 else runs_in policy b)) e ∙ go (t.moved == 0)
   where
     go : (q : Bool) → nat_lt (t.runs + 1) (if q then 0 else 1) ≡ false
     go true = grind (arith, nat_tests)
     go false = grind (arith, nat_tests)
-
-no_task : (t : Task) → (let a : Option Task = None in a) ≡ Some t → ⊥
-no_task t e = absurd cc
 
 pub sense_stays : (s : ScenarioValue) (k : RunState) (dev : ℕ) → is_sense_item k.served ≡ true → Stays (serving_of s k dev) (phase_of (bus_of k))
 sense_stays s k dev e = record { arrives = λ z. ap (λ (x : Phase). is_queued (arrival_at s k dev x)) z ∙ arrives (process_served s k) own; runs = λ t f. runs (process_served s k) own t f }
@@ -251,7 +246,7 @@ sense_stays s k dev e = record { arrives = λ z. ap (λ (x : Phase). is_queued (
     arrives (Some p) f = guest (array_of s k) (policy_of (target_def_of s dev)) p (ap (λ (c : List ℕ). is_request_sense (command_of c)) (f p refl))
 
     runs : (o : Option Process) → ((p : Process) → o ≡ Some p → p.cdb ≡ sense_block) → (t : Task) → task_if s k o ≡ Some t → nat_lt (t.runs + 1) (runs_in_all (policy_of (target_def_of s dev)) t) ≡ false
-    runs None f t z = absurd (no_task t z)
+    runs None f t z = absurd (none_some t z)
     runs (Some p) f t z = one_run (policy_of (target_def_of s dev)) t (sym (ap (λ (x : Option Task). (or_task t x).blocks) z) ∙ ap (λ (c : List ℕ). blocks_in (range_in (command_of c))) (f p refl))
       where
         or_task : Task → Option Task → Task

@@ -31,25 +31,16 @@ use Rattle.bus_books.specs.Giving.{AreGiven, Gives}
 use Rattle.bus_books.specs.Rows.{IsRowIn}
 use Rattle.bus_books.specs.Speaking.{Speaks, IsSpeaking}
 use Rattle.bus_books.specs.Traces.{GoesOn}
+use Rattle.bus_books.proofs.Gives.{in_io}
 use Rattle.bus_books.proofs.InConnection.{in_connection}
 use Rattle.trace_laws.specs.LastTalks.{EndsWellIf, LastBy, LastTalk}
+use Rattle.trace_laws.proofs.Impossible.{wrong, wrong', none_some}
 use Rattle.trace_laws.proofs.LastBytes.{Hears, Given, given_on, out_last, ends_if, given_as}
 use Rattle.trace_laws.proofs.OfferRows.{few_messages, request_rises}
 use Rattle.trace_laws.proofs.OutMessages.{is_abort_out, NoAbort, out_is_no_abort, last_is_whole}
+use Rattle.trace_laws.proofs.PhaseLines.{out_in, out_phase, in_phase}
 use Rattle.trace_laws.proofs.RowItems.{LinkAfter, says, hears, stays, heard_link, link_crossed, link_still}
-use Rattle.trace_laws.proofs.UndoneAnswers.{same_phase_of, in_phase, out_phase}
-
-wrong : {A : Type 0} → true ≡ false → A
-wrong e = absurd cc
-
-wrong' : {A : Type 0} → false ≡ true → A
-wrong' e = absurd cc
-
-no_in : {A : Type 0} (m : MsgIn) → (let o : Option MsgIn = None in o) ≡ Some m → A
-no_in m e = absurd cc
-
-no_out : {A : Type 0} (m : MsgOut) → (let o : Option MsgOut = None in o) ≡ Some m → A
-no_out m e = absurd cc
+use Rattle.trace_laws.proofs.UndoneAnswers.{same_phase_of}
 
 -- ---- the plan in a phase
 
@@ -149,22 +140,6 @@ still_last s k row n c l m r ep en el em asked h =
 
 -- ---- a byte crosses
 
-flip_in : (b : LineSet) → is_message_in b ≡ true → is_message_out b ≡ false
-flip_in b e = go b.msg b.cd b.io e
-  where
-    go : (m d i : Bool) → (m && d && i) ≡ true → (m && d && not i) ≡ false
-    go true true true z = refl
-    go true true false z = wrong' z
-    go true false i z = wrong' z
-    go false d i z = wrong' z
-
-in_line : (b : LineSet) → is_message_in b ≡ true → b.io ≡ true
-in_line b e = go (b.msg && b.cd) b.io e
-  where
-    go : (q r : Bool) → (q && r) ≡ true → r ≡ true
-    go true r z = z
-    go false r z = wrong' z
-
 pub cross_out : (s : ScenarioValue) (k : RunState) (row : Row) (n : Connection) (c : Change) (l m : Link) (id : ProcId) → LastRow s k row n c l id → changes_phase c ≡ false → is_some (receiver_in n c) ≡ true → k.exchange.begun ≡ true → is_message_out c.before ≡ true → (run_state_after s k row).story.link ≡ Some m → LastTalk k l → LastTalk (run_state_after s k row) m
 cross_out s k row n c l m id g ep en b here em h = go (link_crossed s k row n c l g.goes.row_is en g.link_is)
   where
@@ -224,10 +199,10 @@ cross_out s k row n c l m id g ep en b here em h = go (link_crossed s k row n c 
     go (hears x e f z) = to (heard_link s k.story l x) z (in_none x f) (λ q. in_none x f)
       where
         in_none : {A : Type 0} (x : MsgIn) → message_in d c true ≡ Some x → A
-        in_none x w = no_in x (sym (ap (λ (q : Bool). if q then whole_in (got_in (d.half ++ byte ∷ [])) else None) (by (is_message_in c.before) refl)) ∙ w)
+        in_none x w = none_some x (sym (ap (λ (q : Bool). if q then whole_in (got_in (d.half ++ byte ∷ [])) else None) (by (is_message_in c.before) refl)) ∙ w)
           where
             by : (q : Bool) → is_message_in c.before ≡ q → is_message_in c.before ≡ false
-            by true z = wrong (sym here ∙ flip_in c.before z)
+            by true z = wrong (sym here ∙ out_in c.before z)
             by false z = z
 
 pub cross_in : (s : ScenarioValue) (k : RunState) (row : Row) (n : Connection) (c : Change) (l m : Link) (id : ProcId) (dev : ℕ) → LastRow s k row n c l id → changes_phase c ≡ false → receiver_in n c ≡ Some dev → k.exchange.begun ≡ true → is_message_in c.before ≡ true → (run_state_after s k row).story.link ≡ Some m → LastTalk k l → LastTalk (run_state_after s k row) m
@@ -266,24 +241,24 @@ cross_in s k row n c l m id dev g ep er b here em h = record {
     count =
         ap (λ (x : Handshakes). x.requests) (in_connection s k row n c false true (is_fault row.kind) g.goes.row_is ep en refl).handshakes_is
         ∙ ap (λ (q : Bool). (handshakes_after q (Some n) c row.time k.handshakes).requests) g.lines
-        ∙ request_rises n c row.time dev k.handshakes ep (in_line c.before here) er (length (bytes_of_messages k.exchange.plan.messages)) next.1 (few_messages k.exchange.plan.messages)
+        ∙ request_rises n c row.time dev k.handshakes ep (in_io c.before here) er (length (bytes_of_messages k.exchange.plan.messages)) next.1 (few_messages k.exchange.plan.messages)
 
     reads : message_in d c true ≡ whole_in (got_in (d.half ++ byte ∷ []))
     reads = λ x. if here x then whole_in (got_in (d.half ++ byte ∷ [])) else None
 
     out_none : message_out d c true ≡ None
-    out_none = ap (λ (q : Bool). if q then whole_out (got_out (fresh_bytes d ++ byte ∷ [])) else None) (flip_in c.before here)
+    out_none = ap (λ (q : Bool). if q then whole_out (got_out (fresh_bytes d ++ byte ∷ [])) else None) (out_in c.before here)
 
     hears_as : (x : Link) → j.story.link ≡ Some x → Hears l x (whole_in (got_in (d.half ++ byte ∷ []))) → Hears l m (whole_in (got_in (d.half ++ byte ∷ [])))
     hears_as x z w = subst (λ (y : Link). Hears l y (whole_in (got_in (d.half ++ byte ∷ [])))) (same_Some x m (sym z ∙ em)) w
 
     heard : LinkAfter s k.story l (message_out d c true) (message_in d c true) j.story.link → Hears l m (whole_in (got_in (d.half ++ byte ∷ [])))
-    heard (says x e z) = no_out x (sym out_none ∙ e)
-    heard (stays e f z) = hears_as l z (record { none = λ w. (refl, refl); some = λ x w. no_in x (sym (sym reads ∙ f) ∙ w) })
+    heard (says x e z) = none_some x (sym out_none ∙ e)
+    heard (stays e f z) = hears_as l z (record { none = λ w. (refl, refl); some = λ x w. none_some x (sym (sym reads ∙ f) ∙ w) })
     heard (hears x e f z) =
         hears_as (heard_link s k.story l x) z
         (record {
-          none = λ w. no_in x (sym w ∙ sym reads ∙ f);
+          none = λ w. none_some x (sym w ∙ sym reads ∙ f);
           some = λ y w. (ap last_in (same_Some x y (sym (sym reads ∙ f) ∙ w)), refl);
         })
 
@@ -311,8 +286,8 @@ cross_else s k row n c l m id g ep en b out into em h = go (link_crossed s k row
     last = last_there l k.exchange.plan k.handshakes.requests d.is_last (bus_of k) off (h.begun b)
 
     go : LinkAfter s k.story l (message_out d c true) (message_in d c true) j.story.link → LastTalk j m
-    go (says x e z) = no_out x (sym (ap (λ (q : Bool). if q then whole_out (got_out (fresh_bytes d ++ c.after.data_bits % 256 ∷ [])) else None) out) ∙ e)
-    go (hears x e f z) = no_in x (sym (ap (λ (q : Bool). if q then whole_in (got_in (d.half ++ c.after.data_bits % 256 ∷ [])) else None) into) ∙ f)
+    go (says x e z) = none_some x (sym (ap (λ (q : Bool). if q then whole_out (got_out (fresh_bytes d ++ c.after.data_bits % 256 ∷ [])) else None) out) ∙ e)
+    go (hears x e f z) = none_some x (sym (ap (λ (q : Bool). if q then whole_in (got_in (d.half ++ c.after.data_bits % 256 ∷ [])) else None) into) ∙ f)
     go (stays e f z) =
         subst (λ (y : Link). LastTalk j y) (same_Some l m (sym z ∙ em))
         (record {

@@ -2,15 +2,15 @@
 use Rattle.std.proofs.Common.{ℕ, ◌≡◌, ◌≤◌, ◌<◌, ◌+◌, ◌-◌, ◌*◌, ◌/◌, Bool, true, false, ◌&&◌, ◌==◌, ◌∙◌, Option, Some, None, refl, sym, ap, subst, arith}
 use Rattle.std.specs.Prelude.{if◌then◌else◌, min, nat_lt, nat_le}
 use Rattle.std.proofs.Math.Nat.{lt-div-mul-add}
-use Rattle.std.proofs.lemmas.Bool.Decides.{nat_tests}
 use Rattle.scenario.specs.declared.value.Policy.{Policy}
 use Rattle.scenario.specs.declared.value.Policy.TheVariants as policies
+use Rattle.disk_unit.proofs.Touched.{from_not_lt}
 use Rattle.bus_dialogue.specs.DataRuns.{run_at, run_in, run_length, runs_in, runs_in_all}
 use Rattle.bus_dialogue.specs.declared.exchange.Task.{Task}
+use Rattle.bus_books.proofs.RowTies.{lt_is}
+use Rattle.link_laws.proofs.Ahead.{zero_of}
 use Rattle.trace_laws.specs.WholeRuns.{MovesBlocks, RunsBlocks}
-
-wrong : {A : Type 0} → true ≡ false → A
-wrong e = absurd cc
+use Rattle.trace_laws.proofs.Tests.{mul_assoc, le_is}
 
 -- ---- numbers
 
@@ -28,26 +28,11 @@ all_taken blocks most q n h l k =
 times_up : (a b c : ℕ) → a ≤ b → a * c ≤ b * c
 times_up a b c h = grind arith
 
-mul_assoc : (a b c : ℕ) → a * (b * c) ≡ a * b * c
-mul_assoc a b c = grind arith
-
 one_more : (a c : ℕ) → (a + 1) * c ≡ a * c + c
 one_more a c = omega arith
 
 min_all : (b c : ℕ) → c ≤ b → min b c ≡ c
 min_all b c h = grind arith
-
-le_is : (a b : ℕ) → nat_le a b ≡ true → a ≤ b
-le_is a b e = grind (arith, nat_tests)
-
-lt_is : (a b : ℕ) → nat_lt a b ≡ true → a < b
-lt_is a b e = grind (arith, nat_tests)
-
-not_lt : (a b : ℕ) → nat_lt a b ≡ false → b ≤ a
-not_lt a b e = grind (arith, nat_tests)
-
-zero_is : (n : ℕ) → (n == 0) ≡ true → n ≡ 0
-zero_is n e = grind (arith, nat_tests)
 
 -- ---- the run that ends with all
 
@@ -66,7 +51,7 @@ part_all most blocks size moved n e l = go (n == 0) refl (nat_lt (most * size) m
             absurd omega (arith, fits, less, e)
         by false er =
             let two : 2 ≤ n + 1 = subst (λ (x : Bool). (if x then 1 else 2) ≤ n + 1) er l in
-            let none = zero_is n ep in
+            let none = zero_of n ep in
             absurd omega (arith, two, none)
 
 ends_all : (policy : Policy) (blocks size moved n : ℕ) → RunsBlocks policy → moved ≡ blocks * size → runs_in policy (Some blocks) ≤ n + 1 → (run_in policy (Some blocks) size moved n).end ≡ moved
@@ -83,7 +68,7 @@ ends_all (policies.NoSave most) blocks size moved n h e l = part_all most blocks
 -- No run follows it.
 pub last_run : (policy : Policy) (t : Task) → MovesBlocks policy t → (t.moved == 0) ≡ false → nat_lt (t.runs + 1) (runs_in_all policy t) ≡ false → t.moved ≤ (run_at policy t t.runs).start + run_length policy t
 last_run policy t f some e =
-    let all : runs_in policy (Some f.blocks) ≤ t.runs + 1 = subst (λ (b : Option ℕ). runs_in policy b ≤ t.runs + 1) f.blocks_are (not_lt (t.runs + 1) (runs_in policy t.blocks) ((λ i. nat_lt (t.runs + 1) (if sym some i then 0 else runs_in policy t.blocks)) ∙ e)) in
+    let all : runs_in policy (Some f.blocks) ≤ t.runs + 1 = subst (λ (b : Option ℕ). runs_in policy b ≤ t.runs + 1) f.blocks_are (from_not_lt (t.runs + 1) (runs_in policy t.blocks) ((λ i. nat_lt (t.runs + 1) (if sym some i then 0 else runs_in policy t.blocks)) ∙ e)) in
     let end : (run_at policy t t.runs).end ≡ t.moved = ap (λ (b : Option ℕ). (run_in policy b t.size t.moved t.runs).end) f.blocks_are ∙ ends_all policy f.blocks t.size t.moved t.runs f.runs f.moved all in
     let rest = with_rest (run_at policy t t.runs).start (run_at policy t t.runs).end in
     subst (λ (x : ℕ). x ≤ (run_at policy t t.runs).start + run_length policy t) end rest

@@ -37,32 +37,21 @@ use Rattle.bus_books.specs.Rows.{reading_in}
 use Rattle.bus_books.proofs.InConnection.{InConnection, in_connection}
 use Rattle.trace_laws.specs.Tells.{IsClosing}
 use Rattle.trace_laws.specs.LastTalks.{is_freeing, SaysNoEnd, SaysEnd, EndsWell, stays, closes, saves, LastGiven, still_stays, to_close, to_save, closed, EndsWellIf, LastBy, LastTalk}
-use Rattle.trace_laws.proofs.LastBytes.{first_given}
+use Rattle.trace_laws.proofs.Impossible.{wrong, wrong'}
+use Rattle.trace_laws.proofs.LastBytes.{first_given, end_length}
 use Rattle.trace_laws.proofs.LastLeavings.{leaves_well}
 use Rattle.trace_laws.proofs.LastRows.{LastRow}
+use Rattle.trace_laws.proofs.PhaseLines.{out_phase, in_phase, out_lines, is_out_next}
 use Rattle.trace_laws.proofs.RowItems.{link_still}
-use Rattle.trace_laws.proofs.UndoneAnswers.{in_phase, out_phase}
+use Rattle.trace_laws.proofs.Tests.{some_zero}
 use Rattle.trace_laws.proofs.UndoneLeavings.{is_to_message_in}
-use Rattle.trace_laws.proofs.UndoneTurns.{out_of, not_out}
-
-wrong : {A : Type 0} → true ≡ false → A
-wrong e = absurd cc
-
-wrong' : {A : Type 0} → false ≡ true → A
-wrong' e = absurd cc
+use Rattle.trace_laws.proofs.UndoneTurns.{not_out}
 
 -- ---- MESSAGE IN is left for MESSAGE OUT
 
 end_front : (x : MsgIn) → SaysEnd x → length (in_bytes x) ≡ 1
 end_front x (inl e) = ap (λ (y : MsgIn). length (in_bytes y)) e
 end_front x (inr e) = ap (λ (y : MsgIn). length (in_bytes y)) e
-
-end_all : (x : MsgIn) → SaysEnd x → length (bytes_of_messages (one_message x)) ≡ 1
-end_all x (inl e) = ap (λ (y : MsgIn). length (bytes_of_messages (one_message y))) e
-end_all x (inr e) = ap (λ (y : MsgIn). length (bytes_of_messages (one_message y))) e
-
-some_one : {A : Type 0} (count : ℕ) → (count == 0) ≡ false → count ≡ 0 → A
-some_one count e f = wrong (sym (ap (λ (x : ℕ). x == 0) f) ∙ e)
 
 stays_from : (m : Messages) (n : ℕ) → OnMessages SaysNoEnd m → OnMessages SaysNoEnd (from_byte m n)
 stays_from m n h = go (nat_lt n (length (message_bytes m.first)))
@@ -74,25 +63,21 @@ stays_from m n h = go (nat_lt n (length (message_bytes m.first)))
 -- What is left of the messages ends well, too.
 pub from_ends : (l : Link) (m : Messages) (next : Next) (count : ℕ) → LastGiven l m next count → (count == 0) ≡ false → EndsWell (from_byte m (count - 1)) next
 from_ends l m next count (still_stays f all last) some = stays f (stays_from m (count - 1) all)
-from_ends l m next count (to_close f x one end zero last) some = some_one count some zero
-from_ends l m next count (to_save f both (inl zero) last) some = some_one count some zero
+from_ends l m next count (to_close f x one end zero last) some = some_zero count some zero
+from_ends l m next count (to_save f both (inl zero) last) some = some_zero count some zero
 from_ends l m next count (to_save f both (inr one) last) some = saves f ((λ i. from_byte (both i) (one i - 1)))
 from_ends l m next count (closed f ends full last told) some = go ends
   where
     go : EndsWell m next → EndsWell (from_byte m (count - 1)) next
     go (stays g all) = wrong (sym f ∙ g)
     go (closes g x one end) =
-        let is : count ≡ 1 = full ∙ ap (λ (y : Messages). length (bytes_of_messages y)) one ∙ end_all x end in
+        let is : count ≡ 1 = full ∙ ap (λ (y : Messages). length (bytes_of_messages y)) one ∙ end_length x end in
         closes f x ((λ i. from_byte (one i) (is i - 1)) ∙ ap (λ (z : ℕ). if nat_lt 0 z then one_message x else record { first = None; second = None }) (end_front x end)) end
     go (saves g both) =
         let is : count ≡ 2 = full ∙ ap (λ (y : Messages). length (bytes_of_messages y)) both in
         closes f to_initiator.Disconnect (λ i. from_byte (both i) (is i - 1)) (inr refl)
 
 -- ---- MESSAGE IN is left for another phase
-
-abbrev is_out_next : Option Phase → Bool
-is_out_next (Some phases.MessageOut) = true
-is_out_next _ = false
 
 goes_elsewhere : (v : Serving) (attention : Bool) (phase : Phase) → (phase_leaving v attention phases.MessageIn).to ≡ Some phase → is_out_next (Some phase) ≡ false → is_freeing v.plan.next ≡ false
 goes_elsewhere v true phase e f = wrong (ap is_out_next e ∙ f)
@@ -233,7 +218,7 @@ turn_last s k row n c l m id t em h =
     go true b = by (phase_of c.after) refl
       where
         by : (p : Phase) → phase_of c.after ≡ p → LastBy l j.exchange.plan j.handshakes.requests j.story.bus_state.dialogue.is_last (phase_of (bus_of j))
-        by phases.MessageOut e = at phases.MessageOut e (unsaid, from b (out_of c.after e t.known))
+        by phases.MessageOut e = at phases.MessageOut e (unsaid, from b (out_lines c.after e t.known))
         by phases.MessageIn e = at phases.MessageIn e (into b e)
         by phases.Command e = at phases.Command e (left b (ap (λ (x : Phase). is_out_next (Some x)) e))
         by phases.DataIn e = at phases.DataIn e (left b (ap (λ (x : Phase). is_out_next (Some x)) e))
@@ -248,7 +233,7 @@ differ x a b e f lt = absurd omega (arith, e, f, lt)
 -- With ATN false, after all bytes of the messages.
 pub ends_closing : (l : Link) (m : Messages) (next : Next) (count : ℕ) → LastGiven l m next count → is_freeing next ≡ true → count ≡ length (bytes_of_messages m) → IsClosing l.last
 ends_closing l m next count (still_stays f all last) e full = wrong (sym e ∙ f)
-ends_closing l m next count (to_close f x one end zero last) e full = differ count 0 1 zero (full ∙ ap (λ (y : Messages). length (bytes_of_messages y)) one ∙ end_all x end) (omega arith)
+ends_closing l m next count (to_close f x one end zero last) e full = differ count 0 1 zero (full ∙ ap (λ (y : Messages). length (bytes_of_messages y)) one ∙ end_length x end) (omega arith)
 ends_closing l m next count (to_save f both (inl zero) last) e full = differ count 0 2 zero (full ∙ ap (λ (y : Messages). length (bytes_of_messages y)) both) (omega arith)
 ends_closing l m next count (to_save f both (inr one) last) e full = differ count 1 2 one (full ∙ ap (λ (y : Messages). length (bytes_of_messages y)) both) (omega arith)
 ends_closing l m next count (closed f ends all last told) e full = last

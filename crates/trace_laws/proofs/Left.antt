@@ -22,11 +22,8 @@ use Rattle.ending_causes.specs.WrongParity.{is_left_by, is_left_as_due}
 use Rattle.link_laws.specs.LinkStages.{AnyStage, apart, linked}
 use Rattle.trace_laws.proofs.ConnectionRows.{connection_row}
 use Rattle.trace_laws.proofs.Crossings.{RowFacts, stays, ends_here}
-use Rattle.trace_laws.proofs.Driven.{wrong}
+use Rattle.trace_laws.proofs.Impossible.{none_some, wrong}
 use Rattle.trace_laws.proofs.Joint.{Stood, apart_connection, link_calm}
-
-none_some : (n : Connection) → (let a : Option Connection = None in a) ≡ Some n → ⊥
-none_some n e = absurd cc
 
 left_so : (a b c : Bool) → a ≡ true → (a || b || c) ≡ true
 left_so true b c e = refl

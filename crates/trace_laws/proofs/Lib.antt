@@ -232,3 +232,6 @@ pub mod StatusFacts
 pub mod RunEvents
 pub mod RunsLeft
 pub mod RunsWhole
+pub mod Impossible
+pub mod PhaseLines
+pub mod Tests

@@ -1,7 +1,6 @@
 -- The next row of a connection, resets apart, by what the two ends are due to do: which lines it changes, and why.
 use Rattle.std.proofs.Common.{ℕ, ◌≡◌, Bool, true, false, not, ◌&&◌, ◌||◌, ◌==◌, ◌∙◌, List, [], ◌∷◌, Option, Some, None, refl, sym, ap, subst, arith}
 use Rattle.std.specs.Prelude.{◌+◌, if◌then◌else◌, max, nat_lt, length}
-use Rattle.std.proofs.lemmas.Bool.Decides.{nat_tests}
 use Rattle.bus_trace.specs.LineSet.{LineSet}
 use Rattle.bus_trace.specs.declared.Row.{Row}
 use Rattle.bus_trace.specs.declared.connection.Connection.{Connection}
@@ -25,6 +24,7 @@ use Rattle.bus_due.specs.Own.{own_of}
 use Rattle.bus_due.specs.Plain.{AreOfDevices}
 use Rattle.bus_due.specs.RunSteps.{run_state}
 use Rattle.bus_due.specs.Sights.{serving_at}
+use Rattle.bus_books.proofs.Lookups.{number_is}
 use Rattle.bus_laws.specs.Reactions.{own_time, unreset_due}
 use Rattle.bus_laws.specs.Rows.{row_of_lines, row_of_fault}
 use Rattle.bus_laws.specs.Ends.{EndLines, initiator_side, target_side, connected_bus, Linked, BeginsSelected, ends_selected}
@@ -38,6 +38,7 @@ use Rattle.link_laws.proofs.EndDues.{due_of, Mover, by_fault, by_initiator, by_t
 use Rattle.link_laws.proofs.PulseDues.{pulsed_target_in, pulsed_target_out, pulsed_initiator_in, pulsed_initiator_out, hold_end_time, pulse_time, leaving_time, ack_pulse_end_time, answer_time, release_time, byte_driven_time, given_bits}
 use Rattle.link_laws.proofs.Shakes.{target_row, initiator_row}
 use Rattle.link_laws.proofs.StageDues.{selected_target, selected_initiator, settling_target, settling_initiator, handing_initiator, turning_target, turned_initiator, owing_initiator, offering_target, offering_initiator, answered_target, answered_initiator_in, answered_initiator_out, asking_target, asking_initiator_in, asking_initiator_out, giving_initiator_out, ending_target, ending_initiator_in, ending_initiator_out, ack_end_time, between_target, between_initiator_in, between_initiator_out}
+use Rattle.trace_laws.proofs.Impossible.{wrong}
 
 -- The phase is one of data by pulses.
 abbrev pub is_pulsed : List Row → EndLines → Bool
@@ -80,7 +81,7 @@ pub data LinkRow (s : ScenarioValue) (p : List Row) (n : Connection) (row : Row)
   changes_pulsed : (ack atn : Bool) (y z : ℕ) → Linked p n (ends false ack atn 0 false false true false y) → begun p ≡ true → is_unasked p ≡ false → is_pulsed p (ends false ack atn 0 false false true false y) ≡ true → row ≡ target_row row.time n (ends false ack atn 0 false false true false z) → LinkRow s p n row
   asks_pulse : (io ack atn : Bool) (x y : ℕ) → Linked p n (ends false ack atn x false false io false y) → begun p ≡ true → is_unasked p ≡ false → is_pulsed p (ends false ack atn x false false io false y) ≡ true → (io ≡ true → x ≡ 0) → (io ≡ true → y ≡ byte_bits (offering_with s p n true (ends false ack atn x false false io false y)).byte) → row ≡ target_row row.time n (ends false ack atn x false false io true y) → LinkRow s p n row
 
-row_at : (row : Row) (d time : ℕ) (l : LineSet) → row.dev ≡ d → due_at time l ≡ Some (due_of row) → row ≡ row_of_lines row.time d l
+pub row_at : (row : Row) (d time : ℕ) (l : LineSet) → row.dev ≡ d → due_at time l ≡ Some (due_of row) → row ≡ row_of_lines row.time d l
 row_at row d time l same e = let z = is_at time l (due_of row) e in λ i. record { time = row.time; dev = same i; kind = z.kind_is i }
 
 none_device : (o : Option ℕ) (d : ℕ) → o ≡ None → is_of_device o d ≡ true → ⊥
@@ -128,9 +129,6 @@ of_offering s p row n atn msg cd y h (by_target lat there same e) =
 
 -- ---- byte by byte
 
-unlike : true ≡ false → ⊥
-unlike e = cc
-
 between : (s : ScenarioValue) (p : List Row) (row : Row) (n : Connection) (msg cd io atn : Bool) (y lat : ℕ) → Shaking p n msg cd io false false atn 0 y → row.dev ≡ n.target → target_plain s p n true (ends false false atn 0 msg cd io false y) lat ≡ Some (due_of row) → LinkRow s p n row
 between s p row n msg cd io atn y lat h same e = go (offering_with s p n true (ends false false atn 0 msg cd io false y)).follows refl (sym (between_target s p n msg cd io atn 0 y lat h) ∙ e)
   where
@@ -140,7 +138,7 @@ between s p row n msg cd io atn y lat h same e = go (offering_with s p n true (e
         asks_next atn msg cd io y h.linked h.phase.begun_is h.asked h.unpulsed f
         (row_at row n.target ((if io then max (line_times p).ack (own_time p n.target + 55) else (line_times p).ack) + lat) (target_side (ends false false atn 0 msg cd io true y)) same e)
     go false f e =
-        leaves atn msg cd io 0 y h.linked h.phase.begun_is h.phase.known h.asked (λ z. refl, λ z. absurd (unlike (sym z ∙ h.unpulsed))) f
+        leaves atn msg cd io 0 y h.linked h.phase.begun_is h.phase.known h.asked (λ z. refl, λ z. absurd (wrong (sym z ∙ h.unpulsed))) f
         (row_at row n.target ((line_times p).ack + lat + (offering_with s p n true (ends false false atn 0 msg cd io false y)).wait) (offering_with s p n true (ends false false atn 0 msg cd io false y)).to same e)
 
 answered : (s : ScenarioValue) (p : List Row) (row : Row) (n : Connection) (msg cd io atn : Bool) (x y lat : ℕ) → Shaking p n msg cd io true true atn x y → row.dev ≡ n.target → target_plain s p n true (ends false true atn x msg cd io true y) lat ≡ Some (due_of row) → LinkRow s p n row
@@ -189,16 +187,13 @@ of_shaking_out s p row n msg cd false false atn x h (by_target lat there same e)
 
 -- ---- by pulses
 
-or_parts : (a b : Bool) → (not a || b) ≡ false → (a ≡ true) × (b ≡ false)
+pub or_parts : (a b : Bool) → (not a || b) ≡ false → (a ≡ true) × (b ≡ false)
 or_parts true b e = (refl, e)
 or_parts false b e = absurd cc
 
-is_same : (a b : ℕ) → (a == b) ≡ true → a ≡ b
-is_same a b e = grind (arith, nat_tests)
-
 none_waits : (waiting : List Request) → (length waiting == 0) ≡ true → waiting ≡ []
 none_waits [] e = refl
-none_waits (r ∷ waiting) e = let u = is_same (length (r ∷ waiting)) 0 e in absurd (omega arith)
+none_waits (r ∷ waiting) e = let u = number_is (length (r ∷ waiting)) 0 e in absurd (omega arith)
 
 -- Whether a byte follows, by the length of the run.
 follows_pulsed_in : (s : ScenarioValue) (p : List Row) (n : Connection) (ack atn : Bool) (x y : ℕ) → nat_lt 0 (offset_here p) ≡ true → (offering_with s p n true (ends false ack atn x false false true false y)).follows ≡ nat_lt (handshakes p).requests (run_count s p n)
@@ -240,7 +235,7 @@ target_in s p row n false ack atn y lat h same e = changes (y == next_bits s p n
     changes false z e =
         changes_pulsed ack atn y (next_bits s p n) h.linked h.phase.begun_is h.facts.asked h.offset
         (row_at row n.target (hold_end_time p lat) (target_side (ends false ack atn 0 false false true false (next_bits s p n))) same e)
-    changes true z e = follows (nat_lt (handshakes p).requests (run_count s p n)) refl (is_same y (next_bits s p n) z) e
+    changes true z e = follows (nat_lt (handshakes p).requests (run_count s p n)) refl (number_is y (next_bits s p n) z) e
 
 target_out : (s : ScenarioValue) (p : List Row) (row : Row) (n : Connection) (req ack atn : Bool) (x lat : ℕ) → Pulsing s p n false req ack atn x 0 → row.dev ≡ n.target → target_plain s p n true (ends false ack atn x false false false req 0) lat ≡ Some (due_of row) → LinkRow s p n row
 target_out s p row n true ack atn x lat h same e =
@@ -294,7 +289,7 @@ initiator_out s p row n req false atn x lat h same e = go (length (handshakes p)
 
     waits : (q : Bool) → (x == given) ≡ q → (if q then due_at (max (answer_time s p n) (byte_driven_time p n lat + (times_here p).set_up) + lat) (initiator_side (ends false true atn x false false false req 0)) else due_at (byte_driven_time p n lat) (initiator_side (ends false false atn given false false false req 0))) ≡ Some (due_of row) → LinkRow s p n row
     waits true z e =
-        sends_pulse req atn x h.linked h.phase.begun_is h.offset (is_same x given z)
+        sends_pulse req atn x h.linked h.phase.begun_is h.offset (number_is x given z)
         (row_at row n.initiator (max (answer_time s p n) (byte_driven_time p n lat + (times_here p).set_up) + lat) (initiator_side (ends false true atn x false false false req 0)) same e)
     waits false z e =
         drives_pulsed req atn x given h.linked h.phase.begun_is h.offset

@@ -28,17 +28,16 @@ use Rattle.bus_books.proofs.CarriedBlocks.{block_own}
 use Rattle.bus_books.proofs.Opened.{opening_named}
 use Rattle.bus_books.proofs.Reactions.{out_over, command_over}
 use Rattle.bus_laws.specs.Ends.{EndLines, Linked}
+use Rattle.bus_laws.proofs.Tests.{or_true}
 use Rattle.link_laws.specs.LinkStages.{LinkStage, when_selected, when_settling, when_turning, when_offering, when_shaking, when_pulsing}
 use Rattle.link_laws.specs.Phases.{ends}
 use Rattle.trace_laws.proofs.Blocks.{HasCommands}
-use Rattle.trace_laws.proofs.CommandTurns.{out_lines}
 use Rattle.trace_laws.proofs.ConnectionRows.{stage_of_connection}
-use Rattle.trace_laws.proofs.Driven.{no_third, wrong, wrong'}
+use Rattle.trace_laws.proofs.Driven.{no_third}
+use Rattle.trace_laws.proofs.Impossible.{wrong, wrong'}
 use Rattle.trace_laws.proofs.Joint.{Stood, link_phase}
-
-or_true : (q : Bool) → (q || true) ≡ true
-or_true true = refl
-or_true false = refl
+use Rattle.trace_laws.proofs.PhaseLines.{out_lines}
+use Rattle.trace_laws.proofs.Tests.{implication}
 
 -- ---- the lines
 
@@ -137,10 +136,6 @@ said_over s p n u gr was con calm m = go (phase_of (bus_of k)) refl
     go phases.DataIn e = refl
     go phases.DataOut e = refl
 
-implied : (a b : Bool) → (a ≡ true → b ≡ true) → (not a || b) ≡ true
-implied true b f = f refl
-implied false b f = refl
-
 pub said_at : (s : ScenarioValue) (p : List Row) (n : Connection) → AreUnits s → HasCommands s → Stood s p → connection p ≡ Some n → (bus p).rst ≡ false → n.target < 8 → is_said s (run_state s p) n ≡ true
 said_at s p n u gr was con calm lt =
-    implied (may_leave s (run_state s p) n) _ (λ e. said_over s p n u gr was con calm (leaves_at s p n was con calm lt e))
+    implication (may_leave s (run_state s p) n) _ (λ e. said_over s p n u gr was con calm (leaves_at s p n was con calm lt e))

@@ -1,6 +1,6 @@
 -- After a reselection the initiator knows the process, or its names are said, after any rows of a prompt trace; so it knows it as another
 -- phase begins (6.1.4, 6.6.7).
-use Rattle.std.proofs.Common.{ℕ, ◌≡◌, ◌<◌, ◌≤◌, Bool, true, false, not, ◌&&◌, ◌||◌, ◌==◌, ◌∙◌, List, [], ◌∷◌, length, length-append, Option, Some, None, refl, sym, ap, subst, arith}
+use Rattle.std.proofs.Common.{ℕ, ◌≡◌, ◌<◌, ◌≤◌, Bool, true, false, not, ◌&&◌, ◌==◌, ◌∙◌, List, [], ◌∷◌, length, length-append, Option, Some, None, refl, sym, ap, subst, arith}
 use Rattle.std.specs.Prelude.{if◌then◌else◌, is_some, nat_lt}
 use Rattle.std.proofs.lemmas.Bool.Decides.{nat_tests}
 use Rattle.std.proofs.lemmas.Option.{same_Some}
@@ -38,26 +38,25 @@ use Rattle.bus_due.proofs.Plains.{run_state_plain}
 use Rattle.bus_books.specs.Giving.{Gives}
 use Rattle.bus_books.specs.Hearing.{is_in_phase, is_out_phase}
 use Rattle.bus_books.specs.Reactions.{IsOver}
-use Rattle.bus_books.specs.Traces.{Begins, RowOf, apart as row_apart, begins, goes_on as row_goes_on, ends as row_ends, under_reset}
+use Rattle.bus_books.specs.Traces.{Begins}
 use Rattle.bus_laws.specs.Ends.{BeginsConnection, by_selection, by_reselection}
 use Rattle.bus_laws.proofs.Apart.{change_plain}
 use Rattle.bus_laws.proofs.Prompt.{least_is}
+use Rattle.bus_laws.proofs.Tests.{or_true}
 use Rattle.link_laws.specs.LinkStages.{AnyStage, apart, linked}
 use Rattle.trace_laws.specs.Named.{AreFound, IsFoundBy, Names, all, known, said, refused, Named, NamedFacts}
 use Rattle.trace_laws.specs.Offers.{OfferFacts}
 use Rattle.trace_laws.proofs.Called.{link_none}
 use Rattle.trace_laws.proofs.ConnectionRows.{connection_row, going_row, stage_of_connection, RowKindOf, begins_now, goes_now, row_kind}
 use Rattle.trace_laws.proofs.Crossings.{RowFacts, stays, ends_here}
-use Rattle.trace_laws.proofs.Driven.{wrong, wrong'}
 use Rattle.trace_laws.proofs.FirstRows.{IsFirst}
+use Rattle.trace_laws.proofs.Impossible.{none_some, wrong, wrong'}
+use Rattle.trace_laws.proofs.ItemFacts.{beginning}
 use Rattle.trace_laws.proofs.Joint.{Stood, NextStood, link_connection, link_phase}
 use Rattle.trace_laws.proofs.NamedBytes.{names_some}
 use Rattle.trace_laws.proofs.NamedFirst.{found_by, first_sent, first_link}
 use Rattle.trace_laws.proofs.NamedTurns.{named_on}
-use Rattle.trace_laws.proofs.OfferTurns.{message_in_phase, message_out_phase}
-
-none_some : (n : Connection) → (let a : Option Connection = None in a) ≡ Some n → ⊥
-none_some n e = absurd cc
+use Rattle.trace_laws.proofs.PhaseLines.{is_data_out, in_phase, out_phase}
 
 -- ---- before any row
 
@@ -65,13 +64,6 @@ pub named_start : (s : ScenarioValue) → NamedFacts s []
 named_start s n e calm = absurd (none_some n e)
 
 -- ---- a reselection begins
-
-begins_of : (s : ScenarioValue) (k : RunState) (row : Row) (n : Connection) → k.story.bus_state.connection ≡ None → (row_reading k.story.bus_state row).next ≡ Some n → (row_reading k.story.bus_state row).change.after.rst ≡ false → RowOf s k row → Begins s k row n
-begins_of s k row n con next calm (row_apart e f) = absurd (none_some n (sym f ∙ next))
-begins_of s k row n con next calm (begins m b) = subst (λ (x : Connection). Begins s k row x) (same_Some m n (sym b.first.next_is ∙ next)) b
-begins_of s k row n con next calm (row_goes_on m c g) = absurd (none_some m (sym con ∙ g.row_is.connection_is))
-begins_of s k row n con next calm (row_ends m g) = absurd (none_some m (sym con ∙ g.connection_is))
-begins_of s k row n con next calm (under_reset r e) = wrong (sym r ∙ calm)
 
 zero_bytes : {A : Type 0} (n m : ℕ) → 0 < n → m ≡ 0 → m ≡ n → A
 zero_bytes n m lt z e = absurd (omega arith)
@@ -98,7 +90,7 @@ named_first s p row n dv lt was next alone e calm re f found = go f.begins
     begun_with = (λ i. connection_after (old.connection i) (old.call i) (change_plain s row p dv lt i) row) ∙ e
 
     b : Begins s k row n
-    b = begins_of s k row n con begun_with (ap (λ (x : Change). x.after.rst) (change_plain s row p dv lt) ∙ calm) next.row_is
+    b = beginning s k row n con begun_with (ap (λ (x : Change). x.after.rst) (change_plain s row p dv lt) ∙ calm) next.row_is
 
     no_link : k.story.link ≡ None
     no_link = by was.here
@@ -174,10 +166,6 @@ named_next s p row o prompt was next offers found h n after calm re = go (row_ki
 
 -- ---- what is asked of a row
 
-or_true : (a : Bool) → (a || true) ≡ true
-or_true true = refl
-or_true false = refl
-
 both_counts : (n m : ℕ) → nat_lt n m ≡ false → n ≤ m → n ≡ m
 both_counts n m e h = grind (arith, nat_tests)
 
@@ -196,7 +184,7 @@ all_given s k n gv b m a over = both_counts k.handshakes.requests (length (bytes
     none =
         sym
         ((λ i. follows_by (serving_of s k n.target) (b i && no_data i && nat_lt 0 (agreement_of k).offset) (bus_of k) k.handshakes)
-        ∙ (λ i. follows_in (serving_of s k n.target) k.handshakes (a i) (message_in_phase (bus_of k) m i))
+        ∙ (λ i. follows_in (serving_of s k n.target) k.handshakes (a i) (in_phase (bus_of k) m i))
         ∙ ap (λ (q : Bool). q && nat_lt k.handshakes.requests (length (bytes_of_messages k.exchange.plan.messages))) (or_true (k.handshakes.requests == 0)))
         ∙ over.follows
 
@@ -229,14 +217,10 @@ named_asks s p row n o prompt was h con off calm turning re out into = go (h n c
     go : Named s k n → is_some (item_of k.story.link) ≡ true
     go (known l e i q) = ap (λ (x : Option Link). is_some (item_of x)) e ∙ i
     go (said pr l nm m names heard) =
-        let quiet : (bus_of k).atn ≡ false = sym (ap (λ (z : Phase). is_in_phase z && (bus_of k).atn) (message_in_phase (bus_of k) m)) ∙ into in
+        let quiet : (bus_of k).atn ≡ false = sym (ap (λ (z : Phase). is_in_phase z && (bus_of k).atn) (in_phase (bus_of k) m)) ∙ into in
         let gives = was.books.gives n (pl.connection ∙ con) (ap (λ (z : LineSet). z.rst) pl.bus ∙ off) in
         ap (λ (x : Option Link). is_some (item_of x)) nm.link_is ∙ heard (all_given s k n gives nm.begun_is m quiet (over nm.begun_is (connection_row s p row n o prompt was con off calm).facts))
-    go (refused pr l nm m cause names) = wrong (sym (ap is_out_phase (message_out_phase (bus_of k) m)) ∙ out)
-
-abbrev is_data_out : Phase → Bool
-is_data_out phases.DataOut = true
-is_data_out _ = false
+    go (refused pr l nm m cause names) = wrong (sym (ap is_out_phase (out_phase (bus_of k) m)) ∙ out)
 
 -- In DATA OUT it knows it.
 pub named_at_run : (s : ScenarioValue) (p : List Row) (n : Connection) → NamedFacts s p → connection p ≡ Some n → (bus p).rst ≡ false → phase_of (bus_of (run_state s p)) ≡ phases.DataOut → n.reselected ≡ true → is_some (item_of (run_state s p).story.link) ≡ true
@@ -247,5 +231,5 @@ named_at_run s p n h con off here re = go (h n con off re)
 
     go : Named s k n → is_some (item_of k.story.link) ≡ true
     go (known l e i q) = ap (λ (x : Option Link). is_some (item_of x)) e ∙ i
-    go (said pr l nm m names heard) = wrong' (sym (ap is_data_out (message_in_phase (bus_of k) m)) ∙ ap is_data_out here)
-    go (refused pr l nm m cause names) = wrong' (sym (ap is_data_out (message_out_phase (bus_of k) m)) ∙ ap is_data_out here)
+    go (said pr l nm m names heard) = wrong' (sym (ap is_data_out (in_phase (bus_of k) m)) ∙ ap is_data_out here)
+    go (refused pr l nm m cause names) = wrong' (sym (ap is_data_out (out_phase (bus_of k) m)) ∙ ap is_data_out here)

@@ -20,7 +20,7 @@ use Rattle.bus_dialogue.specs.Words.{naming_messages, tag_named, is_name, is_nam
 use Rattle.bus_books.specs.Giving.{AreGiven, OnMessages}
 use Rattle.bus_books.specs.Listening.{half_after}
 use Rattle.trace_laws.specs.Named.{IsFoundBy, Names, all, tag_alone}
-use Rattle.trace_laws.proofs.Driven.{wrong}
+use Rattle.trace_laws.proofs.Impossible.{none_some, wrong}
 use Rattle.trace_laws.proofs.NamedStory.{after_name}
 use Rattle.trace_laws.proofs.OneMessages.{take_front}
 
@@ -123,9 +123,6 @@ or_message x (Some y) = y
 
 fits_name : (p : Process) (messages : Messages) → messages ≡ naming_messages p → OnMessages FitsIn messages → p.unit < 8
 fits_name p messages e h = (subst (λ (m : Messages). OnMessages FitsIn m) e h).0
-
-none_some : (m : MsgIn) → (let a : Option MsgIn = None in a) ≡ Some m → ⊥
-none_some m e = absurd cc
 
 pub names_on : (s : ScenarioValue) (sent : Sent) (l : Link) (undo : Option CarriedBytes) (n : Connection) (p : Process) (messages : Messages) (half : List ℕ) (count byte : ℕ) → OnMessages FitsIn messages → AreGiven (bytes_of_messages messages) half count → byte ≡ slice_index_or (bytes_of_messages messages) count 0 → count < length (bytes_of_messages messages) → l.initiator ≡ n.initiator → l.target ≡ n.target → IsFoundBy s n sent p → Names p l messages count
     → NamesOn p (after_name s sent l undo (whole_in (got_in (half ++ byte ∷ [])))) messages (count + 1)

@@ -23,18 +23,15 @@ use Rattle.bus_books.specs.Rows.{IsFirstRow}
 use Rattle.bus_books.proofs.Knows.{events_link}
 use Rattle.bus_books.proofs.Lists.{eq_self}
 use Rattle.trace_laws.specs.Named.{IsFoundBy}
-use Rattle.trace_laws.proofs.Driven.{wrong'}
+use Rattle.trace_laws.proofs.Impossible.{none_some, wrong'}
 
 -- ---- a command that is open is found by its nexus
-
-none_command : (c : CmdDef) → (let a : Option CmdDef = None in a) ≡ Some c → ⊥
-none_command c e = absurd cc
 
 plus_one : (n j : ℕ) → n + suc j ≡ n + 1 + j
 plus_one n j = omega arith
 
 is_found : (b : Sent) (i t u : ℕ) (tag : Option ℕ) (n j : ℕ) (c : CmdDef) (commands : List CmdDef) → command_at commands (suc j) ≡ Some c → is_of_nexus c i t u ≡ true → is_open b (n + j) ≡ true → same_number (tag_number_if c.tag) tag ≡ true → is_some (named_item_from b i t u tag n commands) ≡ true
-is_found b i t u tag n j c [] e nexus open_is same = absurd (none_command c e)
+is_found b i t u tag n j c [] e nexus open_is same = absurd (none_some c e)
 is_found b i t u tag n zero c (d ∷ commands) e nexus open_is same =
     let first : d ≡ c = same_Some d c e in
     ap (λ (q : Bool). is_some (if q then Some (command_item n) else if is_of_nexus d i t u && is_open_sense b n && same_number None tag then Some (sense_item n) else named_item_from b i t u tag (n + 1) commands))
@@ -106,7 +103,7 @@ found_by s b n p e command sent over ei et l li lt lu = by p.id.command refl
     zero_none (x ∷ commands) = refl
 
     by : (m : ℕ) → p.id.command ≡ m → is_some (named_item b s.commands l (tag_number_if p.tag)) ≡ true
-    by zero z = absurd (none_command c.line (sym (zero_none s.commands) ∙ ap (command_at s.commands) (sym z) ∙ c.line_is))
+    by zero z = absurd (none_some c.line (sym (zero_none s.commands) ∙ ap (command_at s.commands) (sym z) ∙ c.line_is))
     by (suc j) z = is_found b l.initiator l.target l.unit (tag_number_if p.tag) 1 j c.line s.commands (ap (command_at s.commands) (sym z) ∙ c.line_is) nexus (ap (is_open b) (one_more j ∙ sym z) ∙ is_open_there) tag
 
 -- ---- the first row

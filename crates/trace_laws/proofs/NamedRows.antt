@@ -23,7 +23,6 @@ use Rattle.bus_story.specs.Items.{Item, Sent}
 use Rattle.bus_story.specs.Links.{Link, last_out}
 use Rattle.bus_dialogue.specs.declared.exchange.Hearing.{Hearing}
 use Rattle.bus_dialogue.specs.declared.exchange.Messages.{Messages}
-use Rattle.bus_dialogue.specs.declared.exchange.Phase.{Phase}
 use Rattle.bus_dialogue.specs.declared.exchange.Phase.TheVariants as phases
 use Rattle.bus_dialogue.specs.declared.exchange.Plan.{Plan}
 use Rattle.bus_dialogue.specs.Exchange.{Exchange, plan_anew, plan_after_message, request_after, speech_after_byte, speech_after_request}
@@ -33,6 +32,7 @@ use Rattle.bus_due.specs.Defs.{host_of}
 use Rattle.bus_due.specs.RunState.{RunState}
 use Rattle.bus_due.specs.Sights.{hearing_of, leaving}
 use Rattle.bus_books.specs.Giving.{OnMessage, OnMessages, Gives}
+use Rattle.bus_books.specs.Hearing.{is_in_phase}
 use Rattle.bus_books.specs.Knowing.{IsNoName}
 use Rattle.bus_books.specs.Rows.{reading_in}
 use Rattle.bus_books.specs.Traces.{GoesOn}
@@ -40,12 +40,13 @@ use Rattle.bus_books.proofs.Gives.{byte_messages, in_io}
 use Rattle.bus_books.proofs.Hearable.{heard_next}
 use Rattle.bus_books.proofs.InConnection.{exchange_by, same_phase_is}
 use Rattle.trace_laws.specs.Named.{Names, all, tag_alone, NamedBy, known, said, refused}
+use Rattle.trace_laws.proofs.Impossible.{wrong'}
 use Rattle.trace_laws.proofs.NamedBytes.{names_on, names_of_link}
 use Rattle.trace_laws.proofs.NamedSteps.{named_as, naming_as, byte_item, name_ends, IsNoEnd, name_last, out_last}
 use Rattle.trace_laws.proofs.NamedStory.{after_name, after_byte, link_by}
 use Rattle.trace_laws.proofs.OfferBytes.{heard_byte}
-use Rattle.trace_laws.proofs.Driven.{wrong'}
-use Rattle.trace_laws.proofs.OfferRows.{in_same, out_same, not_both, few_messages, request_rises}
+use Rattle.trace_laws.proofs.OfferRows.{in_same, out_same, few_messages, request_rises}
+use Rattle.trace_laws.proofs.PhaseLines.{out_in, in_out}
 
 -- ---- names end no command
 
@@ -61,28 +62,10 @@ names_no_end p l messages count (tag_alone m em es u) = subst (λ (x : Messages)
 
 -- ---- lines
 
-out_in : (b : LineSet) → is_message_in b ≡ true → is_message_out b ≡ false
-out_in b e = go (is_message_out b) refl
-  where
-    go : (q : Bool) → is_message_out b ≡ q → is_message_out b ≡ false
-    go true f = absurd (not_both b f e)
-    go false f = f
-
-in_out : (b : LineSet) → is_message_out b ≡ true → is_message_in b ≡ false
-in_out b e = go (is_message_in b) refl
-  where
-    go : (q : Bool) → is_message_in b ≡ q → is_message_in b ≡ false
-    go true f = absurd (not_both b e f)
-    go false f = f
-
-abbrev pub is_in : Phase → Bool
-is_in phases.MessageIn = true
-is_in _ = false
-
-pub in_lines : (b : LineSet) → (b.msg ≡ true → b.cd ≡ true) → is_in (phase_of b) ≡ true → is_message_in b ≡ true
+pub in_lines : (b : LineSet) → (b.msg ≡ true → b.cd ≡ true) → is_in_phase (phase_of b) ≡ true → is_message_in b ≡ true
 in_lines b h e = go b.msg b.cd b.io h e
   where
-    go : (m c i : Bool) → (m ≡ true → c ≡ true) → is_in (if m then (if i then phases.MessageIn else phases.MessageOut) else if c then (if i then phases.Status else phases.Command) else if i then phases.DataIn else phases.DataOut) ≡ true → (m && c && i) ≡ true
+    go : (m c i : Bool) → (m ≡ true → c ≡ true) → is_in_phase (if m then (if i then phases.MessageIn else phases.MessageOut) else if c then (if i then phases.Status else phases.Command) else if i then phases.DataIn else phases.DataOut) ≡ true → (m && c && i) ≡ true
     go true true true h z = refl
     go true true false h z = wrong' z
     go true false i h z = wrong' (h refl)

@@ -21,9 +21,9 @@ use Rattle.bus_books.specs.Knowing.{IsNoName}
 use Rattle.bus_books.proofs.Gives.{in_io}
 use Rattle.bus_books.proofs.InConnection.{SamePhase}
 use Rattle.trace_laws.specs.Named.{IsFoundBy, Names, IsNaming, NamedBy, known, said, refused}
+use Rattle.trace_laws.proofs.Impossible.{wrong}
 use Rattle.trace_laws.proofs.NamedStory.{after_name, after_byte}
-use Rattle.trace_laws.proofs.Driven.{wrong}
-use Rattle.trace_laws.proofs.OfferRows.{in_same, out_same}
+use Rattle.trace_laws.proofs.OfferRows.{in_same, out_same, struck}
 
 -- ---- what is kept is known otherwise
 
@@ -55,9 +55,6 @@ named_still s n b b' o o' x h h' v v' same eo eb count (said p l k m names heard
     said p l (naming_as s n b b' o' p l l x x o (eb l k.link_is k.last) (eo ∙ k.link_is) refl refl k.last k.before k.begun_is refl k) (in_same v v' same ∙ m) (subst (λ (z : ℕ). Names p l x.plan.messages z) (sym c) names) (λ z. heard (sym c ∙ z))
 named_still s n b b' o o' x h h' v v' same eo eb count (refused p l k m c names) =
     refused p l (naming_as s n b b' o' p l l x x o (eb l k.link_is k.last) (eo ∙ k.link_is) refl refl k.last k.before k.begun_is refl k) (out_same v v' same ∙ m) c names
-
-abbrev struck : Exchange → Exchange
-struck x = record x { plan = struck_plan x.plan }
 
 pub named_struck : (s : ScenarioValue) (n : Connection) (b : Sent) (o : Option Link) (x : Exchange) (h : Handshakes) (v : LineSet) (io : Bool) → NamedBy s n b o x h v → NamedBy s n b o (record { begun = x.begun; speech = x.speech; plan = if true && not io then struck_plan x.plan else x.plan }) h v
 named_struck s n b o x h v true k = k

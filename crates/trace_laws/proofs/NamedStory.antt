@@ -20,7 +20,7 @@ use Rattle.disk_array.specs.ArrayHistory.{array_after}
 use Rattle.bus_story.specs.BusState.{RowReading, message_in, message_out}
 use Rattle.bus_story.specs.CarriedBytes.{CarriedBytes, is_whole_block, is_status_phase}
 use Rattle.bus_story.specs.HistoryEvents.{carried_if, queue_events, status_event, status_events, phase_events, is_complete, is_completion, is_refuse, end_events, connection_events, link_events, row_events_by}
-use Rattle.bus_story.specs.Items.{Item, process, abort, Sent}
+use Rattle.bus_story.specs.Items.{Item, Sent}
 use Rattle.bus_story.specs.Links.{Link, last_out, last_in, link_after_name}
 use Rattle.bus_story.specs.Story.{Story, story_after_event, story_after_events}
 use Rattle.bus_story.specs.TraceHistory.{story_with_carried, story_with_restored, is_parity_error, story_after_out, carried_after_message_if, story_after_in, carried_after_byte_if, story_after_byte, carried_after_fault_if, story_after_fault, story_in_connection, story_on_bus, story_by_change}
@@ -29,7 +29,8 @@ use Rattle.bus_due.specs.RunSteps.{run_state_after}
 use Rattle.bus_books.specs.Rows.{IsRowIn, reading_in}
 use Rattle.bus_books.proofs.InConnection.{reading_is}
 use Rattle.bus_books.proofs.Knows.{link_after}
-use Rattle.trace_laws.proofs.Driven.{wrong'}
+use Rattle.trace_laws.proofs.Impossible.{wrong'}
+use Rattle.trace_laws.proofs.RowItems.{restored_sent, is_quiet_event}
 
 -- ---- the link
 
@@ -53,14 +54,6 @@ pub record SameSent (a b : Story) : Type 0 where
 carried_same : (b : Story) (c : Option CarriedBytes) → SameSent (story_with_carried b c) b
 carried_same b None = record { link = refl; sent = refl }
 carried_same b (Some c) = record { link = refl; sent = refl }
-
-restored_sent : (b : Story) (item : Option Item) → (story_with_restored b item).sent ≡ b.sent
-restored_sent b None = refl
-restored_sent b (Some item) = go item
-  where
-    go : (item : Item) → (story_with_restored b (Some item)).sent ≡ b.sent
-    go (process id) = refl
-    go (abort n) = refl
 
 fault_same : (b : Story) (l : Link) (kind : Kind) → SameSent (story_after_fault b l kind) b
 fault_same b l (Drives lines) = record { link = refl; sent = refl }
@@ -101,18 +94,11 @@ link_on s b l d row e = go d.crosses d.out d.into
 
 -- ---- events
 
-abbrev is_early : Event → Bool
-is_early (events.Accept id) = true
-is_early (events.Refuse id) = true
-is_early (events.Run id) = true
-is_early (events.Fail id code) = true
-is_early _ = false
-
 abbrev AreEarly : List Event → Type 0
 AreEarly [] = ⊤
-AreEarly (e ∷ shown) = (is_early e ≡ true) × AreEarly shown
+AreEarly (e ∷ shown) = (is_quiet_event e ≡ true) × AreEarly shown
 
-early_sent : (s : ScenarioValue) (b : Story) (e : Event) → is_early e ≡ true → (story_after_event s b e).sent ≡ b.sent
+early_sent : (s : ScenarioValue) (b : Story) (e : Event) → is_quiet_event e ≡ true → (story_after_event s b e).sent ≡ b.sent
 early_sent s b (events.Accept id) z = refl
 early_sent s b (events.Refuse id) z = refl
 early_sent s b (events.Run id) z = refl

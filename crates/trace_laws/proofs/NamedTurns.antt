@@ -38,6 +38,7 @@ use Rattle.bus_due.specs.RunState.{RunState, bus_of}
 use Rattle.bus_due.specs.RunSteps.{run_state_after}
 use Rattle.bus_due.specs.Sights.{serving_of, hearing_of, leaving}
 use Rattle.bus_books.specs.Giving.{OnMessages, Gives}
+use Rattle.bus_books.specs.Hearing.{is_in_phase}
 use Rattle.bus_books.specs.Knowing.{IsNoName}
 use Rattle.bus_books.specs.Rows.{RowKind, still, strikes, crosses, turns, IsRowIn, reading_in}
 use Rattle.bus_books.specs.Speaking.{Speaks}
@@ -47,14 +48,16 @@ use Rattle.bus_books.proofs.InConnection.{InConnection, in_connection, exchange_
 use Rattle.bus_books.proofs.Leavings.{IsOfOthers, left_messages}
 use Rattle.trace_laws.specs.Named.{Names, IsNaming, NamedBy, known, said, refused, Named}
 use Rattle.trace_laws.specs.Offers.{is_detected, IsHeardOut, opens, repeats, answers_it, detects, Offers}
+use Rattle.trace_laws.proofs.CommandTurns.{is_command_next}
+use Rattle.trace_laws.proofs.Impossible.{wrong, wrong'}
 use Rattle.trace_laws.proofs.NamedBytes.{names_some, names_first, names_left}
-use Rattle.trace_laws.proofs.NamedRows.{is_in, in_lines, crosses_on}
+use Rattle.trace_laws.proofs.NamedRows.{in_lines, crosses_on}
 use Rattle.trace_laws.proofs.NamedSteps.{named_as, naming_as, named_still, named_struck}
 use Rattle.trace_laws.proofs.NamedStory.{link_is_after, sent_is_after}
-use Rattle.trace_laws.proofs.OfferLeavings.{is_out, attends, all_said, parity_said}
-use Rattle.trace_laws.proofs.Driven.{wrong, wrong'}
+use Rattle.trace_laws.proofs.OfferLeavings.{attends, all_said, parity_said}
 use Rattle.trace_laws.proofs.OfferSteps.{left_is}
-use Rattle.trace_laws.proofs.OfferTurns.{out_phase, message_out_phase, message_in_phase, entering, asking}
+use Rattle.trace_laws.proofs.OfferTurns.{out_by_phase, entering, asking, goes_out}
+use Rattle.trace_laws.proofs.PhaseLines.{in_phase, out_phase}
 
 -- ---- no names
 
@@ -96,11 +99,7 @@ refusal_is : (v : Serving) → v.plan.said.offer ≡ None → is_naming v.plan.m
 refusal_is v e f =
     (λ i. if is_some (e i) then phase_entry phases.Command else if f i then message_repetition v.plan else with_task v.task (λ t. recovery v.def t (message_repetition v.plan) bus_free))
 
-abbrev is_command_next : Next → Bool
-is_command_next nexts.Command = true
-is_command_next _ = false
-
-abbrev is_message_cause : Cause → Bool
+abbrev pub is_message_cause : Cause → Bool
 is_message_cause causes.InMessage = true
 is_message_cause _ = false
 
@@ -115,11 +114,7 @@ no_offer s k n sp m b last (detects e one q) c next = wrong' (sym (ap is_detecte
 
 abbrev goes_in : Option Phase → Bool
 goes_in None = false
-goes_in (Some p) = is_in p
-
-abbrev goes_out : Option Phase → Bool
-goes_out None = false
-goes_out (Some p) = is_out p
+goes_in (Some p) = is_in_phase p
 
 zero_bytes : {A : Type 0} (n : ℕ) → 0 < n → 0 ≡ n → A
 zero_bytes n lt e = absurd (omega arith)
@@ -156,16 +151,16 @@ turns_on s k row n c b' o' g there sp gv of ep whereto eb eo h = go h
 
     -- MESSAGE IN is left
     left_in : k.exchange.begun ≡ true → is_message_in c.before ≡ true → l ≡ phase_leaving (serving_of s k n.target) c.before.atn phases.MessageIn
-    left_in f m = left_is s k n c on f ∙ ap (λ (p : Phase). phase_leaving (serving_of s k n.target) c.before.atn p) (message_in_phase c.before m)
+    left_in f m = left_is s k n c on f ∙ ap (λ (p : Phase). phase_leaving (serving_of s k n.target) c.before.atn p) (in_phase c.before m)
 
     refuses : (p : Process) (x : Link) → IsNaming s n k.story.sent k.story.link p x k.exchange → is_message_in c.before ≡ true → Names p x k.exchange.plan.messages k.handshakes.requests → c.before.atn ≡ true → NamedBy s n b' o' (exchange_by true false false host w l k.exchange) no_handshakes c.after
     refuses p x nm m names a =
         let f = nm.begun_is in
         let e : is_message_out c.after ≡ true =
-        sym (out_phase c.after there)
+        sym (out_by_phase c.after there)
         ∙ ap goes_out (sym (whereto f) ∙ ap (λ (z : Leaving). z.to) (left_in f m) ∙ ap (λ (q : Bool). (phase_leaving (serving_of s k n.target) q phases.MessageIn).to) a) in
         let lv = g.leaves turning in
-        let some = lv.some (ap phase_of on ∙ message_in_phase c.before m) in
+        let some = lv.some (ap phase_of on ∙ in_phase c.before m) in
         let given = gv.in_message_in f (ap is_message_in on ∙ m) in
         let within : k.handshakes.requests ≤ length (bytes_of_messages k.exchange.plan.messages) =
         let all_bytes = ap (λ (z : List ℕ). length z) given.bytes_are in
@@ -185,13 +180,13 @@ turns_on s k row n c b' o' g there sp gv of ep whereto eb eo h = go h
     hears p x nm m heard a =
         let f = nm.begun_is in
         let lv = g.leaves turning in
-        let all_given = lv.given (ap phase_of on ∙ message_in_phase c.before m) (ap (λ (z : LineSet). z.atn) on ∙ a) in
+        let all_given = lv.given (ap phase_of on ∙ in_phase c.before m) (ap (λ (z : LineSet). z.atn) on ∙ a) in
         let left : l ≡ after_messages (serving_of s k n.target) k.exchange.plan.next = left_in f m ∙ ap (λ (q : Bool). phase_leaving (serving_of s k n.target) q phases.MessageIn) a in
         is (entering k.exchange (record k.exchange.speech { place = 0 }) l.messages l.next) (entered (other (is_message_out c.after) refl f))
         (known x (eo ∙ nm.link_is) (heard all_given) (subst (λ (z : Leaving). OnMessages IsNoName z.messages) (sym left) (after_in (serving_of s k n.target) k.exchange.plan.next)))
       where
         other : (q : Bool) → is_message_out c.after ≡ q → k.exchange.begun ≡ true → is_message_out c.after ≡ false
-        other true e f = wrong (sym (attends (serving_of s k n.target) c.before.atn (ap (λ (z : Leaving). z.to) (sym (left_in f m)) ∙ whereto f ∙ ap (λ (z : Phase). Some z) (message_out_phase c.after e))) ∙ a)
+        other true e f = wrong (sym (attends (serving_of s k n.target) c.before.atn (ap (λ (z : Leaving). z.to) (sym (left_in f m)) ∙ whereto f ∙ ap (λ (z : Phase). Some z) (out_phase c.after e))) ∙ a)
         other false e f = e
 
     -- MESSAGE OUT is left
@@ -200,10 +195,10 @@ turns_on s k row n c b' o' g there sp gv of ep whereto eb eo h = go h
         let f = nm.begun_is in
         let here : is_message_out (bus_of k) ≡ true = ap is_message_out on ∙ m in
         let lv = g.leaves turning in
-        let offer = no_offer s k n sp here f (lv.out (ap phase_of on ∙ message_out_phase c.before m)) (of.out f here) cause nm.next_is in
+        let offer = no_offer s k n sp here f (lv.out (ap phase_of on ∙ out_phase c.before m)) (of.out f here) cause nm.next_is in
         let left : l ≡ message_repetition k.exchange.plan =
         left_is s k n c on f
-        ∙ ap (λ (z : Phase). phase_leaving (serving_of s k n.target) c.before.atn z) (message_out_phase c.before m)
+        ∙ ap (λ (z : Phase). phase_leaving (serving_of s k n.target) c.before.atn z) (out_phase c.before m)
         ∙ ap (λ (z : Cause). message_out_leaving (serving_of s k n.target) z) cause
         ∙ refusal_is (serving_of s k n.target) offer (names_first p x k.exchange.plan.messages 0 names) in
         let into : is_message_in c.after ≡ true = in_lines c.after there (ap goes_in (sym (whereto f) ∙ ap (λ (z : Leaving). z.to) left)) in

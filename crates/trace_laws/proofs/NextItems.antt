@@ -9,15 +9,12 @@ use Rattle.disk_array.specs.Processes.{command_at}
 use Rattle.bus_story.specs.Items.{Item, abort, command_item, sense_item, Sent, is_done, abort_from, is_of_host, sense_from, may_send, open_from, command_from, or_else, item_at}
 use Rattle.bus_books.proofs.Lists.{eq_self}
 use Rattle.bus_books.proofs.Lookups.{first_is, second_is, number_is}
+use Rattle.bus_books.proofs.RowTies.{not_is}
 use Rattle.trace_laws.specs.ItemFacts.{IsNext, is_abort, is_sense, is_command}
 
 abbrev pub IsNextIf : ScenarioValue → Sent → ℕ → Option Item → Type 0
 IsNextIf s b dev None = Unit {0}
 IsNextIf s b dev (Some item) = IsNext s b dev item
-
-not_is : (q : Bool) → not q ≡ true → q ≡ false
-not_is true e = absurd cc
-not_is false e = refl
 
 aborts_are : (s : ScenarioValue) (b : Sent) (dev time n : ℕ) (aborts : List AbortDef) → IsNextIf s b dev (abort_from b dev time n aborts)
 aborts_are s b dev time n [] = tt

@@ -34,6 +34,7 @@ use Rattle.bus_dialogue.specs.Exchange.{Exchange, one_message, nothing_heard}
 use Rattle.bus_dialogue.specs.NextPhase.{Serving, bus_free, phase_entry, with_task, recovery, recovery_limit, pointer_restoration, next_data_phase, request_or_command, after_offer, after_opening, message_repetition, after_refusal, message_out_leaving, after_messages, disconnection, after_arrival, command_leaving, disconnect_messages, after_run, data_in_leaving, data_out_leaving, phase_leaving}
 use Rattle.bus_dialogue.specs.Words.{reply_to, request_by, is_naming, target_answer}
 use Rattle.bus_books.specs.Giving.{OnMessages}
+use Rattle.bus_books.specs.Hearing.{is_out_phase}
 use Rattle.bus_books.specs.Listening.{Understanding, nothing_understood, understood}
 use Rattle.bus_books.specs.Speaking.{AreWordsHeard}
 use Rattle.trace_laws.specs.Offers.{IsNoRequest, Negotiates, answers, refuses, requests, Plans, plain, negotiates, offer_now, offer_said, is_detected, IsHeardOut, opens, repeats, answers_it, detects}
@@ -126,11 +127,7 @@ unless : (q : Bool) (l : Leaving) → AsksNone l → AsksNone (if q then phase_e
 unless true l h = (tt, tt)
 unless false l h = h
 
-abbrev pub is_out : Phase → Bool
-is_out phases.MessageOut = true
-is_out _ = false
-
-pub heads_none : (v : Serving) (o : Option End) (attention : Bool) (phase : Phase) → is_out phase ≡ false → o ≡ None → Heads o (phase_leaving v attention phase)
+pub heads_none : (v : Serving) (o : Option End) (attention : Bool) (phase : Phase) → is_out_phase phase ≡ false → o ≡ None → Heads o (phase_leaving v attention phase)
 heads_none v o attention phases.MessageOut n e = absurd (true≢false n)
 heads_none v o attention phases.MessageIn n e = heads_plain o (phase_leaving v attention phases.MessageIn) e (unless attention (after_messages v v.plan.next) (after_in v v.plan.next))
 heads_none v o attention phases.Command n e = heads_plain o (phase_leaving v attention phases.Command) e (command_left v v.arrival)

@@ -22,7 +22,7 @@ use Rattle.bus_books.proofs.Gives.{in_io}
 use Rattle.bus_books.proofs.InConnection.{SamePhase}
 use Rattle.trace_laws.specs.Offers.{offer_now, IsHeardIn, IsHeardOut, opens, repeats, answers_it, detects, is_asking, OffersBy}
 use Rattle.trace_laws.specs.Attention.{MessageRow, keeps, asks, answers}
-use Rattle.trace_laws.proofs.Driven.{wrong, wrong'}
+use Rattle.trace_laws.proofs.Impossible.{wrong, wrong'}
 
 -- ---- what is kept is known otherwise
 
@@ -95,7 +95,7 @@ offers_still n c x d h h' same none row count struck o = record {
     asks_by b i t (answers er some e) = inl (e ∙ (λ j. (h.struck || is_of_other (t j) ends.Initiator) || c.before.atn) ∙ second_or h.struck c.before.atn)
 
 -- A byte to the target is struck.
-abbrev struck : Exchange → Exchange
+abbrev pub struck : Exchange → Exchange
 struck x = record x { plan = struck_plan x.plan }
 
 out_struck : (x : Exchange) (d : Dialogue) → IsHeardOut x d → IsHeardOut (struck x) d

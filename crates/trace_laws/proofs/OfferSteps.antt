@@ -31,7 +31,7 @@ use Rattle.bus_due.specs.RunState.{RunState, bus_of}
 use Rattle.bus_due.specs.RunSteps.{run_state_after}
 use Rattle.bus_due.specs.Sights.{serving_of, hearing_of, leaving}
 use Rattle.bus_books.specs.Giving.{Gives}
-use Rattle.bus_books.specs.Hearing.{LeavesWhole}
+use Rattle.bus_books.specs.Hearing.{LeavesWhole, is_out_phase}
 use Rattle.bus_books.specs.Reactions.{IsOver}
 use Rattle.bus_books.specs.Rows.{RowKind, still, strikes, crosses, turns, IsRowIn, reading_in}
 use Rattle.bus_books.specs.Speaking.{Speaks}
@@ -40,28 +40,15 @@ use Rattle.bus_books.proofs.Gives.{requests_stay, struck_same}
 use Rattle.bus_books.proofs.InConnection.{InConnection, in_connection, exchange_by, dialogue_by, same_phase_is}
 use Rattle.trace_laws.specs.Attention.{Attention}
 use Rattle.trace_laws.specs.Offers.{offer_now, IsHeardIn, is_detected, is_asking, OffersBy, Offers}
+use Rattle.trace_laws.proofs.Impossible.{wrong, wrong'}
 use Rattle.trace_laws.proofs.OfferBytes.{heard_byte, heard_in_on, heard_out_on}
-use Rattle.trace_laws.proofs.OfferLeavings.{HeadsTo, Heads, is_out, heads_none, heads_attended, heads_out, attends}
-use Rattle.trace_laws.proofs.Driven.{wrong, wrong'}
+use Rattle.trace_laws.proofs.OfferLeavings.{HeadsTo, Heads, heads_none, heads_attended, heads_out, attends}
 use Rattle.trace_laws.proofs.OfferRows.{offers_as, offers_still, offers_struck, struck_stays, struck_by_fault, few_messages, request_rises, offers_said, offers_given, offers_else}
-use Rattle.trace_laws.proofs.OfferTurns.{out_phase, message_out_phase, message_in_phase, Lines, says, gives, others, lines_of, entering, offers_enter, opening_exchange, offers_open, asking, offers_detect, offers_answer, none_open, unattended, in_direction, low_line}
+use Rattle.trace_laws.proofs.OfferTurns.{out_by_phase, Lines, says, gives, others, lines_of, entering, offers_enter, opening_exchange, offers_open, asking, offers_detect, offers_answer, none_open, unattended, in_direction, low_line}
+use Rattle.trace_laws.proofs.PhaseLines.{in_phase, out_phase}
+use Rattle.trace_laws.proofs.SentEntries.{no_message_out, no_message_in}
 
 -- ---- small facts
-
-no_out : (b : LineSet) → b.msg ≡ false → is_message_out b ≡ false
-no_out b e = λ i. e i && b.cd && not b.io
-
-no_in : (b : LineSet) → b.msg ≡ false → is_message_in b ≡ false
-no_in b e = λ i. e i && b.cd && b.io
-
-out_in : (b : LineSet) → is_message_in b ≡ true → is_message_out b ≡ false
-out_in b e = go b.msg b.cd b.io e
-  where
-    go : (m c i : Bool) → (m && c && i) ≡ true → (m && c && not i) ≡ false
-    go true true true z = refl
-    go true true false z = wrong' z
-    go true false i z = wrong' z
-    go false c i z = refl
 
 record OutLines (b : LineSet) : Type 0 where
   msg : b.msg ≡ true
@@ -78,7 +65,7 @@ out_lines b e = by b.msg refl b.cd refl b.io refl
     by false em c ec i ei = wrong' (sym (λ j. em j && ec j && not (ei j)) ∙ e)
 
 -- From MESSAGE OUT no row leads to MESSAGE OUT.
-stays_out : (c : Change) → is_message_out c.before ≡ true → is_message_out c.after ≡ true → changes_phase c ≡ false
+pub stays_out : (c : Change) → is_message_out c.before ≡ true → is_message_out c.after ≡ true → changes_phase c ≡ false
 stays_out c e f =
     let a = out_lines c.before e in
     let b = out_lines c.after f in
@@ -189,17 +176,17 @@ heads_left s k n c eb known f sp lv req o = subst (λ (l : Leaving). Heads (offe
     by_attention m true a = subst (λ (q : Bool). Heads (offer_now d) (phase_leaving v q phases.MessageIn)) (sym a) (heads_attended v (offer_now d))
     by_attention m false a =
         heads_none v (offer_now d) c.before.atn phases.MessageIn refl
-        (none_open k.exchange.plan.messages k.exchange.plan.next d k.handshakes.requests (o.into f m) (lv.given (here phases.MessageIn (message_in_phase c.before m)) (ap (λ (l : LineSet). l.atn) eb ∙ a)) (unasked m a))
+        (none_open k.exchange.plan.messages k.exchange.plan.next d k.handshakes.requests (o.into f m) (lv.given (here phases.MessageIn (in_phase c.before m)) (ap (λ (l : LineSet). l.atn) eb ∙ a)) (unasked m a))
 
     go : Lines c.before → Heads (offer_now d) (phase_leaving v c.before.atn (phase_of c.before))
     go (says m) =
-        in_it phases.MessageOut (message_out_phase c.before m)
-        (heads_out v k.exchange d refl (sp.in_message_out f (ap is_message_out eb ∙ m)).heard (lv.out (here phases.MessageOut (message_out_phase c.before m))) (o.out f m))
-    go (gives m) = in_it phases.MessageIn (message_in_phase c.before m) (by_attention m c.before.atn refl)
-    go (others m) = heads_none v (offer_now d) c.before.atn (phase_of c.before) (out_phase c.before known ∙ no_out c.before m) (o.settled f m)
+        in_it phases.MessageOut (out_phase c.before m)
+        (heads_out v k.exchange d refl (sp.in_message_out f (ap is_message_out eb ∙ m)).heard (lv.out (here phases.MessageOut (out_phase c.before m))) (o.out f m))
+    go (gives m) = in_it phases.MessageIn (in_phase c.before m) (by_attention m c.before.atn refl)
+    go (others m) = heads_none v (offer_now d) c.before.atn (phase_of c.before) (out_by_phase c.before known ∙ no_message_out c.before m) (o.settled f m)
 
 -- ATN is false then, where it is left for another phase than MESSAGE OUT.
-quiet_left : (s : ScenarioValue) (k : RunState) (n : Connection) (c : Change) (to : Phase) → bus_of k ≡ c.before → (c.before.msg ≡ true → c.before.cd ≡ true) → k.exchange.begun ≡ true → LeavesWhole s k n → IsOver s k n → (leaving s k n.target).to ≡ Some to → is_out to ≡ false → Attention k.handshakes k.story.bus_state.dialogue k.exchange.begun n c → c.before.atn ≡ false
+quiet_left : (s : ScenarioValue) (k : RunState) (n : Connection) (c : Change) (to : Phase) → bus_of k ≡ c.before → (c.before.msg ≡ true → c.before.cd ≡ true) → k.exchange.begun ≡ true → LeavesWhole s k n → IsOver s k n → (leaving s k n.target).to ≡ Some to → is_out_phase to ≡ false → Attention k.handshakes k.story.bus_state.dialogue k.exchange.begun n c → c.before.atn ≡ false
 quiet_left s k n c to eb known f lv over e other att = go c.before.io refl c.before.msg refl
   where
     go : (i : Bool) → c.before.io ≡ i → (m : Bool) → c.before.msg ≡ m → c.before.atn ≡ false
@@ -207,7 +194,7 @@ quiet_left s k n c to eb known f lv over e other att = go c.before.io refl c.bef
     go false ei true em =
         let out : is_message_out c.before ≡ true = λ i. em i && known em i && not (ei i) in
         let here : is_message_out (bus_of k) ≡ true = ap is_message_out eb ∙ out in
-        sym (ap (λ (l : LineSet). l.atn) eb) ∙ over.attention here ∙ ap not (lv.out (ap phase_of eb ∙ message_out_phase c.before out))
+        sym (ap (λ (l : LineSet). l.atn) eb) ∙ over.attention here ∙ ap not (lv.out (ap phase_of eb ∙ out_phase c.before out))
     go false ei false em = low_line c.before.atn c.before.io c.before.msg (att.low f) ei em
 
 -- ---- another phase begins
@@ -247,10 +234,10 @@ turns_on s k row n c g there sp att ep over whereto o = by k.exchange.begun refl
     to_out f e (says m) = wrong (sym ep ∙ stays_out c m e)
     to_out f e (gives m) =
         let to : (phase_leaving (serving_of s k n.target) c.before.atn phases.MessageIn).to ≡ Some phases.MessageOut =
-        (λ i. (phase_leaving (serving_of s k n.target) c.before.atn (sym (message_in_phase c.before m) i)).to)
+        (λ i. (phase_leaving (serving_of s k n.target) c.before.atn (sym (in_phase c.before m) i)).to)
         ∙ ap (λ (z : Leaving). z.to) (sym (left_is s k n c eb f))
         ∙ whereto f
-        ∙ ap (λ (p : Phase). Some p) (message_out_phase c.after e) in
+        ∙ ap (λ (p : Phase). Some p) (out_phase c.after e) in
         let z = o.why f m (attends (serving_of s k n.target) c.before.atn to) in
         is (asking k.exchange (if h.struck then parity_error else answer_bytes host k.exchange.speech.asked) causes.InMessage (from_byte k.exchange.plan.messages (h.requests - 1)))
         (λ i. record {
@@ -260,7 +247,7 @@ turns_on s k row n c g there sp att ep over whereto o = by k.exchange.begun refl
         })
         (offers_answer k.exchange d h c.after host h.struck e z.0 z.1 (o.into f m))
     to_out f e (others m) =
-        let ni : is_message_in c.before ≡ false = no_in c.before m in
+        let ni : is_message_in c.before ≡ false = no_message_in c.before m in
         is (asking k.exchange detected_error (if c.before.cd then causes.InStatus else causes.InData) k.exchange.plan.messages)
         (λ i. record {
           begun = true;
@@ -288,7 +275,7 @@ turns_on s k row n c g there sp att ep over whereto o = by k.exchange.begun refl
         let a = att.turns ep f in
         let lv = g.leaves turning in
         let goes : HeadsTo (offer_now d) (Some (phase_of c.after)) l.messages l.next = subst (λ (z : Option Phase). HeadsTo (offer_now d) z l.messages l.next) (whereto f) (heads_left s k n c eb known f sp lv a.1 o) in
-        let other : is_out (phase_of c.after) ≡ false = out_phase c.after there ∙ e in
+        let other : is_out_phase (phase_of c.after) ≡ false = out_by_phase c.after there ∙ e in
         is (entering k.exchange (record k.exchange.speech { place = 0 }) l.messages l.next)
         (λ i. record {
           begun = true;

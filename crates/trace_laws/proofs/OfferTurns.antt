@@ -26,17 +26,19 @@ use Rattle.bus_dialogue.specs.Exchange.{Speech, Exchange, bytes_of_messages, mes
 use Rattle.bus_dialogue.specs.NextPhase.{Serving, phase_of, phase_leaving}
 use Rattle.bus_dialogue.specs.Words.{parity_error, detected_error, answer_bytes, host_answer}
 use Rattle.bus_books.specs.Giving.{OnMessages}
+use Rattle.bus_books.specs.Hearing.{is_out_phase}
 use Rattle.trace_laws.specs.Offers.{IsNoRequest, Negotiates, answers, refuses, requests, Plans, plain, negotiates, WasOpen, offer_now, IsHeardIn, no_request, in_part, whole, SaysOne, is_detected, IsHeardOut, opens, repeats, answers_it, detects, OffersBy}
-use Rattle.trace_laws.proofs.OfferLeavings.{HeadsTo, is_out}
-use Rattle.trace_laws.proofs.Driven.{wrong, wrong'}
+use Rattle.trace_laws.proofs.Impossible.{wrong, wrong'}
+use Rattle.trace_laws.proofs.OfferLeavings.{HeadsTo}
 use Rattle.trace_laws.proofs.OfferRows.{not_both}
+use Rattle.trace_laws.proofs.PhaseLines.{in_phase}
 
 -- ---- phases and their lines
 
-pub out_phase : (b : LineSet) → (b.msg ≡ true → b.cd ≡ true) → is_out (phase_of b) ≡ is_message_out b
-out_phase b h = go b.msg b.cd b.io h
+pub out_by_phase : (b : LineSet) → (b.msg ≡ true → b.cd ≡ true) → is_out_phase (phase_of b) ≡ is_message_out b
+out_by_phase b h = go b.msg b.cd b.io h
   where
-    go : (m c i : Bool) → (m ≡ true → c ≡ true) → is_out (if m then (if i then phases.MessageIn else phases.MessageOut) else if c then (if i then phases.Status else phases.Command) else if i then phases.DataIn else phases.DataOut) ≡ (m && c && not i)
+    go : (m c i : Bool) → (m ≡ true → c ≡ true) → is_out_phase (if m then (if i then phases.MessageIn else phases.MessageOut) else if c then (if i then phases.Status else phases.Command) else if i then phases.DataIn else phases.DataOut) ≡ (m && c && not i)
     go true true true h = refl
     go true true false h = refl
     go true false i h = wrong' (h refl)
@@ -44,24 +46,6 @@ out_phase b h = go b.msg b.cd b.io h
     go false true false h = refl
     go false false true h = refl
     go false false false h = refl
-
-pub message_out_phase : (b : LineSet) → is_message_out b ≡ true → phase_of b ≡ phases.MessageOut
-message_out_phase b e = go b.msg b.cd b.io e
-  where
-    go : (m c i : Bool) → (m && c && not i) ≡ true → (if m then (if i then phases.MessageIn else phases.MessageOut) else if c then (if i then phases.Status else phases.Command) else if i then phases.DataIn else phases.DataOut) ≡ phases.MessageOut
-    go true true true z = wrong' z
-    go true true false z = refl
-    go true false i z = wrong' z
-    go false c i z = wrong' z
-
-pub message_in_phase : (b : LineSet) → is_message_in b ≡ true → phase_of b ≡ phases.MessageIn
-message_in_phase b e = go b.msg b.cd b.io e
-  where
-    go : (m c i : Bool) → (m && c && i) ≡ true → (if m then (if i then phases.MessageIn else phases.MessageOut) else if c then (if i then phases.Status else phases.Command) else if i then phases.DataIn else phases.DataOut) ≡ phases.MessageIn
-    go true true true z = refl
-    go true true false z = wrong' z
-    go true false i z = wrong' z
-    go false c i z = wrong' z
 
 -- A phase of messages, or another.
 pub data Lines (b : LineSet) : Type 0 where
@@ -89,7 +73,7 @@ settled_in b o messages next h e = by b.cd b.io (subst (λ (m : Bool). HeadsTo o
     by false false z = z
 
 planned_in : (b : LineSet) (o : Option End) (messages : Messages) (next : Next) → HeadsTo o (Some (phase_of b)) messages next → is_message_in b ≡ true → Plans o messages next
-planned_in b o messages next h e = subst (λ (p : Phase). HeadsTo o (Some p) messages next) (message_in_phase b e) h
+planned_in b o messages next h e = subst (λ (p : Phase). HeadsTo o (Some p) messages next) (in_phase b e) h
 
 some_bytes : (before after : Option End) (m : MsgIn) → Negotiates before after m → 0 < length (in_bytes m)
 some_bytes before after m (answers a eb ea em) = subst (λ (z : MsgIn). 0 < length (in_bytes z)) (sym em) (omega arith)
@@ -222,17 +206,18 @@ none_open messages next d count (whole before after m (requests a eb ea ex) em e
 
 -- ---- ATN as a phase is left for another than MESSAGE OUT
 
-abbrev gives_in : Phase → Bool
+-- A phase to the initiator.
+abbrev pub gives_in : Phase → Bool
 gives_in phases.MessageIn = true
 gives_in phases.DataIn = true
 gives_in phases.Status = true
 gives_in _ = false
 
-abbrev goes_out : Option Phase → Bool
+abbrev pub goes_out : Option Phase → Bool
 goes_out None = false
-goes_out (Some p) = is_out p
+goes_out (Some p) = is_out_phase p
 
-pub unattended : (v : Serving) (attention : Bool) (phase : Phase) (to : Phase) → gives_in phase ≡ true → (phase_leaving v attention phase).to ≡ Some to → is_out to ≡ false → attention ≡ false
+pub unattended : (v : Serving) (attention : Bool) (phase : Phase) (to : Phase) → gives_in phase ≡ true → (phase_leaving v attention phase).to ≡ Some to → is_out_phase to ≡ false → attention ≡ false
 unattended v false phase to g e o = refl
 unattended v true phases.MessageIn to g e o = wrong (ap goes_out e ∙ o)
 unattended v true phases.DataIn to g e o = wrong (ap goes_out e ∙ o)

@@ -48,14 +48,11 @@ use Rattle.trace_laws.specs.Offers.{IsNoRequest, no_request, is_detected, IsHear
 use Rattle.trace_laws.proofs.AttentionRows.{attention_row}
 use Rattle.trace_laws.proofs.ConnectionRows.{connection_row, going_row, link_low, stage_of_connection, RowKindOf, begins_now, goes_now, row_kind}
 use Rattle.trace_laws.proofs.Crossings.{RowFacts, stays, ends_here}
-use Rattle.trace_laws.proofs.Driven.{wrong, wrong'}
 use Rattle.trace_laws.proofs.FirstRows.{IsFirst}
+use Rattle.trace_laws.proofs.Impossible.{none_some, wrong, wrong'}
 use Rattle.trace_laws.proofs.Joint.{Stood, NextStood, link_phase}
 use Rattle.trace_laws.proofs.OfferSteps.{offers_on}
 use Rattle.trace_laws.proofs.OfferTurns.{asked_at_command}
-
-none_some : (n : Connection) → (let a : Option Connection = None in a) ≡ Some n → ⊥
-none_some n e = absurd cc
 
 -- ---- before any row
 

@@ -9,13 +9,13 @@ use Rattle.scenario.specs.Value.{ScenarioValue}
 use Rattle.disk_array.specs.Processes.{command_at}
 use Rattle.bus_story.specs.Items.{Item, process, abort, same_item, has_item, command_item, sense_item, Sent, is_open, open_from, tag_number_if, is_tag_clash, is_clash, open_limit_of, may_send}
 use Rattle.bus_story.specs.Links.{same_number, is_of_nexus, is_open_sense, named_item_from}
+use Rattle.scsi_device.proofs.Finds.{or_false}
 use Rattle.bus_books.proofs.Lists.{eq_self}
 use Rattle.bus_books.proofs.Lookups.{first_is, second_is, number_is, id_is}
-use Rattle.trace_laws.proofs.Driven.{wrong}
+use Rattle.bus_books.proofs.RowTies.{not_is}
 use Rattle.trace_laws.specs.ItemFacts.{IsNext, is_abort, is_sense, is_command, NoClash}
-
-none_some : (c : CmdDef) → (let a : Option CmdDef = None in a) ≡ Some c → ⊥
-none_some c e = absurd cc
+use Rattle.trace_laws.proofs.Impossible.{none_some, wrong}
+use Rattle.trace_laws.proofs.Tests.{or_of}
 
 -- ---- items
 
@@ -36,10 +36,6 @@ no_abort : (k : ℕ) (p : ProcId) → abort k ≡ process p → ⊥
 no_abort k p e = absurd cc
 
 -- ---- one is sent
-
-or_of : (q r : Bool) → (q || r) ≡ true → (q ≡ true) ⊎ (r ≡ true)
-or_of true r e = inl refl
-or_of false r e = inr e
 
 pub opened : (b : Sent) (item : Item) (n : ℕ) → is_open (record b { sent = item ∷ b.sent }) n ≡ true → (item ≡ command_item n) ⊎ (is_open b n ≡ true)
 opened b item n e =
@@ -62,10 +58,6 @@ clash_back c d e =
     by None (Some a) z = refl
     by (Some a) (Some r) z = ap (λ (k : ℕ). r == k) (number_is a r z) ∙ eq_self r
 
-or_no : (q r : Bool) → (q || r) ≡ false → (q ≡ false) × (r ≡ false)
-or_no true r e = wrong e
-or_no false r e = (refl, e)
-
 free_of : (c : CmdDef) (b : Sent) (dev j : ℕ) (commands : List CmdDef) → list_any (λ (d : CmdDef). is_clash c d) (open_from b dev (suc j) commands) ≡ false
     → (m : ℕ) (d : CmdDef) → command_at commands (suc m) ≡ Some d → d.host ≡ dev → is_open b (suc (j + m)) ≡ true → is_clash c d ≡ false
 free_of c b dev j [] e m d at h o = absurd (none_some d at)
@@ -74,7 +66,7 @@ free_of c b dev j (x ∷ commands) e zero d at h o =
     let now : is_open b (suc j) ≡ true = ap (λ (n : ℕ). is_open b (suc n)) (none_more j) ∙ o in
     let own : (x.host == dev) ≡ true = ap (λ (k : ℕ). k == dev) (ap (λ (y : CmdDef). y.host) same ∙ h) ∙ eq_self dev in
     let all = sym (λ i. list_any (λ (y : CmdDef). is_clash c y) (if own i && now i then x ∷ open_from b dev (suc j + 1) commands else open_from b dev (suc j + 1) commands)) ∙ e in
-    ap (is_clash c) (sym same) ∙ (or_no (is_clash c x) (list_any (λ (y : CmdDef). is_clash c y) (open_from b dev (suc j + 1) commands)) all).0
+    ap (is_clash c) (sym same) ∙ (or_false (is_clash c x) (list_any (λ (y : CmdDef). is_clash c y) (open_from b dev (suc j + 1) commands)) all).0
   where
     none_more : (n : ℕ) → n ≡ n + 0
     none_more n = omega arith
@@ -91,12 +83,8 @@ free_of c b dev j (x ∷ commands) e (suc m) d at h o =
     later q z = ap (λ (n : ℕ). list_any (λ (y : CmdDef). is_clash c y) (open_from b dev n commands)) (one_more j) ∙ by q (sym (ap (λ (r : Bool). list_any (λ (y : CmdDef). is_clash c y) (if r then x ∷ open_from b dev (suc j + 1) commands else open_from b dev (suc j + 1) commands)) z) ∙ e)
       where
         by : (r : Bool) → list_any (λ (y : CmdDef). is_clash c y) (if r then x ∷ open_from b dev (suc j + 1) commands else open_from b dev (suc j + 1) commands) ≡ false → list_any (λ (y : CmdDef). is_clash c y) (open_from b dev (suc j + 1) commands) ≡ false
-        by true f = (or_no (is_clash c x) (list_any (λ (y : CmdDef). is_clash c y) (open_from b dev (suc j + 1) commands)) f).1
+        by true f = (or_false (is_clash c x) (list_any (λ (y : CmdDef). is_clash c y) (open_from b dev (suc j + 1) commands)) f).1
         by false f = f
-
-not_is : (q : Bool) → not q ≡ true → q ≡ false
-not_is true e = wrong (sym e)
-not_is false e = refl
 
 -- A command that may be sent clashes with no open one of its initiator.
 may_free : (s : ScenarioValue) (b : Sent) (dev time : ℕ) (c : CmdDef) → may_send s time (open_from b dev 1 s.commands) c ≡ true → (m : ℕ) (d : CmdDef) → command_at s.commands m ≡ Some d → d.host ≡ dev → is_open b m ≡ true → is_clash c d ≡ false

@@ -1,25 +1,20 @@
 -- In the opening after a selection nothing is shown while the connection stands; and the connection of a process does not end there
 -- (6.1.3, 6.6).
-use Rattle.std.proofs.Common.{ℕ, ◌≡◌, Bool, true, false, not, ◌&&◌, ◌||◌, ◌∙◌, List, [], ◌∷◌, Option, Some, None, refl, sym, ap}
+use Rattle.std.proofs.Common.{ℕ, ◌≡◌, Bool, true, false, not, ◌&&◌, ◌||◌, ◌∙◌, Option, Some, None, refl, sym, ap}
 use Rattle.std.specs.Prelude.{if◌then◌else◌, is_some, is_none}
 use Rattle.std.proofs.lemmas.Bool.{and_parts}
 use Rattle.bus_base.specs.declared.AbortKind.{AbortKind}
 use Rattle.bus_base.specs.declared.ProcId.{ProcId}
 use Rattle.bus_trace.specs.LineSet.{LineSet}
-use Rattle.bus_trace.specs.declared.Row.{Row}
 use Rattle.bus_trace.specs.declared.agreements.Agreement.{Agreement}
-use Rattle.bus_trace.specs.declared.changes.Change.{Change}
 use Rattle.bus_trace.specs.declared.connection.Connection.{Connection}
 use Rattle.bus_trace.specs.Phases.{is_command, is_message_in, is_message_out}
-use Rattle.bus_trace.specs.Trace.{bus}
 use Rattle.msg_grammar.specs.declared.message.MsgIn.{MsgIn}
 use Rattle.scenario.specs.declared.value.TargetDef.{TargetDef}
 use Rattle.scenario.specs.Value.{ScenarioValue}
 use Rattle.disk_array.specs.Processes.{Process, process_of}
-use Rattle.bus_story.specs.CarriedBytes.{CarriedBytes, is_status_phase, is_whole_block}
-use Rattle.bus_story.specs.HistoryEvents.{carried_if, end_events, is_complete, is_completion, is_refuse, phase_events, queue_event, queue_events, status_event}
+use Rattle.bus_story.specs.CarriedBytes.{is_status_phase}
 use Rattle.bus_story.specs.Items.{Item, process, abort}
-use Rattle.bus_story.specs.Story.{Story}
 use Rattle.bus_dialogue.specs.declared.exchange.Cause.{Cause}
 use Rattle.bus_dialogue.specs.declared.exchange.Cause.TheVariants as causes
 use Rattle.bus_dialogue.specs.declared.exchange.Leaving.{Leaving}
@@ -27,7 +22,6 @@ use Rattle.bus_dialogue.specs.declared.exchange.Phase.{Phase}
 use Rattle.bus_dialogue.specs.declared.exchange.Phase.TheVariants as phases
 use Rattle.bus_dialogue.specs.declared.exchange.Said.{Said}
 use Rattle.bus_dialogue.specs.Events.{is_status_next}
-use Rattle.bus_dialogue.specs.Hearing.{begun}
 use Rattle.bus_dialogue.specs.NextPhase.{Serving, after_offer, bus_free, leaving_by, message_out_leaving, phase_leaving, phase_of, request_or_command}
 use Rattle.bus_dialogue.specs.Words.{request_by}
 use Rattle.bus_due.specs.Faithful.{is_item_named, is_opening_named, is_process_named, is_unit, same_tag}
@@ -39,38 +33,12 @@ use Rattle.bus_books.specs.Reactions.{IsOver}
 use Rattle.bus_books.specs.Speaking.{Speaks}
 use Rattle.bus_books.proofs.Opened.{opening_named}
 use Rattle.bus_books.proofs.Reactions.{out_over}
-use Rattle.link_laws.specs.LinkStages.{LinkStage, when_selected, when_settling, when_turning, when_offering, when_shaking, when_pulsing}
 use Rattle.trace_laws.proofs.CommandNext.{out_unstruck}
-use Rattle.trace_laws.proofs.CommandTurns.{out_lines}
-
-wrong : {A : Type 0} → true ≡ false → A
-wrong e = absurd cc
-
-wrong' : {A : Type 0} → false ≡ true → A
-wrong' e = absurd cc
+use Rattle.trace_laws.proofs.Impossible.{wrong, wrong'}
+use Rattle.trace_laws.proofs.PhaseLines.{out_lines}
+use Rattle.trace_laws.proofs.Tests.{or_second}
 
 -- ---- a phase that is left without an event
-
-pub no_events : (s : ScenarioValue) (b : Story) (o : Option CarriedBytes) (c : Change) → is_command c.before ≡ false → is_status_phase c.after ≡ false → phase_events s b o c ≡ []
-no_events s b None c e f = refl
-no_events s b (Some own) c e f =
-    (λ i. Rattle.bus_story.specs.HistoryEvents.status_events (Some own) c.after (if e i && is_whole_block own then queue_event s b.history own.id ∷ [] else []))
-    ∙ (λ i. if f i && not own.shown && not own.refused && true then status_event own.id own.failure ∷ [] else [])
-
-pub unbegun_lines : (s : ScenarioValue) (p : List Row) (n : Connection) → LinkStage s p n → begun p ≡ false → is_command (bus p) ≡ false
-unbegun_lines s p n (when_selected h) b = ap is_command h.linked.stands.bus_is
-unbegun_lines s p n (when_settling bsy atn msg cd io y h) b = wrong (sym h.phase.begun_is ∙ b)
-unbegun_lines s p n (when_turning atn x msg cd h) b = wrong (sym h.phase.begun_is ∙ b)
-unbegun_lines s p n (when_offering atn msg cd y h) b = wrong (sym h.phase.begun_is ∙ b)
-unbegun_lines s p n (when_shaking msg cd io req ack atn x y h) b = wrong (sym h.phase.begun_is ∙ b)
-unbegun_lines s p n (when_pulsing io req ack atn x y h a) b = wrong (sym h.phase.begun_is ∙ b)
-
-pub out_no_status : (b : LineSet) → is_message_out b ≡ true → is_status_phase b ≡ false
-out_no_status b e = go b.msg b.cd b.io e
-  where
-    go : (m d i : Bool) → (m && d && not i) ≡ true → (not m && d && i) ≡ false
-    go true d i z = refl
-    go false d i z = wrong' z
 
 pub out_no_command : (b : LineSet) → is_message_out b ≡ true → (is_command b ≡ false) × (is_message_in b ≡ false)
 out_no_command b e = go b.msg b.cd b.io e
@@ -137,10 +105,6 @@ opening_leaving s k dev e b =
 
 -- ---- the connection of a process does not end there
 
-second : (a b : Bool) → a ≡ false → (a || b) ≡ true → b ≡ true
-second true b e z = wrong e
-second false b e z = z
-
 no_abort : (a : Option AbortKind) → is_none a ≡ true → is_some a ≡ false
 no_abort None e = refl
 no_abort (Some x) e = wrong' e
@@ -159,7 +123,7 @@ alone s k n u speaks b known over opens to = go k.served refl
 
     named : is_item_named s k.exchange.plan.said k.served ≡ true
     named =
-        second k.exchange.plan.struck (is_item_named s k.exchange.plan.said k.served) (out_unstruck s k n at.0 over)
+        or_second k.exchange.plan.struck (is_item_named s k.exchange.plan.said k.served) (out_unstruck s k n at.0 over)
         (sym (ap (is_opening_named s k.exchange.plan k.served) at.1) ∙ opening_named s k n u speaks b out (out_over s k n out over))
 
     by : (id : ProcId) → k.served ≡ Some (process id) → (o : Option Process) → process_of s id ≡ o → process_served s k ≡ None

@@ -1,5 +1,5 @@
 -- An event leaves the processes of which it is not: one that has not arrived has not arrived after it, and one at rest is at rest.
-use Rattle.std.proofs.Common.{ℕ, ◌≡◌, Bool, true, false, not, ◌&&◌, ◌||◌, ◌==◌, ◌∙◌, List, [], ◌∷◌, ◌++◌, Option, Some, None, refl, sym, ap, subst, true≢false}
+use Rattle.std.proofs.Common.{ℕ, ◌≡◌, Bool, true, false, not, ◌&&◌, ◌||◌, ◌==◌, ◌∙◌, List, [], ◌∷◌, ◌++◌, Option, Some, None, refl, sym, ap, subst}
 use Rattle.std.specs.Prelude.{if◌then◌else◌, is_some, is_none, nat_lt, ⊤}
 use Rattle.std.proofs.lemmas.Option.{same_Some}
 use Rattle.bus_base.specs.declared.ProcId.{ProcId}
@@ -21,9 +21,7 @@ use Rattle.disk_array.proofs.SoundArrays.{id_is}
 use Rattle.bus_books.proofs.Lookups.{id_is as ids_are}
 use Rattle.trace_laws.specs.Places.{IsAway, IsUnanswered, Waits, Runs, OnUnits, Each, IsAtRest, IsUntouched}
 use Rattle.trace_laws.proofs.EachProcess.{AdmitsEvent, Admits, IsSameIn, status_same, attended_same, cleared_same, each_after, each_settled, running_id}
-
-wrong : {A : Type 0} → true ≡ false → A
-wrong e = absurd (true≢false e)
+use Rattle.trace_laws.proofs.Impossible.{wrong}
 
 -- ---- the process of an event
 

@@ -32,7 +32,7 @@ use Rattle.bus_books.proofs.FirstWords.{process_unit}
 use Rattle.bus_books.proofs.Lists.{understood_append}
 use Rattle.bus_books.proofs.Reading.{reads_at, reads_end}
 use Rattle.bus_books.proofs.Saying.{says_byte, says_more}
-use Rattle.trace_laws.proofs.Driven.{wrong, wrong'}
+use Rattle.trace_laws.proofs.Impossible.{wrong, wrong'}
 
 abbrev pub is_abort_out : MsgOut → Bool
 is_abort_out to_target.Abort = true
@@ -47,7 +47,7 @@ NoAbort (Some m) = is_abort_out m ≡ false
 
 -- ---- the messages that bytes make whole
 
-abbrev next_half : List ℕ → ℕ → List ℕ
+abbrev pub next_half : List ℕ → ℕ → List ℕ
 next_half half b = left_of (got_out (half ++ b ∷ [])) (half ++ b ∷ [])
 
 abbrev AbortNone : List ℕ → List ℕ → Type 0

@@ -1,8 +1,9 @@
 -- Which items an event ends: those that it names, those that an abort drops, and with RST all; what is over stays so.
-use Rattle.std.proofs.Common.{inl, inr, ℕ, zero, suc, ◌≡◌, ◌⊎◌, ◌+◌, Bool, true, false, not, ◌&&◌, ◌||◌, ◌==◌, ◌∙◌, List, [], ◌∷◌, ◌++◌, Option, Some, None, refl, sym, ap, arith}
+use Rattle.std.proofs.Common.{inl, inr, ℕ, zero, suc, ◌≡◌, ◌⊎◌, ◌+◌, Bool, true, false, not, ◌&&◌, ◌||◌, ◌==◌, ◌∙◌, List, [], ◌∷◌, ◌++◌, Some, None, refl, sym, ap, arith}
 use Rattle.std.specs.Prelude.{if◌then◌else◌}
 use Rattle.std.specs.List.{list_any}
 use Rattle.std.proofs.lemmas.Option.{same_Some}
+use Rattle.std.proofs.lemmas.Bool.{or_from}
 use Rattle.bus_base.specs.declared.ProcId.{ProcId}
 use Rattle.bus_base.specs.declared.AbortKind.{AbortKind}
 use Rattle.bus_base.specs.declared.AbortKind.TheVariants as aborts
@@ -16,14 +17,12 @@ use Rattle.bus_story.specs.Items.{Item, process, same_item, has_item, command_it
 use Rattle.bus_story.specs.Links.{is_open_sense}
 use Rattle.bus_story.specs.Story.{Story, Ending, by_status, by_abort, by_reset, is_aborted, is_sense_stopped, story_with_over, story_with_end, with_check, story_with_ends, story_after_event, story_after_events}
 use Rattle.bus_books.proofs.Lookups.{first_is, second_is, number_is, self_id, id_is}
+use Rattle.bus_books.proofs.RowTies.{not_is}
+use Rattle.trace_laws.proofs.Impossible.{none_some, wrong}
 use Rattle.trace_laws.proofs.OpenCommands.{fewer_clash}
 use Rattle.trace_laws.proofs.SentItems.{more_has, own_has, event_sent}
 use Rattle.trace_laws.proofs.QueuedProcesses.{is_dropped, stays_queued}
-use Rattle.trace_laws.proofs.Driven.{wrong}
 use Rattle.trace_laws.specs.ItemFacts.{NoClash, AreChecked, IsQueued}
-
-no_command : (c : CmdDef) → (let a : Option CmdDef = None in a) ≡ Some c → ⊥
-no_command c e = absurd cc
 
 -- ---- what is over stays over
 
@@ -189,7 +188,7 @@ closed_by false = refl
 
 reset_stops : (e : Ending) (j k : ℕ) (commands : List CmdDef) (b : Story) (c : CmdDef) → command_at commands (suc k) ≡ Some c → has_item b.sent.over (command_item (suc (j + k))) ≡ true → list_any (λ m. m == suc (j + k)) b.sent.checks ≡ true
     → has_item (story_with_ends (λ x. true) (λ x. true) e (suc j) commands b).sent.over (sense_item (suc (j + k))) ≡ true
-reset_stops e j k [] b c at over checked = absurd (no_command c at)
+reset_stops e j k [] b c at over checked = absurd (none_some c at)
 reset_stops e j zero (x ∷ commands) b c at over checked =
     let same : suc (j + 0) ≡ suc j = omega arith in
     let shut : (is_open b.sent (suc j) && true) ≡ false = and_true (is_open b.sent (suc j)) ∙ (λ i. has_item b.sent.sent (command_item (suc j)) && not ((ap (λ (n : ℕ). has_item b.sent.over (command_item n)) (sym same) ∙ over) i)) ∙ closed_by (has_item b.sent.sent (command_item (suc j))) in
@@ -217,16 +216,13 @@ none_at (x ∷ commands) = refl
 
 -- Of a command that was checked.
 pub reset_senses : (s : ScenarioValue) (b : Story) (dev n : ℕ) (c : CmdDef) → command_at s.commands n ≡ Some c → AreChecked b.sent → list_any (λ k. k == n) b.sent.checks ≡ true → has_item (story_after_event s b (events.Reset dev)).sent.over (sense_item n) ≡ true
-reset_senses s b dev zero c at h e = absurd (no_command c (sym (none_at s.commands) ∙ at))
+reset_senses s b dev zero c at h e = absurd (none_some c (sym (none_at s.commands) ∙ at))
 reset_senses s b dev (suc n) c at h e =
     let same : suc (0 + n) ≡ suc n = omega arith in
     ap (λ (m : ℕ). has_item (story_after_event s b (events.Reset dev)).sent.over (sense_item m)) (sym same)
     ∙ reset_stops by_reset 0 n s.commands b c at (ap (λ (m : ℕ). has_item b.sent.over (command_item m)) same ∙ h (suc n) e) (ap (λ (m : ℕ). list_any (λ k. k == m) b.sent.checks) same ∙ e)
 
 -- ---- what an event leaves open
-
-or_no : (q r : Bool) → q ≡ false → r ≡ false → (q || r) ≡ false
-or_no q r e f = λ i. e i || f i
 
 sense_apart : (n m : ℕ) → same_item (sense_item n) (command_item m) ≡ false
 sense_apart n m = go (n == m)
@@ -265,13 +261,9 @@ ends_leave drops stops e j all (c ∷ commands) b m h keep o =
     apart true z d = wrong (sym d ∙ keep c (ap (command_at all) (sym (number_is (suc j) m z)) ∙ here))
 
     go : (q : Bool) → (is_open b.sent (suc j) && drops c) ≡ q → (r : Bool) → has_item (if q then story_with_end b (record { command = suc j; sense = false }) e else if r then story_with_over b (sense_item (suc j)) else b).sent.over (command_item m) ≡ false
-    go true z r = or_no (same_item (command_item (suc j)) (command_item m)) (has_item b.sent.over (command_item m)) (and_true (suc j == m) ∙ apart (suc j == m) refl (second_is (is_open b.sent (suc j)) (drops c) z)) o
-    go false z true = or_no (same_item (sense_item (suc j)) (command_item m)) (has_item b.sent.over (command_item m)) (sense_apart (suc j) m) o
+    go true z r = or_from (same_item (command_item (suc j)) (command_item m)) (has_item b.sent.over (command_item m)) (and_true (suc j == m) ∙ apart (suc j == m) refl (second_is (is_open b.sent (suc j)) (drops c) z)) o
+    go false z true = or_from (same_item (sense_item (suc j)) (command_item m)) (has_item b.sent.over (command_item m)) (sense_apart (suc j) m) o
     go false z false = o
-
-not_is : (q : Bool) → not q ≡ true → q ≡ false
-not_is true e = wrong (sym e)
-not_is false e = refl
 
 id_back : (p q : ProcId) → same_id p q ≡ false → same_id q p ≡ false
 id_back p q e = go (same_id q p) refl
@@ -317,9 +309,9 @@ event_leaves s b (events.End id status) p h e = go (not id.sense && status == CH
     ended = story_with_end b id (by_status status)
 
     go : (q : Bool) → has_item (if q then record ended { sent = record ended.sent { checks = ended.sent.checks ++ id.command ∷ [] } } else ended).sent.over (process p.id) ≡ false
-    go true = or_no (same_id id p.id) (has_item b.sent.over (process p.id)) (id_back p.id id (not_is (same_id p.id id) e)) h.opens
-    go false = or_no (same_id id p.id) (has_item b.sent.over (process p.id)) (id_back p.id id (not_is (same_id p.id id) e)) h.opens
-event_leaves s b (events.Lost id) p h e = or_no (same_id id p.id) (has_item b.sent.over (process p.id)) (id_back p.id id (not_is (same_id p.id id) e)) h.opens
+    go true = or_from (same_id id p.id) (has_item b.sent.over (process p.id)) (id_back p.id id (not_is (same_id p.id id) e)) h.opens
+    go false = or_from (same_id id p.id) (has_item b.sent.over (process p.id)) (id_back p.id id (not_is (same_id p.id id) e)) h.opens
+event_leaves s b (events.Lost id) p h e = or_from (same_id id p.id) (has_item b.sent.over (process p.id)) (id_back p.id id (not_is (same_id p.id id) e)) h.opens
 event_leaves s b (events.Aborted i t n what) p h e = aborts_leave s b i t n what p h (not_is (is_dropped i t n what p) e)
 event_leaves s b (events.Reset dev) p h e = wrong (sym e)
 

@@ -1,6 +1,6 @@
 -- What is asked of a row, that the processes stand where they should after it, from what is owed of items, of what the rows tell and of
 -- the last message.
-use Rattle.std.proofs.Common.{ℕ, ◌≡◌, ◌⊎◌, ◌-◌, ◌+◌, Bool, true, false, ◌&&◌, ◌∙◌, List, ◌++◌, length, length-append, Some, None, refl, sym, ap, arith, true≢false}
+use Rattle.std.proofs.Common.{ℕ, ◌≡◌, ◌⊎◌, ◌-◌, ◌+◌, Bool, true, false, ◌&&◌, ◌∙◌, List, ◌++◌, length, length-append, Some, None, refl, sym, ap, arith}
 use Rattle.std.specs.Prelude.{if◌then◌else◌, is_some}
 use Rattle.bus_base.specs.declared.ProcId.{ProcId}
 use Rattle.bus_trace.specs.LineSet.{LineSet}
@@ -22,7 +22,6 @@ use Rattle.bus_story.specs.Story.{Story}
 use Rattle.bus_dialogue.specs.declared.exchange.Cause.TheVariants as causes
 use Rattle.bus_dialogue.specs.declared.exchange.Messages.{Messages}
 use Rattle.bus_dialogue.specs.declared.exchange.Next.TheVariants as nexts
-use Rattle.bus_dialogue.specs.declared.exchange.Phase.{Phase}
 use Rattle.bus_dialogue.specs.declared.exchange.Phase.TheVariants as phases
 use Rattle.bus_dialogue.specs.Exchange.{one_message, bytes_of_messages}
 use Rattle.bus_dialogue.specs.NextPhase.{phase_of}
@@ -30,10 +29,13 @@ use Rattle.bus_due.specs.Plain.{IsPlain}
 use Rattle.bus_due.specs.RunState.{RunState, bus_of}
 use Rattle.bus_due.specs.RunSteps.{run_state}
 use Rattle.bus_due.proofs.Plains.{run_state_plain}
+use Rattle.bus_books.specs.Hearing.{is_in_phase}
+use Rattle.bus_books.specs.Reactions.{is_command_phase}
 use Rattle.bus_books.specs.Traces.{GoesOn, Begins, Ends}
 use Rattle.trace_laws.proofs.ConnectionRows.{stage_of_connection}
+use Rattle.trace_laws.proofs.Impossible.{wrong'}
 use Rattle.trace_laws.proofs.Joint.{Stood, link_unbegun}
-use Rattle.trace_laws.proofs.PlaceEvents.{is_status, is_command_phase}
+use Rattle.trace_laws.proofs.PhaseLines.{is_status}
 use Rattle.trace_laws.proofs.PlaceTurnRows.{TellsOf, IsTurnAsked}
 use Rattle.trace_laws.proofs.PlaceStays.{IsStayAsked}
 use Rattle.trace_laws.proofs.PlaceEnds.{IsEndAsked}
@@ -41,12 +43,6 @@ use Rattle.trace_laws.proofs.PlaceNext.{SendsNone, IsResetAsked}
 use Rattle.trace_laws.proofs.PlaceFirst.{IsSelectedFor}
 use Rattle.trace_laws.proofs.PlaceRows.{PlaceAsked}
 use Rattle.trace_laws.proofs.PlaceRuns.{outside_runs}
-
-wrong : {A : Type 0} → true ≡ false → A
-wrong e = absurd (true≢false e)
-
-wrong' : {A : Type 0} → false ≡ true → A
-wrong' e = absurd (true≢false (sym e))
 
 -- ---- what is owed
 
@@ -75,11 +71,7 @@ one_byte before rest bytes count one e f =
     let two : length (before ++ rest) ≡ length before + length rest = length-append before rest in
     omega arith
 
-abbrev is_in : Phase → Bool
-is_in phases.MessageIn = true
-is_in _ = false
-
-in_lines : (m d o : Bool) → (m ≡ true → d ≡ true) → is_in (if m then (if o then phases.MessageIn else phases.MessageOut) else if d then (if o then phases.Status else phases.Command) else if o then phases.DataIn else phases.DataOut) ≡ true → (m ≡ true) × ((m && d && o) ≡ true)
+in_lines : (m d o : Bool) → (m ≡ true → d ≡ true) → is_in_phase (if m then (if o then phases.MessageIn else phases.MessageOut) else if d then (if o then phases.Status else phases.Command) else if o then phases.DataIn else phases.DataOut) ≡ true → (m ≡ true) × ((m && d && o) ≡ true)
 in_lines true true true f e = (refl, refl)
 in_lines true true false f e = wrong' e
 in_lines true false o f e = wrong' (f refl)
@@ -94,7 +86,7 @@ turn_asked s p row n c l was g owed = record {
   unnamed = owed.unnamed;
   unbegun = λ b. (ap (λ (x : LineSet). is_command_phase (phase_of x)) (sym g.row_is.bus_is ∙ pl.bus ∙ link_unbegun s p n (stage_of_connection s p n was con off) (sym pl.begun ∙ b)), ((was.books.speaks n g.row_is.connection_is g.calm).before_all b).cause_is);
   offers = owed.offers;
-  few = λ e m. few (in_lines (bus_of k).msg (bus_of k).cd (bus_of k).io (λ z. (g.phase z).0) (ap is_in e)) m;
+  few = λ e m. few (in_lines (bus_of k).msg (bus_of k).cd (bus_of k).io (λ z. (g.phase z).0) (ap is_in_phase e)) m;
   one_run = λ x e out. outside_runs s k n.target x e out;
   history_is = sym (pl.array ∙ ap (λ (b : Story). array_after s b.history) (sym pl.story));
 }

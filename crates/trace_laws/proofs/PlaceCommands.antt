@@ -1,6 +1,6 @@
 -- As COMMAND is left the command arrives or is refused, or fails where a byte was struck; with STATUS its reply is shown (6.1.6, 6.6.19,
 -- 7.8).
-use Rattle.std.proofs.Common.{inl, inr, ℕ, ◌≡◌, ◌⊎◌, Bool, true, false, not, ◌&&◌, ◌∙◌, List, [], ◌∷◌, Option, Some, None, refl, sym, ap, subst, true≢false}
+use Rattle.std.proofs.Common.{inl, inr, ℕ, ◌≡◌, ◌⊎◌, Bool, true, false, not, ◌&&◌, ◌∙◌, List, [], ◌∷◌, Option, Some, None, refl, sym, ap, subst}
 use Rattle.std.specs.Prelude.{if◌then◌else◌, is_some}
 use Rattle.std.specs.List.{list_any}
 use Rattle.std.proofs.lemmas.Option.{same_Some}
@@ -21,19 +21,13 @@ use Rattle.bus_dialogue.specs.declared.exchange.Next.{Next}
 use Rattle.bus_dialogue.specs.declared.exchange.Phase.{Phase}
 use Rattle.bus_dialogue.specs.declared.exchange.Phase.TheVariants as phases
 use Rattle.bus_dialogue.specs.NextPhase.{Serving, phase_leaving}
+use Rattle.ending_causes.specs.FullQueues.{is_refusal}
 use Rattle.trace_laws.specs.Places.{IsUntouched, IsAtRest, RunsOpen, AnsweredOpen, PlacedBefore, disconnects}
-use Rattle.trace_laws.proofs.PlaceEvents.{Passes, passes_on, Turned, turned_fails, turned_none, ArrivesAs, is_refusal, plan_for, accepts, refusal_planned, refused_so, is_status}
+use Rattle.trace_laws.proofs.Impossible.{wrong, wrong', none_some}
+use Rattle.trace_laws.proofs.PhaseLines.{is_status}
+use Rattle.trace_laws.proofs.PlaceEvents.{Passes, passes_on, Turned, turned_fails, turned_none, ArrivesAs, plan_for, accepts, refusal_planned, refused_so}
 use Rattle.trace_laws.proofs.PlaceLeavings.{LeadsRunning, LeavesStruck, restores, fails, frees, from_struck_command, ArrivedTo, from_command}
 use Rattle.trace_laws.proofs.PlaceTurns.{Standing, PlacedNext, none_shown, running_turn}
-
-wrong : {A : Type 0} → true ≡ false → A
-wrong e = absurd (true≢false e)
-
-wrong' : {A : Type 0} → false ≡ true → A
-wrong' e = absurd (true≢false (sym e))
-
-no_phase : {A : Type 0} (x : Phase) → (let o : Option Phase = None in o) ≡ Some x → A
-no_phase x e = absurd cc
 
 -- ---- the events
 
@@ -73,7 +67,7 @@ struck_turn s a p v atn history failure phase st h struck code to = go (from_str
         let c = is_code failure code in
         subst (λ (x : Phase). Turns s a p (command_shown s history p.id failure false x) l x) is
         (subst (λ (x : Option ℕ). Turned s a p.id (status_event p.id x ∷ []) (λ b. AnsweredOpen b p.id)) (sym c.1) (turned_fails s a p c.0 st.seats st.sound st.within st.process_is h))
-    go (frees e) = no_phase phase (sym e ∙ to)
+    go (frees e) = none_some phase (sym e ∙ to)
 
 -- ---- it arrives
 

@@ -1,5 +1,5 @@
 -- As a connection ends the initiator knows its process, and in MESSAGE IN the last message tells that it ends (6.6.5, 6.6.6, 6.6.13).
-use Rattle.std.proofs.Common.{inl, inr, ◌≡◌, ◌⊎◌, ◌<◌, Bool, true, false, ◌∙◌, List, ◌∷◌, Option, Some, None, refl, sym, ap, subst, true≢false}
+use Rattle.std.proofs.Common.{inl, inr, ◌≡◌, ◌⊎◌, ◌<◌, Bool, true, false, ◌∙◌, List, ◌∷◌, Option, Some, None, refl, sym, ap, subst}
 use Rattle.std.specs.Prelude.{is_some, if◌then◌else◌}
 use Rattle.bus_base.specs.declared.ProcId.{ProcId}
 use Rattle.bus_trace.specs.LineSet.{LineSet}
@@ -38,18 +38,10 @@ use Rattle.trace_laws.specs.Places.{PlaceFacts}
 use Rattle.trace_laws.specs.Tells.{Tells, LastIn, TellsAsLeft}
 use Rattle.trace_laws.proofs.ConnectionRows.{connection_row}
 use Rattle.trace_laws.proofs.Crossings.{RowFacts, stays, ends_here}
+use Rattle.trace_laws.proofs.Impossible.{wrong, some_none}
 use Rattle.trace_laws.proofs.Joint.{Stood}
 use Rattle.trace_laws.proofs.PlaceTurnRows.{no_task}
 use Rattle.trace_laws.proofs.TellEnds.{naming_goes_on}
-
-wrong : {A : Type 0} → true ≡ false → A
-wrong e = absurd (true≢false e)
-
-some_phase : {A : Type 0} (x : Phase) → Some x ≡ (let o : Option Phase = None in o) → A
-some_phase x e = absurd cc
-
-no_connection : {A : Type 0} (n : Connection) → Some n ≡ (let o : Option Connection = None in o) → A
-no_connection n e = absurd cc
 
 pub record EndTold (k : RunState) (l : Link) : Type 0 where
   pub named : (id : ProcId) → k.served ≡ Some (process id) → l.item ≡ Some (process id)
@@ -58,17 +50,17 @@ pub record EndTold (k : RunState) (l : Link) : Type 0 where
 
 -- MESSAGE IN is left for no phase where ATN is false and the bus is to be freed.
 frees_by : (v : Serving) (next : Next) → (v.task ≡ None → ⊥) → (after_messages v next).to ≡ None → next ≡ nexts.FreeBus
-frees_by v nexts.Command f e = some_phase phases.Command e
-frees_by v nexts.Status f e = some_phase phases.Status e
+frees_by v nexts.Command f e = some_none phases.Command e
+frees_by v nexts.Status f e = some_none phases.Status e
 frees_by v nexts.FreeBus f e = refl
 frees_by v nexts.GoOn f e = go v.task refl e
   where
     go : (o : Option Task) → v.task ≡ o → (with_task o (λ t. phase_entry (next_data_phase (policy_of v.def) t t.runs))).to ≡ None → nexts.GoOn ≡ nexts.FreeBus
     go None z w = absurd (f z)
-    go (Some t) z w = some_phase (next_data_phase (policy_of v.def) t t.runs) w
+    go (Some t) z w = some_none (next_data_phase (policy_of v.def) t t.runs) w
 
 unattended : (q : Bool) (l : Leaving) → (if q then phase_entry phases.MessageOut else l).to ≡ None → (q ≡ false) × (l.to ≡ None)
-unattended true l e = some_phase phases.MessageOut e
+unattended true l e = some_none phases.MessageOut e
 unattended false l e = (refl, e)
 
 pub end_told : (s : ScenarioValue) (p : List Row) (row : Row) (n : Connection) (l : Link) → Obeys s → IsPrompt s (row ∷ p) → Stood s p → PlaceFacts s p → TellsAsLeft s p row → Ends s (run_state s p) row n → (row_reading (run_state s p).story.bus_state row).change.after.rst ≡ false → (run_state s p).story.link ≡ Some l → EndTold (run_state s p) l
@@ -102,7 +94,7 @@ end_told s p row n l o prompt was h left g calm link = record { named = named; n
     freed (ends_here f) = (pl.begun ∙ f.begun_is, f.whereto)
     freed (stays f) =
         let some : (row_reading k.story.bus_state row).next ≡ Some n = ap (λ (x : RowReading). x.next) (reading_is k row n f.change _ f.row_is refl) in
-        no_connection n (sym some ∙ g.next_is)
+        some_none n (sym some ∙ g.next_is)
 
     ends : (k.exchange.begun ≡ true) × ((leaving s k n.target).to ≡ None)
     ends = freed (connection_row s p row n o prompt was con off off_after).facts
@@ -158,4 +150,4 @@ end_begun s p row n o prompt was g calm = freed (connection_row s p row n o prom
     freed (ends_here f) = pl.begun ∙ f.begun_is
     freed (stays f) =
         let some : (row_reading k.story.bus_state row).next ≡ Some n = ap (λ (x : RowReading). x.next) (reading_is k row n f.change _ f.row_is refl) in
-        no_connection n (sym some ∙ g.next_is)
+        some_none n (sym some ∙ g.next_is)

@@ -33,16 +33,17 @@ use Rattle.bus_dialogue.specs.NextPhase.{phase_of}
 use Rattle.bus_due.specs.RunState.{RunState, bus_of, process_item, process_served}
 use Rattle.bus_due.specs.RunSteps.{array_after_events}
 use Rattle.bus_books.specs.Accounts.{is_served_by}
+use Rattle.bus_books.specs.Hearing.{is_out_phase}
+use Rattle.bus_books.specs.Reactions.{is_command_phase}
 use Rattle.bus_books.proofs.Lookups.{id_is as ids_are, self_id}
 use Rattle.trace_laws.specs.Places.{AreWithin, IsUntouched, IsAtRest, Closes, completes, disconnects, PlacedBefore, PlacedAsked, PlacedIn, PlacedIf, HasPlaces}
 use Rattle.bus_base.specs.declared.AbortKind.{AbortKind}
+use Rattle.trace_laws.proofs.Impossible.{wrong}
 use Rattle.trace_laws.proofs.OtherProcesses.{rests_after, untouched_after}
 use Rattle.trace_laws.proofs.AnsweredProcesses.{lost_is, leaves}
+use Rattle.trace_laws.proofs.PhaseLines.{is_status, is_data_phase}
 use Rattle.trace_laws.proofs.PlaceEvents.{Passes, passes_same, passes_step}
 use Rattle.trace_laws.proofs.PlaceTurned.{other_id}
-
-wrong : {A : Type 0} → true ≡ false → A
-wrong e = absurd (true≢false e)
 
 -- ---- what is asked of it
 
@@ -107,23 +108,6 @@ data IsQuietOrAbort (xs : List Event) : Type 0 where
   quiet_end : xs ≡ [] → IsQuietOrAbort xs
   aborts_some : (i t u : ℕ) (what : AbortKind) → xs ≡ events.Aborted i t u what ∷ [] → IsQuietOrAbort xs
 
-abbrev is_out : Phase → Bool
-is_out phases.MessageOut = true
-is_out _ = false
-
-abbrev is_command : Phase → Bool
-is_command phases.Command = true
-is_command _ = false
-
-abbrev is_status : Phase → Bool
-is_status phases.Status = true
-is_status _ = false
-
-abbrev is_data : Phase → Bool
-is_data phases.DataIn = true
-is_data phases.DataOut = true
-is_data _ = false
-
 abbrev is_abort : Option Item → Bool
 is_abort (Some (abort m)) = true
 is_abort _ = false
@@ -177,11 +161,11 @@ end_row s k row n l h seats con off begun calm none link item asked = by_served 
         by : (x : Phase) → phase_of (bus_of k) ≡ x → PlacedIn a p k.exchange.plan k.handshakes (bus_of k).atn x → HasFreed s k row a
         by phases.MessageIn f (inl z) = closes f (subst (λ (y : Next). PlacedBefore a p k.exchange.plan.messages y) (asked.next p.id e f) z)
         by phases.MessageIn f (inr z) = stays f z.rests
-        by phases.MessageOut f z = loses (λ y. wrong (ap is_out (sym f ∙ y))) (open_asked a p k.exchange.plan k.exchange.plan.cause z)
-        by phases.Command f z = loses (λ y. wrong (ap is_command (sym f ∙ y))) z.open_is
+        by phases.MessageOut f z = loses (λ y. wrong (ap is_out_phase (sym f ∙ y))) (open_asked a p k.exchange.plan k.exchange.plan.cause z)
+        by phases.Command f z = loses (λ y. wrong (ap is_command_phase (sym f ∙ y))) z.open_is
         by phases.Status f z = loses (λ y. wrong (ap is_status (sym f ∙ y))) z.open_is
-        by phases.DataIn f z = loses (λ y. wrong (ap is_data (sym f ∙ y))) z.open_is
-        by phases.DataOut f z = loses (λ y. wrong (ap is_data (sym f ∙ y))) z.open_is
+        by phases.DataIn f z = loses (λ y. wrong (ap is_data_phase (sym f ∙ y))) z.open_is
+        by phases.DataOut f z = loses (λ y. wrong (ap is_data_phase (sym f ∙ y))) z.open_is
 
     -- of no process, or of an abort
     rests_all : process_served s k ≡ None → ((id : ProcId) → is_served_by k.served id ≡ false) → (xs : List Event) → row_events_by s k.story (row_reading k.story.bus_state row) row ≡ xs → IsQuietOrAbort xs → HasFreed s k row a

@@ -1,6 +1,6 @@
 -- The events of a process as its connection turns to another phase: the plain disk array permits them, and where the process stands
 -- then (6.1.6, 7.3, 7.8).
-use Rattle.std.proofs.Common.{inl, inr, ℕ, suc, ◌≡◌, Bool, true, false, not, ◌&&◌, ◌||◌, ◌∙◌, List, [], ◌∷◌, length, Option, Some, None, refl, sym, ap, subst, arith, true≢false}
+use Rattle.std.proofs.Common.{inl, inr, ℕ, suc, ◌≡◌, Bool, true, false, not, ◌&&◌, ◌||◌, ◌∙◌, List, [], ◌∷◌, length, Option, Some, None, refl, sym, ap, subst, arith}
 use Rattle.std.specs.Prelude.{if◌then◌else◌, ◌==◌, nat_lt}
 use Rattle.std.specs.List.{list_any}
 use Rattle.bus_base.specs.declared.ProcId.{ProcId}
@@ -22,15 +22,18 @@ use Rattle.bus_story.specs.HistoryEvents.{queue_event, queue_events, is_refuse, 
 use Rattle.bus_story.specs.Story.{Story}
 use Rattle.bus_dialogue.specs.declared.exchange.Arrival.{Arrival}
 use Rattle.bus_dialogue.specs.declared.exchange.Arrival.TheVariants as arrivals
-use Rattle.bus_dialogue.specs.declared.exchange.Phase.{Phase}
 use Rattle.bus_dialogue.specs.declared.exchange.Phase.TheVariants as phases
 use Rattle.bus_dialogue.specs.Arrivals.{arrival_by, is_never}
 use Rattle.bus_dialogue.specs.NextPhase.{phase_of}
 use Rattle.bus_due.specs.RunSteps.{array_after_events}
 use Rattle.bus_due.specs.Tasks.{is_idle_unit, room_of}
+use Rattle.ending_causes.specs.FullQueues.{is_refusal}
+use Rattle.bus_books.specs.Reactions.{is_command_phase}
 use Rattle.bus_books.proofs.Lookups.{number_is}
 use Rattle.trace_laws.specs.Places.{AreWithin, IsUntouched, IsAtRest, IsOutside, RunsOpen, AnsweredOpen}
+use Rattle.trace_laws.proofs.Impossible.{wrong, some_none}
 use Rattle.trace_laws.proofs.OtherProcesses.{is_of, untouched_after, rests_after, executed}
+use Rattle.trace_laws.proofs.PhaseLines.{is_status}
 use Rattle.trace_laws.proofs.QueueDepths.{within_after}
 use Rattle.trace_laws.proofs.ArrivingProcesses.{queued, queued_rests, guest_may_run, at_once_may_run, guest_answered, Arrives, as_guest, in_queue, arrives, refused_array, refuses, failed_reply, fails_new}
 use Rattle.trace_laws.proofs.AnsweredProcesses.{run_is, run_answers, fail_is, fail_answers}
@@ -116,12 +119,6 @@ ArrivesAs b p arrivals.Guest = RunsOpen b p
 ArrivesAs b p arrivals.AtOnce = RunsOpen b p × IsAtRest b p.id
 ArrivesAs b p arrivals.Queued = IsAtRest b p.id × (has_ended b p.id ≡ false)
 
-abbrev pub is_refusal : Arrival → Bool
-is_refusal arrivals.Refused = true
-is_refusal arrivals.Guest = false
-is_refusal arrivals.AtOnce = false
-is_refusal arrivals.Queued = false
-
 abbrev pub plan_for : Policy → Array → Process → Arrival
 plan_for policy a p = arrival_by policy (is_request_sense (command_of p.cdb)) (room_of a (unit_state_at a.units p.target p.unit))
 
@@ -141,9 +138,6 @@ record IsIdle (a : Array) (u : UnitState) : Type 0 where
   none_waits : u.waiting ≡ []
   none_runs : has_no_current u.current ≡ true
   free : is_held a.holds u.target u.unit ≡ false
-
-wrong : {A : Type 0} → true ≡ false → A
-wrong e = absurd (true≢false e)
 
 no_length : (n : ℕ) → (suc n == 0) ≡ true → ⊥
 no_length n e = let z : suc n ≡ 0 = number_is (suc n) 0 e in omega arith
@@ -194,23 +188,20 @@ accepts s a b p policy seats sound within e h f = go (arrives s a b p e f)
             made arrivals.Queued (planned ∙ ap (λ (q : Bool). if q then arrivals.AtOnce else arrivals.Queued) w) refl
             (subst (λ (x : Array). IsAtRest x p.id × (has_ended x p.id ≡ false)) (sym z) (queued_rests a p u at h, h.open_is))
 
-no_array : (x : Array) → Some x ≡ (let y : Option Array = None in y) → ⊥
-no_array x e = absurd cc
-
 -- It is refused, and planned so.
 pub refusal_planned : (s : ScenarioValue) (a : Array) (p : Process) (policy : Policy) → process_of s p.id ≡ Some p → Steps.step s (events.Accept p.id) a ≡ None → plan_for policy a p ≡ arrivals.Refused
 refusal_planned s a p policy e f = go (unit_state_at a.units p.target p.unit) refl ((λ i. Steps.settled_array_if (Steps.accept_step a (sym e i))) ∙ f)
   where
     go : (u : Option UnitState) → unit_state_at a.units p.target p.unit ≡ u → Steps.settled_array_if (Steps.accept_step_at a p u) ≡ None → plan_for policy a p ≡ arrivals.Refused
-    go None z k = absurd (no_array (settled_array (Steps.with_guest a p None)) k)
+    go None z k = absurd (some_none (settled_array (Steps.with_guest a p None)) k)
     go (Some u) z k = senses (is_request_sense (command_of p.cdb)) refl k
       where
         room : (y : Bool) → nat_lt (process_count u) u.depth ≡ y → is_request_sense (command_of p.cdb) ≡ false → Steps.settled_array_if (if y then Some (queued a p u) else None) ≡ None → plan_for policy a p ≡ arrivals.Refused
-        room true w x l = absurd (no_array (settled_array (queued a p u)) l)
+        room true w x l = absurd (some_none (settled_array (queued a p u)) l)
         room false w x l = in_queue_planned policy a p u false z x w
 
         senses : (x : Bool) → is_request_sense (command_of p.cdb) ≡ x → Steps.settled_array_if (if x then Some (Steps.with_guest a p None) else Steps.queue_step a p u) ≡ None → plan_for policy a p ≡ arrivals.Refused
-        senses true x l = absurd (no_array (settled_array (Steps.with_guest a p None)) l)
+        senses true x l = absurd (some_none (settled_array (Steps.with_guest a p None)) l)
         senses false x l = room (nat_lt (process_count u) u.depth) refl x l
 
 pub refused_so : (s : ScenarioValue) (a : Array) (p : Process) → HasSeats s → IsSound s a → AreWithin a.units → process_of s p.id ≡ Some p → IsUntouched a p.id → Steps.step s (events.Accept p.id) a ≡ None → Turned s a p.id (events.Refuse p.id ∷ []) (λ b. AnsweredOpen b p.id)
@@ -224,14 +215,6 @@ refused_so s a p seats sound within e h f =
     }
 
 -- ---- the events of a turn
-
-abbrev pub is_status : Phase → Bool
-is_status phases.Status = true
-is_status _ = false
-
-abbrev pub is_command_phase : Phase → Bool
-is_command_phase phases.Command = true
-is_command_phase _ = false
 
 status_lines : (m c i : Bool) → (not m && c && i) ≡ is_status (if m then (if i then phases.MessageIn else phases.MessageOut) else if c then (if i then phases.Status else phases.Command) else if i then phases.DataIn else phases.DataOut)
 status_lines true c true = refl

@@ -7,10 +7,9 @@ use Rattle.bus_trace.specs.declared.Row.{Row}
 use Rattle.bus_trace.specs.declared.connection.Connection.{Connection}
 use Rattle.scenario.specs.Value.{ScenarioValue}
 use Rattle.disk_array.specs.Processes.{Process, process_of}
-use Rattle.disk_array.specs.Units.{RunningProcess}
 use Rattle.disk_array.proofs.SoundArrays.{id_is}
 use Rattle.bus_story.specs.BusState.{RowReading, row_reading}
-use Rattle.bus_story.specs.Items.{Item, process, abort, Sent, has_item, same_item}
+use Rattle.bus_story.specs.Items.{Item, process, abort, Sent, has_item}
 use Rattle.bus_story.specs.Links.{link_of}
 use Rattle.bus_story.specs.Story.{Story, story_after_events}
 use Rattle.bus_story.specs.TraceHistory.{aim_of, story_with_restored, story_with_sent, story_after_connection, story_on_bus, story_by_change}
@@ -23,7 +22,7 @@ use Rattle.bus_dialogue.specs.NextPhase.{phase_of}
 use Rattle.bus_dialogue.specs.Planning.{first_plan}
 use Rattle.bus_dialogue.specs.Wants.{Ready}
 use Rattle.bus_due.specs.RunState.{RunState, or_start, bus_of, process_item, process_served}
-use Rattle.bus_due.specs.RunSteps.{run_state_after, array_after_events, first_exchange, exchange_after, served_after, may_negotiate, item_if, messages_if, leaving_of}
+use Rattle.bus_due.specs.RunSteps.{run_state_after, array_after_events, first_exchange, may_negotiate, item_if, messages_if}
 use Rattle.bus_due.specs.Wants.{ready_of, ready_among, seek_of}
 use Rattle.bus_books.specs.Accounts.{is_served_by}
 use Rattle.bus_books.specs.Items.{IsItem, is_process, is_abort}
@@ -32,22 +31,13 @@ use Rattle.bus_books.specs.Traces.{Begins}
 use Rattle.bus_books.proofs.Lookups.{self_id}
 use Rattle.trace_laws.specs.Places.{fresh, IsUntouched, IsAtRest, RunsOpen, PlacedBefore, PlacedIn, PlacedIf, HasPlaces}
 use Rattle.trace_laws.proofs.ArrivingProcesses.{not_running}
+use Rattle.trace_laws.proofs.Impossible.{some_none, none_some}
 use Rattle.trace_laws.proofs.NamedFirst.{first_sent}
-use Rattle.trace_laws.proofs.OfferTurns.{message_in_phase}
+use Rattle.trace_laws.proofs.PhaseLines.{in_phase}
 use Rattle.trace_laws.proofs.PlaceNext.{apart_shown}
 use Rattle.trace_laws.proofs.PlaceReady.{MayBeReady, ready_runs}
-
-wrong : {A : Type 0} → true ≡ false → A
-wrong e = absurd (true≢false e)
-
-no_connection : {A : Type 0} (n : Connection) → Some n ≡ (let o : Option Connection = None in o) → A
-no_connection n e = absurd cc
-
-no_process : {A : Type 0} (p : Process) → (let a : Option Process = None in a) ≡ Some p → A
-no_process p e = absurd cc
-
-some_running : {A : Type 0} (r : RunningProcess) → Some r ≡ (let a : Option RunningProcess = None in a) → A
-some_running r e = absurd cc
+use Rattle.trace_laws.proofs.PointerBegins.{first_served, first_made}
+use Rattle.trace_laws.proofs.SentItems.{less_has}
 
 -- What a selection is for: an item of the scenario that was not sent.
 pub record IsSelectedFor (s : ScenarioValue) (k : RunState) (n : Connection) : Type 0 where
@@ -57,9 +47,6 @@ pub record IsSelectedFor (s : ScenarioValue) (k : RunState) (n : Connection) : T
   pub item_is : IsItem s n.initiator item
 
 -- ---- what is served and sent
-
-served_first : (s : ScenarioValue) (k : RunState) (row : Row) (n : Connection) → IsFirstRow k row n → (run_state_after s k row).served ≡ (if n.reselected then item_if (ready_of s k n.target) else aim_of k.story.aims n.initiator)
-served_first s k row n f = λ i. served_after s k (f.connection_is i) (f.next_is i)
 
 sent_with : (b : Story) (n : Connection) (item : Item) → n.reselected ≡ false → aim_of b.aims n.initiator ≡ Some item → (story_after_connection b n).sent.sent ≡ item ∷ b.sent.sent
 sent_with b n item e f =
@@ -81,18 +68,8 @@ sent_first s k row n item f link e aim =
 pub shown_first : (s : ScenarioValue) (k : RunState) (row : Row) (n : Connection) (h : HasPlaces s k) → IsFirstRow k row n → k.story.link ≡ None → (run_state_after s k row).array ≡ Some h.array
 shown_first s k row n h f link = λ i. array_after_events s (h.array_is i) (apart_shown s k row link f.calm i)
 
-begun_first : (s : ScenarioValue) (k : RunState) (row : Row) (n : Connection) → IsFirstRow k row n → (run_state_after s k row).exchange ≡ first_exchange s k n (aim_of k.story.aims n.initiator)
-begun_first s k row n f = λ i. exchange_after s k row (row_reading k.story.bus_state row) (f.connection_is i) (f.next_is i) (leaving_of s k k.story.bus_state.connection)
-
 pub rest_first : (s : ScenarioValue) (k : RunState) (row : Row) (n : Connection) (h : HasPlaces s k) → IsFirstRow k row n → (id : ProcId) → IsAtRest h.array id
 rest_first s k row n h f id = h.rests id (ap (λ (y : Option Item). is_served_by y id) (h.unserved f.connection_is))
-
-later_item : (x y : Item) (items : List Item) → has_item (x ∷ items) y ≡ false → has_item items y ≡ false
-later_item x y items e = go (same_item x y) e
-  where
-    go : (q : Bool) → (q || has_item items y) ≡ false → has_item items y ≡ false
-    go true z = wrong z
-    go false z = z
 
 own_item : (id : ProcId) (items : List Item) → has_item (process id ∷ items) (process id) ≡ true
 own_item id items = λ i. self_id id i || has_item items (process id)
@@ -120,13 +97,13 @@ selected_on s k row n h b link e a = record {
   array_is = shown_first s k row n h f link;
   sound = h.sound;
   within = h.within;
-  unsent = λ id z. h.unsent id (later_item a.item (process id) k.story.sent.sent (ap (λ (x : List Item). has_item x (process id)) (sym sent) ∙ z));
+  unsent = λ id z. h.unsent id (less_has a.item (process id) k.story.sent.sent (ap (λ (x : List Item). has_item x (process id)) (sym sent) ∙ z));
   rests = λ id z. rest_first s k row n h f id;
   reset = λ z id. rest_first s k row n h f id;
-  unserved = λ z. no_connection n (sym f.next_is ∙ z);
+  unserved = λ z. some_none n (sym f.next_is ∙ z);
   sent = λ id z. ap (λ (x : List Item). has_item x (process id)) sent ∙ ap (λ (x : Item). has_item (x ∷ k.story.sent.sent) (process id)) (item_is id z) ∙ own_item id k.story.sent.sent;
   of_scenario = λ id z. of_item s n.initiator a.item a.item_is id (item_is id z);
-  placed = λ m x y p z. subst (λ (q : Bool). PlacedIf q h.array p j.exchange.plan j.handshakes (bus_of j).atn (phase_of (bus_of j))) (sym (ap (λ (x : Exchange). x.begun) (begun_first s k row n f) ∙ e)) (new p z);
+  placed = λ m x y p z. subst (λ (q : Bool). PlacedIf q h.array p j.exchange.plan j.handshakes (bus_of j).atn (phase_of (bus_of j))) (sym (ap (λ (x : Exchange). x.begun) (first_made s k row n f) ∙ e)) (new p z);
 }
   where
     j : RunState
@@ -136,7 +113,7 @@ selected_on s k row n h b link e a = record {
     f = b.first
 
     served : j.served ≡ Some a.item
-    served = served_first s k row n f ∙ ap (λ (q : Bool). if q then item_if (ready_of s k n.target) else aim_of k.story.aims n.initiator) e ∙ a.aim_is
+    served = first_served s k row n f ∙ ap (λ (q : Bool). if q then item_if (ready_of s k n.target) else aim_of k.story.aims n.initiator) e ∙ a.aim_is
 
     sent : j.story.sent.sent ≡ a.item ∷ k.story.sent.sent
     sent = sent_first s k row n a.item f link e a.aim_is
@@ -149,7 +126,7 @@ selected_on s k row n h b link e a = record {
       where
         go : (x : Item) → a.item ≡ x → process_item s (Some x) ≡ Some p → IsUntouched h.array p.id
         go (process id) y w = subst (λ (v : ProcId). IsUntouched h.array v) (sym (id_is s id p w)) (h.unsent id (ap (λ (v : Item). has_item k.story.sent.sent v) (sym y) ∙ a.unsent))
-        go (abort m) y w = no_process p w
+        go (abort m) y w = none_some p w
 
 -- ---- a reselection
 
@@ -162,7 +139,7 @@ reselected_on s k row n h b link e = record {
   unsent = λ id z. h.unsent id (ap (λ (x : List Item). has_item x (process id)) (sym sent) ∙ z);
   rests = λ id z. rest_first s k row n h f id;
   reset = λ z id. rest_first s k row n h f id;
-  unserved = λ z. no_connection n (sym f.next_is ∙ z);
+  unserved = λ z. some_none n (sym f.next_is ∙ z);
   sent = λ id z. ap (λ (x : List Item). has_item x (process id)) sent ∙ ap (λ (x : Item). has_item k.story.sent.sent x) (sym (same_Some (process r.process.id) (process id) (sym served ∙ z))) ∙ was_sent (has_item k.story.sent.sent (process r.process.id)) refl;
   of_scenario = λ id z. (r.process, ap (λ (x : Item). process_of s (id_of x)) (sym (same_Some (process r.process.id) (process id) (sym served ∙ z))) ∙ ready.process_is);
   placed = λ m x y p z. subst (λ (q : Bool). PlacedIf q h.array p j.exchange.plan j.handshakes (bus_of j).atn (phase_of (bus_of j))) (sym (ap (λ (x : Exchange). x.begun) made ∙ e))
@@ -183,10 +160,10 @@ reselected_on s k row n h b link e = record {
     id_of (abort m) = r.process.id
 
     made : j.exchange ≡ first_exchange s k n (aim_of k.story.aims n.initiator)
-    made = begun_first s k row n f
+    made = first_made s k row n f
 
     served : j.served ≡ Some (process r.process.id)
-    served = served_first s k row n f ∙ ap (λ (q : Bool). if q then item_if (ready_of s k n.target) else aim_of k.story.aims n.initiator) e ∙ ap item_if (b.reselects e).ready_is
+    served = first_served s k row n f ∙ ap (λ (q : Bool). if q then item_if (ready_of s k n.target) else aim_of k.story.aims n.initiator) e ∙ ap item_if (b.reselects e).ready_is
 
     sent : j.story.sent.sent ≡ k.story.sent.sent
     sent = ap (λ (x : Sent). x.sent) (first_sent s k row n f link e)
@@ -199,10 +176,10 @@ reselected_on s k row n h b link e = record {
 
     was_sent : (q : Bool) → has_item k.story.sent.sent (process r.process.id) ≡ q → has_item k.story.sent.sent (process r.process.id) ≡ true
     was_sent true z = z
-    was_sent false z = some_running (fresh r.process) (sym ready.runs.runs.running_is ∙ not_running h.array r.process.id (h.unsent r.process.id z).away)
+    was_sent false z = some_none (fresh r.process) (sym ready.runs.runs.running_is ∙ not_running h.array r.process.id (h.unsent r.process.id z).away)
 
     phase : phase_of (bus_of j) ≡ phases.MessageIn
-    phase = message_in_phase (bus_of j) (b.names e)
+    phase = in_phase (bus_of j) (b.names e)
 
     next : j.exchange.plan.next ≡ nexts.GoOn
     next = ap (λ (x : Exchange). x.plan.next) made ∙ ap (λ (q : Bool). (first_plan q (not q && may_negotiate k n (aim_of k.story.aims n.initiator)) (if q then messages_if (ready_of s k n.target) else no_messages)).next) e

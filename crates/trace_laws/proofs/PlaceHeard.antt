@@ -1,5 +1,5 @@
 -- What the seam of what a target hears asks of the place of its process follows from where the process stands.
-use Rattle.std.proofs.Common.{inl, inr, ◌≡◌, ◌⊎◌, Bool, true, false, not, ◌&&◌, ◌∙◌, Option, refl, sym, ap, true≢false}
+use Rattle.std.proofs.Common.{inl, inr, ◌≡◌, ◌⊎◌, Bool, true, false, not, ◌&&◌, ◌∙◌, Option, refl, sym, ap}
 use Rattle.std.specs.Prelude.{is_some, is_none}
 use Rattle.disk_array.specs.Processes.{Process}
 use Rattle.disk_array.specs.Units.{Array}
@@ -15,9 +15,7 @@ use Rattle.bus_dialogue.specs.declared.exchange.Plan.{Plan}
 use Rattle.scsi_device.specs.Heard.{is_new, is_unanswered, is_answered, is_placed, is_command_phase, moves_data}
 use Rattle.trace_laws.specs.Places.{IsUntouched, RunsOpen, AnsweredOpen, PlacedBefore, PlacedIn}
 use Rattle.trace_laws.proofs.ArrivingProcesses.{not_waiting, not_running}
-
-wrong : {A : Type 0} → true ≡ false → A
-wrong e = absurd (true≢false e)
+use Rattle.trace_laws.proofs.Impossible.{wrong}
 
 pub new_heard : (a : Array) (p : Process) → IsUntouched a p.id → is_new a p ≡ true
 new_heard a p h = λ i. not (not_waiting a.units p.id h.away.units i) && is_none (not_running a p.id h.away i) && is_none (h.reply i)

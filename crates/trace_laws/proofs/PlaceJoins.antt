@@ -1,5 +1,5 @@
 -- What is asked of a row, that the processes stand where they should after it, from the laws of items and of requests.
-use Rattle.std.proofs.Common.{inl, inr, ◌≡◌, ◌⊎◌, ◌<◌, Bool, true, false, not, ◌&&◌, ◌∙◌, List, ◌∷◌, Option, Some, None, refl, sym, ap, true≢false}
+use Rattle.std.proofs.Common.{inl, inr, ◌≡◌, ◌⊎◌, ◌<◌, Bool, true, false, not, ◌&&◌, ◌∙◌, List, ◌∷◌, Option, Some, None, refl, sym, ap}
 use Rattle.std.specs.Prelude.{if◌then◌else◌, is_some}
 use Rattle.bus_base.specs.declared.ProcId.{ProcId}
 use Rattle.bus_trace.specs.LineSet.{LineSet}
@@ -19,10 +19,8 @@ use Rattle.bus_story.specs.Items.{Sent, process}
 use Rattle.bus_story.specs.Links.{Link}
 use Rattle.bus_story.specs.Story.{Story}
 use Rattle.bus_story.specs.TraceHistory.{story_in_connection, story_on_bus, story_by_change}
-use Rattle.bus_dialogue.specs.declared.exchange.Cause.{Cause}
 use Rattle.bus_dialogue.specs.declared.exchange.Cause.TheVariants as causes
 use Rattle.bus_dialogue.specs.declared.exchange.Next.TheVariants as nexts
-use Rattle.bus_dialogue.specs.declared.exchange.Phase.{Phase}
 use Rattle.bus_dialogue.specs.declared.exchange.Phase.TheVariants as phases
 use Rattle.bus_dialogue.specs.declared.exchange.Said.{Said}
 use Rattle.bus_dialogue.specs.NextPhase.{phase_of}
@@ -31,6 +29,8 @@ use Rattle.bus_due.specs.Plain.{IsPlain, AreOfDevices}
 use Rattle.bus_due.specs.RunState.{RunState, bus_of}
 use Rattle.bus_due.specs.RunSteps.{run_state}
 use Rattle.bus_due.proofs.Plains.{run_state_plain}
+use Rattle.bus_books.specs.Hearing.{is_out_phase}
+use Rattle.bus_books.specs.Reactions.{is_command_phase}
 use Rattle.bus_books.specs.Speaking.{Speaks}
 use Rattle.bus_books.specs.Traces.{GoesOn, Begins, Ends}
 use Rattle.bus_books.proofs.Aims.{aims_are}
@@ -39,12 +39,14 @@ use Rattle.bus_laws.proofs.Prompt.{least_is}
 use Rattle.trace_laws.specs.ItemFacts.{ItemFacts}
 use Rattle.trace_laws.specs.Offers.{OfferFacts, Offers, IsHeardOut, opens, repeats, answers_it, detects, is_detected}
 use Rattle.trace_laws.proofs.FreshItems.{items_fresh}
+use Rattle.trace_laws.proofs.Impossible.{wrong, wrong', some_none}
 use Rattle.trace_laws.proofs.ItemFacts.{rst_raised}
 use Rattle.trace_laws.proofs.Joint.{Stood}
+use Rattle.trace_laws.proofs.NamedTurns.{is_message_cause}
 use Rattle.trace_laws.proofs.OfferLeavings.{parity_said, all_said}
+use Rattle.trace_laws.proofs.PhaseLines.{is_status}
 use Rattle.trace_laws.proofs.PlaceAsks.{PlaceOwed}
 use Rattle.trace_laws.proofs.PlaceEnds.{IsEndAsked}
-use Rattle.trace_laws.proofs.PlaceEvents.{is_status, is_command_phase}
 use Rattle.trace_laws.proofs.PlaceFirst.{IsSelectedFor}
 use Rattle.trace_laws.proofs.PlaceNext.{SendsNone, IsResetAsked}
 use Rattle.trace_laws.proofs.PlaceStays.{IsStayAsked}
@@ -52,20 +54,11 @@ use Rattle.trace_laws.proofs.PlaceTurnRows.{TellsOf}
 use Rattle.trace_laws.proofs.RowItems.{inside_sent}
 use Rattle.trace_laws.proofs.SentItems.{events_sent, free_keeps}
 
-wrong : {A : Type 0} → true ≡ false → A
-wrong e = absurd (true≢false e)
-
-wrong' : {A : Type 0} → false ≡ true → A
-wrong' e = absurd (true≢false (sym e))
-
-no_connection : {A : Type 0} (n : Connection) → Some n ≡ (let o : Option Connection = None in o) → A
-no_connection n e = absurd cc
-
 -- ---- what is sent
 
 on_bus_sent : (s : ScenarioValue) (b : Story) (m n : Option Connection) (d : RowReading) (row : Row) → (m ≡ None → n ≡ None) → (story_on_bus s b m n d row).sent.sent ≡ b.sent.sent
 on_bus_sent s b None None d row f = (free_keeps s b d row).2
-on_bus_sent s b None (Some n) d row f = no_connection n (f refl)
+on_bus_sent s b None (Some n) d row f = some_none n (f refl)
 on_bus_sent s b (Some m) None d row f = refl
 on_bus_sent s b (Some m) (Some n) d row f = go b.link
   where
@@ -87,26 +80,18 @@ sends_none s k row f = events_sent s (story_by_change s k.story d row) (row_even
 
 -- ---- a request is answered where COMMAND follows
 
-abbrev is_in_message : Cause → Bool
-is_in_message causes.InMessage = true
-is_in_message _ = false
-
 answers_at : (k : RunState) (s : ScenarioValue) (n : Connection) → Speaks s k n → k.exchange.begun ≡ true → is_message_out (bus_of k) ≡ true → k.story.bus_state.dialogue.is_last ≡ true → Offers k → k.exchange.plan.cause ≡ causes.InMessage → is_some k.exchange.plan.said.offer ≡ true → k.exchange.plan.next ≡ nexts.Command
 answers_at k s n sp b m last of c some = go (of.out b m)
   where
     go : IsHeardOut k.exchange k.story.bus_state.dialogue → k.exchange.plan.next ≡ nexts.Command
-    go (opens e ao av v q) = wrong' (ap is_in_message (sym e ∙ c))
+    go (opens e ao av v q) = wrong' (ap is_message_cause (sym e ∙ c))
     go (repeats before e one w q) =
         let none = ap (λ (z : Said). z.offer) (all_said k.exchange k.story.bus_state.dialogue _ (sp.in_message_out b m).heard last one.words_are ∙ parity_said) in
         wrong' (ap is_some (sym none) ∙ some)
     go (answers_it a e command one q) = command
     go (detects e one q) = wrong' (sym (ap is_detected c) ∙ e)
 
-abbrev is_out : Phase → Bool
-is_out phases.MessageOut = true
-is_out _ = false
-
-out_lines : (m d o : Bool) → (m ≡ true → d ≡ true) → is_out (if m then (if o then phases.MessageIn else phases.MessageOut) else if d then (if o then phases.Status else phases.Command) else if o then phases.DataIn else phases.DataOut) ≡ true → (m ≡ true) × ((m && d && not o) ≡ true)
+out_lines : (m d o : Bool) → (m ≡ true → d ≡ true) → is_out_phase (if m then (if o then phases.MessageIn else phases.MessageOut) else if d then (if o then phases.Status else phases.Command) else if o then phases.DataIn else phases.DataOut) ≡ true → (m ≡ true) × ((m && d && not o) ≡ true)
 out_lines true true true f e = wrong' e
 out_lines true true false f e = (refl, refl)
 out_lines true false o f e = wrong' (f refl)
@@ -168,7 +153,7 @@ places_owed s p row a o prompt was items offers left = record {
 
     asked : (n : Connection) (x : Change) → GoesOn s k row n x → changes_phase x ≡ true → phase_of (bus_of k) ≡ phases.MessageOut → k.exchange.plan.cause ≡ causes.InMessage → is_some k.exchange.plan.said.offer ≡ true → k.exchange.plan.next ≡ nexts.Command
     asked n x g e ph cause some =
-        let lines = out_lines (bus_of k).msg (bus_of k).cd (bus_of k).io (λ z. (g.phase z).0) (ap is_out ph) in
+        let lines = out_lines (bus_of k).msg (bus_of k).cd (bus_of k).io (λ z. (g.phase z).0) (ap is_out_phase ph) in
         let con = g.row_is.connection_is in
         answers_at k s n (was.books.speaks n con g.calm) (g.phase lines.0).1 lines.1 ((g.leaves (ap changes_phase g.row_is.change_is ∙ e)).out ph)
         (offers n (sym pl.connection ∙ con) (sym (ap (λ (y : LineSet). y.rst) pl.bus) ∙ g.calm)) cause some

@@ -23,6 +23,7 @@ use Rattle.bus_dialogue.specs.Exchange.{one_message}
 use Rattle.bus_dialogue.specs.NextPhase.{Serving, bus_free, phase_entry, with_task, recovery, recovery_limit, pointer_restoration, next_data_phase, request_or_command, after_offer, message_repetition, message_out_leaving, after_messages, disconnection, disconnect_messages, after_arrival, after_run, data_in_leaving, phase_leaving}
 use Rattle.bus_dialogue.specs.Words.{request_by, is_naming}
 use Rattle.trace_laws.specs.Places.{TellNoEnd}
+use Rattle.trace_laws.proofs.Impossible.{wrong}
 
 -- ---- of a process that runs
 
@@ -125,9 +126,6 @@ data_next outside policy t made = go t.replied (nat_lt made (runs_in_all policy 
 -- One outside the queue has one run at most.
 abbrev pub HasOneRun : Bool → Serving → Type 0
 HasOneRun outside v = outside ≡ true → (t : Task) → v.task ≡ Some t → nat_lt (t.runs + 1) (runs_in_all (policy_of v.def) t) ≡ false
-
-wrong : {A : Type 0} → true ≡ false → A
-wrong e = absurd cc
 
 run_left : (outside : Bool) (policy : Policy) (t : Task) → (outside ≡ true → nat_lt (t.runs + 1) (runs_in_all policy t) ≡ false) → LeadsRunning outside (after_run policy t)
 run_left outside policy t h = go outside (nat_lt (t.runs + 1) (runs_in_all policy t)) policy h

@@ -1,5 +1,5 @@
 -- Until the initiator knows the process neither COMMAND is left nor STATUS begins; and no fault row lets it take a message (6.6.7, 6.6.13).
-use Rattle.std.proofs.Common.{inl, inr, ◌≡◌, ◌<◌, Bool, true, false, not, ◌&&◌, ◌∙◌, List, ◌∷◌, Option, Some, None, refl, sym, ap, true≢false}
+use Rattle.std.proofs.Common.{inl, inr, ◌≡◌, ◌<◌, Bool, true, false, not, ◌&&◌, ◌∙◌, List, ◌∷◌, Option, Some, None, refl, sym, ap}
 use Rattle.std.specs.Prelude.{if◌then◌else◌}
 use Rattle.bus_trace.specs.LineSet.{LineSet}
 use Rattle.bus_trace.specs.declared.Row.{Row}
@@ -28,37 +28,24 @@ use Rattle.bus_due.specs.RunState.{RunState, bus_of, item_of}
 use Rattle.bus_due.specs.RunSteps.{run_state}
 use Rattle.bus_due.specs.Sights.{serving_of, leaving}
 use Rattle.bus_due.proofs.Plains.{run_state_plain}
+use Rattle.bus_books.specs.Reactions.{is_command_phase}
 use Rattle.bus_books.specs.Traces.{GoesOn}
 use Rattle.bus_books.proofs.InConnection.{reading_is}
+use Rattle.bus_books.proofs.RowTies.{not_is}
 use Rattle.bus_laws.proofs.Apart.{change_plain}
 use Rattle.bus_laws.proofs.Prompt.{least_is}
 use Rattle.bus_laws.proofs.Rows.{fault_change}
 use Rattle.bus_laws.specs.Rows.{change_to}
+use Rattle.link_laws.proofs.Moves.{no_rise}
 use Rattle.trace_laws.specs.Tells.{Tells, TellsAsLeft}
 use Rattle.trace_laws.proofs.ConnectionRows.{connection_row, stage_of_connection}
 use Rattle.trace_laws.proofs.Crossings.{RowFacts, stays, ends_here}
+use Rattle.trace_laws.proofs.Impossible.{wrong, wrong', none_some}
 use Rattle.trace_laws.proofs.Joint.{Stood, NextStood, link_unbegun}
-use Rattle.trace_laws.proofs.OfferTurns.{message_out_phase}
-use Rattle.trace_laws.proofs.PlaceEvents.{is_status, is_command_phase}
+use Rattle.trace_laws.proofs.PhaseLines.{out_phase, is_status}
 use Rattle.trace_laws.proofs.PlaceLeavings.{Repeats, commands, again, leaves, from_refusal}
 
-wrong : {A : Type 0} → true ≡ false → A
-wrong e = absurd (true≢false e)
-
-wrong' : {A : Type 0} → false ≡ true → A
-wrong' e = absurd (true≢false (sym e))
-
-no_phase : {A : Type 0} (x : Phase) → (let o : Option Phase = None in o) ≡ Some x → A
-no_phase x e = absurd cc
-
-no_connection : {A : Type 0} (n : Connection) → (let o : Option Connection = None in o) ≡ Some n → A
-no_connection n e = absurd cc
-
 -- ---- a fault row
-
-never_rises : (q : Bool) → rises q q ≡ false
-never_rises true = refl
-never_rises false = refl
 
 -- The row with which the initiator takes COMMAND COMPLETE is no fault row.
 pub takes_by_lines : (s : ScenarioValue) (p : List Row) (row : Row) (n : Connection) (c : Change) (l : Link) → row.dev < 8 → AreOfDevices p → GoesOn s (run_state s p) row n c → is_completion l c ≡ true → is_fault row.kind ≡ false
@@ -79,17 +66,13 @@ takes_by_lines s p row n c l lt dv g e = go row.kind refl
     go (Fault bit) f =
         let o : LineSet = drives p row.dev in
         let same : c ≡ change_to (bus p) (bus p) o o = is ∙ (λ i. change_of p (record { time = row.time; dev = row.dev; kind = f i })) ∙ fault_change p row.time row.dev bit (bus p) o refl refl in
-        wrong (sym rose ∙ ap (λ (x : Change). rises x.before.ack x.after.ack) same ∙ never_rises (bus p).ack)
+        wrong (sym rose ∙ ap (λ (x : Change). rises x.before.ack x.after.ack) same ∙ no_rise (bus p).ack)
 
 -- ---- the names of a reselection
 
 abbrev not_status : Option Phase → Bool
 not_status None = true
 not_status (Some p) = not (is_status p)
-
-no_status : (q : Bool) → not q ≡ true → q ≡ false
-no_status true e = wrong' e
-no_status false e = refl
 
 pub unnamed_turn : (s : ScenarioValue) (p : List Row) (row : Row) (n : Connection) (c : Change) (l : Link) → Obeys s → IsPrompt s (row ∷ p) → Stood s p → NextStood s p row → TellsAsLeft s p row → GoesOn s (run_state s p) row n c → changes_phase c ≡ true → (run_state s p).story.link ≡ Some l → l.item ≡ None → (is_status (phase_of c.after) ≡ false) × (is_command_phase (phase_of c.before) ≡ false)
 unnamed_turn s p row n c l o prompt was next left g ep link none = by_begun k.exchange.begun refl
@@ -130,15 +113,15 @@ unnamed_turn s p row n c l o prompt was next left g ep link none = by_begun k.ex
         f.whereto (ap changes_phase is ∙ ep) (sym pl.begun ∙ b) ∙ ap (λ (x : Change). Some (phase_of x.after)) is
     whereto b (ends_here f) =
         let some : (row_reading k.story.bus_state row).next ≡ Some n = ap (λ (x : RowReading). x.next) (reading_is k row n c _ g.row_is refl) in
-        no_connection n (sym f.stopped ∙ sym pl2.connection ∙ some)
+        none_some n (sym f.stopped ∙ sym pl2.connection ∙ some)
 
     after_is : (x : Leaving) → x.to ≡ Some (phase_of c.after) → not_status x.to ≡ true → is_status (phase_of c.after) ≡ false
-    after_is x e f = no_status (is_status (phase_of c.after)) (ap not_status (sym e) ∙ f)
+    after_is x e f = not_is (is_status (phase_of c.after)) (ap not_status (sym e) ∙ f)
 
     repeats : Repeats v (message_out_leaving v causes.InMessage) → (message_out_leaving v causes.InMessage).to ≡ Some (phase_of c.after) → is_status (phase_of c.after) ≡ false
     repeats (commands e f) to = after_is (phase_entry phases.Command) (ap (λ (x : Leaving). x.to) (sym f) ∙ to) refl
     repeats (again e f h) to = after_is (message_out_leaving v causes.InMessage) to (ap not_status e)
-    repeats (leaves e) to = no_phase (phase_of c.after) (sym e ∙ to)
+    repeats (leaves e) to = none_some (phase_of c.after) (sym e ∙ to)
 
     by_begun : (q : Bool) → k.exchange.begun ≡ q → (is_status (phase_of c.after) ≡ false) × (is_command_phase (phase_of c.before) ≡ false)
     by_begun true b = elim (tells.naming (ap item_of link ∙ none)) [
@@ -155,4 +138,4 @@ unnamed_turn s p row n c l o prompt was next left g ep link none = by_begun k.ex
         to = ap (λ (q : Bool). (leaving_by v q (bus_of k)).to) (sym b) ∙ whereto b (connection_row s p row n o prompt was con off calm).facts
     by_begun false b =
         let m : is_message_out c.after ≡ true = ap (λ (x : Change). is_message_out x.after) (sym g.row_is.change_is) ∙ g.first (ap changes_phase g.row_is.change_is ∙ ep) b in
-        (ap is_status (message_out_phase c.after m), ap (λ (x : LineSet). is_command_phase (phase_of x)) (sym g.row_is.bus_is ∙ pl.bus ∙ link_unbegun s p n (stage_of_connection s p n was con off) (sym pl.begun ∙ b)))
+        (ap is_status (out_phase c.after m), ap (λ (x : LineSet). is_command_phase (phase_of x)) (sym g.row_is.bus_is ∙ pl.bus ∙ link_unbegun s p n (stage_of_connection s p n was con off) (sym pl.begun ∙ b)))

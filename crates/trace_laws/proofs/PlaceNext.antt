@@ -1,6 +1,6 @@
 -- Where the processes stand after a row, by what it leaves of the plain disk array: one of a connection, one with which it ends, one
 -- without a connection, and one under RST.
-use Rattle.std.proofs.Common.{◌≡◌, Bool, true, false, ◌∙◌, List, [], ◌∷◌, Option, Some, None, refl, sym, ap, subst, true≢false}
+use Rattle.std.proofs.Common.{◌≡◌, Bool, true, false, ◌∙◌, List, [], ◌∷◌, Option, Some, None, refl, sym, ap, subst}
 use Rattle.std.specs.Prelude.{if◌then◌else◌}
 use Rattle.bus_base.specs.declared.ProcId.{ProcId}
 use Rattle.bus_base.specs.declared.Event.TheVariants as events
@@ -24,22 +24,11 @@ use Rattle.bus_books.proofs.InConnection.{InConnection}
 use Rattle.bus_books.proofs.Lookups.{id_is as ids_are}
 use Rattle.trace_laws.specs.Places.{AreWithin, Waits, Runs, OnUnits, OnGuests, IsAway, IsUntouched, IsAtRest, HasPlaces}
 use Rattle.trace_laws.proofs.EachProcess.{each_settled, each_same, attended_same}
+use Rattle.trace_laws.proofs.Impossible.{wrong, some_none, none_some}
 use Rattle.trace_laws.proofs.OtherProcesses.{away_rests, untouched_after}
 use Rattle.trace_laws.proofs.PlaceEvents.{passes_step}
 use Rattle.trace_laws.proofs.PlaceTurnRows.{RowPlaced}
 use Rattle.trace_laws.proofs.PlaceEnds.{HasFreed}
-
-wrong : {A : Type 0} → true ≡ false → A
-wrong e = absurd (true≢false e)
-
-no_connection : {A : Type 0} (n : Connection) → Some n ≡ (let o : Option Connection = None in o) → A
-no_connection n e = absurd cc
-
-no_item : {A : Type 0} (i : Item) → (let o : Option Item = None in o) ≡ Some i → A
-no_item i e = absurd cc
-
-no_process : {A : Type 0} (p : Process) → (let a : Option Process = None in a) ≡ Some p → A
-no_process p e = absurd cc
 
 -- ---- what was sent
 
@@ -74,7 +63,7 @@ placed_on s k row n c phase now fault h i calm same x = record {
   unsent = λ id e. let was = unsent_before s k row same id e in x.untouched id (unsent_other s k h id was) (h.unsent id was);
   rests = λ id e. let was = ap (λ (y : Option Item). is_served_by y id) (sym i.served_is) ∙ e in x.rests id was (h.rests id was);
   reset = λ e id. wrong (sym e ∙ ap (λ (b : LineSet). b.rst) i.bus_is ∙ calm);
-  unserved = λ e. no_connection n (sym i.connection_is ∙ e);
+  unserved = λ e. some_none n (sym i.connection_is ∙ e);
   sent = λ id e. ap (λ (y : List Item). has_item y (process id)) same ∙ h.sent id (sym i.served_is ∙ e);
   of_scenario = λ id e. h.of_scenario id (sym i.served_is ∙ e);
   placed = λ m e f p z. x.placed p (ap (process_item s) (sym i.served_is) ∙ z);
@@ -94,9 +83,9 @@ freed_on s k row n h con none same x =
       rests = λ id e. x.rests id;
       reset = λ e id. x.rests id;
       unserved = λ e. gone;
-      sent = λ id e. no_item (process id) (sym gone ∙ e);
-      of_scenario = λ id e. no_item (process id) (sym gone ∙ e);
-      placed = λ m e f p z. no_process p (ap (process_item s) (sym gone) ∙ z);
+      sent = λ id e. none_some (process id) (sym gone ∙ e);
+      of_scenario = λ id e. none_some (process id) (sym gone ∙ e);
+      placed = λ m e f p z. none_some p (ap (process_item s) (sym gone) ∙ z);
     }
 
 -- ---- one without a connection
@@ -120,9 +109,9 @@ apart_on s k row h con none link calm same =
       rests = λ id e. rests id;
       reset = λ e id. rests id;
       unserved = λ e. gone;
-      sent = λ id e. no_item (process id) (sym gone ∙ e);
-      of_scenario = λ id e. no_item (process id) (sym gone ∙ e);
-      placed = λ m e f p z. no_process p (ap (process_item s) (sym gone) ∙ z);
+      sent = λ id e. none_some (process id) (sym gone ∙ e);
+      of_scenario = λ id e. none_some (process id) (sym gone ∙ e);
+      placed = λ m e f p z. none_some p (ap (process_item s) (sym gone) ∙ z);
     }
 
 -- ---- one under RST
@@ -206,8 +195,8 @@ reset_on s k row h seats on asked same =
       rests = λ id e. x.rests id;
       reset = λ e id. x.rests id;
       unserved = λ e. ends k.story.bus_state.connection refl e;
-      sent = λ id e. ap (λ (y : List Item). has_item y (process id)) same ∙ by k.story.bus_state.connection (row_reading k.story.bus_state row).next refl refl (λ y. y ≡ Some (process id) → has_item k.story.sent.sent (process id) ≡ true) (λ z. h.sent id z) (λ z. no_item (process id) z) e;
-      of_scenario = λ id e. by k.story.bus_state.connection (row_reading k.story.bus_state row).next refl refl (λ y. y ≡ Some (process id) → (p : Process) × (process_of s id ≡ Some p)) (λ z. h.of_scenario id z) (λ z. no_item (process id) z) e;
+      sent = λ id e. ap (λ (y : List Item). has_item y (process id)) same ∙ by k.story.bus_state.connection (row_reading k.story.bus_state row).next refl refl (λ y. y ≡ Some (process id) → has_item k.story.sent.sent (process id) ≡ true) (λ z. h.sent id z) (λ z. none_some (process id) z) e;
+      of_scenario = λ id e. by k.story.bus_state.connection (row_reading k.story.bus_state row).next refl refl (λ y. y ≡ Some (process id) → (p : Process) × (process_of s id ≡ Some p)) (λ z. h.of_scenario id z) (λ z. none_some (process id) z) e;
       placed = λ m e f p z. wrong (sym on ∙ f);
     }
   where
@@ -219,7 +208,7 @@ reset_on s k row h seats on asked same =
     by None None e f q a b = subst q (sym (λ i. served_after s k (e i) (f i))) a
     by (Some m) None e f q a b = subst q (sym (λ i. served_after s k (e i) (f i))) b
     by (Some m) (Some n) e f q a b = subst q (sym (λ i. served_after s k (e i) (f i))) a
-    by None (Some n) e f q a b = no_connection n (sym f ∙ asked.none_begins e)
+    by None (Some n) e f q a b = some_none n (sym f ∙ asked.none_begins e)
 
     ends : (before : Option Connection) → k.story.bus_state.connection ≡ before → (row_reading k.story.bus_state row).next ≡ None → (run_state_after s k row).served ≡ None
     ends None e f = (λ i. served_after s k (e i) (f i)) ∙ h.unserved e

@@ -1,5 +1,5 @@
 -- The process that a target has ready may run: it is the current one of its unit, which is not held (6.1.4, 7.8).
-use Rattle.std.proofs.Common.{inr, ℕ, ◌≡◌, ◌+◌, Bool, true, false, not, ◌&&◌, ◌||◌, ◌∙◌, List, [], ◌∷◌, Option, Some, None, refl, sym, ap, subst, true≢false}
+use Rattle.std.proofs.Common.{inr, ℕ, ◌≡◌, ◌+◌, Bool, true, false, not, ◌&&◌, ◌||◌, ◌∙◌, List, [], ◌∷◌, Option, Some, None, refl, sym, ap, subst}
 use Rattle.std.specs.Prelude.{if◌then◌else◌, ◌==◌, is_some}
 use Rattle.std.proofs.lemmas.Option.{same_Some}
 use Rattle.bus_base.specs.declared.ProcId.{ProcId}
@@ -15,18 +15,7 @@ use Rattle.bus_books.proofs.Lookups.{self_id, id_is}
 use Rattle.trace_laws.specs.Places.{fresh, Runs, OnUnits, IsUnanswered, IsAtRest, RunsOpen}
 use Rattle.trace_laws.proofs.EachProcess.{current_id}
 use Rattle.trace_laws.proofs.ArrivingProcesses.{no_guest, IsFoundAt, found_at}
-
-wrong : {A : Type 0} → true ≡ false → A
-wrong e = absurd (true≢false e)
-
-no_ready : {A : Type 0} (x : Ready) → (let a : Option Ready = None in a) ≡ Some x → A
-no_ready x e = absurd cc
-
-no_unit : {A : Type 0} (u : UnitState) → (let a : Option UnitState = None in a) ≡ Some u → A
-no_unit u e = absurd cc
-
-no_running : {A : Type 0} (x : RunningProcess) → (let a : Option RunningProcess = None in a) ≡ Some x → A
-no_running x e = absurd cc
+use Rattle.trace_laws.proofs.Impossible.{none_some}
 
 abbrev or_ready : Ready → Option Ready → Ready
 or_ready x None = x
@@ -50,12 +39,12 @@ ready_current : (a : Array) (times : List ℕ) (seek t n : ℕ) → IfCurrent a 
 ready_current a times seek t n r e = go (unit_state_at a.units t n) refl e
   where
     by : (u : UnitState) → unit_state_at a.units t n ≡ Some u → (c : Option RunningProcess) → u.current ≡ c → (q : Bool) → is_held a.holds t n ≡ q → ready_in q c (since_of a.units times t n + seek) ≡ Some r → IsCurrent a t r
-    by u f None g q h z = no_ready r z
-    by u f (Some c) g true h z = no_ready r z
+    by u f None g q h z = none_some r z
+    by u f (Some c) g true h z = none_some r z
     by u f (Some c) g false h z = record { number = n; unit = u; at = f; current = c; current_is = g; process_is = ap (λ (x : Option Ready). (or_ready r x).process) z; free = h }
 
     go : (x : Option UnitState) → unit_state_at a.units t n ≡ x → ready_in (is_held a.holds t n) (current_of x) (since_of a.units times t n + seek) ≡ Some r → IsCurrent a t r
-    go None f z = no_ready r z
+    go None f z = none_some r z
     go (Some u) f z = by u f u.current refl (is_held a.holds t n) refl z
 
 first_current : (a : Array) (t : ℕ) (x y : Option Ready) → IfCurrent a t x → IfCurrent a t y → IfCurrent a t (first_ready x y)
@@ -70,7 +59,7 @@ first_current a t (Some x) (Some y) h g = go (is_ready_before y x)
 among_current : (a : Array) (times : List ℕ) (seek t : ℕ) → IfCurrent a t (ready_among a times seek t)
 among_current a times seek t =
     let at : (n : ℕ) → IfCurrent a t (ready_at a times seek t n) = λ n. ready_current a times seek t n in
-    let none : IfCurrent a t None = λ r e. no_ready r e in
+    let none : IfCurrent a t None = λ r e. none_some r e in
     first_current a t (ready_at a times seek t 0) _ (at 0)
     (first_current a t (ready_at a times seek t 1) _ (at 1)
     (first_current a t (ready_at a times seek t 2) _ (at 2)
@@ -87,7 +76,7 @@ record IsFound (units : List UnitState) (id : ProcId) : Type 0 where
   found_is : running_in units id ≡ Some found
 
 found_current : (units : List UnitState) (t n : ℕ) (u : UnitState) (c : RunningProcess) (id : ProcId) → unit_state_at units t n ≡ Some u → u.current ≡ Some c → same_id c.process.id id ≡ true → IsFound units id
-found_current [] t n u c id e f g = no_unit u e
+found_current [] t n u c id e f g = none_some u e
 found_current (v ∷ units) t n u c id e f g = go (v.target == t && v.unit == n) e (λ k. found_current units t n u c id k f g)
   where
     at : v ≡ u → IsFound (v ∷ units) id
@@ -105,7 +94,7 @@ found_current (v ∷ units) t n u c id e f g = go (v.target == t && v.unit == n)
 
 -- What holds of each current process holds of it.
 on_running : (q : RunningProcess → Type 0) (units : List UnitState) (id : ProcId) (r : RunningProcess) → OnUnits q units → running_in units id ≡ Some r → q r
-on_running q [] id r h e = no_running r e
+on_running q [] id r h e = none_some r e
 on_running q (u ∷ units) id r h e = go u.current h.0.1 e (λ z. on_running q units id r h.1 z)
   where
     by : (c : RunningProcess) → q c → (x : Bool) → (if is_some {T = RunningProcess} (if x then Some c else None) then (if x then Some c else None) else running_in units id) ≡ Some r → (running_in units id ≡ Some r → q r) → q r
@@ -117,7 +106,7 @@ on_running q (u ∷ units) id r h e = go u.current h.0.1 e (λ z. on_running q u
     go (Some c) k z rest = by c k (same_id c.process.id id) z rest
 
 own_running : (s : ScenarioValue) (units : List UnitState) (id : ProcId) (r : RunningProcess) → AllOwnUnits s units → running_in units id ≡ Some r → process_of s r.process.id ≡ Some r.process
-own_running s [] id r h e = no_running r e
+own_running s [] id r h e = none_some r e
 own_running s (u ∷ units) id r h e = go u.current h.0.current e (λ z. own_running s units id r h.1 z)
   where
     by : (c : RunningProcess) → IsOwn s u.target u.unit c.process → (x : Bool) → (if is_some {T = RunningProcess} (if x then Some c else None) then (if x then Some c else None) else running_in units id) ≡ Some r → (running_in units id ≡ Some r → process_of s r.process.id ≡ Some r.process) → process_of s r.process.id ≡ Some r.process
@@ -129,7 +118,7 @@ own_running s (u ∷ units) id r h e = go u.current h.0.current e (λ z. own_run
     go (Some c) k z rest = by c k (same_id c.process.id id) z rest
 
 own_unit : (s : ScenarioValue) (units : List UnitState) (t n : ℕ) (u : UnitState) → AllOwnUnits s units → unit_state_at units t n ≡ Some u → IsOwnUnit s u
-own_unit s [] t n u h e = no_unit u e
+own_unit s [] t n u h e = none_some u e
 own_unit s (v ∷ units) t n u h e = go (v.target == t && v.unit == n) e (λ k. own_unit s units t n u h.1 k)
   where
     go : (x : Bool) → (if x then Some v else unit_state_at units t n) ≡ Some u → (unit_state_at units t n ≡ Some u → IsOwnUnit s u) → IsOwnUnit s u

@@ -1,6 +1,6 @@
 -- After each row of a prompt trace the processes stand where they should in the plain disk array; so it permits every event that the rows
 -- show.
-use Rattle.std.proofs.Common.{inl, inr, ℕ, ◌≡◌, ◌⊎◌, ◌<◌, Bool, true, false, ◌∙◌, List, [], ◌∷◌, Option, Some, None, refl, sym, ap, true≢false}
+use Rattle.std.proofs.Common.{inl, inr, ℕ, ◌≡◌, ◌⊎◌, ◌<◌, Bool, true, false, ◌∙◌, List, [], ◌∷◌, Option, Some, None, refl, sym, ap}
 use Rattle.std.specs.Prelude.{is_some}
 use Rattle.bus_base.specs.declared.ProcId.{ProcId}
 use Rattle.bus_trace.specs.LineSet.{LineSet}
@@ -17,7 +17,7 @@ use Rattle.disk_array.specs.Units.{Array, settled_array, starting_array}
 use Rattle.disk_array.proofs.SoundArrays.{start_sound}
 use Rattle.bus_story.specs.BusState.{RowReading, row_reading}
 use Rattle.bus_story.specs.HistoryEvents.{is_completion}
-use Rattle.bus_story.specs.Items.{Item, process}
+use Rattle.bus_story.specs.Items.{process}
 use Rattle.bus_story.specs.Links.{Link}
 use Rattle.bus_dialogue.specs.NextPhase.{phase_of}
 use Rattle.bus_due.specs.Allowed.{is_allowed}
@@ -39,6 +39,7 @@ use Rattle.trace_laws.specs.Places.{IsAtRest, PlaceFacts}
 use Rattle.trace_laws.proofs.Called.{link_none}
 use Rattle.trace_laws.proofs.ConnectionRows.{ConnectionRow, connection_row, stage_of_connection}
 use Rattle.trace_laws.proofs.Crossings.{RowFacts, stays, ends_here}
+use Rattle.trace_laws.proofs.Impossible.{some_none, none_some}
 use Rattle.trace_laws.proofs.Joint.{Stood, NextStood, link_connection, link_phase}
 use Rattle.trace_laws.proofs.OtherProcesses.{untouched_at_start, untouched_rests}
 use Rattle.trace_laws.proofs.QueueDepths.{within_at_start}
@@ -48,18 +49,6 @@ use Rattle.trace_laws.proofs.PlaceStays.{IsStayAsked, stay_row}
 use Rattle.trace_laws.proofs.PlaceEnds.{IsEndAsked, end_row}
 use Rattle.trace_laws.proofs.PlaceNext.{SendsNone, placed_on, freed_on, apart_on, IsResetAsked, reset_on}
 use Rattle.trace_laws.proofs.PlaceFirst.{IsSelectedFor, selected_on, reselected_on}
-
-wrong : {A : Type 0} → true ≡ false → A
-wrong e = absurd (true≢false e)
-
-wrong' : {A : Type 0} → false ≡ true → A
-wrong' e = absurd (true≢false (sym e))
-
-no_connection : {A : Type 0} (n : Connection) → Some n ≡ (let o : Option Connection = None in o) → A
-no_connection n e = absurd cc
-
-no_item : {A : Type 0} (i : Item) → (let o : Option Item = None in o) ≡ Some i → A
-no_item i e = absurd cc
 
 -- ---- what is asked of a row
 
@@ -88,9 +77,9 @@ places_start s seats =
       rests = λ id e. rests id;
       reset = λ e id. rests id;
       unserved = λ e. refl;
-      sent = λ id e. no_item (process id) e;
-      of_scenario = λ id e. no_item (process id) e;
-      placed = λ n e f p z. no_connection n (sym e);
+      sent = λ id e. none_some (process id) e;
+      of_scenario = λ id e. none_some (process id) e;
+      placed = λ n e f p z. some_none n (sym e);
     }
 
 -- ---- a row
@@ -132,7 +121,7 @@ places_next s p row o prompt was next h asked = go next.row_is
     no_link e = by was.here
       where
         by : AnyStage s p → k.story.link ≡ None
-        by (linked m x) = no_connection m (sym (link_connection s p m x) ∙ e)
+        by (linked m x) = some_none m (sym (link_connection s p m x) ∙ e)
         by (apart x z) = link_none s p x e
 
     alone : k.story.bus_state.connection ≡ None → d.next ≡ None → (r : Bool) → d.change.after.rst ≡ r → PlaceFacts s q
@@ -166,7 +155,7 @@ places_next s p row o prompt was next h asked = go next.row_is
         w = was.books.knows n r.connection_is g.calm
 
         sends : SendsNone s k row
-        sends = asked.sends (inl (λ z. no_connection n (sym r.connection_is ∙ z)))
+        sends = asked.sends (inl (λ z. some_none n (sym r.connection_is ∙ z)))
 
         none_crosses : receiver_in n c ≡ None → is_some (receiver_in n c) ≡ false
         none_crosses e = ap (λ (x : Option ℕ). is_some x) e
@@ -175,7 +164,7 @@ places_next s p row o prompt was next h asked = go next.row_is
         whereto ep b con (stays f) =
             let is : f.change ≡ c = sym f.row_is.change_is ∙ r.change_is in
             f.whereto (ap changes_phase is ∙ ep) (sym pl.begun ∙ b) ∙ ap (λ (x : Change). Some (phase_of x.after)) is
-        whereto ep b con (ends_here f) = no_connection n (sym con ∙ pl2.connection ∙ f.stopped)
+        whereto ep b con (ends_here f) = some_none n (sym con ∙ pl2.connection ∙ f.stopped)
 
         there : (run_state s q).story.bus_state.connection ≡ Some n → (run_state s q).story.bus_state.bus ≡ c.after → c.after.msg ≡ true → c.after.cd ≡ true
         there con b z =
@@ -209,7 +198,7 @@ places_next s p row o prompt was next h asked = go next.row_is
         begun (ends_here f) = pl.begun ∙ f.begun_is
         begun (stays f) =
             let some : d.next ≡ Some n = ap (λ (x : RowReading). x.next) (reading_is k row n f.change (is_some (receiver_in n f.change)) f.row_is refl) in
-            no_connection n (sym some ∙ g.next_is)
+            some_none n (sym some ∙ g.next_is)
 
     go : RowOf s k row → PlaceFacts s q
     go (row_apart e f) = alone e f d.change.after.rst refl

@@ -1,6 +1,6 @@
 -- A command that stays outside the queue has one run at most: a REQUEST SENSE or an INQUIRY, or one that ends with CHECK CONDITION since
 -- its unit is not there (7.5, 8.2).
-use Rattle.std.proofs.Common.{inl, inr, ℕ, ◌≡◌, ◌⊎◌, ◌+◌, Bool, true, false, not, ◌&&◌, ◌==◌, ◌∙◌, List, length, Option, Some, None, refl, sym, ap, subst, arith, true≢false}
+use Rattle.std.proofs.Common.{inl, inr, ℕ, ◌≡◌, ◌⊎◌, ◌+◌, Bool, true, false, not, ◌&&◌, ◌==◌, ◌∙◌, List, length, Option, Some, None, refl, sym, ap, subst, arith}
 use Rattle.std.specs.Prelude.{if◌then◌else◌, nat_lt, slice_index, Result, Ok, Err}
 use Rattle.std.proofs.lemmas.Bool.Decides.{nat_tests}
 use Rattle.cdb_codec.specs.declared.command.Command.{Command}
@@ -27,13 +27,9 @@ use Rattle.bus_due.specs.Sights.{serving_of}
 use Rattle.bus_due.specs.Tasks.{blocks_in, moved_count, reply_now, task_with, task_if, task_of}
 use Rattle.bus_books.proofs.Lookups.{number_is, second_is}
 use Rattle.trace_laws.specs.Places.{IsOutside}
+use Rattle.trace_laws.proofs.Impossible.{wrong, wrong'}
+use Rattle.trace_laws.proofs.LastMessages.{one_run}
 use Rattle.trace_laws.proofs.PlaceLeavings.{HasOneRun}
-
-wrong : {A : Type 0} → true ≡ false → A
-wrong e = absurd (true≢false e)
-
-wrong' : {A : Type 0} → false ≡ true → A
-wrong' e = absurd (true≢false (sym e))
 
 -- ---- commands of no blocks
 
@@ -48,7 +44,7 @@ no_blocks (Ok (commands.Read10 lba count)) e = wrong' e
 no_blocks (Ok (commands.Write10 lba count)) e = wrong' e
 no_blocks (Err fault) e = wrong' e
 
-inquires : (cdb : List ℕ) → is_opcode cdb INQUIRY ≡ true → range_in (command_of cdb) ≡ None
+pub inquires : (cdb : List ℕ) → is_opcode cdb INQUIRY ≡ true → range_in (command_of cdb) ≡ None
 inquires cdb e =
     ap (λ (code : ℕ). range_in (if length cdb == 0 then Err faults.Length else sized_of (operation_of code) cdb)) code
     ∙ go (length cdb == 0) (has_group_len cdb)
@@ -67,14 +63,6 @@ inquires cdb e =
 
 -- ---- runs
 
--- Only reads and writes of blocks have more than one run.
-one_of_none : (policy : Policy) (t : Task) → t.blocks ≡ None → nat_lt (t.runs + 1) (runs_in_all policy t) ≡ false
-one_of_none policy t e = ap (λ (b : Option ℕ). nat_lt (t.runs + 1) (if t.moved == 0 then 0 else runs_in policy b)) e ∙ go (t.moved == 0)
-  where
-    go : (q : Bool) → nat_lt (t.runs + 1) (if q then 0 else 1) ≡ false
-    go true = grind (arith, nat_tests)
-    go false = grind (arith, nat_tests)
-
 -- Where nothing is moved there is none.
 none_moved : (policy : Policy) (t : Task) → t.moved ≡ 0 → nat_lt (t.runs + 1) (runs_in_all policy t) ≡ false
 none_moved policy t e = ap (λ (m : ℕ). nat_lt (t.runs + 1) (if m == 0 then 0 else runs_in policy t.blocks)) e ∙ none
@@ -83,7 +71,7 @@ none_moved policy t e = ap (λ (m : ℕ). nat_lt (t.runs + 1) (if m == 0 then 0 
     none = grind (arith, nat_tests)
 
 -- Of a unit that is not there.
-absent_moves : (a : Array) (p : Process) → unit_state_at a.units p.target p.unit ≡ None → needs_unit p.cdb ≡ true → moved_count p (reply_now a p) ≡ 0
+pub absent_moves : (a : Array) (p : Process) → unit_state_at a.units p.target p.unit ≡ None → needs_unit p.cdb ≡ true → moved_count p (reply_now a p) ≡ 0
 absent_moves a p e f =
     (λ i. moved_count p (execution (context_at a (nexus_of p) (e i)) p.cdb p.sent).reply)
     ∙ ap (λ (q : Bool). moved_count p (if q then reply_execution (context_at a (nexus_of p) None) (check_condition unit_not_supported) else attention_execution (context_at a (nexus_of p) None) (context_at a (nexus_of p) None).attention p.cdb p.sent).reply) f
@@ -113,7 +101,7 @@ outside_runs s k dev p served out = λ z t e. subst (λ (x : Task). nat_lt (x.ru
     task_is t e = ap (or_task task) (sym (ap (λ (o : Option Process). task_if s k o) served) ∙ e)
 
     by_range : range_in (command_of p.cdb) ≡ None → nat_lt (task.runs + 1) (runs_in_all policy task) ≡ false
-    by_range e = one_of_none policy task (ap blocks_in e)
+    by_range e = one_run policy task (ap blocks_in e)
 
     absent : unit_state_at a.units p.target p.unit ≡ None → (q : Bool) → needs_unit p.cdb ≡ q → nat_lt (task.runs + 1) (runs_in_all policy task) ≡ false
     absent e true f = none_moved policy task (absent_moves a p e f)

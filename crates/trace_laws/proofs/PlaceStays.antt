@@ -1,8 +1,7 @@
 -- A row of a connection with which its phase stays: as the initiator takes COMMAND COMPLETE the process ends, and else nothing is shown
 -- (6.6.5).
-use Rattle.std.proofs.Common.{inl, inr, ℕ, ◌≡◌, ◌⊎◌, Bool, true, false, not, ◌&&◌, ◌==◌, ◌∙◌, [], ◌∷◌, Option, Some, None, refl, sym, ap, subst, arith, true≢false}
+use Rattle.std.proofs.Common.{inl, inr, ℕ, ◌≡◌, ◌⊎◌, Bool, true, false, not, ◌&&◌, ◌==◌, ◌∙◌, [], ◌∷◌, Option, Some, None, refl, sym, ap, subst}
 use Rattle.std.specs.Prelude.{if◌then◌else◌, is_some, slice_index}
-use Rattle.std.proofs.lemmas.Bool.Decides.{nat_tests}
 use Rattle.bus_base.specs.Faults.{counted_on}
 use Rattle.bus_base.specs.declared.ProcId.{ProcId}
 use Rattle.bus_base.specs.declared.Event.TheVariants as events
@@ -42,24 +41,21 @@ use Rattle.bus_dialogue.specs.Planning.{plan_with_byte}
 use Rattle.bus_due.specs.RunState.{RunState, array_of, or_start, bus_of, process_item, process_served, carried_here}
 use Rattle.bus_due.specs.RunSteps.{run_state_after}
 use Rattle.bus_due.specs.Sights.{hearing_of, leaving}
+use Rattle.bus_books.specs.Hearing.{is_in_phase}
 use Rattle.bus_books.specs.Rows.{IsRowIn, reading_in}
 use Rattle.bus_books.specs.Traces.{GoesOn}
 use Rattle.bus_books.proofs.InConnection.{InConnection, in_connection, reading_is, same_phase_is}
 use Rattle.bus_books.proofs.Lookups.{carried_id}
 use Rattle.disk_array.proofs.SoundArrays.{id_is}
 use Rattle.trace_laws.specs.Places.{is_complete_in, AnsweredOpen, Closes, completes, disconnects, PlacedBefore, IsTaken, PlacedAsked, PlacedIn, PlacedIf, HasPlaces}
+use Rattle.trace_laws.proofs.CloseCounts.{counted_some}
 use Rattle.trace_laws.proofs.CommandStays.{phase_same}
-use Rattle.trace_laws.proofs.OfferTurns.{message_in_phase}
+use Rattle.trace_laws.proofs.Impossible.{wrong, wrong'}
 use Rattle.trace_laws.proofs.AnsweredProcesses.{end_is, leaves}
+use Rattle.trace_laws.proofs.PhaseLines.{in_phase}
 use Rattle.trace_laws.proofs.PlaceEvents.{turned_none, passes_step}
 use Rattle.trace_laws.proofs.PlaceTurnRows.{RowPlaced}
 use Rattle.trace_laws.proofs.PlaceTurned.{row_turned, row_none}
-
-wrong : {A : Type 0} → true ≡ false → A
-wrong e = absurd (true≢false e)
-
-wrong' : {A : Type 0} → false ≡ true → A
-wrong' e = absurd (true≢false (sym e))
 
 -- ---- what it shows
 
@@ -103,9 +99,6 @@ same_plan w l p false fault = go (fault && not w.change.before.io)
     go true = record { messages = refl; next = refl; cause = refl }
     go false = record { messages = refl; next = refl; cause = refl }
 
-counted_some : (n : ℕ) → (counted_on n == 0) ≡ false
-counted_some n = grind (arith, nat_tests)
-
 -- How often ACK rose.
 answers_after : (fault : Bool) (n : Connection) (c : Change) (t : ℕ) (h : Handshakes) → changes_phase c ≡ false → (handshakes_after fault (Some n) c t h).answers ≡ (if not fault && rises c.before.ack c.after.ack then counted_on h.answers else h.answers)
 answers_after true n c t h e = go c.before.io
@@ -144,10 +137,6 @@ in_same a p x y h g atn atn' phases.Command e f t z = z
 in_same a p x y h g atn atn' phases.Status e f t z = z
 in_same a p x y h g atn atn' phases.DataIn e f t z = z
 in_same a p x y h g atn atn' phases.DataOut e f t z = z
-
-abbrev is_in : Phase → Bool
-is_in phases.MessageIn = true
-is_in _ = false
 
 -- ---- the row
 
@@ -197,12 +186,12 @@ stay_row s k row n c l now fault h seats g ep en ef drives link item asked = by_
       where
         lines : (m d o : Bool) → (m ≡ true → d ≡ true) → (if m then (if o then phases.MessageIn else phases.MessageOut) else if d then (if o then phases.Status else phases.Command) else if o then phases.DataIn else phases.DataOut) ≡ phases.MessageIn → (m && d && o) ≡ true
         lines true true true f z = refl
-        lines true true false f z = wrong' (ap is_in z)
+        lines true true false f z = wrong' (ap is_in_phase z)
         lines true false o f z = wrong' (f refl)
-        lines false true true f z = wrong' (ap is_in z)
-        lines false true false f z = wrong' (ap is_in z)
-        lines false false true f z = wrong' (ap is_in z)
-        lines false false false f z = wrong' (ap is_in z)
+        lines false true true f z = wrong' (ap is_in_phase z)
+        lines false true false f z = wrong' (ap is_in_phase z)
+        lines false false true f z = wrong' (ap is_in_phase z)
+        lines false false false f z = wrong' (ap is_in_phase z)
 
     stays : (b : Array) (p : Process) → (y : Bool) → k.exchange.begun ≡ y → PlacedIf y b p k.exchange.plan k.handshakes (bus_of k).atn (phase_of (bus_of k)) → PlacedIf y b p plan j.handshakes c.after.atn (phase_of (bus_of k))
     stays b p false e z = z
@@ -232,7 +221,7 @@ stay_row s k row n c l now fault h seats g ep en ef drives link item asked = by_
         how = parts (rises c.before.ack c.after.ack) (is_message_in c.before) (is_complete l.last) c.after.atn done
 
         here_in : phase_of (bus_of k) ≡ phases.MessageIn
-        here_in = message_in_phase (bus_of k) (ap is_message_in r.bus_is ∙ how.1)
+        here_in = in_phase (bus_of k) (ap is_message_in r.bus_is ∙ how.1)
 
         began : k.exchange.begun ≡ true
         began = (g.phase (message_line (bus_of k).msg (bus_of k).cd (bus_of k).io (ap is_message_in r.bus_is ∙ how.1))).1

@@ -1,5 +1,5 @@
 -- As another phase begins, what the rows tell of the process that is served is what its target knows.
-use Rattle.std.proofs.Common.{inl, inr, ℕ, ◌≡◌, ◌⊎◌, ◌<◌, Bool, true, false, ◌∙◌, List, Option, Some, None, sym, ap, subst, true≢false}
+use Rattle.std.proofs.Common.{inl, inr, ℕ, ◌≡◌, ◌⊎◌, ◌<◌, Bool, true, false, ◌∙◌, List, Option, Some, None, sym, ap, subst}
 use Rattle.std.specs.Prelude.{is_some}
 use Rattle.bus_base.specs.declared.ProcId.{ProcId}
 use Rattle.bus_trace.specs.LineSet.{LineSet}
@@ -21,23 +21,15 @@ use Rattle.bus_due.specs.RunState.{RunState, bus_of, item_of, process_item, carr
 use Rattle.bus_due.specs.RunSteps.{run_state}
 use Rattle.bus_due.proofs.Plains.{run_state_plain}
 use Rattle.bus_books.specs.Knowing.{Knows}
+use Rattle.bus_books.specs.Reactions.{is_command_phase}
 use Rattle.bus_books.specs.Traces.{GoesOn}
 use Rattle.bus_laws.proofs.Apart.{change_plain}
 use Rattle.trace_laws.specs.Places.{PlaceFacts}
 use Rattle.trace_laws.specs.Tells.{AreRepliesShown, code_if, FailsIn, Tells, TellsAsLeft}
+use Rattle.trace_laws.proofs.Impossible.{wrong'}
 use Rattle.trace_laws.proofs.Joint.{Stood}
 use Rattle.trace_laws.proofs.PlaceTurnRows.{TellsOf}
 use Rattle.trace_laws.proofs.TellEvents.{whole_block}
-
-wrong : {A : Type 0} → true ≡ false → A
-wrong e = absurd (true≢false e)
-
-wrong' : {A : Type 0} → false ≡ true → A
-wrong' e = absurd (true≢false (sym e))
-
-abbrev is_command : Phase → Bool
-is_command phases.Command = true
-is_command _ = false
 
 coded : (q : Bool) (failure : Option ℕ) → failure ≡ code_if q PARITY_ERROR → q ≡ true → is_some failure ≡ true
 coded true failure e f = ap is_some e
@@ -81,8 +73,8 @@ turn_tells s p row n c id lt was h shown left g ep begun served = record {
         by : (knows.link.item ≡ k.served) ⊎ ((n.reselected ≡ true) × (knows.link.item ≡ None)) → knows.link.item ≡ Some (process id)
         by (inl z) = z ∙ served
         by (inr z) = elim (tells.naming (ap item_of knows.link_is ∙ z.1)) [
-          | inl x ↦ wrong' (ap is_command (sym x.0) ∙ ap is_command e)
-          | inr x ↦ wrong' (ap is_command (sym x.0) ∙ ap is_command e)
+          | inl x ↦ wrong' (ap is_command_phase (sym x.0) ∙ ap is_command_phase e)
+          | inr x ↦ wrong' (ap is_command_phase (sym x.0) ∙ ap is_command_phase e)
         ]
 
     fails : phase_of (bus_of k) ≡ phases.Command → ((carried_here k id).struck ≡ k.exchange.plan.struck) × ((carried_here k id).failure ≡ code_if k.exchange.plan.struck PARITY_ERROR)

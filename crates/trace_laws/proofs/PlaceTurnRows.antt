@@ -42,21 +42,19 @@ use Rattle.bus_due.specs.RunSteps.{run_state_after, array_after_events}
 use Rattle.bus_due.specs.Sights.{serving_of, arrival_at, leaving}
 use Rattle.bus_due.specs.Tasks.{task_of, task_if, arrival_if}
 use Rattle.bus_books.specs.Accounts.{is_served_by}
+use Rattle.bus_books.specs.Hearing.{is_out_phase}
+use Rattle.bus_books.specs.Reactions.{is_command_phase}
 use Rattle.bus_books.specs.Rows.{IsRowIn, reading_in}
 use Rattle.bus_books.proofs.InConnection.{reading_is}
 use Rattle.bus_books.proofs.Lookups.{carried_id}
 use Rattle.trace_laws.specs.Places.{AreWithin, IsUntouched, IsAtRest, IsOutside, PlacedBefore, PlacedAsked, PlacedIn, PlacedIf, HasPlaces}
-use Rattle.trace_laws.proofs.PlaceEvents.{Turned, is_status, is_command_phase, status_events_are, queue_events_are}
+use Rattle.trace_laws.proofs.Impossible.{wrong', none_some}
+use Rattle.trace_laws.proofs.PhaseLines.{is_status}
+use Rattle.trace_laws.proofs.PlaceEvents.{Turned, status_events_are, queue_events_are}
 use Rattle.trace_laws.proofs.PlaceLeavings.{HasOneRun}
 use Rattle.disk_array.specs.Execution.{Reply}
 use Rattle.trace_laws.proofs.PlaceTurns.{OutOf, PlacedNext, Standing, IsLeft, reply_shown, turns, command_not_out}
 use Rattle.trace_laws.proofs.PlaceCommands.{command_shown, command_turns}
-
-wrong : {A : Type 0} → true ≡ false → A
-wrong e = absurd (true≢false e)
-
-wrong' : {A : Type 0} → false ≡ true → A
-wrong' e = absurd (true≢false (sym e))
 
 -- ---- what a row shows where another phase begins
 
@@ -131,11 +129,7 @@ asked_by b p plan count false true false f h = absurd h
 asked_by b p plan count false false true f h = h
 asked_by b p plan count false false false f h = h
 
-abbrev pub is_out : Phase → Bool
-is_out phases.MessageOut = true
-is_out _ = false
-
-pub enters : (b : Array) (p : Process) (w : Hearing) (l : Leaving) (plan : Plan) (h : Handshakes) (atn : Bool) (x : Phase) → is_message_out w.change.after ≡ is_out x → (x ≡ phases.MessageOut → PlacedAsked b p (plan_in_phase w l plan) (plan_in_phase w l plan).cause) → (out : Type 0) → PlacedNext b p l out x → PlacedIn b p (plan_in_phase w l plan) h atn x
+pub enters : (b : Array) (p : Process) (w : Hearing) (l : Leaving) (plan : Plan) (h : Handshakes) (atn : Bool) (x : Phase) → is_message_out w.change.after ≡ is_out_phase x → (x ≡ phases.MessageOut → PlacedAsked b p (plan_in_phase w l plan) (plan_in_phase w l plan).cause) → (out : Type 0) → PlacedNext b p l out x → PlacedIn b p (plan_in_phase w l plan) h atn x
 enters b p w l plan h atn phases.MessageOut m asked out g = asked refl
 enters b p w l plan h atn phases.MessageIn m asked out g =
     inl (subst (λ (q : Bool). PlacedBefore b p (if not q then record (plan_anew plan) { messages = l.messages; next = l.next } else if w.begun then plan_in_message_out w plan else plan_anew plan).messages (if not q then record (plan_anew plan) { messages = l.messages; next = l.next } else if w.begun then plan_in_message_out w plan else plan_anew plan).next) (sym m) g)
@@ -156,9 +150,6 @@ pub record RowPlaced (s : ScenarioValue) (k : RunState) (row : Row) (a : Array) 
   pub placed : (p : Process) → process_served s k ≡ Some p
       → PlacedIf (run_state_after s k row).exchange.begun next p (run_state_after s k row).exchange.plan (run_state_after s k row).handshakes (bus_of (run_state_after s k row)).atn (phase_of (bus_of (run_state_after s k row)))
 
-no_process : {A : Type 0} (p : Process) → (let a : Option Process = None in a) ≡ Some p → A
-no_process p e = absurd cc
-
 pub no_task : (s : ScenarioValue) (k : RunState) (p : Process) → process_served s k ≡ Some p → task_of s k ≡ None → ⊥
 no_task s k p e f = some_none _ (sym (ap (λ (o : Option Process). task_if s k o) e) ∙ f)
   where
@@ -170,9 +161,9 @@ pub served_id : (s : ScenarioValue) (k : RunState) (p : Process) → process_ser
 served_id s k p e = go k.served refl e
   where
     go : (x : Option Item) → k.served ≡ x → process_item s x ≡ Some p → (k.served ≡ Some (process p.id)) × (process_of s p.id ≡ Some p)
-    go None z h = no_process p h
+    go None z h = none_some p h
     go (Some (process id)) z h = (z ∙ ap (λ (y : ProcId). Some (process y)) (sym (id_is s id p h)), ap (process_of s) (id_is s id p h) ∙ h)
-    go (Some (abort m)) z h = no_process p h
+    go (Some (abort m)) z h = none_some p h
 
 -- Of a process that is served, where a phase has begun.
 pub process_turn : (s : ScenarioValue) (k : RunState) (n : Connection) (c : Change) (l : Link) (a : Array) (p : Process) → HasSeats s → HasPlaces s k → k.array ≡ Some a → IsSound s a → AreWithin a.units → PlacedIn a p k.exchange.plan k.handshakes (bus_of k).atn (phase_of (bus_of k)) → process_served s k ≡ Some p → bus_of k ≡ c.before → k.exchange.begun ≡ true → (leaving s k n.target).to ≡ Some (phase_of c.after) → IsTurnAsked s k n c l

@@ -1,5 +1,5 @@
 -- A row of a connection with which another phase begins, whatever is served: what it shows is permitted.
-use Rattle.std.proofs.Common.{inl, inr, ◌≡◌, ◌⊎◌, Bool, true, false, not, ◌&&◌, ◌||◌, ◌∙◌, List, [], ◌∷◌, Option, Some, None, refl, sym, ap, subst, true≢false}
+use Rattle.std.proofs.Common.{inl, inr, ◌≡◌, ◌⊎◌, Bool, true, false, not, ◌&&◌, ◌||◌, ◌∙◌, List, [], ◌∷◌, Option, Some, None, refl, sym, ap, subst}
 use Rattle.std.specs.Prelude.{if◌then◌else◌, is_some}
 use Rattle.std.proofs.lemmas.Option.{same_Some}
 use Rattle.bus_base.specs.declared.ProcId.{ProcId}
@@ -33,24 +33,17 @@ use Rattle.bus_due.specs.RunState.{RunState, bus_of, process_item, process_serve
 use Rattle.bus_due.specs.RunSteps.{run_state_after, array_after_events}
 use Rattle.bus_due.specs.Sights.{hearing_of, leaving}
 use Rattle.bus_books.specs.Accounts.{is_served_by}
+use Rattle.bus_books.specs.Hearing.{is_out_phase}
 use Rattle.bus_books.specs.Rows.{IsRowIn, reading_in}
 use Rattle.bus_books.specs.Traces.{GoesOn}
 use Rattle.bus_books.proofs.InConnection.{InConnection, in_connection}
 use Rattle.bus_books.proofs.Lookups.{self_id, id_is as ids_are}
 use Rattle.trace_laws.specs.Places.{IsUntouched, PlacedAsked, PlacedIn, PlacedIf, HasPlaces}
-use Rattle.trace_laws.proofs.OfferTurns.{message_out_phase}
+use Rattle.trace_laws.proofs.Impossible.{wrong, wrong', none_some}
+use Rattle.trace_laws.proofs.PhaseLines.{out_phase}
 use Rattle.trace_laws.proofs.PlaceEvents.{Turned, turned_none}
 use Rattle.trace_laws.proofs.PlaceTurns.{OutOf, PlacedNext, reply_shown}
-use Rattle.trace_laws.proofs.PlaceTurnRows.{IsTurnAsked, RowPlaced, asked_by, enters, is_out, process_turn, other_shown, shown_is}
-
-wrong : {A : Type 0} → true ≡ false → A
-wrong e = absurd (true≢false e)
-
-wrong' : {A : Type 0} → false ≡ true → A
-wrong' e = absurd (true≢false (sym e))
-
-no_process : {A : Type 0} (p : Process) → (let a : Option Process = None in a) ≡ Some p → A
-no_process p e = absurd cc
+use Rattle.trace_laws.proofs.PlaceTurnRows.{IsTurnAsked, RowPlaced, asked_by, enters, process_turn, other_shown, shown_is}
 
 -- Another process than the one that is served.
 pub other_id : (x id : ProcId) → is_served_by (Some (process x)) id ≡ false → same_id x id ≡ false
@@ -82,7 +75,7 @@ row_none s k row h e none = record {
   within = h.within;
   untouched = λ id z x. x;
   rests = λ id z x. x;
-  placed = λ p z. no_process p (sym none ∙ z);
+  placed = λ p z. none_some p (sym none ∙ z);
 }
 
 -- ---- the exchange after a turn
@@ -126,10 +119,10 @@ turn_row s k row n c l h seats g ep none ef link item there whereto asked = by_s
     shown : row_events_by s k.story (row_reading k.story.bus_state row) row ≡ phase_events s k.story (carried_if k.story l.item) c
     shown = shown_is s k row n c l r ep none link
 
-    out_is : is_message_out c.after ≡ is_out (phase_of c.after)
+    out_is : is_message_out c.after ≡ is_out_phase (phase_of c.after)
     out_is = lines c.after.msg c.after.cd c.after.io there
       where
-        lines : (m d o : Bool) → (m ≡ true → d ≡ true) → (m && d && not o) ≡ is_out (if m then (if o then phases.MessageIn else phases.MessageOut) else if d then (if o then phases.Status else phases.Command) else if o then phases.DataIn else phases.DataOut)
+        lines : (m d o : Bool) → (m ≡ true → d ≡ true) → (m && d && not o) ≡ is_out_phase (if m then (if o then phases.MessageIn else phases.MessageOut) else if d then (if o then phases.Status else phases.Command) else if o then phases.DataIn else phases.DataOut)
         lines true true true f = refl
         lines true true false f = refl
         lines true false o f = wrong' (f refl)
@@ -149,7 +142,7 @@ turn_row s k row n c l h seats g ep none ef link item there whereto asked = by_s
     before_lines e = ap (λ (b : LineSet). b.cd) (sym r.bus_is) ∙ (g.phase (ap (λ (b : LineSet). b.msg) r.bus_is ∙ e)).0
 
     goes_out : phase_of c.after ≡ phases.MessageOut → is_message_out c.after ≡ true
-    goes_out e = out_is ∙ ap is_out e
+    goes_out e = out_is ∙ ap is_out_phase e
 
     -- the events of a process, or none where its initiator does not know it yet
     with_item : (p : Process) → k.served ≡ Some (process p.id) → process_served s k ≡ Some p → (q : Array → Type 0) → Turned s a p.id (phase_events s k.story (Some (carried_here k p.id)) c) q
@@ -176,7 +169,7 @@ turn_row s k row n c l h seats g ep none ef link item there whereto asked = by_s
         let place : IsUntouched a p.id = subst (λ (x : Bool). PlacedIf x a p k.exchange.plan k.handshakes (bus_of k).atn (phase_of (bus_of k))) b (h.placed n r.connection_is g.calm p here) in
         let u = asked.unbegun b in
         let m : is_message_out c.after ≡ true = ap (λ (x : Change). is_message_out x.after) (sym r.change_is) ∙ g.first (ap changes_phase r.change_is ∙ ep) b in
-        let to : phase_of c.after ≡ phases.MessageOut = message_out_phase c.after m in
+        let to : phase_of c.after ≡ phases.MessageOut = out_phase c.after m in
         let quiet : phase_events s k.story (Some (carried_here k p.id)) c ≡ [] =
         other_shown s k c p.id u.0 ∙ ap (λ (x : Phase). reply_shown p.id (carried_here k p.id).failure ((carried_here k p.id).shown || (carried_here k p.id).refused) x) to in
         with_item p e here (λ x. IsUntouched x p.id) (subst (λ (x : List Event). Turned s a p.id x (λ y. IsUntouched y p.id)) (sym quiet) (turned_none s a p.id (λ y. IsUntouched y p.id) h.sound h.within place))

@@ -35,17 +35,10 @@ use Rattle.bus_dialogue.specs.Exchange.{from_byte, message_bytes, one_message}
 use Rattle.bus_dialogue.specs.NextPhase.{Serving, bus_free, phase_entry, with_task, recovery, recovery_limit, pointer_restoration, next_data_phase, request_or_command, after_offer, message_repetition, message_out_leaving, after_messages, after_arrival, phase_leaving}
 use Rattle.bus_dialogue.specs.Words.{request_by, is_naming}
 use Rattle.trace_laws.specs.Places.{AreWithin, IsUntouched, IsAtRest, IsOutside, RunsOpen, AnsweredOpen, TellNoEnd, Closes, completes, disconnects, PlacedBefore, PlacedAsked, PlacedIn}
-use Rattle.trace_laws.proofs.PlaceEvents.{Turned, turned_none, turned_reply, is_status}
+use Rattle.trace_laws.proofs.Impossible.{wrong, wrong', none_some}
+use Rattle.trace_laws.proofs.PhaseLines.{is_out_next, is_status}
+use Rattle.trace_laws.proofs.PlaceEvents.{Turned, turned_none, turned_reply}
 use Rattle.trace_laws.proofs.PlaceLeavings.{RunningSays, RunningTo, LeadsRunning, AnsweredSays, AnsweredTo, LeadsAnswered, NewSays, NewTo, LeadsNew, HasOneRun, from_data_in, from_data_out, from_status, from_go_on, from_status_next, from_command_next, from_opening, from_detected, from_status_detected, Repeats, commands, again, leaves, from_refusal}
-
-wrong : {A : Type 0} → true ≡ false → A
-wrong e = absurd (true≢false e)
-
-wrong' : {A : Type 0} → false ≡ true → A
-wrong' e = absurd (true≢false (sym e))
-
-no_phase : {A : Type 0} (x : Phase) → (let o : Option Phase = None in o) ≡ Some x → A
-no_phase x e = absurd cc
 
 -- ---- where it stands as the next phase begins
 
@@ -156,12 +149,8 @@ new_turn s a p failure marked l out phase st h lead to asked = go phase to asked
 
 -- ---- MESSAGE OUT does not follow MESSAGE OUT
 
-abbrev is_out : Option Phase → Bool
-is_out (Some phases.MessageOut) = true
-is_out _ = false
-
 abbrev IsNotOut : Leaving → Type 0
-IsNotOut l = is_out l.to ≡ false
+IsNotOut l = is_out_next l.to ≡ false
 
 by_task : (f : Task → Leaving) (task : Option Task) → ((t : Task) → IsNotOut (f t)) → IsNotOut (with_task task f)
 by_task f None h = refl
@@ -210,7 +199,7 @@ data_not_out t made policy = go t.replied (nat_lt made (runs_in_all policy t)) t
 
 -- Nor does it follow COMMAND.
 pub command_not_out : (v : Serving) (atn : Bool) → (phase_leaving v atn phases.Command).to ≡ Some phases.MessageOut → ⊥
-command_not_out v atn e = true≢false (sym (ap is_out e) ∙ go v.plan.struck)
+command_not_out v atn e = true≢false (sym (ap is_out_next e) ∙ go v.plan.struck)
   where
     arrived : (t : Task) (x : Arrival) → IsNotOut (after_arrival v.def t x)
     arrived t arrivals.Refused = refl
@@ -279,11 +268,11 @@ from_in s a p v true count failure marked phase nexts.FreeBus st mark few h to =
     let is : phases.MessageOut ≡ phase = same_Some phases.MessageOut phase to in
     subst (λ (x : Phase). Turns s a p failure marked (phase_entry phases.MessageOut) (λ b. Closes b p (from_byte v.plan.messages (count - 1))) x) is
     (none_shown s a p (λ b. Closes b p (from_byte v.plan.messages (count - 1))) st (left_closes a p v.plan.messages (count - 1) few h))
-from_in s a p v false count failure marked phase nexts.FreeBus st mark few h to = no_phase phase to
+from_in s a p v false count failure marked phase nexts.FreeBus st mark few h to = none_some phase to
 
 -- MESSAGE OUT is left.
 not_out : (l : Leaving) (phase : Phase) → IsNotOut l → l.to ≡ Some phase → phase ≡ phases.MessageOut → ⊥
-not_out l phase h e f = true≢false (sym (ap is_out (e ∙ ap (λ (x : Phase). Some x) f)) ∙ h)
+not_out l phase h e f = true≢false (sym (ap is_out_next (e ∙ ap (λ (x : Phase). Some x) f)) ∙ h)
 
 from_out : (s : ScenarioValue) (a : Array) (p : Process) (v : Serving) (failure : Option ℕ) (marked : Bool) (phase : Phase) (cause : Cause) → Standing s a p → is_some (reply_in a.replies p.id) ≡ marked → (cause ≡ causes.InMessage → is_some v.plan.said.offer ≡ true → v.plan.next ≡ nexts.Command) → PlacedAsked a p v.plan cause → (message_out_leaving v cause).to ≡ Some phase → Turns s a p failure marked (message_out_leaving v cause) (λ b. ⊥) phase
 from_out s a p v failure marked phase causes.Selected st mark offers h to = new_turn s a p failure marked (message_out_leaving v causes.Selected) (λ b. ⊥) phase st h (from_opening v) to (not_out (message_out_leaving v causes.Selected) phase (out_leaves v causes.Selected) to)
@@ -303,13 +292,13 @@ from_out s a p v failure marked phase causes.InMessage st mark offers h to = go 
         let is : phases.MessageIn ≡ phase = same_Some phases.MessageIn phase (sym e ∙ to) in
         subst (λ (x : Phase). Turns s a p failure marked l (λ b. ⊥) x) is
         (none_shown s a p (λ b. PlacedBefore b p l.messages l.next) st (subst (λ (x : Messages). PlacedBefore a p x l.next) (sym f) (subst (λ (x : Next). PlacedBefore a p v.plan.messages x) (sym g) h)))
-    go (leaves e) = no_phase phase (sym e ∙ to)
+    go (leaves e) = none_some phase (sym e ∙ to)
 
 pub turns : (s : ScenarioValue) (a : Array) (p : Process) (v : Serving) (atn : Bool) (h : Handshakes) (failure : Option ℕ) (marked : Bool) (phase after : Phase) → Standing s a p → is_some (reply_in a.replies p.id) ≡ marked → IsLeft a p v h.requests phase → (phase ≡ phases.Command → ⊥) → PlacedIn a p v.plan h atn phase → (phase_leaving v atn phase).to ≡ Some after → Turns s a p failure marked (phase_leaving v atn phase) (λ b. OutOf b p v.plan h.requests phase) after
 turns s a p v atn h failure marked phases.MessageOut after st mark left other place to = from_out s a p v failure marked after v.plan.cause st mark (left.offers refl) place to
 turns s a p v atn h failure marked phases.MessageIn after st mark left other (inl place) to = from_in s a p v atn h.requests failure marked after v.plan.next st mark (left.few refl) place to
 turns s a p v atn h failure marked phases.MessageIn after st mark left other (inr taken) to =
-    no_phase after (sym (ap (λ (q : Bool). (if q then phase_entry phases.MessageOut else after_messages v v.plan.next).to) taken.attends ∙ ap (λ (x : Next). (after_messages v x).to) taken.next_is) ∙ to)
+    none_some after (sym (ap (λ (q : Bool). (if q then phase_entry phases.MessageOut else after_messages v v.plan.next).to) taken.attends ∙ ap (λ (x : Next). (after_messages v x).to) taken.next_is) ∙ to)
 turns s a p v atn h failure marked phases.Command after st mark left other place to = absurd (other refl)
 turns s a p v atn h failure marked phases.Status after st mark left other place to =
     answered_turn s a p failure marked (phase_leaving v atn phases.Status) (λ b. OutOf b p v.plan h.requests phases.Status) after st place (from_status v atn) to (answered_mark a p.id marked mark place) (λ z. place)

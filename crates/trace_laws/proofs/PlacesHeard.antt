@@ -34,7 +34,7 @@ use Rattle.bus_due.specs.RunState.{RunState, array_of, or_start, bus_of, process
 use Rattle.bus_due.specs.RunSteps.{run_state, item_if, leaving_of, progress_after, served_after}
 use Rattle.bus_due.specs.Wants.{ready_of, ready_among, seek_of}
 use Rattle.bus_due.proofs.Plains.{run_state_plain}
-use Rattle.scsi_device.specs.Heard.{is_beginning, is_new, is_opening, is_answered, is_unanswered, is_uncounted}
+use Rattle.scsi_device.specs.Heard.{is_beginning, is_new, is_answered, is_unanswered, is_uncounted}
 use Rattle.disk_array.specs.Steps.{running_process}
 use Rattle.bus_books.specs.Rows.{IsFirstRow}
 use Rattle.bus_books.specs.Traces.{Begins, IsReadyFor, RowOf, apart, begins, goes_on, ends, under_reset}
@@ -44,17 +44,14 @@ use Rattle.trace_laws.specs.HeardPlaces.{ArePlaced, BeginsPlaced, IsPlacedIn}
 use Rattle.trace_laws.specs.ItemFacts.{ItemFacts, no_progress}
 use Rattle.trace_laws.specs.Places.{IsAtRest, PlaceFacts, PlacedIf, PlacedIn, PlacedBefore, RunsOpen, AnsweredOpen}
 use Rattle.trace_laws.proofs.FreshItems.{items_fresh}
+use Rattle.trace_laws.proofs.HeardRows.{begun_of}
+use Rattle.trace_laws.proofs.Impossible.{wrong, wrong', none_some}
 use Rattle.trace_laws.proofs.Joint.{Stood, NextStood}
 use Rattle.trace_laws.proofs.PlaceFirst.{rest_first, shown_first}
 use Rattle.trace_laws.proofs.PlaceHeard.{new_heard}
 use Rattle.trace_laws.proofs.ArrivingProcesses.{no_guest}
 use Rattle.trace_laws.proofs.PlaceReady.{MayBeReady, ready_runs}
-
-wrong : {A : Type 0} → true ≡ false → A
-wrong e = absurd cc
-
-wrong' : {A : Type 0} → false ≡ true → A
-wrong' e = absurd cc
+use Rattle.trace_laws.proofs.RunsWhole.{is_free}
 
 -- ---- by the phase
 
@@ -64,15 +61,9 @@ runs_unanswered a p h = (ap is_unanswered h.runs.running_is, ap (λ (x : Option 
 given_answered : (a : Array) (p : Process) → AnsweredOpen a p.id → (is_answered (running_process a p.id) ≡ true) × (is_some (reply_in a.replies p.id) ≡ true)
 given_answered a p h = (ap is_answered h.answered.running_is ∙ ap (λ (x : Option Reply). is_some x) h.answered.reply_is, ap (λ (x : Option Reply). is_some x) h.answered.given)
 
-abbrev ends_next : Next → Bool
-ends_next nexts.FreeBus = true
-ends_next nexts.Command = false
-ends_next nexts.GoOn = false
-ends_next nexts.Status = false
-
-before_in : (a : Array) (p : Process) (plan : Plan) (h : Handshakes) (atn : Bool) → PlacedIn a p plan h atn phases.MessageIn → (ends_next plan.next ≡ true) ⊎ PlacedBefore a p plan.messages plan.next
+before_in : (a : Array) (p : Process) (plan : Plan) (h : Handshakes) (atn : Bool) → PlacedIn a p plan h atn phases.MessageIn → (is_free plan.next ≡ true) ⊎ PlacedBefore a p plan.messages plan.next
 before_in a p plan h atn (inl w) = inr w
-before_in a p plan h atn (inr w) = inl (ap ends_next w.next_is)
+before_in a p plan h atn (inr w) = inl (ap is_free w.next_is)
 
 placed_in : (a : Array) (p : Process) (plan : Plan) (h : Handshakes) (atn : Bool) (phase : Phase) → PlacedIn a p plan h atn phase → IsPlacedIn a p phase plan.next
 placed_in a p plan h atn phases.MessageOut w = record { new = λ e. wrong' e; unanswered = λ e. wrong' e; answered = λ e. wrong' e }
@@ -82,30 +73,20 @@ placed_in a p plan h atn phases.DataIn w = record { new = λ e. wrong' e; unansw
 placed_in a p plan h atn phases.DataOut w = record { new = λ e. wrong' e; unanswered = λ e. runs_unanswered a p w; answered = λ e. wrong' e }
 placed_in a p plan h atn phases.MessageIn w = by plan.next refl (before_in a p plan h atn w)
   where
-    by : (x : Next) → plan.next ≡ x → (ends_next plan.next ≡ true) ⊎ PlacedBefore a p plan.messages plan.next → IsPlacedIn a p phases.MessageIn plan.next
-    by nexts.GoOn e (inl z) = wrong' (sym (ap ends_next e) ∙ z)
+    by : (x : Next) → plan.next ≡ x → (is_free plan.next ≡ true) ⊎ PlacedBefore a p plan.messages plan.next → IsPlacedIn a p phases.MessageIn plan.next
+    by nexts.GoOn e (inl z) = wrong' (sym (ap is_free e) ∙ z)
     by nexts.GoOn e (inr z) = subst (λ (x : Next). IsPlacedIn a p phases.MessageIn x) (sym e)
         (record { new = λ f. wrong' f; unanswered = λ f. runs_unanswered a p (subst (λ (x : Next). PlacedBefore a p plan.messages x) e z); answered = λ f. wrong' f })
-    by nexts.Status e (inl z) = wrong' (sym (ap ends_next e) ∙ z)
+    by nexts.Status e (inl z) = wrong' (sym (ap is_free e) ∙ z)
     by nexts.Status e (inr z) = subst (λ (x : Next). IsPlacedIn a p phases.MessageIn x) (sym e)
         (record { new = λ f. wrong' f; unanswered = λ f. wrong' f; answered = λ f. given_answered a p (subst (λ (x : Next). PlacedBefore a p plan.messages x) e z) })
     by nexts.Command e z = subst (λ (x : Next). IsPlacedIn a p phases.MessageIn x) (sym e) (record { new = λ f. wrong' f; unanswered = λ f. wrong' f; answered = λ f. wrong' f })
     by nexts.FreeBus e z = subst (λ (x : Next). IsPlacedIn a p phases.MessageIn x) (sym e) (record { new = λ f. wrong' f; unanswered = λ f. wrong' f; answered = λ f. wrong' f })
 
-begun_after : (k : RunState) → is_opening k ≡ false → k.exchange.begun ≡ true
-begun_after k e = go k.exchange.begun refl
-  where
-    go : (q : Bool) → k.exchange.begun ≡ q → k.exchange.begun ≡ true
-    go true f = f
-    go false f = wrong' (sym e ∙ (λ i. unbegun (f i)))
-      where
-        unbegun : Bool → Bool
-        unbegun q = is_opening (record k { exchange = record k.exchange { begun = q } })
-
 pub places_heard : (s : ScenarioValue) (p : List Row) → AreOfDevices p → PlaceFacts s p → ArePlaced s p
 places_heard s p dv h n con calm past q served =
     subst (λ (a : Array). IsPlacedIn a q (phase_of (bus_of k)) k.exchange.plan.next) (ap (or_start s) (sym h.array_is))
-    (placed_in h.array q k.exchange.plan k.handshakes (bus_of k).atn (phase_of (bus_of k)) (subst (λ (b : Bool). PlacedIf b h.array q k.exchange.plan k.handshakes (bus_of k).atn (phase_of (bus_of k))) (begun_after k past) (h.placed n (pl.connection ∙ con) (ap (λ (l : LineSet). l.rst) pl.bus ∙ calm) q served)))
+    (placed_in h.array q k.exchange.plan k.handshakes (bus_of k).atn (phase_of (bus_of k)) (subst (λ (b : Bool). PlacedIf b h.array q k.exchange.plan k.handshakes (bus_of k).atn (phase_of (bus_of k))) (begun_of k past) (h.placed n (pl.connection ∙ con) (ap (λ (l : LineSet). l.rst) pl.bus ∙ calm) q served)))
   where
     k : RunState
     k = run_state s p
@@ -117,9 +98,6 @@ places_heard s p dv h n con calm past q served =
 
 uncounted : (r : ProcessProgress) (id : ProcId) → r ≡ no_progress id → is_uncounted r ≡ true
 uncounted r id e = ap is_uncounted e
-
-no_process : {A : Type 0} (q : Process) → (let o : Option Process = None in o) ≡ Some q → A
-no_process q e = absurd cc
 
 begun_here : (s : ScenarioValue) (p : List Row) (row : Row) (n : Connection) → Obeys s → IsPrompt s (row ∷ p) → Stood s p → NextStood s p row → ItemFacts s p → (h : PlaceFacts s p) → (before : connection p ≡ None) → connection (row ∷ p) ≡ Some n → (b : Begins s (run_state s p) row n) → (q : Process) → process_served s (run_state s (row ∷ p)) ≡ Some q
     → is_beginning s (run_state s (row ∷ p)) n (Some q) ≡ true
@@ -159,7 +137,7 @@ begun_here s p row n o prompt was nx items h alone after b q served = by n.resel
         item_is = served_is ∙ ap (λ (r : Bool). if r then item_if (ready_of s k n.target) else aim_of k.story.aims n.initiator) e ∙ fresh.aim_is
 
         go : (x : Item) → fresh.item ≡ x → (is_new (array_of s j) q && is_uncounted (progress_in j.progress q.id)) ≡ true
-        go (abort m) z = no_process q (ap (process_item s) (sym (item_is ∙ ap (λ (y : Item). Some y) z)) ∙ served)
+        go (abort m) z = none_some q (ap (process_item s) (sym (item_is ∙ ap (λ (y : Item). Some y) z)) ∙ served)
         go (process id) z =
             let of : process_of s id ≡ Some q = ap (process_item s) (sym (item_is ∙ ap (λ (y : Item). Some y) z)) ∙ served in
             let unsent : has_item k.story.sent.sent (process q.id) ≡ false = ap (λ (y : ProcId). has_item k.story.sent.sent (process y)) (id_is s id q of) ∙ ap (λ (y : Item). has_item k.story.sent.sent y) (sym z) ∙ fresh.unsent in
@@ -184,9 +162,6 @@ begun_here s p row n o prompt was nx items h alone after b q served = by n.resel
     by true e = (λ i. if e i then is_none (guest_at (array_of s j).guests q.id) && is_none (reply_in (array_of s j).replies q.id) else is_new (array_of s j) q && is_uncounted (progress_in j.progress q.id)) ∙ again e
     by false e = (λ i. if e i then is_none (guest_at (array_of s j).guests q.id) && is_none (reply_in (array_of s j).replies q.id) else is_new (array_of s j) q && is_uncounted (progress_in j.progress q.id)) ∙ anew e
 
-no_connection : {A : Type 0} (n : Connection) → (let o : Option Connection = None in o) ≡ Some n → A
-no_connection n e = absurd cc
-
 pub begins_placed : (s : ScenarioValue) (p : List Row) (row : Row) → Obeys s → IsPrompt s (row ∷ p) → Stood s p → NextStood s p row → ItemFacts s p → PlaceFacts s p → BeginsPlaced s p row
 begins_placed s p row o prompt was nx items h n alone after off = go (process_served s j) refl
   where
@@ -209,10 +184,10 @@ begins_placed s p row o prompt was nx items h n alone after off = go (process_se
     none = pl.connection ∙ alone
 
     of : RowOf s k row → Begins s k row n
-    of (apart e f) = no_connection n (sym f ∙ next)
+    of (apart e f) = none_some n (sym f ∙ next)
     of (begins m b) = subst (λ (x : Connection). Begins s k row x) (same_Some m n (sym b.first.next_is ∙ next)) b
-    of (goes_on m x g) = no_connection m (sym none ∙ g.row_is.connection_is)
-    of (ends m g) = no_connection m (sym none ∙ g.connection_is)
+    of (goes_on m x g) = none_some m (sym none ∙ g.row_is.connection_is)
+    of (ends m g) = none_some m (sym none ∙ g.connection_is)
     of (under_reset e f) = wrong (sym e ∙ ap (λ (x : Change). x.after.rst) c ∙ off)
 
     go : (x : Option Process) → process_served s j ≡ x → is_beginning s j n (process_served s j) ≡ true

@@ -2,7 +2,6 @@
 use Rattle.std.proofs.Common.{ℕ, ◌≡◌, ◌≤◌, Bool, true, false, not, ◌&&◌, ◌==◌, ◌∙◌, List, length, length-append, Option, Some, None, refl, sym, ap, arith}
 use Rattle.std.specs.Prelude.{◌+◌, ◌-◌, if◌then◌else◌, is_some, nat_lt}
 use Rattle.std.proofs.lemmas.Bool.{and_parts}
-use Rattle.std.proofs.lemmas.Bool.Decides.{nat_tests}
 use Rattle.bus_trace.specs.LineSet.{LineSet}
 use Rattle.bus_trace.specs.declared.Row.{Row}
 use Rattle.bus_trace.specs.declared.changes.Change.{Change}
@@ -17,6 +16,7 @@ use Rattle.scenario.specs.declared.value.Policy.{Policy}
 use Rattle.scenario.specs.declared.value.Policy.TheVariants as policies
 use Rattle.scenario.specs.declared.value.TargetDef.{TargetDef}
 use Rattle.disk_array.specs.Processes.{Process}
+use Rattle.disk_unit.proofs.Touched.{from_not_lt}
 use Rattle.bus_dialogue.specs.declared.exchange.Arrival.{Arrival}
 use Rattle.bus_dialogue.specs.declared.exchange.Arrival.TheVariants as arrivals
 use Rattle.bus_dialogue.specs.declared.exchange.Cause.{Cause}
@@ -42,10 +42,13 @@ use Rattle.bus_due.specs.RunSteps.{run_state_after}
 use Rattle.bus_due.specs.Sights.{serving_of, hearing_of, leaving}
 use Rattle.bus_due.specs.Tasks.{is_writing, task_if, task_of}
 use Rattle.bus_books.specs.Giving.{Gives}
-use Rattle.bus_books.specs.Hearing.{is_in_phase, HasPhase, LeavesWhole}
+use Rattle.bus_books.specs.Hearing.{is_in_phase, HasPhase, LeavesWhole, is_out_phase}
 use Rattle.bus_books.specs.Rows.{RowKind, still, strikes, crosses, turns, IsRowIn, reading_in}
 use Rattle.bus_books.proofs.InConnection.{InConnection, in_connection, exchange_by, same_phase_is}
-use Rattle.trace_laws.proofs.Driven.{wrong'}
+use Rattle.trace_laws.proofs.Impossible.{wrong'}
+use Rattle.trace_laws.proofs.PhaseLines.{in_phase, is_data_out, is_data_phase}
+use Rattle.trace_laws.proofs.Tests.{some_count}
+use Rattle.trace_laws.proofs.UndoneLeavings.{is_to_message_in}
 
 abbrev pub is_in_message : Cause → Bool
 is_in_message causes.InMessage = true
@@ -70,10 +73,6 @@ pub record Planned (s : ScenarioValue) (k : RunState) : Type 0 where
 
 -- ---- how a phase is left
 
-abbrev is_in : Option Phase → Bool
-is_in (Some phases.MessageIn) = true
-is_in _ = false
-
 abbrev task_writes : Option Task → Option Bool
 task_writes None = None
 task_writes (Some t) = Some t.writes
@@ -85,7 +84,7 @@ runs_so _ o = true
 
 -- To MESSAGE IN with a message, and to a data phase for a process that moves its data so.
 abbrev fits : Option Task → Leaving → Bool
-fits o l = implies (is_in l.to) (is_some l.messages.first) && runs_so l.to (task_writes o)
+fits o l = implies (is_to_message_in l.to) (is_some l.messages.first) && runs_so l.to (task_writes o)
 
 recovers : (o : Option Task) (def : Option TargetDef) (t : Task) (a b : Leaving) → fits o a ≡ true → fits o b ≡ true → fits o (recovery def t a b) ≡ true
 recovers o def t a b h k = go t.in_hold (nat_lt t.recoveries (recovery_limit def))
@@ -98,7 +97,7 @@ recovers o def t a b h k = go t.in_hold (nat_lt t.recoveries (recovery_limit def
 data_phase : (t : Task) (policy : Policy) (made : ℕ) → fits (Some t) (phase_entry (next_data_phase policy t made)) ≡ true
 data_phase t policy made = go t.replied (nat_lt made (runs_in_all policy t)) t.writes
   where
-    go : (a b c : Bool) → (implies (is_in (Some (if a then phases.Status else if b then (if c then phases.DataOut else phases.DataIn) else phases.Status))) false && runs_so (Some (if a then phases.Status else if b then (if c then phases.DataOut else phases.DataIn) else phases.Status)) (Some c)) ≡ true
+    go : (a b c : Bool) → (implies (is_to_message_in (Some (if a then phases.Status else if b then (if c then phases.DataOut else phases.DataIn) else phases.Status))) false && runs_so (Some (if a then phases.Status else if b then (if c then phases.DataOut else phases.DataIn) else phases.Status)) (Some c)) ≡ true
     go true b c = refl
     go false true true = refl
     go false true false = refl
@@ -196,11 +195,7 @@ unless : (o : Option Task) (atn : Bool) (l : Leaving) → fits o l ≡ true → 
 unless o true l e = refl
 unless o false l e = e
 
-abbrev is_out : Phase → Bool
-is_out phases.MessageOut = true
-is_out _ = false
-
-leaves_fit : (v : Serving) (atn : Bool) (phase : Phase) → (is_out phase ≡ true → is_in_message v.plan.cause ≡ true → is_some v.plan.messages.first ≡ true) → fits v.task (phase_leaving v atn phase) ≡ true
+leaves_fit : (v : Serving) (atn : Bool) (phase : Phase) → (is_out_phase phase ≡ true → is_in_message v.plan.cause ≡ true → is_some v.plan.messages.first ≡ true) → fits v.task (phase_leaving v atn phase) ≡ true
 leaves_fit v atn phases.MessageOut e = by_cause v v.plan.cause (e refl)
 leaves_fit v atn phases.MessageIn e = unless v.task atn (after_messages v v.plan.next) (by_messages v v.plan.next)
 leaves_fit v atn phases.Command e = by_command v v.arrival
@@ -209,11 +204,6 @@ leaves_fit v atn phases.DataOut e = by_data_out v
 leaves_fit v atn phases.Status e = unless v.task atn _ refl
 
 -- ---- a data phase of a process is left to another phase
-
-abbrev is_data_phase : Phase → Bool
-is_data_phase phases.DataIn = true
-is_data_phase phases.DataOut = true
-is_data_phase _ = false
 
 run_some : (policy : Policy) (t : Task) → is_some (after_run policy t).to ≡ true
 run_some policy t = go (nat_lt (t.runs + 1) (runs_in_all policy t))
@@ -289,10 +279,10 @@ data_to b o e = go b.msg b.cd b.io e
     go false false true z = refl
     go false false false z = refl
 
-out_lines : (b : LineSet) → is_out (phase_of b) ≡ true → (b.msg ≡ true → b.cd ≡ true) → is_message_out b ≡ true
+out_lines : (b : LineSet) → is_out_phase (phase_of b) ≡ true → (b.msg ≡ true → b.cd ≡ true) → is_message_out b ≡ true
 out_lines b e h = go b.msg b.cd b.io e h
   where
-    go : (m c i : Bool) → is_out (if m then (if i then phases.MessageIn else phases.MessageOut) else if c then (if i then phases.Status else phases.Command) else if i then phases.DataIn else phases.DataOut) ≡ true → (m ≡ true → c ≡ true) → (m && c && not i) ≡ true
+    go : (m c i : Bool) → is_out_phase (if m then (if i then phases.MessageIn else phases.MessageOut) else if c then (if i then phases.Status else phases.Command) else if i then phases.DataIn else phases.DataOut) ≡ true → (m ≡ true → c ≡ true) → (m && c && not i) ≡ true
     go true true true z g = wrong' z
     go true true false z g = refl
     go true false i z g = wrong' (g refl)
@@ -317,26 +307,13 @@ no_out_data b e f = go b.msg b.cd b.io e f
     go true c i z g = wrong' g
     go false c i z g = wrong' z
 
-in_of_message : (b : LineSet) → is_message_in b ≡ true → phase_of b ≡ phases.MessageIn
-in_of_message b e = go b.msg b.cd b.io e
-  where
-    go : (m d i : Bool) → (m && d && i) ≡ true → (if m then (if i then phases.MessageIn else phases.MessageOut) else if d then (if i then phases.Status else phases.Command) else if i then phases.DataIn else phases.DataOut) ≡ phases.MessageIn
-    go true true true z = refl
-    go true true false z = wrong' z
-    go true false i z = wrong' z
-    go false d i z = wrong' z
-
-abbrev is_out_run : Phase → Bool
-is_out_run phases.DataOut = true
-is_out_run _ = false
-
 -- In DATA OUT the process that is served writes.
 pub writes_there : (s : ScenarioValue) (k : RunState) (p : Process) → Planned s k → k.exchange.begun ≡ true → process_served s k ≡ Some p → phase_of (bus_of k) ≡ phases.DataOut → is_writing p ≡ true
 writes_there s k p h b e f =
-    let w = out_of (bus_of k).msg (bus_of k).cd (bus_of k).io (ap is_out_run f) in
+    let w = out_of (bus_of k).msg (bus_of k).cd (bus_of k).io (ap is_data_out f) in
     sym (λ i. is_directed (w.1 i) (writes_of (e i))) ∙ h.serves b w.0
   where
-    out_of : (m d i : Bool) → is_out_run (if m then (if i then phases.MessageIn else phases.MessageOut) else if d then (if i then phases.Status else phases.Command) else if i then phases.DataIn else phases.DataOut) ≡ true → ((not m && not d) ≡ true) × (i ≡ false)
+    out_of : (m d i : Bool) → is_data_out (if m then (if i then phases.MessageIn else phases.MessageOut) else if d then (if i then phases.Status else phases.Command) else if i then phases.DataIn else phases.DataOut) ≡ true → ((not m && not d) ≡ true) × (i ≡ false)
     out_of true d true z = wrong' z
     out_of true d false z = wrong' z
     out_of false true true z = wrong' z
@@ -354,12 +331,6 @@ cause_in b e = go (is_message_in b) b.cd refl e
     go false true f z = wrong' z
     go false false f z = wrong' z
 
-not_below : (n m : ℕ) → nat_lt n m ≡ false → m ≤ n
-not_below n m e = grind (arith, nat_tests)
-
-some_count : (n : ℕ) → (n == 0) ≡ false → 1 ≤ n
-some_count n e = grind (arith, nat_tests)
-
 less_by : (r a b : ℕ) → 1 ≤ r → r ≤ a + b → a ≤ r - 1 → 1 ≤ b
 less_by r a b h k l = omega arith
 
@@ -374,7 +345,7 @@ left_some m r some asked within = go (nat_lt (r - 1) (length (message_bytes m.fi
     go true e = some
     go false e =
         let two = length-append (message_bytes m.first) (message_bytes m.second) in
-        second_some m.second (less_by r (length (message_bytes m.first)) (length (message_bytes m.second)) (some_count r asked) (omega arith) (not_below (r - 1) (length (message_bytes m.first)) e))
+        second_some m.second (less_by r (length (message_bytes m.first)) (length (message_bytes m.second)) (some_count r asked) (omega arith) (from_not_lt (r - 1) (length (message_bytes m.first)) e))
 
 -- ---- a row
 
@@ -433,7 +404,7 @@ planned_on s k row n c r phase gives selected leaves first whereto h = go r.kind
         out : k.exchange.begun ≡ true → is_in_message (plan_in_message_out w k.exchange.plan).cause ≡ true → is_some (plan_in_message_out w k.exchange.plan).messages.first ≡ true
         out b z =
             let before : is_message_in c.before ≡ true = cause_in c.before z in
-            let here : phase_of (bus_of k) ≡ phases.MessageIn = ap phase_of r.bus_is ∙ in_of_message c.before before in
+            let here : phase_of (bus_of k) ≡ phases.MessageIn = ap phase_of r.bus_is ∙ in_phase c.before before in
             let g = gives.in_message_in b (ap is_message_in r.bus_is ∙ before) in
             let all = ap (λ (x : List ℕ). length x) g.bytes_are in
             let two = length-append g.before g.rest in
@@ -459,7 +430,7 @@ planned_on s k row n c r phase gives selected leaves first whereto h = go r.kind
         by false e true f =
             let p = says false e in
             let to = whereto ep f in
-            let parts = and_parts (implies (is_in (leaving s k n.target).to) (is_some (leaving s k n.target).messages.first)) (runs_so (leaving s k n.target).to (task_writes (serving_of s k n.target).task)) (fit f) in
+            let parts = and_parts (implies (is_to_message_in (leaving s k n.target).to) (is_some (leaving s k n.target).messages.first)) (runs_so (leaving s k n.target).to (task_writes (serving_of s k n.target).task)) (fit f) in
             record {
               serves = λ x d.
                   (λ j. is_directed (i.bus_is j).io (writes_of (process_item s (i.served_is j))))
@@ -468,8 +439,8 @@ planned_on s k row n c r phase gives selected leaves first whereto h = go r.kind
                   ∙ ap (λ (y : Option Phase). runs_so y (task_writes (task_of s k))) (sym to)
                   ∙ parts.1;
               message = λ x.
-                  let in_to : is_in (leaving s k n.target).to ≡ true = ap is_in (to ∙ ap (λ (y : Phase). Some y) (ap phase_of (sym i.bus_is) ∙ x)) in
-                  ap (λ (y : Plan). is_some y.messages.first) p ∙ implied (is_in (leaving s k n.target).to) _ parts.0 in_to;
+                  let in_to : is_to_message_in (leaving s k n.target).to ≡ true = ap is_to_message_in (to ∙ ap (λ (y : Phase). Some y) (ap phase_of (sym i.bus_is) ∙ x)) in
+                  ap (λ (y : Plan). is_some y.messages.first) p ∙ implied (is_to_message_in (leaving s k n.target).to) _ parts.0 in_to;
               repeated = λ x y z. wrong' (sym e ∙ ap is_message_out (sym i.bus_is) ∙ y);
             }
           where

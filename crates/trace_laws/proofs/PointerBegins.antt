@@ -1,8 +1,8 @@
 -- The data pointers of the process that is served as its connection begins; and whose bytes MESSAGE PARITY ERROR would bring back.
 use Rattle.std.proofs.Common.{◌≡◌, ◌⊎◌, inl, inr, ◌*◌, Bool, true, false, not, ◌&&◌, ◌∙◌, List, Option, Some, None, refl, sym, ap, subst}
 use Rattle.std.specs.Prelude.{if◌then◌else◌, is_some}
+use Rattle.std.proofs.lemmas.Option.{same_Some}
 use Rattle.bus_base.specs.declared.ProcId.{ProcId}
-use Rattle.bus_trace.specs.LineSet.{LineSet}
 use Rattle.bus_trace.specs.declared.Row.{Row}
 use Rattle.bus_trace.specs.declared.changes.Change.{Change}
 use Rattle.bus_trace.specs.declared.connection.Connection.{Connection}
@@ -22,7 +22,6 @@ use Rattle.bus_story.specs.Links.{Link, plain, link_of, link_after_name}
 use Rattle.bus_story.specs.Story.{Story}
 use Rattle.bus_story.specs.TraceHistory.{aim_of, story_with_restored, story_with_sent, story_after_connection, story_after_out, story_after_in, story_after_byte, story_after_fault, story_in_connection, story_on_bus, story_by_change}
 use Rattle.bus_dialogue.specs.declared.exchange.Messages.{Messages}
-use Rattle.bus_dialogue.specs.declared.exchange.Phase.TheVariants as phases
 use Rattle.bus_dialogue.specs.Exchange.{Exchange}
 use Rattle.bus_dialogue.specs.NextPhase.{phase_of}
 use Rattle.bus_dialogue.specs.Wants.{Ready}
@@ -37,9 +36,10 @@ use Rattle.bus_books.specs.Rows.{IsFirstRow, IsRowIn, reading_in}
 use Rattle.bus_books.proofs.Knows.{events_link, link_after}
 use Rattle.bus_books.proofs.Lookups.{put_own, carried_id}
 use Rattle.trace_laws.specs.DataPointers.{is_marked, run_start, run_step, policy_for, IsPlainIn, PointersIf, IsWaiting, ServedPointers, unnamed, named, UndoesServed, IsServedAnew}
+use Rattle.trace_laws.proofs.Impossible.{none_some}
+use Rattle.trace_laws.proofs.PhaseLines.{in_phase}
 use Rattle.trace_laws.proofs.PointerStories.{SamePointers, events_same}
 use Rattle.trace_laws.proofs.PointerStorySteps.{fault_link, byte_link, out_link, in_link}
-use Rattle.trace_laws.proofs.PointerRows.{wrong', phase_by}
 
 -- ---- the first row
 
@@ -75,10 +75,10 @@ first_carried s k row n id h =
     let d = row_reading k.story.bus_state row in
     subst (λ (x : Story). SamePointers (carried_here (run_state_after s k row) id) (carried_of x.carried id)) (first_story s k row n h) (events_same s (story_by_change s k.story d row) (row_events_by s k.story d row) id)
 
-first_made : (s : ScenarioValue) (k : RunState) (row : Row) (n : Connection) → IsFirstRow k row n → (run_state_after s k row).exchange ≡ first_exchange s k n (aim_of k.story.aims n.initiator)
+pub first_made : (s : ScenarioValue) (k : RunState) (row : Row) (n : Connection) → IsFirstRow k row n → (run_state_after s k row).exchange ≡ first_exchange s k n (aim_of k.story.aims n.initiator)
 first_made s k row n h = λ i. exchange_after s k row (row_reading k.story.bus_state row) (h.connection_is i) (h.next_is i) (leaving_of s k k.story.bus_state.connection)
 
-first_served : (s : ScenarioValue) (k : RunState) (row : Row) (n : Connection) → IsFirstRow k row n → (run_state_after s k row).served ≡ (if n.reselected then item_if (ready_of s k n.target) else aim_of k.story.aims n.initiator)
+pub first_served : (s : ScenarioValue) (k : RunState) (row : Row) (n : Connection) → IsFirstRow k row n → (run_state_after s k row).served ≡ (if n.reselected then item_if (ready_of s k n.target) else aim_of k.story.aims n.initiator)
 first_served s k row n h = λ i. served_after s k (h.connection_is i) (h.next_is i)
 
 first_start : (s : ScenarioValue) (k : RunState) (row : Row) (n : Connection) (q : Process) → IsFirstRow k row n → run_start s (run_state_after s k row) q ≡ run_start s k q
@@ -94,19 +94,10 @@ plain_names p = go p.tag
     go (tags.Ordered n) = (refl, refl)
     go (tags.Head n) = (refl, refl)
 
-in_message : (b : LineSet) → is_message_in b ≡ true → phase_of b ≡ phases.MessageIn
-in_message b e = go b.msg b.cd b.io e
-  where
-    go : (m d i : Bool) → (m && d && i) ≡ true → phase_by m d i ≡ phases.MessageIn
-    go true true true z = refl
-    go true true false z = wrong' z
-    go true false i z = wrong' z
-    go false d i z = wrong' z
-
 none_item : {A : Type 0} (id : ProcId) → (let o : Option Item = None in o) ≡ Some (process id) → A
 none_item id e = absurd cc
 
-same_process : (a b : ProcId) → (let o : Option Item = Some (process a) in o) ≡ Some (process b) → a ≡ b
+pub same_process : (a b : ProcId) → (let o : Option Item = Some (process a) in o) ≡ Some (process b) → a ≡ b
 same_process a b e = cc
 
 pub begins_served : (s : ScenarioValue) (k : RunState) (row : Row) (n : Connection) (q : Process) → IsFirstRow k row n → (n.reselected ≡ true → is_message_in (row_reading k.story.bus_state row).change.after ≡ true) → IsServedAnew s k n → (run_state_after s k row).served ≡ Some (process q.id) → IsWaiting s k q → ServedPointers s (run_state_after s k row) q
@@ -159,7 +150,7 @@ begins_served s k row n q h names anew served waits = go n.reselected refl (sym 
               ∙ ap messages_if er))
               (plain_names r.process);
           saved = ap (λ (x : Area). x.saved) (first_carried s k row n q.id h).moved ∙ ap (λ (x : CarriedBytes). x.moved.saved) there ∙ from ∙ sym start;
-          phase = inl (in_message (row_reading k.story.bus_state row).change.after (names e));
+          phase = inl (in_phase (row_reading k.story.bus_state row).change.after (names e));
         })
 
     go : (b : Bool) → n.reselected ≡ b → (if n.reselected then item_if (ready_of s k n.target) else aim_of k.story.aims n.initiator) ≡ Some (process q.id) → ServedPointers s j q
@@ -168,19 +159,10 @@ begins_served s k row n q h names anew served waits = go n.reselected refl (sym 
 
 -- ---- what would be brought back
 
-link_is : (x y : Link) → (let o : Option Link = Some x in o) ≡ Some y → x ≡ y
-link_is x y e = cc
-
-no_bytes : {A : Type 0} (u : CarriedBytes) → (let o : Option CarriedBytes = None in o) ≡ Some u → A
-no_bytes u e = absurd cc
-
-same_bytes : (x y : CarriedBytes) → (let o : Option CarriedBytes = Some x in o) ≡ Some y → x ≡ y
-same_bytes x y e = cc
-
 pub begins_undoes : (s : ScenarioValue) (k : RunState) (row : Row) (n : Connection) → IsFirstRow k row n → UndoesServed (run_state_after s k row)
 begins_undoes s k row n h l u el eu =
-    let is = link_is (link_of n (if n.reselected then None else aim_of k.story.aims n.initiator)) l (sym (first_link s k row n h) ∙ el) in
-    no_bytes u (ap (λ (x : Link). x.undo) is ∙ eu)
+    let is = same_Some (link_of n (if n.reselected then None else aim_of k.story.aims n.initiator)) l (sym (first_link s k row n h) ∙ el) in
+    none_some u (ap (λ (x : Link). x.undo) is ∙ eu)
 
 pub goes_undoes : (s : ScenarioValue) (k : RunState) (row : Row) (n : Connection) (c : Change) (now : Bool) → IsRowIn k row n c → is_some (receiver_in n c) ≡ now → Knows s k n → (run_state_after s k row).served ≡ k.served → UndoesServed k → UndoesServed (run_state_after s k row)
 goes_undoes s k row n c now r en knows served h l u el eu =
@@ -194,20 +176,20 @@ goes_undoes s k row n c now r en knows served h l u el eu =
 
     -- of what the process has carried
     told : (item : Option Item) → knows.link.item ≡ item → carried_if k.story item ≡ Some u → k.served ≡ Some (process u.id)
-    told None e f = no_bytes u f
-    told (Some (abort x)) e f = no_bytes u f
+    told None e f = none_some u f
+    told (Some (abort x)) e f = none_some u f
     told (Some (process x)) e f = by knows.item_is
       where
         id : x ≡ u.id
-        id = sym (carried_id k.story.carried x) ∙ ap (λ (y : CarriedBytes). y.id) (same_bytes (carried_of k.story.carried x) u f)
+        id = sym (carried_id k.story.carried x) ∙ ap (λ (y : CarriedBytes). y.id) (same_Some (carried_of k.story.carried x) u f)
 
         by : (knows.link.item ≡ k.served) ⊎ ((n.reselected ≡ true) × (knows.link.item ≡ None)) → k.served ≡ Some (process u.id)
         by (inl z) = sym z ∙ e ∙ ap (λ (y : ProcId). Some (process y)) id
         by (inr z) = none_item x (sym z.1 ∙ e)
 
     go : (q : Bool) (o : Option MsgOut) (m : Option MsgIn) → (if q then (if is_some o then story_after_out k.story knows.link o else if is_some m then story_after_in s k.story knows.link m else story_after_byte k.story knows.link d) else story_after_fault k.story knows.link row.kind).link ≡ Some l → k.served ≡ Some (process u.id)
-    go false o m e = same (link_is knows.link l (sym (fault_link k.story knows.link row.kind ∙ knows.link_is) ∙ e))
-    go true (Some o) m e = h knows.link u knows.link_is (ap (λ (x : Link). x.undo) (link_is (record knows.link { last = Rattle.bus_story.specs.Links.last_out o knows.link }) l (sym (out_link k.story knows.link o) ∙ e)) ∙ eu)
-    go true None None e = same (link_is knows.link l (sym (byte_link k.story knows.link d ∙ knows.link_is) ∙ e))
+    go false o m e = same (same_Some knows.link l (sym (fault_link k.story knows.link row.kind ∙ knows.link_is) ∙ e))
+    go true (Some o) m e = h knows.link u knows.link_is (ap (λ (x : Link). x.undo) (same_Some (record knows.link { last = Rattle.bus_story.specs.Links.last_out o knows.link }) l (sym (out_link k.story knows.link o) ∙ e)) ∙ eu)
+    go true None None e = same (same_Some knows.link l (sym (byte_link k.story knows.link d ∙ knows.link_is) ∙ e))
     go true None (Some m) e =
-        told knows.link.item refl (ap (λ (x : Link). x.undo) (link_is (record (link_after_name k.story.sent s.commands knows.link m) { last = Rattle.bus_story.specs.Links.last_in m; before = knows.link.last; undo = carried_if k.story knows.link.item }) l (sym (in_link s k.story knows.link m) ∙ e)) ∙ eu)
+        told knows.link.item refl (ap (λ (x : Link). x.undo) (same_Some (record (link_after_name k.story.sent s.commands knows.link m) { last = Rattle.bus_story.specs.Links.last_in m; before = knows.link.last; undo = carried_if k.story knows.link.item }) l (sym (in_link s k.story knows.link m) ∙ e)) ∙ eu)

@@ -1,6 +1,7 @@
 -- The data pointers of the process that is served, after a row with which a byte of a message crosses.
 use Rattle.std.proofs.Common.{ℕ, ◌≡◌, ◌⊎◌, inl, inr, ◌+◌, Bool, true, false, not, ◌&&◌, ◌∙◌, List, [], ◌∷◌, ◌++◌, Option, Some, None, refl, sym, ap, subst, true≢false}
 use Rattle.std.specs.Prelude.{if◌then◌else◌, is_some}
+use Rattle.std.proofs.lemmas.Option.{same_Some}
 use Rattle.bus_base.specs.declared.ProcId.{ProcId}
 use Rattle.bus_trace.specs.LineSet.{LineSet}
 use Rattle.bus_trace.specs.declared.Row.{Row}
@@ -40,21 +41,18 @@ use Rattle.bus_books.specs.Traces.{GoesOn}
 use Rattle.bus_books.specs.Rows.{RowKind, still, strikes, crosses, turns, reading_in, IsRowIn}
 use Rattle.bus_books.specs.Speaking.{IsSpeaking}
 use Rattle.bus_books.proofs.InConnection.{reading_is}
+use Rattle.link_laws.proofs.PulseSteps.{count_more}
 use Rattle.trace_laws.specs.DataPointers.{is_marked, OnUndo, policy_for, run_start, IsUndisturbed, PointersOf, PointersIf, PointersAsked, PointersIn, IsUnnamed, ServedPointers, unnamed, named}
+use Rattle.trace_laws.proofs.PointerBegins.{same_process}
+use Rattle.trace_laws.proofs.PointerLeavings.{on_command}
 use Rattle.trace_laws.proofs.PointerStories.{SamePointers}
 use Rattle.trace_laws.proofs.PointerKept.{unnamed_as}
 use Rattle.trace_laws.proofs.PointerMessages.{or_undone, IsHeard, in_half, in_whole, in_lost, in_named, refused_on, settled_on}
 use Rattle.trace_laws.proofs.PointerHearings.{heard_in, refusal_said, rejection_said, status_rejects}
 use Rattle.trace_laws.proofs.PointerStorySteps.{message_byte, out_story, out_link, in_known, in_unknown, in_none, in_found, in_link}
-use Rattle.trace_laws.proofs.PointerRows.{Meets, Goes, Crosses, crosses_in, crossed_as, into_of, out_of, byte_of, told_served, block_crosses, run_crosses, quiet_row, requests_rise, counted, in_lines, out_lines, io_out_false, io_in_false, is_block_phase}
+use Rattle.trace_laws.proofs.PointerRows.{Meets, Goes, Crosses, crosses_in, crossed_as, into_of, out_of, byte_of, told_served, block_crosses, run_crosses, quiet_row, requests_rise, in_lines, out_lines, io_out_false, io_in_false, is_block_phase}
 
 -- ---- what is heard
-
-some_same : {A : Type 0} (x y : A) → (let o : Option A = Some x in o) ≡ Some y → x ≡ y
-some_same x y e = cc
-
-item_same : (x y : ProcId) → (let o : Option Item = Some (process x) in o) ≡ Some (process y) → x ≡ y
-item_same x y e = cc
 
 message_in_is : (s : ScenarioValue) (k : RunState) (row : Row) (n : Connection) (c : Change) (q : Process) (l : Link) → Crosses s k row n c q l → phase_of (bus_of k) ≡ phases.MessageIn → is_message_in (bus_of k) ≡ true
 message_in_is s k row n c q l x e = let b = in_lines (bus_of k) e in λ i. b.msg i && ((x.meets.of.phase b.msg).0) i && b.io i
@@ -76,7 +74,7 @@ asked_more : (s : ScenarioValue) (k : RunState) (row : Row) (n : Connection) (c 
 asked_more s k row n c q l x e =
     let io : c.before.io ≡ true = ap (λ (y : LineSet). y.io) (sym x.meets.of.row_is.bus_is) ∙ (in_lines (bus_of k) e).io in
     ap (λ (y : Handshakes). y.requests) x.in_is.handshakes_is ∙ ap (λ (f : Bool). (handshakes_after f (Some n) c row.time k.handshakes).requests) x.fault
-    ∙ requests_rise n c row.time x.dev k.handshakes x.same_phase io x.receiver ∙ counted k.handshakes.requests x.meets.short_asked
+    ∙ requests_rise n c row.time x.dev k.handshakes x.same_phase io x.receiver ∙ count_more k.handshakes.requests x.meets.short_asked
 
 -- What a message names is the process that is served, or nothing; one that is no name leaves what is known.
 nameless_item : (b : Sent) (commands : List CmdDef) (l : Link) (m : MsgIn) → is_name m ≡ false → (link_after_name b commands l m).item ≡ l.item
@@ -233,7 +231,7 @@ speaking s k row n c q l x e = x.meets.speaks.in_message_out x.begun (message_ou
 said : (s : ScenarioValue) (k : RunState) (row : Row) (n : Connection) (c : Change) (q : Process) (l : Link) (m y : MsgOut) → Crosses s k row n c q l → phase_of (bus_of k) ≡ phases.MessageOut → out_of k c ≡ Some m → whole_out (got_out (fresh_bytes k.story.bus_state.dialogue ++ byte_of c ∷ [])) ≡ Some y → m ≡ y
 said s k row n c q l m y x e eo w =
     let before : is_message_out c.before ≡ true = ap is_message_out (sym x.meets.of.row_is.bus_is) ∙ message_out_is s k row n c q l x e in
-    some_same m y (sym eo ∙ ap (λ (b : Bool). if b then whole_out (got_out (fresh_bytes k.story.bus_state.dialogue ++ byte_of c ∷ [])) else None) before ∙ w)
+    same_Some m y (sym eo ∙ ap (λ (b : Bool). if b then whole_out (got_out (fresh_bytes k.story.bus_state.dialogue ++ byte_of c ∷ [])) else None) before ∙ w)
 
 next_byte : (s : ScenarioValue) (k : RunState) (row : Row) (n : Connection) (c : Change) (q : Process) (l : Link) → Crosses s k row n c q l → phase_of (bus_of k) ≡ phases.MessageOut → byte_of c ≡ Rattle.bus_dialogue.specs.Exchange.next_word k.exchange.speech
 next_byte s k row n c q l x e =
@@ -252,7 +250,7 @@ undo_own s k row n c q l x = go l.undo refl
   where
     go : (o : Option CarriedBytes) → l.undo ≡ o → OnUndo (λ (u : CarriedBytes). u.id ≡ q.id) o
     go None e = tt
-    go (Some u) e = item_same u.id q.id (sym (x.meets.undoes l u x.link e) ∙ x.meets.served)
+    go (Some u) e = same_process u.id q.id (sym (x.meets.undoes l u x.link e) ∙ x.meets.served)
 
 abbrev refused_link : Link → MsgOut → Link
 refused_link l m = record l { last = last_out m l }
@@ -298,9 +296,6 @@ saved_undone start false o c u e = e
 saved_undone start true None c u e = e
 saved_undone start true (Some v) c u e = u
 
-go_on_command : {A : Type 0} → nexts.GoOn ≡ nexts.Command → A
-go_on_command e = absurd cc
-
 out_unnamed_crosses : (s : ScenarioValue) (k : RunState) (row : Row) (n : Connection) (c : Change) (q : Process) (l : Link) → Crosses s k row n c q l → l.item ≡ None → phase_of (bus_of k) ≡ phases.MessageOut → k.exchange.plan.cause ≡ causes.InMessage → IsUnnamed (policy_for s q) l (carried_here k q.id) k.exchange (bus_of k) (run_start s k q) → ServedPointers s (run_state_after s k row) q
 out_unnamed_crosses s k row n c q l x own e cause h = go (out_of k c) refl
   where
@@ -325,7 +320,7 @@ out_unnamed_crosses s k row n c q l x own e cause h = go (out_of k c) refl
         })
       where
         disturbed : (k.exchange.plan.next ≡ nexts.Command) ⊎ (m ≡ to_target.ParityError) → IsUndisturbed (policy_for s q) l → IsUndisturbed (policy_for s q) (refused_link l m)
-        disturbed (inl z) u = go_on_command (sym h.next ∙ z)
+        disturbed (inl z) u = on_command (sym h.next ∙ z)
         disturbed (inr z) (inl u) = inl u
         disturbed (inr z) (inr u) = inr (ap (λ (y : MsgOut). last_out y l) z ∙ u.1, u.1)
 
@@ -378,7 +373,7 @@ names_or s k row n c now l m r en knows g gives el em = go (is_name m) n.reselec
     reads = ap (λ (d : RowReading). d.into) (reading_is k row n c now r en) ∙ em
 
     known_link : knows.link ≡ l
-    known_link = some_same knows.link l (sym knows.link_is ∙ el)
+    known_link = same_Some knows.link l (sym knows.link_is ∙ el)
 
     item : (l.item ≡ k.served) ⊎ (l.item ≡ None)
     item = by knows.item_is

@@ -2,6 +2,7 @@
 use Rattle.std.proofs.Common.{ℕ, ◌≡◌, ◌⊎◌, inl, inr, ◌+◌, ◌*◌, Bool, true, false, ◌∙◌, Option, Some, None, refl, sym, ap, subst, arith, true≢false}
 use Rattle.std.specs.Prelude.{if◌then◌else◌, is_some, nat_lt, ◌==◌, ◌&&◌, ⊤}
 use Rattle.std.proofs.lemmas.Bool.Decides.{nat_tests}
+use Rattle.std.proofs.lemmas.Option.{same_Some}
 use Rattle.bus_trace.specs.declared.agreements.Agreement.{Agreement}
 use Rattle.bus_trace.specs.declared.agreements.TheConstants.{UNLIMITED_OFFSET}
 use Rattle.bus_lines.specs.Handshakes.{Handshakes}
@@ -33,6 +34,7 @@ use Rattle.bus_dialogue.specs.Words.{reply_to, request_by, is_naming, target_ans
 use Rattle.bus_books.specs.Giving.{OnMessage, OnMessages}
 use Rattle.bus_books.specs.Knowing.{IsNoName}
 use Rattle.trace_laws.specs.DataPointers.{is_marked, IsAt, OnUndo, IsPlainIn, IsUndisturbed, IsClosing, PointersIn, calm, restores, saves, saved, disconnects, closes, PointersRefused, still_calm, restores_again, saves_again, disconnects_again, closes_again, IsSettled, IsInRun, PointersAsked, PointersOf}
+use Rattle.trace_laws.proofs.Impossible.{none_some}
 
 -- ---- what the target leaves a phase for
 
@@ -164,7 +166,7 @@ closing_command : {A : Type 0} (next : Next) → IsClosing next → next ≡ nex
 closing_command next (inl z) e = absurd (let bad : nexts.Status ≡ nexts.Command = sym z ∙ e in cc)
 closing_command next (inr z) e = absurd (let bad : nexts.FreeBus ≡ nexts.Command = sym z ∙ e in cc)
 
-on_command : {A : Type 0} → nexts.GoOn ≡ nexts.Command → A
+pub on_command : {A : Type 0} → nexts.GoOn ≡ nexts.Command → A
 on_command e = absurd cc
 
 free_command : {A : Type 0} → nexts.FreeBus ≡ nexts.Command → A
@@ -324,26 +326,20 @@ pub record IsRepeated (p : Plan) (x : Leaving) (phase : Phase) : Type 0 where
   pub next : x.next ≡ p.next
   pub done : x.done ≡ false
 
-some_phase : (x y : Phase) → (let o : Option Phase = Some x in o) ≡ Some y → x ≡ y
-some_phase x y e = cc
-
-no_phase : {A : Type 0} (x : Phase) → (let o : Option Phase = None in o) ≡ Some x → A
-no_phase x e = absurd cc
-
 repeated_by : (p : Plan) (phase : Phase) → (message_repetition p).to ≡ Some phase → IsRepeated p (message_repetition p) phase
-repeated_by p phase e = record { phase_is = sym (some_phase phases.MessageIn phase e); messages = refl; next = refl; done = refl }
+repeated_by p phase e = record { phase_is = sym (same_Some phases.MessageIn phase e); messages = refl; next = refl; done = refl }
 
 pub refusal_leads : (v : Serving) (phase : Phase) → is_some v.plan.said.offer ≡ false → (message_out_leaving v causes.InMessage).to ≡ Some phase → IsRepeated v.plan (message_out_leaving v causes.InMessage) phase
 refusal_leads v phase none e = go (is_some v.plan.said.offer) none (is_naming v.plan.messages.first) v.task e
   where
     tries : (t : Task) (a b : Bool) → (if a then message_repetition v.plan else if b then record (message_repetition v.plan) { counts = true } else bus_free).to ≡ Some phase → IsRepeated v.plan (if a then message_repetition v.plan else if b then record (message_repetition v.plan) { counts = true } else bus_free) phase
     tries t true b z = repeated_by v.plan phase z
-    tries t false true z = record { phase_is = sym (some_phase phases.MessageIn phase z); messages = refl; next = refl; done = refl }
-    tries t false false z = no_phase phase z
+    tries t false true z = record { phase_is = sym (same_Some phases.MessageIn phase z); messages = refl; next = refl; done = refl }
+    tries t false false z = none_some phase z
 
     go : (a : Bool) → a ≡ false → (b : Bool) (o : Option Task) → (if a then phase_entry phases.Command else if b then message_repetition v.plan else with_task o (λ t. recovery v.def t (message_repetition v.plan) bus_free)).to ≡ Some phase
         → IsRepeated v.plan (if a then phase_entry phases.Command else if b then message_repetition v.plan else with_task o (λ t. recovery v.def t (message_repetition v.plan) bus_free)) phase
     go true y b o z = absurd (true≢false y)
     go false y true o z = repeated_by v.plan phase z
-    go false y false None z = no_phase phase z
+    go false y false None z = none_some phase z
     go false y false (Some t) z = tries t t.in_hold (nat_lt t.recoveries (recovery_limit v.def)) z

@@ -1,5 +1,6 @@
 -- What the messages that cross make of the data pointers (6.6.13, 6.6.19, 6.6.20).
 use Rattle.std.proofs.Common.{ℕ, ◌≡◌, ◌⊎◌, inl, inr, ◌+◌, ◌<◌, Bool, true, false, ◌∙◌, length, Option, Some, None, refl, sym, ap, subst, arith, true≢false}
+use Rattle.std.proofs.lemmas.Option.{same_Some}
 use Rattle.msg_grammar.specs.declared.message.MsgIn.{MsgIn}
 use Rattle.msg_grammar.specs.declared.message.MsgIn.TheVariants as to_initiator
 use Rattle.msg_grammar.specs.declared.message.MsgOut.{MsgOut}
@@ -16,6 +17,7 @@ use Rattle.bus_dialogue.specs.Words.{is_name}
 use Rattle.bus_books.specs.Giving.{OnMessage, OnMessages}
 use Rattle.bus_books.specs.Knowing.{IsNoName}
 use Rattle.trace_laws.specs.DataPointers.{is_marked, IsAt, OnUndo, IsPlainIn, IsUndisturbed, IsOfStatus, IsCalm, PointersIn, calm, restores, saves, saved, disconnects, closes, PointersRefused, still_calm, restores_again, saves_again, disconnects_again, closes_again, IsSettled}
+use Rattle.trace_laws.proofs.Impossible.{none_some}
 
 -- ---- one message
 
@@ -55,12 +57,6 @@ pub record IsHeard (m : Messages) (count : ℕ) (into : Option MsgIn) : Type 0 w
   pub second : count ≡ 1 → m ≡ two_messages to_initiator.SavePointer to_initiator.Disconnect → into ≡ Some to_initiator.Disconnect
   pub plain : OnMessages IsPlainIn m → OnMessage IsPlainIn into
   pub nameless : OnMessages IsNoName m → OnMessage IsNoName into
-
-none_some : {A : Type 0} (x : MsgIn) → (let o : Option MsgIn = None in o) ≡ Some x → A
-none_some x e = absurd cc
-
-same_message : (x y : MsgIn) → (let o : Option MsgIn = Some x in o) ≡ Some y → x ≡ y
-same_message x y e = cc
 
 -- There is one message of one byte.
 lone : (m : Messages) (count : ℕ) (x : MsgIn) → m ≡ one_message x → is_brief x ≡ true → count < length (bytes_of_messages m) → count ≡ 0
@@ -123,7 +119,7 @@ in_half policy l c m next count start h (closes em en e w) = go (status_heard m 
 pub in_whole : (policy : Policy) (l k : Link) (c : CarriedBytes) (m : Messages) (next : Next) (count start : ℕ) (x : MsgIn) → IsHeard m count (Some x) → k.last ≡ last_in x → k.before ≡ l.last → k.undo ≡ Some c → PointersIn policy l c m next count start → PointersIn policy k (carried_after_message c x) m next (count + 1) start
 in_whole policy l k c m next count start x h el eb eu (calm q) = calm (calm_more policy l k c (carried_after_message c x) m next count start x h el eb eu (message_at c x start q.here) q)
 in_whole policy l k c m next count start x h el eb eu (restores em en u e w) =
-    let is : x ≡ to_initiator.RestorePointers = same_message x to_initiator.RestorePointers (lone_heard m count (Some x) to_initiator.RestorePointers em refl h) in
+    let is : x ≡ to_initiator.RestorePointers = same_Some x to_initiator.RestorePointers (lone_heard m count (Some x) to_initiator.RestorePointers em refl h) in
     restores em en (disturbed u (el ∙ ap last_in is)) (ap (λ (y : MsgIn). (carried_after_message c y).moved.saved) is ∙ e)
     (inr (ap (λ (y : MsgIn). (carried_after_message c y).moved.active) is ∙ e, subst (λ (y : Option CarriedBytes). OnUndo (λ (z : CarriedBytes). z.moved.saved ≡ start) y) (sym eu) e))
   where
@@ -131,7 +127,7 @@ in_whole policy l k c m next count start x h el eb eu (restores em en u e w) =
     disturbed (inl n) z = inl n
     disturbed (inr y) z = inr (z, eb ∙ y.0)
 in_whole policy l k c m next count start x h el eb eu (saves em en u z e) =
-    let is : x ≡ to_initiator.SavePointer = same_message x to_initiator.SavePointer (first_heard m count (Some x) em z h) in
+    let is : x ≡ to_initiator.SavePointer = same_Some x to_initiator.SavePointer (first_heard m count (Some x) em z h) in
     saved em en (el ∙ ap last_in is) (eb ∙ u) (ap (λ (y : ℕ). y + 1) z)
     (record { active = ap (λ (y : MsgIn). (carried_after_message c y).moved.active) is ∙ e; saved = ap (λ (y : MsgIn). (carried_after_message c y).moved.saved) is ∙ e })
     (subst (λ (y : Option CarriedBytes). OnUndo (λ (v : CarriedBytes). v.moved.active ≡ start) y) (sym eu) e)
@@ -145,7 +141,7 @@ in_whole policy l k c m next count start x h el eb eu (saved em en u b z e w) =
     not_on : nexts.FreeBus ≡ nexts.GoOn → ⊥
     not_on g = absurd cc
 in_whole policy l k c m next count start x h el eb eu (disconnects em en e w) =
-    let is : x ≡ to_initiator.Disconnect = same_message x to_initiator.Disconnect (lone_heard m count (Some x) to_initiator.Disconnect em refl h) in
+    let is : x ≡ to_initiator.Disconnect = same_Some x to_initiator.Disconnect (lone_heard m count (Some x) to_initiator.Disconnect em refl h) in
     disconnects em en (ap (λ (y : MsgIn). (carried_after_message c y).moved.saved) is ∙ e) (inr (subst (λ (y : Option CarriedBytes). OnUndo (λ (v : CarriedBytes). v.moved.saved ≡ start) y) (sym eu) e))
 in_whole policy l k c m next count start x h el eb eu (closes em en e w) =
     closes em en (message_marked c x ∙ e) (inr (subst (λ (y : Option CarriedBytes). OnUndo (λ (v : CarriedBytes). is_marked v ≡ true) y) (sym eu) e))
@@ -177,15 +173,15 @@ in_lost policy l k c m next count start x h el eb eu named (calm q) = go q.plain
         disturbed (inl n) = inl n
         disturbed (inr w) = inr (el ∙ h.plain z.2, eb ∙ w.0)
     go (inr z) = absurd (true≢false (sym named ∙ h.nameless z.1))
-in_lost policy l k c m next count start x h el eb eu named (restores em en u e w) = no_name x to_initiator.RestorePointers (same_message x to_initiator.RestorePointers (lone_heard m count (Some x) to_initiator.RestorePointers em refl h)) refl named
-in_lost policy l k c m next count start x h el eb eu named (saves em en u z e) = no_name x to_initiator.SavePointer (same_message x to_initiator.SavePointer (first_heard m count (Some x) em z h)) refl named
-in_lost policy l k c m next count start x h el eb eu named (saved em en u b z e w) = no_name x to_initiator.Disconnect (same_message x to_initiator.Disconnect (h.second z em)) refl named
-in_lost policy l k c m next count start x h el eb eu named (disconnects em en e w) = no_name x to_initiator.Disconnect (same_message x to_initiator.Disconnect (lone_heard m count (Some x) to_initiator.Disconnect em refl h)) refl named
+in_lost policy l k c m next count start x h el eb eu named (restores em en u e w) = no_name x to_initiator.RestorePointers (same_Some x to_initiator.RestorePointers (lone_heard m count (Some x) to_initiator.RestorePointers em refl h)) refl named
+in_lost policy l k c m next count start x h el eb eu named (saves em en u z e) = no_name x to_initiator.SavePointer (same_Some x to_initiator.SavePointer (first_heard m count (Some x) em z h)) refl named
+in_lost policy l k c m next count start x h el eb eu named (saved em en u b z e w) = no_name x to_initiator.Disconnect (same_Some x to_initiator.Disconnect (h.second z em)) refl named
+in_lost policy l k c m next count start x h el eb eu named (disconnects em en e w) = no_name x to_initiator.Disconnect (same_Some x to_initiator.Disconnect (lone_heard m count (Some x) to_initiator.Disconnect em refl h)) refl named
 in_lost policy l k c m next count start x h el eb eu named (closes em en e w) = go (status_heard m count (Some x) em h)
   where
     go : (Some x ≡ Some to_initiator.CommandComplete) ⊎ (Some x ≡ Some to_initiator.RestorePointers) → IsLost policy k c m next start
-    go (inl z) = no_name x to_initiator.CommandComplete (same_message x to_initiator.CommandComplete z) refl named
-    go (inr z) = no_name x to_initiator.RestorePointers (same_message x to_initiator.RestorePointers z) refl named
+    go (inl z) = no_name x to_initiator.CommandComplete (same_Some x to_initiator.CommandComplete z) refl named
+    go (inr z) = no_name x to_initiator.RestorePointers (same_Some x to_initiator.RestorePointers z) refl named
 
 -- The initiator knows the process with it.
 pub in_named : (policy : Policy) (l k : Link) (c : CarriedBytes) (m : Messages) (next : Next) (count start : ℕ) (x : MsgIn) → IsHeard m count (Some x) → k.last ≡ last_in x → k.before ≡ l.last → k.undo ≡ None → IsLost policy l c m next start → PointersIn policy k (carried_after_message (with_restored_pointers c) x) m next (count + 1) start

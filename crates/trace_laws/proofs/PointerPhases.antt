@@ -1,6 +1,7 @@
 -- The data pointers of the process that is served, as the next phase begins.
-use Rattle.std.proofs.Common.{ℕ, ◌≡◌, ◌⊎◌, inl, inr, ◌+◌, ◌*◌, ◌≤◌, Bool, true, false, not, ◌&&◌, ◌∙◌, List, length, Option, Some, None, refl, sym, ap, subst, arith, length-append, true≢false}
+use Rattle.std.proofs.Common.{ℕ, ◌≡◌, ◌⊎◌, inl, inr, ◌+◌, ◌*◌, Bool, true, false, not, ◌&&◌, ◌∙◌, Option, Some, None, refl, sym, ap, subst, arith, true≢false}
 use Rattle.std.specs.Prelude.{if◌then◌else◌, is_some, ◌==◌, ◌-◌}
+use Rattle.std.proofs.lemmas.Option.{same_Some}
 use Rattle.bus_trace.specs.LineSet.{LineSet}
 use Rattle.bus_trace.specs.declared.Row.{Row}
 use Rattle.bus_trace.specs.declared.changes.Change.{Change}
@@ -33,34 +34,22 @@ use Rattle.bus_due.specs.LastingState.{progress_in}
 use Rattle.bus_due.specs.RunState.{RunState, bus_of, carried_here, item_of, process_served}
 use Rattle.bus_due.specs.RunSteps.{run_state_after}
 use Rattle.bus_due.specs.Sights.{hearing_of, leaving, serving_of}
-use Rattle.bus_books.specs.Giving.{AreGiven, OnMessages}
+use Rattle.bus_books.specs.Giving.{OnMessages}
 use Rattle.bus_books.specs.Hearing.{is_in_phase, is_out_phase}
 use Rattle.bus_books.specs.Rows.{IsRowIn, reading_in}
 use Rattle.trace_laws.specs.DataPointers.{OnUndo, IsPlainIn, policy_for, run_start, run_step, PointersOf, PointersIf, PointersAsked, IsSettled, IsUnnamed, ServedPointers, unnamed, named}
+use Rattle.trace_laws.proofs.Impossible.{wrong'}
+use Rattle.trace_laws.proofs.InstructedTurns.{out_is}
+use Rattle.trace_laws.proofs.PhaseLines.{is_status}
 use Rattle.trace_laws.proofs.PointerKept.{SamePlan, pointers_as}
 use Rattle.trace_laws.proofs.PointerLeavings.{Enters, Leads, is_attended, leaves_enter, refusal_leads}
 use Rattle.trace_laws.proofs.PointerHearings.{refusal_offers}
-use Rattle.trace_laws.proofs.PointerRows.{Meets, wrong', in_lines, out_lines, phase_by, is_out}
-use Rattle.trace_laws.proofs.PointerTurns.{from_on, refused_from, TurnsBy, start_after, Turned, turned_is}
+use Rattle.trace_laws.proofs.PointerRows.{Meets, in_lines, out_lines, phase_by}
+use Rattle.trace_laws.proofs.PointerTurns.{refused_from, TurnsBy, start_after, Turned, turned_is}
+use Rattle.trace_laws.proofs.TalkTurns.{from_named}
+use Rattle.trace_laws.proofs.TellFacts.{front_length}
 
 -- ---- lines
-
--- Messages are of the phases with C/D.
-out_phase : (b : LineSet) → (b.msg ≡ true → b.cd ≡ true) → is_message_out b ≡ is_out (phase_of b)
-out_phase b h = go b.msg b.cd b.io h
-  where
-    go : (m d i : Bool) → (m ≡ true → d ≡ true) → (m && d && not i) ≡ is_out (phase_by m d i)
-    go true true true h = refl
-    go true true false h = refl
-    go true false i h = absurd (true≢false (sym (h refl)))
-    go false true true h = refl
-    go false true false h = refl
-    go false false true h = refl
-    go false false false h = refl
-
-abbrev is_status : Phase → Bool
-is_status phases.Status = true
-is_status _ = false
 
 status_phase : (b : LineSet) → is_status (phase_of b) ≡ true → is_status_phase b ≡ true
 status_phase b e = go b.msg b.cd b.io e
@@ -124,10 +113,10 @@ enters_phase : (s : ScenarioValue) (k j : RunState) (row : Row) (n : Connection)
     → Enters (policy_for s q) l (carried_here k q.id) (start_after s k n q) (leaving s k n.target).messages (leaving s k n.target).next (Some phase) → ServedPointers s j q
 enters_phase s k j row n c q l phase t b own known e h = go phase e h
   where
-    to : (y : Phase) → is_out y ≡ false → phase_of c.after ≡ y → j.exchange.plan ≡ plan_there k.exchange.plan (leaving s k n.target)
-    to y z f = t.plan_is ∙ plan_to (hearing_of k row (reading_in k.story.bus_state n c false)) (leaving s k n.target) k.exchange.plan (out_phase c.after known ∙ ap is_out f ∙ z)
+    to : (y : Phase) → is_out_phase y ≡ false → phase_of c.after ≡ y → j.exchange.plan ≡ plan_there k.exchange.plan (leaving s k n.target)
+    to y z f = t.plan_is ∙ plan_to (hearing_of k row (reading_in k.story.bus_state n c false)) (leaving s k n.target) k.exchange.plan (out_is c.after known ∙ ap is_out_phase f ∙ z)
 
-    ends : (y : Phase) → is_out y ≡ false → phase_of c.after ≡ y → PointersOf (policy_for s q) l (carried_here j q.id) (plan_there k.exchange.plan (leaving s k n.target)) no_handshakes (start_after s k n q) y → ServedPointers s j q
+    ends : (y : Phase) → is_out_phase y ≡ false → phase_of c.after ≡ y → PointersOf (policy_for s q) l (carried_here j q.id) (plan_there k.exchange.plan (leaving s k n.target)) no_handshakes (start_after s k n q) y → ServedPointers s j q
     ends y z f p = finish s k j row n c q l (plan_there k.exchange.plan (leaving s k n.target)) (start_after s k n q) y t own (to y z f) (t.start b) f p
 
     on : (y : Phase) → PointersOf (policy_for s q) l (carried_here k q.id) (plan_there k.exchange.plan (leaving s k n.target)) no_handshakes (start_after s k n q) y → PointersOf (policy_for s q) l (carried_here j q.id) (plan_there k.exchange.plan (leaving s k n.target)) no_handshakes (start_after s k n q) y
@@ -140,13 +129,6 @@ enters_phase s k j row n c q l phase t b own known e h = go phase e h
     go phases.Status f p = ends phases.Status refl f (t.marked own (status_phase c.after (ap is_status f)))
     go phases.MessageIn f p = ends phases.MessageIn refl f (on phases.MessageIn p)
     go phases.MessageOut f p = absurd p
-
-given_within : (bytes half : List ℕ) (count : ℕ) → AreGiven bytes half count → count ≤ length bytes
-given_within bytes half count g =
-    let all = ap (λ (x : List ℕ). length x) g.bytes_are in
-    let two = length-append g.before g.rest in
-    let is = g.count_is in
-    omega (arith, all, two, is)
 
 start_stays : (s : ScenarioValue) (k j : RunState) (n : Connection) (q : Process) → run_start s j q ≡ start_after s k n q → (leaving s k n.target).done ≡ false → run_start s j q ≡ run_start s k q
 start_stays s k j n q e d = e ∙ ap (λ (b : Bool). ((progress_in k.progress q.id).runs + one_if b) * run_step s q) d ∙ ap (λ (x : ℕ). x * run_step s q) (none (progress_in k.progress q.id).runs)
@@ -166,7 +148,7 @@ attends_phase s k j row n c q l meets t b own known to done asked phase e attend
     r = meets.of.row_is
 
     plan : j.exchange.plan ≡ plan_in_message_out w k.exchange.plan
-    plan = t.plan_is ∙ plan_out w (leaving s k n.target) k.exchange.plan (out_phase c.after known ∙ ap is_out to) b
+    plan = t.plan_is ∙ plan_out w (leaving s k n.target) k.exchange.plan (out_is c.after known ∙ ap is_out_phase to) b
 
     start : run_start s j q ≡ run_start s k q
     start = start_stays s k j n q (t.start b) done
@@ -181,7 +163,7 @@ attends_phase s k j row n c q l meets t b own known to done asked phase e attend
         let given = meets.gives.in_message_in b now in
         asks
         (subst (λ (x : Bool). PointersAsked (policy_for s q) l (carried_here k q.id) (record (plan_anew k.exchange.plan) { cause = if x then causes.InMessage else if c.before.cd then causes.InStatus else causes.InData; messages = if x then from_byte k.exchange.plan.messages (k.handshakes.requests - 1) else k.exchange.plan.messages }) (run_start s k q) (if x then causes.InMessage else if c.before.cd then causes.InStatus else causes.InData)) (sym before)
-        (refused_from (policy_for s q) l (carried_here k q.id) k.exchange.plan.messages k.exchange.plan.next k.handshakes.requests (run_start s k q) (asked f) (given_within (bytes_of_messages k.exchange.plan.messages) k.story.bus_state.dialogue.half k.handshakes.requests given) p))
+        (refused_from (policy_for s q) l (carried_here k q.id) k.exchange.plan.messages k.exchange.plan.next k.handshakes.requests (run_start s k q) (asked f) (front_length (bytes_of_messages k.exchange.plan.messages) k.story.bus_state.dialogue.half k.handshakes.requests given) p))
     go phases.Status f z p =
         asks
         (subst (λ (x : Cause). PointersAsked (policy_for s q) l (carried_here k q.id) (plan_in_message_out w k.exchange.plan) (run_start s k q) x) (sym (status_cause c.before (ap is_status (ap phase_of (sym r.bus_is) ∙ f)))) p)
@@ -203,9 +185,6 @@ no_offer s k row n c q meets b ep e cause = go (meets.refuses b e cause)
     go : (k.exchange.plan.next ≡ nexts.Command) ⊎ (k.exchange.speech.words ≡ Rattle.bus_dialogue.specs.Words.parity_error) → (k.exchange.plan.next ≡ nexts.Command) ⊎ (is_some k.exchange.plan.said.offer ≡ false)
     go (inl z) = inl z
     go (inr z) = inr (refusal_offers k.exchange.speech k.exchange.plan k.story.bus_state.dialogue z (meets.speaks.in_message_out b out).heard last)
-
-some_phase : (x y : Phase) → (let o : Option Phase = Some x in o) ≡ Some y → x ≡ y
-some_phase x y e = cc
 
 named_turns : (s : ScenarioValue) (k : RunState) (row : Row) (n : Connection) (c : Change) (q : Process) (l : Link) → Meets s k row n c q → TurnsBy s k n q → Turned s k (run_state_after s k row) row n c q l → changes_phase c ≡ true → k.exchange.begun ≡ true → l.item ≡ Some (process q.id) → (c.after.msg ≡ true → c.after.cd ≡ true) → (leaving s k n.target).to ≡ Some (phase_of c.after)
     → PointersOf (policy_for s q) l (carried_here k q.id) k.exchange.plan k.handshakes (run_start s k q) (phase_of (bus_of k)) → ServedPointers s (run_state_after s k row) q
@@ -243,7 +222,7 @@ named_turns s k row n c q l meets f t ep b own known to h = go leads
         (subst (λ (x : Policy). PointersOf x l (carried_here k q.id) k.exchange.plan k.handshakes (run_start s k q) (phase_of (bus_of k))) (sym same) h)))))
 
     go : Leads (policy_for s q) l (carried_here k q.id) (progress_in k.progress q.id).runs (run_step s q) (phase_of (bus_of k)) (leaving s k n.target) → ServedPointers s j q
-    go (inl z) = attends_phase s k j row n c q l meets t b own known (sym (some_phase phases.MessageOut (phase_of c.after) (sym z.1 ∙ to))) z.2 asked (phase_of (bus_of k)) refl z.0 h
+    go (inl z) = attends_phase s k j row n c q l meets t b own known (sym (same_Some phases.MessageOut (phase_of c.after) (sym z.1 ∙ to))) z.2 asked (phase_of (bus_of k)) refl z.0 h
     go (inr z) = enters_phase s k j row n c q l (phase_of c.after) t b own known refl (subst (λ (x : Option Phase). Enters (policy_for s q) l (carried_here k q.id) (start_after s k n q) (leaving s k n.target).messages (leaving s k n.target).next x) to z)
 
 -- The first phase after a selection.
@@ -330,11 +309,11 @@ unnamed_turns s k row n c q l meets t ep el none known to h = go h.phase
     go : (phase_of (bus_of k) ≡ phases.MessageIn) ⊎ ((phase_of (bus_of k) ≡ phases.MessageOut) × (k.exchange.plan.cause ≡ causes.InMessage)) → ServedPointers s j q
     go (inl e) =
         let leads : leaving s k n.target ≡ Rattle.bus_dialogue.specs.NextPhase.phase_entry phases.MessageOut = leaving_is phases.MessageIn e ∙ ap (λ (x : Bool). if x then Rattle.bus_dialogue.specs.NextPhase.phase_entry phases.MessageOut else Rattle.bus_dialogue.specs.NextPhase.after_messages (serving_of s k n.target) k.exchange.plan.next) (attention e) in
-        let out : phase_of c.after ≡ phases.MessageOut = sym (some_phase phases.MessageOut (phase_of c.after) (sym (ap (λ (x : Leaving). x.to) leads) ∙ to)) in
+        let out : phase_of c.after ≡ phases.MessageOut = sym (same_Some phases.MessageOut (phase_of c.after) (sym (ap (λ (x : Leaving). x.to) leads) ∙ to)) in
         let before : is_message_in c.before ≡ true = ap is_message_in (sym meets.of.row_is.bus_is) ∙ in_cause (bus_of k) (λ m. (meets.of.phase m).0) e in
-        made (plan_in_message_out w k.exchange.plan) (t.plan_is ∙ plan_out w (leaving s k n.target) k.exchange.plan (out_phase c.after known ∙ ap is_out out) b)
+        made (plan_in_message_out w k.exchange.plan) (t.plan_is ∙ plan_out w (leaving s k n.target) k.exchange.plan (out_is c.after known ∙ ap is_out_phase out) b)
         (start_stays s k j n q (t.start b) (ap (λ (x : Leaving). x.done) leads)) h.next
-        (subst (λ (x : Bool). OnMessages IsPlainIn (if x then from_byte k.exchange.plan.messages (k.handshakes.requests - 1) else k.exchange.plan.messages)) (sym before) (from_on IsPlainIn k.exchange.plan.messages (k.handshakes.requests - 1) h.plain))
+        (subst (λ (x : Bool). OnMessages IsPlainIn (if x then from_byte k.exchange.plan.messages (k.handshakes.requests - 1) else k.exchange.plan.messages)) (sym before) (from_named IsPlainIn k.exchange.plan.messages (k.handshakes.requests - 1) h.plain))
         (inr (out, ap (λ (x : Bool). if x then causes.InMessage else if c.before.cd then causes.InStatus else causes.InData) before))
     go (inr e) = by (no_offer s k row n c q meets b ep e.0 e.1)
       where
@@ -343,7 +322,7 @@ unnamed_turns s k row n c q l meets t ep el none known to h = go h.phase
         by (inr z) =
             let leads : leaving s k n.target ≡ message_out_leaving (serving_of s k n.target) causes.InMessage = leaving_is phases.MessageOut e.0 ∙ ap (λ (x : Cause). message_out_leaving (serving_of s k n.target) x) e.1 in
             let m = refusal_leads (serving_of s k n.target) (phase_of c.after) z (ap (λ (x : Leaving). x.to) (sym leads) ∙ to) in
-            made (plan_there k.exchange.plan (leaving s k n.target)) (t.plan_is ∙ plan_to w (leaving s k n.target) k.exchange.plan (out_phase c.after known ∙ ap is_out m.phase_is))
+            made (plan_there k.exchange.plan (leaving s k n.target)) (t.plan_is ∙ plan_to w (leaving s k n.target) k.exchange.plan (out_is c.after known ∙ ap is_out_phase m.phase_is))
             (start_stays s k j n q (t.start b) (ap (λ (x : Leaving). x.done) leads ∙ m.done))
             (ap (λ (x : Leaving). x.next) leads ∙ m.next ∙ h.next)
             (subst (λ (x : Messages). OnMessages IsPlainIn x) (sym (ap (λ (x : Leaving). x.messages) leads ∙ m.messages)) h.plain)

@@ -1,5 +1,5 @@
 -- The data pointers of the process that is served, after a row with which its connection goes on in the same phase.
-use Rattle.std.proofs.Common.{ℕ, ◌≡◌, ◌+◌, ◌*◌, ◌<◌, ◌^◌, Bool, true, false, not, ◌&&◌, ◌∙◌, List, [], ◌∷◌, ◌++◌, Option, Some, None, refl, sym, ap, subst, arith, true≢false}
+use Rattle.std.proofs.Common.{ℕ, ◌≡◌, ◌+◌, ◌*◌, ◌<◌, ◌^◌, Bool, true, false, not, ◌&&◌, ◌∙◌, List, [], ◌∷◌, ◌++◌, Option, Some, None, refl, sym, ap, subst, arith}
 use Rattle.std.specs.Prelude.{if◌then◌else◌, is_some, ◌%◌}
 use Rattle.bus_base.specs.Faults.{counted_on}
 use Rattle.bus_trace.specs.LineSet.{LineSet}
@@ -35,17 +35,23 @@ use Rattle.bus_due.specs.RunState.{RunState, bus_of, carried_here}
 use Rattle.bus_due.specs.RunSteps.{run_state_after, progress_after, leaving_of}
 use Rattle.bus_due.specs.Sights.{hearing_of}
 use Rattle.bus_books.specs.Giving.{Gives}
+use Rattle.bus_books.specs.Hearing.{is_in_phase, is_out_phase}
 use Rattle.bus_books.specs.Knowing.{Knows}
 use Rattle.bus_books.specs.Rows.{IsRowIn, reading_in}
 use Rattle.bus_books.specs.Speaking.{Speaks}
 use Rattle.bus_books.specs.Traces.{GoesOn}
 use Rattle.bus_books.proofs.Gives.{requests_stay, struck_same}
-use Rattle.bus_books.proofs.InConnection.{InConnection, in_connection, reading_is, SamePhase, same_phase_is}
+use Rattle.bus_books.proofs.InConnection.{InConnection, in_connection, reading_is, same_phase_is}
 use Rattle.bus_books.proofs.Knows.{link_after}
+use Rattle.link_laws.proofs.PulseSteps.{count_more}
 use Rattle.trace_laws.specs.DataPointers.{is_marked, OnUndo, IsAt, policy_for, run_start, PointersOf, PointersBy, PointersIf, PointersAsked, PointersIn, PointersRefused, IsInRun, IsSettled, IsUnnamed, ServedPointers, unnamed, named, UndoesServed, RefusesLater}
+use Rattle.trace_laws.proofs.CommandStays.{phase_same}
+use Rattle.trace_laws.proofs.Impossible.{wrong', none_some}
+use Rattle.trace_laws.proofs.PhaseLines.{is_data_out}
 use Rattle.trace_laws.proofs.PointerStories.{SamePointers, same_on, events_same, story_row}
 use Rattle.trace_laws.proofs.PointerKept.{SamePlan, pointers_as, by_as, unnamed_as}
 use Rattle.trace_laws.proofs.PointerStorySteps.{fault_story, fault_link, byte_same, byte_moves, byte_story, byte_link}
+use Rattle.trace_laws.proofs.TalkRows.{answered_same}
 
 -- ---- what is known of the connection
 
@@ -62,9 +68,6 @@ pub record Meets (s : ScenarioValue) (k : RunState) (row : Row) (n : Connection)
 
 -- ---- lines
 
-pub wrong' : {A : Type 0} → false ≡ true → A
-wrong' e = absurd (true≢false (sym e))
-
 abbrev pub phase_by : Bool → Bool → Bool → Phase
 phase_by m d i = if m then (if i then phases.MessageIn else phases.MessageOut) else if d then (if i then phases.Status else phases.Command) else if i then phases.DataIn else phases.DataOut
 
@@ -72,22 +75,10 @@ pub record LinesIn (b : LineSet) : Type 0 where
   pub msg : b.msg ≡ true
   pub io : b.io ≡ true
 
-abbrev pub is_in : Phase → Bool
-is_in phases.MessageIn = true
-is_in _ = false
-
-abbrev pub is_out : Phase → Bool
-is_out phases.MessageOut = true
-is_out _ = false
-
-abbrev pub is_run : Phase → Bool
-is_run phases.DataOut = true
-is_run _ = false
-
 pub in_lines : (b : LineSet) → phase_of b ≡ phases.MessageIn → LinesIn b
-in_lines b e = go b.msg b.cd b.io refl refl (ap is_in e)
+in_lines b e = go b.msg b.cd b.io refl refl (ap is_in_phase e)
   where
-    go : (m d i : Bool) → b.msg ≡ m → b.io ≡ i → is_in (phase_by m d i) ≡ true → LinesIn b
+    go : (m d i : Bool) → b.msg ≡ m → b.io ≡ i → is_in_phase (phase_by m d i) ≡ true → LinesIn b
     go true d true em ei z = record { msg = em; io = ei }
     go true d false em ei z = wrong' z
     go false true true em ei z = wrong' z
@@ -96,9 +87,9 @@ in_lines b e = go b.msg b.cd b.io refl refl (ap is_in e)
     go false false false em ei z = wrong' z
 
 pub out_lines : (b : LineSet) → phase_of b ≡ phases.MessageOut → (b.msg ≡ true) × (b.io ≡ false)
-out_lines b e = go b.msg b.cd b.io refl refl (ap is_out e)
+out_lines b e = go b.msg b.cd b.io refl refl (ap is_out_phase e)
   where
-    go : (m d i : Bool) → b.msg ≡ m → b.io ≡ i → is_out (phase_by m d i) ≡ true → (b.msg ≡ true) × (b.io ≡ false)
+    go : (m d i : Bool) → b.msg ≡ m → b.io ≡ i → is_out_phase (phase_by m d i) ≡ true → (b.msg ≡ true) × (b.io ≡ false)
     go true d true em ei z = wrong' z
     go true d false em ei z = (em, ei)
     go false true true em ei z = wrong' z
@@ -107,9 +98,9 @@ out_lines b e = go b.msg b.cd b.io refl refl (ap is_out e)
     go false false false em ei z = wrong' z
 
 pub run_lines : (b : LineSet) → phase_of b ≡ phases.DataOut → (b.msg ≡ false) × (b.cd ≡ false) × (b.io ≡ false)
-run_lines b e = go b.msg b.cd b.io refl refl refl (ap is_run e)
+run_lines b e = go b.msg b.cd b.io refl refl refl (ap is_data_out e)
   where
-    go : (m d i : Bool) → b.msg ≡ m → b.cd ≡ d → b.io ≡ i → is_run (phase_by m d i) ≡ true → (b.msg ≡ false) × (b.cd ≡ false) × (b.io ≡ false)
+    go : (m d i : Bool) → b.msg ≡ m → b.cd ≡ d → b.io ≡ i → is_data_out (phase_by m d i) ≡ true → (b.msg ≡ false) × (b.cd ≡ false) × (b.io ≡ false)
     go true d true em ed ei z = wrong' z
     go true d false em ed ei z = wrong' z
     go false true true em ed ei z = wrong' z
@@ -133,17 +124,11 @@ block_lines b e = go b.msg b.cd b.io refl refl e
     go false false true em ed z = wrong' z
     go false false false em ed z = wrong' z
 
-pub same_phase : (a b : LineSet) → SamePhase a b → phase_of b ≡ phase_of a
-same_phase a b h = λ i. phase_by (h.msg i) (h.cd i) (h.io i)
-
 -- ---- handshakes
 
 asked_answers : (q : Bool) (t : ℕ) (h : Handshakes) → (asked_if q t h).answers ≡ h.answers
 asked_answers true t h = refl
 asked_answers false t h = refl
-
-none_some : {A : Type 0} (x : ℕ) → (let o : Option ℕ = None in o) ≡ Some x → A
-none_some x e = absurd cc
 
 quiet_ack : (q : Bool) (x : ℕ) → (if q then Some x else None) ≡ None → q ≡ false
 quiet_ack true x e = none_some x (sym e)
@@ -165,17 +150,13 @@ answers_rise n c t dev h ep io er =
     (λ i. (if ep i then no_handshakes else answered_if (raised i) t (asked_if (rises c.before.req c.after.req) t h)).answers)
     ∙ ap counted_on (asked_answers (rises c.before.req c.after.req) t h)
 
-answered_requests : (q : Bool) (t : ℕ) (h : Handshakes) → (answered_if q t h).requests ≡ h.requests
-answered_requests true t h = refl
-answered_requests false t h = refl
-
 pub requests_rise : (n : Connection) (c : Change) (t dev : ℕ) (h : Handshakes) → changes_phase c ≡ false → c.before.io ≡ true → receiver_in n c ≡ Some dev → (handshakes_on (Some n) c t h).requests ≡ counted_on h.requests
 requests_rise n c t dev h ep io er =
     let raised = raised_ack (rises c.before.req c.after.req) n.initiator dev (sym (ap (λ (q : Bool). if q then (if rises c.before.req c.after.req then Some n.initiator else None) else (if rises c.before.ack c.after.ack then Some n.target else None)) io) ∙ er) in
     (λ i. (if ep i then no_handshakes else answered_if (rises c.before.ack c.after.ack) t (asked_if (raised i) t h)).requests)
-    ∙ answered_requests (rises c.before.ack c.after.ack) t (asked_if true t h)
+    ∙ answered_same (rises c.before.ack c.after.ack) t (asked_if true t h)
 
-struck_answers : (q : Bool) (h : Handshakes) → (strikes_if q h).answers ≡ h.answers
+pub struck_answers : (q : Bool) (h : Handshakes) → (strikes_if q h).answers ≡ h.answers
 struck_answers true h = refl
 struck_answers false h = refl
 
@@ -223,9 +204,6 @@ told_served s k j q l c g b same el own h =
 
 -- ---- a row of the phase
 
-pub counted : (n : ℕ) → n + 1 < 2 ^ 64 → counted_on n ≡ n + 1
-counted n h = omega (arith, h)
-
 pub record InRow (s : ScenarioValue) (k j : RunState) (row : Row) (n : Connection) (c : Change) (q : Process) (now : Bool) (l : Link) : Type 0 where
   pub goes : Goes s k j q
   pub carried : SamePointers (carried_here j q.id) (carried_of (story_in_connection s k.story (Some l) (reading_in k.story.bus_state n c now) row).carried q.id)
@@ -242,7 +220,7 @@ in_row s k row n c q now fault l r ep en el i same =
       goes = record {
         plan = same;
         begun = ap (λ (x : Exchange). x.begun) i.exchange_is;
-        phase = ap phase_of i.bus_is ∙ same_phase c.before c.after (same_phase_is c ep) ∙ ap phase_of (sym r.bus_is);
+        phase = ap phase_of i.bus_is ∙ phase_same c.before c.after (same_phase_is c ep) ∙ ap phase_of (sym r.bus_is);
         start = start_same s k (run_state_after s k row) q
             ((λ i. progress_after s k (reading_is k row n c now r en i) (r.connection_is i) (reading_is k row n c now r en i).next (leaving_of s k k.story.bus_state.connection))
             ∙ ap (λ (x : Bool). if x && k.exchange.begun then Rattle.bus_due.specs.RunSteps.progress_by_leaving k (Rattle.bus_due.specs.RunState.process_served s k) (leaving_of s k k.story.bus_state.connection) else k.progress) ep);
@@ -407,7 +385,7 @@ run_crosses s k row n c q l x own e h =
     let moved = byte_moves (carried_here k q.id) c.before (byte_of c) ((λ i. not (msg i) && cd i && not c.before.io) ∙ refl) (λ i. not (msg i) && not (cd i)) in
     let answers : j.handshakes.answers ≡ k.handshakes.answers + 1 =
     ap (λ (y : Handshakes). y.answers) x.in_is.handshakes_is ∙ ap (λ (f : Bool). (handshakes_after f (Some n) c row.time k.handshakes).answers) x.fault
-    ∙ answers_rise n c row.time x.dev k.handshakes x.same_phase io x.receiver ∙ counted k.handshakes.answers x.meets.short in
+    ∙ answers_rise n c row.time x.dev k.handshakes x.same_phase io x.receiver ∙ count_more k.handshakes.answers x.meets.short in
     told_served s k j q l c1 x.row_in.goes x.begun same (made.1 ∙ byte_link k.story l d ∙ x.link) own
     (subst (λ (y : Phase). PointersOf (policy_for s q) l c1 k.exchange.plan j.handshakes (run_start s k q) y) (sym e)
     (record {

@@ -28,6 +28,7 @@ use Rattle.bus_books.specs.Rows.{IsRowIn, reading_in}
 use Rattle.bus_books.proofs.CarriedRows.{ends_keep, check_keeps}
 use Rattle.bus_books.proofs.InConnection.{reading_is}
 use Rattle.bus_books.proofs.Lookups.{put_there, put_own, put_other, carried_id, self_id}
+use Rattle.bus_laws.proofs.Tests.{or_true}
 use Rattle.trace_laws.specs.DataPointers.{is_marked}
 
 -- ---- what stays of what a process carried
@@ -42,10 +43,6 @@ same_self c = record { moved = refl; marked = λ e. e }
 
 pub same_on : (a b c : CarriedBytes) → SamePointers a b → SamePointers b c → SamePointers a c
 same_on a b c h g = record { moved = h.moved ∙ g.moved; marked = λ e. h.marked (g.marked e) }
-
-or_true : (q : Bool) → (q || true) ≡ true
-or_true true = refl
-or_true false = refl
 
 refused_same : (c : CarriedBytes) → SamePointers (marked_refused c) c
 refused_same c = record { moved = refl; marked = λ e. or_true c.shown }

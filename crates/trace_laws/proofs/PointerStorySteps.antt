@@ -1,6 +1,7 @@
 -- What a byte, a message or a fault makes of what one process carried, and of the link.
 use Rattle.std.proofs.Common.{ℕ, ◌≡◌, Bool, true, false, ◌∙◌, [], ◌∷◌, ◌++◌, Option, Some, None, refl, sym, ap, true≢false}
 use Rattle.std.specs.Prelude.{if◌then◌else◌, is_none, ◌%◌}
+use Rattle.std.proofs.lemmas.Option.{same_Some}
 use Rattle.bus_base.specs.declared.ProcId.{ProcId}
 use Rattle.bus_trace.specs.LineSet.{LineSet}
 use Rattle.bus_trace.specs.Phases.{is_command, is_data}
@@ -22,6 +23,7 @@ use Rattle.bus_story.specs.Story.{Story}
 use Rattle.bus_story.specs.TraceHistory.{story_with_restored, story_with_carried, is_parity_error, story_after_out, carried_after_message_if, story_after_message, story_after_in, carried_after_byte_if, story_after_byte, carried_after_fault_if, story_after_fault}
 use Rattle.bus_books.proofs.Lookups.{put_there, put_own, put_other, carried_id}
 use Rattle.trace_laws.specs.DataPointers.{OnUndo}
+use Rattle.trace_laws.proofs.Impossible.{none_some}
 use Rattle.trace_laws.proofs.PointerStories.{SamePointers, same_self, put_same}
 use Rattle.trace_laws.proofs.PointerMessages.{or_undone}
 
@@ -64,7 +66,7 @@ fault_link b l (Fault bit) = carried_link b (carried_after_fault_if (carried_if 
 
 -- ---- a byte
 
-byte_id : (c : CarriedBytes) (b : LineSet) (byte : ℕ) → (carried_after_byte c b byte).id ≡ c.id
+pub byte_id : (c : CarriedBytes) (b : LineSet) (byte : ℕ) → (carried_after_byte c b byte).id ≡ c.id
 byte_id c b byte = go (is_command b) (is_data b) (is_status_phase b)
   where
     go : (q r t : Bool) → (if q then record c { command = area_with c.command byte; block = c.block ++ byte ∷ [] } else if r then record c { moved = area_with c.moved byte } else if t then record c { status = area_with c.status byte } else c).id ≡ c.id
@@ -118,7 +120,7 @@ out_link b l m = carried_link (record b { link = Some (record l { last = last_ou
 
 -- ---- a message to the initiator
 
-message_id : (c : CarriedBytes) (m : MsgIn) → (carried_after_message c m).id ≡ c.id
+pub message_id : (c : CarriedBytes) (m : MsgIn) → (carried_after_message c m).id ≡ c.id
 message_id c to_initiator.CommandComplete = refl
 message_id c to_initiator.SavePointer = refl
 message_id c to_initiator.RestorePointers = refl
@@ -182,17 +184,11 @@ put_not : (b : Story) (o : Option CarriedBytes) (id : ProcId) → ((y : CarriedB
 put_not b None id h = refl
 put_not b (Some y) id h = put_there b.carried y id ∙ ap (λ (q : Bool). if q then y else carried_of b.carried id) (h y refl)
 
-same_carried : (x y : CarriedBytes) → (let o : Option CarriedBytes = Some x in o) ≡ Some y → x ≡ y
-same_carried x y e = cc
-
-no_carried : {A : Type 0} (y : CarriedBytes) → (let o : Option CarriedBytes = None in o) ≡ Some y → A
-no_carried y e = absurd cc
-
 if_not : (b : Story) (id : ProcId) (item : Option Item) (f : CarriedBytes → CarriedBytes) → ((c : CarriedBytes) → (f c).id ≡ c.id) → IsNot id item → (y : CarriedBytes) → (z : CarriedBytes) → carried_if b item ≡ Some z → Some (f z) ≡ Some y → same_id y.id id ≡ false
-if_not b id None f g h y z e w = no_carried z e
-if_not b id (Some (abort n)) f g h y z e w = no_carried z e
+if_not b id None f g h y z e w = none_some z e
+if_not b id (Some (abort n)) f g h y z e w = none_some z e
 if_not b id (Some (process x)) f g h y z e w =
-    let is : y.id ≡ x = ap (λ (c : CarriedBytes). c.id) (sym (same_carried (f z) y w)) ∙ g z ∙ ap (λ (c : CarriedBytes). c.id) (sym (same_carried (carried_of b.carried x) z e)) ∙ carried_id b.carried x in
+    let is : y.id ≡ x = ap (λ (c : CarriedBytes). c.id) (sym (same_Some (f z) y w)) ∙ g z ∙ ap (λ (c : CarriedBytes). c.id) (sym (same_Some (carried_of b.carried x) z e)) ∙ carried_id b.carried x in
     ap (λ (i : ProcId). same_id i id) is ∙ h x refl
 
 pub fault_other : (b : Story) (l : Link) (kind : Kind) (id : ProcId) → SamePointers (carried_of (story_after_fault b l kind).carried id) (carried_of b.carried id)
@@ -202,7 +198,7 @@ pub byte_other : (b : Story) (l : Link) (d : RowReading) (id : ProcId) → IsNot
 byte_other b l d id h = go d.change.before.msg
   where
     by : (o : Option CarriedBytes) → carried_if b l.item ≡ o → (y : CarriedBytes) → carried_after_byte_if o d ≡ Some y → same_id y.id id ≡ false
-    by None e y w = no_carried y w
+    by None e y w = none_some y w
     by (Some z) e y w = if_not b id l.item (λ c. carried_after_byte c d.change.before (d.change.after.data_bits % 256)) (λ c. byte_id c d.change.before (d.change.after.data_bits % 256)) h y z e w
 
     go : (q : Bool) → carried_of (if q then b else story_with_carried b (carried_after_byte_if (carried_if b l.item) d)).carried id ≡ carried_of b.carried id
@@ -214,7 +210,7 @@ out_other b l m id h = put_not (record b { link = Some (record l { last = last_o
   where
     go : (q : Bool) → (y : CarriedBytes) → (if q then l.undo else None) ≡ Some y → same_id y.id id ≡ false
     go true y e = h y e
-    go false y e = no_carried y e
+    go false y e = none_some y e
 
 restored_other : (b : Story) (item : Option Item) (id : ProcId) → IsNot id item → carried_of (story_with_restored b item).carried id ≡ carried_of b.carried id
 restored_other b None id h = refl
@@ -230,7 +226,7 @@ in_other s b l m id h =
     next = (link_after_name b.sent s.commands l m).item
 
     by : (o : Option CarriedBytes) → carried_if (named_story b l.item next) next ≡ o → (y : CarriedBytes) → carried_after_message_if o m ≡ Some y → same_id y.id id ≡ false
-    by None e y w = no_carried y w
+    by None e y w = none_some y w
     by (Some z) e y w = if_not (named_story b l.item next) id next (λ c. carried_after_message c m) (λ c. message_id c m) h y z e w
 
     go : (q : Bool) → carried_of (if q then story_with_restored b next else b).carried id ≡ carried_of b.carried id

@@ -1,7 +1,6 @@
 -- What a row with which the phase changes makes of what is kept of the process that is served.
 use Rattle.std.proofs.Common.{ℕ, ◌≡◌, ◌⊎◌, inl, inr, ◌+◌, ◌*◌, ◌≤◌, Bool, true, false, ◌&&◌, ◌||◌, ◌∙◌, List, [], ◌∷◌, length, Option, Some, None, refl, sym, ap, subst, arith, true≢false}
 use Rattle.std.specs.Prelude.{if◌then◌else◌, is_some, nat_lt, ◌==◌, ◌-◌}
-use Rattle.std.proofs.lemmas.Bool.Decides.{nat_tests}
 use Rattle.bus_base.specs.declared.ProcId.{ProcId}
 use Rattle.bus_trace.specs.Changes.{rises}
 use Rattle.bus_trace.specs.declared.Kind.{Kind}
@@ -46,18 +45,10 @@ use Rattle.trace_laws.specs.DataPointers.{is_marked, OnUndo, IsPlainIn, run_star
 use Rattle.trace_laws.proofs.PointerStories.{SamePointers, same_on, events_same, story_row, status_marks}
 use Rattle.trace_laws.proofs.PointerLeavings.{WritesBy}
 use Rattle.trace_laws.proofs.PointerStorySteps.{fault_story, fault_link}
+use Rattle.trace_laws.proofs.TalkTurns.{from_named}
+use Rattle.trace_laws.proofs.Tests.{some_count}
 
 -- ---- ATN is true after MESSAGE IN
-
-pub from_on : (q : MsgIn → Type 0) (m : Messages) (n : ℕ) → OnMessages q m → OnMessages q (from_byte m n)
-from_on q m n h = go (nat_lt n (length (message_bytes m.first)))
-  where
-    go : (r : Bool) → OnMessages q (if r then m else record { first = m.second; second = None })
-    go true = h
-    go false = (h.1, tt)
-
-some_count : (n : ℕ) → (n == 0) ≡ false → 1 ≤ n
-some_count n e = grind (arith, nat_tests)
 
 below_one : (n : ℕ) → 1 ≤ n → n ≤ 1 → n - 1 ≡ 0
 below_one n h k = omega (arith, h, k)
@@ -77,8 +68,8 @@ pub refused_from : (policy : Policy) (l : Link) (c : CarriedBytes) (m : Messages
 refused_from policy l c m next count start asked within (calm h) = still_calm (record { here = h.here; undone = h.undone; plain = go h.plain })
   where
     go : ((next ≡ nexts.GoOn) × IsUndisturbed policy l × OnMessages IsPlainIn m) ⊎ ((next ≡ nexts.GoOn → ⊥) × OnMessages IsNoName m) → ((next ≡ nexts.GoOn) × IsUndisturbed policy l × OnMessages IsPlainIn (from_byte m (count - 1))) ⊎ ((next ≡ nexts.GoOn → ⊥) × OnMessages IsNoName (from_byte m (count - 1)))
-    go (inl z) = inl (z.0, z.1, from_on IsPlainIn m (count - 1) z.2)
-    go (inr z) = inr (z.0, from_on IsNoName m (count - 1) z.1)
+    go (inl z) = inl (z.0, z.1, from_named IsPlainIn m (count - 1) z.2)
+    go (inr z) = inr (z.0, from_named IsNoName m (count - 1) z.1)
 refused_from policy l c m next count start asked within (restores em en u e w) = go w
   where
     go : (count ≡ 0) ⊎ ((c.moved.active ≡ start) × OnUndo (λ (u : CarriedBytes). u.moved.saved ≡ start) l.undo) → PointersRefused policy l c (from_byte m (count - 1)) next start

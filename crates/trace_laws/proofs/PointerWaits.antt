@@ -1,5 +1,5 @@
 -- The data pointers of a process that is not served stay where they are, whatever the row does.
-use Rattle.std.proofs.Common.{ℕ, ◌≡◌, ◌⊎◌, inl, inr, ◌+◌, ◌*◌, Bool, true, false, not, ◌&&◌, ◌||◌, ◌∙◌, List, ◌∷◌, Option, Some, None, refl, sym, ap, subst, true≢false}
+use Rattle.std.proofs.Common.{ℕ, ◌≡◌, ◌⊎◌, inl, inr, ◌*◌, Bool, true, false, not, ◌&&◌, ◌∙◌, List, ◌∷◌, Option, Some, None, refl, sym, ap, subst, true≢false}
 use Rattle.std.specs.Prelude.{if◌then◌else◌, is_some, is_none, nat_lt}
 use Rattle.bus_base.specs.declared.ProcId.{ProcId}
 use Rattle.bus_trace.specs.declared.Row.{Row}
@@ -21,18 +21,19 @@ use Rattle.bus_story.specs.HistoryEvents.{carried_if, row_events_by, link_events
 use Rattle.bus_story.specs.Items.{Item, process, abort, has_item}
 use Rattle.bus_story.specs.Links.{Link, link_of, link_after_name}
 use Rattle.bus_story.specs.Story.{Story, story_after_events}
-use Rattle.bus_story.specs.TraceHistory.{aim_of, is_arbitration_entry, story_with_aim, story_without_answer, is_counted, retries_of, story_with_try, story_after_calling_by, story_after_calling, story_on_free_bus, story_with_restored, story_with_sent, story_after_connection, story_with_carried, is_parity_error, story_after_out, carried_after_message_if, story_after_in, carried_after_byte_if, story_after_byte, carried_after_fault_if, story_after_fault, story_in_connection, story_on_bus, story_by_change}
+use Rattle.bus_story.specs.TraceHistory.{aim_of, is_arbitration_entry, story_with_aim, story_without_answer, is_counted, retries_of, story_with_try, story_after_calling_by, story_after_calling, story_on_free_bus, story_with_restored, story_with_sent, story_after_connection, story_with_carried, story_after_out, story_after_in, carried_after_byte_if, story_after_byte, story_after_fault, story_in_connection, story_on_bus, story_by_change}
 use Rattle.bus_dialogue.specs.declared.exchange.Leaving.{Leaving}
-use Rattle.bus_due.specs.LastingState.{ProcessProgress, progress_in, progress_with}
+use Rattle.bus_due.specs.LastingState.{ProcessProgress, progress_in}
 use Rattle.bus_due.specs.RunState.{RunState, carried_here, process_item, process_served}
 use Rattle.bus_due.specs.RunSteps.{run_state_after, progress_after, progress_by_leaving, leaving_of}
-use Rattle.bus_dialogue.specs.PhaseBytes.{one_if}
 use Rattle.bus_books.specs.Knowing.{Knows}
 use Rattle.bus_books.specs.Rows.{IsRowIn, reading_in}
 use Rattle.bus_books.proofs.Lookups.{self_id, carried_id}
 use Rattle.trace_laws.specs.DataPointers.{is_marked, run_start, run_step, IsWaiting, UndoesServed}
+use Rattle.trace_laws.proofs.ItemSteps.{other_progress}
 use Rattle.trace_laws.proofs.PointerStories.{SamePointers, events_same, events_over, over_more, story_row}
 use Rattle.trace_laws.proofs.PointerStorySteps.{IsNot, fault_story, byte_other, out_other, in_other}
+use Rattle.trace_laws.proofs.RowItems.{carried_sent, restored_sent, inside_sent}
 
 -- ---- what is asked of one that waits
 
@@ -58,15 +59,6 @@ wait_on s k j q c over start h = record {
 
 -- ---- what is over
 
-carried_sent : (b : Story) (c : Option CarriedBytes) → (story_with_carried b c).sent ≡ b.sent
-carried_sent b None = refl
-carried_sent b (Some c) = refl
-
-restored_sent : (b : Story) (item : Option Item) → (story_with_restored b item).sent ≡ b.sent
-restored_sent b None = refl
-restored_sent b (Some (process id)) = refl
-restored_sent b (Some (abort n)) = refl
-
 named_sent : (b : Story) (q : Bool) (item : Option Item) → (if q then story_with_restored b item else b).sent ≡ b.sent
 named_sent b true item = restored_sent b item
 named_sent b false item = refl
@@ -78,25 +70,9 @@ byte_sent b l d = go d.change.before.msg
     go true = refl
     go false = carried_sent b (carried_after_byte_if (carried_if b l.item) d)
 
-in_sent : (s : ScenarioValue) (b : Story) (l : Link) (d : RowReading) (row : Row) → (story_in_connection s b (Some l) d row).sent ≡ b.sent
-in_sent s b l d row = go d.crosses d.out d.into
-  where
-    fault : (kind : Rattle.bus_trace.specs.declared.Kind.Kind) → (story_after_fault b l kind).sent ≡ b.sent
-    fault (Rattle.bus_trace.specs.declared.Kind.TheVariants.Drives lines) = refl
-    fault (Rattle.bus_trace.specs.declared.Kind.TheVariants.Fault bit) = carried_sent b (carried_after_fault_if (carried_if b l.item) b.bus_state.crossed)
-
-    go : (q : Bool) (o : Option MsgOut) (m : Option MsgIn) → (if q then (if is_some o then story_after_out b l o else if is_some m then story_after_in s b l m else story_after_byte b l d) else story_after_fault b l row.kind).sent ≡ b.sent
-    go false o m = fault row.kind
-    go true (Some o) m = carried_sent (record b { link = Some (record l { last = Rattle.bus_story.specs.Links.last_out o l }) }) (if is_parity_error o then l.undo else None)
-    go true None None = byte_sent b l d
-    go true None (Some m) =
-        carried_sent (record (if is_none l.item then story_with_restored b (link_after_name b.sent s.commands l m).item else b) { link = Some (record (link_after_name b.sent s.commands l m) { last = Rattle.bus_story.specs.Links.last_in m; before = l.last; undo = carried_if b l.item }) })
-        (carried_after_message_if (carried_if (if is_none l.item then story_with_restored b (link_after_name b.sent s.commands l m).item else b) (link_after_name b.sent s.commands l m).item) m)
-        ∙ named_sent b (is_none l.item) (link_after_name b.sent s.commands l m).item
-
 connection_sent : (s : ScenarioValue) (b : Story) (link : Option Link) (d : RowReading) (row : Row) → (story_in_connection s b link d row).sent ≡ b.sent
 connection_sent s b None d row = refl
-connection_sent s b (Some l) d row = in_sent s b l d row
+connection_sent s b (Some l) d row = inside_sent s b l d row
 
 begun_over : (b : Story) (n : Connection) → (story_after_connection b n).sent.over ≡ b.sent.over
 begun_over b n = go n.reselected (aim_of b.aims n.initiator)
@@ -164,16 +140,6 @@ over_row s k row x e =
 
 -- ---- runs
 
-no_process : {A : Type 0} (p : Process) → (let o : Option Process = None in o) ≡ Some p → A
-no_process p e = absurd cc
-
-progress_kept : (all : List ProcessProgress) (x id : ProcId) (done counts : Bool) → same_id x id ≡ false → progress_in (progress_with all x done counts) id ≡ progress_in all id
-progress_kept all x id done counts ne = go (done || counts)
-  where
-    go : (q : Bool) → progress_in (if q then record { id = x; runs = (progress_in all x).runs + one_if done; recoveries = (progress_in all x).recoveries + one_if counts } ∷ all else all) id ≡ progress_in all id
-    go true = ap (λ (q : Bool). if q then record { id = x; runs = (progress_in all x).runs + one_if done; recoveries = (progress_in all x).recoveries + one_if counts } else progress_in all id) ne
-    go false = refl
-
 -- Only the process that is served makes runs.
 progress_other : (s : ScenarioValue) (k : RunState) (row : Row) (id : ProcId) → IsNot id k.served → progress_in (run_state_after s k row).progress id ≡ progress_in k.progress id
 progress_other s k row id other = go k.story.bus_state.connection (row_reading k.story.bus_state row).next (leaving_of s k k.story.bus_state.connection)
@@ -188,7 +154,7 @@ progress_other s k row id other = go k.story.bus_state.connection (row_reading k
       where
         by : (p : Option Process) → process_of s x ≡ p → progress_in (progress_by_leaving k p l) id ≡ progress_in k.progress id
         by None e = refl
-        by (Some p) e = progress_kept k.progress p.id id l.done l.counts (ap (λ (y : ProcId). same_id y id) (id_is s x p e) ∙ h x refl)
+        by (Some p) e = other_progress k.progress p.id id l.done l.counts (ap (λ (y : ProcId). same_id y id) (id_is s x p e) ∙ h x refl)
 
     go : (m n : Option Connection) (l : Leaving) → progress_in (progress_after s k d m n l) id ≡ progress_in k.progress id
     go None None l = refl

@@ -21,12 +21,7 @@ use Rattle.disk_array.specs.Steps.{process_count, running_count, is_of_unit, has
 use Rattle.bus_books.proofs.Lookups.{self_id}
 use Rattle.trace_laws.specs.Places.{AreWithin}
 use Rattle.trace_laws.proofs.EachProcess.{IsSameIn, status_same, attended_same, cleared_same}
-
-no_process : (p : Process) → (let a : Option Process = None in a) ≡ Some p → ⊥
-no_process p e = absurd cc
-
-no_unit : (u : UnitState) → (let a : Option UnitState = None in a) ≡ Some u → ⊥
-no_unit u e = absurd cc
+use Rattle.trace_laws.proofs.Impossible.{none_some}
 
 -- ---- one unit
 
@@ -42,7 +37,7 @@ fewer_left (p ∷ waiting) id = go (same_id p.id id) (fewer_left waiting id)
     go false k = omega arith
 
 one_fewer : (waiting : List Process) (place : ℕ) (p : Process) → process_at waiting place ≡ Some p → length (without_process waiting p.id) < length waiting
-one_fewer [] place p e = absurd (no_process p e)
+one_fewer [] place p e = absurd (none_some p e)
 one_fewer (w ∷ waiting) zero p e =
     let same : w ≡ p = same_Some w p e in
     subst (λ (x : Bool). length (if x then without_process waiting p.id else w ∷ without_process waiting p.id) < length (w ∷ waiting)) (sym ((λ i. same_id (same i).id p.id) ∙ self_id p.id))
@@ -57,7 +52,7 @@ chosen_fewer : (u : UnitState) (p : Process) → choice u.pick u.waiting ≡ Som
 chosen_fewer u p e = go (chosen_place u.pick (entries_of u.waiting)) e
   where
     go : (x : Option ℕ) → process_at_if u.waiting x ≡ Some p → length (without_process u.waiting p.id) < length u.waiting
-    go None k = absurd (no_process p k)
+    go None k = absurd (none_some p k)
     go (Some place) k = one_fewer u.waiting place p k
 
 none_counts : (o : Option RunningProcess) → has_no_current o ≡ true → running_count o ≡ 0
@@ -93,7 +88,7 @@ with_within (u ∷ units) new h g = go (u.target == new.target && u.unit == new.
     go false k = (h.0, k)
 
 pub unit_within : (units : List UnitState) (t n : ℕ) (u : UnitState) → unit_state_at units t n ≡ Some u → AreWithin units → process_count u ≤ u.depth
-unit_within [] t n u e h = absurd (no_unit u e)
+unit_within [] t n u e h = absurd (none_some u e)
 unit_within (v ∷ units) t n u e h = go (v.target == t && v.unit == n) e (λ k. unit_within units t n u k h.1)
   where
     go : (x : Bool) → (if x then Some v else unit_state_at units t n) ≡ Some u → (unit_state_at units t n ≡ Some u → IsWithin u) → IsWithin u

@@ -1,5 +1,5 @@
 -- What holds of the processes in the queues of the plain disk array holds after an event, of those that it leaves there.
-use Rattle.std.proofs.Common.{ℕ, zero, suc, ◌≡◌, Bool, true, false, not, ◌&&◌, ◌||◌, ◌==◌, ◌∙◌, List, [], ◌∷◌, ◌++◌, Option, Some, None, refl, sym, ap, subst}
+use Rattle.std.proofs.Common.{ℕ, ◌≡◌, Bool, true, false, not, ◌&&◌, ◌||◌, ◌==◌, List, [], ◌∷◌, ◌++◌, Option, Some, None, refl, sym, ap, subst}
 use Rattle.std.specs.Prelude.{if◌then◌else◌, is_some, is_none, nat_lt, ⊤}
 use Rattle.std.proofs.lemmas.Option.{same_Some}
 use Rattle.bus_base.specs.declared.ProcId.{ProcId}
@@ -10,16 +10,18 @@ use Rattle.bus_base.specs.declared.Event.TheVariants as events
 use Rattle.cdb_codec.specs.declared.sense.TheConstants.{ABORTED_COMMAND}
 use Rattle.cdb_codec.specs.declared.status.TheConstants.{GOOD, CHECK_CONDITION}
 use Rattle.cdb_codec.specs.Cdb.{command_of}
-use Rattle.scenario.specs.declared.value.HostDef.{HostDef}
 use Rattle.scenario.specs.Value.{ScenarioValue}
 use Rattle.disk_array.specs.Processes.{Process, process_of, same_id}
-use Rattle.disk_array.specs.Execution.{Reply, Execution, execution, is_request_sense, commands_cleared, check_condition, queue_full, sense_of}
-use Rattle.disk_array.specs.Order.{without_process, choice, chosen_place, entries_of, process_at, process_at_if}
-use Rattle.disk_array.specs.Units.{RunningProcess, UnitState, Nexus, Array, is_held, unit_state_at, with_unit, guest_at, nexus_of, has_no_current, with_current, unit_after_choice, units_after_choice, settled_array, senses_without, nexuses_without, sense_of_nexus}
+use Rattle.disk_array.specs.Execution.{Reply, Execution, execution, is_request_sense, check_condition, queue_full, sense_of}
+use Rattle.disk_array.specs.Order.{without_process, choice}
+use Rattle.disk_array.specs.Units.{RunningProcess, UnitState, Nexus, Array, is_held, unit_state_at, with_unit, guest_at, nexus_of, has_no_current, with_current, unit_after_choice, units_after_choice, settled_array, senses_without, nexuses_without}
 use Rattle.disk_array.specs.Steps as Steps
 use Rattle.disk_array.specs.Steps.{is_of_unit, has_tag}
-use Rattle.bus_books.proofs.Lookups.{id_is}
 use Rattle.trace_laws.specs.ItemFacts.{AllP, RunsP, UnitsP}
+use Rattle.trace_laws.proofs.EachProcess.{running_id}
+use Rattle.trace_laws.proofs.Impossible.{none_some}
+use Rattle.trace_laws.proofs.UnitsKept.{attended_same, cleared_same}
+use Rattle.trace_laws.proofs.WriterUnits.{append_all, choice_all}
 
 -- ---- the processes that wait, and the current ones
 
@@ -40,10 +42,6 @@ map_units q r f (u ∷ units) h = ((map_all q r f u.waiting h.0.0, map_runs q r 
 
 -- ---- lists
 
-append_all : (q : Process → Type 0) (waiting : List Process) (p : Process) → AllP q waiting → q p → AllP q (waiting ++ p ∷ [])
-append_all q [] p h g = (g, tt)
-append_all q (w ∷ waiting) p h g = (h.0, append_all q waiting p h.1 g)
-
 not_by : (q : Bool) → q ≡ false → not q ≡ true
 not_by q e = ap not e
 
@@ -63,21 +61,6 @@ kept_all q drops (p ∷ waiting) h = go (drops p) refl (kept_all q drops waiting
     go true e k = k
     go false e k = ((h.0, not_by (drops p) e), k)
 
-no_process : (p : Process) → (let a : Option Process = None in a) ≡ Some p → ⊥
-no_process p e = absurd cc
-
-at_all : (q : Process → Type 0) (waiting : List Process) (place : ℕ) (p : Process) → AllP q waiting → process_at waiting place ≡ Some p → q p
-at_all q [] place p h e = absurd (no_process p e)
-at_all q (w ∷ waiting) zero p h e = subst q (same_Some w p e) h.0
-at_all q (w ∷ waiting) (suc place) p h e = at_all q waiting place p h.1 e
-
-choice_all : (q : Process → Type 0) (u : UnitState) (p : Process) → AllP q u.waiting → choice u.pick u.waiting ≡ Some p → q p
-choice_all q u p h e = go (chosen_place u.pick (entries_of u.waiting)) e
-  where
-    go : (x : Option ℕ) → process_at_if u.waiting x ≡ Some p → q p
-    go None k = absurd (no_process p k)
-    go (Some place) k = at_all q u.waiting place p h k
-
 with_units : (q : Process → Type 0) (units : List UnitState) (new : UnitState) → UnitsP q units → AllP q new.waiting × RunsP q new.current → UnitsP q (with_unit units new)
 with_units q [] new h g = tt
 with_units q (u ∷ units) new h g = go (u.target == new.target && u.unit == new.unit) (with_units q units new h.1 g)
@@ -86,11 +69,8 @@ with_units q (u ∷ units) new h g = go (u.target == new.target && u.unit == new
     go true k = (g, h.1)
     go false k = (h.0, k)
 
-no_unit : (u : UnitState) → (let a : Option UnitState = None in a) ≡ Some u → ⊥
-no_unit u e = absurd cc
-
 pub unit_at : (q : Process → Type 0) (units : List UnitState) (t n : ℕ) (u : UnitState) → unit_state_at units t n ≡ Some u → UnitsP q units → AllP q u.waiting × RunsP q u.current
-unit_at q [] t n u e h = absurd (no_unit u e)
+unit_at q [] t n u e h = absurd (none_some u e)
 unit_at q (v ∷ units) t n u e h = go (v.target == t && v.unit == n) e (λ k. unit_at q units t n u k h.1)
   where
     go : (x : Bool) → (if x then Some v else unit_state_at units t n) ≡ Some u → (unit_state_at units t n ≡ Some u → AllP q u.waiting × RunsP q u.current) → AllP q u.waiting × RunsP q u.current
@@ -151,29 +131,6 @@ dropped_units q drops (u ∷ units) h = ((kept_all q drops u.waiting h.0.0, go u
     go : (x : Option RunningProcess) → RunsP q x → RunsP (And q (λ p. not (drops p))) (Steps.kept_running drops x)
     go None k = tt
     go (Some r) k = inner r k (drops r.process) refl
-
--- ---- what leaves the units as they are
-
-hosts_same : (hosts : List HostDef) (t n : ℕ) (a : Array) → (Steps.reset_attentions hosts t n a).units ≡ a.units
-hosts_same [] t n a = refl
-hosts_same (h ∷ hosts) t n a = hosts_same hosts t n (Steps.reset_attention a (record { initiator = h.dev; target = t; unit = n }))
-
-attended_same : (hosts : List HostDef) (units : List UnitState) (is_one : UnitState → Bool) (a : Array) → (Steps.unit_reset_attentions hosts units is_one a).units ≡ a.units
-attended_same hosts [] is_one a = refl
-attended_same hosts (u ∷ units) is_one a = attended_same hosts units is_one (if is_one u then Steps.reset_attentions hosts u.target u.unit a else a) ∙ go (is_one u)
-  where
-    go : (x : Bool) → (if x then Steps.reset_attentions hosts u.target u.unit a else a).units ≡ a.units
-    go true = hosts_same hosts u.target u.unit a
-    go false = refl
-
-cleared_same : (initiator : ℕ) (lost : List Process) (a : Array) → (Steps.cleared_attentions initiator lost a).units ≡ a.units
-cleared_same initiator [] a = refl
-cleared_same initiator (p ∷ lost) a = cleared_same initiator lost (if p.initiator == initiator then a else Steps.cleared_attention a (nexus_of p)) ∙ go (p.initiator == initiator) (Steps.is_reset_pending (sense_of_nexus a.attentions (nexus_of p)))
-  where
-    go : (x y : Bool) → (if x then a else (if y then a else record a { attentions = (nexus_of p, commands_cleared) ∷ senses_without a.attentions (nexus_of p) })).units ≡ a.units
-    go true y = refl
-    go false true = refl
-    go false false = refl
 
 -- ---- an event
 
@@ -272,40 +229,6 @@ failed_units s q a id reply None h = go (process_of s id)
     go : (p : Option Process) → IfArray q (Steps.fail_step_of_new a id reply p)
     go None = tt
     go (Some p) = by p (Steps.is_waiting a.units id || Steps.has_ended a id)
-
--- A guest, or a current process, is found by its id.
-guest_id : (guests : List RunningProcess) (id : ProcId) (r : RunningProcess) → guest_at guests id ≡ Some r → same_id r.process.id id ≡ true
-guest_id [] id r e = absurd (no_running r e)
-  where
-    no_running : (x : RunningProcess) → (let a : Option RunningProcess = None in a) ≡ Some x → ⊥
-    no_running x z = cc
-guest_id (g ∷ guests) id r e = go (same_id g.process.id id) refl e (λ k. guest_id guests id r k)
-  where
-    go : (x : Bool) → same_id g.process.id id ≡ x → (if x then Some g else guest_at guests id) ≡ Some r → (guest_at guests id ≡ Some r → same_id r.process.id id ≡ true) → same_id r.process.id id ≡ true
-    go true z k rest = ap (λ (y : RunningProcess). same_id y.process.id id) (sym (same_Some g r k)) ∙ z
-    go false z k rest = rest k
-
-current_id : (units : List UnitState) (id : ProcId) (r : RunningProcess) → Steps.running_in units id ≡ Some r → same_id r.process.id id ≡ true
-current_id [] id r e = absurd (no_running r e)
-  where
-    no_running : (x : RunningProcess) → (let a : Option RunningProcess = None in a) ≡ Some x → ⊥
-    no_running x z = cc
-current_id (u ∷ units) id r e = go u.current e (λ k. current_id units id r k)
-  where
-    by : (g : RunningProcess) (x : Bool) → same_id g.process.id id ≡ x → (if is_some {T = RunningProcess} (if x then Some g else None) then (if x then Some g else None) else Steps.running_in units id) ≡ Some r → (Steps.running_in units id ≡ Some r → same_id r.process.id id ≡ true) → same_id r.process.id id ≡ true
-    by g true z k rest = ap (λ (y : RunningProcess). same_id y.process.id id) (sym (same_Some g r k)) ∙ z
-    by g false z k rest = rest k
-
-    go : (o : Option RunningProcess) → (if is_some (Steps.running_if o id) then Steps.running_if o id else Steps.running_in units id) ≡ Some r → (Steps.running_in units id ≡ Some r → same_id r.process.id id ≡ true) → same_id r.process.id id ≡ true
-    go None k rest = rest k
-    go (Some g) k rest = by g (same_id g.process.id id) refl k rest
-
-running_id : (a : Array) (id : ProcId) (r : RunningProcess) → Steps.running_process a id ≡ Some r → r.process.id ≡ id
-running_id a id r e = id_is r.process.id id (go (guest_at a.guests id) refl e)
-  where
-    go : (o : Option RunningProcess) → guest_at a.guests id ≡ o → (if is_some o then o else Steps.running_in a.units id) ≡ Some r → same_id r.process.id id ≡ true
-    go None z k = current_id a.units id r k
-    go (Some g) z k = guest_id a.guests id r (z ∙ k)
 
 ended_units : (q : Process → Type 0) (a : Array) (id : ProcId) (status : ℕ) → UnitsP q a.units → IfArray (And q (λ p. not (same_id p.id id))) (Steps.end_step a status (Steps.running_process a id))
 ended_units q a id status h = go (Steps.running_process a id) refl

@@ -26,6 +26,7 @@ use Rattle.bus_laws.proofs.Apart.{change_plain}
 use Rattle.bus_laws.proofs.Prompt.{least_is}
 use Rattle.bus_laws.proofs.Together.{by_reset, by_calm, reset_or_calm}
 use Rattle.link_laws.specs.LinkStages.{AnyStage, apart, linked, LinkStage}
+use Rattle.link_laws.proofs.Moves.{same_self}
 use Rattle.trace_laws.specs.ResetLines.{OfTarget, ResetFacts}
 use Rattle.trace_laws.specs.WriteFacts.{ReadsUnderRst}
 use Rattle.trace_laws.proofs.Blocks.{commands_are}
@@ -33,23 +34,15 @@ use Rattle.trace_laws.proofs.ByteValues.{byte_values}
 use Rattle.trace_laws.proofs.ConnectionRows.{stage_of_connection}
 use Rattle.trace_laws.proofs.Crossings.{RowFacts, row_facts, stays, ends_here}
 use Rattle.trace_laws.proofs.FirstRows.{under_rst}
+use Rattle.trace_laws.proofs.Impossible.{wrong, wrong', none_some}
 use Rattle.trace_laws.proofs.Joint.{Stood, NextStood, link_calm, values_of}
 use Rattle.trace_laws.proofs.LinkRows.{LinkRow, link_row}
 use Rattle.trace_laws.proofs.Plans.{is_directed, writes_of}
 use Rattle.trace_laws.proofs.ResetRows.{IsReleasing, PhaseIs, releasing, of_stage, of_target_next, data_kept}
 use Rattle.trace_laws.proofs.WriteRows.{in_lines, is_in}
 
-wrong : {A : Type 0} → true ≡ false → A
-wrong e = absurd cc
-
-wrong' : {A : Type 0} → false ≡ true → A
-wrong' e = absurd cc
-
-no_connection : {A : Type 0} (n : Connection) → (let a : Option Connection = None in a) ≡ Some n → A
-no_connection n e = absurd cc
-
 pub resets_start : (s : ScenarioValue) → ResetFacts s []
-resets_start s = record { lines = λ n e. no_connection n e; reads = λ n p e. no_connection n e }
+resets_start s = record { lines = λ n e. none_some n e; reads = λ n p e. none_some n e }
 
 -- ---- a row after which it stands, and RST is true
 
@@ -68,11 +61,11 @@ stood_before p row n on e = go (connection p) refl
 
     kept : (m : Connection) (q : Bool) → (if q then Some m else None) ≡ Some n → Some m ≡ Some n
     kept m true z = z
-    kept m false z = no_connection n z
+    kept m false z = none_some n z
 
     go : (o : Option Connection) → connection p ≡ o → connection p ≡ Some n
     go None f =
-        no_connection n (sym ((λ i. connection_after (f i) (call p) (change_of p row) row) ∙ (λ i. if falls (bus p).sel (bus (row ∷ p)).sel && (bus (row ∷ p)).bsy && not (on i) then connection_of (call p) row.time else None) ∙ off (falls (bus p).sel (bus (row ∷ p)).sel) (bus (row ∷ p)).bsy) ∙ e)
+        none_some n (sym ((λ i. connection_after (f i) (call p) (change_of p row) row) ∙ (λ i. if falls (bus p).sel (bus (row ∷ p)).sel && (bus (row ∷ p)).bsy && not (on i) then connection_of (call p) row.time else None) ∙ off (falls (bus p).sel (bus (row ∷ p)).sel) (bus (row ∷ p)).bsy) ∙ e)
     go (Some m) f = f ∙ kept m (bus (row ∷ p)).bsy (sym (λ i. connection_after (f i) (call p) (change_of p row) row) ∙ e)
 
 lasts : (s : ScenarioValue) (p : List Row) (row : Row) (n : Connection) → Obeys s → IsPrompt s (row ∷ p) → Stood s p → ResetFacts s p → connection (row ∷ p) ≡ Some n → (bus (row ∷ p)).rst ≡ true → Lasts s p row n
@@ -101,7 +94,7 @@ lasts s p row n o prompt was h after on = go (bus p).rst refl
         facts link = row_facts s p row n was.standing.devices (values_of s p n (commands_are s o) was.standing.devices (byte_values s p n o (seats_are s (obeys_fits s o)) was.standing.devices)) (was.driven n con e) link
 
         goes : RowFacts s p row n → Lasts s p row n
-        goes (ends_here f) = no_connection n (sym f.stopped ∙ after)
+        goes (ends_here f) = none_some n (sym f.stopped ∙ after)
         goes (stays f) = wrong (sym on ∙ ap (λ (c : Change). c.after.rst) (sym (change_plain s row p was.standing.devices m.inside)) ∙ ap (λ (c : Change). c.after.rst) f.row_is.change_is ∙ f.row_is.calm)
 
     go : (q : Bool) → (bus p).rst ≡ q → Lasts s p row n
@@ -109,10 +102,6 @@ lasts s p row n o prompt was h after on = go (bus p).rst refl
     go false e = calm e
 
 -- ---- whose data come
-
-same_self : (q : Bool) → same q q ≡ true
-same_self true = refl
-same_self false = refl
 
 same_of : (b a : LineSet) → PhaseIs b a → same_phase a b ≡ true
 same_of b a e =

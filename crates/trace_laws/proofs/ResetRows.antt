@@ -1,10 +1,9 @@
 -- RST in a connection: whoever makes a row under it, or raises it, drives no line but RST from then on; so the phase stays as it was, or
 -- its lines are false once the target has released them (6.2.2).
-use Rattle.std.proofs.Common.{inl, inr, ℕ, ◌≡◌, ◌≢◌, ◌<◌, ◌+◌, ◌⊎◌, Bool, true, false, ◌||◌, ◌∙◌, List, ◌∷◌, Some, None, refl, sym, ap, subst}
+use Rattle.std.proofs.Common.{inl, inr, ℕ, ◌≡◌, ◌≢◌, ◌+◌, ◌⊎◌, Bool, true, false, ◌∙◌, List, ◌∷◌, Some, None, refl, sym, ap, subst}
 use Rattle.std.specs.Prelude.{if◌then◌else◌}
 use Rattle.std.proofs.lemmas.Bool.{cases_eq}
-use Rattle.bus_trace.specs.LineSet.{LineSet, none, union, same, same_set}
-use Rattle.bus_trace.proofs.Buses.{bus_on, bus_off}
+use Rattle.bus_trace.specs.LineSet.{LineSet, none, same, same_set}
 use Rattle.bus_trace.specs.declared.Row.{Row}
 use Rattle.bus_trace.specs.declared.connection.Connection.{Connection}
 use Rattle.bus_trace.specs.Trace.{bus, drives, line_times}
@@ -26,12 +25,8 @@ use Rattle.bus_laws.proofs.Resets.{one_of, due_calm, due_holding, due_there, own
 use Rattle.bus_laws.proofs.Rows.{drives_own, drives_other}
 use Rattle.trace_laws.specs.ResetLines.{HasNoPhase, OfTarget}
 use Rattle.link_laws.specs.LinkStages.{LinkStage, when_selected, when_settling, when_turning, when_offering, when_shaking, when_pulsing}
-
-wrong : {A : Type 0} → true ≡ false → A
-wrong e = absurd cc
-
-wrong' : {A : Type 0} → false ≡ true → A
-wrong' e = absurd cc
+use Rattle.trace_laws.proofs.CutConnections.{one_drives}
+use Rattle.trace_laws.proofs.Impossible.{wrong}
 
 -- ---- a row under RST
 
@@ -101,17 +96,6 @@ of_stage s p n (when_offering atn msg cd y h) = of_ends p n _ h.linked
 of_stage s p n (when_shaking msg cd io req ack atn x y h) = of_ends p n _ h.linked
 of_stage s p n (when_pulsing io req ack atn x y h a) = of_ends p n _ h.linked
 
-line_is : (on : LineSet → Bool) → ((a b : LineSet) → on (union a b) ≡ (on a || on b)) → on none ≡ false → (p : List Row) (t : ℕ) → t < 8 → ((d : ℕ) → d < 8 → d ≢ t → on (drives p d) ≡ false) → on (bus p) ≡ on (drives p t)
-line_is on both zero p t lt others = go (on (drives p t)) refl
-  where
-    go : (q : Bool) → on (drives p t) ≡ q → on (bus p) ≡ on (drives p t)
-    go true e = bus_on on both p t lt e ∙ sym e
-    go false e =
-        bus_off on both zero p (λ d ld. elim (cases_eq d t) [
-          | inl same ↦ ap (λ (x : ℕ). on (drives p x)) same ∙ e
-          | inr ne ↦ others d ld ne
-        ]) ∙ sym e
-
 pub record PhaseIs (b l : LineSet) : Type 0 where
   pub msg : b.msg ≡ l.msg
   pub cd : b.cd ≡ l.cd
@@ -119,9 +103,9 @@ pub record PhaseIs (b l : LineSet) : Type 0 where
 
 pub phase_is : (p : List Row) (n : Connection) → OfTarget p n → PhaseIs (bus p) (drives p n.target)
 phase_is p n h = record {
-  msg = line_is (λ x. x.msg) (λ _ _. refl) refl p n.target h.below (λ d lt ne. (h.others d lt ne).msg);
-  cd = line_is (λ x. x.cd) (λ _ _. refl) refl p n.target h.below (λ d lt ne. (h.others d lt ne).cd);
-  io = line_is (λ x. x.io) (λ _ _. refl) refl p n.target h.below (λ d lt ne. (h.others d lt ne).io);
+  msg = one_drives (λ x. x.msg) (λ _ _. refl) refl p n.target h.below (λ d lt ne. (h.others d lt ne).msg);
+  cd = one_drives (λ x. x.cd) (λ _ _. refl) refl p n.target h.below (λ d lt ne. (h.others d lt ne).cd);
+  io = one_drives (λ x. x.io) (λ _ _. refl) refl p n.target h.below (λ d lt ne. (h.others d lt ne).io);
 }
 
 -- ---- what such a row makes of them

@@ -31,16 +31,17 @@ use Rattle.bus_books.specs.Rows.{IsRowIn, reading_in}
 use Rattle.bus_books.proofs.InConnection.{reading_is}
 use Rattle.bus_books.proofs.Knows.{link_after}
 use Rattle.bus_books.proofs.Lookups.{carried_id}
+use Rattle.trace_laws.proofs.Impossible.{wrong, wrong'}
 use Rattle.trace_laws.proofs.OverItems.{Grows, grows_same, grows_on, events_grow, ends_over}
-use Rattle.trace_laws.proofs.Driven.{wrong, wrong'}
+use Rattle.trace_laws.proofs.PointerStorySteps.{carried_link}
 
 -- ---- a row of a connection leaves what is sent and over, but for its events
 
-carried_sent : (a : Story) (c : Option CarriedBytes) → (story_with_carried a c).sent ≡ a.sent
+pub carried_sent : (a : Story) (c : Option CarriedBytes) → (story_with_carried a c).sent ≡ a.sent
 carried_sent a None = refl
 carried_sent a (Some c) = refl
 
-restored_sent : (b : Story) (item : Option Item) → (story_with_restored b item).sent ≡ b.sent
+pub restored_sent : (b : Story) (item : Option Item) → (story_with_restored b item).sent ≡ b.sent
 restored_sent b None = refl
 restored_sent b (Some (process id)) = refl
 restored_sent b (Some (abort k)) = refl
@@ -68,7 +69,7 @@ inside_sent s b l d row = by d.crosses d.out d.into
 
 -- ---- events that end nothing
 
-abbrev is_quiet_event : Event → Bool
+abbrev pub is_quiet_event : Event → Bool
 is_quiet_event (events.Accept id) = true
 is_quiet_event (events.Refuse id) = true
 is_quiet_event (events.Run id) = true
@@ -177,10 +178,6 @@ over_after s k row n c now l r en el = record { same = same; ended = ended; grow
 
 -- ---- the link after the row
 
-link_carried : (a : Story) (c : Option CarriedBytes) → (story_with_carried a c).link ≡ a.link
-link_carried a None = refl
-link_carried a (Some c) = refl
-
 abbrev pub heard_link : ScenarioValue → Story → Link → MsgIn → Link
 heard_link s b l m = record (link_after_name b.sent s.commands l m) { last = last_in m; before = l.last; undo = carried_if b l.item }
 
@@ -194,11 +191,11 @@ crossed_link s b l d row el e = go d.crosses e d.out refl d.into refl
   where
     byte : (q : Bool) → (if q then b else story_with_carried b (carried_after_byte_if (carried_if b l.item) d)).link ≡ b.link
     byte true = refl
-    byte false = link_carried b (carried_after_byte_if (carried_if b l.item) d)
+    byte false = carried_link b (carried_after_byte_if (carried_if b l.item) d)
 
     go : (q : Bool) → q ≡ true → (o : Option MsgOut) → d.out ≡ o → (t : Option MsgIn) → d.into ≡ t → LinkAfter s b l d.out d.into (if q then (if is_some o then story_after_out b l o else if is_some t then story_after_in s b l t else story_after_byte b l d) else story_after_fault b l row.kind).link
-    go true z (Some m) f t g = says m f (link_carried (record b { link = Some (record l { last = last_out m l }) }) (if is_parity_error m then l.undo else None))
-    go true z None f (Some m) g = hears m f g (link_carried _ _)
+    go true z (Some m) f t g = says m f (carried_link (record b { link = Some (record l { last = last_out m l }) }) (if is_parity_error m then l.undo else None))
+    go true z None f (Some m) g = hears m f g (carried_link _ _)
     go true z None f None g = stays f g (byte d.change.before.msg ∙ el)
     go false z o f t g = wrong' z
 
@@ -214,4 +211,4 @@ link_still s k row n c l r en el =
   where
     faulted : (kind : Kind) → (story_after_fault k.story l kind).link ≡ k.story.link
     faulted (Drives lines) = refl
-    faulted (Fault bit) = link_carried k.story (carried_after_fault_if (carried_if k.story l.item) k.story.bus_state.crossed)
+    faulted (Fault bit) = carried_link k.story (carried_after_fault_if (carried_if k.story l.item) k.story.bus_state.crossed)

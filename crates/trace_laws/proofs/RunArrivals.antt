@@ -1,7 +1,6 @@
 -- As a command enters the queue of its unit the reply that it would have stays (7.8).
-use Rattle.std.proofs.Common.{ℕ, ◌≡◌, Bool, true, false, not, ◌&&◌, ◌==◌, ◌∙◌, List, [], ◌∷◌, Option, Some, None, refl, sym, ap, arith, true≢false}
+use Rattle.std.proofs.Common.{ℕ, ◌≡◌, Bool, true, false, not, ◌&&◌, ◌==◌, ◌∙◌, List, [], ◌∷◌, Option, Some, None, refl, sym, ap}
 use Rattle.std.specs.Prelude.{if◌then◌else◌, ◌++◌}
-use Rattle.std.proofs.lemmas.Bool.Decides.{nat_tests}
 use Rattle.std.proofs.lemmas.Option.{same_Some}
 use Rattle.bus_books.proofs.Lists.{eq_self}
 use Rattle.disk_array.specs.Contents.{Contents}
@@ -11,36 +10,24 @@ use Rattle.disk_array.specs.Processes.{Process}
 use Rattle.disk_array.specs.Steps.{context_at}
 use Rattle.disk_array.specs.Units.{UnitState, Nexus, Array, unit_state_at, with_unit, with_current, has_no_current, is_held, unit_after_choice, units_after_choice, settled_array, nexus_of}
 use Rattle.bus_due.specs.Tasks.{moved_count, reply_now, size_of}
-
-no_unit : {A : Type 0} (u : UnitState) → (let o : Option UnitState = None in o) ≡ Some u → A
-no_unit u e = absurd cc
+use Rattle.bus_books.proofs.Lookups.{number_is, first_is, second_is}
+use Rattle.trace_laws.proofs.Impossible.{none_some}
 
 -- ---- the unit
 
-same_is : (a b : ℕ) → (a == b) ≡ true → a ≡ b
-same_is a b e = grind (arith, nat_tests)
-
-both_left : (a b : Bool) → (a && b) ≡ true → a ≡ true
-both_left true b e = refl
-both_left false b e = absurd (true≢false (sym e))
-
-both_right : (a b : Bool) → (a && b) ≡ true → b ≡ true
-both_right true b e = e
-both_right false b e = absurd (true≢false (sym e))
-
 found : (units : List UnitState) (t n : ℕ) (u : UnitState) → unit_state_at units t n ≡ Some u → (u.target ≡ t) × (u.unit ≡ n)
-found [] t n u e = no_unit u e
+found [] t n u e = none_some u e
 found (v ∷ units) t n u e = go (λ z. found units t n u z) (v.target == t && v.unit == n) refl e
   where
     go : (unit_state_at units t n ≡ Some u → (u.target ≡ t) × (u.unit ≡ n)) → (q : Bool) → (v.target == t && v.unit == n) ≡ q → (if q then Some v else unit_state_at units t n) ≡ Some u → (u.target ≡ t) × (u.unit ≡ n)
     go more true f z =
         let is = same_Some v u z in
-        (ap (λ (x : UnitState). x.target) (sym is) ∙ same_is v.target t (both_left (v.target == t) (v.unit == n) f), ap (λ (x : UnitState). x.unit) (sym is) ∙ same_is v.unit n (both_right (v.target == t) (v.unit == n) f))
+        (ap (λ (x : UnitState). x.target) (sym is) ∙ number_is v.target t (first_is (v.target == t) (v.unit == n) f), ap (λ (x : UnitState). x.unit) (sym is) ∙ number_is v.unit n (second_is (v.target == t) (v.unit == n) f))
     go more false f z = more z
 
 -- Another stands in its place.
 put_there : (units : List UnitState) (t n : ℕ) (u new : UnitState) → new.target ≡ u.target → new.unit ≡ u.unit → unit_state_at units t n ≡ Some u → unit_state_at (with_unit units new) t n ≡ Some new
-put_there [] t n u new et en e = no_unit u e
+put_there [] t n u new et en e = none_some u e
 put_there (v ∷ units) t n u new et en e = go (λ z. put_there units t n u new et en z) (v.target == t && v.unit == n) refl e
   where
     of : (u.target ≡ t) × (u.unit ≡ n)
@@ -83,7 +70,7 @@ chosen_contents holds u = go (has_no_current u.current && not (is_held holds u.t
     go false p = refl
 
 chosen_there : (holds : List Nexus) (units : List UnitState) (t n : ℕ) (u : UnitState) → unit_state_at units t n ≡ Some u → unit_state_at (units_after_choice holds units) t n ≡ Some (unit_after_choice holds u)
-chosen_there holds [] t n u e = no_unit u e
+chosen_there holds [] t n u e = none_some u e
 chosen_there holds (v ∷ units) t n u e = go (λ z. chosen_there holds units t n u z) (v.target == t && v.unit == n) refl e
   where
     test : ((unit_after_choice holds v).target == t && (unit_after_choice holds v).unit == n) ≡ (v.target == t && v.unit == n)

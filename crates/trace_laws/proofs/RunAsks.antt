@@ -1,7 +1,6 @@
 -- Of a prompt trace: as a byte of DATA OUT crosses, it is one of the run; and all are answered as the phase is left.
-use Rattle.std.proofs.Common.{ℕ, ◌≡◌, ◌⊎◌, inl, inr, ◌+◌, ◌≤◌, ◌<◌, Bool, true, false, not, ◌&&◌, ◌∙◌, List, ◌∷◌, length, Option, Some, None, refl, sym, ap, subst, arith, true≢false}
+use Rattle.std.proofs.Common.{ℕ, ◌≡◌, ◌+◌, ◌≤◌, ◌<◌, Bool, true, false, not, ◌&&◌, ◌∙◌, List, ◌∷◌, length, Option, Some, None, refl, sym, ap, subst, arith, true≢false}
 use Rattle.std.specs.Prelude.{if◌then◌else◌, is_some, nat_lt, ◌==◌}
-use Rattle.std.proofs.lemmas.Bool.Decides.{nat_tests}
 use Rattle.bus_trace.proofs.Buses.{bus_on}
 use Rattle.bus_trace.specs.LineSet.{LineSet}
 use Rattle.bus_trace.specs.declared.Row.{Row}
@@ -20,7 +19,7 @@ use Rattle.disk_array.specs.ArrayHistory.{array_after}
 use Rattle.disk_array.specs.Execution.{Reply}
 use Rattle.disk_array.specs.Processes.{Process}
 use Rattle.bus_story.specs.BusState.{row_reading}
-use Rattle.bus_story.specs.Links.{Link}
+use Rattle.disk_unit.proofs.Touched.{from_not_lt}
 use Rattle.bus_dialogue.specs.declared.exchange.Phase.TheVariants as phases
 use Rattle.bus_dialogue.specs.declared.exchange.Task.{Task}
 use Rattle.bus_dialogue.specs.Arrivals.{policy_of}
@@ -38,7 +37,6 @@ use Rattle.bus_due.specs.RunSteps.{run_state}
 use Rattle.bus_due.specs.Sights.{serving_of, offering_of}
 use Rattle.bus_due.specs.Tasks.{is_writing, task_of, task_if, moved_count, reply_now}
 use Rattle.bus_due.proofs.Plains.{run_state_plain}
-use Rattle.bus_books.specs.Knowing.{Knows}
 use Rattle.bus_books.specs.Reactions.{IsOver}
 use Rattle.bus_laws.specs.Reactions.{unreset_due}
 use Rattle.bus_laws.specs.Rows.{row_of_lines}
@@ -53,15 +51,16 @@ use Rattle.trace_laws.specs.RunCounts.{AreCounted, pulses_here, CountFacts}
 use Rattle.trace_laws.specs.RunFacts.{RunFacts}
 use Rattle.trace_laws.proofs.ConnectionRows.{connection_row, stage_of_connection}
 use Rattle.trace_laws.proofs.Crossings.{RowFacts, stays, ends_here}
-use Rattle.trace_laws.proofs.Driven.{wrong}
-use Rattle.trace_laws.proofs.Joint.{Stood}
+use Rattle.trace_laws.proofs.Impossible.{wrong, wrong'}
+use Rattle.trace_laws.proofs.Joint.{Stood, here_served}
 use Rattle.trace_laws.proofs.LinkRows.{link_row}
 use Rattle.trace_laws.proofs.Plans.{is_directed, writes_of, writes_out}
-use Rattle.trace_laws.proofs.PointerRows.{wrong', phase_by}
+use Rattle.trace_laws.proofs.PointerRows.{phase_by}
 use Rattle.trace_laws.proofs.RunFacts.{AnswersAll, run_active, crossing_begun}
 use Rattle.trace_laws.proofs.RunParts.{byte_within}
 use Rattle.trace_laws.proofs.RunPulses.{PulseStep, settle_step, pulse_step}
 use Rattle.trace_laws.proofs.RunSteps.{link_step, pulsed_as, no_in}
+use Rattle.trace_laws.proofs.Tests.{risen}
 
 -- ---- what the row does with REQ and ACK
 
@@ -98,9 +97,6 @@ out_step s p row n prompt was con calm off b phase after = elim (reset_or_calm s
 
 -- ---- the phase is left
 
-not_lt : (a b : ℕ) → nat_lt a b ≡ false → b ≤ a
-not_lt a b e = grind (arith, nat_tests)
-
 both_ways : (a b : ℕ) → a ≤ b → b ≤ a → a ≡ b
 both_ways a b h k = omega (arith, h, k)
 
@@ -132,10 +128,10 @@ answers_all s p row n o prompt was facts con calm off after b ep q t served task
     over : IsOver s k n → (q : Bool) → pulses_here p ≡ q → (handshakes p).answers ≡ run_count s p n
     over v true u =
         let even = (out_step s p row n prompt was con calm off b here after).even u ep in
-        let none = not_lt (handshakes p).requests (run_count s p n) (sym (follows ∙ ap (λ (x : Bool). if x then nat_lt (handshakes p).requests (run_count s p n) else nat_lt (handshakes p).answers (run_count s p n)) u) ∙ v.follows) in
+        let none = from_not_lt (handshakes p).requests (run_count s p n) (sym (follows ∙ ap (λ (x : Bool). if x then nat_lt (handshakes p).requests (run_count s p n) else nat_lt (handshakes p).answers (run_count s p n)) u) ∙ v.follows) in
         both_ways (handshakes p).answers (run_count s p n) counts.within (subst (λ (x : ℕ). run_count s p n ≤ x) even none)
     over v false u =
-        let none = not_lt (handshakes p).answers (run_count s p n) (sym (follows ∙ ap (λ (x : Bool). if x then nat_lt (handshakes p).requests (run_count s p n) else nat_lt (handshakes p).answers (run_count s p n)) u) ∙ v.follows) in
+        let none = from_not_lt (handshakes p).answers (run_count s p n) (sym (follows ∙ ap (λ (x : Bool). if x then nat_lt (handshakes p).requests (run_count s p n) else nat_lt (handshakes p).answers (run_count s p n)) u) ∙ v.follows) in
         both_ways (handshakes p).answers (run_count s p n) counts.within none
 
     by : RowFacts s p row n → k.handshakes.answers ≡ run_length (policy_of (target_def_of s n.target)) t
@@ -148,20 +144,6 @@ answers_all s p row n o prompt was facts con calm off after b ep q t served task
         none_connection e = absurd cc
 
 -- ---- a byte crosses
-
-no_process : {A : Type 0} (q : Process) → (let x : Option Process = None in x) ≡ Some q → A
-no_process q e = absurd cc
-
--- The process that the initiator knows is the one that is served.
-here_served : (s : ScenarioValue) (k : RunState) (n : Connection) (q : Process) → Knows s k n → process_here s k ≡ Some q → process_served s k ≡ Some q
-here_served s k n q w e = go w.item_is
-  where
-    item : process_item s w.link.item ≡ Some q
-    item = ap (λ (l : Option Link). process_item s (item_of l)) (sym w.link_is) ∙ e
-
-    go : (w.link.item ≡ k.served) ⊎ ((n.reselected ≡ true) × (w.link.item ≡ None)) → process_served s k ≡ Some q
-    go (inl z) = ap (process_item s) (sym z) ∙ item
-    go (inr z) = no_process q (sym (ap (process_item s) z.1) ∙ item)
 
 out_phase : (b : LineSet) → is_data b ≡ true → b.io ≡ false → phase_of b ≡ phases.DataOut
 out_phase b e f = go b.msg b.cd b.io e f
@@ -179,10 +161,6 @@ moved_few q r w = go (r.status == GOOD) (is_writing q) w
     go true true e = omega arith
     go true false e = absurd (true≢false (sym e))
     go false b e = omega arith
-
-raised_ack : (a b : Bool) → rises a b ≡ true → a ≡ false
-raised_ack true b e = wrong' e
-raised_ack false b e = refl
 
 rise_of : (n : Connection) (c : Change) → c.before.io ≡ false → is_some (receiver_in n c) ≡ true → rises c.before.ack c.after.ack ≡ true
 rise_of n c io e = go (rises c.before.ack c.after.ack) (sym (ap (λ (q : Bool). is_some (if q then (if rises c.before.req c.after.req then Some n.initiator else None) else (if rises c.before.ack c.after.ack then Some n.target else None))) io) ∙ e)
@@ -247,7 +225,7 @@ run_moved s p row n o prompt was facts counted con calm off after q known crosse
         let more = ((out_step s p row n prompt was con calm off b here after).step.answers rose).1 u in
         let few = counts.pulses u in
         omega (arith, more, few)
-    answered_p false u = (counts.waits u (((out_step s p row n prompt was con calm off b here after).step.answers rose).0 u) (raised_ack (bus p).ack (bus (row ∷ p)).ack rose)).0
+    answered_p false u = (counts.waits u (((out_step s p row n prompt was con calm off b here after).step.answers rose).0 u) (risen (bus p).ack (bus (row ∷ p)).ack rose)).0
 
     answered : k.handshakes.answers < run_count s p n
     answered = subst (λ (h : Handshakes). h.answers < run_count s p n) (sym pl.handshakes) (answered_p (pulses_here p) refl)

@@ -2,6 +2,7 @@
 use Rattle.std.proofs.Common.{ℕ, ◌≡◌, ◌⊎◌, inl, inr, Bool, true, false, not, ◌&&◌, ◌∙◌, List, [], ◌∷◌, Option, Some, None, refl, sym, ap, subst, arith}
 use Rattle.std.specs.Prelude.{if◌then◌else◌, is_some, nat_lt, ◌-◌}
 use Rattle.std.specs.List.{list_any}
+use Rattle.std.proofs.lemmas.Option.{same_Some}
 use Rattle.bus_base.specs.declared.Event.{Event}
 use Rattle.bus_base.specs.declared.Event.TheVariants as events
 use Rattle.std.proofs.lemmas.Bool.Decides.{nat_tests}
@@ -38,11 +39,13 @@ use Rattle.bus_due.specs.RunState.{RunState, or_start, array_of, bus_of, process
 use Rattle.bus_due.specs.RunSteps.{array_after_events}
 use Rattle.bus_due.specs.Sights.{leaving, serving_of}
 use Rattle.bus_due.specs.Tasks.{is_writing, task_of, task_if, size_of, room_of, is_idle_unit}
-use Rattle.trace_laws.proofs.PointerRows.{run_lines, wrong'}
+use Rattle.trace_laws.proofs.Impossible.{none_some, wrong'}
+use Rattle.trace_laws.proofs.PointerRows.{run_lines}
 use Rattle.trace_laws.proofs.RunArrivals.{SameRun, array_waited, unit_waited, waits_same}
 use Rattle.trace_laws.proofs.RunEntries.{IsRunEntry, enters_run}
 use Rattle.trace_laws.proofs.RunFacts.{task_here, none_in_all, write_no_sense}
 use Rattle.trace_laws.proofs.RunParts.{RunsFit}
+use Rattle.trace_laws.proofs.Tests.{not_false}
 
 -- ---- the row tells no event
 
@@ -89,15 +92,6 @@ run_kept s k j policy q a er = same_length policy (task_here s k q) (task_here s
 
 -- ---- what is known as DATA OUT is entered
 
-none_task : {A : Type 0} (t : Task) → (let o : Option Task = None in o) ≡ Some t → A
-none_task t e = absurd cc
-
-same_task : (x y : Task) → (let o : Option Task = Some x in o) ≡ Some y → x ≡ y
-same_task x y e = cc
-
-none_left : {A : Type 0} (n : Connection) → (let o : Option Connection = None in o) ≡ Some n → A
-none_left n e = absurd cc
-
 pub record BeginsRun (s : ScenarioValue) (k : RunState) (n : Connection) : Type 0 where
   pub process : Process
   pub served_is : process_served s k ≡ Some process
@@ -110,9 +104,9 @@ begins_by : (s : ScenarioValue) (k : RunState) (n : Connection) → (leaving s k
 begins_by s k n done t task writes more from = go (process_served s k) refl
   where
     go : (o : Option Process) → process_served s k ≡ o → BeginsRun s k n
-    go None e = none_task t (sym (ap (task_if s k) e) ∙ task)
+    go None e = none_some t (sym (ap (task_if s k) e) ∙ task)
     go (Some q) e =
-        let same : t ≡ task_here s k q = sym (same_task (task_here s k q) t (sym (ap (task_if s k) e) ∙ task)) in
+        let same : t ≡ task_here s k q = sym (same_Some (task_here s k q) t (sym (ap (task_if s k) e) ∙ task)) in
         record {
           process = q;
           served_is = e;
@@ -139,10 +133,6 @@ none_full policy r h = go r.full (is_never policy && r.idle) h
     go true n (inl z) = absurd cc
     go true n (inr z) = absurd cc
     go false n z = refl
-
-not_false : (b : Bool) → not b ≡ false → b ≡ true
-not_false true e = refl
-not_false false e = sym e
 
 enters_queue : (s : ScenarioValue) (a : Array) (q : Process) (u : UnitState) → process_of s q.id ≡ Some q → unit_state_at a.units q.target q.unit ≡ Some u → is_request_sense (command_of q.cdb) ≡ false → nat_lt (process_count u) u.depth ≡ true → step s (events.Accept q.id) a ≡ Some (array_waited a u q)
 enters_queue s a q u own e senses room =

@@ -45,8 +45,9 @@ use Rattle.link_laws.specs.Pulses.{run_count}
 use Rattle.trace_laws.specs.RunFacts.{RunFacts, IsServedWell}
 use Rattle.trace_laws.proofs.ConnectionRows.{connection_row}
 use Rattle.trace_laws.proofs.Crossings.{RowFacts, stays, ends_here}
+use Rattle.trace_laws.proofs.Impossible.{none_some, wrong'}
 use Rattle.trace_laws.proofs.Joint.{Stood, NextStood}
-use Rattle.trace_laws.proofs.PointerRows.{run_lines, wrong', phase_by}
+use Rattle.trace_laws.proofs.PointerRows.{run_lines, phase_by}
 use Rattle.trace_laws.proofs.PointerTurns.{runs_more}
 use Rattle.trace_laws.proofs.RunArrivals.{SameRun}
 use Rattle.trace_laws.proofs.RunBegins.{BeginsRun, begins_run, status_none, queued, row_queues, none_queued, arrives, run_kept}
@@ -116,9 +117,6 @@ entry_array s k n q w served writes is fit more entry before same = by entry
     by (inr z) = command z.0 (subst (λ (x : Phase). (arrival_at s k n.target x ≡ arrivals.Guest) ⊎ (arrival_at s k n.target x ≡ arrivals.AtOnce)) z.0 z.1) w.item_is
 
 -- ---- the run
-
-none_left : {A : Type 0} (n : Connection) → (let o : Option Connection = None in o) ≡ Some n → A
-none_left n e = absurd cc
 
 no_more : (m : ℕ) (b : Bool) → b ≡ false → m + one_if b ≡ m
 no_more m b e = ap (λ (x : Bool). m + one_if x) e ∙ none m
@@ -196,7 +194,7 @@ run_begun s p row n o prompt was nx facts con calm off after ep phase = by (conn
         count = ap (λ (x : Option Item). run_length_if policy (task_if s j (process_item s x))) (λ i. served_after s k (con_k i) (next i)) ∙ ap (λ (x : Option Process). run_length_if policy (task_if s j x)) r.served_is
 
     by : RowFacts s p row n → 1 ≤ run_count s (row ∷ p) n
-    by (ends_here g) = none_left n (sym g.stopped ∙ after)
+    by (ends_here g) = none_some n (sym g.stopped ∙ after)
     by (stays g) = go (begun p) refl
       where
         same : g.change ≡ change_of p row

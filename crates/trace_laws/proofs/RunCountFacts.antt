@@ -33,8 +33,9 @@ use Rattle.trace_laws.specs.RunCounts.{AreCounted, pulses_here, CountFacts}
 use Rattle.trace_laws.specs.RunFacts.{RunFacts}
 use Rattle.trace_laws.proofs.ConnectionRows.{RowKindOf, begins_now, goes_now, row_kind, GoingRow, going_row, connection_row, stage_of_connection}
 use Rattle.trace_laws.proofs.FirstRows.{IsFirst}
+use Rattle.trace_laws.proofs.Impossible.{wrong'}
 use Rattle.trace_laws.proofs.Joint.{Stood, NextStood}
-use Rattle.trace_laws.proofs.PointerRows.{run_lines, wrong', phase_by}
+use Rattle.trace_laws.proofs.PointerRows.{run_lines, phase_by}
 use Rattle.trace_laws.proofs.RunAsks.{out_step}
 use Rattle.trace_laws.proofs.RunBegun.{run_begun}
 use Rattle.trace_laws.proofs.RunCountRows.{pulses_stay, counts_stay}

@@ -1,8 +1,6 @@
 -- What was asked for and answered of a run goes on with each row of DATA OUT.
 use Rattle.std.proofs.Common.{ℕ, ◌≡◌, ◌⊎◌, inl, inr, ◌+◌, ◌≤◌, ◌<◌, ◌^◌, Bool, true, false, not, ◌&&◌, ◌==◌, ◌∙◌, List, ◌∷◌, Option, Some, None, refl, sym, ap, subst, arith, true≢false}
 use Rattle.std.specs.Prelude.{if◌then◌else◌, is_some, nat_lt, ◌%◌}
-use Rattle.std.proofs.lemmas.Bool.Decides.{nat_tests}
-use Rattle.bus_base.specs.Faults.{counted_on}
 use Rattle.bus_trace.specs.LineSet.{LineSet}
 use Rattle.bus_trace.specs.declared.Row.{Row}
 use Rattle.bus_trace.specs.declared.Kind.{Kind}
@@ -28,18 +26,15 @@ use Rattle.bus_books.proofs.InConnection.{InConnection, in_connection, dialogue_
 use Rattle.bus_laws.specs.Rows.{row_of_fault}
 use Rattle.bus_laws.proofs.Rows.{fault_change}
 use Rattle.link_laws.specs.Pulses.{run_count}
+use Rattle.link_laws.proofs.Ahead.{zero_of}
 use Rattle.link_laws.proofs.Moves.{no_rise}
+use Rattle.link_laws.proofs.PulseSteps.{count_more}
 use Rattle.trace_laws.specs.RunCounts.{AreCounted, pulses_here}
-use Rattle.trace_laws.proofs.PointerRows.{run_lines, wrong'}
+use Rattle.trace_laws.proofs.Impossible.{wrong'}
+use Rattle.trace_laws.proofs.PointerRows.{run_lines}
 use Rattle.trace_laws.proofs.RunSteps.{OutStep}
 
 -- ---- counts
-
-counted : (n : ℕ) → n + 1 < 2 ^ 64 → counted_on n ≡ n + 1
-counted n h = omega (arith, h)
-
-zero_is : (n : ℕ) → (n == 0) ≡ true → n ≡ 0
-zero_is n e = grind (arith, nat_tests)
 
 up_before : (a b : Bool) → rises a b ≡ true → (a ≡ false) × (b ≡ true)
 up_before true b e = wrong' e
@@ -84,14 +79,14 @@ counts_by s p n c t pulsed u on short_asked short_answered f k = go (rises c.bef
         some = k.some
 
         by : ((h.requests == 0) ≡ true) ⊎ ((pulses_here p ≡ false → h.answers < run) × (pulses_here p ≡ true → h.requests < run)) → (pulses_here p ≡ true → h.requests + 1 ≤ run) × (pulses_here p ≡ false → h.answers < run)
-        by (inl z) = let none = zero_is h.requests z in let few = k.asked in (λ v. omega (arith, none, some), λ v. omega (arith, none, few, some))
+        by (inl z) = let none = zero_of h.requests z in let few = k.asked in (λ v. omega (arith, none, some), λ v. omega (arith, none, few, some))
         by (inr z) = (λ v. let m = z.1 v in omega (arith, m), z.0)
 
     go : (a : Bool) → rises c.before.ack c.after.ack ≡ a → (r : Bool) → rises c.before.req c.after.req ≡ r → AreCounted (answered_if a t (asked_if r t h)) c.after pulsed run
     go true ea true er = no_both c.before.ack c.after.ack ea (f.asks er).0
     go true ea false er =
         let l = less ea (pulses_here p) refl in
-        let one = counted h.answers short_answered in
+        let one = count_more h.answers short_answered in
         record {
           some = k.some;
           asked = let z = l.1 in omega (arith, one, z);
@@ -101,7 +96,7 @@ counts_by s p n c t pulsed u on short_asked short_answered f k = go (rises c.bef
         }
     go false ea true er =
         let m = asked er in
-        let one = counted h.requests short_asked in
+        let one = count_more h.requests short_asked in
         let few = k.asked in
         record {
           some = k.some;

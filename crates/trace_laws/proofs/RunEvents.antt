@@ -2,7 +2,7 @@
 -- last of its data runs is made, or the phase moves one (6.1.6, 6.6.5, 6.6.6).
 use Rattle.std.proofs.Common.{◌≡◌, Bool, true, false, not, ◌&&◌, ◌||◌, ◌∙◌, List, [], ◌∷◌, Option, Some, None, refl, sym}
 use Rattle.std.specs.Prelude.{if◌then◌else◌, is_some, nat_lt}
-use Rattle.std.proofs.lemmas.Bool.{and_parts}
+use Rattle.std.proofs.lemmas.Bool.{and_parts, or_right}
 use Rattle.bus_base.specs.declared.AbortKind.{AbortKind}
 use Rattle.bus_base.specs.declared.Event.{Event}
 use Rattle.bus_base.specs.declared.Event.TheVariants as events
@@ -34,19 +34,14 @@ use Rattle.bus_dialogue.specs.declared.exchange.Task.{Task}
 use Rattle.bus_dialogue.specs.Arrivals.{policy_of}
 use Rattle.bus_dialogue.specs.DataRuns.{runs_in_all}
 use Rattle.bus_dialogue.specs.Events.{after_opening_events, arrival_event, arrival_events, arrival_run_events, connection_end_events, detected_events, has_replied, is_status_next, loss_events, newest_with, reply_events, turn_events, turn_events_if}
-use Rattle.bus_dialogue.specs.NextPhase.{Serving, after_arrival, after_messages, after_offer, bus_free, message_out_leaving, message_repetition, next_data_phase, phase_entry, phase_leaving, phase_of, pointer_restoration, recovery, recovery_limit, request_or_command, with_task}
+use Rattle.bus_dialogue.specs.NextPhase.{Serving, after_arrival, after_messages, after_offer, bus_free, message_out_leaving, message_repetition, next_data_phase, phase_entry, phase_leaving, phase_of, pointer_restoration, recovery, request_or_command, with_task}
 use Rattle.bus_dialogue.specs.Words.{is_naming, request_by}
 use Rattle.bus_due.specs.RunState.{RunState, bus_of}
 use Rattle.bus_due.specs.Sights.{serving_of}
 use Rattle.bus_due.specs.Telling.{events_of_ends, events_of_ends_in, id_of, initiator_events, is_true_telling, same_event, same_events, target_events}
 use Rattle.trace_laws.specs.RunsWhole.{has_run, is_run}
-
-wrong' : {A : Type 0} → false ≡ true → A
-wrong' e = absurd cc
-
-or_right : (a b : Bool) → b ≡ true → (a || b) ≡ true
-or_right true b e = refl
-or_right false b e = e
+use Rattle.trace_laws.proofs.Impossible.{wrong'}
+use Rattle.trace_laws.proofs.UnknownTurns.{tasks, recovers}
 
 -- ---- the rows show what the ends show
 
@@ -206,18 +201,6 @@ none_if : (b : Bool) (x y : Leaving) → is_status_next x.to ≡ false → is_st
 none_if true x y e f = e
 none_if false x y e f = f
 
-none_with : (o : Option Task) (f : Task → Leaving) → ((t : Task) → is_status_next (f t).to ≡ false) → is_status_next (with_task o f).to ≡ false
-none_with None f e = refl
-none_with (Some t) f e = e t
-
-none_recovered : (def : Option TargetDef) (t : Task) (x y : Leaving) → is_status_next x.to ≡ false → is_status_next y.to ≡ false → is_status_next (recovery def t x y).to ≡ false
-none_recovered def t x y e f = go t.in_hold (nat_lt t.recoveries (recovery_limit def))
-  where
-    go : (a b : Bool) → is_status_next (if a then x else if b then record x { counts = true } else y).to ≡ false
-    go true b = e
-    go false true = e
-    go false false = f
-
 none_opened : (def : Option TargetDef) (n : Bool) (o : Option Agreement) → is_status_next (after_offer def n o).to ≡ false
 none_opened def n (Some offer) = refl
 none_opened def n None = none_if n (request_or_command (request_by def)) (phase_entry phases.Command) (go (request_by def)) refl
@@ -239,9 +222,9 @@ none_out v causes.InMessage e =
     let gives_up : Task → Leaving = λ t. recovery v.def t (message_repetition v.plan) bus_free in
     none_if (is_some v.plan.said.offer) (phase_entry phases.Command) (if is_naming v.plan.messages.first then message_repetition v.plan else with_task v.task gives_up) refl
     (none_if (is_naming v.plan.messages.first) (message_repetition v.plan) (with_task v.task gives_up) refl
-    (none_with v.task gives_up (λ t. none_recovered v.def t (message_repetition v.plan) bus_free refl refl)))
+    (tasks v.task gives_up (λ t. recovers v.def t (message_repetition v.plan) bus_free refl refl)))
 none_out v causes.InData e = absurd cc
-none_out v causes.InStatus e = none_with v.task (λ t. recovery v.def t (pointer_restoration nexts.Status) bus_free) (λ t. none_recovered v.def t (pointer_restoration nexts.Status) bus_free refl refl)
+none_out v causes.InStatus e = tasks v.task (λ t. recovery v.def t (pointer_restoration nexts.Status) bus_free) (λ t. recovers v.def t (pointer_restoration nexts.Status) bus_free refl refl)
 
 -- ---- it follows
 

@@ -2,6 +2,7 @@
 use Rattle.std.proofs.Common.{ℕ, ◌≡◌, ◌⊎◌, inl, inr, ◌+◌, ◌*◌, ◌≤◌, ◌<◌, ◌^◌, Bool, true, false, not, ◌&&◌, ◌∙◌, List, [], ◌∷◌, length, Option, Some, None, Result, Ok, Err, refl, sym, ap, subst, arith, true≢false, ◌≢◌}
 use Rattle.std.specs.Prelude.{if◌then◌else◌, is_some, nat_lt, ◌==◌}
 use Rattle.std.proofs.lemmas.Bool.Decides.{nat_tests}
+use Rattle.std.proofs.lemmas.Option.{same_Some}
 use Rattle.bus_base.specs.Faults.{counted_on}
 use Rattle.bus_base.specs.declared.ProcId.{ProcId}
 use Rattle.bus_trace.specs.LineSet.{LineSet}
@@ -58,6 +59,7 @@ use Rattle.trace_laws.specs.Offers.{OfferFacts}
 use Rattle.trace_laws.specs.RunFacts.{RunsBy, RunFacts}
 use Rattle.trace_laws.proofs.ConnectionRows.{connection_row, stage_of_connection}
 use Rattle.trace_laws.proofs.Crossings.{RowFacts, stays, ends_here}
+use Rattle.trace_laws.proofs.Impossible.{none_some}
 use Rattle.trace_laws.proofs.Joint.{Stood, NextStood, link_phase}
 use Rattle.trace_laws.proofs.Offers.{refuses_later}
 use Rattle.trace_laws.proofs.Plans.{writes_there}
@@ -67,6 +69,7 @@ use Rattle.trace_laws.proofs.PointerTurns.{TurnsBy}
 use Rattle.trace_laws.proofs.RunFits.{FitsRuns, fits_runs}
 use Rattle.trace_laws.proofs.RunParts.{RunsFit, start_is, more_runs}
 use Rattle.trace_laws.proofs.RunRows.{runs_first, runs_row, served_id}
+use Rattle.trace_laws.proofs.Tests.{zero_times}
 
 -- ---- before any row
 
@@ -157,9 +160,6 @@ pub no_room : (a : Array) (o : Option UnitState) → room_of a o ≡ None → si
 no_room a None e = refl
 no_room a (Some u) e = none_of (record { full = not (nat_lt (Rattle.disk_array.specs.Steps.process_count u) u.depth); idle = Rattle.bus_due.specs.Tasks.is_idle_unit a u }) e
 
-zero_times : (n : ℕ) → n * 0 ≡ 0
-zero_times n = omega arith
-
 pub none_in_all : (policy : Policy) (t : Task) → RunsFit policy t → t.size ≡ 0 → runs_in_all policy t ≡ 0
 none_in_all policy t f z = go (t.moved == 0) refl
   where
@@ -173,6 +173,7 @@ none_in_all policy t f z = go (t.moved == 0) refl
 abbrev pub AnswersAll : ScenarioValue → RunState → Connection → Type 0
 AnswersAll s k n = (q : Process) (t : Task) → process_served s k ≡ Some q → task_of s k ≡ Some t → phase_of (bus_of k) ≡ phases.DataOut → k.handshakes.answers ≡ run_length (policy_of (target_def_of s n.target)) t
 
+-- What the target knows of a process.
 abbrev pub task_here : ScenarioValue → RunState → Process → Task
 task_here s k q = task_with (array_of s k) (progress_in k.progress q.id) q (carried_here k q.id) (reply_now (array_of s k) q) (reply_in (array_of s k).replies q.id)
 
@@ -285,9 +286,6 @@ lines_of s p row n c dv lt calm r =
       after = (λ i. connection_after (con i) (call p) (change i) row) ∙ ap (λ (b : Bool). if b then Some n else None) r.stands;
     }
 
-none_connection : {A : Type 0} (n : Connection) → (let o : Option Connection = None in o) ≡ Some n → A
-none_connection n e = absurd cc
-
 pub runs_next : (s : ScenarioValue) (p : List Row) (row : Row) → Obeys s → IsPrompt s (row ∷ p) → length (row ∷ p) < 2 ^ 64 → Stood s p → NextStood s p row → OfferFacts s p → RunPremises s p row → RunFacts s p → RunFacts s (row ∷ p)
 runs_next s p row o prompt short was nx offers asked facts =
     runs_row s k row (record {
@@ -343,7 +341,7 @@ runs_next s p row o prompt short was nx offers asked facts =
         by (stays g) =
             let same : g.change ≡ x = sym g.row_is.change_is ∙ r.change_is in
             g.whereto (ap changes_phase same ∙ ep) (sym pl.begun ∙ b) ∙ ap (λ (y : Change). Some (phase_of y.after)) same
-        by (ends_here g) = none_connection n (sym g.stopped ∙ l.after)
+        by (ends_here g) = none_some n (sym g.stopped ∙ l.after)
 
     turns : (x : Change) (n : Connection) (q : Process) → IsRowIn k row n x → (bus_of k).rst ≡ false → changes_phase x ≡ true → process_served s k ≡ Some q → is_writing q ≡ true → k.exchange.begun ≡ true → TurnsBy s k n q
     turns x n q r calm ep served w b =
@@ -358,9 +356,6 @@ runs_next s p row o prompt short was nx offers asked facts =
 run_phase : {A : Type 0} (x : Phase) → x ≡ phases.DataOut → (x ≡ phases.MessageIn) ⊎ (x ≡ phases.MessageOut) → A
 run_phase x e (inl z) = let bad : phases.DataOut ≡ phases.MessageIn = sym e ∙ z in absurd cc
 run_phase x e (inr z) = let bad : phases.DataOut ≡ phases.MessageOut = sym e ∙ z in absurd cc
-
-same_task : (x y : Task) → (let o : Option Task = Some x in o) ≡ Some y → x ≡ y
-same_task x y e = cc
 
 -- In DATA OUT the data pointer of the process that is served stands as many bytes after the beginning of its run as were answered.
 pub run_active : (s : ScenarioValue) (p : List Row) (n : Connection) → Obeys s → Stood s p → RunFacts s p → connection p ≡ Some n → (bus p).rst ≡ false → begun p ≡ true → (q : Process) (t : Task) → process_served s (run_state s p) ≡ Some q → task_of s (run_state s p) ≡ Some t → phase_of (bus_of (run_state s p)) ≡ phases.DataOut
@@ -386,7 +381,7 @@ run_active s p n o was facts con calm b q t served task phase = go well.pointers
     start = ap (λ (x : ℕ). (task_here s k q).runs * x) (sym f.step) ∙ sym (start_is (policy_for s q) (task_here s k q).blocks (task_here s k q).size (task_here s k q).moved (task_here s k q).runs)
 
     same : task_here s k q ≡ t
-    same = same_task (task_here s k q) t (sym (ap (task_if s k) served) ∙ task)
+    same = same_Some (task_here s k q) t (sym (ap (task_if s k) served) ∙ task)
 
     go : ServedPointers s k q → (carried_here k q.id).moved.active ≡ (run_at (policy_of (target_def_of s q.target)) t t.runs).start + k.handshakes.answers
     go (unnamed l el none h) = run_phase (phase_of (bus_of k)) phase (by h.phase)

@@ -1,7 +1,6 @@
 -- A process that writes moves all the bytes of its blocks, or none; and a unit keeps the size of its blocks.
-use Rattle.std.proofs.Common.{ℕ, ◌≡◌, ◌*◌, Bool, true, false, ◌∙◌, List, length, Option, Some, None, Result, Ok, Err, refl, sym, ap, subst, arith, true≢false}
+use Rattle.std.proofs.Common.{ℕ, ◌≡◌, ◌*◌, Bool, true, false, ◌∙◌, List, length, Option, Some, None, Result, Ok, Err, refl, sym, ap, subst, true≢false}
 use Rattle.std.specs.Prelude.{if◌then◌else◌, ◌==◌, is_some}
-use Rattle.std.proofs.lemmas.Bool.Decides.{nat_tests}
 use Rattle.bus_base.specs.declared.Event.{Event}
 use Rattle.cdb_codec.specs.Cdb.{command_of}
 use Rattle.cdb_codec.specs.declared.command.Command.{Command}
@@ -31,10 +30,12 @@ use Rattle.scsi_device.proofs.FitLines.{obeys_fits, command_fits}
 use Rattle.target_units.specs.Rooms.{IsOfLine, AreOfLines}
 use Rattle.target_units.proofs.Rooms.{by_line, good_range, lines_always, lines_start, sends}
 use Rattle.target_units.proofs.Starts.{start_settled}
+use Rattle.bus_books.proofs.Lookups.{number_is}
 use Rattle.trace_laws.specs.DataPointers.{policy_for, step_in, run_step}
 use Rattle.trace_laws.proofs.PointerEnds.{writer_plain}
 use Rattle.trace_laws.proofs.PolicyLines.{policies_most}
 use Rattle.trace_laws.proofs.RunParts.{RunsFit}
+use Rattle.trace_laws.proofs.Tests.{zero_times}
 
 -- ---- the blocks of units
 
@@ -73,12 +74,6 @@ blocks_named (Ok (commands.Write10 lba count)) e = refl
 written_all : (c : Contents) (r : Result Command CdbFault) → is_write r ≡ true → ((x : Command) → r ≡ Ok x → is_good_range c.count (range_of x) ≡ true) → blocks_written_by c r ≡ count_in (range_in r)
 written_all c (Err fault) w g = absurd (true≢false (sym w))
 written_all c (Ok x) w g = (λ i. if g x refl i then (if w i then count_in (range_of x) else 0) else 0)
-
-good_is : (a b : ℕ) → (a == b) ≡ true → a ≡ b
-good_is a b e = grind (arith, nat_tests)
-
-zero_times : (n : ℕ) → n * 0 ≡ 0
-zero_times n = omega arith
 
 context_same : (a : Array) (p : Process) → context_at a (nexus_of p) (unit_state_at a.units p.target p.unit) ≡ context_of (seat_of a p.target p.unit) p.initiator
 context_same a p = go (unit_state_at a.units p.target p.unit)
@@ -135,7 +130,7 @@ moved_all s a q o lines own w some = go ((reply_now a q).status == GOOD) refl
     go true e = by (has_target s q.target) refl
       where
         by : (b : Bool) → has_target s q.target ≡ b → moved_count q (reply_now a q) ≡ count_in (range_in (command_of q.cdb)) * size_of (unit_state_at a.units q.target q.unit)
-        by true there = moved true e ∙ carried (good_is (reply_now a q).status GOOD e) there
+        by true there = moved true e ∙ carried (number_is (reply_now a q).status GOOD e) there
         by false there = zero_moved (moved true e ∙ none_sent s q o own w there)
 
 -- Its runs fit what it moves, and step by the blocks of its unit.

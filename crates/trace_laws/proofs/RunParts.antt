@@ -2,14 +2,15 @@
 -- the first byte (6.6.6, 6.6.20).
 use Rattle.std.proofs.Common.{ℕ, zero, suc, ◌≡◌, ◌+◌, ◌*◌, ◌<◌, ◌≤◌, Bool, true, false, ◌∙◌, Option, Some, None, refl, sym, ap, subst, arith}
 use Rattle.std.specs.Prelude.{if◌then◌else◌, nat_lt, ◌==◌, ◌&&◌, ◌-◌, ◌/◌, min, ⊤}
-use Rattle.std.proofs.lemmas.Bool.Decides.{nat_tests}
 use Rattle.std.proofs.Math.Nat.{div-mul-le_self}
 use Rattle.scenario.specs.declared.value.Policy.{Policy}
 use Rattle.scenario.specs.declared.value.Policy.TheVariants as policies
 use Rattle.bus_dialogue.specs.declared.exchange.Task.{Task}
 use Rattle.bus_dialogue.specs.DataRuns.{run_in, runs_in, runs_in_all, run_at, run_length}
+use Rattle.bus_books.proofs.RowTies.{lt_is}
 use Rattle.trace_laws.specs.DataPointers.{step_in}
 use Rattle.trace_laws.proofs.PointerLeavings.{MoreRuns, in_bursts, from_start}
+use Rattle.trace_laws.proofs.Tests.{some_count, mul_assoc}
 
 -- Runs are of one block at least.
 abbrev pub HasMost : Policy → Type 0
@@ -30,15 +31,6 @@ pub record RunsFit (policy : Policy) (t : Task) : Type 0 where
 zero_mul : (n : ℕ) → 0 ≡ n * 0
 zero_mul n = omega arith
 
-lt_is : (a b : ℕ) → nat_lt a b ≡ true → a < b
-lt_is a b e = grind (arith, nat_tests)
-
-not_lt : (a b : ℕ) → nat_lt a b ≡ false → b ≤ a
-not_lt a b e = grind (arith, nat_tests)
-
-some_of : (n : ℕ) → (n == 0) ≡ false → 1 ≤ n
-some_of n e = grind (arith, nat_tests)
-
 not_below : (n m : ℕ) → m ≡ 0 → nat_lt n m ≡ true → ⊥
 not_below n m z e = let l = lt_is n m e in absurd omega (arith, l, z)
 
@@ -58,9 +50,6 @@ blocks_left n blocks most h l =
 
 times_less : (a b c : ℕ) → a < b → 1 ≤ c → a * c < b * c
 times_less a b c h k = grind arith
-
-mul_assoc : (a b c : ℕ) → a * (b * c) ≡ a * b * c
-mul_assoc a b c = grind arith
 
 size_some : (blocks size moved : ℕ) → 1 ≤ moved → moved ≡ blocks * size → 1 ≤ size
 size_some blocks size moved h e = go size refl
@@ -139,7 +128,7 @@ has_byte policy t f e =
     let a = in_all policy t t.runs e in
     let l : (run_at policy t t.runs).start < (run_at policy t t.runs).end =
     subst (λ (b : Option ℕ). (run_in policy b t.size t.moved t.runs).start < (run_in policy b t.size t.moved t.runs).end) (sym f.blocks_are)
-    (run_some policy f.blocks t.size t.moved t.runs f.most (some_of t.moved a.0) (f.moved a.0) (subst (λ (b : Option ℕ). t.runs < runs_in policy b) f.blocks_are a.1)) in
+    (run_some policy f.blocks t.size t.moved t.runs f.most (some_count t.moved a.0) (f.moved a.0) (subst (λ (b : Option ℕ). t.runs < runs_in policy b) f.blocks_are a.1)) in
     less (run_at policy t t.runs).start (run_at policy t t.runs).end l
   where
     less : (a b : ℕ) → a < b → 1 ≤ b - a
@@ -175,4 +164,4 @@ pub more_runs : (policy : Policy) (t : Task) → RunsFit policy t → nat_lt (t.
 more_runs policy t f e =
     let a = in_all policy t (t.runs + 1) e in
     subst (λ (b : Option ℕ). MoreRuns policy t.runs (step_in policy b t.size) ((run_in policy b t.size t.moved t.runs).end - (run_in policy b t.size t.moved t.runs).start)) (sym f.blocks_are)
-    (more_by policy f.blocks t.size t.moved t.runs f.most (some_of t.moved a.0) (f.moved a.0) (subst (λ (b : Option ℕ). t.runs + 1 < runs_in policy b) f.blocks_are a.1))
+    (more_by policy f.blocks t.size t.moved t.runs f.most (some_count t.moved a.0) (f.moved a.0) (subst (λ (b : Option ℕ). t.runs + 1 < runs_in policy b) f.blocks_are a.1))

@@ -14,25 +14,24 @@ use Rattle.bus_phases.specs.Dialogue.{dialogue}
 use Rattle.bus_lines.specs.Handshakes.{Handshakes, handshakes}
 use Rattle.scenario.specs.Value.{ScenarioValue}
 use Rattle.bus_reactions.specs.Reactions.{due_at}
+use Rattle.bus_books.proofs.RowTies.{lt_is}
 use Rattle.bus_laws.specs.Ends.{EndLines, initiator_side, target_side, connected_bus, Linked}
 use Rattle.bus_laws.specs.Rows.{row_of_lines, row_of_fault}
-use Rattle.bus_laws.proofs.Dues.{is_at, none_some}
+use Rattle.bus_laws.proofs.Dues.{none_some}
 use Rattle.bus_laws.proofs.Rows.{fault_change}
 use Rattle.bus_rules.specs.Order.{is_of_device}
 use Rattle.link_laws.specs.Phases.{ends, Settling}
 use Rattle.link_laws.specs.Pulses.{Pulsing, times_here, offset_here, run_count}
 use Rattle.link_laws.proofs.Ahead.{never}
 use Rattle.link_laws.proofs.EndDues.{due_of, Mover, by_fault, by_initiator, by_target, target_plain, initiator_plain, offering_with}
-use Rattle.link_laws.proofs.Moves.{initiator_moves, target_moves, phase_same, same_self}
+use Rattle.link_laws.proofs.Moves.{initiator_moves, target_moves, phase_same, same_self, no_rise}
 use Rattle.link_laws.proofs.PulseDues.{pulsed_target_out, pulsed_initiator_out, pulse_time, leaving_time, ack_pulse_end_time, answer_time, release_time, byte_driven_time, given_bits}
 use Rattle.link_laws.proofs.StageDues.{settling_target, settling_initiator, handing_initiator}
 use Rattle.trace_laws.specs.RunCounts.{pulses_here}
+use Rattle.trace_laws.proofs.Impossible.{wrong'}
 use Rattle.trace_laws.proofs.Kept.{turn}
-use Rattle.trace_laws.proofs.PointerRows.{wrong'}
+use Rattle.trace_laws.proofs.LinkRows.{row_at, or_parts}
 use Rattle.trace_laws.proofs.RunSteps.{OutStep, by_initiator_row, by_target_row, struck_row, left_row}
-
-row_at : (row : Row) (d time : ℕ) (l : LineSet) → row.dev ≡ d → due_at time l ≡ Some (due_of row) → row ≡ row_of_lines row.time d l
-row_at row d time l same e = let z = is_at time l (due_of row) e in λ i. record { time = row.time; dev = same i; kind = z.kind_is i }
 
 -- With it by pulses all requests are answered as the phase is left.
 pub record PulseStep (s : ScenarioValue) (p : List Row) (n : Connection) (c : Change) : Type 0 where
@@ -76,15 +75,8 @@ settle_step s p row n bsy atn msg cd io y h (by_target lat there same e) =
 
 -- ---- by pulses
 
-or_parts : (a b : Bool) → (not a || b) ≡ false → (a ≡ true) × (b ≡ false)
-or_parts true b e = (refl, e)
-or_parts false b e = absurd cc
-
 pulses_are : (s : ScenarioValue) (p : List Row) (n : Connection) (req ack atn : Bool) (x : ℕ) → Pulsing s p n false req ack atn x 0 → pulses_here p ≡ true
 pulses_are s p n req ack atn x h = ap (λ (l : LineSet). true && (not l.msg && not l.cd) && nat_lt 0 (dialogue p).heard.now.agreement.offset) h.linked.stands.bus_is ∙ h.offset
-
-lt_is : (a b : ℕ) → nat_lt a b ≡ true → a < b
-lt_is a b e = grind (arith, nat_tests)
 
 some_waits : (r a w : ℕ) → r ≡ a + w → (w == 0) ≡ false → a < r
 some_waits r a w e z = let g : 1 ≤ w = grind (arith, nat_tests) in omega (arith, e, g)
@@ -95,10 +87,6 @@ none_waits r a w e z = let g : w ≡ 0 = grind (arith, nat_tests) in omega (arit
 -- Neither rises.
 idle : (s : ScenarioValue) (p : List Row) (n : Connection) (c : Change) → pulses_here p ≡ true → rises c.before.ack c.after.ack ≡ false → rises c.before.req c.after.req ≡ false → OutStep s p n c
 idle s p n c on a r = record { answers = λ z. wrong' (sym a ∙ z); asks = λ z. wrong' (sym r ∙ z); stays = λ u q b z. absurd (true≢false (sym on ∙ u)) }
-
-no_rise : (q : Bool) → rises q q ≡ false
-no_rise true = refl
-no_rise false = refl
 
 target_step : (s : ScenarioValue) (p : List Row) (row : Row) (n : Connection) (req ack atn : Bool) (x lat : ℕ) → Pulsing s p n false req ack atn x 0 → connection (row ∷ p) ≡ Some n → row.dev ≡ n.target → target_plain s p n true (ends false ack atn x false false false req 0) lat ≡ Some (due_of row) → PulseStep s p n (change_of p row)
 target_step s p row n true ack atn x lat h con same e =

@@ -32,6 +32,7 @@ use Rattle.bus_books.specs.Traces.{Begins, GoesOn, Ends, RowOf, apart, begins, g
 use Rattle.bus_books.proofs.InConnection.{InConnection, in_connection}
 use Rattle.trace_laws.specs.DataPointers.{IsWaiting, ServedPointers, UndoesServed, RefusesLater, IsServedAnew, run_step}
 use Rattle.trace_laws.specs.RunFacts.{IsServedWell, RunsBy}
+use Rattle.trace_laws.proofs.Impossible.{none_some, some_none}
 use Rattle.trace_laws.proofs.PointerStorySteps.{IsNot}
 use Rattle.trace_laws.proofs.PointerRows.{Meets}
 use Rattle.trace_laws.proofs.PointerCrossings.{phase_served, names_or}
@@ -60,19 +61,13 @@ runs_first s = record {
 
 -- ---- which process is served
 
-none_some : {A : Type 0} (n : Connection) → (let o : Option Connection = None in o) ≡ Some n → A
-none_some n e = absurd cc
-
-none_item : {A : Type 0} (x : Item) → (let o : Option Item = None in o) ≡ Some x → A
-none_item x e = absurd cc
-
 -- It is the one that is served, or another.
 pub data Serves (item : Option Item) (id : ProcId) : Type 0 where
   it : item ≡ Some (process id) → Serves item id
   another : IsNot id item → Serves item id
 
 pub serves : (item : Option Item) (id : ProcId) → Serves item id
-serves None id = another (λ x e. none_item (process x) e)
+serves None id = another (λ x e. none_some (process x) e)
 serves (Some (abort n)) id = another (λ x e. never x e)
   where
     never : (x : ProcId) → (let o : Option Item = Some (abort n) in o) ≡ Some (process x) → same_id x id ≡ false
@@ -87,7 +82,7 @@ serves (Some (process y)) id = go (same_id y id) refl
     go false e = another (λ x f. ap (λ (z : ProcId). same_id z id) (sym (same x f)) ∙ e)
 
 none_not : (id : ProcId) (item : Option Item) → item ≡ None → IsNot id item
-none_not id item e x f = none_item (process x) (sym e ∙ f)
+none_not id item e x f = none_some (process x) (sym e ∙ f)
 
 -- The process that is found is the one of this number.
 pub served_id : (s : ScenarioValue) (item : Option Item) (q : Process) → process_item s item ≡ Some q → (item ≡ Some (process q.id)) × (process_of s q.id ≡ Some q)
@@ -149,9 +144,6 @@ apart_on s k row h con next = record {
   undoes = λ n e. none_some n (sym next ∙ e);
   served = λ n q e. none_some n (sym next ∙ e);
 }
-
-some_none : {A : Type 0} (n : Connection) → (let o : Option Connection = Some n in o) ≡ None → A
-some_none n e = absurd cc
 
 begins_on : (s : ScenarioValue) (k : RunState) (row : Row) (n : Connection) → RunsOn s k row → Begins s k row n → RunsBy s (run_state_after s k row)
 begins_on s k row n h b = record {
@@ -260,7 +252,7 @@ reset_on s k row h on = record {
     waits q own w (it served) z = by k.story.bus_state.connection refl
       where
         by : (o : Option Connection) → k.story.bus_state.connection ≡ o → IsWaiting s j q
-        by None con = none_item (process q.id) (sym (h.was.free con) ∙ served)
+        by None con = none_some (process q.id) (sym (h.was.free con) ∙ served)
         by (Some n) con = over_waits s j q (reset_over s k row n q h con on own w served)
 
 -- In a connection.

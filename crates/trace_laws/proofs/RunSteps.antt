@@ -1,7 +1,6 @@
 -- DATA OUT: a byte is asked for while one of the run follows, and answered where it was asked for.
-use Rattle.std.proofs.Common.{ℕ, ◌≡◌, ◌⊎◌, inl, inr, ◌<◌, Bool, true, false, ◌∙◌, List, ◌∷◌, Option, Some, None, refl, sym, ap, subst, arith, true≢false}
+use Rattle.std.proofs.Common.{ℕ, ◌≡◌, ◌⊎◌, inl, inr, ◌<◌, Bool, true, false, ◌∙◌, List, ◌∷◌, Option, Some, None, refl, sym, ap, subst, true≢false}
 use Rattle.std.specs.Prelude.{if◌then◌else◌, nat_lt}
-use Rattle.std.proofs.lemmas.Bool.Decides.{nat_tests}
 use Rattle.bus_trace.specs.LineSet.{LineSet}
 use Rattle.bus_trace.specs.declared.Row.{Row}
 use Rattle.bus_trace.specs.declared.changes.Change.{Change}
@@ -21,6 +20,7 @@ use Rattle.bus_dialogue.specs.NextPhase.{Serving, phase_of, phase_leaving, phase
 use Rattle.bus_dialogue.specs.PhaseBytes.{lines_by}
 use Rattle.bus_due.specs.RunSteps.{run_state}
 use Rattle.bus_due.specs.Sights.{serving_at}
+use Rattle.bus_books.proofs.RowTies.{lt_is}
 use Rattle.bus_laws.specs.Ends.{EndLines, initiator_side, target_side, connected_bus, Linked}
 use Rattle.bus_laws.specs.Rows.{row_of_lines, row_of_fault, change_to}
 use Rattle.bus_laws.proofs.Rows.{fault_change}
@@ -30,10 +30,11 @@ use Rattle.link_laws.proofs.EndDues.{offering_with}
 use Rattle.link_laws.proofs.Moves.{initiator_moves, target_moves, no_rise}
 use Rattle.trace_laws.specs.RunCounts.{pulses_here}
 use Rattle.trace_laws.proofs.AttentionRows.{lines_are}
+use Rattle.trace_laws.proofs.Impossible.{none_some, wrong'}
 use Rattle.trace_laws.proofs.Kept.{turn}
 use Rattle.trace_laws.proofs.LinkRows as rows
 use Rattle.trace_laws.proofs.LinkRows.{LinkRow, is_pulsed, is_unasked}
-use Rattle.trace_laws.proofs.PointerRows.{run_lines, wrong'}
+use Rattle.trace_laws.proofs.PointerRows.{run_lines}
 use Rattle.trace_laws.proofs.Turns.{freed_connection}
 
 -- What a row does with REQ and ACK in DATA OUT.
@@ -60,9 +61,6 @@ struck_row s p t d bit n e h =
     subst (λ (c : Change). OutStep s p n c) (sym (fault_change p t d bit b (drives p d) h.stands.bus_is refl))
     (rests s p n (change_to b b (drives p d) (drives p d)) (no_rise e.ack) (no_rise e.req) (λ u q z. (q, z)))
 
-none_some : (n : Connection) → (let a : Option Connection = None in a) ≡ Some n → ⊥
-none_some n e = absurd cc
-
 -- The phase is left: REQ is false after it.
 leaves_for : (s : ScenarioValue) (p : List Row) (t : ℕ) (n : Connection) (atn msg cd io : Bool) (x y : ℕ) (v : Serving) (l : Leaving) (o : Option Phase) → Linked p n (ends false false atn x msg cd io false y) → connection (row_of_lines t n.target (lines_by v io l o) ∷ p) ≡ Some n → OutStep s p n (change_of p (row_of_lines t n.target (lines_by v io l o)))
 leaves_for s p t n atn msg cd io x y v l None h con = absurd (none_some n (sym (freed_connection p t n (ends false false atn x msg cd io false y) refl h) ∙ con))
@@ -88,9 +86,6 @@ pulsed_as p n e h = ap (λ (l : LineSet). is_pulsed_phase true l (dialogue p).he
 -- In DATA OUT I/O is false.
 pub no_in : {A : Type 0} (p : List Row) (n : Connection) (e : EndLines) → Linked p n e → phase_of (bus p) ≡ phases.DataOut → e.io ≡ true → A
 no_in p n e h phase io = absurd (true≢false (sym io ∙ (run_lines (connected_bus e) (ap phase_of (sym h.stands.bus_is) ∙ phase)).2))
-
-lt_is : (a b : ℕ) → nat_lt a b ≡ true → a < b
-lt_is a b e = grind (arith, nat_tests)
 
 -- REQ rises: first, or while a byte follows.
 first_asked : (s : ScenarioValue) (p : List Row) (t : ℕ) (n : Connection) (bsy atn msg cd io : Bool) (y : ℕ) → Linked p n (ends bsy false atn 0 msg cd io false y) → is_unasked p ≡ true → OutStep s p n (change_of p (row_of_lines t n.target (target_side (ends bsy false atn 0 msg cd io true y))))

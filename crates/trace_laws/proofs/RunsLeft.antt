@@ -1,7 +1,6 @@
 -- A process that writes, and has no reply, has a data run left, or has made none, with each row of a prompt trace.
-use Rattle.std.proofs.Common.{ℕ, ◌≡◌, ◌⊎◌, inl, inr, ◌<◌, ◌+◌, Bool, true, false, ◌&&◌, ◌||◌, ◌==◌, ◌∙◌, List, [], ◌∷◌, Option, Some, None, refl, sym, ap, subst, arith}
+use Rattle.std.proofs.Common.{ℕ, ◌≡◌, ◌⊎◌, inl, inr, ◌<◌, ◌+◌, Bool, true, false, ◌&&◌, ◌==◌, ◌∙◌, List, [], ◌∷◌, Option, Some, None, refl, sym, ap, subst, arith}
 use Rattle.std.specs.Prelude.{if◌then◌else◌, is_some, nat_lt}
-use Rattle.std.proofs.lemmas.Bool.Decides.{nat_tests}
 use Rattle.std.proofs.lemmas.Option.{same_Some}
 use Rattle.bus_base.specs.declared.Event.{Event}
 use Rattle.bus_base.specs.declared.ProcId.{ProcId}
@@ -41,10 +40,13 @@ use Rattle.bus_due.specs.RunSteps.{array_after_events, leaving_of, progress_afte
 use Rattle.bus_due.specs.Sights.{leaving, serving_of}
 use Rattle.bus_due.specs.Tasks.{is_writing, task_if}
 use Rattle.bus_due.proofs.Plains.{run_state_plain}
+use Rattle.scsi_device.proofs.Finds.{none_is}
+use Rattle.bus_books.specs.Hearing.{is_in_phase}
 use Rattle.bus_books.specs.Rows.{RowKind, still, strikes, crosses, turns}
 use Rattle.bus_books.specs.Traces.{GoesOn, RowOf, apart, begins, goes_on, ends, under_reset}
 use Rattle.bus_books.proofs.InConnection.{InConnection, in_connection, reading_is}
 use Rattle.bus_books.proofs.Lookups.{id_is, self_id}
+use Rattle.bus_books.proofs.RowTies.{lt_is}
 use Rattle.bus_laws.proofs.Apart.{change_plain}
 use Rattle.bus_laws.proofs.Prompt.{least_is}
 use Rattle.trace_laws.specs.DataPointers.{policy_for}
@@ -56,47 +58,27 @@ use Rattle.trace_laws.proofs.CountedRuns.{counted_runs, same_runs}
 use Rattle.trace_laws.proofs.Crossings.{RowFacts, stays, ends_here}
 use Rattle.trace_laws.proofs.CutConnections.{HoldFacts, cut_phase}
 use Rattle.trace_laws.proofs.DoneRuns.{DoneOut, done_in_data, out_done}
+use Rattle.trace_laws.proofs.Impossible.{wrong, wrong', none_some}
 use Rattle.trace_laws.proofs.Joint.{NextStood, Stood}
 use Rattle.trace_laws.proofs.ListedReplies.{listed_on, replies_to}
 use Rattle.trace_laws.proofs.RunFacts.{task_here}
-use Rattle.trace_laws.proofs.WriteRows.{runs_kept, served_is}
+use Rattle.trace_laws.proofs.RunRows.{served_id}
+use Rattle.trace_laws.proofs.Tests.{second_false}
+use Rattle.trace_laws.proofs.WriteRows.{runs_kept}
 use Rattle.trace_laws.proofs.WriteTurns.{progress_apart, progress_ends, progress_turns, same_progress}
 use Rattle.trace_laws.proofs.Written.{left_by}
 
-wrong : {A : Type 0} → true ≡ false → A
-wrong e = absurd cc
-
-wrong' : {A : Type 0} → false ≡ true → A
-wrong' e = absurd cc
-
-no_array : {A : Type 0} (b : Array) → (let o : Option Array = None in o) ≡ Some b → A
-no_array b e = absurd cc
-
-no_reply : {A : Type 0} (r : Reply) → (let o : Option Reply = None in o) ≡ Some r → A
-no_reply r e = absurd cc
-
-no_connection : {A : Type 0} (n : Connection) → (let o : Option Connection = None in o) ≡ Some n → A
-no_connection n e = absurd cc
-
 -- ---- a reply that was given stays listed
-
-lone_reply : (o : Option Reply) → is_some o ≡ false → o ≡ None
-lone_reply None e = refl
-lone_reply (Some r) e = wrong e
-
-second_false : (a b : Bool) → (a || b) ≡ false → b ≡ false
-second_false true b e = wrong e
-second_false false b e = e
 
 unlisted : (s : ScenarioValue) (id : ProcId) (o : Option Array) (shown : List Event) (b : Array) → array_after_events s o shown ≡ Some b → reply_in b.replies id ≡ None → reply_in (or_start s o).replies id ≡ None
 unlisted s id o [] b e none = subst (λ (x : Option Array). reply_in (or_start s x).replies id ≡ None) (sym e) none
 unlisted s id o (x ∷ shown) b e none = go (λ c f z. unlisted s id o shown c f z) (array_after_events s o shown) refl e
   where
     go : ((c : Array) → array_after_events s o shown ≡ Some c → reply_in c.replies id ≡ None → reply_in (or_start s o).replies id ≡ None) → (t : Option Array) → array_after_events s o shown ≡ t → array_step s x t ≡ Some b → reply_in (or_start s o).replies id ≡ None
-    go earlier None f z = no_array b z
+    go earlier None f z = none_some b z
     go earlier (Some c) f z =
         earlier c f
-        (lone_reply (reply_in c.replies id) (second_false (replies_to x id) (is_some (reply_in c.replies id)) (sym (listed_on s c b x z id) ∙ ap (λ (y : Option Reply). is_some y) none)))
+        (none_is (reply_in c.replies id) (second_false (replies_to x id) (is_some (reply_in c.replies id)) (sym (listed_on s c b x z id) ∙ ap (λ (y : Option Reply). is_some y) none)))
 
 -- ---- a data run is done
 
@@ -130,9 +112,6 @@ done_left v attention phase e = by (done_in_data v attention phase e)
     by (inr f) = subst (DoneLeft v attention) (sym f) (done_out v attention (ap (λ (x : Phase). (phase_leaving v attention x).done) (sym f) ∙ e))
 
 -- Another run follows it, or STATUS.
-lt_is : (a b : ℕ) → nat_lt a b ≡ true → a < b
-lt_is a b e = grind (arith, nat_tests)
-
 not_below : (n : ℕ) → nat_lt n 0 ≡ true → ⊥
 not_below n e = let l = lt_is n 0 e in absurd omega (arith, l)
 
@@ -153,9 +132,6 @@ one_more made id counts = λ i. (if self_id id i then record { id = id; runs = (
 
 other_id : (a b : ProcId) → same_id b a ≡ false → a ≡ b → ⊥
 other_id a b e f = wrong (sym (self_id b) ∙ ap (same_id b) (sym f) ∙ e)
-
-same_task : (x y : Task) → (let o : Option Task = Some x in o) ≡ Some y → x ≡ y
-same_task x y e = cc
 
 -- ---- before any row
 
@@ -189,7 +165,7 @@ kept_by s p row q h e = kept s p row q h (ap (λ (m : List ProcessProgress). (pr
 
 -- Its own run is done as the phase is left for STATUS: with that it has a reply.
 answers : {A : Type 0} (s : ScenarioValue) (p : List Row) (row : Row) (n : Connection) (c : Change) (q : Process) → LeftRow s p row q → GoesOn s (run_state s p) row n c → changes_phase c ≡ true → receiver_in n c ≡ None → is_fault row.kind ≡ false → (run_state s p).exchange.begun ≡ true → process_served s (run_state s p) ≡ Some q → (leaving s (run_state s p) n.target).to ≡ Some phases.Status → A
-answers s p row n c q h g ep er ef b served to = no_reply placed.answered.reply (sym h.none ∙ ap (λ (a : Option Array). reply_in (or_start s a).replies q.id) h.places.array_is ∙ placed.answered.given)
+answers s p row n c q h g ep er ef b served to = none_some placed.answered.reply (sym h.none ∙ ap (λ (a : Option Array). reply_in (or_start s a).replies q.id) h.places.array_is ∙ placed.answered.given)
   where
     k : RunState
     k = run_state s p
@@ -213,7 +189,7 @@ answers s p row n c q h g ep er ef b served to = no_reply placed.answered.reply 
     goes_to (stays f) =
         let same : f.change ≡ c = sym f.row_is.change_is ∙ g.row_is.change_is in
         f.whereto (ap changes_phase same ∙ ep) (sym pl.begun ∙ b) ∙ ap (λ (x : Change). Some (phase_of x.after)) same
-    goes_to (ends_here f) = no_connection n (sym f.stopped ∙ sym ql.connection ∙ i.connection_is)
+    goes_to (ends_here f) = none_some n (sym f.stopped ∙ sym ql.connection ∙ i.connection_is)
 
     status : phase_of (bus_of j) ≡ phases.Status
     status =
@@ -249,7 +225,7 @@ own_run s p row n c q h g ep er ef b served done = by (nat_lt (d.task.runs + 1) 
     d = done_left v (bus_of k).atn (phase_of (bus_of k)) (sym (ap (λ (l : Leaving). l.done) left) ∙ done)
 
     task : d.task ≡ task_here s k q
-    task = sym (same_task (task_here s k q) d.task (sym (ap (task_if s k) served) ∙ d.task_is))
+    task = sym (same_Some (task_here s k q) d.task (sym (ap (task_if s k) served) ∙ d.task_is))
 
     target : q.target ≡ n.target
     target = (h.facts.served n q g.row_is.connection_is g.calm served h.writes).target_is
@@ -280,7 +256,7 @@ turned s p row n c q h g ep er ef true eb (Some x) eo = done l.done refl
 
     own : (same : x.id ≡ q.id) → l.done ≡ true → HasRunLeft (run_total s q) (progress_in (progress_with k.progress x.id true l.counts) q.id).runs
     own same e =
-        let is : x ≡ q = same_Some x q (sym (served_is s k.served x eo).1 ∙ ap (process_of s) same ∙ h.own) in
+        let is : x ≡ q = same_Some x q (sym (served_id s k.served x eo).1 ∙ ap (process_of s) same ∙ h.own) in
         subst (λ (y : Process). HasRunLeft (run_total s q) (progress_in (progress_with k.progress y.id true l.counts) q.id).runs) (sym is)
         (subst (HasRunLeft (run_total s q)) (sym (one_more k.progress q.id l.counts)) (own_run s p row n c q h g ep er ef eb (eo ∙ ap (λ (y : Process). Some y) is) e))
 
@@ -312,26 +288,22 @@ going s p row n c q h g = by g.row_is.kind
 
 -- ---- under RST no data phase is left
 
-abbrev is_in : Phase → Bool
-is_in phases.MessageIn = true
-is_in _ = false
-
-message_in_is : (b : LineSet) → is_message_in b ≡ true → is_in (phase_of b) ≡ true
+message_in_is : (b : LineSet) → is_message_in b ≡ true → is_in_phase (phase_of b) ≡ true
 message_in_is b e = go b.msg b.cd b.io e
   where
-    go : (m d i : Bool) → (m && d && i) ≡ true → is_in (if m then (if i then phases.MessageIn else phases.MessageOut) else if d then (if i then phases.Status else phases.Command) else if i then phases.DataIn else phases.DataOut) ≡ true
+    go : (m d i : Bool) → (m && d && i) ≡ true → is_in_phase (if m then (if i then phases.MessageIn else phases.MessageOut) else if d then (if i then phases.Status else phases.Command) else if i then phases.DataIn else phases.DataOut) ≡ true
     go true true true z = refl
     go true true false z = wrong' z
     go true false i z = wrong' z
     go false d i z = wrong' z
 
-no_data : (phase : Phase) → is_in phase ≡ true → (phase ≡ phases.DataIn) ⊎ (phase ≡ phases.DataOut) → ⊥
-no_data phase e (inl f) = wrong' (sym (ap is_in f) ∙ e)
-no_data phase e (inr f) = wrong' (sym (ap is_in f) ∙ e)
+no_data : (phase : Phase) → is_in_phase phase ≡ true → (phase ≡ phases.DataIn) ⊎ (phase ≡ phases.DataOut) → ⊥
+no_data phase e (inl f) = wrong' (sym (ap is_in_phase f) ∙ e)
+no_data phase e (inr f) = wrong' (sym (ap is_in_phase f) ∙ e)
 
 same_if : (m n : Connection) (b : Bool) → (if b then Some m else None) ≡ Some n → m ≡ n
 same_if m n true e = same_Some m n e
-same_if m n false e = no_connection n e
+same_if m n false e = none_some n e
 
 cut : (s : ScenarioValue) (p : List Row) (row : Row) (q : Process) → LeftRow s p row q → (bus (row ∷ p)).rst ≡ true → Left s p row q
 cut s p row q h on = go k.story.bus_state.connection refl d.next refl (changes_phase d.change) refl
@@ -351,7 +323,7 @@ cut s p row q h on = go k.story.bus_state.connection refl d.next refl (changes_p
     next : d.next ≡ connection (row ∷ p)
     next = λ i. connection_after (pl.connection i) (pl.call i) (change i) row
 
-    said : (m : Connection) → k.story.bus_state.connection ≡ Some m → (n : Connection) → d.next ≡ Some n → changes_phase d.change ≡ true → is_in (phase_of (bus_of k)) ≡ true
+    said : (m : Connection) → k.story.bus_state.connection ≡ Some m → (n : Connection) → d.next ≡ Some n → changes_phase d.change ≡ true → is_in_phase (phase_of (bus_of k)) ≡ true
     said m e n f ep =
         let con : connection p ≡ Some m = sym pl.connection ∙ e in
         let after : connection (row ∷ p) ≡ Some n = sym next ∙ f in

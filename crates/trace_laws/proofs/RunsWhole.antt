@@ -23,6 +23,7 @@ use Rattle.disk_array.specs.Processes.{Process, process_of}
 use Rattle.disk_array.specs.Units.{Array}
 use Rattle.bus_story.specs.BusState.{RowReading, row_reading}
 use Rattle.bus_story.specs.Story.{Story}
+use Rattle.disk_unit.proofs.Touched.{from_not_lt}
 use Rattle.bus_dialogue.specs.declared.exchange.Leaving.{Leaving}
 use Rattle.bus_dialogue.specs.declared.exchange.Next.{Next}
 use Rattle.bus_dialogue.specs.declared.exchange.Next.TheVariants as nexts
@@ -45,8 +46,10 @@ use Rattle.bus_due.specs.Tasks.{is_writing, reply_now, task_if}
 use Rattle.bus_due.specs.Telling.{is_true_telling}
 use Rattle.bus_due.proofs.Plains.{run_state_plain}
 use Rattle.scsi_device.specs.Writes.{writers}
+use Rattle.scsi_device.proofs.Finds.{none_is}
 use Rattle.bus_laws.proofs.Apart.{change_plain}
 use Rattle.bus_laws.proofs.Prompt.{least_is}
+use Rattle.link_laws.proofs.Ahead.{zero_of}
 use Rattle.trace_laws.specs.Attendance.{events_of}
 use Rattle.trace_laws.specs.Commands.{CommandFacts}
 use Rattle.trace_laws.specs.DataPointers.{policy_for}
@@ -60,33 +63,21 @@ use Rattle.trace_laws.specs.Tells.{AreRepliesShown, FailsAsLeft}
 use Rattle.trace_laws.specs.WholeRuns.{HasSentAll, RunsBlocks}
 use Rattle.trace_laws.specs.WriteFacts.{WriteFacts, WritesAsked}
 use Rattle.trace_laws.proofs.ConnectionRows.{IsGoing, going}
+use Rattle.trace_laws.proofs.Impossible.{wrong, wrong'}
 use Rattle.trace_laws.proofs.Joint.{NextStood, Stood}
 use Rattle.trace_laws.proofs.Plans.{is_directed, writes_of}
 use Rattle.trace_laws.proofs.RunEvents.{RunsFrom, RunsInPhase, answered, moved_all, reads, run_turn, runs_from, writes}
 use Rattle.trace_laws.proofs.RunFacts.{task_here}
 use Rattle.trace_laws.proofs.RunFits.{FitsRuns, fits_runs}
 use Rattle.trace_laws.proofs.RunParts.{HasMost}
+use Rattle.trace_laws.proofs.RunRows.{served_id}
 use Rattle.trace_laws.proofs.SentBytes.{reads_send_none}
 use Rattle.trace_laws.proofs.TellFacts.{left_tells}
 use Rattle.trace_laws.proofs.TellTraces.{tells_row}
 use Rattle.trace_laws.proofs.WholeRuns.{whole_run}
 use Rattle.trace_laws.proofs.WriteNext.{write_row}
-use Rattle.trace_laws.proofs.WriteRows.{in_lines, is_in, served_is}
+use Rattle.trace_laws.proofs.WriteRows.{in_lines, is_in}
 use Rattle.trace_laws.proofs.Written.{left_by}
-
-wrong : {A : Type 0} → true ≡ false → A
-wrong e = absurd cc
-
-wrong' : {A : Type 0} → false ≡ true → A
-wrong' e = absurd cc
-
--- ---- numbers
-
-zero_is : (n : ℕ) → (n == 0) ≡ true → n ≡ 0
-zero_is n e = grind (arith, nat_tests)
-
-not_lt : (a b : ℕ) → nat_lt a b ≡ false → b ≤ a
-not_lt a b e = grind (arith, nat_tests)
 
 -- ---- blocks are moved in one run at least
 
@@ -101,7 +92,7 @@ zero_blocks blocks size moved some e = go (blocks == 0) refl
 
     go : (q : Bool) → (blocks == 0) ≡ q → 1 ≤ blocks
     go false f = some_of blocks f
-    go true f = wrong (sym (ap (λ (x : ℕ). x == 0) (e ∙ ap (λ (x : ℕ). x * size) (zero_is blocks f) ∙ none size)) ∙ some)
+    go true f = wrong (sym (ap (λ (x : ℕ). x == 0) (e ∙ ap (λ (x : ℕ). x * size) (zero_of blocks f) ∙ none size)) ∙ some)
 
 some_run : (policy : Policy) (blocks : ℕ) → HasMost policy → 1 ≤ blocks → 1 ≤ runs_in policy (Some blocks)
 some_run policies.Never blocks m h = omega arith
@@ -119,7 +110,7 @@ some_run (policies.Burst most) blocks m h = least ((blocks + (most - 1)) / most)
 
         go : (z : Bool) → (q == 0) ≡ z → 1 ≤ q
         go false f = some_of q f
-        go true f = let zero : q * d ≡ 0 = ap (λ (x : ℕ). x * d) (zero_is q f) ∙ none d in absurd omega (arith, zero, k, l, e)
+        go true f = let zero : q * d ≡ 0 = ap (λ (x : ℕ). x * d) (zero_of q f) ∙ none d in absurd omega (arith, zero, k, l, e)
 some_run (policies.NoSave most) blocks m h = go (nat_le blocks most)
   where
     go : (q : Bool) → 1 ≤ (if q then 1 else 2)
@@ -134,13 +125,6 @@ runs_blocks (policies.NoSave most) m = tt
 
 -- ---- replies
 
-none_listed : (o : Option Reply) → is_some o ≡ false → o ≡ None
-none_listed None e = refl
-none_listed (Some r) e = wrong e
-
-same_task : (x y : Task) → (let o : Option Task = Some x in o) ≡ Some y → x ≡ y
-same_task x y e = cc
-
 status_is : (o : Option Phase) → is_status_next o ≡ true → o ≡ Some phases.Status
 status_is None e = wrong' e
 status_is (Some phases.Status) e = refl
@@ -150,7 +134,7 @@ status_is (Some phases.MessageOut) e = wrong' e
 status_is (Some phases.DataIn) e = wrong' e
 status_is (Some phases.DataOut) e = wrong' e
 
-abbrev is_free : Next → Bool
+abbrev pub is_free : Next → Bool
 is_free nexts.FreeBus = true
 is_free nexts.Command = false
 is_free nexts.GoOn = false
@@ -211,13 +195,13 @@ sent_all s p row n q h = by (runs_from (serving_of s k n.target) (bus_of k).atn 
     r = run_turn s k row d n con off h.telling h.runs
 
     own : process_of s q.id ≡ Some q
-    own = (served_is s k.served q h.served).1
+    own = (served_id s k.served q h.served).1
 
     t : Task
     t = task_here s k q
 
     task : r.turn.task ≡ t
-    task = sym (same_task t r.turn.task (sym (ap (task_if s k) h.served) ∙ r.turn.task_is))
+    task = sym (same_Some t r.turn.task (sym (ap (task_if s k) h.served) ∙ r.turn.task_is))
 
     -- it has no reply
     unanswered : is_some (reply_in (array_of s k).replies q.id) ≡ false
@@ -263,10 +247,10 @@ sent_all s p row n q h = by (runs_from (serving_of s k n.target) (bus_of k).atn 
     some_total = subst (λ (b : Option ℕ). 1 ≤ runs_in (policy_for s q) b) (sym fits.fit.blocks_are) (some_run (policy_for s q) fits.fit.blocks fits.fit.most (zero_blocks fits.fit.blocks t.size t.moved moves blocks))
 
     not_all : nat_lt r.turn.task.runs (runs_in_all (policy_of (target_def_of s n.target)) r.turn.task) ≡ false → HasSentAll s k (writers s p) q
-    not_all e = absurd (clash (progress_in k.progress q.id).runs (run_total s q) some_total all (h.left q own h.writes (none_listed (reply_in (array_of s k).replies q.id) unanswered)))
+    not_all e = absurd (clash (progress_in k.progress q.id).runs (run_total s q) some_total all (h.left q own h.writes (none_is (reply_in (array_of s k).replies q.id) unanswered)))
       where
         all : run_total s q ≤ (progress_in k.progress q.id).runs
-        all = subst (λ (x : ℕ). x ≤ t.runs) total (not_lt t.runs (runs_in_all (policy_for s q) t) (sym (λ i. nat_lt (task i).runs (runs_in_all (policy i) (task i))) ∙ e))
+        all = subst (λ (x : ℕ). x ≤ t.runs) total (from_not_lt t.runs (runs_in_all (policy_for s q) t) (sym (λ i. nat_lt (task i).runs (runs_in_all (policy i) (task i))) ∙ e))
 
         clash : (made whole : ℕ) → 1 ≤ whole → whole ≤ made → HasRunLeft whole made → ⊥
         clash made whole one few (inl z) = absurd omega (arith, one, few, z)
@@ -343,11 +327,11 @@ runs_whole s p row o prompt was nx commands told asked facts pointers places lef
 
     by : is_writing q ≡ true → (x : Bool) → ((reply_now (array_of s k) q).status == GOOD) ≡ x → (y : Bool) → (length q.sent == 0) ≡ y → IsWhole s k (writers s p) q
     by w false e y f = ends_badly e
-    by w true e true f = sends_none (zero_is (length q.sent) f)
+    by w true e true f = sends_none (zero_of (length q.sent) f)
     by w true e false f = sends_all (all w e f)
 
     go : (w : Bool) → is_writing q ≡ w → IsWhole s k (writers s p) q
-    go false w = sends_none (reads_send_none s q o (served_is s k.served q served).1 w)
+    go false w = sends_none (reads_send_none s q o (served_id s k.served q served).1 w)
     go true w = by w ((reply_now (array_of s k) q).status == GOOD) refl (length q.sent == 0) refl
 
 -- By what the rows tell.

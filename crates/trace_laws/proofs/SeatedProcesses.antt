@@ -1,5 +1,5 @@
 -- The guest or current process of a number is that of its seat.
-use Rattle.std.proofs.Common.{ℕ, ◌≡◌, Bool, true, false, ◌&&◌, ◌==◌, ◌∙◌, List, [], ◌∷◌, Option, Some, None, refl, sym, ap, true≢false}
+use Rattle.std.proofs.Common.{ℕ, ◌≡◌, Bool, true, false, ◌&&◌, ◌==◌, ◌∙◌, List, [], ◌∷◌, Option, Some, None, refl, sym, ap}
 use Rattle.std.specs.Prelude.{if◌then◌else◌, is_some}
 use Rattle.std.proofs.lemmas.Option.{same_Some}
 use Rattle.bus_base.specs.declared.ProcId.{ProcId}
@@ -11,9 +11,7 @@ use Rattle.disk_array.specs.Units.{RunningProcess, UnitState, Array, unit_state_
 use Rattle.disk_array.specs.Steps.{is_of_unit, running_if, running_in, running_process}
 use Rattle.bus_books.proofs.Lookups.{id_is, number_is, first_is, second_is}
 use Rattle.bus_books.proofs.Lists.{eq_self}
-
-wrong : {A : Type 0} → true ≡ false → A
-wrong e = absurd (true≢false e)
+use Rattle.trace_laws.proofs.Impossible.{wrong}
 
 -- Two processes of the scenario with one number are one.
 pub one_process : (s : ScenarioValue) (q p : Process) (id : ProcId) → process_of s q.id ≡ Some q → same_id q.id id ≡ true → process_of s id ≡ Some p → q ≡ p

@@ -11,9 +11,7 @@ use Rattle.disk_array.specs.Processes.{Process, command_at, process_by, process_
 use Rattle.bus_due.specs.Tasks.{is_writing}
 use Rattle.scsi_device.specs.Lines.{IsCommandLine}
 use Rattle.scsi_device.proofs.FitLines.{obeys_fits, command_fits}
-
-no_process : {A : Type 0} (p : Process) → (let a : Option Process = None in a) ≡ Some p → A
-no_process p e = absurd cc
+use Rattle.trace_laws.proofs.Impossible.{none_some}
 
 none_to_send : (s : ScenarioValue) (c : CmdDef) → is_write (command_of c.cdb) ≡ false → sent_of s c ≡ 0
 unfolding sent_of
@@ -32,5 +30,5 @@ reads_send_none s p o own reads = go (command_at s.commands p.id.command) refl o
         (λ i. length (sym by i).sent) ∙ line.sent ∙ none_to_send s c ((λ i. is_write (command_of (by i).cdb)) ∙ reads)
 
     go : (x : Option CmdDef) → command_at s.commands p.id.command ≡ x → process_if s p.id x ≡ Some p → length p.sent ≡ 0
-    go None f k = no_process p k
+    go None f k = none_some p k
     go (Some c) f k = at c f (same_Some (process_by s p.id c) p k) p.id.sense refl

@@ -1,5 +1,5 @@
 -- DATA IN is entered for a process that nothing has struck: after MESSAGE IN or COMMAND (6.1.8, 6.6.10).
-use Rattle.std.proofs.Common.{ℕ, ◌≡◌, Bool, true, false, not, ◌&&◌, ◌==◌, ◌∙◌, List, Option, Some, None, refl, sym, ap, true≢false}
+use Rattle.std.proofs.Common.{ℕ, ◌≡◌, Bool, true, false, not, ◌&&◌, ◌==◌, ◌∙◌, List, Option, Some, None, refl, sym, ap}
 use Rattle.std.specs.Prelude.{if◌then◌else◌, is_some, nat_lt}
 use Rattle.bus_trace.specs.LineSet.{LineSet}
 use Rattle.bus_trace.specs.Phases.{is_message_in, is_message_out}
@@ -19,9 +19,7 @@ use Rattle.bus_dialogue.specs.NextPhase.{Serving, after_offer, bus_free, message
 use Rattle.bus_dialogue.specs.Words.{is_naming, request_by}
 use Rattle.trace_laws.specs.Failures.{FailsBy, IsClear}
 use Rattle.trace_laws.proofs.FailureTurns.{is_sending, sends_clear}
-
-wrong' : {A : Type 0} → false ≡ true → A
-wrong' e = absurd (true≢false (sym e))
+use Rattle.trace_laws.proofs.Impossible.{wrong'}
 
 -- ---- its lines
 

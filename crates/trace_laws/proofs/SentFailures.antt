@@ -1,5 +1,5 @@
 -- Of a prompt trace: as DATA IN is left, its initiator has raised ATN where a byte was struck, and only there (6.6.10).
-use Rattle.std.proofs.Common.{inl, inr, ℕ, ◌≡◌, ◌⊎◌, ◌<◌, Bool, true, false, not, ◌&&◌, ◌||◌, ◌∙◌, List, [], ◌∷◌, Option, Some, None, refl, sym, ap, subst, true≢false}
+use Rattle.std.proofs.Common.{inl, inr, ℕ, ◌≡◌, ◌⊎◌, ◌<◌, Bool, true, false, not, ◌&&◌, ◌||◌, ◌∙◌, List, [], ◌∷◌, Option, Some, None, refl, sym, ap, subst}
 use Rattle.std.specs.Prelude.{is_some}
 use Rattle.std.proofs.lemmas.Option.{same_Some}
 use Rattle.bus_base.specs.declared.ProcId.{ProcId}
@@ -51,6 +51,7 @@ use Rattle.trace_laws.proofs.Complaints.{complaints_next}
 use Rattle.trace_laws.proofs.ConnectionRows.{ConnectionRow, GoingRow, RowKindOf, begins_now, connection_row, goes_now, going_row, row_kind, stage_of_connection}
 use Rattle.trace_laws.proofs.FailureBytes.{clear_as, still_fails}
 use Rattle.trace_laws.proofs.FailureCrossed.{CrossedFacts}
+use Rattle.trace_laws.proofs.Impossible.{wrong, wrong', none_some}
 use Rattle.trace_laws.proofs.Joint.{NextStood, Stood}
 use Rattle.trace_laws.proofs.LinkRows.{LinkRow}
 use Rattle.trace_laws.proofs.RunCountFacts.{handshakes_begin, unasked_low}
@@ -60,15 +61,6 @@ use Rattle.trace_laws.proofs.UndoneAnswers.{same_phase_of}
 use Rattle.trace_laws.proofs.UndoneFacts.{undo_asks}
 use Rattle.trace_laws.proofs.WaitingRequests.{none_struck}
 use Rattle.trace_laws.proofs.WaitingRows.{in_row}
-
-wrong : {A : Type 0} → true ≡ false → A
-wrong e = absurd (true≢false e)
-
-wrong' : {A : Type 0} → false ≡ true → A
-wrong' e = absurd (true≢false (sym e))
-
-none_some : {A : Type 0} (n : Connection) → (let o : Option Connection = None in o) ≡ Some n → A
-none_some n e = absurd cc
 
 or_left : (b : Bool) → (false || b) ≡ true → b ≡ true
 or_left true e = refl

@@ -21,7 +21,7 @@ use Rattle.scenario.specs.declared.value.CmdDef.{CmdDef}
 use Rattle.scenario.specs.Value.{ScenarioValue}
 use Rattle.disk_array.specs.Processes.{same_id}
 use Rattle.bus_story.specs.BusState.{RowReading}
-use Rattle.bus_story.specs.CarriedBytes.{CarriedBytes, carried_at, with_carried, carried_of, with_restored_pointers, carried_after_message, carried_after_byte, carried_after_fault}
+use Rattle.bus_story.specs.CarriedBytes.{CarriedBytes, carried_at, with_carried, carried_of, with_restored_pointers, carried_after_byte, carried_after_fault}
 use Rattle.bus_story.specs.Items.{Item, process, abort, same_item, has_item, command_item, sense_item, Sent, is_open, tag_number_if}
 use Rattle.bus_story.specs.Links.{Link, link_of, last_out, last_in, is_of_nexus, is_open_sense, same_number, named_item_from, link_after_name}
 use Rattle.bus_story.specs.HistoryEvents.{carried_if}
@@ -30,9 +30,13 @@ use Rattle.bus_story.specs.TraceHistory.{aim_of, is_arbitration_entry, story_wit
 use Rattle.bus_books.proofs.CarriedRows.{ends_keep, check_keeps}
 use Rattle.bus_books.proofs.Lists.{eq_self}
 use Rattle.bus_books.proofs.Lookups.{first_is, second_is, self_id, id_is, carried_id}
+use Rattle.bus_laws.proofs.Tests.{or_true}
+use Rattle.trace_laws.proofs.BlockRows.{or_link}
+use Rattle.trace_laws.proofs.Impossible.{wrong}
+use Rattle.trace_laws.proofs.PointerStorySteps.{message_id}
 use Rattle.trace_laws.proofs.RowEvents.{IsOf, AllOf, carried_of_item}
-use Rattle.trace_laws.proofs.Driven.{wrong}
 use Rattle.trace_laws.specs.ItemFacts.{LinkSent, LinksSent, SentOnly}
+use Rattle.trace_laws.proofs.Tests.{second_false}
 
 -- ---- items
 
@@ -40,22 +44,14 @@ pub self_item : (i : Item) → same_item i i ≡ true
 self_item (process id) = self_id id
 self_item (abort k) = eq_self k
 
-or_true : (q : Bool) → (q || true) ≡ true
-or_true true = refl
-or_true false = refl
-
 pub more_has : (i j : Item) (items : List Item) → has_item items j ≡ true → has_item (i ∷ items) j ≡ true
 more_has i j items e = ap (λ (q : Bool). same_item i j || q) e ∙ or_true (same_item i j)
 
 pub own_has : (i : Item) (items : List Item) → has_item (i ∷ items) i ≡ true
 own_has i items = ap (λ (q : Bool). q || has_item items i) (self_item i)
 
-or_off : (q r : Bool) → (q || r) ≡ false → r ≡ false
-or_off true r e = wrong e
-or_off false r e = e
-
-less_has : (i j : Item) (items : List Item) → has_item (i ∷ items) j ≡ false → has_item items j ≡ false
-less_has i j items e = or_off (same_item i j) (has_item items j) e
+pub less_has : (i j : Item) (items : List Item) → has_item (i ∷ items) j ≡ false → has_item items j ≡ false
+less_has i j items e = second_false (same_item i j) (has_item items j) e
 
 -- ---- what names find was sent
 
@@ -94,10 +90,6 @@ no_links sent l e = absurd (none_link l e)
   where
     none_link : (x : Link) → (let a : Option Link = None in a) ≡ Some x → ⊥
     none_link x z = cc
-
-abbrev or_link : Link → Option Link → Link
-or_link x None = x
-or_link x (Some l) = l
 
 one_link : (sent : List Item) (l : Link) → LinkSent sent l → LinksSent sent (Some l)
 one_link sent l h m e = subst (λ (x : Link). LinkSent sent x) (ap (or_link l) e) h
@@ -292,16 +284,6 @@ named_sent s b l (to_initiator.Identify lun) there i e = find_sent b l.initiator
 named_sent s b l (to_initiator.SimpleTag tag) there i e = find_sent b l.initiator l.target l.unit (Some tag) 1 s.commands i e
 named_sent s b l (to_initiator.Sdtr offer) there i e = there i e
 named_sent s b l to_initiator.Reject there i e = there i e
-
-message_id : (c : CarriedBytes) (m : MsgIn) → (carried_after_message c m).id ≡ c.id
-message_id c to_initiator.CommandComplete = refl
-message_id c to_initiator.SavePointer = refl
-message_id c to_initiator.RestorePointers = refl
-message_id c to_initiator.Disconnect = refl
-message_id c (to_initiator.Identify lun) = refl
-message_id c (to_initiator.SimpleTag tag) = refl
-message_id c (to_initiator.Sdtr offer) = refl
-message_id c to_initiator.Reject = refl
 
 abbrev or_bytes : CarriedBytes → Option CarriedBytes → CarriedBytes
 or_bytes x None = x

@@ -1,7 +1,6 @@
 -- What is served in a connection of a prompt trace: a process of the scenario, or an abort of its two ends.
-use Rattle.std.proofs.Common.{ℕ, ◌≡◌, ◌<◌, Bool, true, false, not, ◌&&◌, ◌∙◌, List, [], ◌∷◌, Option, Some, None, refl, sym, ap, subst}
+use Rattle.std.proofs.Common.{ℕ, ◌≡◌, ◌<◌, Bool, true, false, not, ◌&&◌, ◌∙◌, List, [], ◌∷◌, Option, Some, None, refl, sym, ap}
 use Rattle.std.specs.Prelude.{if◌then◌else◌, is_some}
-use Rattle.std.proofs.lemmas.Option.{same_Some}
 use Rattle.std.proofs.lemmas.Bool.{and_parts}
 use Rattle.bus_base.specs.declared.AbortKind.{AbortKind}
 use Rattle.bus_trace.specs.LineSet.{LineSet, union}
@@ -44,7 +43,7 @@ use Rattle.scsi_device.proofs.FitLines.{obeys_fits, units_are}
 use Rattle.bus_books.specs.Items.{IsItem, is_process, is_abort}
 use Rattle.bus_books.specs.Rows.{RowKind, still, strikes, crosses, turns, reading_in}
 use Rattle.bus_books.specs.Speaking.{Speaks}
-use Rattle.bus_books.specs.Traces.{GoesOn, RowOf, apart as row_apart, begins, goes_on, ends, under_reset, Begins}
+use Rattle.bus_books.specs.Traces.{GoesOn, Begins}
 use Rattle.bus_books.proofs.Aims.{aims_are}
 use Rattle.bus_books.proofs.InConnection.{InConnection, in_connection}
 use Rattle.bus_laws.specs.Stages.{BusStage}
@@ -55,22 +54,13 @@ use Rattle.trace_laws.specs.Tells.{IsServed, of_process, of_abort, ServedFacts}
 use Rattle.trace_laws.proofs.Called.{IsDueCall, IsCalled, callee_at, by_answer}
 use Rattle.trace_laws.proofs.ConnectionRows.{ConnectionRow, GoingRow, connection_row, going_row, RowKindOf, begins_now, goes_now, row_kind}
 use Rattle.trace_laws.proofs.FirstRows.{made_is, under_rst, quiet_sel}
+use Rattle.trace_laws.proofs.Impossible.{wrong, wrong', none_some}
+use Rattle.trace_laws.proofs.ItemFacts.{beginning}
 use Rattle.trace_laws.proofs.Joint.{Stood, NextStood, link_connection, link_phase}
+use Rattle.trace_laws.proofs.PhaseLines.{out_phase}
 use Rattle.trace_laws.proofs.TellRows.{is_heard}
 use Rattle.trace_laws.proofs.UnderRst.{quiet_at_end}
-use Rattle.trace_laws.proofs.UndoneAnswers.{out_phase, plan_stays, same_phase_of}
-
-wrong : {A : Type 0} → true ≡ false → A
-wrong e = absurd cc
-
-wrong' : {A : Type 0} → false ≡ true → A
-wrong' e = absurd cc
-
-none_some : {A : Type 0} (n : Connection) → (let o : Option Connection = None in o) ≡ Some n → A
-none_some n e = absurd cc
-
-no_call : {A : Type 0} (k : Connection) → (let o : Option Connection = None in o) ≡ Some k → A
-no_call k e = absurd cc
+use Rattle.trace_laws.proofs.UndoneAnswers.{plan_stays, same_phase_of}
 
 -- ---- whom an initiator has called
 
@@ -90,21 +80,14 @@ called_target s p t n was e z = by_call (call p) refl e
         ∙ ap (callee_at s p) i ∙ d.callee_is ∙ ap (λ (w : ℕ). Some w) (sym g)
 
     by_calling : (k : Call) → call p ≡ Some k → (o : Option Calling) → k.calling ≡ o → connected_of k.caller o t ≡ Some n → NamesTarget s p n
-    by_calling k ek None none w = no_call n w
+    by_calling k ek None none w = none_some n w
     by_calling k ek (Some x) some w = named k.caller x (was k x ek some) (by_answer k.caller x x.answered t n w)
 
     by_call : (o : Option Call) → call p ≡ o → connection_of o t ≡ Some n → NamesTarget s p n
-    by_call None none w = no_call n w
+    by_call None none w = none_some n w
     by_call (Some k) some w = by_calling k some k.calling refl w
 
 -- ---- the first row of a connection
-
-begins_of : (s : ScenarioValue) (k : RunState) (row : Row) (n : Connection) → k.story.bus_state.connection ≡ None → (row_reading k.story.bus_state row).next ≡ Some n → (row_reading k.story.bus_state row).change.after.rst ≡ false → RowOf s k row → Begins s k row n
-begins_of s k row n con next calm (row_apart e f) = none_some n (sym f ∙ next)
-begins_of s k row n con next calm (begins m b) = subst (λ (x : Connection). Begins s k row x) (same_Some m n (sym b.first.next_is ∙ next)) b
-begins_of s k row n con next calm (goes_on m c g) = none_some m (sym con ∙ g.row_is.connection_is)
-begins_of s k row n con next calm (ends m g) = none_some m (sym con ∙ g.connection_is)
-begins_of s k row n con next calm (under_reset r e) = wrong (sym r ∙ calm)
 
 abbrev or_number : ℕ → Option ℕ → ℕ
 or_number x None = x
@@ -138,7 +121,7 @@ served_begins s p row n o prompt was nx alone after calm begun = go n.reselected
     next = (λ i. connection_after (pl.connection i) (pl.call i) (change i) row) ∙ after
 
     b : Begins s k row n
-    b = begins_of s k row n con next (ap (λ (x : Change). x.after.rst) change ∙ calm) nx.row_is
+    b = beginning s k row n con next (ap (λ (x : Change). x.after.rst) change ∙ calm) nx.row_is
 
     served : j.served ≡ (if n.reselected then item_if (ready_of s k n.target) else aim_of k.story.aims n.initiator)
     served = λ i. served_after s k (con i) (next i)
@@ -171,9 +154,6 @@ served_begins s p row n o prompt was nx alone after calm begun = go n.reselected
 -- ---- a row of it
 
 -- The target of an abort frees the bus after its opening.
-no_phase : {A : Type 0} (p : Phase) → (let o : Option Phase = None in o) ≡ Some p → A
-no_phase p e = absurd cc
-
 frees : (v : Serving) (attention : Bool) (phase : Phase) → phase ≡ phases.MessageOut → v.plan.cause ≡ causes.Selected → is_some v.plan.said.aborts ≡ true → (phase_leaving v attention phase).to ≡ None
 frees v attention phase e c heard =
     ap (λ (p : Phase). (phase_leaving v attention p).to) e
@@ -244,7 +224,7 @@ served_goes s p row n u dv was r g h = go h
             let to = g.lines.whereto (ap changes_phase g.lines_are ∙ ep) (sym pl.begun ∙ b) in
             let heard = is_heard s k n u speaks b (λ z. ap (λ (l : LineSet). l.cd) pl.bus ∙ (link_phase s p n r.stage (ap (λ (l : LineSet). l.msg) (sym pl.bus) ∙ z)).0) over at.0 in
             let frees_it = frees (serving_of s k n.target) (bus_of k).atn (phase_of (bus_of k)) at.0 at.1 (abort_heard s k.exchange.plan.said m a line (sym (ap (is_item_named s k.exchange.plan.said) es) ∙ heard.named at.1)) in
-            no_phase _ (sym (ap (λ (x : Leaving). x.to) (λ z. leaving_by (serving_of s k n.target) (b z) (bus_of k)) ∙ frees_it) ∙ to)
+            none_some _ (sym (ap (λ (x : Leaving). x.to) (λ z. leaving_by (serving_of s k n.target) (b z) (bus_of k)) ∙ frees_it) ∙ to)
 
     alone_on : (m : ℕ) (a : AbortDef) → k.served ≡ Some (abort m) → abort_line_at s.aborts m ≡ Some a → RowKind row n c → Alone k → Alone j
     alone_on m a es line (still ef ep er) alone = stays false ep (ap (λ (z : Option ℕ). is_some z) er) alone

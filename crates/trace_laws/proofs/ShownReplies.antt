@@ -34,11 +34,9 @@ use Rattle.bus_story.specs.TraceHistory.{is_arbitration_entry, aim_of, story_wit
 use Rattle.bus_due.specs.RunState.{RunState, or_start}
 use Rattle.bus_due.specs.RunSteps.{array_after_events, run_state_after}
 use Rattle.bus_books.proofs.Lookups.{id_is, carried_id, put_there}
+use Rattle.bus_laws.proofs.Tests.{or_true}
 use Rattle.trace_laws.specs.Tells.{has_answer, AreRepliesShown, UndoesAnswers}
 use Rattle.trace_laws.proofs.ListedReplies.{replies_to, listed_on}
-
-wrong : {A : Type 0} → true ≡ false → A
-wrong e = absurd cc
 
 -- Whether it has an answer, of all processes.
 abbrev pub SameAnswers : List CarriedBytes → List CarriedBytes → Type 0
@@ -55,10 +53,6 @@ puts_answer all c e id = ap has_answer (put_there all c id) ∙ go (same_id c.id
     go false f = refl
 
 -- ---- events
-
-or_true : (q : Bool) → (q || true) ≡ true
-or_true true = refl
-or_true false = refl
 
 marks : (all : List CarriedBytes) (c : CarriedBytes) (p : ProcId) → c.id ≡ p → has_answer c ≡ true → (id : ProcId) → has_answer (carried_of (with_carried all c) id) ≡ (same_id p id || has_answer (carried_of all id))
 marks all c p same e id = ap has_answer (put_there all c id) ∙ ap (λ (x : ProcId). has_answer (if same_id x id then c else carried_of all id)) same ∙ go (same_id p id)

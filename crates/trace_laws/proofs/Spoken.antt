@@ -2,6 +2,7 @@
 use Rattle.std.proofs.Common.{ℕ, zero, suc, ◌≡◌, ◌<◌, ◌+◌, ◌%◌, Bool, true, false, not, ◌&&◌, List, [], ◌∷◌, ◌++◌, take, Option, Some, None, refl, subst, arith}
 use Rattle.std.specs.Prelude.{if◌then◌else◌, is_some, max, min, nat_lt, ◌==◌}
 use Rattle.std.specs.List.{AllByRecursion}
+use Rattle.std.proofs.lemmas.Option.{same_Some}
 use Rattle.bus_base.specs.declared.AbortKind.{AbortKind}
 use Rattle.bus_base.specs.declared.AbortKind.TheVariants as kills
 use Rattle.bus_base.specs.declared.ProcId.{ProcId}
@@ -41,6 +42,7 @@ use Rattle.bus_dialogue.specs.Speaking.{words_after, speech_after}
 use Rattle.bus_dialogue.specs.Words.{agreement_answer, host_answer, target_answer, offer_if, tag_bytes, abort_bytes, process_opening, abort_opening, answer_bytes}
 use Rattle.bus_due.specs.Defs.{host_of, target_def_of, opening}
 use Rattle.scsi_device.proofs.Finds.{found_holds}
+use Rattle.trace_laws.proofs.Impossible.{none_some}
 use Rattle.trace_laws.proofs.SmallLines.{IsSmall, IsSmallTag, IsSmallKind, IsSmallHost, IsSmallTarget, IsSmallCommand, IsSmallAbort, HasSmallLines}
 
 -- ---- lists
@@ -67,33 +69,21 @@ begins_in : (bytes : List ℕ) (m : MsgIn) (n : ℕ) → got_in bytes ≡ Whole 
 unfolding form_in
 begins_in bytes m n e = (whole form_in 0x02 to_initiator.SavePointer (omega arith) refl bytes m n).0 e
 
-no_out : (m : MsgOut) → (let a : Option MsgOut = None in a) ≡ Some m → ⊥
-no_out m e = absurd cc
-
-no_in : (m : MsgIn) → (let a : Option MsgIn = None in a) ≡ Some m → ⊥
-no_in m e = absurd cc
-
-some_out : (a b : MsgOut) → (let o : Option MsgOut = Some a in o) ≡ Some b → a ≡ b
-some_out a b e = cc
-
-some_in : (a b : MsgIn) → (let o : Option MsgIn = Some a in o) ≡ Some b → a ≡ b
-some_in a b e = cc
-
 out_small : (bytes : List ℕ) (g : Got MsgOut) (m : MsgOut) → AreBytes bytes → got_out bytes ≡ g → whole_out g ≡ Some m → AreBytes (out_bytes m)
 out_small bytes (Whole k n) m a e z =
     let b = begins_out bytes k n e in
     let o = (out_one (take n bytes) k).0 b.1 in
-    subst (λ (y : MsgOut). AreBytes (out_bytes y)) (some_out k m z) (subst (λ (x : List ℕ). AreBytes x) o.0 (small_take n bytes a))
-out_small bytes More m a e z = absurd (no_out m z)
-out_small bytes Unknown m a e z = absurd (no_out m z)
+    subst (λ (y : MsgOut). AreBytes (out_bytes y)) (same_Some k m z) (subst (λ (x : List ℕ). AreBytes x) o.0 (small_take n bytes a))
+out_small bytes More m a e z = absurd (none_some m z)
+out_small bytes Unknown m a e z = absurd (none_some m z)
 
 in_small : (bytes : List ℕ) (g : Got MsgIn) (m : MsgIn) → AreBytes bytes → got_in bytes ≡ g → whole_in g ≡ Some m → AreBytes (in_bytes m)
 in_small bytes (Whole k n) m a e z =
     let b = begins_in bytes k n e in
     let o = (in_one (take n bytes) k).0 b.1 in
-    subst (λ (y : MsgIn). AreBytes (in_bytes y)) (some_in k m z) (subst (λ (x : List ℕ). AreBytes x) o.0 (small_take n bytes a))
-in_small bytes More m a e z = absurd (no_in m z)
-in_small bytes Unknown m a e z = absurd (no_in m z)
+    subst (λ (y : MsgIn). AreBytes (in_bytes y)) (same_Some k m z) (subst (λ (x : List ℕ). AreBytes x) o.0 (small_take n bytes a))
+in_small bytes More m a e z = absurd (none_some m z)
+in_small bytes Unknown m a e z = absurd (none_some m z)
 
 -- The bytes of messages that are half sent.
 pub record HasByteHalves (d : Dialogue) : Type 0 where
@@ -138,7 +128,7 @@ halves_after d (Some m) (Some n) agreed c h = go (is_some (receiver_of (Some m) 
     go false false = h
 
 pub told_out : (d : Dialogue) (c : Change) (q : Bool) (m : MsgOut) → HasByteHalves d → message_out d c q ≡ Some m → AreBytes (out_bytes m)
-told_out d c false m h e = absurd (no_out m e)
+told_out d c false m h e = absurd (none_some m e)
 told_out d c true m h e = go (is_message_out c.before) e
   where
     bytes : List ℕ
@@ -146,10 +136,10 @@ told_out d c true m h e = go (is_message_out c.before) e
 
     go : (q : Bool) → (if q then whole_out (got_out bytes) else None) ≡ Some m → AreBytes (out_bytes m)
     go true z = out_small bytes (got_out bytes) m (byte_more (fresh_bytes d) c.after.data_bits (fresh_small d h)) refl z
-    go false z = absurd (no_out m z)
+    go false z = absurd (none_some m z)
 
 pub told_in : (d : Dialogue) (c : Change) (q : Bool) (m : MsgIn) → HasByteHalves d → message_in d c q ≡ Some m → AreBytes (in_bytes m)
-told_in d c false m h e = absurd (no_in m e)
+told_in d c false m h e = absurd (none_some m e)
 told_in d c true m h e = go (is_message_in c.before) e
   where
     bytes : List ℕ
@@ -157,7 +147,7 @@ told_in d c true m h e = go (is_message_in c.before) e
 
     go : (q : Bool) → (if q then whole_in (got_in bytes) else None) ≡ Some m → AreBytes (in_bytes m)
     go true z = in_small bytes (got_in bytes) m (byte_more d.half c.after.data_bits h.half) refl z
-    go false z = absurd (no_in m z)
+    go false z = absurd (none_some m z)
 
 -- ---- synchronous data transfer requests
 

@@ -1,6 +1,7 @@
 -- What the target plans to say are bytes, after any rows; and so what both ends of a connection say.
 use Rattle.std.proofs.Common.{ℕ, ◌≡◌, ◌+◌, ◌-◌, Bool, true, false, not, ◌&&◌, List, [], ◌∷◌, length, Option, Some, None, refl, ap, subst, arith}
 use Rattle.std.specs.Prelude.{if◌then◌else◌, is_some, nat_lt, ◌==◌}
+use Rattle.std.proofs.lemmas.Option.{same_Some}
 use Rattle.bus_trace.specs.LineSet.{LineSet}
 use Rattle.bus_trace.specs.Phases.{changes_phase, is_message_out, is_message_in}
 use Rattle.bus_trace.specs.declared.Row.{Row}
@@ -52,6 +53,7 @@ use Rattle.bus_due.specs.RunSteps.{run_state, run_state_after, exchange_after, l
 use Rattle.bus_due.specs.Sights.{serving_of, hearing_of, leaving}
 use Rattle.bus_due.specs.Wants.{current_of, since_of, seek_of, ready_at, ready_of}
 use Rattle.trace_laws.proofs.Called.{own_units}
+use Rattle.trace_laws.proofs.Impossible.{none_some}
 use Rattle.trace_laws.proofs.SmallLines.{IsSmallTag, IsSmallTarget, HasSmallLines}
 use Rattle.trace_laws.proofs.Spoken.{small_append, HasByteHalves, halves_after, told_out, told_in, IsSmallAgreement, target_answer_small, host_small, target_small, IsSmallProcess, process_small, HasByteWords, opening_small, words_on, offer_bytes}
 
@@ -73,12 +75,6 @@ all_small m h = small_append (message_bytes m.first) (message_bytes m.second) h.
 pub record HasBytePlan (p : Plan) : Type 0 where
   pub messages : HasByteMessages p.messages
   pub offer : (a : Agreement) → p.said.offer ≡ Some a → IsSmallAgreement a
-
-no_offer : (a : Agreement) → (let o : Option Agreement = None in o) ≡ Some a → ⊥
-no_offer a e = absurd cc
-
-same_offer : (a b : Agreement) → (let o : Option Agreement = Some a in o) ≡ Some b → a ≡ b
-same_offer a b e = cc
 
 -- ---- how a phase is left
 
@@ -203,7 +199,7 @@ said_small (to_target.Identify disc n) x h f = f
 said_small (to_target.SimpleTag n) x h f = f
 said_small (to_target.HeadTag n) x h f = f
 said_small (to_target.OrderedTag n) x h f = f
-said_small (to_target.Sdtr b) x h f = λ a e. subst IsSmallAgreement (same_offer b a e) (h.1.1.1.0, h.1.1.1.1.0)
+said_small (to_target.Sdtr b) x h f = λ a e. subst IsSmallAgreement (same_Some b a e) (h.1.1.1.0, h.1.1.1.1.0)
 said_small to_target.Abort x h f = f
 said_small to_target.AbortTag x h f = f
 said_small to_target.ClearQueue x h f = f
@@ -221,7 +217,7 @@ plan_on : (w : Hearing) (l : Leaving) (p : Plan) → ((m : MsgOut) → w.out ≡
 plan_on w l p g a h = go (changes_phase w.change) w.crosses (w.fault && not w.change.before.io)
   where
     none : (a : Agreement) → (let o : Option Agreement = None in o) ≡ Some a → IsSmallAgreement a
-    none a e = absurd (no_offer a e)
+    none a e = absurd (none_some a e)
 
     rest : (q r : Bool) → HasByteMessages (if q then (if r then p.messages else record { first = p.messages.second; second = None }) else p.messages)
     rest true true = h.messages
@@ -252,25 +248,13 @@ plan_on w l p g a h = go (changes_phase w.change) w.crosses (w.fault && not w.ch
 abbrev SmallIf : Option Ready → Type 0
 SmallIf x = (r : Ready) → x ≡ Some r → IsSmallProcess r.process
 
-no_ready : (r : Ready) → (let o : Option Ready = None in o) ≡ Some r → ⊥
-no_ready r e = absurd cc
-
-same_ready : (a b : Ready) → (let o : Option Ready = Some a in o) ≡ Some b → a ≡ b
-same_ready a b e = cc
-
 ready_small_in : (s : ScenarioValue) (q : Bool) (t n : ℕ) (c : Option RunningProcess) (time : ℕ) → HasSmallLines s → IsOwnRunning s t n c → SmallIf (ready_in q c time)
-ready_small_in s q t n None time l own r e = absurd (no_ready r e)
-ready_small_in s true t n (Some c) time l own r e = absurd (no_ready r e)
-ready_small_in s false t n (Some c) time l own r e = subst IsSmallProcess (ap (λ (x : Ready). x.process) (same_ready (record { time = time; process = c.process }) r e)) (process_small s c.process.id c.process l own.is)
-
-no_unit : (u : UnitState) → (let o : Option UnitState = None in o) ≡ Some u → ⊥
-no_unit u e = absurd cc
-
-same_unit : (a b : UnitState) → (let o : Option UnitState = Some a in o) ≡ Some b → a ≡ b
-same_unit a b e = cc
+ready_small_in s q t n None time l own r e = absurd (none_some r e)
+ready_small_in s true t n (Some c) time l own r e = absurd (none_some r e)
+ready_small_in s false t n (Some c) time l own r e = subst IsSmallProcess (ap (λ (x : Ready). x.process) (same_Some (record { time = time; process = c.process }) r e)) (process_small s c.process.id c.process l own.is)
 
 current_small : (s : ScenarioValue) (units : List UnitState) (t n time : ℕ) (q : Bool) → HasSmallLines s → AllOwnUnits s units → SmallIf (ready_in q (current_of (unit_state_at units t n)) time)
-current_small s [] t n time q l own = λ r e. absurd (no_ready r e)
+current_small s [] t n time q l own = λ r e. absurd (none_some r e)
 current_small s (u ∷ units) t n time q l own = go (u.target == t && u.unit == n) (current_small s units t n time q l own.1)
   where
     go : (x : Bool) → SmallIf (ready_in q (current_of (unit_state_at units t n)) time) → SmallIf (ready_in q (current_of (if x then Some u else unit_state_at units t n)) time)
@@ -290,7 +274,7 @@ ready_small : (s : ScenarioValue) (k : RunState) (target : ℕ) → HasSmallLine
 ready_small s k target l own =
     let a = array_of s k in
     let at : (n : ℕ) → SmallIf (ready_at a k.current_since (seek_of s.targets target) target n) = λ n. current_small s a.units target n (since_of a.units k.current_since target n + seek_of s.targets target) (is_held a.holds target n) l own in
-    first_small _ _ (at 0) (first_small _ _ (at 1) (first_small _ _ (at 2) (first_small _ _ (at 3) (first_small _ _ (at 4) (first_small _ _ (at 5) (first_small _ _ (at 6) (first_small _ None (at 7) (λ r e. absurd (no_ready r e)))))))))
+    first_small _ _ (at 0) (first_small _ _ (at 1) (first_small _ _ (at 2) (first_small _ _ (at 3) (first_small _ _ (at 4) (first_small _ _ (at 5) (first_small _ _ (at 6) (first_small _ None (at 7) (λ r e. absurd (none_some r e)))))))))
 
 tag_said : (t : Tag) → IsSmallTag t → AreBytes (message_bytes (tag_named t))
 tag_said tags.Untagged h = tt
@@ -311,7 +295,7 @@ pub record SpeaksBytes (k : RunState) : Type 0 where
 
 exchange_on : (s : ScenarioValue) (k : RunState) (row : Row) (d : RowReading) (before after : Option Connection) (l : Leaving) → HasSmallLines s → AllOwnUnits s (array_of s k).units → ((m : MsgOut) → d.out ≡ Some m → AreBytes (out_bytes m)) → ((m : MsgIn) → d.into ≡ Some m → AreBytes (in_bytes m)) → SaysBytes l → SpeaksBytes k → HasByteWords (exchange_after s k row d before after l).speech × HasBytePlan (exchange_after s k row d before after l).plan
 exchange_on s k row d None None l hs own f g a h = (h.words, h.plan)
-exchange_on s k row d (Some m) None l hs own f g a h = (record { words = tt; asked = (omega arith, omega arith) }, record { messages = none_said; offer = λ a e. absurd (no_offer a e) })
+exchange_on s k row d (Some m) None l hs own f g a h = (record { words = tt; asked = (omega arith, omega arith) }, record { messages = none_said; offer = λ a e. absurd (none_some a e) })
 exchange_on s k row d None (Some n) l hs own f g a h = (record { words = words n.reselected; asked = (omega arith, omega arith) }, plans n.reselected (may_negotiate k n (aim_of k.story.aims n.initiator)))
   where
     item : Option Item
@@ -322,8 +306,8 @@ exchange_on s k row d None (Some n) l hs own f g a h = (record { words = words n
     words false = opening_small s n.initiator (may_negotiate k n item) item hs
 
     plans : (q r : Bool) → HasBytePlan (first_plan q (not q && r) (if q then messages_if (ready_of s k n.target) else no_messages))
-    plans true r = record { messages = names (ready_of s k n.target) (ready_small s k n.target hs own); offer = λ a e. absurd (no_offer a e) }
-    plans false r = record { messages = none_said; offer = λ a e. absurd (no_offer a e) }
+    plans true r = record { messages = names (ready_of s k n.target) (ready_small s k n.target hs own); offer = λ a e. absurd (none_some a e) }
+    plans false r = record { messages = none_said; offer = λ a e. absurd (none_some a e) }
 exchange_on s k row d (Some m) (Some n) l hs own f g a h = (
   words_on (host_of s n.initiator) (hearing_of k row d) k.exchange.speech (λ x e. host_small s n.initiator x hs e) g h.words,
   plan_on (hearing_of k row d) l k.exchange.plan f a h.plan,
@@ -347,6 +331,6 @@ pub speaks_bytes : (s : ScenarioValue) (p : List Row) → HasSmallLines s → Ha
 speaks_bytes s [] hs seats dv = record {
   halves = record { half = tt; fresh = tt };
   words = record { words = tt; asked = (omega arith, omega arith) };
-  plan = record { messages = none_said; offer = λ a e. absurd (no_offer a e) };
+  plan = record { messages = none_said; offer = λ a e. absurd (none_some a e) };
 }
 speaks_bytes s (row ∷ p) hs seats dv = speaks_on s (run_state s p) row hs (own_units s p seats dv.1) (speaks_bytes s p hs seats dv.1)

@@ -29,13 +29,9 @@ use Rattle.bus_due.specs.RunState.{RunState}
 use Rattle.bus_due.specs.RunSteps.{run_state_after}
 use Rattle.bus_books.proofs.Knows.{events_link}
 use Rattle.bus_books.proofs.Lookups.{id_is, carried_id, put_there}
+use Rattle.trace_laws.proofs.Impossible.{none_some}
+use Rattle.trace_laws.proofs.PointerStorySteps.{carried_link}
 use Rattle.trace_laws.proofs.ShownReplies.{checked, all_ended, free_carries}
-
-none_link : {A : Type 0} (l : Link) → (let o : Option Link = None in o) ≡ Some l → A
-none_link l e = absurd cc
-
-none_undo : {A : Type 0} (u : CarriedBytes) → (let o : Option CarriedBytes = None in o) ≡ Some u → A
-none_undo u e = absurd cc
 
 -- It holds of the status area of each process; and of that which would be brought back.
 abbrev pub OnAreas : (ProcId → List ℕ → Type 0) → List CarriedBytes → Type 0
@@ -214,10 +210,6 @@ change_on q s b d row h t = go d.change.after.rst refl b.bus_state.connection re
 
 -- ---- what would be brought back
 
-carried_link : (a : Story) (c : Option CarriedBytes) → (story_with_carried a c).link ≡ a.link
-carried_link a None = refl
-carried_link a (Some c) = refl
-
 same_undo : (q : ProcId → List ℕ → Type 0) (before after : Option Link) → after ≡ before → OnUndo q before → OnUndo q after
 same_undo q before after e h l u f g = h l u (sym e ∙ f) g
 
@@ -225,8 +217,8 @@ one_undo : (q : ProcId → List ℕ → Type 0) (link : Option Link) (x : Link) 
 one_undo q link x e h l u f g = h u (ap (λ (y : Link). y.undo) (same_Some x l (sym e ∙ f)) ∙ g)
 
 pub own_undo : (q : ProcId → List ℕ → Type 0) (b : Story) (item : Option Item) → OnAreas q b.carried → (u : CarriedBytes) → carried_if b item ≡ Some u → q u.id u.status.bytes
-own_undo q b None h u e = none_undo u e
-own_undo q b (Some (abort k)) h u e = none_undo u e
+own_undo q b None h u e = none_some u e
+own_undo q b (Some (abort k)) h u e = none_some u e
 own_undo q b (Some (process p)) h u e =
     subst (λ (x : CarriedBytes). q x.id x.status.bytes) (same_Some (carried_of b.carried p) u e)
     (subst (λ (x : ProcId). q x (carried_of b.carried p).status.bytes) (sym (carried_id b.carried p)) (h p))
@@ -264,8 +256,8 @@ begun_link q b n = go n.reselected (aim_of b.aims n.initiator)
     kept x (Some (abort k)) = refl
 
     go : (r : Bool) (item : Option Item) → OnUndo q (if r then record b { link = Some (link_of n None) } else story_with_restored (story_with_sent linked item) item).link
-    go true item = one_undo q _ (link_of n None) refl (λ u e. none_undo u e)
-    go false item = one_undo q _ (link_of n (aim_of b.aims n.initiator)) (kept (story_with_sent linked item) item ∙ sent item) (λ u e. none_undo u e)
+    go true item = one_undo q _ (link_of n None) refl (λ u e. none_some u e)
+    go false item = one_undo q _ (link_of n (aim_of b.aims n.initiator)) (kept (story_with_sent linked item) item ∙ sent item) (λ u e. none_some u e)
 
 -- Where a connection stands after the row.
 pub change_undo : (q : ProcId → List ℕ → Type 0) (s : ScenarioValue) (b : Story) (d : RowReading) (row : Row) (n : Connection) → d.next ≡ Some n → OnAreas q b.carried → OnUndo q b.link → OnUndo q (story_by_change s b d row).link
@@ -276,7 +268,7 @@ change_undo q s b d row n e h u = subst (λ (y : Option Connection). OnUndo q (i
     inside (Some l) f = inside_undo q s b l d row f h u
 
     go : (r : Bool) (x : Option Connection) → OnUndo q (if r then record b { link = None } else story_on_bus s b x (Some n) d row).link
-    go true x = λ l c f g. none_link l f
+    go true x = λ l c f g. none_some l f
     go false None = begun_link q b n
     go false (Some m) = inside b.link refl
 

@@ -70,10 +70,11 @@ use Rattle.trace_laws.proofs.CloseStatus.{offers_given, area_all, first_all}
 use Rattle.trace_laws.proofs.CloseStays.{taking, said_then}
 use Rattle.trace_laws.proofs.ConnectionRows.{ConnectionRow, GoingRow, connection_row, going_row, stage_of_connection, RowKindOf, begins_now, goes_now, row_kind}
 use Rattle.trace_laws.proofs.FirstRows.{IsFirst}
+use Rattle.trace_laws.proofs.Impossible.{wrong, wrong', none_some}
 use Rattle.trace_laws.proofs.Joint.{Stood, NextStood, link_phase}
 use Rattle.trace_laws.proofs.LastBytes.{first_is}
 use Rattle.trace_laws.proofs.LastRows.{stays_as}
-use Rattle.trace_laws.proofs.OfferTurns.{message_in_phase}
+use Rattle.trace_laws.proofs.PhaseLines.{in_phase, is_status}
 use Rattle.trace_laws.proofs.ShownReplies.{replies_first, replies_next}
 use Rattle.trace_laws.proofs.StatusCarried.{Takes, IsAsked, areas_next, undo_next}
 use Rattle.trace_laws.proofs.StatusOffers.{IsGiven, IsStatusOffered, offered_by, OfferRow, offered_next, Crossing, status_crosses}
@@ -88,21 +89,6 @@ use Rattle.scenario.specs.declared.value.Tag.TheVariants as tags
 use Rattle.scenario.specs.declared.value.Tag.{Tag}
 use Rattle.bus_dialogue.specs.Words.{tag_named}
 
-wrong : {A : Type 0} → true ≡ false → A
-wrong e = absurd cc
-
-wrong' : {A : Type 0} → false ≡ true → A
-wrong' e = absurd cc
-
-none_some : {A : Type 0} (n : Connection) → (let o : Option Connection = None in o) ≡ Some n → A
-none_some n e = absurd cc
-
-none_link : {A : Type 0} (l : Link) → (let o : Option Link = None in o) ≡ Some l → A
-none_link l e = absurd cc
-
-no_item : {A : Type 0} (i : Item) → (let o : Option Item = None in o) ≡ Some i → A
-no_item i e = absurd cc
-
 pub record StatusFacts (s : ScenarioValue) (p : List Row) : Type 0 where
   pub shown : AreRepliesShown s (run_state s p)
   pub areas : StatusAreas s (run_state s p)
@@ -112,7 +98,7 @@ pub record StatusFacts (s : ScenarioValue) (p : List Row) : Type 0 where
 pub status_start : (s : ScenarioValue) → StatusFacts s []
 status_start s = record {
   shown = replies_first s;
-  areas = record { areas = λ id. refl; undone = λ l u e f. none_link l e };
+  areas = record { areas = λ id. refl; undone = λ l u e f. none_some l e };
   offered = λ n e off. none_some n e;
   talks = λ n e off. none_some n e;
 }
@@ -144,14 +130,10 @@ status_asks s p row o prompt was next facts h n c l g ep link done id reply serv
 
     talk : CarriesBy l (carried_here k id).status.bytes k.exchange.plan k.handshakes.requests phases.MessageIn
     talk =
-        subst (CarriesBy l (carried_here k id).status.bytes k.exchange.plan k.handshakes.requests) (message_in_phase (bus_of k) lines)
+        subst (CarriesBy l (carried_here k id).status.bytes k.exchange.plan k.handshakes.requests) (in_phase (bus_of k) lines)
         (h.talks n (sym pl.connection ∙ g.row_is.connection_is) (sym (ap (λ (x : LineSet). x.rst) pl.bus) ∙ g.calm) l id link served begun_is)
 
 -- ---- the lines of STATUS
-
-abbrev is_status : Phase → Bool
-is_status phases.Status = true
-is_status _ = false
 
 status_phase : (b : LineSet) → is_status_phase b ≡ true → phase_of b ≡ phases.Status
 status_phase b e = go b.msg b.cd b.io e
@@ -347,7 +329,7 @@ row_asked s p row w m n l er em en el = go w.next.row_is
 
             by : (knows.link.item ≡ k.served) ⊎ ((x.reselected ≡ true) × (knows.link.item ≡ None)) → k.served ≡ Some (process id)
             by (inl z) = sym z ∙ item
-            by (inr z) = no_item (process id) (sym z.1 ∙ item)
+            by (inr z) = none_some (process id) (sym z.1 ∙ item)
 
         status : (id : ProcId) → l.item ≡ Some (process id) → d.crosses ≡ true → is_status_phase d.change.before ≡ true → IsStatusIn s k id (area_with (carried_here k id).status (d.change.after.data_bits % 256)).bytes
         status id e cr st =
@@ -384,7 +366,7 @@ areas_on s p row w = record { areas = λ id. on id (carried_here j id).status.by
     undone l u el eu = go (row_reading k.story.bus_state row).next refl
       where
         go : (x : Option Connection) → (row_reading k.story.bus_state row).next ≡ x → IsStatusIn s j u.id u.status.bytes
-        go None e = none_link l (sym (no_link s (row ∷ p) w.next.stood e) ∙ el)
+        go None e = none_some l (sym (no_link s (row ∷ p) w.next.stood e) ∙ el)
         go (Some n) e = on u.id u.status.bytes (undo_next q s k row n e w.statuses.areas.areas w.statuses.areas.undone l u el eu)
 
 -- ---- what the target drives

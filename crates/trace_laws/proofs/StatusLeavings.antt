@@ -29,13 +29,8 @@ use Rattle.bus_dialogue.specs.Words.{reply_to, request_by, target_answer}
 use Rattle.bus_books.specs.Giving.{OnMessage}
 use Rattle.trace_laws.specs.LastTalks.{SaysNoEnd, LastGiven, still_stays, to_close, to_save, EndsWell, stays, closes, saves, closed}
 use Rattle.trace_laws.specs.Places.{is_complete_in}
+use Rattle.trace_laws.proofs.Impossible.{wrong, wrong'}
 use Rattle.trace_laws.proofs.PlaceLeavings.{Repeats, commands, again, leaves, from_refusal}
-
-wrong : {A : Type 0} → true ≡ false → A
-wrong e = absurd cc
-
-wrong' : {A : Type 0} → false ≡ true → A
-wrong' e = absurd cc
 
 -- ---- it is not said
 

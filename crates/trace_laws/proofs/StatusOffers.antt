@@ -37,19 +37,12 @@ use Rattle.link_laws.proofs.Moves.{initiator_moves, target_moves, initiator_in_p
 use Rattle.link_laws.proofs.PhaseEnds.{leaves_lines}
 use Rattle.link_laws.proofs.Shakes.{target_row, initiator_row}
 use Rattle.trace_laws.proofs.Driven.{same_ends}
+use Rattle.trace_laws.proofs.Impossible.{wrong, wrong', none_some}
 use Rattle.trace_laws.proofs.Kept.{requests_stay}
 use Rattle.trace_laws.proofs.LinkRows as rows
 use Rattle.trace_laws.proofs.LinkRows.{LinkRow, is_unasked}
+use Rattle.trace_laws.proofs.Tests.{not_first}
 use Rattle.trace_laws.proofs.Turns.{freed_connection}
-
-wrong : {A : Type 0} → true ≡ false → A
-wrong e = absurd cc
-
-wrong' : {A : Type 0} → false ≡ true → A
-wrong' e = absurd cc
-
-none_some : {A : Type 0} (n : Connection) → (let o : Option Connection = None in o) ≡ Some n → A
-none_some n e = absurd cc
 
 -- ---- what is driven
 
@@ -148,10 +141,6 @@ opens s p t n ack atn x h = offered_by s _ n (ends false ack atn x true true fal
 zero_is : (y : ℕ) → y ≡ 0 → (y == 0) ≡ false → ⊥
 zero_is y e f = wrong (sym (ap (λ (x : ℕ). x == 0) e) ∙ f)
 
-unsame : (q r : Bool) → (not q && r) ≡ true → q ≡ false
-unsame true r e = wrong' e
-unsame false r e = refl
-
 no_status : (msg cd : Bool) → same_phases msg cd true false true true ≡ false → (not msg && cd && true) ≡ false
 no_status true cd e = refl
 no_status false true e = wrong e
@@ -174,7 +163,7 @@ left_in s p t n atn msg cd x y v l (Some phases.MessageOut) f h own m w k a z u 
 left_in s p t n atn msg cd x y v l (Some phases.MessageIn) f h own m w k a z u some id reply given = wrong' (status_lines (lines_by v true l (Some phases.MessageIn)) f (side_is p t n (lines_by v true l (Some phases.MessageIn)) f k) a)
 left_in s p t n atn msg cd x y v l (Some phases.Status) f h own m w k a z u some id reply given =
     sym (ap (λ (b : LineSet). b.data_bits) (side_is p t n (lines_by v true l (Some phases.Status)) f k))
-    ∙ ap byte_bits (own ∙ w.turned (ap (λ (b : LineSet). b.io) h.stands.bus_is) (ap is_status_phase h.stands.bus_is ∙ no_status msg cd (unsame (same_phases msg cd true false true true) _ m)) (ap is_status_phase k.stands.bus_is ∙ a) id reply given)
+    ∙ ap byte_bits (own ∙ w.turned (ap (λ (b : LineSet). b.io) h.stands.bus_is) (ap is_status_phase h.stands.bus_is ∙ no_status msg cd (not_first (same_phases msg cd true false true true) _ m)) (ap is_status_phase k.stands.bus_is ∙ a) id reply given)
 
 -- After one to the target it drives none.
 left_out : (s : ScenarioValue) (p : List Row) (t : ℕ) (n : Connection) (e : EndLines) (v : Serving) (l : Leaving) (o : Option Phase) (f : EndLines) → Linked p n e → e.bsy ≡ false → Linked (row_of_lines t n.target (lines_by v false l o) ∷ p) n f → OffersStatus s (row_of_lines t n.target (lines_by v false l o) ∷ p) f
@@ -267,7 +256,7 @@ asked_crosses s p t n bsy atn msg cd io y id reply h un v w = bits ∙ v (ap is_
     some false e = e
     some true e = wrong (sym w.odd ∙ ap (λ (z : ℕ). count_ones z % 2 == 1) (bits ∙ zero_of e) ∙ zero_even)
 
-left_req : (v : Serving) (io : Bool) (l : Leaving) (o : Option Phase) → (lines_by v io l o).req ≡ false
+pub left_req : (v : Serving) (io : Bool) (l : Leaving) (o : Option Phase) → (lines_by v io l o).req ≡ false
 left_req v io l None = refl
 left_req v true l (Some phases.DataOut) = refl
 left_req v true l (Some phases.DataIn) = refl

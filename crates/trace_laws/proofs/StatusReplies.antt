@@ -6,7 +6,6 @@ use Rattle.std.specs.List.{list_any}
 use Rattle.std.proofs.lemmas.Option.{same_Some}
 use Rattle.bus_base.specs.declared.Event.TheVariants as events
 use Rattle.bus_base.specs.declared.ProcId.{ProcId}
-use Rattle.bus_trace.specs.LineSet.{LineSet}
 use Rattle.bus_trace.specs.declared.Row.{Row}
 use Rattle.bus_trace.specs.declared.changes.Change.{Change}
 use Rattle.bus_trace.specs.declared.connection.Connection.{Connection}
@@ -39,20 +38,10 @@ use Rattle.link_laws.specs.LinkStages.{AnyStage, apart, linked}
 use Rattle.trace_laws.specs.Places.{IsUntouched, PlacedIf, PlaceFacts}
 use Rattle.trace_laws.specs.Tells.{has_answer, AreRepliesShown}
 use Rattle.trace_laws.proofs.Called.{link_none}
+use Rattle.trace_laws.proofs.Impossible.{wrong, wrong', none_some}
 use Rattle.trace_laws.proofs.Joint.{Stood, link_connection}
 use Rattle.trace_laws.proofs.KeptReplies.{NoReplyTo, events_keep}
-
-wrong : {A : Type 0} → true ≡ false → A
-wrong e = absurd cc
-
-wrong' : {A : Type 0} → false ≡ true → A
-wrong' e = absurd cc
-
-none_some : {A : Type 0} (n : Connection) → (let o : Option Connection = None in o) ≡ Some n → A
-none_some n e = absurd cc
-
-none_link : {A : Type 0} (l : Link) → (let o : Option Link = None in o) ≡ Some l → A
-none_link l e = absurd cc
+use Rattle.trace_laws.proofs.PhaseLines.{command_phase}
 
 -- ---- events that show no reply
 
@@ -131,15 +120,6 @@ no_link s p was none = go was.here
     go (linked n h) = none_some n (sym none ∙ pl.connection ∙ link_connection s p n h)
     go (apart h alone) = link_none s p h (sym pl.connection ∙ none)
 
-is_in_command : (b : LineSet) → is_command b ≡ true → phase_of b ≡ phases.Command
-is_in_command b e = go b.msg b.cd b.io e
-  where
-    go : (m d i : Bool) → (not m && d && not i) ≡ true → (if m then (if i then phases.MessageIn else phases.MessageOut) else if d then (if i then phases.Status else phases.Command) else if i then phases.DataIn else phases.DataOut) ≡ phases.Command
-    go true d i z = wrong' z
-    go false true true z = wrong' z
-    go false true false z = refl
-    go false false i z = wrong' z
-
 -- In COMMAND the process has no reply.
 unanswered_in : (s : ScenarioValue) (p : List Row) (n : Connection) (c : Change) (id : ProcId) (row : Row) → PlaceFacts s p → GoesOn s (run_state s p) row n c → (run_state s p).served ≡ Some (process id) → is_command c.before ≡ true → reply_in (array_of s (run_state s p)).replies id ≡ None
 unanswered_in s p n c id row places g served here =
@@ -147,7 +127,7 @@ unanswered_in s p n c id row places g served here =
     let pr = places.of_scenario id served in
     let own : pr.0.id ≡ id = id_is s id pr.0 pr.1 in
     let at : process_served s k ≡ Some pr.0 = ap (process_item s) served ∙ pr.1 in
-    let in_command : phase_of (bus_of k) ≡ phases.Command = is_in_command (bus_of k) (ap is_command g.row_is.bus_is ∙ here) in
+    let in_command : phase_of (bus_of k) ≡ phases.Command = command_phase (bus_of k) (ap is_command g.row_is.bus_is ∙ here) in
     ap (λ (x : Array). reply_in x.replies id) (ap (or_start s) places.array_is)
     ∙ ap (λ (x : ProcId). reply_in places.array.replies x) (sym own)
     ∙ (by k.exchange.begun pr.0 (subst (λ (x : Phase). PlacedIf k.exchange.begun places.array pr.0 k.exchange.plan k.handshakes (bus_of k).atn x) in_command (places.placed n g.row_is.connection_is g.calm pr.0 at))).reply
@@ -210,7 +190,7 @@ none_again s p row was of shown places id some = by_rst d.change.after.rst refl
 
     connected : (l : Link) (n : Connection) → k.story.link ≡ Some l → d.next ≡ Some n → d.change.after.rst ≡ false → RowOf s k row → NoReplyTo id (connection_events s k.story l d)
     connected l n el en er (row_apart e f) = none_some n (sym f ∙ en)
-    connected l n el en er (begins m b) = none_link l (sym (no_link s p was b.first.connection_is) ∙ el)
+    connected l n el en er (begins m b) = none_some l (sym (no_link s p was b.first.connection_is) ∙ el)
     connected l n el en er (row_ends m g) = none_some n (sym g.next_is ∙ en)
     connected l n el en er (under_reset r e) = wrong (sym r ∙ er)
     connected l n el en er (row_goes_on m c g) = at (changes_phase d.change) (is_completion l d.change)

@@ -15,7 +15,6 @@ use Rattle.msg_grammar.specs.declared.message.MsgIn.TheVariants as to_initiator
 use Rattle.scenario.specs.Value.{ScenarioValue}
 use Rattle.bus_story.specs.BusState.{row_reading}
 use Rattle.bus_story.specs.Links.{Link}
-use Rattle.bus_dialogue.specs.declared.exchange.Cause.{Cause}
 use Rattle.bus_dialogue.specs.declared.exchange.Cause.TheVariants as causes
 use Rattle.bus_dialogue.specs.declared.exchange.Leaving.{Leaving}
 use Rattle.bus_dialogue.specs.declared.exchange.Phase.{Phase}
@@ -35,24 +34,14 @@ use Rattle.bus_books.specs.Rows.{reading_in}
 use Rattle.bus_books.proofs.InConnection.{InConnection, in_connection}
 use Rattle.trace_laws.specs.LastTalks.{LastGiven}
 use Rattle.trace_laws.specs.Statuses.{HasStatus, UndoesStatus, CarriesBy}
+use Rattle.trace_laws.proofs.Impossible.{wrong, wrong'}
+use Rattle.trace_laws.proofs.NamedTurns.{is_message_cause}
+use Rattle.trace_laws.proofs.PhaseLines.{in_phase, out_lines}
 use Rattle.trace_laws.proofs.RowItems.{link_still}
 use Rattle.trace_laws.proofs.StatusLeavings.{Completes, in_status, refused, completes_from, left_alone}
 use Rattle.trace_laws.proofs.StatusTalks.{TalksOf, status_kept, quiet}
-use Rattle.trace_laws.proofs.UndoneAnswers.{in_phase}
-use Rattle.trace_laws.proofs.UndoneTurns.{TurnOf, out_of, not_out}
-
-wrong : {A : Type 0} → true ≡ false → A
-wrong e = absurd cc
-
-wrong' : {A : Type 0} → false ≡ true → A
-wrong' e = absurd cc
-
-some_zero : {A : Type 0} (count : ℕ) → (count == 0) ≡ false → count ≡ 0 → A
-some_zero count e f = wrong (sym (ap (λ (x : ℕ). x == 0) f) ∙ e)
-
-abbrev is_in_cause : Cause → Bool
-is_in_cause causes.InMessage = true
-is_in_cause _ = false
+use Rattle.trace_laws.proofs.Tests.{some_zero}
+use Rattle.trace_laws.proofs.UndoneTurns.{TurnOf, not_out}
 
 -- MESSAGE OUT answers a message where MESSAGE IN was left.
 from_in : (b : LineSet) → cause_after b ≡ causes.InMessage → is_message_in b ≡ true
@@ -60,8 +49,8 @@ from_in b e = go (is_message_in b) b.cd e
   where
     go : (q d : Bool) → (if q then causes.InMessage else if d then causes.InStatus else causes.InData) ≡ causes.InMessage → q ≡ true
     go true d z = refl
-    go false true z = wrong' (ap is_in_cause z)
-    go false false z = wrong' (ap is_in_cause z)
+    go false true z = wrong' (ap is_message_cause z)
+    go false false z = wrong' (ap is_message_cause z)
 
 -- STATUS is left after a byte.
 status_given : (s : ScenarioValue) (k : RunState) (n : Connection) → phase_of (bus_of k) ≡ phases.Status → IsOver s k n → (k.handshakes.requests == 0) ≡ false
@@ -138,7 +127,7 @@ turn_talk s k row n c l m id t over last em h =
     refuses b e ec em = (kept w.0, undone w.1)
       where
         p : j.exchange.plan ≡ plan_in_message_out (hearing_of k row (reading_in k.story.bus_state n c false)) k.exchange.plan
-        p = out_plan (out_of c.after e t.known) true b
+        p = out_plan (out_lines c.after e t.known) true b
 
         lines : is_message_in c.before ≡ true
         lines = from_in c.before (sym (ap (λ (x : Plan). x.cause) p) ∙ ec)
@@ -157,7 +146,7 @@ turn_talk s k row n c l m id t over last em h =
         undone (inr z) = z
 
     first_out : k.exchange.begun ≡ false → phase_of c.after ≡ phases.MessageOut → CarriesBy l bytes j.exchange.plan j.handshakes.requests phases.MessageOut
-    first_out b e ec em = wrong' (sym (ap is_in_cause (ap (λ (x : Plan). x.cause) (out_plan (out_of c.after e t.known) false b) ∙ (t.speaks.before_all b).cause_is)) ∙ ap is_in_cause ec)
+    first_out b e ec em = wrong' (sym (ap is_message_cause (ap (λ (x : Plan). x.cause) (out_plan (out_lines c.after e t.known) false b) ∙ (t.speaks.before_all b).cause_is)) ∙ ap is_message_cause ec)
 
     -- MESSAGE IN follows
     gives : k.exchange.begun ≡ true → phase_of c.after ≡ phases.MessageIn → CarriesBy l bytes j.exchange.plan j.handshakes.requests phases.MessageIn

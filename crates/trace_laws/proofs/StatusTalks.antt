@@ -8,7 +8,7 @@ use Rattle.bus_trace.specs.LineSet.{LineSet}
 use Rattle.bus_trace.specs.declared.Row.{Row}
 use Rattle.bus_trace.specs.declared.changes.Change.{Change}
 use Rattle.bus_trace.specs.declared.connection.Connection.{Connection}
-use Rattle.bus_trace.specs.Phases.{changes_phase, is_command, is_data, is_message_in, is_message_out}
+use Rattle.bus_trace.specs.Phases.{changes_phase, is_message_in, is_message_out}
 use Rattle.bus_trace.specs.Terms.{receiver_in}
 use Rattle.bus_phases.specs.Dialogue.{fresh_bytes}
 use Rattle.msg_grammar.specs.declared.message.MsgIn.{MsgIn}
@@ -18,7 +18,7 @@ use Rattle.msg_grammar.specs.Messages.{got_in, got_out}
 use Rattle.scenario.specs.Value.{ScenarioValue}
 use Rattle.disk_array.specs.Processes.{same_id}
 use Rattle.bus_story.specs.BusState.{RowReading, row_reading, whole_in, whole_out, message_in, message_out}
-use Rattle.bus_story.specs.CarriedBytes.{Area, area_with, CarriedBytes, carried_of, carried_after_byte, is_status_phase}
+use Rattle.bus_story.specs.CarriedBytes.{Area, area_with, CarriedBytes, carried_of, carried_after_byte}
 use Rattle.bus_story.specs.HistoryEvents.{carried_if, row_events_by}
 use Rattle.bus_story.specs.Items.{Item, process}
 use Rattle.bus_story.specs.Links.{Link, last_out}
@@ -35,27 +35,15 @@ use Rattle.bus_books.specs.Rows.{IsRowIn, reading_in}
 use Rattle.bus_books.proofs.InConnection.{reading_is}
 use Rattle.bus_books.proofs.Lookups.{self_id, id_is, carried_id, put_own}
 use Rattle.trace_laws.specs.Statuses.{HasStatus, UndoesStatus, CarriesBy}
+use Rattle.trace_laws.proofs.Impossible.{wrong, wrong', none_some}
 use Rattle.trace_laws.proofs.LastRows.{KeptPlan, Stays, stays_as}
+use Rattle.trace_laws.proofs.PhaseLines.{out_in, out_phase, in_phase}
+use Rattle.trace_laws.proofs.PointerStorySteps.{byte_id}
 use Rattle.trace_laws.proofs.RowItems.{LinkAfter, says, hears, stays, heard_link, link_crossed, link_still}
 use Rattle.trace_laws.proofs.StatusCarried.{areas_next, events_on}
-use Rattle.trace_laws.proofs.UndoneAnswers.{in_phase, out_phase}
-
-wrong : {A : Type 0} → true ≡ false → A
-wrong e = absurd cc
-
-wrong' : {A : Type 0} → false ≡ true → A
-wrong' e = absurd cc
-
-no_in : {A : Type 0} (m : MsgIn) → (let o : Option MsgIn = None in o) ≡ Some m → A
-no_in m e = absurd cc
-
-no_out : {A : Type 0} (m : MsgOut) → (let o : Option MsgOut = None in o) ≡ Some m → A
-no_out m e = absurd cc
+use Rattle.trace_laws.proofs.Tests.{suc_some}
 
 -- ---- a byte that was carried stays
-
-suc_some : (n : ℕ) → (suc n == 0) ≡ false
-suc_some n = grind (arith, nat_tests)
 
 more_some : (bytes : List ℕ) (byte : ℕ) → HasStatus (bytes ++ byte ∷ [])
 more_some [] byte = refl
@@ -105,7 +93,7 @@ out_none k row n c now r en other = ap (λ (d : RowReading). d.out) (reading_is 
     go true (inr x) = ap (λ (q : Bool). if q then whole_out (got_out (fresh_bytes k.story.bus_state.dialogue ++ c.after.data_bits % 256 ∷ [])) else None) x
 
 pub quiet : (k : RunState) (row : Row) (n : Connection) (c : Change) (now : Bool) (l : Link) → IsRowIn k row n c → is_some (receiver_in n c) ≡ now → (now ≡ false) ⊎ (is_message_out c.before ≡ false) → UndoesIn k row l
-quiet k row n c now l r en other m u e = no_out m (sym (out_none k row n c now r en other) ∙ e)
+quiet k row n c now l r en other m u e = none_some m (sym (out_none k row n c now r en other) ∙ e)
 
 -- ---- the phase stays
 
@@ -182,25 +170,16 @@ out_talk s k row n c l m id r ep en out el em h =
         by : LinkAfter s k.story l (message_out k.story.bus_state.dialogue c true) (message_in k.story.bus_state.dialogue c true) j.story.link → m.undo ≡ l.undo
         by (says x e z) = ap (λ (y : Link). y.undo) (same_Some m (record l { last = last_out x l }) (sym em ∙ z))
         by (stays e f z) = ap (λ (y : Link). y.undo) (same_Some m l (sym em ∙ z))
-        by (hears x e f z) = no_in x (sym none ∙ f)
+        by (hears x e f z) = none_some x (sym none ∙ f)
 
 -- ---- a byte of MESSAGE IN
-
-no_out_in : (b : LineSet) → is_message_in b ≡ true → is_message_out b ≡ false
-no_out_in b e = go b.msg b.cd b.io e
-  where
-    go : (x d i : Bool) → (x && d && i) ≡ true → (x && d && not i) ≡ false
-    go true true true z = refl
-    go true true false z = wrong' z
-    go true false i z = wrong' z
-    go false d i z = wrong' z
 
 pub in_talk : (s : ScenarioValue) (k : RunState) (row : Row) (n : Connection) (c : Change) (l m : Link) (id : ProcId) → IsRowIn k row n c → changes_phase c ≡ false → is_some (receiver_in n c) ≡ true → is_message_in c.before ≡ true → k.story.link ≡ Some l → (run_state_after s k row).story.link ≡ Some m
     → (k.exchange.plan.messages ≡ one_message to_initiator.CommandComplete → l.item ≡ Some (process id)) → (k.exchange.plan.messages ≡ one_message to_initiator.CommandComplete → k.handshakes.requests ≡ 0 → message_in k.story.bus_state.dialogue c true ≡ Some to_initiator.CommandComplete)
     → TalksOf k l id → TalksOf (run_state_after s k row) m id
 in_talk s k row n c l m id r ep en into el em named first h =
     subst (CarriesBy m (carried_here j id).status.bytes j.exchange.plan j.handshakes.requests) (sym (t.phase ∙ here))
-    (λ e. let f = sym t.plan.messages ∙ e in let w = was f in (status_kept s k row l id el (quiet k row n c true l r en (inr (no_out_in c.before into))) w.0, inr (undone f w.0 w.1)))
+    (λ e. let f = sym t.plan.messages ∙ e in let w = was f in (status_kept s k row l id el (quiet k row n c true l r en (inr (out_in c.before into))) w.0, inr (undone f w.0 w.1)))
   where
     j : RunState
     j = run_state_after s k row
@@ -218,7 +197,7 @@ in_talk s k row n c l m id r ep en into el em named first h =
     was = subst (CarriesBy l (carried_here k id).status.bytes k.exchange.plan k.handshakes.requests) here h
 
     out : message_out k.story.bus_state.dialogue c true ≡ None
-    out = ap (λ (q : Bool). if q then whole_out (got_out (fresh_bytes k.story.bus_state.dialogue ++ c.after.data_bits % 256 ∷ [])) else None) (no_out_in c.before into)
+    out = ap (λ (q : Bool). if q then whole_out (got_out (fresh_bytes k.story.bus_state.dialogue ++ c.after.data_bits % 256 ∷ [])) else None) (out_in c.before into)
 
     own : k.exchange.plan.messages ≡ one_message to_initiator.CommandComplete → HasStatus (carried_here k id).status.bytes → UndoesStatus (carried_if k.story l.item)
     own e w = subst (λ (o : Option Item). UndoesStatus (carried_if k.story o)) (sym (named e)) w
@@ -227,12 +206,12 @@ in_talk s k row n c l m id r ep en into el em named first h =
     undone e w u = by (link_crossed s k row n c l r en el)
       where
         by : LinkAfter s k.story l (message_out k.story.bus_state.dialogue c true) heard j.story.link → UndoesStatus m.undo
-        by (says x f z) = no_out x (sym out ∙ f)
+        by (says x f z) = none_some x (sym out ∙ f)
         by (hears x f g z) = subst UndoesStatus (sym (ap (λ (y : Link). y.undo) (same_Some m (heard_link s k.story l x) (sym em ∙ z)))) (own e w)
         by (stays f g z) = subst UndoesStatus (sym (ap (λ (y : Link). y.undo) (same_Some m l (sym em ∙ z)))) (at u)
           where
             at : (k.handshakes.requests ≡ 0) ⊎ UndoesStatus l.undo → UndoesStatus l.undo
-            at (inl none) = no_in to_initiator.CommandComplete (sym g ∙ first e none)
+            at (inl none) = none_some to_initiator.CommandComplete (sym g ∙ first e none)
             at (inr x) = x
 
 -- ---- a byte of STATUS, and one of COMMAND and data
@@ -264,15 +243,6 @@ status_line b e = go b.msg b.cd b.io e
     go true d true z = wrong' (ap is_status z)
     go true d false z = wrong' (ap is_status z)
     go false d i z = refl
-
-byte_id : (c : CarriedBytes) (b : LineSet) (byte : ℕ) → (carried_after_byte c b byte).id ≡ c.id
-byte_id c b byte = go (is_command b) (is_data b) (is_status_phase b)
-  where
-    go : (x y z : Bool) → (if x then record c { command = area_with c.command byte; block = c.block ++ byte ∷ [] } else if y then record c { moved = area_with c.moved byte } else if z then record c { status = area_with c.status byte } else c).id ≡ c.id
-    go true y z = refl
-    go false true z = refl
-    go false false true = refl
-    go false false false = refl
 
 -- The process that the initiator knows takes the byte.
 takes_status : (s : ScenarioValue) (k : RunState) (row : Row) (n : Connection) (c : Change) (l : Link) (id : ProcId) → IsRowIn k row n c → is_some (receiver_in n c) ≡ true → k.story.link ≡ Some l → l.item ≡ Some (process id) → phase_of c.before ≡ phases.Status → is_message_out c.before ≡ false → is_message_in c.before ≡ false → HasStatus (carried_here (run_state_after s k row) id).status.bytes

@@ -1,6 +1,6 @@
 -- As STATUS follows a phase to the initiator, the status that the target drives with it is that of the reply: the one that was given, or the one
 -- that is given with the row (6.1.5, 6.4, 7.3).
-use Rattle.std.proofs.Common.{inl, inr, ◌≡◌, ◌⊎◌, Bool, true, false, not, ◌&&◌, ◌||◌, ◌∙◌, List, [], ◌∷◌, Option, Some, None, refl, sym, ap, subst}
+use Rattle.std.proofs.Common.{inl, inr, ◌≡◌, ◌⊎◌, Bool, true, false, not, ◌&&◌, ◌∙◌, List, [], ◌∷◌, Option, Some, None, refl, sym, ap, subst}
 use Rattle.std.specs.Prelude.{if◌then◌else◌, is_some}
 use Rattle.std.proofs.lemmas.Option.{same_Some}
 use Rattle.bus_base.specs.declared.Event.TheVariants as events
@@ -32,25 +32,18 @@ use Rattle.bus_lines.specs.Handshakes.{Handshakes}
 use Rattle.bus_due.specs.RunState.{RunState, array_of, or_start, process_served, carried_here}
 use Rattle.bus_due.specs.RunSteps.{run_state, array_after_events}
 use Rattle.bus_due.specs.Tasks.{reply_now, status_by, task_if, task_of}
+use Rattle.scsi_device.proofs.Finds.{or_false}
 use Rattle.bus_books.specs.Rows.{IsRowIn}
 use Rattle.bus_books.proofs.Lookups.{self_id, carried_id}
 use Rattle.trace_laws.specs.Places.{IsTaken, PlacedBefore, PlacedIn, RunsOpen, PlaceFacts}
 use Rattle.trace_laws.specs.Tells.{has_answer, AreRepliesShown, FailsIn, FailsBefore}
 use Rattle.trace_laws.proofs.AnsweredProcesses.{run_is}
+use Rattle.trace_laws.proofs.Impossible.{wrong, wrong', none_some}
 use Rattle.trace_laws.proofs.KeptReplies.{NoReplyTo}
 use Rattle.trace_laws.proofs.OtherProcesses.{executed, reply_at}
 use Rattle.trace_laws.proofs.PlaceTurnRows.{shown_is}
 use Rattle.trace_laws.proofs.StatusReplies.{reply_stays}
 use Rattle.bus_trace.specs.Terms.{receiver_in}
-
-wrong : {A : Type 0} → true ≡ false → A
-wrong e = absurd cc
-
-wrong' : {A : Type 0} → false ≡ true → A
-wrong' e = absurd cc
-
-none_some : {A : Type 0} (r : Reply) → (let o : Option Reply = None in o) ≡ Some r → A
-none_some r e = absurd cc
 
 -- ---- the phase that is left
 
@@ -99,11 +92,6 @@ runs_well a p c v h attention b io open_is = go b.msg b.cd b.io io
 -- STATUS follows a phase that is not COMMAND.
 shown_none : (s : ScenarioValue) (k : RunState) (c : CarriedBytes) (g : Change) → is_command g.before ≡ false → phase_events s k.story (Some c) g ≡ (if is_status_phase g.after && not c.shown && not c.refused && true then status_event c.id c.failure ∷ [] else [])
 shown_none s k c g e = ap (λ (x : Bool). status_events (Some c) g.after (if x && is_whole_block c then queue_event s k.story.history c.id ∷ [] else [])) e
-
-unmarked : (x y : Bool) → (x || y) ≡ false → (x ≡ false) × (y ≡ false)
-unmarked true y e = wrong e
-unmarked false true e = wrong e
-unmarked false false e = (refl, refl)
 
 not_command : (b : LineSet) → b.io ≡ true → is_command b ≡ false
 not_command b e = ap (λ (x : Bool). not b.msg && b.cd && not x) e ∙ go b.msg b.cd
@@ -179,7 +167,7 @@ turned_status s p row n c l pr reply t given = go (reply_in (array_of s k).repli
     runs e item =
         let open_is : has_answer own ≡ false = sym (t.shown pr.id) ∙ ap (λ (o : Option Reply). is_some o) e in
         let w = t.well item open_is in
-        let m = unmarked own.shown own.refused open_is in
+        let m = or_false own.shown own.refused open_is in
         ran w
         (shown
         ∙ ap (λ (x : Option Item). phase_events s k.story (carried_if k.story x) c) item

@@ -20,7 +20,9 @@ use Rattle.bus_laws.specs.Ends.{EndLines, connected_bus, Linked}
 use Rattle.bus_laws.proofs.Rows.{fault_change}
 use Rattle.link_laws.proofs.Faults.{linked_fault}
 use Rattle.link_laws.proofs.Moves.{terms_after, same_self, no_rise}
-use Rattle.trace_laws.proofs.Driven.{Driven, AfterDriven, goes_on, no_third, wrong, wrong'}
+use Rattle.trace_laws.proofs.Driven.{Driven, AfterDriven, goes_on, no_third}
+use Rattle.trace_laws.proofs.Impossible.{wrong, wrong'}
+use Rattle.trace_laws.proofs.Tests.{none_both}
 
 is_same : (a b : ℕ) → (a == b) ≡ true → b ≡ a
 is_same a b e = grind (arith, nat_tests)
@@ -71,10 +73,6 @@ fault_begun : (p : List Row) (n : Connection) (e : EndLines) (t d bit : ℕ) →
 fault_begun p n e t d bit h =
     (terms_after p (row_of_fault t d bit) n (change_to (connected_bus e) (connected_bus e) (drives p d) (drives p d)) (fault_change p t d bit (connected_bus e) (drives p d) h.stands.bus_is refl) h.stands.connection_is (linked_fault p n e t d bit h).stands.connection_is).begun_is
     ∙ (λ i. not (same_self e.msg i && same_self e.cd i && same_self e.io i) || begun p)
-
-none_both : (q : Bool) → (let o : Option ℕ = None in if q then o else o) ≡ None
-none_both true = refl
-none_both false = refl
 
 fault_heard : (p : List Row) (n : Connection) (e : EndLines) (t d bit : ℕ) → Linked p n e → dialogue (row_of_fault t d bit ∷ p) ≡ dialogue p
 fault_heard p n e t d bit h =

@@ -32,6 +32,7 @@ use Rattle.bus_dialogue.specs.Exchange.{Exchange, bytes_of_messages, message_byt
 use Rattle.bus_due.specs.RunState.{RunState, bus_of}
 use Rattle.bus_due.specs.RunSteps.{run_state_after}
 use Rattle.bus_due.specs.Sights.{hearing_of}
+use Rattle.scsi_device.proofs.Finds.{and_true}
 use Rattle.bus_books.specs.Giving.{AreGiven, OnMessage, OnMessages}
 use Rattle.bus_books.specs.Listening.{half_after}
 use Rattle.bus_books.specs.Rows.{IsRowIn, reading_in}
@@ -39,11 +40,13 @@ use Rattle.bus_books.specs.Speaking.{IsSpeaking}
 use Rattle.bus_books.proofs.Gives.{byte_messages}
 use Rattle.bus_books.proofs.Hearable.{heard_next}
 use Rattle.bus_books.proofs.InConnection.{InConnection, in_connection, same_phase_is}
+use Rattle.bus_books.proofs.RowTies.{not_is, implied}
+use Rattle.trace_laws.proofs.Impossible.{none_some, wrong, wrong'}
+use Rattle.trace_laws.proofs.OfferRows.{in_same, out_same}
 use Rattle.trace_laws.proofs.OutMessages.{is_abort_out, NoAbort, out_is_no_abort, last_is_whole}
 use Rattle.trace_laws.proofs.RowItems.{over_after, LinkAfter, says, hears, stays, heard_link, link_crossed}
 use Rattle.trace_laws.proofs.TalkSteps.{not_both, CrossesIn, incomplete, in_part, in_whole, out_part, out_whole, other_crosses}
-use Rattle.trace_laws.proofs.TalkRows.{TalkRow, in_phase_same, out_phase_same, a_request, answered_same}
-use Rattle.trace_laws.proofs.Driven.{wrong, wrong'}
+use Rattle.trace_laws.proofs.TalkRows.{TalkRow, a_request, answered_same}
 use Rattle.trace_laws.specs.ItemTalks.{is_complete_in, is_disconnect_in, frees_bus, plans_well, is_sense_item, Talk, talk_of, IsNameOf, IsUnnamed, TalksBy, Talks}
 
 byte_next : (out last : Bool) (m : Option MsgOut) (p : Plan) → (if out then plan_after_message p last m else p).next ≡ p.next
@@ -131,18 +134,6 @@ complete_bytes (to_initiator.SimpleTag tag) e = wrong' e
 complete_bytes (to_initiator.Sdtr offer) e = wrong' e
 complete_bytes to_initiator.Reject e = wrong' e
 
-both_parts : (a b : Bool) → (a && b) ≡ true → (a ≡ true) × (b ≡ true)
-both_parts true b e = (refl, e)
-both_parts false b e = wrong' e
-
-not_is : (q : Bool) → not q ≡ true → q ≡ false
-not_is true e = wrong' e
-not_is false e = refl
-
-or_right : (a b : Bool) → (not a || b) ≡ true → a ≡ true → b ≡ true
-or_right true b e f = e
-or_right false b e f = wrong' f
-
 abbrev CompletesAlone : Messages → Next → MsgIn → Type 0
 CompletesAlone all next m = is_complete_in (Some m) ≡ true → (frees_bus next ≡ true) × (length (bytes_of_messages all) ≡ 1)
 
@@ -157,18 +148,18 @@ planned_well : (sense : Bool) (m : Messages) (next : Next) → plans_well sense 
 planned_well sense m next e = record { complete = (first m.first refl, second m.second refl); disconnect = (one m.first (λ z. (kept z).0), one m.second (λ z. (kept z).1)) }
   where
     two : ((not (is_complete_in m.second) && (not (is_complete_in m.first) || (is_none m.second && frees_bus next))) ≡ true) × ((not sense || (not (is_disconnect_in m.first) && not (is_disconnect_in m.second))) ≡ true)
-    two = both_parts (not (is_complete_in m.second) && (not (is_complete_in m.first) || (is_none m.second && frees_bus next))) (not sense || (not (is_disconnect_in m.first) && not (is_disconnect_in m.second))) e
+    two = and_true (not (is_complete_in m.second) && (not (is_complete_in m.first) || (is_none m.second && frees_bus next))) (not sense || (not (is_disconnect_in m.first) && not (is_disconnect_in m.second))) e
 
     alone : (not (is_complete_in m.second) ≡ true) × ((not (is_complete_in m.first) || (is_none m.second && frees_bus next)) ≡ true)
-    alone = both_parts (not (is_complete_in m.second)) (not (is_complete_in m.first) || (is_none m.second && frees_bus next)) two.0
+    alone = and_true (not (is_complete_in m.second)) (not (is_complete_in m.first) || (is_none m.second && frees_bus next)) two.0
 
     kept : sense ≡ true → (is_disconnect_in m.first ≡ false) × (is_disconnect_in m.second ≡ false)
-    kept z = let w = both_parts (not (is_disconnect_in m.first)) (not (is_disconnect_in m.second)) (or_right sense (not (is_disconnect_in m.first) && not (is_disconnect_in m.second)) two.1 z) in (not_is (is_disconnect_in m.first) w.0, not_is (is_disconnect_in m.second) w.1)
+    kept z = let w = and_true (not (is_disconnect_in m.first)) (not (is_disconnect_in m.second)) (implied sense (not (is_disconnect_in m.first) && not (is_disconnect_in m.second)) two.1 z) in (not_is (is_disconnect_in m.first) w.0, not_is (is_disconnect_in m.second) w.1)
 
     first : (x : Option MsgIn) → m.first ≡ x → OnMessage (CompletesAlone m next) x
     first None z = tt
     first (Some y) z = λ f.
-        let w = both_parts (is_none m.second) (frees_bus next) (or_right (is_complete_in m.first) (is_none m.second && frees_bus next) alone.1 (ap is_complete_in z ∙ f)) in
+        let w = and_true (is_none m.second) (frees_bus next) (implied (is_complete_in m.first) (is_none m.second && frees_bus next) alone.1 (ap is_complete_in z ∙ f)) in
         (w.1, (λ i. length (message_bytes (z i) ++ message_bytes (none_is m.second w.0 i))) ∙ ap (λ (b : List ℕ). length (b ++ [])) (complete_bytes y f))
 
     second : (x : Option MsgIn) → m.second ≡ x → OnMessage (CompletesAlone m next) x
@@ -206,12 +197,6 @@ first_name m half count byte lun g none first lt e =
 pub on_message : (q : MsgIn → Type 0) (m : MsgIn) (x : Option MsgIn) → x ≡ Some m → OnMessage q x → q m
 on_message q m x e h = subst (λ (y : Option MsgIn). OnMessage q y) e h
 
-no_message : {A : Type 0} (m : MsgIn) → (let a : Option MsgIn = None in a) ≡ Some m → A
-no_message m e = absurd cc
-
-no_out_message : {A : Type 0} (m : MsgOut) → (let a : Option MsgOut = None in a) ≡ Some m → A
-no_out_message m e = absurd cc
-
 pub in_talk : (s : ScenarioValue) (k : RunState) (row : Row) (n : Connection) (c : Change) (l : Link) (dev : ℕ) → TalkRow s k row n c → k.story.link ≡ Some l → TalksBy s (talk_of k) n l → changes_phase c ≡ false → receiver_in n c ≡ Some dev → is_fault row.kind ≡ false → is_message_in c.before ≡ true → Talks s (run_state_after s k row) n
 in_talk s k row n c l dev g el h ep er ef here m em = go (link_crossed s k row n c l r en el)
   where
@@ -248,7 +233,7 @@ in_talk s k row n c l dev g el h ep er ef here m em = go (link_crossed s k row n
     w : CrossesIn (talk_of k) c.after j.handshakes.requests
     w = record {
       here = ap is_message_in b ∙ here;
-      in_same = in_phase_same c.before c.after (same_phase_is c ep) ∙ here;
+      in_same = in_same c.before c.after (same_phase_is c ep) ∙ here;
       begun = next.2;
       more = next.1;
       requests_are = t.requests_are here up;
@@ -284,8 +269,8 @@ in_talk s k row n c l dev g el h ep er ef here m em = go (link_crossed s k row n
     to x z f = subst (λ (y : Link). TalksBy s (talk_of j) n y) (same_Some x m (sym z ∙ em)) (subst (λ (y : Talk). TalksBy s y n x) (sym same) f)
 
     go : LinkAfter s k.story l (message_out d c true) (message_in d c true) j.story.link → TalksBy s (talk_of j) n m
-    go (says x e z) = no_out_message x (sym (ap (λ (q : Bool). if q then whole_out (got_out (fresh_bytes d ++ byte ∷ [])) else None) out_none) ∙ e)
-    go (stays e f z) = to l z (in_part s (talk_of k) n l c.after j.handshakes.requests w (λ p v. no_message _ (sym f ∙ named p v)) h)
+    go (says x e z) = none_some x (sym (ap (λ (q : Bool). if q then whole_out (got_out (fresh_bytes d ++ byte ∷ [])) else None) out_none) ∙ e)
+    go (stays e f z) = to l z (in_part s (talk_of k) n l c.after j.handshakes.requests w (λ p v. none_some _ (sym f ∙ named p v)) h)
     go (hears x e f z) =
         to (heard_link s k.story l x) z
         (in_whole s k.story (talk_of k) n l x c.after j.handshakes.requests w
@@ -332,7 +317,7 @@ out_talk s k row n c l dev g el h ep er ef here m em = go (link_crossed s k row 
     speaking = g.speaks.in_message_out begun (ap is_message_out b ∙ here)
 
     out' : is_message_out c.after ≡ true
-    out' = out_phase_same c.before c.after (same_phase_is c ep) ∙ here
+    out' = out_same c.before c.after (same_phase_is c ep) ∙ here
 
     in_none : is_message_in c.before ≡ false
     in_none = by (is_message_in c.before) refl
@@ -372,7 +357,7 @@ out_talk s k row n c l dev g el h ep er ef here m em = go (link_crossed s k row 
     go : LinkAfter s k.story l (message_out d c true) (message_in d c true) j.story.link → TalksBy s (talk_of j) n m
     go (says x e z) = to (record l { last = last_out x l }) z (out_whole s (talk_of k) n l x c.after j.handshakes.requests (not c.after.atn) (ap is_message_out b ∙ here) out' (no_abort x e) h)
     go (stays e f z) = to l z (out_part s (talk_of k) n l c.after j.handshakes.requests (not c.after.atn) (ap is_message_out b ∙ here) out' (unfinished e) h)
-    go (hears x e f z) = no_message x (sym (ap (λ (q : Bool). if q then whole_in (got_in (d.half ++ byte ∷ [])) else None) in_none) ∙ f)
+    go (hears x e f z) = none_some x (sym (ap (λ (q : Bool). if q then whole_in (got_in (d.half ++ byte ∷ [])) else None) in_none) ∙ f)
 
 -- ---- in another phase
 
@@ -413,8 +398,8 @@ else_talk s k row n c l dev g el h ep er ef eo ei m em = go (link_crossed s k ro
     same = (crossed_talk s k row n c l r el ep en ef).same (no_completion l c ei) ∙ (λ x. record (talk_of k) { bus = c.after; requests = j.handshakes.requests; is_last = last_is x })
 
     go : LinkAfter s k.story l (message_out d c true) (message_in d c true) j.story.link → TalksBy s (talk_of j) n m
-    go (says x e z) = no_out_message x (sym (ap (λ (q : Bool). if q then whole_out (got_out (fresh_bytes d ++ byte ∷ [])) else None) eo) ∙ e)
-    go (hears x e f z) = no_message x (sym (ap (λ (q : Bool). if q then whole_in (got_in (d.half ++ byte ∷ [])) else None) ei) ∙ f)
+    go (says x e z) = none_some x (sym (ap (λ (q : Bool). if q then whole_out (got_out (fresh_bytes d ++ byte ∷ [])) else None) eo) ∙ e)
+    go (hears x e f z) = none_some x (sym (ap (λ (q : Bool). if q then whole_in (got_in (d.half ++ byte ∷ [])) else None) ei) ∙ f)
     go (stays e f z) =
         subst (λ (y : Link). TalksBy s (talk_of j) n y) (same_Some l m (sym z ∙ em))
-        (subst (λ (y : Talk). TalksBy s y n l) (sym same) (other_crosses s (talk_of k) n l c.after j.handshakes.requests (ap is_message_in b ∙ ei) (ap is_message_out b ∙ eo) (in_phase_same c.before c.after (same_phase_is c ep) ∙ ei) h))
+        (subst (λ (y : Talk). TalksBy s y n l) (sym same) (other_crosses s (talk_of k) n l c.after j.handshakes.requests (ap is_message_in b ∙ ei) (ap is_message_out b ∙ eo) (in_same c.before c.after (same_phase_is c ep) ∙ ei) h))

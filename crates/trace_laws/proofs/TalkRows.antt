@@ -10,7 +10,7 @@ use Rattle.bus_trace.specs.declared.connection.Connection.{Connection}
 use Rattle.bus_trace.specs.Changes.{rises}
 use Rattle.bus_trace.specs.Phases.{changes_phase, is_message_in, is_message_out}
 use Rattle.bus_trace.specs.Terms.{is_fault, receiver_in}
-use Rattle.bus_lines.specs.Handshakes.{Handshakes, no_handshakes, handshakes_after, asked_if, answered_if, strikes_if}
+use Rattle.bus_lines.specs.Handshakes.{Handshakes, no_handshakes, handshakes_after, asked_if, answered_if}
 use Rattle.scenario.specs.Value.{ScenarioValue}
 use Rattle.bus_story.specs.Items.{Item, process, has_item, Sent}
 use Rattle.bus_story.specs.Links.{Link}
@@ -27,11 +27,14 @@ use Rattle.bus_books.specs.Knowing.{Knows}
 use Rattle.bus_books.specs.Rows.{IsRowIn}
 use Rattle.bus_books.specs.Speaking.{Speaks}
 use Rattle.bus_books.specs.Traces.{GoesOn}
+use Rattle.bus_books.proofs.Gives.{in_io, struck_same}
 use Rattle.bus_books.proofs.InConnection.{InConnection, in_connection, SamePhase, same_phase_is}
+use Rattle.trace_laws.proofs.Impossible.{none_some, wrong, wrong', some_none}
+use Rattle.trace_laws.proofs.OfferRows.{in_same, out_same}
 use Rattle.trace_laws.proofs.RowItems.{OverAfter, over_after, link_still}
 use Rattle.trace_laws.proofs.TalkSteps.{Alternates, Completes, StaysPhase, stays_by}
-use Rattle.trace_laws.proofs.Driven.{wrong, wrong'}
 use Rattle.trace_laws.specs.ItemTalks.{Talk, talk_of, awaits, TalksBy, Talks}
+use Rattle.trace_laws.proofs.Tests.{all_four}
 
 -- What is known of such a row.
 pub record TalkRow (s : ScenarioValue) (k : RunState) (row : Row) (n : Connection) (c : Change) : Type 0 where
@@ -47,32 +50,12 @@ pub record TalkRow (s : ScenarioValue) (k : RunState) (row : Row) (n : Connectio
 
 -- ---- the phase stays
 
-pub in_phase_same : (a b : LineSet) → SamePhase a b → is_message_in b ≡ is_message_in a
-in_phase_same a b e = λ i. e.msg i && e.cd i && e.io i
-
-pub out_phase_same : (a b : LineSet) → SamePhase a b → is_message_out b ≡ is_message_out a
-out_phase_same a b e = λ i. e.msg i && e.cd i && not (e.io i)
-
-in_io : (l : LineSet) → is_message_in l ≡ true → l.io ≡ true
-in_io l e = go l.msg l.cd l.io e
-  where
-    go : (m d i : Bool) → (m && d && i) ≡ true → i ≡ true
-    go true true i z = z
-    go true false i z = wrong' z
-    go false d i z = wrong' z
-
-no_dev : {A : Type 0} (d : ℕ) → Some d ≡ None → A
-no_dev d e = absurd cc
-
-no_none : {A : Type 0} (d : ℕ) → (let a : Option ℕ = None in a) ≡ Some d → A
-no_none d e = absurd cc
-
 -- REQ does not rise where no byte crosses to the initiator.
 no_request : (n : Connection) (c : Change) → receiver_in n c ≡ None → is_message_in c.before ≡ true → rises c.before.req c.after.req ≡ false
 no_request n c er here = go (rises c.before.req c.after.req) (sym (ap (λ (q : Bool). if q then (if rises c.before.req c.after.req then Some n.initiator else None) else (if rises c.before.ack c.after.ack then Some n.target else None)) (in_io c.before here)) ∙ er)
   where
     go : (q : Bool) → (if q then Some n.initiator else None) ≡ None → q ≡ false
-    go true z = no_dev n.initiator z
+    go true z = some_none n.initiator z
     go false z = refl
 
 pub a_request : (n : Connection) (c : Change) (d : ℕ) → receiver_in n c ≡ Some d → is_message_in c.before ≡ true → rises c.before.req c.after.req ≡ true
@@ -80,15 +63,11 @@ a_request n c d er here = go (rises c.before.req c.after.req) (sym (ap (λ (q : 
   where
     go : (q : Bool) → (if q then Some n.initiator else None) ≡ Some d → q ≡ true
     go true z = refl
-    go false z = no_none d z
+    go false z = none_some d z
 
 pub answered_same : (q : Bool) (t : ℕ) (h : Handshakes) → (answered_if q t h).requests ≡ h.requests
 answered_same true t h = refl
 answered_same false t h = refl
-
-struck_same : (io : Bool) (h : Handshakes) → (strikes_if io h).requests ≡ h.requests
-struck_same true h = refl
-struck_same false h = refl
 
 requests_after : (fault : Bool) (n : Connection) (c : Change) (t : ℕ) (h : Handshakes) → changes_phase c ≡ false → rises c.before.req c.after.req ≡ false → (handshakes_after fault (Some n) c t h).requests ≡ h.requests
 requests_after true n c t h ep er = struck_same c.before.io h
@@ -112,9 +91,6 @@ completion_parts l c e = go (rises c.before.ack c.after.ack) refl (is_message_in
     go true a true b false d x f z = wrong' z
     go true a false b w d x f z = wrong' z
     go false a r b w d x f z = wrong' z
-
-and_all : (a b c d : Bool) → a ≡ true → b ≡ true → c ≡ true → d ≡ false → (a && b && c && not d) ≡ true
-and_all a b c d ea eb ec ed = λ i. ea i && eb i && ec i && not (ed i)
 
 -- The item of the link is served.
 pub item_served : (s : ScenarioValue) (k : RunState) (n : Connection) (l : Link) (id : ProcId) → Knows s k n → k.story.link ≡ Some l → n.reselected ≡ false → k.served ≡ Some (process id) → l.item ≡ Some (process id)
@@ -174,12 +150,12 @@ stays_talk s k row n c l fault g el h ep er ef m em =
 
     w : StaysPhase n l (talk_of k) c.after j.handshakes.requests j.story.sent.over
     w = record {
-      in_same = in_phase_same c.before c.after phase ∙ ap is_message_in (sym b);
-      out_same = out_phase_same c.before c.after phase ∙ ap is_message_out (sym b);
+      in_same = in_same c.before c.after phase ∙ ap is_message_in (sym b);
+      out_same = out_same c.before c.after phase ∙ ap is_message_out (sym b);
       requests_are = λ z. ap (λ (x : Handshakes). x.requests) i.handshakes_is ∙ requests_after (is_fault row.kind) n c row.time k.handshakes ep (no_request n c er (here z));
       over_by = λ x e. completed (is_completion l c) refl x e;
       grows = λ x e. o.grows.over x e;
-      ends = λ rs z y a q id e. o.ended ep (and_all (rises c.before.ack c.after.ack) (is_message_in c.before) (is_complete l.last) c.after.atn (ap (λ (x : LineSet). rises x.ack c.after.ack) (sym b) ∙ a) (here y) z q) id (item_served s k n l id g.knows el rs e);
+      ends = λ rs z y a q id e. o.ended ep (all_four (rises c.before.ack c.after.ack) (is_message_in c.before) (is_complete l.last) c.after.atn (ap (λ (x : LineSet). rises x.ack c.after.ack) (sym b) ∙ a) (here y) z q) id (item_served s k n l id g.knows el rs e);
       attends = λ z a. g.attends (here z) (ap awaits (sym b) ∙ a) ∙ ap (λ (x : LineSet). x.atn) (sym b);
       alternates = λ z. subst (λ (x : LineSet). Alternates x c.after) (sym b) (g.alternates (here z));
       quiet = λ z. ap (λ (x : LineSet). rises x.req c.after.req) b ∙ no_request n c er (here z);

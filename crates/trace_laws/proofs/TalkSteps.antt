@@ -19,11 +19,15 @@ use Rattle.bus_story.specs.Story.{Story}
 use Rattle.bus_dialogue.specs.declared.exchange.Messages.{Messages}
 use Rattle.bus_dialogue.specs.declared.exchange.Next.{Next}
 use Rattle.bus_dialogue.specs.Exchange.{bytes_of_messages}
+use Rattle.scsi_device.proofs.Finds.{and_true}
 use Rattle.bus_books.specs.Giving.{OnMessages}
+use Rattle.bus_books.proofs.RowTies.{not_is}
+use Rattle.trace_laws.proofs.Impossible.{wrong, wrong'}
+use Rattle.trace_laws.proofs.NamedSteps.{out_last}
 use Rattle.trace_laws.proofs.OutMessages.{is_abort_out}
 use Rattle.trace_laws.proofs.RowItems.{heard_link}
-use Rattle.trace_laws.proofs.Driven.{wrong, wrong'}
 use Rattle.trace_laws.specs.ItemTalks.{is_complete_in, is_disconnect_in, frees_bus, plans_well, is_sense_item, is_plain, Talk, awaits, IsTaken, HasEnded, last_well, IsNameOf, IsUnnamed, HasNames, TalksBy}
+use Rattle.trace_laws.proofs.Tests.{less_apart, or_first}
 
 -- ---- lines
 
@@ -77,6 +81,19 @@ pub record StaysPhase (n : Connection) (l : Link) (t : Talk) (b : LineSet) (requ
   pub alternates : is_message_in t.bus ≡ true → Alternates t.bus b
   pub quiet : is_message_in t.bus ≡ true → rises t.bus.req b.req ≡ false
 
+-- What names a process goes on to do so where the messages and the unit still do.
+named_as : (s : ScenarioValue) (t u : Talk) (n : Connection) (l m : Link) → u.served ≡ t.served → (k : HasNames s t n l) → OnMessages (IsNameOf k.named) u.messages → (m.unit ≡ k.named.unit) ⊎ IsUnnamed u k.named → HasNames s u n m
+named_as s t u n l m same k messages unit = record {
+  named = k.named;
+  served_is = same ∙ k.served_is;
+  is = k.is;
+  command = k.command;
+  initiator_is = k.initiator_is;
+  target_is = k.target_is;
+  messages = messages;
+  unit = unit;
+}
+
 pub stays_by : (s : ScenarioValue) (t : Talk) (n : Connection) (l : Link) (b : LineSet) (requests : ℕ) (over : List Item) → StaysPhase n l t b requests over → TalksBy s t n l → TalksBy s (record t { bus = b; requests = requests; over = over }) n l
 stays_by s t n l b requests over w h = record {
   planned = h.planned;
@@ -126,21 +143,9 @@ stays_by s t n l b requests over w h = record {
         go false x (inr (inr y)) = wrong (sym y ∙ x)
 
     naming : HasNames s t n l → HasNames s u n l
-    naming k = record {
-      named = k.named;
-      served_is = k.served_is;
-      is = k.is;
-      command = k.command;
-      initiator_is = k.initiator_is;
-      target_is = k.target_is;
-      messages = k.messages;
-      unit = elim k.unit [ inl e ↦ inl e | inr v ↦ inr (record { here = w.in_same ∙ v.here; begun = v.begun; none_asked = w.requests_are v.here ∙ v.none_asked; first = v.first; small = v.small }) ];
-    }
+    naming k = named_as s t u n l l refl k k.messages (elim k.unit [ inl e ↦ inl e | inr v ↦ inr (record { here = w.in_same ∙ v.here; begun = v.begun; none_asked = w.requests_are v.here ∙ v.none_asked; first = v.first; small = v.small }) ])
 
 -- ---- a byte of MESSAGE IN crosses
-
-less_apart : {A : Type 0} (a b : ℕ) → a < b → a ≡ b → A
-less_apart a b lt e = absurd omega (arith, lt, e)
 
 pub record CrossesIn (t : Talk) (b : LineSet) (requests : ℕ) : Type 0 where
   pub here : is_message_in t.bus ≡ true
@@ -174,16 +179,7 @@ in_part s t n l b requests w none h = record {
 }
   where
     naming : HasNames s t n l → HasNames s (record t { bus = b; requests = requests }) n l
-    naming k = record {
-      named = k.named;
-      served_is = k.served_is;
-      is = k.is;
-      command = k.command;
-      initiator_is = k.initiator_is;
-      target_is = k.target_is;
-      messages = k.messages;
-      unit = elim k.unit [ inl e ↦ inl e | inr v ↦ absurd (none k.named v) ];
-    }
+    naming k = named_as s t (record t { bus = b; requests = requests }) n l l refl k k.messages (elim k.unit [ inl e ↦ inl e | inr v ↦ absurd (none k.named v) ])
 
 -- A message is whole with it: one of those that are planned.
 pub record HearsWell (t : Talk) (m : MsgIn) : Type 0 where
@@ -212,18 +208,10 @@ stays_in (to_initiator.SimpleTag tag) e = refl
 stays_in (to_initiator.Sdtr offer) e = refl
 stays_in to_initiator.Reject e = refl
 
-both_parts : (a b : Bool) → (a && b) ≡ true → (a ≡ true) × (b ≡ true)
-both_parts true b e = (refl, e)
-both_parts false b e = wrong' e
-
 -- Of an automatic REQUEST SENSE the last message is plain, where it is not COMMAND COMPLETE.
 pub plain_last : (sense : Bool) (l : Link) → last_well sense l ≡ true → sense ≡ true → (is_plain l.before ≡ true) × ((is_plain l.last || is_complete l.last) ≡ true)
-plain_last true l e f = both_parts (is_plain l.before) (is_plain l.last || is_complete l.last) (both_parts (not (is_complete l.before)) (is_plain l.before && (is_plain l.last || is_complete l.last)) e).1
+plain_last true l e f = and_true (is_plain l.before) (is_plain l.last || is_complete l.last) (and_true (not (is_complete l.before)) (is_plain l.before && (is_plain l.last || is_complete l.last)) e).1
 plain_last false l e f = wrong' f
-
-or_first : (a b : Bool) → (a || b) ≡ true → b ≡ false → a ≡ true
-or_first true b e f = refl
-or_first false b e f = wrong (sym e ∙ f)
 
 make_last : (sense : Bool) (l : Link) → is_complete l.before ≡ false → (sense ≡ true → (is_plain l.before ≡ true) × ((is_plain l.last || is_complete l.last) ≡ true)) → last_well sense l ≡ true
 make_last true l e f = let w = f refl in λ i. not (e i) && (false || (w.0 i && w.1 i))
@@ -257,19 +245,10 @@ in_whole s story t n l m b requests w hears h = record {
     before = incomplete s t n l b requests w h
 
     naming : HasNames s t n l → HasNames s (record t { bus = b; requests = requests }) n (heard_link s story l m)
-    naming k = record {
-      named = k.named;
-      served_is = k.served_is;
-      is = k.is;
-      command = k.command;
-      initiator_is = k.initiator_is;
-      target_is = k.target_is;
-      messages = k.messages;
-      unit = inl (elim k.unit [
-        | inl e ↦ heard_unit s story.sent l m k.named e (hears.names k.named k.messages)
-        | inr v ↦ ap (λ (x : MsgIn). (link_after_name story.sent s.commands l x).unit) (hears.first k.named v)
-      ]);
-    }
+    naming k = named_as s t (record t { bus = b; requests = requests }) n l (heard_link s story l m) refl k k.messages (inl (elim k.unit [
+      | inl e ↦ heard_unit s story.sent l m k.named e (hears.names k.named k.messages)
+      | inr v ↦ ap (λ (x : MsgIn). (link_after_name story.sent s.commands l x).unit) (hears.first k.named v)
+    ]))
 
 -- ---- a byte of MESSAGE OUT crosses
 
@@ -277,16 +256,7 @@ out_closed : {A : Type 0} (s : ScenarioValue) (t : Talk) (n : Connection) (l : L
 out_closed s t n l out h i e f = not_both t.bus (h.over i e f).taken.here out
 
 out_named : (s : ScenarioValue) (t : Talk) (n : Connection) (l m : Link) (b : LineSet) (requests : ℕ) (last : Bool) → is_message_out t.bus ≡ true → m.unit ≡ l.unit → HasNames s t n l → HasNames s (record t { bus = b; requests = requests; is_last = last }) n m
-out_named s t n l m b requests last out same k = record {
-  named = k.named;
-  served_is = k.served_is;
-  is = k.is;
-  command = k.command;
-  initiator_is = k.initiator_is;
-  target_is = k.target_is;
-  messages = k.messages;
-  unit = elim k.unit [ inl e ↦ inl (same ∙ e) | inr v ↦ not_both t.bus v.here out ];
-}
+out_named s t n l m b requests last out same k = named_as s t (record t { bus = b; requests = requests; is_last = last }) n l m refl k k.messages (elim k.unit [ inl e ↦ inl (same ∙ e) | inr v ↦ not_both t.bus v.here out ])
 
 -- No message is whole with it; after the last byte one is.
 pub out_part : (s : ScenarioValue) (t : Talk) (n : Connection) (l : Link) (b : LineSet) (requests : ℕ) (last : Bool) → is_message_out t.bus ≡ true → is_message_out b ≡ true → last ≡ false → TalksBy s t n l → TalksBy s (record t { bus = b; requests = requests; is_last = last }) n l
@@ -299,21 +269,6 @@ out_part s t n l b requests last out out' unfinished h = record {
   selected = h.selected;
   names = λ r. out_named s t n l l b requests last out refl (h.names r);
 }
-
-out_last : (m : MsgOut) (l : Link) → is_complete l.before ≡ false → is_complete (last_out m l) ≡ false
-out_last (to_target.Identify disc lun) l e = refl
-out_last (to_target.SimpleTag n) l e = refl
-out_last (to_target.HeadTag n) l e = refl
-out_last (to_target.OrderedTag n) l e = refl
-out_last (to_target.Sdtr offer) l e = refl
-out_last to_target.Abort l e = refl
-out_last to_target.AbortTag l e = refl
-out_last to_target.ClearQueue l e = refl
-out_last to_target.DeviceReset l e = refl
-out_last to_target.DetectedError l e = refl
-out_last to_target.ParityError l e = e
-out_last to_target.Reject l e = refl
-out_last to_target.Nop l e = refl
 
 out_plain : (m : MsgOut) (l : Link) → is_plain l.before ≡ true → is_abort_out m ≡ false → (is_plain (last_out m l) || is_complete (last_out m l)) ≡ true
 out_plain (to_target.Identify disc lun) l e f = refl
@@ -330,12 +285,8 @@ out_plain to_target.ParityError l e f = λ i. e i || is_complete l.before
 out_plain to_target.Reject l e f = refl
 out_plain to_target.Nop l e f = refl
 
-not_is : (q : Bool) → not q ≡ true → q ≡ false
-not_is true e = wrong' e
-not_is false e = refl
-
 pub last_before : (sense : Bool) (l : Link) → last_well sense l ≡ true → is_complete l.before ≡ false
-last_before sense l e = not_is (is_complete l.before) (both_parts (not (is_complete l.before)) (not sense || (is_plain l.before && (is_plain l.last || is_complete l.last))) e).0
+last_before sense l e = not_is (is_complete l.before) (and_true (not (is_complete l.before)) (not sense || (is_plain l.before && (is_plain l.last || is_complete l.last))) e).0
 
 pub out_whole : (s : ScenarioValue) (t : Talk) (n : Connection) (l : Link) (m : MsgOut) (b : LineSet) (requests : ℕ) (last : Bool) → is_message_out t.bus ≡ true → is_message_out b ≡ true → (is_sense_item t.served ≡ true → is_abort_out m ≡ false) → TalksBy s t n l → TalksBy s (record t { bus = b; requests = requests; is_last = last }) n (record l { last = last_out m l })
 out_whole s t n l m b requests last out out' whole h = record {
@@ -365,16 +316,7 @@ other_crosses s t n l b requests ein eout ein' h = record {
 }
   where
     naming : HasNames s t n l → HasNames s (record t { bus = b; requests = requests }) n l
-    naming k = record {
-      named = k.named;
-      served_is = k.served_is;
-      is = k.is;
-      command = k.command;
-      initiator_is = k.initiator_is;
-      target_is = k.target_is;
-      messages = k.messages;
-      unit = elim k.unit [ inl e ↦ inl e | inr v ↦ wrong (sym v.here ∙ ein) ];
-    }
+    naming k = named_as s t (record t { bus = b; requests = requests }) n l l refl k k.messages (elim k.unit [ inl e ↦ inl e | inr v ↦ wrong (sym v.here ∙ ein) ])
 
 -- ---- the phase changes
 
@@ -400,13 +342,4 @@ turns_by s t n l b messages next requests w h = record {
     out z = elim (h.completes z) [ inl k ↦ (w.taken k).1 | inr k ↦ wrong (sym (w.said k.0) ∙ k.1) ]
 
     naming : HasNames s t n l → HasNames s (record t { messages = messages; next = next; begun = true; bus = b; requests = requests; is_last = false }) n l
-    naming k = record {
-      named = k.named;
-      served_is = k.served_is;
-      is = k.is;
-      command = k.command;
-      initiator_is = k.initiator_is;
-      target_is = k.target_is;
-      messages = w.names k.named k.messages;
-      unit = elim k.unit [ inl e ↦ inl e | inr v ↦ absurd (w.named k.named v) ];
-    }
+    naming k = named_as s t (record t { messages = messages; next = next; begun = true; bus = b; requests = requests; is_last = false }) n l l refl k (w.names k.named k.messages) (elim k.unit [ inl e ↦ inl e | inr v ↦ absurd (w.named k.named v) ])

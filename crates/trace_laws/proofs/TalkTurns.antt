@@ -26,7 +26,9 @@ use Rattle.bus_books.specs.Hearing.{LeavesWhole}
 use Rattle.bus_books.specs.Rows.{RowKind, still, strikes, crosses, turns, IsRowIn, reading_in}
 use Rattle.bus_books.proofs.InConnection.{InConnection, in_connection}
 use Rattle.bus_books.proofs.Leavings.{left_messages, IsOfOthers}
+use Rattle.trace_laws.proofs.Impossible.{wrong, wrong'}
 use Rattle.trace_laws.proofs.LastMessages.{leaves_well, from_well, sense_stays}
+use Rattle.trace_laws.proofs.PhaseLines.{in_phase, out_phase}
 use Rattle.trace_laws.proofs.RowItems.{over_after, link_still}
 use Rattle.trace_laws.proofs.TalkSteps.{TurnsTo, turns_by}
 use Rattle.trace_laws.proofs.TalkRows.{TalkRow, stays_talk}
@@ -36,7 +38,6 @@ use Rattle.bus_dialogue.specs.declared.exchange.Messages.{Messages}
 use Rattle.bus_dialogue.specs.declared.exchange.Next.{Next}
 use Rattle.bus_dialogue.specs.declared.exchange.Next.TheVariants as nexts
 use Rattle.trace_laws.proofs.TalkBytes.{in_talk, out_talk, else_talk}
-use Rattle.trace_laws.proofs.Driven.{wrong, wrong'}
 use Rattle.trace_laws.specs.ItemTalks.{plans_well, is_sense_item, frees_bus, Talk, talk_of, IsTaken, IsNameOf, TalksBy, Talks}
 
 -- ---- how a phase is left
@@ -50,24 +51,6 @@ from_named q m n h = go (nat_lt n (length (message_bytes m.first)))
     go : (x : Bool) → OnMessages q (if x then m else record { first = m.second; second = None })
     go true = h
     go false = (h.1, tt)
-
-pub in_phase_is : (b : LineSet) → is_message_in b ≡ true → phase_of b ≡ phases.MessageIn
-in_phase_is b e = go b.msg b.cd b.io e
-  where
-    go : (m d i : Bool) → (m && d && i) ≡ true → (if m then (if i then phases.MessageIn else phases.MessageOut) else if d then (if i then phases.Status else phases.Command) else if i then phases.DataIn else phases.DataOut) ≡ phases.MessageIn
-    go true true true z = refl
-    go true true false z = wrong' z
-    go true false i z = wrong' z
-    go false d i z = wrong' z
-
-pub out_phase_is : (b : LineSet) → is_message_out b ≡ true → phase_of b ≡ phases.MessageOut
-out_phase_is b e = go b.msg b.cd b.io e
-  where
-    go : (m d i : Bool) → (m && d && not i) ≡ true → (if m then (if i then phases.MessageIn else phases.MessageOut) else if d then (if i then phases.Status else phases.Command) else if i then phases.DataIn else phases.DataOut) ≡ phases.MessageOut
-    go true true false z = refl
-    go true true true z = wrong' z
-    go true false i z = wrong' z
-    go false d i z = wrong' z
 
 pub is_out : (b : LineSet) → (b.msg ≡ true → b.cd ≡ true) → phase_of b ≡ phases.MessageOut → is_message_out b ≡ true
 is_out b cd e = go b.msg b.cd b.io cd e
@@ -91,7 +74,7 @@ frees nexts.GoOn e = wrong' e
 pub taken_leaves : (s : ScenarioValue) (k : RunState) (dev : ℕ) → IsTaken (talk_of k) → (leaving s k dev).to ≡ (if (bus_of k).atn then Some phases.MessageOut else None)
 taken_leaves s k dev t =
     (λ i. (leaving_by (serving_of s k dev) (t.begun i) (bus_of k)).to)
-    ∙ (λ i. (phase_leaving (serving_at s k dev (phase_of (bus_of k))) (bus_of k).atn (in_phase_is (bus_of k) t.here i)).to)
+    ∙ (λ i. (phase_leaving (serving_at s k dev (phase_of (bus_of k))) (bus_of k).atn (in_phase (bus_of k) t.here i)).to)
     ∙ go (bus_of k).atn k.exchange.plan.next (frees k.exchange.plan.next t.next_is)
   where
     v : Serving
@@ -175,9 +158,9 @@ turns_talk s k row n c l g el h ep er ef m em =
       planned = (λ x. plans_well (is_sense_item k.served) (plan x).messages (plan x).next)
           ∙ turn_planned (is_sense_item k.served) heard l' k.exchange.plan h.planned (leaves_well (is_sense_item k.served) (serving_of s k n.target) k.exchange.begun (bus_of k) (λ z. sense_stays s k n.target z) h.planned);
       taken = taken;
-      said = λ z. whole.out (out_phase_is (bus_of k) z);
+      said = λ z. whole.out (out_phase (bus_of k) z);
       names = λ p all. subst (λ (x : Plan). OnMessages (IsNameOf p) x.messages) (sym plan) (turn_named p heard l' k.exchange.plan all (left_messages (λ x. IsNameOf p x) (others_named p) (serving_of s k n.target) k.exchange.begun (bus_of k) all));
-      named = λ p v. wrong (sym (ap (λ (x : ℕ). x == 0) v.none_asked) ∙ whole.some (in_phase_is (bus_of k) v.here));
+      named = λ p v. wrong (sym (ap (λ (x : ℕ). x == 0) v.none_asked) ∙ whole.some (in_phase (bus_of k) v.here));
     }
       where
         no_phase : {A : Type 0} (x : Phase) → (let a : Option Phase = None in a) ≡ Some x → A

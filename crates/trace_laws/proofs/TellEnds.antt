@@ -41,12 +41,7 @@ use Rattle.bus_due.specs.Telling.{same_events, same_kind}
 use Rattle.bus_books.specs.Listening.{Understanding, nothing_understood, understood}
 use Rattle.bus_books.specs.Speaking.{AreWordsFor, opens, refuses, answers, rejects_data, rejects_status, Speaks}
 use Rattle.trace_laws.specs.Tells.{IsClosing, LastAsked, LastIn}
-
-wrong : {A : Type 0} → true ≡ false → A
-wrong e = absurd cc
-
-wrong' : {A : Type 0} → false ≡ true → A
-wrong' e = absurd cc
+use Rattle.trace_laws.proofs.Impossible.{wrong, wrong'}
 
 -- ---- a target that serves a process goes on but after the messages that end a connection
 

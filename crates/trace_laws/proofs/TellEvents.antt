@@ -1,8 +1,7 @@
 -- The events of a phase that is left, by what the rows tell and by what the target knows.
-use Rattle.std.proofs.Common.{ℕ, suc, ◌≡◌, Bool, true, false, not, ◌&&◌, ◌||◌, ◌==◌, ◌∙◌, List, [], ◌∷◌, ◌++◌, length, Option, Some, None, refl, sym, ap, arith}
+use Rattle.std.proofs.Common.{ℕ, ◌≡◌, Bool, true, false, not, ◌&&◌, ◌||◌, ◌==◌, ◌∙◌, List, [], ◌∷◌, ◌++◌, length, Option, Some, None, refl, sym, ap}
 use Rattle.std.specs.Prelude.{if◌then◌else◌, is_some, nat_lt}
 use Rattle.std.specs.List.{list_any}
-use Rattle.std.proofs.lemmas.Bool.Decides.{nat_tests}
 use Rattle.bus_base.specs.declared.AbortKind.{AbortKind}
 use Rattle.bus_base.specs.declared.AbortKind.TheVariants as aborts
 use Rattle.bus_base.specs.declared.Event.{Event}
@@ -30,12 +29,7 @@ use Rattle.bus_due.specs.Telling.{same_kind, same_event, same_events}
 use Rattle.bus_books.proofs.Lookups.{self_id}
 use Rattle.bus_books.proofs.Lists.{eq_self}
 use Rattle.trace_laws.specs.Tells.{has_answer, code_if}
-
-wrong : {A : Type 0} → true ≡ false → A
-wrong e = absurd cc
-
-wrong' : {A : Type 0} → false ≡ true → A
-wrong' e = absurd cc
+use Rattle.trace_laws.proofs.Tests.{suc_some}
 
 -- ---- a list of events is itself
 
@@ -121,9 +115,6 @@ command_reply id plan arrival c same failure =
     go false arrivals.AtOnce = refl
     go false arrivals.Queued = refl
 
-some_length : (n : ℕ) → (suc n == 0) ≡ false
-some_length n = grind (arith, nat_tests)
-
 -- Of a whole block.
 pub whole_block : (c : CarriedBytes) (struck : Bool) → c.struck ≡ struck → (struck ≡ false → has_group_len c.block ≡ true) → is_whole_block c ≡ not struck
 whole_block c true e h = (λ i. not (length c.block == 0) && has_group_len c.block && not (e i)) ∙ go (not (length c.block == 0) && has_group_len c.block)
@@ -135,4 +126,4 @@ whole_block c false e h = (λ i. not (length c.block == 0) && h refl i && not (e
   where
     go : (block : List ℕ) → has_group_len block ≡ true → (not (length block == 0) && true && true) ≡ true
     go [] z = absurd cc
-    go (b ∷ block) z = λ i. not (some_length (length block) i) && true && true
+    go (b ∷ block) z = λ i. not (suc_some (length block) i) && true && true

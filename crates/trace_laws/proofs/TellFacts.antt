@@ -1,13 +1,13 @@
 -- A prompt trace tells the events that the ends of its connections show.
 use Rattle.std.proofs.Common.{inl, inr, ℕ, ◌≡◌, ◌⊎◌, ◌≤◌, Bool, true, false, not, ◌&&◌, ◌||◌, ◌==◌, ◌∙◌, List, [], ◌∷◌, ◌++◌, length, length-append, Option, Some, None, refl, sym, ap, subst, arith}
-use Rattle.std.specs.Prelude.{if◌then◌else◌, is_some, nat_lt}
+use Rattle.std.specs.Prelude.{is_some, nat_lt}
 use Rattle.std.proofs.lemmas.Bool.Decides.{nat_tests}
 use Rattle.bus_base.specs.declared.AbortKind.{AbortKind}
 use Rattle.bus_base.specs.declared.ProcId.{ProcId}
 use Rattle.bus_trace.specs.LineSet.{LineSet}
 use Rattle.bus_trace.specs.declared.Row.{Row}
 use Rattle.bus_trace.specs.declared.connection.Connection.{Connection}
-use Rattle.bus_trace.specs.Phases.{changes_phase, is_data}
+use Rattle.bus_trace.specs.Phases.{changes_phase}
 use Rattle.bus_trace.specs.Terms.{receiver_in}
 use Rattle.scenario.specs.Value.{ScenarioValue}
 use Rattle.scenario.specs.Writing.{Obeys}
@@ -17,20 +17,20 @@ use Rattle.bus_story.specs.Items.{Item, process, abort}
 use Rattle.bus_story.specs.Links.{Link, plain, abortive}
 use Rattle.bus_dialogue.specs.declared.exchange.Cause.{Cause}
 use Rattle.bus_dialogue.specs.declared.exchange.Cause.TheVariants as causes
-use Rattle.bus_dialogue.specs.declared.exchange.Messages.{Messages}
 use Rattle.bus_dialogue.specs.declared.exchange.Phase.{Phase}
 use Rattle.bus_dialogue.specs.declared.exchange.Phase.TheVariants as phases
 use Rattle.bus_dialogue.specs.Ends.{follows_by}
 use Rattle.bus_dialogue.specs.Exchange.{bytes_of_messages}
 use Rattle.bus_dialogue.specs.NextPhase.{phase_of}
 use Rattle.bus_dialogue.specs.PhaseBytes.{follows_in}
-use Rattle.bus_dialogue.specs.Words.{is_naming, tag_named}
+use Rattle.bus_dialogue.specs.Words.{is_naming}
 use Rattle.bus_due.specs.Next.{IsPrompt}
 use Rattle.bus_due.specs.Plain.{IsPlain}
 use Rattle.bus_due.specs.RunState.{RunState, bus_of, item_of}
 use Rattle.bus_due.specs.RunSteps.{run_state}
 use Rattle.bus_due.specs.Sights.{serving_of}
 use Rattle.bus_due.proofs.Plains.{run_state_plain}
+use Rattle.scsi_device.specs.Heard.{is_message}
 use Rattle.scsi_device.specs.Lines.{AreUnits}
 use Rattle.scsi_device.proofs.FitLines.{obeys_fits, units_are}
 use Rattle.bus_books.specs.Giving.{AreGiven}
@@ -39,51 +39,28 @@ use Rattle.bus_books.specs.Reactions.{IsOver}
 use Rattle.bus_books.specs.Speaking.{Speaks}
 use Rattle.bus_books.proofs.InConnection.{reading_is}
 use Rattle.trace_laws.specs.LastTalks.{is_freeing, LastBy}
-use Rattle.trace_laws.specs.Named.{Names, all, tag_alone, known, said, refused, Named}
+use Rattle.trace_laws.specs.Named.{known, said, refused, Named}
 use Rattle.trace_laws.specs.TellFacts.{TellFacts}
 use Rattle.trace_laws.specs.Tells.{LastAsked, LastIn, IsServed, of_process, of_abort, IsLeaving, TellsAsLeft, FailsAsLeft}
 use Rattle.trace_laws.proofs.ConnectionRows.{ConnectionRow, connection_row}
 use Rattle.trace_laws.proofs.Crossings.{RowFacts, stays, ends_here}
 use Rattle.trace_laws.proofs.FreshItems.{items_found}
+use Rattle.trace_laws.proofs.Impossible.{wrong, wrong', none_some}
 use Rattle.trace_laws.proofs.ItemFacts.{items_start}
 use Rattle.trace_laws.proofs.ItemNext.{items_next}
 use Rattle.trace_laws.proofs.Joint.{Stood, NextStood, link_phase}
 use Rattle.trace_laws.proofs.LastFacts.{last_start, last_next}
 use Rattle.trace_laws.proofs.LastTurns.{ends_closing}
 use Rattle.trace_laws.proofs.Named.{named_start, named_next}
+use Rattle.trace_laws.proofs.NamedBytes.{names_first}
 use Rattle.trace_laws.proofs.Offers.{offers_start, offers_next}
+use Rattle.trace_laws.proofs.PhaseLines.{out_phase, in_phase, unpulsed}
 use Rattle.trace_laws.proofs.ServedItems.{served_start, served_next}
 use Rattle.trace_laws.proofs.TellEnds.{none_heard}
 use Rattle.trace_laws.proofs.TellRows.{is_heard}
-use Rattle.trace_laws.proofs.UndoneAnswers.{in_phase, out_phase}
 use Rattle.trace_laws.proofs.UndoneFacts.{undo_start, undo_next, in_of}
 
-wrong : {A : Type 0} → true ≡ false → A
-wrong e = absurd cc
-
-wrong' : {A : Type 0} → false ≡ true → A
-wrong' e = absurd cc
-
 -- ---- MESSAGE IN is left with ATN false after all of its bytes
-
-no_data : (q : Bool) (b : LineSet) (r : Bool) → phase_of b ≡ phases.MessageIn → (q && is_data b && r) ≡ false
-no_data q b r e = go q b.msg b.cd b.io r (ap is_in e)
-  where
-    is_in : Phase → Bool
-    is_in phases.MessageIn = true
-    is_in _ = false
-
-    go : (q m d i r : Bool) → is_in (if m then (if i then phases.MessageIn else phases.MessageOut) else if d then (if i then phases.Status else phases.Command) else if i then phases.DataIn else phases.DataOut) ≡ true → (q && (not m && not d) && r) ≡ false
-    go true true d i r z = refl
-    go false true d i r z = refl
-    go true false true true r z = wrong' z
-    go true false true false r z = wrong' z
-    go true false false true r z = wrong' z
-    go true false false false r z = wrong' z
-    go false false true true r z = wrong' z
-    go false false true false r z = wrong' z
-    go false false false true r z = wrong' z
-    go false false false false r z = wrong' z
 
 none_left : (count total : ℕ) (q : Bool) → ((count == 0 || not q) && nat_lt count total) ≡ false → q ≡ false → count ≤ total → count ≡ total
 none_left count total true e f le = wrong f
@@ -103,20 +80,10 @@ front_length bytes half count g =
 pub all_given : (s : ScenarioValue) (k : RunState) (n : Connection) → phase_of (bus_of k) ≡ phases.MessageIn → (bus_of k).atn ≡ false → IsOver s k n → AreGiven (bytes_of_messages k.exchange.plan.messages) k.story.bus_state.dialogue.half k.handshakes.requests → k.handshakes.requests ≡ length (bytes_of_messages k.exchange.plan.messages)
 all_given s k n e off over g =
     none_left k.handshakes.requests (length (bytes_of_messages k.exchange.plan.messages)) (bus_of k).atn
-    (sym (ap (λ (q : Bool). follows_by (serving_of s k n.target) q (bus_of k) k.handshakes) (no_data k.exchange.begun (bus_of k) _ e) ∙ ap (follows_in (serving_of s k n.target) k.handshakes (bus_of k).atn) e) ∙ over.follows)
+    (sym (ap (λ (q : Bool). follows_by (serving_of s k n.target) q (bus_of k) k.handshakes) (unpulsed k.exchange.begun (bus_of k) _ (ap is_message e)) ∙ ap (follows_in (serving_of s k n.target) k.handshakes (bus_of k).atn) e) ∙ over.follows)
     off (front_length (bytes_of_messages k.exchange.plan.messages) k.story.bus_state.dialogue.half k.handshakes.requests g)
 
 -- ---- as a phase is left
-
-names_name : (p : Process) (l : Link) (m : Messages) (count : ℕ) → Names p l m count → is_naming m.first ≡ true
-names_name p l m count (all e f) = ap (λ (x : Messages). is_naming x.first) e
-names_name p l m count (tag_alone x e f g) = ap (λ (y : Messages). is_naming y.first) f ∙ tagged p.tag e
-  where
-    tagged : (t : Rattle.scenario.specs.declared.value.Tag.Tag) → tag_named t ≡ Some x → is_naming (Some x) ≡ true
-    tagged Rattle.scenario.specs.declared.value.Tag.TheVariants.Untagged z = absurd cc
-    tagged (Rattle.scenario.specs.declared.value.Tag.TheVariants.Simple n) z = ap is_naming (sym z)
-    tagged (Rattle.scenario.specs.declared.value.Tag.TheVariants.Ordered n) z = ap is_naming (sym z)
-    tagged (Rattle.scenario.specs.declared.value.Tag.TheVariants.Head n) z = ap is_naming (sym z)
 
 record Leaves (s : ScenarioValue) (p : List Row) (row : Row) (n : Connection) : Type 0 where
   units : AreUnits s
@@ -139,12 +106,9 @@ given_of s p row n h e =
     let pl = plain_of s p row n h in
     (h.was.books.gives n (pl.connection ∙ h.leaving.stands) (ap (λ (l : LineSet). l.rst) pl.bus ∙ h.leaving.calm)).in_message_in h.leaving.begun (in_of (bus_of (run_state s p)) e h.known)
 
-no_item : {A : Type 0} (item : Item) → (let o : Option Item = None in o) ≡ Some item → A
-no_item item e = absurd cc
-
 served_some : (s : ScenarioValue) (k : RunState) (n : Connection) → IsServed s k n → k.served ≡ None → ⊥
-served_some s k n (of_process id p e f) z = no_item (process id) (sym z ∙ e)
-served_some s k n (of_abort m a e line host target re alone) z = no_item (abort m) (sym z ∙ e)
+served_some s k n (of_process id p e f) z = none_some (process id) (sym z ∙ e)
+served_some s k n (of_abort m a e line host target re alone) z = none_some (abort m) (sym z ∙ e)
 
 -- Before a name was heard the names are said, or said again.
 naming_left : (s : ScenarioValue) (p : List Row) (row : Row) (n : Connection) → Leaves s p row n → item_of (run_state s p).story.link ≡ None
@@ -168,7 +132,7 @@ naming_left s p row n h none = by_item w.item_is
 
     by_name : Named s k n → Told
     by_name (known l e f g) = unknown l e f
-    by_name (refused q l naming out cause names) = inl (out_phase (bus_of k) out, cause, names_name q l k.exchange.plan.messages 0 names)
+    by_name (refused q l naming out cause names) = inl (out_phase (bus_of k) out, cause, names_first q l k.exchange.plan.messages 0 names)
     by_name (said q l naming into names whole) = go (bus_of k).atn refl
       where
         here : phase_of (bus_of k) ≡ phases.MessageIn
@@ -219,9 +183,6 @@ last_left s p row n h l el = go (h.facts.served n h.leaving.stands h.leaving.cal
         let last : l.last ≡ abortive = (h.facts.last n h.leaving.stands h.leaving.calm).1 l m el served h.leaving.begun heard.last in
         subst (LastIn k.exchange.plan (bus_of k).atn l.last) (sym at.0) (subst (LastAsked k.exchange.plan l.last) (sym at.1) (λ z. last))
 
-no_end : {A : Type 0} (n : Connection) → (let o : Option Connection = None in o) ≡ Some n → A
-no_end n e = absurd cc
-
 -- All of it, but for the code of a failure.
 pub left_tells : (s : ScenarioValue) (p : List Row) (row : Row) → Obeys s → IsPrompt s (row ∷ p) → Stood s p → TellFacts s p → FailsAsLeft s p row → TellsAsLeft s p row
 left_tells s p row o prompt was facts fails n w = record { served = facts.served n w.stands w.calm; failure = λ id e. fails n id w e; naming = naming_left s p row n h; last = last_left s p row n h }
@@ -238,7 +199,7 @@ left_tells s p row o prompt was facts fails n w = record { served = facts.served
     over : RowFacts s p row n → (changes_phase (row_reading k.story.bus_state row).change ≡ true) ⊎ ((row_reading k.story.bus_state row).next ≡ None) → IsOver s k n
     over (ends_here g) leaves = g.over
     over (stays g) (inl e) = g.over (ap changes_phase (sym g.row_is.change_is) ∙ e) (sym pl.begun ∙ w.begun)
-    over (stays g) (inr e) = no_end n (sym e ∙ ap (λ (d : RowReading). d.next) (reading_is k row n g.change (is_some (receiver_in n g.change)) g.row_is refl))
+    over (stays g) (inr e) = none_some n (sym e ∙ ap (λ (d : RowReading). d.next) (reading_is k row n g.change (is_some (receiver_in n g.change)) g.row_is refl))
 
     h : Leaves s p row n
     h = record {

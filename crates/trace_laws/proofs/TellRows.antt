@@ -4,7 +4,6 @@ use Rattle.std.specs.Prelude.{if◌then◌else◌, is_some}
 use Rattle.bus_base.specs.declared.Event.{Event}
 use Rattle.bus_base.specs.declared.Event.TheVariants as events
 use Rattle.bus_base.specs.declared.ProcId.{ProcId}
-use Rattle.bus_trace.specs.LineSet.{LineSet}
 use Rattle.bus_trace.specs.declared.Row.{Row}
 use Rattle.bus_trace.specs.declared.changes.Change.{Change}
 use Rattle.bus_trace.specs.declared.connection.Connection.{Connection}
@@ -45,18 +44,17 @@ use Rattle.bus_books.proofs.CarriedRows.{process_id}
 use Rattle.bus_books.proofs.InConnection.{reading_is}
 use Rattle.bus_books.proofs.Opened.{opening_named}
 use Rattle.bus_books.proofs.Reactions.{out_over, command_over}
+use Rattle.bus_laws.proofs.Tests.{or_true}
+use Rattle.link_laws.proofs.Moves.{or_false}
 use Rattle.trace_laws.specs.Tells.{LastIn, AreRepliesShown, LastAsked, IsServed, of_process, of_abort, Tells}
 use Rattle.trace_laws.proofs.CommandNext.{out_unstruck}
+use Rattle.trace_laws.proofs.Impossible.{wrong}
+use Rattle.trace_laws.proofs.PhaseLines.{out_lines, command_is}
 use Rattle.trace_laws.proofs.TellEnds.{goes_on, lost_told, naming_goes_on, none_heard, abort_told}
 use Rattle.trace_laws.proofs.TellEvents.{same_lists, self_events}
-use Rattle.trace_laws.proofs.TellTurns.{command_lines, refused, turn_told}
+use Rattle.trace_laws.proofs.TellTurns.{refused, turn_told}
 use Rattle.link_laws.specs.LinkStages.{LinkStage, when_selected, when_settling, when_turning, when_offering, when_shaking, when_pulsing}
-
-wrong : {A : Type 0} → true ≡ false → A
-wrong e = absurd cc
-
-wrong' : {A : Type 0} → false ≡ true → A
-wrong' e = absurd cc
+use Rattle.trace_laws.proofs.Tests.{or_second}
 
 -- ---- the task of a process
 
@@ -72,30 +70,10 @@ has_task s k id p served of = record { task = _; task_is = ap (task_if s k) (ap 
 
 -- ---- MESSAGE OUT, as it is left
 
-out_lines : (b : LineSet) → phase_of b ≡ phases.MessageOut → (b.msg ≡ true → b.cd ≡ true) → is_message_out b ≡ true
-out_lines b e known = go b.msg b.cd b.io e known
-  where
-    is_out : Phase → Bool
-    is_out phases.MessageOut = true
-    is_out _ = false
-
-    go : (m d i : Bool) → (if m then (if i then phases.MessageIn else phases.MessageOut) else if d then (if i then phases.Status else phases.Command) else if i then phases.DataIn else phases.DataOut) ≡ phases.MessageOut → (m ≡ true → d ≡ true) → (m && d && not i) ≡ true
-    go true true true z f = wrong' (ap is_out z)
-    go true true false z f = refl
-    go true false i z f = wrong' (f refl)
-    go false true true z f = wrong' (ap is_out z)
-    go false true false z f = wrong' (ap is_out z)
-    go false false true z f = wrong' (ap is_out z)
-    go false false false z f = wrong' (ap is_out z)
-
 pub record IsHeard (s : ScenarioValue) (k : RunState) : Type 0 where
   pub out : is_message_out (bus_of k) ≡ true
   pub last : k.story.bus_state.dialogue.is_last ≡ true
   pub named : k.exchange.plan.cause ≡ causes.Selected → is_item_named s k.exchange.plan.said k.served ≡ true
-
-second : (a b : Bool) → a ≡ false → (a || b) ≡ true → b ≡ true
-second true b e z = wrong e
-second false b e z = z
 
 pub is_heard : (s : ScenarioValue) (k : RunState) (n : Connection) → AreUnits s → Speaks s k n → k.exchange.begun ≡ true → ((bus_of k).msg ≡ true → (bus_of k).cd ≡ true) → IsOver s k n → phase_of (bus_of k) ≡ phases.MessageOut → IsHeard s k
 is_heard s k n u speaks b known over e =
@@ -104,7 +82,7 @@ is_heard s k n u speaks b known over e =
     record {
       out = out;
       last = last;
-      named = λ c. second k.exchange.plan.struck (is_item_named s k.exchange.plan.said k.served) (out_unstruck s k n e over) (sym (ap (is_opening_named s k.exchange.plan k.served) c) ∙ opening_named s k n u speaks b out last);
+      named = λ c. or_second k.exchange.plan.struck (is_item_named s k.exchange.plan.said k.served) (out_unstruck s k n e over) (sym (ap (is_opening_named s k.exchange.plan k.served) c) ∙ opening_named s k n u speaks b out last);
     }
 
 -- ---- the initiator knows what is served, or no name was heard
@@ -125,13 +103,6 @@ unbegun_lines s p n (when_turning atn x msg cd h) b = wrong (sym h.phase.begun_i
 unbegun_lines s p n (when_offering atn msg cd y h) b = wrong (sym h.phase.begun_is ∙ b)
 unbegun_lines s p n (when_shaking msg cd io req ack atn x y h) b = wrong (sym h.phase.begun_is ∙ b)
 unbegun_lines s p n (when_pulsing io req ack atn x y h a) b = wrong (sym h.phase.begun_is ∙ b)
-
-pub out_no_status : (b : LineSet) → is_message_out b ≡ true → is_status_phase b ≡ false
-out_no_status b e = go b.msg b.cd b.io e
-  where
-    go : (m d i : Bool) → (m && d && not i) ≡ true → (not m && d && i) ≡ false
-    go true d i z = refl
-    go false d i z = wrong' z
 
 -- Before a name was heard no event is shown as a phase is left.
 silent_out : (v : Serving) (attention : Bool) (phase : Phase) (id : ProcId) → ((phase ≡ phases.MessageOut) × (v.plan.cause ≡ causes.InMessage) × (is_naming v.plan.messages.first ≡ true)) ⊎ ((phase ≡ phases.MessageIn) × (attention ≡ true)) → turn_events v attention phase id ≡ []
@@ -166,7 +137,7 @@ named_of s k n l h e = h.tells.naming (ap item_of h.link_is ∙ e)
 group_is : (s : ScenarioValue) (k : RunState) (n : Connection) (l : Link) (id : ProcId) (p : Process) → Here s k n l → k.served ≡ Some (process id) → process_of s id ≡ Some p → phase_of (bus_of k) ≡ phases.Command → k.exchange.plan.struck ≡ false → has_group_len (carried_here k id).block ≡ true
 group_is s k n l id p h served of e f =
     subst (λ (x : ProcId). has_group_len (carried_here k x).block ≡ true) (process_id s id p of)
-    (command_over s k n p (command_lines (bus_of k) ∙ ap is_command_phase e) h.over (ap (process_item s) served ∙ of) f)
+    (command_over s k n p (command_is (bus_of k) ∙ ap is_command_phase e) h.over (ap (process_item s) served ∙ of) f)
 
 pub turned : (s : ScenarioValue) (k : RunState) (n : Connection) (l : Link) (c : Change) → Here s k n l → bus_of k ≡ c.before → (leaving s k n.target).to ≡ Some (phase_of c.after) → turn_events_if (serving_of s k n.target) (bus_of k).atn (phase_of (bus_of k)) (id_of k.served) ≡ phase_events s k.story (carried_if k.story l.item) c
 turned s k n l c h on to = go h.tells.served
@@ -230,14 +201,6 @@ ended s k n l h to = go h.tells.served
             ∙ abort_told s n v l m a (same ∙ served) line host target (sym (ap (is_item_named s k.exchange.plan.said) served) ∙ w.named at.1) last
 
 -- ---- a row of a connection
-
-or_false : (q : Bool) → (q || false) ≡ q
-or_false true = refl
-or_false false = refl
-
-or_true : (q : Bool) → (q || true) ≡ true
-or_true true = refl
-or_true false = refl
 
 ends_show : (s : ScenarioValue) (k : RunState) (row : Row) (d : RowReading) (n : Connection) → k.story.bus_state.connection ≡ Some n → d.change.after.rst ≡ false → events_of_ends s k row d ≡ (if changes_phase d.change || not (is_some d.next) then target_events s k n (is_some d.next) else initiator_events k k.story.link d)
 ends_show s k row d n con calm =

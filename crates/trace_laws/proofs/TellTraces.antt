@@ -36,21 +36,14 @@ use Rattle.bus_laws.proofs.Together.{from_stage}
 use Rattle.link_laws.specs.LinkStages.{LinkStage, AnyStage, apart, linked}
 use Rattle.trace_laws.specs.Tells.{AreRepliesShown, TellsAsLeft}
 use Rattle.scsi_device.proofs.FitLines.{obeys_fits, units_are}
+use Rattle.trace_laws.proofs.Attended.{none_array}
 use Rattle.trace_laws.proofs.Called.{link_none}
 use Rattle.trace_laws.proofs.ConnectionRows.{connection_row}
 use Rattle.trace_laws.proofs.Crossings.{RowFacts, stays, ends_here}
 use Rattle.trace_laws.proofs.Joint.{Stood, link_calm, link_connection, link_phase, apart_connection}
+use Rattle.trace_laws.proofs.PhaseLines.{out_no_status}
 use Rattle.trace_laws.proofs.TellEvents.{self_events}
-use Rattle.trace_laws.proofs.TellRows.{Here, turned, ended, no_events, unbegun_lines, out_no_status, goes_told, stops_told}
-
-wrong : {A : Type 0} → true ≡ false → A
-wrong e = absurd cc
-
-wrong' : {A : Type 0} → false ≡ true → A
-wrong' e = absurd cc
-
-no_array : {A : Type 0} → (let a : Option Array = None in is_some a) ≡ true → A
-no_array e = absurd cc
+use Rattle.trace_laws.proofs.TellRows.{Here, turned, ended, no_events, unbegun_lines, goes_told, stops_told}
 
 -- ---- after it RST is true, or no connection stands
 
@@ -153,7 +146,7 @@ tells_row s p row o prompt was shown some tells = go (bus (row ∷ p)).rst refl 
     change = change_plain s row p was.standing.devices m.inside
 
     by_array : (n : Connection) → LinkStage s p n → RowFacts s p row n → (bus (row ∷ p)).rst ≡ false → (a : Option Array) → k.array ≡ a → is_some a ≡ true → is_true_telling s k row (row_reading k.story.bus_state row) ≡ true
-    by_array n h facts off None e z = no_array z
+    by_array n h facts off None e z = none_array z
     by_array n h facts off (Some a) e z = linked_told s p row n (record { units = units_are s (obeys_fits s o); devices = was.standing.devices; below = m.inside; was = was; stage = h; facts = facts; calm_after = off; shown = shown; array = a; array_is = e; tells = tells })
 
     go : (q : Bool) → (bus (row ∷ p)).rst ≡ q → AnyStage s p → is_true_telling s k row (row_reading k.story.bus_state row) ≡ true

@@ -8,7 +8,6 @@ use Rattle.bus_trace.specs.LineSet.{LineSet}
 use Rattle.bus_trace.specs.declared.agreements.Agreement.{Agreement}
 use Rattle.bus_trace.specs.declared.changes.Change.{Change}
 use Rattle.bus_trace.specs.declared.connection.Connection.{Connection}
-use Rattle.bus_trace.specs.Phases.{is_command}
 use Rattle.cdb_codec.specs.Cdb.{has_group_len}
 use Rattle.cdb_codec.specs.declared.sense.TheConstants.{PARITY_ERROR}
 use Rattle.msg_grammar.specs.declared.message.MsgIn.{MsgIn}
@@ -43,26 +42,11 @@ use Rattle.bus_books.specs.Reactions.{is_command_phase}
 use Rattle.bus_books.proofs.CarriedRows.{process_id}
 use Rattle.bus_books.proofs.Lookups.{carried_id}
 use Rattle.trace_laws.specs.Tells.{has_answer, AreRepliesShown, FailsIn}
+use Rattle.trace_laws.proofs.Impossible.{wrong, wrong'}
+use Rattle.trace_laws.proofs.PhaseLines.{command_is}
 use Rattle.trace_laws.proofs.TellEvents.{arrives, with_status, command_reply, whole_block}
 
-wrong : {A : Type 0} → true ≡ false → A
-wrong e = absurd cc
-
-wrong' : {A : Type 0} → false ≡ true → A
-wrong' e = absurd cc
-
 -- ---- the lines of a phase
-
-pub command_lines : (b : LineSet) → is_command b ≡ is_command_phase (phase_of b)
-command_lines b = go b.msg b.cd b.io
-  where
-    go : (m d i : Bool) → (not m && d && not i) ≡ is_command_phase (if m then (if i then phases.MessageIn else phases.MessageOut) else if d then (if i then phases.Status else phases.Command) else if i then phases.DataIn else phases.DataOut)
-    go true d true = refl
-    go true d false = refl
-    go false true true = refl
-    go false true false = refl
-    go false false true = refl
-    go false false false = refl
 
 pub status_lines : (b : LineSet) → is_status_next (Some (phase_of b)) ≡ is_status_phase b
 status_lines b = go b.msg b.cd b.io
@@ -150,7 +134,7 @@ arrived_told : (s : ScenarioValue) (b : Story) (c : CarriedBytes) (before : Line
     → (phase ≡ phases.Command → (queue_event s b.history c.id ≡ arrival_event id arrival) × (plan.struck ≡ false → has_group_len c.block ≡ true))
     → queue_events s b (Some c) before ≡ arrival_events id plan arrival phase
 arrived_told s b c before id plan arrival attention phase e fails h =
-    ap (λ (q : Bool). if q && is_whole_block c then queue_event s b.history c.id ∷ [] else []) (command_lines before ∙ ap is_command_phase e) ∙ go phase fails h
+    ap (λ (q : Bool). if q && is_whole_block c then queue_event s b.history c.id ∷ [] else []) (command_is before ∙ ap is_command_phase e) ∙ go phase fails h
   where
     struck_or : (q : Bool) → (if not q then queue_event s b.history c.id ∷ [] else []) ≡ (if q then [] else queue_event s b.history c.id ∷ [])
     struck_or true = refl

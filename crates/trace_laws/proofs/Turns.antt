@@ -56,10 +56,12 @@ use Rattle.link_laws.proofs.LinkObeys.{same_phases}
 use Rattle.link_laws.proofs.Moves.{terms_of, target_moves}
 use Rattle.link_laws.proofs.PhaseEnds.{leaves_lines}
 use Rattle.link_laws.proofs.Shakes.{target_row}
-use Rattle.trace_laws.proofs.Driven.{message_at, AfterDriven, goes_on, frees, odd_byte, wrong, wrong', driven_in, driven_out}
+use Rattle.trace_laws.proofs.Driven.{message_at, AfterDriven, goes_on, frees, odd_byte, driven_in, driven_out}
+use Rattle.trace_laws.proofs.Impossible.{wrong, wrong'}
 use Rattle.trace_laws.proofs.InPhase.{Values}
 use Rattle.trace_laws.proofs.Kept.{turn, row_in, target_end}
 use Rattle.trace_laws.proofs.LinkRows.{has_first, is_unasked}
+use Rattle.trace_laws.proofs.Tests.{none_both, not_first}
 
 -- ---- MESSAGE OUT begins after a selection
 
@@ -203,10 +205,6 @@ asked_for v atn phases.Status = unless atn (disconnection (one_message to_initia
 
 -- ---- a phase to the target begins
 
-none_both : (q : Bool) → (let o : Option ℕ = None in if q then o else o) ≡ None
-none_both true = refl
-none_both false = refl
-
 -- What was heard, as a phase begins.
 phase_heard : (s : ScenarioValue) (p : List Row) (t : ℕ) (n : Connection) (atn msg cd io : Bool) (x y : ℕ) (msg' cd' io' : Bool) (z : ℕ) → Linked p n (ends false false atn x msg cd io false y) → same_phases msg cd io msg' cd' io' ≡ false → (dialogue (target_row t n (ends false false atn x msg' cd' io' false z) ∷ p)).is_last ≡ false
 phase_heard s p t n atn msg cd io x y msg' cd' io' z h differs =
@@ -287,34 +285,30 @@ freed s p t n e quiet h = frees (freed_connection p t n e quiet h)
 
 -- ---- all of them
 
-unsame : (q r : Bool) → (not q && r) ≡ true → q ≡ false
-unsame true r e = wrong' e
-unsame false r e = refl
-
 -- After a phase to the initiator.
 leaves_in : (s : ScenarioValue) (p : List Row) (t : ℕ) (n : Connection) (atn msg cd : Bool) (x y : ℕ) (o : Option Phase) → AreOfDevices p → CalmStanding s p → last_time p ≤ t → Linked p n (ends false false atn x msg cd true false y) → begun p ≡ true → Values s p n (ends false false atn x msg cd true false y) → (phase_leaving (serving_at s (run_state s p) n.target (phase_of (connected_bus (ends false false atn x msg cd true false y)))) atn (phase_of (connected_bus (ends false false atn x msg cd true false y)))).to ≡ o → may_leave msg cd true atn o ≡ true → asks_for atn o ≡ true
     → AfterDriven s (row_of_lines t n.target (lines_by (serving_at s (run_state s p) n.target (phase_of (connected_bus (ends false false atn x msg cd true false y)))) true (phase_leaving (serving_at s (run_state s p) n.target (phase_of (connected_bus (ends false false atn x msg cd true false y)))) atn (phase_of (connected_bus (ends false false atn x msg cd true false y)))) o) ∷ p) n
 leaves_in s p t n atn msg cd x y None dv always order h b v to m a = freed s p t n (ends false false atn x msg cd true false y) refl h
-leaves_in s p t n atn msg cd x y (Some phases.DataOut) dv always order h b v to m a = begins_out s p t n atn msg cd true x y false false always order h (unsame (same_phases msg cd true false false false) _ m) (λ z. wrong' z)
-leaves_in s p t n atn msg cd x y (Some phases.Command) dv always order h b v to m a = begins_out s p t n atn msg cd true x y false true always order h (unsame (same_phases msg cd true false true false) _ m) (λ z. wrong' z)
-leaves_in s p t n atn msg cd x y (Some phases.MessageOut) dv always order h b v to m a = begins_out s p t n atn msg cd true x y true true always order h (unsame (same_phases msg cd true true true false) _ m) (λ z. a)
+leaves_in s p t n atn msg cd x y (Some phases.DataOut) dv always order h b v to m a = begins_out s p t n atn msg cd true x y false false always order h (not_first (same_phases msg cd true false false false) _ m) (λ z. wrong' z)
+leaves_in s p t n atn msg cd x y (Some phases.Command) dv always order h b v to m a = begins_out s p t n atn msg cd true x y false true always order h (not_first (same_phases msg cd true false true false) _ m) (λ z. wrong' z)
+leaves_in s p t n atn msg cd x y (Some phases.MessageOut) dv always order h b v to m a = begins_out s p t n atn msg cd true x y true true always order h (not_first (same_phases msg cd true true true false) _ m) (λ z. a)
 leaves_in s p t n atn msg cd x y (Some phases.DataIn) dv always order h b v to m a =
-    begins_in s p t n atn msg cd x y false false _ always order h (unsame (same_phases msg cd true false false true) _ m) (v.entering phases.DataIn to) (λ z. wrong' z)
+    begins_in s p t n atn msg cd x y false false _ always order h (not_first (same_phases msg cd true false false true) _ m) (v.entering phases.DataIn to) (λ z. wrong' z)
 leaves_in s p t n atn msg cd x y (Some phases.Status) dv always order h b v to m a =
-    begins_in s p t n atn msg cd x y false true _ always order h (unsame (same_phases msg cd true false true true) _ m) (v.entering phases.Status to) (λ z. wrong' z)
+    begins_in s p t n atn msg cd x y false true _ always order h (not_first (same_phases msg cd true false true true) _ m) (v.entering phases.Status to) (λ z. wrong' z)
 leaves_in s p t n atn msg cd x y (Some phases.MessageIn) dv always order h b v to m a =
-    let differs = unsame (same_phases msg cd true true true true) _ m in
+    let differs = not_first (same_phases msg cd true true true true) _ m in
     begins_in s p t n atn msg cd x y true true _ always order h differs (v.entering phases.MessageIn to) (λ z. sym (planned s p t n atn msg cd x y _ dv always order h b differs))
 
 -- After a phase to the target.
 leaves_out : (s : ScenarioValue) (p : List Row) (t : ℕ) (n : Connection) (atn msg cd : Bool) (x y : ℕ) (v : Serving) (l : Leaving) (o : Option Phase) → CalmStanding s p → last_time p ≤ t → Linked p n (ends false false atn x msg cd false false y) → may_leave msg cd false atn o ≡ true → asks_for atn o ≡ true → AfterDriven s (row_of_lines t n.target (lines_by v false l o) ∷ p) n
 leaves_out s p t n atn msg cd x y v l None always order h m a = freed s p t n (ends false false atn x msg cd false false y) refl h
-leaves_out s p t n atn msg cd x y v l (Some phases.DataOut) always order h m a = begins_out s p t n atn msg cd false x y false false always order h (unsame (same_phases msg cd false false false false) _ m) (λ z. wrong' z)
-leaves_out s p t n atn msg cd x y v l (Some phases.Command) always order h m a = begins_out s p t n atn msg cd false x y false true always order h (unsame (same_phases msg cd false false true false) _ m) (λ z. wrong' z)
-leaves_out s p t n atn msg cd x y v l (Some phases.MessageOut) always order h m a = begins_out s p t n atn msg cd false x y true true always order h (unsame (same_phases msg cd false true true false) _ m) (λ z. a)
-leaves_out s p t n atn msg cd x y v l (Some phases.DataIn) always order h m a = begins_turned s p t n atn msg cd x y false false always order h (unsame (same_phases msg cd false false false true) _ m)
-leaves_out s p t n atn msg cd x y v l (Some phases.Status) always order h m a = begins_turned s p t n atn msg cd x y false true always order h (unsame (same_phases msg cd false false true true) _ m)
-leaves_out s p t n atn msg cd x y v l (Some phases.MessageIn) always order h m a = begins_turned s p t n atn msg cd x y true true always order h (unsame (same_phases msg cd false true true true) _ m)
+leaves_out s p t n atn msg cd x y v l (Some phases.DataOut) always order h m a = begins_out s p t n atn msg cd false x y false false always order h (not_first (same_phases msg cd false false false false) _ m) (λ z. wrong' z)
+leaves_out s p t n atn msg cd x y v l (Some phases.Command) always order h m a = begins_out s p t n atn msg cd false x y false true always order h (not_first (same_phases msg cd false false true false) _ m) (λ z. wrong' z)
+leaves_out s p t n atn msg cd x y v l (Some phases.MessageOut) always order h m a = begins_out s p t n atn msg cd false x y true true always order h (not_first (same_phases msg cd false true true false) _ m) (λ z. a)
+leaves_out s p t n atn msg cd x y v l (Some phases.DataIn) always order h m a = begins_turned s p t n atn msg cd x y false false always order h (not_first (same_phases msg cd false false false true) _ m)
+leaves_out s p t n atn msg cd x y v l (Some phases.Status) always order h m a = begins_turned s p t n atn msg cd x y false true always order h (not_first (same_phases msg cd false false true true) _ m)
+leaves_out s p t n atn msg cd x y v l (Some phases.MessageIn) always order h m a = begins_turned s p t n atn msg cd x y true true always order h (not_first (same_phases msg cd false true true true) _ m)
 
 pub after_leaves : (s : ScenarioValue) (p : List Row) (t : ℕ) (n : Connection) (atn msg cd io : Bool) (x y : ℕ) → AreOfDevices p → CalmStanding s p → last_time p ≤ t → Linked p n (ends false false atn x msg cd io false y) → begun p ≡ true → (msg && not cd) ≡ false → Values s p n (ends false false atn x msg cd io false y)
     → AfterDriven s (row_of_lines t n.target (offering_with s p n true (ends false false atn x msg cd io false y)).to ∷ p) n

@@ -3,7 +3,6 @@ use Rattle.std.proofs.Common.{inl, inr, ℕ, ◌≡◌, ◌<◌, ◌≤◌, ◌+
 use Rattle.std.specs.Prelude.{cond, if◌then◌else◌, nat_le}
 use Rattle.std.specs.List.{AllByRecursion}
 use Rattle.std.proofs.lemmas.Bool.{cases_eq, and_parts}
-use Rattle.std.proofs.lemmas.Bool.Decides.{nat_tests}
 use Rattle.bus_trace.specs.LineSet.{LineSet, none, union}
 use Rattle.bus_trace.proofs.Sets.{same_set-eq}
 use Rattle.bus_trace.proofs.Buses.{bus_on, bus_off}
@@ -24,15 +23,16 @@ use Rattle.scenario.specs.Value.{ScenarioValue}
 use Rattle.bus_laws.specs.Stages.{UnderRst, IsUnderRst, quiet, holds, lingers}
 use Rattle.bus_laws.proofs.FromReset.{off_at}
 use Rattle.bus_laws.proofs.Tests.{or_true}
-use Rattle.trace_laws.proofs.Driven.{wrong, wrong'}
+use Rattle.trace_laws.proofs.Impossible.{wrong, wrong'}
+use Rattle.trace_laws.proofs.Tests.{none_both, le_is}
 
 -- ---- the rule of the reset condition
 
-kept_step : (kept : ℕ → Bool) (n : ℕ) (ns : List ℕ) (q : Bool) → kept n ≡ q → (first_broken kept ns ≡ None → AllByRecursion (λ m. kept m ≡ true) ns) → cond q (first_broken kept ns) (Some n) ≡ None → AllByRecursion (λ m. kept m ≡ true) (n ∷ ns)
+pub kept_step : (kept : ℕ → Bool) (n : ℕ) (ns : List ℕ) (q : Bool) → kept n ≡ q → (first_broken kept ns ≡ None → AllByRecursion (λ m. kept m ≡ true) ns) → cond q (first_broken kept ns) (Some n) ≡ None → AllByRecursion (λ m. kept m ≡ true) (n ∷ ns)
 kept_step kept n ns true h later e = (h, later e)
 kept_step kept n ns false h later e = absurd cc
 
-all_kept : (kept : ℕ → Bool) (ns : List ℕ) → first_broken kept ns ≡ None → AllByRecursion (λ n. kept n ≡ true) ns
+pub all_kept : (kept : ℕ → Bool) (ns : List ℕ) → first_broken kept ns ≡ None → AllByRecursion (λ n. kept n ≡ true) ns
 all_kept kept [] e = tt
 all_kept kept (n ∷ ns) e = kept_step kept n ns (kept n) refl (λ later. all_kept kept ns later) e
 
@@ -51,14 +51,14 @@ reset_rule p row e =
     let one = and_parts (implies ((bus p).rst || rises (drives p row.dev).rst (driven_after row.kind (drives p row.dev)).rst) (is_within (driven_after row.kind (drives p row.dev)) (union only_rst (drives p row.dev)))) _ two.0 in
     record { alone = one.0; quiet_is = one.1; holds_is = two.1 }
 
-implied : (q r : Bool) → implies q r ≡ true → q ≡ true → r ≡ true
+pub implied : (q r : Bool) → implies q r ≡ true → q ≡ true → r ≡ true
 implied true r e f = e
 implied false r e f = wrong' f
 
 -- ---- what a device drives after its row
 
-next_is : (p : List Row) (row : Row) → drives (row ∷ p) row.dev ≡ driven_after row.kind (drives p row.dev)
-next_is p row = go row.kind refl
+pub drives_next : (p : List Row) (row : Row) → drives (row ∷ p) row.dev ≡ driven_after row.kind (drives p row.dev)
+drives_next p row = go row.kind refl
   where
     go : (k : Kind) → row.kind ≡ k → drives (row ∷ p) row.dev ≡ driven_after row.kind (drives p row.dev)
     go (Drives l) e = drives-own row p l e ∙ sym (ap (λ (k : Kind). driven_after k (drives p row.dev)) e)
@@ -88,7 +88,7 @@ raises_or_stands p row lt on = go (bus p).rst refl (drives (row ∷ p) row.dev).
     go true e r f = λ i. e i || rises (drives p row.dev).rst (driven_after row.kind (drives p row.dev)).rst
     go false e true f =
         let was = off_at p e row.dev lt in
-        let now : (driven_after row.kind (drives p row.dev)).rst ≡ true = ap (λ (l : LineSet). l.rst) (sym (next_is p row)) ∙ f in
+        let now : (driven_after row.kind (drives p row.dev)).rst ≡ true = ap (λ (l : LineSet). l.rst) (sym (drives_next p row)) ∙ f in
         λ i. e i || rises (was i) (now i)
     go false e false f = wrong (sym on ∙ stays_off (λ x. x.rst) (λ _ _. refl) refl p row e f)
 
@@ -107,7 +107,7 @@ none_rises on both zero rst p row lt within = no_rise_by (on (bus p)) (on (bus (
     go : (q : Bool) → on (drives (row ∷ p) row.dev) ≡ q → on (bus p) ≡ false → on (drives (row ∷ p) row.dev) ≡ false
     go false f e = f
     go true f e =
-        let next : on (driven_after row.kind (drives p row.dev)) ≡ true = ap on (sym (next_is p row)) ∙ f in
+        let next : on (driven_after row.kind (drives p row.dev)) ≡ true = ap on (sym (drives_next p row)) ∙ f in
         let all = within_line on both (driven_after row.kind (drives p row.dev)) (union only_rst (drives p row.dev)) within next in
         wrong (sym all ∙ both only_rst (drives p row.dev) ∙ (λ i. rst i || line_off on both p e row.dev lt i))
 
@@ -115,10 +115,6 @@ none_rises on both zero rst p row lt within = no_rise_by (on (bus p)) (on (bus (
 pub none_raised : (on : LineSet → Bool) → ((a b : LineSet) → on (union a b) ≡ (on a || on b)) → on none ≡ false → on only_rst ≡ false → (p : List Row) (row : Row) → row.dev < 8 → broken_rule p row ≡ None → (bus (row ∷ p)).rst ≡ true → rises (on (bus p)) (on (bus (row ∷ p))) ≡ false
 none_raised on both zero rst p row lt obeys up =
     none_rises on both zero rst p row lt (implied ((bus p).rst || rises (drives p row.dev).rst (driven_after row.kind (drives p row.dev)).rst) _ (reset_rule p row obeys).alone (raises_or_stands p row lt up))
-
-none_both : (q : Bool) → (let o : Option ℕ = None in if q then o else o) ≡ None
-none_both true = refl
-none_both false = refl
 
 pub carries_none : (p : List Row) (row : Row) (n : Connection) → row.dev < 8 → broken_rule p row ≡ None → (bus (row ∷ p)).rst ≡ true → receiver_in n (change_of p row) ≡ None
 carries_none p row n lt obeys on =
@@ -144,9 +140,6 @@ bsy_stands (row ∷ rows) e = go (connection rows) refl
     go None f = (λ i. connection_after (f i) (call rows) c row) ∙ none_if (falls c.before.sel c.after.sel) c.after.bsy (not c.after.rst) e
     go (Some m) f = (λ i. connection_after (f i) (call rows) c row) ∙ ap (λ (q : Bool). if q then Some m else None) e
 
-le_is : (a b : ℕ) → nat_le a b ≡ true → a ≤ b
-le_is a b e = grind (arith, nat_tests)
-
 or_second : (a b : Bool) → (a || b) ≡ true → (a ≡ true → ⊥) → b ≡ true
 or_second true b e f = absurd (f refl)
 or_second false b e f = e
@@ -171,7 +164,7 @@ quiet_at_end s p row lt obeys u off =
             ]))
 
     let_go : (driven_after row.kind (drives p row.dev)).rst ≡ false
-    let_go = ap (λ (l : LineSet). l.rst) (sym (next_is p row)) ∙ off_at (row ∷ p) off row.dev lt
+    let_go = ap (λ (l : LineSet). l.rst) (sym (drives_next p row)) ∙ off_at (row ∷ p) off row.dev lt
 
     wait : raised (λ x. x.rst) p row.dev + 25000 ≤ row.time
     wait = le_is _ _ (implied (falls (drives p row.dev).rst (driven_after row.kind (drives p row.dev)).rst) _ r.holds_is (λ i. falls (held i) (let_go i)))

@@ -1,11 +1,10 @@
 -- What MESSAGE PARITY ERROR brings back has the answer that the process has, after any rows of a prompt trace.
 use Rattle.std.proofs.Common.{inl, inr, ℕ, ◌≡◌, ◌⊎◌, Bool, true, false, not, ◌&&◌, ◌%◌, ◌∙◌, [], ◌∷◌, ◌++◌, Option, Some, None, refl, sym, ap, subst}
 use Rattle.std.specs.Prelude.{if◌then◌else◌, is_some}
-use Rattle.bus_trace.specs.LineSet.{LineSet}
 use Rattle.bus_trace.specs.declared.Row.{Row}
 use Rattle.bus_trace.specs.declared.changes.Change.{Change}
 use Rattle.bus_trace.specs.declared.connection.Connection.{Connection}
-use Rattle.bus_trace.specs.Phases.{changes_phase, is_message_out, is_message_in}
+use Rattle.bus_trace.specs.Phases.{changes_phase, is_message_out}
 use Rattle.bus_trace.specs.Terms.{is_fault, receiver_in, receiver_of}
 use Rattle.bus_phases.specs.Dialogue.{fresh_bytes}
 use Rattle.msg_grammar.specs.declared.message.MsgOut.{MsgOut}
@@ -30,20 +29,10 @@ use Rattle.bus_books.specs.Traces.{GoesOn, RowOf, apart as row_apart, begins, go
 use Rattle.bus_books.proofs.InConnection.{InConnection, in_connection, same_phase_is, reading_is}
 use Rattle.trace_laws.specs.Tells.{has_answer, UndoesAnswers, UndoFits, UndoAsked, UndoBy, UndoBooks, is_short}
 use Rattle.trace_laws.proofs.CommandCounts.{is_refusal, error_said}
+use Rattle.trace_laws.proofs.Impossible.{wrong, wrong', none_some}
+use Rattle.trace_laws.proofs.PhaseLines.{out_phase}
 use Rattle.trace_laws.proofs.UndoneLeavings.{is_detecting}
 use Rattle.trace_laws.proofs.UndoneRows.{SameAnswersIn, answers_stay, fits_on}
-
-wrong : {A : Type 0} → true ≡ false → A
-wrong e = absurd cc
-
-wrong' : {A : Type 0} → false ≡ true → A
-wrong' e = absurd cc
-
-none_some : {A : Type 0} (n : Connection) → (let o : Option Connection = None in o) ≡ Some n → A
-none_some n e = absurd cc
-
-no_message : {A : Type 0} (m : MsgOut) → (let o : Option MsgOut = None in o) ≡ Some m → A
-no_message m e = absurd cc
 
 -- ---- in which phases MESSAGE PARITY ERROR may come
 
@@ -67,24 +56,6 @@ asked_fits fits causes.InMessage e h = h
 asked_fits fits causes.InData e h = wrong e
 asked_fits fits causes.InStatus e h = wrong e
 
-pub out_phase : (b : LineSet) → is_message_out b ≡ true → phase_of b ≡ phases.MessageOut
-out_phase b e = go b.msg b.cd b.io e
-  where
-    go : (m d i : Bool) → (m && d && not i) ≡ true → (if m then (if i then phases.MessageIn else phases.MessageOut) else if d then (if i then phases.Status else phases.Command) else if i then phases.DataIn else phases.DataOut) ≡ phases.MessageOut
-    go true true true z = wrong' z
-    go true true false z = refl
-    go true false i z = wrong' z
-    go false d i z = wrong' z
-
-pub in_phase : (b : LineSet) → is_message_in b ≡ true → phase_of b ≡ phases.MessageIn
-in_phase b e = go b.msg b.cd b.io e
-  where
-    go : (m d i : Bool) → (m && d && i) ≡ true → (if m then (if i then phases.MessageIn else phases.MessageOut) else if d then (if i then phases.Status else phases.Command) else if i then phases.DataIn else phases.DataOut) ≡ phases.MessageIn
-    go true true true z = refl
-    go true true false z = wrong' z
-    go true false i z = wrong' z
-    go false d i z = wrong' z
-
 crosses_undoes : (s : ScenarioValue) (k : RunState) (row : Row) (n : Connection) (c : Change) → GoesOn s k row n c → Speaks s k n → is_some (receiver_in n c) ≡ true → UndoBooks k → UndoesAnswers k row
 crosses_undoes s k row n c g speaks there h l m u el eo parity eu = go (is_message_out c.before) refl
   where
@@ -95,7 +66,7 @@ crosses_undoes s k row n c g speaks there h l m u el eo parity eu = go (is_messa
     begun = g.begun (ap (λ (d : RowReading). d.crosses) (reading_is k row n c true g.row_is there))
 
     go : (q : Bool) → is_message_out c.before ≡ q → has_answer u ≡ has_answer (carried_here k u.id)
-    go false e = no_message m (sym (λ i. if e i then whole_out (got_out (fresh_bytes k.story.bus_state.dialogue ++ c.after.data_bits % 256 ∷ [])) else None) ∙ out)
+    go false e = none_some m (sym (λ i. if e i then whole_out (got_out (fresh_bytes k.story.bus_state.dialogue ++ c.after.data_bits % 256 ∷ [])) else None) ∙ out)
     go true e =
         let here : UndoAsked (UndoFits k) k.exchange.plan.cause = subst (λ (p : Phase). UndoBy (UndoFits k) k.exchange.plan k.handshakes.requests p) (ap phase_of g.row_is.bus_is ∙ out_phase c.before e) (h.begun begun) in
         by (is_detecting k.exchange.plan.cause) refl here
@@ -105,7 +76,7 @@ crosses_undoes s k row n c g speaks there h l m u el eo parity eu = go (is_messa
         by true z w = wrong (sym parity ∙ ap is_refusal (sym out) ∙ detects s k n c speaks begun g.row_is.bus_is e (g.says e there).0 z)
 
 silent_undoes : (k : RunState) (row : Row) → (row_reading k.story.bus_state row).crosses ≡ false → UndoesAnswers k row
-silent_undoes k row e l m u el eo parity eu = no_message m (sym (ap (λ (q : Bool). message_out k.story.bus_state.dialogue (row_reading k.story.bus_state row).change q) e) ∙ eo)
+silent_undoes k row e l m u el eo parity eu = none_some m (sym (ap (λ (q : Bool). message_out k.story.bus_state.dialogue (row_reading k.story.bus_state row).change q) e) ∙ eo)
 
 pub row_undoes : (s : ScenarioValue) (k : RunState) (row : Row) → Books s k → ((n : Connection) → k.story.bus_state.connection ≡ Some n → (bus_of k).rst ≡ false → UndoBooks k) → RowOf s k row → UndoesAnswers k row
 row_undoes s k row books h (row_apart con next) = silent_undoes k row (ap (λ (o : Option Connection). is_some (receiver_of o (row_reading k.story.bus_state row).change)) con)

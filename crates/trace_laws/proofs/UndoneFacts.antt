@@ -1,12 +1,12 @@
 -- What MESSAGE PARITY ERROR brings back has the answer that the process has, after any rows of a prompt trace.
-use Rattle.std.proofs.Common.{inl, inr, ℕ, ◌≡◌, ◌<◌, Bool, true, false, not, ◌&&◌, ◌%◌, ◌∙◌, List, [], ◌∷◌, ◌++◌, Option, Some, None, refl, sym, ap}
+use Rattle.std.proofs.Common.{inl, inr, ℕ, ◌≡◌, ◌<◌, Bool, true, false, ◌&&◌, ◌%◌, ◌∙◌, List, [], ◌∷◌, ◌++◌, Option, Some, None, refl, sym, ap}
 use Rattle.std.specs.Prelude.{if◌then◌else◌, is_some}
 use Rattle.bus_trace.specs.LineSet.{LineSet}
 use Rattle.bus_trace.specs.declared.Row.{Row}
 use Rattle.bus_trace.specs.declared.changes.Change.{Change}
 use Rattle.bus_trace.specs.declared.connection.Connection.{Connection}
 use Rattle.bus_trace.specs.Changes.{change_of}
-use Rattle.bus_trace.specs.Phases.{changes_phase, is_command, is_message_out, is_message_in}
+use Rattle.bus_trace.specs.Phases.{changes_phase, is_command, is_message_in}
 use Rattle.bus_trace.specs.Terms.{is_fault, connection, connection_after, receiver_in}
 use Rattle.bus_trace.specs.Trace.{bus}
 use Rattle.bus_lines.specs.Handshakes.{Handshakes, handshakes_after}
@@ -15,7 +15,6 @@ use Rattle.bus_phases.specs.Dialogue.{fresh_bytes}
 use Rattle.scenario.specs.Value.{ScenarioValue}
 use Rattle.scenario.specs.Writing.{Obeys}
 use Rattle.bus_story.specs.BusState.{row_reading, whole_out}
-use Rattle.bus_story.specs.CarriedBytes.{CarriedBytes}
 use Rattle.bus_story.specs.HistoryEvents.{row_events_by}
 use Rattle.bus_story.specs.TraceHistory.{story_on_bus, story_by_change}
 use Rattle.bus_dialogue.specs.declared.exchange.Cause.{Cause}
@@ -34,30 +33,20 @@ use Rattle.bus_laws.proofs.Prompt.{least_is}
 use Rattle.bus_books.specs.Knowing.{Knows}
 use Rattle.bus_books.specs.Rows.{RowKind, still, strikes, crosses, turns}
 use Rattle.bus_books.specs.Traces.{GoesOn}
-use Rattle.bus_books.proofs.Gives.{requests_stay, struck_same}
+use Rattle.bus_books.proofs.Gives.{requests_stay, struck_same, in_io}
 use Rattle.bus_books.proofs.InConnection.{in_connection}
 use Rattle.bus_books.proofs.Knows.{events_link}
 use Rattle.trace_laws.specs.Tells.{UndoesAnswers, UndoFits, UndoAsked, UndoBy, UndoBooks, UndoFacts}
 use Rattle.trace_laws.proofs.BlockRows.{undo_of}
 use Rattle.trace_laws.proofs.CommandFirst.{undo_first}
 use Rattle.trace_laws.proofs.ConnectionRows.{ConnectionRow, GoingRow, connection_row, going_row, stage_of_connection, RowKindOf, begins_now, goes_now, row_kind}
+use Rattle.trace_laws.proofs.Impossible.{wrong', none_some}
 use Rattle.trace_laws.proofs.Joint.{Stood, NextStood, link_phase}
+use Rattle.trace_laws.proofs.PhaseLines.{out_in}
 use Rattle.trace_laws.proofs.TellRows.{unbegun_lines}
 use Rattle.trace_laws.proofs.UndoneAnswers.{row_undoes, stays_by}
 use Rattle.trace_laws.proofs.UndoneRows.{SameAnswersIn, answers_stay, fits_heard, first_whole}
 use Rattle.trace_laws.proofs.UndoneTurns.{turn_keeps}
-
-wrong : {A : Type 0} → true ≡ false → A
-wrong e = absurd cc
-
-wrong' : {A : Type 0} → false ≡ true → A
-wrong' e = absurd cc
-
-none_some : {A : Type 0} (n : Connection) → (let o : Option Connection = None in o) ≡ Some n → A
-none_some n e = absurd cc
-
-no_bytes : {A : Type 0} (u : CarriedBytes) → (let o : Option CarriedBytes = None in o) ≡ Some u → A
-no_bytes u e = absurd cc
 
 -- ---- before any row, and the first row of a connection
 
@@ -110,7 +99,7 @@ undo_begins s p row n dv lt alone after calm = record { unbegun = λ b. fits; be
         ∙ undo_first k.story n
 
     fits : UndoFits j
-    fits l u el eu = no_bytes u (sym (sym (ap undo_of el) ∙ none) ∙ eu)
+    fits l u el eu = none_some u (sym (sym (ap undo_of el) ∙ none) ∙ eu)
 
 -- ---- a row of a connection
 
@@ -129,20 +118,6 @@ in_of b e known = go b.msg b.cd b.io e known
     go false true false z f = wrong' (ap is_in z)
     go false false true z f = wrong' (ap is_in z)
     go false false false z f = wrong' (ap is_in z)
-
-pub in_line : (b : LineSet) → is_message_in b ≡ true → b.io ≡ true
-in_line b e = go (b.msg && b.cd) b.io e
-  where
-    go : (q r : Bool) → (q && r) ≡ true → r ≡ true
-    go true r z = z
-    go false r z = wrong' z
-
-out_in : (b : LineSet) → is_message_in b ≡ true → is_message_out b ≡ false
-out_in b e = (λ i. b.msg && b.cd && not (in_line b e i)) ∙ go (b.msg && b.cd)
-  where
-    go : (q : Bool) → (q && false) ≡ false
-    go true = refl
-    go false = refl
 
 goes_keeps : (s : ScenarioValue) (p : List Row) (row : Row) (n : Connection) → AreOfDevices p → row.dev < 8 → Stood s p → NextStood s p row → ConnectionRow s p row n → GoingRow s p row n → UndoesAnswers (run_state s p) row → connection (row ∷ p) ≡ Some n → (bus (row ∷ p)).rst ≡ false → UndoBooks (run_state s p) → UndoBooks (run_state s (row ∷ p))
 goes_keeps s p row n dv lt was next r g undoes after calm h = go g.goes.row_is.kind
@@ -173,7 +148,7 @@ goes_keeps s p row n dv lt was next r g undoes after calm h = go g.goes.row_is.k
         let none : is_some (receiver_in n c) ≡ false = ap (λ (z : Option ℕ). is_some z) er in
         let i = in_connection s k row n c false false (is_fault row.kind) of.row_is ep none refl in
         stays_by s k row n c false knows.link of.row_is ep none knows.link_is undoes
-        (λ b e zero short. inr (ap (λ (x : Handshakes). x.requests) i.handshakes_is ∙ ap (λ (q : Bool). (handshakes_after q (Some n) c row.time k.handshakes).requests) ef ∙ requests_stay n c row.time k.handshakes ep (in_line c.before (here e)) er ∙ zero)) h
+        (λ b e zero short. inr (ap (λ (x : Handshakes). x.requests) i.handshakes_is ∙ ap (λ (q : Bool). (handshakes_after q (Some n) c row.time k.handshakes).requests) ef ∙ requests_stay n c row.time k.handshakes ep (in_io c.before (here e)) er ∙ zero)) h
     go (strikes ef ep er) =
         let none : is_some (receiver_in n c) ≡ false = ap (λ (z : Option ℕ). is_some z) er in
         let i = in_connection s k row n c false false (is_fault row.kind) of.row_is ep none refl in

@@ -20,9 +20,7 @@ use Rattle.bus_dialogue.specs.DataRuns.{runs_in_all}
 use Rattle.bus_dialogue.specs.Exchange.{one_message}
 use Rattle.bus_dialogue.specs.NextPhase.{Serving, phase_leaving, phase_entry, with_task, recovery, recovery_limit, pointer_restoration, next_data_phase, after_messages, after_arrival, after_run, disconnection, disconnect_messages, command_leaving, data_out_leaving, data_in_leaving, bus_free}
 use Rattle.trace_laws.specs.Tells.{is_short}
-
-wrong' : {A : Type 0} → false ≡ true → A
-wrong' e = absurd cc
+use Rattle.trace_laws.proofs.Impossible.{wrong'}
 
 abbrev pub is_to_message_in : Option Phase → Bool
 is_to_message_in (Some phases.MessageIn) = true
@@ -98,10 +96,6 @@ by_next v nexts.GoOn = go v.task
 pub not_again : (v : Serving) (attention : Bool) → is_to_message_in (phase_leaving v attention phases.MessageIn).to ≡ false
 not_again v true = refl
 not_again v false = by_next v v.plan.next
-
-abbrev pub is_message_out_phase : Phase → Bool
-is_message_out_phase phases.MessageOut = true
-is_message_out_phase _ = false
 
 pub leaves_short : (v : Serving) (attention : Bool) (phase : Phase) → (phase ≡ phases.MessageOut → is_detecting v.plan.cause ≡ true) → is_to_message_in (phase_leaving v attention phase).to ≡ true → is_short (phase_leaving v attention phase).messages.first ≡ true
 leaves_short v attention phases.MessageOut h = by_cause v v.plan.cause (h refl)

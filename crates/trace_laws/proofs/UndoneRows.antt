@@ -33,21 +33,11 @@ use Rattle.bus_books.proofs.Knows.{link_after}
 use Rattle.bus_books.proofs.Lookups.{carried_id}
 use Rattle.bus_dialogue.specs.Exchange.{bytes_of_messages, message_bytes}
 use Rattle.trace_laws.specs.Tells.{has_answer, UndoesAnswers, UndoFits, is_short}
+use Rattle.trace_laws.proofs.Impossible.{wrong', none_some}
 use Rattle.trace_laws.proofs.ListedReplies.{replies_to}
+use Rattle.trace_laws.proofs.PointerStorySteps.{carried_link}
 use Rattle.trace_laws.proofs.ShownReplies.{answered_on, change_keeps}
 use Rattle.trace_laws.proofs.TellRows.{no_events, row_shows}
-
-wrong : {A : Type 0} → true ≡ false → A
-wrong e = absurd cc
-
-wrong' : {A : Type 0} → false ≡ true → A
-wrong' e = absurd cc
-
-none_some : {A : Type 0} (c : CarriedBytes) → (let o : Option CarriedBytes = None in o) ≡ Some c → A
-none_some c e = absurd cc
-
-no_message : {A : Type 0} (m : MsgOut) → (let o : Option MsgOut = None in o) ≡ Some m → A
-no_message m e = absurd cc
 
 -- ---- the answers after a row
 
@@ -97,10 +87,6 @@ pub record UndoAfter (b : Story) (l : Link) (link : Option Link) : Type 0 where
   pub is : link ≡ Some after
   pub undo : (after.undo ≡ l.undo) ⊎ (after.undo ≡ carried_if b l.item)
 
-with_carried_link : (a : Story) (c : Option CarriedBytes) → (story_with_carried a c).link ≡ a.link
-with_carried_link a None = refl
-with_carried_link a (Some c) = refl
-
 undo_after : (s : ScenarioValue) (b : Story) (l : Link) (d : RowReading) (row : Row) → b.link ≡ Some l → UndoAfter b l (story_in_connection s b (Some l) d row).link
 undo_after s b l d row el = go d.crosses d.out d.into
   where
@@ -109,22 +95,22 @@ undo_after s b l d row el = go d.crosses d.out d.into
 
     faulted : (kind : Kind) → (story_after_fault b l kind).link ≡ b.link
     faulted (Drives lines) = refl
-    faulted (Fault bit) = with_carried_link b (carried_after_fault_if (carried_if b l.item) b.bus_state.crossed)
+    faulted (Fault bit) = carried_link b (carried_after_fault_if (carried_if b l.item) b.bus_state.crossed)
 
     byte : (q : Bool) → (if q then b else story_with_carried b (carried_after_byte_if (carried_if b l.item) d)).link ≡ b.link
     byte true = refl
-    byte false = with_carried_link b (carried_after_byte_if (carried_if b l.item) d)
+    byte false = carried_link b (carried_after_byte_if (carried_if b l.item) d)
 
     go : (q : Bool) (o : Option MsgOut) (t : Option MsgIn) → UndoAfter b l (if q then (if is_some o then story_after_out b l o else if is_some t then story_after_in s b l t else story_after_byte b l d) else story_after_fault b l row.kind).link
-    go true (Some m) t = record { after = record l { last = last_out m l }; is = with_carried_link (record b { link = Some (record l { last = last_out m l }) }) (if is_parity_error m then l.undo else None); undo = inl refl }
-    go true None (Some m) = record { after = record (link_after_name b.sent s.commands l m) { last = last_in m; before = l.last; undo = carried_if b l.item }; is = with_carried_link _ _; undo = inr refl }
+    go true (Some m) t = record { after = record l { last = last_out m l }; is = carried_link (record b { link = Some (record l { last = last_out m l }) }) (if is_parity_error m then l.undo else None); undo = inl refl }
+    go true None (Some m) = record { after = record (link_after_name b.sent s.commands l m) { last = last_in m; before = l.last; undo = carried_if b l.item }; is = carried_link _ _; undo = inr refl }
     go true None None = stays _ (byte d.change.before.msg)
     go false o t = stays _ (faulted row.kind)
 
 heard_after : (s : ScenarioValue) (b : Story) (l : Link) (d : RowReading) (row : Row) (m : MsgIn) → d.crosses ≡ true → d.out ≡ None → d.into ≡ Some m → (story_in_connection s b (Some l) d row).link ≡ Some (record (link_after_name b.sent s.commands l m) { last = last_in m; before = l.last; undo = carried_if b l.item })
 heard_after s b l d row m e f g =
     (λ i. (if e i then (if is_some (f i) then story_after_out b l (f i) else if is_some (g i) then story_after_in s b l (g i) else story_after_byte b l d) else story_after_fault b l row.kind).link)
-    ∙ with_carried_link _ _
+    ∙ carried_link _ _
 
 own_bytes : (b : Story) (item : Option Item) (u : CarriedBytes) → carried_if b item ≡ Some u → u ≡ carried_of b.carried u.id
 own_bytes b None u e = none_some u e

@@ -1,6 +1,6 @@
 -- What MESSAGE PARITY ERROR brings back has the answer that the process has: a phase is left for another, and the first row of a
 -- connection; so after any rows of a prompt trace.
-use Rattle.std.proofs.Common.{inl, inr, ℕ, ◌≡◌, ◌⊎◌, Bool, true, false, not, ◌&&◌, ◌==◌, ◌∙◌, Option, Some, None, refl, sym, ap, subst}
+use Rattle.std.proofs.Common.{inl, inr, ℕ, ◌≡◌, ◌⊎◌, Bool, true, false, not, ◌==◌, ◌∙◌, Option, Some, None, refl, sym, ap, subst}
 use Rattle.std.specs.Prelude.{if◌then◌else◌, is_some}
 use Rattle.bus_trace.specs.LineSet.{LineSet}
 use Rattle.bus_trace.specs.declared.Row.{Row}
@@ -33,37 +33,14 @@ use Rattle.bus_books.specs.Speaking.{Speaks}
 use Rattle.bus_books.specs.Traces.{GoesOn}
 use Rattle.bus_books.proofs.InConnection.{InConnection, in_connection}
 use Rattle.trace_laws.specs.Tells.{UndoesAnswers, UndoFits, UndoAsked, UndoBy, UndoBooks, is_short}
-use Rattle.trace_laws.proofs.TellTurns.{command_lines, status_lines}
-use Rattle.trace_laws.proofs.UndoneAnswers.{in_phase, out_phase, asked_fits}
+use Rattle.trace_laws.proofs.Impossible.{wrong, wrong'}
+use Rattle.trace_laws.proofs.PhaseLines.{out_lines, command_is, out_phase, in_phase}
+use Rattle.trace_laws.proofs.TellTurns.{status_lines}
+use Rattle.trace_laws.proofs.UndoneAnswers.{asked_fits}
 use Rattle.trace_laws.proofs.UndoneLeavings.{is_to_message_in, is_detecting, leaves_short}
 use Rattle.trace_laws.proofs.UndoneRows.{answers_stay, fits_on}
 
-wrong : {A : Type 0} → true ≡ false → A
-wrong e = absurd cc
-
-wrong' : {A : Type 0} → false ≡ true → A
-wrong' e = absurd cc
-
-none_some : {A : Type 0} (n : Connection) → (let o : Option Connection = None in o) ≡ Some n → A
-none_some n e = absurd cc
-
 -- ---- a phase is left for another
-
-pub out_of : (b : LineSet) → phase_of b ≡ phases.MessageOut → (b.msg ≡ true → b.cd ≡ true) → is_message_out b ≡ true
-out_of b e known = go b.msg b.cd b.io e known
-  where
-    is_out : Phase → Bool
-    is_out phases.MessageOut = true
-    is_out _ = false
-
-    go : (m d i : Bool) → (if m then (if i then phases.MessageIn else phases.MessageOut) else if d then (if i then phases.Status else phases.Command) else if i then phases.DataIn else phases.DataOut) ≡ phases.MessageOut → (m ≡ true → d ≡ true) → (m && d && not i) ≡ true
-    go true true true z f = wrong' (ap is_out z)
-    go true true false z f = refl
-    go true false i z f = wrong' (f refl)
-    go false true true z f = wrong' (ap is_out z)
-    go false true false z f = wrong' (ap is_out z)
-    go false false true z f = wrong' (ap is_out z)
-    go false false false z f = wrong' (ap is_out z)
 
 pub not_out : (b : LineSet) → phase_of b ≡ phases.MessageIn → is_message_out b ≡ false
 not_out b e = go (is_message_out b) refl
@@ -149,7 +126,7 @@ turn_keeps s k row n c l t h = record {
 
     refused : k.exchange.begun ≡ true → phase_of c.after ≡ phases.MessageOut → UndoAsked (UndoFits j) j.exchange.plan.cause
     refused b e =
-        let out = out_of c.after e t.known in
+        let out = out_lines c.after e t.known in
         let cause : j.exchange.plan.cause ≡ cause_after c.before =
         ap (λ (x : Plan). x.cause) plan
         ∙ (λ z. (if not (out z) then record (plan_anew k.exchange.plan) { messages = (leaving s k n.target).messages; next = (leaving s k n.target).next } else if b z then plan_in_message_out (hearing_of k row (reading_in k.story.bus_state n c false)) k.exchange.plan else plan_anew k.exchange.plan).cause) in
@@ -163,7 +140,7 @@ turn_keeps s k row n c l t h = record {
             (given here (subst (λ (p : Phase). UndoBy (UndoFits k) k.exchange.plan k.handshakes.requests p) here (h.begun b)))
           where
             given : phase_of (bus_of k) ≡ phases.MessageIn → UndoFits k ⊎ ((k.handshakes.requests ≡ 0) × (is_short k.exchange.plan.messages.first ≡ true)) → UndoFits j
-            given here (inl w) = quiet (command_lines (bus_of k) ∙ ap is_command_phase here) (ap (λ (p : Phase). is_status_next (Some p)) e) w
+            given here (inl w) = quiet (command_is (bus_of k) ∙ ap is_command_phase here) (ap (λ (p : Phase). is_status_next (Some p)) e) w
             given here (inr w) = wrong (sym (ap (λ (x : ℕ). x == 0) w.0) ∙ leaves.some here)
 
     heard : k.exchange.begun ≡ true → phase_of c.after ≡ phases.MessageIn → UndoFits j ⊎ ((j.handshakes.requests ≡ 0) × (is_short j.exchange.plan.messages.first ≡ true))
@@ -191,7 +168,7 @@ turn_keeps s k row n c l t h = record {
         said : phase_of (bus_of k) ≡ phases.MessageOut → (q : Bool) → is_detecting k.exchange.plan.cause ≡ q → UndoFits j ⊎ ((j.handshakes.requests ≡ 0) × (is_short j.exchange.plan.messages.first ≡ true))
         said here true f = short (λ z. f)
         said here false f =
-            inl (quiet (command_lines (bus_of k) ∙ ap is_command_phase here) (ap (λ (p : Phase). is_status_next (Some p)) e)
+            inl (quiet (command_is (bus_of k) ∙ ap is_command_phase here) (ap (λ (p : Phase). is_status_next (Some p)) e)
             (asked_fits (UndoFits k) k.exchange.plan.cause f (subst (λ (p : Phase). UndoBy (UndoFits k) k.exchange.plan k.handshakes.requests p) here (h.begun b))))
 
         by : (p : Phase) → phase_of (bus_of k) ≡ p → UndoFits j ⊎ ((j.handshakes.requests ≡ 0) × (is_short j.exchange.plan.messages.first ≡ true))

@@ -22,9 +22,7 @@ use Rattle.disk_array.specs.ArrayHistory.{array_step}
 use Rattle.bus_due.specs.RunState.{or_start}
 use Rattle.bus_due.specs.RunSteps.{array_after_events}
 use Rattle.trace_laws.specs.WriteFacts.{AllUnits}
-
-no_unit : (u : UnitState) → (let a : Option UnitState = None in a) ≡ Some u → ⊥
-no_unit u e = absurd cc
+use Rattle.trace_laws.proofs.Impossible.{none_some}
 
 -- It is kept by all that events make of a unit, but for the arrival of a command.
 pub record StaysSo (q : UnitState → Type 0) : Type 0 where
@@ -54,7 +52,7 @@ with_units q (u ∷ units) new h g = go (u.target == new.target && u.unit == new
     go false k = (h.0, k)
 
 pub unit_has : (q : UnitState → Type 0) (units : List UnitState) (t n : ℕ) (u : UnitState) → unit_state_at units t n ≡ Some u → AllUnits q units → q u
-unit_has q [] t n u e h = absurd (no_unit u e)
+unit_has q [] t n u e h = absurd (none_some u e)
 unit_has q (v ∷ units) t n u e h = go (v.target == t && v.unit == n) e (λ k. unit_has q units t n u k h.1)
   where
     go : (x : Bool) → (if x then Some v else unit_state_at units t n) ≡ Some u → (unit_state_at units t n ≡ Some u → q u) → q u
@@ -79,11 +77,11 @@ kept_units q drops (u ∷ units) f h = (f.kept u drops h.0, kept_units q drops u
 
 -- ---- what leaves the units as they are
 
-hosts_same : (hosts : List HostDef) (t n : ℕ) (a : Array) → (Steps.reset_attentions hosts t n a).units ≡ a.units
+pub hosts_same : (hosts : List HostDef) (t n : ℕ) (a : Array) → (Steps.reset_attentions hosts t n a).units ≡ a.units
 hosts_same [] t n a = refl
 hosts_same (h ∷ hosts) t n a = hosts_same hosts t n (Steps.reset_attention a (record { initiator = h.dev; target = t; unit = n }))
 
-attended_same : (hosts : List HostDef) (units : List UnitState) (is_one : UnitState → Bool) (a : Array) → (Steps.unit_reset_attentions hosts units is_one a).units ≡ a.units
+pub attended_same : (hosts : List HostDef) (units : List UnitState) (is_one : UnitState → Bool) (a : Array) → (Steps.unit_reset_attentions hosts units is_one a).units ≡ a.units
 attended_same hosts [] is_one a = refl
 attended_same hosts (u ∷ units) is_one a = attended_same hosts units is_one (if is_one u then Steps.reset_attentions hosts u.target u.unit a else a) ∙ go (is_one u)
   where
@@ -91,7 +89,7 @@ attended_same hosts (u ∷ units) is_one a = attended_same hosts units is_one (i
     go true = hosts_same hosts u.target u.unit a
     go false = refl
 
-cleared_same : (initiator : ℕ) (lost : List Process) (a : Array) → (Steps.cleared_attentions initiator lost a).units ≡ a.units
+pub cleared_same : (initiator : ℕ) (lost : List Process) (a : Array) → (Steps.cleared_attentions initiator lost a).units ≡ a.units
 cleared_same initiator [] a = refl
 cleared_same initiator (p ∷ lost) a =
     cleared_same initiator lost (if p.initiator == initiator then a else Steps.cleared_attention a (nexus_of p))

@@ -1,7 +1,8 @@
 -- While the target does not know the command after a selection, STATUS begins only with a failure, or with an answer that was given.
-use Rattle.std.proofs.Common.{ℕ, ◌≡◌, Bool, true, false, not, ◌&&◌, ◌||◌, ◌∙◌, List, [], ◌∷◌, Option, Some, None, refl, sym, ap}
+use Rattle.std.proofs.Common.{ℕ, ◌≡◌, Bool, true, false, not, ◌&&◌, ◌∙◌, List, [], ◌∷◌, Option, Some, None, refl, sym, ap}
 use Rattle.std.specs.Prelude.{if◌then◌else◌, is_some, nat_lt}
 use Rattle.std.specs.List.{list_any}
+use Rattle.std.proofs.lemmas.Bool.{or_from}
 use Rattle.bus_base.specs.declared.Event.{Event}
 use Rattle.bus_base.specs.declared.Event.TheVariants as events
 use Rattle.bus_base.specs.declared.ProcId.{ProcId}
@@ -29,22 +30,18 @@ use Rattle.bus_due.specs.Sights.{leaving, serving_of}
 use Rattle.trace_laws.specs.AttendanceAsked.{LeftAnswered}
 use Rattle.trace_laws.specs.Instructed.{KnownFor, KnownIn, KnownNext}
 use Rattle.trace_laws.proofs.BadReplies.{GiveNoGood, gives_no_good}
+use Rattle.trace_laws.proofs.Impossible.{wrong, wrong'}
 use Rattle.trace_laws.proofs.KnownLeavings.{known_after}
 use Rattle.trace_laws.proofs.OpeningRows.{opening_leads}
-
-wrong : {A : Type 0} → true ≡ false → A
-wrong e = absurd cc
-
-wrong' : {A : Type 0} → false ≡ true → A
-wrong' e = absurd cc
+use Rattle.trace_laws.proofs.Tests.{not_false}
 
 -- ---- MESSAGE OUT leads to STATUS only where data were rejected
 
-tasks : (o : Option Task) (f : Task → Leaving) → ((t : Task) → is_status_next (f t).to ≡ false) → is_status_next (with_task o f).to ≡ false
+pub tasks : (o : Option Task) (f : Task → Leaving) → ((t : Task) → is_status_next (f t).to ≡ false) → is_status_next (with_task o f).to ≡ false
 tasks None f h = refl
 tasks (Some t) f h = h t
 
-recovers : (def : Option TargetDef) (t : Task) (again gives_up : Leaving) → is_status_next again.to ≡ false → is_status_next gives_up.to ≡ false → is_status_next (recovery def t again gives_up).to ≡ false
+pub recovers : (def : Option TargetDef) (t : Task) (again gives_up : Leaving) → is_status_next again.to ≡ false → is_status_next gives_up.to ≡ false → is_status_next (recovery def t again gives_up).to ≡ false
 recovers def t again gives_up e f = go t.in_hold (nat_lt t.recoveries (recovery_limit def))
   where
     go : (q r : Bool) → is_status_next (if q then again else if r then record again { counts = true } else gives_up).to ≡ false
@@ -65,13 +62,6 @@ rejected v = tasks v.task _ (λ t. recovers v.def t (pointer_restoration nexts.S
 
 -- ---- any phase
 
-was_true : (q : Bool) → not q ≡ false → q ≡ true
-was_true true e = refl
-was_true false e = wrong e
-
-both_false : (a b : Bool) → a ≡ false → b ≡ false → (a || b) ≡ false
-both_false a b e f = λ i. e i || f i
-
 pub fails_first : (s : ScenarioValue) (k : RunState) (dev : ℕ) (id : ProcId) → k.exchange.begun ≡ true → KnownIn false k.exchange.plan (phase_of (bus_of k)) → known_after false k.exchange.plan.struck (phase_of (bus_of k)) ≡ false → LeftAnswered k id → is_status_next (leaving s k dev).to ≡ true
     → (carried_here k id).shown ≡ false → (carried_here k id).refused ≡ false → is_some (carried_here k id).failure ≡ true
 fails_first s k dev id b known after left to shown refused_is = go (phase_of (bus_of k)) refl known after (sym (ap (λ (q : Bool). is_status_next (leaving_by v q (bus_of k)).to) b) ∙ to)
@@ -90,7 +80,7 @@ fails_first s k dev id b known after left to shown refused_is = go (phase_of (bu
     from_in e false f nexts.Command g h z = wrong' z
     from_in e false f nexts.FreeBus g h z = wrong' z
     from_in e false f nexts.GoOn g h z = wrong' h
-    from_in e false f nexts.Status g h z = wrong (sym (left.message e f g) ∙ both_false (carried_here k id).shown (carried_here k id).refused shown refused_is)
+    from_in e false f nexts.Status g h z = wrong (sym (left.message e f g) ∙ or_from (carried_here k id).shown (carried_here k id).refused shown refused_is)
 
     ends : (atn : Bool) → is_status_next (unless_attention atn (Rattle.bus_dialogue.specs.NextPhase.disconnection (Rattle.bus_dialogue.specs.Exchange.one_message Rattle.msg_grammar.specs.declared.message.MsgIn.TheVariants.CommandComplete))).to ≡ false
     ends true = refl
@@ -99,7 +89,7 @@ fails_first s k dev id b known after left to shown refused_is = go (phase_of (bu
     go : (x : Phase) → phase_of (bus_of k) ≡ x → KnownIn false k.exchange.plan x → known_after false k.exchange.plan.struck x ≡ false → is_status_next (phase_leaving v (bus_of k).atn x).to ≡ true → is_some (carried_here k id).failure ≡ true
     go phases.MessageOut e h a z = from_out k.exchange.plan.cause h z
     go phases.MessageIn e h a z = from_in e (bus_of k).atn refl k.exchange.plan.next refl h z
-    go phases.Command e h a z = left.command e (was_true k.exchange.plan.struck a)
+    go phases.Command e h a z = left.command e (not_false k.exchange.plan.struck a)
     go phases.DataIn e h a z = wrong' h
     go phases.DataOut e h a z = wrong' h
     go phases.Status e h a z = wrong (sym z ∙ ends (bus_of k).atn)

@@ -1,28 +1,17 @@
 -- What a row of DATA IN does with REQ, ACK and ATN, and which requests wait for ACK after it (6.1.5.1, 6.1.5.2, 6.2.1).
-use Rattle.std.proofs.Common.{ℕ, ◌≡◌, Bool, true, false, not, ◌||◌, ◌∙◌, List, [], ◌∷◌, ◌++◌, length, refl, sym, ap, subst, true≢false}
+use Rattle.std.proofs.Common.{ℕ, ◌≡◌, Bool, true, false, not, ◌||◌, ◌∙◌, List, [], ◌∷◌, ◌++◌, length, refl, sym, ap, subst}
 use Rattle.std.specs.Prelude.{drop, if◌then◌else◌, is_some, nat_lt}
 use Rattle.bus_trace.specs.Changes.{rises}
 use Rattle.bus_trace.specs.declared.changes.Change.{Change}
 use Rattle.bus_lines.specs.declared.handshakes.Request.{Request}
 use Rattle.bus_lines.specs.Handshakes.{Handshakes, answered, answered_if, asked, asked_if, first_of, is_struck, opened, strikes, strikes_last}
+use Rattle.bus_laws.proofs.Tests.{or_true}
+use Rattle.link_laws.proofs.Moves.{or_false}
 use Rattle.trace_laws.specs.Complaints.{any_struck}
 use Rattle.trace_laws.specs.ItemTalks.{awaits}
 use Rattle.trace_laws.specs.SentFailures.{IsNewest, WaitsFor}
 use Rattle.trace_laws.proofs.CloseCounts.{counted_some}
-
-wrong : {A : Type 0} → true ≡ false → A
-wrong e = absurd (true≢false e)
-
-wrong' : {A : Type 0} → false ≡ true → A
-wrong' e = absurd (true≢false (sym e))
-
-pub or_true : (q : Bool) → (q || true) ≡ true
-or_true true = refl
-or_true false = refl
-
-or_false : (q : Bool) → (q || false) ≡ q
-or_false true = refl
-or_false false = refl
+use Rattle.trace_laws.proofs.Impossible.{wrong, wrong'}
 
 -- Neither rises; REQ does; or ACK does, with ATN where the byte was struck that it answers, the newest or, by pulses, the oldest.
 pub data InStep (h : Handshakes) (pulsed : Bool) (c : Change) : Type 0 where

@@ -1,6 +1,6 @@
 -- What a row of a phase to the initiator does with REQ, ACK and ATN, by what its ends are due to do; and no request waits for ACK as the
 -- phase is left (6.1.5.1, 6.1.5.2, 6.2.1).
-use Rattle.std.proofs.Common.{inl, inr, ℕ, ◌≡◌, ◌⊎◌, Bool, true, false, not, ◌&&◌, ◌||◌, ◌∙◌, List, [], ◌∷◌, Option, Some, None, refl, sym, ap, subst, true≢false}
+use Rattle.std.proofs.Common.{inl, inr, ℕ, ◌≡◌, ◌⊎◌, Bool, true, false, not, ◌&&◌, ◌||◌, ◌∙◌, List, [], ◌∷◌, Option, Some, None, refl, sym, ap, subst}
 use Rattle.bus_trace.specs.LineSet.{LineSet}
 use Rattle.bus_trace.specs.declared.Row.{Row}
 use Rattle.bus_trace.specs.declared.changes.Change.{Change}
@@ -28,18 +28,13 @@ use Rattle.link_laws.proofs.Moves.{initiator_moves, no_rise, or_false, phase_sam
 use Rattle.trace_laws.specs.ItemTalks.{awaits}
 use Rattle.trace_laws.specs.RunCounts.{pulses_here}
 use Rattle.trace_laws.proofs.AttentionRows.{lines_are}
+use Rattle.trace_laws.proofs.Impossible.{wrong', none_some}
 use Rattle.trace_laws.proofs.Kept.{turn}
 use Rattle.trace_laws.proofs.LinkRows as rows
 use Rattle.trace_laws.proofs.LinkRows.{LinkRow}
 use Rattle.trace_laws.proofs.RunSteps.{pulsed_as}
 use Rattle.trace_laws.proofs.Turns.{freed_connection}
 use Rattle.trace_laws.proofs.WaitingRequests.{InStep, answers, answers_oldest, asks, rests}
-
-wrong' : {A : Type 0} → false ≡ true → A
-wrong' e = absurd (true≢false (sym e))
-
-none_some : {A : Type 0} (n : Connection) → (let a : Option Connection = None in a) ≡ Some n → A
-none_some n e = absurd cc
 
 abbrev Step : List Row → Change → Type 0
 Step p c = InStep (handshakes p) (pulses_here p) c

@@ -215,7 +215,7 @@ both : (a b : Bool) → a ≡ true → b ≡ true → (a && b) ≡ true
 both a b e f = λ i. e i && f i
 
 -- The lines after the next row.
-standing_next : (s : ScenarioValue) (p : List Row) (row : Row) → Obeys s → IsPrompt s (row ∷ p) → length (row ∷ p) < 2 ^ 64 → Whole s p → NextStood s p row
+pub standing_next : (s : ScenarioValue) (p : List Row) (row : Row) → Obeys s → IsPrompt s (row ∷ p) → length (row ∷ p) < 2 ^ 64 → Whole s p → NextStood s p row
 standing_next s p row o prompt short was =
     let fits = obeys_fits s o in
     let less : length p + 1 < 2 ^ 64 = omega (arith, short) in

@@ -1,5 +1,5 @@
 -- As DATA OUT is left for STATUS with no byte struck, the process that is served has sent all that it sends.
-use Rattle.std.proofs.Common.{ℕ, ◌≡◌, ◌≤◌, ◌+◌, Bool, true, false, ◌&&◌, ◌==◌, ◌∙◌, List, length, Option, Some, refl, sym, ap, subst, arith}
+use Rattle.std.proofs.Common.{ℕ, ◌≡◌, ◌≤◌, ◌+◌, Bool, true, false, ◌&&◌, ◌∙◌, List, length, Some, refl, sym, ap, subst, arith}
 use Rattle.std.specs.Prelude.{if◌then◌else◌, nat_le, nat_lt}
 use Rattle.std.proofs.lemmas.Bool.Decides.{nat_tests}
 use Rattle.bus_trace.specs.declared.Row.{Row}
@@ -10,65 +10,47 @@ use Rattle.cdb_codec.specs.Cdb.{command_of}
 use Rattle.scenario.specs.Lookups.{unit_of}
 use Rattle.scenario.specs.Value.{ScenarioValue}
 use Rattle.scenario.specs.declared.value.Policy.{Policy}
-use Rattle.disk_array.specs.ArrayHistory.{reply_in}
 use Rattle.disk_array.specs.Order.{range_in}
 use Rattle.disk_array.specs.Processes.{Process}
 use Rattle.disk_array.specs.Units.{unit_state_at}
 use Rattle.bus_dialogue.specs.Arrivals.{policy_of}
 use Rattle.bus_dialogue.specs.DataRuns.{run_at, run_in, run_length, runs_in_all}
+use Rattle.bus_dialogue.specs.Events.{is_status_next}
 use Rattle.bus_dialogue.specs.NextPhase.{phase_of, phase_leaving, phase_entry, disconnection, disconnect_messages, after_run, recovery, pointer_restoration, with_task}
 use Rattle.bus_dialogue.specs.declared.exchange.Leaving.{Leaving}
 use Rattle.bus_dialogue.specs.declared.exchange.Next.TheVariants as nexts
-use Rattle.bus_dialogue.specs.declared.exchange.Phase.{Phase}
 use Rattle.bus_dialogue.specs.declared.exchange.Phase.TheVariants as phases
 use Rattle.bus_dialogue.specs.declared.exchange.Task.{Task}
 use Rattle.bus_due.specs.Defs.{target_def_of}
 use Rattle.bus_due.specs.LastingState.{progress_in}
 use Rattle.bus_due.specs.Plain.{IsPlain}
-use Rattle.bus_due.specs.RunState.{RunState, array_of, bus_of, carried_here, process_served}
+use Rattle.bus_due.specs.RunState.{RunState, array_of, bus_of, process_served}
 use Rattle.bus_due.specs.RunSteps.{run_state}
 use Rattle.bus_due.specs.Sights.{leaving, serving_of}
-use Rattle.bus_due.specs.Tasks.{blocks_in, is_writing, reply_now, size_of, task_if, task_of, task_with}
+use Rattle.bus_due.specs.Tasks.{blocks_in, is_writing, reply_now, size_of, task_if, task_of}
 use Rattle.bus_due.proofs.Plains.{run_state_plain}
 use Rattle.scsi_device.specs.Writes.{Writer, block_size, is_data_out, is_writer, writer_of, writers}
-use Rattle.bus_books.proofs.Lookups.{self_id}
+use Rattle.bus_books.proofs.Lookups.{self_id, number_is}
 use Rattle.bus_books.specs.Traces.{GoesOn}
 use Rattle.trace_laws.specs.WholeRuns.{HasSentAll, MovesBlocks, bytes_come, start_of_run}
 use Rattle.trace_laws.specs.WriteFacts.{IsAnsweredWhole}
+use Rattle.trace_laws.proofs.Impossible.{wrong'}
 use Rattle.trace_laws.proofs.LastRuns.{last_run, start_same}
 use Rattle.trace_laws.proofs.Plans.{writes_there}
+use Rattle.trace_laws.proofs.RunFacts.{task_here}
+use Rattle.trace_laws.proofs.Tests.{le_is}
 use Rattle.trace_laws.proofs.WriteRows.{WriteRow, Around, around}
 use Rattle.trace_laws.proofs.Written.{left_by, moved_all}
 
-wrong : {A : Type 0} → true ≡ false → A
-wrong e = absurd cc
-
-wrong' : {A : Type 0} → false ≡ true → A
-wrong' e = absurd cc
-
--- What the target knows of a process.
-abbrev pub task_of_served : ScenarioValue → RunState → Process → Task
-task_of_served s k p = task_with (array_of s k) (progress_in k.progress p.id) p (carried_here k p.id) (reply_now (array_of s k) p) (reply_in (array_of s k).replies p.id)
-
-number_is : (a b : ℕ) → (a == b) ≡ true → a ≡ b
-number_is a b e = grind (arith, nat_tests)
-
-le_is : (a b : ℕ) → nat_le a b ≡ true → a ≤ b
-le_is a b e = grind (arith, nat_tests)
-
-abbrev is_status : Option Phase → Bool
-is_status (Some phases.Status) = true
-is_status _ = false
-
 -- STATUS follows the last run alone.
 last_to : (policy : Policy) (t : Task) → (after_run policy t).to ≡ Some phases.Status → nat_lt (t.runs + 1) (runs_in_all policy t) ≡ false
-last_to policy t e = go (nat_lt (t.runs + 1) (runs_in_all policy t)) refl (ap is_status e)
+last_to policy t e = go (nat_lt (t.runs + 1) (runs_in_all policy t)) refl (ap is_status_next e)
   where
-    go : (q : Bool) → nat_lt (t.runs + 1) (runs_in_all policy t) ≡ q → is_status (if q then disconnection (disconnect_messages policy) else phase_entry phases.Status).to ≡ true → nat_lt (t.runs + 1) (runs_in_all policy t) ≡ false
+    go : (q : Bool) → nat_lt (t.runs + 1) (runs_in_all policy t) ≡ q → is_status_next (if q then disconnection (disconnect_messages policy) else phase_entry phases.Status).to ≡ true → nat_lt (t.runs + 1) (runs_in_all policy t) ≡ false
     go true f z = wrong' z
     go false f z = f
 
-pub whole_run : (s : ScenarioValue) (p : List Row) (row : Row) (n : Connection) (c : Change) (q : Process) → WriteRow s p row → GoesOn s (run_state s p) row n c → changes_phase c ≡ true → (run_state s p).exchange.begun ≡ true → phase_of (bus_of (run_state s p)) ≡ phases.DataOut → (run_state s p).exchange.plan.struck ≡ false → (leaving s (run_state s p) n.target).to ≡ Some phases.Status → process_served s (run_state s p) ≡ Some q → q.target ≡ n.target → MovesBlocks (policy_of (target_def_of s q.target)) (task_of_served s (run_state s p) q) → HasSentAll s (run_state s p) (writers s p) q
+pub whole_run : (s : ScenarioValue) (p : List Row) (row : Row) (n : Connection) (c : Change) (q : Process) → WriteRow s p row → GoesOn s (run_state s p) row n c → changes_phase c ≡ true → (run_state s p).exchange.begun ≡ true → phase_of (bus_of (run_state s p)) ≡ phases.DataOut → (run_state s p).exchange.plan.struck ≡ false → (leaving s (run_state s p) n.target).to ≡ Some phases.Status → process_served s (run_state s p) ≡ Some q → q.target ≡ n.target → MovesBlocks (policy_of (target_def_of s q.target)) (task_here s (run_state s p) q) → HasSentAll s (run_state s p) (writers s p) q
 whole_run s p row n c q w g ep b phase unstruck to served target blocks = record {
   writes = writes;
   writer = w.present n q ar.before ar.calm b phase served answered.some;
@@ -85,7 +67,7 @@ whole_run s p row n c q w g ep b phase unstruck to served target blocks = record
     ar = around s p row n c w g
 
     t : Task
-    t = task_of_served s k q
+    t = task_here s k q
 
     policy : Policy
     policy = policy_of (target_def_of s q.target)

@@ -54,37 +54,27 @@ use Rattle.trace_laws.specs.Items.{IsFresh}
 use Rattle.trace_laws.specs.WriteFacts.{AllUnits, IsWriterOf, IsWrittenUnit, IsEmptyUnit, IsUnrunServed, WriteFacts, WritesAsked}
 use Rattle.trace_laws.proofs.ArrivalRows.{ArrivesNow, arrives_first}
 use Rattle.trace_laws.proofs.FreshItems.{items_fresh}
+use Rattle.trace_laws.proofs.Impossible.{wrong, wrong', none_some}
 use Rattle.trace_laws.proofs.InstructedSteps.{told_with}
 use Rattle.trace_laws.proofs.ItemFacts.{rst_raised}
 use Rattle.trace_laws.proofs.Joint.{Stood, NextStood}
 use Rattle.trace_laws.proofs.Plans.{writes_there}
+use Rattle.trace_laws.proofs.RunRows.{served_id}
 use Rattle.trace_laws.proofs.UnitsKept.{IfAll, MayWait, events_all, reset_all, each_settled}
 use Rattle.trace_laws.proofs.WritePresent.{present_next}
-use Rattle.trace_laws.proofs.WriteRows.{WriteRow, Around, around, served_is, out_is, runs_stay, going_units, arrival_waits}
+use Rattle.trace_laws.proofs.WriteRows.{WriteRow, Around, around, out_is, runs_stay, going_units, arrival_waits}
 use Rattle.trace_laws.proofs.WriterUnits.{written_stays, empty_stays, empty_written, start_empty, dropped_empty}
 use Rattle.trace_laws.proofs.WriteTurns.{no_byte, a_byte, writer_elsewhere, progress_apart, progress_ends}
-
-wrong : {A : Type 0} → true ≡ false → A
-wrong e = absurd cc
-
-wrong' : {A : Type 0} → false ≡ true → A
-wrong' e = absurd cc
-
-no_connection : {A : Type 0} (n : Connection) → (let a : Option Connection = None in a) ≡ Some n → A
-no_connection n e = absurd cc
-
-no_writer : {A : Type 0} (id : ProcId) → (let a : Option ProcId = None in a) ≡ Some id → A
-no_writer id e = absurd cc
 
 -- ---- before any row
 
 pub writes_start : (s : ScenarioValue) → WriteFacts s []
 writes_start s = record {
-  whose = λ t n id e. no_writer id e;
+  whose = λ t n id e. none_some id e;
   units = written;
   reset = λ e. start;
-  unrun = λ n p e. no_connection n e;
-  present = λ n p e. no_connection n e;
+  unrun = λ n p e. none_some n e;
+  present = λ n p e. none_some n e;
 }
   where
     start : AllUnits IsEmptyUnit (settled_array (starting_array s)).units
@@ -138,7 +128,7 @@ whose_next s p row w h t n id e = go (row_reading k.story.bus_state row).crosses
         at false g = h t n id (sym (writer_elsewhere (writers s p) q t n g) ∙ f)
         at true g =
             let both = and_parts (q.target == t) (q.unit == n) g in
-            let own = served_is s k.served q eo in
+            let own = served_id s k.served q eo in
             let same : q.id ≡ id = same_Some q.id id (sym (λ i. if g i then Some q.id else writer_of (writers s p) t n) ∙ f) in
             record {
               process = q;
@@ -283,7 +273,7 @@ unrun_next s p row o prompt w items n x con off unknown served = go w.nx.row_is
         at false e =
             let fresh : IsFresh k m = items_fresh s p row m o prompt w.was items (sym pl.connection ∙ f.connection_is) (con ∙ ap (λ (y : Connection). Some y) (sym same)) e in
             let item : fresh.item ≡ process x.id =
-            same_Some fresh.item (process x.id) (sym (serves ∙ ap (λ (q : Bool). if q then item_if (ready_of s k m.target) else aim_of k.story.aims m.initiator) e ∙ fresh.aim_is) ∙ (served_is s j.served x served).0) in
+            same_Some fresh.item (process x.id) (sym (serves ∙ ap (λ (q : Bool). if q then item_if (ready_of s k m.target) else aim_of k.story.aims m.initiator) e ∙ fresh.aim_is) ∙ (served_id s j.served x served).0) in
             ap (λ (l : List ProcessProgress). (progress_in l x.id).runs) (progress_apart s k row f.connection_is)
             ∙ ap (λ (y : ProcessProgress). y.runs) (items.items.progress x.id (ap (has_item k.story.sent.sent) (sym item) ∙ fresh.unsent))
 
@@ -316,10 +306,10 @@ unrun_next s p row o prompt w items n x con off unknown served = go w.nx.row_is
         stage b phase e = subst (λ (y : Phase). KnownIn (instructions s p).known k.exchange.plan y) e ((told.selected selected).stage b)
 
     go : RowOf s k row → (progress_in j.progress x.id).runs ≡ 0
-    go (apart e f) = no_connection n (sym f ∙ ql.connection ∙ con)
+    go (apart e f) = none_some n (sym f ∙ ql.connection ∙ con)
     go (begins m b) = begin m (same_Some m n (sym b.first.next_is ∙ ql.connection ∙ con)) b
     go (goes_on m c g) = going m c (same_Some m n (sym (around s p row m c w g).after ∙ con)) g
-    go (ends m g) = no_connection n (sym g.next_is ∙ ql.connection ∙ con)
+    go (ends m g) = none_some n (sym g.next_is ∙ ql.connection ∙ con)
     go (under_reset r f) = wrong (sym r ∙ ap (λ (c : Change). c.after.rst) (change_plain s row p w.was.standing.devices w.inside) ∙ off)
 
 -- ---- any row

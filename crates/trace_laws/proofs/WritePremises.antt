@@ -18,10 +18,8 @@ use Rattle.scenario.specs.declared.value.Policy.{Policy}
 use Rattle.scenario.specs.declared.value.Policy.TheVariants as policies
 use Rattle.scenario.specs.declared.value.UnitDef.{UnitDef}
 use Rattle.disk_array.specs.ArrayHistory.{array_after}
-use Rattle.disk_array.specs.Processes.{Process, process_of}
+use Rattle.disk_array.specs.Processes.{Process}
 use Rattle.disk_array.specs.Units.{UnitState, guest_at, unit_state_at}
-use Rattle.disk_array.proofs.SoundArrays.{id_is}
-use Rattle.bus_story.specs.Items.{Item, process, abort}
 use Rattle.bus_dialogue.specs.declared.exchange.Phase.{Phase}
 use Rattle.bus_dialogue.specs.declared.exchange.Phase.TheVariants as phases
 use Rattle.bus_dialogue.specs.declared.exchange.Task.{Task}
@@ -34,30 +32,27 @@ use Rattle.bus_due.specs.Defs.{target_def_of}
 use Rattle.bus_due.specs.LastingState.{progress_in}
 use Rattle.bus_due.specs.Next.{IsPrompt}
 use Rattle.bus_due.specs.Plain.{AreOfDevices, IsPlain}
-use Rattle.bus_due.specs.RunState.{RunState, array_of, or_start, bus_of, carried_here, process_item, process_served}
+use Rattle.bus_due.specs.RunState.{RunState, array_of, or_start, bus_of, carried_here, process_served}
 use Rattle.bus_due.specs.RunSteps.{run_state}
 use Rattle.bus_due.specs.Tasks.{is_writing, reply_now, size_of, task_if, task_of, task_with}
 use Rattle.bus_due.proofs.Plains.{run_state_plain}
 use Rattle.scsi_device.specs.Writes.{block_size, is_data_out}
 use Rattle.target_units.specs.Rooms.{AreOfLines, IsOfLine}
+use Rattle.bus_books.proofs.CarriedBlocks.{process_own}
 use Rattle.bus_books.proofs.Lists.{eq_self}
+use Rattle.link_laws.proofs.Ahead.{zero_of}
 use Rattle.trace_laws.specs.DataFacts.{DataFacts}
 use Rattle.trace_laws.specs.Places.{IsAtRest, IsOutside, PlaceFacts, PlacedIf, RunsOpen}
 use Rattle.trace_laws.specs.ResetLines.{ResetFacts}
 use Rattle.trace_laws.specs.WriteFacts.{IsAnsweredWhole, WritesAsked}
 use Rattle.trace_laws.proofs.ArrivingProcesses.{no_guest}
+use Rattle.trace_laws.proofs.Impossible.{wrong, wrong'}
 use Rattle.trace_laws.proofs.Joint.{Stood}
 use Rattle.trace_laws.proofs.PlacesHeard.{places_heard}
 use Rattle.trace_laws.proofs.Plans.{is_directed, writes_of}
 use Rattle.trace_laws.proofs.RunAsks.{answers_all}
 use Rattle.trace_laws.proofs.RunFacts.{write_no_sense}
 use Rattle.trace_laws.proofs.RunFits.{FitsRuns, fits_runs, lines_now}
-
-wrong : {A : Type 0} → true ≡ false → A
-wrong e = absurd cc
-
-wrong' : {A : Type 0} → false ≡ true → A
-wrong' e = absurd cc
 
 -- ---- the size of a block
 
@@ -87,30 +82,20 @@ end_none policies.Command (Some blocks) size n = refl
 end_none (policies.Burst most) (Some blocks) size n = least_none (n * (most * size) + most * size)
 end_none (policies.NoSave most) (Some blocks) size n = part_none (most * size) n
 
-is_zero : (n : ℕ) → (n == 0) ≡ true → n ≡ 0
-is_zero n e = grind (arith, nat_tests)
-
 none_left : (a b : ℕ) → a ≡ 0 → 1 ≤ a - b → ⊥
 none_left a b e h = absurd omega (arith, e, h)
 
+-- A run with a byte moves some.
 pub moves_some : (policy : Policy) (t : Task) → 1 ≤ run_length policy t → (t.moved == 0) ≡ false
 moves_some policy t h = go (t.moved == 0) refl
   where
     go : (q : Bool) → (t.moved == 0) ≡ q → (t.moved == 0) ≡ false
     go false e = e
     go true e =
-        let none : (run_at policy t t.runs).end ≡ 0 = (λ i. (run_in policy t.blocks t.size (is_zero t.moved e i) t.runs).end) ∙ end_none policy t.blocks t.size t.runs in
+        let none : (run_at policy t t.runs).end ≡ 0 = (λ i. (run_in policy t.blocks t.size (zero_of t.moved e i) t.runs).end) ∙ end_none policy t.blocks t.size t.runs in
         absurd (none_left (run_at policy t t.runs).end (run_at policy t t.runs).start none h)
 
 -- ---- a process that writes
-
-no_process : {A : Type 0} (q : Process) → (let o : Option Process = None in o) ≡ Some q → A
-no_process q e = absurd cc
-
-own_served : (s : ScenarioValue) (o : Option Item) (q : Process) → process_item s o ≡ Some q → process_of s q.id ≡ Some q
-own_served s None q e = no_process q e
-own_served s (Some (abort m)) q e = no_process q e
-own_served s (Some (process id)) q e = ap (process_of s) (id_is s id q e) ∙ e
 
 zero_size : (n moved size : ℕ) → size ≡ 0 → moved ≡ n * size → moved ≡ 0
 zero_size n moved size z e = e ∙ ap (λ (x : ℕ). n * x) z ∙ none n
@@ -197,7 +182,7 @@ write_premises s p row o prompt was h facts resets = record {
         some = moves_some (policy_of (target_def_of s n.target)) t (counted n t con calm b phase (task_is q served))
 
         fits : FitsRuns s k q t
-        fits = fits_runs s k q o plays (own_served s k.served q served) w
+        fits = fits_runs s k q o plays (process_own s k.served q served) w
 
         by_outside : IsOutside h.array q → guest_at h.array.guests q.id ≡ None
         by_outside (inl none) =

@@ -1,12 +1,12 @@
 -- In DATA OUT, once a byte has come, the process that is served last sent its unit one, with each row of a prompt trace.
-use Rattle.std.proofs.Common.{ℕ, ◌≡◌, Bool, true, false, ◌&&◌, ◌==◌, ◌∙◌, List, ◌∷◌, Option, Some, None, refl, sym, ap}
+use Rattle.std.proofs.Common.{ℕ, ◌≡◌, Bool, true, false, ◌==◌, ◌∙◌, List, ◌∷◌, Option, Some, None, refl, sym, ap}
 use Rattle.std.specs.Prelude.{if◌then◌else◌, is_some}
 use Rattle.bus_trace.specs.LineSet.{LineSet}
 use Rattle.bus_trace.specs.declared.Row.{Row}
 use Rattle.bus_trace.specs.declared.changes.Change.{Change}
 use Rattle.bus_trace.specs.declared.connection.Connection.{Connection}
 use Rattle.bus_trace.specs.Changes.{rises}
-use Rattle.bus_trace.specs.Phases.{changes_phase, is_message_in}
+use Rattle.bus_trace.specs.Phases.{changes_phase}
 use Rattle.bus_trace.specs.Terms.{is_fault, receiver_in}
 use Rattle.bus_lines.specs.Handshakes.{Handshakes, no_handshakes, handshakes_on, handshakes_after, answered_if, asked_if, strikes_if}
 use Rattle.scenario.specs.Value.{ScenarioValue}
@@ -27,17 +27,10 @@ use Rattle.bus_books.proofs.InConnection.{in_connection, reading_is, same_phase_
 use Rattle.bus_laws.proofs.Apart.{change_plain}
 use Rattle.trace_laws.specs.WriteFacts.{IsPresentWriter}
 use Rattle.trace_laws.proofs.CommandStays.{phase_same}
+use Rattle.trace_laws.proofs.Impossible.{wrong, wrong', none_some}
+use Rattle.trace_laws.proofs.PhaseLines.{data_out_io, message_is}
 use Rattle.trace_laws.proofs.WriteRows.{WriteRow, Around, around}
 use Rattle.trace_laws.proofs.WriteTurns.{no_byte, a_byte, writer_now}
-
-wrong : {A : Type 0} → true ≡ false → A
-wrong e = absurd cc
-
-wrong' : {A : Type 0} → false ≡ true → A
-wrong' e = absurd cc
-
-no_connection : {A : Type 0} (n : Connection) → (let a : Option Connection = None in a) ≡ Some n → A
-no_connection n e = absurd cc
 
 abbrev is_message : Phase → Bool
 is_message phases.MessageIn = true
@@ -59,24 +52,6 @@ same_answers n c time h ep er io =
         by : (q : Bool) → rises c.before.ack c.after.ack ≡ q → rises c.before.ack c.after.ack ≡ false
         by false e = e
         by true e = wrong (sym (λ i. is_some (if io i then (if rises c.before.req c.after.req then Some n.initiator else None) else if e i then Some n.target else None)) ∙ ap (λ (o : Option ℕ). is_some o) er)
-
-out_quiet : (b : LineSet) → phase_of b ≡ phases.DataOut → b.io ≡ false
-out_quiet b e = go b.msg b.cd b.io refl (ap is_data_out e)
-  where
-    go : (m d i : Bool) → b.io ≡ i → is_data_out (if m then (if i then phases.MessageIn else phases.MessageOut) else if d then (if i then phases.Status else phases.Command) else if i then phases.DataIn else phases.DataOut) ≡ true → b.io ≡ false
-    go m d false f z = f
-    go true d true f z = wrong' z
-    go false true true f z = wrong' z
-    go false false true f z = wrong' z
-
-message_is : (b : LineSet) → is_message_in b ≡ true → is_message (phase_of b) ≡ true
-message_is b e = go b.msg b.cd b.io e
-  where
-    go : (m d i : Bool) → (m && d && i) ≡ true → is_message (if m then (if i then phases.MessageIn else phases.MessageOut) else if d then (if i then phases.Status else phases.Command) else if i then phases.DataIn else phases.DataOut) ≡ true
-    go true d true z = refl
-    go true true false z = wrong' z
-    go true false false z = wrong' z
-    go false d i z = wrong' z
 
 pub present_next : (s : ScenarioValue) (p : List Row) (row : Row) → WriteRow s p row → IsPresentWriter s (row ∷ p)
 present_next s p row w n x con off begun phase served some = go w.nx.row_is
@@ -117,7 +92,7 @@ present_next s p row w n x con off begun phase served some = go w.nx.row_is
             let none = ap (λ (z : Option ℕ). is_some z) er in
             let i = in_connection s k row m c false false fault g.row_is ep none ef in
             let here = phase_before ep i.bus_is in
-            let io = ap (λ (l : LineSet). l.io) (sym g.row_is.bus_is) ∙ out_quiet (bus_of k) here in
+            let io = ap (λ (l : LineSet). l.io) (sym g.row_is.bus_is) ∙ data_out_io (bus_of k) here in
             ap (λ (all : List Writer). writer_of all x.target x.unit) (no_byte s p row (ap (λ (d : RowReading). d.crosses) (reading_is k row m c false g.row_is none)))
             ∙ w.present m x ar.before ar.calm (sym (ap (λ (y : Exchange). y.begun) i.exchange_is) ∙ begun) here (ap (process_item s) (sym i.served_is) ∙ served)
             (ap (λ (y : ℕ). y == 0) (sym (ap (λ (y : Handshakes). y.answers) i.handshakes_is ∙ (λ z. (handshakes_after (ef z) (Some m) c row.time k.handshakes).answers) ∙ counts fault ep er io)) ∙ some)
@@ -147,8 +122,8 @@ present_next s p row w n x con off begun phase served some = go w.nx.row_is
             wrong (sym (ap (λ (y : Handshakes). y.answers == 0) i.handshakes_is ∙ (λ z. (handshakes_after (ef z) (Some m) c row.time k.handshakes).answers == 0) ∙ (λ z. (if ep z then no_handshakes else answered_if (rises c.before.ack c.after.ack) row.time (asked_if (rises c.before.req c.after.req) row.time k.handshakes)).answers == 0)) ∙ some)
 
     go : RowOf s k row → writer_of (writers s (row ∷ p)) x.target x.unit ≡ Some x.id
-    go (apart e f) = no_connection n (sym f ∙ ql.connection ∙ con)
+    go (apart e f) = none_some n (sym f ∙ ql.connection ∙ con)
     go (begins m b) = begin m b
     go (goes_on m c g) = going m c g
-    go (ends m g) = no_connection n (sym g.next_is ∙ ql.connection ∙ con)
+    go (ends m g) = none_some n (sym g.next_is ∙ ql.connection ∙ con)
     go (under_reset r f) = wrong (sym r ∙ ap (λ (c : Change). c.after.rst) (change_plain s row p w.was.standing.devices w.inside) ∙ off)

@@ -9,7 +9,7 @@ use Rattle.bus_trace.specs.declared.Row.{Row}
 use Rattle.bus_trace.specs.declared.changes.Change.{Change}
 use Rattle.bus_trace.specs.declared.connection.Connection.{Connection}
 use Rattle.bus_trace.specs.Changes.{change_of}
-use Rattle.bus_trace.specs.Phases.{changes_phase, is_command, is_data}
+use Rattle.bus_trace.specs.Phases.{changes_phase, is_data}
 use Rattle.bus_trace.specs.Terms.{connection, receiver_in}
 use Rattle.bus_trace.specs.Trace.{bus}
 use Rattle.cdb_codec.specs.Cdb.{has_group_len}
@@ -50,27 +50,19 @@ use Rattle.trace_laws.proofs.ArrivalRows.{ArrivesNow}
 use Rattle.trace_laws.proofs.Called.{own_units}
 use Rattle.trace_laws.proofs.CommandFacts.{served_process, same_process}
 use Rattle.trace_laws.proofs.DoneRuns.{DoneOut, out_done, done_in_data}
+use Rattle.trace_laws.proofs.Impossible.{wrong, wrong', none_some}
 use Rattle.trace_laws.proofs.Joint.{Stood, NextStood}
+use Rattle.trace_laws.proofs.PhaseLines.{command_phase}
 use Rattle.trace_laws.proofs.Plans.{Planned, is_directed, writes_of}
+use Rattle.trace_laws.proofs.PointerRows.{phase_by}
 use Rattle.trace_laws.proofs.RowEvents.{carried_of_item}
+use Rattle.trace_laws.proofs.RunRows.{served_id}
 use Rattle.trace_laws.proofs.UnitsKept.{MayWait}
 use Rattle.trace_laws.proofs.CountedRuns.{same_runs, counted_runs}
 use Rattle.trace_laws.proofs.WriterUnits.{may_wait, moved_units, same_units}
 use Rattle.trace_laws.proofs.WriteTurns.{RunsThere, runs_there, stands_there, no_byte, a_byte, same_progress, progress_turns, byte_moves, run_moves}
 
-wrong : {A : Type 0} → true ≡ false → A
-wrong e = absurd cc
-
-wrong' : {A : Type 0} → false ≡ true → A
-wrong' e = absurd cc
-
-no_item : {A : Type 0} (i : Item) → (let a : Option Item = None in a) ≡ Some i → A
-no_item i e = absurd cc
-
 -- ---- phases
-
-abbrev phase_by : Bool → Bool → Bool → Phase
-phase_by m d i = if m then (if i then phases.MessageIn else phases.MessageOut) else if d then (if i then phases.Status else phases.Command) else if i then phases.DataIn else phases.DataOut
 
 pub out_is : (b : LineSet) → is_data_out (phase_of b) ≡ true → phase_of b ≡ phases.DataOut
 out_is b e = go b.msg b.cd b.io e
@@ -82,15 +74,6 @@ out_is b e = go b.msg b.cd b.io e
     go false true false e = wrong' e
     go false false true e = wrong' e
     go false false false e = refl
-
-command_is : (b : LineSet) → is_command b ≡ true → phase_of b ≡ phases.Command
-command_is b e = go b.msg b.cd b.io e
-  where
-    go : (m d i : Bool) → (not m && d && not i) ≡ true → phase_by m d i ≡ phases.Command
-    go true d i e = wrong' e
-    go false false i e = wrong' e
-    go false true true e = wrong' e
-    go false true false e = refl
 
 abbrev pub is_in : Phase → Bool
 is_in phases.DataIn = true
@@ -106,24 +89,6 @@ in_lines b e = go b.msg b.cd b.io refl e
     go false true false f e = wrong' e
     go false false true f e = (refl, f)
     go false false false f e = wrong' e
-
--- ---- the process that is served
-
-served_item : (s : ScenarioValue) (o : Option Item) (q : Process) → process_item s o ≡ Some q → o ≡ Some (process q.id)
-served_item s None q e = no_process e
-  where
-    no_process : {A : Type 0} → (let a : Option Process = None in a) ≡ Some q → A
-    no_process z = absurd cc
-served_item s (Some (process id)) q e = ap (λ (x : ProcId). Some (process x)) (sym (process_id s id q e))
-served_item s (Some (abort k)) q e = no_process e
-  where
-    no_process : {A : Type 0} → (let a : Option Process = None in a) ≡ Some q → A
-    no_process z = absurd cc
-
-pub served_is : (s : ScenarioValue) (o : Option Item) (q : Process) → process_item s o ≡ Some q → (o ≡ Some (process q.id)) × (process_of s q.id ≡ Some q)
-served_is s o q e =
-    let item = served_item s o q e in
-    (item, sym (ap (process_item s) item) ∙ e)
 
 -- ---- what is known of the row
 
@@ -228,7 +193,7 @@ done_units s p row n c q w g ep b served x e = go x e
     pl = run_state_plain s p w.was.standing.devices
 
     own : process_of s q.id ≡ Some q
-    own = (served_is s k.served q served).1
+    own = (served_id s k.served q served).1
 
     left : l ≡ phase_leaving (serving_of s k n.target) (bus_of k).atn (phase_of (bus_of k))
     left = λ i. if b i then phase_leaving (serving_of s k n.target) (bus_of k).atn (phase_of (bus_of k)) else phase_entry phases.MessageOut
@@ -268,7 +233,7 @@ byte_units s p row n c w g b true ex None eo = w.units
 byte_units s p row n c w g b true ex (Some q) eo =
     let k = run_state s p in
     let ar = around s p row n c w g in
-    let own = (served_is s k.served q eo).1 in
+    let own = (served_id s k.served q eo).1 in
     let units = own_units s p w.seats w.was.standing.devices in
     let there = runs_out s p row n q w ar.before ar.calm b (out_is (bus_of k) ex) eo in
     moved_units s k.progress k.progress (writers s p) (writers_with (writers s p) (Some q)) q (array_of s k).units own (byte_moves k.progress (writers s p) q) units (stands_there s p q w.seats w.was.standing.devices units own there) w.units
@@ -329,10 +294,10 @@ arrival_waits s p row n c w g l x a = may_wait s (run_state s (row ∷ p)).progr
 
         by : (knows.link.item ≡ k.served) ⊎ ((n.reselected ≡ true) × (knows.link.item ≡ None)) → k.served ≡ Some (process x.id)
         by (inl e) = sym e ∙ ap (λ (y : Link). y.item) (sym same) ∙ item
-        by (inr e) = no_item (process x.id) (sym e.1 ∙ ap (λ (y : Link). y.item) (sym same) ∙ item)
+        by (inr e) = none_some (process x.id) (sym e.1 ∙ ap (λ (y : Link). y.item) (sym same) ∙ item)
 
     phase : phase_of (bus_of k) ≡ phases.Command
-    phase = command_is (bus_of k) a.command
+    phase = command_phase (bus_of k) a.command
 
     carried : carried_here k x.id ≡ x
     carried = same_Some (carried_here k x.id) x (sym (ap (carried_if k.story) item) ∙ a.carried_is)

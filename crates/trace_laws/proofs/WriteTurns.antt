@@ -26,14 +26,9 @@ use Rattle.scsi_device.specs.Writes.{Writer, writer_of, writers, writers_with, i
 use Rattle.bus_books.specs.Rows.{IsRowIn, reading_in}
 use Rattle.bus_books.proofs.Lists.{eq_self}
 use Rattle.trace_laws.proofs.CountedRuns.{counted_runs}
+use Rattle.trace_laws.proofs.Impossible.{wrong'}
 use Rattle.trace_laws.proofs.WriterUnits.{Moves, Stands, stands_each}
 use Rattle.trace_laws.specs.WriteFacts.{AllUnits}
-
-wrong : {A : Type 0} → true ≡ false → A
-wrong e = absurd cc
-
-wrong' : {A : Type 0} → false ≡ true → A
-wrong' e = absurd cc
 
 -- ---- the writers
 

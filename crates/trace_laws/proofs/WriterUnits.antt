@@ -19,29 +19,12 @@ use Rattle.bus_books.proofs.Lookups.{id_is, self_id, number_is}
 use Rattle.bus_books.proofs.Lists.{eq_self}
 use Rattle.trace_laws.specs.ItemFacts.{AllP}
 use Rattle.trace_laws.specs.WriteFacts.{AllUnits, IfRuns, IsUnrun, IsLastWriter, IsOther, IsWrittenUnit, IsEmptyUnit}
+use Rattle.trace_laws.proofs.Impossible.{wrong, wrong', none_some, some_none}
 use Rattle.trace_laws.proofs.UnitsKept.{StaysSo, MayWait}
-
-wrong : {A : Type 0} → true ≡ false → A
-wrong e = absurd cc
-
-wrong' : {A : Type 0} → false ≡ true → A
-wrong' e = absurd cc
-
-no_process : {A : Type 0} (p : Process) → (let a : Option Process = None in a) ≡ Some p → A
-no_process p e = absurd cc
-
-no_running : {A : Type 0} (r : RunningProcess) → (let a : Option RunningProcess = None in a) ≡ Some r → A
-no_running r e = absurd cc
-
-no_reply : {A : Type 0} (x : Reply) → Some x ≡ None → A
-no_reply x e = absurd cc
-
-no_unit : {A : Type 0} (u : UnitState) → Some u ≡ None → A
-no_unit u e = absurd cc
 
 -- ---- those that wait
 
-append_all : (q : Process → Type 0) (waiting : List Process) (p : Process) → AllP q waiting → q p → AllP q (waiting ++ p ∷ [])
+pub append_all : (q : Process → Type 0) (waiting : List Process) (p : Process) → AllP q waiting → q p → AllP q (waiting ++ p ∷ [])
 append_all q [] p h g = (g, tt)
 append_all q (w ∷ waiting) p h g = (h.0, append_all q waiting p h.1 g)
 
@@ -69,16 +52,16 @@ kept_all q drops (p ∷ waiting) h = go (drops p) (kept_all q drops waiting h.1)
     go true k = k
     go false k = (h.0, k)
 
-at_all : (q : Process → Type 0) (waiting : List Process) (place : ℕ) (p : Process) → AllP q waiting → process_at waiting place ≡ Some p → q p
-at_all q [] place p h e = no_process p e
+pub at_all : (q : Process → Type 0) (waiting : List Process) (place : ℕ) (p : Process) → AllP q waiting → process_at waiting place ≡ Some p → q p
+at_all q [] place p h e = none_some p e
 at_all q (w ∷ waiting) zero p h e = subst q (same_Some w p e) h.0
 at_all q (w ∷ waiting) (suc place) p h e = at_all q waiting place p h.1 e
 
-choice_all : (q : Process → Type 0) (u : UnitState) (p : Process) → AllP q u.waiting → choice u.pick u.waiting ≡ Some p → q p
+pub choice_all : (q : Process → Type 0) (u : UnitState) (p : Process) → AllP q u.waiting → choice u.pick u.waiting ≡ Some p → q p
 choice_all q u p h e = go (chosen_place u.pick (entries_of u.waiting)) e
   where
     go : (x : Option ℕ) → process_at_if u.waiting x ≡ Some p → q p
-    go None k = no_process p k
+    go None k = none_some p k
     go (Some place) k = at_all q u.waiting place p h k
 
 -- ---- of a unit: two of its parts, of which what waits gives what is current
@@ -121,7 +104,7 @@ written_stays made all = record {
   contents = λ u c h. record { waits = h.waits; current = h.current; apart = h.apart };
   replied = λ u id reply h. record {
     waits = h.waits;
-    current = replied_part (IsLastWriter made all) u.current id reply (λ r k w e some. no_reply reply e) h.current;
+    current = replied_part (IsLastWriter made all) u.current id reply (λ r k w e some. some_none reply e) h.current;
     apart = replied_part (λ r. AllP (IsOther r) u.waiting) u.current id reply (λ r k. k) h.apart;
   };
   without = λ u id h. record {
@@ -201,7 +184,7 @@ dropped_empty (u ∷ units) = ((dropped_waits u.waiting, dropped_runs u.current)
 -- ---- a command arrives
 
 pub none_current : (units : List UnitState) (id : ProcId) (t n : ℕ) (u : UnitState) → Steps.running_in units id ≡ None → unit_state_at units t n ≡ Some u → Steps.running_if u.current id ≡ None
-none_current [] id t n u e f = no_unit u (sym f)
+none_current [] id t n u e f = some_none u (sym f)
 none_current (v ∷ units) id t n u e f = by (Steps.running_if v.current id) refl e (λ k g. none_current units id t n u k g)
   where
     at : (x : Bool) → Steps.running_if v.current id ≡ None → (if x then Some v else unit_state_at units t n) ≡ Some u → (unit_state_at units t n ≡ Some u → Steps.running_if u.current id ≡ None) → Steps.running_if u.current id ≡ None
@@ -210,7 +193,7 @@ none_current (v ∷ units) id t n u e f = by (Steps.running_if v.current id) ref
 
     by : (o : Option RunningProcess) → Steps.running_if v.current id ≡ o → (if is_some o then o else Steps.running_in units id) ≡ None → (Steps.running_in units id ≡ None → unit_state_at units t n ≡ Some u → Steps.running_if u.current id ≡ None) → Steps.running_if u.current id ≡ None
     by None z k rest = at (v.target == t && v.unit == n) z f (λ g. rest k g)
-    by (Some r) z k rest = no_running r (sym k)
+    by (Some r) z k rest = none_some r (sym k)
 
 pub may_wait : (s : ScenarioValue) (made : List ProcessProgress) (all : List Writer) (a : Array) (id : ProcId) → Steps.running_in a.units id ≡ None → ((p : Process) → process_of s id ≡ Some p → (p.id ≡ id) × ((progress_in made p.id).runs ≡ 0)) → MayWait s (IsWrittenUnit made all) a id
 may_wait s made all a id none unrun p u own at h = record {
@@ -220,7 +203,7 @@ may_wait s made all a id none unrun p u own at h = record {
 }
   where
     same : (r : RunningProcess) → (x : Bool) → same_id r.process.id id ≡ x → (if x then Some r else None) ≡ None → IsOther r p
-    same r true e z = no_running r (sym z)
+    same r true e z = none_some r (sym z)
     same r false e z = other (same_id p.id r.process.id) refl
       where
         other : (x : Bool) → same_id p.id r.process.id ≡ x → same_id p.id r.process.id ≡ false
@@ -250,19 +233,19 @@ holds_it : (s : ScenarioValue) (u : UnitState) (p : Process) (r : RunningProcess
 holds_it s u p r own is e = go u.current refl e own.current
   where
     go : (o : Option RunningProcess) → u.current ≡ o → Steps.running_if o p.id ≡ Some r → (let t : ℕ = u.target in let n : ℕ = u.unit in IfRuns (λ x. IsOwn s t n x.process) o) → HoldsIt u p
-    go None z k h = no_running r k
+    go None z k h = none_some r k
     go (Some x) z k h = by (same_id x.process.id p.id) refl k
       where
         by : (q : Bool) → same_id x.process.id p.id ≡ q → (if q then Some x else None) ≡ Some r → HoldsIt u p
         by true f g = record { running = x; current_is = z; process_is = same_Some x.process p (sym h.is ∙ ap (process_of s) (id_is x.process.id p.id f) ∙ is) }
-        by false f g = no_running r g
+        by false f g = none_some r g
 
 none_at : (units : List UnitState) (p : Process) → unit_state_at units p.target p.unit ≡ None → AllUnits (λ u. IsElsewhere u p) units
 none_at [] p e = tt
 none_at (u ∷ units) p e = go (u.target == p.target && u.unit == p.unit) refl e (λ k. none_at units p k)
   where
     go : (x : Bool) → (u.target == p.target && u.unit == p.unit) ≡ x → (if x then Some u else unit_state_at units p.target p.unit) ≡ None → (unit_state_at units p.target p.unit ≡ None → AllUnits (λ v. IsElsewhere v p) units) → AllUnits (λ v. IsElsewhere v p) (u ∷ units)
-    go true z k rest = no_unit u k
+    go true z k rest = some_none u k
     go false z k rest = (z, rest k)
 
 map_units : (q r : UnitState → Type 0) (units : List UnitState) → ((u : UnitState) → q u → r u) → AllUnits q units → AllUnits r units
@@ -274,7 +257,7 @@ own_place : (s : ScenarioValue) (u : UnitState) (p : Process) → IsOwnUnit s u 
 own_place s u p own h = go u.current h.current_is own.current
   where
     go : (o : Option RunningProcess) → o ≡ Some h.running → (let t : ℕ = u.target in let n : ℕ = u.unit in IfRuns (λ x. IsOwn s t n x.process) o) → (u.target ≡ p.target) × (u.unit ≡ p.unit)
-    go None z k = no_running h.running z
+    go None z k = none_some h.running z
     go (Some x) z k =
         let is : x.process ≡ p = ap (λ (y : RunningProcess). y.process) (same_Some x h.running z) ∙ h.process_is in
         (sym k.target_is ∙ ap (λ (y : Process). y.target) is, sym k.unit_is ∙ ap (λ (y : Process). y.unit) is)
@@ -283,14 +266,14 @@ placed : (u : UnitState) (p : Process) → (u.target ≡ p.target) × (u.unit �
 placed u p e = (λ i. e.0 i == p.target && e.1 i == p.unit) ∙ (λ i. eq_self p.target i && p.unit == p.unit) ∙ eq_self p.unit
 
 never_there : {A : Type 0} (s : ScenarioValue) (units : List UnitState) (p : Process) (r : RunningProcess) → AllOwnUnits s units → process_of s p.id ≡ Some p → Steps.running_in units p.id ≡ Some r → unit_state_at units p.target p.unit ≡ None → A
-never_there s [] p r own is e none = no_running r e
+never_there s [] p r own is e none = none_some r e
 never_there {A} s (u ∷ units) p r own is e none = by (Steps.running_if u.current p.id) refl e (λ z k. never_there s units p r own.1 is z k)
   where
     at : HoldsIt u p → A
-    at h = no_unit u (sym ((λ i. if placed u p (own_place s u p own.0 h) i then Some u else unit_state_at units p.target p.unit)) ∙ none)
+    at h = some_none u (sym ((λ i. if placed u p (own_place s u p own.0 h) i then Some u else unit_state_at units p.target p.unit)) ∙ none)
 
     later : (x : Bool) → (if x then Some u else unit_state_at units p.target p.unit) ≡ None → (unit_state_at units p.target p.unit ≡ None → A) → A
-    later true k rest = no_unit u k
+    later true k rest = some_none u k
     later false k rest = rest k
 
     by : (o : Option RunningProcess) → Steps.running_if u.current p.id ≡ o → (if is_some o then o else Steps.running_in units p.id) ≡ Some r → (Steps.running_in units p.id ≡ Some r → unit_state_at units p.target p.unit ≡ None → A) → A
@@ -358,11 +341,11 @@ moved_unit s made next all more p u is m own (inl held) h =
     same x e = ap (λ (y : RunningProcess). y.process) e ∙ held.process_is
 
     by : (o : Option RunningProcess) → o ≡ Some held.running → IfRuns (λ r. AllP (IsOther r) u.waiting) o → AllP (IsUnrun next) u.waiting
-    by None e k = no_running held.running e
+    by None e k = none_some held.running e
     by (Some x) e k = waits_others s made next x u.waiting (λ id f. m.others id (λ z. f (z ∙ ap (λ (y : Process). y.id) (sym (same x (same_Some x held.running e)))))) k h.waits
 
     now : (o : Option RunningProcess) → o ≡ Some held.running → IfRuns (IsLastWriter made all) o → IfRuns (IsLastWriter next more) o
-    now None e k = no_running held.running e
+    now None e k = none_some held.running e
     now (Some x) e k = λ w free some.
         let z = same x (same_Some x held.running e) in
         (λ i. writer_of more (z i).target (z i).unit) ∙ go w free some z ((progress_in made p.id).runs == 0) refl ∙ (λ i. Some (sym z i).id)
@@ -414,11 +397,11 @@ same_units s made next all (u ∷ units) f own h = (same_unit s made next all u 
 
 -- What it says of the process that runs.
 pub last_writer : (s : ScenarioValue) (made : List ProcessProgress) (all : List Writer) (units : List UnitState) (p : Process) (r : RunningProcess) → AllOwnUnits s units → process_of s p.id ≡ Some p → is_writing p ≡ true → Steps.running_in units p.id ≡ Some r → r.reply ≡ None → ((progress_in made p.id).runs == 0) ≡ false → AllUnits (IsWrittenUnit made all) units → writer_of all p.target p.unit ≡ Some p.id
-last_writer s made all [] p r own is w e free some h = no_running r e
+last_writer s made all [] p r own is w e free some h = none_some r e
 last_writer s made all (u ∷ units) p r own is w e free some h = by (Steps.running_if u.current p.id) refl e (λ k. last_writer s made all units p r own.1 is w k free some h.1)
   where
     inner : (o : Option RunningProcess) (x : RunningProcess) → Steps.running_if o p.id ≡ Some x → x.reply ≡ None → (let t : ℕ = u.target in let n : ℕ = u.unit in IfRuns (λ y. IsOwn s t n y.process) o) → IfRuns (IsLastWriter made all) o → writer_of all p.target p.unit ≡ Some p.id
-    inner None x z f k g = no_running x z
+    inner None x z f k g = none_some x z
     inner (Some y) x z f k g = at (same_id y.process.id p.id) refl z
       where
         at : (q : Bool) → same_id y.process.id p.id ≡ q → (if q then Some y else None) ≡ Some x → writer_of all p.target p.unit ≡ Some p.id
@@ -427,7 +410,7 @@ last_writer s made all (u ∷ units) p r own is w e free some h = by (Steps.runn
             (λ i. writer_of all (sym z i).target (sym z i).unit)
             ∙ g (ap is_writing z ∙ w) (ap (λ (v : RunningProcess). v.reply) (same_Some y x c) ∙ f) ((λ i. (progress_in made (z i).id).runs == 0) ∙ some)
             ∙ (λ i. Some (z i).id)
-        at false eq c = no_running x c
+        at false eq c = none_some x c
 
     by : (o : Option RunningProcess) → Steps.running_if u.current p.id ≡ o → (if is_some o then o else Steps.running_in units p.id) ≡ Some r → (Steps.running_in units p.id ≡ Some r → writer_of all p.target p.unit ≡ Some p.id) → writer_of all p.target p.unit ≡ Some p.id
     by None z k rest = rest k

@@ -3,6 +3,7 @@ use Rattle.std.proofs.Common.{ℕ, ◌≡◌, ◌⊎◌, inl, inr, Bool, true, f
 use Rattle.std.specs.Prelude.{if◌then◌else◌, is_some}
 use Rattle.std.proofs.lemmas.Option.{same_Some}
 use Rattle.std.proofs.lemmas.Bool.Decides.{nat_tests}
+use Rattle.std.proofs.lemmas.Bool.{or_right, or_left, and_from}
 use Rattle.bus_base.specs.declared.ProcId.{ProcId}
 use Rattle.bus_trace.specs.LineSet.{LineSet}
 use Rattle.bus_trace.specs.declared.Row.{Row}
@@ -44,33 +45,20 @@ use Rattle.trace_laws.proofs.Called.{own_units}
 use Rattle.trace_laws.proofs.ConnectionRows.{ConnectionRow, connection_row}
 use Rattle.trace_laws.proofs.Crossings.{RowFacts, stays, ends_here}
 use Rattle.trace_laws.proofs.DoneRuns.{DoneOut, out_done, done_in_data, done_goes}
+use Rattle.trace_laws.proofs.Impossible.{wrong, wrong', none_some}
 use Rattle.trace_laws.proofs.Joint.{Stood, NextStood}
 use Rattle.trace_laws.proofs.Plans.{Planned, is_directed, writes_of, writes_there}
+use Rattle.trace_laws.proofs.RunRows.{served_id}
+use Rattle.trace_laws.proofs.Tests.{implication}
 use Rattle.trace_laws.proofs.UnderRst.{none_raised}
 use Rattle.trace_laws.proofs.WriteNext.{write_row}
-use Rattle.trace_laws.proofs.WriteRows.{WriteRow, Around, around, served_is, out_is, runs_out, in_lines, is_in}
+use Rattle.trace_laws.proofs.WriteRows.{WriteRow, Around, around, out_is, runs_out, in_lines, is_in}
 use Rattle.trace_laws.proofs.WriterUnits.{last_writer}
-
-wrong : {A : Type 0} → true ≡ false → A
-wrong e = absurd cc
-
-wrong' : {A : Type 0} → false ≡ true → A
-wrong' e = absurd cc
 
 -- ---- a byte of DATA OUT crosses
 
 is_writer_by : (o : Option ProcId) (id : ProcId) → o ≡ Some id → is_writer o id ≡ true
 is_writer_by o id e = ap (λ (x : Option ProcId). is_writer x id) e ∙ self_id id
-
-or_right : (a b : Bool) → b ≡ true → (a || b) ≡ true
-or_right true b e = refl
-or_right false b e = e
-
-or_left : (a b : Bool) → a ≡ true → (a || b) ≡ true
-or_left a b e = λ i. e i || b
-
-and_is : (a b : Bool) → a ≡ true → b ≡ true → (a && b) ≡ true
-and_is a b e f = (λ i. e i && b) ∙ f
 
 next_byte : (s : ScenarioValue) (p : List Row) (row : Row) (n : Connection) (c : Change) (q : Process) → WriteRow s p row → GoesOn s (run_state s p) row n c → (run_state s p).exchange.begun ≡ true → phase_of (bus_of (run_state s p)) ≡ phases.DataOut → process_served s (run_state s p) ≡ Some q → is_next_byte s (run_state s p) (writers s p) q ≡ true
 next_byte s p row n c q w g b phase served = go ((progress_in k.progress q.id).runs == 0) refl (k.handshakes.answers == 0) refl
@@ -85,11 +73,11 @@ next_byte s p row n c q w g b phase served = go ((progress_in k.progress q.id).r
     was e = or_left _ _ (is_writer_by _ q.id e)
 
     go : (x : Bool) → ((progress_in k.progress q.id).runs == 0) ≡ x → (y : Bool) → (k.handshakes.answers == 0) ≡ y → is_next_byte s k (writers s p) q ≡ true
-    go true ex true ey = or_right (is_writer (writer_of (writers s p) q.target q.unit) q.id) _ (and_is _ _ ex ey)
+    go true ex true ey = or_right (is_writer (writer_of (writers s p) q.target q.unit) q.id) _ (and_from _ _ ex ey)
     go true ex false ey = was (w.present n q ar.before ar.calm b phase served ey)
     go false ex y ey =
         let there = runs_out s p row n q w ar.before ar.calm b phase served in
-        let own = (served_is s k.served q served).1 in
+        let own = (served_id s k.served q served).1 in
         was (last_writer s k.progress (writers s p) (array_of s k).units q there.running (own_units s p w.seats w.was.standing.devices) own (writes_there s k q (w.was.planned n ar.before ar.calm) b served phase) there.running_is there.free ex w.units)
 
 written_byte : (s : ScenarioValue) (p : List Row) (row : Row) (n : Connection) (c : Change) → WriteRow s p row → GoesOn s (run_state s p) row n c → (run_state s p).exchange.begun ≡ true → phase_of (bus_of (run_state s p)) ≡ phases.DataOut → (o : Option Process) → process_served s (run_state s p) ≡ o → is_written_byte s (run_state s p) (writers s p) o ≡ true
@@ -110,7 +98,7 @@ written_byte s p row n c w g b phase None e =
         go false false i z = refl
 written_byte s p row n c w g b phase (Some q) e =
     let k = run_state s p in
-    and_is _ _ (and_is _ _ (and_is _ _ b (ap not g.calm)) (w.asked.sizes q e)) (next_byte s p row n c q w g b phase e)
+    and_from _ _ (and_from _ _ (and_from _ _ b (ap not g.calm)) (w.asked.sizes q e)) (next_byte s p row n c q w g b phase e)
 
 -- ---- a run is done
 
@@ -171,7 +159,7 @@ done_run s p row n c q w whose g ep b done served = by (done_in_data v (bus_of k
     pd = w.was.planned n ar.before ar.calm
 
     own : process_of s q.id ≡ Some q
-    own = (served_is s k.served q served).1
+    own = (served_id s k.served q served).1
 
     left : leaving s k n.target ≡ phase_leaving v (bus_of k).atn (phase_of (bus_of k))
     left = λ i. if b i then phase_leaving v (bus_of k).atn (phase_of (bus_of k)) else phase_entry phases.MessageOut
@@ -183,7 +171,7 @@ done_run s p row n c q w whose g ep b done served = by (done_in_data v (bus_of k
         let is = task_moves s k q d.task served d.task_is in
         let all : d.task.moved ≡ length q.sent = is ∙ moved_all q (reply_now (array_of s k) q) (writes_there s k q pd b served phase) (ap (λ (x : ℕ). x == 0) (sym is) ∙ a.moves) in
         ap (is_whole_run s k q) d.task_is
-        ∙ and_is _ _ (and_is _ _ (and_is _ _ (ap not g.calm) (w.asked.sizes q served)) (same_is d.task.moved (length q.sent) all)) a.whole
+        ∙ and_from _ _ (and_from _ _ (and_from _ _ (ap not g.calm) (w.asked.sizes q served)) (same_is d.task.moved (length q.sent) all)) a.whole
 
     reads : phase_of (bus_of k) ≡ phases.DataIn → is_writing q ≡ false
     reads phase = at (is_writing q) refl
@@ -201,10 +189,6 @@ done_run s p row n c q w whose g ep b done served = by (done_in_data v (bus_of k
 
 -- ---- a row of a connection
 
-unless : (a b : Bool) → (a ≡ true → b ≡ true) → (not a || b) ≡ true
-unless true b f = f refl
-unless false b f = refl
-
 three : (a b c : Bool) → ((a && b) && c) ≡ true → ((a ≡ true) × (b ≡ true)) × (c ≡ true)
 three true true true e = ((refl, refl), refl)
 three true true false e = wrong' e
@@ -212,7 +196,7 @@ three true false c e = wrong' e
 three false b c e = wrong' e
 
 going : (s : ScenarioValue) (p : List Row) (row : Row) (n : Connection) (c : Change) → WriteRow s p row → WriteFacts s p → GoesOn s (run_state s p) row n c → is_written_in s (run_state s p) (hearing_of (run_state s p) row (row_reading (run_state s p).story.bus_state row)) (leaving_of s (run_state s p) (run_state s p).story.bus_state.connection) (writers s p) ≡ true
-going s p row n c w h g = and_is _ _ (unless _ _ byte) (unless _ _ run)
+going s p row n c w h g = and_from _ _ (implication _ _ byte) (implication _ _ run)
   where
     k : RunState
     k = run_state s p
@@ -238,7 +222,7 @@ going s p row n c w h g = and_is _ _ (unless _ _ byte) (unless _ _ run)
 ends_in : (s : ScenarioValue) (k : RunState) (row : Row) (all : List Writer) → (row_reading k.story.bus_state row).crosses ≡ false → (ends_run k (hearing_of k row (row_reading k.story.bus_state row)) (leaving_of s k k.story.bus_state.connection) ≡ true → is_written_run s k all (process_served s k) (phase_of (bus_of k)) ≡ true) → is_written_in s k (hearing_of k row (row_reading k.story.bus_state row)) (leaving_of s k k.story.bus_state.connection) all ≡ true
 ends_in s k row all e f =
     let d = row_reading k.story.bus_state row in
-    and_is _ _ ((λ i. not (e i && is_data_out (phase_of d.change.before) && not d.change.after.rst) || is_written_byte s k all (process_served s k))) (unless _ _ f)
+    and_from _ _ ((λ i. not (e i && is_data_out (phase_of d.change.before) && not d.change.after.rst) || is_written_byte s k all (process_served s k))) (implication _ _ f)
 
 -- ---- one after which no connection stands, or under RST
 
@@ -251,9 +235,6 @@ stops_none s k n b done stops =
     let left = left_by s k n b in
     let goes = done_goes (serving_of s k n.target) (bus_of k).atn (phase_of (bus_of k)) (sym (ap (λ (l : Leaving). l.done) left) ∙ done) in
     wrong' (sym (ap (λ (o : Option Phase). is_some o) stops) ∙ ap (λ (l : Leaving). is_some l.to) left ∙ goes)
-
-no_connection : {A : Type 0} (n : Connection) → (let a : Option Connection = None in a) ≡ Some n → A
-no_connection n e = absurd cc
 
 ending : (s : ScenarioValue) (p : List Row) (row : Row) (n : Connection) → Obeys s → IsPrompt s (row ∷ p) → WriteRow s p row → (bus (row ∷ p)).rst ≡ false → Ends s (run_state s p) row n → is_written_in s (run_state s p) (hearing_of (run_state s p) row (row_reading (run_state s p).story.bus_state row)) (leaving_of s (run_state s p) (run_state s p).story.bus_state.connection) (writers s p) ≡ true
 ending s p row n o prompt w off g = ends_in s k row (writers s p) g.carries_none run
@@ -281,7 +262,7 @@ ending s p row n o prompt w off g = ends_in s k row (writers s p) g.carries_none
 
     stops : RowFacts s p row n → (leaving s k n.target).to ≡ None
     stops (ends_here f) = f.whereto
-    stops (stays f) = no_connection n (sym next ∙ sym ql.connection ∙ (in_connection s k row n f.change (changes_phase f.change) (is_some (receiver_in n f.change)) (is_fault row.kind) f.row_is refl refl refl).connection_is)
+    stops (stays f) = none_some n (sym next ∙ sym ql.connection ∙ (in_connection s k row n f.change (changes_phase f.change) (is_some (receiver_in n f.change)) (is_fault row.kind) f.row_is refl refl refl).connection_is)
 
     run : ends_run k (hearing_of k row d) (leaving_of s k k.story.bus_state.connection) ≡ true → is_written_run s k (writers s p) (process_served s k) (phase_of (bus_of k)) ≡ true
     run e =
@@ -349,7 +330,7 @@ under s p row n w h here on quiet = ends_in s k row (writers s p) quiet run
         by : (phase_of (bus_of k) ≡ phases.DataIn) ⊎ (phase_of (bus_of k) ≡ phases.DataOut) → (o : Option Process) → process_served s k ≡ o → is_written_run s k (writers s p) o (phase_of (bus_of k)) ≡ true
         by v None f = refl
         by (inr phase) (Some q) f = wrong' (sym (stays_out phase) ∙ z.0.0)
-        by (inl phase) (Some q) f = ap (is_written_run s k (writers s p) (Some q)) phase ∙ reads_other s p q h.whose (served_is s k.served q f).1 (reads q f z.0.1 phase)
+        by (inl phase) (Some q) f = ap (is_written_run s k (writers s p) (Some q)) phase ∙ reads_other s p q h.whose (served_id s k.served q f).1 (reads q f z.0.1 phase)
 
 -- ---- any row
 
@@ -402,16 +383,16 @@ row_written s p row o prompt w h = go w.nx.row_is
             by : (q : Bool) → d.change.after.rst ≡ q → d.change.after.rst ≡ false
             by false z = z
             by true z =
-                no_connection n (sym ((λ j. connection_after (g j) k.story.bus_state.call d.change row) ∙ (λ j. if falls d.change.before.sel d.change.after.sel && d.change.after.bsy && not (z j) then connection_of k.story.bus_state.call row.time else None) ∙ off (falls d.change.before.sel d.change.after.sel) d.change.after.bsy) ∙ i)
+                none_some n (sym ((λ j. connection_after (g j) k.story.bus_state.call d.change row) ∙ (λ j. if falls d.change.before.sel d.change.after.sel && d.change.after.bsy && not (z j) then connection_of k.story.bus_state.call row.time else None) ∙ off (falls d.change.before.sel d.change.after.sel) d.change.after.bsy) ∙ i)
     reset e f (Some m) None g i = on (Some m) None g i (under s p row m w h g (rst_after e) f)
-    reset e f (Some m) (Some n) g i = on (Some m) (Some n) g i (and_is _ _ (or_right (not d.change.before.rst) _ e) (under s p row m w h g (rst_after e) f))
+    reset e f (Some m) (Some n) g i = on (Some m) (Some n) g i (and_from _ _ (or_right (not d.change.before.rst) _ e) (under s p row m w h g (rst_after e) f))
 
     go : RowOf s k row → is_written s k row d (writers s p) ≡ true
     go (apart e f) = on None None e f refl
     go (begins n b) = on None (Some n) b.first.connection_is b.first.next_is (first n b n.reselected refl)
     go (goes_on n c g) =
         let next : d.next ≡ Some n = ap (λ (x : RowReading). x.next) (reading_is k row n c (is_some (receiver_in n c)) g.row_is refl) in
-        on (Some n) (Some n) g.row_is.connection_is next (and_is _ _ (or_left (not (bus_of k).rst) _ (ap not g.calm)) (going s p row n c w h g))
+        on (Some n) (Some n) g.row_is.connection_is next (and_from _ _ (or_left (not (bus_of k).rst) _ (ap not g.calm)) (going s p row n c w h g))
     go (ends n g) = by d.change.after.rst refl
       where
         by : (q : Bool) → d.change.after.rst ≡ q → is_written s k row d (writers s p) ≡ true
@@ -424,4 +405,4 @@ written_row s p row o prompt was nx commands told asked h = row_written s p row 
 
 -- So they have with all rows.
 pub written_next : (s : ScenarioValue) (p : List Row) (row : Row) → Obeys s → IsPrompt s (row ∷ p) → Stood s p → NextStood s p row → CommandFacts s p → InstructedFacts s p → WritesAsked s p row → WriteFacts s p → written s p ≡ true → written s (row ∷ p) ≡ true
-written_next s p row o prompt was nx commands told asked h e = and_is _ _ e (written_row s p row o prompt was nx commands told asked h)
+written_next s p row o prompt was nx commands told asked h e = and_from _ _ e (written_row s p row o prompt was nx commands told asked h)

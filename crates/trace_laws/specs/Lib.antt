@@ -10,10 +10,8 @@ pub mod DataPointers
 pub mod RunFacts
 pub mod RunCounts
 pub mod Tells
-pub mod TellTests
 pub mod Named
 pub mod Places
-pub mod PlaceTests
 pub mod Items
 pub mod ItemTalks
 pub mod ItemFacts
@@ -22,13 +20,10 @@ pub mod HeardPlaces
 pub mod LastTalks
 pub mod TellFacts
 pub mod Failures
-pub mod FailureTests
 pub mod Attendance
 pub mod AttendanceAsked
-pub mod AttendanceTests
 pub mod Complaints
 pub mod WriteFacts
-pub mod WriteTests
 pub mod WholeRuns
 pub mod ResetLines
 pub mod RowAttendance

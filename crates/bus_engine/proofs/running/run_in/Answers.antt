@@ -1,10 +1,12 @@
 use Rattle.std.proofs.Common.{Err, Result, ◌*◌, ◌+◌, ℕ, ◌≡◌, ◌<◌, ◌^◌, ◌∙◌, true, List, length, reverse, sym, ap, subst, arith}
+use Rattle.std.specs.Prelude.{is_some}
 use Rattle.std.proofs.lemmas.List.{reverse-reverse}
 use Rattle.std.proofs.lemmas.Result.{err_from_is_err_and}
 use Rattle.bus_base.specs.declared.Event.{Event}
 use Rattle.bus_trace.specs.declared.Row.{Row}
-use Rattle.bus_trace.specs.Trace.{last_time}
-use Rattle.bus_rules.specs.Lawful.{AreLawful}
+use Rattle.bus_trace.specs.LineSet.{none}
+use Rattle.bus_trace.specs.Trace.{bus, last_time}
+use Rattle.bus_rules.specs.Lawful.{IsLawful}
 use Rattle.disk_array.specs.ArrayHistory.{array_after, disks_of}
 use Rattle.bus_story.specs.Outcomes.{outcomes}
 use Rattle.bus_story.specs.Samples.{expected_strikes, row_strikes}
@@ -22,6 +24,9 @@ use Rattle.bus_engine.proofs.running.run_in.Goals as goal
 
 same_end : {T : Type 0} {x y : RunEnd} → (let r : Result T RunEnd = Err x in r) ≡ Err y → x ≡ y
 same_end e = cc
+
+lawful_at : (rows all : List Row) (end time : ℕ) → rows ≡ all → end ≡ time → IsLawful (reverse all) time → IsLawful (reverse rows) end
+lawful_at rows all end time r e h = subst (λ (l : List Row). IsLawful (reverse l) end) (sym r) (subst (λ (n : ℕ). IsLawful (reverse all) n) (sym e) h)
 
 pub returns-clause-exact : goal.returns-clause-exact
 returns-clause-exact g c = λ at.
@@ -45,14 +50,19 @@ returns-clause-exact g c = λ at.
           let few = all_few items c.most_rows.result c.in_ok-trace.ensures.few c.most_rows.ensures.few in
           let prompt = c.in_ok-trace.ensures.prompt h at in
           let places = c.in_ok-trace.ensures.places h at in
+          let ended = c.in_ok-trace.ensures.ended h at in
+          let less : length all < 2 ^ 64 = omega (arith, few) in
           record {
             prompt = subst (λ (l : List Row). IsPrompt s (reverse l)) (sym r) prompt;
-            lawful = subst (λ (l : List Row). AreLawful (reverse l)) (sym r) (c.prompt_traces_are_lawful.ensures.lawful s all c.requires.lawful prompt (omega (arith, few)));
-            ended = subst (λ (l : List Row). IsEnded s (reverse l)) (sym r) (c.in_ok-trace.ensures.ended h at);
+            lawful = lawful_at _ items _ (last_time all) r c.in_ok-finish.ensures.end (c.ended_traces_are_quiet.ensures.lawful s all c.requires.lawful prompt less ended);
+            ended = subst (λ (l : List Row). IsEnded s (reverse l)) (sym r) ended;
+            quiet = subst (λ (l : List Row). bus (reverse l) ≡ none) (sym r) (c.ended_traces_are_quiet.ensures.quiet s all c.requires.lawful prompt less ended);
             faults =
                 subst (λ (l : List Row). expected_strikes s (reverse l) ≡ row_strikes l) (sym r)
-                (c.fault_rows_are_of_the_scenario.ensures.struck s all c.requires.lawful prompt (omega (arith, few)) (c.in_ok-trace.ensures.ended h at) ∙ ap row_strikes (reverse-reverse items));
+                (c.fault_rows_are_of_the_scenario.ensures.struck s all c.requires.lawful prompt less ended ∙ ap row_strikes (reverse-reverse items));
             history = ap (λ (l : List Event). reverse l) c.in_ok-finish.ensures.history ∙ c.in_ok-trace.ensures.history h at ∙ ap (λ (l : List Row). trace_history s (reverse l)) (sym r);
+            permitted =
+                subst (λ (l : List Row). is_some (array_after s (trace_history s (reverse l))) ≡ true) (sym r) (c.prompt_traces_are_right.ensures.permitted s all c.requires.lawful prompt less);
             replies = λ answers.
                 c.in_ok-finish.ensures.replies all places (subst (λ (l : List Row). are_answered s (reverse l) ≡ true) r answers)
                 ∙ ap (λ (b : Story). outcomes s b) plain.story

@@ -1,0 +1,312 @@
+-- Each contender of an arbitration has whom to call, and so has its winner (6.1.2 to 6.1.4).
+use Rattle.std.proofs.Common.{inl, inr, ℕ, ◌≡◌, ◌<◌, Bool, true, false, not, ◌&&◌, ◌||◌, ◌∙◌, List, [], ◌∷◌, Option, Some, None, refl, sym, ap, subst}
+use Rattle.std.specs.Prelude.{if◌then◌else◌, is_some, ◌==◌}
+use Rattle.std.proofs.lemmas.Bool.{cases_eq}
+use Rattle.std.proofs.lemmas.Option.{same_Some}
+use Rattle.bus_trace.specs.LineSet.{LineSet, none, union}
+use Rattle.bus_trace.proofs.Buses.{bus_on}
+use Rattle.bus_trace.proofs.OneRow.{drives-fault, drives-other, drives-own}
+use Rattle.bus_trace.proofs.Sets.{same_set-eq}
+use Rattle.bus_trace.specs.declared.Kind.{Kind}
+use Rattle.bus_trace.specs.declared.Kind.TheVariants.{Drives, Fault}
+use Rattle.bus_trace.specs.declared.Row.{Row}
+use Rattle.bus_trace.specs.declared.arbitration.Arbitration.{Arbitration}
+use Rattle.bus_trace.specs.declared.changes.Change.{Change}
+use Rattle.bus_trace.specs.declared.connection.Connection.{Connection}
+use Rattle.bus_trace.specs.declared.selection.Call.{Call}
+use Rattle.bus_trace.specs.declared.selection.Calling.{Calling}
+use Rattle.bus_trace.specs.Changes.{change_of, falls, is_within, rises}
+use Rattle.bus_trace.specs.Terms.{arbitration, arbitration_after, call, call_goes_on, calling_after, called_goes_on, caller_goes_on, connection, connection_after, free_since, is_free}
+use Rattle.bus_trace.specs.Trace.{bus, drives, driven_after}
+use Rattle.bus_lines.specs.declared.stage.Stage.TheVariants.{InArbitration, OnFreeBus}
+use Rattle.bus_lines.specs.Stage.{stage}
+use Rattle.bus_rules.specs.Reset.{only_rst}
+use Rattle.bus_rules.specs.Rules.{broken_rule}
+use Rattle.scenario.specs.Value.{ScenarioValue}
+use Rattle.bus_reactions.specs.declared.due.Due.{Due}
+use Rattle.bus_reactions.specs.FreeBus.{contender_lines, free_due}
+use Rattle.bus_due.specs.Least.{IsLeast}
+use Rattle.bus_due.specs.Next.{due, IsPrompt}
+use Rattle.bus_due.specs.RunSteps.{run_state}
+use Rattle.bus_due.specs.Wants.{want_time}
+use Rattle.scsi_device.specs.Lines.{FitsBus}
+use Rattle.bus_laws.specs.Callings.{won_call}
+use Rattle.bus_laws.specs.Reactions.{device_with, own_time, unreset_due}
+use Rattle.bus_laws.specs.Rows.{row_of_lines}
+use Rattle.bus_laws.specs.Stages.{Arbitrating, ArbitrationWon, BusStage, CalmStanding, FreeBus, IsContender, is_connected, UnderRst, on_free_bus, in_arbitration, after_arbitration, with_both_ids, awaiting_answer, after_withdrawal, after_answer, after_takeover, in_reset, in_connection}
+use Rattle.bus_laws.proofs.Apart.{still_keeps}
+use Rattle.bus_laws.proofs.Dues.{free_due_is, idle_due, is_entry, is_entry_in, is_there, win_due}
+use Rattle.bus_laws.proofs.Prompt.{least_is}
+use Rattle.bus_laws.proofs.Rows.{drives_own, stage_is}
+use Rattle.bus_laws.proofs.Tests.{and_false}
+use Rattle.bus_laws.proofs.Together.{by_calm, by_reset, reset_or_calm}
+use Rattle.link_laws.specs.LinkStages.{AnyStage, apart, linked}
+use Rattle.trace_laws.proofs.Impossible.{wrong, wrong'}
+use Rattle.trace_laws.proofs.FirstRows.{under_rst}
+use Rattle.trace_laws.proofs.Joint.{Stood, link_connection}
+use Rattle.trace_laws.proofs.UnderRst.{line_off, quiet_at_end, reset_rule}
+use Rattle.progress_laws.proofs.Apart.{IsBound}
+use Rattle.progress_laws.proofs.Entries.{IsApart, WantsAreItems, enters_bound, enters_by, entry_wanted, others_bound, row_apart, still_bound}
+
+pub record AreBound (s : ScenarioValue) (p : List Row) : Type 0 where
+  pub contenders : (a : Arbitration) → Arbitrating s p a → (d : ℕ) → d < 8 → IsContender s p a d → IsBound s p d
+  pub caller : (c t : ℕ) → ArbitrationWon s p c t → IsBound s p c
+
+-- ---- small facts
+
+none_arbitration : (a : Arbitration) → (let o : Option Arbitration = None in o) ≡ Some a → ⊥
+none_arbitration a e = absurd cc
+
+none_call : (k : Call) → (let o : Option Call = None in o) ≡ Some k → ⊥
+none_call k e = absurd cc
+
+none_calling : (g : Calling) → Some g ≡ (let o : Option Calling = None in o) → ⊥
+none_calling g e = absurd cc
+
+some_connection : (n : Connection) → Some n ≡ (let o : Option Connection = None in o) → ⊥
+some_connection n e = absurd cc
+
+-- ---- RST falls: no device drives BSY
+
+implied : (q r : Bool) → (not q || r) ≡ true → q ≡ true → r ≡ true
+implied true r e f = e
+implied false r e f = wrong' f
+
+next_is : (p : List Row) (row : Row) → drives (row ∷ p) row.dev ≡ driven_after row.kind (drives p row.dev)
+next_is p row = go row.kind refl
+  where
+    go : (k : Kind) → row.kind ≡ k → drives (row ∷ p) row.dev ≡ driven_after row.kind (drives p row.dev)
+    go (Drives l) e = drives-own row p l e ∙ sym (ap (λ (k : Kind). driven_after k (drives p row.dev)) e)
+    go (Fault bit) e = drives-fault row p bit row.dev e ∙ sym (ap (λ (k : Kind). driven_after k (drives p row.dev)) e)
+
+silent : (s : ScenarioValue) (p : List Row) (row : Row) → row.dev < 8 → broken_rule p row ≡ None → UnderRst s p → (bus (row ∷ p)).rst ≡ false → (d : ℕ) → d < 8 → (drives (row ∷ p) d).bsy ≡ false
+silent s p row lt obeys u off d ld =
+    elim (cases_eq d row.dev) [
+      | inl same ↦ ap (λ (k : ℕ). (drives (row ∷ p) k).bsy) same ∙ ap (λ (l : LineSet). l.bsy) (next_is p row) ∙ its
+      | inr ne ↦ ap (λ (l : LineSet). l.bsy) (drives-other row p d ne) ∙ was d ld
+    ]
+  where
+    was : (e : ℕ) → e < 8 → (drives p e).bsy ≡ false
+    was e le = line_off (λ x. x.bsy) (λ _ _. refl) p (ap (λ (l : LineSet). l.bsy) (same_set-eq (union only_rst (bus p)) only_rst (quiet_at_end s p row lt obeys u off))) e le
+
+    next : LineSet
+    next = driven_after row.kind (drives p row.dev)
+
+    within : is_within next (union only_rst (drives p row.dev)) ≡ true
+    within = implied ((bus p).rst || rises (drives p row.dev).rst next.rst) _ (reset_rule p row obeys).alone (λ i. u.reset i || rises (drives p row.dev).rst next.rst)
+
+    its : next.bsy ≡ false
+    its = (λ i. sym (was row.dev lt) i || next.bsy) ∙ ap (λ (l : LineSet). l.bsy) (same_set-eq (union (union only_rst (drives p row.dev)) next) (union only_rst (drives p row.dev)) within) ∙ was row.dev lt
+
+-- ---- what an arbitration and a won one show
+
+busy_before : (p : List Row) (row : Row) (a : Arbitration) → arbitration p ≡ None → is_free (bus p) ≡ false → arbitration (row ∷ p) ≡ Some a → ⊥
+busy_before p row a none_now busy e =
+    none_arbitration a (sym ((λ i. arbitration_after (none_now i) (free_since p) (change_of p row) row) ∙ ap (λ (q : Bool). if q && (bus (row ∷ p)).bsy && not (bus (row ∷ p)).sel then Some (record { free = free_since p; first = row.time }) else None) busy) ∙ e)
+
+-- A connection lasts as long as BSY is true.
+lasts : (p : List Row) (row : Row) (n : Connection) → connection p ≡ Some n → connection (row ∷ p) ≡ None → (bus (row ∷ p)).bsy ≡ true → ⊥
+lasts p row n stands ends on =
+    some_connection n (sym ((λ i. connection_after (stands i) (call p) (change_of p row) row) ∙ ap (λ (q : Bool). if q then Some n else None) on) ∙ ends)
+
+-- While SEL stays true the call goes on.
+call_on : (p : List Row) (row : Row) → (bus p).sel ≡ true → (bus (row ∷ p)).sel ≡ true → call (row ∷ p) ≡ call_goes_on (call p) (change_of p row) row
+call_on p row before after =
+    λ i. if not (after i) then None else if rises (before i) (after i) then Some (record { caller = row.dev; at = row.time; calling = None }) else call_goes_on (call p) (change_of p row) row
+
+calling_stays : (caller : ℕ) (g : Calling) (c : Change) (row : Row) → calling_after caller (Some g) c row ≡ None → ⊥
+calling_stays caller g c row e = go (row.dev == caller) (row.dev == g.called) e
+  where
+    go : (q r : Bool) → (if q then Some (caller_goes_on g c row.time) else if r then Some (called_goes_on g c row) else Some g) ≡ None → ⊥
+    go true r z = none_calling _ z
+    go false true z = none_calling _ z
+    go false false z = none_calling _ z
+
+called_before : (p : List Row) (row : Row) (k : Call) (g : Calling) (c t : ℕ) → (bus p).sel ≡ true → call p ≡ Some k → k.calling ≡ Some g → (bus (row ∷ p)).sel ≡ true → call (row ∷ p) ≡ Some (won_call c t) → ⊥
+called_before p row k g c t before now some after won =
+    let same = same_Some (record k { calling = calling_after k.caller k.calling (change_of p row) row }) (won_call c t) (sym (call_on p row before after ∙ ap (λ (o : Option Call). call_goes_on o (change_of p row) row) now) ∙ won) in
+    calling_stays k.caller g (change_of p row) row (ap (λ (o : Option Calling). calling_after k.caller o (change_of p row) row) (sym some) ∙ ap (λ (x : Call). x.calling) same)
+
+-- The device of the row raised a line that was false.
+raised_by : (on : LineSet → Bool) → ((a b : LineSet) → on (union a b) ≡ (on a || on b)) → (p : List Row) (row : Row) (c : ℕ) → c < 8 → on (bus p) ≡ false → on (drives (row ∷ p) c) ≡ true → c ≡ row.dev
+raised_by on both p row c lt off up =
+    elim (cases_eq c row.dev) [
+      | inl same ↦ same
+      | inr ne ↦ wrong (sym up ∙ ap on (drives-other row p c ne) ∙ line_off on both p off c lt)
+    ]
+
+-- ---- an entry
+
+pub record Enters (s : ScenarioValue) (p : List Row) (row : Row) : Type 0 where
+  pub apart : IsApart s p row
+  pub enters : enters_by p row ≡ true
+  pub kind_is : row.kind ≡ Drives (contender_lines row.dev)
+  pub bound : IsBound s (row ∷ p) row.dev
+
+enters_of : (s : ScenarioValue) (p : List Row) (row : Row) (lat free : ℕ) → FitsBus s → WantsAreItems → IsApart s p row → drives p row.dev ≡ none → (bus p).sel ≡ false → free_due (device_with row.dev lat none (own_time p row.dev)) free (want_time s (run_state s p) row.dev) ≡ Some (record { time = row.time; kind = row.kind }) → Enters s p row
+enters_of s p row lat free fits wants a off sel z =
+    let x : Due = record { time = row.time; kind = row.kind } in
+    let kind = (is_entry row.dev lat (own_time p row.dev) free none (want_time s (run_state s p) row.dev) x z).kind_is in
+    let ent : enters_by p row ≡ true = λ i. rises (off i).bsy (driven_after (kind i) (drives p row.dev)).bsy && not (sel i) in
+    let w = entry_wanted row.dev lat (own_time p row.dev) free none (want_time s (run_state s p) row.dev) x z in
+    record { apart = a; enters = ent; kind_is = kind; bound = enters_bound s p row w.since fits wants a ent w.is w.by_then }
+
+free_enters : (s : ScenarioValue) (p : List Row) (row : Row) → FitsBus s → WantsAreItems → CalmStanding s p → FreeBus s p → IsApart s p row → IsLeast (unreset_due s p) 8 row → Enters s p row
+free_enters s p row fits wants always h a least =
+    let th = is_there s p row.dev _ least.is_due in
+    let here : stage p ≡ OnFreeBus (free_since p) = stage_is p _ _ _ _ h.stands in
+    let off = h.quiet row.dev least.inside in
+    enters_of s p row th.0 (free_since p) fits wants a off (ap (λ (l : LineSet). l.sel) h.stands.bus_is)
+    (sym (free_due_is s p row.dev th.0 (free_since p) always.devices least.inside th.1 h.stands.connection_is here off) ∙ least.is_due)
+
+later_enters : (s : ScenarioValue) (p : List Row) (row : Row) (b : Arbitration) → FitsBus s → WantsAreItems → CalmStanding s p → Arbitrating s p b → IsApart s p row → IsLeast (unreset_due s p) 8 row → drives p row.dev ≡ none → Enters s p row
+later_enters s p row b fits wants always h a least off =
+    let th = is_there s p row.dev _ least.is_due in
+    let here : stage p ≡ InArbitration b = stage_is p _ _ _ _ h.stands in
+    let z = is_entry_in row.dev th.0 (own_time p row.dev) none b (want_time s (run_state s p) row.dev) _ (sym (idle_due s p row.dev th.0 b always.devices least.inside th.1 h.stands.connection_is here off) ∙ least.is_due) in
+    enters_of s p row th.0 b.free fits wants a off (ap (λ (l : LineSet). l.sel) h.stands.bus_is) z.0
+
+-- The row of a contender raises SEL.
+win_kind : (s : ScenarioValue) (p : List Row) (row : Row) (b : Arbitration) → CalmStanding s p → Arbitrating s p b → IsLeast (unreset_due s p) 8 row → IsContender s p b row.dev → row.kind ≡ Drives (record (contender_lines row.dev) { sel = true })
+win_kind s p row b always h least k =
+    let here : stage p ≡ InArbitration b = stage_is p _ _ _ _ h.stands in
+    (win_due s p row.dev k.lat b (record { time = row.time; kind = row.kind }) always.devices least.inside k.there h.stands.connection_is here k.drive least.is_due).kind_is
+
+-- ---- the contenders after a row
+
+after_is : (s : ScenarioValue) (p : List Row) (row : Row) (a : Arbitration) → Arbitrating s (row ∷ p) a → (bus (row ∷ p)).rst ≡ false
+after_is s p row a h = ap (λ (l : LineSet). l.rst) h.stands.bus_is
+
+contender_next : (s : ScenarioValue) (p : List Row) (row : Row) (a : Arbitration) (d : ℕ) → FitsBus s → WantsAreItems → CalmStanding s p → IsLeast (unreset_due s p) 8 row → (bus p).rst ≡ false → connection p ≡ None → AreBound s p → Arbitrating s (row ∷ p) a → d < 8 → IsContender s (row ∷ p) a d → BusStage s p → IsBound s (row ∷ p) d
+contender_next s p row a d fits wants always least calm alone was after lt k (on_free_bus h) =
+    let e = free_enters s p row fits wants always h (row_apart s p row always.devices least.inside h.link alone after.stands.connection_is (after_is s p row a after)) least in
+    elim (cases_eq d row.dev) [
+      | inl same ↦ subst (λ (c : ℕ). IsBound s (row ∷ p) c) (sym same) e.bound
+      | inr ne ↦ wrong' (ap (λ (l : LineSet). l.bsy) (sym (drives-other row p d ne ∙ h.quiet d lt) ∙ k.drive))
+    ]
+contender_next s p row a d fits wants always least calm alone was after lt k (in_arbitration b h) =
+    let q = row_apart s p row always.devices least.inside h.link alone after.stands.connection_is (after_is s p row a after) in
+    elim (h.each row.dev least.inside) [
+      | inl off ↦
+          let e = later_enters s p row b fits wants always h q least off in
+          elim (cases_eq d row.dev) [
+            | inl same ↦ subst (λ (c : ℕ). IsBound s (row ∷ p) c) (sym same) e.bound
+            | inr ne ↦ elim (h.each d lt) [
+              | inl none_of ↦ wrong' (ap (λ (l : LineSet). l.bsy) (sym (drives-other row p d ne ∙ none_of) ∙ k.drive))
+              | inr c ↦ others_bound s p row d e.apart e.enters ne (was.contenders b h d lt c)
+            ]
+          ]
+      | inr c ↦
+          let up : (drives (row ∷ p) row.dev).sel ≡ true = ap (λ (l : LineSet). l.sel) (drives-own row p _ (win_kind s p row b always h least c)) in
+          wrong (sym (bus_on (λ x. x.sel) (λ _ _. refl) (row ∷ p) row.dev least.inside up) ∙ ap (λ (l : LineSet). l.sel) after.stands.bus_is)
+    ]
+contender_next s p row a d fits wants always least calm alone was after lt k (after_arbitration c t h) = absurd (busy_before p row a h.stands.arbitration_is (ap is_free h.stands.bus_is) after.stands.arbitration_is)
+contender_next s p row a d fits wants always least calm alone was after lt k (with_both_ids m c j t0 t e h) = absurd (busy_before p row a h.stands.arbitration_is (ap is_free h.stands.bus_is) after.stands.arbitration_is)
+contender_next s p row a d fits wants always least calm alone was after lt k (awaiting_answer v m c j t0 t1 t2 x g) = absurd (busy_before p row a g.here.stands.arbitration_is (ap is_free g.here.stands.bus_is) after.stands.arbitration_is)
+contender_next s p row a d fits wants always least calm alone was after lt k (after_withdrawal v m c j t0 t1 t2 t3 e h) = absurd (busy_before p row a h.stands.arbitration_is (ap is_free h.stands.bus_is) after.stands.arbitration_is)
+contender_next s p row a d fits wants always least calm alone was after lt k (after_answer m c j t0 t1 t2 t3 x g) = absurd (busy_before p row a g.here.stands.arbitration_is (ap is_free g.here.stands.bus_is) after.stands.arbitration_is)
+contender_next s p row a d fits wants always least calm alone was after lt k (after_takeover c j t0 t1 t2 t3 t4 x e f g) = absurd (busy_before p row a g.here.stands.arbitration_is (ap is_free g.here.stands.bus_is) after.stands.arbitration_is)
+contender_next s p row a d fits wants always least calm alone was after lt k (in_reset h) = wrong (sym h.reset ∙ calm)
+contender_next s p row a d fits wants always least calm alone was after lt k (in_connection n e f h) = absurd (some_connection n (sym e ∙ alone))
+
+-- ---- the winner after a row
+
+no_entry : (p : List Row) (row : Row) (l : LineSet) → drives p row.dev ≡ l → l.bsy ≡ true → (rises (drives p row.dev).bsy (change_of p row).next.bsy && not (bus p).sel) ≡ false
+no_entry p row l e on = λ i. rises ((ap (λ (x : LineSet). x.bsy) e ∙ on) i) (change_of p row).next.bsy && not (bus p).sel
+
+caller_next : (s : ScenarioValue) (p : List Row) (row : Row) (c t : ℕ) → FitsBus s → WantsAreItems → CalmStanding s p → IsLeast (unreset_due s p) 8 row → (bus p).rst ≡ false → connection p ≡ None → AreBound s p → ArbitrationWon s (row ∷ p) c t → BusStage s p → IsBound s (row ∷ p) c
+caller_next s p row c t fits wants always least calm alone was after stage_of = go stage_of
+  where
+    q : List Row
+    q = row ∷ p
+
+    off : (bus q).rst ≡ false
+    off = ap (λ (l : LineSet). l.rst) after.stands.bus_is
+
+    sel : (bus q).sel ≡ true
+    sel = ap (λ (l : LineSet). l.sel) after.stands.bus_is
+
+    up : (drives q c).sel ≡ true
+    up = ap (λ (l : LineSet). l.sel) after.caller
+
+    mine : (bus p).sel ≡ false → c ≡ row.dev
+    mine before = raised_by (λ x. x.sel) (λ _ _. refl) p row c after.caller_below before up
+
+    entered : (bus p).sel ≡ false → Enters s p row → IsBound s q c
+    entered before e =
+        wrong' (ap (λ (l : LineSet). l.sel) (sym (drives-own row p _ e.kind_is)) ∙ ap (λ (k : ℕ). (drives q k).sel) (sym (mine before)) ∙ up)
+
+    apart_row : (run_state s p).story.link ≡ None → IsApart s p row
+    apart_row link = row_apart s p row always.devices least.inside link alone after.stands.connection_is off
+
+    called : (k : Call) (g : Calling) → (bus p).sel ≡ true → call p ≡ Some k → k.calling ≡ Some g → IsBound s q c
+    called k g before now some = absurd (called_before p row k g c t before now some sel after.stands.call_is)
+
+    won : (c0 t0 : ℕ) → ArbitrationWon s p c0 t0 → IsBound s q c
+    won c0 t0 h =
+        let before : (bus p).sel ≡ true = ap (λ (l : LineSet). l.sel) h.stands.bus_is in
+        let k = still_keeps s p row _ _ _ _ (apart_row h.link) ((λ i. rises (drives p row.dev).bsy (change_of p row).next.bsy && not (before i)) ∙ and_false (rises (drives p row.dev).bsy (change_of p row).next.bsy)) (λ i. falls (before i) (sel i)) in
+        let same = same_Some _ (won_call c t) (sym (call_on p row before sel ∙ ap (λ (o : Option Call). call_goes_on o (change_of p row) row) h.stands.call_is) ∙ after.stands.call_is) in
+        subst (λ (x : ℕ). IsBound s q x) (ap (λ (x : Call). x.caller) same) (still_bound s p q c0 k (was.caller c0 t0 h))
+
+    wins : (b : Arbitration) → Arbitrating s p b → IsContender s p b row.dev → IsBound s q c
+    wins b h k =
+        let before : (bus p).sel ≡ false = ap (λ (l : LineSet). l.sel) h.stands.bus_is in
+        let keeps = still_keeps s p row _ _ _ _ (apart_row h.link) (no_entry p row (contender_lines row.dev) k.drive refl) (λ i. falls (before i) (sel i)) in
+        subst (λ (x : ℕ). IsBound s q x) (sym (mine before)) (still_bound s p q row.dev keeps (was.contenders b h row.dev least.inside k))
+
+    go : BusStage s p → IsBound s q c
+    go (on_free_bus h) = entered (ap (λ (l : LineSet). l.sel) h.stands.bus_is) (free_enters s p row fits wants always h (apart_row h.link) least)
+    go (in_arbitration b h) =
+        elim (h.each row.dev least.inside) [
+          | inl none_of ↦ entered (ap (λ (l : LineSet). l.sel) h.stands.bus_is) (later_enters s p row b fits wants always h (apart_row h.link) least none_of)
+          | inr k ↦ wins b h k
+        ]
+    go (after_arbitration c0 t0 h) = won c0 t0 h
+    go (with_both_ids m j k t0 t1 e h) = called _ _ (ap (λ (l : LineSet). l.sel) h.stands.bus_is) h.stands.call_is refl
+    go (awaiting_answer v m j k t0 t1 t2 x g) = called _ _ (ap (λ (l : LineSet). l.sel) g.here.stands.bus_is) g.here.stands.call_is refl
+    go (after_withdrawal v m j k t0 t1 t2 t3 e h) = called _ _ (ap (λ (l : LineSet). l.sel) h.stands.bus_is) h.stands.call_is refl
+    go (after_answer m j k t0 t1 t2 t3 x g) = called _ _ (ap (λ (l : LineSet). l.sel) g.here.stands.bus_is) g.here.stands.call_is refl
+    go (after_takeover j k t0 t1 t2 t3 t4 x e f g) = called _ _ (ap (λ (l : LineSet). l.sel) g.here.stands.bus_is) g.here.stands.call_is refl
+    go (in_reset h) = wrong (sym h.reset ∙ calm)
+    go (in_connection n e f h) = absurd (some_connection n (sym e ∙ alone))
+
+-- ---- any row of a prompt trace
+
+pub bound_start : (s : ScenarioValue) → AreBound s []
+bound_start s = record {
+  contenders = λ a h d lt k. absurd (none_arbitration a h.stands.arbitration_is);
+  caller = λ c t h. absurd (none_call (won_call c t) h.stands.call_is);
+}
+
+unlinked : (o : Option Connection) (r : Bool) → (is_some o && not r) ≡ false → r ≡ false → o ≡ None
+unlinked None r e f = refl
+unlinked (Some n) r e f = wrong (sym (ap not f) ∙ e)
+
+-- After a row after which BSY is driven and no connection stands, no connection stood before it, RST was false, and none raised it.
+before_is : {A : Type 0} (s : ScenarioValue) (p : List Row) (row : Row) (d : ℕ) → Stood s p → IsLeast (due s p) 8 row → broken_rule p row ≡ None → d < 8 → (drives (row ∷ p) d).bsy ≡ true → connection (row ∷ p) ≡ None → (bus (row ∷ p)).rst ≡ false → (BusStage s p → (bus p).rst ≡ false → connection p ≡ None → CalmStanding s p → IsLeast (unreset_due s p) 8 row → A) → A
+before_is {A = A} s p row d was m obeys lt on alone off goes = go was.here
+  where
+    raised : row ≡ row_of_lines row.time row.dev only_rst → (bus (row ∷ p)).rst ≡ true
+    raised z = bus_on (λ y. y.rst) (λ _ _. refl) (row ∷ p) row.dev m.inside (ap (λ (w : Row). (drives (w ∷ p) row.dev).rst) z ∙ ap (λ (l : LineSet). l.rst) (drives_own p row.time row.dev only_rst))
+
+    by_rst : BusStage s p → is_connected p ≡ false → (r : Bool) → (bus p).rst ≡ r → A
+    by_rst h apart_is true e = wrong (sym on ∙ silent s p row m.inside obeys (under_rst s p h e) off d lt)
+    by_rst h apart_is false e = elim (reset_or_calm s p row was.standing e m) [
+      | by_reset z ↦ wrong (sym (raised z) ∙ off)
+      | by_calm always least ↦ goes h e (unlinked (connection p) (bus p).rst apart_is e) always least
+    ]
+
+    go : AnyStage s p → A
+    go (apart h apart_is) = by_rst h apart_is (bus p).rst refl
+    go (linked n h) = absurd (lasts p row n (link_connection s p n h) alone (bus_on (λ y. y.bsy) (λ _ _. refl) (row ∷ p) d lt on))
+
+pub bound_next : (s : ScenarioValue) (p : List Row) (row : Row) → FitsBus s → WantsAreItems → IsPrompt s (row ∷ p) → Stood s p → broken_rule p row ≡ None → AreBound s p → AreBound s (row ∷ p)
+bound_next s p row fits wants prompt was obeys bound =
+    let m = least_is s p row prompt.1 in
+    record {
+      contenders = λ a h d lt k. before_is s p row d was m obeys lt (ap (λ (l : LineSet). l.bsy) k.drive) h.stands.connection_is (ap (λ (l : LineSet). l.rst) h.stands.bus_is)
+          (λ here calm alone always least. contender_next s p row a d fits wants always least calm alone bound h lt k here);
+      caller = λ c t h. before_is s p row c was m obeys h.caller_below (ap (λ (l : LineSet). l.bsy) h.caller) h.stands.connection_is (ap (λ (l : LineSet). l.rst) h.stands.bus_is)
+          (λ here calm alone always least. caller_next s p row c t fits wants always least calm alone bound h here);
+    }

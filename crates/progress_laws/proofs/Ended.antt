@@ -1,0 +1,158 @@
+-- A prompt trace after which nothing is due: the bus is free, and the end obeys every rule.
+use Rattle.std.proofs.Common.{ℕ, ◌≡◌, ◌<◌, ◌^◌, Bool, true, false, ◌∙◌, List, [], ◌∷◌, length, Option, Some, None, refl, sym, ap, arith}
+use Rattle.std.specs.Prelude.{if◌then◌else◌, not, ◌&&◌, ◌||◌, ◌==◌, ◌+◌, nat_le}
+use Rattle.std.specs.List.{AllByRecursion}
+use Rattle.std.proofs.lemmas.Bool.Decides.{nat_tests}
+use Rattle.bus_trace.specs.LineSet.{LineSet, none}
+use Rattle.bus_trace.specs.declared.Row.{Row}
+use Rattle.bus_trace.specs.Changes.{implies, is_within}
+use Rattle.bus_trace.specs.Trace.{last_time}
+use Rattle.bus_trace.specs.Terms.{free_since}
+use Rattle.bus_lines.specs.declared.stage.Stage.TheVariants.{OnFreeBus}
+use Rattle.bus_lines.specs.Stage.{stage}
+use Rattle.bus_rules.specs.declared.seen.Seen.{Seen}
+use Rattle.bus_rules.specs.Connected.{initiator_released, initiator_released_of, target_released, target_released_of}
+use Rattle.bus_rules.specs.FreeBus.{is_cleared, is_idle}
+use Rattle.bus_rules.specs.Lawful.{IsLawful, KeepsAll}
+use Rattle.bus_rules.specs.Order.{is_in_order}
+use Rattle.bus_rules.specs.Reset.{is_quiet_in_reset, is_reset, only_rst}
+use Rattle.bus_rules.specs.Rules.{end_test, judged_rules, keeps_at_end, obeys_at_end, stands_in_reset}
+use Rattle.bus_rules.specs.Seen.{end_row, seen, seen_with}
+use Rattle.bus_rules.specs.Selection.{is_left}
+use Rattle.bus_rules.proofs.First.{row_none}
+use Rattle.scenario.specs.Value.{ScenarioValue}
+use Rattle.scenario.specs.Writing.{Obeys}
+use Rattle.bus_story.specs.Samples.{latency_of}
+use Rattle.bus_reactions.specs.declared.due.Due.{Due}
+use Rattle.bus_reactions.specs.FreeBus.{free_due}
+use Rattle.bus_due.specs.Next.{IsPrompt, IsEnded}
+use Rattle.bus_due.specs.RunSteps.{run_state}
+use Rattle.bus_due.specs.Wants.{want_time}
+use Rattle.scsi_device.proofs.FitLines.{obeys_fits}
+use Rattle.bus_laws.specs.Reactions.{device_with, own_time, reset_due, unreset_due}
+use Rattle.bus_laws.proofs.Dues.{free_due_is}
+use Rattle.bus_laws.proofs.Resets.{comes_by_first, due_calm}
+use Rattle.bus_laws.proofs.Rows.{stage_is}
+use Rattle.bus_laws.specs.Stages.{FreeBus}
+use Rattle.link_laws.specs.LinkStages.{AnyStage, apart, linked}
+use Rattle.trace_laws.specs.Ends.{AreEnds}
+use Rattle.trace_laws.proofs.Joint.{Stood, link_calm, link_connection}
+use Rattle.trace_laws.proofs.Whole.{whole}
+use Rattle.progress_laws.proofs.Acts.{calm_end, moved, nothing_due}
+use Rattle.progress_laws.proofs.Apart.{free_at_end}
+use Rattle.progress_laws.proofs.Bound.{AreBound, bound_next, bound_start}
+use Rattle.progress_laws.proofs.Connections.{ends_there, goes_on, stage_ends}
+use Rattle.progress_laws.proofs.Entries.{WantsAreItems}
+
+-- What is known of a prompt trace.
+pub record Joined (s : ScenarioValue) (p : List Row) : Type 0 where
+  pub stood : Stood s p
+  pub ends : AreEnds s p
+  pub bound : AreBound s p
+
+pub joined : (s : ScenarioValue) (p : List Row) → WantsAreItems → Obeys s → IsPrompt s p → length p < 2 ^ 64 → Joined s p
+joined s [] wants o prompt short =
+    let w = whole s [] o prompt short in
+    record { stood = w.stood; ends = w.ends; bound = bound_start s }
+joined s (row ∷ p) wants o prompt short =
+    let w = whole s (row ∷ p) o prompt short in
+    let was = joined s p wants o prompt.0 (omega (arith, short)) in
+    record { stood = w.stood; ends = w.ends; bound = bound_next s p row (obeys_fits s o) wants prompt was.stood ((row_none p row).1 w.stood.standing.lawful.1) was.bound }
+
+-- ---- the bus
+
+pub free_when_ended : (s : ScenarioValue) (p : List Row) → Joined s p → IsEnded s p → FreeBus s p
+free_when_ended s p j end = go j.stood.here
+  where
+    go : AnyStage s p → FreeBus s p
+    go (apart h alone) = free_at_end s p end j.stood.standing j.bound.caller alone h
+    go (linked n h) =
+        let e = stage_ends s p n h in
+        absurd (goes_on s p n end j.stood.standing (ends_there s p n e.0 j.stood.standing e.1 (j.ends n (link_connection s p n h))) (link_calm s p n h) h)
+
+-- ---- the rules at the end
+
+either : (q r : Bool) → r ≡ true → (if q then true else r) ≡ true
+either true r e = refl
+either false r e = e
+
+one_of : (q a b : Bool) → a ≡ true → b ≡ true → (if q then a else b) ≡ true
+one_of true a b e f = e
+one_of false a b e f = f
+
+implied : (q r : Bool) → r ≡ true → implies q r ≡ true
+implied true r e = e
+implied false r e = refl
+
+or_right : (q r : Bool) → r ≡ true → (q || r) ≡ true
+or_right true r e = refl
+or_right false r e = e
+
+same_time : (t : ℕ) → nat_le t t ≡ true
+same_time t = grind (arith, nat_tests)
+
+all_kept : (kept : ℕ → Bool) → ((n : ℕ) → kept n ≡ true) → (rules : List ℕ) → AllByRecursion (λ n. kept n ≡ true) rules
+all_kept kept h [] = tt
+all_kept kept h (n ∷ rules) = (h n, all_kept kept h rules)
+
+-- Any rule at an end at this time, where these hold that set a latest time.
+end_keeps : (v : Seen) (t n : ℕ) → is_in_order v t ≡ true → is_cleared v t ≡ true → is_left v t v.call ≡ true → initiator_released v t ≡ true → target_released v t ≡ true → is_quiet_in_reset v t ≡ true → keeps_at_end n v t ≡ true
+end_keeps v t n order cleared left initiator target quiet =
+    either (not (stands_in_reset n) && is_reset v) (end_test n v t)
+    (one_of (n == 1) _ _ order
+    (one_of (n == 3) _ _ cleared
+    (one_of (n == 7) _ _ left
+    (one_of (n == 15) _ _ initiator
+    (one_of (n == 16) _ _ target
+    (one_of (n == 28) _ _ quiet refl))))))
+
+end_kept : (s : ScenarioValue) (p : List Row) → FreeBus s p → KeepsAll (obeys_at_end p (last_time p))
+unfolding seen_with
+end_kept s p h =
+    let t : ℕ = last_time p in
+    let v : Seen = seen p (end_row t) in
+    all_kept (obeys_at_end p t)
+    (λ n. end_keeps v t n (same_time t)
+    (implied (is_idle v) _ (or_right _ _ (ap (λ (l : LineSet). is_within l only_rst) h.stands.bus_is)))
+    (ap (is_left v t) h.stands.call_is)
+    (ap (initiator_released_of v t) h.stands.connection_is)
+    (ap (target_released_of v t) h.stands.connection_is)
+    (ap (λ (q : Bool). implies q (nat_le t (v.times.rst + 800) || is_within v.change.before only_rst)) (ap (λ (l : LineSet). l.rst) h.stands.bus_is)))
+    judged_rules
+
+pub lawful_when_ended : (s : ScenarioValue) (p : List Row) → Joined s p → IsEnded s p → IsLawful p (last_time p)
+lawful_when_ended s p j end = (j.stood.standing.lawful, end_kept s p (free_when_ended s p j end))
+
+-- ---- what is left to do
+
+no_due : (x : Due) → (let a : Option Due = None in a) ≡ Some x → ⊥
+no_due x e = absurd cc
+
+-- No device of the scenario wants the bus.
+pub unwanted_when_ended : (s : ScenarioValue) (p : List Row) → Joined s p → IsEnded s p → (d lat : ℕ) → d < 8 → latency_of s d ≡ Some lat → want_time s (run_state s p) d ≡ None
+unwanted_when_ended s p j end d lat lt there = go (want_time s (run_state s p) d) refl
+  where
+    h : FreeBus s p
+    h = free_when_ended s p j end
+
+    here : stage p ≡ OnFreeBus (free_since p)
+    here = stage_is p _ _ _ _ h.stands
+
+    go : (o : Option ℕ) → want_time s (run_state s p) d ≡ o → want_time s (run_state s p) d ≡ None
+    go None e = e
+    go (Some w) e =
+        absurd (calm_end s p d end j.stood.standing.devices lt (ap (λ (l : LineSet). l.rst) h.stands.bus_is)
+        (moved _ _ (free_due_is s p d lat (free_since p) j.stood.standing.devices lt there h.stands.connection_is here (h.quiet d lt) ∙ ap (free_due (device_with d lat none (own_time p d)) (free_since p)) e) (record { row = _; is = refl })))
+
+-- And none has a reset of its own to make.
+pub unreset_when_ended : (s : ScenarioValue) (p : List Row) → Joined s p → IsEnded s p → (d : ℕ) → d < 8 → reset_due s p d ≡ None
+unreset_when_ended s p j end d lt = go (reset_due s p d) refl
+  where
+    h : FreeBus s p
+    h = free_when_ended s p j end
+
+    go : (o : Option Due) → reset_due s p d ≡ o → reset_due s p d ≡ None
+    go None e = e
+    go (Some x) e =
+        let z = comes_by_first (reset_due s p d) (unreset_due s p d) x e in
+        absurd (no_due z.x (sym (nothing_due s p d end lt) ∙ due_calm s p d j.stood.standing.devices lt (ap (λ (l : LineSet). l.rst) (h.quiet d lt)) ∙ z.is))

@@ -1,0 +1,31 @@
+// Laws of prompt traces, each named by the contract of a function that does nothing.
+
+ghost use Rattle.std.specs.Prelude.{ℕ, ◌≡◌, ◌<◌, ◌^◌, List, length, Some, None};
+ghost use Rattle.bus_trace.specs.LineSet.{none};
+ghost use Rattle.bus_trace.specs.Trace.{bus, last_time};
+ghost use Rattle.bus_trace.specs.declared.Row.{Row};
+ghost use Rattle.bus_rules.specs.Lawful.{IsLawful};
+ghost use Rattle.scenario.specs.Value.{ScenarioValue};
+ghost use Rattle.scenario.specs.Writing.{Obeys};
+ghost use Rattle.bus_story.specs.Samples.{latency_of};
+ghost use Rattle.bus_due.specs.Next.{IsEnded, IsPrompt};
+ghost use Rattle.bus_due.specs.RunSteps.{run_state};
+ghost use Rattle.bus_due.specs.Wants.{want_time};
+
+use bus_due::wants_are_items;
+
+/// A prompt trace that has ended is quiet: where nothing is due of any device, no line is true (`quiet`), the end obeys
+/// every rule of the bus, as each row does (`lawful`), and no device wants the bus any more (`unwanted`). So no prompt
+/// trace stalls: in a connection, in an arbitration, in a selection or reselection and under RST some device is due to
+/// act.
+pub fn ended_traces_are_quiet()
+    ensures quiet { (s : ScenarioValue) (rows : List Row) → Obeys s → IsPrompt s rows → length rows < 2 ^ 64
+        → IsEnded s rows → bus rows ≡ none }
+    ensures lawful { (s : ScenarioValue) (rows : List Row) → Obeys s → IsPrompt s rows → length rows < 2 ^ 64
+        → IsEnded s rows → IsLawful rows (last_time rows) }
+    ensures unwanted { (s : ScenarioValue) (rows : List Row) → Obeys s → IsPrompt s rows → length rows < 2 ^ 64
+        → IsEnded s rows → (dev latency : ℕ) → dev < 8
+        → latency_of s dev ≡ Some latency → want_time s (run_state s rows) dev ≡ None }
+{
+    wants_are_items();
+}

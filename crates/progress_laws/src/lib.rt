@@ -1,0 +1,10 @@
+//! Laws of prompt traces: nothing stalls.
+//!
+//! In a connection one of its ends is due to act, in an arbitration the contender of the highest ID, in a calling the
+//! caller, and under RST the devices that drive it: so where nothing is due of any device, the bus is free and no line
+//! is true. There is no code here but for laws: each is the contract of a function that does nothing.
+#![tactic(auto)]
+
+mod laws;
+
+pub use laws::ended_traces_are_quiet;

@@ -1,0 +1,63 @@
+-- Each process that ran and ended has carried just its command block, just the bytes that it moves, and its status.
+use Rattle.std.proofs.Common.{ℕ, ◌≡◌, Bool, true, false, not, ◌&&◌, ◌||◌, ◌∙◌, List, [], ◌∷◌, Option, Some, None, refl, sym, ap, true≢false}
+use Rattle.std.specs.Prelude.{is_some}
+use Rattle.bus_base.specs.declared.Event.{Event}
+use Rattle.bus_base.specs.declared.Event.TheVariants as events
+use Rattle.bus_base.specs.declared.ProcId.{ProcId}
+use Rattle.scenario.specs.Value.{ScenarioValue}
+use Rattle.disk_array.specs.ArrayHistory.{array_after, reply_in, reply_of}
+use Rattle.disk_array.specs.Execution.{Reply}
+use Rattle.disk_array.specs.Processes.{process_of}
+use Rattle.disk_array.specs.Units.{Array}
+use Rattle.bus_story.specs.CarriedBytes.{CarriedBytes, carried_of}
+use Rattle.bus_story.specs.Right.{same_bytes, has_run, moved_bytes, carried_by, is_carried, all_carried}
+use Rattle.bus_due.specs.RunState.{RunState, array_of}
+use Rattle.bus_books.proofs.Blocks.{same_self}
+use Rattle.right_laws.specs.Open.{OnEvents}
+use Rattle.right_laws.specs.Runs.{HasRun, RanBooks, HasEnded, IsEnded}
+
+wrong' : {A : Type 0} → false ≡ true → A
+wrong' e = absurd (true≢false (sym e))
+
+same_is : (xs ys : List ℕ) → xs ≡ ys → same_bytes xs ys ≡ true
+same_is xs ys e = ap (λ (z : List ℕ). same_bytes z ys) e ∙ same_self ys
+
+three : (a b c : Bool) → a ≡ true → b ≡ true → c ≡ true → (a && b && c) ≡ true
+three a b c e f g = λ i. e i && f i && g i
+
+carried_end : (s : ScenarioValue) (k : RunState) (a : Array) (id : ProcId) (status : ℕ) → array_after s k.story.history ≡ Some a → array_of s k ≡ a → RanBooks s k → HasEnded s k id status → is_carried s k.story (events.End id status) ≡ true
+carried_end s k a id status plays here ran ended = go (has_run k.story.history id) refl
+  where
+    c : CarriedBytes
+    c = carried_of k.story.carried id
+
+    done : HasRun s k id → carried_by c (process_of s id) (reply_of (array_after s k.story.history) id) status ≡ true
+    done h = by (reply_in a.replies id) refl
+      where
+        by : (o : Option Reply) → reply_in a.replies id ≡ o → carried_by c (process_of s id) (reply_of (array_after s k.story.history) id) status ≡ true
+        by None e = wrong' (sym (ap (λ (x : Array). is_some (reply_in x.replies id)) here ∙ ap is_some e) ∙ h.given)
+        by (Some reply) e =
+            let block = h.block h.process h.process_is in
+            let moved = h.moved h.process reply h.process_is (ap (λ (x : Array). reply_in x.replies id) here ∙ e) in
+            (λ i. carried_by c (h.process_is i) (reply_of (plays i) id) status)
+            ∙ ap (λ (o : Option Reply). carried_by c (Some h.process) o status) e
+            ∙ three (same_bytes c.command.bytes h.process.cdb) (same_bytes c.moved.bytes (moved_bytes h.process reply)) (same_bytes c.status.bytes (status ∷ []))
+            (same_is c.command.bytes h.process.cdb block) (same_is c.moved.bytes (moved_bytes h.process reply) moved) (same_is c.status.bytes (status ∷ []) ended.status_is)
+
+    go : (q : Bool) → has_run k.story.history id ≡ q → (not (has_run k.story.history id) || carried_by c (process_of s id) (reply_of (array_after s k.story.history) id) status) ≡ true
+    go false e = ap (λ (q : Bool). not q || carried_by c (process_of s id) (reply_of (array_after s k.story.history) id) status) e
+    go true e = ap (λ (q : Bool). not q || carried_by c (process_of s id) (reply_of (array_after s k.story.history) id) status) e ∙ done (ran id e)
+
+event_carried : (s : ScenarioValue) (k : RunState) (a : Array) (e : Event) → array_after s k.story.history ≡ Some a → array_of s k ≡ a → RanBooks s k → IsEnded s k e → is_carried s k.story e ≡ true
+event_carried s k a (events.End id status) plays here ran ended = carried_end s k a id status plays here ran ended
+event_carried s k a (events.Accept id) plays here ran ended = refl
+event_carried s k a (events.Refuse id) plays here ran ended = refl
+event_carried s k a (events.Run id) plays here ran ended = refl
+event_carried s k a (events.Fail id code) plays here ran ended = refl
+event_carried s k a (events.Lost id) plays here ran ended = refl
+event_carried s k a (events.Aborted i t n what) plays here ran ended = refl
+event_carried s k a (events.Reset dev) plays here ran ended = refl
+
+pub events_carried : (s : ScenarioValue) (k : RunState) (a : Array) (history : List Event) → array_after s k.story.history ≡ Some a → array_of s k ≡ a → RanBooks s k → OnEvents (IsEnded s k) history → all_carried s k.story history ≡ true
+events_carried s k a [] plays here ran ended = refl
+events_carried s k a (e ∷ history) plays here ran ended = λ i. event_carried s k a e plays here ran ended.0 i && events_carried s k a history plays here ran ended.1 i

@@ -1,0 +1,24 @@
+pub mod Lasting
+pub mod UndoneLoads
+pub mod UndoneLoadStays
+pub mod UndoneLoadTurns
+pub mod UndoneLoadFacts
+pub mod OpenProcesses
+pub mod ShownRows
+pub mod RowCrossings
+pub mod BlockFacts
+pub mod RanFacts
+pub mod Carried
+pub mod StatusFirst
+pub mod StatusLeavings
+pub mod StatusAreas
+pub mod StatusSame
+pub mod StatusStays
+pub mod StatusTurns
+pub mod StatusFacts
+pub mod SentBytes
+pub mod Right
+pub mod DataOffers
+pub mod DataOfferRows
+pub mod DataOfferFacts
+mod Cases

@@ -1,0 +1,246 @@
+-- What holds of each process of the plain disk array that was not answered goes on with each event, where it holds of the process that
+-- arrives; and a reply that was given stays.
+use Rattle.std.proofs.Common.{◌≡◌, Bool, true, false, ◌||◌, ◌&&◌, ◌==◌, ◌∙◌, List, [], ◌∷◌, ◌++◌, Option, Some, None, refl, sym, ap, subst, true≢false}
+use Rattle.std.specs.Prelude.{if◌then◌else◌, is_some, nat_lt, ℕ}
+use Rattle.std.proofs.lemmas.Option.{same_Some}
+use Rattle.bus_base.specs.declared.Event.{Event}
+use Rattle.bus_base.specs.declared.Event.TheVariants as events
+use Rattle.bus_base.specs.declared.ProcId.{ProcId}
+use Rattle.cdb_codec.specs.Cdb.{command_of}
+use Rattle.cdb_codec.specs.declared.status.TheConstants.{GOOD, CHECK_CONDITION}
+use Rattle.scenario.specs.Value.{ScenarioValue}
+use Rattle.disk_array.specs.ArrayHistory.{array_step, reply_in}
+use Rattle.disk_array.specs.Execution.{Reply, is_request_sense}
+use Rattle.disk_array.specs.Processes.{Process, process_of, same_id}
+use Rattle.disk_array.specs.Steps as Steps
+use Rattle.disk_array.specs.Units.{RunningProcess, UnitState, Array, unit_state_at, with_unit, guest_at, starting_array, settled_array, senses_without, nexuses_without, nexus_of}
+use Rattle.bus_due.specs.RunSteps.{array_after_events}
+use Rattle.bus_books.proofs.CarriedRows.{process_id}
+use Rattle.bus_books.proofs.Lookups.{self_id}
+use Rattle.trace_laws.specs.Places.{fresh, Each, OnUnits, OnGuests, Waits, Runs, IsAway}
+use Rattle.trace_laws.proofs.EachProcess.{Admits, AdmitsEvent, each_after}
+use Rattle.trace_laws.proofs.ListedReplies.{replies_to, listed_on}
+use Rattle.trace_laws.proofs.OtherProcesses.{same_after, untouched_at_start}
+use Rattle.right_laws.specs.Open.{OnEvents, IfOpen, OnOpen}
+
+wrong : {A : Type 0} → true ≡ false → A
+wrong e = absurd (true≢false e)
+
+wrong' : {A : Type 0} → false ≡ true → A
+wrong' e = absurd (true≢false (sym e))
+
+no_array : {A : Type 0} (a : Array) → (let o : Option Array = None in o) ≡ Some a → A
+no_array a e = absurd cc
+
+no_running : {A : Type 0} (r : RunningProcess) → (let o : Option RunningProcess = None in o) ≡ Some r → A
+no_running r e = absurd cc
+
+-- ---- of each process
+
+map_waits : (x q r : RunningProcess → Type 0) → ((p : RunningProcess) → x p → q p → r p) → (waiting : List Process) → Waits x waiting → Waits q waiting → Waits r waiting
+map_waits x q r f [] h g = tt
+map_waits x q r f (p ∷ waiting) h g = (f (fresh p) h.0 g.0, map_waits x q r f waiting h.1 g.1)
+
+map_runs : (x q r : RunningProcess → Type 0) → ((p : RunningProcess) → x p → q p → r p) → (o : Option RunningProcess) → Runs x o → Runs q o → Runs r o
+map_runs x q r f None h g = tt
+map_runs x q r f (Some p) h g = f p h g
+
+map_units : (x q r : RunningProcess → Type 0) → ((p : RunningProcess) → x p → q p → r p) → (units : List UnitState) → OnUnits x units → OnUnits q units → OnUnits r units
+map_units x q r f [] h g = tt
+map_units x q r f (u ∷ units) h g = ((map_waits x q r f u.waiting h.0.0 g.0.0, map_runs x q r f u.current h.0.1 g.0.1), map_units x q r f units h.1 g.1)
+
+map_guests : (x q r : RunningProcess → Type 0) → ((p : RunningProcess) → x p → q p → r p) → (guests : List RunningProcess) → OnGuests x guests → OnGuests q guests → OnGuests r guests
+map_guests x q r f [] h g = tt
+map_guests x q r f (p ∷ guests) h g = (f p h.0 g.0, map_guests x q r f guests h.1 g.1)
+
+-- By what holds of each beside.
+pub each_both : (x q r : RunningProcess → Type 0) (a : Array) → ((p : RunningProcess) → x p → q p → r p) → Each x x a → Each q q a → Each r r a
+each_both x q r a f h g = record { units = map_units x q r f a.units h.units g.units; guests = map_guests x q r f a.guests h.guests g.guests }
+
+pub each_map : (q r : RunningProcess → Type 0) (a : Array) → ((p : RunningProcess) → q p → r p) → Each q q a → Each r r a
+each_map q r a f h = each_both q q r a (λ p x y. f p x) h h
+
+-- What holds of the process that is found.
+guest_has : (q : RunningProcess → Type 0) (guests : List RunningProcess) (id : ProcId) (r : RunningProcess) → OnGuests q guests → guest_at guests id ≡ Some r → q r
+guest_has q [] id r h e = no_running r e
+guest_has q (g ∷ guests) id r h e = go (same_id g.process.id id) e (λ z. guest_has q guests id r h.1 z)
+  where
+    go : (x : Bool) → (if x then Some g else guest_at guests id) ≡ Some r → (guest_at guests id ≡ Some r → q r) → q r
+    go true z rest = subst q (same_Some g r z) h.0
+    go false z rest = rest z
+
+current_has : (q : RunningProcess → Type 0) (units : List UnitState) (id : ProcId) (r : RunningProcess) → OnUnits q units → Steps.running_in units id ≡ Some r → q r
+current_has q [] id r h e = no_running r e
+current_has q (u ∷ units) id r h e = go u.current h.0.1 e (λ z. current_has q units id r h.1 z)
+  where
+    by : (c : RunningProcess) → q c → (x : Bool) → (if is_some {T = RunningProcess} (if x then Some c else None) then (if x then Some c else None) else Steps.running_in units id) ≡ Some r → (Steps.running_in units id ≡ Some r → q r) → q r
+    by c k true z rest = subst q (same_Some c r z) k
+    by c k false z rest = rest z
+
+    go : (o : Option RunningProcess) → Runs q o → (if is_some (Steps.running_if o id) then Steps.running_if o id else Steps.running_in units id) ≡ Some r → (Steps.running_in units id ≡ Some r → q r) → q r
+    go None k z rest = rest z
+    go (Some c) k z rest = by c k (same_id c.process.id id) z rest
+
+pub running_has : (q : RunningProcess → Type 0) (a : Array) (id : ProcId) (r : RunningProcess) → Each q q a → Steps.running_process a id ≡ Some r → q r
+running_has q a id r h e = go (guest_at a.guests id) refl e
+  where
+    go : (o : Option RunningProcess) → guest_at a.guests id ≡ o → (if is_some o then o else Steps.running_in a.units id) ≡ Some r → q r
+    go None z w = current_has q a.units id r h.units w
+    go (Some g) z w = guest_has q a.guests id r h.guests (z ∙ w)
+
+-- ---- at the start there is none
+
+none_waits : (q : RunningProcess → Type 0) (waiting : List Process) → ((id : ProcId) → Waits (IsAway id) waiting) → Waits q waiting
+none_waits q [] h = tt
+none_waits q (p ∷ waiting) h = wrong (sym (self_id p.id) ∙ (h p.id).0)
+
+none_runs : (q : RunningProcess → Type 0) (o : Option RunningProcess) → ((id : ProcId) → Runs (IsAway id) o) → Runs q o
+none_runs q None h = tt
+none_runs q (Some r) h = wrong (sym (self_id r.process.id) ∙ h r.process.id)
+
+none_units : (q : RunningProcess → Type 0) (units : List UnitState) → ((id : ProcId) → OnUnits (IsAway id) units) → OnUnits q units
+none_units q [] h = tt
+none_units q (u ∷ units) h = ((none_waits q u.waiting (λ id. (h id).0.0), none_runs q u.current (λ id. (h id).0.1)), none_units q units (λ id. (h id).1))
+
+none_guests : (q : RunningProcess → Type 0) (guests : List RunningProcess) → ((id : ProcId) → OnGuests (IsAway id) guests) → OnGuests q guests
+none_guests q [] h = tt
+none_guests q (g ∷ guests) h = wrong (sym (self_id g.process.id) ∙ (h g.process.id).0)
+
+pub each_none : (q : RunningProcess → Type 0) (a : Array) → ((id : ProcId) → Each (IsAway id) (IsAway id) a) → Each q q a
+each_none q a h = record { units = none_units q a.units (λ id. (h id).units); guests = none_guests q a.guests (λ id. (h id).guests) }
+
+pub open_start : (s : ScenarioValue) (h : ProcId → Type 0) → OnOpen h (settled_array (starting_array s))
+open_start s h = each_none (IfOpen h (settled_array (starting_array s))) (settled_array (starting_array s)) (λ id. (untouched_at_start s id).away)
+
+-- ---- an event
+
+none_is : (o : Option Reply) → is_some o ≡ false → o ≡ None
+none_is None e = refl
+none_is (Some x) e = wrong e
+
+both_none : (x y : Bool) → (x || y) ≡ false → (x ≡ false) × (y ≡ false)
+both_none true y e = wrong e
+both_none false y e = (refl, e)
+
+-- A process arrives with it.
+abbrev pub IfAccepts : (ProcId → Type 0) → Event → Type 0
+IfAccepts h e = (id : ProcId) → e ≡ events.Accept id → h id
+
+-- It is not answered with the event.
+abbrev IfLeft : (ProcId → Type 0) → Array → Event → RunningProcess → Type 0
+IfLeft h a e r = reply_in a.replies r.process.id ≡ None → replies_to e r.process.id ≡ false → h r.process.id
+
+answered_admits : (s : ScenarioValue) (h : ProcId → Type 0) (a : Array) (e : Event) (id : ProcId) → ((other : ProcId) → other ≡ id → replies_to e other ≡ true) → Admits s (IfLeft h a e) (IfLeft h a e) id
+answered_admits s h a e id f = record {
+  waits = λ p w none left. wrong (sym (f p.id (process_id s id p w)) ∙ left);
+  comes = λ p reply w none left. wrong (sym (f p.id (process_id s id p w)) ∙ left);
+  runs = λ r reply same k. k;
+  is_guest = λ r reply same k. k;
+}
+
+replied : (id other : ProcId) → other ≡ id → same_id id other ≡ true
+replied id other e = ap (same_id id) e ∙ self_id id
+
+admits : (s : ScenarioValue) (h : ProcId → Type 0) (a : Array) (e : Event) → IfAccepts h e → AdmitsEvent s (IfLeft h a e) (IfLeft h a e) e
+admits s h a (events.Accept id) f = record {
+  waits = λ p w none left. subst h (sym (process_id s id p w)) (f id refl);
+  comes = λ p reply w none left. subst h (sym (process_id s id p w)) (f id refl);
+  runs = λ r reply same k. k;
+  is_guest = λ r reply same k. k;
+}
+admits s h a (events.Refuse id) f = answered_admits s h a (events.Refuse id) id (λ other z. replied id other z)
+admits s h a (events.Run id) f = answered_admits s h a (events.Run id) id (λ other z. replied id other z)
+admits s h a (events.Fail id code) f = answered_admits s h a (events.Fail id code) id (λ other z. replied id other z)
+admits s h a (events.End id status) f = tt
+admits s h a (events.Lost id) f = tt
+admits s h a (events.Aborted i t n what) f = tt
+admits s h a (events.Reset dev) f = tt
+
+pub open_step : (s : ScenarioValue) (h : ProcId → Type 0) (a b : Array) (e : Event) → IfAccepts h e → Steps.step s e a ≡ Some b → OnOpen h a → OnOpen h b
+open_step s h a b e f st all =
+    each_map (IfLeft h a e) (IfOpen h b) b (λ r k none. go r k none)
+    (each_after s (IfLeft h a e) (IfLeft h a e) a b e (admits s h a e f) (each_map (IfOpen h a) (IfLeft h a e) a (λ r k none left. k none) all) st)
+  where
+    go : (r : RunningProcess) → IfLeft h a e r → reply_in b.replies r.process.id ≡ None → h r.process.id
+    go r k none =
+        let two = both_none (replies_to e r.process.id) (is_some (reply_in a.replies r.process.id)) (sym (listed_on s a b e st r.process.id) ∙ ap is_some none) in
+        k (none_is (reply_in a.replies r.process.id) two.1) two.0
+
+no_step : {A : Type 0} (s : ScenarioValue) (e : Event) (b : Array) → array_step s e None ≡ Some b → A
+no_step s e b z = no_array b z
+
+pub open_events : (s : ScenarioValue) (h : ProcId → Type 0) (a b : Array) (shown : List Event) → OnEvents (IfAccepts h) shown → array_after_events s (Some a) shown ≡ Some b → OnOpen h a → OnOpen h b
+open_events s h a b [] f st all = subst (OnOpen h) (same_Some a b st) all
+open_events s h a b (e ∷ shown) f st all = go (array_after_events s (Some a) shown) refl st (λ c z. open_events s h a c shown f.1 z all)
+  where
+    go : (o : Option Array) → array_after_events s (Some a) shown ≡ o → array_step s e o ≡ Some b → ((c : Array) → array_after_events s (Some a) shown ≡ Some c → OnOpen h c) → OnOpen h b
+    go None z w rest = no_step s e b w
+    go (Some c) z w rest = open_step s h c b e f.0 w (rest c z)
+
+-- ---- a reply that was given
+
+accept_lists : (a c : Array) (o : Option Process) → Steps.accept_step a o ≡ Some c → c.replies ≡ a.replies
+accept_lists a c None e = no_array c e
+accept_lists a c (Some p) e = by (unit_state_at a.units p.target p.unit) e
+  where
+    took : (d : Array) → Some d ≡ Some c → d.replies ≡ a.replies → c.replies ≡ a.replies
+    took d z w = ap (λ (x : Array). x.replies) (sym (same_Some d c z)) ∙ w
+
+    queue : (u : UnitState) (y : Bool) → (if y then Some (record a { units = with_unit a.units (record u { waiting = u.waiting ++ p ∷ [] }) }) else None) ≡ Some c → c.replies ≡ a.replies
+    queue u false z = no_array c z
+    queue u true z = took (record a { units = with_unit a.units (record u { waiting = u.waiting ++ p ∷ [] }) }) z refl
+
+    either : (u : UnitState) (y : Bool) → (if y then Some (Steps.with_guest a p None) else Steps.queue_step a p u) ≡ Some c → c.replies ≡ a.replies
+    either u true z = took (Steps.with_guest a p None) z refl
+    either u false z = queue u (nat_lt (Steps.process_count u) u.depth) z
+
+    by : (o : Option UnitState) → Steps.accept_step_at a p o ≡ Some c → c.replies ≡ a.replies
+    by None z = took (Steps.with_guest a p None) z refl
+    by (Some u) z = either u (is_request_sense (command_of p.cdb)) z
+
+end_lists : (a c : Array) (status : ℕ) (o : Option RunningProcess) → Steps.end_step a status o ≡ Some c → c.replies ≡ a.replies
+end_lists a c status None e = no_array c e
+end_lists a c status (Some r) e = given r.reply e
+  where
+    kept : (reply : Reply) (y z : Bool) → (if y then record a { senses = (nexus_of r.process, reply.sense) ∷ senses_without a.senses (nexus_of r.process); holds = nexus_of r.process ∷ nexuses_without a.holds (nexus_of r.process) } else if z then record a { senses = senses_without a.senses (nexus_of r.process); holds = nexuses_without a.holds (nexus_of r.process) } else a).replies ≡ a.replies
+    kept reply true z = refl
+    kept reply false true = refl
+    kept reply false false = refl
+
+    ended : (reply : Reply) (y : Bool) → (if y then Some (Steps.array_without (Steps.after_status a r.process reply) r.process.id) else None) ≡ Some c → c.replies ≡ a.replies
+    ended reply false z = no_array c z
+    ended reply true z = ap (λ (x : Array). x.replies) (sym (same_Some (Steps.array_without (Steps.after_status a r.process reply) r.process.id) c z)) ∙ kept reply (reply.status == CHECK_CONDITION) (reply.status == GOOD && is_request_sense (command_of r.process.cdb))
+
+    given : (o : Option Reply) → Steps.end_step_with a r.process status o ≡ Some c → c.replies ≡ a.replies
+    given None z = no_array c z
+    given (Some reply) z = ended reply (reply.status == status) z
+
+loss_lists : (a c : Array) (id : ProcId) → Steps.loss_step a id ≡ Some c → c.replies ≡ a.replies
+loss_lists a c id e = go (Steps.has_ended a id) e
+  where
+    go : (y : Bool) → (if y then None else Some (Steps.array_without a id)) ≡ Some c → c.replies ≡ a.replies
+    go true z = no_array c z
+    go false z = ap (λ (x : Array). x.replies) (sym (same_Some (Steps.array_without a id) c z))
+
+-- The step of an event, before the choices that follow it.
+settles : (o : Option Array) (a b : Array) → ((c : Array) → o ≡ Some c → c.replies ≡ a.replies) → Steps.settled_array_if o ≡ Some b → b.replies ≡ a.replies
+settles None a b f e = no_array b e
+settles (Some c) a b f e = ap (λ (x : Array). x.replies) (sym (same_Some (settled_array c) b e)) ∙ f c refl
+
+pub reply_kept : (s : ScenarioValue) (a b : Array) (e : Event) (id : ProcId) → replies_to e id ≡ false → Steps.step s e a ≡ Some b → reply_in b.replies id ≡ reply_in a.replies id
+reply_kept s a b (events.Accept p) id f st = ap (λ (x : List (ProcId × Reply)). reply_in x id) (settles (Steps.accept_step a (process_of s p)) a b (λ c z. accept_lists a c (process_of s p) z) st)
+reply_kept s a b (events.Refuse p) id f st = (same_after s a b (events.Refuse p) id f st).reply
+reply_kept s a b (events.Run p) id f st = (same_after s a b (events.Run p) id f st).reply
+reply_kept s a b (events.Fail p code) id f st = (same_after s a b (events.Fail p code) id f st).reply
+reply_kept s a b (events.End p status) id f st = ap (λ (x : List (ProcId × Reply)). reply_in x id) (settles (Steps.end_step a status (Steps.running_process a p)) a b (λ c z. end_lists a c status (Steps.running_process a p) z) st)
+reply_kept s a b (events.Lost p) id f st = ap (λ (x : List (ProcId × Reply)). reply_in x id) (settles (Steps.loss_step a p) a b (λ c z. loss_lists a c p z) st)
+reply_kept s a b (events.Aborted i t n what) id f st = (same_after s a b (events.Aborted i t n what) id refl st).reply
+reply_kept s a b (events.Reset dev) id f st = (same_after s a b (events.Reset dev) id refl st).reply
+
+pub replies_kept : (s : ScenarioValue) (a b : Array) (shown : List Event) (id : ProcId) → OnEvents (λ e. replies_to e id ≡ false) shown → array_after_events s (Some a) shown ≡ Some b → reply_in b.replies id ≡ reply_in a.replies id
+replies_kept s a b [] id f st = ap (λ (x : Array). reply_in x.replies id) (sym (same_Some a b st))
+replies_kept s a b (e ∷ shown) id f st = go (array_after_events s (Some a) shown) refl st (λ c z. replies_kept s a c shown id f.1 z)
+  where
+    go : (o : Option Array) → array_after_events s (Some a) shown ≡ o → array_step s e o ≡ Some b → ((c : Array) → array_after_events s (Some a) shown ≡ Some c → reply_in c.replies id ≡ reply_in a.replies id) → reply_in b.replies id ≡ reply_in a.replies id
+    go None z w rest = no_step s e b w
+    go (Some c) z w rest = reply_kept s c b e id f.0 w ∙ rest c z

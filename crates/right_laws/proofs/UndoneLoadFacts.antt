@@ -1,0 +1,217 @@
+-- What MESSAGE PARITY ERROR brings back are the bytes that the process has, after any rows of a prompt trace (6.6.13).
+use Rattle.std.proofs.Common.{inl, inr, ℕ, ◌≡◌, ◌<◌, Bool, true, false, not, ◌&&◌, ◌%◌, ◌∙◌, List, [], ◌∷◌, ◌++◌, Option, Some, None, refl, sym, ap}
+use Rattle.std.specs.Prelude.{if◌then◌else◌, is_some}
+use Rattle.bus_trace.specs.LineSet.{LineSet}
+use Rattle.bus_trace.specs.declared.Row.{Row}
+use Rattle.bus_trace.specs.declared.changes.Change.{Change}
+use Rattle.bus_trace.specs.declared.connection.Connection.{Connection}
+use Rattle.bus_trace.specs.Changes.{change_of}
+use Rattle.bus_trace.specs.Phases.{changes_phase, is_message_out, is_message_in}
+use Rattle.bus_trace.specs.Terms.{is_fault, connection, connection_after, receiver_in}
+use Rattle.bus_trace.specs.Trace.{bus}
+use Rattle.bus_lines.specs.Handshakes.{Handshakes, handshakes_after}
+use Rattle.msg_grammar.specs.Messages.{got_out}
+use Rattle.bus_phases.specs.Dialogue.{fresh_bytes}
+use Rattle.scenario.specs.Value.{ScenarioValue}
+use Rattle.scenario.specs.Writing.{Obeys}
+use Rattle.bus_story.specs.BusState.{RowReading, row_reading, whole_out}
+use Rattle.bus_story.specs.CarriedBytes.{CarriedBytes}
+use Rattle.bus_story.specs.HistoryEvents.{row_events_by}
+use Rattle.bus_story.specs.TraceHistory.{story_on_bus, story_by_change}
+use Rattle.bus_dialogue.specs.declared.exchange.Cause.{Cause}
+use Rattle.bus_dialogue.specs.declared.exchange.Cause.TheVariants as causes
+use Rattle.bus_dialogue.specs.declared.exchange.Phase.{Phase}
+use Rattle.bus_dialogue.specs.declared.exchange.Phase.TheVariants as phases
+use Rattle.bus_dialogue.specs.declared.exchange.Plan.{Plan}
+use Rattle.bus_dialogue.specs.NextPhase.{phase_of}
+use Rattle.bus_due.specs.Next.{IsPrompt}
+use Rattle.bus_due.specs.Plain.{IsPlain, AreOfDevices}
+use Rattle.bus_due.specs.RunState.{RunState, bus_of}
+use Rattle.bus_due.specs.RunSteps.{run_state, run_state_after}
+use Rattle.bus_due.proofs.Plains.{run_state_plain}
+use Rattle.bus_laws.proofs.Apart.{change_plain}
+use Rattle.bus_laws.proofs.Prompt.{least_is}
+use Rattle.bus_books.specs.Knowing.{Knows}
+use Rattle.bus_books.specs.Rows.{RowKind, still, strikes, crosses, turns}
+use Rattle.bus_books.specs.Traces.{GoesOn}
+use Rattle.bus_books.proofs.Gives.{requests_stay, struck_same}
+use Rattle.bus_books.proofs.InConnection.{in_connection, reading_is}
+use Rattle.bus_books.proofs.Knows.{events_link}
+use Rattle.trace_laws.specs.Tells.{UndoAsked, UndoBy}
+use Rattle.right_laws.specs.Loads.{UndoesLoads, UndoKeeps, UndoLoads, UndoLoadFacts}
+use Rattle.trace_laws.proofs.BlockRows.{undo_of}
+use Rattle.trace_laws.proofs.CommandFirst.{undo_first}
+use Rattle.trace_laws.proofs.ConnectionRows.{ConnectionRow, GoingRow, connection_row, going_row, stage_of_connection, RowKindOf, begins_now, goes_now, row_kind}
+use Rattle.trace_laws.proofs.Joint.{Stood, NextStood, link_phase}
+use Rattle.trace_laws.proofs.UndoneFacts.{in_of}
+use Rattle.bus_books.proofs.Gives.{in_io}
+use Rattle.trace_laws.proofs.UndoneRows.{first_whole}
+use Rattle.right_laws.proofs.UndoneLoadStays.{row_undoes, stays_by}
+use Rattle.right_laws.proofs.UndoneLoadTurns.{turn_keeps}
+use Rattle.right_laws.proofs.UndoneLoads.{loads_stay_in, fits_heard}
+
+wrong : {A : Type 0} → true ≡ false → A
+wrong e = absurd cc
+
+wrong' : {A : Type 0} → false ≡ true → A
+wrong' e = absurd cc
+
+none_some : {A : Type 0} (n : Connection) → (let o : Option Connection = None in o) ≡ Some n → A
+none_some n e = absurd cc
+
+no_bytes : {A : Type 0} (u : CarriedBytes) → (let o : Option CarriedBytes = None in o) ≡ Some u → A
+no_bytes u e = absurd cc
+
+-- ---- before any row, and the first row of a connection
+
+pub load_start : (s : ScenarioValue) → UndoLoadFacts s []
+load_start s n e calm = none_some n e
+
+all_by : (fits : Type 0) (p : Plan) (x : ℕ) (phase : Phase) → fits → UndoBy fits p x phase
+all_by fits p x phases.MessageOut h = asked p.cause
+  where
+    asked : (cause : Cause) → UndoAsked fits cause
+    asked causes.Selected = h
+    asked causes.InMessage = h
+    asked causes.InData = tt
+    asked causes.InStatus = tt
+all_by fits p x phases.MessageIn h = inl h
+all_by fits p x phases.Command h = tt
+all_by fits p x phases.DataIn h = tt
+all_by fits p x phases.DataOut h = tt
+all_by fits p x phases.Status h = tt
+
+undo_begins : (s : ScenarioValue) (p : List Row) (row : Row) (n : Connection) → AreOfDevices p → row.dev < 8 → connection p ≡ None → connection (row ∷ p) ≡ Some n → (bus (row ∷ p)).rst ≡ false → UndoLoads (run_state s (row ∷ p))
+undo_begins s p row n dv lt alone after calm = record { unbegun = λ b. fits; begun = λ b. all_by (UndoKeeps j) j.exchange.plan j.handshakes.requests (phase_of (bus_of j)) fits }
+  where
+    k : RunState
+    k = run_state s p
+
+    j : RunState
+    j = run_state s (row ∷ p)
+
+    pl : IsPlain s p k
+    pl = run_state_plain s p dv
+
+    change : (row_reading k.story.bus_state row).change ≡ change_of p row
+    change = change_plain s row p dv lt
+
+    con : k.story.bus_state.connection ≡ None
+    con = pl.connection ∙ alone
+
+    next : (row_reading k.story.bus_state row).next ≡ Some n
+    next = (λ i. connection_after (pl.connection i) (pl.call i) (change i) row) ∙ after
+
+    off : (row_reading k.story.bus_state row).change.after.rst ≡ false
+    off = ap (λ (x : Change). x.after.rst) change ∙ calm
+
+    none : undo_of j.story.link ≡ None
+    none =
+        ap undo_of (events_link s (story_by_change s k.story (row_reading k.story.bus_state row) row) (row_events_by s k.story (row_reading k.story.bus_state row) row))
+        ∙ ap (λ (q : Bool). undo_of (if q then record k.story { link = None } else story_on_bus s k.story k.story.bus_state.connection (row_reading k.story.bus_state row).next (row_reading k.story.bus_state row) row).link) off
+        ∙ (λ i. undo_of (story_on_bus s k.story (con i) (next i) (row_reading k.story.bus_state row) row).link)
+        ∙ undo_first k.story n
+
+    fits : UndoKeeps j
+    fits l u el eu = no_bytes u (sym (sym (ap undo_of el) ∙ none) ∙ eu)
+
+-- ---- a row of a connection
+
+message_msg : (b : LineSet) → is_message_in b ≡ true → b.msg ≡ true
+message_msg b e = go b.msg b.cd b.io e
+  where
+    go : (m d o : Bool) → (m && d && o) ≡ true → m ≡ true
+    go true d o z = refl
+    go false d o z = wrong' z
+
+out_in : (b : LineSet) → is_message_in b ≡ true → is_message_out b ≡ false
+out_in b e = (λ i. b.msg && b.cd && not (in_io b e i)) ∙ go (b.msg && b.cd)
+  where
+    go : (q : Bool) → (q && false) ≡ false
+    go true = refl
+    go false = refl
+
+goes_keeps : (s : ScenarioValue) (p : List Row) (row : Row) (n : Connection) → AreOfDevices p → row.dev < 8 → Stood s p → NextStood s p row → ConnectionRow s p row n → GoingRow s p row n → UndoesLoads (run_state s p) row → connection (row ∷ p) ≡ Some n → (bus (row ∷ p)).rst ≡ false → UndoLoads (run_state s p) → UndoLoads (run_state s (row ∷ p))
+goes_keeps s p row n dv lt was next r g undoes after calm h = go g.goes.row_is.kind
+  where
+    k : RunState
+    k = run_state s p
+
+    j : RunState
+    j = run_state_after s k row
+
+    c : Change
+    c = g.change
+
+    pl : IsPlain s p k
+    pl = run_state_plain s p dv
+
+    of : GoesOn s k row n c
+    of = g.goes
+
+    knows : Knows s k n
+    knows = was.books.knows n of.row_is.connection_is of.calm
+
+    here : phase_of (bus_of k) ≡ phases.MessageIn → is_message_in c.before ≡ true
+    here e = ap is_message_in (sym of.row_is.bus_is) ∙ in_of (bus_of k) e (λ m. (of.phase m).0)
+
+    go : RowKind row n c → UndoLoads j
+    go (still ef ep er) =
+        let none : is_some (receiver_in n c) ≡ false = ap (λ (z : Option ℕ). is_some z) er in
+        let i = in_connection s k row n c false false (is_fault row.kind) of.row_is ep none refl in
+        stays_by s k row n c false knows.link of.row_is ep none knows.link_is undoes (λ z. wrong' z)
+        (λ b e zero short. inr (ap (λ (x : Handshakes). x.requests) i.handshakes_is ∙ ap (λ (q : Bool). (handshakes_after q (Some n) c row.time k.handshakes).requests) ef ∙ requests_stay n c row.time k.handshakes ep (in_io c.before (here e)) er ∙ zero)) h
+    go (strikes ef ep er) =
+        let none : is_some (receiver_in n c) ≡ false = ap (λ (z : Option ℕ). is_some z) er in
+        let i = in_connection s k row n c false false (is_fault row.kind) of.row_is ep none refl in
+        stays_by s k row n c false knows.link of.row_is ep none knows.link_is undoes (λ z. wrong' z)
+        (λ b e zero short. inr (ap (λ (x : Handshakes). x.requests) i.handshakes_is ∙ ap (λ (q : Bool). (handshakes_after q (Some n) c row.time k.handshakes).requests) ef ∙ struck_same c.before.io k.handshakes ∙ zero)) h
+    go (crosses dev ef ep er) =
+        let there : is_some (receiver_in n c) ≡ true = ap (λ (z : Option ℕ). is_some z) er in
+        let begun : k.exchange.begun ≡ true = of.begun (ap (λ (d : RowReading). d.crosses) (reading_is k row n c true of.row_is there)) in
+        stays_by s k row n c true knows.link of.row_is ep there knows.link_is undoes (λ z. begun)
+        (λ b e zero short.
+        let given = (was.books.gives n of.row_is.connection_is of.calm).in_message_in b (ap is_message_in of.row_is.bus_is ∙ here e) in
+        let m = first_whole k c given zero short (of.gives (here e) there).0 (here e) in
+        inl (fits_heard s k row n c knows.link m.message of.row_is there knows.link_is (loads_stay_in s k row n c true of.row_is there (λ z. message_msg c.before (here e)) undoes) (ap (λ (q : Bool). if q then whole_out (got_out (fresh_bytes k.story.bus_state.dialogue ++ c.after.data_bits % 256 ∷ [])) else None) (out_in c.before (here e))) m.is)) h
+    go (turns ef ep er) =
+        let stage = stage_of_connection s (row ∷ p) n next.stood after calm in
+        let is = g.lines_are in
+        turn_keeps s k row n c knows.link
+        (record {
+          goes = of;
+          lines = ef;
+          turns = ep;
+          silent = er;
+          link_is = knows.link_is;
+          undoes = undoes;
+          known = λ z. ap (λ (x : Change). x.after.cd) g.change_is ∙ (link_phase s (row ∷ p) n stage (ap (λ (x : Change). x.after.msg) (sym g.change_is) ∙ z)).0;
+          whereto = λ b. g.lines.whereto (ap changes_phase is ∙ ep) (sym pl.begun ∙ b) ∙ ap (λ (x : Change). Some (phase_of x.after)) is;
+          speaks = was.books.speaks n of.row_is.connection_is of.calm;
+        }) h
+
+-- ---- any row
+
+books_of : (s : ScenarioValue) (p : List Row) → AreOfDevices p → UndoLoadFacts s p → (n : Connection) → (run_state s p).story.bus_state.connection ≡ Some n → (bus_of (run_state s p)).rst ≡ false → UndoLoads (run_state s p)
+books_of s p dv h n con calm =
+    let pl = run_state_plain s p dv in
+    h n (sym pl.connection ∙ con) (ap (λ (l : LineSet). l.rst) (sym pl.bus) ∙ calm)
+
+pub load_asks : (s : ScenarioValue) (p : List Row) (row : Row) → Stood s p → NextStood s p row → UndoLoadFacts s p → UndoesLoads (run_state s p) row
+load_asks s p row was next h = row_undoes s (run_state s p) row was.books (books_of s p was.standing.devices h) next.row_is
+
+pub load_next : (s : ScenarioValue) (p : List Row) (row : Row) → Obeys s → IsPrompt s (row ∷ p) → Stood s p → NextStood s p row → UndoLoadFacts s p → UndoLoadFacts s (row ∷ p)
+load_next s p row o prompt was next h n after calm = go (row_kind s p row n o prompt was after calm)
+  where
+    dv : AreOfDevices p
+    dv = was.standing.devices
+
+    lt : row.dev < 8
+    lt = (least_is s p row prompt.1).inside
+
+    go : RowKindOf s p row n → UndoLoads (run_state s (row ∷ p))
+    go (begins_now alone f) = undo_begins s p row n dv lt alone after calm
+    go (goes_now con off) =
+        let r = connection_row s p row n o prompt was con off calm in
+        let g = going_row s p row n dv lt con after calm next.row_is r.facts in
+        goes_keeps s p row n dv lt was next r g (load_asks s p row was next h) after calm (h n con off)

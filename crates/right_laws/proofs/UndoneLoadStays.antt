@@ -1,0 +1,149 @@
+-- What MESSAGE PARITY ERROR brings back are the bytes that the process has: where it may come, and as a phase stays (6.6.13).
+use Rattle.std.proofs.Common.{inl, inr, ℕ, ◌≡◌, ◌⊎◌, Bool, true, false, not, ◌&&◌, ◌%◌, ◌∙◌, [], ◌∷◌, ◌++◌, Option, Some, None, refl, sym, ap, subst}
+use Rattle.std.specs.Prelude.{if◌then◌else◌, is_some}
+use Rattle.bus_trace.specs.LineSet.{LineSet}
+use Rattle.bus_trace.specs.declared.Row.{Row}
+use Rattle.bus_trace.specs.declared.changes.Change.{Change}
+use Rattle.bus_trace.specs.declared.connection.Connection.{Connection}
+use Rattle.bus_trace.specs.Phases.{changes_phase, is_message_out}
+use Rattle.bus_trace.specs.Terms.{is_fault, receiver_in, receiver_of}
+use Rattle.bus_phases.specs.Dialogue.{fresh_bytes}
+use Rattle.msg_grammar.specs.declared.message.MsgOut.{MsgOut}
+use Rattle.msg_grammar.specs.Messages.{got_out}
+use Rattle.scenario.specs.Value.{ScenarioValue}
+use Rattle.bus_story.specs.BusState.{RowReading, row_reading, whole_out, message_out}
+use Rattle.bus_story.specs.Links.{Link}
+use Rattle.bus_dialogue.specs.declared.exchange.Cause.{Cause}
+use Rattle.bus_dialogue.specs.declared.exchange.Cause.TheVariants as causes
+use Rattle.bus_dialogue.specs.declared.exchange.Messages.{Messages}
+use Rattle.bus_dialogue.specs.declared.exchange.Phase.{Phase}
+use Rattle.bus_dialogue.specs.declared.exchange.Phase.TheVariants as phases
+use Rattle.bus_dialogue.specs.declared.exchange.Plan.{Plan}
+use Rattle.bus_dialogue.specs.Exchange.{Exchange}
+use Rattle.bus_dialogue.specs.NextPhase.{phase_of}
+use Rattle.bus_due.specs.RunState.{RunState, bus_of, carried_here}
+use Rattle.bus_due.specs.RunSteps.{run_state_after}
+use Rattle.bus_books.specs.Rows.{IsRowIn}
+use Rattle.bus_books.specs.Speaking.{Speaks}
+use Rattle.bus_books.specs.Traces.{GoesOn, RowOf, apart as row_apart, begins, goes_on, ends, under_reset, Books}
+use Rattle.bus_books.proofs.InConnection.{InConnection, in_connection, reading_is}
+use Rattle.trace_laws.specs.Tells.{UndoAsked, UndoBy, is_short}
+use Rattle.trace_laws.proofs.CommandCounts.{is_refusal}
+use Rattle.trace_laws.proofs.UndoneLeavings.{is_detecting}
+use Rattle.trace_laws.proofs.UndoneAnswers.{detects, asked_fits, same_phase_of, SamePlan, plan_stays}
+use Rattle.trace_laws.proofs.PhaseLines.{out_phase}
+use Rattle.right_laws.specs.Loads.{load, UndoesLoads, UndoKeeps, UndoLoads}
+use Rattle.right_laws.proofs.UndoneLoads.{loads_stay_in, fits_on}
+
+wrong : {A : Type 0} → true ≡ false → A
+wrong e = absurd cc
+
+wrong' : {A : Type 0} → false ≡ true → A
+wrong' e = absurd cc
+
+none_some : {A : Type 0} (n : Connection) → (let o : Option Connection = None in o) ≡ Some n → A
+none_some n e = absurd cc
+
+no_message : {A : Type 0} (m : MsgOut) → (let o : Option MsgOut = None in o) ≡ Some m → A
+no_message m e = absurd cc
+
+-- ---- where MESSAGE PARITY ERROR may come
+
+crosses_undoes : (s : ScenarioValue) (k : RunState) (row : Row) (n : Connection) (c : Change) → GoesOn s k row n c → Speaks s k n → is_some (receiver_in n c) ≡ true → UndoLoads k → UndoesLoads k row
+crosses_undoes s k row n c g speaks there h l m u el eo parity eu = go (is_message_out c.before) refl
+  where
+    out : message_out k.story.bus_state.dialogue c true ≡ Some m
+    out = ap (λ (d : RowReading). d.out) (sym (reading_is k row n c true g.row_is there)) ∙ eo
+
+    begun : k.exchange.begun ≡ true
+    begun = g.begun (ap (λ (d : RowReading). d.crosses) (reading_is k row n c true g.row_is there))
+
+    go : (q : Bool) → is_message_out c.before ≡ q → load u ≡ load (carried_here k u.id)
+    go false e = no_message m (sym (λ i. if e i then whole_out (got_out (fresh_bytes k.story.bus_state.dialogue ++ c.after.data_bits % 256 ∷ [])) else None) ∙ out)
+    go true e =
+        let here : UndoAsked (UndoKeeps k) k.exchange.plan.cause = subst (λ (p : Phase). UndoBy (UndoKeeps k) k.exchange.plan k.handshakes.requests p) (ap phase_of g.row_is.bus_is ∙ out_phase c.before e) (h.begun begun) in
+        by (is_detecting k.exchange.plan.cause) refl here
+      where
+        by : (q : Bool) → is_detecting k.exchange.plan.cause ≡ q → UndoAsked (UndoKeeps k) k.exchange.plan.cause → load u ≡ load (carried_here k u.id)
+        by false z w = asked_fits (UndoKeeps k) k.exchange.plan.cause z w l u el eu
+        by true z w = wrong (sym parity ∙ ap is_refusal (sym out) ∙ detects s k n c speaks begun g.row_is.bus_is e (g.says e there).0 z)
+
+silent_undoes : (k : RunState) (row : Row) → (row_reading k.story.bus_state row).crosses ≡ false → UndoesLoads k row
+silent_undoes k row e l m u el eo parity eu = no_message m (sym (ap (λ (q : Bool). message_out k.story.bus_state.dialogue (row_reading k.story.bus_state row).change q) e) ∙ eo)
+
+pub row_undoes : (s : ScenarioValue) (k : RunState) (row : Row) → Books s k → ((n : Connection) → k.story.bus_state.connection ≡ Some n → (bus_of k).rst ≡ false → UndoLoads k) → RowOf s k row → UndoesLoads k row
+row_undoes s k row books h (row_apart con next) = silent_undoes k row (ap (λ (o : Option Connection). is_some (receiver_of o (row_reading k.story.bus_state row).change)) con)
+row_undoes s k row books h (begins n b) = silent_undoes k row (ap (λ (o : Option Connection). is_some (receiver_of o (row_reading k.story.bus_state row).change)) b.first.connection_is)
+row_undoes s k row books h (ends n e) = silent_undoes k row e.carries_none
+row_undoes s k row books h (under_reset on none) = silent_undoes k row none
+row_undoes s k row books h (goes_on n c g) = go (is_some (receiver_in n c)) refl
+  where
+    go : (q : Bool) → is_some (receiver_in n c) ≡ q → UndoesLoads k row
+    go true e = crosses_undoes s k row n c g (books.speaks n g.row_is.connection_is g.calm) e (h n g.row_is.connection_is g.calm)
+    go false e = silent_undoes k row (ap (λ (d : RowReading). d.crosses) (reading_is k row n c false g.row_is e))
+
+-- ---- the phase stays
+
+abbrev is_message : Phase → Bool
+is_message phases.MessageOut = true
+is_message phases.MessageIn = true
+is_message _ = false
+
+on_phase : (a b : Type 0) (p q : Plan) (x y : ℕ) (phase : Phase) → (is_message phase ≡ true → a → b) → q.cause ≡ p.cause → (phase ≡ phases.MessageIn → x ≡ 0 → is_short p.messages.first ≡ true → b ⊎ ((y ≡ 0) × (is_short q.messages.first ≡ true))) → UndoBy a p x phase → UndoBy b q y phase
+on_phase a b p q x y phases.MessageOut f e g h = subst (UndoAsked b) (sym e) (asked p.cause h)
+  where
+    asked : (cause : Cause) → UndoAsked a cause → UndoAsked b cause
+    asked causes.Selected w = f refl w
+    asked causes.InMessage w = f refl w
+    asked causes.InData w = tt
+    asked causes.InStatus w = tt
+on_phase a b p q x y phases.MessageIn f e g (inl h) = inl (f refl h)
+on_phase a b p q x y phases.MessageIn f e g (inr h) = g refl h.0 h.1
+on_phase a b p q x y phases.Command f e g h = tt
+on_phase a b p q x y phases.DataIn f e g h = tt
+on_phase a b p q x y phases.DataOut f e g h = tt
+on_phase a b p q x y phases.Status f e g h = tt
+
+pub stays_by : (s : ScenarioValue) (k : RunState) (row : Row) (n : Connection) (c : Change) (now : Bool) (l : Link) → IsRowIn k row n c → changes_phase c ≡ false → is_some (receiver_in n c) ≡ now → k.story.link ≡ Some l → UndoesLoads k row → (now ≡ true → k.exchange.begun ≡ true)
+    → (k.exchange.begun ≡ true → phase_of (bus_of k) ≡ phases.MessageIn → k.handshakes.requests ≡ 0 → is_short k.exchange.plan.messages.first ≡ true → UndoKeeps (run_state_after s k row) ⊎ ((run_state_after s k row).handshakes.requests ≡ 0))
+    → UndoLoads k → UndoLoads (run_state_after s k row)
+stays_by s k row n c now l r ep en link undoes crosses first h = record {
+  unbegun = λ b. fits (λ z. wrong (sym (crosses z) ∙ sym begun ∙ b)) (h.unbegun (sym begun ∙ b));
+  begun = λ b.
+      subst (λ (p : Phase). UndoBy (UndoKeeps j) j.exchange.plan j.handshakes.requests p) (sym phase)
+      (on_phase (UndoKeeps k) (UndoKeeps j) k.exchange.plan j.exchange.plan k.handshakes.requests j.handshakes.requests (phase_of (bus_of k)) (λ z. fits (λ w. ap (λ (x : LineSet). x.msg) (sym r.bus_is) ∙ message (bus_of k) z)) plan.cause
+      (λ e zero short. told (first (sym begun ∙ b) e zero short) short) (h.begun (sym begun ∙ b)));
+}
+  where
+    j : RunState
+    j = run_state_after s k row
+
+    i : InConnection s k row n c false now (is_fault row.kind)
+    i = in_connection s k row n c false now (is_fault row.kind) r ep en refl
+
+    begun : j.exchange.begun ≡ k.exchange.begun
+    begun = ap (λ (x : Exchange). x.begun) i.exchange_is
+
+    fits : (now ≡ true → c.before.msg ≡ true) → UndoKeeps k → UndoKeeps j
+    fits silent = fits_on s k row n c now l r en link (loads_stay_in s k row n c now r en silent undoes)
+
+    message : (b : LineSet) → is_message (phase_of b) ≡ true → b.msg ≡ true
+    message b e = by b.msg b.cd b.io e
+      where
+        by : (m d o : Bool) → is_message (if m then (if o then phases.MessageIn else phases.MessageOut) else if d then (if o then phases.Status else phases.Command) else if o then phases.DataIn else phases.DataOut) ≡ true → m ≡ true
+        by true d o z = refl
+        by false true true z = wrong' z
+        by false true false z = wrong' z
+        by false false true z = wrong' z
+        by false false false z = wrong' z
+
+    phase : phase_of (bus_of j) ≡ phase_of (bus_of k)
+    phase = ap phase_of i.bus_is ∙ same_phase_of c ep ∙ ap phase_of (sym r.bus_is)
+
+    plan : SamePlan k.exchange.plan j.exchange.plan
+    plan = subst (λ (x : Plan). SamePlan k.exchange.plan x) (sym (ap (λ (x : Exchange). x.plan) i.exchange_is))
+        (plan_stays k.exchange.plan now (is_message_out c.before) k.story.bus_state.dialogue.is_last (is_fault row.kind && not c.before.io) (message_out k.story.bus_state.dialogue c now))
+
+    told : UndoKeeps j ⊎ (j.handshakes.requests ≡ 0) → is_short k.exchange.plan.messages.first ≡ true → UndoKeeps j ⊎ ((j.handshakes.requests ≡ 0) × (is_short j.exchange.plan.messages.first ≡ true))
+    told (inl w) short = inl w
+    told (inr w) short = inr (w, ap (λ (m : Messages). is_short m.first) plan.messages ∙ short)

@@ -1,0 +1,187 @@
+-- What MESSAGE PARITY ERROR brings back are the bytes that the process has: a phase is left for another (6.6.13).
+use Rattle.std.proofs.Common.{inl, inr, ℕ, ◌≡◌, ◌⊎◌, Bool, true, false, not, ◌==◌, ◌∙◌, Option, Some, None, refl, sym, ap, subst}
+use Rattle.std.specs.Prelude.{if◌then◌else◌, is_some}
+use Rattle.bus_trace.specs.LineSet.{LineSet}
+use Rattle.bus_trace.specs.declared.Row.{Row}
+use Rattle.bus_trace.specs.declared.changes.Change.{Change}
+use Rattle.bus_trace.specs.declared.connection.Connection.{Connection}
+use Rattle.bus_trace.specs.Changes.{change_of}
+use Rattle.bus_trace.specs.Phases.{changes_phase, is_message_out, is_message_in}
+use Rattle.bus_trace.specs.Terms.{is_fault, receiver_in}
+use Rattle.bus_lines.specs.Handshakes.{Handshakes, no_handshakes, handshakes_after, handshakes_on}
+use Rattle.scenario.specs.Value.{ScenarioValue}
+use Rattle.bus_story.specs.BusState.{row_reading}
+use Rattle.bus_story.specs.Links.{Link}
+use Rattle.bus_dialogue.specs.declared.exchange.Cause.TheVariants as causes
+use Rattle.bus_dialogue.specs.declared.exchange.Leaving.{Leaving}
+use Rattle.bus_dialogue.specs.declared.exchange.Messages.{Messages}
+use Rattle.bus_dialogue.specs.declared.exchange.Phase.{Phase}
+use Rattle.bus_dialogue.specs.declared.exchange.Phase.TheVariants as phases
+use Rattle.bus_dialogue.specs.declared.exchange.Plan.{Plan}
+use Rattle.bus_dialogue.specs.Exchange.{Exchange, plan_anew}
+use Rattle.bus_dialogue.specs.NextPhase.{Serving, phase_of, phase_leaving, leaving_by}
+use Rattle.bus_dialogue.specs.Planning.{cause_after, plan_in_message_out, plan_in_phase}
+use Rattle.bus_due.specs.RunState.{RunState, bus_of}
+use Rattle.bus_due.specs.RunSteps.{run_state_after}
+use Rattle.bus_due.specs.Sights.{serving_of, leaving, hearing_of}
+use Rattle.bus_books.specs.Hearing.{LeavesWhole}
+use Rattle.bus_books.specs.Rows.{reading_in}
+use Rattle.bus_books.specs.Speaking.{Speaks}
+use Rattle.bus_books.specs.Traces.{GoesOn}
+use Rattle.bus_books.proofs.InConnection.{InConnection, in_connection}
+use Rattle.trace_laws.specs.Tells.{UndoAsked, UndoBy, is_short}
+use Rattle.trace_laws.proofs.UndoneAnswers.{asked_fits}
+use Rattle.trace_laws.proofs.PhaseLines.{in_phase, out_phase}
+use Rattle.trace_laws.proofs.UndoneLeavings.{is_to_message_in, is_detecting, leaves_short}
+use Rattle.trace_laws.proofs.UndoneTurns.{not_out}
+use Rattle.trace_laws.proofs.PhaseLines.{out_lines}
+use Rattle.right_laws.specs.Loads.{UndoesLoads, UndoKeeps, UndoLoads}
+use Rattle.right_laws.proofs.UndoneLoads.{loads_stay_in, fits_on}
+
+wrong : {A : Type 0} → true ≡ false → A
+wrong e = absurd cc
+
+wrong' : {A : Type 0} → false ≡ true → A
+wrong' e = absurd cc
+
+none_some : {A : Type 0} (n : Connection) → (let o : Option Connection = None in o) ≡ Some n → A
+none_some n e = absurd cc
+
+-- ---- a phase is left for another
+
+detecting : (fits : Type 0) (before : LineSet) → is_message_in before ≡ false → UndoAsked fits (cause_after before)
+detecting fits before e = subst (UndoAsked fits) (ap (λ (q : Bool). if q then causes.InMessage else if before.cd then causes.InStatus else causes.InData) (sym e)) (go before.cd)
+  where
+    go : (q : Bool) → UndoAsked fits (if q then causes.InStatus else causes.InData)
+    go true = tt
+    go false = tt
+
+pub record TurnOf (s : ScenarioValue) (k : RunState) (row : Row) (n : Connection) (c : Change) (l : Link) : Type 0 where
+  pub goes : GoesOn s k row n c
+  pub lines : is_fault row.kind ≡ false
+  pub turns : changes_phase c ≡ true
+  pub silent : receiver_in n c ≡ None
+  pub link_is : k.story.link ≡ Some l
+  pub undoes : UndoesLoads k row
+  pub known : c.after.msg ≡ true → c.after.cd ≡ true
+  pub whereto : k.exchange.begun ≡ true → (leaving s k n.target).to ≡ Some (phase_of c.after)
+  pub speaks : Speaks s k n
+
+pub turn_keeps : (s : ScenarioValue) (k : RunState) (row : Row) (n : Connection) (c : Change) (l : Link) → TurnOf s k row n c l → UndoLoads k → UndoLoads (run_state_after s k row)
+turn_keeps s k row n c l t h = record {
+  unbegun = λ b. wrong (sym begun ∙ b);
+  begun = λ b. go k.exchange.begun refl;
+}
+  where
+    j : RunState
+    j = run_state_after s k row
+
+    none : is_some (receiver_in n c) ≡ false
+    none = ap (λ (z : Option ℕ). is_some z) t.silent
+
+    i : InConnection s k row n c true false false
+    i = in_connection s k row n c true false false t.goes.row_is t.turns none t.lines
+
+    begun : j.exchange.begun ≡ true
+    begun = ap (λ (x : Exchange). x.begun) i.exchange_is
+
+    v : Serving
+    v = serving_of s k n.target
+
+    plan : j.exchange.plan ≡ plan_in_phase (hearing_of k row (reading_in k.story.bus_state n c false)) (leaving s k n.target) k.exchange.plan
+    plan = ap (λ (x : Exchange). x.plan) i.exchange_is
+
+    asked : j.handshakes.requests ≡ 0
+    asked =
+        ap (λ (x : Handshakes). x.requests) i.handshakes_is
+        ∙ ap (λ (q : Bool). (handshakes_after q (Some n) c row.time k.handshakes).requests) t.lines
+        ∙ ap (λ (q : Bool). (if q then no_handshakes else Rattle.bus_lines.specs.Handshakes.answered_if (Rattle.bus_trace.specs.Changes.rises c.before.ack c.after.ack) row.time (Rattle.bus_lines.specs.Handshakes.asked_if (Rattle.bus_trace.specs.Changes.rises c.before.req c.after.req) row.time k.handshakes)).requests) t.turns
+
+    change : changes_phase (row_reading k.story.bus_state row).change ≡ true
+    change = ap changes_phase t.goes.row_is.change_is ∙ t.turns
+
+    leaves : LeavesWhole s k n
+    leaves = t.goes.leaves change
+
+    quiet : UndoKeeps k → UndoKeeps j
+    quiet = fits_on s k row n c false l t.goes.row_is none t.link_is (loads_stay_in s k row n c false t.goes.row_is none (λ z. wrong' z) t.undoes)
+
+    at : (phase : Phase) → phase_of c.after ≡ phase → UndoBy (UndoKeeps j) j.exchange.plan j.handshakes.requests phase → UndoBy (UndoKeeps j) j.exchange.plan j.handshakes.requests (phase_of (bus_of j))
+    at phase e w = subst (λ (p : Phase). UndoBy (UndoKeeps j) j.exchange.plan j.handshakes.requests p) (sym (ap phase_of i.bus_is ∙ e)) w
+
+    -- MESSAGE OUT begins
+    first_out : k.exchange.begun ≡ false → UndoBy (UndoKeeps j) j.exchange.plan j.handshakes.requests (phase_of (bus_of j))
+    first_out b =
+        let out : is_message_out c.after ≡ true = sym (ap (λ (x : Change). is_message_out x.after) t.goes.row_is.change_is) ∙ t.goes.first change b in
+        let cause : j.exchange.plan.cause ≡ causes.Selected =
+        ap (λ (x : Plan). x.cause) plan
+        ∙ (λ z. (if not (out z) then record (plan_anew k.exchange.plan) { messages = (leaving s k n.target).messages; next = (leaving s k n.target).next } else if b z then plan_in_message_out (hearing_of k row (reading_in k.story.bus_state n c false)) k.exchange.plan else plan_anew k.exchange.plan).cause)
+        ∙ (t.speaks.before_all b).cause_is in
+        at phases.MessageOut (out_phase c.after out) (subst (UndoAsked (UndoKeeps j)) (sym cause) (quiet (h.unbegun b)))
+
+    refused : k.exchange.begun ≡ true → phase_of c.after ≡ phases.MessageOut → UndoAsked (UndoKeeps j) j.exchange.plan.cause
+    refused b e =
+        let out = out_lines c.after e t.known in
+        let cause : j.exchange.plan.cause ≡ cause_after c.before =
+        ap (λ (x : Plan). x.cause) plan
+        ∙ (λ z. (if not (out z) then record (plan_anew k.exchange.plan) { messages = (leaving s k n.target).messages; next = (leaving s k n.target).next } else if b z then plan_in_message_out (hearing_of k row (reading_in k.story.bus_state n c false)) k.exchange.plan else plan_anew k.exchange.plan).cause) in
+        subst (UndoAsked (UndoKeeps j)) (sym cause) (by (is_message_in c.before) refl)
+      where
+        by : (q : Bool) → is_message_in c.before ≡ q → UndoAsked (UndoKeeps j) (cause_after c.before)
+        by false f = detecting (UndoKeeps j) c.before f
+        by true f =
+            let here : phase_of (bus_of k) ≡ phases.MessageIn = ap phase_of t.goes.row_is.bus_is ∙ in_phase c.before f in
+            subst (UndoAsked (UndoKeeps j)) (ap (λ (q : Bool). if q then causes.InMessage else if c.before.cd then causes.InStatus else causes.InData) (sym f))
+            (given here (subst (λ (p : Phase). UndoBy (UndoKeeps k) k.exchange.plan k.handshakes.requests p) here (h.begun b)))
+          where
+            given : phase_of (bus_of k) ≡ phases.MessageIn → UndoKeeps k ⊎ ((k.handshakes.requests ≡ 0) × (is_short k.exchange.plan.messages.first ≡ true)) → UndoKeeps j
+            given here (inl w) = quiet w
+            given here (inr w) = wrong (sym (ap (λ (x : ℕ). x == 0) w.0) ∙ leaves.some here)
+
+    heard : k.exchange.begun ≡ true → phase_of c.after ≡ phases.MessageIn → UndoKeeps j ⊎ ((j.handshakes.requests ≡ 0) × (is_short j.exchange.plan.messages.first ≡ true))
+    heard b e = by (phase_of (bus_of k)) refl
+      where
+        leaving_is : leaving s k n.target ≡ phase_leaving v (bus_of k).atn (phase_of (bus_of k))
+        leaving_is = λ z. leaving_by v (b z) (bus_of k)
+
+        messages : j.exchange.plan.messages ≡ (phase_leaving v (bus_of k).atn (phase_of (bus_of k))).messages
+        messages =
+            ap (λ (x : Plan). x.messages) plan
+            ∙ ap (λ (q : Bool). (if not q then record (plan_anew k.exchange.plan) { messages = (leaving s k n.target).messages; next = (leaving s k n.target).next } else if k.exchange.begun then plan_in_message_out (hearing_of k row (reading_in k.story.bus_state n c false)) k.exchange.plan else plan_anew k.exchange.plan).messages) (not_out c.after e)
+            ∙ ap (λ (x : Leaving). x.messages) leaving_is
+
+        to : is_to_message_in (phase_leaving v (bus_of k).atn (phase_of (bus_of k))).to ≡ true
+        to = ap (λ (x : Leaving). is_to_message_in x.to) (sym leaving_is) ∙ ap is_to_message_in (t.whereto b ∙ ap (λ (p : Phase). Some p) e)
+
+        short : (phase_of (bus_of k) ≡ phases.MessageOut → is_detecting k.exchange.plan.cause ≡ true) → UndoKeeps j ⊎ ((j.handshakes.requests ≡ 0) × (is_short j.exchange.plan.messages.first ≡ true))
+        short f = inr (asked, ap (λ (m : Messages). is_short m.first) messages ∙ leaves_short v (bus_of k).atn (phase_of (bus_of k)) f to)
+
+        is_out : Phase → Bool
+        is_out phases.MessageOut = true
+        is_out _ = false
+
+        said : phase_of (bus_of k) ≡ phases.MessageOut → (q : Bool) → is_detecting k.exchange.plan.cause ≡ q → UndoKeeps j ⊎ ((j.handshakes.requests ≡ 0) × (is_short j.exchange.plan.messages.first ≡ true))
+        said here true f = short (λ z. f)
+        said here false f =
+            inl (quiet
+            (asked_fits (UndoKeeps k) k.exchange.plan.cause f (subst (λ (p : Phase). UndoBy (UndoKeeps k) k.exchange.plan k.handshakes.requests p) here (h.begun b))))
+
+        by : (p : Phase) → phase_of (bus_of k) ≡ p → UndoKeeps j ⊎ ((j.handshakes.requests ≡ 0) × (is_short j.exchange.plan.messages.first ≡ true))
+        by phases.MessageOut z = said z (is_detecting k.exchange.plan.cause) refl
+        by phases.MessageIn z = short (λ w. wrong' (ap is_out (sym z ∙ w)))
+        by phases.Command z = short (λ w. wrong' (ap is_out (sym z ∙ w)))
+        by phases.DataIn z = short (λ w. wrong' (ap is_out (sym z ∙ w)))
+        by phases.DataOut z = short (λ w. wrong' (ap is_out (sym z ∙ w)))
+        by phases.Status z = short (λ w. wrong' (ap is_out (sym z ∙ w)))
+
+    go : (q : Bool) → k.exchange.begun ≡ q → UndoBy (UndoKeeps j) j.exchange.plan j.handshakes.requests (phase_of (bus_of j))
+    go false b = first_out b
+    go true b = by (phase_of c.after) refl
+      where
+        by : (p : Phase) → phase_of c.after ≡ p → UndoBy (UndoKeeps j) j.exchange.plan j.handshakes.requests (phase_of (bus_of j))
+        by phases.MessageOut e = at phases.MessageOut e (refused b e)
+        by phases.MessageIn e = at phases.MessageIn e (heard b e)
+        by phases.Command e = at phases.Command e tt
+        by phases.DataIn e = at phases.DataIn e tt
+        by phases.DataOut e = at phases.DataOut e tt
+        by phases.Status e = at phases.Status e tt

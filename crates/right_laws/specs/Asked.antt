@@ -1,0 +1,38 @@
+-- What is still asked of each row of a prompt trace, of a process that runs with it: the bytes that a write sends have come with it; and any
+-- other has carried the bytes that its reply gives.
+use Rattle.std.specs.Prelude.{◌≡◌, ◌≤◌, true, false, ◌&&◌, ◌==◌, List, [], ◌∷◌, length, Some, ⊤}
+use Rattle.bus_trace.specs.declared.Row.{Row}
+use Rattle.cdb_codec.specs.declared.status.TheConstants.{GOOD}
+use Rattle.scenario.specs.Value.{ScenarioValue}
+use Rattle.disk_array.specs.ArrayHistory.{reply_in}
+use Rattle.disk_array.specs.Execution.{Reply}
+use Rattle.disk_array.specs.Processes.{Process, process_of}
+use Rattle.scsi_device.specs.Writes.{is_of_size}
+use Rattle.bus_story.specs.BusState.{row_reading}
+use Rattle.bus_story.specs.HistoryEvents.{row_events_by}
+use Rattle.bus_story.specs.Right.{has_run}
+use Rattle.bus_due.specs.RunState.{RunState, array_of, carried_here}
+use Rattle.bus_due.specs.RunSteps.{run_state, run_state_after}
+use Rattle.bus_due.specs.Tasks.{is_writing}
+use Rattle.trace_laws.specs.WholeRuns.{bytes_come}
+
+-- It runs with the row, and this is its reply.
+pub record IsRunning (s : ScenarioValue) (k : RunState) (row : Row) (p : Process) (reply : Reply) : Type 0 where
+  pub runs : has_run (row_events_by s k.story (row_reading k.story.bus_state row) row) p.id ≡ true
+  pub process_is : process_of s p.id ≡ Some p
+  pub reply_is : reply_in (array_of s (run_state_after s k row)).replies p.id ≡ Some reply
+
+-- All that it sends came, where it writes and ends GOOD; and its unit keeps the size of its blocks.
+abbrev pub SendsAtRun : ScenarioValue → RunState → Row → Type 0
+SendsAtRun s k row =
+    (p : Process) (reply : Reply) → IsRunning s k row p reply → is_writing p ≡ true → (reply.status == GOOD) ≡ true → (length p.sent ≤ bytes_come s k p) × (is_of_size s k p ≡ true)
+
+-- Any other has carried the bytes of its reply.
+abbrev pub GivesAtRun : ScenarioValue → RunState → Row → Type 0
+GivesAtRun s k row =
+    (p : Process) (reply : Reply) → IsRunning s k row p reply → (is_writing p && reply.status == GOOD) ≡ false → (carried_here k p.id).moved.bytes ≡ reply.bytes
+
+-- Of all rows.
+abbrev pub AllMove : ScenarioValue → List Row → Type 0
+AllMove s [] = ⊤
+AllMove s (row ∷ rows) = AllMove s rows × SendsAtRun s (run_state s rows) row × GivesAtRun s (run_state s rows) row

@@ -1,0 +1,29 @@
+-- What holds of each process of the plain disk array that was not answered; and of each event of a history.
+use Rattle.std.specs.Prelude.{◌≡◌, List, [], ◌∷◌, None, Some, ⊤}
+use Rattle.bus_base.specs.declared.Event.{Event}
+use Rattle.bus_base.specs.declared.ProcId.{ProcId}
+use Rattle.bus_trace.specs.declared.Row.{Row}
+use Rattle.scenario.specs.Value.{ScenarioValue}
+use Rattle.disk_array.specs.ArrayHistory.{reply_in}
+use Rattle.disk_array.specs.Processes.{Process, process_of}
+use Rattle.disk_array.specs.Units.{RunningProcess, Array}
+use Rattle.bus_due.specs.RunState.{RunState, array_of, carried_here}
+use Rattle.bus_due.specs.RunSteps.{run_state}
+use Rattle.trace_laws.specs.Places.{Each}
+
+abbrev pub OnEvents : (Event → Type 0) → List Event → Type 0
+OnEvents q [] = ⊤
+OnEvents q (e ∷ history) = q e × OnEvents q history
+
+abbrev pub IfOpen : (ProcId → Type 0) → Array → RunningProcess → Type 0
+IfOpen h a r = reply_in a.replies r.process.id ≡ None → h r.process.id
+
+abbrev pub OnOpen : (ProcId → Type 0) → Array → Type 0
+OnOpen h a = Each (IfOpen h a) (IfOpen h a) a
+
+-- It has carried its whole command block.
+abbrev pub HasBlock : ScenarioValue → RunState → ProcId → Type 0
+HasBlock s k id = (p : Process) → process_of s id ≡ Some p → (carried_here k id).command.bytes ≡ p.cdb
+
+abbrev pub BlockFacts : ScenarioValue → List Row → Type 0
+BlockFacts s rows = OnOpen (HasBlock s (run_state s rows)) (array_of s (run_state s rows))

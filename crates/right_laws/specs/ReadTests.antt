@@ -1,0 +1,75 @@
+-- The same of the bytes, and of the pointers in DATA IN and outside a connection, as tests on what is kept.
+use Rattle.std.specs.Prelude.{ℕ, ◌+◌, Bool, true, false, not, ◌&&◌, ◌||◌, ◌==◌, List, [], ◌∷◌, length, Option, Some, None, is_some, nat_le}
+use Rattle.std.specs.List.{list_all}
+use Rattle.bus_trace.specs.declared.Row.{Row}
+use Rattle.bus_trace.specs.declared.connection.Connection.{Connection}
+use Rattle.cdb_codec.specs.declared.status.TheConstants.{GOOD}
+use Rattle.scenario.specs.Value.{ScenarioValue}
+use Rattle.scenario.specs.declared.value.CmdDef.{CmdDef}
+use Rattle.disk_array.specs.Processes.{Process, process_of}
+use Rattle.disk_array.specs.Units.{RunningProcess, UnitState}
+use Rattle.bus_story.specs.Items.{process, has_item}
+use Rattle.bus_dialogue.specs.declared.exchange.Phase.{Phase}
+use Rattle.bus_dialogue.specs.declared.exchange.Phase.TheVariants as phases
+use Rattle.bus_dialogue.specs.NextPhase.{phase_of}
+use Rattle.bus_due.specs.RunState.{RunState, array_of, bus_of, carried_here, process_served}
+use Rattle.bus_due.specs.RunSteps.{run_state_after}
+use Rattle.bus_due.specs.Tasks.{is_writing, reply_now}
+use Rattle.bus_books.specs.Accounts.{is_served_by}
+use Rattle.trace_laws.specs.DataPointers.{is_marked, run_start}
+use Rattle.right_laws.specs.Reads.{content_now}
+
+abbrev is_front : List ℕ → List ℕ → Bool
+is_front [] all = true
+is_front (b ∷ bytes) [] = false
+is_front (b ∷ bytes) (c ∷ all) = b == c && is_front bytes all
+
+abbrev is_given : ScenarioValue → RunState → Process → Bool
+is_given s k p =
+    is_front (carried_here k p.id).moved.bytes (content_now (array_of s k) p) && nat_le (carried_here k p.id).moved.active (length (carried_here k p.id).moved.bytes)
+    && nat_le (carried_here k p.id).moved.saved (length (carried_here k p.id).moved.bytes)
+    && (length (carried_here k p.id).moved.bytes == 0 || (reply_now (array_of s k) p).status == GOOD)
+
+abbrev is_given_if : ScenarioValue → RunState → Option RunningProcess → Bool
+is_given_if s k None = true
+is_given_if s k (Some r) = is_some r.reply || is_given s k r.process
+
+abbrev are_units_given : ScenarioValue → RunState → List UnitState → Bool
+are_units_given s k [] = true
+are_units_given s k (u ∷ units) = list_all (λ (p : Process). length (carried_here k p.id).moved.bytes == 0) u.waiting && is_given_if s k u.current && are_units_given s k units
+
+-- In DATA IN, of the process that is served.
+abbrev is_data_in : Phase → Bool
+is_data_in phases.DataIn = true
+is_data_in _ = false
+
+abbrev is_in_run : ScenarioValue → RunState → Option Process → Bool
+is_in_run s k None = true
+is_in_run s k (Some q) =
+    is_writing q || ((carried_here k q.id).moved.active == run_start s k q + k.handshakes.requests && (carried_here k q.id).moved.saved == run_start s k q)
+
+abbrev are_served_well : ScenarioValue → RunState → Option Connection → Bool
+are_served_well s k None = true
+are_served_well s k (Some n) = (bus_of k).rst || not k.exchange.begun || not (is_data_in (phase_of (bus_of k))) || is_in_run s k (process_served s k)
+
+-- Of each process that does not write, is not served and not over, and has shown no reply.
+abbrev is_waiting_if : ScenarioValue → RunState → Option Process → Bool
+is_waiting_if s k None = true
+is_waiting_if s k (Some q) =
+    is_writing q || is_served_by k.served q.id || has_item k.story.sent.over (process q.id) || is_marked (carried_here k q.id) || (carried_here k q.id).moved.saved == run_start s k q
+
+abbrev are_waiting : ScenarioValue → RunState → ℕ → List CmdDef → Bool
+are_waiting s k n [] = true
+are_waiting s k n (c ∷ commands) =
+    is_waiting_if s k (process_of s (record { command = n; sense = false })) && is_waiting_if s k (process_of s (record { command = n; sense = true }))
+    && are_waiting s k (n + 1) commands
+
+abbrev pub is_read_well : ScenarioValue → RunState → Bool
+is_read_well s k =
+    are_units_given s k (array_of s k).units && list_all (λ (r : RunningProcess). is_some r.reply || is_given s k r.process) (array_of s k).guests
+    && are_served_well s k k.story.bus_state.connection && are_waiting s k 1 s.commands
+
+-- After each row of a run, the oldest first.
+abbrev pub keep_reads : ScenarioValue → RunState → List Row → Bool
+keep_reads s k [] = is_read_well s k
+keep_reads s k (row ∷ rows) = is_read_well s k && keep_reads s (run_state_after s k row) rows

@@ -1,0 +1,62 @@
+-- What a process has carried of its status, by the phase of its connection: nothing before it has a reply; one byte once STATUS was given; and
+-- as STATUS comes again the pointer stands at its beginning (6.4, 6.6.5, 6.6.10, 6.6.19).
+use Rattle.std.specs.Prelude.{ℕ, ◌≡◌, ◌⊎◌, true, false, ◌==◌, List, [], ◌∷◌, Some, is_some, ⊤}
+use Rattle.bus_base.specs.declared.ProcId.{ProcId}
+use Rattle.bus_trace.specs.Terms.{connection}
+use Rattle.bus_trace.specs.Trace.{bus}
+use Rattle.bus_trace.specs.declared.Row.{Row}
+use Rattle.bus_trace.specs.declared.connection.Connection.{Connection}
+use Rattle.msg_grammar.specs.declared.message.MsgIn.TheVariants as to_initiator
+use Rattle.scenario.specs.Value.{ScenarioValue}
+use Rattle.disk_array.specs.ArrayHistory.{reply_in}
+use Rattle.bus_story.specs.CarriedBytes.{CarriedBytes}
+use Rattle.bus_story.specs.Items.{process}
+use Rattle.bus_dialogue.specs.declared.exchange.Cause.{Cause}
+use Rattle.bus_dialogue.specs.declared.exchange.Cause.TheVariants as causes
+use Rattle.bus_dialogue.specs.declared.exchange.Messages.{Messages}
+use Rattle.bus_dialogue.specs.declared.exchange.Next.{Next}
+use Rattle.bus_dialogue.specs.declared.exchange.Next.TheVariants as nexts
+use Rattle.bus_dialogue.specs.declared.exchange.Phase.{Phase}
+use Rattle.bus_dialogue.specs.declared.exchange.Phase.TheVariants as phases
+use Rattle.bus_dialogue.specs.declared.exchange.Plan.{Plan}
+use Rattle.bus_dialogue.specs.Exchange.{one_message}
+use Rattle.bus_dialogue.specs.NextPhase.{phase_of}
+use Rattle.bus_due.specs.RunState.{RunState, array_of, bus_of, carried_here}
+use Rattle.bus_due.specs.RunSteps.{run_state}
+
+abbrev pub HasOne : CarriedBytes → Type 0
+HasOne c = (status : ℕ) × (c.status.bytes ≡ status ∷ [])
+
+abbrev pub IsSmall : CarriedBytes → Type 0
+IsSmall c = (c.status.bytes ≡ []) ⊎ HasOne c
+
+-- A byte of STATUS would be the first, or come in its place.
+abbrev pub IsReady : CarriedBytes → Type 0
+IsReady c = (c.status.bytes ≡ []) ⊎ (HasOne c × (c.status.active ≡ 0))
+
+-- Where these messages are said, and this follows.
+pub record StatusSays (c : CarriedBytes) (m : Messages) (next : Next) : Type 0 where
+  pub completes : m ≡ one_message to_initiator.CommandComplete → HasOne c
+  pub again : next ≡ nexts.Status → (m ≡ one_message to_initiator.RestorePointers) × IsSmall c
+
+abbrev pub StatusAsked : CarriedBytes → Plan → Cause → Type 0
+StatusAsked c p causes.Selected = ⊤
+StatusAsked c p causes.InMessage = StatusSays c p.messages p.next
+StatusAsked c p causes.InData = ⊤
+StatusAsked c p causes.InStatus = HasOne c
+
+abbrev pub StatusBy : CarriedBytes → Plan → ℕ → Phase → Type 0
+StatusBy c p count phases.Status = ((count == 0) ≡ true → IsReady c) × ((count == 0) ≡ false → HasOne c)
+StatusBy c p count phases.MessageIn = StatusSays c p.messages p.next × (p.next ≡ nexts.Status → (count == 0) ≡ false → IsReady c)
+StatusBy c p count phases.MessageOut = StatusAsked c p p.cause
+StatusBy c p count phases.Command = ⊤
+StatusBy c p count phases.DataIn = ⊤
+StatusBy c p count phases.DataOut = ⊤
+
+abbrev pub StatusTalks : RunState → Type 0
+StatusTalks k =
+    (id : ProcId) → k.served ≡ Some (process id) → k.exchange.begun ≡ true → StatusBy (carried_here k id) k.exchange.plan k.handshakes.requests (phase_of (bus_of k))
+
+pub record StatusFacts (s : ScenarioValue) (rows : List Row) : Type 0 where
+  pub empty : (id : ProcId) → is_some (reply_in (array_of s (run_state s rows)).replies id) ≡ false → (carried_here (run_state s rows) id).status.bytes ≡ []
+  pub talks : (n : Connection) → connection rows ≡ Some n → (bus rows).rst ≡ false → StatusTalks (run_state s rows)

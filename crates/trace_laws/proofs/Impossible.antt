@@ -1,0 +1,14 @@
+-- What follows from two values that differ: anything.
+use Rattle.std.proofs.Common.{◌≡◌, true, false, Option, Some, None}
+
+pub wrong : {A : Type 0} → true ≡ false → A
+wrong e = absurd cc
+
+pub wrong' : {A : Type 0} → false ≡ true → A
+wrong' e = absurd cc
+
+pub none_some : {A X : Type 0} (x : X) → (let o : Option X = None in o) ≡ Some x → A
+none_some x e = absurd cc
+
+pub some_none : {A X : Type 0} (x : X) → Some x ≡ (let o : Option X = None in o) → A
+some_none x e = absurd cc

@@ -1,0 +1,136 @@
+-- What the lines MSG, C/D and I/O tell of the phase, and the phase of the lines (6.1.5).
+use Rattle.std.proofs.Common.{◌≡◌, Bool, true, false, not, ◌&&◌, Option, Some, refl, ap}
+use Rattle.std.specs.Prelude.{if◌then◌else◌}
+use Rattle.bus_trace.specs.LineSet.{LineSet}
+use Rattle.bus_trace.specs.Phases.{is_command, is_data, is_message_in, is_message_out}
+use Rattle.bus_dialogue.specs.declared.exchange.Phase.{Phase}
+use Rattle.bus_dialogue.specs.declared.exchange.Phase.TheVariants as phases
+use Rattle.bus_dialogue.specs.NextPhase.{phase_of}
+use Rattle.bus_story.specs.CarriedBytes.{is_status_phase}
+use Rattle.scsi_device.specs.Heard.{is_message}
+use Rattle.bus_books.specs.Hearing.{is_out_phase}
+use Rattle.bus_books.specs.Reactions.{is_command_phase}
+use Rattle.trace_laws.proofs.Impossible.{wrong'}
+
+abbrev pub is_data_out : Phase → Bool
+is_data_out phases.DataOut = true
+is_data_out _ = false
+
+abbrev pub is_status : Phase → Bool
+is_status phases.Status = true
+is_status _ = false
+
+abbrev pub is_data_phase : Phase → Bool
+is_data_phase phases.DataIn = true
+is_data_phase phases.DataOut = true
+is_data_phase _ = false
+
+abbrev pub is_out_next : Option Phase → Bool
+is_out_next (Some phases.MessageOut) = true
+is_out_next _ = false
+
+-- ---- the phase, by the lines
+
+pub in_phase : (b : LineSet) → is_message_in b ≡ true → phase_of b ≡ phases.MessageIn
+in_phase b e = go b.msg b.cd b.io e
+  where
+    go : (m d i : Bool) → (m && d && i) ≡ true → (if m then (if i then phases.MessageIn else phases.MessageOut) else if d then (if i then phases.Status else phases.Command) else if i then phases.DataIn else phases.DataOut) ≡ phases.MessageIn
+    go true true true z = refl
+    go true true false z = wrong' z
+    go true false i z = wrong' z
+    go false d i z = wrong' z
+
+pub out_phase : (b : LineSet) → is_message_out b ≡ true → phase_of b ≡ phases.MessageOut
+out_phase b e = go b.msg b.cd b.io e
+  where
+    go : (m d i : Bool) → (m && d && not i) ≡ true → (if m then (if i then phases.MessageIn else phases.MessageOut) else if d then (if i then phases.Status else phases.Command) else if i then phases.DataIn else phases.DataOut) ≡ phases.MessageOut
+    go true true true z = wrong' z
+    go true true false z = refl
+    go true false i z = wrong' z
+    go false d i z = wrong' z
+
+pub message_is : (b : LineSet) → is_message_in b ≡ true → is_message (phase_of b) ≡ true
+message_is b e = ap is_message (in_phase b e)
+
+pub command_phase : (b : LineSet) → is_command b ≡ true → phase_of b ≡ phases.Command
+command_phase b e = go b.msg b.cd b.io e
+  where
+    go : (m d i : Bool) → (not m && d && not i) ≡ true → (if m then (if i then phases.MessageIn else phases.MessageOut) else if d then (if i then phases.Status else phases.Command) else if i then phases.DataIn else phases.DataOut) ≡ phases.Command
+    go true d i z = wrong' z
+    go false true true z = wrong' z
+    go false true false z = refl
+    go false false i z = wrong' z
+
+pub command_is : (b : LineSet) → is_command b ≡ is_command_phase (phase_of b)
+command_is b = go b.msg b.cd b.io
+  where
+    go : (m d i : Bool) → (not m && d && not i) ≡ is_command_phase (if m then (if i then phases.MessageIn else phases.MessageOut) else if d then (if i then phases.Status else phases.Command) else if i then phases.DataIn else phases.DataOut)
+    go true d true = refl
+    go true d false = refl
+    go false true true = refl
+    go false true false = refl
+    go false false true = refl
+    go false false false = refl
+
+-- ---- the lines, by the phase
+
+pub out_lines : (b : LineSet) → phase_of b ≡ phases.MessageOut → (b.msg ≡ true → b.cd ≡ true) → is_message_out b ≡ true
+out_lines b e known = go b.msg b.cd b.io (ap is_out_phase e) known
+  where
+    go : (m d i : Bool) → is_out_phase (if m then (if i then phases.MessageIn else phases.MessageOut) else if d then (if i then phases.Status else phases.Command) else if i then phases.DataIn else phases.DataOut) ≡ true → (m ≡ true → d ≡ true) → (m && d && not i) ≡ true
+    go true true true z h = wrong' z
+    go true true false z h = refl
+    go true false i z h = wrong' (h refl)
+    go false true true z h = wrong' z
+    go false true false z h = wrong' z
+    go false false true z h = wrong' z
+    go false false false z h = wrong' z
+
+pub data_out_io : (b : LineSet) → phase_of b ≡ phases.DataOut → b.io ≡ false
+data_out_io b e = go b.msg b.cd b.io (ap is_data_out e)
+  where
+    go : (m d i : Bool) → is_data_out (if m then (if i then phases.MessageIn else phases.MessageOut) else if d then (if i then phases.Status else phases.Command) else if i then phases.DataIn else phases.DataOut) ≡ true → i ≡ false
+    go m d false z = refl
+    go true d true z = wrong' z
+    go false true true z = wrong' z
+    go false false true z = wrong' z
+
+-- ---- one phase is not the other
+
+pub out_in : (b : LineSet) → is_message_in b ≡ true → is_message_out b ≡ false
+out_in b e = go b.msg b.cd b.io e
+  where
+    go : (m d i : Bool) → (m && d && i) ≡ true → (m && d && not i) ≡ false
+    go true true true z = refl
+    go true true false z = wrong' z
+    go true false i z = wrong' z
+    go false d i z = wrong' z
+
+pub in_out : (b : LineSet) → is_message_out b ≡ true → is_message_in b ≡ false
+in_out b e = go b.msg b.cd b.io e
+  where
+    go : (m d i : Bool) → (m && d && not i) ≡ true → (m && d && i) ≡ false
+    go true true true z = wrong' z
+    go true true false z = refl
+    go true false i z = wrong' z
+    go false d i z = wrong' z
+
+pub out_no_status : (b : LineSet) → is_message_out b ≡ true → is_status_phase b ≡ false
+out_no_status b e = go b.msg b.cd b.io e
+  where
+    go : (m d i : Bool) → (m && d && not i) ≡ true → (not m && d && i) ≡ false
+    go true d i z = refl
+    go false d i z = wrong' z
+
+-- No bytes are pulsed in a message phase.
+pub unpulsed : (q : Bool) (b : LineSet) (r : Bool) → is_message (phase_of b) ≡ true → (q && is_data b && r) ≡ false
+unpulsed q b r e = go q b.msg b.cd b.io r e
+  where
+    go : (q m d i r : Bool) → is_message (if m then (if i then phases.MessageIn else phases.MessageOut) else if d then (if i then phases.Status else phases.Command) else if i then phases.DataIn else phases.DataOut) ≡ true → (q && (not m && not d) && r) ≡ false
+    go true true d i r z = refl
+    go false true d i r z = refl
+    go true false true true r z = wrong' z
+    go true false true false r z = wrong' z
+    go true false false true r z = wrong' z
+    go true false false false r z = wrong' z
+    go false false d i r z = refl

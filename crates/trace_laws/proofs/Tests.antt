@@ -1,0 +1,82 @@
+-- Small tests of flags and numbers.
+use Rattle.std.proofs.Common.{ℕ, suc, ◌≡◌, ◌≤◌, ◌<◌, Bool, true, false, not, ◌&&◌, ◌||◌, ◌==◌, ◌*◌, Option, None, ◌⊎◌, inl, inr, refl, ap, arith}
+use Rattle.std.specs.Prelude.{if◌then◌else◌, nat_le}
+use Rattle.std.proofs.lemmas.Bool.Decides.{nat_tests}
+use Rattle.bus_trace.specs.Changes.{falls, rises}
+use Rattle.trace_laws.proofs.Impossible.{wrong, wrong'}
+
+-- ---- one flag
+
+pub not_not : (q : Bool) → not (not q) ≡ q
+not_not true = refl
+not_not false = refl
+
+pub not_false : (q : Bool) → not q ≡ false → q ≡ true
+not_false true e = refl
+not_false false e = wrong e
+
+pub none_both : (q : Bool) → (let o : Option ℕ = None in if q then o else o) ≡ None
+none_both true = refl
+none_both false = refl
+
+-- ---- two flags
+
+pub or_second : (a b : Bool) → a ≡ false → (a || b) ≡ true → b ≡ true
+or_second true b e z = wrong e
+or_second false b e z = z
+
+pub or_first : (a b : Bool) → (a || b) ≡ true → b ≡ false → a ≡ true
+or_first true b z e = refl
+or_first false true z e = wrong e
+or_first false false z e = wrong' z
+
+pub or_of : (a b : Bool) → (a || b) ≡ true → (a ≡ true) ⊎ (b ≡ true)
+or_of true b e = inl refl
+or_of false b e = inr e
+
+pub second_false : (a b : Bool) → (a || b) ≡ false → b ≡ false
+second_false true b e = wrong e
+second_false false b e = e
+
+pub not_first : (a b : Bool) → (not a && b) ≡ true → a ≡ false
+not_first true b e = wrong' e
+not_first false b e = refl
+
+-- Where a test holds it may rest on what is asked there.
+pub implication : (a b : Bool) → (a ≡ true → b ≡ true) → (not a || b) ≡ true
+implication true b f = f refl
+implication false b f = refl
+
+pub falls_true : (a b : Bool) → b ≡ true → falls a b ≡ false
+falls_true true b e = ap not e
+falls_true false b e = refl
+
+pub risen : (a b : Bool) → rises a b ≡ true → a ≡ false
+risen true b e = wrong' e
+risen false b e = refl
+
+pub all_four : (a b c d : Bool) → a ≡ true → b ≡ true → c ≡ true → d ≡ false → (a && b && c && not d) ≡ true
+all_four a b c d ea eb ec ed = λ i. ea i && eb i && ec i && not (ed i)
+
+-- ---- numbers
+
+pub le_is : (a b : ℕ) → nat_le a b ≡ true → a ≤ b
+le_is a b e = grind (arith, nat_tests)
+
+pub some_count : (n : ℕ) → (n == 0) ≡ false → 1 ≤ n
+some_count n e = grind (arith, nat_tests)
+
+pub some_zero : {A : Type 0} (n : ℕ) → (n == 0) ≡ false → n ≡ 0 → A
+some_zero n e z = absurd grind (arith, nat_tests)
+
+pub suc_some : (n : ℕ) → (suc n == 0) ≡ false
+suc_some n = grind (arith, nat_tests)
+
+pub less_apart : {A : Type 0} (a b : ℕ) → a < b → a ≡ b → A
+less_apart a b lt e = absurd omega (arith, lt, e)
+
+pub mul_assoc : (a b c : ℕ) → a * (b * c) ≡ a * b * c
+mul_assoc a b c = grind arith
+
+pub zero_times : (n : ℕ) → n * 0 ≡ 0
+zero_times n = omega arith

@@ -1,0 +1,113 @@
+-- What the parts make of the account of a process, one after the other, whatever items stand before theirs.
+use Rattle.std.proofs.Common.{ℕ, ◌≡◌, ◌∙◌, Bool, true, false, List, [], ◌∷◌, ◌++◌, Some, refl, sym, ap}
+use Rattle.std.specs.Prelude.{◌&&◌, if◌then◌else◌}
+use Rattle.std.proofs.lemmas.List.{append_assoc, append-nil}
+use Rattle.bus_trace.specs.declared.connection.Connection.{Connection}
+use Rattle.msg_grammar.specs.declared.message.MsgIn.{MsgIn}
+use Rattle.msg_grammar.specs.declared.message.MsgIn.TheVariants as to_initiator
+use Rattle.bus_transcript.specs.declared.item.Item.{Item}
+use Rattle.bus_transcript.specs.declared.item.Item.TheVariants as items
+use Rattle.bus_transcript.specs.declared.item.Name.{Name}
+use Rattle.bus_transcript.specs.declared.part.Part.{Part}
+use Rattle.bus_transcript.specs.declared.part.Part.TheVariants as parts_of
+use Rattle.bus_transcript.specs.declared.process.Process.{Process}
+use Rattle.bus_transcript.specs.Accounts.{AccountValue, account_of, with_item, with_block, with_cdb, is_whole, arrived, after_in, account_after, account_after_all}
+use Rattle.bus_transcript.specs.Rows.{account_parts}
+
+pub all_after : (a : AccountValue) (xs ys : List Part) → account_after_all a (xs ++ ys) ≡ account_after_all (account_after_all a xs) ys
+all_after a [] ys = refl
+all_after a (part ∷ xs) ys = all_after (account_after a part) xs ys
+
+-- ---- the name of its process
+
+named_if : (q : Bool) (a b : AccountValue) (n : Name) → a.process.name ≡ n → b.process.name ≡ n → (if q then a else b).process.name ≡ n
+named_if true a b n x y = x
+named_if false a b n x y = y
+
+cdb_name : (a : AccountValue) (bytes : List ℕ) → (with_cdb a bytes).process.name ≡ a.process.name
+cdb_name a [] = refl
+cdb_name a (b ∷ bytes) = refl
+
+in_name : (a : AccountValue) (m : MsgIn) → (after_in a m).process.name ≡ a.process.name
+in_name a to_initiator.CommandComplete = refl
+in_name a to_initiator.SavePointer = refl
+in_name a to_initiator.RestorePointers = refl
+in_name a to_initiator.Disconnect = refl
+in_name a (to_initiator.Identify lun) = refl
+in_name a (to_initiator.SimpleTag tag) = refl
+in_name a (to_initiator.Sdtr offer) = refl
+in_name a to_initiator.Reject = refl
+
+status_name : (q : Bool) (p : Process) (byte : ℕ) → (if q then record p { status = Some byte } else p).name ≡ p.name
+status_name true p byte = refl
+status_name false p byte = refl
+
+part_name : (a : AccountValue) (part : Part) → (account_after a part).process.name ≡ a.process.name
+part_name a (parts_of.Out m) = refl
+part_name a (parts_of.In m) = in_name (with_item a (items.In m)) m
+part_name a parts_of.BrokenOff = refl
+part_name a (parts_of.Command bytes struck left) =
+    let c : AccountValue = with_cdb (with_block a bytes struck) bytes in
+    named_if (left && is_whole c.block c.struck) (with_item c (items.Arrive c.process.name)) c a.process.name (cdb_name (with_block a bytes struck) bytes) (cdb_name (with_block a bytes struck) bytes)
+part_name a (parts_of.Data out bytes) = refl
+part_name a parts_of.StatusPhase = named_if a.process.shown a (record (with_item a (items.Ready a.process.name)) { process = record a.process { shown = true } }) a.process.name refl refl
+part_name a (parts_of.Status byte) = status_name a.status_first a.process byte
+part_name a parts_of.Completion = refl
+
+pub parts_name : (a : AccountValue) (parts : List Part) → (account_after_all a parts).process.name ≡ a.process.name
+parts_name a [] = refl
+parts_name a (part ∷ parts) = parts_name (account_after a part) parts ∙ part_name a part
+
+-- ---- items before its own
+
+abbrev pub behind : List Item → AccountValue → AccountValue
+behind list a = record a { items = list ++ a.items }
+
+item_behind : (list : List Item) (a : AccountValue) (item : Item) → with_item (behind list a) item ≡ behind list (with_item a item)
+item_behind list a item = λ i. record a { items = append_assoc list a.items (item ∷ []) i }
+
+behind_if : (list : List Item) (q : Bool) (a b c d : AccountValue) → a ≡ behind list b → c ≡ behind list d → (if q then a else c) ≡ behind list (if q then b else d)
+behind_if list true a b c d x y = x
+behind_if list false a b c d x y = y
+
+cdb_behind : (list : List Item) (a : AccountValue) (bytes : List ℕ) → with_cdb (behind list a) bytes ≡ behind list (with_cdb a bytes)
+cdb_behind list a [] = refl
+cdb_behind list a (b ∷ bytes) = item_behind list a (items.Cdb (b ∷ bytes))
+
+arrived_behind : (list : List Item) (a : AccountValue) (left : Bool) → arrived (behind list a) left ≡ behind list (arrived a left)
+arrived_behind list a left =
+    behind_if list (left && is_whole a.block a.struck) _ (with_item a (items.Arrive a.process.name)) (behind list a) a (item_behind list a (items.Arrive a.process.name)) refl
+
+in_behind : (list : List Item) (a : AccountValue) (m : MsgIn) → after_in (behind list a) m ≡ behind list (after_in a m)
+in_behind list a to_initiator.CommandComplete = refl
+in_behind list a to_initiator.SavePointer = refl
+in_behind list a to_initiator.RestorePointers = refl
+in_behind list a to_initiator.Disconnect = refl
+in_behind list a (to_initiator.Identify lun) = refl
+in_behind list a (to_initiator.SimpleTag tag) = refl
+in_behind list a (to_initiator.Sdtr offer) = refl
+in_behind list a to_initiator.Reject = refl
+
+part_behind : (list : List Item) (a : AccountValue) (part : Part) → account_after (behind list a) part ≡ behind list (account_after a part)
+part_behind list a (parts_of.Out m) = item_behind list a (items.Out m)
+part_behind list a (parts_of.In m) = ap (λ (x : AccountValue). after_in x m) (item_behind list a (items.In m)) ∙ in_behind list (with_item a (items.In m)) m
+part_behind list a parts_of.BrokenOff = refl
+part_behind list a (parts_of.Command bytes struck left) =
+    ap (λ (x : AccountValue). arrived x left) (cdb_behind list (with_block a bytes struck) bytes) ∙ arrived_behind list (with_cdb (with_block a bytes struck) bytes) left
+part_behind list a (parts_of.Data out bytes) = λ i. record (item_behind list a (items.Payload out a.active bytes) i) { active = (account_after a (parts_of.Data out bytes)).active }
+part_behind list a parts_of.StatusPhase =
+    behind_if list a.process.shown (behind list a) a _ (record (with_item a (items.Ready a.process.name)) { process = record a.process { shown = true } }) refl (λ i. record (item_behind list a (items.Ready a.process.name) i) { process = record a.process { shown = true } })
+part_behind list a (parts_of.Status byte) =
+    λ i. record (item_behind list a (items.Status byte) i) { process = (account_after a (parts_of.Status byte)).process; status_first = false }
+part_behind list a parts_of.Completion = item_behind list a (items.End a.process.name a.process.status)
+
+parts_behind : (list : List Item) (a : AccountValue) (parts : List Part) → account_after_all (behind list a) parts ≡ behind list (account_after_all a parts)
+parts_behind list a [] = refl
+parts_behind list a (part ∷ parts) =
+    ap (λ (x : AccountValue). account_after_all x parts) (part_behind list a part) ∙ parts_behind list (account_after a part) parts
+
+-- The account of a connection: its items stand after those before, and after the one that names it.
+pub account_is : (n : Connection) (p : Process) (parts : List Part) (list : List Item) → account_parts n p parts list ≡ behind (list ++ items.Connect n.began p.name n.reselected ∷ []) (account_after_all (account_of p []) parts)
+account_is n p parts list =
+    (λ i. account_after_all (record (account_of p []) { items = sym (append-nil (list ++ items.Connect n.began p.name n.reselected ∷ [])) i }) parts)
+    ∙ parts_behind (list ++ items.Connect n.began p.name n.reselected ∷ []) (account_of p []) parts

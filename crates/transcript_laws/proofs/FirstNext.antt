@@ -1,0 +1,198 @@
+-- What stands once a connection has begun.
+use Rattle.std.proofs.Common.{ℕ, ◌≡◌, ◌∙◌, Bool, true, false, not, ◌&&◌, ◌||◌, List, [], ◌∷◌, Option, Some, None, refl, sym, ap, subst}
+use Rattle.std.specs.Prelude.{if◌then◌else◌}
+use Rattle.std.proofs.lemmas.List.{reverse-append}
+use Rattle.bus_base.specs.declared.ProcId.{ProcId}
+use Rattle.bus_trace.specs.Phases.{is_command}
+use Rattle.bus_trace.specs.declared.changes.Change.{Change}
+use Rattle.bus_trace.specs.declared.connection.Connection.{Connection}
+use Rattle.bus_trace.specs.declared.rows.Row.{Row}
+use Rattle.scenario.specs.Value.{ScenarioValue}
+use Rattle.disk_array.specs.Processes.{same_id}
+use Rattle.bus_story.specs.BusState.{RowReading, row_reading, bus_state_after}
+use Rattle.bus_story.specs.CarriedBytes.{CarriedBytes, nothing_carried, carried_at, carried_or_nothing, carried_of, with_carried, with_restored_pointers, is_status_phase}
+use Rattle.bus_story.specs.Items.{process, abort, has_item}
+use Rattle.bus_story.specs.Links.{link_of}
+use Rattle.bus_story.specs.Story.{Story}
+use Rattle.bus_story.specs.TraceHistory.{aim_of, story_with_history, story}
+use Rattle.bus_books.proofs.Lookups.{carried_id, put_there, put_own, id_is, self_id}
+use Rattle.bus_transcript.specs.declared.process.Process.{Process}
+use Rattle.bus_transcript.specs.Events.{names_begun}
+use Rattle.bus_transcript.specs.Opened.{opened_connection}
+use Rattle.bus_transcript.specs.Rows.{TranscriberValue, with_bus, by_change, transcribed}
+use Rattle.transcript_laws.specs.Keeping.{IsKept}
+use Rattle.transcript_laws.specs.Numbered.{AreNumbered}
+use Rattle.transcript_laws.specs.Serving.{IsServing}
+use Rattle.transcript_laws.specs.Standing.{sent_order, StandsApart, again, first, of_abort, of_none, of_process, anew, StandsBy, linked, Standing}
+use Rattle.transcript_laws.specs.Told.{IsKeptOf, IsMarked}
+use Rattle.transcript_laws.proofs.Buses.{reading_same, buses_alike}
+use Rattle.transcript_laws.proofs.FirstRows.{first_story, again_story, sent_story, first_crosses, first_change}
+use Rattle.transcript_laws.proofs.SentNames.{has_reverse}
+use Rattle.transcript_laws.proofs.TalkServes.{talk_serves}
+
+none_some : {A T : Type 0} (x : T) → (let a : Option T = None in a) ≡ Some x → A
+none_some x e = absurd cc
+
+wrong : {A : Type 0} → true ≡ false → A
+wrong e = absurd cc
+
+-- What is asked of the row.
+pub record Begins (s : ScenarioValue) (rows : List Row) (row : Row) (n : Connection) : Type 0 where
+  pub off : (row_reading (story s rows).bus_state row).change.after.rst ≡ false
+  pub alone : (story s rows).bus_state.connection ≡ None
+  pub next : (row_reading (story s rows).bus_state row).next ≡ Some n
+  pub no_command : is_command (row_reading (story s rows).bus_state row).change.after ≡ false
+  pub no_status : is_status_phase (row_reading (story s rows).bus_state row).change.after ≡ false
+
+-- The transcript after it.
+change_is : (s : ScenarioValue) (rows : List Row) (row : Row) (n : Connection) → Begins s rows row n → by_change (transcribed rows) (row_reading (transcribed rows).bus_state row) row ≡ record (transcribed rows) { opened = Some (opened_connection n) }
+change_is s rows row n h =
+    let same = reading_same (transcribed rows).bus_state (story s rows).bus_state row (buses_alike s rows) in
+    first_change (transcribed rows) (row_reading (transcribed rows).bus_state row) row n (ap (λ (x : RowReading). x.change.after.rst) same ∙ h.off) ((buses_alike s rows).connection ∙ h.alone) (ap (λ (x : RowReading). x.next) same ∙ h.next)
+
+no_crossing : {A : Type 0} (s : ScenarioValue) (rows : List Row) (row : Row) (n : Connection) → Begins s rows row n → (c : Change) → (bus_state_after (story s rows).bus_state row (row_reading (story s rows).bus_state row)).crossed ≡ Some c → A
+no_crossing s rows row n h c e =
+    none_some c (sym (ap (λ (q : Bool). if q then Some (row_reading (story s rows).bus_state row).change else None) (first_crosses (story s rows).bus_state row h.alone)) ∙ e)
+
+-- ---- a target began it
+
+pub again_next : (s : ScenarioValue) (rows : List Row) (row : Row) (n : Connection) → n.reselected ≡ true → Begins s rows row n → AreNumbered (transcribed rows).processes (names_begun (transcribed rows).items) → ((id : ProcId) → IsMarked (story s rows).history (carried_of (story s rows).carried id)) → StandsApart s (transcribed rows) (story s rows) → Standing s (row ∷ rows)
+again_next s rows row n re g numbered marked h = record {
+  numbered = subst (λ (x : TranscriberValue). AreNumbered x.processes (names_begun x.items)) (sym (change_is s rows row n g)) numbered;
+  marked = λ id. subst (λ (x : Story). IsMarked x.history (carried_of x.carried id)) (sym story_is) (marked id);
+  stands = subst (λ (x : TranscriberValue). StandsBy s (with_bus x row (row_reading (transcribed rows).bus_state row)) (story s (row ∷ rows))) (sym (change_is s rows row n g)) (subst (λ (x : Story). StandsBy s (with_bus (record (transcribed rows) { opened = Some (opened_connection n) }) row (row_reading (transcribed rows).bus_state row)) x) (sym story_is) (linked (record {
+    opened = opened_connection n;
+    link = link_of n None;
+    opened_is = refl;
+    link_is = refl;
+    connection_is = g.next;
+    sent = sent_order b;
+    old = b.history;
+    conn = [];
+    history_is = refl;
+    past = h.past;
+    begun = again re refl;
+    stage = of_none re refl refl g.no_command g.no_status (λ j e. none_some (abort j) e) (λ id e. none_some (process id) e) (λ u e. none_some u e) (λ id o but. h.kept id o but);
+    bytes = λ e. refl;
+    said = λ e. refl;
+    crossed = λ c e. no_crossing s rows row n g c e;
+  })));
+}
+  where
+    b : Story
+    b = story s rows
+
+    story_is : story s (row ∷ rows) ≡ story_with_history (record (story s rows) { link = Some (link_of n None) }) (bus_state_after (story s rows).bus_state row (row_reading (story s rows).bus_state row)) [] (story s rows).history
+    story_is =
+        first_story s (story s rows) row (row_reading (story s rows).bus_state row) n g.off g.alone g.next h.link_is
+        ∙ ap (λ (x : Story). story_with_history x (bus_state_after (story s rows).bus_state row (row_reading (story s rows).bus_state row)) [] (story s rows).history) (again_story (story s rows) n re)
+
+-- ---- an initiator began it, for an abort
+
+pub abort_next : (s : ScenarioValue) (rows : List Row) (row : Row) (n : Connection) (j : ℕ) → n.reselected ≡ false → aim_of (story s rows).aims n.initiator ≡ Some (abort j) → has_item (story s rows).sent.sent (abort j) ≡ false → Begins s rows row n → AreNumbered (transcribed rows).processes (names_begun (transcribed rows).items) → ((id : ProcId) → IsMarked (story s rows).history (carried_of (story s rows).carried id)) → StandsApart s (transcribed rows) (story s rows) → Standing s (row ∷ rows)
+abort_next s rows row n j began aim fresh g numbered marked h = record {
+  numbered = subst (λ (x : TranscriberValue). AreNumbered x.processes (names_begun x.items)) (sym (change_is s rows row n g)) numbered;
+  marked = λ id. subst (λ (x : Story). IsMarked x.history (carried_of x.carried id)) (sym story_is) (marked id);
+  stands = subst (λ (x : TranscriberValue). StandsBy s (with_bus x row (row_reading (transcribed rows).bus_state row)) (story s (row ∷ rows))) (sym (change_is s rows row n g)) (subst (λ (x : Story). StandsBy s (with_bus (record (transcribed rows) { opened = Some (opened_connection n) }) row (row_reading (transcribed rows).bus_state row)) x) (sym story_is) (linked (record {
+    opened = opened_connection n;
+    link = link_of n (Some (abort j));
+    opened_is = refl;
+    link_is = refl;
+    connection_is = g.next;
+    sent = sent_order b;
+    old = b.history;
+    conn = [];
+    history_is = refl;
+    past = h.past;
+    begun = first (abort j) began refl (reverse-append (abort j ∷ []) b.sent.sent) (has_reverse b.sent.sent (abort j) ∙ fresh);
+    stage = of_abort j refl refl refl (λ id o but. h.kept id o but);
+    bytes = λ e. refl;
+    said = λ e. refl;
+    crossed = λ c e. no_crossing s rows row n g c e;
+  })));
+}
+  where
+    b : Story
+    b = story s rows
+
+    story_is : story s (row ∷ rows) ≡ story_with_history (record (story s rows) { link = Some (link_of n (Some (abort j))); sent = record (story s rows).sent { sent = abort j ∷ (story s rows).sent.sent } }) (bus_state_after (story s rows).bus_state row (row_reading (story s rows).bus_state row)) [] (story s rows).history
+    story_is =
+        first_story s (story s rows) row (row_reading (story s rows).bus_state row) n g.off g.alone g.next h.link_is
+        ∙ ap (λ (x : Story). story_with_history x (bus_state_after (story s rows).bus_state row (row_reading (story s rows).bus_state row)) [] (story s rows).history) (sent_story (story s rows) n (abort j) began aim)
+
+-- ---- an initiator began it, for a process
+
+-- It begins with nothing, and so the transcript has nothing of it.
+abbrev nothing_known : Process
+nothing_known = record { name = record { initiator = 0; target = 0; unit = None; tag = None; number = 0 }; saved = 0; status = None; shown = false }
+
+abbrev begun_carried : Story → ProcId → CarriedBytes
+begun_carried b id = with_restored_pointers (carried_of b.carried id)
+
+begun_own : (b : Story) (id : ProcId) → carried_at b.carried id ≡ None → carried_of (with_carried b.carried (begun_carried b id)) id ≡ with_restored_pointers (nothing_carried id)
+begun_own b id none = put_own b.carried (begun_carried b id) id (carried_id b.carried id) ∙ ap (λ (o : Option CarriedBytes). with_restored_pointers (carried_or_nothing o id)) none
+
+begun_marked : (b : Story) (id x : ProcId) → ((y : ProcId) → IsMarked b.history (carried_of b.carried y)) → IsMarked b.history (carried_of (with_carried b.carried (begun_carried b id)) x)
+begun_marked b id x marked = subst (λ (c : CarriedBytes). IsMarked b.history c) (sym (put_there b.carried (begun_carried b id) x)) (go (same_id (carried_of b.carried id).id x))
+  where
+    go : (q : Bool) → IsMarked b.history (if q then begun_carried b id else carried_of b.carried x)
+    go true = record { refused = (marked id).refused; shown = (marked id).shown }
+    go false = marked x
+
+not_same : (x id : ProcId) → same_id x id ≡ false → same_id id x ≡ false
+not_same x id e = go (same_id id x) refl
+  where
+    go : (q : Bool) → same_id id x ≡ q → q ≡ false
+    go true f = wrong (sym (ap (λ (y : ProcId). same_id x y) (id_is id x f) ∙ self_id x) ∙ e)
+    go false f = refl
+
+begun_other : (b : Story) (id x : ProcId) → same_id x id ≡ false → carried_of (with_carried b.carried (begun_carried b id)) x ≡ carried_of b.carried x
+begun_other b id x e =
+    put_there b.carried (begun_carried b id) x
+    ∙ ap (λ (q : Bool). if q then begun_carried b id else carried_of b.carried x) (ap (λ (y : ProcId). same_id y x) (carried_id b.carried id) ∙ not_same x id e)
+
+pub process_next : (s : ScenarioValue) (rows : List Row) (row : Row) (n : Connection) (id : ProcId) → n.reselected ≡ false → aim_of (story s rows).aims n.initiator ≡ Some (process id) → has_item (story s rows).sent.sent (process id) ≡ false → carried_at (story s rows).carried id ≡ None → Begins s rows row n → AreNumbered (transcribed rows).processes (names_begun (transcribed rows).items) → ((x : ProcId) → IsMarked (story s rows).history (carried_of (story s rows).carried x)) → StandsApart s (transcribed rows) (story s rows) → Standing s (row ∷ rows)
+process_next s rows row n id began aim fresh none g numbered marked h = record {
+  numbered = subst (λ (x : TranscriberValue). AreNumbered x.processes (names_begun x.items)) (sym (change_is s rows row n g)) numbered;
+  marked = λ x. subst (λ (y : Story). IsMarked y.history (carried_of y.carried x)) (sym story_is) (begun_marked b id x marked);
+  stands = subst (λ (x : TranscriberValue). StandsBy s (with_bus x row (row_reading (transcribed rows).bus_state row)) (story s (row ∷ rows))) (sym (change_is s rows row n g)) (subst (λ (x : Story). StandsBy s (with_bus (record (transcribed rows) { opened = Some (opened_connection n) }) row (row_reading (transcribed rows).bus_state row)) x) (sym story_is) (linked (record {
+    opened = opened_connection n;
+    link = link_of n (Some (process id));
+    opened_is = refl;
+    link_is = refl;
+    connection_is = g.next;
+    sent = sent_order b;
+    old = b.history;
+    conn = [];
+    history_is = refl;
+    past = h.past;
+    begun = first (process id) began refl (reverse-append (process id ∷ []) b.sent.sent) (has_reverse b.sent.sent (process id) ∙ fresh);
+    stage = of_process id (nothing_carried id) false None refl (λ u e. none_some u e) refl serving tt (λ e. refl) (anew began refl refl) kept;
+    bytes = λ e. refl;
+    said = λ e. refl;
+    crossed = λ c e. no_crossing s rows row n g c e;
+  })));
+}
+  where
+    b : Story
+    b = story s rows
+
+    serving : IsServing (opened_connection n) (is_command (row_reading (story s rows).bus_state row).change.after) id (carried_of (with_carried (story s rows).carried (begun_carried (story s rows) id)) id) (nothing_carried id) [] (story s rows).history false None
+    serving = subst (λ (q : Bool). IsServing (opened_connection n) q id (carried_of (with_carried (story s rows).carried (begun_carried (story s rows) id)) id) (nothing_carried id) [] (story s rows).history false None) (sym g.no_command) (subst (λ (c : CarriedBytes). IsServing (opened_connection n) false id c (nothing_carried id) [] (story s rows).history false None) (sym (begun_own (story s rows) id none)) (talk_serves (opened_connection n) id (with_restored_pointers (nothing_carried id)) (nothing_carried id) (story s rows).history nothing_known refl (record { block = refl; struck = refl; active = refl; saved = refl }) (record { status = refl; shown = λ e. refl }) (record { block = refl; struck = refl; active = refl; saved = refl }) (record { status = refl; shown = λ e. refl })))
+
+    kept : (x : ProcId) → (has_item (process id ∷ (story s rows).sent.sent) (process x) && not (has_item (story s rows).sent.over (process x))) ≡ true → same_id x id ≡ false → IsKept s (transcribed rows).processes (sent_order (story s rows)) (names_begun (transcribed rows).items) (with_carried (story s rows).carried (begun_carried (story s rows) id)) x
+    kept x o but =
+        let k = h.kept x (sym (ap (λ (q : Bool). (q || has_item (story s rows).sent.sent (process x)) && not (has_item (story s rows).sent.over (process x))) (not_same x id but)) ∙ o) refl in
+        record {
+          definition = k.definition;
+          definition_is = k.definition_is;
+          process = k.process;
+          last_is = k.last_is;
+          named = k.named;
+          kept = subst (λ (c : CarriedBytes). IsKeptOf k.process c) (sym (begun_other (story s rows) id x but)) k.kept;
+        }
+
+    story_is : story s (row ∷ rows) ≡ story_with_history (record (story s rows) { link = Some (link_of n (Some (process id))); sent = record (story s rows).sent { sent = process id ∷ (story s rows).sent.sent }; carried = with_carried (story s rows).carried (begun_carried (story s rows) id) }) (bus_state_after (story s rows).bus_state row (row_reading (story s rows).bus_state row)) [] (story s rows).history
+    story_is =
+        first_story s (story s rows) row (row_reading (story s rows).bus_state row) n g.off g.alone g.next h.link_is
+        ∙ ap (λ (x : Story). story_with_history x (bus_state_after (story s rows).bus_state row (row_reading (story s rows).bus_state row)) [] (story s rows).history) (sent_story (story s rows) n (process id) began aim)

@@ -1,0 +1,72 @@
+-- What shows no event of a process: a connection whose process is not known yet, that of an abort, RST, and items that are no events.
+use Rattle.std.proofs.Common.{ℕ, ◌≡◌, ◌∙◌, Bool, true, false, List, [], ◌∷◌, ◌++◌, length, reverse, refl, sym, ap, subst}
+use Rattle.std.specs.Prelude.{if◌then◌else◌}
+use Rattle.std.proofs.lemmas.List.{append-nil}
+use Rattle.bus_base.specs.declared.Event.{Event}
+use Rattle.bus_base.specs.declared.Event.TheVariants as events
+use Rattle.bus_trace.specs.declared.connection.Connection.{Connection}
+use Rattle.bus_story.specs.Items as told
+use Rattle.bus_transcript.specs.declared.item.Item.{Item}
+use Rattle.bus_transcript.specs.declared.item.Item.TheVariants as items
+use Rattle.bus_transcript.specs.declared.item.Name.{Name}
+use Rattle.bus_transcript.specs.declared.part.Part.{Part}
+use Rattle.bus_transcript.specs.declared.process.Process.{Process}
+use Rattle.bus_transcript.specs.declared.summary.Summary.{Summary}
+use Rattle.bus_transcript.specs.Accounts.{account_of}
+use Rattle.bus_transcript.specs.Events.{names_begun, named_events}
+use Rattle.transcript_laws.specs.Parts.{are_talk}
+use Rattle.transcript_laws.specs.Told.{shown_items}
+use Rattle.transcript_laws.specs.Past.{AreEventsSent, IsPast}
+use Rattle.transcript_laws.proofs.Closings.{account_by, leaving_items, connection_items}
+use Rattle.transcript_laws.proofs.OwnConnections.{connection_names}
+use Rattle.transcript_laws.proofs.PastEvents.{shown_append, past_more}
+use Rattle.transcript_laws.proofs.ShownParts.{talk_more}
+
+-- ---- items of no process
+
+-- Items and events with no process's name.
+pub record IsOpenly (new : List Item) (conn : List Event) : Type 0 where
+  pub names : names_begun new ≡ []
+  pub shown : (refused : List Name) (sent : List told.Item) (names : List Name) → shown_items refused new ≡ named_events sent names (reverse conn)
+
+-- The reset of a device, and what is no event.
+pub reset_openly : (dev : ℕ) → IsOpenly (items.Reset dev ∷ []) (events.Reset dev ∷ [])
+reset_openly dev = record { names = refl; shown = λ refused sent names. refl }
+
+pub free_openly : (time : ℕ) → IsOpenly (items.Free time ∷ []) []
+free_openly time = record { names = refl; shown = λ refused sent names. refl }
+
+pub unanswered_openly : (time caller called : ℕ) → IsOpenly (items.Unanswered time caller called ∷ []) []
+unanswered_openly time caller called = record { names = refl; shown = λ refused sent names. refl }
+
+pub openly_past : (list new : List Item) (sent : List told.Item) (conn history : List Event) → IsOpenly new conn → AreEventsSent sent conn → IsPast list sent history → IsPast (list ++ new) sent (conn ++ history)
+openly_past list new sent conn history h known past =
+    subst (λ (xs : List told.Item). IsPast (list ++ new) xs (conn ++ history)) (append-nil sent) (past_more list new sent [] conn history past (record {
+      count = ap length h.names;
+      known = subst (λ (xs : List told.Item). AreEventsSent xs conn) (sym (append-nil sent)) known;
+      shown = λ refused r. h.shown refused (sent ++ []) (names_begun list ++ names_begun new);
+    }))
+
+-- ---- a connection of messages alone
+
+talk_shown : (refused : List Name) (n : Connection) (p : Process) (parts : List Part) (free : Bool) (s : Summary) → are_talk parts ≡ true → shown_items refused (connection_items n p parts free s) ≡ shown_items refused (leaving_items free p.name s)
+talk_shown refused n p parts free s talk =
+    shown_append refused (account_by p parts).items (leaving_items free p.name s)
+    ∙ ap (λ (xs : List Item). xs ++ shown_items refused (leaving_items free p.name s)) (talk_more refused (account_of p []) parts talk).shown
+
+-- It is cut, or stands, before its process is known.
+pub quiet_past : (n : Connection) (p : Process) (parts : List Part) (s : Summary) (list : List Item) (sent : List told.Item) (history : List Event) → n.reselected ≡ true → are_talk parts ≡ true → IsPast list sent history → IsPast (list ++ connection_items n p parts false s) sent history
+quiet_past n p parts s list sent history again talk past =
+    openly_past list (connection_items n p parts false s) sent [] history (record {
+      names = connection_names n p parts false s ∙ ap (λ (q : Bool). if q then [] else p.name ∷ []) again;
+      shown = λ refused sent names. talk_shown refused n p parts false s talk;
+    }) tt past
+
+-- That of an abort line, with its event as BUS FREE comes.
+pub abort_past : (n : Connection) (p : Process) (parts : List Part) (free : Bool) (s : Summary) (j : ℕ) (conn : List Event) (list : List Item) (sent : List told.Item) (history : List Event) → n.reselected ≡ false → are_talk parts ≡ true → AreEventsSent (sent ++ told.abort j ∷ []) conn → ((refused : List Name) (sent : List told.Item) (names : List Name) → shown_items refused (leaving_items free p.name s) ≡ named_events sent names (reverse conn)) → IsPast list sent history → IsPast (list ++ connection_items n p parts free s) (sent ++ told.abort j ∷ []) (conn ++ history)
+abort_past n p parts free s j conn list sent history began talk known shown past =
+    past_more list (connection_items n p parts free s) sent (told.abort j ∷ []) conn history past (record {
+      count = ap length (connection_names n p parts free s ∙ ap (λ (q : Bool). if q then [] else p.name ∷ []) began);
+      known = known;
+      shown = λ refused r. talk_shown refused n p parts free s talk ∙ shown refused (sent ++ told.abort j ∷ []) (names_begun list ++ names_begun (connection_items n p parts free s));
+    })

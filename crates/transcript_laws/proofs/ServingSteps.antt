@@ -1,0 +1,223 @@
+-- The connection of a known process stands as it should after a message, a byte, a fault, and COMMAND COMPLETE.
+use Rattle.std.proofs.Common.{ℕ, ◌≡◌, ◌∙◌, Bool, true, false, ◌&&◌, ◌||◌, List, [], ◌∷◌, ◌++◌, reverse, Option, Some, None, refl, sym, ap, subst}
+use Rattle.std.specs.Prelude.{slice_index, if◌then◌else◌}
+use Rattle.std.specs.List.{flat_map}
+use Rattle.std.proofs.lemmas.List.{append_assoc, append-nil, reverse-append}
+use Rattle.std.proofs.lemmas.Grind.{flat_map-append}
+use Rattle.bus_base.specs.declared.Event.{Event}
+use Rattle.bus_base.specs.declared.Event.TheVariants as events
+use Rattle.bus_base.specs.declared.ProcId.{ProcId}
+use Rattle.msg_grammar.specs.declared.message.MsgIn.{MsgIn}
+use Rattle.msg_grammar.specs.declared.message.MsgOut.{MsgOut}
+use Rattle.bus_phases.specs.Half.{is_nil}
+use Rattle.bus_story.specs.CarriedBytes.{Area, CarriedBytes, area_with, carried_after_message}
+use Rattle.bus_transcript.specs.declared.item.Item.{Item}
+use Rattle.bus_transcript.specs.declared.item.Item.TheVariants as items
+use Rattle.bus_transcript.specs.declared.item.Name.{Name}
+use Rattle.bus_transcript.specs.declared.part.Incoming.{Incoming}
+use Rattle.bus_transcript.specs.declared.part.Incoming.TheVariants.{Whole, Broken}
+use Rattle.bus_transcript.specs.declared.part.Part.{Part}
+use Rattle.bus_transcript.specs.declared.part.Part.TheVariants as parts_of
+use Rattle.bus_transcript.specs.declared.process.Process.{Process}
+use Rattle.bus_transcript.specs.Accounts.{AccountValue, account_of, with_block, account_after, account_after_all}
+use Rattle.bus_transcript.specs.Events.{items_named}
+use Rattle.bus_transcript.specs.Opened.{OpenedValue, held_part, with_part, with_in}
+use Rattle.transcript_laws.specs.Parts.{is_void, are_talk, held_parts, base_parts}
+use Rattle.transcript_laws.specs.Told.{first_byte, IsAccountOf, account_base, shown_items}
+use Rattle.transcript_laws.specs.Serving.{IsAsBegun, IsServing}
+use Rattle.transcript_laws.proofs.Accounts.{all_after, parts_name}
+use Rattle.transcript_laws.proofs.AccountSteps.{same_account, in_step, status_step, completion_step}
+use Rattle.transcript_laws.proofs.BaseParts.{base_more, base_in, base_said, base_void, base_held}
+use Rattle.transcript_laws.proofs.ShownParts.{part_more, talk_more}
+
+wrong : {A : Type 0} → true ≡ false → A
+wrong e = absurd cc
+
+none_some : {A : Type 0} (x : Incoming) → (let a : Option Incoming = None in a) ≡ Some x → A
+none_some x e = absurd cc
+
+-- ---- lists
+
+pub filled : {A T : Type 0} (xs : List T) (x : T) → (xs ++ x ∷ []) ≡ [] → A
+filled [] x e = absurd cc
+filled (y ∷ xs) x e = absurd cc
+
+or_false : (q : Bool) → (q || false) ≡ q
+or_false true = refl
+or_false false = refl
+
+-- ---- outside COMMAND
+
+pub no_block : (a : AccountValue) (c : CarriedBytes) → IsAccountOf a c → IsAccountOf (with_block a [] false) c
+no_block a c h = record {
+  block = append-nil a.block ∙ h.block;
+  struck = or_false a.struck ∙ h.struck;
+  first = h.first;
+  saved = h.saved;
+  status = h.status;
+  begun = h.begun;
+  shown = h.shown;
+}
+
+pub of_block : (a : AccountValue) (c : CarriedBytes) → IsAccountOf (with_block a [] false) c → IsAccountOf a c
+of_block a c h = record {
+  block = sym (append-nil a.block) ∙ h.block;
+  struck = sym (or_false a.struck) ∙ h.struck;
+  first = h.first;
+  saved = h.saved;
+  status = h.status;
+  begun = h.begun;
+  shown = h.shown;
+}
+
+-- ---- the account by its parts
+
+abbrev account_by : Process → List Part → AccountValue
+account_by p parts = account_after_all (account_of p []) parts
+
+account_one : (k l : OpenedValue) (p : Process) (part : Part) → base_parts l ≡ base_parts k ++ part ∷ [] → account_base l p ≡ account_after (account_base k p) part
+account_one k l p part e = ap (λ (parts : List Part). account_by p parts) e ∙ all_after (account_of p []) (base_parts k) (part ∷ [])
+
+-- The events that are told, with one more.
+abbrev pub conn_items : Name → List Event → List Item
+conn_items name conn = flat_map (λ event. items_named name event) (reverse conn)
+
+pub conn_more : (name : Name) (event : Event) (conn : List Event) → conn_items name (event ∷ conn) ≡ conn_items name conn ++ items_named name event
+conn_more name event conn =
+    ap (λ (list : List Event). flat_map (λ e. items_named name e) list) (reverse-append (event ∷ []) conn)
+    ∙ flat_map-append (λ e. items_named name e) (reverse conn) (event ∷ [])
+    ∙ ap (λ (list : List Item). conn_items name conn ++ list) (append-nil (items_named name event))
+
+-- ---- messages to the target
+
+pub said_serves : (k : OpenedValue) (q : Bool) (id : ProcId) (now back : CarriedBytes) (conn history : List Event) (was : Bool) (before : Option ℕ) (said : List MsgOut) → is_void said ≡ is_void k.said → IsServing k q id now back conn history was before → IsServing (record k { said = said }) q id now back conn history was before
+said_serves k q id now back conn history was before said e h = record {
+  account = λ p b. subst (λ (parts : List Part). IsAccountOf (with_block (account_by p parts) (if q then k.bytes else []) (q && k.struck)) now) (sym (base_said k said e)) (h.account p b);
+  void = h.void;
+  told = λ refused p b r. ap (λ (parts : List Part). shown_items refused (account_by p parts).items) (base_said k said e) ∙ h.told refused p b r;
+}
+
+held_talk : (q : Bool) (held : Option Incoming) → are_talk ((if q then [] else held_part held) ++ []) ≡ true
+held_talk true held = refl
+held_talk false None = refl
+held_talk false (Some (Whole m)) = refl
+held_talk false (Some Broken) = refl
+
+-- MESSAGE PARITY ERROR.
+pub void_serves : (k : OpenedValue) (id : ProcId) (now back : CarriedBytes) (conn history : List Event) (was : Bool) (before : Option ℕ) (said : List MsgOut) (m : Incoming) → is_void said ≡ true → k.held ≡ Some m → k.since ≡ [] → k.bytes ≡ [] → IsServing k false id now back conn history was before → IsServing (record k { said = said }) false id back back conn history was before
+void_serves k id now back conn history was before said m e held none empty h = record {
+  account = λ p b. no_block _ back (subst (λ (parts : List Part). IsAccountOf (account_by p parts) back) (sym (base_void k said e none)) (h.void m p held none empty b));
+  void = h.void;
+  told = λ refused p b r.
+      ap (λ (parts : List Part). shown_items refused (account_by p parts).items) (base_void k said e none)
+      ∙ sym (append-nil (shown_items refused (account_by p k.parts).items))
+      ∙ sym (talk_more refused (account_by p k.parts) (held_parts k ++ []) (held_talk (is_void k.said) k.held)).shown
+      ∙ ap (λ (a : AccountValue). shown_items refused a.items) (sym (all_after (account_of p []) k.parts (held_parts k ++ [])))
+      ∙ ap (λ (since : List Part). shown_items refused (account_by p (k.parts ++ (held_parts k ++ since))).items) (sym none)
+      ∙ h.told refused p b r;
+}
+
+-- ---- messages to the initiator
+
+pub in_serves : (k : OpenedValue) (id : ProcId) (now back : CarriedBytes) (conn history : List Event) (was : Bool) (before : Option ℕ) (m : MsgIn) → k.said ≡ [] → IsServing k false id now back conn history was before → IsServing (with_in k (Whole m)) false id (carried_after_message now m) now conn history was before
+in_serves k id now back conn history was before m e h = record {
+  account = λ p b. no_block _ (carried_after_message now m) (subst (λ (a : AccountValue). IsAccountOf a (carried_after_message now m)) (sym (account_one k (with_in k (Whole m)) p (parts_of.In m) (base_in k (Whole m) e))) (in_step (account_base k p) m now (of_block (account_base k p) now (h.account p b))));
+  void = λ x p held none empty b. subst (λ (parts : List Part). IsAccountOf (account_by p parts) now) (base_held k e) (of_block (account_base k p) now (h.account p b));
+  told = λ refused p b r.
+      ap (λ (a : AccountValue). shown_items refused a.items) (account_one k (with_in k (Whole m)) p (parts_of.In m) (base_in k (Whole m) e))
+      ∙ (part_more refused (account_base k p) (parts_of.In m)).shown
+      ∙ append-nil (shown_items refused (account_base k p).items)
+      ∙ h.told refused p b r;
+}
+
+-- ---- bytes
+
+pub command_serves : (k : OpenedValue) (id : ProcId) (now back : CarriedBytes) (conn history : List Event) (was : Bool) (before : Option ℕ) (byte : ℕ) (area : Area) → IsServing k true id now back conn history was before → IsServing (record k { bytes = k.bytes ++ byte ∷ [] }) true id (record now { command = area; block = now.block ++ byte ∷ [] }) back conn history was before
+command_serves k id now back conn history was before byte area h = record {
+  account = λ p b.
+      let g = h.account p b in
+      record {
+        block = sym (append_assoc (account_base k p).block k.bytes (byte ∷ [])) ∙ ap (λ (xs : List ℕ). xs ++ byte ∷ []) g.block;
+        struck = g.struck;
+        first = g.first;
+        saved = g.saved;
+        status = g.status;
+        begun = g.begun;
+        shown = g.shown;
+      };
+  void = λ m p held none empty b. filled k.bytes byte empty;
+  told = h.told;
+}
+
+pub data_serves : (k : OpenedValue) (id : ProcId) (now back : CarriedBytes) (conn history : List Event) (was : Bool) (before : Option ℕ) (byte : ℕ) (area : Area) → IsServing k false id now back conn history was before → IsServing (record k { bytes = k.bytes ++ byte ∷ [] }) false id (record now { moved = area }) back conn history was before
+data_serves k id now back conn history was before byte area h = record {
+  account = λ p b. let g = h.account p b in record { block = g.block; struck = g.struck; first = g.first; saved = g.saved; status = g.status; begun = g.begun; shown = g.shown };
+  void = λ m p held none empty b. filled k.bytes byte empty;
+  told = h.told;
+}
+
+pub status_serves : (k : OpenedValue) (id : ProcId) (now back : CarriedBytes) (conn history : List Event) (was : Bool) (before : Option ℕ) (byte : ℕ) → IsServing k false id now back conn history was before → IsServing (with_part k (parts_of.Status byte)) false id (record now { status = area_with now.status byte }) back conn history was before
+status_serves k id now back conn history was before byte h = record {
+  account = λ p b. no_block _ (record now { status = area_with now.status byte }) (subst (λ (a : AccountValue). IsAccountOf a (record now { status = area_with now.status byte })) (sym (account_one k (with_part k (parts_of.Status byte)) p (parts_of.Status byte) (base_more k (parts_of.Status byte)))) (status_step (account_base k p) now byte (of_block (account_base k p) now (h.account p b))));
+  void = λ m p held none empty b. filled k.since (parts_of.Status byte) none;
+  told = λ refused p b r.
+      ap (λ (a : AccountValue). shown_items refused a.items) (account_one k (with_part k (parts_of.Status byte)) p (parts_of.Status byte) (base_more k (parts_of.Status byte)))
+      ∙ (part_more refused (account_base k p) (parts_of.Status byte)).shown
+      ∙ append-nil (shown_items refused (account_base k p).items)
+      ∙ h.told refused p b r;
+}
+
+-- ---- a fault
+
+or_true : (p q : Bool) → (p || (q || true)) ≡ true
+or_true true q = refl
+or_true false true = refl
+or_true false false = refl
+
+-- It strikes a byte of COMMAND, or another.
+pub struck_serves : (k : OpenedValue) (id : ProcId) (now back : CarriedBytes) (conn history : List Event) (was : Bool) (before failure : Option ℕ) → IsServing k true id now back conn history was before → IsServing (record k { struck = k.struck || true }) true id (record now { struck = true; failure = failure }) back conn history was before
+struck_serves k id now back conn history was before failure h = record {
+  account = λ p b.
+      let g = h.account p b in
+      record {
+        block = g.block;
+        struck = or_true (account_base k p).struck k.struck;
+        first = g.first;
+        saved = g.saved;
+        status = g.status;
+        begun = g.begun;
+        shown = g.shown;
+      };
+  void = h.void;
+  told = h.told;
+}
+
+pub fault_serves : (k : OpenedValue) (id : ProcId) (now back : CarriedBytes) (conn history : List Event) (was : Bool) (before failure : Option ℕ) (strikes : Bool) → IsServing k false id now back conn history was before → IsServing (record k { struck = k.struck || strikes }) false id (record now { failure = failure }) back conn history was before
+fault_serves k id now back conn history was before failure strikes h = record {
+  account = λ p b. let g = h.account p b in record { block = g.block; struck = g.struck; first = g.first; saved = g.saved; status = g.status; begun = g.begun; shown = g.shown };
+  void = h.void;
+  told = h.told;
+}
+
+-- ---- COMMAND COMPLETE
+
+ended_status : (bytes : List ℕ) → is_nil bytes ≡ false → first_byte bytes ≡ Some (slice_index bytes 0)
+ended_status [] e = wrong e
+ended_status (b ∷ bytes) e = refl
+
+pub end_serves : (k : OpenedValue) (id : ProcId) (now back : CarriedBytes) (conn history : List Event) (was : Bool) (before : Option ℕ) → is_nil now.status.bytes ≡ false → IsServing k false id now back conn history was before → IsServing (with_part k parts_of.Completion) false id now back (events.End id (slice_index now.status.bytes 0) ∷ conn) (events.End id (slice_index now.status.bytes 0) ∷ history) was before
+end_serves k id now back conn history was before some h = record {
+  account = λ p b. no_block _ now (subst (λ (a : AccountValue). IsAccountOf a now) (sym (one p)) (same_account (account_base k p) (account_after (account_base k p) parts_of.Completion) now (completion_step (account_base k p)) (plain p b)));
+  void = λ m p held none empty b. filled k.since parts_of.Completion none;
+  told = λ refused p b r.
+      ap (λ (a : AccountValue). shown_items refused a.items) (one p)
+      ∙ (part_more refused (account_base k p) parts_of.Completion).shown
+      ∙ (λ i. h.told refused p b (record { refusal = r.refusal; answer = r.answer }) i ++ items.End (parts_name (account_of p []) (base_parts k) i) (((plain p b).status ∙ ended_status now.status.bytes some) i) ∷ [])
+      ∙ sym (conn_more p.name (events.End id (slice_index now.status.bytes 0)) conn);
+}
+  where
+    one : (p : Process) → account_base (with_part k parts_of.Completion) p ≡ account_after (account_base k p) parts_of.Completion
+    one p = account_one k (with_part k parts_of.Completion) p parts_of.Completion (base_more k parts_of.Completion)
+
+    plain : (p : Process) → IsAsBegun p was before → IsAccountOf (account_base k p) now
+    plain p b = of_block (account_base k p) now (h.account p b)

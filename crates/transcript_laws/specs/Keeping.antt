@@ -1,0 +1,23 @@
+-- What the transcript keeps of the processes that are open, by the nexus of each (6.5).
+use Rattle.std.specs.Prelude.{◌≡◌, List, Some}
+use Rattle.bus_base.specs.declared.ProcId.{ProcId}
+use Rattle.scenario.specs.Value.{ScenarioValue}
+use Rattle.disk_array.specs.Processes as array_of
+use Rattle.bus_story.specs.CarriedBytes.{CarriedBytes, carried_of}
+use Rattle.bus_story.specs.Items.{Item}
+use Rattle.bus_transcript.specs.declared.item.Name.{Name}
+use Rattle.bus_transcript.specs.declared.process.Process.{Process}
+use Rattle.bus_transcript.specs.Events.{name_sent}
+use Rattle.bus_transcript.specs.Keys.{Key}
+use Rattle.bus_transcript.specs.Processes.{process_of}
+use Rattle.transcript_laws.specs.Parts.{nexus_of}
+use Rattle.transcript_laws.specs.Told.{IsKeptOf}
+
+-- The last process of its nexus is this one.
+pub record IsKept (s : ScenarioValue) (last : List (Key × Process)) (sent : List Item) (names : List Name) (carried : List CarriedBytes) (id : ProcId) : Type 0 where
+  pub definition : array_of.Process
+  pub definition_is : array_of.process_of s id ≡ Some definition
+  pub process : Process
+  pub last_is : process_of last (nexus_of definition) ≡ Some process
+  pub named : name_sent sent names id ≡ Some process.name
+  pub kept : IsKeptOf process (carried_of carried id)

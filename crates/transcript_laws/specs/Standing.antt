@@ -1,0 +1,101 @@
+-- What holds of a transcript and of the story of the same rows, row by row, where each row fits.
+use Rattle.std.specs.Prelude.{ℕ, ◌≡◌, ◌||◌, Bool, true, false, List, [], ◌∷◌, ◌++◌, reverse, Option, Some, None}
+use Rattle.bus_base.specs.declared.Event.{Event}
+use Rattle.bus_base.specs.declared.ProcId.{ProcId}
+use Rattle.bus_trace.specs.Phases.{is_command, is_data, is_message_out}
+use Rattle.bus_trace.specs.declared.Row.{Row}
+use Rattle.bus_trace.specs.declared.changes.Change.{Change}
+use Rattle.scenario.specs.Value.{ScenarioValue}
+use Rattle.disk_array.specs.Processes.{same_id}
+use Rattle.bus_story.specs.CarriedBytes.{CarriedBytes, carried_of, is_status_phase}
+use Rattle.bus_story.specs.Items.{Item, process, abort, has_item}
+use Rattle.bus_story.specs.Links.{Link}
+use Rattle.bus_story.specs.Story.{Story}
+use Rattle.bus_story.specs.TraceHistory.{story}
+use Rattle.bus_books.specs.Accounts.{is_open_in}
+use Rattle.bus_transcript.specs.declared.process.Process.{Process}
+use Rattle.bus_transcript.specs.Events.{names_begun}
+use Rattle.bus_transcript.specs.Opened.{OpenedValue}
+use Rattle.bus_transcript.specs.Rows.{TranscriberValue, transcribed}
+use Rattle.transcript_laws.specs.Keeping.{IsKept}
+use Rattle.transcript_laws.specs.Numbered.{AreNumbered}
+use Rattle.transcript_laws.specs.Parts.{are_talk, base_parts}
+use Rattle.transcript_laws.specs.Past.{AreOwnEvents, IsPast}
+use Rattle.transcript_laws.specs.Serving.{IsAsBegun, IsBlank, IsServing}
+use Rattle.transcript_laws.specs.Told.{IsKeptOf, IsMarked}
+
+-- The oldest first.
+abbrev pub sent_order : Story → List Item
+sent_order b = reverse b.sent.sent
+
+-- Each open process is the last of its nexus, but for this one.
+abbrev pub AreKept : ScenarioValue → TranscriberValue → Story → List Item → (ProcId → Bool) → Type 0
+AreKept s t b sent but = (id : ProcId) → is_open_in b.sent id ≡ true → but id ≡ false → IsKept s t.processes sent (names_begun t.items) b.carried id
+
+abbrev pub no_process : ProcId → Bool
+no_process id = false
+
+-- ---- no connection stands
+
+pub record StandsApart (s : ScenarioValue) (t : TranscriberValue) (b : Story) : Type 0 where
+  pub opened_is : t.opened ≡ None
+  pub link_is : b.link ≡ None
+  pub past : IsPast t.items (sent_order b) b.history
+  pub kept : AreKept s t b (sent_order b) no_process
+
+-- ---- a connection stands
+
+-- What was sent before it; and the item that its initiator sent with it.
+pub data IsBegun (b : Story) (k : OpenedValue) (l : Link) (sent : List Item) : Type 0 where
+  first : (item : Item) → k.connection.reselected ≡ false → l.item ≡ Some item → sent_order b ≡ sent ++ item ∷ [] → has_item sent item ≡ false → IsBegun b k l sent
+  again : k.connection.reselected ≡ true → sent_order b ≡ sent → IsBegun b k l sent
+
+-- It is kept of the same processes.
+abbrev pub KeepsSame : CarriedBytes → CarriedBytes → Type 0
+KeepsSame u c = (p : Process) → IsKeptOf p u → IsKeptOf p c
+
+-- As an initiator begins it, its process has shown nothing; as a target does, it is the one that was kept.
+pub data IsFrom (s : ScenarioValue) (t : TranscriberValue) (b : Story) (k : OpenedValue) (sent : List Item) (id : ProcId) (was : Bool) (st : Option ℕ) : Type 0 where
+  anew : k.connection.reselected ≡ false → was ≡ false → st ≡ None → IsFrom s t b k sent id was st
+  kept : k.connection.reselected ≡ true → (h : IsKept s t.processes sent (names_begun t.items) b.carried id) → IsAsBegun h.process was st → IsFrom s t b k sent id was st
+
+-- It is that of an abort; or its process is not known yet; or it is.
+pub data Stage (s : ScenarioValue) (t : TranscriberValue) (b : Story) (k : OpenedValue) (l : Link) (sent : List Item) (conn : List Event) : Type 0 where
+  of_abort : (j : ℕ) → l.item ≡ Some (abort j) → conn ≡ [] → are_talk (base_parts k) ≡ true → AreKept s t b sent no_process → Stage s t b k l sent conn
+  of_none : k.connection.reselected ≡ true → conn ≡ [] → are_talk (base_parts k) ≡ true → is_command b.bus_state.bus ≡ false → is_status_phase b.bus_state.bus ≡ false
+      → ((j : ℕ) → l.item ≡ Some (abort j) → ⊥) → ((id : ProcId) → l.item ≡ Some (process id) → IsBlank (carried_of b.carried id))
+      → ((u : CarriedBytes) → l.undo ≡ Some u → IsBlank u × KeepsSame u (carried_of b.carried u.id) × KeepsSame (carried_of b.carried u.id) u)
+      → AreKept s t b sent no_process → Stage s t b k l sent conn
+  of_process : (id : ProcId) (back : CarriedBytes) (was : Bool) (st : Option ℕ) → l.item ≡ Some (process id) → ((u : CarriedBytes) → l.undo ≡ Some u → u ≡ back) → back.id ≡ id
+      → IsServing k (is_command b.bus_state.bus) id (carried_of b.carried id) back conn b.history was st → AreOwnEvents id conn → (are_talk (base_parts k) ≡ true → conn ≡ [])
+      → IsFrom s t b k sent id was st → AreKept s t b sent (λ x. same_id x id) → Stage s t b k l sent conn
+
+pub record StandsLinked (s : ScenarioValue) (t : TranscriberValue) (b : Story) : Type 0 where
+  pub opened : OpenedValue
+  pub link : Link
+  pub opened_is : t.opened ≡ Some opened
+  pub link_is : b.link ≡ Some link
+  pub connection_is : b.bus_state.connection ≡ Some opened.connection
+  -- what was sent and told as the connection began, and the events of it, the newest first
+  pub sent : List Item
+  pub old : List Event
+  pub conn : List Event
+  pub history_is : b.history ≡ conn ++ old
+  pub past : IsPast t.items sent old
+  pub begun : IsBegun b opened link sent
+  pub stage : Stage s t b opened link sent conn
+  -- bytes are of COMMAND and of data, and what is said is of MESSAGE OUT
+  pub bytes : (is_command b.bus_state.bus || is_data b.bus_state.bus) ≡ false → opened.bytes ≡ []
+  pub said : is_message_out b.bus_state.bus ≡ false → opened.said ≡ []
+  pub crossed : (c : Change) → b.bus_state.crossed ≡ Some c → is_command c.before ≡ is_command b.bus_state.bus
+
+-- ---- all that is known
+
+pub data StandsBy (s : ScenarioValue) (t : TranscriberValue) (b : Story) : Type 0 where
+  apart : StandsApart s t b → StandsBy s t b
+  linked : StandsLinked s t b → StandsBy s t b
+
+pub record Standing (s : ScenarioValue) (rows : List Row) : Type 0 where
+  pub numbered : AreNumbered (transcribed rows).processes (names_begun (transcribed rows).items)
+  pub marked : (id : ProcId) → IsMarked (story s rows).history (carried_of (story s rows).carried id)
+  pub stands : StandsBy s (transcribed rows) (story s rows)

@@ -1,0 +1,13 @@
+//! Laws of transcripts: when they have the events of the history that the same rows tell of a scenario.
+//!
+//! `specs/RowTests.antt` says which rows go on alike in a transcript and in the story (`fit`), and
+//! `specs/Standing.antt` what is kept of both, row by row (`Standing`): the account of a process is what it has carried
+//! (`Serving.antt`), each open process is the last of its nexus (`Keeping.antt`), each connection of an initiator has a
+//! name of its own (`Numbered.antt`), and the connections that are over show the events that they made (`Past.antt`).
+//! That it goes on with every row that fits is proved of some kinds of row alone, and no clause rests on that yet.
+//! There is no code here but for laws: each is the contract of a function that does nothing.
+#![tactic(auto)]
+
+mod laws;
+
+pub use laws::transcripts_follow_histories;
