@@ -44,6 +44,7 @@ MADE = {
     "crates/bus_books/proofs/Cases.antt": (["tools/books_case.py"] + RUNS, None),
     "crates/bus_books/proofs/StoryCases.antt": (["tools/books_case.py", "--whole"] + STORIES, None),
     "crates/right_laws/proofs/Cases.antt": (["tools/books_case.py", "--reads"] + READS, None),
+    "crates/right_laws/proofs/GivenCases.antt": (["tools/books_case.py", "--given"] + READS, None),
     "crates/bus_laws/proofs/WrittenCases.antt": (["tools/written_case.py", "Cases"] + RUNS, None),
     "crates/disk_target/proofs/AttendedCases.antt": (["tools/attended_case.py", "Cases"] + RUNS, None),
     "crates/ending_causes/proofs/RunCases.antt": (["tools/cause_case.py", "Cases"] + RUNS, None),

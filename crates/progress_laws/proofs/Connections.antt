@@ -31,7 +31,7 @@ pub record AreThere (s : ScenarioValue) (n : Connection) : Type 0 where
   pub target : HasDevice s n.target
   pub initiator : HasDevice s n.initiator
 
-host_there : (s : ScenarioValue) (dev : ℕ) → is_some (host_of s dev) ≡ true → HasDevice s dev
+pub host_there : (s : ScenarioValue) (dev : ℕ) → is_some (host_of s dev) ≡ true → HasDevice s dev
 host_there s dev e = go (find (λ (t : TargetDef). t.dev == dev) s.targets) (host_of s dev) refl refl e
   where
     go : (t : Option TargetDef) (h : Option HostDef) → find (λ (t : TargetDef). t.dev == dev) s.targets ≡ t → host_of s dev ≡ h → is_some (host_of s dev) ≡ true → HasDevice s dev

@@ -7,4 +7,4 @@
 
 mod laws;
 
-pub use laws::ended_traces_are_quiet;
+pub use laws::{ended_traces_are_quiet, ended_traces_have_outcomes};

@@ -22,3 +22,13 @@ pub mod DataOffers
 pub mod DataOfferRows
 pub mod DataOfferFacts
 mod Cases
+pub mod GivenReplies
+pub mod MovedAreas
+pub mod GivenBytes
+pub mod AcceptedReplies
+pub mod SentAtRun
+pub mod GivenCrossings
+pub mod GivenRows
+pub mod Standing
+pub mod SameReplies
+mod GivenCases

@@ -83,10 +83,10 @@ undoes_of s p row h = load_asks s p row h.was h.next h.undo
 pub here_is : (s : ScenarioValue) (p : List Row) (row : Row) (h : Known s p row) → array_of s (run_state s p) ≡ h.places.array
 here_is s p row h = ap (or_start s) h.places.array_is
 
-then_is : (s : ScenarioValue) (p : List Row) (row : Row) (h : Known s p row) → array_of s (run_state s (row ∷ p)) ≡ h.later.array
+pub then_is : (s : ScenarioValue) (p : List Row) (row : Row) (h : Known s p row) → array_of s (run_state s (row ∷ p)) ≡ h.later.array
 then_is s p row h = ap (or_start s) h.later.array_is
 
-steps_of : (s : ScenarioValue) (p : List Row) (row : Row) (h : Known s p row) → array_after_events s (Some h.places.array) (row_events_by s (run_state s p).story (row_reading (run_state s p).story.bus_state row) row) ≡ Some h.later.array
+pub steps_of : (s : ScenarioValue) (p : List Row) (row : Row) (h : Known s p row) → array_after_events s (Some h.places.array) (row_events_by s (run_state s p).story (row_reading (run_state s p).story.bus_state row) row) ≡ Some h.later.array
 steps_of s p row h = (λ i. array_after_events s (sym h.places.array_is i) (row_events_by s (run_state s p).story (row_reading (run_state s p).story.bus_state row) row)) ∙ h.later.array_is
 
 -- ---- what was answered carries no more of its command and its data
@@ -236,21 +236,21 @@ ran_stays s p row h id w =
 
 -- ---- one that runs with the row
 
-record IsFound (a : Array) (id : ProcId) : Type 0 where
-  running : RunningProcess
-  running_is : Steps.running_process a id ≡ Some running
+pub record IsFound (a : Array) (id : ProcId) : Type 0 where
+  pub running : RunningProcess
+  pub running_is : Steps.running_process a id ≡ Some running
 
 no_array : {A : Type 0} (a : Array) → (let o : Option Array = None in o) ≡ Some a → A
 no_array a e = absurd cc
 
-run_found : (s : ScenarioValue) (a b : Array) (id : ProcId) → Steps.step s (events.Run id) a ≡ Some b → IsFound a id
+pub run_found : (s : ScenarioValue) (a b : Array) (id : ProcId) → Steps.step s (events.Run id) a ≡ Some b → IsFound a id
 run_found s a b id e = go (Steps.running_process a id) refl
   where
     go : (o : Option RunningProcess) → Steps.running_process a id ≡ o → IsFound a id
     go (Some r) z = record { running = r; running_is = z }
     go None z = no_array b (sym (ap (λ (o : Option RunningProcess). Steps.settled_array_if (Steps.run_step a (is_some (guest_at a.guests id)) o)) z) ∙ e)
 
-none_is : (o : Option Reply) → is_some o ≡ false → o ≡ None
+pub none_is : (o : Option Reply) → is_some o ≡ false → o ≡ None
 none_is None e = refl
 none_is (Some x) e = wrong e
 

@@ -24,7 +24,7 @@ use Rattle.trace_laws.specs.TellFacts.{TellFacts}
 use Rattle.trace_laws.specs.Tells.{AreRepliesShown}
 use Rattle.trace_laws.proofs.Whole.{Whole, standing_next, whole}
 use Rattle.trace_laws.proofs.Joint.{Stood, NextStood}
-use Rattle.right_laws.specs.Asked.{AllMove}
+use Rattle.right_laws.specs.Asked.{AllGive, AllMove}
 use Rattle.right_laws.specs.Loads.{UndoLoadFacts}
 use Rattle.right_laws.specs.Open.{BlockFacts}
 use Rattle.right_laws.specs.Runs.{RightFacts}
@@ -33,6 +33,7 @@ use Rattle.right_laws.proofs.BlockFacts.{block_start, block_next}
 use Rattle.right_laws.proofs.Carried.{events_carried}
 use Rattle.right_laws.proofs.DataOfferFacts.{DataOfferFacts, offer_start, offer_next}
 use Rattle.right_laws.proofs.RanFacts.{Known, right_start, right_next}
+use Rattle.right_laws.proofs.SentAtRun.{sends_at_run}
 use Rattle.right_laws.proofs.SentBytes.{moves_at_run}
 use Rattle.right_laws.proofs.StatusFacts.{status_start, status_next, status_at_end}
 use Rattle.right_laws.proofs.UndoneLoadFacts.{load_start, load_next}
@@ -122,3 +123,7 @@ history_permitted s p o prompt short =
     let w = whole s p o prompt short in
     let pl : IsPlain s p (run_state s p) = run_state_plain s p w.stood.standing.devices in
     ap (λ (a : Option Array). is_some a) (sym pl.array ∙ w.places.array_is)
+
+pub all_move : (s : ScenarioValue) (p : List Row) → Obeys s → IsPrompt s p → length p < 2 ^ 64 → AllGive s p → AllMove s p
+all_move s [] o prompt short gives = tt
+all_move s (row ∷ p) o prompt short gives = (all_move s p o prompt.0 (omega (arith, short)) gives.0, sends_at_run s p row o prompt short, gives.1)

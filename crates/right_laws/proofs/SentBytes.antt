@@ -155,7 +155,7 @@ front_all bytes rest all e h =
     append_none (x ∷ xs) ys z = ap (λ (l : List ℕ). x ∷ l) (append_none xs ys z)
 
 -- It runs, so its initiator knows it, and it has no answer yet.
-answer_of : (s : ScenarioValue) (k : RunState) (row : Row) (id : ProcId) → has_run (row_events_by s k.story (row_reading k.story.bus_state row) row) id ≡ true → IsAnswer k (row_reading k.story.bus_state row) id
+pub answer_of : (s : ScenarioValue) (k : RunState) (row : Row) (id : ProcId) → has_run (row_events_by s k.story (row_reading k.story.bus_state row) row) id ≡ true → IsAnswer k (row_reading k.story.bus_state row) id
 answer_of s k row id has = go (row_runs s k row id has)
   where
     go : RunsAs id (row_events_by s k.story (row_reading k.story.bus_state row) row) → IsAnswer k (row_reading k.story.bus_state row) id

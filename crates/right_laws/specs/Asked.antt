@@ -36,3 +36,8 @@ GivesAtRun s k row =
 abbrev pub AllMove : ScenarioValue → List Row → Type 0
 AllMove s [] = ⊤
 AllMove s (row ∷ rows) = AllMove s rows × SendsAtRun s (run_state s rows) row × GivesAtRun s (run_state s rows) row
+
+-- So that any other than a write which ends GOOD gives the bytes of its reply, with all rows.
+abbrev pub AllGive : ScenarioValue → List Row → Type 0
+AllGive s [] = ⊤
+AllGive s (row ∷ rows) = AllGive s rows × GivesAtRun s (run_state s rows) row

@@ -5,3 +5,7 @@ pub mod StatusBytes
 pub mod Asked
 pub mod Reads
 pub mod ReadTests
+pub mod Given
+pub mod GivenPointers
+pub mod Standing
+pub mod GivenTests

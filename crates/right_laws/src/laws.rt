@@ -9,18 +9,18 @@ ghost use Rattle.bus_story.specs.Outcomes.{outcomes};
 ghost use Rattle.bus_story.specs.Right.{Right, all_carried};
 ghost use Rattle.bus_story.specs.TraceHistory.{story, trace_history};
 ghost use Rattle.bus_due.specs.Next.{IsPrompt};
-ghost use Rattle.right_laws.specs.Asked.{AllMove};
+ghost use Rattle.right_laws.specs.Asked.{AllGive};
 
 /// The plain disk array permits the history of every prompt trace of fewer than 2^64 rows (`permitted`). Each process
 /// that ran and ended carried exactly its command block, the bytes that it moves and its status (`carried`), and so the
-/// trace, its history, the outcomes and the blocks belong together (`right`): where with each row in which a process
-/// runs the bytes that it sends have come, or those of its reply have gone (`AllMove`).
+/// trace, its history, the outcomes and the blocks belong together (`right`): where each process that runs, but for a
+/// write that ends GOOD, has carried the bytes of its reply then (`AllGive`). Of such a write it is proved.
 pub fn prompt_traces_are_right()
     ensures permitted { (s : ScenarioValue) (rows : List Row) → Obeys s → IsPrompt s rows → length rows < 2 ^ 64
         → is_some (array_after s (trace_history s rows)) ≡ true }
     ensures carried { (s : ScenarioValue) (rows : List Row) → Obeys s → IsPrompt s rows → length rows < 2 ^ 64
-        → AllMove s rows → all_carried s (story s rows) (trace_history s rows) ≡ true }
+        → AllGive s rows → all_carried s (story s rows) (trace_history s rows) ≡ true }
     ensures right { (s : ScenarioValue) (rows : List Row) → Obeys s → IsPrompt s rows → length rows < 2 ^ 64
-        → AllMove s rows → Right s (reverse rows) (reverse (trace_history s rows)) (outcomes s (story s rows))
+        → AllGive s rows → Right s (reverse rows) (reverse (trace_history s rows)) (outcomes s (story s rows))
         (disks_of (array_after s (trace_history s rows))) }
 {}

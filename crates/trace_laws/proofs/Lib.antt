@@ -211,7 +211,7 @@ pub mod FailureFirst
 pub mod FailureAway
 mod Unshown
 mod PlacesHeard
-mod WritePremises
+pub mod WritePremises
 mod WaitingRequests
 mod WaitingRows
 mod SentEntries

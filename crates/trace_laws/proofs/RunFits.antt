@@ -75,7 +75,7 @@ written_all : (c : Contents) (r : Result Command CdbFault) → is_write r ≡ tr
 written_all c (Err fault) w g = absurd (true≢false (sym w))
 written_all c (Ok x) w g = (λ i. if g x refl i then (if w i then count_in (range_of x) else 0) else 0)
 
-context_same : (a : Array) (p : Process) → context_at a (nexus_of p) (unit_state_at a.units p.target p.unit) ≡ context_of (seat_of a p.target p.unit) p.initiator
+pub context_same : (a : Array) (p : Process) → context_at a (nexus_of p) (unit_state_at a.units p.target p.unit) ≡ context_of (seat_of a p.target p.unit) p.initiator
 context_same a p = go (unit_state_at a.units p.target p.unit)
   where
     go : (x : Option UnitState) → context_at a (nexus_of p) x ≡ record { present = is_some x; contents = contents_of x; stored = sense_of_nexus a.senses (nexus_of p); attention = sense_of_nexus a.attentions (nexus_of p) }

@@ -1,0 +1,165 @@
+-- What has ended in the plain disk array is over, after any rows.
+use Rattle.std.proofs.Common.{ℕ, ◌≡◌, Bool, true, false, not, ◌&&◌, ◌||◌, ◌∙◌, List, [], ◌∷◌, Option, Some, None, refl, sym, ap, subst}
+use Rattle.std.specs.Prelude.{if◌then◌else◌, ◌==◌, is_none, is_some, nat_lt, ⊤}
+use Rattle.bus_base.specs.declared.AbortKind.{AbortKind}
+use Rattle.bus_base.specs.declared.AbortKind.TheVariants as aborts
+use Rattle.bus_base.specs.declared.Event.{Event}
+use Rattle.bus_base.specs.declared.Event.TheVariants as events
+use Rattle.bus_base.specs.declared.ProcId.{ProcId}
+use Rattle.cdb_codec.specs.declared.sense.TheConstants.{ABORTED_COMMAND}
+use Rattle.cdb_codec.specs.declared.status.TheConstants.{GOOD, CHECK_CONDITION}
+use Rattle.cdb_codec.specs.Cdb.{command_of}
+use Rattle.scenario.specs.declared.value.HostDef.{HostDef}
+use Rattle.scenario.specs.Value.{ScenarioValue}
+use Rattle.disk_array.specs.Execution.{Execution, Reply, check_condition, execution, is_request_sense, sense_of}
+use Rattle.disk_array.specs.Processes.{Process, process_of}
+use Rattle.disk_array.specs.Steps as Steps
+use Rattle.disk_array.specs.Steps.{has_ended}
+use Rattle.disk_array.specs.Units.{Array, RunningProcess, UnitState, guest_at, is_held, nexus_of, nexuses_without, senses_without, unit_state_at}
+use Rattle.bus_story.specs.Items.{Item, has_item, process}
+use Rattle.bus_story.specs.Story.{Story, story_after_event}
+use Rattle.trace_laws.proofs.OverItems.{ends_over, events_grow, lost_over}
+use Rattle.progress_laws.proofs.QueueSteps.{running_id}
+
+-- ---- of a list of what has ended
+
+abbrev pub AllOver : Story → List ProcId → Type 0
+AllOver b [] = ⊤
+AllOver b (id ∷ ids) = (has_item b.sent.over (process id) ≡ true) × AllOver b ids
+
+wrong : {A : Type 0} → true ≡ false → A
+wrong e = absurd cc
+
+over_all : (b c : Story) (ids : List ProcId) → ((i : Item) → has_item b.sent.over i ≡ true → has_item c.sent.over i ≡ true) → AllOver b ids → AllOver c ids
+over_all b c [] f h = tt
+over_all b c (id ∷ ids) f h = (f (process id) h.0, over_all b c ids f h.1)
+
+abbrev pub IfOver : Story → Option Array → Type 0
+IfOver b None = ⊤
+IfOver b (Some a) = AllOver b a.ended
+
+if_some : (b : Story) (q : Bool) (a : Array) → AllOver b a.ended → IfOver b (if q then Some a else None)
+if_some b true a h = h
+if_some b false a h = tt
+
+if_none : (b : Story) (q : Bool) (a : Array) → AllOver b a.ended → IfOver b (if q then None else Some a)
+if_none b true a h = tt
+if_none b false a h = h
+
+accepted : (b : Story) (a : Array) (o : Option Process) → AllOver b a.ended → IfOver b (Steps.accept_step a o)
+accepted b a None h = tt
+accepted b a (Some p) h = at (unit_state_at a.units p.target p.unit)
+  where
+    at : (u : Option UnitState) → IfOver b (Steps.accept_step_at a p u)
+    at None = h
+    at (Some u) = go (is_request_sense (command_of p.cdb))
+      where
+        go : (q : Bool) → IfOver b (if q then Some (Steps.with_guest a p None) else Steps.queue_step a p u)
+        go true = h
+        go false = if_some b (nat_lt (Steps.process_count u) u.depth) _ h
+
+refused : (b : Story) (a : Array) (o : Option Process) → AllOver b a.ended → IfOver b (Steps.refuse_step a o)
+refused b a None h = tt
+refused b a (Some p) h = at (unit_state_at a.units p.target p.unit)
+  where
+    at : (u : Option UnitState) → IfOver b (Steps.refuse_step_at a p u)
+    at None = tt
+    at (Some u) = if_some b (not (is_request_sense (command_of p.cdb)) && Steps.process_count u == u.depth) _ h
+
+executed : (a : Array) (p : Process) (u : Option UnitState) (done : Execution) → (Steps.after_execution a p u done).ended ≡ a.ended
+executed a p u done = go done.reported u
+  where
+    go : (q : Bool) (o : Option UnitState) → (Steps.with_contents (Steps.without_attention a q (nexus_of p)) o done.contents).ended ≡ a.ended
+    go true None = refl
+    go true (Some v) = refl
+    go false None = refl
+    go false (Some v) = refl
+
+run : (b : Story) (a : Array) (guest : Bool) (o : Option RunningProcess) → AllOver b a.ended → IfOver b (Steps.run_step a guest o)
+run b a guest None h = tt
+run b a guest (Some r) h =
+    let u = unit_state_at a.units r.process.target r.process.unit in
+    if_some b (is_none r.reply && (guest || not (is_held a.holds r.process.target r.process.unit))) _
+    (subst (λ (x : List ProcId). AllOver b x) (sym (executed a r.process u (execution (Steps.context_at a (nexus_of r.process) u) r.process.cdb r.process.sent))) h)
+
+failed : (s : ScenarioValue) (b : Story) (a : Array) (i : ProcId) (reply : Reply) (o : Option RunningProcess) → AllOver b a.ended → IfOver b (Steps.fail_step s a i reply o)
+failed s b a i reply (Some r) h = if_some b (is_none r.reply) _ h
+failed s b a i reply None h = new (process_of s i)
+  where
+    new : (p : Option Process) → IfOver b (Steps.fail_step_of_new a i reply p)
+    new None = tt
+    new (Some p) = if_none b (Steps.is_waiting a.units i || Steps.has_ended a i) _ h
+
+ended : (b : Story) (a : Array) (i : ProcId) (status : ℕ) → has_item b.sent.over (process i) ≡ true → AllOver b a.ended → IfOver b (Steps.end_step a status (Steps.running_process a i))
+ended b a i status over h = go (Steps.running_process a i) refl
+  where
+    same : (r : RunningProcess) (reply : Reply) (q t : Bool) → (if q then record a { senses = (nexus_of r.process, reply.sense) ∷ senses_without a.senses (nexus_of r.process); holds = nexus_of r.process ∷ nexuses_without a.holds (nexus_of r.process) }
+        else if t then record a { senses = senses_without a.senses (nexus_of r.process); holds = nexuses_without a.holds (nexus_of r.process) }
+        else a).ended ≡ a.ended
+    same r reply true t = refl
+    same r reply false true = refl
+    same r reply false false = refl
+
+    by : (r : RunningProcess) → r.process.id ≡ i → (o : Option Reply) → IfOver b (Steps.end_step_with a r.process status o)
+    by r f None = tt
+    by r f (Some reply) =
+        if_some b (reply.status == status) _
+        (ap (λ (x : ProcId). has_item b.sent.over (process x)) f ∙ over, subst (λ (x : List ProcId). AllOver b x) (sym (same r reply (reply.status == CHECK_CONDITION) (reply.status == GOOD && is_request_sense (command_of r.process.cdb)))) h)
+
+    go : (o : Option RunningProcess) → Steps.running_process a i ≡ o → IfOver b (Steps.end_step a status o)
+    go None z = tt
+    go (Some r) z = by r (running_id a i r z) r.reply
+
+-- ---- aborts and resets end none in the array
+
+reset_same : (hosts : List HostDef) (t n : ℕ) (a : Array) → (Steps.reset_attentions hosts t n a).ended ≡ a.ended
+reset_same [] t n a = refl
+reset_same (h ∷ hosts) t n a = reset_same hosts t n (Steps.reset_attention a (record { initiator = h.dev; target = t; unit = n }))
+
+all_reset_same : (hosts : List HostDef) (units : List UnitState) (is_one : UnitState → Bool) (a : Array) → (Steps.unit_reset_attentions hosts units is_one a).ended ≡ a.ended
+all_reset_same hosts [] is_one a = refl
+all_reset_same hosts (u ∷ units) is_one a = all_reset_same hosts units is_one (if is_one u then Steps.reset_attentions hosts u.target u.unit a else a) ∙ go (is_one u)
+  where
+    go : (q : Bool) → (if q then Steps.reset_attentions hosts u.target u.unit a else a).ended ≡ a.ended
+    go true = reset_same hosts u.target u.unit a
+    go false = refl
+
+cleared_same : (i : ℕ) (lost : List Process) (a : Array) → (Steps.cleared_attentions i lost a).ended ≡ a.ended
+cleared_same i [] a = refl
+cleared_same i (p ∷ lost) a = cleared_same i lost (if p.initiator == i then a else Steps.cleared_attention a (nexus_of p)) ∙ go (p.initiator == i)
+  where
+    one : (q : Bool) (x : Array) → x.ended ≡ a.ended → (if q then a else x).ended ≡ a.ended
+    one true x e = refl
+    one false x e = e
+
+    go : (q : Bool) → (if q then a else Steps.cleared_attention a (nexus_of p)).ended ≡ a.ended
+    go true = refl
+    go false = one _ _ refl
+
+aborted_same : (s : ScenarioValue) (a : Array) (i t n : ℕ) (what : AbortKind) → (Steps.abort_step s a i t n what).ended ≡ a.ended
+aborted_same s a i t n aborts.All = refl
+aborted_same s a i t n (aborts.Tag tag) = refl
+aborted_same s a i t n aborts.WholeQueue = cleared_same i (Steps.unit_processes (unit_state_at a.units t n)) (Steps.without_dropped a (λ p. Steps.is_of_unit p t n))
+aborted_same s a i t n aborts.Device =
+    all_reset_same s.hosts a.units (λ u. u.target == t) (record (Steps.without_dropped a (λ p. p.target == t)) { senses = Steps.kept_senses (λ r. r.target == t) a.senses; holds = Steps.kept_nexuses (λ r. r.target == t) a.holds })
+
+event_over : (s : ScenarioValue) (b : Story) (a : Array) (event : Event) → AllOver b a.ended → IfOver (story_after_event s b event) (Steps.event_step s a event)
+event_over s b a event h = by event (over_all b (story_after_event s b event) a.ended (events_grow s b (event ∷ [])).over h)
+  where
+    by : (e : Event) → AllOver (story_after_event s b e) a.ended → IfOver (story_after_event s b e) (Steps.event_step s a e)
+    by (events.Accept id) k = accepted (story_after_event s b (events.Accept id)) a (process_of s id) k
+    by (events.Refuse id) k = refused (story_after_event s b (events.Refuse id)) a (process_of s id) k
+    by (events.Run id) k = run (story_after_event s b (events.Run id)) a (is_some (guest_at a.guests id)) (Steps.running_process a id) k
+    by (events.Fail id code) k = failed s (story_after_event s b (events.Fail id code)) a id (check_condition (sense_of ABORTED_COMMAND code 0x00)) (Steps.running_process a id) k
+    by (events.End id status) k = ended (story_after_event s b (events.End id status)) a id status (ends_over s b id status) k
+    by (events.Lost id) k = if_none (story_after_event s b (events.Lost id)) (Steps.has_ended a id) _ (lost_over s b id, k)
+    by (events.Aborted i t n what) k = subst (λ (x : List ProcId). AllOver (story_after_event s b (events.Aborted i t n what)) x) (sym (aborted_same s a i t n what)) k
+    by (events.Reset dev) k =
+        subst (λ (x : List ProcId). AllOver (story_after_event s b (events.Reset dev)) x) (sym (all_reset_same s.hosts a.units (λ u. true) (record (Steps.without_dropped a (λ p. true)) { senses = []; holds = [] }))) k
+
+pub step_over : (s : ScenarioValue) (b : Story) (a : Array) (event : Event) → AllOver b a.ended → IfOver (story_after_event s b event) (Steps.step s event a)
+step_over s b a event h = go (Steps.event_step s a event) (event_over s b a event h)
+  where
+    go : (o : Option Array) → IfOver (story_after_event s b event) o → IfOver (story_after_event s b event) (Steps.settled_array_if o)
+    go None k = tt
+    go (Some x) k = k

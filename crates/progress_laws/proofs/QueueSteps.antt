@@ -1,0 +1,306 @@
+-- A command that is open after an event, and stood in a queue before it, stands there after it; and one that arrives is put there.
+use Rattle.std.proofs.Common.{ℕ, zero, suc, ◌≡◌, ◌+◌, Bool, true, false, not, ◌&&◌, ◌||◌, ◌∙◌, List, [], ◌∷◌, ◌++◌, Option, Some, None, refl, sym, ap, arith}
+use Rattle.std.specs.Prelude.{if◌then◌else◌, ◌==◌, is_none, is_some, nat_lt, ⊤}
+use Rattle.std.specs.List.{list_any}
+use Rattle.std.proofs.lemmas.Option.{same_Some}
+use Rattle.bus_base.specs.declared.AbortKind.{AbortKind}
+use Rattle.bus_base.specs.declared.AbortKind.TheVariants as aborts
+use Rattle.bus_base.specs.declared.Event.{Event}
+use Rattle.bus_base.specs.declared.Event.TheVariants as events
+use Rattle.bus_base.specs.declared.ProcId.{ProcId}
+use Rattle.cdb_codec.specs.declared.sense.TheConstants.{ABORTED_COMMAND}
+use Rattle.cdb_codec.specs.declared.status.TheConstants.{GOOD, CHECK_CONDITION}
+use Rattle.cdb_codec.specs.Cdb.{command_of}
+use Rattle.scenario.specs.declared.value.CmdDef.{CmdDef}
+use Rattle.scenario.specs.declared.value.HostDef.{HostDef}
+use Rattle.scenario.specs.Value.{ScenarioValue}
+use Rattle.disk_array.specs.Execution.{Execution, Reply, check_condition, execution, is_request_sense, sense_of}
+use Rattle.disk_array.specs.Processes.{Process, command_at, process_of, same_id}
+use Rattle.disk_array.specs.SoundArray.{AllOwnUnits}
+use Rattle.disk_array.specs.Steps as Steps
+use Rattle.disk_array.specs.Steps.{has_tag, is_of_unit, running_if}
+use Rattle.disk_array.specs.Units.{Array, RunningProcess, UnitState, guest_at, is_held, nexus_of, nexuses_without, senses_without, settled_array, unit_state_at, with_unit}
+use Rattle.bus_story.specs.Items.{Item, command_item, has_item, is_open, sense_item}
+use Rattle.bus_story.specs.Story.{Ending, Story, story_with_end, story_with_ends, story_with_over}
+use Rattle.bus_books.proofs.Lookups.{first_is, id_is, number_is, second_is}
+use Rattle.trace_laws.proofs.QueuedProcesses.{is_dropped}
+use Rattle.trace_laws.proofs.SentItems.{more_has, own_has}
+use Rattle.progress_laws.proofs.QueueEvents.{Spares, chosen_all, either_stays, kept_all, left_all, or_yes, own_last, replied_all, waits, waits_last, with_unit_all, with_unit_new}
+use Rattle.progress_laws.specs.Queued.{is_in_queue, is_queued}
+
+wrong : {A : Type 0} → true ≡ false → A
+wrong e = absurd cc
+
+abbrev pub IfQueued : ProcId → Option Array → Type 0
+IfQueued id None = ⊤
+IfQueued id (Some a) = is_queued a.units id ≡ true
+
+-- The event does not end the process.
+abbrev pub IsNotEnded : ScenarioValue → Event → ProcId → Type 0
+IsNotEnded s (events.End i status) id = same_id i id ≡ false
+IsNotEnded s (events.Lost i) id = same_id i id ≡ false
+IsNotEnded s (events.Aborted i t n what) id = Spares s (λ p. is_dropped i t n what p) id
+IsNotEnded s (events.Reset dev) id = ⊥
+IsNotEnded s _ id = ⊤
+
+-- ---- the array
+
+if_some : (id : ProcId) (q : Bool) (b : Array) → is_queued b.units id ≡ true → IfQueued id (if q then Some b else None)
+if_some id true b e = e
+if_some id false b e = tt
+
+if_none : (id : ProcId) (q : Bool) (b : Array) → is_queued b.units id ≡ true → IfQueued id (if q then None else Some b)
+if_none id true b e = tt
+if_none id false b e = e
+
+no_unit : {A : Type 0} (u : UnitState) → (let a : Option UnitState = None in a) ≡ Some u → A
+no_unit u e = absurd cc
+
+found : (units : List UnitState) (t n : ℕ) (u : UnitState) → unit_state_at units t n ≡ Some u → (u.target ≡ t) × (u.unit ≡ n)
+found [] t n u e = no_unit u e
+found (v ∷ units) t n u e = go (v.target == t && v.unit == n) refl e (λ z. found units t n u z)
+  where
+    go : (x : Bool) → (v.target == t && v.unit == n) ≡ x → (if x then Some v else unit_state_at units t n) ≡ Some u → (unit_state_at units t n ≡ Some u → (u.target ≡ t) × (u.unit ≡ n)) → (u.target ≡ t) × (u.unit ≡ n)
+    go true z h more =
+        let same : v ≡ u = same_Some v u h in
+        (ap (λ (w : UnitState). w.target) (sym same) ∙ number_is v.target t (first_is (v.target == t) (v.unit == n) z), ap (λ (w : UnitState). w.unit) (sym same) ∙ number_is v.unit n (second_is (v.target == t) (v.unit == n) z))
+    go false z h more = more h
+
+at_own : (units : List UnitState) (t n : ℕ) (u : UnitState) → unit_state_at units t n ≡ Some u → unit_state_at units u.target u.unit ≡ Some u
+at_own units t n u e = let w = found units t n u e in (λ i. unit_state_at units (w.0 i) (w.1 i)) ∙ e
+
+arriving : (u : UnitState) (p : Process) (id : ProcId) → is_in_queue u id ≡ true → is_in_queue (record u { waiting = u.waiting ++ p ∷ [] }) id ≡ true
+arriving u p id e = either_stays (waits u.waiting id) (is_some (running_if u.current id)) _ _ (λ z. waits_last u.waiting p id z) (λ z. z) e
+
+accepted : (a : Array) (o : Option Process) (id : ProcId) → is_queued a.units id ≡ true → IfQueued id (Steps.accept_step a o)
+accepted a None id e = tt
+accepted a (Some p) id e = at (unit_state_at a.units p.target p.unit) refl
+  where
+    at : (u : Option UnitState) → unit_state_at a.units p.target p.unit ≡ u → IfQueued id (Steps.accept_step_at a p u)
+    at None z = e
+    at (Some u) z = go (is_request_sense (command_of p.cdb))
+      where
+        go : (q : Bool) → IfQueued id (if q then Some (Steps.with_guest a p None) else Steps.queue_step a p u)
+        go true = e
+        go false =
+            if_some id (nat_lt (Steps.process_count u) u.depth) (record a { units = with_unit a.units (record u { waiting = u.waiting ++ p ∷ [] }) })
+            (with_unit_all a.units (record u { waiting = u.waiting ++ p ∷ [] }) u id (at_own a.units p.target p.unit u z) (λ y. arriving u p id y) e)
+
+refused : (a : Array) (o : Option Process) (id : ProcId) → is_queued a.units id ≡ true → IfQueued id (Steps.refuse_step a o)
+refused a None id e = tt
+refused a (Some p) id e = at (unit_state_at a.units p.target p.unit)
+  where
+    at : (u : Option UnitState) → IfQueued id (Steps.refuse_step_at a p u)
+    at None = tt
+    at (Some u) = if_some id (not (is_request_sense (command_of p.cdb)) && Steps.process_count u == u.depth) _ e
+
+executed : (a : Array) (p : Process) (u : Option UnitState) (done : Execution) (id : ProcId) → unit_state_at a.units p.target p.unit ≡ u → is_queued a.units id ≡ true → is_queued (Steps.after_execution a p u done).units id ≡ true
+executed a p u done id at e = replied_all (Steps.with_contents (Steps.without_attention a done.reported (nexus_of p)) u done.contents).units id p.id done.reply (filled done.reported u at)
+  where
+    filled : (q : Bool) (o : Option UnitState) → unit_state_at a.units p.target p.unit ≡ o → is_queued (Steps.with_contents (Steps.without_attention a q (nexus_of p)) o done.contents).units id ≡ true
+    filled true None z = e
+    filled false None z = e
+    filled true (Some v) z = with_unit_all a.units (record v { contents = done.contents }) v id (at_own a.units p.target p.unit v z) (λ y. y) e
+    filled false (Some v) z = with_unit_all a.units (record v { contents = done.contents }) v id (at_own a.units p.target p.unit v z) (λ y. y) e
+
+run : (a : Array) (guest : Bool) (o : Option RunningProcess) (id : ProcId) → is_queued a.units id ≡ true → IfQueued id (Steps.run_step a guest o)
+run a guest None id e = tt
+run a guest (Some r) id e =
+    if_some id (is_none r.reply && (guest || not (is_held a.holds r.process.target r.process.unit))) _
+    (executed a r.process (unit_state_at a.units r.process.target r.process.unit) (execution (Steps.context_at a (nexus_of r.process) (unit_state_at a.units r.process.target r.process.unit)) r.process.cdb r.process.sent) id refl e)
+
+failed : (s : ScenarioValue) (a : Array) (i : ProcId) (reply : Reply) (o : Option RunningProcess) (id : ProcId) → is_queued a.units id ≡ true → IfQueued id (Steps.fail_step s a i reply o)
+failed s a i reply (Some r) id e = if_some id (is_none r.reply) _ (replied_all a.units id i reply e)
+failed s a i reply None id e = new (process_of s i)
+  where
+    new : (p : Option Process) → IfQueued id (Steps.fail_step_of_new a i reply p)
+    new None = tt
+    new (Some p) = if_none id (Steps.is_waiting a.units i || Steps.has_ended a i) _ e
+
+none_run : {A : Type 0} (r : RunningProcess) → (let o : Option RunningProcess = None in o) ≡ Some r → A
+none_run r z = absurd cc
+
+guest_id : (guests : List RunningProcess) (i : ProcId) (r : RunningProcess) → guest_at guests i ≡ Some r → r.process.id ≡ i
+guest_id [] i r z = none_run r z
+guest_id (g ∷ guests) i r z = go (same_id g.process.id i) refl z (λ w. guest_id guests i r w)
+  where
+    go : (x : Bool) → same_id g.process.id i ≡ x → (if x then Some g else guest_at guests i) ≡ Some r → (guest_at guests i ≡ Some r → r.process.id ≡ i) → r.process.id ≡ i
+    go true f h more = ap (λ (w : RunningProcess). w.process.id) (sym (same_Some g r h)) ∙ id_is g.process.id i f
+    go false f h more = more h
+
+current_id : (o : Option RunningProcess) (i : ProcId) (r : RunningProcess) → running_if o i ≡ Some r → r.process.id ≡ i
+current_id None i r z = none_run r z
+current_id (Some g) i r z = go (same_id g.process.id i) refl z
+  where
+    go : (x : Bool) → same_id g.process.id i ≡ x → (if x then Some g else None) ≡ Some r → r.process.id ≡ i
+    go true f h = ap (λ (w : RunningProcess). w.process.id) (sym (same_Some g r h)) ∙ id_is g.process.id i f
+    go false f h = none_run r h
+
+unit_id : (units : List UnitState) (i : ProcId) (r : RunningProcess) → Steps.running_in units i ≡ Some r → r.process.id ≡ i
+unit_id [] i r z = none_run r z
+unit_id (u ∷ units) i r z = go (running_if u.current i) refl z (λ w. unit_id units i r w)
+  where
+    go : (o : Option RunningProcess) → running_if u.current i ≡ o → (if is_some o then o else Steps.running_in units i) ≡ Some r → (Steps.running_in units i ≡ Some r → r.process.id ≡ i) → r.process.id ≡ i
+    go (Some g) f h more = current_id u.current i r (f ∙ h)
+    go None f h more = more h
+
+pub running_id : (a : Array) (i : ProcId) (r : RunningProcess) → Steps.running_process a i ≡ Some r → r.process.id ≡ i
+running_id a i r e = go (guest_at a.guests i) refl e
+  where
+    go : (o : Option RunningProcess) → guest_at a.guests i ≡ o → (if is_some o then o else Steps.running_in a.units i) ≡ Some r → r.process.id ≡ i
+    go (Some g) z h = guest_id a.guests i r (z ∙ h)
+    go None z h = unit_id a.units i r h
+
+ended : (a : Array) (i : ProcId) (status : ℕ) (id : ProcId) → same_id i id ≡ false → is_queued a.units id ≡ true → IfQueued id (Steps.end_step a status (Steps.running_process a i))
+ended a i status id ne e = go (Steps.running_process a i) refl
+  where
+    same : (r : RunningProcess) (reply : Reply) (q t : Bool) → (if q then record a { senses = (nexus_of r.process, reply.sense) ∷ senses_without a.senses (nexus_of r.process); holds = nexus_of r.process ∷ nexuses_without a.holds (nexus_of r.process) }
+        else if t then record a { senses = senses_without a.senses (nexus_of r.process); holds = nexuses_without a.holds (nexus_of r.process) }
+        else a).units ≡ a.units
+    same r reply true t = refl
+    same r reply false true = refl
+    same r reply false false = refl
+
+    by : (r : RunningProcess) → r.process.id ≡ i → (reply : Option Reply) → IfQueued id (Steps.end_step_with a r.process status reply)
+    by r f None = tt
+    by r f (Some reply) =
+        if_some id (reply.status == status) _
+        (left_all (Steps.after_status a r.process reply).units id r.process.id (ap (λ (w : ProcId). same_id w id) f ∙ ne)
+        (ap (λ (us : List UnitState). is_queued us id) (same r reply (reply.status == CHECK_CONDITION) (reply.status == GOOD && is_request_sense (command_of r.process.cdb))) ∙ e))
+
+    go : (o : Option RunningProcess) → Steps.running_process a i ≡ o → IfQueued id (Steps.end_step a status o)
+    go None z = tt
+    go (Some r) z = by r (running_id a i r z) r.reply
+
+pub cleared_same : (i : ℕ) (lost : List Process) (a : Array) → (Steps.cleared_attentions i lost a).units ≡ a.units
+cleared_same i [] a = refl
+cleared_same i (p ∷ lost) a = cleared_same i lost (if p.initiator == i then a else Steps.cleared_attention a (nexus_of p)) ∙ go (p.initiator == i)
+  where
+    one : (q : Bool) (x : Array) → x.units ≡ a.units → (if q then a else x).units ≡ a.units
+    one true x e = refl
+    one false x e = e
+
+    go : (q : Bool) → (if q then a else Steps.cleared_attention a (nexus_of p)).units ≡ a.units
+    go true = refl
+    go false = one _ _ refl
+
+reset_same : (hosts : List HostDef) (t n : ℕ) (a : Array) → (Steps.reset_attentions hosts t n a).units ≡ a.units
+reset_same [] t n a = refl
+reset_same (h ∷ hosts) t n a = reset_same hosts t n (Steps.reset_attention a (record { initiator = h.dev; target = t; unit = n }))
+
+all_reset_same : (hosts : List HostDef) (units : List UnitState) (is_one : UnitState → Bool) (a : Array) → (Steps.unit_reset_attentions hosts units is_one a).units ≡ a.units
+all_reset_same hosts [] is_one a = refl
+all_reset_same hosts (u ∷ units) is_one a = all_reset_same hosts units is_one (if is_one u then Steps.reset_attentions hosts u.target u.unit a else a) ∙ go (is_one u)
+  where
+    go : (q : Bool) → (if q then Steps.reset_attentions hosts u.target u.unit a else a).units ≡ a.units
+    go true = reset_same hosts u.target u.unit a
+    go false = refl
+
+aborted : (s : ScenarioValue) (a : Array) (i t n : ℕ) (what : AbortKind) (id : ProcId) → Spares s (λ p. is_dropped i t n what p) id → AllOwnUnits s a.units → is_queued a.units id ≡ true → is_queued (Steps.abort_step s a i t n what).units id ≡ true
+aborted s a i t n aborts.All id spares own e = kept_all s (λ p. p.initiator == i && is_of_unit p t n) a.units id spares own e
+aborted s a i t n (aborts.Tag tag) id spares own e = kept_all s (λ p. p.initiator == i && is_of_unit p t n && has_tag p.tag tag) a.units id spares own e
+aborted s a i t n aborts.WholeQueue id spares own e =
+    ap (λ (us : List UnitState). is_queued us id) (cleared_same i (Steps.unit_processes (unit_state_at a.units t n)) (Steps.without_dropped a (λ p. is_of_unit p t n)))
+    ∙ kept_all s (λ p. is_of_unit p t n) a.units id spares own e
+aborted s a i t n aborts.Device id spares own e =
+    ap (λ (us : List UnitState). is_queued us id) (all_reset_same s.hosts a.units (λ u. u.target == t) (record (Steps.without_dropped a (λ p. p.target == t)) { senses = Steps.kept_senses (λ r. r.target == t) a.senses; holds = Steps.kept_nexuses (λ r. r.target == t) a.holds }))
+    ∙ kept_all s (λ p. p.target == t) a.units id spares own e
+
+event_stays : (s : ScenarioValue) (a : Array) (event : Event) (id : ProcId) → AllOwnUnits s a.units → IsNotEnded s event id → is_queued a.units id ≡ true → IfQueued id (Steps.event_step s a event)
+event_stays s a (events.Accept i) id own h e = accepted a (process_of s i) id e
+event_stays s a (events.Refuse i) id own h e = refused a (process_of s i) id e
+event_stays s a (events.Run i) id own h e = run a (is_some (guest_at a.guests i)) (Steps.running_process a i) id e
+event_stays s a (events.Fail i code) id own h e = failed s a i (check_condition (sense_of ABORTED_COMMAND code 0x00)) (Steps.running_process a i) id e
+event_stays s a (events.End i status) id own h e = ended a i status id h e
+event_stays s a (events.Lost i) id own h e = if_none id (Steps.has_ended a i) _ (left_all a.units id i h e)
+event_stays s a (events.Aborted i t n what) id own h e = aborted s a i t n what id h own e
+event_stays s a (events.Reset dev) id own h e = absurd h
+
+pub step_stays : (s : ScenarioValue) (a : Array) (event : Event) (id : ProcId) → AllOwnUnits s a.units → IsNotEnded s event id → is_queued a.units id ≡ true → IfQueued id (Steps.step s event a)
+step_stays s a event id own h e = go (Steps.event_step s a event) (event_stays s a event id own h e)
+  where
+    go : (o : Option Array) → IfQueued id o → IfQueued id (Steps.settled_array_if o)
+    go None k = tt
+    go (Some b) k = chosen_all b.holds b.units id k
+
+-- A command that arrives at a unit that is there, and is no REQUEST SENSE without fault, is put into its queue.
+pub step_puts : (s : ScenarioValue) (a b : Array) (p : Process) (u : UnitState) → process_of s p.id ≡ Some p → unit_state_at a.units p.target p.unit ≡ Some u → is_request_sense (command_of p.cdb) ≡ false → Steps.step s (events.Accept p.id) a ≡ Some b → is_queued b.units p.id ≡ true
+step_puts s a b p u is at queued e = go (nat_lt (Steps.process_count u) u.depth) (sym steps ∙ e)
+  where
+    new : Array
+    new = record a { units = with_unit a.units (record u { waiting = u.waiting ++ p ∷ [] }) }
+
+    steps : Steps.step s (events.Accept p.id) a ≡ Steps.settled_array_if (Steps.queue_step a p u)
+    steps =
+        ap (λ (o : Option Process). Steps.settled_array_if (Steps.accept_step a o)) is
+        ∙ ap (λ (o : Option UnitState). Steps.settled_array_if (Steps.accept_step_at a p o)) at
+        ∙ ap (λ (q : Bool). Steps.settled_array_if (if q then Some (Steps.with_guest a p None) else Steps.queue_step a p u)) queued
+
+    none_array : {A : Type 0} → (let o : Option Array = None in o) ≡ Some b → A
+    none_array z = absurd cc
+
+    go : (q : Bool) → Steps.settled_array_if (if q then Some new else None) ≡ Some b → is_queued b.units p.id ≡ true
+    go true z =
+        ap (λ (x : Array). is_queued x.units p.id) (sym (same_Some (settled_array new) b z))
+        ∙ chosen_all new.holds new.units p.id (with_unit_new a.units (record u { waiting = u.waiting ++ p ∷ [] }) u p.id (at_own a.units p.target p.unit u at) (or_yes (waits (u.waiting ++ p ∷ []) p.id) _ (own_last u.waiting p)))
+    go false z = none_array z
+
+-- ---- what is open after an event was not ended by it
+
+over_grows : (drops stops : CmdDef → Bool) (e : Ending) (n : ℕ) (commands : List CmdDef) (b : Story) (item : Item) → has_item b.sent.over item ≡ true → has_item (story_with_ends drops stops e n commands b).sent.over item ≡ true
+over_grows drops stops e n [] b item h = h
+over_grows drops stops e n (c ∷ commands) b item h =
+    over_grows drops stops e (n + 1) commands
+    (if is_open b.sent n && drops c then story_with_end b (record { command = n; sense = false }) e
+    else if stops c && list_any (λ k. k == n) b.sent.checks then story_with_over b (sense_item n)
+    else b) item (go (is_open b.sent n && drops c) (stops c && list_any (λ k. k == n) b.sent.checks))
+  where
+    go : (q r : Bool) → has_item (if q then story_with_end b (record { command = n; sense = false }) e else if r then story_with_over b (sense_item n) else b).sent.over item ≡ true
+    go true r = more_has (command_item n) item b.sent.over h
+    go false true = more_has (sense_item n) item b.sent.over h
+    go false false = h
+
+no_command : {A : Type 0} (c : CmdDef) → (let a : Option CmdDef = None in a) ≡ Some c → A
+no_command c e = absurd cc
+
+pub ends_close : (drops stops : CmdDef → Bool) (e : Ending) (j k : ℕ) (commands : List CmdDef) (b : Story) (c : CmdDef) → command_at commands (suc k) ≡ Some c → drops c ≡ true → has_item b.sent.sent (command_item (suc (j + k))) ≡ true
+    → has_item (story_with_ends drops stops e (suc j) commands b).sent.over (command_item (suc (j + k))) ≡ true
+ends_close drops stops e j k [] b c at d sent = no_command c at
+ends_close drops stops e j zero (x ∷ commands) b c at d sent =
+    let same : suc (j + 0) ≡ suc j = omega arith in
+    let there : has_item b.sent.sent (command_item (suc j)) ≡ true = ap (λ (m : ℕ). has_item b.sent.sent (command_item m)) (sym same) ∙ sent in
+    let next : Story =
+    if is_open b.sent (suc j) && drops x then story_with_end b (record { command = suc j; sense = false }) e
+    else if stops x && list_any (λ m. m == suc j) b.sent.checks then story_with_over b (sense_item (suc j))
+    else b in
+    ap (λ (m : ℕ). has_item (story_with_ends drops stops e (suc j) (x ∷ commands) b).sent.over (command_item m)) same
+    ∙ over_grows drops stops e (suc j + 1) commands next (command_item (suc j)) (by there (ap drops (same_Some x c at) ∙ d) (has_item b.sent.over (command_item (suc j))) refl)
+  where
+    after : Bool → Story
+    after q =
+        if q then story_with_end b (record { command = suc j; sense = false }) e
+        else if stops x && list_any (λ m. m == suc j) b.sent.checks then story_with_over b (sense_item (suc j))
+        else b
+
+    still : (q r : Bool) → has_item b.sent.over (command_item (suc j)) ≡ true → has_item (if q then story_with_end b (record { command = suc j; sense = false }) e else if r then story_with_over b (sense_item (suc j)) else b).sent.over (command_item (suc j)) ≡ true
+    still true r h = more_has (command_item (suc j)) (command_item (suc j)) b.sent.over h
+    still false true h = more_has (sense_item (suc j)) (command_item (suc j)) b.sent.over h
+    still false false h = h
+
+    by : has_item b.sent.sent (command_item (suc j)) ≡ true → drops x ≡ true → (o : Bool) → has_item b.sent.over (command_item (suc j)) ≡ o → has_item (after (is_open b.sent (suc j) && drops x)).sent.over (command_item (suc j)) ≡ true
+    by there dx true f = still (is_open b.sent (suc j) && drops x) (stops x && list_any (λ m. m == suc j) b.sent.checks) f
+    by there dx false f = (λ i. has_item (after ((there i && not (f i)) && dx i)).sent.over (command_item (suc j))) ∙ own_has (command_item (suc j)) b.sent.over
+ends_close drops stops e j (suc k) (x ∷ commands) b c at d sent =
+    let next : Story =
+    if is_open b.sent (suc j) && drops x then story_with_end b (record { command = suc j; sense = false }) e
+    else if stops x && list_any (λ m. m == suc j) b.sent.checks then story_with_over b (sense_item (suc j))
+    else b in
+    let moved : suc (j + suc k) ≡ suc (suc j + k) = omega arith in
+    let one_more : suc (suc j) ≡ suc j + 1 = omega arith in
+    (λ i. has_item (story_with_ends drops stops e (sym one_more i) commands next).sent.over (command_item (moved i)))
+    ∙ ends_close drops stops e (suc j) k commands next c at d (same_sent (is_open b.sent (suc j) && drops x) (stops x && list_any (λ m. m == suc j) b.sent.checks) ∙ ap (λ (m : ℕ). has_item b.sent.sent (command_item m)) (sym moved) ∙ sent)
+  where
+    same_sent : (q r : Bool) → has_item (if q then story_with_end b (record { command = suc j; sense = false }) e else if r then story_with_over b (sense_item (suc j)) else b).sent.sent (command_item (suc (suc j + k))) ≡ has_item b.sent.sent (command_item (suc (suc j + k)))
+    same_sent true r = refl
+    same_sent false true = refl
+    same_sent false false = refl

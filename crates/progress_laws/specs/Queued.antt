@@ -1,0 +1,43 @@
+-- What is to hold of a prompt trace that each command has its outcome at its end: an open command without a connection stands in a queue,
+-- and to those that stand in a hold a sense is owed (7.6, 7.8).
+use Rattle.std.specs.Prelude.{ℕ, ◌≡◌, ◌==◌, ◌||◌, Bool, true, false, is_some, List, [], ◌∷◌, Some, ⊤}
+use Rattle.std.specs.List.{list_any}
+use Rattle.bus_base.specs.declared.ProcId.{ProcId}
+use Rattle.scenario.specs.declared.value.CmdDef.{CmdDef}
+use Rattle.scenario.specs.Value.{ScenarioValue}
+use Rattle.disk_array.specs.Processes.{Process, command_at, same_id}
+use Rattle.disk_array.specs.Steps.{running_if}
+use Rattle.disk_array.specs.Units.{Nexus, UnitState}
+use Rattle.bus_story.specs.Items.{Sent, has_item, is_open, sense_item}
+use Rattle.bus_due.specs.RunState.{RunState, array_of}
+use Rattle.bus_books.specs.Accounts.{is_served_by}
+
+-- A process waits at this unit, or is the current one.
+abbrev pub is_in_queue : UnitState → ProcId → Bool
+is_in_queue u id = list_any (λ (p : Process). same_id p.id id) u.waiting || is_some (running_if u.current id)
+
+abbrev pub is_queued : List UnitState → ProcId → Bool
+is_queued units id = list_any (λ (u : UnitState). is_in_queue u id) units
+
+abbrev pub command_id : ℕ → ProcId
+command_id n = record { command = n; sense = false }
+
+-- Each command that was sent, is not over and has no connection stands in a queue.
+abbrev pub AreQueued : ScenarioValue → RunState → Type 0
+AreQueued s k = (n : ℕ) (c : CmdDef) → command_at s.commands n ≡ Some c → is_open k.story.sent n ≡ true → is_served_by k.served (command_id n) ≡ false → is_queued (array_of s k).units (command_id n) ≡ true
+
+-- To an initiator that stands in the hold of a unit the sense of a command of this unit is owed, of which its automatic REQUEST
+-- SENSE is not over (7.6).
+pub record IsOwed (s : ScenarioValue) (b : Sent) (q : Nexus) : Type 0 where
+  pub number : ℕ
+  pub def : CmdDef
+  pub def_is : command_at s.commands number ≡ Some def
+  pub host_is : def.host ≡ q.initiator
+  pub target_is : def.target ≡ q.target
+  pub unit_is : def.unit ≡ q.unit
+  pub checked : list_any (λ k. k == number) b.checks ≡ true
+  pub opens : has_item b.over (sense_item number) ≡ false
+
+abbrev pub AreOwed : ScenarioValue → Sent → List Nexus → Type 0
+AreOwed s b [] = ⊤
+AreOwed s b (q ∷ holds) = IsOwed s b q × AreOwed s b holds

@@ -1,0 +1,286 @@
+-- As a byte of data crosses, the process that is served would end GOOD; and in DATA IN the byte is that at its data pointer, where this stands
+-- as far in the run as bytes were asked for (6.1.5.1, 6.6.20).
+use Rattle.std.proofs.Common.{ℕ, ◌+◌, ◌≡◌, ◌≤◌, ◌<◌, arith, Bool, true, false, not, ◌&&◌, ◌==◌, ◌%◌, ◌∙◌, List, ◌∷◌, length, Option, Some, None, refl, sym, ap, subst, true≢false}
+use Rattle.std.specs.Prelude.{if◌then◌else◌, is_some, slice_index_or}
+use Rattle.std.proofs.lemmas.Bool.Decides.{nat_tests}
+use Rattle.bus_base.specs.declared.ProcId.{ProcId}
+use Rattle.bus_trace.specs.LineSet.{LineSet}
+use Rattle.bus_trace.specs.Changes.{change_of, rises}
+use Rattle.bus_trace.specs.Phases.{is_data}
+use Rattle.bus_trace.specs.Terms.{call, connection, connection_after, receiver_in, receiver_of}
+use Rattle.bus_trace.specs.Trace.{bus}
+use Rattle.bus_trace.specs.declared.Row.{Row}
+use Rattle.bus_trace.specs.declared.changes.Change.{Change}
+use Rattle.bus_trace.specs.declared.connection.Connection.{Connection}
+use Rattle.bus_trace.proofs.OddParity.{byte_back}
+use Rattle.bus_lines.specs.Handshakes.{handshakes}
+use Rattle.cdb_codec.specs.declared.status.TheConstants.{GOOD}
+use Rattle.scenario.specs.Value.{ScenarioValue}
+use Rattle.scenario.specs.Writing.{Obeys}
+use Rattle.scenario.specs.declared.value.Policy.{Policy}
+use Rattle.disk_array.specs.ArrayHistory.{reply_in}
+use Rattle.disk_array.specs.Execution.{Reply}
+use Rattle.disk_array.specs.Processes.{Process}
+use Rattle.scsi_device.proofs.FitLines.{obeys_fits, seats_are}
+use Rattle.bus_story.specs.BusState.{row_reading}
+use Rattle.bus_dialogue.specs.declared.exchange.Phase.TheVariants as phases
+use Rattle.bus_dialogue.specs.declared.exchange.Task.{Task}
+use Rattle.bus_dialogue.specs.Arrivals.{policy_of}
+use Rattle.bus_dialogue.specs.DataRuns.{run_at, run_length}
+use Rattle.bus_dialogue.specs.Hearing.{begun}
+use Rattle.bus_dialogue.specs.NextPhase.{phase_of}
+use Rattle.bus_dialogue.specs.PhaseBytes.{data_byte, phase_byte, run_length_if}
+use Rattle.bus_due.specs.Defs.{target_def_of}
+use Rattle.bus_due.specs.LastingState.{progress_in}
+use Rattle.bus_due.specs.Next.{IsPrompt}
+use Rattle.bus_due.specs.Plain.{IsPlain, AreOfDevices}
+use Rattle.bus_due.specs.RunState.{RunState, array_of, bus_of, carried_here, process_item, process_served}
+use Rattle.bus_due.specs.RunSteps.{run_state}
+use Rattle.bus_due.specs.Sights.{serving_of}
+use Rattle.bus_due.specs.Tasks.{is_writing, given_if, moved_count, reply_now, task_if, task_with}
+use Rattle.bus_due.proofs.Plains.{run_state_plain}
+use Rattle.bus_books.specs.Traces.{GoesOn}
+use Rattle.bus_books.proofs.CarriedRows.{process_id}
+use Rattle.bus_laws.proofs.Apart.{change_plain}
+use Rattle.bus_laws.proofs.Prompt.{least_is}
+use Rattle.trace_laws.specs.RunCounts.{AreCounted, CountFacts, pulses_here}
+use Rattle.link_laws.specs.Pulses.{run_count}
+use Rattle.trace_laws.proofs.ByteValues.{byte_values}
+use Rattle.trace_laws.proofs.Plans.{is_directed, writes_of, writes_out}
+use Rattle.trace_laws.proofs.RunAsks.{out_step}
+use Rattle.trace_laws.proofs.RunParts.{byte_within}
+use Rattle.right_laws.specs.Given.{GivesNext, GivesAtCrossing}
+use Rattle.right_laws.specs.GivenPointers.{PointsAtRun, PointsAtCrossing}
+use Rattle.right_laws.specs.Standing.{AllStandIn}
+use Rattle.right_laws.proofs.DataOfferFacts.{DataOfferFacts, data_in_carries}
+use Rattle.right_laws.proofs.DataOffers.{is_data_in, data_at}
+use Rattle.right_laws.proofs.RanFacts.{Known}
+use Rattle.right_laws.proofs.RowCrossings.{GoesSo, crossing_goes, known_served}
+
+wrong : {A : Type 0} → true ≡ false → A
+wrong e = absurd (true≢false e)
+
+wrong' : {A : Type 0} → false ≡ true → A
+wrong' e = absurd (true≢false (sym e))
+
+-- ---- what moves
+
+good_of : (p : Process) (r : Reply) (x : ℕ) → x < moved_count p r → r.status ≡ GOOD
+good_of p r x h = go (r.status == GOOD) refl
+  where
+    some : ℕ
+    some = if is_writing p then length p.sent else length r.bytes
+
+    none : (n : ℕ) → n ≡ 0 → x < n → r.status ≡ GOOD
+    none n e f = absurd omega (arith, e, f)
+
+    go : (q : Bool) → (r.status == GOOD) ≡ q → r.status ≡ GOOD
+    go true e = grind (arith, nat_tests)
+    go false e = none (moved_count p r) (ap (λ (q : Bool). if q then some else 0) e) h
+
+few_of : (p : Process) (r : Reply) → is_writing p ≡ false → moved_count p r ≤ length r.bytes
+few_of p r w = go (r.status == GOOD) (is_writing p) w
+  where
+    go : (g b : Bool) → b ≡ false → (if g then (if b then length p.sent else length r.bytes) else 0) ≤ length r.bytes
+    go true true e = wrong e
+    go true false e = omega arith
+    go false b e = omega arith
+
+less : (a b c d : ℕ) → a ≡ b → b < c → c ≤ d → a < d
+less a b c d e f g = omega (arith, e, f, g)
+
+none_more : (n : ℕ) → n + 0 ≡ n
+none_more n = omega arith
+
+reads_in : (io : Bool) (p : Process) → is_directed io (writes_of (Some p)) ≡ true → is_writing p ≡ false → io ≡ true
+reads_in true p e w = refl
+reads_in false p e w = wrong' (sym w ∙ e)
+
+-- ---- lines
+
+data_phase : (b : LineSet) → is_data b ≡ true → phase_of b ≡ (if b.io then phases.DataIn else phases.DataOut)
+data_phase b e = go b.msg b.cd refl refl e
+  where
+    go : (m d : Bool) → b.msg ≡ m → b.cd ≡ d → (not m && not d) ≡ true → phase_of b ≡ (if b.io then phases.DataIn else phases.DataOut)
+    go true d x y z = wrong' z
+    go false true x y z = wrong' z
+    go false false x y z = λ i. if x i then (if b.io then phases.MessageIn else phases.MessageOut) else if y i then (if b.io then phases.Status else phases.Command) else if b.io then phases.DataIn else phases.DataOut
+
+data_in_lines : (b : LineSet) → is_data b ≡ true → b.io ≡ true → is_data_in b ≡ true
+data_in_lines b e f = go b.msg b.cd b.io e f
+  where
+    go : (m d i : Bool) → (not m && not d) ≡ true → i ≡ true → (not m && not d && i) ≡ true
+    go true d i z w = wrong' z
+    go false true i z w = wrong' z
+    go false false i z w = w
+
+req_rises : (n : Connection) (c : Change) → c.before.io ≡ true → is_some (receiver_in n c) ≡ true → rises c.before.req c.after.req ≡ true
+req_rises n c io e = go (rises c.before.req c.after.req) (sym (ap (λ (q : Bool). is_some (if q then (if rises c.before.req c.after.req then Some n.initiator else None) else (if rises c.before.ack c.after.ack then Some n.target else None))) io) ∙ e)
+  where
+    go : (q : Bool) → is_some (let o : Option ℕ = if q then Some n.initiator else None in o) ≡ true → q ≡ true
+    go true z = refl
+    go false z = wrong' z
+
+ack_rises : (n : Connection) (c : Change) → c.before.io ≡ false → is_some (receiver_in n c) ≡ true → rises c.before.ack c.after.ack ≡ true
+ack_rises n c io e = go (rises c.before.ack c.after.ack) (sym (ap (λ (q : Bool). is_some (if q then (if rises c.before.req c.after.req then Some n.initiator else None) else (if rises c.before.ack c.after.ack then Some n.target else None))) io) ∙ e)
+  where
+    go : (q : Bool) → is_some (let o : Option ℕ = if q then Some n.target else None in o) ≡ true → q ≡ true
+    go true z = refl
+    go false z = wrong' z
+
+low_before : (a b : Bool) → rises a b ≡ true → a ≡ false
+low_before true b e = wrong' e
+low_before false b e = refl
+
+-- ---- a byte crosses
+
+pub gives_crossing : (s : ScenarioValue) (p : List Row) (row : Row) → Obeys s → IsPrompt s (row ∷ p) → Known s p row → DataOfferFacts s p → CountFacts s p → AllStandIn (run_state s p) → PointsAtCrossing s (run_state s p) row → GivesAtCrossing s (run_state s p) row
+gives_crossing s p row o prompt h offers counted stands points l id q link item own crosses moves = by (crossing_goes s k row h.next.row_is crosses)
+  where
+    k : RunState
+    k = run_state s p
+
+    dv : AreOfDevices p
+    dv = h.was.standing.devices
+
+    lt : row.dev < 8
+    lt = (least_is s p row prompt.1).inside
+
+    pl : IsPlain s p k
+    pl = run_state_plain s p dv
+
+    now : Reply
+    now = reply_now (array_of s k) q
+
+    t : Task
+    t = task_with (array_of s k) (progress_in k.progress q.id) q (carried_here k q.id) now (reply_in (array_of s k).replies q.id)
+
+    same : q.id ≡ id
+    same = process_id s id q own
+
+    change : (row_reading k.story.bus_state row).change ≡ change_of p row
+    change = change_plain s row p dv lt
+
+    by : GoesSo s k row → GivesNext s k q id ((row_reading k.story.bus_state row).change.after.data_bits % 256)
+    by w = dir (is_writing q) refl
+      where
+        n : Connection
+        n = w.connection
+
+        g : GoesOn s k row n w.change
+        g = w.goes
+
+        policy : Policy
+        policy = policy_of (target_def_of s n.target)
+
+        here : process_served s k ≡ Some q
+        here = ap (process_item s) (known_served s k row n w.change l id h.was.books g link item) ∙ own
+
+        lines : bus_of k ≡ (row_reading k.story.bus_state row).change.before
+        lines = g.row_is.bus_is ∙ ap (λ (c : Change). c.before) (sym g.row_is.change_is)
+
+        on : is_data (bus_of k) ≡ true
+        on = ap is_data lines ∙ moves
+
+        con : connection p ≡ Some n
+        con = sym pl.connection ∙ g.row_is.connection_is
+
+        off : (bus p).rst ≡ false
+        off = ap (λ (b : LineSet). b.rst) (sym pl.bus) ∙ g.calm
+
+        whole : change_of p row ≡ w.change
+        whole = sym change ∙ g.row_is.change_is
+
+        calm : (bus (row ∷ p)).rst ≡ false
+        calm = ap (λ (c : Change). c.after.rst) whole ∙ g.row_is.calm
+
+        after : connection (row ∷ p) ≡ Some n
+        after = (λ i. connection_after (con i) (call p) (whole i) row) ∙ ap (λ (b : Bool). if b then Some n else None) g.row_is.stands
+
+        directed : is_directed (bus_of k).io (writes_of (Some q)) ≡ true
+        directed = sym (ap (λ (x : Option Process). is_directed (bus_of k).io (writes_of x)) here) ∙ (h.was.planned n con off).serves (g.begun crosses) on
+
+        some : is_some (receiver_in n (change_of p row)) ≡ true
+        some = (λ i. is_some (receiver_of (sym g.row_is.connection_is i) (sym change i))) ∙ crosses
+
+        reading : is_writing q ≡ false → GivesNext s k q id ((row_reading k.story.bus_state row).change.after.data_bits % 256)
+        reading reads = record {
+          good = good_of q now ((run_at policy t t.runs).start + k.handshakes.requests) inside;
+          byte_is = λ r. byte;
+          active_in = λ r. (stands.each id).active_in;
+          within = λ r. less (carried_here k id).moved.active ((run_at policy t t.runs).start + k.handshakes.requests) t.moved (length now.bytes) active inside (few_of q now reads);
+        }
+          where
+            io : (bus_of k).io ≡ true
+            io = reads_in (bus_of k).io q directed reads
+
+            io_p : (bus p).io ≡ true
+            io_p = ap (λ (b : LineSet). b.io) (sym pl.bus) ∙ io
+
+            phase : phase_of (bus_of k) ≡ phases.DataIn
+            phase = data_phase (bus_of k) on ∙ ap (λ (x : Bool). if x then phases.DataIn else phases.DataOut) io
+
+            at : PointsAtRun s k n q t
+            at = points n q t g.row_is.connection_is here (ap (task_if s k) here) reads crosses phase
+
+            active : (carried_here k id).moved.active ≡ (run_at policy t t.runs).start + k.handshakes.requests
+            active = ap (λ (x : ProcId). (carried_here k x).moved.active) (sym same) ∙ at.active_is
+
+            inside : (run_at policy t t.runs).start + k.handshakes.requests < t.moved
+            inside = byte_within policy t k.handshakes.requests at.more
+
+            small : data_at s p n < 256
+            small = subst (λ (x : ℕ). x < 256) (λ i. phase_byte (serving_of s k n.target) (phase i) k.exchange.plan.messages 0 (pl.handshakes i).requests) (byte_values s p n o (seats_are s (obeys_fits s o)) dv).offered
+
+            due : data_at s p n ≡ slice_index_or now.bytes ((run_at policy t t.runs).start + k.handshakes.requests) 0
+            due =
+                (λ i. data_byte policy (task_if s k (here i)) (given_if s k (here i)) 0 (sym pl.handshakes i).requests)
+                ∙ ap (λ (x : ℕ). slice_index_or now.bytes ((run_at policy t x).start + k.handshakes.requests) 0) (none_more t.runs)
+
+            byte : (row_reading k.story.bus_state row).change.after.data_bits % 256 ≡ slice_index_or now.bytes (carried_here k id).moved.active 0
+            byte =
+                ap (λ (c : Change). c.after.data_bits % 256) change
+                ∙ ap (λ (x : ℕ). x % 256) (data_in_carries s p row n o prompt h.was h.next offers con off after calm (data_in_lines (bus p) (ap is_data (sym pl.bus) ∙ on) io_p) (req_rises n (change_of p row) io_p some))
+                ∙ byte_back (data_at s p n) small
+                ∙ due
+                ∙ ap (λ (x : ℕ). slice_index_or now.bytes x 0) (sym active)
+
+        writing : is_writing q ≡ true → GivesNext s k q id ((row_reading k.story.bus_state row).change.after.data_bits % 256)
+        writing writes = record {
+          good = good_of q now ((run_at policy t t.runs).start + (handshakes p).answers) (byte_within policy t (handshakes p).answers (subst (λ (x : ℕ). (handshakes p).answers < x) run (answered (pulses_here p) refl)));
+          byte_is = λ r. wrong (sym writes ∙ r);
+          active_in = λ r. wrong (sym writes ∙ r);
+          within = λ r. wrong (sym writes ∙ r);
+        }
+          where
+            io : (bus_of k).io ≡ false
+            io = writes_out (bus_of k).io q directed writes
+
+            io_p : (bus p).io ≡ false
+            io_p = ap (λ (b : LineSet). b.io) (sym pl.bus) ∙ io
+
+            phase : phase_of (bus p) ≡ phases.DataOut
+            phase = ap phase_of (sym pl.bus) ∙ data_phase (bus_of k) on ∙ ap (λ (x : Bool). if x then phases.DataIn else phases.DataOut) io
+
+            b : begun p ≡ true
+            b = sym pl.begun ∙ g.begun crosses
+
+            counts : AreCounted (handshakes p) (bus p) (pulses_here p) (run_count s p n)
+            counts = counted.counts n con off b phase
+
+            run : run_count s p n ≡ run_length policy t
+            run = ap (run_length_if policy) (ap (task_if s k) here)
+
+            rose : rises (change_of p row).before.ack (change_of p row).after.ack ≡ true
+            rose = ack_rises n (change_of p row) io_p some
+
+            answered : (v : Bool) → pulses_here p ≡ v → (handshakes p).answers < run_count s p n
+            answered true u =
+                let more = ((out_step s p row n prompt h.was con off calm b phase after).step.answers rose).1 u in
+                let few = counts.pulses u in
+                omega (arith, more, few)
+            answered false u = (counts.waits u (((out_step s p row n prompt h.was con off calm b phase after).step.answers rose).0 u) (low_before (bus p).ack (bus (row ∷ p)).ack rose)).0
+
+        dir : (x : Bool) → is_writing q ≡ x → GivesNext s k q id ((row_reading k.story.bus_state row).change.after.data_bits % 256)
+        dir true e = writing e
+        dir false e = reading e

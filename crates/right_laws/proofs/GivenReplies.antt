@@ -1,0 +1,128 @@
+-- A reply that is not GOOD gives no bytes; and as a process runs its reply is the one that it has then (7.3, 7.5).
+use Rattle.std.proofs.Common.{ℕ, ◌≡◌, Bool, true, false, not, ◌&&◌, ◌||◌, ◌==◌, ◌∙◌, List, [], ◌∷◌, Option, Some, None, refl, sym, ap, true≢false}
+use Rattle.std.specs.Prelude.{Result, Ok, Err, if◌then◌else◌, is_none, is_some}
+use Rattle.bus_base.specs.declared.Event.TheVariants as events
+use Rattle.cdb_codec.specs.Cdb.{command_of}
+use Rattle.cdb_codec.specs.declared.command.CdbFault.{CdbFault}
+use Rattle.cdb_codec.specs.declared.command.CdbFault.TheVariants as faults
+use Rattle.cdb_codec.specs.declared.command.Command.{Command}
+use Rattle.cdb_codec.specs.declared.command.Command.TheVariants as commands
+use Rattle.cdb_codec.specs.declared.status.TheConstants.{GOOD}
+use Rattle.scenario.specs.Value.{ScenarioValue}
+use Rattle.disk_array.specs.ArrayHistory.{reply_in}
+use Rattle.disk_array.specs.Execution.{CommandContext, Reply, check_condition, cdb_execution, command_execution, attention_execution, execution, heeds_attention, is_good_range, needs_unit, range_execution, range_of, reply_execution, block_out_of_range, unit_not_supported}
+use Rattle.disk_array.specs.Processes.{Process, process_of}
+use Rattle.disk_array.specs.SoundArray.{AllOwn, AllOwnGuests, AllOwnUnits, IsOwnRunning, IsSound}
+use Rattle.disk_array.specs.Steps as Steps
+use Rattle.disk_array.specs.Units.{Array, RunningProcess, UnitState, guest_at, nexus_of, settled_array, unit_state_at, is_held}
+use Rattle.cdb_codec.specs.declared.Sense.{Sense}
+use Rattle.bus_due.specs.Tasks.{reply_now}
+use Rattle.bus_books.proofs.Lookups.{self_id}
+use Rattle.trace_laws.specs.Places.{OnGuests, OnUnits, Runs, Waits}
+use Rattle.trace_laws.proofs.EachProcess.{running_id}
+use Rattle.right_laws.proofs.OpenProcesses.{running_has}
+use Rattle.std.proofs.lemmas.Option.{same_Some}
+
+wrong : {A : Type 0} → true ≡ false → A
+wrong e = absurd (true≢false e)
+
+wrong' : {A : Type 0} → false ≡ true → A
+wrong' e = absurd (true≢false (sym e))
+
+-- ---- not GOOD
+
+abbrev GivesNone : Reply → Type 0
+GivesNone reply = (reply.status == GOOD) ≡ false → reply.bytes ≡ []
+
+command_bad : (m : CommandContext) (c : Command) (sent : List ℕ) → GivesNone (command_execution m c sent).reply
+command_bad m commands.TestUnitReady sent e = refl
+command_bad m (commands.RequestSense room) sent e = wrong e
+command_bad m (commands.Read6 lba count) sent e = wrong e
+command_bad m (commands.Write6 lba count) sent e = refl
+command_bad m (commands.Inquiry room) sent e = wrong e
+command_bad m commands.ReadCapacity sent e = wrong e
+command_bad m (commands.Read10 lba count) sent e = wrong e
+command_bad m (commands.Write10 lba count) sent e = refl
+
+range_bad : (m : CommandContext) (c : Command) (sent : List ℕ) → GivesNone (range_execution m c sent).reply
+range_bad m c sent = go (is_good_range m.contents.count (range_of c))
+  where
+    go : (q : Bool) → GivesNone (if q then command_execution m c sent else reply_execution m (check_condition block_out_of_range)).reply
+    go true = command_bad m c sent
+    go false = λ e. refl
+
+cdb_bad : (m : CommandContext) (c : Result Command CdbFault) (sent : List ℕ) → GivesNone (cdb_execution m c sent).reply
+cdb_bad m (Ok c) sent = range_bad m c sent
+cdb_bad m (Err faults.Opcode) sent = λ e. refl
+cdb_bad m (Err faults.Length) sent = λ e. refl
+cdb_bad m (Err faults.Field) sent = λ e. refl
+
+attention_bad : (m : CommandContext) (o : Option Sense) (cdb sent : List ℕ) → GivesNone (attention_execution m o cdb sent).reply
+attention_bad m None cdb sent = cdb_bad m (command_of cdb) sent
+attention_bad m (Some x) cdb sent = go (heeds_attention cdb)
+  where
+    go : (q : Bool) → GivesNone (if q then record { contents = m.contents; reported = true; reply = check_condition x } else cdb_execution m (command_of cdb) sent).reply
+    go true = λ e. refl
+    go false = cdb_bad m (command_of cdb) sent
+
+execution_bad : (m : CommandContext) (cdb sent : List ℕ) → GivesNone (execution m cdb sent).reply
+execution_bad m cdb sent = go (not m.present && needs_unit cdb)
+  where
+    go : (q : Bool) → GivesNone (if q then reply_execution m (check_condition unit_not_supported) else attention_execution m m.attention cdb sent).reply
+    go true = λ e. refl
+    go false = attention_bad m m.attention cdb sent
+
+pub bad_empty : (a : Array) (p : Process) → ((reply_now a p).status == GOOD) ≡ false → (reply_now a p).bytes ≡ []
+bad_empty a p = execution_bad (Steps.context_at a (nexus_of p) (unit_state_at a.units p.target p.unit)) p.cdb p.sent
+
+-- ---- the reply of one that runs
+
+no_array : {A : Type 0} (a : Array) → (let o : Option Array = None in o) ≡ Some a → A
+no_array a e = absurd cc
+
+abbrev IsOfScenario : ScenarioValue → RunningProcess → Type 0
+IsOfScenario s r = process_of s r.process.id ≡ Some r.process
+
+own_waits : (s : ScenarioValue) (t n : ℕ) (waiting : List Process) → AllOwn s t n waiting → Waits (IsOfScenario s) waiting
+own_waits s t n [] h = tt
+own_waits s t n (p ∷ waiting) h = (h.0.is, own_waits s t n waiting h.1)
+
+own_runs : (s : ScenarioValue) (t n : ℕ) (o : Option RunningProcess) → IsOwnRunning s t n o → Runs (IsOfScenario s) o
+own_runs s t n None h = tt
+own_runs s t n (Some r) h = h.is
+
+own_units : (s : ScenarioValue) (units : List UnitState) → AllOwnUnits s units → OnUnits (IsOfScenario s) units
+own_units s [] h = tt
+own_units s (u ∷ units) h = ((own_waits s u.target u.unit u.waiting h.0.waiting, own_runs s u.target u.unit u.current h.0.current), own_units s units h.1)
+
+own_guests : (s : ScenarioValue) (guests : List RunningProcess) → AllOwnGuests s guests → OnGuests (IsOfScenario s) guests
+own_guests s [] h = tt
+own_guests s (g ∷ guests) h = (h.0, own_guests s guests h.1)
+
+-- The process that runs is the one of the scenario.
+pub own_running : (s : ScenarioValue) (a : Array) (p : Process) (r : RunningProcess) → IsSound s a → process_of s p.id ≡ Some p → Steps.running_process a p.id ≡ Some r → r.process ≡ p
+own_running s a p r sound own e =
+    same_Some r.process p
+    (sym (running_has (IsOfScenario s) a p.id r (record { units = own_units s a.units sound.units; guests = own_guests s a.guests sound.guests }) e)
+    ∙ ap (process_of s) (running_id a p.id r e)
+    ∙ own)
+
+pub run_gives : (s : ScenarioValue) (a b : Array) (p : Process) → IsSound s a → process_of s p.id ≡ Some p → Steps.step s (events.Run p.id) a ≡ Some b → reply_in b.replies p.id ≡ Some (reply_now a p)
+run_gives s a b p sound own e = go (Steps.running_process a p.id) refl e
+  where
+    go : (o : Option RunningProcess) → Steps.running_process a p.id ≡ o → Steps.settled_array_if (Steps.run_step a (is_some (guest_at a.guests p.id)) o) ≡ Some b → reply_in b.replies p.id ≡ Some (reply_now a p)
+    go None z w = no_array b w
+    go (Some r) z w = by (is_none r.reply && (is_some (guest_at a.guests p.id) || not (is_held a.holds r.process.target r.process.unit))) w
+      where
+        done : Array
+        done = Steps.after_execution_at a r.process (unit_state_at a.units r.process.target r.process.unit)
+
+        same : r.process ≡ p
+        same = own_running s a p r sound own z
+
+        by : (q : Bool) → Steps.settled_array_if (if q then Some done else None) ≡ Some b → reply_in b.replies p.id ≡ Some (reply_now a p)
+        by false x = no_array b x
+        by true x =
+            ap (λ (y : Array). reply_in y.replies p.id) (sym (same_Some (settled_array done) b x))
+            ∙ ap (λ (q : Process). reply_in (Steps.after_execution_at a q (unit_state_at a.units q.target q.unit)).replies p.id) same
+            ∙ ap (λ (q : Bool). if q then Some (reply_now a p) else reply_in (Steps.with_contents (Steps.without_attention a (execution (Steps.context_at a (nexus_of p) (unit_state_at a.units p.target p.unit)) p.cdb p.sent).reported (nexus_of p)) (unit_state_at a.units p.target p.unit) (execution (Steps.context_at a (nexus_of p) (unit_state_at a.units p.target p.unit)) p.cdb p.sent).contents).replies p.id) (self_id p.id)

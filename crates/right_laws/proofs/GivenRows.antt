@@ -1,0 +1,70 @@
+-- A process that runs with any row of a prompt trace, and is no write that ends GOOD, has carried the bytes of its reply, by what is asked of
+-- its data pointers, of its arrival and of its reply (6.1.5.1, 6.6.20, 7.3).
+use Rattle.std.proofs.Common.{ℕ, ◌≤◌, arith, List, [], ◌∷◌, length}
+use Rattle.std.specs.Prelude.{⊤}
+use Rattle.bus_trace.specs.declared.Row.{Row}
+use Rattle.scenario.specs.Value.{ScenarioValue}
+use Rattle.scenario.specs.Writing.{Obeys}
+use Rattle.scsi_device.proofs.FitLines.{obeys_fits, seats_are}
+use Rattle.bus_due.specs.Next.{IsPrompt}
+use Rattle.bus_due.specs.RunState.{carried_here}
+use Rattle.bus_due.specs.RunSteps.{run_state}
+use Rattle.trace_laws.proofs.Joint.{NextStood}
+use Rattle.right_laws.specs.Asked.{GivesAtRun, SendsAtRun, AllMove}
+use Rattle.right_laws.specs.Given.{GivenFacts, GivesAsked}
+use Rattle.right_laws.specs.GivenPointers.{GivesBy, AllGiveBy}
+use Rattle.right_laws.specs.Loads.{UndoLoadFacts}
+use Rattle.right_laws.proofs.DataOfferFacts.{DataOfferFacts, offer_start, offer_next}
+use Rattle.right_laws.proofs.GivenBytes.{given_start, given_next, gives_at_run}
+use Rattle.right_laws.proofs.GivenCrossings.{gives_crossing}
+use Rattle.right_laws.proofs.RanFacts.{Known}
+use Rattle.right_laws.proofs.Right.{Joined, AreJoined, joined_last}
+use Rattle.right_laws.proofs.SameReplies.{reply_stays_by}
+use Rattle.right_laws.proofs.Standing.{all_stand}
+use Rattle.right_laws.proofs.UndoneLoadFacts.{load_start, load_next}
+
+pub record GivenBooks (s : ScenarioValue) (p : List Row) : Type 0 where
+  pub undo : UndoLoadFacts s p
+  pub offers : DataOfferFacts s p
+  pub given : GivenFacts s p
+
+known_of : (s : ScenarioValue) (p : List Row) (row : Row) → Joined s p → NextStood s p row → Joined s (row ∷ p) → GivenBooks s p → Known s p row
+known_of s p row now next then books = record { was = now.stood; next = next; items = now.told.items; undo = books.undo; places = now.places; later = then.places; shown = now.shown }
+
+reaches : (a b c : ℕ) → a ≤ b → b ≤ c → a ≤ c
+reaches a b c h k = omega (arith, h, k)
+
+asked_of : (s : ScenarioValue) (p : List Row) (row : Row) → Obeys s → IsPrompt s (row ∷ p) → Joined s p → NextStood s p row → Joined s (row ∷ p) → GivenBooks s p → GivesBy s (run_state s p) row → GivesAsked s (run_state s p) row
+asked_of s p row o prompt now next then books by = record {
+  crosses = gives_crossing s p row o prompt (known_of s p row now next then books) books.offers now.pointers.counts (all_stand s p) by.points;
+  arrives = by.arrives;
+  whole = λ q reply is reads good. reaches (length reply.bytes) (carried_here (run_state s p) q.id).moved.active (length (carried_here (run_state s p) q.id).moved.bytes) (by.whole q reply is reads good) ((all_stand s p).each q.id).active_in;
+  stays = reply_stays_by s p row (seats_are s (obeys_fits s o)) (known_of s p row now next then books) by.stays;
+}
+
+pub given_books : (s : ScenarioValue) (p : List Row) → Obeys s → IsPrompt s p → AreJoined s p → AllGiveBy s p → GivenBooks s p
+given_books s [] o prompt h by = record { undo = load_start s; offers = offer_start s; given = given_start s }
+given_books s (row ∷ p) o prompt h by =
+    let was = given_books s p o prompt.0 h.0 by.0 in
+    let now = joined_last s p h.0 in
+    record {
+      undo = load_next s p row o prompt now.stood h.1 was.undo;
+      offers = offer_next s p row o prompt now.stood h.1 was.offers;
+      given = given_next s p row (known_of s p row now h.1 h.2 was) (asked_of s p row o prompt now h.1 h.2 was by.1) was.given;
+    }
+
+pub gives_with : (s : ScenarioValue) (p : List Row) (row : Row) → Obeys s → IsPrompt s (row ∷ p) → AreJoined s (row ∷ p) → AllGiveBy s (row ∷ p) → GivesAtRun s (run_state s p) row
+gives_with s p row o prompt h by =
+    let was = given_books s p o prompt.0 h.0 by.0 in
+    let now = joined_last s p h.0 in
+    gives_at_run s p row (seats_are s (obeys_fits s o)) (known_of s p row now h.1 h.2 was) (asked_of s p row o prompt now h.1 h.2 was by.1) was.given
+
+-- ---- with what writes send
+
+abbrev pub AllSend : ScenarioValue → List Row → Type 0
+AllSend s [] = ⊤
+AllSend s (row ∷ rows) = AllSend s rows × SendsAtRun s (run_state s rows) row
+
+pub all_move : (s : ScenarioValue) (p : List Row) → Obeys s → IsPrompt s p → AreJoined s p → AllSend s p → AllGiveBy s p → AllMove s p
+all_move s [] o prompt h sends by = tt
+all_move s (row ∷ p) o prompt h sends by = (all_move s p o prompt.0 h.0 sends.0 by.0, sends.1, gives_with s p row o prompt h by)

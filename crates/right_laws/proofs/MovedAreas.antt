@@ -1,0 +1,45 @@
+-- As a byte of a data phase crosses it comes into the data that the process carries (6.1.5, 6.6.19).
+use Rattle.std.proofs.Common.{ℕ, ◌≡◌, true, false, not, ◌&&◌, ◌%◌, ◌∙◌, [], ◌∷◌, ◌++◌, Option, Some, None, ap}
+use Rattle.std.specs.Prelude.{if◌then◌else◌, is_some}
+use Rattle.bus_base.specs.declared.ProcId.{ProcId}
+use Rattle.bus_trace.specs.Phases.{is_command, is_data}
+use Rattle.bus_trace.specs.Terms.{receiver_in}
+use Rattle.bus_trace.specs.declared.Row.{Row}
+use Rattle.bus_trace.specs.declared.changes.Change.{Change}
+use Rattle.bus_trace.specs.declared.connection.Connection.{Connection}
+use Rattle.msg_grammar.specs.Messages.{got_in, got_out}
+use Rattle.bus_phases.specs.Dialogue.{fresh_bytes}
+use Rattle.scenario.specs.Value.{ScenarioValue}
+use Rattle.bus_story.specs.BusState.{RowReading, whole_out, whole_in, message_out, message_in}
+use Rattle.bus_story.specs.CarriedBytes.{Area, CarriedBytes, area_with, carried_of}
+use Rattle.bus_story.specs.HistoryEvents.{link_events}
+use Rattle.bus_story.specs.Items.{process}
+use Rattle.bus_story.specs.Links.{Link}
+use Rattle.bus_story.specs.Story.{Story}
+use Rattle.bus_story.specs.TraceHistory.{story_after_out, story_after_in, story_after_byte, story_in_connection}
+use Rattle.bus_due.specs.RunState.{RunState, carried_here}
+use Rattle.bus_due.specs.RunSteps.{run_state_after}
+use Rattle.bus_books.specs.Rows.{IsRowIn, reading_in}
+use Rattle.trace_laws.proofs.PointerStorySteps.{byte_moves, byte_story}
+use Rattle.trace_laws.proofs.PointerStories.{story_row}
+use Rattle.right_laws.specs.Loads.{Load, load}
+use Rattle.right_laws.proofs.BlockFacts.{lasting_by}
+use Rattle.right_laws.proofs.Lasting.{events_last}
+
+none_out : (k : RunState) (c : Change) → c.before.msg ≡ false → message_out k.story.bus_state.dialogue c true ≡ None
+none_out k c e = λ i. if e i && c.before.cd && not c.before.io then whole_out (got_out (fresh_bytes k.story.bus_state.dialogue ++ c.after.data_bits % 256 ∷ [])) else None
+
+none_in : (k : RunState) (c : Change) → c.before.msg ≡ false → message_in k.story.bus_state.dialogue c true ≡ None
+none_in k c e = λ i. if e i && c.before.cd && c.before.io then whole_in (got_in (k.story.bus_state.dialogue.half ++ c.after.data_bits % 256 ∷ [])) else None
+
+pub moved_crosses : (s : ScenarioValue) (k : RunState) (row : Row) (n : Connection) (c : Change) (l : Link) (id : ProcId) → IsRowIn k row n c → is_some (receiver_in n c) ≡ true → k.story.link ≡ Some l → l.item ≡ Some (process id) → c.before.msg ≡ false → is_command c.before ≡ false → is_data c.before ≡ true
+    → (carried_here (run_state_after s k row) id).moved.bytes ≡ (area_with (carried_here k id).moved (c.after.data_bits % 256)).bytes
+moved_crosses s k row n c l id r en link item msg e f =
+    let byte : ℕ = c.after.data_bits % 256 in
+    let d : RowReading = reading_in k.story.bus_state n c true in
+    ap (λ (b : Story). (carried_of b.carried id).moved.bytes) (story_row s k row n c true r en)
+    ∙ events_last (λ (x : CarriedBytes). (load x).moved) (lasting_by (λ (x : Load). x.moved)) s (story_in_connection s k.story k.story.link d row) (link_events s k.story k.story.link d) id
+    ∙ ap (λ (x : Option Link). (carried_of (story_in_connection s k.story x d row).carried id).moved.bytes) link
+    ∙ (λ i. (carried_of (if is_some (none_out k c msg i) then story_after_out k.story l (none_out k c msg i) else if is_some (none_in k c msg i) then story_after_in s k.story l (none_in k c msg i) else story_after_byte k.story l d).carried id).moved.bytes)
+    ∙ ap (λ (x : CarriedBytes). x.moved.bytes) (byte_story k.story l d id item msg)
+    ∙ ap (λ (x : Area). x.bytes) (byte_moves (carried_here k id) c.before byte e f)

@@ -1,0 +1,134 @@
+-- As a write runs that ends GOOD, all that it sends has come, and its unit keeps the size of its blocks.
+use Rattle.std.proofs.Common.{ℕ, ◌≡◌, ◌<◌, ◌≤◌, ◌^◌, true, false, ◌==◌, ◌∙◌, List, ◌∷◌, length, Option, Some, None, refl, sym, ap, arith}
+use Rattle.std.proofs.lemmas.Option.{same_Some}
+use Rattle.bus_base.specs.declared.Event.{Event}
+use Rattle.bus_base.specs.declared.Event.TheVariants as events
+use Rattle.bus_trace.specs.LineSet.{LineSet}
+use Rattle.bus_trace.specs.declared.Row.{Row}
+use Rattle.bus_trace.specs.declared.changes.Change.{Change}
+use Rattle.bus_trace.specs.declared.connection.Connection.{Connection}
+use Rattle.bus_trace.specs.Terms.{connection}
+use Rattle.bus_trace.specs.Trace.{bus}
+use Rattle.cdb_codec.specs.declared.status.TheConstants.{GOOD}
+use Rattle.scenario.specs.Value.{ScenarioValue}
+use Rattle.scenario.specs.Writing.{Obeys}
+use Rattle.disk_array.specs.ArrayHistory.{array_step, reply_in}
+use Rattle.disk_array.specs.Execution.{Reply}
+use Rattle.disk_array.specs.Processes.{Process, process_of}
+use Rattle.disk_array.specs.Steps.{step}
+use Rattle.disk_array.specs.Units.{Array}
+use Rattle.disk_array.proofs.SoundArrays.{step_sound}
+use Rattle.bus_story.specs.BusState.{row_reading}
+use Rattle.bus_story.specs.HistoryEvents.{row_events_by}
+use Rattle.bus_story.specs.Items.{process}
+use Rattle.bus_due.specs.Next.{IsPrompt}
+use Rattle.bus_due.specs.Plain.{IsPlain}
+use Rattle.bus_due.specs.RunState.{RunState, or_start, process_item, process_served}
+use Rattle.bus_due.specs.RunSteps.{run_state, array_after_events}
+use Rattle.bus_due.specs.Tasks.{reply_now}
+use Rattle.bus_due.proofs.Plains.{run_state_plain}
+use Rattle.scsi_device.specs.Writes.{is_of_size, writers}
+use Rattle.scsi_device.proofs.FitLines.{obeys_fits, seats_are}
+use Rattle.bus_laws.proofs.Apart.{change_plain}
+use Rattle.bus_laws.proofs.Prompt.{least_is}
+use Rattle.trace_laws.specs.RunsWhole.{IsWhole, ends_badly, has_run, sends_all, sends_none}
+use Rattle.trace_laws.specs.WholeRuns.{bytes_come}
+use Rattle.trace_laws.proofs.Impossible.{wrong}
+use Rattle.trace_laws.proofs.Whole.{Whole, row_attendance, whole}
+use Rattle.trace_laws.proofs.WritePremises.{write_premises}
+use Rattle.right_laws.specs.Asked.{SendsAtRun}
+use Rattle.right_laws.proofs.AcceptedReplies.{accept_keeps}
+use Rattle.right_laws.proofs.GivenReplies.{run_gives}
+use Rattle.right_laws.proofs.RowCrossings.{GoesSo, here_goes, known_served}
+use Rattle.right_laws.proofs.SentBytes.{answer_of}
+use Rattle.right_laws.proofs.ShownRows.{IsAnswer, RunsAs, runs_alone, runs_arrived, row_runs}
+
+-- ---- the reply of a process that runs is the one that it would have before the row
+
+no_array : {A : Type 0} (b : Array) → (let o : Option Array = None in o) ≡ Some b → A
+no_array b e = absurd cc
+
+runs_so : (s : ScenarioValue) (a b : Array) (q : Process) (shown : List Event) → Obeys s → Rattle.disk_array.specs.SoundArray.IsSound s a → process_of s q.id ≡ Some q → RunsAs q.id shown → array_after_events s (Some a) shown ≡ Some b → reply_in b.replies q.id ≡ Some (reply_now a q)
+runs_so s a b q shown o sound own (runs_alone e) after = run_gives s a b q sound own (sym (ap (array_after_events s (Some a)) e) ∙ after)
+runs_so s a b q shown o sound own (runs_arrived e) after = go (step s (events.Accept q.id) a) refl (sym (ap (array_after_events s (Some a)) e) ∙ after)
+  where
+    seats : Rattle.disk_array.specs.SoundArray.HasSeats s
+    seats = seats_are s (obeys_fits s o)
+
+    go : (m : Option Array) → step s (events.Accept q.id) a ≡ m → array_step s (events.Run q.id) (step s (events.Accept q.id) a) ≡ Some b → reply_in b.replies q.id ≡ Some (reply_now a q)
+    go None f z = no_array b (sym (ap (array_step s (events.Run q.id)) f) ∙ z)
+    go (Some m) f z =
+        run_gives s m b q (step_sound s a m (events.Accept q.id) seats sound f) own (sym (ap (array_step s (events.Run q.id)) f) ∙ z)
+        ∙ ap (λ (r : Reply). Some r) (accept_keeps s a m q seats sound own f)
+
+-- ---- the row
+
+none_sent : (a b : ℕ) → a ≡ 0 → a ≤ b
+none_sent a b e = omega (arith, e)
+
+pub sends_at_run : (s : ScenarioValue) (p : List Row) (row : Row) → Obeys s → IsPrompt s (row ∷ p) → length (row ∷ p) < 2 ^ 64 → SendsAtRun s (run_state s p) row
+sends_at_run s p row o prompt short q reply is w good = by (here_goes s k row answer.link q.id (λ e. (was.facts.items.items.apart e).0) next.rows_are.1 answer.here)
+  where
+    k : RunState
+    k = run_state s p
+
+    was : Whole s p
+    was = whole s p o prompt.0 (omega (arith, short))
+
+    next : Whole s (row ∷ p)
+    next = whole s (row ∷ p) o prompt short
+
+    shown : List Event
+    shown = row_events_by s k.story (row_reading k.story.bus_state row) row
+
+    answer : IsAnswer k (row_reading k.story.bus_state row) q.id
+    answer = answer_of s k row q.id is.runs
+
+    runs_with : RunsAs q.id shown
+    runs_with = row_runs s k row q.id is.runs
+
+    pl : IsPlain s p k
+    pl = run_state_plain s p was.stood.standing.devices
+
+    now : reply_in next.places.array.replies q.id ≡ Some (reply_now was.places.array q)
+    now = runs_so s was.places.array next.places.array q shown o was.places.sound is.process_is runs_with (sym (λ i. array_after_events s (was.places.array_is i) shown) ∙ next.places.array_is)
+
+    same : reply_now was.places.array q ≡ reply
+    same = same_Some (reply_now was.places.array q) reply (sym now ∙ (λ i. reply_in (or_start s (sym next.places.array_is i)).replies q.id) ∙ is.reply_is)
+
+    ran : has_run shown ≡ true
+    ran = go runs_with
+      where
+        go : RunsAs q.id shown → has_run shown ≡ true
+        go (runs_alone e) = ap has_run e
+        go (runs_arrived e) = ap has_run e
+
+    by : GoesSo s k row → (length q.sent ≤ bytes_come s k q) × (is_of_size s k q ≡ true)
+    by v = (came (att.whole n q con calm off ran served_is), (write_premises s p row o prompt was.stood was.places was.sends was.resets).sizes q served_is)
+      where
+        n : Connection
+        n = v.connection
+
+        con : connection p ≡ Some n
+        con = sym pl.connection ∙ v.goes.row_is.connection_is
+
+        calm : (bus p).rst ≡ false
+        calm = ap (λ (l : LineSet). l.rst) (sym pl.bus) ∙ v.goes.calm
+
+        off : (bus (row ∷ p)).rst ≡ false
+        off = ap (λ (x : Change). x.after.rst) (sym (change_plain s row p was.stood.standing.devices (least_is s p row prompt.1).inside)) ∙ answer.here.calm
+
+        served : k.served ≡ Some (process q.id)
+        served = known_served s k row n v.change answer.link q.id was.stood.books v.goes answer.here.link_is answer.here.item_is
+
+        served_is : process_served s k ≡ Some q
+        served_is = ap (process_item s) served ∙ is.process_is
+
+        att : Rattle.trace_laws.specs.RowAttendance.IsAttended s p row
+        att = row_attendance s p row o prompt short
+
+        came : IsWhole s k (writers s p) q → length q.sent ≤ bytes_come s k q
+        came (ends_badly e) =
+            wrong (sym (ap (λ (r : Reply). r.status == GOOD) same ∙ good) ∙ (λ i. (reply_now (or_start s (sym was.places.array_is i)) q).status == GOOD) ∙ e)
+        came (sends_none e) = none_sent (length q.sent) (bytes_come s k q) e
+        came (sends_all h) = h.came

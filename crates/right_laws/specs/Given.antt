@@ -1,0 +1,75 @@
+-- What a process that is not over has given or sent of its data: none, or some where it would end GOOD if it ran now, and where it does not
+-- write a front of what it would give then (6.1.5, 6.6.20); and what this asks of a row.
+use Rattle.std.specs.Prelude.{ℕ, ◌%◌, ◌≡◌, ◌≤◌, ◌<◌, ◌⊎◌, ◌==◌, true, false, List, [], ◌++◌, length, slice_index_or, Some}
+use Rattle.bus_base.specs.declared.ProcId.{ProcId}
+use Rattle.bus_trace.specs.Phases.{changes_phase, is_command, is_data}
+use Rattle.bus_trace.specs.declared.Row.{Row}
+use Rattle.cdb_codec.specs.declared.status.TheConstants.{GOOD}
+use Rattle.scenario.specs.Value.{ScenarioValue}
+use Rattle.disk_array.specs.Execution.{Reply}
+use Rattle.disk_array.specs.Processes.{Process, process_of}
+use Rattle.disk_array.specs.Units.{Array}
+use Rattle.bus_story.specs.BusState.{row_reading}
+use Rattle.bus_story.specs.Items.{process}
+use Rattle.bus_story.specs.Links.{Link}
+use Rattle.bus_due.specs.RunState.{RunState, array_of, carried_here}
+use Rattle.bus_due.specs.RunSteps.{run_state, run_state_after}
+use Rattle.bus_due.specs.Tasks.{is_writing, reply_now}
+use Rattle.right_laws.specs.Asked.{IsRunning}
+use Rattle.right_laws.specs.Open.{OnOpen}
+
+pub record IsFront (bytes all : List ℕ) : Type 0 where
+  pub rest : List ℕ
+  pub all_is : bytes ++ rest ≡ all
+
+pub record GivesGood (a : Array) (p : Process) (bytes : List ℕ) : Type 0 where
+  pub good : (reply_now a p).status ≡ GOOD
+  pub front : is_writing p ≡ false → IsFront bytes (reply_now a p).bytes
+
+abbrev pub GivenIn : Array → Process → List ℕ → Type 0
+GivenIn a p bytes = (bytes ≡ []) ⊎ GivesGood a p bytes
+
+-- By this array, and by what it has carried.
+abbrev pub HasGiven : ScenarioValue → Array → RunState → ProcId → Type 0
+HasGiven s a k id = (p : Process) → process_of s id ≡ Some p → GivenIn a p (carried_here k id).moved.bytes
+
+-- Of each process that waits, or runs, and has no reply.
+abbrev pub GivenFacts : ScenarioValue → List Row → Type 0
+GivenFacts s rows = OnOpen (HasGiven s (array_of s (run_state s rows)) (run_state s rows)) (array_of s (run_state s rows))
+
+-- ---- what is asked of a row
+
+-- As a byte of its data crosses it would end GOOD; and one that does not write gives the byte at its pointer, which stands in what it has
+-- carried, or at its end, and in what it gives.
+pub record GivesNext (s : ScenarioValue) (k : RunState) (p : Process) (id : ProcId) (byte : ℕ) : Type 0 where
+  pub good : (reply_now (array_of s k) p).status ≡ GOOD
+  pub byte_is : is_writing p ≡ false → byte ≡ slice_index_or (reply_now (array_of s k) p).bytes (carried_here k id).moved.active 0
+  pub active_in : is_writing p ≡ false → (carried_here k id).moved.active ≤ length (carried_here k id).moved.bytes
+  pub within : is_writing p ≡ false → (carried_here k id).moved.active < length (reply_now (array_of s k) p).bytes
+
+abbrev pub GivesAtCrossing : ScenarioValue → RunState → Row → Type 0
+GivesAtCrossing s k row =
+    (l : Link) (id : ProcId) (p : Process) → k.story.link ≡ Some l → l.item ≡ Some (process id) → process_of s id ≡ Some p → (row_reading k.story.bus_state row).crosses ≡ true
+    → is_data (row_reading k.story.bus_state row).change.before ≡ true → GivesNext s k p id ((row_reading k.story.bus_state row).change.after.data_bits % 256)
+
+-- As COMMAND is left no data were carried.
+abbrev pub NoneAtArrival : RunState → Row → Type 0
+NoneAtArrival k row =
+    (l : Link) (id : ProcId) → k.story.link ≡ Some l → l.item ≡ Some (process id) → changes_phase (row_reading k.story.bus_state row).change ≡ true → is_command (row_reading k.story.bus_state row).change.before ≡ true
+    → (carried_here k id).moved.bytes ≡ []
+
+-- As it runs as many bytes were carried as its reply has.
+abbrev pub WholeAtRun : ScenarioValue → RunState → Row → Type 0
+WholeAtRun s k row =
+    (p : Process) (reply : Reply) → IsRunning s k row p reply → is_writing p ≡ false → (reply.status == GOOD) ≡ true → length reply.bytes ≤ length (carried_here k p.id).moved.bytes
+
+-- One that has carried some of its data has the reply that it had.
+abbrev pub HasReplyStill : ScenarioValue → RunState → RunState → ProcId → Type 0
+HasReplyStill s k j id =
+    (p : Process) → process_of s id ≡ Some p → ((carried_here j id).moved.bytes ≡ [] → ⊥) → reply_now (array_of s j) p ≡ reply_now (array_of s k) p
+
+pub record GivesAsked (s : ScenarioValue) (k : RunState) (row : Row) : Type 0 where
+  pub crosses : GivesAtCrossing s k row
+  pub arrives : NoneAtArrival k row
+  pub whole : WholeAtRun s k row
+  pub stays : OnOpen (HasReplyStill s k (run_state_after s k row)) (array_of s (run_state_after s k row))

@@ -1,0 +1,86 @@
+-- Where the data pointer of a process that does not write stands as a byte of DATA IN crosses: as many bytes after the beginning of its run as
+-- were asked for, and the run has that byte; and as it runs, past the bytes of its reply (6.1.5.1, 6.6.6, 6.6.20).
+use Rattle.std.specs.Prelude.{ℕ, ◌+◌, ◌≡◌, ◌≤◌, ◌<◌, ◌==◌, Bool, true, false, not, ◌&&◌, ◌||◌, is_none, List, [], ◌∷◌, length, Some, ⊤}
+use Rattle.bus_base.specs.declared.AbortKind.{AbortKind}
+use Rattle.bus_base.specs.declared.AbortKind.TheVariants as aborts
+use Rattle.bus_base.specs.declared.Event.{Event}
+use Rattle.bus_base.specs.declared.Event.TheVariants as events
+use Rattle.bus_base.specs.declared.ProcId.{ProcId}
+use Rattle.bus_trace.specs.declared.Row.{Row}
+use Rattle.bus_trace.specs.declared.connection.Connection.{Connection}
+use Rattle.cdb_codec.specs.declared.status.TheConstants.{GOOD}
+use Rattle.scenario.specs.Value.{ScenarioValue}
+use Rattle.disk_array.specs.Execution.{Reply}
+use Rattle.disk_array.specs.Processes.{Process, process_of}
+use Rattle.disk_array.specs.Seats.{is_elsewhere}
+use Rattle.bus_story.specs.BusState.{row_reading}
+use Rattle.bus_story.specs.HistoryEvents.{row_events_by}
+use Rattle.bus_dialogue.specs.declared.exchange.Phase.TheVariants as phases
+use Rattle.bus_dialogue.specs.declared.exchange.Task.{Task}
+use Rattle.bus_dialogue.specs.Arrivals.{policy_of}
+use Rattle.bus_dialogue.specs.DataRuns.{run_at, run_length}
+use Rattle.bus_dialogue.specs.NextPhase.{phase_of}
+use Rattle.bus_due.specs.Defs.{target_def_of}
+use Rattle.bus_due.specs.RunState.{RunState, array_of, bus_of, carried_here, process_served}
+use Rattle.bus_due.specs.RunSteps.{run_state, run_state_after}
+use Rattle.bus_due.specs.Tasks.{is_writing, reply_now, task_of}
+use Rattle.right_laws.specs.Asked.{IsRunning}
+use Rattle.right_laws.specs.Given.{NoneAtArrival}
+use Rattle.right_laws.specs.Open.{OnOpen}
+
+pub record PointsAtRun (s : ScenarioValue) (k : RunState) (n : Connection) (p : Process) (t : Task) : Type 0 where
+  pub active_is : (carried_here k p.id).moved.active ≡ (run_at (policy_of (target_def_of s n.target)) t t.runs).start + k.handshakes.requests
+  pub more : k.handshakes.requests < run_length (policy_of (target_def_of s n.target)) t
+
+abbrev pub PointsAtCrossing : ScenarioValue → RunState → Row → Type 0
+PointsAtCrossing s k row =
+    (n : Connection) (p : Process) (t : Task) → k.story.bus_state.connection ≡ Some n → process_served s k ≡ Some p → task_of s k ≡ Some t → is_writing p ≡ false → (row_reading k.story.bus_state row).crosses ≡ true
+    → phase_of (bus_of k) ≡ phases.DataIn → PointsAtRun s k n p t
+
+-- As it runs its pointer stands past the bytes of its reply.
+abbrev pub PointsAtEnd : ScenarioValue → RunState → Row → Type 0
+PointsAtEnd s k row =
+    (p : Process) (reply : Reply) → IsRunning s k row p reply → is_writing p ≡ false → (reply.status == GOOD) ≡ true → length reply.bytes ≤ (carried_here k p.id).moved.active
+
+-- ---- what changes a reply
+
+-- An abort of the processes of one initiator changes nothing for another, and that of one tag nothing for others.
+abbrev pub abort_may_change : Process → ℕ → ℕ → ℕ → AbortKind → Bool
+abort_may_change p i t n aborts.All = i == p.initiator && (t == p.target && n == p.unit)
+abort_may_change p i t n (aborts.Tag x) = false
+abort_may_change p i t n aborts.WholeQueue = t == p.target && n == p.unit
+abort_may_change p i t n aborts.Device = t == p.target
+
+-- An event with which what a process of the unit would answer may change: another runs or ends, an abort, and a reset.
+abbrev pub may_change : ScenarioValue → Process → Event → Bool
+may_change s p (events.Accept id) = is_none (process_of s id)
+may_change s p (events.Refuse id) = is_none (process_of s id)
+may_change s p (events.Fail id code) = is_none (process_of s id)
+may_change s p (events.Lost id) = is_none (process_of s id)
+may_change s p (events.Run id) = not (is_elsewhere s (events.Run id) p.target p.unit)
+may_change s p (events.End id status) = not (is_elsewhere s (events.End id status) p.target p.unit)
+may_change s p (events.Aborted i t n what) = abort_may_change p i t n what
+may_change s p (events.Reset dev) = true
+
+abbrev pub any_may_change : ScenarioValue → Process → List Event → Bool
+any_may_change s p [] = false
+any_may_change s p (e ∷ shown) = may_change s p e || any_may_change s p shown
+
+-- With such an event one that has carried some of its data has the reply that it had.
+abbrev pub HasReplyThen : ScenarioValue → RunState → Row → ProcId → Type 0
+HasReplyThen s k row id =
+    (p : Process) → process_of s id ≡ Some p → ((carried_here (run_state_after s k row) id).moved.bytes ≡ [] → ⊥) → any_may_change s p (row_events_by s k.story (row_reading k.story.bus_state row) row) ≡ true
+    → reply_now (array_of s (run_state_after s k row)) p ≡ reply_now (array_of s k) p
+
+-- ---- all that is asked of a row
+
+-- Where its pointers stand; where it arrives it has carried no data; and where it has carried some its reply stays.
+pub record GivesBy (s : ScenarioValue) (k : RunState) (row : Row) : Type 0 where
+  pub points : PointsAtCrossing s k row
+  pub arrives : NoneAtArrival k row
+  pub whole : PointsAtEnd s k row
+  pub stays : OnOpen (HasReplyThen s k row) (array_of s (run_state_after s k row))
+
+abbrev pub AllGiveBy : ScenarioValue → List Row → Type 0
+AllGiveBy s [] = ⊤
+AllGiveBy s (row ∷ rows) = AllGiveBy s rows × GivesBy s (run_state s rows) row

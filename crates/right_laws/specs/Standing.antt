@@ -1,0 +1,15 @@
+-- The pointers of the data that a process has carried stand in its bytes, or at their end (6.6.19, 6.6.20).
+use Rattle.std.specs.Prelude.{◌≡◌, ◌≤◌, length, Some}
+use Rattle.bus_base.specs.declared.ProcId.{ProcId}
+use Rattle.bus_story.specs.CarriedBytes.{Area, CarriedBytes}
+use Rattle.bus_story.specs.Links.{Link}
+use Rattle.bus_due.specs.RunState.{RunState, carried_here}
+
+pub record StandsIn (a : Area) : Type 0 where
+  pub active_in : a.active ≤ length a.bytes
+  pub saved_in : a.saved ≤ length a.bytes
+
+-- So do those that MESSAGE PARITY ERROR would bring back.
+pub record AllStandIn (k : RunState) : Type 0 where
+  pub each : (id : ProcId) → StandsIn (carried_here k id).moved
+  pub undone : (l : Link) (c : CarriedBytes) → k.story.link ≡ Some l → l.undo ≡ Some c → StandsIn c.moved
