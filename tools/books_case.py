@@ -6,9 +6,10 @@ after it.
     tools/books_case.py --whole tools/cases/*.scn > crates/bus_books/proofs/StoryCases.antt
     tools/books_case.py --reads tools/due_cases/one_read.scn .. > crates/right_laws/proofs/Cases.antt
     tools/books_case.py --given tools/due_cases/one_read.scn .. > crates/right_laws/proofs/GivenCases.antt
+    tools/books_case.py --debts tools/due_cases/*.scn > crates/progress_laws/proofs/DebtCases.antt
 
 With `--reads` and `--given` the lemmas say instead what processes have carried of their data, and what is asked of each row of it (`ReadTests` and
-`GivenTests` of crates/right_laws/specs). With `--whole` it writes the scenarios and their rows, too, those of the report NAME.out beside each NAME.scn, which comes from outside
+`GivenTests` of crates/right_laws/specs). With `--debts` they say which senses are owed (`DebtTests` of crates/progress_laws/specs). With `--whole` it writes the scenarios and their rows, too, those of the report NAME.out beside each NAME.scn, which comes from outside
 this repository. The books are stated as tests in `Tests` of crates/bus_books/specs, what is asked of a row in `RowTests`.
 """
 import sys
@@ -30,6 +31,8 @@ BOOKS = ("-- Each row of some runs is as it is due to be, and the books hold aft
 READS = ("-- In some runs what processes have carried of their data is a front of what they send or give, and the pointers stand as they should.",
          "keep_reads", "Rattle.right_laws.specs.ReadTests.{keep_reads}")
 GIVEN = ("-- In some runs what is asked of each row of what processes give of their replies holds.", "give_well", "Rattle.right_laws.specs.GivenTests.{give_well}")
+DEBTS = ("-- In some runs those to whom a sense is owed stand in the hold, and no two senses are owed to one initiator at one unit.", "keep_debts",
+         "Rattle.progress_laws.specs.DebtTests.{keep_debts}")
 UNFOLDING = "unfolding need_of sent_of ones union_below line_of form_out form_in"
 
 
@@ -65,7 +68,7 @@ def print_whole(head, test, paths):
 
 def main():
     paths = [word for word in sys.argv[1:] if not word.startswith("--")]
-    words, test, module = READS if "--reads" in sys.argv else GIVEN if "--given" in sys.argv else BOOKS
+    words, test, module = READS if "--reads" in sys.argv else GIVEN if "--given" in sys.argv else DEBTS if "--debts" in sys.argv else BOOKS
     head = HEAD % (words, module)
     if "--whole" in sys.argv:
         return print_whole(head, test, paths)

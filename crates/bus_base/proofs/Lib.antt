@@ -1,2 +1,3 @@
 pub mod ReadSoFar
 mod WrittenSoFar
+pub mod Tests

@@ -29,7 +29,9 @@ use Rattle.bus_story.specs.TraceHistory.{is_host, aim_of, is_arbitration_entry, 
 use Rattle.bus_due.specs.RunState.{RunState}
 use Rattle.bus_due.specs.RunSteps.{run_state, run_state_after}
 use Rattle.bus_books.specs.Items.{IsItem, is_process, is_abort, AimsAreItems}
-use Rattle.bus_books.proofs.Lookups.{first_is, number_is}
+use Rattle.std.proofs.lemmas.Bool.{eqb-true}
+use Rattle.bus_base.proofs.Tests.{and_first}
+use Rattle.bus_story.proofs.StorySteps.{restored_aims, sent_aims}
 
 -- ---- what an initiator sends next is of the scenario
 
@@ -56,7 +58,7 @@ aborts_are s b dev time j (a ∷ aborts) h =
     go : (q : Bool) → (a.host == dev && nat_le a.at time && not (is_done b (abort (suc j)))) ≡ q → IsItemIf s dev (abort_from b dev time (suc j + 1) aborts) → IsItemIf s dev (if q then Some (abort (suc j)) else abort_from b dev time (suc j + 1) aborts)
     go true z rest =
         is_abort (suc j) a (ap (λ (n : ℕ). abort_line_at s.aborts (suc n)) (sym (same j)) ∙ sym (h 0))
-        (number_is a.host dev (first_is (a.host == dev) (nat_le a.at time) (first_is (a.host == dev && nat_le a.at time) (not (is_done b (abort (suc j)))) z)))
+        (eqb-true a.host dev (and_first (a.host == dev) (nat_le a.at time) (and_first (a.host == dev && nat_le a.at time) (not (is_done b (abort (suc j)))) z)))
     go false z rest = rest
 
 commands_are : (s : ScenarioValue) (b : Sent) (dev time j : ℕ) (commands : List CmdDef) → ((m : ℕ) → command_at commands (suc m) ≡ command_at s.commands (suc (j + m))) → IsItemIf s dev (command_from s b dev time (suc j) commands)
@@ -79,7 +81,7 @@ commands_are s b dev time j (c ∷ commands) h =
     go true true z rest =
         is_process (record { command = suc j; sense = false }) (process_by s (record { command = suc j; sense = false }) c)
         (ap (λ (x : Option CmdDef). process_if s (record { command = suc j; sense = false }) x) (ap (λ (n : ℕ). command_at s.commands (suc n)) (sym (same j)) ∙ sym (h 0)))
-        (number_is c.host dev (first_is (c.host == dev) (not (is_done b (command_item (suc j)))) z))
+        (eqb-true c.host dev (and_first (c.host == dev) (not (is_done b (command_item (suc j)))) z))
     go true false z rest = tt
     go false r z rest = rest
 
@@ -97,7 +99,7 @@ senses_are s b dev (n ∷ checks) = go (senses_are s b dev checks) (command_at s
     go rest (Some c) e =
         later (is_of_host (command_at s.commands n) dev && not (is_done b (sense_item n))) rest
         (λ z y. is_process (record { command = n; sense = true }) (process_by s (record { command = n; sense = true }) c) (ap (λ (x : Option CmdDef). process_if s (record { command = n; sense = true }) x) e)
-        (number_is c.host dev (sym (ap (λ (x : Option CmdDef). is_of_host x dev) e) ∙ first_is (is_of_host (command_at s.commands n) dev) (not (is_done b (sense_item n))) (z ∙ y))))
+        (eqb-true c.host dev (sym (ap (λ (x : Option CmdDef). is_of_host x dev) e) ∙ and_first (is_of_host (command_at s.commands n) dev) (not (is_done b (sense_item n))) (z ∙ y))))
         refl
 
 either_is : (s : ScenarioValue) (dev : ℕ) (x y : Option Item) → IsItemIf s dev x → IsItemIf s dev y → IsItemIf s dev (or_else x y)
@@ -114,7 +116,7 @@ sent_next_is s b dev time =
 
 -- ---- aims change as a device enters arbitration, and else never
 
-ends_aims : (drops stops : CmdDef → Bool) (e : Ending) (n : ℕ) (commands : List CmdDef) (b : Story) → (story_with_ends drops stops e n commands b).aims ≡ b.aims
+pub ends_aims : (drops stops : CmdDef → Bool) (e : Ending) (n : ℕ) (commands : List CmdDef) (b : Story) → (story_with_ends drops stops e n commands b).aims ≡ b.aims
 ends_aims drops stops e n [] b = refl
 ends_aims drops stops e n (c ∷ commands) b =
     ends_aims drops stops e (n + 1) commands
@@ -128,14 +130,14 @@ ends_aims drops stops e n (c ∷ commands) b =
     go false true = refl
     go false false = refl
 
-check_aims : (b : Story) (id : ProcId) (status : ℕ) → (with_check b id status).aims ≡ b.aims
+pub check_aims : (b : Story) (id : ProcId) (status : ℕ) → (with_check b id status).aims ≡ b.aims
 check_aims b id status = go (not id.sense && status == CHECK_CONDITION)
   where
     go : (q : Bool) → (if q then record b { sent = record b.sent { checks = b.sent.checks ++ id.command ∷ [] } } else b).aims ≡ b.aims
     go true = refl
     go false = refl
 
-event_aims : (s : ScenarioValue) (b : Story) (event : Event) → (story_after_event s b event).aims ≡ b.aims
+pub event_aims : (s : ScenarioValue) (b : Story) (event : Event) → (story_after_event s b event).aims ≡ b.aims
 event_aims s b (events.Accept id) = refl
 event_aims s b (events.Refuse id) = refl
 event_aims s b (events.Run id) = refl
@@ -145,7 +147,7 @@ event_aims s b (events.Lost id) = refl
 event_aims s b (events.Aborted host target unit what) = ends_aims (is_aborted host target unit what) (is_sense_stopped host target unit what) by_abort 1 s.commands b
 event_aims s b (events.Reset dev) = ends_aims (λ c. true) (λ c. true) by_reset 1 s.commands b
 
-events_aims : (s : ScenarioValue) (b : Story) (shown : List Event) → (story_after_events s b shown).aims ≡ b.aims
+pub events_aims : (s : ScenarioValue) (b : Story) (shown : List Event) → (story_after_events s b shown).aims ≡ b.aims
 events_aims s b [] = refl
 events_aims s b (event ∷ shown) = event_aims s (story_after_events s b shown) event ∙ events_aims s b shown
 
@@ -179,7 +181,7 @@ aimed s b row h = λ dev item e. subst (λ (n : ℕ). IsItem s n item) (none_mor
     own true = sent_next_is s b.sent row.dev row.time
     own false = tt
 
-try_aims : (s : ScenarioValue) (b : Story) (dev : ℕ) (item : Option Item) → (story_with_try s b dev item).aims ≡ b.aims
+pub try_aims : (s : ScenarioValue) (b : Story) (dev : ℕ) (item : Option Item) → (story_with_try s b dev item).aims ≡ b.aims
 try_aims s b dev None = refl
 try_aims s b dev (Some item) = go _ item
   where
@@ -188,7 +190,7 @@ try_aims s b dev (Some item) = go _ item
     go true (abort k) = refl
     go false i = refl
 
-calling_aims : (s : ScenarioValue) (b : Story) (call : Option Call) → (story_after_calling s b call).aims ≡ b.aims
+pub calling_aims : (s : ScenarioValue) (b : Story) (call : Option Call) → (story_after_calling s b call).aims ≡ b.aims
 calling_aims s b None = refl
 calling_aims s b (Some k) = by k.calling
   where
@@ -208,31 +210,22 @@ free_aims s b d row h = go (is_arbitration_entry b d) (falls d.change.before.sel
     go false true = items_as s (story_after_calling s b b.bus_state.call).aims b.aims (calling_aims s b b.bus_state.call) h
     go false false = h
 
-restored_aims : (b : Story) (item : Option Item) → (story_with_restored b item).aims ≡ b.aims
-restored_aims b None = refl
-restored_aims b (Some (process id)) = refl
-restored_aims b (Some (abort k)) = refl
-
-sent_aims : (b : Story) (item : Option Item) → (story_with_sent b item).aims ≡ b.aims
-sent_aims b None = refl
-sent_aims b (Some item) = refl
-
-begun_aims : (b : Story) (n : Connection) → (story_after_connection b n).aims ≡ b.aims
+pub begun_aims : (b : Story) (n : Connection) → (story_after_connection b n).aims ≡ b.aims
 begun_aims b n = go n.reselected (aim_of b.aims n.initiator)
   where
     go : (q : Bool) (item : Option Item) → (if q then record b { link = Some (link_of n None) } else story_with_restored (story_with_sent (record b { link = Some (link_of n item) }) item) item).aims ≡ b.aims
     go true item = refl
     go false item = restored_aims _ item ∙ sent_aims _ item
 
-carried_aims : (b : Story) (c : Option CarriedBytes) → (story_with_carried b c).aims ≡ b.aims
+pub carried_aims : (b : Story) (c : Option CarriedBytes) → (story_with_carried b c).aims ≡ b.aims
 carried_aims b None = refl
 carried_aims b (Some c) = refl
 
-out_aims : (b : Story) (l : Link) (m : Option MsgOut) → (story_after_out b l m).aims ≡ b.aims
+pub out_aims : (b : Story) (l : Link) (m : Option MsgOut) → (story_after_out b l m).aims ≡ b.aims
 out_aims b l None = refl
 out_aims b l (Some m) = carried_aims _ (if is_parity_error m then l.undo else None)
 
-in_aims : (s : ScenarioValue) (b : Story) (l : Link) (m : Option MsgIn) → (story_after_in s b l m).aims ≡ b.aims
+pub in_aims : (s : ScenarioValue) (b : Story) (l : Link) (m : Option MsgIn) → (story_after_in s b l m).aims ≡ b.aims
 in_aims s b l None = refl
 in_aims s b l (Some m) = carried_aims _ _ ∙ go (is_none l.item)
   where
@@ -240,18 +233,18 @@ in_aims s b l (Some m) = carried_aims _ _ ∙ go (is_none l.item)
     go true = restored_aims b (link_after_name b.sent s.commands l m).item
     go false = refl
 
-byte_aims : (b : Story) (l : Link) (d : RowReading) → (story_after_byte b l d).aims ≡ b.aims
+pub byte_aims : (b : Story) (l : Link) (d : RowReading) → (story_after_byte b l d).aims ≡ b.aims
 byte_aims b l d = go d.change.before.msg
   where
     go : (q : Bool) → (if q then b else story_with_carried b (carried_after_byte_if (carried_if b l.item) d)).aims ≡ b.aims
     go true = refl
     go false = carried_aims b (carried_after_byte_if (carried_if b l.item) d)
 
-fault_aims : (b : Story) (l : Link) (kind : Kind) → (story_after_fault b l kind).aims ≡ b.aims
+pub fault_aims : (b : Story) (l : Link) (kind : Kind) → (story_after_fault b l kind).aims ≡ b.aims
 fault_aims b l (Drives lines) = refl
 fault_aims b l (Fault bit) = carried_aims b (carried_after_fault_if (carried_if b l.item) b.bus_state.crossed)
 
-connected_aims : (s : ScenarioValue) (b : Story) (l : Option Link) (d : RowReading) (row : Row) → (story_in_connection s b l d row).aims ≡ b.aims
+pub connected_aims : (s : ScenarioValue) (b : Story) (l : Option Link) (d : RowReading) (row : Row) → (story_in_connection s b l d row).aims ≡ b.aims
 connected_aims s b None d row = refl
 connected_aims s b (Some l) d row = go d.crosses (is_some d.out) (is_some d.into)
   where

@@ -8,7 +8,7 @@ use Rattle.bus_base.specs.Faults.{counted_on}
 use Rattle.bus_phases.specs.Dialogue.{command_on}
 use Rattle.bus_rules.specs.Messages.{may_take, is_none_or_all, is_below, is_same_length}
 use Rattle.bus_story.specs.Right.{same_bytes}
-use Rattle.bus_books.proofs.Lists.{eq_self}
+use Rattle.bus_base.proofs.Tests.{eq_self, suc_some}
 
 -- while it is not whole, a byte follows
 pub follows_block : (block rest cdb : List ℕ) → block ++ rest ≡ cdb → has_group_len cdb ≡ true → has_group_len block ≡ false → length block < length cdb
@@ -43,9 +43,6 @@ same_self (x ∷ xs) = ap (λ (q : Bool). q && same_bytes xs xs) (eq_self x) ∙
 abbrev pub counts : List ℕ → CommandBytes
 counts block = record { first = slice_index block 0; count = length block }
 
-not_zero : (n : ℕ) → (suc n == 0) ≡ false
-not_zero n = grind (arith, nat_tests)
-
 counted_small : (n m : ℕ) → n < 1000 → m ≡ n + 1 → counted_on n ≡ m
 counted_small n m lt e = omega (arith, lt, e)
 
@@ -54,7 +51,7 @@ counts_on [] byte lt = refl
 counts_on (b ∷ block) byte lt =
     let v = length-append block (byte ∷ []) in
     let e : counted_on (length (b ∷ block)) ≡ length (b ∷ (block ++ byte ∷ [])) = counted_small (length (b ∷ block)) (length (b ∷ (block ++ byte ∷ []))) lt (omega arith) in
-    λ i. record { first = if not_zero (length block) i then byte else b; count = e i }
+    λ i. record { first = if suc_some (length block) i then byte else b; count = e i }
 
 some_len : (g : Option ℕ) (n : ℕ) → is_len g n ≡ true → is_some g ≡ true
 some_len None n e = e
@@ -68,7 +65,7 @@ pub may_follow : (block : List ℕ) (byte : ℕ) (ys cdb : List ℕ) → block +
 may_follow [] byte ys cdb e whole = some_len (group_len byte) (length cdb) ((λ i. is_len (group_len (slice_index (e i) 0)) (length cdb)) ∙ whole)
 may_follow (b ∷ block) byte ys cdb e whole =
     let w = ap length e in let v = length-append block (byte ∷ ys) in
-    ap (λ (q : Bool). if q then is_some (group_len byte) else is_below (length (b ∷ block)) (group_len b)) (not_zero (length block))
+    ap (λ (q : Bool). if q then is_some (group_len byte) else is_below (length (b ∷ block)) (group_len b)) (suc_some (length block))
     ∙ below_len (group_len b) (length cdb) (length (b ∷ block)) ((λ i. is_len (group_len (slice_index (e i) 0)) (length cdb)) ∙ whole) (omega arith)
 
 same_len : (g : Option ℕ) (n : ℕ) → is_len g n ≡ true → is_same_length n g ≡ true
@@ -77,4 +74,4 @@ same_len (Some l) n e = grind (arith, nat_tests)
 
 pub none_or_all : (block : List ℕ) → has_group_len block ≡ true → is_none_or_all (counts block) ≡ true
 none_or_all [] whole = refl
-none_or_all (b ∷ block) whole = ap (λ (q : Bool). q || is_same_length (length (b ∷ block)) (group_len b)) (not_zero (length block)) ∙ same_len (group_len b) (length (b ∷ block)) whole
+none_or_all (b ∷ block) whole = ap (λ (q : Bool). q || is_same_length (length (b ∷ block)) (group_len b)) (suc_some (length block)) ∙ same_len (group_len b) (length (b ∷ block)) whole

@@ -10,16 +10,13 @@ use Rattle.bus_due.specs.RunState.{RunState, process_item, process_served, carri
 use Rattle.bus_books.specs.Carrying.{AllCarryOwn, CarriesOwn}
 use Rattle.bus_books.proofs.Lookups.{carried_id}
 use Rattle.bus_books.proofs.Blocks.{follows_block, block_is_all, same_self}
-use Rattle.bus_books.proofs.CarriedRows.{process_id}
-
-none_some : (p : Process) → (let a : Option Process = None in a) ≡ Some p → ⊥
-none_some p e = cc
+use Rattle.bus_books.proofs.CarriedRows.{process_id, process_none}
 
 -- A process is that of its own number.
 pub process_own : (s : ScenarioValue) (item : Option Item) (p : Process) → process_item s item ≡ Some p → process_of s p.id ≡ Some p
-process_own s None p e = absurd (none_some p e)
+process_own s None p e = absurd (process_none p e)
 process_own s (Some (process id)) p e = ap (process_of s) (process_id s id p e) ∙ e
-process_own s (Some (abort n)) p e = absurd (none_some p e)
+process_own s (Some (abort n)) p e = absurd (process_none p e)
 
 pub own_of : (s : ScenarioValue) (k : RunState) (p : Process) → AllCarryOwn s k → process_of s p.id ≡ Some p → CarriesOwn (carried_here k p.id) p
 own_of s k p h e = h.each p.id p (ap (process_of s) (carried_id k.story.carried p.id) ∙ e)

@@ -31,13 +31,14 @@ use Rattle.bus_due.specs.RunSteps.{run_state, run_state_after}
 use Rattle.bus_books.specs.Carrying.{IsOwn, AllCarryOwn, SendsNext, SendsOwn, AllSendOwn}
 use Rattle.bus_books.proofs.Lookups.{carried_id}
 use Rattle.bus_books.proofs.Carried.{AllOwn, restored_own, refused_own, shown_own, fault_own, message_own, IsNext, byte_own, nothing_own, with_own}
+use Rattle.bus_story.proofs.StorySteps.{ends_keep, check_keeps}
 
 -- ---- of a story
 
 abbrev UndoOwn : ScenarioValue → Option Link → Type 0
 UndoOwn s link = (l : Link) (c : CarriedBytes) → link ≡ Some l → l.undo ≡ Some c → IsOwn s c
 
-record Own (s : ScenarioValue) (b : Story) : Type 0 where
+pub record Own (s : ScenarioValue) (b : Story) : Type 0 where
   each : AllOwn s b.carried
   undone : UndoOwn s b.link
 
@@ -47,14 +48,14 @@ own_by s a b ec el h = record {
   undone = subst (λ (x : Option Link). UndoOwn s x) (sym el) h.undone;
 }
 
-no_link : (s : ScenarioValue) → UndoOwn s None
+pub no_link : (s : ScenarioValue) → UndoOwn s None
 no_link s l c e f = absurd (none_link l e)
   where
     none_link : (x : Link) → (let a : Option Link = None in a) ≡ Some x → ⊥
     none_link x z = cc
 
 -- A link whose undo is this.
-abbrev or_link : Link → Option Link → Link
+abbrev pub or_link : Link → Option Link → Link
 or_link x None = x
 or_link x (Some l) = l
 
@@ -62,28 +63,6 @@ link_own : (s : ScenarioValue) (l : Link) → ((c : CarriedBytes) → l.undo ≡
 link_own s l h m c e f = h c (ap (λ (x : Link). x.undo) (ap (or_link l) e) ∙ f)
 
 -- ---- events
-
-pub ends_keep : (drops stops : CmdDef → Bool) (e : Ending) (n : ℕ) (commands : List CmdDef) (b : Story) → ((story_with_ends drops stops e n commands b).carried ≡ b.carried) × ((story_with_ends drops stops e n commands b).link ≡ b.link)
-ends_keep drops stops e n [] b = (refl, refl)
-ends_keep drops stops e n (c ∷ commands) b =
-    let rest = ends_keep drops stops e (n + 1) commands
-    (if is_open b.sent n && drops c then story_with_end b (record { command = n; sense = false }) e
-    else if stops c && list_any (λ k. k == n) b.sent.checks then story_with_over b (sense_item n)
-    else b) in
-    let here = go (is_open b.sent n && drops c) (stops c && list_any (λ k. k == n) b.sent.checks) in
-    (rest.0 ∙ here.0, rest.1 ∙ here.1)
-  where
-    go : (q r : Bool) → ((if q then story_with_end b (record { command = n; sense = false }) e else if r then story_with_over b (sense_item n) else b).carried ≡ b.carried) × ((if q then story_with_end b (record { command = n; sense = false }) e else if r then story_with_over b (sense_item n) else b).link ≡ b.link)
-    go true r = (refl, refl)
-    go false true = (refl, refl)
-    go false false = (refl, refl)
-
-pub check_keeps : (b : Story) (id : ProcId) (status : ℕ) → ((with_check b id status).carried ≡ b.carried) × ((with_check b id status).link ≡ b.link)
-check_keeps b id status = go (not id.sense && status == CHECK_CONDITION)
-  where
-    go : (q : Bool) → ((if q then record b { sent = record b.sent { checks = b.sent.checks ++ id.command ∷ [] } } else b).carried ≡ b.carried) × ((if q then record b { sent = record b.sent { checks = b.sent.checks ++ id.command ∷ [] } } else b).link ≡ b.link)
-    go true = (refl, refl)
-    go false = (refl, refl)
 
 event_own : (s : ScenarioValue) (b : Story) (event : Event) → Own s b → Own s (story_after_event s b event)
 event_own s b (events.Accept id) h = h
@@ -98,13 +77,13 @@ event_own s b (events.Aborted host target unit what) h =
 event_own s b (events.Reset dev) h =
     let k = ends_keep (λ c. true) (λ c. true) by_reset 1 s.commands b in own_by s (story_after_event s b (events.Reset dev)) b k.0 k.1 h
 
-events_own : (s : ScenarioValue) (b : Story) (shown : List Event) → Own s b → Own s (story_after_events s b shown)
+pub events_own : (s : ScenarioValue) (b : Story) (shown : List Event) → Own s b → Own s (story_after_events s b shown)
 events_own s b [] h = h
 events_own s b (event ∷ shown) h = event_own s (story_after_events s b shown) event (events_own s b shown h)
 
 -- ---- outside a connection
 
-free_keeps : (s : ScenarioValue) (b : Story) (d : RowReading) (row : Row) → ((story_on_free_bus s b d row).carried ≡ b.carried) × ((story_on_free_bus s b d row).link ≡ b.link)
+pub free_keeps : (s : ScenarioValue) (b : Story) (d : RowReading) (row : Row) → ((story_on_free_bus s b d row).carried ≡ b.carried) × ((story_on_free_bus s b d row).link ≡ b.link)
 free_keeps s b d row = go (is_arbitration_entry b d) (falls d.change.before.sel d.change.after.sel)
   where
     tried : (dev : ℕ) (item : Option Item) → ((story_with_try s b dev item).carried ≡ b.carried) × ((story_with_try s b dev item).link ≡ b.link)
@@ -140,17 +119,17 @@ own_restored s b None h = h
 own_restored s b (Some (process id)) h = record { each = with_own s b.carried (with_restored_pointers (carried_of b.carried id)) h.each (restored_own s (carried_of b.carried id) (h.each id)); undone = h.undone }
 own_restored s b (Some (abort k)) h = h
 
-sent_own : (s : ScenarioValue) (b : Story) (item : Option Item) → Own s b → Own s (story_with_sent b item)
+pub sent_own : (s : ScenarioValue) (b : Story) (item : Option Item) → Own s b → Own s (story_with_sent b item)
 sent_own s b None h = h
 sent_own s b (Some item) h = record { each = h.each; undone = h.undone }
 
 some_none : (s : ScenarioValue) (c : CarriedBytes) → (let a : Option CarriedBytes = None in a) ≡ Some c → IsOwn s c
 some_none s c e = cc
 
-linked_own : (s : ScenarioValue) (b : Story) (n : Connection) (item : Option Item) → Own s b → Own s (record b { link = Some (link_of n item) })
+pub linked_own : (s : ScenarioValue) (b : Story) (n : Connection) (item : Option Item) → Own s b → Own s (record b { link = Some (link_of n item) })
 linked_own s b n item h = record { each = h.each; undone = link_own s (link_of n item) (λ c e. some_none s c e) }
 
-begun_own : (s : ScenarioValue) (b : Story) (n : Connection) → Own s b → Own s (story_after_connection b n)
+pub begun_own : (s : ScenarioValue) (b : Story) (n : Connection) → Own s b → Own s (story_after_connection b n)
 begun_own s b n h = go n.reselected (aim_of b.aims n.initiator)
   where
     go : (q : Bool) (item : Option Item) → Own s (if q then record b { link = Some (link_of n None) } else story_with_restored (story_with_sent (record b { link = Some (link_of n item) }) item) item)
@@ -211,7 +190,7 @@ in_own s b l (Some m) h = go (is_none l.item)
 
 -- ---- bytes and faults
 
-process_none : (p : Process) → (let a : Option Process = None in a) ≡ Some p → ⊥
+pub process_none : (p : Process) → (let a : Option Process = None in a) ≡ Some p → ⊥
 process_none p e = cc
 
 abbrev or_process : Process → Option Process → Process

@@ -25,9 +25,9 @@ use Rattle.bus_books.specs.Hearing.{is_in_phase, is_out_phase, HasPhase, LeavesW
 use Rattle.bus_books.specs.Knowing.{Knows}
 use Rattle.bus_books.specs.Speaking.{Speaks}
 use Rattle.bus_books.proofs.CarriedBlocks.{block_own}
-use Rattle.bus_books.proofs.Lists.{eq_self}
 use Rattle.bus_books.proofs.Lookups.{self_id}
 use Rattle.bus_books.proofs.Opened.{opening_named}
+use Rattle.bus_base.proofs.Tests.{eq_self, unless}
 
 -- ---- phases
 
@@ -43,7 +43,7 @@ out_lines b e h = go b.msg b.cd b.io (ap is_out_phase e) h
     go false false true z g = z
     go false false false z g = z
 
-abbrev is_data_out : Phase → Bool
+abbrev pub is_data_out : Phase → Bool
 is_data_out phases.DataOut = true
 is_data_out _ = false
 
@@ -74,13 +74,9 @@ linked_item s k n h named = elim h.item_is [
 known_as : (k : RunState) → item_of k.story.link ≡ k.served → same_process k.served (item_of k.story.link) ≡ true
 known_as k e = ap (same_process k.served) e ∙ same_self k.served
 
-or_true : (q r : Bool) → (q ≡ false → r ≡ true) → (q || r) ≡ true
-or_true true r h = refl
-or_true false r h = h refl
-
 known_left : (s : ScenarioValue) (k : RunState) (n : Connection) → Knows s k n → LeavesWhole s k n → (phase : Phase) → phase_of (bus_of k) ≡ phase → is_known_process k phase ≡ true
 known_left s k n h w phases.MessageOut e = refl
-known_left s k n h w phases.MessageIn e = or_true (bus_of k).atn (same_process k.served (item_of k.story.link)) (λ f. known_as k (linked_item s k n h (λ r. w.named r (ap is_out_phase e) ((λ i. is_in_phase (e i) && (bus_of k).atn) ∙ f))))
+known_left s k n h w phases.MessageIn e = unless (bus_of k).atn (same_process k.served (item_of k.story.link)) (λ f. known_as k (linked_item s k n h (λ r. w.named r (ap is_out_phase e) ((λ i. is_in_phase (e i) && (bus_of k).atn) ∙ f))))
 known_left s k n h w phases.Command e = known_as k (linked_item s k n h (λ r. w.named r (ap is_out_phase e) (λ i. is_in_phase (e i) && (bus_of k).atn)))
 known_left s k n h w phases.Status e = known_as k (linked_item s k n h (λ r. w.named r (ap is_out_phase e) (λ i. is_in_phase (e i) && (bus_of k).atn)))
 known_left s k n h w phases.DataIn e = known_as k (linked_item s k n h (λ r. w.named r (ap is_out_phase e) (λ i. is_in_phase (e i) && (bus_of k).atn)))
@@ -128,7 +124,7 @@ crossed s k row n h sends runs ec (Some p) ep phases.DataIn e = refl
 pub row_is_faithful : (s : ScenarioValue) (k : RunState) (row : Row) (n : Connection) → AreUnits s → Speaks s k n → Knows s k n → AllCarryOwn s k → HasPhase k → k.story.bus_state.connection ≡ Some n → SendsOwn s k row → ((row_reading k.story.bus_state row).crosses ≡ true → MovesRuns s k n) → (changes_phase (row_reading k.story.bus_state row).change ≡ true → LeavesWhole s k n) → is_faithful s k (row_reading k.story.bus_state row) ≡ true
 row_is_faithful s k row n u speaks knows carry lines con sends runs leaves =
     (λ i. is_true_beginning s k (con i) (row_reading k.story.bus_state row).next && ((row_reading k.story.bus_state row).change.after.rst || is_true_hearing s k (row_reading k.story.bus_state row)))
-    ∙ or_true (row_reading k.story.bus_state row).change.after.rst (is_true_hearing s k (row_reading k.story.bus_state row)) (λ e. hearing (row_reading k.story.bus_state row).crosses refl (changes_phase (row_reading k.story.bus_state row).change) refl k.exchange.begun refl)
+    ∙ unless (row_reading k.story.bus_state row).change.after.rst (is_true_hearing s k (row_reading k.story.bus_state row)) (λ e. hearing (row_reading k.story.bus_state row).crosses refl (changes_phase (row_reading k.story.bus_state row).change) refl k.exchange.begun refl)
   where
     hearing : (q : Bool) → (row_reading k.story.bus_state row).crosses ≡ q → (r : Bool) → changes_phase (row_reading k.story.bus_state row).change ≡ r → (b : Bool) → k.exchange.begun ≡ b
         → (if q then is_true_crossing s k (process_served s k) ((row_reading k.story.bus_state row).change.after.data_bits % 256) (phase_of (bus_of k)) else if r && b then is_known_process k (phase_of (bus_of k)) && is_true_leaving s k (process_served s k) (phase_of (bus_of k)) else true) ≡ true

@@ -38,6 +38,7 @@ use Rattle.bus_books.proofs.FirstWords.{opening_is}
 use Rattle.bus_books.proofs.Given.{first_requests}
 use Rattle.bus_books.proofs.Gives.{requests_stay, struck_same, in_io}
 use Rattle.bus_books.proofs.InConnection.{exchange_by, dialogue_by, InConnection, in_connection, SamePhase, same_phase_is}
+use Rattle.bus_books.proofs.Reactions.{in_phase}
 
 -- ---- what is kept is known otherwise
 
@@ -114,15 +115,6 @@ out_phase b e = go b.msg b.cd b.io e
     go : (m d i : Bool) → (m && d && not i) ≡ true → (if m then (if i then phases.MessageIn else phases.MessageOut) else if d then (if i then phases.Status else phases.Command) else if i then phases.DataIn else phases.DataOut) ≡ phases.MessageOut
     go true true true e = absurd (true≢false (sym e))
     go true true false e = refl
-    go true false i e = absurd (true≢false (sym e))
-    go false d i e = absurd (true≢false (sym e))
-
-in_phase : (b : LineSet) → is_message_in b ≡ true → phase_of b ≡ phases.MessageIn
-in_phase b e = go b.msg b.cd b.io e
-  where
-    go : (m d i : Bool) → (m && d && i) ≡ true → (if m then (if i then phases.MessageIn else phases.MessageOut) else if d then (if i then phases.Status else phases.Command) else if i then phases.DataIn else phases.DataOut) ≡ phases.MessageIn
-    go true true true e = refl
-    go true true false e = absurd (true≢false (sym e))
     go true false i e = absurd (true≢false (sym e))
     go false d i e = absurd (true≢false (sym e))
 

@@ -18,23 +18,7 @@ use Rattle.bus_due.specs.Wants.{ready_of}
 use Rattle.bus_books.specs.Giving.{OnMessages}
 use Rattle.bus_books.specs.Knowing.{IsNoName, Knows}
 use Rattle.bus_books.specs.Rows.{IsFirstRow}
-use Rattle.bus_books.proofs.Knows.{events_link}
-
-restored_link : (b : Story) (item : Option Item) → (story_with_restored b item).link ≡ b.link
-restored_link b None = refl
-restored_link b (Some (process id)) = refl
-restored_link b (Some (abort n)) = refl
-
-sent_link : (b : Story) (item : Option Item) → (story_with_sent b item).link ≡ b.link
-sent_link b None = refl
-sent_link b (Some item) = refl
-
-first_link : (b : Story) (n : Connection) → (story_after_connection b n).link ≡ Some (link_of n (if n.reselected then None else aim_of b.aims n.initiator))
-first_link b n = go n.reselected (aim_of b.aims n.initiator)
-  where
-    go : (q : Bool) (item : Option Item) → (if q then record b { link = Some (link_of n None) } else story_with_restored (story_with_sent (record b { link = Some (link_of n item) }) item) item).link ≡ Some (link_of n (if q then None else item))
-    go true item = refl
-    go false item = restored_link (story_with_sent (record b { link = Some (link_of n item) }) item) item ∙ sent_link (record b { link = Some (link_of n item) }) item
+use Rattle.bus_story.proofs.StorySteps.{restored_link, sent_link, first_link, events_link}
 
 pub knows_first : (s : ScenarioValue) (k : RunState) (row : Row) (n : Connection) → IsFirstRow k row n → Knows s (run_state_after s k row) n
 knows_first s k row n h = record {

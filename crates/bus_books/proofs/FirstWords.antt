@@ -32,11 +32,9 @@ use Rattle.bus_books.specs.Items.{IsItem, is_process, is_abort, AimsAreItems}
 use Rattle.bus_books.specs.Rows.{IsFirstRow}
 use Rattle.bus_books.specs.Speaking.{SpeaksBy, Speaks}
 use Rattle.bus_books.proofs.Reading.{opening_reads, abort_opening_reads}
+use Rattle.bus_books.proofs.CarriedRows.{process_none}
 
 -- ---- the units that processes and aborts name
-
-none_some : (p : Process) → (let a : Option Process = None in a) ≡ Some p → ⊥
-none_some p e = cc
 
 abbrev or_process : Process → Option Process → Process
 or_process q None = q
@@ -50,7 +48,7 @@ process_unit s id p u e = go (command_at s.commands id.command) refl
     by c false = refl
 
     go : (c : Option CmdDef) → command_at s.commands id.command ≡ c → p.unit < 8
-    go None f = absurd (none_some p (sym (ap (λ (x : Option CmdDef). process_if s id x) f) ∙ e))
+    go None f = absurd (process_none p (sym (ap (λ (x : Option CmdDef). process_if s id x) f) ∙ e))
     go (Some c) f =
         let same : process_by s id c ≡ p = ap (or_process p) (sym (ap (λ (x : Option CmdDef). process_if s id x) f) ∙ e) in
         subst (λ (n : ℕ). n < 8) (sym (by c id.sense) ∙ ap (λ (q : Process). q.unit) same) (u.commands id.command c f)

@@ -36,6 +36,9 @@ use Rattle.bus_books.specs.Rows.{IsFirstRow}
 use Rattle.bus_books.proofs.Lists.{word_at}
 use Rattle.bus_books.proofs.Areas.{split_at}
 use Rattle.bus_books.proofs.Gives.{gives_as}
+use Rattle.bus_base.proofs.Tests.{and_first, and_second}
+use Rattle.bus_books.proofs.Reading.{nil_is}
+use Rattle.bus_books.proofs.Hearable.{next_half}
 
 -- ---- the first row
 
@@ -86,14 +89,6 @@ gives_first s k row n h named =
 
 -- ---- messages
 
-and_first : (a b : Bool) → (a && b) ≡ true → a ≡ true
-and_first true b e = refl
-and_first false b e = absurd (true≢false (sym e))
-
-and_second : (a b : Bool) → (a && b) ≡ true → b ≡ true
-and_second true b e = e
-and_second false b e = absurd (true≢false (sym e))
-
 named_whole : (lun : ℕ) (rest : List ℕ) → lun < 8 → form_messages_in [] rest ≡ true → form_messages_in [] (in_bytes (to_initiator.Identify lun) ++ rest) ≡ true
 unfolding form_in
 named_whole zero rest lt e = e
@@ -124,13 +119,6 @@ whole_if (Some m) rest h e = message_whole m rest h e
 messages_whole : (m : Messages) → OnMessages FitsIn m → form_messages_in [] (bytes_of_messages m) ≡ true
 messages_whole m h =
     whole_if m.first (message_bytes m.second) h.0 (ap (form_messages_in []) (sym (append-nil (message_bytes m.second))) ∙ whole_if m.second [] h.1 refl)
-
-nil_is : (xs : List ℕ) → is_nil xs ≡ true → xs ≡ []
-nil_is [] e = refl
-nil_is (x ∷ xs) e = absurd (true≢false (sym e))
-
-abbrev next_half : List ℕ → ℕ → List ℕ
-next_half half b = left_of (got_in (half ++ b ∷ [])) (half ++ b ∷ [])
 
 whole_at : (half xs : List ℕ) (b : ℕ) (ys : List ℕ) → form_messages_in half (xs ++ b ∷ ys) ≡ true → not (is_unknown (reading_in (got_in (half_after half xs ++ b ∷ [])))) ≡ true
 whole_at half [] b ys e = and_first (not (is_unknown (reading_in (got_in (half ++ b ∷ []))))) (form_messages_in (next_half half b) ys) e

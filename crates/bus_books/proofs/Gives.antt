@@ -36,6 +36,7 @@ use Rattle.bus_books.proofs.Lists.{word_at}
 use Rattle.bus_books.proofs.Areas.{split_at}
 use Rattle.bus_books.proofs.InConnection.{exchange_by, dialogue_by, InConnection, in_connection, SamePhase, same_phase_is}
 use Rattle.bus_books.proofs.Leavings.{IsOfOthers, left_messages}
+use Rattle.bus_base.proofs.Tests.{rises_none, rises_some}
 
 -- ---- bytes
 
@@ -58,7 +59,7 @@ given_on bytes half count byte h e lt =
     }
 
 -- The messages of a phase are few bytes.
-few_bytes : (m : MsgIn) → length (in_bytes m) < 6
+pub few_bytes : (m : MsgIn) → length (in_bytes m) < 6
 few_bytes to_initiator.CommandComplete = omega arith
 few_bytes to_initiator.SavePointer = omega arith
 few_bytes to_initiator.RestorePointers = omega arith
@@ -68,39 +69,25 @@ few_bytes (to_initiator.SimpleTag tag) = omega arith
 few_bytes (to_initiator.Sdtr offer) = omega arith
 few_bytes to_initiator.Reject = omega arith
 
-few_of : (m : Option MsgIn) → length (message_bytes m) < 6
+pub few_of : (m : Option MsgIn) → length (message_bytes m) < 6
 few_of None = omega arith
 few_of (Some m) = few_bytes m
 
-few_messages : (m : Messages) → length (bytes_of_messages m) < 12
+pub few_messages : (m : Messages) → length (bytes_of_messages m) < 12
 few_messages m =
     let a = few_of m.first in
     let b = few_of m.second in
     let c = length-append (message_bytes m.first) (message_bytes m.second) in
     omega arith
 
-counted : (n m : ℕ) → n < m → m < 12 → counted_on n ≡ n + 1
+pub counted : (n m : ℕ) → n < m → m < 12 → counted_on n ≡ n + 1
 counted n m a b = omega (arith, a, b)
 
 -- ---- handshakes
 
-answered_same : (q : Bool) (t : ℕ) (h : Handshakes) → (answered_if q t h).requests ≡ h.requests
+pub answered_same : (q : Bool) (t : ℕ) (h : Handshakes) → (answered_if q t h).requests ≡ h.requests
 answered_same true t h = refl
 answered_same false t h = refl
-
-rises_none : (io q : Bool) (x y : ℕ) (z : Option ℕ) → io ≡ true → (if io then (if q then Some x else None) else z) ≡ None → q ≡ false
-rises_none io true x y z e f = absurd (some_none x (sym (ap (λ (r : Bool). if r then Some x else z) e) ∙ f))
-  where
-    some_none : (x : ℕ) → Some x ≡ (let a : Option ℕ = None in a) → ⊥
-    some_none x e = cc
-rises_none io false x y z e f = refl
-
-rises_some : (io q : Bool) (x dev : ℕ) (z : Option ℕ) → io ≡ true → (if io then (if q then Some x else None) else z) ≡ Some dev → q ≡ true
-rises_some io true x dev z e f = refl
-rises_some io false x dev z e f = absurd (none_some dev (sym (ap (λ (r : Bool). if r then None else z) e) ∙ f))
-  where
-    none_some : (x : ℕ) → (let a : Option ℕ = None in a) ≡ Some x → ⊥
-    none_some x e = cc
 
 pub requests_stay : (n : Connection) (c : Change) (t : ℕ) (h : Handshakes) → changes_phase c ≡ false → c.before.io ≡ true → receiver_in n c ≡ None → (handshakes_on (Some n) c t h).requests ≡ h.requests
 requests_stay n c t h ep io er =
@@ -122,7 +109,7 @@ pub gives_as : (x x' : Exchange) (d d' : Dialogue) (h : Handshakes) (b b' : Line
 gives_as x x' d d' h b b' ex ed eb g =
     subst (λ (z : Exchange). GivesBy z d h b) (sym ex) (subst (λ (z : Dialogue). GivesBy x' z h b) (sym ed) (subst (λ (z : LineSet). GivesBy x' d' h z) (sym eb) g))
 
-in_same : (a b : LineSet) → SamePhase a b → is_message_in b ≡ is_message_in a
+pub in_same : (a b : LineSet) → SamePhase a b → is_message_in b ≡ is_message_in a
 in_same a b h = λ i. h.msg i && h.cd i && h.io i
 
 pub in_io : (b : LineSet) → is_message_in b ≡ true → b.io ≡ true

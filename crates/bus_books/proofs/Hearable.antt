@@ -13,7 +13,7 @@ use Rattle.bus_books.specs.Giving.{AreGiven, OnMessage, OnMessages}
 use Rattle.bus_books.proofs.Lists.{word_at}
 use Rattle.bus_books.proofs.Areas.{split_at}
 
-abbrev next_half : List ℕ → ℕ → List ℕ
+abbrev pub next_half : List ℕ → ℕ → List ℕ
 next_half half b = left_of (got_in (half ++ b ∷ [])) (half ++ b ∷ [])
 
 -- Each message that these bytes make whole is such.

@@ -25,6 +25,7 @@ use Rattle.bus_due.specs.Defs.{host_of}
 use Rattle.bus_due.specs.Sights.{hearing_of, leaving}
 use Rattle.bus_due.specs.RunSteps.{run_state_after, exchange_after, served_after, leaving_of}
 use Rattle.bus_books.specs.Rows.{IsRowIn, reading_in}
+use Rattle.std.proofs.lemmas.Bool.{not-false, and_parts}
 
 pub reading_is : (k : RunState) (row : Row) (n : Connection) (c : Change) (q : Bool) → IsRowIn k row n c → is_some (receiver_in n c) ≡ q → row_reading k.story.bus_state row ≡ reading_in k.story.bus_state n c q
 reading_is k row n c q h e =
@@ -75,14 +76,6 @@ same_lines true b e = e
 same_lines false true e = absurd (true≢false (sym e))
 same_lines false false e = refl
 
-both : (a b : Bool) → (a && b) ≡ true → (a ≡ true) × (b ≡ true)
-both true b e = (refl, e)
-both false b e = absurd (true≢false (sym e))
-
-was_not : (q : Bool) → not q ≡ false → q ≡ true
-was_not true e = refl
-was_not false e = absurd (true≢false e)
-
 pub record SamePhase (a b : LineSet) : Type 0 where
   pub msg : b.msg ≡ a.msg
   pub cd : b.cd ≡ a.cd
@@ -90,7 +83,7 @@ pub record SamePhase (a b : LineSet) : Type 0 where
 
 pub same_phase_is : (c : Change) → changes_phase c ≡ false → SamePhase c.before c.after
 same_phase_is c e =
-    let all = was_not (same_phase c.before c.after) e in
-    let two = both (same c.before.msg c.after.msg && same c.before.cd c.after.cd) (same c.before.io c.after.io) all in
-    let one = both (same c.before.msg c.after.msg) (same c.before.cd c.after.cd) two.0 in
+    let all = not-false (same_phase c.before c.after) e in
+    let two = and_parts (same c.before.msg c.after.msg && same c.before.cd c.after.cd) (same c.before.io c.after.io) all in
+    let one = and_parts (same c.before.msg c.after.msg) (same c.before.cd c.after.cd) two.0 in
     record { msg = same_lines c.before.msg c.after.msg one.0; cd = same_lines c.before.cd c.after.cd one.1; io = same_lines c.before.io c.after.io two.1 }

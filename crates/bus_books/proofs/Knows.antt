@@ -35,27 +35,13 @@ use Rattle.bus_due.specs.RunSteps.{run_state_after}
 use Rattle.bus_books.specs.Giving.{OnMessage, OnMessages, Gives, GivesNext}
 use Rattle.bus_books.specs.Knowing.{IsNoName, Knows, NamesServed}
 use Rattle.bus_books.specs.Rows.{RowKind, still, strikes, crosses, turns, IsRowIn, reading_in}
-use Rattle.bus_books.proofs.CarriedRows.{ends_keep, check_keeps}
 use Rattle.bus_books.proofs.Gives.{byte_messages}
 use Rattle.bus_books.proofs.Hearable.{heard_next}
 use Rattle.bus_books.proofs.InConnection.{reading_is, exchange_by, InConnection, in_connection}
 use Rattle.bus_books.proofs.Leavings.{IsOfOthers, left_messages}
+use Rattle.bus_story.proofs.StorySteps.{byte_link, ends_keep, check_keeps, event_link, carried_link, events_link}
 
 -- ---- events leave the link
-
-event_link : (s : ScenarioValue) (b : Story) (event : Event) → (story_after_event s b event).link ≡ b.link
-event_link s b (events.Accept id) = refl
-event_link s b (events.Refuse id) = refl
-event_link s b (events.Run id) = refl
-event_link s b (events.Fail id code) = refl
-event_link s b (events.End id status) = (check_keeps (story_with_end b id _) id status).1
-event_link s b (events.Lost id) = refl
-event_link s b (events.Aborted host target unit what) = (ends_keep (is_aborted host target unit what) (is_sense_stopped host target unit what) by_abort 1 s.commands b).1
-event_link s b (events.Reset dev) = (ends_keep (λ c. true) (λ c. true) by_reset 1 s.commands b).1
-
-pub events_link : (s : ScenarioValue) (b : Story) (shown : List Event) → (story_after_events s b shown).link ≡ b.link
-events_link s b [] = refl
-events_link s b (event ∷ shown) = event_link s (story_after_events s b shown) event ∙ events_link s b shown
 
 pub link_after : (s : ScenarioValue) (k : RunState) (row : Row) (n : Connection) (c : Change) (now : Bool) → IsRowIn k row n c → is_some (receiver_in n c) ≡ now
     → (run_state_after s k row).story.link ≡ (story_in_connection s k.story k.story.link (reading_in k.story.bus_state n c now) row).link
@@ -73,10 +59,6 @@ record IsLinkAfter (l m : Link) (item : Option Item) : Type 0 where
   target : m.target ≡ l.target
   item_is : m.item ≡ item
 
-carried_link : (b : Story) (c : Option CarriedBytes) → (story_with_carried b c).link ≡ b.link
-carried_link b None = refl
-carried_link b (Some c) = refl
-
 name_ends : (b : Sent) (commands : List CmdDef) (l : Link) (m : MsgIn) → IsLinkAfter l (link_after_name b commands l m) (link_after_name b commands l m).item
 name_ends b commands l to_initiator.CommandComplete = record { initiator = refl; target = refl; item_is = refl }
 name_ends b commands l to_initiator.SavePointer = record { initiator = refl; target = refl; item_is = refl }
@@ -87,7 +69,7 @@ name_ends b commands l (to_initiator.SimpleTag tag) = record { initiator = refl;
 name_ends b commands l (to_initiator.Sdtr offer) = record { initiator = refl; target = refl; item_is = refl }
 name_ends b commands l to_initiator.Reject = record { initiator = refl; target = refl; item_is = refl }
 
-nameless_item : (b : Sent) (commands : List CmdDef) (l : Link) (m : MsgIn) → is_name m ≡ false → (link_after_name b commands l m).item ≡ l.item
+pub nameless_item : (b : Sent) (commands : List CmdDef) (l : Link) (m : MsgIn) → is_name m ≡ false → (link_after_name b commands l m).item ≡ l.item
 nameless_item b commands l to_initiator.CommandComplete e = refl
 nameless_item b commands l to_initiator.SavePointer e = refl
 nameless_item b commands l to_initiator.RestorePointers e = refl
@@ -105,16 +87,9 @@ item_after s b l d = if d.crosses then (if is_some d.out then l.item else by_mes
     by_message None = l.item
     by_message (Some m) = (link_after_name b.sent s.commands l m).item
 
-fault_link : (b : Story) (l : Link) (kind : Kind) → (story_after_fault b l kind).link ≡ b.link
+pub fault_link : (b : Story) (l : Link) (kind : Kind) → (story_after_fault b l kind).link ≡ b.link
 fault_link b l (Drives lines) = refl
 fault_link b l (Fault bit) = carried_link b (carried_after_fault_if (carried_if b l.item) b.bus_state.crossed)
-
-byte_link : (b : Story) (l : Link) (d : RowReading) → (story_after_byte b l d).link ≡ b.link
-byte_link b l d = go d.change.before.msg
-  where
-    go : (q : Bool) → (if q then b else story_with_carried b (carried_after_byte_if (carried_if b l.item) d)).link ≡ b.link
-    go true = refl
-    go false = carried_link b (carried_after_byte_if (carried_if b l.item) d)
 
 pub record LinkTo (s : ScenarioValue) (b after : Story) (l : Link) (item : Option Item) : Type 0 where
   pub link : Link
@@ -151,10 +126,10 @@ linked_on s b l d row el = go d.crosses d.out d.into
 
 -- ---- no message is a name
 
-others_nameless : IsOfOthers IsNoName
+pub others_nameless : IsOfOthers IsNoName
 others_nameless = record { complete = refl; save = refl; restore = refl; disconnect = refl; sdtr = λ a. refl; reject = refl }
 
-from_nameless : (m : Messages) (n : ℕ) → OnMessages IsNoName m → OnMessages IsNoName (from_byte m n)
+pub from_nameless : (m : Messages) (n : ℕ) → OnMessages IsNoName m → OnMessages IsNoName (from_byte m n)
 from_nameless m n h = go (nat_lt n (length (message_bytes m.first)))
   where
     go : (q : Bool) → OnMessages IsNoName (if q then m else record { first = m.second; second = None })

@@ -5,7 +5,8 @@ use Rattle.std.proofs.lemmas.Bool.Decides.{nat_tests}
 use Rattle.bus_base.specs.declared.ProcId.{ProcId}
 use Rattle.disk_array.specs.Processes.{same_id, same_bool}
 use Rattle.bus_story.specs.CarriedBytes.{CarriedBytes, nothing_carried, carried_at, with_carried, carried_or_nothing, carried_of}
-use Rattle.bus_books.proofs.Lists.{eq_self}
+use Rattle.std.proofs.lemmas.Bool.{eqb-true}
+use Rattle.bus_base.proofs.Tests.{and_first, and_second, eq_self}
 
 self_bool : (b : Bool) → same_bool b b ≡ true
 self_bool true = refl
@@ -20,21 +21,10 @@ is_bool false false e = refl
 is_bool true false e = absurd (true≢false (sym e))
 is_bool false true e = absurd (true≢false (sym e))
 
-pub first_is : (a b : Bool) → (a && b) ≡ true → a ≡ true
-first_is true b e = refl
-first_is false b e = absurd (true≢false (sym e))
-
-pub second_is : (a b : Bool) → (a && b) ≡ true → b ≡ true
-second_is true b e = e
-second_is false b e = absurd (true≢false (sym e))
-
-pub number_is : (a b : ℕ) → (a == b) ≡ true → a ≡ b
-number_is a b e = grind (arith, nat_tests)
-
 pub id_is : (a b : ProcId) → same_id a b ≡ true → a ≡ b
 id_is a b e =
-    let c = number_is a.command b.command (first_is (a.command == b.command) (same_bool a.sense b.sense) e) in
-    let d = is_bool a.sense b.sense (second_is (a.command == b.command) (same_bool a.sense b.sense) e) in
+    let c = eqb-true a.command b.command (and_first (a.command == b.command) (same_bool a.sense b.sense) e) in
+    let d = is_bool a.sense b.sense (and_second (a.command == b.command) (same_bool a.sense b.sense) e) in
     λ i. record { command = c i; sense = d i }
 
 -- what is found under an id is of this id

@@ -32,6 +32,7 @@ use Rattle.bus_books.specs.Traces.{GoesOn, Books, Ends}
 use Rattle.bus_books.proofs.Given.{in_is_whole, in_is_known}
 use Rattle.bus_books.proofs.Gives.{in_io}
 use Rattle.bus_books.proofs.Opened.{out_is_whole, out_is_known}
+use Rattle.bus_base.proofs.Tests.{nil_of}
 
 -- ---- phases by the lines
 
@@ -114,10 +115,6 @@ name_opens (suc (suc (suc (suc (suc zero))))) lt = refl
 name_opens (suc (suc (suc (suc (suc (suc zero)))))) lt = refl
 name_opens (suc (suc (suc (suc (suc (suc (suc zero))))))) lt = refl
 name_opens (suc (suc (suc (suc (suc (suc (suc (suc n)))))))) lt = absurd omega (arith, lt)
-
-nil_of : (xs : List ℕ) → length xs ≡ 0 → xs ≡ []
-nil_of [] e = refl
-nil_of (x ∷ xs) e = absurd omega (arith, e)
 
 io_of_out : (b : LineSet) → is_message_out b ≡ true → b.io ≡ false
 io_of_out b e = go (b.msg && b.cd) b.io e

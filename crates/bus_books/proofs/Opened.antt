@@ -28,10 +28,7 @@ use Rattle.bus_books.specs.Speaking.{AreWordsFor, opens, refuses, answers, rejec
 use Rattle.bus_books.proofs.Openings.{opening_heard, abort_heard}
 use Rattle.bus_books.proofs.Reading.{reads_byte}
 use Rattle.bus_books.proofs.FirstWords.{process_unit}
-
-or_true : (q : Bool) → (q || true) ≡ true
-or_true true = refl
-or_true false = refl
+use Rattle.bus_base.proofs.Tests.{or_true}
 
 item_named : (s : ScenarioValue) (dev : ℕ) (negotiates : Bool) (said : Said) (item : Option Item) → AreUnits s → (x : List ℕ) → x ≡ opening s dev negotiates item → said ≡ (understood nothing_understood x).said → is_item_named s said item ≡ true
 item_named s dev negotiates said None u x e f = refl

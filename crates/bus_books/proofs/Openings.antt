@@ -16,7 +16,8 @@ use Rattle.bus_dialogue.specs.Exchange.{nothing_heard, said_with}
 use Rattle.bus_dialogue.specs.Words.{process_opening, abort_opening, abort_bytes, tag_bytes, offer_if}
 use Rattle.bus_due.specs.Faithful.{is_process_named, is_abort_named, is_kind, is_unit, same_tag}
 use Rattle.bus_books.specs.Listening.{Understanding, nothing_understood, understood}
-use Rattle.bus_books.proofs.Lists.{understood_append, eq_self}
+use Rattle.bus_books.proofs.Lists.{understood_append}
+use Rattle.bus_base.proofs.Tests.{eq_self}
 
 abbrev after : Said → Understanding
 after said = record { said = said; half = [] }

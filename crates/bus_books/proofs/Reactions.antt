@@ -28,7 +28,8 @@ use Rattle.bus_books.specs.Hearing.{is_in_phase, is_out_phase, HasPhase, LeavesW
 use Rattle.bus_books.specs.Giving.{GivesNext, Gives}
 use Rattle.bus_books.specs.Reactions.{IsAnswered, IsOffered, IsOver, HasMessage, is_command_phase}
 use Rattle.bus_books.specs.Speaking.{SaysNext}
-use Rattle.bus_books.proofs.Lookups.{second_is}
+use Rattle.std.proofs.lemmas.Bool.{ltb-true, or_parts}
+use Rattle.bus_base.proofs.Tests.{and_second, zero_of}
 
 -- ---- the initiator
 
@@ -69,7 +70,7 @@ answers_own s k n c p eb h ep er ei =
 
 -- ---- the target
 
-in_phase : (b : LineSet) → is_message_in b ≡ true → phase_of b ≡ phases.MessageIn
+pub in_phase : (b : LineSet) → is_message_in b ≡ true → phase_of b ≡ phases.MessageIn
 in_phase b e = go b.msg b.cd b.io e
   where
     go : (m d i : Bool) → (m && d && i) ≡ true → (if m then (if i then phases.MessageIn else phases.MessageOut) else if d then (if i then phases.Status else phases.Command) else if i then phases.DataIn else phases.DataOut) ≡ phases.MessageIn
@@ -77,9 +78,6 @@ in_phase b e = go b.msg b.cd b.io e
     go true true false e = absurd (true≢false (sym e))
     go true false i e = absurd (true≢false (sym e))
     go false d i e = absurd (true≢false (sym e))
-
-lt_is : (a b : ℕ) → nat_lt a b ≡ true → a < b
-lt_is a b e = grind (arith, nat_tests)
 
 -- A phase of messages is not pulsed.
 in_unpulsed : (begun some : Bool) (b : LineSet) → is_message_in b ≡ true → (begun && is_data b && some) ≡ false
@@ -100,15 +98,11 @@ offers_next s k n c eb h ei er =
     ∙ ap (follows_in (serving_of s k n.target) k.handshakes (bus_of k).atn) phase)
     ∙ h.follows ei er in (
       h.byte_is ei er ∙ ap (λ (f : Phase). phase_byte (serving_of s k n.target) f k.exchange.plan.messages 0 k.handshakes.requests) phase,
-      lt_is k.handshakes.requests (length bytes) (second_is (k.handshakes.requests == 0 || not (bus_of k).atn) (nat_lt k.handshakes.requests (length bytes)) follows),
+      ltb-true k.handshakes.requests (length bytes) (and_second (k.handshakes.requests == 0 || not (bus_of k).atn) (nat_lt k.handshakes.requests (length bytes)) follows),
       h.begun ei er,
     )
 
 -- ---- a phase is left
-
-or_none : (q r : Bool) → (q || r) ≡ false → (q ≡ false) × (r ≡ false)
-or_none true r e = absurd (true≢false e)
-or_none false r e = (refl, e)
 
 unpulsed : (begun some : Bool) (b : LineSet) → is_data b ≡ false → (begun && is_data b && some) ≡ false
 unpulsed true some b e = ap (λ (q : Bool). q && some) e
@@ -124,7 +118,7 @@ over_in s k n phase ed ep h =
 pub out_over : (s : ScenarioValue) (k : RunState) (n : Connection) → is_message_out (bus_of k) ≡ true → IsOver s k n → k.story.bus_state.dialogue.is_last ≡ true
 out_over s k n eo h =
     let f = over_in s k n phases.MessageOut (data_none (bus_of k).msg (bus_of k).cd (bus_of k).io eo) (out_phase (bus_of k).msg (bus_of k).cd (bus_of k).io eo) h in
-    let atn = (or_none (k.handshakes.answers == 0) (bus_of k).atn (or_none (k.handshakes.answers == 0 || (bus_of k).atn) k.exchange.plan.struck f).0).1 in
+    let atn = (or_parts (k.handshakes.answers == 0) (bus_of k).atn (or_parts (k.handshakes.answers == 0 || (bus_of k).atn) k.exchange.plan.struck f).0).1 in
     flip k.story.bus_state.dialogue.is_last (sym (h.attention eo) ∙ atn)
   where
     flip : (q : Bool) → not q ≡ false → q ≡ true
@@ -208,9 +202,6 @@ messages_some m e = go m.first e
     go None z = absurd (true≢false (sym z))
     go (Some x) z = more_bytes (in_bytes x) (message_bytes m.second) (some_bytes x)
 
-zero_is : (n : ℕ) → (n == 0) ≡ true → n ≡ 0
-zero_is n e = grind (arith, nat_tests)
-
 in_some : (s : ScenarioValue) (k : RunState) (n : Connection) → phase_of (bus_of k) ≡ phases.MessageIn → is_some k.exchange.plan.messages.first ≡ true → IsOver s k n → (k.handshakes.requests == 0) ≡ false
 in_some s k n e em h = go (k.handshakes.requests == 0) refl
   where
@@ -218,7 +209,7 @@ in_some s k n e em h = go (k.handshakes.requests == 0) refl
     go false f = f
     go true f =
         one_given (k.handshakes.requests == 0) (bus_of k).atn (nat_lt k.handshakes.requests (length (bytes_of_messages k.exchange.plan.messages))) (in_over s k n e h)
-        (ap (λ (x : ℕ). nat_lt x (length (bytes_of_messages k.exchange.plan.messages))) (zero_is k.handshakes.requests f) ∙ messages_some k.exchange.plan.messages em)
+        (ap (λ (x : ℕ). nat_lt x (length (bytes_of_messages k.exchange.plan.messages))) (zero_of k.handshakes.requests f) ∙ messages_some k.exchange.plan.messages em)
 
 in_given : (s : ScenarioValue) (k : RunState) (n : Connection) → Gives k → HasPhase k → phase_of (bus_of k) ≡ phases.MessageIn → IsOver s k n → (bus_of k).atn ≡ false → k.handshakes.requests ≡ length (bytes_of_messages k.exchange.plan.messages)
 in_given s k n g p e h a =

@@ -25,18 +25,11 @@ use Rattle.bus_books.specs.Listening.{Understanding, nothing_understood, underst
 use Rattle.bus_books.specs.Speaking.{AreWordsHeard}
 use Rattle.bus_books.proofs.Lists.{understood_append}
 use Rattle.bus_books.proofs.Saying.{says_byte, says_more}
+use Rattle.bus_base.proofs.Tests.{and_first, and_second}
 
 -- ---- lists
 
-and_first : (a b : Bool) → (a && b) ≡ true → a ≡ true
-and_first true b e = refl
-and_first false b e = absurd (true≢false (sym e))
-
-and_second : (a b : Bool) → (a && b) ≡ true → b ≡ true
-and_second true b e = e
-and_second false b e = absurd (true≢false (sym e))
-
-nil_is : (xs : List ℕ) → is_nil xs ≡ true → xs ≡ []
+pub nil_is : (xs : List ℕ) → is_nil xs ≡ true → xs ≡ []
 nil_is [] e = refl
 nil_is (x ∷ xs) e = absurd (true≢false (sym e))
 

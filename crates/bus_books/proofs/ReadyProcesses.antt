@@ -14,7 +14,8 @@ use Rattle.scsi_device.specs.Lines.{AreUnits}
 use Rattle.bus_books.specs.Traces.{IsReadyFor, IsAimedAt}
 use Rattle.bus_trace.specs.declared.connection.Connection.{Connection}
 use Rattle.bus_books.proofs.FirstWords.{process_unit}
-use Rattle.bus_books.proofs.Lookups.{first_is, number_is}
+use Rattle.std.proofs.lemmas.Bool.{eqb-true}
+use Rattle.bus_base.proofs.Tests.{and_first, none_number}
 
 none_some : (x : Ready) → (let a : Option Ready = None in a) ≡ Some x → ⊥
 none_some x e = cc
@@ -26,7 +27,7 @@ abbrev or_unit : UnitState → Option UnitState → UnitState
 or_unit x None = x
 or_unit x (Some y) = y
 
-abbrev or_ready : Ready → Option Ready → Ready
+abbrev pub or_ready : Ready → Option Ready → Ready
 or_ready x None = x
 or_ready x (Some y) = y
 
@@ -38,7 +39,7 @@ found_own s (v ∷ units) target unit u h e = go (v.target == target && v.unit =
     go : (q : Bool) → (v.target == target && v.unit == unit) ≡ q → (unit_state_at units target unit ≡ Some u → IsOwnUnit s u × (u.target ≡ target)) → (if q then Some v else unit_state_at units target unit) ≡ Some u → IsOwnUnit s u × (u.target ≡ target)
     go true f rest z =
         let same : v ≡ u = ap (or_unit u) z in
-        (subst (λ (x : UnitState). IsOwnUnit s x) same h.0, sym (ap (λ (x : UnitState). x.target) same) ∙ number_is v.target target (first_is (v.target == target) (v.unit == unit) f))
+        (subst (λ (x : UnitState). IsOwnUnit s x) same h.0, sym (ap (λ (x : UnitState). x.target) same) ∙ eqb-true v.target target (and_first (v.target == target) (v.unit == unit) f))
     go false f rest z = rest z
 
 pub record IsOwnReady (s : ScenarioValue) (target : ℕ) (r : Ready) : Type 0 where
@@ -109,9 +110,6 @@ ready_for s k n r u h e i =
     }
 
 -- ---- by whom a device calls
-
-none_number : (x : ℕ) → (let a : Option ℕ = None in a) ≡ Some x → ⊥
-none_number x e = cc
 
 none_process : (x : Process) → (let a : Option Process = None in a) ≡ Some x → ⊥
 none_process x e = cc

@@ -45,7 +45,7 @@ speaks_as s n v v' x x' d d' b b' ev ex ed eb h =
     (subst (λ (z : Exchange). SpeaksBy s n v' z d b) (sym ex)
     (subst (λ (z : Dialogue). SpeaksBy s n v' x' z b) (sym ed) (subst (λ (z : LineSet). SpeaksBy s n v' x' d' z) (sym eb) h)))
 
-out_same : (a b : LineSet) → SamePhase a b → is_message_out b ≡ is_message_out a
+pub out_same : (a b : LineSet) → SamePhase a b → is_message_out b ≡ is_message_out a
 out_same a b h = λ i. h.msg i && h.cd i && not (h.io i)
 
 -- ---- lines change, or a byte is struck
@@ -59,7 +59,7 @@ stays_on s n v x d a b same h = record {
   in_message_out = λ e f. h.in_message_out e (sym (out_same a b same) ∙ f);
 }
 
-abbrev struck : Exchange → Exchange
+abbrev pub struck : Exchange → Exchange
 struck x = record x { plan = struck_plan x.plan }
 
 words_struck : (s : ScenarioValue) (n : Connection) (v : Option Item) (x : Exchange) (cause : Cause) → AreWordsFor s n v x cause → AreWordsFor s n v (struck x) cause
@@ -102,7 +102,7 @@ other_on s n v x asked d d' a b none h = record {
   in_message_out = λ e f. absurd (true≢false (sym f ∙ none));
 }
 
-abbrev heard_byte : Exchange → Bool → Option MsgOut → Exchange
+abbrev pub heard_byte : Exchange → Bool → Option MsgOut → Exchange
 heard_byte x is_last m = record x { speech = speech_after_byte x.speech; plan = plan_after_message x.plan is_last m }
 
 kept_cause : (q : Bool) (p : Plan) → (plan_anew_if q p).cause ≡ p.cause
@@ -164,7 +164,7 @@ speaks_anew s n v x d words cause messages b rest e whole for = record {
 }
 
 -- The first phase is the MESSAGE OUT of the opening.
-abbrev opening_exchange : Exchange → Exchange
+abbrev pub opening_exchange : Exchange → Exchange
 opening_exchange x = record { begun = true; speech = record x.speech { place = 0 }; plan = plan_anew x.plan }
 
 opens_on : (s : ScenarioValue) (n : Connection) (v : Option Item) (x : Exchange) (d : Dialogue) → IsAboutToSpeak s n v x → IsSpeaking s n v (opening_exchange x) (phase_begins d)

@@ -36,9 +36,10 @@ use Rattle.bus_books.proofs.FirstWords.{speaks_first}
 use Rattle.bus_books.proofs.Given.{gives_first}
 use Rattle.bus_books.proofs.Gives.{gives_on}
 use Rattle.bus_books.proofs.Knows.{knows_on}
-use Rattle.bus_books.proofs.Lists.{eq_self}
 use Rattle.bus_books.proofs.Quiet.{quiet_first, quiet_on}
 use Rattle.bus_books.proofs.Speaks.{speaks_on}
+use Rattle.std.proofs.lemmas.Bool.{or_right}
+use Rattle.bus_base.proofs.Tests.{and_false, eq_self}
 
 -- ---- small facts
 
@@ -51,10 +52,6 @@ or_connection x (Some y) = y
 
 same_connection : (x y : Connection) → Some x ≡ Some y → x ≡ y
 same_connection x y e = ap (or_connection x) e
-
-and_false : (q : Bool) → (q && false) ≡ false
-and_false true = refl
-and_false false = refl
 
 -- No byte crosses without a connection.
 apart_carries_none : (k : RunState) (row : Row) → k.story.bus_state.connection ≡ None → (row_reading k.story.bus_state row).crosses ≡ false
@@ -152,10 +149,6 @@ silent : (s : ScenarioValue) (k : RunState) (row : Row) → (row_reading k.story
 silent s k row e b =
     (λ i. if e i then is_true_crossing s k (process_served s k) ((row_reading k.story.bus_state row).change.after.data_bits % 256) (phase_of (bus_of k)) else if changes_phase (row_reading k.story.bus_state row).change && b i then is_known_process k (phase_of (bus_of k)) && is_true_leaving s k (process_served s k) (phase_of (bus_of k)) else true)
     ∙ ap (λ (q : Bool). if q then is_known_process k (phase_of (bus_of k)) && is_true_leaving s k (process_served s k) (phase_of (bus_of k)) else true) (and_false (changes_phase (row_reading k.story.bus_state row).change))
-
-or_right : (q r : Bool) → r ≡ true → (q || r) ≡ true
-or_right true r e = refl
-or_right false r e = e
 
 -- The connection is made between the ends of the process.
 ends_are : (s : ScenarioValue) (k : RunState) (n : Connection) (p : Process) → p.initiator ≡ n.initiator → p.target ≡ n.target → has_ends (Some p) n ≡ true

@@ -23,6 +23,7 @@ use Rattle.bus_cli.specs.declared.status.Status.{Status}
 use Rattle.bus_cli.specs.declared.status.Status.TheVariants.{Done, Words, Refused, Read, Write, Memory, Broken, BadTrace, Unfinished, BadDump}
 use Rattle.bus_base.proofs.ReadSoFar.{HasRead, told, read_more, beyond}
 use Rattle.bus_cli.proofs.TooLong.{map_some, first_of}
+use Rattle.bus_cli.proofs.Undumped.{not_first}
 
 -- ---- the verdict on bytes that were heard, the newest first
 
@@ -33,10 +34,6 @@ back (x ∷ xs) = ap (λ (ys : List _). reverse ys) (reverse-append (x ∷ []) x
 of_end : (bytes : List ℕ) (end : Result ℕ ℕ) → verdict_of (with_rows (reverse (rows_of bytes)) end) ≡ verdict_at bytes end
 of_end bytes (Ok end) = ap (λ (rows : List Row). let r : Result Verdict ℕ = Ok (judged_whole rows end) in r) (back (rows_of bytes))
 of_end bytes (Err line) = refl
-
-not_first : {A : Type 0} (q : Bool) (x y : A) → q ≡ false → cond q x y ≡ y
-not_first true x y e = absurd cc
-not_first false x y e = refl
 
 pub heard_is : (bytes : List ℕ) → length bytes ≤ TRACE_LIMIT → heard_verdict (reverse bytes) ≡ verdict_on bytes
 heard_is bytes few =

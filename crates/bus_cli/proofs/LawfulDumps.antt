@@ -24,21 +24,9 @@ use Rattle.vcd_text.specs.Readable.{IsChange, AreChanges}
 use Rattle.vcd_text.proofs.ReadBack.{dump_back}
 use Rattle.bus_cli.specs.Judging.{verdict_of}
 use Rattle.bus_cli.specs.Vcd.{IsLawful, IsOfLines}
-
-all_append : {A : Type 0} (P : A → Type 0) (xs ys : List A) → AllByRecursion P xs → AllByRecursion P ys → AllByRecursion P (xs ++ ys)
-all_append P [] ys h g = g
-all_append P (x ∷ xs) ys h g = (h.0, all_append P xs ys h.1 g)
-
-all_reverse : {A : Type 0} (P : A → Type 0) (xs : List A) → AllByRecursion P xs → AllByRecursion P (reverse xs)
-all_reverse P [] h = tt
-all_reverse P (x ∷ xs) h = subst (AllByRecursion P) (sym (reverse-append (x ∷ []) xs)) (all_append P (reverse xs) (x ∷ []) (all_reverse P xs h.1) (h.0, tt))
-
-not_true : (q : Bool) → not q ≡ true → q ≡ false
-not_true true h = cc
-not_true false h = refl
-
-in_order : (last time : ℕ) → nat_le last time ≡ true → last ≤ time
-in_order last time h = grind (arith, nat_tests)
+use Rattle.std.proofs.lemmas.Bool.{not-true, leb-true}
+use Rattle.bus_base.proofs.Tests.{all_append}
+use Rattle.bus_engine.proofs.Items.{all_reverse}
 
 -- rule 2 of a row of lines
 differs : (rows : List Row) (row : Row) (lines : LineSet) → row.kind ≡ Drives lines → is_news_of (seen rows row) row row.kind ≡ true → same_set (drives rows row.dev) lines ≡ false
@@ -46,7 +34,7 @@ unfolding seen_with
 differs rows row lines is news =
     let own : LineSet = drives rows row.dev in
     let news_of : not (same_set own (driven_after row.kind own)) ≡ true = ap (is_news_of (seen rows row) row) (sym is) ∙ news in
-    not_true (same_set own lines) (ap (λ (kind : Kind). not (same_set own (driven_after kind own))) (sym is) ∙ news_of)
+    not-true (same_set own lines) (ap (λ (kind : Kind). not (same_set own (driven_after kind own))) (sym is) ∙ news_of)
 
 change : (rows : List Row) (row : Row) → KeepsAll (obeys rows row) → IsTraceRow row → IsOfLines row → IsChange rows row
 unfolding seen_with
@@ -56,7 +44,7 @@ change rows row keeps fits (lines, is) = record {
   kind = is;
   fits = subst FitsBus is fits.lines;
   differs = differs rows row lines is keeps.1.0;
-  time = in_order (last_time rows) row.time keeps.0;
+  time = leb-true (last_time rows) row.time keeps.0;
 }
 
 changes : (rows : List Row) → AreLawful rows → AllByRecursion IsTraceRow rows → AllByRecursion IsOfLines rows → AreChanges rows
@@ -73,5 +61,5 @@ lawful_back bytes rows end (is, lawful) driven =
     let read = trace_only bytes rows end is in
     let verdict : judged_whole (reverse rows) end ≡ Lawful = ap verdict_back (sym (ap verdict_of is) ∙ lawful) in
     let law = (whole_lawful (reverse rows) end).0 verdict in
-    let last : last_time (reverse rows) ≤ end = in_order (last_time (reverse rows)) end law.1.0 in
+    let last : last_time (reverse rows) ≤ end = leb-true (last_time (reverse rows)) end law.1.0 in
     dump_back rows end (changes (reverse rows) law.0 (all_reverse IsTraceRow rows read.0) (all_reverse IsOfLines rows driven)) last read.1

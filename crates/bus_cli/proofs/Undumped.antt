@@ -60,7 +60,7 @@ takes_cut old now next bytes into spare cut (Ok v) so_far piece sum (any, same) 
 
 -- ---- what was read is what the input is
 
-not_first : {A : Type 0} (q : Bool) (x y : A) → q ≡ false → cond q x y ≡ y
+pub not_first : {A : Type 0} (q : Bool) (x y : A) → q ≡ false → cond q x y ≡ y
 not_first true x y e = absurd cc
 not_first false x y e = refl
 

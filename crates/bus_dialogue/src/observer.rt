@@ -1,18 +1,16 @@
 //! What the rows tell all devices.
 ghost use Rattle.std.specs.Prelude.{◌≡◌, ◌<◌, ◌∷◌, [], List};
-ghost use Rattle.msg_grammar.specs.declared.message.Got.{Got};
 ghost use Rattle.bus_trace.specs.declared.Row.{Row};
 ghost use Rattle.bus_lines.specs.BusView.{IsBusViewOf};
-ghost use Rattle.bus_phases.specs.Dialogue.{fresh_bytes, dialogue};
-ghost use Rattle.bus_story.specs.BusState.{whole_out, whole_in, message_out, message_in};
+ghost use Rattle.bus_phases.specs.Dialogue.{dialogue};
 ghost use Rattle.bus_dialogue.specs.Hearing.{begun_after, begun, hearing_by, last_hearing};
 ghost use Rattle.bus_dialogue.specs.Observer.{IsObserverOf};
 
 use crate::exchange::Hearing;
 use bus_lines::{BusView, RowEffect, no_effect};
-use bus_phases::{Agreements, Dialogue, End, Half, agree, asynchronous};
-use bus_trace::{Agreement, Change, Connection, Row, changes_phase, is_message_in, is_message_out};
-use msg_grammar::{Got, MsgIn, MsgOut};
+use bus_phases::{Agreements, Dialogue, End, agree, asynchronous};
+use bus_story::{message_in, message_out};
+use bus_trace::{Agreement, Change, Connection, Row, changes_phase};
 use std::marker::Model;
 
 /// What the rows of a trace so far tell all devices, whatever they are: the view of the bus, what the last row told the
@@ -39,57 +37,6 @@ impl Model for Observer {
       begun = a.begun;
       hearing = a.hearing;
     } };
-}
-
-fn whole_out(got: Got<MsgOut>) -> Option<MsgOut>
-    ensures { result ≡ whole_out got }
-{
-    match got {
-        Got::Whole(message, _) => Some(message),
-        Got::More | Got::Unknown => None,
-    }
-}
-
-fn whole_in(got: Got<MsgIn>) -> Option<MsgIn>
-    ensures { result ≡ whole_in got }
-{
-    match got {
-        Got::Whole(message, _) => Some(message),
-        Got::More | Got::Unknown => None,
-    }
-}
-
-// The bytes of MESSAGE OUT that a byte follows: none where the one before it was the last.
-fn fresh_bytes(dialogue: &Dialogue) -> Half
-    ensures { result ≡ fresh_bytes dialogue.now }
-{
-    if dialogue.is_last {
-        Half::new()
-    } else {
-        dialogue.fresh.copy()
-    }
-}
-
-// The message to the target that a byte makes whole, if one crosses.
-fn message_out(dialogue: &Dialogue, change: &Change, crosses: bool) -> Option<MsgOut>
-    ensures { result ≡ message_out dialogue.now change.now crosses }
-{
-    if !crosses || !is_message_out(change.before) {
-        return None;
-    }
-    let mut bytes = fresh_bytes(dialogue);
-    whole_out(bytes.take_out(change.after.data()))
-}
-
-// The message to the initiator that it makes whole.
-fn message_in(dialogue: &Dialogue, change: &Change, crosses: bool) -> Option<MsgIn>
-    ensures { result ≡ message_in dialogue.now change.now crosses }
-{
-    if !crosses || !is_message_in(change.before) {
-        return None;
-    }
-    let mut bytes = dialogue.half.copy();
-    whole_in(bytes.take_in(change.after.data()))
 }
 
 // What a row tells that did this, after these messages; whether a phase had begun before it, how often REQ had risen in
@@ -197,8 +144,8 @@ impl Observer {
         let before = self.view.connection();
         self.view.step(row);
         let after = self.view.connection();
-        let effect = *self.view.effect();
-        self.hearing = hearing_by(&self.dialogue, self.begun, offered, struck, &effect);
+        let effect = self.view.effect();
+        self.hearing = hearing_by(&self.dialogue, self.begun, offered, struck, effect);
         self.begun = begun_after(self.begun, &before, &after, &effect.change);
         let spoken = self.dialogue.heard.now;
         let _ = self

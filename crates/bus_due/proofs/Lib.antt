@@ -11,3 +11,4 @@ mod SeamCases
 pub mod Seams
 pub mod Stills
 mod Traces
+pub mod NegotiatedPairs

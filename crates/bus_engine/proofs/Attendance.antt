@@ -27,7 +27,6 @@ use Rattle.scsi_device.specs.Heard.{Instructions, instructions, is_opening}
 use Rattle.scsi_device.specs.Writes.{Writer, is_writer, writer_of, writers}
 use Rattle.target_course.specs.Replies.{is_run as shows_is, shows_run}
 use Rattle.disk_target.specs.Attended.{are_in, are_known_ends, attended, came, ends_good, is_abort_in, is_attended, is_attended_if, is_attended_in, is_calm_turn, is_empty, is_known_end, is_of_item, is_quiet, is_unseen, is_whole_of, is_whole_run}
-use Rattle.bus_books.proofs.Lists.{eq_self}
 use Rattle.bus_books.proofs.Lookups.{self_id}
 use Rattle.bus_laws.proofs.Apart.{change_plain}
 use Rattle.bus_laws.proofs.Prompt.{least_is}
@@ -35,25 +34,8 @@ use Rattle.trace_laws.specs.Attendance.{AreShown, IsShown, ShowsIn, accepts, ref
 use Rattle.trace_laws.specs.RunsWhole.{IsWhole, RunsWhole, ends_badly, has_run, is_run, sends_all, sends_none}
 use Rattle.trace_laws.specs.RowAttendance.{IsAttended, IsCalmTurn}
 use Rattle.trace_laws.proofs.WholeRuns.{sent_all}
-
-wrong : {A : Type 0} → true ≡ false → A
-wrong e = absurd cc
-
-or_true : (q : Bool) → (q || true) ≡ true
-or_true true = refl
-or_true false = refl
-
--- Where a test holds it may rest on what is asked there.
-unless : (a b : Bool) → (a ≡ false → b ≡ true) → (a || b) ≡ true
-unless true b f = refl
-unless false b f = f refl
-
-where_asked : (a b : Bool) → (a ≡ true → b ≡ true) → (not a || b) ≡ true
-where_asked true b f = f refl
-where_asked false b f = refl
-
-both : (a b : Bool) → a ≡ true → b ≡ true → (a && b) ≡ true
-both a b e f = λ i. e i && f i
+use Rattle.std.proofs.lemmas.Bool.{or_right, and_from, lt-ltb}
+use Rattle.bus_base.proofs.Tests.{wrong, or_true, eq_self, implication, unless, or_middle}
 
 -- ---- its events
 
@@ -63,9 +45,6 @@ of_served k n id e served h = λ i. (ap (λ (o : Option Item). is_of_item o e) s
 same_number : (a b : ℕ) → a ≡ b → (a == b) ≡ true
 same_number a b e = ap (λ (x : ℕ). x == b) e ∙ eq_self b
 
-below : (a b : ℕ) → a < b → nat_lt a b ≡ true
-below a b h = grind (arith, nat_tests)
-
 event_in : (k : RunState) (n : Connection) (known : Bool) (e : Event) → IsShown k n known e → (is_of_item k.served e || is_abort_in n e) ≡ true
 event_in k n known _ (accepts id h) = of_served k n id (events.Accept id) h (self_id id)
 event_in k n known _ (refuses id h) = of_served k n id (events.Refuse id) h (self_id id)
@@ -74,7 +53,7 @@ event_in k n known _ (fails id code h) = of_served k n id (events.Fail id code) 
 event_in k n known _ (ends id status h good) = of_served k n id (events.End id status) h (self_id id)
 event_in k n known _ (loses id h) = of_served k n id (events.Lost id) h (self_id id)
 event_in k n known _ (aborts host target unit what eh et lu lh) =
-    (λ i. is_of_item k.served (events.Aborted host target unit what) || (same_number host n.initiator eh i && same_number target n.target et i && (below unit 8 lu i && below host 8 lh i)))
+    (λ i. is_of_item k.served (events.Aborted host target unit what) || (same_number host n.initiator eh i && same_number target n.target et i && (lt-ltb unit 8 lu i && lt-ltb host 8 lh i)))
     ∙ or_true (is_of_item k.served (events.Aborted host target unit what))
 
 event_known : (k : RunState) (n : Connection) (known : Bool) (e : Event) → IsShown k n known e → is_known_end known e ≡ true
@@ -92,17 +71,13 @@ event_known k n known _ (aborts host target unit what eh et lu lh) = refl
 
 all_in : (k : RunState) (n : Connection) (known : Bool) (shown : List Event) → AreShown k n known shown → are_in n k.served shown ≡ true
 all_in k n known [] h = refl
-all_in k n known (e ∷ shown) h = both _ _ (event_in k n known e h.0) (all_in k n known shown h.1)
+all_in k n known (e ∷ shown) h = and_from _ _ (event_in k n known e h.0) (all_in k n known shown h.1)
 
 all_known : (k : RunState) (n : Connection) (known : Bool) (shown : List Event) → AreShown k n known shown → are_known_ends known shown ≡ true
 all_known k n known [] h = refl
-all_known k n known (e ∷ shown) h = both _ _ (event_known k n known e h.0) (all_known k n known shown h.1)
+all_known k n known (e ∷ shown) h = and_from _ _ (event_known k n known e h.0) (all_known k n known shown h.1)
 
 -- ---- the opening
-
-middle : (a b c : Bool) → b ≡ true → (a || b || c) ≡ true
-middle true b c e = refl
-middle false b c e = λ i. e i || c
 
 quiet : (s : ScenarioValue) (rows : List Row) (row : Row) (n : Connection) → ShowsIn s rows row n → is_quiet s (run_state s rows) n (is_some (row_reading (run_state s rows).story.bus_state row).next) (events_of s rows row) ≡ true
 quiet s rows row n h = go n.reselected refl (is_opening k) refl next refl
@@ -115,7 +90,7 @@ quiet s rows row n h = go n.reselected refl (is_opening k) refl next refl
 
     go : (q : Bool) → n.reselected ≡ q → (r : Bool) → is_opening k ≡ r → (o : Option Connection) → next ≡ o → (n.reselected || not (is_opening k) || (if is_some next then is_empty (events_of s rows row) else is_unseen (array_of s k) (process_served s k))) ≡ true
     go true e r f o g = λ i. e i || not (is_opening k) || (if is_some next then is_empty (events_of s rows row) else is_unseen (array_of s k) (process_served s k))
-    go false e false f o g = middle n.reselected (not (is_opening k)) _ (ap not f)
+    go false e false f o g = or_middle n.reselected (not (is_opening k)) _ (ap not f)
     go false e true f None g =
         unless (n.reselected || not (is_opening k)) _ (λ z. ap (λ (x : Option Connection). if is_some x then is_empty (events_of s rows row) else is_unseen (array_of s k) (process_served s k)) g ∙ ap (is_unseen (array_of s k)) (h.ends_alone e f g))
     go false e true f (Some m) g =
@@ -138,14 +113,10 @@ shows_same (e ∷ shown) = λ i. same e i || shows_same shown i
     same (events.Aborted host target unit what) = refl
     same (events.Reset dev) = refl
 
-second : (a b : Bool) → b ≡ true → (a || b) ≡ true
-second true b e = refl
-second false b e = e
-
 whole_is : (s : ScenarioValue) (k : RunState) (all : List Writer) (p : Process) → IsWhole s k all p → is_whole_run s k all (Some p) ≡ true
 whole_is s k all p (ends_badly e) = λ i. not (e i) || is_whole_of s k all p
-whole_is s k all p (sends_none e) = second (not (ends_good (array_of s k) p)) (is_whole_of s k all p) (λ i. e i == 0 || (is_writing p && (is_writer (writer_of all p.target p.unit) p.id && nat_le (length p.sent) (came s k p))))
-whole_is s k all p (sends_all h) = second (not (ends_good (array_of s k) p)) (is_whole_of s k all p) (second (length p.sent == 0) _ (sent_all s k all p h))
+whole_is s k all p (sends_none e) = or_right (not (ends_good (array_of s k) p)) (is_whole_of s k all p) (λ i. e i == 0 || (is_writing p && (is_writer (writer_of all p.target p.unit) p.id && nat_le (length p.sent) (came s k p))))
+whole_is s k all p (sends_all h) = or_right (not (ends_good (array_of s k) p)) (is_whole_of s k all p) (or_right (length p.sent == 0) _ (sent_all s k all p h))
 
 whole_served : (s : ScenarioValue) (rows : List Row) (row : Row) (n : Connection) → RunsWhole s rows row → connection rows ≡ Some n → (bus rows).rst ≡ false → (bus (row ∷ rows)).rst ≡ false → shows_run (events_of s rows row) ≡ true → is_whole_run s (run_state s rows) (writers s rows) (process_served s (run_state s rows)) ≡ true
 whole_served s rows row n whole con calm off shows = go (process_served s (run_state s rows)) refl
@@ -170,7 +141,7 @@ calm_is d h = where_left (not (is_some d.next)) (not (changes_phase d.change)) (
 
     by : ((d.change.before.rst ≡ false) × (d.change.after.rst ≡ false)) ⊎ (is_message_in d.change.before ≡ true) → ((not d.change.before.rst && not d.change.after.rst) || is_message_in d.change.before) ≡ true
     by (inl z) = λ i. (not (z.0 i) && not (z.1 i)) || is_message_in d.change.before
-    by (inr z) = second (not d.change.before.rst && not d.change.after.rst) (is_message_in d.change.before) z
+    by (inr z) = or_right (not d.change.before.rst && not d.change.after.rst) (is_message_in d.change.before) z
 
 -- ---- the row
 
@@ -204,9 +175,9 @@ row_attended s rows row dv lt h = ap (is_attended_if s k d i all (events_of s ro
     inside : (n : Connection) → connection rows ≡ Some n → (bus rows).rst ≡ false → (bus (row ∷ rows)).rst ≡ false → is_attended_in s k d i all (events_of s rows row) n ≡ true
     inside n con calm off =
         let w = h.shows.inside n con calm off in
-        both _ _ (all_in k n i.known (events_of s rows row) w.shown)
-        (both _ _ (all_known k n i.known (events_of s rows row) w.shown)
-        (both _ _ (quiet s rows row n w) (where_asked (shows_run (events_of s rows row)) _ (whole_served s rows row n h.whole con calm off))))
+        and_from _ _ (all_in k n i.known (events_of s rows row) w.shown)
+        (and_from _ _ (all_known k n i.known (events_of s rows row) w.shown)
+        (and_from _ _ (quiet s rows row n w) (implication (shows_run (events_of s rows row)) _ (whole_served s rows row n h.whole con calm off))))
 
     by : (n : Connection) → connection rows ≡ Some n → d.change.after.rst ≡ false → (q : Bool) → d.change.before.rst ≡ q → (if d.change.before.rst then is_empty (events_of s rows row) else is_attended_in s k d i all (events_of s rows row) n) ≡ true
     by n con off true on = (λ j. if on j then is_empty (events_of s rows row) else is_attended_in s k d i all (events_of s rows row) n) ∙ ap is_empty (h.shows.after_reset n con (before ∙ on) (after ∙ off)).none
@@ -214,7 +185,7 @@ row_attended s rows row dv lt h = ap (is_attended_if s k d i all (events_of s ro
 
     go : (o : Option Connection) → connection rows ≡ o → is_attended_if s k d i all (events_of s rows row) o ≡ true
     go None e = refl
-    go (Some n) e = both _ _ (calm_is d h.turn) (unless d.change.after.rst _ (λ off. by n e off d.change.before.rst refl))
+    go (Some n) e = and_from _ _ (calm_is d h.turn) (unless d.change.after.rst _ (λ off. by n e off d.change.before.rst refl))
 
 -- ---- all rows
 
@@ -222,8 +193,7 @@ devices_are : (s : ScenarioValue) (rows : List Row) → IsPrompt s rows → AreO
 devices_are s [] prompt = tt
 devices_are s (row ∷ rows) prompt = ((least_is s rows row prompt.1).inside, devices_are s rows prompt.0)
 
--- Of fewer rows than this.
-pub rows_attended : (s : ScenarioValue) (most : ℕ) → ((p : List Row) (row : Row) → IsPrompt s (row ∷ p) → length (row ∷ p) < most → IsAttended s p row) → (rows : List Row) → IsPrompt s rows → length rows < most → attended s rows ≡ true
-rows_attended s most each [] prompt few = refl
-rows_attended s most each (row ∷ rows) prompt few =
-    both _ _ (rows_attended s most each rows prompt.0 (omega (arith, few))) (row_attended s rows row (devices_are s rows prompt.0) (least_is s rows row prompt.1).inside (each rows row prompt few))
+pub rows_attended : (s : ScenarioValue) → ((p : List Row) (row : Row) → IsPrompt s (row ∷ p) → IsAttended s p row) → (rows : List Row) → IsPrompt s rows → attended s rows ≡ true
+rows_attended s each [] prompt = refl
+rows_attended s each (row ∷ rows) prompt =
+    and_from _ _ (rows_attended s each rows prompt.0) (row_attended s rows row (devices_are s rows prompt.0) (least_is s rows row prompt.1).inside (each rows row prompt))

@@ -2,9 +2,8 @@
 use Rattle.std.proofs.Common.{ℕ, ◌≡◌, ◌<◌, Bool, true, false, List, [], ◌∷◌, ◌++◌, Option, Some, None, map, append_assoc, append-nil, refl, sym, ap, subst, ◌∙◌}
 use Rattle.std.specs.Prelude.{◌==◌, ◌&&◌, is_some, if◌then◌else◌}
 use Rattle.std.specs.List.{AllByRecursion, list_all}
-use Rattle.std.proofs.lemmas.Bool.{and_parts, true≢false}
+use Rattle.std.proofs.lemmas.Bool.{and_parts, true≢false, eqb-true}
 use Rattle.std.proofs.lemmas.List.{map-append}
-use Rattle.scsi_device.proofs.Finds.{number_is, same_number}
 use Rattle.scenario.specs.declared.value.UnitDef.{UnitDef}
 use Rattle.scenario.specs.Value.{ScenarioValue}
 use Rattle.disk_array.specs.ArrayHistory.{unit_contents}
@@ -16,6 +15,7 @@ use Rattle.target_units.specs.Units.{UnitsState, state_contents}
 use Rattle.run_record.specs.Value.{held_by}
 use Rattle.bus_engine.specs.Disks.{held_at, AreHeld, IsOther, AreLinesApart, IsWithin}
 use Rattle.bus_engine.proofs.Names.{names, line_names}
+use Rattle.bus_base.proofs.Tests.{eq_self}
 
 -- The disks of the lines before these were handed out, and all of them are to hold this.
 pub record AreStored (of_target : List (Option UnitsState)) (rest : List UnitDef) (done all : List Contents) : Type 0 where
@@ -63,7 +63,7 @@ stored_all of_target rest done all e a =
 
 -- The units of the array that stand in this list, each once.
 state_here : (u : UnitState) (units : List UnitState) → unit_state_at (u ∷ units) u.target u.unit ≡ Some u
-state_here u units = λ i. if (number_is u.target i && number_is u.unit i) then Some u else unit_state_at units u.target u.unit
+state_here u units = λ i. if (eq_self u.target i && eq_self u.unit i) then Some u else unit_state_at units u.target u.unit
 
 still_there : (u : UnitState) (units : List UnitState) (target unit : ℕ) → unit_state_at units u.target u.unit ≡ None → is_some (unit_state_at units target unit) ≡ true → unit_state_at (u ∷ units) target unit ≡ unit_state_at units target unit
 still_there u units target unit none some = go (u.target == target && u.unit == unit) refl
@@ -71,7 +71,7 @@ still_there u units target unit none some = go (u.target == target && u.unit == 
     go : (q : Bool) → (u.target == target && u.unit == unit) ≡ q → (if q then Some u else unit_state_at units target unit) ≡ unit_state_at units target unit
     go true e =
         let parts = and_parts (u.target == target) (u.unit == unit) e in
-        let same : unit_state_at units target unit ≡ None = (λ i. unit_state_at units (sym (same_number u.target target parts.0) i) (sym (same_number u.unit unit parts.1) i)) ∙ none in
+        let same : unit_state_at units target unit ≡ None = (λ i. unit_state_at units (sym (eqb-true u.target target parts.0) i) (sym (eqb-true u.unit unit parts.1) i)) ∙ none in
         absurd (true≢false (sym some ∙ ap (λ (o : Option UnitState). is_some o) same))
     go false e = refl
 

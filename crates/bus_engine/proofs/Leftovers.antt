@@ -25,6 +25,7 @@ use Rattle.bus_members.specs.Over.{AreUnitsIf}
 use Rattle.bus_engine.specs.Disks.{AreUnitsByTarget, held_if, AreHeld, IsWithin, have_targets}
 use Rattle.bus_engine.proofs.Disks.{held_all}
 use Rattle.bus_engine.proofs.Names.{history_names}
+use Rattle.bus_base.proofs.Tests.{all_append}
 
 -- ---- the array after the rows
 
@@ -60,7 +61,3 @@ pub disks_are : (s : ScenarioValue) (rows : List Row) → IsPlain s rows (run_st
 disks_are s rows p e = ap (λ (o : Option Array). disks_of o) (sym (array_is s rows p e))
 
 -- ---- rows, the oldest first
-
-all_last : {A : Type 0} (P : A → Type 0) (xs ys : List A) → AllByRecursion P xs → AllByRecursion P ys → AllByRecursion P (xs ++ ys)
-all_last P [] ys a b = b
-all_last P (x ∷ xs) ys a b = (a.0, all_last P xs ys a.1 b)

@@ -1,5 +1,5 @@
 mod Names
-mod Items
+pub mod Items
 mod Replies
 mod Disks
 mod Places
@@ -7,3 +7,12 @@ mod Leftovers
 mod Targeted
 mod Seams
 mod Attendance
+pub mod Undone
+pub mod ListedReplies
+pub mod Checks
+pub mod EndStatuses
+pub mod Settled
+pub mod Replied
+pub mod Answered
+pub mod ReplyLengths
+pub mod RanTargets

@@ -1,8 +1,8 @@
 -- The units of the plain disk array stand in the order of their lines, whatever its history.
 use Rattle.std.proofs.Common.{ℕ, ◌≡◌, Bool, true, false, List, [], ◌∷◌, ◌++◌, Option, Some, None, refl, sym, ap, ◌∙◌}
 use Rattle.std.specs.Prelude.{◌==◌, ◌&&◌, ◌||◌, not, is_some, is_none, nat_lt, if◌then◌else◌}
-use Rattle.std.proofs.lemmas.Bool.{and_parts}
-use Rattle.scsi_device.proofs.Finds.{same_number, none_some, some_is}
+use Rattle.std.proofs.lemmas.Bool.{and_parts, eqb-true}
+use Rattle.scsi_device.proofs.Finds.{none_some, some_is}
 use Rattle.bus_base.specs.declared.AbortKind.{AbortKind}
 use Rattle.bus_base.specs.declared.AbortKind.TheVariants as aborts
 use Rattle.bus_base.specs.declared.Event.{Event}
@@ -39,7 +39,7 @@ with_names (u ∷ units) new = go (u.target == new.target && u.unit == new.unit)
     go : (q : Bool) → (u.target == new.target && u.unit == new.unit) ≡ q → names (with_unit units new) ≡ names units → names (if q then new ∷ units else u ∷ with_unit units new) ≡ (u.target, u.unit) ∷ names units
     go true z k =
         let parts = and_parts (u.target == new.target) (u.unit == new.unit) z in
-        λ i. (sym (same_number u.target new.target parts.0) i, sym (same_number u.unit new.unit parts.1) i) ∷ names units
+        λ i. (sym (eqb-true u.target new.target parts.0) i, sym (eqb-true u.unit new.unit parts.1) i) ∷ names units
     go false z k = ap (λ (l : List (ℕ × ℕ)). (u.target, u.unit) ∷ l) k
 
 reply_names : (units : List UnitState) (id : ProcId) (reply : Reply) → names (units_with_reply units id reply) ≡ names units

@@ -8,6 +8,7 @@ use Rattle.scenario.specs.Value.{ScenarioValue}
 use Rattle.disk_array.specs.ArrayHistory.{array_after, disks_of}
 use Rattle.bus_story.specs.Outcomes as told
 use Rattle.bus_story.specs.Outcomes.{outcomes}
+use Rattle.bus_story.specs.Right.{all_carried}
 use Rattle.bus_story.specs.Samples.{expected_strikes, row_strikes}
 use Rattle.bus_story.specs.TraceHistory.{story, trace_history}
 use Rattle.bus_due.specs.Next.{IsPrompt, IsEnded}
@@ -16,7 +17,6 @@ use Rattle.initiator.specs.declared.outcome.Outcome.{Outcome}
 use Rattle.initiator.specs.Outcomes.{told_outcome}
 use Rattle.bus_run.specs.Runs.{AreEarly, IsLong}
 use Rattle.run_record.specs.Value.{RunValue}
-use Rattle.bus_members.specs.Answers.{are_answered}
 use Rattle.bus_engine.specs.Limits.{row_limit, step_limit}
 
 abbrev pub told_reply : Outcome → Option told.Outcome
@@ -29,7 +29,7 @@ rows_of run = reverse run.rows
 -- The run of a scenario: its rows are the prompt trace, after which nothing is due, its history is what they tell, which the
 -- plain disk array permits, each reply is the outcome that they tell, and its disks hold what the array holds after that
 -- history; the rows and the end obey every rule of the bus, the fault rows are those of the scenario, and no line is true at
--- the end. For the replies this is so where what came back is the reply (`are_answered`).
+-- the end. Each process that ran and ended carried just its own bytes.
 pub record IsPromptRun (s : ScenarioValue) (run : RunValue) : Type 0 where
   pub prompt : IsPrompt s (rows_of run)
   pub lawful : IsLawful (rows_of run) run.end
@@ -38,7 +38,8 @@ pub record IsPromptRun (s : ScenarioValue) (run : RunValue) : Type 0 where
   pub faults : expected_strikes s (rows_of run) ≡ row_strikes run.rows
   pub history : reverse run.history ≡ trace_history s (rows_of run)
   pub permitted : is_some (array_after s (trace_history s (rows_of run))) ≡ true
-  pub replies : are_answered s (rows_of run) ≡ true → map told_reply run.replies ≡ outcomes s (story s (rows_of run))
+  pub carried : all_carried s (story s (rows_of run)) (trace_history s (rows_of run)) ≡ true
+  pub replies : map told_reply run.replies ≡ outcomes s (story s (rows_of run))
   pub disks : run.disks ≡ disks_of (array_after s (trace_history s (rows_of run)))
 
 -- Each row is of one of the eight devices and comes before 2^62 ns, the end is the time of the last, the rows are fewer than the

@@ -26,12 +26,13 @@ ghost use Rattle.bus_engine.specs.Runs.{told_reply, IsRunOf, IsUnfinished};
 use crate::budget::most_rows;
 use crate::finishing::{disks, end_of, replies, units_by_target};
 use bus_base::{NoMemory, Steps};
-use bus_due::kept_is_plain;
+use bus_due::{kept_is_plain, wants_are_items};
 use bus_members::{Member, member_places, runs_end};
 use bus_run::{RunEnd, Trace, rows_tie_devices};
 use disk_array::arrays_are_sound;
 use disk_unit::SparseBlocks;
 use fault_laws::fault_rows_are_of_the_scenario;
+use initiator::endings_have_causes;
 use progress_laws::ended_traces_are_quiet;
 use right_laws::prompt_traces_are_right;
 use run_record::Run;
@@ -123,6 +124,8 @@ fn run_in<L: Ledger>(
     fault_rows_are_of_the_scenario();
     ended_traces_are_quiet();
     prompt_traces_are_right();
+    wants_are_items();
+    endings_have_causes();
     let trace = bus_run::run(alloc, scenario, places, most_rows(scenario), steps)?;
     Ok(finish(alloc, scenario, places, trace)?)
 }

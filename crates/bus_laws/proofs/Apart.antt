@@ -26,6 +26,7 @@ use Rattle.bus_due.specs.Plain.{AreOfDevices}
 use Rattle.bus_due.proofs.Plains.{run_state_plain, bus_state_is, change_same}
 use Rattle.bus_laws.proofs.Rows.{change_is}
 use Rattle.bus_laws.specs.Rows.{Stands, change_to, row_of_lines}
+use Rattle.bus_base.proofs.Tests.{and_more}
 
 -- What a row that shows nothing leaves of what is sent, of aims, of the link, of the array and of its times.
 pub record Leaves (k j : RunState) (b : Story) : Type 0 where
@@ -35,12 +36,12 @@ pub record Leaves (k j : RunState) (b : Story) : Type 0 where
   pub array : j.array ≡ k.array
   pub current : j.current_since ≡ k.current_since
 
-nothing_shown : (s : ScenarioValue) (b : Story) (d : RowReading) (row : Row) → d.change.after.rst ≡ false → b.link ≡ None → row_events_by s b d row ≡ []
+pub nothing_shown : (s : ScenarioValue) (b : Story) (d : RowReading) (row : Row) → d.change.after.rst ≡ false → b.link ≡ None → row_events_by s b d row ≡ []
 nothing_shown s b d row e f =
     ap (λ (q : Bool). if q then (if rises d.change.own.rst d.change.next.rst then events.Reset row.dev ∷ [] else []) else link_events s b b.link d) e
     ∙ ap (λ (x : Option Link). link_events s b x d) f
 
-on_free : (s : ScenarioValue) (b : Story) (d : RowReading) (row : Row) → d.change.after.rst ≡ false → b.bus_state.connection ≡ None → d.next ≡ None → story_by_change s b d row ≡ story_on_free_bus s b d row
+pub on_free : (s : ScenarioValue) (b : Story) (d : RowReading) (row : Row) → d.change.after.rst ≡ false → b.bus_state.connection ≡ None → d.next ≡ None → story_by_change s b d row ≡ story_on_free_bus s b d row
 on_free s b d row e f g =
     ap (λ (q : Bool). if q then record b { link = None } else story_on_bus s b b.bus_state.connection d.next d row) e
     ∙ (λ i. story_on_bus s b (f i) (g i) d row)
@@ -106,11 +107,6 @@ wants_on s k j es ea ec dev =
 ready_on : (s : ScenarioValue) (k j : RunState) → j.array ≡ k.array → j.current_since ≡ k.current_since → (dev : ℕ) → ready_of s j dev ≡ ready_of s k dev
 ready_on s k j ea ec dev = λ i. ready_among (or_start s (ea i)) (ec i) (seek_of s.targets dev) dev
 
-and_yes : (x y : Bool) → (x && y) ≡ true → (x && y && true) ≡ true
-and_yes true true q = refl
-and_yes true false q = q
-and_yes false y q = q
-
 and_no : (x y : Bool) → (x && y) ≡ false → (x && y && true) ≡ false
 and_no true true q = q
 and_no true false q = refl
@@ -123,7 +119,7 @@ entry_keeps s p row g b a c w ee =
     let e = read_change s p row g b a c w in
     let con = no_connection s p row g b a c w in
     let dd = row_reading k.story.bus_state row in
-    let ent : is_arbitration_entry k.story dd ≡ true = (λ i. rises (e i).own.bsy (e i).next.bsy && not (e i).before.sel && is_none (con i)) ∙ and_yes (rises g.own.bsy g.next.bsy) (not g.before.sel) ee in
+    let ent : is_arbitration_entry k.story dd ≡ true = (λ i. rises (e i).own.bsy (e i).next.bsy && not (e i).before.sel && is_none (con i)) ∙ and_more (rises g.own.bsy g.next.bsy) (not g.before.sel) ee in
     let go : story_on_free_bus s k.story dd row ≡ story_with_aim s k.story row = ap (λ (q : Bool). free_by s k.story row q (falls dd.change.before.sel dd.change.after.sel) k.story.bus_state.call) ent in
     record {
       wants = wants_on s k (run_state s (row ∷ p)) (z.sent ∙ ap (λ (y : Story). y.sent) go) z.array z.current;

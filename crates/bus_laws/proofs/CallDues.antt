@@ -25,9 +25,10 @@ use Rattle.bus_due.specs.Plain.{AreOfDevices}
 use Rattle.bus_trace.specs.declared.Kind.TheVariants.{Drives}
 use Rattle.bus_laws.specs.Reactions.{own_time}
 use Rattle.bus_laws.specs.Reactions.{device_with, unreset_due}
-use Rattle.bus_laws.proofs.Tests.{eq_self, eq_other}
 use Rattle.bus_laws.proofs.Dues.{due_in, is_at, where_is}
 use Rattle.bus_laws.specs.Callings.{answer_lines, awaiting_call, begun_call, call_with, both_ids, won_call, withdrawn_call}
+use Rattle.std.proofs.lemmas.Bool.{ne_eqb}
+use Rattle.bus_base.proofs.Tests.{eq_self}
 
 -- What a device wants, and the fault that would strike it where it samples the IDs.
 abbrev pub want_at : ScenarioValue → List Row → ℕ → Want
@@ -45,7 +46,7 @@ as_caller s p c lat own k h lt there alone ek eg eo =
 pub as_other : (s : ScenarioValue) (p : List Row) (e lat : ℕ) (own : LineSet) (k : Call) → AreOfDevices p → e < 8 → latency_of s e ≡ Some lat → connection p ≡ None → k.caller ≢ e → stage p ≡ InCalling k → drives p e ≡ own → unreset_due s p e ≡ called_due (line_times p).bsy (line_times p).sel (device_with e lat own (own_time p e)) (flip_at s p lat) k.calling
 as_other s p e lat own k h lt there alone ek eg eo =
     due_in s p e lat own (InCalling k) h lt there alone eg eo
-    ∙ ap (λ (q : Bool). if q then caller_due (device_with e lat own (own_time p e)) (want_at s p e) k.calling else called_due (line_times p).bsy (line_times p).sel (device_with e lat own (own_time p e)) (flip_at s p lat) k.calling) (eq_other k.caller e ek)
+    ∙ ap (λ (q : Bool). if q then caller_due (device_with e lat own (own_time p e)) (want_at s p e) k.calling else called_due (line_times p).bsy (line_times p).sel (device_with e lat own (own_time p e)) (flip_at s p lat) k.calling) (ne_eqb k.caller e ek)
 
 asks_some : (e : ℕ) → same_set (contender_lines e) none ≡ false
 asks_some e = grind (arith, nat_tests)
@@ -131,7 +132,7 @@ struck_due s p m c k t0 t1 t2 lat h lt there alone ne eg eo =
 pub aside_due : (s : ScenarioValue) (p : List Row) (v m : Bool) (c k t0 t1 t2 e lat : ℕ) → AreOfDevices p → e < 8 → latency_of s e ≡ Some lat → connection p ≡ None → c ≢ e → k ≢ e → stage p ≡ InCalling (awaiting_call v m c k t0 t1 t2) → drives p e ≡ none → unreset_due s p e ≡ None
 aside_due s p v m c k t0 t1 t2 e lat h lt there alone ne nk eg eo =
     as_other s p e lat none (awaiting_call v m c k t0 t1 t2) h lt there alone ne eg eo
-    ∙ ap (λ (q : Bool). if not q then None else if not v then answer (line_times p).bsy (device_with e lat none (own_time p e)) (flip_at s p lat) else None) (eq_other k e nk)
+    ∙ ap (λ (q : Bool). if not q then None else if not v then answer (line_times p).bsy (device_with e lat none (own_time p e)) (flip_at s p lat) else None) (ne_eqb k e nk)
 
 -- the caller has withdrawn: it releases all in the end, and no other device does anything
 pub gives_up_due : (s : ScenarioValue) (p : List Row) (v m : Bool) (c k t0 t1 t2 t3 lat : ℕ) (own : LineSet) → AreOfDevices p → c < 8 → latency_of s c ≡ Some lat → connection p ≡ None → stage p ≡ InCalling (withdrawn_call v m c k t0 t1 t2 t3) → drives p c ≡ own → unreset_due s p c ≡ due_at (own_time p c + 200090 + lat) none
@@ -155,9 +156,9 @@ goes_on_due s p g c t0 t3 lat own h lt there alone eg eo =
 pub waiting_due : (s : ScenarioValue) (p : List Row) (g : Calling) (c t0 t3 lat : ℕ) (own : LineSet) → AreOfDevices p → g.called < 8 → latency_of s g.called ≡ Some lat → connection p ≡ None → c ≢ g.called → stage p ≡ InAnswer (call_with c t0 g) g t3 → drives p g.called ≡ own → unreset_due s p g.called ≡ None
 waiting_due s p g c t0 t3 lat own h lt there alone ne eg eo =
     due_in s p g.called lat own (InAnswer (call_with c t0 g) g t3) h lt there alone eg eo
-    ∙ (λ i. if eq_other c g.called ne i then answered_due (device_with g.called lat own (own_time p g.called)) (want_at s p g.called) g t3 else if eq_self g.called i then None else loser_release (line_times p).sel (device_with g.called lat own (own_time p g.called)))
+    ∙ (λ i. if ne_eqb c g.called ne i then answered_due (device_with g.called lat own (own_time p g.called)) (want_at s p g.called) g t3 else if eq_self g.called i then None else loser_release (line_times p).sel (device_with g.called lat own (own_time p g.called)))
 
 pub apart_due : (s : ScenarioValue) (p : List Row) (g : Calling) (c t0 t3 e lat : ℕ) → AreOfDevices p → e < 8 → latency_of s e ≡ Some lat → connection p ≡ None → c ≢ e → g.called ≢ e → stage p ≡ InAnswer (call_with c t0 g) g t3 → drives p e ≡ none → unreset_due s p e ≡ None
 apart_due s p g c t0 t3 e lat h lt there alone ne nk eg eo =
     due_in s p e lat none (InAnswer (call_with c t0 g) g t3) h lt there alone eg eo
-    ∙ (λ i. if eq_other c e ne i then answered_due (device_with e lat none (own_time p e)) (want_at s p e) g t3 else if eq_other g.called e nk i then None else loser_release (line_times p).sel (device_with e lat none (own_time p e)))
+    ∙ (λ i. if ne_eqb c e ne i then answered_due (device_with e lat none (own_time p e)) (want_at s p e) g t3 else if ne_eqb g.called e nk i then None else loser_release (line_times p).sel (device_with e lat none (own_time p e)))

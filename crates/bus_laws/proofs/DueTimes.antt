@@ -38,10 +38,11 @@ use Rattle.scsi_device.specs.Lines.{IsHostLine, IsTargetLine, FitsBus}
 use Rattle.scsi_device.proofs.FitLines.{obeys_fits}
 use Rattle.scsi_device.proofs.WantTimes.{wants_before, next_reset_before}
 use Rattle.bus_laws.proofs.ReactionTimes.{IsDueBefore, none_before, if_before, IsShortPace, AreAllBefore, longest, target_before, initiator_before, link_before, sample_before, reset_before}
-use Rattle.bus_laws.proofs.RowTimes.{ComeBefore, ages_before, handshakes_before, last_before, stage_before, IsOwnBefore, own_before, current_before, since_before, AreNumbersBefore}
+use Rattle.bus_laws.proofs.RowTimes.{ages_before, handshakes_before, last_before, stage_before, IsOwnBefore, own_before, current_before, since_before, AreNumbersBefore}
 use Rattle.bus_laws.proofs.Periods.{period_is_byte}
 use Rattle.bus_laws.proofs.Limits.{latency_within}
 use Rattle.bus_laws.proofs.Prompt.{least_is}
+use Rattle.bus_lines.proofs.Times.{ComeBefore}
 
 -- ---- ready units
 

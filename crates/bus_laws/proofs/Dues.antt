@@ -31,6 +31,7 @@ use Rattle.bus_due.specs.Plain.{AreOfDevices}
 use Rattle.bus_due.proofs.Plains.{run_state_plain}
 use Rattle.bus_laws.specs.Reactions.{own_time}
 use Rattle.bus_laws.specs.Reactions.{device_with, unreset_due_if, unreset_due}
+use Rattle.std.proofs.lemmas.Bool.{not-true, leb-true}
 
 abbrev seen_at : List Row → Stage → Sight
 seen_at p g = record { bus = bus p; ages = line_times p; stage = g }
@@ -102,23 +103,16 @@ is_entry d lat since free own (Some w) x e =
     let k = h.time_is in
     record { after_free = omega arith; kind_is = h.kind_is }
 
-leb_true : (a b : ℕ) → nat_le a b ≡ true → a ≤ b
-leb_true a b e = grind (arith, nat_tests)
-
 -- one in an arbitration is that of the free bus, and comes within a bus set delay
 pub is_entry_in : (d lat since : ℕ) (own : LineSet) (a : Arbitration) (w : Option ℕ) (x : Due) → later_entry_if (device_with d lat own since) a w ≡ Some x → (free_due (device_with d lat own since) a.free w ≡ Some x) × (x.time ≤ a.first + 1800)
 is_entry_in d lat since own a None x e = absurd cc
 is_entry_in d lat since own a (Some w) x e =
     let h = where_is _ _ x e in
     let k = (is_at (max (a.free + 1200) w + lat) (contender_lines d) x h.1).time_is in
-    let low = leb_true _ _ h.0 in
+    let low = leb-true _ _ h.0 in
     (h.1, omega arith)
 
 -- ---- an arbitration
-
-not_false : (q : Bool) → not q ≡ true → q ≡ false
-not_false true e = sym e
-not_false false e = refl
 
 -- what the row that raises SEL is
 pub record IsWin (p : List Row) (e lat : ℕ) (x : Due) : Type 0 where
@@ -131,7 +125,7 @@ win_due s p e lat a x h lt there alone eg eo r =
     let z = sym (due_in s p e lat (contender_lines e) (InArbitration a) h lt there alone eg eo) ∙ r in
     let w = where_is (not (has_id_above (bus p) e)) (due_at (own_time p e + 2400 + lat) (record (contender_lines e) { sel = true })) x z in
     let v = is_at (own_time p e + 2400 + lat) (record (contender_lines e) { sel = true }) x w.1 in
-    record { time_is = v.time_is; kind_is = v.kind_is; highest = not_false (has_id_above (bus p) e) w.0 }
+    record { time_is = v.time_is; kind_is = v.kind_is; highest = not-true (has_id_above (bus p) e) w.0 }
 
 pub idle_due : (s : ScenarioValue) (p : List Row) (e lat : ℕ) (a : Arbitration) → AreOfDevices p → e < 8 → latency_of s e ≡ Some lat → connection p ≡ None → stage p ≡ InArbitration a → drives p e ≡ none → unreset_due s p e ≡ later_entry_if (device_with e lat none (own_time p e)) a (want_time s (run_state s p) e)
 idle_due s p e lat a h lt there alone eg eo = due_in s p e lat none (InArbitration a) h lt there alone eg eo

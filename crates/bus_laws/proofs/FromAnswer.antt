@@ -23,7 +23,6 @@ use Rattle.bus_laws.specs.Reactions.{own_time, device_with}
 use Rattle.bus_reactions.specs.Calling.{answered_due}
 use Rattle.bus_reactions.specs.declared.due.Want.{Want}
 use Rattle.bus_laws.specs.Reactions.{unreset_due}
-use Rattle.bus_laws.proofs.Tests.{eq_self}
 use Rattle.bus_laws.proofs.Rows.{change_is, stands_after, stage_is, since_is, drives_own, drives_other, own_time_own}
 use Rattle.bus_laws.proofs.Seens.{obeys_apart, duty_none, pulses_none}
 use Rattle.bus_laws.specs.Ends.{by_selection, by_reselection}
@@ -47,6 +46,7 @@ use Rattle.bus_laws.proofs.Dues.{is_entry, free_due_is}
 use Rattle.bus_laws.specs.Stages.{CalmStanding, IsAnswered, Calls, NextCalmRow, on_free_bus, in_connection, after_takeover}
 use Rattle.bus_laws.specs.Rows.{Stands, row_of_lines}
 use Rattle.bus_laws.specs.Callings.{answer_lines, answered_calling, calling_lines, call_with, resumed_calling, withdrawn_call}
+use Rattle.bus_base.proofs.Tests.{eq_self}
 
 none_link : (n : Connection) → (let a : Option Connection = Some n in a) ≡ None → ⊥
 none_link n e = absurd cc
@@ -250,7 +250,7 @@ makes_reselection s p c k t0 t1 t2 t3 t4 n y t always io_age a least wait =
     }
 
 -- no device but the caller acts once the called device has answered
-only_caller_acts : (s : ScenarioValue) (p : List Row) (g : Calling) (c t0 t3 : ℕ) (own other b : LineSet) (row : Row) → CalmStanding s p → Calls s p (call_with c t0 g) c g.called own other b → stage p ≡ InAnswer (call_with c t0 g) g t3 → IsLeast (unreset_due s p) 8 row → row.dev ≢ c → ⊥
+pub only_caller_acts : (s : ScenarioValue) (p : List Row) (g : Calling) (c t0 t3 : ℕ) (own other b : LineSet) (row : Row) → CalmStanding s p → Calls s p (call_with c t0 g) c g.called own other b → stage p ≡ InAnswer (call_with c t0 g) g t3 → IsLeast (unreset_due s p) 8 row → row.dev ≢ c → ⊥
 only_caller_acts s p g c t0 t3 own other b row always h was least nc =
     let x : Due = record { time = row.time; kind = row.kind } in
     let w = is_there s p row.dev x least.is_due in

@@ -3,7 +3,7 @@ use Rattle.std.proofs.Common.{◌⊎◌, inl, inr, ℕ, ◌≡◌, ◌≢◌, �
 use Rattle.std.specs.Prelude.{if◌then◌else◌}
 use Rattle.std.specs.Int.{bit_at}
 use Rattle.std.specs.Int.Bits.{or_zero_r}
-use Rattle.std.proofs.lemmas.Bool.{cases_eq}
+use Rattle.std.proofs.lemmas.Bool.{cases_eq, ne_eqb}
 use Rattle.std.proofs.lemmas.Bool.Decides.{nat_tests}
 use Rattle.bus_trace.specs.LineSet.{LineSet, none, union, line_of}
 use Rattle.bus_trace.specs.declared.Row.{Row}
@@ -30,7 +30,6 @@ use Rattle.bus_laws.specs.Reactions.{own_time, device_with}
 use Rattle.bus_reactions.specs.Calling.{answered_due}
 use Rattle.bus_reactions.specs.declared.due.Want.{Want}
 use Rattle.bus_laws.specs.Reactions.{unreset_due}
-use Rattle.bus_laws.proofs.Tests.{eq_self, eq_other}
 use Rattle.bus_laws.proofs.Rows.{fault_change, stands_by, since_same, stands_after, stage_is, since_is, drives_own, drives_other, own_time_own}
 use Rattle.bus_laws.proofs.Seens.{obeys_apart, obeys_by}
 use Rattle.bus_laws.proofs.Obeys.{asks_obeys, answer_obeys, struck_obeys, withdrawal_obeys}
@@ -41,6 +40,7 @@ use Rattle.bus_laws.proofs.FromWon.{quiet_others}
 use Rattle.bus_laws.specs.Stages.{CalmStanding, AwaitsAnswer, Calls, HasShortLatencies, NextCalmRow, after_answer, awaiting_answer, after_withdrawal}
 use Rattle.bus_laws.specs.Rows.{Stands, change_to, row_of_fault, row_of_lines}
 use Rattle.bus_laws.specs.Callings.{answer_lines, answered_calling, awaiting_call, begun_call, calling_lines, call_with, both_ids, new_calling_at, withdrawn_call}
+use Rattle.bus_base.proofs.Tests.{eq_self}
 
 -- no device but the caller drives anything
 pub only_caller : (s : ScenarioValue) (p : List Row) (k : Call) (c d : ℕ) (x b : LineSet) → Calls s p k c d x none b → (e : ℕ) → e < 8 → e ≢ c → drives p e ≡ none
@@ -54,7 +54,7 @@ ids_not_zero : (c k : ℕ) → (2 ^ c + 2 ^ k + 256 == 0) ≡ false
 ids_not_zero c k = grind (arith, nat_tests)
 
 shows_called : (c k : ℕ) → c < 8 → k < 8 → c ≢ k → (bit_at (2 ^ c + 2 ^ k + 256) k == 1) ≡ true
-shows_called c k lc lk ne = has_id-ids_set c k k lc lk lk ne ∙ (λ i. eq_other c k ne i || eq_self k i)
+shows_called c k lc lk ne = has_id-ids_set c k k lc lk lk ne ∙ (λ i. ne_eqb c k ne i || eq_self k i)
 
 struck_time : (w : ℕ) (flip : Option ℕ) (l : LineSet) (x : Due) → fault_or w flip (due_at w l) ≡ Some x → x.time ≡ w
 struck_time w None l x e = (is_at w l x e).time_is
@@ -158,7 +158,7 @@ makes_answer s p m c k t0 t1 t2 n t always a least wait =
     let g : Calling = record (new_calling_at m k t1) { released = Some t2 } in
     let calling : call q ≡ Some (call_with c t0 (answered_calling m k t1 t2 t)) =
     goes.call_is
-    ∙ (λ i. Some (record (awaiting_call false m c k t0 t1 t2) { calling = if eq_other k c ne i then Some (record g { resumed = Some t; withdrawn = None }) else if eq_self k i then Some (answered_calling m k t1 t2 t) else Some g })) in
+    ∙ (λ i. Some (record (awaiting_call false m c k t0 t1 t2) { calling = if ne_eqb k c ne i then Some (record g { resumed = Some t; withdrawn = None }) else if eq_self k i then Some (answered_calling m k t1 t2 t) else Some g })) in
     let stands : Stands q b' None (Some (call_with c t0 (answered_calling m k t1 t2 t))) None = record { bus_is = after; arbitration_is = goes.arbitration_is; call_is = calling; connection_is = goes.connection_is } in
     let here : stage q ≡ InAnswer (call_with c t0 (answered_calling m k t1 t2 t)) (answered_calling m k t1 t2 t) t = stage_is q _ _ _ _ stands in
     let books = still_row_keeps s p t k l l b b' none None (Some (awaiting_call false m c k t0 t1 t2)) always.devices least.inside h.stands h.link refl after h.other refl refl refl refl in
@@ -218,7 +218,7 @@ makes_fault s p m c k t0 t1 t2 n t bit always a least wait soon =
     let f : Calling = record (new_calling_at m k t1) { released = Some t2 } in
     let calling : call q ≡ Some (awaiting_call true m c k t0 t1 t2) =
     goes.call_is
-    ∙ (λ i. Some (record (awaiting_call false m c k t0 t1 t2) { calling = if eq_other k c ne i then Some f else if eq_self k i then Some (record f { struck = true }) else Some f })) in
+    ∙ (λ i. Some (record (awaiting_call false m c k t0 t1 t2) { calling = if ne_eqb k c ne i then Some f else if eq_self k i then Some (record f { struck = true }) else Some f })) in
     let stands : Stands q b None (Some (awaiting_call true m c k t0 t1 t2)) None = record { bus_is = goes.bus_is; arbitration_is = goes.arbitration_is; call_is = calling; connection_is = goes.connection_is } in
     let here : stage q ≡ InCalling (awaiting_call true m c k t0 t1 t2) = stage_is q _ _ _ _ stands in
     let books = still_keeps s p row g b None (Some (awaiting_call false m c k t0 t1 t2)) (record { devices = always.devices; below = least.inside; stands = h.stands; link = h.link; change = e; calm = refl; alone = refl }) refl refl in

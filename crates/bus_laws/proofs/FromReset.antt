@@ -2,7 +2,7 @@
 use Rattle.std.proofs.Common.{inl, inr, ℕ, ◌≡◌, ◌<◌, ◌≤◌, ◌+◌, Bool, true, false, ◌&&◌, ◌∙◌, List, [], ◌∷◌, Option, Some, None, refl, sym, ap, arith}
 use Rattle.std.specs.Prelude.{if◌then◌else◌, ◌==◌}
 use Rattle.std.specs.List.{list_any}
-use Rattle.std.proofs.lemmas.Bool.{cases_eq}
+use Rattle.std.proofs.lemmas.Bool.{cases_eq, true≢false}
 use Rattle.bus_base.specs.declared.Event.TheVariants as events
 use Rattle.bus_trace.specs.LineSet.{LineSet}
 use Rattle.bus_trace.proofs.Buses.{bus_on}
@@ -46,9 +46,6 @@ off_at p e d lt = go (drives p d).rst refl
     go : (q : Bool) → (drives p d).rst ≡ q → (drives p d).rst ≡ false
     go true h = let w = sym (bus_on (λ y. y.rst) (λ _ _. refl) p d lt h) ∙ e in absurd cc
     go false h = h
-
-true_false : true ≡ false → ⊥
-true_false z = cc
 
 -- ---- the link
 
@@ -104,7 +101,7 @@ link_apart s p row g h lt e rst alone link =
 
 -- ---- the resets that are still to come lie ahead
 
-resets_of_own : (s : ScenarioValue) (p q : List Row) (d : ℕ) → (own_of q d).released ≡ (own_of p d).released → reset_due s q d ≡ reset_due s p d
+pub resets_of_own : (s : ScenarioValue) (p q : List Row) (d : ℕ) → (own_of q d).released ≡ (own_of p d).released → reset_due s q d ≡ reset_due s p d
 resets_of_own s p q d e = go (latency_of s d)
   where
     go : (o : Option ℕ) → reset_due_if s q d o ≡ reset_due_if s p d o

@@ -1,7 +1,7 @@
 -- A row after SEL rose, until both IDs stand: a loser releases all, or the won_bus calls.
 use Rattle.std.proofs.Common.{◌⊎◌, inl, inr, ℕ, ◌≡◌, ◌≢◌, ◌<◌, ◌≤◌, ◌+◌, Bool, true, false, not, ◌||◌, ◌&&◌, ◌==◌, ◌∙◌, List, ◌∷◌, Some, None, refl, sym, ap, subst, arith}
 use Rattle.std.specs.Prelude.{if◌then◌else◌}
-use Rattle.std.proofs.lemmas.Bool.{cases_eq}
+use Rattle.std.proofs.lemmas.Bool.{cases_eq, ne_eqb}
 use Rattle.bus_trace.specs.LineSet.{LineSet, none, same_set}
 use Rattle.bus_trace.specs.declared.Row.{Row}
 use Rattle.bus_trace.specs.declared.Kind.TheVariants.{Drives}
@@ -23,7 +23,6 @@ use Rattle.bus_due.specs.Least.{IsLeast}
 use Rattle.bus_due.specs.Plain.{AreOfDevices}
 use Rattle.bus_laws.specs.Reactions.{own_time}
 use Rattle.bus_laws.specs.Reactions.{unreset_due}
-use Rattle.bus_laws.proofs.Tests.{eq_self, eq_other}
 use Rattle.bus_laws.proofs.TwoIds.{IsCall, is_call}
 use Rattle.bus_laws.proofs.Rows.{stands_after, stage_is, since_is, drives_own, drives_other, own_time_own, own_time_other}
 use Rattle.bus_laws.proofs.Held.{winner_is}
@@ -37,6 +36,7 @@ use Rattle.bus_laws.proofs.FromArbitration.{lost_or}
 use Rattle.bus_laws.specs.Stages.{CalmStanding, HasShortLatencies, NextCalmRow, IsLoser, ArbitrationWon, with_both_ids, after_arbitration}
 use Rattle.bus_laws.specs.Rows.{Stands, row_of_lines}
 use Rattle.bus_laws.specs.Callings.{begun_call, both_ids, new_calling_at, won_call, won_bus}
+use Rattle.bus_base.proofs.Tests.{eq_self}
 
 in_won : (s : ScenarioValue) (p : List Row) (c t0 : ℕ) → ArbitrationWon s p c t0 → stage p ≡ InCalling (won_call c t0)
 in_won s p c t0 h = stage_is p _ _ _ _ h.stands
@@ -59,8 +59,8 @@ loses s p c t0 t d always h ne_c o m soon =
     ] in
     let after : bus q ≡ won_bus (bus q).data_bits = winner_is q c h.caller_below holds (λ e lt ne. lost_or s q e (each e lt ne)) in
     let goes = stands_after p t d none none (won_bus (bus p).data_bits) (won_bus (bus q).data_bits) (contender_lines d) None (Some (won_call c t0)) None h.stands refl after o in
-    let self : (if d == c then false else true) ≡ true = ap (λ (y : Bool). if y then false else true) (eq_other d c ne_c) in
-    let calling : call q ≡ Some (won_call c t0) = goes.call_is ∙ ap (λ (y : Bool). Some (record (won_call c t0) { calling = if y && drives_two_ids c none then Some (new_calling c none t) else None })) (eq_other d c ne_c) in
+    let self : (if d == c then false else true) ≡ true = ap (λ (y : Bool). if y then false else true) (ne_eqb d c ne_c) in
+    let calling : call q ≡ Some (won_call c t0) = goes.call_is ∙ ap (λ (y : Bool). Some (record (won_call c t0) { calling = if y && drives_two_ids c none then Some (new_calling c none t) else None })) (ne_eqb d c ne_c) in
     let stands : Stands q (won_bus (bus q).data_bits) None (Some (won_call c t0)) None = record { bus_is = goes.bus_is; arbitration_is = goes.arbitration_is; call_is = calling; connection_is = goes.connection_is } in
     let here : stage q ≡ InCalling (won_call c t0) = stage_is q _ _ _ _ stands in
     let books = still_row_keeps s p t d none none (won_bus (bus p).data_bits) (won_bus (bus q).data_bits) (contender_lines d) None (Some (won_call c t0)) always.devices m.inside h.stands h.link refl after o refl refl refl refl in
@@ -69,7 +69,7 @@ loses s p c t0 t d always h ne_c o m soon =
     record {
       order = order;
       calm = ap (λ (y : LineSet). y.rst) after;
-      obeys = obeys_apart p t d none (won_bus (bus p).data_bits) (won_bus (bus q).data_bits) (contender_lines d) none None (Some (won_call c t0)) (others_in_call (drives p) (Some (won_call c t0))) h.stands refl after o refl (loser_obeys p c t0 t d (bus p).data_bits (bus q).data_bits (others_in_call (drives p) (Some (won_call c t0))) order soon (eq_other d c ne_c));
+      obeys = obeys_apart p t d none (won_bus (bus p).data_bits) (won_bus (bus q).data_bits) (contender_lines d) none None (Some (won_call c t0)) (others_in_call (drives p) (Some (won_call c t0))) h.stands refl after o refl (loser_obeys p c t0 t d (bus p).data_bits (bus q).data_bits (others_in_call (drives p) (Some (won_call c t0))) order soon (ne_eqb d c ne_c));
       ahead = λ alone e lt y r.
           let w = is_there s q e y r in
           elim (cases_eq e c) [

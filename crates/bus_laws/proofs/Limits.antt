@@ -10,15 +10,13 @@ use Rattle.bus_story.specs.Samples.{host_latency, target_latency, latency_of}
 use Rattle.scsi_device.specs.Lines.{IsHostLine, IsTargetLine, FitsBus}
 use Rattle.scsi_device.proofs.FitLines.{obeys_fits}
 use Rattle.bus_laws.specs.Stages.{HasShortLatencies}
+use Rattle.bus_base.proofs.Tests.{none_number}
 
 some_nat : (x y : ℕ) → (let o : Option ℕ = Some x in o) ≡ Some y → x ≡ y
 some_nat x y e = cc
 
-none_nat : (y : ℕ) → (let o : Option ℕ = None in o) ≡ Some y → ⊥
-none_nat y e = cc
-
 host_found : (s : ScenarioValue) (hosts : List HostDef) (dev lat : ℕ) → AllByRecursion (IsHostLine s) hosts → host_latency (find (λ (h : HostDef). h.dev == dev) hosts) ≡ Some lat → lat ≤ 100
-host_found s [] dev lat a e = absurd (none_nat lat e)
+host_found s [] dev lat a e = absurd (none_number lat e)
 host_found s (h ∷ hosts) dev lat a e = go (h.dev == dev) (λ z. host_found s hosts dev lat a.1 z) e
   where
     go : (q : Bool) → (host_latency (find (λ (g : HostDef). g.dev == dev) hosts) ≡ Some lat → lat ≤ 100) → host_latency (if q then Some h else find (λ (g : HostDef). g.dev == dev) hosts) ≡ Some lat → lat ≤ 100

@@ -29,6 +29,7 @@ use Rattle.bus_reactions.specs.Ends.{target_due, initiator_due, sample_due, owes
 use Rattle.bus_laws.proofs.Dues.{is_at, none_some}
 use Rattle.bus_laws.proofs.Resets.{one_of}
 use Rattle.bus_trace.specs.declared.Kind.TheVariants.{Fault}
+use Rattle.bus_base.proofs.Tests.{if_less}
 
 -- ---- what comes before a time
 
@@ -87,10 +88,6 @@ first_req_before end v b me g a =
     (if_before (end + longest) (me.own.data_bits == 0) _ _
     (at_before (end + longest) _ _ (omega arith))
     (at_before (end + longest) _ _ (omega arith)))
-
-if_less : (q : Bool) (a b limit : ℕ) → a < limit → b < limit → (if q then a else b) < limit
-if_less true a b limit f g = f
-if_less false a b limit f g = g
 
 pub target_before : (end : ℕ) (begun : Bool) (v : Sight) (b : Handshakes) (me : Myself) (p : Pace) (g : Offering) → 0 < end → AreAllBefore end v b me → IsShortPace p → g.wait ≤ 1000000000 → IsDueBefore (end + longest) (target_due begun v b me p g)
 target_before end begun v b me p g some a q wait =

@@ -16,8 +16,9 @@ use Rattle.bus_rules.specs.Order.{is_in_order, is_news}
 use Rattle.bus_rules.specs.Reset.{is_reset, only_rst, raises_rst_alone, is_quiet_in_reset, holds_reset, keeps_reset}
 use Rattle.bus_rules.specs.Rules.{test, stands_in_reset, keeps, judged_rules, lowest_broken, broken_rule}
 use Rattle.bus_rules.proofs.First.{none_broken}
-use Rattle.bus_laws.proofs.Tests.{and_false}
 use Rattle.bus_laws.specs.Rows.{change_to, row_of_lines}
+use Rattle.std.proofs.lemmas.Bool.{le-leb}
+use Rattle.bus_base.proofs.Tests.{and_false, all_three}
 
 other_rule : (n : ℕ) (v : Seen) (row : Row) → stands_in_reset n ≡ false → is_reset v ≡ true → keeps n v row ≡ true
 other_rule n v row a b = λ i. if not (a i) && b i then true else test n v row
@@ -38,12 +39,6 @@ pub record KeepsReset (p : List Row) (t d : ℕ) (b b' o l : LineSet) : Type 0 w
   pub quiet : implies b.rst (nat_le t ((line_times p).rst + 800) || is_within b only_rst) ≡ true
   pub holds : implies (falls o.rst l.rst) (nat_le (raised (λ s. s.rst) p d + 25000) t) ≡ true
 
-le_true : (a b : ℕ) → a ≤ b → nat_le a b ≡ true
-le_true a b h = grind (arith, nat_tests)
-
-both_true : (x y z : Bool) → x ≡ true → y ≡ true → z ≡ true → (x && y && z) ≡ true
-both_true x y z a b c = λ i. a i && b i && c i
-
 pub reset_row_obeys : (p : List Row) (t d : ℕ) (l b b' o : LineSet) → change_of p (row_of_lines t d l) ≡ change_to b b' o l → KeepsReset p t d b b' o l → broken_rule p (row_of_lines t d l) ≡ None
 unfolding seen_with
 reset_row_obeys p t d l b b' o e k =
@@ -51,9 +46,9 @@ reset_row_obeys p t d l b b' o e k =
     let v : Seen = seen p row in
     three_rules v row
     (ap (λ (c : Change). c.before.rst || c.after.rst) e ∙ k.reset)
-    (le_true (last_time p) t k.order)
+    (le-leb (last_time p) t k.order)
     (ap (λ (c : Change). not (same_set c.own c.next)) e ∙ ap not k.news)
-    (both_true (raises_rst_alone v) (is_quiet_in_reset v t) (holds_reset v row)
+    (all_three (raises_rst_alone v) (is_quiet_in_reset v t) (holds_reset v row)
     (ap (λ (c : Change). implies (c.before.rst || rises c.own.rst c.next.rst) (is_within c.next (union only_rst c.own))) e ∙ k.alone)
     (ap (λ (c : Change). implies c.before.rst (nat_le t ((line_times p).rst + 800) || is_within c.before only_rst)) e ∙ k.quiet)
     (ap (λ (c : Change). implies (falls c.own.rst c.next.rst) (nat_le (raised (λ s. s.rst) p d + 25000) t)) e ∙ k.holds))

@@ -1,7 +1,7 @@
 -- The rows under RST, to the free bus, and the row that raises it.
 use Rattle.std.proofs.Common.{◌⊎◌, inl, inr, ℕ, zero, suc, ◌≡◌, ◌≢◌, ◌<◌, ◌≤◌, ◌+◌, Bool, true, false, ◌||◌, ◌∙◌, List, ◌∷◌, Option, Some, None, refl, sym, ap, subst, arith}
 use Rattle.std.specs.Prelude.{nat_le, if◌then◌else◌}
-use Rattle.std.proofs.lemmas.Bool.{cases_eq}
+use Rattle.std.proofs.lemmas.Bool.{cases_eq, or_right, or_left, le-leb}
 use Rattle.std.proofs.lemmas.Bool.Decides.{nat_tests}
 use Rattle.std.specs.Int.Bits.{or_zero_r}
 use Rattle.std.specs.Int.RustNames.{bit_or}
@@ -113,25 +113,15 @@ all_or p t (suc n) f =
       ]
     ]
 
-or_yes : (a b : Bool) → a ≡ true → (a || b) ≡ true
-or_yes a b e = λ i. e i || b
-
-le_yes : (a b : ℕ) → a ≤ b → nat_le a b ≡ true
-le_yes a b h = grind (arith, nat_tests)
-
-or_right_yes : (a b : Bool) → b ≡ true → (a || b) ≡ true
-or_right_yes true b e = refl
-or_right_yes false b e = e
-
 -- Before the next row no line but RST is true, or it comes within a bus clear delay of the rise of RST.
 quiet_enough : (s : ScenarioValue) (p : List Row) (row : Row) → HasShortLatencies s → Standing s p → UnderRst s p → IsLeast (due s p) 8 row → (nat_le row.time ((line_times p).rst + 800) || is_within (bus p) only_rst) ≡ true
 quiet_enough s p row fits st rs m =
     elim (all_or p row.time 8 (lingering s p row fits st rs m)) [
-      | inr l ↦ or_yes (nat_le row.time ((line_times p).rst + 800)) (is_within (bus p) only_rst) (le_yes row.time ((line_times p).rst + 800) (omega arith))
+      | inr l ↦ or_left (nat_le row.time ((line_times p).rst + 800)) (is_within (bus p) only_rst) (le-leb row.time ((line_times p).rst + 800) (omega arith))
       | inl g ↦
           let b : bus p ≡ record none { rst = (bus p).rst } = below_rst (drives p) 8 (λ d lt. within_rst (drives p d) (g d lt)) in
           let c : bus p ≡ only_rst = b ∙ (λ i. record none { rst = rs.reset i }) in
-          or_right_yes (nat_le row.time ((line_times p).rst + 800)) (is_within (bus p) only_rst) (ap (λ (x : LineSet). is_within x only_rst) c)
+          or_right (nat_le row.time ((line_times p).rst + 800)) (is_within (bus p) only_rst) (ap (λ (x : LineSet). is_within x only_rst) c)
     ]
 
 -- ---- what is due after a row after which RST is true
@@ -265,7 +255,7 @@ reset_keeps p t d order off on quiet_ =
     let b' : LineSet = bus (row_of_lines t d only_rst ∷ p) in
     reset_row_obeys p t d only_rst (bus p) b' (drives p d) (change_is p t d only_rst only_rst (bus p) b' (drives p d) refl refl refl refl)
     (record {
-      reset = or_right_yes (bus p).rst b'.rst on;
+      reset = or_right (bus p).rst b'.rst on;
       order = order;
       news = raises_rst (drives p d) off;
       alone = implied ((bus p).rst || rises (drives p d).rst true) (is_within only_rst (union only_rst (drives p d))) (rst_alone (drives p d));
@@ -364,7 +354,7 @@ clears s p t d fits st rs off some m =
     stays s p t d none st rs m on (silent s p t d)
     (reset_row_obeys p t d none (bus p) b' (drives p d) (change_is p t d none none (bus p) b' (drives p d) refl refl refl refl)
     (record {
-      reset = or_yes (bus p).rst b'.rst rs.reset;
+      reset = or_left (bus p).rst b'.rst rs.reset;
       order = order;
       news = some;
       alone = implied ((bus p).rst || rises (drives p d).rst false) (is_within none (union only_rst (drives p d))) (none_within (union only_rst (drives p d)));
@@ -379,12 +369,12 @@ release_keeps s p t d fits st rs h wait m =
     let order = st.ahead d m.inside (record { time = t; kind = Drives none }) m.is_due in
     reset_row_obeys p t d none (bus p) b' only_rst (change_is p t d none none (bus p) b' only_rst refl refl refl h.drive)
     (record {
-      reset = or_yes (bus p).rst b'.rst rs.reset;
+      reset = or_left (bus p).rst b'.rst rs.reset;
       order = order;
       news = refl;
       alone = implied ((bus p).rst || rises true false) true refl;
       quiet = implied (bus p).rst (nat_le t ((line_times p).rst + 800) || is_within (bus p) only_rst) (quiet_enough s p row fits st rs m);
-      holds = le_yes (raised (λ y. y.rst) p d + 25000) t (let w = h.raised_at in omega arith);
+      holds = le-leb (raised (λ y. y.rst) p d + 25000) t (let w = h.raised_at in omega arith);
     })
 
 -- What stands on the bus after a row that leaves no line true, RST having been the last.

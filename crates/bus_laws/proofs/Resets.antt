@@ -1,7 +1,7 @@
 -- RST: what is due round what is due without it, and the rows that raise and release it (6.2.2).
 use Rattle.std.proofs.Common.{◌⊎◌, inl, inr, ℕ, ◌≡◌, ◌≢◌, ◌<◌, ◌≤◌, ◌+◌, Bool, true, false, not, ◌&&◌, ◌∙◌, List, [], ◌∷◌, Option, Some, None, refl, sym, ap, arith}
 use Rattle.std.specs.Prelude.{nat_lt, if◌then◌else◌, min, ◌==◌}
-use Rattle.std.proofs.lemmas.Bool.{ltb-false}
+use Rattle.std.proofs.lemmas.Bool.{ltb-false, ne_eqb}
 use Rattle.std.proofs.lemmas.Bool.Decides.{nat_tests}
 use Rattle.bus_trace.specs.LineSet.{LineSet, none}
 use Rattle.bus_trace.specs.declared.Row.{Row}
@@ -23,10 +23,11 @@ use Rattle.bus_due.specs.Plain.{AreOfDevices}
 use Rattle.bus_due.proofs.Plains.{run_state_plain}
 use Rattle.bus_rules.specs.Reset.{only_rst}
 use Rattle.bus_laws.specs.Reactions.{unreset_due_if, unreset_due, reset_due_if, reset_due}
-use Rattle.bus_laws.proofs.Tests.{eq_self, eq_other}
 use Rattle.bus_laws.proofs.Dues.{is_at, none_some}
 use Rattle.bus_laws.specs.Stages.{HasDevice}
 use Rattle.bus_laws.specs.Rows.{row_of_lines}
+use Rattle.bus_base.proofs.Tests.{eq_self, none_number}
+use Rattle.bus_due.proofs.Leasts.{some_eq}
 
 -- ---- the first of two
 
@@ -43,9 +44,6 @@ pub record NoLater (o : Option Due) (time : ℕ) : Type 0 where
   pub x : Due
   pub is : o ≡ Some x
   pub le : x.time ≤ time
-
-some_eq : (x y : Due) → (let a : Option Due = Some x in a) ≡ Some y → x ≡ y
-some_eq x y e = cc
 
 pub comes_by : (a b : Option Due) (y : Due) → b ≡ Some y → NoLater (earlier_due a b) y.time
 comes_by None b y e = record { x = y; is = e; le = omega arith }
@@ -119,10 +117,6 @@ own_reset_is s p d x e = go (latency_of s d) e
     go None q = absurd (none_some x q)
     go (Some lat) q = reset_is (reset_from d (own_of p d).released s.resets) x q
 
--- One that is still to come lies after the last that it released.
-none_nat : (x : ℕ) → (let a : Option ℕ = None in a) ≡ Some x → ⊥
-none_nat x e = cc
-
 nat_eq : (x y : ℕ) → (let a : Option ℕ = Some x in a) ≡ Some y → x ≡ y
 nat_eq x y e = cc
 
@@ -139,11 +133,11 @@ time_after t true at x e = go (nat_lt t at) refl e
 
     go : (r : Bool) → nat_lt t at ≡ r → time_if (not (not r)) at ≡ Some x → t < x
     go true h z = let u = nat_eq at x z in let v = lt_of t at h in omega arith
-    go false h z = absurd (none_nat x z)
-time_after t false at x e = absurd (none_nat x e)
+    go false h z = absurd (none_number x z)
+time_after t false at x e = absurd (none_number x e)
 
 pub reset_after : (dev t : ℕ) (resets : List ResetDef) (x : ℕ) → reset_from dev (Some t) resets ≡ Some x → t < x
-reset_after dev t [] x e = absurd (none_nat x e)
+reset_after dev t [] x e = absurd (none_number x e)
 reset_after dev t (r ∷ resets) x e =
     sooner_after t (time_if (r.dev == dev && not (is_reset_past (Some t) r.at)) r.at) (reset_from dev (Some t) resets) x (λ y z. time_after t (r.dev == dev) r.at y z) (λ y z. reset_after dev t resets y z) e
 
@@ -153,7 +147,7 @@ own_after_own : (p : List Row) (t d : ℕ) (l : LineSet) → own_of (row_of_line
 own_after_own p t d l = λ i. if eq_self d i then own_after (own_of p d) (change_of p (row_of_lines t d l)) t else own_of p d
 
 pub own_other : (p : List Row) (row : Row) (e : ℕ) → e ≢ row.dev → own_of (row ∷ p) e ≡ own_of p e
-own_other p row e ne = λ i. if eq_other row.dev e (λ x. ne (sym x)) i then own_next row.kind (own_of p e) (change_of p row) row.time else own_of p e
+own_other p row e ne = λ i. if ne_eqb row.dev e (λ x. ne (sym x)) i then own_next row.kind (own_of p e) (change_of p row) row.time else own_of p e
 
 pub released_own : (p : List Row) (t d : ℕ) (l : LineSet) → (own_of (row_of_lines t d l ∷ p) d).released ≡ when (falls (drives p d).rst l.rst) t (own_of p d).released
 released_own p t d l = ap (λ (o : Own). o.released) (own_after_own p t d l)

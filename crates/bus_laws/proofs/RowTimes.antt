@@ -21,7 +21,7 @@ use Rattle.bus_lines.specs.Effect.{effect}
 use Rattle.bus_lines.specs.Handshakes.{handshakes}
 use Rattle.bus_lines.specs.Timely.{IsBefore, IsCallingBefore, IsCallBefore, IsConnectionBefore, IsArbitrationBefore, IsStageBefore, AreHandshakesBefore, IsTimely}
 use Rattle.bus_lines.specs.Stage.{stage, stage_by, call_stage, answer_stage}
-use Rattle.bus_lines.proofs.Times.{timely}
+use Rattle.bus_lines.proofs.Times.{timely, ComeBefore}
 use Rattle.scenario.specs.Value.{ScenarioValue}
 use Rattle.disk_array.specs.Units.{UnitState, Array}
 use Rattle.bus_due.specs.Own.{Own, own_of, own_next}
@@ -30,9 +30,7 @@ use Rattle.bus_due.specs.RunSteps.{run_state, current_times_after, current_times
 use Rattle.bus_due.specs.Wants.{since_of}
 use Rattle.bus_story.specs.BusState.{row_reading}
 use Rattle.bus_story.specs.HistoryEvents.{row_events_by}
-
-abbrev pub ComeBefore : ℕ → List Row → Type 0
-ComeBefore end rows = AllByRecursion (λ (row : Row). row.time < end) rows
+use Rattle.bus_base.proofs.Tests.{if_less}
 
 -- ---- the bus
 
@@ -140,12 +138,8 @@ pub record IsOwnBefore (end : ℕ) (o : Own) : Type 0 where
   pub ack : o.ack < end
   pub rst : o.rst < end
 
-less_if : (q : Bool) (a b end : ℕ) → a < end → b < end → (if q then a else b) < end
-less_if true a b end f g = f
-less_if false a b end f g = g
-
 own_more : (end : ℕ) (k : Kind) (o : Own) (c : Change) (time : ℕ) → time < end → IsOwnBefore end o → IsOwnBefore end (own_next k o c time)
-own_more end (Drives lines) o c time t h = record { row = t; ack = less_if (rises c.own.ack c.next.ack) time o.ack end t h.ack; rst = less_if (rises c.own.rst c.next.rst) time o.rst end t h.rst }
+own_more end (Drives lines) o c time t h = record { row = t; ack = if_less (rises c.own.ack c.next.ack) time o.ack end t h.ack; rst = if_less (rises c.own.rst c.next.rst) time o.rst end t h.rst }
 own_more end (Fault bit) o c time t h = h
 
 own_if : (end : ℕ) (q : Bool) (a b : Own) → IsOwnBefore end a → IsOwnBefore end b → IsOwnBefore end (if q then a else b)
@@ -171,7 +165,7 @@ times_after : (end time : ℕ) (before after : List UnitState) (times : List ℕ
 times_after end time [] after times t h = tt
 times_after end time (u ∷ before) [] times t h = tt
 times_after end time (u ∷ before) (v ∷ after) [] t h = tt
-times_after end time (u ∷ before) (v ∷ after) (x ∷ times) t h = (less_if (is_same_running u.current v.current) x time end h.0 t, times_after end time before after times t h.1)
+times_after end time (u ∷ before) (v ∷ after) (x ∷ times) t h = (if_less (is_same_running u.current v.current) x time end h.0 t, times_after end time before after times t h.1)
 
 times_if : (end : ℕ) (s : ScenarioValue) (k : RunState) (shown : List Event) (a : Option Array) (time : ℕ) → time < end → AreNumbersBefore end k.current_since → AreNumbersBefore end (current_times_if s k shown a time)
 times_if end s k [] a time t h = h

@@ -15,23 +15,24 @@ use Rattle.bus_due.specs.Own.{own_after}
 use Rattle.bus_lines.specs.Stage.{stage, stage_by}
 use Rattle.bus_due.specs.Own.{own_of}
 use Rattle.bus_laws.specs.Reactions.{own_time}
-use Rattle.bus_laws.proofs.Tests.{eq_self, eq_other}
 use Rattle.bus_laws.specs.Rows.{Stands, change_to, row_of_fault, row_of_lines}
+use Rattle.std.proofs.lemmas.Bool.{ne_eqb}
+use Rattle.bus_base.proofs.Tests.{eq_self}
 
 pub drives_own : (p : List Row) (t d : ℕ) (l : LineSet) → drives (row_of_lines t d l ∷ p) d ≡ l
 drives_own p t d l = λ i. if eq_self d i then l else drives p d
 
 pub drives_other : (p : List Row) (t d : ℕ) (l : LineSet) (e : ℕ) → e ≢ d → drives (row_of_lines t d l ∷ p) e ≡ drives p e
-drives_other p t d l e ne = λ i. if eq_other d e (λ x. ne (sym x)) i then l else drives p e
+drives_other p t d l e ne = λ i. if ne_eqb d e (λ x. ne (sym x)) i then l else drives p e
 
 pub own_time_own : (p : List Row) (t d : ℕ) (l : LineSet) → own_time (row_of_lines t d l ∷ p) d ≡ t
 own_time_own p t d l = λ i. (if eq_self d i then own_after (own_of p d) (change_of p (row_of_lines t d l)) t else own_of p d).row
 
 pub own_time_other : (p : List Row) (t d : ℕ) (l : LineSet) (e : ℕ) → e ≢ d → own_time (row_of_lines t d l ∷ p) e ≡ own_time p e
-own_time_other p t d l e ne = λ i. (if eq_other d e (λ x. ne (sym x)) i then own_after (own_of p e) (change_of p (row_of_lines t d l)) t else own_of p e).row
+own_time_other p t d l e ne = λ i. (if ne_eqb d e (λ x. ne (sym x)) i then own_after (own_of p e) (change_of p (row_of_lines t d l)) t else own_of p e).row
 
 pub raised_other : (on : LineSet → Bool) (p : List Row) (t d : ℕ) (l : LineSet) (e : ℕ) → e ≢ d → raised on (row_of_lines t d l ∷ p) e ≡ raised on p e
-raised_other on p t d l e ne = λ i. if eq_other d e (λ x. ne (sym x)) i then raised_next (on (drives p e)) (on l) t (raised on p e) else raised on p e
+raised_other on p t d l e ne = λ i. if ne_eqb d e (λ x. ne (sym x)) i then raised_next (on (drives p e)) (on l) t (raised on p e) else raised on p e
 
 pub raised_own : (on : LineSet → Bool) (p : List Row) (t d : ℕ) (l : LineSet) → raised on (row_of_lines t d l ∷ p) d ≡ raised_next (on (drives p d)) (on l) t (raised on p d)
 raised_own on p t d l = λ i. if eq_self d i then raised_next (on (drives p d)) (on l) t (raised on p d) else raised on p d

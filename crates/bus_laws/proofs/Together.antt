@@ -78,7 +78,7 @@ standing_next s p row st m g apart = standing_after s p row st m g.order g.obeys
 
 -- ---- a row where RST is false
 
-always_is : (s : ScenarioValue) (p : List Row) → Standing s p → (bus p).rst ≡ false → CalmStanding s p
+pub always_is : (s : ScenarioValue) (p : List Row) → Standing s p → (bus p).rst ≡ false → CalmStanding s p
 always_is s p st calm = record {
   devices = st.devices;
   lawful = st.lawful;

@@ -18,21 +18,18 @@ use Rattle.bus_lines.specs.Handshakes.{Handshakes}
 use Rattle.bus_lines.specs.BusView.{BusViewValue, IsBusViewOf}
 use Rattle.bus_lines.specs.Timely.{IsTimely, IsBefore, IsArbitrationBefore, IsCallingBefore, IsCallBefore, IsConnectionBefore, AreHandshakesBefore}
 use Rattle.bus_lines.proofs.Early.{handshakes_before}
+use Rattle.bus_base.proofs.Tests.{if_less}
 
 abbrev pub ComeBefore : ℕ → List Row → Type 0
 ComeBefore end rows = AllByRecursion (λ (row : Row). row.time < end) rows
 
-either : (q : Bool) (x y end : ℕ) → x < end → y < end → (if q then x else y) < end
-either true x y end l m = l
-either false x y end l m = m
-
 since_before : (end : ℕ) → 0 < end → (seen : LineSet → ℕ) (rows : List Row) → ComeBefore end rows → since seen rows < end
 since_before end z seen [] h = z
-since_before end z seen (row ∷ rows) h = either _ _ _ end (since_before end z seen rows h.1) h.0
+since_before end z seen (row ∷ rows) h = if_less _ _ _ end (since_before end z seen rows h.1) h.0
 
 line_before : (end : ℕ) → 0 < end → (on : LineSet → Bool) (rows : List Row) → ComeBefore end rows → since_line on rows < end
 line_before end z on [] h = z
-line_before end z on (row ∷ rows) h = either _ _ _ end (line_before end z on rows h.1) h.0
+line_before end z on (row ∷ rows) h = if_less _ _ _ end (line_before end z on rows h.1) h.0
 
 times_before : (end : ℕ) → 0 < end → (rows : List Row) → ComeBefore end rows → AreTimesBefore end (line_times rows)
 times_before end z rows h = record {

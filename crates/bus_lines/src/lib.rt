@@ -28,4 +28,4 @@ pub use effect::{RowEffect, effect_of, no_effect};
 pub use handshakes::{Handshakes, Request};
 pub use laws::{few_requests_wait, views_are_timely};
 pub use stage::{Stage, call_stage};
-pub use view::BusView;
+pub use view::{BusView, see_call};

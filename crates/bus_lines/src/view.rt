@@ -1,10 +1,10 @@
 //! The running view of the bus, as devices have it.
-ghost use Rattle.std.specs.Prelude.{ℕ, ◌≡◌, ◌<◌, ◌∷◌, [], List};
+ghost use Rattle.std.specs.Prelude.{ℕ, ◌≡◌, ◌<◌, ◌∷◌, [], List, None};
 ghost use Rattle.bus_trace.specs.declared.Row.{Row};
 ghost use Rattle.bus_trace.specs.LineSet.{line_of};
 ghost use Rattle.bus_trace.specs.Trace.{IsViewOf, bus, drives, since, last_time};
 ghost use Rattle.bus_trace.specs.Changes.{change_of};
-ghost use Rattle.bus_trace.specs.Terms.{connection};
+ghost use Rattle.bus_trace.specs.Terms.{connection, connection_after, call_after};
 ghost use Rattle.bus_lines.specs.Stage.{stage};
 ghost use Rattle.bus_lines.specs.Effect.{effect};
 ghost use Rattle.bus_lines.specs.Handshakes.{handshakes};
@@ -161,9 +161,9 @@ impl BusView {
         let free = self.lines.free_since();
         let change = change_by(&mut self.lines, row);
         let stood = self.connection;
-        self.connection = connection_after(self.connection, self.call, &change, row);
+        see_connection(&mut self.connection, &self.call, &change, row);
         self.arbitration = arbitration_after(self.arbitration, free, &change, row);
-        self.call = call_after(self.call, &change, row);
+        see_call(&mut self.call, &change, row);
         self.handshakes.step(self.connection, &change, row);
         self.effect = effect_of(stood, self.connection, change, row);
     }
@@ -185,4 +185,48 @@ fn change_by(lines: &mut LineView, row: &Row) -> Change
         own,
         next,
     }
+}
+
+// The connection that a row begins, if it does.
+fn new_connection(call: &Option<Call>, change: &Change, row: &Row) -> Option<Connection>
+    ensures { result ≡ connection_after None call.now change.now row.now }
+{
+    connection_after(None, *call, change, row)
+}
+
+// The connection after a row. While one stands, only BSY ends it.
+fn see_connection(
+    connection: &mut Option<Connection>,
+    call: &Option<Call>,
+    change: &Change,
+    row: &Row,
+)
+    ensures { connection.new ≡ connection_after connection.old call.now change.now row.now }
+{
+    match connection {
+        None => *connection = new_connection(call, change, row),
+        Some(_) => {
+            if !change.after.bsy() {
+                *connection = None;
+            }
+        }
+    }
+}
+
+/// The call that stands goes on by a row. Where none stands before the row and SEL is false after it, there is none.
+pub fn see_call(call: &mut Option<Call>, change: &Change, row: &Row)
+    requires { row.now.dev < 8 }
+    ensures { call.new ≡ call_after call.old change.now row.now }
+{
+    if call.is_some() || change.after.sel() {
+        renew_call(call, change, row);
+    }
+}
+
+// A function of its own, since each call pays for the room of its copies.
+fn renew_call(call: &mut Option<Call>, change: &Change, row: &Row)
+    requires { row.now.dev < 8 }
+    ensures { call.new ≡ call_after call.old change.now row.now }
+{
+    *call = call_after(*call, change, row);
 }

@@ -2,7 +2,6 @@
 use Rattle.std.proofs.Common.{ℕ, ◌≡◌, true, List, Some, sym, ap, subst, ◌∙◌}
 use Rattle.std.specs.Prelude.{◌==◌}
 use Rattle.std.proofs.lemmas.Bool.{true≢false}
-use Rattle.scsi_device.proofs.Finds.{number_is}
 use Rattle.bus_trace.specs.declared.Row.{Row}
 use Rattle.bus_trace.specs.declared.connection.Connection.{Connection}
 use Rattle.bus_trace.specs.Terms.{connection}
@@ -17,6 +16,8 @@ use Rattle.bus_run.proofs.Seams.{not_called, not_calling}
 use Rattle.bus_members.specs.declared.member.Member.{Member}
 use Rattle.bus_members.specs.declared.member.Member.TheVariants.{Initiator, Target}
 use Rattle.bus_members.specs.Members.{IsHost, IsTarget, IsMember}
+use Rattle.bus_base.proofs.Tests.{eq_self}
+use Rattle.bus_members.proofs.Overs.{same_host}
 
 pub initiator_is : (s : ScenarioValue) (rows : List Row) (dev : ℕ) (m : Member) (host : HostValue) → m ≡ Initiator host → IsMember s rows dev m → IsHost s rows dev host
 initiator_is s rows dev m host e h = subst (λ (x : Member). IsMember s rows dev x) e h
@@ -24,22 +25,19 @@ initiator_is s rows dev m host e h = subst (λ (x : Member). IsMember s rows dev
 pub target_is : (s : ScenarioValue) (rows : List Row) (dev : ℕ) (m : Member) (target : TargetValue) → m ≡ Target target → IsMember s rows dev m → IsTarget s rows dev target
 target_is s rows dev m target e h = subst (λ (x : Member). IsMember s rows dev x) e h
 
-same_as : (m n : ℕ) → m ≡ n → (m == n) ≡ true
-same_as m n e = ap (λ (k : ℕ). m == k) (sym e) ∙ number_is m
-
 pub never_called : (s : ScenarioValue) (rows : List Row) (dev : ℕ) (host : HostValue) (n : Connection) → IsHost s rows dev host → seams s rows ≡ true → connection rows ≡ Some n → n.target ≡ dev → ⊥
 never_called s rows dev host n h t k e =
-    true≢false (sym (same_as n.target host.def.dev (e ∙ sym h.named)) ∙ not_called s rows host.def n h.after.line t k)
+    true≢false (sym (same_host n.target host.def.dev (e ∙ sym h.named)) ∙ not_called s rows host.def n h.after.line t k)
 
 pub calls_not : (s : ScenarioValue) (rows : List Row) (dev : ℕ) (target : TargetValue) (n : Connection) → target.def.dev ≡ dev → IsTargetLine s target.def → seams s rows ≡ true → connection rows ≡ Some n → n.initiator ≡ dev → ⊥
 calls_not s rows dev target n named line t k e =
-    true≢false (sym (same_as n.initiator target.def.dev (e ∙ sym named)) ∙ not_calling s rows target.def n line t k)
+    true≢false (sym (same_host n.initiator target.def.dev (e ∙ sym named)) ∙ not_calling s rows target.def n line t k)
 
 pub never_calls : (s : ScenarioValue) (rows : List Row) (dev : ℕ) (target : TargetValue) (n : Connection) → IsTarget s rows dev target → seams s rows ≡ true → connection rows ≡ Some n → n.initiator ≡ dev → ⊥
 never_calls s rows dev target n h = calls_not s rows dev target n h.named h.after.knows.line
 
 pub own_connection : (s : ScenarioValue) (rows : List Row) (dev : ℕ) (host : HostValue) (n : Connection) → IsHost s rows dev host → connection rows ≡ Some n → n.initiator ≡ dev → initiators.IsOwnConnection rows host.def.dev n
-own_connection s rows dev host n h k e = record { stands = k; own = same_as n.initiator host.def.dev (e ∙ sym h.named) }
+own_connection s rows dev host n h k e = record { stands = k; own = same_host n.initiator host.def.dev (e ∙ sym h.named) }
 
 pub called_connection : (s : ScenarioValue) (rows : List Row) (dev : ℕ) (target : TargetValue) (n : Connection) → IsTarget s rows dev target → connection rows ≡ Some n → n.target ≡ dev → targets.IsOwnConnection rows target.def.dev n
-called_connection s rows dev target n h k e = record { stands = k; own = same_as n.target target.def.dev (e ∙ sym h.named) }
+called_connection s rows dev target n h k e = record { stands = k; own = same_host n.target target.def.dev (e ∙ sym h.named) }

@@ -4,7 +4,6 @@ use Rattle.std.specs.Prelude.{◌==◌, ◌||◌, slice_set, slice_index_or, if�
 use Rattle.std.specs.List.{find}
 use Rattle.std.proofs.lemmas.Bool.{true≢false}
 use Rattle.std.proofs.lemmas.Grind.{common_steps, elements}
-use Rattle.scsi_device.proofs.Finds.{number_is}
 use Rattle.bus_trace.specs.declared.Row.{Row}
 use Rattle.scenario.specs.declared.value.CmdDef.{CmdDef}
 use Rattle.scenario.specs.declared.value.HostDef.{HostDef}
@@ -32,9 +31,10 @@ use Rattle.bus_members.specs.Answers.{is_answered, sense_is_over}
 use Rattle.bus_members.specs.Members.{IsHost, IsTarget, IsMember}
 use Rattle.bus_members.specs.Over.{IsHostOver, IsMemberOver, HasNone, IsPlaceOver, AreUnitsAt}
 use Rattle.bus_members.proofs.Answered.{IsAnswered, answered}
+use Rattle.bus_base.proofs.Tests.{eq_self}
 
 pub same_host : (m n : ℕ) → m ≡ n → (m == n) ≡ true
-same_host m n e = ap (λ (k : ℕ). m == k) (sym e) ∙ number_is m
+same_host m n e = ap (λ (k : ℕ). m == k) (sym e) ∙ eq_self m
 
 -- ---- which device it is
 

@@ -1,11 +1,11 @@
 -- What comes back to the initiators of a run.
-use Rattle.std.specs.Prelude.{ℕ, ◌+◌, ◌==◌, ◌&&◌, ◌||◌, not, Bool, true, false, List, [], ◌∷◌, take, Option, Some, None}
+use Rattle.std.specs.Prelude.{ℕ, ◌+◌, ◌==◌, ◌&&◌, ◌||◌, not, Bool, true, false, List, [], ◌∷◌, length, nat_le, take, Option, Some, None}
 use Rattle.bus_base.specs.declared.ProcId.{ProcId}
 use Rattle.bus_trace.specs.declared.Row.{Row}
 use Rattle.cdb_codec.specs.declared.status.TheConstants.{GOOD, QUEUE_FULL}
 use Rattle.scenario.specs.declared.value.CmdDef.{CmdDef}
 use Rattle.scenario.specs.Value.{ScenarioValue}
-use Rattle.bus_story.specs.Outcomes.{ending_of, has_end}
+use Rattle.bus_story.specs.Outcomes.{ending_of, has_end, reply_bytes}
 use Rattle.bus_story.specs.Story.{Ending, by_status, by_loss, by_reset, by_abort, unanswered, Story}
 use Rattle.bus_due.specs.RunSteps.{run_state}
 use Rattle.initiator.specs.Books.{my_book}
@@ -46,17 +46,44 @@ came s b c id = take (room_of s c id.sense) (moved_of b id).bytes
 abbrev pub is_reply : ScenarioValue → Story → CmdDef → ProcId → Bool
 is_reply s b c id = is_reply_of s b.history id (came s b c id)
 
+abbrev pub is_replied : ScenarioValue → Story → ℕ → CmdDef → Bool
+is_replied s b n c =
+    (not (is_good (ending_of b.ended n)) || is_reply s b c (command_of n))
+    && (not (has_end b.history (sense_of n)) || is_reply s b c (sense_of n))
+
+-- The commands from the n-th on.
+abbrev pub are_replied_from : ScenarioValue → Story → ℕ → List CmdDef → Bool
+are_replied_from s b n [] = true
+are_replied_from s b n (c ∷ commands) = is_replied s b n c && are_replied_from s b (n + 1) commands
+
+-- After these rows what came is the reply.
+abbrev pub are_replied : ScenarioValue → List Row → Bool
+are_replied s rows = are_replied_from s (run_state s rows).story 1 s.commands
+
+-- ---- the initiator of a command has room for all of its reply
+
+abbrev pub fits_room : ScenarioValue → Story → CmdDef → ProcId → Bool
+fits_room s b c id = nat_le (length (reply_bytes s b.history id)) (room_of s c id.sense)
+
+-- The commands from the n-th on.
+abbrev pub fit_rooms_from : ScenarioValue → Story → ℕ → List CmdDef → Bool
+fit_rooms_from s b n [] = true
+fit_rooms_from s b n (c ∷ commands) = fits_room s b c (command_of n) && fit_rooms_from s b (n + 1) commands
+
+-- After these rows.
+abbrev pub fit_rooms : ScenarioValue → List Row → Bool
+fit_rooms s rows = fit_rooms_from s (run_state s rows).story 1 s.commands
+
+-- ---- and the outcome is known
+
 abbrev pub is_answered : ScenarioValue → Story → ℕ → CmdDef → Bool
-is_answered s b n c =
-    is_settled (ending_of b.ended n) (has_end b.history (sense_of n)) (sense_is_over s b n c)
-    && ((not (is_good (ending_of b.ended n)) || is_reply s b c (command_of n))
-    && (not (has_end b.history (sense_of n)) || is_reply s b c (sense_of n)))
+is_answered s b n c = is_settled (ending_of b.ended n) (has_end b.history (sense_of n)) (sense_is_over s b n c) && is_replied s b n c
 
 -- The commands from the n-th on.
 abbrev pub are_answered_from : ScenarioValue → Story → ℕ → List CmdDef → Bool
 are_answered_from s b n [] = true
 are_answered_from s b n (c ∷ commands) = is_answered s b n c && are_answered_from s b (n + 1) commands
 
--- After these rows the outcome of each command is known, and what came is the reply.
+-- After these rows the outcome of each command is known, no byte was taken back, and what came is the reply.
 abbrev pub are_answered : ScenarioValue → List Row → Bool
 are_answered s rows = undoes_no_byte s rows && are_answered_from s (run_state s rows).story 1 s.commands

@@ -12,7 +12,7 @@ use Rattle.bus_rules.specs.declared.course.Course.{Course}
 use Rattle.bus_phases.specs.declared.dialogue.Dialogue.{Dialogue}
 use Rattle.bus_phases.specs.declared.raises.Raises.{Raises}
 use Rattle.bus_trace.specs.declared.agreements.Agreement.{Agreement}
-use Rattle.std.proofs.lemmas.Bool.{and_parts, and_from}
+use Rattle.std.proofs.lemmas.Bool.{and_parts, and_from, not-true, and_right}
 use Rattle.std.proofs.lemmas.Bool.Decides.{nat_tests}
 use Rattle.bus_trace.specs.Trace.{IsViewOf, drives, driven_after, since, since_line}
 use Rattle.bus_trace.specs.declared.changes.Change.{Change}
@@ -46,12 +46,9 @@ use Rattle.bus_rules.specs.Judging.{Running, IsCourseOf, IsTermsOf}
 use Rattle.bus_rules.proofs.First.{none_broken}
 use Rattle.bus_phases.proofs.Agreeing.{agreeing}
 use Rattle.bus_rules.proofs.Courses.{goes_on}
+use Rattle.bus_base.proofs.Tests.{or_false, is_nothing}
 
 -- ---- tests
-
-is_false : (a : Bool) → not a ≡ true → a ≡ false
-is_false true e = absurd cc
-is_false false e = refl
 
 are_same : (a b : Bool) → same a b ≡ true → a ≡ b
 are_same true true e = refl
@@ -68,10 +65,6 @@ no_fall : (a b : Bool) → a ≡ b → falls a b ≡ false
 no_fall true true e = refl
 no_fall true false e = absurd cc
 no_fall false b e = refl
-
-and_false : (a b : Bool) → b ≡ false → (a && b) ≡ false
-and_false true b e = e
-and_false false b e = refl
 
 -- what implies nothing
 never : (p q : Bool) → p ≡ false → implies p q ≡ true
@@ -144,10 +137,10 @@ is_quiet c e =
     let own_first = and_parts _ _ own_hold.0 in
     record {
       bsy = on.0;
-      sel = is_false _ on.1;
-      rst = is_false _ off.1;
-      msg = is_false _ phase.0;
-      cd = is_false _ phase.1;
+      sel = not-true _ on.1;
+      rst = not-true _ off.1;
+      msg = not-true _ phase.0;
+      cd = not-true _ phase.1;
       bsy_after = are_same _ _ first.0;
       sel_after = are_same _ _ first.1;
       rst_after = are_same _ _ hold.1;
@@ -157,7 +150,7 @@ is_quiet c e =
       own_bsy = are_same _ _ own_first.0;
       own_sel = are_same _ _ own_first.1;
       own_rst = are_same _ _ own_hold.1;
-      own_rst_false = is_false _ down.1;
+      own_rst_false = not-true _ down.1;
     }
 
 -- ---- rules 1 to 13, 27 and 28
@@ -201,10 +194,10 @@ time_out_kept : (s : Seen) (row : Row) → s.call ≡ None → test 12 s row ≡
 time_out_kept s row alone = λ i. keeps_time_out_of s row (alone i)
 
 taken_over : (s : Seen) (row : Row) (n : Connection) → IsQuiet s.change → takes_over s row (Some n) ≡ true
-taken_over s row n q = λ i. implies (and_false (n.reselected && row.dev == n.initiator) _ (no_fall _ _ q.own_bsy) i) (is_within s.change.next (record none { atn = true }))
+taken_over s row n q = λ i. implies (and_right (n.reselected && row.dev == n.initiator) _ (no_fall _ _ q.own_bsy) i) (is_within s.change.next (record none { atn = true }))
 
 freeing_kept : (s : Seen) (row : Row) (n : Connection) → IsQuiet s.change → frees_well s row (Some n) ≡ true
-freeing_kept s row n q = λ i. implies (and_false (row.dev == n.target) _ (no_fall _ _ q.own_bsy) i) (not s.change.before.req && not s.change.before.ack && raises_none s.change)
+freeing_kept s row n q = λ i. implies (and_right (row.dev == n.target) _ (no_fall _ _ q.own_bsy) i) (not s.change.before.req && not s.change.before.ack && raises_none s.change)
 
 reset_kept : (s : Seen) (row : Row) → IsQuiet s.change → test 28 s row ≡ true
 reset_kept s row q =
@@ -250,7 +243,7 @@ asking_kept s n time e = go (rises s.change.before.req s.change.after.req) e
     go : (r : Bool) → implies r (nat_le (max (phase_time s.times) n.began + BUS_SETTLE_DELAY) time && not (is_owed s.duty) && not s.initiator_bsy) ≡ true → (implies r (not s.initiator_bsy) ≡ true) × (implies (r && is_owed s.duty) (is_message_out s.change.before) ≡ true)
     go true e =
         let rest = and_parts _ _ e in
-        let owed = is_false _ (and_parts _ _ rest.0).1 in
+        let owed = not-true _ (and_parts _ _ rest.0).1 in
         (rest.1, λ i. implies (owed i) (is_message_out s.change.before))
     go false e = (refl, refl)
 
@@ -324,7 +317,7 @@ stands c since time = go (c.before.data_bits == c.after.data_bits)
     go false = refl
 
 no_command_phase : (c : Change) → IsQuiet c → is_command c.before ≡ false
-no_command_phase c q = λ i. and_false (not c.before.msg) c.before.cd q.cd i && not c.before.io
+no_command_phase c q = λ i. and_right (not c.before.msg) c.before.cd q.cd i && not c.before.io
 
 abbrev Crosses : Seen → Type 0
 Crosses s = crosses s ≡ crosses_in s.change
@@ -399,7 +392,7 @@ leaving_kept : (s : Seen) (row : Row) → IsQuiet s.change → test 23 s row ≡
 leaving_kept s row q =
     let still = no_change s q in
     let falls_not = no_fall _ _ q.bsy_after in
-    never _ _ (and_false _ _ (λ i. still i || falls_not i))
+    never _ _ (and_right _ _ (λ i. still i || falls_not i))
 
 -- ---- all rules
 
@@ -410,10 +403,6 @@ not_in_reset s q = λ i. q.rst i || (sym q.rst_after ∙ q.rst) i
 by_test : (r t : Bool) → t ≡ true → (if r then true else t) ≡ true
 by_test true t e = refl
 by_test false t e = e
-
-is_nothing : {A : Type 0} (x : Option A) → is_none x ≡ true → x ≡ None
-is_nothing None e = refl
-is_nothing (Some a) e = absurd cc
 
 abbrev Passes : Seen → Row → Type 0
 Passes s row = passes (standing_of s) s.change row ≡ true
@@ -434,7 +423,7 @@ in_connection s row n er conn call arbitration order move quiet h =
     none_broken (λ m. keeps m s row) judged_rules (
       order,
       (
-        news s row row.kind (is_false _ two.0) (is_false _ two.1),
+        news s row row.kind (not-true _ two.0) (not-true _ two.1),
         (
           by_test r _ (free_bus s row q),
           (
@@ -591,10 +580,6 @@ duty_moves u n c held q =
     let phase : false ≡ changes_phase c = sym (λ i. not (q.phase i)) in
     λ i. if kept i || rises c.before.req c.after.req then duties.Nothing else if falls c.before.ack c.after.ack && held then (if inward i then duties.Owed else if out i then u else duties.Asked) else if phase i then duty_left u else u
 
-or_none : (b : Bool) → (b || false) ≡ b
-or_none true = refl
-or_none false = refl
-
 pub moved : (rows : List Row) (row : Row) (k : Course) (held : Bool) → IsCourseOf rows k → held ≡ is_attention_held (change_of rows row) (since_line (λ s. s.atn) rows) row.time → passes (standing_after rows) (change_of rows row) row ≡ true → IsCourseOf (row ∷ rows) (course_after_transfer k held (change_of rows row) row.time)
 unfolding seen_with
 moved rows row k held h eh e = go (connection rows) refl p.2
@@ -648,7 +633,7 @@ moved rows row k held h eh e = go (connection rows) refl p.2
         (conn ∙ (sym (λ i. if bsy i then Some n else None) ∙ (λ i. connection_after (back i) k.call c row)))
         refl
         ((λ i. if still i then no_pulses else pulses_on k.pulses c row.time) ∙ (λ i. pulses_after k.pulses (back i) c row.time))
-        (sym (or_none k.turned) ∙ ((λ i. k.turned || sym rise i) ∙ (λ i. turned_after k.turned (back i) c)))
+        (sym (or_false k.turned) ∙ ((λ i. k.turned || sym rise i) ∙ (λ i. turned_after k.turned (back i) c)))
         (duty_moves k.duty n c held q ∙ (λ i. duty_after k.duty (back i) c held))
         (agreeing (agreed rows) (λ i t. if c.after.rst then asynchronous else closed_agreement_by k.connection c.after.bsy k.dialogue.heard.now i t (agreed rows i t)) k.agreed
         (λ i t. sym (λ j. if rst j then asynchronous else closed_agreement_by (conn j) (bsy j) k.dialogue.heard.now i t (agreed rows i t))) h.agreed)

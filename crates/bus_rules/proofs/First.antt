@@ -54,11 +54,11 @@ lowest kept (n ∷ ns) up rule e =
 
 -- ---- no broken rule
 
-kept_step : (kept : ℕ → Bool) (n : ℕ) (ns : List ℕ) (q : Bool) → kept n ≡ q → (first_broken kept ns ≡ None → AllByRecursion (λ m. kept m ≡ true) ns) → cond q (first_broken kept ns) (Some n) ≡ None → AllByRecursion (λ m. kept m ≡ true) (n ∷ ns)
+pub kept_step : (kept : ℕ → Bool) (n : ℕ) (ns : List ℕ) (q : Bool) → kept n ≡ q → (first_broken kept ns ≡ None → AllByRecursion (λ m. kept m ≡ true) ns) → cond q (first_broken kept ns) (Some n) ≡ None → AllByRecursion (λ m. kept m ≡ true) (n ∷ ns)
 kept_step kept n ns true h later e = (h, later e)
 kept_step kept n ns false h later e = absurd cc
 
-all_kept : (kept : ℕ → Bool) (ns : List ℕ) → first_broken kept ns ≡ None → AllByRecursion (λ n. kept n ≡ true) ns
+pub all_kept : (kept : ℕ → Bool) (ns : List ℕ) → first_broken kept ns ≡ None → AllByRecursion (λ n. kept n ≡ true) ns
 all_kept kept [] e = tt
 all_kept kept (n ∷ ns) e = kept_step kept n ns (kept n) refl (λ later. all_kept kept ns later) e
 

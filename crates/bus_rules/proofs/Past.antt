@@ -9,11 +9,7 @@ use Rattle.bus_rules.specs.Judging.{Running, IsTermsOf}
 use Rattle.bus_rules.specs.declared.seen.Seen.{Seen}
 use Rattle.bus_rules.specs.declared.verdict.Verdict.{Verdict}
 use Rattle.bus_rules.specs.declared.verdict.Verdict.TheVariants.{Lawful, Broken}
-
--- one row more
-pub past_more : (xs : List Row) (i : ℕ) (x : Row) → i < length xs → x ≡ get_or xs i x → reverse (take (i + 1) xs) ≡ x ∷ reverse (take i xs)
-past_more xs i x h e =
-    ap (λ (ys : List Row). reverse ys) ((take_at_read xs i x h).1 ∙ ap (λ (y : Row). take i xs ++ y ∷ []) (sym e)) ∙ reverse-append (take i xs) (x ∷ [])
+use Rattle.bus_trace.proofs.OneRow.{rows_so_far}
 
 -- a broken verdict stays
 judged_stays : (more past : List Row) (place rule : ℕ) → judged past ≡ Broken place rule → judged (more ++ past) ≡ Broken place rule
@@ -33,7 +29,7 @@ whole_broken xs i place rule end e =
 pub judged_next : (xs : List Row) (i : ℕ) (x : Row) → i < length xs → x ≡ get_or xs i x → (r : Option ℕ) → broken_rule (reverse (take i xs)) x ≡ r → judged (reverse (take i xs)) ≡ Lawful → judged (reverse (take (i + 1) xs)) ≡ verdict_of (i + 1) r
 judged_next xs i x h e r b l =
     let past : List Row = reverse (take i xs) in
-    ap (λ (ys : List Row). judged ys) (past_more xs i x h e) ∙ ap (λ (v : Verdict). if_lawful v (verdict_of (length past + 1) (broken_rule past x))) l ∙ ap (λ n. verdict_of (n + 1) (broken_rule past x)) (length-reverse (take i xs) ∙ length-take-le i xs (omega arith)) ∙ ap (λ (q : Option ℕ). verdict_of (i + 1) q) b
+    ap (λ (ys : List Row). judged ys) (rows_so_far xs i x h e) ∙ ap (λ (v : Verdict). if_lawful v (verdict_of (length past + 1) (broken_rule past x))) l ∙ ap (λ n. verdict_of (n + 1) (broken_rule past x)) (length-reverse (take i xs) ∙ length-take-le i xs (omega arith)) ∙ ap (λ (q : Option ℕ). verdict_of (i + 1) q) b
 
 -- what the end breaks
 pub judged_end : (xs : List Row) (end : ℕ) (r : Option ℕ) → judged (reverse xs) ≡ Lawful → broken_at_end (reverse xs) end ≡ r → verdict_of (length xs + 1) r ≡ judged_whole (reverse xs) end

@@ -25,6 +25,7 @@ use Rattle.bus_run.specs.Seen.{AreSeen}
 use Rattle.bus_run.specs.Shown.{reading, events_shown, is_left, teller, reset_events}
 use Rattle.bus_run.proofs.Seams.{tied, is_attended_after}
 use Rattle.bus_run.proofs.Tellings.{events_are}
+use Rattle.disk_target.proofs.RowEnds.{empty_is}
 
 -- What the rows say of a row is what is kept of it.
 pub record IsRead (s : ScenarioValue) (rows : List Row) (row : Row) : Type 0 where
@@ -64,11 +65,6 @@ in_connection s rows row n q i e r h l =
     ∙ ap (λ (o : Option Connection). events_of_ends_in s (run_state s rows) o (reading s rows row)) (sym (i.before ∙ h))
     ∙ by_rst s rows row false (ap (λ (c : Change). c.after.rst) (sym i.change) ∙ r) e
 
--- The row that ends RST shows nothing.
-no_event : (shown : List Event) → is_empty shown ≡ true → shown ≡ []
-no_event [] e = refl
-no_event (x ∷ shown) e = absurd cc
-
 quiet_row : (a r w e t : Bool) → (a && (r || (if w then e else t))) ≡ true → r ≡ false → w ≡ true → e ≡ true
 quiet_row true false true e t h x y = h
 quiet_row true true w e t h x y = absurd (true≢false x)
@@ -86,7 +82,7 @@ after_reset s rows row i e b r = go (connection rows) refl
     go (Some n) h =
         let in_one : is_attended_row s (run_state s rows) (reading s rows row) (instructions s rows) (writers s rows) (events_shown s rows row) n ≡ true =
         ap (λ (o : Option Connection). is_attended_if s (run_state s rows) (reading s rows row) (instructions s rows) (writers s rows) (events_shown s rows row) o) (sym (i.before ∙ h)) ∙ attends in
-        sym (no_event (events_shown s rows row)
+        sym (empty_is (events_shown s rows row)
         (quiet_row (is_calm_turn (reading s rows row)) (reading s rows row).change.after.rst (reading s rows row).change.before.rst (is_empty (events_shown s rows row)) (is_attended_in s (run_state s rows) (reading s rows row) (instructions s rows) (writers s rows) (events_shown s rows row) n) in_one
         (ap (λ (c : Change). c.after.rst) (sym i.change) ∙ r) (ap (λ (c : Change). c.before.rst) (sym i.change) ∙ b)))
 

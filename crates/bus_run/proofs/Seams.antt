@@ -1,8 +1,7 @@
 -- The parts of what rows tie.
 use Rattle.std.proofs.Common.{ℕ, ◌≡◌, Bool, true, false, List, [], ◌∷◌, Option, Some, refl, sym, ap, subst, ◌∙◌}
 use Rattle.std.specs.Prelude.{◌==◌, ◌&&◌, is_some}
-use Rattle.std.proofs.lemmas.Bool.{and_parts, and_from, true≢false}
-use Rattle.scsi_device.proofs.Finds.{same_number}
+use Rattle.std.proofs.lemmas.Bool.{and_parts, and_from, true≢false, eqb-true}
 use Rattle.bus_trace.specs.declared.Row.{Row}
 use Rattle.bus_trace.specs.declared.connection.Connection.{Connection}
 use Rattle.bus_trace.specs.Terms.{connection}
@@ -89,7 +88,7 @@ not_same : (m dev : ℕ) → (m ≡ dev → ⊥) → (m == dev) ≡ false
 not_same m dev f = go (m == dev) refl
   where
     go : (q : Bool) → (m == dev) ≡ q → q ≡ false
-    go true e = absurd (f (same_number m dev e))
+    go true e = absurd (f (eqb-true m dev e))
     go false e = refl
 
 pub not_called : (s : ScenarioValue) (rows : List Row) (h : HostDef) (n : Connection) → IsHostLine s h → seams s rows ≡ true → connection rows ≡ Some n → (n.target == h.dev) ≡ false

@@ -1,19 +1,17 @@
 -- Devices are told of a row one by one.
 use Rattle.std.proofs.Common.{inl, inr, ℕ, ◌≡◌, ◌≢◌, ◌<◌, ◌≤◌, ◌+◌, ◌∙◌, Bool, true, false, List, ◌∷◌, Option, Some, None, refl, sym, ap, subst, arith}
 use Rattle.std.specs.Prelude.{slice_index_or, nat_lt, ◌==◌, ◌||◌, if◌then◌else◌}
-use Rattle.std.proofs.lemmas.Bool.{cases_eq}
+use Rattle.std.proofs.lemmas.Bool.{cases_eq, lt-ltb}
 use Rattle.std.proofs.lemmas.Bool.Decides.{nat_tests}
-use Rattle.scsi_device.proofs.Finds.{number_is, some_is}
+use Rattle.scsi_device.proofs.Finds.{some_is}
 use Rattle.bus_trace.specs.declared.Row.{Row}
 use Rattle.bus_trace.specs.declared.connection.Connection.{Connection}
 use Rattle.scenario.specs.Value.{ScenarioValue}
 use Rattle.bus_run.specs.Places.{IsIn, AreIn, is_one, rows_told, AreKnownBut}
+use Rattle.bus_base.proofs.Tests.{or_true, eq_self, nothing_below}
 
 below_more : (d dev : ℕ) → d ≢ dev → nat_lt d (dev + 1) ≡ nat_lt d dev
 below_more d dev ne = grind (arith, nat_tests)
-
-below_none : (d : ℕ) → nat_lt d 0 ≡ false
-below_none d = grind (arith, nat_tests)
 
 below_self : (d : ℕ) → nat_lt d d ≡ false
 below_self d = grind (arith, nat_tests)
@@ -21,15 +19,8 @@ below_self d = grind (arith, nat_tests)
 below_next : (d : ℕ) → nat_lt d (d + 1) ≡ true
 below_next d = grind (arith, nat_tests)
 
-below_is : (d n : ℕ) → d < n → nat_lt d n ≡ true
-below_is d n lt = grind (arith, nat_tests)
-
 other_one : (d one : ℕ) → d ≢ one → (one == d) ≡ false
 other_one d one ne = grind (arith, nat_tests)
-
-or_true : (q : Bool) → (q || true) ≡ true
-or_true true = refl
-or_true false = refl
 
 told_next : (rows : List Row) (row : Row) (dev : ℕ) (one : Option ℕ) (d : ℕ) → d ≢ dev → rows_told rows row (dev + 1) one d ≡ rows_told rows row dev one d
 told_next rows row dev one d ne = ap (λ (q : Bool). if q || is_one one d then row ∷ rows else rows) (below_more d dev ne)
@@ -72,23 +63,23 @@ told {D} IsOf s rows row dev one xs ys lt apart seen others h d b =
 pub all_told : {D : Type 0} → (IsOf : ScenarioValue → List Row → ℕ → D → Type 0) (s : ScenarioValue) (rows : List Row) (row : Row) (k : ℕ) (one : Option ℕ) (xs : List (Option D)) → 8 ≤ k → AreKnownBut IsOf s rows row k one xs → AreIn IsOf s (row ∷ rows) xs
 all_told {D} IsOf s rows row k one xs le h d lt =
     let under : d < k = omega arith in
-    subst (λ (r : List Row). IsIn IsOf s r d (slice_index_or xs d None)) (told_below rows row k one d (below_is d k under)) (h d lt)
+    subst (λ (r : List Row). IsIn IsOf s r d (slice_index_or xs d None)) (told_below rows row k one d (lt-ltb d k under)) (h d lt)
 
 -- None is told, and there is none that is told first.
 pub none_told : {D : Type 0} → (IsOf : ScenarioValue → List Row → ℕ → D → Type 0) (s : ScenarioValue) (rows : List Row) (row : Row) (xs : List (Option D)) → AreIn IsOf s rows xs → AreKnownBut IsOf s rows row 0 None xs
 none_told {D} IsOf s rows row xs h d lt =
-    subst (λ (r : List Row). IsIn IsOf s r d (slice_index_or xs d None)) (sym (told_not rows row 0 None d (below_none d) refl)) (h d lt)
+    subst (λ (r : List Row). IsIn IsOf s r d (slice_index_or xs d None)) (sym (told_not rows row 0 None d (nothing_below d) refl)) (h d lt)
 
 -- One is told first.
 pub one_told : {D : Type 0} → (IsOf : ScenarioValue → List Row → ℕ → D → Type 0) (s : ScenarioValue) (rows : List Row) (row : Row) (one : ℕ) (xs ys : List (Option D)) → one < 8 → (IsIn IsOf s rows one (slice_index_or xs one None) → IsIn IsOf s (row ∷ rows) one (slice_index_or ys one None)) → ((d : ℕ) → d ≢ one → slice_index_or ys d None ≡ slice_index_or xs d None) → AreIn IsOf s rows xs → AreKnownBut IsOf s rows row 0 (Some one) ys
 one_told {D} IsOf s rows row one xs ys lt seen others h d b =
     elim (cases_eq d one) [
       | inl same ↦ subst (λ (k : ℕ). IsIn IsOf s (rows_told rows row 0 (Some one) k) k (slice_index_or ys k None)) (sym same) here
-      | inr ne ↦ subst (λ (y : Option D). IsIn IsOf s (rows_told rows row 0 (Some one) d) d y) (sym (others d ne)) (subst (λ (r : List Row). IsIn IsOf s r d (slice_index_or xs d None)) (sym (told_not rows row 0 (Some one) d (below_none d) (other_one d one ne))) (h d b))
+      | inr ne ↦ subst (λ (y : Option D). IsIn IsOf s (rows_told rows row 0 (Some one) d) d y) (sym (others d ne)) (subst (λ (r : List Row). IsIn IsOf s r d (slice_index_or xs d None)) (sym (told_not rows row 0 (Some one) d (nothing_below d) (other_one d one ne))) (h d b))
     ]
   where
     here : IsIn IsOf s (rows_told rows row 0 (Some one) one) one (slice_index_or ys one None)
-    here = subst (λ (r : List Row). IsIn IsOf s r one (slice_index_or ys one None)) (sym (told_one rows row 0 (Some one) one (number_is one))) (seen (h one lt))
+    here = subst (λ (r : List Row). IsIn IsOf s r one (slice_index_or ys one None)) (sym (told_one rows row 0 (Some one) one (eq_self one))) (seen (h one lt))
 
 pub initiator_is : (o : Option Connection) (n m : Connection) (one : ℕ) → o ≡ Some n → o ≡ Some m → one ≡ n.initiator → m.initiator ≡ one
 initiator_is o n m one e f first = ap (λ (k : Connection). k.initiator) (some_is m n (sym f ∙ e)) ∙ sym first

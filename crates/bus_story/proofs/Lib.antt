@@ -1,2 +1,3 @@
 mod Cases
 mod Small
+pub mod StorySteps

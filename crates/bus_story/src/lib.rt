@@ -6,15 +6,19 @@
 //! pointers, `specs/Story.antt` what is known after some rows and what an event does to it, `specs/HistoryEvents.antt`
 //! the events of a row, `specs/TraceHistory.antt` the whole, row by row, `specs/Samples.antt` what faults strike,
 //! `specs/Outcomes.antt` how commands ended, `specs/Right.antt` what belongs together, and `specs/Budget.antt` a bound
-//! on steps. It stands on `bus_rules`, `scenario` and `disk_array`. There is no code here but for laws: each is the
-//! contract of a function that does nothing.
+//! on steps. It stands on `bus_rules`, `scenario` and `disk_array`. The code here is the message that a byte makes
+//! whole, which devices and transcript read alike, and laws, each the contract of a function that does nothing.
 #![tactic(auto)]
+
+mod messages;
 
 ghost use Rattle.std.specs.Prelude.{◌≡◌, List, [], ◌∷◌, ◌++◌};
 ghost use Rattle.bus_trace.specs.declared.Row.{Row};
 ghost use Rattle.scenario.specs.Value.{ScenarioValue};
 ghost use Rattle.bus_story.specs.Story.{empty_story};
 ghost use Rattle.bus_story.specs.TraceHistory.{story, story_after, row_events, trace_history};
+
+pub use messages::{message_in, message_out};
 
 /// The story of one row more is that of the rows before it, and then what this row does.
 pub fn stories_go_on()

@@ -6,6 +6,8 @@ use Rattle.std.proofs.lemmas.Bool.Decides.{nat_tests}
 use Rattle.bus_trace.specs.LineSet.{LineSet, bit_value, line_of, same}
 use Rattle.bus_trace.specs.declared.rows.Row.{Row}
 use Rattle.bus_trace.specs.Trace.{bus, newer, since, since_line}
+use Rattle.std.proofs.lemmas.Bool.{ne_eqb, eq-eqb}
+use Rattle.bus_base.proofs.Tests.{if_less}
 
 -- a line by its number
 pub line_bsy : (s : LineSet) → line_of 9 s ≡ bit_value s.bsy 1
@@ -50,12 +52,6 @@ if_yes q x y e = λ i. if e i then x else y
 if_no : (q : Bool) (x y : ℕ) → q ≡ false → (if q then x else y) ≡ y
 if_no q x y e = λ i. if e i then x else y
 
-eqb_yes : (m n : ℕ) → m ≡ n → (m == n) ≡ true
-eqb_yes m n e = grind (arith, nat_tests)
-
-eqb_no : (m n : ℕ) → m ≢ n → (m == n) ≡ false
-eqb_no m n e = grind (arith, nat_tests)
-
 same_yes : (a b : Bool) → a ≡ b → same a b ≡ true
 same_yes true b e = sym e
 same_yes false true e = e
@@ -75,12 +71,8 @@ if_le false was time h = omega arith
 pub newer_le : (seen : LineSet → ℕ) (a b : LineSet) (was time age : ℕ) → age ≡ newer seen a b was time → was ≤ time → age ≤ time
 newer_le seen a b was time age e h = let le = if_le (seen a == seen b) was time h in omega arith
 
-if_lt : (q : Bool) (was time end : ℕ) → was < end → time < end → (if q then was else time) < end
-if_lt true was time end h t = h
-if_lt false was time end h t = t
-
 pub newer_lt : (seen : LineSet → ℕ) (a b : LineSet) (was time age end : ℕ) → age ≡ newer seen a b was time → was < end → time < end → age < end
-newer_lt seen a b was time age end e h t = let lt = if_lt (seen a == seen b) was time end h t in omega arith
+newer_lt seen a b was time age end e h t = let lt = if_less (seen a == seen b) was time end h t in omega arith
 
 -- where nothing changed before its time, a row leaves no change after its time
 pub since_le : (seen : LineSet → ℕ) (row : Row) (rows : List Row) → since seen rows ≤ row.time → since seen (row ∷ rows) ≤ row.time
@@ -91,10 +83,10 @@ since_line_le on row rows h = if_le (same (on (bus rows)) (on (bus (row ∷ rows
 
 -- what stays keeps its time, and what changes takes that of the row
 pub since-kept : (seen : LineSet → ℕ) (row : Row) (rows : List Row) → seen (bus rows) ≡ seen (bus (row ∷ rows)) → since seen (row ∷ rows) ≡ since seen rows
-since-kept seen row rows e = if_yes _ _ _ (eqb_yes (seen (bus rows)) (seen (bus (row ∷ rows))) e)
+since-kept seen row rows e = if_yes _ _ _ (eq-eqb (seen (bus rows)) (seen (bus (row ∷ rows))) e)
 
 pub since-set : (seen : LineSet → ℕ) (row : Row) (rows : List Row) → seen (bus rows) ≢ seen (bus (row ∷ rows)) → since seen (row ∷ rows) ≡ row.time
-since-set seen row rows e = if_no _ _ _ (eqb_no (seen (bus rows)) (seen (bus (row ∷ rows))) e)
+since-set seen row rows e = if_no _ _ _ (ne_eqb (seen (bus rows)) (seen (bus (row ∷ rows))) e)
 
 pub since_line-kept : (on : LineSet → Bool) (row : Row) (rows : List Row) → on (bus rows) ≡ on (bus (row ∷ rows)) → since_line on (row ∷ rows) ≡ since_line on rows
 since_line-kept on row rows e = if_yes _ _ _ (same_yes (on (bus rows)) (on (bus (row ∷ rows))) e)
@@ -133,7 +125,7 @@ line_data k s lt = let e : nat_lt k 9 ≡ true = grind (arith, nat_tests) in if_
 pub data_stay : (b a : LineSet) (time : ℕ) (old : ℕ → ℕ) → b.data_bits ≡ a.data_bits → (k : ℕ) → k < 9 → old k ≡ newer (line_of k) b a (old k) time
 data_stay b a time old same k lt =
     let e : line_of k b ≡ line_of k a = line_data k b lt ∙ ((λ i. bit_at (same i) k) ∙ sym (line_data k a lt)) in
-    sym (if_yes (line_of k b == line_of k a) (old k) time (eqb_yes _ _ e))
+    sym (if_yes (line_of k b == line_of k a) (old k) time (eq-eqb _ _ e))
 
 -- the time of a line that differs is the newest
 pub newest_is : (k : ℕ) (b a : LineSet) (time was new : ℕ) (differs : Bool) → differs ≡ not (line_of k b == line_of k a) → new ≡ cond differs time was → new ≡ newer (line_of k) b a was time

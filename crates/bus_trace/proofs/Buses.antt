@@ -12,14 +12,8 @@ use Rattle.bus_trace.specs.View.{union_below}
 use Rattle.bus_trace.specs.declared.rows.Row.{Row}
 use Rattle.bus_trace.specs.Trace.{drives, bus}
 use Rattle.bus_trace.proofs.Bits.{or_bit}
-
-or_false : (p : Bool) → (p || false) ≡ p
-or_false true = refl
-or_false false = refl
-
-or_true : (p : Bool) → (p || true) ≡ true
-or_true true = refl
-or_true false = refl
+use Rattle.bus_base.proofs.Tests.{or_true, or_false}
+use Rattle.bus_trace.proofs.Ids.{bit_from, bit_none}
 
 -- nothing more
 pub union-none : (s : LineSet) → union s none ≡ s
@@ -128,12 +122,6 @@ data_on k s = bit_at s.data_bits k == 1
 pub data_on-union : (k : ℕ) (a b : LineSet) → data_on k (union a b) ≡ (data_on k a || data_on k b)
 data_on-union k a b = or_bit a.data_bits b.data_bits k
 
-bit_on : (b : ℕ) → (b == 1) ≡ true → b ≡ 1
-bit_on b e = grind (arith, nat_tests)
-
-bit_off : (b : ℕ) → b < 2 → (b == 1) ≡ false → b ≡ 0
-bit_off b h e = grind (arith, nat_tests)
-
 -- the same for the bus of a trace
 pub bus_none : (rows : List Row) → ((d : ℕ) → d < 8 → drives rows d ≡ none) → bus rows ≡ none
 bus_none rows h = below_none (drives rows) 8 h
@@ -155,8 +143,8 @@ bus_data_below rows k h = below_data (drives rows) 8 k h
 
 pub bus_data_on : (rows : List Row) (d k : ℕ) → d < 8 → bit_at (drives rows d).data_bits k ≡ 1 → bit_at (bus rows).data_bits k ≡ 1
 bus_data_on rows d k lt e =
-    bit_on _ (below_on (data_on k) (data_on-union k) (drives rows) 8 d lt (ap (λ b. b == 1) e))
+    bit_from _ (below_on (data_on k) (data_on-union k) (drives rows) 8 d lt (ap (λ b. b == 1) e))
 
 pub bus_data_off : (rows : List Row) (k : ℕ) → ((d : ℕ) → d < 8 → bit_at (drives rows d).data_bits k ≡ 0) → bit_at (bus rows).data_bits k ≡ 0
 bus_data_off rows k h =
-    bit_off _ (bit_at-lt _ k) (below_off (data_on k) (data_on-union k) (ap (λ b. b == 1) (bit_at-zero k)) (drives rows) 8 (λ d lt. ap (λ b. b == 1) (h d lt)))
+    bit_none _ (bit_at-lt _ k) (below_off (data_on k) (data_on-union k) (ap (λ b. b == 1) (bit_at-zero k)) (drives rows) 8 (λ d lt. ap (λ b. b == 1) (h d lt)))

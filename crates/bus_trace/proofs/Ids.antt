@@ -5,20 +5,15 @@ use Rattle.std.specs.Int.RustNames.{count_ones}
 use Rattle.std.proofs.Math.Nat.{pow-le-pow_right, mod-lt}
 use Rattle.std.proofs.lemmas.Nat.{pow_pos}
 use Rattle.std.proofs.lemmas.Nat.Bits.{bit_at-lt, bit_at-pow_same, bit_at-pow_other, bit_at_above, same_from_bits}
-use Rattle.std.proofs.lemmas.Bool.{cases_eq, cases_lt, le-leb, false≢true, and_parts}
+use Rattle.std.proofs.lemmas.Bool.{cases_eq, cases_lt, le-leb, false≢true, and_parts, ne_eqb, eq-eqb}
 use Rattle.std.proofs.lemmas.Bool.Decides.{nat_tests}
 use Rattle.bus_trace.specs.LineSet.{LineSet, union, id_set, ids_set, ids_in, has_id, has_id_above, has_odd_parity}
 use Rattle.bus_trace.proofs.Bits.{or_bit, bit_at_mod}
+use Rattle.bus_base.proofs.Tests.{or_second}
 
 -- a device's ID bit in a union
 pub has_id-union : (s t : LineSet) (k : ℕ) → has_id (union s t) k ≡ (has_id s k || has_id t k)
 has_id-union s t k = or_bit s.data_bits t.data_bits k
-
-eqb_no : (m n : ℕ) → m ≢ n → (m == n) ≡ false
-eqb_no m n e = grind (arith, nat_tests)
-
-eqb_yes : (m n : ℕ) → m ≡ n → (m == n) ≡ true
-eqb_yes m n e = grind (arith, nat_tests)
 
 -- the ID bit of a device is that of no other
 pub has_id-id_set : (d k : ℕ) → has_id (id_set d) k ≡ (d == k)
@@ -26,16 +21,16 @@ has_id-id_set d k =
     elim (cases_eq d k) [
       | inl e ↦
           let bit : bit_at (2 ^ d) k ≡ 1 = ap (λ i. bit_at (2 ^ d) i) (sym e) ∙ bit_at-pow_same d in
-          ap (λ b. b == 1) bit ∙ sym (eqb_yes d k e)
-      | inr ne ↦ ap (λ b. b == 1) (bit_at-pow_other d k (λ x. ne (sym x))) ∙ sym (eqb_no d k ne)
+          ap (λ b. b == 1) bit ∙ sym (eq-eqb d k e)
+      | inr ne ↦ ap (λ b. b == 1) (bit_at-pow_other d k (λ x. ne (sym x))) ∙ sym (ne_eqb d k ne)
     ]
 
 -- whether a test holds below n, and below m and n
-all_below : (ℕ → Bool) → ℕ → Bool
+pub all_below : (ℕ → Bool) → ℕ → Bool
 all_below f zero = true
 all_below f (suc n) = all_below f n && f n
 
-each_below : (f : ℕ → Bool) (n : ℕ) → all_below f n ≡ true → (k : ℕ) → k < n → f k ≡ true
+pub each_below : (f : ℕ → Bool) (n : ℕ) → all_below f n ≡ true → (k : ℕ) → k < n → f k ≡ true
 unfolding all_below
 each_below f zero e k lt = absurd (omega arith)
 each_below f (suc n) e k lt =
@@ -66,12 +61,12 @@ two_from n e = grind (arith, nat_tests)
 -- a selection shows two IDs
 pub ids_in-ids_set : (a b : ℕ) → a < 8 → b < 8 → a ≢ b → ids_in (ids_set a b) ≡ 2
 ids_in-ids_set a b la lb ne =
-    two_from _ (good_parts (a == b) (ids_in (ids_set a b) == 2) (has_odd_parity (ids_set a b)) (good_pairs a b la lb) (eqb_no a b ne)).0
+    two_from _ (good_parts (a == b) (ids_in (ids_set a b) == 2) (has_odd_parity (ids_set a b)) (good_pairs a b la lb) (ne_eqb a b ne)).0
 
 -- with odd parity
 pub ids_odd : (a b : ℕ) → a < 8 → b < 8 → a ≢ b → has_odd_parity (ids_set a b) ≡ true
 ids_odd a b la lb ne =
-    (good_parts (a == b) (ids_in (ids_set a b) == 2) (has_odd_parity (ids_set a b)) (good_pairs a b la lb) (eqb_no a b ne)).1
+    (good_parts (a == b) (ids_in (ids_set a b) == 2) (has_odd_parity (ids_set a b)) (good_pairs a b la lb) (ne_eqb a b ne)).1
 
 abbrev same_test : Bool → Bool → Bool
 same_test true q = q
@@ -86,10 +81,6 @@ same_from true q e = sym e
 same_from false true e = e
 same_from false false e = refl
 
-or_right : (p q : Bool) → (p || q) ≡ true → p ≡ false → q ≡ true
-or_right true q e n = absurd (false≢true (sym n))
-or_right false q e n = e
-
 shown : (k a b : ℕ) → k < 8 → a < 8 → b < 8 → shows a b k ≡ true
 unfolding all_below
 shown k a b lk la lb =
@@ -97,12 +88,12 @@ shown k a b lk la lb =
 
 pub has_id-ids_set : (a b k : ℕ) → a < 8 → b < 8 → k < 8 → a ≢ b → has_id (ids_set a b) k ≡ ((a == k) || (b == k))
 has_id-ids_set a b k la lb lk ne =
-    same_from _ _ (or_right (a == b) (same_test (has_id (ids_set a b) k) ((a == k) || (b == k))) (shown k a b lk la lb) (eqb_no a b ne))
+    same_from _ _ (or_second (a == b) (same_test (has_id (ids_set a b) k) ((a == k) || (b == k))) (shown k a b lk la lb) (ne_eqb a b ne))
 
-bit_from : (b : ℕ) → (b == 1) ≡ true → b ≡ 1
+pub bit_from : (b : ℕ) → (b == 1) ≡ true → b ≡ 1
 bit_from b e = grind (arith, nat_tests)
 
-bit_none : (b : ℕ) → b < 2 → (b == 1) ≡ false → b ≡ 0
+pub bit_none : (b : ℕ) → b < 2 → (b == 1) ≡ false → b ≡ 0
 bit_none b h e = grind (arith, nat_tests)
 
 pow_le : (i j : ℕ) → i ≤ j → 2 ^ i ≤ 2 ^ j

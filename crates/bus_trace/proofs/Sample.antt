@@ -8,7 +8,7 @@ use Rattle.bus_trace.specs.declared.rows.Row.{Row}
 use Rattle.bus_trace.specs.declared.rows.Kind.TheVariants.{Drives, Fault}
 use Rattle.bus_trace.specs.Trace.{drives, bus, last_time, since, since_line}
 
-abbrev row : ℕ → ℕ → ℕ → Row
+abbrev pub row : ℕ → ℕ → ℕ → Row
 row time dev bits = record { time = time; dev = dev; kind = Drives (set_of bits) }
 
 abbrev fault : ℕ → ℕ → ℕ → Row

@@ -2,7 +2,7 @@
 use Rattle.std.proofs.Common.{IsTrue, ◌↔◌, zero, suc, ℕ, ◌≡◌, ◌≢◌, ◌+◌, ◌-◌, ◌*◌, ◌%◌, ◌^◌, ◌<◌, ◌≤◌, ◌==◌, ◌&&◌, ◌⊎◌, inl, inr, Bool, true, false, refl, arith, ap, sym, ◌∙◌}
 use Rattle.std.specs.Int.{bit_at}
 use Rattle.std.proofs.lemmas.Nat.Bits.{bit_at_above, bit_at_cat_high, bit_at_lowest}
-use Rattle.std.proofs.lemmas.Bool.{and_parts}
+use Rattle.std.proofs.lemmas.Bool.{and_parts, eqb-true}
 use Rattle.std.proofs.lemmas.Bool.Decides.{nat_tests}
 use Rattle.bus_trace.specs.LineSet.{LineSet, set_of, number_of, bit_value, none, same, same_set, id_set, ids_set}
 use Rattle.bus_trace.specs.Numbers.{number_back}
@@ -57,14 +57,11 @@ ten b0 b1 b2 b3 b4 b5 b6 b7 b8 b9 e =
     let h1 = and_parts b0 b1 h2.0 in
     record { t0 = h1.0; t1 = h1.1; t2 = h2.1; t3 = h3.1; t4 = h4.1; t5 = h5.1; t6 = h6.1; t7 = h7.1; t8 = h8.1; t9 = h9.1 }
 
-eq_of : (m n : ℕ) → (m == n) ≡ true → m ≡ n
-eq_of m n e = grind (arith, nat_tests)
-
 -- sets that pass the test are the same
 pub same_set-eq : (s t : LineSet) → same_set s t ≡ true → s ≡ t
 same_set-eq s t e =
     let h = ten (s.data_bits == t.data_bits) (same s.bsy t.bsy) (same s.sel t.sel) (same s.cd t.cd) (same s.io t.io) (same s.msg t.msg) (same s.req t.req) (same s.ack t.ack) (same s.atn t.atn) (same s.rst t.rst) e in
-    let d = eq_of s.data_bits t.data_bits h.t0 in
+    let d = eqb-true s.data_bits t.data_bits h.t0 in
     let bsy = same_eq s.bsy t.bsy h.t1 in
     let sel = same_eq s.sel t.sel h.t2 in
     let cd = same_eq s.cd t.cd h.t3 in

@@ -10,6 +10,7 @@ use Rattle.bus_transcript.specs.declared.part.Part.{Part}
 use Rattle.bus_transcript.specs.declared.summary.Summary.{Summary}
 use Rattle.bus_transcript.specs.Opened.{OpenedValue, settled, phase_over}
 use Rattle.bus_transcript.specs.Rows.{TranscriberValue, closed_by, closed_with, closed_phase}
+use Rattle.bus_trace.proofs.OneRow.{rows_so_far}
 
 closed_apart : (t : TranscriberValue) (o : Option OpenedValue) (n : Connection) (parts : List Part) (free : Bool) (s : Summary) → closed_by (record t { opened = o }) n parts free s ≡ closed_by t n parts free s
 unfolding closed_by
@@ -20,8 +21,3 @@ with_apart t o k free = closed_apart t o _ _ _ _
 
 pub phase_apart : (t : TranscriberValue) (o : Option OpenedValue) (k : OpenedValue) (d : RowReading) (free : Bool) → closed_phase (record t { opened = o }) k d free ≡ closed_phase t k d free
 phase_apart t o k d free = with_apart t o (settled (phase_over k d.change.before t.bus_state.dialogue.half false) false) free
-
--- one row more
-pub past_more : (xs : List Row) (i : ℕ) (x : Row) → i < length xs → x ≡ get_or xs i x → reverse (take (i + 1) xs) ≡ x ∷ reverse (take i xs)
-past_more xs i x h e =
-    ap (λ (ys : List Row). reverse ys) ((take_at_read xs i x h).1 ∙ ap (λ (y : Row). take i xs ++ y ∷ []) (sym e)) ∙ reverse-append (take i xs) (x ∷ [])

@@ -1,7 +1,7 @@
 -- Each event of a transcript stands in a connection of its process.
 use Rattle.std.proofs.Common.{ℕ, ◌≡◌, ◌∙◌, Bool, true, false, List, [], ◌∷◌, ◌++◌, Option, Some, None, refl, sym, ap}
 use Rattle.std.specs.Prelude.{◌&&◌, is_none, if◌then◌else◌}
-use Rattle.std.proofs.lemmas.Bool.{eq-eqb}
+use Rattle.std.proofs.lemmas.Bool.{eq-eqb, and_from}
 use Rattle.bus_trace.specs.Changes.{rises, falls}
 use Rattle.bus_trace.specs.declared.rows.Kind.{Kind}
 use Rattle.bus_trace.specs.declared.rows.Row.{Row}
@@ -29,19 +29,16 @@ use Rattle.bus_transcript.specs.Rows.{TranscriberValue, with_items, abort_item, 
 
 -- ---- names
 
-number_same : (a : Option ℕ) → same_number a a ≡ true
+pub number_same : (a : Option ℕ) → same_number a a ≡ true
 number_same None = refl
 number_same (Some n) = eq-eqb n n refl
 
-both : (p q : Bool) → p ≡ true → q ≡ true → (p && q) ≡ true
-both p q a b = λ i. a i && b i
-
-name_same : (n : Name) → same_name n n ≡ true
+pub name_same : (n : Name) → same_name n n ≡ true
 name_same n =
-    both _ _ (both _ _ (both _ _ (eq-eqb n.initiator n.initiator refl) (eq-eqb n.target n.target refl)) (both _ _ (number_same n.unit) (number_same n.tag))) (eq-eqb n.number n.number refl)
+    and_from _ _ (and_from _ _ (and_from _ _ (eq-eqb n.initiator n.initiator refl) (eq-eqb n.target n.target refl)) (and_from _ _ (number_same n.unit) (number_same n.tag))) (eq-eqb n.number n.number refl)
 
 nexus_same : (n : Name) → is_of_last (Some n) n.initiator n.target n.unit ≡ true
-nexus_same n = both _ _ (both _ _ (eq-eqb n.initiator n.initiator refl) (eq-eqb n.target n.target refl)) (number_same n.unit)
+nexus_same n = and_from _ _ (and_from _ _ (eq-eqb n.initiator n.initiator refl) (eq-eqb n.target n.target refl)) (number_same n.unit)
 
 -- ---- lists
 
@@ -60,7 +57,7 @@ last_append last [] ys = refl
 last_append last (x ∷ xs) ys = last_append (name_after last x) xs ys
 
 past_in : (list more : List Item) → are_in None list ≡ true → ((last : Option Name) → are_in last more ≡ true) → are_in None (list ++ more) ≡ true
-past_in list more are all = in_append None list more ∙ both (are_in None list) (are_in (last_name None list) more) are (all (last_name None list))
+past_in list more are all = in_append None list more ∙ and_from (are_in None list) (are_in (last_name None list) more) are (all (last_name None list))
 
 -- ---- the account of a connection
 
@@ -99,7 +96,7 @@ in_inside a (to_initiator.SimpleTag tag) h = h
 in_inside a (to_initiator.Sdtr offer) h = h
 in_inside a to_initiator.Reject h = h
 
-status_name : (q : Bool) (p : Process) (byte : ℕ) → (if q then record p { status = Some byte } else p).name ≡ p.name
+pub status_name : (q : Bool) (p : Process) (byte : ℕ) → (if q then record p { status = Some byte } else p).name ≡ p.name
 status_name true p byte = refl
 status_name false p byte = refl
 

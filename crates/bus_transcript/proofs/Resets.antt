@@ -109,7 +109,7 @@ closed_past : (t : TranscriberValue) (n : Connection) (parts : List Part) (free 
 unfolding closed_by
 closed_past t n parts free s = account_past n _ parts t.items free s
 
-closed_bus : (t : TranscriberValue) (n : Connection) (parts : List Part) (free : Bool) (s : Summary) → (closed_by t n parts free s).bus_state ≡ t.bus_state
+pub closed_bus : (t : TranscriberValue) (n : Connection) (parts : List Part) (free : Bool) (s : Summary) → (closed_by t n parts free s).bus_state ≡ t.bus_state
 unfolding closed_by
 closed_bus t n parts free s = refl
 
@@ -117,7 +117,7 @@ if_past : (t : TranscriberValue) (k : Option OpenedValue) (d : RowReading) (free
 if_past t None d free = refl
 if_past t (Some k) d free = closed_past t _ _ free _
 
-if_bus : (t : TranscriberValue) (k : Option OpenedValue) (d : RowReading) (free : Bool) → (closed_if t k d free).bus_state ≡ t.bus_state
+pub if_bus : (t : TranscriberValue) (k : Option OpenedValue) (d : RowReading) (free : Bool) → (closed_if t k d free).bus_state ≡ t.bus_state
 if_bus t None d free = refl
 if_bus t (Some k) d free = closed_bus t _ _ free _
 
@@ -148,7 +148,7 @@ free_bus_past : (q : Bool) (t : TranscriberValue) (time : ℕ) → resets_shown 
 free_bus_past true t time = past t.items (unanswered_items t.bus_state.call time) (call_none t.bus_state.call time)
 free_bus_past false t time = refl
 
-free_bus_bus : (q : Bool) (t : TranscriberValue) (time : ℕ) → (if q then with_items t (unanswered_items t.bus_state.call time) else t).bus_state ≡ t.bus_state
+pub free_bus_bus : (q : Bool) (t : TranscriberValue) (time : ℕ) → (if q then with_items t (unanswered_items t.bus_state.call time) else t).bus_state ≡ t.bus_state
 free_bus_bus true t time = refl
 free_bus_bus false t time = refl
 
@@ -156,7 +156,7 @@ in_connection_past : (t : TranscriberValue) (k : Option OpenedValue) (d : RowRea
 in_connection_past t None d kind = refl
 in_connection_past t (Some k) d kind = refl
 
-in_connection_bus : (t : TranscriberValue) (k : Option OpenedValue) (d : RowReading) (kind : Kind) → (in_connection t k d kind).bus_state ≡ t.bus_state
+pub in_connection_bus : (t : TranscriberValue) (k : Option OpenedValue) (d : RowReading) (kind : Kind) → (in_connection t k d kind).bus_state ≡ t.bus_state
 in_connection_bus t None d kind = refl
 in_connection_bus t (Some k) d kind = refl
 
@@ -167,7 +167,7 @@ on_bus_past t (Some m) None d row =
     past (closed_if t t.opened d true).items (items.Free row.time ∷ []) refl ∙ if_past t t.opened d true
 on_bus_past t (Some m) (Some n) d row = in_connection_past t t.opened d row.kind
 
-on_bus_bus : (t : TranscriberValue) (before after : Option Connection) (d : RowReading) (row : Row) → (on_bus t before after d row).bus_state ≡ t.bus_state
+pub on_bus_bus : (t : TranscriberValue) (before after : Option Connection) (d : RowReading) (row : Row) → (on_bus t before after d row).bus_state ≡ t.bus_state
 on_bus_bus t None None d row = free_bus_bus (falls d.change.before.sel d.change.after.sel) t row.time
 on_bus_bus t None (Some n) d row = refl
 on_bus_bus t (Some m) None d row = if_bus t t.opened d true
@@ -189,11 +189,11 @@ row_shows : (t : TranscriberValue) (d : RowReading) (row : Row) → resets_shown
 unfolding by_change
 row_shows t d row = shows_by d.change.after.rst t d row
 
-bus_by : (q : Bool) (t : TranscriberValue) (d : RowReading) (row : Row) → (if q then under_reset t d row else on_bus t t.bus_state.connection d.next d row).bus_state ≡ t.bus_state
+pub bus_by : (q : Bool) (t : TranscriberValue) (d : RowReading) (row : Row) → (if q then under_reset t d row else on_bus t t.bus_state.connection d.next d row).bus_state ≡ t.bus_state
 bus_by true t d row = if_bus t t.opened d false
 bus_by false t d row = on_bus_bus t t.bus_state.connection d.next d row
 
-row_bus : (t : TranscriberValue) (d : RowReading) (row : Row) → (by_change t d row).bus_state ≡ t.bus_state
+pub row_bus : (t : TranscriberValue) (d : RowReading) (row : Row) → (by_change t d row).bus_state ≡ t.bus_state
 unfolding by_change
 row_bus t d row = bus_by d.change.after.rst t d row
 
@@ -272,11 +272,11 @@ row_tells s b d row = tells_by d.change.after.rst (rises d.change.own.rst d.chan
 
 -- ---- the bus of both
 
-record IsAlike (w v : BusState) : Type 0 where
+pub record IsAlike (w v : BusState) : Type 0 where
   pub driven : w.driven ≡ v.driven
   pub bus : w.bus ≡ v.bus
 
-change_same : (w v : BusState) (row : Row) → IsAlike w v → change_by w row ≡ change_by v row
+pub change_same : (w v : BusState) (row : Row) → IsAlike w v → change_by w row ≡ change_by v row
 change_same w v row h = λ i. record {
   before = h.bus i;
   after = union_all (slice_set (h.driven i) row.dev (driven_after row.kind (driven_at (h.driven i) row.dev)));

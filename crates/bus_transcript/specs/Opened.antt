@@ -20,6 +20,7 @@ use Rattle.bus_transcript.specs.declared.part.Incoming.{Incoming}
 use Rattle.bus_transcript.specs.declared.part.Incoming.TheVariants.{Whole, Broken}
 use Rattle.bus_transcript.specs.declared.part.Part.{Part}
 use Rattle.bus_transcript.specs.declared.part.Part.TheVariants.{Out, In, BrokenOff, Command, Data, StatusPhase, Status, Completion}
+use Rattle.bus_story.specs.TraceHistory.{is_parity_error}
 
 pub record OpenedValue : Type 0 where
   pub connection : Connection
@@ -53,10 +54,6 @@ held_part (Some m) = incoming_part m ∷ []
 -- The next message is there: the one that was held is void with MESSAGE PARITY ERROR.
 abbrev pub settled : OpenedValue → Bool → OpenedValue
 settled k void = record k { parts = k.parts ++ ((if void then [] else held_part k.held) ++ k.since); held = None; since = [] }
-
-abbrev pub is_parity_error : MsgOut → Bool
-is_parity_error to_target.ParityError = true
-is_parity_error _ = false
 
 abbrev pub with_out : OpenedValue → MsgOut → OpenedValue
 with_out k m = with_part (settled k (is_parity_error m)) (Out m)

@@ -1,18 +1,17 @@
 //! The bus after some rows, and what a row does on it.
 ghost use Rattle.std.specs.Prelude.{◌≡◌, ◌<◌, not, ◌&&◌, is_some, is_none};
 ghost use Rattle.bus_trace.specs.View.{union_all};
-ghost use Rattle.bus_phases.specs.Dialogue.{fresh_bytes};
-ghost use Rattle.bus_story.specs.BusState.{quiet_bus, change_by, whole_out, whole_in, message_out, message_in, row_reading_of, row_reading};
+ghost use Rattle.bus_story.specs.BusState.{quiet_bus, change_by, row_reading_of, row_reading};
 ghost use Rattle.bus_trace.specs.Phases.{changes_phase};
 ghost use Rattle.bus_trace.specs.Terms.{call_after, connection_after, receiver_of};
 ghost use Rattle.bus_transcript.specs.Rows.{dialogue_seen, is_silent, bus_seen};
 
-use bus_phases::{Agreements, Dialogue, Half, asynchronous};
+use bus_phases::{Agreements, Dialogue, asynchronous};
+use bus_story::{message_in, message_out};
 use bus_trace::{
-    Call, Change, Connection, Lines, Row, call_after, changes_phase, connection_after,
-    is_message_in, is_message_out, receiver_of,
+    Call, Change, Connection, Lines, Row, call_after, changes_phase, connection_after, receiver_of,
 };
-use msg_grammar::{Got, MsgIn, MsgOut};
+use msg_grammar::{MsgIn, MsgOut};
 use std::marker::Model;
 
 /// What a row does: what it changes, the connection after it, whether a byte crosses, and the message that it makes
@@ -79,57 +78,6 @@ fn union_all(driven: &[Lines; 8]) -> Lines
         .with(driven[5])
         .with(driven[6])
         .with(driven[7])
-}
-
-fn whole_out(got: Got<MsgOut>) -> Option<MsgOut>
-    ensures { result ≡ whole_out got }
-{
-    match got {
-        Got::Whole(message, _) => Some(message),
-        Got::More | Got::Unknown => None,
-    }
-}
-
-fn whole_in(got: Got<MsgIn>) -> Option<MsgIn>
-    ensures { result ≡ whole_in got }
-{
-    match got {
-        Got::Whole(message, _) => Some(message),
-        Got::More | Got::Unknown => None,
-    }
-}
-
-// The bytes of MESSAGE OUT that a byte follows: none where the one before it was the last.
-fn fresh_bytes(dialogue: &Dialogue) -> Half
-    ensures { result ≡ fresh_bytes dialogue.now }
-{
-    if dialogue.is_last {
-        Half::new()
-    } else {
-        dialogue.fresh.copy()
-    }
-}
-
-// The message to the target that a byte makes whole, if one crosses.
-fn message_out(dialogue: &Dialogue, change: &Change, crosses: bool) -> Option<MsgOut>
-    ensures { result ≡ message_out dialogue.now change.now crosses }
-{
-    if !crosses || !is_message_out(change.before) {
-        return None;
-    }
-    let mut bytes = fresh_bytes(dialogue);
-    whole_out(bytes.take_out(change.after.data()))
-}
-
-// The message to the initiator that it makes whole.
-fn message_in(dialogue: &Dialogue, change: &Change, crosses: bool) -> Option<MsgIn>
-    ensures { result ≡ message_in dialogue.now change.now crosses }
-{
-    if !crosses || !is_message_in(change.before) {
-        return None;
-    }
-    let mut bytes = dialogue.half.copy();
-    whole_in(bytes.take_in(change.after.data()))
 }
 
 // No byte crosses and no phase begins.

@@ -2,7 +2,8 @@
 ghost use Rattle.std.specs.Prelude.{◌≡◌, [], ◌∷◌, ◌++◌, List, OnOk, true};
 ghost use Rattle.bus_phases.specs.Half.{is_nil};
 ghost use Rattle.bus_story.specs.CarriedBytes.{is_status_phase};
-ghost use Rattle.bus_transcript.specs.Opened.{opened_connection, with_part, incoming_part, held_part, settled, is_parity_error, with_out, with_all_out, with_in, spoken, broken_off, data_parts, phase_parts, with_phase, phase_over, phase_entered, messages_of, with_said, with_in_if, with_crossing, is_complete, is_completion, with_fault, with_still_row, with_row};
+ghost use Rattle.bus_story.specs.TraceHistory.{is_parity_error};
+ghost use Rattle.bus_transcript.specs.Opened.{opened_connection, with_part, incoming_part, held_part, settled, with_out, with_all_out, with_in, spoken, broken_off, data_parts, phase_parts, with_phase, phase_over, phase_entered, messages_of, with_said, with_in_if, with_crossing, is_complete, is_completion, with_fault, with_still_row, with_row};
 
 use crate::bus::{Bus, Reading};
 use crate::part::{Incoming, Part};

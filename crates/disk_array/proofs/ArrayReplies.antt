@@ -30,6 +30,7 @@ use Rattle.disk_array.proofs.SeatLaws as laws
 use Rattle.disk_array.proofs.SeatSteps.{seat_settled}
 use Rattle.disk_array.proofs.SoundArrays.{id_is, is_own}
 use Rattle.disk_array.proofs.SeatReplies as seats
+use Rattle.bus_base.proofs.Tests.{and_first, and_second}
 
 -- ---- what the array lists after an event
 
@@ -37,7 +38,7 @@ listed : (x : Option Array) (b : Array) (rs : List (ProcId × Reply)) → ((c : 
 listed None b rs f e = cc
 listed (Some c) b rs f e = let same : settled_array c ≡ b = cc in (λ i. (sym same i).replies) ∙ f c refl
 
-took : (d c : Array) (rs : List (ProcId × Reply)) → Some d ≡ Some c → d.replies ≡ rs → c.replies ≡ rs
+pub took : (d c : Array) (rs : List (ProcId × Reply)) → Some d ≡ Some c → d.replies ≡ rs → c.replies ≡ rs
 took d c rs e f = let same : d ≡ c = cc in (λ i. (sym same i).replies) ∙ f
 
 accept_lists : (a c : Array) (p : Process) (x : Option UnitState) → Steps.accept_step_at a p x ≡ Some c → c.replies ≡ a.replies
@@ -52,7 +53,7 @@ accept_lists a c p (Some u) e = either (is_request_sense (command_of p.cdb)) e
     either true k = took (Steps.with_guest a p None) c a.replies k refl
     either false k = queue (nat_lt (Steps.process_count u) u.depth) k
 
-refuse_lists : (a c : Array) (p : Process) (x : Option UnitState) → Steps.refuse_step_at a p x ≡ Some c → c.replies ≡ (p.id, queue_full) ∷ a.replies
+pub refuse_lists : (a c : Array) (p : Process) (x : Option UnitState) → Steps.refuse_step_at a p x ≡ Some c → c.replies ≡ (p.id, queue_full) ∷ a.replies
 refuse_lists a c p None e = cc
 refuse_lists a c p (Some u) e = either (not (is_request_sense (command_of p.cdb)) && Steps.process_count u == u.depth) e
   where
@@ -60,7 +61,7 @@ refuse_lists a c p (Some u) e = either (not (is_request_sense (command_of p.cdb)
     either false k = cc
     either true k = took (Steps.with_listed_reply (Steps.with_guest a p (Some queue_full)) p.id queue_full) c ((p.id, queue_full) ∷ a.replies) k refl
 
-executed_lists : (a : Array) (p : Process) (u : Option UnitState) (done : Execution) → (Steps.after_execution a p u done).replies ≡ (p.id, done.reply) ∷ a.replies
+pub executed_lists : (a : Array) (p : Process) (u : Option UnitState) (done : Execution) → (Steps.after_execution a p u done).replies ≡ (p.id, done.reply) ∷ a.replies
 executed_lists a p u done = λ i. (p.id, done.reply) ∷ go u done.reported i
   where
     go : (x : Option UnitState) (r : Bool) → (Steps.with_contents (Steps.without_attention a r (nexus_of p)) x done.contents).replies ≡ a.replies
@@ -84,7 +85,7 @@ run_lists a c guest r e = go (is_none r.reply && (guest || not (Rattle.disk_arra
         (executed_lists a r.process (unit_state_at a.units r.process.target r.process.unit) (execution (Steps.context_at a (nexus_of r.process) (unit_state_at a.units r.process.target r.process.unit)) r.process.cdb r.process.sent)
         ∙ (λ i. (r.process.id, (execution (context_same a r.process i) r.process.cdb r.process.sent).reply) ∷ a.replies))
 
-fail_lists : (s : ScenarioValue) (a c : Array) (id : ProcId) (reply : Reply) (x : Option RunningProcess) → Steps.fail_step s a id reply x ≡ Some c → c.replies ≡ (id, reply) ∷ a.replies
+pub fail_lists : (s : ScenarioValue) (a c : Array) (id : ProcId) (reply : Reply) (x : Option RunningProcess) → Steps.fail_step s a id reply x ≡ Some c → c.replies ≡ (id, reply) ∷ a.replies
 fail_lists s a c id reply (Some r) e = given (is_none r.reply) e
   where
     given : (y : Bool) → (if y then Some (Steps.with_reply a id reply) else None) ≡ Some c → c.replies ≡ (id, reply) ∷ a.replies
@@ -117,18 +118,18 @@ end_lists a c status (Some r) e = given r.reply e
     given None k = cc
     given (Some reply) k = ended reply (reply.status == status) k
 
-loss_lists : (a c : Array) (id : ProcId) → Steps.loss_step a id ≡ Some c → c.replies ≡ a.replies
+pub loss_lists : (a c : Array) (id : ProcId) → Steps.loss_step a id ≡ Some c → c.replies ≡ a.replies
 loss_lists a c id e = go (Steps.has_ended a id) e
   where
     go : (y : Bool) → (if y then None else Some (Steps.array_without a id)) ≡ Some c → c.replies ≡ a.replies
     go true k = cc
     go false k = took (Steps.array_without a id) c a.replies k refl
 
-hosts_list : (hosts : List HostDef) (t n : ℕ) (a : Array) → (Steps.reset_attentions hosts t n a).replies ≡ a.replies
+pub hosts_list : (hosts : List HostDef) (t n : ℕ) (a : Array) → (Steps.reset_attentions hosts t n a).replies ≡ a.replies
 hosts_list [] t n a = refl
 hosts_list (h ∷ hosts) t n a = hosts_list hosts t n (Steps.reset_attention a (record { initiator = h.dev; target = t; unit = n }))
 
-units_list : (hosts : List HostDef) (units : List UnitState) (is_one : UnitState → Bool) (a : Array) → (Steps.unit_reset_attentions hosts units is_one a).replies ≡ a.replies
+pub units_list : (hosts : List HostDef) (units : List UnitState) (is_one : UnitState → Bool) (a : Array) → (Steps.unit_reset_attentions hosts units is_one a).replies ≡ a.replies
 units_list hosts [] is_one a = refl
 units_list hosts (u ∷ units) is_one a = units_list hosts units is_one (if is_one u then Steps.reset_attentions hosts u.target u.unit a else a) ∙ go (is_one u)
   where
@@ -148,14 +149,14 @@ cleared_list by (q ∷ lost) a = cleared_list by lost (if q.initiator == by then
     go true z = refl
     go false z = told (Steps.is_reset_pending (sense_of_nexus a.attentions (nexus_of q)))
 
-abort_lists : (s : ScenarioValue) (a : Array) (i t n : ℕ) (what : AbortKind) → (Steps.abort_step s a i t n what).replies ≡ a.replies
+pub abort_lists : (s : ScenarioValue) (a : Array) (i t n : ℕ) (what : AbortKind) → (Steps.abort_step s a i t n what).replies ≡ a.replies
 abort_lists s a i t n aborts.All = refl
 abort_lists s a i t n (aborts.Tag tag) = refl
 abort_lists s a i t n aborts.WholeQueue = cleared_list i (Steps.unit_processes (unit_state_at a.units t n)) (Steps.without_dropped a (λ p. is_of_unit p t n))
 abort_lists s a i t n aborts.Device =
     units_list s.hosts a.units (λ u. u.target == t) (record (Steps.without_dropped a (λ p. p.target == t)) { senses = Steps.kept_senses (λ q. q.target == t) a.senses; holds = Steps.kept_nexuses (λ q. q.target == t) a.holds })
 
-reset_lists : (s : ScenarioValue) (a : Array) → (Steps.reset_step s a).replies ≡ a.replies
+pub reset_lists : (s : ScenarioValue) (a : Array) → (Steps.reset_step s a).replies ≡ a.replies
 reset_lists s a = units_list s.hosts a.units (λ u. true) (record (Steps.without_dropped a (λ p. true)) { senses = []; holds = [] })
 
 -- ---- the seats of a sound array
@@ -215,22 +216,14 @@ own_seat s a b event p rs x law st lists f = go x ((λ i. seat_if (sym st i) p.t
         subst (λ (r : List (ProcId × Reply)). HasReplies r (seat_of b p.target p.unit)) (sym lists)
         (subst (λ (q : Seat). HasReplies rs q) (sym same) (seats.chooses rs after (f after refl)))
 
-and_left : (x y : Bool) → (x && y) ≡ true → x ≡ true
-and_left true y e = refl
-and_left false y e = cc
-
-and_right : (x y : Bool) → (x && y) ≡ true → y ≡ true
-and_right true y e = e
-and_right false y e = cc
-
 everywhere : (s : ScenarioValue) (a b : Array) (event : Event) (p : Process) → HasSeats s → IsSound s a → process_of s p.id ≡ Some p → step s event a ≡ Some b → HaveReplies a → ((t n : ℕ) → is_of_unit p t n ≡ false → is_elsewhere s event t n ≡ true)
     → HasReplies b.replies (seat_of b p.target p.unit) → ((seat : Seat) → HasReplies a.replies seat → IsNowhere seat p.id → HasReplies b.replies seat) → HaveReplies b
 everywhere s a b event p f c e st h elsewhere own others = λ t n. go t n (is_of_unit p t n) refl
   where
     go : (t n : ℕ) (y : Bool) → is_of_unit p t n ≡ y → HasReplies b.replies (seat_of b t n)
     go t n true z =
-        let one : p.target ≡ t = eqb-true p.target t (and_left (p.target == t) (p.unit == n) z) in
-        let two : p.unit ≡ n = eqb-true p.unit n (and_right (p.target == t) (p.unit == n) z) in
+        let one : p.target ≡ t = eqb-true p.target t (and_first (p.target == t) (p.unit == n) z) in
+        let two : p.unit ≡ n = eqb-true p.unit n (and_second (p.target == t) (p.unit == n) z) in
         subst (λ (k : ℕ). HasReplies b.replies (seat_of b t k)) two (subst (λ (k : ℕ). HasReplies b.replies (seat_of b k p.unit)) one own)
     go t n false z =
         subst (λ (q : Seat). HasReplies b.replies q) (sym (laws.other_law s a b event t n f c (elsewhere t n z) st))
@@ -325,8 +318,8 @@ cut_one s a b i target unit what f c st lists elsewhere h = λ t n. go t n (targ
 
     go : (t n : ℕ) (y : Bool) → (target == t && unit == n) ≡ y → HasReplies b.replies (seat_of b t n)
     go t n true z =
-        let one : target ≡ t = eqb-true target t (and_left (target == t) (unit == n) z) in
-        let two : unit ≡ n = eqb-true unit n (and_right (target == t) (unit == n) z) in
+        let one : target ≡ t = eqb-true target t (and_first (target == t) (unit == n) z) in
+        let two : unit ≡ n = eqb-true unit n (and_second (target == t) (unit == n) z) in
         subst (λ (k : ℕ). HasReplies b.replies (seat_of b t k)) two (subst (λ (k : ℕ). HasReplies b.replies (seat_of b k unit)) one here)
     go t n false z = other_seat s a b (events.Aborted i target unit what) t n f c st lists (elsewhere t n z) h
 

@@ -1,11 +1,11 @@
 mod Stories
 pub mod Touched
-mod SeatLookups
-mod SeatSteps
+pub mod SeatLookups
+pub mod SeatSteps
 mod SeatOwn
-mod SeatEvents
+pub mod SeatEvents
 mod SeatAborts
 pub mod SoundArrays
-mod SeatReplies
+pub mod SeatReplies
 pub mod SeatLaws
-mod ArrayReplies
+pub mod ArrayReplies

@@ -13,16 +13,9 @@ use Rattle.disk_array.specs.Units.{RunningProcess, UnitState, Nexus, Array, same
 use Rattle.disk_array.specs.Steps.{kept_processes, kept_running, kept_guests, without_dropped, is_of_unit, has_tag, is_reset_pending, reset_attention, cleared_attention, reset_attentions, unit_reset_attentions, cleared_attentions, processes_of, unit_processes, kept_nexuses, kept_senses, abort_step, reset_step}
 use Rattle.disk_array.specs.Seats
 use Rattle.disk_array.specs.SoundArray.{IsOwn, AllOwn, IsOwnRunning, IsOwnUnit, IsSound}
-use Rattle.disk_array.proofs.SeatLookups.{and_left, and_right, same_nexus_is, eqb_self, senses_without_at, sense_put_at, nexuses_without_at, mapped_at, kept_map, is_place, found_target, found_unit, guests_at_kept}
+use Rattle.disk_array.proofs.SeatLookups.{same_nexus_is, senses_without_at, sense_put_at, nexuses_without_at, mapped_at, kept_map, is_place, found_target, found_unit, guests_at_kept}
 use Rattle.disk_array.proofs.SeatOwn.{own_found}
-
-and_true : (x : Bool) → (x && true) ≡ x
-and_true true = refl
-and_true false = refl
-
-and_false : (x : Bool) → (x && false) ≡ false
-and_false true = refl
-and_false false = refl
+use Rattle.bus_base.proofs.Tests.{and_first, and_second, and_false, and_true, eq_self}
 
 -- ---- the processes that are dropped
 
@@ -33,7 +26,7 @@ kept_at a drops t n = λ i. record (Seats.seat_of a t n) {
 }
 
 of_place : (s : ScenarioValue) (t n : ℕ) (q : Process) → IsOwn s t n q → is_of_unit q t n ≡ true
-of_place s t n q b = (λ i. b.target_is i == t && b.unit_is i == n) ∙ (λ i. eqb_self t i && eqb_self n i)
+of_place s t n q b = (λ i. b.target_is i == t && b.unit_is i == n) ∙ (λ i. eq_self t i && eq_self n i)
 
 kept_waiting : (s : ScenarioValue) (t n : ℕ) (one two : Process → Bool) → ((q : Process) → is_of_unit q t n ≡ true → one q ≡ two q) → (waiting : List Process) → AllOwn s t n waiting → kept_processes one waiting ≡ kept_processes two waiting
 kept_waiting s t n one two h [] b = refl
@@ -90,7 +83,7 @@ kept_all seat = λ i. record seat { unit = go seat.unit i; guests = none_guests 
 -- ---- by initiator
 
 nexus_here : (t n i k : ℕ) → same_nexus (Seats.nexus_at t n i) (Seats.nexus_at t n k) ≡ (i == k)
-nexus_here t n i k = (λ j. (i == k) && (eqb_self t j && eqb_self n j)) ∙ and_true (i == k)
+nexus_here t n i k = (λ j. (i == k) && (eq_self t j && eq_self n j)) ∙ and_true (i == k)
 
 nexus_there : (target unit t n i k : ℕ) → (target == t && unit == n) ≡ false → same_nexus (Seats.nexus_at target unit i) (Seats.nexus_at t n k) ≡ false
 nexus_there target unit t n i k o = (λ j. (i == k) && o j) ∙ and_false (i == k)
@@ -102,8 +95,8 @@ elsewhere target unit t n q o h = go (is_of_unit q target unit) refl
     go : (x : Bool) → is_of_unit q target unit ≡ x → is_of_unit q target unit ≡ false
     go false z = z
     go true z =
-        let one : q.target ≡ target = eqb-true q.target target (and_left (q.target == target) (q.unit == unit) z) in
-        let two : q.unit ≡ unit = eqb-true q.unit unit (and_right (q.target == target) (q.unit == unit) z) in
+        let one : q.target ≡ target = eqb-true q.target target (and_first (q.target == target) (q.unit == unit) z) in
+        let two : q.unit ≡ unit = eqb-true q.unit unit (and_second (q.target == target) (q.unit == unit) z) in
         let yes : (target == t && unit == n) ≡ true = (λ i. sym one i == t && sym two i == n) ∙ h in
         let no : true ≡ false = sym yes ∙ o in cc
 
@@ -328,7 +321,7 @@ hit_all is_one [] t n h = refl
 hit_all is_one (u ∷ units) t n h = go (is_place u t n) refl (hit_all is_one units t n h)
   where
     go : (x : Bool) → is_place u t n ≡ x → is_hit is_one units t n ≡ is_some (unit_state_at units t n) → ((is_one u && x) || is_hit is_one units t n) ≡ is_some (if x then Some u else unit_state_at units t n)
-    go true z k = λ i. (h u (eqb-true u.target t (and_left (u.target == t) (u.unit == n) z)) i && true) || is_hit is_one units t n
+    go true z k = λ i. (h u (eqb-true u.target t (and_first (u.target == t) (u.unit == n) z)) i && true) || is_hit is_one units t n
     go false z k = (λ i. and_false (is_one u) i || is_hit is_one units t n) ∙ k
 
 hit_none : (target : ℕ) (units : List UnitState) (t n : ℕ) → (target == t) ≡ false → is_hit (λ u. u.target == target) units t n ≡ false
@@ -342,9 +335,9 @@ hit_none target (u ∷ units) t n o = (λ i. go (is_place u t n) refl i || hit_n
         inner : (y : Bool) → (u.target == target) ≡ y → (y && true) ≡ false
         inner false w = refl
         inner true w =
-            let one : u.target ≡ t = eqb-true u.target t (and_left (u.target == t) (u.unit == n) z) in
+            let one : u.target ≡ t = eqb-true u.target t (and_first (u.target == t) (u.unit == n) z) in
             let two : u.target ≡ target = eqb-true u.target target w in
-            let yes : (target == t) ≡ true = (λ i. (sym two ∙ one) i == t) ∙ eqb_self t in
+            let yes : (target == t) ≡ true = (λ i. (sym two ∙ one) i == t) ∙ eq_self t in
             let no : true ≡ false = sym yes ∙ o in cc
 
 dropped_senses : (drops : Nexus → Bool) (entries : List (Nexus × Sense)) (q : Nexus) → sense_of_nexus (kept_senses drops entries) q ≡ (if drops q then None else sense_of_nexus entries q)
@@ -399,13 +392,13 @@ pub device_own : (s : ScenarioValue) (a : Array) (i target unit n : ℕ) → IsS
 device_own s a i target unit n b =
     units_at s.hosts (λ u. u.target == target) a.units target n (record (without_dropped a (λ p. p.target == target)) { senses = kept_senses (λ q. q.target == target) a.senses; holds = kept_nexuses (λ q. q.target == target) a.holds })
     ∙ (λ j. record (kept j) {
-      senses = λ k. (dropped_senses (λ q. q.target == target) a.senses (Seats.nexus_at target n k) ∙ (λ m. if eqb_self target m then None else sense_of_nexus a.senses (Seats.nexus_at target n k))) j;
-      hold = λ k. (dropped_holds (λ q. q.target == target) a.holds (Seats.nexus_at target n k) ∙ (λ m. if eqb_self target m then false else Seats.in_hold a.holds (Seats.nexus_at target n k))) j;
-      attentions = λ k. if hit_all (λ u. u.target == target) a.units target n (λ u e. (λ m. e m == target) ∙ eqb_self target) j && Seats.is_initiator s.hosts k then Some reset_occurred else sense_of_nexus a.attentions (Seats.nexus_at target n k);
+      senses = λ k. (dropped_senses (λ q. q.target == target) a.senses (Seats.nexus_at target n k) ∙ (λ m. if eq_self target m then None else sense_of_nexus a.senses (Seats.nexus_at target n k))) j;
+      hold = λ k. (dropped_holds (λ q. q.target == target) a.holds (Seats.nexus_at target n k) ∙ (λ m. if eq_self target m then false else Seats.in_hold a.holds (Seats.nexus_at target n k))) j;
+      attentions = λ k. if hit_all (λ u. u.target == target) a.units target n (λ u e. (λ m. e m == target) ∙ eq_self target) j && Seats.is_initiator s.hosts k then Some reset_occurred else sense_of_nexus a.attentions (Seats.nexus_at target n k);
     })
   where
     kept : Seats.seat_of (without_dropped a (λ p. p.target == target)) target n ≡ Seats.seat_kept (λ p. true) (Seats.seat_of a target n)
-    kept = kept_at a (λ p. p.target == target) target n ∙ kept_same s a target n (λ p. p.target == target) (λ p. true) b (λ q h. and_left (q.target == target) (q.unit == n) h)
+    kept = kept_at a (λ p. p.target == target) target n ∙ kept_same s a target n (λ p. p.target == target) (λ p. true) b (λ q h. and_first (q.target == target) (q.unit == n) h)
 
 pub device_other : (s : ScenarioValue) (a : Array) (i target unit t n : ℕ) → IsSound s a → (target == t) ≡ false → Seats.seat_of (abort_step s a i target unit aborts.Device) t n ≡ Seats.seat_of a t n
 device_other s a i target unit t n b o =
@@ -422,7 +415,7 @@ device_other s a i target unit t n b o =
         go : (y : Bool) → (x == target) ≡ y → (x == target) ≡ false
         go false z = z
         go true z =
-            let yes : (target == t) ≡ true = (λ i. (sym (eqb-true x target z) ∙ e) i == t) ∙ eqb_self t in
+            let yes : (target == t) ≡ true = (λ i. (sym (eqb-true x target z) ∙ e) i == t) ∙ eq_self t in
             let no : true ≡ false = sym yes ∙ o in cc
 
     other : (t == target) ≡ false
@@ -431,5 +424,5 @@ device_other s a i target unit t n b o =
     kept : Seats.seat_of (without_dropped a (λ p. p.target == target)) t n ≡ Seats.seat_of a t n
     kept =
         kept_at a (λ p. p.target == target) t n
-        ∙ kept_same s a t n (λ p. p.target == target) (λ p. false) b (λ q h. turned q.target (eqb-true q.target t (and_left (q.target == t) (q.unit == n) h)))
+        ∙ kept_same s a t n (λ p. p.target == target) (λ p. false) b (λ q h. turned q.target (eqb-true q.target t (and_first (q.target == t) (q.unit == n) h)))
         ∙ kept_all (Seats.seat_of a t n)

@@ -18,6 +18,7 @@ use Rattle.disk_array.proofs.SeatSteps.{seat_settled}
 use Rattle.disk_array.proofs.SeatEvents.{settled_if, accepted_own, accepted_other, refused_own, refused_other, run_own, run_other, failed_own, failed_other, ended_own, ended_other, lost_at, lost_other}
 use Rattle.disk_array.proofs.SeatAborts.{abort_own, abort_other, tag_own, tag_other, queue_own, queue_other, device_own, device_other, reset_at}
 use Rattle.disk_array.proofs.SoundArrays.{id_is, is_own, eight_after}
+use Rattle.std.proofs.lemmas.Bool.{not-true}
 
 -- The choice follows what the event leaves.
 settled_event : (s : ScenarioValue) (a : Array) (event : Event) (t n : ℕ) (x : Option Seats.Seat) → HasSeats s → IsSound s a → Seats.seat_if (event_step s a event) t n ≡ x → Seats.seat_if (step s event a) t n ≡ Seats.settled_seat_if x
@@ -57,17 +58,13 @@ reset_law s a dev t n f b = settled_event s a (events.Reset dev) t n (Some (Seat
 
 -- ---- other seats
 
-turned : (x : Bool) → not x ≡ true → x ≡ false
-turned true h = cc
-turned false h = refl
-
 -- A process of the scenario that is of another unit.
 other_of : (s : ScenarioValue) (a b : Array) (id : ProcId) (t n : ℕ) → Seats.is_of_other_unit (process_of s id) t n ≡ true → ((p : Process) → process_of s id ≡ Some p → is_of_unit p t n ≡ false → Seats.seat_of b t n ≡ Seats.seat_of a t n) → Seats.seat_of b t n ≡ Seats.seat_of a t n
 other_of s a b id t n o h = go (process_of s id) refl o
   where
     go : (x : Option Process) → process_of s id ≡ x → Seats.is_of_other_unit x t n ≡ true → Seats.seat_of b t n ≡ Seats.seat_of a t n
     go None z k = cc
-    go (Some p) z k = h p z (turned (is_of_unit p t n) k)
+    go (Some p) z k = h p z (not-true (is_of_unit p t n) k)
 
 -- An event before the choice.
 event_other : (s : ScenarioValue) (a b : Array) (event : Event) (t n : ℕ) → IsSound s a → Seats.is_elsewhere s event t n ≡ true → event_step s a event ≡ Some b → Seats.seat_of b t n ≡ Seats.seat_of a t n
@@ -81,10 +78,10 @@ event_other s a b (events.End id status) t n c o h =
     other_of s a b id t n o (λ p e k. ended_other s a b p status t n c (is_own s id p e) k ((λ i. end_step a status (running_process a (id_is s id p e i))) ∙ h))
 event_other s a b (events.Lost id) t n c o h =
     other_of s a b id t n o (λ p e k. lost_other s a b p t n c (is_own s id p e) k ((λ i. loss_step a (id_is s id p e i)) ∙ h))
-event_other s a b (events.Aborted i target unit aborts.All) t n c o h = let same : abort_step s a i target unit aborts.All ≡ b = cc in (λ j. Seats.seat_of (sym same j) t n) ∙ abort_other s a i target unit t n c (turned (target == t && unit == n) o)
-event_other s a b (events.Aborted i target unit (aborts.Tag tag)) t n c o h = let same : abort_step s a i target unit (aborts.Tag tag) ≡ b = cc in (λ j. Seats.seat_of (sym same j) t n) ∙ tag_other s a i target unit t n tag c (turned (target == t && unit == n) o)
-event_other s a b (events.Aborted i target unit aborts.WholeQueue) t n c o h = let same : abort_step s a i target unit aborts.WholeQueue ≡ b = cc in (λ j. Seats.seat_of (sym same j) t n) ∙ queue_other s a i target unit t n c (turned (target == t && unit == n) o)
-event_other s a b (events.Aborted i target unit aborts.Device) t n c o h = let same : abort_step s a i target unit aborts.Device ≡ b = cc in (λ j. Seats.seat_of (sym same j) t n) ∙ device_other s a i target unit t n c (turned (target == t) o)
+event_other s a b (events.Aborted i target unit aborts.All) t n c o h = let same : abort_step s a i target unit aborts.All ≡ b = cc in (λ j. Seats.seat_of (sym same j) t n) ∙ abort_other s a i target unit t n c (not-true (target == t && unit == n) o)
+event_other s a b (events.Aborted i target unit (aborts.Tag tag)) t n c o h = let same : abort_step s a i target unit (aborts.Tag tag) ≡ b = cc in (λ j. Seats.seat_of (sym same j) t n) ∙ tag_other s a i target unit t n tag c (not-true (target == t && unit == n) o)
+event_other s a b (events.Aborted i target unit aborts.WholeQueue) t n c o h = let same : abort_step s a i target unit aborts.WholeQueue ≡ b = cc in (λ j. Seats.seat_of (sym same j) t n) ∙ queue_other s a i target unit t n c (not-true (target == t && unit == n) o)
+event_other s a b (events.Aborted i target unit aborts.Device) t n c o h = let same : abort_step s a i target unit aborts.Device ≡ b = cc in (λ j. Seats.seat_of (sym same j) t n) ∙ device_other s a i target unit t n c (not-true (target == t) o)
 event_other s a b (events.Reset dev) t n c o h = cc
 
 pub other_law : (s : ScenarioValue) (a b : Array) (event : Event) (t n : ℕ) → HasSeats s → IsSound s a → Seats.is_elsewhere s event t n ≡ true → step s event a ≡ Some b → Seats.seat_of b t n ≡ Seats.seat_of a t n

@@ -10,42 +10,32 @@ use Rattle.disk_array.specs.Execution.{Reply}
 use Rattle.disk_array.specs.Units.{RunningProcess, UnitState, Nexus, same_nexus, sense_of_nexus, senses_without, nexuses_without, unit_state_at, with_unit, without_guest, units_after_choice, unit_after_choice}
 use Rattle.disk_array.specs.Steps.{units_with_reply, units_without, kept_units, unit_without, kept_guests, is_of_unit}
 use Rattle.disk_array.specs.Seats.{unit_mapped, in_hold, guests_at, unit_with_reply, unit_kept}
+use Rattle.bus_base.proofs.Tests.{and_first, and_second, eq_self}
 
 -- ---- tests
-
-pub and_left : (a b : Bool) → (a && b) ≡ true → a ≡ true
-and_left true b h = refl
-and_left false b h = cc
-
-pub and_right : (a b : Bool) → (a && b) ≡ true → b ≡ true
-and_right true b h = h
-and_right false b h = cc
 
 same_bool_is : (a b : Bool) → same_bool a b ≡ true → a ≡ b
 same_bool_is true b h = sym h
 same_bool_is false true h = cc
 same_bool_is false false h = refl
 
-same_bool_self : (a : Bool) → same_bool a a ≡ true
+pub same_bool_self : (a : Bool) → same_bool a a ≡ true
 same_bool_self true = refl
 same_bool_self false = refl
 
 pub same_id_is : (a b : ProcId) → same_id a b ≡ true → a ≡ b
 same_id_is a b h =
-    let one : a.command ≡ b.command = eqb-true a.command b.command (and_left (a.command == b.command) (same_bool a.sense b.sense) h) in
-    let two : a.sense ≡ b.sense = same_bool_is a.sense b.sense (and_right (a.command == b.command) (same_bool a.sense b.sense) h) in
+    let one : a.command ≡ b.command = eqb-true a.command b.command (and_first (a.command == b.command) (same_bool a.sense b.sense) h) in
+    let two : a.sense ≡ b.sense = same_bool_is a.sense b.sense (and_second (a.command == b.command) (same_bool a.sense b.sense) h) in
     λ i. record { command = one i; sense = two i }
 
 pub same_nexus_is : (p q : Nexus) → same_nexus p q ≡ true → p ≡ q
 same_nexus_is p q h =
-    let rest : (p.target == q.target && p.unit == q.unit) ≡ true = and_right (p.initiator == q.initiator) (p.target == q.target && p.unit == q.unit) h in
-    let one : p.initiator ≡ q.initiator = eqb-true p.initiator q.initiator (and_left (p.initiator == q.initiator) (p.target == q.target && p.unit == q.unit) h) in
-    let two : p.target ≡ q.target = eqb-true p.target q.target (and_left (p.target == q.target) (p.unit == q.unit) rest) in
-    let three : p.unit ≡ q.unit = eqb-true p.unit q.unit (and_right (p.target == q.target) (p.unit == q.unit) rest) in
+    let rest : (p.target == q.target && p.unit == q.unit) ≡ true = and_second (p.initiator == q.initiator) (p.target == q.target && p.unit == q.unit) h in
+    let one : p.initiator ≡ q.initiator = eqb-true p.initiator q.initiator (and_first (p.initiator == q.initiator) (p.target == q.target && p.unit == q.unit) h) in
+    let two : p.target ≡ q.target = eqb-true p.target q.target (and_first (p.target == q.target) (p.unit == q.unit) rest) in
+    let three : p.unit ≡ q.unit = eqb-true p.unit q.unit (and_second (p.target == q.target) (p.unit == q.unit) rest) in
     λ i. record { initiator = one i; target = two i; unit = three i }
-
-pub eqb_self : (n : ℕ) → (n == n) ≡ true
-eqb_self n = eq-eqb n n refl
 
 -- ---- what is kept by nexus
 
@@ -153,13 +143,13 @@ found_place (v ∷ units) t n u h = go (λ k. found_place units t n u k) (is_pla
     go more false z k = more k
 
 pub found_target : (units : List UnitState) (t n : ℕ) (u : UnitState) → unit_state_at units t n ≡ Some u → u.target ≡ t
-found_target units t n u h = eqb-true u.target t (and_left (u.target == t) (u.unit == n) (found_place units t n u h))
+found_target units t n u h = eqb-true u.target t (and_first (u.target == t) (u.unit == n) (found_place units t n u h))
 
 pub found_unit : (units : List UnitState) (t n : ℕ) (u : UnitState) → unit_state_at units t n ≡ Some u → u.unit ≡ n
-found_unit units t n u h = eqb-true u.unit n (and_right (u.target == t) (u.unit == n) (found_place units t n u h))
+found_unit units t n u h = eqb-true u.unit n (and_second (u.target == t) (u.unit == n) (found_place units t n u h))
 
 pub place_is : (u : UnitState) (t n : ℕ) → u.target ≡ t → u.unit ≡ n → is_place u t n ≡ true
-place_is u t n a b = (λ i. a i == t && b i == n) ∙ (λ i. eqb_self t i && eqb_self n i)
+place_is u t n a b = (λ i. a i == t && b i == n) ∙ (λ i. eq_self t i && eq_self n i)
 
 pub not_both : (u new : UnitState) (t n : ℕ) → (u.target == new.target && u.unit == new.unit) ≡ false → is_place u t n ≡ true → is_place new t n ≡ false
 not_both u new t n z w = go (is_place new t n) refl
@@ -167,8 +157,8 @@ not_both u new t n z w = go (is_place new t n) refl
     go : (x : Bool) → is_place new t n ≡ x → is_place new t n ≡ false
     go false k = k
     go true k =
-        let one : new.target ≡ t = eqb-true new.target t (and_left (new.target == t) (new.unit == n) k) in
-        let two : new.unit ≡ n = eqb-true new.unit n (and_right (new.target == t) (new.unit == n) k) in
+        let one : new.target ≡ t = eqb-true new.target t (and_first (new.target == t) (new.unit == n) k) in
+        let two : new.unit ≡ n = eqb-true new.unit n (and_second (new.target == t) (new.unit == n) k) in
         let both : (u.target == new.target && u.unit == new.unit) ≡ true = (λ i. u.target == one i && u.unit == two i) ∙ w in
         let no : true ≡ false = sym both ∙ z in cc
 
@@ -190,8 +180,8 @@ with_unit_at (u ∷ units) new t n = go (with_unit_at units new t n) (u.target =
 
     go : unit_state_at (with_unit units new) t n ≡ (if is_place new t n then (if is_some (unit_state_at units t n) then Some new else None) else unit_state_at units t n) → (x : Bool) → (u.target == new.target && u.unit == new.unit) ≡ x → unit_state_at (if x then new ∷ units else u ∷ with_unit units new) t n ≡ (if is_place new t n then (if is_some (if is_place u t n then Some u else unit_state_at units t n) then Some new else None) else (if is_place u t n then Some u else unit_state_at units t n))
     go rest true z =
-        let one : u.target ≡ new.target = eqb-true u.target new.target (and_left (u.target == new.target) (u.unit == new.unit) z) in
-        let two : u.unit ≡ new.unit = eqb-true u.unit new.unit (and_right (u.target == new.target) (u.unit == new.unit) z) in
+        let one : u.target ≡ new.target = eqb-true u.target new.target (and_first (u.target == new.target) (u.unit == new.unit) z) in
+        let two : u.unit ≡ new.unit = eqb-true u.unit new.unit (and_second (u.target == new.target) (u.unit == new.unit) z) in
         let place : is_place new t n ≡ is_place u t n = λ i. (sym one i == t && sym two i == n) in
         same (is_place new t n) ∙ (λ i. if is_place new t n then (if is_some (if place i then Some u else unit_state_at units t n) then Some new else None) else (if place i then Some u else unit_state_at units t n))
     go rest false z = other (is_place u t n) (is_place new t n) (not_both u new t n z) rest

@@ -11,10 +11,11 @@ use Rattle.disk_array.specs.Units.{RunningProcess, UnitState, unit_state_at, gue
 use Rattle.disk_array.specs.Steps.{guests_with_reply, current_with_reply, running_if, running_in, unit_without, is_of_unit, is_waiting}
 use Rattle.disk_array.specs.Seats.{guests_at, current_of, unit_with_reply, is_waiting_at}
 use Rattle.disk_array.specs.SoundArray.{IsOwn, AllOwn, IsOwnRunning, IsOwnUnit, AllOwnUnits, AllOwnGuests, AreApart}
-use Rattle.disk_array.proofs.SeatLookups.{same_id_is, eqb_self, is_place, place_is, found_target, found_unit}
+use Rattle.disk_array.proofs.SeatLookups.{same_id_is, is_place, place_is, found_target, found_unit}
+use Rattle.bus_base.proofs.Tests.{eq_self}
 
 pub of_own : (p : Process) → is_of_unit p p.target p.unit ≡ true
-of_own p = λ i. eqb_self p.target i && eqb_self p.unit i
+of_own p = λ i. eq_self p.target i && eq_self p.unit i
 
 -- Two processes of the scenario with one number are one.
 pub own_is : (s : ScenarioValue) (q p : Process) (id : ProcId) → process_of s q.id ≡ Some q → same_id q.id id ≡ true → process_of s id ≡ Some p → q ≡ p

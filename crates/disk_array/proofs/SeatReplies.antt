@@ -20,13 +20,15 @@ use Rattle.disk_array.specs.Seats
 use Rattle.disk_array.specs.Seats.{Seat, settled_seat, running_at, is_waiting_at, current_of}
 use Rattle.disk_array.specs.SoundArray.{AllOwnGuests}
 use Rattle.disk_array.specs.SeatReplies.{HasReplies, IsNowhere, AreOfScenario}
-use Rattle.disk_array.proofs.SeatLookups.{same_id_is, eqb_self}
+use Rattle.disk_array.proofs.SeatLookups.{same_id_is}
 use Rattle.disk_array.proofs.SeatOwn.{own_is}
+use Rattle.std.proofs.lemmas.Bool.{or_right}
+use Rattle.bus_base.proofs.Tests.{eq_self}
 
 -- ---- numbers
 
 id_self : (id : ProcId) → same_id id id ≡ true
-id_self id = λ i. eqb_self id.command i && bool_self id.sense i
+id_self id = λ i. eq_self id.command i && bool_self id.sense i
   where
     bool_self : (b : Bool) → Rattle.disk_array.specs.Processes.same_bool b b ≡ true
     bool_self true = refl
@@ -41,16 +43,12 @@ given_before replies id other reply e = λ i. if e i then Some reply else reply_
 
 -- ---- who waits
 
-abbrev waits_in : List Process → ProcId → Bool
+abbrev pub waits_in : List Process → ProcId → Bool
 waits_in waiting id = list_any (λ (p : Process). same_id p.id id) waiting
-
-or_one : (x y : Bool) → y ≡ true → (x || y) ≡ true
-or_one true y h = refl
-or_one false y h = h
 
 -- ---- the parts of a seat: its guests, its queue, its current process
 
-abbrev first : Option RunningProcess → Option RunningProcess → Option RunningProcess
+abbrev pub first : Option RunningProcess → Option RunningProcess → Option RunningProcess
 first x y = if is_some x then x else y
 
 abbrev running_of : List RunningProcess → Option RunningProcess → ProcId → Option RunningProcess
@@ -72,7 +70,7 @@ without_waits (q ∷ waiting) x id e = go (λ k. without_waits waiting x id k) (
     kept rest false k = rest k
 
     go : (waits_in (without_process waiting x) id ≡ true → waits_in waiting id ≡ true) → (y : Bool) → waits_in (if y then without_process waiting x else q ∷ without_process waiting x) id ≡ true → (same_id q.id id || waits_in waiting id) ≡ true
-    go rest true k = or_one (same_id q.id id) (waits_in waiting id) (rest k)
+    go rest true k = or_right (same_id q.id id) (waits_in waiting id) (rest k)
     go rest false k = kept rest (same_id q.id id) k
 
 without_other : (waiting : List Process) (x id : ProcId) → waits_in (without_process waiting x) id ≡ true → same_id x id ≡ false
@@ -97,7 +95,7 @@ without_other (q ∷ waiting) x id e = go (λ k. without_other waiting x id k) (
 place_waits : (waiting : List Process) (place : ℕ) (p : Process) → process_at waiting place ≡ Some p → waits_in waiting p.id ≡ true
 place_waits [] place p e = cc
 place_waits (q ∷ waiting) zero p e = let same : q ≡ p = cc in (λ i. same_id (same i).id p.id || waits_in waiting p.id) ∙ (λ i. id_self p.id i || waits_in waiting p.id)
-place_waits (q ∷ waiting) (suc place) p e = or_one (same_id q.id p.id) (waits_in waiting p.id) (place_waits waiting place p e)
+place_waits (q ∷ waiting) (suc place) p e = or_right (same_id q.id p.id) (waits_in waiting p.id) (place_waits waiting place p e)
 
 choice_waits : (waiting : List Process) (place : Option ℕ) (p : Process) → process_at_if waiting place ≡ Some p → waits_in waiting p.id ≡ true
 choice_waits waiting None p e = cc
@@ -410,7 +408,7 @@ kept_waits drops (q ∷ ws) id e = go (λ k. kept_waits drops ws id k) (drops q)
     kept more false k = more k
 
     go : (waits_in (kept_processes drops ws) id ≡ true → waits_in ws id ≡ true) → (y : Bool) → waits_in (if y then kept_processes drops ws else q ∷ kept_processes drops ws) id ≡ true → (same_id q.id id || waits_in ws id) ≡ true
-    go more true k = or_one (same_id q.id id) (waits_in ws id) (more k)
+    go more true k = or_right (same_id q.id id) (waits_in ws id) (more k)
     go more false k = kept more (same_id q.id id) k
 
 current_kept : (drops : Process → Bool) (c : Option RunningProcess) (r : RunningProcess) → kept_running drops c ≡ Some r → (c ≡ Some r) × (drops r.process ≡ false)

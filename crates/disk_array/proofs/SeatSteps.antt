@@ -8,30 +8,20 @@ use Rattle.disk_array.specs.Order.{choice}
 use Rattle.disk_array.specs.Units.{UnitState, Nexus, Array, is_at_unit, same_nexus, sense_of_nexus, is_held, unit_state_at, with_current, has_no_current, unit_after_choice, units_after_choice, settled_array}
 use Rattle.disk_array.specs.Seats
 use Rattle.disk_array.specs.SoundArray.{AllOfEight}
-use Rattle.disk_array.proofs.SeatLookups.{eqb_self, mapped_at, choice_map, found_target, found_unit}
+use Rattle.disk_array.proofs.SeatLookups.{mapped_at, choice_map, found_target, found_unit}
+use Rattle.bus_base.proofs.Tests.{or_true, eq_self, or_or}
 
 -- ---- the choice
 
-or_or : (a b x y : Bool) → ((a || b) || (x || y)) ≡ ((a || x) || (b || y))
-or_or true b x y = refl
-or_or false true true y = refl
-or_or false true false y = refl
-or_or false false true y = refl
-or_or false false false y = refl
-
-any_or : (f g : ℕ → Bool) (n : ℕ) → Seats.is_any_below (λ i. f i || g i) n ≡ (Seats.is_any_below f n || Seats.is_any_below g n)
+pub any_or : (f g : ℕ → Bool) (n : ℕ) → Seats.is_any_below (λ i. f i || g i) n ≡ (Seats.is_any_below f n || Seats.is_any_below g n)
 any_or f g zero = refl
 any_or f g (suc n) = (λ i. (f n || g n) || any_or f g n i) ∙ or_or (f n) (g n) (Seats.is_any_below f n) (Seats.is_any_below g n)
 
-any_none : (f : ℕ → Bool) (n : ℕ) → ((i : ℕ) → f i ≡ false) → Seats.is_any_below f n ≡ false
+pub any_none : (f : ℕ → Bool) (n : ℕ) → ((i : ℕ) → f i ≡ false) → Seats.is_any_below f n ≡ false
 any_none f zero h = refl
 any_none f (suc n) h = (λ i. h n i || any_none f n h i)
 
-or_true : (a : Bool) → (a || true) ≡ true
-or_true true = refl
-or_true false = refl
-
-any_here : (f : ℕ → Bool) (n k : ℕ) → k < n → f k ≡ true → Seats.is_any_below f n ≡ true
+pub any_here : (f : ℕ → Bool) (n k : ℕ) → k < n → f k ≡ true → Seats.is_any_below f n ≡ true
 any_here f zero k l h = absurd (omega arith)
 any_here f (suc n) k l h = go (n == k) refl (λ u. any_here f n k u h)
   where
@@ -47,10 +37,10 @@ held_by_one q t n m l = go (is_at_unit q t n) refl
     and_false false = refl
 
     go : (x : Bool) → is_at_unit q t n ≡ x → is_at_unit q t n ≡ Seats.is_any_below (λ i. same_nexus q (Seats.nexus_at t n i)) m
-    go true z = z ∙ sym (any_here (λ i. same_nexus q (Seats.nexus_at t n i)) m q.initiator l (λ i. eqb_self q.initiator i && z i))
+    go true z = z ∙ sym (any_here (λ i. same_nexus q (Seats.nexus_at t n i)) m q.initiator l (λ i. eq_self q.initiator i && z i))
     go false z = z ∙ sym (any_none (λ i. same_nexus q (Seats.nexus_at t n i)) m (λ k. (λ i. (q.initiator == k) && z i) ∙ and_false (q.initiator == k)))
 
-held_below : (holds : List Nexus) (t n m : ℕ) → 8 ≡ m → AllOfEight holds → is_held holds t n ≡ Seats.is_any_below (λ i. Seats.in_hold holds (Seats.nexus_at t n i)) m
+pub held_below : (holds : List Nexus) (t n m : ℕ) → 8 ≡ m → AllOfEight holds → is_held holds t n ≡ Seats.is_any_below (λ i. Seats.in_hold holds (Seats.nexus_at t n i)) m
 held_below [] t n m e b = sym (any_none (λ i. false) m (λ k. refl))
 held_below (q ∷ holds) t n m e b =
     let l : q.initiator < m = (let u : q.initiator < 8 = b.0 in omega arith) in

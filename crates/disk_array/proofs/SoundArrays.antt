@@ -23,10 +23,11 @@ use Rattle.disk_array.specs.Steps
 use Rattle.disk_array.specs.ArrayHistory.{array_step, array_after}
 use Rattle.disk_array.specs.Seats.{seat_of, settled_seat, unit_mapped, unit_with_reply, unit_kept}
 use Rattle.disk_array.specs.SoundArray.{IsOwn, AllOwn, IsOwnRunning, IsOwnUnit, AllOwnUnits, AllOwnGuests, AllOfEight, AreApart, IsSound, HasSeats}
-use Rattle.disk_array.proofs.SeatLookups.{and_left, and_right, mapped_at, replies_map, without_map, kept_map, choice_map, is_place, found_target, found_unit, place_is, not_both, with_unit_at}
+use Rattle.disk_array.proofs.SeatLookups.{mapped_at, replies_map, without_map, kept_map, choice_map, is_place, found_target, found_unit, place_is, not_both, with_unit_at}
 use Rattle.disk_array.proofs.SeatSteps.{choice_target, choice_unit, seat_settled, settled_twice}
 use Rattle.disk_array.proofs.SeatOwn.{own_found}
 use Rattle.std.proofs.lemmas.Bool.{eqb-true}
+use Rattle.bus_base.proofs.Tests.{and_first, and_second}
 
 -- What holds of the array before the choice.
 record Nearly (s : ScenarioValue) (a : Array) : Type 0 where
@@ -124,8 +125,8 @@ apart_with (u ∷ units) new b = go (u.target == new.target && u.unit == new.uni
 
     go : (x : Bool) → (u.target == new.target && u.unit == new.unit) ≡ x → AreApart (with_unit units new) → AreApart (if x then new ∷ units else u ∷ with_unit units new)
     go true z k =
-        let one : u.target ≡ new.target = eqb-true u.target new.target (and_left (u.target == new.target) (u.unit == new.unit) z) in
-        let two : u.unit ≡ new.unit = eqb-true u.unit new.unit (and_right (u.target == new.target) (u.unit == new.unit) z) in
+        let one : u.target ≡ new.target = eqb-true u.target new.target (and_first (u.target == new.target) (u.unit == new.unit) z) in
+        let two : u.unit ≡ new.unit = eqb-true u.unit new.unit (and_second (u.target == new.target) (u.unit == new.unit) z) in
         ((λ i. unit_state_at units (sym one i) (sym two i)) ∙ b.0, b.1)
     go false z k = (
       with_unit_at units new u.target u.unit
@@ -472,7 +473,7 @@ step_sound s a b event f c h = go (Steps.event_step s a event) (event_sound s a 
     go None k l = cc
     go (Some d) k l = let same : settled_array d ≡ b = cc in subst (λ (e : Array). IsSound s e) same (settle_sound s d k)
 
-start_units : (s : ScenarioValue) (units : List UnitDef) → AllOwnUnits s (starting_units s units)
+pub start_units : (s : ScenarioValue) (units : List UnitDef) → AllOwnUnits s (starting_units s units)
 start_units s [] = tt
 start_units s (u ∷ units) = (record { waiting = tt; current = tt }, start_units s units)
 

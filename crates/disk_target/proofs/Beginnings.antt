@@ -9,22 +9,8 @@ use Rattle.disk_array.specs.Units.{RunningProcess, UnitState, Array, unit_state_
 use Rattle.disk_unit.proofs.LiveCommands.{id_self}
 use Rattle.scsi_device.specs.Heard.{is_new}
 use Rattle.disk_target.specs.Standings.{waits_in, is_inside, IsNoGuest}
-
-and_one : (x y : Bool) → (x && y) ≡ true → x ≡ true
-and_one true y h = refl
-and_one false y h = cc
-
-and_two : (x y : Bool) → (x && y) ≡ true → y ≡ true
-and_two true y h = h
-and_two false y h = cc
-
-not_true : (x : Bool) → not x ≡ true → x ≡ false
-not_true true h = cc
-not_true false h = refl
-
-is_nothing : {A : Type 0} (x : Option A) → is_none x ≡ true → x ≡ None
-is_nothing None h = refl
-is_nothing (Some x) h = cc
+use Rattle.std.proofs.lemmas.Bool.{not-true}
+use Rattle.bus_base.proofs.Tests.{and_first, and_second, is_nothing}
 
 -- ---- guests
 
@@ -65,8 +51,8 @@ runs_nowhere a id h = go (guest_at a.guests id) refl h
 
 pub new_nowhere : (a : Array) (p : Process) (t n : ℕ) → is_new a p ≡ true → IsNoGuest (seat_of a t n) p false
 new_nowhere a p t n h =
-    let waits = not_true (is_waiting a.units p.id) (and_one _ _ (and_one _ _ h)) in
-    let runs = runs_nowhere a p.id (is_nothing (running_process a p.id) (and_two _ _ (and_one _ _ h))) in
+    let waits = not-true (is_waiting a.units p.id) (and_first _ _ (and_first _ _ h)) in
+    let runs = runs_nowhere a p.id (is_nothing (running_process a p.id) (and_second _ _ (and_first _ _ h))) in
     record { none = none_here a.guests t n p.id runs.0; inside_is = outside a.units t n p.id waits runs.1 }
 
 -- A current process that is no guest.

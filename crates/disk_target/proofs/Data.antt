@@ -28,48 +28,14 @@ use Rattle.disk_array.specs.ArrayHistory.{reply_in}
 use Rattle.disk_array.specs.Steps.{running_process}
 use Rattle.disk_array.specs.Units.{Array}
 use Rattle.target_course.specs.Courses.{CourseState, name_with, name_of, name_by, name_if, MOST_KEPT, IsTold, IsOfProcess, IsCourse}
-use Rattle.target_course.proofs.CourseAgrees.{implied, IsFront}
+use Rattle.target_course.proofs.CourseAgrees.{IsFront, name_is, bytes_are, tag_is, short_group, group_short}
 use Rattle.disk_target.specs.Bytes.{gives_data}
+use Rattle.bus_base.proofs.Tests.{implied}
 
 -- ---- names and command blocks
 
-tag_is : (a b : Tag) → same_tag a b ≡ true → a ≡ b
-tag_is tags.Untagged tags.Untagged e = refl
-tag_is (tags.Simple a) (tags.Simple b) e = λ i. tags.Simple (eqb-true a b e i)
-tag_is (tags.Ordered a) (tags.Ordered b) e = λ i. tags.Ordered (eqb-true a b e i)
-tag_is (tags.Head a) (tags.Head b) e = λ i. tags.Head (eqb-true a b e i)
-tag_is _ _ e = cc
-
-name_is : (o : Option Said) (p : Process) → is_name o p ≡ true → name_if o ≡ Some (name_of p)
-name_is None p e = cc
-name_is (Some said) p e =
-    let last = and_parts (is_none said.aborts && is_unit said.unit p.unit) (same_tag said.tag p.tag) e in
-    let two = and_parts (is_none said.aborts) (is_unit said.unit p.unit) last.0 in
-    go said.unit two.1 (tag_is said.tag p.tag last.1)
-  where
-    go : (u : Option ℕ) → is_unit u p.unit ≡ true → said.tag ≡ p.tag → name_by said.tag u ≡ Some (name_of p)
-    go None f g = cc
-    go (Some lun) f g = λ i. Some (name_with (g i) (eqb-true lun p.unit f i))
-
-bytes_are : (a b : List ℕ) → same_bytes a b ≡ true → a ≡ b
-bytes_are [] [] e = refl
-bytes_are [] (y ∷ b) e = cc
-bytes_are (x ∷ a) [] e = cc
-bytes_are (x ∷ a) (y ∷ b) e =
-    let both = and_parts (x == y) (same_bytes a b) e in
-    let rest = bytes_are a b both.1 in
-    λ i. eqb-true x y both.0 i ∷ rest i
-
 abbrev group_of : Bool → Bool → Option ℕ
 group_of six ten = if six then Some 6 else if ten then Some 10 else None
-
-short_group : (six ten : Bool) (n : ℕ) → is_len (group_of six ten) n ≡ true → n ≤ 10
-short_group true ten n e = let same : 6 ≡ n = eqb-true 6 n e in omega (arith, same)
-short_group false true n e = let same : 10 ≡ n = eqb-true 10 n e in omega (arith, same)
-short_group false false n e = absurd cc
-
-group_short : (block : List ℕ) → has_group_len block ≡ true → length block ≤ 10
-group_short block e = short_group (nat_lt (slice_index block 0) 0x20) (nat_lt (slice_index block 0) 0x40) (length block) e
 
 -- ---- the process
 

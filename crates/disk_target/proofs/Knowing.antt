@@ -35,7 +35,7 @@ use Rattle.disk_target.specs.Knowns.{AreSourcesOf, IsKnownBy, IsKnownIf, IsStill
 use Rattle.disk_target.specs.Targets.{TargetValue, IsCourseIf, KnowsRows}
 use Rattle.disk_target.specs.declared.known.Known.{Known}
 use Rattle.disk_target.specs.declared.turn.Turn.{Turn}
-use Rattle.disk_target.proofs.Fitting.{plan_fits}
+use Rattle.target_course.proofs.Fits.{plan_fits}
 
 pub sources : (s : ScenarioValue) (rows : List Row) (v : TargetValue) → KnowsRows s rows v → AreSourcesOf s rows v.def v.units v.progress
 sources s rows v h = record {

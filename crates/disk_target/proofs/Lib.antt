@@ -25,6 +25,6 @@ pub mod RowBegins
 pub mod Reselected
 pub mod Turning
 pub mod Apart
-pub mod Fitting
 pub mod Knowing
 mod AttendedCases
+pub mod Quiet

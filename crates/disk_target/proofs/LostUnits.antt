@@ -25,10 +25,11 @@ use Rattle.target_units.specs.Units.{UnitsState, AreUnitsAfter, AreUnitsOf, IsSt
 use Rattle.target_units.specs.declared.logical.LogicalUnit.{LogicalUnit}
 use Rattle.target_units.specs.declared.logical.LogicalUnit.TheVariants as kinds
 use Rattle.target_units.proofs.UnitSteps.{left_kept, loss_left, one_goes, other_place, unit_goes}
-use Rattle.disk_target.specs.Processes.{AreKeptOf, events_of_row}
+use Rattle.disk_target.specs.Processes.{AreKeptOf}
 use Rattle.disk_target.specs.Standings.{IsNoGuest, is_inside, waits_in}
 use Rattle.disk_target.proofs.Beginnings.{new_nowhere}
 use Rattle.disk_target.proofs.UnitRows.{by_one, by_row, some_after}
+use Rattle.target_course.specs.Negotiated.{events_of_row}
 
 waiting_kept : (waiting : List Process) (id : ProcId) → waits_in waiting id ≡ false → without_process waiting id ≡ waiting
 waiting_kept [] id e = refl

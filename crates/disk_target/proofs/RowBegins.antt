@@ -26,13 +26,14 @@ use Rattle.scsi_device.specs.Heard.{Instructions, heard, instructions, is_beginn
 use Rattle.target_units.proofs.UnitSteps.{own_unit}
 use Rattle.target_units.proofs.UnitTellings.{own_number}
 use Rattle.target_course.specs.States.{IsOwnConnection}
-use Rattle.target_course.proofs.CourseAgrees.{IsFront, front_heard, other}
+use Rattle.target_course.proofs.CourseAgrees.{IsFront, front_heard}
 use Rattle.disk_target.specs.Processes.{ProcessesState}
 use Rattle.disk_target.specs.Standings.{IsStanding}
 use Rattle.disk_target.specs.Targets.{AreTied}
 use Rattle.disk_target.specs.Turns.{AreAttendedOf, AreAttendedOn}
 use Rattle.disk_target.proofs.RowServed.{array_same}
 use Rattle.disk_target.proofs.RowShapes.{none_shown}
+use Rattle.bus_base.proofs.Tests.{or_second, is_nothing}
 
 -- ---- the unit that is ready first, and its current process
 
@@ -136,7 +137,7 @@ begins_so s rows row n f q e x y calm =
     let i : Instructions = instructions s (row ∷ rows) in
     let last = and_parts (heard s rows) (is_heard_after s k next d i) e in
     let two = and_parts (is_heard_row s k next d) (is_heard s next d.next i) last.1 in
-    (λ j. is_heard_on s k next d (sym (f.connection ∙ x) j) (sym (q.connection ∙ y) j)) ∙ other d.change.after.rst (is_heard_on s k next d k.story.bus_state.connection d.next) two.0 ((λ j. (q.bus j).rst) ∙ calm)
+    (λ j. is_heard_on s k next d (sym (f.connection ∙ x) j) (sym (q.connection ∙ y) j)) ∙ or_second d.change.after.rst (is_heard_on s k next d k.story.bus_state.connection d.next) two.0 ((λ j. (q.bus j).rst) ∙ calm)
 
 pub served_ready : (s : ScenarioValue) (rows : List Row) (row : Row) (n : Connection) → IsPlain s rows (run_state s rows) → IsPlain s (row ∷ rows) (run_state s (row ∷ rows)) → connection rows ≡ None → connection (row ∷ rows) ≡ Some n → n.reselected ≡ true → (run_state s (row ∷ rows)).served ≡ item_if (ready_of s (run_state s rows) n.target)
 served_ready s rows row n f q x y r =
@@ -158,10 +159,6 @@ ready_there s rows row n f g e x y calm r = go (ready_of s k n.target) refl
     go (Some q) h = (q, h)
 
 -- ---- where the process stands then
-
-nothing_there : {A : Type 0} (x : Option A) → is_none x ≡ true → x ≡ None
-nothing_there None e = refl
-nothing_there (Some x) e = absurd cc
 
 begun_standing : (s : ScenarioValue) (rows : List Row) (row : Row) (dev : ℕ) (n : Connection) (v w : ProcessesState) (p : Process) → IsPlain s rows (run_state s rows) → IsPlain s (row ∷ rows) (run_state s (row ∷ rows)) → AreTied s (row ∷ rows) → connection rows ≡ None → IsOwnConnection (row ∷ rows) dev n → (bus (row ∷ rows)).rst ≡ false
     → AreAttendedOn s rows row dev v
@@ -201,7 +198,7 @@ begun_standing s rows row dev n v w p f g tied x own calm h selected reselected 
     go true r e =
         let two = (λ i. if sym r i then is_none (guest_at a.guests p.id) && is_none (reply_in a.replies p.id) else is_new a p && is_uncounted (progress_in next.progress p.id)) ∙ e in
         let it = current r in
-        reselected a p p.unit it.r r (nothing_there (guest_at a.guests p.id) (and_parts (is_none (guest_at a.guests p.id)) (is_none (reply_in a.replies p.id)) two).0)
+        reselected a p p.unit it.r r (is_nothing (guest_at a.guests p.id) (and_parts (is_none (guest_at a.guests p.id)) (is_none (reply_in a.replies p.id)) two).0)
         ((λ i. Seats.current_of (seat_of a (h.dev_is i) p.unit).unit) ∙ it.current) it.is
 
 pub begun_on : (s : ScenarioValue) (rows : List Row) (row : Row) (dev : ℕ) (n : Connection) (v w : ProcessesState) → IsPlain s rows (run_state s rows) → IsPlain s (row ∷ rows) (run_state s (row ∷ rows)) → AreTied s (row ∷ rows) → connection rows ≡ None → IsOwnConnection (row ∷ rows) dev n → (bus (row ∷ rows)).rst ≡ false
@@ -214,7 +211,7 @@ begun_on s rows row dev n v w f g tied x own calm same h selected reselected =
     (record {
       dev_is = h.dev_is;
       kept = h.kept;
-      standing = λ m p other quiet is.
+      standing = λ m p or_second quiet is.
           begun_standing s rows row dev n v w p f g tied x own calm h selected reselected is;
     })
 

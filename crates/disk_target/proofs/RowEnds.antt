@@ -32,7 +32,7 @@ use Rattle.target_course.proofs.CourseRows.{heard_before}
 use Rattle.target_course.proofs.ReplyRows.{Shape, number_is, shown_of}
 use Rattle.target_course.proofs.ReplyRows as shapes
 use Rattle.disk_target.specs.Attended.{are_in, is_abort_in, is_empty, is_of_item, is_unseen}
-use Rattle.disk_target.specs.Processes.{ProcessesState, events_of_row}
+use Rattle.disk_target.specs.Processes.{ProcessesState}
 use Rattle.disk_target.specs.Targets.{AreTied, IsStandingOf}
 use Rattle.disk_target.specs.Turns.{AreAttendedOf, AreAttendedOn, abort_of, is_opening_by, is_reset}
 use Rattle.disk_target.specs.declared.standing.Standing.{Standing}
@@ -42,6 +42,8 @@ use Rattle.disk_target.proofs.LostUnits.{lost_row}
 use Rattle.disk_target.proofs.RowOutside.{attended_in}
 use Rattle.disk_target.proofs.RowServed.{empty_on, opening_same, reset_empty}
 use Rattle.disk_target.proofs.RowShapes.{ShowsIn, nothing, turned, lost, aborted, ended, row_shows}
+use Rattle.bus_base.proofs.Tests.{or_second}
+use Rattle.target_course.specs.Negotiated.{events_of_row}
 
 -- ---- the connection ends with the row
 
@@ -63,10 +65,6 @@ pub record IsAbortShown (s : ScenarioValue) (rows : List Row) (row : Row) (n : C
   pub unit : a.unit < 8
   pub by : a.by < 8
   pub ends : is_some (row_reading (run_state s rows).story.bus_state row).next ≡ false
-
-or_right : (x y : Bool) → (x || y) ≡ true → x ≡ false → y ≡ true
-or_right true y e f = cc
-or_right false y e f = e
 
 no_item : (item : Option Item) (host target unit : ℕ) (what : AbortKind) → is_of_item item (events.Aborted host target unit what) ≡ false
 no_item None host target unit what = refl
@@ -97,7 +95,7 @@ abort_shown s rows row n a f tied x calm reset is = go d.change.after.rst refl
         let within = (attended_in s rows row n tied.attended_are (f.connection ∙ x) ((λ i. (f.bus i).rst) ∙ calm) after).within in
         let event : Event = events.Aborted n.initiator n.target unit what in
         let first = and_parts (is_of_item k.served event || is_abort_in n event) true ((λ j. are_in n k.served (sym g j)) ∙ within) in
-        let inside = or_right (is_of_item k.served event) (is_abort_in n event) first.0 (no_item k.served n.initiator n.target unit what) in
+        let inside = or_second (is_of_item k.served event) (is_abort_in n event) first.0 (no_item k.served n.initiator n.target unit what) in
         let bounds = and_parts (n.initiator == n.initiator && n.target == n.target) (nat_lt unit 8 && nat_lt n.initiator 8) inside in
         let two = and_parts (nat_lt unit 8) (nat_lt n.initiator 8) bounds.1 in
         subst (λ (z : Abort). IsAbortShown s rows row n z) same (record { shown = g; unit = below_eight unit two.0; by = below_eight n.initiator two.1; ends = st })
@@ -108,7 +106,7 @@ abort_shown s rows row n a f tied x calm reset is = go d.change.after.rst refl
 
 -- ---- in the opening
 
-empty_is : (shown : List Event) → is_empty shown ≡ true → shown ≡ []
+pub empty_is : (shown : List Event) → is_empty shown ≡ true → shown ≡ []
 empty_is [] e = refl
 empty_is (x ∷ shown) e = absurd cc
 

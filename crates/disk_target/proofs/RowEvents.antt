@@ -18,6 +18,7 @@ use Rattle.disk_target.specs.declared.standing.Standing.TheVariants as standings
 use Rattle.disk_target.specs.declared.standing.Served.{Served}
 use Rattle.disk_target.specs.Standings.{HasBlock}
 use Rattle.disk_target.specs.Processes.{ProcessesState, AreProcessesAt, AreProcessesAfter, AreSettledAt, IsOwnEvent, AreOwnEvents, times_of_events}
+use Rattle.bus_base.proofs.Tests.{and_second}
 
 -- One event more.
 pub one_more : (s : ScenarioValue) (x : Option Array) (it : Event) (P : Array → Type 0) → HasSeats s → IsSound s (or_start s x) → is_some (array_step s it x) ≡ true → ((b : Array) → IsStep s it (or_start s x) b → P b) → P (or_start s (array_step s it x)) × IsSound s (or_start s (array_step s it x))
@@ -52,7 +53,3 @@ row_events s x times now p unit q old new (it ∷ first ∷ []) seats h some own
     (subst (λ (e : Event). IsStep s e (or_start s x) (or_start s (array_step s first x))) own.0 z.0) st) in
     record { sound = y.1; at = y.0 }
 row_events s x times now p unit q old new (it ∷ first ∷ zeroth ∷ more) seats h some own nothing one two = absurd own
-
-pub and_two : (x y : Bool) → (x && y) ≡ true → y ≡ true
-and_two true y h = h
-and_two false y h = cc

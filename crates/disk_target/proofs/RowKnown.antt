@@ -1,7 +1,7 @@
 -- Where the command of a process arrives or runs its target knows it.
 use Rattle.std.proofs.Common.{ℕ, ◌≡◌, ◌≤◌, ◌∙◌, Bool, true, false, List, [], ◌∷◌, refl, sym, length, take, Option, Some, None}
 use Rattle.std.specs.Prelude.{if◌then◌else◌, not, ◌&&◌, ◌||◌, nat_lt, is_some, is_none}
-use Rattle.std.proofs.lemmas.Bool.{and_parts}
+use Rattle.std.proofs.lemmas.Bool.{and_parts, not-true}
 use Rattle.std.proofs.lemmas.List.{take_all}
 use native.Mathlib.Omega.{arith}
 use Rattle.bus_base.specs.declared.Event.TheVariants as events
@@ -38,9 +38,10 @@ use Rattle.bus_due.specs.Sights.{serving_of}
 use Rattle.bus_due.specs.Tasks.{task_if, task_of}
 use Rattle.scsi_device.specs.Heard.{gives_status, instructions, is_answered, is_command_phase, is_new, is_placed, is_unanswered, may_leave, moves_data}
 use Rattle.target_course.specs.Courses.{CourseState, MOST_KEPT}
-use Rattle.target_course.proofs.CourseAgrees.{IsFront, IsServed, bytes_are, other}
+use Rattle.target_course.proofs.CourseAgrees.{IsFront, IsServed, bytes_are}
 use Rattle.target_course.proofs.ReplyRows.{Shape, shown_of}
 use Rattle.target_course.proofs.ReplyRows as shapes
+use Rattle.bus_base.proofs.Tests.{or_second}
 
 -- ---- which of the shapes need the command
 
@@ -73,7 +74,7 @@ failed_command i j code shapes.nothing e = cc
 failed_command i j code shapes.accepts e = cc
 failed_command i j code shapes.refuses e = cc
 failed_command i j code shapes.runs e = cc
-failed_command i j code (shapes.fails other) e = refl
+failed_command i j code (shapes.fails or_second) e = refl
 failed_command i j code shapes.accepts_and_runs e = cc
 
 no_arrival : (i : ProcId) (x : Shape) → [] ≡ shown_of i x → is_arrival x ≡ false
@@ -97,7 +98,7 @@ fail_arrival i j code shapes.nothing e = refl
 fail_arrival i j code shapes.accepts e = cc
 fail_arrival i j code shapes.refuses e = cc
 fail_arrival i j code shapes.runs e = refl
-fail_arrival i j code (shapes.fails other) e = refl
+fail_arrival i j code (shapes.fails or_second) e = refl
 fail_arrival i j code shapes.accepts_and_runs e = cc
 
 -- ---- a command arrives as COMMAND is left
@@ -182,10 +183,6 @@ pub data IsKnown (v : Serving) (phase : Phase) : Type 0 where
   moving : moves_data phase v.plan.next ≡ true → IsKnown v phase
   giving : gives_status phase v.plan.next ≡ true → has_replied v.task ≡ false → IsKnown v phase
 
-not_false : (x : Bool) → not x ≡ true → x ≡ false
-not_false true e = cc
-not_false false e = refl
-
 out_known : (v : Serving) (i : ProcId) (x : Shape) (c : Cause) → v.plan.cause ≡ c → (y : Bool) → (is_status_next (message_out_leaving v c).to && not (has_replied v.task)) ≡ y → newest_with (if y then detected_events c i else []) [] ≡ shown_of i x → needs_command x ≡ true → IsKnown v phases.MessageOut
 out_known v i x c g false y e f = let bad : false ≡ true = sym (no_command i x e) ∙ f in absurd cc
 out_known v i x causes.InData g true y e f = let bad : false ≡ true = sym (failed_command i i _ x e) ∙ f in absurd cc
@@ -199,7 +196,7 @@ in_known : (v : Serving) (i : ProcId) (x : Shape) (atn : Bool) (n : Next) → v.
 in_known v i x atn n g false y e f = let bad : false ≡ true = sym (no_command i x e) ∙ f in absurd cc
 in_known v i x true n g true y e f = absurd cc
 in_known v i x false nexts.GoOn g true y e f = moving (λ j. moves_data phases.MessageIn (g j))
-in_known v i x false nexts.Status g true y e f = giving (λ j. gives_status phases.MessageIn (g j)) (not_false (has_replied v.task) y)
+in_known v i x false nexts.Status g true y e f = giving (λ j. gives_status phases.MessageIn (g j)) (not-true (has_replied v.task) y)
 in_known v i x false nexts.Command g true y e f = absurd cc
 in_known v i x false nexts.FreeBus g true y e f = absurd cc
 
@@ -231,7 +228,7 @@ pub block_known : (s : ScenarioValue) (rows : List Row) (n : Connection) (c : Co
 block_known s rows n c p front served may few (arriving same unstruck) =
     let k : RunState = run_state s rows in
     let said : is_block_of_process s k (Some p) ≡ true = phase_command s k p (phase_of (bus_of k)) same served.is (front.said may) in
-    let block : (carried_here k p.id).block ≡ p.cdb = bytes_are (carried_here k p.id).block p.cdb (other k.exchange.plan.struck (same_bytes (carried_here k p.id).block p.cdb) said unstruck) in
+    let block : (carried_here k p.id).block ≡ p.cdb = bytes_are (carried_here k p.id).block p.cdb (or_second k.exchange.plan.struck (same_bytes (carried_here k p.id).block p.cdb) said unstruck) in
     served.carried (λ j. is_command_phase (same j)) ∙ (λ j. take MOST_KEPT (block j)) ∙ take_all MOST_KEPT p.cdb (omega (arith, few))
 block_known s rows n c p front served may few (moving m) = served.block (served.moves m)
 block_known s rows n c p front served may few (giving g none) =

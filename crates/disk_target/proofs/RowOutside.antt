@@ -26,16 +26,18 @@ use Rattle.scsi_device.specs.Heard.{Instructions, instructions, is_of_scenario}
 use Rattle.scsi_device.specs.Writes.{Writer, writers}
 use Rattle.target_course.specs.Replies.{shows_run}
 use Rattle.target_course.specs.States.{IsOwnConnection}
-use Rattle.target_course.proofs.CourseAgrees.{IsFront, either, front_heard, other}
+use Rattle.target_course.proofs.CourseAgrees.{IsFront, either, front_heard}
 use Rattle.target_course.proofs.CourseRows.{heard_before}
 use Rattle.target_course.proofs.ReplyRows.{Shape, shown_of}
 use Rattle.target_course.proofs.ReplyRows as shapes
 use Rattle.target_course.proofs.ServedEnds.{ends_are, same_id_is}
 use Rattle.disk_target.specs.Attended.{are_in, are_known_ends, attended, is_abort_in, is_attended, is_attended_if, is_attended_in, is_attended_row, is_calm_turn, is_empty, is_of_item, is_of_process, is_quiet, is_whole_run}
-use Rattle.disk_target.specs.Processes.{AreOutside, IsOutside, events_of_row}
+use Rattle.disk_target.specs.Processes.{AreOutside, IsOutside}
 use Rattle.disk_target.specs.Targets.{AreTied}
 use Rattle.disk_target.specs.Turns.{is_reset}
 use Rattle.disk_target.proofs.RowShapes.{ShowsIn, nothing, turned, lost, aborted, ended, none_shown, reset_is, row_shows}
+use Rattle.bus_base.proofs.Tests.{or_second, implied}
+use Rattle.target_course.specs.Negotiated.{events_of_row}
 
 -- ---- what is attended in this row
 
@@ -56,10 +58,6 @@ pub record IsAttended (s : ScenarioValue) (rows : List Row) (row : Row) (n : Con
   pub quiet : is_quiet s (run_state s rows) n (is_some (row_reading (run_state s rows).story.bus_state row).next) (events_of_row s rows row) ≡ true
   pub whole : shows_run (events_of_row s rows row) ≡ true → is_whole_run s (run_state s rows) (writers s rows) (process_served s (run_state s rows)) ≡ true
 
-implied : (x y : Bool) → (not x || y) ≡ true → x ≡ true → y ≡ true
-implied true y e f = e
-implied false y e f = cc
-
 branch : (b : Bool) (x y : Bool) → (if b then x else y) ≡ true → b ≡ false → y ≡ true
 branch true x y e f = cc
 branch false x y e f = e
@@ -79,7 +77,7 @@ attended_in s rows row n e x before after =
     let runs : Bool = not (shows_run shown) || is_whole_run s k all (process_served s k) in
     let quiet : Bool = is_quiet s k n (is_some d.next) shown in
     let two = and_parts (is_calm_turn d) (d.change.after.rst || (if d.change.before.rst then is_empty shown else is_attended_in s k d i all shown n)) (attended_row s rows row n e x) in
-    let at = branch d.change.before.rst (is_empty shown) (is_attended_in s k d i all shown n) (other d.change.after.rst (if d.change.before.rst then is_empty shown else is_attended_in s k d i all shown n) two.1 after) before in
+    let at = branch d.change.before.rst (is_empty shown) (is_attended_in s k d i all shown n) (or_second d.change.after.rst (if d.change.before.rst then is_empty shown else is_attended_in s k d i all shown n) two.1 after) before in
     let first = and_parts (are_in n k.served shown) (are_known_ends i.known shown && (quiet && runs)) at in
     let second = and_parts (are_known_ends i.known shown) (quiet && runs) first.1 in
     let third = and_parts quiet runs second.1 in
@@ -95,7 +93,7 @@ empty_after s rows row n e x before after =
     let all : List Writer = writers s rows in
     let shown : List Event = events_of_row s rows row in
     let two = and_parts (is_calm_turn d) (d.change.after.rst || (if d.change.before.rst then is_empty shown else is_attended_in s k d i all shown n)) (attended_row s rows row n e x) in
-    none shown (branch_first d.change.before.rst (is_empty shown) (is_attended_in s k d i all shown n) (other d.change.after.rst (if d.change.before.rst then is_empty shown else is_attended_in s k d i all shown n) two.1 after) before)
+    none shown (branch_first d.change.before.rst (is_empty shown) (is_attended_in s k d i all shown n) (or_second d.change.after.rst (if d.change.before.rst then is_empty shown else is_attended_in s k d i all shown n) two.1 after) before)
   where
     none : (l : List Event) → is_empty l ≡ true → l ≡ []
     none [] f = refl

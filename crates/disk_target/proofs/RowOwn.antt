@@ -42,7 +42,7 @@ use Rattle.target_course.proofs.ReplyRows as shapes
 use Rattle.target_course.proofs.ReplySteps.{accept_same}
 use Rattle.target_course.proofs.ServedEnds.{same_id_is}
 use Rattle.disk_target.specs.Attended.{are_in, are_known_ends}
-use Rattle.disk_target.specs.Processes.{AreOwnEvents, events_of_row}
+use Rattle.disk_target.specs.Processes.{AreOwnEvents}
 use Rattle.disk_target.specs.Standings.{HasBlock, IsNoGuest, IsStanding}
 use Rattle.disk_target.specs.Turns.{abort_of}
 use Rattle.disk_target.specs.declared.standing.Served.{Served}
@@ -53,6 +53,8 @@ use Rattle.disk_target.proofs.Data.{id_is}
 use Rattle.disk_target.proofs.RowKnown.{IsKnown, arriving, moving, giving, arrives_in, block_known, is_arrival, is_known, needs_command, placed_new}
 use Rattle.disk_target.proofs.RowOutside.{IsAttended}
 use Rattle.disk_target.proofs.RowShapes.{ShowsIn, nothing, turned, lost, aborted, ended}
+use Rattle.bus_base.proofs.Tests.{is_nothing}
+use Rattle.target_course.specs.Negotiated.{events_of_row}
 
 -- ---- which process: one that is served, where any event is shown but an abort
 
@@ -135,10 +137,6 @@ arrives_new s rows n p front is begins command =
 
 -- ---- as it runs it has no reply
 
-none_of : {A : Type 0} (x : Option A) → is_none x ≡ true → x ≡ None
-none_of None e = refl
-none_of (Some y) e = cc
-
 none_some : {A : Type 0} (x : Option A) → is_some x ≡ false → x ≡ None
 none_some None e = refl
 none_some (Some y) e = cc
@@ -152,7 +150,7 @@ moving_closed phases.Command next cause b e f = cc
 moving_closed phases.Status next cause b e f = cc
 
 new_unanswered : (a : Array) (p : Process) → is_new a p ≡ true → reply_in a.replies p.id ≡ None
-new_unanswered a p e = none_of (reply_in a.replies p.id) (and_parts (not (is_waiting a.units p.id) && is_none (running_process a p.id)) (is_none (reply_in a.replies p.id)) e).1
+new_unanswered a p e = is_nothing (reply_in a.replies p.id) (and_parts (not (is_waiting a.units p.id) && is_none (running_process a p.id)) (is_none (reply_in a.replies p.id)) e).1
 
 moving_unanswered : (s : ScenarioValue) (rows : List Row) (n : Connection) (p : Process) → IsFront s (run_state s rows) n (instructions s rows) → process_served s (run_state s rows) ≡ Some p → (run_state s rows).exchange.begun ≡ true
     → moves_data (phase_of (bus_of (run_state s rows))) (run_state s rows).exchange.plan.next ≡ true → reply_in (array_of s (run_state s rows)).replies p.id ≡ None
@@ -168,7 +166,7 @@ moving_unanswered s rows n p front is begins moves =
     (not (gives_status phase k.exchange.plan.next) || (is_answered (running_process a p.id) && is_some (reply_in a.replies p.id))) both.1 in
     let two = and_parts (not (is_command_phase phase) || (not i.known && is_new a p)) (not (moves_data phase k.exchange.plan.next) || (i.known && is_unanswered (running_process a p.id) && is_none (reply_in a.replies p.id))) last.0 in
     let three : (i.known && is_unanswered (running_process a p.id) && is_none (reply_in a.replies p.id)) ≡ true = (λ j. not (sym moves j) || (i.known && is_unanswered (running_process a p.id) && is_none (reply_in a.replies p.id))) ∙ two.1 in
-    none_of (reply_in a.replies p.id) (and_parts (i.known && is_unanswered (running_process a p.id)) (is_none (reply_in a.replies p.id)) three).1
+    is_nothing (reply_in a.replies p.id) (and_parts (i.known && is_unanswered (running_process a p.id)) (is_none (reply_in a.replies p.id)) three).1
 
 pub unanswered : (s : ScenarioValue) (rows : List Row) (n : Connection) (p : Process) → IsFront s (run_state s rows) n (instructions s rows) → process_served s (run_state s rows) ≡ Some p → (run_state s rows).exchange.begun ≡ true → may_leave s (run_state s rows) n ≡ true
     → IsKnown (serving_of s (run_state s rows) n.target) (phase_of (bus_of (run_state s rows))) → reply_in (array_of s (run_state s rows)).replies p.id ≡ None

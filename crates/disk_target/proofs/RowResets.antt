@@ -18,13 +18,14 @@ use Rattle.bus_due.specs.Telling.{telling}
 use Rattle.target_course.specs.States.{IsOwnConnection}
 use Rattle.target_course.proofs.ReplyRows.{Shape, shown_of}
 use Rattle.target_course.proofs.ReplyRows as shapes
-use Rattle.disk_target.specs.Processes.{ProcessesState, AreOutside, events_of_row}
+use Rattle.disk_target.specs.Processes.{ProcessesState, AreOutside}
 use Rattle.disk_target.specs.Targets.{AreTied}
 use Rattle.disk_target.specs.Turns.{AreAttendedOf, AreAttendedOn, is_reset}
 use Rattle.disk_target.proofs.RowOutside.{outside_row}
 use Rattle.disk_target.proofs.RowServed.{before_own}
 use Rattle.disk_target.proofs.RowShapes.{ShowsIn, nothing, turned, lost, aborted, ended, none_shown, reset_is, row_shows}
 use Rattle.disk_target.proofs.UnitRows.{stays}
+use Rattle.target_course.specs.Negotiated.{events_of_row}
 
 pub record Resets (s : ScenarioValue) (rows : List Row) (row : Row) : Type 0 where
   pub shown : events_of_row s rows row ≡ events.Reset row.dev ∷ []

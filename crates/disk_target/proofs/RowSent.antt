@@ -1,7 +1,7 @@
 -- A process that runs, and ends GOOD, has sent what its target has gathered of it.
 use Rattle.std.proofs.Common.{ℕ, ◌≡◌, ◌≤◌, ◌+◌, ◌-◌, ◌*◌, ◌^◌, ◌∙◌, ◌==◌, arith, Bool, true, false, List, [], ◌∷◌, refl, sym, length, take, Option, Some, None, ◌⊎◌, inl, inr}
 use Rattle.std.specs.Prelude.{if◌then◌else◌, not, ◌&&◌, min, nat_le}
-use Rattle.std.proofs.lemmas.Bool.{and_parts, eqb-true}
+use Rattle.std.proofs.lemmas.Bool.{and_parts, eqb-true, leb-true}
 use Rattle.std.proofs.lemmas.Bool.Decides.{nat_tests}
 use Rattle.std.proofs.lemmas.List.{take_all, length-take}
 use Rattle.bus_base.specs.declared.ProcId.{ProcId}
@@ -32,7 +32,7 @@ use Rattle.target_units.proofs.Sendings.{few_bytes, named}
 use Rattle.target_course.specs.Gathered.{GatheredValue, Gathering, IsGatheredOf, AreAllGathered, bytes_of, gathering_at, run_start_of}
 use Rattle.target_course.specs.Courses.{CourseState}
 use Rattle.target_course.specs.States.{IsOwnConnection}
-use Rattle.target_course.proofs.CourseAgrees.{either, other}
+use Rattle.target_course.proofs.CourseAgrees.{either}
 use Rattle.target_course.proofs.GatheredRows.{bytes_sent}
 use Rattle.target_course.proofs.ServedEnds.{same_id_is}
 use Rattle.disk_unit.proofs.LiveCommands.{id_self}
@@ -40,6 +40,7 @@ use Rattle.disk_target.specs.Attended.{came, ends_good, is_whole_of, is_whole_ru
 use Rattle.disk_target.specs.Bytes.{count_if, taken_by}
 use Rattle.disk_target.specs.Turns.{count_sent}
 use Rattle.disk_target.specs.declared.turn.Turn.{Turn}
+use Rattle.bus_base.proofs.Tests.{or_second, nil_of}
 
 -- ---- how many bytes
 
@@ -60,10 +61,6 @@ sends_as_named s a p fits lines target is writes good =
 
 -- ---- which bytes
 
-nothing_sent : (xs : List ℕ) → length xs ≡ 0 → xs ≡ []
-nothing_sent [] e = refl
-nothing_sent (x ∷ xs) e = absurd (omega (arith, e))
-
 no_bytes : (g : Gathering) (id : ProcId) (count : ℕ) → count ≡ 0 → bytes_of g id count ≡ []
 no_bytes g id count e = (λ i. bytes_of g id (e i)) ∙ go (is_same_process g.owner (Some id)) g.bytes
   where
@@ -79,10 +76,7 @@ writer_is (Some w) id e = λ i. Some (same_id_is w id e i)
 enough : (a len most : ℕ) → len ≤ a → min a len ≤ most → len ≤ most
 enough a len most h k = omega arith
 
-le_from : (a b : ℕ) → nat_le a b ≡ true → a ≤ b
-le_from a b e = grind (arith, nat_tests)
-
-phase_data_out : (phase : Phase) → is_data_out phase ≡ true → phase ≡ phases.DataOut
+pub phase_data_out : (phase : Phase) → is_data_out phase ≡ true → phase ≡ phases.DataOut
 phase_data_out phases.DataOut e = refl
 phase_data_out phases.DataIn e = cc
 phase_data_out phases.Command e = cc
@@ -143,7 +137,7 @@ all_sent s rows v p n c t unit fits lines target g all own calm begins is proces
     good = (λ i. status i == GOOD)
 
     ran : is_whole_of s k (writers s rows) p ≡ true
-    ran = other (not (ends_good (array_of s k) p)) (is_whole_of s k (writers s rows) p) whole (λ i. not (good i))
+    ran = or_second (not (ends_good (array_of s k) p)) (is_whole_of s k (writers s rows) p) whole (λ i. not (good i))
 
     writes : is_write (command_of c.block) ≡ is_writing p
     writes = λ i. is_write (command_of (block i))
@@ -162,10 +156,10 @@ all_sent s rows v p n c t unit fits lines target g all own calm begins is proces
     go : ((length p.sent == 0) ≡ true) ⊎ ((is_writing p && (is_writer (writer_of (writers s rows) p.target p.unit) p.id && nat_le (length p.sent) (came s k p))) ≡ true) → bytes_of (gathering_at v.units unit) p.id (count_sent t c) ≡ p.sent
     go (inl e) =
         let none : length p.sent ≡ 0 = eqb-true (length p.sent) 0 e in
-        no_bytes (gathering_at v.units unit) p.id (count_sent t c) (zero_count (is_writing p) refl none) ∙ sym (nothing_sent p.sent none)
+        no_bytes (gathering_at v.units unit) p.id (count_sent t c) (zero_count (is_writing p) refl none) ∙ sym (nil_of p.sent none)
     go (inr e) =
         let one = and_parts (is_writing p) (is_writer (writer_of (writers s rows) p.target p.unit) p.id && nat_le (length p.sent) (came s k p)) e in
         let two = and_parts (is_writer (writer_of (writers s rows) p.target p.unit) p.id) (nat_le (length p.sent) (came s k p)) one.1 in
         let w : writer_of (writers s rows) p.target p.unit ≡ Some p.id = writer_is (writer_of (writers s rows) p.target p.unit) p.id two.0 in
         (λ i. bytes_of (gathering_at v.units unit) p.id (count one.0 i))
-        ∙ whole_taken s v p unit g unit_is (all.owned p.id p process at w) process small (all_come s rows v p n all own calm begins is process at w (le_from (length p.sent) (came s k p) two.1))
+        ∙ whole_taken s v p unit g unit_is (all.owned p.id p process at w) process small (all_come s rows v p n all own calm begins is process at w (leb-true (length p.sent) (came s k p) two.1))

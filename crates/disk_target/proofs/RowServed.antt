@@ -30,11 +30,11 @@ use Rattle.scsi_device.specs.Heard.{heard, instructions, is_of_scenario, is_open
 use Rattle.scsi_device.specs.Lines.{IsCommandLine}
 use Rattle.target_course.specs.Courses.{CourseState, IsCourse}
 use Rattle.target_course.specs.States.{IsOwnConnection}
-use Rattle.target_course.proofs.CourseAgrees.{IsFront, IsTurn, front_heard, implied, turn_heard}
+use Rattle.target_course.proofs.CourseAgrees.{IsFront, IsTurn, front_heard, turn_heard}
 use Rattle.target_course.proofs.CourseRows.{heard_before}
 use Rattle.target_course.proofs.ReplyRows.{number_is}
 use Rattle.target_course.proofs.ServedEnds.{connection_stays}
-use Rattle.disk_target.specs.Processes.{ProcessesState, AreOutside, events_of_row}
+use Rattle.disk_target.specs.Processes.{ProcessesState, AreOutside}
 use Rattle.disk_target.specs.Standings.{IsStanding}
 use Rattle.disk_target.specs.Targets.{AreTied, IsStandingOf}
 use Rattle.disk_target.specs.Turns.{AreAttendedOf, AreAttendedOn, abort_of, is_opening_by, is_reset}
@@ -44,6 +44,8 @@ use Rattle.disk_target.proofs.RowOutside.{IsAttended, attended_in}
 use Rattle.disk_target.proofs.RowOwn.{IsItem, Knows, is_any, knows, shown_item}
 use Rattle.disk_target.proofs.RowShapes.{ShowsIn, reset_is, row_shows}
 use Rattle.disk_target.proofs.UnitRows.{stays}
+use Rattle.bus_base.proofs.Tests.{implied}
+use Rattle.target_course.specs.Negotiated.{events_of_row}
 
 -- ---- the connection stays the same, and so does what is served
 

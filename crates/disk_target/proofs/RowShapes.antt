@@ -25,7 +25,7 @@ use Rattle.bus_due.specs.RunSteps.{run_state}
 use Rattle.bus_due.specs.Sights.{serving_of}
 use Rattle.bus_due.specs.Telling.{events_of_ends, events_of_ends_in, id_of, initiator_events, is_true_telling, target_events, telling}
 use Rattle.target_course.proofs.ReplyRows.{Shape, HasShape, events_are, served_shape, shown_of}
-use Rattle.disk_target.specs.Processes.{events_of_row}
+use Rattle.target_course.specs.Negotiated.{events_of_row}
 
 -- What a row shows in this connection, of which this process is served.
 pub data ShowsIn (s : ScenarioValue) (k : RunState) (d : RowReading) (n : Connection) (shown : List Event) : Type 0 where

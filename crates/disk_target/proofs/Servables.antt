@@ -11,8 +11,8 @@ use Rattle.bus_due.specs.RunState.{RunState, array_of, or_start}
 use Rattle.bus_due.specs.RunSteps.{array_after_events, current_times_after, current_times_if, is_same_running, run_state}
 use Rattle.bus_due.specs.Wants.{since_of}
 use Rattle.scsi_device.specs.Lines.{IsTargetLine}
-use Rattle.disk_target.specs.Processes.{events_of_row}
 use Rattle.disk_target.specs.Targets.{AreInTime, IsServable}
+use Rattle.target_course.specs.Negotiated.{events_of_row}
 
 abbrev pub AreBefore : List ℕ → Type 0
 AreBefore times = AllByRecursion (λ (t : ℕ). t < 2 ^ 62) times

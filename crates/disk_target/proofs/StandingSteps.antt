@@ -11,16 +11,9 @@ use Rattle.disk_array.specs.Steps.{running_if, guests_with_reply, current_with_r
 use Rattle.disk_array.specs.Seats.{unit_mapped, unit_with_choice, unit_with_reply, unit_with_contents}
 use Rattle.disk_unit.proofs.LiveCommands.{id_self, same_id_is}
 use Rattle.disk_target.specs.Standings.{waits_in, is_inside}
+use Rattle.bus_base.proofs.Tests.{or_true, or_false}
 
 -- ---- who waits
-
-or_true : (x : Bool) → (x || true) ≡ true
-or_true true = refl
-or_true false = refl
-
-or_false : (x : Bool) → (x || false) ≡ x
-or_false true = refl
-or_false false = refl
 
 or_one : (x y : Bool) → y ≡ true → (x || y) ≡ true
 or_one x y h = (λ i. x || h i) ∙ or_true x

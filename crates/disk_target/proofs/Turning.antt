@@ -1,7 +1,7 @@
 -- What a target has of its connection before a row is what the rows tell.
 use Rattle.std.proofs.Common.{ℕ, ◌≡◌, ◌⊎◌, inl, inr, ap, ◌+◌, ◌-◌, ◌^◌, ◌∙◌, Bool, true, false, List, [], ◌∷◌, refl, sym, Option, Some, None}
 use Rattle.std.specs.Prelude.{if◌then◌else◌, not, ◌&&◌, ◌||◌, is_some, min}
-use Rattle.std.proofs.lemmas.Bool.{and_parts, eqb-true}
+use Rattle.std.proofs.lemmas.Bool.{and_parts, eqb-true, not-true}
 use Rattle.bus_base.specs.declared.Event.{Event}
 use Rattle.bus_base.specs.declared.ProcId.{ProcId}
 use Rattle.bus_trace.specs.LineSet.{LineSet}
@@ -51,7 +51,6 @@ use Rattle.target_course.proofs.CourseRows.{heard_before, ids_agree, left_alike,
 use Rattle.target_course.proofs.ReplyRows.{Shape, shown_of}
 use Rattle.target_course.proofs.ReplyRows as shapes
 use Rattle.disk_target.specs.Attended.{is_empty, is_unseen}
-use Rattle.disk_target.specs.Processes.{events_of_row}
 use Rattle.disk_target.specs.Targets.{AreTied}
 use Rattle.disk_target.specs.Turns.{IsTurnIf, IsTurnOf}
 use Rattle.disk_target.specs.declared.turn.Turn.{Turn}
@@ -62,6 +61,9 @@ use Rattle.disk_target.proofs.RowOwn.{Knows, knows}
 use Rattle.disk_target.proofs.RowServed.{block_few, may_turn}
 use Rattle.disk_target.proofs.RowShapes.{ShowsIn, nothing, turned, lost, aborted, ended, row_shows, shown_in}
 use Rattle.disk_target.proofs.Data.{served_of}
+use Rattle.bus_base.proofs.Tests.{implied}
+use Rattle.disk_target.proofs.RowSent.{phase_data_out}
+use Rattle.target_course.specs.Negotiated.{events_of_row}
 
 -- ---- a phase is left
 
@@ -160,10 +162,6 @@ byte_begun s k all (Some p) e =
     let two = and_parts (k.exchange.begun && not (bus_of k).rst) (is_of_size s k p) one.0 in
     (and_parts k.exchange.begun (not (bus_of k).rst) two.0).0
 
-implied : (x y : Bool) → (not x || y) ≡ true → x ≡ true → y ≡ true
-implied true y e f = e
-implied false y e f = cc
-
 pub byte_begins : (s : ScenarioValue) (rows : List Row) (row : Row) (n : Connection) → IsPlain s rows (run_state s rows) → hearing_of (run_state s rows) row (row_reading (run_state s rows).story.bus_state row) ≡ hearing rows row → written s (row ∷ rows) ≡ true → connection rows ≡ Some n → brings_byte (hearing rows row) ≡ true → (run_state s rows).exchange.begun ≡ true
 byte_begins s rows row n p h e stands brings =
     let k : RunState = run_state s rows in
@@ -176,19 +174,11 @@ byte_begins s rows row n p h e stands brings =
     let two = and_parts (not (brings_byte w) || is_written_byte s k all (process_served s k)) (not (ends_run k w l) || is_written_run s k all (process_served s k) (phase_of (bus_of k))) on in
     byte_begun s k all (process_served s k) (implied (brings_byte w) (is_written_byte s k all (process_served s k)) two.0 ((λ i. brings_byte (h i)) ∙ brings))
 
-data_out : (phase : Phase) → is_data_out phase ≡ true → phase ≡ phases.DataOut
-data_out phases.DataOut e = refl
-data_out phases.DataIn e = cc
-data_out phases.Command e = cc
-data_out phases.Status e = cc
-data_out phases.MessageOut e = cc
-data_out phases.MessageIn e = cc
-
 pub byte_phase : (s : ScenarioValue) (rows : List Row) (row : Row) → IsPlain s rows (run_state s rows) → brings_byte (hearing rows row) ≡ true → phase_of (bus_of (run_state s rows)) ≡ phases.DataOut
 byte_phase s rows row p e =
     let w : Hearing = hearing rows row in
     let one = and_parts (w.crosses && is_data_out (phase_of w.change.before)) (not w.change.after.rst) e in
-    (λ i. phase_of (p.bus i)) ∙ data_out (phase_of w.change.before) (and_parts w.crosses (is_data_out (phase_of w.change.before)) one.0).1
+    (λ i. phase_of (p.bus i)) ∙ phase_data_out (phase_of w.change.before) (and_parts w.crosses (is_data_out (phase_of w.change.before)) one.0).1
 
 pub byte_closed : (s : ScenarioValue) (k : RunState) → phase_of (bus_of k) ≡ phases.DataOut → k.exchange.begun ≡ true → is_opening k ≡ false
 byte_closed s k e b = λ i. not (b i) || is_opening_in (e i) k.exchange.plan.cause
@@ -301,16 +291,12 @@ target_shows s rows row n f q h tied stands after runs = go (changes_phase d.cha
 
 -- ---- no connection of its own stands
 
-not_true : (x : Bool) → not x ≡ true → x ≡ false
-not_true true e = cc
-not_true false e = refl
-
 byte_calm : (s : ScenarioValue) (k : RunState) (all : List Writer) (x : Option Process) → is_written_byte s k all x ≡ true → (bus_of k).rst ≡ false
 byte_calm s k all None e = cc
 byte_calm s k all (Some p) e =
     let one = and_parts (k.exchange.begun && not (bus_of k).rst && is_of_size s k p) (is_next_byte s k all p) e in
     let two = and_parts (k.exchange.begun && not (bus_of k).rst) (is_of_size s k p) one.0 in
-    not_true (bus_of k).rst (and_parts k.exchange.begun (not (bus_of k).rst) two.0).1
+    not-true (bus_of k).rst (and_parts k.exchange.begun (not (bus_of k).rst) two.0).1
 
 -- No byte of data comes while RST is true.
 byte_in_calm : (s : ScenarioValue) (rows : List Row) (row : Row) (n : Connection) → IsPlain s rows (run_state s rows) → hearing_of (run_state s rows) row (row_reading (run_state s rows).story.bus_state row) ≡ hearing rows row → written s (row ∷ rows) ≡ true → connection rows ≡ Some n → brings_byte (hearing rows row) ≡ true → (bus rows).rst ≡ false

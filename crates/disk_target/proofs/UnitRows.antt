@@ -12,9 +12,11 @@ use Rattle.bus_due.specs.RunState.{or_start}
 use Rattle.bus_due.specs.RunSteps.{current_times_after, run_state, array_after_events}
 use Rattle.target_units.specs.Units.{UnitsState, AreUnitsOf, AreUnitsAfter, IsStep}
 use Rattle.target_units.proofs.UnitSteps.{all_stay}
-use Rattle.disk_target.specs.Processes.{AreKeptAt, AreKeptOf, AreOutside, times_of_events, events_of_row}
-use Rattle.disk_target.proofs.RowEvents.{one_more, some_before, and_two}
+use Rattle.disk_target.specs.Processes.{AreKeptAt, AreKeptOf, AreOutside, times_of_events}
+use Rattle.disk_target.proofs.RowEvents.{one_more, some_before}
 use Rattle.disk_target.proofs.TimesTwice.{twice, arrival_keeps}
+use Rattle.bus_base.proofs.Tests.{and_second}
+use Rattle.target_course.specs.Negotiated.{events_of_row}
 
 -- By the events that it shows.
 abbrev pub AreKeptBy : ScenarioValue → Option Array → List ℕ → List Event → ℕ → UnitsState → Type 0
@@ -32,7 +34,7 @@ by_row s rows row now shown v time is h =
     (subst (λ (e : List Event). AreKeptBy s (run_state s rows).array (run_state s rows).current_since e now v) (sym is) h)
 
 pub some_after : (s : ScenarioValue) (rows : List Row) (row : Row) (shown : List Event) → allowed s (row ∷ rows) ≡ true → events_of_row s rows row ≡ shown → is_some (array_after_events s (run_state s rows).array shown) ≡ true
-some_after s rows row shown permitted is = (λ i. is_some (array_after_events s (run_state s rows).array (sym is i))) ∙ and_two (allowed s rows) _ permitted
+some_after s rows row shown permitted is = (λ i. is_some (array_after_events s (run_state s rows).array (sym is i))) ∙ and_second (allowed s rows) _ permitted
 
 stays_by : (s : ScenarioValue) (x : Option Array) (times : List ℕ) (now : ℕ) (v : UnitsState) (shown : List Event) → HasSeats s → AreKeptAt s (or_start s x) times v → is_some (array_after_events s x shown) ≡ true → AreOutside s v.dev shown → AreKeptBy s x times shown now v
 stays_by s x times now v [] seats h some own = h
@@ -50,4 +52,4 @@ stays_by s x times now v (it ∷ first ∷ []) seats h some own =
 stays_by s x times now v (it ∷ first ∷ zeroth ∷ more) seats h some own = absurd own
 
 pub stays : (s : ScenarioValue) (rows : List Row) (row : Row) (v : UnitsState) → HasSeats s → allowed s (row ∷ rows) ≡ true → AreOutside s v.dev (events_of_row s rows row) → AreKeptOf s rows v → AreKeptOf s (row ∷ rows) v
-stays s rows row v seats permitted own h = stays_by s (run_state s rows).array (run_state s rows).current_since row.time v (events_of_row s rows row) seats h (and_two (allowed s rows) _ permitted) own
+stays s rows row v seats permitted own h = stays_by s (run_state s rows).array (run_state s rows).current_since row.time v (events_of_row s rows row) seats h (and_second (allowed s rows) _ permitted) own

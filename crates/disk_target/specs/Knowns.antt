@@ -4,6 +4,7 @@ use Rattle.std.specs.Prelude.{ℕ, ◌≡◌, ◌<◌, Bool, true, false, List, 
 use Rattle.bus_base.specs.declared.Event.{Event}
 use Rattle.bus_trace.specs.declared.Row.{Row}
 use Rattle.bus_trace.specs.declared.connection.Connection.{Connection}
+use Rattle.bus_trace.specs.Phases.{changes_phase}
 use Rattle.bus_trace.specs.Trace.{bus}
 use Rattle.scenario.specs.declared.value.TargetDef.{TargetDef}
 use Rattle.scenario.specs.Value.{ScenarioValue}
@@ -74,3 +75,16 @@ abbrev pub refreshed : Option Known → Option CourseState → Option Known
 refreshed None course = None
 refreshed (Some k) None = Some k
 refreshed (Some k) (Some c) = Some (with_plan k c)
+
+-- ---- a row that tells a target nothing at all
+
+-- In a connection of its own, before and after the row, no byte crosses, no phase changes, no fault strikes, and nothing is shown;
+-- its command is known.
+pub record IsQuiet (w : Hearing) (before own : Option Connection) (course : Option CourseState) (shown : List Event) : Type 0 where
+  pub stood : is_some before ≡ true
+  pub stands : is_some own ≡ true
+  pub knows : knows_command course ≡ true
+  pub empty : shown ≡ []
+  pub changes : changes_phase w.change ≡ false
+  pub crosses : w.crosses ≡ false
+  pub fault : w.fault ≡ false

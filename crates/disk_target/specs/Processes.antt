@@ -21,6 +21,7 @@ use Rattle.disk_target.specs.declared.standing.Standing.{Standing}
 use Rattle.disk_target.specs.declared.standing.Standing.TheVariants as standings
 use Rattle.disk_target.specs.declared.standing.Served.{Served}
 use Rattle.disk_target.specs.Standings.{IsStanding, HasBlock, is_guest}
+use Rattle.target_course.specs.Negotiated.{events_of_row}
 
 pub record ProcessesState : Type 0 where
   pub units : UnitsState
@@ -74,10 +75,6 @@ AreProcessesOf s rows p unit v = AreSettledAt s (array_of s (run_state s rows)) 
 abbrev pub times_of_events : ScenarioValue → Option Array → List ℕ → List Event → Option Array → ℕ → List ℕ
 times_of_events s before times [] after now = times
 times_of_events s before times (event ∷ shown) after now = current_times_after (or_start s before).units (or_start s after).units times now
-
--- What a row shows.
-abbrev pub events_of_row : ScenarioValue → List Row → Row → List Event
-events_of_row s rows row = row_events_by s (run_state s rows).story (row_reading (run_state s rows).story.bus_state row) row
 
 -- The units alone.
 pub record AreKeptAt (s : ScenarioValue) (a : Array) (times : List ℕ) (v : UnitsState) : Type 0 where

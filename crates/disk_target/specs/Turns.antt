@@ -23,7 +23,7 @@ use Rattle.scsi_device.specs.Heard.{is_opening_in}
 use Rattle.target_course.specs.Courses.{CourseState, events_of_target, name_of, serving_by, AreToldOf}
 use Rattle.scsi_device.specs.Lines.{FitsBus, IsTargetLine}
 use Rattle.target_course.specs.Gathered.{GatheredValue, IsGatheredOf, AreAllGathered, IsSentSo, IsAtUnit}
-use Rattle.target_course.specs.Negotiated.{IsHeardSo}
+use Rattle.target_course.specs.Negotiated.{IsHeardSo, events_of_row}
 use Rattle.target_course.specs.Progress.{IsLeftSo}
 use Rattle.target_course.specs.Replies.{IsOutlookAt}
 use Rattle.target_course.specs.Shown.{shown_list}
@@ -32,7 +32,7 @@ use Rattle.target_course.specs.declared.course.ProcessState.{ProcessState}
 use Rattle.disk_target.specs.declared.turn.Abort.{Abort}
 use Rattle.disk_target.specs.declared.turn.Turn.{Turn}
 use Rattle.disk_target.specs.Bytes.{taken_by}
-use Rattle.disk_target.specs.Processes.{ProcessesState, AreKeptOf, events_of_row}
+use Rattle.disk_target.specs.Processes.{ProcessesState, AreKeptOf}
 use Rattle.disk_target.specs.Targets.{AreTied, IsCourseIf, IsStandingOf}
 
 -- A row after which RST is true shows a reset, or nothing.

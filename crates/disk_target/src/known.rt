@@ -16,13 +16,13 @@ ghost use Rattle.target_course.specs.Shown.{shown_list};
 ghost use Rattle.target_units.specs.Seated.{reply_told};
 ghost use Rattle.target_units.specs.Units.{reply_at, unit_in};
 ghost use Rattle.disk_target.specs.Bytes.{taken_by};
-ghost use Rattle.disk_target.specs.Knowns.{AreSourcesOf, IsKnownBy, IsKnownIf, IsStill, knows_command, refreshed};
+ghost use Rattle.disk_target.specs.Knowns.{AreSourcesOf, IsKnownBy, IsKnownIf, IsQuiet, IsStill, knows_command, refreshed};
 
 use crate::bytes::{status_in, taken_by, unit_named};
 use crate::turn::Turn;
 use bus_base::{Dev, Event};
 use bus_dialogue::Hearing;
-use bus_trace::Connection;
+use bus_trace::{Connection, changes_phase};
 use disk_unit::{Plan, Reply};
 use scenario::TargetDef;
 use scsi_device::scenarios_fit_the_bus;
@@ -148,6 +148,26 @@ pub fn is_still(
         && shown.is_empty()
         && is_nothing(turn)
         && !is_phase_left(hearing)
+}
+
+/// Whether a row tells a target nothing at all: the connection of its own stands before and after it, the command is
+/// known, no byte crosses, no phase changes, no fault strikes, and nothing is shown.
+pub fn is_quiet(
+    hearing: &Hearing,
+    before: Option<Connection>,
+    own: Option<Connection>,
+    course: &Option<Course>,
+    shown: &[Event],
+) -> bool
+    ensures { result ≡ true → IsQuiet hearing.now before own course.now shown.now }
+{
+    before.is_some()
+        && own.is_some()
+        && knows_command(course)
+        && shown.is_empty()
+        && !hearing.crosses
+        && !hearing.fault
+        && !changes_phase(&hearing.change)
 }
 
 // The plan has gone on.

@@ -24,7 +24,8 @@ ghost use Rattle.disk_array.specs.SoundArray.{HasSeats};
 ghost use Rattle.disk_unit.specs.declared.unit.Reply.{Reply};
 ghost use Rattle.scsi_device.specs.Heard.{is_new};
 ghost use Rattle.disk_target.specs.Standings.{IsServed, IsStanding, HasBlock, standing_on_arrival, standing_on_failure, reply_planned, is_guest, outcome_of, standing_at_first};
-ghost use Rattle.disk_target.specs.Processes.{AreProcessesAt, AreProcessesAfter, IsOwnEvent, AreOwnEvents, AreProcessesOf, AreKeptOf, AreOutside, events_of_row, IsRunInside};
+ghost use Rattle.disk_target.specs.Processes.{AreProcessesAt, AreProcessesAfter, IsOwnEvent, AreOwnEvents, AreProcessesOf, AreKeptOf, AreOutside, IsRunInside};
+ghost use Rattle.target_course.specs.Negotiated.{events_of_row};
 ghost use Rattle.disk_target.specs.declared.standing.Standing.{Standing as StandingValue};
 ghost use Rattle.disk_target.specs.declared.standing.Standing.TheVariants.{Nowhere, Guest};
 

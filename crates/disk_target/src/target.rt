@@ -1,5 +1,5 @@
 //! A target of a scenario: what it knows, row by row, and what it does next (ANSI X3.131-1994, 6 and 7).
-ghost use Rattle.std.specs.Prelude.{ℕ, ◌≡◌, ◌<◌, ◌≤◌, ◌^◌, ◌==◌, [], ◌∷◌, List, length, Some, None, is_some, true, false, IfOk};
+ghost use Rattle.std.specs.Prelude.{ℕ, ◌≡◌, ◌<◌, ◌≤◌, ◌^◌, ◌==◌, [], ◌∷◌, List, length, Option, Some, None, is_some, true, false, IfOk};
 ghost use Rattle.std.specs.List.{find};
 ghost use Rattle.bus_trace.specs.declared.Row.{Row};
 ghost use Rattle.bus_trace.specs.declared.connection.Connection.{Connection};
@@ -15,7 +15,7 @@ ghost use Rattle.disk_array.specs.ArrayHistory.{reply_in};
 ghost use Rattle.disk_array.specs.Processes.{Process, process_of};
 ghost use Rattle.disk_array.specs.Seats.{is_initiator};
 ghost use Rattle.disk_array.specs.Units.{Array, unit_state_at};
-ghost use Rattle.bus_dialogue.specs.Hearing.{begun};
+ghost use Rattle.bus_dialogue.specs.Hearing.{begun, hearing as hearing_in};
 ghost use Rattle.bus_dialogue.specs.NextPhase.{leaving_by};
 ghost use Rattle.bus_dialogue.specs.Observer.{IsObserverOf};
 ghost use Rattle.bus_due.specs.Defs.{target_def_of};
@@ -36,9 +36,9 @@ ghost use Rattle.target_course.specs.Shown.{shown_list};
 ghost use Rattle.target_course.specs.States.{IsNoInitiator, IsOwnConnection};
 ghost use Rattle.target_units.specs.Units.{AreUnitsOf, reply_at, unit_in};
 ghost use Rattle.target_course.specs.declared.course.Name.{Name as NameValue};
-ghost use Rattle.disk_target.specs.Bytes.{DecidesAs, IsOthers};
-ghost use Rattle.disk_target.specs.Processes.{events_of_row};
-ghost use Rattle.disk_target.specs.Knowns.{IsKnownBy, IsKnownIf};
+ghost use Rattle.disk_target.specs.Bytes.{DecidesAs, IsOthers, IsOwnIf};
+ghost use Rattle.target_course.specs.Negotiated.{events_of_row};
+ghost use Rattle.disk_target.specs.Knowns.{IsKnownBy, IsKnownIf, IsQuiet};
 ghost use Rattle.disk_target.specs.Targets.{AreInTime, AreTied, IsCourseIf, IsServable, IsTargetAfter, KnowsRows};
 ghost use Rattle.disk_target.specs.Turns.{IsTurnOf};
 
@@ -46,7 +46,7 @@ use crate::bytes::{
     Decision, bounded, connection_before, gives_data, no_bytes, other_before, other_connection,
     own_before, own_connection,
 };
-use crate::known::{Known, is_still, known_of, see_known};
+use crate::known::{Known, is_quiet, is_still, known_of, see_known};
 use crate::others::next_in_others;
 use crate::processes::{Processes, units_stay_by_row};
 use crate::turn::{
@@ -57,7 +57,7 @@ use bus_base::{Dev, Event, NoMemory, Ns, ProcId};
 use bus_dialogue::{Arrival, Observer};
 use bus_due::{hearings_are_plain, kept_is_plain};
 use bus_reactions::Due;
-use bus_trace::{Connection, Row};
+use bus_trace::{Connection, Row, lines_on_the_bus, rows_change_one_device};
 use disk_array::arrays_are_sound;
 use disk_unit::Reply;
 use scenario::{FaultDef, Scenario, TargetDef};
@@ -630,35 +630,36 @@ impl Target {
     {
         kept_is_plain();
         hearings_are_plain();
+        lines_on_the_bus();
+        rows_change_one_device();
         scenarios_fit_the_bus();
         units_stay_by_row();
         let view = observer.view();
-        let hearing = observer.hearing();
-        let turn = no_turn();
-        self.progress.see(
-            turn.process,
-            &turn.leaving,
-            hearing,
-            connection_before(view),
-            view.connection(),
-        );
-        self.gathered.see(
-            turn.process,
-            turn.unit,
-            turn.place,
-            hearing,
-            connection_before(view),
-        );
-        self.negotiated.see(
-            turn.aborts,
-            hearing,
-            connection_before(view),
-            view.connection(),
-            shown,
-        );
         self.itself.see(view, row);
         self.answers = view.handshakes().answers();
         self.known = None;
+    }
+
+    // A row that tells it nothing, in a connection of its own that stands before and after it.
+    fn follow_quiet(&mut self, observer: &Observer, row: &Row)
+        requires device { row.now.dev < 8 }
+        requires timely { IsTimely (2 ^ 63) observer.now.view }
+        ensures def { self.new.def ≡ self.old.def }
+        ensures trace { (s : ScenarioValue) (rows : List Row) (before own : Option Connection) → FitsBus s
+            → IsObserverOf (row.now ∷ rows) observer.now
+            → AreOfDevices (row.now ∷ rows) → AreTied s (row.now ∷ rows)
+            → IsOwnIf rows self.old.def.dev before → IsOwnIf (row.now ∷ rows) self.old.def.dev own
+            → IsQuiet (hearing_in rows row.now) before own self.old.course (events_of_row s rows row.now)
+            → KnowsRows s rows self.old → KnowsRows s (row.now ∷ rows) self.new }
+    {
+        kept_is_plain();
+        hearings_are_plain();
+        lines_on_the_bus();
+        rows_change_one_device();
+        scenarios_fit_the_bus();
+        let view = observer.view();
+        self.itself.see(view, row);
+        self.answers = view.handshakes().answers();
     }
 
     // One more row, in a connection of its own or outside all, or with events.
@@ -749,6 +750,28 @@ impl Target {
         );
     }
 
+    // The same. Most rows tell it nothing.
+    fn follow_near(&mut self, observer: &Observer, row: &Row, label: ProcId, shown: &[Event])
+        requires device { row.now.dev < 8 }
+        requires timely { IsTimely (2 ^ 63) observer.now.view }
+        ensures def { self.new.def ≡ self.old.def }
+        ensures trace { (s : ScenarioValue) (rows : List Row) → FitsBus s → IsObserverOf (row.now ∷ rows) observer.now
+            → AreOfDevices (row.now ∷ rows) → AreTied s (row.now ∷ rows) → AreInTime (row.now ∷ rows)
+            → ((n : Connection) → IsOwnConnection (row.now ∷ rows) self.old.def.dev n
+            → IsLabelOf (item_of (run_state s (row.now ∷ rows)).story.link) label)
+            → shown.now ≡ events_of_row s rows row.now
+            → KnowsRows s rows self.old → KnowsRows s (row.now ∷ rows) self.new }
+    {
+        let view = observer.view();
+        let before = own_before(view, self.def.dev);
+        let own = own_connection(view, self.def.dev);
+        if is_quiet(observer.hearing(), before, own, &self.course, shown) {
+            self.follow_quiet(observer, row);
+        } else {
+            self.follow_own(observer, row, label, shown);
+        }
+    }
+
     // One more row.
     fn follow(&mut self, observer: &Observer, row: &Row, label: ProcId, shown: &[Event])
         requires device { row.now.dev < 8 }
@@ -765,7 +788,7 @@ impl Target {
         let dev = self.def.dev;
         match (other_before(view, dev), other_connection(view, dev)) {
             (Some(_), Some(_)) if shown.is_empty() => self.follow_others(observer, row, shown),
-            _ => self.follow_own(observer, row, label, shown),
+            _ => self.follow_near(observer, row, label, shown),
         }
     }
 

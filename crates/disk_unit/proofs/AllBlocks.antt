@@ -7,7 +7,7 @@ use Rattle.std.proofs.lemmas.Grind.{common_steps}
 use borrow.Rule.Slice.PartMut.{put_mid}
 use Rattle.disk_array.specs.Contents.{touched_block, touched_with}
 use Rattle.disk_unit.specs.Dense.{blocks_in}
-use Rattle.disk_unit.proofs.Touched.{unequal, lt_false}
+use Rattle.std.proofs.lemmas.Bool.{ne_eqb, le-ltb}
 
 suc_times : (n size : ℕ) → suc n * size ≡ size + n * size
 suc_times n size = grind arith
@@ -25,7 +25,7 @@ read_dense size first (suc n) bytes zero otherwise within =
 read_dense size first (suc n) bytes (suc lba) otherwise within =
     let other : first ≢ first + suc lba = omega arith in
     let next : first + suc lba ≡ suc first + lba = omega arith in
-    ap (λ (b : Bool). if b then take size bytes else touched_block (blocks_in size (suc first) n (drop size bytes)) (first + suc lba) otherwise) (unequal first (first + suc lba) other)
+    ap (λ (b : Bool). if b then take size bytes else touched_block (blocks_in size (suc first) n (drop size bytes)) (first + suc lba) otherwise) (ne_eqb first (first + suc lba) other)
     ∙ ap (λ (k : ℕ). touched_block (blocks_in size (suc first) n (drop size bytes)) k otherwise) next
     ∙ read_dense size (suc first) n (drop size bytes) lba otherwise (omega arith)
     ∙ ap (take size) (drop-drop (lba * size) size bytes)
@@ -70,7 +70,7 @@ write_dense size first (suc n) bytes from zero within whole fits =
     else (first, take size bytes) ∷ touched_with (blocks_in size (suc first) n (drop size bytes)) (first + 0) from) (eq-eqb first (first + 0) here))
 write_dense size first (suc n) bytes from (suc lba) within whole fits =
     let other : first ≢ first + suc lba = omega arith in
-    let not_over : nat_lt (first + suc lba) first ≡ false = lt_false (first + suc lba) first (omega arith) in
+    let not_over : nat_lt (first + suc lba) first ≡ false = le-ltb (first + suc lba) first (omega arith) in
     let next : suc first + lba ≡ first + suc lba = omega arith in
     let total : length bytes ≡ size + n * size = whole ∙ suc_times n size in
     let within_it : size + lba * size ≤ length bytes = times_within lba n size (length bytes) (omega arith) total in
@@ -79,7 +79,7 @@ write_dense size first (suc n) bytes from (suc lba) within whole fits =
     ∙ (λ i. (first, take_put size (lba * size) bytes from within_it i) ∷ blocks_in size (suc first) n (drop_put size (lba * size) bytes from within_it i))
     ∙ ap (λ (t : List (ℕ × List ℕ)). (first, take size bytes) ∷ t) (write_dense size (suc first) n (drop size bytes) from lba (omega arith) rest_whole fits)
     ∙ ap (λ (k : ℕ). (first, take size bytes) ∷ touched_with (blocks_in size (suc first) n (drop size bytes)) k from) next
-    ∙ sym (λ i. if unequal first (first + suc lba) other i then (first + suc lba, from) ∷ blocks_in size (suc first) n (drop size bytes)
+    ∙ sym (λ i. if ne_eqb first (first + suc lba) other i then (first + suc lba, from) ∷ blocks_in size (suc first) n (drop size bytes)
     else if not_over i then (first + suc lba, from) ∷ ((first, take size bytes) ∷ blocks_in size (suc first) n (drop size bytes))
     else (first, take size bytes) ∷ touched_with (blocks_in size (suc first) n (drop size bytes)) (first + suc lba) from)
 

@@ -12,7 +12,7 @@ use Rattle.disk_array.specs.Execution.{CommandContext, Execution, execution, cdb
 use Rattle.disk_unit.specs.Disk.{disk_context, disk_execution, disk_reply}
 use Rattle.disk_unit.specs.Units.{is_reported, reply_with}
 
-abbrev unit_context : Contents → Option Sense → Option Sense → CommandContext
+abbrev pub unit_context : Contents → Option Sense → Option Sense → CommandContext
 unit_context c stored attention = record { present = true; contents = c; stored = stored; attention = attention }
 
 abbrev parts : Execution → Execution → Execution

@@ -23,6 +23,7 @@ use Rattle.disk_unit.specs.Books
 use Rattle.disk_unit.specs.Books.{UnitBooks, IsCleared}
 use Rattle.disk_unit.specs.Units.{books_if_reported}
 use Rattle.disk_unit.specs.Keeping.{IsKeptAt, books_after_status}
+use Rattle.bus_base.proofs.Tests.{or_swapped}
 
 -- ---- one place of eight
 
@@ -205,16 +206,10 @@ started s target unit depth keys blocks = record {
 
 -- ---- the hold as a whole
 
-swapped : (a b c : Bool) → (a || (b || c)) ≡ (b || (a || c))
-swapped true true c = refl
-swapped true false c = refl
-swapped false true c = refl
-swapped false false c = refl
-
 first_below : (f : ℕ → Bool) (n : ℕ) → (f 0 || Seats.is_any_below (λ i. f (suc i)) n) ≡ Seats.is_any_below f (suc n)
 first_below f zero = refl
 first_below f (suc n) =
-    swapped (f 0) (f (suc n)) (Seats.is_any_below (λ i. f (suc i)) n)
+    or_swapped (f 0) (f (suc n)) (Seats.is_any_below (λ i. f (suc i)) n)
     ∙ (λ i. f (suc n) || first_below f n i)
 
 any_below : (xs : List Bool) (f : ℕ → Bool) → ((i : ℕ) → i < length xs → get_or xs i false ≡ f i) → list_any (λ (x : Bool). x) xs ≡ Seats.is_any_below f (length xs)

@@ -20,6 +20,7 @@ use Rattle.tag_queue.specs.declared.those.Those.{Those}
 use Rattle.tag_queue.specs.declared.those.Those.TheVariants as those
 use Rattle.disk_unit.specs.Books.{UnitBooks, is_told, books_with, books_with_current, books_after_choice, books_without, books_without_those}
 use Rattle.disk_unit.specs.LiveCommands.{LiveCommand, queued_of, waiting_processes, process_under, has_process, AreApart, HaveBlocks, IsCurrentOf, HasLive, live_but, has_this_key, is_one_of}
+use Rattle.disk_array.proofs.SeatLookups.{same_bool_self}
 
 -- ---- tests
 
@@ -28,10 +29,6 @@ eqb_self n = eq-eqb n n refl
 
 eqb_turned : (a b : ℕ) → (a == b) ≡ true → (b == a) ≡ true
 eqb_turned a b h = eq-eqb b a (sym (eqb-true a b h))
-
-same_bool_self : (a : Bool) → same_bool a a ≡ true
-same_bool_self true = refl
-same_bool_self false = refl
 
 pub id_self : (a : ProcId) → same_id a a ≡ true
 id_self a = (λ i. eqb_self a.command i && same_bool_self a.sense i)

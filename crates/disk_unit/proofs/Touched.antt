@@ -3,44 +3,22 @@ use Rattle.std.proofs.Common.{◌≡◌, ◌≢◌, ◌<◌, ◌≤◌, ℕ, ◌
 use Rattle.std.specs.Prelude.{◌==◌, nat_lt, if◌then◌else◌}
 use Rattle.std.specs.List.{insert}
 use Rattle.std.specs.Global.{Vec}
-use Rattle.std.proofs.lemmas.Bool.{eqb-true}
+use Rattle.std.proofs.lemmas.Bool.{eqb-true, lt-ltb, ltb-true, ne_eqb, ltb-false, le-ltb, true≢false}
 use Rattle.std.proofs.lemmas.List.{length-replicate}
 use Rattle.std.proofs.lemmas.Grind.{common_steps}
 use Rattle.disk_array.specs.Contents.{touched_block, touched_with}
 use Rattle.disk_unit.specs.Sparse.{touched_of, AreRising, HaveSize, place_in, is_at, touched_from, IsSparse}
 
-true_false : true ≡ false → ⊥
-true_false e = cc
-
-pub lt_true : (a b : ℕ) → a < b → nat_lt a b ≡ true
-lt_true a b h = search rules
-
-pub lt_false : (a b : ℕ) → b ≤ a → nat_lt a b ≡ false
-lt_false a b h = search rules
-
-pub from_lt : (a b : ℕ) → nat_lt a b ≡ true → a < b
-from_lt a b h = search rules
-
-pub from_not_lt : (a b : ℕ) → nat_lt a b ≡ false → b ≤ a
-from_not_lt a b h = search rules
-
-pub unequal : (a b : ℕ) → a ≢ b → (a == b) ≡ false
-unequal a b other = go (a == b) refl
-  where
-    go : (r : Bool) → (a == b) ≡ r → r ≡ false
-    go false e = refl
-    go true e = absurd (other (eqb-true a b e))
-
 differ : (a b : ℕ) → (a == b) ≡ false → a ≢ b
-differ a b other same = true_false (sym (eq-eqb a b same) ∙ other)
+differ a b other same = true≢false (sym (eq-eqb a b same) ∙ other)
 
 -- ---- a place
 
 pub place_here : (n : ℕ) (numbers : List ℕ) (from : ℕ) → from ≤ n → place_in (n ∷ numbers) from ≡ 0
-place_here n numbers from h = ap (λ (b : Bool). if b then suc (place_in numbers from) else 0) (lt_false n from h)
+place_here n numbers from h = ap (λ (b : Bool). if b then suc (place_in numbers from) else 0) (le-ltb n from h)
 
 pub place_later : (n : ℕ) (numbers : List ℕ) (from : ℕ) → n < from → place_in (n ∷ numbers) from ≡ suc (place_in numbers from)
-place_later n numbers from h = ap (λ (b : Bool). if b then suc (place_in numbers from) else 0) (lt_true n from h)
+place_later n numbers from h = ap (λ (b : Bool). if b then suc (place_in numbers from) else 0) (lt-ltb n from h)
 
 -- The place where those below end is that place.
 pub place_is : (numbers : List ℕ) (from place : ℕ) → place ≤ length numbers → ((k : ℕ) → k < place → get_or numbers k 0 < from) → ((k : ℕ) → place ≤ k → k < length numbers → from ≤ get_or numbers k 0)
@@ -60,7 +38,7 @@ place_within (n ∷ numbers) from = go (nat_lt n from) (place_within numbers fro
     go false h = omega arith
 
 pub at_within : (numbers : List ℕ) (place lba : ℕ) → is_at numbers place lba ≡ true → place < length numbers
-at_within [] place lba found = absurd (true_false (sym found))
+at_within [] place lba found = absurd (true≢false (sym found))
 at_within (n ∷ numbers) zero lba found = omega arith
 at_within (n ∷ numbers) (suc place) lba found = let h : place < length numbers = at_within numbers place lba found in omega arith
 
@@ -85,9 +63,9 @@ rising_insert low (n ∷ numbers) lba rising above absent = go (nat_lt n lba) re
     go : (b : Bool) → nat_lt n lba ≡ b → is_at (n ∷ numbers) (if b then suc (place_in numbers lba) else 0) lba ≡ false
         → (suc n ≤ lba → is_at numbers (place_in numbers lba) lba ≡ false → AreRising (suc n) (insert numbers (place_in numbers lba) lba))
         → AreRising low (insert (n ∷ numbers) (if b then suc (place_in numbers lba) else 0) lba)
-    go true below e rest = let h : n < lba = from_lt n lba below in (rising.0, rest (omega arith) e)
+    go true below e rest = let h : n < lba = ltb-true n lba below in (rising.0, rest (omega arith) e)
     go false over e rest =
-        let h : lba ≤ n = from_not_lt n lba over in
+        let h : lba ≤ n = ltb-false n lba over in
         let other : n ≢ lba = differ n lba e in
         let next : suc lba ≤ n = omega arith in
         (above, (next, rising.1))
@@ -100,7 +78,7 @@ absent_above low (n ∷ numbers) [] lba otherwise rising below = refl
 absent_above low (n ∷ numbers) (block ∷ blocks) lba otherwise rising below =
     let h = rising.0 in
     let other : n ≢ lba = omega arith in
-    ap (λ (b : Bool). if b then block.items else touched_block (touched_of numbers blocks) lba otherwise) (unequal n lba other)
+    ap (λ (b : Bool). if b then block.items else touched_block (touched_of numbers blocks) lba otherwise) (ne_eqb n lba other)
     ∙ absent_above (suc n) numbers blocks lba otherwise rising.1 (omega arith)
 
 pub read_absent : (low : ℕ) (numbers : List ℕ) (blocks : List (Vec ℕ)) (lba : ℕ) (otherwise : List ℕ) → AreRising low numbers → is_at numbers (place_in numbers lba) lba ≡ false
@@ -113,15 +91,15 @@ read_absent low (n ∷ numbers) (block ∷ blocks) lba otherwise rising absent =
         → (is_at numbers (place_in numbers lba) lba ≡ false → touched_block (touched_of numbers blocks) lba otherwise ≡ otherwise)
         → (if n == lba then block.items else touched_block (touched_of numbers blocks) lba otherwise) ≡ otherwise
     go true below e rest =
-        let h : n < lba = from_lt n lba below in let other : n ≢ lba = omega arith in
-        ap (λ (b : Bool). if b then block.items else touched_block (touched_of numbers blocks) lba otherwise) (unequal n lba other) ∙ rest e
+        let h : n < lba = ltb-true n lba below in let other : n ≢ lba = omega arith in
+        ap (λ (b : Bool). if b then block.items else touched_block (touched_of numbers blocks) lba otherwise) (ne_eqb n lba other) ∙ rest e
     go false over e rest =
-        let h : lba ≤ n = from_not_lt n lba over in
+        let h : lba ≤ n = ltb-false n lba over in
         ap (λ (b : Bool). if b then block.items else touched_block (touched_of numbers blocks) lba otherwise) e ∙ absent_above (suc n) numbers blocks lba otherwise rising.1 (omega arith)
 
 pub read_found : (numbers : List ℕ) (blocks : List (Vec ℕ)) (lba : ℕ) (otherwise : List ℕ) (d : Vec ℕ) → length numbers ≡ length blocks → is_at numbers (place_in numbers lba) lba ≡ true
     → touched_block (touched_of numbers blocks) lba otherwise ≡ (get_or blocks (place_in numbers lba) d).items
-read_found [] blocks lba otherwise d paired found = absurd (true_false (sym found))
+read_found [] blocks lba otherwise d paired found = absurd (true≢false (sym found))
 read_found (n ∷ numbers) [] lba otherwise d paired found = absurd (let p : suc (length numbers) ≡ 0 = paired in let q : ⊥ = omega arith in q)
 read_found (n ∷ numbers) (block ∷ blocks) lba otherwise d paired found = go (nat_lt n lba) refl found (read_found numbers blocks lba otherwise d (omega arith))
   where
@@ -129,15 +107,15 @@ read_found (n ∷ numbers) (block ∷ blocks) lba otherwise d paired found = go 
         → (is_at numbers (place_in numbers lba) lba ≡ true → touched_block (touched_of numbers blocks) lba otherwise ≡ (get_or blocks (place_in numbers lba) d).items)
         → (if n == lba then block.items else touched_block (touched_of numbers blocks) lba otherwise) ≡ (get_or (block ∷ blocks) (if b then suc (place_in numbers lba) else 0) d).items
     go true below e rest =
-        let h : n < lba = from_lt n lba below in let other : n ≢ lba = omega arith in
-        ap (λ (b : Bool). if b then block.items else touched_block (touched_of numbers blocks) lba otherwise) (unequal n lba other) ∙ rest e
+        let h : n < lba = ltb-true n lba below in let other : n ≢ lba = omega arith in
+        ap (λ (b : Bool). if b then block.items else touched_block (touched_of numbers blocks) lba otherwise) (ne_eqb n lba other) ∙ rest e
     go false over e rest = ap (λ (b : Bool). if b then block.items else touched_block (touched_of numbers blocks) lba otherwise) e
 
 -- ---- a write
 
 pub write_found : (numbers : List ℕ) (blocks : List (Vec ℕ)) (lba : ℕ) (new : Vec ℕ) → length numbers ≡ length blocks → is_at numbers (place_in numbers lba) lba ≡ true
     → touched_of numbers (set blocks (place_in numbers lba) new) ≡ touched_with (touched_of numbers blocks) lba new.items
-write_found [] blocks lba new paired found = absurd (true_false (sym found))
+write_found [] blocks lba new paired found = absurd (true≢false (sym found))
 write_found (n ∷ numbers) [] lba new paired found = absurd (let p : suc (length numbers) ≡ 0 = paired in let q : ⊥ = omega arith in q)
 write_found (n ∷ numbers) (block ∷ blocks) lba new paired found = go (nat_lt n lba) refl found (write_found numbers blocks lba new (omega arith))
   where
@@ -146,9 +124,9 @@ write_found (n ∷ numbers) (block ∷ blocks) lba new paired found = go (nat_lt
         → touched_of (n ∷ numbers) (set (block ∷ blocks) (if b then suc (place_in numbers lba) else 0) new)
         ≡ (if n == lba then (lba, new.items) ∷ touched_of numbers blocks else if nat_lt lba n then (lba, new.items) ∷ ((n, block.items) ∷ touched_of numbers blocks) else (n, block.items) ∷ touched_with (touched_of numbers blocks) lba new.items)
     go true below e rest =
-        let h : n < lba = from_lt n lba below in let other : n ≢ lba = omega arith in let not_over : nat_lt lba n ≡ false = lt_false lba n (omega arith) in
+        let h : n < lba = ltb-true n lba below in let other : n ≢ lba = omega arith in let not_over : nat_lt lba n ≡ false = le-ltb lba n (omega arith) in
         ap (λ (t : List (ℕ × List ℕ)). (n, block.items) ∷ t) (rest e)
-        ∙ sym (λ i. if unequal n lba other i then (lba, new.items) ∷ touched_of numbers blocks else if not_over i then (lba, new.items) ∷ ((n, block.items) ∷ touched_of numbers blocks) else (n, block.items) ∷ touched_with (touched_of numbers blocks) lba new.items)
+        ∙ sym (λ i. if ne_eqb n lba other i then (lba, new.items) ∷ touched_of numbers blocks else if not_over i then (lba, new.items) ∷ ((n, block.items) ∷ touched_of numbers blocks) else (n, block.items) ∷ touched_with (touched_of numbers blocks) lba new.items)
     go false over e rest =
         (λ i. (eqb-true n lba e i, new.items) ∷ touched_of numbers blocks)
         ∙ sym (ap (λ (b : Bool). if b then (lba, new.items) ∷ touched_of numbers blocks else if nat_lt lba n then (lba, new.items) ∷ ((n, block.items) ∷ touched_of numbers blocks) else (n, block.items) ∷ touched_with (touched_of numbers blocks) lba new.items) e)
@@ -165,11 +143,11 @@ write_absent (n ∷ numbers) (block ∷ blocks) lba new paired absent = go (nat_
         → touched_of (insert (n ∷ numbers) (if b then suc (place_in numbers lba) else 0) lba) (insert (block ∷ blocks) (if b then suc (place_in numbers lba) else 0) new)
         ≡ (if n == lba then (lba, new.items) ∷ touched_of numbers blocks else if nat_lt lba n then (lba, new.items) ∷ ((n, block.items) ∷ touched_of numbers blocks) else (n, block.items) ∷ touched_with (touched_of numbers blocks) lba new.items)
     go true below e rest =
-        let h : n < lba = from_lt n lba below in let other : n ≢ lba = omega arith in let not_over : nat_lt lba n ≡ false = lt_false lba n (omega arith) in
+        let h : n < lba = ltb-true n lba below in let other : n ≢ lba = omega arith in let not_over : nat_lt lba n ≡ false = le-ltb lba n (omega arith) in
         ap (λ (t : List (ℕ × List ℕ)). (n, block.items) ∷ t) (rest e)
-        ∙ sym (λ i. if unequal n lba other i then (lba, new.items) ∷ touched_of numbers blocks else if not_over i then (lba, new.items) ∷ ((n, block.items) ∷ touched_of numbers blocks) else (n, block.items) ∷ touched_with (touched_of numbers blocks) lba new.items)
+        ∙ sym (λ i. if ne_eqb n lba other i then (lba, new.items) ∷ touched_of numbers blocks else if not_over i then (lba, new.items) ∷ ((n, block.items) ∷ touched_of numbers blocks) else (n, block.items) ∷ touched_with (touched_of numbers blocks) lba new.items)
     go false over e rest =
-        let h : lba ≤ n = from_not_lt n lba over in let other : n ≢ lba = differ n lba e in let is_over : nat_lt lba n ≡ true = lt_true lba n (omega arith) in
+        let h : lba ≤ n = ltb-false n lba over in let other : n ≢ lba = differ n lba e in let is_over : nat_lt lba n ≡ true = lt-ltb lba n (omega arith) in
         sym (λ i. if e i then (lba, new.items) ∷ touched_of numbers blocks else if is_over i then (lba, new.items) ∷ ((n, block.items) ∷ touched_of numbers blocks) else (n, block.items) ∷ touched_with (touched_of numbers blocks) lba new.items)
 
 -- ---- sizes
@@ -206,8 +184,8 @@ lt_suc : (a b : ℕ) → nat_lt (suc a) (suc b) ≡ nat_lt a b
 lt_suc a b = go (nat_lt a b) refl
   where
     go : (r : Bool) → nat_lt a b ≡ r → nat_lt (suc a) (suc b) ≡ r
-    go true e = let h : a < b = from_lt a b e in lt_true (suc a) (suc b) (omega arith)
-    go false e = let h : b ≤ a = from_not_lt a b e in lt_false (suc a) (suc b) (omega arith)
+    go true e = let h : a < b = ltb-true a b e in lt-ltb (suc a) (suc b) (omega arith)
+    go false e = let h : b ≤ a = ltb-false a b e in le-ltb (suc a) (suc b) (omega arith)
 
 pub next_is : (numbers : List ℕ) (blocks : List (Vec ℕ)) (from : ℕ) → length numbers ≡ length blocks
     → touched_from (touched_of numbers blocks) from ≡ (if nat_lt (place_in numbers from) (length numbers) then Some (get_or numbers (place_in numbers from) 0) else None)
@@ -219,11 +197,11 @@ next_is (n ∷ numbers) (block ∷ blocks) from paired = go (nat_lt n from) (nex
         → (if b then touched_from (touched_of numbers blocks) from else Some n)
         ≡ (if nat_lt (if b then suc (place_in numbers from) else 0) (suc (length numbers)) then Some (get_or (n ∷ numbers) (if b then suc (place_in numbers from) else 0) 0) else None)
     go true rest = rest ∙ sym (ap (λ (b : Bool). if b then Some (get_or numbers (place_in numbers from) 0) else None) (lt_suc (place_in numbers from) (length numbers)))
-    go false rest = sym (ap (λ (b : Bool). if b then Some n else None) (lt_true 0 (suc (length numbers)) (omega arith)))
+    go false rest = sym (ap (λ (b : Bool). if b then Some n else None) (lt-ltb 0 (suc (length numbers)) (omega arith)))
 
 pub at_is : (numbers : List ℕ) (place lba : ℕ) → is_at numbers place lba ≡ (if nat_lt place (length numbers) then get_or numbers place 0 == lba else false)
-at_is [] place lba = sym (ap (λ (b : Bool). if b then 0 == lba else false) (lt_false place 0 (omega arith)))
-at_is (n ∷ numbers) zero lba = sym (ap (λ (b : Bool). if b then n == lba else false) (lt_true 0 (suc (length numbers)) (omega arith)))
+at_is [] place lba = sym (ap (λ (b : Bool). if b then 0 == lba else false) (le-ltb place 0 (omega arith)))
+at_is (n ∷ numbers) zero lba = sym (ap (λ (b : Bool). if b then n == lba else false) (lt-ltb 0 (suc (length numbers)) (omega arith)))
 at_is (n ∷ numbers) (suc place) lba = at_is numbers place lba ∙ sym (ap (λ (b : Bool). if b then get_or numbers place 0 == lba else false) (lt_suc place (length numbers)))
 
 pub put_whole : (n : ℕ) (new items : List ℕ) → length new ≡ n → take n (new ++ drop (length new) items) ≡ new

@@ -1,5 +1,5 @@
 //! What keeps the blocks of a disk.
-ghost use Rattle.std.specs.Prelude.{◌≡◌, ℕ, ◌+◌, ◌<◌, ◌≤◌, length, OnOk, OnErr};
+ghost use Rattle.std.specs.Prelude.{◌≡◌, ℕ, ◌+◌, ◌<◌, ◌≤◌, length, take, drop, OnOk, OnErr};
 ghost use Rattle.disk_array.specs.Contents.{Contents, block_at, with_block};
 
 use bus_base::NoMemory;
@@ -42,6 +42,12 @@ pub trait Blocks {
         requires whole { length into.old ≡ (contents self.now).size }
         ensures { into.new ≡ block_at (contents self.now) lba };
 
+    /// Reads so many bytes of the block of this number as `into` has, those from `offset` on.
+    fn read_part(&self, lba: u32, offset: usize, into: &mut [u8])
+        requires within { lba < (contents self.now).count }
+        requires part { offset + length into.old ≤ (contents self.now).size }
+        ensures { into.new ≡ take (length into.old) (drop offset (block_at (contents self.now) lba)) };
+
     /// Writes the block of this number; the others stay.
     fn write_block(&mut self, lba: u32, from: &[u8])
         requires within { lba < (contents self.old).count }
@@ -49,4 +55,12 @@ pub trait Blocks {
         requires room { 1 ≤ spare_blocks self.old }
         ensures written { contents self.new ≡ with_block (contents self.old) lba from.now }
         ensures lowered { spare_blocks self.old ≤ spare_blocks self.new + 1 };
+}
+
+/// Some of these bytes, from `offset` on.
+pub fn copy_from(bytes: &[u8], offset: usize, into: &mut [u8])
+    requires within { offset + length into.old ≤ length bytes.now }
+    ensures { into.new ≡ take (length into.old) (drop offset bytes.now) }
+{
+    into.copy_from_slice(&bytes[offset..offset + into.len()]);
 }

@@ -2,7 +2,7 @@
 ghost use Rattle.std.specs.Prelude.{◌≡◌, ℕ, ◌*◌, ◌<◌, ◌≤◌, IfOk};
 ghost use Rattle.disk_array.specs.Contents.{Contents, block_at, zero_block};
 
-use super::blocks::Blocks;
+use super::blocks::{Blocks, copy_from};
 use bus_base::NoMemory;
 use std::alloc::Global;
 use std::marker::Model;
@@ -69,6 +69,11 @@ impl Blocks for DenseBlocks {
     fn read_block(&self, lba: u32, into: &mut [u8]) {
         let start = lba as usize * self.size;
         into.copy_from_slice(&self.bytes[start..start + self.size]);
+    }
+
+    fn read_part(&self, lba: u32, offset: usize, into: &mut [u8]) {
+        let start = lba as usize * self.size;
+        copy_from(&self.bytes[start..start + self.size], offset, into);
     }
 
     fn write_block(&mut self, lba: u32, from: &[u8]) {

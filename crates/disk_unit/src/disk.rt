@@ -11,7 +11,7 @@ ghost use Rattle.disk_array.specs.Order.{range_in, first_in, count_in};
 ghost use Rattle.disk_unit.specs.Plans.{plan_of};
 ghost use Rattle.disk_unit.specs.Disk.{disk_context, disk_execution, disk_reply, is_carried_out, blocks_written, disk_extent, written_of, bytes_in, command_reply, written_if};
 
-use super::blocks::Blocks;
+use super::blocks::{Blocks, copy_from};
 use super::media::{Extent, Medium, Plan};
 use super::transfer::{read_bytes, write_bytes};
 use cdb_codec::{
@@ -151,8 +151,7 @@ fn copy_part(bytes: &[u8], at: u32, into: &mut [u8])
     requires within { at + length into.old ≤ length bytes.now }
     ensures { into.new ≡ take (length into.old) (drop at bytes.now) }
 {
-    let at = at as usize;
-    into.copy_from_slice(&bytes[at..at + into.len()]);
+    copy_from(bytes, at as usize, into);
 }
 
 // The last block and the size of one.

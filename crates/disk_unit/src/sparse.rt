@@ -5,7 +5,7 @@ ghost use Rattle.std.specs.List.{insert};
 ghost use Rattle.disk_array.specs.Contents.{blank_contents};
 ghost use Rattle.disk_unit.specs.Sparse.{Store, place_in, is_at as is_number_at, AreRising, HaveSize, touched_from};
 
-use super::blocks::Blocks;
+use super::blocks::{Blocks, copy_from};
 use bus_base::NoMemory;
 use std::alloc::Global;
 use std::marker::Model;
@@ -187,6 +187,15 @@ impl Blocks for SparseBlocks {
         let place = place_of(self.numbers.as_slice(), u64::from(lba));
         if is_at(self.numbers.as_slice(), place, lba) {
             into.copy_from_slice(self.blocks[place].as_slice());
+        } else {
+            blank(into);
+        }
+    }
+
+    fn read_part(&self, lba: u32, offset: usize, into: &mut [u8]) {
+        let place = place_of(self.numbers.as_slice(), u64::from(lba));
+        if is_at(self.numbers.as_slice(), place, lba) {
+            copy_from(self.blocks[place].as_slice(), offset, into);
         } else {
             blank(into);
         }

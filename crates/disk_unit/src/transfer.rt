@@ -4,26 +4,6 @@ ghost use Rattle.disk_array.specs.Contents.{block_at, bytes_at, with_bytes};
 
 use super::blocks::Blocks;
 
-/// The most bytes that a block has.
-const BLOCK_MOST: usize = 2048;
-
-/// Some bytes of one block, from `offset` on.
-fn read_part<B: Blocks>(blocks: &B, lba: u32, offset: usize, into: &mut [u8])
-    requires within { lba < (B.contents blocks.now).count }
-    requires part { offset + length into.old ≤ (B.contents blocks.now).size }
-    ensures { into.new ≡ take (length into.old) (drop offset (block_at (B.contents blocks.now) lba)) }
-{
-    let size = blocks.size();
-    if into.len() == size {
-        blocks.read_block(lba, into);
-    } else {
-        let mut whole = [0; BLOCK_MOST];
-        let block = &mut whole[..size];
-        blocks.read_block(lba, block);
-        into.copy_from_slice(&block[offset..offset + into.len()]);
-    }
-}
-
 /// The bytes at `place` among those of `count` blocks from block `lba` on, to the end of their block; returns how many
 /// they are.
 fn read_rest<B: Blocks>(blocks: &B, lba: u32, count: u32, place: usize, into: &mut [u8]) -> usize
@@ -43,12 +23,7 @@ fn read_rest<B: Blocks>(blocks: &B, lba: u32, count: u32, place: usize, into: &m
     } else {
         into.len()
     };
-    read_part(
-        blocks,
-        lba + (place / size) as u32,
-        offset,
-        &mut into[..part],
-    );
+    blocks.read_part(lba + (place / size) as u32, offset, &mut into[..part]);
     part
 }
 

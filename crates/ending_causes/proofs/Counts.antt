@@ -1,7 +1,7 @@
 -- A process has no more counted recoveries than phases with wrong parity.
 use Rattle.std.proofs.Common.{ℕ, ◌≡◌, ◌≤◌, Bool, true, false, List, [], ◌∷◌, ◌∙◌, refl, sym, ap, subst, Option, Some, None, arith}
 use Rattle.std.specs.Prelude.{◌+◌, if◌then◌else◌, not, ◌&&◌, ◌||◌, is_some, is_none, nat_lt}
-use Rattle.std.proofs.lemmas.Bool.{and_parts, and_from}
+use Rattle.std.proofs.lemmas.Bool.{and_parts, and_from, or_right}
 use Rattle.bus_base.specs.declared.ProcId.{ProcId}
 use Rattle.bus_trace.specs.declared.Row.{Row}
 use Rattle.bus_trace.specs.declared.connection.Connection.{Connection}
@@ -42,7 +42,8 @@ use Rattle.bus_due.specs.RunState.{RunState, bus_of, process_served, process_ite
 use Rattle.bus_due.specs.RunSteps.{run_state, exchange_after, leaving_of, progress_after, progress_by_leaving, may_negotiate, naming_of}
 use Rattle.bus_due.specs.Sights.{hearing_of, serving_of, leaving}
 use Rattle.ending_causes.specs.WrongParity.{is_struck_phase, is_complaint, is_wrong_phase, is_left, serves, leaves_wrong_phase, wrong_phases}
-use Rattle.ending_causes.proofs.Replies.{or_right, same_ids}
+use Rattle.ending_causes.proofs.Replies.{same_ids}
+use Rattle.bus_base.proofs.Tests.{all_three}
 
 pub not_both : (x : Bool) → x ≡ true → x ≡ false → ⊥
 not_both true h k = cc
@@ -249,9 +250,6 @@ progress_step all pid id r c = go (r || c) (same_id pid id) refl
     go false m e = no_more older (c && m)
     go true true e = subst (λ (x : Bool). (if x then made else progress_in all id).recoveries ≤ older + one_if (c && true)) (sym e) (mine (same_ids pid id e) c)
     go true false e = subst (λ (x : Bool). (if x then made else progress_in all id).recoveries ≤ older + one_if (c && false)) (sym e) (no_more older (c && false))
-
-pub all_three : (a b c : Bool) → a ≡ true → b ≡ true → c ≡ true → (a && b && c) ≡ true
-all_three a b c x y z = λ i. x i && y i && z i
 
 pub all_four : (a b c e : Bool) → a ≡ true → b ≡ true → c ≡ true → e ≡ true → (a && b && c && e) ≡ true
 all_four a b c e x y z w = λ i. x i && y i && z i && w i

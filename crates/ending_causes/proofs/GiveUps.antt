@@ -2,7 +2,7 @@
 use Rattle.std.proofs.Common.{ℕ, ◌≡◌, ◌≤◌, Bool, true, false, List, [], ◌∷◌, ◌∙◌, refl, sym, subst, Option, Some, None, arith}
 use Rattle.std.specs.Prelude.{◌+◌, if◌then◌else◌, not, ◌&&◌, ◌||◌, ◌==◌, is_some, is_none, nat_lt}
 use Rattle.std.specs.List.{list_any}
-use Rattle.std.proofs.lemmas.Bool.{and_parts, and_from, eqb-true}
+use Rattle.std.proofs.lemmas.Bool.{and_parts, and_from, eqb-true, or_right, or_left}
 use Rattle.std.proofs.lemmas.Bool.Decides.{nat_tests}
 use Rattle.bus_base.specs.declared.AbortKind.{AbortKind}
 use Rattle.bus_base.specs.declared.Event.{Event}
@@ -51,14 +51,11 @@ use Rattle.bus_due.specs.Tasks.{task_of, task_if}
 use Rattle.bus_due.specs.Telling.{id_of, same_event, same_events, target_events, initiator_events, events_of_ends, events_of_ends_in, is_true_telling}
 use Rattle.ending_causes.specs.FullQueues.{has_event}
 use Rattle.ending_causes.specs.WrongParity.{is_struck_phase, is_complaint, is_wrong_phase, is_left, serves, leaves_wrong_phase, wrong_phases, is_failure, is_loss, is_past_limit, gives_up}
-use Rattle.ending_causes.proofs.Replies.{or_right, same_ids}
-use Rattle.ending_causes.proofs.Counts.{not_both, is_planned_wrong, planned_wrong, counted, all_three}
+use Rattle.ending_causes.proofs.Replies.{same_ids}
+use Rattle.ending_causes.proofs.Counts.{not_both, is_planned_wrong, planned_wrong, counted}
+use Rattle.bus_base.proofs.Tests.{all_three, or_other}
 
 -- ---- equal events
-
-no_left : (x y : Bool) → x ≡ false → (x || y) ≡ true → y ≡ true
-no_left true y e h = cc
-no_left false y e h = h
 
 id_through : (a b c : ProcId) → same_id a b ≡ true → same_id b c ≡ true → same_id a c ≡ true
 id_through a b c h k = (λ i. same_id (same_ids a b h i) c) ∙ k
@@ -104,10 +101,6 @@ either_true : (x y z : Bool) → (x ≡ true → z ≡ true) → (y ≡ true →
 either_true true y z f g h = f refl
 either_true false y z f g h = g h
 
-or_first : (x y : Bool) → x ≡ true → (x || y) ≡ true
-or_first true y h = refl
-or_first false y h = cc
-
 fails_in : (shown told : List Event) (id : ProcId) (code : ℕ) → same_events shown told ≡ true → has_event told (events.Fail id code) ≡ true → has_event shown (events.Fail id code) ≡ true
 fails_in [] [] id code h k = cc
 fails_in [] (f ∷ told) id code h k = cc
@@ -117,7 +110,7 @@ fails_in (e ∷ shown) (f ∷ told) id code h k =
     let now = fail_through e f id code two.0 in
     let later = fails_in shown told id code two.1 in
     either_true (same_event f (events.Fail id code)) (has_event told (events.Fail id code)) (has_event (e ∷ shown) (events.Fail id code))
-    (λ x. or_first (same_event e (events.Fail id code)) (has_event shown (events.Fail id code)) (now x))
+    (λ x. or_left (same_event e (events.Fail id code)) (has_event shown (events.Fail id code)) (now x))
     (λ x. or_right (same_event e (events.Fail id code)) (has_event shown (events.Fail id code)) (later x)) k
 
 lost_in : (shown told : List Event) (id : ProcId) → same_events shown told ≡ true → has_event told (events.Lost id) ≡ true → has_event shown (events.Lost id) ≡ true
@@ -129,7 +122,7 @@ lost_in (e ∷ shown) (f ∷ told) id h k =
     let now = lost_through e f id two.0 in
     let later = lost_in shown told id two.1 in
     either_true (same_event f (events.Lost id)) (has_event told (events.Lost id)) (has_event (e ∷ shown) (events.Lost id))
-    (λ x. or_first (same_event e (events.Lost id)) (has_event shown (events.Lost id)) (now x))
+    (λ x. or_left (same_event e (events.Lost id)) (has_event shown (events.Lost id)) (now x))
     (λ x. or_right (same_event e (events.Lost id)) (has_event shown (events.Lost id)) (later x)) k
 
 -- ---- no recovery is left to the process
@@ -185,7 +178,7 @@ record Newer (q : Bool) (xs : List Event) (e : Event) : Type 0 where
 newer : (q : Bool) (xs ys : List Event) (e : Event) → has_event ys e ≡ false → has_event (newest_with (if q then xs else []) ys) e ≡ true → Newer q xs e
 newer false xs ys e h k = absurd (not_both _ k h)
 newer true [] ys e h k = absurd (not_both _ k h)
-newer true (x ∷ xs) ys e h k = record { on = refl; has = or_first (same_event x e) (has_event xs e) (either_true (same_event x e) (has_event ys e) (same_event x e) (λ z. z) (λ z. absurd (not_both _ z h)) k) }
+newer true (x ∷ xs) ys e h k = record { on = refl; has = or_left (same_event x e) (has_event xs e) (either_true (same_event x e) (has_event ys e) (same_event x e) (λ z. z) (λ z. absurd (not_both _ z h)) k) }
 
 -- What the events of a reply say of the plan.
 record Tells (v : Serving) (phase : Phase) (id other : ProcId) (code : ℕ) : Type 0 where

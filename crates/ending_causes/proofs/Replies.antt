@@ -1,7 +1,7 @@
 -- After every history each reply that was given has its cause in it.
 use Rattle.std.proofs.Common.{ℕ, ◌≡◌, Bool, true, false, List, [], ◌∷◌, ◌++◌, ◌∙◌, refl, sym, subst, Option, Some, None, arith}
 use Rattle.std.specs.Prelude.{if◌then◌else◌, not, ◌&&◌, ◌||◌, ◌==◌, is_some, is_none, nat_lt, Result, Ok, Err}
-use Rattle.std.proofs.lemmas.Bool.{eqb-true, and_parts, and_from}
+use Rattle.std.proofs.lemmas.Bool.{eqb-true, and_parts, and_from, or_right, or_left}
 use Rattle.bus_base.specs.declared.AbortKind.{AbortKind}
 use Rattle.bus_base.specs.declared.AbortKind.TheVariants as aborts
 use Rattle.bus_base.specs.declared.Event.{Event}
@@ -28,16 +28,9 @@ use Rattle.disk_array.specs.ArrayHistory.{array_step, array_after, reply_in}
 use Rattle.disk_array.proofs.SoundArrays.{id_is}
 use Rattle.bus_due.specs.Telling.{same_event}
 use Rattle.ending_causes.specs.FullQueues.{has_event, is_refused_at, was_refused, finds_full_queue, has_cause}
+use Rattle.bus_base.proofs.Tests.{eq_self}
 
 -- ---- one of several
-
-or_left : (x y : Bool) → x ≡ true → (x || y) ≡ true
-or_left true y h = refl
-or_left false y h = cc
-
-pub or_right : (x y : Bool) → y ≡ true → (x || y) ≡ true
-or_right true y h = refl
-or_right false y h = h
 
 more : (x y z : Bool) → (not x || y) ≡ true → (not x || (z || y)) ≡ true
 more false y z h = refl
@@ -59,11 +52,8 @@ self_bool : (b : Bool) → same_bool b b ≡ true
 self_bool true = refl
 self_bool false = refl
 
-self_eqb : (n : ℕ) → (n == n) ≡ true
-self_eqb n = grind arith
-
 pub same_self : (id : ProcId) → same_id id id ≡ true
-same_self id = λ i. self_eqb id.command i && self_bool id.sense i
+same_self id = λ i. eq_self id.command i && self_bool id.sense i
 
 -- ---- what holds of the array, of this history
 
@@ -398,7 +388,7 @@ failed : (s : ScenarioValue) (h : List Event) (a : Array) (id : ProcId) (code : 
 failed s h a id code r b = on r
   where
     cause : has_cause s (events.Fail id code ∷ h) id (failure_of code) ≡ true
-    cause = or_left (same_id id id && code == code) (has_event h (events.Fail id code)) (λ i. same_self id i && self_eqb code i)
+    cause = or_left (same_id id id && code == code) (has_event h (events.Fail id code)) (λ i. same_self id i && eq_self code i)
 
     came : (x : Bool) (p : Process) → process_of s id ≡ Some p → IsCausedIf s (events.Fail id code ∷ h) (if x then None else Some (Steps.with_listed_reply (Steps.with_guest a p (Some (failure_of code))) id (failure_of code)))
     came true p e = tt

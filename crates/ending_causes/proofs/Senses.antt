@@ -1,7 +1,7 @@
 -- After every history a sense that is stored with the key ABORTED COMMAND is of a process that failed there.
 use Rattle.std.proofs.Common.{ℕ, ◌≡◌, Bool, true, false, List, [], ◌∷◌, ◌∙◌, refl, sym, subst, Option, Some, None, arith}
 use Rattle.std.specs.Prelude.{if◌then◌else◌, not, ◌&&◌, ◌||◌, ◌==◌, is_some, is_none, nat_lt}
-use Rattle.std.proofs.lemmas.Bool.{eqb-true, and_parts, and_from}
+use Rattle.std.proofs.lemmas.Bool.{eqb-true, and_parts, and_from, or_right}
 use Rattle.bus_base.specs.declared.AbortKind.{AbortKind}
 use Rattle.bus_base.specs.declared.AbortKind.TheVariants as aborts
 use Rattle.bus_base.specs.declared.Event.{Event}
@@ -23,15 +23,13 @@ use Rattle.disk_array.specs.SoundArray.{IsOwn, IsOwnRunning, AllOwnUnits, AllOwn
 use Rattle.disk_array.proofs.SoundArrays.{history_sound}
 use Rattle.bus_due.specs.Telling.{same_event}
 use Rattle.ending_causes.specs.FullQueues.{has_event, was_refused, has_cause, is_at_nexus, is_failure_at, has_failure_at}
-use Rattle.ending_causes.proofs.Replies.{or_right, same_ids, IsCaused, Caused, caused, process_runs}
+use Rattle.ending_causes.proofs.Replies.{same_ids, IsCaused, Caused, caused, process_runs}
+use Rattle.bus_base.proofs.Tests.{eq_self}
 
 -- ---- a failure of a process is one at its nexus
 
-self_eqb : (n : ℕ) → (n == n) ≡ true
-self_eqb n = grind arith
-
 self_nexus : (q : Nexus) → same_nexus q q ≡ true
-self_nexus q = λ i. self_eqb q.initiator i && (self_eqb q.target i && self_eqb q.unit i)
+self_nexus q = λ i. eq_self q.initiator i && (eq_self q.target i && eq_self q.unit i)
 
 here : (s : ScenarioValue) (e : Event) (p : Process) (code : ℕ) → process_of s p.id ≡ Some p → same_event e (events.Fail p.id code) ≡ true → is_failure_at s e (nexus_of p) code ≡ true
 here s (events.Fail id x) p code own h =

@@ -2,7 +2,7 @@
 use Rattle.std.proofs.Common.{ℕ, ◌≡◌, Bool, true, false, List, [], ◌∷◌, ◌++◌, ◌∙◌, refl, sym, subst, Option, Some, None, arith}
 use Rattle.std.specs.Prelude.{◌+◌, if◌then◌else◌, not, ◌&&◌, ◌||◌, ◌==◌, is_some, is_none, nat_lt}
 use Rattle.std.specs.List.{list_any}
-use Rattle.std.proofs.lemmas.Bool.{and_parts, eqb-true}
+use Rattle.std.proofs.lemmas.Bool.{and_parts, eqb-true, or_right, or_left}
 use Rattle.bus_base.specs.declared.Event.{Event}
 use Rattle.bus_base.specs.declared.Event.TheVariants as events
 use Rattle.bus_base.specs.declared.ProcId.{ProcId}
@@ -37,15 +37,9 @@ use Rattle.bus_story.specs.TraceHistory.{story, trace_history, aim_of, is_host, 
 use Rattle.bus_due.specs.Telling.{same_event}
 use Rattle.ending_causes.specs.FullQueues.{has_event}
 use Rattle.ending_causes.specs.Strikes.{is_item_of, is_link_of, fails_with, has_failing_byte, is_strike, has_strike}
-use Rattle.ending_causes.proofs.Replies.{or_right, same_ids, same_self}
-use Rattle.ending_causes.proofs.Counts.{not_both, all_three}
-
-or_first : (x y : Bool) → x ≡ true → (x || y) ≡ true
-or_first true y h = refl
-or_first false y h = cc
-
-self_eqb : (n : ℕ) → (n == n) ≡ true
-self_eqb n = grind arith
+use Rattle.ending_causes.proofs.Replies.{same_ids, same_self}
+use Rattle.ending_causes.proofs.Counts.{not_both}
+use Rattle.bus_base.proofs.Tests.{eq_self, all_three}
 
 -- ---- what a process has carried: a failure has its fault row
 
@@ -313,7 +307,7 @@ fault_struck s rows row l e h = by row.kind refl
 
     now : (id : ProcId) (c : Change) (bit : ℕ) → l.item ≡ Some (process id) → b.bus_state.crossed ≡ Some c → row.kind ≡ Fault bit → (code : ℕ) → fails_with c.before code ≡ true → has_strike s (row ∷ rows) id code ≡ true
     now id c bit item crossed kind code f =
-        or_first (is_strike b row id code) (has_strike s rows id code)
+        or_left (is_strike b row id code) (has_strike s rows id code)
         (all_three (is_fault row.kind) (is_link_of b.link id) (has_failing_byte b.bus_state.crossed code) (λ i. is_fault (kind i))
         ((λ i. is_link_of (e i) id) ∙ (λ i. is_item_of (item i) id) ∙ same_self id)
         ((λ i. has_failing_byte (crossed i) code) ∙ f))
@@ -475,7 +469,7 @@ shown_is s rows row id code h = go d.change.after.rst (rises d.change.own.rst d.
     go true false e = cc
     go false r e = linked b.link e
 
-either_list : (shown history : List Event) (e : Event) (z : Bool) → (has_event shown e ≡ true → z ≡ true) → (has_event history e ≡ true → z ≡ true) → has_event (shown ++ history) e ≡ true → z ≡ true
+pub either_list : (shown history : List Event) (e : Event) (z : Bool) → (has_event shown e ≡ true → z ≡ true) → (has_event history e ≡ true → z ≡ true) → has_event (shown ++ history) e ≡ true → z ≡ true
 either_list [] history e z now before h = before h
 either_list (x ∷ shown) history e z now before h = go (λ k. either_list shown history e z (λ y. now (or_right (same_event x e) (has_event shown e) y)) before k) (same_event x e) refl h
   where

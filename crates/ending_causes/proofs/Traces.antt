@@ -1,7 +1,7 @@
 -- Of a whole trace: a process fails, or is lost, only past the limit of its target.
 use Rattle.std.proofs.Common.{ℕ, ◌≡◌, Bool, true, false, List, [], ◌∷◌, ◌++◌, ◌∙◌, refl, sym, Option, Some, None, arith}
 use Rattle.std.specs.Prelude.{◌+◌, if◌then◌else◌, not, ◌&&◌, ◌||◌, ◌==◌, is_some, is_none, nat_lt}
-use Rattle.std.proofs.lemmas.Bool.{and_parts, eqb-true}
+use Rattle.std.proofs.lemmas.Bool.{and_parts, eqb-true, or_right}
 use Rattle.std.proofs.lemmas.Bool.Decides.{nat_tests}
 use Rattle.bus_base.specs.declared.Event.{Event}
 use Rattle.bus_base.specs.declared.Event.TheVariants as events
@@ -25,8 +25,9 @@ use Rattle.bus_due.specs.Tasks.{task_of}
 use Rattle.bus_due.specs.Telling.{is_true_telling, telling, same_event}
 use Rattle.ending_causes.specs.FullQueues.{has_event}
 use Rattle.ending_causes.specs.WrongParity.{is_struck_phase, is_left, serves, is_wrong_phase, leaves_wrong_phase, wrong_phases, is_failure, is_loss, is_past_limit, gives_up, is_left_by, is_left_as_due, left_as_due, has_passed_limit}
-use Rattle.ending_causes.proofs.Replies.{or_right, same_ids}
+use Rattle.ending_causes.proofs.Replies.{same_ids}
 use Rattle.ending_causes.proofs.GiveUps.{failure_is, loss_by, fails_connected, lost_connected, lost_calm}
+use Rattle.ending_causes.proofs.Struck.{either_list}
 
 -- ---- the ends of a connection are those of the process that its target serves
 
@@ -104,14 +105,6 @@ more_phases s rows row p h = go (recovery_limit (target_def_of s p.target)) (wro
     go : (limit w : ℕ) (q : Bool) → nat_lt limit w ≡ true → nat_lt limit (w + one_if q) ≡ true
     go limit w true e = grind (arith, nat_tests)
     go limit w false e = grind (arith, nat_tests)
-
-either_list : (shown history : List Event) (e : Event) (z : Bool) → (has_event shown e ≡ true → z ≡ true) → (has_event history e ≡ true → z ≡ true) → has_event (shown ++ history) e ≡ true → z ≡ true
-either_list [] history e z now before h = before h
-either_list (x ∷ shown) history e z now before h = go (λ k. either_list shown history e z (λ y. now (or_right (same_event x e) (has_event shown e) y)) before k) (same_event x e) refl h
-  where
-    go : (has_event (shown ++ history) e ≡ true → z ≡ true) → (q : Bool) → same_event x e ≡ q → (q || has_event (shown ++ history) e) ≡ true → z ≡ true
-    go later true w k = now (λ i. w i || has_event shown e)
-    go later false w k = later k
 
 pub failures_are : (s : ScenarioValue) (rows : List Row) (p : Process) (code : ℕ) → faithful s rows ≡ true → telling s rows ≡ true → process_of s p.id ≡ Some p → has_event (run_state s rows).story.history (events.Fail p.id code) ≡ true → has_passed_limit s rows p ≡ true
 failures_are s [] p code f t own h = cc

@@ -29,13 +29,12 @@ use Rattle.bus_due.proofs.Plains.{run_state_plain}
 use Rattle.bus_laws.specs.Ends.{EndLines, initiator_side, target_side, Linked}
 use Rattle.bus_laws.specs.Reactions.{device_with, own_time, unreset_due}
 use Rattle.bus_laws.specs.Stages.{CalmStanding}
-use Rattle.bus_laws.proofs.Tests.{eq_self}
 use Rattle.link_laws.proofs.EndDues.{sight_with, pace_with, offering_with, answering_with, target_plain, initiator_plain, is_sampling, target_is, initiator_is, Mover, by_fault, by_initiator, by_target, mover_is, due_of}
-use Rattle.trace_laws.proofs.Impossible.{wrong'}
 use Rattle.trace_laws.proofs.LinkRows.{is_pulsed}
 use Rattle.fault_laws.proofs.EndsOfLines.{target_lines, initiator_lines, assertion_some, late_target, late_initiator}
 use Rattle.fault_laws.proofs.NoFaults.{IsOfLines, of_lines}
 use Rattle.fault_laws.proofs.Takes.{IsNoLater, Takes, Awaits}
+use Rattle.bus_base.proofs.Tests.{wrong', eq_self}
 
 -- What the two ends drive as a byte has crossed in the last row, and who received it.
 pub data Crossed (p : List Row) (n : Connection) (d : ℕ) : Type 0 where

@@ -1,7 +1,7 @@
 -- The IDs that a called device samples: what the next row makes of them while no connection stands and RST is false.
 use Rattle.std.proofs.Common.{ℕ, ◌≡◌, ◌≢◌, inl, inr, ◌<◌, ◌+◌, ◌^◌, Bool, true, false, not, ◌&&◌, ◌==◌, ◌∙◌, List, ◌∷◌, Option, Some, None, refl, sym, ap, subst, arith}
 use Rattle.std.specs.Prelude.{if◌then◌else◌, is_some}
-use Rattle.std.proofs.lemmas.Bool.{cases_eq}
+use Rattle.std.proofs.lemmas.Bool.{cases_eq, ne_eqb}
 use Rattle.std.proofs.lemmas.Bool.Decides.{nat_tests}
 use Rattle.std.proofs.lemmas.Option.{same_Some}
 use Rattle.bus_trace.specs.LineSet.{LineSet, none}
@@ -28,12 +28,12 @@ use Rattle.bus_laws.proofs.CallDues.{asks_due, before_due, waits_due, answers_du
 use Rattle.bus_laws.proofs.Dues.{is_there, is_at}
 use Rattle.bus_laws.proofs.FromCalling.{only_caller}
 use Rattle.bus_laws.proofs.Rows.{drives_own, drives_other, since_is, stage_is, stands_after}
-use Rattle.bus_laws.proofs.Tests.{eq_self, eq_other}
 use Rattle.link_laws.proofs.EndDues.{due_of}
-use Rattle.trace_laws.proofs.Impossible.{wrong, wrong', none_some}
+use Rattle.trace_laws.proofs.Impossible.{none_some}
 use Rattle.fault_laws.specs.Awaited.{is_asked, ids_at, ids_of, awaited_ids}
 use Rattle.fault_laws.proofs.Calls.{Follows, calling_follows, GoesOn, call_goes, answered_unasked, withdrawn_unasked, struck_unasked, unreleased_unasked, ids_none, ids_unsampled, ids_sampled, with_awaited}
 use Rattle.fault_laws.proofs.Takes.{Takes, Awaits, fault_at, lines_at, time_at, some_at}
+use Rattle.bus_base.proofs.Tests.{wrong, wrong', eq_self}
 
 -- ---- the called device samples next
 
@@ -254,7 +254,7 @@ ids_low s p row j g ej eg low stuck =
 -- The called device answers, or a fault strikes it.
 sampled_call : (caller k : ℕ) (g h : Calling) (c : Change) (row : Row) → caller ≢ k → g.called ≡ k → row.dev ≡ k → calling_after caller (Some g) c row ≡ Some h → called_goes_on g c row ≡ h
 sampled_call caller k g h c row ne ek ed e =
-    let no : (row.dev == caller) ≡ false = eq_other row.dev caller (λ z. ne (sym z ∙ ed)) in
+    let no : (row.dev == caller) ≡ false = ne_eqb row.dev caller (λ z. ne (sym z ∙ ed)) in
     let yes : (row.dev == g.called) ≡ true = ap (λ (x : ℕ). x == g.called) (ed ∙ sym ek) ∙ eq_self g.called in
     same_Some _ h (sym (λ i. if no i then Some (caller_goes_on g c row.time) else if yes i then Some (called_goes_on g c row) else Some g) ∙ e)
 

@@ -24,7 +24,6 @@ use Rattle.bus_due.specs.Sights.{serving_at}
 use Rattle.bus_laws.specs.Ends.{EndLines, initiator_side, connected_bus, Linked, ends_selected}
 use Rattle.bus_laws.specs.Rows.{row_of_lines, row_of_fault}
 use Rattle.bus_laws.proofs.Rows.{drives_own, drives_other, fault_change}
-use Rattle.bus_laws.proofs.Tests.{and_false}
 use Rattle.link_laws.specs.Phases.{ends}
 use Rattle.link_laws.proofs.EndDues.{offering_with}
 use Rattle.link_laws.proofs.Moves.{initiator_in_phase, target_in_phase, target_moves, terms_of, no_rise}
@@ -35,6 +34,7 @@ use Rattle.trace_laws.proofs.LinkRows as rows
 use Rattle.trace_laws.proofs.LinkRows.{LinkRow}
 use Rattle.trace_laws.proofs.Tests.{none_both}
 use Rattle.fault_laws.proofs.ByteSamples.{Crossed, into_initiator, into_target}
+use Rattle.bus_base.proofs.Tests.{and_false}
 
 pub data Crossing (p : List Row) (row : Row) (n : Connection) : Type 0 where
   carries_none : (bus (row ∷ p)).rst ≡ false → receiver (row ∷ p) ≡ None → Crossing p row n

@@ -12,7 +12,7 @@ use Rattle.bus_trace.specs.Trace.{bus, line_times, phase_time, since_line}
 use Rattle.bus_story.specs.Samples.{Sample}
 use Rattle.bus_dialogue.specs.Hearing.{begun, begun_after}
 use Rattle.bus_laws.specs.Ends.{BeginsConnection, by_selection, by_reselection}
-use Rattle.trace_laws.proofs.Impossible.{wrong, wrong'}
+use Rattle.bus_base.proofs.Tests.{wrong, wrong'}
 
 -- Who samples the bytes of a connection.
 abbrev pub sampler : Connection → Bool → ℕ

@@ -17,8 +17,9 @@ use Rattle.bus_trace.specs.declared.delays.TheConstants.{BUS_SETTLE_DELAY, SET_U
 use Rattle.bus_reactions.specs.Initiator.{ack_negation, ack_pulse, ack_pulse_end, byte_release, initiator_byte, initiator_handshake, initiator_pulse, initiator_turn, pulsed_byte, received_byte_ack, received_byte_pulse, rose_with_ack, sent_byte_ack, sent_byte_pulse}
 use Rattle.bus_reactions.specs.Ends.{bsy_release, initiator_due, message_out_start, target_due, owes_release as owes}
 use Rattle.bus_laws.proofs.Dues.{is_at}
-use Rattle.trace_laws.proofs.Impossible.{wrong, none_some}
+use Rattle.trace_laws.proofs.Impossible.{none_some}
 use Rattle.fault_laws.proofs.NoFaults.{IsOfLines, lines_if}
+use Rattle.bus_base.proofs.Tests.{wrong}
 
 -- ---- rows of lines
 

@@ -8,9 +8,9 @@ use Rattle.bus_trace.specs.declared.Kind.{Kind}
 use Rattle.bus_trace.specs.declared.Kind.TheVariants.{Drives, Fault}
 use Rattle.scenario.specs.declared.value.FaultDef.{FaultDef}
 use Rattle.bus_story.specs.Samples.{Sample, Strike, is_sampled_before, with_sample, is_kept_by_reset, kept_samples, first_from, without_first, with_strike, with_first_strike, strikes_by, with_fault, faults_in_order, strike_of, row_strikes}
-use Rattle.disk_unit.proofs.Touched.{from_not_lt}
 use Rattle.bus_due.specs.Sights.{flip_of}
 use Rattle.fault_laws.specs.InTurn.{strike_if, left_if, strikes_in_turn, faults_left}
+use Rattle.std.proofs.lemmas.Bool.{ltb-false}
 
 -- ---- in order
 
@@ -103,7 +103,7 @@ with_ordered f (g ∷ faults) w = go (nat_lt g.at f.at) refl (with_ordered f fau
   where
     go : (q : Bool) → nat_lt g.at f.at ≡ q → AreOrdered (with_fault f faults) → AreOrdered (if q then g ∷ with_fault f faults else f ∷ g ∷ faults)
     go true e r = (with_from g.at f faults (at_most g.at f.at e) w.0, r)
-    go false e r = let h = from_not_lt g.at f.at e in ((h, from_later f.at g.at faults h w.0), w)
+    go false e r = let h = ltb-false g.at f.at e in ((h, from_later f.at g.at faults h w.0), w)
 
 pub ordered_faults : (faults : List FaultDef) → AreOrdered (faults_in_order faults)
 ordered_faults [] = tt

@@ -20,11 +20,11 @@ use Rattle.bus_laws.specs.Reactions.{unreset_due}
 use Rattle.bus_laws.specs.Stages.{HasShortLatencies, BusStage, CalmStanding, Standing, NextRow}
 use Rattle.bus_laws.proofs.Together.{from_stage}
 use Rattle.link_laws.specs.LinkStages.{LinkStage, when_selected, when_settling, when_turning, when_offering, when_shaking, when_pulsing, AnyStage, apart, linked}
-use Rattle.link_laws.proofs.Traces.{sides_are}
+use Rattle.link_laws.proofs.Traces.{sides_are, link_calm}
 use Rattle.trace_laws.specs.Ends.{HasEnds, AreEnds}
 use Rattle.trace_laws.proofs.FirstRows.{begins_now, under_rst}
-use Rattle.trace_laws.proofs.Impossible.{none_some, wrong, wrong', some_none}
-use Rattle.trace_laws.proofs.Joint.{link_calm, link_connection}
+use Rattle.trace_laws.proofs.Impossible.{none_some, some_none}
+use Rattle.trace_laws.proofs.Joint.{link_connection}
 use Rattle.trace_laws.proofs.UnderRst.{ends_apart}
 use Rattle.fault_laws.specs.Awaited.{awaited, awaited_by, awaited_ids, byte_at}
 use Rattle.fault_laws.proofs.ByteSamples.{Crossed, into_initiator, into_target, byte_awaits, byte_none}
@@ -35,6 +35,7 @@ use Rattle.fault_laws.proofs.NoFaults.{no_fault}
 use Rattle.fault_laws.proofs.ResetSamples.{kept_new, kept_on}
 use Rattle.fault_laws.proofs.Taken.{IsPast}
 use Rattle.fault_laws.proofs.Takes.{Awaits, IsNoLater}
+use Rattle.bus_base.proofs.Tests.{wrong, wrong'}
 
 pub record Moment (s : ScenarioValue) (p : List Row) (row : Row) : Type 0 where
   pub fits : HasShortLatencies s

@@ -25,7 +25,7 @@ use Rattle.bus_laws.proofs.Resets.{comes_by, due_calm}
 use Rattle.bus_laws.proofs.Rows.{drives_own}
 use Rattle.link_laws.proofs.Traces.{sides_are}
 use Rattle.trace_laws.proofs.FirstRows.{made_is, quiet_sel, under_rst}
-use Rattle.trace_laws.proofs.Impossible.{wrong, wrong', none_some}
+use Rattle.trace_laws.proofs.Impossible.{none_some}
 use Rattle.trace_laws.proofs.UnderRst.{carries_none, ends_apart, quiet_at_end}
 use Rattle.fault_laws.specs.Awaited.{awaited, awaited_by}
 use Rattle.fault_laws.proofs.CalledSamples.{fresh_none}
@@ -33,9 +33,11 @@ use Rattle.fault_laws.proofs.Calls.{with_awaited}
 use Rattle.fault_laws.proofs.InTurn.{AreKept, kept_all, kept_last}
 use Rattle.fault_laws.proofs.Moments.{Moment, apart_of, awaits_here, directed_here, linked_of, none_here, past_new, past_next, reset_of}
 use Rattle.fault_laws.proofs.Puts.{Puts, apart_puts, linked_puts, puts_ids, unraised}
-use Rattle.fault_laws.proofs.ResetSamples.{CalmRow, resets, reacts, ResetRow, raises, lets_go, always_is, bare_row, calls_cut, calls_go, calls_none, calm_row, IsBare, is_kept, IsKept, kept_is, LetsCallsGo, no_ids, under_reset}
+use Rattle.fault_laws.proofs.ResetSamples.{CalmRow, resets, reacts, ResetRow, raises, lets_go, bare_row, calls_cut, calls_go, calls_none, calm_row, IsBare, is_kept, IsKept, kept_is, LetsCallsGo, no_ids, under_reset}
 use Rattle.fault_laws.proofs.Taken.{IsPast, Stepped, Taken, all_kept, all_precede, before_none, before_some, puts_down, stays, takes}
 use Rattle.fault_laws.proofs.Takes.{IsNoLater, Takes}
+use Rattle.bus_base.proofs.Tests.{wrong, wrong'}
+use Rattle.bus_laws.proofs.Together.{always_is}
 
 -- The samples that have been taken, whichever they are.
 abbrev pub SoFar : ScenarioValue → List Row → Type 0

@@ -2,7 +2,7 @@
 use Rattle.std.proofs.Common.{ℕ, ◌≡◌, ◌<◌, ◌+◌, Bool, true, false, not, ◌&&◌, ◌==◌, ◌∙◌, List, Option, Some, None, refl, sym, ap, subst}
 use Rattle.std.specs.Prelude.{⊤, max, nat_le, nat_lt, if◌then◌else◌, is_none}
 use Rattle.std.proofs.lemmas.Option.{same_Some}
-use Rattle.std.proofs.lemmas.Bool.{and_from}
+use Rattle.std.proofs.lemmas.Bool.{and_from, eqb-true}
 use Rattle.bus_trace.specs.LineSet.{LineSet, none, same_set, ids_set, has_id_above}
 use Rattle.bus_trace.specs.declared.Row.{Row}
 use Rattle.bus_trace.specs.declared.delays.TheConstants.{ENTRY_DELAY, BUS_SET_DELAY, ARBITRATION_DELAY, QUIET_TIME}
@@ -26,11 +26,11 @@ use Rattle.bus_reactions.specs.Linking.{bus_clear, link_due_by}
 use Rattle.bus_due.specs.Plain.{AreOfDevices}
 use Rattle.bus_due.specs.RunSteps.{run_state}
 use Rattle.bus_due.specs.Sights.{want_of, flip_of}
-use Rattle.bus_books.proofs.Lookups.{number_is}
 use Rattle.bus_laws.specs.Reactions.{own_time, device_with, unreset_due}
 use Rattle.bus_laws.proofs.Dues.{due_in, is_there}
-use Rattle.trace_laws.proofs.Impossible.{wrong', none_some}
+use Rattle.trace_laws.proofs.Impossible.{none_some}
 use Rattle.fault_laws.specs.Awaited.{is_asked, ids_at, ids_of, awaited_ids}
+use Rattle.bus_base.proofs.Tests.{wrong'}
 
 -- ---- rows of lines
 
@@ -167,7 +167,7 @@ no_fault s p d x dv lt calm alone none e = go (is_fault x.kind) refl
         let me : Myself = device_with d w.0 (drives p d) (own_time p d) in
         let z = fault_linking (bus p) (line_times p).bsy (line_times p).sel me (want_of s (run_state s p) d) (flip_of (run_state s p).faults ((line_times p).bsy + 400 + w.0)) (stage p) x (sym (due_in s p d w.0 (drives p d) (stage p) dv lt w.1 alone refl refl) ∙ e) f in
         let y = call_of_stage p z.c calm alone z.stage_is in
-        let at : latency_of s z.k.called ≡ Some w.0 = ap (latency_of s) (number_is z.k.called d z.called) ∙ w.1 in
+        let at : latency_of s z.k.called ≡ Some w.0 = ap (latency_of s) (eqb-true z.k.called d z.called) ∙ w.1 in
         let is : is_asked z.k ≡ true = and_from (is_called z.k) (is_none z.k.answered) z.asked (y.unanswered z.k z.calling_is) in
         none_some _
         (sym none

@@ -19,11 +19,10 @@ use Rattle.bus_laws.proofs.FromCalling.{from_calls, from_asking}
 use Rattle.bus_laws.proofs.FromFree.{from_free}
 use Rattle.bus_laws.proofs.FromReset.{off_at}
 use Rattle.bus_laws.proofs.FromWon.{from_won}
-use Rattle.bus_laws.proofs.Tests.{and_false}
 use Rattle.link_laws.specs.LinkStages.{LinkStage, AnyStage}
 use Rattle.link_laws.proofs.Traces.{sides_are}
 use Rattle.trace_laws.proofs.FirstRows.{made_is}
-use Rattle.trace_laws.proofs.Impossible.{none_some, wrong, wrong', some_none}
+use Rattle.trace_laws.proofs.Impossible.{none_some, some_none}
 use Rattle.trace_laws.proofs.LinkRows.{link_row}
 use Rattle.trace_laws.proofs.UnderRst.{drives_next}
 use Rattle.fault_laws.specs.Awaited.{awaited, awaited_by, byte_at}
@@ -34,6 +33,7 @@ use Rattle.fault_laws.proofs.Crossings.{Crossing, carries_none, carries, crossin
 use Rattle.fault_laws.proofs.InTurn.{Precedes, sooner_precedes}
 use Rattle.fault_laws.proofs.Moments.{Moment, HasCrossed, Awaited, of_byte, of_ids, apart_of, awaited_of, linked_of, precedes_byte}
 use Rattle.fault_laws.proofs.Taken.{IsPast}
+use Rattle.bus_base.proofs.Tests.{wrong, wrong', and_false}
 
 pub record Puts (s : ScenarioValue) (p : List Row) (row : Row) : Type 0 where
   pub calm : (bus (row ∷ p)).rst ≡ false

@@ -2,7 +2,7 @@
 use Rattle.std.proofs.Common.{ℕ, zero, suc, ◌≡◌, ◌≢◌, ◌⊎◌, inl, inr, ◌≤◌, ◌<◌, ◌+◌, Bool, true, false, ◌&&◌, ◌||◌, ◌==◌, ◌∙◌, List, ◌∷◌, Option, Some, None, refl, sym, ap, arith}
 use Rattle.std.specs.Prelude.{if◌then◌else◌, is_some, nat_lt}
 use lib.Count.{ones}
-use Rattle.std.proofs.lemmas.Bool.{cases_eq}
+use Rattle.std.proofs.lemmas.Bool.{cases_eq, ltb-true}
 use Rattle.std.proofs.lemmas.Bool.Decides.{nat_tests}
 use Rattle.std.proofs.lemmas.Option.{same_Some}
 use Rattle.bus_trace.specs.LineSet.{LineSet, none, same_set}
@@ -30,21 +30,21 @@ use Rattle.bus_due.specs.Least.{IsLeast}
 use Rattle.bus_due.specs.Next.{due}
 use Rattle.bus_due.specs.Own.{Own, own_of}
 use Rattle.bus_due.specs.Plain.{AreOfDevices}
-use Rattle.bus_books.proofs.RowTies.{lt_is}
 use Rattle.bus_laws.specs.Reactions.{unreset_due, reset_due, reset_due_if}
 use Rattle.bus_laws.specs.Rows.{row_of_lines, row_of_fault}
 use Rattle.bus_laws.specs.Stages.{CalmStanding, Standing, BusStage, on_free_bus, in_arbitration, after_arbitration, with_both_ids, awaiting_answer, after_withdrawal, after_answer, after_takeover, in_reset, in_connection}
 use Rattle.bus_laws.proofs.Dues.{is_there, is_at, due_in_reset}
 use Rattle.bus_laws.proofs.FromCalling.{only_caller}
 use Rattle.bus_laws.proofs.FromFree.{row_is}
-use Rattle.bus_laws.proofs.FromReset.{off_at}
+use Rattle.bus_laws.proofs.FromReset.{off_at, resets_of_own}
 use Rattle.bus_laws.proofs.Resets.{one_of, comes_by, comes_by_first, due_calm, due_holding, due_there, own_reset_is, reset_after, own_other, released_own, own_fault}
 use Rattle.bus_laws.proofs.Rows.{drives_own}
-use Rattle.bus_laws.proofs.Tests.{and_false}
 use Rattle.link_laws.proofs.EndDues.{due_of}
-use Rattle.trace_laws.proofs.Impossible.{wrong, wrong', none_some}
+use Rattle.trace_laws.proofs.Impossible.{none_some}
 use Rattle.fault_laws.proofs.Calls.{calling_follows, GoesOn, call_goes, ids_unsampled}
 use Rattle.fault_laws.proofs.Takes.{IsNoLater}
+use Rattle.bus_base.proofs.Tests.{wrong, wrong', and_false}
+use Rattle.bus_laws.proofs.Together.{always_is}
 
 -- ---- the row of a reset, and others
 
@@ -79,20 +79,6 @@ under_reset s p row dv on m = go (drives p row.dev).rst refl
 pub data CalmRow (s : ScenarioValue) (p : List Row) (row : Row) : Type 0 where
   resets : (drives p row.dev).rst ≡ false → reset_due s p row.dev ≡ (let x : Due = record { time = row.time; kind = row.kind } in Some x) → row ≡ row_of_lines row.time row.dev only_rst → CalmRow s p row
   reacts : CalmStanding s p → IsLeast (unreset_due s p) 8 row → CalmRow s p row
-
-pub always_is : (s : ScenarioValue) (p : List Row) → Standing s p → (bus p).rst ≡ false → CalmStanding s p
-always_is s p st calm = record {
-  devices = st.devices;
-  lawful = st.lawful;
-  ahead = λ d lt x e.
-      let z = comes_by (reset_due s p d) (unreset_due s p d) x e in
-      let w = st.ahead d lt z.x (due_calm s p d st.devices lt (off_at p calm d lt) ∙ z.is) in
-      let l = z.le in
-      omega arith;
-  past = st.past;
-  seen_past = st.seen_past;
-  own_past = st.own_past;
-}
 
 pub calm_row : (s : ScenarioValue) (p : List Row) (row : Row) → Standing s p → (bus p).rst ≡ false → IsLeast (due s p) 8 row → CalmRow s p row
 calm_row s p row st calm m =
@@ -157,13 +143,6 @@ data ComesFrom (s : ScenarioValue) (p : List Row) (row : Row) (e : ℕ) (x : Due
   later : row.time < x.time → ComesFrom s p row e x
   stood : (drives p e).rst ≡ false → reset_due s p e ≡ Some x → row.time ≤ x.time → (row.time ≡ x.time → e < row.dev) → ComesFrom s p row e x
 
-resets_same : (s : ScenarioValue) (p q : List Row) (d : ℕ) → (own_of q d).released ≡ (own_of p d).released → reset_due s q d ≡ reset_due s p d
-resets_same s p q d e = go (latency_of s d)
-  where
-    go : (o : Option ℕ) → reset_due_if s q d o ≡ reset_due_if s p d o
-    go None = refl
-    go (Some lat) = ap (λ (x : Option ℕ). rst_assertion (reset_from d x s.resets)) e
-
 earlier_first : (a u : Option Due) (x z : Due) → a ≡ Some x → earlier_due a u ≡ Some z → (z ≡ x) ⊎ (z.time < x.time)
 earlier_first None u x z e f = absurd (none_some x e)
 earlier_first (Some w) None x z e f = inl (same_Some z x (sym f ∙ e))
@@ -175,7 +154,7 @@ earlier_first (Some w) (Some y) x z e f = go (nat_lt y.time w.time) refl f
     go : (q : Bool) → nat_lt y.time w.time ≡ q → (let n : Option Due = Some (if q then y else w) in n) ≡ Some z → (z ≡ x) ⊎ (z.time < x.time)
     go true h g =
         let t = ap (λ (v : Due). v.time) (same_Some y z g) in
-        let l = lt_is y.time w.time h in
+        let l = ltb-true y.time w.time h in
         let u = same in
         inr (omega (arith, t, l, u))
     go false h g = inl (sym (same_Some w z g) ∙ same_Some w x e)
@@ -186,7 +165,7 @@ comes_from s p row e x dv m lt off r =
       | inl same ↦ by_kind row.kind refl same
       | inr ne ↦
           by_other ne (sym (ap (λ (l : LineSet). l.rst) (drives-other row p e ne)) ∙ off)
-          (sym (resets_same s p (row ∷ p) e (ap (λ (o : Own). o.released) (own_other p row e ne))) ∙ r)
+          (sym (resets_of_own s p (row ∷ p) e (ap (λ (o : Own). o.released) (own_other p row e ne))) ∙ r)
     ]
   where
     by_other : e ≢ row.dev → (drives p e).rst ≡ false → reset_due s p e ≡ Some x → ComesFrom s p row e x
@@ -221,7 +200,7 @@ comes_from s p row e x dv m lt off r =
         let f : row ≡ row_of_fault row.time row.dev bit = λ i. record { time = row.time; dev = row.dev; kind = ek i } in
         let o : own_of (row ∷ p) e ≡ own_of p e = ap (λ (w : Row). own_of (w ∷ p) e) f ∙ own_fault p row.time row.dev bit e in
         by_own ((λ i. (drives p (sym same i)).rst) ∙ sym (ap (λ (l : LineSet). l.rst) (drives-fault row p bit e ek)) ∙ off)
-        ((λ i. reset_due s p (sym same i)) ∙ sym (resets_same s p (row ∷ p) e (ap (λ (y : Own). y.released) o)) ∙ r)
+        ((λ i. reset_due s p (sym same i)) ∙ sym (resets_of_own s p (row ∷ p) e (ap (λ (y : Own). y.released) o)) ∙ r)
         (λ z. no_fault (sym ek ∙ z))
       where
         no_fault : (let k : Kind = Fault bit in k) ≡ Drives only_rst → ⊥
@@ -239,7 +218,7 @@ comes_from s p row e x dv m lt off r =
             later (reset_after e row.time s.resets x.time (ap (λ (y : Option ℕ). reset_from e y s.resets) (sym z) ∙ w.time_is))
         go false a n rel =
             let z : (own_of (row ∷ p) e).released ≡ (own_of p e).released = rel ∙ (λ i. when (falls (a i) (n i)) row.time (own_of p row.dev).released) ∙ ap (λ (y : ℕ). (own_of p y).released) (sym same) in
-            by_own a ((λ i. reset_due s p (sym same i)) ∙ sym (resets_same s p (row ∷ p) e z) ∙ r)
+            by_own a ((λ i. reset_due s p (sym same i)) ∙ sym (resets_of_own s p (row ∷ p) e z) ∙ r)
             (λ k. wrong (sym (ap (λ (y : Kind). (driven_after y none).rst) (sym ek ∙ k)) ∙ n))
 
 pub kept_on : (s : ScenarioValue) (p : List Row) (row : Row) (a : Sample) → AreOfDevices p → IsLeast (due s p) 8 row → a.time ≤ row.time → IsKeptOn s p a → IsKeptOn s (row ∷ p) a

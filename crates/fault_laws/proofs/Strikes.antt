@@ -1,5 +1,5 @@
 -- Of every prompt trace: what the faults have struck, and at its end that this is all.
-use Rattle.std.proofs.Common.{ℕ, ◌≡◌, ◌<◌, ◌^◌, Bool, true, false, ◌∙◌, List, [], ◌∷◌, ◌++◌, append-nil, length, Option, Some, None, refl, sym, ap, arith}
+use Rattle.std.proofs.Common.{ℕ, ◌≡◌, Bool, true, false, ◌∙◌, List, [], ◌∷◌, ◌++◌, append-nil, Option, Some, None, refl, sym, ap}
 use Rattle.bus_trace.specs.declared.Row.{Row}
 use Rattle.bus_trace.specs.declared.Kind.TheVariants.{Fault}
 use Rattle.bus_trace.specs.declared.connection.Connection.{Connection}
@@ -27,28 +27,25 @@ use Rattle.fault_laws.specs.SoFar.{StrikesSoFar}
 use Rattle.fault_laws.proofs.InTurn.{in_order_last, in_turn, ordered_faults, strikes_on}
 use Rattle.fault_laws.proofs.Moments.{Moment, awaits_here}
 use Rattle.fault_laws.proofs.NextTaken.{SoFar, next_taken}
-use Rattle.fault_laws.proofs.ResetSamples.{always_is}
 use Rattle.fault_laws.proofs.Taken.{Taken}
+use Rattle.bus_laws.proofs.Together.{always_is}
 
 -- ---- what is known of a prompt trace
 
--- The traces of which this holds: those of fewer than 2^64 rows.
+-- The traces of which this holds.
 pub record IsKnown (s : ScenarioValue) (p : List Row) : Type 0 where
   pub obeys : Obeys s
   pub prompt : IsPrompt s p
-  pub short : length p < 2 ^ 64
 
 known_before : (s : ScenarioValue) (p : List Row) (row : Row) → IsKnown s (row ∷ p) → IsKnown s p
 known_before s p row k =
-    let short = k.short in
     record {
       obeys = k.obeys;
       prompt = k.prompt.0;
-      short = omega (arith, short);
     }
 
 whole_of : (s : ScenarioValue) (p : List Row) → IsKnown s p → Whole s p
-whole_of s p k = whole s p k.obeys k.prompt k.short
+whole_of s p k = whole s p k.obeys k.prompt
 
 moment_of : (s : ScenarioValue) (p : List Row) (row : Row) → IsKnown s (row ∷ p) → Moment s p row
 moment_of s p row k =

@@ -12,7 +12,6 @@ use Rattle.bus_story.specs.Samples.{Sample, Strike, is_kept_by_reset, samples, f
 use Rattle.bus_due.specs.RunSteps.{run_state}
 use Rattle.bus_due.specs.Sights.{flip_of}
 use Rattle.bus_laws.specs.Rows.{row_of_fault}
-use Rattle.trace_laws.proofs.Impossible.{wrong}
 use Rattle.fault_laws.specs.Awaited.{awaited, listed}
 use Rattle.fault_laws.specs.InTurn.{strike_if, left_if, strikes_in_turn, faults_left}
 use Rattle.fault_laws.proofs.ByteSamples.{Crossed}
@@ -20,6 +19,7 @@ use Rattle.fault_laws.proofs.Calls.{with_awaited}
 use Rattle.fault_laws.proofs.Directions.{IsDirected}
 use Rattle.fault_laws.proofs.InTurn.{InOrder, Precedes, AllPrecede, AreKept, in_order_last, last_sample, left_on, row_strikes_on, strikes_on}
 use Rattle.fault_laws.proofs.ResetSamples.{IsKeptOn, LetsCallsGo}
+use Rattle.bus_base.proofs.Tests.{wrong}
 
 -- A sample that has been taken: it lies in the past, no reset that is still to come takes it away, and it is none of another
 -- device in this phase.

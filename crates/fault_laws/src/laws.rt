@@ -1,6 +1,6 @@
 // The law of the fault rows, named by the contract of a function that does nothing.
 
-ghost use Rattle.std.specs.Prelude.{◌≡◌, ◌<◌, ◌^◌, List, length, reverse};
+ghost use Rattle.std.specs.Prelude.{◌≡◌, List, reverse};
 ghost use Rattle.bus_trace.specs.declared.Row.{Row};
 ghost use Rattle.scenario.specs.Value.{ScenarioValue};
 ghost use Rattle.scenario.specs.Writing.{Obeys};
@@ -14,8 +14,7 @@ ghost use Rattle.fault_laws.specs.SoFar.{StrikesSoFar};
 /// trace the same holds of all samples but for the one that comes next; and the faults that have not struck yet are
 /// those that are left of the scenario's (`so_far`).
 pub fn fault_rows_are_of_the_scenario()
-    ensures struck { (s : ScenarioValue) (rows : List Row) → Obeys s → IsPrompt s rows → length rows < 2 ^ 64
-        → IsEnded s rows → expected_strikes s rows ≡ row_strikes (reverse rows) }
-    ensures so_far { (s : ScenarioValue) (rows : List Row) → Obeys s → IsPrompt s rows → length rows < 2 ^ 64
-        → StrikesSoFar s rows }
+    ensures struck { (s : ScenarioValue) (rows : List Row) → Obeys s → IsPrompt s rows → IsEnded s rows
+        → expected_strikes s rows ≡ row_strikes (reverse rows) }
+    ensures so_far { (s : ScenarioValue) (rows : List Row) → Obeys s → IsPrompt s rows → StrikesSoFar s rows }
 {}

@@ -15,7 +15,7 @@ use Rattle.initiator.specs.declared.mine.Mine.{Mine}
 use Rattle.initiator.specs.declared.mine.MyAbort.{MyAbort}
 use Rattle.initiator.specs.Mines.{mine_of, mines_of, capped, my_abort, my_aborts, with_sent, with_over, with_one_try, with_status, is_check, sent_at, over_at, tried_at, mine_with_end, is_mine_aborted, is_my_sense_stopped, mine_after_event}
 use Rattle.initiator.specs.Books.{has_number, queue_with, queue_from, my_book, book_with_sent, book_with_over, book_with_try, done_at, book_with_done, abort_tried_at, book_with_abort_try, book_after_event}
-use Rattle.initiator.proofs.Mines.{mines_stay, all_sent, all_over, all_tried, mines_after_event}
+use Rattle.initiator.proofs.Mines.{mines_stay, all_sent, all_over, all_tried, mines_after_event, step, step_checks, capped_more}
 
 -- ---- numbers stay
 
@@ -104,21 +104,6 @@ aborts_stay b d dev k (a ∷ aborts) h = go (aborts_stay b d dev (k + 1) aborts 
 
 -- ---- what every command that two tests name leaves
 
-step : (CmdDef → Bool) → (CmdDef → Bool) → Ending → ℕ → CmdDef → Story → Story
-step drops stops e n c b =
-    if is_open b.sent n && drops c then story_with_end b (record { command = n; sense = false }) e
-    else if stops c && list_any (λ k. k == n) b.sent.checks then story_with_over b (sense_item n)
-    else b
-
-step_checks : (drops stops : CmdDef → Bool) (e : Ending) (n : ℕ) (c : CmdDef) (b : Story) → (step drops stops e n c b).sent.checks ≡ b.sent.checks
-unfolding step
-step_checks drops stops e n c b = go (is_open b.sent n && drops c) (stops c && list_any (λ k. k == n) b.sent.checks)
-  where
-    go : (p q : Bool) → (if p then story_with_end b (record { command = n; sense = false }) e else if q then story_with_over b (sense_item n) else b).sent.checks ≡ b.sent.checks
-    go true q = refl
-    go false true = refl
-    go false false = refl
-
 step_aborts : (drops stops : CmdDef → Bool) (e : Ending) (n : ℕ) (c : CmdDef) (b : Story) (m : ℕ) (a : AbortDef) → my_abort (step drops stops e n c b).sent m a ≡ my_abort b.sent m a
 unfolding step
 step_aborts drops stops e n c b m a = go (is_open b.sent n && drops c) (stops c && list_any (λ k. k == n) b.sent.checks)
@@ -184,9 +169,6 @@ abort_step s b d dev f a m c =
 done_one : (b : Sent) (n m : ℕ) (a : AbortDef) (q : Bool) → record (my_abort b m a) { done = q || is_done b (abort m) } ≡ (if q then record (my_abort b m a) { done = true } else my_abort b m a)
 done_one b n m a true = refl
 done_one b n m a false = refl
-
-capped_more : (n : ℕ) → capped (n + 1) ≡ capped (capped n + 1)
-capped_more n = omega arith
 
 tried_one : (b : Sent) (m : ℕ) (a : AbortDef) (q : Bool) → record (my_abort b m a) { tries = capped (if q then count_item b.tries (abort m) + 1 else count_item b.tries (abort m)) } ≡ (if q then record (my_abort b m a) { tries = capped ((my_abort b m a).tries + 1) } else my_abort b m a)
 tried_one b m a true = λ i. record (my_abort b m a) { tries = capped_more (count_item b.tries (abort m)) i }

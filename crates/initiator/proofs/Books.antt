@@ -16,9 +16,7 @@ use Rattle.initiator.specs.declared.mine.OwnItem.{OwnItem}
 use Rattle.initiator.specs.Mines.{mine_of, mines_of, my_abort, my_aborts, open_mines, is_clash_of, may_follow_mines, mines_since, mine_by, my_aborts_since, my_abort_by}
 use Rattle.initiator.proofs.Queues.{queue_is}
 use Rattle.initiator.specs.Books.{BookValue, is_sense_due, my_sense, my_book, my_since, my_item, abort_if, sense_if, command_if, item_if}
-
-abbrev mines_from : Sent → ℕ → ℕ → List CmdDef → List Mine
-mines_from b dev n commands = map (mine_of b.checks) (own_commands b dev n commands)
+use Rattle.initiator.proofs.Mines.{mines_from}
 
 -- ---- senses
 
@@ -49,7 +47,7 @@ sense_due b dev k (c ∷ commands) (suc j) n e = go (sense_due b dev (k + 1) com
     go r true = (λ i. if ne_eqb k n (λ z. omega (arith, z, e)) i then not (is_done b (sense_item k)) else is_sense_due (mines_from b dev (k + 1) commands) n) ∙ r
     go r false = r
 
-no_first : (commands : List CmdDef) → command_at commands zero ≡ None
+pub no_first : (commands : List CmdDef) → command_at commands zero ≡ None
 no_first [] = refl
 no_first (c ∷ commands) = refl
 

@@ -5,16 +5,13 @@ use Rattle.std.proofs.lemmas.Bool.{eqb-true, eq-eqb}
 use Rattle.bus_base.specs.declared.ProcId.{ProcId}
 use Rattle.disk_array.specs.Processes.{same_bool, same_id}
 use Rattle.bus_story.specs.CarriedBytes.{CarriedBytes, nothing_carried, carried_at, with_carried, carried_or_nothing, carried_of}
+use Rattle.disk_array.proofs.SeatLookups.{same_bool_self}
 
 same_bool_is : (a b : Bool) → same_bool a b ≡ true → a ≡ b
 same_bool_is true true e = refl
 same_bool_is true false e = cc
 same_bool_is false true e = cc
 same_bool_is false false e = refl
-
-same_bool_self : (a : Bool) → same_bool a a ≡ true
-same_bool_self true = refl
-same_bool_self false = refl
 
 pub same_is : (p q : ProcId) → same_id p q ≡ true → p ≡ q
 same_is p q e = go (p.command == q.command) refl e

@@ -32,6 +32,7 @@ use Rattle.initiator.proofs.OwnedLinks.{aim_own}
 use Rattle.initiator.proofs.StoryEnds.{first_of, ended_if, drops_if, ending_after, with_ending_at, AreEnded, IsUnended, event_ends, events_keep, unended_connection, unended_linked, change_keeps, are_ended}
 use Rattle.initiator.proofs.Wishes.{kept_connected}
 use Rattle.initiator.proofs.WishRows.{aims_are}
+use Rattle.bus_base.proofs.Tests.{or_other}
 
 -- ---- a row before its events
 
@@ -277,11 +278,7 @@ pub unanswered_cause : (s : ScenarioValue) (rows : List Row) (n : ℕ) (c : CmdD
 unanswered_cause s rows n c d k e =
     (λ i. has_tries_if s.hosts (sym k i) n (run_state s rows).story.sent.tries (sym e i)) ∙ tries_are s rows n d
 
-no_left : (x y : Bool) → x ≡ false → (x || y) ≡ true → y ≡ true
-no_left true y e h = cc
-no_left false y e h = h
-
 pub sense_cause : (s : ScenarioValue) (rows : List Row) (n : ℕ) (c : CmdDef) → command_at s.commands n ≡ Some c → has_item (run_state s rows).story.sent.over (sense_item n) ≡ true → has_end (run_state s rows).story.history (sense_of n) ≡ false → has_sense_stop (run_state s rows).story.history n c ≡ true
 sense_cause s rows n c k o e =
-    no_left (has_end (run_state s rows).story.history (sense_of n)) _ e
+    or_other (has_end (run_state s rows).story.history (sense_of n)) _ e
     ((λ i. has_sense_cause (sym k i) n (run_state s rows).story.history) ∙ stops_are s rows n o)

@@ -11,10 +11,7 @@ use Rattle.initiator.specs.Books.{BookValue, is_sense_due, my_sense, has_number,
 use Rattle.initiator.specs.Checks.{ChecksValue, is_in, with_check, none_due, IsSettled}
 use Rattle.initiator.specs.Commands.{CommandsValue}
 use Rattle.initiator.specs.Mines.{with_sent, with_over, with_status, with_one_try, is_check, sent_at, over_at, tried_at, mine_with_end, is_mine_aborted, is_my_sense_stopped, mine_after_event}
-
-or_true : (q : Bool) → (q || true) ≡ true
-or_true true = refl
-or_true false = refl
+use Rattle.bus_base.proofs.Tests.{or_true}
 
 -- ---- what is settled adds nothing
 

@@ -99,7 +99,7 @@ sense_told v k n l = (λ i. told_ending_if (with_sense_at v k n l i).ending) ∙
 
 -- ---- all of its own that an event concerns
 
-abbrev mines_from : Sent → ℕ → ℕ → List CmdDef → List Mine
+abbrev pub mines_from : Sent → ℕ → ℕ → List CmdDef → List Mine
 mines_from b dev k commands = map (mine_of b.checks) (own_commands b dev k commands)
 
 abbrev named_if : Event → Option CmdDef → Bool
@@ -361,7 +361,7 @@ aimed n (Some (own.Abort k)) h = no (ap (λ (x : Option Item). is_command_if x) 
     no : false ≡ true → IsFor n (Some (own.Abort k))
     no z = cc
 
-one_host : (c : Option CmdDef) (d dev : ℕ) → is_of_host c d ≡ true → is_of_host c dev ≡ true → d ≡ dev
+pub one_host : (c : Option CmdDef) (d dev : ℕ) → is_of_host c d ≡ true → is_of_host c dev ≡ true → d ≡ dev
 one_host None d dev x y = cc
 one_host (Some c) d dev x y = sym (eqb-true c.host d x) ∙ eqb-true c.host dev y
 
@@ -433,7 +433,7 @@ calling_sense mines v n (Some (own.Command k)) l = go (is_over (mine_at mines k)
 
 -- ---- one row more
 
-in_range : (commands : List CmdDef) (n dev : ℕ) → is_of_host (command_at commands n) dev ≡ true → n < length commands + 1
+pub in_range : (commands : List CmdDef) (n dev : ℕ) → is_of_host (command_at commands n) dev ≡ true → n < length commands + 1
 in_range [] n dev h = cc
 in_range (c ∷ commands) zero dev h = cc
 in_range (c ∷ commands) (suc zero) dev h = omega arith

@@ -18,6 +18,8 @@ use Rattle.initiator.specs.declared.mine.OwnItem.{OwnItem}
 use Rattle.initiator.specs.declared.mine.OwnItem.TheVariants as own
 use Rattle.initiator.proofs.BookSteps.{book_sent, book_over, book_try, book_abort_sent, book_abort_over, book_abort_try, book_sense_try}
 use Rattle.initiator.specs.Wishes.{is_abort_of, IsItemOf, IsItemIf, tries_in, has_abort, abort_tries_in, target_in, abort_target_in, target_by}
+use Rattle.bus_base.proofs.Tests.{eq_turned}
+use Rattle.initiator.proofs.Books.{no_first}
 
 -- ---- whose command a number is
 
@@ -41,10 +43,6 @@ numbered b dev k (c ∷ commands) (suc j) n e = go (numbered b dev (k + 1) comma
     go : has_number (map (mine_of b.checks) (own_commands b dev (k + 1) commands)) n ≡ is_of_host (command_at commands (suc j)) dev → (q : Bool) → has_number (map (mine_of b.checks) (if q then own_command b k c ∷ own_commands b dev (k + 1) commands else own_commands b dev (k + 1) commands)) n ≡ is_of_host (command_at commands (suc j)) dev
     go r true = λ i. ne_eqb k n (λ z. omega (arith, z, e)) i || r i
     go r false = r
-
-no_first : (commands : List CmdDef) → command_at commands zero ≡ None
-no_first [] = refl
-no_first (c ∷ commands) = refl
 
 pub number_is : (b : Sent) (dev : ℕ) (commands : List CmdDef) (n : ℕ) → has_number (mines_of b dev commands) n ≡ is_of_host (command_at commands n) dev
 number_is b dev commands zero = below b dev 1 0 commands (omega arith) ∙ (λ i. is_of_host (sym (no_first commands) i) dev)
@@ -82,16 +80,13 @@ abort_number_is b dev aborts (suc j) = abort_numbered b dev 1 aborts j (suc j) (
 
 -- ---- what is done to a number that is none of its own
 
-equal_tests : (a b : ℕ) → (a == b) ≡ (b == a)
-equal_tests a b = grind (arith, nat_tests)
-
 elsewhere : (n : ℕ) (f : Mine → Mine) (mines : List Mine) → has_number mines n ≡ false → map (λ (m : Mine). if n == m.number then f m else m) mines ≡ mines
 elsewhere n f [] h = refl
 elsewhere n f (m ∷ mines) h = go (m.number == n) refl h (λ x. elsewhere n f mines x)
   where
     go : (q : Bool) → (m.number == n) ≡ q → (q || has_number mines n) ≡ false → (has_number mines n ≡ false → map (λ (o : Mine). if n == o.number then f o else o) mines ≡ mines) → map (λ (o : Mine). if n == o.number then f o else o) (m ∷ mines) ≡ m ∷ mines
     go true e x r = cc
-    go false e x r = λ i. (if (equal_tests n m.number ∙ e) i then f m else m) ∷ r x i
+    go false e x r = λ i. (if (eq_turned n m.number ∙ e) i then f m else m) ∷ r x i
 
 abort_elsewhere : (n : ℕ) (f : MyAbort → MyAbort) (aborts : List MyAbort) → has_abort aborts n ≡ false → map (λ (a : MyAbort). if n == a.number then f a else a) aborts ≡ aborts
 abort_elsewhere n f [] h = refl
@@ -99,7 +94,7 @@ abort_elsewhere n f (a ∷ aborts) h = go (a.number == n) refl h (λ x. abort_el
   where
     go : (q : Bool) → (a.number == n) ≡ q → (q || has_abort aborts n) ≡ false → (has_abort aborts n ≡ false → map (λ (o : MyAbort). if n == o.number then f o else o) aborts ≡ aborts) → map (λ (o : MyAbort). if n == o.number then f o else o) (a ∷ aborts) ≡ a ∷ aborts
     go true e x r = cc
-    go false e x r = λ i. (if (equal_tests n a.number ∙ e) i then f a else a) ∷ r x i
+    go false e x r = λ i. (if (eq_turned n a.number ∙ e) i then f a else a) ∷ r x i
 
 pub not_both : (h : Option CmdDef) (d dev : ℕ) → d ≢ dev → is_of_host h d ≡ true → is_of_host h dev ≡ false
 not_both None d dev ne e = refl

@@ -36,12 +36,8 @@ use Rattle.initiator.specs.OwnLinks.{own_link}
 use Rattle.initiator.specs.Speeches.{first_words}
 use Rattle.initiator.specs.States.{InitiatorState, state_by, IsOwnConnection, AreSameBytes}
 use Rattle.initiator.specs.Transfers.{active_of, active_at, process_of_link}
-
-pub other_device : (a b : ℕ) → a ≢ b → (a == b) ≡ false
-other_device a b e = grind (arith, nat_tests)
-
-same_number : (a b : ℕ) → (a == b) ≡ true → a ≡ b
-same_number a b e = grind (arith, nat_tests)
+use Rattle.std.proofs.lemmas.Bool.{eqb-true, ne_eqb}
+use Rattle.bus_base.proofs.Tests.{and_second}
 
 -- What it says first in a connection that it begins, where it knows whether the two may negotiate.
 pub first_is : (s : ScenarioValue) (rows : List Row) (dev target : ℕ) (x : Bool) (n : Connection) → (n.initiator == dev) ≡ true → n.target ≡ target → n.reselected ≡ false
@@ -49,7 +45,7 @@ pub first_is : (s : ScenarioValue) (rows : List Row) (dev target : ℕ) (x : Boo
     → opening s dev x (aim_of (run_state s rows).story.aims dev) ≡ first_words s rows n
 first_is s rows dev target x n own called first e =
     let k : RunState = run_state s rows in
-    let same : dev ≡ n.initiator = sym (same_number n.initiator dev own) in
+    let same : dev ≡ n.initiator = sym (eqb-true n.initiator dev own) in
     (λ i. opening s dev (e i) (aim_of k.story.aims dev))
     ∙ (λ i. opening s (same i) (is_for_process (aim_of k.story.aims (same i)) && not (has_negotiated k.negotiated (same i) (sym called i))) (aim_of k.story.aims (same i)))
     ∙ (λ i. if sym first i then [] else opening s n.initiator (may_negotiate k n (aim_of k.story.aims n.initiator)) (aim_of k.story.aims n.initiator))
@@ -127,7 +123,3 @@ sending_of_host v = sending_from v.bytes (process_of_link v.transfers.link) (act
 
 abbrev pub known_to_host : HostValue → InitiatorState
 known_to_host v = state_by v.itself v.intent v.speech (sending_of_host v)
-
-pub and_right : (p q : Bool) → (p && q) ≡ true → q ≡ true
-and_right true q e = e
-and_right false q e = cc

@@ -20,7 +20,7 @@ use Rattle.initiator.specs.Mines.{capped, mine_of, mines_of, with_sent, with_ove
 abbrev mine : Sent → ℕ → CmdDef → Mine
 mine b m c = mine_of b.checks (own_command b m c)
 
-abbrev mines_from : Sent → ℕ → ℕ → List CmdDef → List Mine
+abbrev pub mines_from : Sent → ℕ → ℕ → List CmdDef → List Mine
 mines_from b dev n commands = map (mine_of b.checks) (own_commands b dev n commands)
 
 -- ---- what is done to each is done to the list
@@ -76,7 +76,7 @@ all_over b id dev commands =
     mines_go_on b (record b { over = process id ∷ b.over }) (λ (m : Mine). over_at id m) dev 1 commands (λ m c. one_over b id.command id.sense m c)
 
 -- An unanswered calling counts for a command alone; an abort concerns none of them.
-capped_more : (n : ℕ) → capped (n + 1) ≡ capped (capped n + 1)
+pub capped_more : (n : ℕ) → capped (n + 1) ≡ capped (capped n + 1)
 capped_more n = omega arith
 
 one_try : (b : Sent) (n m : ℕ) (c : CmdDef) → mine (record b { tries = command_item n ∷ b.tries }) m c ≡ tried_at n (mine b m c)
@@ -92,7 +92,7 @@ all_tried b n dev commands =
 
 -- ---- every command that two tests name, in turn
 
-step : (CmdDef → Bool) → (CmdDef → Bool) → Ending → ℕ → CmdDef → Story → Story
+unfoldable pub step : (CmdDef → Bool) → (CmdDef → Bool) → Ending → ℕ → CmdDef → Story → Story
 step drops stops e n c b =
     if is_open b.sent n && drops c then story_with_end b (record { command = n; sense = false }) e
     else if stops c && list_any (λ k. k == n) b.sent.checks then story_with_over b (sense_item n)
@@ -113,7 +113,7 @@ step_other drops stops e n c b m d h = go (is_open b.sent n && drops c) (stops c
     go false true = other_over b.sent n true m d h
     go false false = refl
 
-step_checks : (drops stops : CmdDef → Bool) (e : Ending) (n : ℕ) (c : CmdDef) (b : Story) → (step drops stops e n c b).sent.checks ≡ b.sent.checks
+pub step_checks : (drops stops : CmdDef → Bool) (e : Ending) (n : ℕ) (c : CmdDef) (b : Story) → (step drops stops e n c b).sent.checks ≡ b.sent.checks
 unfolding step
 step_checks drops stops e n c b = go (is_open b.sent n && drops c) (stops c && list_any (λ k. k == n) b.sent.checks)
   where

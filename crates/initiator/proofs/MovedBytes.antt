@@ -44,7 +44,10 @@ use Rattle.initiator.specs.Received.{undone_by, has_bytes_of}
 use Rattle.initiator.specs.Wishes.{events_shown}
 use Rattle.initiator.proofs.CarriedLists.{same_is, carried_id, carried_with}
 use Rattle.initiator.proofs.StoryEnds.{free_link}
-use Rattle.initiator.proofs.OwnedLinks.{begun_link, out_link, name_link, byte_link, fault_link, events_link}
+use Rattle.initiator.proofs.OwnedLinks.{begun_link, name_link, fault_link}
+use Rattle.bus_base.proofs.Tests.{length_more}
+use Rattle.initiator.proofs.Mines.{step}
+use Rattle.bus_story.proofs.StorySteps.{byte_link, out_link, events_link, sent_carried}
 
 -- ---- no pointer stands past the bytes
 
@@ -111,10 +114,6 @@ restored_stays : (t : Bool) (byte : ℕ) (b : Story) (item : Option Item) → St
 restored_stays t byte b None = stays t byte b.carried
 restored_stays t byte b (Some (process id)) = op_stays t byte b.carried id (with_restored_pointers (carried_of b.carried id)) refl refl (λ x. record { active = x.saved; saved = x.saved })
 restored_stays t byte b (Some (abort n)) = stays t byte b.carried
-
-sent_carried : (b : Story) (item : Option Item) → (story_with_sent b item).carried ≡ b.carried
-sent_carried b None = refl
-sent_carried b (Some item) = refl
 
 connection_stays : (t : Bool) (byte : ℕ) (b : Story) (n : Connection) → Stays t byte b.carried (story_after_connection b n).carried
 connection_stays t byte b n = go n.reselected
@@ -225,9 +224,6 @@ fault_stays t byte b l (Fault bit) = go l.item b.bus_state.crossed
 
 -- ---- a byte
 
-length_more : (bytes : List ℕ) (byte : ℕ) → length (bytes ++ byte ∷ []) ≡ length bytes + 1
-length_more bytes byte = length-append bytes (byte ∷ [])
-
 area_placed : (a : Area) (byte : ℕ) → IsPlaced a → IsPlaced (area_with a byte)
 area_placed a byte x = go (nat_lt a.active (length a.bytes)) refl
   where
@@ -335,7 +331,7 @@ try_carried s b d (Some item) = go (is_counted item && nat_lt (retries_of s.host
     go true = by_item item
     go false = refl
 
-calling_carried : (s : ScenarioValue) (b : Story) (c : Option Call) → (story_after_calling s b c).carried ≡ b.carried
+pub calling_carried : (s : ScenarioValue) (b : Story) (c : Option Call) → (story_after_calling s b c).carried ≡ b.carried
 calling_carried s b None = refl
 calling_carried s b (Some c) = by_calling c.calling
   where
@@ -347,7 +343,7 @@ calling_carried s b (Some c) = by_calling c.calling
         go true = try_carried s b c.caller (aim_of b.aims c.caller)
         go false = refl
 
-free_carried : (s : ScenarioValue) (b : Story) (d : RowReading) (row : Row) → (story_on_free_bus s b d row).carried ≡ b.carried
+pub free_carried : (s : ScenarioValue) (b : Story) (d : RowReading) (row : Row) → (story_on_free_bus s b d row).carried ≡ b.carried
 free_carried s b d row = go (rises d.change.own.bsy d.change.next.bsy && not d.change.before.sel && is_none b.bus_state.connection) (falls d.change.before.sel d.change.after.sel)
   where
     go : (p q : Bool) → (if p then story_with_aim s b row else if q then story_after_calling s b b.bus_state.call else b).carried ≡ b.carried
@@ -399,12 +395,6 @@ change_moves s t b d row reads h x = go d.change.after.rst
     go false = on_bus b.bus_state.connection refl d.next
 
 -- ---- events
-
-step : (CmdDef → Bool) → (CmdDef → Bool) → Ending → ℕ → CmdDef → Story → Story
-step drops stops e n c b =
-    if is_open b.sent n && drops c then story_with_end b (record { command = n; sense = false }) e
-    else if stops c && list_any (λ k. k == n) b.sent.checks then story_with_over b (sense_item n)
-    else b
 
 ends_carried : (drops stops : CmdDef → Bool) (e : Ending) (n : ℕ) (commands : List CmdDef) (b : Story) → (story_with_ends drops stops e n commands b).carried ≡ b.carried
 unfolding step

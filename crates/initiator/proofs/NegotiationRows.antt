@@ -20,6 +20,8 @@ use Rattle.bus_due.specs.RunSteps.{run_state, is_for_process, negotiated_by_conn
 use Rattle.initiator.specs.Wishes.{events_shown}
 use Rattle.bus_due.specs.LastingState.{Negotiated, none_negotiated, has_negotiated, with_negotiated, pairs_without, negotiated_after_event, negotiated_after}
 use Rattle.initiator.specs.Negotiations.{NegotiationsValue, no_negotiations, had_in, had_by_connection, had_after_abort, had_after_event, had_after_events, negotiations_after, HasHad, IsNegotiationsOf, aims_at_process}
+use Rattle.bus_base.proofs.Tests.{put_at}
+use Rattle.bus_due.proofs.NegotiatedPairs.{with_pair, pairs_gone}
 
 -- ---- what is kept of all pairs, and what this initiator keeps
 
@@ -48,16 +50,6 @@ all_kept (suc (suc (suc (suc (suc (suc (suc (suc t)))))))) l = absurd (omega ari
 pub starts_kept : (dev version : ℕ) → HasHad none_negotiated (record { dev = dev; version = version; had = replicate 8 false })
 starts_kept dev version = record { eight = refl; had_is = λ t l. none_kept t l; unbarred = λ e. (refl, refl) }
 
-put_at : (had : List Bool) (k t : ℕ) (x : Bool) → t < length had → get_or (set had k x) t false ≡ (if k == t then x else get_or had t false)
-put_at had k t x l = go (k == t) refl
-  where
-    go : (y : Bool) → (k == t) ≡ y → get_or (set had k x) t false ≡ (if y then x else get_or had t false)
-    go true e =
-        let same : k ≡ t = eqb-true k t e in
-        let within : k < length had = (let s = same in omega arith) in
-        (λ i. get_or (set had k x) (sym same i) false) ∙ get_or-set_same had k x false within
-    go false e = let other : t ≢ k = (λ z. eqb-false k t e (sym z)) in get_or-set_other had k t x false other
-
 -- ---- a connection
 
 or_case : (a b x : Bool) → (a || b || (x || false)) ≡ (a || b || x)
@@ -65,17 +57,6 @@ or_case true b x = refl
 or_case false true x = refl
 or_case false false true = refl
 or_case false false false = refl
-
-with_pair : (m : Negotiated) (i k dev t : ℕ) → has_negotiated (with_negotiated m i k) dev t ≡ (if i == dev && k == t then true else has_negotiated m dev t)
-with_pair m i k dev t = go m.all (list_any (λ n. n == t) m.targets) (i == dev && k == t) (list_any (λ (p : ℕ × ℕ). p.0 == dev && p.1 == t) m.pairs)
-  where
-    go : (a b x y : Bool) → (a || b || (x || y)) ≡ (if x then true else (a || b || y))
-    go true b true y = refl
-    go true b false y = refl
-    go false true true y = refl
-    go false true false y = refl
-    go false false true y = refl
-    go false false false y = refl
 
 pub connection_kept : (m : Negotiated) (v : NegotiationsValue) (process any : Bool) (n : Connection) → ((n.initiator == v.dev) ≡ true → any ≡ process) → HasHad m v → HasHad (if not n.reselected && any then with_negotiated m n.initiator n.target else m) (had_in v process n)
 connection_kept m v process any n own h = go n.reselected any process (n.initiator == v.dev) refl own
@@ -108,35 +89,6 @@ connection_kept m v process any n own h = go n.reselected any process (n.initiat
 
 -- ---- resets
 
-gone : (pairs : List (ℕ × ℕ)) (k dev t : ℕ) → list_any (λ (p : ℕ × ℕ). p.0 == dev && p.1 == t) (pairs_without pairs k) ≡ (if k == t then false else list_any (λ (p : ℕ × ℕ). p.0 == dev && p.1 == t) pairs)
-gone [] k dev t = go (k == t)
-  where
-    go : (y : Bool) → false ≡ (if y then false else false)
-    go true = refl
-    go false = refl
-gone (p ∷ pairs) k dev t = go (p.1 == k) refl (k == t) refl (gone pairs k dev t)
-  where
-    none : (x : Bool) → (p.1 == t) ≡ false → ((x && p.1 == t) || false) ≡ false
-    none true e = (λ i. e i || false)
-    none false e = refl
-
-    rest : (x y : Bool) → (p.1 == t) ≡ false → ((x && p.1 == t) || y) ≡ y
-    rest true y e = (λ i. e i || y)
-    rest false y e = refl
-
-    go : (a : Bool) → (p.1 == k) ≡ a → (y : Bool) → (k == t) ≡ y → list_any (λ (p : ℕ × ℕ). p.0 == dev && p.1 == t) (pairs_without pairs k) ≡ (if y then false else list_any (λ (p : ℕ × ℕ). p.0 == dev && p.1 == t) pairs)
-        → list_any (λ (p : ℕ × ℕ). p.0 == dev && p.1 == t) (if a then pairs_without pairs k else p ∷ pairs_without pairs k) ≡ (if y then false else ((p.0 == dev && p.1 == t) || list_any (λ (p : ℕ × ℕ). p.0 == dev && p.1 == t) pairs))
-    go true e true f more = more
-    go true e false f more =
-        let same : p.1 ≡ k = eqb-true p.1 k e in
-        let other : (p.1 == t) ≡ false = (λ i. same i == t) ∙ f in
-        more ∙ sym (rest (p.0 == dev) (list_any (λ (p : ℕ × ℕ). p.0 == dev && p.1 == t) pairs) other)
-    go false e true f more =
-        let same : k ≡ t = eqb-true k t f in
-        let other : (p.1 == t) ≡ false = (λ i. p.1 == sym same i) ∙ e in
-        (λ i. (p.0 == dev && p.1 == t) || more i) ∙ none (p.0 == dev) other
-    go false e false f more = λ i. (p.0 == dev && p.1 == t) || more i
-
 device_kept : (m : Negotiated) (v : NegotiationsValue) (k : ℕ) (one : Bool) → (v.version == 1) ≡ one → HasHad m v → HasHad (if one then record m { targets = k ∷ m.targets } else record m { pairs = pairs_without m.pairs k }) (record v { had = set v.had k one })
 device_kept m v k true e h = record {
   eight = length-set v.had k true ∙ h.eight;
@@ -157,7 +109,7 @@ device_kept m v k false e h = record {
   had_is = λ t l.
       put_at v.had k t false (let n = h.eight in omega arith)
       ∙ (λ i. if k == t then false else (h.had_is t l ∙ free t) i)
-      ∙ sym (gone m.pairs k v.dev t)
+      ∙ sym (pairs_gone m.pairs k v.dev t)
       ∙ (λ i. sym (h.unbarred e).0 i || list_any (λ n. n == t) (sym (h.unbarred e).1 i) || list_any (λ (p : ℕ × ℕ). p.0 == v.dev && p.1 == t) (pairs_without m.pairs k));
   unbarred = h.unbarred;
 }

@@ -31,6 +31,8 @@ use Rattle.bus_due.specs.Wants.{current_of, since_of, seek_of, ready_among, read
 use Rattle.bus_dialogue.specs.Wants.{Ready, ready_in, ready_by}
 use Rattle.scsi_device.specs.NoUnits.{has_unit, HasNoUnit}
 use Rattle.initiator.specs.States.{IsNoTarget}
+use Rattle.bus_base.proofs.Tests.{and_first}
+use Rattle.disk_array.proofs.SeatEvents.{status_units}
 
 -- ---- the units of a device
 
@@ -42,10 +44,6 @@ has_unit_state (u ∷ units) dev = u.target == dev || has_unit_state units dev
 abbrev has_unit_state_if : Option Array → ℕ → Bool
 has_unit_state_if None dev = false
 has_unit_state_if (Some a) dev = has_unit_state a.units dev
-
-and_left : (a b : Bool) → (a && b) ≡ true → a ≡ true
-and_left true b h = refl
-and_left false b h = cc
 
 or_left : (a b : Bool) → (a || b) ≡ false → a ≡ false
 or_left false b h = refl
@@ -73,7 +71,7 @@ with_unit_targets (u ∷ units) new dev = go (with_unit_targets units new dev) (
   where
     go : has_unit_state (with_unit units new) dev ≡ has_unit_state units dev → (x : Bool) → (u.target == new.target && u.unit == new.unit) ≡ x → has_unit_state (if x then new ∷ units else u ∷ with_unit units new) dev ≡ has_unit_state (u ∷ units) dev
     go h true z =
-        let one : u.target ≡ new.target = eqb-true u.target new.target (and_left (u.target == new.target) (u.unit == new.unit) z) in
+        let one : u.target ≡ new.target = eqb-true u.target new.target (and_first (u.target == new.target) (u.unit == new.unit) z) in
         λ i. sym one i == dev || has_unit_state units dev
     go h false z = λ i. u.target == dev || h i
 
@@ -131,14 +129,6 @@ unit_reset_units hosts [] is_one a = refl
 unit_reset_units hosts (u ∷ units) is_one a =
     unit_reset_units hosts units is_one (if is_one u then reset_attentions hosts u.target u.unit a else a)
     ∙ either_units (is_one u) (reset_attentions hosts u.target u.unit a) a a.units (reset_units hosts u.target u.unit a) refl
-
-status_units : (a : Array) (p : Process) (reply : Reply) → (after_status a p reply).units ≡ a.units
-status_units a p reply = go (reply.status == CHECK_CONDITION) (reply.status == GOOD && is_request_sense (command_of p.cdb))
-  where
-    go : (x y : Bool) → (if x then record a { senses = (nexus_of p, reply.sense) ∷ senses_without a.senses (nexus_of p); holds = nexus_of p ∷ nexuses_without a.holds (nexus_of p) } else if y then record a { senses = senses_without a.senses (nexus_of p); holds = nexuses_without a.holds (nexus_of p) } else a).units ≡ a.units
-    go true y = refl
-    go false true = refl
-    go false false = refl
 
 without_attention_units : (a : Array) (reported : Bool) (nexus : Nexus) → (without_attention a reported nexus).units ≡ a.units
 without_attention_units a true nexus = refl

@@ -15,6 +15,7 @@ use Rattle.initiator.specs.declared.outcome.Outcome.TheVariants as outcomes
 use Rattle.initiator.specs.Endings.{told_ending_if, sense_of, IsEndOf}
 use Rattle.initiator.specs.Outcomes as own
 use Rattle.initiator.specs.Outcomes.{is_settled, told_outcome_if, is_good, command_of, is_reply_of, are_replies, settled_outcome, outcome_after}
+use Rattle.bus_base.proofs.Tests.{and_first, and_second}
 
 same_is : (a b : List ℕ) → same_bytes a b ≡ true → a ≡ b
 same_is [] [] h = refl
@@ -25,14 +26,6 @@ same_is (x ∷ a) (y ∷ b) h = go (x == y) refl h (λ z. same_is a b z)
     go : (q : Bool) → (x == y) ≡ q → (q && same_bytes a b) ≡ true → (same_bytes a b ≡ true → a ≡ b) → x ∷ a ≡ y ∷ b
     go true e z r = λ i. eqb-true x y e i ∷ r z i
     go false e z r = cc
-
-left : (p q : Bool) → (p && q) ≡ true → p ≡ true
-left true q h = refl
-left false q h = cc
-
-right : (p q : Bool) → (p && q) ≡ true → q ≡ true
-right true q h = h
-right false q h = cc
 
 -- What is told of a command with this status.
 abbrev IsTold : ScenarioValue → Story → ℕ → ℕ → Bool → List ℕ → List ℕ → Type 0
@@ -71,12 +64,12 @@ outcome_told s b n x over bytes sense h replies = go (is_settled x over)
     good : is_good x.ending ≡ true → bytes ≡ reply_bytes s b.history (command_of n)
     good e =
         same_is bytes (reply_bytes s b.history (command_of n))
-        (reply (is_good x.ending) (is_reply_of s b.history (command_of n) bytes) (left (not (is_good x.ending) || is_reply_of s b.history (command_of n) bytes) (not x.sense_ended || is_reply_of s b.history (sense_of n) sense) replies) e)
+        (reply (is_good x.ending) (is_reply_of s b.history (command_of n) bytes) (and_first (not (is_good x.ending) || is_reply_of s b.history (command_of n) bytes) (not x.sense_ended || is_reply_of s b.history (sense_of n) sense) replies) e)
 
     known : x.sense_ended ≡ true → sense ≡ reply_bytes s b.history (sense_of n)
     known e =
         same_is sense (reply_bytes s b.history (sense_of n))
-        (reply x.sense_ended (is_reply_of s b.history (sense_of n) sense) (right (not (is_good x.ending) || is_reply_of s b.history (command_of n) bytes) (not x.sense_ended || is_reply_of s b.history (sense_of n) sense) replies) e)
+        (reply x.sense_ended (is_reply_of s b.history (sense_of n) sense) (and_second (not (is_good x.ending) || is_reply_of s b.history (command_of n) bytes) (not x.sense_ended || is_reply_of s b.history (sense_of n) sense) replies) e)
 
     ended : told_outcome_if (own.outcome_if x.ending x.sense_ended bytes sense) ≡ outcome_if s b.history n (ending_of b.ended n)
     ended = ending_told s b n x.ending x.sense_ended bytes sense h.sense_is good known ∙ (λ i. outcome_if s b.history n (h.ending_is i))

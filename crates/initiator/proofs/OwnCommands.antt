@@ -12,10 +12,11 @@ use Rattle.initiator.specs.declared.mine.Mine.{Mine}
 use Rattle.initiator.specs.declared.mine.OwnItem.TheVariants as own
 use Rattle.initiator.specs.Books.{has_number, is_sense_due}
 use Rattle.initiator.specs.Commands.{is_past, is_fresh, all_past, all_fresh, are_placed, concerns_many, CommandsValue, IsPlaceOf, AreKept}
-use Rattle.initiator.specs.Mines.{is_open_mine, open_mines, is_done_mine, may_follow_mines, mines_since, mine_by, with_sent, with_over, with_status, with_one_try, is_check, sent_at, over_at, tried_at, mine_with_end, is_mine_aborted, is_my_sense_stopped, mine_after_event}
+use Rattle.initiator.specs.Mines.{is_open_mine, open_mines, is_done_mine, may_follow_mines, mines_since, mine_by, with_sent, with_over, with_status, with_one_try, is_check, sent_at, over_at, tried_at, mine_with_end, is_mine_aborted, is_my_sense_stopped, mine_after_event, is_at_unit_of}
 use Rattle.initiator.specs.Openings.{mine_at}
-use Rattle.initiator.specs.OwnLinks.{is_at_unit, is_open_sense_of, named_in}
+use Rattle.initiator.specs.OwnLinks.{is_open_sense_of, named_in}
 use Rattle.initiator.specs.Wishes.{tries_in, target_in}
+use Rattle.bus_base.proofs.Tests.{and_false}
 
 -- ---- where each stands
 
@@ -210,12 +211,8 @@ over_of m h = (and_parts m.over (m.sense_over || not (m.checked || m.sense_sent)
 sense_of : (m : Mine) → is_past m ≡ true → (m.sense_over || not (m.checked || m.sense_sent)) ≡ true
 sense_of m h = (and_parts m.over (m.sense_over || not (m.checked || m.sense_sent)) h).1
 
-no_open : (s : Bool) → (s && false) ≡ false
-no_open true = refl
-no_open false = refl
-
 past_open : (m : Mine) → is_past m ≡ true → is_open_mine m ≡ false
-past_open m h = (λ i. m.sent && not (over_of m h i)) ∙ no_open m.sent
+past_open m h = (λ i. m.sent && not (over_of m h i)) ∙ and_false m.sent
 
 past_sense : (m : Mine) → is_past m ≡ true → is_open_sense_of m ≡ false
 past_sense m h = go m.sense_sent m.sense_over m.checked (sense_of m h)
@@ -288,8 +285,8 @@ skipped false b = refl
 
 name_skips : (m : Mine) (mines : List Mine) (target unit : ℕ) (tag : Option ℕ) → is_open_mine m ≡ false → is_open_sense_of m ≡ false → named_in (m ∷ mines) target unit tag ≡ named_in mines target unit tag
 name_skips m mines target unit tag no_command no_sense =
-    (λ i. if is_at_unit m target unit && no_command i && same_number (tag_number_if m.tag) tag then Some (own.Command m.number) else if is_at_unit m target unit && no_sense i && same_number None tag then Some (own.Sense m.number) else named_in mines target unit tag)
-    ∙ (λ i. if skipped (is_at_unit m target unit) (same_number (tag_number_if m.tag) tag) i then Some (own.Command m.number) else if skipped (is_at_unit m target unit) (same_number None tag) i then Some (own.Sense m.number) else named_in mines target unit tag)
+    (λ i. if is_at_unit_of m target unit && no_command i && same_number (tag_number_if m.tag) tag then Some (own.Command m.number) else if is_at_unit_of m target unit && no_sense i && same_number None tag then Some (own.Sense m.number) else named_in mines target unit tag)
+    ∙ (λ i. if skipped (is_at_unit_of m target unit) (same_number (tag_number_if m.tag) tag) i then Some (own.Command m.number) else if skipped (is_at_unit_of m target unit) (same_number None tag) i then Some (own.Sense m.number) else named_in mines target unit tag)
 
 pub named_after_past : (xs ys : List Mine) (target unit : ℕ) (tag : Option ℕ) → all_past xs ≡ true → named_in (xs ++ ys) target unit tag ≡ named_in ys target unit tag
 named_after_past [] ys target unit tag h = refl
@@ -306,7 +303,7 @@ fresh_unnamed (m ∷ ys) target unit tag h =
 pub named_before_fresh : (xs ys : List Mine) (target unit : ℕ) (tag : Option ℕ) → all_fresh ys ≡ true → named_in (xs ++ ys) target unit tag ≡ named_in xs target unit tag
 named_before_fresh [] ys target unit tag h = fresh_unnamed ys target unit tag h
 named_before_fresh (m ∷ xs) ys target unit tag h =
-    go (named_before_fresh xs ys target unit tag h) (is_at_unit m target unit && is_open_mine m && same_number (tag_number_if m.tag) tag) (is_at_unit m target unit && is_open_sense_of m && same_number None tag)
+    go (named_before_fresh xs ys target unit tag h) (is_at_unit_of m target unit && is_open_mine m && same_number (tag_number_if m.tag) tag) (is_at_unit_of m target unit && is_open_sense_of m && same_number None tag)
   where
     go : named_in (xs ++ ys) target unit tag ≡ named_in xs target unit tag → (p q : Bool) → (if p then Some (own.Command m.number) else if q then Some (own.Sense m.number) else named_in (xs ++ ys) target unit tag) ≡ (if p then Some (own.Command m.number) else if q then Some (own.Sense m.number) else named_in xs target unit tag)
     go r true q = refl
@@ -345,7 +342,7 @@ past_kept drops stops m h = go m.sent m.over m.checked m.sense_sent m.sense_over
 fresh_kept : (drops stops : Bool) (m : Mine) → is_fresh m ≡ true → mine_with_end drops stops m ≡ m
 fresh_kept drops stops m h =
     (λ i. if (fresh_parts m h).0 i && not m.over && drops then record m { over = true } else if stops && (fresh_parts m h).1 i then record m { sense_over = true } else m)
-    ∙ (λ i. if no_open stops i then record m { sense_over = true } else m)
+    ∙ (λ i. if and_false stops i then record m { sense_over = true } else m)
 
 past_stays : (e : Event) (m : Mine) → concerns_many e ≡ true → is_past m ≡ true → mine_after_event e m ≡ m
 past_stays (events.Aborted host target unit what) m x h = past_kept (is_mine_aborted host target unit what m) (is_my_sense_stopped host target unit what m) m h

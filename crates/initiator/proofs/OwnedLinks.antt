@@ -32,6 +32,8 @@ use Rattle.bus_due.specs.Plain.{AreOfDevices}
 use Rattle.initiator.specs.Wishes.{IsItemIf, AreAims, events_shown}
 use Rattle.initiator.proofs.CarriedLists.{carried_id}
 use Rattle.initiator.proofs.WishRows.{aims_are}
+use Rattle.initiator.proofs.Mines.{step}
+use Rattle.bus_story.proofs.StorySteps.{restored_link, sent_link, byte_link, out_link, events_link, carried_link, event_link}
 
 -- ---- what each device last entered arbitration for, whatever its number
 
@@ -117,24 +119,8 @@ named s b dev l to_initiator.Reject h = record { initiator = h.initiator; item =
 
 -- ---- the link after a row
 
-carried_link : (b : Story) (k : Option CarriedBytes) → (story_with_carried b k).link ≡ b.link
-carried_link b None = refl
-carried_link b (Some k) = refl
-
-restored_link : (b : Story) (item : Option Item) → (story_with_restored b item).link ≡ b.link
-restored_link b None = refl
-restored_link b (Some (process id)) = refl
-restored_link b (Some (abort n)) = refl
-
-sent_link : (b : Story) (item : Option Item) → (story_with_sent b item).link ≡ b.link
-sent_link b None = refl
-sent_link b (Some item) = refl
-
 pub begun_link : (b : Story) (n : Connection) (l : Link) (item : Option Item) → (story_with_restored (story_with_sent (record b { link = Some l }) item) item).link ≡ Some l
 begun_link b n l item = restored_link (story_with_sent (record b { link = Some l }) item) item ∙ sent_link (record b { link = Some l }) item
-
-pub out_link : (b : Story) (l : Link) (m : MsgOut) → (story_after_out b l (Some m)).link ≡ Some (record l { last = last_out m l })
-out_link b l m = carried_link (record b { link = Some (record l { last = last_out m l }) }) (if is_parity_error m then l.undo else None)
 
 message_link : (s : ScenarioValue) (b : Story) (l : Link) (m : MsgIn) → (story_after_message s b l m).link ≡ Some l
 message_link s b l m = carried_link (record b { link = Some l }) (carried_after_message_if (carried_if b l.item) m)
@@ -142,13 +128,6 @@ message_link s b l m = carried_link (record b { link = Some l }) (carried_after_
 pub name_link : (s : ScenarioValue) (b : Story) (l next : Link) (m : MsgIn) → (story_after_name s b l next m).link ≡ Some (record next { last = last_in m; before = l.last; undo = carried_if b l.item })
 name_link s b l next m =
     message_link s (if is_none l.item then story_with_restored b next.item else b) (record next { last = last_in m; before = l.last; undo = carried_if b l.item }) m
-
-pub byte_link : (b : Story) (l : Link) (d : RowReading) → (story_after_byte b l d).link ≡ b.link
-byte_link b l d = go d.change.before.msg
-  where
-    go : (q : Bool) → (if q then b else story_with_carried b (carried_after_byte_if (carried_if b l.item) d)).link ≡ b.link
-    go true = refl
-    go false = carried_link b (carried_after_byte_if (carried_if b l.item) d)
 
 pub fault_link : (b : Story) (l : Link) (k : Kind) → (story_after_fault b l k).link ≡ b.link
 fault_link b l (Drives lines) = refl
@@ -213,12 +192,6 @@ change_owned s b row a h = go (row_reading b.bus_state row).change.after.rst
 
 -- ---- events leave it
 
-step : (CmdDef → Bool) → (CmdDef → Bool) → Ending → ℕ → CmdDef → Story → Story
-step drops stops e n c b =
-    if is_open b.sent n && drops c then story_with_end b (record { command = n; sense = false }) e
-    else if stops c && list_any (λ k. k == n) b.sent.checks then story_with_over b (sense_item n)
-    else b
-
 -- What an event that ends commands leaves.
 pub record IsLeft (b c : Story) : Type 0 where
   pub link : c.link ≡ b.link
@@ -241,20 +214,6 @@ ends_left drops stops e n (c ∷ commands) b =
 pub end_left : (b : Story) (id : ProcId) (status : ℕ) (q : Bool) → IsLeft b (if q then record (story_with_end b id (by_status status)) { sent = record (story_with_end b id (by_status status)).sent { checks = b.sent.checks ++ id.command ∷ [] } } else story_with_end b id (by_status status))
 end_left b id status true = record { link = refl; carried = refl }
 end_left b id status false = record { link = refl; carried = refl }
-
-event_link : (s : ScenarioValue) (b : Story) (e : Event) → (story_after_event s b e).link ≡ b.link
-event_link s b (events.Accept id) = refl
-event_link s b (events.Refuse id) = refl
-event_link s b (events.Run id) = refl
-event_link s b (events.Fail id code) = refl
-event_link s b (events.Lost id) = refl
-event_link s b (events.Aborted host target unit what) = (ends_left (is_aborted host target unit what) (is_sense_stopped host target unit what) by_abort 1 s.commands b).link
-event_link s b (events.Reset d) = (ends_left (λ c. true) (λ c. true) by_reset 1 s.commands b).link
-event_link s b (events.End id status) = (end_left b id status (not id.sense && status == CHECK_CONDITION)).link
-
-pub events_link : (s : ScenarioValue) (b : Story) (shown : List Event) → (story_after_events s b shown).link ≡ b.link
-events_link s b [] = refl
-events_link s b (e ∷ shown) = event_link s (story_after_events s b shown) e ∙ events_link s b shown
 
 -- ---- after all rows
 

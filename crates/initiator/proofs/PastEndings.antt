@@ -21,7 +21,7 @@ use Rattle.initiator.specs.Books.{BookValue}
 use Rattle.initiator.specs.Commands.{is_past, is_fresh, all_past, all_fresh}
 use Rattle.initiator.specs.Endings.{ended_so, with_sense_end, end_at, ends_with, ends_with_sense, is_named, ends_of_mines, ends_after_event, ends_after_events, ends_after, ends_after_from, have_ended, told_ending_if, AreEndingsOf}
 use Rattle.initiator.specs.Mines.{mine_of, mines_of}
-use Rattle.initiator.proofs.EndingRows.{with_at, with_sense_at}
+use Rattle.initiator.proofs.EndingRows.{with_at, with_sense_at, mines_from}
 use Rattle.initiator.proofs.OwnCommands.{fresh_parts}
 use Rattle.initiator.proofs.StoryEnds.{are_ended}
 
@@ -163,9 +163,6 @@ from_is_all first book aim v (e ∷ shown) h =
     ∙ (λ i. ends_after_events (take-append-drop first book.mines i) v (e ∷ shown))
 
 -- ---- those that are past have ended
-
-abbrev mines_from : Sent → ℕ → ℕ → List CmdDef → List Mine
-mines_from b dev k commands = map (mine_of b.checks) (own_commands b dev k commands)
 
 -- Of these commands, the first of which has this number, the over ones of this initiator have an ending.
 record HaveEnds (b : Sent) (dev : ℕ) (v : List CommandEnd) (k : ℕ) (commands : List CmdDef) : Type 0 where

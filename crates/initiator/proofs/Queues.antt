@@ -11,6 +11,7 @@ use Rattle.bus_due.specs.Wants.{own_command, own_commands}
 use Rattle.initiator.specs.declared.mine.Mine.{Mine}
 use Rattle.initiator.specs.Mines.{mine_of, mines_of}
 use Rattle.initiator.specs.Books.{is_sense_due, my_sense, has_number, queue_with, queue_from}
+use Rattle.bus_base.proofs.Tests.{or_false, length_more}
 
 -- ---- which sense comes first
 
@@ -100,10 +101,6 @@ any_with queue n b = list_any-append (λ k. k == b) queue (n ∷ []) ∙ (λ i. 
     or_no true = refl
     or_no false = refl
 
-or_false : (q : Bool) → (q || false) ≡ q
-or_false true = refl
-or_false false = refl
-
 stays : (b n : ℕ) (queue : List ℕ) → b ≤ n → count_in b (queue ++ n ∷ []) ≡ count_in b queue
 stays zero n queue h = refl
 stays (suc b) n queue h =
@@ -125,10 +122,6 @@ grows (suc b) n queue h e =
           let same : bit (list_any (λ k. k == b) (queue ++ n ∷ [])) ≡ bit (list_any (λ k. k == b) queue) = ap (λ (q : Bool). bit q) other in
           omega (arith, same, grows b n queue (omega (arith, h, x)) e)
     ]
-
-length_with : (queue : List ℕ) (n : ℕ) → length (queue ++ n ∷ []) ≡ length queue + 1
-length_with [] n = refl
-length_with (k ∷ queue) n = omega (arith, length_with queue n)
 
 -- ---- the first sense of the queue is that of all commands that ended so
 
@@ -153,7 +146,7 @@ queue_sense mines room range (n ∷ checks) queue inv = go (has_number mines n) 
         let fits : count_in room queue < room = missing room n queue (range n e) f in
         let roomy : nat_lt (length queue) room ≡ true = short (length queue) room (omega (arith, inv, fits)) in
         (λ i. my_sense mines (queue_from mines room (if e i && not (f i) && roomy i then queue ++ n ∷ [] else queue) checks))
-        ∙ r (queue ++ n ∷ []) (omega (arith, inv, length_with queue n, grows room n queue (range n e) f))
+        ∙ r (queue ++ n ∷ []) (omega (arith, inv, length_more queue n, grows room n queue (range n e) f))
         ∙ (λ i. first_of (sense_with mines queue n i) (my_sense mines checks))
         ∙ first_first (my_sense mines queue) (my_sense mines (n ∷ [])) (my_sense mines checks)
         ∙ (λ i. first_of (my_sense mines queue) (one_sense (is_sense_due mines n) n (my_sense mines checks) i))

@@ -1,7 +1,7 @@
 -- The bytes of data that came to an initiator of its own processes go on row by row.
 use Rattle.std.proofs.Common.{ℕ, suc, zero, ◌≡◌, ◌≢◌, ◌+◌, ◌<◌, ◌≤◌, Bool, true, false, List, [], ◌∷◌, ◌++◌, ◌∙◌, refl, sym, ap, subst, arith, length, take, set, Option, Some, None}
 use Rattle.std.specs.Prelude.{if◌then◌else◌, min, not, ◌&&◌, ◌==◌, ◌%◌, ⊤, is_some, nat_lt, slice_set}
-use Rattle.std.proofs.lemmas.Bool.{eq-eqb, eqb-true, eqb-false}
+use Rattle.std.proofs.lemmas.Bool.{eq-eqb, eqb-true, eqb-false, lt-ltb, ltb-true, and_right, ltb-false, le-ltb}
 use Rattle.std.proofs.lemmas.Bool.Decides.{nat_tests}
 use Rattle.std.proofs.lemmas.List.{get_or-set_same, get_or-set_other, length-set, length-append, length-take, take_all, take-set-le, take-append-le}
 use Rattle.std.proofs.Math.Seq.{take-set-lt}
@@ -34,27 +34,11 @@ use Rattle.initiator.specs.Wishes.{IsItemIf}
 use Rattle.initiator.proofs.CarriedLists.{same_is}
 use Rattle.initiator.proofs.MovedBytes.{IsPlaced, brought, brings, reading_of, placed_are, row_moves}
 use Rattle.initiator.proofs.OwnedLinks.{IsOwnedIf, IsOwnedOn, links_are}
+use Rattle.bus_base.proofs.Tests.{and_first, length_more}
+use Rattle.initiator.proofs.EndingRows.{in_range, one_host}
+use Rattle.initiator.proofs.StoryEnds.{no_first}
 
 -- ---- a buffer
-
-lt_true : (a b : ℕ) → a < b → nat_lt a b ≡ true
-lt_true a b h = grind (arith, nat_tests)
-
-lt_false : (a b : ℕ) → b ≤ a → nat_lt a b ≡ false
-lt_false a b h = grind (arith, nat_tests)
-
-lt_of : (a b : ℕ) → nat_lt a b ≡ true → a < b
-lt_of a b h = grind (arith, nat_tests)
-
-ge_of : (a b : ℕ) → nat_lt a b ≡ false → b ≤ a
-ge_of a b h = grind (arith, nat_tests)
-
-and_no : (x y : Bool) → y ≡ false → (x && y) ≡ false
-and_no true y h = h
-and_no false y h = refl
-
-length_more : (bytes : List ℕ) (byte : ℕ) → length (bytes ++ byte ∷ []) ≡ length bytes + 1
-length_more bytes byte = length-append bytes (byte ∷ [])
 
 taken : List ℕ → ℕ → BufferValue
 taken bytes room = record { bytes = take room bytes; room = room }
@@ -67,32 +51,32 @@ in_buffer bytes room at byte place cap within small e = go (nat_lt at room) refl
 
     go : (p : Bool) → nat_lt at room ≡ p → (q : Bool) → nat_lt at (length bytes) ≡ q → (if nat_lt place (length (take room bytes)) then record { bytes = slice_set (take room bytes) place byte; room = room } else if place == length (take room bytes) && nat_lt place room then record { bytes = take room bytes ++ byte ∷ []; room = room } else record { bytes = take room bytes; room = room }) ≡ (let x : BufferValue = record { bytes = take room (if q then slice_set bytes at byte else bytes ++ byte ∷ []); room = room } in x)
     go true f true g =
-        let fits : at < room = lt_of at room f in
-        let below : at < length bytes = lt_of at (length bytes) g in
+        let fits : at < room = ltb-true at room f in
+        let below : at < length bytes = ltb-true at (length bytes) g in
         let here : place ≡ at = omega (arith, e, small, fits) in
         let l = long in
-        let t : nat_lt place (length (take room bytes)) ≡ true = lt_true place (length (take room bytes)) (omega (arith, here, l, fits, below)) in
+        let t : nat_lt place (length (take room bytes)) ≡ true = lt-ltb place (length (take room bytes)) (omega (arith, here, l, fits, below)) in
         (λ i. if t i then record { bytes = slice_set (take room bytes) place byte; room = room } else if place == length (take room bytes) && nat_lt place room then record { bytes = take room bytes ++ byte ∷ []; room = room } else record { bytes = take room bytes; room = room })
         ∙ (λ i. record { bytes = slice_set (take room bytes) (here i) byte; room = room })
         ∙ (λ i. record { bytes = sym (take-set-lt room bytes at byte fits) i; room = room })
     go true f false g =
-        let fits : at < room = lt_of at room f in
-        let end : length bytes ≤ at = ge_of at (length bytes) g in
+        let fits : at < room = ltb-true at room f in
+        let end : length bytes ≤ at = ltb-false at (length bytes) g in
         let here : place ≡ at = omega (arith, e, small, fits) in
         let l = long in
         let whole : length bytes ≤ room = omega (arith, within, end, fits) in
         let more = length_more bytes byte in
-        let t : nat_lt place (length (take room bytes)) ≡ false = lt_false place (length (take room bytes)) (omega (arith, here, l, end)) in
+        let t : nat_lt place (length (take room bytes)) ≡ false = le-ltb place (length (take room bytes)) (omega (arith, here, l, end)) in
         let u : (place == length (take room bytes)) ≡ true = eq-eqb place (length (take room bytes)) (omega (arith, here, l, within, end, fits)) in
-        let w : nat_lt place room ≡ true = lt_true place room (omega (arith, here, fits)) in
+        let w : nat_lt place room ≡ true = lt-ltb place room (omega (arith, here, fits)) in
         (λ i. if t i then record { bytes = slice_set (take room bytes) place byte; room = room } else if u i && w i then record { bytes = take room bytes ++ byte ∷ []; room = room } else record { bytes = take room bytes; room = room })
         ∙ (λ i. record { bytes = take_all room bytes whole i ++ byte ∷ []; room = room })
         ∙ (λ i. record { bytes = sym (take_all room (bytes ++ byte ∷ []) (omega (arith, more, within, end, fits))) i; room = room })
     go false f q g =
-        let past : room ≤ at = ge_of at room f in
+        let past : room ≤ at = ltb-false at room f in
         let l = long in
-        let t : nat_lt place (length (take room bytes)) ≡ false = lt_false place (length (take room bytes)) (omega (arith, e, l, past, small)) in
-        let u : (place == length (take room bytes) && nat_lt place room) ≡ false = and_no (place == length (take room bytes)) (nat_lt place room) (lt_false place room (omega (arith, e, past, small))) in
+        let t : nat_lt place (length (take room bytes)) ≡ false = le-ltb place (length (take room bytes)) (omega (arith, e, l, past, small)) in
+        let u : (place == length (take room bytes) && nat_lt place room) ≡ false = and_right (place == length (take room bytes)) (nat_lt place room) (le-ltb place room (omega (arith, e, past, small))) in
         (λ i. if t i then record { bytes = slice_set (take room bytes) place byte; room = room } else if u i then record { bytes = take room bytes ++ byte ∷ []; room = room } else record { bytes = take room bytes; room = room })
         ∙ (λ i. record { bytes = sym (outside q past) i; room = room })
       where
@@ -104,7 +88,7 @@ in_buffer bytes room at byte place cap within small e = go (nat_lt at room) refl
 pub kept_byte : (items : List ℕ) (count place byte : ℕ) → place < count → count ≤ length items → (let x : BufferValue = record { bytes = take count (set items place byte); room = length (set items place byte) } in x) ≡ buffer_with (record { bytes = take count items; room = length items }) place byte
 kept_byte items count place byte lt most =
     let long : length (take count items) ≡ min count (length items) = length-take count items in
-    let t : nat_lt place (length (take count items)) ≡ true = lt_true place (length (take count items)) (omega (arith, long, lt, most)) in
+    let t : nat_lt place (length (take count items)) ≡ true = lt-ltb place (length (take count items)) (omega (arith, long, lt, most)) in
     (λ i. record { bytes = take-set-lt count items place byte lt i; room = length-set items place byte i })
     ∙ (λ i. if sym t i then record { bytes = slice_set (take count items) place byte; room = length items } else if place == length (take count items) && nat_lt place (length items) then record { bytes = take count items ++ byte ∷ []; room = length items } else record { bytes = take count items; room = length items })
 
@@ -154,10 +138,6 @@ own_item s dev (Some (abort n)) h = tt
 own_linked : (s : ScenarioValue) (dev : ℕ) (l : Option Link) → IsOwnedIf s dev l → IsOwnIf s dev (id_of (item_of l))
 own_linked s dev None h = tt
 own_linked s dev (Some l) h = own_item s dev l.item h.item
-
-one_host : (c : Option CmdDef) (d dev : ℕ) → is_of_host c d ≡ true → is_of_host c dev ≡ true → d ≡ dev
-one_host None d dev x y = cc
-one_host (Some c) d dev x y = sym (eqb-true c.host d x) ∙ eqb-true c.host dev y
 
 -- What a byte of data makes of the buffers.
 abbrev put_if : List BufferPairValue → Option ProcId → ℕ → ℕ → List BufferPairValue
@@ -228,16 +208,6 @@ small_room s c false = go (is_write (command_of c.cdb))
     go true = omega arith
     go false = omega arith
 
-in_range : (commands : List CmdDef) (n dev : ℕ) → is_of_host (command_at commands n) dev ≡ true → n < length commands + 1
-in_range [] n dev h = cc
-in_range (c ∷ commands) zero dev h = cc
-in_range (c ∷ commands) (suc zero) dev h = omega arith
-in_range (c ∷ commands) (suc (suc n)) dev h = omega (arith, in_range commands (suc n) dev h)
-
-first : (p q : Bool) → (p && q) ≡ true → p ≡ true
-first true q h = refl
-first false q h = cc
-
 pub received_goes_on : (s : ScenarioValue) (rows : List Row) (row : Row) (dev : ℕ) (v : List BufferPairValue) (known : Option ProcId) (place : ℕ) (w : Hearing) (after : Option Connection) → IsPlain s rows (run_state s rows) → IsPlain s (row ∷ rows) (run_state s (row ∷ rows)) → hearing_of (run_state s rows) row (row_reading (run_state s rows).story.bus_state row) ≡ hearing rows row
     → AreOfDevices (row ∷ rows) → w ≡ hearing rows row → after ≡ connection (row ∷ rows) → known ≡ id_of (item_of (own_link dev (connection rows) (run_state s rows).story.link)) → place ≡ (active_of (run_state s rows) known).payload → undoes_no_byte s (row ∷ rows) ≡ true → AreReceived s rows dev v → AreReceived s (row ∷ rows) dev (received_after v known place w after)
 received_goes_on s rows row dev v known place w after p q heard d told stands is at undoes h =
@@ -260,7 +230,7 @@ received_goes_on s rows row dev v known place w after p q heard d told stands is
 
     moves : (id : ProcId) → (moved_of (run_state s (row ∷ rows)).story id).bytes ≡ brought (if brings (row_reading (run_state s rows).story.bus_state row) then id_of (item_of (run_state s rows).story.link) else None) id ((row_reading (run_state s rows).story.bus_state row).change.after.data_bits % 256) (moved_of (run_state s rows).story id)
     moves id =
-        (row_moves s rows row (first (has_bytes_of (run_state s rows).story.carried (undone_by (run_state s rows).story.link (row_reading (run_state s rows).story.bus_state row).out)) (undoes_no_byte s rows) undoes)).bytes refl id
+        (row_moves s rows row (and_first (has_bytes_of (run_state s rows).story.carried (undone_by (run_state s rows).story.link (row_reading (run_state s rows).story.bus_state row).out)) (undoes_no_byte s rows) undoes)).bytes refl id
 
     place_is : (x : ProcId) → known ≡ Some x → place ≡ min (moved_of (run_state s rows).story x).active 0xffffffff
     place_is x z = at ∙ (λ i. (active_of (run_state s rows) (z i)).payload)
@@ -305,10 +275,6 @@ unfolding buffers_if
 command_buffers s dev [] j = refl
 command_buffers s dev (c ∷ commands) zero = refl
 command_buffers s dev (c ∷ commands) (suc j) = command_buffers s dev commands j
-
-no_first : (commands : List CmdDef) → None ≡ command_at commands zero
-no_first [] = refl
-no_first (c ∷ commands) = refl
 
 all_buffers : (s : ScenarioValue) (dev n : ℕ) → pair_at (nothing_received s dev) n ≡ buffers_if s dev (command_at s.commands n)
 unfolding buffers_if

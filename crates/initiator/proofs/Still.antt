@@ -32,11 +32,12 @@ use Rattle.initiator.specs.Received.{BufferPairValue, AreReceived, received_afte
 use Rattle.initiator.specs.Speeches.{speech_by, IsSpeechOf, IsOpeningOf}
 use Rattle.initiator.specs.Transfers.{TransfersValue, transfers_after, transfers_after_crossing, transfers_in_link, transfers_on_bus, IsTransfersOf}
 use Rattle.initiator.specs.Wishes.{events_shown}
-use Rattle.initiator.proofs.Hosts.{and_right}
 use Rattle.initiator.proofs.NegotiationRows.{negotiations_go_on}
 use Rattle.initiator.proofs.ReceivedRows.{quiet, received_goes_on}
 use Rattle.initiator.proofs.Speeches.{speeches_go_on}
 use Rattle.initiator.proofs.TransferRows.{transfers_go_on}
+use Rattle.std.proofs.lemmas.Bool.{or_right, or_left}
+use Rattle.bus_base.proofs.Tests.{and_second}
 
 -- ---- what the test says
 
@@ -61,14 +62,6 @@ no_phase false false true false false e x = refl
 no_phase false false true false true e x = cc
 no_phase false false true true d e x = cc
 no_phase false false false c d e x = cc
-
-or_left : (a b : Bool) → a ≡ true → (a || b) ≡ true
-or_left true b e = refl
-or_left false b e = cc
-
-or_right : (a b : Bool) → b ≡ true → (a || b) ≡ true
-or_right true b e = refl
-or_right false b e = e
 
 -- ---- what stays
 
@@ -131,7 +124,7 @@ still_heard s rows row v w (Some m) (Some n) [] p q heard d told b a events e h 
           subst (λ (z : List BufferPairValue). AreReceived s (row ∷ rows) v.def.dev z)
           (still_received v.def.dev w m n (run_state s rows).story.link v.received _ e)
           (received_goes_on s rows row v.def.dev v.received (id_of (item_of (own_link v.def.dev (Some m) (run_state s rows).story.link))) _ w (Some n) p q heard d told a
-          (λ i. id_of (item_of (own_link v.def.dev (b i) (run_state s rows).story.link))) refl u (h.received_is (and_right _ _ u)));
+          (λ i. id_of (item_of (own_link v.def.dev (b i) (run_state s rows).story.link))) refl u (h.received_is (and_second _ _ u)));
     }
   where
     began : IsOpeningOf s rows row v.def.dev []

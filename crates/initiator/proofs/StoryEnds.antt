@@ -30,8 +30,9 @@ use Rattle.bus_story.specs.TraceHistory.{aim_of, retries_of, is_counted, story_w
 use Rattle.bus_due.specs.RunSteps.{run_state}
 use Rattle.initiator.specs.Intents.{is_empty}
 use Rattle.initiator.specs.Wishes.{events_shown}
-use Rattle.initiator.proofs.OwnedLinks.{events_link}
 use Rattle.initiator.proofs.Wishes.{IsCaller}
+use Rattle.initiator.proofs.Mines.{step}
+use Rattle.bus_story.proofs.StorySteps.{events_link}
 
 -- ---- the first ending stays
 
@@ -105,12 +106,6 @@ sense_keeps b k h = record { over = λ n. go n (k == n) }
     go n false = h.over n
 
 -- ---- every command that two tests name, in turn
-
-step : (CmdDef → Bool) → (CmdDef → Bool) → Ending → ℕ → CmdDef → Story → Story
-step drops stops e n c b =
-    if is_open b.sent n && drops c then story_with_end b (record { command = n; sense = false }) e
-    else if stops c && list_any (λ k. k == n) b.sent.checks then story_with_over b (sense_item n)
-    else b
 
 step_keeps : (drops stops : CmdDef → Bool) (e : Ending) (k : ℕ) (c : CmdDef) (b : Story) → AreEnded b → AreEnded (step drops stops e k c b)
 unfolding step
@@ -197,7 +192,7 @@ ends_from drops stops e k (c ∷ commands) b (suc j) n same h =
     ends_from drops stops e (k + 1) commands (step drops stops e k c b) j n next (step_keeps drops stops e k c b h)
     ∙ (λ i. ended_if (has_item (step_sent drops stops e k c b i) (command_item n) && drops_if drops (command_at commands (suc j))) (step_other drops stops e k c b n other i) e)
 
-no_first : (commands : List CmdDef) → None ≡ command_at commands zero
+pub no_first : (commands : List CmdDef) → None ≡ command_at commands zero
 no_first [] = refl
 no_first (c ∷ commands) = refl
 

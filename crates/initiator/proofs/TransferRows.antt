@@ -49,9 +49,11 @@ use Rattle.initiator.specs.Transfers.{TransfersValue, transfers_begun, transfers
 use Rattle.initiator.proofs.Foreign.{not_both}
 use Rattle.initiator.proofs.CarriedLists.{carried_id}
 use Rattle.initiator.proofs.HeldSteps.{held_apart, held_stays, held_starts}
-use Rattle.initiator.proofs.OwnedLinks.{IsCarriedOf, IsOwned, IsOwnedIf, IsOwnedOn, carried_own, named, begun_link, aim_own, same_connection, ends_left, end_left, events_link, links_are}
+use Rattle.initiator.proofs.OwnedLinks.{IsCarriedOf, IsOwned, IsOwnedIf, IsOwnedOn, carried_own, named, begun_link, aim_own, same_connection, ends_left, end_left, links_are}
 use Rattle.initiator.proofs.TransferSteps.{IsGoneOn, restored_held, message_id, byte_id, fault_held, linked, connected_goes_on}
 use Rattle.initiator.proofs.WishRows.{aims_are}
+use Rattle.initiator.proofs.MovedBytes.{calling_carried, free_carried}
+use Rattle.bus_story.proofs.StorySteps.{events_link, sent_carried}
 
 -- ---- a free bus carries nothing
 
@@ -67,31 +69,7 @@ try_carried s b d (Some item) = go (is_counted item && nat_lt (retries_of s.host
     go true = of_item (record b { sent = record b.sent { tries = item ∷ b.sent.tries } }) item
     go false = refl
 
-calling_carried : (s : ScenarioValue) (b : Story) (c : Option Call) → (story_after_calling s b c).carried ≡ b.carried
-calling_carried s b None = refl
-calling_carried s b (Some c) = by_calling c.calling
-  where
-    by_calling : (k : Option Calling) → (story_after_calling_by s b c.caller k).carried ≡ b.carried
-    by_calling None = refl
-    by_calling (Some k) = go (is_none k.answered && not k.reselects)
-      where
-        go : (q : Bool) → (if q then story_with_try s b c.caller (aim_of b.aims c.caller) else b).carried ≡ b.carried
-        go true = try_carried s b c.caller (aim_of b.aims c.caller)
-        go false = refl
-
-free_carried : (s : ScenarioValue) (b : Story) (d : RowReading) (row : Row) → (story_on_free_bus s b d row).carried ≡ b.carried
-free_carried s b d row = go (rises d.change.own.bsy d.change.next.bsy && not d.change.before.sel && is_none b.bus_state.connection) (falls d.change.before.sel d.change.after.sel)
-  where
-    go : (p q : Bool) → (if p then story_with_aim s b row else if q then story_after_calling s b b.bus_state.call else b).carried ≡ b.carried
-    go true q = refl
-    go false true = calling_carried s b b.bus_state.call
-    go false false = refl
-
 -- ---- a connection of its own begins
-
-sent_carried : (b : Story) (item : Option Item) → (story_with_sent b item).carried ≡ b.carried
-sent_carried b None = refl
-sent_carried b (Some item) = refl
 
 begins : (s : ScenarioValue) (dev : ℕ) (b : Story) (v : TransfersValue) (aim : Option OwnItem) (n : Connection) → AreAims s b.aims → n.initiator ≡ dev → item_if aim ≡ aim_of b.aims dev → AreHeldOf s dev b.carried v.held → IsGoneOn s dev (story_after_connection b n) (transfers_begun aim n v)
 begins s dev b v aim n a e is h = go n.reselected

@@ -36,12 +36,11 @@ use Rattle.initiator.specs.Transfers.{TransfersValue, transfers_after_out, trans
 use Rattle.bus_dialogue.specs.declared.exchange.Hearing.{Hearing}
 use Rattle.initiator.proofs.CarriedLists.{carried_id}
 use Rattle.initiator.proofs.HeldSteps.{held_restore, held_message, held_byte, held_fault, held_on, held_stays}
-use Rattle.initiator.proofs.OwnedLinks.{IsCarriedOf, IsOwned, IsOwnedIf, IsNamed, named, out_link, name_link, fault_link}
+use Rattle.initiator.proofs.OwnedLinks.{IsCarriedOf, IsOwned, IsOwnedIf, IsNamed, named, name_link, fault_link}
+use Rattle.initiator.proofs.Mines.{mines_from}
+use Rattle.bus_story.proofs.StorySteps.{out_link}
 
 -- ---- the process that a target names
-
-abbrev mines_from : Sent → ℕ → ℕ → List CmdDef → List Mine
-mines_from b dev n commands = map (mine_of b.checks) (own_commands b dev n commands)
 
 pub named_is : (b : Sent) (dev target unit : ℕ) (tag : Option ℕ) (k : ℕ) (commands : List CmdDef) → item_if (named_in (mines_from b dev k commands) target unit tag) ≡ named_item_from b dev target unit tag k commands
 named_is b dev target unit tag k [] = refl

@@ -24,14 +24,9 @@ use Rattle.initiator.specs.Books.{my_book, book_after_event}
 use Rattle.initiator.specs.Wishes.{IsItemIf, Wish, IsWishBy, IsWishOf, AreAims, wish_by_change, book_after_events, wish_after, events_shown}
 use Rattle.initiator.proofs.BookSteps.{book_after}
 use Rattle.initiator.proofs.Wishes.{IsItemLaw, IsCaller, HasInitiator, entered, calling_aims, connection_aims, kept_connected, change_wish}
+use Rattle.initiator.proofs.Mines.{step}
 
 -- ---- events
-
-step : (CmdDef → Bool) → (CmdDef → Bool) → Ending → ℕ → CmdDef → Story → Story
-step drops stops e n c b =
-    if is_open b.sent n && drops c then story_with_end b (record { command = n; sense = false }) e
-    else if stops c && list_any (λ k. k == n) b.sent.checks then story_with_over b (sense_item n)
-    else b
 
 ends_aims : (drops stops : CmdDef → Bool) (e : Ending) (n : ℕ) (commands : List CmdDef) (b : Story) → (story_with_ends drops stops e n commands b).aims ≡ b.aims
 unfolding step

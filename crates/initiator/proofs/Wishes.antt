@@ -1,7 +1,7 @@
 -- What an initiator wants goes on by what each row does.
 use Rattle.std.proofs.Common.{inl, inr, ℕ, suc, zero, ◌≡◌, ◌≢◌, ◌<◌, Bool, true, false, List, [], ◌∷◌, ◌∙◌, refl, sym, ap, subst, arith, Option, Some, None, length, length-set}
 use Rattle.std.specs.Prelude.{if◌then◌else◌, not, ◌&&◌, ◌==◌, slice_set, slice_index_or, is_some, is_none, nat_lt, ⊤}
-use Rattle.std.proofs.lemmas.Bool.{cases_eq, eq-eqb}
+use Rattle.std.proofs.lemmas.Bool.{cases_eq, eq-eqb, eqb-true}
 use Rattle.std.proofs.lemmas.Bool.Decides.{nat_tests}
 use Rattle.std.proofs.lemmas.Grind.{common_steps, elements}
 use Rattle.bus_trace.specs.declared.Row.{Row}
@@ -31,6 +31,7 @@ use Rattle.bus_due.specs.Wants.{book_of}
 use Rattle.initiator.proofs.Books.{item_is}
 use Rattle.initiator.proofs.BookSteps.{book_sent, book_over, book_try, book_abort_sent, book_abort_over, book_abort_try, book_sense_try}
 use Rattle.initiator.proofs.Foreign.{others_sent, others_over, others_try, own_item, tries_are, abort_tries_are}
+use Rattle.bus_story.proofs.StorySteps.{restored_aims, sent_aims, restored_sent}
 
 -- ---- what each device last entered arbitration for
 
@@ -207,20 +208,6 @@ entry_own items s b dev time w host a lt h =
 
 -- ---- a connection begins
 
-restored_sent : (b : Story) (item : Option Item) → (story_with_restored b item).sent ≡ b.sent
-restored_sent b None = refl
-restored_sent b (Some (process id)) = refl
-restored_sent b (Some (abort k)) = refl
-
-restored_aims : (b : Story) (item : Option Item) → (story_with_restored b item).aims ≡ b.aims
-restored_aims b None = refl
-restored_aims b (Some (process id)) = refl
-restored_aims b (Some (abort k)) = refl
-
-sent_aims : (b : Story) (item : Option Item) → (story_with_sent b item).aims ≡ b.aims
-sent_aims b None = refl
-sent_aims b (Some item) = refl
-
 sends : (s : ScenarioValue) (b : Story) (dev : ℕ) (i : Option OwnItem) → my_book s (story_with_sent b (item_if i)).sent dev ≡ book_after_send (my_book s b.sent dev) i
 sends s b dev None = refl
 sends s b dev (Some (own.Command n)) = book_sent s b.sent dev (record { command = n; sense = false })
@@ -230,9 +217,6 @@ sends s b dev (Some (own.Abort n)) = book_abort_sent s b.sent dev n
 others_send : (s : ScenarioValue) (b : Story) (d dev : ℕ) (item : Option Item) → d ≢ dev → IsItemIf s d item → my_book s (story_with_sent b item).sent dev ≡ my_book s b.sent dev
 others_send s b d dev None ne h = refl
 others_send s b d dev (Some item) ne h = others_sent s b.sent d dev item ne h
-
-equal : (x y : ℕ) → (x == y) ≡ true → x ≡ y
-equal x y e = grind (arith, nat_tests)
 
 unequal : (x y : ℕ) → (x == y) ≡ false → x ≢ y
 unequal x y e z = no (sym e ∙ eq-eqb x y z)
@@ -250,7 +234,7 @@ connection_wish s b dev w n a lt h = go n.reselected (n.initiator == dev) refl
     go true q e = record { book_is = h.book_is; aim_is = h.aim_is }
     go false true e =
         let c : Story = record b { link = Some (link_of n (aim_of b.aims n.initiator)) } in
-        let mine : aim_of b.aims n.initiator ≡ item_if w.aim = (λ i. aim_of b.aims (equal n.initiator dev e i)) ∙ sym h.aim_is in
+        let mine : aim_of b.aims n.initiator ≡ item_if w.aim = (λ i. aim_of b.aims (eqb-true n.initiator dev e i)) ∙ sym h.aim_is in
         record {
           book_is = (λ i. book_after_send (h.book_is i) w.aim) ∙ sym (sends s c dev w.aim) ∙ (λ i. my_book s (story_with_sent c (sym mine i)).sent dev) ∙ (λ i. my_book s (sym (restored_sent (story_with_sent c (aim_of b.aims n.initiator)) (aim_of b.aims n.initiator)) i) dev);
           aim_is = h.aim_is ∙ (λ i. aim_of ((sym (sent_aims c (aim_of b.aims n.initiator)) ∙ sym (restored_aims (story_with_sent c (aim_of b.aims n.initiator)) (aim_of b.aims n.initiator))) i) dev);
@@ -354,7 +338,7 @@ free_wish items s b dev w d row host few a lt rlt ok h e =
     entry : (q : Bool) → (row.dev == dev) ≡ q → IsWishBy s dev (story_with_aim s b row) (if q then record w { aim = my_item w.book row.time } else w)
     entry true x = record {
       book_is = h.book_is;
-      aim_is = entry_own items s b dev row.time w host a lt h ∙ (λ i. aim_of (slice_set b.aims (sym (equal row.dev dev x) i) (if is_host s.hosts (sym (equal row.dev dev x) i) then item_at s b.sent (sym (equal row.dev dev x) i) row.time else None)) dev);
+      aim_is = entry_own items s b dev row.time w host a lt h ∙ (λ i. aim_of (slice_set b.aims (sym (eqb-true row.dev dev x) i) (if is_host s.hosts (sym (eqb-true row.dev dev x) i) then item_at s b.sent (sym (eqb-true row.dev dev x) i) row.time else None)) dev);
     }
     entry false x = record {
       book_is = h.book_is;

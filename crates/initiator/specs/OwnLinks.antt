@@ -19,7 +19,7 @@ use Rattle.initiator.specs.declared.own_link.LastMessage.TheVariants as latest
 use Rattle.initiator.specs.declared.own_link.Undo.{Undo}
 use Rattle.initiator.specs.declared.own_link.OwnLink.{OwnLink}
 use Rattle.initiator.specs.Books.{item_if}
-use Rattle.initiator.specs.Mines.{is_open_mine}
+use Rattle.initiator.specs.Mines.{is_open_mine, is_at_unit_of}
 use Rattle.initiator.specs.HeldPointers.{held_at, with_held, IsHeldOf}
 
 -- A command or an automatic REQUEST SENSE; an abort is none.
@@ -31,9 +31,6 @@ process_in (Some (own.Abort n)) = None
 
 -- ---- the process that a target names
 
-abbrev pub is_at_unit : Mine → ℕ → ℕ → Bool
-is_at_unit m target unit = m.target == target && m.unit == unit
-
 abbrev pub is_open_sense_of : Mine → Bool
 is_open_sense_of m = m.sense_sent && not m.sense_over
 
@@ -41,8 +38,8 @@ is_open_sense_of m = m.sense_sent && not m.sense_over
 abbrev pub named_in : List Mine → ℕ → ℕ → Option ℕ → Option OwnItem
 named_in [] target unit tag = None
 named_in (m ∷ mines) target unit tag =
-    if is_at_unit m target unit && is_open_mine m && same_number (tag_number_if m.tag) tag then Some (own.Command m.number)
-    else if is_at_unit m target unit && is_open_sense_of m && same_number None tag then Some (own.Sense m.number)
+    if is_at_unit_of m target unit && is_open_mine m && same_number (tag_number_if m.tag) tag then Some (own.Command m.number)
+    else if is_at_unit_of m target unit && is_open_sense_of m && same_number None tag then Some (own.Sense m.number)
     else named_in mines target unit tag
 
 abbrev pub link_with_name : List Mine → OwnLink → MsgIn → OwnLink

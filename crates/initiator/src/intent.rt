@@ -22,8 +22,8 @@ use crate::openings::{Words, item_opening};
 use crate::wish::{Wish, is_entry};
 use bus_base::{Dev, Event, NoMemory, Ns};
 use bus_due::{hearings_are_plain, kept_is_plain, wants_are_items};
-use bus_lines::{BusView, RowEffect};
-use bus_trace::{Call, Change, Connection, Row, call_after, falls};
+use bus_lines::{BusView, RowEffect, see_call};
+use bus_trace::{Call, Change, Connection, Row, falls};
 use scenario::{HostDef, Scenario};
 use std::alloc::Global;
 use std::marker::Model;
@@ -66,16 +66,6 @@ fn is_news(
     is_entry(change, before)
         || !shown.is_empty()
         || (before.is_none() && (after.is_some() || falls(change.before.sel(), change.after.sel())))
-}
-
-// The call that stands goes on by a row. Where none stands before the row and SEL is false after it, there is none.
-fn see_call(call: &mut Option<Call>, change: &Change, row: &Row)
-    requires { row.now.dev < 8 }
-    ensures { call.new ≡ call_after call.old change.now row.now }
-{
-    if call.is_some() || change.after.sel() {
-        *call = call_after(*call, change, row);
-    }
 }
 
 // A command or an automatic REQUEST SENSE, and no abort.

@@ -104,7 +104,7 @@ fn with_end(drops: bool, stops: bool, mine: Mine) -> Mine
     }
 }
 
-fn is_at_unit(mine: &Mine, target: Dev, unit: u8) -> bool
+pub(crate) fn is_at_unit(mine: &Mine, target: Dev, unit: u8) -> bool
     ensures { result ≡ is_at_unit_of mine.now target unit }
 {
     mine.target == target && mine.unit == unit

@@ -2,11 +2,12 @@
 ghost use Rattle.std.specs.Prelude.{◌≡◌, Some, None};
 ghost use Rattle.bus_story.specs.Items.{tag_number_if};
 ghost use Rattle.bus_story.specs.Links.{same_number};
-ghost use Rattle.initiator.specs.OwnLinks.{process_in, is_at_unit, is_open_sense_of, named_in, link_with_name, last_after_out, last_after_in, new_link, undo_of, undone};
+ghost use Rattle.initiator.specs.OwnLinks.{process_in, is_open_sense_of, named_in, link_with_name, last_after_out, last_after_in, new_link, undo_of, undone};
 ghost use Rattle.initiator.specs.Mines.{is_open_mine};
 
 use crate::book::Book;
 use crate::held::{Held, HeldPair, held_at, set_held};
+use crate::marks::is_at_unit;
 use crate::mine::{Mine, OwnItem};
 use bus_base::{Dev, ProcId};
 use msg_grammar::{MsgIn, MsgOut};
@@ -85,12 +86,6 @@ fn same_number(a: Option<u8>, b: Option<u8>) -> bool
         (Some(a), Some(b)) => a == b,
         (None, Some(_)) | (Some(_), None) => false,
     }
-}
-
-fn is_at_unit(mine: &Mine, target: Dev, unit: u8) -> bool
-    ensures { result ≡ is_at_unit mine.now target unit }
-{
-    mine.target == target && mine.unit == unit
 }
 
 fn is_open_mine(mine: &Mine) -> bool

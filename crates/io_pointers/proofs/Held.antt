@@ -6,15 +6,13 @@ use Rattle.std.proofs.lemmas.List.{take_more_set, length-set, length-append}
 use Rattle.std.proofs.Math.Seq.{take-set-lt}
 use Rattle.bus_story.specs.CarriedBytes.{Area, area_with, restored_area}
 use Rattle.io_pointers.specs.HostBuffer.{IsHeld}
+use Rattle.bus_base.proofs.Tests.{length_more}
 
 set_inside : (bytes buffer : List ℕ) (at byte : ℕ) → at < length bytes → take (length bytes) buffer ≡ bytes → take (length (slice_set bytes at byte)) (slice_set buffer at byte) ≡ slice_set bytes at byte
 set_inside bytes buffer at byte lt h =
     ap (λ (n : ℕ). take n (slice_set buffer at byte)) (length-set bytes at byte)
     ∙ take-set-lt (length bytes) buffer at byte lt
     ∙ ap (λ (xs : List ℕ). slice_set xs at byte) h
-
-length_more : (bytes : List ℕ) (byte : ℕ) → length (bytes ++ byte ∷ []) ≡ length bytes + 1
-length_more bytes byte = length-append bytes (byte ∷ [])
 
 set_at_end : (bytes buffer : List ℕ) (at byte : ℕ) → at ≡ length bytes → at < length buffer → take (length bytes) buffer ≡ bytes → take (length (bytes ++ byte ∷ [])) (slice_set buffer at byte) ≡ bytes ++ byte ∷ []
 set_at_end bytes buffer at byte e lt h =

@@ -19,15 +19,13 @@ use Rattle.link_laws.specs.Pulses.{Pulsing, EndsAhead}
 use Rattle.link_laws.proofs.PulseAhead.{target_time_in, target_time_out, initiator_time_in, initiator_time_out}
 use Rattle.link_laws.proofs.EndDues.{target_plain, offering_with, ends_ahead}
 use Rattle.link_laws.proofs.StageDues.{selected_target, selected_initiator, settling_target, settling_initiator, handing_initiator, turning_target, turned_initiator, owing_initiator, offering_target, offering_initiator, answered_target, answered_initiator_in, answered_initiator_out, asking_target, asking_initiator_in, asking_initiator_out, giving_initiator_out, ending_target, ending_initiator_in, ending_initiator_out, ack_end_time, between_target, between_initiator_in, between_initiator_out}
+use Rattle.bus_base.proofs.Tests.{zero_of}
 
 pub at_time : (plain : Option Due) (time : ℕ) (l : LineSet) (x : Due) → plain ≡ due_at time l → plain ≡ Some x → x.time ≡ time
 at_time plain time l x e f = (is_at time l x (sym e ∙ f)).time_is
 
 pub never : (plain : Option Due) (x : Due) → plain ≡ None → plain ≡ Some x → ⊥
 never plain x e f = none_some x (sym e ∙ f)
-
-pub zero_of : (x : ℕ) → (x == 0) ≡ true → x ≡ 0
-zero_of x e = grind (arith, nat_tests)
 
 ack_end_late : (p : List Row) (atn : Bool) → (line_times p).req ≤ ack_end_time p atn
 ack_end_late p atn = go (atn && (line_times p).atn == (line_times p).ack)

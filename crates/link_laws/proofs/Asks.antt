@@ -31,9 +31,7 @@ use Rattle.link_laws.proofs.LinkObeys.{MayAsk, req_rises_in, req_rises_out, firs
 use Rattle.link_laws.proofs.Goes.{NextLinked, phase_goes, unpulsed_goes, turn_test, receives_if, data_by}
 use Rattle.link_laws.proofs.Shakes.{target_row, initiator_row}
 use Rattle.link_laws.proofs.Enters.{no_fall}
-
-pub same_of : (a b : ℕ) → (a == b) ≡ true → a ≡ b
-same_of a b e = grind (arith, nat_tests)
+use Rattle.std.proofs.lemmas.Bool.{eqb-true}
 
 -- ---- a byte of a data phase that was left
 
@@ -66,7 +64,7 @@ releases_byte s p n atn x msg cd t order soon some other h books =
         receiver_is = r.receiver_is;
         turned = (λ i. r.io_is i == r.phase_is i) ∙ h.turned;
         duty_is = ap (λ (d : Duty). is_owed_out d true) (r.duty_is.1 ∙ ap (λ (b : Bool). if b || false then duties.Nothing else duty p) (no_fall atn)) ∙ h.duty_is;
-        fresh = let w = r.phase_is in let u = same_of (line_times p).io (phase_time (line_times p)) h.turned in omega arith;
+        fresh = let w = r.phase_is in let u = eqb-true (line_times p).io (phase_time (line_times p)) h.turned in omega arith;
         owed = λ b. absurd cc;
       });
     }
@@ -82,7 +80,7 @@ offers_byte s p n atn msg cd y t always order waited some h books =
     let c : Change = change_to (connected_bus e) (connected_bus f) (target_side e) (target_side f) in
     let m = target_moves p n e msg cd true false y t h.linked in
     let r = target_in_phase p n e false y t h.linked in
-    let at_phase = same_of (line_times p).io (phase_time (line_times p)) h.turned in
+    let at_phase = eqb-true (line_times p).io (phase_time (line_times p)) h.turned in
     record {
       order = order;
       obeys = obeys_linked p row n e c h.linked m.change refl books (first_byte_obeys (around p n.target n c) n atn msg cd y t h.linked.apart h.pulses_are order (omega arith) some);

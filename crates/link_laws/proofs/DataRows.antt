@@ -34,7 +34,7 @@ use Rattle.bus_due.proofs.Plains.{run_state_plain}
 use Rattle.bus_due.proofs.Stills.{keeps_wishes}
 use Rattle.link_laws.specs.Pulses.{run_count, byte_in_run}
 use Rattle.bus_laws.proofs.Apart.{change_plain}
-use Rattle.bus_laws.proofs.Tests.{and_false}
+use Rattle.bus_base.proofs.Tests.{and_false}
 
 -- The row leaves the phase lines as they are, in a data phase of this connection.
 pub record DataRow (p : List Row) (row : Row) (n : Connection) (c : Change) : Type 0 where

@@ -7,11 +7,9 @@ use Rattle.bus_phases.specs.declared.attention.Duty.TheVariants as duties
 use Rattle.bus_phases.specs.Phases.{duty_if_held, duty_left}
 use Rattle.bus_rules.specs.Messages.{is_owed}
 use Rattle.bus_laws.specs.Ends.{EndLines, connected_bus}
-use Rattle.bus_laws.proofs.Tests.{and_false}
 use Rattle.link_laws.specs.Phases.{fits_duty, is_owed_out}
-
-true_false : true ≡ false → ⊥
-true_false z = cc
+use Rattle.std.proofs.lemmas.Bool.{true≢false}
+use Rattle.bus_base.proofs.Tests.{and_false}
 
 -- Whatever a row does in a phase.
 pub duty_goes_on : (d : Duty) (e : EndLines) (atn rise fall held : Bool) → fits_duty d e.atn e.msg ≡ true → fits_duty (if falls e.atn atn || rise then duties.Nothing else if fall && (e.atn && atn && held) then duty_if_held d (connected_bus e) else d) atn e.msg ≡ true

@@ -1,7 +1,7 @@
 -- What is due of the two ends of a connection, and of no third device.
 use Rattle.std.proofs.Common.{inl, inr, ℕ, ◌≡◌, ◌≢◌, ◌≤◌, ◌<◌, Bool, true, false, ◌==◌, ◌∙◌, List, [], ◌∷◌, Option, Some, None, refl, sym, ap, arith}
 use Rattle.std.specs.Prelude.{if◌then◌else◌, is_some}
-use Rattle.std.proofs.lemmas.Bool.{cases_eq}
+use Rattle.std.proofs.lemmas.Bool.{cases_eq, ne_eqb}
 use Rattle.std.proofs.lemmas.Option.{same_Some}
 use Rattle.bus_trace.specs.LineSet.{LineSet}
 use Rattle.bus_trace.specs.declared.Row.{Row}
@@ -42,9 +42,10 @@ use Rattle.bus_due.proofs.Plains.{run_state_plain}
 use Rattle.bus_laws.specs.Reactions.{own_time, device_with, unreset_due, unreset_due_if}
 use Rattle.bus_laws.specs.Rows.{row_of_fault}
 use Rattle.bus_laws.specs.Ends.{EndLines, initiator_side, target_side, connected_bus, Linked}
-use Rattle.bus_laws.proofs.Tests.{eq_self, eq_other}
 use Rattle.bus_laws.proofs.Rows.{stage_is}
 use Rattle.bus_laws.proofs.Dues.{is_there, none_some}
+use Rattle.bus_base.proofs.Tests.{eq_self}
+use Rattle.bus_due.proofs.Leasts.{some_eq}
 
 -- ---- what the ends go by
 
@@ -108,7 +109,7 @@ target_is s p n e g lat d h eb there =
     let w : bus_of k ≡ connected_bus e = a.bus ∙ h.stands.bus_is in
     connected_at s p n e n.target lat d h there
     ∙ ap (sampled_or s p n n.target)
-    ((λ i. if eq_other n.initiator n.target h.apart i then initiator_end_due s k me else if eq_self n.target i then target_end_due s k me else None)
+    ((λ i. if ne_eqb n.initiator n.target h.apart i then initiator_end_due s k me else if eq_self n.target i then target_end_due s k me else None)
     ∙ (λ i. target_due ((a.begun ∙ eb) i) (v i) (a.handshakes i) (self_is s p n.target lat (target_side e) d h.target_below h.target i) (pace_by ((a.begun ∙ eb) i) (w i) (a.dialogue i).heard.now.agreement (host_of s n.target)) (offering_by (serving_at s k n.target (phase_of (w i))) ((a.begun ∙ eb) i) (is_pulsed_phase ((a.begun ∙ eb) i) (w i) (a.dialogue i).heard.now.agreement) (w i) (a.handshakes i))))
 
 pub initiator_is : (s : ScenarioValue) (p : List Row) (n : Connection) (e : EndLines) (g : Bool) (lat : ℕ) → AreOfDevices p → Linked p n e → begun p ≡ g → latency_of s n.initiator ≡ Some lat → unreset_due s p n.initiator ≡ sampled_or s p n n.initiator (initiator_plain s p n g e lat)
@@ -150,13 +151,10 @@ pub data Sampled (x : Due) (last : ℕ) (q : Bool) (plain : Option Due) : Type 0
   strikes : (bit : ℕ) → q ≡ true → x.time ≡ last → x.kind ≡ Fault bit → Sampled x last q plain
   reacts : plain ≡ Some x → Sampled x last q plain
 
-due_eq : (x y : Due) → (let a : Option Due = Some x in a) ≡ Some y → x ≡ y
-due_eq x y e = cc
-
 pub sampled_is : (q : Bool) (last : ℕ) (flip : Option ℕ) (plain : Option Due) (x : Due) → sample_due q last flip plain ≡ Some x → Sampled x last q plain
 sampled_is true last None plain x e = reacts e
 sampled_is true last (Some bit) plain x e =
-    let same = due_eq (record { time = last; kind = Fault bit }) x e in
+    let same = some_eq (record { time = last; kind = Fault bit }) x e in
     strikes bit refl (sym (ap (λ (y : Due). y.time) same)) (sym (ap (λ (y : Due). y.kind) same))
 sampled_is false last flip plain x e = reacts e
 
@@ -179,7 +177,7 @@ third s p n e dev lat d h there ni nt x r =
     let k = run_state s p in
     let me : Myself = self_of k dev lat in
     sampled_is (is_sampling s p n dev) (last_time p) (flip_of k.faults (last_time p)) None x
-    (sym (connected_at s p n e dev lat d h there ∙ ap (sampled_or s p n dev) (λ i. if eq_other n.initiator dev (λ z. ni (sym z)) i then initiator_end_due s k me else if eq_other n.target dev (λ z. nt (sym z)) i then target_end_due s k me else None)) ∙ r)
+    (sym (connected_at s p n e dev lat d h there ∙ ap (sampled_or s p n dev) (λ i. if ne_eqb n.initiator dev (λ z. ni (sym z)) i then initiator_end_due s k me else if ne_eqb n.target dev (λ z. nt (sym z)) i then target_end_due s k me else None)) ∙ r)
 
 pub mover_is : (s : ScenarioValue) (p : List Row) (n : Connection) (g : Bool) (e : EndLines) (row : Row) → AreOfDevices p → Linked p n e → begun p ≡ g → IsLeast (unreset_due s p) 8 row → Mover s p n g e row
 mover_is s p n g e row d h eb least =

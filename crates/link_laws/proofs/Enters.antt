@@ -20,17 +20,17 @@ use Rattle.bus_dialogue.specs.Hearing.{begun}
 use Rattle.bus_laws.specs.Rows.{change_to}
 use Rattle.bus_laws.specs.Stages.{CalmStanding}
 use Rattle.bus_laws.specs.Ends.{EndLines, initiator_side, target_side, connected_bus, Linked, BeginsSelected, ends_selected}
-use Rattle.bus_laws.proofs.Tests.{eq_self}
 use Rattle.link_laws.specs.Books.{KeepsBooksIn}
 use Rattle.link_laws.specs.Phases.{ends, fits_duty, is_owed_out, InPhase, HasTurned, Settling, Turning}
 use Rattle.link_laws.specs.LinkStages.{when_settling}
 use Rattle.link_laws.proofs.Duties.{duty_at_phase}
-use Rattle.link_laws.proofs.Moves.{initiator_moves, target_moves, initiator_in_phase, terms_of, or_false}
+use Rattle.link_laws.proofs.Moves.{initiator_moves, target_moves, initiator_in_phase, terms_of}
 use Rattle.link_laws.proofs.LinkSeen.{around, obeys_linked}
 use Rattle.link_laws.proofs.LinkObeys.{same_phases, bsy_release_obeys}
 use Rattle.link_laws.proofs.EdgeObeys.{opening_obeys}
 use Rattle.link_laws.proofs.Goes.{NextLinked, phase_goes, turn_goes, data_by}
 use Rattle.link_laws.proofs.Shakes.{target_row, initiator_row}
+use Rattle.bus_base.proofs.Tests.{or_false, eq_self}
 
 -- ---- a phase begins
 

@@ -25,11 +25,10 @@ use Rattle.bus_laws.specs.Reactions.{own_time}
 use Rattle.bus_laws.specs.Rows.{row_of_fault, change_to}
 use Rattle.bus_laws.specs.Ends.{EndLines, initiator_side, target_side, connected_bus, Linked}
 use Rattle.bus_laws.proofs.Rows.{fault_change, stands_by, own_time_fault}
-use Rattle.bus_laws.proofs.Tests.{eq_self}
 use Rattle.link_laws.specs.Books.{KeepsBooksIn}
 use Rattle.link_laws.specs.Phases.{ends, fits_duty, InPhase, HasDriven, shaking_time, Shaking}
 use Rattle.link_laws.specs.LinkStages.{LinkStage, when_selected, when_settling, when_turning, when_offering, when_shaking}
-use Rattle.link_laws.proofs.Moves.{terms_after, same_line, same_self, no_rise, or_false}
+use Rattle.link_laws.proofs.Moves.{terms_after, same_line, same_self, no_rise}
 use Rattle.link_laws.proofs.LinkSeen.{around, obeys_linked}
 use Rattle.link_laws.proofs.FaultObeys.{fault_obeys_in, fault_obeys_out}
 use Rattle.link_laws.proofs.Goes.{NextLinked}
@@ -51,8 +50,8 @@ use Rattle.link_laws.specs.LinkStages.{when_pulsing}
 use Rattle.link_laws.specs.Pulses.{times_here, offset_here, pulses_of, Reached, PulseFacts, Pulsing, HasDrivenPulsed, drives_by, EndsAhead, NoSooner, target_time, target_next, initiator_next, run_count, byte_in_run, given_here}
 use Rattle.link_laws.proofs.DataRows.{DataRow}
 use Rattle.link_laws.proofs.PulseRows.{target_next_is, initiator_next_is}
-use Rattle.link_laws.proofs.PulseSteps.{still_facts}
 use Rattle.link_laws.proofs.Enters.{no_fall}
+use Rattle.bus_base.proofs.Tests.{or_false, eq_self}
 
 pub linked_fault : (p : List Row) (n : Connection) (e : EndLines) (t d bit : ℕ) → Linked p n e → Linked (row_of_fault t d bit ∷ p) n e
 linked_fault p n e t d bit h = record {
@@ -116,7 +115,7 @@ phase_stays p q n e w h = record {
   owes = ap (λ (k : Duty). fits_duty k e.atn e.msg) w.duty_is ∙ h.owes;
 }
 
-none_device : (o : Option ℕ) (d : ℕ) → o ≡ None → is_of_device o d ≡ true → ⊥
+pub none_device : (o : Option ℕ) (d : ℕ) → o ≡ None → is_of_device o d ≡ true → ⊥
 none_device o d e z = let w = sym (ap (λ (k : Option ℕ). is_of_device k d) e) ∙ z in cc
 
 driven_stays : (a b c a' b' c' : ℕ) (req ack io : Bool) (x : ℕ) → a' ≡ a → b' ≡ b → c' ≡ c → HasDriven a b c req ack io x → HasDriven a' b' c' req ack io x
@@ -173,15 +172,14 @@ oldest_same [] = refl
 oldest_same (r ∷ []) = refl
 oldest_same (r ∷ (q ∷ w)) = refl
 
-struck_facts : (h : Handshakes) (a b c d e rows last : ℕ) (req ack : Bool) → PulseFacts h a b c d e rows last req ack → PulseFacts (strikes h) a b c d e (rows + 1) last req ack
-struck_facts h a b c d e rows last req ack f =
+struck_facts : (h : Handshakes) (a b c d e last : ℕ) (req ack : Bool) → PulseFacts h a b c d e last req ack → PulseFacts (strikes h) a b c d e last req ack
+struck_facts h a b c d e last req ack f =
     let long = long_same h.waiting in
-    let w = f.within in
     let count = f.counts in
     record {
       asked = f.asked;
       counts = omega arith;
-      within = omega arith;
+      within = f.within;
       reached = subst (λ k. Reached h.relieved k h.reach) (sym long) f.reached;
       few = f.few;
       req_stands = f.req_stands;
@@ -193,9 +191,9 @@ struck_facts h a b c d e rows last req ack f =
       all_answered = λ z. f.all_answered (sym long ∙ z);
     }
 
-facts_stay : (io : Bool) (h : Handshakes) (a b c d e rows last : ℕ) (req ack : Bool) → PulseFacts h a b c d e rows last req ack → PulseFacts (strikes_if io h) a b c d e (rows + 1) last req ack
-facts_stay true h a b c d e rows last req ack f = struck_facts h a b c d e rows last req ack f
-facts_stay false h a b c d e rows last req ack f = still_facts h a b c d e rows last last req ack f (omega arith)
+facts_stay : (io : Bool) (h : Handshakes) (a b c d e last : ℕ) (req ack : Bool) → PulseFacts h a b c d e last req ack → PulseFacts (strikes_if io h) a b c d e last req ack
+facts_stay true h a b c d e last req ack f = struck_facts h a b c d e last req ack f
+facts_stay false h a b c d e last req ack f = f
 
 pulses_stay : (io : Bool) (h : Handshakes) → pulses_of (strikes_if io h) ≡ pulses_of h
 pulses_stay true h = refl
@@ -241,19 +239,15 @@ pulsing_stays s p n io req ack atn x y d bit h =
       turned = λ a b. subst (λ (k : LineTimes). k.io + 800 ≤ t) (sym w.times_are) (h.turned (sym w.turned_is ∙ a) b);
       pulses_are = pulses_struck p n e t d bit h.linked ∙ h.pulses_are ∙ sym (pulses_stay io (handshakes p)) ∙ ap pulses_of (sym eh);
       facts =
-          subst (λ k. PulseFacts k (line_times q).req (line_times q).ack (own_of q n.initiator).ack (times_here q).assertion (offset_here q) (length q) t req ack) (sym eh)
-          (subst (λ (k : LineTimes). PulseFacts (strikes_if io (handshakes p)) k.req k.ack (own_of q n.initiator).ack (times_here q).assertion (offset_here q) (length q) t req ack) (sym w.times_are)
-          (subst (λ k. PulseFacts (strikes_if io (handshakes p)) (line_times p).req (line_times p).ack k (times_here q).assertion (offset_here q) (length q) t req ack) (sym eo)
-          (subst (λ (k : Agreement). PulseFacts (strikes_if io (handshakes p)) (line_times p).req (line_times p).ack (own_of p n.initiator).ack (times_of k.period).assertion k.offset (length q) t req ack) (sym w.agreements_are)
-          (subst (λ k. PulseFacts (strikes_if io (handshakes p)) (line_times p).req (line_times p).ack (own_of p n.initiator).ack (times_here p).assertion (offset_here p) k t req ack) (lengthens p q)
-          (facts_stay io (handshakes p) (line_times p).req (line_times p).ack (own_of p n.initiator).ack (times_here p).assertion (offset_here p) (length p) t req ack h.facts)))));
+          subst (λ k. PulseFacts k (line_times q).req (line_times q).ack (own_of q n.initiator).ack (times_here q).assertion (offset_here q) t req ack) (sym eh)
+          (subst (λ (k : LineTimes). PulseFacts (strikes_if io (handshakes p)) k.req k.ack (own_of q n.initiator).ack (times_here q).assertion (offset_here q) t req ack) (sym w.times_are)
+          (subst (λ k. PulseFacts (strikes_if io (handshakes p)) (line_times p).req (line_times p).ack k (times_here q).assertion (offset_here q) t req ack) (sym eo)
+          (subst (λ (k : Agreement). PulseFacts (strikes_if io (handshakes p)) (line_times p).req (line_times p).ack (own_of p n.initiator).ack (times_of k.period).assertion k.offset t req ack) (sym w.agreements_are)
+          (facts_stay io (handshakes p) (line_times p).req (line_times p).ack (own_of p n.initiator).ack (times_here p).assertion (offset_here p) t req ack h.facts))));
       driven = driven_stays_in s p q n io x w eh eo h.driven;
       receives = λ k z. absurd (none_device (receiver q) k w.receiver_is z);
       received = λ a b. let k = sym (ap (λ (o : Option ℕ). is_some o) w.receiver_is) ∙ b in absurd cc;
     }
-  where
-    lengthens : (p q : List Row) → length p + 1 ≡ length (row_of_fault (last_time p) d bit ∷ p)
-    lengthens p q = omega arith
 
 struck_row : (p : List Row) (n : Connection) (e : EndLines) (t d bit : ℕ) → AreOfDevices p → d < 8 → e.msg ≡ false → Linked p n e → DataRow p (row_of_fault t d bit) n (change_to (connected_bus e) (connected_bus e) (drives p d) (drives p d))
 struck_row p n e t d bit devices lt low h = record {

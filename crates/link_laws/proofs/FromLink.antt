@@ -1,5 +1,5 @@
 -- The next row of a connection, resets apart: of either end, or a fault.
-use Rattle.std.proofs.Common.{◌⊎◌, inl, inr, ◌^◌, ℕ, ◌≡◌, ◌≤◌, ◌<◌, ◌+◌, Bool, true, false, not, ◌&&◌, ◌||◌, ◌==◌, ◌∙◌, List, Some, refl, sym, ap, subst, arith}
+use Rattle.std.proofs.Common.{◌⊎◌, inl, inr, ℕ, ◌≡◌, ◌≤◌, ◌<◌, ◌+◌, Bool, true, false, not, ◌&&◌, ◌||◌, ◌==◌, ◌∙◌, List, Some, refl, sym, ap, subst, arith}
 use Rattle.std.specs.Prelude.{if◌then◌else◌, max, nat_le, nat_lt}
 use Rattle.std.proofs.lemmas.Bool.Decides.{nat_tests}
 use Rattle.bus_trace.specs.LineSet.{LineSet, none, bit_value, parity_of}
@@ -40,30 +40,32 @@ use Rattle.link_laws.specs.LinkStages.{LinkStage, when_selected, when_settling, 
 use Rattle.link_laws.proofs.Duties.{may_ask}
 use Rattle.link_laws.proofs.EndDues.{due_of, Mover, by_fault, by_initiator, by_target, mover_is, target_plain, initiator_plain, offering_with, answering_with, initiator_is, sampled_or, sampled_by, is_sampling}
 use Rattle.link_laws.proofs.StageDues.{selected_target, selected_initiator, settling_target, settling_initiator, handing_initiator, turning_target, turned_initiator, owing_initiator, offering_target, offering_initiator, answered_target, answered_initiator_in, answered_initiator_out, asking_target, asking_initiator_in, asking_initiator_out, giving_initiator_out, ending_target, ending_initiator_in, ending_initiator_out, ack_end_time, between_target, between_initiator_in, between_initiator_out}
-use Rattle.link_laws.proofs.Ahead.{never, zero_of}
+use Rattle.link_laws.proofs.Ahead.{never}
 use Rattle.std.proofs.Common.{None}
 use Rattle.bus_laws.proofs.Dues.{none_some}
-use Rattle.link_laws.proofs.Goes.{NextLinked, le_test}
+use Rattle.link_laws.proofs.Goes.{NextLinked}
 use Rattle.link_laws.proofs.Shakes.{target_row, initiator_row, takes_req_in, takes_req_out, ends_ack_in, ends_ack_out, answers_in, gives_byte, answers_out}
 use Rattle.link_laws.proofs.Faults.{strikes_byte}
 use Rattle.link_laws.proofs.Enters.{opens, hands_over}
-use Rattle.link_laws.proofs.Asks.{same_of, hold_short, releases_byte, offers_byte, Asking, asks_in, asks_out}
+use Rattle.link_laws.proofs.RunLengths.{HasShortRuns}
+use Rattle.link_laws.proofs.Asks.{hold_short, releases_byte, offers_byte, Asking, asks_in, asks_out}
 use Rattle.std.specs.Prelude.{length}
 use Rattle.bus_lines.specs.Handshakes.{no_handshakes, first_of, is_struck}
 use Rattle.bus_phases.specs.Phases.{pulses, no_pulses}
 use Rattle.bus_dialogue.specs.declared.exchange.Leaving.{Leaving}
 use Rattle.bus_dialogue.specs.NextPhase.{Serving, phase_of, phase_leaving}
 use Rattle.bus_due.specs.Sights.{serving_at}
-use Rattle.bus_laws.proofs.Tests.{and_false}
 use Rattle.link_laws.specs.Pulses.{times_here, offset_here, run_count, next_bits}
 use Rattle.link_laws.proofs.Leaves.{data_out_to_initiator}
 use Rattle.link_laws.proofs.PulseDues.{pulsed_target_in, pulsed_target_out, pulsed_initiator_in, pulsed_initiator_out, hold_end_time, pulse_time, leaving_time, ack_pulse_end_time, answer_time, release_time, byte_driven_time, given_bits}
 use Rattle.link_laws.proofs.PulseRows.{NextPulsing, PulseHere, req_ends_in}
 use Rattle.link_laws.proofs.PulseIn.{req_pulses_in, byte_changes_in, answers_pulse_in, ends_pulse_in}
-use Rattle.link_laws.proofs.PulseOut.{req_ends_out, req_pulses_out, answers_pulse_out, ends_pulse_out, gives_pulsed_byte, releases_pulsed_byte}
+use Rattle.link_laws.proofs.PulseOut.{req_ends_out, req_pulses_out, answers_pulse_out, ends_pulse_out, gives_pulsed_byte, releases_pulsed_byte, no_attention}
 use Rattle.link_laws.proofs.PulseStarts.{starts_in, starts_out}
 use Rattle.link_laws.proofs.PulseEnds.{pulsed_leaves_in, pulsed_leaves_out}
 use Rattle.link_laws.proofs.PhaseEnds.{leaves_lines, AfterLink, goes_on, unasked, leaves_phase}
+use Rattle.std.proofs.lemmas.Bool.{eqb-true, le-leb}
+use Rattle.bus_base.proofs.Tests.{and_false, zero_of, implication_parts}
 
 -- What the next row is due to be, of the lines of one device.
 reacts : (s : ScenarioValue) (p : List Row) (n : Connection) (row : Row) (d time : ℕ) (l : LineSet) → row.dev ≡ d → due_at time l ≡ Some (due_of row) → KeepsBooksIn p row → (row.time ≡ time → KeepsBooksIn p (row_of_lines row.time d l) → AfterLink s p (row_of_lines row.time d l) n) → AfterLink s p row n
@@ -175,7 +177,7 @@ from_turning s p row n atn x msg cd fits always there order h books least (by_in
         let owed = h.owed some in
         let hold = hold_short (dialogue p).heard.now.agreement.period in
         let raised = owed.raised in
-        let at_phase = same_of (line_times p).io (phase_time (line_times p)) h.turned in
+        let at_phase = eqb-true (line_times p).io (phase_time (line_times p)) h.turned in
         let short = fits.latency n.initiator lat lat_is in
         reacts s p n row n.initiator ((own_of p n.initiator).ack + (times_of (dialogue p).heard.now.agreement.period).hold + lat) (initiator_side (ends false false atn 0 msg cd true false 0)) same (sym (owing_initiator s p n atn x msg cd lat h some) ∙ e) books
         (λ at books. goes_on (releases_byte s p n atn x msg cd row.time order (omega arith) some owed.other h books))
@@ -207,7 +209,7 @@ from_offering s p row n atn msg cd y always order h books (by_target lat lat_is 
       order = order;
       linked = h.linked;
       phase = h.phase;
-      settled = let u = h.waited in let w = same_of (line_times p).io (phase_time (line_times p)) h.turned in omega arith;
+      settled = let u = h.waited in let w = eqb-true (line_times p).io (phase_time (line_times p)) h.turned in omega arith;
       duty_is = may_ask (duty p) atn msg cd true h.phase.known h.phase.owes h.duty_is;
       turn = λ a b. let u = h.waited in omega arith;
       set_up = λ b. let u = h.driven in omega arith;
@@ -306,7 +308,7 @@ attends true false a atn h k = absurd cc
 attends false cd a atn h k = h
 
 negated : (q : Bool) (own a t lat : ℕ) → t ≡ (if q && true then max (own + 55) (a + 90) else own + 55) + lat → implies q (nat_le (a + 90) t) ≡ true
-negated true own a t lat e = le_test (a + 90) t (omega arith)
+negated true own a t lat e = le-leb (a + 90) t (omega arith)
 negated false own a t lat e = refl
 
 set_by : (q : Bool) (own a t lat : ℕ) → t ≡ (if q then max (own + 55) (a + 90) else own + 55) + lat → own + 55 ≤ t
@@ -372,17 +374,6 @@ owed_data duties.Nothing atn f = refl
 owed_data duties.Asked atn f = refl
 owed_data duties.Owed atn f = let w = sym f ∙ and_false atn in absurd cc
 
-attends_none : (q : Bool) → implies q (false || false) ≡ true → q ≡ false
-attends_none true e = sym e
-attends_none false e = refl
-
-or_parts : (a b : Bool) → (not a || b) ≡ false → (a ≡ true) × (b ≡ false)
-or_parts true b e = (refl, e)
-or_parts false b e = absurd cc
-
-is_same : (a b : ℕ) → (a == b) ≡ true → a ≡ b
-is_same a b e = grind (arith, nat_tests)
-
 by_target_in : (s : ScenarioValue) (p : List Row) (row : Row) (n : Connection) (req ack atn : Bool) (y lat : ℕ) → latency_of s n.target ≡ Some lat → row.dev ≡ n.target → PulseHere s p row n true req ack atn 0 y → target_plain s p n true (ends false ack atn 0 false false true req y) lat ≡ Some (due_of row) → AfterLink s p row n
 by_target_in s p row n true ack atn y lat there same h e =
     pulses_react s p n row true true ack atn 0 y n.target ((line_times p).req + (times_here p).assertion + lat) (target_side (ends false ack atn 0 false false true false y)) same (sym (pulsed_target_in s p n true ack atn y lat h.pulsing.offset h.pulsing.facts.asked) ∙ e) h
@@ -392,7 +383,7 @@ by_target_in s p row n false ack atn y lat there same h e = changes (y == next_b
     leaves : (q : Bool) → (not (length (handshakes p).waiting == 0) || ack) ≡ q → (if q then None else due_at (leaving_time p true lat) (offering_with s p n true (ends false ack atn 0 false false true false y)).to) ≡ Some (due_of row) → AfterLink s p row n
     leaves true z e = absurd (none_some (due_of row) e)
     leaves false z e =
-        let parts = or_parts (length (handshakes p).waiting == 0) ack z in
+        let parts = implication_parts (length (handshakes p).waiting == 0) ack z in
         at_rest ack parts.1 h parts.0 e
       where
         at_rest : (ack : Bool) → ack ≡ false → PulseHere s p row n true false ack atn 0 y → (length (handshakes p).waiting == 0) ≡ true → due_at (leaving_time p true lat) (offering_with s p n true (ends false ack atn 0 false false true false y)).to ≡ Some (due_of row) → AfterLink s p row n
@@ -403,14 +394,14 @@ by_target_in s p row n false ack atn y lat there same h e = changes (y == next_b
             pulses_react s p n row true false false atn 0 y n.target (leaving_time p true lat) (offering_with s p n true (ends false false atn 0 false false true false y)).to same e h
             (λ at k. pulsed_leaves_in s p n atn y row.time v l l.to k.always k.order k.pulsing idle (omega arith) (leaves_lines v false false true atn 0 y refl) k.books)
 
-    rooms : (q : Bool) → nat_lt (length (handshakes p).waiting) (offset_here p) ≡ q → (if q then due_at (pulse_time p true lat) (target_side (ends false ack atn 0 false false true true y)) else None) ≡ Some (due_of row) → AfterLink s p row n
-    rooms false z e = absurd (none_some (due_of row) e)
-    rooms true z e =
+    rooms : nat_lt (handshakes p).requests (run_count s p n) ≡ true → (q : Bool) → nat_lt (length (handshakes p).waiting) (offset_here p) ≡ q → (if q then due_at (pulse_time p true lat) (target_side (ends false ack atn 0 false false true true y)) else None) ≡ Some (due_of row) → AfterLink s p row n
+    rooms follow false z e = absurd (none_some (due_of row) e)
+    rooms follow true z e =
         pulses_react s p n row true false ack atn 0 y n.target (pulse_time p true lat) (target_side (ends false ack atn 0 false false true true y)) same e h
-        (λ at k. next_of s p _ n true true ack atn 0 y (req_pulses_in s p n ack atn y row.time lat there at z (owed_data (duty p) atn h.pulsing.phase.owes) k))
+        (λ at k. next_of s p _ n true true ack atn 0 y (req_pulses_in s p n ack atn y row.time lat there at follow z (owed_data (duty p) atn h.pulsing.phase.owes) k))
 
     follows : (q : Bool) → nat_lt (handshakes p).requests (run_count s p n) ≡ q → (if q then (if nat_lt (length (handshakes p).waiting) (offset_here p) then due_at (pulse_time p true lat) (target_side (ends false ack atn 0 false false true true y)) else None) else if not (length (handshakes p).waiting == 0) || ack then None else due_at (leaving_time p true lat) (offering_with s p n true (ends false ack atn 0 false false true false y)).to) ≡ Some (due_of row) → AfterLink s p row n
-    follows true z e = rooms (nat_lt (length (handshakes p).waiting) (offset_here p)) refl e
+    follows true z e = rooms z (nat_lt (length (handshakes p).waiting) (offset_here p)) refl e
     follows false z e = leaves (not (length (handshakes p).waiting == 0) || ack) refl e
 
     changes : (q : Bool) → (y == next_bits s p n) ≡ q → (if not q then due_at (hold_end_time p lat) (target_side (ends false ack atn 0 false false true false (next_bits s p n))) else if nat_lt (handshakes p).requests (run_count s p n) then (if nat_lt (length (handshakes p).waiting) (offset_here p) then due_at (pulse_time p true lat) (target_side (ends false ack atn 0 false false true true y)) else None) else if not (length (handshakes p).waiting == 0) || ack then None else due_at (leaving_time p true lat) (offering_with s p n true (ends false ack atn 0 false false true false y)).to) ≡ Some (due_of row) → AfterLink s p row n
@@ -428,8 +419,8 @@ by_target_out s p row n false ack atn x lat there same h e = follows (nat_lt (ha
     leaves : (q : Bool) → (not (length (handshakes p).waiting == 0) || ack) ≡ q → (if q then None else due_at (leaving_time p false lat) (offering_with s p n true (ends false ack atn x false false false false 0)).to) ≡ Some (due_of row) → AfterLink s p row n
     leaves true z e = absurd (none_some (due_of row) e)
     leaves false z e =
-        let parts = or_parts (length (handshakes p).waiting == 0) ack z in
-        at_rest ack atn parts.1 (attends_none atn h.pulsing.phase.asks) h parts.0 e
+        let parts = implication_parts (length (handshakes p).waiting == 0) ack z in
+        at_rest ack atn parts.1 (no_attention atn h.pulsing.phase.asks) h parts.0 e
       where
         at_rest : (ack atn : Bool) → ack ≡ false → atn ≡ false → PulseHere s p row n false false ack atn x 0 → (length (handshakes p).waiting == 0) ≡ true → due_at (leaving_time p false lat) (offering_with s p n true (ends false ack atn x false false false false 0)).to ≡ Some (due_of row) → AfterLink s p row n
         at_rest true atn a b h idle e = absurd cc
@@ -440,14 +431,14 @@ by_target_out s p row n false ack atn x lat there same h e = follows (nat_lt (ha
             pulses_react s p n row false false false false x 0 n.target (leaving_time p false lat) (offering_with s p n true (ends false false false x false false false false 0)).to same e h
             (λ at k. pulsed_leaves_out s p n x row.time v l l.to idle (data_out_to_initiator v) k)
 
-    rooms : (q : Bool) → nat_lt (length (handshakes p).waiting) (offset_here p) ≡ q → (if q then due_at (pulse_time p false lat) (target_side (ends false ack atn x false false false true 0)) else None) ≡ Some (due_of row) → AfterLink s p row n
-    rooms false z e = absurd (none_some (due_of row) e)
-    rooms true z e =
+    rooms : nat_lt (handshakes p).requests (run_count s p n) ≡ true → (q : Bool) → nat_lt (length (handshakes p).waiting) (offset_here p) ≡ q → (if q then due_at (pulse_time p false lat) (target_side (ends false ack atn x false false false true 0)) else None) ≡ Some (due_of row) → AfterLink s p row n
+    rooms follow false z e = absurd (none_some (due_of row) e)
+    rooms follow true z e =
         pulses_react s p n row false false ack atn x 0 n.target (pulse_time p false lat) (target_side (ends false ack atn x false false false true 0)) same e h
-        (λ at k. next_of s p _ n false true ack atn x 0 (req_pulses_out s p n ack atn x row.time lat there at z (owed_data (duty p) atn h.pulsing.phase.owes) k))
+        (λ at k. next_of s p _ n false true ack atn x 0 (req_pulses_out s p n ack atn x row.time lat there at follow z (owed_data (duty p) atn h.pulsing.phase.owes) k))
 
     follows : (q : Bool) → nat_lt (handshakes p).requests (run_count s p n) ≡ q → (if q then (if nat_lt (length (handshakes p).waiting) (offset_here p) then due_at (pulse_time p false lat) (target_side (ends false ack atn x false false false true 0)) else None) else if not (length (handshakes p).waiting == 0) || ack then None else due_at (leaving_time p false lat) (offering_with s p n true (ends false ack atn x false false false false 0)).to) ≡ Some (due_of row) → AfterLink s p row n
-    follows true z e = rooms (nat_lt (length (handshakes p).waiting) (offset_here p)) refl e
+    follows true z e = rooms z (nat_lt (length (handshakes p).waiting) (offset_here p)) refl e
     follows false z e = leaves (not (length (handshakes p).waiting == 0) || ack) refl e
 
 pulsed_by_initiator_in : (s : ScenarioValue) (p : List Row) (row : Row) (n : Connection) (req ack atn : Bool) (y lat : ℕ) → row.dev ≡ n.initiator → PulseHere s p row n true req ack atn 0 y → initiator_plain s p n true (ends false ack atn 0 false false true req y) lat ≡ Some (due_of row) → AfterLink s p row n
@@ -473,7 +464,7 @@ pulsed_by_initiator_out s p row n req false atn x lat there same h e = go (lengt
 
     waits : (length (handshakes p).waiting == 0) ≡ false → (q : Bool) → (x == given) ≡ q → (if q then due_at (max (answer_time s p n) (byte_driven_time p n lat + (times_here p).set_up) + lat) (initiator_side (ends false true atn x false false false req 0)) else due_at (byte_driven_time p n lat) (initiator_side (ends false false atn given false false false req 0))) ≡ Some (due_of row) → AfterLink s p row n
     waits some true z e =
-        let byte : (x == 0) ≡ false = ap (λ (k : ℕ). k == 0) (is_same x given z) ∙ some_byte (answering_with s p n (ends false false atn x false false false req 0)).byte in
+        let byte : (x == 0) ≡ false = ap (λ (k : ℕ). k == 0) (eqb-true x given z) ∙ some_byte (answering_with s p n (ends false false atn x false false false req 0)).byte in
         pulses_react s p n row false req false atn x 0 n.initiator (max (answer_time s p n) (byte_driven_time p n lat + (times_here p).set_up) + lat) (initiator_side (ends false true atn x false false false req 0)) same e h
         (λ at k. next_of s p _ n false req true atn x 0 (answers_pulse_out s p n req atn x row.time lat there at some byte k))
     waits some false z e =
@@ -516,20 +507,20 @@ from_selected s p row n always order h books (by_target lat lat_is same e) =
     reacts s p n row n.target ((line_times p).sel + lat) (target_side (ends false false true 0 true true false false 0)) same (sym (selected_target s p n lat) ∙ e) books
     (λ at books. goes_on (opens s p n row.time always order h books))
 
-pub from_link : (s : ScenarioValue) (p : List Row) (row : Row) (n : Connection) → HasShortLatencies s → CalmStanding s p → There s p → length p + 1 < 2 ^ 64 → LinkStage s p n → KeepsBooksIn p row → IsLeast (unreset_due s p) 8 row → AfterLink s p row n
-from_link s p row n fits always there short (when_selected h) books least =
+pub from_link : (s : ScenarioValue) (p : List Row) (row : Row) (n : Connection) → HasShortLatencies s → HasShortRuns s → CalmStanding s p → There s p → LinkStage s p n → KeepsBooksIn p row → IsLeast (unreset_due s p) 8 row → AfterLink s p row n
+from_link s p row n fits runs always there (when_selected h) books least =
     from_selected s p row n always (always.ahead row.dev least.inside (due_of row) least.is_due) h books (mover_is s p n false ends_selected row always.devices h.linked h.begun_is least)
-from_link s p row n fits always there short (when_settling bsy atn msg cd io y h) books least =
+from_link s p row n fits runs always there (when_settling bsy atn msg cd io y h) books least =
     from_settling s p row n bsy atn msg cd io y fits always there (always.ahead row.dev least.inside (due_of row) least.is_due) h books least (mover_is s p n true _ row always.devices h.linked h.phase.begun_is least)
-from_link s p row n fits always there short (when_turning atn x msg cd h) books least =
+from_link s p row n fits runs always there (when_turning atn x msg cd h) books least =
     from_turning s p row n atn x msg cd fits always there (always.ahead row.dev least.inside (due_of row) least.is_due) h books least (mover_is s p n true _ row always.devices h.linked h.phase.begun_is least)
-from_link s p row n fits always there short (when_offering atn msg cd y h) books least =
+from_link s p row n fits runs always there (when_offering atn msg cd y h) books least =
     from_offering s p row n atn msg cd y always (always.ahead row.dev least.inside (due_of row) least.is_due) h books (mover_is s p n true _ row always.devices h.linked h.phase.begun_is least)
-from_link s p row n fits always there short (when_shaking msg cd true req ack atn x y h) books least =
+from_link s p row n fits runs always there (when_shaking msg cd true req ack atn x y h) books least =
     let z = subst (λ k. Shaking p n msg cd true req ack atn k y) h.side h in
     shaking_in s p row n msg cd req ack atn y always (always.ahead row.dev least.inside (due_of row) least.is_due) z books (mover_is s p n true _ row always.devices z.linked z.phase.begun_is least)
-from_link s p row n fits always there short (when_shaking msg cd false req ack atn x y h) books least =
+from_link s p row n fits runs always there (when_shaking msg cd false req ack atn x y h) books least =
     let z = subst (λ k. Shaking p n msg cd false req ack atn x k) h.side h in
     shaking_out s p row n msg cd req ack atn x always (always.ahead row.dev least.inside (due_of row) least.is_due) z books (mover_is s p n true _ row always.devices z.linked z.phase.begun_is least)
-from_link s p row n fits always there short (when_pulsing io req ack atn x y h a) books least =
-    from_pulsing s p row n io req ack atn x y (record { always = always; order = always.ahead row.dev least.inside (due_of row) least.is_due; pulsing = h; ahead = a; short = short; least = least; books = books }) (mover_is s p n true _ row always.devices h.linked h.phase.begun_is least)
+from_link s p row n fits runs always there (when_pulsing io req ack atn x y h a) books least =
+    from_pulsing s p row n io req ack atn x y (record { always = always; order = always.ahead row.dev least.inside (due_of row) least.is_due; pulsing = h; ahead = a; short = (let few = runs p n in omega (arith, few)); least = least; books = books }) (mover_is s p n true _ row always.devices h.linked h.phase.begun_is least)

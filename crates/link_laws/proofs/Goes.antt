@@ -22,6 +22,7 @@ use Rattle.link_laws.specs.Phases.{ends, fits_duty, InPhase, HasTurned}
 use Rattle.link_laws.specs.LinkStages.{LinkStage}
 use Rattle.link_laws.proofs.Duties.{duty_goes_on}
 use Rattle.link_laws.proofs.Moves.{InPhaseRow}
+use Rattle.std.proofs.lemmas.Bool.{le-leb}
 
 -- What a row does with which the connection goes on.
 pub record NextLinked (s : ScenarioValue) (p : List Row) (row : Row) (n : Connection) : Type 0 where
@@ -54,9 +55,6 @@ turn_goes p q n e f io t r o l h z i = let u = h (sym r.turned_is ∙ z) i in le
 pub turn_test : (q : Bool) (a t : ℕ) → (q ≡ true → a ≤ t) → implies q (nat_le a t) ≡ true
 turn_test true a t h = let w = h refl in grind (arith, nat_tests)
 turn_test false a t h = refl
-
-pub le_test : (a t : ℕ) → a ≤ t → nat_le a t ≡ true
-le_test a t h = grind (arith, nat_tests)
 
 -- The device that received a byte in the row.
 pub receives_if : (q : Bool) (o : Option ℕ) (a d : ℕ) → o ≡ (if q then Some a else None) → is_of_device o d ≡ true → d ≡ a

@@ -26,3 +26,5 @@ pub mod PulseStarts
 pub mod PulseEnds
 pub mod FromLink
 pub mod Traces
+pub mod UnitContents
+pub mod RunLengths

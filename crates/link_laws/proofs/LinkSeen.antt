@@ -24,7 +24,7 @@ use Rattle.bus_rules.specs.Seen.{seen, seen_with, others_in_call, id_since, driv
 use Rattle.bus_rules.specs.Rules.{keeps, first_broken, judged_rules, lowest_broken, broken_rule}
 use Rattle.bus_rules.specs.Transfer.{has_parity}
 use Rattle.bus_rules.specs.Messages.{keeps_messages, keeps_command}
-use Rattle.bus_rules.proofs.First.{none_broken}
+use Rattle.bus_rules.proofs.First.{none_broken, kept_step, all_kept}
 use Rattle.bus_laws.specs.Ends.{EndLines, initiator_side, target_side, Linked}
 use Rattle.link_laws.specs.Books.{is_row_of_connection, KeepsBooksIn}
 
@@ -130,14 +130,6 @@ wire_rules = 1 ∷ 2 ∷ 3 ∷ 4 ∷ 5 ∷ 6 ∷ 7 ∷ 8 ∷ 9 ∷ 10 ∷ 11 ∷
 
 abbrev pub wire_broken : Seen → Row → Option ℕ
 wire_broken v row = first_broken (λ n. keeps n v row) wire_rules
-
-kept_step : (kept : ℕ → Bool) (n : ℕ) (ns : List ℕ) (q : Bool) → kept n ≡ q → (first_broken kept ns ≡ None → AllByRecursion (λ m. kept m ≡ true) ns) → cond q (first_broken kept ns) (Some n) ≡ None → AllByRecursion (λ m. kept m ≡ true) (n ∷ ns)
-kept_step kept n ns true h later e = (h, later e)
-kept_step kept n ns false h later e = absurd cc
-
-all_kept : (kept : ℕ → Bool) (ns : List ℕ) → first_broken kept ns ≡ None → AllByRecursion (λ n. kept n ≡ true) ns
-all_kept kept [] e = tt
-all_kept kept (n ∷ ns) e = kept_step kept n ns (kept n) refl (λ later. all_kept kept ns later) e
 
 with_books : (v : Seen) (row : Row) → wire_broken v row ≡ None → keeps 17 v row ≡ true → keeps 25 v row ≡ true → keeps 26 v row ≡ true → lowest_broken v row ≡ None
 with_books v row w h17 h25 h26 =

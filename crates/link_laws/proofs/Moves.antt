@@ -20,12 +20,8 @@ use Rattle.bus_dialogue.specs.Hearing.{begun, begun_after}
 use Rattle.bus_laws.specs.Rows.{change_to, row_of_lines}
 use Rattle.bus_laws.specs.Ends.{EndLines, initiator_side, target_side, connected_bus, Linked}
 use Rattle.bus_laws.proofs.Rows.{change_is, stands_after, drives_own, drives_other}
-use Rattle.bus_laws.proofs.Tests.{or_true}
 use Rattle.link_laws.specs.Phases.{ends}
-
-pub or_false : (q : Bool) → (q || false) ≡ q
-or_false true = refl
-or_false false = refl
+use Rattle.bus_base.proofs.Tests.{or_true, or_false}
 
 pub both_sides : (e : EndLines) → union (initiator_side e) (target_side e) ≡ connected_bus e
 both_sides e = λ i. record (connected_bus e) { bsy = or_true e.bsy i; ack = or_false e.ack i; atn = or_false e.atn i }

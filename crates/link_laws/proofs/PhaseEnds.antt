@@ -2,7 +2,7 @@
 use Rattle.std.proofs.Common.{inl, inr, ℕ, ◌≡◌, ◌≤◌, ◌<◌, ◌+◌, Bool, true, false, not, ◌&&◌, ◌||◌, ◌==◌, ◌∙◌, List, [], ◌∷◌, ◌++◌, Option, Some, None, refl, sym, ap, subst, arith}
 use Rattle.std.specs.Prelude.{if◌then◌else◌, nat_lt, length}
 use Rattle.bus_dialogue.specs.Exchange.{bytes_of_messages}
-use Rattle.std.proofs.lemmas.Bool.{cases_eq, and_parts}
+use Rattle.std.proofs.lemmas.Bool.{cases_eq, and_parts, not-true}
 use Rattle.bus_base.specs.declared.ProcId.{ProcId}
 use Rattle.bus_base.specs.declared.Event.{Event}
 use Rattle.cdb_codec.specs.declared.status.TheConstants.{CHECK_CONDITION}
@@ -43,7 +43,6 @@ use Rattle.bus_laws.specs.Ends.{EndLines, initiator_side, target_side, connected
 use Rattle.bus_laws.proofs.Rows.{change_is, stands_after, stage_is, since_is, drives_own, drives_other}
 use Rattle.bus_laws.proofs.Dues.{is_there, is_entry, free_due_is}
 use Rattle.bus_laws.proofs.Apart.{change_plain}
-use Rattle.bus_laws.proofs.FromReset.{ends_link}
 use Rattle.link_laws.specs.Books.{KeepsBooksIn}
 use Rattle.link_laws.specs.Phases.{ends, Shaking}
 use Rattle.link_laws.specs.LinkStages.{LinkStage, when_settling, when_turning}
@@ -56,6 +55,7 @@ use Rattle.link_laws.proofs.Goes.{NextLinked, turn_test}
 use Rattle.link_laws.proofs.Leaves.{may_leave, leaves_well}
 use Rattle.link_laws.proofs.Shakes.{target_row}
 use Rattle.link_laws.proofs.Enters.{settles_in, settles_out, turns_in}
+use Rattle.bus_story.proofs.StorySteps.{events_link, event_link}
 
 -- What a row does with which the connection ends.
 pub record NextFree (s : ScenarioValue) (p : List Row) (row : Row) : Type 0 where
@@ -79,10 +79,6 @@ leaves_lines v false true false atn x y k = leaves_well v phases.Command atn
 leaves_lines v false false true atn x y k = leaves_well v phases.DataIn atn
 leaves_lines v false false false atn x y k = leaves_well v phases.DataOut atn
 leaves_lines v true false io atn x y k = absurd cc
-
-unsame : (q : Bool) → not q ≡ true → q ≡ false
-unsame true e = sym e
-unsame false e = refl
 
 -- ---- a phase to the initiator is left
 
@@ -132,27 +128,6 @@ out_to s p n msg cd msg' cd' io' t always order h differs known books =
     next false differs = when_settling false false msg' cd' false 0 (settles_out s p n false msg cd false 0 msg' cd' t always order h.linked differs (let u = h.phase.began in let w = h.settled in omega arith) known refl h.phase.owes)
 
 -- ---- BUS FREE
-
-check_link : (b : Story) (id : ProcId) (status : ℕ) → (with_check b id status).link ≡ b.link
-check_link b id status = go (not id.sense && status == CHECK_CONDITION)
-  where
-    go : (q : Bool) → (if q then record b { sent = record b.sent { checks = b.sent.checks ++ id.command ∷ [] } } else b).link ≡ b.link
-    go true = refl
-    go false = refl
-
-event_link : (s : ScenarioValue) (b : Story) (e : Event) → (story_after_event s b e).link ≡ b.link
-event_link s b (events.Accept id) = refl
-event_link s b (events.Refuse id) = refl
-event_link s b (events.Run id) = refl
-event_link s b (events.Fail id code) = refl
-event_link s b (events.End id status) = check_link (story_with_end b id (by_status status)) id status
-event_link s b (events.Lost id) = refl
-event_link s b (events.Aborted host target unit what) = ends_link (is_aborted host target unit what) (is_sense_stopped host target unit what) by_abort 1 s.commands b
-event_link s b (events.Reset dev) = ends_link (λ c. true) (λ c. true) by_reset 1 s.commands b
-
-events_link : (s : ScenarioValue) (b : Story) (shown : List Event) → (story_after_events s b shown).link ≡ b.link
-events_link s b [] = refl
-events_link s b (e ∷ shown) = event_link s (story_after_events s b shown) e ∙ events_link s b shown
 
 link_ends : (s : ScenarioValue) (p : List Row) (row : Row) (n : Connection) → AreOfDevices p → row.dev < 8 → connection p ≡ Some n → connection (row ∷ p) ≡ None → (run_state s (row ∷ p)).story.link ≡ None
 link_ends s p row n h lt stood alone =
@@ -224,22 +199,22 @@ leaves_in s p n atn msg cd y t v l None always order h k books = frees (no_atten
         frees_bus s p n msg cd true y t always order h.linked (obeys_linked p (row_of_lines t n.target none) n e c h.linked (freeing_change p n e t h.linked refl) refl books (freeing_in_obeys (around p n.target n c) n msg cd y t h.linked.apart order h.unpulsed))
 leaves_in s p n atn msg cd y t v l (Some phases.DataOut) always order h k books =
     let w = and_parts (not (same_phases msg cd true false false false)) (implies (true && atn) false) k in
-    goes_on (in_to_out s p n atn msg cd y false false t always order h (unsame _ w.0) refl w.1 books)
+    goes_on (in_to_out s p n atn msg cd y false false t always order h (not-true _ w.0) refl w.1 books)
 leaves_in s p n atn msg cd y t v l (Some phases.DataIn) always order h k books =
     let w = and_parts (not (same_phases msg cd true false false true)) (implies (true && atn) false) k in
-    goes_on (in_to_in s p n atn msg cd y false false _ t always order h (unsame _ w.0) refl w.1 books)
+    goes_on (in_to_in s p n atn msg cd y false false _ t always order h (not-true _ w.0) refl w.1 books)
 leaves_in s p n atn msg cd y t v l (Some phases.Command) always order h k books =
     let w = and_parts (not (same_phases msg cd true false true false)) (implies (true && atn) false) k in
-    goes_on (in_to_out s p n atn msg cd y false true t always order h (unsame _ w.0) refl w.1 books)
+    goes_on (in_to_out s p n atn msg cd y false true t always order h (not-true _ w.0) refl w.1 books)
 leaves_in s p n atn msg cd y t v l (Some phases.Status) always order h k books =
     let w = and_parts (not (same_phases msg cd true false true true)) (implies (true && atn) false) k in
-    goes_on (in_to_in s p n atn msg cd y false true _ t always order h (unsame _ w.0) refl w.1 books)
+    goes_on (in_to_in s p n atn msg cd y false true _ t always order h (not-true _ w.0) refl w.1 books)
 leaves_in s p n atn msg cd y t v l (Some phases.MessageOut) always order h k books =
     let w = and_parts (not (same_phases msg cd true true true false)) (implies (true && atn) true) k in
-    goes_on (in_to_out s p n atn msg cd y true true t always order h (unsame _ w.0) refl w.1 books)
+    goes_on (in_to_out s p n atn msg cd y true true t always order h (not-true _ w.0) refl w.1 books)
 leaves_in s p n atn msg cd y t v l (Some phases.MessageIn) always order h k books =
     let w = and_parts (not (same_phases msg cd true true true true)) (implies (true && atn) false) k in
-    goes_on (in_to_in s p n atn msg cd y true true _ t always order h (unsame _ w.0) refl w.1 books)
+    goes_on (in_to_in s p n atn msg cd y true true _ t always order h (not-true _ w.0) refl w.1 books)
 
 leaves_out : (s : ScenarioValue) (p : List Row) (n : Connection) (msg cd : Bool) (t : ℕ) (v : Serving) (l : Leaving) (o : Option Phase) → CalmStanding s p → last_time p ≤ t → Shaking p n msg cd false false false false 0 0 → may_leave msg cd false false o ≡ true → KeepsBooksIn p (row_of_lines t n.target (lines_by v false l o))
     → AfterLink s p (row_of_lines t n.target (lines_by v false l o)) n
@@ -247,12 +222,12 @@ leaves_out s p n msg cd t v l None always order h k books =
     let e : EndLines = ends false false false 0 msg cd false false 0 in
     let c : Change = change_to (connected_bus e) none (target_side e) none in
     frees (frees_bus s p n msg cd false 0 t always order h.linked (obeys_linked p (row_of_lines t n.target none) n e c h.linked (freeing_change p n e t h.linked refl) refl books (freeing_out_obeys (around p n.target n c) n msg cd t h.linked.apart order h.unpulsed)))
-leaves_out s p n msg cd t v l (Some phases.DataOut) always order h k books = goes_on (out_to s p n msg cd false false false t always order h (unsame _ (and_parts (not (same_phases msg cd false false false false)) true k).0) refl books)
-leaves_out s p n msg cd t v l (Some phases.DataIn) always order h k books = goes_on (out_to s p n msg cd false false true t always order h (unsame _ (and_parts (not (same_phases msg cd false false false true)) true k).0) refl books)
-leaves_out s p n msg cd t v l (Some phases.Command) always order h k books = goes_on (out_to s p n msg cd false true false t always order h (unsame _ (and_parts (not (same_phases msg cd false false true false)) true k).0) refl books)
-leaves_out s p n msg cd t v l (Some phases.Status) always order h k books = goes_on (out_to s p n msg cd false true true t always order h (unsame _ (and_parts (not (same_phases msg cd false false true true)) true k).0) refl books)
-leaves_out s p n msg cd t v l (Some phases.MessageOut) always order h k books = goes_on (out_to s p n msg cd true true false t always order h (unsame _ (and_parts (not (same_phases msg cd false true true false)) true k).0) refl books)
-leaves_out s p n msg cd t v l (Some phases.MessageIn) always order h k books = goes_on (out_to s p n msg cd true true true t always order h (unsame _ (and_parts (not (same_phases msg cd false true true true)) true k).0) refl books)
+leaves_out s p n msg cd t v l (Some phases.DataOut) always order h k books = goes_on (out_to s p n msg cd false false false t always order h (not-true _ (and_parts (not (same_phases msg cd false false false false)) true k).0) refl books)
+leaves_out s p n msg cd t v l (Some phases.DataIn) always order h k books = goes_on (out_to s p n msg cd false false true t always order h (not-true _ (and_parts (not (same_phases msg cd false false false true)) true k).0) refl books)
+leaves_out s p n msg cd t v l (Some phases.Command) always order h k books = goes_on (out_to s p n msg cd false true false t always order h (not-true _ (and_parts (not (same_phases msg cd false false true false)) true k).0) refl books)
+leaves_out s p n msg cd t v l (Some phases.Status) always order h k books = goes_on (out_to s p n msg cd false true true t always order h (not-true _ (and_parts (not (same_phases msg cd false false true true)) true k).0) refl books)
+leaves_out s p n msg cd t v l (Some phases.MessageOut) always order h k books = goes_on (out_to s p n msg cd true true false t always order h (not-true _ (and_parts (not (same_phases msg cd false true true false)) true k).0) refl books)
+leaves_out s p n msg cd t v l (Some phases.MessageIn) always order h k books = goes_on (out_to s p n msg cd true true true t always order h (not-true _ (and_parts (not (same_phases msg cd false true true true)) true k).0) refl books)
 
 -- Where no byte follows: ATN is false after bytes to the target.
 follows_is : (s : ScenarioValue) (p : List Row) (n : Connection) (msg cd io atn : Bool) (x y : ℕ) → Shaking p n msg cd io false false atn x y

@@ -25,6 +25,7 @@ use Rattle.link_laws.specs.Phases.{ends}
 use Rattle.link_laws.specs.Pulses.{times_here, offset_here, run_count, next_bits, given_here, target_time, initiator_time, target_next_at, initiator_next_at}
 use Rattle.link_laws.proofs.EndDues.{offering_with, target_plain, initiator_plain, target_is, initiator_is, sampled_or, sampled_by, is_sampling}
 use Rattle.link_laws.proofs.PulseDues.{hold_end_time, pulse_time, leaving_time, ack_pulse_end_time, answer_time, release_time, byte_driven_time, target_choice, initiator_choice, given_bits, pulsed_target_in, pulsed_target_out, pulsed_initiator_in, pulsed_initiator_out}
+use Rattle.bus_base.proofs.Tests.{none_number}
 
 -- ---- these are the times of what is due
 
@@ -45,9 +46,6 @@ pub record DueAt (o : Option Due) (time : ℕ) : Type 0 where
 some_nat : (a b : ℕ) → (let o : Option ℕ = Some a in o) ≡ Some b → a ≡ b
 some_nat a b e = cc
 
-none_nat : (b : ℕ) → (let o : Option ℕ = None in o) ≡ Some b → ⊥
-none_nat b e = cc
-
 at_lines : (t u : ℕ) (l : LineSet) → (let o : Option ℕ = Some t in o) ≡ Some u → DueAt (due_at t l) u
 at_lines t u l e = record { due = record { time = t; kind = Drives l }; is = refl; at = some_nat t u e }
 
@@ -55,8 +53,8 @@ choice_due : (a b c d f : Bool) (ta tb tc td : ℕ) (la lb lc ld : LineSet) (u :
 choice_due true b c d f ta tb tc td la lb lc ld u e = at_lines ta u la e
 choice_due false true c d f ta tb tc td la lb lc ld u e = at_lines tb u lb e
 choice_due false false true true f ta tb tc td la lb lc ld u e = at_lines tc u lc e
-choice_due false false true false f ta tb tc td la lb lc ld u e = absurd (none_nat u e)
-choice_due false false false d true ta tb tc td la lb lc ld u e = absurd (none_nat u e)
+choice_due false false true false f ta tb tc td la lb lc ld u e = absurd (none_number u e)
+choice_due false false false d true ta tb tc td la lb lc ld u e = absurd (none_number u e)
 choice_due false false false d false ta tb tc td la lb lc ld u e = at_lines td u ld e
 
 in_choice_time : (a w s n : Bool) (ta tb : ℕ) (c d e : ℕ) (la lb : LineSet) (x : Due) → initiator_choice a w (due_at ta la) (due_at tb lb) None ≡ Some x → initiator_time a w true s n ta tb c d e ≡ Some x.time
@@ -67,7 +65,7 @@ in_choice_time false false s n ta tb c d e la lb x f = absurd (none_some x f)
 in_choice_due : (a w s n : Bool) (ta tb : ℕ) (c d e : ℕ) (la lb : LineSet) (u : ℕ) → initiator_time a w true s n ta tb c d e ≡ Some u → DueAt (initiator_choice a w (due_at ta la) (due_at tb lb) None) u
 in_choice_due true w s n ta tb c d e la lb u f = at_lines ta u la f
 in_choice_due false true s n ta tb c d e la lb u f = at_lines tb u lb f
-in_choice_due false false s n ta tb c d e la lb u f = absurd (none_nat u f)
+in_choice_due false false s n ta tb c d e la lb u f = absurd (none_number u f)
 
 abbrev out_choice : (a w s n : Bool) → Option Due → Option Due → Option Due → Option Due → Option Due
 out_choice a w s n p q r t = initiator_choice a w p (if s then q else r) (if n then None else t)
@@ -83,7 +81,7 @@ out_choice_due : (a w s n : Bool) (ta b tc td te : ℕ) (la lc ld le : LineSet) 
 out_choice_due true w s n ta b tc td te la lc ld le u f = at_lines ta u la f
 out_choice_due false true true n ta b tc td te la lc ld le u f = at_lines tc u lc f
 out_choice_due false true false n ta b tc td te la lc ld le u f = at_lines td u ld f
-out_choice_due false false s true ta b tc td te la lc ld le u f = absurd (none_nat u f)
+out_choice_due false false s true ta b tc td te la lc ld le u f = absurd (none_number u f)
 out_choice_due false false s false ta b tc td te la lc ld le u f = at_lines te u le f
 
 -- ---- of the rows

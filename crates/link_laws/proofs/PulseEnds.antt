@@ -1,7 +1,7 @@
 -- The row with which the target leaves a data phase by pulses (6.1.5.2, 6.1.10).
 use Rattle.std.proofs.Common.{ℕ, ◌≡◌, ◌≤◌, ◌+◌, Bool, true, false, not, ◌&&◌, ◌==◌, ◌∙◌, List, ◌∷◌, length, Option, Some, None, refl, sym, ap, subst, arith}
 use Rattle.std.specs.Prelude.{if◌then◌else◌, is_some, max}
-use Rattle.std.proofs.lemmas.Bool.{and_parts}
+use Rattle.std.proofs.lemmas.Bool.{and_parts, le-leb, eq-eqb}
 use Rattle.std.proofs.lemmas.Bool.Decides.{nat_tests}
 use Rattle.bus_trace.specs.LineSet.{LineSet, none, union}
 use Rattle.bus_trace.specs.declared.Row.{Row}
@@ -30,7 +30,6 @@ use Rattle.bus_due.specs.Own.{own_of}
 use Rattle.bus_laws.specs.Rows.{row_of_lines, change_to}
 use Rattle.bus_laws.specs.Stages.{CalmStanding}
 use Rattle.bus_laws.specs.Ends.{EndLines, initiator_side, target_side, connected_bus, Linked}
-use Rattle.bus_laws.proofs.Tests.{eq_self}
 use Rattle.bus_laws.proofs.Rows.{drives_own, drives_other}
 use Rattle.bus_trace.proofs.Buses.{bus_two}
 use Rattle.link_laws.specs.Books.{is_row_of_connection, KeepsBooksIn}
@@ -40,7 +39,7 @@ use Rattle.link_laws.specs.Pulses.{times_here, Pulsing, NoSooner, answers_at, dr
 use Rattle.link_laws.proofs.Moves.{target_moves, terms_of}
 use Rattle.link_laws.proofs.LinkSeen.{around, obeys_linked}
 use Rattle.link_laws.proofs.LinkObeys.{same_phases}
-use Rattle.link_laws.proofs.Goes.{NextLinked, turn_test, le_test}
+use Rattle.link_laws.proofs.Goes.{NextLinked, turn_test}
 use Rattle.link_laws.proofs.Shakes.{target_row}
 use Rattle.link_laws.proofs.Enters.{enters, settles_in, settles_out, begins_phase, not_owed}
 use Rattle.link_laws.proofs.Leaves.{may_leave, is_to_initiator}
@@ -48,23 +47,17 @@ use Rattle.link_laws.proofs.PhaseEnds.{freeing_change}
 use Rattle.link_laws.proofs.PulseObeys.{pulsed_goes_on_in, pulsed_turns_out, pulsed_turns_in}
 use Rattle.link_laws.proofs.PulseSteps.{of_no_sooner}
 use Rattle.link_laws.proofs.PulseRows.{PulseHere, later_initiator_out, own_ack_other}
-
--- All pulses are answered.
-none_long : (a : ℕ) → (a == 0) ≡ true → a ≡ 0
-none_long a e = grind (arith, nat_tests)
+use Rattle.bus_base.proofs.Tests.{eq_self, zero_of}
 
 some_of : (a b : ℕ) → a ≡ b → (a == 0) ≡ false → (b == 0) ≡ false
 some_of a b e f = grind (arith, nat_tests)
 
 all_answered : (s : ScenarioValue) (p : List Row) (n : Connection) (io req ack atn : Bool) (x y : ℕ) → Pulsing s p n io req ack atn x y → (length (handshakes p).waiting == 0) ≡ true → (pulses p).req ≡ (pulses p).ack
 all_answered s p n io req ack atn x y h none =
-    let w = none_long (length (handshakes p).waiting) none in
+    let w = zero_of (length (handshakes p).waiting) none in
     let u = h.facts.counts in
     let a : (handshakes p).requests ≡ (handshakes p).answers = omega arith in
     ap (λ (k : Pulses). k.req) h.pulses_are ∙ a ∙ sym (ap (λ (k : Pulses). k.ack) h.pulses_are)
-
-equal : (a b : ℕ) → a ≡ b → (a == b) ≡ true
-equal a b e = grind (arith, nat_tests)
 
 -- The bus is not freed in a data phase.
 not_freed : (p : List Row) (n : Connection) (atn io : Bool) (x y t : ℕ) → Linked p n (ends false false atn x false false io false y) → KeepsBooksIn p (row_of_lines t n.target none) → ((bus (row_of_lines t n.target none ∷ p)).bsy ≡ false) → ((bus (row_of_lines t n.target none ∷ p)).rst ≡ false) → ⊥
@@ -80,10 +73,10 @@ pub pulsed_leaves_in : (s : ScenarioValue) (p : List Row) (n : Connection) (atn 
 pulsed_leaves_in s p n atn y t v l o always order h idle held k books = go o k books
   where
     hold_test : is_after (pulses p).last_req (times_here p).hold t ≡ true
-    hold_test = ap (λ (w : Pulses). is_after w.last_req (times_here p).hold t) h.pulses_are ∙ le_test _ t held
+    hold_test = ap (λ (w : Pulses). is_after w.last_req (times_here p).hold t) h.pulses_are ∙ le-leb _ t held
 
     even : ((pulses p).req == (pulses p).ack) ≡ true
-    even = equal (pulses p).req (pulses p).ack (all_answered s p n true false false atn 0 y h idle)
+    even = eq-eqb (pulses p).req (pulses p).ack (all_answered s p n true false false atn 0 y h idle)
 
     began : n.began ≤ last_time p
     began = let u = h.phase.began in let w = h.settled in omega arith
@@ -144,13 +137,13 @@ to_initiator s p n x msg' cd' t other differs known idle h =
     let order = h.order in
     let began : n.began ≤ t = let u = hp.phase.began in let v = hp.settled in omega arith in
     let count = hp.facts.counts in
-    let empty = none_long (length (handshakes p).waiting) idle in
+    let empty = zero_of (length (handshakes p).waiting) idle in
     let answered = some_of (handshakes p).requests (handshakes p).answers (omega arith) hp.facts.asked in
     let raised = hp.facts.raised_is answered in
     let past = hp.facts.ack_past in
     record {
       order = order;
-      obeys = obeys_linked p row n e c hp.linked m.change refl h.books (pulsed_turns_in (around p n.target n c) n false x msg' cd' t hp.linked.apart order (equal (pulses p).req (pulses p).ack (all_answered s p n false false false false x 0 hp idle)));
+      obeys = obeys_linked p row n e c hp.linked m.change refl h.books (pulsed_turns_in (around p n.target n c) n false x msg' cd' t hp.linked.apart order (eq-eqb (pulses p).req (pulses p).ack (all_answered s p n false false false false x 0 hp idle)));
       stage = when_turning false x msg' cd' (record {
         linked = m.linked;
         phase = begins_phase p q n false x false false false 0 msg' cd' true 0 t w began known refl hp.phase.owes;

@@ -26,24 +26,19 @@ use Rattle.bus_due.specs.Defs.{host_of}
 use Rattle.bus_due.specs.Own.{own_of}
 use Rattle.bus_laws.specs.Rows.{change_to}
 use Rattle.bus_laws.specs.Ends.{EndLines, initiator_side, target_side, connected_bus}
-use Rattle.bus_laws.proofs.Tests.{or_true}
 use Rattle.link_laws.specs.Phases.{ends}
 use Rattle.link_laws.specs.Pulses.{times_here, offset_here, pulses_of, Reached, run_count, next_bits, given_here, target_next, initiator_next, answers_at, NoSooner}
 use Rattle.link_laws.proofs.Moves.{initiator_moves, target_moves, initiator_in_phase, target_in_phase, same_line, no_rise}
 use Rattle.link_laws.proofs.LinkSeen.{around, obeys_linked}
-use Rattle.link_laws.proofs.Goes.{turn_test, receives_if, data_by, le_test}
-use Rattle.link_laws.proofs.Shakes.{target_row, initiator_row}
+use Rattle.link_laws.proofs.Goes.{turn_test, receives_if, data_by}
+use Rattle.link_laws.proofs.Shakes.{target_row, initiator_row, or_asks}
 use Rattle.link_laws.proofs.PulseObeys.{byte_change_obeys, req_pulse_in, MayAnswer, ack_pulse_in, ack_end_in}
-use Rattle.link_laws.proofs.PulseRows.{NextPulsing, PulseHere, later_target_in, later_initiator_in, data_row, target_next_is, initiator_next_is, own_ack_other, own_ack_own, pulsing_goes, fresh_next, same_latency, lengthens, data_stands, room_same, room_now}
-use Rattle.link_laws.proofs.PulseSteps.{one_more, req_rises_facts, ack_rises_facts, ack_falls_facts, still_facts, opened_is, first_stays, first_new, one_less, target_after, none_no_sooner, some_no_sooner, of_no_sooner}
+use Rattle.link_laws.proofs.PulseRows.{NextPulsing, PulseHere, later_target_in, later_initiator_in, data_row, target_next_is, initiator_next_is, own_ack_other, own_ack_own, pulsing_goes, fresh_next, same_latency, data_stands, room_same, room_now}
+use Rattle.link_laws.proofs.PulseSteps.{more_asked, one_more, req_rises_facts, ack_rises_facts, ack_falls_facts, still_facts, opened_is, first_stays, first_new, one_less, target_after, none_no_sooner, some_no_sooner, of_no_sooner}
+use Rattle.std.proofs.lemmas.Bool.{lt-ltb, ltb-true, le-leb}
+use Rattle.bus_base.proofs.Tests.{or_true}
 
 -- ---- REQ rises again
-
-pub lt_of : (a b : ℕ) → nat_lt a b ≡ true → a < b
-lt_of a b e = grind (arith, nat_tests)
-
-pub lt_test : (a b : ℕ) → a < b → nat_lt a b ≡ true
-lt_test a b h = grind (arith, nat_tests)
 
 -- A request more waits; the oldest of them is the same, or it is the new one.
 pub waits_more : (t : ℕ) (w : List Request) → length w < 255 → (not (length (opened t w) == 0)) ≡ true
@@ -72,8 +67,8 @@ asked_in h false atn t tack tatn z lag raised g g' lat few f =
 
 pub req_pulses_in : (s : ScenarioValue) (p : List Row) (n : Connection) (ack atn : Bool) (y t lat0 : ℕ) → latency_of s n.target ≡ Some lat0
     → t ≡ max (max ((handshakes p).last_req + (times_here p).period) ((line_times p).req + (times_here p).negation)) (max (room_by (offset_here p) (handshakes p)) ((handshakes p).last_req + (times_here p).hold + lat0 + (times_here p).set_up)) + lat0
-    → nat_lt (length (handshakes p).waiting) (offset_here p) ≡ true → implies (is_owed (duty p)) false ≡ true → PulseHere s p (target_row t n (ends false ack atn 0 false false true true y)) n true false ack atn 0 y → NextPulsing s p (target_row t n (ends false ack atn 0 false false true true y)) n true true ack atn 0 y
-req_pulses_in s p n ack atn y t lat0 there0 at room owed h =
+    → nat_lt (handshakes p).requests (run_count s p n) ≡ true → nat_lt (length (handshakes p).waiting) (offset_here p) ≡ true → implies (is_owed (duty p)) false ≡ true → PulseHere s p (target_row t n (ends false ack atn 0 false false true true y)) n true false ack atn 0 y → NextPulsing s p (target_row t n (ends false ack atn 0 false false true true y)) n true true ack atn 0 y
+req_pulses_in s p n ack atn y t lat0 there0 at follows room owed h =
     let e : EndLines = ends false ack atn 0 false false true false y in
     let f : EndLines = ends false ack atn 0 false false true true y in
     let row : Row = target_row t n f in
@@ -90,7 +85,7 @@ req_pulses_in s p n ack atn y t lat0 there0 at room owed h =
     let eo : (own_of q n.initiator).ack ≡ (own_of p n.initiator).ack = own_ack_other p row n.initiator hp.linked.apart in
     let eg = r.agreement_is refl refl in
     let order = h.order in
-    let few = lt_of (length hs.waiting) (offset_here p) room in
+    let few = ltb-true (length hs.waiting) (offset_here p) room in
     let byte = hp.byte_offset in
     let count = hp.facts.counts in
     let settled = hp.settled in
@@ -101,13 +96,13 @@ req_pulses_in s p n ack atn y t lat0 there0 at room owed h =
       obeys = obeys_linked p row n e c hp.linked m.change refl h.books (req_pulse_in (around p n.target n c) n ack atn y t (record {
         asks = record { apart = hp.linked.apart; order = order; settled = omega arith; began = let u = hp.phase.began in omega arith; known = refl; duty = owed };
         offset = hp.offset;
-        period = ap (λ (k : Pulses). is_after k.last_req (times_here p).period t) pu ∙ le_test _ t (omega arith);
-        negation = ap (λ (k : Pulses). not (is_some k.last_req) || nat_le ((line_times p).req + (times_here p).negation) t) pu ∙ le_test _ t (omega arith);
-        room = ap (λ (k : Pulses). offset_here p == 255 || nat_lt k.req (k.ack + offset_here p)) pu ∙ ap (λ (b : Bool). offset_here p == 255 || b) (lt_test hs.requests (hs.answers + offset_here p) (omega arith)) ∙ or_true (offset_here p == 255);
+        period = ap (λ (k : Pulses). is_after k.last_req (times_here p).period t) pu ∙ le-leb _ t (omega arith);
+        negation = ap (λ (k : Pulses). not (is_some k.last_req) || nat_le ((line_times p).req + (times_here p).negation) t) pu ∙ le-leb _ t (omega arith);
+        room = ap (λ (k : Pulses). offset_here p == 255 || nat_lt k.req (k.ack + offset_here p)) pu ∙ ap (λ (b : Bool). offset_here p == 255 || b) (lt-ltb hs.requests (hs.answers + offset_here p) (omega arith)) ∙ or_true (offset_here p == 255);
       }) (turn_test (turned p) ((line_times p).io + 800) t (λ w. let u = hp.turned w refl in omega arith)) (omega arith));
-      pulsing = pulsing_goes s p q n true false ack atn 0 y true ack atn 0 y t (asked t hs) t (line_times p).ack (own_of p n.initiator).ack hp m.linked r refl order (lengthens p row) hp.phase.asks refl
+      pulsing = pulsing_goes s p q n true false ack atn 0 y true ack atn 0 y t (asked t hs) t (line_times p).ack (own_of p n.initiator).ack hp m.linked r refl order hp.phase.asks refl
           (r.pulses_are ∙ (λ i. record { req = counted_on (pu i).req; ack = count_after (no_rise ack i) (pu i).ack; last_req = Some t; last_ack = when (no_rise ack i) t (pu i).last_ack }))
-          eh r.req_is ea eo (req_rises_facts hs (line_times p).req (line_times p).ack (own_of p n.initiator).ack (times_here p).assertion (offset_here p) (length p) (last_time p) t ack hp.facts few byte h.short order)
+          eh r.req_is ea eo (req_rises_facts hs (line_times p).req (line_times p).ack (own_of p n.initiator).ack (times_here p).assertion (offset_here p) (last_time p) t ack hp.facts few byte (more_asked hs.requests (run_count s p n) follows h.short) order)
           (λ lat there. let u = data_by s p row h.always order in let v1 : (handshakes q).last_req ≡ t = ap (λ (k : Handshakes). k.last_req) eh in omega arith)
           (λ d. receives_if true (receiver q) n.initiator d r.receiver_is) (λ a b. absurd cc);
       ahead = record {
@@ -145,10 +140,10 @@ byte_changes_in s p n ack atn y t lat0 there0 at other h =
     let pu : pulses p ≡ pulses_of hs = hp.pulses_are in
     record {
       order = order;
-      obeys = obeys_linked p row n e c hp.linked m.change refl h.books (byte_change_obeys (around p n.target n c) n ack atn y z t hp.linked.apart order hp.offset other (ap (λ (k : Pulses). is_after k.last_req (times_here p).hold t) pu ∙ le_test _ t (omega arith)) (turn_test (turned p) ((line_times p).io + 800) t (λ w. let u = hp.turned w refl in omega arith)));
-      pulsing = pulsing_goes s p q n true false ack atn 0 y false ack atn 0 z t hs (line_times p).req (line_times p).ack (own_of p n.initiator).ack hp m.linked r refl order (lengthens p row) hp.phase.asks refl
+      obeys = obeys_linked p row n e c hp.linked m.change refl h.books (byte_change_obeys (around p n.target n c) n ack atn y z t hp.linked.apart order hp.offset other (ap (λ (k : Pulses). is_after k.last_req (times_here p).hold t) pu ∙ le-leb _ t (omega arith)) (turn_test (turned p) ((line_times p).io + 800) t (λ w. let u = hp.turned w refl in omega arith)));
+      pulsing = pulsing_goes s p q n true false ack atn 0 y false ack atn 0 z t hs (line_times p).req (line_times p).ack (own_of p n.initiator).ack hp m.linked r refl order hp.phase.asks refl
           (r.pulses_are ∙ (λ i. record { req = (pu i).req; ack = count_after (no_rise ack i) (pu i).ack; last_req = (pu i).last_req; last_ack = when (no_rise ack i) t (pu i).last_ack }))
-          eh r.req_is ea eo (still_facts hs (line_times p).req (line_times p).ack (own_of p n.initiator).ack (times_here p).assertion (offset_here p) (length p) (last_time p) t false ack hp.facts order)
+          eh r.req_is ea eo (still_facts hs (line_times p).req (line_times p).ack (own_of p n.initiator).ack (times_here p).assertion (offset_here p) (last_time p) t false ack hp.facts order)
           (λ lat there. let same = same_latency s n.target lat lat0 there there0 in let u = data_by s p row h.always order in let v1 = ap (λ (k : Handshakes). k.last_req) eh in let v2 = ap (λ (k : Agreement). (times_of k.period).hold) eg in omega arith)
           (λ d. receives_if false (receiver q) n.initiator d r.receiver_is) (λ a b. absurd cc);
       ahead = record {
@@ -168,14 +163,14 @@ last_ack_test h delay t f = go (h.answers == 0) f
   where
     go : (b : Bool) → (b ≡ false → h.last_ack + delay ≤ t) → is_after (if b then None else Some h.last_ack) delay t ≡ true
     go true f = refl
-    go false f = le_test _ t (f refl)
+    go false f = le-leb _ t (f refl)
 
 pub negation_test : (h : Handshakes) (a t : ℕ) → ((h.answers == 0) ≡ false → a ≤ t) → (not (is_some (if h.answers == 0 then None else Some h.last_ack)) || nat_le a t) ≡ true
 negation_test h a t f = go (h.answers == 0) f
   where
     go : (b : Bool) → (b ≡ false → a ≤ t) → (not (is_some (if b then None else Some h.last_ack)) || nat_le a t) ≡ true
     go true f = refl
-    go false f = le_test a t (f refl)
+    go false f = le-leb a t (f refl)
 
 -- An answer comes no sooner than a period after the last, and a negation period after its end.
 pub answer_late : (h : Handshakes) (tack lag : ℕ) (z : TransferTimes) → (h.answers == 0) ≡ false → (h.last_ack + z.period ≤ answers_at h tack lag z) × (tack + z.negation ≤ answers_at h tack lag z)
@@ -187,7 +182,7 @@ may_answer p dev n c t lag pu off order late count some = record {
   offset = off;
   period = ap (λ (k : Pulses). is_after k.last_ack (times_here p).period t) pu ∙ last_ack_test (handshakes p) (times_here p).period t (λ w. let u = (answer_late (handshakes p) (line_times p).ack lag (times_here p) w).0 in omega arith);
   negation = ap (λ (k : Pulses). not (is_some k.last_ack) || nat_le ((line_times p).ack + (times_here p).negation) t) pu ∙ negation_test (handshakes p) ((line_times p).ack + (times_here p).negation) t (λ w. let u = (answer_late (handshakes p) (line_times p).ack lag (times_here p) w).1 in omega arith);
-  waits = ap (λ (k : Pulses). nat_lt k.ack k.req) pu ∙ lt_test (handshakes p).answers (handshakes p).requests (let u = one_less (handshakes p).waiting some in omega arith);
+  waits = ap (λ (k : Pulses). nat_lt k.ack k.req) pu ∙ lt-ltb (handshakes p).answers (handshakes p).requests (let u = one_less (handshakes p).waiting some in omega arith);
 }
 
 pub or_held : (q : Bool) → (q || true) ≡ false → ⊥
@@ -205,12 +200,8 @@ answered_target io req y h tr ta z off run bits lat t reached few f =
     (λ e. absurd (or_held (not (length (drop 1 h.waiting) == 0)) e))
   where
     go : (q : Bool) → nat_lt (length h.waiting) off ≡ q → ((q ≡ true) × (max (max (h.last_req + z.period) (tr + z.negation)) (max (room_by off (answered t h)) (if io then h.last_req + z.hold + lat + z.set_up else 0)) + lat ≡ max (max (h.last_req + z.period) (tr + z.negation)) (max (room_by off h) (if io then h.last_req + z.hold + lat + z.set_up else 0)) + lat)) ⊎ (t ≤ max (max (h.last_req + z.period) (tr + z.negation)) (max (room_by off (answered t h)) (if io then h.last_req + z.hold + lat + z.set_up else 0)) + lat)
-    go true e = inl (refl, ap (λ (k : ℕ). max (max (h.last_req + z.period) (tr + z.negation)) (max k (if io then h.last_req + z.hold + lat + z.set_up else 0)) + lat) (room_same h off (lt_of (length h.waiting) off e) reached t))
+    go true e = inl (refl, ap (λ (k : ℕ). max (max (h.last_req + z.period) (tr + z.negation)) (max k (if io then h.last_req + z.hold + lat + z.set_up else 0)) + lat) (room_same h off (ltb-true (length h.waiting) off e) reached t))
     go false e = inr (let w = room_now h off t e reached few in omega arith)
-
-or_asks : (q : Bool) → implies q true ≡ true
-or_asks true = refl
-or_asks false = refl
 
 pub answers_pulse_in : (s : ScenarioValue) (p : List Row) (n : Connection) (req atn atn' : Bool) (y t lat0 : ℕ) → t ≡ answers_at (handshakes p) (line_times p).ack (lag_by (host_of s n.initiator)) (times_here p) + lat0 → (length (handshakes p).waiting == 0) ≡ false → PulseHere s p (initiator_row t n (ends false true atn' 0 false false true req y)) n true req false atn 0 y
     → NextPulsing s p (initiator_row t n (ends false true atn' 0 false false true req y)) n true req true atn' 0 y
@@ -231,11 +222,11 @@ answers_pulse_in s p n req atn atn' y t lat0 at some h =
     let eg = r.agreement_is refl refl in
     let order = h.order in
     let pu : pulses p ≡ pulses_of hs = hp.pulses_are in
-    let facts = ack_rises_facts hs (line_times p).req (line_times p).ack (own_of p n.initiator).ack (times_here p).assertion (offset_here p) (length p) (last_time p) t req hp.facts some h.short order in
+    let facts = ack_rises_facts hs (line_times p).req (line_times p).ack (own_of p n.initiator).ack (times_here p).assertion (offset_here p) (last_time p) t req hp.facts some order in
     record {
       order = order;
       obeys = obeys_linked p row n e c hp.linked m.change refl h.books (ack_pulse_in (around p n.initiator n c) n req atn atn' y t hp.linked.apart (may_answer p n.initiator n c t (lag_by (host_of s n.initiator)) pu hp.offset order (omega arith) hp.facts.counts some));
-      pulsing = pulsing_goes s p q n true req false atn 0 y req true atn' 0 y t (answered t hs) (line_times p).req t t hp m.linked r refl order (lengthens p row) (or_asks atn') refl
+      pulsing = pulsing_goes s p q n true req false atn 0 y req true atn' 0 y t (answered t hs) (line_times p).req t t hp m.linked r refl order (or_asks atn') refl
           (r.pulses_are ∙ (λ i. record { req = count_after (no_rise req i) (pu i).req; ack = counted_on (pu i).ack; last_req = when (no_rise req i) t (pu i).last_req; last_ack = Some t }) ∙ (λ i. record { req = hs.requests; ack = counted_on hs.answers; last_req = Some hs.last_req; last_ack = if sym (facts.ack_first refl) i then None else Some t }))
           eh er r.ack_is eo facts
           (λ lat there. let u = hp.driven lat there in let w = data_stands p row y r.data_is in let v1 = ap (λ (k : Handshakes). k.last_req) eh in let v2 = ap (λ (k : Agreement). (times_of k.period).hold) eg in omega arith)
@@ -293,9 +284,9 @@ ends_pulse_in s p n req atn y t lat0 at h =
     record {
       order = order;
       obeys = obeys_linked p row n e c hp.linked m.change refl h.books (ack_end_in (around p n.initiator n c) n req atn y t hp.linked.apart order hp.offset held);
-      pulsing = pulsing_goes s p q n true req true atn 0 y req false atn 0 y t hs (line_times p).req t (own_of p n.initiator).ack hp m.linked r refl order (lengthens p row) (or_asks atn) refl
+      pulsing = pulsing_goes s p q n true req true atn 0 y req false atn 0 y t hs (line_times p).req t (own_of p n.initiator).ack hp m.linked r refl order (or_asks atn) refl
           (r.pulses_are ∙ (λ i. record { req = count_after (no_rise req i) (pu i).req; ack = (pu i).ack; last_req = when (no_rise req i) t (pu i).last_req; last_ack = (pu i).last_ack }))
-          eh er r.ack_is eo (ack_falls_facts hs (line_times p).req (line_times p).ack (own_of p n.initiator).ack (times_here p).assertion (offset_here p) (length p) (last_time p) t req hp.facts held order)
+          eh er r.ack_is eo (ack_falls_facts hs (line_times p).req (line_times p).ack (own_of p n.initiator).ack (times_here p).assertion (offset_here p) (last_time p) t req hp.facts held order)
           (λ lat there. let u = hp.driven lat there in let w = data_stands p row y r.data_is in let v1 = ap (λ (k : Handshakes). k.last_req) eh in let v2 = ap (λ (k : Agreement). (times_of k.period).hold) eg in omega arith)
           (λ d. receives_if false (receiver q) n.initiator d (r.receiver_is ∙ ap (λ (b : Bool). if b then Some n.initiator else None) (no_rise req))) (λ a b. absurd cc);
       ahead = record {

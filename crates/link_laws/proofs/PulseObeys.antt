@@ -7,14 +7,12 @@ use Rattle.bus_trace.specs.Agreements.{times_of}
 use Rattle.bus_trace.specs.Changes.{implies}
 use Rattle.bus_trace.specs.declared.connection.Connection.{Connection}
 use Rattle.bus_rules.specs.Transfer.{is_after}
-use Rattle.bus_laws.proofs.Tests.{eq_self, eq_other}
 use Rattle.link_laws.specs.Phases.{ends}
 use Rattle.link_laws.proofs.LinkSeen.{Around}
 use Rattle.link_laws.proofs.LinkObeys.{target_breaks, initiator_breaks, same_phases, MayAsk}
 use Rattle.link_laws.proofs.EdgeObeys.{frees_bus}
-
-unlike : true ≡ false → ⊥
-unlike e = cc
+use Rattle.std.proofs.lemmas.Bool.{ne_eqb, true≢false}
+use Rattle.bus_base.proofs.Tests.{eq_self}
 
 -- REQ rises a period after the last pulse, a negation period after its end, and while there is room.
 pub record MayPulse (v : Around) (n : Connection) (io : Bool) (t : ℕ) : Type 0 where
@@ -29,29 +27,29 @@ pub req_pulse_in : (v : Around) (n : Connection) (ack atn : Bool) (y t : ℕ) �
 req_pulse_in v n ack atn y t h b d =
     let h0 = h.asks in let ne = h0.apart in let h1 = h0.order in let h2 = h0.settled in let h3 = h0.began in let h5 = h0.duty in
     let k1 = h.offset in let k2 = h.period in let k3 = h.negation in let k4 = h.room in
-    let e = eq_self n.target in let o = eq_other n.target n.initiator (λ w. ne (sym w)) in let u = or_self y in let w = eq_self y in grind (arith, nat_tests)
+    let e = eq_self n.target in let o = ne_eqb n.target n.initiator (λ w. ne (sym w)) in let u = or_self y in let w = eq_self y in grind (arith, nat_tests)
 
 pub req_pulse_out : (v : Around) (n : Connection) (ack atn : Bool) (x t : ℕ) → MayPulse v n false t
     → target_breaks v n (ends false ack atn x false false false false 0) (ends false ack atn x false false false true 0) t ≡ None
 req_pulse_out v n ack atn x t h =
     let h0 = h.asks in let ne = h0.apart in let h1 = h0.order in let h2 = h0.settled in let h3 = h0.began in let h5 = h0.duty in
     let k1 = h.offset in let k2 = h.period in let k3 = h.negation in let k4 = h.room in
-    let e = eq_self n.target in let o = eq_other n.target n.initiator (λ w. ne (sym w)) in let u = or_zero_r x in let w = eq_self x in grind (arith, nat_tests)
+    let e = eq_self n.target in let o = ne_eqb n.target n.initiator (λ w. ne (sym w)) in let u = or_zero_r x in let w = eq_self x in grind (arith, nat_tests)
 
 pub req_end_in : (v : Around) (n : Connection) (ack atn : Bool) (y t : ℕ) → n.initiator ≢ n.target → v.last ≤ t → nat_lt 0 v.agreement.offset ≡ true → v.times.req + (times_of v.agreement.period).assertion ≤ t → implies v.turned (nat_le (v.times.io + 800) t) ≡ true
     → target_breaks v n (ends false ack atn 0 false false true true y) (ends false ack atn 0 false false true false y) t ≡ None
 req_end_in v n ack atn y t ne a k b c =
-    let e = eq_self n.target in let o = eq_other n.target n.initiator (λ w. ne (sym w)) in let u = or_self y in let w = eq_self y in grind (arith, nat_tests)
+    let e = eq_self n.target in let o = ne_eqb n.target n.initiator (λ w. ne (sym w)) in let u = or_self y in let w = eq_self y in grind (arith, nat_tests)
 
 pub req_end_out : (v : Around) (n : Connection) (ack atn : Bool) (x t : ℕ) → n.initiator ≢ n.target → v.last ≤ t → nat_lt 0 v.agreement.offset ≡ true → v.times.req + (times_of v.agreement.period).assertion ≤ t
     → target_breaks v n (ends false ack atn x false false false true 0) (ends false ack atn x false false false false 0) t ≡ None
 req_end_out v n ack atn x t ne a k b =
-    let e = eq_self n.target in let o = eq_other n.target n.initiator (λ w. ne (sym w)) in let u = or_zero_r x in let w = eq_self x in grind (arith, nat_tests)
+    let e = eq_self n.target in let o = ne_eqb n.target n.initiator (λ w. ne (sym w)) in let u = or_zero_r x in let w = eq_self x in grind (arith, nat_tests)
 
 pub byte_change_obeys : (v : Around) (n : Connection) (ack atn : Bool) (y z t : ℕ) → n.initiator ≢ n.target → v.last ≤ t → nat_lt 0 v.agreement.offset ≡ true → (y == z) ≡ false → is_after v.pulses.last_req (times_of v.agreement.period).hold t ≡ true → implies v.turned (nat_le (v.times.io + 800) t) ≡ true
     → target_breaks v n (ends false ack atn 0 false false true false y) (ends false ack atn 0 false false true false z) t ≡ None
 byte_change_obeys v n ack atn y z t ne a k s b c =
-    let e = eq_self n.target in let o = eq_other n.target n.initiator (λ w. ne (sym w)) in grind (arith, nat_tests)
+    let e = eq_self n.target in let o = ne_eqb n.target n.initiator (λ w. ne (sym w)) in grind (arith, nat_tests)
 
 -- The initiator.
 pub record MayAnswer (v : Around) (t : ℕ) : Type 0 where
@@ -65,60 +63,60 @@ pub ack_pulse_in : (v : Around) (n : Connection) (req atn atn' : Bool) (y t : �
     → initiator_breaks v n (ends false false atn 0 false false true req y) (ends false true atn' 0 false false true req y) t ≡ None
 ack_pulse_in v n req atn atn' y t ne h =
     let h1 = h.order in let k1 = h.offset in let k2 = h.period in let k3 = h.negation in let k4 = h.waits in
-    let e = eq_self n.initiator in let o = eq_other n.initiator n.target ne in let w = eq_self y in grind (arith, nat_tests)
+    let e = eq_self n.initiator in let o = ne_eqb n.initiator n.target ne in let w = eq_self y in grind (arith, nat_tests)
 
 pub ack_pulse_out : (v : Around) (n : Connection) (req atn : Bool) (x t : ℕ) → n.initiator ≢ n.target → MayAnswer v t → v.data_since + (times_of v.agreement.period).set_up ≤ t
     → initiator_breaks v n (ends false false atn x false false false req 0) (ends false true atn x false false false req 0) t ≡ None
 ack_pulse_out v n true true x t ne h b =
     let h1 = h.order in let k1 = h.offset in let k2 = h.period in let k3 = h.negation in let k4 = h.waits in
-    let e = eq_self n.initiator in let o = eq_other n.initiator n.target ne in let u = or_zero_r x in let w = eq_self x in let s = or_self x in grind (arith, nat_tests)
+    let e = eq_self n.initiator in let o = ne_eqb n.initiator n.target ne in let u = or_zero_r x in let w = eq_self x in let s = or_self x in grind (arith, nat_tests)
 ack_pulse_out v n true false x t ne h b =
     let h1 = h.order in let k1 = h.offset in let k2 = h.period in let k3 = h.negation in let k4 = h.waits in
-    let e = eq_self n.initiator in let o = eq_other n.initiator n.target ne in let u = or_zero_r x in let w = eq_self x in let s = or_self x in grind (arith, nat_tests)
+    let e = eq_self n.initiator in let o = ne_eqb n.initiator n.target ne in let u = or_zero_r x in let w = eq_self x in let s = or_self x in grind (arith, nat_tests)
 ack_pulse_out v n false true x t ne h b =
     let h1 = h.order in let k1 = h.offset in let k2 = h.period in let k3 = h.negation in let k4 = h.waits in
-    let e = eq_self n.initiator in let o = eq_other n.initiator n.target ne in let u = or_zero_r x in let w = eq_self x in let s = or_self x in grind (arith, nat_tests)
+    let e = eq_self n.initiator in let o = ne_eqb n.initiator n.target ne in let u = or_zero_r x in let w = eq_self x in let s = or_self x in grind (arith, nat_tests)
 ack_pulse_out v n false false x t ne h b =
     let h1 = h.order in let k1 = h.offset in let k2 = h.period in let k3 = h.negation in let k4 = h.waits in
-    let e = eq_self n.initiator in let o = eq_other n.initiator n.target ne in let u = or_zero_r x in let w = eq_self x in let s = or_self x in grind (arith, nat_tests)
+    let e = eq_self n.initiator in let o = ne_eqb n.initiator n.target ne in let u = or_zero_r x in let w = eq_self x in let s = or_self x in grind (arith, nat_tests)
 
 pub ack_end_in : (v : Around) (n : Connection) (req atn : Bool) (y t : ℕ) → n.initiator ≢ n.target → v.last ≤ t → nat_lt 0 v.agreement.offset ≡ true → v.times.ack + (times_of v.agreement.period).assertion ≤ t
     → initiator_breaks v n (ends false true atn 0 false false true req y) (ends false false atn 0 false false true req y) t ≡ None
 ack_end_in v n req atn y t ne a k b =
-    let e = eq_self n.initiator in let o = eq_other n.initiator n.target ne in let w = eq_self y in grind (arith, nat_tests)
+    let e = eq_self n.initiator in let o = ne_eqb n.initiator n.target ne in let w = eq_self y in grind (arith, nat_tests)
 
 pub ack_end_out : (v : Around) (n : Connection) (req atn : Bool) (x t : ℕ) → n.initiator ≢ n.target → v.last ≤ t → nat_lt 0 v.agreement.offset ≡ true → v.times.ack + (times_of v.agreement.period).assertion ≤ t
     → initiator_breaks v n (ends false true atn x false false false req 0) (ends false false atn x false false false req 0) t ≡ None
 ack_end_out v n req atn x t ne a k b =
-    let e = eq_self n.initiator in let o = eq_other n.initiator n.target ne in let u = or_zero_r x in let w = eq_self x in let s = or_self x in grind (arith, nat_tests)
+    let e = eq_self n.initiator in let o = ne_eqb n.initiator n.target ne in let u = or_zero_r x in let w = eq_self x in let s = or_self x in grind (arith, nat_tests)
 
 pub byte_driven_obeys : (v : Around) (n : Connection) (req atn : Bool) (x z t : ℕ) → n.initiator ≢ n.target → v.last ≤ t → nat_lt 0 v.agreement.offset ≡ true → (x == z) ≡ false → is_after v.pulses.last_ack (times_of v.agreement.period).hold t ≡ true
     → initiator_breaks v n (ends false false atn x false false false req 0) (ends false false atn z false false false req 0) t ≡ None
 byte_driven_obeys v n req atn x z t ne a k s b =
-    let e = eq_self n.initiator in let o = eq_other n.initiator n.target ne in let u = or_zero_r x in let w = or_zero_r z in grind (arith, nat_tests)
+    let e = eq_self n.initiator in let o = ne_eqb n.initiator n.target ne in let u = or_zero_r x in let w = or_zero_r z in grind (arith, nat_tests)
 
 -- The phase is left, all pulses being answered.
 pub pulsed_goes_on_in : (v : Around) (n : Connection) (atn : Bool) (y : ℕ) (msg' cd' : Bool) (z t : ℕ) → n.initiator ≢ n.target → v.last ≤ t → same_phases false false true msg' cd' true ≡ false → implies v.turned (nat_le (v.times.io + 800) t) ≡ true → (v.pulses.req == v.pulses.ack) ≡ true → is_after v.pulses.last_req (times_of v.agreement.period).hold t ≡ true
     → target_breaks v n (ends false false atn 0 false false true false y) (ends false false atn 0 msg' cd' true false z) t ≡ None
 pulsed_goes_on_in v n atn y true true z t ne a s b c d =
-    let e = eq_self n.target in let o = eq_other n.target n.initiator (λ w. ne (sym w)) in grind (arith, nat_tests)
+    let e = eq_self n.target in let o = ne_eqb n.target n.initiator (λ w. ne (sym w)) in grind (arith, nat_tests)
 pulsed_goes_on_in v n atn y true false z t ne a s b c d =
-    let e = eq_self n.target in let o = eq_other n.target n.initiator (λ w. ne (sym w)) in grind (arith, nat_tests)
+    let e = eq_self n.target in let o = ne_eqb n.target n.initiator (λ w. ne (sym w)) in grind (arith, nat_tests)
 pulsed_goes_on_in v n atn y false true z t ne a s b c d =
-    let e = eq_self n.target in let o = eq_other n.target n.initiator (λ w. ne (sym w)) in grind (arith, nat_tests)
-pulsed_goes_on_in v n atn y false false z t ne a s b c d = absurd (unlike s)
+    let e = eq_self n.target in let o = ne_eqb n.target n.initiator (λ w. ne (sym w)) in grind (arith, nat_tests)
+pulsed_goes_on_in v n atn y false false z t ne a s b c d = absurd (true≢false s)
 
 pub pulsed_turns_out : (v : Around) (n : Connection) (atn : Bool) (y : ℕ) (msg' cd' : Bool) (t : ℕ) → n.initiator ≢ n.target → v.last ≤ t → (v.pulses.req == v.pulses.ack) ≡ true → is_after v.pulses.last_req (times_of v.agreement.period).hold t ≡ true
     → target_breaks v n (ends false false atn 0 false false true false y) (ends false false atn 0 msg' cd' false false 0) t ≡ None
 pulsed_turns_out v n atn y msg' cd' t ne a c d =
-    let e = eq_self n.target in let o = eq_other n.target n.initiator (λ w. ne (sym w)) in let u = or_zero_r y in grind (arith, nat_tests)
+    let e = eq_self n.target in let o = ne_eqb n.target n.initiator (λ w. ne (sym w)) in let u = or_zero_r y in grind (arith, nat_tests)
 
 pub pulsed_turns_in : (v : Around) (n : Connection) (atn : Bool) (x : ℕ) (msg' cd' : Bool) (t : ℕ) → n.initiator ≢ n.target → v.last ≤ t → (v.pulses.req == v.pulses.ack) ≡ true
     → target_breaks v n (ends false false atn x false false false false 0) (ends false false atn x msg' cd' true false 0) t ≡ None
 pulsed_turns_in v n atn x msg' cd' t ne a c =
-    let e = eq_self n.target in let o = eq_other n.target n.initiator (λ w. ne (sym w)) in let u = or_zero_r x in let w = eq_self x in grind (arith, nat_tests)
+    let e = eq_self n.target in let o = ne_eqb n.target n.initiator (λ w. ne (sym w)) in let u = or_zero_r x in let w = eq_self x in grind (arith, nat_tests)
 
 pub pulsed_freeing_in : (v : Around) (n : Connection) (y t : ℕ) → n.initiator ≢ n.target → v.last ≤ t → (v.pulses.req == v.pulses.ack) ≡ true → is_after v.pulses.last_req (times_of v.agreement.period).hold t ≡ true
     → frees_bus v n (ends false false false 0 false false true false y) t ≡ None
 pulsed_freeing_in v n y t ne a c d =
-    let e = eq_self n.target in let o = eq_other n.target n.initiator (λ w. ne (sym w)) in let u = or_zero_r y in grind (arith, nat_tests)
+    let e = eq_self n.target in let o = ne_eqb n.target n.initiator (λ w. ne (sym w)) in let u = or_zero_r y in grind (arith, nat_tests)

@@ -29,7 +29,6 @@ use Rattle.bus_due.specs.Own.{own_of}
 use Rattle.bus_due.specs.RunSteps.{run_state}
 use Rattle.bus_laws.specs.Rows.{row_of_lines, change_to}
 use Rattle.bus_laws.specs.Ends.{EndLines, initiator_side, target_side, connected_bus, Linked}
-use Rattle.bus_laws.proofs.Tests.{or_true}
 use Rattle.link_laws.specs.Phases.{ends}
 use Rattle.bus_dialogue.specs.Sending.{Sending, byte_to_send}
 use Rattle.bus_reactions.specs.Target.{byte_bits}
@@ -38,13 +37,15 @@ use Rattle.std.specs.Prelude.{slice_index_or}
 use Rattle.link_laws.specs.Pulses.{drives_by, times_here, offset_here, pulses_of, HasDrivenPulsed, run_count, next_bits, given_here, initiator_next, answers_at, drives_at, NoSooner}
 use Rattle.link_laws.proofs.Moves.{initiator_moves, target_moves, initiator_in_phase, target_in_phase, same_line, no_rise}
 use Rattle.link_laws.proofs.LinkSeen.{around, obeys_linked}
-use Rattle.link_laws.proofs.Goes.{receives_if, data_by, le_test}
+use Rattle.link_laws.proofs.Goes.{receives_if, data_by}
 use Rattle.link_laws.proofs.Shakes.{target_row, initiator_row}
 use Rattle.link_laws.proofs.DataRows.{DataRow, data_still, sending_stays}
 use Rattle.link_laws.proofs.PulseObeys.{req_end_out, req_pulse_out, ack_pulse_out, ack_end_out, byte_driven_obeys}
-use Rattle.link_laws.proofs.PulseIn.{waits_more, oldest_stays, oldest_new, last_ack_test, answer_late, may_answer, answered_target, released_target, pulse_end_late, lt_of, lt_test}
-use Rattle.link_laws.proofs.PulseRows.{NextPulsing, PulseHere, later_target_out, later_initiator_out, data_row, target_next_is, initiator_next_is, own_ack_other, own_ack_own, pulsing_goes, fresh_next, same_latency, lengthens, data_stands}
-use Rattle.link_laws.proofs.PulseSteps.{req_falls_facts, req_rises_facts, ack_rises_facts, ack_falls_facts, still_facts, assertion_short, none_no_sooner, some_no_sooner}
+use Rattle.link_laws.proofs.PulseIn.{waits_more, oldest_stays, oldest_new, last_ack_test, answer_late, may_answer, answered_target, released_target, pulse_end_late}
+use Rattle.link_laws.proofs.PulseRows.{NextPulsing, PulseHere, later_target_out, later_initiator_out, data_row, target_next_is, initiator_next_is, own_ack_other, own_ack_own, pulsing_goes, fresh_next, same_latency, data_stands}
+use Rattle.link_laws.proofs.PulseSteps.{more_asked, req_falls_facts, req_rises_facts, ack_rises_facts, ack_falls_facts, still_facts, assertion_short, none_no_sooner, some_no_sooner}
+use Rattle.std.proofs.lemmas.Bool.{lt-ltb, ltb-true, le-leb}
+use Rattle.bus_base.proofs.Tests.{or_true}
 
 -- ---- what the initiator gives stays while no byte crosses
 
@@ -63,7 +64,7 @@ driven_same s p q n x h es eh eg eo = λ some lat there.
     subst (λ k. k ≤ drives_by (handshakes q) (times_here q).hold (own_of q n.initiator).ack lat) (sym es)
     (subst (λ k. since data_of p ≤ k) (λ i. drives_by (sym eh i) (times_of (sym eg i).period).hold (sym eo i) lat) (h ((λ i. (sym eh i).answers == 0 && x == 0) ∙ some) lat there))
 
-no_attention : (q : Bool) → implies q (false || false) ≡ true → q ≡ false
+pub no_attention : (q : Bool) → implies q (false || false) ≡ true → q ≡ false
 no_attention true e = sym e
 no_attention false e = refl
 
@@ -97,9 +98,9 @@ req_ends_out s p n ack atn x t lat0 there0 at h =
     record {
       order = order;
       obeys = obeys_linked p row n e c hp.linked m.change refl h.books (req_end_out (around p n.target n c) n ack atn x t hp.linked.apart order hp.offset held);
-      pulsing = pulsing_goes s p q n false true ack atn x 0 false ack atn x 0 t hs t (line_times p).ack (own_of p n.initiator).ack hp m.linked r refl order (lengthens p row) hp.phase.asks refl
+      pulsing = pulsing_goes s p q n false true ack atn x 0 false ack atn x 0 t hs t (line_times p).ack (own_of p n.initiator).ack hp m.linked r refl order hp.phase.asks refl
           (r.pulses_are ∙ (λ i. record { req = (pu i).req; ack = count_after (no_rise ack i) (pu i).ack; last_req = (pu i).last_req; last_ack = when (no_rise ack i) t (pu i).last_ack }))
-          eh r.req_is ea eo (req_falls_facts hs (line_times p).req (line_times p).ack (own_of p n.initiator).ack (times_here p).assertion (offset_here p) (length p) (last_time p) t ack hp.facts held order)
+          eh r.req_is ea eo (req_falls_facts hs (line_times p).req (line_times p).ack (own_of p n.initiator).ack (times_here p).assertion (offset_here p) (last_time p) t ack hp.facts held order)
           (driven_same s p q n x hp.driven (data_stands p row (bit_or x 0) r.data_is) eh eg eo)
           (λ d. receives_if false (receiver q) n.target d (r.receiver_is ∙ none)) (λ a b. let w = sym (ap (λ (k : Option ℕ). is_some k) (r.receiver_is ∙ none)) ∙ b in absurd cc);
       ahead = record {
@@ -171,8 +172,8 @@ driven_more h hold raised lat t few count some = go (length h.waiting == 0) refl
 
 pub req_pulses_out : (s : ScenarioValue) (p : List Row) (n : Connection) (ack atn : Bool) (x t lat0 : ℕ) → latency_of s n.target ≡ Some lat0
     → t ≡ max (max ((handshakes p).last_req + (times_here p).period) ((line_times p).req + (times_here p).negation)) (max (room_by (offset_here p) (handshakes p)) 0) + lat0
-    → nat_lt (length (handshakes p).waiting) (offset_here p) ≡ true → implies (is_owed (duty p)) false ≡ true → PulseHere s p (target_row t n (ends false ack atn x false false false true 0)) n false false ack atn x 0 → NextPulsing s p (target_row t n (ends false ack atn x false false false true 0)) n false true ack atn x 0
-req_pulses_out s p n ack atn x t lat0 there0 at room owed h =
+    → nat_lt (handshakes p).requests (run_count s p n) ≡ true → nat_lt (length (handshakes p).waiting) (offset_here p) ≡ true → implies (is_owed (duty p)) false ≡ true → PulseHere s p (target_row t n (ends false ack atn x false false false true 0)) n false false ack atn x 0 → NextPulsing s p (target_row t n (ends false ack atn x false false false true 0)) n false true ack atn x 0
+req_pulses_out s p n ack atn x t lat0 there0 at follows room owed h =
     let e : EndLines = ends false ack atn x false false false false 0 in
     let f : EndLines = ends false ack atn x false false false true 0 in
     let row : Row = target_row t n f in
@@ -191,7 +192,7 @@ req_pulses_out s p n ack atn x t lat0 there0 at room owed h =
     let none : receiver_in n c ≡ None = ap (λ (b : Bool). if b then Some n.target else None) (no_rise ack) in
     let ev = given_stays s p n false ack atn x true ack atn x t n.target (target_side e) (target_side f) hp.linked m.linked dr none in
     let order = h.order in
-    let few = lt_of (length hs.waiting) (offset_here p) room in
+    let few = ltb-true (length hs.waiting) (offset_here p) room in
     let byte = hp.byte_offset in
     let count = hp.facts.counts in
     let settled = hp.settled in
@@ -202,13 +203,13 @@ req_pulses_out s p n ack atn x t lat0 there0 at room owed h =
       obeys = obeys_linked p row n e c hp.linked m.change refl h.books (req_pulse_out (around p n.target n c) n ack atn x t (record {
         asks = record { apart = hp.linked.apart; order = order; settled = omega arith; began = let u = hp.phase.began in omega arith; known = refl; duty = owed };
         offset = hp.offset;
-        period = ap (λ (k : Pulses). is_after k.last_req (times_here p).period t) pu ∙ le_test _ t (omega arith);
-        negation = ap (λ (k : Pulses). not (is_some k.last_req) || nat_le ((line_times p).req + (times_here p).negation) t) pu ∙ le_test _ t (omega arith);
-        room = ap (λ (k : Pulses). offset_here p == 255 || nat_lt k.req (k.ack + offset_here p)) pu ∙ ap (λ (b : Bool). offset_here p == 255 || b) (lt_test hs.requests (hs.answers + offset_here p) (omega arith)) ∙ or_true (offset_here p == 255);
+        period = ap (λ (k : Pulses). is_after k.last_req (times_here p).period t) pu ∙ le-leb _ t (omega arith);
+        negation = ap (λ (k : Pulses). not (is_some k.last_req) || nat_le ((line_times p).req + (times_here p).negation) t) pu ∙ le-leb _ t (omega arith);
+        room = ap (λ (k : Pulses). offset_here p == 255 || nat_lt k.req (k.ack + offset_here p)) pu ∙ ap (λ (b : Bool). offset_here p == 255 || b) (lt-ltb hs.requests (hs.answers + offset_here p) (omega arith)) ∙ or_true (offset_here p == 255);
       }));
-      pulsing = pulsing_goes s p q n false false ack atn x 0 true ack atn x 0 t (asked t hs) t (line_times p).ack (own_of p n.initiator).ack hp m.linked r refl order (lengthens p row) hp.phase.asks refl
+      pulsing = pulsing_goes s p q n false false ack atn x 0 true ack atn x 0 t (asked t hs) t (line_times p).ack (own_of p n.initiator).ack hp m.linked r refl order hp.phase.asks refl
           (r.pulses_are ∙ (λ i. record { req = counted_on (pu i).req; ack = count_after (no_rise ack i) (pu i).ack; last_req = Some t; last_ack = when (no_rise ack i) t (pu i).last_ack }))
-          eh r.req_is ea eo (req_rises_facts hs (line_times p).req (line_times p).ack (own_of p n.initiator).ack (times_here p).assertion (offset_here p) (length p) (last_time p) t ack hp.facts few byte h.short order)
+          eh r.req_is ea eo (req_rises_facts hs (line_times p).req (line_times p).ack (own_of p n.initiator).ack (times_here p).assertion (offset_here p) (last_time p) t ack hp.facts few byte (more_asked hs.requests (run_count s p n) follows h.short) order)
           (λ some lat there. subst (λ k. k ≤ drives_by (handshakes q) (times_here q).hold (own_of q n.initiator).ack lat) (sym same_data)
           (subst (λ k. since data_of p ≤ k) (λ i. drives_by (sym eh i) (times_of (sym eg i).period).hold (sym eo i) lat)
           (let u = hp.driven ((λ i. (sym eh i).answers == 0 && x == 0) ∙ some) lat there in let w = driven_more hs (times_here p).hold (own_of p n.initiator).ack lat t (omega arith) count hp.facts.asked in omega arith)))
@@ -244,13 +245,13 @@ answers_pulse_out s p n req atn x t lat0 there0 at some given h =
     let eg = r.agreement_is refl refl in
     let order = h.order in
     let pu : pulses p ≡ pulses_of hs = hp.pulses_are in
-    let facts = ack_rises_facts hs (line_times p).req (line_times p).ack (own_of p n.initiator).ack (times_here p).assertion (offset_here p) (length p) (last_time p) t req hp.facts some h.short order in
+    let facts = ack_rises_facts hs (line_times p).req (line_times p).ack (own_of p n.initiator).ack (times_here p).assertion (offset_here p) (last_time p) t req hp.facts some order in
     let driven0 = hp.driven (and_no (hs.answers == 0) (x == 0) given) lat0 there0 in
     let first = facts.ack_first refl in
     record {
       order = order;
       obeys = obeys_linked p row n e c hp.linked m.change refl h.books (ack_pulse_out (around p n.initiator n c) n req atn x t hp.linked.apart (may_answer p n.initiator n c t (lag_by (host_of s n.initiator)) pu hp.offset order (omega arith) hp.facts.counts some) (set_up_by (since data_of p) (drives_at hs (times_here p) (own_of p n.initiator).ack lat0) _ _ lat0 t driven0 at));
-      pulsing = pulsing_goes s p q n false req false atn x 0 req true atn x 0 t (answered t hs) (line_times p).req t t hp m.linked r refl order (lengthens p row) hp.phase.asks refl
+      pulsing = pulsing_goes s p q n false req false atn x 0 req true atn x 0 t (answered t hs) (line_times p).req t t hp m.linked r refl order hp.phase.asks refl
           (r.pulses_are ∙ (λ i. record { req = count_after (no_rise req i) (pu i).req; ack = counted_on (pu i).ack; last_req = when (no_rise req i) t (pu i).last_req; last_ack = Some t }) ∙ (λ i. record { req = hs.requests; ack = counted_on hs.answers; last_req = Some hs.last_req; last_ack = if sym first i then None else Some t }))
           eh er r.ack_is eo facts
           (λ z lat there.
@@ -315,9 +316,9 @@ ends_pulse_out s p n req atn x t lat0 there0 at h =
     record {
       order = order;
       obeys = obeys_linked p row n e c hp.linked m.change refl h.books (ack_end_out (around p n.initiator n c) n req atn x t hp.linked.apart order hp.offset held);
-      pulsing = pulsing_goes s p q n false req true atn x 0 req false atn x 0 t hs (line_times p).req t (own_of p n.initiator).ack hp m.linked r refl order (lengthens p row) hp.phase.asks refl
+      pulsing = pulsing_goes s p q n false req true atn x 0 req false atn x 0 t hs (line_times p).req t (own_of p n.initiator).ack hp m.linked r refl order hp.phase.asks refl
           (r.pulses_are ∙ (λ i. record { req = count_after (no_rise req i) (pu i).req; ack = (pu i).ack; last_req = when (no_rise req i) t (pu i).last_req; last_ack = (pu i).last_ack }))
-          eh er r.ack_is eo (ack_falls_facts hs (line_times p).req (line_times p).ack (own_of p n.initiator).ack (times_here p).assertion (offset_here p) (length p) (last_time p) t req hp.facts held order)
+          eh er r.ack_is eo (ack_falls_facts hs (line_times p).req (line_times p).ack (own_of p n.initiator).ack (times_here p).assertion (offset_here p) (last_time p) t req hp.facts held order)
           (driven_same s p q n x hp.driven (data_stands p row (bit_or x 0) r.data_is) eh eg eo)
           (λ d. receives_if false (receiver q) n.target d r.receiver_is) (λ a b. let w = sym (ap (λ (k : Option ℕ). is_some k) r.receiver_is) ∙ b in absurd cc);
       ahead = record {
@@ -358,9 +359,9 @@ drives_byte s p n req atn x z t lat0 there0 other held driven waits release h =
     record {
       order = order;
       obeys = obeys_linked p row n e c hp.linked m.change refl h.books (byte_driven_obeys (around p n.initiator n c) n req atn x z t hp.linked.apart order hp.offset other (ap (λ (k : Pulses). is_after k.last_ack (times_here p).hold t) pu ∙ last_ack_test hs (times_here p).hold t held));
-      pulsing = pulsing_goes s p q n false req false atn x 0 req false atn z 0 t hs (line_times p).req (line_times p).ack (own_of p n.initiator).ack hp m.linked r refl order (lengthens p row) hp.phase.asks refl
+      pulsing = pulsing_goes s p q n false req false atn x 0 req false atn z 0 t hs (line_times p).req (line_times p).ack (own_of p n.initiator).ack hp m.linked r refl order hp.phase.asks refl
           (r.pulses_are ∙ (λ i. record { req = count_after (no_rise req i) (pu i).req; ack = (pu i).ack; last_req = when (no_rise req i) t (pu i).last_req; last_ack = (pu i).last_ack }))
-          eh er r.ack_is eo (still_facts hs (line_times p).req (line_times p).ack (own_of p n.initiator).ack (times_here p).assertion (offset_here p) (length p) (last_time p) t req false hp.facts order)
+          eh er r.ack_is eo (still_facts hs (line_times p).req (line_times p).ack (own_of p n.initiator).ack (times_here p).assertion (offset_here p) (last_time p) t req false hp.facts order)
           (λ some lat there.
           let same = same_latency s n.initiator lat lat0 there there0 in
           let u = data_by s p row h.always order in

@@ -30,7 +30,6 @@ use Rattle.bus_laws.specs.Rows.{row_of_lines, change_to}
 use Rattle.bus_laws.specs.Stages.{CalmStanding}
 use Rattle.bus_laws.specs.Ends.{EndLines, target_side, connected_bus, Linked}
 use Rattle.bus_laws.proofs.Resets.{own_other}
-use Rattle.bus_laws.proofs.Tests.{eq_self}
 use Rattle.link_laws.specs.Books.{KeepsBooksIn}
 use Rattle.link_laws.specs.Phases.{ends, OneSide}
 use Rattle.link_laws.specs.Pulses.{times_here, offset_here, pulses_of, Reached, HasDrivenPulsed, PulseFacts, Pulsing, run_count, byte_in_run, next_bits, given_here, target_time, target_next, initiator_next, target_next_at, initiator_next_at, NoSooner, EndsAhead}
@@ -42,6 +41,7 @@ use Rattle.link_laws.proofs.DataRows.{DataRow, count_stays, bytes_stay}
 use Rattle.link_laws.proofs.PulseObeys.{req_end_in}
 use Rattle.link_laws.proofs.PulseSteps.{req_falls_facts, assertion_short, none_no_sooner, some_no_sooner}
 use Rattle.link_laws.proofs.PulseAhead.{ByPulses, target_due_in, target_due_out, initiator_due_in, initiator_due_out, row_by_target, row_by_initiator}
+use Rattle.bus_base.proofs.Tests.{eq_self}
 
 -- What a row does with which the pulses go on.
 pub record NextPulsing (s : ScenarioValue) (p : List Row) (row : Row) (n : Connection) (io req ack atn : Bool) (x y : ℕ) : Type 0 where
@@ -50,13 +50,13 @@ pub record NextPulsing (s : ScenarioValue) (p : List Row) (row : Row) (n : Conne
   pub pulsing : Pulsing s (row ∷ p) n io req ack atn x y
   pub ahead : EndsAhead s (row ∷ p) n io req ack atn x y
 
--- What holds as the row comes.
+-- What holds as the row comes. The run has fewer bytes than would be counted no further.
 pub record PulseHere (s : ScenarioValue) (p : List Row) (row : Row) (n : Connection) (io req ack atn : Bool) (x y : ℕ) : Type 0 where
   pub always : CalmStanding s p
   pub order : last_time p ≤ row.time
   pub pulsing : Pulsing s p n io req ack atn x y
   pub ahead : EndsAhead s p n io req ack atn x y
-  pub short : length p + 1 < 2 ^ 64
+  pub short : run_count s p n < 2 ^ 64
   pub least : IsLeast (unreset_due s p) 8 row
   pub books : KeepsBooksIn p row
 
@@ -119,10 +119,10 @@ own_ack_own p t d l o e =
 
 -- All that a row must leave so that the pulses go on.
 pub pulsing_goes : (s : ScenarioValue) (p q : List Row) (n : Connection) (io req ack atn : Bool) (x y : ℕ) (req' ack' atn' : Bool) (x' y' t : ℕ) (h' : Handshakes) (tr ta raised : ℕ) → Pulsing s p n io req ack atn x y → Linked q n (ends false ack' atn' x' false false io req' y')
-    → InPhaseRow p q n (ends false ack atn x false false io req y) (ends false ack' atn' x' false false io req' y') t → last_time q ≡ t → last_time p ≤ t → length q ≡ length p + 1 → implies atn' (io || false) ≡ true → OneSide io x' y' → pulses q ≡ pulses_of h' → handshakes q ≡ h' → (line_times q).req ≡ tr → (line_times q).ack ≡ ta → (own_of q n.initiator).ack ≡ raised
-    → PulseFacts h' tr ta raised (times_here p).assertion (offset_here p) (length p + 1) t req' ack' → HasDrivenPulsed s q n io x' → ((d : ℕ) → is_of_device (receiver q) d ≡ true → d ≡ (if io then n.initiator else n.target)) → (io ≡ false → is_some (receiver q) ≡ true → ack' ≡ true)
+    → InPhaseRow p q n (ends false ack atn x false false io req y) (ends false ack' atn' x' false false io req' y') t → last_time q ≡ t → last_time p ≤ t → implies atn' (io || false) ≡ true → OneSide io x' y' → pulses q ≡ pulses_of h' → handshakes q ≡ h' → (line_times q).req ≡ tr → (line_times q).ack ≡ ta → (own_of q n.initiator).ack ≡ raised
+    → PulseFacts h' tr ta raised (times_here p).assertion (offset_here p) t req' ack' → HasDrivenPulsed s q n io x' → ((d : ℕ) → is_of_device (receiver q) d ≡ true → d ≡ (if io then n.initiator else n.target)) → (io ≡ false → is_some (receiver q) ≡ true → ack' ≡ true)
     → Pulsing s q n io req' ack' atn' x' y'
-pulsing_goes s p q n io req ack atn x y req' ack' atn' x' y' t h' tr ta raised h l r now order long asks side ep eh er ea eo facts driven receives received =
+pulsing_goes s p q n io req ack atn x y req' ack' atn' x' y' t h' tr ta raised h l r now order asks side ep eh er ea eo facts driven receives received =
     let eg = r.agreement_is refl refl in
     record {
       linked = l;
@@ -134,13 +134,12 @@ pulsing_goes s p q n io req ack atn x y req' ack' atn' x' y' t h' tr ta raised h
       turned = turn_goes p q n (ends false ack atn x false false io req y) (ends false ack' atn' x' false false io req' y') io t r order now h.turned;
       pulses_are = ep ∙ ap pulses_of (sym eh);
       facts =
-          subst (λ k. PulseFacts k (line_times q).req (line_times q).ack (own_of q n.initiator).ack (times_here q).assertion (offset_here q) (length q) (last_time q) req' ack') (sym eh)
-          (subst (λ k. PulseFacts h' k (line_times q).ack (own_of q n.initiator).ack (times_here q).assertion (offset_here q) (length q) (last_time q) req' ack') (sym er)
-          (subst (λ k. PulseFacts h' tr k (own_of q n.initiator).ack (times_here q).assertion (offset_here q) (length q) (last_time q) req' ack') (sym ea)
-          (subst (λ k. PulseFacts h' tr ta k (times_here q).assertion (offset_here q) (length q) (last_time q) req' ack') (sym eo)
-          (subst (λ (k : Agreement). PulseFacts h' tr ta raised (times_of k.period).assertion k.offset (length q) (last_time q) req' ack') (sym eg)
-          (subst (λ k. PulseFacts h' tr ta raised (times_here p).assertion (offset_here p) k (last_time q) req' ack') (sym long)
-          (subst (λ k. PulseFacts h' tr ta raised (times_here p).assertion (offset_here p) (length p + 1) k req' ack') (sym now) facts))))));
+          subst (λ k. PulseFacts k (line_times q).req (line_times q).ack (own_of q n.initiator).ack (times_here q).assertion (offset_here q) (last_time q) req' ack') (sym eh)
+          (subst (λ k. PulseFacts h' k (line_times q).ack (own_of q n.initiator).ack (times_here q).assertion (offset_here q) (last_time q) req' ack') (sym er)
+          (subst (λ k. PulseFacts h' tr k (own_of q n.initiator).ack (times_here q).assertion (offset_here q) (last_time q) req' ack') (sym ea)
+          (subst (λ k. PulseFacts h' tr ta k (times_here q).assertion (offset_here q) (last_time q) req' ack') (sym eo)
+          (subst (λ (k : Agreement). PulseFacts h' tr ta raised (times_of k.period).assertion k.offset (last_time q) req' ack') (sym eg)
+          (subst (λ k. PulseFacts h' tr ta raised (times_here p).assertion (offset_here p) k req' ack') (sym now) facts)))));
       driven = driven;
       receives = receives;
       received = received;
@@ -165,9 +164,6 @@ same_latency s d a b e f = some_same a b (sym e ∙ f)
   where
     some_same : (a b : ℕ) → (let o : Option ℕ = Some a in o) ≡ Some b → a ≡ b
     some_same a b e = cc
-
-pub lengthens : (p : List Row) (row : Row) → length (row ∷ p) ≡ length p + 1
-lengthens p row = omega arith
 
 pub data_stands : (p : List Row) (row : Row) (a : ℕ) → since data_of (row ∷ p) ≡ (if a == a then since data_of p else row.time) → since data_of (row ∷ p) ≡ since data_of p
 data_stands p row a e = e ∙ ap (λ (q : Bool). if q then since data_of p else row.time) (eq_self a)
@@ -198,9 +194,9 @@ req_ends_in s p n ack atn y t lat0 there0 at h =
     record {
       order = order;
       obeys = obeys_linked p row n e c hp.linked m.change refl h.books (req_end_in (around p n.target n c) n ack atn y t hp.linked.apart order hp.offset held (turn_test (turned p) ((line_times p).io + 800) t (λ w. let u = hp.turned w refl in omega arith)));
-      pulsing = pulsing_goes s p q n true true ack atn 0 y false ack atn 0 y t (handshakes p) t (line_times p).ack (own_of p n.initiator).ack hp m.linked r refl order (lengthens p row) hp.phase.asks refl
+      pulsing = pulsing_goes s p q n true true ack atn 0 y false ack atn 0 y t (handshakes p) t (line_times p).ack (own_of p n.initiator).ack hp m.linked r refl order hp.phase.asks refl
           (r.pulses_are ∙ (λ i. record { req = (hp.pulses_are i).req; ack = count_after (no_rise ack i) (hp.pulses_are i).ack; last_req = (hp.pulses_are i).last_req; last_ack = when (no_rise ack i) t (hp.pulses_are i).last_ack }))
-          eh r.req_is ea eo (req_falls_facts (handshakes p) (line_times p).req (line_times p).ack (own_of p n.initiator).ack (times_here p).assertion (offset_here p) (length p) (last_time p) t ack hp.facts held order)
+          eh r.req_is ea eo (req_falls_facts (handshakes p) (line_times p).req (line_times p).ack (own_of p n.initiator).ack (times_here p).assertion (offset_here p) (last_time p) t ack hp.facts held order)
           (λ lat there. let u = hp.driven lat there in let w = data_stands p row y r.data_is in let v1 = ap (λ (k : Handshakes). k.last_req) eh in let v2 = ap (λ (k : Agreement). (times_of k.period).hold) eg in omega arith)
           (λ d. receives_if false (receiver q) n.initiator d r.receiver_is) (λ a b. absurd cc);
       ahead = record {

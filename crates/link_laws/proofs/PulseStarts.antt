@@ -1,5 +1,5 @@
 -- The first REQ of a data phase by pulses (6.1.5.2).
-use Rattle.std.proofs.Common.{ℕ, ◌≡◌, ◌≤◌, ◌<◌, ◌+◌, Bool, true, false, not, ◌&&◌, ◌||◌, ◌==◌, ◌∙◌, List, ◌∷◌, length, Option, Some, None, refl, sym, ap, subst, arith}
+use Rattle.std.proofs.Common.{ℕ, ◌≡◌, ◌≤◌, ◌<◌, ◌+◌, Bool, true, false, not, ◌&&◌, ◌||◌, ◌==◌, ◌∙◌, List, ◌∷◌, Option, Some, None, refl, sym, ap, subst, arith}
 use Rattle.std.specs.Prelude.{if◌then◌else◌, max, nat_le, nat_lt, is_some}
 use Rattle.std.proofs.lemmas.Bool.Decides.{nat_tests}
 use Rattle.bus_base.specs.Faults.{counted_on}
@@ -57,11 +57,11 @@ may_pulse s p n atn io y t dev c h off pu = record {
     either true = refl
     either false = refl
 
-first_facts : (p q : List Row) (n : Connection) (t : ℕ) → last_time q ≡ t → 1 ≤ length q → nat_lt 0 (offset_here q) ≡ true → handshakes q ≡ asked t no_handshakes → (line_times q).req ≡ t → PulseFacts (handshakes q) (line_times q).req (line_times q).ack (own_of q n.initiator).ack (times_here q).assertion (offset_here q) (length q) (last_time q) true false
-first_facts p q n t now some off eh er =
-    subst (λ k. PulseFacts k (line_times q).req (line_times q).ack (own_of q n.initiator).ack (times_here q).assertion (offset_here q) (length q) (last_time q) true false) (sym eh)
-    (subst (λ k. PulseFacts (asked t no_handshakes) k (line_times q).ack (own_of q n.initiator).ack (times_here q).assertion (offset_here q) (length q) (last_time q) true false) (sym er)
-    (pulse_first t (length q) (last_time q) (times_here q).assertion (offset_here q) (line_times q).ack (own_of q n.initiator).ack off now some))
+first_facts : (p q : List Row) (n : Connection) (t : ℕ) → last_time q ≡ t → nat_lt 0 (offset_here q) ≡ true → handshakes q ≡ asked t no_handshakes → (line_times q).req ≡ t → PulseFacts (handshakes q) (line_times q).req (line_times q).ack (own_of q n.initiator).ack (times_here q).assertion (offset_here q) (last_time q) true false
+first_facts p q n t now off eh er =
+    subst (λ k. PulseFacts k (line_times q).req (line_times q).ack (own_of q n.initiator).ack (times_here q).assertion (offset_here q) (last_time q) true false) (sym eh)
+    (subst (λ k. PulseFacts (asked t no_handshakes) k (line_times q).ack (own_of q n.initiator).ack (times_here q).assertion (offset_here q) (last_time q) true false) (sym er)
+    (pulse_first t (last_time q) (times_here q).assertion (offset_here q) (line_times q).ack (own_of q n.initiator).ack off now))
 
 pub starts_in : (s : ScenarioValue) (p : List Row) (n : Connection) (atn : Bool) (y t : ℕ) → Asking s p n atn false false true y t → nat_lt 0 (offset_here p) ≡ true → offset_here p < 256 → handshakes p ≡ no_handshakes → pulses p ≡ no_pulses → KeepsBooksIn p (target_row t n (ends false false atn 0 false false true true y)) → NextLinked s p (target_row t n (ends false false atn 0 false false true true y)) n
 starts_in s p n atn y t h off byte quiet none books =
@@ -89,7 +89,7 @@ starts_in s p n atn y t h off byte quiet none books =
         side = refl;
         turned = λ a b. let u = h.turn (sym r.turned_is ∙ a) b in let w = r.io_is in omega arith;
         pulses_are = r.pulses_are ∙ (λ i. record { req = counted_on (none i).req; ack = (none i).ack; last_req = Some t; last_ack = (none i).last_ack }) ∙ ap pulses_of (sym eh);
-        facts = first_facts p q n t refl (omega arith) off' eh r.req_is;
+        facts = first_facts p q n t refl off' eh r.req_is;
         driven = λ lat there. let u = data_by s p row h.always h.order in let w : (handshakes q).last_req ≡ t = ap (λ (k : Handshakes). k.last_req) eh in omega arith;
         receives = λ d. receives_if true (receiver q) n.initiator d r.receiver_is;
         received = λ a b. absurd cc;
@@ -125,7 +125,7 @@ starts_out s p n atn t h off byte quiet none books =
         side = refl;
         turned = λ a b. absurd cc;
         pulses_are = r.pulses_are ∙ (λ i. record { req = counted_on (none i).req; ack = (none i).ack; last_req = Some t; last_ack = (none i).last_ack }) ∙ ap pulses_of (sym eh);
-        facts = first_facts p q n t refl (omega arith) off' eh r.req_is;
+        facts = first_facts p q n t refl off' eh r.req_is;
         driven = λ some lat there. let w = (λ i. (sym eh i).answers == 0 && 0 == 0) ∙ some in absurd cc;
         receives = λ d. receives_if false (receiver q) n.target d r.receiver_is;
         received = λ a b. let w = sym (ap (λ (k : Option ℕ). is_some k) r.receiver_is) ∙ b in absurd cc;

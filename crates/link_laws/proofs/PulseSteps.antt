@@ -1,18 +1,21 @@
 -- The pulses of a phase, from row to row.
 use Rattle.std.proofs.Common.{◌⊎◌, inl, inr, ℕ, ◌≡◌, ◌≤◌, ◌<◌, ◌+◌, ◌^◌, Bool, true, false, ◌==◌, ◌∙◌, List, [], ◌∷◌, ◌++◌, length, drop, Option, Some, None, refl, ap, subst, arith}
 use Rattle.std.specs.Prelude.{if◌then◌else◌, nat_lt}
+use Rattle.std.proofs.lemmas.Bool.{ltb-true}
 use Rattle.std.proofs.lemmas.Bool.Decides.{nat_tests}
 use Rattle.bus_base.specs.Faults.{counted_on}
 use Rattle.bus_trace.specs.Agreements.{times_of, times_or_slow, fast_times, slow_times}
 use Rattle.bus_lines.specs.declared.handshakes.Request.{Request}
 use Rattle.bus_lines.specs.Handshakes.{Handshakes, opened, asked, answered, no_handshakes, first_of, or_now}
 use Rattle.link_laws.specs.Pulses.{Reached, PulseFacts, target_time, NoSooner}
+use Rattle.bus_base.proofs.Tests.{next_some}
 
 pub count_more : (r : ℕ) → r + 1 < 2 ^ 64 → counted_on r ≡ r + 1
 count_more r h = grind (arith, nat_tests)
 
-some_count : (r : ℕ) → (r + 1 == 0) ≡ false
-some_count r = grind (arith, nat_tests)
+-- One more byte of a run is asked for.
+pub more_asked : (r run : ℕ) → nat_lt r run ≡ true → run < 2 ^ 64 → r + 1 < 2 ^ 64
+more_asked r run e short = let less = ltb-true r run e in omega arith
 
 -- ---- the requests that wait
 
@@ -43,11 +46,11 @@ one_less (q ∷ w) h = omega arith
 
 -- ---- the facts
 
-pub pulse_first : (t rows last assertion offset ack_time raised : ℕ) → nat_lt 0 offset ≡ true → last ≡ t → 1 ≤ rows → PulseFacts (asked t no_handshakes) t ack_time raised assertion offset rows last true false
-pulse_first t rows last assertion offset ack_time raised off same some = record {
+pub pulse_first : (t last assertion offset ack_time raised : ℕ) → nat_lt 0 offset ≡ true → last ≡ t → PulseFacts (asked t no_handshakes) t ack_time raised assertion offset last true false
+pulse_first t last assertion offset ack_time raised off same = record {
   asked = refl;
   counts = refl;
-  within = some;
+  within = omega arith;
   reached = refl;
   few = grind (arith, nat_tests);
   req_stands = refl;
@@ -59,16 +62,15 @@ pulse_first t rows last assertion offset ack_time raised off same some = record 
   all_answered = λ z. absurd cc;
 }
 
-pub req_rises_facts : (h : Handshakes) (req_time ack_time raised assertion offset rows last t : ℕ) (ack : Bool) → PulseFacts h req_time ack_time raised assertion offset rows last false ack → length h.waiting < offset → offset < 256 → rows + 1 < 2 ^ 64 → last ≤ t → PulseFacts (asked t h) t ack_time raised assertion offset (rows + 1) t true ack
-req_rises_facts h req_time ack_time raised assertion offset rows last t ack f room byte short order =
-    let w = f.within in
-    let same : counted_on h.requests ≡ h.requests + 1 = count_more h.requests (omega arith) in
+pub req_rises_facts : (h : Handshakes) (req_time ack_time raised assertion offset last t : ℕ) (ack : Bool) → PulseFacts h req_time ack_time raised assertion offset last false ack → length h.waiting < offset → offset < 256 → h.requests + 1 < 2 ^ 64 → last ≤ t → PulseFacts (asked t h) t ack_time raised assertion offset t true ack
+req_rises_facts h req_time ack_time raised assertion offset last t ack f room byte short order =
+    let same : counted_on h.requests ≡ h.requests + 1 = count_more h.requests short in
     let wait : opened t h.waiting ≡ h.waiting ++ record { time = t; struck = false } ∷ [] = opened_is t h.waiting (omega arith) in
     let long : length (opened t h.waiting) ≡ length h.waiting + 1 = ap (λ (x : List Request). length x) wait ∙ one_more h.waiting (record { time = t; struck = false }) in
     let count = f.counts in
     let ack_past = f.ack_past in
     record {
-      asked = ap (λ (x : ℕ). x == 0) same ∙ some_count h.requests;
+      asked = ap (λ (x : ℕ). x == 0) same ∙ next_some h.requests;
       counts = omega arith;
       within = omega arith;
       reached = refl;
@@ -82,16 +84,15 @@ req_rises_facts h req_time ack_time raised assertion offset rows last t ack f ro
       all_answered = λ z. absurd (omega arith);
     }
 
-pub req_falls_facts : (h : Handshakes) (req_time ack_time raised assertion offset rows last t : ℕ) (ack : Bool) → PulseFacts h req_time ack_time raised assertion offset rows last true ack → req_time + assertion ≤ t → last ≤ t → PulseFacts h t ack_time raised assertion offset (rows + 1) t false ack
-req_falls_facts h req_time ack_time raised assertion offset rows last t ack f held order =
-    let w = f.within in
+pub req_falls_facts : (h : Handshakes) (req_time ack_time raised assertion offset last t : ℕ) (ack : Bool) → PulseFacts h req_time ack_time raised assertion offset last true ack → req_time + assertion ≤ t → last ≤ t → PulseFacts h t ack_time raised assertion offset t false ack
+req_falls_facts h req_time ack_time raised assertion offset last t ack f held order =
     let stands = f.req_stands in
     let req_past = f.req_past in
     let ack_past = f.ack_past in
     record {
       asked = f.asked;
       counts = f.counts;
-      within = omega arith;
+      within = f.within;
       reached = f.reached;
       few = f.few;
       req_stands = omega arith;
@@ -104,15 +105,14 @@ req_falls_facts h req_time ack_time raised assertion offset rows last t ack f he
     }
 
 -- A row that changes neither REQ nor ACK.
-pub still_facts : (h : Handshakes) (req_time ack_time raised assertion offset rows last t : ℕ) (req ack : Bool) → PulseFacts h req_time ack_time raised assertion offset rows last req ack → last ≤ t → PulseFacts h req_time ack_time raised assertion offset (rows + 1) t req ack
-still_facts h req_time ack_time raised assertion offset rows last t req ack f order =
-    let w = f.within in
+pub still_facts : (h : Handshakes) (req_time ack_time raised assertion offset last t : ℕ) (req ack : Bool) → PulseFacts h req_time ack_time raised assertion offset last req ack → last ≤ t → PulseFacts h req_time ack_time raised assertion offset t req ack
+still_facts h req_time ack_time raised assertion offset last t req ack f order =
     let req_past = f.req_past in
     let ack_past = f.ack_past in
     record {
       asked = f.asked;
       counts = f.counts;
-      within = omega arith;
+      within = f.within;
       reached = f.reached;
       few = f.few;
       req_stands = f.req_stands;
@@ -128,8 +128,8 @@ fewer : (o : Option ℕ) (t a b reach : ℕ) → Reached o a reach → b + 1 ≡
 fewer None t a b reach h e = omega arith
 fewer (Some w) t a b reach h e = omega arith
 
-pub ack_rises_facts : (h : Handshakes) (req_time ack_time raised assertion offset rows last t : ℕ) (req : Bool) → PulseFacts h req_time ack_time raised assertion offset rows last req false → (length h.waiting == 0) ≡ false → rows + 1 < 2 ^ 64 → last ≤ t → PulseFacts (answered t h) req_time t t assertion offset (rows + 1) t req true
-ack_rises_facts h req_time ack_time raised assertion offset rows last t req f some short order =
+pub ack_rises_facts : (h : Handshakes) (req_time ack_time raised assertion offset last t : ℕ) (req : Bool) → PulseFacts h req_time ack_time raised assertion offset last req false → (length h.waiting == 0) ≡ false → last ≤ t → PulseFacts (answered t h) req_time t t assertion offset t req true
+ack_rises_facts h req_time ack_time raised assertion offset last t req f some order =
     let w = f.within in
     let count = f.counts in
     let less = one_less h.waiting some in
@@ -138,27 +138,26 @@ ack_rises_facts h req_time ack_time raised assertion offset rows last t req f so
     record {
       asked = f.asked;
       counts = omega arith;
-      within = omega arith;
+      within = w;
       reached = fewer h.relieved t (length h.waiting) (length (drop 1 h.waiting)) h.reach f.reached less;
       few = f.few;
       req_stands = f.req_stands;
       ack_stands = λ z. refl;
-      ack_first = λ z. ap (λ (x : ℕ). x == 0) same ∙ some_count h.answers;
+      ack_first = λ z. ap (λ (x : ℕ). x == 0) same ∙ next_some h.answers;
       raised_is = λ z. refl;
       req_past = omega arith;
       ack_past = omega arith;
       all_answered = λ z. omega arith;
     }
 
-pub ack_falls_facts : (h : Handshakes) (req_time ack_time raised assertion offset rows last t : ℕ) (req : Bool) → PulseFacts h req_time ack_time raised assertion offset rows last req true → ack_time + assertion ≤ t → last ≤ t → PulseFacts h req_time t raised assertion offset (rows + 1) t req false
-ack_falls_facts h req_time ack_time raised assertion offset rows last t req f held order =
-    let w = f.within in
+pub ack_falls_facts : (h : Handshakes) (req_time ack_time raised assertion offset last t : ℕ) (req : Bool) → PulseFacts h req_time ack_time raised assertion offset last req true → ack_time + assertion ≤ t → last ≤ t → PulseFacts h req_time t raised assertion offset t req false
+ack_falls_facts h req_time ack_time raised assertion offset last t req f held order =
     let req_past = f.req_past in
     let ack_past = f.ack_past in
     record {
       asked = f.asked;
       counts = f.counts;
-      within = omega arith;
+      within = f.within;
       reached = f.reached;
       few = f.few;
       req_stands = f.req_stands;

@@ -14,7 +14,6 @@ use Rattle.bus_laws.specs.Rows.{row_of_lines, change_to}
 use Rattle.bus_laws.specs.Stages.{CalmStanding}
 use Rattle.bus_laws.specs.Ends.{EndLines, initiator_side, target_side, connected_bus}
 use Rattle.bus_laws.proofs.Rows.{own_time_own, own_time_other}
-use Rattle.bus_laws.proofs.Tests.{eq_self}
 use Rattle.link_laws.specs.Books.{KeepsBooksIn}
 use Rattle.link_laws.specs.Phases.{ends, Shaking}
 use Rattle.link_laws.specs.LinkStages.{when_shaking}
@@ -22,6 +21,7 @@ use Rattle.link_laws.proofs.Moves.{initiator_moves, target_moves, initiator_in_p
 use Rattle.link_laws.proofs.LinkSeen.{around, obeys_linked}
 use Rattle.link_laws.proofs.LinkObeys.{req_falls_in, req_falls_out, ack_falls_in, ack_falls_out, ack_rises_in, byte_obeys, ack_rises_out}
 use Rattle.link_laws.proofs.Goes.{NextLinked, phase_goes, unpulsed_goes, turn_goes, turn_test, receives_if, data_by}
+use Rattle.bus_base.proofs.Tests.{eq_self}
 
 abbrev pub target_row : ℕ → Connection → EndLines → Row
 target_row t n f = row_of_lines t n.target (target_side f)
@@ -139,7 +139,7 @@ ends_ack_out s p n atn msg cd x t order h books =
 
 -- ---- ACK rises; in phases to the target the byte comes first
 
-or_asks : (q : Bool) → implies q true ≡ true
+pub or_asks : (q : Bool) → implies q true ≡ true
 or_asks true = refl
 or_asks false = refl
 

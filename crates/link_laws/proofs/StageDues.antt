@@ -20,9 +20,9 @@ use Rattle.bus_reactions.specs.Ends.{target_due, initiator_due, owes_release}
 use Rattle.bus_due.specs.Own.{own_of}
 use Rattle.bus_laws.specs.Reactions.{own_time, device_with}
 use Rattle.bus_laws.specs.Ends.{EndLines, initiator_side, target_side, connected_bus, ends_selected}
-use Rattle.bus_laws.proofs.Tests.{and_false}
 use Rattle.link_laws.specs.Phases.{ends, Settling, Turning, Offering as OfferingStage, Shaking}
 use Rattle.link_laws.proofs.EndDues.{sight_with, pace_with, offering_with, answering_with, target_plain, initiator_plain}
+use Rattle.bus_base.proofs.Tests.{and_false}
 
 -- ---- before REQ has risen
 

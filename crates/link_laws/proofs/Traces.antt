@@ -1,6 +1,6 @@
 -- Rows of prompt traces, connections and all.
 use Rattle.std.proofs.Common.{◌≡◌, ◌≤◌, Bool, true, false, not, ◌&&◌, ◌∙◌, List, [], ◌∷◌, None, refl, sym, ap, subst, arith}
-use Rattle.std.specs.Prelude.{◌<◌, ◌+◌, ◌^◌, length, is_some}
+use Rattle.std.specs.Prelude.{is_some}
 use Rattle.std.proofs.lemmas.Bool.{and_parts}
 use Rattle.bus_trace.specs.LineSet.{LineSet, data_of}
 use Rattle.bus_trace.specs.declared.Row.{Row}
@@ -16,7 +16,6 @@ use Rattle.bus_due.specs.Least.{IsLeast}
 use Rattle.bus_due.specs.Plain.{AreOfDevices}
 use Rattle.bus_laws.specs.Ends.{EndLines, Linked, BeginsConnection, by_selection, by_reselection}
 use Rattle.bus_laws.specs.Stages.{HasShortLatencies, BusStage, on_free_bus, in_arbitration, after_arbitration, with_both_ids, awaiting_answer, after_withdrawal, after_answer, after_takeover, in_reset, in_connection, Standing, NextRow, is_connected}
-use Rattle.bus_laws.proofs.Tests.{and_false}
 use Rattle.bus_laws.proofs.Prompt.{least_is}
 use Rattle.bus_laws.proofs.ResetSteps.{raises}
 use Rattle.bus_laws.proofs.Together.{standing_first, stage_first, standing_after, standing_next, from_stage, ahead_with_resets, by_reset, by_calm, reset_or_calm}
@@ -28,6 +27,8 @@ use Rattle.link_laws.proofs.Ahead.{stage_ahead}
 use Rattle.link_laws.proofs.Enters.{below_differs}
 use Rattle.link_laws.proofs.PhaseEnds.{AfterLink, goes_on, frees}
 use Rattle.link_laws.proofs.FromLink.{from_link}
+use Rattle.link_laws.proofs.RunLengths.{HasShortRuns}
+use Rattle.bus_base.proofs.Tests.{and_false}
 
 -- ---- a connection begins
 
@@ -94,7 +95,7 @@ after_stage s p row st m g = go (is_connected (row ∷ p)) refl
           here = linked b.n here;
         }
 
-link_calm : (s : ScenarioValue) (p : List Row) (n : Connection) → LinkStage s p n → (bus p).rst ≡ false
+pub link_calm : (s : ScenarioValue) (p : List Row) (n : Connection) → LinkStage s p n → (bus p).rst ≡ false
 link_calm s p n (when_selected h) = ap (λ (l : LineSet). l.rst) h.linked.stands.bus_is
 link_calm s p n (when_settling bsy atn msg cd io y h) = ap (λ (l : LineSet). l.rst) h.linked.stands.bus_is
 link_calm s p n (when_turning atn x msg cd h) = ap (λ (l : LineSet). l.rst) h.linked.stands.bus_is
@@ -102,11 +103,11 @@ link_calm s p n (when_offering atn msg cd y h) = ap (λ (l : LineSet). l.rst) h.
 link_calm s p n (when_shaking msg cd io req ack atn x y h) = ap (λ (l : LineSet). l.rst) h.linked.stands.bus_is
 link_calm s p n (when_pulsing io req ack atn x y h a) = ap (λ (l : LineSet). l.rst) h.linked.stands.bus_is
 
-from_linked : (s : ScenarioValue) (p : List Row) (row : Row) (n : Connection) → HasShortLatencies s → Standing s p → length p + 1 < 2 ^ 64 → LinkStage s p n → KeepsBooksIn p row → IsLeast (due s p) 8 row → NextAny s p row
-from_linked s p row n fits st short h books m =
+from_linked : (s : ScenarioValue) (p : List Row) (row : Row) (n : Connection) → HasShortLatencies s → HasShortRuns s → Standing s p → LinkStage s p n → KeepsBooksIn p row → IsLeast (due s p) 8 row → NextAny s p row
+from_linked s p row n fits runs st h books m =
     elim (reset_or_calm s p row st calm m) [
       | by_reset e ↦ after_stage s p row st m (subst (λ (w : Row). NextRow s p w) (sym e) (raises s p row.time row.dev st calm (subst (λ (w : Row). IsLeast (due s p) 8 w) e m)))
-      | by_calm always least ↦ after (from_link s p row n fits always st.there short h books least)
+      | by_calm always least ↦ after (from_link s p row n fits runs always st.there h books least)
     ]
   where
     calm : (bus p).rst ≡ false
@@ -128,9 +129,9 @@ from_linked s p row n fits st short h books m =
         }
 
 -- The next row, whatever stands.
-pub from_any : (s : ScenarioValue) (p : List Row) (row : Row) → HasShortLatencies s → Standing s p → length p + 1 < 2 ^ 64 → AnyStage s p → KeepsBooksIn p row → IsLeast (due s p) 8 row → NextAny s p row
-from_any s p row fits st short (apart h alone) books m = after_stage s p row st m (from_stage s p row fits st h alone m)
-from_any s p row fits st short (linked n h) books m = from_linked s p row n fits st short h books m
+pub from_any : (s : ScenarioValue) (p : List Row) (row : Row) → HasShortLatencies s → HasShortRuns s → Standing s p → AnyStage s p → KeepsBooksIn p row → IsLeast (due s p) 8 row → NextAny s p row
+from_any s p row fits runs st (apart h alone) books m = after_stage s p row st m (from_stage s p row fits st h alone m)
+from_any s p row fits runs st (linked n h) books m = from_linked s p row n fits runs st h books m
 
 -- ---- all rows
 
@@ -164,12 +165,11 @@ pub record Stood (s : ScenarioValue) (p : List Row) : Type 0 where
   pub standing : Standing s p
   pub here : AnyStage s p
 
-pub stood : (s : ScenarioValue) → HasShortLatencies s → (p : List Row) → IsPrompt s p → length p < 2 ^ 64 → Books p → Stood s p
-stood s fits [] prompt short b = record { standing = standing_first s; here = apart (stage_first s) refl }
-stood s fits (row ∷ p) prompt short b =
-    let less : length p + 1 < 2 ^ 64 = omega arith in
-    let was = stood s fits p prompt.0 (omega arith) (books_before p row b) in
-    let g = from_any s p row fits was.standing less was.here (books_at p row b) (least_is s p row prompt.1) in
+pub stood : (s : ScenarioValue) → HasShortLatencies s → HasShortRuns s → (p : List Row) → IsPrompt s p → Books p → Stood s p
+stood s fits runs [] prompt b = record { standing = standing_first s; here = apart (stage_first s) refl }
+stood s fits runs (row ∷ p) prompt b =
+    let was = stood s fits runs p prompt.0 (books_before p row b) in
+    let g = from_any s p row fits runs was.standing was.here (books_at p row b) (least_is s p row prompt.1) in
     record { standing = g.standing; here = g.here }
 
 -- ---- who drives what

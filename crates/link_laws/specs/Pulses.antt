@@ -1,5 +1,5 @@
 -- A data phase by pulses (6.1.5.2): how many pulses wait for their answer, and since when the lines and the bytes stand.
-use Rattle.std.specs.Prelude.{ℕ, ◌≡◌, ◌<◌, ◌≤◌, ◌+◌, ◌==◌, max, Bool, true, false, not, ◌&&◌, ◌||◌, List, Option, Some, None, length, nat_lt, is_some, if◌then◌else◌}
+use Rattle.std.specs.Prelude.{ℕ, ◌≡◌, ◌<◌, ◌≤◌, ◌+◌, ◌^◌, ◌==◌, max, Bool, true, false, not, ◌&&◌, ◌||◌, List, Option, Some, None, length, nat_lt, is_some, if◌then◌else◌}
 use Rattle.bus_trace.specs.declared.Row.{Row}
 use Rattle.bus_trace.specs.declared.agreements.TransferTimes.{TransferTimes}
 use Rattle.bus_trace.specs.declared.connection.Connection.{Connection}
@@ -59,11 +59,11 @@ HasDrivenPulsed s p n false x =
     ((handshakes p).answers == 0 && x == 0) ≡ false → (lat : ℕ) → latency_of s n.initiator ≡ Some lat → since data_of p ≤ drives_by (handshakes p) (times_here p).hold (own_of p n.initiator).ack lat
 
 -- The pulses of a phase, and their times: REQ and ACK changed last at the times `req_time` and `ack_time`, and the initiator last raised
--- ACK at `raised`.
-pub record PulseFacts (h : Handshakes) (req_time ack_time raised assertion offset rows last : ℕ) (req ack : Bool) : Type 0 where
+-- ACK at `raised`. They are fewer than those at which the count of them stays (`within`).
+pub record PulseFacts (h : Handshakes) (req_time ack_time raised assertion offset last : ℕ) (req ack : Bool) : Type 0 where
   pub asked : (h.requests == 0) ≡ false
   pub counts : h.requests ≡ h.answers + length h.waiting
-  pub within : h.requests ≤ rows
+  pub within : h.requests < 2 ^ 64
   pub reached : Reached h.relieved (length h.waiting) h.reach
   pub few : h.reach ≤ offset
   pub req_stands : HasPulsed req req_time h.last_req assertion
@@ -83,7 +83,7 @@ pub record Pulsing (s : ScenarioValue) (p : List Row) (n : Connection) (io req a
   pub side : OneSide io x y
   pub turned : HasTurned p io
   pub pulses_are : pulses p ≡ pulses_of (handshakes p)
-  pub facts : PulseFacts (handshakes p) (line_times p).req (line_times p).ack (own_of p n.initiator).ack (times_here p).assertion (offset_here p) (length p) (last_time p) req ack
+  pub facts : PulseFacts (handshakes p) (line_times p).req (line_times p).ack (own_of p n.initiator).ack (times_here p).assertion (offset_here p) (last_time p) req ack
   pub driven : HasDrivenPulsed s p n io x
   pub receives : (d : ℕ) → is_of_device (receiver p) d ≡ true → d ≡ (if io then n.initiator else n.target)
   pub received : io ≡ false → is_some (receiver p) ≡ true → ack ≡ true

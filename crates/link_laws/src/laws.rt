@@ -1,6 +1,6 @@
 // Laws of connections, each named by the contract of a function that does nothing.
 
-ghost use Rattle.std.specs.Prelude.{ℕ, ◌≡◌, ◌<◌, ◌≤◌, ◌+◌, ◌^◌, List, [], length, Some, true};
+ghost use Rattle.std.specs.Prelude.{ℕ, ◌≡◌, ◌<◌, ◌≤◌, List, [], Some, true};
 ghost use Rattle.bus_trace.specs.declared.Row.{Row};
 ghost use Rattle.bus_trace.specs.declared.connection.Connection.{Connection};
 ghost use Rattle.bus_trace.specs.Trace.{last_time};
@@ -30,22 +30,21 @@ ghost use Rattle.link_laws.specs.LinkStages.{LinkStage, AnyStage, NextAny};
 pub fn connections_go_on()
     ensures start { (s : ScenarioValue) → Standing s [] × AnyStage s [] }
     ensures next { (s : ScenarioValue) (rows : List Row) (row : Row) → Obeys s → Standing s rows → AnyStage s rows
-        → length rows + 1 < 2 ^ 64 → KeepsBooksIn rows row → next s rows ≡ Some row → NextAny s rows row }
+        → KeepsBooksIn rows row → next s rows ≡ Some row → NextAny s rows row }
     ensures sides { (s : ScenarioValue) (rows : List Row) (n : Connection) → LinkStage s rows n
         → (e : EndLines) × Linked rows n e }
 {}
 
-/// A prompt trace of fewer than 2^64 rows, whatever connections, faults and resets it has, obeys every rule of the bus
+/// A prompt trace, whatever connections, faults and resets it has and however long it is, obeys every rule of the bus
 /// (`lawful`), and nothing that is due after it lies in the past (`ahead`), where of the rows of its connections this
 /// is so: each byte that crosses has odd parity; the bytes of message phases form messages, are left whole, and leave
 /// no request open as data crosses; as many bytes of COMMAND cross as the command has, and data once it is whole; and
 /// the bus is not freed in a data phase.
 pub fn traces_are_lawful()
-    ensures lawful { (s : ScenarioValue) (rows : List Row) → Obeys s → IsPrompt s rows → length rows < 2 ^ 64
-        → have_odd_bytes rows ≡ true → have_whole_messages rows ≡ true → have_whole_commands rows ≡ true
-        → free_in_time rows ≡ true → AreLawful rows }
-    ensures ahead { (s : ScenarioValue) (rows : List Row) → Obeys s → IsPrompt s rows → length rows < 2 ^ 64
-        → have_odd_bytes rows ≡ true → have_whole_messages rows ≡ true → have_whole_commands rows ≡ true
-        → free_in_time rows ≡ true
+    ensures lawful { (s : ScenarioValue) (rows : List Row) → Obeys s → IsPrompt s rows → have_odd_bytes rows ≡ true
+        → have_whole_messages rows ≡ true → have_whole_commands rows ≡ true → free_in_time rows ≡ true
+        → AreLawful rows }
+    ensures ahead { (s : ScenarioValue) (rows : List Row) → Obeys s → IsPrompt s rows → have_odd_bytes rows ≡ true
+        → have_whole_messages rows ≡ true → have_whole_commands rows ≡ true → free_in_time rows ≡ true
         → (dev : ℕ) → dev < 8 → (x : Due) → due s rows dev ≡ Some x → last_time rows ≤ x.time }
 {}

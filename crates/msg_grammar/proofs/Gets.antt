@@ -6,6 +6,7 @@ use Rattle.bus_trace.specs.declared.agreements.Agreement.{Agreement}
 use Rattle.msg_grammar.specs.declared.message.Got.{Got}
 use Rattle.msg_grammar.specs.declared.message.Got.TheVariants.{Whole, More, Unknown}
 use Rattle.msg_grammar.specs.Grammar.{Form, alone, tagged, extended, reserved, offer_of, as_got, got_code, got_fields, msg_after, msg_by, got_after, got_by, Begins, GoesOn, NeverBegins}
+use Rattle.bus_base.proofs.Tests.{and_false}
 
 -- The answer is right.
 abbrev pub IsRight : {M : Type 0} → (List ℕ → Option M) → List ℕ → Got M → Type 0
@@ -27,10 +28,6 @@ no_len len (code ∷ []) l = refl
 no_len len (code ∷ period ∷ []) l = refl
 no_len len (code ∷ period ∷ offset ∷ []) l = λ i. cond (l i && code == 0x01) (Some (offer period offset)) None
 no_len len (code ∷ period ∷ offset ∷ b ∷ bytes) l = refl
-
-and_false : (b : Bool) → (b && false) ≡ false
-and_false true = refl
-and_false false = refl
 
 no_code : (len code : ℕ) (bytes : List ℕ) → (code == 0x01) ≡ false → offer_of (len ∷ code ∷ bytes) ≡ None
 no_code len code [] c = refl

@@ -12,9 +12,7 @@ use Rattle.msg_grammar.specs.Grammar.{Form, alone, tagged, extended, reserved, m
 use Rattle.msg_grammar.specs.declared.message.Got.TheVariants.{Whole}
 use Rattle.msg_grammar.specs.Messages.{is_of_eight, form_out, msg_out_of, got_out, FitsOut, out_bytes, form_in, msg_in_of, got_in, FitsIn, in_bytes}
 use Rattle.msg_grammar.proofs.Again.{again}
-
-eq_of : (m n : ℕ) → (m == n) ≡ true → m ≡ n
-eq_of m n e = grind (arith, nat_tests)
+use Rattle.std.proofs.lemmas.Bool.{eqb-true}
 
 of_eight : (first b : ℕ) → is_of_eight first b ≡ true → (first ≤ b) × (b < first + 8)
 of_eight first b e =
@@ -53,8 +51,8 @@ module _ {M : Type 0} (spelling : M → List ℕ) (fits : M → Type 0) where
       let o : Agreement = record { period = period; offset = offset } in
       let h = offered (len == 0x03) (code == 0x01) f o m e in
       let t = taken (f o) m (first ∷ 0x03 ∷ 0x01 ∷ period ∷ offset ∷ []) h.2 (s o) in
-      let l = eq_of len 0x03 h.0 in
-      let c = eq_of code 0x01 h.1 in
+      let l = eqb-true len 0x03 h.0 in
+      let c = eqb-true code 0x01 h.1 in
       ((λ i. first ∷ l i ∷ c i ∷ period ∷ offset ∷ []) ∙ t.0, t.1)
   after_spelled first (extended f) s (len ∷ code ∷ period ∷ offset ∷ b ∷ bytes) m e = absurd cc
   after_spelled first reserved s bytes m e = absurd cc
@@ -70,13 +68,13 @@ row P true x y f p = f refl
 row P false x y f p = p
 
 one : (b n : ℕ) → (b == n) ≡ true → b ∷ [] ≡ n ∷ []
-one b n e = ap (λ (x : ℕ). x ∷ []) (eq_of b n e)
+one b n e = ap (λ (x : ℕ). x ∷ []) (eqb-true b n e)
 
 two : (b n tag : ℕ) → (b == n) ≡ true → b ∷ tag ∷ [] ≡ n ∷ tag ∷ []
-two b n tag e = ap (λ (x : ℕ). x ∷ tag ∷ []) (eq_of b n e)
+two b n tag e = ap (λ (x : ℕ). x ∷ tag ∷ []) (eqb-true b n e)
 
 five : (b n : ℕ) (bytes : List ℕ) → (b == n) ≡ true → b ∷ bytes ≡ n ∷ bytes
-five b n bytes e = ap (λ (x : ℕ). x ∷ bytes) (eq_of b n e)
+five b n bytes e = ap (λ (x : ℕ). x ∷ bytes) (eqb-true b n e)
 
 eight : (b first : ℕ) → is_of_eight first b ≡ true → (b ∷ [] ≡ (first + (b - first)) ∷ []) × (b - first < 8)
 eight b first e =

@@ -19,8 +19,6 @@ use Rattle.bus_dialogue.specs.Wants.{Ready}
 use Rattle.bus_due.specs.RunState.{RunState, array_of}
 use Rattle.bus_due.specs.Wants.{item_want_time, ready_of, ready_time, seek_of, want_time}
 use Rattle.bus_books.specs.Accounts.{is_served_by}
-use Rattle.bus_books.proofs.Lists.{eq_self}
-use Rattle.bus_books.proofs.Lookups.{number_is}
 use Rattle.scsi_device.specs.Lines.{IsCommandLine}
 use Rattle.scsi_device.proofs.FitLines.{command_fits, obeys_fits}
 use Rattle.bus_laws.specs.Stages.{HasDevice}
@@ -30,6 +28,9 @@ use Rattle.progress_laws.proofs.Queues.{HasQueue, IsThere, current_there, not_re
 use Rattle.progress_laws.proofs.Rooms.{initiator_there, some_open}
 use Rattle.progress_laws.proofs.Unsent.{DoneBy, NoneOpen, no_sense_wanted, sent_all}
 use Rattle.progress_laws.specs.Queued.{AreOwed, AreQueued, IsOwed, command_id}
+use Rattle.std.proofs.lemmas.Bool.{eqb-true, and_from}
+use Rattle.bus_base.proofs.Tests.{wrong, eq_self, plus_none}
+use Rattle.progress_laws.proofs.QueueSteps.{no_command}
 
 -- ---- what is kept row by row
 
@@ -51,16 +52,10 @@ AreUnwanted s k = (dev latency : ℕ) → dev < 8 → latency_of s dev ≡ Some 
 
 -- ---- an initiator that stands in a hold wants the bus
 
-wrong : {A : Type 0} → true ≡ false → A
-wrong e = absurd cc
-
 some_none : {A : Type 0} (i : Item) → (let a : Option Item = Some i in a) ≡ None → A
 some_none i e = absurd cc
 
-yes_and : (x y : Bool) → x ≡ true → y ≡ true → (x && y) ≡ true
-yes_and x y e f = (λ i. e i && f i)
-
-sense_left : {A : Type 0} (s : ScenarioValue) (b : Sent) (n : ℕ) (c : CmdDef) (checks : List ℕ) → command_at s.commands n ≡ Some c → is_done b (sense_item n) ≡ false → list_any (λ k. k == n) checks ≡ true → sense_from s b c.host checks ≡ None → A
+pub sense_left : {A : Type 0} (s : ScenarioValue) (b : Sent) (n : ℕ) (c : CmdDef) (checks : List ℕ) → command_at s.commands n ≡ Some c → is_done b (sense_item n) ≡ false → list_any (λ k. k == n) checks ≡ true → sense_from s b c.host checks ≡ None → A
 sense_left s b n c [] at new e none = wrong (sym e)
 sense_left {A = A} s b n c (m ∷ checks) at new e none = go (m == n) refl e (is_of_host (command_at s.commands m) c.host && not (is_done b (sense_item m))) refl none (λ z w. sense_left s b n c checks at new z w)
   where
@@ -68,14 +63,14 @@ sense_left {A = A} s b n c (m ∷ checks) at new e none = go (m == n) refl e (is
         → (if x then Some (sense_item m) else sense_from s b c.host checks) ≡ None → (list_any (λ k. k == n) checks ≡ true → sense_from s b c.host checks ≡ None → A) → A
     go q z h true f none more = some_none (sense_item m) none
     go true z h false f none more =
-        let same : m ≡ n = number_is m n z in
-        let yes = yes_and (is_of_host (command_at s.commands m) c.host) (not (is_done b (sense_item m)))
+        let same : m ≡ n = eqb-true m n z in
+        let yes = and_from (is_of_host (command_at s.commands m) c.host) (not (is_done b (sense_item m)))
         ((λ i. is_of_host ((ap (command_at s.commands) same ∙ at) i) c.host) ∙ eq_self c.host)
         ((λ i. not (is_done b (sense_item (same i)))) ∙ ap not new) in
         wrong (sym yes ∙ f)
     go false z h false f none more = more h none
 
-is_told : (s : ScenarioValue) (k : RunState) (n : ℕ) → Items s k → k.served ≡ None → has_item k.story.sent.over (sense_item n) ≡ false → has_item k.story.sent.sent (sense_item n) ≡ false
+pub is_told : (s : ScenarioValue) (k : RunState) (n : ℕ) → Items s k → k.served ≡ None → has_item k.story.sent.over (sense_item n) ≡ false → has_item k.story.sent.sent (sense_item n) ≡ false
 is_told s k n items rest opens = go (has_item k.story.sent.sent (sense_item n)) refl
   where
     no_item : (i : Item) → (let a : Option Item = None in a) ≡ Some i → ⊥
@@ -85,17 +80,22 @@ is_told s k n items rest opens = go (has_item k.story.sent.sent (sense_item n)) 
     go true e = absurd (no_item (sense_item n) (sym rest ∙ (items.senses n (λ i. e i && not (opens i))).0))
     go false e = e
 
+-- The automatic REQUEST SENSE of a command that ended with CHECK CONDITION is over.
+pub sense_wanted : {A : Type 0} (s : ScenarioValue) (k : RunState) (n : ℕ) (c : CmdDef) → Obeys s → Items s k → k.served ≡ None → AreUnwanted s k → command_at s.commands n ≡ Some c
+    → list_any (λ m. m == n) k.story.sent.checks ≡ true → has_item k.story.sent.over (sense_item n) ≡ false → A
+sense_wanted s k n c o items rest quiet at checked opens =
+    let line : IsCommandLine s c = command_fits s n c (obeys_fits s o) at in
+    let d = initiator_there s c.host line.host_is in
+    let want = quiet c.host d.latency line.host d.latency_is in
+    let item_is : item_want_time s k.story.sent c.host ≡ None = sym (ap (λ (x : Bool). if x then item_want_time s k.story.sent c.host else ready_time (ready_of s k c.host)) line.host_is) ∙ want in
+    sense_left s k.story.sent n c k.story.sent.checks at (λ i. is_told s k n items rest opens i || opens i) checked (no_sense_wanted s k.story.sent c.host item_is)
+
 held_wants : {A : Type 0} (s : ScenarioValue) (k : RunState) (t n : ℕ) (holds : List Nexus) → Obeys s → Items s k → k.served ≡ None → AreUnwanted s k → AreOwed s k.story.sent holds → is_held holds t n ≡ true → A
 held_wants s k t n [] o items rest quiet owed e = wrong (sym e)
 held_wants {A = A} s k t n (q ∷ holds) o items rest quiet owed e = go (is_at_unit q t n) e (λ z. held_wants s k t n holds o items rest quiet owed.1 z)
   where
     own : IsOwed s k.story.sent q → A
-    own w =
-        let line : IsCommandLine s w.def = command_fits s w.number w.def (obeys_fits s o) w.def_is in
-        let d = initiator_there s w.def.host line.host_is in
-        let want = quiet w.def.host d.latency line.host d.latency_is in
-        let item_is : item_want_time s k.story.sent w.def.host ≡ None = sym (ap (λ (x : Bool). if x then item_want_time s k.story.sent w.def.host else ready_time (ready_of s k w.def.host)) line.host_is) ∙ want in
-        sense_left s k.story.sent w.number w.def k.story.sent.checks w.def_is (λ i. is_told s k w.number items rest w.opens i || w.opens i) w.checked (no_sense_wanted s k.story.sent w.def.host item_is)
+    own w = sense_wanted s k w.number w.def o items rest quiet w.def_is w.checked w.opens
 
     go : (x : Bool) → (x || is_held holds t n) ≡ true → (is_held holds t n ≡ true → A) → A
     go true z more = own owed.0
@@ -168,22 +168,16 @@ not_open s k n c o r rest quiet at = go (is_open k.story.sent n) refl
 next_place : (n m : ℕ) → n + suc m ≡ n + 1 + m
 next_place n m = omega arith
 
-same_place : (n : ℕ) → n + 0 ≡ n
-same_place n = omega arith
-
 none_open : (b : Sent) (n : ℕ) (commands : List CmdDef) → ((m : ℕ) (c : CmdDef) → command_at commands (suc m) ≡ Some c → is_open b (n + m) ≡ false) → NoneOpen b n commands
 none_open b n [] h = tt
 none_open b n (c ∷ commands) h =
-    (ap (is_open b) (sym (same_place n)) ∙ h 0 c refl, none_open b (n + 1) commands (λ m d e. ap (is_open b) (sym (next_place n m)) ∙ h (suc m) d e))
-
-no_command : {A : Type 0} (c : CmdDef) → (let a : Option CmdDef = None in a) ≡ Some c → A
-no_command c e = absurd cc
+    (ap (is_open b) (sym (plus_none n)) ∙ h 0 c refl, none_open b (n + 1) commands (λ m d e. ap (is_open b) (sym (next_place n m)) ∙ h (suc m) d e))
 
 done_at : (b : Sent) (dev n m : ℕ) (c : CmdDef) (commands : List CmdDef) → DoneBy b dev n commands → command_at commands (suc m) ≡ Some c → c.host ≡ dev → is_done b (command_item (n + m)) ≡ true
 done_at b dev n m c [] h at own = no_command c at
 done_at b dev n zero c (d ∷ commands) h at own =
     let same : d ≡ c = same_Some d c at in
-    ap (λ (j : ℕ). is_done b (command_item j)) (same_place n) ∙ h.0 (ap (λ (j : ℕ). j == dev) (ap (λ (x : CmdDef). x.host) same ∙ own) ∙ eq_self dev)
+    ap (λ (j : ℕ). is_done b (command_item j)) (plus_none n) ∙ h.0 (ap (λ (j : ℕ). j == dev) (ap (λ (x : CmdDef). x.host) same ∙ own) ∙ eq_self dev)
 done_at b dev n (suc m) c (d ∷ commands) h at own = ap (λ (j : ℕ). is_done b (command_item j)) (next_place n m) ∙ done_at b dev (n + 1) m c commands h.1 at own
 
 some_ending : (ended : List (ℕ × Ending)) (n : ℕ) → is_ended ended n ≡ true → is_some (ending_of ended n) ≡ true
@@ -204,7 +198,7 @@ some_outcome s b n e = go (ending_of b.ended n) (some_ending b.ended n e)
 each_outcome : (s : ScenarioValue) (b : Story) (n : ℕ) (commands : List CmdDef) → ((m : ℕ) (c : CmdDef) → command_at commands (suc m) ≡ Some c → is_ended b.ended (n + m) ≡ true) → list_all (λ (o : Option Outcome). is_some o) (outcomes_from s b n commands) ≡ true
 each_outcome s b n [] h = refl
 each_outcome s b n (c ∷ commands) h =
-    (λ i. some_outcome s b n (ap (is_ended b.ended) (sym (same_place n)) ∙ h 0 c refl) i && each_outcome s b (n + 1) commands (λ m d e. ap (is_ended b.ended) (sym (next_place n m)) ∙ h (suc m) d e) i)
+    (λ i. some_outcome s b n (ap (is_ended b.ended) (sym (plus_none n)) ∙ h 0 c refl) i && each_outcome s b (n + 1) commands (λ m d e. ap (is_ended b.ended) (sym (next_place n m)) ∙ h (suc m) d e) i)
 
 from_one : (m : ℕ) → 1 + m ≡ suc m
 from_one m = omega arith

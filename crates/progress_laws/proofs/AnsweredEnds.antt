@@ -1,6 +1,6 @@
 -- In a prompt trace that has ended each command has its outcome, by what stands in the queues and what is owed to those in a hold.
-use Rattle.std.proofs.Common.{◌≡◌, true, false, ◌∙◌, List, [], ◌∷◌, Option, sym, ap, subst}
-use Rattle.std.specs.Prelude.{is_some, ⊤}
+use Rattle.std.proofs.Common.{◌≡◌, true, ◌∙◌, List, Option, sym, ap, subst}
+use Rattle.std.specs.Prelude.{is_some}
 use Rattle.std.specs.List.{list_all}
 use Rattle.bus_trace.specs.declared.Row.{Row}
 use Rattle.scenario.specs.Value.{ScenarioValue}
@@ -15,13 +15,12 @@ use Rattle.bus_due.specs.Plain.{IsPlain}
 use Rattle.bus_due.specs.RunState.{RunState, array_of, or_start}
 use Rattle.bus_due.specs.RunSteps.{run_state}
 use Rattle.bus_due.proofs.Plains.{run_state_plain}
-use Rattle.scsi_device.proofs.FitLines.{obeys_fits, seats_are}
 use Rattle.trace_laws.specs.ItemFacts.{ItemFacts}
 use Rattle.trace_laws.specs.Places.{PlaceFacts}
 use Rattle.progress_laws.proofs.Answered.{Resting, answered_at_rest}
 use Rattle.progress_laws.proofs.Ended.{Joined, free_when_ended, unwanted_when_ended}
 use Rattle.progress_laws.proofs.Endings.{have_endings}
-use Rattle.progress_laws.proofs.QueueRows.{HasArray, IsLeftQueued, queued_next}
+use Rattle.progress_laws.proofs.QueueRows.{HasArray}
 use Rattle.progress_laws.proofs.UnitTargets.{targets_there}
 use Rattle.progress_laws.specs.Queued.{AreOwed, AreQueued}
 
@@ -33,30 +32,6 @@ place_array s p places = record { array = places.array; array_is = places.array_
 pub record Known (s : ScenarioValue) (p : List Row) : Type 0 where
   pub items : ItemFacts s p
   pub places : PlaceFacts s p
-
-abbrev pub AllKnown : ScenarioValue → List Row → Type 0
-AllKnown s [] = Known s []
-AllKnown s (row ∷ p) = AllKnown s p × Known s (row ∷ p)
-
-abbrev pub AreLeftQueued : ScenarioValue → List Row → Type 0
-AreLeftQueued s [] = ⊤
-AreLeftQueued s (row ∷ p) = AreLeftQueued s p × IsLeftQueued s p row
-
-last_known : (s : ScenarioValue) (p : List Row) → AllKnown s p → Known s p
-last_known s [] h = h
-last_known s (row ∷ p) h = h.1
-
-pub queued_start : (s : ScenarioValue) → AreQueued s (run_state s [])
-queued_start s n c at e away = wrong (sym e)
-  where
-    wrong : {A : Type 0} → true ≡ false → A
-    wrong z = absurd cc
-
-pub queued : (s : ScenarioValue) (p : List Row) → Obeys s → AllKnown s p → AreLeftQueued s p → AreQueued s (run_state s p)
-queued s [] o known left = queued_start s
-queued s (row ∷ p) o known left =
-    let was = last_known s p known.0 in
-    queued_next s p row (seats_are s (obeys_fits s o)) was.items.items (place_array s p was.places) (place_array s (row ∷ p) known.1.places) left.1 (queued s p o known.0 left.0)
 
 -- Each command has its outcome.
 pub answered_when_ended : (s : ScenarioValue) (p : List Row) → Obeys s → Joined s p → IsEnded s p → Known s p → AreQueued s (run_state s p) → AreOwed s (run_state s p).story.sent (array_of s (run_state s p)).holds

@@ -3,7 +3,7 @@
 use Rattle.std.proofs.Common.{inl, inr, ℕ, zero, suc, ◌≡◌, ◌≢◌, ◌⊎◌, ◌<◌, ◌+◌, ◌^◌, ◌%◌, Bool, true, false, not, ◌&&◌, ◌==◌, ◌∙◌, List, Some, refl, sym, ap, subst, arith}
 use Rattle.std.specs.Prelude.{is_some, nat_lt, nat_le}
 use Rattle.std.proofs.Math.Nat.{mod-le}
-use Rattle.std.proofs.lemmas.Bool.{cases_eq}
+use Rattle.std.proofs.lemmas.Bool.{cases_eq, true≢false}
 use Rattle.std.proofs.lemmas.Bool.Decides.{nat_tests}
 use Rattle.std.proofs.lemmas.Nat.{pow_pos, pow_below}
 use Rattle.bus_trace.specs.LineSet.{LineSet, none, has_id_above}
@@ -34,9 +34,6 @@ use Rattle.bus_laws.proofs.Rows.{stage_is}
 use Rattle.trace_laws.proofs.Called.{callee_at}
 use Rattle.progress_laws.proofs.Acts.{SomeDue, calm_end, moved, nothing_due, there_by}
 
-no_yes : true ≡ false → ⊥
-no_yes e = cc
-
 -- ---- under RST
 
 reset_off : (s : ScenarioValue) (p : List Row) → IsEnded s p → Standing s p → (d : ℕ) → d < 8 → (drives p d).rst ≡ false
@@ -49,12 +46,12 @@ reset_off s p end st d lt = go (drives p d).rst refl
         absurd (none_some _ (sym (nothing_due s p d end lt) ∙ due_holding s p d h.latency st.devices lt h.latency_is e))
 
 pub reset_ends : (s : ScenarioValue) (p : List Row) → IsEnded s p → Standing s p → (bus p).rst ≡ true → ⊥
-reset_ends s p end st on = no_yes (sym on ∙ bus_off (λ x. x.rst) (λ _ _. refl) refl p (reset_off s p end st))
+reset_ends s p end st on = true≢false (sym on ∙ bus_off (λ x. x.rst) (λ _ _. refl) refl p (reset_off s p end st))
 
 -- ---- an arbitration
 
 none_bsy : none ≡ arbitration_bus 0 → ⊥
-none_bsy e = no_yes (sym (ap (λ (x : LineSet). x.bsy) e))
+none_bsy e = true≢false (sym (ap (λ (x : LineSet). x.bsy) e))
 
 -- No higher ID is true, where no device above drives anything.
 lower_data : (p : List Row) (n : ℕ) → ((d : ℕ) → d < 8 → (drives p d ≡ none) ⊎ ((d < n) × (drives p d ≡ contender_lines d))) → (bus p).data_bits < 2 ^ n
@@ -104,7 +101,7 @@ no_contender s p a end st h (suc n) each =
 
 pub arbitration_ends : (s : ScenarioValue) (p : List Row) (a : Arbitration) → IsEnded s p → Standing s p → Arbitrating s p a → ⊥
 arbitration_ends s p a end st h =
-    no_yes (sym (ap (λ (x : LineSet). x.bsy) h.stands.bus_is) ∙ ap (λ (x : LineSet). x.bsy) (bus_none p (no_contender s p a end st h 8 (λ d lt. elim (h.each d lt) [
+    true≢false (sym (ap (λ (x : LineSet). x.bsy) h.stands.bus_is) ∙ ap (λ (x : LineSet). x.bsy) (bus_none p (no_contender s p a end st h 8 (λ d lt. elim (h.each d lt) [
       | inl z ↦ inl z
       | inr z ↦ inr (lt, z)
     ]))))
@@ -125,7 +122,7 @@ starts s p c lat since own b =
   where
     where_some : (q : Bool) (x : Due) → q ≡ true → SomeDue (due_where q (Some x))
     where_some true x e = record { row = x; is = refl }
-    where_some false x e = absurd (no_yes (sym e))
+    where_some false x e = absurd (true≢false (sym e))
 
     well : (k c : ℕ) → k < 8 → c ≢ k → (nat_lt k 8 && not (k == c)) ≡ true
     well k c lt ne = grind (arith, nat_tests)
@@ -167,4 +164,4 @@ free_at_end s p end st bound alone (after_takeover c k t0 t1 t2 t3 t4 x e f g) =
     let w : Calling = resumed_calling k t1 t2 t3 t4 in
     absurd (calls_end s p c _ end st h.caller_below h.stands.bus_is refl (ap (λ (x : LineSet). x.sel) h.caller) (λ lat there. record { row = _; is = goes_on_due s p w c t0 t3 lat _ st.devices h.caller_below there h.stands.connection_is (stage_is p _ _ _ _ h.stands) h.caller }))
 free_at_end s p end st bound alone (in_reset h) = absurd (reset_ends s p end st h.reset)
-free_at_end s p end st bound alone (in_connection n e calm h) = absurd (no_yes (sym (sym alone ∙ (λ i. is_some (e i) && not (calm i)))))
+free_at_end s p end st bound alone (in_connection n e calm h) = absurd (true≢false (sym (sym alone ∙ (λ i. is_some (e i) && not (calm i)))))

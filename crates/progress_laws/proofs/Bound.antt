@@ -38,15 +38,14 @@ use Rattle.bus_laws.proofs.Apart.{still_keeps}
 use Rattle.bus_laws.proofs.Dues.{free_due_is, idle_due, is_entry, is_entry_in, is_there, win_due}
 use Rattle.bus_laws.proofs.Prompt.{least_is}
 use Rattle.bus_laws.proofs.Rows.{drives_own, stage_is}
-use Rattle.bus_laws.proofs.Tests.{and_false}
 use Rattle.bus_laws.proofs.Together.{by_calm, by_reset, reset_or_calm}
 use Rattle.link_laws.specs.LinkStages.{AnyStage, apart, linked}
-use Rattle.trace_laws.proofs.Impossible.{wrong, wrong'}
 use Rattle.trace_laws.proofs.FirstRows.{under_rst}
 use Rattle.trace_laws.proofs.Joint.{Stood, link_connection}
-use Rattle.trace_laws.proofs.UnderRst.{line_off, quiet_at_end, reset_rule}
+use Rattle.trace_laws.proofs.UnderRst.{line_off, quiet_at_end, reset_rule, drives_next}
 use Rattle.progress_laws.proofs.Apart.{IsBound}
 use Rattle.progress_laws.proofs.Entries.{IsApart, WantsAreItems, enters_bound, enters_by, entry_wanted, others_bound, row_apart, still_bound}
+use Rattle.bus_base.proofs.Tests.{wrong, wrong', and_false}
 
 pub record AreBound (s : ScenarioValue) (p : List Row) : Type 0 where
   pub contenders : (a : Arbitration) → Arbitrating s p a → (d : ℕ) → d < 8 → IsContender s p a d → IsBound s p d
@@ -72,17 +71,10 @@ implied : (q r : Bool) → (not q || r) ≡ true → q ≡ true → r ≡ true
 implied true r e f = e
 implied false r e f = wrong' f
 
-next_is : (p : List Row) (row : Row) → drives (row ∷ p) row.dev ≡ driven_after row.kind (drives p row.dev)
-next_is p row = go row.kind refl
-  where
-    go : (k : Kind) → row.kind ≡ k → drives (row ∷ p) row.dev ≡ driven_after row.kind (drives p row.dev)
-    go (Drives l) e = drives-own row p l e ∙ sym (ap (λ (k : Kind). driven_after k (drives p row.dev)) e)
-    go (Fault bit) e = drives-fault row p bit row.dev e ∙ sym (ap (λ (k : Kind). driven_after k (drives p row.dev)) e)
-
 silent : (s : ScenarioValue) (p : List Row) (row : Row) → row.dev < 8 → broken_rule p row ≡ None → UnderRst s p → (bus (row ∷ p)).rst ≡ false → (d : ℕ) → d < 8 → (drives (row ∷ p) d).bsy ≡ false
 silent s p row lt obeys u off d ld =
     elim (cases_eq d row.dev) [
-      | inl same ↦ ap (λ (k : ℕ). (drives (row ∷ p) k).bsy) same ∙ ap (λ (l : LineSet). l.bsy) (next_is p row) ∙ its
+      | inl same ↦ ap (λ (k : ℕ). (drives (row ∷ p) k).bsy) same ∙ ap (λ (l : LineSet). l.bsy) (drives_next p row) ∙ its
       | inr ne ↦ ap (λ (l : LineSet). l.bsy) (drives-other row p d ne) ∙ was d ld
     ]
   where

@@ -24,6 +24,7 @@ use Rattle.bus_books.proofs.Aims.{aims_are}
 use Rattle.bus_books.proofs.ReadyProcesses.{reselects_by}
 use Rattle.trace_laws.proofs.Called.{callee_at, own_units}
 use Rattle.progress_laws.proofs.Apart.{IsBound}
+use Rattle.trace_laws.proofs.Ends.{sense_of, told_of}
 
 no_process : (p : Process) → (let a : Option Process = None in a) ≡ Some p → ⊥
 no_process p e = absurd cc
@@ -35,12 +36,6 @@ pub record HasTwoEnds (s : ScenarioValue) (initiator target : ℕ) : Type 0 wher
   pub target_below : target < 8
   pub host : is_host s.hosts initiator ≡ true
   pub none : is_host s.hosts target ≡ false
-
-abbrev sense_of : ScenarioValue → ProcId → CmdDef → Process
-sense_of s id c = record { id = id; initiator = c.host; target = c.target; unit = c.unit; tag = tags.Untagged; cdb = sense_block; sent = [] }
-
-abbrev told_of : ScenarioValue → ProcId → CmdDef → Process
-told_of s id c = record { id = id; initiator = c.host; target = c.target; unit = c.unit; tag = c.tag; cdb = c.cdb; sent = payload_bytes c.payload (sent_of s c) }
 
 command_ends : (s : ScenarioValue) (id : ProcId) (c : CmdDef) → HasTwoEnds s c.host c.target → HasTwoEnds s (process_by s id c).initiator (process_by s id c).target
 command_ends s id c h = go id.sense

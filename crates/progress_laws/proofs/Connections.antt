@@ -22,9 +22,10 @@ use Rattle.link_laws.specs.Phases.{Shaking}
 use Rattle.link_laws.specs.Pulses.{Pulsing, offset_here, run_count}
 use Rattle.link_laws.proofs.PulseDues.{pulsed_target_in, pulsed_target_out, pulsed_initiator_in, pulsed_initiator_out, target_choice, initiator_choice}
 use Rattle.link_laws.proofs.StageDues.{selected_target, settling_target, turning_target, offering_target, answered_target, between_target, ending_initiator_in, ending_initiator_out, asking_initiator_in, asking_initiator_out, giving_initiator_out}
-use Rattle.link_laws.proofs.Ahead.{zero_of}
 use Rattle.trace_laws.specs.Ends.{HasEnds}
 use Rattle.progress_laws.proofs.Acts.{SomeDue, there_by, moved, target_end, initiator_end}
+use Rattle.bus_base.proofs.Tests.{zero_of}
+use Rattle.link_laws.proofs.Traces.{sides_are}
 
 -- Both ends are there.
 pub record AreThere (s : ScenarioValue) (n : Connection) : Type 0 where
@@ -39,7 +40,7 @@ host_there s dev e = go (find (λ (t : TargetDef). t.dev == dev) s.targets) (hos
     go None (Some h) f g z = record { latency = h.latency; latency_is = λ i. target_latency (f i) (host_latency (g i)) }
     go None None f g z = let w = sym z ∙ ap (λ (x : Option HostDef). is_some x) g in absurd cc
 
-no_yes : false ≡ true → ⊥
+pub no_yes : false ≡ true → ⊥
 no_yes e = cc
 
 pub ends_there : (s : ScenarioValue) (p : List Row) (n : Connection) (e : EndLines) → Standing s p → Linked p n e → HasEnds s n → AreThere s n
@@ -154,15 +155,6 @@ pulsing_out s p n req ack atn x end st there calm h = go ack refl (length (hands
         (moved _ _ (pulsed_target_out s p n req ack atn x t.latency h.offset h.facts.asked) (asks_next req false (nat_lt (handshakes p).requests (run_count s p n)) (nat_lt (length (handshakes p).waiting) (offset_here p)) (not (length (handshakes p).waiting == 0) || ack) _ None _ _ (record { row = _; is = refl }) (λ z. absurd (no_yes z)) (record { row = _; is = refl }) (record { row = _; is = refl }) (has_room (length (handshakes p).waiting) (offset_here p) e h.offset) (λ j. not (e j) || off j)))
 
 -- ---- any stage of a connection
-
--- The two ends of the stage drive these lines.
-pub stage_ends : (s : ScenarioValue) (p : List Row) (n : Connection) → LinkStage s p n → (e : EndLines) × Linked p n e
-stage_ends s p n (when_selected h) = (_, h.linked)
-stage_ends s p n (when_settling bsy atn msg cd io y h) = (_, h.linked)
-stage_ends s p n (when_turning atn x msg cd h) = (_, h.linked)
-stage_ends s p n (when_offering atn msg cd y h) = (_, h.linked)
-stage_ends s p n (when_shaking msg cd io req ack atn x y h) = (_, h.linked)
-stage_ends s p n (when_pulsing io req ack atn x y h a) = (_, h.linked)
 
 pub goes_on : (s : ScenarioValue) (p : List Row) (n : Connection) → IsEnded s p → Standing s p → AreThere s n → (bus p).rst ≡ false → LinkStage s p n → ⊥
 goes_on s p n end st there calm (when_selected h) =

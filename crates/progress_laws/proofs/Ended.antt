@@ -1,5 +1,5 @@
 -- A prompt trace after which nothing is due: the bus is free, and the end obeys every rule.
-use Rattle.std.proofs.Common.{ℕ, ◌≡◌, ◌<◌, ◌^◌, Bool, true, false, ◌∙◌, List, [], ◌∷◌, length, Option, Some, None, refl, sym, ap, arith}
+use Rattle.std.proofs.Common.{ℕ, ◌≡◌, ◌<◌, Bool, true, false, ◌∙◌, List, [], ◌∷◌, Option, Some, None, refl, sym, ap, arith}
 use Rattle.std.specs.Prelude.{if◌then◌else◌, not, ◌&&◌, ◌||◌, ◌==◌, ◌+◌, nat_le}
 use Rattle.std.specs.List.{AllByRecursion}
 use Rattle.std.proofs.lemmas.Bool.Decides.{nat_tests}
@@ -36,13 +36,16 @@ use Rattle.bus_laws.proofs.Rows.{stage_is}
 use Rattle.bus_laws.specs.Stages.{FreeBus}
 use Rattle.link_laws.specs.LinkStages.{AnyStage, apart, linked}
 use Rattle.trace_laws.specs.Ends.{AreEnds}
-use Rattle.trace_laws.proofs.Joint.{Stood, link_calm, link_connection}
+use Rattle.trace_laws.proofs.Joint.{Stood, link_connection}
 use Rattle.trace_laws.proofs.Whole.{whole}
 use Rattle.progress_laws.proofs.Acts.{calm_end, moved, nothing_due}
 use Rattle.progress_laws.proofs.Apart.{free_at_end}
 use Rattle.progress_laws.proofs.Bound.{AreBound, bound_next, bound_start}
-use Rattle.progress_laws.proofs.Connections.{ends_there, goes_on, stage_ends}
+use Rattle.progress_laws.proofs.Connections.{ends_there, goes_on}
 use Rattle.progress_laws.proofs.Entries.{WantsAreItems}
+use Rattle.std.proofs.lemmas.Bool.{or_right}
+use Rattle.link_laws.proofs.Traces.{sides_are, link_calm}
+use Rattle.bus_laws.proofs.ResetObeys.{implied}
 
 -- What is known of a prompt trace.
 pub record Joined (s : ScenarioValue) (p : List Row) : Type 0 where
@@ -50,13 +53,13 @@ pub record Joined (s : ScenarioValue) (p : List Row) : Type 0 where
   pub ends : AreEnds s p
   pub bound : AreBound s p
 
-pub joined : (s : ScenarioValue) (p : List Row) → WantsAreItems → Obeys s → IsPrompt s p → length p < 2 ^ 64 → Joined s p
-joined s [] wants o prompt short =
-    let w = whole s [] o prompt short in
+pub joined : (s : ScenarioValue) (p : List Row) → WantsAreItems → Obeys s → IsPrompt s p → Joined s p
+joined s [] wants o prompt =
+    let w = whole s [] o prompt in
     record { stood = w.stood; ends = w.ends; bound = bound_start s }
-joined s (row ∷ p) wants o prompt short =
-    let w = whole s (row ∷ p) o prompt short in
-    let was = joined s p wants o prompt.0 (omega (arith, short)) in
+joined s (row ∷ p) wants o prompt =
+    let w = whole s (row ∷ p) o prompt in
+    let was = joined s p wants o prompt.0 in
     record { stood = w.stood; ends = w.ends; bound = bound_next s p row (obeys_fits s o) wants prompt was.stood ((row_none p row).1 w.stood.standing.lawful.1) was.bound }
 
 -- ---- the bus
@@ -67,7 +70,7 @@ free_when_ended s p j end = go j.stood.here
     go : AnyStage s p → FreeBus s p
     go (apart h alone) = free_at_end s p end j.stood.standing j.bound.caller alone h
     go (linked n h) =
-        let e = stage_ends s p n h in
+        let e = sides_are s p n h in
         absurd (goes_on s p n end j.stood.standing (ends_there s p n e.0 j.stood.standing e.1 (j.ends n (link_connection s p n h))) (link_calm s p n h) h)
 
 -- ---- the rules at the end
@@ -79,14 +82,6 @@ either false r e = e
 one_of : (q a b : Bool) → a ≡ true → b ≡ true → (if q then a else b) ≡ true
 one_of true a b e f = e
 one_of false a b e f = f
-
-implied : (q r : Bool) → r ≡ true → implies q r ≡ true
-implied true r e = e
-implied false r e = refl
-
-or_right : (q r : Bool) → r ≡ true → (q || r) ≡ true
-or_right true r e = refl
-or_right false r e = e
 
 same_time : (t : ℕ) → nat_le t t ≡ true
 same_time t = grind (arith, nat_tests)

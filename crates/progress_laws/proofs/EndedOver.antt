@@ -12,23 +12,31 @@ use Rattle.cdb_codec.specs.Cdb.{command_of}
 use Rattle.scenario.specs.declared.value.HostDef.{HostDef}
 use Rattle.scenario.specs.Value.{ScenarioValue}
 use Rattle.disk_array.specs.Execution.{Execution, Reply, check_condition, execution, is_request_sense, sense_of}
-use Rattle.disk_array.specs.Processes.{Process, process_of}
+use Rattle.disk_array.specs.ArrayHistory.{array_step}
+use Rattle.disk_array.specs.Processes.{Process, process_of, same_id}
 use Rattle.disk_array.specs.Steps as Steps
 use Rattle.disk_array.specs.Steps.{has_ended}
 use Rattle.disk_array.specs.Units.{Array, RunningProcess, UnitState, guest_at, is_held, nexus_of, nexuses_without, senses_without, unit_state_at}
 use Rattle.bus_story.specs.Items.{Item, has_item, process}
-use Rattle.bus_story.specs.Story.{Story, story_after_event}
+use Rattle.bus_story.specs.BusState.{RowReading, row_reading}
+use Rattle.bus_story.specs.HistoryEvents.{row_events_by}
+use Rattle.bus_story.specs.Story.{Story, story_after_event, story_after_events}
+use Rattle.bus_story.specs.TraceHistory.{story_by_change}
+use Rattle.bus_trace.specs.declared.Row.{Row}
+use Rattle.bus_due.specs.RunState.{RunState}
+use Rattle.bus_due.specs.RunSteps.{array_after_events, run_state}
+use Rattle.bus_books.proofs.Lookups.{id_is}
+use Rattle.std.specs.List.{list_any}
 use Rattle.trace_laws.proofs.OverItems.{ends_over, events_grow, lost_over}
+use Rattle.trace_laws.proofs.PointerWaits.{change_over}
 use Rattle.progress_laws.proofs.QueueSteps.{running_id}
+use Rattle.bus_base.proofs.Tests.{wrong}
 
 -- ---- of a list of what has ended
 
 abbrev pub AllOver : Story → List ProcId → Type 0
 AllOver b [] = ⊤
 AllOver b (id ∷ ids) = (has_item b.sent.over (process id) ≡ true) × AllOver b ids
-
-wrong : {A : Type 0} → true ≡ false → A
-wrong e = absurd cc
 
 over_all : (b c : Story) (ids : List ProcId) → ((i : Item) → has_item b.sent.over i ≡ true → has_item c.sent.over i ≡ true) → AllOver b ids → AllOver c ids
 over_all b c [] f h = tt
@@ -90,7 +98,7 @@ failed s b a i reply None h = new (process_of s i)
     new None = tt
     new (Some p) = if_none b (Steps.is_waiting a.units i || Steps.has_ended a i) _ h
 
-ended : (b : Story) (a : Array) (i : ProcId) (status : ℕ) → has_item b.sent.over (process i) ≡ true → AllOver b a.ended → IfOver b (Steps.end_step a status (Steps.running_process a i))
+pub ended : (b : Story) (a : Array) (i : ProcId) (status : ℕ) → has_item b.sent.over (process i) ≡ true → AllOver b a.ended → IfOver b (Steps.end_step a status (Steps.running_process a i))
 ended b a i status over h = go (Steps.running_process a i) refl
   where
     same : (r : RunningProcess) (reply : Reply) (q t : Bool) → (if q then record a { senses = (nexus_of r.process, reply.sense) ∷ senses_without a.senses (nexus_of r.process); holds = nexus_of r.process ∷ nexuses_without a.holds (nexus_of r.process) }
@@ -157,9 +165,50 @@ event_over s b a event h = by event (over_all b (story_after_event s b event) a.
     by (events.Reset dev) k =
         subst (λ (x : List ProcId). AllOver (story_after_event s b (events.Reset dev)) x) (sym (all_reset_same s.hosts a.units (λ u. true) (record (Steps.without_dropped a (λ p. true)) { senses = []; holds = [] }))) k
 
-pub step_over : (s : ScenarioValue) (b : Story) (a : Array) (event : Event) → AllOver b a.ended → IfOver (story_after_event s b event) (Steps.step s event a)
+step_over : (s : ScenarioValue) (b : Story) (a : Array) (event : Event) → AllOver b a.ended → IfOver (story_after_event s b event) (Steps.step s event a)
 step_over s b a event h = go (Steps.event_step s a event) (event_over s b a event h)
   where
     go : (o : Option Array) → IfOver (story_after_event s b event) o → IfOver (story_after_event s b event) (Steps.settled_array_if o)
     go None k = tt
     go (Some x) k = k
+
+-- ---- over the events of a row, and over rows
+
+events_over : (s : ScenarioValue) (b : Story) (o : Option Array) (shown : List Event) → IfOver b o → IfOver (story_after_events s b shown) (array_after_events s o shown)
+events_over s b o [] h = h
+events_over s b o (event ∷ shown) h = go (array_after_events s o shown) (events_over s b o shown h)
+  where
+    was : Story
+    was = story_after_events s b shown
+
+    go : (x : Option Array) → IfOver was x → IfOver (story_after_event s was event) (array_step s event x)
+    go None k = tt
+    go (Some a) k = step_over s was a event k
+
+more_over : (b c : Story) (o : Option Array) → ((i : Item) → has_item b.sent.over i ≡ true → has_item c.sent.over i ≡ true) → IfOver b o → IfOver c o
+more_over b c None f h = tt
+more_over b c (Some a) f h = over_all b c a.ended f h
+
+ended_over : (s : ScenarioValue) (p : List Row) → IfOver (run_state s p).story (run_state s p).array
+ended_over s [] = tt
+ended_over s (row ∷ p) =
+    let k : RunState = run_state s p in
+    let d : RowReading = row_reading k.story.bus_state row in
+    let b : Story = story_by_change s k.story d row in
+    events_over s b k.array (row_events_by s k.story d row) (more_over k.story b k.array (λ i. change_over s k.story d row i) (ended_over s p))
+
+over_at : (b : Story) (ids : List ProcId) (id : ProcId) → AllOver b ids → list_any (λ (p : ProcId). same_id p id) ids ≡ true → has_item b.sent.over (process id) ≡ true
+over_at b [] id h e = wrong (sym e)
+over_at b (x ∷ ids) id h e = go (same_id x id) refl e (λ z. over_at b ids id h.1 z)
+  where
+    go : (q : Bool) → same_id x id ≡ q → (q || list_any (λ (p : ProcId). same_id p id) ids) ≡ true
+        → (list_any (λ (p : ProcId). same_id p id) ids ≡ true → has_item b.sent.over (process id) ≡ true) → has_item b.sent.over (process id) ≡ true
+    go true z f more = ap (λ (y : ProcId). has_item b.sent.over (process y)) (sym (id_is x id z)) ∙ h.0
+    go false z f more = more f
+
+-- What has ended in the array is over.
+abbrev pub EndedOver : RunState → Array → Type 0
+EndedOver k a = (id : ProcId) → has_ended a id ≡ true → has_item k.story.sent.over (process id) ≡ true
+
+pub all_over : (s : ScenarioValue) (p : List Row) (a : Array) → (run_state s p).array ≡ Some a → EndedOver (run_state s p) a
+all_over s p a e id h = over_at (run_state s p).story a.ended id (subst (λ (o : Option Array). IfOver (run_state s p).story o) e (ended_over s p)) h

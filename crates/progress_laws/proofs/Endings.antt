@@ -27,8 +27,8 @@ use Rattle.bus_story.specs.Story.{Story, Ending, by_status, by_loss, by_abort, b
 use Rattle.bus_story.specs.TraceHistory.{aim_of, is_arbitration_entry, story_with_aim, story_without_answer, story_with_try, story_after_calling_by, story_after_calling, story_on_free_bus, story_with_restored, story_with_sent, story_after_connection, story_with_carried, story_after_out, story_after_in, story_after_byte, story_after_fault, story_in_connection, story_on_bus, story_by_change, is_parity_error, carried_after_byte_if, carried_after_fault_if}
 use Rattle.bus_due.specs.RunState.{RunState}
 use Rattle.bus_due.specs.RunSteps.{run_state}
-use Rattle.bus_books.proofs.Lists.{eq_self}
-use Rattle.bus_books.proofs.Lookups.{first_is, number_is, second_is}
+use Rattle.std.proofs.lemmas.Bool.{eqb-true}
+use Rattle.bus_base.proofs.Tests.{wrong, and_first, and_second, eq_self}
 
 -- ---- what is over, and what has ended
 
@@ -37,9 +37,6 @@ told b = (b.sent.over, b.ended)
 
 abbrev pub AllEnded : List Item × List (ℕ × Ending) → Type 0
 AllEnded t = (n : ℕ) → has_item t.0 (command_item n) ≡ true → is_ended t.1 n ≡ true
-
-wrong : {A : Type 0} → true ≡ false → A
-wrong e = absurd cc
 
 sense_of : (q : Bool) → same_bool q false ≡ true → q ≡ false
 sense_of true e = wrong (sym e)
@@ -61,7 +58,7 @@ end_told b id e h n z = go (same_id id (record { command = n; sense = false })) 
     own c f false w = ap (λ (x : Bool). x || is_ended b.ended n) (ap (λ (m : ℕ). m == n) c ∙ eq_self n)
 
     go : (x : Bool) → same_id id (record { command = n; sense = false }) ≡ x → (x || has_item b.sent.over (command_item n)) ≡ true → is_ended (with_ending b.ended id e) n ≡ true
-    go true f w = own (number_is id.command n (first_is (id.command == n) (same_bool id.sense false) f)) (sense_of id.sense (second_is (id.command == n) (same_bool id.sense false) f)) (id.sense || is_ended b.ended id.command) refl
+    go true f w = own (eqb-true id.command n (and_first (id.command == n) (same_bool id.sense false) f)) (sense_of id.sense (and_second (id.command == n) (same_bool id.sense false) f)) (id.sense || is_ended b.ended id.command) refl
     go false f w = grown (id.sense || is_ended b.ended id.command) (h n w)
 
 sense_apart : (m n : ℕ) → same_item (sense_item m) (command_item n) ≡ false

@@ -28,6 +28,9 @@ use Rattle.bus_laws.proofs.Dues.{is_at, none_some}
 use Rattle.progress_laws.proofs.AimRows.{aims_by_change, eight_aims, other_aim, own_aim}
 use Rattle.progress_laws.proofs.Apart.{IsBound}
 use Rattle.progress_laws.proofs.Callees.{aim_bound, ready_bound}
+use Rattle.std.proofs.lemmas.Bool.{le-leb}
+use Rattle.bus_base.proofs.Tests.{none_number, and_more}
+use Rattle.progress_laws.proofs.Connections.{no_yes}
 
 -- An initiator wants the bus from the time on at which it has something to send.
 abbrev pub WantsAreItems : Type 0
@@ -66,11 +69,6 @@ still_bound s p q c k b = by_wishes s p q c (k.wishes.ready c) (λ i. aim_of (k.
 
 -- ---- a row with which a device enters
 
-and_yes : (x y : Bool) → (x && y) ≡ true → (x && y && true) ≡ true
-and_yes true true q = refl
-and_yes true false q = q
-and_yes false y q = q
-
 entry_aims : (s : ScenarioValue) (p : List Row) (row : Row) → IsApart s p row → enters_by p row ≡ true → (run_state s (row ∷ p)).story.aims ≡ (story_with_aim s (run_state s p).story row).aims
 entry_aims s p row w ee =
     let k : RunState = run_state s p in
@@ -80,7 +78,7 @@ entry_aims s p row w ee =
     let e : d.change ≡ change_of p row = change_plain s row p w.devices w.below in
     let con = pl.connection ∙ w.stands.connection_is in
     let next = (λ i. connection_after (con i) (pl.call i) (e i) row) ∙ w.alone in
-    let ent : is_arbitration_entry b d ≡ true = (λ i. rises (e i).own.bsy (e i).next.bsy && not (e i).before.sel && is_none (con i)) ∙ and_yes (rises (drives p row.dev).bsy (change_of p row).next.bsy) (not (bus p).sel) ee in
+    let ent : is_arbitration_entry b d ≡ true = (λ i. rises (e i).own.bsy (e i).next.bsy && not (e i).before.sel && is_none (con i)) ∙ and_more (rises (drives p row.dev).bsy (change_of p row).next.bsy) (not (bus p).sel) ee in
     aims_by_change s p row
     ∙ ap (λ (q : Bool). (if q then record b { link = None } else story_on_bus s b b.bus_state.connection d.next d row).aims) (ap (λ (c : Change). c.after.rst) e ∙ w.calm)
     ∙ (λ i. (story_on_bus s b (con i) (next i) d row).aims)
@@ -90,15 +88,6 @@ pub others_bound : (s : ScenarioValue) (p : List Row) (row : Row) (c : ℕ) → 
 others_bound s p row c w ee ne b =
     by_wishes s p (row ∷ p) c ((entry_keeps s p row _ _ _ _ w ee).ready c)
     (ap (λ (x : List (Option Item)). aim_of x c) (entry_aims s p row w ee) ∙ other_aim (run_state s p).story.aims row.dev c _ ne) b
-
-le_yes : (a b : ℕ) → a ≤ b → nat_le a b ≡ true
-le_yes a b h = grind (arith, nat_tests)
-
-no_yes : false ≡ true → ⊥
-no_yes e = cc
-
-no_time : (w : ℕ) → (let a : Option ℕ = None in a) ≡ Some w → ⊥
-no_time w e = absurd cc
 
 pub enters_bound : (s : ScenarioValue) (p : List Row) (row : Row) (w : ℕ) → FitsBus s → WantsAreItems → IsApart s p row → enters_by p row ≡ true → want_time s (run_state s p) row.dev ≡ Some w → w ≤ row.time → IsBound s (row ∷ p) row.dev
 enters_bound s p row w fits wants a ee wish due = go (is_host s.hosts row.dev) refl
@@ -116,12 +105,12 @@ enters_bound s p row w fits wants a ee wish due = go (is_host s.hosts row.dev) r
     by_item host (Some item) e = aim_bound s (row ∷ p) row.dev item fits host (mine host ∙ e)
     by_item host None e =
         let wish_is : item_want_time s k.story.sent row.dev ≡ Some w = sym (ap (λ (q : Bool). if q then item_want_time s k.story.sent row.dev else ready_time (ready_of s k row.dev)) host) ∙ wish in
-        absurd (no_yes (sym (ap (λ (x : Option Item). is_some x) e) ∙ wants s k.story.sent row.dev row.time ∙ ap (λ (x : Option ℕ). is_reached x row.time) wish_is ∙ le_yes w row.time due))
+        absurd (no_yes (sym (ap (λ (x : Option Item). is_some x) e) ∙ wants s k.story.sent row.dev row.time ∙ ap (λ (x : Option ℕ). is_reached x row.time) wish_is ∙ le-leb w row.time due))
 
     by_ready : is_host s.hosts row.dev ≡ false → (o : Option Ready) → ready_of s k row.dev ≡ o → IsBound s (row ∷ p) row.dev
     by_ready host (Some r) e = ready_bound s (row ∷ p) row.dev r fits (a.below, a.devices) host ((entry_keeps s p row _ _ _ _ a ee).ready row.dev ∙ e)
     by_ready host None e =
-        absurd (no_time w (sym (ap ready_time e) ∙ sym (ap (λ (q : Bool). if q then item_want_time s k.story.sent row.dev else ready_time (ready_of s k row.dev)) host) ∙ wish))
+        absurd (none_number w (sym (ap ready_time e) ∙ sym (ap (λ (q : Bool). if q then item_want_time s k.story.sent row.dev else ready_time (ready_of s k row.dev)) host) ∙ wish))
 
     go : (q : Bool) → is_host s.hosts row.dev ≡ q → IsBound s (row ∷ p) row.dev
     go true host = by_item host (item_at s k.story.sent row.dev row.time) refl

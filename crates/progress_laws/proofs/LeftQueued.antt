@@ -1,54 +1,30 @@
 -- A command whose connection ends, and which is open after it, was disconnected: it was not lost, and did not end (6.6.5, 6.6.6).
 use Rattle.std.proofs.Common.{inl, inr, ℕ, ◌≡◌, ◌⊎◌, Bool, true, false, ◌∙◌, List, [], ◌∷◌, Some, None, refl, sym, ap, subst}
-use Rattle.std.specs.Prelude.{if◌then◌else◌, is_some}
 use Rattle.bus_base.specs.declared.Event.TheVariants as events
 use Rattle.bus_base.specs.declared.Event.{Event}
-use Rattle.bus_base.specs.declared.ProcId.{ProcId}
-use Rattle.bus_trace.specs.Changes.{rises}
 use Rattle.bus_trace.specs.declared.Row.{Row}
 use Rattle.bus_trace.specs.declared.connection.Connection.{Connection}
 use Rattle.msg_grammar.specs.declared.message.MsgIn.TheVariants as to_initiator
 use Rattle.scenario.specs.Value.{ScenarioValue}
 use Rattle.disk_array.specs.Processes.{Process}
-use Rattle.disk_array.specs.Steps.{has_ended}
-use Rattle.disk_array.specs.Units.{Array}
 use Rattle.bus_story.specs.BusState.{row_reading}
-use Rattle.bus_story.specs.HistoryEvents.{bus_free_events, connection_events, item_loss_events, link_events, row_events_by}
-use Rattle.bus_story.specs.Items.{command_item, has_item, is_open, process}
+use Rattle.bus_story.specs.HistoryEvents.{bus_free_events, item_loss_events, row_events_by}
+use Rattle.bus_story.specs.Items.{command_item, is_open}
 use Rattle.bus_story.specs.Links.{Link, plain}
 use Rattle.bus_story.specs.Story.{Story, story_after_events}
 use Rattle.bus_story.specs.TraceHistory.{story_by_change}
 use Rattle.bus_dialogue.specs.Exchange.{one_message}
 use Rattle.bus_dialogue.specs.NextPhase.{phase_of}
-use Rattle.bus_dialogue.specs.declared.exchange.Next.TheVariants as nexts
 use Rattle.bus_dialogue.specs.declared.exchange.Phase.TheVariants as phases
 use Rattle.bus_dialogue.specs.declared.exchange.Phase.{Phase}
 use Rattle.bus_due.specs.RunState.{RunState, bus_of, process_served}
 use Rattle.bus_due.specs.RunSteps.{run_state_after}
-use Rattle.trace_laws.specs.Places.{Closes, HasPlaces, IsAtRest, IsTaken, PlacedBefore, PlacedIf, PlacedIn, TellNoEnd, completes, disconnects}
+use Rattle.trace_laws.specs.Places.{Closes, HasPlaces, IsTaken, PlacedBefore, PlacedIf, PlacedIn, completes, disconnects, is_queued}
 use Rattle.trace_laws.proofs.OverItems.{lost_over}
-use Rattle.trace_laws.proofs.PlaceEnds.{IsEndAsked}
+use Rattle.trace_laws.proofs.PlaceEnds.{IsEndAsked, free_shown}
+use Rattle.progress_laws.proofs.EndedOver.{EndedOver}
 use Rattle.progress_laws.proofs.QueueRows.{open_over}
-use Rattle.progress_laws.specs.Queued.{command_id, is_queued}
-
-wrong : {A : Type 0} → true ≡ false → A
-wrong e = absurd cc
-
--- As the bus is to be freed in MESSAGE IN, and none of the messages is COMMAND COMPLETE, the process that is served stands in a queue.
-abbrev pub IsDisconnected : RunState → Array → Type 0
-IsDisconnected k a =
-    (id : ProcId) → k.served ≡ Some (process id) → phase_of (bus_of k) ≡ phases.MessageIn → k.exchange.plan.next ≡ nexts.FreeBus → TellNoEnd k.exchange.plan.messages → IsAtRest a id → has_ended a id ≡ false → is_queued a.units id ≡ true
-
--- What has ended in the array is over.
-abbrev pub EndedOver : RunState → Array → Type 0
-EndedOver k a = (id : ProcId) → has_ended a id ≡ true → has_item k.story.sent.over (process id) ≡ true
-
-free_shown : (s : ScenarioValue) (k : RunState) (row : Row) (l : Link) → k.story.link ≡ Some l → (row_reading k.story.bus_state row).change.after.rst ≡ false → (row_reading k.story.bus_state row).next ≡ None
-    → row_events_by s k.story (row_reading k.story.bus_state row) row ≡ bus_free_events s l l.last
-free_shown s k row l link calm none =
-    let d = row_reading k.story.bus_state row in
-    (λ i. if calm i then (if rises d.change.own.rst d.change.next.rst then events.Reset row.dev ∷ [] else []) else link_events s k.story (link i) d)
-    ∙ (λ i. if is_some (none i) then connection_events s k.story l d else bus_free_events s l l.last)
+use Rattle.progress_laws.specs.Queued.{command_id}
 
 -- What is lost is over.
 lost_closed : {A : Type 0} (s : ScenarioValue) (k : RunState) (row : Row) (l : Link) (n : ℕ) → k.story.link ≡ Some l → (row_reading k.story.bus_state row).change.after.rst ≡ false → (row_reading k.story.bus_state row).next ≡ None → l.last ≡ plain → l.item ≡ Some (command_item n)
@@ -63,9 +39,10 @@ lost_closed s k row l n link calm none last item e =
     shown = free_shown s k row l link calm none ∙ (λ i. bus_free_events s l (last i)) ∙ (λ i. item_loss_events (item i))
 
 pub left_calm : (s : ScenarioValue) (k : RunState) (row : Row) (m : Connection) (l : Link) (n : ℕ) (p : Process) → (h : HasPlaces s k) → k.story.bus_state.connection ≡ Some m → (bus_of k).rst ≡ false → k.exchange.begun ≡ true → k.served ≡ Some (command_item n) → process_served s k ≡ Some p → p.id ≡ command_id n
-    → k.story.link ≡ Some l → (row_reading k.story.bus_state row).change.after.rst ≡ false → (row_reading k.story.bus_state row).next ≡ None → IsEndAsked k l h.array → EndedOver k h.array → IsDisconnected k h.array → is_open k.story.sent n ≡ true → is_open (run_state_after s k row).story.sent n ≡ true
+    → k.story.link ≡ Some l → (row_reading k.story.bus_state row).change.after.rst ≡ false → (row_reading k.story.bus_state row).next ≡ None
+    → IsEndAsked k l h.array → EndedOver k h.array → is_open k.story.sent n ≡ true → is_open (run_state_after s k row).story.sent n ≡ true
     → is_queued h.array.units (command_id n) ≡ true
-left_calm s k row m l n p h con off begun served is own link calm none asked over queued was e = go (phase_of (bus_of k)) refl
+left_calm s k row m l n p h con off begun served is own link calm none asked over was e = go (phase_of (bus_of k)) refl
   where
     placed : PlacedIn h.array p k.exchange.plan k.handshakes (bus_of k).atn (phase_of (bus_of k))
     placed = subst (λ (q : Bool). PlacedIf q h.array p k.exchange.plan k.handshakes (bus_of k).atn (phase_of (bus_of k))) begun (h.placed m con off p is)
@@ -81,8 +58,7 @@ left_calm s k row m l n p h con off begun served is own link calm none asked ove
 
     closes : phase_of (bus_of k) ≡ phases.MessageIn → Closes h.array p k.exchange.plan.messages → Left
     closes here (completes says answered) = taken here says
-    closes here (disconnects tells rests opens) =
-        queued (command_id n) served here (asked.next (command_id n) served here) tells (subst (λ (i : ProcId). IsAtRest h.array i) own rests) (ap (has_ended h.array) (sym own) ∙ opens)
+    closes here (disconnects tells rests opens queued) = ap (is_queued h.array.units) (sym own) ∙ queued
 
     by : phase_of (bus_of k) ≡ phases.MessageIn → (PlacedBefore h.array p k.exchange.plan.messages k.exchange.plan.next) ⊎ (IsTaken h.array p k.exchange.plan k.handshakes (bus_of k).atn) → Left
     by here (inl z) = closes here (subst (λ x. PlacedBefore h.array p k.exchange.plan.messages x) (asked.next (command_id n) served here) z)

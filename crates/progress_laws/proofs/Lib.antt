@@ -12,7 +12,6 @@ pub mod Queues
 pub mod Rooms
 pub mod Endings
 pub mod UnitTargets
-pub mod QueueEvents
 pub mod Answered
 pub mod QueueSteps
 pub mod QueueRows
@@ -22,3 +21,12 @@ pub mod OwedEvents
 pub mod OwedRows
 pub mod LeftQueued
 pub mod EndedOver
+pub mod ResetCommands
+pub mod QueuedTraces
+pub mod DebtSteps
+pub mod FetchedSenses
+pub mod DebtEvents
+pub mod DebtRows
+pub mod DebtNext
+pub mod DebtTraces
+mod DebtCases

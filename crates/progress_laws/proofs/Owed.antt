@@ -1,6 +1,6 @@
 -- To each initiator that stands in a hold its automatic REQUEST SENSE is owed, after every event, where one that ends does so with GOOD
 -- and none is lost (7.6).
-use Rattle.std.proofs.Common.{ℕ, suc, ◌≡◌, ◌+◌, Bool, true, false, ◌&&◌, ◌||◌, ◌∙◌, List, [], ◌∷◌, Some, refl, sym, ap, subst, arith}
+use Rattle.std.proofs.Common.{ℕ, suc, ◌≡◌, ◌+◌, Bool, true, false, ◌&&◌, ◌∙◌, List, [], ◌∷◌, Some, refl, sym, ap, subst, arith}
 use Rattle.std.specs.Prelude.{if◌then◌else◌, ◌==◌}
 use Rattle.std.specs.List.{list_any}
 use Rattle.std.proofs.lemmas.Option.{same_Some}
@@ -14,11 +14,10 @@ use Rattle.disk_array.specs.Steps as Steps
 use Rattle.disk_array.specs.Units.{Array, Nexus, UnitState, nexus_of, nexuses_without, same_nexus, unit_state_at}
 use Rattle.bus_story.specs.Items.{Sent, command_item, has_item, is_open, same_item, sense_item}
 use Rattle.bus_story.specs.Story.{Ending, Story, by_abort, is_aborted, is_sense_stopped, story_with_end, story_with_ends, story_with_over}
-use Rattle.bus_books.proofs.Lookups.{first_is, number_is}
 use Rattle.progress_laws.specs.Queued.{AreOwed, IsOwed}
-
-wrong : {A : Type 0} → true ≡ false → A
-wrong e = absurd cc
+use Rattle.std.proofs.lemmas.Bool.{eqb-true, or_from}
+use Rattle.bus_base.proofs.Tests.{wrong, and_first, and_true}
+use Rattle.trace_laws.proofs.OverItems.{ends_checks}
 
 -- ---- what stays owed
 
@@ -46,19 +45,12 @@ owed_kept s b c drops (q ∷ holds) f h = go (drops q) refl (owed_kept s b c dro
 
 -- ---- an abort, or RST
 
-or_no : (q r : Bool) → q ≡ false → r ≡ false → (q || r) ≡ false
-or_no q r e f = λ i. e i || f i
-
-command_apart : (n m : ℕ) → same_item (command_item n) (sense_item m) ≡ false
+pub command_apart : (n m : ℕ) → same_item (command_item n) (sense_item m) ≡ false
 command_apart n m = go (n == m)
   where
     go : (q : Bool) → (q && same_bool false true) ≡ false
     go true = refl
     go false = refl
-
-and_true : (q : Bool) → (q && true) ≡ q
-and_true true = refl
-and_true false = refl
 
 -- The REQUEST SENSE of a command that the test does not stop is not over by it.
 sense_leaves : (drops stops : CmdDef → Bool) (e : Ending) (j : ℕ) (all commands : List CmdDef) (b : Story) (m : ℕ) → ((k : ℕ) → command_at commands (suc k) ≡ command_at all (suc (j + k))) → ((c : CmdDef) → command_at all m ≡ Some c → stops c ≡ false) → has_item b.sent.over (sense_item m) ≡ false
@@ -87,26 +79,12 @@ sense_leaves drops stops e j all (c ∷ commands) b m h keep o =
 
     apart : (q : Bool) → (suc j == m) ≡ q → stops c ≡ true → (suc j == m) ≡ false
     apart false z d = z
-    apart true z d = wrong (sym d ∙ keep c (ap (command_at all) (sym (number_is (suc j) m z)) ∙ here))
+    apart true z d = wrong (sym d ∙ keep c (ap (command_at all) (sym (eqb-true (suc j) m z)) ∙ here))
 
     go : (q r : Bool) → (stops c && list_any (λ k. k == suc j) b.sent.checks) ≡ r → has_item (if q then story_with_end b (record { command = suc j; sense = false }) e else if r then story_with_over b (sense_item (suc j)) else b).sent.over (sense_item m) ≡ false
-    go true r z = or_no (same_item (command_item (suc j)) (sense_item m)) (has_item b.sent.over (sense_item m)) (command_apart (suc j) m) o
-    go false true z = or_no (same_item (sense_item (suc j)) (sense_item m)) (has_item b.sent.over (sense_item m)) (and_true (suc j == m) ∙ apart (suc j == m) refl (first_is (stops c) (list_any (λ k. k == suc j) b.sent.checks) z)) o
+    go true r z = or_from (same_item (command_item (suc j)) (sense_item m)) (has_item b.sent.over (sense_item m)) (command_apart (suc j) m) o
+    go false true z = or_from (same_item (sense_item (suc j)) (sense_item m)) (has_item b.sent.over (sense_item m)) (and_true (suc j == m) ∙ apart (suc j == m) refl (and_first (stops c) (list_any (λ k. k == suc j) b.sent.checks) z)) o
     go false false z = o
-
-ends_checks : (drops stops : CmdDef → Bool) (e : Ending) (n : ℕ) (commands : List CmdDef) (b : Story) → (story_with_ends drops stops e n commands b).sent.checks ≡ b.sent.checks
-ends_checks drops stops e n [] b = refl
-ends_checks drops stops e n (c ∷ commands) b =
-    ends_checks drops stops e (n + 1) commands
-    (if is_open b.sent n && drops c then story_with_end b (record { command = n; sense = false }) e
-    else if stops c && list_any (λ k. k == n) b.sent.checks then story_with_over b (sense_item n)
-    else b)
-    ∙ go (is_open b.sent n && drops c) (stops c && list_any (λ k. k == n) b.sent.checks)
-  where
-    go : (q r : Bool) → (if q then story_with_end b (record { command = n; sense = false }) e else if r then story_with_over b (sense_item n) else b).sent.checks ≡ b.sent.checks
-    go true r = refl
-    go false true = refl
-    go false false = refl
 
 none_more : (k : ℕ) → k ≡ 0 + k
 none_more k = omega arith
@@ -124,10 +102,10 @@ still_owed s drops stops e b q w keep = record {
   opens = sense_leaves drops stops e 0 s.commands s.commands b w.number (λ k. ap (λ (m : ℕ). command_at s.commands (suc m)) (none_more k)) (λ c at. ap stops (sym (same_Some w.def c (sym w.def_is ∙ at))) ∙ keep) w.opens;
 }
 
-abbrev nexus_at : ℕ → ℕ → ℕ → Nexus
+abbrev pub nexus_at : ℕ → ℕ → ℕ → Nexus
 nexus_at i t n = record { initiator = i; target = t; unit = n }
 
-cleared_holds : (i : ℕ) (lost : List Process) (a : Array) → (Steps.cleared_attentions i lost a).holds ≡ a.holds
+pub cleared_holds : (i : ℕ) (lost : List Process) (a : Array) → (Steps.cleared_attentions i lost a).holds ≡ a.holds
 cleared_holds i [] a = refl
 cleared_holds i (p ∷ lost) a = cleared_holds i lost (if p.initiator == i then a else Steps.cleared_attention a (nexus_of p)) ∙ go (p.initiator == i)
   where
@@ -143,7 +121,7 @@ reset_holds : (hosts : List HostDef) (t n : ℕ) (a : Array) → (Steps.reset_at
 reset_holds [] t n a = refl
 reset_holds (h ∷ hosts) t n a = reset_holds hosts t n (Steps.reset_attention a (record { initiator = h.dev; target = t; unit = n }))
 
-all_reset_holds : (hosts : List HostDef) (units : List UnitState) (is_one : UnitState → Bool) (a : Array) → (Steps.unit_reset_attentions hosts units is_one a).holds ≡ a.holds
+pub all_reset_holds : (hosts : List HostDef) (units : List UnitState) (is_one : UnitState → Bool) (a : Array) → (Steps.unit_reset_attentions hosts units is_one a).holds ≡ a.holds
 all_reset_holds hosts [] is_one a = refl
 all_reset_holds hosts (u ∷ units) is_one a = all_reset_holds hosts units is_one (if is_one u then Steps.reset_attentions hosts u.target u.unit a else a) ∙ go (is_one u)
   where

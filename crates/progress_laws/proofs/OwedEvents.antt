@@ -12,7 +12,7 @@ use Rattle.cdb_codec.specs.declared.status.TheConstants.{GOOD, CHECK_CONDITION}
 use Rattle.cdb_codec.specs.Cdb.{command_of}
 use Rattle.scenario.specs.declared.value.CmdDef.{CmdDef}
 use Rattle.scenario.specs.Value.{ScenarioValue}
-use Rattle.disk_array.specs.Execution.{Execution, Reply, check_condition, execution, is_request_sense, sense_of}
+use Rattle.disk_array.specs.Execution.{Reply, check_condition, is_request_sense, sense_of}
 use Rattle.disk_array.specs.Processes.{Process, command_at, process_by, process_if, process_of, same_bool, same_id}
 use Rattle.disk_array.specs.SoundArray.{AllOwnGuests, AllOwnUnits, IsOwnRunning, IsSound}
 use Rattle.disk_array.specs.Steps as Steps
@@ -20,14 +20,13 @@ use Rattle.disk_array.specs.Steps.{running_if}
 use Rattle.disk_array.specs.Units.{Array, Nexus, RunningProcess, UnitState, guest_at, is_held, nexus_of, nexuses_without, same_nexus, senses_without, unit_state_at}
 use Rattle.bus_story.specs.Items.{Item, Sent, has_item, process, same_item, sense_item}
 use Rattle.bus_story.specs.Story.{Story, by_status, story_after_event, story_with_end}
-use Rattle.bus_books.proofs.Lists.{eq_self}
-use Rattle.bus_books.proofs.Lookups.{number_is}
 use Rattle.progress_laws.proofs.Owed.{aborts_owe, owed_all, owed_without, reset_owes}
-use Rattle.progress_laws.proofs.QueueSteps.{running_id}
+use Rattle.progress_laws.proofs.QueueSteps.{running_id, none_run}
 use Rattle.progress_laws.specs.Queued.{AreOwed, IsOwed}
-
-wrong : {A : Type 0} → true ≡ false → A
-wrong e = absurd cc
+use Rattle.std.proofs.lemmas.Bool.{eqb-true, or_from}
+use Rattle.bus_base.proofs.Tests.{wrong, eq_self}
+use Rattle.trace_laws.proofs.OtherProcesses.{executed}
+use Rattle.trace_laws.proofs.OverItems.{later}
 
 -- An automatic REQUEST SENSE that ends does so with GOOD, and none is lost; and that of a command is not over as the command ends.
 abbrev pub EndsWell : Story → Event → Type 0
@@ -35,63 +34,57 @@ EndsWell b (events.End id status) = (id.sense ≡ true → (status == GOOD) ≡ 
 EndsWell b (events.Lost id) = id.sense ≡ false
 EndsWell b _ = ⊤
 
+-- Of those that stand in holds, where the step is allowed.
+abbrev pub IfHolds : (List Nexus → Type 0) → Option Array → Type 0
+IfHolds f None = ⊤
+IfHolds f (Some a) = f a.holds
+
 abbrev pub IfOwed : ScenarioValue → Sent → Option Array → Type 0
-IfOwed s c None = ⊤
-IfOwed s c (Some a) = AreOwed s c a.holds
+IfOwed s c o = IfHolds (λ holds. AreOwed s c holds) o
 
-if_some : (s : ScenarioValue) (c : Sent) (q : Bool) (a : Array) → AreOwed s c a.holds → IfOwed s c (if q then Some a else None)
-if_some s c true a h = h
-if_some s c false a h = tt
+if_some : (f : List Nexus → Type 0) (q : Bool) (a : Array) → f a.holds → IfHolds f (if q then Some a else None)
+if_some f true a h = h
+if_some f false a h = tt
 
-if_none : (s : ScenarioValue) (c : Sent) (q : Bool) (a : Array) → AreOwed s c a.holds → IfOwed s c (if q then None else Some a)
-if_none s c true a h = tt
-if_none s c false a h = h
+pub if_none : (f : List Nexus → Type 0) (q : Bool) (a : Array) → f a.holds → IfHolds f (if q then None else Some a)
+if_none f true a h = tt
+if_none f false a h = h
 
 -- ---- events that change no hold
 
-accepted : (s : ScenarioValue) (c : Sent) (a : Array) (o : Option Process) → AreOwed s c a.holds → IfOwed s c (Steps.accept_step a o)
-accepted s c a None h = tt
-accepted s c a (Some p) h = at (unit_state_at a.units p.target p.unit)
+pub accepted : (f : List Nexus → Type 0) (a : Array) (o : Option Process) → f a.holds → IfHolds f (Steps.accept_step a o)
+accepted f a None h = tt
+accepted f a (Some p) h = at (unit_state_at a.units p.target p.unit)
   where
-    at : (u : Option UnitState) → IfOwed s c (Steps.accept_step_at a p u)
+    at : (u : Option UnitState) → IfHolds f (Steps.accept_step_at a p u)
     at None = h
     at (Some u) = go (is_request_sense (command_of p.cdb))
       where
-        go : (q : Bool) → IfOwed s c (if q then Some (Steps.with_guest a p None) else Steps.queue_step a p u)
+        go : (q : Bool) → IfHolds f (if q then Some (Steps.with_guest a p None) else Steps.queue_step a p u)
         go true = h
-        go false = if_some s c (nat_lt (Steps.process_count u) u.depth) _ h
+        go false = if_some f (nat_lt (Steps.process_count u) u.depth) _ h
 
-refused : (s : ScenarioValue) (c : Sent) (a : Array) (o : Option Process) → AreOwed s c a.holds → IfOwed s c (Steps.refuse_step a o)
-refused s c a None h = tt
-refused s c a (Some p) h = at (unit_state_at a.units p.target p.unit)
+pub refused : (f : List Nexus → Type 0) (a : Array) (o : Option Process) → f a.holds → IfHolds f (Steps.refuse_step a o)
+refused f a None h = tt
+refused f a (Some p) h = at (unit_state_at a.units p.target p.unit)
   where
-    at : (u : Option UnitState) → IfOwed s c (Steps.refuse_step_at a p u)
+    at : (u : Option UnitState) → IfHolds f (Steps.refuse_step_at a p u)
     at None = tt
-    at (Some u) = if_some s c (not (is_request_sense (command_of p.cdb)) && Steps.process_count u == u.depth) _ h
+    at (Some u) = if_some f (not (is_request_sense (command_of p.cdb)) && Steps.process_count u == u.depth) _ h
 
-executed : (a : Array) (p : Process) (u : Option UnitState) (done : Execution) → (Steps.after_execution a p u done).holds ≡ a.holds
-executed a p u done = go done.reported u
-  where
-    go : (q : Bool) (o : Option UnitState) → (Steps.with_contents (Steps.without_attention a q (nexus_of p)) o done.contents).holds ≡ a.holds
-    go true None = refl
-    go true (Some v) = refl
-    go false None = refl
-    go false (Some v) = refl
-
-run : (s : ScenarioValue) (c : Sent) (a : Array) (guest : Bool) (o : Option RunningProcess) → AreOwed s c a.holds → IfOwed s c (Steps.run_step a guest o)
-run s c a guest None h = tt
-run s c a guest (Some r) h =
+pub run : (f : List Nexus → Type 0) (a : Array) (guest : Bool) (o : Option RunningProcess) → f a.holds → IfHolds f (Steps.run_step a guest o)
+run f a guest None h = tt
+run f a guest (Some r) h =
     let u = unit_state_at a.units r.process.target r.process.unit in
-    if_some s c (is_none r.reply && (guest || not (is_held a.holds r.process.target r.process.unit))) _
-    (subst (λ (x : List Nexus). AreOwed s c x) (sym (executed a r.process u (execution (Steps.context_at a (nexus_of r.process) u) r.process.cdb r.process.sent))) h)
+    if_some f (is_none r.reply && (guest || not (is_held a.holds r.process.target r.process.unit))) _ (subst f (sym (executed a r.process u).holds) h)
 
-failed : (s : ScenarioValue) (c : Sent) (a : Array) (i : ProcId) (reply : Reply) (o : Option RunningProcess) → AreOwed s c a.holds → IfOwed s c (Steps.fail_step s a i reply o)
-failed s c a i reply (Some r) h = if_some s c (is_none r.reply) _ h
-failed s c a i reply None h = new (process_of s i)
+pub failed : (f : List Nexus → Type 0) (s : ScenarioValue) (a : Array) (i : ProcId) (reply : Reply) (o : Option RunningProcess) → f a.holds → IfHolds f (Steps.fail_step s a i reply o)
+failed f s a i reply (Some r) h = if_some f (is_none r.reply) _ h
+failed f s a i reply None h = new (process_of s i)
   where
-    new : (p : Option Process) → IfOwed s c (Steps.fail_step_of_new a i reply p)
+    new : (p : Option Process) → IfHolds f (Steps.fail_step_of_new a i reply p)
     new None = tt
-    new (Some p) = if_none s c (Steps.is_waiting a.units i || Steps.has_ended a i) _ h
+    new (Some p) = if_none f (Steps.is_waiting a.units i || Steps.has_ended a i) _ h
 
 -- ---- a process that is over
 
@@ -101,17 +94,6 @@ other_over id n e = ap (λ (q : Bool). (id.command == n) && same_bool q true) e 
     go : (q : Bool) → (q && false) ≡ false
     go true = refl
     go false = refl
-
-or_no : (q r : Bool) → q ≡ false → r ≡ false → (q || r) ≡ false
-or_no q r e f = λ i. e i || f i
-
-later : (n : ℕ) (checks more : List ℕ) → list_any (λ k. k == n) checks ≡ true → list_any (λ k. k == n) (checks ++ more) ≡ true
-later n [] more e = wrong (sym e)
-later n (c ∷ checks) more e = go (c == n) e (λ z. later n checks more z)
-  where
-    go : (q : Bool) → (q || list_any (λ k. k == n) checks) ≡ true → (list_any (λ k. k == n) checks ≡ true → list_any (λ k. k == n) (checks ++ more) ≡ true) → (q || list_any (λ k. k == n) (checks ++ more)) ≡ true
-    go true z rest = refl
-    go false z rest = rest z
 
 own_last : (n : ℕ) (checks : List ℕ) → list_any (λ k. k == n) (checks ++ n ∷ []) ≡ true
 own_last n [] = ap (λ (q : Bool). q || false) (eq_self n)
@@ -131,18 +113,15 @@ owed_on s b c id q w over more apart = record {
   target_is = w.target_is;
   unit_is = w.unit_is;
   checked = more w.number w.checked;
-  opens = ap (λ (x : List Item). has_item x (sense_item w.number)) over ∙ or_no (same_item (process id) (sense_item w.number)) (has_item b.over (sense_item w.number)) apart w.opens;
+  opens = ap (λ (x : List Item). has_item x (sense_item w.number)) over ∙ or_from (same_item (process id) (sense_item w.number)) (has_item b.over (sense_item w.number)) apart w.opens;
 }
 
 lost : (s : ScenarioValue) (b : Story) (a : Array) (id : ProcId) → id.sense ≡ false → AreOwed s b.sent a.holds → IfOwed s (story_after_event s b (events.Lost id)).sent (Steps.loss_step a id)
 lost s b a id e h =
-    if_none s (story_after_event s b (events.Lost id)).sent (Steps.has_ended a id) _
+    if_none (λ holds. AreOwed s (story_after_event s b (events.Lost id)).sent holds) (Steps.has_ended a id) _
     (owed_all s b.sent (story_after_event s b (events.Lost id)).sent a.holds (λ q w. owed_on s b.sent (story_after_event s b (events.Lost id)).sent id q w refl (λ n z. z) (other_over id w.number e)) h)
 
 -- ---- the process that runs is of the scenario
-
-none_run : {A : Type 0} (r : RunningProcess) → (let o : Option RunningProcess = None in o) ≡ Some r → A
-none_run r z = absurd cc
 
 guest_own : (s : ScenarioValue) (guests : List RunningProcess) (i : ProcId) (r : RunningProcess) → AllOwnGuests s guests → guest_at guests i ≡ Some r → process_of s r.process.id ≡ Some r.process
 guest_own s [] i r own z = none_run r z
@@ -168,7 +147,7 @@ unit_own s (u ∷ units) i r own z = go (running_if u.current i) refl z (λ w. u
     go (Some g) f h more = current_own s u.target u.unit u.current i r own.0.current (f ∙ h)
     go None f h more = more h
 
-running_own : (s : ScenarioValue) (a : Array) (i : ProcId) (r : RunningProcess) → IsSound s a → Steps.running_process a i ≡ Some r → process_of s i ≡ Some r.process
+pub running_own : (s : ScenarioValue) (a : Array) (i : ProcId) (r : RunningProcess) → IsSound s a → Steps.running_process a i ≡ Some r → process_of s i ≡ Some r.process
 running_own s a i r sound e = ap (process_of s) (sym (running_id a i r e)) ∙ go (guest_at a.guests i) refl e
   where
     go : (o : Option RunningProcess) → guest_at a.guests i ≡ o → (if is_some o then o else Steps.running_in a.units i) ≡ Some r → process_of s r.process.id ≡ Some r.process
@@ -176,15 +155,15 @@ running_own s a i r sound e = ap (process_of s) (sym (running_id a i r e)) ∙ g
     go None z h = unit_own s a.units i r sound.units h
 
 -- Its command, and its nexus.
-record OfCommand (s : ScenarioValue) (id : ProcId) (p : Process) : Type 0 where
-  def : CmdDef
-  def_is : command_at s.commands id.command ≡ Some def
-  host_is : def.host ≡ p.initiator
-  target_is : def.target ≡ p.target
-  unit_is : def.unit ≡ p.unit
-  fetches : id.sense ≡ true → is_request_sense (command_of p.cdb) ≡ true
+pub record OfCommand (s : ScenarioValue) (id : ProcId) (p : Process) : Type 0 where
+  pub def : CmdDef
+  pub def_is : command_at s.commands id.command ≡ Some def
+  pub host_is : def.host ≡ p.initiator
+  pub target_is : def.target ≡ p.target
+  pub unit_is : def.unit ≡ p.unit
+  pub fetches : id.sense ≡ true → is_request_sense (command_of p.cdb) ≡ true
 
-of_command : (s : ScenarioValue) (id : ProcId) (p : Process) → process_of s id ≡ Some p → OfCommand s id p
+pub of_command : (s : ScenarioValue) (id : ProcId) (p : Process) → process_of s id ≡ Some p → OfCommand s id p
 of_command s id p e = go (command_at s.commands id.command) refl
   where
     no_process : {A : Type 0} → (let o : Option Process = None in o) ≡ Some p → A
@@ -221,11 +200,27 @@ of_command s id p e = go (command_at s.commands id.command) refl
 
 -- ---- a process ends
 
-no_check : {A : Type 0} (status : ℕ) → (status == GOOD) ≡ true → (status == CHECK_CONDITION) ≡ true → A
-no_check status e f = wrong (sym (sym (ap (λ (n : ℕ). n == GOOD) (number_is status CHECK_CONDITION f)) ∙ e))
+pub no_check : {A : Type 0} (status : ℕ) → (status == GOOD) ≡ true → (status == CHECK_CONDITION) ≡ true → A
+no_check status e f = wrong (sym (sym (ap (λ (n : ℕ). n == GOOD) (eqb-true status CHECK_CONDITION f)) ∙ e))
+
+-- The process that ends is of the scenario, and its reply has this status.
+pub ended_so : (s : ScenarioValue) (f : List Nexus → Type 0) (a : Array) (id : ProcId) (status : ℕ) → IsSound s a → ((p : Process) (reply : Reply) → OfCommand s id p → (reply.status == status) ≡ true → f (Steps.after_status a p reply).holds) → IfHolds f (Steps.end_step a status (Steps.running_process a id))
+ended_so s f a id status sound h = go (Steps.running_process a id) refl
+  where
+    reply_by : (r : RunningProcess) → OfCommand s id r.process → (o : Option Reply) → IfHolds f (Steps.end_step_with a r.process status o)
+    reply_by r of None = tt
+    reply_by r of (Some reply) = go_status (reply.status == status) refl
+      where
+        go_status : (q : Bool) → (reply.status == status) ≡ q → IfHolds f (if q then Some (Steps.array_without (Steps.after_status a r.process reply) r.process.id) else None)
+        go_status true z = h r.process reply of z
+        go_status false z = tt
+
+    go : (o : Option RunningProcess) → Steps.running_process a id ≡ o → IfHolds f (Steps.end_step a status o)
+    go None z = tt
+    go (Some r) z = reply_by r (of_command s id r.process (running_own s a id r sound z)) r.reply
 
 ended : (s : ScenarioValue) (b : Story) (a : Array) (id : ProcId) (status : ℕ) → IsSound s a → EndsWell b (events.End id status) → AreOwed s b.sent a.holds → IfOwed s (story_after_event s b (events.End id status)).sent (Steps.end_step a status (Steps.running_process a id))
-ended s b a id status sound well h = go (Steps.running_process a id) refl
+ended s b a id status sound well h = ended_so s (λ holds. AreOwed s c holds) a id status sound after
   where
     c : Sent
     c = (story_after_event s b (events.End id status)).sent
@@ -261,17 +256,17 @@ ended s b a id status sound well h = go (Steps.running_process a id) refl
         by : (x : Bool) → (id.command == w.number) ≡ x → same_item (process id) (sense_item w.number) ≡ false
         by false z = ap (λ (x : Bool). x && same_bool id.sense true) z
         by true z =
-            let same : w.def ≡ of.def = same_Some w.def of.def (sym w.def_is ∙ ap (command_at s.commands) (sym (number_is id.command w.number z)) ∙ of.def_is) in
+            let same : w.def ≡ of.def = same_Some w.def of.def (sym w.def_is ∙ ap (command_at s.commands) (sym (eqb-true id.command w.number z)) ∙ of.def_is) in
             let host : q.initiator ≡ (nexus_of p).initiator = sym w.host_is ∙ ap (λ (x : CmdDef). x.host) same ∙ of.host_is in
             let target : q.target ≡ (nexus_of p).target = sym w.target_is ∙ ap (λ (x : CmdDef). x.target) same ∙ of.target_is in
             let unit : q.unit ≡ (nexus_of p).unit = sym w.unit_is ∙ ap (λ (x : CmdDef). x.unit) same ∙ of.unit_is in
             wrong (sym ((λ i. (host i == p.initiator) && ((target i == p.target) && (unit i == p.unit))) ∙ (λ i. eq_self p.initiator i && (eq_self p.target i && eq_self p.unit i))) ∙ ne)
 
-    after : (p : Process) → OfCommand s id p → (reply : Reply) → (reply.status == status) ≡ true → AreOwed s c (Steps.after_status a p reply).holds
-    after p of reply z = by (reply.status == CHECK_CONDITION) refl (reply.status == GOOD && is_request_sense (command_of p.cdb)) refl id.sense refl
+    after : (p : Process) (reply : Reply) → OfCommand s id p → (reply.status == status) ≡ true → AreOwed s c (Steps.after_status a p reply).holds
+    after p reply of z = by (reply.status == CHECK_CONDITION) refl (reply.status == GOOD && is_request_sense (command_of p.cdb)) refl id.sense refl
       where
         same : reply.status ≡ status
-        same = number_is reply.status status z
+        same = eqb-true reply.status status z
 
         by : (q : Bool) → (reply.status == CHECK_CONDITION) ≡ q → (t : Bool) → (reply.status == GOOD && is_request_sense (command_of p.cdb)) ≡ t → (x : Bool) → id.sense ≡ x
             → AreOwed s c (if q then record a { senses = (nexus_of p, reply.sense) ∷ senses_without a.senses (nexus_of p); holds = nexus_of p ∷ nexuses_without a.holds (nexus_of p) }
@@ -287,7 +282,7 @@ ended s b a id status sound well h = go (Steps.running_process a id) refl
             target_is = of.target_is;
             unit_is = of.unit_is;
             checked = checked e (ap (λ (n : ℕ). n == CHECK_CONDITION) (sym same) ∙ f);
-            opens = ap (λ (x : List Item). has_item x (sense_item id.command)) over ∙ or_no (same_item (process id) (sense_item id.command)) (has_item b.sent.over (sense_item id.command)) (other_over id id.command e) (well.1 e);
+            opens = ap (λ (x : List Item). has_item x (sense_item id.command)) over ∙ or_from (same_item (process id) (sense_item id.command)) (has_item b.sent.over (sense_item id.command)) (other_over id id.command e) (well.1 e);
           },
           owed_without s b.sent c a.holds (nexus_of p) (λ q ne w. apart p of q ne w) h,
         )
@@ -295,33 +290,22 @@ ended s b a id status sound well h = go (Steps.running_process a id) refl
         by false f false g true e = wrong (sym (λ i. (ap (λ (n : ℕ). n == GOOD) same ∙ well.0 e) i && of.fetches e i) ∙ g)
         by false f false g false e = owed_all s b.sent c a.holds (λ q w. others e q w) h
 
-    reply_by : (r : RunningProcess) → OfCommand s id r.process → (o : Option Reply) → IfOwed s c (Steps.end_step_with a r.process status o)
-    reply_by r of None = tt
-    reply_by r of (Some reply) = go_status (reply.status == status) refl
-      where
-        go_status : (q : Bool) → (reply.status == status) ≡ q → IfOwed s c (if q then Some (Steps.array_without (Steps.after_status a r.process reply) r.process.id) else None)
-        go_status true z = after r.process of reply z
-        go_status false z = tt
-
-    go : (o : Option RunningProcess) → Steps.running_process a id ≡ o → IfOwed s c (Steps.end_step a status o)
-    go None z = tt
-    go (Some r) z = reply_by r (of_command s id r.process (running_own s a id r sound z)) r.reply
-
 -- ---- any event
 
 event_owes : (s : ScenarioValue) (b : Story) (a : Array) (event : Event) → IsSound s a → EndsWell b event → AreOwed s b.sent a.holds → IfOwed s (story_after_event s b event).sent (Steps.event_step s a event)
-event_owes s b a (events.Accept id) sound well h = accepted s b.sent a (process_of s id) h
-event_owes s b a (events.Refuse id) sound well h = refused s b.sent a (process_of s id) h
-event_owes s b a (events.Run id) sound well h = run s b.sent a (is_some (guest_at a.guests id)) (Steps.running_process a id) h
-event_owes s b a (events.Fail id code) sound well h = failed s b.sent a id (check_condition (sense_of ABORTED_COMMAND code 0x00)) (Steps.running_process a id) h
+event_owes s b a (events.Accept id) sound well h = accepted (λ holds. AreOwed s b.sent holds) a (process_of s id) h
+event_owes s b a (events.Refuse id) sound well h = refused (λ holds. AreOwed s b.sent holds) a (process_of s id) h
+event_owes s b a (events.Run id) sound well h = run (λ holds. AreOwed s b.sent holds) a (is_some (guest_at a.guests id)) (Steps.running_process a id) h
+event_owes s b a (events.Fail id code) sound well h = failed (λ holds. AreOwed s b.sent holds) s a id (check_condition (sense_of ABORTED_COMMAND code 0x00)) (Steps.running_process a id) h
 event_owes s b a (events.End id status) sound well h = ended s b a id status sound well h
 event_owes s b a (events.Lost id) sound well h = lost s b a id well h
 event_owes s b a (events.Aborted i t n what) sound well h = aborts_owe s b a i t n what h
 event_owes s b a (events.Reset dev) sound well h = reset_owes s (story_after_event s b (events.Reset dev)) a
 
+-- The choices change no hold.
+pub if_settled : (f : List Nexus → Type 0) (o : Option Array) → IfHolds f o → IfHolds f (Steps.settled_array_if o)
+if_settled f None k = tt
+if_settled f (Some x) k = k
+
 pub step_owes : (s : ScenarioValue) (b : Story) (a : Array) (event : Event) → IsSound s a → EndsWell b event → AreOwed s b.sent a.holds → IfOwed s (story_after_event s b event).sent (Steps.step s event a)
-step_owes s b a event sound well h = go (Steps.event_step s a event) (event_owes s b a event sound well h)
-  where
-    go : (o : Option Array) → IfOwed s (story_after_event s b event).sent o → IfOwed s (story_after_event s b event).sent (Steps.settled_array_if o)
-    go None k = tt
-    go (Some x) k = k
+step_owes s b a event sound well h = if_settled (λ holds. AreOwed s (story_after_event s b event).sent holds) (Steps.event_step s a event) (event_owes s b a event sound well h)

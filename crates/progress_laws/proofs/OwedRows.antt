@@ -1,8 +1,7 @@
--- Row by row: to each initiator that stands in a hold its automatic REQUEST SENSE is owed; and so each command has its outcome in a
--- prompt trace that has ended.
-use Rattle.std.proofs.Common.{ℕ, ◌≡◌, Bool, true, false, not, ◌&&◌, ◌||◌, ◌∙◌, List, [], ◌∷◌, Option, Some, None, refl, sym, ap, subst}
-use Rattle.std.specs.Prelude.{if◌then◌else◌, ◌==◌, is_none, is_some, nat_lt, ⊤}
-use Rattle.std.specs.List.{list_all, list_any}
+-- Row by row: to each initiator that stands in a hold its automatic REQUEST SENSE is owed.
+use Rattle.std.proofs.Common.{ℕ, ◌≡◌, Bool, true, false, not, ◌&&◌, ◌∙◌, List, [], ◌∷◌, Option, Some, None, refl, sym, ap, subst}
+use Rattle.std.specs.Prelude.{if◌then◌else◌, ◌==◌, is_none, nat_lt, ⊤}
+use Rattle.std.specs.List.{list_any}
 use Rattle.std.proofs.lemmas.Option.{same_Some}
 use Rattle.bus_base.specs.declared.Event.{Event}
 use Rattle.bus_trace.specs.declared.Row.{Row}
@@ -11,7 +10,6 @@ use Rattle.bus_trace.specs.declared.selection.Call.{Call}
 use Rattle.bus_trace.specs.declared.selection.Calling.{Calling}
 use Rattle.bus_trace.specs.Changes.{falls}
 use Rattle.scenario.specs.Value.{ScenarioValue}
-use Rattle.scenario.specs.Writing.{Obeys}
 use Rattle.disk_array.specs.ArrayHistory.{array_step}
 use Rattle.disk_array.specs.SoundArray.{HasSeats, IsSound}
 use Rattle.disk_array.specs.Units.{Array, Nexus}
@@ -20,41 +18,32 @@ use Rattle.bus_story.specs.BusState.{RowReading, row_reading}
 use Rattle.bus_story.specs.HistoryEvents.{row_events_by}
 use Rattle.bus_story.specs.Items.{Item, Sent, abort, count_item, has_item, process, sense_item}
 use Rattle.bus_story.specs.Links.{link_of}
-use Rattle.bus_story.specs.Outcomes.{Outcome, outcomes}
 use Rattle.bus_story.specs.Story.{Story, story_after_event, story_after_events}
-use Rattle.bus_story.specs.TraceHistory.{aim_of, is_arbitration_entry, is_counted, retries_of, story, story_after_calling, story_after_calling_by, story_after_connection, story_by_change, story_on_bus, story_on_free_bus, story_with_aim, story_with_restored, story_with_sent, story_with_try, story_without_answer}
-use Rattle.bus_due.specs.Next.{IsEnded}
+use Rattle.bus_story.specs.TraceHistory.{aim_of, is_arbitration_entry, is_counted, retries_of, story_after_calling, story_after_calling_by, story_after_connection, story_by_change, story_on_bus, story_on_free_bus, story_with_aim, story_with_restored, story_with_sent, story_with_try, story_without_answer}
 use Rattle.bus_due.specs.RunState.{RunState, array_of, or_start}
 use Rattle.bus_due.specs.RunSteps.{array_after_events, run_state}
-use Rattle.scsi_device.proofs.FitLines.{obeys_fits, seats_are}
-use Rattle.progress_laws.proofs.AnsweredEnds.{AllKnown, AreLeftQueued, Known, answered_when_ended, place_array, queued}
-use Rattle.progress_laws.proofs.Ended.{Joined}
 use Rattle.progress_laws.proofs.Owed.{owed_all}
 use Rattle.progress_laws.proofs.OwedEvents.{EndsWell, IfOwed, other_over, step_owes}
 use Rattle.progress_laws.proofs.QueueRows.{HasArray, connected_sent}
 use Rattle.progress_laws.specs.Queued.{AreOwed, IsOwed}
+use Rattle.std.proofs.lemmas.Bool.{or_from}
+use Rattle.bus_base.proofs.Tests.{wrong}
 
 -- ---- the change of the bus ends no automatic REQUEST SENSE
 
-record Holds (b c : Sent) : Type 0 where
-  checks : c.checks ≡ b.checks
-  over : (n : ℕ) → has_item b.over (sense_item n) ≡ false → has_item c.over (sense_item n) ≡ false
+pub record Holds (b c : Sent) : Type 0 where
+  pub checks : c.checks ≡ b.checks
+  pub over : (n : ℕ) → has_item b.over (sense_item n) ≡ false → has_item c.over (sense_item n) ≡ false
 
 same : (b c : Sent) → c ≡ b → Holds b c
 same b c e = record { checks = ap (λ (x : Sent). x.checks) e; over = λ n z. ap (λ (x : Sent). has_item x.over (sense_item n)) e ∙ z }
-
-wrong : {A : Type 0} → true ≡ false → A
-wrong e = absurd cc
-
-or_no : (q r : Bool) → q ≡ false → r ≡ false → (q || r) ≡ false
-or_no q r e f = λ i. e i || f i
 
 no_sense : (q : Bool) → not q ≡ true → q ≡ false
 no_sense true e = wrong (sym e)
 no_sense false e = refl
 
 given_up : (b : Story) (tries : List Item) (i : Item) → is_counted i ≡ true → Holds b.sent (story_without_answer (record b { sent = record b.sent { tries = tries } }) i).sent
-given_up b tries (process id) e = record { checks = refl; over = λ n z. or_no _ (has_item b.sent.over (sense_item n)) (other_over id n (no_sense id.sense e)) z }
+given_up b tries (process id) e = record { checks = refl; over = λ n z. or_from _ (has_item b.sent.over (sense_item n)) (other_over id n (no_sense id.sense e)) z }
 given_up b tries (abort k) e = record { checks = refl; over = λ n z. z }
 
 tried : (s : ScenarioValue) (b : Story) (dev : ℕ) (item : Option Item) → Holds b.sent (story_with_try s b dev item).sent
@@ -98,7 +87,7 @@ begun b n = go n.reselected (aim_of b.aims n.initiator)
     go false (Some (process id)) = record { checks = refl; over = λ n z. z }
     go false (Some (abort k)) = record { checks = refl; over = λ n z. z }
 
-changed : (s : ScenarioValue) (b : Story) (d : RowReading) (row : Row) → Holds b.sent (story_by_change s b d row).sent
+pub changed : (s : ScenarioValue) (b : Story) (d : RowReading) (row : Row) → Holds b.sent (story_by_change s b d row).sent
 changed s b d row = by_rst d.change.after.rst
   where
     by : (x y : Option Connection) → Holds b.sent (story_on_bus s b x y d row).sent
@@ -158,10 +147,6 @@ abbrev pub IsEndedWell : ScenarioValue → List Row → Row → Type 0
 IsEndedWell s p row =
     AllEndWell s (story_by_change s (run_state s p).story (row_reading (run_state s p).story.bus_state row) row) (row_events_by s (run_state s p).story (row_reading (run_state s p).story.bus_state row) row)
 
-abbrev pub AreEndedWell : ScenarioValue → List Row → Type 0
-AreEndedWell s [] = ⊤
-AreEndedWell s (row ∷ p) = AreEndedWell s p × IsEndedWell s p row
-
 pub owed_start : (s : ScenarioValue) → AreOwed s (run_state s []).story.sent (array_of s (run_state s [])).holds
 owed_start s = tt
 
@@ -196,17 +181,3 @@ owed_next s p row seats had has well h =
 
     is : Keeps s after.sent (array_after_events s k.array shown)
     is = events_owe s b k.array shown seats well was
-
-last_known : (s : ScenarioValue) (p : List Row) → AllKnown s p → Known s p
-last_known s [] h = h
-last_known s (row ∷ p) h = h.1
-
-pub owed : (s : ScenarioValue) (p : List Row) → Obeys s → AllKnown s p → AreEndedWell s p → AreOwed s (run_state s p).story.sent (array_of s (run_state s p)).holds
-owed s [] o known well = owed_start s
-owed s (row ∷ p) o known well =
-    owed_next s p row (seats_are s (obeys_fits s o)) (place_array s p (last_known s p known.0).places) (place_array s (row ∷ p) known.1.places) well.1 (owed s p o known.0 well.0)
-
--- ---- each command has its outcome
-
-pub answered : (s : ScenarioValue) (p : List Row) → Obeys s → Joined s p → IsEnded s p → AllKnown s p → AreLeftQueued s p → AreEndedWell s p → list_all (λ (o : Option Outcome). is_some o) (outcomes s (story s p)) ≡ true
-answered s p o j end known left well = answered_when_ended s p o j end (last_known s p known) (queued s p o known left) (owed s p o known well)

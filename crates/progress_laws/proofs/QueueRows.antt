@@ -34,33 +34,25 @@ use Rattle.bus_due.specs.RunState.{RunState, array_of, or_start}
 use Rattle.bus_due.specs.RunSteps.{array_after_events, item_if, run_state, served_after}
 use Rattle.bus_due.specs.Wants.{ready_of}
 use Rattle.bus_books.specs.Accounts.{is_served_by}
-use Rattle.bus_books.proofs.Lookups.{first_is, id_is, second_is}
+use Rattle.bus_books.proofs.Lookups.{id_is}
 use Rattle.trace_laws.specs.ItemFacts.{Items}
 use Rattle.trace_laws.proofs.OpenCommands.{item_is, opened}
-use Rattle.trace_laws.proofs.OverItems.{Grows, ends_over, events_grow, lost_over}
+use Rattle.trace_laws.proofs.OverItems.{Grows, ends_over, events_grow, lost_over, none_at, not_grown}
 use Rattle.trace_laws.proofs.QueuedProcesses.{is_dropped}
 use Rattle.trace_laws.proofs.SentItems.{event_sent, free_keeps, more_has, self_item}
-use Rattle.progress_laws.proofs.QueueSteps.{IfQueued, IsNotEnded, ends_close, step_stays}
-use Rattle.progress_laws.specs.Queued.{AreQueued, command_id, is_queued}
-
-wrong : {A : Type 0} → true ≡ false → A
-wrong e = absurd cc
+use Rattle.progress_laws.proofs.QueueSteps.{IfQueued, IsNotEnded, ends_close, step_stays, no_command}
+use Rattle.progress_laws.specs.Queued.{AreQueued, command_id}
+use Rattle.trace_laws.specs.Places.{is_queued}
+use Rattle.bus_base.proofs.Tests.{wrong, and_first, and_second}
 
 -- ---- what is open after an event was not ended by it
 
-none_at : (commands : List CmdDef) → command_at commands 0 ≡ None
-none_at [] = refl
-none_at (x ∷ commands) = refl
-
-no_command : {A : Type 0} (c : CmdDef) → (let a : Option CmdDef = None in a) ≡ Some c → A
-no_command c e = absurd cc
-
 pub open_over : {A : Type 0} (b : Sent) (n : ℕ) → is_open b n ≡ true → has_item b.over (command_item n) ≡ true → A
-open_over b n e o = wrong (sym (second_is (has_item b.sent (command_item n)) (not (has_item b.over (command_item n))) e) ∙ ap not o)
+open_over b n e o = wrong (sym (and_second (has_item b.sent (command_item n)) (not (has_item b.over (command_item n))) e) ∙ ap not o)
 
 was_sent : (s : ScenarioValue) (b : Story) (event : Event) (n : ℕ) → is_open (story_after_event s b event).sent n ≡ true → has_item b.sent.sent (command_item n) ≡ true
 was_sent s b event n e =
-    ap (λ (x : List Item). has_item x (command_item n)) (sym (event_sent s b event)) ∙ first_is (has_item (story_after_event s b event).sent.sent (command_item n)) (not (has_item (story_after_event s b event).sent.over (command_item n))) e
+    ap (λ (x : List Item). has_item x (command_item n)) (sym (event_sent s b event)) ∙ and_first (has_item (story_after_event s b event).sent.sent (command_item n)) (not (has_item (story_after_event s b event).sent.over (command_item n))) e
 
 one_less : (n : ℕ) → suc (0 + n) ≡ suc n
 one_less n = omega arith
@@ -110,14 +102,10 @@ not_ended s b (events.Reset dev) n c at e = open_over (story_after_event s b (ev
 
 -- ---- all events of a row
 
-not_grown : (q r : Bool) → (q ≡ true → r ≡ true) → not r ≡ true → not q ≡ true
-not_grown true r f e = wrong (sym e ∙ ap not (f refl))
-not_grown false r f e = refl
-
-fewer_open : (a b : Sent) (n : ℕ) → b.sent ≡ a.sent → ((i : Item) → has_item a.over i ≡ true → has_item b.over i ≡ true) → is_open b n ≡ true → is_open a n ≡ true
+pub fewer_open : (a b : Sent) (n : ℕ) → b.sent ≡ a.sent → ((i : Item) → has_item a.over i ≡ true → has_item b.over i ≡ true) → is_open b n ≡ true → is_open a n ≡ true
 fewer_open a b n same more e =
-    let sent = first_is (has_item b.sent (command_item n)) (not (has_item b.over (command_item n))) e in
-    let over = second_is (has_item b.sent (command_item n)) (not (has_item b.over (command_item n))) e in
+    let sent = and_first (has_item b.sent (command_item n)) (not (has_item b.over (command_item n))) e in
+    let over = and_second (has_item b.sent (command_item n)) (not (has_item b.over (command_item n))) e in
     λ i. (ap (λ (x : List Item). has_item x (command_item n)) (sym same) ∙ sent) i && not_grown (has_item a.over (command_item n)) (has_item b.over (command_item n)) (more (command_item n)) over i
 
 pub record Kept (s : ScenarioValue) (id : ProcId) (o : Option Array) : Type 0 where
@@ -224,7 +212,7 @@ free_over s b d row i h = go (is_arbitration_entry b d) (falls d.change.before.s
 
 -- ---- a command that is open after a row was open before it, or is the one for which a connection begins
 
-data WasOpen (k : RunState) (d : RowReading) (n : ℕ) : Type 0 where
+pub data WasOpen (k : RunState) (d : RowReading) (n : ℕ) : Type 0 where
   before : is_open k.story.sent n ≡ true → WasOpen k d n
   begins : (m : Connection) → k.story.bus_state.connection ≡ None → d.next ≡ Some m → m.reselected ≡ false → aim_of k.story.aims m.initiator ≡ Some (command_item n) → WasOpen k d n
 
@@ -236,12 +224,12 @@ open_item b (Some i) n c none one e =
       | inr z ↦ inr z
     ]
 
-restored_all : (b : Story) (o : Option Item) → (story_with_restored b o).sent ≡ b.sent
+pub restored_all : (b : Story) (o : Option Item) → (story_with_restored b o).sent ≡ b.sent
 restored_all b None = refl
 restored_all b (Some (process id)) = refl
 restored_all b (Some (abort k)) = refl
 
-open_before : (s : ScenarioValue) (k : RunState) (d : RowReading) (row : Row) (n : ℕ) → is_open (story_by_change s k.story d row).sent n ≡ true → WasOpen k d n
+pub open_before : (s : ScenarioValue) (k : RunState) (d : RowReading) (row : Row) (n : ℕ) → is_open (story_by_change s k.story d row).sent n ≡ true → WasOpen k d n
 open_before s k d row n e = by_rst d.change.after.rst e
   where
     b : Story

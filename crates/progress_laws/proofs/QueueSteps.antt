@@ -1,4 +1,4 @@
--- A command that is open after an event, and stood in a queue before it, stands there after it; and one that arrives is put there.
+-- A command that is open after an event, and stood in a queue before it, stands there after it.
 use Rattle.std.proofs.Common.{ℕ, zero, suc, ◌≡◌, ◌+◌, Bool, true, false, not, ◌&&◌, ◌||◌, ◌∙◌, List, [], ◌∷◌, ◌++◌, Option, Some, None, refl, sym, ap, arith}
 use Rattle.std.specs.Prelude.{if◌then◌else◌, ◌==◌, is_none, is_some, nat_lt, ⊤}
 use Rattle.std.specs.List.{list_any}
@@ -19,17 +19,19 @@ use Rattle.disk_array.specs.Processes.{Process, command_at, process_of, same_id}
 use Rattle.disk_array.specs.SoundArray.{AllOwnUnits}
 use Rattle.disk_array.specs.Steps as Steps
 use Rattle.disk_array.specs.Steps.{has_tag, is_of_unit, running_if}
-use Rattle.disk_array.specs.Units.{Array, RunningProcess, UnitState, guest_at, is_held, nexus_of, nexuses_without, senses_without, settled_array, unit_state_at, with_unit}
+use Rattle.disk_array.specs.Units.{Array, RunningProcess, UnitState, guest_at, is_held, nexus_of, nexuses_without, senses_without, unit_state_at, with_unit}
 use Rattle.bus_story.specs.Items.{Item, command_item, has_item, is_open, sense_item}
 use Rattle.bus_story.specs.Story.{Ending, Story, story_with_end, story_with_ends, story_with_over}
-use Rattle.bus_books.proofs.Lookups.{first_is, id_is, number_is, second_is}
+use Rattle.bus_books.proofs.Lookups.{id_is}
 use Rattle.trace_laws.proofs.QueuedProcesses.{is_dropped}
 use Rattle.trace_laws.proofs.SentItems.{more_has, own_has}
-use Rattle.progress_laws.proofs.QueueEvents.{Spares, chosen_all, either_stays, kept_all, left_all, or_yes, own_last, replied_all, waits, waits_last, with_unit_all, with_unit_new}
-use Rattle.progress_laws.specs.Queued.{is_in_queue, is_queued}
-
-wrong : {A : Type 0} → true ≡ false → A
-wrong e = absurd cc
+use Rattle.trace_laws.proofs.QueueEvents.{Spares, chosen_all, either_stays, kept_all, left_all, replied_all, waits_last, with_unit_all}
+use Rattle.trace_laws.specs.Places.{is_in_queue, is_queued}
+use Rattle.std.proofs.lemmas.Bool.{eqb-true}
+use Rattle.bus_base.proofs.Tests.{and_first, and_second}
+use Rattle.trace_laws.proofs.UnitsKept.{hosts_same}
+use Rattle.disk_array.proofs.SeatReplies.{waits_in}
+use Rattle.progress_laws.proofs.Queues.{no_unit}
 
 abbrev pub IfQueued : ProcId → Option Array → Type 0
 IfQueued id None = ⊤
@@ -53,9 +55,6 @@ if_none : (id : ProcId) (q : Bool) (b : Array) → is_queued b.units id ≡ true
 if_none id true b e = tt
 if_none id false b e = e
 
-no_unit : {A : Type 0} (u : UnitState) → (let a : Option UnitState = None in a) ≡ Some u → A
-no_unit u e = absurd cc
-
 found : (units : List UnitState) (t n : ℕ) (u : UnitState) → unit_state_at units t n ≡ Some u → (u.target ≡ t) × (u.unit ≡ n)
 found [] t n u e = no_unit u e
 found (v ∷ units) t n u e = go (v.target == t && v.unit == n) refl e (λ z. found units t n u z)
@@ -63,14 +62,14 @@ found (v ∷ units) t n u e = go (v.target == t && v.unit == n) refl e (λ z. fo
     go : (x : Bool) → (v.target == t && v.unit == n) ≡ x → (if x then Some v else unit_state_at units t n) ≡ Some u → (unit_state_at units t n ≡ Some u → (u.target ≡ t) × (u.unit ≡ n)) → (u.target ≡ t) × (u.unit ≡ n)
     go true z h more =
         let same : v ≡ u = same_Some v u h in
-        (ap (λ (w : UnitState). w.target) (sym same) ∙ number_is v.target t (first_is (v.target == t) (v.unit == n) z), ap (λ (w : UnitState). w.unit) (sym same) ∙ number_is v.unit n (second_is (v.target == t) (v.unit == n) z))
+        (ap (λ (w : UnitState). w.target) (sym same) ∙ eqb-true v.target t (and_first (v.target == t) (v.unit == n) z), ap (λ (w : UnitState). w.unit) (sym same) ∙ eqb-true v.unit n (and_second (v.target == t) (v.unit == n) z))
     go false z h more = more h
 
 at_own : (units : List UnitState) (t n : ℕ) (u : UnitState) → unit_state_at units t n ≡ Some u → unit_state_at units u.target u.unit ≡ Some u
 at_own units t n u e = let w = found units t n u e in (λ i. unit_state_at units (w.0 i) (w.1 i)) ∙ e
 
 arriving : (u : UnitState) (p : Process) (id : ProcId) → is_in_queue u id ≡ true → is_in_queue (record u { waiting = u.waiting ++ p ∷ [] }) id ≡ true
-arriving u p id e = either_stays (waits u.waiting id) (is_some (running_if u.current id)) _ _ (λ z. waits_last u.waiting p id z) (λ z. z) e
+arriving u p id e = either_stays (waits_in u.waiting id) (is_some (running_if u.current id)) _ _ (λ z. waits_last u.waiting p id z) (λ z. z) e
 
 accepted : (a : Array) (o : Option Process) (id : ProcId) → is_queued a.units id ≡ true → IfQueued id (Steps.accept_step a o)
 accepted a None id e = tt
@@ -117,7 +116,7 @@ failed s a i reply None id e = new (process_of s i)
     new None = tt
     new (Some p) = if_none id (Steps.is_waiting a.units i || Steps.has_ended a i) _ e
 
-none_run : {A : Type 0} (r : RunningProcess) → (let o : Option RunningProcess = None in o) ≡ Some r → A
+pub none_run : {A : Type 0} (r : RunningProcess) → (let o : Option RunningProcess = None in o) ≡ Some r → A
 none_run r z = absurd cc
 
 guest_id : (guests : List RunningProcess) (i : ProcId) (r : RunningProcess) → guest_at guests i ≡ Some r → r.process.id ≡ i
@@ -184,16 +183,12 @@ cleared_same i (p ∷ lost) a = cleared_same i lost (if p.initiator == i then a 
     go true = refl
     go false = one _ _ refl
 
-reset_same : (hosts : List HostDef) (t n : ℕ) (a : Array) → (Steps.reset_attentions hosts t n a).units ≡ a.units
-reset_same [] t n a = refl
-reset_same (h ∷ hosts) t n a = reset_same hosts t n (Steps.reset_attention a (record { initiator = h.dev; target = t; unit = n }))
-
-all_reset_same : (hosts : List HostDef) (units : List UnitState) (is_one : UnitState → Bool) (a : Array) → (Steps.unit_reset_attentions hosts units is_one a).units ≡ a.units
+pub all_reset_same : (hosts : List HostDef) (units : List UnitState) (is_one : UnitState → Bool) (a : Array) → (Steps.unit_reset_attentions hosts units is_one a).units ≡ a.units
 all_reset_same hosts [] is_one a = refl
 all_reset_same hosts (u ∷ units) is_one a = all_reset_same hosts units is_one (if is_one u then Steps.reset_attentions hosts u.target u.unit a else a) ∙ go (is_one u)
   where
     go : (q : Bool) → (if q then Steps.reset_attentions hosts u.target u.unit a else a).units ≡ a.units
-    go true = reset_same hosts u.target u.unit a
+    go true = hosts_same hosts u.target u.unit a
     go false = refl
 
 aborted : (s : ScenarioValue) (a : Array) (i t n : ℕ) (what : AbortKind) (id : ProcId) → Spares s (λ p. is_dropped i t n what p) id → AllOwnUnits s a.units → is_queued a.units id ≡ true → is_queued (Steps.abort_step s a i t n what).units id ≡ true
@@ -223,28 +218,6 @@ step_stays s a event id own h e = go (Steps.event_step s a event) (event_stays s
     go None k = tt
     go (Some b) k = chosen_all b.holds b.units id k
 
--- A command that arrives at a unit that is there, and is no REQUEST SENSE without fault, is put into its queue.
-pub step_puts : (s : ScenarioValue) (a b : Array) (p : Process) (u : UnitState) → process_of s p.id ≡ Some p → unit_state_at a.units p.target p.unit ≡ Some u → is_request_sense (command_of p.cdb) ≡ false → Steps.step s (events.Accept p.id) a ≡ Some b → is_queued b.units p.id ≡ true
-step_puts s a b p u is at queued e = go (nat_lt (Steps.process_count u) u.depth) (sym steps ∙ e)
-  where
-    new : Array
-    new = record a { units = with_unit a.units (record u { waiting = u.waiting ++ p ∷ [] }) }
-
-    steps : Steps.step s (events.Accept p.id) a ≡ Steps.settled_array_if (Steps.queue_step a p u)
-    steps =
-        ap (λ (o : Option Process). Steps.settled_array_if (Steps.accept_step a o)) is
-        ∙ ap (λ (o : Option UnitState). Steps.settled_array_if (Steps.accept_step_at a p o)) at
-        ∙ ap (λ (q : Bool). Steps.settled_array_if (if q then Some (Steps.with_guest a p None) else Steps.queue_step a p u)) queued
-
-    none_array : {A : Type 0} → (let o : Option Array = None in o) ≡ Some b → A
-    none_array z = absurd cc
-
-    go : (q : Bool) → Steps.settled_array_if (if q then Some new else None) ≡ Some b → is_queued b.units p.id ≡ true
-    go true z =
-        ap (λ (x : Array). is_queued x.units p.id) (sym (same_Some (settled_array new) b z))
-        ∙ chosen_all new.holds new.units p.id (with_unit_new a.units (record u { waiting = u.waiting ++ p ∷ [] }) u p.id (at_own a.units p.target p.unit u at) (or_yes (waits (u.waiting ++ p ∷ []) p.id) _ (own_last u.waiting p)))
-    go false z = none_array z
-
 -- ---- what is open after an event was not ended by it
 
 over_grows : (drops stops : CmdDef → Bool) (e : Ending) (n : ℕ) (commands : List CmdDef) (b : Story) (item : Item) → has_item b.sent.over item ≡ true → has_item (story_with_ends drops stops e n commands b).sent.over item ≡ true
@@ -260,7 +233,7 @@ over_grows drops stops e n (c ∷ commands) b item h =
     go false true = more_has (sense_item n) item b.sent.over h
     go false false = h
 
-no_command : {A : Type 0} (c : CmdDef) → (let a : Option CmdDef = None in a) ≡ Some c → A
+pub no_command : {A : Type 0} (c : CmdDef) → (let a : Option CmdDef = None in a) ≡ Some c → A
 no_command c e = absurd cc
 
 pub ends_close : (drops stops : CmdDef → Bool) (e : Ending) (j k : ℕ) (commands : List CmdDef) (b : Story) (c : CmdDef) → command_at commands (suc k) ≡ Some c → drops c ≡ true → has_item b.sent.sent (command_item (suc (j + k))) ≡ true

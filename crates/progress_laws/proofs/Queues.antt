@@ -14,10 +14,11 @@ use Rattle.disk_array.specs.Steps.{running_if}
 use Rattle.disk_array.specs.Units.{Array, Nexus, RunningProcess, UnitState, has_no_current, is_at_unit, is_held, unit_state_at, with_current}
 use Rattle.bus_dialogue.specs.Wants.{Ready, first_ready, is_ready_before, ready_by, ready_in}
 use Rattle.bus_due.specs.Wants.{current_of, ready_among, ready_at, since_of}
-use Rattle.bus_books.proofs.Lists.{eq_self}
-use Rattle.bus_books.proofs.Lookups.{first_is, id_is, number_is, second_is}
+use Rattle.bus_books.proofs.Lookups.{id_is}
 use Rattle.progress_laws.proofs.Choices.{some_chosen}
-use Rattle.progress_laws.specs.Queued.{is_in_queue, is_queued}
+use Rattle.trace_laws.specs.Places.{is_in_queue, is_queued}
+use Rattle.std.proofs.lemmas.Bool.{eqb-true, and_right}
+use Rattle.bus_base.proofs.Tests.{wrong, and_first, and_second, eq_self}
 
 -- ---- a process waits at this unit, or is the current one
 
@@ -33,11 +34,8 @@ pub record HasQueue (s : ScenarioValue) (units : List UnitState) (id : ProcId) :
   pub own : IsOwnUnit s unit
   pub here : is_in_queue unit id ≡ true
 
-no_unit : {A : Type 0} (u : UnitState) → (let a : Option UnitState = None in a) ≡ Some u → A
+pub no_unit : {A : Type 0} (u : UnitState) → (let a : Option UnitState = None in a) ≡ Some u → A
 no_unit u e = absurd cc
-
-wrong : {A : Type 0} → true ≡ false → A
-wrong e = absurd cc
 
 found : (s : ScenarioValue) (units : List UnitState) (id : ProcId) → AreApart units → AllOwnUnits s units → is_queued units id ≡ true → HasQueue s units id
 found s [] id apart own e = wrong (sym e)
@@ -48,8 +46,8 @@ found s (v ∷ units) id apart own e = go (is_in_queue v id) refl (λ z. found s
       where
         at_address : (q : Bool) → (v.target == w.unit.target && v.unit == w.unit.unit) ≡ q → HasQueue s (v ∷ units) id
         at_address true z =
-            let t = number_is v.target w.unit.target (first_is (v.target == w.unit.target) (v.unit == w.unit.unit) z) in
-            let n = number_is v.unit w.unit.unit (second_is (v.target == w.unit.target) (v.unit == w.unit.unit) z) in
+            let t = eqb-true v.target w.unit.target (and_first (v.target == w.unit.target) (v.unit == w.unit.unit) z) in
+            let n = eqb-true v.unit w.unit.unit (and_second (v.target == w.unit.target) (v.unit == w.unit.unit) z) in
             no_unit w.unit (sym apart.0 ∙ (λ i. unit_state_at units (t i) (n i)) ∙ w.at)
         at_address false z = record { unit = w.unit; at = ap (λ (q : Bool). if q then Some v else unit_state_at units w.unit.target w.unit.unit) z ∙ w.at; own = w.own; here = w.here }
 
@@ -105,15 +103,11 @@ or_no : (x y : Bool) → (x || y) ≡ false → (x ≡ false) × (y ≡ false)
 or_no true y e = wrong e
 or_no false y e = (refl, e)
 
-and_no : (x y : Bool) → y ≡ false → (x && y) ≡ false
-and_no true y e = e
-and_no false y e = refl
-
 none_in : (holds : List Nexus) (t n i : ℕ) → is_held holds t n ≡ false → in_hold holds (nexus_at t n i) ≡ false
 none_in [] t n i e = refl
 none_in (q ∷ holds) t n i e =
     let w = or_no (is_at_unit q t n) (is_held holds t n) e in
-    (λ j. and_no (q.initiator == i) (is_at_unit q t n) w.0 j || none_in holds t n i w.1 j)
+    (λ j. and_right (q.initiator == i) (is_at_unit q t n) w.0 j || none_in holds t n i w.1 j)
 
 any_none : (f : ℕ → Bool) (m : ℕ) → ((i : ℕ) → f i ≡ false) → is_any_below f m ≡ false
 any_none f zero h = refl

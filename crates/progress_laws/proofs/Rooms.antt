@@ -21,6 +21,7 @@ use Rattle.scsi_device.proofs.Finds.{all_are, all_more}
 use Rattle.scsi_device.proofs.LineReads.{host_by, unit_by}
 use Rattle.bus_laws.specs.Stages.{HasDevice}
 use Rattle.progress_laws.proofs.Connections.{host_there}
+use Rattle.bus_base.proofs.Tests.{wrong'}
 
 abbrev pub HasOpen : HostDef → Type 0
 HasOpen h = 0 < h.most
@@ -79,11 +80,8 @@ have_open s o =
     let b = bind_ok (built nothing (saids s)) _ s o.lawful in
     subst HaveOpen (ok_is b.0.scenario s b.2) (open_built nothing b.0 (saids s) b.1 tt)
 
-wrong : {A : Type 0} → false ≡ true → A
-wrong e = absurd cc
-
 limit_of : (hosts : List HostDef) (dev : ℕ) → AllByRecursion HasOpen hosts → is_host hosts dev ≡ true → 0 < open_limit_of hosts dev
-limit_of [] dev a e = wrong e
+limit_of [] dev a e = wrong' e
 limit_of (h ∷ hosts) dev a e = go (h.dev == dev) (λ z. limit_of hosts dev a.1 z) e
   where
     go : (q : Bool) → (is_host hosts dev ≡ true → 0 < open_limit_of hosts dev) → (q || is_host hosts dev) ≡ true → 0 < (if q then h.most else open_limit_of hosts dev)
@@ -94,7 +92,7 @@ pub some_open : (s : ScenarioValue) (dev : ℕ) → Obeys s → is_host s.hosts 
 some_open s dev o e = limit_of s.hosts dev (have_open s o) e
 
 pub found_host : (hosts : List HostDef) (dev : ℕ) → is_host hosts dev ≡ true → is_some (find (λ (h : HostDef). h.dev == dev) hosts) ≡ true
-found_host [] dev e = wrong e
+found_host [] dev e = wrong' e
 found_host (h ∷ hosts) dev e = go (h.dev == dev) (λ z. found_host hosts dev z) e
   where
     go : (q : Bool) → (is_host hosts dev ≡ true → is_some (find (λ (x : HostDef). x.dev == dev) hosts) ≡ true) → (q || is_host hosts dev) ≡ true → is_some (cond q (Some h) (find (λ (x : HostDef). x.dev == dev) hosts)) ≡ true
@@ -123,7 +121,7 @@ unit_target s (unit_line f) u e =
 unit_target s _ u e = absurd cc
 
 still_any : (f : TargetDef → Bool) (targets : List TargetDef) (t : TargetDef) → list_any f targets ≡ true → list_any f (targets ++ t ∷ []) ≡ true
-still_any f [] t e = wrong e
+still_any f [] t e = wrong' e
 still_any f (x ∷ targets) t e = go (f x) (λ z. still_any f targets t z) e
   where
     go : (q : Bool) → (list_any f targets ≡ true → list_any f (targets ++ t ∷ []) ≡ true) → (q || list_any f targets) ≡ true → (q || list_any f (targets ++ t ∷ [])) ≡ true
@@ -173,7 +171,7 @@ are_of_targets s o =
 -- ---- devices that are there
 
 found_target : (targets : List TargetDef) (dev : ℕ) → list_any (λ (t : TargetDef). t.dev == dev) targets ≡ true → is_some (find (λ (t : TargetDef). t.dev == dev) targets) ≡ true
-found_target [] dev e = wrong e
+found_target [] dev e = wrong' e
 found_target (h ∷ hosts) dev e = go (h.dev == dev) (λ z. found_target hosts dev z) e
   where
     go : (q : Bool) → (list_any (λ (t : TargetDef). t.dev == dev) hosts ≡ true → is_some (find (λ (x : TargetDef). x.dev == dev) hosts) ≡ true) → (q || list_any (λ (t : TargetDef). t.dev == dev) hosts) ≡ true → is_some (cond q (Some h) (find (λ (x : TargetDef). x.dev == dev) hosts)) ≡ true
@@ -188,4 +186,4 @@ target_there s dev e = go (find (λ (t : TargetDef). t.dev == dev) s.targets) re
   where
     go : (o : Option TargetDef) → find (λ (t : TargetDef). t.dev == dev) s.targets ≡ o → is_some (find (λ (t : TargetDef). t.dev == dev) s.targets) ≡ true → HasDevice s dev
     go (Some t) f z = record { latency = t.latency; latency_is = λ i. target_latency (f i) (host_latency (find (λ (h : HostDef). h.dev == dev) s.hosts)) }
-    go None f z = wrong (ap (λ (x : Option TargetDef). is_some x) (sym f) ∙ z)
+    go None f z = wrong' (ap (λ (x : Option TargetDef). is_some x) (sym f) ∙ z)

@@ -26,10 +26,14 @@ use Rattle.bus_story.specs.BusState.{row_reading}
 use Rattle.bus_story.specs.HistoryEvents.{row_events_by}
 use Rattle.bus_due.specs.RunState.{RunState, array_of, or_start}
 use Rattle.bus_due.specs.RunSteps.{array_after_events, run_state}
-use Rattle.bus_books.proofs.Lookups.{first_is, number_is}
 use Rattle.bus_laws.specs.Stages.{HasDevice}
 use Rattle.trace_laws.specs.WriteFacts.{AllUnits}
 use Rattle.progress_laws.proofs.Rooms.{IsOfTarget, are_of_targets, target_there}
+use Rattle.std.proofs.lemmas.Bool.{eqb-true}
+use Rattle.bus_base.proofs.Tests.{and_first}
+use Rattle.disk_array.proofs.SeatSteps.{choice_target}
+use Rattle.progress_laws.proofs.QueueSteps.{cleared_same, all_reset_same}
+use Rattle.trace_laws.proofs.UnitsKept.{hosts_same}
 
 abbrev pub targets : List UnitState → List ℕ
 targets [] = []
@@ -42,7 +46,7 @@ with_unit_same [] new = refl
 with_unit_same (u ∷ units) new = go (u.target == new.target && u.unit == new.unit) refl (with_unit_same units new)
   where
     go : (q : Bool) → (u.target == new.target && u.unit == new.unit) ≡ q → targets (with_unit units new) ≡ targets units → targets (if q then new ∷ units else u ∷ with_unit units new) ≡ u.target ∷ targets units
-    go true e more = ap (λ (t : ℕ). t ∷ targets units) (sym (number_is u.target new.target (first_is (u.target == new.target) (u.unit == new.unit) e)))
+    go true e more = ap (λ (t : ℕ). t ∷ targets units) (sym (eqb-true u.target new.target (and_first (u.target == new.target) (u.unit == new.unit) e)))
     go false e more = ap (λ (ts : List ℕ). u.target ∷ ts) more
 
 replied_same : (units : List UnitState) (id : ProcId) (reply : Reply) → targets (Steps.units_with_reply units id reply) ≡ targets units
@@ -57,43 +61,11 @@ kept_same : (drops : Process → Bool) (units : List UnitState) → targets (Ste
 kept_same drops [] = refl
 kept_same drops (u ∷ units) = ap (λ (ts : List ℕ). u.target ∷ ts) (kept_same drops units)
 
-chosen_target : (holds : List Nexus) (u : UnitState) → (unit_after_choice holds u).target ≡ u.target
-chosen_target holds u = go (has_no_current u.current && not (is_held holds u.target u.unit)) (choice u.pick u.waiting)
-  where
-    go : (q : Bool) (p : Option Process) → (if q then with_current u p else u).target ≡ u.target
-    go true None = refl
-    go true (Some p) = refl
-    go false p = refl
-
 chosen_same : (holds : List Nexus) (units : List UnitState) → targets (units_after_choice holds units) ≡ targets units
 chosen_same holds [] = refl
-chosen_same holds (u ∷ units) = λ i. chosen_target holds u i ∷ chosen_same holds units i
+chosen_same holds (u ∷ units) = λ i. choice_target holds u i ∷ chosen_same holds units i
 
 -- ---- attentions
-
-reset_same : (hosts : List HostDef) (t n : ℕ) (a : Array) → (Steps.reset_attentions hosts t n a).units ≡ a.units
-reset_same [] t n a = refl
-reset_same (h ∷ hosts) t n a = reset_same hosts t n (Steps.reset_attention a (record { initiator = h.dev; target = t; unit = n }))
-
-all_reset_same : (hosts : List HostDef) (units : List UnitState) (is_one : UnitState → Bool) (a : Array) → (Steps.unit_reset_attentions hosts units is_one a).units ≡ a.units
-all_reset_same hosts [] is_one a = refl
-all_reset_same hosts (u ∷ units) is_one a = all_reset_same hosts units is_one (if is_one u then Steps.reset_attentions hosts u.target u.unit a else a) ∙ go (is_one u)
-  where
-    go : (q : Bool) → (if q then Steps.reset_attentions hosts u.target u.unit a else a).units ≡ a.units
-    go true = reset_same hosts u.target u.unit a
-    go false = refl
-
-cleared_same : (i : ℕ) (lost : List Process) (a : Array) → (Steps.cleared_attentions i lost a).units ≡ a.units
-cleared_same i [] a = refl
-cleared_same i (p ∷ lost) a = cleared_same i lost (if p.initiator == i then a else Steps.cleared_attention a (nexus_of p)) ∙ go (p.initiator == i)
-  where
-    one : (q : Bool) (x : Array) → x.units ≡ a.units → (if q then a else x).units ≡ a.units
-    one true x e = refl
-    one false x e = e
-
-    go : (q : Bool) → (if q then a else Steps.cleared_attention a (nexus_of p)).units ≡ a.units
-    go true = refl
-    go false = one _ _ refl
 
 -- ---- events
 

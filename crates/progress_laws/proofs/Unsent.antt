@@ -9,9 +9,7 @@ use Rattle.bus_story.specs.Items.{Item, Sent, command_item, is_done, is_open, op
 use Rattle.bus_reactions.specs.Reactions.{sooner_time, time_if}
 use Rattle.bus_dialogue.specs.Wants.{abort_since, command_since, may_follow, open_in}
 use Rattle.bus_due.specs.Wants.{item_want_time, own_aborts, own_command, own_commands}
-
-wrong : {A : Type 0} → true ≡ false → A
-wrong e = absurd cc
+use Rattle.bus_base.proofs.Tests.{wrong}
 
 time_none : {A : Type 0} (t : ℕ) → (let a : Option ℕ = Some t in a) ≡ None → A
 time_none t e = absurd cc

@@ -1,1 +1,3 @@
 pub mod Queued
+pub mod Debts
+pub mod DebtTests

@@ -1,23 +1,16 @@
 -- What is to hold of a prompt trace that each command has its outcome at its end: an open command without a connection stands in a queue,
 -- and to those that stand in a hold a sense is owed (7.6, 7.8).
-use Rattle.std.specs.Prelude.{ℕ, ◌≡◌, ◌==◌, ◌||◌, Bool, true, false, is_some, List, [], ◌∷◌, Some, ⊤}
+use Rattle.std.specs.Prelude.{ℕ, ◌≡◌, ◌==◌, true, false, List, [], ◌∷◌, Some, ⊤}
 use Rattle.std.specs.List.{list_any}
 use Rattle.bus_base.specs.declared.ProcId.{ProcId}
 use Rattle.scenario.specs.declared.value.CmdDef.{CmdDef}
 use Rattle.scenario.specs.Value.{ScenarioValue}
-use Rattle.disk_array.specs.Processes.{Process, command_at, same_id}
-use Rattle.disk_array.specs.Steps.{running_if}
-use Rattle.disk_array.specs.Units.{Nexus, UnitState}
+use Rattle.disk_array.specs.Processes.{command_at}
+use Rattle.disk_array.specs.Units.{Nexus}
 use Rattle.bus_story.specs.Items.{Sent, has_item, is_open, sense_item}
 use Rattle.bus_due.specs.RunState.{RunState, array_of}
 use Rattle.bus_books.specs.Accounts.{is_served_by}
-
--- A process waits at this unit, or is the current one.
-abbrev pub is_in_queue : UnitState → ProcId → Bool
-is_in_queue u id = list_any (λ (p : Process). same_id p.id id) u.waiting || is_some (running_if u.current id)
-
-abbrev pub is_queued : List UnitState → ProcId → Bool
-is_queued units id = list_any (λ (u : UnitState). is_in_queue u id) units
+use Rattle.trace_laws.specs.Places.{is_queued}
 
 abbrev pub command_id : ℕ → ProcId
 command_id n = record { command = n; sense = false }

@@ -1,6 +1,6 @@
 // Laws of prompt traces, each named by the contract of a function that does nothing.
 
-ghost use Rattle.std.specs.Prelude.{ℕ, ◌≡◌, ◌<◌, ◌^◌, true, is_some, List, length, Option, Some, None};
+ghost use Rattle.std.specs.Prelude.{ℕ, ◌≡◌, ◌<◌, true, is_some, List, Option, Some, None};
 ghost use Rattle.std.specs.List.{list_all};
 ghost use Rattle.bus_trace.specs.LineSet.{none};
 ghost use Rattle.bus_trace.specs.Trace.{bus, last_time};
@@ -12,10 +12,8 @@ ghost use Rattle.bus_story.specs.Outcomes.{Outcome, outcomes};
 ghost use Rattle.bus_story.specs.Samples.{latency_of};
 ghost use Rattle.bus_story.specs.TraceHistory.{story};
 ghost use Rattle.bus_due.specs.Next.{IsEnded, IsPrompt};
-ghost use Rattle.bus_due.specs.RunState.{array_of};
 ghost use Rattle.bus_due.specs.RunSteps.{run_state};
 ghost use Rattle.bus_due.specs.Wants.{want_time};
-ghost use Rattle.progress_laws.specs.Queued.{AreOwed, AreQueued};
 
 use bus_due::wants_are_items;
 
@@ -24,23 +22,21 @@ use bus_due::wants_are_items;
 /// trace stalls: in a connection, in an arbitration, in a selection or reselection and under RST some device is due to
 /// act.
 pub fn ended_traces_are_quiet()
-    ensures quiet { (s : ScenarioValue) (rows : List Row) → Obeys s → IsPrompt s rows → length rows < 2 ^ 64
-        → IsEnded s rows → bus rows ≡ none }
-    ensures lawful { (s : ScenarioValue) (rows : List Row) → Obeys s → IsPrompt s rows → length rows < 2 ^ 64
-        → IsEnded s rows → IsLawful rows (last_time rows) }
-    ensures unwanted { (s : ScenarioValue) (rows : List Row) → Obeys s → IsPrompt s rows → length rows < 2 ^ 64
-        → IsEnded s rows → (dev latency : ℕ) → dev < 8
-        → latency_of s dev ≡ Some latency → want_time s (run_state s rows) dev ≡ None }
+    ensures quiet { (s : ScenarioValue) (rows : List Row) → Obeys s → IsPrompt s rows → IsEnded s rows
+        → bus rows ≡ none }
+    ensures lawful { (s : ScenarioValue) (rows : List Row) → Obeys s → IsPrompt s rows → IsEnded s rows
+        → IsLawful rows (last_time rows) }
+    ensures unwanted { (s : ScenarioValue) (rows : List Row) → Obeys s → IsPrompt s rows → IsEnded s rows
+        → (dev latency : ℕ) → dev < 8 → latency_of s dev ≡ Some latency → want_time s (run_state s rows) dev ≡ None }
 {
     wants_are_items();
 }
 
-/// Each command has its outcome in a prompt trace that has ended, where each open command without a connection stands
-/// in a queue of the plain disk array (`AreQueued`), and to those in a hold the sense of a command is owed (`AreOwed`).
+/// Each command has its outcome in a prompt trace that has ended: an open command without a connection stands in a
+/// queue of the plain disk array, for which its target would want to reselect, and to those in a hold the sense of a
+/// command is owed, for which they would want the bus.
 pub fn ended_traces_have_outcomes()
-    ensures answered { (s : ScenarioValue) (rows : List Row) → Obeys s → IsPrompt s rows → length rows < 2 ^ 64
-        → IsEnded s rows → AreQueued s (run_state s rows)
-        → AreOwed s (run_state s rows).story.sent (array_of s (run_state s rows)).holds
+    ensures answered { (s : ScenarioValue) (rows : List Row) → Obeys s → IsPrompt s rows → IsEnded s rows
         → list_all (λ (o : Option Outcome). is_some o) (outcomes s (story s rows)) ≡ true }
 {
     wants_are_items();

@@ -1,8 +1,10 @@
-//! Laws of prompt traces: nothing stalls.
+//! Laws of prompt traces: nothing stalls, and at the end each command has its outcome.
 //!
 //! In a connection one of its ends is due to act, in an arbitration the contender of the highest ID, in a calling the
 //! caller, and under RST the devices that drive it: so where nothing is due of any device, the bus is free and no line
-//! is true. There is no code here but for laws: each is the contract of a function that does nothing.
+//! is true. A command that is open then would be in a connection, in a queue that is not held, for which its target
+//! would reselect, or behind a hold, which its initiator would end by REQUEST SENSE: so none is. There is no code here
+//! but for laws: each is the contract of a function that does nothing.
 #![tactic(auto)]
 
 mod laws;

@@ -36,19 +36,12 @@ use Rattle.right_laws.specs.Loads.{Load, load, UndoesLoads, UndoLoadFacts}
 use Rattle.right_laws.specs.Open.{OnEvents, IfOpen, OnOpen, HasBlock, BlockFacts}
 use Rattle.right_laws.proofs.Lasting.{IsLasting, row_lasts}
 use Rattle.right_laws.proofs.OpenProcesses.{IfAccepts, each_both, each_map, open_events, open_start}
-use Rattle.right_laws.proofs.RowCrossings.{GoesSo, crossing_goes, here_goes, known_served, new_here, command_phase}
+use Rattle.right_laws.proofs.RowCrossings.{GoesSo, crossing_goes, here_goes, known_served, new_here, no_item}
 use Rattle.right_laws.proofs.ShownRows.{IsArrival, ShownAs, row_shown}
 use Rattle.right_laws.proofs.UndoneLoadFacts.{load_asks}
 use Rattle.right_laws.proofs.UndoneLoads.{lasting_load}
-
-wrong : {A : Type 0} → true ≡ false → A
-wrong e = absurd (true≢false e)
-
-wrong' : {A : Type 0} → false ≡ true → A
-wrong' e = absurd (true≢false (sym e))
-
-no_item : {A : Type 0} (i : Item) → (let o : Option Item = None in o) ≡ Some i → A
-no_item i e = absurd cc
+use Rattle.bus_base.proofs.Tests.{wrong, wrong'}
+use Rattle.trace_laws.proofs.PhaseLines.{command_phase}
 
 abbrev is_process : Option Item → Bool
 is_process (Some (process id)) = true
@@ -88,7 +81,7 @@ command_stays s k row id quiet undoes =
 
 -- ---- as COMMAND is left
 
-front_all : (bytes rest all : List ℕ) → bytes ++ rest ≡ all → length all ≤ length bytes → bytes ≡ all
+pub front_all : (bytes rest all : List ℕ) → bytes ++ rest ≡ all → length all ≤ length bytes → bytes ≡ all
 front_all bytes rest all e h =
     let total : length all ≡ length (bytes ++ rest) = ap (λ (x : List ℕ). length x) (sym e) in
     let two = length-append bytes rest in

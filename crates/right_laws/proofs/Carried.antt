@@ -15,15 +15,10 @@ use Rattle.bus_due.specs.RunState.{RunState, array_of}
 use Rattle.bus_books.proofs.Blocks.{same_self}
 use Rattle.right_laws.specs.Open.{OnEvents}
 use Rattle.right_laws.specs.Runs.{HasRun, RanBooks, HasEnded, IsEnded}
+use Rattle.bus_base.proofs.Tests.{wrong', all_three}
 
-wrong' : {A : Type 0} → false ≡ true → A
-wrong' e = absurd (true≢false (sym e))
-
-same_is : (xs ys : List ℕ) → xs ≡ ys → same_bytes xs ys ≡ true
+pub same_is : (xs ys : List ℕ) → xs ≡ ys → same_bytes xs ys ≡ true
 same_is xs ys e = ap (λ (z : List ℕ). same_bytes z ys) e ∙ same_self ys
-
-three : (a b c : Bool) → a ≡ true → b ≡ true → c ≡ true → (a && b && c) ≡ true
-three a b c e f g = λ i. e i && f i && g i
 
 carried_end : (s : ScenarioValue) (k : RunState) (a : Array) (id : ProcId) (status : ℕ) → array_after s k.story.history ≡ Some a → array_of s k ≡ a → RanBooks s k → HasEnded s k id status → is_carried s k.story (events.End id status) ≡ true
 carried_end s k a id status plays here ran ended = go (has_run k.story.history id) refl
@@ -41,7 +36,7 @@ carried_end s k a id status plays here ran ended = go (has_run k.story.history i
             let moved = h.moved h.process reply h.process_is (ap (λ (x : Array). reply_in x.replies id) here ∙ e) in
             (λ i. carried_by c (h.process_is i) (reply_of (plays i) id) status)
             ∙ ap (λ (o : Option Reply). carried_by c (Some h.process) o status) e
-            ∙ three (same_bytes c.command.bytes h.process.cdb) (same_bytes c.moved.bytes (moved_bytes h.process reply)) (same_bytes c.status.bytes (status ∷ []))
+            ∙ all_three (same_bytes c.command.bytes h.process.cdb) (same_bytes c.moved.bytes (moved_bytes h.process reply)) (same_bytes c.status.bytes (status ∷ []))
             (same_is c.command.bytes h.process.cdb block) (same_is c.moved.bytes (moved_bytes h.process reply) moved) (same_is c.status.bytes (status ∷ []) ended.status_is)
 
     go : (q : Bool) → has_run k.story.history id ≡ q → (not (has_run k.story.history id) || carried_by c (process_of s id) (reply_of (array_after s k.story.history) id) status) ≡ true

@@ -53,24 +53,18 @@ use Rattle.trace_laws.proofs.ConnectionRows.{GoingRow, connection_row, going_row
 use Rattle.trace_laws.proofs.ItemFacts.{beginning}
 use Rattle.trace_laws.proofs.Joint.{Stood, NextStood}
 use Rattle.trace_laws.proofs.TellRows.{no_events}
-use Rattle.right_laws.proofs.DataOffers.{is_data_in, data_at, IsDataOffered, DataRow, elsewhere, offered_next, data_crosses}
+use Rattle.right_laws.proofs.DataOffers.{is_data_in, data_at, IsDataOffered, DataRow, IsDataByte, elsewhere, offered_next, data_crosses, none_some}
 use Rattle.right_laws.proofs.DataOfferRows.{bytes_kept, kept_row}
-
-wrong : {A : Type 0} → true ≡ false → A
-wrong e = absurd (true≢false e)
-
-wrong' : {A : Type 0} → false ≡ true → A
-wrong' e = absurd (true≢false (sym e))
-
-no_connection : {A : Type 0} (n : Connection) → (let o : Option Connection = None in o) ≡ Some n → A
-no_connection n e = absurd cc
+use Rattle.bus_base.proofs.Tests.{wrong, wrong'}
+use Rattle.link_laws.proofs.Moves.{same_self}
+use Rattle.trace_laws.proofs.SentEntries.{is_in_next}
 
 abbrev pub DataOfferFacts : ScenarioValue → List Row → Type 0
 DataOfferFacts s p = (n : Connection) → connection p ≡ Some n → (bus p).rst ≡ false → IsDataOffered s p n
 
 -- ---- lines
 
-data_parts : (b : LineSet) → is_data_in b ≡ true → (b.msg ≡ false) × (b.cd ≡ false) × (b.io ≡ true)
+pub data_parts : (b : LineSet) → is_data_in b ≡ true → (b.msg ≡ false) × (b.cd ≡ false) × (b.io ≡ true)
 data_parts b e = go b.msg b.cd b.io refl refl refl e
   where
     go : (m d i : Bool) → b.msg ≡ m → b.cd ≡ d → b.io ≡ i → (not m && not d && i) ≡ true → (b.msg ≡ false) × (b.cd ≡ false) × (b.io ≡ true)
@@ -78,10 +72,6 @@ data_parts b e = go b.msg b.cd b.io refl refl refl e
     go false true i x y z w = wrong' w
     go false false true x y z w = (x, y, z)
     go false false false x y z w = wrong' w
-
-same_self : (q : Bool) → same q q ≡ true
-same_self true = refl
-same_self false = refl
 
 data_stays : (c : Change) → is_data_in c.before ≡ true → is_data_in c.after ≡ true → changes_phase c ≡ false
 data_stays c e f =
@@ -100,12 +90,8 @@ turns_to c e f = go (changes_phase c) refl
         let s = Rattle.bus_books.proofs.InConnection.same_phase_is c z in
         wrong (sym f ∙ (λ i. not (s.msg i) && not (s.cd i) && s.io i) ∙ e)
 
-abbrev is_data : Option Phase → Bool
-is_data (Some phases.DataIn) = true
-is_data _ = false
-
 -- It is entered from MESSAGE IN, which counts nothing.
-quiet_entry : (v : Serving) (atn : Bool) (phase : Phase) → (phase ≡ phases.MessageIn) ⊎ (phase ≡ phases.Status) → is_data (phase_leaving v atn phase).to ≡ true → ((phase_leaving v atn phase).done ≡ false) × ((phase_leaving v atn phase).counts ≡ false)
+quiet_entry : (v : Serving) (atn : Bool) (phase : Phase) → (phase ≡ phases.MessageIn) ⊎ (phase ≡ phases.Status) → is_in_next (phase_leaving v atn phase).to ≡ true → ((phase_leaving v atn phase).done ≡ false) × ((phase_leaving v atn phase).counts ≡ false)
 quiet_entry v atn phase (inl e) to = subst (λ (x : Phase). ((phase_leaving v atn x).done ≡ false) × ((phase_leaving v atn x).counts ≡ false)) (sym e) (go atn v.plan.next v.task)
   where
     go : (q : Bool) (next : Next) (t : Option Task) → ((unless_attention q (after_messages (record v { task = t }) next)).done ≡ false) × ((unless_attention q (after_messages (record v { task = t }) next)).counts ≡ false)
@@ -121,7 +107,7 @@ quiet_entry v atn phase (inr e) to = subst (λ (x : Phase). ((phase_leaving v at
     go true = (refl, refl)
     go false = (refl, refl)
 
-data_no_out : (b : LineSet) → is_data_in b ≡ true → is_message_out b ≡ false
+pub data_no_out : (b : LineSet) → is_data_in b ≡ true → is_message_out b ≡ false
 data_no_out b e = let x = data_parts b e in λ i. x.0 i && b.cd && not b.io
 
 -- ---- a row of a connection
@@ -134,7 +120,7 @@ in_parts b e f known = go b.msg b.cd refl refl
     go false true x y = inr (λ i. if x i then (if e i then phases.MessageIn else phases.MessageOut) else if y i then (if e i then phases.Status else phases.Command) else if e i then phases.DataIn else phases.DataOut)
     go false false x y = wrong (sym (λ i. not (x i) && not (y i) && e i) ∙ f)
 
-to_data : (b : LineSet) → is_data_in b ≡ true → phase_of b ≡ phases.DataIn
+pub to_data : (b : LineSet) → is_data_in b ≡ true → phase_of b ≡ phases.DataIn
 to_data b e = let x = data_parts b e in λ i. if x.0 i then (if x.2 i then phases.MessageIn else phases.MessageOut) else if x.1 i then (if x.2 i then phases.Status else phases.Command) else if x.2 i then phases.DataIn else phases.DataOut
 
 data_row : (s : ScenarioValue) (p : List Row) (row : Row) (n : Connection) → AreOfDevices p → AreOfDevices (row ∷ p) → Stood s p → connection p ≡ Some n → (bus p).rst ≡ false → GoingRow s p row n → DataRow s p row n
@@ -221,10 +207,10 @@ data_row s p row n dv dv2 was con off g = record { kept = λ a b q. kept_row s p
         leaving_is : leaving s k n.target ≡ phase_leaving (serving_of s k n.target) (bus_of k).atn (phase_of (bus_of k))
         leaving_is = λ z. leaving_by (serving_of s k n.target) (begun_is z) (bus_of k)
 
-        whereto : is_data (phase_leaving (serving_of s k n.target) (bus_of k).atn (phase_of (bus_of k))).to ≡ true
+        whereto : is_in_next (phase_leaving (serving_of s k n.target) (bus_of k).atn (phase_of (bus_of k))).to ≡ true
         whereto =
-            ap (λ (x : Leaving). is_data x.to) (sym leaving_is)
-            ∙ ap is_data (g.lines.whereto (ap changes_phase g.lines_are ∙ ep) (sym pl.begun ∙ begun_is) ∙ ap (λ (x : Change). Some (phase_of x.after)) g.lines_are ∙ ap (λ (x : Phase). Some x) (to_data c.after (after is_now)))
+            ap (λ (x : Leaving). is_in_next x.to) (sym leaving_is)
+            ∙ ap is_in_next (g.lines.whereto (ap changes_phase g.lines_are ∙ ep) (sym pl.begun ∙ begun_is) ∙ ap (λ (x : Change). Some (phase_of x.after)) g.lines_are ∙ ap (λ (x : Phase). Some x) (to_data c.after (after is_now)))
 
         quiet : ((leaving s k n.target).done ≡ false) × ((leaving s k n.target).counts ≡ false)
         quiet = let w = quiet_entry (serving_of s k n.target) (bus_of k).atn (phase_of (bus_of k)) from whereto in (ap (λ (x : Leaving). x.done) leaving_is ∙ w.0, ap (λ (x : Leaving). x.counts) leaving_is ∙ w.1)
@@ -262,7 +248,7 @@ data_row s p row n dv dv2 was con off g = record { kept = λ a b q. kept_row s p
 -- ---- any row
 
 pub offer_start : (s : ScenarioValue) → DataOfferFacts s []
-offer_start s n e calm = no_connection n e
+offer_start s n e calm = none_some n e
 
 pub offer_next : (s : ScenarioValue) (p : List Row) (row : Row) → Obeys s → IsPrompt s (row ∷ p) → Stood s p → NextStood s p row → DataOfferFacts s p → DataOfferFacts s (row ∷ p)
 offer_next s p row o prompt was next h n after calm = go (row_kind s p row n o prompt was after calm)
@@ -338,7 +324,7 @@ linked_at s p n (when_pulsing io req ack atn x y h a) = record { ends_are = _; l
 
 -- In DATA IN, as REQ rises: the byte of the run that is due.
 pub data_in_carries : (s : ScenarioValue) (p : List Row) (row : Row) (n : Connection) → Obeys s → IsPrompt s (row ∷ p) → Stood s p → NextStood s p row → DataOfferFacts s p → connection p ≡ Some n → (bus p).rst ≡ false → connection (row ∷ p) ≡ Some n → (bus (row ∷ p)).rst ≡ false → is_data_in (bus p) ≡ true → rises (bus p).req (bus (row ∷ p)).req ≡ true
-    → (bus (row ∷ p)).data_bits ≡ byte_bits (data_at s p n)
+    → IsDataByte s p row n
 data_in_carries s p row n o prompt was next h con off after calm here rose =
     let lt = (least_is s p row prompt.1).inside in
     let r = connection_row s p row n o prompt was con off calm in

@@ -35,12 +35,7 @@ use Rattle.bus_books.specs.Rows.{IsRowIn}
 use Rattle.bus_books.proofs.InConnection.{InConnection, in_connection, dialogue_by, reading_is}
 use Rattle.trace_laws.proofs.PlaceStays.{stay_shown}
 use Rattle.right_laws.proofs.DataOffers.{is_data_in, DataKept}
-
-wrong : {A : Type 0} → true ≡ false → A
-wrong e = absurd (true≢false e)
-
-wrong' : {A : Type 0} → false ≡ true → A
-wrong' e = absurd (true≢false (sym e))
+use Rattle.bus_base.proofs.Tests.{wrong, wrong'}
 
 -- ---- what a task tells of the bytes
 

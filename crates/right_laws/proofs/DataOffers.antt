@@ -1,7 +1,9 @@
 -- In DATA IN the target drives the byte that is due until REQ rises, and this byte crosses (6.1.5.1, 6.1.5.2).
-use Rattle.std.proofs.Common.{ℕ, ◌≡◌, Bool, true, false, not, ◌&&◌, ◌==◌, ◌%◌, ◌∙◌, List, ◌∷◌, Option, Some, None, refl, sym, ap, subst, arith}
+use Rattle.std.proofs.Common.{ℕ, ◌≡◌, ◌⊎◌, inl, inr, ◌<◌, Bool, true, false, not, ◌&&◌, ◌==◌, ◌%◌, ◌∙◌, List, ◌∷◌, Option, Some, None, refl, sym, ap, subst, arith}
 use Rattle.std.specs.Int.RustNames.{count_ones}
+use Rattle.std.proofs.lemmas.Bool.{ltb-true}
 use Rattle.std.proofs.lemmas.Bool.Decides.{nat_tests}
+use Rattle.link_laws.specs.Pulses.{run_count}
 use Rattle.bus_trace.specs.LineSet.{LineSet, none}
 use Rattle.bus_trace.specs.declared.Row.{Row}
 use Rattle.bus_trace.specs.declared.connection.Connection.{Connection}
@@ -43,14 +45,10 @@ use Rattle.trace_laws.proofs.LinkRows.{LinkRow, is_pulsed, is_unasked}
 use Rattle.trace_laws.proofs.Turns.{freed_connection}
 use Rattle.std.specs.Prelude.{nat_lt, if◌then◌else◌}
 use Rattle.std.specs.Int.RustNames.{bit_or}
+use Rattle.bus_base.proofs.Tests.{wrong, wrong'}
+use Rattle.trace_laws.proofs.StatusOffers.{left_req, falls_is, zero_is, side_is, unrisen}
 
-wrong : {A : Type 0} → true ≡ false → A
-wrong e = absurd cc
-
-wrong' : {A : Type 0} → false ≡ true → A
-wrong' e = absurd cc
-
-none_some : {A : Type 0} (n : Connection) → (let o : Option Connection = None in o) ≡ Some n → A
+pub none_some : {A : Type 0} (n : Connection) → (let o : Option Connection = None in o) ≡ Some n → A
 none_some n e = absurd cc
 
 -- ---- what is driven
@@ -230,9 +228,6 @@ opens s p t n ack atn x h = offered_by s _ n (ends false ack atn x true true fal
 pub elsewhere : (s : ScenarioValue) (q : List Row) (n : Connection) (f : EndLines) → (is_data_in (connected_bus f) ≡ true → ⊥) → OffersData s q n f
 elsewhere s q n f h = record { first = λ a z u some. absurd (h a); next = λ a z u pulsed more. absurd (h a) }
 
-zero_is : (y : ℕ) → y ≡ 0 → (y == 0) ≡ false → ⊥
-zero_is y e f = wrong (sym (ap (λ (x : ℕ). x == 0) e) ∙ f)
-
 unsame : (q r : Bool) → (not q && r) ≡ true → q ≡ false
 unsame true r e = wrong' e
 unsame false r e = refl
@@ -244,9 +239,6 @@ no_data false false e = wrong e
 
 data_lines : (l : LineSet) (f : EndLines) → l ≡ target_side f → is_data_in (connected_bus f) ≡ true → (not l.msg && not l.cd && l.io) ≡ true
 data_lines l f e a = (λ i. not (e i).msg && not (e i).cd && (e i).io) ∙ a
-
-side_is : (p : List Row) (t : ℕ) (n : Connection) (l : LineSet) (f : EndLines) → Linked (row_of_lines t n.target l ∷ p) n f → l ≡ target_side f
-side_is p t n l f k = sym (drives_own p t n.target l) ∙ k.target
 
 no_out : (m c : Bool) → (not m && not c && false) ≡ false
 no_out true c = refl
@@ -331,13 +323,10 @@ pub record Crossing (p : List Row) (row : Row) : Type 0 where
   pub rose : rises (bus p).req (bus (row ∷ p)).req ≡ true
   pub odd : (count_ones (bus (row ∷ p)).data_bits % 2 == 1) ≡ true
 
--- REQ stays, or falls.
-unrisen : {A : Type 0} (p q : List Row) (n : Connection) (e f : EndLines) → Linked p n e → Linked q n f → rises (bus p).req (bus q).req ≡ true → rises e.req f.req ≡ false → A
-unrisen p q n e f h k rose none = wrong (sym rose ∙ (λ i. rises (h.stands.bus_is i).req (k.stands.bus_is i).req) ∙ none)
-
-falls_is : (q : Bool) → rises q false ≡ false
-falls_is true = refl
-falls_is false = refl
+-- It is the byte that is due; and it is the first of the run, or the run has it.
+pub record IsDataByte (s : ScenarioValue) (p : List Row) (row : Row) (n : Connection) : Type 0 where
+  pub byte_is : (bus (row ∷ p)).data_bits ≡ byte_bits (data_at s p n)
+  pub asked : (is_unasked p ≡ true) ⊎ ((handshakes p).requests < run_count s p n)
 
 initiator_crosses : {A : Type 0} (s : ScenarioValue) (p : List Row) (t : ℕ) (n : Connection) (e : EndLines) (bsy ack atn : Bool) (x : ℕ) → Linked p n e → Crossing p (initiator_row t n (ends bsy ack atn x e.msg e.cd e.io e.req e.given)) → A
 initiator_crosses s p t n e bsy ack atn x h w = unrisen p _ n e (ends bsy ack atn x e.msg e.cd e.io e.req e.given) h (initiator_moves p n e bsy ack atn x t h).linked w.rose (no_rise e.req)
@@ -358,51 +347,42 @@ some_byte y bits e odd = some (y == 0) refl
     some true z = wrong (sym odd ∙ ap (λ (x : ℕ). count_ones x % 2 == 1) (e ∙ zero_of z) ∙ zero_even)
 
 first_crosses : (s : ScenarioValue) (p : List Row) (t : ℕ) (n : Connection) (bsy atn msg cd io : Bool) (y : ℕ) → Linked p n (ends bsy false atn 0 msg cd io false y) → is_unasked p ≡ true → OffersData s p n (ends bsy false atn 0 msg cd io false y)
-    → Crossing p (target_row t n (ends bsy false atn 0 msg cd io true y)) → (bus (target_row t n (ends bsy false atn 0 msg cd io true y) ∷ p)).data_bits ≡ byte_bits (data_at s p n)
+    → Crossing p (target_row t n (ends bsy false atn 0 msg cd io true y)) → IsDataByte s p (target_row t n (ends bsy false atn 0 msg cd io true y)) n
 first_crosses s p t n bsy atn msg cd io y h un v w =
     let bits : (bus (target_row t n (ends bsy false atn 0 msg cd io true y) ∷ p)).data_bits ≡ y = ap (λ (l : LineSet). l.data_bits) (target_moves p n (ends bsy false atn 0 msg cd io false y) msg cd io true y t h).linked.stands.bus_is in
-    bits ∙ v.first (ap is_data_in (sym h.stands.bus_is) ∙ w.here) refl un (some_byte y _ bits w.odd)
+    record { byte_is = bits ∙ v.first (ap is_data_in (sym h.stands.bus_is) ∙ w.here) refl un (some_byte y _ bits w.odd); asked = inl un }
 
 next_crosses : (s : ScenarioValue) (p : List Row) (t : ℕ) (n : Connection) (atn msg cd io : Bool) (y : ℕ) → Linked p n (ends false false atn 0 msg cd io false y) → is_unasked p ≡ false → is_pulsed p (ends false false atn 0 msg cd io false y) ≡ false → (offering_with s p n true (ends false false atn 0 msg cd io false y)).follows ≡ true → OffersData s p n (ends false false atn 0 msg cd io false y)
-    → Crossing p (target_row t n (ends false false atn 0 msg cd io true y)) → (bus (target_row t n (ends false false atn 0 msg cd io true y) ∷ p)).data_bits ≡ byte_bits (data_at s p n)
+    → Crossing p (target_row t n (ends false false atn 0 msg cd io true y)) → IsDataByte s p (target_row t n (ends false false atn 0 msg cd io true y)) n
 next_crosses s p t n atn msg cd false y h un z follows v w = wrong' (sym (no_out msg cd) ∙ ap is_data_in (sym h.stands.bus_is) ∙ w.here)
 next_crosses s p t n atn msg cd true y h un z follows v w =
     let here = ap is_data_in (sym h.stands.bus_is) ∙ w.here in
-    ap (λ (l : LineSet). l.data_bits) (target_moves p n (ends false false atn 0 msg cd true false y) msg cd true true y t h).linked.stands.bus_is
-    ∙ v.next here refl un z (sym (follows_data s p n false false atn 0 msg cd false y here) ∙ follows)
+    let more = sym (follows_data s p n false false atn 0 msg cd false y here) ∙ follows in
+    record {
+      byte_is = ap (λ (l : LineSet). l.data_bits) (target_moves p n (ends false false atn 0 msg cd true false y) msg cd true true y t h).linked.stands.bus_is ∙ v.next here refl un z more;
+      asked = inr (ltb-true (handshakes p).requests (run_count s p n) more);
+    }
 
-pulse_crosses : (s : ScenarioValue) (p : List Row) (t : ℕ) (n : Connection) (io ack atn : Bool) (x y : ℕ) → Linked p n (ends false ack atn x false false io false y) → (io ≡ true → x ≡ 0) → (io ≡ true → y ≡ byte_bits (offering_with s p n true (ends false ack atn x false false io false y)).byte)
-    → Crossing p (target_row t n (ends false ack atn x false false io true y)) → (bus (target_row t n (ends false ack atn x false false io true y) ∷ p)).data_bits ≡ byte_bits (data_at s p n)
+pulse_crosses : (s : ScenarioValue) (p : List Row) (t : ℕ) (n : Connection) (io ack atn : Bool) (x y : ℕ) → Linked p n (ends false ack atn x false false io false y) → (io ≡ true → x ≡ 0) → (io ≡ true → (y ≡ byte_bits (offering_with s p n true (ends false ack atn x false false io false y)).byte) × (nat_lt (handshakes p).requests (run_count s p n) ≡ true))
+    → Crossing p (target_row t n (ends false ack atn x false false io true y)) → IsDataByte s p (target_row t n (ends false ack atn x false false io true y)) n
 pulse_crosses s p t n false ack atn x y h zero byte w = wrong' (ap is_data_in (sym h.stands.bus_is) ∙ w.here)
 pulse_crosses s p t n true ack atn x y h zero byte w =
-    ap (λ (l : LineSet). l.data_bits) (target_moves p n (ends false ack atn x false false true false y) false false true true y t h).linked.stands.bus_is
-    ∙ ap (λ (z : ℕ). bit_or z y) (zero refl)
-    ∙ byte refl
-    ∙ ap byte_bits (offered_data s p n false ack atn x false false false y refl)
-
-left_req : (v : Serving) (io : Bool) (l : Leaving) (o : Option Phase) → (lines_by v io l o).req ≡ false
-left_req v io l None = refl
-left_req v true l (Some phases.DataOut) = refl
-left_req v true l (Some phases.DataIn) = refl
-left_req v true l (Some phases.Command) = refl
-left_req v true l (Some phases.Status) = refl
-left_req v true l (Some phases.MessageOut) = refl
-left_req v true l (Some phases.MessageIn) = refl
-left_req v false l (Some phases.DataOut) = refl
-left_req v false l (Some phases.DataIn) = refl
-left_req v false l (Some phases.Command) = refl
-left_req v false l (Some phases.Status) = refl
-left_req v false l (Some phases.MessageOut) = refl
-left_req v false l (Some phases.MessageIn) = refl
+    record {
+      byte_is = ap (λ (l : LineSet). l.data_bits) (target_moves p n (ends false ack atn x false false true false y) false false true true y t h).linked.stands.bus_is
+          ∙ ap (λ (z : ℕ). bit_or z y) (zero refl)
+          ∙ (byte refl).0
+          ∙ ap byte_bits (offered_data s p n false ack atn x false false false y refl);
+      asked = inr (ltb-true (handshakes p).requests (run_count s p n) (byte refl).1);
+    }
 
 left_crosses : {A : Type 0} (s : ScenarioValue) (p : List Row) (t : ℕ) (n : Connection) (e : EndLines) (l : LineSet) (f : EndLines) → Linked p n e → l.req ≡ false → Linked (row_of_lines t n.target l ∷ p) n f → Crossing p (row_of_lines t n.target l) → A
 left_crosses s p t n e l f h low k w = unrisen p (row_of_lines t n.target l ∷ p) n e f h k w.rose (ap (λ (q : Bool). rises e.req q) (ap (λ (b : LineSet). b.req) (sym k.target ∙ drives_own p t n.target l) ∙ low) ∙ falls_is e.req)
 
-pub data_crosses : (s : ScenarioValue) (p : List Row) (row : Row) (n : Connection) (f : EndLines) → IsDataOffered s p n → LinkRow s p n row → Linked (row ∷ p) n f → Crossing p row → (bus (row ∷ p)).data_bits ≡ byte_bits (data_at s p n)
+pub data_crosses : (s : ScenarioValue) (p : List Row) (row : Row) (n : Connection) (f : EndLines) → IsDataOffered s p n → LinkRow s p n row → Linked (row ∷ p) n f → Crossing p row → IsDataByte s p row n
 data_crosses s p row n g v link k = go link
   where
     As : Row → Type 0
-    As r = Crossing p r → (bus (r ∷ p)).data_bits ≡ byte_bits (data_at s p n)
+    As r = Crossing p r → IsDataByte s p r n
 
     go : LinkRow s p n row → As row
     go (rows.opens h b e) = λ w. wrong' (ap is_data_in (sym h.stands.bus_is) ∙ w.here)

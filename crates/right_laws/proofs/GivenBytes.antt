@@ -36,29 +36,15 @@ use Rattle.right_laws.specs.Asked.{GivesAtRun}
 use Rattle.right_laws.specs.Given.{IsFront, GivenIn, HasGiven, GivenFacts, GivesNext, HasReplyStill, GivesAsked}
 use Rattle.right_laws.specs.Loads.{Load, load}
 use Rattle.right_laws.specs.Open.{OnEvents, IfOpen, OnOpen}
-use Rattle.right_laws.proofs.BlockFacts.{lasting_by}
+use Rattle.right_laws.proofs.BlockFacts.{lasting_by, front_all}
 use Rattle.right_laws.proofs.GivenReplies.{bad_empty, run_gives}
 use Rattle.right_laws.proofs.Lasting.{row_lasts}
 use Rattle.right_laws.proofs.MovedAreas.{moved_crosses}
-use Rattle.right_laws.proofs.OpenProcesses.{IfAccepts, each_both, each_map, open_events, open_start, running_has}
+use Rattle.right_laws.proofs.OpenProcesses.{IfAccepts, each_both, each_map, open_events, open_start, running_has, no_array}
 use Rattle.right_laws.proofs.RanFacts.{Known, here_is, none_is, run_found, steps_of, then_is, undoes_of}
-use Rattle.right_laws.proofs.RowCrossings.{GoesSo, crossing_goes}
+use Rattle.right_laws.proofs.RowCrossings.{GoesSo, crossing_goes, no_item, no_link}
 use Rattle.right_laws.proofs.ShownRows.{IsArrival, IsAnswer, ShownAs, row_shown, RunsAs, runs_alone, runs_arrived, row_runs}
-
-wrong : {A : Type 0} → true ≡ false → A
-wrong e = absurd (true≢false e)
-
-wrong' : {A : Type 0} → false ≡ true → A
-wrong' e = absurd (true≢false (sym e))
-
-no_item : {A : Type 0} (i : Item) → (let o : Option Item = None in o) ≡ Some i → A
-no_item i e = absurd cc
-
-no_link : {A : Type 0} (l : Link) → (let o : Option Link = None in o) ≡ Some l → A
-no_link l e = absurd cc
-
-no_array : {A : Type 0} (a : Array) → (let o : Option Array = None in o) ≡ Some a → A
-no_array a e = absurd cc
+use Rattle.bus_base.proofs.Tests.{wrong, wrong'}
 
 no_reply : {A : Type 0} (r : Reply) → (let o : Option Reply = None in o) ≡ Some r → A
 no_reply r e = absurd cc
@@ -95,7 +81,7 @@ no_data c b byte e = go (is_command b) (is_data b) (is_status_phase b) e
     go false false false z = refl
 
 -- Of one of which no byte of data crosses.
-moved_stays : (s : ScenarioValue) (p : List Row) (row : Row) (h : Known s p row) (id : ProcId) → ((l : Link) → (run_state s p).story.link ≡ Some l → l.item ≡ Some (process id) → (row_reading (run_state s p).story.bus_state row).crosses ≡ true → is_data (row_reading (run_state s p).story.bus_state row).change.before ≡ false) → (carried_here (run_state s (row ∷ p)) id).moved.bytes ≡ (carried_here (run_state s p) id).moved.bytes
+pub moved_stays : (s : ScenarioValue) (p : List Row) (row : Row) (h : Known s p row) (id : ProcId) → ((l : Link) → (run_state s p).story.link ≡ Some l → l.item ≡ Some (process id) → (row_reading (run_state s p).story.bus_state row).crosses ≡ true → is_data (row_reading (run_state s p).story.bus_state row).change.before ≡ false) → (carried_here (run_state s (row ∷ p)) id).moved.bytes ≡ (carried_here (run_state s p) id).moved.bytes
 moved_stays s p row h id quiet =
     let k : RunState = run_state s p in
     let d : RowReading = row_reading k.story.bus_state row in
@@ -186,7 +172,7 @@ given_still s k j id same was q own = go (carried_here j id).moved.bytes refl (w
         let is : reply_now (array_of s j) q ≡ reply_now (array_of s k) q = same q own (λ z. some x xs (sym e ∙ z)) in
         inr (record { good = ap (λ (r : Reply). r.status) is ∙ g.good; front = λ reads. subst (λ (r : Reply). IsFront (carried_here j id).moved.bytes r.bytes) (sym is) (g.front reads) })
 
-no_data_in_command : (b : LineSet) → is_command b ≡ true → is_data b ≡ false
+pub no_data_in_command : (b : LineSet) → is_command b ≡ true → is_data b ≡ false
 no_data_in_command b e = go b.msg b.cd b.io e
   where
     go : (m d i : Bool) → (not m && d && not i) ≡ true → (not m && not d) ≡ false
@@ -195,7 +181,7 @@ no_data_in_command b e = go b.msg b.cd b.io e
     go false false i z = wrong' z
 
 arrives_with : (s : ScenarioValue) (p : List Row) (row : Row) (h : Known s p row) → GivesAsked s (run_state s p) row → (id : ProcId) → IsArrival (run_state s p) (row_reading (run_state s p).story.bus_state row) id → (carried_here (run_state s p) id).moved.bytes ≡ []
-arrives_with s p row h asked id w = asked.arrives w.link id w.here.link_is w.here.item_is w.turns w.command
+arrives_with s p row h asked id w = asked.arrives w.link id w.here.link_is w.here.item_is w.here.calm w.here.stands w.turns w.command
 
 given_arrive : (s : ScenarioValue) (p : List Row) (row : Row) (h : Known s p row) → GivesAsked s (run_state s p) row → OnEvents (IfAccepts (HasGiven s (array_of s (run_state s p)) (run_state s (row ∷ p)))) (row_events_by s (run_state s p).story (row_reading (run_state s p).story.bus_state row) row)
 given_arrive s p row h asked = each (row_events_by s k.story d row) (row_shown s k row)
@@ -247,18 +233,6 @@ given_next s p row h asked before = each_both (IfOpen Mid b) (IfOpen (HasReplySt
     all = subst (OnOpen Mid) (sym (then_is s p row h)) (open_events s Mid h.places.array h.later.array (row_events_by s k.story (row_reading k.story.bus_state row) row) (given_arrive s p row h asked) (steps_of s p row h) rows)
 
 -- ---- as it runs
-
-front_all : (bytes rest all : List ℕ) → bytes ++ rest ≡ all → length all ≤ length bytes → bytes ≡ all
-front_all bytes rest all e h =
-    let total : length all ≡ length (bytes ++ rest) = ap (λ (x : List ℕ). length x) (sym e) in
-    let two = length-append bytes rest in
-    let none : length rest ≡ 0 = omega arith in
-    sym (append_none bytes rest none) ∙ e
-  where
-    append_none : (xs ys : List ℕ) → length ys ≡ 0 → xs ++ ys ≡ xs
-    append_none [] [] z = refl
-    append_none [] (y ∷ ys) z = absurd cc
-    append_none (x ∷ xs) ys z = ap (λ (l : List ℕ). x ∷ l) (append_none xs ys z)
 
 -- By the array in which it runs.
 all_given : (a : Array) (p : Process) (reply : Reply) (bytes : List ℕ) → reply ≡ reply_now a p → GivenIn a p bytes → (is_writing p && reply.status == GOOD) ≡ false → (is_writing p ≡ false → (reply.status == GOOD) ≡ true → length reply.bytes ≤ length bytes) → bytes ≡ reply.bytes

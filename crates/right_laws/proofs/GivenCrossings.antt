@@ -47,7 +47,7 @@ use Rattle.trace_laws.specs.RunCounts.{AreCounted, CountFacts, pulses_here}
 use Rattle.link_laws.specs.Pulses.{run_count}
 use Rattle.trace_laws.proofs.ByteValues.{byte_values}
 use Rattle.trace_laws.proofs.Plans.{is_directed, writes_of, writes_out}
-use Rattle.trace_laws.proofs.RunAsks.{out_step}
+use Rattle.trace_laws.proofs.RunAsks.{out_step, rise_of}
 use Rattle.trace_laws.proofs.RunParts.{byte_within}
 use Rattle.right_laws.specs.Given.{GivesNext, GivesAtCrossing}
 use Rattle.right_laws.specs.GivenPointers.{PointsAtRun, PointsAtCrossing}
@@ -56,12 +56,8 @@ use Rattle.right_laws.proofs.DataOfferFacts.{DataOfferFacts, data_in_carries}
 use Rattle.right_laws.proofs.DataOffers.{is_data_in, data_at}
 use Rattle.right_laws.proofs.RanFacts.{Known}
 use Rattle.right_laws.proofs.RowCrossings.{GoesSo, crossing_goes, known_served}
-
-wrong : {A : Type 0} → true ≡ false → A
-wrong e = absurd (true≢false e)
-
-wrong' : {A : Type 0} → false ≡ true → A
-wrong' e = absurd (true≢false (sym e))
+use Rattle.bus_base.proofs.Tests.{wrong, wrong', plus_none}
+use Rattle.trace_laws.proofs.Tests.{risen}
 
 -- ---- what moves
 
@@ -89,16 +85,13 @@ few_of p r w = go (r.status == GOOD) (is_writing p) w
 less : (a b c d : ℕ) → a ≡ b → b < c → c ≤ d → a < d
 less a b c d e f g = omega (arith, e, f, g)
 
-none_more : (n : ℕ) → n + 0 ≡ n
-none_more n = omega arith
-
 reads_in : (io : Bool) (p : Process) → is_directed io (writes_of (Some p)) ≡ true → is_writing p ≡ false → io ≡ true
 reads_in true p e w = refl
 reads_in false p e w = wrong' (sym w ∙ e)
 
 -- ---- lines
 
-data_phase : (b : LineSet) → is_data b ≡ true → phase_of b ≡ (if b.io then phases.DataIn else phases.DataOut)
+pub data_phase : (b : LineSet) → is_data b ≡ true → phase_of b ≡ (if b.io then phases.DataIn else phases.DataOut)
 data_phase b e = go b.msg b.cd refl refl e
   where
     go : (m d : Bool) → b.msg ≡ m → b.cd ≡ d → (not m && not d) ≡ true → phase_of b ≡ (if b.io then phases.DataIn else phases.DataOut)
@@ -114,23 +107,12 @@ data_in_lines b e f = go b.msg b.cd b.io e f
     go false true i z w = wrong' z
     go false false i z w = w
 
-req_rises : (n : Connection) (c : Change) → c.before.io ≡ true → is_some (receiver_in n c) ≡ true → rises c.before.req c.after.req ≡ true
+pub req_rises : (n : Connection) (c : Change) → c.before.io ≡ true → is_some (receiver_in n c) ≡ true → rises c.before.req c.after.req ≡ true
 req_rises n c io e = go (rises c.before.req c.after.req) (sym (ap (λ (q : Bool). is_some (if q then (if rises c.before.req c.after.req then Some n.initiator else None) else (if rises c.before.ack c.after.ack then Some n.target else None))) io) ∙ e)
   where
     go : (q : Bool) → is_some (let o : Option ℕ = if q then Some n.initiator else None in o) ≡ true → q ≡ true
     go true z = refl
     go false z = wrong' z
-
-ack_rises : (n : Connection) (c : Change) → c.before.io ≡ false → is_some (receiver_in n c) ≡ true → rises c.before.ack c.after.ack ≡ true
-ack_rises n c io e = go (rises c.before.ack c.after.ack) (sym (ap (λ (q : Bool). is_some (if q then (if rises c.before.req c.after.req then Some n.initiator else None) else (if rises c.before.ack c.after.ack then Some n.target else None))) io) ∙ e)
-  where
-    go : (q : Bool) → is_some (let o : Option ℕ = if q then Some n.target else None in o) ≡ true → q ≡ true
-    go true z = refl
-    go false z = wrong' z
-
-low_before : (a b : Bool) → rises a b ≡ true → a ≡ false
-low_before true b e = wrong' e
-low_before false b e = refl
 
 -- ---- a byte crosses
 
@@ -235,12 +217,12 @@ gives_crossing s p row o prompt h offers counted stands points l id q link item 
             due : data_at s p n ≡ slice_index_or now.bytes ((run_at policy t t.runs).start + k.handshakes.requests) 0
             due =
                 (λ i. data_byte policy (task_if s k (here i)) (given_if s k (here i)) 0 (sym pl.handshakes i).requests)
-                ∙ ap (λ (x : ℕ). slice_index_or now.bytes ((run_at policy t x).start + k.handshakes.requests) 0) (none_more t.runs)
+                ∙ ap (λ (x : ℕ). slice_index_or now.bytes ((run_at policy t x).start + k.handshakes.requests) 0) (plus_none t.runs)
 
             byte : (row_reading k.story.bus_state row).change.after.data_bits % 256 ≡ slice_index_or now.bytes (carried_here k id).moved.active 0
             byte =
                 ap (λ (c : Change). c.after.data_bits % 256) change
-                ∙ ap (λ (x : ℕ). x % 256) (data_in_carries s p row n o prompt h.was h.next offers con off after calm (data_in_lines (bus p) (ap is_data (sym pl.bus) ∙ on) io_p) (req_rises n (change_of p row) io_p some))
+                ∙ ap (λ (x : ℕ). x % 256) (data_in_carries s p row n o prompt h.was h.next offers con off after calm (data_in_lines (bus p) (ap is_data (sym pl.bus) ∙ on) io_p) (req_rises n (change_of p row) io_p some)).byte_is
                 ∙ byte_back (data_at s p n) small
                 ∙ due
                 ∙ ap (λ (x : ℕ). slice_index_or now.bytes x 0) (sym active)
@@ -272,14 +254,14 @@ gives_crossing s p row o prompt h offers counted stands points l id q link item 
             run = ap (run_length_if policy) (ap (task_if s k) here)
 
             rose : rises (change_of p row).before.ack (change_of p row).after.ack ≡ true
-            rose = ack_rises n (change_of p row) io_p some
+            rose = rise_of n (change_of p row) io_p some
 
             answered : (v : Bool) → pulses_here p ≡ v → (handshakes p).answers < run_count s p n
             answered true u =
                 let more = ((out_step s p row n prompt h.was con off calm b phase after).step.answers rose).1 u in
                 let few = counts.pulses u in
                 omega (arith, more, few)
-            answered false u = (counts.waits u (((out_step s p row n prompt h.was con off calm b phase after).step.answers rose).0 u) (low_before (bus p).ack (bus (row ∷ p)).ack rose)).0
+            answered false u = (counts.waits u (((out_step s p row n prompt h.was con off calm b phase after).step.answers rose).0 u) (risen (bus p).ack (bus (row ∷ p)).ack rose)).0
 
         dir : (x : Bool) → is_writing q ≡ x → GivesNext s k q id ((row_reading k.story.bus_state row).change.after.data_bits % 256)
         dir true e = writing e

@@ -20,14 +20,10 @@ use Rattle.bus_due.specs.Tasks.{reply_now}
 use Rattle.bus_books.proofs.Lookups.{self_id}
 use Rattle.trace_laws.specs.Places.{OnGuests, OnUnits, Runs, Waits}
 use Rattle.trace_laws.proofs.EachProcess.{running_id}
-use Rattle.right_laws.proofs.OpenProcesses.{running_has}
+use Rattle.right_laws.proofs.OpenProcesses.{running_has, no_array}
 use Rattle.std.proofs.lemmas.Option.{same_Some}
-
-wrong : {A : Type 0} → true ≡ false → A
-wrong e = absurd (true≢false e)
-
-wrong' : {A : Type 0} → false ≡ true → A
-wrong' e = absurd (true≢false (sym e))
+use Rattle.bus_base.proofs.Tests.{wrong, wrong'}
+use Rattle.trace_laws.proofs.ArrayBytes.{IsOf}
 
 -- ---- not GOOD
 
@@ -77,25 +73,19 @@ bad_empty a p = execution_bad (Steps.context_at a (nexus_of p) (unit_state_at a.
 
 -- ---- the reply of one that runs
 
-no_array : {A : Type 0} (a : Array) → (let o : Option Array = None in o) ≡ Some a → A
-no_array a e = absurd cc
-
-abbrev IsOfScenario : ScenarioValue → RunningProcess → Type 0
-IsOfScenario s r = process_of s r.process.id ≡ Some r.process
-
-own_waits : (s : ScenarioValue) (t n : ℕ) (waiting : List Process) → AllOwn s t n waiting → Waits (IsOfScenario s) waiting
+own_waits : (s : ScenarioValue) (t n : ℕ) (waiting : List Process) → AllOwn s t n waiting → Waits (IsOf s) waiting
 own_waits s t n [] h = tt
 own_waits s t n (p ∷ waiting) h = (h.0.is, own_waits s t n waiting h.1)
 
-own_runs : (s : ScenarioValue) (t n : ℕ) (o : Option RunningProcess) → IsOwnRunning s t n o → Runs (IsOfScenario s) o
+own_runs : (s : ScenarioValue) (t n : ℕ) (o : Option RunningProcess) → IsOwnRunning s t n o → Runs (IsOf s) o
 own_runs s t n None h = tt
 own_runs s t n (Some r) h = h.is
 
-own_units : (s : ScenarioValue) (units : List UnitState) → AllOwnUnits s units → OnUnits (IsOfScenario s) units
+pub own_units : (s : ScenarioValue) (units : List UnitState) → AllOwnUnits s units → OnUnits (IsOf s) units
 own_units s [] h = tt
 own_units s (u ∷ units) h = ((own_waits s u.target u.unit u.waiting h.0.waiting, own_runs s u.target u.unit u.current h.0.current), own_units s units h.1)
 
-own_guests : (s : ScenarioValue) (guests : List RunningProcess) → AllOwnGuests s guests → OnGuests (IsOfScenario s) guests
+pub own_guests : (s : ScenarioValue) (guests : List RunningProcess) → AllOwnGuests s guests → OnGuests (IsOf s) guests
 own_guests s [] h = tt
 own_guests s (g ∷ guests) h = (h.0, own_guests s guests h.1)
 
@@ -103,7 +93,7 @@ own_guests s (g ∷ guests) h = (h.0, own_guests s guests h.1)
 pub own_running : (s : ScenarioValue) (a : Array) (p : Process) (r : RunningProcess) → IsSound s a → process_of s p.id ≡ Some p → Steps.running_process a p.id ≡ Some r → r.process ≡ p
 own_running s a p r sound own e =
     same_Some r.process p
-    (sym (running_has (IsOfScenario s) a p.id r (record { units = own_units s a.units sound.units; guests = own_guests s a.guests sound.guests }) e)
+    (sym (running_has (IsOf s) a p.id r (record { units = own_units s a.units sound.units; guests = own_guests s a.guests sound.guests }) e)
     ∙ ap (process_of s) (running_id a p.id r e)
     ∙ own)
 

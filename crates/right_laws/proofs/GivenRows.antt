@@ -1,7 +1,6 @@
 -- A process that runs with any row of a prompt trace, and is no write that ends GOOD, has carried the bytes of its reply, by what is asked of
 -- its data pointers, of its arrival and of its reply (6.1.5.1, 6.6.20, 7.3).
 use Rattle.std.proofs.Common.{ℕ, ◌≤◌, arith, List, [], ◌∷◌, length}
-use Rattle.std.specs.Prelude.{⊤}
 use Rattle.bus_trace.specs.declared.Row.{Row}
 use Rattle.scenario.specs.Value.{ScenarioValue}
 use Rattle.scenario.specs.Writing.{Obeys}
@@ -10,7 +9,7 @@ use Rattle.bus_due.specs.Next.{IsPrompt}
 use Rattle.bus_due.specs.RunState.{carried_here}
 use Rattle.bus_due.specs.RunSteps.{run_state}
 use Rattle.trace_laws.proofs.Joint.{NextStood}
-use Rattle.right_laws.specs.Asked.{GivesAtRun, SendsAtRun, AllMove}
+use Rattle.right_laws.specs.Asked.{GivesAtRun, AllMove}
 use Rattle.right_laws.specs.Given.{GivenFacts, GivesAsked}
 use Rattle.right_laws.specs.GivenPointers.{GivesBy, AllGiveBy}
 use Rattle.right_laws.specs.Loads.{UndoLoadFacts}
@@ -18,7 +17,9 @@ use Rattle.right_laws.proofs.DataOfferFacts.{DataOfferFacts, offer_start, offer_
 use Rattle.right_laws.proofs.GivenBytes.{given_start, given_next, gives_at_run}
 use Rattle.right_laws.proofs.GivenCrossings.{gives_crossing}
 use Rattle.right_laws.proofs.RanFacts.{Known}
-use Rattle.right_laws.proofs.Right.{Joined, AreJoined, joined_last}
+use Rattle.right_laws.proofs.Right.{Joined, AreJoined, all_joined, joined_last}
+use Rattle.right_laws.proofs.ReadBooks.{gives_by}
+use Rattle.right_laws.proofs.SentAtRun.{sends_at_run}
 use Rattle.right_laws.proofs.SameReplies.{reply_stays_by}
 use Rattle.right_laws.proofs.Standing.{all_stand}
 use Rattle.right_laws.proofs.UndoneLoadFacts.{load_start, load_next}
@@ -59,12 +60,13 @@ gives_with s p row o prompt h by =
     let now = joined_last s p h.0 in
     gives_at_run s p row (seats_are s (obeys_fits s o)) (known_of s p row now h.1 h.2 was) (asked_of s p row o prompt now h.1 h.2 was by.1) was.given
 
--- ---- with what writes send
+-- ---- of every prompt trace
 
-abbrev pub AllSend : ScenarioValue → List Row → Type 0
-AllSend s [] = ⊤
-AllSend s (row ∷ rows) = AllSend s rows × SendsAtRun s (run_state s rows) row
+pub all_give_by : (s : ScenarioValue) (p : List Row) → Obeys s → IsPrompt s p → AllGiveBy s p
+all_give_by s [] o prompt = tt
+all_give_by s (row ∷ p) o prompt = (all_give_by s p o prompt.0, gives_by s p row o prompt)
 
-pub all_move : (s : ScenarioValue) (p : List Row) → Obeys s → IsPrompt s p → AreJoined s p → AllSend s p → AllGiveBy s p → AllMove s p
-all_move s [] o prompt h sends by = tt
-all_move s (row ∷ p) o prompt h sends by = (all_move s p o prompt.0 h.0 sends.0 by.0, sends.1, gives_with s p row o prompt h by)
+pub all_move : (s : ScenarioValue) (p : List Row) → Obeys s → IsPrompt s p → AllMove s p
+all_move s [] o prompt = tt
+all_move s (row ∷ p) o prompt =
+    (all_move s p o prompt.0, sends_at_run s p row o prompt, gives_with s p row o prompt (all_joined s (row ∷ p) o prompt) (all_give_by s (row ∷ p) o prompt))

@@ -32,3 +32,17 @@ pub mod GivenRows
 pub mod Standing
 pub mod SameReplies
 mod GivenCases
+pub mod Targeted
+pub mod WholeBlocks
+pub mod ReadRuns
+pub mod ReadEntries
+pub mod ReadCounts
+pub mod ReadPointers
+pub mod Unmoved
+pub mod ReadEnds
+pub mod ReadBooks
+pub mod CleanQueues
+pub mod Stays
+pub mod StaysRows
+pub mod SenseRuns
+pub mod RunsApart

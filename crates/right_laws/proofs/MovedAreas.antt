@@ -25,12 +25,7 @@ use Rattle.trace_laws.proofs.PointerStories.{story_row}
 use Rattle.right_laws.specs.Loads.{Load, load}
 use Rattle.right_laws.proofs.BlockFacts.{lasting_by}
 use Rattle.right_laws.proofs.Lasting.{events_last}
-
-none_out : (k : RunState) (c : Change) → c.before.msg ≡ false → message_out k.story.bus_state.dialogue c true ≡ None
-none_out k c e = λ i. if e i && c.before.cd && not c.before.io then whole_out (got_out (fresh_bytes k.story.bus_state.dialogue ++ c.after.data_bits % 256 ∷ [])) else None
-
-none_in : (k : RunState) (c : Change) → c.before.msg ≡ false → message_in k.story.bus_state.dialogue c true ≡ None
-none_in k c e = λ i. if e i && c.before.cd && c.before.io then whole_in (got_in (k.story.bus_state.dialogue.half ++ c.after.data_bits % 256 ∷ [])) else None
+use Rattle.right_laws.proofs.StatusAreas.{none_out, none_in}
 
 pub moved_crosses : (s : ScenarioValue) (k : RunState) (row : Row) (n : Connection) (c : Change) (l : Link) (id : ProcId) → IsRowIn k row n c → is_some (receiver_in n c) ≡ true → k.story.link ≡ Some l → l.item ≡ Some (process id) → c.before.msg ≡ false → is_command c.before ≡ false → is_data c.before ≡ true
     → (carried_here (run_state_after s k row) id).moved.bytes ≡ (area_with (carried_here k id).moved (c.after.data_bits % 256)).bytes

@@ -22,14 +22,9 @@ use Rattle.trace_laws.proofs.EachProcess.{Admits, AdmitsEvent, each_after}
 use Rattle.trace_laws.proofs.ListedReplies.{replies_to, listed_on}
 use Rattle.trace_laws.proofs.OtherProcesses.{same_after, untouched_at_start}
 use Rattle.right_laws.specs.Open.{OnEvents, IfOpen, OnOpen}
+use Rattle.bus_base.proofs.Tests.{wrong, wrong'}
 
-wrong : {A : Type 0} → true ≡ false → A
-wrong e = absurd (true≢false e)
-
-wrong' : {A : Type 0} → false ≡ true → A
-wrong' e = absurd (true≢false (sym e))
-
-no_array : {A : Type 0} (a : Array) → (let o : Option Array = None in o) ≡ Some a → A
+pub no_array : {A : Type 0} (a : Array) → (let o : Option Array = None in o) ≡ Some a → A
 no_array a e = absurd cc
 
 no_running : {A : Type 0} (r : RunningProcess) → (let o : Option RunningProcess = None in o) ≡ Some r → A
@@ -102,7 +97,7 @@ none_units : (q : RunningProcess → Type 0) (units : List UnitState) → ((id :
 none_units q [] h = tt
 none_units q (u ∷ units) h = ((none_waits q u.waiting (λ id. (h id).0.0), none_runs q u.current (λ id. (h id).0.1)), none_units q units (λ id. (h id).1))
 
-none_guests : (q : RunningProcess → Type 0) (guests : List RunningProcess) → ((id : ProcId) → OnGuests (IsAway id) guests) → OnGuests q guests
+pub none_guests : (q : RunningProcess → Type 0) (guests : List RunningProcess) → ((id : ProcId) → OnGuests (IsAway id) guests) → OnGuests q guests
 none_guests q [] h = tt
 none_guests q (g ∷ guests) h = wrong (sym (self_id g.process.id) ∙ (h g.process.id).0)
 

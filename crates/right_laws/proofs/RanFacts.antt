@@ -36,7 +36,7 @@ use Rattle.bus_books.specs.Traces.{GoesOn}
 use Rattle.bus_books.proofs.Lookups.{id_is, self_id}
 use Rattle.trace_laws.specs.ItemFacts.{ItemFacts}
 use Rattle.trace_laws.specs.Places.{IsUntouched, RunsOpen, PlaceFacts, PlacedIn}
-use Rattle.trace_laws.specs.Tells.{has_answer, AreRepliesShown}
+use Rattle.trace_laws.specs.Tells.{AreRepliesShown}
 use Rattle.trace_laws.proofs.EachProcess.{running_id}
 use Rattle.trace_laws.proofs.FreshItems.{items_open}
 use Rattle.trace_laws.proofs.Joint.{Stood, NextStood}
@@ -48,17 +48,14 @@ use Rattle.right_laws.specs.Open.{OnEvents, IfOpen, OnOpen, HasBlock, BlockFacts
 use Rattle.right_laws.specs.Runs.{HasRun, IsEnded, RightFacts, MovesAtRun, StatusAtEnd}
 use Rattle.right_laws.proofs.BlockFacts.{lasting_by, turn_silent, blocks_stay, blocks_arrive}
 use Rattle.right_laws.proofs.Lasting.{row_lasts}
-use Rattle.right_laws.proofs.OpenProcesses.{IfAccepts, reply_kept, replies_kept, running_has, open_step}
-use Rattle.right_laws.proofs.RowCrossings.{GoesSo, crossing_goes, here_goes, known_served, IsPlaced, placed_here, new_here, InBytes, in_command, in_data, in_status, byte_phase, command_phase}
+use Rattle.right_laws.proofs.OpenProcesses.{IfAccepts, reply_kept, replies_kept, running_has, open_step, no_array}
+use Rattle.right_laws.proofs.RowCrossings.{GoesSo, crossing_goes, here_goes, known_served, IsPlaced, placed_here, new_here, InBytes, in_command, in_data, in_status, byte_phase}
 use Rattle.right_laws.proofs.ShownRows.{IsArrival, IsAnswer, ShownAs, row_shown, RunsAs, runs_alone, runs_arrived, row_runs}
 use Rattle.right_laws.proofs.UndoneLoadFacts.{load_asks}
 use Rattle.right_laws.proofs.UndoneLoads.{lasting_load, loads_stay}
-
-wrong : {A : Type 0} → true ≡ false → A
-wrong e = absurd (true≢false e)
-
-wrong' : {A : Type 0} → false ≡ true → A
-wrong' e = absurd (true≢false (sym e))
+use Rattle.bus_base.proofs.Tests.{wrong, wrong'}
+use Rattle.trace_laws.proofs.PhaseLines.{command_phase}
+use Rattle.trace_laws.specs.DataPointers.{is_marked}
 
 no_reply : {A : Type 0} (o : Option Reply) → is_some o ≡ true → o ≡ None → A
 no_reply o e f = wrong' (sym (ap is_some f) ∙ e)
@@ -197,7 +194,7 @@ reply_stays s p row h id given =
             no_reply (reply_in h.places.array.replies new.process.id) ((λ i. is_some (reply_in (sym (here_is s p row h) i).replies ((new.id_is ∙ same) i))) ∙ given) new.untouched.reply
 
     answer : (x : ProcId) → x ≡ id → IsAnswer k d x → ⊥
-    answer x same w = wrong' (sym w.unanswered ∙ ap (λ (y : ProcId). has_answer (carried_here k y)) same ∙ sym (h.shown id) ∙ given)
+    answer x same w = wrong' (sym w.unanswered ∙ ap (λ (y : ProcId). is_marked (carried_here k y)) same ∙ sym (h.shown id) ∙ given)
 
     other : (x : ProcId) → (x ≡ id → ⊥) → same_id x id ≡ false
     other x f = go (same_id x id) refl
@@ -239,9 +236,6 @@ ran_stays s p row h id w =
 pub record IsFound (a : Array) (id : ProcId) : Type 0 where
   pub running : RunningProcess
   pub running_is : Steps.running_process a id ≡ Some running
-
-no_array : {A : Type 0} (a : Array) → (let o : Option Array = None in o) ≡ Some a → A
-no_array a e = absurd cc
 
 pub run_found : (s : ScenarioValue) (a b : Array) (id : ProcId) → Steps.step s (events.Run id) a ≡ Some b → IsFound a id
 run_found s a b id e = go (Steps.running_process a id) refl
@@ -423,15 +417,32 @@ run_either (x ∷ xs) ys id e = go (is_run_of id x) e (run_either xs ys id)
     go true z rest = inl refl
     go false z rest = rest z
 
+-- Those that ended, whatever ran.
+pub ended_next : (s : ScenarioValue) (p : List Row) (row : Row) → Known s p row → StatusAtEnd (run_state s p) row → OnEvents (IsEnded s (run_state s p)) (run_state s p).story.history
+    → OnEvents (IsEnded s (run_state s (row ∷ p))) (run_state s (row ∷ p)).story.history
+ended_next s p row known one h =
+    append_events (IsEnded s j) now k.story.history (map_events (ShownAs s k d row) (IsEnded s j) (ended_new s p row known one) now (row_shown s k row))
+    (map_events (IsEnded s k) (IsEnded s j) (ended_stays s p row known) k.story.history h)
+  where
+    k : RunState
+    k = run_state s p
+
+    j : RunState
+    j = run_state_after s k row
+
+    d : RowReading
+    d = row_reading k.story.bus_state row
+
+    now : List Event
+    now = row_events_by s k.story d row
+
 pub right_start : (s : ScenarioValue) → RightFacts s []
 right_start s = record { ran = λ id e. wrong' e; ended = tt }
 
 pub right_next : (s : ScenarioValue) (p : List Row) (row : Row) → Stood s p → NextStood s p row → ItemFacts s p → UndoLoadFacts s p → PlaceFacts s p → PlaceFacts s (row ∷ p) → AreRepliesShown s (run_state s p) → BlockFacts s p → MovesAtRun s (run_state s p) row → StatusAtEnd (run_state s p) row → RightFacts s p → RightFacts s (row ∷ p)
 right_next s p row was next items undo places later shown blocks moves one h = record {
   ran = λ id e. by id (run_either now k.story.history id e);
-  ended =
-      append_events (IsEnded s j) now k.story.history (map_events (ShownAs s k d row) (IsEnded s j) (ended_new s p row known one) now (row_shown s k row))
-      (map_events (IsEnded s k) (IsEnded s j) (ended_stays s p row known) k.story.history h.ended);
+  ended = ended_next s p row known one h.ended;
 }
   where
     k : RunState

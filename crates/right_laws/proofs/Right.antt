@@ -1,6 +1,6 @@
 -- After any rows of a prompt trace each process that ran and ended has carried its command block, the bytes that it moves and its status; so
 -- the trace, its history, the outcomes and the blocks belong together.
-use Rattle.std.proofs.Common.{◌≡◌, ◌<◌, ◌^◌, true, ◌∙◌, List, [], ◌∷◌, length, reverse, Option, sym, ap, subst, arith}
+use Rattle.std.proofs.Common.{◌≡◌, true, ◌∙◌, List, [], ◌∷◌, reverse, Option, sym, ap, subst}
 use Rattle.std.specs.Prelude.{is_some}
 use Rattle.std.proofs.lemmas.List.{reverse-reverse}
 use Rattle.bus_base.specs.declared.Event.{Event}
@@ -24,7 +24,7 @@ use Rattle.trace_laws.specs.TellFacts.{TellFacts}
 use Rattle.trace_laws.specs.Tells.{AreRepliesShown}
 use Rattle.trace_laws.proofs.Whole.{Whole, standing_next, whole}
 use Rattle.trace_laws.proofs.Joint.{Stood, NextStood}
-use Rattle.right_laws.specs.Asked.{AllGive, AllMove}
+use Rattle.right_laws.specs.Asked.{AllMove}
 use Rattle.right_laws.specs.Loads.{UndoLoadFacts}
 use Rattle.right_laws.specs.Open.{BlockFacts}
 use Rattle.right_laws.specs.Runs.{RightFacts}
@@ -33,7 +33,6 @@ use Rattle.right_laws.proofs.BlockFacts.{block_start, block_next}
 use Rattle.right_laws.proofs.Carried.{events_carried}
 use Rattle.right_laws.proofs.DataOfferFacts.{DataOfferFacts, offer_start, offer_next}
 use Rattle.right_laws.proofs.RanFacts.{Known, right_start, right_next}
-use Rattle.right_laws.proofs.SentAtRun.{sends_at_run}
 use Rattle.right_laws.proofs.SentBytes.{moves_at_run}
 use Rattle.right_laws.proofs.StatusFacts.{status_start, status_next, status_at_end}
 use Rattle.right_laws.proofs.UndoneLoadFacts.{load_start, load_next}
@@ -112,18 +111,13 @@ right_rows s p o prompt h moves =
 joined_of : (s : ScenarioValue) (p : List Row) → Whole s p → Joined s p
 joined_of s p w = record { stood = w.stood; told = w.facts; shown = w.shown; places = w.places; pointers = w.sends }
 
-pub all_joined : (s : ScenarioValue) (p : List Row) → Obeys s → IsPrompt s p → length p < 2 ^ 64 → AreJoined s p
-all_joined s [] o prompt short = joined_of s [] (whole s [] o prompt short)
-all_joined s (row ∷ p) o prompt short =
-    let less : length p < 2 ^ 64 = omega (arith, short) in
-    (all_joined s p o prompt.0 less, standing_next s p row o prompt short (whole s p o prompt.0 less), joined_of s (row ∷ p) (whole s (row ∷ p) o prompt short))
+pub all_joined : (s : ScenarioValue) (p : List Row) → Obeys s → IsPrompt s p → AreJoined s p
+all_joined s [] o prompt = joined_of s [] (whole s [] o prompt)
+all_joined s (row ∷ p) o prompt =
+    (all_joined s p o prompt.0, standing_next s p row o prompt (whole s p o prompt.0), joined_of s (row ∷ p) (whole s (row ∷ p) o prompt))
 
-pub history_permitted : (s : ScenarioValue) (p : List Row) → Obeys s → IsPrompt s p → length p < 2 ^ 64 → is_some (array_after s (trace_history s p)) ≡ true
-history_permitted s p o prompt short =
-    let w = whole s p o prompt short in
+pub history_permitted : (s : ScenarioValue) (p : List Row) → Obeys s → IsPrompt s p → is_some (array_after s (trace_history s p)) ≡ true
+history_permitted s p o prompt =
+    let w = whole s p o prompt in
     let pl : IsPlain s p (run_state s p) = run_state_plain s p w.stood.standing.devices in
     ap (λ (a : Option Array). is_some a) (sym pl.array ∙ w.places.array_is)
-
-pub all_move : (s : ScenarioValue) (p : List Row) → Obeys s → IsPrompt s p → length p < 2 ^ 64 → AllGive s p → AllMove s p
-all_move s [] o prompt short gives = tt
-all_move s (row ∷ p) o prompt short gives = (all_move s p o prompt.0 (omega (arith, short)) gives.0, sends_at_run s p row o prompt short, gives.1)

@@ -26,17 +26,14 @@ use Rattle.bus_books.specs.Traces.{GoesOn, RowOf, apart as row_apart, begins, go
 use Rattle.bus_books.proofs.CarriedRows.{process_id}
 use Rattle.trace_laws.specs.Places.{IsUntouched, HasPlaces, PlacedIf, PlacedIn}
 use Rattle.right_laws.proofs.ShownRows.{IsHere}
+use Rattle.bus_base.proofs.Tests.{wrong, wrong'}
+use Rattle.trace_laws.proofs.PhaseLines.{command_phase}
+use Rattle.trace_laws.proofs.Crossings.{no_byte}
 
-wrong : {A : Type 0} → true ≡ false → A
-wrong e = absurd (true≢false e)
-
-wrong' : {A : Type 0} → false ≡ true → A
-wrong' e = absurd (true≢false (sym e))
-
-no_link : {A : Type 0} (l : Link) → (let o : Option Link = None in o) ≡ Some l → A
+pub no_link : {A : Type 0} (l : Link) → (let o : Option Link = None in o) ≡ Some l → A
 no_link l e = absurd cc
 
-no_item : {A : Type 0} (i : Item) → (let o : Option Item = None in o) ≡ Some i → A
+pub no_item : {A : Type 0} (i : Item) → (let o : Option Item = None in o) ≡ Some i → A
 no_item i e = absurd cc
 
 -- ---- a row of a connection
@@ -46,12 +43,9 @@ pub record GoesSo (s : ScenarioValue) (k : RunState) (row : Row) : Type 0 where
   pub change : Change
   pub goes : GoesOn s k row connection change
 
-silent : {A : Type 0} (o : Option ℕ) → o ≡ None → is_some o ≡ true → A
-silent o e z = wrong' (sym (ap (λ (x : Option ℕ). is_some x) e) ∙ z)
-
 pub crossing_goes : (s : ScenarioValue) (k : RunState) (row : Row) → RowOf s k row → (row_reading k.story.bus_state row).crosses ≡ true → GoesSo s k row
-crossing_goes s k row (row_apart con next) e = silent (receiver_of k.story.bus_state.connection (row_reading k.story.bus_state row).change) (ap (λ (o : Option Connection). receiver_of o (row_reading k.story.bus_state row).change) con) e
-crossing_goes s k row (begins n b) e = silent (receiver_of k.story.bus_state.connection (row_reading k.story.bus_state row).change) (ap (λ (o : Option Connection). receiver_of o (row_reading k.story.bus_state row).change) b.first.connection_is) e
+crossing_goes s k row (row_apart con next) e = no_byte (receiver_of k.story.bus_state.connection (row_reading k.story.bus_state row).change) (ap (λ (o : Option Connection). receiver_of o (row_reading k.story.bus_state row).change) con) e
+crossing_goes s k row (begins n b) e = no_byte (receiver_of k.story.bus_state.connection (row_reading k.story.bus_state row).change) (ap (λ (o : Option Connection). receiver_of o (row_reading k.story.bus_state row).change) b.first.connection_is) e
 crossing_goes s k row (goes_on n c g) e = record { connection = n; change = c; goes = g }
 crossing_goes s k row (ends n g) e = wrong' (sym g.carries_none ∙ e)
 crossing_goes s k row (under_reset on none) e = wrong' (sym none ∙ e)
@@ -121,15 +115,6 @@ new_here s k row n c id h g served command =
     by p false z = z
 
 -- ---- phases by lines
-
-pub command_phase : (b : LineSet) → is_command b ≡ true → phase_of b ≡ phases.Command
-command_phase b e = go b.msg b.cd b.io e
-  where
-    go : (m d i : Bool) → (not m && d && not i) ≡ true → (if m then (if i then phases.MessageIn else phases.MessageOut) else if d then (if i then phases.Status else phases.Command) else if i then phases.DataIn else phases.DataOut) ≡ phases.Command
-    go true d i z = wrong' z
-    go false true true z = wrong' z
-    go false true false z = refl
-    go false false i z = wrong' z
 
 pub data InBytes (b : LineSet) : Type 0 where
   in_command : phase_of b ≡ phases.Command → is_command b ≡ true → InBytes b

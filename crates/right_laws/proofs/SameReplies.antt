@@ -32,12 +32,11 @@ use Rattle.bus_due.specs.Tasks.{reply_now}
 use Rattle.right_laws.specs.Given.{HasReplyStill}
 use Rattle.right_laws.specs.GivenPointers.{abort_may_change, may_change, any_may_change, HasReplyThen}
 use Rattle.right_laws.specs.Open.{IfOpen, OnOpen}
-use Rattle.right_laws.proofs.OpenProcesses.{each_map}
+use Rattle.right_laws.proofs.OpenProcesses.{each_map, no_array}
 use Rattle.right_laws.proofs.RanFacts.{Known, here_is, steps_of, then_is}
 use Rattle.bus_books.proofs.CarriedRows.{process_id}
-
-wrong' : {A : Type 0} → false ≡ true → A
-wrong' e = absurd (true≢false (sym e))
+use Rattle.std.proofs.lemmas.Bool.{not-false, eqb-true, or_parts}
+use Rattle.bus_base.proofs.Tests.{wrong'}
 
 no_seat : {A : Type 0} (x : Seat) → (let o : Option Seat = None in o) ≡ Some x → A
 no_seat x e = absurd cc
@@ -47,14 +46,14 @@ no_process o e some = wrong' (sym (ap is_some e) ∙ some)
 
 -- ---- by the seat of the process
 
-context_same : (a : Array) (t n from : ℕ) → context_at a (record { initiator = from; target = t; unit = n }) (unit_state_at a.units t n) ≡ context_of (seat_of a t n) from
+pub context_same : (a : Array) (t n from : ℕ) → context_at a (record { initiator = from; target = t; unit = n }) (unit_state_at a.units t n) ≡ context_of (seat_of a t n) from
 context_same a t n from = go (unit_state_at a.units t n)
   where
     go : (x : Option UnitState) → context_at a (record { initiator = from; target = t; unit = n }) x ≡ record { present = is_some x; contents = Seats.contents_of x; stored = (seat_of a t n).senses from; attention = (seat_of a t n).attentions from }
     go None = refl
     go (Some u) = refl
 
-by_context : (a b : Array) (q : Process) → context_of (seat_of b q.target q.unit) q.initiator ≡ context_of (seat_of a q.target q.unit) q.initiator → reply_now b q ≡ reply_now a q
+pub by_context : (a b : Array) (q : Process) → context_of (seat_of b q.target q.unit) q.initiator ≡ context_of (seat_of a q.target q.unit) q.initiator → reply_now b q ≡ reply_now a q
 by_context a b q e =
     (λ i. (execution (context_same b q.target q.unit q.initiator i) q.cdb q.sent).reply)
     ∙ (λ i. (execution (e i) q.cdb q.sent).reply)
@@ -65,7 +64,7 @@ elsewhere_same s a b e q seats sound other st = by_context a b q (ap (λ (x : Se
 
 -- ---- what an event leaves of a seat, before the choice
 
-choice_keeps : (held : Bool) (u : UnitState) → (Seats.unit_with_choice held u).contents ≡ u.contents
+pub choice_keeps : (held : Bool) (u : UnitState) → (Seats.unit_with_choice held u).contents ≡ u.contents
 choice_keeps held u = go (has_no_current u.current && not held)
   where
     with : (p : Option Process) → (with_current u p).contents ≡ u.contents
@@ -76,7 +75,7 @@ choice_keeps held u = go (has_no_current u.current && not held)
     go true = with (choice u.pick u.waiting)
     go false = refl
 
-settled_context : (seat : Seat) (from : ℕ) → context_of (settled_seat seat) from ≡ context_of seat from
+pub settled_context : (seat : Seat) (from : ℕ) → context_of (settled_seat seat) from ≡ context_of seat from
 settled_context seat from = go seat.unit
   where
     go : (x : Option UnitState) → context_of (settled_seat (record seat { unit = x })) from ≡ context_of (record seat { unit = x }) from
@@ -84,13 +83,13 @@ settled_context seat from = go seat.unit
     go (Some u) = λ i. record { present = true; contents = choice_keeps (Seats.is_any_held seat.hold) u i; stored = seat.senses from; attention = seat.attentions from }
 
 -- After these of the seat its context is the same.
-abbrev SameAfter : Seat → ℕ → Option Seat → Type 0
+abbrev pub SameAfter : Seat → ℕ → Option Seat → Type 0
 SameAfter seat from o = (after : Seat) → settled_seat_if o ≡ Some after → context_of after from ≡ context_of seat from
 
-same_none : (seat : Seat) (from : ℕ) → SameAfter seat from None
+pub same_none : (seat : Seat) (from : ℕ) → SameAfter seat from None
 same_none seat from after e = no_seat after e
 
-same_some : (seat x : Seat) (from : ℕ) → context_of x from ≡ context_of seat from → SameAfter seat from (Some x)
+pub same_some : (seat x : Seat) (from : ℕ) → context_of x from ≡ context_of seat from → SameAfter seat from (Some x)
 same_some seat x from same after e = ap (λ (z : Seat). context_of z from) (sym (same_Some (settled_seat x) after e)) ∙ settled_context x from ∙ same
 
 accept_context : (seat : Seat) (p : Process) (from : ℕ) → SameAfter seat from (Seats.seat_after_accept p seat)
@@ -154,70 +153,69 @@ loss_context seat over id from = go over
 
 -- ---- an event of a process
 
-place_of : (p q : Process) → is_of_unit p q.target q.unit ≡ true → (p.target ≡ q.target) × (p.unit ≡ q.unit)
-place_of p q e = go (p.target == q.target) refl (p.unit == q.unit) refl e
-  where
-    is : (a b : ℕ) → (a == b) ≡ true → a ≡ b
-    is a b z = grind (arith, nat_tests)
+pub both_true : (x y : Bool) → (x && y) ≡ true → (x ≡ true) × (y ≡ true)
+both_true true y e = (refl, e)
+both_true false y e = wrong' e
 
-    go : (x : Bool) → (p.target == q.target) ≡ x → (y : Bool) → (p.unit == q.unit) ≡ y → (x && y) ≡ true → (p.target ≡ q.target) × (p.unit ≡ q.unit)
-    go true ex true ey z = (is p.target q.target ex, is p.unit q.unit ey)
-    go true ex false ey z = wrong' z
-    go false ex y ey z = wrong' z
+pub place_of : (p : Process) (t n : ℕ) → is_of_unit p t n ≡ true → (p.target ≡ t) × (p.unit ≡ n)
+place_of p t n e = let two = both_true (p.target == t) (p.unit == n) e in (eqb-true p.target t two.0, eqb-true p.unit n two.1)
+
+-- At this seat.
+abbrev pub SameContext : Array → Array → ℕ → ℕ → ℕ → Type 0
+SameContext a b t n from = context_of (seat_of b t n) from ≡ context_of (seat_of a t n) from
+
+pub elsewhere_context : (s : ScenarioValue) (a b : Array) (e : Event) (t n from : ℕ) → HasSeats s → IsSound s a → Seats.is_elsewhere s e t n ≡ true → step s e a ≡ Some b → SameContext a b t n from
+elsewhere_context s a b e t n from seats sound other st = ap (λ (x : Seat). context_of x from) (other_law s a b e t n seats sound other st)
 
 -- Of this unit, or of another.
-of_process : (s : ScenarioValue) (a b : Array) (e : Event) (id : ProcId) (q : Process) → HasSeats s → IsSound s a → step s e a ≡ Some b → Seats.is_elsewhere s e q.target q.unit ≡ Seats.is_of_other_unit (process_of s id) q.target q.unit → is_some (process_of s id) ≡ true
-    → ((p : Process) → process_of s id ≡ Some p → (from : ℕ) → context_of (seat_of b p.target p.unit) from ≡ context_of (seat_of a p.target p.unit) from) → reply_now b q ≡ reply_now a q
-of_process s a b e id q seats sound st place some here = go (process_of s id) refl
+pub of_process : (s : ScenarioValue) (a b : Array) (e : Event) (id : ProcId) (t n from : ℕ) → HasSeats s → IsSound s a → step s e a ≡ Some b → Seats.is_elsewhere s e t n ≡ Seats.is_of_other_unit (process_of s id) t n → is_some (process_of s id) ≡ true
+    → ((p : Process) → process_of s id ≡ Some p → SameContext a b p.target p.unit from) → SameContext a b t n from
+of_process s a b e id t n from seats sound st place some here = go (process_of s id) refl
   where
-    go : (o : Option Process) → process_of s id ≡ o → reply_now b q ≡ reply_now a q
+    go : (o : Option Process) → process_of s id ≡ o → SameContext a b t n from
     go None z = no_process (process_of s id) z some
-    go (Some p) z = by (is_of_unit p q.target q.unit) refl
+    go (Some p) z = by (is_of_unit p t n) refl
       where
-        by : (x : Bool) → is_of_unit p q.target q.unit ≡ x → reply_now b q ≡ reply_now a q
-        by false x = elsewhere_same s a b e q seats sound (place ∙ ap (λ (o : Option Process). Seats.is_of_other_unit o q.target q.unit) z ∙ ap not x) st
-        by true x = let w = place_of p q x in by_context a b q (subst (λ (t : ℕ). context_of (seat_of b t q.unit) q.initiator ≡ context_of (seat_of a t q.unit) q.initiator) w.0 (subst (λ (n : ℕ). context_of (seat_of b p.target n) q.initiator ≡ context_of (seat_of a p.target n) q.initiator) w.1 (here p z q.initiator)))
+        by : (x : Bool) → is_of_unit p t n ≡ x → SameContext a b t n from
+        by false x = elsewhere_context s a b e t n from seats sound (place ∙ ap (λ (o : Option Process). Seats.is_of_other_unit o t n) z ∙ ap not x) st
+        by true x = let w = place_of p t n x in subst (λ (y : ℕ). SameContext a b y n from) w.0 (subst (λ (y : ℕ). SameContext a b p.target y from) w.1 (here p z))
 
-seat_is : (s : ScenarioValue) (a b : Array) (e : Event) (t n from : ℕ) (o : Option Seat) → step s e a ≡ Some b → seat_if (step s e a) t n ≡ settled_seat_if o → SameAfter (seat_of a t n) from o → context_of (seat_of b t n) from ≡ context_of (seat_of a t n) from
+pub seat_is : (s : ScenarioValue) (a b : Array) (e : Event) (t n from : ℕ) (o : Option Seat) → step s e a ≡ Some b → seat_if (step s e a) t n ≡ settled_seat_if o → SameAfter (seat_of a t n) from o → context_of (seat_of b t n) from ≡ context_of (seat_of a t n) from
 seat_is s a b e t n from o st law same = same (seat_of b t n) (sym law ∙ ap (λ (x : Option Array). seat_if x t n) st)
 
-named : (s : ScenarioValue) (id : ProcId) (p : Process) → process_of s id ≡ Some p → process_of s p.id ≡ Some p
+pub named : (s : ScenarioValue) (id : ProcId) (p : Process) → process_of s id ≡ Some p → process_of s p.id ≡ Some p
 named s id p z = ap (process_of s) (process_id s id p z) ∙ z
 
-pub accept_same : (s : ScenarioValue) (a b : Array) (id : ProcId) (q : Process) → HasSeats s → IsSound s a → is_some (process_of s id) ≡ true → step s (events.Accept id) a ≡ Some b → reply_now b q ≡ reply_now a q
-accept_same s a b id q seats sound some st =
-    of_process s a b (events.Accept id) id q seats sound st refl some
-    (λ p z from. let same = process_id s id p z in seat_is s a b (events.Accept p.id) p.target p.unit from (Seats.seat_after_accept p (seat_of a p.target p.unit)) (ap (λ (x : ProcId). step s (events.Accept x) a) same ∙ st) (accept_law s a p seats sound (named s id p z)) (accept_context (seat_of a p.target p.unit) p from))
+pub accept_at : (s : ScenarioValue) (a b : Array) (id : ProcId) (t n from : ℕ) → HasSeats s → IsSound s a → is_some (process_of s id) ≡ true → step s (events.Accept id) a ≡ Some b → SameContext a b t n from
+accept_at s a b id t n from seats sound some st =
+    of_process s a b (events.Accept id) id t n from seats sound st refl some
+    (λ p z. let same = process_id s id p z in seat_is s a b (events.Accept p.id) p.target p.unit from (Seats.seat_after_accept p (seat_of a p.target p.unit)) (ap (λ (x : ProcId). step s (events.Accept x) a) same ∙ st) (accept_law s a p seats sound (named s id p z)) (accept_context (seat_of a p.target p.unit) p from))
 
-pub refuse_same : (s : ScenarioValue) (a b : Array) (id : ProcId) (q : Process) → HasSeats s → IsSound s a → is_some (process_of s id) ≡ true → step s (events.Refuse id) a ≡ Some b → reply_now b q ≡ reply_now a q
-refuse_same s a b id q seats sound some st =
-    of_process s a b (events.Refuse id) id q seats sound st refl some
-    (λ p z from. let same = process_id s id p z in seat_is s a b (events.Refuse p.id) p.target p.unit from (Seats.seat_after_refuse p (seat_of a p.target p.unit)) (ap (λ (x : ProcId). step s (events.Refuse x) a) same ∙ st) (refuse_law s a p seats sound (named s id p z)) (refuse_context (seat_of a p.target p.unit) p from))
+pub refuse_at : (s : ScenarioValue) (a b : Array) (id : ProcId) (t n from : ℕ) → HasSeats s → IsSound s a → is_some (process_of s id) ≡ true → step s (events.Refuse id) a ≡ Some b → SameContext a b t n from
+refuse_at s a b id t n from seats sound some st =
+    of_process s a b (events.Refuse id) id t n from seats sound st refl some
+    (λ p z. let same = process_id s id p z in seat_is s a b (events.Refuse p.id) p.target p.unit from (Seats.seat_after_refuse p (seat_of a p.target p.unit)) (ap (λ (x : ProcId). step s (events.Refuse x) a) same ∙ st) (refuse_law s a p seats sound (named s id p z)) (refuse_context (seat_of a p.target p.unit) p from))
 
-pub fail_same : (s : ScenarioValue) (a b : Array) (id : ProcId) (code : ℕ) (q : Process) → HasSeats s → IsSound s a → is_some (process_of s id) ≡ true → step s (events.Fail id code) a ≡ Some b → reply_now b q ≡ reply_now a q
-fail_same s a b id code q seats sound some st =
-    of_process s a b (events.Fail id code) id q seats sound st refl some
-    (λ p z from. let same = process_id s id p z in seat_is s a b (events.Fail p.id code) p.target p.unit from (Seats.seat_after_failure (has_ended a p.id) p (check_condition (sense_of ABORTED_COMMAND code 0x00)) (seat_of a p.target p.unit)) (ap (λ (x : ProcId). step s (events.Fail x code) a) same ∙ st) (fail_law s a p code seats sound (named s id p z)) (fail_context (seat_of a p.target p.unit) (has_ended a p.id) p (check_condition (sense_of ABORTED_COMMAND code 0x00)) from))
+pub fail_at : (s : ScenarioValue) (a b : Array) (id : ProcId) (code t n from : ℕ) → HasSeats s → IsSound s a → is_some (process_of s id) ≡ true → step s (events.Fail id code) a ≡ Some b → SameContext a b t n from
+fail_at s a b id code t n from seats sound some st =
+    of_process s a b (events.Fail id code) id t n from seats sound st refl some
+    (λ p z. let same = process_id s id p z in seat_is s a b (events.Fail p.id code) p.target p.unit from (Seats.seat_after_failure (has_ended a p.id) p (check_condition (sense_of ABORTED_COMMAND code 0x00)) (seat_of a p.target p.unit)) (ap (λ (x : ProcId). step s (events.Fail x code) a) same ∙ st) (fail_law s a p code seats sound (named s id p z)) (fail_context (seat_of a p.target p.unit) (has_ended a p.id) p (check_condition (sense_of ABORTED_COMMAND code 0x00)) from))
 
-pub loss_same : (s : ScenarioValue) (a b : Array) (id : ProcId) (q : Process) → HasSeats s → IsSound s a → is_some (process_of s id) ≡ true → step s (events.Lost id) a ≡ Some b → reply_now b q ≡ reply_now a q
-loss_same s a b id q seats sound some st =
-    of_process s a b (events.Lost id) id q seats sound st refl some
-    (λ p z from. let same = process_id s id p z in seat_is s a b (events.Lost p.id) p.target p.unit from (Seats.seat_after_loss (has_ended a p.id) p.id (seat_of a p.target p.unit)) (ap (λ (x : ProcId). step s (events.Lost x) a) same ∙ st) (loss_law s a p seats sound (named s id p z)) (loss_context (seat_of a p.target p.unit) (has_ended a p.id) p.id from))
+pub loss_at : (s : ScenarioValue) (a b : Array) (id : ProcId) (t n from : ℕ) → HasSeats s → IsSound s a → is_some (process_of s id) ≡ true → step s (events.Lost id) a ≡ Some b → SameContext a b t n from
+loss_at s a b id t n from seats sound some st =
+    of_process s a b (events.Lost id) id t n from seats sound st refl some
+    (λ p z. let same = process_id s id p z in seat_is s a b (events.Lost p.id) p.target p.unit from (Seats.seat_after_loss (has_ended a p.id) p.id (seat_of a p.target p.unit)) (ap (λ (x : ProcId). step s (events.Lost x) a) same ∙ st) (loss_law s a p seats sound (named s id p z)) (loss_context (seat_of a p.target p.unit) (has_ended a p.id) p.id from))
 
 -- ---- the events of a row
 
-not_none : (s : ScenarioValue) (id : ProcId) → is_none (process_of s id) ≡ false → is_some (process_of s id) ≡ true
+pub not_none : (s : ScenarioValue) (id : ProcId) → is_none (process_of s id) ≡ false → is_some (process_of s id) ≡ true
 not_none s id e = go (process_of s id) e
   where
     go : (o : Option Process) → is_none o ≡ false → is_some o ≡ true
     go None z = absurd (true≢false z)
     go (Some p) z = refl
 
-not_not : (q : Bool) → not q ≡ false → q ≡ true
-not_not true e = refl
-not_not false e = absurd (true≢false e)
-
-kept_context : (seat : Seat) (drops : Process → Bool) (from : ℕ) → context_of (Seats.seat_kept drops seat) from ≡ context_of seat from
+pub kept_context : (seat : Seat) (drops : Process → Bool) (from : ℕ) → context_of (Seats.seat_kept drops seat) from ≡ context_of seat from
 kept_context seat drops from = go seat.unit
   where
     go : (x : Option UnitState) → context_of (Seats.seat_kept drops (record seat { unit = x })) from ≡ context_of (record seat { unit = x }) from
@@ -229,13 +227,6 @@ other_context seat i from e =
     (λ z. record (context_of (Seats.seat_kept (λ p. p.initiator == i) seat) from) { stored = if e z then None else seat.senses from })
     ∙ kept_context seat (λ p. p.initiator == i) from
 
-equal_is : (a b : ℕ) → (a == b) ≡ true → a ≡ b
-equal_is a b z = grind (arith, nat_tests)
-
-both_true : (x y : Bool) → (x && y) ≡ true → (x ≡ true) × (y ≡ true)
-both_true true y e = (refl, e)
-both_true false y e = wrong' e
-
 -- At the unit of the process.
 abort_here : (s : ScenarioValue) (a b : Array) (i t n : ℕ) (what : AbortKind) (q : Process) → HasSeats s → IsSound s a → (t == q.target && n == q.unit) ≡ true → step s (events.Aborted i t n what) a ≡ Some b → ((seat : Seat) → context_of (Seats.seat_after_aborted s.hosts i what seat) q.initiator ≡ context_of seat q.initiator) → reply_now b q ≡ reply_now a q
 abort_here s a b i t n what q seats sound place st same =
@@ -244,8 +235,8 @@ abort_here s a b i t n what q seats sound place st same =
     seat_is s a b (events.Aborted i t n what) t n q.initiator (Some (Seats.seat_after_aborted s.hosts i what (seat_of a t n))) st (abort_law s a i t n what seats sound)
     (same_some (seat_of a t n) (Seats.seat_after_aborted s.hosts i what (seat_of a t n)) q.initiator (same (seat_of a t n))) in
     by_context a b q
-    (subst (λ (x : ℕ). context_of (seat_of b x q.unit) q.initiator ≡ context_of (seat_of a x q.unit) q.initiator) (equal_is t q.target two.0)
-    (subst (λ (x : ℕ). context_of (seat_of b t x) q.initiator ≡ context_of (seat_of a t x) q.initiator) (equal_is n q.unit two.1) here))
+    (subst (λ (x : ℕ). context_of (seat_of b x q.unit) q.initiator ≡ context_of (seat_of a x q.unit) q.initiator) (eqb-true t q.target two.0)
+    (subst (λ (x : ℕ). context_of (seat_of b t x) q.initiator ≡ context_of (seat_of a t x) q.initiator) (eqb-true n q.unit two.1) here))
 
 abort_same : (s : ScenarioValue) (a b : Array) (i t n : ℕ) (what : AbortKind) (q : Process) → HasSeats s → IsSound s a → abort_may_change q i t n what ≡ false → step s (events.Aborted i t n what) a ≡ Some b → reply_now b q ≡ reply_now a q
 abort_same s a b i t n aborts.WholeQueue q seats sound f st = elsewhere_same s a b (events.Aborted i t n aborts.WholeQueue) q seats sound (ap not f) st
@@ -263,32 +254,25 @@ abort_same s a b i t n aborts.All q seats sound f st = go (i == q.initiator) ref
     go false ex true ey z = abort_here s a b i t n aborts.All q seats sound ey st (λ seat. other_context seat i q.initiator ex)
 
 event_same : (s : ScenarioValue) (a b : Array) (e : Event) (q : Process) → HasSeats s → IsSound s a → may_change s q e ≡ false → step s e a ≡ Some b → reply_now b q ≡ reply_now a q
-event_same s a b (events.Accept id) q seats sound f st = accept_same s a b id q seats sound (not_none s id f) st
-event_same s a b (events.Refuse id) q seats sound f st = refuse_same s a b id q seats sound (not_none s id f) st
-event_same s a b (events.Fail id code) q seats sound f st = fail_same s a b id code q seats sound (not_none s id f) st
-event_same s a b (events.Lost id) q seats sound f st = loss_same s a b id q seats sound (not_none s id f) st
-event_same s a b (events.Run id) q seats sound f st = elsewhere_same s a b (events.Run id) q seats sound (not_not (Seats.is_elsewhere s (events.Run id) q.target q.unit) f) st
-event_same s a b (events.End id status) q seats sound f st = elsewhere_same s a b (events.End id status) q seats sound (not_not (Seats.is_elsewhere s (events.End id status) q.target q.unit) f) st
+event_same s a b (events.Accept id) q seats sound f st = by_context a b q (accept_at s a b id q.target q.unit q.initiator seats sound (not_none s id f) st)
+event_same s a b (events.Refuse id) q seats sound f st = by_context a b q (refuse_at s a b id q.target q.unit q.initiator seats sound (not_none s id f) st)
+event_same s a b (events.Fail id code) q seats sound f st = by_context a b q (fail_at s a b id code q.target q.unit q.initiator seats sound (not_none s id f) st)
+event_same s a b (events.Lost id) q seats sound f st = by_context a b q (loss_at s a b id q.target q.unit q.initiator seats sound (not_none s id f) st)
+event_same s a b (events.Run id) q seats sound f st = elsewhere_same s a b (events.Run id) q seats sound (not-false (Seats.is_elsewhere s (events.Run id) q.target q.unit) f) st
+event_same s a b (events.End id status) q seats sound f st = elsewhere_same s a b (events.End id status) q seats sound (not-false (Seats.is_elsewhere s (events.End id status) q.target q.unit) f) st
 event_same s a b (events.Aborted i t n what) q seats sound f st = abort_same s a b i t n what q seats sound f st
 event_same s a b (events.Reset dev) q seats sound f st = absurd (true≢false f)
 
-both_false : (x y : Bool) → (x || y) ≡ false → (x ≡ false) × (y ≡ false)
-both_false true y e = absurd (true≢false e)
-both_false false y e = (refl, e)
+pub record SameReply (s : ScenarioValue) (a b : Array) (q : Process) : Type 0 where
+  pub sound : IsSound s b
+  pub same : reply_now b q ≡ reply_now a q
 
-no_array : {A : Type 0} (a : Array) → (let o : Option Array = None in o) ≡ Some a → A
-no_array a e = absurd cc
-
-record SameReply (s : ScenarioValue) (a b : Array) (q : Process) : Type 0 where
-  sound : IsSound s b
-  same : reply_now b q ≡ reply_now a q
-
-events_same : (s : ScenarioValue) (a b : Array) (shown : List Event) (q : Process) → HasSeats s → IsSound s a → any_may_change s q shown ≡ false → array_after_events s (Some a) shown ≡ Some b → SameReply s a b q
+pub events_same : (s : ScenarioValue) (a b : Array) (shown : List Event) (q : Process) → HasSeats s → IsSound s a → any_may_change s q shown ≡ false → array_after_events s (Some a) shown ≡ Some b → SameReply s a b q
 events_same s a b [] q seats sound f st = record { sound = subst (IsSound s) (same_Some a b st) sound; same = ap (λ (x : Array). reply_now x q) (sym (same_Some a b st)) }
 events_same s a b (e ∷ shown) q seats sound f st = go (array_after_events s (Some a) shown) refl st (λ c z. events_same s a c shown q seats sound parts.1 z)
   where
     parts : (may_change s q e ≡ false) × (any_may_change s q shown ≡ false)
-    parts = both_false (may_change s q e) (any_may_change s q shown) f
+    parts = or_parts (may_change s q e) (any_may_change s q shown) f
 
     go : (o : Option Array) → array_after_events s (Some a) shown ≡ o → array_step s e o ≡ Some b → ((c : Array) → array_after_events s (Some a) shown ≡ Some c → SameReply s a c q) → SameReply s a b q
     go None z w rest = no_array b w

@@ -1,5 +1,5 @@
 -- As a write runs that ends GOOD, all that it sends has come, and its unit keeps the size of its blocks.
-use Rattle.std.proofs.Common.{ℕ, ◌≡◌, ◌<◌, ◌≤◌, ◌^◌, true, false, ◌==◌, ◌∙◌, List, ◌∷◌, length, Option, Some, None, refl, sym, ap, arith}
+use Rattle.std.proofs.Common.{ℕ, ◌≡◌, ◌≤◌, true, false, ◌==◌, ◌∙◌, List, ◌∷◌, length, Option, Some, None, refl, sym, ap, arith}
 use Rattle.std.proofs.lemmas.Option.{same_Some}
 use Rattle.bus_base.specs.declared.Event.{Event}
 use Rattle.bus_base.specs.declared.Event.TheVariants as events
@@ -33,7 +33,6 @@ use Rattle.bus_laws.proofs.Apart.{change_plain}
 use Rattle.bus_laws.proofs.Prompt.{least_is}
 use Rattle.trace_laws.specs.RunsWhole.{IsWhole, ends_badly, has_run, sends_all, sends_none}
 use Rattle.trace_laws.specs.WholeRuns.{bytes_come}
-use Rattle.trace_laws.proofs.Impossible.{wrong}
 use Rattle.trace_laws.proofs.Whole.{Whole, row_attendance, whole}
 use Rattle.trace_laws.proofs.WritePremises.{write_premises}
 use Rattle.right_laws.specs.Asked.{SendsAtRun}
@@ -42,13 +41,14 @@ use Rattle.right_laws.proofs.GivenReplies.{run_gives}
 use Rattle.right_laws.proofs.RowCrossings.{GoesSo, here_goes, known_served}
 use Rattle.right_laws.proofs.SentBytes.{answer_of}
 use Rattle.right_laws.proofs.ShownRows.{IsAnswer, RunsAs, runs_alone, runs_arrived, row_runs}
+use Rattle.bus_base.proofs.Tests.{wrong}
 
 -- ---- the reply of a process that runs is the one that it would have before the row
 
 no_array : {A : Type 0} (b : Array) → (let o : Option Array = None in o) ≡ Some b → A
 no_array b e = absurd cc
 
-runs_so : (s : ScenarioValue) (a b : Array) (q : Process) (shown : List Event) → Obeys s → Rattle.disk_array.specs.SoundArray.IsSound s a → process_of s q.id ≡ Some q → RunsAs q.id shown → array_after_events s (Some a) shown ≡ Some b → reply_in b.replies q.id ≡ Some (reply_now a q)
+pub runs_so : (s : ScenarioValue) (a b : Array) (q : Process) (shown : List Event) → Obeys s → Rattle.disk_array.specs.SoundArray.IsSound s a → process_of s q.id ≡ Some q → RunsAs q.id shown → array_after_events s (Some a) shown ≡ Some b → reply_in b.replies q.id ≡ Some (reply_now a q)
 runs_so s a b q shown o sound own (runs_alone e) after = run_gives s a b q sound own (sym (ap (array_after_events s (Some a)) e) ∙ after)
 runs_so s a b q shown o sound own (runs_arrived e) after = go (step s (events.Accept q.id) a) refl (sym (ap (array_after_events s (Some a)) e) ∙ after)
   where
@@ -66,17 +66,17 @@ runs_so s a b q shown o sound own (runs_arrived e) after = go (step s (events.Ac
 none_sent : (a b : ℕ) → a ≡ 0 → a ≤ b
 none_sent a b e = omega (arith, e)
 
-pub sends_at_run : (s : ScenarioValue) (p : List Row) (row : Row) → Obeys s → IsPrompt s (row ∷ p) → length (row ∷ p) < 2 ^ 64 → SendsAtRun s (run_state s p) row
-sends_at_run s p row o prompt short q reply is w good = by (here_goes s k row answer.link q.id (λ e. (was.facts.items.items.apart e).0) next.rows_are.1 answer.here)
+pub sends_at_run : (s : ScenarioValue) (p : List Row) (row : Row) → Obeys s → IsPrompt s (row ∷ p) → SendsAtRun s (run_state s p) row
+sends_at_run s p row o prompt q reply is w good = by (here_goes s k row answer.link q.id (λ e. (was.facts.items.items.apart e).0) next.rows_are.1 answer.here)
   where
     k : RunState
     k = run_state s p
 
     was : Whole s p
-    was = whole s p o prompt.0 (omega (arith, short))
+    was = whole s p o prompt.0
 
     next : Whole s (row ∷ p)
-    next = whole s (row ∷ p) o prompt short
+    next = whole s (row ∷ p) o prompt
 
     shown : List Event
     shown = row_events_by s k.story (row_reading k.story.bus_state row) row
@@ -125,7 +125,7 @@ sends_at_run s p row o prompt short q reply is w good = by (here_goes s k row an
         served_is = ap (process_item s) served ∙ is.process_is
 
         att : Rattle.trace_laws.specs.RowAttendance.IsAttended s p row
-        att = row_attendance s p row o prompt short
+        att = row_attendance s p row o prompt
 
         came : IsWhole s k (writers s p) q → length q.sent ≤ bytes_come s k q
         came (ends_badly e) =

@@ -45,7 +45,8 @@ use Rattle.bus_books.specs.Traces.{GoesOn}
 use Rattle.bus_books.proofs.CarriedBlocks.{own_of}
 use Rattle.bus_books.proofs.CarriedRows.{process_id}
 use Rattle.trace_laws.specs.DataFacts.{DataFacts}
-use Rattle.trace_laws.specs.DataPointers.{policy_for, step_in, run_start, is_marked, PointersIn, calm, restores, saves, saved, disconnects, closes, PointersRefused, still_calm, restores_again, saves_again, disconnects_again, closes_again, PointersAsked, PointersOf, PointersIf, ServedPointers, unnamed, named}
+use Rattle.bus_books.specs.Accounts.{policy_for}
+use Rattle.trace_laws.specs.DataPointers.{run_policy, step_in, run_start, is_marked, PointersIn, calm, restores, saves, saved, disconnects, closes, PointersRefused, still_calm, restores_again, saves_again, disconnects_again, closes_again, PointersAsked, PointersOf, PointersIf, ServedPointers, unnamed, named}
 use Rattle.trace_laws.specs.RunFacts.{IsServedWell}
 use Rattle.trace_laws.specs.WholeRuns.{start_of_run, bytes_come}
 use Rattle.trace_laws.proofs.RunFits.{fits_runs}
@@ -54,25 +55,13 @@ use Rattle.right_laws.specs.Asked.{IsRunning, SendsAtRun, GivesAtRun}
 use Rattle.right_laws.specs.Open.{OnEvents}
 use Rattle.right_laws.specs.Runs.{MovesAtRun}
 use Rattle.right_laws.proofs.RanFacts.{Known, apart_of}
-use Rattle.right_laws.proofs.RowCrossings.{GoesSo, here_goes, known_served}
+use Rattle.right_laws.proofs.RowCrossings.{GoesSo, here_goes, known_served, no_item}
 use Rattle.right_laws.proofs.ShownRows.{IsAnswer, ShownAs, row_shown, RunsAs, runs_alone, runs_arrived, row_runs}
-
-wrong : {A : Type 0} → true ≡ false → A
-wrong e = absurd (true≢false e)
-
-wrong' : {A : Type 0} → false ≡ true → A
-wrong' e = absurd (true≢false (sym e))
-
-no_item : {A : Type 0} (i : Item) → (let o : Option Item = None in o) ≡ Some i → A
-no_item i e = absurd cc
-
-number_is : (a b : ℕ) → (a == b) ≡ true → a ≡ b
-number_is a b e = grind (arith, nat_tests)
+use Rattle.std.proofs.lemmas.Bool.{eqb-true}
+use Rattle.bus_base.proofs.Tests.{wrong, wrong', times_none}
+use Rattle.right_laws.proofs.BlockFacts.{front_all}
 
 -- ---- where a run begins
-
-times_none : (n : ℕ) → 0 ≡ n * 0
-times_none n = omega arith
 
 start_is : (policy : Policy) (blocks : Option ℕ) (size moved n : ℕ) → (run_in policy blocks size moved n).start ≡ n * step_in policy blocks size
 start_is policy None size moved n = times_none n
@@ -83,7 +72,7 @@ start_is (policies.NoSave most) (Some b) size moved n = times_none n
 
 run_starts : (s : ScenarioValue) (k : RunState) (q : Process) → Obeys s → k.array ≡ array_after s k.story.history → process_of s q.id ≡ Some q → is_writing q ≡ true → is_of_size s k q ≡ true → start_of_run s q (progress_in k.progress q.id).runs ≡ run_start s k q
 run_starts s k q o e own w sized =
-    let size = number_is (size_of (unit_state_at (array_of s k).units q.target q.unit)) (block_size (unit_of s q.target q.unit)) sized in
+    let size = eqb-true (size_of (unit_state_at (array_of s k).units q.target q.unit)) (block_size (unit_of s q.target q.unit)) sized in
     start_is (policy_for s q) (blocks_in (range_in (command_of q.cdb))) (block_size (unit_of s q.target q.unit)) 0 (progress_in k.progress q.id).runs
     ∙ ap (λ (x : ℕ). (progress_in k.progress q.id).runs * step_in (policy_for s q) (blocks_in (range_in (command_of q.cdb))) x) (sym size)
     ∙ ap (λ (x : ℕ). (progress_in k.progress q.id).runs * x) (fits_runs s k q o e own w).step
@@ -110,7 +99,7 @@ reaches_asked policy l c p start content f m causes.InMessage h = go h
     go (saves_again em en u b e w) = stands c.moved.active start (length c.moved.bytes) e f.active_in
     go (disconnects_again em en e w) = stands c.moved.saved start (length c.moved.bytes) e f.saved_in
     go (closes_again em en e w) = marked c m e
-reaches_asked policy l c p start content f m causes.InData h = absurd h
+reaches_asked policy l c p start content f m causes.InData h = stands c.moved.saved start (length c.moved.bytes) h.1 f.saved_in
 reaches_asked policy l c p start content f m causes.InStatus h = marked c m h
 
 reaches_of : (policy : Policy) (l : Link) (c : CarriedBytes) (p : Plan) (h : Handshakes) (start : ℕ) (content : List ℕ) → IsFilled c.moved content → is_marked c ≡ false → (phase : Phase) → PointersOf policy l c p h start phase → Reaches c h.answers start phase
@@ -119,7 +108,7 @@ reaches_of policy l c p h start content f m phases.DataOut k = go (start + h.ans
   where
     go : (x : ℕ) → c.moved.active ≡ x → x ≤ length c.moved.bytes
     go x e = subst (λ (y : ℕ). y ≤ length c.moved.bytes) e f.active_in
-reaches_of policy l c p h start content f m phases.DataIn k = absurd k
+reaches_of policy l c p h start content f m phases.DataIn k = stands c.moved.saved start (length c.moved.bytes) k.saved f.saved_in
 reaches_of policy l c p h start content f m phases.Status k = marked c m k
 reaches_of policy l c p h start content f m phases.MessageIn k = go k
   where
@@ -141,18 +130,6 @@ no_answer s k row n c id g e w =
     ∙ out_no_status (row_reading k.story.bus_state row).change.after (g.first w.turns e))
 
 -- ---- all of it
-
-front_all : (bytes rest all : List ℕ) → bytes ++ rest ≡ all → length all ≤ length bytes → bytes ≡ all
-front_all bytes rest all e h =
-    let total : length all ≡ length (bytes ++ rest) = ap (λ (x : List ℕ). length x) (sym e) in
-    let two = length-append bytes rest in
-    let none : length rest ≡ 0 = omega arith in
-    sym (append_none bytes rest none) ∙ e
-  where
-    append_none : (xs ys : List ℕ) → length ys ≡ 0 → xs ++ ys ≡ xs
-    append_none [] [] z = refl
-    append_none [] (y ∷ ys) z = absurd cc
-    append_none (x ∷ xs) ys z = ap (λ (l : List ℕ). x ∷ l) (append_none xs ys z)
 
 -- It runs, so its initiator knows it, and it has no answer yet.
 pub answer_of : (s : ScenarioValue) (k : RunState) (row : Row) (id : ProcId) → has_run (row_events_by s k.story (row_reading k.story.bus_state row) row) id ≡ true → IsAnswer k (row_reading k.story.bus_state row) id
@@ -199,8 +176,8 @@ sent_bytes s p row q reply o h facts is w came = by (here_goes s k row answer.li
         reached (unnamed l el none x) = no_item (process q.id) (sym none ∙ ap (λ (y : Link). y.item) (same_Some l answer.link (sym el ∙ answer.here.link_is)) ∙ answer.here.item_is)
         reached (named l el item x) = at k.exchange.begun refl x
           where
-            at : (y : Bool) → k.exchange.begun ≡ y → PointersIf y (policy_for s q) l c k.exchange.plan k.handshakes (run_start s k q) (phase_of (bus_of k)) → Reaches c k.handshakes.answers (run_start s k q) (phase_of (bus_of k))
-            at true e z = reaches_of (policy_for s q) l c k.exchange.plan k.handshakes (run_start s k q) q.sent filled answer.unanswered (phase_of (bus_of k)) z
+            at : (y : Bool) → k.exchange.begun ≡ y → PointersIf y (run_policy s q) l c k.exchange.plan k.handshakes (run_start s k q) (phase_of (bus_of k)) → Reaches c k.handshakes.answers (run_start s k q) (phase_of (bus_of k))
+            at true e z = reaches_of (run_policy s q) l c k.exchange.plan k.handshakes (run_start s k q) q.sent filled answer.unanswered (phase_of (bus_of k)) z
             at false e z = absurd (no_answer s k row v.connection v.change q.id g e answer)
 
         all : Reaches c k.handshakes.answers (run_start s k q) (phase_of (bus_of k)) → length q.sent ≤ length c.moved.bytes

@@ -20,14 +20,9 @@ use Rattle.bus_story.specs.Links.{Link, LastMessage, plain, complete, disconnect
 use Rattle.bus_story.specs.Right.{is_run_of, has_run}
 use Rattle.bus_due.specs.RunState.{RunState, carried_here}
 use Rattle.bus_books.proofs.Lookups.{carried_id, id_is}
-use Rattle.trace_laws.specs.Tells.{has_answer}
 use Rattle.right_laws.specs.Open.{OnEvents}
-
-wrong : {A : Type 0} → true ≡ false → A
-wrong e = absurd (true≢false e)
-
-wrong' : {A : Type 0} → false ≡ true → A
-wrong' e = absurd (true≢false (sym e))
+use Rattle.bus_base.proofs.Tests.{wrong, wrong'}
+use Rattle.trace_laws.specs.DataPointers.{is_marked}
 
 -- ---- what is known
 
@@ -52,7 +47,7 @@ pub record IsAnswer (k : RunState) (d : RowReading) (id : ProcId) : Type 0 where
   pub here : IsHere k d link id
   pub turns : changes_phase d.change ≡ true
   pub status : is_status_phase d.change.after ≡ true
-  pub unanswered : has_answer (carried_here k id) ≡ false
+  pub unanswered : is_marked (carried_here k id) ≡ false
 
 -- COMMAND COMPLETE is taken.
 pub record IsEnding (s : ScenarioValue) (k : RunState) (d : RowReading) (row : Row) (id : ProcId) (status : ℕ) : Type 0 where
@@ -69,7 +64,9 @@ ShownAs s k d row (events.Refuse id) = IsArrival k d id
 ShownAs s k d row (events.Run id) = IsAnswer k d id
 ShownAs s k d row (events.Fail id code) = IsAnswer k d id
 ShownAs s k d row (events.End id status) = IsEnding s k d row id status
-ShownAs s k d row _ = ⊤
+ShownAs s k d row (events.Lost id) = is_some d.next ≡ false
+ShownAs s k d row (events.Aborted i t n what) = is_some d.next ≡ false
+ShownAs s k d row (events.Reset dev) = d.change.after.rst ≡ true
 
 -- The process runs with the row, and may have arrived with it.
 pub data RunsAs (id : ProcId) (shown : List Event) : Type 0 where
@@ -140,29 +137,29 @@ row_shown s k row = go d.change.after.rst refl
     All : List Event → Type 0
     All shown = OnEvents (ShownAs s k d row) shown
 
-    reset : (q : Bool) → All (if q then events.Reset row.dev ∷ [] else [])
-    reset true = (tt, tt)
-    reset false = tt
+    reset : d.change.after.rst ≡ true → (q : Bool) → All (if q then events.Reset row.dev ∷ [] else [])
+    reset on true = (on, tt)
+    reset on false = tt
 
-    lost : (item : Option Item) → All (item_loss_events item)
-    lost None = tt
-    lost (Some (process id)) = (tt, tt)
-    lost (Some (abort n)) = tt
+    lost : is_some d.next ≡ false → (item : Option Item) → All (item_loss_events item)
+    lost free None = tt
+    lost free (Some (process id)) = (free, tt)
+    lost free (Some (abort n)) = tt
 
-    line : (o : Option AbortDef) → All (abort_line_events o)
-    line None = tt
-    line (Some a) = (tt, tt)
+    line : is_some d.next ≡ false → (o : Option AbortDef) → All (abort_line_events o)
+    line free None = tt
+    line free (Some a) = (free, tt)
 
-    aborted : (item : Option Item) → All (item_abort_events s item)
-    aborted None = tt
-    aborted (Some (process id)) = tt
-    aborted (Some (abort n)) = line (abort_line_at s.aborts n)
+    aborted : is_some d.next ≡ false → (item : Option Item) → All (item_abort_events s item)
+    aborted free None = tt
+    aborted free (Some (process id)) = tt
+    aborted free (Some (abort n)) = line free (abort_line_at s.aborts n)
 
-    freed : (l : Link) (last : LastMessage) → All (bus_free_events s l last)
-    freed l plain = lost l.item
-    freed l complete = tt
-    freed l disconnect = tt
-    freed l abortive = aborted l.item
+    freed : is_some d.next ≡ false → (l : Link) (last : LastMessage) → All (bus_free_events s l last)
+    freed free l plain = lost free l.item
+    freed free l complete = tt
+    freed free l disconnect = tt
+    freed free l abortive = aborted free l.item
 
     in_connection : (l : Link) → k.story.link ≡ Some l → d.change.after.rst ≡ false → is_some d.next ≡ true → All (connection_events s k.story l d)
     in_connection l link calm stands = by (changes_phase d.change) refl l.item refl
@@ -206,10 +203,10 @@ row_shown s k row = go d.change.after.rst refl
       where
         by : (q : Bool) → is_some d.next ≡ q → All (if q then connection_events s k.story l d else bus_free_events s l l.last)
         by true f = in_connection l e calm f
-        by false f = freed l l.last
+        by false f = freed f l l.last
 
     go : (q : Bool) → d.change.after.rst ≡ q → All (if q then (if rises d.change.own.rst d.change.next.rst then events.Reset row.dev ∷ [] else []) else link_events s k.story k.story.link d)
-    go true e = reset (rises d.change.own.rst d.change.next.rst)
+    go true e = reset e (rises d.change.own.rst d.change.next.rst)
     go false e = linked k.story.link refl e
 
 -- ---- where a process runs with it

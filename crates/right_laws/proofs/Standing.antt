@@ -31,9 +31,10 @@ use Rattle.bus_story.specs.Story.{Story, by_abort, by_reset, is_aborted, is_sens
 use Rattle.bus_story.specs.TraceHistory.{aim_of, is_arbitration_entry, story_with_aim, story_without_answer, story_with_try, story_after_calling_by, story_after_calling, story_on_free_bus, story_with_restored, story_with_sent, story_after_connection, story_with_carried, is_parity_error, story_after_out, carried_after_message_if, story_after_message, story_after_in, carried_after_byte_if, story_after_byte, carried_after_fault_if, story_after_fault, story_in_connection, story_on_bus, story_by_change}
 use Rattle.bus_due.specs.RunState.{RunState}
 use Rattle.bus_due.specs.RunSteps.{run_state, run_state_after}
-use Rattle.bus_books.proofs.CarriedRows.{ends_keep, check_keeps}
+use Rattle.bus_books.proofs.CarriedRows.{free_keeps, or_link}
 use Rattle.bus_books.proofs.Lookups.{put_there}
 use Rattle.right_laws.specs.Standing.{StandsIn, AllStandIn}
+use Rattle.bus_story.proofs.StorySteps.{ends_keep, check_keeps}
 
 -- ---- of an area
 
@@ -125,19 +126,14 @@ own_by s a b ec el h = record {
   undone = subst (λ (x : Option Link). UndoOwn s x) (sym el) h.undone;
 }
 
+link_own : (s : ScenarioValue) (l : Link) → ((c : CarriedBytes) → l.undo ≡ Some c → IsOwn c) → UndoOwn s (Some l)
+link_own s l h m c e f = h c (ap (λ (x : Link). x.undo) (ap (or_link l) e) ∙ f)
+
 no_link : (s : ScenarioValue) → UndoOwn s None
 no_link s l c e f = absurd (none_link l e)
   where
     none_link : (x : Link) → (let a : Option Link = None in a) ≡ Some x → ⊥
     none_link x z = cc
-
--- A link whose undo is this.
-abbrev or_link : Link → Option Link → Link
-or_link x None = x
-or_link x (Some l) = l
-
-link_own : (s : ScenarioValue) (l : Link) → ((c : CarriedBytes) → l.undo ≡ Some c → IsOwn c) → UndoOwn s (Some l)
-link_own s l h m c e f = h c (ap (λ (x : Link). x.undo) (ap (or_link l) e) ∙ f)
 
 -- ---- events
 
@@ -158,37 +154,6 @@ events_own : (s : ScenarioValue) (b : Story) (shown : List Event) → Own s b �
 events_own s b [] h = h
 events_own s b (event ∷ shown) h = event_own s (story_after_events s b shown) event (events_own s b shown h)
 
--- ---- outside a connection
-
-free_keeps : (s : ScenarioValue) (b : Story) (d : RowReading) (row : Row) → ((story_on_free_bus s b d row).carried ≡ b.carried) × ((story_on_free_bus s b d row).link ≡ b.link)
-free_keeps s b d row = go (is_arbitration_entry b d) (falls d.change.before.sel d.change.after.sel)
-  where
-    tried : (dev : ℕ) (item : Option Item) → ((story_with_try s b dev item).carried ≡ b.carried) × ((story_with_try s b dev item).link ≡ b.link)
-    tried dev None = (refl, refl)
-    tried dev (Some item) = by _ item
-      where
-        by : (q : Bool) (i : Item) → ((if q then story_without_answer (record b { sent = record b.sent { tries = item ∷ b.sent.tries } }) i else record b { sent = record b.sent { tries = item ∷ b.sent.tries } }).carried ≡ b.carried) × ((if q then story_without_answer (record b { sent = record b.sent { tries = item ∷ b.sent.tries } }) i else record b { sent = record b.sent { tries = item ∷ b.sent.tries } }).link ≡ b.link)
-        by true (process id) = (refl, refl)
-        by true (abort k) = (refl, refl)
-        by false i = (refl, refl)
-
-    called : (call : Option Call) → ((story_after_calling s b call).carried ≡ b.carried) × ((story_after_calling s b call).link ≡ b.link)
-    called None = (refl, refl)
-    called (Some k) = by k.calling
-      where
-        by : (g : Option Calling) → ((story_after_calling_by s b k.caller g).carried ≡ b.carried) × ((story_after_calling_by s b k.caller g).link ≡ b.link)
-        by None = (refl, refl)
-        by (Some g) = one (is_none g.answered && not g.reselects)
-          where
-            one : (q : Bool) → ((if q then story_with_try s b k.caller (aim_of b.aims k.caller) else b).carried ≡ b.carried) × ((if q then story_with_try s b k.caller (aim_of b.aims k.caller) else b).link ≡ b.link)
-            one true = tried k.caller (aim_of b.aims k.caller)
-            one false = (refl, refl)
-
-    go : (q r : Bool) → ((if q then story_with_aim s b row else if r then story_after_calling s b b.bus_state.call else b).carried ≡ b.carried) × ((if q then story_with_aim s b row else if r then story_after_calling s b b.bus_state.call else b).link ≡ b.link)
-    go true r = (refl, refl)
-    go false true = called b.bus_state.call
-    go false false = (refl, refl)
-
 -- ---- a connection begins
 
 own_restored : (s : ScenarioValue) (b : Story) (item : Option Item) → Own s b → Own s (story_with_restored b item)
@@ -196,12 +161,12 @@ own_restored s b None h = h
 own_restored s b (Some (process id)) h = record { each = with_own b.carried (with_restored_pointers (carried_of b.carried id)) h.each (restored_own (carried_of b.carried id) (h.each id)); undone = h.undone }
 own_restored s b (Some (abort k)) h = h
 
+some_none : (s : ScenarioValue) (c : CarriedBytes) → (let a : Option CarriedBytes = None in a) ≡ Some c → IsOwn c
+some_none s c e = cc
+
 sent_own : (s : ScenarioValue) (b : Story) (item : Option Item) → Own s b → Own s (story_with_sent b item)
 sent_own s b None h = h
 sent_own s b (Some item) h = record { each = h.each; undone = h.undone }
-
-some_none : (s : ScenarioValue) (c : CarriedBytes) → (let a : Option CarriedBytes = None in a) ≡ Some c → IsOwn c
-some_none s c e = cc
 
 linked_own : (s : ScenarioValue) (b : Story) (n : Connection) (item : Option Item) → Own s b → Own s (record b { link = Some (link_of n item) })
 linked_own s b n item h = record { each = h.each; undone = link_own s (link_of n item) (λ c e. some_none s c e) }

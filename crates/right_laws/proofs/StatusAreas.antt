@@ -35,6 +35,7 @@ use Rattle.trace_laws.proofs.PointerStories.{story_row}
 use Rattle.trace_laws.proofs.ShownReplies.{checked, all_ended}
 use Rattle.right_laws.specs.StatusBytes.{HasOne, IsReady, IsSmall}
 use Rattle.right_laws.proofs.Lasting.{puts}
+use Rattle.bus_base.proofs.Tests.{nothing_below}
 
 -- ---- events
 
@@ -91,14 +92,11 @@ byte_area : (c : CarriedBytes) (b : LineSet) (byte : ℕ) → is_command b ≡ f
 byte_area c b byte e f g =
     λ i. (if e i then record c { command = area_with c.command byte; block = c.block ++ byte ∷ [] } else if f i then record c { moved = area_with c.moved byte } else if g i then record c { status = area_with c.status byte } else c).status
 
-none_out : (k : RunState) (c : Change) → c.before.msg ≡ false → message_out k.story.bus_state.dialogue c true ≡ None
+pub none_out : (k : RunState) (c : Change) → c.before.msg ≡ false → message_out k.story.bus_state.dialogue c true ≡ None
 none_out k c e = λ i. if e i && c.before.cd && not c.before.io then whole_out (got_out (fresh_bytes k.story.bus_state.dialogue ++ c.after.data_bits % 256 ∷ [])) else None
 
-none_in : (k : RunState) (c : Change) → c.before.msg ≡ false → message_in k.story.bus_state.dialogue c true ≡ None
+pub none_in : (k : RunState) (c : Change) → c.before.msg ≡ false → message_in k.story.bus_state.dialogue c true ≡ None
 none_in k c e = λ i. if e i && c.before.cd && c.before.io then whole_in (got_in (k.story.bus_state.dialogue.half ++ c.after.data_bits % 256 ∷ [])) else None
-
-nothing_below : (x : ℕ) → nat_lt x 0 ≡ false
-nothing_below x = grind (arith, nat_tests)
 
 ready_one : (c : CarriedBytes) (byte : ℕ) → IsReady c → (status : ℕ) × ((area_with c.status byte).bytes ≡ status ∷ [])
 ready_one c byte (inl e) = (byte, (λ i. if nat_lt c.status.active (length (e i)) then slice_set (e i) c.status.active byte else e i ++ byte ∷ []) ∙ ap (λ (q : Bool). if q then slice_set [] c.status.active byte else byte ∷ []) (nothing_below c.status.active))

@@ -65,15 +65,8 @@ use Rattle.right_laws.proofs.RowCrossings.{GoesSo, crossing_goes, here_goes, kno
 use Rattle.right_laws.proofs.StatusSame.{message_line, freeing}
 use Rattle.right_laws.proofs.StatusStays.{Given, Going, talk_still, talk_crosses}
 use Rattle.right_laws.proofs.StatusTurns.{talk_turns}
-
-wrong : {A : Type 0} → true ≡ false → A
-wrong e = absurd (true≢false e)
-
-wrong' : {A : Type 0} → false ≡ true → A
-wrong' e = absurd (true≢false (sym e))
-
-no_connection : {A : Type 0} (n : Connection) → (let o : Option Connection = None in o) ≡ Some n → A
-no_connection n e = absurd cc
+use Rattle.bus_base.proofs.Tests.{wrong, wrong'}
+use Rattle.right_laws.proofs.DataOffers.{none_some}
 
 -- ---- what has no reply
 
@@ -157,7 +150,7 @@ empty_next s p row h f id none = stays ∙ f id before
 -- ---- before any row, and the first row of a connection
 
 pub status_start : (s : ScenarioValue) → StatusFacts s []
-status_start s = record { empty = λ id e. refl; talks = λ n e off. no_connection n e }
+status_start s = record { empty = λ id e. refl; talks = λ n e off. none_some n e }
 
 first_talks : (s : ScenarioValue) (p : List Row) (row : Row) (n : Connection) (h : Given s p row) → AreOfDevices p → row.dev < 8 → connection p ≡ None → connection (row ∷ p) ≡ Some n → (bus (row ∷ p)).rst ≡ false → StatusTalks (run_state s (row ∷ p))
 first_talks s p row n h dv lt alone after calm id served begun = go n.reselected refl

@@ -29,15 +29,8 @@ use Rattle.trace_laws.proofs.Crossings.{offering_is}
 use Rattle.trace_laws.proofs.Kept.{initiator_end, target_end}
 use Rattle.trace_laws.proofs.LinkRows as rows
 use Rattle.trace_laws.proofs.Turns.{freed_connection}
-
-wrong : {A : Type 0} → true ≡ false → A
-wrong e = absurd (true≢false e)
-
-wrong' : {A : Type 0} → false ≡ true → A
-wrong' e = absurd (true≢false (sym e))
-
-no_connection : {A : Type 0} (n : Connection) → (let o : Option Connection = None in o) ≡ Some n → A
-no_connection n e = absurd cc
+use Rattle.bus_base.proofs.Tests.{wrong, wrong'}
+use Rattle.right_laws.proofs.DataOffers.{none_some}
 
 -- REQ rises with the row, in STATUS.
 pub record Asks (p : List Row) (row : Row) (n : Connection) : Type 0 where
@@ -71,7 +64,7 @@ elsewhere p row n e h linked z = wrong (sym h.cd ∙ ap (λ (b : LineSet). b.cd)
 
 -- The target leaves the phase.
 left_low : (s : ScenarioValue) (p : List Row) (t : ℕ) (n : Connection) (atn msg cd : Bool) (x y : ℕ) (v : Serving) (l : Leaving) (o : Option Phase) → AreOfDevices p → Linked p n (ends false false atn x msg cd true false y) → connection (row_of_lines t n.target (lines_by v true l o) ∷ p) ≡ Some n → (bus (row_of_lines t n.target (lines_by v true l o) ∷ p)).req ≡ false
-left_low s p t n atn msg cd x y v l None dv h after = no_connection n (sym (freed_connection p t n (ends false false atn x msg cd true false y) refl h) ∙ after)
+left_low s p t n atn msg cd x y v l None dv h after = none_some n (sym (freed_connection p t n (ends false false atn x msg cd true false y) refl h) ∙ after)
 left_low s p t n atn msg cd x y v l (Some phases.DataOut) dv h after = ap (λ (c : Change). c.after.req) (target_end s p t n (ends false false atn x msg cd true false y) false false false false 0 dv h).moves.change
 left_low s p t n atn msg cd x y v l (Some phases.Command) dv h after = ap (λ (c : Change). c.after.req) (target_end s p t n (ends false false atn x msg cd true false y) false true false false 0 dv h).moves.change
 left_low s p t n atn msg cd x y v l (Some phases.MessageOut) dv h after = ap (λ (c : Change). c.after.req) (target_end s p t n (ends false false atn x msg cd true false y) true true false false 0 dv h).moves.change

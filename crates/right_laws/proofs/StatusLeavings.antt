@@ -26,12 +26,7 @@ use Rattle.bus_dialogue.specs.Exchange.{one_message}
 use Rattle.bus_dialogue.specs.NextPhase.{Serving, phase_leaving, phase_entry, with_task, recovery, recovery_limit, pointer_restoration, message_out_leaving, after_messages, after_arrival, after_run, disconnection, disconnect_messages, data_in_leaving, bus_free, message_repetition, message_in_entry, request_or_command, after_offer}
 use Rattle.bus_dialogue.specs.Words.{request_by, is_naming}
 use Rattle.trace_laws.proofs.UndoneLeavings.{is_to_message_in, to_data, not_again}
-
-wrong : {A : Type 0} → true ≡ false → A
-wrong e = absurd (true≢false e)
-
-wrong' : {A : Type 0} → false ≡ true → A
-wrong' e = absurd (true≢false (sym e))
+use Rattle.bus_base.proofs.Tests.{wrong, wrong'}
 
 abbrev pub is_ending : Messages → Bool
 is_ending m = go m.first

@@ -19,21 +19,15 @@ use Rattle.bus_dialogue.specs.declared.exchange.Plan.{Plan}
 use Rattle.bus_dialogue.specs.Exchange.{one_message}
 use Rattle.bus_dialogue.specs.NextPhase.{phase_of}
 use Rattle.bus_books.specs.Giving.{AreGiven}
+use Rattle.trace_laws.specs.ItemTalks.{frees_bus}
 use Rattle.trace_laws.specs.LastTalks.{LastFacts, LastGiven, still_stays, to_close, to_save, closed, LastBy}
 use Rattle.trace_laws.proofs.LastRows.{KeptPlan}
 use Rattle.bus_books.proofs.Gives.{in_io}
 use Rattle.right_laws.specs.Loads.{Load, load}
 use Rattle.right_laws.specs.StatusBytes.{HasOne, IsSmall, IsReady, StatusSays, StatusAsked, StatusBy}
 use Rattle.right_laws.proofs.StatusLeavings.{is_ending, is_freeing_next, is_to_status}
-
-wrong : {A : Type 0} → true ≡ false → A
-wrong e = absurd (true≢false e)
-
-wrong' : {A : Type 0} → false ≡ true → A
-wrong' e = absurd (true≢false (sym e))
-
-none_some : {A : Type 0} (n : Connection) → (let o : Option Connection = None in o) ≡ Some n → A
-none_some n e = absurd cc
+use Rattle.bus_base.proofs.Tests.{wrong, wrong'}
+use Rattle.right_laws.proofs.DataOffers.{none_some}
 
 -- ---- what is the same says the same
 
@@ -128,21 +122,21 @@ freeing l m next count (still_stays f all last) e = absurd (no_end ((subst (λ (
     no_end z = true≢false (ap Rattle.bus_story.specs.HistoryEvents.is_complete z)
 freeing l m next count (to_close f x one end zero last) e = frees next f
   where
-    frees : (y : Next) → Rattle.trace_laws.specs.LastTalks.is_freeing y ≡ true → is_freeing_next y ≡ true
+    frees : (y : Next) → frees_bus y ≡ true → is_freeing_next y ≡ true
     frees nexts.FreeBus z = refl
     frees nexts.Command z = wrong' z
     frees nexts.Status z = wrong' z
     frees nexts.GoOn z = wrong' z
 freeing l m next count (to_save f both at last) e = frees next f
   where
-    frees : (y : Next) → Rattle.trace_laws.specs.LastTalks.is_freeing y ≡ true → is_freeing_next y ≡ true
+    frees : (y : Next) → frees_bus y ≡ true → is_freeing_next y ≡ true
     frees nexts.FreeBus z = refl
     frees nexts.Command z = wrong' z
     frees nexts.Status z = wrong' z
     frees nexts.GoOn z = wrong' z
 freeing l m next count (closed f ends full last told) e = frees next f
   where
-    frees : (y : Next) → Rattle.trace_laws.specs.LastTalks.is_freeing y ≡ true → is_freeing_next y ≡ true
+    frees : (y : Next) → frees_bus y ≡ true → is_freeing_next y ≡ true
     frees nexts.FreeBus z = refl
     frees nexts.Command z = wrong' z
     frees nexts.Status z = wrong' z

@@ -55,15 +55,8 @@ use Rattle.bus_base.specs.Faults.{counted_on}
 use Rattle.trace_laws.proofs.PointerRows.{requests_rise}
 use Rattle.right_laws.proofs.RanFacts.{undoes_of}
 use Rattle.right_laws.proofs.StatusSame.{says_as, asked_as, same_by, status_lines, message_line, out_line, in_not_out}
-
-wrong : {A : Type 0} → true ≡ false → A
-wrong e = absurd (true≢false e)
-
-wrong' : {A : Type 0} → false ≡ true → A
-wrong' e = absurd (true≢false (sym e))
-
-no_connection : {A : Type 0} (n : Connection) → (let o : Option Connection = None in o) ≡ Some n → A
-no_connection n e = absurd cc
+use Rattle.bus_base.proofs.Tests.{wrong, wrong'}
+use Rattle.right_laws.proofs.DataOffers.{none_some}
 
 -- ---- what is known
 

@@ -64,16 +64,13 @@ use Rattle.bus_story.specs.HistoryEvents.{is_complete}
 use Rattle.bus_story.specs.Links.{plain, complete}
 use Rattle.bus_dialogue.specs.Exchange.{from_byte, message_bytes}
 use Rattle.bus_books.specs.Giving.{OnMessage}
-use Rattle.trace_laws.specs.LastTalks.{SaysNoEnd, EndsWell, stays, closes, saves}
+use Rattle.trace_laws.specs.LastTalks.{EndsWell, stays, closes, saves}
 use Rattle.right_laws.proofs.RanFacts.{undoes_of, here_is}
 use Rattle.right_laws.proofs.StatusSame.{one_as, ready_as, says_as, status_lines, freeing}
 use Rattle.right_laws.proofs.StatusStays.{Going, knows_of}
-
-wrong : {A : Type 0} → true ≡ false → A
-wrong e = absurd (true≢false e)
-
-wrong' : {A : Type 0} → false ≡ true → A
-wrong' e = absurd (true≢false (sym e))
+use Rattle.bus_base.proofs.Tests.{wrong, wrong'}
+use Rattle.link_laws.proofs.Moves.{same_self}
+use Rattle.trace_laws.specs.DataPointers.{IsPlainIn}
 
 -- ---- what MESSAGE OUT refuses
 
@@ -118,12 +115,12 @@ left_says c l m next count last some h few = record {
             disconnects v = wrong' (ap (λ (o : Option MsgIn). is_ending (record { first = o; second = None })) v)
 
             of_ends : EndsWell m next → HasOne c
-            of_ends (stays f all) = plain_end (subst (OnMessage SaysNoEnd) is all.1)
+            of_ends (stays f all) = plain_end (subst (OnMessage IsPlainIn) is all.1)
             of_ends (closes f k one end) = no_message (sym (ap (λ (q : Messages). q.second) one) ∙ is)
             of_ends (saves f both) = disconnects (sym (ap (λ (q : Messages). q.second) both) ∙ is)
 
             go : LastGiven l m next count → HasOne c
-            go (still_stays f all tells) = plain_end (subst (OnMessage SaysNoEnd) is all.1)
+            go (still_stays f all tells) = plain_end (subst (OnMessage IsPlainIn) is all.1)
             go (to_close f k one end zero tells) = no_message (sym (ap (λ (q : Messages). q.second) one) ∙ is)
             go (to_save f both at tells) = disconnects (sym (ap (λ (q : Messages). q.second) both) ∙ is)
             go (closed f end full told by) = of_ends end
@@ -136,10 +133,6 @@ less_none : (x : ℕ) → x ≤ 1 → x - 1 ≡ 0
 less_none x e = omega arith
 
 -- ---- lines that stay
-
-same_self : (q : Bool) → same q q ≡ true
-same_self true = refl
-same_self false = refl
 
 lines_stay : (c : Change) → c.after.msg ≡ c.before.msg → c.after.cd ≡ c.before.cd → c.after.io ≡ c.before.io → changes_phase c ≡ false
 lines_stay c e f g =

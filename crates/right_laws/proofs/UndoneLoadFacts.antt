@@ -36,28 +36,22 @@ use Rattle.bus_books.specs.Rows.{RowKind, still, strikes, crosses, turns}
 use Rattle.bus_books.specs.Traces.{GoesOn}
 use Rattle.bus_books.proofs.Gives.{requests_stay, struck_same}
 use Rattle.bus_books.proofs.InConnection.{in_connection, reading_is}
-use Rattle.bus_books.proofs.Knows.{events_link}
 use Rattle.trace_laws.specs.Tells.{UndoAsked, UndoBy}
 use Rattle.right_laws.specs.Loads.{UndoesLoads, UndoKeeps, UndoLoads, UndoLoadFacts}
 use Rattle.trace_laws.proofs.BlockRows.{undo_of}
 use Rattle.trace_laws.proofs.CommandFirst.{undo_first}
 use Rattle.trace_laws.proofs.ConnectionRows.{ConnectionRow, GoingRow, connection_row, going_row, stage_of_connection, RowKindOf, begins_now, goes_now, row_kind}
 use Rattle.trace_laws.proofs.Joint.{Stood, NextStood, link_phase}
-use Rattle.trace_laws.proofs.UndoneFacts.{in_of}
+use Rattle.trace_laws.proofs.UndoneFacts.{in_of, all_by}
 use Rattle.bus_books.proofs.Gives.{in_io}
 use Rattle.trace_laws.proofs.UndoneRows.{first_whole}
 use Rattle.right_laws.proofs.UndoneLoadStays.{row_undoes, stays_by}
 use Rattle.right_laws.proofs.UndoneLoadTurns.{turn_keeps}
 use Rattle.right_laws.proofs.UndoneLoads.{loads_stay_in, fits_heard}
-
-wrong : {A : Type 0} → true ≡ false → A
-wrong e = absurd cc
-
-wrong' : {A : Type 0} → false ≡ true → A
-wrong' e = absurd cc
-
-none_some : {A : Type 0} (n : Connection) → (let o : Option Connection = None in o) ≡ Some n → A
-none_some n e = absurd cc
+use Rattle.bus_base.proofs.Tests.{wrong, wrong'}
+use Rattle.right_laws.proofs.DataOffers.{none_some}
+use Rattle.right_laws.proofs.StatusSame.{message_line, in_not_out}
+use Rattle.bus_story.proofs.StorySteps.{events_link}
 
 no_bytes : {A : Type 0} (u : CarriedBytes) → (let o : Option CarriedBytes = None in o) ≡ Some u → A
 no_bytes u e = absurd cc
@@ -66,20 +60,6 @@ no_bytes u e = absurd cc
 
 pub load_start : (s : ScenarioValue) → UndoLoadFacts s []
 load_start s n e calm = none_some n e
-
-all_by : (fits : Type 0) (p : Plan) (x : ℕ) (phase : Phase) → fits → UndoBy fits p x phase
-all_by fits p x phases.MessageOut h = asked p.cause
-  where
-    asked : (cause : Cause) → UndoAsked fits cause
-    asked causes.Selected = h
-    asked causes.InMessage = h
-    asked causes.InData = tt
-    asked causes.InStatus = tt
-all_by fits p x phases.MessageIn h = inl h
-all_by fits p x phases.Command h = tt
-all_by fits p x phases.DataIn h = tt
-all_by fits p x phases.DataOut h = tt
-all_by fits p x phases.Status h = tt
 
 undo_begins : (s : ScenarioValue) (p : List Row) (row : Row) (n : Connection) → AreOfDevices p → row.dev < 8 → connection p ≡ None → connection (row ∷ p) ≡ Some n → (bus (row ∷ p)).rst ≡ false → UndoLoads (run_state s (row ∷ p))
 undo_begins s p row n dv lt alone after calm = record { unbegun = λ b. fits; begun = λ b. all_by (UndoKeeps j) j.exchange.plan j.handshakes.requests (phase_of (bus_of j)) fits }
@@ -116,20 +96,6 @@ undo_begins s p row n dv lt alone after calm = record { unbegun = λ b. fits; be
     fits l u el eu = no_bytes u (sym (sym (ap undo_of el) ∙ none) ∙ eu)
 
 -- ---- a row of a connection
-
-message_msg : (b : LineSet) → is_message_in b ≡ true → b.msg ≡ true
-message_msg b e = go b.msg b.cd b.io e
-  where
-    go : (m d o : Bool) → (m && d && o) ≡ true → m ≡ true
-    go true d o z = refl
-    go false d o z = wrong' z
-
-out_in : (b : LineSet) → is_message_in b ≡ true → is_message_out b ≡ false
-out_in b e = (λ i. b.msg && b.cd && not (in_io b e i)) ∙ go (b.msg && b.cd)
-  where
-    go : (q : Bool) → (q && false) ≡ false
-    go true = refl
-    go false = refl
 
 goes_keeps : (s : ScenarioValue) (p : List Row) (row : Row) (n : Connection) → AreOfDevices p → row.dev < 8 → Stood s p → NextStood s p row → ConnectionRow s p row n → GoingRow s p row n → UndoesLoads (run_state s p) row → connection (row ∷ p) ≡ Some n → (bus (row ∷ p)).rst ≡ false → UndoLoads (run_state s p) → UndoLoads (run_state s (row ∷ p))
 goes_keeps s p row n dv lt was next r g undoes after calm h = go g.goes.row_is.kind
@@ -173,7 +139,7 @@ goes_keeps s p row n dv lt was next r g undoes after calm h = go g.goes.row_is.k
         (λ b e zero short.
         let given = (was.books.gives n of.row_is.connection_is of.calm).in_message_in b (ap is_message_in of.row_is.bus_is ∙ here e) in
         let m = first_whole k c given zero short (of.gives (here e) there).0 (here e) in
-        inl (fits_heard s k row n c knows.link m.message of.row_is there knows.link_is (loads_stay_in s k row n c true of.row_is there (λ z. message_msg c.before (here e)) undoes) (ap (λ (q : Bool). if q then whole_out (got_out (fresh_bytes k.story.bus_state.dialogue ++ c.after.data_bits % 256 ∷ [])) else None) (out_in c.before (here e))) m.is)) h
+        inl (fits_heard s k row n c knows.link m.message of.row_is there knows.link_is (loads_stay_in s k row n c true of.row_is there (λ z. message_line c.before (here e)) undoes) (ap (λ (q : Bool). if q then whole_out (got_out (fresh_bytes k.story.bus_state.dialogue ++ c.after.data_bits % 256 ∷ [])) else None) (in_not_out c.before (here e))) m.is)) h
     go (turns ef ep er) =
         let stage = stage_of_connection s (row ∷ p) n next.stood after calm in
         let is = g.lines_are in

@@ -29,20 +29,14 @@ use Rattle.bus_books.specs.Traces.{GoesOn, RowOf, apart as row_apart, begins, go
 use Rattle.bus_books.proofs.InConnection.{InConnection, in_connection, reading_is}
 use Rattle.trace_laws.specs.Tells.{UndoAsked, UndoBy, is_short}
 use Rattle.trace_laws.proofs.CommandCounts.{is_refusal}
-use Rattle.trace_laws.proofs.UndoneLeavings.{is_detecting}
 use Rattle.trace_laws.proofs.UndoneAnswers.{detects, asked_fits, same_phase_of, SamePlan, plan_stays}
 use Rattle.trace_laws.proofs.PhaseLines.{out_phase}
 use Rattle.right_laws.specs.Loads.{load, UndoesLoads, UndoKeeps, UndoLoads}
 use Rattle.right_laws.proofs.UndoneLoads.{loads_stay_in, fits_on}
-
-wrong : {A : Type 0} → true ≡ false → A
-wrong e = absurd cc
-
-wrong' : {A : Type 0} → false ≡ true → A
-wrong' e = absurd cc
-
-none_some : {A : Type 0} (n : Connection) → (let o : Option Connection = None in o) ≡ Some n → A
-none_some n e = absurd cc
+use Rattle.bus_base.proofs.Tests.{wrong, wrong'}
+use Rattle.right_laws.proofs.DataOffers.{none_some}
+use Rattle.trace_laws.proofs.FailureSteps.{is_message_phase}
+use Rattle.trace_laws.specs.Offers.{is_detected}
 
 no_message : {A : Type 0} (m : MsgOut) → (let o : Option MsgOut = None in o) ≡ Some m → A
 no_message m e = absurd cc
@@ -62,9 +56,9 @@ crosses_undoes s k row n c g speaks there h l m u el eo parity eu = go (is_messa
     go false e = no_message m (sym (λ i. if e i then whole_out (got_out (fresh_bytes k.story.bus_state.dialogue ++ c.after.data_bits % 256 ∷ [])) else None) ∙ out)
     go true e =
         let here : UndoAsked (UndoKeeps k) k.exchange.plan.cause = subst (λ (p : Phase). UndoBy (UndoKeeps k) k.exchange.plan k.handshakes.requests p) (ap phase_of g.row_is.bus_is ∙ out_phase c.before e) (h.begun begun) in
-        by (is_detecting k.exchange.plan.cause) refl here
+        by (is_detected k.exchange.plan.cause) refl here
       where
-        by : (q : Bool) → is_detecting k.exchange.plan.cause ≡ q → UndoAsked (UndoKeeps k) k.exchange.plan.cause → load u ≡ load (carried_here k u.id)
+        by : (q : Bool) → is_detected k.exchange.plan.cause ≡ q → UndoAsked (UndoKeeps k) k.exchange.plan.cause → load u ≡ load (carried_here k u.id)
         by false z w = asked_fits (UndoKeeps k) k.exchange.plan.cause z w l u el eu
         by true z w = wrong (sym parity ∙ ap is_refusal (sym out) ∙ detects s k n c speaks begun g.row_is.bus_is e (g.says e there).0 z)
 
@@ -84,12 +78,7 @@ row_undoes s k row books h (goes_on n c g) = go (is_some (receiver_in n c)) refl
 
 -- ---- the phase stays
 
-abbrev is_message : Phase → Bool
-is_message phases.MessageOut = true
-is_message phases.MessageIn = true
-is_message _ = false
-
-on_phase : (a b : Type 0) (p q : Plan) (x y : ℕ) (phase : Phase) → (is_message phase ≡ true → a → b) → q.cause ≡ p.cause → (phase ≡ phases.MessageIn → x ≡ 0 → is_short p.messages.first ≡ true → b ⊎ ((y ≡ 0) × (is_short q.messages.first ≡ true))) → UndoBy a p x phase → UndoBy b q y phase
+on_phase : (a b : Type 0) (p q : Plan) (x y : ℕ) (phase : Phase) → (is_message_phase phase ≡ true → a → b) → q.cause ≡ p.cause → (phase ≡ phases.MessageIn → x ≡ 0 → is_short p.messages.first ≡ true → b ⊎ ((y ≡ 0) × (is_short q.messages.first ≡ true))) → UndoBy a p x phase → UndoBy b q y phase
 on_phase a b p q x y phases.MessageOut f e g h = subst (UndoAsked b) (sym e) (asked p.cause h)
   where
     asked : (cause : Cause) → UndoAsked a cause → UndoAsked b cause
@@ -127,10 +116,10 @@ stays_by s k row n c now l r ep en link undoes crosses first h = record {
     fits : (now ≡ true → c.before.msg ≡ true) → UndoKeeps k → UndoKeeps j
     fits silent = fits_on s k row n c now l r en link (loads_stay_in s k row n c now r en silent undoes)
 
-    message : (b : LineSet) → is_message (phase_of b) ≡ true → b.msg ≡ true
+    message : (b : LineSet) → is_message_phase (phase_of b) ≡ true → b.msg ≡ true
     message b e = by b.msg b.cd b.io e
       where
-        by : (m d o : Bool) → is_message (if m then (if o then phases.MessageIn else phases.MessageOut) else if d then (if o then phases.Status else phases.Command) else if o then phases.DataIn else phases.DataOut) ≡ true → m ≡ true
+        by : (m d o : Bool) → is_message_phase (if m then (if o then phases.MessageIn else phases.MessageOut) else if d then (if o then phases.Status else phases.Command) else if o then phases.DataIn else phases.DataOut) ≡ true → m ≡ true
         by true d o z = refl
         by false true true z = wrong' z
         by false true false z = wrong' z

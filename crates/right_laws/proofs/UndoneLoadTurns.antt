@@ -32,29 +32,16 @@ use Rattle.bus_books.proofs.InConnection.{InConnection, in_connection}
 use Rattle.trace_laws.specs.Tells.{UndoAsked, UndoBy, is_short}
 use Rattle.trace_laws.proofs.UndoneAnswers.{asked_fits}
 use Rattle.trace_laws.proofs.PhaseLines.{in_phase, out_phase}
-use Rattle.trace_laws.proofs.UndoneLeavings.{is_to_message_in, is_detecting, leaves_short}
-use Rattle.trace_laws.proofs.UndoneTurns.{not_out}
+use Rattle.trace_laws.proofs.UndoneLeavings.{is_to_message_in, leaves_short}
+use Rattle.trace_laws.proofs.UndoneTurns.{not_out, detecting}
 use Rattle.trace_laws.proofs.PhaseLines.{out_lines}
 use Rattle.right_laws.specs.Loads.{UndoesLoads, UndoKeeps, UndoLoads}
 use Rattle.right_laws.proofs.UndoneLoads.{loads_stay_in, fits_on}
-
-wrong : {A : Type 0} → true ≡ false → A
-wrong e = absurd cc
-
-wrong' : {A : Type 0} → false ≡ true → A
-wrong' e = absurd cc
-
-none_some : {A : Type 0} (n : Connection) → (let o : Option Connection = None in o) ≡ Some n → A
-none_some n e = absurd cc
+use Rattle.bus_base.proofs.Tests.{wrong, wrong'}
+use Rattle.right_laws.proofs.DataOffers.{none_some}
+use Rattle.trace_laws.specs.Offers.{is_detected}
 
 -- ---- a phase is left for another
-
-detecting : (fits : Type 0) (before : LineSet) → is_message_in before ≡ false → UndoAsked fits (cause_after before)
-detecting fits before e = subst (UndoAsked fits) (ap (λ (q : Bool). if q then causes.InMessage else if before.cd then causes.InStatus else causes.InData) (sym e)) (go before.cd)
-  where
-    go : (q : Bool) → UndoAsked fits (if q then causes.InStatus else causes.InData)
-    go true = tt
-    go false = tt
 
 pub record TurnOf (s : ScenarioValue) (k : RunState) (row : Row) (n : Connection) (c : Change) (l : Link) : Type 0 where
   pub goes : GoesOn s k row n c
@@ -153,21 +140,21 @@ turn_keeps s k row n c l t h = record {
         to : is_to_message_in (phase_leaving v (bus_of k).atn (phase_of (bus_of k))).to ≡ true
         to = ap (λ (x : Leaving). is_to_message_in x.to) (sym leaving_is) ∙ ap is_to_message_in (t.whereto b ∙ ap (λ (p : Phase). Some p) e)
 
-        short : (phase_of (bus_of k) ≡ phases.MessageOut → is_detecting k.exchange.plan.cause ≡ true) → UndoKeeps j ⊎ ((j.handshakes.requests ≡ 0) × (is_short j.exchange.plan.messages.first ≡ true))
+        short : (phase_of (bus_of k) ≡ phases.MessageOut → is_detected k.exchange.plan.cause ≡ true) → UndoKeeps j ⊎ ((j.handshakes.requests ≡ 0) × (is_short j.exchange.plan.messages.first ≡ true))
         short f = inr (asked, ap (λ (m : Messages). is_short m.first) messages ∙ leaves_short v (bus_of k).atn (phase_of (bus_of k)) f to)
 
         is_out : Phase → Bool
         is_out phases.MessageOut = true
         is_out _ = false
 
-        said : phase_of (bus_of k) ≡ phases.MessageOut → (q : Bool) → is_detecting k.exchange.plan.cause ≡ q → UndoKeeps j ⊎ ((j.handshakes.requests ≡ 0) × (is_short j.exchange.plan.messages.first ≡ true))
+        said : phase_of (bus_of k) ≡ phases.MessageOut → (q : Bool) → is_detected k.exchange.plan.cause ≡ q → UndoKeeps j ⊎ ((j.handshakes.requests ≡ 0) × (is_short j.exchange.plan.messages.first ≡ true))
         said here true f = short (λ z. f)
         said here false f =
             inl (quiet
             (asked_fits (UndoKeeps k) k.exchange.plan.cause f (subst (λ (p : Phase). UndoBy (UndoKeeps k) k.exchange.plan k.handshakes.requests p) here (h.begun b))))
 
         by : (p : Phase) → phase_of (bus_of k) ≡ p → UndoKeeps j ⊎ ((j.handshakes.requests ≡ 0) × (is_short j.exchange.plan.messages.first ≡ true))
-        by phases.MessageOut z = said z (is_detecting k.exchange.plan.cause) refl
+        by phases.MessageOut z = said z (is_detected k.exchange.plan.cause) refl
         by phases.MessageIn z = short (λ w. wrong' (ap is_out (sym z ∙ w)))
         by phases.Command z = short (λ w. wrong' (ap is_out (sym z ∙ w)))
         by phases.DataIn z = short (λ w. wrong' (ap is_out (sym z ∙ w)))

@@ -31,9 +31,8 @@ use Rattle.bus_books.proofs.Knows.{link_after}
 use Rattle.bus_books.proofs.Lookups.{carried_id}
 use Rattle.right_laws.specs.Loads.{load, UndoesLoads, UndoKeeps}
 use Rattle.right_laws.proofs.Lasting.{IsLasting, row_lasts}
-
-wrong : {A : Type 0} → true ≡ false → A
-wrong e = absurd cc
+use Rattle.bus_base.proofs.Tests.{wrong}
+use Rattle.trace_laws.proofs.UndoneRows.{own_bytes, UndoAfter}
 
 none_some : {A : Type 0} (c : CarriedBytes) → (let o : Option CarriedBytes = None in o) ≡ Some c → A
 none_some c e = absurd cc
@@ -78,11 +77,6 @@ loads_stay_in s k row n c now r en silent undoes =
 
 -- ---- what would be brought back after a row
 
-pub record UndoAfter (b : Story) (l : Link) (link : Option Link) : Type 0 where
-  pub after : Link
-  pub is : link ≡ Some after
-  pub undo : (after.undo ≡ l.undo) ⊎ (after.undo ≡ carried_if b l.item)
-
 with_carried_link : (a : Story) (c : Option CarriedBytes) → (story_with_carried a c).link ≡ a.link
 with_carried_link a None = refl
 with_carried_link a (Some c) = refl
@@ -111,13 +105,6 @@ heard_after : (s : ScenarioValue) (b : Story) (l : Link) (d : RowReading) (row :
 heard_after s b l d row m e f g =
     (λ i. (if e i then (if is_some (f i) then story_after_out b l (f i) else if is_some (g i) then story_after_in s b l (g i) else story_after_byte b l d) else story_after_fault b l row.kind).link)
     ∙ with_carried_link _ _
-
-own_bytes : (b : Story) (item : Option Item) (u : CarriedBytes) → carried_if b item ≡ Some u → u ≡ carried_of b.carried u.id
-own_bytes b None u e = none_some u e
-own_bytes b (Some (abort k)) u e = none_some u e
-own_bytes b (Some (process id)) u e =
-    let same : carried_of b.carried id ≡ u = same_Some _ u e in
-    sym same ∙ ap (λ (x : ProcId). carried_of b.carried x) (sym (carried_id b.carried id) ∙ ap (λ (c : CarriedBytes). c.id) same)
 
 -- It fits where it did before the row; or a message has come with the row.
 pub fits_on : (s : ScenarioValue) (k : RunState) (row : Row) (n : Connection) (c : Change) (now : Bool) (l : Link) → IsRowIn k row n c → is_some (receiver_in n c) ≡ now → k.story.link ≡ Some l → SameLoadsIn k (run_state_after s k row) → UndoKeeps k → UndoKeeps (run_state_after s k row)

@@ -1,4 +1,4 @@
--- What is still asked of each row of a prompt trace, of a process that runs with it: the bytes that a write sends have come with it; and any
+-- What holds of each row of a prompt trace, of a process that runs with it: the bytes that a write sends have come with it; and any
 -- other has carried the bytes that its reply gives.
 use Rattle.std.specs.Prelude.{◌≡◌, ◌≤◌, true, false, ◌&&◌, ◌==◌, List, [], ◌∷◌, length, Some, ⊤}
 use Rattle.bus_trace.specs.declared.Row.{Row}
@@ -36,8 +36,3 @@ GivesAtRun s k row =
 abbrev pub AllMove : ScenarioValue → List Row → Type 0
 AllMove s [] = ⊤
 AllMove s (row ∷ rows) = AllMove s rows × SendsAtRun s (run_state s rows) row × GivesAtRun s (run_state s rows) row
-
--- So that any other than a write which ends GOOD gives the bytes of its reply, with all rows.
-abbrev pub AllGive : ScenarioValue → List Row → Type 0
-AllGive s [] = ⊤
-AllGive s (row ∷ rows) = AllGive s rows × GivesAtRun s (run_state s rows) row

@@ -1,6 +1,6 @@
 -- What a process that is not over has given or sent of its data: none, or some where it would end GOOD if it ran now, and where it does not
 -- write a front of what it would give then (6.1.5, 6.6.20); and what this asks of a row.
-use Rattle.std.specs.Prelude.{ℕ, ◌%◌, ◌≡◌, ◌≤◌, ◌<◌, ◌⊎◌, ◌==◌, true, false, List, [], ◌++◌, length, slice_index_or, Some}
+use Rattle.std.specs.Prelude.{ℕ, ◌%◌, ◌≡◌, ◌≤◌, ◌<◌, ◌⊎◌, ◌==◌, true, false, List, [], ◌++◌, length, slice_index_or, Some, is_some}
 use Rattle.bus_base.specs.declared.ProcId.{ProcId}
 use Rattle.bus_trace.specs.Phases.{changes_phase, is_command, is_data}
 use Rattle.bus_trace.specs.declared.Row.{Row}
@@ -55,7 +55,7 @@ GivesAtCrossing s k row =
 -- As COMMAND is left no data were carried.
 abbrev pub NoneAtArrival : RunState → Row → Type 0
 NoneAtArrival k row =
-    (l : Link) (id : ProcId) → k.story.link ≡ Some l → l.item ≡ Some (process id) → changes_phase (row_reading k.story.bus_state row).change ≡ true → is_command (row_reading k.story.bus_state row).change.before ≡ true
+    (l : Link) (id : ProcId) → k.story.link ≡ Some l → l.item ≡ Some (process id) → (row_reading k.story.bus_state row).change.after.rst ≡ false → is_some (row_reading k.story.bus_state row).next ≡ true → changes_phase (row_reading k.story.bus_state row).change ≡ true → is_command (row_reading k.story.bus_state row).change.before ≡ true
     → (carried_here k id).moved.bytes ≡ []
 
 -- As it runs as many bytes were carried as its reply has.

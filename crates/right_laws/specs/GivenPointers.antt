@@ -72,6 +72,9 @@ HasReplyThen s k row id =
     (p : Process) → process_of s id ≡ Some p → ((carried_here (run_state_after s k row) id).moved.bytes ≡ [] → ⊥) → any_may_change s p (row_events_by s k.story (row_reading k.story.bus_state row) row) ≡ true
     → reply_now (array_of s (run_state_after s k row)) p ≡ reply_now (array_of s k) p
 
+abbrev pub StaysSo : ScenarioValue → RunState → Row → Type 0
+StaysSo s k row = OnOpen (HasReplyThen s k row) (array_of s (run_state_after s k row))
+
 -- ---- all that is asked of a row
 
 -- Where its pointers stand; where it arrives it has carried no data; and where it has carried some its reply stays.
@@ -79,7 +82,7 @@ pub record GivesBy (s : ScenarioValue) (k : RunState) (row : Row) : Type 0 where
   pub points : PointsAtCrossing s k row
   pub arrives : NoneAtArrival k row
   pub whole : PointsAtEnd s k row
-  pub stays : OnOpen (HasReplyThen s k row) (array_of s (run_state_after s k row))
+  pub stays : StaysSo s k row
 
 abbrev pub AllGiveBy : ScenarioValue → List Row → Type 0
 AllGiveBy s [] = ⊤

@@ -40,7 +40,7 @@ is_read_at s k None p = true
 is_read_at s k (Some n) None = true
 is_read_at s k (Some n) (Some p) = is_writing p || is_at_run s k n p (task_of s k)
 
-abbrev is_data_in : Phase → Bool
+abbrev pub is_data_in : Phase → Bool
 is_data_in phases.DataIn = true
 is_data_in _ = false
 

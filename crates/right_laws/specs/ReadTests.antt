@@ -18,6 +18,7 @@ use Rattle.bus_due.specs.Tasks.{is_writing, reply_now}
 use Rattle.bus_books.specs.Accounts.{is_served_by}
 use Rattle.trace_laws.specs.DataPointers.{is_marked, run_start}
 use Rattle.right_laws.specs.Reads.{content_now}
+use Rattle.right_laws.specs.GivenTests.{is_data_in}
 
 abbrev is_front : List ℕ → List ℕ → Bool
 is_front [] all = true
@@ -37,11 +38,6 @@ is_given_if s k (Some r) = is_some r.reply || is_given s k r.process
 abbrev are_units_given : ScenarioValue → RunState → List UnitState → Bool
 are_units_given s k [] = true
 are_units_given s k (u ∷ units) = list_all (λ (p : Process). length (carried_here k p.id).moved.bytes == 0) u.waiting && is_given_if s k u.current && are_units_given s k units
-
--- In DATA IN, of the process that is served.
-abbrev is_data_in : Phase → Bool
-is_data_in phases.DataIn = true
-is_data_in _ = false
 
 abbrev is_in_run : ScenarioValue → RunState → Option Process → Bool
 is_in_run s k None = true

@@ -1,6 +1,6 @@
 // Laws of prompt traces, each named by the contract of a function that does nothing.
 
-ghost use Rattle.std.specs.Prelude.{◌≡◌, ◌<◌, ◌^◌, true, is_some, List, length, reverse};
+ghost use Rattle.std.specs.Prelude.{◌≡◌, true, is_some, List, reverse};
 ghost use Rattle.bus_trace.specs.declared.Row.{Row};
 ghost use Rattle.scenario.specs.Value.{ScenarioValue};
 ghost use Rattle.scenario.specs.Writing.{Obeys};
@@ -9,18 +9,16 @@ ghost use Rattle.bus_story.specs.Outcomes.{outcomes};
 ghost use Rattle.bus_story.specs.Right.{Right, all_carried};
 ghost use Rattle.bus_story.specs.TraceHistory.{story, trace_history};
 ghost use Rattle.bus_due.specs.Next.{IsPrompt};
-ghost use Rattle.right_laws.specs.Asked.{AllGive};
 
-/// The plain disk array permits the history of every prompt trace of fewer than 2^64 rows (`permitted`). Each process
+/// The plain disk array permits the history of every prompt trace, however long it is (`permitted`). Each process
 /// that ran and ended carried exactly its command block, the bytes that it moves and its status (`carried`), and so the
-/// trace, its history, the outcomes and the blocks belong together (`right`): where each process that runs, but for a
-/// write that ends GOOD, has carried the bytes of its reply then (`AllGive`). Of such a write it is proved.
+/// trace, its history, the outcomes and the blocks belong together (`right`).
 pub fn prompt_traces_are_right()
-    ensures permitted { (s : ScenarioValue) (rows : List Row) → Obeys s → IsPrompt s rows → length rows < 2 ^ 64
+    ensures permitted { (s : ScenarioValue) (rows : List Row) → Obeys s → IsPrompt s rows
         → is_some (array_after s (trace_history s rows)) ≡ true }
-    ensures carried { (s : ScenarioValue) (rows : List Row) → Obeys s → IsPrompt s rows → length rows < 2 ^ 64
-        → AllGive s rows → all_carried s (story s rows) (trace_history s rows) ≡ true }
-    ensures right { (s : ScenarioValue) (rows : List Row) → Obeys s → IsPrompt s rows → length rows < 2 ^ 64
-        → AllGive s rows → Right s (reverse rows) (reverse (trace_history s rows)) (outcomes s (story s rows))
+    ensures carried { (s : ScenarioValue) (rows : List Row) → Obeys s → IsPrompt s rows
+        → all_carried s (story s rows) (trace_history s rows) ≡ true }
+    ensures right { (s : ScenarioValue) (rows : List Row) → Obeys s → IsPrompt s rows
+        → Right s (reverse rows) (reverse (trace_history s rows)) (outcomes s (story s rows))
         (disks_of (array_after s (trace_history s rows))) }
 {}

@@ -2,8 +2,8 @@
 //!
 //! `trace_laws` shows that what crosses is what was to be said, that the plain disk array permits the history, and
 //! where the pointers stand; here it is shown of the bytes themselves: each process that ran and ended carried its
-//! command block, the bytes that it moves, and its status. `specs/Asked.antt` has what is still asked of a row with
-//! which a process runs. There is no code here but for laws: each is the contract of a function that does nothing.
+//! command block, the bytes that it moves, and its status. There is no code here but for laws: each is the contract of
+//! a function that does nothing.
 #![tactic(auto)]
 
 mod laws;

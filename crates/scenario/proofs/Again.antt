@@ -23,6 +23,7 @@ use Rattle.scenario.specs.Reading.{Progress, is_printable, line_after, said_afte
 use Rattle.scenario.specs.Writing.{numbered, flag_text, scsi_text, policy_text, pick_text, tag_text, payload_text, what_text, host_sync_text, initiator_text, target_seek_text, target_disc_text, target_text, unit_text, fill_text, cmd_tag_text, cmd_text, abort_text, reset_text, fault_text, said_text, said_line, built}
 use Rattle.scenario.proofs.PartsAgain.{IsSmall, IsSmallPolicy, IsSmallTag, IsSpelledPayload, IsSmallWhat}
 use Rattle.scenario.proofs.FormsAgain.{IsSpelled, form_again}
+use Rattle.text_words.proofs.FirstFeed.{ended_line}
 
 -- ---- what is written is printable
 
@@ -194,9 +195,6 @@ said_prints (fault_line f) h =
 said_prints end_line h = refl
 
 -- ---- a written line is one line
-
-abbrev ended_line : List ℕ → Line
-ended_line text = record { text = text; ended = true }
 
 line_step : (b : ℕ) (text rest : List ℕ) (q : Bool) → is_printable b ≡ q → (list_all is_printable text ≡ true → lines_of (text ++ 10 ∷ rest) ≡ ended_line text ∷ lines_of rest) → (q && list_all is_printable text) ≡ true
     → lines_of (b ∷ (text ++ 10 ∷ rest)) ≡ ended_line (b ∷ text) ∷ lines_of rest

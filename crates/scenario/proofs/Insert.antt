@@ -10,22 +10,17 @@ use Rattle.std.proofs.lemmas.Map.Lookups.{CmpEqualImpliesEq, exact_pairs, exact_
 use Rattle.std.proofs.lemmas.List.Folds.{list_any-append}
 use Rattle.scenario.specs.declared.value.FillDef.{FillDef as Fill}
 use Rattle.scenario.specs.Lookups.{has_fill}
+use Rattle.bus_base.proofs.Tests.{or_swapped}
 
 again : (b c : Bool) → (b || c) ≡ (b || (b || c))
 again true c = refl
 again false c = refl
 
-swap : (a b c : Bool) → (a || (b || c)) ≡ (b || (a || c))
-swap true true c = refl
-swap true false c = refl
-swap false true c = refl
-swap false false c = refl
-
 insert_step : {K : Type 0} (p : K → Bool) (cmp : K → K → Ordering) → CmpEqualImpliesEq cmp → (k x : K) (xs : List K) (o : Ordering) → cmp k x ≡ o → list_any p (insert_key cmp xs k) ≡ (p k || list_any p xs)
     → list_any p (match_ordering o (k ∷ x ∷ xs) (x ∷ xs) (x ∷ insert_key cmp xs k)) ≡ (p k || (p x || list_any p xs))
 insert_step p cmp exact k x xs Less e ih = refl
 insert_step p cmp exact k x xs Equal e ih = let same : p k ≡ p x = ap p (exact k x e) in rw same (again (p x) (list_any p xs))
-insert_step p cmp exact k x xs Greater e ih = ap (λ (b : Bool). p x || b) ih ∙ swap (p x) (p k) (list_any p xs)
+insert_step p cmp exact k x xs Greater e ih = ap (λ (b : Bool). p x || b) ih ∙ or_swapped (p x) (p k) (list_any p xs)
 
 -- A key more in a set: one of the keys passes, or one did before.
 pub any-insert_key : {K : Type 0} (p : K → Bool) (cmp : K → K → Ordering) → CmpEqualImpliesEq cmp → (k : K) (xs : List K) → list_any p (insert_key cmp xs k) ≡ (p k || list_any p xs)

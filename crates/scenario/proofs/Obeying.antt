@@ -49,7 +49,7 @@ saids_at kinds.Fault s = scsi_line s.version ∷ body_of s
 saids_at kinds.End s = saids s
 
 -- What stands later than kinds of this rank is empty.
-record AreEmpty (r : ℕ) (s : ScenarioValue) : Type 0 where
+pub record AreEmpty (r : ℕ) (s : ScenarioValue) : Type 0 where
   hosts : r < 2 → s.hosts ≡ []
   targets : r < 3 → s.targets ≡ []
   units : r < 4 → s.units ≡ []
@@ -60,7 +60,7 @@ record AreEmpty (r : ℕ) (s : ScenarioValue) : Type 0 where
   faults : r < 9 → s.faults ≡ []
 
 -- The commands need what was counted, each and all within the limits.
-record HasNeeds (d : Progress) : Type 0 where
+pub record HasNeeds (d : Progress) : Type 0 where
   each : AllByRecursion (λ c. need_of d.scenario c ≤ NEED_LIMIT) d.scenario.commands
   total : d.needs ≡ sum_by (need_of d.scenario) d.scenario.commands
   bound : d.needs ≤ NEEDS_LIMIT
@@ -510,7 +510,7 @@ limit_ok : (t : Bool) (r : Result ScenarioValue (ℕ × ℕ)) (s : ScenarioValue
 limit_ok true r s e = absurd cc
 limit_ok false r s e = (refl, e)
 
-start : IsLawful nothing
+pub start : IsLawful nothing
 start = record { needs = record { each = tt; total = refl; bound = omega arith }; so_far = refl; can = tt; empties = record { hosts = λ h. refl; targets = λ h. refl; units = λ h. refl; fills = λ h. refl; commands = λ h. refl; aborts = λ h. refl; resets = λ h. refl; faults = λ h. refl }; start = λ h. refl; version = λ h. absurd (omega arith) }
 
 pub read_obeys : (bytes : List ℕ) (s : ScenarioValue) → scenario_of bytes ≡ Ok s → Obeys s

@@ -5,26 +5,10 @@ use Rattle.std.specs.List.{find, list_any, AllByRecursion}
 use Rattle.std.specs.Option.{option_or}
 use Rattle.std.proofs.lemmas.Bool.Decides.{nat_tests}
 use Rattle.std.proofs.lemmas.List.Folds.{find-append}
+use Rattle.std.proofs.lemmas.Bool.{not-true, eqb-true, and_parts, or_parts}
+use Rattle.bus_base.proofs.Tests.{eq_self}
 
 -- ---- tests
-
-pub not_true : (q : Bool) → not q ≡ true → q ≡ false
-not_true true e = absurd cc
-not_true false e = refl
-
-pub or_false : (q r : Bool) → (q || r) ≡ false → (q ≡ false) × (r ≡ false)
-or_false true r e = absurd cc
-or_false false r e = (refl, e)
-
-pub and_true : (q r : Bool) → (q && r) ≡ true → (q ≡ true) × (r ≡ true)
-and_true true r e = (refl, e)
-and_true false r e = absurd cc
-
-pub same_number : (m n : ℕ) → (m == n) ≡ true → m ≡ n
-same_number m n e = grind (arith, nat_tests)
-
-pub number_is : (n : ℕ) → (n == n) ≡ true
-number_is n = grind (arith, nat_tests)
 
 pub none_is : {X : Type 0} (o : Option X) → is_some o ≡ false → o ≡ None
 none_is None e = refl

@@ -24,10 +24,11 @@ use Rattle.bus_story.specs.TraceHistory.{is_host, retries_of}
 use Rattle.bus_due.specs.Defs.{host_of, target_def_of}
 use Rattle.scsi_device.specs.NoUnits.{has_unit}
 use Rattle.scsi_device.specs.Lines.{IsHostLine, IsTargetLine, IsUnitLine, IsCommandLine, IsAbortLine, FitsBus, AreUnits}
-use Rattle.scsi_device.proofs.Finds.{some_is, none_some, and_true, same_number, all_are, all_both, find_none, found_any, found_passes, found_holds}
+use Rattle.scsi_device.proofs.Finds.{some_is, none_some, all_are, all_both, find_none, found_any, found_passes, found_holds}
 use Rattle.scsi_device.proofs.LineReads.{IsHostWithin}
 use Rattle.scsi_device.proofs.LinesSoFar.{IsTargetFit, IsUnitFit, IsCommandFit, IsAbortFit, AreUnitsApart, AreFit, is_initiator, host_at, target_at, unit_at}
 use Rattle.scsi_device.proofs.LinesBuilt.{obeys_fit}
+use Rattle.std.proofs.lemmas.Bool.{eqb-true, and_parts}
 
 -- ---- an initiator is no target, and has no units
 
@@ -39,7 +40,7 @@ no_target_there hosts [] dev a e = refl
 no_target_there hosts (t ∷ targets) dev a e = go (t.dev == dev) refl (no_target_there hosts targets dev a.1 e)
   where
     go : (q : Bool) → (t.dev == dev) ≡ q → target_at targets dev ≡ None → cond q (Some t) (target_at targets dev) ≡ None
-    go true is more = absurd (true_false (is_initiator hosts dev) e (subst (λ (d : ℕ). is_initiator hosts d ≡ false) (same_number t.dev dev is) (a.0).no_host))
+    go true is more = absurd (true_false (is_initiator hosts dev) e (subst (λ (d : ℕ). is_initiator hosts d ≡ false) (eqb-true t.dev dev is) (a.0).no_host))
     go false is more = more
 
 no_unit_there : (hosts : List HostDef) (units : List UnitDef) (dev : ℕ) → AllByRecursion (IsUnitFit hosts) units → is_initiator hosts dev ≡ true → has_unit units dev ≡ false
@@ -47,7 +48,7 @@ no_unit_there hosts [] dev a e = refl
 no_unit_there hosts (u ∷ units) dev a e = go (u.target == dev) refl (no_unit_there hosts units dev a.1 e)
   where
     go : (q : Bool) → (u.target == dev) ≡ q → has_unit units dev ≡ false → (q || has_unit units dev) ≡ false
-    go true is more = absurd (true_false (is_initiator hosts dev) e (subst (λ (d : ℕ). is_initiator hosts d ≡ false) (same_number u.target dev is) (a.0).no_host))
+    go true is more = absurd (true_false (is_initiator hosts dev) e (subst (λ (d : ℕ). is_initiator hosts d ≡ false) (eqb-true u.target dev is) (a.0).no_host))
     go false is more = more
 
 retries_found : (hosts : List HostDef) (dev : ℕ) (h : HostDef) → host_at hosts dev ≡ Some h → h.retries ≡ retries_of hosts dev
@@ -131,8 +132,8 @@ length_from first zero = refl
 length_from first (suc n) = let w = length_from (first + 1) n in omega arith
 
 payload_length : (p : Payload) (n : ℕ) → is_payload n p ≡ true → length (payload_bytes p n) ≡ n
-payload_length payloads.Nothing n e = sym (same_number n 0 e)
-payload_length (payloads.Hex bytes) n e = same_number (length bytes) n (and_true (nat_lt 0 n) (length bytes == n) e).1
+payload_length payloads.Nothing n e = sym (eqb-true n 0 e)
+payload_length (payloads.Hex bytes) n e = eqb-true (length bytes) n (and_parts (nat_lt 0 n) (length bytes == n) e).1
 payload_length (payloads.From first) n e = length_from first n
 
 command_line : (s : ScenarioValue) (c : CmdDef) → IsCommandFit s.hosts (sent_of s c) (need_of s c) c → IsHex c.cdb × IsHexPayload c.payload → IsCommandLine s c
@@ -207,16 +208,16 @@ units_are s f = record {
 
 pub host_fits : (s : ScenarioValue) (dev : ℕ) (h : HostDef) → FitsBus s → host_of s dev ≡ Some h → IsHostLine s h × (h.dev ≡ dev)
 host_fits s dev h f e =
-    (found_holds (IsHostLine s) (λ (x : HostDef). x.dev == dev) s.hosts h f.hosts e, same_number h.dev dev (found_passes (λ (x : HostDef). x.dev == dev) s.hosts h e))
+    (found_holds (IsHostLine s) (λ (x : HostDef). x.dev == dev) s.hosts h f.hosts e, eqb-true h.dev dev (found_passes (λ (x : HostDef). x.dev == dev) s.hosts h e))
 
 pub target_fits : (s : ScenarioValue) (dev : ℕ) (t : TargetDef) → FitsBus s → target_def_of s dev ≡ Some t → IsTargetLine s t × (t.dev ≡ dev)
 target_fits s dev t f e =
-    (found_holds (IsTargetLine s) (λ (x : TargetDef). x.dev == dev) s.targets t f.targets e, same_number t.dev dev (found_passes (λ (x : TargetDef). x.dev == dev) s.targets t e))
+    (found_holds (IsTargetLine s) (λ (x : TargetDef). x.dev == dev) s.targets t f.targets e, eqb-true t.dev dev (found_passes (λ (x : TargetDef). x.dev == dev) s.targets t e))
 
 pub unit_fits : (s : ScenarioValue) (target unit : ℕ) (u : UnitDef) → FitsBus s → unit_of s target unit ≡ Some u → IsUnitLine s u × (u.target ≡ target) × (u.unit ≡ unit)
 unit_fits s target unit u f e =
-    let both = and_true (u.target == target) (u.unit == unit) (found_passes (λ (x : UnitDef). x.target == target && x.unit == unit) s.units u e) in
-    (found_holds (IsUnitLine s) (λ (x : UnitDef). x.target == target && x.unit == unit) s.units u f.units e, same_number u.target target both.0, same_number u.unit unit both.1)
+    let both = and_parts (u.target == target) (u.unit == unit) (found_passes (λ (x : UnitDef). x.target == target && x.unit == unit) s.units u e) in
+    (found_holds (IsUnitLine s) (λ (x : UnitDef). x.target == target && x.unit == unit) s.units u f.units e, eqb-true u.target target both.0, eqb-true u.unit unit both.1)
 
 -- ---- its processes
 

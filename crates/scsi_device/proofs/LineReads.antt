@@ -20,7 +20,8 @@ use Rattle.scenario.specs.Forms.{Said, CmdSaid, initiator_line, target_line, uni
 use Rattle.scenario.specs.Reasons.{is_block_in}
 use Rattle.scenario.specs.Reading.{guard, found, is_block_of, fill_def, within, in_8, period_in, policy_in, time_in, tag_in, what_in, size_in, is_size, is_block, are_ends, is_payload, has_room, has_abort_room, host_def, target_def, unit_def, cmd_def, full_cmd_def, abort_def, reset_def, fault_def}
 use Rattle.scenario.proofs.Steps.{bind_ok, ok_is, guard_ok, within_ok}
-use Rattle.scsi_device.proofs.Finds.{not_true, none_is}
+use Rattle.scsi_device.proofs.Finds.{none_is}
+use Rattle.std.proofs.lemmas.Bool.{not-true}
 
 -- ---- what is said of a line alone
 
@@ -106,7 +107,7 @@ host_read s (initiator_line f) h e =
     let w4 = within_of f.retries 0 16 b4.0 b4.1 in
     let w7 = within_of f.lag 0 10000 b7.0 b7.1 in
     subst (λ (x : HostDef). IsHostWithin x × (has_device s x.dev ≡ false)) (ok_is _ h b8.2)
-    (record { below = let w = w1.1 in omega arith; latency = w2.1; lag = w7.1; most = w3.1; few = w4.1 }, not_true (has_device s b1.0) (guard_ok 5 _ b8.0 b8.1))
+    (record { below = let w = w1.1 in omega arith; latency = w2.1; lag = w7.1; most = w3.1; few = w4.1 }, not-true (has_device s b1.0) (guard_ok 5 _ b8.0 b8.1))
 host_read s _ h e = absurd cc
 
 abbrev pub target_by : ScenarioValue → Said → Result TargetDef ℕ
@@ -129,7 +130,7 @@ target_read s (target_line f) t e =
     let w3 = within_of f.retries 0 16 b3.0 b3.1 in
     let w5 = within_of f.seek 0 1000000000 b5.0 b5.1 in
     subst (λ (x : TargetDef). IsTargetWithin x × (has_device s x.dev ≡ false)) (ok_is _ t b8.2)
-    (record { below = let w = w1.1 in omega arith; latency = w2.1; few = w3.1; seek = w5.1 }, not_true (has_device s b1.0) (guard_ok 5 _ b8.0 b8.1))
+    (record { below = let w = w1.1 in omega arith; latency = w2.1; few = w3.1; seek = w5.1 }, not-true (has_device s b1.0) (guard_ok 5 _ b8.0 b8.1))
 target_read s _ t e = absurd cc
 
 -- A unit is new, and its target is known.
@@ -168,7 +169,7 @@ unit_read s (unit_line f) u e =
         some_depth = w5.0;
         most_depth = w5.1;
       };
-      new = none_is (unit_of s b1.0 b2.0) (not_true _ (guard_ok 5 _ b6.0 b6.1));
+      new = none_is (unit_of s b1.0 b2.0) (not-true _ (guard_ok 5 _ b6.0 b6.1));
       known = guard_ok 6 _ b7.0 b7.1;
     })
 unit_read s _ u e = absurd cc

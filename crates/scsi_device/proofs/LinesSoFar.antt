@@ -16,8 +16,10 @@ use Rattle.scenario.specs.Lookups.{has_host, has_target, has_device}
 use Rattle.scenario.specs.Needs.{need_of, sent_of}
 use Rattle.scenario.specs.Reasons.{is_block_in}
 use Rattle.scenario.specs.Reading.{is_payload, has_room, has_abort_room, in_order}
-use Rattle.scsi_device.proofs.Finds.{not_true, or_false, and_true, same_number, number_is, all_more, all_are, all_of_none, find_kept, find_new, find_not, find_none, find_rest}
+use Rattle.scsi_device.proofs.Finds.{all_more, all_are, all_of_none, find_kept, find_new, find_not, find_none, find_rest}
 use Rattle.scsi_device.proofs.LineReads.{IsHostWithin, IsTargetWithin, IsUnitWithin, IsCommandWithin, IsAbortWithin, IsUnitRead, IsFullCommandRead, IsAbortRead}
+use Rattle.std.proofs.lemmas.Bool.{not-true, eqb-true, and_parts, or_parts}
+use Rattle.bus_base.proofs.Tests.{eq_self}
 
 -- ---- lines beside others
 
@@ -99,13 +101,13 @@ still s r q a le = record { targets = λ z. a.targets (omega arith); units = λ 
 pub with_host : (s : ScenarioValue) (h : HostDef) → AreFit s → AreLater 2 s → IsHostWithin h × (has_device s h.dev ≡ false) → AreFit (record s { hosts = s.hosts ++ h ∷ [] })
 unfolding need_of sent_of
 with_host s h a l r =
-    let new = or_false (has_host s h.dev) (has_target s h.dev) r.1 in
+    let new = or_parts (has_host s h.dev) (has_target s h.dev) r.1 in
     let hs : List HostDef = s.hosts ++ h ∷ [] in
     record {
       hosts = all_more IsHostWithin s.hosts h a.hosts r.0;
       hosts_once = all_more (λ (g : HostDef). host_at hs g.dev ≡ Some g) s.hosts h
           (all_are (λ (g : HostDef). host_at s.hosts g.dev ≡ Some g) (λ (g : HostDef). host_at hs g.dev ≡ Some g) s.hosts (λ g e. find_kept (λ (x : HostDef). x.dev == g.dev) s.hosts h g e) a.hosts_once)
-          (find_new (λ (x : HostDef). x.dev == h.dev) s.hosts h (find_none (λ (x : HostDef). x.dev == h.dev) s.hosts new.0) (number_is h.dev));
+          (find_new (λ (x : HostDef). x.dev == h.dev) s.hosts h (find_none (λ (x : HostDef). x.dev == h.dev) s.hosts new.0) (eq_self h.dev));
       targets = all_of_none (IsTargetFit hs) s.targets (l.targets (omega arith));
       targets_once = a.targets_once;
       units = all_of_none (IsUnitFit hs) s.units (l.units (omega arith));
@@ -123,7 +125,7 @@ with_host s h a l r =
 -- A target comes before commands.
 pub with_target : (s : ScenarioValue) (t : TargetDef) → AreFit s → AreLater 3 s → IsTargetWithin t × (has_device s t.dev ≡ false) → AreFit (record s { targets = s.targets ++ t ∷ [] })
 with_target s t a l r =
-    let new = or_false (has_host s t.dev) (has_target s t.dev) r.1 in
+    let new = or_parts (has_host s t.dev) (has_target s t.dev) r.1 in
     let ts : List TargetDef = s.targets ++ t ∷ [] in
     let z : ScenarioValue = record s { targets = ts } in
     record {
@@ -132,7 +134,7 @@ with_target s t a l r =
       targets = all_more (IsTargetFit s.hosts) s.targets t a.targets (record { limits = r.0; no_host = new.0 });
       targets_once = all_more (λ (g : TargetDef). target_at ts g.dev ≡ Some g) s.targets t
           (all_are (λ (g : TargetDef). target_at s.targets g.dev ≡ Some g) (λ (g : TargetDef). target_at ts g.dev ≡ Some g) s.targets (λ g e. find_kept (λ (x : TargetDef). x.dev == g.dev) s.targets t g e) a.targets_once)
-          (find_new (λ (x : TargetDef). x.dev == t.dev) s.targets t (find_none (λ (x : TargetDef). x.dev == t.dev) s.targets new.1) (number_is t.dev));
+          (find_new (λ (x : TargetDef). x.dev == t.dev) s.targets t (find_none (λ (x : TargetDef). x.dev == t.dev) s.targets new.1) (eq_self t.dev));
       units = a.units;
       units_once = a.units_once;
       units_apart = a.units_apart;
@@ -151,7 +153,7 @@ of_target hosts [] dev a e = absurd cc
 of_target hosts (t ∷ targets) dev a e = go (t.dev == dev) refl (λ z. of_target hosts targets dev a.1 z) e
   where
     go : (q : Bool) → (t.dev == dev) ≡ q → (list_any (λ (x : TargetDef). x.dev == dev) targets ≡ true → is_initiator hosts dev ≡ false) → (q || list_any (λ (x : TargetDef). x.dev == dev) targets) ≡ true → is_initiator hosts dev ≡ false
-    go true is more z = subst (λ (d : ℕ). is_initiator hosts d ≡ false) (same_number t.dev dev is) (a.0).no_host
+    go true is more z = subst (λ (d : ℕ). is_initiator hosts d ≡ false) (eqb-true t.dev dev is) (a.0).no_host
     go false is more z = more z
 
 other_way : (a b c d : ℕ) → (a == b && c == d) ≡ false → (b == a && d == c) ≡ false
@@ -191,7 +193,7 @@ with_unit s u a l r =
     }
 
 ends_are : (q r : Bool) → (q && not r) ≡ true → (q ≡ true) × (r ≡ false)
-ends_are q r e = let w = and_true q (not r) e in (w.0, not_true r w.1)
+ends_are q r e = let w = and_parts q (not r) e in (w.0, not-true r w.1)
 
 one_more : {X : Type 0} (xs : List X) (x : X) (n : ℕ) → length xs < n → length (xs ++ x ∷ []) ≤ n
 one_more xs x n lt = let w = length-append xs (x ∷ []) in omega arith

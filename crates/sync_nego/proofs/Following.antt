@@ -14,11 +14,9 @@ use Rattle.bus_phases.specs.declared.dialogue.Dialogue.{Dialogue}
 use Rattle.bus_phases.specs.Dialogue.{asynchronous, nothing_spoken, is_same_end, is_of_other, spoken_with_word, spoken_with_offer, spoken_with_reject, heard_with_out, heard_before_in, heard_with_in, heard_with_command, spoken_with_byte}
 use Rattle.sync_nego.specs.Negotiation.{Negotiation}
 use Rattle.sync_nego.specs.Exchange.{Turn, connects, begins_phase, begins_anew, to_target, begins_message, to_initiator, in_command, resets, told, Count, connected, said, carried, reset, with_byte, Counted, or_now, counted, Side, voids, says_offer, hears_offer, says_reject, hears_reject, side_says, side_hears, side_after, side_by, side}
+use Rattle.bus_trace.proofs.SameAgreement.{itself}
 
 -- ---- the same agreement
-
-same_again : (a : Agreement) → same_agreement a a ≡ true
-same_again a = grind (arith, nat_tests)
 
 same_of_third : (a b c : Agreement) → same_agreement a c ≡ true → same_agreement b c ≡ true → same_agreement a b ≡ true
 same_of_third a b c x y = grind (arith, nat_tests)
@@ -90,25 +88,25 @@ flagged end o p n = record { nego = n; asks = is_own o end; is_asked = is_of_oth
 abbrev spoken : Agreement → Option End → Option End → CommandBytes → Bool → Spoken
 spoken b o p k r = record { agreement = b; offer = o; answered = p; command = k; device_reset = r }
 
-record Follows (end : End) (s : Spoken) (x : Side) : Type 0 where
+pub record Follows (end : End) (s : Spoken) (x : Side) : Type 0 where
   flags : x ≡ flagged end s.offer s.answered x.nego
   agrees : same_agreement x.nego.agreed s.agreement ≡ true
 
 says_offers : (end : End) (o p : Option End) (a b : Agreement) (k : CommandBytes) (r : Bool) (n : Negotiation) → same_agreement n.agreed b ≡ true → Follows end (spoken_with_offer (spoken b o p k r) end a) (says_offer (flagged end o p n) a)
 says_offers ends.Initiator None p a b k r n h = record { flags = refl; agrees = h }
 says_offers ends.Initiator (Some ends.Initiator) p a b k r n h = record { flags = refl; agrees = h }
-says_offers ends.Initiator (Some ends.Target) p a b k r n h = record { flags = refl; agrees = same_again a }
+says_offers ends.Initiator (Some ends.Target) p a b k r n h = record { flags = refl; agrees = itself a }
 says_offers ends.Target None p a b k r n h = record { flags = refl; agrees = h }
-says_offers ends.Target (Some ends.Initiator) p a b k r n h = record { flags = refl; agrees = same_again a }
+says_offers ends.Target (Some ends.Initiator) p a b k r n h = record { flags = refl; agrees = itself a }
 says_offers ends.Target (Some ends.Target) p a b k r n h = record { flags = refl; agrees = h }
 
 hears_offers : (end : End) (o p : Option End) (a b : Agreement) (k : CommandBytes) (r : Bool) (n : Negotiation) → same_agreement n.agreed b ≡ true → Follows end (spoken_with_offer (spoken b o p k r) (other end) a) (hears_offer (flagged end o p n) a)
 hears_offers ends.Initiator None p a b k r n h = record { flags = refl; agrees = h }
-hears_offers ends.Initiator (Some ends.Initiator) p a b k r n h = record { flags = refl; agrees = same_again a }
+hears_offers ends.Initiator (Some ends.Initiator) p a b k r n h = record { flags = refl; agrees = itself a }
 hears_offers ends.Initiator (Some ends.Target) p a b k r n h = record { flags = refl; agrees = h }
 hears_offers ends.Target None p a b k r n h = record { flags = refl; agrees = h }
 hears_offers ends.Target (Some ends.Initiator) p a b k r n h = record { flags = refl; agrees = h }
-hears_offers ends.Target (Some ends.Target) p a b k r n h = record { flags = refl; agrees = same_again a }
+hears_offers ends.Target (Some ends.Target) p a b k r n h = record { flags = refl; agrees = itself a }
 
 says_rejects : (end : End) (o p : Option End) (b : Agreement) (k : CommandBytes) (r : Bool) (n : Negotiation) → same_agreement n.agreed b ≡ true → Follows end (spoken_with_reject (spoken b o p k r) end) (says_reject (flagged end o p n))
 says_rejects ends.Initiator None None b k r n h = record { flags = refl; agrees = h }
@@ -155,7 +153,7 @@ passed renews end o p words.DeviceReset b k r n h = record { flags = refl; agree
 passed renews end o p words.ParityError b k r n h = record { flags = refl; agrees = h }
 passed renews end o p words.Other b k r n h = record { flags = refl; agrees = h }
 
-heard : (renews : Bool) (end : End) (o p : Option End) (w : Word) (b : Agreement) (k : CommandBytes) (r : Bool) (n : Negotiation) → same_agreement n.agreed b ≡ true
+pub heard : (renews : Bool) (end : End) (o p : Option End) (w : Word) (b : Agreement) (k : CommandBytes) (r : Bool) (n : Negotiation) → same_agreement n.agreed b ≡ true
     → Follows end (spoken_with_word (spoken b o p k r) (other end) w) (side_hears renews (flagged end o p n) w)
 heard renews end o p (words.Offer a) b k r n h = hears_offers end o p a b k r n h
 heard renews end o p words.Reject b k r n h = hears_rejects end o p b k r n h

@@ -30,7 +30,7 @@ last_chosen waiting none = ap (λ (h : Option ℕ). picked_place picks.Last (run
 
 -- ---- one is chosen
 
-some_none : {A : Type 0} (x : A) → Some x ≡ None → ⊥
+pub some_none : {A : Type 0} (x : A) → Some x ≡ None → ⊥
 some_none x e = cc
 
 key_there : (waiting : List Queued) (place : ℕ) → place < length waiting → key_at waiting place ≡ None → ⊥

@@ -1,7 +1,7 @@
 -- The commands of one initiator leave one after the other.
 use Rattle.std.proofs.Common.{◌≡◌, ℕ, Bool, true, false, List, [], ◌∷◌, Option, Some, None, refl, ap, sym, subst, ◌∙◌, eq-eqb}
 use Rattle.std.specs.Prelude.{◌==◌, is_some, if◌then◌else◌}
-use Rattle.std.proofs.lemmas.Bool.{eqb-true}
+use Rattle.std.proofs.lemmas.Bool.{eqb-true, true≢false}
 use Rattle.slab.specs.Slab.{Slab, get}
 use Rattle.disk_array.specs.declared.entries.Entry.{Entry}
 use Rattle.tag_queue.specs.declared.those.Those.{Those}
@@ -9,7 +9,8 @@ use Rattle.tag_queue.specs.declared.arrivals.Arrival.{Arrival}
 use Rattle.tag_queue.specs.Queue.{Queued, QueueState, queue_without, queue_cleared_of, current_without, current_among, has_key, without_key, is_of, has_any, without_those_of}
 use Rattle.tag_queue.specs.Stored.{queued_if, queued_at, is_out, before_with, AreKept, IsAmong, AreOf, first_of}
 use Rattle.tag_queue.proofs.Scans.{some_same}
-use Rattle.tag_queue.proofs.Sound.{has_key_queued}
+use Rattle.tag_queue.proofs.Sound.{has_key_queued, none_some}
+use Rattle.tag_queue.proofs.Chosen.{some_none}
 
 pub are_of : (s : Slab Entry) (leaving current : Option ℕ) (who : Those) (key : ℕ) (p : Entry) (xs : List Arrival) (before : List Entry) → AreKept s leaving current before xs → get s key ≡ Some p → is_of who p ≡ true
     → AreOf who key (queued_at s xs)
@@ -31,15 +32,12 @@ without_first who key (q ∷ queued) theirs = go (q.key == key) refl (without_fi
 
 -- ---- the current one
 
-true_false : true ≡ false → ⊥
-true_false e = cc
-
 no_key_without : (who : Those) (key : ℕ) (queued : List Queued) → AreOf who key queued → has_key (without_those_of who queued) key ≡ false
 no_key_without who key [] theirs = refl
 no_key_without who key (q ∷ queued) theirs = go (is_of who q.entry) refl (no_key_without who key queued theirs.1)
   where
     at : (b : Bool) → (q.key == key) ≡ b → is_of who q.entry ≡ false → has_key (without_those_of who queued) key ≡ false → (if b then true else has_key (without_those_of who queued) key) ≡ false
-    at true same kept rest = absurd (true_false (sym (theirs.0 same) ∙ kept))
+    at true same kept rest = absurd (true≢false (sym (theirs.0 same) ∙ kept))
     at false other kept rest = rest
 
     go : (b : Bool) → is_of who q.entry ≡ b → has_key (without_those_of who queued) key ≡ false → has_key (if b then without_those_of who queued else q ∷ without_those_of who queued) key ≡ false
@@ -57,9 +55,6 @@ current_first who (Some c) key queued theirs = go (key == c) refl
 
 -- ---- where none is left
 
-none_some : {A : Type 0} (x : A) → None ≡ Some x → ⊥
-none_some x e = cc
-
 pub all_stay : (who : Those) (queued : List Queued) → first_of queued who ≡ None → without_those_of who queued ≡ queued
 all_stay who [] none = refl
 all_stay who (q ∷ queued) none = go (is_of who q.entry) none (all_stay who queued)
@@ -74,9 +69,6 @@ current_stays s xs leaving now None before kept live = refl
 current_stays s xs leaving now (Some c) before kept live = ap (λ (b : Bool). if b then Some c else None) (has_key_queued s c leaving now xs before kept ∙ live)
 
 -- ---- where there is a first one
-
-some_none : {A : Type 0} (x : A) → Some x ≡ None → ⊥
-some_none x e = cc
 
 pub first_live : (queued : List Queued) (who : Those) (key : ℕ) → first_of queued who ≡ Some key → has_key queued key ≡ true
 first_live [] who key found = absurd (none_some key found)

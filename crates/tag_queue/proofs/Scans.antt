@@ -8,6 +8,7 @@ use Rattle.slab.specs.Slab.{Slab, get}
 use Rattle.tag_queue.specs.declared.arrivals.Arrival.{Arrival}
 use Rattle.tag_queue.specs.Queue.{Queued, key_at, is_current, waiting_in, entries_in, place_of}
 use Rattle.tag_queue.specs.Stored.{queued_if, queued_at, waiting_at, entries_at, held_back_by, IsCounted, before_with, AreKept}
+use Rattle.bus_base.proofs.Tests.{or_false, next_some}
 
 abbrev pub last_or : Option ℕ → List ℕ → Option ℕ
 last_or found [] = found
@@ -25,10 +26,6 @@ pub key_at_later : (q : Queued) (waiting : List Queued) (place : ℕ) → place 
 key_at_later q waiting zero some = absurd (some refl)
 key_at_later q waiting (suc place) some = ap (key_at waiting) (omega arith)
 
-or_false : (b : Bool) → (b || false) ≡ b
-or_false true = refl
-or_false false = refl
-
 or_later : (a b c : Bool) → (a || (b || c)) ≡ ((a || b) || c)
 or_later true b c = refl
 or_later false b c = refl
@@ -36,9 +33,6 @@ or_later false b c = refl
 pub has_ordered_more : (before : List Entry) (p : Entry) → has_ordered (before ++ p ∷ []) ≡ (has_ordered before || is_ordered p.class)
 has_ordered_more [] p = or_false (is_ordered p.class)
 has_ordered_more (q ∷ before) p = ap (λ (b : Bool). is_ordered q.class || b) (has_ordered_more before p) ∙ or_later (is_ordered q.class) (has_ordered before) (is_ordered p.class)
-
-not_0 : (n : ℕ) → (n + 1 == 0) ≡ false
-not_0 n = search rules
 
 none_before : (before : List Entry) → has_none_before before ≡ (length before == 0)
 none_before [] = refl
@@ -49,7 +43,7 @@ none_holds_back [] p = refl
 none_holds_back (q ∷ before) p = go (holds_back q p) (none_holds_back before p)
   where
     go : (b : Bool) → (held_back_by before p == 0) ≡ not (is_held_back before p) → ((if b then held_back_by before p + 1 else held_back_by before p) == 0) ≡ not (b || is_held_back before p)
-    go true rest = not_0 (held_back_by before p)
+    go true rest = next_some (held_back_by before p)
     go false rest = rest
 
 pub may_run_after_by : (before : List Entry) (p : Entry) (place earlier : ℕ) (ordered : Bool) → place ≡ length before → ordered ≡ has_ordered before

@@ -3,7 +3,7 @@ use Rattle.std.proofs.Common.{◌≡◌, ◌≢◌, ◌<◌, ◌≤◌, ℕ, ◌
 use Rattle.std.proofs.lemmas.Grind.{common_steps}
 use Rattle.std.specs.Prelude.{◌==◌, if◌then◌else◌}
 use Rattle.std.specs.List.{filter}
-use Rattle.std.proofs.lemmas.Bool.{eqb-true}
+use Rattle.std.proofs.lemmas.Bool.{eqb-true, ne_eqb, true≢false}
 use Rattle.std.proofs.lemmas.List.{append-nil, length-append}
 use Rattle.slab.specs.Slab.{Slab, get, slab_len, Updates}
 use Rattle.disk_array.specs.declared.entries.Entry.{Entry}
@@ -12,24 +12,15 @@ use Rattle.tag_queue.specs.declared.arrivals.Arrival.{Arrival}
 use Rattle.tag_queue.specs.Queue.{Queued, is_current, waiting_in, entries_in, without_key, has_key, entry_at}
 use Rattle.tag_queue.specs.Stored.{queued_if, queued_at, entries_at, held_back_by, is_out, IsCounted, before_with, AreKept, is_among, AreApart, IsAmong, IsSound, lowered, lowered_if, lowered_by}
 use Rattle.tag_queue.proofs.Scans.{some_same, waits_first, passes_current}
+use Rattle.bus_base.proofs.Tests.{or_false}
 
 -- ---- keys
 
-none_some : {A : Type 0} (x : A) → None ≡ Some x → ⊥
+pub none_some : {A : Type 0} (x : A) → None ≡ Some x → ⊥
 none_some x e = cc
 
-true_false : true ≡ false → ⊥
-true_false e = cc
-
 pub differ : (a b : ℕ) → (a == b) ≡ false → a ≢ b
-differ a b other same = true_false (sym (eq-eqb a b same) ∙ other)
-
-pub unequal : (a b : ℕ) → a ≢ b → (a == b) ≡ false
-unequal a b other = go (a == b) refl
-  where
-    go : (r : Bool) → (a == b) ≡ r → r ≡ false
-    go false e = refl
-    go true e = absurd (other (eqb-true a b e))
+differ a b other same = true≢false (sym (eq-eqb a b same) ∙ other)
 
 abbrev pub Others : Slab Entry → Slab Entry → ℕ → Type 0
 Others s t key = (other : ℕ) → other ≢ key → get t other ≡ get s other
@@ -41,7 +32,7 @@ pub among_cons : (a : Arrival) (xs : List Arrival) (key : ℕ) → is_among (a �
 among_cons a xs key fresh = go (a.key == key) refl fresh
   where
     go : (b : Bool) → (a.key == key) ≡ b → (if b then true else is_among xs key) ≡ false → (a.key ≢ key) × (is_among xs key ≡ false)
-    go true same e = absurd (true_false e)
+    go true same e = absurd (true≢false e)
     go false other e = (differ a.key key other, e)
 
 -- A key with no entry is the key of no arrival.
@@ -75,7 +66,7 @@ current_other xs (Some c) key live fresh = go (key == c) refl
   where
     go : (b : Bool) → (key == c) ≡ b → b ≡ false
     go false e = refl
-    go true e = absurd (true_false (sym live ∙ sym (ap (is_among xs) (eqb-true key c e)) ∙ fresh))
+    go true e = absurd (true≢false (sym live ∙ sym (ap (is_among xs) (eqb-true key c e)) ∙ fresh))
 
 -- ---- a command arrives
 
@@ -97,10 +88,10 @@ kept_push s current (x ∷ xs) before a p kept found waits counted = (
 )
 
 among_push_other : (xs : List Arrival) (a : Arrival) (key : ℕ) → is_among xs key ≡ false → a.key ≢ key → is_among (xs ++ a ∷ []) key ≡ false
-among_push_other [] a key fresh other = ap (λ (b : Bool). if b then true else false) (unequal a.key key other)
+among_push_other [] a key fresh other = ap (λ (b : Bool). if b then true else false) (ne_eqb a.key key other)
 among_push_other (x ∷ xs) a key fresh other =
     let parts = among_cons x xs key fresh in
-    ap (λ (b : Bool). if b then true else is_among (xs ++ a ∷ []) key) (unequal x.key key parts.0) ∙ among_push_other xs a key parts.1 other
+    ap (λ (b : Bool). if b then true else is_among (xs ++ a ∷ []) key) (ne_eqb x.key key parts.0) ∙ among_push_other xs a key parts.1 other
 
 apart_push : (xs : List Arrival) (a : Arrival) → AreApart xs → is_among xs a.key ≡ false → AreApart (xs ++ a ∷ [])
 apart_push [] a apart fresh = (refl, tt)
@@ -109,7 +100,7 @@ apart_push (x ∷ xs) a apart fresh =
     (among_push_other xs a x.key apart.0 (λ same. parts.0 (sym same)), apart_push xs a apart.1 parts.1)
 
 among_push : (xs : List Arrival) (a : Arrival) (key : ℕ) → is_among xs key ≡ true → is_among (xs ++ a ∷ []) key ≡ true
-among_push [] a key live = absurd (true_false (sym live))
+among_push [] a key live = absurd (true≢false (sym live))
 among_push (x ∷ xs) a key live = go (x.key == key) live (among_push xs a key)
   where
     go : (b : Bool) → (if b then true else is_among xs key) ≡ true → (is_among xs key ≡ true → is_among (xs ++ a ∷ []) key ≡ true) → (if b then true else is_among (xs ++ a ∷ []) key) ≡ true
@@ -204,7 +195,7 @@ kept_after s current key leaving (a ∷ xs) b1 b2 kept fresh =
     let same : new.key ≡ a.key = lowered_if_key true leaving (get s a.key) a in
     let is_new : new ≡ lowered_by (holds_back leaving kept.0) a = ap (λ (slot : Option Entry). lowered_if true leaving slot a) kept.1 in
     let out : is_out (Some key) current new.key ≡ is_current current a.key =
-    (λ i. (same i == key) || is_current current (same i)) ∙ ap (λ (b : Bool). b || is_current current a.key) (unequal a.key key parts.0) in
+    (λ i. (same i == key) || is_current current (same i)) ∙ ap (λ (b : Bool). b || is_current current a.key) (ne_eqb a.key key parts.0) in
     let lower : a.earlier ≡ held_back_by (b1 ++ leaving ∷ b2) kept.0 → new.earlier ≡ held_back_by (b1 ++ b2) kept.0 =
     λ counted. ap (λ (b : Arrival). b.earlier) is_new ∙ lowered_counts b1 b2 leaving kept.0 a counted in (
       kept.0,
@@ -268,10 +259,6 @@ kept_out s l1 c1 l2 c2 same (a ∷ xs) before kept = (
   subst (λ (b : Bool). AreKept s l2 c2 (before_with b before kept.0) xs) (same a.key) (kept_out s l1 c1 l2 c2 same xs (before_with (is_out l1 c1 a.key) before kept.0) kept.3),
 )
 
-or_false : (b : Bool) → (b || false) ≡ b
-or_false true = refl
-or_false false = refl
-
 pub start_sound : (s : Slab Entry) (xs : List Arrival) (depth room : ℕ) (key : ℕ) (leaving : Entry) → IsSound s xs None depth room → get s key ≡ Some leaving → is_among xs key ≡ true
     → IsSound s (lowered s leaving key false xs) (Some key) depth room
 start_sound s xs depth room key leaving sound found live = record {
@@ -293,7 +280,7 @@ among_without key other (a ∷ xs) apart = go (a.key == key) refl (among_without
     go : (b : Bool) → (a.key == key) ≡ b → is_among (filter (λ x. keeps x key) xs) other ≡ is_among xs other
         → is_among (cond (not b) (a ∷ filter (λ x. keeps x key) xs) (filter (λ x. keeps x key) xs)) other ≡ (if a.key == other then true else is_among xs other)
     go false differs rest = ap (λ (r : Bool). if a.key == other then true else r) rest
-    go true same rest = rest ∙ sym (ap (λ (r : Bool). if r then true else is_among xs other) (unequal a.key other (λ e. apart (sym e ∙ eqb-true a.key key same))))
+    go true same rest = rest ∙ sym (ap (λ (r : Bool). if r then true else is_among xs other) (ne_eqb a.key other (λ e. apart (sym e ∙ eqb-true a.key key same))))
 
 apart_without : (key : ℕ) (xs : List Arrival) → AreApart xs → AreApart (filter (λ a. keeps a key) xs)
 apart_without key [] apart = tt
@@ -307,10 +294,10 @@ all_without : (key : ℕ) (xs : List Arrival) → is_among xs key ≡ false → 
 all_without key [] fresh = refl
 all_without key (a ∷ xs) fresh =
     let parts = among_cons a xs key fresh in
-    ap (λ (b : Bool). cond (not b) (a ∷ filter (λ x. keeps x key) xs) (filter (λ x. keeps x key) xs)) (unequal a.key key parts.0) ∙ ap (λ (rest : List Arrival). a ∷ rest) (all_without key xs parts.1)
+    ap (λ (b : Bool). cond (not b) (a ∷ filter (λ x. keeps x key) xs) (filter (λ x. keeps x key) xs)) (ne_eqb a.key key parts.0) ∙ ap (λ (rest : List Arrival). a ∷ rest) (all_without key xs parts.1)
 
 length_without : (key : ℕ) (xs : List Arrival) → AreApart xs → is_among xs key ≡ true → length (filter (λ a. keeps a key) xs) + 1 ≡ length xs
-length_without key [] apart live = absurd (true_false (sym live))
+length_without key [] apart live = absurd (true≢false (sym live))
 length_without key (a ∷ xs) apart live = go (a.key == key) refl live (length_without key xs apart.1)
   where
     go : (b : Bool) → (a.key == key) ≡ b → (if b then true else is_among xs key) ≡ true → (is_among xs key ≡ true → length (filter (λ x. keeps x key) xs) + 1 ≡ length xs)
@@ -385,7 +372,7 @@ has_key_queued s key leaving current (a ∷ xs) before kept =
 
 pub entry_queued : (s : Slab Entry) (key : ℕ) (leaving current : Option ℕ) (xs : List Arrival) (before : List Entry) → AreKept s leaving current before xs → is_among xs key ≡ true
     → entry_at (queued_at s xs) key ≡ get s key
-entry_queued s key leaving current [] before kept live = absurd (true_false (sym live))
+entry_queued s key leaving current [] before kept live = absurd (true≢false (sym live))
 entry_queued s key leaving current (a ∷ xs) before kept live =
     ap (λ (slot : Option Entry). entry_at (queued_if a.key slot (queued_at s xs)) key) kept.1
     ∙ go (a.key == key) refl kept.0 kept.1 live (entry_queued s key leaving current xs (before_with (is_out leaving current a.key) before kept.0) kept.3)
@@ -397,7 +384,7 @@ entry_queued s key leaving current (a ∷ xs) before kept live =
 
 pub live_entry : (s : Slab Entry) (key : ℕ) (leaving current : Option ℕ) (xs : List Arrival) (before : List Entry) → AreKept s leaving current before xs → is_among xs key ≡ true
     → (p : Entry) × (get s key ≡ Some p)
-live_entry s key leaving current [] before kept live = absurd (true_false (sym live))
+live_entry s key leaving current [] before kept live = absurd (true≢false (sym live))
 live_entry s key leaving current (a ∷ xs) before kept live =
     go (a.key == key) refl kept.0 kept.1 live (live_entry s key leaving current xs (before_with (is_out leaving current a.key) before kept.0) kept.3)
   where

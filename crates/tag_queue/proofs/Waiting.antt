@@ -1,9 +1,9 @@
 -- What each call does to the waiting commands.
 use Rattle.std.proofs.Common.{◌≡◌, ◌≢◌, ℕ, Bool, true, false, List, [], ◌∷◌, ◌++◌, Option, Some, None, refl, ap, sym, ◌∙◌}
 use Rattle.std.specs.Prelude.{◌==◌, if◌then◌else◌}
-use Rattle.std.proofs.lemmas.Bool.{eqb-true}
+use Rattle.std.proofs.lemmas.Bool.{eqb-true, ne_eqb}
 use Rattle.tag_queue.specs.Queue.{Queued, is_current, current_without, waiting_in, without_key}
-use Rattle.tag_queue.proofs.Sound.{unequal, differ}
+use Rattle.tag_queue.proofs.Sound.{differ}
 
 pub waiting_push : (current : Option ℕ) (arrived : List Queued) (q : Queued) → is_current current q.key ≡ false → waiting_in current (arrived ++ q ∷ []) ≡ waiting_in current arrived ++ q ∷ []
 waiting_push current [] q waits = ap (λ (b : Bool). if b then [] else q ∷ []) waits
@@ -23,7 +23,7 @@ other_current (Some c) key other apart = go (key == c) refl
   where
     go : (b : Bool) → (key == c) ≡ b → is_current (if b then None else Some c) other ≡ (other == c)
     go false differs = refl
-    go true same = sym (unequal other c (λ e. apart (e ∙ sym (eqb-true key c same))))
+    go true same = sym (ne_eqb other c (λ e. apart (e ∙ sym (eqb-true key c same))))
 
 pub waiting_without : (current : Option ℕ) (arrived : List Queued) (key : ℕ) → waiting_in (current_without current key) (without_key arrived key) ≡ without_key (waiting_in current arrived) key
 waiting_without current [] key = refl

@@ -66,7 +66,7 @@ with_same f g leaves phase plan x y h e = (λ i. with_task (h.one_is i) f) ∙ e
 abbrev serves : Option TargetDef → Plan → Option Task → List ℕ → Arrival → Serving
 serves def plan task given arrival = record { def = def; plan = plan; task = task; given = given; arrival = arrival }
 
-abbrev renegotiated : Plan → Bool → Plan
+abbrev pub renegotiated : Plan → Bool → Plan
 renegotiated p x = record p { negotiates = x }
 
 record AreParts (leaves : Bool) (phase : Phase) (p : Plan) (x : Bool) (tv tw : Option Task) (av aw : Arrival) : Type 0 where

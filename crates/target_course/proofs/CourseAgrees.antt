@@ -1,7 +1,7 @@
 -- What a target decides by its course means the same as what the rows have it decide by.
 use Rattle.std.proofs.Common.{ℕ, ◌≡◌, ◌∙◌, ◌≤◌, ◌==◌, Bool, true, false, List, [], ◌∷◌, refl, sym, length, take, Option, Some, None, ◌⊎◌, inl, inr}
 use Rattle.std.specs.Prelude.{if◌then◌else◌, not, ◌&&◌, ◌||◌, nat_lt, is_some, is_none, min, slice_index}
-use Rattle.std.proofs.lemmas.Bool.{eqb-true, and_parts}
+use Rattle.std.proofs.lemmas.Bool.{eqb-true, and_parts, not-true}
 use Rattle.std.proofs.lemmas.List.{take_all, length-take}
 use native.Mathlib.Omega.{arith}
 use Rattle.bus_trace.specs.declared.Row.{Row}
@@ -54,14 +54,7 @@ use Rattle.scsi_device.specs.Heard.{Instructions, instructions, is_block, is_car
 use Rattle.target_course.specs.Agreeing.{arrives, IsSameCommand, HaveSameTask, AreAgreeing}
 use Rattle.target_course.specs.Courses.{CourseState, name_with, name_of, name_by, name_if, moved_by, status_known, status_if, task_by, serving_by, MOST_KEPT, IsTold, IsOfProcess, IsCourse, IsStateOf, IsOutlookOf, AreToldOf}
 use Rattle.target_course.specs.declared.course.ProcessState.{ProcessState}
-
-pub implied : (x y : Bool) → (not x || y) ≡ true → x ≡ true → y ≡ true
-implied true y e f = e
-implied false y e f = cc
-
-pub other : (x y : Bool) → (x || y) ≡ true → x ≡ false → y ≡ true
-other true y e f = cc
-other false y e f = e
+use Rattle.bus_base.proofs.Tests.{or_second, implied}
 
 pub either : (x y : Bool) → (x || y) ≡ true → (x ≡ true) ⊎ (y ≡ true)
 either true y e = inl refl
@@ -86,8 +79,8 @@ front_of s k n i e =
       said = implied (may_leave s k n) (is_true_leaving s k (process_served s k) (phase_of (bus_of k))) two.0;
       known = two.1;
       there = served.0;
-      serves = other (is_opening k) (is_some (process_served s k)) served.1;
-      heard = other (is_opening k) (is_heard_process s k n i (process_served s k) (phase_of (bus_of k))) last.1;
+      serves = or_second (is_opening k) (is_some (process_served s k)) served.1;
+      heard = or_second (is_opening k) (is_heard_process s k n i (process_served s k) (phase_of (bus_of k))) last.1;
     }
 
 pub front_heard : (s : ScenarioValue) (rows : List Row) (n : Connection) → IsPlain s rows (run_state s rows) → heard s rows ≡ true → connection rows ≡ Some n → (bus rows).rst ≡ false → IsFront s (run_state s rows) n (instructions s rows)
@@ -99,16 +92,12 @@ front_heard s (row ∷ rows) n p e c r =
     let i : Instructions = instructions s (row ∷ rows) in
     let last = and_parts (heard s rows) (is_heard_after s k next d i) e in
     let two = and_parts (is_heard_row s k next d) (is_heard s next d.next i) last.1 in
-    front_of s next n i (other (bus_of next).rst (is_heard_in s next n i) ((λ j. is_heard s next (sym (p.connection ∙ c) j) i) ∙ two.1) ((λ j. (p.bus j).rst) ∙ r))
+    front_of s next n i (or_second (bus_of next).rst (is_heard_in s next n i) ((λ j. is_heard s next (sym (p.connection ∙ c) j) i) ∙ two.1) ((λ j. (p.bus j).rst) ∙ r))
 
 -- The connection stood before the row, too.
 pub record IsTurn (s : ScenarioValue) (k : RunState) (m : Connection) (d : RowReading) : Type 0 where
   pub calm : d.change.before.rst ≡ false
   pub turn : changes_phase d.change ≡ true → is_true_turn s k m d ≡ true
-
-pub calm_in : (x : Bool) → not x ≡ true → x ≡ false
-calm_in true e = cc
-calm_in false e = refl
 
 pub turn_heard : (s : ScenarioValue) (rows : List Row) (row : Row) (m n : Connection) → IsPlain s rows (run_state s rows) → IsPlain s (row ∷ rows) (run_state s (row ∷ rows)) → heard s (row ∷ rows) ≡ true → connection rows ≡ Some m → connection (row ∷ rows) ≡ Some n → (bus (row ∷ rows)).rst ≡ false
     → IsTurn s (run_state s rows) m (row_reading (run_state s rows).story.bus_state row)
@@ -119,9 +108,9 @@ turn_heard s rows row m n p q e x y r =
     let i : Instructions = instructions s (row ∷ rows) in
     let last = and_parts (heard s rows) (is_heard_after s k next d i) e in
     let two = and_parts (is_heard_row s k next d) (is_heard s next d.next i) last.1 in
-    let on : is_heard_on s k next d (Some m) (Some n) ≡ true = (λ j. is_heard_on s k next d (sym (p.connection ∙ x) j) (sym (q.connection ∙ y) j)) ∙ other d.change.after.rst (is_heard_on s k next d k.story.bus_state.connection d.next) two.0 ((λ j. (q.bus j).rst) ∙ r) in
+    let on : is_heard_on s k next d (Some m) (Some n) ≡ true = (λ j. is_heard_on s k next d (sym (p.connection ∙ x) j) (sym (q.connection ∙ y) j)) ∙ or_second d.change.after.rst (is_heard_on s k next d k.story.bus_state.connection d.next) two.0 ((λ j. (q.bus j).rst) ∙ r) in
     let both = and_parts (not d.change.before.rst) (not (changes_phase d.change) || is_true_turn s k m d) on in
-    record { calm = calm_in d.change.before.rst both.0; turn = implied (changes_phase d.change) (is_true_turn s k m d) both.1 }
+    record { calm = not-true d.change.before.rst both.0; turn = implied (changes_phase d.change) (is_true_turn s k m d) both.1 }
 
 -- The connection ends with the row.
 pub end_heard : (s : ScenarioValue) (rows : List Row) (row : Row) (m : Connection) → IsPlain s rows (run_state s rows) → IsPlain s (row ∷ rows) (run_state s (row ∷ rows)) → heard s (row ∷ rows) ≡ true → connection rows ≡ Some m → connection (row ∷ rows) ≡ None → (bus (row ∷ rows)).rst ≡ false → (bus rows).rst ≡ false
@@ -133,20 +122,20 @@ end_heard s rows row m p q e x y r calm =
     let i : Instructions = instructions s (row ∷ rows) in
     let last = and_parts (heard s rows) (is_heard_after s k next d i) e in
     let two = and_parts (is_heard_row s k next d) (is_heard s next d.next i) last.1 in
-    let on : is_heard_on s k next d (Some m) None ≡ true = (λ j. is_heard_on s k next d (sym (p.connection ∙ x) j) (sym (q.connection ∙ y) j)) ∙ other d.change.after.rst (is_heard_on s k next d k.story.bus_state.connection d.next) two.0 ((λ j. (q.bus j).rst) ∙ r) in
-    let both = and_parts (may_leave s k m) (is_none (leaving s k m.target).to) (other d.change.before.rst (is_true_end s k m) on ((λ j. (p.bus j).rst) ∙ calm)) in
+    let on : is_heard_on s k next d (Some m) None ≡ true = (λ j. is_heard_on s k next d (sym (p.connection ∙ x) j) (sym (q.connection ∙ y) j)) ∙ or_second d.change.after.rst (is_heard_on s k next d k.story.bus_state.connection d.next) two.0 ((λ j. (q.bus j).rst) ∙ r) in
+    let both = and_parts (may_leave s k m) (is_none (leaving s k m.target).to) (or_second d.change.before.rst (is_true_end s k m) on ((λ j. (p.bus j).rst) ∙ calm)) in
     both.0
 
 -- ---- names and bytes
 
-tag_is : (a b : Tag) → same_tag a b ≡ true → a ≡ b
+pub tag_is : (a b : Tag) → same_tag a b ≡ true → a ≡ b
 tag_is tags.Untagged tags.Untagged e = refl
 tag_is (tags.Simple a) (tags.Simple b) e = λ i. tags.Simple (eqb-true a b e i)
 tag_is (tags.Ordered a) (tags.Ordered b) e = λ i. tags.Ordered (eqb-true a b e i)
 tag_is (tags.Head a) (tags.Head b) e = λ i. tags.Head (eqb-true a b e i)
 tag_is _ _ e = cc
 
-name_is : (o : Option Said) (p : Process) → is_name o p ≡ true → name_if o ≡ Some (name_of p)
+pub name_is : (o : Option Said) (p : Process) → is_name o p ≡ true → name_if o ≡ Some (name_of p)
 name_is None p e = cc
 name_is (Some said) p e =
     let last = and_parts (is_none said.aborts && is_unit said.unit p.unit) (same_tag said.tag p.tag) e in
@@ -170,12 +159,12 @@ bytes_are (x ∷ a) (y ∷ b) e =
 abbrev group_of : Bool → Bool → Option ℕ
 group_of six ten = if six then Some 6 else if ten then Some 10 else None
 
-short_group : (six ten : Bool) (n : ℕ) → is_len (group_of six ten) n ≡ true → n ≤ 10
+pub short_group : (six ten : Bool) (n : ℕ) → is_len (group_of six ten) n ≡ true → n ≤ 10
 short_group true ten n e = let same : 6 ≡ n = eqb-true 6 n e in omega (arith, same)
 short_group false true n e = let same : 10 ≡ n = eqb-true 10 n e in omega (arith, same)
 short_group false false n e = absurd cc
 
-group_short : (block : List ℕ) → has_group_len block ≡ true → length block ≤ 10
+pub group_short : (block : List ℕ) → has_group_len block ≡ true → length block ≤ 10
 group_short block e = short_group (nat_lt (slice_index block 0) 0x20) (nat_lt (slice_index block 0) 0x40) (length block) e
 
 kept_len : (six ten : Bool) (n : ℕ) → is_len (group_of six ten) (min 11 n) ≡ is_len (group_of six ten) n
@@ -233,7 +222,7 @@ placed_is a p phase next known e =
     (not (gives_status phase next) || (is_answered (running_process a p.id) && is_some (reply_in a.replies p.id))) e in
     let two = and_parts (not (is_command_phase phase) || (not known && is_new a p)) (not (moves_data phase next) || (known && is_unanswered (running_process a p.id) && is_none (reply_in a.replies p.id))) last.0 in
     record {
-      fresh = λ f. let both = and_parts (not known) (is_new a p) (implied (is_command_phase phase) (not known && is_new a p) two.0 f) in calm_in known both.0;
+      fresh = λ f. let both = and_parts (not known) (is_new a p) (implied (is_command_phase phase) (not known && is_new a p) two.0 f) in not-true known both.0;
       moves = λ f.
           let three = and_parts (known && is_unanswered (running_process a p.id)) (is_none (reply_in a.replies p.id)) (implied (moves_data phase next) (known && is_unanswered (running_process a p.id) && is_none (reply_in a.replies p.id)) two.1 f) in
           let both = and_parts known (is_unanswered (running_process a p.id)) three.0 in
@@ -383,7 +372,7 @@ abort_named (Some y) a said e f = refl
 
 opening_said : (s : ScenarioValue) (k : RunState) (p : Option Process) (phase : Phase) (cause : Cause) → is_opening_in phase cause ≡ true → k.exchange.plan.cause ≡ cause → is_true_leaving s k p phase ≡ true → k.exchange.plan.struck ≡ false → is_item_named s k.exchange.plan.said k.served ≡ true
 opening_said s k p phases.MessageOut causes.Selected e c t z =
-    other k.exchange.plan.struck (is_item_named s k.exchange.plan.said k.served) ((λ i. is_opening_named s k.exchange.plan k.served (sym c i)) ∙ t) z
+    or_second k.exchange.plan.struck (is_item_named s k.exchange.plan.said k.served) ((λ i. is_opening_named s k.exchange.plan k.served (sym c i)) ∙ t) z
 opening_said s k p phases.MessageOut causes.InMessage e c t z = cc
 opening_said s k p phases.MessageOut causes.InData e c t z = cc
 opening_said s k p phases.MessageOut causes.InStatus e c t z = cc
@@ -408,16 +397,12 @@ data_closed bus c e = go bus.msg bus.cd bus.io e
 pub stops : (s : ScenarioValue) (k : RunState) (n : Connection) → may_leave s k n ≡ true → follows_by (serving_of s k n.target) (pace_of s k n.target).pulsed (bus_of k) k.handshakes ≡ false
 stops s k n e =
     let both = and_parts (k.exchange.begun && not (drives_of k n.target).req) (not (follows_by (serving_of s k n.target) (pace_of s k n.target).pulsed (bus_of k) k.handshakes)) e in
-    calm_in (follows_by (serving_of s k n.target) (pace_of s k n.target).pulsed (bus_of k) k.handshakes) both.1
+    not-true (follows_by (serving_of s k n.target) (pace_of s k n.target).pulsed (bus_of k) k.handshakes) both.1
 
 pub pulsed_data : (begun moves over : Bool) → (begun && moves && over) ≡ true → moves ≡ true
 pulsed_data true true over e = refl
 pulsed_data true false over e = cc
 pulsed_data false moves over e = cc
-
-open_or : (x y : Bool) → (not x || y) ≡ true → x ≡ true → y ≡ true
-open_or true y e f = e
-open_or false y e f = cc
 
 pub courses_agree : (s : ScenarioValue) (rows : List Row) (n : Connection) (d : TargetDef) (c : CourseState) (f : ProcessState)
     → IsFront s (run_state s rows) n (instructions s rows) → (run_state s rows).exchange.begun ≡ true → target_def_of s n.target ≡ Some d
@@ -462,7 +447,7 @@ courses_agree s rows n d c f front begun line course told = record {
         by false o x g = let never : false ≡ true = (λ j. is_some (process_item s (sym e j))) ∙ front.serves o in cc
         by true o None g = let never : false ≡ true = (λ j. is_some (sym g j)) ∙ (λ j. is_of_scenario s (sym e j)) ∙ front.there in cc
         by true o (Some b) g =
-            let opened : is_opening_in phase plan.cause ≡ true = open_or k.exchange.begun (is_opening_in phase plan.cause) o begun in
+            let opened : is_opening_in phase plan.cause ≡ true = implied k.exchange.begun (is_opening_in phase plan.cause) o begun in
             let unstruck : plan.struck ≡ false = struck_not (serving_of s k n.target) (pace_of s k n.target).pulsed k (stops s k n l) (λ q. data_closed (bus_of k) plan.cause (pulsed_data k.exchange.begun (is_data (bus_of k)) _ q)) opened in
             let said : is_item_named s plan.said k.served ≡ true = opening_said s k (process_served s k) phase plan.cause opened refl (front.said l) unstruck in
             let named : is_abort_named plan.said (Some b) ≡ true = (λ j. is_abort_named plan.said (sym g j)) ∙ (λ j. is_item_named s plan.said (sym e j)) ∙ said in
@@ -477,7 +462,7 @@ courses_agree s rows n d c f front begun line course told = record {
         let three = and_parts (not plan.struck) whole two.1 in
         let same : phase ≡ phases.Command = phase_is_command phase two.0 in
         let said : is_block_of_process s k (Some p) ≡ true = (λ j. is_block_of_process s k (sym v.is j)) ∙ (λ j. is_true_leaving s k (process_served s k) (sym same j)) ∙ front.said one.0 in
-        let block : (carried_here k p.id).block ≡ p.cdb = bytes_are (carried_here k p.id).block p.cdb (other plan.struck (same_bytes (carried_here k p.id).block p.cdb) said (calm_in plan.struck three.0)) in
+        let block : (carried_here k p.id).block ≡ p.cdb = bytes_are (carried_here k p.id).block p.cdb (or_second plan.struck (same_bytes (carried_here k p.id).block p.cdb) said (not-true plan.struck three.0)) in
         let few : length (carried_here k p.id).block ≤ 10 = group_short (carried_here k p.id).block (sym w ∙ three.1) in
         v.carried two.0 ∙ take_all MOST_KEPT (carried_here k p.id).block (omega (arith, few)) ∙ block
 

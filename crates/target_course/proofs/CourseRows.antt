@@ -43,7 +43,8 @@ use Rattle.target_course.specs.Courses.{CourseState, course_selected, course_res
 use Rattle.target_course.proofs.Agreeing.{events_agree, leavings_agree, offers_agree}
 use Rattle.target_course.proofs.Courses.{course_goes_on}
 use Rattle.target_course.proofs.CourseBegins.{course_is_selected, course_is_reselected}
-use Rattle.target_course.proofs.CourseAgrees.{other, end_heard, IsFront, IsTurn, front_heard, turn_heard, courses_agree, implied, stops, pulsed_data}
+use Rattle.target_course.proofs.CourseAgrees.{end_heard, IsFront, IsTurn, front_heard, turn_heard, courses_agree, stops, pulsed_data}
+use Rattle.bus_base.proofs.Tests.{or_second, implied}
 
 -- Its line of the scenario, as the target of this connection.
 pub line_of_own : (s : ScenarioValue) (rows : List Row) (n : Connection) (d : TargetDef) → IsOwnConnection rows d.dev n → target_def_of s d.dev ≡ Some d → target_def_of s n.target ≡ Some d
@@ -211,7 +212,7 @@ course_selected_heard s rows row n dev id negotiates p q x y r f e label z m o c
     let next : RunState = run_state s (row ∷ rows) in
     let same : n ≡ m = let both : Some n ≡ Some m = sym y ∙ o.stands in cc in
     let front : IsFront s next n (instructions s (row ∷ rows)) = front_heard s (row ∷ rows) n q e y calm in
-    let known : same_process next.served (item_of next.story.link) ≡ true = other (n.reselected && is_message (phase_of (bus_of next))) (same_process next.served (item_of next.story.link)) front.known (λ i. r i && is_message (phase_of (bus_of next))) in
+    let known : same_process next.served (item_of next.story.link) ≡ true = or_second (n.reselected && is_message (phase_of (bus_of next))) (same_process next.served (item_of next.story.link)) front.known (λ i. r i && is_message (phase_of (bus_of next))) in
     subst (λ (u : Connection). IsCourse s (row ∷ rows) u (course_selected id negotiates)) same (course_is_selected s rows row n id negotiates p q x y r f known label z)
 
 pub course_reselected_heard : (s : ScenarioValue) (rows : List Row) (row : Row) (n : Connection) (dev : ℕ) (id : ProcId) (name : Name) (cdb : List ℕ)

@@ -27,11 +27,9 @@ use Rattle.scsi_device.specs.Heard.{Instructions, instructions, instructions_aft
 use Rattle.target_course.specs.Plans.{plan_at, leaving_after}
 use Rattle.target_course.specs.Courses.{CourseState, name_in, name_if, block_with, block_kept, course_told, course_after, MOST_KEPT, IsTold, IsOfProcess, HasEnds, IsCourse}
 use Rattle.target_course.proofs.Heard.{plan_goes_on}
+use Rattle.target_course.proofs.Agreeing.{renegotiated}
 
 -- ---- the plan
-
-abbrev renegotiated : Plan → Bool → Plan
-renegotiated p x = record p { negotiates = x }
 
 -- What is planned goes on alike, whether or not synchronous transfer may be negotiated.
 plans_same : (w : Hearing) (l : Leaving) (p : Plan) (x : Bool) → plan_after w l (renegotiated p x) ≡ renegotiated (plan_after w l p) x

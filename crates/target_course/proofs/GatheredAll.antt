@@ -1,7 +1,7 @@
 -- All data of a write have come to a target after each row, where writes come whole.
 use Rattle.std.proofs.Common.{ℕ, ◌≡◌, ◌+◌, ◌<◌, ◌≤◌, Bool, true, false, List, [], ◌∷◌, ◌∙◌, refl, sym, subst, arith, length, take, Option, Some, None}
 use Rattle.std.specs.Prelude.{if◌then◌else◌, min, not, ◌^◌, ◌-◌, ◌%◌, ◌&&◌, ◌||◌, ◌==◌, is_some}
-use Rattle.std.proofs.lemmas.Bool.{eqb-true, eqb-false, and_parts}
+use Rattle.std.proofs.lemmas.Bool.{eqb-true, eqb-false, and_parts, not-true}
 use Rattle.std.proofs.lemmas.List.{length-take, take_all}
 use Rattle.std.proofs.lemmas.Option.{same_Some}
 use Rattle.bus_base.specs.declared.ProcId.{ProcId}
@@ -38,11 +38,13 @@ use Rattle.scsi_device.specs.Writes.{writer_of, is_data_out, brings_byte, writer
 use Rattle.target_course.specs.Gathered.{bytes_of, GatheredValue, gathering_at, gathered_with, gathered_seen, nothing_gathered, unit_room, place_in_run, run_start_of, IsRunningIn, IsGatheredOf, IsSentSo, IsAtUnit, AreAllGathered}
 use Rattle.target_units.specs.Seated.{is_same_process}
 use Rattle.target_course.specs.States.{IsOwnConnection}
-use Rattle.target_course.proofs.GatheredMore.{no, task_at, row_gathered}
-use Rattle.target_course.proofs.GatheredSteps.{AreByteGathered, no_byte, byte_more, same_self, data_out_is, not_is}
+use Rattle.target_course.proofs.GatheredMore.{task_at, row_gathered}
+use Rattle.target_course.proofs.GatheredSteps.{AreByteGathered, no_byte, byte_more, same_self, data_out_is}
 use Rattle.target_course.proofs.GatheredWhole.{same_start, first_start, room_enough}
 use Rattle.target_course.proofs.ProgressRows.{named_so}
 use Rattle.target_course.proofs.ServedEnds.{process_id, ends_are}
+use Rattle.bus_base.proofs.Tests.{wrong}
+use Rattle.target_course.proofs.GatheredRows.{same_target}
 
 served_id : (s : ScenarioValue) (served : Option Item) (p : Process) → process_item s served ≡ Some p → id_of served ≡ Some p.id
 served_id s None p e = cc
@@ -61,8 +63,8 @@ other_byte : (s : ScenarioValue) (rows : List Row) (v : GatheredValue) (p : Proc
 other_byte s rows v p m stands other at h = record {
   owned = λ id q e t w. h.owned id q e t (sym (same q t) ∙ w);
   made = λ id q e t w. h.made id q e t (sym (same q t) ∙ w);
-  present = λ q n r b. no (sym (own n r.own) ∙ other);
-  come = λ q n r w. no (sym (own n r.own) ∙ other);
+  present = λ q n r b. wrong (sym (own n r.own) ∙ other);
+  come = λ q n r w. wrong (sym (own n r.own) ∙ other);
 }
   where
     own : (n : Connection) → IsOwnConnection rows v.dev n → (m.target == v.dev) ≡ true
@@ -106,7 +108,7 @@ byte_gathered s rows row v known unit place lines p ends is_so says at_unit g h 
     into c e u x = subst (λ (z : Bool). AreByteGathered s rows v.dev (if z then writers_with (writers s rows) (process_served s k) else writers s rows) u z) (sym e) x
 
     comes : brings_byte w ≡ true → (before : Option Connection) → k.story.bus_state.connection ≡ before → AreByteGathered s rows v.dev (writers_with (writers s rows) (process_served s k)) (gathered_seen v known unit place w before) true
-    comes e None f = no (sym ((λ i. is_some (receiver_of (sym f i) d.change)) ∙ (and_parts w.crosses (is_data_out (phase_of w.change.before)) (and_parts (w.crosses && is_data_out (phase_of w.change.before)) (not w.change.after.rst) e).0).0))
+    comes e None f = wrong (sym ((λ i. is_some (receiver_of (sym f i) d.change)) ∙ (and_parts w.crosses (is_data_out (phase_of w.change.before)) (and_parts (w.crosses && is_data_out (phase_of w.change.before)) (not w.change.after.rst) e).0).0))
     comes e (Some m) f = of_served (process_served s k) refl
       where
         stands : connection rows ≡ Some m
@@ -123,7 +125,7 @@ byte_gathered s rows row v known unit place lines p ends is_so says at_unit g h 
         byte = sym (λ i. not (e i) || is_written_byte s k (writers s rows) (process_served s k)) ∙ (and_parts (not (brings_byte w) || is_written_byte s k (writers s rows) (process_served s k)) (not (ends_run k w (leaving_of s k (Some m))) || is_written_run s k (writers s rows) (process_served s k) (phase_of (bus_of k))) within).0
 
         of_served : (y : Option Process) → process_served s k ≡ y → AreByteGathered s rows v.dev (writers_with (writers s rows) y) (gathered_seen v known unit place w (Some m)) true
-        of_served None x = no (sym byte ∙ (λ i. is_written_byte s k (writers s rows) (x i)))
+        of_served None x = wrong (sym byte ∙ (λ i. is_written_byte s k (writers s rows) (x i)))
         of_served (Some z) x = own_or (m.target == v.dev) refl known (λ o. says m o e)
           where
             at : z.target ≡ m.target
@@ -160,7 +162,7 @@ byte_gathered s rows row v known unit place lines p ends is_so says at_unit g h 
                 let fit = room_enough s z.id z lines named in
                 let room : length z.sent ≤ (gathering_at v.units z.unit).room = subst (λ (y : ℕ). length z.sent ≤ y) ((λ i. unit_room s (to i) z.unit) ∙ sym (g.rooms z.unit fit.0)) fit.1 in
                 let running : IsRunningIn s rows v.dev z m =
-                record { own = own; served = x; calm = sym (λ i. (p.bus i).rst) ∙ not_is (bus_of k).rst two.1; begun = two.0; phase = data_out_is (phase_of (bus_of k)) phase } in
+                record { own = own; served = x; calm = sym (λ i. (p.bus i).rst) ∙ not-true (bus_of k).rst two.1; begun = two.0; phase = data_out_is (phase_of (bus_of k)) phase } in
                 let put : AreByteGathered s rows v.dev (writers_with (writers s rows) (Some z)) (record v { units = gathered_with v.units z.unit z.id place (w.change.after.data_bits % 256) }) true =
                 byte_more s rows v z m place (w.change.after.data_bits % 256) running to named g.eight fit.0 room (g.each z.unit fit.0) (so.1 ∙ place_so s k z v.dev x to three.1)
                 (first_start (policy_of (target_def_of s z.target)) (blocks_in (range_in (command_of z.cdb))) (block_size (unit_of s z.target z.unit)) 0) four.1 h in
@@ -173,15 +175,6 @@ byte_gathered s rows row v known unit place lines p ends is_so says at_unit g h 
     go false e = into false e (gathered_seen v known unit place w before) (subst (λ (u : GatheredValue). AreByteGathered s rows v.dev (writers s rows) u false) (sym (still known before e)) (no_byte s rows v h))
     go true e = into true e (gathered_seen v known unit place w before) (comes e before b)
 
-seen_dev : (v : GatheredValue) (known : Option ProcId) (unit place : ℕ) (w : Hearing) (before : Option Connection) → (gathered_seen v known unit place w before).dev ≡ v.dev
-seen_dev v None unit place w before = refl
-seen_dev v (Some id) unit place w None = refl
-seen_dev v (Some id) unit place w (Some n) = go (n.target == v.dev && brings_byte w)
-  where
-    go : (q : Bool) → (if q then record v { units = gathered_with v.units unit id place (w.change.after.data_bits % 256) } else v).dev ≡ v.dev
-    go true = refl
-    go false = refl
-
 pub all_gathered_on : (s : ScenarioValue) (rows : List Row) (row : Row) (v : GatheredValue) (known : Option ProcId) (unit place : ℕ) (w : Hearing) (before : Option Connection) → ((n : ℕ) (c : CmdDef) → command_at s.commands n ≡ Some c → IsCommandLine s c)
     → ((before : List Row) → AreOfDevices before → IsPlain s before (run_state s before)) → hearing_of (run_state s rows) row (row_reading (run_state s rows).story.bus_state row) ≡ hearing rows row → ((code : ℕ) → row.kind ≡ Fault code → bus (row ∷ rows) ≡ bus rows)
     → AreOfDevices (row ∷ rows) → w ≡ hearing rows row → before ≡ connection rows → faithful s (row ∷ rows) ≡ true → written s (row ∷ rows) ≡ true → IsSentSo s rows v.dev w known place → IsAtUnit s rows v.dev w unit → IsGatheredOf s v → AreAllGathered s rows v
@@ -189,7 +182,7 @@ pub all_gathered_on : (s : ScenarioValue) (rows : List Row) (row : Row) (v : Gat
 all_gathered_on s rows row v known unit place w before lines plain heard calm d told b f writes says at_unit g h =
     subst (λ (z : GatheredValue). AreAllGathered s (row ∷ rows) z) (λ i. gathered_seen v known unit place (sym same i) (stood i))
     (row_gathered s rows row u (plain rows d.1) (plain (row ∷ rows) d) calm (λ n e. ends_are s rows plain d.1 two.0 n e) at_target is_so
-    (subst (λ (n : ℕ). AreByteGathered s rows n (writers s (row ∷ rows)) u (brings_byte (hearing_of k row r))) (sym (seen_dev v known unit place (hearing_of k row r) k.story.bus_state.connection))
+    (subst (λ (n : ℕ). AreByteGathered s rows n (writers s (row ∷ rows)) u (brings_byte (hearing_of k row r))) (sym (same_target v known unit place (hearing_of k row r) k.story.bus_state.connection))
     (byte_gathered s rows row v known unit place lines (plain rows d.1) (λ n e. ends_are s rows plain d.1 two.0 n e) is_so
     (subst (λ (z : Hearing). IsSentSo s rows v.dev z known place) same says) (subst (λ (z : Hearing). IsAtUnit s rows v.dev z unit) same at_unit) g h k.story.bus_state.connection refl)))
   where

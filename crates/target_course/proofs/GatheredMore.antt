@@ -1,7 +1,7 @@
 -- What has come to a target of the data of writes, as a row counts a run, or another phase begins.
 use Rattle.std.proofs.Common.{ℕ, ◌≡◌, ◌+◌, ◌<◌, ◌≤◌, Bool, true, false, List, ◌∷◌, ◌∙◌, refl, sym, ap, subst, arith, length, Option, Some, None}
 use Rattle.std.specs.Prelude.{if◌then◌else◌, min, not, ◌-◌, ◌&&◌, ◌||◌, ◌==◌, nat_lt, nat_le, is_some}
-use Rattle.std.proofs.lemmas.Bool.{eqb-true, eq-eqb, and_parts}
+use Rattle.std.proofs.lemmas.Bool.{eqb-true, eq-eqb, and_parts, not-true, lt-ltb, leb-true}
 use Rattle.std.proofs.lemmas.Bool.Decides.{nat_tests}
 use Rattle.std.proofs.lemmas.Option.{same_Some}
 use Rattle.bus_base.specs.declared.ProcId.{ProcId}
@@ -41,26 +41,12 @@ use Rattle.bus_due.specs.Sights.{hearing_of, leaving}
 use Rattle.bus_due.specs.Tasks.{blocks_in, reply_now, size_of, task_with, task_if, task_of}
 use Rattle.scsi_device.specs.Writes.{writer_of, is_data_out, brings_byte, writers_with, writers, block_size, is_of_size, is_writer, is_whole_run, is_written_run, is_written_byte, ends_run, is_written_in, is_written_on, is_written}
 use Rattle.target_course.specs.Gathered.{GatheredValue, gathering_at, run_start_of, HasCome, IsRunningIn, AreAllGathered}
-use Rattle.target_course.proofs.GatheredSteps.{AreByteGathered, same_self, data_out_is, not_is}
+use Rattle.target_course.proofs.GatheredSteps.{AreByteGathered, same_self, data_out_is}
 use Rattle.target_course.proofs.GatheredWhole.{next_start}
 use Rattle.target_course.proofs.HeardOpenings.{phase_same}
-use Rattle.target_course.proofs.ProgressRows.{entry_with, other_kept, named_so}
+use Rattle.target_course.proofs.ProgressRows.{entry_with, other_kept, named_so, plus_none}
 use Rattle.target_course.proofs.ServedEnds.{same_id_is, connection_stays}
-
-pub no : {X : Type 0} → true ≡ false → X
-no e = absurd (none e)
-  where
-    none : true ≡ false → ⊥
-    none z = cc
-
-le_of : (a b : ℕ) → nat_le a b ≡ true → a ≤ b
-le_of a b h = grind (arith, nat_tests)
-
-lt_true : (a b : ℕ) → a < b → nat_lt a b ≡ true
-lt_true a b h = grind (arith, nat_tests)
-
-plus_none : (n : ℕ) → n ≡ n + 0
-plus_none n = omega arith
+use Rattle.bus_base.proofs.Tests.{wrong}
 
 come_less : (v : GatheredValue) (p : Process) (a b : ℕ) → a ≤ b → HasCome v p b → HasCome v p a
 come_less v p a b l h = omega (arith, l, h)
@@ -96,7 +82,7 @@ run_made s k v p extra e h =
     let all : (run_in (policy_of (target_def_of s p.target)) blocks (block_size (unit_of s p.target p.unit)) (length p.sent) runs).end - (run_in (policy_of (target_def_of s p.target)) blocks (block_size (unit_of s p.target p.unit)) (length p.sent) runs).start ≤ k.handshakes.answers =
     subst (λ (z : ℕ). (run_in (policy_of (target_def_of s p.target)) blocks z (length p.sent) runs).end - (run_in (policy_of (target_def_of s p.target)) blocks z (length p.sent) runs).start ≤ k.handshakes.answers) size
     (subst (λ (z : ℕ). (run_in (policy_of (target_def_of s p.target)) blocks (task_at s k p).size z runs).end - (run_in (policy_of (target_def_of s p.target)) blocks (task_at s k p).size z runs).start ≤ k.handshakes.answers) moved
-    (le_of (run_length (policy_of (target_def_of s p.target)) (task_at s k p)) k.handshakes.answers one.1)) in
+    (leb-true (run_length (policy_of (target_def_of s p.target)) (task_at s k p)) k.handshakes.answers one.1)) in
     let next = next_start (policy_of (target_def_of s p.target)) blocks (block_size (unit_of s p.target p.unit)) (length p.sent) runs k.handshakes.answers all in
     enough (run_start_of s p (runs + 1)) (run_start_of s p runs + k.handshakes.answers) extra (length p.sent) (length (gathering_at v.units p.unit).bytes) next h
   where
@@ -124,7 +110,7 @@ answers_on true n c time h b e crosses = same c.before.io
   where
     either : (b : Bool) → 0 < h.answers → (b || nat_lt 0 h.answers) ≡ true
     either true l = refl
-    either false l = lt_true 0 h.answers l
+    either false l = lt-ltb 0 h.answers l
 
     same : (q : Bool) → ((strikes_if q h).answers ≤ h.answers + one_if b) × (0 < (strikes_if q h).answers → (b || nat_lt 0 h.answers) ≡ true)
     same true = (omega arith, λ l. either b l)
@@ -135,12 +121,12 @@ answers_on false n c time h b e crosses =
   where
     either : (b : Bool) → 0 < h.answers → (b || nat_lt 0 h.answers) ≡ true
     either true l = refl
-    either false l = lt_true 0 h.answers l
+    either false l = lt-ltb 0 h.answers l
 
     go : (q r b : Bool) → (q ≡ true → b ≡ true) → ((answered_if q time (asked_if r time h)).answers ≤ h.answers + one_if b) × (0 < (answered_if q time (asked_if r time h)).answers → (b || nat_lt 0 h.answers) ≡ true)
     go true true true x = (omega arith, λ l. refl)
     go true false true x = (omega arith, λ l. refl)
-    go true r false x = no (sym (x refl))
+    go true r false x = wrong (sym (x refl))
     go false true b x = (omega arith, λ l. either b l)
     go false false b x = (omega arith, λ l. either b l)
 
@@ -151,13 +137,13 @@ same_line false = refl
 no_change : (a b : LineSet) → a ≡ b → same_phase a b ≡ true
 no_change a b e = (λ i. same_phase a (sym e i)) ∙ (λ i. same_line a.msg i && same_line a.cd i && same_line a.io i)
 
--- A phase begins with no rise of ACK; a fault changes no lines.
+-- A phase begins with wrong rise of ACK; a fault changes wrong lines.
 answers_anew : (row : Row) (n : Connection) (c : Change) (h : Handshakes) → ((code : ℕ) → row.kind ≡ Fault code → c.before ≡ c.after) → changes_phase c ≡ true → (handshakes_after (is_fault row.kind) (Some n) c row.time h).answers ≡ 0
 answers_anew row n c h calm e = go row.kind refl
   where
     go : (f : Kind) → row.kind ≡ f → (handshakes_after (is_fault f) (Some n) c row.time h).answers ≡ 0
     go (Drives lines) g = λ i. (if e i then no_handshakes else answered_if (rises c.before.ack c.after.ack) row.time (asked_if (rises c.before.req c.after.req) row.time h)).answers
-    go (Fault code) g = no (sym e ∙ (λ i. not (no_change c.before c.after (calm code g) i)))
+    go (Fault code) g = wrong (sym e ∙ (λ i. not (no_change c.before c.after (calm code g) i)))
 
 -- ---- a row
 
@@ -217,7 +203,7 @@ row_gathered s rows row v p q calm ends at_target written x = record {
             let task : is_whole_run s k z (Some (task_at s k z)) ≡ true = sym (λ i. is_whole_run s k z (task_if s k (served i))) ∙ whole in
             let rst : (bus rows).rst ≡ false =
             sym (λ i. (p.bus i).rst)
-            ∙ not_is (bus_of k).rst (and_parts (not (bus_of k).rst) (is_of_size s k z) (and_parts (not (bus_of k).rst && is_of_size s k z) ((task_at s k z).moved == length z.sent) (and_parts (not (bus_of k).rst && is_of_size s k z && (task_at s k z).moved == length z.sent) (nat_le (run_length (policy_of (target_def_of s z.target)) (task_at s k z)) k.handshakes.answers) task).0).0).0 in
+            ∙ not-true (bus_of k).rst (and_parts (not (bus_of k).rst) (is_of_size s k z) (and_parts (not (bus_of k).rst && is_of_size s k z) ((task_at s k z).moved == length z.sent) (and_parts (not (bus_of k).rst && is_of_size s k z && (task_at s k z).moved == length z.sent) (nat_le (run_length (policy_of (target_def_of s z.target)) (task_at s k z)) k.handshakes.answers) task).0).0).0 in
             let running : IsRunningIn s rows v.dev z m =
             record { own = record { stands = stands; own = own }; served = served; calm = rst; begun = (and_parts (changes_phase d.change) k.exchange.begun left).1; phase = data_out_is (phase_of (bus_of k)) f } in
             subst (λ (y : ProcId). HasCome v z (run_start_of s z ((progress_in k.progress y).runs + 1))) ids
@@ -225,7 +211,7 @@ row_gathered s rows row v p q calm ends at_target written x = record {
         go false f =
             let last : not (is_writer (writer_of (writers s rows) z.target z.unit) z.id) ≡ true = sym (λ i. if f i then is_whole_run s k z (task_of s k) else not (is_writer (writer_of (writers s rows) z.target z.unit) z.id)) ∙ both in
             let same_writers : writer_of (writers s (row ∷ rows)) z.target z.unit ≡ writer_of (writers s rows) z.target z.unit = λ i. writer_of (if no_bytes f i then writers_with (writers s rows) (process_served s k) else writers s rows) z.target z.unit in
-            no (sym ((λ i. is_writer ((sym same_writers ∙ wr) i) z.id) ∙ (λ i. same_id (sym ids i) z.id) ∙ same_self z.id) ∙ not_is (is_writer (writer_of (writers s rows) z.target z.unit) z.id) last)
+            wrong (sym ((λ i. is_writer ((sym same_writers ∙ wr) i) z.id) ∙ (λ i. same_id (sym ids i) z.id) ∙ same_self z.id) ∙ not-true (is_writer (writer_of (writers s rows) z.target z.unit) z.id) last)
 
     made : (id : ProcId) (z : Process) → process_of s id ≡ Some z → z.target ≡ v.dev → writer_of (writers s (row ∷ rows)) z.target z.unit ≡ Some id → HasCome v z (run_start_of s z (progress_in next.progress id).runs)
     made id z e t wr = by k.story.bus_state.connection refl d.next refl
@@ -259,7 +245,7 @@ row_gathered s rows row v p q calm ends at_target written x = record {
 
     at_end : (z : Process) (n : Connection) → IsRunningIn s (row ∷ rows) v.dev z n → (b : Option Connection) → k.story.bus_state.connection ≡ b
         → (0 < next.handshakes.answers → writer_of (writers s (row ∷ rows)) z.target z.unit ≡ Some z.id) × (writer_of (writers s (row ∷ rows)) z.target z.unit ≡ Some z.id → HasCome v z (run_start_of s z (progress_in next.progress z.id).runs + next.handshakes.answers))
-    at_end z n run None b = no (sym (λ i. begins_so i && phase_so i) ∙ not_is (n.reselected && is_data_out (phase_of w.change.after)) (seam None (Some n) b a))
+    at_end z n run None b = wrong (sym (λ i. begins_so i && phase_so i) ∙ not-true (n.reselected && is_data_out (phase_of w.change.after)) (seam None (Some n) b a))
       where
         a : d.next ≡ Some n
         a = q.connection ∙ run.own.stands
@@ -283,11 +269,11 @@ row_gathered s rows row v p q calm ends at_target written x = record {
         before_calm : (bus rows).rst ≡ false
         before_calm =
             sym (λ i. (p.bus i).rst)
-            ∙ not_is d.change.before.rst (or_left (not d.change.before.rst) d.change.after.rst after_calm (and_parts (not w.change.before.rst || w.change.after.rst) (is_written_in s k w (leaving s k m.target) (writers s rows)) (seam (Some m) (Some n) b a)).0)
+            ∙ not-true d.change.before.rst (or_left (not d.change.before.rst) d.change.after.rst after_calm (and_parts (not w.change.before.rst || w.change.after.rst) (is_written_in s k w (leaving s k m.target) (writers s rows)) (seam (Some m) (Some n) b a)).0)
           where
             or_left : (u y : Bool) → y ≡ false → (u || y) ≡ true → u ≡ true
             or_left true y e f = refl
-            or_left false y e f = no (sym f ∙ e)
+            or_left false y e f = wrong (sym f ∙ e)
 
         answers : next.handshakes.answers ≡ (handshakes_after (is_fault row.kind) (Some n) d.change row.time k.handshakes).answers
         answers = λ i. (handshakes_after (is_fault row.kind) (a i) d.change row.time k.handshakes).answers
@@ -318,7 +304,7 @@ row_gathered s rows row v p q calm ends at_target written x = record {
           where
             unchanged : (c : Bool) → not c ≡ false → c ≡ true
             unchanged true f = refl
-            unchanged false f = no f
+            unchanged false f = wrong f
 
             less : (r r' c c' o : ℕ) → r ≡ r' → c ≤ c' + o → r + c ≤ r' + c' + o
             less r r' c c' o f g = omega (arith, f, g)

@@ -1,7 +1,7 @@
 -- What came to a target of the data of writes goes on row by row.
 use Rattle.std.proofs.Common.{ℕ, zero, suc, ◌≡◌, ◌≢◌, ◌+◌, ◌<◌, ◌≤◌, Bool, true, false, List, [], ◌∷◌, ◌++◌, ◌∙◌, refl, sym, subst, arith, length, take, get_or, set, Option, Some, None}
 use Rattle.std.specs.Prelude.{if◌then◌else◌, min, not, ◌^◌, ◌-◌, ◌%◌, ◌&&◌, ◌||◌, ◌==◌, nat_lt, slice_set}
-use Rattle.std.proofs.lemmas.Bool.{eqb-true, eqb-false, and_parts}
+use Rattle.std.proofs.lemmas.Bool.{eqb-true, eqb-false, and_parts, lt-ltb, ltb-true, ltb-false}
 use Rattle.std.proofs.lemmas.Bool.Decides.{nat_tests}
 use Rattle.std.proofs.lemmas.List.{get_or-set_same, get_or-set_other, length-set, length-append, length-take, get_or-take}
 use Rattle.std.proofs.lemmas.Option.{same_Some, none-some}
@@ -42,20 +42,11 @@ use Rattle.target_course.proofs.ServedEnds.{same_id_is, ends_are}
 
 -- ---- a buffer
 
-lt_true : (a b : ℕ) → a < b → nat_lt a b ≡ true
-lt_true a b h = grind (arith, nat_tests)
-
-lt_of : (a b : ℕ) → nat_lt a b ≡ true → a < b
-lt_of a b h = grind (arith, nat_tests)
-
-ge_of : (a b : ℕ) → nat_lt a b ≡ false → b ≤ a
-ge_of a b h = grind (arith, nat_tests)
-
 -- A byte in the place of one that came before, as a buffer keeps them.
 pub kept_byte : (owner : Option ProcId) (items : List ℕ) (count place byte : ℕ) → place < count → count ≤ length items → (let x : Gathering = record { owner = owner; bytes = take count (set items place byte); room = length (set items place byte) } in x) ≡ gathering_with (record { owner = owner; bytes = take count items; room = length items }) place byte
 kept_byte owner items count place byte lt most =
     let long : length (take count items) ≡ min count (length items) = length-take count items in
-    let t : nat_lt place (length (take count items)) ≡ true = lt_true place (length (take count items)) (omega (arith, long, lt, most)) in
+    let t : nat_lt place (length (take count items)) ≡ true = lt-ltb place (length (take count items)) (omega (arith, long, lt, most)) in
     (λ i. record { owner = owner; bytes = take-set-lt count items place byte lt i; room = length-set items place byte i })
     ∙ (λ i. if sym t i then record { owner = owner; bytes = slice_set (take count items) place byte; room = length items } else if place == length (take count items) && nat_lt place (length items) then record { owner = owner; bytes = take count items ++ byte ∷ []; room = length items } else record { owner = owner; bytes = take count items; room = length items })
 
@@ -116,7 +107,7 @@ put_so s g id place byte mine is h = go (nat_lt place (length g.bytes)) refl (pl
     go : (a : Bool) → nat_lt place (length g.bytes) ≡ a → (b : Bool) → (place == length g.bytes) ≡ b → (c : Bool) → nat_lt place g.room ≡ c
         → IsGatheringOf s (if a then record g { bytes = slice_set g.bytes place byte } else if b && c then record g { bytes = g.bytes ++ byte ∷ [] } else g) × ((if a then record g { bytes = slice_set g.bytes place byte } else if b && c then record g { bytes = g.bytes ++ byte ∷ [] } else g).room ≡ g.room)
     go true e b f c k =
-        let lt : place < length g.bytes = lt_of place (length g.bytes) e in
+        let lt : place < length g.bytes = ltb-true place (length g.bytes) e in
         let long : length (set g.bytes place byte) ≡ length g.bytes = length-set g.bytes place byte in
         let fits = h.fits in
         let small = h.small in (
@@ -132,7 +123,7 @@ put_so s g id place byte mine is h = go (nat_lt place (length g.bytes)) refl (pl
         each o p j x y l m true z = (λ i. if z i then byte else get_or g.bytes j 0) ∙ here o p x y m ∙ (λ i. get_or p.sent (eqb-true place j z i) 0)
         each o p j x y l m false z = (λ i. if z i then byte else get_or g.bytes j 0) ∙ h.sent o p j x y l
     go false e true f true k =
-        let lt : place < g.room = lt_of place g.room k in
+        let lt : place < g.room = ltb-true place g.room k in
         let end : place ≡ length g.bytes = eqb-true place (length g.bytes) f in
         let long : length (g.bytes ++ byte ∷ []) ≡ length g.bytes + 1 = length-append g.bytes (byte ∷ []) in
         let small = h.small in (

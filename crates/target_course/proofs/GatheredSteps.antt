@@ -1,7 +1,7 @@
 -- All data of a write have come to a target, row by row.
 use Rattle.std.proofs.Common.{ℕ, ◌≡◌, ◌+◌, ◌<◌, ◌≤◌, Bool, true, false, List, [], ◌∷◌, ◌++◌, ◌∙◌, refl, sym, subst, arith, length, set, Option, Some, None}
 use Rattle.std.specs.Prelude.{if◌then◌else◌, min, not, ◌^◌, ◌-◌, ◌&&◌, ◌||◌, ◌==◌, nat_lt}
-use Rattle.std.proofs.lemmas.Bool.{eqb-true, eqb-false, eq-eqb, and_parts}
+use Rattle.std.proofs.lemmas.Bool.{eqb-true, eqb-false, eq-eqb, and_parts, not-true}
 use Rattle.std.proofs.lemmas.Bool.Decides.{nat_tests}
 use Rattle.std.proofs.lemmas.Option.{same_Some}
 use Rattle.std.proofs.lemmas.List.{get_or-set_other}
@@ -22,10 +22,8 @@ use Rattle.target_units.specs.Seated.{is_same_process}
 use Rattle.target_course.proofs.GatheredRows.{own_so, unit_put}
 use Rattle.target_course.proofs.GatheredWhole.{put_grows}
 use Rattle.target_course.proofs.ServedEnds.{same_id_is}
-
-same_bool_self : (a : Bool) → same_bool a a ≡ true
-same_bool_self true = refl
-same_bool_self false = refl
+use Rattle.disk_array.proofs.SeatLookups.{same_bool_self}
+use Rattle.target_course.proofs.ProgressRows.{plus_none}
 
 pub same_self : (p : ProcId) → same_id p p ≡ true
 same_self p = (λ i. eq-eqb p.command p.command refl i && same_bool p.sense p.sense) ∙ same_bool_self p.sense
@@ -42,10 +40,6 @@ data_out_is phases.Status e = cc
 data_out_is phases.MessageOut e = cc
 data_out_is phases.MessageIn e = cc
 
-pub not_is : (q : Bool) → not q ≡ true → q ≡ false
-not_is true e = cc
-not_is false e = refl
-
 -- ---- what has come, as the byte of a row is gathered, and before the row counts a run
 
 pub record AreByteGathered (s : ScenarioValue) (rows : List Row) (dev : ℕ) (all : List Writer) (v : GatheredValue) (b : Bool) : Type 0 where
@@ -53,9 +47,6 @@ pub record AreByteGathered (s : ScenarioValue) (rows : List Row) (dev : ℕ) (al
   pub made : (id : ProcId) (p : Process) → process_of s id ≡ Some p → p.target ≡ dev → writer_of all p.target p.unit ≡ Some id → HasCome v p (run_start_of s p (progress_in (run_state s rows).progress id).runs)
   pub present : (p : Process) (n : Connection) → IsRunningIn s rows dev p n → (b || nat_lt 0 (run_state s rows).handshakes.answers) ≡ true → writer_of all p.target p.unit ≡ Some p.id
   pub come : (p : Process) (n : Connection) → IsRunningIn s rows dev p n → writer_of all p.target p.unit ≡ Some p.id → HasCome v p (run_start_of s p (progress_in (run_state s rows).progress p.id).runs + (run_state s rows).handshakes.answers + one_if b)
-
-plus_none : (n : ℕ) → n ≡ n + 0
-plus_none n = omega arith
 
 above : (n : ℕ) → nat_lt 0 n ≡ true → 0 < n
 above n h = grind (arith, nat_tests)

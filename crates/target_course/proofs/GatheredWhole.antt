@@ -1,7 +1,7 @@
 -- All data of a write come to a target, from the first byte on.
 use Rattle.std.proofs.Common.{ℕ, zero, suc, ◌≡◌, ◌≢◌, ◌+◌, ◌*◌, ◌<◌, ◌≤◌, Bool, true, false, List, [], ◌∷◌, ◌++◌, refl, sym, subst, arith, length, set, Option, Some, None}
 use Rattle.std.specs.Prelude.{if◌then◌else◌, min, max, ◌^◌, ◌-◌, ◌&&◌, ◌==◌, nat_lt, slice_set}
-use Rattle.std.proofs.lemmas.Bool.{eqb-true, eqb-false, eq-eqb}
+use Rattle.std.proofs.lemmas.Bool.{eqb-true, eqb-false, eq-eqb, ltb-true, ltb-false}
 use Rattle.std.proofs.lemmas.Bool.Decides.{nat_tests}
 use Rattle.std.proofs.lemmas.List.{length-set, length-append}
 use Rattle.std.proofs.lemmas.Option.{same_Some}
@@ -21,32 +21,26 @@ use Rattle.target_course.specs.Gathered.{Gathering, gathering_with, sent_room, w
 
 -- ---- a byte more
 
-lt_of : (a b : ℕ) → nat_lt a b ≡ true → a < b
-lt_of a b h = grind (arith, nat_tests)
-
-ge_of : (a b : ℕ) → nat_lt a b ≡ false → b ≤ a
-ge_of a b h = grind (arith, nat_tests)
-
 pub put_grows : (g : Gathering) (x len place byte : ℕ) → min x len ≤ length g.bytes → length g.bytes ≤ g.room → len ≤ g.room → g.room ≤ 0xffffffff → place ≡ min x (2 ^ 64 - 1) → (length g.bytes ≤ length (gathering_with g place byte).bytes) × (min (x + 1) len ≤ length (gathering_with g place byte).bytes)
 put_grows g x len place byte h fits room small at = go (nat_lt place (length g.bytes)) refl (place == length g.bytes) refl (nat_lt place g.room) refl
   where
     go : (a : Bool) → nat_lt place (length g.bytes) ≡ a → (b : Bool) → (place == length g.bytes) ≡ b → (c : Bool) → nat_lt place g.room ≡ c
         → (length g.bytes ≤ length (if a then record g { bytes = slice_set g.bytes place byte } else if b && c then record g { bytes = g.bytes ++ byte ∷ [] } else g).bytes) × (min (x + 1) len ≤ length (if a then record g { bytes = slice_set g.bytes place byte } else if b && c then record g { bytes = g.bytes ++ byte ∷ [] } else g).bytes)
     go true e b f c k =
-        let lt : place < length g.bytes = lt_of place (length g.bytes) e in
+        let lt : place < length g.bytes = ltb-true place (length g.bytes) e in
         let long : length (set g.bytes place byte) ≡ length g.bytes = length-set g.bytes place byte in
         (omega (arith, long), omega (arith, long, lt, fits, small, at))
     go false e true f true k =
-        let lt : place < g.room = lt_of place g.room k in
+        let lt : place < g.room = ltb-true place g.room k in
         let end : place ≡ length g.bytes = eqb-true place (length g.bytes) f in
         let long : length (g.bytes ++ byte ∷ []) ≡ length g.bytes + 1 = length-append g.bytes (byte ∷ []) in
         (omega (arith, long), omega (arith, long, lt, end, small, at))
     go false e true f false k =
-        let past : g.room ≤ place = ge_of place g.room k in
+        let past : g.room ≤ place = ltb-false place g.room k in
         let end : place ≡ length g.bytes = eqb-true place (length g.bytes) f in
         (omega arith, omega (arith, past, end, room))
     go false e false f c k =
-        let past : length g.bytes ≤ place = ge_of place (length g.bytes) e in
+        let past : length g.bytes ≤ place = ltb-false place (length g.bytes) e in
         let other : place ≢ length g.bytes = eqb-false place (length g.bytes) f in
         (omega arith, omega (arith, past, other, h, room, small, at))
 

@@ -1,7 +1,7 @@
 -- As the opening of a connection is left, an abort was heard in it unless the connection is for a process.
 use Rattle.std.proofs.Common.{◌≡◌, Bool, true, false, List, [], ◌∷◌, ◌∙◌, refl, sym, Option, Some, None}
 use Rattle.std.specs.Prelude.{◌&&◌, ◌||◌, ◌==◌, not, nat_lt, is_some, is_none, if◌then◌else◌}
-use Rattle.std.proofs.lemmas.Bool.{and_parts}
+use Rattle.std.proofs.lemmas.Bool.{and_parts, not-true}
 use Rattle.bus_base.specs.declared.AbortKind.{AbortKind}
 use Rattle.bus_trace.specs.Changes.{same_phase}
 use Rattle.bus_trace.specs.LineSet.{LineSet, same}
@@ -36,10 +36,6 @@ use Rattle.bus_due.specs.RunSteps.{run_state, is_for_process}
 use Rattle.bus_due.specs.Sights.{pace_of, serving_of, leaving}
 use Rattle.scsi_device.specs.Heard as hears
 use Rattle.scsi_device.specs.Heard.{Instructions, instructions, may_leave, is_said, is_known_item, is_of_scenario, is_served, is_opening, is_heard_process, is_heard_in, is_heard, is_to, is_true_turn, is_true_end, is_heard_on, is_heard_row, is_heard_after, heard}
-
-not_true : (q : Bool) → not q ≡ true → q ≡ false
-not_true true e = cc
-not_true false e = refl
 
 -- ---- phases
 
@@ -94,7 +90,7 @@ unstruck s k n e phase = last_of (k.handshakes.answers == 0) (bus_of k).atn k.ex
     begins = (and_parts k.exchange.begun (not (drives_of k n.target).req) (and_parts (k.exchange.begun && not (drives_of k n.target).req) (not (follows_by (serving_of s k n.target) (pace_of s k n.target).pulsed (bus_of k) k.handshakes)) e).0).0
 
     none : follows_by (serving_of s k n.target) (pace_of s k n.target).pulsed (bus_of k) k.handshakes ≡ false
-    none = not_true (follows_by (serving_of s k n.target) (pace_of s k n.target).pulsed (bus_of k) k.handshakes) (and_parts (k.exchange.begun && not (drives_of k n.target).req) (not (follows_by (serving_of s k n.target) (pace_of s k n.target).pulsed (bus_of k) k.handshakes)) e).1
+    none = not-true (follows_by (serving_of s k n.target) (pace_of s k n.target).pulsed (bus_of k) k.handshakes) (and_parts (k.exchange.begun && not (drives_of k n.target).req) (not (follows_by (serving_of s k n.target) (pace_of s k n.target).pulsed (bus_of k) k.handshakes)) e).1
 
     plain : (pace_of s k n.target).pulsed ≡ false
     plain = λ i. begins i && no_data (bus_of k) phase i && nat_lt 0 (agreement_of k).offset

@@ -7,15 +7,15 @@ pub mod CourseRows
 pub mod ReplySteps
 pub mod ReplyRows
 mod Places
-mod Fits
+pub mod Fits
 mod Dues
 pub mod Heard
 pub mod ServedEnds
 pub mod ProgressRows
 mod HeardOpenings
-mod NegotiatedRows
+pub mod NegotiatedRows
 pub mod GatheredRows
 mod GatheredWhole
 mod GatheredSteps
 mod GatheredMore
-mod GatheredAll
+pub mod GatheredAll

@@ -36,6 +36,8 @@ use Rattle.target_course.specs.Progress.{is_phase_left}
 use Rattle.scsi_device.specs.Heard.{heard}
 use Rattle.target_course.proofs.HeardOpenings.{left_told, cause_stays, phase_stays}
 use Rattle.target_course.proofs.ServedEnds.{connection_stays}
+use Rattle.bus_base.proofs.Tests.{or_false, put_at}
+use Rattle.bus_due.proofs.NegotiatedPairs.{with_pair, pairs_gone}
 
 -- ---- eight alike
 
@@ -50,66 +52,12 @@ none_of_eight x (suc (suc (suc (suc (suc (suc zero)))))) l = refl
 none_of_eight x (suc (suc (suc (suc (suc (suc (suc zero))))))) l = refl
 none_of_eight x (suc (suc (suc (suc (suc (suc (suc (suc t)))))))) l = absurd (omega arith)
 
-put_at : (had : List Bool) (k t : ℕ) (x : Bool) → t < length had → get_or (set had k x) t false ≡ (if k == t then x else get_or had t false)
-put_at had k t x l = go (k == t) refl
-  where
-    go : (y : Bool) → (k == t) ≡ y → get_or (set had k x) t false ≡ (if y then x else get_or had t false)
-    go true e =
-        let same : k ≡ t = eqb-true k t e in
-        let within : k < length had = (let s = same in omega arith) in
-        (λ i. get_or (set had k x) (sym same i) false) ∙ get_or-set_same had k x false within
-    go false e = let other : t ≢ k = (λ z. eqb-false k t e (sym z)) in get_or-set_other had k t x false other
-
 -- ---- what is kept of all pairs
-
-with_pair : (m : Negotiated) (i k dev t : ℕ) → has_negotiated (with_negotiated m i k) dev t ≡ (if i == dev && k == t then true else has_negotiated m dev t)
-with_pair m i k dev t = go m.all (list_any (λ n. n == t) m.targets) (i == dev && k == t) (list_any (λ (p : ℕ × ℕ). p.0 == dev && p.1 == t) m.pairs)
-  where
-    go : (a b x y : Bool) → (a || b || (x || y)) ≡ (if x then true else (a || b || y))
-    go true b true y = refl
-    go true b false y = refl
-    go false true true y = refl
-    go false true false y = refl
-    go false false true y = refl
-    go false false false y = refl
-
-gone : (pairs : List (ℕ × ℕ)) (k dev t : ℕ) → list_any (λ (p : ℕ × ℕ). p.0 == dev && p.1 == t) (pairs_without pairs k) ≡ (if k == t then false else list_any (λ (p : ℕ × ℕ). p.0 == dev && p.1 == t) pairs)
-gone [] k dev t = go (k == t)
-  where
-    go : (y : Bool) → false ≡ (if y then false else false)
-    go true = refl
-    go false = refl
-gone (p ∷ pairs) k dev t = go (p.1 == k) refl (k == t) refl (gone pairs k dev t)
-  where
-    none : (x : Bool) → (p.1 == t) ≡ false → ((x && p.1 == t) || false) ≡ false
-    none true e = (λ i. e i || false)
-    none false e = refl
-
-    rest : (x y : Bool) → (p.1 == t) ≡ false → ((x && p.1 == t) || y) ≡ y
-    rest true y e = (λ i. e i || y)
-    rest false y e = refl
-
-    go : (a : Bool) → (p.1 == k) ≡ a → (y : Bool) → (k == t) ≡ y → list_any (λ (p : ℕ × ℕ). p.0 == dev && p.1 == t) (pairs_without pairs k) ≡ (if y then false else list_any (λ (p : ℕ × ℕ). p.0 == dev && p.1 == t) pairs)
-        → list_any (λ (p : ℕ × ℕ). p.0 == dev && p.1 == t) (if a then pairs_without pairs k else p ∷ pairs_without pairs k) ≡ (if y then false else ((p.0 == dev && p.1 == t) || list_any (λ (p : ℕ × ℕ). p.0 == dev && p.1 == t) pairs))
-    go true e true f more = more
-    go true e false f more =
-        let same : p.1 ≡ k = eqb-true p.1 k e in
-        let other : (p.1 == t) ≡ false = (λ i. same i == t) ∙ f in
-        more ∙ sym (rest (p.0 == dev) (list_any (λ (p : ℕ × ℕ). p.0 == dev && p.1 == t) pairs) other)
-    go false e true f more =
-        let same : k ≡ t = eqb-true k t f in
-        let other : (p.1 == t) ≡ false = (λ i. p.1 == sym same i) ∙ e in
-        (λ i. (p.0 == dev && p.1 == t) || more i) ∙ none (p.0 == dev) other
-    go false e false f more = λ i. (p.0 == dev && p.1 == t) || more i
 
 -- ---- where no opening lasts
 
-or_none : (x : Bool) → (x || false) ≡ x
-or_none true = refl
-or_none false = refl
-
 had_is : (m : Negotiated) (p : Bool) (v : NegotiatedValue) → v.opening ≡ None → HasMet m p v → (i : ℕ) → i < 8 → has_negotiated m i v.dev ≡ get_or v.had i false
-had_is m p v e h i l = h.met i l ∙ (λ j. get_or v.had i false || is_open_to (e j) i && p) ∙ or_none (get_or v.had i false)
+had_is m p v e h i l = h.met i l ∙ (λ j. get_or v.had i false || is_open_to (e j) i && p) ∙ or_false (get_or v.had i false)
 
 closed : (m : Negotiated) (p q : Bool) (v : NegotiatedValue) → v.opening ≡ None → HasMet m p v → HasMet m q v
 closed m p q v e h = record {
@@ -254,7 +202,7 @@ device_so m v p k false true e f h = record {
   eight = refl;
   met = λ i l.
       (λ j. (h.unbarred e).0 j || list_any (λ n. n == v.dev) ((h.unbarred e).1 j) || list_any (λ (p : ℕ × ℕ). p.0 == i && p.1 == v.dev) (pairs_without m.pairs k))
-      ∙ gone m.pairs k i v.dev
+      ∙ pairs_gone m.pairs k i v.dev
       ∙ (λ j. if f j then false else list_any (λ (p : ℕ × ℕ). p.0 == i && p.1 == v.dev) m.pairs)
       ∙ sym (λ j. none_of_eight false i l j || false);
   unbarred = h.unbarred;
@@ -262,7 +210,7 @@ device_so m v p k false true e f h = record {
 device_so m v p k false false e f h = record {
   eight = h.eight;
   met = λ i l.
-      (λ j. m.all || list_any (λ n. n == v.dev) m.targets || (gone m.pairs k i v.dev ∙ (λ j. if f j then false else list_any (λ (p : ℕ × ℕ). p.0 == i && p.1 == v.dev) m.pairs)) j)
+      (λ j. m.all || list_any (λ n. n == v.dev) m.targets || (pairs_gone m.pairs k i v.dev ∙ (λ j. if f j then false else list_any (λ (p : ℕ × ℕ). p.0 == i && p.1 == v.dev) m.pairs)) j)
       ∙ h.met i l;
   unbarred = h.unbarred;
 }

@@ -68,7 +68,7 @@ entry_with all id x y = record { id = id; runs = (progress_in all id).runs + one
 abbrev counts_with : List ProcessProgress → ProcId → Bool → Bool → Counts
 counts_with all id x y = counts_of (entry_with all id x y)
 
-plus_none : (n : ℕ) → n ≡ n + 0
+pub plus_none : (n : ℕ) → n ≡ n + 0
 plus_none n = omega arith
 
 self_counted : (all : List ProcessProgress) (id : ProcId) (x y : Bool) → same_id id id ≡ true → counts_of (progress_in (progress_with all id x y) id) ≡ counts_with all id x y

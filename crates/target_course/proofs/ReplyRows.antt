@@ -59,8 +59,8 @@ use Rattle.target_course.specs.Courses.{events_of_target}
 use Rattle.target_course.specs.Replies.{planned_reply, reply_after, shows_run, IsReplyOf, IsOutlookAt}
 use Rattle.target_units.specs.Seated.{reply_told}
 use Rattle.target_course.specs.States.{IsOwnConnection}
-use Rattle.target_course.proofs.CourseAgrees.{other}
 use Rattle.target_course.proofs.ReplySteps.{accept_replies, accept_same, end_replies, fail_replies, refuse_replies, run_replies}
+use Rattle.bus_base.proofs.Tests.{or_second}
 
 -- ---- events that are the same
 
@@ -300,7 +300,7 @@ reply_begins s rows row dev f q x e n p o calm served =
     let i : Instructions = instructions s (row ∷ rows) in
     let last = and_parts (heard s rows) (is_heard_after s k next d i) e in
     let two = and_parts (is_heard_row s k next d) (is_heard s next d.next i) last.1 in
-    let on : is_beginning s next n (process_served s next) ≡ true = (λ j. is_heard_on s k next d (sym (f.connection ∙ x) j) (sym (q.connection ∙ o.stands) j)) ∙ other d.change.after.rst (is_heard_on s k next d k.story.bus_state.connection d.next) two.0 ((λ j. (q.bus j).rst) ∙ calm) in
+    let on : is_beginning s next n (process_served s next) ≡ true = (λ j. is_heard_on s k next d (sym (f.connection ∙ x) j) (sym (q.connection ∙ o.stands) j)) ∙ or_second d.change.after.rst (is_heard_on s k next d k.story.bus_state.connection d.next) two.0 ((λ j. (q.bus j).rst) ∙ calm) in
     none_told (reply_in (array_of s next).replies p.id) (no_reply s next n p ((λ j. is_beginning s next n (sym served j)) ∙ on))
   where
     none_told : (z : Option Reply) → is_none z ≡ true → None ≡ reply_told z

@@ -1,7 +1,7 @@
 -- A unit at its seat after each event and the choice that follows it.
 use Rattle.std.proofs.Common.{ℕ, ◌≡◌, ◌<◌, ◌≤◌, ◌+◌, ◌*◌, length, take, arith, Bool, true, false, List, [], ◌∷◌, ◌++◌, ◌∙◌, refl, sym, subst, Option, Some, None, Result, Ok, Err}
 use Rattle.std.specs.Prelude.{if◌then◌else◌, ◌&&◌, ◌||◌, ◌==◌, not, nat_le, is_some, is_none}
-use Rattle.std.proofs.lemmas.Bool.{eqb-true}
+use Rattle.std.proofs.lemmas.Bool.{eqb-true, and_from, le-leb}
 use Rattle.std.proofs.lemmas.Bool.Decides.{nat_tests}
 use Rattle.std.proofs.lemmas.List.{take_all}
 use Rattle.bus_base.specs.declared.AbortKind.{AbortKind}
@@ -654,12 +654,6 @@ record MayRun (seat : Seat) (v : SeatedState) (key : ℕ) (p : Process) (sent : 
   can : can_run v key (length sent) ≡ true
   sends : HasSent seat p (take (taken_at v key) sent)
 
-both_true : (x y : Bool) → x ≡ true → y ≡ true → (x && y) ≡ true
-both_true x y a b = (λ i. a i && y) ∙ b
-
-at_most : (m n : ℕ) → m ≤ n → nat_le m n ≡ true
-at_most m n h = grind (arith, nat_tests, h)
-
 reported_bad : (attention : Option Sense) (cdb : List ℕ) (reply : Reply) → is_reported attention cdb ≡ true → (reply_with attention cdb reply).status ≡ GOOD → ⊥
 reported_bad None cdb reply f e = cc
 reported_bad (Some a) cdb reply f e = let bad : CHECK_CONDITION ≡ GOOD = (λ i. (if sym f i then check_condition a else reply).status) ∙ e in omega (arith, bad)
@@ -681,7 +675,7 @@ may_run hosts seat time v p key sent h under q sending room =
     named = λ i. blocks_written (contents i) (sym block i)
 
     fits : nat_le blocks v.spare ≡ true
-    fits = at_most blocks v.spare (subst (λ (n : ℕ). n ≤ v.spare) named room.blocks)
+    fits = le-leb blocks v.spare (subst (λ (n : ℕ). n ≤ v.spare) named room.blocks)
 
     status : (done_at seat p).reply.status ≡ (reply_with (attention_at v.books key) (block_at v.books key) (disk_reply v.contents (block_at v.books key))).status
     status = λ i. ((seats.ran hosts h.0 v.contents h.1 seat v.books key p h.2.kept under q.below q.host q.sense).1 i).reply.status
@@ -692,7 +686,7 @@ may_run hosts seat time v p key sent h under q sending room =
     -- Nothing is taken, and it is not carried out.
     nothing : taken_at v key ≡ 0 → ((done_at seat p).reply.status ≡ GOOD → ⊥) → MayRun seat v key p sent
     nothing none bad = record {
-      can = both_true (nat_le (taken_at v key) (length sent)) (nat_le blocks v.spare) (at_most (taken_at v key) (length sent) (omega (arith, none))) fits;
+      can = and_from (nat_le (taken_at v key) (length sent)) (nat_le blocks v.spare) (le-leb (taken_at v key) (length sent) (omega (arith, none))) fits;
       sends = λ good. absurd (bad good);
     }
 
@@ -709,7 +703,7 @@ may_run hosts seat time v p key sent h under q sending room =
         let taken : taken_at v key ≡ length sent =
         (λ i. if f i then 0 else blocks * v.contents.size) ∙ (λ i. sym named i * (sym contents i).size) ∙ sym (room.bytes good) ∙ (λ i. length (sym same i)) in
         record {
-          can = both_true (nat_le (taken_at v key) (length sent)) (nat_le blocks v.spare) (at_most (taken_at v key) (length sent) (omega (arith, taken))) fits;
+          can = and_from (nat_le (taken_at v key) (length sent)) (nat_le blocks v.spare) (le-leb (taken_at v key) (length sent) (omega (arith, taken))) fits;
           sends = λ g. take_all (taken_at v key) sent (omega (arith, taken)) ∙ sending g;
         }
 

@@ -26,8 +26,9 @@ use Rattle.scenario.specs.Reading.{is_block_of}
 use Rattle.scenario.specs.Reasons.{is_block_in}
 use Rattle.bus_due.specs.Defs.{target_def_of}
 use Rattle.scsi_device.specs.Lines.{FitsBus}
-use Rattle.scsi_device.proofs.Finds.{and_true, same_number, none_some, some_is}
+use Rattle.scsi_device.proofs.Finds.{none_some, some_is}
 use Rattle.scsi_device.proofs.FitLines.{starts_none}
+use Rattle.std.proofs.lemmas.Bool.{eqb-true, and_parts}
 
 pub fresh_at : (s : ScenarioValue) (u : UnitDef) (pick : Pick) (fills : List FillDef) (written : ℕ) (v : SeatedState) → IsFresh u pick fills written v → s.fills ≡ fills → pick ≡ pick_of s.targets u.target
     → (seat_of (starting_array s) u.target u.unit).unit ≡ Some (starting_unit s u) → IsAtSeat s.hosts (seat_of (starting_array s) u.target u.unit) 0 v
@@ -106,12 +107,12 @@ filled s u (f ∷ fills) e a = (one, filled s u fills e a.1)
   where
     one : is_filled_by u f ≡ true → (f.lba < u.blocks) × (length f.bytes ≡ u.size)
     one h =
-        let both = and_true (f.target == u.target) (f.unit == u.unit) h in
-        let is : unit_of s f.target f.unit ≡ Some u = (λ i. unit_of s (same_number f.target u.target both.0 i) (same_number f.unit u.unit both.1 i)) ∙ e in
+        let both = and_parts (f.target == u.target) (f.unit == u.unit) h in
+        let is : unit_of s f.target f.unit ≡ Some u = (λ i. unit_of s (eqb-true f.target u.target both.0 i) (eqb-true f.unit u.unit both.1 i)) ∙ e in
         let block : is_block_of u f.lba f.bytes ≡ true = (λ i. is_block_in (sym is i) f.lba f.bytes) ∙ a.0 in
-        let within = and_true (nat_lt f.lba u.blocks && nat_lt f.lba (2 ^ 32)) (length f.bytes == u.size) block in
-        let below = (and_true (nat_lt f.lba u.blocks) (nat_lt f.lba (2 ^ 32)) within.0).0 in
-        (grind (arith, nat_tests, below), same_number (length f.bytes) u.size within.1)
+        let within = and_parts (nat_lt f.lba u.blocks && nat_lt f.lba (2 ^ 32)) (length f.bytes == u.size) block in
+        let below = (and_parts (nat_lt f.lba u.blocks) (nat_lt f.lba (2 ^ 32)) within.0).0 in
+        (grind (arith, nat_tests, below), eqb-true (length f.bytes) u.size within.1)
 
 pub line_filled : (s : ScenarioValue) (u : UnitDef) → FitsBus s → unit_of s u.target u.unit ≡ Some u → AreFilled u s.fills
 line_filled s u fits e = filled s u s.fills e fits.fills

@@ -28,7 +28,7 @@ use Rattle.disk_unit.specs.LiveCommands.{LiveCommand, HasLive, IsCurrentOf, queu
 use Rattle.disk_unit.specs.Plans.{plan_of}
 use Rattle.disk_unit.specs.Units.{is_reported, reply_with, plan_for}
 use Rattle.disk_unit.specs.declared.media.Plan.{Plan}
-use Rattle.disk_unit.proofs.Executions.{executed}
+use Rattle.disk_unit.proofs.Executions.{executed, unit_context}
 use Rattle.disk_unit.proofs.Keeping as keeping
 use Rattle.disk_unit.proofs.LiveCommands.{entry_found, block_found, room_is}
 use Rattle.target_units.specs.Readies.{ready_unit}
@@ -161,9 +161,6 @@ reply_unsent m cdb sent = all (not m.present && needs_unit cdb)
     all true = refl
     all false = by_attention m.attention
 
-abbrev context : Contents → Option Sense → Option Sense → CommandContext
-context c stored attention = record { present = true; contents = c; stored = stored; attention = attention }
-
 sense_length : (room : ℕ) (a b : Sense) → length (take (min room SENSE_LEN) (sense_data a)) ≡ length (take (min room SENSE_LEN) (sense_data b))
 sense_length room a b = length-take (min room SENSE_LEN) (sense_data a) ∙ sym (length-take (min room SENSE_LEN) (sense_data b))
 
@@ -176,7 +173,7 @@ unchanged None cdb reply h = refl
 unchanged (Some a) cdb reply h = λ i. if h i then check_condition a else reply
 
 -- A REQUEST SENSE gives as many bytes, whatever sense is stored.
-sense_plan : (c : Contents) (stored attention : Option Sense) (cdb : List ℕ) (out : ℕ) → is_request_sense (command_of cdb) ≡ true → plan_of (reply_with attention cdb (disk_reply c cdb)) out ≡ plan_of (execution (context c stored attention) cdb []).reply out
+sense_plan : (c : Contents) (stored attention : Option Sense) (cdb : List ℕ) (out : ℕ) → is_request_sense (command_of cdb) ≡ true → plan_of (reply_with attention cdb (disk_reply c cdb)) out ≡ plan_of (execution (unit_context c stored attention) cdb []).reply out
 sense_plan c stored attention cdb out f =
     (λ i. plan_of (unchanged attention cdb (disk_reply c cdb) none i) out)
     ∙ by (command_of cdb) f
@@ -185,7 +182,7 @@ sense_plan c stored attention cdb out f =
     none : heeds_attention cdb ≡ false
     none = heeds_none cdb f
 
-    by : (r : Result Command CdbFault) → is_request_sense r ≡ true → plan_of (cdb_execution (disk_context c) r []).reply out ≡ plan_of (cdb_execution (context c stored attention) r []).reply out
+    by : (r : Result Command CdbFault) → is_request_sense r ≡ true → plan_of (cdb_execution (disk_context c) r []).reply out ≡ plan_of (cdb_execution (unit_context c stored attention) r []).reply out
     by (Ok (commands.RequestSense room)) k = λ i. record { status = GOOD; sense = None; in_len = sense_length room no_sense (returned_sense true stored) i; out_len = out }
     by (Ok commands.TestUnitReady) k = cc
     by (Ok (commands.Read6 lba count)) k = cc
@@ -196,20 +193,20 @@ sense_plan c stored attention cdb out f =
     by (Ok (commands.Write10 lba count)) k = cc
     by (Err fault) k = cc
 
-    past : (a : Option Sense) → attention_execution (context c stored attention) a cdb [] ≡ cdb_execution (context c stored attention) (command_of cdb) []
+    past : (a : Option Sense) → attention_execution (unit_context c stored attention) a cdb [] ≡ cdb_execution (unit_context c stored attention) (command_of cdb) []
     past None = refl
-    past (Some a) = λ i. if none i then record { contents = c; reported = true; reply = check_condition a } else cdb_execution (context c stored attention) (command_of cdb) []
+    past (Some a) = λ i. if none i then record { contents = c; reported = true; reply = check_condition a } else cdb_execution (unit_context c stored attention) (command_of cdb) []
 
-pub planned : (c : Contents) (stored attention : Option Sense) (cdb : List ℕ) (taken : ℕ) (plan : Plan) → plan ≡ plan_for attention cdb (disk_reply c cdb) taken → plan ≡ plan_of (execution (context c stored attention) cdb []).reply plan.out_len
+pub planned : (c : Contents) (stored attention : Option Sense) (cdb : List ℕ) (taken : ℕ) (plan : Plan) → plan ≡ plan_for attention cdb (disk_reply c cdb) taken → plan ≡ plan_of (execution (unit_context c stored attention) cdb []).reply plan.out_len
 planned c stored attention cdb taken plan h =
     h
     ∙ go (is_request_sense (command_of cdb)) refl
-    ∙ (λ i. plan_of (execution (context c stored attention) cdb []).reply (sym h i).out_len)
+    ∙ (λ i. plan_of (execution (unit_context c stored attention) cdb []).reply (sym h i).out_len)
   where
     out : ℕ
     out = if is_reported attention cdb then 0 else taken
 
-    go : (y : Bool) → is_request_sense (command_of cdb) ≡ y → plan_of (reply_with attention cdb (disk_reply c cdb)) out ≡ plan_of (execution (context c stored attention) cdb []).reply out
+    go : (y : Bool) → is_request_sense (command_of cdb) ≡ y → plan_of (reply_with attention cdb (disk_reply c cdb)) out ≡ plan_of (execution (unit_context c stored attention) cdb []).reply out
     go true f = sense_plan c stored attention cdb out f
     go false f = λ i. plan_of (sym (executed c stored attention cdb [] f) i).reply out
 
@@ -227,7 +224,7 @@ plan_seen hosts seat time v from cdb sent plan lt e h host =
 
 -- ---- the bytes that it would give
 
-pub plain_bytes : (c : Contents) (stored attention : Option Sense) (cdb : List ℕ) → is_request_sense (command_of cdb) ≡ false → (reply_with attention cdb (disk_reply c cdb)).bytes ≡ (execution (context c stored attention) cdb []).reply.bytes
+pub plain_bytes : (c : Contents) (stored attention : Option Sense) (cdb : List ℕ) → is_request_sense (command_of cdb) ≡ false → (reply_with attention cdb (disk_reply c cdb)).bytes ≡ (execution (unit_context c stored attention) cdb []).reply.bytes
 plain_bytes c stored attention cdb f = λ i. (sym (executed c stored attention cdb [] f) i).reply.bytes
 
 -- A REQUEST SENSE gives the first bytes of its sense.
@@ -235,13 +232,13 @@ pub record IsSensed (bytes : List ℕ) (sense : Sense) : Type 0 where
   pub room : ℕ
   pub is : bytes ≡ take room (sense_data sense)
 
-pub sense_bytes : (c : Contents) (stored attention : Option Sense) (cdb : List ℕ) → is_request_sense (command_of cdb) ≡ true → IsSensed (execution (context c stored attention) cdb []).reply.bytes (returned_sense true stored)
+pub sense_bytes : (c : Contents) (stored attention : Option Sense) (cdb : List ℕ) → is_request_sense (command_of cdb) ≡ true → IsSensed (execution (unit_context c stored attention) cdb []).reply.bytes (returned_sense true stored)
 sense_bytes c stored attention cdb f = subst (λ (d : Execution). IsSensed d.reply.bytes (returned_sense true stored)) (sym (past attention)) (by (command_of cdb) f)
   where
     none : heeds_attention cdb ≡ false
     none = heeds_none cdb f
 
-    by : (r : Result Command CdbFault) → is_request_sense r ≡ true → IsSensed (cdb_execution (context c stored attention) r []).reply.bytes (returned_sense true stored)
+    by : (r : Result Command CdbFault) → is_request_sense r ≡ true → IsSensed (cdb_execution (unit_context c stored attention) r []).reply.bytes (returned_sense true stored)
     by (Ok (commands.RequestSense room)) k = record { room = min room SENSE_LEN; is = refl }
     by (Ok commands.TestUnitReady) k = cc
     by (Ok (commands.Read6 lba count)) k = cc
@@ -252,9 +249,9 @@ sense_bytes c stored attention cdb f = subst (λ (d : Execution). IsSensed d.rep
     by (Ok (commands.Write10 lba count)) k = cc
     by (Err fault) k = cc
 
-    past : (a : Option Sense) → attention_execution (context c stored attention) a cdb [] ≡ cdb_execution (context c stored attention) (command_of cdb) []
+    past : (a : Option Sense) → attention_execution (unit_context c stored attention) a cdb [] ≡ cdb_execution (unit_context c stored attention) (command_of cdb) []
     past None = refl
-    past (Some a) = λ i. if none i then record { contents = c; reported = true; reply = check_condition a } else cdb_execution (context c stored attention) (command_of cdb) []
+    past (Some a) = λ i. if none i then record { contents = c; reported = true; reply = check_condition a } else cdb_execution (unit_context c stored attention) (command_of cdb) []
 
 -- A part of them is that part of all sense data.
 pub sense_within : (bytes : List ℕ) (sense : Sense) (at n : ℕ) → IsSensed bytes sense → at + n ≤ length bytes → at + n ≤ 18

@@ -31,6 +31,7 @@ use Rattle.target_units.proofs.AbsentSteps as absent
 use Rattle.target_units.proofs.SeatSteps.{resets}
 use Rattle.target_units.proofs.Rooms.{left_at_less, lines_after}
 use Rattle.target_units.proofs.UnitTimes.{AreSame, IsLater, step_later, none_after, times_after, since_after}
+use Rattle.bus_base.proofs.Tests.{and_false}
 
 -- ---- one unit
 
@@ -189,20 +190,16 @@ loss_left s a b p dev n st own = at_place s (events.Lost p.id) a b p dev n (λ q
 
 -- ---- other places
 
-and_none : (x : Bool) → (x && false) ≡ false
-and_none true = refl
-and_none false = refl
-
 pub other_place : (s : ScenarioValue) (p : Process) (dev n m : ℕ) → IsOwn s dev n p → (n == m) ≡ false → is_of_other_unit (process_of s p.id) dev m ≡ true
 other_place s p dev n m own e =
     (λ i. is_of_other_unit (own.is i) dev m)
     ∙ (λ i. not (p.target == dev && own.unit_is i == m))
     ∙ (λ i. not (p.target == dev && e i))
-    ∙ (λ i. not (and_none (p.target == dev) i))
+    ∙ (λ i. not (and_false (p.target == dev) i))
 
 -- An abort of one unit.
 pub other_abort : (dev n m : ℕ) → (n == m) ≡ false → not (dev == dev && n == m) ≡ true
-other_abort dev n m e = (λ i. not (dev == dev && e i)) ∙ (λ i. not (and_none (dev == dev) i))
+other_abort dev n m e = (λ i. not (dev == dev && e i)) ∙ (λ i. not (and_false (dev == dev) i))
 
 -- ---- as a call changes one place of eight
 

@@ -16,8 +16,9 @@ use Rattle.bus_due.specs.Tasks.{room_of, size_of, reply_now}
 use Rattle.target_units.specs.Readies.{ready_unit}
 use Rattle.target_units.specs.Seated.{room_at}
 use Rattle.target_units.specs.Units.{room_if, first_unit, is_before}
-use Rattle.target_units.proofs.Holds.{held_at}
 use Rattle.target_units.proofs.UnitSteps.{own_unit}
+use Rattle.bus_base.proofs.Tests.{and_first, and_second}
+use Rattle.disk_array.proofs.SeatSteps.{held_at}
 
 -- ---- a unit that is found
 
@@ -29,19 +30,11 @@ found_at (v ∷ us) t n u h = go (v.target == t && v.unit == n) refl h (λ k. fo
     go true e k more = let same : v ≡ u = cc in subst (λ (z : UnitState). (z.target == t && z.unit == n) ≡ true) same e
     go false e k more = more k
 
-and_one : (x y : Bool) → (x && y) ≡ true → x ≡ true
-and_one true y h = refl
-and_one false y h = cc
-
-and_two : (x y : Bool) → (x && y) ≡ true → y ≡ true
-and_two true y h = h
-and_two false y h = cc
-
 pub target_found : (us : List UnitState) (t n : ℕ) (u : UnitState) → unit_state_at us t n ≡ Some u → u.target ≡ t
-target_found us t n u h = eqb-true u.target t (and_one (u.target == t) (u.unit == n) (found_at us t n u h))
+target_found us t n u h = eqb-true u.target t (and_first (u.target == t) (u.unit == n) (found_at us t n u h))
 
 pub number_found : (us : List UnitState) (t n : ℕ) (u : UnitState) → unit_state_at us t n ≡ Some u → u.unit ≡ n
-number_found us t n u h = eqb-true u.unit n (and_two (u.target == t) (u.unit == n) (found_at us t n u h))
+number_found us t n u h = eqb-true u.unit n (and_second (u.target == t) (u.unit == n) (found_at us t n u h))
 
 held_is : (s : ScenarioValue) (a : Array) (dev n : ℕ) → IsSound s a → is_held a.holds dev n ≡ Seats.is_any_held (seat_of a dev n).hold
 held_is s a dev n sound = held_at a.holds dev n sound.holds

@@ -5,6 +5,7 @@ use Rattle.std.proofs.lemmas.List.{take-append-drop}
 use Rattle.std.proofs.Math.Seq.{take-append_seam}
 use Rattle.bus_base.specs.Faults.{HasRisen}
 use Rattle.text_pages.specs.Pages.{Place, IsSent, Takes, IsPut, Puts}
+use Rattle.bus_base.proofs.Tests.{dropped}
 
 -- what was taken later, where the bytes taken so far are known
 told : (w next : Option (List ℕ)) (xs held rest text : List ℕ) → w ≡ Some xs → Takes w next held rest text → Takes (Some xs) next held rest text
@@ -132,10 +133,6 @@ pub whole_err : (o n : Place) (text : List ℕ) → Puts o n text → o.failed �
 whole_err o n text put fresh broken empty =
     let lost : IsPut false true o n text = subst (λ x. IsPut x true o n text) fresh (subst (λ y. IsPut o.failed y o n text) broken put.bytes) in
     (taken_front _ _ _ _ text lost.0.1 empty, lost.1)
-
--- the next item of a list and those after it
-pub dropped : {A : Type 0} (i : ℕ) (xs : List A) (d : A) → i < length xs → drop i xs ≡ get_or xs i d ∷ drop (i + 1) xs
-dropped i xs d below = rw (add-one, drop-cons xs i d) refl
 
 pub item_next : {A : Type 0} (i : ℕ) (xs : List A) (x : A) → i < length xs → x ≡ get_or xs i x → drop i xs ≡ x ∷ drop (i + 1) xs
 item_next i xs x below is = dropped i xs x below ∙ ap (λ y. y ∷ drop (i + 1) xs) (sym is)

@@ -53,7 +53,7 @@ more_digits bytes n at more h lt t e =
     }
 
 -- a value never falls by the digits after it
-value_grows : (n : ℕ) (ds : List ℕ) → n ≤ value_after n ds
+pub value_grows : (n : ℕ) (ds : List ℕ) → n ≤ value_after n ds
 value_grows n [] = omega arith
 value_grows n (d ∷ ds) = let more = value_grows (n * 10 + (d - 48)) ds in omega arith
 

@@ -27,13 +27,14 @@ use Rattle.bus_due.specs.Plain.{AreOfDevices}
 use Rattle.bus_due.specs.RunState.{RunState}
 use Rattle.bus_due.specs.RunSteps.{run_state, run_state_with_events}
 use Rattle.bus_due.proofs.Plains.{run_state_plain}
-use Rattle.bus_laws.proofs.Apart.{change_plain, free_by}
+use Rattle.bus_laws.proofs.Apart.{change_plain, free_by, nothing_shown, on_free}
 use Rattle.trace_laws.proofs.Called.{sel_of_call}
-use Rattle.trace_laws.proofs.Impossible.{none_some, wrong, wrong'}
+use Rattle.trace_laws.proofs.Impossible.{none_some}
 use Rattle.trace_laws.proofs.Tests.{falls_true}
 use Rattle.trace_laws.proofs.UnderRst.{line_off, drives_next}
 use Rattle.trace_laws.proofs.NextItems.{IsNextIf, next_is}
 use Rattle.trace_laws.specs.ItemFacts.{IsNext, IsAimed, AimsFit}
+use Rattle.bus_base.proofs.Tests.{wrong, wrong'}
 
 -- ---- aims
 
@@ -59,16 +60,6 @@ next_of s b dev (Some j) i e h = subst (λ (y : Item). IsNext s b dev y) (same_S
 record IsApart (s : ScenarioValue) (p : List Row) (row : Row) : Type 0 where
   sent : (run_state s (row ∷ p)).story.sent ≡ (story_on_free_bus s (run_state s p).story (row_reading (run_state s p).story.bus_state row) row).sent
   aims : (run_state s (row ∷ p)).story.aims ≡ (story_on_free_bus s (run_state s p).story (row_reading (run_state s p).story.bus_state row) row).aims
-
-nothing_shown : (s : ScenarioValue) (b : Story) (d : RowReading) (row : Row) → d.change.after.rst ≡ false → b.link ≡ None → row_events_by s b d row ≡ []
-nothing_shown s b d row e f =
-    ap (λ (q : Bool). if q then (if rises d.change.own.rst d.change.next.rst then events.Reset row.dev ∷ [] else []) else link_events s b b.link d) e
-    ∙ ap (λ (x : Option Link). link_events s b x d) f
-
-on_free : (s : ScenarioValue) (b : Story) (d : RowReading) (row : Row) → d.change.after.rst ≡ false → b.bus_state.connection ≡ None → d.next ≡ None → story_by_change s b d row ≡ story_on_free_bus s b d row
-on_free s b d row e f g =
-    ap (λ (q : Bool). if q then record b { link = None } else story_on_bus s b b.bus_state.connection d.next d row) e
-    ∙ (λ i. story_on_bus s b (f i) (g i) d row)
 
 apart_is : (s : ScenarioValue) (p : List Row) (row : Row) → AreOfDevices p → row.dev < 8 → connection p ≡ None → connection (row ∷ p) ≡ None → (bus (row ∷ p)).rst ≡ false → (run_state s p).story.link ≡ None → IsApart s p row
 apart_is s p row dv lt alone none calm link =

@@ -25,11 +25,9 @@ use Rattle.trace_laws.proofs.Impossible.{none_some, some_none}
 use Rattle.trace_laws.proofs.OtherProcesses.{reply_at, executed, away_rests}
 use Rattle.trace_laws.proofs.ArrivingProcesses.{failed_reply}
 use Rattle.trace_laws.proofs.SeatedProcesses.{running_own}
+use Rattle.disk_array.proofs.SeatReplies.{first}
 
 -- ---- a reply is given at a seat
-
-abbrev first : Option RunningProcess → Option RunningProcess → Option RunningProcess
-first x y = if is_some x then x else y
 
 -- The process of this number is found, and has this reply.
 record HasIt (guests : List RunningProcess) (current : Option RunningProcess) (id : ProcId) (reply : Reply) : Type 0 where

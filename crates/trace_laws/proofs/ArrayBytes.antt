@@ -144,7 +144,7 @@ process_holds P a id g u = go (guest_at a.guests id) (guest_holds P a.guests id 
     go None k = running_holds P a.units id u
     go (Some r) k = k
 
-abbrev IsOf : ScenarioValue → RunningProcess → Type 0
+abbrev pub IsOf : ScenarioValue → RunningProcess → Type 0
 IsOf s r = process_of s r.process.id ≡ Some r.process
 
 own_guests : (s : ScenarioValue) (guests : List RunningProcess) → AllOwnGuests s guests → AllByRecursion (IsOf s) guests

@@ -19,12 +19,14 @@ use Rattle.disk_array.specs.Order.{choice, process_at_if, picked_place, runnable
 use Rattle.disk_array.specs.Units.{RunningProcess, UnitState, Nexus, Array, is_held, unit_state_at, with_unit, guest_at, has_no_current, with_current, unit_after_choice, units_after_choice, settled_array}
 use Rattle.disk_array.specs.Steps as Steps
 use Rattle.disk_array.specs.Steps.{process_count, running_if, running_in, running_process, is_waiting, has_ended}
-use Rattle.bus_books.proofs.Lookups.{self_id, number_is, first_is, second_is}
+use Rattle.bus_books.proofs.Lookups.{self_id}
 use Rattle.trace_laws.specs.Places.{fresh, Waits, Runs, OnUnits, OnGuests, Each, IsAway, IsUnanswered, IsAtRest, IsUntouched, IsOutside, MayRun, IsAnswered, AreWithin}
 use Rattle.trace_laws.proofs.EachProcess.{append_waits, with_units, unit_has, chosen, each_settled}
 use Rattle.trace_laws.proofs.Impossible.{none_some, some_none}
 use Rattle.trace_laws.proofs.OtherProcesses.{away_units}
 use Rattle.trace_laws.proofs.QueueDepths.{unit_within}
+use Rattle.std.proofs.lemmas.Bool.{eqb-true}
+use Rattle.bus_base.proofs.Tests.{and_first, and_second}
 
 -- ---- who is away is not found
 
@@ -161,7 +163,7 @@ found_at [] t n u e = absurd (none_some u e)
 found_at (v ∷ units) t n u e = go (v.target == t && v.unit == n) refl e (λ k. found_at units t n u k)
   where
     go : (x : Bool) → (v.target == t && v.unit == n) ≡ x → (if x then Some v else unit_state_at units t n) ≡ Some u → (unit_state_at units t n ≡ Some u → IsFoundAt u t n) → IsFoundAt u t n
-    go true z k rest = subst (λ (w : UnitState). IsFoundAt w t n) (same_Some v u k) (record { target_is = number_is v.target t (first_is (v.target == t) (v.unit == n) z); unit_is = number_is v.unit n (second_is (v.target == t) (v.unit == n) z) })
+    go true z k rest = subst (λ (w : UnitState). IsFoundAt w t n) (same_Some v u k) (record { target_is = eqb-true v.target t (and_first (v.target == t) (v.unit == n) z); unit_is = eqb-true v.unit n (and_second (v.target == t) (v.unit == n) z) })
     go false z k rest = rest k
 
 pub at_once_may_run : (a : Array) (p : Process) (u : UnitState) → unit_state_at a.units p.target p.unit ≡ Some u → u.waiting ≡ [] → has_no_current u.current ≡ true → is_held a.holds u.target u.unit ≡ false → IsUntouched a p.id → MayRun (settled_array (queued a p u)) p

@@ -33,9 +33,11 @@ use Rattle.trace_laws.specs.Commands.{CommandFacts}
 use Rattle.trace_laws.specs.Instructed.{InstructedFacts}
 use Rattle.trace_laws.proofs.ConnectionRows.{begins_now, goes_now, row_kind}
 use Rattle.trace_laws.proofs.FirstRows.{under_rst}
-use Rattle.trace_laws.proofs.Impossible.{wrong, none_some}
-use Rattle.trace_laws.proofs.Joint.{Stood, link_calm}
+use Rattle.trace_laws.proofs.Impossible.{none_some}
+use Rattle.trace_laws.proofs.Joint.{Stood}
 use Rattle.trace_laws.proofs.RowAttendance.{shows_in}
+use Rattle.bus_base.proofs.Tests.{wrong}
+use Rattle.link_laws.proofs.Traces.{link_calm}
 
 -- A connection in which RST was true does not outlast it.
 pub not_after_reset : (s : ScenarioValue) (p : List Row) (row : Row) (n : Connection) → Obeys s → IsPrompt s (row ∷ p) → Stood s p → connection p ≡ Some n → (bus p).rst ≡ true → (bus (row ∷ p)).rst ≡ false → connection (row ∷ p) ≡ None

@@ -78,7 +78,7 @@ before_given a p m nexts.FreeBus h = go h
   where
     go : Closes a p m → HasReplyGiven a p.id
     go (completes e w) = answered_given a p.id w
-    go (disconnects e w open_is) = rests_given a p.id w
+    go (disconnects e w open_is q) = rests_given a p.id w
 
 asked_given : (a : Array) (p : Process) (plan : Plan) (cause : Cause) → PlacedAsked a p plan cause → HasReplyGiven a p.id
 asked_given a p plan causes.Selected h = rests_given a p.id (untouched_rests a p.id h)

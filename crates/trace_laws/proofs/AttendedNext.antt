@@ -50,7 +50,7 @@ use Rattle.trace_laws.proofs.Called.{IsCalled, IsDueCall}
 use Rattle.trace_laws.proofs.ConnectionRows.{ConnectionRow, RowKindOf, begins_now, connection_row, goes_now, row_kind}
 use Rattle.trace_laws.proofs.Crossings.{Goes, RowFacts, stays, ends_here}
 use Rattle.trace_laws.proofs.FirstRows.{made_is, quiet_sel, under_rst}
-use Rattle.trace_laws.proofs.Impossible.{wrong, wrong', none_some}
+use Rattle.trace_laws.proofs.Impossible.{none_some}
 use Rattle.trace_laws.proofs.InstructedTurns.{known_turned}
 use Rattle.trace_laws.proofs.Joint.{NextStood, Stood, link_connection}
 use Rattle.trace_laws.proofs.KnownLeavings.{known_after}
@@ -60,6 +60,7 @@ use Rattle.trace_laws.proofs.RowAttendance.{no_item}
 use Rattle.trace_laws.proofs.ShownEvents.{row_shows}
 use Rattle.trace_laws.proofs.UnderRst.{quiet_at_end}
 use Rattle.trace_laws.proofs.UnknownTurns.{fails_first, turn_gives}
+use Rattle.bus_base.proofs.Tests.{wrong, wrong'}
 
 -- ---- as a selection begins a connection for an abort
 

@@ -20,7 +20,6 @@ use Rattle.bus_dialogue.specs.NextPhase.{Serving, phase_of, phase_lines, phase_l
 use Rattle.bus_dialogue.specs.PhaseBytes.{lines_by}
 use Rattle.bus_due.specs.RunSteps.{run_state}
 use Rattle.bus_due.specs.Sights.{serving_at}
-use Rattle.bus_books.proofs.Lookups.{first_is}
 use Rattle.bus_laws.specs.Ends.{EndLines, initiator_side, target_side, connected_bus, Linked, ends_selected}
 use Rattle.bus_laws.specs.Rows.{row_of_lines, row_of_fault, change_to}
 use Rattle.bus_laws.proofs.Rows.{fault_change}
@@ -29,13 +28,14 @@ use Rattle.link_laws.proofs.EndDues.{offering_with}
 use Rattle.link_laws.proofs.Moves.{initiator_moves, target_moves, phase_same, same_self, no_rise}
 use Rattle.trace_laws.specs.Attention.{MessageRow, keeps, asks, answers, Attention}
 use Rattle.trace_laws.proofs.Driven.{no_third}
-use Rattle.trace_laws.proofs.Impossible.{none_some, wrong, wrong'}
+use Rattle.trace_laws.proofs.Impossible.{none_some}
 use Rattle.trace_laws.proofs.InPhase.{follows_in_message}
 use Rattle.trace_laws.proofs.Kept.{turn}
 use Rattle.trace_laws.proofs.LinkRows as rows
 use Rattle.trace_laws.proofs.LinkRows.{LinkRow, is_unasked}
 use Rattle.trace_laws.proofs.Tests.{none_both}
 use Rattle.trace_laws.proofs.Turns.{freed_connection}
+use Rattle.bus_base.proofs.Tests.{wrong, wrong', and_first}
 
 -- Outside MESSAGE OUT and the phases to the initiator ATN is false.
 abbrev pub IsLow : List Row → Type 0
@@ -100,7 +100,7 @@ not_true a false e f = refl
 next_asked : (s : ScenarioValue) (p : List Row) (t : ℕ) (n : Connection) (atn msg cd io : Bool) (y : ℕ) → IsLow p → Linked p n (ends false false atn 0 msg cd io false y) → is_unasked p ≡ false → (offering_with s p n true (ends false false atn 0 msg cd io false y)).follows ≡ true → On p n (change_of p (row_of_lines t n.target (target_side (ends false false atn 0 msg cd io true y))))
 next_asked s p t n atn msg cd true y low h un follows =
     of_target p t n (ends false false atn 0 msg cd true false y) true y low h
-    (λ m. asks refl refl (inr (not_true (is_unasked p) atn (first_is _ _ (sym (follows_in_message s p n false false atn 0 msg cd false y m) ∙ follows)) un)) refl)
+    (λ m. asks refl refl (inr (not_true (is_unasked p) atn (and_first _ _ (sym (follows_in_message s p n false false atn 0 msg cd false y m) ∙ follows)) un)) refl)
 next_asked s p t n atn msg cd false y low h un follows = of_target p t n (ends false false atn 0 msg cd false false y) true y low h (λ m. to_target msg cd m)
 
 -- ---- a phase is left

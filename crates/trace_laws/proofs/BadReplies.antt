@@ -16,7 +16,8 @@ use Rattle.disk_array.specs.Steps.{accept_step, accept_step_at, after_status, ar
 use Rattle.disk_array.specs.Units.{Array, RunningProcess, UnitState, nexus_of, nexuses_without, senses_without, settled_array, unit_state_at, with_unit}
 use Rattle.bus_due.specs.RunSteps.{array_after_events}
 use Rattle.trace_laws.specs.Attendance.{IsNotGood}
-use Rattle.trace_laws.proofs.Impossible.{none_some, wrong'}
+use Rattle.trace_laws.proofs.Impossible.{none_some}
+use Rattle.bus_base.proofs.Tests.{wrong'}
 
 -- ---- what is listed
 

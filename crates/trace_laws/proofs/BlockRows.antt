@@ -28,11 +28,12 @@ use Rattle.bus_story.specs.TraceHistory.{story_with_restored, story_with_carried
 use Rattle.bus_due.specs.RunState.{RunState}
 use Rattle.bus_due.specs.RunSteps.{run_state_after}
 use Rattle.bus_books.specs.Rows.{IsRowIn, reading_in}
-use Rattle.bus_books.proofs.CarriedRows.{ends_keep, check_keeps}
+use Rattle.bus_books.proofs.CarriedRows.{or_link}
 use Rattle.bus_books.proofs.InConnection.{reading_is}
 use Rattle.bus_books.proofs.Lookups.{carried_id, put_there, id_is, self_id}
 use Rattle.trace_laws.proofs.CommandCounts.{is_refusal}
-use Rattle.trace_laws.proofs.PointerStorySteps.{carried_link, message_id}
+use Rattle.trace_laws.proofs.PointerStorySteps.{message_id}
+use Rattle.bus_story.proofs.StorySteps.{ends_keep, check_keeps, carried_link}
 
 abbrev pub block_in : Story → ProcId → List ℕ
 block_in b id = (carried_of b.carried id).block
@@ -120,10 +121,6 @@ quiet_link s b (Some l) d row e = ap (λ (q : Bool). (if q then story_after_cros
 -- What is put back is this.
 abbrev UndoIs : Option Link → (List ℕ → Type 0) → Type 0
 UndoIs link q = (l : Link) (c : CarriedBytes) → link ≡ Some l → l.undo ≡ Some c → q c.block
-
-abbrev pub or_link : Link → Option Link → Link
-or_link x None = x
-or_link x (Some l) = l
 
 same_link : (l m : Link) → (let a : Option Link = Some l in a) ≡ Some m → l ≡ m
 same_link l m e = ap (or_link l) e

@@ -18,7 +18,7 @@ use Rattle.scenario.specs.Value.{ScenarioValue}
 use Rattle.scenario.specs.declared.value.UnitDef.{UnitDef}
 use Rattle.disk_array.specs.SoundArray.{AllOwnUnits, HasSeats}
 use Rattle.disk_array.specs.Units.{Array, starting_units}
-use Rattle.disk_array.proofs.SoundArrays.{history_sound}
+use Rattle.disk_array.proofs.SoundArrays.{history_sound, start_units}
 use Rattle.bus_story.specs.Samples.{latency_of}
 use Rattle.bus_story.specs.TraceHistory.{is_host, aim_of, trace_history}
 use Rattle.bus_reactions.specs.declared.due.Due.{Due}
@@ -30,7 +30,6 @@ use Rattle.bus_due.specs.Wants.{callee, target_of, initiator_if}
 use Rattle.bus_due.proofs.Plains.{run_state_plain}
 use Rattle.scsi_device.specs.Lines.{AreUnits}
 use Rattle.bus_books.specs.Traces.{IsAimedAt, IsReadyFor}
-use Rattle.bus_books.proofs.Lookups.{number_is}
 use Rattle.bus_books.proofs.ReadyProcesses.{selects_for, reselects_by}
 use Rattle.bus_laws.specs.Ends.{BeginsConnection, by_selection, by_reselection}
 use Rattle.bus_laws.specs.Callings.{both_ids, won_call}
@@ -40,10 +39,11 @@ use Rattle.bus_laws.proofs.Apart.{KeepsAll, still_keeps}
 use Rattle.bus_laws.proofs.CallDues.{calls_due, is_calling}
 use Rattle.bus_laws.proofs.Dues.{is_there}
 use Rattle.bus_laws.proofs.Rows.{stage_is}
-use Rattle.bus_laws.proofs.Tests.{and_false}
 use Rattle.bus_laws.proofs.TwoIds.{is_call}
-use Rattle.trace_laws.proofs.Impossible.{none_some, wrong}
+use Rattle.trace_laws.proofs.Impossible.{none_some}
 use Rattle.trace_laws.proofs.Tests.{not_not, falls_true}
+use Rattle.std.proofs.lemmas.Bool.{eqb-true}
+use Rattle.bus_base.proofs.Tests.{wrong, and_false}
 
 -- A connection is made for the item of its initiator, or the process that its target has ready: the caller called the device that
 -- it is due to call.
@@ -138,7 +138,7 @@ first_called s p row k x (after_arbitration c t h) calm always least e none new 
     let same : (won_call c t) ≡ k = same_Some _ k (sym h.stands.call_is ∙ e) in
     let caller : c ≡ k.caller = ap (λ (w : Call). w.caller) same in
     let made = new_by (row.dev == k.caller) (drives_two_ids k.caller (change_of p row).next) (new_calling k.caller (change_of p row).next row.time) x new in
-    let dev : row.dev ≡ c = number_is row.dev k.caller made.1 ∙ sym caller in
+    let dev : row.dev ≡ c = eqb-true row.dev k.caller made.1 ∙ sym caller in
     let due : Due = record { time = row.time; kind = row.kind } in
     let w = is_there s p row.dev due least.is_due in
     let at : stage p ≡ InCalling (won_call c t) = stage_is p _ _ _ _ h.stands in
@@ -201,10 +201,6 @@ called_on s p row h alone calm off always least was k x e f = go (bus p).sel ref
     go false before = fresh_call s p row before k x e f
 
 -- ---- a connection begins
-
-start_units : (s : ScenarioValue) (units : List UnitDef) → AllOwnUnits s (starting_units s units)
-start_units s [] = tt
-start_units s (u ∷ units) = (record { waiting = tt; current = tt }, start_units s units)
 
 pub own_units : (s : ScenarioValue) (p : List Row) → HasSeats s → AreOfDevices p → AllOwnUnits s (array_of s (run_state s p)).units
 own_units s p seats dv = go (run_state s p).array refl

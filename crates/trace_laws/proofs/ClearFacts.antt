@@ -36,11 +36,8 @@ use Rattle.trace_laws.proofs.FailureFirst.{BeginsClear}
 use Rattle.trace_laws.proofs.FreshItems.{items_fresh, items_ready, items_sent}
 use Rattle.trace_laws.proofs.Impossible.{none_some}
 use Rattle.trace_laws.proofs.Joint.{Stood, NextStood}
-use Rattle.trace_laws.proofs.PointerBegins.{same_process}
+use Rattle.trace_laws.proofs.PointerBegins.{same_process, none_item}
 use Rattle.trace_laws.proofs.RunRows.{Serves, it, another, serves}
-
-no_item : {A : Type 0} (id : ProcId) → (let o : Option Item = None in o) ≡ Some (process id) → A
-no_item id e = absurd cc
 
 -- ---- before any row
 
@@ -78,10 +75,10 @@ clear_asks s p row o prompt was items unshown h n id alone after calm served = a
     anew q e = ap (λ (x : Bool). if x then item_if (ready_of s k n.target) else aim_of k.story.aims n.initiator) (sym e) ∙ sym (λ i. served_after s k (con i) (next i)) ∙ served
 
     again : n.reselected ≡ true → (r : Option Ready) → ready_of s k n.target ≡ r → item_if r ≡ Some (process id) → IsClear (carried_here k id)
-    again e None er f = no_item id f
+    again e None er f = none_item id f
     again e (Some r) er f =
         subst (λ (x : ProcId). IsClear (carried_here k x)) (same_process r.process.id id f)
-        ((h.away r.process.id (λ x z. no_item x (sym none ∙ z))).clear (items_ready s p n.target r items er).opens (unshown n alone after e r er))
+        ((h.away r.process.id (λ x z. none_item x (sym none ∙ z))).clear (items_ready s p n.target r items er).opens (unshown n alone after e r er))
 
     selected : n.reselected ≡ false → aim_of k.story.aims n.initiator ≡ Some (process id) → IsClear (carried_here k id)
     selected e aim =

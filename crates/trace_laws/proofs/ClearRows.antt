@@ -29,9 +29,8 @@ use Rattle.bus_books.specs.Traces.{GoesOn, Books}
 use Rattle.bus_books.proofs.InConnection.{InConnection, in_connection}
 use Rattle.bus_books.proofs.Lookups.{put_other, carried_id}
 use Rattle.trace_laws.specs.ClearFacts.{StandsClear, ClearBooks}
-use Rattle.trace_laws.specs.DataPointers.{UndoesServed}
+use Rattle.trace_laws.specs.DataPointers.{UndoesServed, is_marked}
 use Rattle.trace_laws.specs.Failures.{IsClear}
-use Rattle.trace_laws.specs.Tells.{has_answer}
 use Rattle.trace_laws.proofs.FailureAway as away
 use Rattle.trace_laws.proofs.FailureAway.{reset_same, apart_clear}
 use Rattle.trace_laws.proofs.FailureBytes.{SameFail, clear_as, row_carries}
@@ -48,7 +47,7 @@ stands_on : (s : ScenarioValue) (k : RunState) (row : Row) (id : ProcId) → Sam
 stands_on s k row id same clear h = record {
   clear = λ open_is none.
       clear (h.clear (not_before (has_item k.story.sent.over (process id)) (has_item (run_state_after s k row).story.sent.over (process id)) (λ e. over_row s k row (process id) e) open_is)
-      (not_before (has_answer (carried_here k id)) (has_answer (carried_here (run_state_after s k row) id)) same.marked none));
+      (not_before (is_marked (carried_here k id)) (is_marked (carried_here (run_state_after s k row) id)) same.marked none));
 }
 
 pub over_stands : (k : RunState) (id : ProcId) → has_item k.story.sent.over (process id) ≡ true → StandsClear k id
@@ -68,10 +67,10 @@ ends_stands s k row n id con next h =
     stands_on s k row id (ends_same s k row n id con next) (λ c. clear_as (carried_here k id) (carried_here (run_state_after s k row) id) (away.ends_same s k row n id con next) c) h
 
 -- It is clear, or has an answer, as the connection that serves it ends.
-pub freed_stands : (s : ScenarioValue) (k : RunState) (row : Row) (n : Connection) (id : ProcId) → k.story.bus_state.connection ≡ Some n → (row_reading k.story.bus_state row).next ≡ None → (has_answer (carried_here k id) ≡ true) ⊎ IsClear (carried_here k id) → StandsClear (run_state_after s k row) id
+pub freed_stands : (s : ScenarioValue) (k : RunState) (row : Row) (n : Connection) (id : ProcId) → k.story.bus_state.connection ≡ Some n → (row_reading k.story.bus_state row).next ≡ None → (is_marked (carried_here k id) ≡ true) ⊎ IsClear (carried_here k id) → StandsClear (run_state_after s k row) id
 freed_stands s k row n id con next h = ends_stands s k row n id con next (by h)
   where
-    by : (has_answer (carried_here k id) ≡ true) ⊎ IsClear (carried_here k id) → StandsClear k id
+    by : (is_marked (carried_here k id) ≡ true) ⊎ IsClear (carried_here k id) → StandsClear k id
     by (inl e) = record { clear = λ open_is none. absurd (true≢false (sym e ∙ none)) }
     by (inr c) = record { clear = λ open_is none. c }
 

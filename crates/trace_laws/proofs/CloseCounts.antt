@@ -23,7 +23,7 @@ use Rattle.bus_due.specs.RunSteps.{run_state, run_state_after}
 use Rattle.bus_due.proofs.Plains.{run_state_plain}
 use Rattle.bus_books.specs.Rows.{RowKind, still, strikes, crosses, turns}
 use Rattle.bus_books.specs.Traces.{GoesOn}
-use Rattle.bus_books.proofs.Gives.{struck_same, in_io}
+use Rattle.bus_books.proofs.Gives.{struck_same, in_io, in_same}
 use Rattle.bus_books.proofs.InConnection.{InConnection, in_connection, same_phase_is}
 use Rattle.bus_laws.specs.Ends.{BeginsConnection, by_selection, by_reselection}
 use Rattle.bus_laws.specs.Rows.{change_to}
@@ -34,11 +34,10 @@ use Rattle.link_laws.proofs.Moves.{no_rise}
 use Rattle.trace_laws.specs.Closes.{IsCompleting, CloseCounts}
 use Rattle.trace_laws.specs.ItemTalks.{awaits}
 use Rattle.trace_laws.proofs.FirstRows.{IsFirst}
-use Rattle.trace_laws.proofs.Impossible.{wrong, wrong'}
 use Rattle.trace_laws.proofs.LastRows.{stays_as}
-use Rattle.trace_laws.proofs.OfferRows.{in_same}
 use Rattle.trace_laws.proofs.PointerRows.{struck_answers}
 use Rattle.trace_laws.proofs.TalkSteps.{Alternates}
+use Rattle.bus_base.proofs.Tests.{wrong, wrong'}
 
 -- ---- the counts after a row with which the phase stays
 

@@ -46,12 +46,13 @@ use Rattle.trace_laws.proofs.CloseCounts.{Counted, counted_row, counts_goes, fre
 use Rattle.trace_laws.proofs.CloseProcesses.{ended_after}
 use Rattle.trace_laws.proofs.CloseStays.{attends_after, once_taken, awaited, alternates_at}
 use Rattle.trace_laws.proofs.ConnectionRows.{ConnectionRow, GoingRow, connection_row, going_row, RowKindOf, begins_now, goes_now, row_kind}
-use Rattle.trace_laws.proofs.Impossible.{wrong, wrong', none_some}
+use Rattle.trace_laws.proofs.Impossible.{none_some}
 use Rattle.trace_laws.proofs.Joint.{Stood, NextStood}
 use Rattle.trace_laws.proofs.LastRows.{stays_as}
 use Rattle.trace_laws.proofs.PhaseLines.{in_phase}
 use Rattle.trace_laws.proofs.PlaceStays.{stay_shown}
 use Rattle.trace_laws.proofs.Tests.{some_zero, all_four}
+use Rattle.bus_base.proofs.Tests.{wrong, wrong'}
 
 pub close_start : (s : ScenarioValue) → CloseFacts s []
 close_start s n e calm = none_some n e

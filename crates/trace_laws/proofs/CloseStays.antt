@@ -31,16 +31,17 @@ use Rattle.bus_books.specs.Traces.{GoesOn}
 use Rattle.bus_laws.proofs.Apart.{change_plain}
 use Rattle.bus_laws.proofs.Prompt.{least_is}
 use Rattle.trace_laws.specs.Closes.{IsCompleting, CloseFacts}
-use Rattle.trace_laws.specs.ItemTalks.{awaits}
-use Rattle.trace_laws.specs.LastTalks.{is_freeing, LastFacts, LastBy, LastGiven, still_stays, to_close, to_save, closed}
+use Rattle.trace_laws.specs.ItemTalks.{awaits, frees_bus}
+use Rattle.trace_laws.specs.LastTalks.{LastFacts, LastBy, LastGiven, still_stays, to_close, to_save, closed}
 use Rattle.trace_laws.specs.Tells.{IsServed, of_process, of_abort, ServedFacts}
 use Rattle.trace_laws.proofs.ConnectionRows.{ConnectionRow, connection_row}
-use Rattle.trace_laws.proofs.Impossible.{wrong, wrong'}
 use Rattle.trace_laws.proofs.InMoves.{in_move, alternating}
 use Rattle.trace_laws.proofs.Joint.{Stood, NextStood}
 use Rattle.trace_laws.proofs.PhaseLines.{in_phase}
 use Rattle.trace_laws.proofs.TalkSteps.{Alternates}
 use Rattle.trace_laws.proofs.Tests.{risen}
+use Rattle.bus_base.proofs.Tests.{wrong, wrong'}
+use Rattle.trace_laws.proofs.TalkTurns.{frees}
 
 -- ---- the last message
 
@@ -52,12 +53,6 @@ complete_is abortive e = wrong' e
 
 not_plain : {A : Type 0} (x : LastMessage) → x ≡ plain → x ≡ complete → A
 not_plain x e f = wrong' (ap is_complete (sym e ∙ f))
-
-frees : (next : Next) → is_freeing next ≡ true → next ≡ nexts.FreeBus
-frees nexts.FreeBus e = refl
-frees nexts.Command e = wrong' e
-frees nexts.Status e = wrong' e
-frees nexts.GoOn e = wrong' e
 
 pub closed_one : (l : Link) (m : Messages) (next : Next) (count : ℕ) → LastGiven l m next count → l.last ≡ complete → (m ≡ one_message to_initiator.CommandComplete) × (next ≡ nexts.FreeBus)
 closed_one l m next count (still_stays f all last) e = not_plain l.last last e

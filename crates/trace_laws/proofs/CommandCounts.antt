@@ -24,13 +24,13 @@ use Rattle.bus_story.specs.TraceHistory.{is_parity_error}
 use Rattle.bus_dialogue.specs.declared.exchange.Plan.{Plan}
 use Rattle.bus_dialogue.specs.Exchange.{Speech, next_word}
 use Rattle.bus_dialogue.specs.Words.{parity_error, detected_error, answer_bytes}
-use Rattle.scsi_device.proofs.Finds.{and_true}
 use Rattle.bus_books.specs.Listening.{Understanding, nothing_understood, understood_byte, understood}
 use Rattle.bus_books.specs.Speaking.{AreWordsHeard}
-use Rattle.bus_books.proofs.RowTies.{not_is}
 use Rattle.bus_books.proofs.Saying.{says_byte}
 use Rattle.trace_laws.specs.Commands.{IsNone, Counts}
-use Rattle.trace_laws.proofs.Impossible.{none_some, wrong}
+use Rattle.trace_laws.proofs.Impossible.{none_some}
+use Rattle.std.proofs.lemmas.Bool.{not-true, and_parts}
+use Rattle.bus_base.proofs.Tests.{wrong}
 
 -- ---- a message
 
@@ -126,8 +126,8 @@ no_refusals u [] = true
 no_refusals u (b ∷ bytes) = not (is_refusal (whole_out (got_out (u.half ++ b ∷ [])))) && no_refusals (understood_byte u b) bytes
 
 none_at : (u : Understanding) (before : List ℕ) (byte : ℕ) (rest : List ℕ) → no_refusals u (before ++ byte ∷ rest) ≡ true → is_refusal (whole_out (got_out ((understood u before).half ++ byte ∷ []))) ≡ false
-none_at u [] byte rest e = not_is _ (and_true (not (is_refusal (whole_out (got_out (u.half ++ byte ∷ []))))) (no_refusals (understood_byte u byte) rest) e).0
-none_at u (b ∷ before) byte rest e = none_at (understood_byte u b) before byte rest (and_true (not (is_refusal (whole_out (got_out (u.half ++ b ∷ []))))) (no_refusals (understood_byte u b) (before ++ byte ∷ rest)) e).1
+none_at u [] byte rest e = not-true _ (and_parts (not (is_refusal (whole_out (got_out (u.half ++ byte ∷ []))))) (no_refusals (understood_byte u byte) rest) e).0
+none_at u (b ∷ before) byte rest e = none_at (understood_byte u b) before byte rest (and_parts (not (is_refusal (whole_out (got_out (u.half ++ b ∷ []))))) (no_refusals (understood_byte u b) (before ++ byte ∷ rest)) e).1
 
 answers_nothing_back : (h : Option HostDef) (a : Agreement) → no_refusals nothing_understood (answer_bytes h a) ≡ true
 unfolding form_out

@@ -40,7 +40,7 @@ use Rattle.trace_laws.proofs.CommandStays.{Waits, WaitsThen, phase_same}
 use Rattle.trace_laws.proofs.CommandTurns.{serves_as, item_as}
 use Rattle.trace_laws.proofs.CommandMessages.{crossed_out, crossed_in, crossed_else, tells, same_item, SaidRow, said_in, GivenRow, given_for}
 use Rattle.trace_laws.proofs.Complaints.{speech_said}
-use Rattle.trace_laws.proofs.Impossible.{wrong, wrong'}
+use Rattle.bus_base.proofs.Tests.{wrong, wrong'}
 
 -- ---- COMMAND
 

@@ -45,8 +45,8 @@ use Rattle.trace_laws.proofs.Blocks.{HasCommands}
 use Rattle.trace_laws.proofs.CommandWaits.{asked_now}
 use Rattle.trace_laws.proofs.Crossings.{Goes, RowFacts, stays, ends_here}
 use Rattle.trace_laws.proofs.ConnectionRows.{ConnectionRow}
-use Rattle.trace_laws.proofs.Impossible.{wrong, wrong'}
 use Rattle.trace_laws.proofs.Joint.{Stood}
+use Rattle.bus_base.proofs.Tests.{wrong, wrong'}
 
 -- ---- the block of the process
 

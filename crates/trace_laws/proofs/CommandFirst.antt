@@ -27,11 +27,12 @@ use Rattle.bus_due.specs.Wants.{ready_of}
 use Rattle.bus_books.specs.Items.{AimsAreItems}
 use Rattle.bus_books.specs.Rows.{IsFirstRow}
 use Rattle.bus_books.specs.Traces.{Begins}
-use Rattle.bus_books.proofs.Knows.{events_link}
 use Rattle.trace_laws.specs.Commands.{IsNone, IsNoneOrAll, dialogue_of, Counts, HasNoBlock, UndoesToNone, GivesFor, StandsIn, CommandBooks}
 use Rattle.trace_laws.proofs.BlockRows.{block_in, undo_of, events_block, restored_own}
-use Rattle.trace_laws.proofs.Impossible.{wrong, wrong', none_some}
+use Rattle.trace_laws.proofs.Impossible.{none_some}
 use Rattle.trace_laws.proofs.PhaseLines.{in_phase}
+use Rattle.bus_base.proofs.Tests.{wrong, wrong'}
+use Rattle.bus_story.proofs.StorySteps.{events_link}
 
 -- The pointers of its process are restored.
 restored_first : (b : Story) (n : Connection) (id : ProcId) → n.reselected ≡ false → aim_of b.aims n.initiator ≡ Some (process id) → block_in (story_after_connection b n) id ≡ []

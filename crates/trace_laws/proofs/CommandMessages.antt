@@ -35,12 +35,11 @@ use Rattle.bus_books.specs.Listening.{half_after}
 use Rattle.bus_books.specs.Rows.{IsRowIn, reading_in}
 use Rattle.bus_books.specs.Speaking.{AreWordsFor, opens, refuses, answers, rejects_data, rejects_status, AreWordsHeard}
 use Rattle.bus_books.proofs.Knows.{link_after}
-use Rattle.link_laws.proofs.Ahead.{zero_of}
 use Rattle.trace_laws.specs.Commands.{IsNone, IsNoneOrAll, dialogue_of, Counts, UndoesToNone, IsUntaken, IsBeforeCommand, Restores, GivesBefore, opens_given, restores_given, AnswersBefore, opens_answered, restores_refused, restores_answered, GivesFor, AnswersFor, SaysFor}
 use Rattle.trace_laws.proofs.BlockRows.{block_in, undo_of, block_after, out_block, said_block, out_undo, in_block, restores_block, in_undo}
 use Rattle.trace_laws.proofs.CommandCounts.{byte_out_counts, byte_out_now, byte_in_counts, byte_in_first, byte_in_now, byte_in_restores, answer_said, error_said}
 use Rattle.trace_laws.proofs.CommandTurns.{serves_as}
-use Rattle.trace_laws.proofs.Impossible.{wrong, wrong'}
+use Rattle.bus_base.proofs.Tests.{wrong, wrong', zero_of}
 
 -- ---- what the story tells of the byte
 

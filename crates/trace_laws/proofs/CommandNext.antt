@@ -60,9 +60,9 @@ use Rattle.trace_laws.proofs.CommandTurns.{same_blocks, Turns, turn_keeps}
 use Rattle.trace_laws.proofs.CommandWaits.{WaitsBy, FollowsBy, unwhole, waits_on}
 use Rattle.trace_laws.proofs.Crossings.{Goes}
 use Rattle.trace_laws.proofs.ConnectionRows.{ConnectionRow, stage_of_connection}
-use Rattle.trace_laws.proofs.Impossible.{wrong, wrong'}
 use Rattle.trace_laws.proofs.Joint.{Stood, NextStood, link_phase}
 use Rattle.trace_laws.proofs.PhaseLines.{out_lines, in_phase, is_out_next, unpulsed}
+use Rattle.bus_base.proofs.Tests.{wrong, wrong'}
 
 -- ---- MESSAGE OUT is left
 

@@ -29,7 +29,7 @@ use Rattle.bus_books.proofs.Gives.{requests_stay, struck_same}
 use Rattle.bus_books.proofs.InConnection.{InConnection, in_connection, SamePhase, same_phase_is}
 use Rattle.trace_laws.specs.Commands.{IsNone, IsNoneOrAll, dialogue_of, block_count, Counts, IsUntaken, IsBeforeCommand, Restores, GivesBefore, opens_given, restores_given, AnswersBefore, opens_answered, restores_refused, restores_answered, TakesBlock, GivesFor, AnswersFor, SaysFor, StandsIn, CommandBooks}
 use Rattle.trace_laws.proofs.CommandTurns.{SameBlocks, no_block_as, undo_as, serves_as, item_as, same_blocks}
-use Rattle.trace_laws.proofs.Impossible.{wrong'}
+use Rattle.bus_base.proofs.Tests.{wrong'}
 
 -- In COMMAND a byte is asked for while the block is not whole, and the first one before any was taken.
 pub record Waits (k : RunState) (id : ProcId) : Type 0 where

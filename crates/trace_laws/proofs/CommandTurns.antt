@@ -45,8 +45,8 @@ use Rattle.bus_books.proofs.Knows.{link_after}
 use Rattle.trace_laws.specs.Commands.{IsNone, IsNoneOrAll, dialogue_of, block_count, Counts, HasNoBlock, UndoesToNone, Serves, IsUntaken, IsBeforeCommand, GivesBefore, opens_given, restores_given, AnswersBefore, opens_answered, restores_refused, restores_answered, TakesBlock, RejectsOn, GivesFor, AnswersFor, SaysFor, StandsIn, ItemServed, CommandBooks}
 use Rattle.trace_laws.proofs.BlockRows.{block_after, quiet_block, quiet_link}
 use Rattle.trace_laws.proofs.CommandLeavings.{IsReady, by_opening, by_restoring, LeadsIn, LeadsTo, Leads, IsLeft, leads}
-use Rattle.trace_laws.proofs.Impossible.{wrong}
 use Rattle.trace_laws.proofs.PhaseLines.{out_lines, in_phase, out_phase}
+use Rattle.bus_base.proofs.Tests.{wrong}
 
 -- ---- what stays
 

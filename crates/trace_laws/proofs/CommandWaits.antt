@@ -31,13 +31,12 @@ use Rattle.bus_laws.specs.Ends.{EndLines, connected_bus, initiator_side, target_
 use Rattle.bus_laws.specs.Rows.{row_of_lines}
 use Rattle.bus_laws.proofs.Rows.{drives_own, drives_other}
 use Rattle.link_laws.specs.Phases.{ends}
-use Rattle.link_laws.proofs.Ahead.{zero_of}
 use Rattle.link_laws.proofs.EndDues.{offering_with}
 use Rattle.link_laws.proofs.Moves.{initiator_moves, target_moves}
-use Rattle.trace_laws.proofs.Impossible.{wrong, wrong'}
 use Rattle.trace_laws.proofs.LinkRows as rows
 use Rattle.trace_laws.proofs.LinkRows.{LinkRow, is_unasked}
 use Rattle.trace_laws.proofs.StatusOffers.{left_req}
+use Rattle.bus_base.proofs.Tests.{wrong, wrong', zero_of}
 
 -- ---- a byte follows while the block is not whole
 

@@ -1,5 +1,5 @@
 -- Of a prompt trace: what is asked of each row of a connection about COMMAND, and what counts of it after the row.
-use Rattle.std.proofs.Common.{◌≡◌, ◌<◌, ◌^◌, Bool, true, false, ◌&&◌, ◌∙◌, List, [], ◌∷◌, length, Some, None, refl, sym, ap, subst}
+use Rattle.std.proofs.Common.{◌≡◌, ◌<◌, Bool, true, false, ◌&&◌, ◌∙◌, List, [], ◌∷◌, length, Some, None, refl, sym, ap, subst}
 use Rattle.std.specs.Prelude.{if◌then◌else◌, is_some}
 use Rattle.std.proofs.lemmas.Option.{same_Some}
 use Rattle.bus_trace.specs.LineSet.{LineSet}
@@ -34,15 +34,16 @@ use Rattle.trace_laws.proofs.CommandFirst.{first_keeps}
 use Rattle.trace_laws.proofs.CommandNext.{goes_keeps}
 use Rattle.trace_laws.proofs.Crossings.{RowFacts, stays, ends_here}
 use Rattle.trace_laws.proofs.ConnectionRows.{ConnectionRow, connection_row, stage_of_connection, going_row}
-use Rattle.trace_laws.proofs.Impossible.{wrong, wrong', none_some}
+use Rattle.trace_laws.proofs.Impossible.{none_some}
 use Rattle.trace_laws.proofs.Joint.{Stood, NextStood, link_phase}
 use Rattle.trace_laws.proofs.Offers.{answers_at_command}
+use Rattle.bus_base.proofs.Tests.{wrong, wrong'}
 
 pub command_start : (s : ScenarioValue) → CommandFacts s []
 command_start s = record { books = λ n e calm. none_some n e }
 
-pub command_asks : (s : ScenarioValue) (p : List Row) (row : Row) → Obeys s → IsPrompt s (row ∷ p) → length (row ∷ p) < 2 ^ 64 → Stood s p → CommandFacts s p → (n : Connection) → connection p ≡ Some n → (bus p).rst ≡ false → (bus (row ∷ p)).rst ≡ false → CommandAsked s p row
-command_asks s p row o prompt short was facts n con calm after = record {
+pub command_asks : (s : ScenarioValue) (p : List Row) (row : Row) → Obeys s → IsPrompt s (row ∷ p) → Stood s p → CommandFacts s p → (n : Connection) → connection p ≡ Some n → (bus p).rst ≡ false → (bus (row ∷ p)).rst ≡ false → CommandAsked s p row
+command_asks s p row o prompt was facts n con calm after = record {
   pointer = λ pr e cr here. pointer r.facts pr e (sym crossing ∙ cr) (ap is_command (sym pl.bus) ∙ here);
   command = command_kept s p row n gr was m.inside h r calm con;
 }
@@ -87,8 +88,8 @@ answers_then s p n was offers con calm into attends unstruck =
     first true d i z = refl
     first false d i z = wrong' z
 
-pub command_next : (s : ScenarioValue) (p : List Row) (row : Row) → Obeys s → IsPrompt s (row ∷ p) → length (row ∷ p) < 2 ^ 64 → Stood s p → OfferFacts s p → NextStood s p row → CommandFacts s p → CommandFacts s (row ∷ p)
-command_next s p row o prompt short was offers nx facts = record { books = λ x e calm. go x e calm nx.row_is }
+pub command_next : (s : ScenarioValue) (p : List Row) (row : Row) → Obeys s → IsPrompt s (row ∷ p) → Stood s p → OfferFacts s p → NextStood s p row → CommandFacts s p → CommandFacts s (row ∷ p)
+command_next s p row o prompt was offers nx facts = record { books = λ x e calm. go x e calm nx.row_is }
   where
     q : List Row
     q = row ∷ p

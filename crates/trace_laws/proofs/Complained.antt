@@ -42,9 +42,11 @@ use Rattle.trace_laws.specs.RowAttendance.{IsCalmTurn}
 use Rattle.trace_laws.specs.Complaints.{ComplaintFacts, Refuses}
 use Rattle.trace_laws.proofs.ConnectionRows.{connection_row, stage_of_connection}
 use Rattle.trace_laws.proofs.Crossings.{RowFacts, ends_here, stays}
-use Rattle.trace_laws.proofs.Impossible.{wrong, wrong', none_some}
-use Rattle.trace_laws.proofs.Joint.{NextStood, Stood, apart_connection, link_calm, link_phase}
+use Rattle.trace_laws.proofs.Impossible.{none_some}
+use Rattle.trace_laws.proofs.Joint.{NextStood, Stood, apart_connection, link_phase}
 use Rattle.trace_laws.proofs.PhaseLines.{out_lines}
+use Rattle.bus_base.proofs.Tests.{wrong, wrong'}
+use Rattle.link_laws.proofs.Traces.{link_calm}
 
 -- ---- the answer to a request is heard as one
 

@@ -24,11 +24,12 @@ use Rattle.link_laws.proofs.EndDues.{answering_with, offering_with}
 use Rattle.link_laws.proofs.Moves.{initiator_moves, target_moves}
 use Rattle.scenario.specs.Value.{ScenarioValue}
 use Rattle.trace_laws.proofs.AttentionRows.{lines_are}
-use Rattle.trace_laws.proofs.Impossible.{wrong', none_some}
+use Rattle.trace_laws.proofs.Impossible.{none_some}
 use Rattle.trace_laws.proofs.Kept.{turn}
 use Rattle.trace_laws.proofs.LinkRows as rows
 use Rattle.trace_laws.proofs.LinkRows.{LinkRow}
 use Rattle.trace_laws.proofs.Turns.{freed_connection}
+use Rattle.bus_base.proofs.Tests.{wrong'}
 
 -- ATN was true before the row; the byte of the newest request, or of the oldest that waits, was struck; or a request of the target is open.
 pub data Raised (p : List Row) (c : Change) : Type 0 where

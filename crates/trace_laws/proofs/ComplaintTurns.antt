@@ -18,11 +18,11 @@ use Rattle.bus_dialogue.specs.NextPhase.{Serving, after_arrival, after_messages,
 use Rattle.bus_due.specs.RunState.{RunState, bus_of}
 use Rattle.bus_due.specs.Sights.{leaving, serving_of}
 use Rattle.bus_books.specs.Hearing.{is_out_phase}
-use Rattle.trace_laws.proofs.Impossible.{wrong}
 use Rattle.trace_laws.proofs.OfferTurns.{gives_in}
 use Rattle.trace_laws.proofs.PhaseLines.{is_out_next}
+use Rattle.bus_base.proofs.Tests.{wrong}
 
-abbrev NeverOut : Leaving → Type 0
+abbrev pub NeverOut : Leaving → Type 0
 NeverOut l = is_out_next l.to ≡ false
 
 tasks : (t : Option Task) (f : Task → Leaving) → ((x : Task) → NeverOut (f x)) → NeverOut (with_task t f)

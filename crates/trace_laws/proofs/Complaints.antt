@@ -51,7 +51,6 @@ use Rattle.bus_books.proofs.InConnection.{InConnection, SamePhase, in_connection
 use Rattle.bus_laws.specs.Ends.{BeginsConnection, by_selection, by_reselection}
 use Rattle.bus_laws.proofs.Prompt.{least_is}
 use Rattle.bus_laws.proofs.Apart.{change_plain}
-use Rattle.bus_laws.proofs.Tests.{or_true}
 use Rattle.trace_laws.specs.Attention.{Attention}
 use Rattle.trace_laws.specs.Complaints.{ComplaintFacts, ComplaintsBy, Refuses, any_struck}
 use Rattle.trace_laws.specs.Offers.{OfferFacts, offer_now}
@@ -61,11 +60,12 @@ use Rattle.trace_laws.proofs.ComplaintRows.{On, Raised, newest, oldest, raised_r
 use Rattle.trace_laws.proofs.ComplaintTurns.{IsAttended, attended_for, left_for_out}
 use Rattle.trace_laws.proofs.ConnectionRows.{ConnectionRow, GoingRow, RowKindOf, begins_now, connection_row, goes_now, going_row, link_low, row_kind, stage_of_connection}
 use Rattle.trace_laws.proofs.FirstRows.{IsFirst}
-use Rattle.trace_laws.proofs.Impossible.{wrong, wrong', none_some}
+use Rattle.trace_laws.proofs.Impossible.{none_some}
 use Rattle.trace_laws.proofs.InstructedTurns.{out_is}
 use Rattle.trace_laws.proofs.Joint.{NextStood, Stood, link_phase}
 use Rattle.trace_laws.proofs.OfferTurns.{gives_in}
 use Rattle.trace_laws.proofs.PhaseLines.{is_out_next}
+use Rattle.bus_base.proofs.Tests.{wrong, wrong', or_true}
 
 -- ---- the newest request, and those that wait
 

@@ -35,10 +35,12 @@ use Rattle.trace_laws.proofs.Blocks.{commands_are}
 use Rattle.trace_laws.proofs.ByteValues.{byte_values}
 use Rattle.trace_laws.proofs.Crossings.{RowFacts, row_facts, Goes, stays, ends_here}
 use Rattle.trace_laws.proofs.FirstRows.{IsFirst, is_first}
-use Rattle.trace_laws.proofs.Impossible.{none_some, wrong}
-use Rattle.trace_laws.proofs.Joint.{Stood, link_connection, link_calm, values_of, apart_connection}
+use Rattle.trace_laws.proofs.Impossible.{none_some}
+use Rattle.trace_laws.proofs.Joint.{Stood, link_connection, values_of, apart_connection}
 use Rattle.trace_laws.proofs.LinkRows.{LinkRow, link_row}
 use Rattle.trace_laws.proofs.Steps.{HasValues}
+use Rattle.bus_base.proofs.Tests.{wrong}
+use Rattle.link_laws.proofs.Traces.{link_calm}
 
 -- ---- what stands
 

@@ -6,6 +6,7 @@ use Rattle.disk_array.specs.Processes.{same_id}
 use Rattle.bus_dialogue.specs.PhaseBytes.{one_if}
 use Rattle.bus_due.specs.LastingState.{ProcessProgress, progress_in, progress_with}
 use Rattle.bus_books.proofs.Lookups.{id_is}
+use Rattle.bus_base.proofs.Tests.{plus_none}
 
 pub counted_runs : (made : List ProcessProgress) (id : ProcId) (runs recovers : Bool) (other : ProcId) → (other ≡ id → ⊥) → (progress_in (progress_with made id runs recovers) other).runs ≡ (progress_in made other).runs
 counted_runs made id runs recovers other ne = by (runs || recovers)
@@ -17,9 +18,6 @@ counted_runs made id runs recovers other ne = by (runs || recovers)
         at : (q : Bool) → same_id id other ≡ q → (if q then record { id = id; runs = (progress_in made id).runs + one_if runs; recoveries = (progress_in made id).recoveries + one_if recovers } else progress_in made other).runs ≡ (progress_in made other).runs
         at false e = refl
         at true e = absurd (ne (sym (id_is id other e)))
-
-plus_none : (n : ℕ) → n + 0 ≡ n
-plus_none n = omega arith
 
 pub same_runs : (made : List ProcessProgress) (id : ProcId) (recovers : Bool) (other : ProcId) → (progress_in (progress_with made id false recovers) other).runs ≡ (progress_in made other).runs
 same_runs made id false other = refl

@@ -44,7 +44,6 @@ use Rattle.link_laws.proofs.LinkObeys.{same_phases}
 use Rattle.link_laws.proofs.Moves.{phase_same, same_self, no_rise}
 use Rattle.link_laws.proofs.PhaseEnds.{leaves_lines}
 use Rattle.trace_laws.proofs.Driven.{message_at, message_follows, Driven, no_third}
-use Rattle.trace_laws.proofs.Impossible.{wrong, wrong'}
 use Rattle.trace_laws.proofs.InPhase.{offered_in, follows_in_message}
 use Rattle.trace_laws.proofs.Kept.{EndRow, turn, row_in, initiator_end, target_end}
 use Rattle.trace_laws.proofs.LinkRows as rows
@@ -52,6 +51,7 @@ use Rattle.trace_laws.proofs.LinkRows.{LinkRow, is_pulsed, is_unasked}
 use Rattle.trace_laws.proofs.Steps.{IsDriven, HasValues}
 use Rattle.trace_laws.proofs.Tests.{none_both, not_first}
 use Rattle.trace_laws.proofs.Turns.{freed_bus, freed_connection}
+use Rattle.bus_base.proofs.Tests.{wrong, wrong'}
 
 -- The connection goes on with the row.
 pub record Goes (s : ScenarioValue) (p : List Row) (row : Row) (n : Connection) : Type 0 where
@@ -107,7 +107,7 @@ message_unpulsed false c i r e = wrong' e
 
 -- ---- rows with which no byte crosses
 
-no_byte : {A : Type 0} (o : Option ℕ) → o ≡ None → is_some o ≡ true → A
+pub no_byte : {A : Type 0} (o : Option ℕ) → o ≡ None → is_some o ≡ true → A
 no_byte o e z = wrong' (sym (ap (λ (x : Option ℕ). is_some x) e) ∙ z)
 
 silent : (s : ScenarioValue) (p : List Row) (t d : ℕ) (l : LineSet) (n : Connection) (e f : EndLines) (o : LineSet) → EndRow s p t d l n e f o → changes_phase (turn e f o l) ≡ false → receiver_in n (turn e f o l) ≡ None → RowFacts s p (row_of_lines t d l) n
@@ -384,4 +384,4 @@ row_facts s p row n dv v d (rows.leaves atn msg cd io x y h b known un zero foll
 row_facts s p row n dv v d (rows.ends_req_pulse io ack atn x y h b un z e) = subst (λ (w : Row). RowFacts s p w n) (sym e) (of_target s p row.time n (ends false ack atn x false false io true y) false y dv h (no_answer n io ack))
 row_facts s p row n dv v d (rows.changes_pulsed ack atn y z h b un pulsed e) = subst (λ (w : Row). RowFacts s p w n) (sym e) (of_target s p row.time n (ends false ack atn 0 false false true false y) false z dv h refl)
 row_facts s p row n dv v d (rows.asks_pulse io ack atn x y h b un z zero byte e) =
-    subst (λ (w : Row). RowFacts s p w n) (sym e) (pulse_asked s p row.time n io ack atn x y dv h b zero byte (v (ends false ack atn x false false io false y) h b).offered)
+    subst (λ (w : Row). RowFacts s p w n) (sym e) (pulse_asked s p row.time n io ack atn x y dv h b zero (λ i. (byte i).0) (v (ends false ack atn x false false io false y) h b).offered)

@@ -45,11 +45,14 @@ use Rattle.trace_laws.proofs.Blocks.{commands_are}
 use Rattle.trace_laws.proofs.ByteValues.{byte_values}
 use Rattle.trace_laws.proofs.Crossings.{RowFacts, ends_here, row_facts, stays}
 use Rattle.trace_laws.proofs.FirstRows.{under_rst}
-use Rattle.trace_laws.proofs.Impossible.{wrong, wrong', none_some}
-use Rattle.trace_laws.proofs.Joint.{NextStood, Stood, link_calm, values_of}
+use Rattle.trace_laws.proofs.Impossible.{none_some}
+use Rattle.trace_laws.proofs.Joint.{NextStood, Stood, values_of}
 use Rattle.trace_laws.proofs.LinkRows as rows
 use Rattle.trace_laws.proofs.LinkRows.{LinkRow, link_row}
 use Rattle.trace_laws.proofs.UnderRst.{bsy_stands}
+use Rattle.bus_base.proofs.Tests.{wrong, wrong'}
+use Rattle.link_laws.proofs.Traces.{link_calm}
+use Rattle.trace_laws.specs.ResetLines.{HasNoPhase}
 
 -- ---- a row before or after which RST is true
 
@@ -132,18 +135,13 @@ one_drives on both zero p t lt others = go (on (drives p t)) refl
       | inr ne ↦ others d below ne
     ]) ∙ sym e
 
-pub record NoPhase (l : LineSet) : Type 0 where
-  pub msg : l.msg ≡ false
-  pub cd : l.cd ≡ false
-  pub io : l.io ≡ false
-
 -- While a connection stands: the target alone drives the phase lines, it and the initiator BSY; and the initiator does only while the
 -- first phase after a reselection stands, MESSAGE IN, or under RST.
 pub record EndsHold (p : List Row) (n : Connection) : Type 0 where
   pub target_below : n.target < 8
-  pub lines : (d : ℕ) → d < 8 → d ≢ n.target → NoPhase (drives p d)
+  pub lines : (d : ℕ) → d < 8 → d ≢ n.target → HasNoPhase (drives p d)
   pub bsy : (d : ℕ) → d < 8 → d ≢ n.initiator → d ≢ n.target → (drives p d).bsy ≡ false
-  pub held : (drives p n.initiator).bsy ≡ true → (is_message_in (drives p n.target) ≡ true) ⊎ (((bus p).rst ≡ true) × NoPhase (drives p n.target))
+  pub held : (drives p n.initiator).bsy ≡ true → (is_message_in (drives p n.target) ≡ true) ⊎ (((bus p).rst ≡ true) × HasNoPhase (drives p n.target))
 
 abbrev pub HoldFacts : List Row → Type 0
 HoldFacts p = (n : Connection) → connection p ≡ Some n → EndsHold p n
@@ -251,7 +249,7 @@ stays_by c em ed ei = (λ i. not (same (em i) c.after.msg && same (ed i) c.after
 record Gone (p : List Row) (row : Row) : Type 0 where
   lines : LineSet
   bsy : lines.bsy ≡ false
-  phase : NoPhase lines
+  phase : HasNoPhase lines
   row_is : row ≡ row_of_lines row.time row.dev lines
 
 gone_by : (p : List Row) (row : Row) → LetsGo row → Gone p row
@@ -264,14 +262,14 @@ own_after p row g = ap (λ (w : Row). drives (w ∷ p) row.dev) g.row_is ∙ dri
 other_after : (p : List Row) (row : Row) (d : ℕ) → Gone p row → d ≢ row.dev → drives (row ∷ p) d ≡ drives p d
 other_after p row d g ne = ap (λ (w : Row). drives (w ∷ p) d) g.row_is ∙ drives_other p row.time row.dev g.lines d ne
 
-no_phase : (a b : LineSet) → b ≡ a → NoPhase a → NoPhase b
+no_phase : (a b : LineSet) → b ≡ a → HasNoPhase a → HasNoPhase b
 no_phase a b e h = record { msg = ap (λ (l : LineSet). l.msg) e ∙ h.msg; cd = ap (λ (l : LineSet). l.cd) e ∙ h.cd; io = ap (λ (l : LineSet). l.io) e ∙ h.io }
 
 -- RST is true after it.
 cut_holds : (p : List Row) (row : Row) (n : Connection) → Gone p row → (bus (row ∷ p)).rst ≡ true → EndsHold p n → EndsHold (row ∷ p) n
 cut_holds p row n g on h = record { target_below = h.target_below; lines = lines; bsy = bsy; held = held }
   where
-    lines : (d : ℕ) → d < 8 → d ≢ n.target → NoPhase (drives (row ∷ p) d)
+    lines : (d : ℕ) → d < 8 → d ≢ n.target → HasNoPhase (drives (row ∷ p) d)
     lines d lt ne = elim (cases_eq d row.dev) [
       | inl is ↦ no_phase g.lines (drives (row ∷ p) d) (ap (drives (row ∷ p)) is ∙ own_after p row g) g.phase
       | inr other ↦ no_phase (drives p d) (drives (row ∷ p) d) (other_after p row d g other) (h.lines d lt ne)
@@ -283,17 +281,17 @@ cut_holds p row n g on h = record { target_below = h.target_below; lines = lines
       | inr other ↦ ap (λ (l : LineSet). l.bsy) (other_after p row d g other) ∙ h.bsy d lt ni nt
     ]
 
-    target : (is_message_in (drives p n.target) ≡ true) ⊎ (((bus p).rst ≡ true) × NoPhase (drives p n.target)) → (is_message_in (drives (row ∷ p) n.target) ≡ true) ⊎ (((bus (row ∷ p)).rst ≡ true) × NoPhase (drives (row ∷ p) n.target))
+    target : (is_message_in (drives p n.target) ≡ true) ⊎ (((bus p).rst ≡ true) × HasNoPhase (drives p n.target)) → (is_message_in (drives (row ∷ p) n.target) ≡ true) ⊎ (((bus (row ∷ p)).rst ≡ true) × HasNoPhase (drives (row ∷ p) n.target))
     target was = elim (cases_eq n.target row.dev) [
       | inl is ↦ inr (on, no_phase g.lines (drives (row ∷ p) n.target) (ap (drives (row ∷ p)) is ∙ own_after p row g) g.phase)
       | inr other ↦ by was (other_after p row n.target g other)
     ]
       where
-        by : (is_message_in (drives p n.target) ≡ true) ⊎ (((bus p).rst ≡ true) × NoPhase (drives p n.target)) → drives (row ∷ p) n.target ≡ drives p n.target → (is_message_in (drives (row ∷ p) n.target) ≡ true) ⊎ (((bus (row ∷ p)).rst ≡ true) × NoPhase (drives (row ∷ p) n.target))
+        by : (is_message_in (drives p n.target) ≡ true) ⊎ (((bus p).rst ≡ true) × HasNoPhase (drives p n.target)) → drives (row ∷ p) n.target ≡ drives p n.target → (is_message_in (drives (row ∷ p) n.target) ≡ true) ⊎ (((bus (row ∷ p)).rst ≡ true) × HasNoPhase (drives (row ∷ p) n.target))
         by (inl z) e = inl (ap is_message_in e ∙ z)
         by (inr z) e = inr (on, no_phase (drives p n.target) (drives (row ∷ p) n.target) e z.1)
 
-    held : (drives (row ∷ p) n.initiator).bsy ≡ true → (is_message_in (drives (row ∷ p) n.target) ≡ true) ⊎ (((bus (row ∷ p)).rst ≡ true) × NoPhase (drives (row ∷ p) n.target))
+    held : (drives (row ∷ p) n.initiator).bsy ≡ true → (is_message_in (drives (row ∷ p) n.target) ≡ true) ⊎ (((bus (row ∷ p)).rst ≡ true) × HasNoPhase (drives (row ∷ p) n.target))
     held z = elim (cases_eq n.initiator row.dev) [
       | inl is ↦ wrong' (sym (ap (λ (l : LineSet). l.bsy) (ap (drives (row ∷ p)) is ∙ own_after p row g) ∙ g.bsy) ∙ z)
       | inr other ↦ target (h.held (ap (λ (l : LineSet). l.bsy) (sym (other_after p row n.initiator g other)) ∙ z))
@@ -389,7 +387,7 @@ cut_phase s p row n o prompt was facts con after cut ep = elim (cases_eq n.targe
     h : EndsHold p n
     h = facts n con
 
-    lines_after : (d : ℕ) → d < 8 → d ≢ n.target → NoPhase (drives q d)
+    lines_after : (d : ℕ) → d < 8 → d ≢ n.target → HasNoPhase (drives q d)
     lines_after d lt ne = elim (cases_eq d row.dev) [
       | inl is ↦ no_phase g.lines (drives q d) (ap (drives q) is ∙ own_after p row g) g.phase
       | inr other ↦ no_phase (drives p d) (drives q d) (other_after p row d g other) (h.lines d lt ne)
@@ -422,7 +420,7 @@ cut_phase s p row n o prompt was facts con after cut ep = elim (cases_eq n.targe
         target_is : drives q n.target ≡ g.lines
         target_is = ap (drives q) is ∙ own_after p row g
 
-        gone : NoPhase (drives q n.target)
+        gone : HasNoPhase (drives q n.target)
         gone = no_phase g.lines (drives q n.target) target_is g.phase
 
         -- no other device would drive BSY

@@ -1,5 +1,5 @@
 -- Of a prompt trace: the data pointers of processes that write stand at their runs after each row.
-use Rattle.std.proofs.Common.{◌≡◌, ◌<◌, ◌^◌, Bool, true, false, ◌∙◌, List, [], ◌∷◌, length, Some, None, sym, ap, true≢false}
+use Rattle.std.proofs.Common.{◌≡◌, Bool, true, false, ◌∙◌, List, [], ◌∷◌, Some, None, sym, ap, true≢false}
 use Rattle.std.specs.Prelude.{if◌then◌else◌, is_some}
 use Rattle.bus_trace.specs.declared.Row.{Row}
 use Rattle.bus_trace.specs.declared.connection.Connection.{Connection}
@@ -21,22 +21,27 @@ use Rattle.trace_laws.proofs.ConnectionRows.{connection_row}
 use Rattle.trace_laws.proofs.Crossings.{RowFacts, stays, ends_here}
 use Rattle.trace_laws.proofs.Joint.{Stood, NextStood}
 use Rattle.trace_laws.proofs.RunAsks.{answers_all, run_moved}
-use Rattle.trace_laws.proofs.RunCountFacts.{counts_start, counts_next}
+use Rattle.trace_laws.proofs.RunCountFacts.{counts_start, counts_next, answers_few}
 use Rattle.trace_laws.proofs.RunFacts.{runs_start, runs_next, run_active, crossing_begun}
 
 pub data_start : (s : ScenarioValue) → DataFacts s []
 data_start s = record { runs = runs_start s; counts = counts_start s }
 
-pub data_next : (s : ScenarioValue) (p : List Row) (row : Row) → Obeys s → IsPrompt s (row ∷ p) → length (row ∷ p) < 2 ^ 64 → Stood s p → NextStood s p row → OfferFacts s p → DataPremises s p row → DataFacts s p → DataFacts s (row ∷ p)
-data_next s p row o prompt short was nx offers asked facts = record {
-  runs = runs_next s p row o prompt short was nx offers
-      (record { anew = asked.anew; sent = asked.sent; answers = λ n con calm off after b ep. answers_all s p row n o prompt was facts.counts con calm off after b ep })
+pub data_next : (s : ScenarioValue) (p : List Row) (row : Row) → Obeys s → IsPrompt s (row ∷ p) → Stood s p → NextStood s p row → OfferFacts s p → DataPremises s p row → DataFacts s p → DataFacts s (row ∷ p)
+data_next s p row o prompt was nx offers asked facts = record {
+  runs = runs_next s p row o prompt was nx offers
+      (record {
+        anew = asked.anew;
+        sent = asked.sent;
+        answers = λ n con calm off after b ep. answers_all s p row n o prompt was facts.counts con calm off after b ep;
+        few = λ n con calm b phase. answers_few s p n o facts.counts con calm b phase;
+      })
       facts.runs;
-  counts = counts_next s p row o prompt short was nx facts.runs facts.counts;
+  counts = counts_next s p row o prompt was nx facts.runs facts.counts;
 }
 
 -- A connection in which a byte crosses goes on.
-crossing_stands : (s : ScenarioValue) (p : List Row) (row : Row) (n : Connection) → Obeys s → IsPrompt s (row ∷ p) → Stood s p → connection p ≡ Some n → (bus p).rst ≡ false → (bus (row ∷ p)).rst ≡ false → (row_reading (run_state s p).story.bus_state row).crosses ≡ true → connection (row ∷ p) ≡ Some n
+pub crossing_stands : (s : ScenarioValue) (p : List Row) (row : Row) (n : Connection) → Obeys s → IsPrompt s (row ∷ p) → Stood s p → connection p ≡ Some n → (bus p).rst ≡ false → (bus (row ∷ p)).rst ≡ false → (row_reading (run_state s p).story.bus_state row).crosses ≡ true → connection (row ∷ p) ≡ Some n
 crossing_stands s p row n o prompt was con calm off crosses = by (connection_row s p row n o prompt was con calm off).facts
   where
     dv : AreOfDevices p

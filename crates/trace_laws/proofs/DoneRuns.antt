@@ -18,7 +18,7 @@ use Rattle.bus_dialogue.specs.Arrivals.{policy_of}
 use Rattle.bus_dialogue.specs.DataRuns.{runs_in_all}
 use Rattle.bus_dialogue.specs.NextPhase.{Serving, phase_leaving, bus_free, phase_entry, recovery, recovery_limit, pointer_restoration, next_data_phase, request_or_command, after_offer, message_repetition, message_out_leaving, after_messages, disconnection, disconnect_messages, after_arrival, command_leaving, after_run, data_out_leaving, with_task, unless_attention}
 use Rattle.bus_dialogue.specs.Words.{request_by, is_naming}
-use Rattle.trace_laws.proofs.Impossible.{wrong'}
+use Rattle.bus_base.proofs.Tests.{wrong'}
 
 recovers_not : (def : Option TargetDef) (t : Task) (a b : Leaving) → a.done ≡ false → b.done ≡ false → (recovery def t a b).done ≡ false
 recovers_not def t a b h k = go t.in_hold (nat_lt t.recoveries (recovery_limit def))

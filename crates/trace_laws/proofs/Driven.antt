@@ -19,8 +19,8 @@ use Rattle.bus_due.specs.RunSteps.{run_state}
 use Rattle.bus_laws.specs.Ends.{EndLines, connected_bus, Linked}
 use Rattle.link_laws.specs.Phases.{ends}
 use Rattle.link_laws.proofs.EndDues.{offering_with, answering_with}
-use Rattle.trace_laws.proofs.Impossible.{wrong, wrong'}
 use Rattle.trace_laws.proofs.LinkRows.{is_pulsed, has_first, is_unasked}
+use Rattle.bus_base.proofs.Tests.{wrong, wrong'}
 
 -- The next byte of MESSAGE IN, and whether one follows.
 abbrev pub message_at : ScenarioValue → List Row → ℕ

@@ -334,7 +334,7 @@ failed s q g a id reply None own h = go (process_of s id) refl
 left : (q g : RunningProcess → Type 0) (a : Array) (id : ProcId) → Each q g a → Each q g (Steps.array_without a id)
 left q g a id h = record { units = left_units q a.units id h.units; guests = left_guests g a.guests id h.guests }
 
-ended : (q g : RunningProcess → Type 0) (a : Array) (status : ℕ) (o : Option RunningProcess) → Each q g a → IfEach q g (Steps.end_step a status o)
+pub ended : (q g : RunningProcess → Type 0) (a : Array) (status : ℕ) (o : Option RunningProcess) → Each q g a → IfEach q g (Steps.end_step a status o)
 ended q g a status None h = tt
 ended q g a status (Some r) h = by r.reply
   where
@@ -344,7 +344,7 @@ ended q g a status (Some r) h = by r.reply
         each_if q g (reply.status == status) (Steps.array_without (Steps.after_status a r.process reply) r.process.id)
         (left q g (Steps.after_status a r.process reply) r.process.id (each_same q g a (Steps.after_status a r.process reply) (status_same a r.process reply) h))
 
-lost : (q g : RunningProcess → Type 0) (a : Array) (id : ProcId) → Each q g a → IfEach q g (Steps.loss_step a id)
+pub lost : (q g : RunningProcess → Type 0) (a : Array) (id : ProcId) → Each q g a → IfEach q g (Steps.loss_step a id)
 lost q g a id h = go (Steps.has_ended a id)
   where
     go : (x : Bool) → IfEach q g (if x then None else Some (Steps.array_without a id))

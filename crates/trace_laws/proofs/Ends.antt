@@ -39,9 +39,10 @@ use Rattle.link_laws.specs.LinkStages.{LinkStage, when_selected, when_settling, 
 use Rattle.trace_laws.specs.Ends.{HasEnds, AreEnds}
 use Rattle.trace_laws.proofs.Called.{IsCalled, IsMadeFor, IsDueCall, by_answer, made_of, own_units}
 use Rattle.trace_laws.proofs.FirstRows.{Made, made_is, quiet_sel, under_rst}
-use Rattle.trace_laws.proofs.Impossible.{none_some, wrong, wrong'}
+use Rattle.trace_laws.proofs.Impossible.{none_some}
 use Rattle.trace_laws.proofs.Joint.{Stood, link_connection}
 use Rattle.trace_laws.proofs.UnderRst.{quiet_at_end}
+use Rattle.bus_base.proofs.Tests.{wrong, wrong'}
 
 -- ---- the lines of the scenario
 
@@ -72,10 +73,10 @@ target_found s dev d none = go (target_def_of s dev) (host_of s dev) refl d.late
 
 -- ---- the ends of a process, and of what an initiator calls for
 
-abbrev sense_of : ScenarioValue → ProcId → CmdDef → Process
+abbrev pub sense_of : ScenarioValue → ProcId → CmdDef → Process
 sense_of s id c = record { id = id; initiator = c.host; target = c.target; unit = c.unit; tag = tags.Untagged; cdb = sense_block; sent = [] }
 
-abbrev told_of : ScenarioValue → ProcId → CmdDef → Process
+abbrev pub told_of : ScenarioValue → ProcId → CmdDef → Process
 told_of s id c = record { id = id; initiator = c.host; target = c.target; unit = c.unit; tag = c.tag; cdb = c.cdb; sent = payload_bytes c.payload (sent_of s c) }
 
 -- The first is an initiator, the second none.

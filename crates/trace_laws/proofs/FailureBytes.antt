@@ -30,9 +30,9 @@ use Rattle.bus_books.specs.Rows.{IsRowIn, reading_in}
 use Rattle.bus_books.proofs.InConnection.{reading_is}
 use Rattle.bus_books.proofs.Lookups.{id_is, carried_id, put_there, put_own}
 use Rattle.trace_laws.specs.Failures.{IsClear, UndoesClear}
-use Rattle.trace_laws.proofs.Impossible.{wrong}
 use Rattle.trace_laws.proofs.PointerStorySteps.{message_id}
 use Rattle.trace_laws.proofs.ShownReplies.{checked, all_ended}
+use Rattle.bus_base.proofs.Tests.{wrong}
 
 pub record SameFail (c d : CarriedBytes) : Type 0 where
   pub failure : d.failure ≡ c.failure

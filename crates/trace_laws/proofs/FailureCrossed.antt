@@ -23,9 +23,10 @@ use Rattle.bus_books.specs.Rows.{RowKind, still, strikes, crosses, turns}
 use Rattle.bus_books.proofs.InConnection.{in_connection, reading_is}
 use Rattle.trace_laws.proofs.ConnectionRows.{GoingRow, connection_row, going_row, RowKindOf, begins_now, goes_now, row_kind}
 use Rattle.trace_laws.proofs.FailureFaults.{CrossedHere}
-use Rattle.trace_laws.proofs.Impossible.{wrong', none_some}
+use Rattle.trace_laws.proofs.Impossible.{none_some}
 use Rattle.trace_laws.proofs.Joint.{Stood, NextStood}
 use Rattle.trace_laws.proofs.UndoneAnswers.{same_phase_of}
+use Rattle.bus_base.proofs.Tests.{wrong'}
 
 pub record CrossedBooks (k : RunState) : Type 0 where
   pub here : CrossedHere k

@@ -29,14 +29,16 @@ use Rattle.bus_due.specs.RunSteps.{run_state_after}
 use Rattle.bus_books.specs.Rows.{reading_in}
 use Rattle.bus_books.proofs.InConnection.{in_connection}
 use Rattle.trace_laws.specs.Failures.{IsClear, UndoesClear, FailsBy, FailTalk}
-use Rattle.trace_laws.specs.Tells.{has_answer, is_short}
+use Rattle.trace_laws.specs.Tells.{is_short}
 use Rattle.trace_laws.proofs.FailureBytes.{SameFail, clear_as, row_carries, byte_fails, in_clear, in_restores}
 use Rattle.trace_laws.proofs.FailureRows.{fails_as, HearsOf, gives_on}
 use Rattle.trace_laws.proofs.FailureSteps.{is_message_phase, FailRow, count_as}
-use Rattle.trace_laws.proofs.Impossible.{wrong, wrong', none_some}
+use Rattle.trace_laws.proofs.Impossible.{none_some}
 use Rattle.trace_laws.proofs.RowItems.{LinkAfter, says, hears, stays, heard_link, link_crossed}
 use Rattle.trace_laws.proofs.UndoneAnswers.{same_phase_of}
 use Rattle.trace_laws.proofs.UndoneRows.{answers_stay}
+use Rattle.bus_base.proofs.Tests.{wrong, wrong'}
+use Rattle.trace_laws.specs.DataPointers.{is_marked}
 
 by_exchange : (l : Link) (c : CarriedBytes) (p q : Plan) (words others : List ℕ) (count : ℕ) (phase : Phase) → q ≡ p → others ≡ words → FailsBy l c p words count phase → FailsBy l c q others count phase
 by_exchange l c p q words others count phase ep ew h = subst (λ (x : Plan). FailsBy l c x others count phase) (sym ep) (subst (λ (x : List ℕ). FailsBy l c p x count phase) (sym ew) h)
@@ -100,7 +102,7 @@ else_fail s k row n c l m id g ep en out into apart em b h = go (link_crossed s 
     same : SameFail (carried_here k id) d
     same = quiet_same s k row n c l id g en (out_none k c out) none
 
-    answer : has_answer d ≡ has_answer (carried_here k id)
+    answer : is_marked d ≡ is_marked (carried_here k id)
     answer = answers_stay s k row n c true l g.row_is en g.link_is g.undoes (λ z. wrong' (sym ep ∙ z)) id
 
     go : LinkAfter s k.story l (message_out k.story.bus_state.dialogue c true) (message_in k.story.bus_state.dialogue c true) j.story.link → FailTalk j m d
@@ -146,7 +148,7 @@ in_fail s k row n c l m id g ep en out here em b count named first h = record {
     x : Crossed k j
     x = crossed s k row n c l id g ep en out
 
-    answer : has_answer d ≡ has_answer own
+    answer : is_marked d ≡ is_marked own
     answer = answers_stay s k row n c true l g.row_is en g.link_is g.undoes (λ z. wrong' (sym ep ∙ z)) id
 
     carries : (y : MsgIn) → heard ≡ Some y → SameFail (carried_of (story_after_in s k.story l (Some y)).carried id) d

@@ -28,34 +28,34 @@ use Rattle.bus_dialogue.specs.NextPhase.{Serving, phase_of, phase_leaving}
 use Rattle.bus_dialogue.specs.Planning.{cause_after}
 use Rattle.bus_due.specs.RunState.{RunState, carried_here}
 use Rattle.bus_due.specs.RunSteps.{run_state_after}
-use Rattle.bus_laws.proofs.Tests.{or_true}
 use Rattle.trace_laws.specs.Failures.{IsClear, ClearIn, GivesFailure, RefusesFailure, SaysFailure, FailsBy}
-use Rattle.trace_laws.specs.Tells.{has_answer, code_if, UndoesAnswers}
+use Rattle.trace_laws.specs.Tells.{code_if, UndoesAnswers}
 use Rattle.trace_laws.proofs.FailureBytes.{SameFail}
 use Rattle.trace_laws.proofs.FailureRows.{clear_in_as, clear_out_as}
 use Rattle.trace_laws.proofs.FailureTurns.{is_sending, refuses_left}
 use Rattle.trace_laws.proofs.FailureWords.{refuses_kept}
-use Rattle.trace_laws.proofs.Impossible.{wrong'}
 use Rattle.trace_laws.proofs.ListedReplies.{replies_to}
 use Rattle.trace_laws.proofs.OfferTurns.{gives_in}
 use Rattle.trace_laws.proofs.ShownReplies.{answered_on, change_keeps}
 use Rattle.trace_laws.proofs.TellTurns.{refused}
+use Rattle.bus_base.proofs.Tests.{wrong', or_true}
+use Rattle.trace_laws.specs.DataPointers.{is_marked}
 
 -- ---- what is carried after the row
 
 -- Its failure is as before, and it keeps an answer that it had.
 pub record KeptFail (c d : CarriedBytes) : Type 0 where
   pub same : SameFail c d
-  pub answer : has_answer c ≡ true → has_answer d ≡ true
+  pub answer : is_marked c ≡ true → is_marked d ≡ true
 
-events_answer : (s : ScenarioValue) (b : Story) (shown : List Event) (id : ProcId) → has_answer (carried_of b.carried id) ≡ true → has_answer (carried_of (story_after_events s b shown).carried id) ≡ true
+events_answer : (s : ScenarioValue) (b : Story) (shown : List Event) (id : ProcId) → is_marked (carried_of b.carried id) ≡ true → is_marked (carried_of (story_after_events s b shown).carried id) ≡ true
 events_answer s b [] id h = h
 events_answer s b (e ∷ shown) id h =
     answered_on s (story_after_events s b shown) e id
     ∙ ap (λ (q : Bool). replies_to e id || q) (events_answer s b shown id h)
     ∙ or_true (replies_to e id)
 
-pub answer_kept : (s : ScenarioValue) (k : RunState) (row : Row) (id : ProcId) → UndoesAnswers k row → has_answer (carried_here k id) ≡ true → has_answer (carried_here (run_state_after s k row) id) ≡ true
+pub answer_kept : (s : ScenarioValue) (k : RunState) (row : Row) (id : ProcId) → UndoesAnswers k row → is_marked (carried_here k id) ≡ true → is_marked (carried_here (run_state_after s k row) id) ≡ true
 answer_kept s k row id undoes h =
     events_answer s (story_by_change s k.story (row_reading k.story.bus_state row) row) (row_events_by s k.story (row_reading k.story.bus_state row) row) id
     (change_keeps s k.story (row_reading k.story.bus_state row) row undoes id ∙ h)

@@ -29,10 +29,10 @@ use Rattle.bus_books.specs.Reactions.{is_command_phase}
 use Rattle.bus_books.specs.Rows.{IsRowIn}
 use Rattle.bus_books.proofs.Lookups.{carried_id, put_own}
 use Rattle.trace_laws.proofs.FailureBytes.{SameFail, same_fail, row_carries}
-use Rattle.trace_laws.proofs.Impossible.{wrong, wrong'}
 use Rattle.trace_laws.proofs.LinkRows as rows
 use Rattle.trace_laws.proofs.LinkRows.{LinkRow}
 use Rattle.trace_laws.proofs.PhaseLines.{data_out_io, command_is}
+use Rattle.bus_base.proofs.Tests.{wrong, wrong'}
 
 -- ---- it strikes the byte of the last row
 

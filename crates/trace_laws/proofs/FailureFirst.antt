@@ -28,7 +28,6 @@ use Rattle.bus_due.proofs.Plains.{run_state_plain}
 use Rattle.bus_laws.specs.Ends.{BeginsConnection, by_selection, by_reselection}
 use Rattle.bus_laws.proofs.Apart.{change_plain}
 use Rattle.bus_laws.proofs.Prompt.{least_is}
-use Rattle.bus_books.proofs.Knows.{events_link}
 use Rattle.trace_laws.specs.Failures.{IsClear, UndoesClear, FailTalks, FailFacts, SentAsLeft}
 use Rattle.trace_laws.specs.TellFacts.{TellFacts}
 use Rattle.trace_laws.proofs.BlockRows.{undo_of}
@@ -37,8 +36,9 @@ use Rattle.trace_laws.proofs.ConnectionRows.{RowKindOf, begins_now, goes_now, ro
 use Rattle.trace_laws.proofs.FailureCrossed.{CrossedFacts}
 use Rattle.trace_laws.proofs.FailureNext.{fail_first, fail_goes}
 use Rattle.trace_laws.proofs.FirstRows.{IsFirst}
-use Rattle.trace_laws.proofs.Impossible.{wrong}
 use Rattle.trace_laws.proofs.Joint.{Stood, NextStood}
+use Rattle.bus_base.proofs.Tests.{wrong}
+use Rattle.bus_story.proofs.StorySteps.{events_link}
 
 -- What is asked of it.
 abbrev pub BeginsClear : ScenarioValue → List Row → Row → Type 0

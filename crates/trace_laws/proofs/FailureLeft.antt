@@ -33,13 +33,14 @@ use Rattle.bus_books.specs.Knowing.{Knows}
 use Rattle.bus_books.specs.Reactions.{IsOver}
 use Rattle.bus_books.proofs.InConnection.{reading_is}
 use Rattle.trace_laws.specs.Failures.{IsClear, ClearIn, clear, restores, GivesFailure, SaysFailure, FailsBy, FailFacts, SentAsLeft}
-use Rattle.trace_laws.specs.Tells.{has_answer, code_if, FailsAsked, FailsBefore, FailsIn, IsLeaving, FailsAsLeft}
+use Rattle.trace_laws.specs.Tells.{code_if, FailsAsked, FailsBefore, FailsIn, IsLeaving, FailsAsLeft}
 use Rattle.trace_laws.proofs.ConnectionRows.{ConnectionRow, connection_row}
 use Rattle.trace_laws.proofs.Crossings.{RowFacts, stays, ends_here}
 use Rattle.trace_laws.proofs.Impossible.{none_some}
 use Rattle.trace_laws.proofs.Joint.{Stood, link_phase}
 use Rattle.trace_laws.proofs.TellFacts.{all_given}
 use Rattle.trace_laws.proofs.UndoneFacts.{in_of}
+use Rattle.trace_laws.specs.DataPointers.{is_marked}
 
 none_given : {A : Type 0} (count : ℕ) → count ≡ 0 → count ≡ 1 → A
 none_given count e f = absurd (apart count e f)
@@ -74,7 +75,7 @@ fails_left l c p words count attention phases.DataOut code given h = h.1
 fails_left l c p words count attention phases.DataIn code given h = λ off. code refl ∙ ap (λ (q : Bool). code_if q INITIATOR_DETECTED_ERROR) off
 fails_left l c p words count attention phases.Status code given h = tt
 
-pub freed_as : (l : Link) (c : CarriedBytes) (p : Plan) (count : ℕ) → count ≡ length (bytes_of_messages p.messages) → GivesFailure l c p count nexts.FreeBus → (has_answer c ≡ true) ⊎ IsClear c
+pub freed_as : (l : Link) (c : CarriedBytes) (p : Plan) (count : ℕ) → count ≡ length (bytes_of_messages p.messages) → GivesFailure l c p count nexts.FreeBus → (is_marked c ≡ true) ⊎ IsClear c
 freed_as l c p count e (inl h) = inl h
 freed_as l c p count e (inr h) = inr (clear_given l c p.messages count e h)
 
@@ -133,7 +134,7 @@ fails_as_left s p row o prompt was sent h n id w item =
 
 -- As its target frees the bus the process has an answer, or nothing has struck it.
 pub freed_as_left : (s : ScenarioValue) (p : List Row) (row : Row) (n : Connection) (id : ProcId) → Obeys s → IsPrompt s (row ∷ p) → Stood s p → FailFacts s p → IsLeaving s p row n → (run_state s p).served ≡ Some (process id) → phase_of (bus_of (run_state s p)) ≡ phases.MessageIn → (bus_of (run_state s p)).atn ≡ false → (run_state s p).exchange.plan.next ≡ nexts.FreeBus
-    → (has_answer (carried_here (run_state s p) id) ≡ true) ⊎ IsClear (carried_here (run_state s p) id)
+    → (is_marked (carried_here (run_state s p) id) ≡ true) ⊎ IsClear (carried_here (run_state s p) id)
 freed_as_left s p row n id o prompt was h w served here off free =
     freed_as knows.link (carried_here k id) k.exchange.plan k.handshakes.requests (given_left s p row n o prompt was w here off)
     (subst (GivesFailure knows.link (carried_here k id) k.exchange.plan k.handshakes.requests) free

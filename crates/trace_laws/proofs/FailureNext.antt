@@ -42,7 +42,7 @@ use Rattle.bus_books.specs.Knowing.{Knows}
 use Rattle.bus_books.specs.Rows.{RowKind, still, strikes, crosses, turns}
 use Rattle.bus_books.specs.Speaking.{Speaks}
 use Rattle.bus_books.specs.Traces.{GoesOn}
-use Rattle.bus_books.proofs.Gives.{requests_stay, struck_same, in_io}
+use Rattle.bus_books.proofs.Gives.{requests_stay, struck_same, in_io, few_messages}
 use Rattle.bus_books.proofs.Hearable.{heard_next}
 use Rattle.bus_books.proofs.InConnection.{in_connection, reading_is}
 use Rattle.trace_laws.specs.Failures.{IsClear, UndoesClear, clear, GivesFailure, FailTalk, FailTalks, FailFacts, FailsBy, SentAsLeft}
@@ -57,15 +57,16 @@ use Rattle.trace_laws.proofs.FailureFaults.{fault_crossed}
 use Rattle.trace_laws.proofs.FailureSteps.{is_message_phase, FailRow, still_fail, struck_fail}
 use Rattle.trace_laws.proofs.FailureTurned.{LeftHere, turn_fail}
 use Rattle.trace_laws.proofs.FailureWords.{out_fail}
-use Rattle.trace_laws.proofs.Impossible.{wrong, wrong', none_some}
+use Rattle.trace_laws.proofs.Impossible.{none_some}
 use Rattle.trace_laws.proofs.Joint.{Stood, NextStood, link_phase}
 use Rattle.trace_laws.proofs.LastBytes.{first_is}
-use Rattle.trace_laws.proofs.OfferRows.{few_messages, request_rises}
+use Rattle.trace_laws.proofs.OfferRows.{request_rises}
 use Rattle.trace_laws.proofs.Offers.{refuses_later}
 use Rattle.trace_laws.proofs.PhaseLines.{out_phase, in_phase, out_lines}
 use Rattle.trace_laws.proofs.TellFacts.{front_length}
 use Rattle.trace_laws.proofs.TellRows.{unbegun_lines}
 use Rattle.trace_laws.proofs.UndoneFacts.{in_of, undo_asks}
+use Rattle.bus_base.proofs.Tests.{wrong, wrong'}
 
 -- ---- a name restores nothing
 

@@ -16,10 +16,11 @@ use Rattle.bus_dialogue.specs.declared.exchange.Plan.{Plan}
 use Rattle.bus_dialogue.specs.Exchange.{struck_plan}
 use Rattle.bus_dialogue.specs.Words.{parity_error}
 use Rattle.trace_laws.specs.Failures.{IsClear, UndoesClear, ClearIn, clear, restores, ClearOut, still_clear, restores_again, GivesFailure, RefusesFailure, SaysFailure, FailsBy}
-use Rattle.trace_laws.specs.Tells.{has_answer, is_short}
+use Rattle.trace_laws.specs.Tells.{is_short}
 use Rattle.trace_laws.proofs.FailureBytes.{SameFail, clear_as}
 use Rattle.trace_laws.proofs.FailureFaults.{Struck}
-use Rattle.trace_laws.proofs.Impossible.{wrong, wrong'}
+use Rattle.bus_base.proofs.Tests.{wrong, wrong'}
+use Rattle.trace_laws.specs.DataPointers.{is_marked}
 
 -- ---- what is carried stays as it was
 
@@ -33,28 +34,28 @@ clear_out_as l c d m words w (still_clear h u) = still_clear (clear_as c d w h) 
 clear_out_as l c d m words w (restores_again e (inl z)) = restores_again e (inl z)
 clear_out_as l c d m words w (restores_again e (inr h)) = restores_again e (inr (clear_as c d w h))
 
-gives_as : (l : Link) (c d : CarriedBytes) (p : Plan) (count : ℕ) (next : Next) → SameFail c d → has_answer d ≡ has_answer c → GivesFailure l c p count next → GivesFailure l d p count next
+gives_as : (l : Link) (c d : CarriedBytes) (p : Plan) (count : ℕ) (next : Next) → SameFail c d → is_marked d ≡ is_marked c → GivesFailure l c p count next → GivesFailure l d p count next
 gives_as l c d p count nexts.Command w a h = clear_in_as l c d p.messages count w h
 gives_as l c d p count nexts.GoOn w a h = clear_in_as l c d p.messages count w h
 gives_as l c d p count nexts.Status w a h = a ∙ h
 gives_as l c d p count nexts.FreeBus w a (inl h) = inl (a ∙ h)
 gives_as l c d p count nexts.FreeBus w a (inr h) = inr (clear_in_as l c d p.messages count w h)
 
-pub refuses_as : (l : Link) (c d : CarriedBytes) (p : Plan) (words : List ℕ) (next : Next) → SameFail c d → has_answer d ≡ has_answer c → RefusesFailure l c p words next → RefusesFailure l d p words next
+pub refuses_as : (l : Link) (c d : CarriedBytes) (p : Plan) (words : List ℕ) (next : Next) → SameFail c d → is_marked d ≡ is_marked c → RefusesFailure l c p words next → RefusesFailure l d p words next
 refuses_as l c d p words nexts.Command w a h = clear_out_as l c d p.messages words w h
 refuses_as l c d p words nexts.GoOn w a h = clear_out_as l c d p.messages words w h
 refuses_as l c d p words nexts.Status w a h = a ∙ h
 refuses_as l c d p words nexts.FreeBus w a (inl h) = inl (a ∙ h)
 refuses_as l c d p words nexts.FreeBus w a (inr h) = inr (clear_out_as l c d p.messages words w h)
 
-says_as : (l : Link) (c d : CarriedBytes) (p : Plan) (words : List ℕ) (cause : Cause) → SameFail c d → has_answer d ≡ has_answer c → SaysFailure l c p words cause → SaysFailure l d p words cause
+says_as : (l : Link) (c d : CarriedBytes) (p : Plan) (words : List ℕ) (cause : Cause) → SameFail c d → is_marked d ≡ is_marked c → SaysFailure l c p words cause → SaysFailure l d p words cause
 says_as l c d p words causes.Selected w a h = (clear_as c d w h.0, h.1)
 says_as l c d p words causes.InMessage w a h = refuses_as l c d p words p.next w a h
 says_as l c d p words causes.InData w a h = w.failure ∙ h
 says_as l c d p words causes.InStatus w a h = a ∙ h
 
 -- Where no byte crosses, and no fault strikes; or in COMMAND, data and STATUS.
-pub fails_as : (l : Link) (c d : CarriedBytes) (p : Plan) (words : List ℕ) (count : ℕ) (phase : Phase) → SameFail c d → has_answer d ≡ has_answer c → FailsBy l c p words count phase → FailsBy l d p words count phase
+pub fails_as : (l : Link) (c d : CarriedBytes) (p : Plan) (words : List ℕ) (count : ℕ) (phase : Phase) → SameFail c d → is_marked d ≡ is_marked c → FailsBy l c p words count phase → FailsBy l d p words count phase
 fails_as l c d p words count phases.MessageOut w a h = says_as l c d p words p.cause w a h
 fails_as l c d p words count phases.MessageIn w a h = gives_as l c d p count p.next w a h
 fails_as l c d p words count phases.Command w a h = (w.struck ∙ h.0, w.failure ∙ h.1)
@@ -88,7 +89,7 @@ IsLine io phases.DataIn = io ≡ true
 IsLine io phases.MessageIn = io ≡ true
 IsLine io phases.Status = io ≡ true
 
-pub fails_struck : (l : Link) (c d : CarriedBytes) (p : Plan) (words : List ℕ) (count : ℕ) (io : Bool) (phase : Phase) → IsLine io phase → Struck c d phase → has_answer d ≡ has_answer c → FailsBy l c p words count phase → FailsBy l d (plan_struck io p) words count phase
+pub fails_struck : (l : Link) (c d : CarriedBytes) (p : Plan) (words : List ℕ) (count : ℕ) (io : Bool) (phase : Phase) → IsLine io phase → Struck c d phase → is_marked d ≡ is_marked c → FailsBy l c p words count phase → FailsBy l d (plan_struck io p) words count phase
 fails_struck l c d p words count true phases.Command line w a h = wrong line
 fails_struck l c d p words count false phases.Command line w a h = w
 fails_struck l c d p words count true phases.DataOut line w a h = wrong line
@@ -109,7 +110,7 @@ pub record HearsOf (l m : Link) (c d : CarriedBytes) (heard : Option MsgIn) : Ty
   pub none : heard ≡ None → SameFail c d × (m.undo ≡ l.undo)
   pub some : (x : MsgIn) → heard ≡ Some x → (IsClear c → IsClear d) × (IsClear c → UndoesClear m.undo)
   pub restored : heard ≡ Some to_initiator.RestorePointers → IsClear d
-  pub answer : has_answer d ≡ has_answer c
+  pub answer : is_marked d ≡ is_marked c
 
 clear_in_on : (l m : Link) (c d : CarriedBytes) (messages : Messages) (count : ℕ) (heard : Option MsgIn) → HearsOf l m c d heard → (count ≡ 0 → is_short messages.first ≡ true → heard ≡ messages.first) → ClearIn l c messages count → ClearIn m d messages (count + 1)
 clear_in_on l m c d messages count heard w first (clear h (inl u)) = by heard refl
@@ -143,7 +144,7 @@ gives_on l m c d p count nexts.FreeBus heard w first (inr h) = inr (clear_in_on 
 pub record SaysOf (l m : Link) (c d : CarriedBytes) : Type 0 where
   pub undo : m.undo ≡ l.undo
   pub clears : UndoesClear l.undo → IsClear c → IsClear d
-  pub answer : has_answer d ≡ has_answer c
+  pub answer : is_marked d ≡ is_marked c
 
 refuses_on : (l m : Link) (c d : CarriedBytes) (p : Plan) (words : List ℕ) (next : Next) → SaysOf l m c d → (words ≡ parity_error) ⊎ SameFail c d → RefusesFailure l c p words next → RefusesFailure m d p words next
 refuses_on l m c d p words next w said h = go next h

@@ -27,14 +27,15 @@ use Rattle.bus_due.specs.RunSteps.{run_state_after}
 use Rattle.bus_books.specs.Rows.{IsRowIn}
 use Rattle.bus_books.proofs.InConnection.{InConnection, in_connection}
 use Rattle.trace_laws.specs.Failures.{FailsBy, FailTalk}
-use Rattle.trace_laws.specs.Tells.{has_answer, UndoesAnswers}
+use Rattle.trace_laws.specs.Tells.{UndoesAnswers}
 use Rattle.trace_laws.proofs.FailureBytes.{SameFail, clear_as, row_carries, still_fails}
 use Rattle.trace_laws.proofs.FailureFaults.{CrossedHere, Struck, fault_fails}
 use Rattle.trace_laws.proofs.FailureRows.{fails_as, plan_struck, IsLine, fails_struck}
-use Rattle.trace_laws.proofs.Impossible.{wrong, wrong'}
 use Rattle.trace_laws.proofs.RowItems.{link_still}
 use Rattle.trace_laws.proofs.UndoneAnswers.{same_phase_of}
 use Rattle.trace_laws.proofs.UndoneRows.{answers_stay}
+use Rattle.bus_base.proofs.Tests.{wrong, wrong'}
+use Rattle.trace_laws.specs.DataPointers.{is_marked}
 
 -- The phases of messages, where alone the initiator may not know the process.
 abbrev pub is_message_phase : Phase → Bool
@@ -103,7 +104,7 @@ still_fail s k row n c l m id g ef ep en em asked h =
     same : SameFail own d
     same = still_fails s k row n c l g.row_is en g.link_is ef id
 
-    answer : has_answer d ≡ has_answer own
+    answer : is_marked d ≡ is_marked own
     answer = answers_stay s k row n c false l g.row_is en g.link_is g.undoes (λ z. wrong' (sym ep ∙ z)) id
 
 -- ---- a fault strikes
@@ -147,7 +148,7 @@ struck_fail s k row n c l m id g ef ep en some here em bk asked h =
     phase : phase_of (bus_of j) ≡ phase_of (bus_of k)
     phase = ap phase_of i.bus_is ∙ same_phase_of c ep ∙ ap phase_of (sym g.row_is.bus_is)
 
-    answer : has_answer d ≡ has_answer own
+    answer : is_marked d ≡ is_marked own
     answer = answers_stay s k row n c false l g.row_is en g.link_is g.undoes (λ z. wrong' (sym ep ∙ z)) id
 
     unknown : l.item ≡ None → SameFail own d

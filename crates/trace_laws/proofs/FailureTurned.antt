@@ -35,19 +35,20 @@ use Rattle.bus_books.specs.Hearing.{LeavesWhole, is_out_phase}
 use Rattle.bus_books.specs.Rows.{reading_in}
 use Rattle.bus_books.proofs.InConnection.{InConnection, in_connection}
 use Rattle.trace_laws.specs.Failures.{SaysFailure, FailsBy, FailTalk}
-use Rattle.trace_laws.specs.Tells.{has_answer, code_if}
+use Rattle.trace_laws.specs.Tells.{code_if}
 use Rattle.trace_laws.proofs.ComplaintTurns.{IsAttended, attended_for}
 use Rattle.trace_laws.proofs.FailureBytes.{clear_as, still_fails}
 use Rattle.trace_laws.proofs.FailureEntries.{KeptFail, answer_kept, gives_entered, sending_entered, not_to_status, out_entered}
 use Rattle.trace_laws.proofs.FailureMarks.{status_marks}
 use Rattle.trace_laws.proofs.FailureTurns.{LeftSo, gives_left, sends_clear, is_sending}
-use Rattle.trace_laws.proofs.Impossible.{wrong, wrong'}
 use Rattle.trace_laws.proofs.OfferSteps.{stays_out}
 use Rattle.trace_laws.proofs.PhaseLines.{out_phase, out_lines, is_out_next}
 use Rattle.trace_laws.proofs.RowItems.{link_still}
 use Rattle.trace_laws.proofs.TellTurns.{status_lines}
 use Rattle.trace_laws.proofs.UndoneLeavings.{is_to_message_in}
 use Rattle.trace_laws.proofs.UndoneTurns.{TurnOf, not_out}
+use Rattle.bus_base.proofs.Tests.{wrong, wrong'}
+use Rattle.trace_laws.specs.DataPointers.{is_marked}
 
 -- What is known of the phase that is left, once it has begun.
 pub record LeftHere (k : RunState) (l : Link) (id : ProcId) : Type 0 where
@@ -188,10 +189,10 @@ turn_fail s k row n c l m id t left em h =
         so : LeftSo v k.exchange.speech.words k.handshakes.requests (bus_of k).atn (phase_of (bus_of k))
         so = record { some = leaves.some; answered = (left b).answered }
 
-    shows : k.exchange.begun ≡ true → phase_of c.after ≡ phases.Status → has_answer d ≡ true
+    shows : k.exchange.begun ≡ true → phase_of c.after ≡ phases.Status → is_marked d ≡ true
     shows b e = by (left b).named
       where
-        by : (l.item ≡ Some (process id)) ⊎ (((phase_of (bus_of k) ≡ phases.MessageOut) × (k.exchange.plan.cause ≡ causes.InMessage)) ⊎ ((phase_of (bus_of k) ≡ phases.MessageIn) × ((bus_of k).atn ≡ true))) → has_answer d ≡ true
+        by : (l.item ≡ Some (process id)) ⊎ (((phase_of (bus_of k) ≡ phases.MessageOut) × (k.exchange.plan.cause ≡ causes.InMessage)) ⊎ ((phase_of (bus_of k) ≡ phases.MessageIn) × ((bus_of k).atn ≡ true))) → is_marked d ≡ true
         by (inl item) = status_marks s k row n c l id t.goes.row_is none t.link_is item t.undoes t.turns (sym (status_lines c.after) ∙ ap (λ (y : Phase). is_status_next (Some y)) e)
         by (inr z) = wrong' (sym (not_to_status v (bus_of k).atn (phase_of (bus_of k)) z) ∙ ap is_status_next (to b) ∙ ap (λ (y : Phase). is_status_next (Some y)) e)
 

@@ -29,10 +29,11 @@ use Rattle.bus_dialogue.specs.Exchange.{one_message, bytes_of_messages, from_byt
 use Rattle.bus_dialogue.specs.NextPhase.{Serving, phase_leaving, phase_entry, with_task, recovery, recovery_limit, pointer_restoration, after_messages, after_arrival, after_run, disconnection, disconnect_messages, command_leaving, data_out_leaving, bus_free, message_repetition, message_out_leaving, after_offer, request_or_command}
 use Rattle.bus_dialogue.specs.Words.{parity_error, request_by, is_naming}
 use Rattle.trace_laws.specs.Failures.{IsClear, UndoesClear, ClearIn, clear, restores, ClearOut, still_clear, restores_again, GivesFailure, RefusesFailure, SaysFailure, FailsBy}
-use Rattle.trace_laws.specs.Tells.{code_if, has_answer}
-use Rattle.trace_laws.proofs.Impossible.{wrong'}
+use Rattle.trace_laws.specs.Tells.{code_if}
 use Rattle.trace_laws.proofs.Tests.{some_zero}
 use Rattle.trace_laws.proofs.UndoneLeavings.{is_to_message_in, not_again, to_data}
+use Rattle.bus_base.proofs.Tests.{wrong'}
+use Rattle.trace_laws.specs.DataPointers.{is_marked}
 
 -- ---- to MESSAGE IN
 
@@ -254,6 +255,6 @@ refuses_left l c p count words nexts.FreeBus some few (inr h) = inr (refused_cle
 -- ---- to BUS FREE
 
 -- Where a message was asked for, the process is over or clear.
-pub freed_clear : (l : Link) (c : CarriedBytes) (p : Plan) (count : ℕ) → (count == 0) ≡ false → GivesFailure l c p count nexts.FreeBus → (has_answer c ≡ true) ⊎ IsClear c
+pub freed_clear : (l : Link) (c : CarriedBytes) (p : Plan) (count : ℕ) → (count == 0) ≡ false → GivesFailure l c p count nexts.FreeBus → (is_marked c ≡ true) ⊎ IsClear c
 freed_clear l c p count some (inl h) = inl h
 freed_clear l c p count some (inr h) = inr (given_clear l c p.messages count some h)

@@ -35,20 +35,21 @@ use Rattle.bus_books.specs.Speaking.{AreWordsFor, opens, refuses, answers, rejec
 use Rattle.bus_books.specs.Traces.{GoesOn}
 use Rattle.bus_books.proofs.InConnection.{in_connection}
 use Rattle.trace_laws.specs.Failures.{ClearOut, RefusesFailure, SaysFailure, FailsBy, FailTalk}
-use Rattle.trace_laws.specs.Tells.{has_answer}
 use Rattle.trace_laws.proofs.CommandCounts.{is_refusal, answer_said}
 use Rattle.trace_laws.proofs.FailureBytes.{SameFail, clear_as, row_carries, out_fails, out_clear}
 use Rattle.trace_laws.proofs.FailureCrossings.{quiet_same, same_words}
 use Rattle.trace_laws.proofs.FailureRows.{SaysOf, says_on}
 use Rattle.trace_laws.proofs.FailureSteps.{FailRow}
-use Rattle.trace_laws.proofs.Impossible.{wrong, wrong', none_some}
+use Rattle.trace_laws.proofs.Impossible.{none_some}
 use Rattle.trace_laws.proofs.LastRows.{KeptPlan, Stays, stays_as}
 use Rattle.trace_laws.proofs.PhaseLines.{in_out, out_phase}
 use Rattle.trace_laws.proofs.RowItems.{LinkAfter, says, hears, link_crossed}
 use Rattle.trace_laws.proofs.RowItems as rows
 use Rattle.trace_laws.proofs.UndoneAnswers.{detects}
-use Rattle.trace_laws.proofs.UndoneLeavings.{is_detecting}
 use Rattle.trace_laws.proofs.UndoneRows.{answers_stay}
+use Rattle.bus_base.proofs.Tests.{wrong, wrong'}
+use Rattle.trace_laws.specs.Offers.{is_detected}
+use Rattle.trace_laws.specs.DataPointers.{is_marked}
 
 -- ---- what is planned stays
 
@@ -103,7 +104,7 @@ out_fail s k row n c l m id g of speaks ep en out em b h = record {
     none : message_in dialogue c true ≡ None
     none = ap (λ (q : Bool). if q then whole_in (got_in (dialogue.half ++ c.after.data_bits % 256 ∷ [])) else None) (in_out c.before out)
 
-    answer : has_answer d ≡ has_answer own
+    answer : is_marked d ≡ is_marked own
     answer = answers_stay s k row n c true l g.row_is en g.link_is g.undoes (λ z. wrong' (sym ep ∙ z)) id
 
     carries : (x : MsgOut) → message_out dialogue c true ≡ Some x → SameFail (carried_of (story_after_out k.story l (Some x)).carried id) d
@@ -136,7 +137,7 @@ out_fail s k row n c l m id g of speaks ep en out em b h = record {
         go _ e (rejects_status w) = absurd cc
 
     in_data : k.exchange.plan.cause ≡ causes.InData → SameFail own d
-    in_data ec = kept (detects s k n c speaks b g.row_is.bus_is out (of.says out en).0 (ap is_detecting ec))
+    in_data ec = kept (detects s k n c speaks b g.row_is.bus_is out (of.says out en).0 (ap is_detected ec))
 
     said : SaysOf l m own d
     said = by (link_crossed s k row n c l g.row_is en g.link_is)

@@ -15,10 +15,8 @@ use Rattle.bus_story.specs.TraceHistory.{aim_of}
 use Rattle.bus_due.specs.RunState.{RunState, or_start, array_of, bus_of}
 use Rattle.bus_due.specs.RunSteps.{run_state_after, item_if}
 use Rattle.bus_due.specs.Wants.{ready_of}
-use Rattle.scsi_device.proofs.Finds.{or_false}
 use Rattle.bus_books.specs.Traces.{Begins}
-use Rattle.bus_books.proofs.Lookups.{first_is, second_is}
-use Rattle.trace_laws.proofs.Impossible.{none_some, wrong', some_none}
+use Rattle.trace_laws.proofs.Impossible.{none_some, some_none}
 use Rattle.trace_laws.proofs.OpenCommands.{item_is, same_process, sent_clash}
 use Rattle.trace_laws.proofs.SentItems.{more_has, own_has}
 use Rattle.trace_laws.proofs.SentRows.{only_on}
@@ -28,19 +26,21 @@ use Rattle.trace_laws.proofs.ItemRows.{progress_on}
 use Rattle.trace_laws.specs.ItemFacts.{IsNext, is_abort, is_sense, is_command, NoClash, UnitsP, AreChecked, IsQueued, IsChecked, Items}
 use Rattle.trace_laws.specs.ItemTalks.{Talks}
 use Rattle.trace_laws.proofs.Tests.{or_of}
+use Rattle.std.proofs.lemmas.Bool.{or_parts}
+use Rattle.bus_base.proofs.Tests.{wrong', and_first, and_second}
 
 -- ---- what an initiator sends next
 
 undone : (s : ScenarioValue) (b : Sent) (dev : ℕ) (item : Item) → IsNext s b dev item → is_done b item ≡ false
 undone s b dev _ (is_abort n z) = z
 undone s b dev _ (is_sense n c at own there z) = z
-undone s b dev _ (is_command n time c at own z may) = z
+undone s b dev _ (is_command n time c at own z may none) = z
 
 pub next_unsent : (s : ScenarioValue) (b : Sent) (dev : ℕ) (item : Item) → IsNext s b dev item → has_item b.sent item ≡ false
-next_unsent s b dev item h = (or_false (has_item b.sent item) (has_item b.over item) (undone s b dev item h)).0
+next_unsent s b dev item h = (or_parts (has_item b.sent item) (has_item b.over item) (undone s b dev item h)).0
 
 pub next_unended : (s : ScenarioValue) (b : Sent) (dev : ℕ) (item : Item) → IsNext s b dev item → has_item b.over item ≡ false
-next_unended s b dev item h = (or_false (has_item b.sent item) (has_item b.over item) (undone s b dev item h)).1
+next_unended s b dev item h = (or_parts (has_item b.sent item) (has_item b.over item) (undone s b dev item h)).1
 
 next_checked : (s : ScenarioValue) (b : Sent) (dev : ℕ) (item : Item) → IsNext s b dev item → (n : ℕ) → item ≡ sense_item n → IsChecked s b n
 next_checked s b dev _ (is_abort k z) n e = absurd (no_process e)
@@ -50,7 +50,7 @@ next_checked s b dev _ (is_abort k z) n e = absurd (no_process e)
 next_checked s b dev _ (is_sense k c at own there z) n e =
     let same : k ≡ n = ap (λ (p : ProcId). p.command) (same_process _ _ e) in
     record { def = c; def_is = ap (command_at s.commands) (sym same) ∙ at; checked = ap (λ (x : ℕ). list_any (λ m. m == x) b.checks) (sym same) ∙ there }
-next_checked s b dev _ (is_command k time c at own z may) n e = wrong' (ap (λ (p : ProcId). p.sense) (same_process _ _ e))
+next_checked s b dev _ (is_command k time c at own z may none) n e = wrong' (ap (λ (p : ProcId). p.sense) (same_process _ _ e))
 
 -- ---- the first row
 
@@ -62,9 +62,9 @@ begins_open s k n h next = record {
 
 opened_sense : (b : Sent) (item : Item) (n : ℕ) → is_open_sense (record b { sent = item ∷ b.sent }) n ≡ true → (item ≡ sense_item n) ⊎ (is_open_sense b n ≡ true)
 opened_sense b item n e =
-    elim (or_of (same_item item (sense_item n)) (has_item b.sent (sense_item n)) (first_is (same_item item (sense_item n) || has_item b.sent (sense_item n)) (not (has_item b.over (sense_item n))) e)) [
+    elim (or_of (same_item item (sense_item n)) (has_item b.sent (sense_item n)) (and_first (same_item item (sense_item n) || has_item b.sent (sense_item n)) (not (has_item b.over (sense_item n))) e)) [
       | inl z ↦ inl (item_is item (sense_item n) z)
-      | inr z ↦ inr ((λ i. z i && not (has_item b.over (sense_item n))) ∙ second_is (same_item item (sense_item n) || has_item b.sent (sense_item n)) (not (has_item b.over (sense_item n))) e)
+      | inr z ↦ inr ((λ i. z i && not (has_item b.over (sense_item n))) ∙ and_second (same_item item (sense_item n) || has_item b.sent (sense_item n)) (not (has_item b.over (sense_item n))) e)
     ]
 
 pub items_first : (s : ScenarioValue) (k : RunState) (row : Row) (n : Connection) → Begins s k row n → Items s k → (n.reselected ≡ false → (i : Item) → aim_of k.story.aims n.initiator ≡ Some i → IsNext s k.story.sent n.initiator i) → Items s (run_state_after s k row)

@@ -41,9 +41,11 @@ use Rattle.bus_laws.proofs.Dues.{is_at, is_there}
 use Rattle.bus_laws.proofs.Rows.{stage_is, drives_own}
 use Rattle.bus_laws.proofs.Together.{by_reset, by_calm, reset_or_calm}
 use Rattle.link_laws.proofs.Enters.{no_fall}
-use Rattle.trace_laws.proofs.Impossible.{wrong, wrong', none_some}
+use Rattle.trace_laws.proofs.Impossible.{none_some}
 use Rattle.trace_laws.proofs.Tests.{falls_true}
 use Rattle.trace_laws.proofs.UnderRst.{bsy_stands, quiet_at_end}
+use Rattle.bus_base.proofs.Tests.{wrong, wrong'}
+use Rattle.bus_laws.proofs.FromAnswer.{only_caller_acts}
 
 -- ---- what a connection that begins is made of
 
@@ -123,16 +125,6 @@ begun_first p row n alone e = λ i. begun_after (begun p) (alone i) (e i) (chang
 abbrev DrivesName : ScenarioValue → List Row → Row → Connection → Type 0
 DrivesName s p row n = (drives (row ∷ p) n.target).data_bits ≡ byte_bits (identify_byte (ready_of s (run_state s p) n.target))
 
--- Once the called device has answered only the caller acts.
-only_caller : (s : ScenarioValue) (p : List Row) (g : Calling) (c t0 t3 : ℕ) (own other b : LineSet) (row : Row) → CalmStanding s p → Calls s p (call_with c t0 g) c g.called own other b → stage p ≡ InAnswer (call_with c t0 g) g t3 → IsLeast (unreset_due s p) 8 row → row.dev ≢ c → ⊥
-only_caller s p g c t0 t3 own other b row always h was least nc =
-    let x : Due = record { time = row.time; kind = row.kind } in
-    let w = is_there s p row.dev x least.is_due in
-    elim (cases_eq row.dev g.called) [
-      | inl same ↦ none_some x (sym (waiting_due s p g c t0 t3 w.0 other always.devices h.called_below (ap (latency_of s) (sym same) ∙ w.1) h.stands.connection_is h.apart was h.other) ∙ ap (unreset_due s p) (sym same) ∙ least.is_due)
-      | inr nk ↦ none_some x (sym (apart_due s p g c t0 t3 row.dev w.0 always.devices least.inside w.1 h.stands.connection_is (λ z. nc (sym z)) (λ z. nk (sym z)) was (h.rest row.dev least.inside nc nk)) ∙ least.is_due)
-    ]
-
 -- The row of the caller.
 caller_row : (s : ScenarioValue) (p : List Row) (g : Calling) (c t0 t3 : ℕ) (own other b : LineSet) (row : Row) → CalmStanding s p → Calls s p (call_with c t0 g) c g.called own other b → stage p ≡ InAnswer (call_with c t0 g) g t3 → IsLeast (unreset_due s p) 8 row → row.dev ≡ c
     → (lat : ℕ) × (answered_due (device_with c lat own (own_time p c)) (want_at s p c) g t3 ≡ Some (record { time = row.time; kind = row.kind }))
@@ -161,7 +153,7 @@ after_answered s p false c k t0 t1 t2 t3 x row n always a least made re =
           let own = lines_at p row c (calling_lines false true x) same z.kind_is in
           let sel : (bus (row ∷ p)).sel ≡ true = bus_on (λ y. y.sel) (λ _ _. refl) (row ∷ p) c h.caller_below (ap (λ (l : LineSet). l.sel) own) in
           wrong' (sym (falls_true (bus p).sel (bus (row ∷ p)).sel sel) ∙ made.sel)
-      | inr nc ↦ absurd (only_caller s p g c t0 t3 (calling_lines false false x) answer_lines (calling_lines false true x) row always h was least nc)
+      | inr nc ↦ absurd (only_caller_acts s p g c t0 t3 (calling_lines false false x) answer_lines (calling_lines false true x) row always h was least nc)
     ]
 
 after_resumed : (s : ScenarioValue) (p : List Row) (c k t0 t1 t2 t3 t4 x : ℕ) (row : Row) (n : Connection) → CalmStanding s p → IsAnswered s p (resumed_calling k t1 t2 t3 t4) c k t0 false true x → IsLeast (unreset_due s p) 8 row → Made p row n → DrivesName s p row n
@@ -178,7 +170,7 @@ after_resumed s p c k t0 t1 t2 t3 t4 x row n always a least made =
           let z = is_at (own_time p c + 90 + w.0) l (record { time = row.time; kind = row.kind }) w.1 in
           let own = lines_at p row c l here z.kind_is in
           subst (λ (m : Connection). DrivesName s p row m) same (ap (λ (y : LineSet). y.data_bits) own)
-      | inr nc ↦ absurd (only_caller s p g c t0 t3 (calling_lines false true x) answer_lines (calling_lines false true x) row always h was least nc)
+      | inr nc ↦ absurd (only_caller_acts s p g c t0 t3 (calling_lines false true x) answer_lines (calling_lines false true x) row always h was least nc)
     ]
 
 -- Without an answer no connection begins.

@@ -32,10 +32,10 @@ use Rattle.bus_books.specs.Giving.{OnMessage, OnMessages}
 use Rattle.bus_books.specs.Rows.{IsFirstRow}
 use Rattle.bus_books.specs.Traces.{Begins}
 use Rattle.bus_books.proofs.Given.{first_requests}
-use Rattle.bus_books.proofs.Knows.{events_link}
 use Rattle.trace_laws.specs.ItemTalks.{plans_well, is_sense_item, talk_of, IsNameOf, last_well, TalksBy, Talks}
 use Rattle.trace_laws.specs.ItemFacts.{IsQueued}
-use Rattle.trace_laws.proofs.Impossible.{wrong, wrong'}
+use Rattle.bus_base.proofs.Tests.{wrong, wrong'}
+use Rattle.bus_story.proofs.StorySteps.{events_link}
 
 -- ---- what the row makes of what is sent, of the array and of the link
 

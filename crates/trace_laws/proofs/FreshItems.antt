@@ -29,7 +29,7 @@ use Rattle.bus_laws.proofs.Together.{from_stage}
 use Rattle.link_laws.specs.LinkStages.{AnyStage, apart, linked}
 use Rattle.trace_laws.proofs.Called.{made_for}
 use Rattle.trace_laws.proofs.FirstRows.{made_is}
-use Rattle.trace_laws.proofs.Impossible.{none_some, wrong'}
+use Rattle.trace_laws.proofs.Impossible.{none_some}
 use Rattle.trace_laws.proofs.Joint.{Stood, link_connection}
 use Rattle.trace_laws.specs.Named.{AreFound}
 use Rattle.trace_laws.specs.Items.{IsFresh, AreSent, IsServedOpen}
@@ -39,6 +39,7 @@ use Rattle.trace_laws.proofs.ItemFacts.{aimed_next, falls_quiet}
 use Rattle.trace_laws.specs.ItemFacts.{IsQueued, ItemFacts}
 use Rattle.trace_laws.specs.ItemTalks.{TalksBy, talk_of}
 use Rattle.trace_laws.proofs.PhaseLines.{in_phase}
+use Rattle.bus_base.proofs.Tests.{wrong'}
 
 -- ---- as a connection begins
 

@@ -34,7 +34,6 @@ use Rattle.bus_due.specs.RunSteps.{run_state}
 use Rattle.bus_due.proofs.Plains.{run_state_plain}
 use Rattle.scsi_device.specs.Heard.{Instructions, gives_status, instructions, is_answered, is_command_phase, is_heard, is_heard_after, is_heard_in, is_heard_on, is_heard_process, is_heard_row, is_instructed, is_known_item, is_message, is_new, is_of_scenario, is_opening, is_opening_in, is_said, is_served, is_true_end, is_unanswered, moves_data}
 use Rattle.scsi_device.proofs.FitLines.{obeys_fits, units_are}
-use Rattle.ending_causes.proofs.Counts.{all_three}
 use Rattle.bus_books.proofs.Blocks.{same_self}
 use Rattle.bus_books.specs.Items.{IsItem, is_process, is_abort}
 use Rattle.bus_books.specs.Knowing.{Knows}
@@ -49,16 +48,12 @@ use Rattle.trace_laws.proofs.Blocks.{commands_are}
 use Rattle.trace_laws.proofs.CommandFacts.{same_process as same_id_of, served_process}
 use Rattle.trace_laws.proofs.ConnectionRows.{begins_now, goes_now, row_kind, stage_of_connection}
 use Rattle.trace_laws.proofs.HeardTurns.{heard_goes}
-use Rattle.trace_laws.proofs.Impossible.{wrong, wrong', none_some}
+use Rattle.trace_laws.proofs.Impossible.{none_some}
 use Rattle.trace_laws.proofs.Joint.{Stood}
 use Rattle.trace_laws.proofs.MayLeave.{said_at}
 use Rattle.trace_laws.proofs.PhaseLines.{message_is}
 use Rattle.trace_laws.proofs.SentItems.{self_item}
-use Rattle.trace_laws.proofs.Tests.{implication}
-
-unless : (a b : Bool) → (a ≡ false → b ≡ true) → (a || b) ≡ true
-unless true b f = refl
-unless false b f = f refl
+use Rattle.bus_base.proofs.Tests.{wrong, wrong', implication, unless, all_three}
 
 process_same : (o : Option Item) → same_process o o ≡ true
 process_same None = refl

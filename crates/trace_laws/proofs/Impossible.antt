@@ -1,11 +1,6 @@
 -- What follows from two values that differ: anything.
 use Rattle.std.proofs.Common.{◌≡◌, true, false, Option, Some, None}
-
-pub wrong : {A : Type 0} → true ≡ false → A
-wrong e = absurd cc
-
-pub wrong' : {A : Type 0} → false ≡ true → A
-wrong' e = absurd cc
+use Rattle.bus_base.proofs.Tests.{wrong, wrong'}
 
 pub none_some : {A X : Type 0} (x : X) → (let o : Option X = None in o) ≡ Some x → A
 none_some x e = absurd cc

@@ -23,7 +23,6 @@ use Rattle.bus_due.specs.Plain.{AreOfDevices}
 use Rattle.bus_due.specs.RunSteps.{run_state}
 use Rattle.bus_due.specs.Sights.{serving_at}
 use Rattle.bus_laws.specs.Ends.{EndLines, initiator_side, target_side, connected_bus, Linked}
-use Rattle.bus_laws.proofs.Tests.{or_true}
 use Rattle.link_laws.specs.Phases.{ends}
 use Rattle.link_laws.specs.Pulses.{run_count}
 use Rattle.link_laws.proofs.DataRows.{count_stays, sending_stays}
@@ -32,10 +31,10 @@ use Rattle.link_laws.proofs.FromLink.{some_byte}
 use Rattle.link_laws.proofs.Moves.{terms_of, initiator_moves, target_moves, initiator_in_phase, target_in_phase, phase_same, no_rise}
 use Rattle.link_laws.proofs.Shakes.{target_row, initiator_row}
 use Rattle.trace_laws.proofs.Driven.{message_at, message_follows, IsOdd, Driven, AfterDriven, goes_on, odd_byte, driven_asked, driven_in, driven_pulsed_in, driven_pulsed_out, driven_out, driven_idle, driven_said}
-use Rattle.trace_laws.proofs.Impossible.{wrong, wrong'}
 use Rattle.trace_laws.proofs.Kept.{turn, dialogue_stays, Quiet, requests_stay, message_stays, follows_stay, unasked_stays, first_stays, initiator_end, target_end, initiator_quiet, target_quiet, data_row, still_row}
 use Rattle.trace_laws.proofs.LinkRows.{is_pulsed, is_unasked}
 use Rattle.trace_laws.proofs.Tests.{not_not}
+use Rattle.bus_base.proofs.Tests.{wrong, wrong', or_true}
 
 -- The bytes that the two ends are due to drive are bytes.
 pub record Values (s : ScenarioValue) (p : List Row) (n : Connection) (e : EndLines) : Type 0 where

@@ -41,14 +41,15 @@ use Rattle.trace_laws.proofs.CommandNext.{out_unstruck, turns_as}
 use Rattle.trace_laws.proofs.Commands.{answers_then}
 use Rattle.trace_laws.proofs.ConnectionRows.{ConnectionRow, GoingRow, connection_row, going_row}
 use Rattle.trace_laws.proofs.Crossings.{Goes}
-use Rattle.trace_laws.proofs.Impossible.{wrong, wrong', none_some}
+use Rattle.trace_laws.proofs.Impossible.{none_some}
 use Rattle.trace_laws.proofs.InstructedLeavings.{LeavesTold, leaves_told}
 use Rattle.trace_laws.proofs.InstructedRows.{begins_told, cross_told, stay_told}
 use Rattle.trace_laws.proofs.Joint.{Stood, NextStood}
 use Rattle.trace_laws.proofs.PhaseLines.{out_lines}
 use Rattle.trace_laws.proofs.Tests.{or_second}
+use Rattle.bus_base.proofs.Tests.{wrong, wrong'}
 
-bytes_are : (a b : List ℕ) → same_bytes a b ≡ true → a ≡ b
+pub bytes_are : (a b : List ℕ) → same_bytes a b ≡ true → a ≡ b
 bytes_are [] [] e = refl
 bytes_are [] (y ∷ b) e = wrong' e
 bytes_are (x ∷ a) [] e = wrong' e

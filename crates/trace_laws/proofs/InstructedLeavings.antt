@@ -35,12 +35,12 @@ use Rattle.trace_laws.specs.Commands.{AnswersFor, CommandBooks, SaysFor, Serves,
 use Rattle.trace_laws.specs.Instructed.{KnownFor, KnownIn, Selected, Instructed}
 use Rattle.trace_laws.proofs.CommandLeavings.{Leads, LeadsTo, leads}
 use Rattle.trace_laws.proofs.CommandTurns.{SameBlocks, Turns, same_blocks, serves_as}
-use Rattle.trace_laws.proofs.Impossible.{wrong, wrong'}
 use Rattle.trace_laws.proofs.InstructedSteps.{told_with}
 use Rattle.trace_laws.proofs.InstructedTurns.{block_turned, enters_known, known_turned, opening_turned, out_is, refused_known, told_before}
 use Rattle.trace_laws.proofs.KnownLeavings.{Fits, FitsPhase, fits, known_after}
 use Rattle.trace_laws.proofs.OpeningRows.{opens_at}
 use Rattle.trace_laws.proofs.PhaseLines.{out_phase, command_is}
+use Rattle.bus_base.proofs.Tests.{wrong, wrong'}
 
 -- ---- lines
 

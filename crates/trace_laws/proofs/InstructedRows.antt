@@ -36,9 +36,9 @@ use Rattle.trace_laws.proofs.BlockRows.{takes_block}
 use Rattle.trace_laws.proofs.CommandMessages.{crossed_else, same_item, tells}
 use Rattle.trace_laws.proofs.CommandStays.{phase_same}
 use Rattle.trace_laws.proofs.CommandTurns.{same_blocks}
-use Rattle.trace_laws.proofs.Impossible.{wrong, wrong'}
 use Rattle.trace_laws.proofs.InstructedSteps.{SameStage, byte_told, same_told, told_byte, told_none, told_with, with_byte}
 use Rattle.trace_laws.proofs.PhaseLines.{command_is}
+use Rattle.bus_base.proofs.Tests.{wrong, wrong'}
 
 -- ---- the first row
 

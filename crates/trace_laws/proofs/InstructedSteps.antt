@@ -24,7 +24,7 @@ use Rattle.bus_books.proofs.InConnection.{reading_is}
 use Rattle.trace_laws.specs.Commands.{Serves}
 use Rattle.trace_laws.specs.Instructed.{KnownFor, KnownIn, KnownNext, Selected, Instructed}
 use Rattle.trace_laws.proofs.CommandTurns.{serves_as}
-use Rattle.trace_laws.proofs.Impossible.{wrong, wrong'}
+use Rattle.bus_base.proofs.Tests.{wrong, wrong'}
 
 -- ---- a row of the connection
 

@@ -15,8 +15,8 @@ use Rattle.bus_dialogue.specs.Planning.{cause_after}
 use Rattle.scsi_device.specs.Heard.{Instructions, instructions_on, instructions_with, is_command_phase, is_opening_in, is_selected}
 use Rattle.bus_books.specs.Hearing.{is_out_phase}
 use Rattle.trace_laws.specs.Instructed.{KnownFor, KnownIn, KnownNext}
-use Rattle.trace_laws.proofs.Impossible.{wrong, wrong'}
 use Rattle.trace_laws.proofs.KnownLeavings.{FitsPhase, known_after}
+use Rattle.bus_base.proofs.Tests.{wrong, wrong'}
 
 -- ---- the lines of a phase
 

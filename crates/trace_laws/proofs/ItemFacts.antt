@@ -32,13 +32,12 @@ use Rattle.bus_books.specs.Traces.{Begins, RowOf, apart as row_apart, begins, go
 use Rattle.bus_books.proofs.Reactions.{out_over}
 use Rattle.bus_laws.specs.Stages.{BusStage}
 use Rattle.bus_laws.proofs.Apart.{change_plain}
-use Rattle.bus_laws.proofs.Tests.{or_true}
 use Rattle.link_laws.specs.LinkStages.{LinkStage, when_selected, when_settling, when_turning, when_offering, when_shaking, when_pulsing}
 use Rattle.trace_laws.proofs.Called.{IsCalled}
 use Rattle.trace_laws.proofs.ConnectionRows.{ConnectionRow}
 use Rattle.trace_laws.proofs.Crossings.{RowFacts, stays, ends_here}
 use Rattle.trace_laws.proofs.FirstRows.{made_is, quiet_sel, under_rst}
-use Rattle.trace_laws.proofs.Impossible.{none_some, wrong, wrong', some_none}
+use Rattle.trace_laws.proofs.Impossible.{none_some, some_none}
 use Rattle.trace_laws.proofs.Tests.{or_first}
 use Rattle.trace_laws.proofs.UnderRst.{reset_rule, line_off, quiet_at_end, drives_next}
 use Rattle.trace_laws.proofs.SentRows.{only_are}
@@ -50,6 +49,7 @@ use Rattle.trace_laws.proofs.ItemSteps.{start_queued}
 use Rattle.trace_laws.proofs.ItemRows.{open_over}
 use Rattle.trace_laws.specs.ItemFacts.{IsAimed, AimsFit, UnitsP, IsQueued, ItemFacts}
 use Rattle.trace_laws.specs.ItemTalks.{is_sense_item, awaits, is_plain, talk_of, TalksBy, last_well}
+use Rattle.bus_base.proofs.Tests.{wrong, wrong', or_true}
 
 -- ---- the start
 

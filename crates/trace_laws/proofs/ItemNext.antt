@@ -37,19 +37,16 @@ use Rattle.bus_books.specs.Giving.{AreGiven, Gives, GivesNext}
 use Rattle.bus_books.proofs.Hearable.{heard_next}
 use Rattle.bus_phases.specs.declared.dialogue.Dialogue.{Dialogue}
 use Rattle.bus_books.specs.Knowing.{Knows, NamesServed}
-use Rattle.bus_books.proofs.Lists.{eq_self}
 use Rattle.bus_books.proofs.Reactions.{messages_some}
-use Rattle.bus_books.proofs.RowTies.{lt_is}
 use Rattle.bus_laws.specs.Stages.{BusStage}
 use Rattle.bus_laws.proofs.Apart.{change_plain}
 use Rattle.bus_laws.proofs.Prompt.{least_is}
 use Rattle.link_laws.specs.LinkStages.{LinkStage, AnyStage, apart, linked}
-use Rattle.link_laws.proofs.Ahead.{zero_of}
 use Rattle.trace_laws.proofs.ConnectionRows.{ConnectionRow, connection_row, GoingRow, going_row, RowKindOf, begins_now, goes_now, row_kind, stage_of_connection}
 use Rattle.trace_laws.proofs.Crossings.{RowFacts, stays, ends_here, Goes}
 use Rattle.trace_laws.proofs.FirstRows.{made_is}
-use Rattle.trace_laws.proofs.Impossible.{none_some, wrong, wrong'}
-use Rattle.trace_laws.proofs.Joint.{Stood, NextStood, link_calm, link_connection, link_phase, apart_connection}
+use Rattle.trace_laws.proofs.Impossible.{none_some}
+use Rattle.trace_laws.proofs.Joint.{Stood, NextStood, link_connection, link_phase, apart_connection}
 use Rattle.trace_laws.proofs.PhaseLines.{in_phase}
 use Rattle.trace_laws.proofs.Plans.{Planned}
 use Rattle.trace_laws.proofs.OpenCommands.{IsNamed, named_is}
@@ -66,6 +63,9 @@ use Rattle.trace_laws.proofs.FirstItems.{items_first, next_unsent}
 use Rattle.trace_laws.proofs.ItemFacts.{aimed_next, beginning, link_stands, rst_raised, falls_quiet, ends_plain}
 use Rattle.trace_laws.specs.ItemFacts.{IsNext, AimsFit, Items, ItemFacts}
 use Rattle.trace_laws.specs.ItemTalks.{is_sense_item, talk_of, awaits, IsNameOf, HasNames, TalksBy}
+use Rattle.std.proofs.lemmas.Bool.{ltb-true}
+use Rattle.bus_base.proofs.Tests.{wrong, wrong', eq_self, zero_of}
+use Rattle.link_laws.proofs.Traces.{link_calm}
 
 -- ---- a row of a connection
 
@@ -238,7 +238,7 @@ gives_next s p row n dv pd g here z =
       | inl u ↦ ap (λ (w : ℕ). nat_lt w (length bytes)) (zero_of (handshakes p).requests u) ∙ some
       | inr f ↦ f
     ] in
-    (g.offered here z ∙ ap (λ (w : ℕ). slice_index_or bytes w 0) (sym requests), lt_is k.handshakes.requests (length bytes) (ap (λ (w : ℕ). nat_lt w (length bytes)) requests ∙ follows), pl.begun ∙ g.begun_is z)
+    (g.offered here z ∙ ap (λ (w : ℕ). slice_index_or bytes w 0) (sym requests), ltb-true k.handshakes.requests (length bytes) (ap (λ (w : ℕ). nat_lt w (length bytes)) requests ∙ follows), pl.begun ∙ g.begun_is z)
 
 -- The command of the process.
 record NamedCommand (s : ScenarioValue) (p : Process) : Type 0 where

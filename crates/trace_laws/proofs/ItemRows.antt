@@ -30,9 +30,8 @@ use Rattle.bus_due.specs.RunSteps.{run_state_after, array_after_events, served_a
 use Rattle.bus_books.specs.Rows.{IsRowIn, reading_in}
 use Rattle.bus_books.proofs.CarriedRows.{process_id}
 use Rattle.bus_books.proofs.InConnection.{reading_is}
-use Rattle.bus_books.proofs.Knows.{events_link}
 use Rattle.bus_books.proofs.Lookups.{id_is}
-use Rattle.trace_laws.proofs.Impossible.{none_some, wrong, wrong'}
+use Rattle.trace_laws.proofs.Impossible.{none_some}
 use Rattle.trace_laws.proofs.SentRows.{sent_grows, only_on}
 use Rattle.trace_laws.proofs.RowEvents.{carried_of_item}
 use Rattle.trace_laws.proofs.OverItems.{Grows, grows_same, grows_on, events_grow, fewer_senses, clash_grows, events_checked, reset_senses, lost_over}
@@ -40,6 +39,8 @@ use Rattle.trace_laws.proofs.RowItems.{row_shows, row_sent, over_after}
 use Rattle.trace_laws.proofs.ItemSteps.{Admits, queued_on, queued_sent, GivesUp, checked_up, progress_kept}
 use Rattle.trace_laws.specs.ItemFacts.{UnitsP, AreChecked, IsQueued, no_progress, Items}
 use Rattle.trace_laws.specs.ItemTalks.{Talks}
+use Rattle.bus_base.proofs.Tests.{wrong, wrong'}
+use Rattle.bus_story.proofs.StorySteps.{events_link}
 
 -- ---- any row
 

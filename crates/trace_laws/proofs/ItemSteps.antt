@@ -33,12 +33,13 @@ use Rattle.bus_due.specs.RunState.{RunState, or_start, array_of, process_served}
 use Rattle.bus_due.specs.RunSteps.{array_after_events, progress_by_leaving, progress_after}
 use Rattle.bus_due.specs.Wants.{current_of, since_of, seek_of, ready_at, ready_among, ready_of}
 use Rattle.bus_books.proofs.CarriedRows.{process_id}
-use Rattle.trace_laws.proofs.Impossible.{none_some, wrong}
+use Rattle.trace_laws.proofs.Impossible.{none_some}
 use Rattle.trace_laws.proofs.QueuedProcesses.{map_units, unit_at, stays_queued, step_units}
 use Rattle.trace_laws.proofs.OverItems.{Grows, grows_same, still_queued}
 use Rattle.trace_laws.proofs.OpenCommands.{item_is}
 use Rattle.trace_laws.proofs.SentItems.{more_has}
 use Rattle.trace_laws.specs.ItemFacts.{RunsP, UnitsP, AreChecked, IsQueued}
+use Rattle.bus_base.proofs.Tests.{wrong}
 
 -- ---- the process that a target has ready is in a queue
 

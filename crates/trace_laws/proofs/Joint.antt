@@ -1,5 +1,5 @@
 -- Row by row: what the lines show, what is said, and what the two ends drive, together.
-use Rattle.std.proofs.Common.{inl, inr, ℕ, ◌≡◌, ◌⊎◌, ◌<◌, ◌+◌, ◌^◌, Bool, true, false, not, ◌&&◌, ◌==◌, ◌%◌, ◌∙◌, List, ◌∷◌, length, Option, Some, None, refl, sym, ap, subst, arith}
+use Rattle.std.proofs.Common.{inl, inr, ℕ, ◌≡◌, ◌⊎◌, ◌<◌, Bool, true, false, not, ◌&&◌, ◌==◌, ◌%◌, ◌∙◌, List, ◌∷◌, length, Option, Some, None, refl, sym, ap, subst, arith}
 use Rattle.std.specs.Prelude.{if◌then◌else◌, is_some, nat_lt, slice_index_or}
 use Rattle.std.proofs.lemmas.Option.{same_Some}
 use Rattle.bus_trace.specs.LineSet.{LineSet, union, has_odd_parity}
@@ -49,7 +49,6 @@ use Rattle.bus_books.specs.Traces.{IsReadyFor, Begins, GoesOn, Ends, RowOf, apar
 use Rattle.bus_books.proofs.Aims.{aims_are}
 use Rattle.bus_books.proofs.MessageRules.{row_keeps, end_keeps}
 use Rattle.bus_books.proofs.Reactions.{answers_next, answers_own, leaves_by, messages_some}
-use Rattle.bus_books.proofs.RowTies.{lt_is}
 use Rattle.bus_books.proofs.Traces.{books_on}
 use Rattle.bus_laws.specs.Ends.{connected_bus, BeginsConnection, by_selection, by_reselection, ends_selected, ends_reselected}
 use Rattle.bus_laws.specs.Reactions.{unreset_due}
@@ -58,12 +57,11 @@ use Rattle.std.specs.Int.RustNames.{count_ones}
 use Rattle.bus_laws.specs.Stages.{HasShortLatencies, BusStage, CalmStanding, Standing, NextRow, is_connected}
 use Rattle.bus_laws.proofs.Apart.{change_plain}
 use Rattle.bus_laws.proofs.Rows.{drives_own}
-use Rattle.bus_laws.proofs.Tests.{and_false}
 use Rattle.bus_laws.proofs.Together.{from_stage, by_reset, by_calm, reset_or_calm}
 use Rattle.link_laws.specs.Books.{has_odd_byte, KeepsBooksIn}
 use Rattle.link_laws.specs.LinkStages.{LinkStage, when_selected, when_settling, when_turning, when_offering, when_shaking, when_pulsing, AnyStage, apart, linked, NextAny}
-use Rattle.link_laws.proofs.Ahead.{zero_of}
-use Rattle.link_laws.proofs.Traces.{from_any}
+use Rattle.link_laws.proofs.RunLengths.{HasShortRuns}
+use Rattle.link_laws.proofs.Traces.{from_any, link_calm}
 use Rattle.trace_laws.specs.Asked.{IsAskedIn, IsAsked}
 use Rattle.trace_laws.specs.ByteValues.{HasByteValues}
 use Rattle.trace_laws.proofs.ByteValues.{GivesByteValues}
@@ -72,13 +70,15 @@ use Rattle.trace_laws.proofs.Called.{IsMadeFor, IsCalled, fresh_call, called_on,
 use Rattle.trace_laws.proofs.Crossings.{Goes, Stops, RowFacts, stays, ends_here, offering_is, byte_is, row_facts, leaving_is}
 use Rattle.trace_laws.proofs.Driven.{message_at, AfterDriven, goes_on, frees, odd_byte, driven_in}
 use Rattle.trace_laws.proofs.FirstRows.{IsFirst, is_first, under_rst, made_is, quiet_sel}
-use Rattle.trace_laws.proofs.Impossible.{none_some, wrong, wrong'}
+use Rattle.trace_laws.proofs.Impossible.{none_some}
 use Rattle.trace_laws.proofs.LinkRows.{is_unasked, link_row}
 use Rattle.trace_laws.proofs.PhaseLines.{in_phase}
 use Rattle.trace_laws.proofs.Plans.{is_in_message, Planned, planned_on, data_goes_on, writes_of, is_directed, writes_out, writes_there}
 use Rattle.trace_laws.proofs.Steps.{IsDriven, HasValues, driven_by, after_row}
 use Rattle.trace_laws.proofs.Tests.{falls_true}
 use Rattle.trace_laws.proofs.UnderRst.{carries_none, ends_apart, quiet_at_end}
+use Rattle.std.proofs.lemmas.Bool.{ltb-true}
+use Rattle.bus_base.proofs.Tests.{wrong, wrong', and_false, zero_of}
 
 pub record Stood (s : ScenarioValue) (p : List Row) : Type 0 where
   pub standing : Standing s p
@@ -95,14 +95,6 @@ pub record NextStood (s : ScenarioValue) (p : List Row) (row : Row) : Type 0 whe
   pub stood : Stood s (row ∷ p)
 
 -- ---- the stage of a connection
-
-pub link_calm : (s : ScenarioValue) (p : List Row) (n : Connection) → LinkStage s p n → (bus p).rst ≡ false
-link_calm s p n (when_selected h) = ap (λ (l : LineSet). l.rst) h.linked.stands.bus_is
-link_calm s p n (when_settling bsy atn msg cd io y h) = ap (λ (l : LineSet). l.rst) h.linked.stands.bus_is
-link_calm s p n (when_turning atn x msg cd h) = ap (λ (l : LineSet). l.rst) h.linked.stands.bus_is
-link_calm s p n (when_offering atn msg cd y h) = ap (λ (l : LineSet). l.rst) h.linked.stands.bus_is
-link_calm s p n (when_shaking msg cd io req ack atn x y h) = ap (λ (l : LineSet). l.rst) h.linked.stands.bus_is
-link_calm s p n (when_pulsing io req ack atn x y h a) = ap (λ (l : LineSet). l.rst) h.linked.stands.bus_is
 
 link_sel : (s : ScenarioValue) (p : List Row) (n : Connection) → LinkStage s p n → (bus p).sel ≡ false
 link_sel s p n (when_selected h) = ap (λ (l : LineSet). l.sel) h.linked.stands.bus_is
@@ -268,7 +260,7 @@ goes s p row n gr pd dv h books a g =
           let follows = follows_some p bytes (messages_some k.exchange.plan.messages (pd.message in_message)) (g.follows o z) in
           let requests : k.handshakes.requests ≡ (handshakes p).requests = ap (λ (w : Handshakes). w.requests) pl.handshakes in (
             g.offered o z ∙ ap (λ (w : ℕ). slice_index_or bytes w 0) (sym requests),
-            lt_is k.handshakes.requests (length bytes) (ap (λ (w : ℕ). nat_lt w (length bytes)) requests ∙ follows),
+            ltb-true k.handshakes.requests (length bytes) (ap (λ (w : ℕ). nat_lt w (length bytes)) requests ∙ follows),
             pl.begun ∙ g.begun_is z,
           );
       names = a.names;
@@ -525,8 +517,8 @@ driven_after_row : (s : ScenarioValue) (q : List Row) (n : Connection) → After
 driven_after_row s q n (frees e) x z = absurd (none_some x (sym e ∙ z))
 driven_after_row s q n (goes_on e l b d) x z = subst (λ (y : Connection). IsDriven s q y) (same_Some n x (sym l.stands.connection_is ∙ z)) (driven_by s q n e l d)
 
-linked_next : (s : ScenarioValue) (p : List Row) (row : Row) (n : Connection) → AreUnits s → HasCommands s → GivesByteValues s → HasShortLatencies s → Stood s p → length p + 1 < 2 ^ 64 → LinkStage s p n → IsAsked s p row → IsLeast (due s p) 8 row → NextStood s p row
-linked_next s p row n u gr vs fits was short h a m = go (bus (row ∷ p)).rst refl
+linked_next : (s : ScenarioValue) (p : List Row) (row : Row) (n : Connection) → AreUnits s → HasCommands s → GivesByteValues s → HasShortLatencies s → HasShortRuns s → Stood s p → LinkStage s p n → IsAsked s p row → IsLeast (due s p) 8 row → NextStood s p row
+linked_next s p row n u gr vs fits runs was h a m = go (bus (row ∷ p)).rst refl
   where
     q : List Row
     q = row ∷ p
@@ -549,10 +541,10 @@ linked_next s p row n u gr vs fits was short h a m = go (bus (row ∷ p)).rst re
 
     by_facts : Planned s k → IsAskedIn s p row n → AfterDriven s q n → RowFacts s p row n → NextStood s p row
     by_facts pd asked next (stays g) =
-        stood (from_any s p row fits was.standing short was.here (keeps s p row n gr pd dv m.inside h was.books asked g) m) (row_goes_on n g.change (goes s p row n gr pd dv h was.books asked g)) (λ x e w. driven_after_row s q n next x e)
+        stood (from_any s p row fits runs was.standing was.here (keeps s p row n gr pd dv m.inside h was.books asked g) m) (row_goes_on n g.change (goes s p row n gr pd dv h was.books asked g)) (λ x e w. driven_after_row s q n next x e)
         (λ x e w. planned_goes s p row n gr pd dv h was.books asked g)
     by_facts pd asked next (ends_here g) =
-        stood (from_any s p row fits was.standing short was.here (keeps_end s p row n gr pd dv m.inside h was.books asked g) m) (row_ends n (stops s p row n gr pd dv m.inside h was.books asked g)) (λ x e w. driven_after_row s q n next x e)
+        stood (from_any s p row fits runs was.standing was.here (keeps_end s p row n gr pd dv m.inside h was.books asked g) m) (row_ends n (stops s p row n gr pd dv m.inside h was.books asked g)) (λ x e w. driven_after_row s q n next x e)
         (λ x e w. absurd (none_some x (sym g.stopped ∙ e)))
 
     calm_row : (bus q).rst ≡ false → CalmStanding s p → IsLeast (unreset_due s p) 8 row → NextStood s p row
@@ -566,7 +558,7 @@ linked_next s p row n u gr vs fits was short h a m = go (bus (row ∷ p)).rst re
 
     go : (r : Bool) → (bus q).rst ≡ r → NextStood s p row
     go true on =
-        let after = from_any s p row fits was.standing short was.here (unasked_reset p row on) m in
+        let after = from_any s p row fits runs was.standing was.here (unasked_reset p row on) m in
         stood after (under_rst_row s p row dv m.inside after.obeys on) (λ x e w. wrong (sym on ∙ w)) (λ x e w. wrong (sym on ∙ w))
     go false calm = elim (reset_or_calm s p row was.standing (link_calm s p n h) m) [
       | by_reset z ↦ wrong (sym (rst_on z) ∙ calm)
@@ -575,11 +567,11 @@ linked_next s p row n u gr vs fits was short h a m = go (bus (row ∷ p)).rst re
 
 -- ---- any row
 
-pub next_stood : (s : ScenarioValue) (p : List Row) (row : Row) → AreUnits s → HasSeats s → HasCommands s → GivesByteValues s → HasShortLatencies s → Stood s p → length p + 1 < 2 ^ 64 → IsAsked s p row → IsLeast (due s p) 8 row → NextStood s p row
-next_stood s p row u seats gr vs fits was short a m = go was.here
+pub next_stood : (s : ScenarioValue) (p : List Row) (row : Row) → AreUnits s → HasSeats s → HasCommands s → GivesByteValues s → HasShortLatencies s → HasShortRuns s → Stood s p → IsAsked s p row → IsLeast (due s p) 8 row → NextStood s p row
+next_stood s p row u seats gr vs fits runs was a m = go was.here
   where
     go : AnyStage s p → NextStood s p row
-    go (linked n h) = linked_next s p row n u gr vs fits was short h a m
+    go (linked n h) = linked_next s p row n u gr vs fits runs was h a m
     go (apart h alone) =
         apart_next s p row u seats was.standing was.books was.called h alone m (from_stage s p row fits was.standing h alone m)
-        (from_any s p row fits was.standing short (apart h alone) (unasked_apart p row alone) m)
+        (from_any s p row fits runs was.standing (apart h alone) (unasked_apart p row alone) m)

@@ -23,8 +23,8 @@ use Rattle.scsi_device.specs.Lines.{AreUnits}
 use Rattle.bus_books.specs.Listening.{Understanding, nothing_understood, understood, understood_byte}
 use Rattle.bus_books.specs.Speaking.{AreWordsHeard, AreWordsFor, opens, refuses, answers, rejects_data, rejects_status, IsSpeaking}
 use Rattle.bus_books.proofs.Saying.{says_byte, says_more}
-use Rattle.trace_laws.proofs.Impossible.{wrong, wrong'}
 use Rattle.trace_laws.proofs.OutMessages.{is_abort_out, next_half}
+use Rattle.bus_base.proofs.Tests.{wrong, wrong'}
 
 abbrev pub is_abort_message : Option MsgOut → Bool
 is_abort_message None = false

@@ -19,11 +19,12 @@ use Rattle.bus_books.specs.Giving.{AreGiven, OnMessage, OnMessages}
 use Rattle.bus_books.specs.Listening.{half_after}
 use Rattle.bus_books.proofs.Hearable.{heard_next}
 use Rattle.trace_laws.specs.Tells.{IsClosing, is_short}
-use Rattle.trace_laws.specs.LastTalks.{SaysNoEnd, SaysEnd, EndsWell, stays, closes, saves, LastGiven, still_stays, to_close, to_save, closed, CompletesBy, EndsWellIf}
-use Rattle.trace_laws.proofs.Impossible.{wrong, wrong'}
+use Rattle.trace_laws.specs.LastTalks.{SaysEnd, EndsWell, stays, closes, saves, LastGiven, still_stays, to_close, to_save, closed, CompletesBy, EndsWellIf}
 use Rattle.trace_laws.proofs.OutMessages.{is_abort_out}
 use Rattle.trace_laws.proofs.Tests.{less_apart}
 use Rattle.trace_laws.proofs.UndoneRows.{empty_front}
+use Rattle.bus_base.proofs.Tests.{wrong, wrong'}
+use Rattle.trace_laws.specs.DataPointers.{IsPlainIn}
 
 -- ---- which message is whole
 
@@ -122,9 +123,9 @@ given_on l j m next half count byte fit g e lt w h = go h.given
     o = whole_in (got_in (half ++ byte ∷ []))
 
     go : LastGiven l m next count → Given j m next (count + 1)
-    go (still_stays f all last) = by o refl (heard_next SaysNoEnd m half count byte fit all g e lt)
+    go (still_stays f all last) = by o refl (heard_next IsPlainIn m half count byte fit all g e lt)
       where
-        by : (x : Option MsgIn) → o ≡ x → OnMessage SaysNoEnd x → Given j m next (count + 1)
+        by : (x : Option MsgIn) → o ≡ x → OnMessage IsPlainIn x → Given j m next (count + 1)
         by None z none = let v = w.none z in record { before = v.1 ∙ h.before; given = still_stays f all (v.0 ∙ last) }
         by (Some x) z says = let v = w.some x z in record { before = v.1 ∙ last; given = still_stays f all (v.0 ∙ says) }
     go (to_close f x one end zero last) =

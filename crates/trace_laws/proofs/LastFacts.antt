@@ -52,12 +52,12 @@ use Rattle.bus_books.specs.Speaking.{IsSpeaking}
 use Rattle.bus_books.specs.Traces.{GoesOn}
 use Rattle.bus_books.proofs.Gives.{requests_stay, struck_same, in_io}
 use Rattle.bus_books.proofs.InConnection.{in_connection, reading_is}
-use Rattle.bus_books.proofs.Knows.{events_link}
-use Rattle.trace_laws.specs.LastTalks.{SaysNoEnd, EndsWell, stays, LastBy, LastTalk, LastTalks, AbortTalks, LastFacts}
+use Rattle.trace_laws.specs.ItemTalks.{frees_bus}
+use Rattle.trace_laws.specs.LastTalks.{EndsWell, stays, LastBy, LastTalk, LastTalks, AbortTalks, LastFacts}
 use Rattle.trace_laws.specs.Tells.{IsServed, of_process, of_abort, ServedFacts}
 use Rattle.trace_laws.proofs.ConnectionRows.{ConnectionRow, GoingRow, connection_row, going_row, stage_of_connection, RowKindOf, begins_now, goes_now, row_kind}
 use Rattle.trace_laws.proofs.FirstRows.{IsFirst}
-use Rattle.trace_laws.proofs.Impossible.{wrong, wrong', none_some}
+use Rattle.trace_laws.proofs.Impossible.{none_some}
 use Rattle.trace_laws.proofs.Joint.{Stood, NextStood, link_phase}
 use Rattle.trace_laws.proofs.LastAborts.{is_abort_message, last_aborts, abort_last}
 use Rattle.trace_laws.proofs.LastBytes.{first_given}
@@ -67,6 +67,9 @@ use Rattle.trace_laws.proofs.PhaseLines.{out_lines}
 use Rattle.trace_laws.proofs.RowItems.{LinkAfter, says, hears, link_crossed, link_still}
 use Rattle.trace_laws.proofs.RowItems as rows
 use Rattle.trace_laws.proofs.UndoneFacts.{in_of}
+use Rattle.bus_base.proofs.Tests.{wrong, wrong'}
+use Rattle.trace_laws.specs.DataPointers.{IsPlainIn}
+use Rattle.bus_story.proofs.StorySteps.{events_link}
 
 pub last_start : (s : ScenarioValue) → LastFacts s []
 last_start s n e calm = none_some n e
@@ -90,11 +93,11 @@ first_link b n = go n.reselected (aim_of b.aims n.initiator)
     go false (Some (process id)) = (refl, refl)
     go false (Some (abort x)) = (refl, refl)
 
-no_ends : (r : Option Ready) → OnMessages SaysNoEnd (messages_if r)
+no_ends : (r : Option Ready) → OnMessages IsPlainIn (messages_if r)
 no_ends None = (tt, tt)
 no_ends (Some r) = (refl, tagged r.process.tag)
   where
-    tagged : (t : Tag) → OnMessage SaysNoEnd (tag_named t)
+    tagged : (t : Tag) → OnMessage IsPlainIn (tag_named t)
     tagged tags.Untagged = tt
     tagged (tags.Simple n) = refl
     tagged (tags.Ordered n) = refl
@@ -152,7 +155,7 @@ last_begins s p row n dv lt alone after calm f l el = go f.begins
         let next_is : j.exchange.plan.next ≡ nexts.GoOn =
         ap (λ (x : Exchange). x.plan.next) exchange
         ∙ ap (λ (r : Bool). (first_plan r (not r && may_negotiate k n (aim_of k.story.aims n.initiator)) (if r then messages_if (ready_of s k n.target) else no_messages)).next) re in
-        let ends : EndsWell j.exchange.plan.messages j.exchange.plan.next = stays (ap Rattle.trace_laws.specs.LastTalks.is_freeing next_is) (subst (λ (m : Messages). OnMessages SaysNoEnd m) (sym messages) (no_ends (ready_of s k n.target))) in
+        let ends : EndsWell j.exchange.plan.messages j.exchange.plan.next = stays (ap frees_bus next_is) (subst (λ (m : Messages). OnMessages IsPlainIn m) (sym messages) (no_ends (ready_of s k n.target))) in
         let on : phase_of (bus_of j) ≡ phases.MessageIn = ap phase_of (ql.bus ∙ h.linked.stands.bus_is) in
         record {
           before = before;

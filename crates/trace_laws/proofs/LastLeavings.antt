@@ -22,8 +22,8 @@ use Rattle.bus_dialogue.specs.Exchange.{one_message}
 use Rattle.bus_dialogue.specs.NextPhase.{Serving, phase_leaving, phase_entry, with_task, recovery, recovery_limit, pointer_restoration, after_arrival, after_run, disconnection, disconnect_messages, data_in_leaving, bus_free, message_repetition, message_out_leaving, after_offer, request_or_command}
 use Rattle.bus_dialogue.specs.Words.{request_by, is_naming, target_answer}
 use Rattle.trace_laws.specs.LastTalks.{EndsWell, stays, closes, saves, EndsWellIf}
-use Rattle.trace_laws.proofs.Impossible.{wrong'}
 use Rattle.trace_laws.proofs.UndoneLeavings.{is_to_message_in, not_again, to_data}
+use Rattle.bus_base.proofs.Tests.{wrong'}
 
 abbrev IsWell : Leaving → Type 0
 IsWell l = is_to_message_in l.to ≡ true → EndsWell l.messages l.next

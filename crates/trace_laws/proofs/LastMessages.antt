@@ -42,7 +42,8 @@ use Rattle.bus_due.specs.Defs.{target_def_of}
 use Rattle.bus_due.specs.Sights.{arrival_at, serving_of}
 use Rattle.bus_due.specs.Tasks.{task_if, blocks_in, room_of, arrival_if}
 use Rattle.trace_laws.specs.ItemTalks.{is_complete_in, is_disconnect_in, frees_bus, plans_well, is_sense_item}
-use Rattle.trace_laws.proofs.Impossible.{none_some, wrong, wrong'}
+use Rattle.trace_laws.proofs.Impossible.{none_some}
+use Rattle.bus_base.proofs.Tests.{wrong, wrong'}
 
 abbrev Well : Bool → Leaving → Type 0
 Well stays l = plans_well stays l.messages l.next ≡ true

@@ -31,16 +31,17 @@ use Rattle.bus_books.specs.Giving.{AreGiven, Gives}
 use Rattle.bus_books.specs.Rows.{IsRowIn}
 use Rattle.bus_books.specs.Speaking.{Speaks, IsSpeaking}
 use Rattle.bus_books.specs.Traces.{GoesOn}
-use Rattle.bus_books.proofs.Gives.{in_io}
+use Rattle.bus_books.proofs.Gives.{in_io, few_messages}
 use Rattle.bus_books.proofs.InConnection.{in_connection}
 use Rattle.trace_laws.specs.LastTalks.{EndsWellIf, LastBy, LastTalk}
-use Rattle.trace_laws.proofs.Impossible.{wrong, wrong', none_some}
+use Rattle.trace_laws.proofs.Impossible.{none_some}
 use Rattle.trace_laws.proofs.LastBytes.{Hears, Given, given_on, out_last, ends_if, given_as}
-use Rattle.trace_laws.proofs.OfferRows.{few_messages, request_rises}
+use Rattle.trace_laws.proofs.OfferRows.{request_rises}
 use Rattle.trace_laws.proofs.OutMessages.{is_abort_out, NoAbort, out_is_no_abort, last_is_whole}
 use Rattle.trace_laws.proofs.PhaseLines.{out_in, out_phase, in_phase}
 use Rattle.trace_laws.proofs.RowItems.{LinkAfter, says, hears, stays, heard_link, link_crossed, link_still}
 use Rattle.trace_laws.proofs.UndoneAnswers.{same_phase_of}
+use Rattle.bus_base.proofs.Tests.{wrong, wrong'}
 
 -- ---- the plan in a phase
 

@@ -4,13 +4,12 @@ use Rattle.std.specs.Prelude.{if◌then◌else◌, min, nat_lt, nat_le}
 use Rattle.std.proofs.Math.Nat.{lt-div-mul-add}
 use Rattle.scenario.specs.declared.value.Policy.{Policy}
 use Rattle.scenario.specs.declared.value.Policy.TheVariants as policies
-use Rattle.disk_unit.proofs.Touched.{from_not_lt}
 use Rattle.bus_dialogue.specs.DataRuns.{run_at, run_in, run_length, runs_in, runs_in_all}
 use Rattle.bus_dialogue.specs.declared.exchange.Task.{Task}
-use Rattle.bus_books.proofs.RowTies.{lt_is}
-use Rattle.link_laws.proofs.Ahead.{zero_of}
 use Rattle.trace_laws.specs.WholeRuns.{MovesBlocks, RunsBlocks}
-use Rattle.trace_laws.proofs.Tests.{mul_assoc, le_is}
+use Rattle.trace_laws.proofs.Tests.{mul_assoc}
+use Rattle.std.proofs.lemmas.Bool.{ltb-true, leb-true, ltb-false}
+use Rattle.bus_base.proofs.Tests.{zero_of}
 
 -- ---- numbers
 
@@ -46,8 +45,8 @@ part_all most blocks size moved n e l = go (n == 0) refl (nat_lt (most * size) m
       where
         by : (r : Bool) → nat_le blocks most ≡ r → most * size ≡ moved
         by true er =
-            let fits = times_up blocks most size (le_is blocks most er) in
-            let less = lt_is (most * size) moved eq in
+            let fits = times_up blocks most size (leb-true blocks most er) in
+            let less = ltb-true (most * size) moved eq in
             absurd omega (arith, fits, less, e)
         by false er =
             let two : 2 ≤ n + 1 = subst (λ (x : Bool). (if x then 1 else 2) ≤ n + 1) er l in
@@ -68,7 +67,7 @@ ends_all (policies.NoSave most) blocks size moved n h e l = part_all most blocks
 -- No run follows it.
 pub last_run : (policy : Policy) (t : Task) → MovesBlocks policy t → (t.moved == 0) ≡ false → nat_lt (t.runs + 1) (runs_in_all policy t) ≡ false → t.moved ≤ (run_at policy t t.runs).start + run_length policy t
 last_run policy t f some e =
-    let all : runs_in policy (Some f.blocks) ≤ t.runs + 1 = subst (λ (b : Option ℕ). runs_in policy b ≤ t.runs + 1) f.blocks_are (from_not_lt (t.runs + 1) (runs_in policy t.blocks) ((λ i. nat_lt (t.runs + 1) (if sym some i then 0 else runs_in policy t.blocks)) ∙ e)) in
+    let all : runs_in policy (Some f.blocks) ≤ t.runs + 1 = subst (λ (b : Option ℕ). runs_in policy b ≤ t.runs + 1) f.blocks_are (ltb-false (t.runs + 1) (runs_in policy t.blocks) ((λ i. nat_lt (t.runs + 1) (if sym some i then 0 else runs_in policy t.blocks)) ∙ e)) in
     let end : (run_at policy t t.runs).end ≡ t.moved = ap (λ (b : Option ℕ). (run_in policy b t.size t.moved t.runs).end) f.blocks_are ∙ ends_all policy f.blocks t.size t.moved t.runs f.runs f.moved all in
     let rest = with_rest (run_at policy t t.runs).start (run_at policy t t.runs).end in
     subst (λ (x : ℕ). x ≤ (run_at policy t t.runs).start + run_length policy t) end rest

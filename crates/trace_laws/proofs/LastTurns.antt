@@ -36,8 +36,7 @@ use Rattle.bus_books.specs.Hearing.{LeavesWhole}
 use Rattle.bus_books.specs.Rows.{reading_in}
 use Rattle.bus_books.proofs.InConnection.{InConnection, in_connection}
 use Rattle.trace_laws.specs.Tells.{IsClosing}
-use Rattle.trace_laws.specs.LastTalks.{is_freeing, SaysNoEnd, SaysEnd, EndsWell, stays, closes, saves, LastGiven, still_stays, to_close, to_save, closed, EndsWellIf, LastBy, LastTalk}
-use Rattle.trace_laws.proofs.Impossible.{wrong, wrong'}
+use Rattle.trace_laws.specs.LastTalks.{SaysEnd, EndsWell, stays, closes, saves, LastGiven, still_stays, to_close, to_save, closed, EndsWellIf, LastBy, LastTalk}
 use Rattle.trace_laws.proofs.LastBytes.{first_given, end_length}
 use Rattle.trace_laws.proofs.LastLeavings.{leaves_well}
 use Rattle.trace_laws.proofs.LastRows.{LastRow}
@@ -46,6 +45,9 @@ use Rattle.trace_laws.proofs.RowItems.{link_still}
 use Rattle.trace_laws.proofs.Tests.{some_zero}
 use Rattle.trace_laws.proofs.UndoneLeavings.{is_to_message_in}
 use Rattle.trace_laws.proofs.UndoneTurns.{not_out}
+use Rattle.bus_base.proofs.Tests.{wrong, wrong'}
+use Rattle.trace_laws.specs.ItemTalks.{frees_bus}
+use Rattle.trace_laws.specs.DataPointers.{IsPlainIn}
 
 -- ---- MESSAGE IN is left for MESSAGE OUT
 
@@ -53,10 +55,10 @@ end_front : (x : MsgIn) → SaysEnd x → length (in_bytes x) ≡ 1
 end_front x (inl e) = ap (λ (y : MsgIn). length (in_bytes y)) e
 end_front x (inr e) = ap (λ (y : MsgIn). length (in_bytes y)) e
 
-stays_from : (m : Messages) (n : ℕ) → OnMessages SaysNoEnd m → OnMessages SaysNoEnd (from_byte m n)
+stays_from : (m : Messages) (n : ℕ) → OnMessages IsPlainIn m → OnMessages IsPlainIn (from_byte m n)
 stays_from m n h = go (nat_lt n (length (message_bytes m.first)))
   where
-    go : (q : Bool) → OnMessages SaysNoEnd (if q then m else record { first = m.second; second = None })
+    go : (q : Bool) → OnMessages IsPlainIn (if q then m else record { first = m.second; second = None })
     go true = h
     go false = (h.1, tt)
 
@@ -79,26 +81,26 @@ from_ends l m next count (closed f ends full last told) some = go ends
 
 -- ---- MESSAGE IN is left for another phase
 
-goes_elsewhere : (v : Serving) (attention : Bool) (phase : Phase) → (phase_leaving v attention phases.MessageIn).to ≡ Some phase → is_out_next (Some phase) ≡ false → is_freeing v.plan.next ≡ false
+goes_elsewhere : (v : Serving) (attention : Bool) (phase : Phase) → (phase_leaving v attention phases.MessageIn).to ≡ Some phase → is_out_next (Some phase) ≡ false → frees_bus v.plan.next ≡ false
 goes_elsewhere v true phase e f = wrong (ap is_out_next e ∙ f)
 goes_elsewhere v false phase e f = go v.plan.next e
   where
     no_phase : {A : Type 0} → (let o : Option Phase = None in o) ≡ Some phase → A
     no_phase z = absurd cc
 
-    go : (next : Next) → (after_messages v next).to ≡ Some phase → is_freeing next ≡ false
+    go : (next : Next) → (after_messages v next).to ≡ Some phase → frees_bus next ≡ false
     go nexts.Command z = refl
     go nexts.Status z = refl
     go nexts.GoOn z = refl
     go nexts.FreeBus z = no_phase z
 
-given_plain : (l : Link) (m : Messages) (next : Next) (count : ℕ) → LastGiven l m next count → is_freeing next ≡ false → l.last ≡ plain
+given_plain : (l : Link) (m : Messages) (next : Next) (count : ℕ) → LastGiven l m next count → frees_bus next ≡ false → l.last ≡ plain
 given_plain l m next count (still_stays f all last) e = last
 given_plain l m next count (to_close f x one end zero last) e = last
 given_plain l m next count (to_save f both at last) e = last
 given_plain l m next count (closed f ends full last told) e = wrong (sym f ∙ e)
 
-left_plain : (l : Link) (p : Plan) (count : ℕ) (last : Bool) (phase : Phase) → (phase ≡ phases.MessageOut → last ≡ true) → (phase ≡ phases.MessageIn → is_freeing p.next ≡ false) → LastBy l p count last phase → l.last ≡ plain
+left_plain : (l : Link) (p : Plan) (count : ℕ) (last : Bool) (phase : Phase) → (phase ≡ phases.MessageOut → last ≡ true) → (phase ≡ phases.MessageIn → frees_bus p.next ≡ false) → LastBy l p count last phase → l.last ≡ plain
 left_plain l p count last phases.MessageOut e f h = h.0 (e refl)
 left_plain l p count last phases.MessageIn e f h = given_plain l p.messages p.next count h (f refl)
 left_plain l p count last phases.Command e f h = h
@@ -231,7 +233,7 @@ differ : {A : Type 0} (x a b : ℕ) → x ≡ a → x ≡ b → a < b → A
 differ x a b e f lt = absurd omega (arith, e, f, lt)
 
 -- With ATN false, after all bytes of the messages.
-pub ends_closing : (l : Link) (m : Messages) (next : Next) (count : ℕ) → LastGiven l m next count → is_freeing next ≡ true → count ≡ length (bytes_of_messages m) → IsClosing l.last
+pub ends_closing : (l : Link) (m : Messages) (next : Next) (count : ℕ) → LastGiven l m next count → frees_bus next ≡ true → count ≡ length (bytes_of_messages m) → IsClosing l.last
 ends_closing l m next count (still_stays f all last) e full = wrong (sym e ∙ f)
 ends_closing l m next count (to_close f x one end zero last) e full = differ count 0 1 zero (full ∙ ap (λ (y : Messages). length (bytes_of_messages y)) one ∙ end_length x end) (omega arith)
 ends_closing l m next count (to_save f both (inl zero) last) e full = differ count 0 2 zero (full ∙ ap (λ (y : Messages). length (bytes_of_messages y)) both) (omega arith)

@@ -22,8 +22,10 @@ use Rattle.ending_causes.specs.WrongParity.{is_left_by, is_left_as_due}
 use Rattle.link_laws.specs.LinkStages.{AnyStage, apart, linked}
 use Rattle.trace_laws.proofs.ConnectionRows.{connection_row}
 use Rattle.trace_laws.proofs.Crossings.{RowFacts, stays, ends_here}
-use Rattle.trace_laws.proofs.Impossible.{none_some, wrong}
-use Rattle.trace_laws.proofs.Joint.{Stood, apart_connection, link_calm}
+use Rattle.trace_laws.proofs.Impossible.{none_some}
+use Rattle.trace_laws.proofs.Joint.{Stood, apart_connection}
+use Rattle.bus_base.proofs.Tests.{wrong, or_middle}
+use Rattle.link_laws.proofs.Traces.{link_calm}
 
 left_so : (a b c : Bool) → a ≡ true → (a || b || c) ≡ true
 left_so true b c e = refl
@@ -31,10 +33,6 @@ left_so false b c e = absurd (false_true e)
   where
     false_true : false ≡ true → ⊥
     false_true z = absurd cc
-
-next_so : (a b c : Bool) → b ≡ true → (a || b || c) ≡ true
-next_so true b c e = refl
-next_so false b c e = λ i. e i || c
 
 free_so : (a b c : Bool) → c ≡ true → (a || b || c) ≡ true
 free_so true b c e = refl
@@ -65,7 +63,7 @@ left_row s p row o prompt was lt obeys = (λ i. is_left_by s k d (pl.connection 
     ended (linked m h) n e on off = wrong (sym on ∙ link_calm s p m h)
 
     by_facts : (n : Connection) → RowFacts s p row n → is_left_by s k d (Some n) ≡ true
-    by_facts n (stays g) = next_so d.change.after.rst (is_some d.next) (is_none (leaving s k n.target).to) ((λ i. is_some (connection_after (g.row_is.connection_is i) k.story.bus_state.call (g.row_is.change_is i) row)) ∙ ap (λ (q : Bool). is_some (if q then Some n else None)) g.row_is.stands)
+    by_facts n (stays g) = or_middle d.change.after.rst (is_some d.next) (is_none (leaving s k n.target).to) ((λ i. is_some (connection_after (g.row_is.connection_is i) k.story.bus_state.call (g.row_is.change_is i) row)) ∙ ap (λ (q : Bool). is_some (if q then Some n else None)) g.row_is.stands)
     by_facts n (ends_here g) = free_so d.change.after.rst (is_some d.next) (is_none (leaving s k n.target).to) (ap (λ (x : Option Phase). is_none x) g.whereto)
 
     by_rst : (n : Connection) → connection p ≡ Some n → (q r : Bool) → (bus (row ∷ p)).rst ≡ q → (bus p).rst ≡ r → is_left_by s k d (Some n) ≡ true

@@ -171,15 +171,15 @@ pub mod ComplaintRows
 pub mod ComplaintTurns
 pub mod Complaints
 pub mod Complained
-mod UnitsKept
-mod WriterUnits
-mod ArrivalRows
+pub mod UnitsKept
+pub mod WriterUnits
+pub mod ArrivalRows
 mod DoneRuns
-mod WriteTurns
+pub mod WriteTurns
 mod WriteRows
-mod WriteNext
+pub mod WriteNext
 mod Written
-mod LastRuns
+pub mod LastRuns
 pub mod WholeRuns
 pub mod PlaceJoins
 pub mod PlaceTells
@@ -209,12 +209,12 @@ pub mod FailureNext
 pub mod FailureLeft
 pub mod FailureFirst
 pub mod FailureAway
-mod Unshown
+pub mod Unshown
 mod PlacesHeard
 pub mod WritePremises
 mod WaitingRequests
 mod WaitingRows
-mod SentEntries
+pub mod SentEntries
 mod SentStays
 pub mod SentFailures
 pub mod ClearRows
@@ -235,3 +235,4 @@ pub mod RunsWhole
 pub mod Impossible
 pub mod PhaseLines
 pub mod Tests
+pub mod QueueEvents

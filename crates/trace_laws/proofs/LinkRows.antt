@@ -24,21 +24,21 @@ use Rattle.bus_due.specs.Own.{own_of}
 use Rattle.bus_due.specs.Plain.{AreOfDevices}
 use Rattle.bus_due.specs.RunSteps.{run_state}
 use Rattle.bus_due.specs.Sights.{serving_at}
-use Rattle.bus_books.proofs.Lookups.{number_is}
 use Rattle.bus_laws.specs.Reactions.{own_time, unreset_due}
 use Rattle.bus_laws.specs.Rows.{row_of_lines, row_of_fault}
 use Rattle.bus_laws.specs.Ends.{EndLines, initiator_side, target_side, connected_bus, Linked, BeginsSelected, ends_selected}
 use Rattle.bus_laws.proofs.Dues.{is_at, none_some}
-use Rattle.bus_laws.proofs.Tests.{or_true}
 use Rattle.link_laws.specs.Phases.{ends, Settling, Turning, Offering, Shaking}
 use Rattle.link_laws.specs.Pulses.{Pulsing, times_here, offset_here, run_count, byte_in_run, next_bits}
 use Rattle.link_laws.specs.LinkStages.{LinkStage, when_selected, when_settling, when_turning, when_offering, when_shaking, when_pulsing}
-use Rattle.link_laws.proofs.Ahead.{never, zero_of}
+use Rattle.link_laws.proofs.Ahead.{never}
 use Rattle.link_laws.proofs.EndDues.{due_of, Mover, by_fault, by_initiator, by_target, mover_is, target_plain, initiator_plain, offering_with, answering_with}
 use Rattle.link_laws.proofs.PulseDues.{pulsed_target_in, pulsed_target_out, pulsed_initiator_in, pulsed_initiator_out, hold_end_time, pulse_time, leaving_time, ack_pulse_end_time, answer_time, release_time, byte_driven_time, given_bits}
 use Rattle.link_laws.proofs.Shakes.{target_row, initiator_row}
 use Rattle.link_laws.proofs.StageDues.{selected_target, selected_initiator, settling_target, settling_initiator, handing_initiator, turning_target, turned_initiator, owing_initiator, offering_target, offering_initiator, answered_target, answered_initiator_in, answered_initiator_out, asking_target, asking_initiator_in, asking_initiator_out, giving_initiator_out, ending_target, ending_initiator_in, ending_initiator_out, ack_end_time, between_target, between_initiator_in, between_initiator_out}
-use Rattle.trace_laws.proofs.Impossible.{wrong}
+use Rattle.std.proofs.lemmas.Bool.{eqb-true}
+use Rattle.bus_base.proofs.Tests.{wrong, or_true, zero_of, implication_parts}
+use Rattle.link_laws.proofs.Faults.{none_device}
 
 -- The phase is one of data by pulses.
 abbrev pub is_pulsed : List Row → EndLines → Bool
@@ -79,13 +79,10 @@ pub data LinkRow (s : ScenarioValue) (p : List Row) (n : Connection) (row : Row)
   -- the same by pulses
   ends_req_pulse : (io ack atn : Bool) (x y : ℕ) → Linked p n (ends false ack atn x false false io true y) → begun p ≡ true → is_unasked p ≡ false → is_pulsed p (ends false ack atn x false false io true y) ≡ true → row ≡ target_row row.time n (ends false ack atn x false false io false y) → LinkRow s p n row
   changes_pulsed : (ack atn : Bool) (y z : ℕ) → Linked p n (ends false ack atn 0 false false true false y) → begun p ≡ true → is_unasked p ≡ false → is_pulsed p (ends false ack atn 0 false false true false y) ≡ true → row ≡ target_row row.time n (ends false ack atn 0 false false true false z) → LinkRow s p n row
-  asks_pulse : (io ack atn : Bool) (x y : ℕ) → Linked p n (ends false ack atn x false false io false y) → begun p ≡ true → is_unasked p ≡ false → is_pulsed p (ends false ack atn x false false io false y) ≡ true → (io ≡ true → x ≡ 0) → (io ≡ true → y ≡ byte_bits (offering_with s p n true (ends false ack atn x false false io false y)).byte) → row ≡ target_row row.time n (ends false ack atn x false false io true y) → LinkRow s p n row
+  asks_pulse : (io ack atn : Bool) (x y : ℕ) → Linked p n (ends false ack atn x false false io false y) → begun p ≡ true → is_unasked p ≡ false → is_pulsed p (ends false ack atn x false false io false y) ≡ true → (io ≡ true → x ≡ 0) → (io ≡ true → (y ≡ byte_bits (offering_with s p n true (ends false ack atn x false false io false y)).byte) × (nat_lt (handshakes p).requests (run_count s p n) ≡ true)) → row ≡ target_row row.time n (ends false ack atn x false false io true y) → LinkRow s p n row
 
 pub row_at : (row : Row) (d time : ℕ) (l : LineSet) → row.dev ≡ d → due_at time l ≡ Some (due_of row) → row ≡ row_of_lines row.time d l
 row_at row d time l same e = let z = is_at time l (due_of row) e in λ i. record { time = row.time; dev = same i; kind = z.kind_is i }
-
-none_device : (o : Option ℕ) (d : ℕ) → o ≡ None → is_of_device o d ≡ true → ⊥
-none_device o d e z = let w = sym (ap (λ (k : Option ℕ). is_of_device k d) e) ∙ z in cc
 
 -- ---- before the first REQ
 
@@ -187,13 +184,9 @@ of_shaking_out s p row n msg cd false false atn x h (by_target lat there same e)
 
 -- ---- by pulses
 
-pub or_parts : (a b : Bool) → (not a || b) ≡ false → (a ≡ true) × (b ≡ false)
-or_parts true b e = (refl, e)
-or_parts false b e = absurd cc
-
 none_waits : (waiting : List Request) → (length waiting == 0) ≡ true → waiting ≡ []
 none_waits [] e = refl
-none_waits (r ∷ waiting) e = let u = number_is (length (r ∷ waiting)) 0 e in absurd (omega arith)
+none_waits (r ∷ waiting) e = let u = eqb-true (length (r ∷ waiting)) 0 e in absurd (omega arith)
 
 -- Whether a byte follows, by the length of the run.
 follows_pulsed_in : (s : ScenarioValue) (p : List Row) (n : Connection) (ack atn : Bool) (x y : ℕ) → nat_lt 0 (offset_here p) ≡ true → (offering_with s p n true (ends false ack atn x false false true false y)).follows ≡ nat_lt (handshakes p).requests (run_count s p n)
@@ -210,10 +203,10 @@ target_in s p row n false ack atn y lat h same e = changes (y == next_bits s p n
   where
     left : (q : Bool) → (not (length (handshakes p).waiting == 0) || ack) ≡ q → nat_lt (handshakes p).requests (run_count s p n) ≡ false → (if q then None else due_at (leaving_time p true lat) (offering_with s p n true (ends false ack atn 0 false false true false y)).to) ≡ Some (due_of row) → LinkRow s p n row
     left true z f e = absurd (none_some (due_of row) e)
-    left false z f e = at_rest ack (or_parts (length (handshakes p).waiting == 0) ack z).1 h e
+    left false z f e = at_rest ack (implication_parts (length (handshakes p).waiting == 0) ack z).1 h e
       where
         none : (length (handshakes p).waiting == 0) ≡ true
-        none = (or_parts (length (handshakes p).waiting == 0) ack z).0
+        none = (implication_parts (length (handshakes p).waiting == 0) ack z).0
 
         at_rest : (ack : Bool) → ack ≡ false → Pulsing s p n true false ack atn 0 y → due_at (leaving_time p true lat) (offering_with s p n true (ends false ack atn 0 false false true false y)).to ≡ Some (due_of row) → LinkRow s p n row
         at_rest true a h e = absurd cc
@@ -224,7 +217,7 @@ target_in s p row n false ack atn y lat h same e = changes (y == next_bits s p n
     rooms : (q : Bool) → nat_lt (length (handshakes p).waiting) (offset_here p) ≡ q → y ≡ next_bits s p n → nat_lt (handshakes p).requests (run_count s p n) ≡ true → (if q then due_at (pulse_time p true lat) (target_side (ends false ack atn 0 false false true true y)) else None) ≡ Some (due_of row) → LinkRow s p n row
     rooms false z b f e = absurd (none_some (due_of row) e)
     rooms true z b f e =
-        asks_pulse true ack atn 0 y h.linked h.phase.begun_is h.facts.asked h.offset (λ i. refl) (λ i. b ∙ ap (λ (q : Bool). bits_if q (byte_in_run s p n (handshakes p).requests)) f)
+        asks_pulse true ack atn 0 y h.linked h.phase.begun_is h.facts.asked h.offset (λ i. refl) (λ i. (b ∙ ap (λ (q : Bool). bits_if q (byte_in_run s p n (handshakes p).requests)) f, f))
         (row_at row n.target (pulse_time p true lat) (target_side (ends false ack atn 0 false false true true y)) same e)
 
     follows : (q : Bool) → nat_lt (handshakes p).requests (run_count s p n) ≡ q → y ≡ next_bits s p n → (if q then (if nat_lt (length (handshakes p).waiting) (offset_here p) then due_at (pulse_time p true lat) (target_side (ends false ack atn 0 false false true true y)) else None) else if not (length (handshakes p).waiting == 0) || ack then None else due_at (leaving_time p true lat) (offering_with s p n true (ends false ack atn 0 false false true false y)).to) ≡ Some (due_of row) → LinkRow s p n row
@@ -235,7 +228,7 @@ target_in s p row n false ack atn y lat h same e = changes (y == next_bits s p n
     changes false z e =
         changes_pulsed ack atn y (next_bits s p n) h.linked h.phase.begun_is h.facts.asked h.offset
         (row_at row n.target (hold_end_time p lat) (target_side (ends false ack atn 0 false false true false (next_bits s p n))) same e)
-    changes true z e = follows (nat_lt (handshakes p).requests (run_count s p n)) refl (number_is y (next_bits s p n) z) e
+    changes true z e = follows (nat_lt (handshakes p).requests (run_count s p n)) refl (eqb-true y (next_bits s p n) z) e
 
 target_out : (s : ScenarioValue) (p : List Row) (row : Row) (n : Connection) (req ack atn : Bool) (x lat : ℕ) → Pulsing s p n false req ack atn x 0 → row.dev ≡ n.target → target_plain s p n true (ends false ack atn x false false false req 0) lat ≡ Some (due_of row) → LinkRow s p n row
 target_out s p row n true ack atn x lat h same e =
@@ -245,10 +238,10 @@ target_out s p row n false ack atn x lat h same e = follows (nat_lt (handshakes 
   where
     left : (q : Bool) → (not (length (handshakes p).waiting == 0) || ack) ≡ q → nat_lt (handshakes p).requests (run_count s p n) ≡ false → (if q then None else due_at (leaving_time p false lat) (offering_with s p n true (ends false ack atn x false false false false 0)).to) ≡ Some (due_of row) → LinkRow s p n row
     left true z f e = absurd (none_some (due_of row) e)
-    left false z f e = at_rest ack (or_parts (length (handshakes p).waiting == 0) ack z).1 h e
+    left false z f e = at_rest ack (implication_parts (length (handshakes p).waiting == 0) ack z).1 h e
       where
         none : (length (handshakes p).waiting == 0) ≡ true
-        none = (or_parts (length (handshakes p).waiting == 0) ack z).0
+        none = (implication_parts (length (handshakes p).waiting == 0) ack z).0
 
         at_rest : (ack : Bool) → ack ≡ false → Pulsing s p n false false ack atn x 0 → due_at (leaving_time p false lat) (offering_with s p n true (ends false ack atn x false false false false 0)).to ≡ Some (due_of row) → LinkRow s p n row
         at_rest true a h e = absurd cc
@@ -289,7 +282,7 @@ initiator_out s p row n req false atn x lat h same e = go (length (handshakes p)
 
     waits : (q : Bool) → (x == given) ≡ q → (if q then due_at (max (answer_time s p n) (byte_driven_time p n lat + (times_here p).set_up) + lat) (initiator_side (ends false true atn x false false false req 0)) else due_at (byte_driven_time p n lat) (initiator_side (ends false false atn given false false false req 0))) ≡ Some (due_of row) → LinkRow s p n row
     waits true z e =
-        sends_pulse req atn x h.linked h.phase.begun_is h.offset (number_is x given z)
+        sends_pulse req atn x h.linked h.phase.begun_is h.offset (eqb-true x given z)
         (row_at row n.initiator (max (answer_time s p n) (byte_driven_time p n lat + (times_here p).set_up) + lat) (initiator_side (ends false true atn x false false false req 0)) same e)
     waits false z e =
         drives_pulsed req atn x given h.linked h.phase.begun_is h.offset

@@ -19,11 +19,9 @@ use Rattle.disk_array.specs.Steps
 use Rattle.disk_array.specs.Steps.{step, settled_array_if, is_of_unit, running_if, running_process}
 use Rattle.bus_books.proofs.CarriedRows.{process_id}
 use Rattle.bus_books.proofs.Lookups.{id_is}
+use Rattle.disk_array.proofs.ArrayReplies.{fail_lists, executed_lists, refuse_lists, units_list, loss_lists, abort_lists, hosts_list, took, reset_lists}
 
 -- ---- what it lists after an event
-
-pub took : (d c : Array) (rs : List (ProcId × Reply)) → Some d ≡ Some c → d.replies ≡ rs → c.replies ≡ rs
-took d c rs e f = let same : d ≡ c = cc in (λ i. (sym same i).replies) ∙ f
 
 accept_lists : (a c : Array) (p : Process) (x : Option UnitState) → Steps.accept_step_at a p x ≡ Some c → c.replies ≡ a.replies
 accept_lists a c p None e = took (Steps.with_guest a p None) c a.replies e refl
@@ -36,23 +34,6 @@ accept_lists a c p (Some u) e = either (is_request_sense (command_of p.cdb)) e
     either : (y : Bool) → (if y then Some (Steps.with_guest a p None) else Steps.queue_step a p u) ≡ Some c → c.replies ≡ a.replies
     either true k = took (Steps.with_guest a p None) c a.replies k refl
     either false k = queue (nat_lt (Steps.process_count u) u.depth) k
-
-refuse_lists : (a c : Array) (p : Process) (x : Option UnitState) → Steps.refuse_step_at a p x ≡ Some c → c.replies ≡ (p.id, queue_full) ∷ a.replies
-refuse_lists a c p None e = cc
-refuse_lists a c p (Some u) e = either (not (is_request_sense (command_of p.cdb)) && Steps.process_count u == u.depth) e
-  where
-    either : (y : Bool) → (if y then Some (Steps.with_listed_reply (Steps.with_guest a p (Some queue_full)) p.id queue_full) else None) ≡ Some c → c.replies ≡ (p.id, queue_full) ∷ a.replies
-    either false k = cc
-    either true k = took (Steps.with_listed_reply (Steps.with_guest a p (Some queue_full)) p.id queue_full) c ((p.id, queue_full) ∷ a.replies) k refl
-
-executed_lists : (a : Array) (p : Process) (u : Option UnitState) (done : Execution) → (Steps.after_execution a p u done).replies ≡ (p.id, done.reply) ∷ a.replies
-executed_lists a p u done = λ i. (p.id, done.reply) ∷ go u done.reported i
-  where
-    go : (x : Option UnitState) (r : Bool) → (Steps.with_contents (Steps.without_attention a r (nexus_of p)) x done.contents).replies ≡ a.replies
-    go None true = refl
-    go None false = refl
-    go (Some u) true = refl
-    go (Some u) false = refl
 
 pub record ListsOne (id : ProcId) (before after : List (ProcId × Reply)) : Type 0 where
   pub reply : Reply
@@ -71,22 +52,6 @@ run_lists a c guest r e = go (is_none r.reply && (guest || not (is_held a.holds 
     go false k = cc
     go true k = record { reply = done.reply; lists = took next c ((r.process.id, done.reply) ∷ a.replies) k (executed_lists a r.process (unit_state_at a.units r.process.target r.process.unit) done) }
 
-pub fail_lists : (s : ScenarioValue) (a c : Array) (id : ProcId) (reply : Reply) (x : Option RunningProcess) → Steps.fail_step s a id reply x ≡ Some c → c.replies ≡ (id, reply) ∷ a.replies
-fail_lists s a c id reply (Some r) e = given (is_none r.reply) e
-  where
-    given : (y : Bool) → (if y then Some (Steps.with_reply a id reply) else None) ≡ Some c → c.replies ≡ (id, reply) ∷ a.replies
-    given false k = cc
-    given true k = took (Steps.with_reply a id reply) c ((id, reply) ∷ a.replies) k refl
-fail_lists s a c id reply None e = new (process_of s id) e
-  where
-    fresh : (p : Process) (y : Bool) → (if y then None else Some (Steps.with_listed_reply (Steps.with_guest a p (Some reply)) id reply)) ≡ Some c → c.replies ≡ (id, reply) ∷ a.replies
-    fresh p true k = cc
-    fresh p false k = took (Steps.with_listed_reply (Steps.with_guest a p (Some reply)) id reply) c ((id, reply) ∷ a.replies) k refl
-
-    new : (o : Option Process) → Steps.fail_step_of_new a id reply o ≡ Some c → c.replies ≡ (id, reply) ∷ a.replies
-    new None k = cc
-    new (Some p) k = fresh p (Steps.is_waiting a.units id || Steps.has_ended a id) k
-
 pub end_lists : (a c : Array) (status : ℕ) (x : Option RunningProcess) → Steps.end_step a status x ≡ Some c → c.replies ≡ a.replies
 end_lists a c status None e = cc
 end_lists a c status (Some r) e = given r.reply e
@@ -104,25 +69,6 @@ end_lists a c status (Some r) e = given r.reply e
     given None k = cc
     given (Some reply) k = ended reply (reply.status == status) k
 
-pub loss_lists : (a c : Array) (id : ProcId) → Steps.loss_step a id ≡ Some c → c.replies ≡ a.replies
-loss_lists a c id e = go (Steps.has_ended a id) e
-  where
-    go : (y : Bool) → (if y then None else Some (Steps.array_without a id)) ≡ Some c → c.replies ≡ a.replies
-    go true k = cc
-    go false k = took (Steps.array_without a id) c a.replies k refl
-
-hosts_list : (hosts : List HostDef) (t n : ℕ) (a : Array) → (Steps.reset_attentions hosts t n a).replies ≡ a.replies
-hosts_list [] t n a = refl
-hosts_list (h ∷ hosts) t n a = hosts_list hosts t n (Steps.reset_attention a (record { initiator = h.dev; target = t; unit = n }))
-
-units_list : (hosts : List HostDef) (units : List UnitState) (is_one : UnitState → Bool) (a : Array) → (Steps.unit_reset_attentions hosts units is_one a).replies ≡ a.replies
-units_list hosts [] is_one a = refl
-units_list hosts (u ∷ units) is_one a = units_list hosts units is_one (if is_one u then Steps.reset_attentions hosts u.target u.unit a else a) ∙ go (is_one u)
-  where
-    go : (y : Bool) → (if y then Steps.reset_attentions hosts u.target u.unit a else a).replies ≡ a.replies
-    go true = hosts_list hosts u.target u.unit a
-    go false = refl
-
 cleared_list : (by : ℕ) (lost : List Process) (a : Array) → (Steps.cleared_attentions by lost a).replies ≡ a.replies
 cleared_list by [] a = refl
 cleared_list by (q ∷ lost) a = cleared_list by lost (if q.initiator == by then a else Steps.cleared_attention a (nexus_of q)) ∙ go (q.initiator == by) (Steps.is_reset_pending (sense_of_nexus a.attentions (nexus_of q)))
@@ -134,16 +80,6 @@ cleared_list by (q ∷ lost) a = cleared_list by lost (if q.initiator == by then
     go : (y z : Bool) → (if y then a else Steps.cleared_attention a (nexus_of q)).replies ≡ a.replies
     go true z = refl
     go false z = told (Steps.is_reset_pending (sense_of_nexus a.attentions (nexus_of q)))
-
-pub abort_lists : (s : ScenarioValue) (a : Array) (i t n : ℕ) (what : AbortKind) → (Steps.abort_step s a i t n what).replies ≡ a.replies
-abort_lists s a i t n aborts.All = refl
-abort_lists s a i t n (aborts.Tag tag) = refl
-abort_lists s a i t n aborts.WholeQueue = cleared_list i (Steps.unit_processes (unit_state_at a.units t n)) (Steps.without_dropped a (λ p. is_of_unit p t n))
-abort_lists s a i t n aborts.Device =
-    units_list s.hosts a.units (λ u. u.target == t) (record (Steps.without_dropped a (λ p. p.target == t)) { senses = Steps.kept_senses (λ q. q.target == t) a.senses; holds = Steps.kept_nexuses (λ q. q.target == t) a.holds })
-
-pub reset_lists : (s : ScenarioValue) (a : Array) → (Steps.reset_step s a).replies ≡ a.replies
-reset_lists s a = units_list s.hosts a.units (λ u. true) (record (Steps.without_dropped a (λ p. true)) { senses = []; holds = [] })
 
 -- ---- the process that runs is of its number
 

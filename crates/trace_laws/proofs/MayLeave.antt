@@ -28,16 +28,14 @@ use Rattle.bus_books.proofs.CarriedBlocks.{block_own}
 use Rattle.bus_books.proofs.Opened.{opening_named}
 use Rattle.bus_books.proofs.Reactions.{out_over, command_over}
 use Rattle.bus_laws.specs.Ends.{EndLines, Linked}
-use Rattle.bus_laws.proofs.Tests.{or_true}
 use Rattle.link_laws.specs.LinkStages.{LinkStage, when_selected, when_settling, when_turning, when_offering, when_shaking, when_pulsing}
 use Rattle.link_laws.specs.Phases.{ends}
 use Rattle.trace_laws.proofs.Blocks.{HasCommands}
 use Rattle.trace_laws.proofs.ConnectionRows.{stage_of_connection}
 use Rattle.trace_laws.proofs.Driven.{no_third}
-use Rattle.trace_laws.proofs.Impossible.{wrong, wrong'}
 use Rattle.trace_laws.proofs.Joint.{Stood, link_phase}
 use Rattle.trace_laws.proofs.PhaseLines.{out_lines}
-use Rattle.trace_laws.proofs.Tests.{implication}
+use Rattle.bus_base.proofs.Tests.{wrong, wrong', or_true, implication}
 
 -- ---- the lines
 

@@ -42,7 +42,6 @@ use Rattle.bus_books.specs.Traces.{Begins}
 use Rattle.bus_laws.specs.Ends.{BeginsConnection, by_selection, by_reselection}
 use Rattle.bus_laws.proofs.Apart.{change_plain}
 use Rattle.bus_laws.proofs.Prompt.{least_is}
-use Rattle.bus_laws.proofs.Tests.{or_true}
 use Rattle.link_laws.specs.LinkStages.{AnyStage, apart, linked}
 use Rattle.trace_laws.specs.Named.{AreFound, IsFoundBy, Names, all, known, said, refused, Named, NamedFacts}
 use Rattle.trace_laws.specs.Offers.{OfferFacts}
@@ -50,13 +49,15 @@ use Rattle.trace_laws.proofs.Called.{link_none}
 use Rattle.trace_laws.proofs.ConnectionRows.{connection_row, going_row, stage_of_connection, RowKindOf, begins_now, goes_now, row_kind}
 use Rattle.trace_laws.proofs.Crossings.{RowFacts, stays, ends_here}
 use Rattle.trace_laws.proofs.FirstRows.{IsFirst}
-use Rattle.trace_laws.proofs.Impossible.{none_some, wrong, wrong'}
+use Rattle.trace_laws.proofs.Impossible.{none_some}
 use Rattle.trace_laws.proofs.ItemFacts.{beginning}
 use Rattle.trace_laws.proofs.Joint.{Stood, NextStood, link_connection, link_phase}
 use Rattle.trace_laws.proofs.NamedBytes.{names_some}
 use Rattle.trace_laws.proofs.NamedFirst.{found_by, first_sent, first_link}
 use Rattle.trace_laws.proofs.NamedTurns.{named_on}
-use Rattle.trace_laws.proofs.PhaseLines.{is_data_out, in_phase, out_phase}
+use Rattle.trace_laws.proofs.PhaseLines.{in_phase, out_phase}
+use Rattle.bus_base.proofs.Tests.{wrong, wrong', or_true}
+use Rattle.bus_books.proofs.Faith.{is_data_out}
 
 -- ---- before any row
 

@@ -20,9 +20,10 @@ use Rattle.bus_dialogue.specs.Words.{naming_messages, tag_named, is_name, is_nam
 use Rattle.bus_books.specs.Giving.{AreGiven, OnMessages}
 use Rattle.bus_books.specs.Listening.{half_after}
 use Rattle.trace_laws.specs.Named.{IsFoundBy, Names, all, tag_alone}
-use Rattle.trace_laws.proofs.Impossible.{none_some, wrong}
+use Rattle.trace_laws.proofs.Impossible.{none_some}
 use Rattle.trace_laws.proofs.NamedStory.{after_name}
 use Rattle.trace_laws.proofs.OneMessages.{take_front}
+use Rattle.bus_base.proofs.Tests.{wrong}
 
 -- ---- tagged or not
 

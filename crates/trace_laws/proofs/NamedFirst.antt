@@ -20,10 +20,10 @@ use Rattle.bus_story.specs.TraceHistory.{aim_of, story_with_restored, story_with
 use Rattle.bus_due.specs.RunState.{RunState}
 use Rattle.bus_due.specs.RunSteps.{run_state_after}
 use Rattle.bus_books.specs.Rows.{IsFirstRow}
-use Rattle.bus_books.proofs.Knows.{events_link}
-use Rattle.bus_books.proofs.Lists.{eq_self}
 use Rattle.trace_laws.specs.Named.{IsFoundBy}
-use Rattle.trace_laws.proofs.Impossible.{none_some, wrong'}
+use Rattle.trace_laws.proofs.Impossible.{none_some}
+use Rattle.bus_base.proofs.Tests.{wrong', eq_self}
+use Rattle.bus_story.proofs.StorySteps.{events_link}
 
 -- ---- a command that is open is found by its nexus
 

@@ -36,17 +36,17 @@ use Rattle.bus_books.specs.Hearing.{is_in_phase}
 use Rattle.bus_books.specs.Knowing.{IsNoName}
 use Rattle.bus_books.specs.Rows.{reading_in}
 use Rattle.bus_books.specs.Traces.{GoesOn}
-use Rattle.bus_books.proofs.Gives.{byte_messages, in_io}
+use Rattle.bus_books.proofs.Gives.{byte_messages, in_io, few_messages, in_same}
 use Rattle.bus_books.proofs.Hearable.{heard_next}
 use Rattle.bus_books.proofs.InConnection.{exchange_by, same_phase_is}
 use Rattle.trace_laws.specs.Named.{Names, all, tag_alone, NamedBy, known, said, refused}
-use Rattle.trace_laws.proofs.Impossible.{wrong'}
 use Rattle.trace_laws.proofs.NamedBytes.{names_on, names_of_link}
 use Rattle.trace_laws.proofs.NamedSteps.{named_as, naming_as, byte_item, name_ends, IsNoEnd, name_last, out_last}
 use Rattle.trace_laws.proofs.NamedStory.{after_name, after_byte, link_by}
-use Rattle.trace_laws.proofs.OfferBytes.{heard_byte}
-use Rattle.trace_laws.proofs.OfferRows.{in_same, out_same, few_messages, request_rises}
+use Rattle.trace_laws.proofs.OfferRows.{request_rises}
 use Rattle.trace_laws.proofs.PhaseLines.{out_in, in_out}
+use Rattle.bus_base.proofs.Tests.{wrong'}
+use Rattle.bus_books.proofs.Speaks.{heard_byte, out_same}
 
 -- ---- names end no command
 

@@ -18,12 +18,12 @@ use Rattle.bus_dialogue.specs.Exchange.{Exchange, struck_plan}
 use Rattle.bus_dialogue.specs.Words.{is_name}
 use Rattle.bus_books.specs.Giving.{OnMessage}
 use Rattle.bus_books.specs.Knowing.{IsNoName}
-use Rattle.bus_books.proofs.Gives.{in_io}
+use Rattle.bus_books.proofs.Gives.{in_io, in_same}
 use Rattle.bus_books.proofs.InConnection.{SamePhase}
 use Rattle.trace_laws.specs.Named.{IsFoundBy, Names, IsNaming, NamedBy, known, said, refused}
-use Rattle.trace_laws.proofs.Impossible.{wrong}
 use Rattle.trace_laws.proofs.NamedStory.{after_name, after_byte}
-use Rattle.trace_laws.proofs.OfferRows.{in_same, out_same, struck}
+use Rattle.bus_base.proofs.Tests.{wrong}
+use Rattle.bus_books.proofs.Speaks.{out_same, struck}
 
 -- ---- what is kept is known otherwise
 

@@ -29,8 +29,9 @@ use Rattle.bus_due.specs.RunSteps.{run_state_after}
 use Rattle.bus_books.specs.Rows.{IsRowIn, reading_in}
 use Rattle.bus_books.proofs.InConnection.{reading_is}
 use Rattle.bus_books.proofs.Knows.{link_after}
-use Rattle.trace_laws.proofs.Impossible.{wrong'}
-use Rattle.trace_laws.proofs.RowItems.{restored_sent, is_quiet_event}
+use Rattle.trace_laws.proofs.RowItems.{is_quiet_event, AllQuiet}
+use Rattle.bus_base.proofs.Tests.{wrong'}
+use Rattle.bus_story.proofs.StorySteps.{restored_sent}
 
 -- ---- the link
 
@@ -94,10 +95,6 @@ link_on s b l d row e = go d.crosses d.out d.into
 
 -- ---- events
 
-abbrev AreEarly : List Event → Type 0
-AreEarly [] = ⊤
-AreEarly (e ∷ shown) = (is_quiet_event e ≡ true) × AreEarly shown
-
 early_sent : (s : ScenarioValue) (b : Story) (e : Event) → is_quiet_event e ≡ true → (story_after_event s b e).sent ≡ b.sent
 early_sent s b (events.Accept id) z = refl
 early_sent s b (events.Refuse id) z = refl
@@ -108,29 +105,29 @@ early_sent s b (events.Lost id) z = wrong' z
 early_sent s b (events.Aborted host target unit what) z = wrong' z
 early_sent s b (events.Reset dev) z = wrong' z
 
-all_sent : (s : ScenarioValue) (b : Story) (shown : List Event) → AreEarly shown → (story_after_events s b shown).sent ≡ b.sent
+all_sent : (s : ScenarioValue) (b : Story) (shown : List Event) → AllQuiet shown → (story_after_events s b shown).sent ≡ b.sent
 all_sent s b [] h = refl
 all_sent s b (e ∷ shown) h = early_sent s (story_after_events s b shown) e h.0 ∙ all_sent s b shown h.1
 
-queue_early : (s : ScenarioValue) (b : Story) (k : Option CarriedBytes) (before : LineSet) → AreEarly (queue_events s b k before)
+queue_early : (s : ScenarioValue) (b : Story) (k : Option CarriedBytes) (before : LineSet) → AllQuiet (queue_events s b k before)
 queue_early s b None before = tt
 queue_early s b (Some k) before = go (is_command before && is_whole_block k) (is_some (array_after s (events.Accept k.id ∷ b.history)))
   where
-    go : (q r : Bool) → AreEarly (if q then (if r then events.Accept k.id else events.Refuse k.id) ∷ [] else [])
+    go : (q r : Bool) → AllQuiet (if q then (if r then events.Accept k.id else events.Refuse k.id) ∷ [] else [])
     go true true = (refl, tt)
     go true false = (refl, tt)
     go false r = tt
 
-status_early : (k : Option CarriedBytes) (after : LineSet) (arrived : List Event) → AreEarly arrived → AreEarly (status_events k after arrived)
+status_early : (k : Option CarriedBytes) (after : LineSet) (arrived : List Event) → AllQuiet arrived → AllQuiet (status_events k after arrived)
 status_early None after arrived h = h
 status_early (Some k) after arrived h = go (is_status_phase after && not k.shown && not k.refused && not (list_any (λ e. is_refuse e) arrived)) k.failure
   where
-    go : (q : Bool) (code : Option ℕ) → AreEarly (if q then status_event k.id code ∷ arrived else arrived)
+    go : (q : Bool) (code : Option ℕ) → AllQuiet (if q then status_event k.id code ∷ arrived else arrived)
     go true None = (refl, h)
     go true (Some code) = (refl, h)
     go false code = h
 
-connection_early : (s : ScenarioValue) (b : Story) (l : Link) (d : RowReading) → is_complete l.last ≡ false → AreEarly (connection_events s b l d)
+connection_early : (s : ScenarioValue) (b : Story) (l : Link) (d : RowReading) → is_complete l.last ≡ false → AllQuiet (connection_events s b l d)
 connection_early s b l d e = go (changes_phase d.change) (is_completion l d.change) (none (rises d.change.before.ack d.change.after.ack && is_message_in d.change.before) (is_complete l.last) (not d.change.after.atn) e)
   where
     none : (a q z : Bool) → q ≡ false → (a && q && z) ≡ false
@@ -138,7 +135,7 @@ connection_early s b l d e = go (changes_phase d.change) (is_completion l d.chan
     none true false z f = refl
     none false q z f = refl
 
-    go : (q r : Bool) → r ≡ false → AreEarly (if q then phase_events s b (carried_if b l.item) d.change else if r then end_events (carried_if b l.item) else [])
+    go : (q r : Bool) → r ≡ false → AllQuiet (if q then phase_events s b (carried_if b l.item) d.change else if r then end_events (carried_if b l.item) else [])
     go true r f = status_early (carried_if b l.item) d.change.after (queue_events s b (carried_if b l.item) d.change.before) (queue_early s b (carried_if b l.item) d.change.before)
     go false true f = absurd cc
     go false false f = tt

@@ -49,7 +49,6 @@ use Rattle.bus_books.proofs.Leavings.{IsOfOthers, left_messages}
 use Rattle.trace_laws.specs.Named.{Names, IsNaming, NamedBy, known, said, refused, Named}
 use Rattle.trace_laws.specs.Offers.{is_detected, IsHeardOut, opens, repeats, answers_it, detects, Offers}
 use Rattle.trace_laws.proofs.CommandTurns.{is_command_next}
-use Rattle.trace_laws.proofs.Impossible.{wrong, wrong'}
 use Rattle.trace_laws.proofs.NamedBytes.{names_some, names_first, names_left}
 use Rattle.trace_laws.proofs.NamedRows.{in_lines, crosses_on}
 use Rattle.trace_laws.proofs.NamedSteps.{named_as, naming_as, named_still, named_struck}
@@ -58,18 +57,10 @@ use Rattle.trace_laws.proofs.OfferLeavings.{attends, all_said, parity_said}
 use Rattle.trace_laws.proofs.OfferSteps.{left_is}
 use Rattle.trace_laws.proofs.OfferTurns.{out_by_phase, entering, asking, goes_out}
 use Rattle.trace_laws.proofs.PhaseLines.{in_phase, out_phase}
+use Rattle.bus_base.proofs.Tests.{wrong, wrong'}
+use Rattle.bus_books.proofs.Knows.{from_nameless, others_nameless}
 
 -- ---- no names
-
-others_nameless : IsOfOthers IsNoName
-others_nameless = record { complete = refl; save = refl; restore = refl; disconnect = refl; sdtr = λ a. refl; reject = refl }
-
-from_nameless : (m : Messages) (n : ℕ) → OnMessages IsNoName m → OnMessages IsNoName (from_byte m n)
-from_nameless m n h = go (nat_lt n (length (message_bytes m.first)))
-  where
-    go : (q : Bool) → OnMessages IsNoName (if q then m else record { first = m.second; second = None })
-    go true = h
-    go false = (h.1, tt)
 
 nameless_turn : (host : Option HostDef) (x : Exchange) (w : Hearing) (l : Leaving) → OnMessages IsNoName x.plan.messages → OnMessages IsNoName l.messages → OnMessages IsNoName (exchange_by true false false host w l x).plan.messages
 nameless_turn host x w l was next = go (is_message_out w.change.after) w.begun

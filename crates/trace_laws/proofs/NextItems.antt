@@ -7,10 +7,9 @@ use Rattle.scenario.specs.declared.value.AbortDef.{AbortDef}
 use Rattle.scenario.specs.Value.{ScenarioValue}
 use Rattle.disk_array.specs.Processes.{command_at}
 use Rattle.bus_story.specs.Items.{Item, abort, command_item, sense_item, Sent, is_done, abort_from, is_of_host, sense_from, may_send, open_from, command_from, or_else, item_at}
-use Rattle.bus_books.proofs.Lists.{eq_self}
-use Rattle.bus_books.proofs.Lookups.{first_is, second_is, number_is}
-use Rattle.bus_books.proofs.RowTies.{not_is}
 use Rattle.trace_laws.specs.ItemFacts.{IsNext, is_abort, is_sense, is_command}
+use Rattle.std.proofs.lemmas.Bool.{not-true, eqb-true}
+use Rattle.bus_base.proofs.Tests.{and_first, and_second, eq_self}
 
 abbrev pub IsNextIf : ScenarioValue → Sent → ℕ → Option Item → Type 0
 IsNextIf s b dev None = Unit {0}
@@ -21,15 +20,15 @@ aborts_are s b dev time n [] = tt
 aborts_are s b dev time n (a ∷ aborts) = go (a.host == dev && nat_le a.at time && not (is_done b (abort n))) refl (aborts_are s b dev time (n + 1) aborts)
   where
     go : (q : Bool) → (a.host == dev && nat_le a.at time && not (is_done b (abort n))) ≡ q → IsNextIf s b dev (abort_from b dev time (n + 1) aborts) → IsNextIf s b dev (if q then Some (abort n) else abort_from b dev time (n + 1) aborts)
-    go true z rest = is_abort n (not_is (is_done b (abort n)) (second_is (a.host == dev && nat_le a.at time) (not (is_done b (abort n))) z))
+    go true z rest = is_abort n (not-true (is_done b (abort n)) (and_second (a.host == dev && nat_le a.at time) (not (is_done b (abort n))) z))
     go false z rest = rest
 
-commands_are : (s : ScenarioValue) (b : Sent) (dev time j : ℕ) (commands : List CmdDef) → ((m : ℕ) → command_at commands (suc m) ≡ command_at s.commands (suc (j + m))) → IsNextIf s b dev (command_from s b dev time (suc j) commands)
-commands_are s b dev time j [] h = tt
-commands_are s b dev time j (c ∷ commands) h =
+commands_are : (s : ScenarioValue) (b : Sent) (dev time j : ℕ) (commands : List CmdDef) → sense_from s b dev b.checks ≡ None → ((m : ℕ) → command_at commands (suc m) ≡ command_at s.commands (suc (j + m))) → IsNextIf s b dev (command_from s b dev time (suc j) commands)
+commands_are s b dev time j [] none h = tt
+commands_are s b dev time j (c ∷ commands) none h =
     go (c.host == dev && not (is_done b (command_item (suc j)))) (may_send s time (open_from b dev 1 s.commands) c) refl refl
     (subst (λ (n : ℕ). IsNextIf s b dev (command_from s b dev time n commands)) (one_more j)
-    (commands_are s b dev time (suc j) commands (λ m. h (suc m) ∙ ap (λ (n : ℕ). command_at s.commands (suc n)) (moved j m))))
+    (commands_are s b dev time (suc j) commands none (λ m. h (suc m) ∙ ap (λ (n : ℕ). command_at s.commands (suc n)) (moved j m))))
   where
     one_more : (n : ℕ) → suc (suc n) ≡ suc n + 1
     one_more n = omega arith
@@ -43,9 +42,9 @@ commands_are s b dev time j (c ∷ commands) h =
     go : (q r : Bool) → (c.host == dev && not (is_done b (command_item (suc j)))) ≡ q → may_send s time (open_from b dev 1 s.commands) c ≡ r → IsNextIf s b dev (command_from s b dev time (suc j + 1) commands) → IsNextIf s b dev (if q then if r then Some (command_item (suc j)) else None else command_from s b dev time (suc j + 1) commands)
     go true true z y rest =
         is_command (suc j) time c (ap (λ (n : ℕ). command_at s.commands (suc n)) (sym (same j)) ∙ sym (h 0))
-        (number_is c.host dev (first_is (c.host == dev) (not (is_done b (command_item (suc j)))) z))
-        (not_is (is_done b (command_item (suc j))) (second_is (c.host == dev) (not (is_done b (command_item (suc j)))) z))
-        y
+        (eqb-true c.host dev (and_first (c.host == dev) (not (is_done b (command_item (suc j)))) z))
+        (not-true (is_done b (command_item (suc j))) (and_second (c.host == dev) (not (is_done b (command_item (suc j)))) z))
+        y none
     go true false z y rest = tt
     go false r z y rest = rest
 
@@ -73,19 +72,19 @@ senses_are s b dev (n ∷ checks) h = go (senses_are s b dev checks (λ m z. h m
         subst (λ (x : Option CmdDef). IsNextIf s b dev (if is_of_host x dev && not (is_done b (sense_item n)) then Some (sense_item n) else sense_from s b dev checks)) (sym e) rest
     go rest (Some c) e =
         later (is_of_host (command_at s.commands n) dev && not (is_done b (sense_item n))) rest
-        (λ z y. is_sense n c e (number_is c.host dev (sym (ap (λ (x : Option CmdDef). is_of_host x dev) e) ∙ first_is (is_of_host (command_at s.commands n) dev) (not (is_done b (sense_item n))) (z ∙ y))) there
-        (not_is (is_done b (sense_item n)) (second_is (is_of_host (command_at s.commands n) dev) (not (is_done b (sense_item n))) (z ∙ y))))
+        (λ z y. is_sense n c e (eqb-true c.host dev (sym (ap (λ (x : Option CmdDef). is_of_host x dev) e) ∙ and_first (is_of_host (command_at s.commands n) dev) (not (is_done b (sense_item n))) (z ∙ y))) there
+        (not-true (is_done b (sense_item n)) (and_second (is_of_host (command_at s.commands n) dev) (not (is_done b (sense_item n))) (z ∙ y))))
         refl
 
-either_is : (s : ScenarioValue) (b : Sent) (dev : ℕ) (x y : Option Item) → IsNextIf s b dev x → IsNextIf s b dev y → IsNextIf s b dev (or_else x y)
-either_is s b dev None y h g = g
+either_is : (s : ScenarioValue) (b : Sent) (dev : ℕ) (x y : Option Item) → IsNextIf s b dev x → (x ≡ None → IsNextIf s b dev y) → IsNextIf s b dev (or_else x y)
+either_is s b dev None y h g = g refl
 either_is s b dev (Some item) y h g = h
 
 pub next_is : (s : ScenarioValue) (b : Sent) (dev time : ℕ) → IsNextIf s b dev (item_at s b dev time)
 next_is s b dev time =
     either_is s b dev (abort_from b dev time 1 s.aborts) (or_else (sense_from s b dev b.checks) (command_from s b dev time 1 s.commands)) (aborts_are s b dev time 1 s.aborts)
-    (either_is s b dev (sense_from s b dev b.checks) (command_from s b dev time 1 s.commands) (senses_are s b dev b.checks (λ n z. z))
-    (commands_are s b dev time 0 s.commands (λ m. ap (λ (n : ℕ). command_at s.commands (suc n)) (none_more m))))
+    (λ _. either_is s b dev (sense_from s b dev b.checks) (command_from s b dev time 1 s.commands) (senses_are s b dev b.checks (λ n z. z))
+    (λ none. commands_are s b dev time 0 s.commands none (λ m. ap (λ (n : ℕ). command_at s.commands (suc n)) (none_more m))))
   where
     none_more : (m : ℕ) → m ≡ 0 + m
     none_more m = omega arith

@@ -28,6 +28,7 @@ use Rattle.bus_books.specs.Speaking.{AreWordsHeard}
 use Rattle.bus_books.proofs.Hearable.{heard_next}
 use Rattle.trace_laws.specs.Offers.{IsNoRequest, Negotiates, answers, refuses, requests, WasOpen, offer_now, IsHeardIn, no_request, in_part, whole, offer_said, Plans, is_detected, IsHeardOut, opens, repeats, answers_it, detects}
 use Rattle.trace_laws.proofs.OneMessages.{take_front, IsGivenOnce, request_once, reject_once, parity_once, answer_once, detected_once, says_one_on}
+use Rattle.bus_books.proofs.Speaks.{heard_byte}
 
 -- ---- MESSAGE IN
 
@@ -192,9 +193,6 @@ opening_anew d p ao av v e = go d.is_last
     go : (q : Bool) → ((if q then d.at_phase else d.heard).void ≡ None) × ((if q then d.at_phase else d.heard).now.offer ≡ offer_said (plan_anew_if q p).said)
     go true = (av, ao)
     go false = (v, e)
-
-abbrev pub heard_byte : Exchange → Bool → Option MsgOut → Exchange
-heard_byte x is_last m = record x { speech = speech_after_byte x.speech; plan = plan_after_message x.plan is_last m }
 
 kept : (q : Bool) (p : Plan) → ((plan_anew_if q p).cause ≡ p.cause) × ((plan_anew_if q p).messages ≡ p.messages) × ((plan_anew_if q p).next ≡ p.next)
 kept true p = (refl, refl, refl)

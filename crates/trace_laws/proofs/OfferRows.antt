@@ -18,23 +18,19 @@ use Rattle.msg_grammar.specs.Messages.{in_bytes}
 use Rattle.bus_lines.specs.Handshakes.{Handshakes, no_handshakes, handshakes_on, asked_if, answered_if, strikes_if}
 use Rattle.bus_dialogue.specs.declared.exchange.Messages.{Messages}
 use Rattle.bus_dialogue.specs.Exchange.{Exchange, bytes_of_messages, message_bytes, struck_plan}
-use Rattle.bus_books.proofs.Gives.{in_io}
+use Rattle.bus_books.proofs.Gives.{in_io, few_bytes, few_messages, few_of, in_same, counted}
 use Rattle.bus_books.proofs.InConnection.{SamePhase}
-use Rattle.trace_laws.specs.Offers.{offer_now, IsHeardIn, IsHeardOut, opens, repeats, answers_it, detects, is_asking, OffersBy}
+use Rattle.trace_laws.specs.Offers.{offer_now, IsHeardIn, IsHeardOut, opens, repeats, answers_it, detects, OffersBy}
 use Rattle.trace_laws.specs.Attention.{MessageRow, keeps, asks, answers}
-use Rattle.trace_laws.proofs.Impossible.{wrong, wrong'}
+use Rattle.bus_base.proofs.Tests.{wrong, wrong', rises_none, rises_some}
+use Rattle.bus_books.proofs.Speaks.{out_same, struck}
+use Rattle.trace_laws.specs.ItemTalks.{awaits}
 
 -- ---- what is kept is known otherwise
 
 pub offers_as : (x x' : Exchange) (d d' : Dialogue) (h h' : Handshakes) (b b' : LineSet) → x ≡ x' → d ≡ d' → h ≡ h' → b ≡ b' → OffersBy x' d' h' b' → OffersBy x d h b
 offers_as x x' d d' h h' b b' ex ed eh eb o =
     subst (λ (z : Exchange). OffersBy z d h b) (sym ex) (subst (λ (z : Dialogue). OffersBy x' z h b) (sym ed) (subst (λ (z : Handshakes). OffersBy x' d' z b) (sym eh) (subst (λ (z : LineSet). OffersBy x' d' h' z) (sym eb) o)))
-
-pub out_same : (a b : LineSet) → SamePhase a b → is_message_out b ≡ is_message_out a
-out_same a b h = λ i. h.msg i && h.cd i && not (h.io i)
-
-pub in_same : (a b : LineSet) → SamePhase a b → is_message_in b ≡ is_message_in a
-in_same a b h = λ i. h.msg i && h.cd i && h.io i
 
 -- ---- no byte crosses
 
@@ -85,18 +81,14 @@ offers_still n c x d h h' same none row count struck o = record {
         go (inr (inl t)) = struck_or i some (inr (speaks_target (offer_now d) t))
         go (inr (inr q)) = let w = o.why b i q in struck_or i w.0 w.1
 
-    asks_by : x.begun ≡ true → is_message_in c.before ≡ true → offer_now d ≡ Some ends.Target → MessageRow h d n c → (c.after.atn ≡ true) ⊎ (is_asking c.after ≡ true)
+    asks_by : x.begun ≡ true → is_message_in c.before ≡ true → offer_now d ≡ Some ends.Target → MessageRow h d n c → (c.after.atn ≡ true) ⊎ (awaits c.after ≡ true)
     asks_by b i t (keeps er e ask) = go (o.asks b i t)
       where
-        go : (c.before.atn ≡ true) ⊎ (is_asking c.before ≡ true) → (c.after.atn ≡ true) ⊎ (is_asking c.after ≡ true)
+        go : (c.before.atn ≡ true) ⊎ (awaits c.before ≡ true) → (c.after.atn ≡ true) ⊎ (awaits c.after ≡ true)
         go (inl q) = inl (e ∙ q)
         go (inr q) = inr (ask q)
     asks_by b i t (asks er e first now) = absurd (none_some (receiver_in n c) none er)
     asks_by b i t (answers er some e) = inl (e ∙ (λ j. (h.struck || is_of_other (t j) ends.Initiator) || c.before.atn) ∙ second_or h.struck c.before.atn)
-
--- A byte to the target is struck.
-abbrev pub struck : Exchange → Exchange
-struck x = record x { plan = struck_plan x.plan }
 
 out_struck : (x : Exchange) (d : Dialogue) → IsHeardOut x d → IsHeardOut (struck x) d
 out_struck x d (opens c ao av v e) = opens c ao av v e
@@ -114,20 +106,6 @@ answered_same : (q : Bool) (t : ℕ) (h : Handshakes) → ((answered_if q t h).r
 answered_same true t h = (refl, refl)
 answered_same false t h = (refl, refl)
 
-rises_none : (io q : Bool) (x y : ℕ) (z : Option ℕ) → io ≡ true → (if io then (if q then Some x else None) else z) ≡ None → q ≡ false
-rises_none io true x y z e f = absurd (some_none x (sym (ap (λ (r : Bool). if r then Some x else z) e) ∙ f))
-  where
-    some_none : (x : ℕ) → Some x ≡ (let a : Option ℕ = None in a) → ⊥
-    some_none x e = cc
-rises_none io false x y z e f = refl
-
-rises_some : (io q : Bool) (x dev : ℕ) (z : Option ℕ) → io ≡ true → (if io then (if q then Some x else None) else z) ≡ Some dev → q ≡ true
-rises_some io true x dev z e f = refl
-rises_some io false x dev z e f = absurd (nothing dev (sym (ap (λ (r : Bool). if r then None else z) e) ∙ f))
-  where
-    nothing : (x : ℕ) → (let a : Option ℕ = None in a) ≡ Some x → ⊥
-    nothing x e = cc
-
 pub struck_stays : (n : Connection) (c : Change) (t : ℕ) (h : Handshakes) → changes_phase c ≡ false → c.before.io ≡ true → receiver_in n c ≡ None → (handshakes_on (Some n) c t h).struck ≡ h.struck
 struck_stays n c t h ep io er =
     (λ i. (if ep i then no_handshakes else answered_if (rises c.before.ack c.after.ack) t (asked_if (rises_none c.before.io (rises c.before.req c.after.req) n.initiator 0 (if rises c.before.ack c.after.ack then Some n.target else None) io er i) t h)).struck)
@@ -136,30 +114,6 @@ struck_stays n c t h ep io er =
 pub struck_by_fault : (io : Bool) (h : Handshakes) → (h.requests == 0) ≡ false → h.struck ≡ true → (strikes_if io h).struck ≡ true
 struck_by_fault true h some s = ap not some
 struck_by_fault false h some s = s
-
-few_bytes : (m : MsgIn) → length (in_bytes m) < 6
-few_bytes to_initiator.CommandComplete = omega arith
-few_bytes to_initiator.SavePointer = omega arith
-few_bytes to_initiator.RestorePointers = omega arith
-few_bytes to_initiator.Disconnect = omega arith
-few_bytes (to_initiator.Identify lun) = omega arith
-few_bytes (to_initiator.SimpleTag tag) = omega arith
-few_bytes (to_initiator.Sdtr offer) = omega arith
-few_bytes to_initiator.Reject = omega arith
-
-few_of : (m : Option MsgIn) → length (message_bytes m) < 6
-few_of None = omega arith
-few_of (Some m) = few_bytes m
-
-pub few_messages : (m : Messages) → length (bytes_of_messages m) < 12
-few_messages m =
-    let a = few_of m.first in
-    let b = few_of m.second in
-    let c = length-append (message_bytes m.first) (message_bytes m.second) in
-    omega arith
-
-counted : (n m : ℕ) → n < m → m < 12 → counted_on n ≡ n + 1
-counted n m a b = omega (arith, a, b)
 
 pub request_rises : (n : Connection) (c : Change) (t dev : ℕ) (h : Handshakes) → changes_phase c ≡ false → c.before.io ≡ true → receiver_in n c ≡ Some dev → (m : ℕ) → h.requests < m → m < 12 → (handshakes_on (Some n) c t h).requests ≡ h.requests + 1
 request_rises n c t dev h ep io er m lt few =

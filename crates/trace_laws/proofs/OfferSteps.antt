@@ -36,17 +36,19 @@ use Rattle.bus_books.specs.Reactions.{IsOver}
 use Rattle.bus_books.specs.Rows.{RowKind, still, strikes, crosses, turns, IsRowIn, reading_in}
 use Rattle.bus_books.specs.Speaking.{Speaks}
 use Rattle.bus_books.specs.Traces.{GoesOn}
-use Rattle.bus_books.proofs.Gives.{requests_stay, struck_same}
+use Rattle.bus_books.proofs.Gives.{requests_stay, struck_same, few_messages}
 use Rattle.bus_books.proofs.InConnection.{InConnection, in_connection, exchange_by, dialogue_by, same_phase_is}
 use Rattle.trace_laws.specs.Attention.{Attention}
-use Rattle.trace_laws.specs.Offers.{offer_now, IsHeardIn, is_detected, is_asking, OffersBy, Offers}
-use Rattle.trace_laws.proofs.Impossible.{wrong, wrong'}
-use Rattle.trace_laws.proofs.OfferBytes.{heard_byte, heard_in_on, heard_out_on}
+use Rattle.trace_laws.specs.Offers.{offer_now, IsHeardIn, is_detected, OffersBy, Offers}
+use Rattle.trace_laws.proofs.OfferBytes.{heard_in_on, heard_out_on}
 use Rattle.trace_laws.proofs.OfferLeavings.{HeadsTo, Heads, heads_none, heads_attended, heads_out, attends}
-use Rattle.trace_laws.proofs.OfferRows.{offers_as, offers_still, offers_struck, struck_stays, struck_by_fault, few_messages, request_rises, offers_said, offers_given, offers_else}
-use Rattle.trace_laws.proofs.OfferTurns.{out_by_phase, Lines, says, gives, others, lines_of, entering, offers_enter, opening_exchange, offers_open, asking, offers_detect, offers_answer, none_open, unattended, in_direction, low_line}
+use Rattle.trace_laws.proofs.OfferRows.{offers_as, offers_still, offers_struck, struck_stays, struck_by_fault, request_rises, offers_said, offers_given, offers_else}
+use Rattle.trace_laws.proofs.OfferTurns.{out_by_phase, Lines, says, gives, others, lines_of, entering, offers_enter, offers_open, asking, offers_detect, offers_answer, none_open, unattended, in_direction, low_line}
 use Rattle.trace_laws.proofs.PhaseLines.{in_phase, out_phase}
 use Rattle.trace_laws.proofs.SentEntries.{no_message_out, no_message_in}
+use Rattle.bus_base.proofs.Tests.{wrong, wrong'}
+use Rattle.bus_books.proofs.Speaks.{heard_byte, opening_exchange}
+use Rattle.trace_laws.specs.ItemTalks.{awaits}
 
 -- ---- small facts
 
@@ -168,7 +170,7 @@ heads_left s k n c eb known f sp lv req o = subst (λ (l : Leaving). Heads (offe
     unasked : is_message_in c.before ≡ true → c.before.atn ≡ false → offer_now d ≡ Some ends.Target → ⊥
     unasked m a t = by (o.asks f m t)
       where
-        by : (c.before.atn ≡ true) ⊎ (is_asking c.before ≡ true) → ⊥
+        by : (c.before.atn ≡ true) ⊎ (awaits c.before ≡ true) → ⊥
         by (inl z) = wrong (sym z ∙ a)
         by (inr z) = wrong' (sym (λ i. req i && not c.before.ack) ∙ z)
 

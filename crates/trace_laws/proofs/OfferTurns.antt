@@ -28,10 +28,11 @@ use Rattle.bus_dialogue.specs.Words.{parity_error, detected_error, answer_bytes,
 use Rattle.bus_books.specs.Giving.{OnMessages}
 use Rattle.bus_books.specs.Hearing.{is_out_phase}
 use Rattle.trace_laws.specs.Offers.{IsNoRequest, Negotiates, answers, refuses, requests, Plans, plain, negotiates, WasOpen, offer_now, IsHeardIn, no_request, in_part, whole, SaysOne, is_detected, IsHeardOut, opens, repeats, answers_it, detects, OffersBy}
-use Rattle.trace_laws.proofs.Impossible.{wrong, wrong'}
 use Rattle.trace_laws.proofs.OfferLeavings.{HeadsTo}
 use Rattle.trace_laws.proofs.OfferRows.{not_both}
 use Rattle.trace_laws.proofs.PhaseLines.{in_phase}
+use Rattle.bus_base.proofs.Tests.{wrong, wrong'}
+use Rattle.bus_books.proofs.Speaks.{opening_exchange}
 
 -- ---- phases and their lines
 
@@ -124,10 +125,6 @@ in_out x d h b g m w = record {
     first : (q r i : Bool) → (q && r && not i) ≡ true → q ≡ true
     first true r i e = refl
     first false r i e = wrong' e
-
--- The first phase, for the opening.
-abbrev pub opening_exchange : Exchange → Exchange
-opening_exchange x = record { begun = true; speech = record x.speech { place = 0 }; plan = plan_anew x.plan }
 
 pub offers_open : (x : Exchange) (d : Dialogue) (b : LineSet) → is_message_out b ≡ true → x.plan.cause ≡ causes.Selected → (offer_now d ≡ None) × (d.heard.void ≡ None) → OffersBy (opening_exchange x) (phase_begins d) no_handshakes b
 offers_open x d b m c w = in_out (opening_exchange x) (phase_begins d) no_handshakes b refl m (opens c w.0 w.1 w.1 w.0)

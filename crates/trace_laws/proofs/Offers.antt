@@ -49,10 +49,11 @@ use Rattle.trace_laws.proofs.AttentionRows.{attention_row}
 use Rattle.trace_laws.proofs.ConnectionRows.{connection_row, going_row, link_low, stage_of_connection, RowKindOf, begins_now, goes_now, row_kind}
 use Rattle.trace_laws.proofs.Crossings.{RowFacts, stays, ends_here}
 use Rattle.trace_laws.proofs.FirstRows.{IsFirst}
-use Rattle.trace_laws.proofs.Impossible.{none_some, wrong, wrong'}
+use Rattle.trace_laws.proofs.Impossible.{none_some}
 use Rattle.trace_laws.proofs.Joint.{Stood, NextStood, link_phase}
 use Rattle.trace_laws.proofs.OfferSteps.{offers_on}
 use Rattle.trace_laws.proofs.OfferTurns.{asked_at_command}
+use Rattle.bus_base.proofs.Tests.{wrong, wrong'}
 
 -- ---- before any row
 

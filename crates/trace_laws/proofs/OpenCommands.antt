@@ -9,19 +9,18 @@ use Rattle.scenario.specs.Value.{ScenarioValue}
 use Rattle.disk_array.specs.Processes.{command_at}
 use Rattle.bus_story.specs.Items.{Item, process, abort, same_item, has_item, command_item, sense_item, Sent, is_open, open_from, tag_number_if, is_tag_clash, is_clash, open_limit_of, may_send}
 use Rattle.bus_story.specs.Links.{same_number, is_of_nexus, is_open_sense, named_item_from}
-use Rattle.scsi_device.proofs.Finds.{or_false}
-use Rattle.bus_books.proofs.Lists.{eq_self}
-use Rattle.bus_books.proofs.Lookups.{first_is, second_is, number_is, id_is}
-use Rattle.bus_books.proofs.RowTies.{not_is}
+use Rattle.bus_books.proofs.Lookups.{id_is}
 use Rattle.trace_laws.specs.ItemFacts.{IsNext, is_abort, is_sense, is_command, NoClash}
-use Rattle.trace_laws.proofs.Impossible.{none_some, wrong}
+use Rattle.trace_laws.proofs.Impossible.{none_some}
 use Rattle.trace_laws.proofs.Tests.{or_of}
+use Rattle.std.proofs.lemmas.Bool.{not-true, eqb-true, or_parts}
+use Rattle.bus_base.proofs.Tests.{wrong, and_first, and_second, eq_self}
 
 -- ---- items
 
 pub item_is : (a b : Item) → same_item a b ≡ true → a ≡ b
 item_is (process p) (process q) e = ap process (id_is p q e)
-item_is (abort k) (abort l) e = ap abort (number_is k l e)
+item_is (abort k) (abort l) e = ap abort (eqb-true k l e)
 item_is (process p) (abort l) e = wrong (sym e)
 item_is (abort k) (process q) e = wrong (sym e)
 
@@ -39,24 +38,24 @@ no_abort k p e = absurd cc
 
 pub opened : (b : Sent) (item : Item) (n : ℕ) → is_open (record b { sent = item ∷ b.sent }) n ≡ true → (item ≡ command_item n) ⊎ (is_open b n ≡ true)
 opened b item n e =
-    elim (or_of (same_item item (command_item n)) (has_item b.sent (command_item n)) (first_is (same_item item (command_item n) || has_item b.sent (command_item n)) (not (has_item b.over (command_item n))) e)) [
+    elim (or_of (same_item item (command_item n)) (has_item b.sent (command_item n)) (and_first (same_item item (command_item n) || has_item b.sent (command_item n)) (not (has_item b.over (command_item n))) e)) [
       | inl z ↦ inl (item_is item (command_item n) z)
-      | inr z ↦ inr ((λ i. z i && not (has_item b.over (command_item n))) ∙ second_is (same_item item (command_item n) || has_item b.sent (command_item n)) (not (has_item b.over (command_item n))) e)
+      | inr z ↦ inr ((λ i. z i && not (has_item b.over (command_item n))) ∙ and_second (same_item item (command_item n) || has_item b.sent (command_item n)) (not (has_item b.over (command_item n))) e)
     ]
 
 clash_back : (c d : CmdDef) → is_clash c d ≡ true → is_clash d c ≡ true
 clash_back c d e =
-    let w = first_is (c.target == d.target && c.unit == d.unit) (is_tag_clash (tag_number_if c.tag) (tag_number_if d.tag)) e in
-    let t : c.target ≡ d.target = number_is c.target d.target (first_is (c.target == d.target) (c.unit == d.unit) w) in
-    let u : c.unit ≡ d.unit = number_is c.unit d.unit (second_is (c.target == d.target) (c.unit == d.unit) w) in
+    let w = and_first (c.target == d.target && c.unit == d.unit) (is_tag_clash (tag_number_if c.tag) (tag_number_if d.tag)) e in
+    let t : c.target ≡ d.target = eqb-true c.target d.target (and_first (c.target == d.target) (c.unit == d.unit) w) in
+    let u : c.unit ≡ d.unit = eqb-true c.unit d.unit (and_second (c.target == d.target) (c.unit == d.unit) w) in
     (λ i. (d.target == t i && d.unit == u i) && is_tag_clash (tag_number_if d.tag) (tag_number_if c.tag))
     ∙ (λ i. (eq_self d.target i && eq_self d.unit i) && is_tag_clash (tag_number_if d.tag) (tag_number_if c.tag))
-    ∙ by (tag_number_if c.tag) (tag_number_if d.tag) (second_is (c.target == d.target && c.unit == d.unit) (is_tag_clash (tag_number_if c.tag) (tag_number_if d.tag)) e)
+    ∙ by (tag_number_if c.tag) (tag_number_if d.tag) (and_second (c.target == d.target && c.unit == d.unit) (is_tag_clash (tag_number_if c.tag) (tag_number_if d.tag)) e)
   where
     by : (x y : Option ℕ) → is_tag_clash x y ≡ true → is_tag_clash y x ≡ true
     by x None z = refl
     by None (Some a) z = refl
-    by (Some a) (Some r) z = ap (λ (k : ℕ). r == k) (number_is a r z) ∙ eq_self r
+    by (Some a) (Some r) z = ap (λ (k : ℕ). r == k) (eqb-true a r z) ∙ eq_self r
 
 free_of : (c : CmdDef) (b : Sent) (dev j : ℕ) (commands : List CmdDef) → list_any (λ (d : CmdDef). is_clash c d) (open_from b dev (suc j) commands) ≡ false
     → (m : ℕ) (d : CmdDef) → command_at commands (suc m) ≡ Some d → d.host ≡ dev → is_open b (suc (j + m)) ≡ true → is_clash c d ≡ false
@@ -66,7 +65,7 @@ free_of c b dev j (x ∷ commands) e zero d at h o =
     let now : is_open b (suc j) ≡ true = ap (λ (n : ℕ). is_open b (suc n)) (none_more j) ∙ o in
     let own : (x.host == dev) ≡ true = ap (λ (k : ℕ). k == dev) (ap (λ (y : CmdDef). y.host) same ∙ h) ∙ eq_self dev in
     let all = sym (λ i. list_any (λ (y : CmdDef). is_clash c y) (if own i && now i then x ∷ open_from b dev (suc j + 1) commands else open_from b dev (suc j + 1) commands)) ∙ e in
-    ap (is_clash c) (sym same) ∙ (or_false (is_clash c x) (list_any (λ (y : CmdDef). is_clash c y) (open_from b dev (suc j + 1) commands)) all).0
+    ap (is_clash c) (sym same) ∙ (or_parts (is_clash c x) (list_any (λ (y : CmdDef). is_clash c y) (open_from b dev (suc j + 1) commands)) all).0
   where
     none_more : (n : ℕ) → n ≡ n + 0
     none_more n = omega arith
@@ -83,7 +82,7 @@ free_of c b dev j (x ∷ commands) e (suc m) d at h o =
     later q z = ap (λ (n : ℕ). list_any (λ (y : CmdDef). is_clash c y) (open_from b dev n commands)) (one_more j) ∙ by q (sym (ap (λ (r : Bool). list_any (λ (y : CmdDef). is_clash c y) (if r then x ∷ open_from b dev (suc j + 1) commands else open_from b dev (suc j + 1) commands)) z) ∙ e)
       where
         by : (r : Bool) → list_any (λ (y : CmdDef). is_clash c y) (if r then x ∷ open_from b dev (suc j + 1) commands else open_from b dev (suc j + 1) commands) ≡ false → list_any (λ (y : CmdDef). is_clash c y) (open_from b dev (suc j + 1) commands) ≡ false
-        by true f = (or_false (is_clash c x) (list_any (λ (y : CmdDef). is_clash c y) (open_from b dev (suc j + 1) commands)) f).1
+        by true f = (or_parts (is_clash c x) (list_any (λ (y : CmdDef). is_clash c y) (open_from b dev (suc j + 1) commands)) f).1
         by false f = f
 
 -- A command that may be sent clashes with no open one of its initiator.
@@ -96,16 +95,16 @@ may_free s b dev time c e zero d at h o = absurd (none_some d (sym (none_at s.co
 may_free s b dev time c e (suc m) d at h o =
     let now = open_from b dev 1 s.commands in
     free_of c b dev 0 s.commands
-    (not_is (list_any (λ (x : CmdDef). is_clash c x) now) (second_is (nat_le c.at time && nat_lt (length now) (open_limit_of s.hosts c.host)) (not (list_any (λ (x : CmdDef). is_clash c x) now)) e))
+    (not-true (list_any (λ (x : CmdDef). is_clash c x) now) (and_second (nat_le c.at time && nat_lt (length now) (open_limit_of s.hosts c.host)) (not (list_any (λ (x : CmdDef). is_clash c x) now)) e))
     m d at h (ap (λ (n : ℕ). is_open b (suc n)) (none_more m) ∙ o)
   where
     none_more : (n : ℕ) → 0 + n ≡ n
     none_more n = omega arith
 
-next_free : (s : ScenarioValue) (b : Sent) (dev : ℕ) (item : Item) → IsNext s b dev item → (n : ℕ) → item ≡ command_item n → (c : CmdDef) → command_at s.commands n ≡ Some c → (m : ℕ) (d : CmdDef) → command_at s.commands m ≡ Some d → c.host ≡ d.host → is_open b m ≡ true → is_clash c d ≡ false
+pub next_free : (s : ScenarioValue) (b : Sent) (dev : ℕ) (item : Item) → IsNext s b dev item → (n : ℕ) → item ≡ command_item n → (c : CmdDef) → command_at s.commands n ≡ Some c → (m : ℕ) (d : CmdDef) → command_at s.commands m ≡ Some d → c.host ≡ d.host → is_open b m ≡ true → is_clash c d ≡ false
 next_free s b dev _ (is_abort k z) n e c at m d ad h o = absurd (no_abort k _ e)
 next_free s b dev _ (is_sense k x ex own there z) n e c at m d ad h o = wrong (ap (λ (p : ProcId). p.sense) (same_process _ _ e))
-next_free s b dev _ (is_command k time x ex own z may) n e c at m d ad h o =
+next_free s b dev _ (is_command k time x ex own z may none) n e c at m d ad h o =
     let same : k ≡ n = ap (λ (p : ProcId). p.command) (same_process _ _ e) in
     let it : x ≡ c = same_Some x c (sym ex ∙ ap (command_at s.commands) same ∙ at) in
     ap (λ (y : CmdDef). is_clash y d) (sym it) ∙ may_free s b dev time x may m d ad (sym h ∙ ap (λ (y : CmdDef). y.host) (sym it) ∙ own) o
@@ -138,23 +137,23 @@ pub record IsNamed (s : ScenarioValue) (b : Sent) (i t u : ℕ) (tag : Option �
   pub senseless : (n : ℕ) → is_open_sense b n ≡ false
 
 host_of_nexus : (c : CmdDef) (i t u : ℕ) → is_of_nexus c i t u ≡ true → c.host ≡ i
-host_of_nexus c i t u e = number_is c.host i (first_is (c.host == i) (c.target == t) (first_is (c.host == i && c.target == t) (c.unit == u) e))
+host_of_nexus c i t u e = eqb-true c.host i (and_first (c.host == i) (c.target == t) (and_first (c.host == i && c.target == t) (c.unit == u) e))
 
 target_of_nexus : (c : CmdDef) (i t u : ℕ) → is_of_nexus c i t u ≡ true → c.target ≡ t
-target_of_nexus c i t u e = number_is c.target t (second_is (c.host == i) (c.target == t) (first_is (c.host == i && c.target == t) (c.unit == u) e))
+target_of_nexus c i t u e = eqb-true c.target t (and_second (c.host == i) (c.target == t) (and_first (c.host == i && c.target == t) (c.unit == u) e))
 
 unit_of_nexus : (c : CmdDef) (i t u : ℕ) → is_of_nexus c i t u ≡ true → c.unit ≡ u
-unit_of_nexus c i t u e = number_is c.unit u (second_is (c.host == i && c.target == t) (c.unit == u) e)
+unit_of_nexus c i t u e = eqb-true c.unit u (and_second (c.host == i && c.target == t) (c.unit == u) e)
 
 hit_is : (s : ScenarioValue) (b : Sent) (i t u : ℕ) (tag : Option ℕ) (n0 n : ℕ) (c : CmdDef) → NoClash s b → (w : IsNamed s b i t u tag n0) → command_at s.commands n ≡ Some c → (is_of_nexus c i t u && is_open b n && same_number (tag_number_if c.tag) tag) ≡ true → n ≡ n0
 hit_is s b i t u tag n0 n c h w at e =
-    let here = first_is (is_of_nexus c i t u && is_open b n) (same_number (tag_number_if c.tag) tag) e in
-    let nexus = first_is (is_of_nexus c i t u) (is_open b n) here in
+    let here = and_first (is_of_nexus c i t u && is_open b n) (same_number (tag_number_if c.tag) tag) e in
+    let nexus = and_first (is_of_nexus c i t u) (is_open b n) here in
     let target : c.target ≡ w.def.target = target_of_nexus c i t u nexus ∙ sym (target_of_nexus w.def i t u w.nexus) in
     let unit : c.unit ≡ w.def.unit = unit_of_nexus c i t u nexus ∙ sym (unit_of_nexus w.def i t u w.nexus) in
-    h n n0 c w.def at w.def_is (host_of_nexus c i t u nexus ∙ sym (host_of_nexus w.def i t u w.nexus)) (second_is (is_of_nexus c i t u) (is_open b n) here) w.opens
+    h n n0 c w.def at w.def_is (host_of_nexus c i t u nexus ∙ sym (host_of_nexus w.def i t u w.nexus)) (and_second (is_of_nexus c i t u) (is_open b n) here) w.opens
     ((λ j. (target j == w.def.target && unit j == w.def.unit) && is_tag_clash (tag_number_if c.tag) (tag_number_if w.def.tag))
-    ∙ (λ j. (eq_self w.def.target j && eq_self w.def.unit j) && w.tagged (tag_number_if c.tag) (second_is (is_of_nexus c i t u && is_open b n) (same_number (tag_number_if c.tag) tag) e) j))
+    ∙ (λ j. (eq_self w.def.target j && eq_self w.def.unit j) && w.tagged (tag_number_if c.tag) (and_second (is_of_nexus c i t u && is_open b n) (same_number (tag_number_if c.tag) tag) e) j))
 
 and_off : (a c : Bool) → (a && false && c) ≡ false
 and_off true c = refl

@@ -34,9 +34,9 @@ use Rattle.bus_books.specs.Speaking.{Speaks}
 use Rattle.bus_books.proofs.Opened.{opening_named}
 use Rattle.bus_books.proofs.Reactions.{out_over}
 use Rattle.trace_laws.proofs.CommandNext.{out_unstruck}
-use Rattle.trace_laws.proofs.Impossible.{wrong, wrong'}
 use Rattle.trace_laws.proofs.PhaseLines.{out_lines}
 use Rattle.trace_laws.proofs.Tests.{or_second}
+use Rattle.bus_base.proofs.Tests.{wrong, wrong'}
 
 -- ---- a phase that is left without an event
 

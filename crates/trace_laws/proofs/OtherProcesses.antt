@@ -21,7 +21,7 @@ use Rattle.disk_array.proofs.SoundArrays.{id_is}
 use Rattle.bus_books.proofs.Lookups.{id_is as ids_are}
 use Rattle.trace_laws.specs.Places.{IsAway, IsUnanswered, Waits, Runs, OnUnits, Each, IsAtRest, IsUntouched}
 use Rattle.trace_laws.proofs.EachProcess.{AdmitsEvent, Admits, IsSameIn, status_same, attended_same, cleared_same, each_after, each_settled, running_id}
-use Rattle.trace_laws.proofs.Impossible.{wrong}
+use Rattle.bus_base.proofs.Tests.{wrong}
 
 -- ---- the process of an event
 
@@ -177,7 +177,7 @@ failed s a id other reply None f = go (process_of s id)
     go None = tt
     go (Some p) = by p (Steps.is_waiting a.units id || has_ended a id)
 
-ended : (a : Array) (id other : ProcId) (status : ℕ) → same_id id other ≡ false → IfSame other a (Steps.end_step a status (Steps.running_process a id))
+pub ended : (a : Array) (id other : ProcId) (status : ℕ) → same_id id other ≡ false → IfSame other a (Steps.end_step a status (Steps.running_process a id))
 ended a id other status f = go (Steps.running_process a id) refl
   where
     by : (r : RunningProcess) → r.process.id ≡ id → (o : Option Reply) → IfSame other a (Steps.end_step_with a r.process status o)

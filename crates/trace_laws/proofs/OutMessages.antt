@@ -32,7 +32,7 @@ use Rattle.bus_books.proofs.FirstWords.{process_unit}
 use Rattle.bus_books.proofs.Lists.{understood_append}
 use Rattle.bus_books.proofs.Reading.{reads_at, reads_end}
 use Rattle.bus_books.proofs.Saying.{says_byte, says_more}
-use Rattle.trace_laws.proofs.Impossible.{wrong, wrong'}
+use Rattle.bus_base.proofs.Tests.{wrong, wrong'}
 
 abbrev pub is_abort_out : MsgOut → Bool
 is_abort_out to_target.Abort = true

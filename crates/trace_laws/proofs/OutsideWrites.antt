@@ -12,9 +12,10 @@ use Rattle.disk_array.specs.Order.{range_in}
 use Rattle.disk_array.specs.Processes.{Process}
 use Rattle.disk_array.specs.Units.{Array, unit_state_at, guest_at}
 use Rattle.bus_due.specs.Tasks.{is_writing, moved_count, reply_now}
-use Rattle.trace_laws.proofs.Impossible.{wrong, wrong', some_none}
+use Rattle.trace_laws.proofs.Impossible.{some_none}
 use Rattle.trace_laws.proofs.PlaceRuns.{inquires, absent_moves}
 use Rattle.trace_laws.proofs.RunFacts.{write_no_sense}
+use Rattle.bus_base.proofs.Tests.{wrong, wrong'}
 
 -- ---- commands
 

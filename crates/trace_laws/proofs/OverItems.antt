@@ -3,7 +3,7 @@ use Rattle.std.proofs.Common.{inl, inr, ℕ, zero, suc, ◌≡◌, ◌⊎◌, �
 use Rattle.std.specs.Prelude.{if◌then◌else◌}
 use Rattle.std.specs.List.{list_any}
 use Rattle.std.proofs.lemmas.Option.{same_Some}
-use Rattle.std.proofs.lemmas.Bool.{or_from}
+use Rattle.std.proofs.lemmas.Bool.{or_from, not-true, eqb-true}
 use Rattle.bus_base.specs.declared.ProcId.{ProcId}
 use Rattle.bus_base.specs.declared.AbortKind.{AbortKind}
 use Rattle.bus_base.specs.declared.AbortKind.TheVariants as aborts
@@ -16,13 +16,13 @@ use Rattle.disk_array.specs.Processes.{Process, process_of, process_if, process_
 use Rattle.bus_story.specs.Items.{Item, process, same_item, has_item, command_item, sense_item, Sent, is_open}
 use Rattle.bus_story.specs.Links.{is_open_sense}
 use Rattle.bus_story.specs.Story.{Story, Ending, by_status, by_abort, by_reset, is_aborted, is_sense_stopped, story_with_over, story_with_end, with_check, story_with_ends, story_after_event, story_after_events}
-use Rattle.bus_books.proofs.Lookups.{first_is, second_is, number_is, self_id, id_is}
-use Rattle.bus_books.proofs.RowTies.{not_is}
-use Rattle.trace_laws.proofs.Impossible.{none_some, wrong}
+use Rattle.bus_books.proofs.Lookups.{self_id, id_is}
+use Rattle.trace_laws.proofs.Impossible.{none_some}
 use Rattle.trace_laws.proofs.OpenCommands.{fewer_clash}
 use Rattle.trace_laws.proofs.SentItems.{more_has, own_has, event_sent}
 use Rattle.trace_laws.proofs.QueuedProcesses.{is_dropped, stays_queued}
 use Rattle.trace_laws.specs.ItemFacts.{NoClash, AreChecked, IsQueued}
+use Rattle.bus_base.proofs.Tests.{wrong, and_first, and_second, and_true}
 
 -- ---- what is over stays over
 
@@ -44,7 +44,7 @@ grows_on a b c h g = record { sent = g.sent ∙ h.sent; over = λ i z. g.over i 
 over_grows : (a : Sent) (item : Item) → Grows a (record a { over = item ∷ a.over })
 over_grows a item = record { sent = refl; over = λ i z. more_has item i a.over z; checks = λ n z. z }
 
-later : (n : ℕ) (checks more : List ℕ) → list_any (λ k. k == n) checks ≡ true → list_any (λ k. k == n) (checks ++ more) ≡ true
+pub later : (n : ℕ) (checks more : List ℕ) → list_any (λ k. k == n) checks ≡ true → list_any (λ k. k == n) (checks ++ more) ≡ true
 later n [] more e = wrong (sym e)
 later n (c ∷ checks) more e = go (c == n) e (λ z. later n checks more z)
   where
@@ -89,20 +89,20 @@ events_grow s b [] = grows_same b.sent b.sent refl
 events_grow s b (event ∷ shown) =
     grows_on b.sent (story_after_events s b shown).sent (story_after_events s b (event ∷ shown)).sent (events_grow s b shown) (event_grows s (story_after_events s b shown) event)
 
-not_grown : (q r : Bool) → (q ≡ true → r ≡ true) → not r ≡ true → not q ≡ true
+pub not_grown : (q r : Bool) → (q ≡ true → r ≡ true) → not r ≡ true → not q ≡ true
 not_grown true r f e = wrong (sym e ∙ ap not (f refl))
 not_grown false r f e = refl
 
 fewer_open : (a b : Sent) → Grows a b → (n : ℕ) → is_open b n ≡ true → is_open a n ≡ true
 fewer_open a b g n e =
-    let sent = first_is (has_item b.sent (command_item n)) (not (has_item b.over (command_item n))) e in
-    let over = second_is (has_item b.sent (command_item n)) (not (has_item b.over (command_item n))) e in
+    let sent = and_first (has_item b.sent (command_item n)) (not (has_item b.over (command_item n))) e in
+    let over = and_second (has_item b.sent (command_item n)) (not (has_item b.over (command_item n))) e in
     λ i. (ap (λ (x : List Item). has_item x (command_item n)) (sym g.sent) ∙ sent) i && not_grown (has_item a.over (command_item n)) (has_item b.over (command_item n)) (g.over (command_item n)) over i
 
 pub fewer_senses : (a b : Sent) → Grows a b → (n : ℕ) → is_open_sense b n ≡ true → is_open_sense a n ≡ true
 fewer_senses a b g n e =
-    let sent = first_is (has_item b.sent (sense_item n)) (not (has_item b.over (sense_item n))) e in
-    let over = second_is (has_item b.sent (sense_item n)) (not (has_item b.over (sense_item n))) e in
+    let sent = and_first (has_item b.sent (sense_item n)) (not (has_item b.over (sense_item n))) e in
+    let over = and_second (has_item b.sent (sense_item n)) (not (has_item b.over (sense_item n))) e in
     λ i. (ap (λ (x : List Item). has_item x (sense_item n)) (sym g.sent) ∙ sent) i && not_grown (has_item a.over (sense_item n)) (has_item b.over (sense_item n)) (g.over (sense_item n)) over i
 
 pub clash_grows : (s : ScenarioValue) (a b : Sent) → Grows a b → NoClash s a → NoClash s b
@@ -113,7 +113,7 @@ clash_grows s a b g h = fewer_clash s a b (λ n e. fewer_open a b g n e) h
 same_checks : (a b : Sent) → b.checks ≡ a.checks → ((i : Item) → has_item a.over i ≡ true → has_item b.over i ≡ true) → AreChecked a → AreChecked b
 same_checks a b e more h n z = more (command_item n) (h n (ap (λ (x : List ℕ). list_any (λ k. k == n) x) (sym e) ∙ z))
 
-ends_checks : (drops stops : CmdDef → Bool) (e : Ending) (n : ℕ) (commands : List CmdDef) (b : Story) → (story_with_ends drops stops e n commands b).sent.checks ≡ b.sent.checks
+pub ends_checks : (drops stops : CmdDef → Bool) (e : Ending) (n : ℕ) (commands : List CmdDef) (b : Story) → (story_with_ends drops stops e n commands b).sent.checks ≡ b.sent.checks
 ends_checks drops stops e n [] b = refl
 ends_checks drops stops e n (c ∷ commands) b =
     ends_checks drops stops e (n + 1) commands
@@ -130,11 +130,11 @@ ends_checks drops stops e n (c ∷ commands) b =
 own_command : (id : ProcId) → id.sense ≡ false → process id ≡ command_item id.command
 own_command id e = λ i. process (record { command = id.command; sense = e i })
 
-in_append : (n m : ℕ) (checks : List ℕ) → list_any (λ k. k == n) (checks ++ m ∷ []) ≡ true → (list_any (λ k. k == n) checks ≡ true) ⊎ (m ≡ n)
+pub in_append : (n m : ℕ) (checks : List ℕ) → list_any (λ k. k == n) (checks ++ m ∷ []) ≡ true → (list_any (λ k. k == n) checks ≡ true) ⊎ (m ≡ n)
 in_append n m [] e = go (m == n) refl e
   where
     go : (q : Bool) → (m == n) ≡ q → (q || false) ≡ true → (list_any (λ k. k == n) [] ≡ true) ⊎ (m ≡ n)
-    go true z f = inr (number_is m n z)
+    go true z f = inr (eqb-true m n z)
     go false z f = wrong (sym f)
 in_append n m (c ∷ checks) e = go (c == n) e (λ z. in_append n m checks z)
   where
@@ -176,51 +176,52 @@ pub events_checked : (s : ScenarioValue) (b : Story) (shown : List Event) → Ar
 events_checked s b [] h = h
 events_checked s b (event ∷ shown) h = event_checked s (story_after_events s b shown) event (events_checked s b shown h)
 
--- ---- RST stops every automatic REQUEST SENSE of them
-
-and_true : (q : Bool) → (q && true) ≡ q
-and_true true = refl
-and_true false = refl
+-- ---- what stops every automatic REQUEST SENSE of them, as RST does
 
 closed_by : (a : Bool) → (a && not true) ≡ false
 closed_by true = refl
 closed_by false = refl
 
-reset_stops : (e : Ending) (j k : ℕ) (commands : List CmdDef) (b : Story) (c : CmdDef) → command_at commands (suc k) ≡ Some c → has_item b.sent.over (command_item (suc (j + k))) ≡ true → list_any (λ m. m == suc (j + k)) b.sent.checks ≡ true
-    → has_item (story_with_ends (λ x. true) (λ x. true) e (suc j) commands b).sent.over (sense_item (suc (j + k))) ≡ true
-reset_stops e j k [] b c at over checked = absurd (none_some c at)
-reset_stops e j zero (x ∷ commands) b c at over checked =
+-- Of a command that was checked, and that the test stops.
+ends_stop : (drops stops : CmdDef → Bool) (e : Ending) (j k : ℕ) (commands : List CmdDef) (b : Story) (c : CmdDef) → command_at commands (suc k) ≡ Some c → stops c ≡ true → has_item b.sent.over (command_item (suc (j + k))) ≡ true → list_any (λ m. m == suc (j + k)) b.sent.checks ≡ true
+    → has_item (story_with_ends drops stops e (suc j) commands b).sent.over (sense_item (suc (j + k))) ≡ true
+ends_stop drops stops e j k [] b c at stop over checked = absurd (none_some c at)
+ends_stop drops stops e j zero (x ∷ commands) b c at stop over checked =
     let same : suc (j + 0) ≡ suc j = omega arith in
-    let shut : (is_open b.sent (suc j) && true) ≡ false = and_true (is_open b.sent (suc j)) ∙ (λ i. has_item b.sent.sent (command_item (suc j)) && not ((ap (λ (n : ℕ). has_item b.sent.over (command_item n)) (sym same) ∙ over) i)) ∙ closed_by (has_item b.sent.sent (command_item (suc j))) in
+    let stopped : stops x ≡ true = ap stops (same_Some x c at) ∙ stop in
+    let closed : is_open b.sent (suc j) ≡ false = (λ i. has_item b.sent.sent (command_item (suc j)) && not ((ap (λ (n : ℕ). has_item b.sent.over (command_item n)) (sym same) ∙ over) i)) ∙ closed_by (has_item b.sent.sent (command_item (suc j))) in
+    let shut : (is_open b.sent (suc j) && drops x) ≡ false = ap (λ (q : Bool). q && drops x) closed in
     let next : Story =
-    if is_open b.sent (suc j) && true then story_with_end b (record { command = suc j; sense = false }) e
-    else if true && list_any (λ m. m == suc j) b.sent.checks then story_with_over b (sense_item (suc j))
+    if is_open b.sent (suc j) && drops x then story_with_end b (record { command = suc j; sense = false }) e
+    else if stops x && list_any (λ m. m == suc j) b.sent.checks then story_with_over b (sense_item (suc j))
     else b in
-    let is : next ≡ story_with_over b (sense_item (suc j)) = λ i. if shut i then story_with_end b (record { command = suc j; sense = false }) e else if (ap (λ (n : ℕ). list_any (λ m. m == n) b.sent.checks) (sym same) ∙ checked) i then story_with_over b (sense_item (suc j)) else b in
-    ap (λ (n : ℕ). has_item (story_with_ends (λ y. true) (λ y. true) e (suc j) (x ∷ commands) b).sent.over (sense_item n)) same
-    ∙ (ends_grow (λ y. true) (λ y. true) e (suc j + 1) commands next).over (sense_item (suc j)) (ap (λ (y : Story). has_item y.sent.over (sense_item (suc j))) is ∙ own_has (sense_item (suc j)) b.sent.over)
-reset_stops e j (suc k) (x ∷ commands) b c at over checked =
+    let is : next ≡ story_with_over b (sense_item (suc j)) = λ i. if shut i then story_with_end b (record { command = suc j; sense = false }) e else if stopped i && (ap (λ (n : ℕ). list_any (λ m. m == n) b.sent.checks) (sym same) ∙ checked) i then story_with_over b (sense_item (suc j)) else b in
+    ap (λ (n : ℕ). has_item (story_with_ends drops stops e (suc j) (x ∷ commands) b).sent.over (sense_item n)) same
+    ∙ (ends_grow drops stops e (suc j + 1) commands next).over (sense_item (suc j)) (ap (λ (y : Story). has_item y.sent.over (sense_item (suc j))) is ∙ own_has (sense_item (suc j)) b.sent.over)
+ends_stop drops stops e j (suc k) (x ∷ commands) b c at stop over checked =
     let next : Story =
-    if is_open b.sent (suc j) && true then story_with_end b (record { command = suc j; sense = false }) e
-    else if true && list_any (λ m. m == suc j) b.sent.checks then story_with_over b (sense_item (suc j))
+    if is_open b.sent (suc j) && drops x then story_with_end b (record { command = suc j; sense = false }) e
+    else if stops x && list_any (λ m. m == suc j) b.sent.checks then story_with_over b (sense_item (suc j))
     else b in
-    let g : Grows b.sent next.sent = one_end (is_open b.sent (suc j) && true) (list_any (λ m. m == suc j) b.sent.checks) (suc j) e b in
+    let g : Grows b.sent next.sent = one_end (is_open b.sent (suc j) && drops x) (stops x && list_any (λ m. m == suc j) b.sent.checks) (suc j) e b in
     let moved : suc (j + suc k) ≡ suc (suc j + k) = omega arith in
     let one_more : suc (suc j) ≡ suc j + 1 = omega arith in
-    (λ i. has_item (story_with_ends (λ y. true) (λ y. true) e (sym one_more i) commands next).sent.over (sense_item (moved i)))
-    ∙ reset_stops e (suc j) k commands next c at (g.over _ (ap (λ (n : ℕ). has_item b.sent.over (command_item n)) (sym moved) ∙ over)) (g.checks _ (ap (λ (n : ℕ). list_any (λ m. m == n) b.sent.checks) (sym moved) ∙ checked))
+    (λ i. has_item (story_with_ends drops stops e (sym one_more i) commands next).sent.over (sense_item (moved i)))
+    ∙ ends_stop drops stops e (suc j) k commands next c at stop (g.over _ (ap (λ (n : ℕ). has_item b.sent.over (command_item n)) (sym moved) ∙ over)) (g.checks _ (ap (λ (n : ℕ). list_any (λ m. m == n) b.sent.checks) (sym moved) ∙ checked))
 
-none_at : (commands : List CmdDef) → command_at commands 0 ≡ None
+pub none_at : (commands : List CmdDef) → command_at commands 0 ≡ None
 none_at [] = refl
 none_at (x ∷ commands) = refl
 
--- Of a command that was checked.
-pub reset_senses : (s : ScenarioValue) (b : Story) (dev n : ℕ) (c : CmdDef) → command_at s.commands n ≡ Some c → AreChecked b.sent → list_any (λ k. k == n) b.sent.checks ≡ true → has_item (story_after_event s b (events.Reset dev)).sent.over (sense_item n) ≡ true
-reset_senses s b dev zero c at h e = absurd (none_some c (sym (none_at s.commands) ∙ at))
-reset_senses s b dev (suc n) c at h e =
+pub ends_senses : (s : ScenarioValue) (drops stops : CmdDef → Bool) (e : Ending) (b : Story) (n : ℕ) (c : CmdDef) → command_at s.commands n ≡ Some c → stops c ≡ true → AreChecked b.sent → list_any (λ k. k == n) b.sent.checks ≡ true → has_item (story_with_ends drops stops e 1 s.commands b).sent.over (sense_item n) ≡ true
+ends_senses s drops stops e b zero c at stop h z = absurd (none_some c (sym (none_at s.commands) ∙ at))
+ends_senses s drops stops e b (suc n) c at stop h z =
     let same : suc (0 + n) ≡ suc n = omega arith in
-    ap (λ (m : ℕ). has_item (story_after_event s b (events.Reset dev)).sent.over (sense_item m)) (sym same)
-    ∙ reset_stops by_reset 0 n s.commands b c at (ap (λ (m : ℕ). has_item b.sent.over (command_item m)) same ∙ h (suc n) e) (ap (λ (m : ℕ). list_any (λ k. k == m) b.sent.checks) same ∙ e)
+    ap (λ (m : ℕ). has_item (story_with_ends drops stops e 1 s.commands b).sent.over (sense_item m)) (sym same)
+    ∙ ends_stop drops stops e 0 n s.commands b c at stop (ap (λ (m : ℕ). has_item b.sent.over (command_item m)) same ∙ h (suc n) z) (ap (λ (m : ℕ). list_any (λ k. k == m) b.sent.checks) same ∙ z)
+
+pub reset_senses : (s : ScenarioValue) (b : Story) (dev n : ℕ) (c : CmdDef) → command_at s.commands n ≡ Some c → AreChecked b.sent → list_any (λ k. k == n) b.sent.checks ≡ true → has_item (story_after_event s b (events.Reset dev)).sent.over (sense_item n) ≡ true
+reset_senses s b dev n c at h e = ends_senses s (λ x. true) (λ x. true) by_reset b n c at refl h e
 
 -- ---- what an event leaves open
 
@@ -258,10 +259,10 @@ ends_leave drops stops e j all (c ∷ commands) b m h keep o =
 
     apart : (q : Bool) → (suc j == m) ≡ q → drops c ≡ true → (suc j == m) ≡ false
     apart false z d = z
-    apart true z d = wrong (sym d ∙ keep c (ap (command_at all) (sym (number_is (suc j) m z)) ∙ here))
+    apart true z d = wrong (sym d ∙ keep c (ap (command_at all) (sym (eqb-true (suc j) m z)) ∙ here))
 
     go : (q : Bool) → (is_open b.sent (suc j) && drops c) ≡ q → (r : Bool) → has_item (if q then story_with_end b (record { command = suc j; sense = false }) e else if r then story_with_over b (sense_item (suc j)) else b).sent.over (command_item m) ≡ false
-    go true z r = or_from (same_item (command_item (suc j)) (command_item m)) (has_item b.sent.over (command_item m)) (and_true (suc j == m) ∙ apart (suc j == m) refl (second_is (is_open b.sent (suc j)) (drops c) z)) o
+    go true z r = or_from (same_item (command_item (suc j)) (command_item m)) (has_item b.sent.over (command_item m)) (and_true (suc j == m) ∙ apart (suc j == m) refl (and_second (is_open b.sent (suc j)) (drops c) z)) o
     go false z true = or_from (same_item (sense_item (suc j)) (command_item m)) (has_item b.sent.over (command_item m)) (sense_apart (suc j) m) o
     go false z false = o
 
@@ -309,10 +310,10 @@ event_leaves s b (events.End id status) p h e = go (not id.sense && status == CH
     ended = story_with_end b id (by_status status)
 
     go : (q : Bool) → has_item (if q then record ended { sent = record ended.sent { checks = ended.sent.checks ++ id.command ∷ [] } } else ended).sent.over (process p.id) ≡ false
-    go true = or_from (same_id id p.id) (has_item b.sent.over (process p.id)) (id_back p.id id (not_is (same_id p.id id) e)) h.opens
-    go false = or_from (same_id id p.id) (has_item b.sent.over (process p.id)) (id_back p.id id (not_is (same_id p.id id) e)) h.opens
-event_leaves s b (events.Lost id) p h e = or_from (same_id id p.id) (has_item b.sent.over (process p.id)) (id_back p.id id (not_is (same_id p.id id) e)) h.opens
-event_leaves s b (events.Aborted i t n what) p h e = aborts_leave s b i t n what p h (not_is (is_dropped i t n what p) e)
+    go true = or_from (same_id id p.id) (has_item b.sent.over (process p.id)) (id_back p.id id (not-true (same_id p.id id) e)) h.opens
+    go false = or_from (same_id id p.id) (has_item b.sent.over (process p.id)) (id_back p.id id (not-true (same_id p.id id) e)) h.opens
+event_leaves s b (events.Lost id) p h e = or_from (same_id id p.id) (has_item b.sent.over (process p.id)) (id_back p.id id (not-true (same_id p.id id) e)) h.opens
+event_leaves s b (events.Aborted i t n what) p h e = aborts_leave s b i t n what p h (not-true (is_dropped i t n what p) e)
 event_leaves s b (events.Reset dev) p h e = wrong (sym e)
 
 pub still_queued : (s : ScenarioValue) (b : Story) (event : Event) (p : Process) → IsQueued s b.sent p → stays_queued event p ≡ true → IsQueued s (story_after_event s b event).sent p

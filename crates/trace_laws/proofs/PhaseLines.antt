@@ -10,11 +10,8 @@ use Rattle.bus_story.specs.CarriedBytes.{is_status_phase}
 use Rattle.scsi_device.specs.Heard.{is_message}
 use Rattle.bus_books.specs.Hearing.{is_out_phase}
 use Rattle.bus_books.specs.Reactions.{is_command_phase}
-use Rattle.trace_laws.proofs.Impossible.{wrong'}
-
-abbrev pub is_data_out : Phase → Bool
-is_data_out phases.DataOut = true
-is_data_out _ = false
+use Rattle.bus_base.proofs.Tests.{wrong'}
+use Rattle.bus_books.proofs.Faith.{is_data_out}
 
 abbrev pub is_status : Phase → Bool
 is_status phases.Status = true

@@ -33,7 +33,6 @@ use Rattle.bus_books.specs.Hearing.{is_in_phase}
 use Rattle.bus_books.specs.Reactions.{is_command_phase}
 use Rattle.bus_books.specs.Traces.{GoesOn, Begins, Ends}
 use Rattle.trace_laws.proofs.ConnectionRows.{stage_of_connection}
-use Rattle.trace_laws.proofs.Impossible.{wrong'}
 use Rattle.trace_laws.proofs.Joint.{Stood, link_unbegun}
 use Rattle.trace_laws.proofs.PhaseLines.{is_status}
 use Rattle.trace_laws.proofs.PlaceTurnRows.{TellsOf, IsTurnAsked}
@@ -43,6 +42,7 @@ use Rattle.trace_laws.proofs.PlaceNext.{SendsNone, IsResetAsked}
 use Rattle.trace_laws.proofs.PlaceFirst.{IsSelectedFor}
 use Rattle.trace_laws.proofs.PlaceRows.{PlaceAsked}
 use Rattle.trace_laws.proofs.PlaceRuns.{outside_runs}
+use Rattle.bus_base.proofs.Tests.{wrong'}
 
 -- ---- what is owed
 

@@ -23,11 +23,12 @@ use Rattle.bus_dialogue.specs.declared.exchange.Phase.TheVariants as phases
 use Rattle.bus_dialogue.specs.NextPhase.{Serving, phase_leaving}
 use Rattle.ending_causes.specs.FullQueues.{is_refusal}
 use Rattle.trace_laws.specs.Places.{IsUntouched, IsAtRest, RunsOpen, AnsweredOpen, PlacedBefore, disconnects}
-use Rattle.trace_laws.proofs.Impossible.{wrong, wrong', none_some}
+use Rattle.trace_laws.proofs.Impossible.{none_some}
 use Rattle.trace_laws.proofs.PhaseLines.{is_status}
 use Rattle.trace_laws.proofs.PlaceEvents.{Passes, passes_on, Turned, turned_fails, turned_none, ArrivesAs, plan_for, accepts, refusal_planned, refused_so}
 use Rattle.trace_laws.proofs.PlaceLeavings.{LeadsRunning, LeavesStruck, restores, fails, frees, from_struck_command, ArrivedTo, from_command}
 use Rattle.trace_laws.proofs.PlaceTurns.{Standing, PlacedNext, none_shown, running_turn}
+use Rattle.bus_base.proofs.Tests.{wrong, wrong'}
 
 -- ---- the events
 
@@ -84,7 +85,8 @@ arrived_turn s a b p policy failure l phase arrivals.Queued st passes e planned 
     let is : phases.MessageIn ≡ phase = same_Some phases.MessageIn phase (sym lead.0 ∙ to) in
     subst (λ (x : Phase). Turns s a p (with_reply p.id failure x (events.Accept p.id ∷ [])) l x) is
     (after_one s a b (events.Accept p.id) p.id false (status_event p.id failure) (λ x. PlacedBefore x p l.messages l.next) e passes
-    (turned_none s b p.id (λ x. PlacedBefore x p l.messages l.next) passes.sound passes.within (subst (λ (x : Next). PlacedBefore b p l.messages x) (sym lead.1) (disconnects lead.2 h.0 h.1))))
+    (turned_none s b p.id (λ x. PlacedBefore x p l.messages l.next) passes.sound passes.within
+    (subst (λ (x : Next). PlacedBefore b p l.messages x) (sym lead.1) (disconnects lead.2 h.0 h.1 h.2))))
 
 -- ---- no byte was struck
 

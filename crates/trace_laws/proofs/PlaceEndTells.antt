@@ -38,10 +38,11 @@ use Rattle.trace_laws.specs.Places.{PlaceFacts}
 use Rattle.trace_laws.specs.Tells.{Tells, LastIn, TellsAsLeft}
 use Rattle.trace_laws.proofs.ConnectionRows.{connection_row}
 use Rattle.trace_laws.proofs.Crossings.{RowFacts, stays, ends_here}
-use Rattle.trace_laws.proofs.Impossible.{wrong, some_none}
+use Rattle.trace_laws.proofs.Impossible.{some_none}
 use Rattle.trace_laws.proofs.Joint.{Stood}
 use Rattle.trace_laws.proofs.PlaceTurnRows.{no_task}
 use Rattle.trace_laws.proofs.TellEnds.{naming_goes_on}
+use Rattle.bus_base.proofs.Tests.{wrong}
 
 pub record EndTold (k : RunState) (l : Link) : Type 0 where
   pub named : (id : ProcId) → k.served ≡ Some (process id) → l.item ≡ Some (process id)

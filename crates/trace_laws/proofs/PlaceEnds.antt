@@ -38,12 +38,12 @@ use Rattle.bus_books.specs.Reactions.{is_command_phase}
 use Rattle.bus_books.proofs.Lookups.{id_is as ids_are, self_id}
 use Rattle.trace_laws.specs.Places.{AreWithin, IsUntouched, IsAtRest, Closes, completes, disconnects, PlacedBefore, PlacedAsked, PlacedIn, PlacedIf, HasPlaces}
 use Rattle.bus_base.specs.declared.AbortKind.{AbortKind}
-use Rattle.trace_laws.proofs.Impossible.{wrong}
 use Rattle.trace_laws.proofs.OtherProcesses.{rests_after, untouched_after}
 use Rattle.trace_laws.proofs.AnsweredProcesses.{lost_is, leaves}
 use Rattle.trace_laws.proofs.PhaseLines.{is_status, is_data_phase}
 use Rattle.trace_laws.proofs.PlaceEvents.{Passes, passes_same, passes_step}
 use Rattle.trace_laws.proofs.PlaceTurned.{other_id}
+use Rattle.bus_base.proofs.Tests.{wrong}
 
 -- ---- what is asked of it
 
@@ -80,7 +80,7 @@ open_before a p m nexts.Command h = h.open_is
 open_before a p m nexts.GoOn h = h.open_is
 open_before a p m nexts.Status h = h.open_is
 open_before a p m nexts.FreeBus (completes e h) = h.open_is
-open_before a p m nexts.FreeBus (disconnects e h o) = o
+open_before a p m nexts.FreeBus (disconnects e h o q) = o
 
 open_asked : (a : Array) (p : Process) (plan : Plan) (cause : Cause) → PlacedAsked a p plan cause → has_ended a p.id ≡ false
 open_asked a p plan causes.Selected h = h.open_is
@@ -149,7 +149,7 @@ end_row s k row n l h seats con off begun calm none link item asked = by_served 
 
         closes : phase_of (bus_of k) ≡ phases.MessageIn → Closes a p k.exchange.plan.messages → HasFreed s k row a
         closes f (completes z o) = wrong (sym (asked.taken p.id e f z) ∙ o.open_is)
-        closes f (disconnects z r o) = stays f r
+        closes f (disconnects z r o q) = stays f r
 
         loses : (phase_of (bus_of k) ≡ phases.MessageIn → ⊥) → has_ended a p.id ≡ false → HasFreed s k row a
         loses f o =

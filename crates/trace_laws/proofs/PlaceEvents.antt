@@ -29,14 +29,16 @@ use Rattle.bus_due.specs.RunSteps.{array_after_events}
 use Rattle.bus_due.specs.Tasks.{is_idle_unit, room_of}
 use Rattle.ending_causes.specs.FullQueues.{is_refusal}
 use Rattle.bus_books.specs.Reactions.{is_command_phase}
-use Rattle.bus_books.proofs.Lookups.{number_is}
-use Rattle.trace_laws.specs.Places.{AreWithin, IsUntouched, IsAtRest, IsOutside, RunsOpen, AnsweredOpen}
-use Rattle.trace_laws.proofs.Impossible.{wrong, some_none}
+use Rattle.trace_laws.specs.Places.{AreWithin, IsUntouched, IsAtRest, IsOutside, RunsOpen, AnsweredOpen, is_queued}
+use Rattle.trace_laws.proofs.Impossible.{some_none}
 use Rattle.trace_laws.proofs.OtherProcesses.{is_of, untouched_after, rests_after, executed}
 use Rattle.trace_laws.proofs.PhaseLines.{is_status}
 use Rattle.trace_laws.proofs.QueueDepths.{within_after}
+use Rattle.trace_laws.proofs.QueueEvents.{queued_stands}
 use Rattle.trace_laws.proofs.ArrivingProcesses.{queued, queued_rests, guest_may_run, at_once_may_run, guest_answered, Arrives, as_guest, in_queue, arrives, refused_array, refuses, failed_reply, fails_new}
 use Rattle.trace_laws.proofs.AnsweredProcesses.{run_is, run_answers, fail_is, fail_answers}
+use Rattle.std.proofs.lemmas.Bool.{eqb-true}
+use Rattle.bus_base.proofs.Tests.{wrong}
 
 -- ---- what events of one process leave of the array
 
@@ -117,7 +119,7 @@ abbrev pub ArrivesAs : Array → Process → Arrival → Type 0
 ArrivesAs b p arrivals.Refused = AnsweredOpen b p.id
 ArrivesAs b p arrivals.Guest = RunsOpen b p
 ArrivesAs b p arrivals.AtOnce = RunsOpen b p × IsAtRest b p.id
-ArrivesAs b p arrivals.Queued = IsAtRest b p.id × (has_ended b p.id ≡ false)
+ArrivesAs b p arrivals.Queued = IsAtRest b p.id × (has_ended b p.id ≡ false) × (is_queued b.units p.id ≡ true)
 
 abbrev pub plan_for : Policy → Array → Process → Arrival
 plan_for policy a p = arrival_by policy (is_request_sense (command_of p.cdb)) (room_of a (unit_state_at a.units p.target p.unit))
@@ -140,7 +142,7 @@ record IsIdle (a : Array) (u : UnitState) : Type 0 where
   free : is_held a.holds u.target u.unit ≡ false
 
 no_length : (n : ℕ) → (suc n == 0) ≡ true → ⊥
-no_length n e = let z : suc n ≡ 0 = number_is (suc n) 0 e in omega arith
+no_length n e = let z : suc n ≡ 0 = eqb-true (suc n) 0 e in omega arith
 
 idle_is : (a : Array) (u : UnitState) → is_idle_unit a u ≡ true → IsIdle a u
 idle_is a u e = go (has_no_current u.current) refl (is_held a.holds u.target u.unit) refl u.waiting refl e
@@ -186,7 +188,8 @@ accepts s a b p policy seats sound within e h f = go (arrives s a b p e f)
             (subst (λ (x : Array). RunsOpen x p × IsAtRest x p.id) (sym z) (record { runs = at_once_may_run a p u at i.none_waits i.none_runs i.free h; open_is = h.open_is }, queued_rests a p u at h))
         by false w =
             made arrivals.Queued (planned ∙ ap (λ (q : Bool). if q then arrivals.AtOnce else arrivals.Queued) w) refl
-            (subst (λ (x : Array). IsAtRest x p.id × (has_ended x p.id ≡ false)) (sym z) (queued_rests a p u at h, h.open_is))
+            (subst (λ (x : Array). IsAtRest x p.id × (has_ended x p.id ≡ false) × (is_queued x.units p.id ≡ true)) (sym z)
+            (queued_rests a p u at h, h.open_is, queued_stands a p u at))
 
 -- It is refused, and planned so.
 pub refusal_planned : (s : ScenarioValue) (a : Array) (p : Process) (policy : Policy) → process_of s p.id ≡ Some p → Steps.step s (events.Accept p.id) a ≡ None → plan_for policy a p ≡ arrivals.Refused

@@ -15,7 +15,7 @@ use Rattle.bus_dialogue.specs.declared.exchange.Plan.{Plan}
 use Rattle.scsi_device.specs.Heard.{is_new, is_unanswered, is_answered, is_placed, is_command_phase, moves_data}
 use Rattle.trace_laws.specs.Places.{IsUntouched, RunsOpen, AnsweredOpen, PlacedBefore, PlacedIn}
 use Rattle.trace_laws.proofs.ArrivingProcesses.{not_waiting, not_running}
-use Rattle.trace_laws.proofs.Impossible.{wrong}
+use Rattle.bus_base.proofs.Tests.{wrong}
 
 pub new_heard : (a : Array) (p : Process) → IsUntouched a p.id → is_new a p ≡ true
 new_heard a p h = λ i. not (not_waiting a.units p.id h.away.units i) && is_none (not_running a p.id h.away i) && is_none (h.reply i)

@@ -39,7 +39,7 @@ use Rattle.bus_laws.proofs.Prompt.{least_is}
 use Rattle.trace_laws.specs.ItemFacts.{ItemFacts}
 use Rattle.trace_laws.specs.Offers.{OfferFacts, Offers, IsHeardOut, opens, repeats, answers_it, detects, is_detected}
 use Rattle.trace_laws.proofs.FreshItems.{items_fresh}
-use Rattle.trace_laws.proofs.Impossible.{wrong, wrong', some_none}
+use Rattle.trace_laws.proofs.Impossible.{some_none}
 use Rattle.trace_laws.proofs.ItemFacts.{rst_raised}
 use Rattle.trace_laws.proofs.Joint.{Stood}
 use Rattle.trace_laws.proofs.NamedTurns.{is_message_cause}
@@ -53,6 +53,7 @@ use Rattle.trace_laws.proofs.PlaceStays.{IsStayAsked}
 use Rattle.trace_laws.proofs.PlaceTurnRows.{TellsOf}
 use Rattle.trace_laws.proofs.RowItems.{inside_sent}
 use Rattle.trace_laws.proofs.SentItems.{events_sent, free_keeps}
+use Rattle.bus_base.proofs.Tests.{wrong, wrong'}
 
 -- ---- what is sent
 

@@ -23,7 +23,7 @@ use Rattle.bus_dialogue.specs.Exchange.{one_message}
 use Rattle.bus_dialogue.specs.NextPhase.{Serving, bus_free, phase_entry, with_task, recovery, recovery_limit, pointer_restoration, next_data_phase, request_or_command, after_offer, message_repetition, message_out_leaving, after_messages, disconnection, disconnect_messages, after_arrival, after_run, data_in_leaving, phase_leaving}
 use Rattle.bus_dialogue.specs.Words.{request_by, is_naming}
 use Rattle.trace_laws.specs.Places.{TellNoEnd}
-use Rattle.trace_laws.proofs.Impossible.{wrong}
+use Rattle.bus_base.proofs.Tests.{wrong}
 
 -- ---- of a process that runs
 

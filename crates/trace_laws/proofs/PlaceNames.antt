@@ -31,7 +31,6 @@ use Rattle.bus_due.proofs.Plains.{run_state_plain}
 use Rattle.bus_books.specs.Reactions.{is_command_phase}
 use Rattle.bus_books.specs.Traces.{GoesOn}
 use Rattle.bus_books.proofs.InConnection.{reading_is}
-use Rattle.bus_books.proofs.RowTies.{not_is}
 use Rattle.bus_laws.proofs.Apart.{change_plain}
 use Rattle.bus_laws.proofs.Prompt.{least_is}
 use Rattle.bus_laws.proofs.Rows.{fault_change}
@@ -40,10 +39,12 @@ use Rattle.link_laws.proofs.Moves.{no_rise}
 use Rattle.trace_laws.specs.Tells.{Tells, TellsAsLeft}
 use Rattle.trace_laws.proofs.ConnectionRows.{connection_row, stage_of_connection}
 use Rattle.trace_laws.proofs.Crossings.{RowFacts, stays, ends_here}
-use Rattle.trace_laws.proofs.Impossible.{wrong, wrong', none_some}
+use Rattle.trace_laws.proofs.Impossible.{none_some}
 use Rattle.trace_laws.proofs.Joint.{Stood, NextStood, link_unbegun}
 use Rattle.trace_laws.proofs.PhaseLines.{out_phase, is_status}
 use Rattle.trace_laws.proofs.PlaceLeavings.{Repeats, commands, again, leaves, from_refusal}
+use Rattle.std.proofs.lemmas.Bool.{not-true}
+use Rattle.bus_base.proofs.Tests.{wrong, wrong'}
 
 -- ---- a fault row
 
@@ -116,7 +117,7 @@ unnamed_turn s p row n c l o prompt was next left g ep link none = by_begun k.ex
         none_some n (sym f.stopped ∙ sym pl2.connection ∙ some)
 
     after_is : (x : Leaving) → x.to ≡ Some (phase_of c.after) → not_status x.to ≡ true → is_status (phase_of c.after) ≡ false
-    after_is x e f = not_is (is_status (phase_of c.after)) (ap not_status (sym e) ∙ f)
+    after_is x e f = not-true (is_status (phase_of c.after)) (ap not_status (sym e) ∙ f)
 
     repeats : Repeats v (message_out_leaving v causes.InMessage) → (message_out_leaving v causes.InMessage).to ≡ Some (phase_of c.after) → is_status (phase_of c.after) ≡ false
     repeats (commands e f) to = after_is (phase_entry phases.Command) (ap (λ (x : Leaving). x.to) (sym f) ∙ to) refl

@@ -24,11 +24,12 @@ use Rattle.bus_books.proofs.InConnection.{InConnection}
 use Rattle.bus_books.proofs.Lookups.{id_is as ids_are}
 use Rattle.trace_laws.specs.Places.{AreWithin, Waits, Runs, OnUnits, OnGuests, IsAway, IsUntouched, IsAtRest, HasPlaces}
 use Rattle.trace_laws.proofs.EachProcess.{each_settled, each_same, attended_same}
-use Rattle.trace_laws.proofs.Impossible.{wrong, some_none, none_some}
+use Rattle.trace_laws.proofs.Impossible.{some_none, none_some}
 use Rattle.trace_laws.proofs.OtherProcesses.{away_rests, untouched_after}
 use Rattle.trace_laws.proofs.PlaceEvents.{passes_step}
 use Rattle.trace_laws.proofs.PlaceTurnRows.{RowPlaced}
 use Rattle.trace_laws.proofs.PlaceEnds.{HasFreed}
+use Rattle.bus_base.proofs.Tests.{wrong}
 
 -- ---- what was sent
 

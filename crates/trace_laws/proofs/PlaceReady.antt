@@ -16,10 +16,7 @@ use Rattle.trace_laws.specs.Places.{fresh, Runs, OnUnits, IsUnanswered, IsAtRest
 use Rattle.trace_laws.proofs.EachProcess.{current_id}
 use Rattle.trace_laws.proofs.ArrivingProcesses.{no_guest, IsFoundAt, found_at}
 use Rattle.trace_laws.proofs.Impossible.{none_some}
-
-abbrev or_ready : Ready → Option Ready → Ready
-or_ready x None = x
-or_ready x (Some y) = y
+use Rattle.bus_books.proofs.ReadyProcesses.{or_ready}
 
 -- ---- what is ready is current
 
@@ -130,6 +127,7 @@ own_unit s (v ∷ units) t n u h e = go (v.target == t && v.unit == n) e (λ k. 
 pub record MayBeReady (s : ScenarioValue) (a : Array) (r : Ready) : Type 0 where
   pub runs : RunsOpen a r.process
   pub process_is : process_of s r.process.id ≡ Some r.process
+  pub free : is_held a.holds r.process.target r.process.unit ≡ false
 
 pub ready_runs : (s : ScenarioValue) (a : Array) (times : List ℕ) (seek t : ℕ) (r : Ready) → IsSound s a → IsAtRest a r.process.id → ready_among a times seek t ≡ Some r → MayBeReady s a r
 ready_runs s a times seek t r sound rests e = go (among_current a times seek t r e)
@@ -141,6 +139,7 @@ ready_runs s a times seek t r sound rests e = go (among_current a times seek t r
         open_is = none.2;
       };
       process_is = own_is;
+      free = held;
     }
       where
         p : Process

@@ -25,11 +25,11 @@ use Rattle.bus_due.specs.LastingState.{progress_in}
 use Rattle.bus_due.specs.RunState.{RunState, array_of, process_served, carried_here}
 use Rattle.bus_due.specs.Sights.{serving_of}
 use Rattle.bus_due.specs.Tasks.{blocks_in, moved_count, reply_now, task_with, task_if, task_of}
-use Rattle.bus_books.proofs.Lookups.{number_is, second_is}
 use Rattle.trace_laws.specs.Places.{IsOutside}
-use Rattle.trace_laws.proofs.Impossible.{wrong, wrong'}
 use Rattle.trace_laws.proofs.LastMessages.{one_run}
 use Rattle.trace_laws.proofs.PlaceLeavings.{HasOneRun}
+use Rattle.std.proofs.lemmas.Bool.{eqb-true}
+use Rattle.bus_base.proofs.Tests.{wrong, wrong', and_second}
 
 -- ---- commands of no blocks
 
@@ -50,7 +50,7 @@ inquires cdb e =
     ∙ go (length cdb == 0) (has_group_len cdb)
   where
     code : slice_index cdb 0 ≡ INQUIRY
-    code = number_is (slice_index cdb 0) INQUIRY (second_is (not (length cdb == 0)) (slice_index cdb 0 == INQUIRY) e)
+    code = eqb-true (slice_index cdb 0) INQUIRY (and_second (not (length cdb == 0)) (slice_index cdb 0 == INQUIRY) e)
 
     zeros : (q : Bool) → range_in (if q then Ok (commands.Inquiry (slice_index cdb 4)) else Err faults.Field) ≡ None
     zeros true = refl

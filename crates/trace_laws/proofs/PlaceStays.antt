@@ -47,15 +47,16 @@ use Rattle.bus_books.specs.Traces.{GoesOn}
 use Rattle.bus_books.proofs.InConnection.{InConnection, in_connection, reading_is, same_phase_is}
 use Rattle.bus_books.proofs.Lookups.{carried_id}
 use Rattle.disk_array.proofs.SoundArrays.{id_is}
-use Rattle.trace_laws.specs.Places.{is_complete_in, AnsweredOpen, Closes, completes, disconnects, PlacedBefore, IsTaken, PlacedAsked, PlacedIn, PlacedIf, HasPlaces}
+use Rattle.trace_laws.specs.Places.{AnsweredOpen, Closes, completes, disconnects, PlacedBefore, IsTaken, PlacedAsked, PlacedIn, PlacedIf, HasPlaces}
 use Rattle.trace_laws.proofs.CloseCounts.{counted_some}
 use Rattle.trace_laws.proofs.CommandStays.{phase_same}
-use Rattle.trace_laws.proofs.Impossible.{wrong, wrong'}
 use Rattle.trace_laws.proofs.AnsweredProcesses.{end_is, leaves}
 use Rattle.trace_laws.proofs.PhaseLines.{in_phase}
 use Rattle.trace_laws.proofs.PlaceEvents.{turned_none, passes_step}
 use Rattle.trace_laws.proofs.PlaceTurnRows.{RowPlaced}
 use Rattle.trace_laws.proofs.PlaceTurned.{row_turned, row_none}
+use Rattle.bus_base.proofs.Tests.{wrong, wrong'}
+use Rattle.trace_laws.specs.ItemTalks.{is_complete_in}
 
 -- ---- what it shows
 
@@ -260,7 +261,7 @@ stay_row s k row n c l now fault h seats g ep en ef drives link item asked = by_
 
         closes : Closes a p k.exchange.plan.messages → RowPlaced s k row a
         closes (completes z o) = answered o
-        closes (disconnects z x y) = wrong (ap (λ (m : Messages). is_complete_in m.first) (sym (asked.messages done)) ∙ z.first)
+        closes (disconnects z x y q) = wrong (ap (λ (m : Messages). is_complete_in m.first) (sym (asked.messages done)) ∙ z.first)
 
         close : PlacedBefore a p k.exchange.plan.messages k.exchange.plan.next ⊎ IsTaken a p k.exchange.plan k.handshakes (bus_of k).atn → RowPlaced s k row a
         close (inl z) = closes (subst (λ (x : Next). PlacedBefore a p k.exchange.plan.messages x) (asked.next done) z)

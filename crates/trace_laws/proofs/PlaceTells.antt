@@ -26,10 +26,10 @@ use Rattle.bus_books.specs.Traces.{GoesOn}
 use Rattle.bus_laws.proofs.Apart.{change_plain}
 use Rattle.trace_laws.specs.Places.{PlaceFacts}
 use Rattle.trace_laws.specs.Tells.{AreRepliesShown, code_if, FailsIn, Tells, TellsAsLeft}
-use Rattle.trace_laws.proofs.Impossible.{wrong'}
 use Rattle.trace_laws.proofs.Joint.{Stood}
 use Rattle.trace_laws.proofs.PlaceTurnRows.{TellsOf}
 use Rattle.trace_laws.proofs.TellEvents.{whole_block}
+use Rattle.bus_base.proofs.Tests.{wrong'}
 
 coded : (q : Bool) (failure : Option ℕ) → failure ≡ code_if q PARITY_ERROR → q ≡ true → is_some failure ≡ true
 coded true failure e f = ap is_some e

@@ -48,13 +48,14 @@ use Rattle.bus_books.specs.Rows.{IsRowIn, reading_in}
 use Rattle.bus_books.proofs.InConnection.{reading_is}
 use Rattle.bus_books.proofs.Lookups.{carried_id}
 use Rattle.trace_laws.specs.Places.{AreWithin, IsUntouched, IsAtRest, IsOutside, PlacedBefore, PlacedAsked, PlacedIn, PlacedIf, HasPlaces}
-use Rattle.trace_laws.proofs.Impossible.{wrong', none_some}
+use Rattle.trace_laws.proofs.Impossible.{none_some}
 use Rattle.trace_laws.proofs.PhaseLines.{is_status}
 use Rattle.trace_laws.proofs.PlaceEvents.{Turned, status_events_are, queue_events_are}
 use Rattle.trace_laws.proofs.PlaceLeavings.{HasOneRun}
 use Rattle.disk_array.specs.Execution.{Reply}
 use Rattle.trace_laws.proofs.PlaceTurns.{OutOf, PlacedNext, Standing, IsLeft, reply_shown, turns, command_not_out}
 use Rattle.trace_laws.proofs.PlaceCommands.{command_shown, command_turns}
+use Rattle.bus_base.proofs.Tests.{wrong'}
 
 -- ---- what a row shows where another phase begins
 

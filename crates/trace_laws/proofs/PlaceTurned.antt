@@ -39,11 +39,12 @@ use Rattle.bus_books.specs.Traces.{GoesOn}
 use Rattle.bus_books.proofs.InConnection.{InConnection, in_connection}
 use Rattle.bus_books.proofs.Lookups.{self_id, id_is as ids_are}
 use Rattle.trace_laws.specs.Places.{IsUntouched, PlacedAsked, PlacedIn, PlacedIf, HasPlaces}
-use Rattle.trace_laws.proofs.Impossible.{wrong, wrong', none_some}
+use Rattle.trace_laws.proofs.Impossible.{none_some}
 use Rattle.trace_laws.proofs.PhaseLines.{out_phase}
 use Rattle.trace_laws.proofs.PlaceEvents.{Turned, turned_none}
 use Rattle.trace_laws.proofs.PlaceTurns.{OutOf, PlacedNext, reply_shown}
 use Rattle.trace_laws.proofs.PlaceTurnRows.{IsTurnAsked, RowPlaced, asked_by, enters, process_turn, other_shown, shown_is}
+use Rattle.bus_base.proofs.Tests.{wrong, wrong'}
 
 -- Another process than the one that is served.
 pub other_id : (x id : ProcId) → is_served_by (Some (process x)) id ≡ false → same_id x id ≡ false

@@ -35,10 +35,13 @@ use Rattle.bus_dialogue.specs.Exchange.{from_byte, message_bytes, one_message}
 use Rattle.bus_dialogue.specs.NextPhase.{Serving, bus_free, phase_entry, with_task, recovery, recovery_limit, pointer_restoration, next_data_phase, request_or_command, after_offer, message_repetition, message_out_leaving, after_messages, after_arrival, phase_leaving}
 use Rattle.bus_dialogue.specs.Words.{request_by, is_naming}
 use Rattle.trace_laws.specs.Places.{AreWithin, IsUntouched, IsAtRest, IsOutside, RunsOpen, AnsweredOpen, TellNoEnd, Closes, completes, disconnects, PlacedBefore, PlacedAsked, PlacedIn}
-use Rattle.trace_laws.proofs.Impossible.{wrong, wrong', none_some}
+use Rattle.trace_laws.proofs.Impossible.{none_some}
 use Rattle.trace_laws.proofs.PhaseLines.{is_out_next, is_status}
 use Rattle.trace_laws.proofs.PlaceEvents.{Turned, turned_none, turned_reply}
 use Rattle.trace_laws.proofs.PlaceLeavings.{RunningSays, RunningTo, LeadsRunning, AnsweredSays, AnsweredTo, LeadsAnswered, NewSays, NewTo, LeadsNew, HasOneRun, from_data_in, from_data_out, from_status, from_go_on, from_status_next, from_command_next, from_opening, from_detected, from_status_detected, Repeats, commands, again, leaves, from_refusal}
+use Rattle.bus_base.proofs.Tests.{wrong, wrong'}
+use Rattle.trace_laws.proofs.ComplaintTurns.{NeverOut}
+use Rattle.trace_laws.proofs.QueueEvents.{rests_in_queue}
 
 -- ---- where it stands as the next phase begins
 
@@ -81,7 +84,7 @@ none_shown s a p q st h = turned_none s a p.id q st.sound st.within h
 
 says_running : (a : Array) (p : Process) (outside : Bool) (m : Messages) (next : Next) → RunsOpen a p → (outside ≡ false → IsAtRest a p.id) → RunningSays outside m next → PlacedBefore a p m next
 says_running a p outside m nexts.GoOn h rest k = h
-says_running a p outside m nexts.FreeBus h rest k = disconnects k.1 (rest k.0) h.open_is
+says_running a p outside m nexts.FreeBus h rest k = disconnects k.1 (rest k.0) h.open_is (rests_in_queue a p h.runs.running_is (rest k.0))
 says_running a p outside m nexts.Command h rest k = absurd k
 says_running a p outside m nexts.Status h rest k = absurd k
 
@@ -149,49 +152,46 @@ new_turn s a p failure marked l out phase st h lead to asked = go phase to asked
 
 -- ---- MESSAGE OUT does not follow MESSAGE OUT
 
-abbrev IsNotOut : Leaving → Type 0
-IsNotOut l = is_out_next l.to ≡ false
-
-by_task : (f : Task → Leaving) (task : Option Task) → ((t : Task) → IsNotOut (f t)) → IsNotOut (with_task task f)
+by_task : (f : Task → Leaving) (task : Option Task) → ((t : Task) → NeverOut (f t)) → NeverOut (with_task task f)
 by_task f None h = refl
 by_task f (Some t) h = h t
 
-recovers : (def : Option TargetDef) (t : Task) (a b : Leaving) → IsNotOut a → IsNotOut b → IsNotOut (recovery def t a b)
+recovers : (def : Option TargetDef) (t : Task) (a b : Leaving) → NeverOut a → NeverOut b → NeverOut (recovery def t a b)
 recovers def t a b h g = go t.in_hold (nat_lt t.recoveries (recovery_limit def))
   where
-    go : (r z : Bool) → IsNotOut (if r then a else if z then record a { counts = true } else b)
+    go : (r z : Bool) → NeverOut (if r then a else if z then record a { counts = true } else b)
     go true z = h
     go false true = h
     go false false = g
 
-out_leaves : (v : Serving) (cause : Cause) → IsNotOut (message_out_leaving v cause)
+out_leaves : (v : Serving) (cause : Cause) → NeverOut (message_out_leaving v cause)
 out_leaves v causes.Selected = go (is_some v.plan.said.aborts) v.plan.said.offer v.plan.negotiates
   where
-    asks : (m : Option MsgIn) → IsNotOut (request_or_command m)
+    asks : (m : Option MsgIn) → NeverOut (request_or_command m)
     asks None = refl
     asks (Some m) = refl
 
-    offers : (o : Option Agreement) (n : Bool) → IsNotOut (after_offer v.def n o)
+    offers : (o : Option Agreement) (n : Bool) → NeverOut (after_offer v.def n o)
     offers (Some offer) n = refl
     offers None true = asks (request_by v.def)
     offers None false = refl
 
-    go : (q : Bool) (o : Option Agreement) (n : Bool) → IsNotOut (if q then bus_free else after_offer v.def n o)
+    go : (q : Bool) (o : Option Agreement) (n : Bool) → NeverOut (if q then bus_free else after_offer v.def n o)
     go true o n = refl
     go false o n = offers o n
 out_leaves v causes.InMessage = go (is_some v.plan.said.offer) (is_naming v.plan.messages.first)
   where
-    go : (q r : Bool) → IsNotOut (if q then phase_entry phases.Command else if r then message_repetition v.plan else with_task v.task (λ t. recovery v.def t (message_repetition v.plan) bus_free))
+    go : (q r : Bool) → NeverOut (if q then phase_entry phases.Command else if r then message_repetition v.plan else with_task v.task (λ t. recovery v.def t (message_repetition v.plan) bus_free))
     go true r = refl
     go false true = refl
     go false false = by_task (λ t. recovery v.def t (message_repetition v.plan) bus_free) v.task (λ t. recovers v.def t (message_repetition v.plan) bus_free refl refl)
 out_leaves v causes.InData = by_task (λ t. recovery v.def t (pointer_restoration nexts.GoOn) (phase_entry phases.Status)) v.task (λ t. recovers v.def t (pointer_restoration nexts.GoOn) (phase_entry phases.Status) refl refl)
 out_leaves v causes.InStatus = by_task (λ t. recovery v.def t (pointer_restoration nexts.Status) bus_free) v.task (λ t. recovers v.def t (pointer_restoration nexts.Status) bus_free refl refl)
 
-data_not_out : (t : Task) (made : ℕ) (policy : Policy) → IsNotOut (phase_entry (next_data_phase policy t made))
+data_not_out : (t : Task) (made : ℕ) (policy : Policy) → NeverOut (phase_entry (next_data_phase policy t made))
 data_not_out t made policy = go t.replied (nat_lt made (runs_in_all policy t)) t.writes
   where
-    go : (r z w : Bool) → IsNotOut (phase_entry (if r then phases.Status else if z then (if w then phases.DataOut else phases.DataIn) else phases.Status))
+    go : (r z w : Bool) → NeverOut (phase_entry (if r then phases.Status else if z then (if w then phases.DataOut else phases.DataIn) else phases.Status))
     go true z w = refl
     go false true true = refl
     go false true false = refl
@@ -201,13 +201,13 @@ data_not_out t made policy = go t.replied (nat_lt made (runs_in_all policy t)) t
 pub command_not_out : (v : Serving) (atn : Bool) → (phase_leaving v atn phases.Command).to ≡ Some phases.MessageOut → ⊥
 command_not_out v atn e = true≢false (sym (ap is_out_next e) ∙ go v.plan.struck)
   where
-    arrived : (t : Task) (x : Arrival) → IsNotOut (after_arrival v.def t x)
+    arrived : (t : Task) (x : Arrival) → NeverOut (after_arrival v.def t x)
     arrived t arrivals.Refused = refl
     arrived t arrivals.Guest = data_not_out t t.runs (policy_of v.def)
     arrived t arrivals.AtOnce = data_not_out t t.runs (policy_of v.def)
     arrived t arrivals.Queued = refl
 
-    go : (q : Bool) → IsNotOut (with_task v.task (λ t. if q then recovery v.def t (pointer_restoration nexts.Command) (phase_entry phases.Status) else after_arrival v.def t v.arrival))
+    go : (q : Bool) → NeverOut (with_task v.task (λ t. if q then recovery v.def t (pointer_restoration nexts.Command) (phase_entry phases.Status) else after_arrival v.def t v.arrival))
     go true = by_task (λ t. recovery v.def t (pointer_restoration nexts.Command) (phase_entry phases.Status)) v.task (λ t. recovers v.def t (pointer_restoration nexts.Command) (phase_entry phases.Status) refl refl)
     go false = by_task (λ t. after_arrival v.def t v.arrival) v.task (λ t. arrived t v.arrival)
 
@@ -215,7 +215,7 @@ command_not_out v atn e = true≢false (sym (ap is_out_next e) ∙ go v.plan.str
 
 left_closes : (a : Array) (p : Process) (m : Messages) (n : ℕ) → (m ≡ one_message to_initiator.CommandComplete → n ≡ 0) → Closes a p m → Closes a p (from_byte m n)
 left_closes a p m n few (completes e h) = completes ((λ i. from_byte (e i) (few e i))) h
-left_closes a p m n few (disconnects e h o) = disconnects (go (nat_lt n (length (message_bytes m.first)))) h o
+left_closes a p m n few (disconnects e h o q) = disconnects (go (nat_lt n (length (message_bytes m.first)))) h o q
   where
     go : (q : Bool) → TellNoEnd (if q then m else record { first = m.second; second = None })
     go true = e
@@ -271,7 +271,7 @@ from_in s a p v true count failure marked phase nexts.FreeBus st mark few h to =
 from_in s a p v false count failure marked phase nexts.FreeBus st mark few h to = none_some phase to
 
 -- MESSAGE OUT is left.
-not_out : (l : Leaving) (phase : Phase) → IsNotOut l → l.to ≡ Some phase → phase ≡ phases.MessageOut → ⊥
+not_out : (l : Leaving) (phase : Phase) → NeverOut l → l.to ≡ Some phase → phase ≡ phases.MessageOut → ⊥
 not_out l phase h e f = true≢false (sym (ap is_out_next (e ∙ ap (λ (x : Phase). Some x) f)) ∙ h)
 
 from_out : (s : ScenarioValue) (a : Array) (p : Process) (v : Serving) (failure : Option ℕ) (marked : Bool) (phase : Phase) (cause : Cause) → Standing s a p → is_some (reply_in a.replies p.id) ≡ marked → (cause ≡ causes.InMessage → is_some v.plan.said.offer ≡ true → v.plan.next ≡ nexts.Command) → PlacedAsked a p v.plan cause → (message_out_leaving v cause).to ≡ Some phase → Turns s a p failure marked (message_out_leaving v cause) (λ b. ⊥) phase

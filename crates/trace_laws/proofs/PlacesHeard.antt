@@ -45,13 +45,14 @@ use Rattle.trace_laws.specs.ItemFacts.{ItemFacts, no_progress}
 use Rattle.trace_laws.specs.Places.{IsAtRest, PlaceFacts, PlacedIf, PlacedIn, PlacedBefore, RunsOpen, AnsweredOpen}
 use Rattle.trace_laws.proofs.FreshItems.{items_fresh}
 use Rattle.trace_laws.proofs.HeardRows.{begun_of}
-use Rattle.trace_laws.proofs.Impossible.{wrong, wrong', none_some}
+use Rattle.trace_laws.proofs.Impossible.{none_some}
 use Rattle.trace_laws.proofs.Joint.{Stood, NextStood}
 use Rattle.trace_laws.proofs.PlaceFirst.{rest_first, shown_first}
 use Rattle.trace_laws.proofs.PlaceHeard.{new_heard}
 use Rattle.trace_laws.proofs.ArrivingProcesses.{no_guest}
 use Rattle.trace_laws.proofs.PlaceReady.{MayBeReady, ready_runs}
 use Rattle.trace_laws.proofs.RunsWhole.{is_free}
+use Rattle.bus_base.proofs.Tests.{wrong, wrong'}
 
 -- ---- by the phase
 

@@ -1,7 +1,7 @@
 -- What the target plans: in MESSAGE IN there is a message, and in a data phase it serves a process whose data go that way.
 use Rattle.std.proofs.Common.{ℕ, ◌≡◌, ◌≤◌, Bool, true, false, not, ◌&&◌, ◌==◌, ◌∙◌, List, length, length-append, Option, Some, None, refl, sym, ap, arith}
 use Rattle.std.specs.Prelude.{◌+◌, ◌-◌, if◌then◌else◌, is_some, nat_lt}
-use Rattle.std.proofs.lemmas.Bool.{and_parts}
+use Rattle.std.proofs.lemmas.Bool.{and_parts, ltb-false}
 use Rattle.bus_trace.specs.LineSet.{LineSet}
 use Rattle.bus_trace.specs.declared.Row.{Row}
 use Rattle.bus_trace.specs.declared.changes.Change.{Change}
@@ -16,7 +16,6 @@ use Rattle.scenario.specs.declared.value.Policy.{Policy}
 use Rattle.scenario.specs.declared.value.Policy.TheVariants as policies
 use Rattle.scenario.specs.declared.value.TargetDef.{TargetDef}
 use Rattle.disk_array.specs.Processes.{Process}
-use Rattle.disk_unit.proofs.Touched.{from_not_lt}
 use Rattle.bus_dialogue.specs.declared.exchange.Arrival.{Arrival}
 use Rattle.bus_dialogue.specs.declared.exchange.Arrival.TheVariants as arrivals
 use Rattle.bus_dialogue.specs.declared.exchange.Cause.{Cause}
@@ -45,10 +44,11 @@ use Rattle.bus_books.specs.Giving.{Gives}
 use Rattle.bus_books.specs.Hearing.{is_in_phase, HasPhase, LeavesWhole, is_out_phase}
 use Rattle.bus_books.specs.Rows.{RowKind, still, strikes, crosses, turns, IsRowIn, reading_in}
 use Rattle.bus_books.proofs.InConnection.{InConnection, in_connection, exchange_by, same_phase_is}
-use Rattle.trace_laws.proofs.Impossible.{wrong'}
-use Rattle.trace_laws.proofs.PhaseLines.{in_phase, is_data_out, is_data_phase}
+use Rattle.trace_laws.proofs.PhaseLines.{in_phase, is_data_phase}
 use Rattle.trace_laws.proofs.Tests.{some_count}
 use Rattle.trace_laws.proofs.UndoneLeavings.{is_to_message_in}
+use Rattle.bus_base.proofs.Tests.{wrong'}
+use Rattle.bus_books.proofs.Faith.{is_data_out}
 
 abbrev pub is_in_message : Cause → Bool
 is_in_message causes.InMessage = true
@@ -345,7 +345,7 @@ left_some m r some asked within = go (nat_lt (r - 1) (length (message_bytes m.fi
     go true e = some
     go false e =
         let two = length-append (message_bytes m.first) (message_bytes m.second) in
-        second_some m.second (less_by r (length (message_bytes m.first)) (length (message_bytes m.second)) (some_count r asked) (omega arith) (from_not_lt (r - 1) (length (message_bytes m.first)) e))
+        second_some m.second (less_by r (length (message_bytes m.first)) (length (message_bytes m.second)) (some_count r asked) (omega arith) (ltb-false (r - 1) (length (message_bytes m.first)) e))
 
 -- ---- a row
 

@@ -33,13 +33,14 @@ use Rattle.bus_due.specs.Wants.{ready_of}
 use Rattle.bus_books.specs.Giving.{OnMessages}
 use Rattle.bus_books.specs.Knowing.{Knows}
 use Rattle.bus_books.specs.Rows.{IsFirstRow, IsRowIn, reading_in}
-use Rattle.bus_books.proofs.Knows.{events_link, link_after}
+use Rattle.bus_books.proofs.Knows.{link_after, fault_link}
 use Rattle.bus_books.proofs.Lookups.{put_own, carried_id}
-use Rattle.trace_laws.specs.DataPointers.{is_marked, run_start, run_step, policy_for, IsPlainIn, PointersIf, IsWaiting, ServedPointers, unnamed, named, UndoesServed, IsServedAnew}
+use Rattle.trace_laws.specs.DataPointers.{is_marked, run_policy, run_start, run_step, IsPlainIn, PointersIf, IsWaiting, ServedPointers, unnamed, named, UndoesServed, IsServedAnew}
 use Rattle.trace_laws.proofs.Impossible.{none_some}
 use Rattle.trace_laws.proofs.PhaseLines.{in_phase}
 use Rattle.trace_laws.proofs.PointerStories.{SamePointers, events_same}
-use Rattle.trace_laws.proofs.PointerStorySteps.{fault_link, byte_link, out_link, in_link}
+use Rattle.trace_laws.proofs.PointerStorySteps.{in_link}
+use Rattle.bus_story.proofs.StorySteps.{restored_link, sent_link, byte_link, out_link, events_link}
 
 -- ---- the first row
 
@@ -48,15 +49,6 @@ first_story s k row n h =
     let d = row_reading k.story.bus_state row in
     ap (λ (q : Bool). if q then record k.story { link = None } else story_on_bus s k.story k.story.bus_state.connection d.next d row) h.calm
     ∙ (λ i. story_on_bus s k.story (h.connection_is i) (h.next_is i) d row)
-
-restored_link : (b : Story) (item : Option Item) → (story_with_restored b item).link ≡ b.link
-restored_link b None = refl
-restored_link b (Some (process id)) = refl
-restored_link b (Some (abort n)) = refl
-
-sent_link : (b : Story) (item : Option Item) → (story_with_sent b item).link ≡ b.link
-sent_link b None = refl
-sent_link b (Some item) = refl
 
 begun_link : (b : Story) (n : Connection) → (story_after_connection b n).link ≡ Some (link_of n (if n.reselected then None else aim_of b.aims n.initiator))
 begun_link b n = go n.reselected (aim_of b.aims n.initiator)
@@ -94,7 +86,7 @@ plain_names p = go p.tag
     go (tags.Ordered n) = (refl, refl)
     go (tags.Head n) = (refl, refl)
 
-none_item : {A : Type 0} (id : ProcId) → (let o : Option Item = None in o) ≡ Some (process id) → A
+pub none_item : {A : Type 0} (id : ProcId) → (let o : Option Item = None in o) ≡ Some (process id) → A
 none_item id e = absurd cc
 
 pub same_process : (a b : ProcId) → (let o : Option Item = Some (process a) in o) ≡ Some (process b) → a ≡ b
@@ -122,7 +114,7 @@ begins_served s k row n q h names anew served waits = go n.reselected refl (sym 
         let moved : (carried_here j q.id).moved ≡ (with_restored_pointers (carried_here k q.id)).moved = (first_carried s k row n q.id h).moved ∙ ap (λ (x : CarriedBytes). x.moved) there in
         let l : Link = link_of n (aim_of k.story.aims n.initiator) in
         named l (first_link s k row n h ∙ ap (λ (x : Bool). Some (link_of n (if x then None else aim_of k.story.aims n.initiator))) e) aim
-        (subst (λ (x : Bool). PointersIf x (policy_for s q) l (carried_here j q.id) j.exchange.plan j.handshakes (run_start s j q) (phase_of (bus_of j))) (sym (begun ∙ e))
+        (subst (λ (x : Bool). PointersIf x (run_policy s q) l (carried_here j q.id) j.exchange.plan j.handshakes (run_start s j q) (phase_of (bus_of j))) (sym (begun ∙ e))
         (record {
           here = record { active = ap (λ (x : Area). x.active) moved ∙ from ∙ sym start; saved = ap (λ (x : Area). x.saved) moved ∙ from ∙ sym start };
           undone = tt;

@@ -1,6 +1,6 @@
 -- The data pointers of the process that is served, after a row with which a byte of a message crosses.
-use Rattle.std.proofs.Common.{ℕ, ◌≡◌, ◌⊎◌, inl, inr, ◌+◌, Bool, true, false, not, ◌&&◌, ◌∙◌, List, [], ◌∷◌, ◌++◌, Option, Some, None, refl, sym, ap, subst, true≢false}
-use Rattle.std.specs.Prelude.{if◌then◌else◌, is_some}
+use Rattle.std.proofs.Common.{ℕ, ◌≡◌, ◌⊎◌, inl, inr, ◌+◌, ◌<◌, ◌%◌, Bool, true, false, not, ◌&&◌, ◌∙◌, List, [], ◌∷◌, ◌++◌, length, Option, Some, None, refl, sym, ap, subst, true≢false}
+use Rattle.std.specs.Prelude.{if◌then◌else◌, is_some, slice_index_or}
 use Rattle.std.proofs.lemmas.Option.{same_Some}
 use Rattle.bus_base.specs.declared.ProcId.{ProcId}
 use Rattle.bus_trace.specs.LineSet.{LineSet}
@@ -31,8 +31,9 @@ use Rattle.bus_dialogue.specs.declared.exchange.Cause.TheVariants as causes
 use Rattle.bus_dialogue.specs.declared.exchange.Next.TheVariants as nexts
 use Rattle.bus_dialogue.specs.declared.exchange.Phase.{Phase}
 use Rattle.bus_dialogue.specs.declared.exchange.Phase.TheVariants as phases
+use Rattle.bus_dialogue.specs.Exchange.{bytes_of_messages}
 use Rattle.bus_dialogue.specs.NextPhase.{phase_of}
-use Rattle.bus_dialogue.specs.Words.{is_name, parity_error}
+use Rattle.bus_dialogue.specs.Words.{detected_error, is_name, parity_error}
 use Rattle.bus_due.specs.RunState.{RunState, bus_of, carried_here}
 use Rattle.bus_due.specs.RunSteps.{run_state_after}
 use Rattle.bus_books.specs.Giving.{Gives}
@@ -41,16 +42,19 @@ use Rattle.bus_books.specs.Traces.{GoesOn}
 use Rattle.bus_books.specs.Rows.{RowKind, still, strikes, crosses, turns, reading_in, IsRowIn}
 use Rattle.bus_books.specs.Speaking.{IsSpeaking}
 use Rattle.bus_books.proofs.InConnection.{reading_is}
-use Rattle.link_laws.proofs.PulseSteps.{count_more}
-use Rattle.trace_laws.specs.DataPointers.{is_marked, OnUndo, policy_for, run_start, IsUndisturbed, PointersOf, PointersIf, PointersAsked, PointersIn, IsUnnamed, ServedPointers, unnamed, named}
+use Rattle.bus_books.proofs.Gives.{few_messages}
+use Rattle.trace_laws.specs.DataPointers.{is_marked, OnUndo, run_policy, run_start, IsUndisturbed, PointersOf, PointersIf, PointersAsked, PointersIn, IsUnnamed, ServedPointers, unnamed, named}
+use Rattle.trace_laws.proofs.OfferRows.{request_rises}
 use Rattle.trace_laws.proofs.PointerBegins.{same_process}
 use Rattle.trace_laws.proofs.PointerLeavings.{on_command}
 use Rattle.trace_laws.proofs.PointerStories.{SamePointers}
 use Rattle.trace_laws.proofs.PointerKept.{unnamed_as}
 use Rattle.trace_laws.proofs.PointerMessages.{or_undone, IsHeard, in_half, in_whole, in_lost, in_named, refused_on, settled_on}
-use Rattle.trace_laws.proofs.PointerHearings.{heard_in, refusal_said, rejection_said, status_rejects}
-use Rattle.trace_laws.proofs.PointerStorySteps.{message_byte, out_story, out_link, in_known, in_unknown, in_none, in_found, in_link}
-use Rattle.trace_laws.proofs.PointerRows.{Meets, Goes, Crosses, crosses_in, crossed_as, into_of, out_of, byte_of, told_served, block_crosses, run_crosses, quiet_row, requests_rise, in_lines, out_lines, io_out_false, io_in_false, is_block_phase}
+use Rattle.trace_laws.proofs.PointerHearings.{heard_in, refusal_said, rejection_said, data_rejects, status_rejects}
+use Rattle.trace_laws.proofs.PointerStorySteps.{message_byte, out_story, in_known, in_unknown, in_none, in_found, in_link}
+use Rattle.trace_laws.proofs.PointerRows.{Meets, Goes, Crosses, crosses_in, crossed_as, into_of, out_of, byte_of, told_served, block_crosses, run_crosses, read_crosses, quiet_row, in_lines, out_lines, io_out_false, io_in_false, is_block_phase}
+use Rattle.bus_books.proofs.Knows.{nameless_item}
+use Rattle.bus_story.proofs.StorySteps.{out_link}
 
 -- ---- what is heard
 
@@ -60,12 +64,20 @@ message_in_is s k row n c q l x e = let b = in_lines (bus_of k) e in λ i. b.msg
 message_out_is : (s : ScenarioValue) (k : RunState) (row : Row) (n : Connection) (c : Change) (q : Process) (l : Link) → Crosses s k row n c q l → phase_of (bus_of k) ≡ phases.MessageOut → is_message_out (bus_of k) ≡ true
 message_out_is s k row n c q l x e = let b = out_lines (bus_of k) e in λ i. b.0 i && ((x.meets.of.phase b.0).0) i && not (b.1 i)
 
+-- The byte that crosses is the next of the messages.
+given_next : (s : ScenarioValue) (k : RunState) (row : Row) (n : Connection) (c : Change) (q : Process) (l : Link) → Crosses s k row n c q l
+    → phase_of (bus_of k) ≡ phases.MessageIn
+    → (c.after.data_bits % 256 ≡ slice_index_or (bytes_of_messages k.exchange.plan.messages) k.handshakes.requests 0)
+    × (k.handshakes.requests < length (bytes_of_messages k.exchange.plan.messages)) × (k.exchange.begun ≡ true)
+given_next s k row n c q l x e =
+    x.meets.of.gives (ap is_message_in (sym x.meets.of.row_is.bus_is) ∙ message_in_is s k row n c q l x e) (ap (λ (z : Option ℕ). is_some z) x.receiver)
+
 hears : (s : ScenarioValue) (k : RunState) (row : Row) (n : Connection) (c : Change) (q : Process) (l : Link) → Crosses s k row n c q l → phase_of (bus_of k) ≡ phases.MessageIn → IsHeard k.exchange.plan.messages k.handshakes.requests (into_of k c)
 hears s k row n c q l x e =
     let r = x.meets.of.row_is in
     let now = message_in_is s k row n c q l x e in
     let before : is_message_in c.before ≡ true = ap is_message_in (sym r.bus_is) ∙ now in
-    let next = x.meets.of.gives before (ap (λ (z : Option ℕ). is_some z) x.receiver) in
+    let next = given_next s k row n c q l x e in
     let given = x.meets.gives.in_message_in x.begun now in
     subst (λ (o : Option MsgIn). IsHeard k.exchange.plan.messages k.handshakes.requests o) (sym (ap (λ (b : Bool). if b then whole_in (got_in (k.story.bus_state.dialogue.half ++ byte_of c ∷ [])) else None) before))
     (heard_in k.exchange.plan.messages k.story.bus_state.dialogue.half k.handshakes.requests (byte_of c) x.meets.gives.fit given next.0 next.1)
@@ -73,19 +85,10 @@ hears s k row n c q l x e =
 asked_more : (s : ScenarioValue) (k : RunState) (row : Row) (n : Connection) (c : Change) (q : Process) (l : Link) → Crosses s k row n c q l → phase_of (bus_of k) ≡ phases.MessageIn → (run_state_after s k row).handshakes.requests ≡ k.handshakes.requests + 1
 asked_more s k row n c q l x e =
     let io : c.before.io ≡ true = ap (λ (y : LineSet). y.io) (sym x.meets.of.row_is.bus_is) ∙ (in_lines (bus_of k) e).io in
+    let next = given_next s k row n c q l x e in
     ap (λ (y : Handshakes). y.requests) x.in_is.handshakes_is ∙ ap (λ (f : Bool). (handshakes_after f (Some n) c row.time k.handshakes).requests) x.fault
-    ∙ requests_rise n c row.time x.dev k.handshakes x.same_phase io x.receiver ∙ count_more k.handshakes.requests x.meets.short_asked
-
--- What a message names is the process that is served, or nothing; one that is no name leaves what is known.
-nameless_item : (b : Sent) (commands : List CmdDef) (l : Link) (m : MsgIn) → is_name m ≡ false → (link_after_name b commands l m).item ≡ l.item
-nameless_item b commands l to_initiator.CommandComplete e = refl
-nameless_item b commands l to_initiator.SavePointer e = refl
-nameless_item b commands l to_initiator.RestorePointers e = refl
-nameless_item b commands l to_initiator.Disconnect e = refl
-nameless_item b commands l (to_initiator.Identify lun) e = absurd (true≢false e)
-nameless_item b commands l (to_initiator.SimpleTag tag) e = absurd (true≢false e)
-nameless_item b commands l (to_initiator.Sdtr offer) e = refl
-nameless_item b commands l to_initiator.Reject e = refl
+    ∙ request_rises n c row.time x.dev k.handshakes x.same_phase io x.receiver (length (bytes_of_messages k.exchange.plan.messages)) next.1
+    (few_messages k.exchange.plan.messages)
 
 data Names (next was : Option Item) (id : ProcId) (m : MsgIn) : Type 0 where
   known : next ≡ Some (process id) → Names next was id m
@@ -112,9 +115,9 @@ names_it s k row n c q l m x e em = go (is_name m) n.reselected refl refl
 -- ---- MESSAGE IN
 
 -- It stays unnamed.
-unnamed_on : (s : ScenarioValue) (k j : RunState) (q : Process) (l : Link) (c : CarriedBytes) → Goes s k j q → SamePointers (carried_here j q.id) c → j.story.link ≡ Some l → l.item ≡ None → IsUnnamed (policy_for s q) l c k.exchange (bus_of k) (run_start s k q) → ServedPointers s j q
+unnamed_on : (s : ScenarioValue) (k j : RunState) (q : Process) (l : Link) (c : CarriedBytes) → Goes s k j q → SamePointers (carried_here j q.id) c → j.story.link ≡ Some l → l.item ≡ None → IsUnnamed (run_policy s q) l c k.exchange (bus_of k) (run_start s k q) → ServedPointers s j q
 unnamed_on s k j q l c g same el none h =
-    unnamed l el none (subst (λ (x : ℕ). IsUnnamed (policy_for s q) l (carried_here j q.id) j.exchange (bus_of j) x) (sym g.start) (unnamed_as (policy_for s q) l c (carried_here j q.id) k.exchange j.exchange (bus_of k) (bus_of j) (run_start s k q) same g.plan g.begun g.phase h))
+    unnamed l el none (subst (λ (x : ℕ). IsUnnamed (run_policy s q) l (carried_here j q.id) j.exchange (bus_of j) x) (sym g.start) (unnamed_as (run_policy s q) l c (carried_here j q.id) k.exchange j.exchange (bus_of k) (bus_of j) (run_start s k q) same g.plan g.begun g.phase h))
 
 -- No message is whole with a byte of a message.
 half_story : (s : ScenarioValue) (k : RunState) (row : Row) (n : Connection) (c : Change) (q : Process) (l : Link) → Crosses s k row n c q l → c.before.msg ≡ true → out_of k c ≡ None → into_of k c ≡ None → SamePointers (carried_here (run_state_after s k row) q.id) (carried_here k q.id) × ((run_state_after s k row).story.link ≡ Some l)
@@ -136,17 +139,17 @@ no_in s k row n c q l x e =
 abbrev told : RunState → ScenarioValue → Link → MsgIn → Link
 told k s l m = record (link_after_name k.story.sent s.commands l m) { last = last_in m; before = l.last; undo = carried_if k.story l.item }
 
-in_named_crosses : (s : ScenarioValue) (k : RunState) (row : Row) (n : Connection) (c : Change) (q : Process) (l : Link) → Crosses s k row n c q l → l.item ≡ Some (process q.id) → phase_of (bus_of k) ≡ phases.MessageIn → PointersIn (policy_for s q) l (carried_here k q.id) k.exchange.plan.messages k.exchange.plan.next k.handshakes.requests (run_start s k q) → ServedPointers s (run_state_after s k row) q
+in_named_crosses : (s : ScenarioValue) (k : RunState) (row : Row) (n : Connection) (c : Change) (q : Process) (l : Link) → Crosses s k row n c q l → l.item ≡ Some (process q.id) → phase_of (bus_of k) ≡ phases.MessageIn → PointersIn (run_policy s q) l (carried_here k q.id) k.exchange.plan.messages k.exchange.plan.next k.handshakes.requests (run_start s k q) → ServedPointers s (run_state_after s k row) q
 in_named_crosses s k row n c q l x own e h = go (into_of k c) refl
   where
     j : RunState
     j = run_state_after s k row
 
-    more : (m : Link) (d : CarriedBytes) → SamePointers (carried_here j q.id) d → j.story.link ≡ Some m → m.item ≡ Some (process q.id) → PointersIn (policy_for s q) m d k.exchange.plan.messages k.exchange.plan.next (k.handshakes.requests + 1) (run_start s k q) → ServedPointers s j q
+    more : (m : Link) (d : CarriedBytes) → SamePointers (carried_here j q.id) d → j.story.link ≡ Some m → m.item ≡ Some (process q.id) → PointersIn (run_policy s q) m d k.exchange.plan.messages k.exchange.plan.next (k.handshakes.requests + 1) (run_start s k q) → ServedPointers s j q
     more m d same el em p =
         told_served s k j q m d x.row_in.goes x.begun same el em
-        (subst (λ (y : Phase). PointersOf (policy_for s q) m d k.exchange.plan j.handshakes (run_start s k q) y) (sym e)
-        (subst (λ (y : ℕ). PointersIn (policy_for s q) m d k.exchange.plan.messages k.exchange.plan.next y (run_start s k q)) (sym (asked_more s k row n c q l x e)) p))
+        (subst (λ (y : Phase). PointersOf (run_policy s q) m d k.exchange.plan j.handshakes (run_start s k q) y) (sym e)
+        (subst (λ (y : ℕ). PointersIn (run_policy s q) m d k.exchange.plan.messages k.exchange.plan.next y (run_start s k q)) (sym (asked_more s k row n c q l x e)) p))
 
     undo : carried_if k.story l.item ≡ Some (carried_here k q.id)
     undo = ap (λ (y : Option Item). carried_if k.story y) own
@@ -163,13 +166,13 @@ in_named_crosses s k row n c q l x own e h = go (into_of k c) refl
         keeps : (link_after_name k.story.sent s.commands l m).item ≡ Some (process q.id) → ServedPointers s j q
         keeps z =
             more (told k s l m) (carried_after_message (carried_here k q.id) m) (subst (λ (y : CarriedBytes). SamePointers (carried_here j q.id) y) (in_known s k.story l m q.id own z) made.0) link z
-            (in_whole (policy_for s q) l (told k s l m) (carried_here k q.id) k.exchange.plan.messages k.exchange.plan.next k.handshakes.requests (run_start s k q) m heard refl refl undo h)
+            (in_whole (run_policy s q) l (told k s l m) (carried_here k q.id) k.exchange.plan.messages k.exchange.plan.next k.handshakes.requests (run_start s k q) m heard refl refl undo h)
 
         by : Names (link_after_name k.story.sent s.commands l m).item l.item q.id m → ServedPointers s j q
         by (known z) = keeps z
         by (as_before z f) = keeps (z ∙ own)
         by (lost z f) =
-            let p = in_lost (policy_for s q) l (told k s l m) (carried_here k q.id) k.exchange.plan.messages k.exchange.plan.next k.handshakes.requests (run_start s k q) m heard refl refl undo f h in
+            let p = in_lost (run_policy s q) l (told k s l m) (carried_here k q.id) k.exchange.plan.messages k.exchange.plan.next k.handshakes.requests (run_start s k q) m heard refl refl undo f h in
             unnamed_on s k j q (told k s l m) (carried_here k q.id) x.row_in.goes (subst (λ (y : CarriedBytes). SamePointers (carried_here j q.id) y) (in_unknown s k.story l m q.id own z) made.0) link z
             (record { begun = x.begun; undone = p.undone; undisturbed = p.undisturbed; next = p.next_is; plain = p.plain; saved = p.saved; phase = inl e })
 
@@ -177,10 +180,10 @@ in_named_crosses s k row n c q l x own e h = go (into_of k c) refl
     go None em =
         let y = half_story s k row n c q l x (ap (λ (z : LineSet). z.msg) (sym x.meets.of.row_is.bus_is) ∙ (in_lines (bus_of k) e).msg) (no_out s k row n c q l x e) em in
         more l (carried_here k q.id) y.0 y.1 own
-        (in_half (policy_for s q) l (carried_here k q.id) k.exchange.plan.messages k.exchange.plan.next k.handshakes.requests (run_start s k q) (subst (λ (o : Option MsgIn). IsHeard k.exchange.plan.messages k.handshakes.requests o) em (hears s k row n c q l x e)) h)
+        (in_half (run_policy s q) l (carried_here k q.id) k.exchange.plan.messages k.exchange.plan.next k.handshakes.requests (run_start s k q) (subst (λ (o : Option MsgIn). IsHeard k.exchange.plan.messages k.handshakes.requests o) em (hears s k row n c q l x e)) h)
     go (Some m) em = whole m em (subst (λ (o : Option MsgIn). IsHeard k.exchange.plan.messages k.handshakes.requests o) em (hears s k row n c q l x e)) (names_it s k row n c q l m x e em)
 
-in_unnamed_crosses : (s : ScenarioValue) (k : RunState) (row : Row) (n : Connection) (c : Change) (q : Process) (l : Link) → Crosses s k row n c q l → l.item ≡ None → phase_of (bus_of k) ≡ phases.MessageIn → IsUnnamed (policy_for s q) l (carried_here k q.id) k.exchange (bus_of k) (run_start s k q) → ServedPointers s (run_state_after s k row) q
+in_unnamed_crosses : (s : ScenarioValue) (k : RunState) (row : Row) (n : Connection) (c : Change) (q : Process) (l : Link) → Crosses s k row n c q l → l.item ≡ None → phase_of (bus_of k) ≡ phases.MessageIn → IsUnnamed (run_policy s q) l (carried_here k q.id) k.exchange (bus_of k) (run_start s k q) → ServedPointers s (run_state_after s k row) q
 in_unnamed_crosses s k row n c q l x own e h = go (into_of k c) refl
   where
     j : RunState
@@ -198,7 +201,7 @@ in_unnamed_crosses s k row n c q l x own e h = go (into_of k c) refl
         link : j.story.link ≡ Some (told k s l m)
         link = made.1 ∙ in_link s k.story l m
 
-        disturbed : IsUndisturbed (policy_for s q) l → IsUndisturbed (policy_for s q) (told k s l m)
+        disturbed : IsUndisturbed (run_policy s q) l → IsUndisturbed (run_policy s q) (told k s l m)
         disturbed (inl y) = inl y
         disturbed (inr y) = inr (heard.plain h.plain, y.0)
 
@@ -212,9 +215,9 @@ in_unnamed_crosses s k row n c q l x own e h = go (into_of k c) refl
         by (as_before z f) = stays (z ∙ own)
         by (known z) =
             told_served s k j q (told k s l m) (carried_after_message (with_restored_pointers (carried_here k q.id)) m) x.row_in.goes x.begun (subst (λ (y : CarriedBytes). SamePointers (carried_here j q.id) y) (in_found s k.story l m q.id own z) made.0) link z
-            (subst (λ (y : Phase). PointersOf (policy_for s q) (told k s l m) (carried_after_message (with_restored_pointers (carried_here k q.id)) m) k.exchange.plan j.handshakes (run_start s k q) y) (sym e)
-            (subst (λ (y : ℕ). PointersIn (policy_for s q) (told k s l m) (carried_after_message (with_restored_pointers (carried_here k q.id)) m) k.exchange.plan.messages k.exchange.plan.next y (run_start s k q)) (sym (asked_more s k row n c q l x e))
-            (in_named (policy_for s q) l (told k s l m) (carried_here k q.id) k.exchange.plan.messages k.exchange.plan.next k.handshakes.requests (run_start s k q) m heard refl refl undo
+            (subst (λ (y : Phase). PointersOf (run_policy s q) (told k s l m) (carried_after_message (with_restored_pointers (carried_here k q.id)) m) k.exchange.plan j.handshakes (run_start s k q) y) (sym e)
+            (subst (λ (y : ℕ). PointersIn (run_policy s q) (told k s l m) (carried_after_message (with_restored_pointers (carried_here k q.id)) m) k.exchange.plan.messages k.exchange.plan.next y (run_start s k q)) (sym (asked_more s k row n c q l x e))
+            (in_named (run_policy s q) l (told k s l m) (carried_here k q.id) k.exchange.plan.messages k.exchange.plan.next k.handshakes.requests (run_start s k q) m heard refl refl undo
             (record { next_is = h.next; undisturbed = h.undisturbed; plain = h.plain; saved = h.saved; undone = h.undone }))))
 
     go : (o : Option MsgIn) → into_of k c ≡ o → ServedPointers s j q
@@ -263,24 +266,35 @@ heard_out s k row n c q l m x e eo =
     let made = crossed_as s k row n c q l (Some m) None x eo (no_in s k row n c q l x e) in
     (subst (λ (y : CarriedBytes). SamePointers (carried_here (run_state_after s k row) q.id) y) (out_story k.story l m q.id (undo_own s k row n c q l x)) made.0, made.1 ∙ out_link k.story l m)
 
-out_named_crosses : (s : ScenarioValue) (k : RunState) (row : Row) (n : Connection) (c : Change) (q : Process) (l : Link) → Crosses s k row n c q l → l.item ≡ Some (process q.id) → phase_of (bus_of k) ≡ phases.MessageOut → PointersAsked (policy_for s q) l (carried_here k q.id) k.exchange.plan (run_start s k q) k.exchange.plan.cause → ServedPointers s (run_state_after s k row) q
+out_named_crosses : (s : ScenarioValue) (k : RunState) (row : Row) (n : Connection) (c : Change) (q : Process) (l : Link) → Crosses s k row n c q l → l.item ≡ Some (process q.id) → phase_of (bus_of k) ≡ phases.MessageOut → PointersAsked (run_policy s q) l (carried_here k q.id) k.exchange.plan (run_start s k q) k.exchange.plan.cause → ServedPointers s (run_state_after s k row) q
 out_named_crosses s k row n c q l x own e h = go (out_of k c) refl
   where
     j : RunState
     j = run_state_after s k row
 
-    more : (m : Link) (d : CarriedBytes) → SamePointers (carried_here j q.id) d → j.story.link ≡ Some m → m.item ≡ Some (process q.id) → PointersAsked (policy_for s q) m d k.exchange.plan (run_start s k q) k.exchange.plan.cause → ServedPointers s j q
+    more : (m : Link) (d : CarriedBytes) → SamePointers (carried_here j q.id) d → j.story.link ≡ Some m → m.item ≡ Some (process q.id) → PointersAsked (run_policy s q) m d k.exchange.plan (run_start s k q) k.exchange.plan.cause → ServedPointers s j q
     more m d same el em p =
         told_served s k j q m d x.row_in.goes x.begun same el em
-        (subst (λ (y : Phase). PointersOf (policy_for s q) m d k.exchange.plan j.handshakes (run_start s k q) y) (sym e) p)
+        (subst (λ (y : Phase). PointersOf (run_policy s q) m d k.exchange.plan j.handshakes (run_start s k q) y) (sym e) p)
 
-    whole : (m : MsgOut) → out_of k c ≡ Some m → (cause : Cause) → k.exchange.plan.cause ≡ cause → PointersAsked (policy_for s q) l (carried_here k q.id) k.exchange.plan (run_start s k q) cause → PointersAsked (policy_for s q) (refused_link l m) (refused_bytes k q l m) k.exchange.plan (run_start s k q) cause
+    talks : IsSpeaking s n k.served k.exchange k.story.bus_state.dialogue
+    talks = speaking s k row n c q l x e
+
+    rejected : (m : MsgOut) → out_of k c ≡ Some m → k.exchange.speech.words ≡ detected_error → m ≡ to_target.DetectedError
+    rejected m eo words = said s k row n c q l m to_target.DetectedError x e eo (rejection_said k.exchange.speech k.exchange.plan k.story.bus_state.dialogue (byte_of c) words talks.heard (next_byte s k row n c q l x e))
+
+    disturbed : (m : MsgOut) → m ≡ to_target.DetectedError → IsUndisturbed (run_policy s q) l → IsUndisturbed (run_policy s q) (refused_link l m)
+    disturbed m is (inl z) = inl z
+    disturbed m is (inr z) = inr (ap (λ (y : MsgOut). last_out y l) is, z.1)
+
+    whole : (m : MsgOut) → out_of k c ≡ Some m → (cause : Cause) → k.exchange.plan.cause ≡ cause → PointersAsked (run_policy s q) l (carried_here k q.id) k.exchange.plan (run_start s k q) cause → PointersAsked (run_policy s q) (refused_link l m) (refused_bytes k q l m) k.exchange.plan (run_start s k q) cause
     whole m eo causes.Selected ec p = settled_on l (refused_link l m) (carried_here k q.id) (run_start s k q) (is_parity_error m) refl p
-    whole m eo causes.InMessage ec p = refused_on (policy_for s q) l (refused_link l m) (carried_here k q.id) k.exchange.plan.messages k.exchange.plan.next (run_start s k q) m (refusal s k row n c q l m x e eo ec) refl refl refl p
-    whole m eo causes.InData ec p = p
+    whole m eo causes.InMessage ec p = refused_on (run_policy s q) l (refused_link l m) (carried_here k q.id) k.exchange.plan.messages k.exchange.plan.next (run_start s k q) m (refusal s k row n c q l m x e eo ec) refl refl refl p
+    whole m eo causes.InData ec p =
+        let is : m ≡ to_target.DetectedError = rejected m eo (data_rejects s n k.served k.exchange k.story.bus_state.dialogue talks ec) in
+        (disturbed m is p.0, ap (λ (y : MsgOut). (refused_bytes k q l y).moved.saved) is ∙ p.1)
     whole m eo causes.InStatus ec p =
-        let talks = speaking s k row n c q l x e in
-        let is : m ≡ to_target.DetectedError = said s k row n c q l m to_target.DetectedError x e eo (rejection_said k.exchange.speech k.exchange.plan k.story.bus_state.dialogue (byte_of c) (status_rejects s n k.served k.exchange k.story.bus_state.dialogue talks ec) talks.heard (next_byte s k row n c q l x e)) in
+        let is : m ≡ to_target.DetectedError = rejected m eo (status_rejects s n k.served k.exchange k.story.bus_state.dialogue talks ec) in
         ap (λ (y : MsgOut). is_marked (refused_bytes k q l y)) is ∙ p
 
     go : (o : Option MsgOut) → out_of k c ≡ o → ServedPointers s j q
@@ -296,7 +310,7 @@ saved_undone start false o c u e = e
 saved_undone start true None c u e = e
 saved_undone start true (Some v) c u e = u
 
-out_unnamed_crosses : (s : ScenarioValue) (k : RunState) (row : Row) (n : Connection) (c : Change) (q : Process) (l : Link) → Crosses s k row n c q l → l.item ≡ None → phase_of (bus_of k) ≡ phases.MessageOut → k.exchange.plan.cause ≡ causes.InMessage → IsUnnamed (policy_for s q) l (carried_here k q.id) k.exchange (bus_of k) (run_start s k q) → ServedPointers s (run_state_after s k row) q
+out_unnamed_crosses : (s : ScenarioValue) (k : RunState) (row : Row) (n : Connection) (c : Change) (q : Process) (l : Link) → Crosses s k row n c q l → l.item ≡ None → phase_of (bus_of k) ≡ phases.MessageOut → k.exchange.plan.cause ≡ causes.InMessage → IsUnnamed (run_policy s q) l (carried_here k q.id) k.exchange (bus_of k) (run_start s k q) → ServedPointers s (run_state_after s k row) q
 out_unnamed_crosses s k row n c q l x own e cause h = go (out_of k c) refl
   where
     j : RunState
@@ -319,7 +333,7 @@ out_unnamed_crosses s k row n c q l x own e cause h = go (out_of k c) refl
           phase = inr (e, cause);
         })
       where
-        disturbed : (k.exchange.plan.next ≡ nexts.Command) ⊎ (m ≡ to_target.ParityError) → IsUndisturbed (policy_for s q) l → IsUndisturbed (policy_for s q) (refused_link l m)
+        disturbed : (k.exchange.plan.next ≡ nexts.Command) ⊎ (m ≡ to_target.ParityError) → IsUndisturbed (run_policy s q) l → IsUndisturbed (run_policy s q) (refused_link l m)
         disturbed (inl z) u = on_command (sym h.next ∙ z)
         disturbed (inr z) (inl u) = inl u
         disturbed (inr z) (inr u) = inr (ap (λ (y : MsgOut). last_out y l) z ∙ u.1, u.1)
@@ -332,11 +346,11 @@ crossed_served s k row n c q dev meets ef ep er h = go h
     j : RunState
     j = run_state_after s k row
 
-    by_phase : (l : Link) → Crosses s k row n c q l → l.item ≡ Some (process q.id) → (phase : Phase) → phase_of (bus_of k) ≡ phase → PointersOf (policy_for s q) l (carried_here k q.id) k.exchange.plan k.handshakes (run_start s k q) phase → ServedPointers s j q
+    by_phase : (l : Link) → Crosses s k row n c q l → l.item ≡ Some (process q.id) → (phase : Phase) → phase_of (bus_of k) ≡ phase → PointersOf (run_policy s q) l (carried_here k q.id) k.exchange.plan k.handshakes (run_start s k q) phase → ServedPointers s j q
     by_phase l x own phases.Command e p = block_crosses s k row n c q l x own (ap is_block_phase e) h
     by_phase l x own phases.Status e p = block_crosses s k row n c q l x own (ap is_block_phase e) h
     by_phase l x own phases.DataOut e p = run_crosses s k row n c q l x own e p
-    by_phase l x own phases.DataIn e p = absurd p
+    by_phase l x own phases.DataIn e p = read_crosses s k row n c q l x own e p
     by_phase l x own phases.MessageIn e p = in_named_crosses s k row n c q l x own e p
     by_phase l x own phases.MessageOut e p = out_named_crosses s k row n c q l x own e p
 
@@ -352,7 +366,7 @@ crossed_served s k row n c q dev meets ef ep er h = go h
     go (named l el own p) =
         let x = crosses_in s k row n c q l dev meets ef ep er el in
         by_phase l x own (phase_of (bus_of k)) refl
-        (subst (λ (b : Bool). PointersIf b (policy_for s q) l (carried_here k q.id) k.exchange.plan k.handshakes (run_start s k q) (phase_of (bus_of k))) x.begun p)
+        (subst (λ (b : Bool). PointersIf b (run_policy s q) l (carried_here k q.id) k.exchange.plan k.handshakes (run_start s k q) (phase_of (bus_of k))) x.begun p)
 
 pub phase_served : (s : ScenarioValue) (k : RunState) (row : Row) (n : Connection) (c : Change) (q : Process) → Meets s k row n c q → changes_phase c ≡ false → ServedPointers s k q → ServedPointers s (run_state_after s k row) q
 phase_served s k row n c q meets ep h = go meets.of.row_is.kind

@@ -30,7 +30,7 @@ use Rattle.bus_due.specs.RunState.{RunState, bus_of, carried_here}
 use Rattle.bus_due.specs.RunSteps.{run_state_after, progress_after, leaving_of}
 use Rattle.bus_due.specs.Tasks.{is_writing}
 use Rattle.bus_books.proofs.Lookups.{self_id}
-use Rattle.trace_laws.specs.DataPointers.{is_marked, run_start, run_step, policy_for, PointersOf, PointersIf, PointersAsked, PointersIn, PointersRefused, calm, restores, saves, saved, disconnects, closes, still_calm, restores_again, saves_again, disconnects_again, closes_again, IsWaiting, ServedPointers, unnamed, named}
+use Rattle.trace_laws.specs.DataPointers.{is_marked, run_policy, run_start, run_step, PointersOf, PointersIf, PointersAsked, PointersIn, PointersRefused, calm, restores, saves, saved, disconnects, closes, still_calm, restores_again, saves_again, disconnects_again, closes_again, IsWaiting, ServedPointers, unnamed, named}
 use Rattle.trace_laws.proofs.PointerStories.{lost_over, over_put, ends_over, over_more}
 use Rattle.trace_laws.proofs.PointerWaits.{SameSaved, ends_same}
 
@@ -46,7 +46,7 @@ ended : (s : ScenarioValue) (k : RunState) (q : Process) → ServedPointers s k 
 ended s k q (unnamed l el none h) = stands h.saved
 ended s k q (named l el own h) = go k.exchange.begun h
   where
-    into : PointersIn (policy_for s q) l (carried_here k q.id) k.exchange.plan.messages k.exchange.plan.next k.handshakes.requests (run_start s k q) → Ended s k q
+    into : PointersIn (run_policy s q) l (carried_here k q.id) k.exchange.plan.messages k.exchange.plan.next k.handshakes.requests (run_start s k q) → Ended s k q
     into (calm h) = stands h.here.saved
     into (restores em en u e w) = stands e
     into (saves em en u z e) = loses l el own u
@@ -54,28 +54,28 @@ ended s k q (named l el own h) = go k.exchange.begun h
     into (disconnects em en e w) = stands e
     into (closes em en e w) = marked e
 
-    refused : PointersRefused (policy_for s q) l (carried_here k q.id) k.exchange.plan.messages k.exchange.plan.next (run_start s k q) → Ended s k q
+    refused : PointersRefused (run_policy s q) l (carried_here k q.id) k.exchange.plan.messages k.exchange.plan.next (run_start s k q) → Ended s k q
     refused (still_calm h) = stands h.here.saved
     refused (restores_again em en u e w) = stands e
     refused (saves_again em en u b e w) = loses l el own u
     refused (disconnects_again em en e w) = stands e
     refused (closes_again em en e w) = marked e
 
-    asked : (cause : Cause) → PointersAsked (policy_for s q) l (carried_here k q.id) k.exchange.plan (run_start s k q) cause → Ended s k q
+    asked : (cause : Cause) → PointersAsked (run_policy s q) l (carried_here k q.id) k.exchange.plan (run_start s k q) cause → Ended s k q
     asked causes.Selected h = stands h.here.saved
     asked causes.InMessage h = refused h
-    asked causes.InData h = absurd h
+    asked causes.InData h = stands h.1
     asked causes.InStatus h = marked h
 
-    phase : (x : Phase) → PointersOf (policy_for s q) l (carried_here k q.id) k.exchange.plan k.handshakes (run_start s k q) x → Ended s k q
+    phase : (x : Phase) → PointersOf (run_policy s q) l (carried_here k q.id) k.exchange.plan k.handshakes (run_start s k q) x → Ended s k q
     phase phases.Command h = stands h.here.saved
     phase phases.DataOut h = stands h.saved
-    phase phases.DataIn h = absurd h
+    phase phases.DataIn h = stands h.saved
     phase phases.Status h = marked h
     phase phases.MessageIn h = into h
     phase phases.MessageOut h = asked k.exchange.plan.cause h
 
-    go : (b : Bool) → PointersIf b (policy_for s q) l (carried_here k q.id) k.exchange.plan k.handshakes (run_start s k q) (phase_of (bus_of k)) → Ended s k q
+    go : (b : Bool) → PointersIf b (run_policy s q) l (carried_here k q.id) k.exchange.plan k.handshakes (run_start s k q) (phase_of (bus_of k)) → Ended s k q
     go true h = phase (phase_of (bus_of k)) h
     go false h = stands h.here.saved
 
@@ -159,7 +159,7 @@ step_over n c b sent = go (has_item b.sent.over (command_item n)) refl (list_any
         (λ i. has_item (if (sent i && not (e i)) && true then story_with_end b (record { command = n; sense = false }) by_reset else if q then story_with_over b (sense_item n) else b).sent.over (command_item n))
         ∙ over_put b.sent.over (command_item n) (self_id (record { command = n; sense = false }))
 
-reset_over : (commands : List CmdDef) (n i m : ℕ) (c : CmdDef) (b : Story) → m ≡ n + i → command_at commands (suc i) ≡ Some c → has_item b.sent.sent (command_item m) ≡ true → has_item (story_with_ends (λ c. true) (λ c. true) by_reset n commands b).sent.over (command_item m) ≡ true
+pub reset_over : (commands : List CmdDef) (n i m : ℕ) (c : CmdDef) (b : Story) → m ≡ n + i → command_at commands (suc i) ≡ Some c → has_item b.sent.sent (command_item m) ≡ true → has_item (story_with_ends (λ c. true) (λ c. true) by_reset n commands b).sent.over (command_item m) ≡ true
 reset_over [] n i m c b e f sent = absurd (none_some f)
   where
     none_some : (let o : Option CmdDef = None in o) ≡ Some c → ⊥

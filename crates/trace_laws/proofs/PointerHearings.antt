@@ -20,7 +20,7 @@ use Rattle.bus_dialogue.specs.Words.{parity_error, detected_error}
 use Rattle.bus_books.specs.Listening.{Understanding, nothing_understood, understood, half_after}
 use Rattle.bus_books.specs.Giving.{AreGiven, OnMessages}
 use Rattle.bus_books.specs.Knowing.{IsNoName}
-use Rattle.bus_books.specs.Speaking.{AreWordsHeard, AreWordsFor, rejects_status, IsSpeaking}
+use Rattle.bus_books.specs.Speaking.{AreWordsHeard, AreWordsFor, rejects_data, rejects_status, IsSpeaking}
 use Rattle.bus_books.proofs.Hearable.{heard_next}
 use Rattle.bus_books.proofs.Saying.{says_byte}
 use Rattle.trace_laws.specs.DataPointers.{IsPlainIn}
@@ -103,6 +103,12 @@ rejection_said v p d byte e h eb = said_alone v p d byte 0x05 e h eb
 pub refusal_offers : (v : Speech) (p : Plan) (d : Dialogue) → v.words ≡ parity_error → AreWordsHeard v p d → d.is_last ≡ true → is_some p.said.offer ≡ false
 unfolding form_out
 refusal_offers v p d e h l = ap (λ (u : Understanding). is_some u.said.offer) (h.last l ∙ ap (λ (x : List ℕ). understood nothing_understood x) e)
+
+data_words : (s : ScenarioValue) (n : Connection) (served : Option Item) (x : Exchange) → AreWordsFor s n served x causes.InData → x.speech.words ≡ detected_error
+data_words s n served x (rejects_data e) = e
+
+pub data_rejects : (s : ScenarioValue) (n : Connection) (served : Option Item) (x : Exchange) (d : Dialogue) → IsSpeaking s n served x d → x.plan.cause ≡ causes.InData → x.speech.words ≡ detected_error
+data_rejects s n served x d h e = data_words s n served x (subst (λ (c : Cause). AreWordsFor s n served x c) e h.words_for)
 
 status_words : (s : ScenarioValue) (n : Connection) (served : Option Item) (x : Exchange) → AreWordsFor s n served x causes.InStatus → x.speech.words ≡ detected_error
 status_words s n served x (rejects_status e) = e

@@ -61,35 +61,48 @@ asked_as policy l c d p q start s e causes.Selected h = settled_as l c d start s
 asked_as policy l c d p q start s e causes.InMessage h =
     subst (λ (m : Messages). PointersRefused policy l d m q.next start) (sym e.messages)
     (subst (λ (n : Next). PointersRefused policy l d p.messages n start) (sym e.next) (refused_as policy l c d p.messages p.next start s h))
-asked_as policy l c d p q start s e causes.InData h = h
+asked_as policy l c d p q start s e causes.InData h = (h.0, saved_as d.moved c.moved start s.moved h.1)
 asked_as policy l c d p q start s e causes.InStatus h = s.marked h
 
-pub pointers_as : (policy : Policy) (l : Link) (c d : CarriedBytes) (p q : Plan) (h g : Handshakes) (start : ℕ) (phase : Phase) → SamePointers d c → SamePlan q p → (phase ≡ phases.MessageIn → g.requests ≡ h.requests) → (phase ≡ phases.DataOut → g.answers ≡ h.answers)
+-- The bytes of this phase that were asked for, or answered, are as many.
+pub record AreCountedSo (phase : Phase) (h g : Handshakes) : Type 0 where
+  pub said : phase ≡ phases.MessageIn → g.requests ≡ h.requests
+  pub given : phase ≡ phases.DataIn → g.requests ≡ h.requests
+  pub sent : phase ≡ phases.DataOut → g.answers ≡ h.answers
+
+pub counted_same : (phase : Phase) (h : Handshakes) → AreCountedSo phase h h
+counted_same phase h = record { said = λ z. refl; given = λ z. refl; sent = λ z. refl }
+
+pub pointers_as : (policy : Policy) (l : Link) (c d : CarriedBytes) (p q : Plan) (h g : Handshakes) (start : ℕ) (phase : Phase) → SamePointers d c → SamePlan q p → AreCountedSo phase h g
     → PointersOf policy l c p h start phase → PointersOf policy l d q g start phase
-pointers_as policy l c d p q h g start phases.Command s e r a k = settled_as l c d start s k
-pointers_as policy l c d p q h g start phases.DataOut s e r a k = record {
+pointers_as policy l c d p q h g start phases.Command s e r k = settled_as l c d start s k
+pointers_as policy l c d p q h g start phases.DataOut s e r k = record {
   plain = k.plain;
-  active = active_as d.moved c.moved (start + g.answers) s.moved (k.active ∙ ap (λ (x : ℕ). start + x) (sym (a refl)));
+  active = active_as d.moved c.moved (start + g.answers) s.moved (k.active ∙ ap (λ (x : ℕ). start + x) (sym (r.sent refl)));
   saved = saved_as d.moved c.moved start s.moved k.saved;
 }
-pointers_as policy l c d p q h g start phases.DataIn s e r a k = k
-pointers_as policy l c d p q h g start phases.Status s e r a k = s.marked k
-pointers_as policy l c d p q h g start phases.MessageIn s e r a k =
+pointers_as policy l c d p q h g start phases.DataIn s e r k = record {
+  plain = k.plain;
+  active = active_as d.moved c.moved (start + g.requests) s.moved (k.active ∙ ap (λ (x : ℕ). start + x) (sym (r.given refl)));
+  saved = saved_as d.moved c.moved start s.moved k.saved;
+}
+pointers_as policy l c d p q h g start phases.Status s e r k = s.marked k
+pointers_as policy l c d p q h g start phases.MessageIn s e r k =
     subst (λ (m : Messages). PointersIn policy l d m q.next g.requests start) (sym e.messages)
     (subst (λ (n : Next). PointersIn policy l d p.messages n g.requests start) (sym e.next)
-    (subst (λ (x : ℕ). PointersIn policy l d p.messages p.next x start) (sym (r refl)) (in_as policy l c d p.messages p.next h.requests start s k)))
-pointers_as policy l c d p q h g start phases.MessageOut s e r a k =
+    (subst (λ (x : ℕ). PointersIn policy l d p.messages p.next x start) (sym (r.said refl)) (in_as policy l c d p.messages p.next h.requests start s k)))
+pointers_as policy l c d p q h g start phases.MessageOut s e r k =
     subst (λ (x : Cause). PointersAsked policy l d q start x) (sym e.cause) (asked_as policy l c d p q start s e p.cause k)
 
 -- Whether a phase has begun or not.
-pub by_as : (policy : Policy) (l : Link) (c d : CarriedBytes) (x y : Exchange) (h g : Handshakes) (b w : LineSet) (start : ℕ) → SamePointers d c → SamePlan y.plan x.plan → y.begun ≡ x.begun → phase_of w ≡ phase_of b → (phase_of b ≡ phases.MessageIn → g.requests ≡ h.requests) → (phase_of b ≡ phases.DataOut → g.answers ≡ h.answers)
+pub by_as : (policy : Policy) (l : Link) (c d : CarriedBytes) (x y : Exchange) (h g : Handshakes) (b w : LineSet) (start : ℕ) → SamePointers d c → SamePlan y.plan x.plan → y.begun ≡ x.begun → phase_of w ≡ phase_of b → AreCountedSo (phase_of b) h g
     → PointersBy policy l c x h b start → PointersBy policy l d y g w start
-by_as policy l c d x y h g b w start s e eb ep r a k =
+by_as policy l c d x y h g b w start s e eb ep r k =
     subst (λ (q : Bool). PointersIf q policy l d y.plan g start (phase_of w)) (sym eb)
     (subst (λ (z : Phase). PointersIf x.begun policy l d y.plan g start z) (sym ep) (go x.begun k))
   where
     go : (q : Bool) → PointersIf q policy l c x.plan h start (phase_of b) → PointersIf q policy l d y.plan g start (phase_of b)
-    go true k = pointers_as policy l c d x.plan y.plan h g start (phase_of b) s e r a k
+    go true k = pointers_as policy l c d x.plan y.plan h g start (phase_of b) s e r k
     go false k = settled_as l c d start s k
 
 pub unnamed_as : (policy : Policy) (l : Link) (c d : CarriedBytes) (x y : Exchange) (b w : LineSet) (start : ℕ) → SamePointers d c → SamePlan y.plan x.plan → y.begun ≡ x.begun → phase_of w ≡ phase_of b → IsUnnamed policy l c x b start → IsUnnamed policy l d y w start

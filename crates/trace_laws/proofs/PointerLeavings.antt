@@ -28,7 +28,7 @@ use Rattle.bus_dialogue.specs.declared.exchange.Task.{Task}
 use Rattle.bus_dialogue.specs.Arrivals.{policy_of, is_never}
 use Rattle.bus_dialogue.specs.DataRuns.{runs_in_all}
 use Rattle.bus_dialogue.specs.Exchange.{one_message, no_messages}
-use Rattle.bus_dialogue.specs.NextPhase.{Serving, bus_free, phase_entry, message_in_entry, with_task, recovery, recovery_limit, pointer_restoration, next_data_phase, request_or_command, after_offer, message_repetition, message_out_leaving, after_messages, disconnection, after_arrival, command_leaving, disconnect_messages, after_run, data_out_leaving, phase_leaving}
+use Rattle.bus_dialogue.specs.NextPhase.{Serving, bus_free, phase_entry, message_in_entry, with_task, recovery, recovery_limit, pointer_restoration, next_data_phase, request_or_command, after_offer, message_repetition, message_out_leaving, after_messages, disconnection, after_arrival, command_leaving, disconnect_messages, after_run, data_in_leaving, data_out_leaving, phase_leaving}
 use Rattle.bus_dialogue.specs.PhaseBytes.{one_if}
 use Rattle.bus_dialogue.specs.Words.{reply_to, request_by, is_naming, target_answer}
 use Rattle.bus_books.specs.Giving.{OnMessage, OnMessages}
@@ -43,20 +43,21 @@ pub data MoreRuns (policy : Policy) (made step count : ℕ) : Type 0 where
   in_bursts : (most : ℕ) → policy ≡ policies.Burst most → made * step + count ≡ (made + 1) * step → MoreRuns policy made step count
   from_start : (most : ℕ) → policy ≡ policies.NoSave most → step ≡ 0 → MoreRuns policy made step count
 
--- What is known of a process that writes as a phase is left.
-pub record WritesBy (v : Serving) (h : Handshakes) (t : Task) (step : ℕ) (phase : Phase) : Type 0 where
+-- What is known of a process, whose data are cut into runs by this policy, as a phase is left.
+pub record MovesBy (policy : Policy) (v : Serving) (h : Handshakes) (t : Task) (step : ℕ) (phase : Phase) : Type 0 where
   pub task_is : v.task ≡ Some t
-  pub writes : t.writes ≡ true
-  pub at_once : v.arrival ≡ arrivals.AtOnce → is_never (policy_of v.def) ≡ true
-  pub guest : v.arrival ≡ arrivals.Guest → runs_in_all (policy_of v.def) t ≡ 0
-  pub more : phase ≡ phases.DataOut → v.plan.struck ≡ false → nat_lt (t.runs + 1) (runs_in_all (policy_of v.def) t) ≡ true → MoreRuns (policy_of v.def) t.runs step h.answers
+  pub at_once : v.arrival ≡ arrivals.AtOnce → is_never policy ≡ true
+  pub guest : v.arrival ≡ arrivals.Guest → (is_never policy ≡ true) ⊎ (runs_in_all (policy_of v.def) t ≡ 0)
+  pub cut : nat_lt (t.runs + 1) (runs_in_all (policy_of v.def) t) ≡ true → policy ≡ policy_of v.def
+  pub sent : phase ≡ phases.DataOut → v.plan.struck ≡ false → nat_lt (t.runs + 1) (runs_in_all (policy_of v.def) t) ≡ true → MoreRuns (policy_of v.def) t.runs step h.answers
+  pub given : phase ≡ phases.DataIn → nat_lt (t.runs + 1) (runs_in_all (policy_of v.def) t) ≡ true → MoreRuns (policy_of v.def) t.runs step h.requests
 
 -- STATUS marks the process. MESSAGE OUT is entered where ATN is true after bytes to the initiator.
 abbrev pub Enters : Policy → Link → CarriedBytes → ℕ → Messages → Next → Option Phase → Type 0
 Enters policy l c start m next None = ⊤
 Enters policy l c start m next (Some phases.Command) = IsSettled l c start
 Enters policy l c start m next (Some phases.DataOut) = IsInRun policy l c 0 start
-Enters policy l c start m next (Some phases.DataIn) = ⊥
+Enters policy l c start m next (Some phases.DataIn) = IsInRun policy l c 0 start
 Enters policy l c start m next (Some phases.Status) = ⊤
 Enters policy l c start m next (Some phases.MessageIn) = PointersIn policy l c m next 0 start
 Enters policy l c start m next (Some phases.MessageOut) = ⊥
@@ -87,21 +88,21 @@ tasked : (policy : Policy) (l : Link) (c : CarriedBytes) (made step : ℕ) (o : 
 tasked policy l c made step o t f e h = subst (λ (x : Option Task). EntersBy policy l c made step (with_task x f)) (sym e) h
 
 -- STATUS, and what ends the connection, ask nothing; all else begins where the pointers stand at the run.
-enters_data : (policy : Policy) (l : Link) (c : CarriedBytes) (made step : ℕ) (t : Task) → t.writes ≡ true → IsInRun policy l c 0 (made * step) ⊎ (nat_lt t.runs (runs_in_all policy t) ≡ false) → EntersBy policy l c made step (phase_entry (next_data_phase policy t t.runs))
-enters_data policy l c made step t w h = go t.replied (nat_lt t.runs (runs_in_all policy t)) refl t.writes w
+enters_data : (policy def : Policy) (l : Link) (c : CarriedBytes) (made step : ℕ) (t : Task) → IsInRun policy l c 0 (made * step) ⊎ (nat_lt t.runs (runs_in_all def t) ≡ false) → EntersBy policy l c made step (phase_entry (next_data_phase def t t.runs))
+enters_data policy def l c made step t h = go t.replied (nat_lt t.runs (runs_in_all def t)) refl t.writes
   where
-    run : (r : Bool) → nat_lt t.runs (runs_in_all policy t) ≡ r → r ≡ true → IsInRun policy l c 0 (made * step)
+    run : (r : Bool) → nat_lt t.runs (runs_in_all def t) ≡ r → r ≡ true → IsInRun policy l c 0 (made * step)
     run r e z = by h
       where
-        by : IsInRun policy l c 0 (made * step) ⊎ (nat_lt t.runs (runs_in_all policy t) ≡ false) → IsInRun policy l c 0 (made * step)
+        by : IsInRun policy l c 0 (made * step) ⊎ (nat_lt t.runs (runs_in_all def t) ≡ false) → IsInRun policy l c 0 (made * step)
         by (inl k) = k
         by (inr k) = absurd (true≢false (sym z ∙ sym e ∙ k))
 
-    go : (a b : Bool) → nat_lt t.runs (runs_in_all policy t) ≡ b → (d : Bool) → d ≡ true → EntersBy policy l c made step (phase_entry (if a then phases.Status else if b then (if d then phases.DataOut else phases.DataIn) else phases.Status))
-    go true b e d z = tt
-    go false true e true z = same_start policy l c made step no_messages nexts.FreeBus (Some phases.DataOut) (run true e refl)
-    go false true e false z = absurd (true≢false (sym z))
-    go false false e d z = tt
+    go : (a b : Bool) → nat_lt t.runs (runs_in_all def t) ≡ b → (d : Bool) → EntersBy policy l c made step (phase_entry (if a then phases.Status else if b then (if d then phases.DataOut else phases.DataIn) else phases.Status))
+    go true b e d = tt
+    go false true e true = same_start policy l c made step no_messages nexts.FreeBus (Some phases.DataOut) (run true e refl)
+    go false true e false = same_start policy l c made step no_messages nexts.FreeBus (Some phases.DataIn) (run true e refl)
+    go false false e d = tt
 
 settled_run : (policy : Policy) (l : Link) (c : CarriedBytes) (start : ℕ) → IsUndisturbed policy l → IsAt c.moved start → IsInRun policy l c 0 start
 settled_run policy l c start u h = record { plain = u; active = h.active ∙ none start; saved = h.saved }
@@ -179,7 +180,7 @@ refused_settled policy l c m next start n (saves_again em en u b e w) = free_com
 refused_settled policy l c m next start n (disconnects_again em en e w) = free_command (sym en ∙ n)
 refused_settled policy l c m next start n (closes_again em en e w) = closing_command next en n
 
-after_refusal_enters : (policy : Policy) (l : Link) (c : CarriedBytes) (made step : ℕ) (v : Serving) (h : Handshakes) (t : Task) (phase : Phase) → WritesBy v h t step phase → (is_some v.plan.said.offer ≡ true → v.plan.next ≡ nexts.Command) → PointersRefused policy l c v.plan.messages v.plan.next (made * step) → EntersBy policy l c made step (message_out_leaving v causes.InMessage)
+after_refusal_enters : (policy : Policy) (l : Link) (c : CarriedBytes) (made step : ℕ) (v : Serving) (h : Handshakes) (t : Task) (phase : Phase) → MovesBy policy v h t step phase → (is_some v.plan.said.offer ≡ true → v.plan.next ≡ nexts.Command) → PointersRefused policy l c v.plan.messages v.plan.next (made * step) → EntersBy policy l c made step (message_out_leaving v causes.InMessage)
 after_refusal_enters policy l c made step v h t phase w answers k = go (is_some v.plan.said.offer) refl (is_naming v.plan.messages.first)
   where
     repeats : EntersBy policy l c made step (message_repetition v.plan)
@@ -227,45 +228,49 @@ in_run policy l c m next count start asked n (saved em en u b z e w) = free_go (
 in_run policy l c m next count start asked n (disconnects em en e w) = free_go (sym en ∙ n)
 in_run policy l c m next count start asked n (closes em en e w) = closing_go next en n
 
-in_enters : (l : Link) (c : CarriedBytes) (made step : ℕ) (v : Serving) (h : Handshakes) (t : Task) (phase : Phase) → WritesBy v h t step phase → (h.requests == 0) ≡ false → (next : Next) → v.plan.next ≡ next → PointersIn (policy_of v.def) l c v.plan.messages v.plan.next h.requests (made * step) → EntersBy (policy_of v.def) l c made step (after_messages v next)
-in_enters l c made step v h t phase w asked nexts.Command e k = same_start (policy_of v.def) l c made step no_messages nexts.FreeBus (Some phases.Command) (in_settled (policy_of v.def) l c v.plan.messages v.plan.next h.requests (made * step) e k)
-in_enters l c made step v h t phase w asked nexts.Status e k = tt
-in_enters l c made step v h t phase w asked nexts.GoOn e k =
-    tasked (policy_of v.def) l c made step v.task t (λ t. phase_entry (next_data_phase (policy_of v.def) t t.runs)) w.task_is
-    (enters_data (policy_of v.def) l c made step t w.writes (inl (in_run (policy_of v.def) l c v.plan.messages v.plan.next h.requests (made * step) asked e k)))
-in_enters l c made step v h t phase w asked nexts.FreeBus e k = tt
+in_enters : (policy : Policy) (l : Link) (c : CarriedBytes) (made step : ℕ) (v : Serving) (h : Handshakes) (t : Task) (phase : Phase) → MovesBy policy v h t step phase → (h.requests == 0) ≡ false → (next : Next) → v.plan.next ≡ next → PointersIn policy l c v.plan.messages v.plan.next h.requests (made * step) → EntersBy policy l c made step (after_messages v next)
+in_enters policy l c made step v h t phase w asked nexts.Command e k = same_start policy l c made step no_messages nexts.FreeBus (Some phases.Command) (in_settled policy l c v.plan.messages v.plan.next h.requests (made * step) e k)
+in_enters policy l c made step v h t phase w asked nexts.Status e k = tt
+in_enters policy l c made step v h t phase w asked nexts.GoOn e k =
+    tasked policy l c made step v.task t (λ t. phase_entry (next_data_phase (policy_of v.def) t t.runs)) w.task_is
+    (enters_data policy (policy_of v.def) l c made step t (inl (in_run policy l c v.plan.messages v.plan.next h.requests (made * step) asked e k)))
+in_enters policy l c made step v h t phase w asked nexts.FreeBus e k = tt
 
 no_less : (n m : ℕ) → m ≡ 0 → nat_lt n m ≡ false
 no_less n m e = grind (arith, nat_tests)
 
-command_enters : (l : Link) (c : CarriedBytes) (made step : ℕ) (v : Serving) (h : Handshakes) (t : Task) (phase : Phase) → WritesBy v h t step phase → IsSettled l c (made * step) → EntersBy (policy_of v.def) l c made step (command_leaving v v.arrival)
-command_enters l c made step v h t phase w k =
-    tasked (policy_of v.def) l c made step v.task t (λ t. if v.plan.struck then recovery v.def t (pointer_restoration nexts.Command) (phase_entry phases.Status) else after_arrival v.def t v.arrival) w.task_is (go v.plan.struck)
+command_enters : (policy : Policy) (l : Link) (c : CarriedBytes) (made step : ℕ) (v : Serving) (h : Handshakes) (t : Task) (phase : Phase) → MovesBy policy v h t step phase → IsSettled l c (made * step) → EntersBy policy l c made step (command_leaving v v.arrival)
+command_enters policy l c made step v h t phase w k =
+    tasked policy l c made step v.task t (λ t. if v.plan.struck then recovery v.def t (pointer_restoration nexts.Command) (phase_entry phases.Status) else after_arrival v.def t v.arrival) w.task_is (go v.plan.struck)
   where
-    arrives : (a : Arrival) → v.arrival ≡ a → EntersBy (policy_of v.def) l c made step (after_arrival v.def t a)
+    arrives : (a : Arrival) → v.arrival ≡ a → EntersBy policy l c made step (after_arrival v.def t a)
     arrives arrivals.Refused e = tt
-    arrives arrivals.Guest e = enters_data (policy_of v.def) l c made step t w.writes (inr (no_less t.runs (runs_in_all (policy_of v.def) t) (w.guest e)))
-    arrives arrivals.AtOnce e = enters_data (policy_of v.def) l c made step t w.writes (inl (settled_run (policy_of v.def) l c (made * step) (inl (w.at_once e)) k.here))
-    arrives arrivals.Queued e = same_start (policy_of v.def) l c made step (one_message to_initiator.Disconnect) nexts.FreeBus (Some phases.MessageIn) (nameless_calm (policy_of v.def) l c (one_message to_initiator.Disconnect) nexts.FreeBus (made * step) free_on (refl, tt) k)
+    arrives arrivals.Guest e = by (w.guest e)
+      where
+        by : (is_never policy ≡ true) ⊎ (runs_in_all (policy_of v.def) t ≡ 0) → EntersBy policy l c made step (phase_entry (next_data_phase (policy_of v.def) t t.runs))
+        by (inl z) = enters_data policy (policy_of v.def) l c made step t (inl (settled_run policy l c (made * step) (inl z) k.here))
+        by (inr z) = enters_data policy (policy_of v.def) l c made step t (inr (no_less t.runs (runs_in_all (policy_of v.def) t) z))
+    arrives arrivals.AtOnce e = enters_data policy (policy_of v.def) l c made step t (inl (settled_run policy l c (made * step) (inl (w.at_once e)) k.here))
+    arrives arrivals.Queued e = same_start policy l c made step (one_message to_initiator.Disconnect) nexts.FreeBus (Some phases.MessageIn) (nameless_calm policy l c (one_message to_initiator.Disconnect) nexts.FreeBus (made * step) free_on (refl, tt) k)
 
-    go : (q : Bool) → EntersBy (policy_of v.def) l c made step (if q then recovery v.def t (pointer_restoration nexts.Command) (phase_entry phases.Status) else after_arrival v.def t v.arrival)
+    go : (q : Bool) → EntersBy policy l c made step (if q then recovery v.def t (pointer_restoration nexts.Command) (phase_entry phases.Status) else after_arrival v.def t v.arrival)
     go true =
-        recovers (policy_of v.def) l c made step v.def t (pointer_restoration nexts.Command) (phase_entry phases.Status)
-        (same_start (policy_of v.def) l c made step (one_message to_initiator.RestorePointers) nexts.Command (Some phases.MessageIn) (nameless_calm (policy_of v.def) l c (one_message to_initiator.RestorePointers) nexts.Command (made * step) command_on (refl, tt) k)) tt
+        recovers policy l c made step v.def t (pointer_restoration nexts.Command) (phase_entry phases.Status)
+        (same_start policy l c made step (one_message to_initiator.RestorePointers) nexts.Command (Some phases.MessageIn) (nameless_calm policy l c (one_message to_initiator.RestorePointers) nexts.Command (made * step) command_on (refl, tt) k)) tt
     go false = arrives v.arrival refl
 
--- A run of DATA OUT.
-run_enters : (policy : Policy) (l : Link) (c : CarriedBytes) (t : Task) (step count : ℕ) → (nat_lt (t.runs + 1) (runs_in_all policy t) ≡ true → MoreRuns policy t.runs step count) → IsInRun policy l c count (t.runs * step) → EntersBy policy l c t.runs step (after_run policy t)
-run_enters policy l c t step count more k = go (nat_lt (t.runs + 1) (runs_in_all policy t)) refl
+-- A run is done.
+run_enters : (policy def : Policy) (l : Link) (c : CarriedBytes) (t : Task) (step count : ℕ) → (nat_lt (t.runs + 1) (runs_in_all def t) ≡ true → policy ≡ def) → (nat_lt (t.runs + 1) (runs_in_all def t) ≡ true → MoreRuns def t.runs step count) → IsInRun policy l c count (t.runs * step) → EntersBy policy l c t.runs step (after_run def t)
+run_enters policy def l c t step count same more k = go (nat_lt (t.runs + 1) (runs_in_all def t)) refl
   where
     burst : (p : Policy) (most : ℕ) → p ≡ policies.Burst most → IsUndisturbed p l → l.last ≡ plain
     burst p most e (inl z) = absurd (true≢false (sym z ∙ ap is_never e))
     burst p most e (inr z) = z.0
 
-    follows : MoreRuns policy t.runs step count → EntersBy policy l c t.runs step (record (disconnection (disconnect_messages policy)) { done = true })
-    follows (in_bursts most e there) =
-        saves (ap disconnect_messages e) refl (burst policy most e k.plain) refl (k.active ∙ there)
-    follows (from_start most e zero) =
+    follows : policy ≡ def → MoreRuns def t.runs step count → EntersBy policy l c t.runs step (record (disconnection (disconnect_messages def)) { done = true })
+    follows is (in_bursts most e there) =
+        saves (ap disconnect_messages e) refl (burst policy most (is ∙ e) k.plain) refl (k.active ∙ there)
+    follows is (from_start most e zero) =
         disconnects (ap disconnect_messages e) refl (k.saved ∙ none zero) (inl refl)
       where
         none : step ≡ 0 → t.runs * step ≡ (t.runs + 1) * step
@@ -274,23 +279,28 @@ run_enters policy l c t step count more k = go (nat_lt (t.runs + 1) (runs_in_all
             nil : (a b : ℕ) → a * 0 ≡ b * 0
             nil a b = omega arith
 
-    go : (q : Bool) → nat_lt (t.runs + 1) (runs_in_all policy t) ≡ q → EntersBy policy l c t.runs step (record (if q then disconnection (disconnect_messages policy) else phase_entry phases.Status) { done = true })
-    go true e = follows (more e)
+    go : (q : Bool) → nat_lt (t.runs + 1) (runs_in_all def t) ≡ q → EntersBy policy l c t.runs step (record (if q then disconnection (disconnect_messages def) else phase_entry phases.Status) { done = true })
+    go true e = follows (same e) (more e)
     go false e = tt
 
-data_enters : (l : Link) (c : CarriedBytes) (step : ℕ) (v : Serving) (h : Handshakes) (t : Task) → WritesBy v h t step phases.DataOut → IsInRun (policy_of v.def) l c h.answers (t.runs * step) → EntersBy (policy_of v.def) l c t.runs step (data_out_leaving v)
-data_enters l c step v h t w k =
-    tasked (policy_of v.def) l c t.runs step v.task t (λ t. if v.plan.struck then recovery v.def t (pointer_restoration nexts.GoOn) (phase_entry phases.Status) else after_run (policy_of v.def) t) w.task_is (go v.plan.struck refl)
+reads_enter : (policy : Policy) (l : Link) (c : CarriedBytes) (step : ℕ) (v : Serving) (h : Handshakes) (t : Task) → MovesBy policy v h t step phases.DataIn → IsInRun policy l c h.requests (t.runs * step) → EntersBy policy l c t.runs step (data_in_leaving v)
+reads_enter policy l c step v h t w k =
+    tasked policy l c t.runs step v.task t (λ t. after_run (policy_of v.def) t) w.task_is (run_enters policy (policy_of v.def) l c t step h.requests w.cut (λ z. w.given refl z) k)
+
+data_enters : (policy : Policy) (l : Link) (c : CarriedBytes) (step : ℕ) (v : Serving) (h : Handshakes) (t : Task) → MovesBy policy v h t step phases.DataOut → IsInRun policy l c h.answers (t.runs * step) → EntersBy policy l c t.runs step (data_out_leaving v)
+data_enters policy l c step v h t w k =
+    tasked policy l c t.runs step v.task t (λ t. if v.plan.struck then recovery v.def t (pointer_restoration nexts.GoOn) (phase_entry phases.Status) else after_run (policy_of v.def) t) w.task_is (go v.plan.struck refl)
   where
-    go : (q : Bool) → v.plan.struck ≡ q → EntersBy (policy_of v.def) l c t.runs step (if q then recovery v.def t (pointer_restoration nexts.GoOn) (phase_entry phases.Status) else after_run (policy_of v.def) t)
+    go : (q : Bool) → v.plan.struck ≡ q → EntersBy policy l c t.runs step (if q then recovery v.def t (pointer_restoration nexts.GoOn) (phase_entry phases.Status) else after_run (policy_of v.def) t)
     go true e =
-        recovers (policy_of v.def) l c t.runs step v.def t (pointer_restoration nexts.GoOn) (phase_entry phases.Status)
-        (same_start (policy_of v.def) l c t.runs step (one_message to_initiator.RestorePointers) nexts.GoOn (Some phases.MessageIn) (restores refl refl k.plain k.saved (inl refl))) tt
-    go false e = run_enters (policy_of v.def) l c t step h.answers (λ z. w.more refl e z) k
+        recovers policy l c t.runs step v.def t (pointer_restoration nexts.GoOn) (phase_entry phases.Status)
+        (same_start policy l c t.runs step (one_message to_initiator.RestorePointers) nexts.GoOn (Some phases.MessageIn) (restores refl refl k.plain k.saved (inl refl))) tt
+    go false e = run_enters policy (policy_of v.def) l c t step h.answers w.cut (λ z. w.sent refl e z) k
 
 -- Where ATN is true after bytes to the initiator.
 abbrev pub is_attended : Phase → Bool
 is_attended phases.MessageIn = true
+is_attended phases.DataIn = true
 is_attended phases.Status = true
 is_attended _ = false
 
@@ -301,22 +311,26 @@ unless : (policy : Policy) (l : Link) (c : CarriedBytes) (made step : ℕ) (phas
 unless policy l c made step phase true x e h = inl (e, refl, refl)
 unless policy l c made step phase false x e h = inr h
 
-pub leaves_enter : (l : Link) (c : CarriedBytes) (step : ℕ) (v : Serving) (h : Handshakes) (t : Task) (atn : Bool) (phase : Phase) → WritesBy v h t step phase → (phase ≡ phases.MessageIn → (h.requests == 0) ≡ false) → (phase ≡ phases.MessageOut → v.plan.cause ≡ causes.InMessage → is_some v.plan.said.offer ≡ true → v.plan.next ≡ nexts.Command)
-    → PointersOf (policy_of v.def) l c v.plan h (t.runs * step) phase → Leads (policy_of v.def) l c t.runs step phase (phase_leaving v atn phase)
-leaves_enter l c step v h t atn phases.MessageOut w asked answers k = inr (go v.plan.cause refl k)
+pub leaves_enter : (policy : Policy) (l : Link) (c : CarriedBytes) (step : ℕ) (v : Serving) (h : Handshakes) (t : Task) (atn : Bool) (phase : Phase) → MovesBy policy v h t step phase → (phase ≡ phases.MessageIn → (h.requests == 0) ≡ false) → (phase ≡ phases.MessageOut → v.plan.cause ≡ causes.InMessage → is_some v.plan.said.offer ≡ true → v.plan.next ≡ nexts.Command)
+    → PointersOf policy l c v.plan h (t.runs * step) phase → Leads policy l c t.runs step phase (phase_leaving v atn phase)
+leaves_enter policy l c step v h t atn phases.MessageOut w asked answers k = inr (go v.plan.cause refl k)
   where
-    go : (cause : Cause) → v.plan.cause ≡ cause → PointersAsked (policy_of v.def) l c v.plan (t.runs * step) cause → EntersBy (policy_of v.def) l c t.runs step (message_out_leaving v cause)
-    go causes.Selected e k = after_opening_enters (policy_of v.def) l c t.runs step v k
-    go causes.InMessage e k = after_refusal_enters (policy_of v.def) l c t.runs step v h t phases.MessageOut w (λ z. answers refl e z) k
-    go causes.InData e k = absurd k
-    go causes.InStatus e k = status_enters (policy_of v.def) l c t.runs step v t w.task_is k
-leaves_enter l c step v h t atn phases.MessageIn w asked answers k =
-    unless (policy_of v.def) l c t.runs step phases.MessageIn atn (after_messages v v.plan.next) refl (in_enters l c t.runs step v h t phases.MessageIn w (asked refl) v.plan.next refl k)
-leaves_enter l c step v h t atn phases.Command w asked answers k = inr (command_enters l c t.runs step v h t phases.Command w k)
-leaves_enter l c step v h t atn phases.DataIn w asked answers k = absurd k
-leaves_enter l c step v h t atn phases.DataOut w asked answers k = inr (data_enters l c step v h t w k)
-leaves_enter l c step v h t atn phases.Status w asked answers k =
-    unless (policy_of v.def) l c t.runs step phases.Status atn (disconnection (one_message to_initiator.CommandComplete)) refl (closes (inl refl) (inr refl) k (inl refl))
+    go : (cause : Cause) → v.plan.cause ≡ cause → PointersAsked policy l c v.plan (t.runs * step) cause → EntersBy policy l c t.runs step (message_out_leaving v cause)
+    go causes.Selected e k = after_opening_enters policy l c t.runs step v k
+    go causes.InMessage e k = after_refusal_enters policy l c t.runs step v h t phases.MessageOut w (λ z. answers refl e z) k
+    go causes.InData e k =
+        tasked policy l c t.runs step v.task t (λ t. recovery v.def t (pointer_restoration nexts.GoOn) (phase_entry phases.Status)) w.task_is
+        (recovers policy l c t.runs step v.def t (pointer_restoration nexts.GoOn) (phase_entry phases.Status)
+        (same_start policy l c t.runs step (one_message to_initiator.RestorePointers) nexts.GoOn (Some phases.MessageIn) (restores refl refl k.0 k.1 (inl refl))) tt)
+    go causes.InStatus e k = status_enters policy l c t.runs step v t w.task_is k
+leaves_enter policy l c step v h t atn phases.MessageIn w asked answers k =
+    unless policy l c t.runs step phases.MessageIn atn (after_messages v v.plan.next) refl (in_enters policy l c t.runs step v h t phases.MessageIn w (asked refl) v.plan.next refl k)
+leaves_enter policy l c step v h t atn phases.Command w asked answers k = inr (command_enters policy l c t.runs step v h t phases.Command w k)
+leaves_enter policy l c step v h t atn phases.DataIn w asked answers k =
+    unless policy l c t.runs step phases.DataIn atn (data_in_leaving v) refl (reads_enter policy l c step v h t w k)
+leaves_enter policy l c step v h t atn phases.DataOut w asked answers k = inr (data_enters policy l c step v h t w k)
+leaves_enter policy l c step v h t atn phases.Status w asked answers k =
+    unless policy l c t.runs step phases.Status atn (disconnection (one_message to_initiator.CommandComplete)) refl (closes (inl refl) (inr refl) k (inl refl))
 
 -- ---- refused messages, before the process is named
 

@@ -9,7 +9,6 @@ use Rattle.bus_trace.specs.declared.connection.Connection.{Connection}
 use Rattle.bus_trace.specs.Terms.{is_fault, receiver_in}
 use Rattle.bus_trace.specs.Phases.{changes_phase, is_message_out, is_message_in}
 use Rattle.bus_lines.specs.Handshakes.{Handshakes, no_handshakes}
-use Rattle.scenario.specs.declared.value.Policy.{Policy}
 use Rattle.scenario.specs.Value.{ScenarioValue}
 use Rattle.disk_array.specs.Processes.{Process}
 use Rattle.bus_story.specs.CarriedBytes.{Area, CarriedBytes, is_status_phase}
@@ -24,12 +23,10 @@ use Rattle.bus_dialogue.specs.declared.exchange.Next.TheVariants as nexts
 use Rattle.bus_dialogue.specs.declared.exchange.Phase.{Phase}
 use Rattle.bus_dialogue.specs.declared.exchange.Phase.TheVariants as phases
 use Rattle.bus_dialogue.specs.declared.exchange.Plan.{Plan}
-use Rattle.bus_dialogue.specs.Arrivals.{policy_of}
 use Rattle.bus_dialogue.specs.Exchange.{bytes_of_messages, from_byte, plan_anew}
 use Rattle.bus_dialogue.specs.NextPhase.{Serving, phase_of, phase_leaving, leaving_by, message_out_leaving}
 use Rattle.bus_dialogue.specs.PhaseBytes.{one_if}
 use Rattle.bus_dialogue.specs.Planning.{cause_after, plan_in_message_out, plan_in_phase}
-use Rattle.bus_due.specs.Defs.{target_def_of}
 use Rattle.bus_due.specs.LastingState.{progress_in}
 use Rattle.bus_due.specs.RunState.{RunState, bus_of, carried_here, item_of, process_served}
 use Rattle.bus_due.specs.RunSteps.{run_state_after}
@@ -37,17 +34,17 @@ use Rattle.bus_due.specs.Sights.{hearing_of, leaving, serving_of}
 use Rattle.bus_books.specs.Giving.{OnMessages}
 use Rattle.bus_books.specs.Hearing.{is_in_phase, is_out_phase}
 use Rattle.bus_books.specs.Rows.{IsRowIn, reading_in}
-use Rattle.trace_laws.specs.DataPointers.{OnUndo, IsPlainIn, policy_for, run_start, run_step, PointersOf, PointersIf, PointersAsked, IsSettled, IsUnnamed, ServedPointers, unnamed, named}
-use Rattle.trace_laws.proofs.Impossible.{wrong'}
+use Rattle.trace_laws.specs.DataPointers.{OnUndo, IsPlainIn, run_policy, run_start, run_step, PointersOf, PointersIf, PointersAsked, IsSettled, IsUnnamed, ServedPointers, unnamed, named}
 use Rattle.trace_laws.proofs.InstructedTurns.{out_is}
 use Rattle.trace_laws.proofs.PhaseLines.{is_status}
-use Rattle.trace_laws.proofs.PointerKept.{SamePlan, pointers_as}
+use Rattle.trace_laws.proofs.PointerKept.{SamePlan, counted_same, pointers_as}
 use Rattle.trace_laws.proofs.PointerLeavings.{Enters, Leads, is_attended, leaves_enter, refusal_leads}
 use Rattle.trace_laws.proofs.PointerHearings.{refusal_offers}
-use Rattle.trace_laws.proofs.PointerRows.{Meets, in_lines, out_lines, phase_by}
+use Rattle.trace_laws.proofs.PointerRows.{Meets, in_lines, is_data_in, out_lines, phase_by}
 use Rattle.trace_laws.proofs.PointerTurns.{refused_from, TurnsBy, start_after, Turned, turned_is}
 use Rattle.trace_laws.proofs.TalkTurns.{from_named}
 use Rattle.trace_laws.proofs.TellFacts.{front_length}
+use Rattle.bus_base.proofs.Tests.{wrong'}
 
 -- ---- lines
 
@@ -76,6 +73,17 @@ status_cause b e = go b.msg b.cd b.io e
     go false false true z = wrong' z
     go false false false z = wrong' z
 
+data_cause : (b : LineSet) → is_data_in (phase_of b) ≡ true → cause_after b ≡ causes.InData
+data_cause b e = go b.msg b.cd b.io e
+  where
+    go : (m d i : Bool) → is_data_in (phase_by m d i) ≡ true → (if m && d && i then causes.InMessage else if d then causes.InStatus else causes.InData) ≡ causes.InData
+    go true d true z = wrong' z
+    go true d false z = wrong' z
+    go false true true z = wrong' z
+    go false true false z = wrong' z
+    go false false true z = refl
+    go false false false z = wrong' z
+
 -- ---- the next phase begins
 
 -- The plan as it begins.
@@ -91,41 +99,41 @@ plan_out w x p e b = λ i. if not (e i) then plan_there p x else if b i then pla
 plan_first : (w : Hearing) (x : Leaving) (p : Plan) → is_message_out w.change.after ≡ true → w.begun ≡ false → plan_in_phase w x p ≡ plan_anew p
 plan_first w x p e b = λ i. if not (e i) then plan_there p x else if b i then plan_in_message_out w p else plan_anew p
 
-finish : (s : ScenarioValue) (k j : RunState) (row : Row) (n : Connection) (c : Change) (q : Process) (l : Link) (p : Plan) (start : ℕ) (phase : Phase) → Turned s k j row n c q l → l.item ≡ Some (process q.id) → j.exchange.plan ≡ p → run_start s j q ≡ start → phase_of c.after ≡ phase → PointersOf (policy_for s q) l (carried_here j q.id) p no_handshakes start phase → ServedPointers s j q
+finish : (s : ScenarioValue) (k j : RunState) (row : Row) (n : Connection) (c : Change) (q : Process) (l : Link) (p : Plan) (start : ℕ) (phase : Phase) → Turned s k j row n c q l → l.item ≡ Some (process q.id) → j.exchange.plan ≡ p → run_start s j q ≡ start → phase_of c.after ≡ phase → PointersOf (run_policy s q) l (carried_here j q.id) p no_handshakes start phase → ServedPointers s j q
 finish s k j row n c q l p start phase t own ep es ee h =
     named l t.link own
-    (subst (λ (x : Bool). PointersIf x (policy_for s q) l (carried_here j q.id) j.exchange.plan j.handshakes (run_start s j q) (phase_of (bus_of j))) (sym t.exchange_begun)
-    (subst (λ (x : Phase). PointersOf (policy_for s q) l (carried_here j q.id) j.exchange.plan j.handshakes (run_start s j q) x) (sym (ap phase_of t.bus_is ∙ ee))
-    (subst (λ (x : ℕ). PointersOf (policy_for s q) l (carried_here j q.id) j.exchange.plan j.handshakes x phase) (sym es)
-    (subst (λ (x : Handshakes). PointersOf (policy_for s q) l (carried_here j q.id) j.exchange.plan x start phase) (sym t.handshakes_is)
-    (subst (λ (x : Plan). PointersOf (policy_for s q) l (carried_here j q.id) x no_handshakes start phase) (sym ep) h)))))
+    (subst (λ (x : Bool). PointersIf x (run_policy s q) l (carried_here j q.id) j.exchange.plan j.handshakes (run_start s j q) (phase_of (bus_of j))) (sym t.exchange_begun)
+    (subst (λ (x : Phase). PointersOf (run_policy s q) l (carried_here j q.id) j.exchange.plan j.handshakes (run_start s j q) x) (sym (ap phase_of t.bus_is ∙ ee))
+    (subst (λ (x : ℕ). PointersOf (run_policy s q) l (carried_here j q.id) j.exchange.plan j.handshakes x phase) (sym es)
+    (subst (λ (x : Handshakes). PointersOf (run_policy s q) l (carried_here j q.id) j.exchange.plan x start phase) (sym t.handshakes_is)
+    (subst (λ (x : Plan). PointersOf (run_policy s q) l (carried_here j q.id) x no_handshakes start phase) (sym ep) h)))))
 
 same_plan : (p : Plan) → SamePlan p p
 same_plan p = record { messages = refl; next = refl; cause = refl }
 
 -- What the process carried is the same.
-carried_on : (s : ScenarioValue) (k j : RunState) (row : Row) (n : Connection) (c : Change) (q : Process) (l : Link) (p : Plan) (start : ℕ) (phase : Phase) → Turned s k j row n c q l → PointersOf (policy_for s q) l (carried_here k q.id) p no_handshakes start phase → PointersOf (policy_for s q) l (carried_here j q.id) p no_handshakes start phase
-carried_on s k j row n c q l p start phase t h = pointers_as (policy_for s q) l (carried_here k q.id) (carried_here j q.id) p p no_handshakes no_handshakes start phase t.carried (same_plan p) (λ z. refl) (λ z. refl) h
+carried_on : (s : ScenarioValue) (k j : RunState) (row : Row) (n : Connection) (c : Change) (q : Process) (l : Link) (p : Plan) (start : ℕ) (phase : Phase) → Turned s k j row n c q l → PointersOf (run_policy s q) l (carried_here k q.id) p no_handshakes start phase → PointersOf (run_policy s q) l (carried_here j q.id) p no_handshakes start phase
+carried_on s k j row n c q l p start phase t h = pointers_as (run_policy s q) l (carried_here k q.id) (carried_here j q.id) p p no_handshakes no_handshakes start phase t.carried (same_plan p) (counted_same phase no_handshakes) h
 
 -- ---- the process is named
 
 enters_phase : (s : ScenarioValue) (k j : RunState) (row : Row) (n : Connection) (c : Change) (q : Process) (l : Link) (phase : Phase) → Turned s k j row n c q l → k.exchange.begun ≡ true → l.item ≡ Some (process q.id) → (c.after.msg ≡ true → c.after.cd ≡ true) → phase_of c.after ≡ phase
-    → Enters (policy_for s q) l (carried_here k q.id) (start_after s k n q) (leaving s k n.target).messages (leaving s k n.target).next (Some phase) → ServedPointers s j q
+    → Enters (run_policy s q) l (carried_here k q.id) (start_after s k n q) (leaving s k n.target).messages (leaving s k n.target).next (Some phase) → ServedPointers s j q
 enters_phase s k j row n c q l phase t b own known e h = go phase e h
   where
     to : (y : Phase) → is_out_phase y ≡ false → phase_of c.after ≡ y → j.exchange.plan ≡ plan_there k.exchange.plan (leaving s k n.target)
     to y z f = t.plan_is ∙ plan_to (hearing_of k row (reading_in k.story.bus_state n c false)) (leaving s k n.target) k.exchange.plan (out_is c.after known ∙ ap is_out_phase f ∙ z)
 
-    ends : (y : Phase) → is_out_phase y ≡ false → phase_of c.after ≡ y → PointersOf (policy_for s q) l (carried_here j q.id) (plan_there k.exchange.plan (leaving s k n.target)) no_handshakes (start_after s k n q) y → ServedPointers s j q
+    ends : (y : Phase) → is_out_phase y ≡ false → phase_of c.after ≡ y → PointersOf (run_policy s q) l (carried_here j q.id) (plan_there k.exchange.plan (leaving s k n.target)) no_handshakes (start_after s k n q) y → ServedPointers s j q
     ends y z f p = finish s k j row n c q l (plan_there k.exchange.plan (leaving s k n.target)) (start_after s k n q) y t own (to y z f) (t.start b) f p
 
-    on : (y : Phase) → PointersOf (policy_for s q) l (carried_here k q.id) (plan_there k.exchange.plan (leaving s k n.target)) no_handshakes (start_after s k n q) y → PointersOf (policy_for s q) l (carried_here j q.id) (plan_there k.exchange.plan (leaving s k n.target)) no_handshakes (start_after s k n q) y
+    on : (y : Phase) → PointersOf (run_policy s q) l (carried_here k q.id) (plan_there k.exchange.plan (leaving s k n.target)) no_handshakes (start_after s k n q) y → PointersOf (run_policy s q) l (carried_here j q.id) (plan_there k.exchange.plan (leaving s k n.target)) no_handshakes (start_after s k n q) y
     on y p = carried_on s k j row n c q l (plan_there k.exchange.plan (leaving s k n.target)) (start_after s k n q) y t p
 
-    go : (y : Phase) → phase_of c.after ≡ y → Enters (policy_for s q) l (carried_here k q.id) (start_after s k n q) (leaving s k n.target).messages (leaving s k n.target).next (Some y) → ServedPointers s j q
+    go : (y : Phase) → phase_of c.after ≡ y → Enters (run_policy s q) l (carried_here k q.id) (start_after s k n q) (leaving s k n.target).messages (leaving s k n.target).next (Some y) → ServedPointers s j q
     go phases.Command f p = ends phases.Command refl f (on phases.Command p)
     go phases.DataOut f p = ends phases.DataOut refl f (on phases.DataOut p)
-    go phases.DataIn f p = absurd p
+    go phases.DataIn f p = ends phases.DataIn refl f (on phases.DataIn p)
     go phases.Status f p = ends phases.Status refl f (t.marked own (status_phase c.after (ap is_status f)))
     go phases.MessageIn f p = ends phases.MessageIn refl f (on phases.MessageIn p)
     go phases.MessageOut f p = absurd p
@@ -138,7 +146,7 @@ start_stays s k j n q e d = e ∙ ap (λ (b : Bool). ((progress_in k.progress q.
 
 -- ATN is true after bytes to the initiator.
 attends_phase : (s : ScenarioValue) (k j : RunState) (row : Row) (n : Connection) (c : Change) (q : Process) (l : Link) → Meets s k row n c q → Turned s k j row n c q l → k.exchange.begun ≡ true → l.item ≡ Some (process q.id) → (c.after.msg ≡ true → c.after.cd ≡ true) → phase_of c.after ≡ phases.MessageOut → (leaving s k n.target).done ≡ false
-    → (phase_of (bus_of k) ≡ phases.MessageIn → (k.handshakes.requests == 0) ≡ false) → (phase : Phase) → phase_of (bus_of k) ≡ phase → is_attended phase ≡ true → PointersOf (policy_for s q) l (carried_here k q.id) k.exchange.plan k.handshakes (run_start s k q) phase → ServedPointers s j q
+    → (phase_of (bus_of k) ≡ phases.MessageIn → (k.handshakes.requests == 0) ≡ false) → (phase : Phase) → phase_of (bus_of k) ≡ phase → is_attended phase ≡ true → PointersOf (run_policy s q) l (carried_here k q.id) k.exchange.plan k.handshakes (run_start s k q) phase → ServedPointers s j q
 attends_phase s k j row n c q l meets t b own known to done asked phase e attended h = go phase e attended h
   where
     w : Hearing
@@ -153,23 +161,25 @@ attends_phase s k j row n c q l meets t b own known to done asked phase e attend
     start : run_start s j q ≡ run_start s k q
     start = start_stays s k j n q (t.start b) done
 
-    asks : PointersAsked (policy_for s q) l (carried_here k q.id) (plan_in_message_out w k.exchange.plan) (run_start s k q) (plan_in_message_out w k.exchange.plan).cause → ServedPointers s j q
+    asks : PointersAsked (run_policy s q) l (carried_here k q.id) (plan_in_message_out w k.exchange.plan) (run_start s k q) (plan_in_message_out w k.exchange.plan).cause → ServedPointers s j q
     asks p = finish s k j row n c q l (plan_in_message_out w k.exchange.plan) (run_start s k q) phases.MessageOut t own plan start to (carried_on s k j row n c q l (plan_in_message_out w k.exchange.plan) (run_start s k q) phases.MessageOut t p)
 
-    go : (y : Phase) → phase_of (bus_of k) ≡ y → is_attended y ≡ true → PointersOf (policy_for s q) l (carried_here k q.id) k.exchange.plan k.handshakes (run_start s k q) y → ServedPointers s j q
+    go : (y : Phase) → phase_of (bus_of k) ≡ y → is_attended y ≡ true → PointersOf (run_policy s q) l (carried_here k q.id) k.exchange.plan k.handshakes (run_start s k q) y → ServedPointers s j q
     go phases.MessageIn f z p =
         let now : is_message_in (bus_of k) ≡ true = in_cause (bus_of k) (λ m. (meets.of.phase m).0) f in
         let before : is_message_in c.before ≡ true = ap is_message_in (sym r.bus_is) ∙ now in
         let given = meets.gives.in_message_in b now in
         asks
-        (subst (λ (x : Bool). PointersAsked (policy_for s q) l (carried_here k q.id) (record (plan_anew k.exchange.plan) { cause = if x then causes.InMessage else if c.before.cd then causes.InStatus else causes.InData; messages = if x then from_byte k.exchange.plan.messages (k.handshakes.requests - 1) else k.exchange.plan.messages }) (run_start s k q) (if x then causes.InMessage else if c.before.cd then causes.InStatus else causes.InData)) (sym before)
-        (refused_from (policy_for s q) l (carried_here k q.id) k.exchange.plan.messages k.exchange.plan.next k.handshakes.requests (run_start s k q) (asked f) (front_length (bytes_of_messages k.exchange.plan.messages) k.story.bus_state.dialogue.half k.handshakes.requests given) p))
+        (subst (λ (x : Bool). PointersAsked (run_policy s q) l (carried_here k q.id) (record (plan_anew k.exchange.plan) { cause = if x then causes.InMessage else if c.before.cd then causes.InStatus else causes.InData; messages = if x then from_byte k.exchange.plan.messages (k.handshakes.requests - 1) else k.exchange.plan.messages }) (run_start s k q) (if x then causes.InMessage else if c.before.cd then causes.InStatus else causes.InData)) (sym before)
+        (refused_from (run_policy s q) l (carried_here k q.id) k.exchange.plan.messages k.exchange.plan.next k.handshakes.requests (run_start s k q) (asked f) (front_length (bytes_of_messages k.exchange.plan.messages) k.story.bus_state.dialogue.half k.handshakes.requests given) p))
     go phases.Status f z p =
         asks
-        (subst (λ (x : Cause). PointersAsked (policy_for s q) l (carried_here k q.id) (plan_in_message_out w k.exchange.plan) (run_start s k q) x) (sym (status_cause c.before (ap is_status (ap phase_of (sym r.bus_is) ∙ f)))) p)
+        (subst (λ (x : Cause). PointersAsked (run_policy s q) l (carried_here k q.id) (plan_in_message_out w k.exchange.plan) (run_start s k q) x) (sym (status_cause c.before (ap is_status (ap phase_of (sym r.bus_is) ∙ f)))) p)
+    go phases.DataIn f z p =
+        asks
+        (subst (λ (x : Cause). PointersAsked (run_policy s q) l (carried_here k q.id) (plan_in_message_out w k.exchange.plan) (run_start s k q) x) (sym (data_cause c.before (ap is_data_in (ap phase_of (sym r.bus_is) ∙ f)))) (p.plain, p.saved))
     go phases.Command f z p = wrong' z
     go phases.DataOut f z p = wrong' z
-    go phases.DataIn f z p = wrong' z
     go phases.MessageOut f z p = wrong' z
 
 -- What was heard of a refusal names no offer.
@@ -187,7 +197,7 @@ no_offer s k row n c q meets b ep e cause = go (meets.refuses b e cause)
     go (inr z) = inr (refusal_offers k.exchange.speech k.exchange.plan k.story.bus_state.dialogue z (meets.speaks.in_message_out b out).heard last)
 
 named_turns : (s : ScenarioValue) (k : RunState) (row : Row) (n : Connection) (c : Change) (q : Process) (l : Link) → Meets s k row n c q → TurnsBy s k n q → Turned s k (run_state_after s k row) row n c q l → changes_phase c ≡ true → k.exchange.begun ≡ true → l.item ≡ Some (process q.id) → (c.after.msg ≡ true → c.after.cd ≡ true) → (leaving s k n.target).to ≡ Some (phase_of c.after)
-    → PointersOf (policy_for s q) l (carried_here k q.id) k.exchange.plan k.handshakes (run_start s k q) (phase_of (bus_of k)) → ServedPointers s (run_state_after s k row) q
+    → PointersOf (run_policy s q) l (carried_here k q.id) k.exchange.plan k.handshakes (run_start s k q) (phase_of (bus_of k)) → ServedPointers s (run_state_after s k row) q
 named_turns s k row n c q l meets f t ep b own known to h = go leads
   where
     j : RunState
@@ -195,9 +205,6 @@ named_turns s k row n c q l meets f t ep b own known to h = go leads
 
     v : Serving
     v = serving_of s k n.target
-
-    same : policy_of v.def ≡ policy_for s q
-    same = ap (λ (x : ℕ). policy_of (target_def_of s x)) (sym f.target_is)
 
     asked : phase_of (bus_of k) ≡ phases.MessageIn → (k.handshakes.requests == 0) ≡ false
     asked e = (meets.of.leaves (ap changes_phase meets.of.row_is.change_is ∙ ep)).some e
@@ -212,18 +219,16 @@ named_turns s k row n c q l meets f t ep b own known to h = go leads
     leaving_is : leaving s k n.target ≡ phase_leaving v (bus_of k).atn (phase_of (bus_of k))
     leaving_is = ap (λ (x : Bool). leaving_by v x (bus_of k)) b
 
-    leads : Leads (policy_for s q) l (carried_here k q.id) (progress_in k.progress q.id).runs (run_step s q) (phase_of (bus_of k)) (leaving s k n.target)
+    leads : Leads (run_policy s q) l (carried_here k q.id) (progress_in k.progress q.id).runs (run_step s q) (phase_of (bus_of k)) (leaving s k n.target)
     leads =
-        subst (λ (x : Leaving). Leads (policy_for s q) l (carried_here k q.id) (progress_in k.progress q.id).runs (run_step s q) (phase_of (bus_of k)) x) (sym leaving_is)
-        (subst (λ (x : ℕ). Leads (policy_for s q) l (carried_here k q.id) x (run_step s q) (phase_of (bus_of k)) (phase_leaving v (bus_of k).atn (phase_of (bus_of k)))) f.runs_are
-        (subst (λ (x : Policy). Leads x l (carried_here k q.id) f.task.runs (run_step s q) (phase_of (bus_of k)) (phase_leaving v (bus_of k).atn (phase_of (bus_of k)))) same
-        (leaves_enter l (carried_here k q.id) (run_step s q) v k.handshakes f.task (bus_of k).atn (phase_of (bus_of k)) f.writes_by asked answers
-        (subst (λ (x : ℕ). PointersOf (policy_of v.def) l (carried_here k q.id) k.exchange.plan k.handshakes (x * run_step s q) (phase_of (bus_of k))) (sym f.runs_are)
-        (subst (λ (x : Policy). PointersOf x l (carried_here k q.id) k.exchange.plan k.handshakes (run_start s k q) (phase_of (bus_of k))) (sym same) h)))))
+        subst (λ (x : Leaving). Leads (run_policy s q) l (carried_here k q.id) (progress_in k.progress q.id).runs (run_step s q) (phase_of (bus_of k)) x) (sym leaving_is)
+        (subst (λ (x : ℕ). Leads (run_policy s q) l (carried_here k q.id) x (run_step s q) (phase_of (bus_of k)) (phase_leaving v (bus_of k).atn (phase_of (bus_of k)))) f.runs_are
+        (leaves_enter (run_policy s q) l (carried_here k q.id) (run_step s q) v k.handshakes f.task (bus_of k).atn (phase_of (bus_of k)) f.moves_by asked answers
+        (subst (λ (x : ℕ). PointersOf (run_policy s q) l (carried_here k q.id) k.exchange.plan k.handshakes (x * run_step s q) (phase_of (bus_of k))) (sym f.runs_are) h)))
 
-    go : Leads (policy_for s q) l (carried_here k q.id) (progress_in k.progress q.id).runs (run_step s q) (phase_of (bus_of k)) (leaving s k n.target) → ServedPointers s j q
+    go : Leads (run_policy s q) l (carried_here k q.id) (progress_in k.progress q.id).runs (run_step s q) (phase_of (bus_of k)) (leaving s k n.target) → ServedPointers s j q
     go (inl z) = attends_phase s k j row n c q l meets t b own known (sym (same_Some phases.MessageOut (phase_of c.after) (sym z.1 ∙ to))) z.2 asked (phase_of (bus_of k)) refl z.0 h
-    go (inr z) = enters_phase s k j row n c q l (phase_of c.after) t b own known refl (subst (λ (x : Option Phase). Enters (policy_for s q) l (carried_here k q.id) (start_after s k n q) (leaving s k n.target).messages (leaving s k n.target).next x) to z)
+    go (inr z) = enters_phase s k j row n c q l (phase_of c.after) t b own known refl (subst (λ (x : Option Phase). Enters (run_policy s q) l (carried_here k q.id) (start_after s k n q) (leaving s k n.target).messages (leaving s k n.target).next x) to z)
 
 -- The first phase after a selection.
 first_turns : (s : ScenarioValue) (k : RunState) (row : Row) (n : Connection) (c : Change) (q : Process) (l : Link) → Meets s k row n c q → Turned s k (run_state_after s k row) row n c q l → changes_phase c ≡ true → k.exchange.begun ≡ false → l.item ≡ Some (process q.id) → (c.after.msg ≡ true → c.after.cd ≡ true) → IsSettled l (carried_here k q.id) (run_start s k q) → ServedPointers s (run_state_after s k row) q
@@ -234,7 +239,7 @@ first_turns s k row n c q l meets t ep b own known h =
     let plan = t.plan_is ∙ plan_first w (leaving s k n.target) k.exchange.plan out b in
     finish s k j row n c q l (plan_anew k.exchange.plan) (run_start s k q) phases.MessageOut t own plan (t.start_first b) (is_out_phase_of c.after out)
     (carried_on s k j row n c q l (plan_anew k.exchange.plan) (run_start s k q) phases.MessageOut t
-    (subst (λ (x : Cause). PointersAsked (policy_for s q) l (carried_here k q.id) (plan_anew k.exchange.plan) (run_start s k q) x) (sym (meets.speaks.before_all b).cause_is) h))
+    (subst (λ (x : Cause). PointersAsked (run_policy s q) l (carried_here k q.id) (plan_anew k.exchange.plan) (run_start s k q) x) (sym (meets.speaks.before_all b).cause_is) h))
   where
     is_out_phase_of : (x : LineSet) → is_message_out x ≡ true → phase_of x ≡ phases.MessageOut
     is_out_phase_of x e = go x.msg x.cd x.io e
@@ -247,7 +252,7 @@ first_turns s k row n c q l meets t ep b own known h =
 
 -- ---- the process is not named yet
 
-unnamed_turns : (s : ScenarioValue) (k : RunState) (row : Row) (n : Connection) (c : Change) (q : Process) (l : Link) → Meets s k row n c q → Turned s k (run_state_after s k row) row n c q l → changes_phase c ≡ true → k.story.link ≡ Some l → l.item ≡ None → (c.after.msg ≡ true → c.after.cd ≡ true) → (leaving s k n.target).to ≡ Some (phase_of c.after) → IsUnnamed (policy_for s q) l (carried_here k q.id) k.exchange (bus_of k) (run_start s k q) → ServedPointers s (run_state_after s k row) q
+unnamed_turns : (s : ScenarioValue) (k : RunState) (row : Row) (n : Connection) (c : Change) (q : Process) (l : Link) → Meets s k row n c q → Turned s k (run_state_after s k row) row n c q l → changes_phase c ≡ true → k.story.link ≡ Some l → l.item ≡ None → (c.after.msg ≡ true → c.after.cd ≡ true) → (leaving s k n.target).to ≡ Some (phase_of c.after) → IsUnnamed (run_policy s q) l (carried_here k q.id) k.exchange (bus_of k) (run_start s k q) → ServedPointers s (run_state_after s k row) q
 unnamed_turns s k row n c q l meets t ep el none known to h = go h.phase
   where
     j : RunState
@@ -340,6 +345,6 @@ turns_served s k row n c q meets served f ep er ef known to h = go h
     go (unnamed l el none p) = unnamed_turns s k row n c q l meets (turned l el) ep el none known (to p.begun) p
     go (named l el own p) = by k.exchange.begun refl p
       where
-        by : (b : Bool) → k.exchange.begun ≡ b → PointersIf b (policy_for s q) l (carried_here k q.id) k.exchange.plan k.handshakes (run_start s k q) (phase_of (bus_of k)) → ServedPointers s (run_state_after s k row) q
+        by : (b : Bool) → k.exchange.begun ≡ b → PointersIf b (run_policy s q) l (carried_here k q.id) k.exchange.plan k.handshakes (run_start s k q) (phase_of (bus_of k)) → ServedPointers s (run_state_after s k row) q
         by true b p = named_turns s k row n c q l meets (f b) (turned l el) ep b own known (to b) p
         by false b p = first_turns s k row n c q l meets (turned l el) ep b own known p

@@ -14,6 +14,7 @@ use Rattle.bus_phases.specs.Dialogue.{fresh_bytes}
 use Rattle.msg_grammar.specs.declared.message.MsgIn.{MsgIn}
 use Rattle.msg_grammar.specs.declared.message.MsgOut.{MsgOut}
 use Rattle.msg_grammar.specs.Messages.{got_in, got_out}
+use Rattle.scenario.specs.declared.value.Policy.{Policy}
 use Rattle.scenario.specs.Value.{ScenarioValue}
 use Rattle.disk_array.specs.Processes.{Process}
 use Rattle.bus_story.specs.BusState.{RowReading, whole_in, whole_out, message_in, message_out}
@@ -40,18 +41,19 @@ use Rattle.bus_books.specs.Knowing.{Knows}
 use Rattle.bus_books.specs.Rows.{IsRowIn, reading_in}
 use Rattle.bus_books.specs.Speaking.{Speaks}
 use Rattle.bus_books.specs.Traces.{GoesOn}
-use Rattle.bus_books.proofs.Gives.{requests_stay, struck_same}
+use Rattle.bus_books.proofs.Gives.{requests_stay, struck_same, answered_same}
 use Rattle.bus_books.proofs.InConnection.{InConnection, in_connection, reading_is, same_phase_is}
-use Rattle.bus_books.proofs.Knows.{link_after}
+use Rattle.bus_books.proofs.Knows.{link_after, fault_link}
 use Rattle.link_laws.proofs.PulseSteps.{count_more}
-use Rattle.trace_laws.specs.DataPointers.{is_marked, OnUndo, IsAt, policy_for, run_start, PointersOf, PointersBy, PointersIf, PointersAsked, PointersIn, PointersRefused, IsInRun, IsSettled, IsUnnamed, ServedPointers, unnamed, named, UndoesServed, RefusesLater}
+use Rattle.trace_laws.specs.DataPointers.{is_marked, OnUndo, IsAt, run_start, run_policy, PointersOf, PointersBy, PointersIf, PointersAsked, PointersIn, PointersRefused, IsInRun, IsSettled, IsUnnamed, ServedPointers, unnamed, named, UndoesServed, RefusesLater}
 use Rattle.trace_laws.proofs.CommandStays.{phase_same}
-use Rattle.trace_laws.proofs.Impossible.{wrong', none_some}
-use Rattle.trace_laws.proofs.PhaseLines.{is_data_out}
+use Rattle.trace_laws.proofs.Impossible.{none_some}
 use Rattle.trace_laws.proofs.PointerStories.{SamePointers, same_on, events_same, story_row}
-use Rattle.trace_laws.proofs.PointerKept.{SamePlan, pointers_as, by_as, unnamed_as}
-use Rattle.trace_laws.proofs.PointerStorySteps.{fault_story, fault_link, byte_same, byte_moves, byte_story, byte_link}
-use Rattle.trace_laws.proofs.TalkRows.{answered_same}
+use Rattle.trace_laws.proofs.PointerKept.{SamePlan, AreCountedSo, counted_same, pointers_as, by_as, unnamed_as}
+use Rattle.trace_laws.proofs.PointerStorySteps.{fault_story, byte_same, byte_moves, byte_story}
+use Rattle.bus_base.proofs.Tests.{wrong'}
+use Rattle.bus_books.proofs.Faith.{is_data_out}
+use Rattle.bus_story.proofs.StorySteps.{byte_link}
 
 -- ---- what is known of the connection
 
@@ -63,8 +65,8 @@ pub record Meets (s : ScenarioValue) (k : RunState) (row : Row) (n : Connection)
   pub served : k.served ≡ Some (process q.id)
   pub undoes : UndoesServed k
   pub refuses : RefusesLater k
-  pub short : k.handshakes.answers + 1 < 2 ^ 64
-  pub short_asked : k.handshakes.requests + 1 < 2 ^ 64
+  pub short : k.exchange.begun ≡ true → phase_of (bus_of k) ≡ phases.DataOut → k.handshakes.answers + 1 < 2 ^ 64
+  pub short_asked : k.exchange.begun ≡ true → phase_of (bus_of k) ≡ phases.DataIn → k.handshakes.requests + 1 < 2 ^ 64
 
 -- ---- lines
 
@@ -107,6 +109,21 @@ run_lines b e = go b.msg b.cd b.io refl refl refl (ap is_data_out e)
     go false true false em ed ei z = wrong' z
     go false false true em ed ei z = wrong' z
     go false false false em ed ei z = (em, ed, ei)
+
+abbrev pub is_data_in : Phase → Bool
+is_data_in phases.DataIn = true
+is_data_in _ = false
+
+pub read_lines : (b : LineSet) → phase_of b ≡ phases.DataIn → (b.msg ≡ false) × (b.cd ≡ false) × (b.io ≡ true)
+read_lines b e = go b.msg b.cd b.io refl refl refl (ap is_data_in e)
+  where
+    go : (m d i : Bool) → b.msg ≡ m → b.cd ≡ d → b.io ≡ i → is_data_in (phase_by m d i) ≡ true → (b.msg ≡ false) × (b.cd ≡ false) × (b.io ≡ true)
+    go true d true em ed ei z = wrong' z
+    go true d false em ed ei z = wrong' z
+    go false true true em ed ei z = wrong' z
+    go false true false em ed ei z = wrong' z
+    go false false true em ed ei z = (em, ed, ei)
+    go false false false em ed ei z = wrong' z
 
 abbrev pub is_block_phase : Phase → Bool
 is_block_phase phases.Command = true
@@ -184,23 +201,23 @@ pub record Goes (s : ScenarioValue) (k j : RunState) (q : Process) : Type 0 wher
   pub start : run_start s j q ≡ run_start s k q
 
 -- Nothing is told of the process.
-pub stays_served : (s : ScenarioValue) (k j : RunState) (q : Process) → Goes s k j q → SamePointers (carried_here j q.id) (carried_here k q.id) → j.story.link ≡ k.story.link → (phase_of (bus_of k) ≡ phases.MessageIn → j.handshakes.requests ≡ k.handshakes.requests) → (phase_of (bus_of k) ≡ phases.DataOut → j.handshakes.answers ≡ k.handshakes.answers)
+pub stays_served : (s : ScenarioValue) (k j : RunState) (q : Process) → Goes s k j q → SamePointers (carried_here j q.id) (carried_here k q.id) → j.story.link ≡ k.story.link → AreCountedSo (phase_of (bus_of k)) k.handshakes j.handshakes
     → ServedPointers s k q → ServedPointers s j q
-stays_served s k j q g c el r a (unnamed l e none h) =
-    unnamed l (el ∙ e) none (subst (λ (x : ℕ). IsUnnamed (policy_for s q) l (carried_here j q.id) j.exchange (bus_of j) x) (sym g.start) (unnamed_as (policy_for s q) l (carried_here k q.id) (carried_here j q.id) k.exchange j.exchange (bus_of k) (bus_of j) (run_start s k q) c g.plan g.begun g.phase h))
-stays_served s k j q g c el r a (named l e own h) =
+stays_served s k j q g c el r (unnamed l e none h) =
+    unnamed l (el ∙ e) none (subst (λ (x : ℕ). IsUnnamed (run_policy s q) l (carried_here j q.id) j.exchange (bus_of j) x) (sym g.start) (unnamed_as (run_policy s q) l (carried_here k q.id) (carried_here j q.id) k.exchange j.exchange (bus_of k) (bus_of j) (run_start s k q) c g.plan g.begun g.phase h))
+stays_served s k j q g c el r (named l e own h) =
     named l (el ∙ e) own
-    (subst (λ (x : ℕ). PointersBy (policy_for s q) l (carried_here j q.id) j.exchange j.handshakes (bus_of j) x) (sym g.start)
-    (by_as (policy_for s q) l (carried_here k q.id) (carried_here j q.id) k.exchange j.exchange k.handshakes j.handshakes (bus_of k) (bus_of j) (run_start s k q) c g.plan g.begun g.phase r a h))
+    (subst (λ (x : ℕ). PointersBy (run_policy s q) l (carried_here j q.id) j.exchange j.handshakes (bus_of j) x) (sym g.start)
+    (by_as (run_policy s q) l (carried_here k q.id) (carried_here j q.id) k.exchange j.exchange k.handshakes j.handshakes (bus_of k) (bus_of j) (run_start s k q) c g.plan g.begun g.phase r h))
 
 -- A message or a byte is told of it.
-pub told_served : (s : ScenarioValue) (k j : RunState) (q : Process) (l : Link) (c : CarriedBytes) → Goes s k j q → k.exchange.begun ≡ true → SamePointers (carried_here j q.id) c → j.story.link ≡ Some l → l.item ≡ Some (process q.id) → PointersOf (policy_for s q) l c k.exchange.plan j.handshakes (run_start s k q) (phase_of (bus_of k)) → ServedPointers s j q
+pub told_served : (s : ScenarioValue) (k j : RunState) (q : Process) (l : Link) (c : CarriedBytes) → Goes s k j q → k.exchange.begun ≡ true → SamePointers (carried_here j q.id) c → j.story.link ≡ Some l → l.item ≡ Some (process q.id) → PointersOf (run_policy s q) l c k.exchange.plan j.handshakes (run_start s k q) (phase_of (bus_of k)) → ServedPointers s j q
 told_served s k j q l c g b same el own h =
     named l el own
-    (subst (λ (x : ℕ). PointersBy (policy_for s q) l (carried_here j q.id) j.exchange j.handshakes (bus_of j) x) (sym g.start)
-    (subst (λ (x : Bool). PointersIf x (policy_for s q) l (carried_here j q.id) j.exchange.plan j.handshakes (run_start s k q) (phase_of (bus_of j))) (sym (g.begun ∙ b))
-    (subst (λ (x : Phase). PointersOf (policy_for s q) l (carried_here j q.id) j.exchange.plan j.handshakes (run_start s k q) x) (sym g.phase)
-    (pointers_as (policy_for s q) l c (carried_here j q.id) k.exchange.plan j.exchange.plan j.handshakes j.handshakes (run_start s k q) (phase_of (bus_of k)) same g.plan (λ z. refl) (λ z. refl) h))))
+    (subst (λ (x : ℕ). PointersBy (run_policy s q) l (carried_here j q.id) j.exchange j.handshakes (bus_of j) x) (sym g.start)
+    (subst (λ (x : Bool). PointersIf x (run_policy s q) l (carried_here j q.id) j.exchange.plan j.handshakes (run_start s k q) (phase_of (bus_of j))) (sym (g.begun ∙ b))
+    (subst (λ (x : Phase). PointersOf (run_policy s q) l (carried_here j q.id) j.exchange.plan j.handshakes (run_start s k q) x) (sym g.phase)
+    (pointers_as (run_policy s q) l c (carried_here j q.id) k.exchange.plan j.exchange.plan j.handshakes j.handshakes (run_start s k q) (phase_of (bus_of k)) same g.plan (counted_same (phase_of (bus_of k)) j.handshakes) h))))
 
 -- ---- a row of the phase
 
@@ -243,9 +260,9 @@ quiet_row s k row n c q fault r ef ep er h = go h
     plan : SamePlan j.exchange.plan k.exchange.plan
     plan = subst (λ (x : Exchange). SamePlan x.plan k.exchange.plan) (sym i.exchange_is) (struck_same_plan (fault && not c.before.io) k.exchange.plan)
 
-    requests : phase_of (bus_of k) ≡ phases.MessageIn → j.handshakes.requests ≡ k.handshakes.requests
-    requests z =
-        let io : c.before.io ≡ true = ap (λ (x : LineSet). x.io) (sym r.bus_is) ∙ (in_lines (bus_of k) z).io in
+    requests : (bus_of k).io ≡ true → j.handshakes.requests ≡ k.handshakes.requests
+    requests on =
+        let io : c.before.io ≡ true = ap (λ (x : LineSet). x.io) (sym r.bus_is) ∙ on in
         ap (λ (x : Handshakes). x.requests) i.handshakes_is ∙ by (is_fault row.kind) io
       where
         by : (f : Bool) → c.before.io ≡ true → (handshakes_after f (Some n) c row.time k.handshakes).requests ≡ k.handshakes.requests
@@ -266,7 +283,7 @@ quiet_row s k row n c q fault r ef ep er h = go h
         let x = in_row s k row n c q false fault l r ep (ap (λ (z : Option ℕ). is_some z) er) el i plan in
         stays_served s k j q x.goes
         (same_on (carried_here j q.id) (carried_of (story_after_fault k.story l row.kind).carried q.id) (carried_here k q.id) x.carried (fault_story k.story l row.kind q.id))
-        (x.link ∙ fault_link k.story l row.kind) requests answers h
+        (x.link ∙ fault_link k.story l row.kind) (record { said = λ z. requests (in_lines (bus_of k) z).io; given = λ z. requests (read_lines (bus_of k) z).2; sent = answers }) h
 
     go : ServedPointers s k q → ServedPointers s j q
     go (unnamed l el none z) = with_link l el
@@ -366,33 +383,68 @@ block_crosses s k row n c q l x own e h =
     stays_served s k (run_state_after s k row) q x.row_in.goes
     (same_on (carried_here (run_state_after s k row) q.id) (carried_after_byte (carried_here k q.id) c.before (byte_of c)) (carried_here k q.id) (subst (λ (y : CarriedBytes). SamePointers (carried_here (run_state_after s k row) q.id) y) there made.0) (byte_same (carried_here k q.id) c.before (byte_of c) idle))
     (made.1 ∙ byte_link k.story l d)
-    (λ z. wrong' (sym (ap is_block_phase z) ∙ e))
-    (λ z. wrong' (sym (ap is_block_phase z) ∙ e)) h
+    (record { said = λ z. wrong' (sym (ap is_block_phase z) ∙ e); given = λ z. wrong' (sym (ap is_block_phase z) ∙ e); sent = λ z. wrong' (sym (ap is_block_phase z) ∙ e) }) h
 
--- In DATA OUT the active pointer goes on with the byte.
-pub run_crosses : (s : ScenarioValue) (k : RunState) (row : Row) (n : Connection) (c : Change) (q : Process) (l : Link) → Crosses s k row n c q l → l.item ≡ Some (process q.id) → phase_of (bus_of k) ≡ phases.DataOut → IsInRun (policy_for s q) l (carried_here k q.id) k.handshakes.answers (run_start s k q) → ServedPointers s (run_state_after s k row) q
-run_crosses s k row n c q l x own e h =
+-- As a byte of data crosses the active pointer goes on with it.
+record Moved (s : ScenarioValue) (k : RunState) (row : Row) (q : Process) (l : Link) : Type 0 where
+  carried : CarriedBytes
+  same : SamePointers (carried_here (run_state_after s k row) q.id) carried
+  link : (run_state_after s k row).story.link ≡ Some l
+  active : carried.moved.active ≡ (carried_here k q.id).moved.active + 1
+  saved : carried.moved.saved ≡ (carried_here k q.id).moved.saved
+
+moved_on : (s : ScenarioValue) (k : RunState) (row : Row) (n : Connection) (c : Change) (q : Process) (l : Link) → Crosses s k row n c q l → l.item ≡ Some (process q.id) → (bus_of k).msg ≡ false → (bus_of k).cd ≡ false → Moved s k row q l
+moved_on s k row n c q l x own em ed =
     let j = run_state_after s k row in
     let r = x.meets.of.row_is in
-    let lines = run_lines (bus_of k) e in
-    let msg : c.before.msg ≡ false = ap (λ (y : LineSet). y.msg) (sym r.bus_is) ∙ lines.0 in
-    let cd : c.before.cd ≡ false = ap (λ (y : LineSet). y.cd) (sym r.bus_is) ∙ lines.1 in
-    let io : c.before.io ≡ false = ap (λ (y : LineSet). y.io) (sym r.bus_is) ∙ lines.2 in
+    let msg : c.before.msg ≡ false = ap (λ (y : LineSet). y.msg) (sym r.bus_is) ∙ em in
+    let cd : c.before.cd ≡ false = ap (λ (y : LineSet). y.cd) (sym r.bus_is) ∙ ed in
     let d = reading_in k.story.bus_state n c true in
     let made = crossed_as s k row n c q l None None x (no_message_out k c (msg_out_false c.before msg)) (no_message_in k c (msg_in_false c.before msg)) in
     let c1 = carried_after_byte (carried_here k q.id) c.before (byte_of c) in
     let same : SamePointers (carried_here j q.id) c1 = subst (λ (y : CarriedBytes). SamePointers (carried_here j q.id) y) (byte_story k.story l d q.id own msg) made.0 in
     let moved = byte_moves (carried_here k q.id) c.before (byte_of c) ((λ i. not (msg i) && cd i && not c.before.io) ∙ refl) (λ i. not (msg i) && not (cd i)) in
-    let answers : j.handshakes.answers ≡ k.handshakes.answers + 1 =
-    ap (λ (y : Handshakes). y.answers) x.in_is.handshakes_is ∙ ap (λ (f : Bool). (handshakes_after f (Some n) c row.time k.handshakes).answers) x.fault
-    ∙ answers_rise n c row.time x.dev k.handshakes x.same_phase io x.receiver ∙ count_more k.handshakes.answers x.meets.short in
-    told_served s k j q l c1 x.row_in.goes x.begun same (made.1 ∙ byte_link k.story l d ∙ x.link) own
-    (subst (λ (y : Phase). PointersOf (policy_for s q) l c1 k.exchange.plan j.handshakes (run_start s k q) y) (sym e)
-    (record {
-      plain = h.plain;
-      active = ap (λ (a : Area). a.active) moved ∙ ap (λ (y : ℕ). y + 1) h.active ∙ more (run_start s k q) k.handshakes.answers ∙ ap (λ (y : ℕ). run_start s k q + y) (sym answers);
-      saved = ap (λ (a : Area). a.saved) moved ∙ h.saved;
-    }))
+    record {
+      carried = c1;
+      same = same;
+      link = made.1 ∙ byte_link k.story l d ∙ x.link;
+      active = ap (λ (a : Area). a.active) moved;
+      saved = ap (λ (a : Area). a.saved) moved;
+    }
+
+run_on : (policy : Policy) (l : Link) (c d : CarriedBytes) (count next start : ℕ) → d.moved.active ≡ c.moved.active + 1 → d.moved.saved ≡ c.moved.saved → next ≡ count + 1 → IsInRun policy l c count start → IsInRun policy l d next start
+run_on policy l c d count next start ea es en h = record {
+  plain = h.plain;
+  active = ea ∙ ap (λ (y : ℕ). y + 1) h.active ∙ more start count ∙ ap (λ (y : ℕ). start + y) (sym en);
+  saved = es ∙ h.saved;
+}
   where
     more : (a b : ℕ) → a + b + 1 ≡ a + (b + 1)
     more a b = omega arith
+
+pub run_crosses : (s : ScenarioValue) (k : RunState) (row : Row) (n : Connection) (c : Change) (q : Process) (l : Link) → Crosses s k row n c q l → l.item ≡ Some (process q.id) → phase_of (bus_of k) ≡ phases.DataOut → IsInRun (run_policy s q) l (carried_here k q.id) k.handshakes.answers (run_start s k q) → ServedPointers s (run_state_after s k row) q
+run_crosses s k row n c q l x own e h =
+    let j = run_state_after s k row in
+    let lines = run_lines (bus_of k) e in
+    let io : c.before.io ≡ false = ap (λ (y : LineSet). y.io) (sym x.meets.of.row_is.bus_is) ∙ lines.2 in
+    let m = moved_on s k row n c q l x own lines.0 lines.1 in
+    let answers : j.handshakes.answers ≡ k.handshakes.answers + 1 =
+    ap (λ (y : Handshakes). y.answers) x.in_is.handshakes_is ∙ ap (λ (f : Bool). (handshakes_after f (Some n) c row.time k.handshakes).answers) x.fault
+    ∙ answers_rise n c row.time x.dev k.handshakes x.same_phase io x.receiver ∙ count_more k.handshakes.answers (x.meets.short x.begun e) in
+    told_served s k j q l m.carried x.row_in.goes x.begun m.same m.link own
+    (subst (λ (y : Phase). PointersOf (run_policy s q) l m.carried k.exchange.plan j.handshakes (run_start s k q) y) (sym e)
+    (run_on (run_policy s q) l (carried_here k q.id) m.carried k.handshakes.answers j.handshakes.answers (run_start s k q) m.active m.saved answers h))
+
+-- In DATA IN.
+pub read_crosses : (s : ScenarioValue) (k : RunState) (row : Row) (n : Connection) (c : Change) (q : Process) (l : Link) → Crosses s k row n c q l → l.item ≡ Some (process q.id) → phase_of (bus_of k) ≡ phases.DataIn → IsInRun (run_policy s q) l (carried_here k q.id) k.handshakes.requests (run_start s k q) → ServedPointers s (run_state_after s k row) q
+read_crosses s k row n c q l x own e h =
+    let j = run_state_after s k row in
+    let lines = read_lines (bus_of k) e in
+    let io : c.before.io ≡ true = ap (λ (y : LineSet). y.io) (sym x.meets.of.row_is.bus_is) ∙ lines.2 in
+    let m = moved_on s k row n c q l x own lines.0 lines.1 in
+    let requests : j.handshakes.requests ≡ k.handshakes.requests + 1 =
+    ap (λ (y : Handshakes). y.requests) x.in_is.handshakes_is ∙ ap (λ (f : Bool). (handshakes_after f (Some n) c row.time k.handshakes).requests) x.fault
+    ∙ requests_rise n c row.time x.dev k.handshakes x.same_phase io x.receiver ∙ count_more k.handshakes.requests (x.meets.short_asked x.begun e) in
+    told_served s k j q l m.carried x.row_in.goes x.begun m.same m.link own
+    (subst (λ (y : Phase). PointersOf (run_policy s q) l m.carried k.exchange.plan j.handshakes (run_start s k q) y) (sym e)
+    (run_on (run_policy s q) l (carried_here k q.id) m.carried k.handshakes.requests j.handshakes.requests (run_start s k q) m.active m.saved requests h))

@@ -26,10 +26,8 @@ use Rattle.trace_laws.specs.DataPointers.{OnUndo}
 use Rattle.trace_laws.proofs.Impossible.{none_some}
 use Rattle.trace_laws.proofs.PointerStories.{SamePointers, same_self, put_same}
 use Rattle.trace_laws.proofs.PointerMessages.{or_undone}
-
-pub carried_link : (b : Story) (c : Option CarriedBytes) → (story_with_carried b c).link ≡ b.link
-carried_link b None = refl
-carried_link b (Some c) = refl
+use Rattle.bus_books.proofs.Knows.{fault_link}
+use Rattle.bus_story.proofs.StorySteps.{byte_link, out_link, carried_link}
 
 -- ---- a fault
 
@@ -59,10 +57,6 @@ fault_story b l (Fault bit) id = go l.item b.bus_state.crossed
     go (Some (abort n)) c = same_self (carried_of b.carried id)
     go (Some (process x)) None = put_same b.carried (carried_of b.carried x) id x (carried_id b.carried x) (same_self (carried_of b.carried x))
     go (Some (process x)) (Some c) = put_same b.carried (carried_after_fault (carried_of b.carried x) c.before) id x (fault_id (carried_of b.carried x) c.before ∙ carried_id b.carried x) (fault_same (carried_of b.carried x) c.before)
-
-pub fault_link : (b : Story) (l : Link) (kind : Kind) → (story_after_fault b l kind).link ≡ b.link
-fault_link b l (Drives lines) = refl
-fault_link b l (Fault bit) = carried_link b (carried_after_fault_if (carried_if b l.item) b.bus_state.crossed)
 
 -- ---- a byte
 
@@ -95,13 +89,6 @@ byte_story b l d id e f =
     ∙ ap (λ (x : Option Item). carried_of (story_with_carried b (carried_after_byte_if (carried_if b x) d)).carried id) e
     ∙ put_own b.carried (carried_after_byte (carried_of b.carried id) d.change.before (d.change.after.data_bits % 256)) id (byte_id (carried_of b.carried id) d.change.before (d.change.after.data_bits % 256) ∙ carried_id b.carried id)
 
-pub byte_link : (b : Story) (l : Link) (d : RowReading) → (story_after_byte b l d).link ≡ b.link
-byte_link b l d = go d.change.before.msg
-  where
-    go : (q : Bool) → (if q then b else story_with_carried b (carried_after_byte_if (carried_if b l.item) d)).link ≡ b.link
-    go true = refl
-    go false = carried_link b (carried_after_byte_if (carried_if b l.item) d)
-
 pub message_byte : (b : Story) (l : Link) (d : RowReading) → d.change.before.msg ≡ true → story_after_byte b l d ≡ b
 message_byte b l d f = ap (λ (q : Bool). if q then b else story_with_carried b (carried_after_byte_if (carried_if b l.item) d)) f
 
@@ -114,9 +101,6 @@ out_story b l m id own = go (is_parity_error m) l.undo own
     go false u e = refl
     go true None e = refl
     go true (Some v) e = put_own b.carried v id e
-
-pub out_link : (b : Story) (l : Link) (m : MsgOut) → (story_after_out b l (Some m)).link ≡ Some (record l { last = last_out m l })
-out_link b l m = carried_link (record b { link = Some (record l { last = last_out m l }) }) (if is_parity_error m then l.undo else None)
 
 -- ---- a message to the initiator
 

@@ -39,12 +39,12 @@ use Rattle.bus_books.specs.Giving.{OnMessages}
 use Rattle.bus_books.specs.Knowing.{IsNoName}
 use Rattle.bus_books.specs.Rows.{IsRowIn, reading_in}
 use Rattle.bus_books.proofs.InConnection.{InConnection, in_connection, reading_is}
-use Rattle.bus_books.proofs.Knows.{link_after}
+use Rattle.bus_books.proofs.Knows.{link_after, fault_link}
 use Rattle.bus_books.proofs.Lookups.{self_id, carried_id}
-use Rattle.trace_laws.specs.DataPointers.{is_marked, OnUndo, IsPlainIn, run_start, run_step, PointersIn, PointersRefused, IsOfStatus, IsUndisturbed, calm, restores, saves, saved, disconnects, closes, still_calm, restores_again, saves_again, disconnects_again, closes_again}
+use Rattle.trace_laws.specs.DataPointers.{is_marked, OnUndo, IsPlainIn, run_policy, run_start, run_step, PointersIn, PointersRefused, IsOfStatus, IsUndisturbed, calm, restores, saves, saved, disconnects, closes, still_calm, restores_again, saves_again, disconnects_again, closes_again}
 use Rattle.trace_laws.proofs.PointerStories.{SamePointers, same_on, events_same, story_row, status_marks}
-use Rattle.trace_laws.proofs.PointerLeavings.{WritesBy}
-use Rattle.trace_laws.proofs.PointerStorySteps.{fault_story, fault_link}
+use Rattle.trace_laws.proofs.PointerLeavings.{MovesBy}
+use Rattle.trace_laws.proofs.PointerStorySteps.{fault_story}
 use Rattle.trace_laws.proofs.TalkTurns.{from_named}
 use Rattle.trace_laws.proofs.Tests.{some_count}
 
@@ -113,7 +113,7 @@ pub record TurnsBy (s : ScenarioValue) (k : RunState) (n : Connection) (q : Proc
   pub target_is : q.target ≡ n.target
   pub task : Task
   pub runs_are : task.runs ≡ (progress_in k.progress q.id).runs
-  pub writes_by : WritesBy (serving_of s k n.target) k.handshakes task (run_step s q) (phase_of (bus_of k))
+  pub moves_by : MovesBy (run_policy s q) (serving_of s k n.target) k.handshakes task (run_step s q) (phase_of (bus_of k))
 
 abbrev pub start_after : ScenarioValue → RunState → Connection → Process → ℕ
 start_after s k n q = ((progress_in k.progress q.id).runs + one_if (leaving s k n.target).done) * run_step s q

@@ -33,7 +33,8 @@ use Rattle.trace_laws.specs.DataPointers.{is_marked, run_start, run_step, IsWait
 use Rattle.trace_laws.proofs.ItemSteps.{other_progress}
 use Rattle.trace_laws.proofs.PointerStories.{SamePointers, events_same, events_over, over_more, story_row}
 use Rattle.trace_laws.proofs.PointerStorySteps.{IsNot, fault_story, byte_other, out_other, in_other}
-use Rattle.trace_laws.proofs.RowItems.{carried_sent, restored_sent, inside_sent}
+use Rattle.trace_laws.proofs.RowItems.{carried_sent, inside_sent}
+use Rattle.bus_story.proofs.StorySteps.{restored_sent, sent_carried}
 
 -- ---- what is asked of one that waits
 
@@ -128,15 +129,18 @@ bus_over s b None (Some n) d row x e = ap (λ (y : List Item). has_item y x) (be
 bus_over s b (Some m) None d row x e = e
 bus_over s b (Some m) (Some n) d row x e = ap (λ y. has_item y.over x) (connection_sent s b b.link d row) ∙ e
 
--- What is over stays so with any row.
+-- What is over stays so with any change of the bus, and with any row.
+pub change_over : (s : ScenarioValue) (b : Story) (d : RowReading) (row : Row) (x : Item) → has_item b.sent.over x ≡ true → has_item (story_by_change s b d row).sent.over x ≡ true
+change_over s b d row x e = go d.change.after.rst
+  where
+    go : (q : Bool) → has_item (if q then record b { link = None } else story_on_bus s b b.bus_state.connection d.next d row).sent.over x ≡ true
+    go true = e
+    go false = bus_over s b b.bus_state.connection d.next d row x e
+
 pub over_row : (s : ScenarioValue) (k : RunState) (row : Row) (x : Item) → has_item k.story.sent.over x ≡ true → has_item (run_state_after s k row).story.sent.over x ≡ true
 over_row s k row x e =
     let d = row_reading k.story.bus_state row in
-    events_over s (story_by_change s k.story d row) (row_events_by s k.story d row) x (go d.change.after.rst)
-  where
-    go : (q : Bool) → has_item (if q then record k.story { link = None } else story_on_bus s k.story k.story.bus_state.connection (row_reading k.story.bus_state row).next (row_reading k.story.bus_state row) row).sent.over x ≡ true
-    go true = e
-    go false = bus_over s k.story k.story.bus_state.connection (row_reading k.story.bus_state row).next (row_reading k.story.bus_state row) row x e
+    events_over s (story_by_change s k.story d row) (row_events_by s k.story d row) x (change_over s k.story d row x e)
 
 -- ---- runs
 
@@ -227,10 +231,6 @@ restored_same b (Some (process x)) id = go (same_id x id) refl
         subst (λ (y : CarriedBytes). SameSaved y (carried_of b.carried id)) (sym (Rattle.bus_books.proofs.Lookups.put_own b.carried (with_restored_pointers (carried_of b.carried x)) id (carried_id b.carried x ∙ is)))
         (subst (λ (y : ProcId). SameSaved (with_restored_pointers (carried_of b.carried x)) (carried_of b.carried y)) is (record { saved = refl; marked = λ z. z }))
     go false e = subst (λ (y : CarriedBytes). SameSaved y (carried_of b.carried id)) (sym (Rattle.bus_books.proofs.Lookups.put_other b.carried (with_restored_pointers (carried_of b.carried x)) x id (carried_id b.carried x) e)) (saved_self (carried_of b.carried id))
-
-sent_carried : (b : Story) (item : Option Item) → (story_with_sent b item).carried ≡ b.carried
-sent_carried b None = refl
-sent_carried b (Some item) = refl
 
 begins_story : (b : Story) (n : Connection) (id : ProcId) → SameSaved (carried_of (story_after_connection b n).carried id) (carried_of b.carried id)
 begins_story b n id = go n.reselected (aim_of b.aims n.initiator)

@@ -34,12 +34,14 @@ use Rattle.trace_laws.proofs.ByteValues.{byte_values}
 use Rattle.trace_laws.proofs.ConnectionRows.{stage_of_connection}
 use Rattle.trace_laws.proofs.Crossings.{RowFacts, row_facts, stays, ends_here}
 use Rattle.trace_laws.proofs.FirstRows.{under_rst}
-use Rattle.trace_laws.proofs.Impossible.{wrong, wrong', none_some}
-use Rattle.trace_laws.proofs.Joint.{Stood, NextStood, link_calm, values_of}
+use Rattle.trace_laws.proofs.Impossible.{none_some}
+use Rattle.trace_laws.proofs.Joint.{Stood, NextStood, values_of}
 use Rattle.trace_laws.proofs.LinkRows.{LinkRow, link_row}
 use Rattle.trace_laws.proofs.Plans.{is_directed, writes_of}
 use Rattle.trace_laws.proofs.ResetRows.{IsReleasing, PhaseIs, releasing, of_stage, of_target_next, data_kept}
 use Rattle.trace_laws.proofs.WriteRows.{in_lines, is_in}
+use Rattle.bus_base.proofs.Tests.{wrong, wrong'}
+use Rattle.link_laws.proofs.Traces.{link_calm}
 
 pub resets_start : (s : ScenarioValue) → ResetFacts s []
 resets_start s = record { lines = λ n e. none_some n e; reads = λ n p e. none_some n e }

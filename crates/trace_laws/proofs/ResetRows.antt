@@ -26,7 +26,7 @@ use Rattle.bus_laws.proofs.Rows.{drives_own, drives_other}
 use Rattle.trace_laws.specs.ResetLines.{HasNoPhase, OfTarget}
 use Rattle.link_laws.specs.LinkStages.{LinkStage, when_selected, when_settling, when_turning, when_offering, when_shaking, when_pulsing}
 use Rattle.trace_laws.proofs.CutConnections.{one_drives}
-use Rattle.trace_laws.proofs.Impossible.{wrong}
+use Rattle.bus_base.proofs.Tests.{wrong}
 
 -- ---- a row under RST
 

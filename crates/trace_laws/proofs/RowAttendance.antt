@@ -46,12 +46,12 @@ use Rattle.trace_laws.specs.Commands.{CommandBooks, CommandFacts, Serves}
 use Rattle.trace_laws.specs.Instructed.{Instructed, InstructedFacts}
 use Rattle.trace_laws.proofs.ConnectionRows.{ConnectionRow, connection_row}
 use Rattle.trace_laws.proofs.Crossings.{Goes, RowFacts, Stops, stays, ends_here}
-use Rattle.trace_laws.proofs.Impossible.{wrong, wrong'}
 use Rattle.trace_laws.proofs.Joint.{Stood, link_phase}
 use Rattle.trace_laws.proofs.OpeningRows.{alone, opening_begun, opening_leads, opening_leaving, out_no_command, status_is}
 use Rattle.trace_laws.proofs.PhaseLines.{out_lines, out_no_status}
 use Rattle.trace_laws.proofs.ShownEvents.{AreOfEnds, EndsKnown, Of, end_shown, row_shows, stop_shown, turn_shown}
 use Rattle.trace_laws.proofs.TellRows.{no_events, unbegun_lines}
+use Rattle.bus_base.proofs.Tests.{wrong, wrong'}
 
 pub no_item : {A : Type 0} (id : ProcId) (m : ℕ) → Some (process id) ≡ Some (abort m) → A
 no_item id m e = absurd cc

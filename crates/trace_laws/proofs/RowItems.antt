@@ -31,20 +31,15 @@ use Rattle.bus_books.specs.Rows.{IsRowIn, reading_in}
 use Rattle.bus_books.proofs.InConnection.{reading_is}
 use Rattle.bus_books.proofs.Knows.{link_after}
 use Rattle.bus_books.proofs.Lookups.{carried_id}
-use Rattle.trace_laws.proofs.Impossible.{wrong, wrong'}
 use Rattle.trace_laws.proofs.OverItems.{Grows, grows_same, grows_on, events_grow, ends_over}
-use Rattle.trace_laws.proofs.PointerStorySteps.{carried_link}
+use Rattle.bus_base.proofs.Tests.{wrong, wrong'}
+use Rattle.bus_story.proofs.StorySteps.{restored_sent, carried_link}
 
 -- ---- a row of a connection leaves what is sent and over, but for its events
 
 pub carried_sent : (a : Story) (c : Option CarriedBytes) → (story_with_carried a c).sent ≡ a.sent
 carried_sent a None = refl
 carried_sent a (Some c) = refl
-
-pub restored_sent : (b : Story) (item : Option Item) → (story_with_restored b item).sent ≡ b.sent
-restored_sent b None = refl
-restored_sent b (Some (process id)) = refl
-restored_sent b (Some (abort k)) = refl
 
 pub inside_sent : (s : ScenarioValue) (b : Story) (l : Link) (d : RowReading) (row : Row) → (story_in_connection s b (Some l) d row).sent ≡ b.sent
 inside_sent s b l d row = by d.crosses d.out d.into
@@ -76,7 +71,7 @@ is_quiet_event (events.Run id) = true
 is_quiet_event (events.Fail id code) = true
 is_quiet_event _ = false
 
-abbrev AllQuiet : List Event → Type 0
+abbrev pub AllQuiet : List Event → Type 0
 AllQuiet [] = ⊤
 AllQuiet (e ∷ shown) = (is_quiet_event e ≡ true) × AllQuiet shown
 

@@ -2,7 +2,6 @@
 use Rattle.std.proofs.Common.{ℕ, ◌≡◌, Bool, true, false, not, ◌&&◌, ◌==◌, ◌∙◌, List, [], ◌∷◌, Option, Some, None, refl, sym, ap}
 use Rattle.std.specs.Prelude.{if◌then◌else◌, ◌++◌}
 use Rattle.std.proofs.lemmas.Option.{same_Some}
-use Rattle.bus_books.proofs.Lists.{eq_self}
 use Rattle.disk_array.specs.Contents.{Contents}
 use Rattle.disk_array.specs.Execution.{CommandContext, execution}
 use Rattle.disk_array.specs.Order.{choice}
@@ -10,8 +9,10 @@ use Rattle.disk_array.specs.Processes.{Process}
 use Rattle.disk_array.specs.Steps.{context_at}
 use Rattle.disk_array.specs.Units.{UnitState, Nexus, Array, unit_state_at, with_unit, with_current, has_no_current, is_held, unit_after_choice, units_after_choice, settled_array, nexus_of}
 use Rattle.bus_due.specs.Tasks.{moved_count, reply_now, size_of}
-use Rattle.bus_books.proofs.Lookups.{number_is, first_is, second_is}
 use Rattle.trace_laws.proofs.Impossible.{none_some}
+use Rattle.std.proofs.lemmas.Bool.{eqb-true}
+use Rattle.bus_base.proofs.Tests.{and_first, and_second, eq_self}
+use Rattle.disk_array.proofs.SeatSteps.{choice_target, choice_unit}
 
 -- ---- the unit
 
@@ -22,7 +23,7 @@ found (v ∷ units) t n u e = go (λ z. found units t n u z) (v.target == t && v
     go : (unit_state_at units t n ≡ Some u → (u.target ≡ t) × (u.unit ≡ n)) → (q : Bool) → (v.target == t && v.unit == n) ≡ q → (if q then Some v else unit_state_at units t n) ≡ Some u → (u.target ≡ t) × (u.unit ≡ n)
     go more true f z =
         let is = same_Some v u z in
-        (ap (λ (x : UnitState). x.target) (sym is) ∙ number_is v.target t (first_is (v.target == t) (v.unit == n) f), ap (λ (x : UnitState). x.unit) (sym is) ∙ number_is v.unit n (second_is (v.target == t) (v.unit == n) f))
+        (ap (λ (x : UnitState). x.target) (sym is) ∙ eqb-true v.target t (and_first (v.target == t) (v.unit == n) f), ap (λ (x : UnitState). x.unit) (sym is) ∙ eqb-true v.unit n (and_second (v.target == t) (v.unit == n) f))
     go more false f z = more z
 
 -- Another stands in its place.
@@ -45,22 +46,6 @@ put_there (v ∷ units) t n u new et en e = go (λ z. put_there units t n u new 
 
 -- ---- the choice of the current process
 
-chosen_target : (holds : List Nexus) (u : UnitState) → (unit_after_choice holds u).target ≡ u.target
-chosen_target holds u = go (has_no_current u.current && not (is_held holds u.target u.unit)) (choice u.pick u.waiting)
-  where
-    go : (q : Bool) (p : Option Process) → (if q then with_current u p else u).target ≡ u.target
-    go true None = refl
-    go true (Some p) = refl
-    go false p = refl
-
-chosen_unit : (holds : List Nexus) (u : UnitState) → (unit_after_choice holds u).unit ≡ u.unit
-chosen_unit holds u = go (has_no_current u.current && not (is_held holds u.target u.unit)) (choice u.pick u.waiting)
-  where
-    go : (q : Bool) (p : Option Process) → (if q then with_current u p else u).unit ≡ u.unit
-    go true None = refl
-    go true (Some p) = refl
-    go false p = refl
-
 chosen_contents : (holds : List Nexus) (u : UnitState) → (unit_after_choice holds u).contents ≡ u.contents
 chosen_contents holds u = go (has_no_current u.current && not (is_held holds u.target u.unit)) (choice u.pick u.waiting)
   where
@@ -74,7 +59,7 @@ chosen_there holds [] t n u e = none_some u e
 chosen_there holds (v ∷ units) t n u e = go (λ z. chosen_there holds units t n u z) (v.target == t && v.unit == n) refl e
   where
     test : ((unit_after_choice holds v).target == t && (unit_after_choice holds v).unit == n) ≡ (v.target == t && v.unit == n)
-    test = λ i. chosen_target holds v i == t && chosen_unit holds v i == n
+    test = λ i. choice_target holds v i == t && choice_unit holds v i == n
 
     go : (unit_state_at units t n ≡ Some u → unit_state_at (units_after_choice holds units) t n ≡ Some (unit_after_choice holds u)) → (q : Bool) → (v.target == t && v.unit == n) ≡ q → (if q then Some v else unit_state_at units t n) ≡ Some u → unit_state_at (unit_after_choice holds v ∷ units_after_choice holds units) t n ≡ Some (unit_after_choice holds u)
     go more true f z = (λ i. if (test ∙ f) i then Some (unit_after_choice holds v) else unit_state_at (units_after_choice holds units) t n) ∙ ap (λ (x : UnitState). Some (unit_after_choice holds x)) (same_Some v u z)

@@ -19,7 +19,6 @@ use Rattle.disk_array.specs.ArrayHistory.{array_after}
 use Rattle.disk_array.specs.Execution.{Reply}
 use Rattle.disk_array.specs.Processes.{Process}
 use Rattle.bus_story.specs.BusState.{row_reading}
-use Rattle.disk_unit.proofs.Touched.{from_not_lt}
 use Rattle.bus_dialogue.specs.declared.exchange.Phase.TheVariants as phases
 use Rattle.bus_dialogue.specs.declared.exchange.Task.{Task}
 use Rattle.bus_dialogue.specs.Arrivals.{policy_of}
@@ -51,7 +50,6 @@ use Rattle.trace_laws.specs.RunCounts.{AreCounted, pulses_here, CountFacts}
 use Rattle.trace_laws.specs.RunFacts.{RunFacts}
 use Rattle.trace_laws.proofs.ConnectionRows.{connection_row, stage_of_connection}
 use Rattle.trace_laws.proofs.Crossings.{RowFacts, stays, ends_here}
-use Rattle.trace_laws.proofs.Impossible.{wrong, wrong'}
 use Rattle.trace_laws.proofs.Joint.{Stood, here_served}
 use Rattle.trace_laws.proofs.LinkRows.{link_row}
 use Rattle.trace_laws.proofs.Plans.{is_directed, writes_of, writes_out}
@@ -61,6 +59,8 @@ use Rattle.trace_laws.proofs.RunParts.{byte_within}
 use Rattle.trace_laws.proofs.RunPulses.{PulseStep, settle_step, pulse_step}
 use Rattle.trace_laws.proofs.RunSteps.{link_step, pulsed_as, no_in}
 use Rattle.trace_laws.proofs.Tests.{risen}
+use Rattle.std.proofs.lemmas.Bool.{ltb-false}
+use Rattle.bus_base.proofs.Tests.{wrong, wrong'}
 
 -- ---- what the row does with REQ and ACK
 
@@ -128,10 +128,10 @@ answers_all s p row n o prompt was facts con calm off after b ep q t served task
     over : IsOver s k n → (q : Bool) → pulses_here p ≡ q → (handshakes p).answers ≡ run_count s p n
     over v true u =
         let even = (out_step s p row n prompt was con calm off b here after).even u ep in
-        let none = from_not_lt (handshakes p).requests (run_count s p n) (sym (follows ∙ ap (λ (x : Bool). if x then nat_lt (handshakes p).requests (run_count s p n) else nat_lt (handshakes p).answers (run_count s p n)) u) ∙ v.follows) in
+        let none = ltb-false (handshakes p).requests (run_count s p n) (sym (follows ∙ ap (λ (x : Bool). if x then nat_lt (handshakes p).requests (run_count s p n) else nat_lt (handshakes p).answers (run_count s p n)) u) ∙ v.follows) in
         both_ways (handshakes p).answers (run_count s p n) counts.within (subst (λ (x : ℕ). run_count s p n ≤ x) even none)
     over v false u =
-        let none = from_not_lt (handshakes p).answers (run_count s p n) (sym (follows ∙ ap (λ (x : Bool). if x then nat_lt (handshakes p).requests (run_count s p n) else nat_lt (handshakes p).answers (run_count s p n)) u) ∙ v.follows) in
+        let none = ltb-false (handshakes p).answers (run_count s p n) (sym (follows ∙ ap (λ (x : Bool). if x then nat_lt (handshakes p).requests (run_count s p n) else nat_lt (handshakes p).answers (run_count s p n)) u) ∙ v.follows) in
         both_ways (handshakes p).answers (run_count s p n) counts.within none
 
     by : RowFacts s p row n → k.handshakes.answers ≡ run_length (policy_of (target_def_of s n.target)) t
@@ -162,7 +162,7 @@ moved_few q r w = go (r.status == GOOD) (is_writing q) w
     go true false e = absurd (true≢false (sym e))
     go false b e = omega arith
 
-rise_of : (n : Connection) (c : Change) → c.before.io ≡ false → is_some (receiver_in n c) ≡ true → rises c.before.ack c.after.ack ≡ true
+pub rise_of : (n : Connection) (c : Change) → c.before.io ≡ false → is_some (receiver_in n c) ≡ true → rises c.before.ack c.after.ack ≡ true
 rise_of n c io e = go (rises c.before.ack c.after.ack) (sym (ap (λ (q : Bool). is_some (if q then (if rises c.before.req c.after.req then Some n.initiator else None) else (if rises c.before.ack c.after.ack then Some n.target else None))) io) ∙ e)
   where
     go : (q : Bool) → is_some (let o : Option ℕ = if q then Some n.target else None in o) ≡ true → q ≡ true

@@ -21,6 +21,7 @@ use Rattle.bus_trace.specs.Phases.{changes_phase, is_command}
 use Rattle.scenario.specs.declared.value.Policy.{Policy}
 use Rattle.scenario.specs.Value.{ScenarioValue}
 use Rattle.disk_array.specs.ArrayHistory.{array_after, array_step}
+use Rattle.disk_array.specs.Order.{count_in, range_in}
 use Rattle.disk_array.specs.Processes.{Process, process_of}
 use Rattle.bus_story.specs.BusState.{RowReading}
 use Rattle.bus_story.specs.CarriedBytes.{CarriedBytes, is_whole_block, is_status_phase}
@@ -39,13 +40,15 @@ use Rattle.bus_due.specs.RunState.{RunState, or_start, array_of, bus_of, process
 use Rattle.bus_due.specs.RunSteps.{array_after_events}
 use Rattle.bus_due.specs.Sights.{leaving, serving_of}
 use Rattle.bus_due.specs.Tasks.{is_writing, task_of, task_if, size_of, room_of, is_idle_unit}
-use Rattle.trace_laws.proofs.Impossible.{none_some, wrong'}
+use Rattle.trace_laws.proofs.Impossible.{none_some}
 use Rattle.trace_laws.proofs.PointerRows.{run_lines}
 use Rattle.trace_laws.proofs.RunArrivals.{SameRun, array_waited, unit_waited, waits_same}
 use Rattle.trace_laws.proofs.RunEntries.{IsRunEntry, enters_run}
 use Rattle.trace_laws.proofs.RunFacts.{task_here, none_in_all, write_no_sense}
+use Rattle.trace_laws.proofs.RunFits.{blocks_named}
 use Rattle.trace_laws.proofs.RunParts.{RunsFit}
 use Rattle.trace_laws.proofs.Tests.{not_false}
+use Rattle.bus_base.proofs.Tests.{wrong'}
 
 -- ---- the row tells no event
 
@@ -84,7 +87,7 @@ none_queued s b (Some l) before e = go (carried_if b l.item)
 
 -- ---- the run is the same after it
 
-same_length : (policy : Policy) (a b : Task) → b.blocks ≡ a.blocks → b.size ≡ a.size → b.moved ≡ a.moved → b.runs ≡ a.runs → run_length policy b ≡ run_length policy a
+pub same_length : (policy : Policy) (a b : Task) → b.blocks ≡ a.blocks → b.size ≡ a.size → b.moved ≡ a.moved → b.runs ≡ a.runs → run_length policy b ≡ run_length policy a
 same_length policy a b eb es em er = λ i. (run_in policy (eb i) (es i) (em i) (er i)).end - (run_in policy (eb i) (es i) (em i) (er i)).start
 
 pub run_kept : (s : ScenarioValue) (k j : RunState) (policy : Policy) (q : Process) → SameRun (array_of s k) (array_of s j) q → (progress_in j.progress q.id).runs ≡ (progress_in k.progress q.id).runs → run_length policy (task_here s j q) ≡ run_length policy (task_here s k q)
@@ -163,7 +166,7 @@ arrives s k q policy own w is fit more arrival = go k.array refl
         by : (x : Option UnitState) → unit_state_at a.units q.target q.unit ≡ x → SameRun (array_of s k) (or_start s (array_after_events s k.array (queue_event s k.story.history q.id ∷ []))) q
         by None z =
             let size : (task_here s k q).size ≡ 0 = ap (λ (b : Array). size_of (unit_state_at b.units q.target q.unit)) here ∙ no_units (unit_state_at a.units q.target q.unit) z in
-            wrong' (sym (ap (λ (m : ℕ). nat_lt (task_here s k q).runs m) (none_in_all policy (task_here s k q) fit size) ∙ never (task_here s k q).runs) ∙ more)
+            wrong' (sym (ap (λ (m : ℕ). nat_lt (task_here s k q).runs m) (none_in_all policy (task_here s k q) (count_in (range_in (command_of q.cdb))) fit (blocks_named (command_of q.cdb) w) size) ∙ never (task_here s k q).runs) ∙ more)
           where
             never : (m : ℕ) → nat_lt m 0 ≡ false
             never m = grind (arith, nat_tests)

@@ -45,7 +45,7 @@ use Rattle.link_laws.specs.Pulses.{run_count}
 use Rattle.trace_laws.specs.RunFacts.{RunFacts, IsServedWell}
 use Rattle.trace_laws.proofs.ConnectionRows.{connection_row}
 use Rattle.trace_laws.proofs.Crossings.{RowFacts, stays, ends_here}
-use Rattle.trace_laws.proofs.Impossible.{none_some, wrong'}
+use Rattle.trace_laws.proofs.Impossible.{none_some}
 use Rattle.trace_laws.proofs.Joint.{Stood, NextStood}
 use Rattle.trace_laws.proofs.PointerRows.{run_lines, phase_by}
 use Rattle.trace_laws.proofs.PointerTurns.{runs_more}
@@ -56,6 +56,7 @@ use Rattle.trace_laws.proofs.RunFacts.{task_here}
 use Rattle.trace_laws.proofs.RunFits.{FitsRuns, fits_runs}
 use Rattle.trace_laws.proofs.RunParts.{RunsFit, has_byte}
 use Rattle.trace_laws.proofs.RunRows.{served_id}
+use Rattle.bus_base.proofs.Tests.{wrong'}
 
 -- ---- lines
 

@@ -1,5 +1,5 @@
 -- Of a prompt trace: how many bytes of a run were asked for and answered, after each row of DATA OUT.
-use Rattle.std.proofs.Common.{ℕ, ◌≡◌, ◌≤◌, ◌<◌, ◌^◌, Bool, true, false, not, ◌&&◌, ◌||◌, ◌==◌, ◌∙◌, List, [], ◌∷◌, length, Some, refl, sym, ap, subst, arith, true≢false}
+use Rattle.std.proofs.Common.{ℕ, ◌≡◌, ◌+◌, ◌≤◌, ◌<◌, ◌^◌, Bool, true, false, not, ◌&&◌, ◌||◌, ◌==◌, ◌∙◌, List, [], ◌∷◌, Some, refl, sym, ap, subst, arith, true≢false}
 use Rattle.std.specs.Prelude.{if◌then◌else◌}
 use Rattle.bus_trace.specs.LineSet.{LineSet}
 use Rattle.bus_trace.specs.declared.Row.{Row}
@@ -14,6 +14,7 @@ use Rattle.bus_trace.specs.Trace.{bus, drives}
 use Rattle.bus_lines.specs.Handshakes.{Handshakes, handshakes, no_handshakes, handshakes_after, asked_if, answered_if}
 use Rattle.scenario.specs.Value.{ScenarioValue}
 use Rattle.scenario.specs.Writing.{Obeys}
+use Rattle.scsi_device.proofs.FitLines.{obeys_fits}
 use Rattle.bus_dialogue.specs.declared.exchange.Phase.TheVariants as phases
 use Rattle.bus_dialogue.specs.Hearing.{begun, begun_after}
 use Rattle.bus_dialogue.specs.NextPhase.{phase_of}
@@ -29,21 +30,29 @@ use Rattle.link_laws.specs.LinkStages.{LinkStage, when_selected, when_settling, 
 use Rattle.link_laws.specs.Pulses.{run_count}
 use Rattle.link_laws.proofs.DataRows.{count_stays}
 use Rattle.link_laws.proofs.Moves.{same_self}
+use Rattle.link_laws.proofs.RunLengths.{runs_are_short}
 use Rattle.trace_laws.specs.RunCounts.{AreCounted, pulses_here, CountFacts}
 use Rattle.trace_laws.specs.RunFacts.{RunFacts}
 use Rattle.trace_laws.proofs.ConnectionRows.{RowKindOf, begins_now, goes_now, row_kind, GoingRow, going_row, connection_row, stage_of_connection}
 use Rattle.trace_laws.proofs.FirstRows.{IsFirst}
-use Rattle.trace_laws.proofs.Impossible.{wrong'}
 use Rattle.trace_laws.proofs.Joint.{Stood, NextStood}
 use Rattle.trace_laws.proofs.PointerRows.{run_lines, phase_by}
 use Rattle.trace_laws.proofs.RunAsks.{out_step}
 use Rattle.trace_laws.proofs.RunBegun.{run_begun}
 use Rattle.trace_laws.proofs.RunCountRows.{pulses_stay, counts_stay}
-use Rattle.trace_laws.proofs.RunFacts.{few_counts}
 use Rattle.trace_laws.proofs.RunSteps.{no_in}
+use Rattle.bus_base.proofs.Tests.{wrong'}
 
 pub counts_start : (s : ScenarioValue) → CountFacts s []
 counts_start s = record { counts = λ n e. absurd cc }
+
+-- In DATA OUT far fewer bytes are answered than are counted.
+pub answers_few : (s : ScenarioValue) (p : List Row) (n : Connection) → Obeys s → CountFacts s p → connection p ≡ Some n → (bus p).rst ≡ false
+    → begun p ≡ true → phase_of (bus p) ≡ phases.DataOut → (handshakes p).answers + 1 < 2 ^ 64
+answers_few s p n o facts con calm b phase =
+    let within = (facts.counts n con calm b phase).within in
+    let few = runs_are_short s (obeys_fits s o) p n in
+    omega (arith, within, few)
 
 -- ---- DATA OUT is entered
 
@@ -82,7 +91,7 @@ entered s q n h none some = record {
 
 -- ---- the next row
 
-or_left : (b : Bool) → (false || b) ≡ true → b ≡ true
+pub or_left : (b : Bool) → (false || b) ≡ true → b ≡ true
 or_left true e = refl
 or_left false e = e
 
@@ -94,8 +103,8 @@ none_first s p row n f b phase = go f.begins
     go (by_selection h) = wrong' (sym h.begun_is ∙ b)
     go (by_reselection y h) = no_in (row ∷ p) n _ h.linked phase refl
 
-pub counts_next : (s : ScenarioValue) (p : List Row) (row : Row) → Obeys s → IsPrompt s (row ∷ p) → length (row ∷ p) < 2 ^ 64 → Stood s p → NextStood s p row → RunFacts s p → CountFacts s p → CountFacts s (row ∷ p)
-counts_next s p row o prompt short was nx runs facts = record { counts = λ n after off b phase. by n after off b phase (row_kind s p row n o prompt was after off) }
+pub counts_next : (s : ScenarioValue) (p : List Row) (row : Row) → Obeys s → IsPrompt s (row ∷ p) → Stood s p → NextStood s p row → RunFacts s p → CountFacts s p → CountFacts s (row ∷ p)
+counts_next s p row o prompt was nx runs facts = record { counts = λ n after off b phase. by n after off b phase (row_kind s p row n o prompt was after off) }
   where
     dv : AreOfDevices p
     dv = was.standing.devices
@@ -113,8 +122,7 @@ counts_next s p row o prompt short was nx runs facts = record { counts = λ n af
         (pulses_stay s p row n c dv lt (subst (λ (x : Change). IsRowIn (run_state s p) row n x) g.change_is g.goes.row_is) ep here)
         (count_stays s p row n c (record { devices = dv; below = lt; before = con; after = after; change = refl; calm = off; phase = ep; in_data = (run_lines (bus p) here).0 }))
         here
-        (let few = (few_counts p).1 in omega (arith, few, short))
-        (let few = (few_counts p).0 in omega (arith, few, short))
+        (let few = runs_are_short s (obeys_fits s o) p n in omega (arith, few))
         (out_step s p row n prompt was con calm off b_here here after).step
         (facts.counts n con calm b_here here)
       where

@@ -1,6 +1,7 @@
 -- What was asked for and answered of a run goes on with each row of DATA OUT.
 use Rattle.std.proofs.Common.{ℕ, ◌≡◌, ◌⊎◌, inl, inr, ◌+◌, ◌≤◌, ◌<◌, ◌^◌, Bool, true, false, not, ◌&&◌, ◌==◌, ◌∙◌, List, ◌∷◌, Option, Some, None, refl, sym, ap, subst, arith, true≢false}
 use Rattle.std.specs.Prelude.{if◌then◌else◌, is_some, nat_lt, ◌%◌}
+use Rattle.bus_base.specs.Faults.{counted_on}
 use Rattle.bus_trace.specs.LineSet.{LineSet}
 use Rattle.bus_trace.specs.declared.Row.{Row}
 use Rattle.bus_trace.specs.declared.Kind.{Kind}
@@ -26,13 +27,12 @@ use Rattle.bus_books.proofs.InConnection.{InConnection, in_connection, dialogue_
 use Rattle.bus_laws.specs.Rows.{row_of_fault}
 use Rattle.bus_laws.proofs.Rows.{fault_change}
 use Rattle.link_laws.specs.Pulses.{run_count}
-use Rattle.link_laws.proofs.Ahead.{zero_of}
 use Rattle.link_laws.proofs.Moves.{no_rise}
 use Rattle.link_laws.proofs.PulseSteps.{count_more}
 use Rattle.trace_laws.specs.RunCounts.{AreCounted, pulses_here}
-use Rattle.trace_laws.proofs.Impossible.{wrong'}
 use Rattle.trace_laws.proofs.PointerRows.{run_lines}
 use Rattle.trace_laws.proofs.RunSteps.{OutStep}
+use Rattle.bus_base.proofs.Tests.{wrong', zero_of}
 
 -- ---- counts
 
@@ -43,10 +43,20 @@ up_before false b e = (refl, e)
 no_both : {A : Type 0} (a b : Bool) → rises a b ≡ true → a ≡ b → A
 no_both a b e same = let u = up_before a b e in absurd (true≢false (sym u.1 ∙ sym same ∙ u.0))
 
+-- However often REQ rises in a phase, it is counted above the answers of a run.
+still_asked : (a r : ℕ) → a ≤ r → a < 2 ^ 64 → a ≤ counted_on r
+still_asked a r h few = omega (arith, h, few)
+
+asked_more : (a r : ℕ) → a ≤ r → a + 1 < 2 ^ 64 → a < counted_on r
+asked_more a r h few = omega (arith, h, few)
+
+asked_within : (r run : ℕ) → r + 1 ≤ run → counted_on r ≤ run
+asked_within r run h = omega (arith, h)
+
 -- By what the row does with REQ and ACK.
-counts_by : (s : ScenarioValue) (p : List Row) (n : Connection) (c : Change) (t : ℕ) (pulsed : Bool) → pulses_here p ≡ pulsed → bus p ≡ c.before → (handshakes p).requests + 1 < 2 ^ 64 → (handshakes p).answers + 1 < 2 ^ 64 → OutStep s p n c → AreCounted (handshakes p) (bus p) (pulses_here p) (run_count s p n)
+counts_by : (s : ScenarioValue) (p : List Row) (n : Connection) (c : Change) (t : ℕ) (pulsed : Bool) → pulses_here p ≡ pulsed → bus p ≡ c.before → run_count s p n < 2 ^ 64 → OutStep s p n c → AreCounted (handshakes p) (bus p) (pulses_here p) (run_count s p n)
     → AreCounted (answered_if (rises c.before.ack c.after.ack) t (asked_if (rises c.before.req c.after.req) t (handshakes p))) c.after pulsed (run_count s p n)
-counts_by s p n c t pulsed u on short_asked short_answered f k = go (rises c.before.ack c.after.ack) refl (rises c.before.req c.after.req) refl
+counts_by s p n c t pulsed u on short f k = go (rises c.before.ack c.after.ack) refl (rises c.before.req c.after.req) refl
   where
     h : Handshakes
     h = handshakes p
@@ -86,7 +96,7 @@ counts_by s p n c t pulsed u on short_asked short_answered f k = go (rises c.bef
     go true ea true er = no_both c.before.ack c.after.ack ea (f.asks er).0
     go true ea false er =
         let l = less ea (pulses_here p) refl in
-        let one = count_more h.answers short_answered in
+        let one = count_more h.answers (let z = l.0 in omega (arith, z, short)) in
         record {
           some = k.some;
           asked = let z = l.1 in omega (arith, one, z);
@@ -96,14 +106,13 @@ counts_by s p n c t pulsed u on short_asked short_answered f k = go (rises c.bef
         }
     go false ea true er =
         let m = asked er in
-        let one = count_more h.requests short_asked in
-        let few = k.asked in
+        let few = k.within in
         record {
           some = k.some;
-          asked = omega (arith, one, few);
+          asked = still_asked h.answers h.requests k.asked (omega (arith, few, short));
           within = k.within;
-          pulses = λ e. let z = m.0 (pulses e) in omega (arith, one, z);
-          waits = λ e q b. (m.1 (plain e), omega (arith, one, few));
+          pulses = λ e. asked_within h.requests run (m.0 (pulses e));
+          waits = λ e q b. (m.1 (plain e), asked_more h.answers h.requests k.asked (let z = m.1 (plain e) in omega (arith, z, short)));
         }
     go false ea false er = record {
       some = k.some;
@@ -179,16 +188,16 @@ pulses_stay s p row n c dv lt r ep phase = let lines = run_lines (bus p) phase i
 
 -- ---- a row of the phase
 
-pub counts_stay : (s : ScenarioValue) (p : List Row) (row : Row) (n : Connection) → changes_phase (change_of p row) ≡ false → connection (row ∷ p) ≡ Some n → pulses_here (row ∷ p) ≡ pulses_here p → run_count s (row ∷ p) n ≡ run_count s p n → phase_of (bus p) ≡ phases.DataOut → (handshakes p).requests + 1 < 2 ^ 64 → (handshakes p).answers + 1 < 2 ^ 64 → OutStep s p n (change_of p row) → AreCounted (handshakes p) (bus p) (pulses_here p) (run_count s p n)
+pub counts_stay : (s : ScenarioValue) (p : List Row) (row : Row) (n : Connection) → changes_phase (change_of p row) ≡ false → connection (row ∷ p) ≡ Some n → pulses_here (row ∷ p) ≡ pulses_here p → run_count s (row ∷ p) n ≡ run_count s p n → phase_of (bus p) ≡ phases.DataOut → run_count s p n < 2 ^ 64 → OutStep s p n (change_of p row) → AreCounted (handshakes p) (bus p) (pulses_here p) (run_count s p n)
     → AreCounted (handshakes (row ∷ p)) (bus (row ∷ p)) (pulses_here (row ∷ p)) (run_count s (row ∷ p) n)
-counts_stay s p row n ep after pulsed run phase short_asked short_answered f k =
+counts_stay s p row n ep after pulsed run phase short f k =
     subst (λ (x : ℕ). AreCounted (handshakes (row ∷ p)) (bus (row ∷ p)) (pulses_here (row ∷ p)) x) (sym run) (go (is_fault row.kind) refl)
   where
     c : Change
     c = change_of p row
 
     all : AreCounted (answered_if (rises c.before.ack c.after.ack) row.time (asked_if (rises c.before.req c.after.req) row.time (handshakes p))) c.after (pulses_here (row ∷ p)) (run_count s p n)
-    all = counts_by s p n c row.time (pulses_here (row ∷ p)) (sym pulsed) refl short_asked short_answered f k
+    all = counts_by s p n c row.time (pulses_here (row ∷ p)) (sym pulsed) refl short f k
 
     io : c.before.io ≡ false
     io = (run_lines (bus p) phase).2

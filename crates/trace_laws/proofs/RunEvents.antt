@@ -40,8 +40,8 @@ use Rattle.bus_due.specs.RunState.{RunState, bus_of}
 use Rattle.bus_due.specs.Sights.{serving_of}
 use Rattle.bus_due.specs.Telling.{events_of_ends, events_of_ends_in, id_of, initiator_events, is_true_telling, same_event, same_events, target_events}
 use Rattle.trace_laws.specs.RunsWhole.{has_run, is_run}
-use Rattle.trace_laws.proofs.Impossible.{wrong'}
 use Rattle.trace_laws.proofs.UnknownTurns.{tasks, recovers}
+use Rattle.bus_base.proofs.Tests.{wrong'}
 
 -- ---- the rows show what the ends show
 

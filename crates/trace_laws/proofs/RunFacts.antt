@@ -1,22 +1,20 @@
--- Of a prompt trace: the data pointers of all processes that write after each row, and what this asks of the next row.
-use Rattle.std.proofs.Common.{ℕ, ◌≡◌, ◌⊎◌, inl, inr, ◌+◌, ◌*◌, ◌≤◌, ◌<◌, ◌^◌, Bool, true, false, not, ◌&&◌, ◌∙◌, List, [], ◌∷◌, length, Option, Some, None, Result, Ok, Err, refl, sym, ap, subst, arith, true≢false, ◌≢◌}
+-- Of a prompt trace: the data pointers of all processes of one kind after each row, as of those that write, and what this asks of the next row.
+use Rattle.std.proofs.Common.{ℕ, ◌≡◌, ◌⊎◌, inl, inr, ◌+◌, ◌*◌, ◌<◌, ◌^◌, Bool, true, false, not, ◌&&◌, ◌∙◌, List, [], ◌∷◌, Option, Some, None, Result, Ok, Err, refl, sym, ap, subst, arith, true≢false, ◌≢◌}
 use Rattle.std.specs.Prelude.{if◌then◌else◌, is_some, nat_lt, ◌==◌}
 use Rattle.std.proofs.lemmas.Bool.Decides.{nat_tests}
 use Rattle.std.proofs.lemmas.Option.{same_Some}
-use Rattle.bus_base.specs.Faults.{counted_on}
 use Rattle.bus_base.specs.declared.ProcId.{ProcId}
 use Rattle.bus_trace.specs.LineSet.{LineSet}
 use Rattle.bus_trace.proofs.Buses.{bus_off}
 use Rattle.bus_trace.proofs.OneRow.{drives-other}
-use Rattle.bus_books.proofs.Lists.{eq_self}
 use Rattle.bus_trace.specs.declared.Row.{Row}
 use Rattle.bus_trace.specs.declared.changes.Change.{Change}
 use Rattle.bus_trace.specs.declared.connection.Connection.{Connection}
 use Rattle.bus_trace.specs.Changes.{change_of, rises}
-use Rattle.bus_trace.specs.Phases.{changes_phase}
-use Rattle.bus_trace.specs.Terms.{call, connection, connection_after, is_fault, receiver_of}
+use Rattle.bus_trace.specs.Phases.{changes_phase, is_data}
+use Rattle.bus_trace.specs.Terms.{call, connection, connection_after, receiver_of}
 use Rattle.bus_trace.specs.Trace.{bus, drives, driven_after}
-use Rattle.bus_lines.specs.Handshakes.{Handshakes, handshakes, no_handshakes, handshakes_on, handshakes_after, asked_if, answered_if, strikes_if}
+use Rattle.bus_lines.specs.Handshakes.{Handshakes, handshakes}
 use Rattle.cdb_codec.specs.Cdb.{command_of}
 use Rattle.cdb_codec.specs.declared.command.Command.{Command}
 use Rattle.cdb_codec.specs.declared.command.Command.TheVariants as commands
@@ -26,10 +24,12 @@ use Rattle.scenario.specs.declared.value.Policy.{Policy}
 use Rattle.scenario.specs.Value.{ScenarioValue}
 use Rattle.scenario.specs.Writing.{Obeys}
 use Rattle.disk_array.specs.Execution.{is_request_sense}
-use Rattle.disk_array.specs.Processes.{Process}
+use Rattle.disk_array.specs.Order.{range_in}
+use Rattle.disk_array.specs.Processes.{Process, process_of}
 use Rattle.disk_array.specs.Units.{Array, UnitState, unit_state_at}
 use Rattle.bus_story.specs.BusState.{row_reading}
 use Rattle.bus_story.specs.Items.{process, has_item}
+use Rattle.bus_story.specs.Links.{Link}
 use Rattle.bus_dialogue.specs.declared.exchange.Arrival.{Arrival}
 use Rattle.bus_dialogue.specs.declared.exchange.Arrival.TheVariants as arrivals
 use Rattle.bus_dialogue.specs.declared.exchange.Phase.{Phase}
@@ -47,76 +47,37 @@ use Rattle.bus_due.specs.Plain.{IsPlain, AreOfDevices}
 use Rattle.bus_due.specs.RunState.{RunState, bus_of, array_of, process_served, carried_here}
 use Rattle.bus_due.specs.RunSteps.{run_state}
 use Rattle.bus_due.specs.Sights.{arrival_at, leaving}
-use Rattle.bus_due.specs.Tasks.{is_writing, task_of, task_if, task_with, reply_now, arrival_of, arrival_if, room_of, size_of}
+use Rattle.bus_due.specs.Tasks.{blocks_in, is_writing, task_of, task_if, task_with, reply_now, arrival_of, arrival_if, room_of, size_of}
 use Rattle.disk_array.specs.ArrayHistory.{array_after, reply_in}
 use Rattle.bus_story.specs.Story.{Story}
 use Rattle.bus_due.proofs.Plains.{run_state_plain}
 use Rattle.bus_books.specs.Rows.{IsRowIn}
 use Rattle.bus_laws.proofs.Apart.{change_plain}
 use Rattle.bus_laws.proofs.FromReset.{off_at}
-use Rattle.trace_laws.specs.DataPointers.{policy_for, run_start, run_step, IsInRun, PointersIf, ServedPointers, unnamed, named, RefusesLater, IsServedAnew}
+use Rattle.trace_laws.specs.DataPointers.{policy_by, run_policy, run_start, run_step, PointersIf, PointersOf, ServedPointers, unnamed, named, RefusesLater, IsServedAnew}
 use Rattle.trace_laws.specs.Offers.{OfferFacts}
-use Rattle.trace_laws.specs.RunFacts.{RunsBy, RunFacts}
+use Rattle.trace_laws.specs.RunFacts.{IsWriter, RunsBy, RunFacts}
 use Rattle.trace_laws.proofs.ConnectionRows.{connection_row, stage_of_connection}
 use Rattle.trace_laws.proofs.Crossings.{RowFacts, stays, ends_here}
 use Rattle.trace_laws.proofs.Impossible.{none_some}
 use Rattle.trace_laws.proofs.Joint.{Stood, NextStood, link_phase}
 use Rattle.trace_laws.proofs.Offers.{refuses_later}
-use Rattle.trace_laws.proofs.Plans.{writes_there}
+use Rattle.trace_laws.proofs.Plans.{is_directed, writes_of, writes_there}
 use Rattle.trace_laws.proofs.PointerLeavings.{MoreRuns}
-use Rattle.trace_laws.proofs.PointerRows.{out_lines}
+use Rattle.trace_laws.proofs.PointerEnds.{rst_over}
+use Rattle.trace_laws.proofs.PointerRows.{out_lines, read_lines}
 use Rattle.trace_laws.proofs.PointerTurns.{TurnsBy}
 use Rattle.trace_laws.proofs.RunFits.{FitsRuns, fits_runs}
-use Rattle.trace_laws.proofs.RunParts.{RunsFit, start_is, more_runs}
+use Rattle.trace_laws.proofs.RunParts.{RunsFit, start_is, more_cut, more_runs}
 use Rattle.trace_laws.proofs.RunRows.{runs_first, runs_row, served_id}
 use Rattle.trace_laws.proofs.Tests.{zero_times}
+use Rattle.bus_base.proofs.Tests.{eq_self, wrong, wrong'}
+use Rattle.bus_books.specs.Accounts.{policy_for}
 
 -- ---- before any row
 
 pub runs_start : (s : ScenarioValue) → RunFacts s []
-runs_start s = runs_first s
-
--- ---- counts
-
-counted_few : (n m : ℕ) → n ≤ m → counted_on n ≤ m + 1
-counted_few n m h = omega (arith, h)
-
-more_few : (n m : ℕ) → n ≤ m → n ≤ m + 1
-more_few n m h = omega (arith, h)
-
--- There are no more answers, nor requests, than rows.
-pub few_counts : (p : List Row) → ((handshakes p).answers ≤ length p) × ((handshakes p).requests ≤ length p)
-few_counts [] = (omega arith, omega arith)
-few_counts (row ∷ p) = go (is_fault row.kind) (connection (row ∷ p)) (few_counts p)
-  where
-    h : Handshakes
-    h = handshakes p
-
-    grown : (n : ℕ) → n ≤ length p + 1 → n ≤ length (row ∷ p)
-    grown n k = omega (arith, k)
-
-    struck : (q : Bool) → (h.answers ≤ length p) × (h.requests ≤ length p) → ((strikes_if q h).answers ≤ length (row ∷ p)) × ((strikes_if q h).requests ≤ length (row ∷ p))
-    struck true k = (grown h.answers (more_few h.answers (length p) k.0), grown h.requests (more_few h.requests (length p) k.1))
-    struck false k = (grown h.answers (more_few h.answers (length p) k.0), grown h.requests (more_few h.requests (length p) k.1))
-
-    both : (a b : Bool) → (h.answers ≤ length p) × (h.requests ≤ length p) → ((answered_if a row.time (asked_if b row.time h)).answers ≤ length (row ∷ p)) × ((answered_if a row.time (asked_if b row.time h)).requests ≤ length (row ∷ p))
-    both true true k = (grown (counted_on h.answers) (counted_few h.answers (length p) k.0), grown (counted_on h.requests) (counted_few h.requests (length p) k.1))
-    both true false k = (grown (counted_on h.answers) (counted_few h.answers (length p) k.0), grown h.requests (more_few h.requests (length p) k.1))
-    both false true k = (grown h.answers (more_few h.answers (length p) k.0), grown (counted_on h.requests) (counted_few h.requests (length p) k.1))
-    both false false k = (grown h.answers (more_few h.answers (length p) k.0), grown h.requests (more_few h.requests (length p) k.1))
-
-    on : (o : Option Connection) → (h.answers ≤ length p) × (h.requests ≤ length p) → ((handshakes_on o (change_of p row) row.time h).answers ≤ length (row ∷ p)) × ((handshakes_on o (change_of p row) row.time h).requests ≤ length (row ∷ p))
-    on None k = (omega arith, omega arith)
-    on (Some n) k = by (changes_phase (change_of p row))
-      where
-        by : (q : Bool) → ((if q then no_handshakes else answered_if (rises (change_of p row).before.ack (change_of p row).after.ack) row.time (asked_if (rises (change_of p row).before.req (change_of p row).after.req) row.time h)).answers ≤ length (row ∷ p))
-            × ((if q then no_handshakes else answered_if (rises (change_of p row).before.ack (change_of p row).after.ack) row.time (asked_if (rises (change_of p row).before.req (change_of p row).after.req) row.time h)).requests ≤ length (row ∷ p))
-        by true = (omega arith, omega arith)
-        by false = both (rises (change_of p row).before.ack (change_of p row).after.ack) (rises (change_of p row).before.req (change_of p row).after.req) k
-
-    go : (f : Bool) (o : Option Connection) → (h.answers ≤ length p) × (h.requests ≤ length p) → ((handshakes_after f o (change_of p row) row.time h).answers ≤ length (row ∷ p)) × ((handshakes_after f o (change_of p row) row.time h).requests ≤ length (row ∷ p))
-    go true o k = struck (change_of p row).before.io k
-    go false o k = on o k
+runs_start s = runs_first IsWriter s
 
 -- ---- a command arrives
 
@@ -160,14 +121,14 @@ pub no_room : (a : Array) (o : Option UnitState) → room_of a o ≡ None → si
 no_room a None e = refl
 no_room a (Some u) e = none_of (record { full = not (nat_lt (Rattle.disk_array.specs.Steps.process_count u) u.depth); idle = Rattle.bus_due.specs.Tasks.is_idle_unit a u }) e
 
-pub none_in_all : (policy : Policy) (t : Task) → RunsFit policy t → t.size ≡ 0 → runs_in_all policy t ≡ 0
-none_in_all policy t f z = go (t.moved == 0) refl
+pub none_in_all : (policy : Policy) (t : Task) (blocks : ℕ) → RunsFit policy t → t.blocks ≡ Some blocks → t.size ≡ 0 → runs_in_all policy t ≡ 0
+none_in_all policy t blocks f is z = go (t.moved == 0) refl
   where
     go : (b : Bool) → (t.moved == 0) ≡ b → (if b then 0 else runs_in policy t.blocks) ≡ 0
     go true e = refl
-    go false e = absurd (true≢false (sym (ap (λ (x : ℕ). x == 0) (f.moved e ∙ ap (λ (x : ℕ). f.blocks * x) z ∙ zero_times f.blocks)) ∙ e))
+    go false e = absurd (true≢false (sym (ap (λ (x : ℕ). x == 0) (f.moved blocks is e ∙ ap (λ (x : ℕ). blocks * x) z ∙ zero_times blocks)) ∙ e))
 
--- ---- what a process that writes does as a phase is left
+-- ---- what a process does as a phase is left
 
 -- The bytes of the run are all answered as DATA OUT is left with none struck.
 abbrev pub AnswersAll : ScenarioValue → RunState → Connection → Type 0
@@ -177,18 +138,39 @@ AnswersAll s k n = (q : Process) (t : Task) → process_served s k ≡ Some q �
 abbrev pub task_here : ScenarioValue → RunState → Process → Task
 task_here s k q = task_with (array_of s k) (progress_in k.progress q.id) q (carried_here k q.id) (reply_now (array_of s k) q) (reply_in (array_of s k).replies q.id)
 
-turns_by : (s : ScenarioValue) (k : RunState) (n : Connection) (q : Process) → FitsRuns s k q (task_here s k q) → process_served s k ≡ Some q → is_writing q ≡ true → q.target ≡ n.target → (phase_of (bus_of k) ≡ phases.DataOut → k.exchange.plan.struck ≡ false → k.handshakes.answers ≡ run_length (policy_of (target_def_of s n.target)) (task_here s k q)) → TurnsBy s k n q
-turns_by s k n q f served w to all = record {
+never_by : (policy : Policy) (o : Option ℕ) → is_never policy ≡ true → is_never (policy_by policy o) ≡ true
+never_by policy None e = refl
+never_by policy (Some blocks) e = e
+
+sense_no_blocks : (r : Result Command CdbFault) (blocks : ℕ) → is_request_sense r ≡ true → blocks_in (range_in r) ≡ Some blocks → ⊥
+sense_no_blocks (Err fault) blocks e f = wrong' e
+sense_no_blocks (Ok commands.TestUnitReady) blocks e f = wrong' e
+sense_no_blocks (Ok (commands.RequestSense room)) blocks e f = none_some blocks f
+  where
+    none_some : (b : ℕ) → (let o : Option ℕ = None in o) ≡ Some b → ⊥
+    none_some b z = cc
+sense_no_blocks (Ok (commands.Read6 lba count)) blocks e f = wrong' e
+sense_no_blocks (Ok (commands.Write6 lba count)) blocks e f = wrong' e
+sense_no_blocks (Ok (commands.Inquiry room)) blocks e f = wrong' e
+sense_no_blocks (Ok commands.ReadCapacity) blocks e f = wrong' e
+sense_no_blocks (Ok (commands.Read10 lba count)) blocks e f = wrong' e
+sense_no_blocks (Ok (commands.Write10 lba count)) blocks e f = wrong' e
+
+-- As DATA OUT is left with no byte struck its run was answered whole, as DATA IN is left it was asked for.
+pub turns_by : (s : ScenarioValue) (k : RunState) (n : Connection) (q : Process) → FitsRuns s k q (task_here s k q) → process_served s k ≡ Some q → q.target ≡ n.target → (phase_of (bus_of k) ≡ phases.DataOut → k.exchange.plan.struck ≡ false → k.handshakes.answers ≡ run_length (policy_of (target_def_of s n.target)) (task_here s k q))
+    → (phase_of (bus_of k) ≡ phases.DataIn → k.handshakes.requests ≡ run_length (policy_of (target_def_of s n.target)) (task_here s k q)) → TurnsBy s k n q
+turns_by s k n q f served to sent given = record {
   served_is = served;
   target_is = to;
   task = task_here s k q;
   runs_are = refl;
-  writes_by = record {
+  moves_by = record {
     task_is = ap (task_if s k) served;
-    writes = w;
     at_once = λ e. once (phase_of (bus_of k)) e;
     guest = λ e. guest (phase_of (bus_of k)) e;
-    more = λ z struck e. more z struck e;
+    cut = λ e. ap (λ (x : Policy). policy_by x (task_here s k q).blocks) same ∙ more_cut policy (task_here s k q) e;
+    sent = λ z struck e. more k.handshakes.answers (sent z struck) e;
+    given = λ z e. more k.handshakes.requests (given z) e;
   };
 }
   where
@@ -204,22 +186,29 @@ turns_by s k n q f served w to all = record {
     arrives : arrival_of s k policy ≡ arrival_by policy (is_request_sense (command_of q.cdb)) (room_of (array_of s k) (unit_state_at (array_of s k).units q.target q.unit))
     arrives = ap (arrival_if policy (array_of s k)) served
 
-    once : (x : Phase) → arrival_at s k n.target x ≡ arrivals.AtOnce → is_never policy ≡ true
-    once phases.Command e = at_once_never policy (is_request_sense (command_of q.cdb)) (room_of (array_of s k) (unit_state_at (array_of s k).units q.target q.unit)) (sym arrives ∙ e)
+    never : is_never policy ≡ true → is_never (run_policy s q) ≡ true
+    never e = never_by (policy_for s q) (blocks_in (range_in (command_of q.cdb))) (ap is_never same ∙ e)
+
+    once : (x : Phase) → arrival_at s k n.target x ≡ arrivals.AtOnce → is_never (run_policy s q) ≡ true
+    once phases.Command e = never (at_once_never policy (is_request_sense (command_of q.cdb)) (room_of (array_of s k) (unit_state_at (array_of s k).units q.target q.unit)) (sym arrives ∙ e))
     once phases.DataOut e = let bad : arrivals.Queued ≡ arrivals.AtOnce = e in absurd cc
     once phases.DataIn e = let bad : arrivals.Queued ≡ arrivals.AtOnce = e in absurd cc
     once phases.Status e = let bad : arrivals.Queued ≡ arrivals.AtOnce = e in absurd cc
     once phases.MessageIn e = let bad : arrivals.Queued ≡ arrivals.AtOnce = e in absurd cc
     once phases.MessageOut e = let bad : arrivals.Queued ≡ arrivals.AtOnce = e in absurd cc
 
-    outside : arrival_of s k policy ≡ arrivals.Guest → runs_in_all policy (task_here s k q) ≡ 0
-    outside e = by (guest_none policy (is_request_sense (command_of q.cdb)) (room_of (array_of s k) (unit_state_at (array_of s k).units q.target q.unit)) (sym arrives ∙ e))
+    outside : arrival_of s k policy ≡ arrivals.Guest → (is_never (run_policy s q) ≡ true) ⊎ (runs_in_all policy (task_here s k q) ≡ 0)
+    outside e = at (blocks_in (range_in (command_of q.cdb))) refl
       where
-        by : (is_request_sense (command_of q.cdb) ≡ true) ⊎ (room_of (array_of s k) (unit_state_at (array_of s k).units q.target q.unit) ≡ None) → runs_in_all policy (task_here s k q) ≡ 0
-        by (inl z) = absurd (true≢false (sym z ∙ write_no_sense (command_of q.cdb) w))
-        by (inr z) = none_in_all policy (task_here s k q) fit (no_room (array_of s k) (unit_state_at (array_of s k).units q.target q.unit) z)
+        by : (blocks : ℕ) → blocks_in (range_in (command_of q.cdb)) ≡ Some blocks → (is_request_sense (command_of q.cdb) ≡ true) ⊎ (room_of (array_of s k) (unit_state_at (array_of s k).units q.target q.unit) ≡ None) → runs_in_all policy (task_here s k q) ≡ 0
+        by blocks is (inl z) = absurd (sense_no_blocks (command_of q.cdb) blocks z is)
+        by blocks is (inr z) = none_in_all policy (task_here s k q) blocks fit is (no_room (array_of s k) (unit_state_at (array_of s k).units q.target q.unit) z)
 
-    guest : (x : Phase) → arrival_at s k n.target x ≡ arrivals.Guest → runs_in_all policy (task_here s k q) ≡ 0
+        at : (o : Option ℕ) → blocks_in (range_in (command_of q.cdb)) ≡ o → (is_never (run_policy s q) ≡ true) ⊎ (runs_in_all policy (task_here s k q) ≡ 0)
+        at None is = inl (ap (λ (x : Option ℕ). is_never (policy_by (policy_for s q) x)) is)
+        at (Some blocks) is = inr (by blocks is (guest_none policy (is_request_sense (command_of q.cdb)) (room_of (array_of s k) (unit_state_at (array_of s k).units q.target q.unit)) (sym arrives ∙ e)))
+
+    guest : (x : Phase) → arrival_at s k n.target x ≡ arrivals.Guest → (is_never (run_policy s q) ≡ true) ⊎ (runs_in_all policy (task_here s k q) ≡ 0)
     guest phases.Command e = outside e
     guest phases.DataOut e = let bad : arrivals.Queued ≡ arrivals.Guest = e in absurd cc
     guest phases.DataIn e = let bad : arrivals.Queued ≡ arrivals.Guest = e in absurd cc
@@ -227,22 +216,33 @@ turns_by s k n q f served w to all = record {
     guest phases.MessageIn e = let bad : arrivals.Queued ≡ arrivals.Guest = e in absurd cc
     guest phases.MessageOut e = let bad : arrivals.Queued ≡ arrivals.Guest = e in absurd cc
 
-    more : phase_of (bus_of k) ≡ phases.DataOut → k.exchange.plan.struck ≡ false → nat_lt ((task_here s k q).runs + 1) (runs_in_all policy (task_here s k q)) ≡ true → MoreRuns policy (task_here s k q).runs (run_step s q) k.handshakes.answers
-    more z struck e =
-        subst (λ (x : ℕ). MoreRuns policy (task_here s k q).runs (run_step s q) x) (sym (all z struck))
+    more : (count : ℕ) → count ≡ run_length policy (task_here s k q) → nat_lt ((task_here s k q).runs + 1) (runs_in_all policy (task_here s k q)) ≡ true → MoreRuns policy (task_here s k q).runs (run_step s q) count
+    more count all e =
+        subst (λ (x : ℕ). MoreRuns policy (task_here s k q).runs (run_step s q) x) (sym all)
         (subst (λ (x : ℕ). MoreRuns policy (task_here s k q).runs x (run_length policy (task_here s k q))) (ap (λ (x : Policy). Rattle.trace_laws.specs.DataPointers.step_in x (task_here s k q).blocks (task_here s k q).size) (sym same) ∙ f.step)
         (more_runs policy (task_here s k q) fit e))
 
 -- ---- the next row
 
--- What is asked of it beside: that the process of a connection that begins is neither over nor has shown a reply; that the process
--- that is served was sent; and that the bytes of a run are all answered as DATA OUT is left.
+-- What is asked of it beside, of the processes of one kind: that the process of a connection that begins is neither over nor has shown a
+-- reply; that RST ends the process that is served; what the target knows of it as a phase is left; and that in DATA OUT few bytes were
+-- answered, in DATA IN few were asked for.
+pub record KindPremises (kind : Process → Type 0) (s : ScenarioValue) (p : List Row) (row : Row) : Type 0 where
+  pub anew : (n : Connection) → connection p ≡ None → connection (row ∷ p) ≡ Some n → IsServedAnew s (run_state s p) n
+  pub stops : (q : Process) → process_of s q.id ≡ Some q → kind q → (run_state s p).served ≡ Some (process q.id) → (bus p).rst ≡ false → (bus (row ∷ p)).rst ≡ true → has_item (run_state s (row ∷ p)).story.sent.over (process q.id) ≡ true
+  pub turns : (n : Connection) (q : Process) → connection p ≡ Some n → (bus p).rst ≡ false → (bus (row ∷ p)).rst ≡ false → connection (row ∷ p) ≡ Some n → begun p ≡ true → changes_phase (change_of p row) ≡ true → process_served s (run_state s p) ≡ Some q → kind q → q.target ≡ n.target → TurnsBy s (run_state s p) n q
+  pub few : (n : Connection) (q : Process) → connection p ≡ Some n → (bus p).rst ≡ false → process_served s (run_state s p) ≡ Some q → kind q → begun p ≡ true → phase_of (bus p) ≡ phases.DataOut → (handshakes p).answers + 1 < 2 ^ 64
+  pub few_asked : (n : Connection) (q : Process) → connection p ≡ Some n → (bus p).rst ≡ false → process_served s (run_state s p) ≡ Some q → kind q → begun p ≡ true → phase_of (bus p) ≡ phases.DataIn → (handshakes p).requests + 1 < 2 ^ 64
+
+-- Of those that write: that the process that is served was sent; that the bytes of a run are all answered as DATA OUT is left; and that
+-- in it they are few.
 pub record RunPremises (s : ScenarioValue) (p : List Row) (row : Row) : Type 0 where
   pub anew : (n : Connection) → connection p ≡ None → connection (row ∷ p) ≡ Some n → IsServedAnew s (run_state s p) n
   pub sent : (id : ProcId) → (run_state s p).served ≡ Some (process id) → has_item (run_state s p).story.sent.sent (process id) ≡ true
   pub answers : (n : Connection) → connection p ≡ Some n → (bus p).rst ≡ false → (bus (row ∷ p)).rst ≡ false → connection (row ∷ p) ≡ Some n → begun p ≡ true → changes_phase (change_of p row) ≡ true → AnswersAll s (run_state s p) n
+  pub few : (n : Connection) → connection p ≡ Some n → (bus p).rst ≡ false → begun p ≡ true → phase_of (bus p) ≡ phases.DataOut → (handshakes p).answers + 1 < 2 ^ 64
 
-raised_rst : (p : List Row) (row : Row) → row.dev < 8 → (bus p).rst ≡ false → (bus (row ∷ p)).rst ≡ true → rises (change_of p row).own.rst (change_of p row).next.rst ≡ true
+pub raised_rst : (p : List Row) (row : Row) → row.dev < 8 → (bus p).rst ≡ false → (bus (row ∷ p)).rst ≡ true → rises (change_of p row).own.rst (change_of p row).next.rst ≡ true
 raised_rst p row lt off on = go (drives (row ∷ p) row.dev).rst refl
   where
     own : (drives p row.dev).rst ≡ false
@@ -266,14 +266,14 @@ raised_rst p row lt off on = go (drives (row ∷ p) row.dev).rst refl
             other a b z e = let w : (a == b) ≡ true = grind (arith, nat_tests) in absurd (true≢false (sym w ∙ z))
 
 -- The kind of a row of a connection by the lines, of which the same is known as of what is kept.
-record LinesOf (s : ScenarioValue) (p : List Row) (row : Row) (n : Connection) (c : Change) : Type 0 where
-  con : connection p ≡ Some n
-  calm : (bus p).rst ≡ false
-  off : (bus (row ∷ p)).rst ≡ false
-  change : change_of p row ≡ c
-  after : connection (row ∷ p) ≡ Some n
+pub record LinesOf (s : ScenarioValue) (p : List Row) (row : Row) (n : Connection) (c : Change) : Type 0 where
+  pub con : connection p ≡ Some n
+  pub calm : (bus p).rst ≡ false
+  pub off : (bus (row ∷ p)).rst ≡ false
+  pub change : change_of p row ≡ c
+  pub after : connection (row ∷ p) ≡ Some n
 
-lines_of : (s : ScenarioValue) (p : List Row) (row : Row) (n : Connection) (c : Change) → AreOfDevices p → row.dev < 8 → (bus_of (run_state s p)).rst ≡ false → IsRowIn (run_state s p) row n c → LinesOf s p row n c
+pub lines_of : (s : ScenarioValue) (p : List Row) (row : Row) (n : Connection) (c : Change) → AreOfDevices p → row.dev < 8 → (bus_of (run_state s p)).rst ≡ false → IsRowIn (run_state s p) row n c → LinesOf s p row n c
 lines_of s p row n c dv lt calm r =
     let pl = run_state_plain s p dv in
     let change : change_of p row ≡ c = sym (change_plain s row p dv lt) ∙ r.change_is in
@@ -286,25 +286,28 @@ lines_of s p row n c dv lt calm r =
       after = (λ i. connection_after (con i) (call p) (change i) row) ∙ ap (λ (b : Bool). if b then Some n else None) r.stands;
     }
 
-pub runs_next : (s : ScenarioValue) (p : List Row) (row : Row) → Obeys s → IsPrompt s (row ∷ p) → length (row ∷ p) < 2 ^ 64 → Stood s p → NextStood s p row → OfferFacts s p → RunPremises s p row → RunFacts s p → RunFacts s (row ∷ p)
-runs_next s p row o prompt short was nx offers asked facts =
-    runs_row s k row (record {
+pub kind_next : (kind : Process → Type 0) (s : ScenarioValue) (p : List Row) (row : Row) → Obeys s → IsPrompt s (row ∷ p) → Stood s p → NextStood s p row → OfferFacts s p → KindPremises kind s p row → RunsBy kind s (run_state s p) → RunsBy kind s (run_state s (row ∷ p))
+kind_next kind s p row o prompt was nx offers asked facts =
+    runs_row kind s k row (record {
       was = facts;
       row_is = nx.row_is;
       speaks = was.books.speaks;
       gives = was.books.gives;
       knows = was.books.knows;
       anew = λ n con next. asked.anew n (sym pl.connection ∙ con) ((λ i. connection_after (sym pl.connection i) (sym pl.call i) (sym c i) row) ∙ next);
-      sent = asked.sent;
+      stops = λ q own w served on calm. asked.stops q own w served (ap (λ (l : LineSet). l.rst) (sym pl.bus) ∙ calm) (ap (λ (x : Change). x.after.rst) (sym c) ∙ on);
       refuses = λ n con calm b e cause.
           let phase = link_phase s p n (stage_of_connection s p n was (sym pl.connection ∙ con) (ap (λ (l : LineSet). l.rst) (sym pl.bus) ∙ calm)) in
           let lines = out_lines (bus_of k) e in
           refuses_later s p n offers (sym pl.connection ∙ con) (ap (λ (l : LineSet). l.rst) (sym pl.bus) ∙ calm) b (λ i. lines.0 i && ((ap (λ (l : LineSet). l.cd) pl.bus ∙ (phase (ap (λ (l : LineSet). l.msg) (sym pl.bus) ∙ lines.0)).0)) i && not (lines.1 i)) cause;
-      raises = λ calm on. ap (λ (x : Change). rises x.own.rst x.next.rst) c ∙ raised_rst p row lt (ap (λ (l : LineSet). l.rst) (sym pl.bus) ∙ calm) (ap (λ (x : Change). x.after.rst) (sym c) ∙ on);
-      short = (
-        let few = (few_counts p).0 in let is : k.handshakes.answers ≡ (handshakes p).answers = ap (λ (h : Handshakes). h.answers) pl.handshakes in omega (arith, few, is, short),
-        let few = (few_counts p).1 in let is : k.handshakes.requests ≡ (handshakes p).requests = ap (λ (h : Handshakes). h.requests) pl.handshakes in omega (arith, few, is, short),
-      );
+      short = λ n q con calm served w b phase.
+          let few = asked.few n q (sym pl.connection ∙ con) (ap (λ (l : LineSet). l.rst) (sym pl.bus) ∙ calm) served w (sym pl.begun ∙ b) (ap phase_of (sym pl.bus) ∙ phase) in
+          let is : k.handshakes.answers ≡ (handshakes p).answers = ap (λ (h : Handshakes). h.answers) pl.handshakes in
+          omega (arith, few, is);
+      short_asked = λ n q con calm served w b phase.
+          let few = asked.few_asked n q (sym pl.connection ∙ con) (ap (λ (l : LineSet). l.rst) (sym pl.bus) ∙ calm) served w (sym pl.begun ∙ b) (ap phase_of (sym pl.bus) ∙ phase) in
+          let is : k.handshakes.requests ≡ (handshakes p).requests = ap (λ (h : Handshakes). h.requests) pl.handshakes in
+          omega (arith, few, is);
       known = λ x n r calm z. known x n r calm z;
       whereto = λ x n r calm ep b. whereto x n r calm ep b;
       turns = λ x n q r calm ep served w b. turns x n q r calm ep served w b;
@@ -343,24 +346,79 @@ runs_next s p row o prompt short was nx offers asked facts =
             g.whereto (ap changes_phase same ∙ ep) (sym pl.begun ∙ b) ∙ ap (λ (y : Change). Some (phase_of y.after)) same
         by (ends_here g) = none_some n (sym g.stopped ∙ l.after)
 
-    turns : (x : Change) (n : Connection) (q : Process) → IsRowIn k row n x → (bus_of k).rst ≡ false → changes_phase x ≡ true → process_served s k ≡ Some q → is_writing q ≡ true → k.exchange.begun ≡ true → TurnsBy s k n q
+    turns : (x : Change) (n : Connection) (q : Process) → IsRowIn k row n x → (bus_of k).rst ≡ false → changes_phase x ≡ true → process_served s k ≡ Some q → kind q → k.exchange.begun ≡ true → TurnsBy s k n q
     turns x n q r calm ep served w b =
         let l = lines_of s p row n x dv lt calm r in
-        let own = served_id s k.served q served in
-        let well = facts.served n q r.connection_is calm served w in
-        turns_by s k n q (fits_runs s k q o (pl.array ∙ ap (λ (x : Story). array_after s x.history) (sym pl.story)) own.1 w) served w well.target_is
-        (λ e struck. asked.answers n l.con l.calm l.off l.after (sym pl.begun ∙ b) (ap changes_phase l.change ∙ ep) q (task_here s k q) served (ap (task_if s k) served) e)
+        asked.turns n q l.con l.calm l.off l.after (sym pl.begun ∙ b) (ap changes_phase l.change ∙ ep) served w (facts.served n q r.connection_is calm served w).target_is
+
+-- A process that writes has no DATA IN.
+pub writes_none_in : {A : Type 0} (s : ScenarioValue) (p : List Row) (n : Connection) (q : Process) → Stood s p → connection p ≡ Some n → (bus p).rst ≡ false → (run_state s p).exchange.begun ≡ true → process_served s (run_state s p) ≡ Some q → is_writing q ≡ true → phase_of (bus_of (run_state s p)) ≡ phases.DataIn → A
+writes_none_in s p n q was con calm b served w phase =
+    let k = run_state s p in
+    let lines = read_lines (bus_of k) phase in
+    let on : is_data (bus_of k) ≡ true = λ i. not (lines.0 i) && not (lines.1 i) in
+    wrong' (sym (λ i. not (w i)) ∙ sym (λ i. is_directed (lines.2 i) (writes_of (served i))) ∙ (was.planned n con calm).serves b on)
+
+pub runs_next : (s : ScenarioValue) (p : List Row) (row : Row) → Obeys s → IsPrompt s (row ∷ p) → Stood s p → NextStood s p row → OfferFacts s p → RunPremises s p row → RunFacts s p → RunFacts s (row ∷ p)
+runs_next s p row o prompt was nx offers asked facts =
+    kind_next IsWriter s p row o prompt was nx offers (record {
+      anew = asked.anew;
+      stops = λ q own w served calm on. rst_over s k row q own w (asked.sent q.id served) (ap (λ (x : Change). x.after.rst) c ∙ on) (ap (λ (x : Change). rises x.own.rst x.next.rst) c ∙ raised_rst p row lt calm on);
+      turns = λ n q con calm off after b ep served w to.
+          turns_by s k n q (fits_runs s k q o (pl.array ∙ ap (λ (x : Story). array_after s x.history) (sym pl.story)) (served_id s k.served q served).1 w) served to
+          (λ e struck. asked.answers n con calm off after b ep q (task_here s k q) served (ap (task_if s k) served) e)
+          (λ e. writes_none_in s p n q was con calm (pl.begun ∙ b) served w e);
+      few = λ n q con calm served w b phase. asked.few n con calm b phase;
+      few_asked = λ n q con calm served w b phase. writes_none_in s p n q was con calm (pl.begun ∙ b) served w (ap phase_of pl.bus ∙ phase);
+    }) facts
+  where
+    k : RunState
+    k = run_state s p
+
+    lt : row.dev < 8
+    lt = (nx.stood.standing.devices).0
+
+    pl : IsPlain s p k
+    pl = run_state_plain s p was.standing.devices
+
+    c : (row_reading k.story.bus_state row).change ≡ change_of p row
+    c = change_plain s row p was.standing.devices lt
 
 -- ---- what is asked of a row of a connection
 
-run_phase : {A : Type 0} (x : Phase) → x ≡ phases.DataOut → (x ≡ phases.MessageIn) ⊎ (x ≡ phases.MessageOut) → A
-run_phase x e (inl z) = let bad : phases.DataOut ≡ phases.MessageIn = sym e ∙ z in absurd cc
-run_phase x e (inr z) = let bad : phases.DataOut ≡ phases.MessageOut = sym e ∙ z in absurd cc
+abbrev pub is_data_phase : Phase → Bool
+is_data_phase phases.DataIn = true
+is_data_phase phases.DataOut = true
+is_data_phase _ = false
+
+-- In a data phase the data pointer of the process that is served stands so many bytes after the beginning of its run.
+pub active_is : (s : ScenarioValue) (k : RunState) (q : Process) (t : Task) (count : ℕ) → FitsRuns s k q (task_here s k q) → process_served s k ≡ Some q → task_of s k ≡ Some t → {phase : Phase} → phase_of (bus_of k) ≡ phase → is_data_phase phase ≡ true → k.exchange.begun ≡ true
+    → ((l : Link) → PointersOf (run_policy s q) l (carried_here k q.id) k.exchange.plan k.handshakes (run_start s k q) phase → (carried_here k q.id).moved.active ≡ run_start s k q + count) → ServedPointers s k q
+    → (carried_here k q.id).moved.active ≡ (run_at (policy_of (target_def_of s q.target)) t t.runs).start + count
+active_is s k q t count f served task {phase} is on b there h = go h
+  where
+    start : run_start s k q ≡ (run_at (policy_of (target_def_of s q.target)) (task_here s k q) (task_here s k q).runs).start
+    start = ap (λ (x : ℕ). (task_here s k q).runs * x) (sym f.step) ∙ sym (start_is (policy_for s q) (task_here s k q).blocks (task_here s k q).size (task_here s k q).moved (task_here s k q).runs)
+
+    same : task_here s k q ≡ t
+    same = same_Some (task_here s k q) t (sym (ap (task_if s k) served) ∙ task)
+
+    go : ServedPointers s k q → (carried_here k q.id).moved.active ≡ (run_at (policy_of (target_def_of s q.target)) t t.runs).start + count
+    go (unnamed l el none h) = by h.phase
+      where
+        by : (phase_of (bus_of k) ≡ phases.MessageIn) ⊎ ((phase_of (bus_of k) ≡ phases.MessageOut) × (k.exchange.plan.cause ≡ Rattle.bus_dialogue.specs.declared.exchange.Cause.TheVariants.InMessage)) → (carried_here k q.id).moved.active ≡ (run_at (policy_of (target_def_of s q.target)) t t.runs).start + count
+        by (inl z) = wrong' (sym (ap is_data_phase (sym is ∙ z)) ∙ on)
+        by (inr z) = wrong' (sym (ap is_data_phase (sym is ∙ z.0)) ∙ on)
+    go (named l el own h) =
+        there l (subst (λ (y : Phase). PointersIf true (run_policy s q) l (carried_here k q.id) k.exchange.plan k.handshakes (run_start s k q) y) is (subst (λ (y : Bool). PointersIf y (run_policy s q) l (carried_here k q.id) k.exchange.plan k.handshakes (run_start s k q) (phase_of (bus_of k))) b h))
+        ∙ ap (λ (y : ℕ). y + count) (start ∙ ap (λ (y : Task). (run_at (policy_of (target_def_of s q.target)) y y.runs).start) same)
 
 -- In DATA OUT the data pointer of the process that is served stands as many bytes after the beginning of its run as were answered.
 pub run_active : (s : ScenarioValue) (p : List Row) (n : Connection) → Obeys s → Stood s p → RunFacts s p → connection p ≡ Some n → (bus p).rst ≡ false → begun p ≡ true → (q : Process) (t : Task) → process_served s (run_state s p) ≡ Some q → task_of s (run_state s p) ≡ Some t → phase_of (bus_of (run_state s p)) ≡ phases.DataOut
     → (carried_here (run_state s p) q.id).moved.active ≡ (run_at (policy_of (target_def_of s q.target)) t t.runs).start + (run_state s p).handshakes.answers
-run_active s p n o was facts con calm b q t served task phase = go well.pointers
+run_active s p n o was facts con calm b q t served task phase =
+    active_is s k q t (run_state s p).handshakes.answers (fits_runs s k q o (pl.array ∙ ap (λ (x : Story). array_after s x.history) (sym pl.story)) (served_id s k.served q served).1 w) served task phase refl
+    (pl.begun ∙ b) (λ l x. x.active) (facts.served n q (pl.connection ∙ con) (ap (λ (l : LineSet). l.rst) pl.bus ∙ calm) served w).pointers
   where
     k : RunState
     k = run_state s p
@@ -370,28 +428,6 @@ run_active s p n o was facts con calm b q t served task phase = go well.pointers
 
     w : is_writing q ≡ true
     w = writes_there s k q (was.planned n con calm) (pl.begun ∙ b) served phase
-
-    well : Rattle.trace_laws.specs.RunFacts.IsServedWell s k n q
-    well = facts.served n q (pl.connection ∙ con) (ap (λ (l : LineSet). l.rst) pl.bus ∙ calm) served w
-
-    f : FitsRuns s k q (task_here s k q)
-    f = fits_runs s k q o (pl.array ∙ ap (λ (x : Story). array_after s x.history) (sym pl.story)) (served_id s k.served q served).1 w
-
-    start : run_start s k q ≡ (run_at (policy_of (target_def_of s q.target)) (task_here s k q) (task_here s k q).runs).start
-    start = ap (λ (x : ℕ). (task_here s k q).runs * x) (sym f.step) ∙ sym (start_is (policy_for s q) (task_here s k q).blocks (task_here s k q).size (task_here s k q).moved (task_here s k q).runs)
-
-    same : task_here s k q ≡ t
-    same = same_Some (task_here s k q) t (sym (ap (task_if s k) served) ∙ task)
-
-    go : ServedPointers s k q → (carried_here k q.id).moved.active ≡ (run_at (policy_of (target_def_of s q.target)) t t.runs).start + k.handshakes.answers
-    go (unnamed l el none h) = run_phase (phase_of (bus_of k)) phase (by h.phase)
-      where
-        by : (phase_of (bus_of k) ≡ phases.MessageIn) ⊎ ((phase_of (bus_of k) ≡ phases.MessageOut) × (k.exchange.plan.cause ≡ Rattle.bus_dialogue.specs.declared.exchange.Cause.TheVariants.InMessage)) → (phase_of (bus_of k) ≡ phases.MessageIn) ⊎ (phase_of (bus_of k) ≡ phases.MessageOut)
-        by (inl z) = inl z
-        by (inr z) = inr z.0
-    go (named l el own h) =
-        let x = subst (λ (y : Phase). PointersIf true (policy_for s q) l (carried_here k q.id) k.exchange.plan k.handshakes (run_start s k q) y) phase (subst (λ (y : Bool). PointersIf y (policy_for s q) l (carried_here k q.id) k.exchange.plan k.handshakes (run_start s k q) (phase_of (bus_of k))) (pl.begun ∙ b) h) in
-        x.active ∙ ap (λ (y : ℕ). y + k.handshakes.answers) (start ∙ ap (λ (y : Task). (run_at (policy_of (target_def_of s q.target)) y y.runs).start) same)
 
 -- A byte crosses in a phase that has begun.
 pub crossing_begun : (s : ScenarioValue) (p : List Row) (row : Row) (n : Connection) → Obeys s → IsPrompt s (row ∷ p) → Stood s p → connection p ≡ Some n → (bus p).rst ≡ false → (bus (row ∷ p)).rst ≡ false → row.dev < 8 → (row_reading (run_state s p).story.bus_state row).crosses ≡ true → begun p ≡ true

@@ -1,6 +1,7 @@
 -- A process that writes moves all the bytes of its blocks, or none; and a unit keeps the size of its blocks.
 use Rattle.std.proofs.Common.{ℕ, ◌≡◌, ◌*◌, Bool, true, false, ◌∙◌, List, length, Option, Some, None, Result, Ok, Err, refl, sym, ap, subst, true≢false}
 use Rattle.std.specs.Prelude.{if◌then◌else◌, ◌==◌, is_some}
+use Rattle.std.proofs.lemmas.Option.{same_Some}
 use Rattle.bus_base.specs.declared.Event.{Event}
 use Rattle.cdb_codec.specs.Cdb.{command_of}
 use Rattle.cdb_codec.specs.declared.command.Command.{Command}
@@ -30,12 +31,13 @@ use Rattle.scsi_device.proofs.FitLines.{obeys_fits, command_fits}
 use Rattle.target_units.specs.Rooms.{IsOfLine, AreOfLines}
 use Rattle.target_units.proofs.Rooms.{by_line, good_range, lines_always, lines_start, sends}
 use Rattle.target_units.proofs.Starts.{start_settled}
-use Rattle.bus_books.proofs.Lookups.{number_is}
-use Rattle.trace_laws.specs.DataPointers.{policy_for, step_in, run_step}
+use Rattle.trace_laws.specs.DataPointers.{step_in, run_step}
 use Rattle.trace_laws.proofs.PointerEnds.{writer_plain}
 use Rattle.trace_laws.proofs.PolicyLines.{policies_most}
 use Rattle.trace_laws.proofs.RunParts.{RunsFit}
 use Rattle.trace_laws.proofs.Tests.{zero_times}
+use Rattle.std.proofs.lemmas.Bool.{eqb-true}
+use Rattle.bus_books.specs.Accounts.{policy_for}
 
 -- ---- the blocks of units
 
@@ -60,7 +62,7 @@ size_is s a t n h = same_size (unit_of s t n) (unit_state_at a.units t n) (unit_
 -- ---- a write
 
 -- It names so many blocks.
-blocks_named : (r : Result Command CdbFault) → is_write r ≡ true → blocks_in (range_in r) ≡ Some (count_in (range_in r))
+pub blocks_named : (r : Result Command CdbFault) → is_write r ≡ true → blocks_in (range_in r) ≡ Some (count_in (range_in r))
 blocks_named (Err fault) e = absurd (true≢false (sym e))
 blocks_named (Ok commands.TestUnitReady) e = absurd (true≢false (sym e))
 blocks_named (Ok (commands.RequestSense room)) e = absurd (true≢false (sym e))
@@ -82,7 +84,7 @@ context_same a p = go (unit_state_at a.units p.target p.unit)
     go None = refl
     go (Some u) = refl
 
-none_sent : (s : ScenarioValue) (q : Process) → Obeys s → process_of s q.id ≡ Some q → is_writing q ≡ true → has_target s q.target ≡ false → length q.sent ≡ 0
+pub none_sent : (s : ScenarioValue) (q : Process) → Obeys s → process_of s q.id ≡ Some q → is_writing q ≡ true → has_target s q.target ≡ false → length q.sent ≡ 0
 unfolding need_of sent_of
 none_sent s q o own w e =
     let by = by_line s q own (writer_plain s q own w) in
@@ -130,7 +132,7 @@ moved_all s a q o lines own w some = go ((reply_now a q).status == GOOD) refl
     go true e = by (has_target s q.target) refl
       where
         by : (b : Bool) → has_target s q.target ≡ b → moved_count q (reply_now a q) ≡ count_in (range_in (command_of q.cdb)) * size_of (unit_state_at a.units q.target q.unit)
-        by true there = moved true e ∙ carried (number_is (reply_now a q).status GOOD e) there
+        by true there = moved true e ∙ carried (eqb-true (reply_now a q).status GOOD e) there
         by false there = zero_moved (moved true e ∙ none_sent s q o own w there)
 
 -- Its runs fit what it moves, and step by the blocks of its unit.
@@ -143,9 +145,7 @@ fits_runs s k q o e own w =
     let lines = lines_now s k.story.history k.array (sym e) in
     record {
       fit = record {
-        blocks = count_in (range_in (command_of q.cdb));
-        blocks_are = blocks_named (command_of q.cdb) w;
-        moved = λ some. moved_all s (array_of s k) q o lines own w some;
+        moved = λ blocks e some. moved_all s (array_of s k) q o lines own w some ∙ ap (λ (x : ℕ). x * size_of (unit_state_at (array_of s k).units q.target q.unit)) (same_Some (count_in (range_in (command_of q.cdb))) blocks (sym (blocks_named (command_of q.cdb) w) ∙ e));
         most = policies_most s q.target o;
       };
       step = ap (λ (x : ℕ). step_in (policy_for s q) (blocks_in (range_in (command_of q.cdb))) x) (size_is s (array_of s k) q.target q.unit lines);

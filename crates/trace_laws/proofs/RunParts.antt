@@ -1,4 +1,4 @@
--- The data runs of a process that writes: each has a byte at least, lies in what is moved, and begins where that before it ends, or with
+-- The data runs of a process: each has a byte at least, lies in what is moved, and begins where that before it ends, or with
 -- the first byte (6.6.6, 6.6.20).
 use Rattle.std.proofs.Common.{ℕ, zero, suc, ◌≡◌, ◌+◌, ◌*◌, ◌<◌, ◌≤◌, Bool, true, false, ◌∙◌, Option, Some, None, refl, sym, ap, subst, arith}
 use Rattle.std.specs.Prelude.{if◌then◌else◌, nat_lt, ◌==◌, ◌&&◌, ◌-◌, ◌/◌, min, ⊤}
@@ -7,10 +7,11 @@ use Rattle.scenario.specs.declared.value.Policy.{Policy}
 use Rattle.scenario.specs.declared.value.Policy.TheVariants as policies
 use Rattle.bus_dialogue.specs.declared.exchange.Task.{Task}
 use Rattle.bus_dialogue.specs.DataRuns.{run_in, runs_in, runs_in_all, run_at, run_length}
-use Rattle.bus_books.proofs.RowTies.{lt_is}
-use Rattle.trace_laws.specs.DataPointers.{step_in}
+use Rattle.trace_laws.specs.DataPointers.{policy_by, step_in}
 use Rattle.trace_laws.proofs.PointerLeavings.{MoreRuns, in_bursts, from_start}
 use Rattle.trace_laws.proofs.Tests.{some_count, mul_assoc}
+use Rattle.std.proofs.lemmas.Bool.{ltb-true}
+use Rattle.bus_base.proofs.Tests.{times_none}
 
 -- Runs are of one block at least.
 abbrev pub HasMost : Policy → Type 0
@@ -19,20 +20,15 @@ HasMost policies.Command = ⊤
 HasMost (policies.Burst most) = 1 ≤ most
 HasMost (policies.NoSave most) = 1 ≤ most
 
--- It moves all the bytes of its blocks, or none.
+-- Where it reads or writes blocks it moves all their bytes, or none.
 pub record RunsFit (policy : Policy) (t : Task) : Type 0 where
-  pub blocks : ℕ
-  pub blocks_are : t.blocks ≡ Some blocks
-  pub moved : (t.moved == 0) ≡ false → t.moved ≡ blocks * t.size
+  pub moved : (blocks : ℕ) → t.blocks ≡ Some blocks → (t.moved == 0) ≡ false → t.moved ≡ blocks * t.size
   pub most : HasMost policy
 
 -- ---- numbers
 
-zero_mul : (n : ℕ) → 0 ≡ n * 0
-zero_mul n = omega arith
-
 not_below : (n m : ℕ) → m ≡ 0 → nat_lt n m ≡ true → ⊥
-not_below n m z e = let l = lt_is n m e in absurd omega (arith, l, z)
+not_below n m z e = let l = ltb-true n m e in absurd omega (arith, l, z)
 
 -- Fewer runs than all leave blocks.
 blocks_left : (n blocks most : ℕ) → 1 ≤ most → n < (blocks + (most - 1)) / most → n * most < blocks
@@ -55,7 +51,7 @@ size_some : (blocks size moved : ℕ) → 1 ≤ moved → moved ≡ blocks * siz
 size_some blocks size moved h e = go size refl
   where
     go : (z : ℕ) → size ≡ z → 1 ≤ size
-    go zero f = let none : moved ≡ 0 = e ∙ ap (λ (x : ℕ). blocks * x) f ∙ sym (zero_mul blocks) in absurd omega (arith, none, h)
+    go zero f = let none : moved ≡ 0 = e ∙ ap (λ (x : ℕ). blocks * x) f ∙ sym (times_none blocks) in absurd omega (arith, none, h)
     go (suc z) f = omega (arith, f)
 
 step_some : (a b : ℕ) → 1 ≤ a → 1 ≤ b → 1 ≤ a * b
@@ -64,11 +60,11 @@ step_some a b h k = grind arith
 -- ---- where a run begins
 
 pub start_is : (policy : Policy) (blocks : Option ℕ) (size moved n : ℕ) → (run_in policy blocks size moved n).start ≡ n * step_in policy blocks size
-start_is policy None size moved n = zero_mul n
-start_is policies.Never (Some blocks) size moved n = zero_mul n
-start_is policies.Command (Some blocks) size moved n = zero_mul n
+start_is policy None size moved n = times_none n
+start_is policies.Never (Some blocks) size moved n = times_none n
+start_is policies.Command (Some blocks) size moved n = times_none n
 start_is (policies.Burst most) (Some blocks) size moved n = refl
-start_is (policies.NoSave most) (Some blocks) size moved n = zero_mul n
+start_is (policies.NoSave most) (Some blocks) size moved n = times_none n
 
 -- ---- a run has a byte, and lies in what is moved
 
@@ -83,7 +79,7 @@ part_within : (step moved n : ℕ) → (if n == 0 && nat_lt step moved then step
 part_within step moved n = go (n == 0) (nat_lt step moved) refl
   where
     go : (p q : Bool) → nat_lt step moved ≡ q → (if p && q then step else moved) ≤ moved
-    go true true e = let l = lt_is step moved e in omega (arith, l)
+    go true true e = let l = ltb-true step moved e in omega (arith, l)
     go true false e = omega arith
     go false q e = omega arith
 
@@ -121,16 +117,19 @@ in_all policy t n e = go (t.moved == 0) refl e
   where
     go : (q : Bool) → (t.moved == 0) ≡ q → nat_lt n (if q then 0 else runs_in policy t.blocks) ≡ true → ((t.moved == 0) ≡ false) × (n < runs_in policy t.blocks)
     go true f z = absurd (not_below n 0 refl z)
-    go false f z = (f, lt_is n (runs_in policy t.blocks) z)
+    go false f z = (f, ltb-true n (runs_in policy t.blocks) z)
 
 pub has_byte : (policy : Policy) (t : Task) → RunsFit policy t → nat_lt t.runs (runs_in_all policy t) ≡ true → 1 ≤ run_length policy t
 has_byte policy t f e =
     let a = in_all policy t t.runs e in
-    let l : (run_at policy t t.runs).start < (run_at policy t t.runs).end =
-    subst (λ (b : Option ℕ). (run_in policy b t.size t.moved t.runs).start < (run_in policy b t.size t.moved t.runs).end) (sym f.blocks_are)
-    (run_some policy f.blocks t.size t.moved t.runs f.most (some_count t.moved a.0) (f.moved a.0) (subst (λ (b : Option ℕ). t.runs < runs_in policy b) f.blocks_are a.1)) in
-    less (run_at policy t t.runs).start (run_at policy t t.runs).end l
+    less (run_at policy t t.runs).start (run_at policy t t.runs).end (go t.blocks refl a.0 a.1)
   where
+    go : (o : Option ℕ) → t.blocks ≡ o → (t.moved == 0) ≡ false → t.runs < runs_in policy t.blocks → (run_in policy t.blocks t.size t.moved t.runs).start < (run_in policy t.blocks t.size t.moved t.runs).end
+    go None z some l = subst (λ (b : Option ℕ). (run_in policy b t.size t.moved t.runs).start < (run_in policy b t.size t.moved t.runs).end) (sym z) (some_count t.moved some)
+    go (Some blocks) z some l =
+        subst (λ (b : Option ℕ). (run_in policy b t.size t.moved t.runs).start < (run_in policy b t.size t.moved t.runs).end) (sym z)
+        (run_some policy blocks t.size t.moved t.runs f.most (some_count t.moved some) (f.moved blocks z some) (subst (λ (b : Option ℕ). t.runs < runs_in policy b) z l))
+
     less : (a b : ℕ) → a < b → 1 ≤ b - a
     less a b h = omega (arith, h)
 
@@ -162,6 +161,18 @@ more_by (policies.NoSave most) blocks size moved n m h e l = from_start most ref
 
 pub more_runs : (policy : Policy) (t : Task) → RunsFit policy t → nat_lt (t.runs + 1) (runs_in_all policy t) ≡ true → MoreRuns policy t.runs (step_in policy t.blocks t.size) (run_length policy t)
 more_runs policy t f e =
-    let a = in_all policy t (t.runs + 1) e in
-    subst (λ (b : Option ℕ). MoreRuns policy t.runs (step_in policy b t.size) ((run_in policy b t.size t.moved t.runs).end - (run_in policy b t.size t.moved t.runs).start)) (sym f.blocks_are)
-    (more_by policy f.blocks t.size t.moved t.runs f.most (some_count t.moved a.0) (f.moved a.0) (subst (λ (b : Option ℕ). t.runs + 1 < runs_in policy b) f.blocks_are a.1))
+    let a = in_all policy t (t.runs + 1) e in go t.blocks refl a.0 a.1
+  where
+    go : (o : Option ℕ) → t.blocks ≡ o → (t.moved == 0) ≡ false → t.runs + 1 < runs_in policy t.blocks → MoreRuns policy t.runs (step_in policy t.blocks t.size) (run_length policy t)
+    go None z some l = let one = subst (λ (b : Option ℕ). t.runs + 1 < runs_in policy b) z l in absurd omega (arith, one)
+    go (Some blocks) z some l =
+        subst (λ (b : Option ℕ). MoreRuns policy t.runs (step_in policy b t.size) ((run_in policy b t.size t.moved t.runs).end - (run_in policy b t.size t.moved t.runs).start)) (sym z)
+        (more_by policy blocks t.size t.moved t.runs f.most (some_count t.moved some) (f.moved blocks z some) (subst (λ (b : Option ℕ). t.runs + 1 < runs_in policy b) z l))
+
+-- Where more runs follow the data are cut.
+pub more_cut : (policy : Policy) (t : Task) → nat_lt (t.runs + 1) (runs_in_all policy t) ≡ true → policy_by policy t.blocks ≡ policy
+more_cut policy t e = go t.blocks refl (in_all policy t (t.runs + 1) e).1
+  where
+    go : (o : Option ℕ) → t.blocks ≡ o → t.runs + 1 < runs_in policy t.blocks → policy_by policy t.blocks ≡ policy
+    go None z l = let one = subst (λ (b : Option ℕ). t.runs + 1 < runs_in policy b) z l in absurd omega (arith, one)
+    go (Some blocks) z l = ap (policy_by policy) z

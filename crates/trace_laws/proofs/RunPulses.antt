@@ -14,7 +14,6 @@ use Rattle.bus_phases.specs.Dialogue.{dialogue}
 use Rattle.bus_lines.specs.Handshakes.{Handshakes, handshakes}
 use Rattle.scenario.specs.Value.{ScenarioValue}
 use Rattle.bus_reactions.specs.Reactions.{due_at}
-use Rattle.bus_books.proofs.RowTies.{lt_is}
 use Rattle.bus_laws.specs.Ends.{EndLines, initiator_side, target_side, connected_bus, Linked}
 use Rattle.bus_laws.specs.Rows.{row_of_lines, row_of_fault}
 use Rattle.bus_laws.proofs.Dues.{none_some}
@@ -28,10 +27,11 @@ use Rattle.link_laws.proofs.Moves.{initiator_moves, target_moves, phase_same, sa
 use Rattle.link_laws.proofs.PulseDues.{pulsed_target_out, pulsed_initiator_out, pulse_time, leaving_time, ack_pulse_end_time, answer_time, release_time, byte_driven_time, given_bits}
 use Rattle.link_laws.proofs.StageDues.{settling_target, settling_initiator, handing_initiator}
 use Rattle.trace_laws.specs.RunCounts.{pulses_here}
-use Rattle.trace_laws.proofs.Impossible.{wrong'}
 use Rattle.trace_laws.proofs.Kept.{turn}
-use Rattle.trace_laws.proofs.LinkRows.{row_at, or_parts}
+use Rattle.trace_laws.proofs.LinkRows.{row_at}
 use Rattle.trace_laws.proofs.RunSteps.{OutStep, by_initiator_row, by_target_row, struck_row, left_row}
+use Rattle.std.proofs.lemmas.Bool.{ltb-true}
+use Rattle.bus_base.proofs.Tests.{wrong', implication_parts}
 
 -- With it by pulses all requests are answered as the phase is left.
 pub record PulseStep (s : ScenarioValue) (p : List Row) (n : Connection) (c : Change) : Type 0 where
@@ -96,7 +96,7 @@ target_step s p row n false ack atn x lat h con same e = follows (nat_lt (handsh
   where
     left : (q : Bool) → (not (length (handshakes p).waiting == 0) || ack) ≡ q → (if q then None else due_at (leaving_time p false lat) (offering_with s p n true (ends false ack atn x false false false false 0)).to) ≡ Some (due_of row) → PulseStep s p n (change_of p row)
     left true z e = absurd (none_some (due_of row) e)
-    left false z e = at_rest ack (or_parts (length (handshakes p).waiting == 0) ack z).1 h e
+    left false z e = at_rest ack (implication_parts (length (handshakes p).waiting == 0) ack z).1 h e
       where
         at_rest : (ack : Bool) → ack ≡ false → Pulsing s p n false false ack atn x 0 → due_at (leaving_time p false lat) (offering_with s p n true (ends false ack atn x false false false false 0)).to ≡ Some (due_of row) → PulseStep s p n (change_of p row)
         at_rest true a h e = absurd cc
@@ -104,7 +104,7 @@ target_step s p row n false ack atn x lat h con same e = follows (nat_lt (handsh
             let is = row_at row n.target (leaving_time p false lat) (offering_with s p n true (ends false false atn x false false false false 0)).to same e in
             record {
               step = subst (λ (w : Row). OutStep s p n (change_of p w)) (sym is) (left_row s p row.time n atn false false false x 0 h.linked (ap (λ (w : Row). connection (w ∷ p)) (sym is) ∙ con));
-              even = λ u ep. none_waits (handshakes p).requests (handshakes p).answers (length (handshakes p).waiting) h.facts.counts (or_parts (length (handshakes p).waiting == 0) _ z).0;
+              even = λ u ep. none_waits (handshakes p).requests (handshakes p).answers (length (handshakes p).waiting) h.facts.counts (implication_parts (length (handshakes p).waiting == 0) _ z).0;
             }
 
     rooms : (q : Bool) → nat_lt (handshakes p).requests (run_count s p n) ≡ true → (if q then due_at (pulse_time p false lat) (target_side (ends false ack atn x false false false true 0)) else None) ≡ Some (due_of row) → PulseStep s p n (change_of p row)
@@ -114,7 +114,7 @@ target_step s p row n false ack atn x lat h con same e = follows (nat_lt (handsh
         (target_row s p row.time n (ends false ack atn x false false false false 0) true 0 h.linked
         (record {
           answers = λ z. wrong' (sym (no_rise ack) ∙ z);
-          asks = λ z. (refl, inr (λ u. absurd (true≢false (sym (pulses_are s p n false ack atn x h) ∙ u)), λ u. lt_is (handshakes p).requests (run_count s p n) f));
+          asks = λ z. (refl, inr (λ u. absurd (true≢false (sym (pulses_are s p n false ack atn x h) ∙ u)), λ u. ltb-true (handshakes p).requests (run_count s p n) f));
           stays = λ u q b z. absurd (true≢false z);
         }))
 

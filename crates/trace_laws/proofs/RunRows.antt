@@ -1,4 +1,4 @@
--- Where the data pointers of all processes that write stand after a row, whatever it is.
+-- Where the data pointers of all processes of one kind stand after a row, whatever it is.
 use Rattle.std.proofs.Common.{ℕ, ◌≡◌, ◌⊎◌, inl, inr, ◌+◌, ◌*◌, ◌<◌, ◌^◌, Bool, true, false, ◌∙◌, Option, Some, None, refl, sym, ap, subst, arith, true≢false}
 use Rattle.std.specs.Prelude.{if◌then◌else◌, is_some, ◌&&◌, not}
 use Rattle.std.proofs.lemmas.Option.{same_Some}
@@ -7,7 +7,7 @@ use Rattle.bus_trace.specs.LineSet.{LineSet}
 use Rattle.bus_trace.specs.declared.Row.{Row}
 use Rattle.bus_trace.specs.declared.changes.Change.{Change}
 use Rattle.bus_trace.specs.declared.connection.Connection.{Connection}
-use Rattle.bus_trace.specs.Changes.{rises, falls}
+use Rattle.bus_trace.specs.Changes.{falls}
 use Rattle.bus_trace.specs.Phases.{changes_phase}
 use Rattle.bus_trace.specs.Terms.{connection_after, connection_of, receiver_in}
 use Rattle.msg_grammar.specs.declared.message.MsgIn.{MsgIn}
@@ -17,13 +17,13 @@ use Rattle.disk_array.proofs.SoundArrays.{id_is, is_own}
 use Rattle.bus_story.specs.BusState.{RowReading, row_reading}
 use Rattle.bus_story.specs.Items.{Item, process, abort, has_item}
 use Rattle.bus_story.specs.Links.{Link, link_after_name}
+use Rattle.bus_dialogue.specs.declared.exchange.Phase.TheVariants as phases
 use Rattle.bus_dialogue.specs.NextPhase.{phase_of}
 use Rattle.bus_due.specs.RunState.{RunState, bus_of, process_item, process_served, carried_here}
 use Rattle.bus_due.specs.RunSteps.{first_run_state, run_state_after, served_after, item_if}
 use Rattle.bus_due.specs.Wants.{ready_of}
 use Rattle.bus_story.specs.TraceHistory.{aim_of}
 use Rattle.bus_due.specs.Sights.{leaving}
-use Rattle.bus_due.specs.Tasks.{is_writing}
 use Rattle.bus_books.specs.Giving.{Gives}
 use Rattle.bus_books.specs.Knowing.{Knows}
 use Rattle.bus_books.specs.Rows.{RowKind, still, strikes, crosses, turns, IsRowIn, reading_in}
@@ -39,13 +39,13 @@ use Rattle.trace_laws.proofs.PointerCrossings.{phase_served, names_or}
 use Rattle.trace_laws.proofs.PointerTurns.{TurnsBy}
 use Rattle.trace_laws.proofs.PointerPhases.{turns_served}
 use Rattle.trace_laws.proofs.PointerWaits.{SameSaved, wait_on, over_row, start_other, apart_same, ends_same, begins_same, goes_other}
-use Rattle.trace_laws.proofs.PointerEnds.{ends_wait, rst_over}
+use Rattle.trace_laws.proofs.PointerEnds.{ends_wait}
 use Rattle.trace_laws.proofs.PointerBegins.{begins_served, begins_undoes, goes_undoes}
 
 -- ---- before any row
 
-pub runs_first : (s : ScenarioValue) → RunsBy s (first_run_state s)
-runs_first s = record {
+pub runs_first : (kind : Process → Type 0) (s : ScenarioValue) → RunsBy kind s (first_run_state s)
+runs_first kind s = record {
   waits = λ q e w x. record { saved = λ o m. nothing (run_step s q) };
   free = λ e. refl;
   reset = λ n q e. none_some n e;
@@ -101,21 +101,25 @@ it_served s k q own e = ap (process_item s) e ∙ own
 
 -- ---- what is known of the row
 
-pub record RunsOn (s : ScenarioValue) (k : RunState) (row : Row) : Type 0 where
-  pub was : RunsBy s k
+pub record RunsOn (kind : Process → Type 0) (s : ScenarioValue) (k : RunState) (row : Row) : Type 0 where
+  pub was : RunsBy kind s k
   pub row_is : RowOf s k row
   pub speaks : (n : Connection) → k.story.bus_state.connection ≡ Some n → (bus_of k).rst ≡ false → Speaks s k n
   pub gives : (n : Connection) → k.story.bus_state.connection ≡ Some n → (bus_of k).rst ≡ false → Gives k
   pub knows : (n : Connection) → k.story.bus_state.connection ≡ Some n → (bus_of k).rst ≡ false → Knows s k n
   pub anew : (n : Connection) → k.story.bus_state.connection ≡ None → (row_reading k.story.bus_state row).next ≡ Some n → IsServedAnew s k n
-  pub sent : (id : ProcId) → k.served ≡ Some (process id) → has_item k.story.sent.sent (process id) ≡ true
+  -- with the row that raises RST the process that is served is over
+  pub stops : (q : Process) → process_of s q.id ≡ Some q → kind q → k.served ≡ Some (process q.id) → (row_reading k.story.bus_state row).change.after.rst ≡ true → (bus_of k).rst ≡ false → has_item (run_state_after s k row).story.sent.over (process q.id) ≡ true
   pub refuses : (n : Connection) → k.story.bus_state.connection ≡ Some n → (bus_of k).rst ≡ false → RefusesLater k
-  pub raises : (bus_of k).rst ≡ false → (row_reading k.story.bus_state row).change.after.rst ≡ true → rises (row_reading k.story.bus_state row).change.own.rst (row_reading k.story.bus_state row).change.next.rst ≡ true
-  pub short : (k.handshakes.answers + 1 < 2 ^ 64) × (k.handshakes.requests + 1 < 2 ^ 64)
+  -- in DATA OUT few bytes were answered, in DATA IN few were asked for
+  pub short : (n : Connection) (q : Process) → k.story.bus_state.connection ≡ Some n → (bus_of k).rst ≡ false → process_served s k ≡ Some q → kind q → k.exchange.begun ≡ true
+      → phase_of (bus_of k) ≡ phases.DataOut → k.handshakes.answers + 1 < 2 ^ 64
+  pub short_asked : (n : Connection) (q : Process) → k.story.bus_state.connection ≡ Some n → (bus_of k).rst ≡ false → process_served s k ≡ Some q → kind q → k.exchange.begun ≡ true
+      → phase_of (bus_of k) ≡ phases.DataIn → k.handshakes.requests + 1 < 2 ^ 64
   -- of a row of a connection that changes the phase
   pub known : (c : Change) (n : Connection) → IsRowIn k row n c → (bus_of k).rst ≡ false → c.after.msg ≡ true → c.after.cd ≡ true
   pub whereto : (c : Change) (n : Connection) → IsRowIn k row n c → (bus_of k).rst ≡ false → changes_phase c ≡ true → k.exchange.begun ≡ true → (leaving s k n.target).to ≡ Some (phase_of c.after)
-  pub turns : (c : Change) (n : Connection) (q : Process) → IsRowIn k row n c → (bus_of k).rst ≡ false → changes_phase c ≡ true → process_served s k ≡ Some q → is_writing q ≡ true → k.exchange.begun ≡ true → TurnsBy s k n q
+  pub turns : (c : Change) (n : Connection) (q : Process) → IsRowIn k row n c → (bus_of k).rst ≡ false → changes_phase c ≡ true → process_served s k ≡ Some q → kind q → k.exchange.begun ≡ true → TurnsBy s k n q
 
 -- ---- a process that is not served after the row
 
@@ -124,30 +128,30 @@ over_waits : (s : ScenarioValue) (j : RunState) (q : Process) → has_item j.sto
 over_waits s j q e = record { saved = λ o m. absurd (true≢false (sym e ∙ o)) }
 
 -- RST is true after the row.
-reset_over : (s : ScenarioValue) (k : RunState) (row : Row) (n : Connection) (q : Process) → RunsOn s k row → k.story.bus_state.connection ≡ Some n → (row_reading k.story.bus_state row).change.after.rst ≡ true → process_of s q.id ≡ Some q → is_writing q ≡ true → k.served ≡ Some (process q.id) → has_item (run_state_after s k row).story.sent.over (process q.id) ≡ true
-reset_over s k row n q h con on own w served = go (bus_of k).rst refl
+reset_over : (kind : Process → Type 0) (s : ScenarioValue) (k : RunState) (row : Row) (n : Connection) (q : Process) → RunsOn kind s k row → k.story.bus_state.connection ≡ Some n → (row_reading k.story.bus_state row).change.after.rst ≡ true → process_of s q.id ≡ Some q → kind q → k.served ≡ Some (process q.id) → has_item (run_state_after s k row).story.sent.over (process q.id) ≡ true
+reset_over kind s k row n q h con on own w served = go (bus_of k).rst refl
   where
     go : (b : Bool) → (bus_of k).rst ≡ b → has_item (run_state_after s k row).story.sent.over (process q.id) ≡ true
     go true e = over_row s k row (process q.id) (h.was.reset n q con e (it_served s k q own served) w)
-    go false e = rst_over s k row q own w (h.sent q.id served) on (h.raises e on)
+    go false e = h.stops q own w served on e
 
-waits_other : (s : ScenarioValue) (k : RunState) (row : Row) (q : Process) → RunsOn s k row → process_of s q.id ≡ Some q → is_writing q ≡ true → IsNot q.id k.served → SameSaved (carried_here (run_state_after s k row) q.id) (carried_here k q.id) → IsWaiting s (run_state_after s k row) q
-waits_other s k row q h own w other same = wait_on s k (run_state_after s k row) q same (λ e. over_row s k row (process q.id) e) (start_other s k row q other) (h.was.waits q own w other)
+waits_other : (kind : Process → Type 0) (s : ScenarioValue) (k : RunState) (row : Row) (q : Process) → RunsOn kind s k row → process_of s q.id ≡ Some q → kind q → IsNot q.id k.served → SameSaved (carried_here (run_state_after s k row) q.id) (carried_here k q.id) → IsWaiting s (run_state_after s k row) q
+waits_other kind s k row q h own w other same = wait_on s k (run_state_after s k row) q same (λ e. over_row s k row (process q.id) e) (start_other s k row q other) (h.was.waits q own w other)
 
 -- ---- by the kind of the row
 
-apart_on : (s : ScenarioValue) (k : RunState) (row : Row) → RunsOn s k row → k.story.bus_state.connection ≡ None → (row_reading k.story.bus_state row).next ≡ None → RunsBy s (run_state_after s k row)
-apart_on s k row h con next = record {
-  waits = λ q own w other. waits_other s k row q h own w (none_not q.id k.served (h.was.free con)) (apart_same s k row q.id (inr (con, next)));
+apart_on : (kind : Process → Type 0) (s : ScenarioValue) (k : RunState) (row : Row) → RunsOn kind s k row → k.story.bus_state.connection ≡ None → (row_reading k.story.bus_state row).next ≡ None → RunsBy kind s (run_state_after s k row)
+apart_on kind s k row h con next = record {
+  waits = λ q own w other. waits_other kind s k row q h own w (none_not q.id k.served (h.was.free con)) (apart_same s k row q.id (inr (con, next)));
   free = λ e. (λ i. served_after s k (con i) (next i)) ∙ h.was.free con;
   reset = λ n q e. none_some n (sym next ∙ e);
   undoes = λ n e. none_some n (sym next ∙ e);
   served = λ n q e. none_some n (sym next ∙ e);
 }
 
-begins_on : (s : ScenarioValue) (k : RunState) (row : Row) (n : Connection) → RunsOn s k row → Begins s k row n → RunsBy s (run_state_after s k row)
-begins_on s k row n h b = record {
-  waits = λ q own w other. waits_other s k row q h own w (none_not q.id k.served none) (begins_same s k row n q.id b.first.connection_is b.first.next_is b.first.calm);
+begins_on : (kind : Process → Type 0) (s : ScenarioValue) (k : RunState) (row : Row) (n : Connection) → RunsOn kind s k row → Begins s k row n → RunsBy kind s (run_state_after s k row)
+begins_on kind s k row n h b = record {
+  waits = λ q own w other. waits_other kind s k row q h own w (none_not q.id k.served none) (begins_same s k row n q.id b.first.connection_is b.first.next_is b.first.calm);
   free = λ e. some_none n (sym b.first.next_is ∙ e);
   reset = λ m q e on. absurd (true≢false (sym on ∙ b.first.calm));
   undoes = λ m e off. begins_undoes s k row n b.first;
@@ -184,8 +188,8 @@ begins_on s k row n h b = record {
             let same : Some a.process ≡ Some q = sym a.process_is ∙ ap (process_item s) made ∙ own in
             sym (ap (λ (x : Process). x.target) (same_Some a.process q same)) ∙ a.target_is
 
-ends_on : (s : ScenarioValue) (k : RunState) (row : Row) (n : Connection) → RunsOn s k row → Ends s k row n → RunsBy s (run_state_after s k row)
-ends_on s k row n h e = record {
+ends_on : (kind : Process → Type 0) (s : ScenarioValue) (k : RunState) (row : Row) (n : Connection) → RunsOn kind s k row → Ends s k row n → RunsBy kind s (run_state_after s k row)
+ends_on kind s k row n h e = record {
   waits = λ q own w other. go q own w (serves k.served q.id);
   free = λ z. λ i. served_after s k (e.connection_is i) (e.next_is i);
   reset = λ m q z. none_some m (sym e.next_is ∙ z);
@@ -196,17 +200,17 @@ ends_on s k row n h e = record {
     j : RunState
     j = run_state_after s k row
 
-    go : (q : Process) → process_of s q.id ≡ Some q → is_writing q ≡ true → Serves k.served q.id → IsWaiting s j q
-    go q own w (another other) = waits_other s k row q h own w other (ends_same s k row n q.id e.connection_is e.next_is)
+    go : (q : Process) → process_of s q.id ≡ Some q → kind q → Serves k.served q.id → IsWaiting s j q
+    go q own w (another other) = waits_other kind s k row q h own w other (ends_same s k row n q.id e.connection_is e.next_is)
     go q own w (it served) = by (row_reading k.story.bus_state row).change.after.rst refl
       where
         by : (b : Bool) → (row_reading k.story.bus_state row).change.after.rst ≡ b → IsWaiting s j q
-        by true on = over_waits s j q (reset_over s k row n q h e.connection_is on own w served)
+        by true on = over_waits s j q (reset_over kind s k row n q h e.connection_is on own w served)
         by false off = ends_wait s k row n q e.connection_is e.next_is off (h.was.served n q e.connection_is e.calm (it_served s k q own served) w).pointers
 
 -- Under RST.
-reset_on : (s : ScenarioValue) (k : RunState) (row : Row) → RunsOn s k row → (row_reading k.story.bus_state row).change.after.rst ≡ true → RunsBy s (run_state_after s k row)
-reset_on s k row h on = record {
+reset_on : (kind : Process → Type 0) (s : ScenarioValue) (k : RunState) (row : Row) → RunsOn kind s k row → (row_reading k.story.bus_state row).change.after.rst ≡ true → RunsBy kind s (run_state_after s k row)
+reset_on kind s k row h on = record {
   waits = λ q own w other. waits q own w (serves k.served q.id) other;
   free = λ e. free k.story.bus_state.connection refl e;
   reset = λ m q e z is w. let id = served_id s j.served q is in still_over m q e id.1 w id.0;
@@ -242,22 +246,22 @@ reset_on s k row h on = record {
             go true f = f
             go false f = none_some m f
 
-    still_over : (m : Connection) (q : Process) → d.next ≡ Some m → process_of s q.id ≡ Some q → is_writing q ≡ true → j.served ≡ Some (process q.id) → has_item j.story.sent.over (process q.id) ≡ true
+    still_over : (m : Connection) (q : Process) → d.next ≡ Some m → process_of s q.id ≡ Some q → kind q → j.served ≡ Some (process q.id) → has_item j.story.sent.over (process q.id) ≡ true
     still_over m q next own w served =
         let g = goes_on_there k.story.bus_state.connection refl m next in
-        reset_over s k row m q h g.0 on own w (sym g.1 ∙ served)
+        reset_over kind s k row m q h g.0 on own w (sym g.1 ∙ served)
 
-    waits : (q : Process) → process_of s q.id ≡ Some q → is_writing q ≡ true → Serves k.served q.id → IsNot q.id j.served → IsWaiting s j q
-    waits q own w (another other) z = waits_other s k row q h own w other (apart_same s k row q.id (inl on))
+    waits : (q : Process) → process_of s q.id ≡ Some q → kind q → Serves k.served q.id → IsNot q.id j.served → IsWaiting s j q
+    waits q own w (another other) z = waits_other kind s k row q h own w other (apart_same s k row q.id (inl on))
     waits q own w (it served) z = by k.story.bus_state.connection refl
       where
         by : (o : Option Connection) → k.story.bus_state.connection ≡ o → IsWaiting s j q
         by None con = none_some (process q.id) (sym (h.was.free con) ∙ served)
-        by (Some n) con = over_waits s j q (reset_over s k row n q h con on own w served)
+        by (Some n) con = over_waits s j q (reset_over kind s k row n q h con on own w served)
 
 -- In a connection.
-goes_there : (s : ScenarioValue) (k : RunState) (row : Row) (n : Connection) (c : Change) → RunsOn s k row → GoesOn s k row n c → RunsBy s (run_state_after s k row)
-goes_there s k row n c h g = go r.kind
+goes_there : (kind : Process → Type 0) (s : ScenarioValue) (k : RunState) (row : Row) (n : Connection) (c : Change) → RunsOn kind s k row → GoesOn s k row n c → RunsBy kind s (run_state_after s k row)
+goes_there kind s k row n c h g = go r.kind
   where
     j : RunState
     j = run_state_after s k row
@@ -274,8 +278,8 @@ goes_there s k row n c h g = go r.kind
     named : (now : Bool) → is_some (receiver_in n c) ≡ now → (l : Link) (m : MsgIn) → k.story.link ≡ Some l → (reading_in k.story.bus_state n c now).into ≡ Some m → ((link_after_name k.story.sent s.commands l m).item ≡ k.served) ⊎ ((link_after_name k.story.sent s.commands l m).item ≡ None)
     named now en l m el em = names_or s k row n c now l m r en knows g (h.gives n r.connection_is g.calm) el em
 
-    meets : (q : Process) → process_served s k ≡ Some q → Meets s k row n c q
-    meets q is = record {
+    meets : (q : Process) → process_served s k ≡ Some q → kind q → Meets s k row n c q
+    meets q is w = record {
       of = g;
       speaks = h.speaks n r.connection_is g.calm;
       gives = h.gives n r.connection_is g.calm;
@@ -283,19 +287,19 @@ goes_there s k row n c h g = go r.kind
       served = (served_id s k.served q is).0;
       undoes = undoes;
       refuses = h.refuses n r.connection_is g.calm;
-      short = h.short.0;
-      short_asked = h.short.1;
+      short = h.short n q r.connection_is g.calm is w;
+      short_asked = h.short_asked n q r.connection_is g.calm is w;
     }
 
-    well : (q : Process) → j.served ≡ k.served → process_served s j ≡ Some q → is_writing q ≡ true → (Meets s k row n c q → ServedPointers s k q → ServedPointers s j q) → IsServedWell s j n q
+    well : (q : Process) → j.served ≡ k.served → process_served s j ≡ Some q → kind q → (Meets s k row n c q → ServedPointers s k q → ServedPointers s j q) → IsServedWell s j n q
     well q es is w f =
         let was : process_served s k ≡ Some q = ap (process_item s) (sym es) ∙ is in
         let p = h.was.served n q r.connection_is g.calm was w in
-        record { target_is = p.target_is; pointers = f (meets q was) p.pointers }
+        record { target_is = p.target_is; pointers = f (meets q was w) p.pointers }
 
-    made : (phase now fault : Bool) → is_some (receiver_in n c) ≡ now → InConnection s k row n c phase now fault → ((q : Process) → process_served s j ≡ Some q → is_writing q ≡ true → Meets s k row n c q → ServedPointers s k q → ServedPointers s j q) → RunsBy s j
+    made : (phase now fault : Bool) → is_some (receiver_in n c) ≡ now → InConnection s k row n c phase now fault → ((q : Process) → process_served s j ≡ Some q → kind q → Meets s k row n c q → ServedPointers s k q → ServedPointers s j q) → RunsBy kind s j
     made phase now fault en i f = record {
-      waits = λ q own w other. waits_other s k row q h own w (λ x e. other x (i.served_is ∙ e)) (goes_other s k row n c q.id now r en knows undoes (λ x e. other x (i.served_is ∙ e)) (named now en));
+      waits = λ q own w other. waits_other kind s k row q h own w (λ x e. other x (i.served_is ∙ e)) (goes_other s k row n c q.id now r en knows undoes (λ x e. other x (i.served_is ∙ e)) (named now en));
       free = λ e. some_none n (sym i.connection_is ∙ e);
       reset = λ m q e on. absurd (true≢false (sym on ∙ ap (λ (l : LineSet). l.rst) i.bus_is ∙ r.calm));
       undoes = λ m e off. goes_undoes s k row n c now r en knows i.served_is undoes;
@@ -305,7 +309,7 @@ goes_there s k row n c h g = go r.kind
     none_crosses : receiver_in n c ≡ None → is_some (receiver_in n c) ≡ false
     none_crosses e = ap (λ (z : Option ℕ). is_some z) e
 
-    go : RowKind row n c → RunsBy s j
+    go : RowKind row n c → RunsBy kind s j
     go (still ef ep er) = made false false false (none_crosses er) (in_connection s k row n c false false false r ep (none_crosses er) ef) (λ q is w m p. phase_served s k row n c q m ep p)
     go (strikes ef ep er) = made false false true (none_crosses er) (in_connection s k row n c false false true r ep (none_crosses er) ef) (λ q is w m p. phase_served s k row n c q m ep p)
     go (crosses dev ef ep er) = made false true false (ap (λ (z : Option ℕ). is_some z) er) (in_connection s k row n c false true false r ep (ap (λ (z : Option ℕ). is_some z) er) ef) (λ q is w m p. phase_served s k row n c q m ep p)
@@ -314,12 +318,12 @@ goes_there s k row n c h g = go r.kind
         made true false false (none_crosses er) i
         (λ q is w m p. turns_served s k row n c q m (ap (process_item s) (sym i.served_is) ∙ is) (λ b. h.turns c n q r g.calm ep (ap (process_item s) (sym i.served_is) ∙ is) w b) ep er ef (h.known c n r g.calm) (h.whereto c n r g.calm ep) p)
 
-pub runs_row : (s : ScenarioValue) (k : RunState) (row : Row) → RunsOn s k row → RunsBy s (run_state_after s k row)
-runs_row s k row h = go h.row_is
+pub runs_row : (kind : Process → Type 0) (s : ScenarioValue) (k : RunState) (row : Row) → RunsOn kind s k row → RunsBy kind s (run_state_after s k row)
+runs_row kind s k row h = go h.row_is
   where
-    go : RowOf s k row → RunsBy s (run_state_after s k row)
-    go (apart con next) = apart_on s k row h con next
-    go (begins n b) = begins_on s k row n h b
-    go (goes_on n c g) = goes_there s k row n c h g
-    go (ends n e) = ends_on s k row n h e
-    go (under_reset on none) = reset_on s k row h on
+    go : RowOf s k row → RunsBy kind s (run_state_after s k row)
+    go (apart con next) = apart_on kind s k row h con next
+    go (begins n b) = begins_on kind s k row n h b
+    go (goes_on n c g) = goes_there kind s k row n c h g
+    go (ends n e) = ends_on kind s k row n h e
+    go (under_reset on none) = reset_on kind s k row h on

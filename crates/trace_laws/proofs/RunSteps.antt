@@ -20,7 +20,6 @@ use Rattle.bus_dialogue.specs.NextPhase.{Serving, phase_of, phase_leaving, phase
 use Rattle.bus_dialogue.specs.PhaseBytes.{lines_by}
 use Rattle.bus_due.specs.RunSteps.{run_state}
 use Rattle.bus_due.specs.Sights.{serving_at}
-use Rattle.bus_books.proofs.RowTies.{lt_is}
 use Rattle.bus_laws.specs.Ends.{EndLines, initiator_side, target_side, connected_bus, Linked}
 use Rattle.bus_laws.specs.Rows.{row_of_lines, row_of_fault, change_to}
 use Rattle.bus_laws.proofs.Rows.{fault_change}
@@ -30,12 +29,14 @@ use Rattle.link_laws.proofs.EndDues.{offering_with}
 use Rattle.link_laws.proofs.Moves.{initiator_moves, target_moves, no_rise}
 use Rattle.trace_laws.specs.RunCounts.{pulses_here}
 use Rattle.trace_laws.proofs.AttentionRows.{lines_are}
-use Rattle.trace_laws.proofs.Impossible.{none_some, wrong'}
+use Rattle.trace_laws.proofs.Impossible.{none_some}
 use Rattle.trace_laws.proofs.Kept.{turn}
 use Rattle.trace_laws.proofs.LinkRows as rows
 use Rattle.trace_laws.proofs.LinkRows.{LinkRow, is_pulsed, is_unasked}
 use Rattle.trace_laws.proofs.PointerRows.{run_lines}
 use Rattle.trace_laws.proofs.Turns.{freed_connection}
+use Rattle.std.proofs.lemmas.Bool.{ltb-true}
+use Rattle.bus_base.proofs.Tests.{wrong'}
 
 -- What a row does with REQ and ACK in DATA OUT.
 pub record OutStep (s : ScenarioValue) (p : List Row) (n : Connection) (c : Change) : Type 0 where
@@ -101,7 +102,7 @@ next_asked s p t n atn msg cd io y h phase z follows =
     by_target_row s p t n e true y h
     (record {
       answers = λ q. wrong' q;
-      asks = λ q. (refl, inr (λ u. lt_is (handshakes p).answers (run_count s p n) less, λ u. wrong' (sym z ∙ pulsed_as p n e h ∙ u)));
+      asks = λ q. (refl, inr (λ u. ltb-true (handshakes p).answers (run_count s p n) less, λ u. wrong' (sym z ∙ pulsed_as p n e h ∙ u)));
       stays = λ u q b r. absurd (true≢false r);
     })
 

@@ -1,4 +1,4 @@
--- A process that writes, and has no reply, has a data run left, or has made none, with each row of a prompt trace.
+-- A process of one kind that has no reply has a data run left, or has made none, with each row of a prompt trace; so those that write.
 use Rattle.std.proofs.Common.{ℕ, ◌≡◌, ◌⊎◌, inl, inr, ◌<◌, ◌+◌, Bool, true, false, ◌&&◌, ◌==◌, ◌∙◌, List, [], ◌∷◌, Option, Some, None, refl, sym, ap, subst, arith}
 use Rattle.std.specs.Prelude.{if◌then◌else◌, is_some, nat_lt}
 use Rattle.std.proofs.lemmas.Option.{same_Some}
@@ -38,7 +38,7 @@ use Rattle.bus_due.specs.Plain.{IsPlain}
 use Rattle.bus_due.specs.RunState.{RunState, array_of, bus_of, or_start, process_item, process_served}
 use Rattle.bus_due.specs.RunSteps.{array_after_events, leaving_of, progress_after, progress_by_leaving, run_state}
 use Rattle.bus_due.specs.Sights.{leaving, serving_of}
-use Rattle.bus_due.specs.Tasks.{is_writing, task_if}
+use Rattle.bus_due.specs.Tasks.{task_if}
 use Rattle.bus_due.proofs.Plains.{run_state_plain}
 use Rattle.scsi_device.proofs.Finds.{none_is}
 use Rattle.bus_books.specs.Hearing.{is_in_phase}
@@ -46,19 +46,17 @@ use Rattle.bus_books.specs.Rows.{RowKind, still, strikes, crosses, turns}
 use Rattle.bus_books.specs.Traces.{GoesOn, RowOf, apart, begins, goes_on, ends, under_reset}
 use Rattle.bus_books.proofs.InConnection.{InConnection, in_connection, reading_is}
 use Rattle.bus_books.proofs.Lookups.{id_is, self_id}
-use Rattle.bus_books.proofs.RowTies.{lt_is}
 use Rattle.bus_laws.proofs.Apart.{change_plain}
 use Rattle.bus_laws.proofs.Prompt.{least_is}
-use Rattle.trace_laws.specs.DataPointers.{policy_for}
 use Rattle.trace_laws.specs.Places.{AnsweredOpen, PlaceFacts, PlacedIf}
-use Rattle.trace_laws.specs.RunFacts.{RunFacts}
-use Rattle.trace_laws.specs.RunsLeft.{HasRunLeft, RunsLeft, run_total}
+use Rattle.trace_laws.specs.RunFacts.{IsWriter, RunFacts, RunsBy}
+use Rattle.trace_laws.specs.RunsLeft.{HasRunLeft, RunsLeft, RunsLeftOf, run_total}
 use Rattle.trace_laws.proofs.ConnectionRows.{connection_row}
 use Rattle.trace_laws.proofs.CountedRuns.{counted_runs, same_runs}
 use Rattle.trace_laws.proofs.Crossings.{RowFacts, stays, ends_here}
 use Rattle.trace_laws.proofs.CutConnections.{HoldFacts, cut_phase}
 use Rattle.trace_laws.proofs.DoneRuns.{DoneOut, done_in_data, out_done}
-use Rattle.trace_laws.proofs.Impossible.{wrong, wrong', none_some}
+use Rattle.trace_laws.proofs.Impossible.{none_some}
 use Rattle.trace_laws.proofs.Joint.{NextStood, Stood}
 use Rattle.trace_laws.proofs.ListedReplies.{listed_on, replies_to}
 use Rattle.trace_laws.proofs.RunFacts.{task_here}
@@ -67,6 +65,9 @@ use Rattle.trace_laws.proofs.Tests.{second_false}
 use Rattle.trace_laws.proofs.WriteRows.{runs_kept}
 use Rattle.trace_laws.proofs.WriteTurns.{progress_apart, progress_ends, progress_turns, same_progress}
 use Rattle.trace_laws.proofs.Written.{left_by}
+use Rattle.std.proofs.lemmas.Bool.{ltb-true}
+use Rattle.bus_base.proofs.Tests.{wrong, wrong'}
+use Rattle.bus_books.specs.Accounts.{policy_for}
 
 -- ---- a reply that was given stays listed
 
@@ -113,14 +114,14 @@ done_left v attention phase e = by (done_in_data v attention phase e)
 
 -- Another run follows it, or STATUS.
 not_below : (n : ℕ) → nat_lt n 0 ≡ true → ⊥
-not_below n e = let l = lt_is n 0 e in absurd omega (arith, l)
+not_below n e = let l = ltb-true n 0 e in absurd omega (arith, l)
 
 pub below_all : (policy : Policy) (t : Task) (n : ℕ) → nat_lt n (runs_in_all policy t) ≡ true → n < runs_in policy t.blocks
 below_all policy t n e = go (t.moved == 0) e
   where
     go : (q : Bool) → nat_lt n (if q then 0 else runs_in policy t.blocks) ≡ true → n < runs_in policy t.blocks
     go true z = absurd (not_below n z)
-    go false z = lt_is n (runs_in policy t.blocks) z
+    go false z = ltb-true n (runs_in policy t.blocks) z
 
 status_after : (policy : Policy) (t : Task) → nat_lt (t.runs + 1) (runs_in_all policy t) ≡ false → (after_run policy t).to ≡ Some phases.Status
 status_after policy t e = λ i. (if e i then disconnection (disconnect_messages policy) else phase_entry phases.Status).to
@@ -135,37 +136,40 @@ other_id a b e f = wrong (sym (self_id b) ∙ ap (same_id b) (sym f) ∙ e)
 
 -- ---- before any row
 
+pub left_start : (kind : Process → Type 0) (s : ScenarioValue) → RunsLeftOf kind s []
+left_start kind s p own w none = inl refl
+
 pub runs_left_start : (s : ScenarioValue) → RunsLeft s []
-runs_left_start s p own w none = inl refl
+runs_left_start s = left_start IsWriter s
 
 -- ---- the row
 
-record LeftRow (s : ScenarioValue) (p : List Row) (row : Row) (q : Process) : Type 0 where
+pub record LeftRow (kind : Process → Type 0) (s : ScenarioValue) (p : List Row) (row : Row) (q : Process) : Type 0 where
   obeys : Obeys s
   prompt : IsPrompt s (row ∷ p)
   was : Stood s p
   nx : NextStood s p row
   inside : row.dev < 8
   holds : HoldFacts p
-  facts : RunFacts s p
+  facts : RunsBy kind s (run_state s p)
   places : PlaceFacts s (row ∷ p)
   own : process_of s q.id ≡ Some q
-  writes : is_writing q ≡ true
+  of_kind : kind q
   before : HasRunLeft (run_total s q) (progress_in (run_state s p).progress q.id).runs
   none : reply_in (array_of s (run_state s (row ∷ p))).replies q.id ≡ None
 
 abbrev Left : ScenarioValue → List Row → Row → Process → Type 0
 Left s p row q = HasRunLeft (run_total s q) (progress_in (run_state s (row ∷ p)).progress q.id).runs
 
-kept : (s : ScenarioValue) (p : List Row) (row : Row) (q : Process) → LeftRow s p row q → (progress_in (run_state s (row ∷ p)).progress q.id).runs ≡ (progress_in (run_state s p).progress q.id).runs → Left s p row q
-kept s p row q h e = subst (HasRunLeft (run_total s q)) (sym e) h.before
+kept : (kind : Process → Type 0) (s : ScenarioValue) (p : List Row) (row : Row) (q : Process) → LeftRow kind s p row q → (progress_in (run_state s (row ∷ p)).progress q.id).runs ≡ (progress_in (run_state s p).progress q.id).runs → Left s p row q
+kept kind s p row q h e = subst (HasRunLeft (run_total s q)) (sym e) h.before
 
-kept_by : (s : ScenarioValue) (p : List Row) (row : Row) (q : Process) → LeftRow s p row q → (run_state s (row ∷ p)).progress ≡ (run_state s p).progress → Left s p row q
-kept_by s p row q h e = kept s p row q h (ap (λ (m : List ProcessProgress). (progress_in m q.id).runs) e)
+kept_by : (kind : Process → Type 0) (s : ScenarioValue) (p : List Row) (row : Row) (q : Process) → LeftRow kind s p row q → (run_state s (row ∷ p)).progress ≡ (run_state s p).progress → Left s p row q
+kept_by kind s p row q h e = kept kind s p row q h (ap (λ (m : List ProcessProgress). (progress_in m q.id).runs) e)
 
 -- Its own run is done as the phase is left for STATUS: with that it has a reply.
-answers : {A : Type 0} (s : ScenarioValue) (p : List Row) (row : Row) (n : Connection) (c : Change) (q : Process) → LeftRow s p row q → GoesOn s (run_state s p) row n c → changes_phase c ≡ true → receiver_in n c ≡ None → is_fault row.kind ≡ false → (run_state s p).exchange.begun ≡ true → process_served s (run_state s p) ≡ Some q → (leaving s (run_state s p) n.target).to ≡ Some phases.Status → A
-answers s p row n c q h g ep er ef b served to = none_some placed.answered.reply (sym h.none ∙ ap (λ (a : Option Array). reply_in (or_start s a).replies q.id) h.places.array_is ∙ placed.answered.given)
+answers : {A : Type 0} (kind : Process → Type 0) (s : ScenarioValue) (p : List Row) (row : Row) (n : Connection) (c : Change) (q : Process) → LeftRow kind s p row q → GoesOn s (run_state s p) row n c → changes_phase c ≡ true → receiver_in n c ≡ None → is_fault row.kind ≡ false → (run_state s p).exchange.begun ≡ true → process_served s (run_state s p) ≡ Some q → (leaving s (run_state s p) n.target).to ≡ Some phases.Status → A
+answers kind s p row n c q h g ep er ef b served to = none_some placed.answered.reply (sym h.none ∙ ap (λ (a : Option Array). reply_in (or_start s a).replies q.id) h.places.array_is ∙ placed.answered.given)
   where
     k : RunState
     k = run_state s p
@@ -208,9 +212,9 @@ answers s p row n c q h g ep er ef b served to = none_some placed.answered.reply
         (subst (λ (x : Bool). PlacedIf x h.places.array q j.exchange.plan j.handshakes (bus_of j).atn (phase_of (bus_of j))) begun (h.places.placed n i.connection_is off q served_after))
 
 -- A run is done of the process itself.
-own_run : (s : ScenarioValue) (p : List Row) (row : Row) (n : Connection) (c : Change) (q : Process) → LeftRow s p row q → GoesOn s (run_state s p) row n c → changes_phase c ≡ true → receiver_in n c ≡ None → is_fault row.kind ≡ false → (run_state s p).exchange.begun ≡ true → process_served s (run_state s p) ≡ Some q → (leaving s (run_state s p) n.target).done ≡ true
+own_run : (kind : Process → Type 0) (s : ScenarioValue) (p : List Row) (row : Row) (n : Connection) (c : Change) (q : Process) → LeftRow kind s p row q → GoesOn s (run_state s p) row n c → changes_phase c ≡ true → receiver_in n c ≡ None → is_fault row.kind ≡ false → (run_state s p).exchange.begun ≡ true → process_served s (run_state s p) ≡ Some q → (leaving s (run_state s p) n.target).done ≡ true
     → HasRunLeft (run_total s q) ((progress_in (run_state s p).progress q.id).runs + 1)
-own_run s p row n c q h g ep er ef b served done = by (nat_lt (d.task.runs + 1) (runs_in_all (policy_of v.def) d.task)) refl
+own_run kind s p row n c q h g ep er ef b served done = by (nat_lt (d.task.runs + 1) (runs_in_all (policy_of v.def) d.task)) refl
   where
     k : RunState
     k = run_state s p
@@ -228,22 +232,22 @@ own_run s p row n c q h g ep er ef b served done = by (nat_lt (d.task.runs + 1) 
     task = sym (same_Some (task_here s k q) d.task (sym (ap (task_if s k) served) ∙ d.task_is))
 
     target : q.target ≡ n.target
-    target = (h.facts.served n q g.row_is.connection_is g.calm served h.writes).target_is
+    target = (h.facts.served n q g.row_is.connection_is g.calm served h.of_kind).target_is
 
     policy : policy_of v.def ≡ policy_for s q
     policy = ap (λ (x : ℕ). policy_of (target_def_of s x)) (sym target)
 
     by : (x : Bool) → nat_lt (d.task.runs + 1) (runs_in_all (policy_of v.def) d.task) ≡ x → HasRunLeft (run_total s q) ((progress_in k.progress q.id).runs + 1)
-    by false e = answers s p row n c q h g ep er ef b served (ap (λ (l : Leaving). l.to) (left ∙ d.left) ∙ status_after (policy_of v.def) d.task e)
+    by false e = answers kind s p row n c q h g ep er ef b served (ap (λ (l : Leaving). l.to) (left ∙ d.left) ∙ status_after (policy_of v.def) d.task e)
     by true e = inr (below_all (policy_for s q) (task_here s k q) ((progress_in k.progress q.id).runs + 1) ((λ i. nat_lt ((sym task i).runs + 1) (runs_in_all (sym policy i) (sym task i))) ∙ e))
 
 -- ---- a row of a connection, before and after which RST is false
 
-turned : (s : ScenarioValue) (p : List Row) (row : Row) (n : Connection) (c : Change) (q : Process) → LeftRow s p row q → GoesOn s (run_state s p) row n c → changes_phase c ≡ true → receiver_in n c ≡ None → is_fault row.kind ≡ false → (b : Bool) → (run_state s p).exchange.begun ≡ b → (o : Option Process) → process_served s (run_state s p) ≡ o
+turned : (kind : Process → Type 0) (s : ScenarioValue) (p : List Row) (row : Row) (n : Connection) (c : Change) (q : Process) → LeftRow kind s p row q → GoesOn s (run_state s p) row n c → changes_phase c ≡ true → receiver_in n c ≡ None → is_fault row.kind ≡ false → (b : Bool) → (run_state s p).exchange.begun ≡ b → (o : Option Process) → process_served s (run_state s p) ≡ o
     → HasRunLeft (run_total s q) (progress_in (if b then progress_by_leaving (run_state s p) o (leaving s (run_state s p) n.target) else (run_state s p).progress) q.id).runs
-turned s p row n c q h g ep er ef false eb o eo = h.before
-turned s p row n c q h g ep er ef true eb None eo = h.before
-turned s p row n c q h g ep er ef true eb (Some x) eo = done l.done refl
+turned kind s p row n c q h g ep er ef false eb o eo = h.before
+turned kind s p row n c q h g ep er ef true eb None eo = h.before
+turned kind s p row n c q h g ep er ef true eb (Some x) eo = done l.done refl
   where
     k : RunState
     k = run_state s p
@@ -258,7 +262,7 @@ turned s p row n c q h g ep er ef true eb (Some x) eo = done l.done refl
     own same e =
         let is : x ≡ q = same_Some x q (sym (served_id s k.served x eo).1 ∙ ap (process_of s) same ∙ h.own) in
         subst (λ (y : Process). HasRunLeft (run_total s q) (progress_in (progress_with k.progress y.id true l.counts) q.id).runs) (sym is)
-        (subst (HasRunLeft (run_total s q)) (sym (one_more k.progress q.id l.counts)) (own_run s p row n c q h g ep er ef eb (eo ∙ ap (λ (y : Process). Some y) is) e))
+        (subst (HasRunLeft (run_total s q)) (sym (one_more k.progress q.id l.counts)) (own_run kind s p row n c q h g ep er ef eb (eo ∙ ap (λ (y : Process). Some y) is) e))
 
     done : (y : Bool) → l.done ≡ y → HasRunLeft (run_total s q) (progress_in (progress_with k.progress x.id y l.counts) q.id).runs
     done false e = keeps (progress_with k.progress x.id false l.counts) (same_runs k.progress x.id l.counts q.id)
@@ -268,14 +272,14 @@ turned s p row n c q h g ep er ef true eb (Some x) eo = done l.done refl
         at true f = own (id_is x.id q.id f) e
         at false f = keeps (progress_with k.progress x.id true l.counts) (counted_runs k.progress x.id true l.counts q.id (other_id q.id x.id f))
 
-going : (s : ScenarioValue) (p : List Row) (row : Row) (n : Connection) (c : Change) (q : Process) → LeftRow s p row q → GoesOn s (run_state s p) row n c → Left s p row q
-going s p row n c q h g = by g.row_is.kind
+going : (kind : Process → Type 0) (s : ScenarioValue) (p : List Row) (row : Row) (n : Connection) (c : Change) (q : Process) → LeftRow kind s p row q → GoesOn s (run_state s p) row n c → Left s p row q
+going kind s p row n c q h g = by g.row_is.kind
   where
     k : RunState
     k = run_state s p
 
     stay : changes_phase c ≡ false → Left s p row q
-    stay e = kept_by s p row q h (same_progress s k row (ap changes_phase g.row_is.change_is ∙ e))
+    stay e = kept_by kind s p row q h (same_progress s k row (ap changes_phase g.row_is.change_is ∙ e))
 
     by : RowKind row n c → Left s p row q
     by (still ef ep er) = stay ep
@@ -284,7 +288,7 @@ going s p row n c q h g = by g.row_is.kind
     by (turns ef ep er) =
         subst (λ (m : List ProcessProgress). HasRunLeft (run_total s q) (progress_in m q.id).runs)
         (sym (progress_turns s k row n c g.row_is ep (reading_is k row n c false g.row_is (ap (λ (z : Option ℕ). is_some z) er))))
-        (turned s p row n c q h g ep er ef k.exchange.begun refl (process_served s k) refl)
+        (turned kind s p row n c q h g ep er ef k.exchange.begun refl (process_served s k) refl)
 
 -- ---- under RST no data phase is left
 
@@ -305,8 +309,8 @@ same_if : (m n : Connection) (b : Bool) → (if b then Some m else None) ≡ Som
 same_if m n true e = same_Some m n e
 same_if m n false e = none_some n e
 
-cut : (s : ScenarioValue) (p : List Row) (row : Row) (q : Process) → LeftRow s p row q → (bus (row ∷ p)).rst ≡ true → Left s p row q
-cut s p row q h on = go k.story.bus_state.connection refl d.next refl (changes_phase d.change) refl
+cut : (kind : Process → Type 0) (s : ScenarioValue) (p : List Row) (row : Row) (q : Process) → LeftRow kind s p row q → (bus (row ∷ p)).rst ≡ true → Left s p row q
+cut kind s p row q h on = go k.story.bus_state.connection refl d.next refl (changes_phase d.change) refl
   where
     k : RunState
     k = run_state s p
@@ -331,11 +335,11 @@ cut s p row q h on = go k.story.bus_state.connection refl d.next refl (changes_p
         message_in_is (bus_of k) (ap is_message_in pl.bus ∙ cut_phase s p row m h.obeys h.prompt h.was h.holds con (after ∙ ap (λ (x : Connection). Some x) (sym same)) (inr on) (ap changes_phase (sym change) ∙ ep))
 
     go : (x : Option Connection) → k.story.bus_state.connection ≡ x → (y : Option Connection) → d.next ≡ y → (z : Bool) → changes_phase d.change ≡ z → Left s p row q
-    go None e y f z g = kept_by s p row q h (progress_apart s k row e)
-    go (Some m) e None f z g = kept_by s p row q h (progress_ends s k row f)
-    go (Some m) e (Some n) f false g = kept_by s p row q h (same_progress s k row g)
+    go None e y f z g = kept_by kind s p row q h (progress_apart s k row e)
+    go (Some m) e None f z g = kept_by kind s p row q h (progress_ends s k row f)
+    go (Some m) e (Some n) f false g = kept_by kind s p row q h (same_progress s k row g)
     go (Some m) e (Some n) f true g =
-        kept s p row q h
+        kept kind s p row q h
         (ap (λ (x : List ProcessProgress). (progress_in x q.id).runs) ((λ i. progress_after s k d (e i) (f i) (leaving_of s k (e i))) ∙ (λ i. if g i && k.exchange.begun then progress_by_leaving k (process_served s k) (leaving s k m.target) else k.progress))
         ∙ runs_kept k.progress (process_served s k) k.exchange.begun k (leaving s k m.target) refl (λ b. undone b (leaving s k m.target).done refl) q.id)
       where
@@ -346,22 +350,22 @@ cut s p row q h on = go k.story.bus_state.connection refl d.next refl (changes_p
 
 -- ---- any row
 
-row_left : (s : ScenarioValue) (p : List Row) (row : Row) (q : Process) → LeftRow s p row q → Left s p row q
-row_left s p row q h = go h.nx.row_is
+row_left : (kind : Process → Type 0) (s : ScenarioValue) (p : List Row) (row : Row) (q : Process) → LeftRow kind s p row q → Left s p row q
+row_left kind s p row q h = go h.nx.row_is
   where
     k : RunState
     k = run_state s p
 
     go : RowOf s k row → Left s p row q
-    go (apart e f) = kept_by s p row q h (progress_apart s k row e)
-    go (begins n b) = kept_by s p row q h (progress_apart s k row b.first.connection_is)
-    go (goes_on n c g) = going s p row n c q h g
-    go (ends n g) = kept_by s p row q h (progress_ends s k row g.next_is)
-    go (under_reset r f) = cut s p row q h (ap (λ (c : Change). c.after.rst) (sym (change_plain s row p h.was.standing.devices h.inside)) ∙ r)
+    go (apart e f) = kept_by kind s p row q h (progress_apart s k row e)
+    go (begins n b) = kept_by kind s p row q h (progress_apart s k row b.first.connection_is)
+    go (goes_on n c g) = going kind s p row n c q h g
+    go (ends n g) = kept_by kind s p row q h (progress_ends s k row g.next_is)
+    go (under_reset r f) = cut kind s p row q h (ap (λ (c : Change). c.after.rst) (sym (change_plain s row p h.was.standing.devices h.inside)) ∙ r)
 
-pub runs_left_next : (s : ScenarioValue) (p : List Row) (row : Row) → Obeys s → IsPrompt s (row ∷ p) → Stood s p → NextStood s p row → HoldFacts p → RunFacts s p → PlaceFacts s (row ∷ p) → RunsLeft s p → RunsLeft s (row ∷ p)
-runs_left_next s p row o prompt was nx holds facts places h q own w none =
-    row_left s p row q (record {
+pub left_next : (kind : Process → Type 0) (s : ScenarioValue) (p : List Row) (row : Row) → Obeys s → IsPrompt s (row ∷ p) → Stood s p → NextStood s p row → HoldFacts p → RunsBy kind s (run_state s p) → PlaceFacts s (row ∷ p) → RunsLeftOf kind s p → RunsLeftOf kind s (row ∷ p)
+left_next kind s p row o prompt was nx holds facts places h q own w none =
+    row_left kind s p row q (record {
       obeys = o;
       prompt = prompt;
       was = was;
@@ -371,7 +375,10 @@ runs_left_next s p row o prompt was nx holds facts places h q own w none =
       facts = facts;
       places = places;
       own = own;
-      writes = w;
+      of_kind = w;
       before = h q own w (unlisted s q.id (run_state s p).array (row_events_by s (run_state s p).story (row_reading (run_state s p).story.bus_state row) row) places.array places.array_is (ap (λ (a : Option Array). reply_in (or_start s a).replies q.id) (sym places.array_is) ∙ none));
       none = none;
     })
+
+pub runs_left_next : (s : ScenarioValue) (p : List Row) (row : Row) → Obeys s → IsPrompt s (row ∷ p) → Stood s p → NextStood s p row → HoldFacts p → RunFacts s p → PlaceFacts s (row ∷ p) → RunsLeft s p → RunsLeft s (row ∷ p)
+runs_left_next s p row o prompt was nx holds facts places h = left_next IsWriter s p row o prompt was nx holds facts places h

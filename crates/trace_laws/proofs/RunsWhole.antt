@@ -12,6 +12,7 @@ use Rattle.bus_trace.specs.declared.changes.Change.{Change}
 use Rattle.bus_trace.specs.declared.connection.Connection.{Connection}
 use Rattle.bus_trace.specs.Terms.{call, connection, connection_after}
 use Rattle.bus_trace.specs.Trace.{bus}
+use Rattle.cdb_codec.specs.Cdb.{command_of}
 use Rattle.cdb_codec.specs.declared.status.TheConstants.{GOOD}
 use Rattle.scenario.specs.declared.value.Policy.{Policy}
 use Rattle.scenario.specs.declared.value.Policy.TheVariants as policies
@@ -19,11 +20,11 @@ use Rattle.scenario.specs.Value.{ScenarioValue}
 use Rattle.scenario.specs.Writing.{Obeys}
 use Rattle.disk_array.specs.ArrayHistory.{array_after, reply_in}
 use Rattle.disk_array.specs.Execution.{Reply}
+use Rattle.disk_array.specs.Order.{count_in, range_in}
 use Rattle.disk_array.specs.Processes.{Process, process_of}
 use Rattle.disk_array.specs.Units.{Array}
 use Rattle.bus_story.specs.BusState.{RowReading, row_reading}
 use Rattle.bus_story.specs.Story.{Story}
-use Rattle.disk_unit.proofs.Touched.{from_not_lt}
 use Rattle.bus_dialogue.specs.declared.exchange.Leaving.{Leaving}
 use Rattle.bus_dialogue.specs.declared.exchange.Next.{Next}
 use Rattle.bus_dialogue.specs.declared.exchange.Next.TheVariants as nexts
@@ -49,10 +50,8 @@ use Rattle.scsi_device.specs.Writes.{writers}
 use Rattle.scsi_device.proofs.Finds.{none_is}
 use Rattle.bus_laws.proofs.Apart.{change_plain}
 use Rattle.bus_laws.proofs.Prompt.{least_is}
-use Rattle.link_laws.proofs.Ahead.{zero_of}
 use Rattle.trace_laws.specs.Attendance.{events_of}
 use Rattle.trace_laws.specs.Commands.{CommandFacts}
-use Rattle.trace_laws.specs.DataPointers.{policy_for}
 use Rattle.trace_laws.specs.Instructed.{InstructedFacts}
 use Rattle.trace_laws.specs.Places.{AnsweredOpen, IsTaken, PlaceFacts, PlacedBefore, PlacedIf, PlacedIn}
 use Rattle.trace_laws.specs.RunFacts.{RunFacts}
@@ -63,12 +62,11 @@ use Rattle.trace_laws.specs.Tells.{AreRepliesShown, FailsAsLeft}
 use Rattle.trace_laws.specs.WholeRuns.{HasSentAll, RunsBlocks}
 use Rattle.trace_laws.specs.WriteFacts.{WriteFacts, WritesAsked}
 use Rattle.trace_laws.proofs.ConnectionRows.{IsGoing, going}
-use Rattle.trace_laws.proofs.Impossible.{wrong, wrong'}
 use Rattle.trace_laws.proofs.Joint.{NextStood, Stood}
 use Rattle.trace_laws.proofs.Plans.{is_directed, writes_of}
 use Rattle.trace_laws.proofs.RunEvents.{RunsFrom, RunsInPhase, answered, moved_all, reads, run_turn, runs_from, writes}
 use Rattle.trace_laws.proofs.RunFacts.{task_here}
-use Rattle.trace_laws.proofs.RunFits.{FitsRuns, fits_runs}
+use Rattle.trace_laws.proofs.RunFits.{FitsRuns, blocks_named, fits_runs}
 use Rattle.trace_laws.proofs.RunParts.{HasMost}
 use Rattle.trace_laws.proofs.RunRows.{served_id}
 use Rattle.trace_laws.proofs.SentBytes.{reads_send_none}
@@ -78,10 +76,13 @@ use Rattle.trace_laws.proofs.WholeRuns.{whole_run}
 use Rattle.trace_laws.proofs.WriteNext.{write_row}
 use Rattle.trace_laws.proofs.WriteRows.{in_lines, is_in}
 use Rattle.trace_laws.proofs.Written.{left_by}
+use Rattle.std.proofs.lemmas.Bool.{ltb-false}
+use Rattle.bus_base.proofs.Tests.{wrong, wrong', zero_of}
+use Rattle.bus_books.specs.Accounts.{policy_for}
 
 -- ---- blocks are moved in one run at least
 
-zero_blocks : (blocks size moved : ℕ) → (moved == 0) ≡ false → moved ≡ blocks * size → 1 ≤ blocks
+pub zero_blocks : (blocks size moved : ℕ) → (moved == 0) ≡ false → moved ≡ blocks * size → 1 ≤ blocks
 zero_blocks blocks size moved some e = go (blocks == 0) refl
   where
     some_of : (n : ℕ) → (n == 0) ≡ false → 1 ≤ n
@@ -94,7 +95,7 @@ zero_blocks blocks size moved some e = go (blocks == 0) refl
     go false f = some_of blocks f
     go true f = wrong (sym (ap (λ (x : ℕ). x == 0) (e ∙ ap (λ (x : ℕ). x * size) (zero_of blocks f) ∙ none size)) ∙ some)
 
-some_run : (policy : Policy) (blocks : ℕ) → HasMost policy → 1 ≤ blocks → 1 ≤ runs_in policy (Some blocks)
+pub some_run : (policy : Policy) (blocks : ℕ) → HasMost policy → 1 ≤ blocks → 1 ≤ runs_in policy (Some blocks)
 some_run policies.Never blocks m h = omega arith
 some_run policies.Command blocks m h = omega arith
 some_run (policies.Burst most) blocks m h = least ((blocks + (most - 1)) / most) most blocks m h (lt-div-mul-add m)
@@ -117,7 +118,7 @@ some_run (policies.NoSave most) blocks m h = go (nat_le blocks most)
     go true = omega arith
     go false = omega arith
 
-runs_blocks : (policy : Policy) → HasMost policy → RunsBlocks policy
+pub runs_blocks : (policy : Policy) → HasMost policy → RunsBlocks policy
 runs_blocks policies.Never m = tt
 runs_blocks policies.Command m = tt
 runs_blocks (policies.Burst most) m = m
@@ -125,7 +126,7 @@ runs_blocks (policies.NoSave most) m = tt
 
 -- ---- replies
 
-status_is : (o : Option Phase) → is_status_next o ≡ true → o ≡ Some phases.Status
+pub status_is : (o : Option Phase) → is_status_next o ≡ true → o ≡ Some phases.Status
 status_is None e = wrong' e
 status_is (Some phases.Status) e = refl
 status_is (Some phases.Command) e = wrong' e
@@ -219,8 +220,14 @@ sent_all s p row n q h = by (runs_from (serving_of s k n.target) (bus_of k).atn 
     moves : (t.moved == 0) ≡ false
     moves = ap (λ (x : ℕ). x == 0) moved ∙ h.some
 
-    blocks : t.moved ≡ fits.fit.blocks * t.size
-    blocks = fits.fit.moved moves
+    count : ℕ
+    count = count_in (range_in (command_of q.cdb))
+
+    named : t.blocks ≡ Some count
+    named = blocks_named (command_of q.cdb) h.writes
+
+    blocks : t.moved ≡ count * t.size
+    blocks = fits.fit.moved count named moves
 
     -- where it stands
     placed : PlacedIn h.places.array q k.exchange.plan k.handshakes (bus_of k).atn (phase_of (bus_of k))
@@ -244,13 +251,13 @@ sent_all s p row n q h = by (runs_from (serving_of s k n.target) (bus_of k).atn 
     total = λ i. if moves i then 0 else runs_in (policy_for s q) t.blocks
 
     some_total : 1 ≤ run_total s q
-    some_total = subst (λ (b : Option ℕ). 1 ≤ runs_in (policy_for s q) b) (sym fits.fit.blocks_are) (some_run (policy_for s q) fits.fit.blocks fits.fit.most (zero_blocks fits.fit.blocks t.size t.moved moves blocks))
+    some_total = subst (λ (b : Option ℕ). 1 ≤ runs_in (policy_for s q) b) (sym named) (some_run (policy_for s q) count fits.fit.most (zero_blocks count t.size t.moved moves blocks))
 
     not_all : nat_lt r.turn.task.runs (runs_in_all (policy_of (target_def_of s n.target)) r.turn.task) ≡ false → HasSentAll s k (writers s p) q
     not_all e = absurd (clash (progress_in k.progress q.id).runs (run_total s q) some_total all (h.left q own h.writes (none_is (reply_in (array_of s k).replies q.id) unanswered)))
       where
         all : run_total s q ≤ (progress_in k.progress q.id).runs
-        all = subst (λ (x : ℕ). x ≤ t.runs) total (from_not_lt t.runs (runs_in_all (policy_for s q) t) (sym (λ i. nat_lt (task i).runs (runs_in_all (policy i) (task i))) ∙ e))
+        all = subst (λ (x : ℕ). x ≤ t.runs) total (ltb-false t.runs (runs_in_all (policy_for s q) t) (sym (λ i. nat_lt (task i).runs (runs_in_all (policy i) (task i))) ∙ e))
 
         clash : (made whole : ℕ) → 1 ≤ whole → whole ≤ made → HasRunLeft whole made → ⊥
         clash made whole one few (inl z) = absurd omega (arith, one, few, z)
@@ -267,7 +274,7 @@ sent_all s p row n q h = by (runs_from (serving_of s k n.target) (bus_of k).atn 
     done phase struck =
         whole_run s p row n g.change q (write_row s p row h.obeys h.prompt h.was h.nx h.commands h.told h.asked h.facts) g.goes (ap changes_phase (sym g.goes.row_is.change_is) ∙ r.left) r.begun phase struck
         (ap (λ (l : Leaving). l.to) (left_by s k n r.begun) ∙ status_is (phase_leaving (serving_of s k n.target) (bus_of k).atn (phase_of (bus_of k))).to r.turn.status)
-        h.served target (record { blocks = fits.fit.blocks; blocks_are = fits.fit.blocks_are; moved = blocks; runs = runs_blocks (policy_for s q) fits.fit.most })
+        h.served target (record { blocks = count; blocks_are = named; moved = blocks; runs = runs_blocks (policy_for s q) fits.fit.most })
       where
         next : d.next ≡ connection (row ∷ p)
         next = λ i. connection_after (pl.connection i) (pl.call i) (change i) row

@@ -9,9 +9,10 @@ use Rattle.disk_array.specs.Seats.{seat_of, guests_at, current_of, running_at}
 use Rattle.disk_array.specs.SoundArray.{IsOwn, IsOwnRunning, AllOwnUnits, AllOwnGuests, AreApart, IsSound}
 use Rattle.disk_array.specs.Units.{RunningProcess, UnitState, Array, unit_state_at, guest_at}
 use Rattle.disk_array.specs.Steps.{is_of_unit, running_if, running_in, running_process}
-use Rattle.bus_books.proofs.Lookups.{id_is, number_is, first_is, second_is}
-use Rattle.bus_books.proofs.Lists.{eq_self}
-use Rattle.trace_laws.proofs.Impossible.{wrong}
+use Rattle.bus_books.proofs.Lookups.{id_is}
+use Rattle.std.proofs.lemmas.Bool.{eqb-true}
+use Rattle.bus_base.proofs.Tests.{wrong, and_first, and_second, eq_self}
+use Rattle.disk_array.proofs.SeatLookups.{is_place}
 
 -- Two processes of the scenario with one number are one.
 pub one_process : (s : ScenarioValue) (q p : Process) (id : ProcId) → process_of s q.id ≡ Some q → same_id q.id id ≡ true → process_of s id ≡ Some p → q ≡ p
@@ -31,9 +32,6 @@ guest_own s (g ∷ guests) id p h e = go (is_of_unit g.process p.target p.unit) 
     go false z false w k = k
 
 -- ---- the units
-
-abbrev is_place : UnitState → ℕ → ℕ → Bool
-is_place u t n = u.target == t && u.unit == n
 
 other_current : (s : ScenarioValue) (u : UnitState) (id : ProcId) (p : Process) → IsOwnRunning s u.target u.unit u.current → process_of s id ≡ Some p → is_place u p.target p.unit ≡ false → running_if u.current id ≡ None
 other_current s u id p h e f = go u.current h
@@ -61,8 +59,8 @@ unit_own s (u ∷ units) id p h a e = go (is_place u p.target p.unit) refl (unit
     go : (x : Bool) → is_place u p.target p.unit ≡ x → running_in units id ≡ running_if (current_of (unit_state_at units p.target p.unit)) id
         → (if is_some (running_if u.current id) then running_if u.current id else running_in units id) ≡ running_if (current_of (if x then Some u else unit_state_at units p.target p.unit)) id
     go true z k =
-        let t : u.target ≡ p.target = number_is u.target p.target (first_is (u.target == p.target) (u.unit == p.unit) z) in
-        let n : u.unit ≡ p.unit = number_is u.unit p.unit (second_is (u.target == p.target) (u.unit == p.unit) z) in
+        let t : u.target ≡ p.target = eqb-true u.target p.target (and_first (u.target == p.target) (u.unit == p.unit) z) in
+        let n : u.unit ≡ p.unit = eqb-true u.unit p.unit (and_second (u.target == p.target) (u.unit == p.unit) z) in
         let gone : unit_state_at units p.target p.unit ≡ None = (λ i. unit_state_at units (sym t i) (sym n i)) ∙ a.0 in
         here (running_if u.current id) (k ∙ (λ i. running_if (current_of (gone i)) id))
     go false z k =

@@ -19,7 +19,7 @@ use Rattle.bus_dialogue.specs.NextPhase.{Serving, after_offer, bus_free, message
 use Rattle.bus_dialogue.specs.Words.{is_naming, request_by}
 use Rattle.trace_laws.specs.Failures.{FailsBy, IsClear}
 use Rattle.trace_laws.proofs.FailureTurns.{is_sending, sends_clear}
-use Rattle.trace_laws.proofs.Impossible.{wrong'}
+use Rattle.bus_base.proofs.Tests.{wrong'}
 
 -- ---- its lines
 
@@ -46,22 +46,22 @@ no_message_out b e = λ i. e i && b.cd && not b.io
 
 -- ---- MESSAGE OUT is not left for it
 
-abbrev is_in_next : Option Phase → Bool
+abbrev pub is_in_next : Option Phase → Bool
 is_in_next (Some phases.DataIn) = true
 is_in_next _ = false
 
-abbrev NotIn : Leaving → Type 0
+abbrev pub NotIn : Leaving → Type 0
 NotIn l = is_in_next l.to ≡ false
 
-either : (q : Bool) (a b : Leaving) → NotIn a → NotIn b → NotIn (if q then a else b)
+pub either : (q : Bool) (a b : Leaving) → NotIn a → NotIn b → NotIn (if q then a else b)
 either true a b e f = e
 either false a b e f = f
 
-by_task : (task : Option Task) (f : Task → Leaving) → ((t : Task) → NotIn (f t)) → NotIn (with_task task f)
+pub by_task : (task : Option Task) (f : Task → Leaving) → ((t : Task) → NotIn (f t)) → NotIn (with_task task f)
 by_task None f h = refl
 by_task (Some t) f h = h t
 
-recovers : (def : Option TargetDef) (t : Task) (a b : Leaving) → NotIn a → NotIn b → NotIn (recovery def t a b)
+pub recovers : (def : Option TargetDef) (t : Task) (a b : Leaving) → NotIn a → NotIn b → NotIn (recovery def t a b)
 recovers def t a b e f = go t.in_hold (nat_lt t.recoveries (recovery_limit def))
   where
     go : (q r : Bool) → NotIn (if q then a else if r then record a { counts = true } else b)
@@ -78,7 +78,7 @@ offered def negotiates (Some a) = refl
 offered def true None = requested (request_by def)
 offered def false None = refl
 
-out_not_in : (v : Serving) (cause : Cause) → NotIn (message_out_leaving v cause)
+pub out_not_in : (v : Serving) (cause : Cause) → NotIn (message_out_leaving v cause)
 out_not_in v causes.Selected = either (is_some v.plan.said.aborts) bus_free (after_offer v.def v.plan.negotiates v.plan.said.offer) refl (offered v.def v.plan.negotiates v.plan.said.offer)
 out_not_in v causes.InMessage =
     either (is_some v.plan.said.offer) (phase_entry phases.Command) (if is_naming v.plan.messages.first then message_repetition v.plan else with_task v.task (λ t. recovery v.def t (message_repetition v.plan) bus_free)) refl

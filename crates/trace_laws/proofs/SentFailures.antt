@@ -51,20 +51,17 @@ use Rattle.trace_laws.proofs.Complaints.{complaints_next}
 use Rattle.trace_laws.proofs.ConnectionRows.{ConnectionRow, GoingRow, RowKindOf, begins_now, connection_row, goes_now, going_row, row_kind, stage_of_connection}
 use Rattle.trace_laws.proofs.FailureBytes.{clear_as, still_fails}
 use Rattle.trace_laws.proofs.FailureCrossed.{CrossedFacts}
-use Rattle.trace_laws.proofs.Impossible.{wrong, wrong', none_some}
+use Rattle.trace_laws.proofs.Impossible.{none_some}
 use Rattle.trace_laws.proofs.Joint.{NextStood, Stood}
 use Rattle.trace_laws.proofs.LinkRows.{LinkRow}
-use Rattle.trace_laws.proofs.RunCountFacts.{handshakes_begin, unasked_low}
+use Rattle.trace_laws.proofs.RunCountFacts.{handshakes_begin, unasked_low, or_left}
 use Rattle.trace_laws.proofs.SentEntries.{enters_clear, in_lines, no_message_in, no_message_out}
 use Rattle.trace_laws.proofs.SentStays.{DataRow, drives_on, strikes_on}
 use Rattle.trace_laws.proofs.UndoneAnswers.{same_phase_of}
 use Rattle.trace_laws.proofs.UndoneFacts.{undo_asks}
 use Rattle.trace_laws.proofs.WaitingRequests.{none_struck}
 use Rattle.trace_laws.proofs.WaitingRows.{in_row}
-
-or_left : (b : Bool) → (false || b) ≡ true → b ≡ true
-or_left true e = refl
-or_left false e = e
+use Rattle.bus_base.proofs.Tests.{wrong, wrong'}
 
 -- ---- in DATA IN
 

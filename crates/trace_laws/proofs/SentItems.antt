@@ -27,16 +27,14 @@ use Rattle.bus_story.specs.Links.{Link, link_of, last_out, last_in, is_of_nexus,
 use Rattle.bus_story.specs.HistoryEvents.{carried_if}
 use Rattle.bus_story.specs.Story.{Story, Ending, by_abort, by_reset, is_aborted, is_sense_stopped, marked_refused, marked_shown, story_with_over, story_with_end, with_check, story_with_ends, story_after_event, story_after_events}
 use Rattle.bus_story.specs.TraceHistory.{aim_of, is_arbitration_entry, story_with_aim, story_without_answer, story_with_try, story_after_calling_by, story_after_calling, story_on_free_bus, story_with_restored, story_with_sent, story_after_connection, story_with_carried, is_parity_error, story_after_out, carried_after_message_if, story_after_message, story_after_in, carried_after_byte_if, story_after_byte, carried_after_fault_if, story_after_fault, story_in_connection, story_on_bus}
-use Rattle.bus_books.proofs.CarriedRows.{ends_keep, check_keeps}
-use Rattle.bus_books.proofs.Lists.{eq_self}
-use Rattle.bus_books.proofs.Lookups.{first_is, second_is, self_id, id_is, carried_id}
-use Rattle.bus_laws.proofs.Tests.{or_true}
-use Rattle.trace_laws.proofs.BlockRows.{or_link}
-use Rattle.trace_laws.proofs.Impossible.{wrong}
+use Rattle.bus_books.proofs.CarriedRows.{or_link}
+use Rattle.bus_books.proofs.Lookups.{self_id, id_is, carried_id}
 use Rattle.trace_laws.proofs.PointerStorySteps.{message_id}
 use Rattle.trace_laws.proofs.RowEvents.{IsOf, AllOf, carried_of_item}
 use Rattle.trace_laws.specs.ItemFacts.{LinkSent, LinksSent, SentOnly}
 use Rattle.trace_laws.proofs.Tests.{second_false}
+use Rattle.bus_base.proofs.Tests.{wrong, and_first, and_second, or_true, eq_self}
+use Rattle.bus_story.proofs.StorySteps.{ends_keep, check_keeps}
 
 -- ---- items
 
@@ -70,11 +68,11 @@ find_sent b i t u tag n (c ∷ commands) item e =
     go : (q r : Bool) → (is_of_nexus c i t u && is_open b n && same_number (tag_number_if c.tag) tag) ≡ q → (is_of_nexus c i t u && is_open_sense b n && same_number None tag) ≡ r
         → (if q then Some (command_item n) else if r then Some (sense_item n) else named_item_from b i t u tag (n + 1) commands) ≡ Some item → (named_item_from b i t u tag (n + 1) commands ≡ Some item → has_item b.sent item ≡ true) → has_item b.sent item ≡ true
     go true r x y z rest =
-        let o = second_is (is_of_nexus c i t u) (is_open b n) (first_is (is_of_nexus c i t u && is_open b n) (same_number (tag_number_if c.tag) tag) x) in
-        ap (has_item b.sent) (sym (ap (or_item item) z)) ∙ first_is (has_item b.sent (command_item n)) (not (has_item b.over (command_item n))) o
+        let o = and_second (is_of_nexus c i t u) (is_open b n) (and_first (is_of_nexus c i t u && is_open b n) (same_number (tag_number_if c.tag) tag) x) in
+        ap (has_item b.sent) (sym (ap (or_item item) z)) ∙ and_first (has_item b.sent (command_item n)) (not (has_item b.over (command_item n))) o
     go false true x y z rest =
-        let o = second_is (is_of_nexus c i t u) (is_open_sense b n) (first_is (is_of_nexus c i t u && is_open_sense b n) (same_number None tag) y) in
-        ap (has_item b.sent) (sym (ap (or_item item) z)) ∙ first_is (has_item b.sent (sense_item n)) (not (has_item b.over (sense_item n))) o
+        let o = and_second (is_of_nexus c i t u) (is_open_sense b n) (and_first (is_of_nexus c i t u && is_open_sense b n) (same_number None tag) y) in
+        ap (has_item b.sent) (sym (ap (or_item item) z)) ∙ and_first (has_item b.sent (sense_item n)) (not (has_item b.over (sense_item n))) o
     go false false x y z rest = rest z
 
 -- ---- of a story

@@ -27,7 +27,6 @@ use Rattle.bus_due.specs.RunSteps.{run_state}
 use Rattle.bus_due.proofs.Plains.{run_state_plain}
 use Rattle.bus_books.specs.Rows.{IsRowIn, RowKind, still, strikes as fault_strikes, crosses, turns}
 use Rattle.bus_books.proofs.InConnection.{in_connection}
-use Rattle.bus_laws.proofs.Tests.{or_true}
 use Rattle.trace_laws.specs.Complaints.{any_struck}
 use Rattle.trace_laws.specs.ItemTalks.{awaits}
 use Rattle.trace_laws.specs.RunCounts.{pulses_here}
@@ -37,11 +36,11 @@ use Rattle.trace_laws.proofs.FailureBytes.{SameFail, still_fails}
 use Rattle.trace_laws.proofs.FailureCrossed.{CrossedBooks}
 use Rattle.trace_laws.proofs.FailureCrossings.{in_none, out_none, quiet_same}
 use Rattle.trace_laws.proofs.FailureFaults.{Struck, fault_crossed, fault_fails, fault_receives}
-use Rattle.trace_laws.proofs.Impossible.{wrong, wrong'}
 use Rattle.trace_laws.proofs.LinkRows.{LinkRow}
 use Rattle.trace_laws.proofs.RunCountRows.{data_pulses_stay}
 use Rattle.trace_laws.proofs.SentEntries.{in_lines, no_message_in, no_message_out}
 use Rattle.trace_laws.proofs.WaitingRequests.{InStep, asked_waits, first_struck, hands_after, last_struck, struck_on, waits_on, waits_struck}
+use Rattle.bus_base.proofs.Tests.{wrong, wrong', or_true}
 
 -- A row of DATA IN in which the phase stays; the initiator knows the process.
 pub record DataRow (s : ScenarioValue) (p : List Row) (row : Row) (n : Connection) : Type 0 where

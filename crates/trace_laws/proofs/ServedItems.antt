@@ -54,13 +54,14 @@ use Rattle.trace_laws.specs.Tells.{IsServed, of_process, of_abort, ServedFacts}
 use Rattle.trace_laws.proofs.Called.{IsDueCall, IsCalled, callee_at, by_answer}
 use Rattle.trace_laws.proofs.ConnectionRows.{ConnectionRow, GoingRow, connection_row, going_row, RowKindOf, begins_now, goes_now, row_kind}
 use Rattle.trace_laws.proofs.FirstRows.{made_is, under_rst, quiet_sel}
-use Rattle.trace_laws.proofs.Impossible.{wrong, wrong', none_some}
+use Rattle.trace_laws.proofs.Impossible.{none_some}
 use Rattle.trace_laws.proofs.ItemFacts.{beginning}
 use Rattle.trace_laws.proofs.Joint.{Stood, NextStood, link_connection, link_phase}
 use Rattle.trace_laws.proofs.PhaseLines.{out_phase}
 use Rattle.trace_laws.proofs.TellRows.{is_heard}
 use Rattle.trace_laws.proofs.UnderRst.{quiet_at_end}
 use Rattle.trace_laws.proofs.UndoneAnswers.{plan_stays, same_phase_of}
+use Rattle.bus_base.proofs.Tests.{wrong, wrong'}
 
 -- ---- whom an initiator has called
 

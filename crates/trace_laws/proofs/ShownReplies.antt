@@ -34,30 +34,31 @@ use Rattle.bus_story.specs.TraceHistory.{is_arbitration_entry, aim_of, story_wit
 use Rattle.bus_due.specs.RunState.{RunState, or_start}
 use Rattle.bus_due.specs.RunSteps.{array_after_events, run_state_after}
 use Rattle.bus_books.proofs.Lookups.{id_is, carried_id, put_there}
-use Rattle.bus_laws.proofs.Tests.{or_true}
-use Rattle.trace_laws.specs.Tells.{has_answer, AreRepliesShown, UndoesAnswers}
+use Rattle.trace_laws.specs.Tells.{AreRepliesShown, UndoesAnswers}
 use Rattle.trace_laws.proofs.ListedReplies.{replies_to, listed_on}
+use Rattle.bus_base.proofs.Tests.{or_true}
+use Rattle.trace_laws.specs.DataPointers.{is_marked}
 
 -- Whether it has an answer, of all processes.
 abbrev pub SameAnswers : List CarriedBytes → List CarriedBytes → Type 0
-SameAnswers before after = (id : ProcId) → has_answer (carried_of after id) ≡ has_answer (carried_of before id)
+SameAnswers before after = (id : ProcId) → is_marked (carried_of after id) ≡ is_marked (carried_of before id)
 
 unchanged : (all : List CarriedBytes) → SameAnswers all all
 unchanged all id = refl
 
-puts_answer : (all : List CarriedBytes) (c : CarriedBytes) → has_answer c ≡ has_answer (carried_of all c.id) → SameAnswers all (with_carried all c)
-puts_answer all c e id = ap has_answer (put_there all c id) ∙ go (same_id c.id id) refl
+puts_answer : (all : List CarriedBytes) (c : CarriedBytes) → is_marked c ≡ is_marked (carried_of all c.id) → SameAnswers all (with_carried all c)
+puts_answer all c e id = ap is_marked (put_there all c id) ∙ go (same_id c.id id) refl
   where
-    go : (q : Bool) → same_id c.id id ≡ q → has_answer (if q then c else carried_of all id) ≡ has_answer (carried_of all id)
-    go true f = e ∙ ap (λ (x : ProcId). has_answer (carried_of all x)) (id_is c.id id f)
+    go : (q : Bool) → same_id c.id id ≡ q → is_marked (if q then c else carried_of all id) ≡ is_marked (carried_of all id)
+    go true f = e ∙ ap (λ (x : ProcId). is_marked (carried_of all x)) (id_is c.id id f)
     go false f = refl
 
 -- ---- events
 
-marks : (all : List CarriedBytes) (c : CarriedBytes) (p : ProcId) → c.id ≡ p → has_answer c ≡ true → (id : ProcId) → has_answer (carried_of (with_carried all c) id) ≡ (same_id p id || has_answer (carried_of all id))
-marks all c p same e id = ap has_answer (put_there all c id) ∙ ap (λ (x : ProcId). has_answer (if same_id x id then c else carried_of all id)) same ∙ go (same_id p id)
+marks : (all : List CarriedBytes) (c : CarriedBytes) (p : ProcId) → c.id ≡ p → is_marked c ≡ true → (id : ProcId) → is_marked (carried_of (with_carried all c) id) ≡ (same_id p id || is_marked (carried_of all id))
+marks all c p same e id = ap is_marked (put_there all c id) ∙ ap (λ (x : ProcId). is_marked (if same_id x id then c else carried_of all id)) same ∙ go (same_id p id)
   where
-    go : (q : Bool) → has_answer (if q then c else carried_of all id) ≡ (q || has_answer (carried_of all id))
+    go : (q : Bool) → is_marked (if q then c else carried_of all id) ≡ (q || is_marked (carried_of all id))
     go true = e
     go false = refl
 
@@ -79,18 +80,18 @@ all_ended drops stops e n (c ∷ commands) b =
     go false true = refl
     go false false = refl
 
-pub answered_on : (s : ScenarioValue) (b : Story) (e : Event) (id : ProcId) → has_answer (carried_of (story_after_event s b e).carried id) ≡ (replies_to e id || has_answer (carried_of b.carried id))
+pub answered_on : (s : ScenarioValue) (b : Story) (e : Event) (id : ProcId) → is_marked (carried_of (story_after_event s b e).carried id) ≡ (replies_to e id || is_marked (carried_of b.carried id))
 answered_on s b (events.Accept p) id = refl
 answered_on s b (events.Refuse p) id = marks b.carried (marked_refused (carried_of b.carried p)) p (carried_id b.carried p) (or_true (carried_of b.carried p).shown) id
 answered_on s b (events.Run p) id = marks b.carried (marked_shown (carried_of b.carried p)) p (carried_id b.carried p) refl id
 answered_on s b (events.Fail p code) id = marks b.carried (marked_shown (carried_of b.carried p)) p (carried_id b.carried p) refl id
-answered_on s b (events.End p status) id = ap (λ (x : List CarriedBytes). has_answer (carried_of x id)) (checked _ p status)
+answered_on s b (events.End p status) id = ap (λ (x : List CarriedBytes). is_marked (carried_of x id)) (checked _ p status)
 answered_on s b (events.Lost p) id = refl
-answered_on s b (events.Aborted h t u what) id = ap (λ (x : List CarriedBytes). has_answer (carried_of x id)) (all_ended (is_aborted h t u what) (is_sense_stopped h t u what) by_abort 1 s.commands b)
-answered_on s b (events.Reset dev) id = ap (λ (x : List CarriedBytes). has_answer (carried_of x id)) (all_ended (λ c. true) (λ c. true) by_reset 1 s.commands b)
+answered_on s b (events.Aborted h t u what) id = ap (λ (x : List CarriedBytes). is_marked (carried_of x id)) (all_ended (is_aborted h t u what) (is_sense_stopped h t u what) by_abort 1 s.commands b)
+answered_on s b (events.Reset dev) id = ap (λ (x : List CarriedBytes). is_marked (carried_of x id)) (all_ended (λ c. true) (λ c. true) by_reset 1 s.commands b)
 
 abbrev Agree : Array → Story → Type 0
-Agree a b = (id : ProcId) → is_some (reply_in a.replies id) ≡ has_answer (carried_of b.carried id)
+Agree a b = (id : ProcId) → is_some (reply_in a.replies id) ≡ is_marked (carried_of b.carried id)
 
 event_agrees : (s : ScenarioValue) (a c : Array) (b : Story) (e : Event) → array_step s e (Some a) ≡ Some c → Agree a b → Agree c (story_after_event s b e)
 event_agrees s a c b e st h id = listed_on s a c e st id ∙ ap (λ (q : Bool). replies_to e id || q) (h id) ∙ sym (answered_on s b e id)
@@ -112,14 +113,14 @@ abbrev pub Keeps : Story → Story → Type 0
 Keeps b a = SameAnswers b.carried a.carried
 
 keeps : (b a : Story) → a.carried ≡ b.carried → Keeps b a
-keeps b a e id = ap (λ (x : List CarriedBytes). has_answer (carried_of x id)) e
+keeps b a e id = ap (λ (x : List CarriedBytes). is_marked (carried_of x id)) e
 
-restored : (c : CarriedBytes) → has_answer (with_restored_pointers c) ≡ has_answer c
+restored : (c : CarriedBytes) → is_marked (with_restored_pointers c) ≡ is_marked c
 restored c = refl
 
 with_restored : (b : Story) (item : Option Item) → Keeps b (story_with_restored b item)
 with_restored b None = unchanged b.carried
-with_restored b (Some (process p)) = puts_answer b.carried (with_restored_pointers (carried_of b.carried p)) (ap (λ (x : ProcId). has_answer (carried_of b.carried x)) (sym (carried_id b.carried p)))
+with_restored b (Some (process p)) = puts_answer b.carried (with_restored_pointers (carried_of b.carried p)) (ap (λ (x : ProcId). is_marked (carried_of b.carried x)) (sym (carried_id b.carried p)))
 with_restored b (Some (abort k)) = unchanged b.carried
 
 begun_keeps : (b : Story) (n : Connection) → Keeps b (story_after_connection b n)
@@ -133,7 +134,7 @@ begun_keeps b n = go n.reselected (aim_of b.aims n.initiator)
     go true item id = refl
     go false item id =
         with_restored (story_with_sent (record b { link = Some (Rattle.bus_story.specs.Links.link_of n (aim_of b.aims n.initiator)) }) item) item id
-        ∙ ap (λ (x : List CarriedBytes). has_answer (carried_of x id)) (sent item)
+        ∙ ap (λ (x : List CarriedBytes). is_marked (carried_of x id)) (sent item)
 
 tried : (s : ScenarioValue) (b : Story) (dev : ℕ) (item : Option Item) → (story_with_try s b dev item).carried ≡ b.carried
 tried s b dev None = refl
@@ -175,10 +176,10 @@ free_keeps s b d row = keeps b (story_on_free_bus s b d row) (free_carries s b d
 
 -- ---- in a connection
 
-own_answer : (b : Story) (p : ProcId) (c : CarriedBytes) → c.id ≡ p → has_answer c ≡ has_answer (carried_of b.carried p) → SameAnswers b.carried (with_carried b.carried c)
-own_answer b p c same e = puts_answer b.carried c (e ∙ ap (λ (x : ProcId). has_answer (carried_of b.carried x)) (sym same))
+own_answer : (b : Story) (p : ProcId) (c : CarriedBytes) → c.id ≡ p → is_marked c ≡ is_marked (carried_of b.carried p) → SameAnswers b.carried (with_carried b.carried c)
+own_answer b p c same e = puts_answer b.carried c (e ∙ ap (λ (x : ProcId). is_marked (carried_of b.carried x)) (sym same))
 
-message_answer : (c : CarriedBytes) (m : MsgIn) → (has_answer (carried_after_message c m) ≡ has_answer c) × ((carried_after_message c m).id ≡ c.id)
+message_answer : (c : CarriedBytes) (m : MsgIn) → (is_marked (carried_after_message c m) ≡ is_marked c) × ((carried_after_message c m).id ≡ c.id)
 message_answer c to_initiator.SavePointer = (refl, refl)
 message_answer c to_initiator.RestorePointers = (refl, refl)
 message_answer c to_initiator.CommandComplete = (refl, refl)
@@ -211,10 +212,10 @@ heard_keeps s b l m = go (is_none l.item)
     go true id = message_keeps s (story_with_restored b after.item) next m id ∙ with_restored b after.item id
     go false id = message_keeps s b next m id
 
-byte_answer : (c : CarriedBytes) (l : LineSet) (byte : ℕ) → (has_answer (carried_after_byte c l byte) ≡ has_answer c) × ((carried_after_byte c l byte).id ≡ c.id)
+byte_answer : (c : CarriedBytes) (l : LineSet) (byte : ℕ) → (is_marked (carried_after_byte c l byte) ≡ is_marked c) × ((carried_after_byte c l byte).id ≡ c.id)
 byte_answer c l byte = go (is_command l) (is_data l) (is_status_phase l)
   where
-    go : (q r t : Bool) → (has_answer (if q then record c { command = Rattle.bus_story.specs.CarriedBytes.area_with c.command byte; block = c.block ++ byte ∷ [] } else if r then record c { moved = Rattle.bus_story.specs.CarriedBytes.area_with c.moved byte } else if t then record c { status = Rattle.bus_story.specs.CarriedBytes.area_with c.status byte } else c) ≡ has_answer c)
+    go : (q r t : Bool) → (is_marked (if q then record c { command = Rattle.bus_story.specs.CarriedBytes.area_with c.command byte; block = c.block ++ byte ∷ [] } else if r then record c { moved = Rattle.bus_story.specs.CarriedBytes.area_with c.moved byte } else if t then record c { status = Rattle.bus_story.specs.CarriedBytes.area_with c.status byte } else c) ≡ is_marked c)
         × ((if q then record c { command = Rattle.bus_story.specs.CarriedBytes.area_with c.command byte; block = c.block ++ byte ∷ [] } else if r then record c { moved = Rattle.bus_story.specs.CarriedBytes.area_with c.moved byte } else if t then record c { status = Rattle.bus_story.specs.CarriedBytes.area_with c.status byte } else c).id ≡ c.id)
     go true r t = (refl, refl)
     go false true t = (refl, refl)
@@ -232,13 +233,13 @@ byte_keeps b l d = go d.change.before.msg l.item
         let w = byte_answer (carried_of b.carried p) d.change.before (d.change.after.data_bits % 256) in
         own_answer b p (carried_after_byte (carried_of b.carried p) d.change.before (d.change.after.data_bits % 256)) (w.1 ∙ carried_id b.carried p) w.0
 
-fault_answer : (c : CarriedBytes) (l : LineSet) → (has_answer (carried_after_fault c l) ≡ has_answer c) × ((carried_after_fault c l).id ≡ c.id)
+fault_answer : (c : CarriedBytes) (l : LineSet) → (is_marked (carried_after_fault c l) ≡ is_marked c) × ((carried_after_fault c l).id ≡ c.id)
 fault_answer c l = go (is_command l) (is_data l)
   where
     code : Option ℕ
     code = Some (if l.io then Rattle.cdb_codec.specs.declared.sense.TheConstants.INITIATOR_DETECTED_ERROR else Rattle.cdb_codec.specs.declared.sense.TheConstants.PARITY_ERROR)
 
-    go : (q r : Bool) → (has_answer (if q then record c { struck = true; failure = Some Rattle.cdb_codec.specs.declared.sense.TheConstants.PARITY_ERROR } else if r then record c { failure = code } else c) ≡ has_answer c)
+    go : (q r : Bool) → (is_marked (if q then record c { struck = true; failure = Some Rattle.cdb_codec.specs.declared.sense.TheConstants.PARITY_ERROR } else if r then record c { failure = code } else c) ≡ is_marked c)
         × ((if q then record c { struck = true; failure = Some Rattle.cdb_codec.specs.declared.sense.TheConstants.PARITY_ERROR } else if r then record c { failure = code } else c).id ≡ c.id)
     go true r = (refl, refl)
     go false true = (refl, refl)
@@ -256,15 +257,15 @@ fault_keeps b l (Fault bit) = go l.item b.bus_state.crossed
         let w = fault_answer (carried_of b.carried p) c.before in
         own_answer b p (carried_after_fault (carried_of b.carried p) c.before) (w.1 ∙ carried_id b.carried p) w.0
 
-out_keeps : (b : Story) (l : Link) (m : MsgOut) → (is_parity_error m ≡ true → (u : CarriedBytes) → l.undo ≡ Some u → has_answer u ≡ has_answer (carried_of b.carried u.id)) → Keeps b (story_after_out b l (Some m))
+out_keeps : (b : Story) (l : Link) (m : MsgOut) → (is_parity_error m ≡ true → (u : CarriedBytes) → l.undo ≡ Some u → is_marked u ≡ is_marked (carried_of b.carried u.id)) → Keeps b (story_after_out b l (Some m))
 out_keeps b l m h = go (is_parity_error m) h l.undo refl
   where
-    go : (q : Bool) → (q ≡ true → (u : CarriedBytes) → l.undo ≡ Some u → has_answer u ≡ has_answer (carried_of b.carried u.id)) → (o : Option CarriedBytes) → l.undo ≡ o → Keeps b (story_with_carried (record b { link = Some (record l { last = last_out m l }) }) (if q then o else None))
+    go : (q : Bool) → (q ≡ true → (u : CarriedBytes) → l.undo ≡ Some u → is_marked u ≡ is_marked (carried_of b.carried u.id)) → (o : Option CarriedBytes) → l.undo ≡ o → Keeps b (story_with_carried (record b { link = Some (record l { last = last_out m l }) }) (if q then o else None))
     go false f o e = unchanged b.carried
     go true f None e = unchanged b.carried
     go true f (Some u) e = puts_answer b.carried u (f refl u e)
 
-crossing_keeps : (s : ScenarioValue) (b : Story) (l : Link) (d : RowReading) (row : Row) → ((m : MsgOut) (u : CarriedBytes) → d.out ≡ Some m → is_parity_error m ≡ true → l.undo ≡ Some u → has_answer u ≡ has_answer (carried_of b.carried u.id)) → Keeps b (story_in_connection s b (Some l) d row)
+crossing_keeps : (s : ScenarioValue) (b : Story) (l : Link) (d : RowReading) (row : Row) → ((m : MsgOut) (u : CarriedBytes) → d.out ≡ Some m → is_parity_error m ≡ true → l.undo ≡ Some u → is_marked u ≡ is_marked (carried_of b.carried u.id)) → Keeps b (story_in_connection s b (Some l) d row)
 crossing_keeps s b l d row h = go d.crosses d.out refl d.into
   where
     go : (q : Bool) (o : Option MsgOut) → d.out ≡ o → (t : Option MsgIn) → Keeps b (if q then (if is_some o then story_after_out b l o else if is_some t then story_after_in s b l t else story_after_byte b l d) else story_after_fault b l row.kind)
@@ -273,7 +274,7 @@ crossing_keeps s b l d row h = go d.crosses d.out refl d.into
     go true None e None = byte_keeps b l d
     go false o e t = fault_keeps b l row.kind
 
-pub change_keeps : (s : ScenarioValue) (b : Story) (d : RowReading) (row : Row) → ((l : Link) (m : MsgOut) (u : CarriedBytes) → b.link ≡ Some l → d.out ≡ Some m → is_parity_error m ≡ true → l.undo ≡ Some u → has_answer u ≡ has_answer (carried_of b.carried u.id)) → Keeps b (story_by_change s b d row)
+pub change_keeps : (s : ScenarioValue) (b : Story) (d : RowReading) (row : Row) → ((l : Link) (m : MsgOut) (u : CarriedBytes) → b.link ≡ Some l → d.out ≡ Some m → is_parity_error m ≡ true → l.undo ≡ Some u → is_marked u ≡ is_marked (carried_of b.carried u.id)) → Keeps b (story_by_change s b d row)
 change_keeps s b d row h = go d.change.after.rst b.bus_state.connection d.next
   where
     inside : (o : Option Link) → b.link ≡ o → Keeps b (story_in_connection s b o d row)

@@ -27,11 +27,10 @@ use Rattle.bus_story.specs.Story.{Story, by_abort, by_reset, is_aborted, is_sens
 use Rattle.bus_story.specs.TraceHistory.{aim_of, story_on_free_bus, story_with_restored, story_with_sent, story_after_connection, story_with_carried, is_parity_error, story_after_out, carried_after_message_if, story_after_message, story_after_in, carried_after_byte_if, story_after_byte, carried_after_fault_if, story_after_fault, story_in_connection, story_on_bus, story_by_change}
 use Rattle.bus_due.specs.RunState.{RunState}
 use Rattle.bus_due.specs.RunSteps.{run_state_after}
-use Rattle.bus_books.proofs.Knows.{events_link}
 use Rattle.bus_books.proofs.Lookups.{id_is, carried_id, put_there}
 use Rattle.trace_laws.proofs.Impossible.{none_some}
-use Rattle.trace_laws.proofs.PointerStorySteps.{carried_link}
 use Rattle.trace_laws.proofs.ShownReplies.{checked, all_ended, free_carries}
+use Rattle.bus_story.proofs.StorySteps.{carried_link, events_link}
 
 -- It holds of the status area of each process; and of that which would be brought back.
 abbrev pub OnAreas : (ProcId → List ℕ → Type 0) → List CarriedBytes → Type 0

@@ -60,17 +60,17 @@ use Rattle.bus_laws.proofs.Prompt.{least_is}
 use Rattle.link_laws.specs.LinkStages.{LinkStage, when_selected, when_settling, when_turning, when_offering, when_shaking, when_pulsing}
 use Rattle.trace_laws.specs.LastTalks.{LastBy}
 use Rattle.trace_laws.specs.Named.{Names, all, tag_alone, known, said, refused, Named}
-use Rattle.trace_laws.specs.Places.{AnsweredOpen, PlacedIn, PlacedIf, PlaceFacts, is_complete_in}
+use Rattle.trace_laws.specs.Places.{AnsweredOpen, PlacedIn, PlacedIf, PlaceFacts}
 use Rattle.trace_laws.specs.Statuses.{AreAll, IsStatusOf, IsStatusIn, StatusAreas, CarriesBy, StatusTalks}
 use Rattle.trace_laws.specs.TellFacts.{TellFacts}
-use Rattle.trace_laws.specs.Tells.{has_answer, AreRepliesShown, FailsAsLeft, is_short}
+use Rattle.trace_laws.specs.Tells.{AreRepliesShown, FailsAsLeft, is_short}
 use Rattle.trace_laws.proofs.ByteValues.{byte_values}
 use Rattle.trace_laws.proofs.CloseAsks.{CompletesAsGiven}
 use Rattle.trace_laws.proofs.CloseStatus.{offers_given, area_all, first_all}
 use Rattle.trace_laws.proofs.CloseStays.{taking, said_then}
 use Rattle.trace_laws.proofs.ConnectionRows.{ConnectionRow, GoingRow, connection_row, going_row, stage_of_connection, RowKindOf, begins_now, goes_now, row_kind}
 use Rattle.trace_laws.proofs.FirstRows.{IsFirst}
-use Rattle.trace_laws.proofs.Impossible.{wrong, wrong', none_some}
+use Rattle.trace_laws.proofs.Impossible.{none_some}
 use Rattle.trace_laws.proofs.Joint.{Stood, NextStood, link_phase}
 use Rattle.trace_laws.proofs.LastBytes.{first_is}
 use Rattle.trace_laws.proofs.LastRows.{stays_as}
@@ -79,7 +79,7 @@ use Rattle.trace_laws.proofs.ShownReplies.{replies_first, replies_next}
 use Rattle.trace_laws.proofs.StatusCarried.{Takes, IsAsked, areas_next, undo_next}
 use Rattle.trace_laws.proofs.StatusOffers.{IsGiven, IsStatusOffered, offered_by, OfferRow, offered_next, Crossing, status_crosses}
 use Rattle.trace_laws.proofs.StatusReplies.{no_link, reply_kept}
-use Rattle.trace_laws.proofs.StatusTalks.{is_counted, TalksOf, still_talk, out_talk, in_talk, else_talk}
+use Rattle.trace_laws.proofs.StatusTalks.{TalksOf, still_talk, out_talk, in_talk, else_talk}
 use Rattle.trace_laws.proofs.StatusTalkTurns.{turn_talk}
 use Rattle.trace_laws.proofs.StatusTurns.{RunsWell, runs_well, turned_status}
 use Rattle.trace_laws.proofs.TellRows.{unbegun_lines}
@@ -88,6 +88,10 @@ use Rattle.bus_dialogue.specs.declared.exchange.Next.TheVariants as nexts
 use Rattle.scenario.specs.declared.value.Tag.TheVariants as tags
 use Rattle.scenario.specs.declared.value.Tag.{Tag}
 use Rattle.bus_dialogue.specs.Words.{tag_named}
+use Rattle.bus_base.proofs.Tests.{wrong, wrong'}
+use Rattle.trace_laws.proofs.PointerLeavings.{is_attended}
+use Rattle.trace_laws.specs.ItemTalks.{is_complete_in}
+use Rattle.trace_laws.specs.DataPointers.{is_marked}
 
 pub record StatusFacts (s : ScenarioValue) (p : List Row) : Type 0 where
   pub shown : AreRepliesShown s (run_state s p)
@@ -479,7 +483,7 @@ offers_row s p row n w g after calm = record { kept = had; due = λ id reply giv
         placed : PlacedIn w.before.array pr k.exchange.plan k.handshakes (bus_of k).atn (phase_of (bus_of k))
         placed = subst (λ (x : Bool). PlacedIf x w.before.array pr k.exchange.plan k.handshakes (bus_of k).atn (phase_of (bus_of k))) begun_is (w.before.placed n of.row_is.connection_is of.calm pr at)
 
-        well : knows.link.item ≡ Some (process pr.id) → has_answer (carried_here k pr.id) ≡ false → RunsWell w.before.array pr (carried_here k pr.id)
+        well : knows.link.item ≡ Some (process pr.id) → is_marked (carried_here k pr.id) ≡ false → RunsWell w.before.array pr (carried_here k pr.id)
         well named open_is =
             runs_well w.before.array pr (carried_here k pr.id) v k.handshakes (bus_of k).atn (bus_of k) (ap (λ (b : LineSet). b.io) pl.bus ∙ io) open_is to
             (w.fails n pr.id (record { stands = g.con; calm = g.off; calm_after = calm; begun = begun_is; leaves = inl (ap changes_phase of.row_is.change_is ∙ ep) }) (ap item_of knows.link_is ∙ named)) placed
@@ -571,10 +575,10 @@ talks_going s p row n w g after calm m id em ej bj = go of.row_is.kind
     lines : (bus_of k).msg ≡ true → (bus_of k).cd ≡ true
     lines z = (of.phase z).0
 
-    to_initiator_line : (b : LineSet) → is_counted (phase_of b) ≡ true → b.io ≡ true
+    to_initiator_line : (b : LineSet) → is_attended (phase_of b) ≡ true → b.io ≡ true
     to_initiator_line b e = by b.msg b.cd b.io e
       where
-        by : (x y i : Bool) → is_counted (if x then (if i then phases.MessageIn else phases.MessageOut) else if y then (if i then phases.Status else phases.Command) else if i then phases.DataIn else phases.DataOut) ≡ true → i ≡ true
+        by : (x y i : Bool) → is_attended (if x then (if i then phases.MessageIn else phases.MessageOut) else if y then (if i then phases.Status else phases.Command) else if i then phases.DataIn else phases.DataOut) ≡ true → i ≡ true
         by x y true z = refl
         by true y false z = wrong' z
         by false true false z = wrong' z

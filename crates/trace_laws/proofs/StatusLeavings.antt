@@ -27,10 +27,11 @@ use Rattle.bus_dialogue.specs.Exchange.{one_message, from_byte, message_bytes}
 use Rattle.bus_dialogue.specs.NextPhase.{Serving, bus_free, phase_entry, with_task, recovery, recovery_limit, pointer_restoration, next_data_phase, request_or_command, after_offer, message_out_leaving, after_messages, after_arrival, after_run, disconnection, disconnect_messages, phase_leaving}
 use Rattle.bus_dialogue.specs.Words.{reply_to, request_by, target_answer}
 use Rattle.bus_books.specs.Giving.{OnMessage}
-use Rattle.trace_laws.specs.LastTalks.{SaysNoEnd, LastGiven, still_stays, to_close, to_save, EndsWell, stays, closes, saves, closed}
-use Rattle.trace_laws.specs.Places.{is_complete_in}
-use Rattle.trace_laws.proofs.Impossible.{wrong, wrong'}
+use Rattle.trace_laws.specs.LastTalks.{LastGiven, still_stays, to_close, to_save, EndsWell, stays, closes, saves, closed}
 use Rattle.trace_laws.proofs.PlaceLeavings.{Repeats, commands, again, leaves, from_refusal}
+use Rattle.bus_base.proofs.Tests.{wrong, wrong'}
+use Rattle.trace_laws.specs.ItemTalks.{is_complete_in}
+use Rattle.trace_laws.specs.DataPointers.{IsPlainIn}
 
 -- ---- it is not said
 
@@ -141,7 +142,7 @@ completes_from v attention phases.Command to e =
 
 -- ---- of the messages that are left it is the only one
 
-second_other : (o : Option MsgIn) → OnMessage SaysNoEnd o → is_complete_in o ≡ false
+second_other : (o : Option MsgIn) → OnMessage IsPlainIn o → is_complete_in o ≡ false
 second_other None h = refl
 second_other (Some m) h = go m (ap is_complete h)
   where

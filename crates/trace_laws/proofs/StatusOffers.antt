@@ -37,12 +37,13 @@ use Rattle.link_laws.proofs.Moves.{initiator_moves, target_moves, initiator_in_p
 use Rattle.link_laws.proofs.PhaseEnds.{leaves_lines}
 use Rattle.link_laws.proofs.Shakes.{target_row, initiator_row}
 use Rattle.trace_laws.proofs.Driven.{same_ends}
-use Rattle.trace_laws.proofs.Impossible.{wrong, wrong', none_some}
+use Rattle.trace_laws.proofs.Impossible.{none_some}
 use Rattle.trace_laws.proofs.Kept.{requests_stay}
 use Rattle.trace_laws.proofs.LinkRows as rows
 use Rattle.trace_laws.proofs.LinkRows.{LinkRow, is_unasked}
 use Rattle.trace_laws.proofs.Tests.{not_first}
 use Rattle.trace_laws.proofs.Turns.{freed_connection}
+use Rattle.bus_base.proofs.Tests.{wrong, wrong'}
 
 -- ---- what is driven
 
@@ -138,7 +139,7 @@ opens s p t n ack atn x h = offered_by s _ n (ends false ack atn x true true fal
 
 -- ---- a phase is left
 
-zero_is : (y : ℕ) → y ≡ 0 → (y == 0) ≡ false → ⊥
+pub zero_is : (y : ℕ) → y ≡ 0 → (y == 0) ≡ false → ⊥
 zero_is y e f = wrong (sym (ap (λ (x : ℕ). x == 0) e) ∙ f)
 
 no_status : (msg cd : Bool) → same_phases msg cd true false true true ≡ false → (not msg && cd && true) ≡ false
@@ -149,7 +150,7 @@ no_status false false e = refl
 status_lines : (l : LineSet) (f : EndLines) → l ≡ target_side f → is_status_phase (connected_bus f) ≡ true → (not l.msg && l.cd && l.io) ≡ true
 status_lines l f e a = (λ i. not (e i).msg && (e i).cd && (e i).io) ∙ a
 
-side_is : (p : List Row) (t : ℕ) (n : Connection) (l : LineSet) (f : EndLines) → Linked (row_of_lines t n.target l ∷ p) n f → l ≡ target_side f
+pub side_is : (p : List Row) (t : ℕ) (n : Connection) (l : LineSet) (f : EndLines) → Linked (row_of_lines t n.target l ∷ p) n f → l ≡ target_side f
 side_is p t n l f k = sym (drives_own p t n.target l) ∙ k.target
 
 -- After a phase to the initiator the target drives the first byte with the next one.
@@ -223,10 +224,10 @@ pub record Crossing (s : ScenarioValue) (p : List Row) (row : Row) (n : Connecti
   pub given : IsGiven s p id reply
 
 -- REQ stays, or falls.
-unrisen : {A : Type 0} (p q : List Row) (n : Connection) (e f : EndLines) → Linked p n e → Linked q n f → rises (bus p).req (bus q).req ≡ true → rises e.req f.req ≡ false → A
+pub unrisen : {A : Type 0} (p q : List Row) (n : Connection) (e f : EndLines) → Linked p n e → Linked q n f → rises (bus p).req (bus q).req ≡ true → rises e.req f.req ≡ false → A
 unrisen p q n e f h k rose none = wrong (sym rose ∙ (λ i. rises (h.stands.bus_is i).req (k.stands.bus_is i).req) ∙ none)
 
-falls_is : (q : Bool) → rises q false ≡ false
+pub falls_is : (q : Bool) → rises q false ≡ false
 falls_is true = refl
 falls_is false = refl
 

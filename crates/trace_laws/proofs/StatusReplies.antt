@@ -36,12 +36,14 @@ use Rattle.bus_books.specs.Traces.{GoesOn, RowOf, apart as row_apart, begins, go
 use Rattle.bus_books.proofs.Lookups.{carried_id, id_is as ids_are}
 use Rattle.link_laws.specs.LinkStages.{AnyStage, apart, linked}
 use Rattle.trace_laws.specs.Places.{IsUntouched, PlacedIf, PlaceFacts}
-use Rattle.trace_laws.specs.Tells.{has_answer, AreRepliesShown}
+use Rattle.trace_laws.specs.Tells.{AreRepliesShown}
 use Rattle.trace_laws.proofs.Called.{link_none}
-use Rattle.trace_laws.proofs.Impossible.{wrong, wrong', none_some}
+use Rattle.trace_laws.proofs.Impossible.{none_some}
 use Rattle.trace_laws.proofs.Joint.{Stood, link_connection}
 use Rattle.trace_laws.proofs.KeptReplies.{NoReplyTo, events_keep}
 use Rattle.trace_laws.proofs.PhaseLines.{command_phase}
+use Rattle.bus_base.proofs.Tests.{wrong, wrong'}
+use Rattle.trace_laws.specs.DataPointers.{is_marked}
 
 -- ---- events that show no reply
 
@@ -70,7 +72,7 @@ freed_none s id l abortive = go l.item
     go (Some (abort m)) = lines (abort_line_at s.aborts m)
 
 -- A phase follows another: of a process with an answer, which has not been in COMMAND, none is shown.
-phase_none : (s : ScenarioValue) (b : Story) (c : CarriedBytes) (g : Change) (id : ProcId) → (c.id ≡ id → has_answer c ≡ true) → (c.id ≡ id → is_command g.before ≡ false) → NoReplyTo id (phase_events s b (Some c) g)
+phase_none : (s : ScenarioValue) (b : Story) (c : CarriedBytes) (g : Change) (id : ProcId) → (c.id ≡ id → is_marked c ≡ true) → (c.id ≡ id → is_command g.before ≡ false) → NoReplyTo id (phase_events s b (Some c) g)
 phase_none s b c g id marked there = go (same_id c.id id) refl
   where
     other : same_id c.id id ≡ false → NoReplyTo id (phase_events s b (Some c) g)
@@ -172,8 +174,8 @@ none_again s p row was of shown places id some = by_rst d.change.after.rst refl
             same : (carried_here k x).id ≡ id → x ≡ id
             same f = sym (carried_id k.story.carried x) ∙ f
 
-            marked : (carried_here k x).id ≡ id → has_answer (carried_here k x) ≡ true
-            marked f = ap (λ (y : ProcId). has_answer (carried_here k y)) (same f) ∙ sym (shown id) ∙ some
+            marked : (carried_here k x).id ≡ id → is_marked (carried_here k x) ≡ true
+            marked f = ap (λ (y : ProcId). is_marked (carried_here k y)) (same f) ∙ sym (shown id) ∙ some
 
             there : (carried_here k x).id ≡ id → is_command d.change.before ≡ false
             there f = at (is_command d.change.before) refl

@@ -34,7 +34,6 @@ use Rattle.bus_books.specs.Rows.{reading_in}
 use Rattle.bus_books.proofs.InConnection.{InConnection, in_connection}
 use Rattle.trace_laws.specs.LastTalks.{LastGiven}
 use Rattle.trace_laws.specs.Statuses.{HasStatus, UndoesStatus, CarriesBy}
-use Rattle.trace_laws.proofs.Impossible.{wrong, wrong'}
 use Rattle.trace_laws.proofs.NamedTurns.{is_message_cause}
 use Rattle.trace_laws.proofs.PhaseLines.{in_phase, out_lines}
 use Rattle.trace_laws.proofs.RowItems.{link_still}
@@ -42,6 +41,7 @@ use Rattle.trace_laws.proofs.StatusLeavings.{Completes, in_status, refused, comp
 use Rattle.trace_laws.proofs.StatusTalks.{TalksOf, status_kept, quiet}
 use Rattle.trace_laws.proofs.Tests.{some_zero}
 use Rattle.trace_laws.proofs.UndoneTurns.{TurnOf, not_out}
+use Rattle.bus_base.proofs.Tests.{wrong, wrong'}
 
 -- MESSAGE OUT answers a message where MESSAGE IN was left.
 from_in : (b : LineSet) → cause_after b ≡ causes.InMessage → is_message_in b ≡ true

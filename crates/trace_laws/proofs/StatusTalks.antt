@@ -35,13 +35,14 @@ use Rattle.bus_books.specs.Rows.{IsRowIn, reading_in}
 use Rattle.bus_books.proofs.InConnection.{reading_is}
 use Rattle.bus_books.proofs.Lookups.{self_id, id_is, carried_id, put_own}
 use Rattle.trace_laws.specs.Statuses.{HasStatus, UndoesStatus, CarriesBy}
-use Rattle.trace_laws.proofs.Impossible.{wrong, wrong', none_some}
+use Rattle.trace_laws.proofs.Impossible.{none_some}
 use Rattle.trace_laws.proofs.LastRows.{KeptPlan, Stays, stays_as}
 use Rattle.trace_laws.proofs.PhaseLines.{out_in, out_phase, in_phase}
 use Rattle.trace_laws.proofs.PointerStorySteps.{byte_id}
 use Rattle.trace_laws.proofs.RowItems.{LinkAfter, says, hears, stays, heard_link, link_crossed, link_still}
 use Rattle.trace_laws.proofs.StatusCarried.{areas_next, events_on}
-use Rattle.trace_laws.proofs.Tests.{suc_some}
+use Rattle.bus_base.proofs.Tests.{wrong, wrong', suc_some}
+use Rattle.trace_laws.proofs.PointerLeavings.{is_attended}
 
 -- ---- a byte that was carried stays
 
@@ -97,13 +98,7 @@ quiet k row n c now l r en other m u e = none_some m (sym (out_none k row n c no
 
 -- ---- the phase stays
 
--- The phases to the initiator of which the bytes are counted here.
-abbrev pub is_counted : Phase → Bool
-is_counted phases.MessageIn = true
-is_counted phases.Status = true
-is_counted _ = false
-
-stays_by : (l : Link) (bytes others : List ℕ) (p q : Plan) (count other : ℕ) (phase : Phase) → (HasStatus bytes → HasStatus others) → KeptPlan p q → (is_counted phase ≡ true → other ≡ count) → CarriesBy l bytes p count phase → CarriesBy l others q other phase
+stays_by : (l : Link) (bytes others : List ℕ) (p q : Plan) (count other : ℕ) (phase : Phase) → (HasStatus bytes → HasStatus others) → KeptPlan p q → (is_attended phase ≡ true → other ≡ count) → CarriesBy l bytes p count phase → CarriesBy l others q other phase
 stays_by l bytes others p q count other phases.Status f k e h = λ some. f (h (ap (λ (x : ℕ). x == 0) (sym (e refl)) ∙ some))
 stays_by l bytes others p q count other phases.MessageIn f k e h = λ m. let w = h (sym k.messages ∙ m) in (f w.0, counts w.1)
   where
@@ -121,7 +116,7 @@ TalksOf k l id = CarriesBy l (carried_here k id).status.bytes k.exchange.plan k.
 
 -- No byte crosses.
 pub still_talk : (s : ScenarioValue) (k : RunState) (row : Row) (n : Connection) (c : Change) (l m : Link) (id : ProcId) → IsRowIn k row n c → changes_phase c ≡ false → is_some (receiver_in n c) ≡ false → k.story.link ≡ Some l → (run_state_after s k row).story.link ≡ Some m
-    → (is_counted (phase_of (bus_of k)) ≡ true → (run_state_after s k row).handshakes.requests ≡ k.handshakes.requests) → TalksOf k l id → TalksOf (run_state_after s k row) m id
+    → (is_attended (phase_of (bus_of k)) ≡ true → (run_state_after s k row).handshakes.requests ≡ k.handshakes.requests) → TalksOf k l id → TalksOf (run_state_after s k row) m id
 still_talk s k row n c l m id r ep en el em asked h =
     let j : RunState = run_state_after s k row in
     let t = stays_as s k row n c false r ep en in

@@ -32,18 +32,20 @@ use Rattle.bus_lines.specs.Handshakes.{Handshakes}
 use Rattle.bus_due.specs.RunState.{RunState, array_of, or_start, process_served, carried_here}
 use Rattle.bus_due.specs.RunSteps.{run_state, array_after_events}
 use Rattle.bus_due.specs.Tasks.{reply_now, status_by, task_if, task_of}
-use Rattle.scsi_device.proofs.Finds.{or_false}
 use Rattle.bus_books.specs.Rows.{IsRowIn}
 use Rattle.bus_books.proofs.Lookups.{self_id, carried_id}
 use Rattle.trace_laws.specs.Places.{IsTaken, PlacedBefore, PlacedIn, RunsOpen, PlaceFacts}
-use Rattle.trace_laws.specs.Tells.{has_answer, AreRepliesShown, FailsIn, FailsBefore}
+use Rattle.trace_laws.specs.Tells.{AreRepliesShown, FailsIn, FailsBefore}
 use Rattle.trace_laws.proofs.AnsweredProcesses.{run_is}
-use Rattle.trace_laws.proofs.Impossible.{wrong, wrong', none_some}
+use Rattle.trace_laws.proofs.Impossible.{none_some}
 use Rattle.trace_laws.proofs.KeptReplies.{NoReplyTo}
 use Rattle.trace_laws.proofs.OtherProcesses.{executed, reply_at}
 use Rattle.trace_laws.proofs.PlaceTurnRows.{shown_is}
 use Rattle.trace_laws.proofs.StatusReplies.{reply_stays}
 use Rattle.bus_trace.specs.Terms.{receiver_in}
+use Rattle.std.proofs.lemmas.Bool.{or_parts}
+use Rattle.bus_base.proofs.Tests.{wrong, wrong'}
+use Rattle.trace_laws.specs.DataPointers.{is_marked}
 
 -- ---- the phase that is left
 
@@ -56,14 +58,14 @@ next_status : (v : Serving) (attention : Bool) (l : Leaving) → is_status_next 
 next_status v true l e = wrong' e
 next_status v false l e = refl
 
-before_status : (a : Array) (p : Process) (c : CarriedBytes) (v : Serving) (m : Next) → has_answer c ≡ false → is_status_next (after_messages v m).to ≡ true → FailsBefore c m → PlacedBefore a p v.plan.messages m → RunsWell a p c
+before_status : (a : Array) (p : Process) (c : CarriedBytes) (v : Serving) (m : Next) → is_marked c ≡ false → is_status_next (after_messages v m).to ≡ true → FailsBefore c m → PlacedBefore a p v.plan.messages m → RunsWell a p c
 before_status a p c v nexts.Command open_is to f h = wrong' to
 before_status a p c v nexts.FreeBus open_is to f h = wrong' to
 before_status a p c v nexts.Status open_is to f h = wrong (sym f ∙ open_is)
 before_status a p c v nexts.GoOn open_is to f h = record { failure = f; runs = h }
 
 -- STATUS follows a phase to the initiator, of a process that has no answer.
-pub runs_well : (a : Array) (p : Process) (c : CarriedBytes) (v : Serving) (h : Handshakes) (attention : Bool) (b : LineSet) → b.io ≡ true → has_answer c ≡ false → is_status_next (phase_leaving v attention (phase_of b)).to ≡ true → FailsIn v.plan attention c (phase_of b) → PlacedIn a p v.plan h attention (phase_of b) → RunsWell a p c
+pub runs_well : (a : Array) (p : Process) (c : CarriedBytes) (v : Serving) (h : Handshakes) (attention : Bool) (b : LineSet) → b.io ≡ true → is_marked c ≡ false → is_status_next (phase_leaving v attention (phase_of b)).to ≡ true → FailsIn v.plan attention c (phase_of b) → PlacedIn a p v.plan h attention (phase_of b) → RunsWell a p c
 runs_well a p c v h attention b io open_is = go b.msg b.cd b.io io
   where
     taken : IsTaken a p v.plan h attention → is_status_next (after_messages v v.plan.next).to ≡ true → RunsWell a p c
@@ -116,7 +118,7 @@ pub record Turning (s : ScenarioValue) (p : List Row) (row : Row) (n : Connectio
   pub process_is : process_served s (run_state s p) ≡ Some pr
   pub to_initiator : c.before.io ≡ true
   pub status : is_status_phase c.after ≡ true
-  pub well : l.item ≡ Some (process pr.id) → has_answer (carried_here (run_state s p) pr.id) ≡ false → RunsWell before.array pr (carried_here (run_state s p) pr.id)
+  pub well : l.item ≡ Some (process pr.id) → is_marked (carried_here (run_state s p) pr.id) ≡ false → RunsWell before.array pr (carried_here (run_state s p) pr.id)
   -- a reply that was given stays
   pub kept : (reply : Reply) → reply_in (array_of s (run_state s p)).replies pr.id ≡ Some reply → reply_in (array_of s (run_state s (row ∷ p))).replies pr.id ≡ Some reply
 
@@ -165,9 +167,9 @@ turned_status s p row n c l pr reply t given = go (reply_in (array_of s k).repli
 
     runs : reply_in (array_of s k).replies pr.id ≡ None → l.item ≡ Some (process pr.id) → reply.status ≡ (reply_now (array_of s k) pr).status
     runs e item =
-        let open_is : has_answer own ≡ false = sym (t.shown pr.id) ∙ ap (λ (o : Option Reply). is_some o) e in
+        let open_is : is_marked own ≡ false = sym (t.shown pr.id) ∙ ap (λ (o : Option Reply). is_some o) e in
         let w = t.well item open_is in
-        let m = or_false own.shown own.refused open_is in
+        let m = or_parts own.shown own.refused open_is in
         ran w
         (shown
         ∙ ap (λ (x : Option Item). phase_events s k.story (carried_if k.story x) c) item

@@ -21,8 +21,8 @@ use Rattle.bus_laws.proofs.Rows.{fault_change}
 use Rattle.link_laws.proofs.Faults.{linked_fault}
 use Rattle.link_laws.proofs.Moves.{terms_after, same_self, no_rise}
 use Rattle.trace_laws.proofs.Driven.{Driven, AfterDriven, goes_on, no_third}
-use Rattle.trace_laws.proofs.Impossible.{wrong, wrong'}
 use Rattle.trace_laws.proofs.Tests.{none_both}
+use Rattle.bus_base.proofs.Tests.{wrong, wrong'}
 
 is_same : (a b : ℕ) → (a == b) ≡ true → b ≡ a
 is_same a b e = grind (arith, nat_tests)

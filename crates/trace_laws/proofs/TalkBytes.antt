@@ -32,22 +32,22 @@ use Rattle.bus_dialogue.specs.Exchange.{Exchange, bytes_of_messages, message_byt
 use Rattle.bus_due.specs.RunState.{RunState, bus_of}
 use Rattle.bus_due.specs.RunSteps.{run_state_after}
 use Rattle.bus_due.specs.Sights.{hearing_of}
-use Rattle.scsi_device.proofs.Finds.{and_true}
 use Rattle.bus_books.specs.Giving.{AreGiven, OnMessage, OnMessages}
 use Rattle.bus_books.specs.Listening.{half_after}
 use Rattle.bus_books.specs.Rows.{IsRowIn, reading_in}
 use Rattle.bus_books.specs.Speaking.{IsSpeaking}
-use Rattle.bus_books.proofs.Gives.{byte_messages}
+use Rattle.bus_books.proofs.Gives.{byte_messages, answered_same, in_same}
 use Rattle.bus_books.proofs.Hearable.{heard_next}
 use Rattle.bus_books.proofs.InConnection.{InConnection, in_connection, same_phase_is}
-use Rattle.bus_books.proofs.RowTies.{not_is, implied}
-use Rattle.trace_laws.proofs.Impossible.{none_some, wrong, wrong'}
-use Rattle.trace_laws.proofs.OfferRows.{in_same, out_same}
+use Rattle.trace_laws.proofs.Impossible.{none_some}
 use Rattle.trace_laws.proofs.OutMessages.{is_abort_out, NoAbort, out_is_no_abort, last_is_whole}
 use Rattle.trace_laws.proofs.RowItems.{over_after, LinkAfter, says, hears, stays, heard_link, link_crossed}
 use Rattle.trace_laws.proofs.TalkSteps.{not_both, CrossesIn, incomplete, in_part, in_whole, out_part, out_whole, other_crosses}
-use Rattle.trace_laws.proofs.TalkRows.{TalkRow, a_request, answered_same}
+use Rattle.trace_laws.proofs.TalkRows.{TalkRow, a_request}
 use Rattle.trace_laws.specs.ItemTalks.{is_complete_in, is_disconnect_in, frees_bus, plans_well, is_sense_item, Talk, talk_of, IsNameOf, IsUnnamed, TalksBy, Talks}
+use Rattle.std.proofs.lemmas.Bool.{not-true, and_parts}
+use Rattle.bus_base.proofs.Tests.{wrong, wrong', implied, nil_of}
+use Rattle.bus_books.proofs.Speaks.{out_same}
 
 byte_next : (out last : Bool) (m : Option MsgOut) (p : Plan) → (if out then plan_after_message p last m else p).next ≡ p.next
 byte_next true true m p = refl
@@ -148,23 +148,23 @@ planned_well : (sense : Bool) (m : Messages) (next : Next) → plans_well sense 
 planned_well sense m next e = record { complete = (first m.first refl, second m.second refl); disconnect = (one m.first (λ z. (kept z).0), one m.second (λ z. (kept z).1)) }
   where
     two : ((not (is_complete_in m.second) && (not (is_complete_in m.first) || (is_none m.second && frees_bus next))) ≡ true) × ((not sense || (not (is_disconnect_in m.first) && not (is_disconnect_in m.second))) ≡ true)
-    two = and_true (not (is_complete_in m.second) && (not (is_complete_in m.first) || (is_none m.second && frees_bus next))) (not sense || (not (is_disconnect_in m.first) && not (is_disconnect_in m.second))) e
+    two = and_parts (not (is_complete_in m.second) && (not (is_complete_in m.first) || (is_none m.second && frees_bus next))) (not sense || (not (is_disconnect_in m.first) && not (is_disconnect_in m.second))) e
 
     alone : (not (is_complete_in m.second) ≡ true) × ((not (is_complete_in m.first) || (is_none m.second && frees_bus next)) ≡ true)
-    alone = and_true (not (is_complete_in m.second)) (not (is_complete_in m.first) || (is_none m.second && frees_bus next)) two.0
+    alone = and_parts (not (is_complete_in m.second)) (not (is_complete_in m.first) || (is_none m.second && frees_bus next)) two.0
 
     kept : sense ≡ true → (is_disconnect_in m.first ≡ false) × (is_disconnect_in m.second ≡ false)
-    kept z = let w = and_true (not (is_disconnect_in m.first)) (not (is_disconnect_in m.second)) (implied sense (not (is_disconnect_in m.first) && not (is_disconnect_in m.second)) two.1 z) in (not_is (is_disconnect_in m.first) w.0, not_is (is_disconnect_in m.second) w.1)
+    kept z = let w = and_parts (not (is_disconnect_in m.first)) (not (is_disconnect_in m.second)) (implied sense (not (is_disconnect_in m.first) && not (is_disconnect_in m.second)) two.1 z) in (not-true (is_disconnect_in m.first) w.0, not-true (is_disconnect_in m.second) w.1)
 
     first : (x : Option MsgIn) → m.first ≡ x → OnMessage (CompletesAlone m next) x
     first None z = tt
     first (Some y) z = λ f.
-        let w = and_true (is_none m.second) (frees_bus next) (implied (is_complete_in m.first) (is_none m.second && frees_bus next) alone.1 (ap is_complete_in z ∙ f)) in
+        let w = and_parts (is_none m.second) (frees_bus next) (implied (is_complete_in m.first) (is_none m.second && frees_bus next) alone.1 (ap is_complete_in z ∙ f)) in
         (w.1, (λ i. length (message_bytes (z i) ++ message_bytes (none_is m.second w.0 i))) ∙ ap (λ (b : List ℕ). length (b ++ [])) (complete_bytes y f))
 
     second : (x : Option MsgIn) → m.second ≡ x → OnMessage (CompletesAlone m next) x
     second None z = tt
-    second (Some y) z = λ f. wrong (sym (ap is_complete_in z ∙ f) ∙ not_is (is_complete_in m.second) alone.0)
+    second (Some y) z = λ f. wrong (sym (ap is_complete_in z ∙ f) ∙ not-true (is_complete_in m.second) alone.0)
 
     one : (x : Option MsgIn) → (sense ≡ true → is_disconnect_in x ≡ false) → OnMessage (NoDisconnect sense) x
     one None f = tt
@@ -182,10 +182,6 @@ whole_name (suc (suc (suc (suc (suc zero))))) lt = refl
 whole_name (suc (suc (suc (suc (suc (suc zero)))))) lt = refl
 whole_name (suc (suc (suc (suc (suc (suc (suc zero))))))) lt = refl
 whole_name (suc (suc (suc (suc (suc (suc (suc (suc n)))))))) lt = absurd omega (arith, lt)
-
-nil_of : (xs : List ℕ) → length xs ≡ 0 → xs ≡ []
-nil_of [] e = refl
-nil_of (x ∷ xs) e = absurd omega (arith, e)
 
 pub first_name : (m : Messages) (half : List ℕ) (count byte lun : ℕ) → AreGiven (bytes_of_messages m) half count → count ≡ 0 → m.first ≡ Some (to_initiator.Identify lun) → lun < 8 → byte ≡ slice_index_or (bytes_of_messages m) count 0 → whole_in (got_in (half ++ byte ∷ [])) ≡ Some (to_initiator.Identify lun)
 first_name m half count byte lun g none first lt e =

@@ -27,14 +27,15 @@ use Rattle.bus_books.specs.Knowing.{Knows}
 use Rattle.bus_books.specs.Rows.{IsRowIn}
 use Rattle.bus_books.specs.Speaking.{Speaks}
 use Rattle.bus_books.specs.Traces.{GoesOn}
-use Rattle.bus_books.proofs.Gives.{in_io, struck_same}
+use Rattle.bus_books.proofs.Gives.{in_io, struck_same, answered_same, in_same}
 use Rattle.bus_books.proofs.InConnection.{InConnection, in_connection, SamePhase, same_phase_is}
-use Rattle.trace_laws.proofs.Impossible.{none_some, wrong, wrong', some_none}
-use Rattle.trace_laws.proofs.OfferRows.{in_same, out_same}
+use Rattle.trace_laws.proofs.Impossible.{none_some, some_none}
 use Rattle.trace_laws.proofs.RowItems.{OverAfter, over_after, link_still}
 use Rattle.trace_laws.proofs.TalkSteps.{Alternates, Completes, StaysPhase, stays_by}
 use Rattle.trace_laws.specs.ItemTalks.{Talk, talk_of, awaits, TalksBy, Talks}
 use Rattle.trace_laws.proofs.Tests.{all_four}
+use Rattle.bus_base.proofs.Tests.{wrong, wrong'}
+use Rattle.bus_books.proofs.Speaks.{out_same}
 
 -- What is known of such a row.
 pub record TalkRow (s : ScenarioValue) (k : RunState) (row : Row) (n : Connection) (c : Change) : Type 0 where
@@ -64,10 +65,6 @@ a_request n c d er here = go (rises c.before.req c.after.req) (sym (ap (λ (q : 
     go : (q : Bool) → (if q then Some n.initiator else None) ≡ Some d → q ≡ true
     go true z = refl
     go false z = none_some d z
-
-pub answered_same : (q : Bool) (t : ℕ) (h : Handshakes) → (answered_if q t h).requests ≡ h.requests
-answered_same true t h = refl
-answered_same false t h = refl
 
 requests_after : (fault : Bool) (n : Connection) (c : Change) (t : ℕ) (h : Handshakes) → changes_phase c ≡ false → rises c.before.req c.after.req ≡ false → (handshakes_after fault (Some n) c t h).requests ≡ h.requests
 requests_after true n c t h ep er = struck_same c.before.io h

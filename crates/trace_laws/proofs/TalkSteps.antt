@@ -19,15 +19,14 @@ use Rattle.bus_story.specs.Story.{Story}
 use Rattle.bus_dialogue.specs.declared.exchange.Messages.{Messages}
 use Rattle.bus_dialogue.specs.declared.exchange.Next.{Next}
 use Rattle.bus_dialogue.specs.Exchange.{bytes_of_messages}
-use Rattle.scsi_device.proofs.Finds.{and_true}
 use Rattle.bus_books.specs.Giving.{OnMessages}
-use Rattle.bus_books.proofs.RowTies.{not_is}
-use Rattle.trace_laws.proofs.Impossible.{wrong, wrong'}
 use Rattle.trace_laws.proofs.NamedSteps.{out_last}
 use Rattle.trace_laws.proofs.OutMessages.{is_abort_out}
 use Rattle.trace_laws.proofs.RowItems.{heard_link}
 use Rattle.trace_laws.specs.ItemTalks.{is_complete_in, is_disconnect_in, frees_bus, plans_well, is_sense_item, is_plain, Talk, awaits, IsTaken, HasEnded, last_well, IsNameOf, IsUnnamed, HasNames, TalksBy}
 use Rattle.trace_laws.proofs.Tests.{less_apart, or_first}
+use Rattle.std.proofs.lemmas.Bool.{not-true, and_parts}
+use Rattle.bus_base.proofs.Tests.{wrong, wrong'}
 
 -- ---- lines
 
@@ -210,7 +209,7 @@ stays_in to_initiator.Reject e = refl
 
 -- Of an automatic REQUEST SENSE the last message is plain, where it is not COMMAND COMPLETE.
 pub plain_last : (sense : Bool) (l : Link) → last_well sense l ≡ true → sense ≡ true → (is_plain l.before ≡ true) × ((is_plain l.last || is_complete l.last) ≡ true)
-plain_last true l e f = and_true (is_plain l.before) (is_plain l.last || is_complete l.last) (and_true (not (is_complete l.before)) (is_plain l.before && (is_plain l.last || is_complete l.last)) e).1
+plain_last true l e f = and_parts (is_plain l.before) (is_plain l.last || is_complete l.last) (and_parts (not (is_complete l.before)) (is_plain l.before && (is_plain l.last || is_complete l.last)) e).1
 plain_last false l e f = wrong' f
 
 make_last : (sense : Bool) (l : Link) → is_complete l.before ≡ false → (sense ≡ true → (is_plain l.before ≡ true) × ((is_plain l.last || is_complete l.last) ≡ true)) → last_well sense l ≡ true
@@ -286,7 +285,7 @@ out_plain to_target.Reject l e f = refl
 out_plain to_target.Nop l e f = refl
 
 pub last_before : (sense : Bool) (l : Link) → last_well sense l ≡ true → is_complete l.before ≡ false
-last_before sense l e = not_is (is_complete l.before) (and_true (not (is_complete l.before)) (not sense || (is_plain l.before && (is_plain l.last || is_complete l.last))) e).0
+last_before sense l e = not-true (is_complete l.before) (and_parts (not (is_complete l.before)) (not sense || (is_plain l.before && (is_plain l.last || is_complete l.last))) e).0
 
 pub out_whole : (s : ScenarioValue) (t : Talk) (n : Connection) (l : Link) (m : MsgOut) (b : LineSet) (requests : ℕ) (last : Bool) → is_message_out t.bus ≡ true → is_message_out b ≡ true → (is_sense_item t.served ≡ true → is_abort_out m ≡ false) → TalksBy s t n l → TalksBy s (record t { bus = b; requests = requests; is_last = last }) n (record l { last = last_out m l })
 out_whole s t n l m b requests last out out' whole h = record {

@@ -26,7 +26,6 @@ use Rattle.bus_books.specs.Hearing.{LeavesWhole}
 use Rattle.bus_books.specs.Rows.{RowKind, still, strikes, crosses, turns, IsRowIn, reading_in}
 use Rattle.bus_books.proofs.InConnection.{InConnection, in_connection}
 use Rattle.bus_books.proofs.Leavings.{left_messages, IsOfOthers}
-use Rattle.trace_laws.proofs.Impossible.{wrong, wrong'}
 use Rattle.trace_laws.proofs.LastMessages.{leaves_well, from_well, sense_stays}
 use Rattle.trace_laws.proofs.PhaseLines.{in_phase, out_phase}
 use Rattle.trace_laws.proofs.RowItems.{over_after, link_still}
@@ -39,6 +38,7 @@ use Rattle.bus_dialogue.specs.declared.exchange.Next.{Next}
 use Rattle.bus_dialogue.specs.declared.exchange.Next.TheVariants as nexts
 use Rattle.trace_laws.proofs.TalkBytes.{in_talk, out_talk, else_talk}
 use Rattle.trace_laws.specs.ItemTalks.{plans_well, is_sense_item, frees_bus, Talk, talk_of, IsTaken, IsNameOf, TalksBy, Talks}
+use Rattle.bus_base.proofs.Tests.{wrong, wrong'}
 
 -- ---- how a phase is left
 
@@ -64,7 +64,7 @@ is_out b cd e = go b.msg b.cd b.io cd e
     go false false true f z = absurd cc
     go false false false f z = absurd cc
 
-frees : (next : Next) → frees_bus next ≡ true → next ≡ nexts.FreeBus
+pub frees : (next : Next) → frees_bus next ≡ true → next ≡ nexts.FreeBus
 frees nexts.FreeBus e = refl
 frees nexts.Command e = wrong' e
 frees nexts.Status e = wrong' e

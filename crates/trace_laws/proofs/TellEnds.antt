@@ -41,7 +41,7 @@ use Rattle.bus_due.specs.Telling.{same_events, same_kind}
 use Rattle.bus_books.specs.Listening.{Understanding, nothing_understood, understood}
 use Rattle.bus_books.specs.Speaking.{AreWordsFor, opens, refuses, answers, rejects_data, rejects_status, Speaks}
 use Rattle.trace_laws.specs.Tells.{IsClosing, LastAsked, LastIn}
-use Rattle.trace_laws.proofs.Impossible.{wrong, wrong'}
+use Rattle.bus_base.proofs.Tests.{wrong, wrong', eq_self}
 
 -- ---- a target that serves a process goes on but after the messages that end a connection
 
@@ -181,7 +181,7 @@ abort_same n said a heard host target unit kind =
     λ i. (own (n.initiator) a.host host i && own n.target a.target target i && named said.unit a.unit unit i && kind i) && true
   where
     own : (x y : ℕ) → y ≡ x → (x == y) ≡ true
-    own x y e = ap (λ (z : ℕ). x == z) e ∙ Rattle.bus_books.proofs.Lists.eq_self x
+    own x y e = ap (λ (z : ℕ). x == z) e ∙ eq_self x
 
     named : (u : Option ℕ) (unit : ℕ) → is_unit u unit ≡ true → (unit_or_0 u == unit) ≡ true
     named None unit e = wrong' e

@@ -27,9 +27,9 @@ use Rattle.bus_dialogue.specs.Events.{arrival_event, arrival_events, arrival_run
 use Rattle.bus_due.specs.Tasks.{room_of, arrival_if, is_idle_unit}
 use Rattle.bus_due.specs.Telling.{same_kind, same_event, same_events}
 use Rattle.bus_books.proofs.Lookups.{self_id}
-use Rattle.bus_books.proofs.Lists.{eq_self}
-use Rattle.trace_laws.specs.Tells.{has_answer, code_if}
-use Rattle.trace_laws.proofs.Tests.{suc_some}
+use Rattle.trace_laws.specs.Tells.{code_if}
+use Rattle.bus_base.proofs.Tests.{eq_self, suc_some}
+use Rattle.trace_laws.specs.DataPointers.{is_marked}
 
 -- ---- a list of events is itself
 
@@ -89,8 +89,8 @@ arrives s id policy a p e =
 pub is_refusing : List Event → Bool
 is_refusing arrived = list_any (λ e. is_refuse e) arrived
 
-pub with_status : (c : CarriedBytes) (q : Bool) (arrived reply : List Event) → (q ≡ true → has_answer c ≡ false → reply ≡ (if list_any (λ e. is_refuse e) arrived then [] else status_event c.id c.failure ∷ []))
-    → newest_with (if q && not (has_answer c) then reply else []) arrived ≡ (if q && not c.shown && not c.refused && not (list_any (λ e. is_refuse e) arrived) then status_event c.id c.failure ∷ arrived else arrived)
+pub with_status : (c : CarriedBytes) (q : Bool) (arrived reply : List Event) → (q ≡ true → is_marked c ≡ false → reply ≡ (if list_any (λ e. is_refuse e) arrived then [] else status_event c.id c.failure ∷ []))
+    → newest_with (if q && not (is_marked c) then reply else []) arrived ≡ (if q && not c.shown && not c.refused && not (list_any (λ e. is_refuse e) arrived) then status_event c.id c.failure ∷ arrived else arrived)
 with_status c q arrived reply h = go q c.shown c.refused (list_any (λ e. is_refuse e) arrived) h
   where
     go : (q x y r : Bool) → (q ≡ true → (x || y) ≡ false → reply ≡ (if r then [] else status_event c.id c.failure ∷ [])) → newest_with (if q && not (x || y) then reply else []) arrived ≡ (if q && not x && not y && not r then status_event c.id c.failure ∷ arrived else arrived)

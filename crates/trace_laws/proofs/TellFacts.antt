@@ -38,14 +38,14 @@ use Rattle.bus_books.specs.Knowing.{Knows}
 use Rattle.bus_books.specs.Reactions.{IsOver}
 use Rattle.bus_books.specs.Speaking.{Speaks}
 use Rattle.bus_books.proofs.InConnection.{reading_is}
-use Rattle.trace_laws.specs.LastTalks.{is_freeing, LastBy}
+use Rattle.trace_laws.specs.LastTalks.{LastBy}
 use Rattle.trace_laws.specs.Named.{known, said, refused, Named}
 use Rattle.trace_laws.specs.TellFacts.{TellFacts}
 use Rattle.trace_laws.specs.Tells.{LastAsked, LastIn, IsServed, of_process, of_abort, IsLeaving, TellsAsLeft, FailsAsLeft}
 use Rattle.trace_laws.proofs.ConnectionRows.{ConnectionRow, connection_row}
 use Rattle.trace_laws.proofs.Crossings.{RowFacts, stays, ends_here}
 use Rattle.trace_laws.proofs.FreshItems.{items_found}
-use Rattle.trace_laws.proofs.Impossible.{wrong, wrong', none_some}
+use Rattle.trace_laws.proofs.Impossible.{none_some}
 use Rattle.trace_laws.proofs.ItemFacts.{items_start}
 use Rattle.trace_laws.proofs.ItemNext.{items_next}
 use Rattle.trace_laws.proofs.Joint.{Stood, NextStood, link_phase}
@@ -59,6 +59,8 @@ use Rattle.trace_laws.proofs.ServedItems.{served_start, served_next}
 use Rattle.trace_laws.proofs.TellEnds.{none_heard}
 use Rattle.trace_laws.proofs.TellRows.{is_heard}
 use Rattle.trace_laws.proofs.UndoneFacts.{undo_start, undo_next, in_of}
+use Rattle.bus_base.proofs.Tests.{wrong, wrong'}
+use Rattle.trace_laws.specs.ItemTalks.{frees_bus}
 
 -- ---- MESSAGE IN is left with ATN false after all of its bytes
 
@@ -169,7 +171,7 @@ last_left s p row n h l el = go (h.facts.served n h.leaving.stands h.leaving.cal
         asked causes.InMessage last none = last
         asked causes.InStatus last none = last
         asked causes.InData last none = tt
-    of_one id q served of phases.MessageIn e w = λ off free. ends_closing l k.exchange.plan.messages k.exchange.plan.next k.handshakes.requests w (ap is_freeing free) (all_given s k n e off h.over (given_of s p row n h e))
+    of_one id q served of phases.MessageIn e w = λ off free. ends_closing l k.exchange.plan.messages k.exchange.plan.next k.handshakes.requests w (ap frees_bus free) (all_given s k n e off h.over (given_of s p row n h e))
     of_one id q served of phases.Command e w = tt
     of_one id q served of phases.DataIn e w = tt
     of_one id q served of phases.DataOut e w = tt

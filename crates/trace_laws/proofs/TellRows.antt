@@ -44,17 +44,15 @@ use Rattle.bus_books.proofs.CarriedRows.{process_id}
 use Rattle.bus_books.proofs.InConnection.{reading_is}
 use Rattle.bus_books.proofs.Opened.{opening_named}
 use Rattle.bus_books.proofs.Reactions.{out_over, command_over}
-use Rattle.bus_laws.proofs.Tests.{or_true}
-use Rattle.link_laws.proofs.Moves.{or_false}
 use Rattle.trace_laws.specs.Tells.{LastIn, AreRepliesShown, LastAsked, IsServed, of_process, of_abort, Tells}
 use Rattle.trace_laws.proofs.CommandNext.{out_unstruck}
-use Rattle.trace_laws.proofs.Impossible.{wrong}
 use Rattle.trace_laws.proofs.PhaseLines.{out_lines, command_is}
 use Rattle.trace_laws.proofs.TellEnds.{goes_on, lost_told, naming_goes_on, none_heard, abort_told}
 use Rattle.trace_laws.proofs.TellEvents.{same_lists, self_events}
 use Rattle.trace_laws.proofs.TellTurns.{refused, turn_told}
 use Rattle.link_laws.specs.LinkStages.{LinkStage, when_selected, when_settling, when_turning, when_offering, when_shaking, when_pulsing}
 use Rattle.trace_laws.proofs.Tests.{or_second}
+use Rattle.bus_base.proofs.Tests.{wrong, or_true, or_false}
 
 -- ---- the task of a process
 
@@ -111,7 +109,7 @@ silent_out v attention phase id (inl w) =
     ∙ ap (λ (q : Bool). newest_with (if q && not (has_replied v.task) then reply_events id v.plan v.arrival phases.MessageOut else []) []) (ap (λ (cause : Cause). is_status_next (message_out_leaving v cause).to) w.1 ∙ refused v)
 silent_out v attention phase id (inr w) = (λ i. turn_events v (w.1 i) (w.0 i) id)
 
-never_ends : (v : Serving) (attention : Bool) (phase : Phase) → ((phase ≡ phases.MessageOut) × (v.plan.cause ≡ causes.InMessage) × (is_naming v.plan.messages.first ≡ true)) ⊎ ((phase ≡ phases.MessageIn) × (attention ≡ true)) → goes_on (phase_leaving v attention phase) ≡ true
+pub never_ends : (v : Serving) (attention : Bool) (phase : Phase) → ((phase ≡ phases.MessageOut) × (v.plan.cause ≡ causes.InMessage) × (is_naming v.plan.messages.first ≡ true)) ⊎ ((phase ≡ phases.MessageIn) × (attention ≡ true)) → goes_on (phase_leaving v attention phase) ≡ true
 never_ends v attention phase (inl w) = ap (λ (f : Phase). goes_on (phase_leaving v attention f)) w.0 ∙ ap (λ (cause : Cause). goes_on (message_out_leaving v cause)) w.1 ∙ naming_goes_on v w.2
 never_ends v attention phase (inr w) = λ i. goes_on (phase_leaving v (w.1 i) (w.0 i))
 

@@ -40,10 +40,11 @@ use Rattle.trace_laws.proofs.Attended.{none_array}
 use Rattle.trace_laws.proofs.Called.{link_none}
 use Rattle.trace_laws.proofs.ConnectionRows.{connection_row}
 use Rattle.trace_laws.proofs.Crossings.{RowFacts, stays, ends_here}
-use Rattle.trace_laws.proofs.Joint.{Stood, link_calm, link_connection, link_phase, apart_connection}
+use Rattle.trace_laws.proofs.Joint.{Stood, link_connection, link_phase, apart_connection}
 use Rattle.trace_laws.proofs.PhaseLines.{out_no_status}
 use Rattle.trace_laws.proofs.TellEvents.{self_events}
 use Rattle.trace_laws.proofs.TellRows.{Here, turned, ended, no_events, unbegun_lines, goes_told, stops_told}
+use Rattle.link_laws.proofs.Traces.{link_calm}
 
 -- ---- after it RST is true, or no connection stands
 

@@ -41,10 +41,11 @@ use Rattle.bus_due.specs.Tasks.{arrival_if, task_of, task_if}
 use Rattle.bus_books.specs.Reactions.{is_command_phase}
 use Rattle.bus_books.proofs.CarriedRows.{process_id}
 use Rattle.bus_books.proofs.Lookups.{carried_id}
-use Rattle.trace_laws.specs.Tells.{has_answer, AreRepliesShown, FailsIn}
-use Rattle.trace_laws.proofs.Impossible.{wrong, wrong'}
+use Rattle.trace_laws.specs.Tells.{AreRepliesShown, FailsIn}
 use Rattle.trace_laws.proofs.PhaseLines.{command_is}
 use Rattle.trace_laws.proofs.TellEvents.{arrives, with_status, command_reply, whole_block}
+use Rattle.bus_base.proofs.Tests.{wrong, wrong'}
+use Rattle.trace_laws.specs.DataPointers.{is_marked}
 
 -- ---- the lines of a phase
 
@@ -100,7 +101,7 @@ refused v =
 
 -- ---- the event of the first STATUS phase
 
-pub reply_told : (v : Serving) (attention : Bool) (phase : Phase) (id : ProcId) (c : CarriedBytes) → c.id ≡ id → FailsIn v.plan attention c phase → is_status_next (phase_leaving v attention phase).to ≡ true → has_answer c ≡ false
+pub reply_told : (v : Serving) (attention : Bool) (phase : Phase) (id : ProcId) (c : CarriedBytes) → c.id ≡ id → FailsIn v.plan attention c phase → is_status_next (phase_leaving v attention phase).to ≡ true → is_marked c ≡ false
     → reply_events id v.plan v.arrival phase ≡ (if list_any (λ e. is_refuse e) (arrival_events id v.plan v.arrival phase) then [] else status_event c.id c.failure ∷ [])
 reply_told v attention phases.Command id c same fails st new = command_reply id v.plan v.arrival c same fails.1
 reply_told v attention phases.DataOut id c same fails st new = go v.plan.struck ∙ (λ i. status_event (sym same i) (sym fails i) ∷ [])
@@ -188,7 +189,7 @@ turn_told s k n c id p a on served of some plays shown begun fails group to =
     status : is_status_next (phase_leaving v (bus_of k).atn phase).to ≡ is_status_phase c.after
     status = ap (λ (l : Leaving). is_status_next l.to) (λ i. leaving_by v (sym begun i) (bus_of k)) ∙ ap is_status_next to ∙ status_lines c.after
 
-    replied : has_replied (task_of s k) ≡ has_answer own
+    replied : has_replied (task_of s k) ≡ is_marked own
     replied = ap (λ (o : Option Process). has_replied (task_if s k o)) here ∙ ap (λ (x : ProcId). is_some (reply_in (array_of s k).replies x)) (process_id s id p of) ∙ shown id
 
     arrived : queue_events s k.story (Some own) c.before ≡ arrival_events id v.plan v.arrival phase

@@ -3,7 +3,8 @@ use Rattle.std.proofs.Common.{ℕ, suc, ◌≡◌, ◌≤◌, ◌<◌, Bool, tru
 use Rattle.std.specs.Prelude.{if◌then◌else◌, nat_le}
 use Rattle.std.proofs.lemmas.Bool.Decides.{nat_tests}
 use Rattle.bus_trace.specs.Changes.{falls, rises}
-use Rattle.trace_laws.proofs.Impossible.{wrong, wrong'}
+use Rattle.std.proofs.lemmas.Bool.{leb-true}
+use Rattle.bus_base.proofs.Tests.{wrong, wrong', implication, suc_some}
 
 -- ---- one flag
 
@@ -42,11 +43,6 @@ pub not_first : (a b : Bool) → (not a && b) ≡ true → a ≡ false
 not_first true b e = wrong' e
 not_first false b e = refl
 
--- Where a test holds it may rest on what is asked there.
-pub implication : (a b : Bool) → (a ≡ true → b ≡ true) → (not a || b) ≡ true
-implication true b f = f refl
-implication false b f = refl
-
 pub falls_true : (a b : Bool) → b ≡ true → falls a b ≡ false
 falls_true true b e = ap not e
 falls_true false b e = refl
@@ -60,17 +56,11 @@ all_four a b c d ea eb ec ed = λ i. ea i && eb i && ec i && not (ed i)
 
 -- ---- numbers
 
-pub le_is : (a b : ℕ) → nat_le a b ≡ true → a ≤ b
-le_is a b e = grind (arith, nat_tests)
-
 pub some_count : (n : ℕ) → (n == 0) ≡ false → 1 ≤ n
 some_count n e = grind (arith, nat_tests)
 
 pub some_zero : {A : Type 0} (n : ℕ) → (n == 0) ≡ false → n ≡ 0 → A
 some_zero n e z = absurd grind (arith, nat_tests)
-
-pub suc_some : (n : ℕ) → (suc n == 0) ≡ false
-suc_some n = grind (arith, nat_tests)
 
 pub less_apart : {A : Type 0} (a b : ℕ) → a < b → a ≡ b → A
 less_apart a b lt e = absurd omega (arith, lt, e)

@@ -47,7 +47,6 @@ use Rattle.bus_laws.specs.Rows.{row_of_lines}
 use Rattle.bus_laws.specs.Stages.{CalmStanding}
 use Rattle.bus_laws.specs.Ends.{EndLines, initiator_side, target_side, connected_bus, Linked, ends_selected}
 use Rattle.bus_laws.proofs.Rows.{drives_own, drives_other}
-use Rattle.bus_laws.proofs.Tests.{eq_self}
 use Rattle.link_laws.specs.Phases.{ends}
 use Rattle.link_laws.proofs.EndDues.{offering_with}
 use Rattle.link_laws.proofs.Enters.{enters}
@@ -57,11 +56,11 @@ use Rattle.link_laws.proofs.Moves.{terms_of, target_moves}
 use Rattle.link_laws.proofs.PhaseEnds.{leaves_lines}
 use Rattle.link_laws.proofs.Shakes.{target_row}
 use Rattle.trace_laws.proofs.Driven.{message_at, AfterDriven, goes_on, frees, odd_byte, driven_in, driven_out}
-use Rattle.trace_laws.proofs.Impossible.{wrong, wrong'}
 use Rattle.trace_laws.proofs.InPhase.{Values}
 use Rattle.trace_laws.proofs.Kept.{turn, row_in, target_end}
 use Rattle.trace_laws.proofs.LinkRows.{has_first, is_unasked}
 use Rattle.trace_laws.proofs.Tests.{none_both, not_first}
+use Rattle.bus_base.proofs.Tests.{wrong, wrong', eq_self}
 
 -- ---- MESSAGE OUT begins after a selection
 

@@ -2,7 +2,7 @@
 use Rattle.std.proofs.Common.{inl, inr, ℕ, ◌≡◌, ◌<◌, ◌≤◌, ◌+◌, Bool, true, false, not, ◌&&◌, ◌||◌, ◌∙◌, List, [], ◌∷◌, Option, Some, None, refl, sym, ap, arith}
 use Rattle.std.specs.Prelude.{cond, if◌then◌else◌, nat_le}
 use Rattle.std.specs.List.{AllByRecursion}
-use Rattle.std.proofs.lemmas.Bool.{cases_eq, and_parts}
+use Rattle.std.proofs.lemmas.Bool.{cases_eq, and_parts, leb-true}
 use Rattle.bus_trace.specs.LineSet.{LineSet, none, union}
 use Rattle.bus_trace.proofs.Sets.{same_set-eq}
 use Rattle.bus_trace.proofs.Buses.{bus_on, bus_off}
@@ -22,19 +22,11 @@ use Rattle.bus_rules.specs.Rules.{keeps, first_broken, judged_rules, broken_rule
 use Rattle.scenario.specs.Value.{ScenarioValue}
 use Rattle.bus_laws.specs.Stages.{UnderRst, IsUnderRst, quiet, holds, lingers}
 use Rattle.bus_laws.proofs.FromReset.{off_at}
-use Rattle.bus_laws.proofs.Tests.{or_true}
-use Rattle.trace_laws.proofs.Impossible.{wrong, wrong'}
-use Rattle.trace_laws.proofs.Tests.{none_both, le_is}
+use Rattle.trace_laws.proofs.Tests.{none_both}
+use Rattle.bus_base.proofs.Tests.{wrong, wrong', or_true}
+use Rattle.bus_rules.proofs.First.{kept_step, all_kept}
 
 -- ---- the rule of the reset condition
-
-pub kept_step : (kept : ℕ → Bool) (n : ℕ) (ns : List ℕ) (q : Bool) → kept n ≡ q → (first_broken kept ns ≡ None → AllByRecursion (λ m. kept m ≡ true) ns) → cond q (first_broken kept ns) (Some n) ≡ None → AllByRecursion (λ m. kept m ≡ true) (n ∷ ns)
-kept_step kept n ns true h later e = (h, later e)
-kept_step kept n ns false h later e = absurd cc
-
-pub all_kept : (kept : ℕ → Bool) (ns : List ℕ) → first_broken kept ns ≡ None → AllByRecursion (λ n. kept n ≡ true) ns
-all_kept kept [] e = tt
-all_kept kept (n ∷ ns) e = kept_step kept n ns (kept n) refl (λ later. all_kept kept ns later) e
 
 pub record ResetRule (p : List Row) (row : Row) : Type 0 where
   pub alone : implies ((bus p).rst || rises (drives p row.dev).rst (driven_after row.kind (drives p row.dev)).rst) (is_within (driven_after row.kind (drives p row.dev)) (union only_rst (drives p row.dev))) ≡ true
@@ -81,7 +73,7 @@ stays_off on both zero p row e own =
     ])
 
 -- RST is true before the row, or its device raises it.
-raises_or_stands : (p : List Row) (row : Row) → row.dev < 8 → (bus (row ∷ p)).rst ≡ true → ((bus p).rst || rises (drives p row.dev).rst (driven_after row.kind (drives p row.dev)).rst) ≡ true
+pub raises_or_stands : (p : List Row) (row : Row) → row.dev < 8 → (bus (row ∷ p)).rst ≡ true → ((bus p).rst || rises (drives p row.dev).rst (driven_after row.kind (drives p row.dev)).rst) ≡ true
 raises_or_stands p row lt on = go (bus p).rst refl (drives (row ∷ p) row.dev).rst refl
   where
     go : (q : Bool) → (bus p).rst ≡ q → (r : Bool) → (drives (row ∷ p) row.dev).rst ≡ r → ((bus p).rst || rises (drives p row.dev).rst (driven_after row.kind (drives p row.dev)).rst) ≡ true
@@ -147,7 +139,7 @@ or_second false b e f = e
 -- No line but RST was true.
 pub quiet_at_end : (s : ScenarioValue) (p : List Row) (row : Row) → row.dev < 8 → broken_rule p row ≡ None → UnderRst s p → (bus (row ∷ p)).rst ≡ false → is_within (bus p) only_rst ≡ true
 quiet_at_end s p row lt obeys u off =
-    or_second (nat_le row.time ((line_times p).rst + 800)) (is_within (bus p) only_rst) (implied (bus p).rst _ r.quiet_is u.reset) (λ z. late (le_is _ _ z) (u.each row.dev lt))
+    or_second (nat_le row.time ((line_times p).rst + 800)) (is_within (bus p) only_rst) (implied (bus p).rst _ r.quiet_is u.reset) (λ z. late (leb-true _ _ z) (u.each row.dev lt))
   where
     r : ResetRule p row
     r = reset_rule p row obeys
@@ -167,7 +159,7 @@ quiet_at_end s p row lt obeys u off =
     let_go = ap (λ (l : LineSet). l.rst) (sym (drives_next p row)) ∙ off_at (row ∷ p) off row.dev lt
 
     wait : raised (λ x. x.rst) p row.dev + 25000 ≤ row.time
-    wait = le_is _ _ (implied (falls (drives p row.dev).rst (driven_after row.kind (drives p row.dev)).rst) _ r.holds_is (λ i. falls (held i) (let_go i)))
+    wait = leb-true _ _ (implied (falls (drives p row.dev).rst (driven_after row.kind (drives p row.dev)).rst) _ r.holds_is (λ i. falls (held i) (let_go i)))
 
     late : row.time ≤ (line_times p).rst + 800 → IsUnderRst p row.dev → ⊥
     late soon (quiet e) = wrong (sym held ∙ ap (λ (l : LineSet). l.rst) e)

@@ -27,30 +27,32 @@ use Rattle.bus_books.specs.Rows.{IsRowIn}
 use Rattle.bus_books.specs.Speaking.{AreWordsFor, opens, refuses, answers, rejects_data, rejects_status, Speaks}
 use Rattle.bus_books.specs.Traces.{GoesOn, RowOf, apart as row_apart, begins, goes_on, ends, under_reset, Books}
 use Rattle.bus_books.proofs.InConnection.{InConnection, in_connection, same_phase_is, reading_is}
-use Rattle.trace_laws.specs.Tells.{has_answer, UndoesAnswers, UndoFits, UndoAsked, UndoBy, UndoBooks, is_short}
+use Rattle.trace_laws.specs.Tells.{UndoesAnswers, UndoFits, UndoAsked, UndoBy, UndoBooks, is_short}
 use Rattle.trace_laws.proofs.CommandCounts.{is_refusal, error_said}
-use Rattle.trace_laws.proofs.Impossible.{wrong, wrong', none_some}
+use Rattle.trace_laws.proofs.Impossible.{none_some}
 use Rattle.trace_laws.proofs.PhaseLines.{out_phase}
-use Rattle.trace_laws.proofs.UndoneLeavings.{is_detecting}
 use Rattle.trace_laws.proofs.UndoneRows.{SameAnswersIn, answers_stay, fits_on}
+use Rattle.bus_base.proofs.Tests.{wrong, wrong'}
+use Rattle.trace_laws.specs.Offers.{is_detected}
+use Rattle.trace_laws.specs.DataPointers.{is_marked}
 
 -- ---- in which phases MESSAGE PARITY ERROR may come
 
 -- After data and status it is INITIATOR DETECTED ERROR that is said.
-pub detects : (s : ScenarioValue) (k : RunState) (n : Connection) (c : Change) → Speaks s k n → k.exchange.begun ≡ true → bus_of k ≡ c.before → is_message_out c.before ≡ true → c.after.data_bits % 256 ≡ next_word k.exchange.speech → is_detecting k.exchange.plan.cause ≡ true → is_refusal (message_out k.story.bus_state.dialogue c true) ≡ false
+pub detects : (s : ScenarioValue) (k : RunState) (n : Connection) (c : Change) → Speaks s k n → k.exchange.begun ≡ true → bus_of k ≡ c.before → is_message_out c.before ≡ true → c.after.data_bits % 256 ≡ next_word k.exchange.speech → is_detected k.exchange.plan.cause ≡ true → is_refusal (message_out k.story.bus_state.dialogue c true) ≡ false
 detects s k n c speaks b on out byte e =
     let w = speaks.in_message_out b (ap is_message_out on ∙ out) in
     (λ i. is_refusal (if out i then whole_out (got_out (fresh_bytes k.story.bus_state.dialogue ++ c.after.data_bits % 256 ∷ [])) else None))
     ∙ error_said k.exchange.speech k.exchange.plan k.story.bus_state.dialogue (c.after.data_bits % 256) w.heard byte (words k.exchange.plan.cause e w.words_for)
   where
-    words : (cause : Cause) → is_detecting cause ≡ true → AreWordsFor s n k.served k.exchange cause → k.exchange.speech.words ≡ detected_error
+    words : (cause : Cause) → is_detected cause ≡ true → AreWordsFor s n k.served k.exchange cause → k.exchange.speech.words ≡ detected_error
     words _ z (opens w) = wrong' z
     words _ z (refuses w) = wrong' z
     words _ z (answers w) = wrong' z
     words _ z (rejects_data w) = w
     words _ z (rejects_status w) = w
 
-pub asked_fits : (fits : Type 0) (cause : Cause) → is_detecting cause ≡ false → UndoAsked fits cause → fits
+pub asked_fits : (fits : Type 0) (cause : Cause) → is_detected cause ≡ false → UndoAsked fits cause → fits
 asked_fits fits causes.Selected e h = h
 asked_fits fits causes.InMessage e h = h
 asked_fits fits causes.InData e h = wrong e
@@ -65,13 +67,13 @@ crosses_undoes s k row n c g speaks there h l m u el eo parity eu = go (is_messa
     begun : k.exchange.begun ≡ true
     begun = g.begun (ap (λ (d : RowReading). d.crosses) (reading_is k row n c true g.row_is there))
 
-    go : (q : Bool) → is_message_out c.before ≡ q → has_answer u ≡ has_answer (carried_here k u.id)
+    go : (q : Bool) → is_message_out c.before ≡ q → is_marked u ≡ is_marked (carried_here k u.id)
     go false e = none_some m (sym (λ i. if e i then whole_out (got_out (fresh_bytes k.story.bus_state.dialogue ++ c.after.data_bits % 256 ∷ [])) else None) ∙ out)
     go true e =
         let here : UndoAsked (UndoFits k) k.exchange.plan.cause = subst (λ (p : Phase). UndoBy (UndoFits k) k.exchange.plan k.handshakes.requests p) (ap phase_of g.row_is.bus_is ∙ out_phase c.before e) (h.begun begun) in
-        by (is_detecting k.exchange.plan.cause) refl here
+        by (is_detected k.exchange.plan.cause) refl here
       where
-        by : (q : Bool) → is_detecting k.exchange.plan.cause ≡ q → UndoAsked (UndoFits k) k.exchange.plan.cause → has_answer u ≡ has_answer (carried_here k u.id)
+        by : (q : Bool) → is_detected k.exchange.plan.cause ≡ q → UndoAsked (UndoFits k) k.exchange.plan.cause → is_marked u ≡ is_marked (carried_here k u.id)
         by false z w = asked_fits (UndoFits k) k.exchange.plan.cause z w l u el eu
         by true z w = wrong (sym parity ∙ ap is_refusal (sym out) ∙ detects s k n c speaks begun g.row_is.bus_is e (g.says e there).0 z)
 

@@ -35,25 +35,26 @@ use Rattle.bus_books.specs.Rows.{RowKind, still, strikes, crosses, turns}
 use Rattle.bus_books.specs.Traces.{GoesOn}
 use Rattle.bus_books.proofs.Gives.{requests_stay, struck_same, in_io}
 use Rattle.bus_books.proofs.InConnection.{in_connection}
-use Rattle.bus_books.proofs.Knows.{events_link}
 use Rattle.trace_laws.specs.Tells.{UndoesAnswers, UndoFits, UndoAsked, UndoBy, UndoBooks, UndoFacts}
 use Rattle.trace_laws.proofs.BlockRows.{undo_of}
 use Rattle.trace_laws.proofs.CommandFirst.{undo_first}
 use Rattle.trace_laws.proofs.ConnectionRows.{ConnectionRow, GoingRow, connection_row, going_row, stage_of_connection, RowKindOf, begins_now, goes_now, row_kind}
-use Rattle.trace_laws.proofs.Impossible.{wrong', none_some}
+use Rattle.trace_laws.proofs.Impossible.{none_some}
 use Rattle.trace_laws.proofs.Joint.{Stood, NextStood, link_phase}
 use Rattle.trace_laws.proofs.PhaseLines.{out_in}
 use Rattle.trace_laws.proofs.TellRows.{unbegun_lines}
 use Rattle.trace_laws.proofs.UndoneAnswers.{row_undoes, stays_by}
 use Rattle.trace_laws.proofs.UndoneRows.{SameAnswersIn, answers_stay, fits_heard, first_whole}
 use Rattle.trace_laws.proofs.UndoneTurns.{turn_keeps}
+use Rattle.bus_base.proofs.Tests.{wrong'}
+use Rattle.bus_story.proofs.StorySteps.{events_link}
 
 -- ---- before any row, and the first row of a connection
 
 pub undo_start : (s : ScenarioValue) → UndoFacts s []
 undo_start s n e calm = none_some n e
 
-all_by : (fits : Type 0) (p : Plan) (x : ℕ) (phase : Phase) → fits → UndoBy fits p x phase
+pub all_by : (fits : Type 0) (p : Plan) (x : ℕ) (phase : Phase) → fits → UndoBy fits p x phase
 all_by fits p x phases.MessageOut h = asked p.cause
   where
     asked : (cause : Cause) → UndoAsked fits cause

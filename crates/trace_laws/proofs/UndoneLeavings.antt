@@ -20,7 +20,8 @@ use Rattle.bus_dialogue.specs.DataRuns.{runs_in_all}
 use Rattle.bus_dialogue.specs.Exchange.{one_message}
 use Rattle.bus_dialogue.specs.NextPhase.{Serving, phase_leaving, phase_entry, with_task, recovery, recovery_limit, pointer_restoration, next_data_phase, after_messages, after_arrival, after_run, disconnection, disconnect_messages, command_leaving, data_out_leaving, data_in_leaving, bus_free}
 use Rattle.trace_laws.specs.Tells.{is_short}
-use Rattle.trace_laws.proofs.Impossible.{wrong'}
+use Rattle.bus_base.proofs.Tests.{wrong'}
+use Rattle.trace_laws.specs.Offers.{is_detected}
 
 abbrev pub is_to_message_in : Option Phase → Bool
 is_to_message_in (Some phases.MessageIn) = true
@@ -70,13 +71,7 @@ ran policy t = go (nat_lt (t.runs + 1) (runs_in_all policy t)) policy
     go true (policies.Burst most) e = refl
     go true (policies.NoSave most) e = refl
 
--- After INITIATOR DETECTED ERROR, too (6.6.10).
-abbrev pub is_detecting : Cause → Bool
-is_detecting causes.InData = true
-is_detecting causes.InStatus = true
-is_detecting _ = false
-
-by_cause : (v : Serving) (cause : Cause) → is_detecting cause ≡ true → IsShort (Rattle.bus_dialogue.specs.NextPhase.message_out_leaving v cause)
+by_cause : (v : Serving) (cause : Cause) → is_detected cause ≡ true → IsShort (Rattle.bus_dialogue.specs.NextPhase.message_out_leaving v cause)
 by_cause v causes.Selected e = wrong' e
 by_cause v causes.InMessage e = wrong' e
 by_cause v causes.InData e = by_task v.task (λ t. recovery v.def t (pointer_restoration nexts.GoOn) (phase_entry phases.Status)) (λ t. recovers v.def t (pointer_restoration nexts.GoOn) (phase_entry phases.Status) (λ z. refl) (λ z. wrong' z))
@@ -97,7 +92,7 @@ pub not_again : (v : Serving) (attention : Bool) → is_to_message_in (phase_lea
 not_again v true = refl
 not_again v false = by_next v v.plan.next
 
-pub leaves_short : (v : Serving) (attention : Bool) (phase : Phase) → (phase ≡ phases.MessageOut → is_detecting v.plan.cause ≡ true) → is_to_message_in (phase_leaving v attention phase).to ≡ true → is_short (phase_leaving v attention phase).messages.first ≡ true
+pub leaves_short : (v : Serving) (attention : Bool) (phase : Phase) → (phase ≡ phases.MessageOut → is_detected v.plan.cause ≡ true) → is_to_message_in (phase_leaving v attention phase).to ≡ true → is_short (phase_leaving v attention phase).messages.first ≡ true
 leaves_short v attention phases.MessageOut h = by_cause v v.plan.cause (h refl)
 leaves_short v attention phases.MessageIn h = λ e. wrong' (sym (not_again v attention) ∙ e)
 leaves_short v attention phases.Command h =

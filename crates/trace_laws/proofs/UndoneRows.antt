@@ -32,26 +32,28 @@ use Rattle.bus_books.proofs.InConnection.{reading_is}
 use Rattle.bus_books.proofs.Knows.{link_after}
 use Rattle.bus_books.proofs.Lookups.{carried_id}
 use Rattle.bus_dialogue.specs.Exchange.{bytes_of_messages, message_bytes}
-use Rattle.trace_laws.specs.Tells.{has_answer, UndoesAnswers, UndoFits, is_short}
-use Rattle.trace_laws.proofs.Impossible.{wrong', none_some}
+use Rattle.trace_laws.specs.Tells.{UndoesAnswers, UndoFits, is_short}
+use Rattle.trace_laws.proofs.Impossible.{none_some}
 use Rattle.trace_laws.proofs.ListedReplies.{replies_to}
-use Rattle.trace_laws.proofs.PointerStorySteps.{carried_link}
 use Rattle.trace_laws.proofs.ShownReplies.{answered_on, change_keeps}
 use Rattle.trace_laws.proofs.TellRows.{no_events, row_shows}
+use Rattle.bus_base.proofs.Tests.{wrong'}
+use Rattle.trace_laws.specs.DataPointers.{is_marked}
+use Rattle.bus_story.proofs.StorySteps.{carried_link}
 
 -- ---- the answers after a row
 
 abbrev pub SameAnswersIn : RunState → RunState → Type 0
-SameAnswersIn k j = (id : ProcId) → has_answer (carried_here j id) ≡ has_answer (carried_here k id)
+SameAnswersIn k j = (id : ProcId) → is_marked (carried_here j id) ≡ is_marked (carried_here k id)
 
 abbrev NoReplies : List Event → Type 0
 NoReplies [] = ⊤
 NoReplies (e ∷ shown) = ((id : ProcId) → replies_to e id ≡ false) × NoReplies shown
 
-events_answers : (s : ScenarioValue) (b : Story) (shown : List Event) → NoReplies shown → (id : ProcId) → has_answer (carried_of (story_after_events s b shown).carried id) ≡ has_answer (carried_of b.carried id)
+events_answers : (s : ScenarioValue) (b : Story) (shown : List Event) → NoReplies shown → (id : ProcId) → is_marked (carried_of (story_after_events s b shown).carried id) ≡ is_marked (carried_of b.carried id)
 events_answers s b [] h id = refl
 events_answers s b (e ∷ shown) h id =
-    answered_on s (story_after_events s b shown) e id ∙ ap (λ (q : Bool). q || has_answer (carried_of (story_after_events s b shown).carried id)) (h.0 id) ∙ events_answers s b shown h.1 id
+    answered_on s (story_after_events s b shown) e id ∙ ap (λ (q : Bool). q || is_marked (carried_of (story_after_events s b shown).carried id)) (h.0 id) ∙ events_answers s b shown h.1 id
 
 ended_none : (o : Option CarriedBytes) → NoReplies (end_events o)
 ended_none None = tt
@@ -112,7 +114,7 @@ heard_after s b l d row m e f g =
     (λ i. (if e i then (if is_some (f i) then story_after_out b l (f i) else if is_some (g i) then story_after_in s b l (g i) else story_after_byte b l d) else story_after_fault b l row.kind).link)
     ∙ carried_link _ _
 
-own_bytes : (b : Story) (item : Option Item) (u : CarriedBytes) → carried_if b item ≡ Some u → u ≡ carried_of b.carried u.id
+pub own_bytes : (b : Story) (item : Option Item) (u : CarriedBytes) → carried_if b item ≡ Some u → u ≡ carried_of b.carried u.id
 own_bytes b None u e = none_some u e
 own_bytes b (Some (abort k)) u e = none_some u e
 own_bytes b (Some (process id)) u e =
@@ -126,15 +128,15 @@ fits_on s k row n c now l r en link same fits m u em eu =
     let is : w.after ≡ m = same_Some w.after m (sym (link_after s k row n c now r en ∙ ap (λ (x : Option Link). (story_in_connection s k.story x (reading_in k.story.bus_state n c now) row).link) link ∙ w.is) ∙ em) in
     go (ap (λ (x : Link). x.undo) is ∙ eu) w.undo
   where
-    go : {after : Option CarriedBytes} → after ≡ Some u → (after ≡ l.undo) ⊎ (after ≡ carried_if k.story l.item) → has_answer u ≡ has_answer (carried_here (run_state_after s k row) u.id)
+    go : {after : Option CarriedBytes} → after ≡ Some u → (after ≡ l.undo) ⊎ (after ≡ carried_if k.story l.item) → is_marked u ≡ is_marked (carried_here (run_state_after s k row) u.id)
     go e (inl z) = fits l u link (sym z ∙ e) ∙ sym (same u.id)
-    go e (inr z) = ap has_answer (own_bytes k.story l.item u (sym z ∙ e)) ∙ sym (same u.id)
+    go e (inr z) = ap is_marked (own_bytes k.story l.item u (sym z ∙ e)) ∙ sym (same u.id)
 
 pub fits_heard : (s : ScenarioValue) (k : RunState) (row : Row) (n : Connection) (c : Change) (l : Link) (m : MsgIn) → IsRowIn k row n c → is_some (receiver_in n c) ≡ true → k.story.link ≡ Some l → SameAnswersIn k (run_state_after s k row) → message_out k.story.bus_state.dialogue c true ≡ None → message_in k.story.bus_state.dialogue c true ≡ Some m → UndoFits (run_state_after s k row)
 fits_heard s k row n c l m r en link same none heard x u ex eu =
     let is = link_after s k row n c true r en ∙ ap (λ (o : Option Link). (story_in_connection s k.story o (reading_in k.story.bus_state n c true) row).link) link ∙ heard_after s k.story l (reading_in k.story.bus_state n c true) row m refl none heard in
     let own : carried_if k.story l.item ≡ Some u = ap (λ (y : Link). y.undo) (same_Some _ x (sym is ∙ ex)) ∙ eu in
-    ap has_answer (own_bytes k.story l.item u own) ∙ sym (same u.id)
+    ap is_marked (own_bytes k.story l.item u own) ∙ sym (same u.id)
 
 -- ---- the first byte of a message of one byte
 

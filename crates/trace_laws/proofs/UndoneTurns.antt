@@ -33,12 +33,13 @@ use Rattle.bus_books.specs.Speaking.{Speaks}
 use Rattle.bus_books.specs.Traces.{GoesOn}
 use Rattle.bus_books.proofs.InConnection.{InConnection, in_connection}
 use Rattle.trace_laws.specs.Tells.{UndoesAnswers, UndoFits, UndoAsked, UndoBy, UndoBooks, is_short}
-use Rattle.trace_laws.proofs.Impossible.{wrong, wrong'}
 use Rattle.trace_laws.proofs.PhaseLines.{out_lines, command_is, out_phase, in_phase}
 use Rattle.trace_laws.proofs.TellTurns.{status_lines}
 use Rattle.trace_laws.proofs.UndoneAnswers.{asked_fits}
-use Rattle.trace_laws.proofs.UndoneLeavings.{is_to_message_in, is_detecting, leaves_short}
+use Rattle.trace_laws.proofs.UndoneLeavings.{is_to_message_in, leaves_short}
 use Rattle.trace_laws.proofs.UndoneRows.{answers_stay, fits_on}
+use Rattle.bus_base.proofs.Tests.{wrong, wrong'}
+use Rattle.trace_laws.specs.Offers.{is_detected}
 
 -- ---- a phase is left for another
 
@@ -53,7 +54,7 @@ not_out b e = go (is_message_out b) refl
     go false f = f
     go true f = wrong' (ap is_in (sym (out_phase b f) ∙ e))
 
-detecting : (fits : Type 0) (before : LineSet) → is_message_in before ≡ false → UndoAsked fits (cause_after before)
+pub detecting : (fits : Type 0) (before : LineSet) → is_message_in before ≡ false → UndoAsked fits (cause_after before)
 detecting fits before e = subst (UndoAsked fits) (ap (λ (q : Bool). if q then causes.InMessage else if before.cd then causes.InStatus else causes.InData) (sym e)) (go before.cd)
   where
     go : (q : Bool) → UndoAsked fits (if q then causes.InStatus else causes.InData)
@@ -158,21 +159,21 @@ turn_keeps s k row n c l t h = record {
         to : is_to_message_in (phase_leaving v (bus_of k).atn (phase_of (bus_of k))).to ≡ true
         to = ap (λ (x : Leaving). is_to_message_in x.to) (sym leaving_is) ∙ ap is_to_message_in (t.whereto b ∙ ap (λ (p : Phase). Some p) e)
 
-        short : (phase_of (bus_of k) ≡ phases.MessageOut → is_detecting k.exchange.plan.cause ≡ true) → UndoFits j ⊎ ((j.handshakes.requests ≡ 0) × (is_short j.exchange.plan.messages.first ≡ true))
+        short : (phase_of (bus_of k) ≡ phases.MessageOut → is_detected k.exchange.plan.cause ≡ true) → UndoFits j ⊎ ((j.handshakes.requests ≡ 0) × (is_short j.exchange.plan.messages.first ≡ true))
         short f = inr (asked, ap (λ (m : Messages). is_short m.first) messages ∙ leaves_short v (bus_of k).atn (phase_of (bus_of k)) f to)
 
         is_out : Phase → Bool
         is_out phases.MessageOut = true
         is_out _ = false
 
-        said : phase_of (bus_of k) ≡ phases.MessageOut → (q : Bool) → is_detecting k.exchange.plan.cause ≡ q → UndoFits j ⊎ ((j.handshakes.requests ≡ 0) × (is_short j.exchange.plan.messages.first ≡ true))
+        said : phase_of (bus_of k) ≡ phases.MessageOut → (q : Bool) → is_detected k.exchange.plan.cause ≡ q → UndoFits j ⊎ ((j.handshakes.requests ≡ 0) × (is_short j.exchange.plan.messages.first ≡ true))
         said here true f = short (λ z. f)
         said here false f =
             inl (quiet (command_is (bus_of k) ∙ ap is_command_phase here) (ap (λ (p : Phase). is_status_next (Some p)) e)
             (asked_fits (UndoFits k) k.exchange.plan.cause f (subst (λ (p : Phase). UndoBy (UndoFits k) k.exchange.plan k.handshakes.requests p) here (h.begun b))))
 
         by : (p : Phase) → phase_of (bus_of k) ≡ p → UndoFits j ⊎ ((j.handshakes.requests ≡ 0) × (is_short j.exchange.plan.messages.first ≡ true))
-        by phases.MessageOut z = said z (is_detecting k.exchange.plan.cause) refl
+        by phases.MessageOut z = said z (is_detected k.exchange.plan.cause) refl
         by phases.MessageIn z = short (λ w. wrong' (ap is_out (sym z ∙ w)))
         by phases.Command z = short (λ w. wrong' (ap is_out (sym z ∙ w)))
         by phases.DataIn z = short (λ w. wrong' (ap is_out (sym z ∙ w)))

@@ -71,7 +71,7 @@ left_units : (q : UnitState → Type 0) (units : List UnitState) (id : ProcId) �
 left_units q [] id f h = tt
 left_units q (u ∷ units) id f h = (f.without u id h.0, left_units q units id f h.1)
 
-kept_units : (q : UnitState → Type 0) (drops : Process → Bool) (units : List UnitState) → StaysSo q → AllUnits q units → AllUnits q (Steps.kept_units drops units)
+pub kept_units : (q : UnitState → Type 0) (drops : Process → Bool) (units : List UnitState) → StaysSo q → AllUnits q units → AllUnits q (Steps.kept_units drops units)
 kept_units q drops [] f h = tt
 kept_units q drops (u ∷ units) f h = (f.kept u drops h.0, kept_units q drops units f h.1)
 
@@ -188,7 +188,7 @@ ended q a status (Some r) f h = by r.reply
         all_if q (reply.status == status) (Steps.array_without (Steps.after_status a r.process reply) r.process.id)
         (left_units q (Steps.after_status a r.process reply).units r.process.id f (subst (λ (x : List UnitState). AllUnits q x) (sym (status_same a r.process reply)) h))
 
-lost : (q : UnitState → Type 0) (a : Array) (id : ProcId) → StaysSo q → AllUnits q a.units → IfAll q (Steps.loss_step a id)
+pub lost : (q : UnitState → Type 0) (a : Array) (id : ProcId) → StaysSo q → AllUnits q a.units → IfAll q (Steps.loss_step a id)
 lost q a id f h = go (Steps.has_ended a id)
   where
     go : (x : Bool) → IfAll q (if x then None else Some (Steps.array_without a id))

@@ -30,10 +30,10 @@ use Rattle.bus_due.specs.Sights.{leaving, serving_of}
 use Rattle.trace_laws.specs.AttendanceAsked.{LeftAnswered}
 use Rattle.trace_laws.specs.Instructed.{KnownFor, KnownIn, KnownNext}
 use Rattle.trace_laws.proofs.BadReplies.{GiveNoGood, gives_no_good}
-use Rattle.trace_laws.proofs.Impossible.{wrong, wrong'}
 use Rattle.trace_laws.proofs.KnownLeavings.{known_after}
 use Rattle.trace_laws.proofs.OpeningRows.{opening_leads}
 use Rattle.trace_laws.proofs.Tests.{not_false}
+use Rattle.bus_base.proofs.Tests.{wrong, wrong'}
 
 -- ---- MESSAGE OUT leads to STATUS only where data were rejected
 
@@ -49,7 +49,7 @@ recovers def t again gives_up e f = go t.in_hold (nat_lt t.recoveries (recovery_
     go false true = e
     go false false = f
 
-refused : (v : Serving) → is_status_next (message_out_leaving v causes.InMessage).to ≡ false
+pub refused : (v : Serving) → is_status_next (message_out_leaving v causes.InMessage).to ≡ false
 refused v = go (is_some v.plan.said.offer) (is_naming v.plan.messages.first)
   where
     go : (q r : Bool) → is_status_next (if q then phase_entry phases.Command else if r then message_repetition v.plan else with_task v.task (λ t. recovery v.def t (message_repetition v.plan) bus_free)).to ≡ false

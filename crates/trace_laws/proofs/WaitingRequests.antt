@@ -5,13 +5,11 @@ use Rattle.bus_trace.specs.Changes.{rises}
 use Rattle.bus_trace.specs.declared.changes.Change.{Change}
 use Rattle.bus_lines.specs.declared.handshakes.Request.{Request}
 use Rattle.bus_lines.specs.Handshakes.{Handshakes, answered, answered_if, asked, asked_if, first_of, is_struck, opened, strikes, strikes_last}
-use Rattle.bus_laws.proofs.Tests.{or_true}
-use Rattle.link_laws.proofs.Moves.{or_false}
 use Rattle.trace_laws.specs.Complaints.{any_struck}
 use Rattle.trace_laws.specs.ItemTalks.{awaits}
 use Rattle.trace_laws.specs.SentFailures.{IsNewest, WaitsFor}
 use Rattle.trace_laws.proofs.CloseCounts.{counted_some}
-use Rattle.trace_laws.proofs.Impossible.{wrong, wrong'}
+use Rattle.bus_base.proofs.Tests.{wrong, wrong', or_true, or_false}
 
 -- Neither rises; REQ does; or ACK does, with ATN where the byte was struck that it answers, the newest or, by pulses, the oldest.
 pub data InStep (h : Handshakes) (pulsed : Bool) (c : Change) : Type 0 where

@@ -24,17 +24,18 @@ use Rattle.bus_laws.specs.Rows.{change_to, row_of_fault, row_of_lines}
 use Rattle.bus_laws.proofs.Rows.{fault_change}
 use Rattle.link_laws.specs.Phases.{ends}
 use Rattle.link_laws.proofs.EndDues.{answering_with, offering_with}
-use Rattle.link_laws.proofs.Moves.{initiator_moves, no_rise, or_false, phase_same, same_self, target_moves}
+use Rattle.link_laws.proofs.Moves.{initiator_moves, no_rise, phase_same, same_self, target_moves}
 use Rattle.trace_laws.specs.ItemTalks.{awaits}
 use Rattle.trace_laws.specs.RunCounts.{pulses_here}
 use Rattle.trace_laws.proofs.AttentionRows.{lines_are}
-use Rattle.trace_laws.proofs.Impossible.{wrong', none_some}
+use Rattle.trace_laws.proofs.Impossible.{none_some}
 use Rattle.trace_laws.proofs.Kept.{turn}
 use Rattle.trace_laws.proofs.LinkRows as rows
 use Rattle.trace_laws.proofs.LinkRows.{LinkRow}
 use Rattle.trace_laws.proofs.RunSteps.{pulsed_as}
 use Rattle.trace_laws.proofs.Turns.{freed_connection}
 use Rattle.trace_laws.proofs.WaitingRequests.{InStep, answers, answers_oldest, asks, rests}
+use Rattle.bus_base.proofs.Tests.{wrong', or_false}
 
 abbrev Step : List Row → Change → Type 0
 Step p c = InStep (handshakes p) (pulses_here p) c

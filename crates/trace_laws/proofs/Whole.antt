@@ -1,5 +1,5 @@
 -- Row by row of a prompt trace: all that is asked of its rows, and what is kept with them.
-use Rattle.std.proofs.Common.{◌≡◌, ◌⊎◌, inl, inr, ◌<◌, ◌+◌, ◌^◌, Bool, true, false, ◌&&◌, ◌∙◌, List, [], ◌∷◌, length, Option, Some, None, refl, sym, ap, arith}
+use Rattle.std.proofs.Common.{◌≡◌, ◌⊎◌, inl, inr, ◌<◌, Bool, true, false, ◌&&◌, ◌∙◌, List, [], ◌∷◌, Option, Some, None, refl, sym, ap}
 use Rattle.std.specs.Prelude.{if◌then◌else◌, is_some}
 use Rattle.std.proofs.lemmas.Option.{same_Some}
 use Rattle.bus_trace.specs.declared.Row.{Row}
@@ -28,6 +28,7 @@ use Rattle.bus_books.specs.Traces.{AreRowsOf}
 use Rattle.bus_laws.proofs.Apart.{change_plain}
 use Rattle.bus_laws.proofs.Limits.{obeys_latencies}
 use Rattle.bus_laws.proofs.Prompt.{least_is}
+use Rattle.link_laws.proofs.RunLengths.{runs_are_short}
 use Rattle.ending_causes.specs.WrongParity.{complains_truly, left_as_due}
 use Rattle.trace_laws.specs.Asked.{IsAsked}
 use Rattle.trace_laws.specs.Attendance.{AttendedFacts}
@@ -90,6 +91,7 @@ use Rattle.trace_laws.proofs.Unshown.{unshown_ready}
 use Rattle.trace_laws.proofs.WriteNext.{writes_next, writes_start}
 use Rattle.trace_laws.proofs.WritePremises.{write_premises}
 use Rattle.trace_laws.proofs.Written.{written_next}
+use Rattle.std.proofs.lemmas.Bool.{and_from}
 
 none_some : {A : Type 0} (n : Connection) → (let a : Option Connection = None in a) ≡ Some n → A
 none_some n e = absurd cc
@@ -156,9 +158,9 @@ first s o = record {
 }
 
 -- What is asked of the next row.
-asked : (s : ScenarioValue) (p : List Row) (row : Row) → Obeys s → IsPrompt s (row ∷ p) → length (row ∷ p) < 2 ^ 64 → Whole s p → IsAsked s p row
-asked s p row o prompt short was n con calm off =
-    let c = command_asks s p row o prompt short was.stood was.commands n con calm off in
+asked : (s : ScenarioValue) (p : List Row) (row : Row) → Obeys s → IsPrompt s (row ∷ p) → Whole s p → IsAsked s p row
+asked s p row o prompt was n con calm off =
+    let c = command_asks s p row o prompt was.stood was.commands n con calm off in
     let d = data_asks s p row n o prompt was.stood was.sends con calm off in
     record {
       names = items_asks s p row n o prompt was.stood was.facts.items con calm off;
@@ -211,36 +213,32 @@ calm s p row o prompt was lt stands ep = go (connection p) refl (connection (row
         let is = same m n (bus (row ∷ p)).bsy (sym (λ i. connection_after (e i) (call p) (change_of p row) row) ∙ f) in
         by_rst n (e ∙ ap (λ (z : Connection). Some z) is) f (bus p).rst (bus (row ∷ p)).rst refl refl
 
-both : (a b : Bool) → a ≡ true → b ≡ true → (a && b) ≡ true
-both a b e f = λ i. e i && f i
-
 -- The lines after the next row.
-pub standing_next : (s : ScenarioValue) (p : List Row) (row : Row) → Obeys s → IsPrompt s (row ∷ p) → length (row ∷ p) < 2 ^ 64 → Whole s p → NextStood s p row
-standing_next s p row o prompt short was =
+pub standing_next : (s : ScenarioValue) (p : List Row) (row : Row) → Obeys s → IsPrompt s (row ∷ p) → Whole s p → NextStood s p row
+standing_next s p row o prompt was =
     let fits = obeys_fits s o in
-    let less : length p + 1 < 2 ^ 64 = omega (arith, short) in
-    next_stood s p row (units_are s fits) (seats_are s fits) (commands_are s o) (λ q n dv. byte_values s q n o (seats_are s fits) dv) (obeys_latencies s o) was.stood less (asked s p row o prompt short was) (least_is s p row prompt.1)
+    next_stood s p row (units_are s fits) (seats_are s fits) (commands_are s o) (λ q n dv. byte_values s q n o (seats_are s fits) dv) (obeys_latencies s o) (runs_are_short s fits) was.stood (asked s p row o prompt was) (least_is s p row prompt.1)
 
 -- What of it the events rest on.
-record RowSteps (s : ScenarioValue) (p : List Row) (row : Row) : Type 0 where
-  stood : NextStood s p row
-  facts : TellFacts s (row ∷ p)
-  commands : CommandFacts s (row ∷ p)
-  fails : FailsAsLeft s p row
-  tells : TellsAsLeft s p row
-  places : PlaceFacts s (row ∷ p)
-  instructed : InstructedFacts s (row ∷ p)
-  writes : WritesAsked s p row
+pub record RowSteps (s : ScenarioValue) (p : List Row) (row : Row) : Type 0 where
+  pub stood : NextStood s p row
+  pub facts : TellFacts s (row ∷ p)
+  pub commands : CommandFacts s (row ∷ p)
+  pub fails : FailsAsLeft s p row
+  pub tells : TellsAsLeft s p row
+  pub places : PlaceFacts s (row ∷ p)
+  pub instructed : InstructedFacts s (row ∷ p)
+  pub writes : WritesAsked s p row
 
-steps : (s : ScenarioValue) (p : List Row) (row : Row) → Obeys s → IsPrompt s (row ∷ p) → length (row ∷ p) < 2 ^ 64 → Whole s p → RowSteps s p row
-steps s p row o prompt short was =
-    let nx = standing_next s p row o prompt short was in
+pub steps : (s : ScenarioValue) (p : List Row) (row : Row) → Obeys s → IsPrompt s (row ∷ p) → Whole s p → RowSteps s p row
+steps s p row o prompt was =
+    let nx = standing_next s p row o prompt was in
     let fails = fails_as_left s p row o prompt was.stood (sent_asks s p row o prompt was.stood was.facts was.sent) was.fails in
     let tells = left_tells s p row o prompt was.stood was.facts fails in
     record {
       stood = nx;
       facts = tell_next s p row o prompt was.stood nx was.facts;
-      commands = command_next s p row o prompt short was.stood was.facts.offers nx was.commands;
+      commands = command_next s p row o prompt was.stood was.facts.offers nx was.commands;
       fails = fails;
       tells = tells;
       places = place_row s p row o prompt was.stood nx was.facts was.shown was.places was.closes tells (status_asks s p row o prompt was.stood nx was.facts was.statuses);
@@ -254,13 +252,13 @@ heard_next s p row o prompt was g =
     let begins = begins_placed s p row o prompt was.stood g.stood was.facts.items was.places in
     let at : HeardFacts s (row ∷ p) =
     record { stood = g.stood.stood; commands = g.commands; named = g.facts.named; told = g.instructed; placed = places_heard s (row ∷ p) g.stood.stood.standing.devices g.places } in
-    both (heard s p) _ was.hears (heard_row s p row o prompt was.stood begins at)
+    and_from (heard s p) _ was.hears (heard_row s p row o prompt was.stood begins at)
 
-next : (s : ScenarioValue) (p : List Row) (row : Row) → Obeys s → IsPrompt s (row ∷ p) → length (row ∷ p) < 2 ^ 64 → Whole s p → Whole s (row ∷ p)
-next s p row o prompt short was =
+next : (s : ScenarioValue) (p : List Row) (row : Row) → Obeys s → IsPrompt s (row ∷ p) → Whole s p → Whole s (row ∷ p)
+next s p row o prompt was =
     let k = run_state s p in
     let m : IsLeast (due s p) 8 row = least_is s p row prompt.1 in
-    let g = steps s p row o prompt short was in
+    let g = steps s p row o prompt was in
     let nx = g.stood in
     let left = left_row s p row o prompt was.stood m.inside nx.obeys in
     let truly = complained_row s p row o prompt was.stood nx (λ stands ep. calm s p row o prompt was m.inside stands ep) was.complaints in
@@ -273,7 +271,7 @@ next s p row o prompt short was =
       rows_are = (was.rows_are, nx.row_is);
       facts = g.facts;
       commands = g.commands;
-      sends = data_next s p row o prompt short was.stood nx was.facts.offers
+      sends = data_next s p row o prompt was.stood nx was.facts.offers
           (data_premises s p row o prompt was.stood was.facts.items unshown) was.sends;
       holds = holds_next s p row o prompt was.stood nx was.holds;
       resets = resets_next s p row o prompt was.stood nx was.resets;
@@ -291,23 +289,23 @@ next s p row o prompt short was =
       attends = attended_next s p row (record { obeys = o; prompt = prompt; stood = was.stood; next = nx; told = was.instructed; told_next = g.instructed; asked = attends; facts = was.attends });
       runs_left = runs_left_next s p row o prompt was.stood nx was.holds was.sends.runs g.places was.runs_left;
       ends = ends_on s p row (obeys_fits s o) was.stood nx.stood m.inside nx.obeys was.ends;
-      left = both (left_as_due s p) _ was.left left;
-      complains = both (complains_truly s p) _ was.complains truly;
-      told = both (telling s p) _ was.told row_told;
-      permitted = both (allowed s p) _ was.permitted (allowed_row s p row g.places);
+      left = and_from (left_as_due s p) _ was.left left;
+      complains = and_from (complains_truly s p) _ was.complains truly;
+      told = and_from (telling s p) _ was.told row_told;
+      permitted = and_from (allowed s p) _ was.permitted (allowed_row s p row g.places);
       hears = heard_next s p row o prompt was g;
       wrote = written_next s p row o prompt was.stood nx was.commands was.instructed g.writes was.writes was.wrote;
     }
 
-pub whole : (s : ScenarioValue) (p : List Row) → Obeys s → IsPrompt s p → length p < 2 ^ 64 → Whole s p
-whole s [] o prompt short = first s o
-whole s (row ∷ p) o prompt short = next s p row o prompt short (whole s p o prompt.0 (omega (arith, short)))
+pub whole : (s : ScenarioValue) (p : List Row) → Obeys s → IsPrompt s p → Whole s p
+whole s [] o prompt = first s o
+whole s (row ∷ p) o prompt = next s p row o prompt (whole s p o prompt.0)
 
 -- What a row shows in a connection.
-pub row_attendance : (s : ScenarioValue) (p : List Row) (row : Row) → Obeys s → IsPrompt s (row ∷ p) → length (row ∷ p) < 2 ^ 64 → IsAttended s p row
-row_attendance s p row o prompt short =
-    let was = whole s p o prompt.0 (omega (arith, short)) in
-    let g = steps s p row o prompt short was in
+pub row_attendance : (s : ScenarioValue) (p : List Row) (row : Row) → Obeys s → IsPrompt s (row ∷ p) → IsAttended s p row
+row_attendance s p row o prompt =
+    let was = whole s p o prompt.0 in
+    let g = steps s p row o prompt was in
     record {
       shows = attended_row s p row o prompt was.stood was.commands was.instructed (attendance_asked s p row g.stood.stood.standing.devices was.places g.places g.fails) was.attends;
       whole = whole_as_left s p row o prompt was.stood g.stood was.facts was.commands was.instructed g.writes was.writes was.sends.runs was.places was.runs_left was.shown g.fails;

@@ -30,20 +30,20 @@ use Rattle.bus_due.specs.Sights.{leaving, serving_of}
 use Rattle.bus_due.specs.Tasks.{blocks_in, is_writing, reply_now, size_of, task_if, task_of}
 use Rattle.bus_due.proofs.Plains.{run_state_plain}
 use Rattle.scsi_device.specs.Writes.{Writer, block_size, is_data_out, is_writer, writer_of, writers}
-use Rattle.bus_books.proofs.Lookups.{self_id, number_is}
+use Rattle.bus_books.proofs.Lookups.{self_id}
 use Rattle.bus_books.specs.Traces.{GoesOn}
 use Rattle.trace_laws.specs.WholeRuns.{HasSentAll, MovesBlocks, bytes_come, start_of_run}
 use Rattle.trace_laws.specs.WriteFacts.{IsAnsweredWhole}
-use Rattle.trace_laws.proofs.Impossible.{wrong'}
 use Rattle.trace_laws.proofs.LastRuns.{last_run, start_same}
 use Rattle.trace_laws.proofs.Plans.{writes_there}
 use Rattle.trace_laws.proofs.RunFacts.{task_here}
-use Rattle.trace_laws.proofs.Tests.{le_is}
 use Rattle.trace_laws.proofs.WriteRows.{WriteRow, Around, around}
 use Rattle.trace_laws.proofs.Written.{left_by, moved_all}
+use Rattle.std.proofs.lemmas.Bool.{eqb-true, leb-true}
+use Rattle.bus_base.proofs.Tests.{wrong'}
 
 -- STATUS follows the last run alone.
-last_to : (policy : Policy) (t : Task) → (after_run policy t).to ≡ Some phases.Status → nat_lt (t.runs + 1) (runs_in_all policy t) ≡ false
+pub last_to : (policy : Policy) (t : Task) → (after_run policy t).to ≡ Some phases.Status → nat_lt (t.runs + 1) (runs_in_all policy t) ≡ false
 last_to policy t e = go (nat_lt (t.runs + 1) (runs_in_all policy t)) refl (ap is_status_next e)
   where
     go : (q : Bool) → nat_lt (t.runs + 1) (runs_in_all policy t) ≡ q → is_status_next (if q then disconnection (disconnect_messages policy) else phase_entry phases.Status).to ≡ true → nat_lt (t.runs + 1) (runs_in_all policy t) ≡ false
@@ -95,7 +95,7 @@ whole_run s p row n c q w g ep b phase unstruck to served target blocks = record
 
     start : (run_at policy t t.runs).start ≡ start_of_run s q (progress_in k.progress q.id).runs
     start =
-        ap (λ (size : ℕ). (run_in policy (blocks_in (range_in (command_of q.cdb))) size t.moved t.runs).start) (number_is (size_of (unit_state_at (array_of s k).units q.target q.unit)) (block_size (unit_of s q.target q.unit)) (w.asked.sizes q served))
+        ap (λ (size : ℕ). (run_in policy (blocks_in (range_in (command_of q.cdb))) size t.moved t.runs).start) (eqb-true (size_of (unit_state_at (array_of s k).units q.target q.unit)) (block_size (unit_of s q.target q.unit)) (w.asked.sizes q served))
         ∙ start_same policy (blocks_in (range_in (command_of q.cdb))) (block_size (unit_of s q.target q.unit)) t.moved 0 t.runs
 
     come : bytes_come s k q ≡ start_of_run s q (progress_in k.progress q.id).runs + k.handshakes.answers
@@ -108,7 +108,7 @@ whole_run s p row n c q w g ep b phase unstruck to served target blocks = record
     came =
         joined (start_of_run s q (progress_in k.progress q.id).runs) k.handshakes.answers t.moved (run_length policy t) (length q.sent) (bytes_come s k q)
         (subst (λ (x : ℕ). t.moved ≤ x + run_length policy t) start (last_run policy t blocks answered.moves last))
-        (le_is (run_length policy t) k.handshakes.answers answered.whole) all come
+        (leb-true (run_length policy t) k.handshakes.answers answered.whole) all come
 
 -- As a test.
 pub sent_all : (s : ScenarioValue) (k : RunState) (all : List Writer) (q : Process) → HasSentAll s k all q → (is_writing q && (is_writer (writer_of all q.target q.unit) q.id && nat_le (length q.sent) (bytes_come s k q))) ≡ true

@@ -1,7 +1,7 @@
 -- Which process last sent its unit a byte of the data of writes, after any rows of a prompt trace.
 use Rattle.std.proofs.Common.{ℕ, ◌≡◌, ◌⊎◌, inl, inr, Bool, true, false, ◌&&◌, ◌==◌, ◌∙◌, List, [], ◌∷◌, Option, Some, None, refl, sym, ap, subst}
 use Rattle.std.specs.Prelude.{if◌then◌else◌, is_some}
-use Rattle.std.proofs.lemmas.Bool.{and_parts}
+use Rattle.std.proofs.lemmas.Bool.{and_parts, eqb-true}
 use Rattle.std.proofs.lemmas.Option.{same_Some}
 use Rattle.bus_base.specs.declared.Event.{Event}
 use Rattle.bus_base.specs.declared.Event.TheVariants as events
@@ -44,7 +44,6 @@ use Rattle.scsi_device.proofs.FitLines.{obeys_fits, seats_are}
 use Rattle.bus_books.specs.Rows.{RowKind, still, strikes, crosses, turns, IsFirstRow, reading_in}
 use Rattle.bus_books.specs.Traces.{Begins, GoesOn, RowOf, apart, begins, goes_on, ends, under_reset}
 use Rattle.bus_books.proofs.InConnection.{in_connection, reading_is}
-use Rattle.bus_books.proofs.Lookups.{number_is}
 use Rattle.bus_laws.proofs.Apart.{change_plain}
 use Rattle.bus_laws.proofs.Prompt.{least_is}
 use Rattle.trace_laws.specs.Commands.{CommandFacts}
@@ -54,7 +53,7 @@ use Rattle.trace_laws.specs.Items.{IsFresh}
 use Rattle.trace_laws.specs.WriteFacts.{AllUnits, IsWriterOf, IsWrittenUnit, IsEmptyUnit, IsUnrunServed, WriteFacts, WritesAsked}
 use Rattle.trace_laws.proofs.ArrivalRows.{ArrivesNow, arrives_first}
 use Rattle.trace_laws.proofs.FreshItems.{items_fresh}
-use Rattle.trace_laws.proofs.Impossible.{wrong, wrong', none_some}
+use Rattle.trace_laws.proofs.Impossible.{none_some}
 use Rattle.trace_laws.proofs.InstructedSteps.{told_with}
 use Rattle.trace_laws.proofs.ItemFacts.{rst_raised}
 use Rattle.trace_laws.proofs.Joint.{Stood, NextStood}
@@ -65,6 +64,7 @@ use Rattle.trace_laws.proofs.WritePresent.{present_next}
 use Rattle.trace_laws.proofs.WriteRows.{WriteRow, Around, around, out_is, runs_stay, going_units, arrival_waits}
 use Rattle.trace_laws.proofs.WriterUnits.{written_stays, empty_stays, empty_written, start_empty, dropped_empty}
 use Rattle.trace_laws.proofs.WriteTurns.{no_byte, a_byte, writer_elsewhere, progress_apart, progress_ends}
+use Rattle.bus_base.proofs.Tests.{wrong, wrong'}
 
 -- ---- before any row
 
@@ -134,8 +134,8 @@ whose_next s p row w h t n id e = go (row_reading k.story.bus_state row).crosses
               process = q;
               process_is = ap (process_of s) (sym same) ∙ own.1;
               writes = writes_there s k q (w.was.planned b.n ar.before ar.calm) (b.goes.begun (ap (λ (d : RowReading). d.crosses) b.reading)) eo (out_is (bus_of k) (ap (λ (l : LineSet). is_data_out (phase_of l)) b.goes.row_is.bus_is ∙ ex));
-              target_is = number_is q.target t both.0;
-              unit_is = number_is q.unit n both.1;
+              target_is = eqb-true q.target t both.0;
+              unit_is = eqb-true q.unit n both.1;
             }
 
     go : (x : Bool) → (row_reading k.story.bus_state row).crosses ≡ x → IsWriterOf s t n id
@@ -231,7 +231,7 @@ units_next s p row w items (inr off) = go w.nx.row_is
 
 -- ---- before the target knows the command
 
-known_before : (w : Hearing) (p : Plan) (i : Instructions) → (instructions_on w p i).known ≡ false → i.known ≡ false
+pub known_before : (w : Hearing) (p : Plan) (i : Instructions) → (instructions_on w p i).known ≡ false → i.known ≡ false
 known_before w p i e = go i.known refl
   where
     go : (q : Bool) → i.known ≡ q → i.known ≡ false

@@ -18,6 +18,7 @@ use Rattle.scenario.specs.declared.value.Policy.{Policy}
 use Rattle.scenario.specs.declared.value.Policy.TheVariants as policies
 use Rattle.scenario.specs.declared.value.UnitDef.{UnitDef}
 use Rattle.disk_array.specs.ArrayHistory.{array_after}
+use Rattle.disk_array.specs.Order.{count_in, range_in}
 use Rattle.disk_array.specs.Processes.{Process}
 use Rattle.disk_array.specs.Units.{UnitState, guest_at, unit_state_at}
 use Rattle.bus_dialogue.specs.declared.exchange.Phase.{Phase}
@@ -39,20 +40,18 @@ use Rattle.bus_due.proofs.Plains.{run_state_plain}
 use Rattle.scsi_device.specs.Writes.{block_size, is_data_out}
 use Rattle.target_units.specs.Rooms.{AreOfLines, IsOfLine}
 use Rattle.bus_books.proofs.CarriedBlocks.{process_own}
-use Rattle.bus_books.proofs.Lists.{eq_self}
-use Rattle.link_laws.proofs.Ahead.{zero_of}
 use Rattle.trace_laws.specs.DataFacts.{DataFacts}
 use Rattle.trace_laws.specs.Places.{IsAtRest, IsOutside, PlaceFacts, PlacedIf, RunsOpen}
 use Rattle.trace_laws.specs.ResetLines.{ResetFacts}
 use Rattle.trace_laws.specs.WriteFacts.{IsAnsweredWhole, WritesAsked}
 use Rattle.trace_laws.proofs.ArrivingProcesses.{no_guest}
-use Rattle.trace_laws.proofs.Impossible.{wrong, wrong'}
 use Rattle.trace_laws.proofs.Joint.{Stood}
 use Rattle.trace_laws.proofs.PlacesHeard.{places_heard}
 use Rattle.trace_laws.proofs.Plans.{is_directed, writes_of}
 use Rattle.trace_laws.proofs.RunAsks.{answers_all}
 use Rattle.trace_laws.proofs.RunFacts.{write_no_sense}
-use Rattle.trace_laws.proofs.RunFits.{FitsRuns, fits_runs, lines_now}
+use Rattle.trace_laws.proofs.RunFits.{FitsRuns, blocks_named, fits_runs, lines_now}
+use Rattle.bus_base.proofs.Tests.{wrong, wrong', eq_self, zero_of}
 
 -- ---- the size of a block
 
@@ -187,7 +186,7 @@ write_premises s p row o prompt was h facts resets = record {
         by_outside : IsOutside h.array q → guest_at h.array.guests q.id ≡ None
         by_outside (inl none) =
             let size : t.size ≡ 0 = (λ i. size_of (unit_state_at (or_start s (h.array_is i)).units q.target q.unit)) ∙ ap size_of none in
-            let zero : t.moved ≡ 0 = zero_size fits.fit.blocks t.moved t.size size (fits.fit.moved some) in
+            let zero : t.moved ≡ 0 = zero_size (count_in (range_in (command_of q.cdb))) t.moved t.size size (fits.fit.moved (count_in (range_in (command_of q.cdb))) (blocks_named (command_of q.cdb) w) some) in
             wrong (sym (ap (λ (x : ℕ). x == 0) zero) ∙ some)
         by_outside (inr sense) = wrong' (sym (write_no_sense (command_of q.cdb) w) ∙ sense)
 

@@ -27,10 +27,11 @@ use Rattle.bus_books.proofs.InConnection.{in_connection, reading_is, same_phase_
 use Rattle.bus_laws.proofs.Apart.{change_plain}
 use Rattle.trace_laws.specs.WriteFacts.{IsPresentWriter}
 use Rattle.trace_laws.proofs.CommandStays.{phase_same}
-use Rattle.trace_laws.proofs.Impossible.{wrong, wrong', none_some}
+use Rattle.trace_laws.proofs.Impossible.{none_some}
 use Rattle.trace_laws.proofs.PhaseLines.{data_out_io, message_is}
 use Rattle.trace_laws.proofs.WriteRows.{WriteRow, Around, around}
 use Rattle.trace_laws.proofs.WriteTurns.{no_byte, a_byte, writer_now}
+use Rattle.bus_base.proofs.Tests.{wrong, wrong'}
 
 abbrev is_message : Phase → Bool
 is_message phases.MessageIn = true

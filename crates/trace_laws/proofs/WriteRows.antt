@@ -50,7 +50,7 @@ use Rattle.trace_laws.proofs.ArrivalRows.{ArrivesNow}
 use Rattle.trace_laws.proofs.Called.{own_units}
 use Rattle.trace_laws.proofs.CommandFacts.{served_process, same_process}
 use Rattle.trace_laws.proofs.DoneRuns.{DoneOut, out_done, done_in_data}
-use Rattle.trace_laws.proofs.Impossible.{wrong, wrong', none_some}
+use Rattle.trace_laws.proofs.Impossible.{none_some}
 use Rattle.trace_laws.proofs.Joint.{Stood, NextStood}
 use Rattle.trace_laws.proofs.PhaseLines.{command_phase}
 use Rattle.trace_laws.proofs.Plans.{Planned, is_directed, writes_of}
@@ -61,6 +61,7 @@ use Rattle.trace_laws.proofs.UnitsKept.{MayWait}
 use Rattle.trace_laws.proofs.CountedRuns.{same_runs, counted_runs}
 use Rattle.trace_laws.proofs.WriterUnits.{may_wait, moved_units, same_units}
 use Rattle.trace_laws.proofs.WriteTurns.{RunsThere, runs_there, stands_there, no_byte, a_byte, same_progress, progress_turns, byte_moves, run_moves}
+use Rattle.bus_base.proofs.Tests.{wrong, wrong'}
 
 -- ---- phases
 

@@ -24,11 +24,10 @@ use Rattle.bus_due.proofs.Plains.{run_state_plain}
 use Rattle.scsi_device.specs.Heard.{is_unanswered}
 use Rattle.scsi_device.specs.Writes.{Writer, writer_of, writers, writers_with, is_data_out}
 use Rattle.bus_books.specs.Rows.{IsRowIn, reading_in}
-use Rattle.bus_books.proofs.Lists.{eq_self}
 use Rattle.trace_laws.proofs.CountedRuns.{counted_runs}
-use Rattle.trace_laws.proofs.Impossible.{wrong'}
 use Rattle.trace_laws.proofs.WriterUnits.{Moves, Stands, stands_each}
 use Rattle.trace_laws.specs.WriteFacts.{AllUnits}
+use Rattle.bus_base.proofs.Tests.{wrong', eq_self}
 
 -- ---- the writers
 

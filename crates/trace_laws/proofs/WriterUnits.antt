@@ -15,12 +15,14 @@ use Rattle.disk_array.specs.Steps as Steps
 use Rattle.bus_due.specs.LastingState.{ProcessProgress, progress_in}
 use Rattle.bus_due.specs.Tasks.{is_writing}
 use Rattle.scsi_device.specs.Writes.{Writer, writer_of}
-use Rattle.bus_books.proofs.Lookups.{id_is, self_id, number_is}
-use Rattle.bus_books.proofs.Lists.{eq_self}
+use Rattle.bus_books.proofs.Lookups.{id_is, self_id}
 use Rattle.trace_laws.specs.ItemFacts.{AllP}
-use Rattle.trace_laws.specs.WriteFacts.{AllUnits, IfRuns, IsUnrun, IsLastWriter, IsOther, IsWrittenUnit, IsEmptyUnit}
-use Rattle.trace_laws.proofs.Impossible.{wrong, wrong', none_some, some_none}
+use Rattle.trace_laws.specs.WriteFacts.{AllUnits, IsUnrun, IsLastWriter, IsOther, IsWrittenUnit, IsEmptyUnit}
+use Rattle.trace_laws.proofs.Impossible.{none_some, some_none}
 use Rattle.trace_laws.proofs.UnitsKept.{StaysSo, MayWait}
+use Rattle.std.proofs.lemmas.Bool.{eqb-true}
+use Rattle.bus_base.proofs.Tests.{wrong, wrong', eq_self}
+use Rattle.trace_laws.specs.Places.{Runs}
 
 -- ---- those that wait
 
@@ -28,7 +30,7 @@ pub append_all : (q : Process → Type 0) (waiting : List Process) (p : Process)
 append_all q [] p h g = (g, tt)
 append_all q (w ∷ waiting) p h g = (h.0, append_all q waiting p h.1 g)
 
-without_all : (q : Process → Type 0) (waiting : List Process) (id : ProcId) → AllP q waiting → AllP q (without_process waiting id)
+pub without_all : (q : Process → Type 0) (waiting : List Process) (id : ProcId) → AllP q waiting → AllP q (without_process waiting id)
 without_all q [] id h = tt
 without_all q (p ∷ waiting) id h = go (same_id p.id id) (without_all q waiting id h.1)
   where
@@ -44,7 +46,7 @@ without_other (p ∷ waiting) r = go (same_id p.id r.process.id) refl (without_o
     go true e k = k
     go false e k = (e, k)
 
-kept_all : (q : Process → Type 0) (drops : Process → Bool) (waiting : List Process) → AllP q waiting → AllP q (Steps.kept_processes drops waiting)
+pub kept_all : (q : Process → Type 0) (drops : Process → Bool) (waiting : List Process) → AllP q waiting → AllP q (Steps.kept_processes drops waiting)
 kept_all q drops [] h = tt
 kept_all q drops (p ∷ waiting) h = go (drops p) (kept_all q drops waiting h.1)
   where
@@ -67,33 +69,33 @@ choice_all q u p h e = go (chosen_place u.pick (entries_of u.waiting)) e
 -- ---- of a unit: two of its parts, of which what waits gives what is current
 
 abbrev Parts : (Process → Type 0) → (RunningProcess → Type 0) → UnitState → Type 0
-Parts w c u = AllP w u.waiting × IfRuns c u.current
+Parts w c u = AllP w u.waiting × Runs c u.current
 
-replied_part : (c : RunningProcess → Type 0) (o : Option RunningProcess) (id : ProcId) (reply : Reply) → ((r : RunningProcess) → c r → c (record r { reply = Some reply })) → IfRuns c o → IfRuns c (Steps.current_with_reply o id reply)
+replied_part : (c : RunningProcess → Type 0) (o : Option RunningProcess) (id : ProcId) (reply : Reply) → ((r : RunningProcess) → c r → c (record r { reply = Some reply })) → Runs c o → Runs c (Steps.current_with_reply o id reply)
 replied_part c None id reply f h = tt
 replied_part c (Some r) id reply f h = go (same_id r.process.id id)
   where
-    go : (x : Bool) → IfRuns c (if x then Some (record r { reply = Some reply }) else Some r)
+    go : (x : Bool) → Runs c (if x then Some (record r { reply = Some reply }) else Some r)
     go true = f r h
     go false = h
 
-left_part : (c : RunningProcess → Type 0) (o : Option RunningProcess) (x : Bool) → IfRuns c o → IfRuns c (if x then None else o)
+left_part : (c : RunningProcess → Type 0) (o : Option RunningProcess) (x : Bool) → Runs c o → Runs c (if x then None else o)
 left_part c o true h = tt
 left_part c o false h = h
 
-kept_part : (c : RunningProcess → Type 0) (o : Option RunningProcess) (drops : Process → Bool) → IfRuns c o → IfRuns c (Steps.kept_running drops o)
+kept_part : (c : RunningProcess → Type 0) (o : Option RunningProcess) (drops : Process → Bool) → Runs c o → Runs c (Steps.kept_running drops o)
 kept_part c None drops h = tt
 kept_part c (Some r) drops h = go (drops r.process)
   where
-    go : (x : Bool) → IfRuns c (if x then None else Some r)
+    go : (x : Bool) → Runs c (if x then None else Some r)
     go true = tt
     go false = h
 
-map_part : (c d : RunningProcess → Type 0) (o : Option RunningProcess) → ((r : RunningProcess) → c r → d r) → IfRuns c o → IfRuns d o
+map_part : (c d : RunningProcess → Type 0) (o : Option RunningProcess) → ((r : RunningProcess) → c r → d r) → Runs c o → Runs d o
 map_part c d None f h = tt
 map_part c d (Some r) f h = f r h
 
-map_all : (q r : Process → Type 0) (waiting : List Process) → ((p : Process) → q p → r p) → AllP q waiting → AllP r waiting
+pub map_all : (q r : Process → Type 0) (waiting : List Process) → ((p : Process) → q p → r p) → AllP q waiting → AllP r waiting
 map_all q r [] f h = tt
 map_all q r (p ∷ waiting) f h = (f p h.0, map_all q r waiting f h.1)
 
@@ -157,7 +159,7 @@ empty_stays = record {
 none_waits : (q : Process → Type 0) (waiting : List Process) → AllP (λ p. ⊥) waiting → AllP q waiting
 none_waits q waiting h = map_all (λ p. ⊥) q waiting (λ p k. absurd k) h
 
-none_runs : (c : RunningProcess → Type 0) (o : Option RunningProcess) → IfRuns (λ r. ⊥) o → IfRuns c o
+none_runs : (c : RunningProcess → Type 0) (o : Option RunningProcess) → Runs (λ r. ⊥) o → Runs c o
 none_runs c o h = map_part (λ r. ⊥) c o (λ r k. absurd k) h
 
 pub empty_written : (made : List ProcessProgress) (all : List Writer) (units : List UnitState) → AllUnits IsEmptyUnit units → AllUnits (IsWrittenUnit made all) units
@@ -173,7 +175,7 @@ dropped_waits : (waiting : List Process) → AllP (λ p. ⊥) (Steps.kept_proces
 dropped_waits [] = tt
 dropped_waits (p ∷ waiting) = dropped_waits waiting
 
-dropped_runs : (o : Option RunningProcess) → IfRuns (λ r. ⊥) (Steps.kept_running (λ p. true) o)
+dropped_runs : (o : Option RunningProcess) → Runs (λ r. ⊥) (Steps.kept_running (λ p. true) o)
 dropped_runs None = tt
 dropped_runs (Some r) = tt
 
@@ -212,7 +214,7 @@ may_wait s made all a id none unrun p u own at h = record {
             let is : r.process.id ≡ id = sym (id_is p.id r.process.id k) ∙ (unrun p own).0 in
             wrong (sym k ∙ (λ i. same_id ((unrun p own).0 i) (r.process.id)) ∙ (λ i. same_id (sym is i) r.process.id) ∙ (λ i. same_id r.process.id (is i)) ∙ e)
 
-    by : (o : Option RunningProcess) → Steps.running_if o id ≡ None → IfRuns (λ r. AllP (IsOther r) u.waiting) o → IfRuns (λ r. AllP (IsOther r) (u.waiting ++ p ∷ [])) o
+    by : (o : Option RunningProcess) → Steps.running_if o id ≡ None → Runs (λ r. AllP (IsOther r) u.waiting) o → Runs (λ r. AllP (IsOther r) (u.waiting ++ p ∷ [])) o
     by None z k = tt
     by (Some r) z k = append_all (IsOther r) u.waiting p k (same r (same_id r.process.id id) refl z)
 
@@ -232,7 +234,7 @@ Stands p u = HoldsIt u p ⊎ IsElsewhere u p
 holds_it : (s : ScenarioValue) (u : UnitState) (p : Process) (r : RunningProcess) → IsOwnUnit s u → process_of s p.id ≡ Some p → Steps.running_if u.current p.id ≡ Some r → HoldsIt u p
 holds_it s u p r own is e = go u.current refl e own.current
   where
-    go : (o : Option RunningProcess) → u.current ≡ o → Steps.running_if o p.id ≡ Some r → (let t : ℕ = u.target in let n : ℕ = u.unit in IfRuns (λ x. IsOwn s t n x.process) o) → HoldsIt u p
+    go : (o : Option RunningProcess) → u.current ≡ o → Steps.running_if o p.id ≡ Some r → (let t : ℕ = u.target in let n : ℕ = u.unit in Runs (λ x. IsOwn s t n x.process) o) → HoldsIt u p
     go None z k h = none_some r k
     go (Some x) z k h = by (same_id x.process.id p.id) refl k
       where
@@ -240,7 +242,7 @@ holds_it s u p r own is e = go u.current refl e own.current
         by true f g = record { running = x; current_is = z; process_is = same_Some x.process p (sym h.is ∙ ap (process_of s) (id_is x.process.id p.id f) ∙ is) }
         by false f g = none_some r g
 
-none_at : (units : List UnitState) (p : Process) → unit_state_at units p.target p.unit ≡ None → AllUnits (λ u. IsElsewhere u p) units
+pub none_at : (units : List UnitState) (p : Process) → unit_state_at units p.target p.unit ≡ None → AllUnits (λ u. IsElsewhere u p) units
 none_at [] p e = tt
 none_at (u ∷ units) p e = go (u.target == p.target && u.unit == p.unit) refl e (λ k. none_at units p k)
   where
@@ -248,7 +250,7 @@ none_at (u ∷ units) p e = go (u.target == p.target && u.unit == p.unit) refl e
     go true z k rest = some_none u k
     go false z k rest = (z, rest k)
 
-map_units : (q r : UnitState → Type 0) (units : List UnitState) → ((u : UnitState) → q u → r u) → AllUnits q units → AllUnits r units
+pub map_units : (q r : UnitState → Type 0) (units : List UnitState) → ((u : UnitState) → q u → r u) → AllUnits q units → AllUnits r units
 map_units q r [] f h = tt
 map_units q r (u ∷ units) f h = (f u h.0, map_units q r units f h.1)
 
@@ -256,7 +258,7 @@ map_units q r (u ∷ units) f h = (f u h.0, map_units q r units f h.1)
 own_place : (s : ScenarioValue) (u : UnitState) (p : Process) → IsOwnUnit s u → HoldsIt u p → (u.target ≡ p.target) × (u.unit ≡ p.unit)
 own_place s u p own h = go u.current h.current_is own.current
   where
-    go : (o : Option RunningProcess) → o ≡ Some h.running → (let t : ℕ = u.target in let n : ℕ = u.unit in IfRuns (λ x. IsOwn s t n x.process) o) → (u.target ≡ p.target) × (u.unit ≡ p.unit)
+    go : (o : Option RunningProcess) → o ≡ Some h.running → (let t : ℕ = u.target in let n : ℕ = u.unit in Runs (λ x. IsOwn s t n x.process) o) → (u.target ≡ p.target) × (u.unit ≡ p.unit)
     go None z k = none_some h.running z
     go (Some x) z k =
         let is : x.process ≡ p = ap (λ (y : RunningProcess). y.process) (same_Some x h.running z) ∙ h.process_is in
@@ -298,14 +300,14 @@ stands_each s (u ∷ units) p r own apart is e = by (Steps.running_if u.current 
         gone : (u.target == p.target && u.unit == p.unit) ≡ true → unit_state_at units p.target p.unit ≡ None
         gone f =
             let both = two (u.target == p.target) (u.unit == p.unit) f in
-            (λ i. unit_state_at units (number_is p.target u.target (same_number u.target p.target both.0) i) (number_is p.unit u.unit (same_number u.unit p.unit both.1) i)) ∙ apart.0
+            (λ i. unit_state_at units (eqb-true p.target u.target (same_number u.target p.target both.0) i) (eqb-true p.unit u.unit (same_number u.unit p.unit both.1) i)) ∙ apart.0
           where
             two : (a b : Bool) → (a && b) ≡ true → (a ≡ true) × (b ≡ true)
             two true b z = (refl, z)
             two false b z = wrong' z
 
             same_number : (a b : ℕ) → (a == b) ≡ true → (b == a) ≡ true
-            same_number a b z = (λ i. b == number_is a b z i) ∙ eq_self b
+            same_number a b z = (λ i. b == eqb-true a b z i) ∙ eq_self b
 
     by : (o : Option RunningProcess) → Steps.running_if u.current p.id ≡ o → (if is_some o then o else Steps.running_in units p.id) ≡ Some r → (Steps.running_in units p.id ≡ Some r → AllUnits (Stands p) units) → AllUnits (Stands p) (u ∷ units)
     by None z k rest = later (u.target == p.target && u.unit == p.unit) refl k (rest k)
@@ -340,11 +342,11 @@ moved_unit s made next all more p u is m own (inl held) h =
     same : (x : RunningProcess) → x ≡ held.running → x.process ≡ p
     same x e = ap (λ (y : RunningProcess). y.process) e ∙ held.process_is
 
-    by : (o : Option RunningProcess) → o ≡ Some held.running → IfRuns (λ r. AllP (IsOther r) u.waiting) o → AllP (IsUnrun next) u.waiting
+    by : (o : Option RunningProcess) → o ≡ Some held.running → Runs (λ r. AllP (IsOther r) u.waiting) o → AllP (IsUnrun next) u.waiting
     by None e k = none_some held.running e
     by (Some x) e k = waits_others s made next x u.waiting (λ id f. m.others id (λ z. f (z ∙ ap (λ (y : Process). y.id) (sym (same x (same_Some x held.running e)))))) k h.waits
 
-    now : (o : Option RunningProcess) → o ≡ Some held.running → IfRuns (IsLastWriter made all) o → IfRuns (IsLastWriter next more) o
+    now : (o : Option RunningProcess) → o ≡ Some held.running → Runs (IsLastWriter made all) o → Runs (IsLastWriter next more) o
     now None e k = none_some held.running e
     now (Some x) e k = λ w free some.
         let z = same x (same_Some x held.running e) in
@@ -361,7 +363,7 @@ moved_unit s made next all more p u is m own (inr away) h = record {
   apart = h.apart;
 }
   where
-    now : (o : Option RunningProcess) → (let t : ℕ = u.target in let n : ℕ = u.unit in IfRuns (λ x. IsOwn s t n x.process) o) → IfRuns (IsLastWriter made all) o → IfRuns (IsLastWriter next more) o
+    now : (o : Option RunningProcess) → (let t : ℕ = u.target in let n : ℕ = u.unit in Runs (λ x. IsOwn s t n x.process) o) → Runs (IsLastWriter made all) o → Runs (IsLastWriter next more) o
     now None e k = tt
     now (Some x) e k = λ w free some.
         m.elsewhere x.process.target x.process.unit ((λ i. p.target == e.target_is i && p.unit == e.unit_is i) ∙ turned (p.target) (u.target) (p.unit) (u.unit) away)
@@ -373,7 +375,7 @@ moved_unit s made next all more p u is m own (inr away) h = record {
             go : (f g : Bool) → (a == b) ≡ f → (c == d) ≡ g → (a == b && c == d) ≡ false
             go false g ef eg = λ i. ef i && c == d
             go true false ef eg = (λ i. ef i && c == d) ∙ eg
-            go true true ef eg = wrong (sym ((λ i. b == number_is a b ef i && d == number_is c d eg i) ∙ (λ i. eq_self b i && d == d) ∙ eq_self d) ∙ z)
+            go true true ef eg = wrong (sym ((λ i. b == eqb-true a b ef i && d == eqb-true c d eg i) ∙ (λ i. eq_self b i && d == d) ∙ eq_self d) ∙ z)
 
 pub moved_units : (s : ScenarioValue) (made next : List ProcessProgress) (all more : List Writer) (p : Process) (units : List UnitState) → process_of s p.id ≡ Some p → Moves made next all more p → AllOwnUnits s units → AllUnits (Stands p) units → AllUnits (IsWrittenUnit made all) units → AllUnits (IsWrittenUnit next more) units
 moved_units s made next all more p [] is m own st h = tt
@@ -387,7 +389,7 @@ same_unit s made next all u f own h = record { waits = by u.waiting own.waiting 
     by [] o k = tt
     by (q ∷ waiting) o k = (λ w. f q o.0.is w ∙ k.0 w, by waiting o.1 k.1)
 
-    now : (o : Option RunningProcess) → (let t : ℕ = u.target in let n : ℕ = u.unit in IfRuns (λ x. IsOwn s t n x.process) o) → IfRuns (IsLastWriter made all) o → IfRuns (IsLastWriter next all) o
+    now : (o : Option RunningProcess) → (let t : ℕ = u.target in let n : ℕ = u.unit in Runs (λ x. IsOwn s t n x.process) o) → Runs (IsLastWriter made all) o → Runs (IsLastWriter next all) o
     now None e k = tt
     now (Some x) e k = λ w free some. k w free ((λ i. sym (f x.process e.is w) i == 0) ∙ some)
 
@@ -400,7 +402,7 @@ pub last_writer : (s : ScenarioValue) (made : List ProcessProgress) (all : List 
 last_writer s made all [] p r own is w e free some h = none_some r e
 last_writer s made all (u ∷ units) p r own is w e free some h = by (Steps.running_if u.current p.id) refl e (λ k. last_writer s made all units p r own.1 is w k free some h.1)
   where
-    inner : (o : Option RunningProcess) (x : RunningProcess) → Steps.running_if o p.id ≡ Some x → x.reply ≡ None → (let t : ℕ = u.target in let n : ℕ = u.unit in IfRuns (λ y. IsOwn s t n y.process) o) → IfRuns (IsLastWriter made all) o → writer_of all p.target p.unit ≡ Some p.id
+    inner : (o : Option RunningProcess) (x : RunningProcess) → Steps.running_if o p.id ≡ Some x → x.reply ≡ None → (let t : ℕ = u.target in let n : ℕ = u.unit in Runs (λ y. IsOwn s t n y.process) o) → Runs (IsLastWriter made all) o → writer_of all p.target p.unit ≡ Some p.id
     inner None x z f k g = none_some x z
     inner (Some y) x z f k g = at (same_id y.process.id p.id) refl z
       where

@@ -3,7 +3,7 @@ use Rattle.std.proofs.Common.{ℕ, ◌≡◌, ◌⊎◌, inl, inr, Bool, true, f
 use Rattle.std.specs.Prelude.{if◌then◌else◌, is_some}
 use Rattle.std.proofs.lemmas.Option.{same_Some}
 use Rattle.std.proofs.lemmas.Bool.Decides.{nat_tests}
-use Rattle.std.proofs.lemmas.Bool.{or_right, or_left, and_from}
+use Rattle.std.proofs.lemmas.Bool.{or_right, or_left, and_from, eq-eqb}
 use Rattle.bus_base.specs.declared.ProcId.{ProcId}
 use Rattle.bus_trace.specs.LineSet.{LineSet}
 use Rattle.bus_trace.specs.declared.Row.{Row}
@@ -45,15 +45,15 @@ use Rattle.trace_laws.proofs.Called.{own_units}
 use Rattle.trace_laws.proofs.ConnectionRows.{ConnectionRow, connection_row}
 use Rattle.trace_laws.proofs.Crossings.{RowFacts, stays, ends_here}
 use Rattle.trace_laws.proofs.DoneRuns.{DoneOut, out_done, done_in_data, done_goes}
-use Rattle.trace_laws.proofs.Impossible.{wrong, wrong', none_some}
+use Rattle.trace_laws.proofs.Impossible.{none_some}
 use Rattle.trace_laws.proofs.Joint.{Stood, NextStood}
 use Rattle.trace_laws.proofs.Plans.{Planned, is_directed, writes_of, writes_there}
 use Rattle.trace_laws.proofs.RunRows.{served_id}
-use Rattle.trace_laws.proofs.Tests.{implication}
 use Rattle.trace_laws.proofs.UnderRst.{none_raised}
 use Rattle.trace_laws.proofs.WriteNext.{write_row}
 use Rattle.trace_laws.proofs.WriteRows.{WriteRow, Around, around, out_is, runs_out, in_lines, is_in}
 use Rattle.trace_laws.proofs.WriterUnits.{last_writer}
+use Rattle.bus_base.proofs.Tests.{wrong, wrong', implication}
 
 -- ---- a byte of DATA OUT crosses
 
@@ -112,12 +112,6 @@ moved_all q r w some = go (r.status == GOOD) refl
     go : (x : Bool) → (r.status == GOOD) ≡ x → moved_count q r ≡ length q.sent
     go x e = by x (λ i. if e i then (if w i then length q.sent else length r.bytes) else 0)
 
-same_is : (a b : ℕ) → a ≡ b → (a == b) ≡ true
-same_is a b e = ap (λ (x : ℕ). x == b) e ∙ self b
-  where
-    self : (n : ℕ) → (n == n) ≡ true
-    self n = grind (arith, nat_tests)
-
 task_moves : (s : ScenarioValue) (k : RunState) (q : Process) (t : Task) → process_served s k ≡ Some q → task_of s k ≡ Some t → t.moved ≡ moved_count q (reply_now (array_of s k) q)
 task_moves s k q t e f = ap (λ (o : Option Task). moved_or t o) (sym f ∙ ap (task_if s k) e)
   where
@@ -171,7 +165,7 @@ done_run s p row n c q w whose g ep b done served = by (done_in_data v (bus_of k
         let is = task_moves s k q d.task served d.task_is in
         let all : d.task.moved ≡ length q.sent = is ∙ moved_all q (reply_now (array_of s k) q) (writes_there s k q pd b served phase) (ap (λ (x : ℕ). x == 0) (sym is) ∙ a.moves) in
         ap (is_whole_run s k q) d.task_is
-        ∙ and_from _ _ (and_from _ _ (and_from _ _ (ap not g.calm) (w.asked.sizes q served)) (same_is d.task.moved (length q.sent) all)) a.whole
+        ∙ and_from _ _ (and_from _ _ (and_from _ _ (ap not g.calm) (w.asked.sizes q served)) (eq-eqb d.task.moved (length q.sent) all)) a.whole
 
     reads : phase_of (bus_of k) ≡ phases.DataIn → is_writing q ≡ false
     reads phase = at (is_writing q) refl

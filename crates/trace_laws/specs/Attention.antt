@@ -10,12 +10,13 @@ use Rattle.bus_phases.specs.declared.dialogue.Dialogue.{Dialogue}
 use Rattle.bus_phases.specs.declared.words.End.TheVariants as ends
 use Rattle.bus_phases.specs.Dialogue.{is_of_other}
 use Rattle.bus_lines.specs.Handshakes.{Handshakes}
-use Rattle.trace_laws.specs.Offers.{offer_now, is_asking}
+use Rattle.trace_laws.specs.Offers.{offer_now}
+use Rattle.trace_laws.specs.ItemTalks.{awaits}
 
 -- A row of MESSAGE IN: it changes other lines; or REQ rises, for the first byte or with ATN false; or the initiator answers.
 pub data MessageRow (h : Handshakes) (d : Dialogue) (n : Connection) (c : Change) : Type 0 where
-  keeps : receiver_in n c ≡ None → c.after.atn ≡ c.before.atn → (is_asking c.before ≡ true → is_asking c.after ≡ true) → MessageRow h d n c
-  asks : is_some (receiver_in n c) ≡ true → c.after.atn ≡ c.before.atn → ((h.requests == 0) ≡ true) ⊎ (c.before.atn ≡ false) → is_asking c.after ≡ true → MessageRow h d n c
+  keeps : receiver_in n c ≡ None → c.after.atn ≡ c.before.atn → (awaits c.before ≡ true → awaits c.after ≡ true) → MessageRow h d n c
+  asks : is_some (receiver_in n c) ≡ true → c.after.atn ≡ c.before.atn → ((h.requests == 0) ≡ true) ⊎ (c.before.atn ≡ false) → awaits c.after ≡ true → MessageRow h d n c
   answers : receiver_in n c ≡ None → (h.requests == 0) ≡ false → c.after.atn ≡ ((h.struck || is_of_other (offer_now d) ends.Initiator) || c.before.atn) → MessageRow h d n c
 
 -- As a phase that has begun is left REQ is false, and ATN stays. ATN is true in MESSAGE OUT and in phases to the initiator alone.

@@ -9,13 +9,12 @@ use Rattle.disk_array.specs.Processes.{same_id}
 use Rattle.bus_story.specs.Items.{process, has_item}
 use Rattle.bus_due.specs.RunState.{RunState, bus_of, carried_here}
 use Rattle.bus_due.specs.RunSteps.{run_state}
-use Rattle.trace_laws.specs.DataPointers.{UndoesServed}
+use Rattle.trace_laws.specs.DataPointers.{UndoesServed, is_marked}
 use Rattle.trace_laws.specs.Failures.{IsClear}
-use Rattle.trace_laws.specs.Tells.{has_answer}
 
 -- Of a process that is not over and was not answered.
 pub record StandsClear (k : RunState) (id : ProcId) : Type 0 where
-  pub clear : has_item k.story.sent.over (process id) ≡ false → has_answer (carried_here k id) ≡ false → IsClear (carried_here k id)
+  pub clear : has_item k.story.sent.over (process id) ≡ false → is_marked (carried_here k id) ≡ false → IsClear (carried_here k id)
 
 -- Of all that no connection serves, and under RST of all; in a connection MESSAGE PARITY ERROR brings back no other.
 pub record ClearBooks (k : RunState) : Type 0 where

@@ -1,6 +1,6 @@
--- Where the data pointers of the processes that write stand (6.6.6, 6.6.19, 6.6.20): between connections the saved one at the
--- beginning of the next run; in a connection as the messages that are on their way will set it, and in DATA OUT as far in the run as
--- bytes were answered.
+-- Where the data pointers of processes stand (6.6.6, 6.6.19, 6.6.20): between connections the saved one at the beginning of the next
+-- run; in a connection as the messages that are on their way will set it; in DATA OUT as far in the run as bytes were answered, in DATA IN
+-- as bytes were asked for.
 use Rattle.std.specs.Prelude.{ℕ, ◌+◌, ◌*◌, ◌≡◌, ◌⊎◌, Bool, true, false, ◌||◌, Option, Some, None, ⊤}
 use Rattle.bus_base.specs.declared.ProcId.{ProcId}
 use Rattle.bus_trace.specs.declared.connection.Connection.{Connection}
@@ -39,8 +39,17 @@ use Rattle.bus_due.specs.RunState.{RunState, bus_of, carried_here}
 use Rattle.bus_due.specs.Tasks.{size_of, blocks_in}
 use Rattle.bus_books.specs.Giving.{OnMessages}
 use Rattle.bus_books.specs.Knowing.{IsNoName}
+use Rattle.bus_books.specs.Accounts.{policy_for}
 
 -- ---- the beginning of a run
+
+-- Only reads and writes of blocks are cut into runs by the policy of the target.
+abbrev pub policy_by : Policy → Option ℕ → Policy
+policy_by policy None = policies.Never
+policy_by policy (Some blocks) = policy
+
+abbrev pub run_policy : ScenarioValue → Process → Policy
+run_policy s p = policy_by (policy_for s p) (blocks_in (range_in (command_of p.cdb)))
 
 -- How far a run begins after that before it.
 abbrev pub step_by : Policy → ℕ → ℕ
@@ -52,9 +61,6 @@ step_by (policies.NoSave most) size = 0
 abbrev pub step_in : Policy → Option ℕ → ℕ → ℕ
 step_in policy None size = 0
 step_in policy (Some blocks) size = step_by policy size
-
-abbrev pub policy_for : ScenarioValue → Process → Policy
-policy_for s p = policy_of (target_def_of s p.target)
 
 -- Of a process, by the blocks of its unit.
 abbrev pub run_step : ScenarioValue → Process → ℕ
@@ -136,17 +142,17 @@ pub record IsInRun (policy : Policy) (l : Link) (c : CarriedBytes) (count start 
   pub active : c.moved.active ≡ start + count
   pub saved : c.moved.saved ≡ start
 
--- A process that writes has no DATA IN.
+-- After DATA IN the run comes again.
 abbrev pub PointersAsked : Policy → Link → CarriedBytes → Plan → ℕ → Cause → Type 0
 PointersAsked policy l c p start causes.Selected = IsSettled l c start
 PointersAsked policy l c p start causes.InMessage = PointersRefused policy l c p.messages p.next start
-PointersAsked policy l c p start causes.InData = ⊥
+PointersAsked policy l c p start causes.InData = IsUndisturbed policy l × (c.moved.saved ≡ start)
 PointersAsked policy l c p start causes.InStatus = is_marked c ≡ true
 
 abbrev pub PointersOf : Policy → Link → CarriedBytes → Plan → Handshakes → ℕ → Phase → Type 0
 PointersOf policy l c p h start phases.Command = IsSettled l c start
 PointersOf policy l c p h start phases.DataOut = IsInRun policy l c h.answers start
-PointersOf policy l c p h start phases.DataIn = ⊥
+PointersOf policy l c p h start phases.DataIn = IsInRun policy l c h.requests start
 PointersOf policy l c p h start phases.Status = is_marked c ≡ true
 PointersOf policy l c p h start phases.MessageIn = PointersIn policy l c p.messages p.next h.requests start
 PointersOf policy l c p h start phases.MessageOut = PointersAsked policy l c p start p.cause
@@ -171,9 +177,9 @@ pub record IsUnnamed (policy : Policy) (l : Link) (c : CarriedBytes) (x : Exchan
   pub phase : (phase_of b ≡ phases.MessageIn) ⊎ ((phase_of b ≡ phases.MessageOut) × (x.plan.cause ≡ causes.InMessage))
 
 pub data ServedPointers (s : ScenarioValue) (k : RunState) (q : Process) : Type 0 where
-  unnamed : (l : Link) → k.story.link ≡ Some l → l.item ≡ None → IsUnnamed (policy_for s q) l (carried_here k q.id) k.exchange (bus_of k) (run_start s k q) → ServedPointers s k q
+  unnamed : (l : Link) → k.story.link ≡ Some l → l.item ≡ None → IsUnnamed (run_policy s q) l (carried_here k q.id) k.exchange (bus_of k) (run_start s k q) → ServedPointers s k q
   named : (l : Link) → k.story.link ≡ Some l → l.item ≡ Some (process q.id)
-      → PointersBy (policy_for s q) l (carried_here k q.id) k.exchange k.handshakes (bus_of k) (run_start s k q) → ServedPointers s k q
+      → PointersBy (run_policy s q) l (carried_here k q.id) k.exchange k.handshakes (bus_of k) (run_start s k q) → ServedPointers s k q
 
 -- ---- outside a connection
 

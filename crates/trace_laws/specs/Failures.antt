@@ -25,7 +25,8 @@ use Rattle.bus_dialogue.specs.NextPhase.{phase_of}
 use Rattle.bus_dialogue.specs.Words.{parity_error}
 use Rattle.bus_due.specs.RunState.{RunState, bus_of, carried_here}
 use Rattle.bus_due.specs.RunSteps.{run_state}
-use Rattle.trace_laws.specs.Tells.{has_answer, code_if, is_short, IsLeaving}
+use Rattle.trace_laws.specs.Tells.{code_if, is_short, IsLeaving}
+use Rattle.trace_laws.specs.DataPointers.{is_marked}
 
 -- Nothing has struck it.
 pub record IsClear (c : CarriedBytes) : Type 0 where
@@ -50,20 +51,20 @@ pub data ClearOut (l : Link) (c : CarriedBytes) (m : Messages) (words : List ℕ
 abbrev pub GivesFailure : Link → CarriedBytes → Plan → ℕ → Next → Type 0
 GivesFailure l c p count nexts.Command = ClearIn l c p.messages count
 GivesFailure l c p count nexts.GoOn = ClearIn l c p.messages count
-GivesFailure l c p count nexts.Status = has_answer c ≡ true
-GivesFailure l c p count nexts.FreeBus = (has_answer c ≡ true) ⊎ ClearIn l c p.messages count
+GivesFailure l c p count nexts.Status = is_marked c ≡ true
+GivesFailure l c p count nexts.FreeBus = (is_marked c ≡ true) ⊎ ClearIn l c p.messages count
 
 abbrev pub RefusesFailure : Link → CarriedBytes → Plan → List ℕ → Next → Type 0
 RefusesFailure l c p words nexts.Command = ClearOut l c p.messages words
 RefusesFailure l c p words nexts.GoOn = ClearOut l c p.messages words
-RefusesFailure l c p words nexts.Status = has_answer c ≡ true
-RefusesFailure l c p words nexts.FreeBus = (has_answer c ≡ true) ⊎ ClearOut l c p.messages words
+RefusesFailure l c p words nexts.Status = is_marked c ≡ true
+RefusesFailure l c p words nexts.FreeBus = (is_marked c ≡ true) ⊎ ClearOut l c p.messages words
 
 abbrev pub SaysFailure : Link → CarriedBytes → Plan → List ℕ → Cause → Type 0
 SaysFailure l c p words causes.Selected = IsClear c × UndoesClear l.undo
 SaysFailure l c p words causes.InMessage = RefusesFailure l c p words p.next
 SaysFailure l c p words causes.InData = c.failure ≡ Some INITIATOR_DETECTED_ERROR
-SaysFailure l c p words causes.InStatus = has_answer c ≡ true
+SaysFailure l c p words causes.InStatus = is_marked c ≡ true
 
 -- ---- by the phase
 
@@ -73,7 +74,7 @@ FailsBy l c p words count phases.MessageIn = GivesFailure l c p count p.next
 FailsBy l c p words count phases.Command = (c.struck ≡ p.struck) × (c.failure ≡ code_if p.struck PARITY_ERROR)
 FailsBy l c p words count phases.DataOut = (c.struck ≡ false) × (c.failure ≡ code_if p.struck PARITY_ERROR)
 FailsBy l c p words count phases.DataIn = c.struck ≡ false
-FailsBy l c p words count phases.Status = has_answer c ≡ true
+FailsBy l c p words count phases.Status = is_marked c ≡ true
 
 pub record FailTalk (k : RunState) (l : Link) (c : CarriedBytes) : Type 0 where
   pub unbegun : k.exchange.begun ≡ false → IsClear c × UndoesClear l.undo

@@ -5,7 +5,7 @@ use Rattle.bus_due.specs.LastingState.{ProcessProgress, progress_in}
 use Rattle.bus_due.specs.RunState.{RunState, array_of, bus_of}
 use Rattle.bus_due.specs.RunSteps.{run_state}
 use Rattle.bus_story.specs.CarriedBytes.{CarriedBytes, carried_at}
-use Rattle.bus_story.specs.Items.{Item, Sent, abort, command_item, has_item, is_clash, is_done, is_open, may_send, open_from, process, sense_item}
+use Rattle.bus_story.specs.Items.{Item, Sent, abort, command_item, has_item, is_clash, is_done, is_open, may_send, open_from, process, sense_from, sense_item}
 use Rattle.bus_story.specs.Links.{Link, is_open_sense}
 use Rattle.bus_story.specs.Story.{Story}
 use Rattle.bus_story.specs.TraceHistory.{aim_of, is_host}
@@ -23,11 +23,11 @@ use Rattle.std.specs.List.{list_any}
 use Rattle.trace_laws.specs.ItemTalks.{Talks}
 
 -- What an initiator sends next: an abort, the automatic REQUEST SENSE of a command that ended with CHECK CONDITION, or a command of its own
--- that may be sent beside those that are open. It was neither sent nor given up.
+-- that may be sent beside those that are open, where no REQUEST SENSE is to be sent before it. It was neither sent nor given up.
 pub data IsNext (s : ScenarioValue) (b : Sent) (dev : ℕ) : Item → Type 0 where
   is_abort : (n : ℕ) → is_done b (abort n) ≡ false → IsNext s b dev (abort n)
   is_sense : (n : ℕ) (c : CmdDef) → command_at s.commands n ≡ Some c → c.host ≡ dev → list_any (λ k. k == n) b.checks ≡ true → is_done b (sense_item n) ≡ false → IsNext s b dev (process (record { command = n; sense = true }))
-  is_command : (n time : ℕ) (c : CmdDef) → command_at s.commands n ≡ Some c → c.host ≡ dev → is_done b (command_item n) ≡ false → may_send s time (open_from b dev 1 s.commands) c ≡ true → IsNext s b dev (process (record { command = n; sense = false }))
+  is_command : (n time : ℕ) (c : CmdDef) → command_at s.commands n ≡ Some c → c.host ≡ dev → is_done b (command_item n) ≡ false → may_send s time (open_from b dev 1 s.commands) c ≡ true → sense_from s b dev b.checks ≡ None → IsNext s b dev (process (record { command = n; sense = false }))
 
 -- Two open commands of one initiator that would be confused are one.
 abbrev pub NoClash : ScenarioValue → Sent → Type 0

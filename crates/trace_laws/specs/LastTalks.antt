@@ -25,26 +25,19 @@ use Rattle.bus_due.specs.RunState.{RunState, bus_of}
 use Rattle.bus_due.specs.RunSteps.{run_state}
 use Rattle.bus_books.specs.Giving.{OnMessages}
 use Rattle.trace_laws.specs.Tells.{IsClosing}
+use Rattle.trace_laws.specs.ItemTalks.{frees_bus}
+use Rattle.trace_laws.specs.DataPointers.{IsPlainIn}
 
 -- ---- what is planned in MESSAGE IN
-
-abbrev pub is_freeing : Next → Bool
-is_freeing nexts.FreeBus = true
-is_freeing nexts.Command = false
-is_freeing nexts.Status = false
-is_freeing nexts.GoOn = false
-
-abbrev pub SaysNoEnd : MsgIn → Type 0
-SaysNoEnd m = last_in m ≡ plain
 
 abbrev pub SaysEnd : MsgIn → Type 0
 SaysEnd m = (m ≡ to_initiator.CommandComplete) ⊎ (m ≡ to_initiator.Disconnect)
 
 -- No message tells that the connection ends; or the last of one or two does, after which the bus is freed.
 pub data EndsWell (m : Messages) (next : Next) : Type 0 where
-  stays : is_freeing next ≡ false → OnMessages SaysNoEnd m → EndsWell m next
-  closes : is_freeing next ≡ true → (x : MsgIn) → m ≡ one_message x → SaysEnd x → EndsWell m next
-  saves : is_freeing next ≡ true → m ≡ two_messages to_initiator.SavePointer to_initiator.Disconnect → EndsWell m next
+  stays : frees_bus next ≡ false → OnMessages IsPlainIn m → EndsWell m next
+  closes : frees_bus next ≡ true → (x : MsgIn) → m ≡ one_message x → SaysEnd x → EndsWell m next
+  saves : frees_bus next ≡ true → m ≡ two_messages to_initiator.SavePointer to_initiator.Disconnect → EndsWell m next
 
 -- The last message tells that the command is complete exactly where COMMAND COMPLETE alone is said.
 abbrev pub CompletesBy : Messages → LastMessage → Type 0
@@ -52,10 +45,10 @@ CompletesBy m last = (last ≡ complete → m ≡ one_message to_initiator.Comma
 
 -- So many bytes of them have crossed.
 pub data LastGiven (l : Link) (m : Messages) (next : Next) (count : ℕ) : Type 0 where
-  still_stays : is_freeing next ≡ false → OnMessages SaysNoEnd m → l.last ≡ plain → LastGiven l m next count
-  to_close : is_freeing next ≡ true → (x : MsgIn) → m ≡ one_message x → SaysEnd x → count ≡ 0 → l.last ≡ plain → LastGiven l m next count
-  to_save : is_freeing next ≡ true → m ≡ two_messages to_initiator.SavePointer to_initiator.Disconnect → (count ≡ 0) ⊎ (count ≡ 1) → l.last ≡ plain → LastGiven l m next count
-  closed : is_freeing next ≡ true → EndsWell m next → count ≡ length (bytes_of_messages m) → IsClosing l.last → CompletesBy m l.last → LastGiven l m next count
+  still_stays : frees_bus next ≡ false → OnMessages IsPlainIn m → l.last ≡ plain → LastGiven l m next count
+  to_close : frees_bus next ≡ true → (x : MsgIn) → m ≡ one_message x → SaysEnd x → count ≡ 0 → l.last ≡ plain → LastGiven l m next count
+  to_save : frees_bus next ≡ true → m ≡ two_messages to_initiator.SavePointer to_initiator.Disconnect → (count ≡ 0) ⊎ (count ≡ 1) → l.last ≡ plain → LastGiven l m next count
+  closed : frees_bus next ≡ true → EndsWell m next → count ≡ length (bytes_of_messages m) → IsClosing l.last → CompletesBy m l.last → LastGiven l m next count
 
 -- ---- of a process, by the phase
 

@@ -30,6 +30,7 @@ use Rattle.bus_dialogue.specs.Exchange.{Speech, Exchange, one_message}
 use Rattle.bus_due.specs.RunState.{RunState, bus_of}
 use Rattle.bus_due.specs.RunSteps.{run_state}
 use Rattle.bus_books.specs.Giving.{OnMessages}
+use Rattle.trace_laws.specs.ItemTalks.{awaits}
 
 -- ---- what a target plans to say
 
@@ -93,10 +94,6 @@ pub data IsHeardOut (x : Exchange) (d : Dialogue) : Type 0 where
 
 -- ---- in a connection
 
--- REQ is true, and the initiator has not answered it.
-abbrev pub is_asking : LineSet → Bool
-is_asking b = b.req && not b.ack
-
 -- In MESSAGE IN the initiator raises ATN where a byte was struck, or a request of the target is open, as it answers the byte.
 pub record OffersBy (x : Exchange) (d : Dialogue) (h : Handshakes) (b : LineSet) : Type 0 where
   pub unbegun : x.begun ≡ false → (offer_now d ≡ None) × (d.heard.void ≡ None)
@@ -104,7 +101,7 @@ pub record OffersBy (x : Exchange) (d : Dialogue) (h : Handshakes) (b : LineSet)
   pub out : x.begun ≡ true → is_message_out b ≡ true → IsHeardOut x d
   pub into : x.begun ≡ true → is_message_in b ≡ true → IsHeardIn x.plan.messages x.plan.next d h.requests
   pub why : x.begun ≡ true → is_message_in b ≡ true → b.atn ≡ true → ((h.requests == 0) ≡ false) × ((h.struck ≡ true) ⊎ (offer_now d ≡ Some ends.Target))
-  pub asks : x.begun ≡ true → is_message_in b ≡ true → offer_now d ≡ Some ends.Target → (b.atn ≡ true) ⊎ (is_asking b ≡ true)
+  pub asks : x.begun ≡ true → is_message_in b ≡ true → offer_now d ≡ Some ends.Target → (b.atn ≡ true) ⊎ (awaits b ≡ true)
 
 abbrev pub Offers : RunState → Type 0
 Offers k = OffersBy k.exchange k.story.bus_state.dialogue k.handshakes (bus_of k)

@@ -1,16 +1,16 @@
 -- Where the process that a target serves stands in the plain disk array, by the phase of its connection; and where the others stand
 -- (6.1.5, 6.6.6, 7.5, 7.8).
 use Rattle.std.specs.Prelude.{◌≡◌, ◌⊎◌, ◌≤◌, Bool, true, false, not, ◌||◌, ◌==◌, List, [], ◌∷◌, Option, Some, None, is_some, ⊤}
+use Rattle.std.specs.List.{list_any}
 use Rattle.bus_base.specs.declared.ProcId.{ProcId}
 use Rattle.cdb_codec.specs.Cdb.{command_of}
-use Rattle.msg_grammar.specs.declared.message.MsgIn.{MsgIn}
 use Rattle.msg_grammar.specs.declared.message.MsgIn.TheVariants as to_initiator
 use Rattle.bus_lines.specs.Handshakes.{Handshakes}
 use Rattle.disk_array.specs.ArrayHistory.{reply_in}
 use Rattle.disk_array.specs.Execution.{Reply, is_request_sense}
 use Rattle.disk_array.specs.Processes.{Process, process_of, same_id}
 use Rattle.disk_array.specs.SoundArray.{IsSound}
-use Rattle.disk_array.specs.Steps.{process_count, running_process, has_ended}
+use Rattle.disk_array.specs.Steps.{process_count, running_if, running_process, has_ended}
 use Rattle.disk_array.specs.Units.{RunningProcess, UnitState, Array, unit_state_at, guest_at, is_held}
 use Rattle.bus_dialogue.specs.declared.exchange.Cause.{Cause}
 use Rattle.bus_dialogue.specs.declared.exchange.Cause.TheVariants as causes
@@ -29,6 +29,7 @@ use Rattle.bus_story.specs.Items.{process, has_item}
 use Rattle.bus_due.specs.RunState.{RunState, bus_of, process_served}
 use Rattle.bus_due.specs.RunSteps.{run_state}
 use Rattle.bus_books.specs.Accounts.{is_served_by}
+use Rattle.trace_laws.specs.ItemTalks.{is_complete_in}
 
 -- ---- of each process that waits, that runs, and that is outside the queues
 
@@ -99,16 +100,19 @@ pub record IsAnswered (a : Array) (id : ProcId) : Type 0 where
 
 -- ---- the queue of a unit
 
+-- A process waits at this unit, or is the current one.
+abbrev pub is_in_queue : UnitState → ProcId → Bool
+is_in_queue u id = list_any (λ (p : Process). same_id p.id id) u.waiting || is_some (running_if u.current id)
+
+abbrev pub is_queued : List UnitState → ProcId → Bool
+is_queued units id = list_any (λ (u : UnitState). is_in_queue u id) units
+
 -- No unit has more processes, waiting or current, than its depth (7.8.1).
 abbrev pub AreWithin : List UnitState → Type 0
 AreWithin [] = ⊤
 AreWithin (u ∷ units) = (process_count u ≤ u.depth) × AreWithin units
 
 -- ---- of the process that is served
-
-abbrev pub is_complete_in : Option MsgIn → Bool
-is_complete_in (Some to_initiator.CommandComplete) = true
-is_complete_in _ = false
 
 -- None of them is COMMAND COMPLETE.
 pub record TellNoEnd (m : Messages) : Type 0 where
@@ -123,10 +127,10 @@ pub record AnsweredOpen (a : Array) (id : ProcId) : Type 0 where
   pub answered : IsAnswered a id
   pub open_is : has_ended a id ≡ false
 
--- It will be disconnected, or has ended once its initiator takes COMMAND COMPLETE (6.6.5, 6.6.6).
+-- It will be disconnected, and stands in a queue, or has ended once its initiator takes COMMAND COMPLETE (6.6.5, 6.6.6).
 pub data Closes (a : Array) (p : Process) (m : Messages) : Type 0 where
   completes : m ≡ one_message to_initiator.CommandComplete → AnsweredOpen a p.id → Closes a p m
-  disconnects : TellNoEnd m → IsAtRest a p.id → has_ended a p.id ≡ false → Closes a p m
+  disconnects : TellNoEnd m → IsAtRest a p.id → has_ended a p.id ≡ false → is_queued a.units p.id ≡ true → Closes a p m
 
 -- Where these messages are said, and this follows.
 abbrev pub PlacedBefore : Array → Process → Messages → Next → Type 0

@@ -10,8 +10,9 @@ use Rattle.bus_dialogue.specs.DataRuns.{runs_in}
 use Rattle.bus_due.specs.LastingState.{progress_in}
 use Rattle.bus_due.specs.RunState.{array_of}
 use Rattle.bus_due.specs.RunSteps.{run_state}
-use Rattle.bus_due.specs.Tasks.{blocks_in, is_writing}
-use Rattle.trace_laws.specs.DataPointers.{policy_for}
+use Rattle.bus_due.specs.Tasks.{blocks_in}
+use Rattle.bus_books.specs.Accounts.{policy_for}
+use Rattle.trace_laws.specs.RunFacts.{IsWriter}
 
 -- In how many runs its data are moved, if any are.
 abbrev pub run_total : ScenarioValue → Process → ℕ
@@ -21,7 +22,11 @@ run_total s p = runs_in (policy_for s p) (blocks_in (range_in (command_of p.cdb)
 abbrev pub HasRunLeft : ℕ → ℕ → Type 0
 HasRunLeft total made = (made ≡ 0) ⊎ (made < total)
 
-abbrev pub RunsLeft : ScenarioValue → List Row → Type 0
-RunsLeft s rows =
-    (p : Process) → process_of s p.id ≡ Some p → is_writing p ≡ true → reply_in (array_of s (run_state s rows)).replies p.id ≡ None
+-- So those of this kind.
+abbrev pub RunsLeftOf : (Process → Type 0) → ScenarioValue → List Row → Type 0
+RunsLeftOf kind s rows =
+    (p : Process) → process_of s p.id ≡ Some p → kind p → reply_in (array_of s (run_state s rows)).replies p.id ≡ None
     → HasRunLeft (run_total s p) (progress_in (run_state s rows).progress p.id).runs
+
+abbrev pub RunsLeft : ScenarioValue → List Row → Type 0
+RunsLeft s rows = RunsLeftOf IsWriter s rows

@@ -33,16 +33,13 @@ use Rattle.msg_grammar.specs.declared.message.MsgOut.{MsgOut}
 use Rattle.bus_story.specs.TraceHistory.{is_parity_error}
 use Rattle.msg_grammar.specs.declared.message.MsgIn.{MsgIn}
 use Rattle.msg_grammar.specs.declared.message.MsgIn.TheVariants as to_initiator
+use Rattle.trace_laws.specs.DataPointers.{is_marked}
 
 -- ---- replies
 
--- It was refused, or its first STATUS phase has come.
-abbrev pub has_answer : CarriedBytes → Bool
-has_answer c = c.shown || c.refused
-
 -- The plain disk array has a reply of a process exactly where the rows have shown one.
 abbrev pub AreRepliesShown : ScenarioValue → RunState → Type 0
-AreRepliesShown s k = (id : ProcId) → is_some (reply_in (array_of s k).replies id) ≡ has_answer (carried_here k id)
+AreRepliesShown s k = (id : ProcId) → is_some (reply_in (array_of s k).replies id) ≡ is_marked (carried_here k id)
 
 -- ---- the code of a failure, as the present phase is left
 
@@ -56,7 +53,7 @@ FailsAsked c _ = ⊤
 
 abbrev pub FailsBefore : CarriedBytes → Next → Type 0
 FailsBefore c nexts.GoOn = c.failure ≡ None
-FailsBefore c nexts.Status = has_answer c ≡ true
+FailsBefore c nexts.Status = is_marked c ≡ true
 FailsBefore c _ = ⊤
 
 -- A struck byte of COMMAND and DATA OUT is known to the target; one of DATA IN to the initiator, which raises ATN (6.6.10).
@@ -116,7 +113,7 @@ TellsAsLeft s rows row = (n : Connection) → IsLeaving s rows row n → Tells s
 abbrev pub UndoesAnswers : RunState → Row → Type 0
 UndoesAnswers k row =
     (l : Link) (m : MsgOut) (u : CarriedBytes) → k.story.link ≡ Some l → (row_reading k.story.bus_state row).out ≡ Some m → is_parity_error m ≡ true → l.undo ≡ Some u
-    → has_answer u ≡ has_answer (carried_here k u.id)
+    → is_marked u ≡ is_marked (carried_here k u.id)
 
 -- ---- what is still asked of a row
 
@@ -129,7 +126,7 @@ FailsAsLeft s rows row =
 -- ---- where MESSAGE PARITY ERROR may come, what it brings back has the answer that the process has
 
 abbrev pub UndoFits : RunState → Type 0
-UndoFits k = (l : Link) (u : CarriedBytes) → k.story.link ≡ Some l → l.undo ≡ Some u → has_answer u ≡ has_answer (carried_here k u.id)
+UndoFits k = (l : Link) (u : CarriedBytes) → k.story.link ≡ Some l → l.undo ≡ Some u → is_marked u ≡ is_marked (carried_here k u.id)
 
 -- After COMMAND the first message is one of one byte, with which nothing older can be brought back.
 abbrev pub is_short : Option MsgIn → Bool

@@ -26,16 +26,13 @@ use Rattle.scsi_device.specs.Heard.{instructions}
 use Rattle.scsi_device.specs.Writes.{Writer, writer_of, writers, is_of_size}
 use Rattle.trace_laws.specs.HeardPlaces.{ArePlaced}
 use Rattle.trace_laws.specs.ItemFacts.{AllP}
+use Rattle.trace_laws.specs.Places.{Runs}
 
 -- ---- of each unit
 
 abbrev pub AllUnits : (UnitState → Type 0) → List UnitState → Type 0
 AllUnits q [] = ⊤
 AllUnits q (u ∷ units) = q u × AllUnits q units
-
-abbrev pub IfRuns : (RunningProcess → Type 0) → Option RunningProcess → Type 0
-IfRuns q None = ⊤
-IfRuns q (Some r) = q r
 
 -- A process that writes has made no run.
 abbrev pub IsUnrun : List ProcessProgress → Process → Type 0
@@ -52,12 +49,12 @@ IsOther r p = same_id p.id r.process.id ≡ false
 -- Those that wait have made no run, and are others than the current one.
 pub record IsWrittenUnit (made : List ProcessProgress) (all : List Writer) (u : UnitState) : Type 0 where
   pub waits : AllP (IsUnrun made) u.waiting
-  pub current : IfRuns (IsLastWriter made all) u.current
-  pub apart : IfRuns (λ r. AllP (IsOther r) u.waiting) u.current
+  pub current : Runs (IsLastWriter made all) u.current
+  pub apart : Runs (λ r. AllP (IsOther r) u.waiting) u.current
 
 -- No process stands there.
 abbrev pub IsEmptyUnit : UnitState → Type 0
-IsEmptyUnit u = AllP (λ p. ⊥) u.waiting × IfRuns (λ r. ⊥) u.current
+IsEmptyUnit u = AllP (λ p. ⊥) u.waiting × Runs (λ r. ⊥) u.current
 
 -- ---- of all that is kept
 

@@ -1,6 +1,6 @@
 // Laws of prompt traces, each named by the contract of a function that does nothing.
 
-ghost use Rattle.std.specs.Prelude.{ℕ, ◌≡◌, ◌<◌, ◌≤◌, ◌^◌, true, List, ◌∷◌, length, Some};
+ghost use Rattle.std.specs.Prelude.{ℕ, ◌≡◌, ◌<◌, ◌≤◌, true, List, ◌∷◌, Some};
 ghost use Rattle.bus_base.specs.declared.Event.TheVariants as events;
 ghost use Rattle.bus_trace.specs.declared.Row.{Row};
 ghost use Rattle.bus_trace.specs.declared.connection.Connection.{Connection};
@@ -27,13 +27,12 @@ ghost use Rattle.trace_laws.specs.RowAttendance.{IsAttended};
 
 use ending_causes::limits_are_passed;
 
-/// A prompt trace of fewer than 2^64 rows, whatever connections, faults and resets it has, obeys every rule of the bus
+/// A prompt trace, whatever connections, faults and resets it has and however long it is, obeys every rule of the bus
 /// (`lawful`), and nothing that is due after it lies in the past (`ahead`).
 pub fn prompt_traces_are_lawful()
-    ensures lawful { (s : ScenarioValue) (rows : List Row) → Obeys s → IsPrompt s rows → length rows < 2 ^ 64
-        → AreLawful rows }
-    ensures ahead { (s : ScenarioValue) (rows : List Row) → Obeys s → IsPrompt s rows → length rows < 2 ^ 64
-        → (dev : ℕ) → dev < 8 → (x : Due) → due s rows dev ≡ Some x → last_time rows ≤ x.time }
+    ensures lawful { (s : ScenarioValue) (rows : List Row) → Obeys s → IsPrompt s rows → AreLawful rows }
+    ensures ahead { (s : ScenarioValue) (rows : List Row) → Obeys s → IsPrompt s rows → (dev : ℕ) → dev < 8
+        → (x : Due) → due s rows dev ≡ Some x → last_time rows ≤ x.time }
 {}
 
 /// Each row of such a trace is of one of the five kinds of which the books are kept (`rows`): what an end drives it
@@ -42,12 +41,9 @@ pub fn prompt_traces_are_lawful()
 /// crosses is what was to be said (`faithful`). That what the ends of a connection are due to give are bytes holds
 /// after any rows of the eight devices (`bytes`).
 pub fn prompt_traces_keep_the_books()
-    ensures rows { (s : ScenarioValue) (rows : List Row) → Obeys s → IsPrompt s rows → length rows < 2 ^ 64
-        → AreRowsOf s rows }
-    ensures books { (s : ScenarioValue) (rows : List Row) → Obeys s → IsPrompt s rows → length rows < 2 ^ 64
-        → Books s (run_state s rows) }
-    ensures faithful { (s : ScenarioValue) (rows : List Row) → Obeys s → IsPrompt s rows → length rows < 2 ^ 64
-        → faithful s rows ≡ true }
+    ensures rows { (s : ScenarioValue) (rows : List Row) → Obeys s → IsPrompt s rows → AreRowsOf s rows }
+    ensures books { (s : ScenarioValue) (rows : List Row) → Obeys s → IsPrompt s rows → Books s (run_state s rows) }
+    ensures faithful { (s : ScenarioValue) (rows : List Row) → Obeys s → IsPrompt s rows → faithful s rows ≡ true }
     ensures bytes { (s : ScenarioValue) (rows : List Row) (n : Connection) → Obeys s → AreOfDevices rows
         → HasByteValues s (run_state s rows) n }
 {}
@@ -58,25 +54,19 @@ pub fn prompt_traces_keep_the_books()
 /// order, and a write that runs and would end GOOD has come whole (`written`); and the events of a row in a connection
 /// are of that process, or of an abort that came in it (`attended`).
 pub fn ends_know_what_rows_tell()
-    ensures telling { (s : ScenarioValue) (rows : List Row) → Obeys s → IsPrompt s rows → length rows < 2 ^ 64
-        → telling s rows ≡ true }
-    ensures allowed { (s : ScenarioValue) (rows : List Row) → Obeys s → IsPrompt s rows → length rows < 2 ^ 64
-        → allowed s rows ≡ true }
-    ensures heard { (s : ScenarioValue) (rows : List Row) → Obeys s → IsPrompt s rows → length rows < 2 ^ 64
-        → heard s rows ≡ true }
-    ensures written { (s : ScenarioValue) (rows : List Row) → Obeys s → IsPrompt s rows → length rows < 2 ^ 64
-        → written s rows ≡ true }
+    ensures telling { (s : ScenarioValue) (rows : List Row) → Obeys s → IsPrompt s rows → telling s rows ≡ true }
+    ensures allowed { (s : ScenarioValue) (rows : List Row) → Obeys s → IsPrompt s rows → allowed s rows ≡ true }
+    ensures heard { (s : ScenarioValue) (rows : List Row) → Obeys s → IsPrompt s rows → heard s rows ≡ true }
+    ensures written { (s : ScenarioValue) (rows : List Row) → Obeys s → IsPrompt s rows → written s rows ≡ true }
     ensures attended { (s : ScenarioValue) (rows : List Row) (row : Row) → Obeys s → IsPrompt s (row ∷ rows)
-        → length (row ∷ rows) < 2 ^ 64 → IsAttended s rows row }
+        → IsAttended s rows row }
 {}
 
 /// The two ends of a connection are an initiator and a target of the scenario (`ends`), and a target goes to BUS FREE
 /// only where it is due to (`left`).
 pub fn connections_are_of_the_scenario()
-    ensures ends { (s : ScenarioValue) (rows : List Row) → Obeys s → IsPrompt s rows → length rows < 2 ^ 64
-        → AreEnds s rows }
-    ensures left { (s : ScenarioValue) (rows : List Row) → Obeys s → IsPrompt s rows → length rows < 2 ^ 64
-        → left_as_due s rows ≡ true }
+    ensures ends { (s : ScenarioValue) (rows : List Row) → Obeys s → IsPrompt s rows → AreEnds s rows }
+    ensures left { (s : ScenarioValue) (rows : List Row) → Obeys s → IsPrompt s rows → left_as_due s rows ≡ true }
 {}
 
 /// So a command fails with the sense of ABORTED COMMAND (`failures`), or is lost (`losses`), only where more fault rows
@@ -84,14 +74,12 @@ pub fn connections_are_of_the_scenario()
 /// which a byte was struck (`complains`).
 pub fn limits_are_kept()
     ensures failures { (s : ScenarioValue) (rows : List Row) (p : Process) (code : ℕ) → Obeys s → IsPrompt s rows
-        → length rows < 2 ^ 64 → process_of s p.id ≡ Some p
-        → has_event (run_state s rows).story.history (events.Fail p.id code) ≡ true
+        → process_of s p.id ≡ Some p → has_event (run_state s rows).story.history (events.Fail p.id code) ≡ true
         → has_more_faults s rows p ≡ true }
     ensures losses { (s : ScenarioValue) (rows : List Row) (p : Process) → Obeys s → IsPrompt s rows
-        → length rows < 2 ^ 64 → process_of s p.id ≡ Some p
-        → has_event (run_state s rows).story.history (events.Lost p.id) ≡ true
+        → process_of s p.id ≡ Some p → has_event (run_state s rows).story.history (events.Lost p.id) ≡ true
         → has_more_faults s rows p ≡ true }
-    ensures complains { (s : ScenarioValue) (rows : List Row) → Obeys s → IsPrompt s rows → length rows < 2 ^ 64
+    ensures complains { (s : ScenarioValue) (rows : List Row) → Obeys s → IsPrompt s rows
         → complains_truly s rows ≡ true }
 {
     limits_are_passed();

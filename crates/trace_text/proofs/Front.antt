@@ -69,7 +69,7 @@ count_bytes bytes r h = rw h.state (omega (arith, count_below (cut_of bytes).lin
 
 -- ---- a byte more
 
-abbrev reader : List ℕ → State → TraceReader
+abbrev pub reader : List ℕ → State → TraceReader
 reader line state = record { line = line; state = state }
 
 feed_is : (r : TraceReader) (text : List ℕ) (p : State × Told) (bytes : List ℕ) → IsReaderOf bytes r → length bytes < TRACE_LIMIT → text ≡ r.line → (count_of r.state + 1 < 2 ^ 32 → p ≡ stepped r.state text) → p ≡ stepped (state_of (cut_of bytes).lines) (cut_of bytes).rest

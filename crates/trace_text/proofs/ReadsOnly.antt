@@ -25,6 +25,7 @@ use Rattle.trace_text.specs.Lines.{below, value_of, kind_at, row_at, end_at, is_
 use Rattle.trace_text.specs.Bytes.{Cut, cut_of, quiet, told_next, told_at, end_told, end_of, rows_next, rows_of}
 use Rattle.trace_text.specs.Whole.{with_rows, trace_of, Answers}
 use Rattle.trace_text.proofs.Short.{below_is}
+use Rattle.bus_base.proofs.Tests.{all_append}
 
 -- ---- rows
 
@@ -141,10 +142,6 @@ end_fits (states.Open (stages.Ended t) count) [] end h e = let same : t ≡ end 
 end_fits (states.Open (stages.Ended t) count) (b ∷ rest) end h e = absurd cc
 
 -- ---- whole texts
-
-all_append : {A : Type 0} (P : A → Type 0) (xs ys : List A) → AllByRecursion P xs → AllByRecursion P ys → AllByRecursion P (xs ++ ys)
-all_append P [] ys h g = g
-all_append P (x ∷ xs) ys h g = (h.0, all_append P xs ys h.1 g)
 
 all_reverse : {A : Type 0} (P : A → Type 0) (xs : List A) → AllByRecursion P xs → AllByRecursion P (reverse xs)
 all_reverse P [] h = tt

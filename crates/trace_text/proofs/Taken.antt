@@ -13,7 +13,7 @@ use Rattle.trace_text.specs.declared.reader.TraceReader.{TraceReader}
 use Rattle.trace_text.specs.Lines.{row_or_end, row_at, end_at, moved, stepped, count_of, state_of}
 use Rattle.trace_text.specs.Pieces.{is_inner, text_of, line_len}
 use Rattle.trace_text.specs.Bytes.{Cut, cut_of, quiet, told_of, rows_next, rows_of, IsReaderOf, IsRowTaken}
-use Rattle.trace_text.proofs.Front.{stepped_front, count_bytes}
+use Rattle.trace_text.proofs.Front.{stepped_front, count_bytes, reader}
 use Rattle.trace_text.proofs.Pieces.{cut_text, cut_line, told_line, told_part, rows_told}
 
 -- the front of a line says as much as the line, however it is put together
@@ -25,9 +25,6 @@ front_more line text =
           let len : length (take 28 line) ≡ 28 = omega (arith, length-take 28 line) in
           take-append-le 28 (take 28 line) text (omega arith) ∙ (take_all 28 (take 28 line) (omega arith) ∙ sym (take-append-le 28 line text le))
     ]
-
-abbrev reader : List ℕ → State → TraceReader
-reader line state = record { line = line; state = state }
 
 -- the state and what is told after a line of which these bytes are the last
 abbrev pub EndsLine : TraceReader → List ℕ → State × Told → Type 0

@@ -13,14 +13,9 @@ use Rattle.bus_transcript.specs.declared.item.Item.TheVariants as items
 use Rattle.bus_transcript.specs.declared.part.Part.TheVariants as parts_of
 use Rattle.bus_transcript.specs.declared.process.Process.{Process}
 use Rattle.bus_transcript.specs.Accounts.{AccountValue, with_item, with_block, with_cdb, is_whole, arrived, restored, account_after}
-use Rattle.bus_books.proofs.Lookups.{number_is}
 use Rattle.transcript_laws.specs.Told.{first_byte, IsAccountOf}
-
-wrong : {A : Type 0} → true ≡ false → A
-wrong e = absurd cc
-
-wrong' : {A : Type 0} → false ≡ true → A
-wrong' e = absurd cc
+use Rattle.std.proofs.lemmas.Bool.{eqb-true}
+use Rattle.bus_base.proofs.Tests.{wrong, wrong', and_false, nothing_below, next_some}
 
 -- ---- what changes nothing of it
 
@@ -67,10 +62,6 @@ out_step a m = item_same a (items.Out m)
 pub broken_step : (a : AccountValue) → IsSame a (account_after a parts_of.BrokenOff)
 broken_step a = self_same a a refl
 
-and_false : (q : Bool) → (q && false) ≡ false
-and_false true = refl
-and_false false = refl
-
 zero_is : (n : ℕ) → n ≡ 0 → (n == 0) ≡ true
 zero_is n e = λ i. e i == 0
 
@@ -107,7 +98,7 @@ cdb_same : (a : AccountValue) (bytes : List ℕ) → IsSame a (with_cdb a bytes)
 cdb_same a [] = self_same a a refl
 cdb_same a (b ∷ bytes) = item_same a (items.Cdb (b ∷ bytes))
 
-same_on : (a b c : AccountValue) → IsSame a b → IsSame b c → IsSame a c
+pub same_on : (a b c : AccountValue) → IsSame a b → IsSame b c → IsSame a c
 same_on a b c x y = record {
   block = y.block ∙ x.block;
   struck = y.struck ∙ x.struck;
@@ -180,14 +171,8 @@ refused_step a c h =
 
 -- ---- a byte of STATUS
 
-more : (n : ℕ) → (n + 1 == 0) ≡ false
-more n = grind (arith, nat_tests)
-
-below_none : (n : ℕ) → nat_lt n 0 ≡ false
-below_none n = grind (arith, nat_tests)
-
 new_bytes : (n byte : ℕ) → bytes_with [] n byte ≡ byte ∷ []
-new_bytes n byte = ap (λ (q : Bool). if q then slice_set [] n byte else byte ∷ []) (below_none n)
+new_bytes n byte = ap (λ (q : Bool). if q then slice_set [] n byte else byte ∷ []) (nothing_below n)
 
 set_first : (x byte : ℕ) (xs : List ℕ) → first_byte (bytes_with (x ∷ xs) 0 byte) ≡ Some byte
 set_first x byte xs = here (nat_lt 0 (length (x ∷ xs))) (grind (arith, nat_tests))
@@ -223,7 +208,7 @@ some_bytes (x ∷ xs) n byte = filled x byte xs n
 status_by : (p : Process) (q : Bool) (active byte : ℕ) (bytes : List ℕ) → q ≡ (active == 0) → p.status ≡ first_byte bytes → (is_nil bytes && not (active == 0)) ≡ false → (if q then record p { status = Some byte } else p).status ≡ first_byte (bytes_with bytes active byte)
 status_by p true active byte [] e z b = ap first_byte (sym (new_bytes active byte))
 status_by p true active byte (x ∷ xs) e z b =
-    sym (ap (λ (n : ℕ). first_byte (bytes_with (x ∷ xs) n byte)) (number_is active 0 (sym e)) ∙ set_first x byte xs)
+    sym (ap (λ (n : ℕ). first_byte (bytes_with (x ∷ xs) n byte)) (eqb-true active 0 (sym e)) ∙ set_first x byte xs)
 status_by p false active byte [] e z b = wrong (ap (λ (r : Bool). not r) e ∙ b)
 status_by p false active byte (x ∷ xs) e z b = z ∙ sym (set_other x byte xs active (sym e))
 
@@ -236,7 +221,7 @@ pub status_step : (a : AccountValue) (c : CarriedBytes) (byte : ℕ) → IsAccou
 status_step a c byte h = record {
   block = h.block;
   struck = h.struck;
-  first = sym (more c.status.active);
+  first = sym (next_some c.status.active);
   saved = h.saved;
   status = status_by a.process a.status_first c.status.active byte c.status.bytes h.first h.status h.begun;
   begun = ap (λ (q : Bool). q && not (c.status.active + 1 == 0)) (some_bytes c.status.bytes c.status.active byte);

@@ -13,6 +13,7 @@ use Rattle.bus_transcript.specs.declared.part.Part.TheVariants as parts_of
 use Rattle.bus_transcript.specs.declared.process.Process.{Process}
 use Rattle.bus_transcript.specs.Accounts.{AccountValue, account_of, with_item, with_block, with_cdb, is_whole, arrived, after_in, account_after, account_after_all}
 use Rattle.bus_transcript.specs.Rows.{account_parts}
+use Rattle.bus_transcript.proofs.Inside.{status_name}
 
 pub all_after : (a : AccountValue) (xs ys : List Part) → account_after_all a (xs ++ ys) ≡ account_after_all (account_after_all a xs) ys
 all_after a [] ys = refl
@@ -24,7 +25,7 @@ named_if : (q : Bool) (a b : AccountValue) (n : Name) → a.process.name ≡ n �
 named_if true a b n x y = x
 named_if false a b n x y = y
 
-cdb_name : (a : AccountValue) (bytes : List ℕ) → (with_cdb a bytes).process.name ≡ a.process.name
+pub cdb_name : (a : AccountValue) (bytes : List ℕ) → (with_cdb a bytes).process.name ≡ a.process.name
 cdb_name a [] = refl
 cdb_name a (b ∷ bytes) = refl
 
@@ -37,10 +38,6 @@ in_name a (to_initiator.Identify lun) = refl
 in_name a (to_initiator.SimpleTag tag) = refl
 in_name a (to_initiator.Sdtr offer) = refl
 in_name a to_initiator.Reject = refl
-
-status_name : (q : Bool) (p : Process) (byte : ℕ) → (if q then record p { status = Some byte } else p).name ≡ p.name
-status_name true p byte = refl
-status_name false p byte = refl
 
 part_name : (a : AccountValue) (part : Part) → (account_after a part).process.name ≡ a.process.name
 part_name a (parts_of.Out m) = refl

@@ -11,21 +11,13 @@ use Rattle.bus_transcript.specs.declared.item.Name.{Name}
 use Rattle.bus_transcript.specs.Events.{same_name, name_sent}
 use Rattle.transcript_laws.specs.Numbered.{OnNames, AreOther, AreDistinct}
 use Rattle.transcript_laws.proofs.LastProcesses.{nexus_turned}
-
-wrong : {A : Type 0} → true ≡ false → A
-wrong e = absurd cc
-
-wrong' : {A : Type 0} → false ≡ true → A
-wrong' e = absurd cc
+use Rattle.bus_base.proofs.Tests.{wrong, wrong', eq_turned}
 
 none_some : {A : Type 0} (p : Name) → (let a : Option Name = None in a) ≡ Some p → A
 none_some p e = absurd cc
 
-turned : (a b : ℕ) → (a == b) ≡ (b == a)
-turned a b = grind (arith, nat_tests)
-
 name_turned : (a b : Name) → same_name a b ≡ same_name b a
-name_turned a b = λ i. nexus_turned a b i && turned a.number b.number i
+name_turned a b = λ i. nexus_turned a b i && eq_turned a.number b.number i
 
 on_sent : (q : Name → Type 0) (sent : List Item) (names : List Name) (x : ProcId) (a : Name) → OnNames q names → name_sent sent names x ≡ Some a → q a
 on_sent q [] names x a h e = none_some a e

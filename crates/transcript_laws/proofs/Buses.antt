@@ -1,15 +1,11 @@
 -- The bus of a transcript is that of the story, but for the agreements.
 use Rattle.std.proofs.Common.{ℕ, ◌≡◌, ◌∙◌, Bool, true, false, List, [], ◌∷◌, ◌++◌, Option, Some, None, refl, sym, ap}
 use Rattle.std.specs.Prelude.{◌%◌, not, is_some, slice_set, if◌then◌else◌}
-use Rattle.bus_trace.specs.View.{driven_at, union_all}
-use Rattle.bus_trace.specs.Trace.{driven_after}
-use Rattle.bus_trace.specs.Changes.{falls}
 use Rattle.bus_trace.specs.Phases.{is_command, is_message_out, is_message_in, changes_phase}
 use Rattle.bus_trace.specs.Terms.{call_after, connection_after, receiver_of}
 use Rattle.bus_trace.specs.declared.agreements.Agreement.{Agreement}
 use Rattle.bus_trace.specs.declared.changes.Change.{Change}
 use Rattle.bus_trace.specs.declared.connection.Connection.{Connection}
-use Rattle.bus_trace.specs.declared.rows.Kind.{Kind}
 use Rattle.bus_trace.specs.declared.rows.Row.{Row}
 use Rattle.msg_grammar.specs.Messages.{got_out, got_in}
 use Rattle.bus_phases.specs.declared.dialogue.Dialogue.{Dialogue}
@@ -20,42 +16,10 @@ use Rattle.bus_story.specs.BusState.{BusState, RowReading, change_by, row_readin
 use Rattle.bus_story.specs.PairAgreements.{agreement_in}
 use Rattle.bus_story.specs.Story.{Story}
 use Rattle.bus_story.specs.TraceHistory.{story}
-use Rattle.bus_transcript.specs.declared.part.Part.{Part}
-use Rattle.bus_transcript.specs.declared.summary.Summary.{Summary}
-use Rattle.bus_transcript.specs.Opened.{OpenedValue}
-use Rattle.bus_transcript.specs.Rows.{TranscriberValue, with_items, unanswered_items, closed_by, closed_if, under_reset, in_connection, on_bus, by_change, transcribed}
+use Rattle.bus_transcript.specs.Rows.{TranscriberValue, by_change, transcribed}
+use Rattle.bus_transcript.proofs.Resets.{change_same, row_bus}
 
 -- ---- a row leaves it as it is, until the row is over
-
-closed_bus : (t : TranscriberValue) (n : Connection) (parts : List Part) (free : Bool) (s : Summary) → (closed_by t n parts free s).bus_state ≡ t.bus_state
-unfolding closed_by
-closed_bus t n parts free s = refl
-
-if_bus : (t : TranscriberValue) (k : Option OpenedValue) (d : RowReading) (free : Bool) → (closed_if t k d free).bus_state ≡ t.bus_state
-if_bus t None d free = refl
-if_bus t (Some k) d free = closed_bus t _ _ free _
-
-free_bus : (q : Bool) (t : TranscriberValue) (time : ℕ) → (if q then with_items t (unanswered_items t.bus_state.call time) else t).bus_state ≡ t.bus_state
-free_bus true t time = refl
-free_bus false t time = refl
-
-in_bus : (t : TranscriberValue) (k : Option OpenedValue) (d : RowReading) (kind : Kind) → (in_connection t k d kind).bus_state ≡ t.bus_state
-in_bus t None d kind = refl
-in_bus t (Some k) d kind = refl
-
-on_bus_bus : (t : TranscriberValue) (before after : Option Connection) (d : RowReading) (row : Row) → (on_bus t before after d row).bus_state ≡ t.bus_state
-on_bus_bus t None None d row = free_bus (falls d.change.before.sel d.change.after.sel) t row.time
-on_bus_bus t None (Some n) d row = refl
-on_bus_bus t (Some m) None d row = if_bus t t.opened d true
-on_bus_bus t (Some m) (Some n) d row = in_bus t t.opened d row.kind
-
-by_rst : (q : Bool) (t : TranscriberValue) (d : RowReading) (row : Row) → (if q then under_reset t d row else on_bus t t.bus_state.connection d.next d row).bus_state ≡ t.bus_state
-by_rst true t d row = if_bus t t.opened d false
-by_rst false t d row = on_bus_bus t t.bus_state.connection d.next d row
-
-pub row_bus : (t : TranscriberValue) (d : RowReading) (row : Row) → (by_change t d row).bus_state ≡ t.bus_state
-unfolding by_change
-row_bus t d row = by_rst d.change.after.rst t d row
 
 -- ---- what is heard half
 
@@ -109,14 +73,6 @@ pub record IsAlike (w v : BusState) : Type 0 where
 heard : (w v : BusState) → IsAlike w v → HearAlike w.dialogue v.dialogue
 heard w v h = record { half = h.half; fresh = h.fresh; is_last = h.is_last }
 
-change_same : (w v : BusState) (row : Row) → IsAlike w v → change_by w row ≡ change_by v row
-change_same w v row h = λ i. record {
-  before = h.bus i;
-  after = union_all (slice_set (h.driven i) row.dev (driven_after row.kind (driven_at (h.driven i) row.dev)));
-  own = driven_at (h.driven i) row.dev;
-  next = driven_after row.kind (driven_at (h.driven i) row.dev);
-}
-
 out_same : (d e : Dialogue) (c : Change) (q : Bool) → HearAlike d e → message_out d c q ≡ message_out e c q
 out_same d e c true h = λ i. if is_message_out c.before then whole_out (got_out (fresh_same d e h i ++ c.after.data_bits % 256 ∷ [])) else None
 out_same d e c false h = refl
@@ -128,7 +84,7 @@ in_same d e c false h = refl
 -- What a row does is the same on both.
 pub reading_same : (w v : BusState) (row : Row) → IsAlike w v → row_reading w row ≡ row_reading v row
 reading_same w v row h =
-    let c = change_same w v row h in
+    let c = change_same w v row (record { driven = h.driven; bus = h.bus }) in
     let e : Change = change_by v row in
     let q : Bool = is_some (receiver_of v.connection e) in
     (λ i. record {

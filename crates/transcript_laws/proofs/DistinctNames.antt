@@ -25,7 +25,7 @@ use Rattle.transcript_laws.proofs.StandingPast.{standing_items}
 
 -- ---- with the connection that stands
 
-zero_number : (o : Option Process) (name : Name) → (process_after false true o name).name.number ≡ 0
+pub zero_number : (o : Option Process) (name : Name) → (process_after false true o name).name.number ≡ 0
 zero_number None name = refl
 zero_number (Some p) name = refl
 

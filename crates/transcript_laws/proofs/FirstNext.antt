@@ -8,6 +8,7 @@ use Rattle.bus_trace.specs.declared.changes.Change.{Change}
 use Rattle.bus_trace.specs.declared.connection.Connection.{Connection}
 use Rattle.bus_trace.specs.declared.rows.Row.{Row}
 use Rattle.scenario.specs.Value.{ScenarioValue}
+use Rattle.disk_array.specs.Processes as array_of
 use Rattle.disk_array.specs.Processes.{same_id}
 use Rattle.bus_story.specs.BusState.{RowReading, row_reading, bus_state_after}
 use Rattle.bus_story.specs.CarriedBytes.{CarriedBytes, nothing_carried, carried_at, carried_or_nothing, carried_of, with_carried, with_restored_pointers, is_status_phase}
@@ -16,25 +17,23 @@ use Rattle.bus_story.specs.Links.{link_of}
 use Rattle.bus_story.specs.Story.{Story}
 use Rattle.bus_story.specs.TraceHistory.{aim_of, story_with_history, story}
 use Rattle.bus_books.proofs.Lookups.{carried_id, put_there, put_own, id_is, self_id}
+use Rattle.trace_laws.proofs.Impossible.{none_some}
 use Rattle.bus_transcript.specs.declared.process.Process.{Process}
 use Rattle.bus_transcript.specs.Events.{names_begun}
 use Rattle.bus_transcript.specs.Opened.{opened_connection}
+use Rattle.bus_transcript.specs.Processes.{same_nexus}
 use Rattle.bus_transcript.specs.Rows.{TranscriberValue, with_bus, by_change, transcribed}
 use Rattle.transcript_laws.specs.Keeping.{IsKept}
 use Rattle.transcript_laws.specs.Numbered.{AreNumbered}
+use Rattle.transcript_laws.specs.Parts.{are_talk, base_parts, nexus_of, is_known}
 use Rattle.transcript_laws.specs.Serving.{IsServing}
-use Rattle.transcript_laws.specs.Standing.{sent_order, StandsApart, again, first, of_abort, of_none, of_process, anew, StandsBy, linked, Standing}
+use Rattle.transcript_laws.specs.Standing.{sent_order, StandsApart, again, first, of_abort, of_none, of_process, anew, IsAlone, StandsBy, linked, Standing}
 use Rattle.transcript_laws.specs.Told.{IsKeptOf, IsMarked}
 use Rattle.transcript_laws.proofs.Buses.{reading_same, buses_alike}
 use Rattle.transcript_laws.proofs.FirstRows.{first_story, again_story, sent_story, first_crosses, first_change}
 use Rattle.transcript_laws.proofs.SentNames.{has_reverse}
 use Rattle.transcript_laws.proofs.TalkServes.{talk_serves}
-
-none_some : {A T : Type 0} (x : T) → (let a : Option T = None in a) ≡ Some x → A
-none_some x e = absurd cc
-
-wrong : {A : Type 0} → true ≡ false → A
-wrong e = absurd cc
+use Rattle.bus_base.proofs.Tests.{wrong}
 
 -- What is asked of the row.
 pub record Begins (s : ScenarioValue) (rows : List Row) (row : Row) (n : Connection) : Type 0 where
@@ -76,6 +75,7 @@ again_next s rows row n re g numbered marked h = record {
     bytes = λ e. refl;
     said = λ e. refl;
     crossed = λ c e. no_crossing s rows row n g c e;
+    undone = λ u e f. none_some u e;
   })));
 }
   where
@@ -105,10 +105,11 @@ abort_next s rows row n j began aim fresh g numbered marked h = record {
     history_is = refl;
     past = h.past;
     begun = first (abort j) began refl (reverse-append (abort j ∷ []) b.sent.sent) (has_reverse b.sent.sent (abort j) ∙ fresh);
-    stage = of_abort j refl refl refl (λ id o but. h.kept id o but);
+    stage = of_abort j began refl refl refl refl (λ id o but. h.kept id o but);
     bytes = λ e. refl;
     said = λ e. refl;
     crossed = λ c e. no_crossing s rows row n g c e;
+    undone = λ u e f. none_some u e;
   })));
 }
   where
@@ -136,10 +137,10 @@ begun_marked : (b : Story) (id x : ProcId) → ((y : ProcId) → IsMarked b.hist
 begun_marked b id x marked = subst (λ (c : CarriedBytes). IsMarked b.history c) (sym (put_there b.carried (begun_carried b id) x)) (go (same_id (carried_of b.carried id).id x))
   where
     go : (q : Bool) → IsMarked b.history (if q then begun_carried b id else carried_of b.carried x)
-    go true = record { refused = (marked id).refused; shown = (marked id).shown }
+    go true = record { refused = (marked id).refused; shown = (marked id).shown; apart = (marked id).apart; saved = (marked id).saved }
     go false = marked x
 
-not_same : (x id : ProcId) → same_id x id ≡ false → same_id id x ≡ false
+pub not_same : (x id : ProcId) → same_id x id ≡ false → same_id id x ≡ false
 not_same x id e = go (same_id id x) refl
   where
     go : (q : Bool) → same_id id x ≡ q → q ≡ false
@@ -151,8 +152,8 @@ begun_other b id x e =
     put_there b.carried (begun_carried b id) x
     ∙ ap (λ (q : Bool). if q then begun_carried b id else carried_of b.carried x) (ap (λ (y : ProcId). same_id y x) (carried_id b.carried id) ∙ not_same x id e)
 
-pub process_next : (s : ScenarioValue) (rows : List Row) (row : Row) (n : Connection) (id : ProcId) → n.reselected ≡ false → aim_of (story s rows).aims n.initiator ≡ Some (process id) → has_item (story s rows).sent.sent (process id) ≡ false → carried_at (story s rows).carried id ≡ None → Begins s rows row n → AreNumbered (transcribed rows).processes (names_begun (transcribed rows).items) → ((x : ProcId) → IsMarked (story s rows).history (carried_of (story s rows).carried x)) → StandsApart s (transcribed rows) (story s rows) → Standing s (row ∷ rows)
-process_next s rows row n id began aim fresh none g numbered marked h = record {
+pub process_next : (s : ScenarioValue) (rows : List Row) (row : Row) (n : Connection) (id : ProcId) → n.reselected ≡ false → aim_of (story s rows).aims n.initiator ≡ Some (process id) → has_item (story s rows).sent.sent (process id) ≡ false → carried_at (story s rows).carried id ≡ None → IsAlone s (story s rows) id → Begins s rows row n → AreNumbered (transcribed rows).processes (names_begun (transcribed rows).items) → ((x : ProcId) → IsMarked (story s rows).history (carried_of (story s rows).carried x)) → StandsApart s (transcribed rows) (story s rows) → Standing s (row ∷ rows)
+process_next s rows row n id began aim fresh none alone g numbered marked h = record {
   numbered = subst (λ (x : TranscriberValue). AreNumbered x.processes (names_begun x.items)) (sym (change_is s rows row n g)) numbered;
   marked = λ x. subst (λ (y : Story). IsMarked y.history (carried_of y.carried x)) (sym story_is) (begun_marked b id x marked);
   stands = subst (λ (x : TranscriberValue). StandsBy s (with_bus x row (row_reading (transcribed rows).bus_state row)) (story s (row ∷ rows))) (sym (change_is s rows row n g)) (subst (λ (x : Story). StandsBy s (with_bus (record (transcribed rows) { opened = Some (opened_connection n) }) row (row_reading (transcribed rows).bus_state row)) x) (sym story_is) (linked (record {
@@ -167,10 +168,11 @@ process_next s rows row n id began aim fresh none g numbered marked h = record {
     history_is = refl;
     past = h.past;
     begun = first (process id) began refl (reverse-append (process id ∷ []) b.sent.sent) (has_reverse b.sent.sent (process id) ∙ fresh);
-    stage = of_process id (nothing_carried id) false None refl (λ u e. none_some u e) refl serving tt (λ e. refl) (anew began refl refl) kept;
+    stage = of_process id (nothing_carried id) false None refl (λ u e. none_some u e) refl known serving tt (λ e. refl) (anew began refl refl alone') kept;
     bytes = λ e. refl;
     said = λ e. refl;
     crossed = λ c e. no_crossing s rows row n g c e;
+    undone = λ u e f. none_some u e;
   })));
 }
   where
@@ -179,6 +181,12 @@ process_next s rows row n id began aim fresh none g numbered marked h = record {
 
     serving : IsServing (opened_connection n) (is_command (row_reading (story s rows).bus_state row).change.after) id (carried_of (with_carried (story s rows).carried (begun_carried (story s rows) id)) id) (nothing_carried id) [] (story s rows).history false None
     serving = subst (λ (q : Bool). IsServing (opened_connection n) q id (carried_of (with_carried (story s rows).carried (begun_carried (story s rows) id)) id) (nothing_carried id) [] (story s rows).history false None) (sym g.no_command) (subst (λ (c : CarriedBytes). IsServing (opened_connection n) false id c (nothing_carried id) [] (story s rows).history false None) (sym (begun_own (story s rows) id none)) (talk_serves (opened_connection n) id (with_restored_pointers (nothing_carried id)) (nothing_carried id) (story s rows).history nothing_known refl (record { block = refl; struck = refl; active = refl; saved = refl }) (record { status = refl; shown = λ e. refl }) (record { block = refl; struck = refl; active = refl; saved = refl }) (record { status = refl; shown = λ e. refl })))
+
+    known : is_known (opened_connection n) (row_reading (story s rows).bus_state row).change.after ≡ true
+    known = ap (λ (q : Bool). not q || not (are_talk (base_parts (opened_connection n))) || is_command (row_reading (story s rows).bus_state row).change.after) began
+
+    alone' : (x : ProcId) (d e : array_of.Process) → (has_item (process id ∷ (story s rows).sent.sent) (process x) && not (has_item (story s rows).sent.over (process x))) ≡ true → same_id x id ≡ false → array_of.process_of s id ≡ Some d → array_of.process_of s x ≡ Some e → same_nexus (nexus_of d) (nexus_of e) ≡ false
+    alone' x d e o but = alone x d e (sym (ap (λ (q : Bool). (q || has_item (story s rows).sent.sent (process x)) && not (has_item (story s rows).sent.over (process x))) (not_same x id but)) ∙ o) but
 
     kept : (x : ProcId) → (has_item (process id ∷ (story s rows).sent.sent) (process x) && not (has_item (story s rows).sent.over (process x))) ≡ true → same_id x id ≡ false → IsKept s (transcribed rows).processes (sent_order (story s rows)) (names_begun (transcribed rows).items) (with_carried (story s rows).carried (begun_carried (story s rows) id)) x
     kept x o but =

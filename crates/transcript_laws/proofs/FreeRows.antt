@@ -36,9 +36,7 @@ use Rattle.transcript_laws.specs.Told.{IsKeptOf, IsMarked}
 use Rattle.transcript_laws.proofs.Buses.{reading_same, buses_alike}
 use Rattle.transcript_laws.proofs.OtherConnections.{IsOpenly, unanswered_openly, openly_past}
 use Rattle.transcript_laws.proofs.PastEvents.{names_append}
-
-wrong : {A : Type 0} → true ≡ false → A
-wrong e = absurd cc
+use Rattle.bus_base.proofs.Tests.{wrong}
 
 -- ---- the story
 

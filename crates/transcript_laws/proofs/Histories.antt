@@ -1,7 +1,7 @@
 -- Where all connections show their events, the transcript has the events of the history.
 use Rattle.std.proofs.Common.{ℕ, ◌≡◌, ◌∙◌, Bool, true, false, ◌&&◌, ◌||◌, List, [], ◌∷◌, ◌++◌, reverse, Option, Some, None, refl, sym, ap}
 use Rattle.std.specs.List.{flat_map, list_any}
-use Rattle.std.proofs.lemmas.Bool.{eq-eqb}
+use Rattle.std.proofs.lemmas.Bool.{eq-eqb, or_right, and_from}
 use Rattle.std.proofs.lemmas.List.{reverse-append}
 use Rattle.bus_base.specs.declared.Event.{Event}
 use Rattle.bus_base.specs.declared.Event.TheVariants as events
@@ -17,9 +17,9 @@ use Rattle.bus_transcript.specs.Events.{same_name, names_begun, name_sent, named
 use Rattle.bus_transcript.specs.Rows.{transcript_of}
 use Rattle.transcript_laws.specs.Told.{is_refusal, has_refusal, is_listed}
 use Rattle.transcript_laws.specs.Past.{IsPast, AreApart}
-
-wrong' : {A : Type 0} → false ≡ true → A
-wrong' e = absurd cc
+use Rattle.bus_base.proofs.Tests.{wrong'}
+use Rattle.bus_transcript.proofs.Inside.{number_same, name_same}
+use Rattle.transcript_laws.proofs.SentNames.{or_turned}
 
 -- ---- lists
 
@@ -31,12 +31,6 @@ any_append t (x ∷ xs) ys = ap (λ (q : Bool). t x || q) (any_append t xs ys) �
     in_turn true b c = refl
     in_turn false b c = refl
 
-or_turned : (a b : Bool) → (a || (b || false)) ≡ (b || a)
-or_turned true true = refl
-or_turned true false = refl
-or_turned false true = refl
-or_turned false false = refl
-
 any_reverse : (t : Event → Bool) (xs : List Event) → list_any t (reverse xs) ≡ list_any t xs
 any_reverse t [] = refl
 any_reverse t (x ∷ xs) =
@@ -44,21 +38,6 @@ any_reverse t (x ∷ xs) =
     ∙ any_append t (reverse xs) (x ∷ [])
     ∙ ap (λ (q : Bool). q || (t x || false)) (any_reverse t xs)
     ∙ or_turned (list_any t xs) (t x)
-
-number_same : (a : Option ℕ) → same_number a a ≡ true
-number_same None = refl
-number_same (Some n) = eq-eqb n n refl
-
-both : (p q : Bool) → p ≡ true → q ≡ true → (p && q) ≡ true
-both p q a b = λ i. a i && b i
-
-pub name_same : (n : Name) → same_name n n ≡ true
-name_same n =
-    both _ _ (both _ _ (both _ _ (eq-eqb n.initiator n.initiator refl) (eq-eqb n.target n.target refl)) (both _ _ (number_same n.unit) (number_same n.tag))) (eq-eqb n.number n.number refl)
-
-or_true : (p q : Bool) → q ≡ true → (p || q) ≡ true
-or_true true q e = refl
-or_true false q e = e
 
 -- ---- the names that are refused
 
@@ -80,7 +59,7 @@ listed sent names (event ∷ list) id name e named =
   where
     go : (q : Bool) → is_refusal id event ≡ q → (q || has_refusal list id) ≡ true → (has_refusal list id ≡ true → is_listed (flat_map (λ x. refused_name sent names x) list) name ≡ true) → (is_listed (refused_name sent names event) name || is_listed (flat_map (λ x. refused_name sent names x) list) name) ≡ true
     go true f z rest = ap (λ (q : Bool). q || is_listed (flat_map (λ x. refused_name sent names x) list) name) (one_listed sent names event id name f named)
-    go false f z rest = or_true (is_listed (refused_name sent names event) name) (is_listed (flat_map (λ x. refused_name sent names x) list) name) (rest z)
+    go false f z rest = or_right (is_listed (refused_name sent names event) name) (is_listed (flat_map (λ x. refused_name sent names x) list) name) (rest z)
 
 -- Of a refused process no name is this one.
 abbrev IsOther : List told.Item → List Name → List Event → Name → Type 0
@@ -108,7 +87,7 @@ unlisted : (sent : List told.Item) (names : List Name) (list : List Event) (name
 unlisted sent names [] name other = refl
 unlisted sent names (event ∷ list) name other =
     any_append (λ n. same_name n name) (refused_name sent names event) (flat_map (λ x. refused_name sent names x) list)
-    ∙ (λ i. one_unlisted sent names event name (λ x a e named. other x a (or_left (is_refusal x event) (has_refusal list x) e) named) i || unlisted sent names list name (λ x a e named. other x a (or_true (is_refusal x event) (has_refusal list x) e) named) i)
+    ∙ (λ i. one_unlisted sent names event name (λ x a e named. other x a (or_left (is_refusal x event) (has_refusal list x) e) named) i || unlisted sent names list name (λ x a e named. other x a (or_right (is_refusal x event) (has_refusal list x) e) named) i)
 
 -- ---- the history
 

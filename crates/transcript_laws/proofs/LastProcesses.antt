@@ -1,32 +1,29 @@
 -- The process that was put last is the last of its nexus, and those of the others are as before.
-use Rattle.std.proofs.Common.{ℕ, ◌≡◌, ◌∙◌, Bool, true, false, List, [], ◌∷◌, Option, Some, None, refl, sym, ap, arith}
+use Rattle.std.proofs.Common.{ℕ, ◌≡◌, ◌∙◌, Bool, true, false, List, [], ◌∷◌, Option, Some, None, refl, sym, ap}
 use Rattle.std.specs.Prelude.{◌&&◌, ◌==◌, if◌then◌else◌}
 use Rattle.std.specs.Map.{lookup}
 use Rattle.std.specs.BTreeMap.{is_at, insert_entry}
 use Rattle.std.specs.Ordering.{is_eq, match_ordering}
 use Rattle.std.specs.declared.cmp.Ordering.{Ordering}
 use Rattle.std.specs.declared.cmp.Ordering.TheVariants.{Less, Equal, Greater}
-use Rattle.std.proofs.lemmas.Bool.Decides.{nat_tests}
 use Rattle.bus_story.specs.Links.{same_number}
-use Rattle.bus_books.proofs.Lookups.{number_is}
 use Rattle.bus_transcript.specs.declared.item.Name.{Name}
 use Rattle.bus_transcript.specs.declared.process.Process.{Process}
 use Rattle.bus_transcript.specs.Keys.{Key, key_of, key_cmp}
 use Rattle.bus_transcript.specs.Processes.{process_of, with_last, same_nexus, IsLast}
 use Rattle.bus_transcript.proofs.Nexuses.{by_key}
-
-wrong' : {A : Type 0} → false ≡ true → A
-wrong' e = absurd cc
+use Rattle.std.proofs.lemmas.Bool.{eqb-true}
+use Rattle.bus_base.proofs.Tests.{wrong', eq_turned}
 
 -- ---- keys that are the same
 
-and_parts : (p q : Bool) → (p && q) ≡ true → (p ≡ true) × (q ≡ true)
+pub and_parts : (p q : Bool) → (p && q) ≡ true → (p ≡ true) × (q ≡ true)
 and_parts true q e = (refl, e)
 and_parts false q e = wrong' e
 
-optional_is : (a b : Option ℕ) → same_number a b ≡ true → a ≡ b
+pub optional_is : (a b : Option ℕ) → same_number a b ≡ true → a ≡ b
 optional_is None None e = refl
-optional_is (Some x) (Some y) e = ap (λ (n : ℕ). Some n) (number_is x y e)
+optional_is (Some x) (Some y) e = ap (λ (n : ℕ). Some n) (eqb-true x y e)
 optional_is None (Some y) e = wrong' e
 optional_is (Some x) None e = wrong' e
 
@@ -39,7 +36,7 @@ nexus_is a b e =
     let both = and_parts (a.initiator == b.initiator && a.target == b.target) (same_number a.unit b.unit && same_number a.tag b.tag) e in
     let ends = and_parts (a.initiator == b.initiator) (a.target == b.target) both.0 in
     let rest = and_parts (same_number a.unit b.unit) (same_number a.tag b.tag) both.1 in
-    λ i. ((number_is a.initiator b.initiator ends.0 i, number_is a.target b.target ends.1 i), (optional_is a.unit b.unit rest.0 i, optional_is a.tag b.tag rest.1 i))
+    λ i. ((eqb-true a.initiator b.initiator ends.0 i, eqb-true a.target b.target ends.1 i), (optional_is a.unit b.unit rest.0 i, optional_is a.tag b.tag rest.1 i))
 
 -- A test that finds one key.
 abbrev finds : Key → Key → Bool
@@ -78,18 +75,15 @@ put_last name (e ∷ es) k p = go (key_cmp k e.0) refl (put_last name es k p)
         later (finds (key_of name)) e.0 k p e.1 es (insert_entry key_cmp es k p)
         (λ x y. wrong' (sym (ap is_eq f) ∙ ap (λ (z : Key). finds z e.0) (sym (found_is (key_of name) k y)) ∙ x)) rest
 
-turned : (a b : ℕ) → (a == b) ≡ (b == a)
-turned a b = grind (arith, nat_tests)
-
 numbers_turned : (a b : Option ℕ) → same_number a b ≡ same_number b a
 numbers_turned None None = refl
-numbers_turned (Some x) (Some y) = turned x y
+numbers_turned (Some x) (Some y) = eq_turned x y
 numbers_turned None (Some y) = refl
 numbers_turned (Some x) None = refl
 
 pub nexus_turned : (a b : Name) → same_nexus a b ≡ same_nexus b a
 nexus_turned a b =
-    λ i. (turned a.initiator b.initiator i && turned a.target b.target i) && (numbers_turned a.unit b.unit i && numbers_turned a.tag b.tag i)
+    λ i. (eq_turned a.initiator b.initiator i && eq_turned a.target b.target i) && (numbers_turned a.unit b.unit i && numbers_turned a.tag b.tag i)
 
 pub is_last : (last : List (Key × Process)) (p : Process) → IsLast last (with_last last p) p
 is_last last p = λ name. put_last name last (key_of p.name) p ∙ ap (λ (q : Bool). if q then Some p else process_of last name) (by_key name p.name ∙ nexus_turned name p.name)

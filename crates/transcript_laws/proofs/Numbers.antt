@@ -1,11 +1,10 @@
 -- Each connection more of an initiator has a name of its own.
 use Rattle.std.proofs.Common.{ℕ, ◌≡◌, ◌∙◌, ◌+◌, ◌<◌, ◌≤◌, ◌==◌, Bool, true, false, not, ◌&&◌, List, [], ◌∷◌, ◌++◌, length, Option, Some, None, refl, sym, ap, arith, subst}
 use Rattle.std.specs.Prelude.{if◌then◌else◌}
-use Rattle.std.proofs.lemmas.Bool.{eq-eqb}
+use Rattle.std.proofs.lemmas.Bool.{eq-eqb, and_from}
 use Rattle.std.proofs.lemmas.Bool.Decides.{nat_tests}
 use Rattle.std.proofs.lemmas.List.{length-append}
 use Rattle.std.proofs.lemmas.Option.{same_Some}
-use Rattle.bus_story.specs.Links.{same_number}
 use Rattle.bus_transcript.specs.declared.item.Name.{Name}
 use Rattle.bus_transcript.specs.declared.process.Process.{Process}
 use Rattle.bus_transcript.specs.Events.{same_name}
@@ -14,14 +13,10 @@ use Rattle.bus_transcript.specs.Numbers.{next_number}
 use Rattle.bus_transcript.specs.Processes.{process_of, with_last, same_nexus, process_after}
 use Rattle.transcript_laws.specs.Numbered.{OnNames, AreOther, AreDistinct, HasLast, AreNumbered}
 use Rattle.transcript_laws.proofs.LastProcesses.{is_last, nexus_is, nexus_turned}
+use Rattle.bus_base.proofs.Tests.{wrong}
+use Rattle.bus_transcript.proofs.Inside.{number_same}
 
-wrong : {A : Type 0} → true ≡ false → A
-wrong e = absurd cc
-
-wrong' : {A : Type 0} → false ≡ true → A
-wrong' e = absurd cc
-
-none_some : {A : Type 0} (p : Process) → (let a : Option Process = None in a) ≡ Some p → A
+pub none_some : {A : Type 0} (p : Process) → (let a : Option Process = None in a) ≡ Some p → A
 none_some p e = absurd cc
 
 -- ---- numbers
@@ -48,19 +43,12 @@ distinct_more (n ∷ names) name h x = (on_more (λ m. AreOther n m) names name 
 pub same_process : (last : List (Key × Process)) (a b : Name) → same_nexus a b ≡ true → process_of last a ≡ process_of last b
 same_process last a b e = ap (λ (k : Key). process_of last (record { initiator = (k.0).0; target = (k.0).1; unit = (k.1).0; tag = (k.1).1; number = 0 })) (nexus_is a b e)
 
-both : (p q : Bool) → p ≡ true → q ≡ true → (p && q) ≡ true
-both p q a b = λ i. a i && b i
-
-number_same : (a : Option ℕ) → same_number a a ≡ true
-number_same None = refl
-number_same (Some n) = eq-eqb n n refl
-
 pub nexus_self : (n : Name) → same_nexus n n ≡ true
 nexus_self n =
-    both _ _ (both _ _ (eq-eqb n.initiator n.initiator refl) (eq-eqb n.target n.target refl)) (both _ _ (number_same n.unit) (number_same n.tag))
+    and_from _ _ (and_from _ _ (eq-eqb n.initiator n.initiator refl) (eq-eqb n.target n.target refl)) (and_from _ _ (number_same n.unit) (number_same n.tag))
 
 -- The process of another name of the nexus.
-process_at : (last : List (Key × Process)) (a b m : Name) → same_nexus a b ≡ true → same_nexus a m ≡ true → process_of last m ≡ process_of last b
+pub process_at : (last : List (Key × Process)) (a b m : Name) → same_nexus a b ≡ true → same_nexus a m ≡ true → process_of last m ≡ process_of last b
 process_at last a b m e f = sym (same_process last a m f) ∙ same_process last a b e
 
 -- ---- the name of a connection more

@@ -1,26 +1,30 @@
 -- What shows no event of a process: a connection whose process is not known yet, that of an abort, RST, and items that are no events.
-use Rattle.std.proofs.Common.{ℕ, ◌≡◌, ◌∙◌, Bool, true, false, List, [], ◌∷◌, ◌++◌, length, reverse, refl, sym, ap, subst}
+use Rattle.std.proofs.Common.{ℕ, ◌≡◌, ◌∙◌, Bool, true, false, List, [], ◌∷◌, ◌++◌, length, reverse, None, refl, sym, ap, subst}
 use Rattle.std.specs.Prelude.{if◌then◌else◌}
 use Rattle.std.proofs.lemmas.List.{append-nil}
 use Rattle.bus_base.specs.declared.Event.{Event}
 use Rattle.bus_base.specs.declared.Event.TheVariants as events
+use Rattle.bus_base.specs.declared.ProcId.{ProcId}
 use Rattle.bus_trace.specs.declared.connection.Connection.{Connection}
 use Rattle.bus_story.specs.Items as told
+use Rattle.trace_laws.proofs.Impossible.{none_some}
 use Rattle.bus_transcript.specs.declared.item.Item.{Item}
 use Rattle.bus_transcript.specs.declared.item.Item.TheVariants as items
 use Rattle.bus_transcript.specs.declared.item.Name.{Name}
 use Rattle.bus_transcript.specs.declared.part.Part.{Part}
 use Rattle.bus_transcript.specs.declared.process.Process.{Process}
 use Rattle.bus_transcript.specs.declared.summary.Summary.{Summary}
-use Rattle.bus_transcript.specs.Accounts.{account_of}
-use Rattle.bus_transcript.specs.Events.{names_begun, named_events}
-use Rattle.transcript_laws.specs.Parts.{are_talk}
+use Rattle.bus_transcript.specs.Events.{names_begun, name_sent, named_events}
 use Rattle.transcript_laws.specs.Told.{shown_items}
 use Rattle.transcript_laws.specs.Past.{AreEventsSent, IsPast}
 use Rattle.transcript_laws.proofs.Closings.{account_by, leaving_items, connection_items}
 use Rattle.transcript_laws.proofs.OwnConnections.{connection_names}
 use Rattle.transcript_laws.proofs.PastEvents.{shown_append, past_more}
-use Rattle.transcript_laws.proofs.ShownParts.{talk_more}
+
+-- That of an abort is the name of no process.
+abort_named : (j : ℕ) (names : List Name) (id : ProcId) → name_sent (told.abort j ∷ []) names id ≡ None
+abort_named j [] id = refl
+abort_named j (n ∷ names) id = refl
 
 -- ---- items of no process
 
@@ -44,29 +48,31 @@ openly_past list new sent conn history h known past =
     subst (λ (xs : List told.Item). IsPast (list ++ new) xs (conn ++ history)) (append-nil sent) (past_more list new sent [] conn history past (record {
       count = ap length h.names;
       known = subst (λ (xs : List told.Item). AreEventsSent xs conn) (sym (append-nil sent)) known;
+      numbers = λ id name e. none_some name e;
       shown = λ refused r. h.shown refused (sent ++ []) (names_begun list ++ names_begun new);
     }))
 
--- ---- a connection of messages alone
+-- ---- a connection with no events of its own
 
-talk_shown : (refused : List Name) (n : Connection) (p : Process) (parts : List Part) (free : Bool) (s : Summary) → are_talk parts ≡ true → shown_items refused (connection_items n p parts free s) ≡ shown_items refused (leaving_items free p.name s)
-talk_shown refused n p parts free s talk =
-    shown_append refused (account_by p parts).items (leaving_items free p.name s)
-    ∙ ap (λ (xs : List Item). xs ++ shown_items refused (leaving_items free p.name s)) (talk_more refused (account_of p []) parts talk).shown
+plain_shown : (refused : List Name) (n : Connection) (p : Process) (parts : List Part) (free : Bool) (s : Summary) → shown_items refused (account_by p parts).items ≡ [] → shown_items refused (connection_items n p parts free s) ≡ shown_items refused (leaving_items free p.name s)
+plain_shown refused n p parts free s none =
+    shown_append refused (account_by p parts).items (leaving_items free p.name s) ∙ ap (λ (xs : List Item). xs ++ shown_items refused (leaving_items free p.name s)) none
 
 -- It is cut, or stands, before its process is known.
-pub quiet_past : (n : Connection) (p : Process) (parts : List Part) (s : Summary) (list : List Item) (sent : List told.Item) (history : List Event) → n.reselected ≡ true → are_talk parts ≡ true → IsPast list sent history → IsPast (list ++ connection_items n p parts false s) sent history
-quiet_past n p parts s list sent history again talk past =
+pub quiet_past : (n : Connection) (p : Process) (parts : List Part) (s : Summary) (list : List Item) (sent : List told.Item) (history : List Event) → n.reselected ≡ true → ((refused : List Name) (q : Process) → shown_items refused (account_by q parts).items ≡ []) → IsPast list sent history → IsPast (list ++ connection_items n p parts false s) sent history
+quiet_past n p parts s list sent history again none past =
     openly_past list (connection_items n p parts false s) sent [] history (record {
       names = connection_names n p parts false s ∙ ap (λ (q : Bool). if q then [] else p.name ∷ []) again;
-      shown = λ refused sent names. talk_shown refused n p parts false s talk;
+      shown = λ refused sent names. plain_shown refused n p parts false s (none refused p);
     }) tt past
 
 -- That of an abort line, with its event as BUS FREE comes.
-pub abort_past : (n : Connection) (p : Process) (parts : List Part) (free : Bool) (s : Summary) (j : ℕ) (conn : List Event) (list : List Item) (sent : List told.Item) (history : List Event) → n.reselected ≡ false → are_talk parts ≡ true → AreEventsSent (sent ++ told.abort j ∷ []) conn → ((refused : List Name) (sent : List told.Item) (names : List Name) → shown_items refused (leaving_items free p.name s) ≡ named_events sent names (reverse conn)) → IsPast list sent history → IsPast (list ++ connection_items n p parts free s) (sent ++ told.abort j ∷ []) (conn ++ history)
-abort_past n p parts free s j conn list sent history began talk known shown past =
+pub abort_past : (n : Connection) (p : Process) (parts : List Part) (free : Bool) (s : Summary) (j : ℕ) (conn : List Event) (list : List Item) (sent : List told.Item) (history : List Event) → n.reselected ≡ false → ((refused : List Name) (q : Process) → shown_items refused (account_by q parts).items ≡ []) → AreEventsSent (sent ++ told.abort j ∷ []) conn
+    → ((refused : List Name) (sent : List told.Item) (names : List Name) → shown_items refused (leaving_items free p.name s) ≡ named_events sent names (reverse conn)) → IsPast list sent history → IsPast (list ++ connection_items n p parts free s) (sent ++ told.abort j ∷ []) (conn ++ history)
+abort_past n p parts free s j conn list sent history began none known shown past =
     past_more list (connection_items n p parts free s) sent (told.abort j ∷ []) conn history past (record {
       count = ap length (connection_names n p parts free s ∙ ap (λ (q : Bool). if q then [] else p.name ∷ []) began);
       known = known;
-      shown = λ refused r. talk_shown refused n p parts free s talk ∙ shown refused (sent ++ told.abort j ∷ []) (names_begun list ++ names_begun (connection_items n p parts free s));
+      numbers = λ id name e. none_some name (sym (abort_named j (names_begun (connection_items n p parts free s)) id) ∙ e);
+      shown = λ refused r. plain_shown refused n p parts free s (none refused p) ∙ shown refused (sent ++ told.abort j ∷ []) (names_begun list ++ names_begun (connection_items n p parts free s));
     })

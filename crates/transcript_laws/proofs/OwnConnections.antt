@@ -1,6 +1,8 @@
 -- The connection of a process is over: its items and its events are as those before.
 use Rattle.std.proofs.Common.{ℕ, ◌≡◌, ◌∙◌, Bool, true, false, List, [], ◌∷◌, ◌++◌, length, reverse, Option, Some, None, refl, sym, ap, subst}
-use Rattle.std.specs.Prelude.{if◌then◌else◌, ◌||◌}
+use Rattle.std.specs.Prelude.{if◌then◌else◌, ◌||◌, ◌==◌}
+use Rattle.std.proofs.lemmas.Option.{same_Some}
+use Rattle.disk_array.specs.Processes.{same_id}
 use Rattle.std.specs.List.{flat_map}
 use Rattle.std.proofs.lemmas.List.{append_assoc, append-nil, reverse-append}
 use Rattle.bus_base.specs.declared.Event.{Event}
@@ -12,6 +14,7 @@ use Rattle.bus_story.specs.CarriedBytes.{CarriedBytes}
 use Rattle.bus_story.specs.Items as told
 use Rattle.bus_story.specs.Items.{process, has_item}
 use Rattle.bus_books.proofs.Lookups.{self_id}
+use Rattle.trace_laws.proofs.Impossible.{none_some}
 use Rattle.bus_transcript.specs.declared.item.Item.{Item}
 use Rattle.bus_transcript.specs.declared.item.Item.TheVariants as items
 use Rattle.bus_transcript.specs.declared.item.Name.{Name}
@@ -32,6 +35,7 @@ use Rattle.transcript_laws.proofs.SentNames.{name_own, has_append}
 use Rattle.transcript_laws.proofs.ServingSteps.{conn_items}
 use Rattle.transcript_laws.proofs.ShownParts.{parts_names}
 use Rattle.transcript_laws.proofs.TurnServes.{conn_append, refused_less}
+use Rattle.std.proofs.lemmas.Bool.{or_right}
 
 -- ---- the events of a process, with its name
 
@@ -115,10 +119,11 @@ pub record IsClosing (k : OpenedValue) (commands : Bool) (id : ProcId) (now back
   pub shown : (refused : List Name) → shown_items refused (account_by p parts).items ≡ shown_items refused (account_base k p).items
   pub leaves : Leaves id p.name (leaving_items free p.name s) more
 
-own_adds : (k : OpenedValue) (commands : Bool) (id : ProcId) (now back : CarriedBytes) (conn history : List Event) (was : Bool) (st : Option ℕ) (n : Connection) (p : Process) (parts : List Part) (free : Bool) (s : Summary) (more : List Event) (sent sending : List told.Item) (names : List Name) → IsClosing k commands id now back conn history was st n p parts free s more → has_item (sent ++ sending) (process id) ≡ true → length (names_begun (connection_items n p parts free s)) ≡ length sending → name_sent (sent ++ sending) (names ++ names_begun (connection_items n p parts free s)) id ≡ Some p.name → Adds sent sending names (connection_items n p parts free s) (more ++ conn) history
-own_adds k commands id now back conn history was st n p parts free s more sent sending names h has count named = record {
+own_adds : (k : OpenedValue) (commands : Bool) (id : ProcId) (now back : CarriedBytes) (conn history : List Event) (was : Bool) (st : Option ℕ) (n : Connection) (p : Process) (parts : List Part) (free : Bool) (s : Summary) (more : List Event) (sent sending : List told.Item) (names : List Name) → IsClosing k commands id now back conn history was st n p parts free s more → has_item (sent ++ sending) (process id) ≡ true → length (names_begun (connection_items n p parts free s)) ≡ length sending → ((x : ProcId) (name : Name) → name_sent sending (names_begun (connection_items n p parts free s)) x ≡ Some name → (name.number == 0) ≡ false) → name_sent (sent ++ sending) (names ++ names_begun (connection_items n p parts free s)) id ≡ Some p.name → Adds sent sending names (connection_items n p parts free s) (more ++ conn) history
+own_adds k commands id now back conn history was st n p parts free s more sent sending names h has count numbers named = record {
   count = count;
   known = own_sent (sent ++ sending) id (more ++ conn) has own;
+  numbers = numbers;
   shown = λ refused r.
       shown_append refused (account_by p parts).items (leaving_items free p.name s)
       ∙ (λ i. (h.shown refused ∙ h.serving.told refused p h.begun (before refused r)) i ++ leaves_shown refused id p.name (leaving_items free p.name s) more h.leaves i)
@@ -135,21 +140,25 @@ own_adds k commands id now back conn history was st n p parts free s more sent s
       answer = λ e. r.answers id p.name (ap (λ (list : List Event). has_answer list id) (append_assoc more conn history) ∙ e) named;
     })
 
-or_true : (p q : Bool) → q ≡ true → (p || q) ≡ true
-or_true true q e = refl
-or_true false q e = e
-
 or_one : (id : ProcId) → has_item (process id ∷ []) (process id) ≡ true
 or_one id = ap (λ (q : Bool). q || false) (self_id id)
 
+one_number : (id x : ProcId) (own name : Name) → (own.number == 0) ≡ false → name_sent (process id ∷ []) (own ∷ []) x ≡ Some name → (name.number == 0) ≡ false
+one_number id x own name number e = go (same_id id x) e
+  where
+    go : (q : Bool) → (if q then Some own else None) ≡ Some name → (name.number == 0) ≡ false
+    go true f = ap (λ (n : Name). n.number == 0) (sym (same_Some own name f)) ∙ number
+    go false f = none_some name f
+
 -- An initiator began it, for a process that was not sent before.
-pub first_past : (k : OpenedValue) (commands : Bool) (id : ProcId) (now back : CarriedBytes) (conn history : List Event) (was : Bool) (st : Option ℕ) (n : Connection) (p : Process) (parts : List Part) (free : Bool) (s : Summary) (more : List Event) (list : List Item) (sent : List told.Item) → n.reselected ≡ false → has_item sent (process id) ≡ false → IsClosing k commands id now back conn history was st n p parts free s more → IsPast list sent history → IsPast (list ++ connection_items n p parts free s) (sent ++ process id ∷ []) ((more ++ conn) ++ history)
-first_past k commands id now back conn history was st n p parts free s more list sent began fresh h past =
+pub first_past : (k : OpenedValue) (commands : Bool) (id : ProcId) (now back : CarriedBytes) (conn history : List Event) (was : Bool) (st : Option ℕ) (n : Connection) (p : Process) (parts : List Part) (free : Bool) (s : Summary) (more : List Event) (list : List Item) (sent : List told.Item) → n.reselected ≡ false → has_item sent (process id) ≡ false → (p.name.number == 0) ≡ false → IsClosing k commands id now back conn history was st n p parts free s more → IsPast list sent history → IsPast (list ++ connection_items n p parts free s) (sent ++ process id ∷ []) ((more ++ conn) ++ history)
+first_past k commands id now back conn history was st n p parts free s more list sent began fresh number h past =
     let names : names_begun (connection_items n p parts free s) ≡ p.name ∷ [] = connection_names n p parts free s ∙ ap (λ (q : Bool). if q then [] else p.name ∷ []) began in
     past_more list (connection_items n p parts free s) sent (process id ∷ []) (more ++ conn) history past
     (own_adds k commands id now back conn history was st n p parts free s more sent (process id ∷ []) (names_begun list) h
-    (has_append sent (process id ∷ []) (process id) ∙ or_true (has_item sent (process id)) (has_item (process id ∷ []) (process id)) (or_one id))
+    (has_append sent (process id ∷ []) (process id) ∙ or_right (has_item sent (process id)) (has_item (process id ∷ []) (process id)) (or_one id))
     (ap length names)
+    (λ x name e. one_number id x p.name name number (ap (λ (xs : List Name). name_sent (process id ∷ []) xs x) (sym names) ∙ e))
     (ap (λ (xs : List Name). name_sent (sent ++ process id ∷ []) (names_begun list ++ xs) id) names ∙ name_own sent (names_begun list) p.name id past.count fresh))
 
 -- A target began it, for a process that has this name.
@@ -160,4 +169,5 @@ again_past k commands id now back conn history was st n p parts free s more list
     (own_adds k commands id now back conn history was st n p parts free s more sent [] (names_begun list) h
     (ap (λ (xs : List told.Item). has_item xs (process id)) (append-nil sent) ∙ has)
     (ap length names)
+    (λ x name e. none_some name e)
     ((λ i. name_sent (append-nil sent i) ((ap (λ (xs : List Name). names_begun list ++ xs) names ∙ append-nil (names_begun list)) i) id) ∙ named)))

@@ -10,8 +10,9 @@ use Rattle.bus_transcript.specs.declared.part.Incoming.{Incoming}
 use Rattle.bus_transcript.specs.declared.part.Incoming.TheVariants.{Broken}
 use Rattle.bus_transcript.specs.declared.part.Part.{Part}
 use Rattle.bus_transcript.specs.declared.part.Part.TheVariants as parts_of
-use Rattle.bus_transcript.specs.Opened.{OpenedValue, held_part, is_parity_error, settled, with_out, with_all_out, with_in, spoken, broken_off, phase_parts, with_phase, phase_over}
+use Rattle.bus_transcript.specs.Opened.{OpenedValue, held_part, settled, with_out, with_all_out, with_in, spoken, broken_off, phase_parts, with_phase, phase_over}
 use Rattle.transcript_laws.specs.Parts.{is_void, out_parts, parts_now}
+use Rattle.bus_story.specs.TraceHistory.{is_parity_error}
 
 -- ---- as the messages of MESSAGE OUT stand
 
@@ -52,7 +53,7 @@ spoken_keeps k = all_spoken (record k { said = [] }) k.said
 some_none : {A : Type 0} (m : Incoming) → (let a : Option Incoming = None in a) ≡ Some m → A
 some_none m e = absurd cc
 
-none_held : (k : OpenedValue) (said : List MsgOut) → k.held ≡ None → (with_all_out k said).held ≡ None
+pub none_held : (k : OpenedValue) (said : List MsgOut) → k.held ≡ None → (with_all_out k said).held ≡ None
 none_held k [] e = e
 none_held k (m ∷ said) e = none_held (with_out k m) said refl
 

@@ -1,5 +1,5 @@
 -- One connection more: its items show its events, and those before stay as they are.
-use Rattle.std.proofs.Common.{◌≡◌, ◌∙◌, ◌+◌, Bool, true, false, ◌||◌, List, [], ◌∷◌, ◌++◌, length, reverse, Option, refl, sym, ap, subst}
+use Rattle.std.proofs.Common.{◌≡◌, ◌∙◌, ◌+◌, ◌==◌, Bool, true, false, ◌||◌, List, [], ◌∷◌, ◌++◌, length, reverse, Option, Some, refl, sym, ap, subst}
 use Rattle.std.specs.List.{flat_map, list_any}
 use Rattle.std.proofs.lemmas.List.{reverse-append, length-append}
 use Rattle.std.proofs.lemmas.Grind.{flat_map-append}
@@ -14,13 +14,9 @@ use Rattle.bus_transcript.specs.declared.item.Name.{Name}
 use Rattle.bus_transcript.specs.Events.{name_begun, names_begun, name_sent, event_shown, items_if, items_told, named_events}
 use Rattle.transcript_laws.specs.Told.{is_refusal, is_answer, has_refusal, has_answer, shown_items}
 use Rattle.transcript_laws.specs.Past.{IsEventOf, AreEventsOf, IsEventSent, AreEventsSent, items_by, AreRefused, IsPast}
-use Rattle.transcript_laws.proofs.SentNames.{name_before, has_append}
-
-wrong' : {A : Type 0} → false ≡ true → A
-wrong' e = absurd cc
-
-first_or : (p q : Bool) → p ≡ true → (p || q) ≡ true
-first_or p q e = ap (λ (x : Bool). x || q) e
+use Rattle.transcript_laws.proofs.SentNames.{name_before, name_later, has_append}
+use Rattle.std.proofs.lemmas.Bool.{or_right, or_left}
+use Rattle.bus_base.proofs.Tests.{wrong'}
 
 -- ---- what was said before
 
@@ -65,13 +61,9 @@ all_by sent names id (event ∷ list) e = λ i. told_by sent names id event e.0 
 
 -- ---- what is refused
 
-or_true : (p q : Bool) → q ≡ true → (p || q) ≡ true
-or_true true q e = refl
-or_true false q e = e
-
 any_later : (t : Event → Bool) (conn history : List Event) → list_any t history ≡ true → list_any t (conn ++ history) ≡ true
 any_later t [] history e = e
-any_later t (x ∷ conn) history e = or_true (t x) (list_any t (conn ++ history)) (any_later t conn history e)
+any_later t (x ∷ conn) history e = or_right (t x) (list_any t (conn ++ history)) (any_later t conn history e)
 
 one_refusal : (sent : List told.Item) (event : Event) (id : ProcId) → IsEventSent sent event → is_refusal id event ≡ true → has_item sent (process id) ≡ true
 one_refusal sent (events.Accept x) id known e = wrong' e
@@ -131,15 +123,16 @@ named_append sent names xs ys = flat_map-append (λ event. items_told sent names
 pub record Adds (sent more : List told.Item) (names : List Name) (new : List Item) (conn history : List Event) : Type 0 where
   pub count : length (names_begun new) ≡ length more
   pub known : AreEventsSent (sent ++ more) conn
+  pub numbers : (id : ProcId) (name : Name) → name_sent more (names_begun new) id ≡ Some name → (name.number == 0) ≡ false
   pub shown : (refused : List Name) → AreRefused refused (sent ++ more) (names ++ names_begun new) (conn ++ history) → shown_items refused new ≡ named_events (sent ++ more) (names ++ names_begun new) (reverse conn)
 
 sent_more : (sent more : List told.Item) (event : Event) → IsEventSent sent event → IsEventSent (sent ++ more) event
-sent_more sent more (events.Accept id) has = has_append sent more (process id) ∙ first_or (has_item sent (process id)) (has_item more (process id)) has
-sent_more sent more (events.Refuse id) has = has_append sent more (process id) ∙ first_or (has_item sent (process id)) (has_item more (process id)) has
-sent_more sent more (events.Run id) has = has_append sent more (process id) ∙ first_or (has_item sent (process id)) (has_item more (process id)) has
-sent_more sent more (events.Fail id code) has = has_append sent more (process id) ∙ first_or (has_item sent (process id)) (has_item more (process id)) has
-sent_more sent more (events.End id status) has = has_append sent more (process id) ∙ first_or (has_item sent (process id)) (has_item more (process id)) has
-sent_more sent more (events.Lost id) has = has_append sent more (process id) ∙ first_or (has_item sent (process id)) (has_item more (process id)) has
+sent_more sent more (events.Accept id) has = has_append sent more (process id) ∙ or_left (has_item sent (process id)) (has_item more (process id)) has
+sent_more sent more (events.Refuse id) has = has_append sent more (process id) ∙ or_left (has_item sent (process id)) (has_item more (process id)) has
+sent_more sent more (events.Run id) has = has_append sent more (process id) ∙ or_left (has_item sent (process id)) (has_item more (process id)) has
+sent_more sent more (events.Fail id code) has = has_append sent more (process id) ∙ or_left (has_item sent (process id)) (has_item more (process id)) has
+sent_more sent more (events.End id status) has = has_append sent more (process id) ∙ or_left (has_item sent (process id)) (has_item more (process id)) has
+sent_more sent more (events.Lost id) has = has_append sent more (process id) ∙ or_left (has_item sent (process id)) (has_item more (process id)) has
 sent_more sent more (events.Aborted host target unit what) has = tt
 sent_more sent more (events.Reset dev) has = tt
 
@@ -151,6 +144,7 @@ pub past_more : (list new : List Item) (sent more : List told.Item) (conn histor
 past_more list new sent more conn history past adds = record {
   count = ap length (names_append list new) ∙ length-append (names_begun list) (names_begun new) ∙ (λ i. past.count i + adds.count i) ∙ sym (length-append sent more);
   known = sent_append (sent ++ more) conn history adds.known (all_more sent more history past.known);
+  numbers = λ id name e. by_sent id name (has_item sent (process id)) refl (ap (λ (names : List Name). name_sent (sent ++ more) names id) (sym (names_append list new)) ∙ e);
   shown = λ refused h.
       let g : AreRefused refused (sent ++ more) (names_begun list ++ names_begun new) (conn ++ history) =
       subst (λ (names : List Name). AreRefused refused (sent ++ more) names (conn ++ history)) (names_append list new) h in
@@ -161,3 +155,7 @@ past_more list new sent more conn history past adds = record {
       ∙ ap (λ (xs : List Event). named_events (sent ++ more) (names_begun list ++ names_begun new) xs) (sym (reverse-append conn history))
       ∙ ap (λ (names : List Name). named_events (sent ++ more) names (reverse (conn ++ history))) (sym (names_append list new));
 }
+  where
+    by_sent : (id : ProcId) (name : Name) (q : Bool) → has_item sent (process id) ≡ q → name_sent (sent ++ more) (names_begun list ++ names_begun new) id ≡ Some name → (name.number == 0) ≡ false
+    by_sent id name true has e = past.numbers id name (sym (name_before sent more (names_begun list) (names_begun new) id past.count has) ∙ e)
+    by_sent id name false has e = adds.numbers id name (sym (name_later sent more (names_begun list) (names_begun new) id past.count has) ∙ e)

@@ -7,12 +7,7 @@ use Rattle.bus_story.specs.Items.{Item, process, same_item, has_item}
 use Rattle.bus_books.proofs.Lookups.{self_id}
 use Rattle.bus_transcript.specs.declared.item.Name.{Name}
 use Rattle.bus_transcript.specs.Events.{name_sent}
-
-wrong : {A : Type 0} → true ≡ false → A
-wrong e = absurd cc
-
-wrong' : {A : Type 0} → false ≡ true → A
-wrong' e = absurd cc
+use Rattle.bus_base.proofs.Tests.{wrong, wrong'}
 
 -- What was sent keeps its name.
 pub name_before : (sent more : List Item) (names later : List Name) (id : ProcId) → length names ≡ length sent → has_item sent (process id) ≡ true → name_sent (sent ++ more) (names ++ later) id ≡ name_sent sent names id
@@ -22,6 +17,17 @@ name_before (item ∷ sent) more (name ∷ names) later id count has = go (same_
   where
     go : (q : Bool) → (q || has_item sent (process id)) ≡ true → (has_item sent (process id) ≡ true → name_sent (sent ++ more) (names ++ later) id ≡ name_sent sent names id) → (if q then Some name else name_sent (sent ++ more) (names ++ later) id) ≡ (if q then Some name else name_sent sent names id)
     go true e rest = refl
+    go false e rest = rest e
+
+-- What was not sent has a name among the later ones.
+pub name_later : (sent more : List Item) (names later : List Name) (id : ProcId) → length names ≡ length sent → has_item sent (process id) ≡ false → name_sent (sent ++ more) (names ++ later) id ≡ name_sent more later id
+name_later [] more [] later id count fresh = refl
+name_later [] more (n ∷ names) later id count fresh = absurd (omega (arith, count))
+name_later (item ∷ sent) more [] later id count fresh = absurd (omega (arith, count))
+name_later (item ∷ sent) more (name ∷ names) later id count fresh = go (same_item item (process id)) fresh (λ e. name_later sent more names later id (omega (arith, count)) e)
+  where
+    go : (q : Bool) → (q || has_item sent (process id)) ≡ false → (has_item sent (process id) ≡ false → name_sent (sent ++ more) (names ++ later) id ≡ name_sent more later id) → (if q then Some name else name_sent (sent ++ more) (names ++ later) id) ≡ name_sent more later id
+    go true e rest = wrong e
     go false e rest = rest e
 
 -- And what is sent anew has that of its connection.
@@ -55,7 +61,7 @@ has_append (x ∷ xs) ys item = ap (λ (q : Bool). same_item x item || q) (has_a
     in_turn true b c = refl
     in_turn false b c = refl
 
-or_turned : (a b : Bool) → (a || (b || false)) ≡ (b || a)
+pub or_turned : (a b : Bool) → (a || (b || false)) ≡ (b || a)
 or_turned true true = refl
 or_turned true false = refl
 or_turned false true = refl

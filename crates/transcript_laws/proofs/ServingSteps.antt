@@ -23,15 +23,14 @@ use Rattle.bus_transcript.specs.Accounts.{AccountValue, account_of, with_block, 
 use Rattle.bus_transcript.specs.Events.{items_named}
 use Rattle.bus_transcript.specs.Opened.{OpenedValue, held_part, with_part, with_in}
 use Rattle.transcript_laws.specs.Parts.{is_void, are_talk, held_parts, base_parts}
+use Rattle.transcript_laws.specs.RowTests.{is_broken}
 use Rattle.transcript_laws.specs.Told.{first_byte, IsAccountOf, account_base, shown_items}
 use Rattle.transcript_laws.specs.Serving.{IsAsBegun, IsServing}
 use Rattle.transcript_laws.proofs.Accounts.{all_after, parts_name}
 use Rattle.transcript_laws.proofs.AccountSteps.{same_account, in_step, status_step, completion_step}
 use Rattle.transcript_laws.proofs.BaseParts.{base_more, base_in, base_said, base_void, base_held}
 use Rattle.transcript_laws.proofs.ShownParts.{part_more, talk_more}
-
-wrong : {A : Type 0} → true ≡ false → A
-wrong e = absurd cc
+use Rattle.bus_base.proofs.Tests.{wrong, or_false}
 
 none_some : {A : Type 0} (x : Incoming) → (let a : Option Incoming = None in a) ≡ Some x → A
 none_some x e = absurd cc
@@ -41,10 +40,6 @@ none_some x e = absurd cc
 pub filled : {A T : Type 0} (xs : List T) (x : T) → (xs ++ x ∷ []) ≡ [] → A
 filled [] x e = absurd cc
 filled (y ∷ xs) x e = absurd cc
-
-or_false : (q : Bool) → (q || false) ≡ q
-or_false true = refl
-or_false false = refl
 
 -- ---- outside COMMAND
 
@@ -115,6 +110,27 @@ void_serves k id now back conn history was before said m e held none empty h = r
       ∙ ap (λ (a : AccountValue). shown_items refused a.items) (sym (all_after (account_of p []) k.parts (held_parts k ++ [])))
       ∙ ap (λ (since : List Part). shown_items refused (account_by p (k.parts ++ (held_parts k ++ since))).items) (sym none)
       ∙ h.told refused p b r;
+}
+
+-- Of a message that was broken off it changes nothing.
+broken_account : (k : OpenedValue) (p : Process) → is_broken k.held ≡ true → k.since ≡ [] → account_base k p ≡ account_by p k.parts
+broken_account k p e none =
+    ap (λ (since : List Part). account_by p (k.parts ++ (held_parts k ++ since))) none
+    ∙ all_after (account_of p []) k.parts (held_parts k ++ [])
+    ∙ go (is_void k.said) k.held e
+  where
+    go : (q : Bool) (held : Option Incoming) → is_broken held ≡ true → account_after_all (account_by p k.parts) ((if q then [] else held_part held) ++ []) ≡ account_by p k.parts
+    go true held f = refl
+    go false None f = wrong (sym f)
+    go false (Some (Whole m)) f = wrong (sym f)
+    go false (Some Broken) f = refl
+
+pub broken_serves : (k : OpenedValue) (id : ProcId) (now back : CarriedBytes) (conn history : List Event) (was : Bool) (before : Option ℕ) (said : List MsgOut) → is_void said ≡ true → is_broken k.held ≡ true → k.since ≡ [] → IsServing k false id now back conn history was before → IsServing (record k { said = said }) false id now back conn history was before
+broken_serves k id now back conn history was before said e broken none h = record {
+  account = λ p b. subst (λ (a : AccountValue). IsAccountOf (with_block a [] false) now) (broken_account k p broken none ∙ sym (ap (λ (parts : List Part). account_by p parts) (base_void k said e none))) (h.account p b);
+  void = h.void;
+  told = λ refused p b r.
+      ap (λ (a : AccountValue). shown_items refused a.items) (ap (λ (parts : List Part). account_by p parts) (base_void k said e none) ∙ sym (broken_account k p broken none)) ∙ h.told refused p b r;
 }
 
 -- ---- messages to the initiator

@@ -14,9 +14,8 @@ use Rattle.bus_transcript.specs.Events.{name_begun, names_begun, event_shown}
 use Rattle.transcript_laws.specs.Parts.{is_talk, are_talk}
 use Rattle.transcript_laws.specs.Told.{shown_items}
 use Rattle.transcript_laws.proofs.PastEvents.{names_append, shown_append}
-
-wrong' : {A : Type 0} → false ≡ true → A
-wrong' e = absurd cc
+use Rattle.bus_base.proofs.Tests.{wrong'}
+use Rattle.transcript_laws.proofs.Accounts.{cdb_name}
 
 -- ---- the events of a part
 
@@ -63,10 +62,6 @@ cdb_more refused a (b ∷ bytes) = item_more refused a (items.Cdb (b ∷ bytes))
 cdb_whole : (a : AccountValue) (bytes : List ℕ) → is_whole (with_cdb a bytes).block (with_cdb a bytes).struck ≡ is_whole a.block a.struck
 cdb_whole a [] = refl
 cdb_whole a (b ∷ bytes) = refl
-
-cdb_name : (a : AccountValue) (bytes : List ℕ) → (with_cdb a bytes).process.name ≡ a.process.name
-cdb_name a [] = refl
-cdb_name a (b ∷ bytes) = refl
 
 in_items : (a : AccountValue) (m : MsgIn) → (after_in a m).items ≡ a.items
 in_items a to_initiator.CommandComplete = refl

@@ -24,9 +24,8 @@ use Rattle.transcript_laws.proofs.PartLists.{broken_parts}
 use Rattle.transcript_laws.proofs.ServingSteps.{no_block}
 use Rattle.transcript_laws.proofs.ShownParts.{talk_more}
 use Rattle.transcript_laws.proofs.TurnSteps.{outs_talk, broken_talk}
-
-wrong' : {A : Type 0} → false ≡ true → A
-wrong' e = absurd cc
+use Rattle.bus_base.proofs.Tests.{wrong'}
+use Rattle.transcript_laws.proofs.LastProcesses.{and_parts}
 
 -- ---- the account
 
@@ -57,10 +56,6 @@ part_untouched a was st (parts_of.Data out bytes) e h = wrong' e
 part_untouched a was st parts_of.StatusPhase e h = wrong' e
 part_untouched a was st (parts_of.Status byte) e h = wrong' e
 part_untouched a was st parts_of.Completion e h = wrong' e
-
-and_parts : (p q : Bool) → (p && q) ≡ true → (p ≡ true) × (q ≡ true)
-and_parts true q e = (refl, e)
-and_parts false q e = wrong' e
 
 all_untouched : (a : AccountValue) (was : Bool) (st : Option ℕ) (parts : List Part) → are_talk parts ≡ true → IsUntouched a was st → IsUntouched (account_after_all a parts) was st
 all_untouched a was st [] e h = h

@@ -24,16 +24,8 @@ use Rattle.transcript_laws.proofs.AccountSteps.{shown_step, told_step, refused_s
 use Rattle.transcript_laws.proofs.ServingSteps.{conn_items, conn_more}
 use Rattle.transcript_laws.proofs.ShownParts.{part_more}
 use Rattle.transcript_laws.proofs.TurnSteps.{arrival}
-
-wrong : {A : Type 0} → true ≡ false → A
-wrong e = absurd cc
-
-wrong' : {A : Type 0} → false ≡ true → A
-wrong' e = absurd cc
-
-and_false : (q : Bool) → (q && false) ≡ false
-and_false true = refl
-and_false false = refl
+use Rattle.std.proofs.lemmas.Bool.{or_right}
+use Rattle.bus_base.proofs.Tests.{wrong, and_false}
 
 -- ---- the events
 
@@ -46,11 +38,11 @@ turn_events begins c arrived =
     if begins && not c.shown && not c.refused && not (list_any (λ e. is_refuse e) arrived) then status_event c.id c.failure ∷ arrived else arrived
 
 -- With none of them refused, by what was shown before.
-data Turn (c : CarriedBytes) (arrived : List Event) (shown : List Event) : Type 0 where
+pub data Turn (c : CarriedBytes) (arrived : List Event) (shown : List Event) : Type 0 where
   quiet : shown ≡ arrived → (c.refused ≡ false → c.shown ≡ true) → Turn c arrived shown
   shows : shown ≡ status_event c.id c.failure ∷ arrived → c.refused ≡ false → c.shown ≡ false → Turn c arrived shown
 
-turn : (c : CarriedBytes) (arrived : List Event) → list_any (λ e. is_refuse e) arrived ≡ false → Turn c arrived (turn_events true c arrived)
+pub turn : (c : CarriedBytes) (arrived : List Event) → list_any (λ e. is_refuse e) arrived ≡ false → Turn c arrived (turn_events true c arrived)
 turn c arrived none = go c.shown c.refused refl refl
   where
     test : (u v : Bool) → c.shown ≡ u → c.refused ≡ v → (true && not c.shown && not c.refused && not (list_any (λ e. is_refuse e) arrived)) ≡ (true && not u && not v && not false)
@@ -62,7 +54,7 @@ turn c arrived none = go c.shown c.refused refl refl
     go false true e f = quiet (ap (λ (q : Bool). if q then status_event c.id c.failure ∷ arrived else arrived) (test false true e f)) (λ z. wrong (sym f ∙ z))
     go false false e f = shows (ap (λ (q : Bool). if q then status_event c.id c.failure ∷ arrived else arrived) (test false false e f)) f e
 
-refused_turn : (c : CarriedBytes) (id : ProcId) → turn_events true c (events.Refuse id ∷ []) ≡ events.Refuse id ∷ []
+pub refused_turn : (c : CarriedBytes) (id : ProcId) → turn_events true c (events.Refuse id ∷ []) ≡ events.Refuse id ∷ []
 refused_turn c id = ap (λ (q : Bool). if q then status_event c.id c.failure ∷ events.Refuse id ∷ [] else events.Refuse id ∷ []) (and_false (true && not c.shown && not c.refused))
 
 -- ---- the account
@@ -70,7 +62,7 @@ refused_turn c id = ap (λ (q : Bool). if q then status_event c.id c.failure ∷
 abbrev pub status_after : AccountValue → Bool → AccountValue
 status_after a begins = account_after_all a (if begins then parts_of.StatusPhase ∷ [] else [])
 
-event_mark : (c : CarriedBytes) (arrived : List Event) → marked_with c arrived ≡ c → marked_with c (status_event c.id c.failure ∷ arrived) ≡ marked_shown c
+pub event_mark : (c : CarriedBytes) (arrived : List Event) → marked_with c arrived ≡ c → marked_with c (status_event c.id c.failure ∷ arrived) ≡ marked_shown c
 event_mark c arrived e = go c.failure
   where
     go : (failure : Option ℕ) → marked_with c (status_event c.id failure ∷ arrived) ≡ marked_shown c
@@ -116,13 +108,9 @@ ready_none : (refused : List Name) (shown : Bool) (name : Name) → is_listed re
 ready_none refused true name e = refl
 ready_none refused false name e = ap (λ (q : Bool). if q then [] else items.Ready name ∷ []) e
 
-or_true : (p q : Bool) → q ≡ true → (p || q) ≡ true
-or_true true q e = refl
-or_true false q e = e
-
 pub any_later : (t : Event → Bool) (xs ys : List Event) → list_any t ys ≡ true → list_any t (xs ++ ys) ≡ true
 any_later t [] ys e = e
-any_later t (x ∷ xs) ys e = or_true (t x) (list_any t (xs ++ ys)) (any_later t xs ys e)
+any_later t (x ∷ xs) ys e = or_right (t x) (list_any t (xs ++ ys)) (any_later t xs ys e)
 
 -- What STATUS shows is what the turn tells.
 ready_turn : (refused : List Name) (a : AccountValue) (c : CarriedBytes) (name : Name) (id : ProcId) (arrived shown history : List Event) → c.id ≡ id → c.refused ≡ has_refusal history id → IsAccountOf a c → Turn c arrived shown → IsRefused refused name id (shown ++ history) → conn_items name shown ≡ conn_items name arrived ++ ready refused a.process.shown name

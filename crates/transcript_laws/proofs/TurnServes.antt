@@ -29,12 +29,9 @@ use Rattle.transcript_laws.proofs.PartLists.{spoken_holds, spoken_keeps, spoken_
 use Rattle.transcript_laws.proofs.ServingSteps.{filled, of_block, conn_items}
 use Rattle.transcript_laws.proofs.TurnSteps.{arrival, over_account, turned_account, over_is, over_name, over_shown, outs_same}
 use Rattle.transcript_laws.proofs.TurnEvents.{arrivals, turn_events, ready, any_later, turn_account, status_shown, turn_shown}
-
-wrong : {A : Type 0} → true ≡ false → A
-wrong e = absurd cc
-
-wrong' : {A : Type 0} → false ≡ true → A
-wrong' e = absurd cc
+use Rattle.std.proofs.lemmas.Bool.{and_right}
+use Rattle.bus_base.proofs.Tests.{wrong'}
+use Rattle.transcript_laws.proofs.Closings.{account_by}
 
 -- ---- lists
 
@@ -74,10 +71,6 @@ none_if : (q : Bool) (bytes : List ℕ) → bytes ≡ [] → (if q then bytes el
 none_if true bytes e = e
 none_if false bytes e = refl
 
-and_none : (q r : Bool) → r ≡ false → (q && r) ≡ false
-and_none true r e = e
-and_none false r e = refl
-
 or_none : (q r : Bool) → r ≡ false → (q || r) ≡ q
 or_none true r e = refl
 or_none false r e = e
@@ -95,7 +88,7 @@ new_account a c bytes struck e f h = record {
 
 -- ---- what MESSAGE PARITY ERROR would bring back
 
-in_no_command : (s : LineSet) → is_message_in s ≡ true → is_command s ≡ false
+pub in_no_command : (s : LineSet) → is_message_in s ≡ true → is_command s ≡ false
 in_no_command s e = go s.msg refl
   where
     go : (m : Bool) → s.msg ≡ m → is_command s ≡ false
@@ -114,14 +107,11 @@ no_phase_parts k s empty e = go (is_command s) (is_data s) refl refl e
     go false true f g z = data_none (not s.io) k.bytes z
     go false false f g z = empty f g
 
-abbrev account_by : Process → List Part → AccountValue
-account_by p parts = account_after_all (account_of p []) parts
-
 now_account : (k : OpenedValue) (id : ProcId) (now back : CarriedBytes) (conn history : List Event) (was : Bool) (st : Option ℕ) (q : Bool) (p : Process) → q ≡ false → IsServing k q id now back conn history was st → IsAsBegun p was st → IsAccountOf (account_by p (parts_now k)) now
 now_account k id now back conn history was st q p off h b =
     subst (λ (a : AccountValue). IsAccountOf a now) (sym (all_after (account_of p []) (base_parts k) (out_parts k.said))) (same_account (account_base k p) (account_after_all (account_base k p) (out_parts k.said)) now (outs_same (account_base k p) k.said) (of_block (account_base k p) now (subst (λ (r : Bool). IsAccountOf (with_block (account_base k p) (if r then k.bytes else []) (r && k.struck)) now) off (h.account p b))))
 
-void_over : (k : OpenedValue) (s : LineSet) (half : List ℕ) (id : ProcId) (now back : CarriedBytes) (conn history : List Event) (was : Bool) (st : Option ℕ) (broken : Bool) → (is_message_in s && not (is_nil half)) ≡ broken → (is_command s ≡ false → is_data s ≡ false → k.bytes ≡ []) → (broken ≡ true → (a : AccountValue) → IsAccountOf a now → IsAccountOf a back) → IsServing k (is_command s) id now back conn history was st
+pub void_over : (k : OpenedValue) (s : LineSet) (half : List ℕ) (id : ProcId) (now back : CarriedBytes) (conn history : List Event) (was : Bool) (st : Option ℕ) (broken : Bool) → (is_message_in s && not (is_nil half)) ≡ broken → (is_command s ≡ false → is_data s ≡ false → k.bytes ≡ []) → (broken ≡ true → (a : AccountValue) → IsAccountOf a now → IsAccountOf a back) → IsServing k (is_command s) id now back conn history was st
     → (m : Incoming) (p : Process) → (if broken then with_in (spoken k) Broken else spoken k).held ≡ Some m → ((if broken then with_in (spoken k) Broken else spoken k).since ++ phase_parts (if broken then with_in (spoken k) Broken else spoken k) s true) ≡ [] → IsAsBegun p was st → IsAccountOf (account_by p (if broken then with_in (spoken k) Broken else spoken k).parts) back
 void_over k s half id now back conn history was st true e empty same h m p held none b =
     same refl (account_by p (settled (spoken k) false).parts) (subst (λ (parts : List Part). IsAccountOf (account_by p parts) now) (sym (spoken_parts k)) (now_account k id now back conn history was st (is_command s) p (in_no_command s (and_first (is_message_in s) (not (is_nil half)) e)) h b))
@@ -132,19 +122,34 @@ void_over k s half id now back conn history was st false e empty same h m p held
     let bytes : k.bytes ≡ [] = sym g'.bytes ∙ no_phase_parts (spoken k) s (λ x y. g'.bytes ∙ empty x y) parts.1 in
     subst (λ (list : List Part). IsAccountOf (account_by p list) back) (sym g.parts) (h.void m p (sym g.held ∙ held) (sym g.since ∙ parts.0) bytes b)
 
-void_turned : (k : OpenedValue) (s : LineSet) (half : List ℕ) (begins : Bool) (id : ProcId) (now back : CarriedBytes) (conn history : List Event) (was : Bool) (st : Option ℕ) → (is_command s ≡ false → is_data s ≡ false → k.bytes ≡ []) → ((is_message_in s && not (is_nil half)) ≡ true → (a : AccountValue) → IsAccountOf a now → IsAccountOf a back) → IsServing k (is_command s) id now back conn history was st
+pub void_turned : (k : OpenedValue) (s : LineSet) (half : List ℕ) (begins : Bool) (id : ProcId) (now back : CarriedBytes) (conn history : List Event) (was : Bool) (st : Option ℕ) → (is_command s ≡ false → is_data s ≡ false → k.bytes ≡ []) → ((is_message_in s && not (is_nil half)) ≡ true → (a : AccountValue) → IsAccountOf a now → IsAccountOf a back) → IsServing k (is_command s) id now back conn history was st
     → (m : Incoming) (p : Process) → (if begins then with_part (phase_over k s half true) parts_of.StatusPhase else phase_over k s half true).held ≡ Some m → (if begins then with_part (phase_over k s half true) parts_of.StatusPhase else phase_over k s half true).since ≡ [] → IsAsBegun p was st → IsAccountOf (account_by p (if begins then with_part (phase_over k s half true) parts_of.StatusPhase else phase_over k s half true).parts) back
 void_turned k s half true id now back conn history was st empty same h m p held none b = filled (phase_over k s half true).since parts_of.StatusPhase none
 void_turned k s half false id now back conn history was st empty same h m p held none b =
     void_over k s half id now back conn history was st (is_message_in s && not (is_nil half)) refl empty same h m p held none b
 
+-- A message that is broken off brings back what holds.
+cut_over : (k : OpenedValue) (s : LineSet) (half : List ℕ) (id : ProcId) (now back : CarriedBytes) (conn history : List Event) (was : Bool) (st : Option ℕ) (broken : Bool) → (is_message_in s && not (is_nil half)) ≡ broken → broken ≡ true → IsServing k (is_command s) id now back conn history was st → (p : Process) → IsAsBegun p was st → IsAccountOf (account_by p (if broken then with_in (spoken k) Broken else spoken k).parts) now
+cut_over k s half id now back conn history was st true e cut h p b =
+    subst (λ (parts : List Part). IsAccountOf (account_by p parts) now) (sym (spoken_parts k)) (now_account k id now back conn history was st (is_command s) p (in_no_command s (and_first (is_message_in s) (not (is_nil half)) e)) h b)
+cut_over k s half id now back conn history was st false e cut h p b = wrong' cut
+
+pub cut_turned : (k : OpenedValue) (s : LineSet) (half : List ℕ) (begins : Bool) (id : ProcId) (now back : CarriedBytes) (conn history : List Event) (was : Bool) (st : Option ℕ) → (is_message_in s && not (is_nil half)) ≡ true → IsServing k (is_command s) id now back conn history was st
+    → (m : Incoming) (p : Process) → (if begins then with_part (phase_over k s half true) parts_of.StatusPhase else phase_over k s half true).held ≡ Some m → (if begins then with_part (phase_over k s half true) parts_of.StatusPhase else phase_over k s half true).since ≡ [] → IsAsBegun p was st → IsAccountOf (account_by p (if begins then with_part (phase_over k s half true) parts_of.StatusPhase else phase_over k s half true).parts) now
+cut_turned k s half true id now back conn history was st cut h m p held none b = filled (phase_over k s half true).since parts_of.StatusPhase none
+cut_turned k s half false id now back conn history was st cut h m p held none b = cut_over k s half id now back conn history was st (is_message_in s && not (is_nil half)) refl cut h p b
+
 -- ---- the turn
 
-pub turn_serves : (k : OpenedValue) (s after : LineSet) (half : List ℕ) (id : ProcId) (now back : CarriedBytes) (conn history : List Event) (was : Bool) (st : Option ℕ) (room : Bool) → now.id ≡ id → now.refused ≡ has_refusal history id → (is_command s ≡ false → is_data s ≡ false → k.bytes ≡ []) → ((is_message_in s && not (is_nil half)) ≡ true → (a : AccountValue) → IsAccountOf a now → IsAccountOf a back) → IsServing k (is_command s) id now back conn history was st
+-- What MESSAGE PARITY ERROR would bring back after it.
+abbrev pub IsVoid : OpenedValue → CarriedBytes → Bool → Option ℕ → Type 0
+IsVoid k back was st = (m : Incoming) (p : Process) → k.held ≡ Some m → k.since ≡ [] → IsAsBegun p was st → IsAccountOf (account_by p k.parts) back
+
+pub turn_serves : (k : OpenedValue) (s after : LineSet) (half : List ℕ) (id : ProcId) (now before back : CarriedBytes) (conn history : List Event) (was : Bool) (st : Option ℕ) (room : Bool) → now.id ≡ id → now.refused ≡ has_refusal history id → IsVoid (phase_entered (phase_over k s half true) after) back was st → IsServing k (is_command s) id now before conn history was st
     → IsServing (phase_entered (phase_over k s half true) after) (is_command after) id (marked_with now (turn_events (is_status_phase after) now (arrivals (is_command s && is_whole_block now) room now.id))) back (turn_events (is_status_phase after) now (arrivals (is_command s && is_whole_block now) room now.id) ++ conn) (turn_events (is_status_phase after) now (arrivals (is_command s && is_whole_block now) room now.id) ++ history) was st
-turn_serves k s after half id now back conn history was st room own marked empty same h = record {
-  account = λ p b. new_account (account_base (phase_entered (phase_over k s half true) after) p) (marked_with now shown) _ _ (none_if (is_command after) _ (turned_new k s after half).bytes) (and_none (is_command after) _ (turned_new k s after half).struck) (subst (λ (a : AccountValue). IsAccountOf a (marked_with now shown)) (sym (turned_account k s after half p)) (turn_account (over_account k s half p) now (is_command s && is_whole_block now) room (is_status_phase after) now.id (over_is k s half p now (h.account p b))));
-  void = λ m p held none bytes b. void_turned k s half (is_status_phase after) id now back conn history was st empty same h m p held none b;
+turn_serves k s after half id now before back conn history was st room own marked brings h = record {
+  account = λ p b. new_account (account_base (phase_entered (phase_over k s half true) after) p) (marked_with now shown) _ _ (none_if (is_command after) _ (turned_new k s after half).bytes) (and_right (is_command after) _ (turned_new k s after half).struck) (subst (λ (a : AccountValue). IsAccountOf a (marked_with now shown)) (sym (turned_account k s after half p)) (turn_account (over_account k s half p) now (is_command s && is_whole_block now) room (is_status_phase after) now.id (over_is k s half p now (h.account p b))));
+  void = λ m p held none bytes b. brings m p held none b;
   told = λ refused p b r.
       let a : AccountValue = over_account k s half p in
       let list : List Item = if is_status_phase after then ready refused a.process.shown a.process.name else [] in

@@ -19,31 +19,17 @@ use Rattle.bus_transcript.specs.Opened.{OpenedValue, data_parts, phase_parts, ph
 use Rattle.transcript_laws.specs.Parts.{are_talk, base_parts, out_parts, parts_now}
 use Rattle.transcript_laws.specs.Told.{IsAccountOf, account_base, shown_items}
 use Rattle.transcript_laws.proofs.Accounts.{all_after, parts_name}
-use Rattle.transcript_laws.proofs.AccountSteps.{IsSame, same_account, out_step, broken_step, command_step, data_step}
+use Rattle.transcript_laws.proofs.AccountSteps.{IsSame, same_account, out_step, broken_step, command_step, data_step, same_on}
 use Rattle.transcript_laws.proofs.BaseParts.{base_turned}
 use Rattle.transcript_laws.proofs.PartLists.{broken_parts}
 use Rattle.transcript_laws.proofs.ServingSteps.{of_block}
 use Rattle.transcript_laws.proofs.ShownParts.{part_more, talk_more}
-
-wrong : {A : Type 0} → true ≡ false → A
-wrong e = absurd cc
-
-wrong' : {A : Type 0} → false ≡ true → A
-wrong' e = absurd cc
+use Rattle.bus_base.proofs.Tests.{wrong, wrong'}
 
 -- ---- the account over a phase
 
 same_self : (a : AccountValue) → IsSame a a
 same_self a = record { block = refl; struck = refl; first = refl; status = refl; shown = refl }
-
-same_on : (a b c : AccountValue) → IsSame a b → IsSame b c → IsSame a c
-same_on a b c x y = record {
-  block = y.block ∙ x.block;
-  struck = y.struck ∙ x.struck;
-  first = y.first ∙ x.first;
-  status = y.status ∙ x.status;
-  shown = y.shown ∙ x.shown;
-}
 
 pub same_block : (a b : AccountValue) (bytes : List ℕ) (struck : Bool) → IsSame a b → IsSame (with_block a bytes struck) (with_block b bytes struck)
 same_block a b bytes struck h = record {

@@ -6,3 +6,4 @@ pub mod Serving
 pub mod Numbered
 pub mod Keeping
 pub mod Standing
+pub mod Left

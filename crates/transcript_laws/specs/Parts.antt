@@ -13,9 +13,10 @@ use Rattle.bus_transcript.specs.declared.part.Part.{Part}
 use Rattle.bus_transcript.specs.declared.part.Part.TheVariants as parts_of
 use Rattle.bus_transcript.specs.declared.summary.Summary.{Summary}
 use Rattle.bus_transcript.specs.Nexus.{no_summary, summary_of}
-use Rattle.bus_transcript.specs.Opened.{OpenedValue, held_part, is_parity_error}
+use Rattle.bus_transcript.specs.Opened.{OpenedValue, held_part}
 use Rattle.bus_transcript.specs.Processes.{same_nexus}
 use Rattle.bus_transcript.specs.Rows.{name_of}
+use Rattle.bus_story.specs.TraceHistory.{is_parity_error}
 
 -- ---- messages, and other parts
 

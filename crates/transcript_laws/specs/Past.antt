@@ -1,5 +1,5 @@
 -- The items of the connections that are over show the events of the history that they made.
-use Rattle.std.specs.Prelude.{◌≡◌, true, false, List, [], ◌∷◌, length, reverse, Option, Some, ⊤}
+use Rattle.std.specs.Prelude.{◌≡◌, ◌==◌, true, false, List, [], ◌∷◌, length, reverse, Option, Some, ⊤}
 use Rattle.bus_base.specs.declared.Event.{Event}
 use Rattle.bus_base.specs.declared.Event.TheVariants as events
 use Rattle.bus_base.specs.declared.ProcId.{ProcId}
@@ -62,6 +62,8 @@ pub record AreRefused (refused : List Name) (sent : List told.Item) (names : Lis
 pub record IsPast (list : List Item) (sent : List told.Item) (history : List Event) : Type 0 where
   pub count : length (names_begun list) ≡ length sent
   pub known : AreEventsSent sent history
+  -- a process has a number
+  pub numbers : (id : ProcId) (name : Name) → name_sent sent (names_begun list) id ≡ Some name → (name.number == 0) ≡ false
   pub shown : (refused : List Name) → AreRefused refused sent (names_begun list) history → shown_items refused list ≡ named_events sent (names_begun list) (reverse history)
 
 -- ---- the events of one process

@@ -1,5 +1,6 @@
 -- What a row must be for the transcript to go on as the story does, as a test on both.
 use Rattle.std.specs.Prelude.{ℕ, Bool, true, false, not, ◌&&◌, ◌||◌, ◌==◌, List, [], ◌∷◌, Option, Some, None, is_some, is_none, if◌then◌else◌}
+use Rattle.std.specs.List.{list_any}
 use Rattle.bus_trace.specs.LineSet.{LineSet}
 use Rattle.bus_trace.specs.declared.Row.{Row}
 use Rattle.bus_trace.specs.declared.changes.Change.{Change}
@@ -10,28 +11,30 @@ use Rattle.msg_grammar.specs.declared.message.MsgIn.{MsgIn}
 use Rattle.msg_grammar.specs.declared.message.MsgOut.{MsgOut}
 use Rattle.scenario.specs.declared.value.AbortDef.{AbortDef}
 use Rattle.scenario.specs.Value.{ScenarioValue}
-use Rattle.disk_array.specs.Processes.{same_bool}
+use Rattle.disk_array.specs.Processes.{Process, process_of, same_bool}
 use Rattle.bus_phases.specs.Half.{is_nil}
 use Rattle.bus_story.specs.BusState.{RowReading, row_reading}
 use Rattle.bus_story.specs.CarriedBytes.{CarriedBytes, carried_at, carried_of, is_whole_block, is_status_phase}
 use Rattle.bus_story.specs.HistoryEvents as story_of
 use Rattle.bus_story.specs.HistoryEvents.{abort_line_at}
-use Rattle.bus_story.specs.Items.{Item, process, abort, has_item}
+use Rattle.bus_story.specs.Items.{Item, process, abort, Sent, has_item}
 use Rattle.bus_story.specs.Links.{Link, LastMessage, plain, complete, disconnect, abortive, link_after_name, same_number}
 use Rattle.bus_story.specs.Right.{same_bytes}
-use Rattle.bus_story.specs.Story.{Story}
-use Rattle.bus_story.specs.TraceHistory.{aim_of, story, story_after}
+use Rattle.bus_story.specs.Story.{Story, by_reset, story_with_ends}
+use Rattle.bus_story.specs.TraceHistory.{aim_of, story, story_after, is_parity_error}
 use Rattle.bus_due.specs.Telling.{same_kind}
 use Rattle.bus_books.specs.Accounts.{is_open_in}
 use Rattle.bus_books.specs.RowTests.{same_item_if}
+use Rattle.bus_transcript.specs.declared.part.Incoming.{Incoming}
+use Rattle.bus_transcript.specs.declared.part.Incoming.TheVariants.{Broken}
 use Rattle.bus_transcript.specs.declared.part.Part.{Part}
 use Rattle.bus_transcript.specs.declared.summary.Departure.{Departure}
 use Rattle.bus_transcript.specs.declared.summary.Departure.TheVariants.{Loss, Leave, Abortion}
 use Rattle.bus_transcript.specs.declared.summary.Summary.{Summary}
 use Rattle.bus_transcript.specs.Nexus.{kind_of}
-use Rattle.bus_transcript.specs.Opened.{OpenedValue, is_complete, is_parity_error, settled, phase_over}
+use Rattle.bus_transcript.specs.Opened.{OpenedValue, is_complete, settled, phase_over}
 use Rattle.bus_transcript.specs.Rows.{TranscriberValue, transcribed, after_row}
-use Rattle.transcript_laws.specs.Parts.{are_talk, parts_now, is_void, is_known, summary_by, name_process}
+use Rattle.transcript_laws.specs.Parts.{are_talk, parts_now, is_void, is_known, summary_by, nexus_of, is_of, name_process}
 
 -- ---- a connection begins
 
@@ -40,6 +43,17 @@ abbrev pub is_fresh : Story → Option Item → Bool
 is_fresh b None = false
 is_fresh b (Some (process id)) = not (has_item b.sent.sent (process id)) && is_none (carried_at b.carried id)
 is_fresh b (Some (abort j)) = not (has_item b.sent.sent (abort j))
+
+-- A process that is open and has the nexus of this one.
+abbrev pub shares_nexus : ScenarioValue → Sent → Option Process → Item → Bool
+shares_nexus s b None item = false
+shares_nexus s b (Some p) (process id) = is_open_in b id && is_of (nexus_of p) (process_of s id)
+shares_nexus s b (Some p) (abort j) = false
+
+-- A process begins where no other of its nexus is open.
+abbrev pub is_alone : ScenarioValue → Story → Option Item → Bool
+is_alone s b (Some (process id)) = not (list_any (λ item. shares_nexus s b.sent (process_of s id) item) b.sent.sent)
+is_alone s b _ = true
 
 -- ---- a byte crosses
 
@@ -51,7 +65,13 @@ abbrev pub says_first : Bool → List MsgOut → Bool
 says_first anew [] = true
 says_first anew (m ∷ said) = anew
 
--- MESSAGE PARITY ERROR comes right after the message that it refuses, and alone; of a known process it brings something back.
+-- It was left before it was whole, and has changed nothing.
+abbrev pub is_broken : Option Incoming → Bool
+is_broken (Some Broken) = true
+is_broken _ = false
+
+-- MESSAGE PARITY ERROR comes right after the message that it refuses, and alone; of a known process it brings something back, but for a
+-- message that was broken off.
 abbrev pub fits_out : OpenedValue → Bool → Option MsgOut → Bool → Bool
 fits_out k backs None anew = not (is_void k.said)
 fits_out k backs (Some m) anew = if is_parity_error m then says_first anew k.said && is_some k.held && is_empty k.since && backs else not (is_void k.said)
@@ -71,7 +91,7 @@ is_no_abort _ = true
 abbrev pub fits_crossing : ScenarioValue → Story → OpenedValue → Link → RowReading → Bool
 fits_crossing s b k l d =
     not (changes_phase d.change) && not (story_of.is_completion l d.change)
-    && (if is_message_out d.change.before then fits_out k (not (is_known k b.bus_state.bus) || is_some l.undo) d.out b.bus_state.dialogue.is_last
+    && (if is_message_out d.change.before then fits_out k (not (is_known k b.bus_state.bus) || is_some l.undo || is_broken k.held) d.out b.bus_state.dialogue.is_last
     else if is_message_in d.change.before then fits_in s b k l d.into
     else not d.change.before.msg && is_no_abort l.item)
 
@@ -164,18 +184,29 @@ fits_linked s b (Some k) (Some l) d stands =
 fits_linked s b _ _ d stands = true
 
 -- It begins in neither COMMAND nor STATUS.
-abbrev pub fits_first : Story → Option Connection → Change → Bool
-fits_first b None c = true
-fits_first b (Some n) c = (n.reselected || is_fresh b (aim_of b.aims n.initiator)) && not (is_command c.after) && not (is_status_phase c.after)
+abbrev pub fits_first : ScenarioValue → Story → Option Connection → Change → Bool
+fits_first s b None c = true
+fits_first s b (Some n) c =
+    (n.reselected || (is_fresh b (aim_of b.aims n.initiator) && is_alone s b (aim_of b.aims n.initiator))) && not (is_command c.after) && not (is_status_phase c.after)
 
 abbrev pub fits_bus : ScenarioValue → TranscriberValue → Story → Option Connection → RowReading → Bool
 fits_bus s t b (Some m) d = fits_linked s b t.opened b.link d (is_some d.next)
-fits_bus s t b None d = fits_first b d.next d.change
+fits_bus s t b None d = fits_first s b d.next d.change
+
+abbrev pub is_open_process : Sent → Item → Bool
+is_open_process b (process id) = is_open_in b id
+is_open_process b (abort j) = false
+
+-- A reset ends all that is open.
+abbrev pub ends_all : ScenarioValue → Story → Bool
+ends_all s b =
+    let after : Sent = (story_with_ends (λ c. true) (λ c. true) by_reset 1 s.commands b).sent in
+    not (list_any (λ item. is_open_process after item) after.sent)
 
 -- RST that ends a connection begins with the row.
 abbrev pub fits_reading : ScenarioValue → TranscriberValue → Story → RowReading → Bool
 fits_reading s t b d =
-    if d.change.after.rst then is_none t.opened || rises d.change.own.rst d.change.next.rst else fits_bus s t b b.bus_state.connection d
+    if d.change.after.rst then is_none t.opened || (rises d.change.own.rst d.change.next.rst && ends_all s b) else fits_bus s t b b.bus_state.connection d
 
 abbrev pub fits_row : ScenarioValue → TranscriberValue → Story → Row → Bool
 fits_row s t b row = fits_reading s t b (row_reading b.bus_state row)

@@ -6,6 +6,7 @@ use Rattle.bus_trace.specs.Phases.{is_command, is_data, is_message_out}
 use Rattle.bus_trace.specs.declared.Row.{Row}
 use Rattle.bus_trace.specs.declared.changes.Change.{Change}
 use Rattle.scenario.specs.Value.{ScenarioValue}
+use Rattle.disk_array.specs.Processes as array_of
 use Rattle.disk_array.specs.Processes.{same_id}
 use Rattle.bus_story.specs.CarriedBytes.{CarriedBytes, carried_of, is_status_phase}
 use Rattle.bus_story.specs.Items.{Item, process, abort, has_item}
@@ -13,16 +14,16 @@ use Rattle.bus_story.specs.Links.{Link}
 use Rattle.bus_story.specs.Story.{Story}
 use Rattle.bus_story.specs.TraceHistory.{story}
 use Rattle.bus_books.specs.Accounts.{is_open_in}
-use Rattle.bus_transcript.specs.declared.process.Process.{Process}
 use Rattle.bus_transcript.specs.Events.{names_begun}
 use Rattle.bus_transcript.specs.Opened.{OpenedValue}
+use Rattle.bus_transcript.specs.Processes.{same_nexus}
 use Rattle.bus_transcript.specs.Rows.{TranscriberValue, transcribed}
-use Rattle.transcript_laws.specs.Keeping.{IsKept}
+use Rattle.transcript_laws.specs.Keeping.{HasProcess, IsKept}
 use Rattle.transcript_laws.specs.Numbered.{AreNumbered}
-use Rattle.transcript_laws.specs.Parts.{are_talk, base_parts}
+use Rattle.transcript_laws.specs.Parts.{are_talk, base_parts, nexus_of, is_known}
 use Rattle.transcript_laws.specs.Past.{AreOwnEvents, IsPast}
 use Rattle.transcript_laws.specs.Serving.{IsAsBegun, IsBlank, IsServing}
-use Rattle.transcript_laws.specs.Told.{IsKeptOf, IsMarked}
+use Rattle.transcript_laws.specs.Told.{IsMarked}
 
 -- The oldest first.
 abbrev pub sent_order : Story → List Item
@@ -50,23 +51,30 @@ pub data IsBegun (b : Story) (k : OpenedValue) (l : Link) (sent : List Item) : T
   first : (item : Item) → k.connection.reselected ≡ false → l.item ≡ Some item → sent_order b ≡ sent ++ item ∷ [] → has_item sent item ≡ false → IsBegun b k l sent
   again : k.connection.reselected ≡ true → sent_order b ≡ sent → IsBegun b k l sent
 
--- It is kept of the same processes.
-abbrev pub KeepsSame : CarriedBytes → CarriedBytes → Type 0
-KeepsSame u c = (p : Process) → IsKeptOf p u → IsKeptOf p c
+-- The same is kept of them.
+pub record AreAlike (u c : CarriedBytes) : Type 0 where
+  pub status : u.status.bytes ≡ c.status.bytes
+  pub refused : u.refused ≡ c.refused
+  pub shown : u.shown ≡ c.shown
+
+-- No other that is open has its nexus.
+abbrev pub IsAlone : ScenarioValue → Story → ProcId → Type 0
+IsAlone s b id =
+    (x : ProcId) (d e : array_of.Process) → is_open_in b.sent x ≡ true → same_id x id ≡ false → array_of.process_of s id ≡ Some d → array_of.process_of s x ≡ Some e → same_nexus (nexus_of d) (nexus_of e) ≡ false
 
 -- As an initiator begins it, its process has shown nothing; as a target does, it is the one that was kept.
 pub data IsFrom (s : ScenarioValue) (t : TranscriberValue) (b : Story) (k : OpenedValue) (sent : List Item) (id : ProcId) (was : Bool) (st : Option ℕ) : Type 0 where
-  anew : k.connection.reselected ≡ false → was ≡ false → st ≡ None → IsFrom s t b k sent id was st
-  kept : k.connection.reselected ≡ true → (h : IsKept s t.processes sent (names_begun t.items) b.carried id) → IsAsBegun h.process was st → IsFrom s t b k sent id was st
+  anew : k.connection.reselected ≡ false → was ≡ false → st ≡ None → IsAlone s b id → IsFrom s t b k sent id was st
+  kept : k.connection.reselected ≡ true → (h : HasProcess s t.processes sent (names_begun t.items) id) → IsAsBegun h.process was st → IsFrom s t b k sent id was st
 
 -- It is that of an abort; or its process is not known yet; or it is.
 pub data Stage (s : ScenarioValue) (t : TranscriberValue) (b : Story) (k : OpenedValue) (l : Link) (sent : List Item) (conn : List Event) : Type 0 where
-  of_abort : (j : ℕ) → l.item ≡ Some (abort j) → conn ≡ [] → are_talk (base_parts k) ≡ true → AreKept s t b sent no_process → Stage s t b k l sent conn
+  of_abort : (j : ℕ) → k.connection.reselected ≡ false → l.item ≡ Some (abort j) → l.undo ≡ None → conn ≡ [] → are_talk (base_parts k) ≡ true → AreKept s t b sent no_process → Stage s t b k l sent conn
   of_none : k.connection.reselected ≡ true → conn ≡ [] → are_talk (base_parts k) ≡ true → is_command b.bus_state.bus ≡ false → is_status_phase b.bus_state.bus ≡ false
       → ((j : ℕ) → l.item ≡ Some (abort j) → ⊥) → ((id : ProcId) → l.item ≡ Some (process id) → IsBlank (carried_of b.carried id))
-      → ((u : CarriedBytes) → l.undo ≡ Some u → IsBlank u × KeepsSame u (carried_of b.carried u.id) × KeepsSame (carried_of b.carried u.id) u)
+      → ((u : CarriedBytes) → l.undo ≡ Some u → IsBlank u × AreAlike u (carried_of b.carried u.id) × ((id : ProcId) → l.item ≡ Some (process id) → u.id ≡ id))
       → AreKept s t b sent no_process → Stage s t b k l sent conn
-  of_process : (id : ProcId) (back : CarriedBytes) (was : Bool) (st : Option ℕ) → l.item ≡ Some (process id) → ((u : CarriedBytes) → l.undo ≡ Some u → u ≡ back) → back.id ≡ id
+  of_process : (id : ProcId) (back : CarriedBytes) (was : Bool) (st : Option ℕ) → l.item ≡ Some (process id) → ((u : CarriedBytes) → l.undo ≡ Some u → u ≡ back) → back.id ≡ id → is_known k b.bus_state.bus ≡ true
       → IsServing k (is_command b.bus_state.bus) id (carried_of b.carried id) back conn b.history was st → AreOwnEvents id conn → (are_talk (base_parts k) ≡ true → conn ≡ [])
       → IsFrom s t b k sent id was st → AreKept s t b sent (λ x. same_id x id) → Stage s t b k l sent conn
 
@@ -88,6 +96,8 @@ pub record StandsLinked (s : ScenarioValue) (t : TranscriberValue) (b : Story) :
   pub bytes : (is_command b.bus_state.bus || is_data b.bus_state.bus) ≡ false → opened.bytes ≡ []
   pub said : is_message_out b.bus_state.bus ≡ false → opened.said ≡ []
   pub crossed : (c : Change) → b.bus_state.crossed ≡ Some c → is_command c.before ≡ is_command b.bus_state.bus
+  -- no event came since the message that MESSAGE PARITY ERROR would make void
+  pub undone : (u : CarriedBytes) → link.undo ≡ Some u → opened.since ≡ [] → IsMarked b.history u
 
 -- ---- all that is known
 

@@ -1,5 +1,5 @@
 -- What the transcript has of a process beside what the story has carried of it (6.4, 6.6.19, 6.6.20).
-use Rattle.std.specs.Prelude.{ℕ, ◌≡◌, ◌==◌, Bool, false, not, ◌&&◌, List, [], ◌∷◌, Option, Some, None}
+use Rattle.std.specs.Prelude.{ℕ, ◌≡◌, ◌==◌, Bool, true, false, not, ◌&&◌, List, [], ◌∷◌, Option, Some, None}
 use Rattle.std.specs.List.{list_any, flat_map}
 use Rattle.bus_base.specs.declared.Event.{Event}
 use Rattle.bus_base.specs.declared.Event.TheVariants as events
@@ -58,10 +58,12 @@ has_refusal history id = list_any (λ e. is_refusal id e) history
 abbrev pub has_answer : List Event → ProcId → Bool
 has_answer history id = list_any (λ e. is_answer id e) history
 
--- What is carried is marked as the history has it.
+-- What is carried is marked as the history has it; what was refused has shown nothing, and no status is saved.
 pub record IsMarked (history : List Event) (c : CarriedBytes) : Type 0 where
   pub refused : c.refused ≡ has_refusal history c.id
   pub shown : c.shown ≡ has_answer history c.id
+  pub apart : c.refused ≡ true → c.shown ≡ false
+  pub saved : c.status.saved ≡ 0
 
 -- ---- the items that are events
 

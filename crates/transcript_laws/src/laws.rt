@@ -1,21 +1,30 @@
 // Laws of transcripts, each named by the contract of a function that does nothing.
 
-ghost use Rattle.std.specs.Prelude.{[], List, reverse};
+ghost use Rattle.std.specs.Prelude.{◌≡◌, ◌<◌, ◌^◌, ◌-◌, true, List, length};
 ghost use Rattle.bus_trace.specs.declared.rows.Row.{Row};
 ghost use Rattle.scenario.specs.Value.{ScenarioValue};
-ghost use Rattle.bus_story.specs.TraceHistory.{story, trace_history};
+ghost use Rattle.scenario.specs.Writing.{Obeys};
+ghost use Rattle.bus_due.specs.Next.{IsPrompt};
 ghost use Rattle.bus_transcript.specs.Events.{TellsHistory, names_begun};
 ghost use Rattle.bus_transcript.specs.Rows.{transcript_of};
-ghost use Rattle.transcript_laws.specs.Past.{AreApart, IsPast};
-ghost use Rattle.transcript_laws.specs.Standing.{Standing};
+ghost use Rattle.transcript_laws.specs.Left.{AreLeft};
+ghost use Rattle.transcript_laws.specs.RowTests.{fit};
 
-/// Before any row a transcript and the story of the same rows stand alike (`first`). After any rows, lawful or not, the
-/// transcript has the events of the history with names in place of numbers, where each of its connections shows the
-/// events that it made (`IsPast`), and no two processes with an event share a name (`AreApart`; clause `told`).
+/// Of rows each of which fits the transcript and the story of the rows before it, the transcript has the events of the
+/// history, with names in place of numbers, where initiators began fewer connections than there are numbers for names.
 pub fn transcripts_follow_histories()
-    ensures first { (s : ScenarioValue) → Standing s [] }
-    ensures told { (s : ScenarioValue) (rows : List Row)
-        → IsPast (transcript_of rows) (reverse (story s rows).sent.sent) (trace_history s rows)
-        → AreApart (reverse (story s rows).sent.sent) (names_begun (transcript_of rows)) (trace_history s rows)
+    ensures { (s : ScenarioValue) (rows : List Row)
+        → fit s rows ≡ true
+        → length (names_begun (transcript_of rows)) < 2 ^ 32 - 6
+        → TellsHistory s rows }
+{}
+
+/// Of a prompt trace all rows fit, and they begin few names; so its transcript has the events of its history, where of
+/// each of its rows three parts are shown, which `AreLeft` names: of a message that is broken off, of the end of a
+/// connection, and of the names.
+pub fn transcripts_follow_prompt_traces()
+    ensures { (s : ScenarioValue) (rows : List Row)
+        → Obeys s → IsPrompt s rows
+        → AreLeft s rows
         → TellsHistory s rows }
 {}

@@ -3,7 +3,7 @@ use Rattle.std.proofs.Common.{◌≡◌, ℕ, zero, suc, ◌+◌, ◌-◌, ◌*�
 use Rattle.std.specs.Prelude.{◌==◌, nat_lt, option_map, decimal}
 use Rattle.std.specs.List.{list_all}
 use Rattle.std.specs.Char.{is_ascii_digit}
-use Rattle.std.proofs.lemmas.Bool.{lt-ltb}
+use Rattle.std.proofs.lemmas.Bool.{lt-ltb, and_parts}
 use Rattle.std.proofs.lemmas.Bool.Decides.{nat_tests}
 use Rattle.std.proofs.lemmas.Fmt.{digits_value-decimal, decimal_nonempty}
 use Rattle.text_words.specs.Words.{value_after}
@@ -11,17 +11,9 @@ use Rattle.text_words.proofs.Again.{own, decimal_passes}
 use Rattle.bus_trace.specs.LineSet.{set_of}
 use Rattle.vcd_text.specs.DumpText.{bit_text, bits_text}
 use Rattle.vcd_text.specs.Tokens.{is_printable, is_bit, is_state, are_states, more_decimal, decimal_after, decimal_of, more_bits, bits_after, bits_of, lines_of}
+use Rattle.text_words.proofs.Digits.{value_grows}
 
 -- ---- decimal numbers
-
-value_grows : (n : ℕ) (ds : List ℕ) → n ≤ value_after n ds
-value_grows n [] = omega arith
-value_grows n (d ∷ ds) = let more = value_grows (n * 10 + (d - 48)) ds in omega arith
-
-both : (a b : Bool) → (a && b) ≡ true → (a ≡ true) × (b ≡ true)
-both true true h = (refl, refl)
-both true false h = cc
-both false b h = cc
 
 more_again : (n d : ℕ) → is_ascii_digit d ≡ true → n * 10 + (d - 48) < 2 ^ 64 → more_decimal (Some n) d ≡ Some (n * 10 + (d - 48))
 more_again n d digit small = rw (digit, lt-ltb (n * 10 + (d - 48)) (2 ^ 64) small) refl
@@ -29,7 +21,7 @@ more_again n d digit small = rw (digit, lt-ltb (n * 10 + (d - 48)) (2 ^ 64) smal
 decimal_from : (ds : List ℕ) (n : ℕ) → list_all is_ascii_digit ds ≡ true → value_after n ds < 2 ^ 64 → decimal_after (Some n) ds ≡ Some (value_after n ds)
 decimal_from [] n all small = refl
 decimal_from (d ∷ ds) n all small =
-    let parts = both (is_ascii_digit d) (list_all is_ascii_digit ds) all in
+    let parts = and_parts (is_ascii_digit d) (list_all is_ascii_digit ds) all in
     let grows = value_grows (n * 10 + (d - 48)) ds in
     ap (λ (o : Option ℕ). decimal_after o ds) (more_again n d parts.0 (omega (arith, grows, small))) ∙ decimal_from ds (n * 10 + (d - 48)) parts.1 small
 
@@ -44,7 +36,7 @@ decimal_again n lt =
 printable_digits : (ds : List ℕ) → list_all is_ascii_digit ds ≡ true → list_all is_printable ds ≡ true
 printable_digits [] all = refl
 printable_digits (d ∷ ds) all =
-    let parts = both (is_ascii_digit d) (list_all is_ascii_digit ds) all in
+    let parts = and_parts (is_ascii_digit d) (list_all is_ascii_digit ds) all in
     let one : is_printable d ≡ true = let digit = parts.0 in grind (arith, nat_tests) in
     rw (one, printable_digits ds parts.1) refl
 

@@ -25,6 +25,7 @@ use Rattle.vcd_text.specs.Tokens.{is_word, is_end, is_state, are_states, is_lett
 use Rattle.vcd_text.specs.Steps.{going, scaled, keyword, named, timed, is_other, after_change, changed, valued, step_by}
 use Rattle.vcd_text.specs.Kept.{token_limit, is_new_code, tail_after, change_tail, tail_of}
 use Rattle.vcd_text.proofs.Numbers.{decimal_none}
+use Rattle.bus_base.proofs.Tests.{and_false}
 
 -- ---- words and codes
 
@@ -96,10 +97,6 @@ name_long (a ∷ b ∷ c ∷ t) h = refl
 pub all_drop : (p : ℕ → Bool) (w : List ℕ) (b : ℕ) (rest : List ℕ) → p b ≡ true → list_all p (w ++ b ∷ rest) ≡ list_all p (w ++ rest)
 all_drop p [] b rest is = ap (λ (q : Bool). q && list_all p rest) is
 all_drop p (x ∷ w) b rest is = ap (λ (q : Bool). p x && q) (all_drop p w b rest is)
-
-and_false : (q : Bool) → (q && false) ≡ false
-and_false true = refl
-and_false false = refl
 
 pub all_dead : (p : ℕ → Bool) (w : List ℕ) (b : ℕ) (rest : List ℕ) → p b ≡ false → list_all p (w ++ b ∷ rest) ≡ false
 all_dead p [] b rest is = ap (λ (q : Bool). q && list_all p rest) is

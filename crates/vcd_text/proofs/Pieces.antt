@@ -11,6 +11,7 @@ use Rattle.vcd_text.specs.declared.reader.VcdReader.{VcdReader}
 use Rattle.vcd_text.specs.Tokens.{is_space, is_token}
 use Rattle.vcd_text.specs.Steps.{step}
 use Rattle.vcd_text.specs.Reading.{stepped, token_ended, spaced, taken_by, taken}
+use Rattle.std.proofs.lemmas.Bool.{not-false}
 
 pub taken_append : (xs ys : List ℕ) (r : VcdReader) → taken r (xs ++ ys) ≡ taken (taken r xs) ys
 taken_append [] ys r = refl
@@ -66,10 +67,6 @@ piece_inner r piece len fine is whole =
     let text : take len piece ≡ take (prefix_len (λ b. not (is_space b)) piece) piece = ap (λ (n : ℕ). take n piece) is in
     ap (λ (t : List ℕ). record r { word = r.word ++ t }) (sym all ∙ text) ∙ sym (text_inner piece r fine) ∙ ap (taken r) (sym text)
 
-space_is : (q : Bool) → not q ≡ false → q ≡ true
-space_is true h = refl
-space_is false h = cc
-
 -- a token has ended within the piece
 pub piece_ended : (r s n : VcdReader) (piece : List ℕ) (len b d : ℕ) → r.bad ≡ None → len ≡ prefix_len (λ b. not (is_space b)) piece → len < length piece → b ≡ get_or piece len d
     → s ≡ token_ended (record r { word = s.word }) (r.word ++ take len piece) → n ≡ spaced s b → n ≡ taken r (take (len + 1) piece)
@@ -79,7 +76,7 @@ piece_ended r s n piece len b d fine is below at ended spaced_is =
     let read : taken r (take len piece) ≡ record r { word = r.word ++ take len piece } = ap (taken r) text ∙ text_inner piece r fine ∙ ap (λ (t : List ℕ). record r { word = r.word ++ t }) (sym text) in
     let more : take (len + 1) piece ≡ take len piece ++ b ∷ [] = take_more piece len d below ∙ ap (λ (x : ℕ). take len piece ++ x ∷ []) (sym at) in
     spaced_is ∙ ap (λ (t : VcdReader). spaced t b) ended ∙ word_free r s.word (r.word ++ take len piece) (r.word ++ take len piece) b
-    ∙ sym (byte_space (record r { word = r.word ++ take len piece }) b fine (space_is (is_space b) stops))
+    ∙ sym (byte_space (record r { word = r.word ++ take len piece }) b fine (not-false (is_space b) stops))
     ∙ sym (ap (λ (t : VcdReader). taken t (b ∷ [])) read) ∙ sym (taken_append (take len piece) (b ∷ []) r) ∙ ap (taken r) (sym more)
 
 pub open_none : (bad : Option ℕ) → false ≡ is_some bad → bad ≡ None

@@ -2,7 +2,7 @@
 use Rattle.std.proofs.Common.{◌≡◌, ℕ, ◌+◌, ◌^◌, ◌<◌, ◌≤◌, Bool, true, false, ◌&&◌, List, [], ◌∷◌, ◌++◌, reverse, Some, None, Option, Ok, refl, sym, ap, subst, ◌∙◌, arith, append_assoc, append-nil, inl, inr}
 use Rattle.std.specs.Prelude.{◌⊎◌, nat_lt, nat_le, decimal, if◌then◌else◌}
 use Rattle.std.specs.List.{list_all}
-use Rattle.std.proofs.lemmas.Bool.{cases_lt, lt-ltb, le-ltb}
+use Rattle.std.proofs.lemmas.Bool.{cases_lt, lt-ltb, le-ltb, and_parts}
 use Rattle.std.proofs.lemmas.Bool.Decides.{nat_tests}
 use Rattle.std.proofs.lemmas.List.{reverse-append, reverse-reverse}
 use Rattle.bus_trace.specs.LineSet.{LineSet, set_of, number_of}
@@ -30,15 +30,10 @@ use Rattle.vcd_text.proofs.BackTokens.{decimal_again, decimal_printable, lines_a
 no_space : (b : ℕ) → is_printable b ≡ true → is_space b ≡ false
 no_space b h = grind (arith, nat_tests)
 
-both : (a b : Bool) → (a && b) ≡ true → (a ≡ true) × (b ≡ true)
-both true true h = (refl, refl)
-both true false h = cc
-both false b h = cc
-
 token_read : (token : List ℕ) (r : VcdReader) → r.bad ≡ None → list_all is_printable token ≡ true → taken r token ≡ record r { word = r.word ++ token }
 token_read [] r fine all = ap (λ (word : List ℕ). record r { word = word }) (sym (append-nil r.word))
 token_read (b ∷ token) r fine all =
-    let parts = both (is_printable b) (list_all is_printable token) all in
+    let parts = and_parts (is_printable b) (list_all is_printable token) all in
     ap (λ (s : VcdReader). taken s token) (byte_inner r b fine (no_space b parts.0)) ∙ token_read token (record r { word = r.word ++ b ∷ [] }) fine parts.1
     ∙ ap (λ (word : List ℕ). record r { word = word }) (append_assoc r.word (b ∷ []) token)
 

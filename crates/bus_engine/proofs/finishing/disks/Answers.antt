@@ -1,8 +1,9 @@
 use Rattle.std.proofs.Common.{◌+◌, drop, arith}
 use Rattle.bus_engine.specs.Disks.{IsWithin}
-use Rattle.bus_engine.proofs.Items.{dropped, all_drop}
+use Rattle.bus_engine.proofs.Items.{all_drop}
 use Rattle.bus_engine.proofs.Disks.{stored_next}
 use Rattle.bus_engine.proofs.finishing.disks.Goals as goal
+use Rattle.bus_base.proofs.Tests.{dropped}
 
 pub loop-index-preserved : goal.loop-index-preserved
 loop-index-preserved c =

@@ -16,8 +16,10 @@ use Rattle.bus_due.specs.Next.{IsPrompt, IsEnded}
 use Rattle.bus_due.specs.Plain.{AreOfDevices}
 use Rattle.bus_run.specs.Runs.{AreEarly, IsLong}
 use Rattle.bus_run.specs.declared.running.RunEnd.{RunEnd}
-use Rattle.bus_members.specs.Answers.{are_answered}
+use Rattle.bus_story.specs.Right.{all_carried}
+use Rattle.progress_laws.proofs.Ended.{joined}
 use Rattle.bus_engine.specs.Limits.{row_limit}
+use Rattle.bus_engine.proofs.Answered.{all_answered}
 use Rattle.bus_engine.proofs.Items.{all_reversed}
 use Rattle.bus_engine.proofs.Seams.{IsProved, all_few, seams_hold}
 use Rattle.bus_engine.proofs.running.run_in.Goals as goal
@@ -35,13 +37,13 @@ returns-clause-exact g c = λ at.
     let all : List Row = reverse c.in_ok-trace.trace.rows.items in
     let r = c.in_ok-finish.ensures.rows in
     let proved : IsProved s = record {
-      faithful_are = λ rows p short. c.prompt_traces_keep_the_books.ensures.faithful s rows c.requires.lawful p short;
-      telling_are = λ rows p short. c.ends_know_what_rows_tell.ensures.telling s rows c.requires.lawful p short;
-      allowed_are = λ rows p short. c.ends_know_what_rows_tell.ensures.allowed s rows c.requires.lawful p short;
-      ends_are = λ rows p short. c.connections_are_of_the_scenario.ensures.ends s rows c.requires.lawful p short;
-      heard_are = λ rows p short. c.ends_know_what_rows_tell.ensures.heard s rows c.requires.lawful p short;
-      written_are = λ rows p short. c.ends_know_what_rows_tell.ensures.written s rows c.requires.lawful p short;
-      attended_are = λ rows row p short. c.ends_know_what_rows_tell.ensures.attended s rows row c.requires.lawful p short;
+      faithful_are = λ rows p. c.prompt_traces_keep_the_books.ensures.faithful s rows c.requires.lawful p;
+      telling_are = λ rows p. c.ends_know_what_rows_tell.ensures.telling s rows c.requires.lawful p;
+      allowed_are = λ rows p. c.ends_know_what_rows_tell.ensures.allowed s rows c.requires.lawful p;
+      ends_are = λ rows p. c.connections_are_of_the_scenario.ensures.ends s rows c.requires.lawful p;
+      heard_are = λ rows p. c.ends_know_what_rows_tell.ensures.heard s rows c.requires.lawful p;
+      written_are = λ rows p. c.ends_know_what_rows_tell.ensures.written s rows c.requires.lawful p;
+      attended_are = λ rows row p. c.ends_know_what_rows_tell.ensures.attended s rows row c.requires.lawful p;
     } in
     let plain = c.kept_is_plain.ensures.rows s all c.in_ok-trace.ensures.devices in
     record {
@@ -51,20 +53,24 @@ returns-clause-exact g c = λ at.
           let prompt = c.in_ok-trace.ensures.prompt h at in
           let places = c.in_ok-trace.ensures.places h at in
           let ended = c.in_ok-trace.ensures.ended h at in
-          let less : length all < 2 ^ 64 = omega (arith, few) in
           record {
             prompt = subst (λ (l : List Row). IsPrompt s (reverse l)) (sym r) prompt;
-            lawful = lawful_at _ items _ (last_time all) r c.in_ok-finish.ensures.end (c.ended_traces_are_quiet.ensures.lawful s all c.requires.lawful prompt less ended);
+            lawful = lawful_at _ items _ (last_time all) r c.in_ok-finish.ensures.end (c.ended_traces_are_quiet.ensures.lawful s all c.requires.lawful prompt ended);
             ended = subst (λ (l : List Row). IsEnded s (reverse l)) (sym r) ended;
-            quiet = subst (λ (l : List Row). bus (reverse l) ≡ none) (sym r) (c.ended_traces_are_quiet.ensures.quiet s all c.requires.lawful prompt less ended);
+            quiet = subst (λ (l : List Row). bus (reverse l) ≡ none) (sym r) (c.ended_traces_are_quiet.ensures.quiet s all c.requires.lawful prompt ended);
             faults =
                 subst (λ (l : List Row). expected_strikes s (reverse l) ≡ row_strikes l) (sym r)
-                (c.fault_rows_are_of_the_scenario.ensures.struck s all c.requires.lawful prompt less ended ∙ ap row_strikes (reverse-reverse items));
+                (c.fault_rows_are_of_the_scenario.ensures.struck s all c.requires.lawful prompt ended ∙ ap row_strikes (reverse-reverse items));
             history = ap (λ (l : List Event). reverse l) c.in_ok-finish.ensures.history ∙ c.in_ok-trace.ensures.history h at ∙ ap (λ (l : List Row). trace_history s (reverse l)) (sym r);
             permitted =
-                subst (λ (l : List Row). is_some (array_after s (trace_history s (reverse l))) ≡ true) (sym r) (c.prompt_traces_are_right.ensures.permitted s all c.requires.lawful prompt less);
-            replies = λ answers.
-                c.in_ok-finish.ensures.replies all places (subst (λ (l : List Row). are_answered s (reverse l) ≡ true) r answers)
+                subst (λ (l : List Row). is_some (array_after s (trace_history s (reverse l))) ≡ true) (sym r) (c.prompt_traces_are_right.ensures.permitted s all c.requires.lawful prompt);
+            carried =
+                subst (λ (l : List Row). all_carried s (story s (reverse l)) (trace_history s (reverse l)) ≡ true) (sym r)
+                (c.prompt_traces_are_right.ensures.carried s all c.requires.lawful prompt);
+            replies =
+                c.in_ok-finish.ensures.replies all places
+                (all_answered s all c.requires.lawful prompt (joined s all c.wants_are_items.ensures.wants c.requires.lawful prompt) ended (c.endings_have_causes.ensures.status s all)
+                (c.prompt_traces_are_right.ensures.carried s all c.requires.lawful prompt))
                 ∙ ap (λ (b : Story). outcomes s b) plain.story
                 ∙ ap (λ (l : List Row). outcomes s (story s (reverse l))) (sym r);
             disks =
@@ -83,13 +89,13 @@ pub returns-in_err-trace-clause-unfinished : goal.returns-in_err-trace-clause-un
 returns-in_err-trace-clause-unfinished g c = λ at e.
     let s = c.args.scenario.now in
     let proved : IsProved s = record {
-      faithful_are = λ rows p short. c.prompt_traces_keep_the_books.ensures.faithful s rows c.requires.lawful p short;
-      telling_are = λ rows p short. c.ends_know_what_rows_tell.ensures.telling s rows c.requires.lawful p short;
-      allowed_are = λ rows p short. c.ends_know_what_rows_tell.ensures.allowed s rows c.requires.lawful p short;
-      ends_are = λ rows p short. c.connections_are_of_the_scenario.ensures.ends s rows c.requires.lawful p short;
-      heard_are = λ rows p short. c.ends_know_what_rows_tell.ensures.heard s rows c.requires.lawful p short;
-      written_are = λ rows p short. c.ends_know_what_rows_tell.ensures.written s rows c.requires.lawful p short;
-      attended_are = λ rows row p short. c.ends_know_what_rows_tell.ensures.attended s rows row c.requires.lawful p short;
+      faithful_are = λ rows p. c.prompt_traces_keep_the_books.ensures.faithful s rows c.requires.lawful p;
+      telling_are = λ rows p. c.ends_know_what_rows_tell.ensures.telling s rows c.requires.lawful p;
+      allowed_are = λ rows p. c.ends_know_what_rows_tell.ensures.allowed s rows c.requires.lawful p;
+      ends_are = λ rows p. c.connections_are_of_the_scenario.ensures.ends s rows c.requires.lawful p;
+      heard_are = λ rows p. c.ends_know_what_rows_tell.ensures.heard s rows c.requires.lawful p;
+      written_are = λ rows p. c.ends_know_what_rows_tell.ensures.written s rows c.requires.lawful p;
+      attended_are = λ rows row p. c.ends_know_what_rows_tell.ensures.attended s rows row c.requires.lawful p;
     } in
     let p = err_from_is_err_and c.from_residual.result c.from_residual.ensures.1 in
     let is = sym p.2 ∙ same_end (sym p.1 ∙ e) in

@@ -2,8 +2,9 @@
 use Rattle.std.proofs.Common.{◌+◌, ◌∙◌, List, reverse, take, sym, subst, arith}
 use Rattle.bus_trace.specs.declared.Row.{Row}
 use Rattle.bus_rules.specs.Judging.{IsTermsOf}
-use Rattle.bus_rules.proofs.Past.{past_more, whole_broken, judged_next, judged_past}
+use Rattle.bus_rules.proofs.Past.{whole_broken, judged_next, judged_past}
 use Rattle.bus_rules.proofs.judge.judge_plain.Goals as goal
+use Rattle.bus_trace.proofs.OneRow.{rows_so_far}
 
 pub returns-in-Some : goal.returns-in-Some
 returns-in-Some c =
@@ -22,7 +23,7 @@ loop-i-preserved c =
     let kept = c.judge.ensures.kept past c.loop-i.invariant.terms in
     let broken = sym (c.judge.ensures.broken past c.loop-i.invariant.terms) ∙ c.in_default.is in
     record {
-      terms = subst (λ (ps : List Row). IsTermsOf ps c.judge.new.self) (sym (past_more xs c.loop-i.i row c.loop-i-test.true c.index-rows-i.is)) kept;
+      terms = subst (λ (ps : List Row). IsTermsOf ps c.judge.new.self) (sym (rows_so_far xs c.loop-i.i row c.loop-i-test.true c.index-rows-i.is)) kept;
       lawful = judged_next xs c.loop-i.i row c.loop-i-test.true c.index-rows-i.is _ broken c.loop-i.invariant.lawful;
     }
 

@@ -11,13 +11,14 @@ use Rattle.scenario.specs.Lookups.{has_target}
 use Rattle.target_course.specs.Courses.{name_of}
 use Rattle.target_course.specs.States.{IsOwnConnection}
 use Rattle.disk_target.specs.Attended.{is_whole_run}
-use Rattle.disk_target.specs.Processes.{AreOwnEvents, AreProcessesOf, events_of_row}
+use Rattle.disk_target.specs.Processes.{AreOwnEvents, AreProcessesOf}
 use Rattle.disk_target.specs.Standings.{HasBlock, IsServed, IsStanding}
 use Rattle.disk_target.specs.Turns.{AreAttendedOn, abort_of, is_reset}
 use Rattle.disk_target.proofs.RowSent.{all_sent}
 use Rattle.disk_target.proofs.RowOwn.{own_events}
 use Rattle.disk_target.proofs.RowServed.{empty_on, row_serves, same_served, unopened}
 use Rattle.disk_target.proofs.turn.see_served.Goals as goal
+use Rattle.target_course.specs.Negotiated.{events_of_row}
 
 pub returns-in-None-clause-trace : goal.returns-in-None-clause-trace
 returns-in-None-clause-trace c = λ s rows row d n h own calm reset none opening att.

@@ -1,8 +1,10 @@
 use Rattle.std.proofs.Common.{refl}
+use Rattle.scsi_device.proofs.FitLines.{obeys_fits}
 use Rattle.bus_laws.proofs.Limits.{obeys_latencies}
 use Rattle.bus_laws.proofs.Prompt.{least_is}
 use Rattle.bus_laws.proofs.Together.{standing_first, stage_first}
 use Rattle.link_laws.specs.LinkStages.{apart}
+use Rattle.link_laws.proofs.RunLengths.{runs_are_short}
 use Rattle.link_laws.proofs.Traces.{from_any, sides_are}
 use Rattle.link_laws.proofs.laws.connections_go_on.Goals as goal
 
@@ -10,7 +12,7 @@ pub returns-clause-start : goal.returns-clause-start
 returns-clause-start c = λ s. (standing_first s, apart (stage_first s) refl)
 
 pub returns-clause-next : goal.returns-clause-next
-returns-clause-next c = λ s rows row o st here short books e. from_any s rows row (obeys_latencies s o) st short here books (least_is s rows row e)
+returns-clause-next c = λ s rows row o st here books e. from_any s rows row (obeys_latencies s o) (runs_are_short s (obeys_fits s o)) st here books (least_is s rows row e)
 
 pub returns-clause-sides : goal.returns-clause-sides
 returns-clause-sides c = λ s rows n h. sides_are s rows n h

@@ -1,9 +1,5 @@
-use Rattle.transcript_laws.proofs.Histories.{tells_history}
-use Rattle.transcript_laws.proofs.StandingFirst.{standing_first}
+use Rattle.transcript_laws.proofs.StandingNext.{fit_tells}
 use Rattle.transcript_laws.proofs.laws.transcripts_follow_histories.Goals as goal
 
-pub returns-clause-first : goal.returns-clause-first
-returns-clause-first c = λ s. standing_first s
-
-pub returns-clause-told : goal.returns-clause-told
-returns-clause-told c = λ s rows past apart. tells_history s rows past apart
+pub returns : goal.returns
+returns c = λ s rows fits fewer. fit_tells s rows fits fewer

@@ -4,15 +4,17 @@ use Rattle.bus_base.specs.declared.Event.{Event}
 use Rattle.bus_due.specs.Allowed.{allowed}
 use Rattle.bus_due.specs.RunState.{or_start}
 use Rattle.bus_due.specs.RunSteps.{run_state, array_after_events}
-use Rattle.disk_target.specs.Processes.{AreSettledAt, times_of_events, events_of_row}
-use Rattle.disk_target.proofs.RowEvents.{row_events, and_two}
+use Rattle.disk_target.specs.Processes.{AreSettledAt, times_of_events}
+use Rattle.disk_target.proofs.RowEvents.{row_events}
 use Rattle.disk_target.proofs.processes.Processes.see.Goals as goal
+use Rattle.bus_base.proofs.Tests.{and_second}
+use Rattle.target_course.specs.Negotiated.{events_of_row}
 
 pub returns-clause-trace : goal.returns-clause-trace
 returns-clause-trace c = λ s rows row p seats permitted is time served own h.
     let k = run_state s rows in
     let n : ℕ = c.args.served.now.unit in
-    let some : is_some (array_after_events s k.array c.args.shown.now) ≡ true = (λ i. is_some (array_after_events s k.array (is i))) ∙ and_two (allowed s rows) _ permitted in
+    let some : is_some (array_after_events s k.array c.args.shown.now) ≡ true = (λ i. is_some (array_after_events s k.array (is i))) ∙ and_second (allowed s rows) _ permitted in
     let z = row_events s k.array k.current_since c.args.now p n c.args.served.now c.args.self.now c.take_all.new.self c.args.shown.now seats h some own
     c.take_all.ensures.nothing
     (λ a b it e at it_own st. c.take_all.ensures.one s a b k.current_since p it e served at it_own st)

@@ -3,8 +3,8 @@ use Rattle.initiator.specs.Hosts.{HostValue, IsHostAfter}
 use Rattle.initiator.specs.Negotiations.{aims_at_process}
 use Rattle.initiator.specs.Received.{AreReceived}
 use Rattle.initiator.specs.Speeches.{IsOpeningOf}
-use Rattle.initiator.proofs.Hosts.{and_right}
 use Rattle.initiator.proofs.host.Host.hear_row.Goals as goal
+use Rattle.bus_base.proofs.Tests.{and_second}
 
 pub returns-clause-trace : goal.returns-clause-trace
 returns-clause-trace c = λ s rows row f o d shown h.
@@ -29,5 +29,5 @@ returns-clause-trace c = λ s rows row f o d shown h.
       received_is = λ u.
           subst (λ (n : ℕ). AreReceived s (row ∷ rows) n c.see_received.new.received) g.transfers_dev
           (c.see_received.ensures s rows row d heard (c.connection-3.ensures.trace (row ∷ rows) v) g.transfers_are u
-          (subst (λ (n : ℕ). AreReceived s rows n c.self.inside.received) (sym g.transfers_dev) (g.received_is (and_right _ _ u))));
+          (subst (λ (n : ℕ). AreReceived s rows n c.self.inside.received) (sym g.transfers_dev) (g.received_is (and_second _ _ u))));
     }

@@ -1,0 +1,134 @@
+-- The runs of data are far shorter than the counts of REQ and ACK reach, after any rows.
+use Rattle.std.proofs.Common.{ℕ, ◌≡◌, ◌≤◌, ◌+◌, ◌-◌, ◌*◌, ◌^◌, Bool, true, false, ◌&&◌, List, [], ◌∷◌, length, Option, Some, None, refl, subst, arith}
+use Rattle.std.specs.Prelude.{if◌then◌else◌, min, nat_lt, ◌==◌}
+use Rattle.std.proofs.lemmas.Bool.{ltb-true}
+use Rattle.bus_base.specs.declared.Event.{Event}
+use Rattle.bus_base.specs.declared.ProcId.{ProcId}
+use Rattle.bus_trace.specs.declared.Row.{Row}
+use Rattle.bus_trace.specs.declared.connection.Connection.{Connection}
+use Rattle.cdb_codec.specs.Cdb.{command_of}
+use Rattle.cdb_codec.specs.declared.status.TheConstants.{GOOD}
+use Rattle.scenario.specs.Needs.{need_of, sent_of, is_write}
+use Rattle.scenario.specs.Value.{ScenarioValue}
+use Rattle.scenario.specs.declared.value.CmdDef.{CmdDef}
+use Rattle.scenario.specs.declared.value.Policy.{Policy}
+use Rattle.scenario.specs.declared.value.Policy.TheVariants as policies
+use Rattle.disk_array.specs.ArrayHistory as Play
+use Rattle.disk_array.specs.Execution.{Reply}
+use Rattle.disk_array.specs.Processes.{Process, process_of, process_if, process_by, command_at}
+use Rattle.disk_array.specs.Units.{Array, unit_state_at, nexus_of}
+use Rattle.disk_array.specs.Steps
+use Rattle.bus_story.specs.BusState.{row_reading}
+use Rattle.bus_story.specs.HistoryEvents.{row_events_by}
+use Rattle.bus_story.specs.Items.{Item, process, abort}
+use Rattle.bus_dialogue.specs.Arrivals.{policy_of}
+use Rattle.bus_dialogue.specs.DataRuns.{run_by, run_in, run_length}
+use Rattle.bus_dialogue.specs.PhaseBytes.{run_length_if}
+use Rattle.bus_dialogue.specs.declared.exchange.Task.{Task}
+use Rattle.bus_due.specs.Defs.{target_def_of}
+use Rattle.bus_due.specs.RunState.{RunState, or_start, array_of, process_item, process_served, carried_here}
+use Rattle.bus_due.specs.RunSteps.{run_state, array_after_events}
+use Rattle.bus_due.specs.LastingState.{progress_in}
+use Rattle.bus_due.specs.Tasks.{is_writing, moved_count, reply_now, task_if, task_with}
+use Rattle.scsi_device.specs.Lines.{FitsBus, IsCommandLine}
+use Rattle.scsi_device.proofs.FitLines.{command_fits}
+use Rattle.link_laws.specs.Pulses.{run_count}
+use Rattle.link_laws.proofs.UnitContents.{HasShortUnits, HasShortUnitsIf, gives_few, context_at_short, event_short, start_short, settled_start_short}
+
+-- No run has more than 2^43 bytes.
+abbrev pub HasShortRuns : ScenarioValue → Type 0
+HasShortRuns s = (p : List Row) (n : Connection) → run_count s p n ≤ 2 ^ 43
+
+-- ---- the array, row by row
+
+events_short : (s : ScenarioValue) (shown : List Event) (o : Option Array) → HasShortUnitsIf o → HasShortUnitsIf (array_after_events s o shown)
+events_short s [] o h = h
+events_short s (event ∷ shown) o h = event_short s event (array_after_events s o shown) (events_short s shown o h)
+
+array_short : (s : ScenarioValue) (p : List Row) → FitsBus s → HasShortUnitsIf (run_state s p).array
+array_short s [] fits = settled_start_short s fits
+array_short s (row ∷ p) fits =
+    let k : RunState = run_state s p in
+    events_short s (row_events_by s k.story (row_reading k.story.bus_state row) row) k.array (array_short s p fits)
+
+or_start_short : (s : ScenarioValue) (o : Option Array) → FitsBus s → HasShortUnitsIf o → HasShortUnits (or_start s o)
+or_start_short s None fits h = start_short s fits
+or_start_short s (Some a) fits h = h
+
+-- ---- what a process sends
+
+sent_few : (s : ScenarioValue) (c : CmdDef) → need_of s c ≤ 65536 → sent_of s c ≤ 65536
+unfolding sent_of
+sent_few s c few = go (is_write (command_of c.cdb))
+  where
+    go : (q : Bool) → (if q then need_of s c else 0) ≤ 65536
+    go true = few
+    go false = omega arith
+
+process_few : (s : ScenarioValue) (id : ProcId) (p : Process) → FitsBus s → process_of s id ≡ Some p → length p.sent ≤ 65536
+process_few s id p fits e = go (command_at s.commands id.command) refl e
+  where
+    same : (q : Process) → (let o : Option Process = Some q in o) ≡ Some p → q ≡ p
+    same q z = cc
+
+    sent : (c : CmdDef) → IsCommandLine s c → (q : Bool) → length (process_by s (record { command = id.command; sense = q }) c).sent ≤ 65536
+    sent c h true = omega arith
+    sent c h false = let few = sent_few s c h.need in let long = h.sent in omega (arith, few, long)
+
+    go : (o : Option CmdDef) → command_at s.commands id.command ≡ o → process_if s id o ≡ Some p → length p.sent ≤ 65536
+    go None there z = absurd cc
+    go (Some c) there z = subst (λ (q : Process). length q.sent ≤ 65536) (same (process_by s id c) z) (sent c (command_fits s id.command c fits there) id.sense)
+
+-- ---- how many bytes a process moves, and a run has
+
+moved_few : (p : Process) (r : Reply) → length p.sent ≤ 65536 → length r.bytes ≤ 2 ^ 43 → moved_count p r ≤ 2 ^ 43
+moved_few p r sent given = go (r.status == GOOD) (is_writing p)
+  where
+    go : (a b : Bool) → (if a then (if b then length p.sent else length r.bytes) else 0) ≤ 2 ^ 43
+    go true true = omega (arith, sent)
+    go true false = given
+    go false b = omega arith
+
+cut : (start step moved : ℕ) → min (start + step) moved - start ≤ moved
+cut start step moved = omega arith
+
+first_part : (step moved : ℕ) (first shorter : Bool) → nat_lt step moved ≡ shorter → (if first && shorter then step else moved) - 0 ≤ moved
+first_part step moved false shorter e = omega arith
+first_part step moved true false e = omega arith
+first_part step moved true true e = let less = ltb-true step moved e in omega (arith, less)
+
+part_of_all : (policy : Policy) (size moved n : ℕ) → (run_by policy size moved n).end - (run_by policy size moved n).start ≤ moved
+part_of_all policies.Never size moved n = omega arith
+part_of_all policies.Command size moved n = omega arith
+part_of_all (policies.Burst most) size moved n = cut (n * (most * size)) (most * size) moved
+part_of_all (policies.NoSave most) size moved n = first_part (most * size) moved (n == 0) (nat_lt (most * size) moved) refl
+
+run_in_all : (policy : Policy) (blocks : Option ℕ) (size moved n : ℕ) → (run_in policy blocks size moved n).end - (run_in policy blocks size moved n).start ≤ moved
+run_in_all policy None size moved n = omega arith
+run_in_all policy (Some blocks) size moved n = part_of_all policy size moved n
+
+pub run_within : (policy : Policy) (t : Task) → run_length policy t ≤ t.moved
+run_within policy t = run_in_all policy t.blocks t.size t.moved t.runs
+
+-- ---- any rows
+
+task_few : (s : ScenarioValue) (k : RunState) (policy : Policy) (o : Option Process) → HasShortUnits (array_of s k)
+    → ((p : Process) → o ≡ Some p → length p.sent ≤ 65536) → run_length_if policy (task_if s k o) ≤ 2 ^ 43
+task_few s k policy None h f = omega arith
+task_few s k policy (Some p) h f =
+    let a : Array = array_of s k in
+    let given = (gives_few (Steps.context_at a (nexus_of p) (unit_state_at a.units p.target p.unit)) p.cdb p.sent (context_at_short a (nexus_of p) p.target p.unit h)).bytes in
+    let t : Task = task_with a (progress_in k.progress p.id) p (carried_here k p.id) (reply_now a p) (Play.reply_in a.replies p.id) in
+    let part = run_within policy t in
+    let all = moved_few p (reply_now a p) (f p refl) given in
+    omega (arith, part, all)
+
+served_few : (s : ScenarioValue) (i : Option Item) (p : Process) → FitsBus s → process_item s i ≡ Some p → length p.sent ≤ 65536
+served_few s None p fits e = absurd cc
+served_few s (Some (process id)) p fits e = process_few s id p fits e
+served_few s (Some (abort n)) p fits e = absurd cc
+
+pub runs_are_short : (s : ScenarioValue) → FitsBus s → HasShortRuns s
+runs_are_short s fits p n =
+    let k : RunState = run_state s p in
+    task_few s k (policy_of (target_def_of s n.target)) (process_served s k) (or_start_short s k.array fits (array_short s p fits)) (λ q e. served_few s k.served q fits e)

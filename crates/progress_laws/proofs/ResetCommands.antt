@@ -1,0 +1,76 @@
+-- While RST is true no command is open: with the row that raises it every command that was sent is over, and none is sent (6.2.2).
+use Rattle.std.proofs.Common.{ℕ, ◌≡◌, ◌<◌, Bool, true, false, not, ◌∙◌, List, [], ◌∷◌, Some, None, refl, sym, ap}
+use Rattle.std.specs.Prelude.{if◌then◌else◌}
+use Rattle.bus_base.specs.declared.Event.{Event}
+use Rattle.bus_trace.specs.declared.Row.{Row}
+use Rattle.bus_trace.specs.declared.changes.Change.{Change}
+use Rattle.bus_trace.specs.Changes.{change_of, rises}
+use Rattle.bus_trace.specs.Trace.{bus}
+use Rattle.scenario.specs.declared.value.CmdDef.{CmdDef}
+use Rattle.scenario.specs.Value.{ScenarioValue}
+use Rattle.disk_array.specs.Processes.{command_at, process_by, process_if}
+use Rattle.bus_story.specs.BusState.{RowReading, row_reading}
+use Rattle.bus_story.specs.HistoryEvents.{row_events_by}
+use Rattle.bus_story.specs.Items.{command_item, has_item, is_open}
+use Rattle.bus_story.specs.Story.{Story, story_after_events}
+use Rattle.bus_story.specs.TraceHistory.{story_by_change, story_on_bus}
+use Rattle.bus_due.specs.Plain.{AreOfDevices}
+use Rattle.bus_due.specs.RunState.{RunState}
+use Rattle.bus_due.specs.RunSteps.{run_state, run_state_after}
+use Rattle.bus_laws.proofs.Apart.{change_plain}
+use Rattle.trace_laws.proofs.ItemFacts.{rst_raised}
+use Rattle.trace_laws.proofs.OverItems.{events_grow}
+use Rattle.trace_laws.proofs.PointerEnds.{command_over}
+use Rattle.progress_laws.proofs.QueueRows.{fewer_open, open_over}
+use Rattle.progress_laws.specs.Queued.{command_id}
+use Rattle.bus_base.proofs.Tests.{wrong, and_first}
+
+abbrev pub NoneOpen : ScenarioValue → RunState → Type 0
+NoneOpen s k = (n : ℕ) (c : CmdDef) → command_at s.commands n ≡ Some c → is_open k.story.sent n ≡ false
+
+-- Under RST nothing is sent.
+open_before : (s : ScenarioValue) (k : RunState) (row : Row) (n : ℕ) → (row_reading k.story.bus_state row).change.after.rst ≡ true
+    → is_open (run_state_after s k row).story.sent n ≡ true → is_open k.story.sent n ≡ true
+open_before s k row n on e =
+    let g = events_grow s b shown in
+    ap (λ (q : Bool). is_open (if q then record k.story { link = None } else story_on_bus s k.story k.story.bus_state.connection d.next d row).sent n) (sym on)
+    ∙ fewer_open b.sent (story_after_events s b shown).sent n g.sent g.over e
+  where
+    d : RowReading
+    d = row_reading k.story.bus_state row
+
+    b : Story
+    b = story_by_change s k.story d row
+
+    shown : List Event
+    shown = row_events_by s k.story d row
+
+reset_row : (s : ScenarioValue) (p : List Row) (row : Row) → AreOfDevices p → row.dev < 8 → ((bus p).rst ≡ true → NoneOpen s (run_state s p)) → (bus (row ∷ p)).rst ≡ true
+    → NoneOpen s (run_state s (row ∷ p))
+reset_row s p row dv lt none on n c at = go (is_open (run_state_after s k row).story.sent n) refl
+  where
+    k : RunState
+    k = run_state s p
+
+    change : (row_reading k.story.bus_state row).change ≡ change_of p row
+    change = change_plain s row p dv lt
+
+    raised : (row_reading k.story.bus_state row).change.after.rst ≡ true
+    raised = ap (λ (x : Change). x.after.rst) change ∙ on
+
+    by : is_open (run_state_after s k row).story.sent n ≡ true → is_open k.story.sent n ≡ true → (q : Bool) → (bus p).rst ≡ q
+        → is_open (run_state_after s k row).story.sent n ≡ false
+    by e was true z = wrong (sym was ∙ none z n c at)
+    by e was false z =
+        open_over (run_state_after s k row).story.sent n e
+        (command_over s k row (command_id n) (process_by s (command_id n) c) (ap (process_if s (command_id n)) at) refl
+        (and_first (has_item k.story.sent.sent (command_item n)) (not (has_item k.story.sent.over (command_item n))) was) raised
+        (ap (λ (x : Change). rises x.own.rst x.next.rst) change ∙ rst_raised p row lt z on))
+
+    go : (q : Bool) → is_open (run_state_after s k row).story.sent n ≡ q → is_open (run_state_after s k row).story.sent n ≡ false
+    go false e = e
+    go true e = by e (open_before s k row n raised e) (bus p).rst refl
+
+pub none_under_rst : (s : ScenarioValue) (p : List Row) → AreOfDevices p → (bus p).rst ≡ true → NoneOpen s (run_state s p)
+none_under_rst s [] dv on = λ n c at. refl
+none_under_rst s (row ∷ p) dv on = reset_row s p row dv.1 dv.0 (λ z. none_under_rst s p dv.1 z) on

@@ -1,0 +1,191 @@
+-- The messages of what an initiator says in MESSAGE OUT: MESSAGE PARITY ERROR is said alone, or not at all.
+use Rattle.std.proofs.Common.{ℕ, zero, suc, ◌≡◌, ◌∙◌, ◌<◌, Bool, true, false, not, ◌&&◌, List, [], ◌∷◌, ◌++◌, Option, Some, None, refl, sym, ap, subst, arith}
+use Rattle.std.specs.Prelude.{nat_lt, if◌then◌else◌}
+use Rattle.std.proofs.lemmas.List.{append-nil}
+use Rattle.bus_base.specs.declared.AbortKind.{AbortKind}
+use Rattle.bus_base.specs.declared.AbortKind.TheVariants as aborts
+use Rattle.bus_base.specs.declared.ProcId.{ProcId}
+use Rattle.bus_trace.specs.declared.connection.Connection.{Connection}
+use Rattle.msg_grammar.specs.declared.message.MsgOut.{MsgOut}
+use Rattle.msg_grammar.specs.declared.message.MsgOut.TheVariants as to_target
+use Rattle.msg_grammar.specs.Messages.{FitsOut, form_out, out_bytes}
+use Rattle.scenario.specs.declared.value.AbortDef.{AbortDef}
+use Rattle.scenario.specs.declared.value.CmdDef.{CmdDef}
+use Rattle.scenario.specs.declared.value.HostDef.{HostDef}
+use Rattle.scenario.specs.declared.value.Tag.{Tag}
+use Rattle.scenario.specs.declared.value.Tag.TheVariants as tags
+use Rattle.scenario.specs.Value.{ScenarioValue}
+use Rattle.scenario.specs.Needs.{sent_of}
+use Rattle.disk_array.specs.Processes.{Process, command_at, payload_bytes, process_by, process_if, process_of, sense_block}
+use Rattle.bus_story.specs.HistoryEvents.{abort_line_at}
+use Rattle.bus_story.specs.Items.{Item, process, abort}
+use Rattle.bus_story.specs.TraceHistory.{is_parity_error}
+use Rattle.bus_dialogue.specs.declared.exchange.Cause.{Cause}
+use Rattle.bus_dialogue.specs.declared.exchange.Cause.TheVariants as causes
+use Rattle.bus_dialogue.specs.Exchange.{Exchange}
+use Rattle.bus_dialogue.specs.Words.{offer_if, tag_bytes, abort_bytes, process_opening, abort_opening, parity_error, host_answer}
+use Rattle.bus_due.specs.Defs.{host_of, opening}
+use Rattle.bus_books.specs.Speaking.{AreWordsFor, opens, refuses, answers, rejects_data, rejects_status}
+use Rattle.scsi_device.specs.Lines.{AreUnits}
+use Rattle.transcript_laws.proofs.SaidWords.{said_of}
+
+-- ---- one message after another
+
+pub said_message : (m : MsgOut) → FitsOut m → (rest : List ℕ) → said_of [] (out_bytes m ++ rest) ≡ m ∷ said_of [] rest
+unfolding form_out
+said_message (to_target.Identify disc lun) fits rest = go disc lun fits
+  where
+    go : (disc : Bool) (lun : ℕ) → lun < 8 → said_of [] (out_bytes (to_target.Identify disc lun) ++ rest) ≡ to_target.Identify disc lun ∷ said_of [] rest
+    go true zero lt = refl
+    go true (suc zero) lt = refl
+    go true (suc (suc zero)) lt = refl
+    go true (suc (suc (suc zero))) lt = refl
+    go true (suc (suc (suc (suc zero)))) lt = refl
+    go true (suc (suc (suc (suc (suc zero))))) lt = refl
+    go true (suc (suc (suc (suc (suc (suc zero)))))) lt = refl
+    go true (suc (suc (suc (suc (suc (suc (suc zero))))))) lt = refl
+    go false zero lt = refl
+    go false (suc zero) lt = refl
+    go false (suc (suc zero)) lt = refl
+    go false (suc (suc (suc zero))) lt = refl
+    go false (suc (suc (suc (suc zero)))) lt = refl
+    go false (suc (suc (suc (suc (suc zero))))) lt = refl
+    go false (suc (suc (suc (suc (suc (suc zero)))))) lt = refl
+    go false (suc (suc (suc (suc (suc (suc (suc zero))))))) lt = refl
+    go disc (suc (suc (suc (suc (suc (suc (suc (suc n)))))))) lt = absurd omega (arith, lt)
+said_message (to_target.SimpleTag n) fits rest = refl
+said_message (to_target.HeadTag n) fits rest = refl
+said_message (to_target.OrderedTag n) fits rest = refl
+said_message (to_target.Sdtr offer) fits rest = refl
+said_message to_target.Abort fits rest = refl
+said_message to_target.AbortTag fits rest = refl
+said_message to_target.ClearQueue fits rest = refl
+said_message to_target.DeviceReset fits rest = refl
+said_message to_target.DetectedError fits rest = refl
+said_message to_target.ParityError fits rest = refl
+said_message to_target.Reject fits rest = refl
+said_message to_target.Nop fits rest = refl
+
+pub said_one : (m : MsgOut) → FitsOut m → said_of [] (out_bytes m) ≡ m ∷ []
+said_one m fits = ap (λ (x : List ℕ). said_of [] x) (sym (append-nil (out_bytes m))) ∙ said_message m fits []
+
+-- ---- the openings
+
+abbrev pub tag_messages : Tag → List MsgOut → List MsgOut
+tag_messages tags.Untagged more = more
+tag_messages (tags.Simple n) more = to_target.SimpleTag n ∷ more
+tag_messages (tags.Ordered n) more = to_target.OrderedTag n ∷ more
+tag_messages (tags.Head n) more = to_target.HeadTag n ∷ more
+
+tag_said : (tag : Tag) (rest : List ℕ) → said_of [] (tag_bytes tag ++ rest) ≡ tag_messages tag (said_of [] rest)
+tag_said tags.Untagged rest = refl
+tag_said (tags.Simple n) rest = said_message (to_target.SimpleTag n) tt rest
+tag_said (tags.Ordered n) rest = said_message (to_target.OrderedTag n) tt rest
+tag_said (tags.Head n) rest = said_message (to_target.HeadTag n) tt rest
+
+abbrev pub offer_messages : Option HostDef → List MsgOut
+offer_messages None = []
+offer_messages (Some h) = if h.offers && nat_lt 0 h.period then to_target.Sdtr (record { period = h.period; offset = h.offset }) ∷ [] else []
+
+abbrev pub offers_if : Bool → Option HostDef → List MsgOut
+offers_if true h = offer_messages h
+offers_if false h = []
+
+offer_said : (negotiates : Bool) (h : Option HostDef) → said_of [] (offer_if negotiates h) ≡ offers_if negotiates h
+offer_said false h = refl
+offer_said true None = refl
+offer_said true (Some h) = go (h.offers && nat_lt 0 h.period)
+  where
+    go : (q : Bool) → said_of [] (if q then out_bytes (to_target.Sdtr (record { period = h.period; offset = h.offset })) else []) ≡ (if q then to_target.Sdtr (record { period = h.period; offset = h.offset }) ∷ [] else [])
+    go true = said_one (to_target.Sdtr (record { period = h.period; offset = h.offset })) tt
+    go false = refl
+
+pub process_said : (h : Option HostDef) (negotiates : Bool) (p : Process) → p.unit < 8 → said_of [] (process_opening h negotiates (Some p)) ≡ to_target.Identify (not p.id.sense) p.unit ∷ tag_messages p.tag (offers_if negotiates h)
+process_said h negotiates p lt =
+    said_message (to_target.Identify (not p.id.sense) p.unit) lt (tag_bytes p.tag ++ offer_if negotiates h)
+    ∙ ap (λ (x : List MsgOut). to_target.Identify (not p.id.sense) p.unit ∷ x) (tag_said p.tag (offer_if negotiates h) ∙ ap (tag_messages p.tag) (offer_said negotiates h))
+
+abbrev pub abort_messages : AbortKind → List MsgOut
+abort_messages aborts.All = to_target.Abort ∷ []
+abort_messages (aborts.Tag n) = to_target.SimpleTag n ∷ to_target.AbortTag ∷ []
+abort_messages aborts.WholeQueue = to_target.ClearQueue ∷ []
+abort_messages aborts.Device = to_target.DeviceReset ∷ []
+
+what_said : (what : AbortKind) → said_of [] (abort_bytes what) ≡ abort_messages what
+what_said aborts.All = said_one to_target.Abort tt
+what_said (aborts.Tag n) = said_message (to_target.SimpleTag n) tt (out_bytes to_target.AbortTag) ∙ ap (λ (x : List MsgOut). to_target.SimpleTag n ∷ x) (said_one to_target.AbortTag tt)
+what_said aborts.WholeQueue = said_one to_target.ClearQueue tt
+what_said aborts.Device = said_one to_target.DeviceReset tt
+
+pub abort_said : (a : AbortDef) → a.unit < 8 → said_of [] (abort_opening (Some a)) ≡ to_target.Identify false a.unit ∷ abort_messages a.what
+abort_said a lt = said_message (to_target.Identify false a.unit) lt (abort_bytes a.what) ∙ ap (λ (x : List MsgOut). to_target.Identify false a.unit ∷ x) (what_said a.what)
+
+-- ---- MESSAGE PARITY ERROR
+
+abbrev pub is_plain_said : List MsgOut → Bool
+is_plain_said [] = true
+is_plain_said (m ∷ ms) = not (is_parity_error m) && is_plain_said ms
+
+plain_offer : (negotiates : Bool) (h : Option HostDef) → is_plain_said (offers_if negotiates h) ≡ true
+plain_offer false h = refl
+plain_offer true None = refl
+plain_offer true (Some h) = go (h.offers && nat_lt 0 h.period)
+  where
+    go : (q : Bool) → is_plain_said (if q then to_target.Sdtr (record { period = h.period; offset = h.offset }) ∷ [] else []) ≡ true
+    go true = refl
+    go false = refl
+
+plain_tag : (tag : Tag) (more : List MsgOut) → is_plain_said more ≡ true → is_plain_said (tag_messages tag more) ≡ true
+plain_tag tags.Untagged more e = e
+plain_tag (tags.Simple n) more e = e
+plain_tag (tags.Ordered n) more e = e
+plain_tag (tags.Head n) more e = e
+
+plain_abort : (what : AbortKind) → is_plain_said (abort_messages what) ≡ true
+plain_abort aborts.All = refl
+plain_abort (aborts.Tag n) = refl
+plain_abort aborts.WholeQueue = refl
+plain_abort aborts.Device = refl
+
+-- The unit of a process of the scenario.
+pub unit_small : (s : ScenarioValue) (id : ProcId) (p : Process) → AreUnits s → process_of s id ≡ Some p → p.unit < 8
+unit_small s id p u e = go (command_at s.commands id.command) refl e
+  where
+    of_def : (c : CmdDef) (q : Bool) → id.sense ≡ q → (process_by s id c).unit ≡ c.unit
+    of_def c true f = ap (λ (x : Bool). let y : Process = if x then record { id = id; initiator = c.host; target = c.target; unit = c.unit; tag = tags.Untagged; cdb = sense_block; sent = [] } else record { id = id; initiator = c.host; target = c.target; unit = c.unit; tag = c.tag; cdb = c.cdb; sent = payload_bytes c.payload (sent_of s c) } in y.unit) f
+    of_def c false f = ap (λ (x : Bool). let y : Process = if x then record { id = id; initiator = c.host; target = c.target; unit = c.unit; tag = tags.Untagged; cdb = sense_block; sent = [] } else record { id = id; initiator = c.host; target = c.target; unit = c.unit; tag = c.tag; cdb = c.cdb; sent = payload_bytes c.payload (sent_of s c) } in y.unit) f
+
+    same : (x : Process) → (let o : Option Process = Some x in o) ≡ Some p → x ≡ p
+    same x z = cc
+
+    go : (o : Option CmdDef) → command_at s.commands id.command ≡ o → process_if s id o ≡ Some p → p.unit < 8
+    go None f z = absurd (none_some z)
+      where
+        none_some : (let o : Option Process = None in o) ≡ Some p → ⊥
+        none_some w = cc
+    go (Some c) f z = subst (λ (x : ℕ). x < 8) (sym (of_def c id.sense refl) ∙ ap (λ (x : Process). x.unit) (same (process_by s id c) z)) (u.commands id.command c f)
+
+pub opening_plain : (s : ScenarioValue) (dev : ℕ) (negotiates : Bool) (served : Option Item) → AreUnits s → is_plain_said (said_of [] (opening s dev negotiates served)) ≡ true
+opening_plain s dev negotiates None u = refl
+opening_plain s dev negotiates (Some (process id)) u = go (process_of s id) refl
+  where
+    go : (o : Option Process) → process_of s id ≡ o → is_plain_said (said_of [] (process_opening (host_of s dev) negotiates o)) ≡ true
+    go None e = refl
+    go (Some p) e = ap is_plain_said (process_said (host_of s dev) negotiates p (unit_small s id p u e)) ∙ plain_tag p.tag (offers_if negotiates (host_of s dev)) (plain_offer negotiates (host_of s dev))
+opening_plain s dev negotiates (Some (abort n)) u = go (abort_line_at s.aborts n) refl
+  where
+    go : (o : Option AbortDef) → abort_line_at s.aborts n ≡ o → is_plain_said (said_of [] (abort_opening o)) ≡ true
+    go None e = refl
+    go (Some a) e = ap is_plain_said (abort_said a (u.aborts n a e)) ∙ plain_abort a.what
+
+-- What is said is MESSAGE PARITY ERROR after a message, or has none of it.
+pub data SaysParity (words : List ℕ) (cause : Cause) : Type 0 where
+  refusing : cause ≡ causes.InMessage → words ≡ parity_error → SaysParity words cause
+  plain_words : is_plain_said (said_of [] words) ≡ true → SaysParity words cause
+
+pub says_parity : (s : ScenarioValue) (n : Connection) (served : Option Item) (x : Exchange) (cause : Cause) → AreUnits s → AreWordsFor s n served x cause → SaysParity x.speech.words cause
+says_parity s n served x _ u (opens e) = plain_words (ap (λ (w : List ℕ). is_plain_said (said_of [] w)) e ∙ opening_plain s n.initiator x.plan.negotiates served u)
+says_parity s n served x _ u (refuses e) = refusing refl e
+says_parity s n served x _ u (answers e) = plain_words (ap (λ (w : List ℕ). is_plain_said (said_of [] w)) e ∙ ap is_plain_said (said_one (to_target.Sdtr (host_answer (host_of s n.initiator) x.speech.asked)) tt))
+says_parity s n served x _ u (rejects_data e) = plain_words (ap (λ (w : List ℕ). is_plain_said (said_of [] w)) e ∙ ap is_plain_said (said_one to_target.DetectedError tt))
+says_parity s n served x _ u (rejects_status e) = plain_words (ap (λ (w : List ℕ). is_plain_said (said_of [] w)) e ∙ ap is_plain_said (said_one to_target.DetectedError tt))

@@ -1,0 +1,41 @@
+-- RST that ends a connection begins with the row: while RST is true a transcript keeps no connection open (6.2.2).
+use Rattle.std.proofs.Common.{◌≡◌, ◌∙◌, ◌<◌, Bool, true, false, List, [], ◌∷◌, Option, None, refl, ap}
+use Rattle.std.specs.Prelude.{◌||◌, is_none}
+use Rattle.bus_trace.specs.Changes.{change_of, rises}
+use Rattle.bus_trace.specs.Trace.{bus}
+use Rattle.bus_trace.specs.declared.changes.Change.{Change}
+use Rattle.bus_trace.specs.declared.rows.Row.{Row}
+use Rattle.scenario.specs.Value.{ScenarioValue}
+use Rattle.bus_story.specs.BusState.{row_reading}
+use Rattle.bus_due.specs.Plain.{AreOfDevices}
+use Rattle.bus_due.specs.RunSteps.{run_state}
+use Rattle.bus_due.proofs.Plains.{run_state_plain}
+use Rattle.bus_laws.proofs.Apart.{change_plain}
+use Rattle.bus_transcript.specs.Opened.{OpenedValue}
+use Rattle.bus_transcript.specs.Rows.{transcribed}
+use Rattle.trace_laws.proofs.UnderRst.{raises_or_stands}
+use Rattle.transcript_laws.proofs.OpenedRows.{opened_reset}
+use Rattle.bus_base.proofs.Tests.{or_true, or_second}
+
+pub rst_none : (s : ScenarioValue) (rows : List Row) → AreOfDevices rows → (bus rows).rst ≡ true → (transcribed rows).opened ≡ None
+rst_none s [] dv on = refl
+rst_none s (row ∷ rows) dv on =
+    let pl = run_state_plain s rows dv.1 in
+    opened_reset s rows row (run_state s rows).story pl.story (ap (λ (c : Change). c.after.rst) (change_plain s row rows dv.1 dv.0) ∙ on)
+
+pub rst_row : (s : ScenarioValue) (p : List Row) (row : Row) → AreOfDevices p → row.dev < 8 → (bus (row ∷ p)).rst ≡ true
+    → (is_none (transcribed p).opened || rises (row_reading (run_state s p).story.bus_state row).change.own.rst (row_reading (run_state s p).story.bus_state row).change.next.rst) ≡ true
+rst_row s p row dv lt on = go (bus p).rst refl
+  where
+    c : Change
+    c = change_of p row
+
+    up : Bool
+    up = rises (row_reading (run_state s p).story.bus_state row).change.own.rst (row_reading (run_state s p).story.bus_state row).change.next.rst
+
+    same : up ≡ rises c.own.rst c.next.rst
+    same = ap (λ (x : Change). rises x.own.rst x.next.rst) (change_plain s row p dv lt)
+
+    go : (q : Bool) → (bus p).rst ≡ q → (is_none (transcribed p).opened || up) ≡ true
+    go true e = ap (λ (o : Option OpenedValue). is_none o || up) (rst_none s p dv e)
+    go false e = ap (λ (q : Bool). is_none (transcribed p).opened || q) (same ∙ or_second (bus p).rst (rises c.own.rst c.next.rst) (raises_or_stands p row lt on) e) ∙ or_true (is_none (transcribed p).opened)
