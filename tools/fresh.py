@@ -40,7 +40,6 @@ MADE = {
     "crates/bus_due/proofs/Cases.antt": (["tools/due_case.py"] + RUNS, None),
     "crates/bus_due/proofs/SeamCases.antt": (["tools/seam_case.py", "Cases"] + RUNS, None),
     "crates/bus_laws/proofs/HeardCases.antt": (["tools/heard_case.py", "Cases"] + RUNS, None),
-    "crates/bus_members/proofs/AnswerCases.antt": (["tools/answer_case.py", "Cases"] + RUNS, None),
     "crates/bus_books/proofs/Cases.antt": (["tools/books_case.py"] + RUNS, None),
     "crates/bus_books/proofs/StoryCases.antt": (["tools/books_case.py", "--whole"] + STORIES, None),
     "crates/right_laws/proofs/Cases.antt": (["tools/books_case.py", "--reads"] + READS, None),

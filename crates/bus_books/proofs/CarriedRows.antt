@@ -16,9 +16,8 @@ use Rattle.bus_trace.specs.Changes.{falls}
 use Rattle.cdb_codec.specs.declared.status.TheConstants.{CHECK_CONDITION}
 use Rattle.msg_grammar.specs.declared.message.MsgOut.{MsgOut}
 use Rattle.msg_grammar.specs.declared.message.MsgIn.{MsgIn}
-use Rattle.scenario.specs.declared.value.CmdDef.{CmdDef}
 use Rattle.scenario.specs.Value.{ScenarioValue}
-use Rattle.disk_array.specs.Processes.{Process, process_of, process_if, process_by, command_at}
+use Rattle.disk_array.specs.Processes.{Process, process_of}
 use Rattle.bus_story.specs.BusState.{RowReading, row_reading}
 use Rattle.bus_story.specs.CarriedBytes.{CarriedBytes, carried_of, with_restored_pointers, carried_after_byte, carried_after_fault}
 use Rattle.bus_story.specs.Items.{Item, process, abort, sense_item, is_open}
@@ -32,6 +31,7 @@ use Rattle.bus_books.specs.Carrying.{IsOwn, AllCarryOwn, SendsNext, SendsOwn, Al
 use Rattle.bus_books.proofs.Lookups.{carried_id}
 use Rattle.bus_books.proofs.Carried.{AllOwn, restored_own, refused_own, shown_own, fault_own, message_own, IsNext, byte_own, nothing_own, with_own}
 use Rattle.bus_story.proofs.StorySteps.{ends_keep, check_keeps}
+pub use Rattle.disk_array.proofs.SoundArrays.{id_is as process_id}
 
 -- ---- of a story
 
@@ -192,21 +192,6 @@ in_own s b l (Some m) h = go (is_none l.item)
 
 pub process_none : (p : Process) → (let a : Option Process = None in a) ≡ Some p → ⊥
 process_none p e = cc
-
-abbrev or_process : Process → Option Process → Process
-or_process p None = p
-or_process p (Some q) = q
-
-pub process_id : (s : ScenarioValue) (id : ProcId) (p : Process) → process_of s id ≡ Some p → p.id ≡ id
-process_id s id p e = go (command_at s.commands id.command) refl
-  where
-    by : (c : CmdDef) (sense : Bool) → (process_by s (record { command = id.command; sense = sense }) c).id ≡ record { command = id.command; sense = sense }
-    by c true = refl
-    by c false = refl
-
-    go : (c : Option CmdDef) → command_at s.commands id.command ≡ c → p.id ≡ id
-    go None f = absurd (process_none p (sym (ap (λ (x : Option CmdDef). process_if s id x) f) ∙ e))
-    go (Some c) f = sym (ap (λ (q : Process). q.id) (ap (or_process p) (sym (ap (λ (x : Option CmdDef). process_if s id x) f) ∙ e))) ∙ by c id.sense
 
 sends : (s : ScenarioValue) (k : RunState) (l : Link) (d : RowReading) (id : ProcId) → k.story.link ≡ Some l → l.item ≡ Some (process id) → ((p : Process) → process_here s k ≡ Some p → SendsNext s k p d)
     → (p : Process) → process_of s (carried_of k.story.carried id).id ≡ Some p → IsNext (carried_of k.story.carried id) p d.change.before (d.change.after.data_bits % 256)

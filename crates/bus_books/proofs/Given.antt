@@ -7,7 +7,7 @@ use Rattle.bus_trace.specs.declared.connection.Connection.{Connection}
 use Rattle.bus_trace.specs.Changes.{rises}
 use Rattle.bus_trace.specs.Terms.{receiver_in}
 use Rattle.bus_trace.specs.Phases.{changes_phase, is_message_out, is_message_in}
-use Rattle.bus_lines.specs.Handshakes.{Handshakes, no_handshakes, handshakes_after, asked_if, answered_if}
+use Rattle.bus_lines.specs.Handshakes.{no_handshakes, handshakes_after, asked_if, answered_if}
 use Rattle.bus_phases.specs.declared.reading.Reading.TheVariants as readings
 use Rattle.bus_phases.specs.Dialogue.{opened, dialogue_after}
 use Rattle.bus_phases.specs.Half.{left_of, is_nil}
@@ -35,7 +35,7 @@ use Rattle.bus_books.specs.Giving.{OnMessage, OnMessages, Gives, GivesNext}
 use Rattle.bus_books.specs.Rows.{IsFirstRow}
 use Rattle.bus_books.proofs.Lists.{word_at}
 use Rattle.bus_books.proofs.Areas.{split_at}
-use Rattle.bus_books.proofs.Gives.{gives_as}
+use Rattle.bus_books.proofs.Gives.{gives_as, answered_same}
 use Rattle.bus_base.proofs.Tests.{and_first, and_second}
 use Rattle.bus_books.proofs.Reading.{nil_is}
 use Rattle.bus_books.proofs.Hearable.{next_half}
@@ -52,10 +52,6 @@ names_fit (Some r) h = (h r refl, tagged r.process.tag)
     tagged (tags.Ordered n) = tt
     tagged (tags.Head n) = tt
 
-answered_requests : (q : Bool) (t : ℕ) (z : Handshakes) → (answered_if q t z).requests ≡ z.requests
-answered_requests true t z = refl
-answered_requests false t z = refl
-
 -- REQ has not risen yet.
 pub first_requests : (s : ScenarioValue) (k : RunState) (row : Row) (n : Connection) → IsFirstRow k row n → (run_state_after s k row).handshakes.requests ≡ 0
 first_requests s k row n h =
@@ -65,7 +61,7 @@ first_requests s k row n h =
   where
     begun : (q r : Bool) → (if q then no_handshakes else answered_if r row.time k.handshakes).requests ≡ 0
     begun true r = refl
-    begun false r = answered_requests r row.time k.handshakes ∙ h.none_asked
+    begun false r = answered_same r row.time k.handshakes ∙ h.none_asked
 
 pub gives_first : (s : ScenarioValue) (k : RunState) (row : Row) (n : Connection) → IsFirstRow k row n → (n.reselected ≡ true → (r : Ready) → ready_of s k n.target ≡ Some r → r.process.unit < 8) → Gives (run_state_after s k row)
 gives_first s k row n h named =

@@ -1,19 +1,12 @@
 -- What one process carried_after_byte does not touch another.
-use Rattle.std.proofs.Common.{ℕ, ◌≡◌, Bool, true, false, ◌&&◌, List, [], ◌∷◌, ◌∙◌, refl, sym, ap, arith, true≢false, Some, None}
-use Rattle.std.specs.Prelude.{◌==◌, if◌then◌else◌}
+use Rattle.std.proofs.Common.{ℕ, ◌≡◌, Bool, true, false, List, [], ◌∷◌, ◌∙◌, refl, sym, ap, arith, true≢false, Some, None}
+use Rattle.std.specs.Prelude.{if◌then◌else◌}
 use Rattle.std.proofs.lemmas.Bool.Decides.{nat_tests}
 use Rattle.bus_base.specs.declared.ProcId.{ProcId}
 use Rattle.disk_array.specs.Processes.{same_id, same_bool}
 use Rattle.bus_story.specs.CarriedBytes.{CarriedBytes, nothing_carried, carried_at, with_carried, carried_or_nothing, carried_of}
-use Rattle.std.proofs.lemmas.Bool.{eqb-true}
-use Rattle.bus_base.proofs.Tests.{and_first, and_second, eq_self}
-
-self_bool : (b : Bool) → same_bool b b ≡ true
-self_bool true = refl
-self_bool false = refl
-
-pub self_id : (a : ProcId) → same_id a a ≡ true
-self_id a = (λ i. eq_self a.command i && same_bool a.sense a.sense) ∙ self_bool a.sense
+pub use Rattle.disk_array.proofs.SeatLookups.{same_id_is as id_is}
+pub use Rattle.bus_due.proofs.SameEvents.{id_self as self_id}
 
 pub is_bool : (a b : Bool) → same_bool a b ≡ true → a ≡ b
 is_bool true true e = refl
@@ -21,23 +14,14 @@ is_bool false false e = refl
 is_bool true false e = absurd (true≢false (sym e))
 is_bool false true e = absurd (true≢false (sym e))
 
-pub id_is : (a b : ProcId) → same_id a b ≡ true → a ≡ b
-id_is a b e =
-    let c = eqb-true a.command b.command (and_first (a.command == b.command) (same_bool a.sense b.sense) e) in
-    let d = is_bool a.sense b.sense (and_second (a.command == b.command) (same_bool a.sense b.sense) e) in
-    λ i. record { command = c i; sense = d i }
-
 -- what is found under an id is of this id
-found_id : (all : List CarriedBytes) (id : ProcId) → (carried_of all id).id ≡ id
-found_id [] id = refl
-found_id (k ∷ all) id = go (same_id k.id id) refl (found_id all id)
+pub carried_id : (all : List CarriedBytes) (id : ProcId) → (carried_of all id).id ≡ id
+carried_id [] id = refl
+carried_id (k ∷ all) id = go (same_id k.id id) refl (carried_id all id)
   where
     go : (q : Bool) → same_id k.id id ≡ q → (carried_of all id).id ≡ id → (carried_or_nothing (if q then Some k else carried_at all id) id).id ≡ id
     go true e rest = id_is k.id id e
     go false e rest = rest
-
-pub carried_id : (all : List CarriedBytes) (id : ProcId) → (carried_of all id).id ≡ id
-carried_id = found_id
 
 -- one that is area_with there is found, and no other changes
 pub put_there : (all : List CarriedBytes) (c : CarriedBytes) (id : ProcId) → carried_of (with_carried all c) id ≡ (if same_id c.id id then c else carried_of all id)

@@ -16,6 +16,7 @@ use Rattle.bus_trace.specs.declared.connection.Connection.{Connection}
 use Rattle.bus_books.proofs.FirstWords.{process_unit}
 use Rattle.std.proofs.lemmas.Bool.{eqb-true}
 use Rattle.bus_base.proofs.Tests.{and_first, none_number}
+use Rattle.bus_books.proofs.CarriedRows.{process_none}
 
 none_some : (x : Ready) → (let a : Option Ready = None in a) ≡ Some x → ⊥
 none_some x e = cc
@@ -111,9 +112,6 @@ ready_for s k n r u h e i =
 
 -- ---- by whom a device calls
 
-none_process : (x : Process) → (let a : Option Process = None in a) ≡ Some x → ⊥
-none_process x e = cc
-
 abbrev or_number : ℕ → Option ℕ → ℕ
 or_number x None = x
 or_number x (Some y) = y
@@ -140,7 +138,7 @@ selects_for s k n host e = go (aim_of k.story.aims n.initiator) refl
 
     of_item : (item : Item) → target_of s (Some item) ≡ Some n.target → (p : Process) → process_item s (Some item) ≡ Some p → p.target ≡ n.target
     of_item (process id) z p f = ap (or_number n.target) (sym (ap target_if f) ∙ z)
-    of_item (abort m) z p f = absurd (none_process p f)
+    of_item (abort m) z p f = absurd (process_none p f)
 
     go : (x : Option Item) → aim_of k.story.aims n.initiator ≡ x → IsAimedAt s k n
     go None f = absurd (none_number n.target (sym (ap (target_of s) f) ∙ called))

@@ -12,3 +12,4 @@ pub mod Seams
 pub mod Stills
 mod Traces
 pub mod NegotiatedPairs
+pub mod SameEvents

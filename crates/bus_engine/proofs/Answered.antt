@@ -37,7 +37,7 @@ use Rattle.bus_engine.proofs.EndStatuses.{all_ended, end_found, end_reply}
 use Rattle.bus_engine.proofs.ListedReplies.{all_given, is_known}
 use Rattle.bus_engine.proofs.RanTargets.{ran_there}
 use Rattle.bus_engine.proofs.Replied.{HaveReplies, all_replied}
-use Rattle.bus_engine.proofs.Settled.{over_told, sense_is_done, settled_status}
+use Rattle.bus_engine.proofs.Settled.{over_told, sense_is_done, settled_status, next_place}
 use Rattle.bus_engine.proofs.Undone.{no_byte_undone}
 
 -- ---- what is known of it
@@ -72,9 +72,6 @@ settled s k n c h told at some = go (ending_of k.story.ended n) refl some
     go (Some unanswered) e z = refl
 
 -- ---- all commands
-
-next_place : (n m : ℕ) → n + suc m ≡ n + 1 + m
-next_place n m = omega arith
 
 some_ended : (s : ScenarioValue) (b : Story) (n : ℕ) → is_some (outcome_of s b n) ≡ true → is_some (ending_of b.ended n) ≡ true
 some_ended s b n e = go (ending_of b.ended n) e

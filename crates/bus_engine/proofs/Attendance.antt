@@ -1,7 +1,6 @@
 -- What a prompt trace shows in a connection is attended, as the target of the connection rests on it.
-use Rattle.std.proofs.Common.{ℕ, ◌≡◌, ◌⊎◌, inl, inr, ◌<◌, Bool, true, false, not, ◌&&◌, ◌||◌, ◌==◌, ◌∙◌, List, [], ◌∷◌, length, Option, Some, None, refl, sym, ap, arith}
-use Rattle.std.specs.Prelude.{if◌then◌else◌, is_some, nat_le, nat_lt}
-use Rattle.std.proofs.lemmas.Bool.Decides.{nat_tests}
+use Rattle.std.proofs.Common.{◌≡◌, ◌⊎◌, inl, inr, ◌<◌, Bool, true, false, not, ◌&&◌, ◌||◌, ◌==◌, ◌∙◌, List, [], ◌∷◌, length, Option, Some, None, refl, sym, ap}
+use Rattle.std.specs.Prelude.{if◌then◌else◌, is_some, nat_le}
 use Rattle.bus_base.specs.declared.Event.{Event}
 use Rattle.bus_base.specs.declared.Event.TheVariants as events
 use Rattle.bus_base.specs.declared.ProcId.{ProcId}
@@ -22,7 +21,7 @@ use Rattle.bus_due.specs.Plain.{AreOfDevices, IsPlain}
 use Rattle.bus_due.specs.RunState.{RunState, array_of, process_served}
 use Rattle.bus_due.specs.RunSteps.{run_state}
 use Rattle.bus_due.specs.Tasks.{is_writing}
-use Rattle.bus_due.proofs.Plains.{run_state_plain}
+use Rattle.bus_due.proofs.Plains.{run_state_plain, of_devices}
 use Rattle.scsi_device.specs.Heard.{Instructions, instructions, is_opening}
 use Rattle.scsi_device.specs.Writes.{Writer, is_writer, writer_of, writers}
 use Rattle.target_course.specs.Replies.{is_run as shows_is, shows_run}
@@ -34,16 +33,13 @@ use Rattle.trace_laws.specs.Attendance.{AreShown, IsShown, ShowsIn, accepts, ref
 use Rattle.trace_laws.specs.RunsWhole.{IsWhole, RunsWhole, ends_badly, has_run, is_run, sends_all, sends_none}
 use Rattle.trace_laws.specs.RowAttendance.{IsAttended, IsCalmTurn}
 use Rattle.trace_laws.proofs.WholeRuns.{sent_all}
-use Rattle.std.proofs.lemmas.Bool.{or_right, and_from, lt-ltb}
-use Rattle.bus_base.proofs.Tests.{wrong, or_true, eq_self, implication, unless, or_middle}
+use Rattle.std.proofs.lemmas.Bool.{or_right, and_from, lt-ltb, eq-eqb}
+use Rattle.bus_base.proofs.Tests.{wrong, or_true, implication, unless, or_middle}
 
 -- ---- its events
 
 of_served : (k : RunState) (n : Connection) (id : ProcId) (e : Event) → k.served ≡ Some (process id) → is_of_item (Some (process id)) e ≡ true → (is_of_item k.served e || is_abort_in n e) ≡ true
 of_served k n id e served h = λ i. (ap (λ (o : Option Item). is_of_item o e) served ∙ h) i || is_abort_in n e
-
-same_number : (a b : ℕ) → a ≡ b → (a == b) ≡ true
-same_number a b e = ap (λ (x : ℕ). x == b) e ∙ eq_self b
 
 event_in : (k : RunState) (n : Connection) (known : Bool) (e : Event) → IsShown k n known e → (is_of_item k.served e || is_abort_in n e) ≡ true
 event_in k n known _ (accepts id h) = of_served k n id (events.Accept id) h (self_id id)
@@ -53,7 +49,7 @@ event_in k n known _ (fails id code h) = of_served k n id (events.Fail id code) 
 event_in k n known _ (ends id status h good) = of_served k n id (events.End id status) h (self_id id)
 event_in k n known _ (loses id h) = of_served k n id (events.Lost id) h (self_id id)
 event_in k n known _ (aborts host target unit what eh et lu lh) =
-    (λ i. is_of_item k.served (events.Aborted host target unit what) || (same_number host n.initiator eh i && same_number target n.target et i && (lt-ltb unit 8 lu i && lt-ltb host 8 lh i)))
+    (λ i. is_of_item k.served (events.Aborted host target unit what) || (eq-eqb host n.initiator eh i && eq-eqb target n.target et i && (lt-ltb unit 8 lu i && lt-ltb host 8 lh i)))
     ∙ or_true (is_of_item k.served (events.Aborted host target unit what))
 
 event_known : (k : RunState) (n : Connection) (known : Bool) (e : Event) → IsShown k n known e → is_known_end known e ≡ true
@@ -189,11 +185,7 @@ row_attended s rows row dv lt h = ap (is_attended_if s k d i all (events_of s ro
 
 -- ---- all rows
 
-devices_are : (s : ScenarioValue) (rows : List Row) → IsPrompt s rows → AreOfDevices rows
-devices_are s [] prompt = tt
-devices_are s (row ∷ rows) prompt = ((least_is s rows row prompt.1).inside, devices_are s rows prompt.0)
-
 pub rows_attended : (s : ScenarioValue) → ((p : List Row) (row : Row) → IsPrompt s (row ∷ p) → IsAttended s p row) → (rows : List Row) → IsPrompt s rows → attended s rows ≡ true
 rows_attended s each [] prompt = refl
 rows_attended s each (row ∷ rows) prompt =
-    and_from _ _ (rows_attended s each rows prompt.0) (row_attended s rows row (devices_are s rows prompt.0) (least_is s rows row prompt.1).inside (each rows row prompt))
+    and_from _ _ (rows_attended s each rows prompt.0) (row_attended s rows row (of_devices s rows prompt.0) (least_is s rows row prompt.1).inside (each rows row prompt))

@@ -1,5 +1,5 @@
 -- The next item of a list, and those after it.
-use Rattle.std.proofs.Common.{◌≡◌, ℕ, zero, suc, ◌+◌, ◌<◌, ◌≤◌, get_or, add-one, drop-cons, List, [], ◌∷◌, drop, length, reverse, ◌++◌, refl, sym, ap, subst, ◌∙◌, ◌*◌, ◌/◌, arith}
+use Rattle.std.proofs.Common.{◌≡◌, ℕ, zero, suc, ◌+◌, ◌<◌, ◌≤◌, get_or, List, [], ◌∷◌, drop, length, reverse, refl, sym, ap, subst, ◌∙◌, ◌*◌, ◌/◌, arith}
 use Rattle.std.specs.Prelude.{max, Result, Ok, Err, IfOk}
 use Rattle.std.proofs.lemmas.List.{reverse-append, reverse-reverse}
 use Rattle.std.specs.List.{AllByRecursion}

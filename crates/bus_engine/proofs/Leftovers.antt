@@ -1,8 +1,8 @@
 -- What the disks of a run that is over hold.
-use Rattle.std.proofs.Common.{ℕ, ◌≡◌, ◌<◌, true, List, [], ◌∷◌, ◌++◌, Option, Some, None, refl, sym, ap, ◌∙◌}
+use Rattle.std.proofs.Common.{ℕ, ◌≡◌, ◌<◌, true, List, Option, Some, None, refl, sym, ap, ◌∙◌}
 use Rattle.std.specs.Prelude.{is_some, slice_index_or}
 use Rattle.std.specs.List.{AllByRecursion}
-use Rattle.std.proofs.lemmas.Bool.{and_parts, true≢false}
+use Rattle.std.proofs.lemmas.Bool.{true≢false}
 use Rattle.scsi_device.proofs.Finds.{all_are}
 use Rattle.bus_trace.specs.declared.Row.{Row}
 use Rattle.scenario.specs.declared.value.TargetDef.{TargetDef}
@@ -11,7 +11,7 @@ use Rattle.scenario.specs.Value.{ScenarioValue}
 use Rattle.disk_array.specs.ArrayHistory.{array_after, disks_of, unit_contents}
 use Rattle.disk_array.specs.SoundArray.{IsSound}
 use Rattle.disk_array.specs.Units.{Array, unit_state_at}
-use Rattle.bus_due.specs.Allowed.{allowed, is_allowed}
+use Rattle.bus_due.specs.Allowed.{allowed}
 use Rattle.bus_due.specs.Defs.{target_def_of}
 use Rattle.bus_due.specs.Plain.{IsPlain}
 use Rattle.bus_due.specs.RunState.{or_start, array_of}
@@ -20,12 +20,11 @@ use Rattle.bus_story.specs.TraceHistory.{trace_history}
 use Rattle.scsi_device.specs.Lines.{IsUnitLine, FitsBus}
 use Rattle.target_units.specs.Units.{UnitsState, AreUnitsOf, unit_in, contents_in, state_contents}
 use Rattle.target_units.specs.declared.logical.LogicalUnit.{LogicalUnit}
-use Rattle.bus_run.specs.Shown.{reading}
 use Rattle.bus_members.specs.Over.{AreUnitsIf}
 use Rattle.bus_engine.specs.Disks.{AreUnitsByTarget, held_if, AreHeld, IsWithin, have_targets}
 use Rattle.bus_engine.proofs.Disks.{held_all}
 use Rattle.bus_engine.proofs.Names.{history_names}
-use Rattle.bus_base.proofs.Tests.{all_append}
+use Rattle.ending_causes.proofs.Refusals.{allowed_array}
 
 -- ---- the array after the rows
 
@@ -33,12 +32,8 @@ some_array : (s : ScenarioValue) (o : Option Array) → is_some o ≡ true → o
 some_array s None e = absurd (true≢false (sym e))
 some_array s (Some a) e = refl
 
-is_there : (s : ScenarioValue) (rows : List Row) → allowed s rows ≡ true → is_some (run_state s rows).array ≡ true
-is_there s [] e = refl
-is_there s (row ∷ rows) e = (and_parts (allowed s rows) (is_allowed s (run_state s rows) row (reading s rows row)) e).1
-
 pub array_is : (s : ScenarioValue) (rows : List Row) → IsPlain s rows (run_state s rows) → allowed s rows ≡ true → array_after s (trace_history s rows) ≡ Some (array_of s (run_state s rows))
-array_is s rows p e = sym p.array ∙ some_array s (run_state s rows).array (is_there s rows e)
+array_is s rows p e = sym p.array ∙ some_array s (run_state s rows).array (allowed_array s rows e)
 
 -- ---- what the units hold
 

@@ -36,9 +36,10 @@ use Rattle.bus_story.specs.Right.{has_run, is_run_of}
 use Rattle.bus_books.proofs.Lookups.{id_is}
 use Rattle.trace_laws.proofs.ListedReplies.{accepted, end_lists, refused, settles}
 use Rattle.trace_laws.proofs.OtherProcesses.{executed, reply_at}
+use Rattle.trace_laws.proofs.EachProcess.{running_id}
+use Rattle.trace_laws.proofs.Impossible.{none_some}
 use Rattle.progress_laws.proofs.FetchedSenses.{sense_cdb}
 use Rattle.progress_laws.proofs.OwedEvents.{running_own}
-use Rattle.progress_laws.proofs.QueueSteps.{running_id}
 use Rattle.right_laws.proofs.WholeBlocks.{HasWhole, whole_always}
 use Rattle.scsi_device.proofs.FitLines.{command_fits, obeys_fits, seats_are}
 use Rattle.target_units.specs.Rooms.{AreOfLines}
@@ -149,12 +150,9 @@ has_room s a p c by o lines whole at there =
     room_there s c (length (reply_at a p (unit_state_at a.units p.target p.unit)).bytes) there (command_fits s p.id.command c (obeys_fits s o) at).need
     (subst (λ (n : ℕ). length (reply_at a p (unit_state_at a.units p.target p.unit)).bytes ≤ n) (λ i. most_given (command_of (cdb i)) (unit_of s (target i) (unit i))) (given_few s a p lines whole))
 
-no_array : {A : Type 0} (c : Array) → (let o : Option Array = None in o) ≡ Some c → A
-no_array c z = absurd cc
-
 ran : (s : ScenarioValue) (h : List Event) (a c : Array) (id : ProcId) (guest : Bool) (o : Option RunningProcess) → Obeys s → IsAlong s a → Steps.running_process a id ≡ o → Steps.run_step a guest o ≡ Some c
     → AreGiven s h a.replies → AreGiven s (events.Run id ∷ h) c.replies
-ran s h a c id guest None o is f e g = no_array c e
+ran s h a c id guest None o is f e g = none_some c e
 ran s h a c id guest (Some r) o is f e g = go (is_none r.reply && (guest || not (is_held a.holds r.process.target r.process.unit))) e
   where
     u : Option UnitState
@@ -184,7 +182,7 @@ ran s h a c id guest (Some r) o is f e g = go (is_none r.reply && (guest || not 
           room = subst (λ (y : ProcId). y.sense ≡ false → (d : CmdDef) → command_at s.commands y.command ≡ Some d → has_target s d.target ≡ true → length (reply_at a r.process u).bytes ≤ data_room s d)
               (id_is r.process.id x same) room;
         }) g
-    go false z = no_array c z
+    go false z = none_some c z
 
 step_given : (s : ScenarioValue) (h : List Event) (a d : Array) (e : Event) → Obeys s → IsAlong s a → Steps.step s e a ≡ Some d → AreGiven s h a.replies → AreGiven s (e ∷ h) d.replies
 step_given s h a d (events.Accept id) o is e g =

@@ -11,16 +11,16 @@ use Rattle.bus_base.specs.declared.ProcId.{ProcId}
 use Rattle.cdb_codec.specs.Cdb.{command_of}
 use Rattle.cdb_codec.specs.declared.status.TheConstants.{GOOD, CHECK_CONDITION}
 use Rattle.cdb_codec.specs.declared.sense.TheConstants.{ABORTED_COMMAND}
-use Rattle.scenario.specs.declared.value.HostDef.{HostDef}
 use Rattle.scenario.specs.declared.value.UnitDef.{UnitDef}
 use Rattle.scenario.specs.Value.{ScenarioValue}
 use Rattle.disk_array.specs.Contents.{Contents}
-use Rattle.disk_array.specs.Execution.{Reply, Execution, execution, is_request_sense, queue_full, check_condition, sense_of, commands_cleared}
+use Rattle.disk_array.specs.Execution.{Reply, Execution, execution, is_request_sense, queue_full, check_condition, sense_of}
 use Rattle.disk_array.specs.Order.{choice}
 use Rattle.disk_array.specs.Processes.{Process, process_of}
-use Rattle.disk_array.specs.Steps.{process_count, with_guest, with_listed_reply, queue_step, accept_step_at, accept_step, refuse_step_at, refuse_step, context_at, with_contents, without_attention, units_with_reply, with_reply, running_process, after_execution, run_step, is_waiting, has_ended, fail_step_of_new, fail_step, units_without, array_without, after_status, end_step_with, end_step, loss_step, kept_units, without_dropped, is_of_unit, has_tag, is_reset_pending, reset_attention, cleared_attention, reset_attentions, unit_reset_attentions, cleared_attentions, unit_processes, kept_nexuses, kept_senses, abort_step, reset_step, event_step, settled_array_if, step}
-use Rattle.disk_array.specs.Units.{RunningProcess, UnitState, Nexus, Array, sense_of_nexus, senses_without, nexuses_without, unit_state_at, with_unit, guest_at, nexus_of, is_held, has_no_current, with_current, unit_after_choice, units_after_choice, settled_array, starting_units, starting_array}
+use Rattle.disk_array.specs.Steps.{process_count, with_guest, with_listed_reply, queue_step, accept_step_at, accept_step, refuse_step_at, refuse_step, context_at, with_contents, without_attention, units_with_reply, with_reply, running_process, after_execution, run_step, is_waiting, has_ended, fail_step_of_new, fail_step, units_without, array_without, after_status, end_step_with, end_step, loss_step, kept_units, without_dropped, is_of_unit, has_tag, unit_processes, kept_nexuses, kept_senses, abort_step, reset_step, event_step, settled_array_if, step}
+use Rattle.disk_array.specs.Units.{RunningProcess, UnitState, Nexus, Array, senses_without, nexuses_without, unit_state_at, with_unit, guest_at, nexus_of, is_held, has_no_current, with_current, unit_after_choice, units_after_choice, settled_array, starting_units, starting_array}
 use Rattle.disk_array.specs.ArrayHistory.{array_step, array_after}
+use Rattle.initiator.proofs.NoUnits.{cleared_units, unit_reset_units}
 
 abbrev pub names : List UnitState → List (ℕ × ℕ)
 names [] = []
@@ -164,32 +164,6 @@ loss_names a id = keeps_if a (has_ended a id) None (Some (array_without a id)) (
 
 -- ---- aborts and resets
 
-cleared_units : (initiator : ℕ) (lost : List Process) (a : Array) → (cleared_attentions initiator lost a).units ≡ a.units
-cleared_units initiator [] a = refl
-cleared_units initiator (p ∷ lost) a =
-    cleared_units initiator lost (if p.initiator == initiator then a else cleared_attention a (nexus_of p)) ∙ go (p.initiator == initiator)
-  where
-    inner : (q : Bool) → (let c : Array = if q then a else record a { attentions = (nexus_of p, commands_cleared) ∷ senses_without a.attentions (nexus_of p) } in c.units) ≡ a.units
-    inner true = refl
-    inner false = refl
-
-    go : (q : Bool) → (let c : Array = if q then a else cleared_attention a (nexus_of p) in c.units) ≡ a.units
-    go true = refl
-    go false = inner (is_reset_pending (sense_of_nexus a.attentions (nexus_of p)))
-
-reset_units_of : (hosts : List HostDef) (target unit : ℕ) (a : Array) → (reset_attentions hosts target unit a).units ≡ a.units
-reset_units_of [] target unit a = refl
-reset_units_of (h ∷ hosts) target unit a = reset_units_of hosts target unit (reset_attention a (record { initiator = h.dev; target = target; unit = unit }))
-
-reset_units : (hosts : List HostDef) (units : List UnitState) (is_one : UnitState → Bool) (a : Array) → (unit_reset_attentions hosts units is_one a).units ≡ a.units
-reset_units hosts [] is_one a = refl
-reset_units hosts (u ∷ units) is_one a =
-    reset_units hosts units is_one (if is_one u then reset_attentions hosts u.target u.unit a else a) ∙ go (is_one u)
-  where
-    go : (q : Bool) → (let c : Array = if q then reset_attentions hosts u.target u.unit a else a in c.units) ≡ a.units
-    go true = reset_units_of hosts u.target u.unit a
-    go false = refl
-
 abort_names : (s : ScenarioValue) (a : Array) (initiator target unit : ℕ) (what : AbortKind) → names (abort_step s a initiator target unit what).units ≡ names a.units
 abort_names s a initiator target unit aborts.All = kept_names (λ p. p.initiator == initiator && is_of_unit p target unit) a.units
 abort_names s a initiator target unit (aborts.Tag n) = kept_names (λ p. p.initiator == initiator && is_of_unit p target unit && has_tag p.tag n) a.units
@@ -198,12 +172,12 @@ abort_names s a initiator target unit aborts.WholeQueue =
     ap names (cleared_units initiator (unit_processes (unit_state_at a.units target unit)) left) ∙ kept_names (λ p. is_of_unit p target unit) a.units
 abort_names s a initiator target unit aborts.Device =
     let left : Array = record (without_dropped a (λ p. p.target == target)) { senses = kept_senses (λ q. q.target == target) a.senses; holds = kept_nexuses (λ q. q.target == target) a.holds } in
-    ap names (reset_units s.hosts a.units (λ u. u.target == target) left) ∙ kept_names (λ p. p.target == target) a.units
+    ap names (unit_reset_units s.hosts a.units (λ u. u.target == target) left) ∙ kept_names (λ p. p.target == target) a.units
 
 reset_names : (s : ScenarioValue) (a : Array) → names (reset_step s a).units ≡ names a.units
 reset_names s a =
     let left : Array = record (without_dropped a (λ p. true)) { senses = []; holds = [] } in
-    ap names (reset_units s.hosts a.units (λ u. true) left) ∙ kept_names (λ p. true) a.units
+    ap names (unit_reset_units s.hosts a.units (λ u. true) left) ∙ kept_names (λ p. true) a.units
 
 -- ---- any event, and any history
 

@@ -1,10 +1,9 @@
 -- The target of each process that ran is one of the scenario, after any rows of a prompt trace: the ends of the connection in which it ran
 -- are an initiator and a target of it (6.1.4, 6.1.5).
-use Rattle.std.proofs.Common.{ℕ, ◌≡◌, ◌⊎◌, inl, inr, Bool, true, false, ◌||◌, ◌∙◌, List, [], ◌∷◌, ◌++◌, Option, Some, cond, refl, sym, ap}
+use Rattle.std.proofs.Common.{ℕ, ◌≡◌, ◌⊎◌, inl, inr, Bool, true, false, ◌||◌, ◌∙◌, List, [], ◌∷◌, Option, Some, cond, refl, sym, ap}
 use Rattle.std.specs.Prelude.{◌==◌, is_some}
 use Rattle.std.specs.List.{find, list_any}
 use Rattle.std.proofs.lemmas.Bool.{and_parts, eqb-true}
-use Rattle.bus_base.specs.declared.Event.{Event}
 use Rattle.bus_base.specs.declared.ProcId.{ProcId}
 use Rattle.bus_base.proofs.Tests.{wrong'}
 use Rattle.bus_trace.specs.declared.Row.{Row}
@@ -17,7 +16,7 @@ use Rattle.scenario.specs.Writing.{Obeys}
 use Rattle.disk_array.specs.Processes.{Process, process_of}
 use Rattle.bus_story.specs.BusState.{row_reading}
 use Rattle.bus_story.specs.HistoryEvents.{row_events_by}
-use Rattle.bus_story.specs.Right.{has_run, is_run_of}
+use Rattle.bus_story.specs.Right.{has_run}
 use Rattle.bus_due.specs.Faithful.{faithful, has_ends}
 use Rattle.bus_due.specs.Next.{IsPrompt}
 use Rattle.bus_due.specs.Plain.{IsPlain}
@@ -31,6 +30,7 @@ use Rattle.trace_laws.proofs.Whole.{Whole, whole}
 use Rattle.right_laws.proofs.RowCrossings.{GoesSo, here_goes, known_served}
 use Rattle.right_laws.proofs.SentBytes.{answer_of}
 use Rattle.right_laws.proofs.ShownRows.{IsAnswer}
+use Rattle.right_laws.proofs.RanFacts.{run_either}
 
 -- A line that is found is there.
 found_there : (targets : List TargetDef) (dev : ℕ) → is_some (find (λ (t : TargetDef). t.dev == dev) targets) ≡ true → list_any (λ (t : TargetDef). t.dev == dev) targets ≡ true
@@ -40,15 +40,6 @@ found_there (t ∷ targets) dev e = go (t.dev == dev) e (λ z. found_there targe
     go : (q : Bool) → is_some (cond q (Some t) (find (λ (x : TargetDef). x.dev == dev) targets)) ≡ true
         → (is_some (find (λ (x : TargetDef). x.dev == dev) targets) ≡ true → list_any (λ (x : TargetDef). x.dev == dev) targets ≡ true) → (q || list_any (λ (x : TargetDef). x.dev == dev) targets) ≡ true
     go true z rest = refl
-    go false z rest = rest z
-
--- It ran with the new events, or before.
-ran_either : (now before : List Event) (id : ProcId) → has_run (now ++ before) id ≡ true → (has_run now id ≡ true) ⊎ (has_run before id ≡ true)
-ran_either [] before id e = inr e
-ran_either (x ∷ now) before id e = go (is_run_of id x) e (ran_either now before id)
-  where
-    go : (q : Bool) → (q || has_run (now ++ before) id) ≡ true → (has_run (now ++ before) id ≡ true → (has_run now id ≡ true) ⊎ (has_run before id ≡ true)) → ((q || has_run now id) ≡ true) ⊎ (has_run before id ≡ true)
-    go true z rest = inl refl
     go false z rest = rest z
 
 -- It runs with a row of a connection, whose target is there.
@@ -95,7 +86,7 @@ runs_there s p row o prompt id q own has = by (here_goes s k row answer.link id 
 pub ran_there : (s : ScenarioValue) (p : List Row) → Obeys s → IsPrompt s p → (id : ProcId) (q : Process) → process_of s id ≡ Some q → has_run (run_state s p).story.history id ≡ true → has_target s q.target ≡ true
 ran_there s [] o prompt id q own e = wrong' e
 ran_there s (row ∷ p) o prompt id q own e =
-    go (λ z. ran_there s p o prompt.0 id q own z) (ran_either (row_events_by s (run_state s p).story (row_reading (run_state s p).story.bus_state row) row) (run_state s p).story.history id e)
+    go (λ z. ran_there s p o prompt.0 id q own z) (run_either (row_events_by s (run_state s p).story (row_reading (run_state s p).story.bus_state row) row) (run_state s p).story.history id e)
   where
     k : RunState
     k = run_state s p

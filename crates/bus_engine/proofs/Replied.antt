@@ -33,6 +33,8 @@ use Rattle.initiator.specs.Received.{room_of}
 use Rattle.bus_members.specs.Answers.{are_replied_from, is_good, is_replied, is_reply}
 use Rattle.bus_engine.proofs.EndStatuses.{HasReply}
 use Rattle.bus_engine.proofs.ListedReplies.{AreGiven}
+use Rattle.bus_engine.proofs.Settled.{next_place}
+use Rattle.ending_causes.proofs.Traces.{middle}
 
 -- ---- what came, as far as there is room
 
@@ -76,12 +78,6 @@ carried_found s b (x ∷ history) id status all e =
         → is_carried s b (events.End id status) ≡ true
     go true z f rest = here x z (and_first (is_carried s b x) (all_carried s b history) all)
     go false z f rest = rest f
-
-middle : (x y z : Bool) → (x && y && z) ≡ true → y ≡ true
-middle true true z e = refl
-middle true false z e = wrong' e
-middle false true z e = wrong' e
-middle false false z e = wrong' e
 
 -- It carried what it moves.
 moved_is : (s : ScenarioValue) (k : RunState) (id : ProcId) (c : CmdDef) (r : Reply) (status : ℕ) → command_at s.commands id.command ≡ Some c → array_after s k.story.history ≡ Some (array_of s k)
@@ -188,9 +184,6 @@ replied s k n c h at all =
     (implication (has_end k.story.history (sense_of n)) (is_reply s k.story c (sense_of n)) (sensed_good s k n c h at all))
 
 -- ---- all commands
-
-next_place : (n m : ℕ) → n + suc m ≡ n + 1 + m
-next_place n m = omega arith
 
 replied_from : (s : ScenarioValue) (k : RunState) (n : ℕ) (commands : List CmdDef) → HaveReplies s k → ((m : ℕ) (c : CmdDef) → command_at commands (suc m) ≡ Some c → command_at s.commands (n + m) ≡ Some c)
     → all_carried s k.story k.story.history ≡ true → are_replied_from s k.story n commands ≡ true

@@ -16,8 +16,8 @@ use Rattle.bus_due.specs.RunState.{RunState}
 use Rattle.bus_dialogue.specs.Wants.{OwnCommand}
 use Rattle.bus_due.specs.Wants.{own_command, own_commands}
 use Rattle.trace_laws.specs.ItemFacts.{Items}
+use Rattle.trace_laws.proofs.Impossible.{none_some}
 use Rattle.progress_laws.proofs.Answered.{AreUnwanted, sense_wanted}
-use Rattle.progress_laws.proofs.QueueSteps.{no_command}
 use Rattle.initiator.specs.declared.mine.Mine.{Mine}
 use Rattle.initiator.specs.Mines.{mine_of, mines_of}
 use Rattle.initiator.specs.Openings.{mine_at}
@@ -29,12 +29,12 @@ use Rattle.bus_engine.proofs.ListedReplies.{is_known}
 apart : (k m : ℕ) → (k == k + suc m) ≡ false
 apart k m = grind (arith, nat_tests)
 
-next_place : (n m : ℕ) → n + suc m ≡ n + 1 + m
+pub next_place : (n m : ℕ) → n + suc m ≡ n + 1 + m
 next_place n m = omega arith
 
 over_kept : (b : Sent) (dev k m : ℕ) (c : CmdDef) (commands : List CmdDef) → command_at commands (suc m) ≡ Some c → (c.host == dev) ≡ true → has_item b.over (sense_item (k + m)) ≡ true
     → is_sense_over (mine_at (map (λ (o : OwnCommand). mine_of b.checks o) (own_commands b dev k commands)) (k + m)) ≡ true
-over_kept b dev k m c [] at own over = no_command c at
+over_kept b dev k m c [] at own over = none_some c at
 over_kept b dev k zero c (d ∷ commands) at own over = go (d.host == dev) (ap (λ (x : CmdDef). x.host == dev) (same_Some d c at) ∙ own)
   where
     here : (k == k + 0) ≡ true

@@ -44,6 +44,7 @@ use target_units::units_hold_their_blocks;
 use trace_laws::{
     connections_are_of_the_scenario, ends_know_what_rows_tell, prompt_traces_keep_the_books,
 };
+use transcript_laws::transcripts_follow_prompt_traces;
 
 // The blocks of the units of these targets, in the order of their lines.
 fn disks_in(
@@ -124,6 +125,7 @@ fn run_in<L: Ledger>(
     fault_rows_are_of_the_scenario();
     ended_traces_are_quiet();
     prompt_traces_are_right();
+    transcripts_follow_prompt_traces();
     wants_are_items();
     endings_have_causes();
     let trace = bus_run::run(alloc, scenario, places, most_rows(scenario), steps)?;

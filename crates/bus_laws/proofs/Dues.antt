@@ -1,7 +1,6 @@
 -- What is due, in each stage and by what a device drives.
 use Rattle.std.proofs.Common.{ℕ, ◌≡◌, ◌≤◌, ◌<◌, ◌+◌, Bool, true, false, not, ◌∙◌, List, Option, Some, None, refl, sym, ap, arith}
-use Rattle.std.specs.Prelude.{nat_le, max}
-use Rattle.std.proofs.lemmas.Bool.Decides.{nat_tests}
+use Rattle.std.specs.Prelude.{max}
 use Rattle.bus_trace.specs.LineSet.{LineSet, none, has_id_above}
 use Rattle.bus_trace.specs.declared.Row.{Row}
 use Rattle.bus_trace.specs.declared.Kind.{Kind}
@@ -87,9 +86,6 @@ same_lines l m e = ap lines_in e
 pub where_is : (q : Bool) (o : Option Due) (x : Due) → due_where q o ≡ Some x → (q ≡ true) × (o ≡ Some x)
 where_is true o x e = (refl, e)
 where_is false o x e = absurd cc
-
-pub none_some : (x : Due) → (let a : Option Due = None in a) ≡ Some x → ⊥
-none_some x e = cc
 
 -- what an entry that is due is
 pub record IsEntry (d lat free : ℕ) (w : Option ℕ) (x : Due) : Type 0 where

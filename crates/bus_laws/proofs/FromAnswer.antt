@@ -3,6 +3,7 @@ use Rattle.std.proofs.Common.{inl, inr, ℕ, ◌≡◌, ◌≢◌, ◌<◌, ◌�
 use Rattle.std.specs.Prelude.{if◌then◌else◌}
 use Rattle.std.specs.Int.Bits.{or_zero_r}
 use Rattle.std.proofs.lemmas.Bool.{cases_eq}
+use Rattle.std.proofs.lemmas.Option.{none-some}
 use Rattle.bus_trace.specs.LineSet.{LineSet, none, union}
 use Rattle.bus_trace.specs.declared.Row.{Row}
 use Rattle.bus_trace.specs.declared.Kind.TheVariants.{Drives}
@@ -30,7 +31,7 @@ use Rattle.bus_phases.specs.Phases.{pulses, pulses_after, duty, duty_after, duty
 use Rattle.bus_lines.specs.Handshakes.{handshakes, handshakes_after}
 use Rattle.bus_dialogue.specs.Hearing.{begun, begun_after}
 use Rattle.bus_laws.proofs.Obeys.{give_up_obeys, selected, selection_end_obeys, takeover_obeys, reselected_lines, reselection_end_obeys}
-use Rattle.bus_laws.proofs.Dues.{is_there, is_at, none_some}
+use Rattle.bus_laws.proofs.Dues.{is_there, is_at}
 use Rattle.bus_laws.proofs.CallDues.{gives_up_due, after_withdrawal_due, goes_on_due, waiting_due, apart_due, want_at}
 use Rattle.bus_laws.proofs.Apart.{still_row_keeps, missed_row_keeps}
 use Rattle.bus_laws.proofs.FromWon.{quiet_others}
@@ -116,7 +117,7 @@ from_withdrawn s p v m c k t0 t1 t2 t3 row always at_t3 h least =
           let e : row ≡ row_of_lines row.time c none = λ i. record { time = row.time; dev = same i; kind = z.kind_is i } in
           let wait : t3 + 200090 ≤ row.time = let u = z.time_is in omega arith in
           subst (λ (r : Row). NextCalmRow s p r) (sym e) (makes_free s p v m c k t0 t1 t2 t3 row.time always h (subst (λ (r : Row). IsLeast (unreset_due s p) 8 r) e least) wait)
-      | inr ne ↦ absurd (none_some x (sym (after_withdrawal_due s p v m c k t0 t1 t2 t3 row.dev w.0 always.devices least.inside w.1 h.stands.connection_is (λ z. ne (sym z)) was (only_caller s p _ c k _ _ h row.dev least.inside ne)) ∙ least.is_due))
+      | inr ne ↦ absurd (none-some x (sym (after_withdrawal_due s p v m c k t0 t1 t2 t3 row.dev w.0 always.devices least.inside w.1 h.stands.connection_is (λ z. ne (sym z)) was (only_caller s p _ c k _ _ h row.dev least.inside ne)) ∙ least.is_due))
     ]
 
 -- ---- after the answer
@@ -192,8 +193,8 @@ makes_takeover s p c k t0 t1 t2 t3 n t always a least =
                 let z = v.time_is in
                 omega arith
             | inr nc ↦ elim (cases_eq e k) [
-              | inl same ↦ absurd (none_some y (sym (waiting_due s q f c t0 t3 w.0 answer_lines devices h.called_below (ap (latency_of s) (sym same) ∙ w.1) goes.connection_is h.apart here holds) ∙ ap (unreset_due s q) (sym same) ∙ r))
-              | inr nk ↦ absurd (none_some y (sym (apart_due s q f c t0 t3 e w.0 devices lt w.1 goes.connection_is (λ z. nc (sym z)) (λ z. nk (sym z)) here (rest e lt nc nk)) ∙ r))
+              | inl same ↦ absurd (none-some y (sym (waiting_due s q f c t0 t3 w.0 answer_lines devices h.called_below (ap (latency_of s) (sym same) ∙ w.1) goes.connection_is h.apart here holds) ∙ ap (unreset_due s q) (sym same) ∙ r))
+              | inr nk ↦ absurd (none-some y (sym (apart_due s q f c t0 t3 e w.0 devices lt w.1 goes.connection_is (λ z. nc (sym z)) (λ z. nk (sym z)) here (rest e lt nc nk)) ∙ r))
             ]
           ];
       here = after_takeover c k t0 t1 t2 t3 t n (own_time_own p t c l) (let w = since_is (λ y. y.io) p (row_of_lines t c l) b b h.stands.bus_is after in let u = always.past (λ y. y.io) in omega arith) (record {
@@ -255,8 +256,8 @@ only_caller_acts s p g c t0 t3 own other b row always h was least nc =
     let x : Due = record { time = row.time; kind = row.kind } in
     let w = is_there s p row.dev x least.is_due in
     elim (cases_eq row.dev g.called) [
-      | inl same ↦ none_some x (sym (waiting_due s p g c t0 t3 w.0 other always.devices h.called_below (ap (latency_of s) (sym same) ∙ w.1) h.stands.connection_is h.apart was h.other) ∙ ap (unreset_due s p) (sym same) ∙ least.is_due)
-      | inr nk ↦ none_some x (sym (apart_due s p g c t0 t3 row.dev w.0 always.devices least.inside w.1 h.stands.connection_is (λ z. nc (sym z)) (λ z. nk (sym z)) was (h.rest row.dev least.inside nc nk)) ∙ least.is_due)
+      | inl same ↦ none-some x (sym (waiting_due s p g c t0 t3 w.0 other always.devices h.called_below (ap (latency_of s) (sym same) ∙ w.1) h.stands.connection_is h.apart was h.other) ∙ ap (unreset_due s p) (sym same) ∙ least.is_due)
+      | inr nk ↦ none-some x (sym (apart_due s p g c t0 t3 row.dev w.0 always.devices least.inside w.1 h.stands.connection_is (λ z. nc (sym z)) (λ z. nk (sym z)) was (h.rest row.dev least.inside nc nk)) ∙ least.is_due)
     ]
 
 pub from_answered : (s : ScenarioValue) (p : List Row) (m : Bool) (c k t0 t1 t2 t3 n : ℕ) (row : Row) → CalmStanding s p → IsAnswered s p (answered_calling m k t1 t2 t3) c k t0 m false n → IsLeast (unreset_due s p) 8 row → NextCalmRow s p row

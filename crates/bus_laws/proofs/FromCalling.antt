@@ -5,6 +5,7 @@ use Rattle.std.specs.Int.{bit_at}
 use Rattle.std.specs.Int.Bits.{or_zero_r}
 use Rattle.std.proofs.lemmas.Bool.{cases_eq, ne_eqb}
 use Rattle.std.proofs.lemmas.Bool.Decides.{nat_tests}
+use Rattle.std.proofs.lemmas.Option.{none-some}
 use Rattle.bus_trace.specs.LineSet.{LineSet, none, union, line_of}
 use Rattle.bus_trace.specs.declared.Row.{Row}
 use Rattle.bus_trace.specs.declared.Kind.TheVariants.{Drives, Fault}
@@ -33,7 +34,7 @@ use Rattle.bus_laws.specs.Reactions.{unreset_due}
 use Rattle.bus_laws.proofs.Rows.{fault_change, stands_by, since_same, stands_after, stage_is, since_is, drives_own, drives_other, own_time_own}
 use Rattle.bus_laws.proofs.Seens.{obeys_apart, obeys_by}
 use Rattle.bus_laws.proofs.Obeys.{asks_obeys, answer_obeys, struck_obeys, withdrawal_obeys}
-use Rattle.bus_laws.proofs.Dues.{is_there, is_at, none_some}
+use Rattle.bus_laws.proofs.Dues.{is_there, is_at}
 use Rattle.bus_laws.proofs.CallDues.{struck_due, gives_up_due, after_withdrawal_due, asks_due, before_due, waits_due, answers_due, aside_due, goes_on_due, waiting_due, apart_due, want_at, flip_at}
 use Rattle.bus_laws.proofs.Apart.{still_row_keeps, still_keeps}
 use Rattle.bus_laws.proofs.FromWon.{quiet_others}
@@ -50,7 +51,7 @@ only_caller s p k c d x b h e lt ne =
       | inr nd ↦ h.rest e lt ne nd
     ]
 
-ids_not_zero : (c k : ℕ) → (2 ^ c + 2 ^ k + 256 == 0) ≡ false
+pub ids_not_zero : (c k : ℕ) → (2 ^ c + 2 ^ k + 256 == 0) ≡ false
 ids_not_zero c k = grind (arith, nat_tests)
 
 shows_called : (c k : ℕ) → c < 8 → k < 8 → c ≢ k → (bit_at (2 ^ c + 2 ^ k + 256) k == 1) ≡ true
@@ -171,8 +172,8 @@ makes_answer s p m c k t0 t1 t2 n t always a least wait =
           elim (cases_eq e c) [
             | inl same ↦ resumes_at m (want_at s q c) c k t1 t2 t w.0 (own_time q c) b y (sym (goes_on_due s q (answered_calling m k t1 t2 t) c t0 t w.0 b devices h.caller_below (ap (latency_of s) (sym same) ∙ w.1) goes.connection_is here holds) ∙ ap (unreset_due s q) (sym same) ∙ r)
             | inr nc ↦ elim (cases_eq e k) [
-              | inl same ↦ absurd (none_some y (sym (waiting_due s q (answered_calling m k t1 t2 t) c t0 t w.0 l devices h.called_below (ap (latency_of s) (sym same) ∙ w.1) goes.connection_is h.apart here own) ∙ ap (unreset_due s q) (sym same) ∙ r))
-              | inr nk ↦ absurd (none_some y (sym (apart_due s q (answered_calling m k t1 t2 t) c t0 t e w.0 devices lt w.1 goes.connection_is (λ z. nc (sym z)) (λ z. nk (sym z)) here (rest e lt nc nk)) ∙ r))
+              | inl same ↦ absurd (none-some y (sym (waiting_due s q (answered_calling m k t1 t2 t) c t0 t w.0 l devices h.called_below (ap (latency_of s) (sym same) ∙ w.1) goes.connection_is h.apart here own) ∙ ap (unreset_due s q) (sym same) ∙ r))
+              | inr nk ↦ absurd (none-some y (sym (apart_due s q (answered_calling m k t1 t2 t) c t0 t e w.0 devices lt w.1 goes.connection_is (λ z. nc (sym z)) (λ z. nk (sym z)) here (rest e lt nc nk)) ∙ r))
             ]
           ];
       here = after_answer m c k t0 t1 t2 t n (record {
@@ -192,7 +193,7 @@ makes_answer s p m c k t0 t1 t2 n t always a least wait =
 
 -- ---- the caller waits for the answer
 
-answer_exists : (w : ℕ) (flip : Option ℕ) (l : LineSet) → (x : Due) × ((fault_or w flip (due_at w l) ≡ Some x) × (x.time ≡ w))
+pub answer_exists : (w : ℕ) (flip : Option ℕ) (l : LineSet) → (x : Due) × ((fault_or w flip (due_at w l) ≡ Some x) × (x.time ≡ w))
 answer_exists w None l = (record { time = w; kind = Drives l }, (refl, refl))
 answer_exists w (Some bit) l = (record { time = w; kind = Fault bit }, (refl, refl))
 
@@ -234,8 +235,8 @@ makes_fault s p m c k t0 t1 t2 n t bit always a least wait soon =
                 let v = (is_at (t2 + 250000000 + w.0) (record b { data_bits = 0 }) y (sym (waits_due s q true m c k t0 t1 t2 w.0 b devices h.caller_below (ap (latency_of s) (sym same) ∙ w.1) goes.connection_is here (same_lines c ∙ h.caller)) ∙ ap (unreset_due s q) (sym same) ∙ r)).time_is in
                 omega arith
             | inr nc ↦ elim (cases_eq e k) [
-              | inl same ↦ absurd (none_some y (sym (struck_due s q m c k t0 t1 t2 w.0 devices h.called_below (ap (latency_of s) (sym same) ∙ w.1) goes.connection_is h.apart here (same_lines k ∙ h.other)) ∙ ap (unreset_due s q) (sym same) ∙ r))
-              | inr nk ↦ absurd (none_some y (sym (aside_due s q true m c k t0 t1 t2 e w.0 devices lt w.1 goes.connection_is (λ z. nc (sym z)) (λ z. nk (sym z)) here (same_lines e ∙ h.rest e lt nc nk)) ∙ r))
+              | inl same ↦ absurd (none-some y (sym (struck_due s q m c k t0 t1 t2 w.0 devices h.called_below (ap (latency_of s) (sym same) ∙ w.1) goes.connection_is h.apart here (same_lines k ∙ h.other)) ∙ ap (unreset_due s q) (sym same) ∙ r))
+              | inr nk ↦ absurd (none-some y (sym (aside_due s q true m c k t0 t1 t2 e w.0 devices lt w.1 goes.connection_is (λ z. nc (sym z)) (λ z. nk (sym z)) here (same_lines e ∙ h.rest e lt nc nk)) ∙ r))
             ]
           ];
       here = awaiting_answer true m c k t0 t1 t2 n (record {
@@ -289,7 +290,7 @@ makes_withdrawal s p v m c k t0 t1 t2 n t always a least wait =
                 let z = (is_at (own_time q c + 200090 + w.0) none y (sym (gives_up_due s q v m c k t0 t1 t2 t w.0 l devices h.caller_below (ap (latency_of s) (sym same) ∙ w.1) goes.connection_is here own) ∙ ap (unreset_due s q) (sym same) ∙ r)).time_is in
                 let u = own_time_own p t c l in
                 omega arith
-            | inr ne ↦ absurd (none_some y (sym (after_withdrawal_due s q v m c k t0 t1 t2 t e w.0 devices lt w.1 goes.connection_is (λ z. ne (sym z)) here (rest e lt ne)) ∙ r))
+            | inr ne ↦ absurd (none-some y (sym (after_withdrawal_due s q v m c k t0 t1 t2 t e w.0 devices lt w.1 goes.connection_is (λ z. ne (sym z)) here (rest e lt ne)) ∙ r))
           ];
       here = after_withdrawal v m c k t0 t1 t2 t (own_time_own p t c l) (record {
         stands = stands;
@@ -317,7 +318,7 @@ from_asking s p v m c k t0 t1 t2 n row fits always a least =
           subst (λ (r : Row). NextCalmRow s p r) (sym e) (makes_withdrawal s p v m c k t0 t1 t2 n row.time always a (subst (λ (r : Row). IsLeast (unreset_due s p) 8 r) e least) u)
       | inr nc ↦ elim (cases_eq row.dev k) [
         | inl same ↦ called_acts v a was same
-        | inr nk ↦ absurd (none_some x (sym (aside_due s p v m c k t0 t1 t2 row.dev w.0 always.devices least.inside w.1 h.stands.connection_is (λ z. nc (sym z)) (λ z. nk (sym z)) was (h.rest row.dev least.inside nc nk)) ∙ least.is_due))
+        | inr nk ↦ absurd (none-some x (sym (aside_due s p v m c k t0 t1 t2 row.dev w.0 always.devices least.inside w.1 h.stands.connection_is (λ z. nc (sym z)) (λ z. nk (sym z)) was (h.rest row.dev least.inside nc nk)) ∙ least.is_due))
       ]
     ]
   where
@@ -326,7 +327,7 @@ from_asking s p v m c k t0 t1 t2 n row fits always a least =
         let h = a.here in
         let x : Due = record { time = row.time; kind = row.kind } in
         let w = is_there s p row.dev x least.is_due in
-        absurd (none_some x (sym (struck_due s p m c k t0 t1 t2 w.0 always.devices h.called_below (ap (latency_of s) (sym same) ∙ w.1) h.stands.connection_is h.apart was h.other) ∙ ap (unreset_due s p) (sym same) ∙ least.is_due))
+        absurd (none-some x (sym (struck_due s p m c k t0 t1 t2 w.0 always.devices h.called_below (ap (latency_of s) (sym same) ∙ w.1) h.stands.connection_is h.apart was h.other) ∙ ap (unreset_due s p) (sym same) ∙ least.is_due))
     called_acts false a was same =
         let h = a.here in
         let x : Due = record { time = row.time; kind = row.kind } in

@@ -1,7 +1,8 @@
 -- The latencies of a scenario that obeys the rules of its text are within their limit.
-use Rattle.std.proofs.Common.{ℕ, ◌≡◌, ◌≤◌, Bool, true, false, List, [], ◌∷◌, Option, Some, None, arith}
+use Rattle.std.proofs.Common.{ℕ, ◌≡◌, ◌≤◌, Bool, true, false, List, [], ◌∷◌, Option, Some, arith}
 use Rattle.std.specs.Prelude.{◌==◌, if◌then◌else◌}
 use Rattle.std.specs.List.{find, AllByRecursion}
+use Rattle.std.proofs.lemmas.Option.{same_Some}
 use Rattle.scenario.specs.declared.value.HostDef.{HostDef}
 use Rattle.scenario.specs.declared.value.TargetDef.{TargetDef}
 use Rattle.scenario.specs.Value.{ScenarioValue}
@@ -12,15 +13,12 @@ use Rattle.scsi_device.proofs.FitLines.{obeys_fits}
 use Rattle.bus_laws.specs.Stages.{HasShortLatencies}
 use Rattle.bus_base.proofs.Tests.{none_number}
 
-some_nat : (x y : ℕ) → (let o : Option ℕ = Some x in o) ≡ Some y → x ≡ y
-some_nat x y e = cc
-
 host_found : (s : ScenarioValue) (hosts : List HostDef) (dev lat : ℕ) → AllByRecursion (IsHostLine s) hosts → host_latency (find (λ (h : HostDef). h.dev == dev) hosts) ≡ Some lat → lat ≤ 100
 host_found s [] dev lat a e = absurd (none_number lat e)
 host_found s (h ∷ hosts) dev lat a e = go (h.dev == dev) (λ z. host_found s hosts dev lat a.1 z) e
   where
     go : (q : Bool) → (host_latency (find (λ (g : HostDef). g.dev == dev) hosts) ≡ Some lat → lat ≤ 100) → host_latency (if q then Some h else find (λ (g : HostDef). g.dev == dev) hosts) ≡ Some lat → lat ≤ 100
-    go true more z = let w = some_nat h.latency lat z in let u = (a.0).latency in omega arith
+    go true more z = let w = same_Some h.latency lat z in let u = (a.0).latency in omega arith
     go false more z = more z
 
 target_found : (s : ScenarioValue) (targets : List TargetDef) (dev lat : ℕ) (other : Option ℕ) → AllByRecursion (IsTargetLine s) targets → (other ≡ Some lat → lat ≤ 100) → target_latency (find (λ (t : TargetDef). t.dev == dev) targets) other ≡ Some lat → lat ≤ 100
@@ -28,7 +26,7 @@ target_found s [] dev lat other a f e = f e
 target_found s (t ∷ targets) dev lat other a f e = go (t.dev == dev) (λ z. target_found s targets dev lat other a.1 f z) e
   where
     go : (q : Bool) → (target_latency (find (λ (g : TargetDef). g.dev == dev) targets) other ≡ Some lat → lat ≤ 100) → target_latency (if q then Some t else find (λ (g : TargetDef). g.dev == dev) targets) other ≡ Some lat → lat ≤ 100
-    go true more z = let w = some_nat t.latency lat z in let u = (a.0).latency in omega arith
+    go true more z = let w = same_Some t.latency lat z in let u = (a.0).latency in omega arith
     go false more z = more z
 
 pub latency_within : (s : ScenarioValue) (d lat : ℕ) → FitsBus s → latency_of s d ≡ Some lat → lat ≤ 100

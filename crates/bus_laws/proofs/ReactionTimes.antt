@@ -1,6 +1,7 @@
 -- By when a reaction comes: within the longest delay after the latest time that it looks at.
 use Rattle.std.proofs.Common.{inl, inr, ℕ, ◌≡◌, ◌<◌, ◌≤◌, ◌+◌, Bool, true, false, not, ◌&&◌, ◌||◌, Option, Some, None, ap, arith, length}
 use Rattle.std.specs.Prelude.{if◌then◌else◌, max, nat_lt, nat_le, ◌==◌, is_none}
+use Rattle.std.proofs.lemmas.Option.{none-some}
 use Rattle.bus_trace.specs.LineSet.{LineSet, none, has_id_above, same_set}
 use Rattle.bus_trace.specs.View.{AreTimesBefore}
 use Rattle.bus_trace.specs.declared.arbitration.Arbitration.{Arbitration}
@@ -26,7 +27,7 @@ use Rattle.bus_reactions.specs.Reset.{rst_assertion, with_reset}
 use Rattle.bus_reactions.specs.Target.{first_req, has_io_turned, byte_bits, bits_if, hold_end, set_up_end, last_hold_end}
 use Rattle.bus_reactions.specs.Initiator.{rose_with_ack, oldest_req_time, next_ack_time, ack_pulse_time, byte_hold_end, byte_time}
 use Rattle.bus_reactions.specs.Ends.{target_due, initiator_due, sample_due, owes_release}
-use Rattle.bus_laws.proofs.Dues.{is_at, none_some}
+use Rattle.bus_laws.proofs.Dues.{is_at}
 use Rattle.bus_laws.proofs.Resets.{one_of}
 use Rattle.bus_trace.specs.declared.Kind.TheVariants.{Fault}
 use Rattle.bus_base.proofs.Tests.{if_less}
@@ -37,7 +38,7 @@ abbrev pub IsDueBefore : ℕ → Option Due → Type 0
 IsDueBefore limit o = (x : Due) → o ≡ Some x → x.time < limit
 
 pub none_before : (limit : ℕ) → IsDueBefore limit None
-none_before limit x e = absurd (none_some x e)
+none_before limit x e = absurd (none-some x e)
 
 pub at_before : (limit t : ℕ) (l : LineSet) → t < limit → IsDueBefore limit (due_at t l)
 at_before limit t l h x e = let w = (is_at t l x e).time_is in omega arith

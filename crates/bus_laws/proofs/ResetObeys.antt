@@ -1,7 +1,6 @@
 -- Rows under RST, and the row that raises it, obey the rules.
-use Rattle.std.proofs.Common.{ℕ, ◌≡◌, ◌≤◌, ◌+◌, Bool, true, false, not, ◌&&◌, ◌||◌, ◌∙◌, List, None, refl, ap, arith}
+use Rattle.std.proofs.Common.{ℕ, ◌≡◌, ◌≤◌, ◌+◌, Bool, true, false, not, ◌&&◌, ◌||◌, ◌∙◌, List, None, refl, ap}
 use Rattle.std.specs.Prelude.{if◌then◌else◌, nat_le}
-use Rattle.std.proofs.lemmas.Bool.Decides.{nat_tests}
 use Rattle.bus_trace.specs.LineSet.{LineSet, none, union, same, same_set}
 use Rattle.bus_trace.proofs.Sets.{same_set-self}
 use Rattle.bus_trace.proofs.Buses.{union-none}
@@ -66,7 +65,3 @@ union_twice a o = union-none (union a o)
 
 pub none_within : (b : LineSet) → is_within none b ≡ true
 none_within b = ap (λ (x : LineSet). same_set x b) (union-none b) ∙ same_set-self b
-
-pub implied : (q r : Bool) → r ≡ true → implies q r ≡ true
-implied true r e = e
-implied false r e = refl

@@ -2,9 +2,9 @@
 use Rattle.std.proofs.Common.{◌⊎◌, inl, inr, ℕ, zero, suc, ◌≡◌, ◌≢◌, ◌<◌, ◌≤◌, ◌+◌, Bool, true, false, ◌||◌, ◌∙◌, List, ◌∷◌, Option, Some, None, refl, sym, ap, subst, arith}
 use Rattle.std.specs.Prelude.{nat_le, if◌then◌else◌}
 use Rattle.std.proofs.lemmas.Bool.{cases_eq, or_right, or_left, le-leb}
-use Rattle.std.proofs.lemmas.Bool.Decides.{nat_tests}
 use Rattle.std.specs.Int.Bits.{or_zero_r}
 use Rattle.std.specs.Int.RustNames.{bit_or}
+use Rattle.std.proofs.lemmas.Option.{none-some}
 use Rattle.bus_trace.specs.LineSet.{LineSet, none, union, same_set}
 use Rattle.bus_trace.specs.View.{union_below}
 use Rattle.bus_trace.proofs.Sets.{same_set-eq, same_set-self}
@@ -32,14 +32,14 @@ use Rattle.bus_rules.specs.Rules.{broken_rule}
 use Rattle.bus_trace.proofs.Ages.{since_line_le}
 use Rattle.bus_laws.specs.Reactions.{own_time, device_with, unreset_due, reset_due}
 use Rattle.bus_laws.proofs.Rows.{change_is, since_is, drives_own, drives_other, raised_own, raised_other, stage_is, stands_by}
-use Rattle.bus_laws.proofs.Dues.{is_at, none_some, due_in_reset}
+use Rattle.bus_laws.proofs.Dues.{is_at, due_in_reset}
 use Rattle.bus_laws.proofs.FromReset.{off_at, link_in_reset, link_apart, resets_ahead}
 use Rattle.bus_laws.proofs.FromFree.{row_is}
 use Rattle.bus_laws.proofs.Dues.{is_there, is_entry, free_due_is}
 use Rattle.bus_due.specs.Wants.{want_time}
 use Rattle.bus_lines.specs.declared.stage.Stage.TheVariants.{OnFreeBus}
 use Rattle.bus_lines.specs.Stage.{stage}
-use Rattle.bus_laws.proofs.ResetObeys.{reset_row_obeys, raises_rst, none_within, implied}
+use Rattle.bus_laws.proofs.ResetObeys.{reset_row_obeys, raises_rst, none_within}
 use Rattle.bus_laws.proofs.Resets.{one_of, comes_by, due_calm, due_holding, due_there, own_reset_is, own_other, rst_own}
 use Rattle.bus_laws.specs.Stages.{HasShortLatencies, on_free_bus, in_reset, NextRow, HoldsReset, IsUnderRst, quiet, holds, lingers, UnderRst, Standing}
 use Rattle.bus_laws.specs.Rows.{row_of_lines, change_to, Stands}
@@ -59,7 +59,7 @@ clear_is : (s : ScenarioValue) (p : List Row) (d lat : ℕ) (x : Due) → latenc
 clear_is s p d lat x there e = go (same_set (drives p d) none) refl e
   where
     go : (q : Bool) → same_set (drives p d) none ≡ q → (if q then None else due_at ((line_times p).rst + lat) none) ≡ Some x → IsClear s p d x
-    go true a z = absurd (none_some x z)
+    go true a z = absurd (none-some x z)
     go false a z = let w = is_at ((line_times p).rst + lat) none x z in record { time_is = (lat, (there, w.time_is)); kind_is = w.kind_is; drives_some = a }
 
 -- ---- the bus in the last row of RST
@@ -258,7 +258,7 @@ reset_keeps p t d order off on quiet_ =
       reset = or_right (bus p).rst b'.rst on;
       order = order;
       news = raises_rst (drives p d) off;
-      alone = implied ((bus p).rst || rises (drives p d).rst true) (is_within only_rst (union only_rst (drives p d))) (rst_alone (drives p d));
+      alone = or_right _ (is_within only_rst (union only_rst (drives p d))) (rst_alone (drives p d));
       quiet = quiet_;
       holds = no_fall (drives p d) (nat_le (raised (λ y. y.rst) p d + 25000) t) off;
     })
@@ -271,7 +271,7 @@ raises_again s p t d fits st rs off m =
     let on : (bus q).rst ≡ true = bus_on (λ y. y.rst) (λ _ _. refl) q d m.inside (ap (λ (y : LineSet). y.rst) (drives_own p t d only_rst)) in
     let since : since_line (λ x. x.rst) q ≤ t = let w = st.past (λ x. x.rst) in since_line_le (λ x. x.rst) row p (omega arith) in
     stays s p t d only_rst st rs m on (raising s p t d st.devices m.inside off since)
-    (reset_keeps p t d order off on (implied (bus p).rst (nat_le t ((line_times p).rst + 800) || is_within (bus p) only_rst) (quiet_enough s p row fits st rs m)))
+    (reset_keeps p t d order off on (or_right _ (nat_le t ((line_times p).rst + 800) || is_within (bus p) only_rst) (quiet_enough s p row fits st rs m)))
 
 -- The first row of RST.
 pub raises : (s : ScenarioValue) (p : List Row) (t d : ℕ) → Standing s p → (bus p).rst ≡ false → IsLeast (due s p) 8 (row_of_lines t d only_rst) → NextRow s p (row_of_lines t d only_rst)
@@ -312,7 +312,7 @@ raises s p t d st calm m =
     is_cleared_at e lat x c = go (same_set (drives (row_of_lines t d only_rst ∷ p) e) none) c
       where
         go : (g : Bool) → (if g then None else due_at (since_line (λ y. y.rst) (row_of_lines t d only_rst ∷ p) + lat) none) ≡ Some x → x.time ≡ since_line (λ y. y.rst) (row_of_lines t d only_rst ∷ p) + lat
-        go true z = absurd (none_some x z)
+        go true z = absurd (none-some x z)
         go false z = (is_at (since_line (λ y. y.rst) (row_of_lines t d only_rst ∷ p) + lat) none x z).time_is
 
 -- ---- a device releases its lines, or RST
@@ -324,7 +324,7 @@ silent s p t d =
     record {
       stands = quiet own;
       held = λ x on r. let w = sym on ∙ ap (λ (y : LineSet). y.rst) own in absurd cc;
-      cleared = λ lat x off c. absurd (none_some x ((λ i. bus_clear (device_with d lat (sym own i) (own_time (row_of_lines t d none ∷ p) d)) (line_times (row_of_lines t d none ∷ p)).rst) ∙ c));
+      cleared = λ lat x off c. absurd (none-some x ((λ i. bus_clear (device_with d lat (sym own i) (own_time (row_of_lines t d none ∷ p) d)) (line_times (row_of_lines t d none ∷ p)).rst) ∙ c));
     }
 
 -- RST stays true where a device releases other lines.
@@ -357,8 +357,8 @@ clears s p t d fits st rs off some m =
       reset = or_left (bus p).rst b'.rst rs.reset;
       order = order;
       news = some;
-      alone = implied ((bus p).rst || rises (drives p d).rst false) (is_within none (union only_rst (drives p d))) (none_within (union only_rst (drives p d)));
-      quiet = implied (bus p).rst (nat_le t ((line_times p).rst + 800) || is_within (bus p) only_rst) (quiet_enough s p row fits st rs m);
+      alone = or_right _ (is_within none (union only_rst (drives p d))) (none_within (union only_rst (drives p d)));
+      quiet = or_right _ (nat_le t ((line_times p).rst + 800) || is_within (bus p) only_rst) (quiet_enough s p row fits st rs m);
       holds = no_fall_none (drives p d) (nat_le (raised (λ y. y.rst) p d + 25000) t) off;
     }))
 
@@ -372,8 +372,8 @@ release_keeps s p t d fits st rs h wait m =
       reset = or_left (bus p).rst b'.rst rs.reset;
       order = order;
       news = refl;
-      alone = implied ((bus p).rst || rises true false) true refl;
-      quiet = implied (bus p).rst (nat_le t ((line_times p).rst + 800) || is_within (bus p) only_rst) (quiet_enough s p row fits st rs m);
+      alone = or_right _ true refl;
+      quiet = or_right _ (nat_le t ((line_times p).rst + 800) || is_within (bus p) only_rst) (quiet_enough s p row fits st rs m);
       holds = le-leb (raised (λ y. y.rst) p d + 25000) t (let w = h.raised_at in omega arith);
     })
 

@@ -3,6 +3,7 @@ use Rattle.std.proofs.Common.{◌⊎◌, inl, inr, ℕ, ◌≡◌, ◌≢◌, �
 use Rattle.std.specs.Prelude.{nat_lt, if◌then◌else◌, min, ◌==◌}
 use Rattle.std.proofs.lemmas.Bool.{ltb-false, ne_eqb}
 use Rattle.std.proofs.lemmas.Bool.Decides.{nat_tests}
+use Rattle.std.proofs.lemmas.Option.{same_Some, none-some}
 use Rattle.bus_trace.specs.LineSet.{LineSet, none}
 use Rattle.bus_trace.specs.declared.Row.{Row}
 use Rattle.bus_trace.specs.declared.Kind.TheVariants.{Drives, Fault}
@@ -23,7 +24,7 @@ use Rattle.bus_due.specs.Plain.{AreOfDevices}
 use Rattle.bus_due.proofs.Plains.{run_state_plain}
 use Rattle.bus_rules.specs.Reset.{only_rst}
 use Rattle.bus_laws.specs.Reactions.{unreset_due_if, unreset_due, reset_due_if, reset_due}
-use Rattle.bus_laws.proofs.Dues.{is_at, none_some}
+use Rattle.bus_laws.proofs.Dues.{is_at}
 use Rattle.bus_laws.specs.Stages.{HasDevice}
 use Rattle.bus_laws.specs.Rows.{row_of_lines}
 use Rattle.bus_base.proofs.Tests.{eq_self, none_number}
@@ -47,7 +48,7 @@ pub record NoLater (o : Option Due) (time : ℕ) : Type 0 where
 
 pub comes_by : (a b : Option Due) (y : Due) → b ≡ Some y → NoLater (earlier_due a b) y.time
 comes_by None b y e = record { x = y; is = e; le = omega arith }
-comes_by (Some x) None y e = absurd (none_some y e)
+comes_by (Some x) None y e = absurd (none-some y e)
 comes_by (Some x) (Some w) y e = go (nat_lt w.time x.time) refl
   where
     same : w.time ≡ y.time
@@ -58,7 +59,7 @@ comes_by (Some x) (Some w) y e = go (nat_lt w.time x.time) refl
     go false h = let s = same in let l = ltb-false w.time x.time h in record { x = x; is = refl; le = omega arith }
 
 pub comes_by_first : (a b : Option Due) (y : Due) → a ≡ Some y → NoLater (earlier_due a b) y.time
-comes_by_first None b y e = absurd (none_some y e)
+comes_by_first None b y e = absurd (none-some y e)
 comes_by_first (Some x) None y e = let s = ap (λ (z : Due). z.time) (some_eq x y e) in record { x = x; is = refl; le = omega arith }
 comes_by_first (Some x) (Some w) y e = go (nat_lt w.time x.time) refl
   where
@@ -97,7 +98,7 @@ pub due_there : (s : ScenarioValue) (p : List Row) (d : ℕ) (x : Due) → due s
 due_there s p d x h = go (latency_of s d) refl
   where
     go : (o : Option ℕ) → latency_of s d ≡ o → HasDevice s d
-    go None q = absurd (none_some x (sym (ap (due_if s (run_state s p) d) q) ∙ h))
+    go None q = absurd (none-some x (sym (ap (due_if s (run_state s p) d) q) ∙ h))
     go (Some lat) q = record { latency = lat; latency_is = q }
 
 -- ---- a reset of a device's own
@@ -107,23 +108,20 @@ pub record IsReset (x : Due) (time : Option ℕ) : Type 0 where
   pub kind_is : x.kind ≡ Drives only_rst
 
 pub reset_is : (time : Option ℕ) (x : Due) → rst_assertion time ≡ Some x → IsReset x time
-reset_is None x e = absurd (none_some x e)
+reset_is None x e = absurd (none-some x e)
 reset_is (Some t) x e = let z = is_at t only_rst x e in record { time_is = ap (λ (y : ℕ). Some y) (sym z.time_is); kind_is = z.kind_is }
 
 pub own_reset_is : (s : ScenarioValue) (p : List Row) (d : ℕ) (x : Due) → reset_due s p d ≡ Some x → IsReset x (reset_from d (own_of p d).released s.resets)
 own_reset_is s p d x e = go (latency_of s d) e
   where
     go : (o : Option ℕ) → reset_due_if s p d o ≡ Some x → IsReset x (reset_from d (own_of p d).released s.resets)
-    go None q = absurd (none_some x q)
+    go None q = absurd (none-some x q)
     go (Some lat) q = reset_is (reset_from d (own_of p d).released s.resets) x q
-
-nat_eq : (x y : ℕ) → (let a : Option ℕ = Some x in a) ≡ Some y → x ≡ y
-nat_eq x y e = cc
 
 sooner_after : (t : ℕ) (a b : Option ℕ) (x : ℕ) → ((y : ℕ) → a ≡ Some y → t < y) → ((y : ℕ) → b ≡ Some y → t < y) → sooner_time a b ≡ Some x → t < x
 sooner_after t None b x f g e = g x e
 sooner_after t (Some a) None x f g e = f x e
-sooner_after t (Some a) (Some b) x f g e = let h = nat_eq (min a b) x e in let u = f a refl in let v = g b refl in omega arith
+sooner_after t (Some a) (Some b) x f g e = let h = same_Some (min a b) x e in let u = f a refl in let v = g b refl in omega arith
 
 time_after : (t : ℕ) (q : Bool) (at x : ℕ) → time_if (q && not (not (nat_lt t at))) at ≡ Some x → t < x
 time_after t true at x e = go (nat_lt t at) refl e
@@ -132,7 +130,7 @@ time_after t true at x e = go (nat_lt t at) refl e
     lt_of a b h = grind (arith, nat_tests)
 
     go : (r : Bool) → nat_lt t at ≡ r → time_if (not (not r)) at ≡ Some x → t < x
-    go true h z = let u = nat_eq at x z in let v = lt_of t at h in omega arith
+    go true h z = let u = same_Some at x z in let v = lt_of t at h in omega arith
     go false h z = absurd (none_number x z)
 time_after t false at x e = absurd (none_number x e)
 

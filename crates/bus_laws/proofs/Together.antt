@@ -92,7 +92,7 @@ always_is s p st calm = record {
   own_past = st.own_past;
 }
 
-not_linked : (o : Option Connection) (r : Bool) → (is_some o && not r) ≡ false → r ≡ false → o ≡ None
+pub not_linked : (o : Option Connection) (r : Bool) → (is_some o && not r) ≡ false → r ≡ false → o ≡ None
 not_linked None r e f = refl
 not_linked (Some n) r e f = let w = ap (λ (q : Bool). not q) f in let v = sym e ∙ w in absurd cc
 

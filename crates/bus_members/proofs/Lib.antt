@@ -5,5 +5,3 @@ mod Overs
 mod Servable
 mod Labels
 mod Turned
-mod AnswerRuns
-mod AnswerCases

@@ -1,11 +1,11 @@
 -- What comes back to the initiators of a run.
-use Rattle.std.specs.Prelude.{ℕ, ◌+◌, ◌==◌, ◌&&◌, ◌||◌, not, Bool, true, false, List, [], ◌∷◌, length, nat_le, take, Option, Some, None}
+use Rattle.std.specs.Prelude.{ℕ, ◌+◌, ◌==◌, ◌&&◌, ◌||◌, not, Bool, true, false, List, [], ◌∷◌, take, Option, Some, None}
 use Rattle.bus_base.specs.declared.ProcId.{ProcId}
 use Rattle.bus_trace.specs.declared.Row.{Row}
 use Rattle.cdb_codec.specs.declared.status.TheConstants.{GOOD, QUEUE_FULL}
 use Rattle.scenario.specs.declared.value.CmdDef.{CmdDef}
 use Rattle.scenario.specs.Value.{ScenarioValue}
-use Rattle.bus_story.specs.Outcomes.{ending_of, has_end, reply_bytes}
+use Rattle.bus_story.specs.Outcomes.{ending_of, has_end}
 use Rattle.bus_story.specs.Story.{Ending, by_status, by_loss, by_reset, by_abort, unanswered, Story}
 use Rattle.bus_due.specs.RunSteps.{run_state}
 use Rattle.initiator.specs.Books.{my_book}
@@ -59,20 +59,6 @@ are_replied_from s b n (c ∷ commands) = is_replied s b n c && are_replied_from
 -- After these rows what came is the reply.
 abbrev pub are_replied : ScenarioValue → List Row → Bool
 are_replied s rows = are_replied_from s (run_state s rows).story 1 s.commands
-
--- ---- the initiator of a command has room for all of its reply
-
-abbrev pub fits_room : ScenarioValue → Story → CmdDef → ProcId → Bool
-fits_room s b c id = nat_le (length (reply_bytes s b.history id)) (room_of s c id.sense)
-
--- The commands from the n-th on.
-abbrev pub fit_rooms_from : ScenarioValue → Story → ℕ → List CmdDef → Bool
-fit_rooms_from s b n [] = true
-fit_rooms_from s b n (c ∷ commands) = fits_room s b c (command_of n) && fit_rooms_from s b (n + 1) commands
-
--- After these rows.
-abbrev pub fit_rooms : ScenarioValue → List Row → Bool
-fit_rooms s rows = fit_rooms_from s (run_state s rows).story 1 s.commands
 
 -- ---- and the outcome is known
 

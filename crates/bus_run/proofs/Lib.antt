@@ -1,6 +1,5 @@
 pub mod OnePlace
 pub mod Firsts
-pub mod Tellings
 pub mod Seams
 pub mod Rows
 pub mod FaultLists

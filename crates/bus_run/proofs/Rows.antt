@@ -24,7 +24,7 @@ use Rattle.bus_run.specs.Seams.{seams}
 use Rattle.bus_run.specs.Seen.{AreSeen}
 use Rattle.bus_run.specs.Shown.{reading, events_shown, is_left, teller, reset_events}
 use Rattle.bus_run.proofs.Seams.{tied, is_attended_after}
-use Rattle.bus_run.proofs.Tellings.{events_are}
+use Rattle.bus_due.proofs.SameEvents.{events_are}
 use Rattle.disk_target.proofs.RowEnds.{empty_is}
 
 -- What the rows say of a row is what is kept of it.

@@ -4,7 +4,6 @@ use Rattle.std.specs.Prelude.{if◌then◌else◌, ◌||◌, is_some}
 use Rattle.bus_base.specs.declared.Event.TheVariants as events
 use Rattle.bus_base.specs.declared.ProcId.{ProcId}
 use Rattle.bus_trace.specs.declared.Row.{Row}
-use Rattle.scenario.specs.declared.value.HostDef.{HostDef}
 use Rattle.scenario.specs.Value.{ScenarioValue}
 use Rattle.disk_array.specs.Order.{without_process}
 use Rattle.disk_array.specs.Processes.{Process, same_id}
@@ -13,18 +12,17 @@ use Rattle.disk_array.specs.Seats.{Seat, seat_of, settled_seat}
 use Rattle.disk_array.specs.SoundArray.{HasSeats, IsOwn}
 use Rattle.disk_array.specs.Steps.{has_ended, running_if, unit_without}
 use Rattle.disk_array.specs.Units.{Array, RunningProcess, UnitState, guest_at, without_guest}
-use Rattle.disk_unit.proofs.LiveCommands.{id_self}
 use Rattle.bus_due.specs.Allowed.{allowed}
 use Rattle.bus_due.specs.RunState.{RunState, array_of, or_start}
-use Rattle.bus_due.specs.RunSteps.{is_same_running, run_state}
+use Rattle.bus_due.specs.RunSteps.{run_state}
 use Rattle.bus_due.specs.Wants.{since_of}
 use Rattle.scsi_device.specs.Heard.{is_new}
 use Rattle.target_units.specs.Absent.{nothing_kept}
-use Rattle.target_units.specs.Seated.{SeatedState, IsAtSeat, IsSince, seat_time}
+use Rattle.target_units.specs.Seated.{seat_time}
 use Rattle.target_units.specs.Units.{UnitsState, AreUnitsAfter, AreUnitsOf, IsStep, IsUnitOf, spare_of, unit_in}
 use Rattle.target_units.specs.declared.logical.LogicalUnit.{LogicalUnit}
 use Rattle.target_units.specs.declared.logical.LogicalUnit.TheVariants as kinds
-use Rattle.target_units.proofs.UnitSteps.{left_kept, loss_left, one_goes, other_place, unit_goes}
+use Rattle.target_units.proofs.UnitSteps.{left_kept, loss_left, one_goes, other_place, unit_goes, unit_stays}
 use Rattle.disk_target.specs.Processes.{AreKeptOf}
 use Rattle.disk_target.specs.Standings.{IsNoGuest, is_inside, waits_in}
 use Rattle.disk_target.proofs.Beginnings.{new_nowhere}
@@ -70,27 +68,6 @@ lost_seat s a b p dev n st own h =
 
 -- ---- so nothing changes of the units
 
-stays_at : (hosts : List HostDef) (seat : Seat) (time now : ℕ) (v : SeatedState) → IsAtSeat hosts seat time v → IsAtSeat hosts seat (seat_time seat seat time now) v
-stays_at hosts seat time now v h = (
-  h.0,
-  h.1,
-  record {
-    kept = h.2.kept;
-    queued = h.2.queued;
-    pick = h.2.pick;
-    reply = h.2.reply;
-    since = subst (λ (t : ℕ). IsSince h.1.current t v.since) (λ i. if is_same_running (Seats.current_of (sym h.2.kept.there i)) (Seats.current_of (sym h.2.kept.there i)) then time else now) (go h.1.current h.2.since);
-  },
-)
-  where
-    go : (r : Option RunningProcess) → IsSince r time v.since → IsSince r (if is_same_running r r then time else now) v.since
-    go None k = tt
-    go (Some r) k = k ∙ (λ i. if sym (id_self r.process.id) i then time else now)
-
-unit_stays_at : (hosts : List HostDef) (seat : Seat) (time now : ℕ) (u : LogicalUnit) → IsUnitOf hosts seat time u → IsUnitOf hosts seat (seat_time seat seat time now) u
-unit_stays_at hosts seat time now (kinds.There v) h = stays_at hosts seat time now v h
-unit_stays_at hosts seat time now (kinds.Absent v) h = h
-
 set_same : (xs : List LogicalUnit) (n : ℕ) (d : LogicalUnit) → set xs n (get_or xs n d) ≡ xs
 set_same [] n d = refl
 set_same (x ∷ xs) zero d = refl
@@ -102,7 +79,7 @@ lost_stays s a b times now p dev n units small st own none h =
     let time : ℕ = since_of a.units times dev n in
     let u : LogicalUnit = unit_in units n in
     let there = unit_goes s (events.Lost p.id) a b times now dev n u u st h.timed (h.each n small)
-    (subst (λ (q : Seat). IsUnitOf s.hosts q (seat_time (seat_of a dev n) q time now) u) (sym same) (unit_stays_at s.hosts (seat_of a dev n) time now u (h.each n small))) in
+    (subst (λ (q : Seat). IsUnitOf s.hosts q (seat_time (seat_of a dev n) q time now) u) (sym same) (unit_stays s.hosts (seat_of a dev n) time now u (h.each n small))) in
     subst (λ (xs : List LogicalUnit). AreUnitsAfter s a b times now dev xs) (set_same units n (kinds.Absent nothing_kept))
     (one_goes s (events.Lost p.id) a b times now dev n units u small st h (λ m e. other_place s p dev n m own e) there (left_kept s (events.Lost p.id) a b dev n (spare_of u) st (h.room.left n small)))
 

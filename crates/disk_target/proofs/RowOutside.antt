@@ -30,7 +30,7 @@ use Rattle.target_course.proofs.CourseAgrees.{IsFront, either, front_heard}
 use Rattle.target_course.proofs.CourseRows.{heard_before}
 use Rattle.target_course.proofs.ReplyRows.{Shape, shown_of}
 use Rattle.target_course.proofs.ReplyRows as shapes
-use Rattle.target_course.proofs.ServedEnds.{ends_are, same_id_is}
+use Rattle.target_course.proofs.ServedEnds.{ends_are}
 use Rattle.disk_target.specs.Attended.{are_in, are_known_ends, attended, is_abort_in, is_attended, is_attended_if, is_attended_in, is_attended_row, is_calm_turn, is_empty, is_of_item, is_of_process, is_quiet, is_whole_run}
 use Rattle.disk_target.specs.Processes.{AreOutside, IsOutside}
 use Rattle.disk_target.specs.Targets.{AreTied}
@@ -38,6 +38,7 @@ use Rattle.disk_target.specs.Turns.{is_reset}
 use Rattle.disk_target.proofs.RowShapes.{ShowsIn, nothing, turned, lost, aborted, ended, none_shown, reset_is, row_shows}
 use Rattle.bus_base.proofs.Tests.{or_second, implied}
 use Rattle.target_course.specs.Negotiated.{events_of_row}
+use Rattle.disk_array.proofs.SeatLookups.{same_id_is}
 
 -- ---- what is attended in this row
 

@@ -40,7 +40,6 @@ use Rattle.target_course.proofs.CourseAgrees.{IsFront, IsServed, served_is}
 use Rattle.target_course.proofs.ReplyRows.{Shape, shown_of, number_is}
 use Rattle.target_course.proofs.ReplyRows as shapes
 use Rattle.target_course.proofs.ReplySteps.{accept_same}
-use Rattle.target_course.proofs.ServedEnds.{same_id_is}
 use Rattle.disk_target.specs.Attended.{are_in, are_known_ends}
 use Rattle.disk_target.specs.Processes.{AreOwnEvents}
 use Rattle.disk_target.specs.Standings.{HasBlock, IsNoGuest, IsStanding}
@@ -55,6 +54,8 @@ use Rattle.disk_target.proofs.RowOutside.{IsAttended}
 use Rattle.disk_target.proofs.RowShapes.{ShowsIn, nothing, turned, lost, aborted, ended}
 use Rattle.bus_base.proofs.Tests.{is_nothing}
 use Rattle.target_course.specs.Negotiated.{events_of_row}
+use Rattle.disk_array.proofs.SeatLookups.{same_id_is}
+use Rattle.scsi_device.proofs.Finds.{none_is}
 
 -- ---- which process: one that is served, where any event is shown but an abort
 
@@ -137,10 +138,6 @@ arrives_new s rows n p front is begins command =
 
 -- ---- as it runs it has no reply
 
-none_some : {A : Type 0} (x : Option A) → is_some x ≡ false → x ≡ None
-none_some None e = refl
-none_some (Some y) e = cc
-
 moving_closed : (phase : Phase) (next : Next) (cause : Cause) (b : Bool) → moves_data phase next ≡ true → b ≡ true → (not b || is_opening_in phase cause) ≡ false
 moving_closed phases.DataIn next cause b e f = λ i. not (f i) || false
 moving_closed phases.DataOut next cause b e f = λ i. not (f i) || false
@@ -173,7 +170,7 @@ pub unanswered : (s : ScenarioValue) (rows : List Row) (n : Connection) (p : Pro
 unanswered s rows n p front is begins may (arriving same unstruck) = new_unanswered (array_of s (run_state s rows)) p (arrives_new s rows n p front is begins same)
 unanswered s rows n p front is begins may (moving m) = moving_unanswered s rows n p front is begins m
 unanswered s rows n p front is begins may (giving g none) =
-    none_some (reply_in (array_of s (run_state s rows)).replies p.id) ((λ j. has_replied (task_if s (run_state s rows) (sym is j))) ∙ none)
+    none_is (reply_in (array_of s (run_state s rows)).replies p.id) ((λ j. has_replied (task_if s (run_state s rows) (sym is j))) ∙ none)
 
 -- ---- the events
 

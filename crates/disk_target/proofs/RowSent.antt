@@ -14,8 +14,6 @@ use Rattle.scenario.specs.Needs.{is_write}
 use Rattle.scenario.specs.Value.{ScenarioValue}
 use Rattle.disk_array.specs.Processes.{Process, process_of}
 use Rattle.disk_array.specs.Units.{Array, unit_state_at}
-use Rattle.bus_dialogue.specs.declared.exchange.Phase.{Phase}
-use Rattle.bus_dialogue.specs.declared.exchange.Phase.TheVariants as phases
 use Rattle.bus_dialogue.specs.NextPhase.{phase_of}
 use Rattle.bus_due.specs.LastingState.{progress_in}
 use Rattle.bus_due.specs.RunState.{RunState, array_of, bus_of, process_served}
@@ -28,19 +26,20 @@ use Rattle.disk_array.specs.Order.{count_in, range_in}
 use Rattle.bus_due.specs.Tasks.{blocks_in}
 use Rattle.target_units.specs.Rooms.{AreOfLines}
 use Rattle.target_units.specs.Seated.{is_same_process}
-use Rattle.target_units.proofs.Sendings.{few_bytes, named}
+use Rattle.scsi_device.proofs.SentBytes.{process_few}
+use Rattle.target_units.proofs.Sendings.{named}
 use Rattle.target_course.specs.Gathered.{GatheredValue, Gathering, IsGatheredOf, AreAllGathered, bytes_of, gathering_at, run_start_of}
 use Rattle.target_course.specs.Courses.{CourseState}
 use Rattle.target_course.specs.States.{IsOwnConnection}
 use Rattle.target_course.proofs.CourseAgrees.{either}
 use Rattle.target_course.proofs.GatheredRows.{bytes_sent}
-use Rattle.target_course.proofs.ServedEnds.{same_id_is}
 use Rattle.disk_unit.proofs.LiveCommands.{id_self}
 use Rattle.disk_target.specs.Attended.{came, ends_good, is_whole_of, is_whole_run}
 use Rattle.disk_target.specs.Bytes.{count_if, taken_by}
 use Rattle.disk_target.specs.Turns.{count_sent}
 use Rattle.disk_target.specs.declared.turn.Turn.{Turn}
 use Rattle.bus_base.proofs.Tests.{or_second, nil_of}
+use Rattle.target_course.proofs.GatheredSteps.{is_writer_is, data_out_is}
 
 -- ---- how many bytes
 
@@ -57,7 +56,7 @@ pub sends_as_named : (s : ScenarioValue) (a : Array) (p : Process) → FitsBus s
 sends_as_named s a p fits lines target is writes good =
     let size : ℕ = size_of (unit_state_at a.units p.target p.unit) in
     few (count_if (blocks_in (range_in (command_of p.cdb))) * size) (length p.sent)
-    ((λ i. block_count (range_in (command_of p.cdb)) i * size) ∙ named s a p fits lines target is writes (eqb-true (reply_now a p).status GOOD good)) (few_bytes s p fits is)
+    ((λ i. block_count (range_in (command_of p.cdb)) i * size) ∙ named s a p fits lines target is writes (eqb-true (reply_now a p).status GOOD good)) (process_few s p.id p fits is)
 
 -- ---- which bytes
 
@@ -69,20 +68,8 @@ no_bytes g id count e = (λ i. bytes_of g id (e i)) ∙ go (is_same_process g.ow
     go true (x ∷ xs) = refl
     go false xs = refl
 
-writer_is : (x : Option ProcId) (id : ProcId) → is_writer x id ≡ true → x ≡ Some id
-writer_is None id e = cc
-writer_is (Some w) id e = λ i. Some (same_id_is w id e i)
-
 enough : (a len most : ℕ) → len ≤ a → min a len ≤ most → len ≤ most
 enough a len most h k = omega arith
-
-pub phase_data_out : (phase : Phase) → is_data_out phase ≡ true → phase ≡ phases.DataOut
-phase_data_out phases.DataOut e = refl
-phase_data_out phases.DataIn e = cc
-phase_data_out phases.Command e = cc
-phase_data_out phases.Status e = cc
-phase_data_out phases.MessageOut e = cc
-phase_data_out phases.MessageIn e = cc
 
 -- All of them have come.
 all_come : (s : ScenarioValue) (rows : List Row) (v : GatheredValue) (p : Process) (n : Connection) → AreAllGathered s rows v → IsOwnConnection rows v.dev n → (bus rows).rst ≡ false → (run_state s rows).exchange.begun ≡ true → process_served s (run_state s rows) ≡ Some p
@@ -98,7 +85,7 @@ all_come s rows v p n all own calm begins is process at w most = go (is_data_out
     go : (y : Bool) → is_data_out (phase_of (bus_of k)) ≡ y → length p.sent ≤ start + (if y then k.handshakes.answers else 0) → length p.sent ≤ length (gathering_at v.units p.unit).bytes
     go true e most =
         enough (start + k.handshakes.answers) (length p.sent) (length (gathering_at v.units p.unit).bytes) most
-        (all.come p n (record { own = own; served = is; calm = calm; begun = begins; phase = phase_data_out (phase_of (bus_of k)) e }) w)
+        (all.come p n (record { own = own; served = is; calm = calm; begun = begins; phase = data_out_is (phase_of (bus_of k)) e }) w)
     go false e most =
         enough start (length p.sent) (length (gathering_at v.units p.unit).bytes) (omega (arith, most)) (all.made p.id p process at w)
 
@@ -160,6 +147,6 @@ all_sent s rows v p n c t unit fits lines target g all own calm begins is proces
     go (inr e) =
         let one = and_parts (is_writing p) (is_writer (writer_of (writers s rows) p.target p.unit) p.id && nat_le (length p.sent) (came s k p)) e in
         let two = and_parts (is_writer (writer_of (writers s rows) p.target p.unit) p.id) (nat_le (length p.sent) (came s k p)) one.1 in
-        let w : writer_of (writers s rows) p.target p.unit ≡ Some p.id = writer_is (writer_of (writers s rows) p.target p.unit) p.id two.0 in
+        let w : writer_of (writers s rows) p.target p.unit ≡ Some p.id = is_writer_is (writer_of (writers s rows) p.target p.unit) p.id two.0 in
         (λ i. bytes_of (gathering_at v.units unit) p.id (count one.0 i))
         ∙ whole_taken s v p unit g unit_is (all.owned p.id p process at w) process small (all_come s rows v p n all own calm begins is process at w (leb-true (length p.sent) (came s k p) two.1))

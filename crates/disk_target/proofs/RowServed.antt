@@ -6,8 +6,8 @@ use Rattle.bus_base.specs.declared.Event.{Event}
 use Rattle.bus_base.specs.declared.Event.TheVariants as events
 use Rattle.bus_trace.specs.declared.Row.{Row}
 use Rattle.bus_trace.specs.declared.connection.Connection.{Connection}
-use Rattle.bus_trace.specs.Changes.{rises, change_of}
-use Rattle.bus_trace.specs.Terms.{call, connection}
+use Rattle.bus_trace.specs.Changes.{rises}
+use Rattle.bus_trace.specs.Terms.{connection}
 use Rattle.bus_trace.specs.Trace.{bus}
 use Rattle.scenario.specs.Value.{ScenarioValue}
 use Rattle.bus_base.specs.declared.ProcId.{ProcId}
@@ -33,7 +33,6 @@ use Rattle.target_course.specs.States.{IsOwnConnection}
 use Rattle.target_course.proofs.CourseAgrees.{IsFront, IsTurn, front_heard, turn_heard}
 use Rattle.target_course.proofs.CourseRows.{heard_before}
 use Rattle.target_course.proofs.ReplyRows.{number_is}
-use Rattle.target_course.proofs.ServedEnds.{connection_stays}
 use Rattle.disk_target.specs.Processes.{ProcessesState, AreOutside}
 use Rattle.disk_target.specs.Standings.{IsStanding}
 use Rattle.disk_target.specs.Targets.{AreTied, IsStandingOf}
@@ -46,11 +45,9 @@ use Rattle.disk_target.proofs.RowShapes.{ShowsIn, reset_is, row_shows}
 use Rattle.disk_target.proofs.UnitRows.{stays}
 use Rattle.bus_base.proofs.Tests.{implied}
 use Rattle.target_course.specs.Negotiated.{events_of_row}
+use Rattle.target_course.proofs.Courses.{connection_stays}
 
 -- ---- the connection stays the same, and so does what is served
-
-pub same_connection : (rows : List Row) (row : Row) (m n : Connection) → connection rows ≡ Some m → connection (row ∷ rows) ≡ Some n → m ≡ n
-same_connection rows row m n x y = connection_stays (connection rows) (connection (row ∷ rows)) (call rows) (change_of rows row) row m n refl x y
 
 pub same_served : (s : ScenarioValue) (rows : List Row) (row : Row) (m n : Connection) → IsPlain s rows (run_state s rows) → IsPlain s (row ∷ rows) (run_state s (row ∷ rows)) → connection rows ≡ Some m → connection (row ∷ rows) ≡ Some n → process_served s (run_state s (row ∷ rows)) ≡ process_served s (run_state s rows)
 same_served s rows row m n f q x y = λ i. process_item s (served_after s (run_state s rows) ((f.connection ∙ x) i) ((q.connection ∙ y) i))
@@ -59,7 +56,7 @@ pub before_own : (s : ScenarioValue) (rows : List Row) (row : Row) (dev : ℕ) (
     → (IsOwnConnection rows dev m) × ((bus rows).rst ≡ false)
 before_own s rows row dev m n f q e x own calm =
     let turn : IsTurn s (run_state s rows) m (row_reading (run_state s rows).story.bus_state row) = turn_heard s rows row m n f q e x own.stands calm in
-    let same : m ≡ n = same_connection rows row m n x own.stands in
+    let same : m ≡ n = connection_stays rows row m n x own.stands in
     (record { stands = x; own = (λ i. (same i).target == dev) ∙ own.own }, (λ i. (sym f.bus i).rst) ∙ turn.calm)
 
 -- ---- a row that shows nothing

@@ -24,7 +24,8 @@ use Rattle.bus_due.specs.RunState.{RunState, bus_of}
 use Rattle.bus_due.specs.RunSteps.{run_state}
 use Rattle.bus_due.specs.Sights.{serving_of}
 use Rattle.bus_due.specs.Telling.{events_of_ends, events_of_ends_in, id_of, initiator_events, is_true_telling, target_events, telling}
-use Rattle.target_course.proofs.ReplyRows.{Shape, HasShape, events_are, served_shape, shown_of}
+use Rattle.bus_due.proofs.SameEvents.{events_are}
+use Rattle.target_course.proofs.ReplyRows.{Shape, HasShape, served_shape, shown_of}
 use Rattle.target_course.specs.Negotiated.{events_of_row}
 
 -- What a row shows in this connection, of which this process is served.

@@ -10,9 +10,9 @@ use Rattle.disk_array.specs.Order.{choice}
 use Rattle.disk_array.specs.Processes.{Process, process_of, same_id}
 use Rattle.disk_array.specs.Steps.{step, settled_array_if, accept_step, accept_step_at, queue_step, with_guest, process_count}
 use Rattle.disk_array.specs.Units.{RunningProcess, UnitState, Nexus, Array, is_held, unit_state_at, with_unit, with_current, has_no_current, unit_after_choice, units_after_choice, settled_array}
-use Rattle.target_units.proofs.UnitTellings.{target_found, number_found}
 use Rattle.disk_unit.proofs.LiveCommands.{id_self, same_id_is}
 use Rattle.bus_due.specs.RunSteps.{is_same_running, current_times_after}
+use Rattle.disk_array.proofs.SeatLookups.{found_target, found_unit}
 
 -- ---- each current process stays
 
@@ -105,7 +105,7 @@ arrival_keeps s a b id e = go (process_of s id) e
             room false m = cc
             room true m =
                 settled_keeps a (record a { units = with_unit a.units (record u { waiting = u.waiting ++ p ∷ [] }) }) b
-                (with_current_unit a.units p.target p.unit u (record u { waiting = u.waiting ++ p ∷ [] }) f (target_found a.units p.target p.unit u f) (number_found a.units p.target p.unit u f) refl) m
+                (with_current_unit a.units p.target p.unit u (record u { waiting = u.waiting ++ p ∷ [] }) f (found_target a.units p.target p.unit u f) (found_unit a.units p.target p.unit u f) refl) m
 
             sense : (y : Bool) → settled_array_if (if y then Some (with_guest a p None) else queue_step a p u) ≡ Some b → AreKept a.units b.units
             sense true m = settled_keeps a (with_guest a p None) b (current_self a.units) m

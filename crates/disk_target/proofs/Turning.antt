@@ -62,8 +62,8 @@ use Rattle.disk_target.proofs.RowServed.{block_few, may_turn}
 use Rattle.disk_target.proofs.RowShapes.{ShowsIn, nothing, turned, lost, aborted, ended, row_shows, shown_in}
 use Rattle.disk_target.proofs.Data.{served_of}
 use Rattle.bus_base.proofs.Tests.{implied}
-use Rattle.disk_target.proofs.RowSent.{phase_data_out}
 use Rattle.target_course.specs.Negotiated.{events_of_row}
+use Rattle.target_course.proofs.GatheredSteps.{data_out_is}
 
 -- ---- a phase is left
 
@@ -178,7 +178,7 @@ pub byte_phase : (s : ScenarioValue) (rows : List Row) (row : Row) → IsPlain s
 byte_phase s rows row p e =
     let w : Hearing = hearing rows row in
     let one = and_parts (w.crosses && is_data_out (phase_of w.change.before)) (not w.change.after.rst) e in
-    (λ i. phase_of (p.bus i)) ∙ phase_data_out (phase_of w.change.before) (and_parts w.crosses (is_data_out (phase_of w.change.before)) one.0).1
+    (λ i. phase_of (p.bus i)) ∙ data_out_is (phase_of w.change.before) (and_parts w.crosses (is_data_out (phase_of w.change.before)) one.0).1
 
 pub byte_closed : (s : ScenarioValue) (k : RunState) → phase_of (bus_of k) ≡ phases.DataOut → k.exchange.begun ≡ true → is_opening k ≡ false
 byte_closed s k e b = λ i. not (b i) || is_opening_in (e i) k.exchange.plan.cause

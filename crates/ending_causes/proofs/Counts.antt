@@ -42,8 +42,8 @@ use Rattle.bus_due.specs.RunState.{RunState, bus_of, process_served, process_ite
 use Rattle.bus_due.specs.RunSteps.{run_state, exchange_after, leaving_of, progress_after, progress_by_leaving, may_negotiate, naming_of}
 use Rattle.bus_due.specs.Sights.{hearing_of, serving_of, leaving}
 use Rattle.ending_causes.specs.WrongParity.{is_struck_phase, is_complaint, is_wrong_phase, is_left, serves, leaves_wrong_phase, wrong_phases}
-use Rattle.ending_causes.proofs.Replies.{same_ids}
 use Rattle.bus_base.proofs.Tests.{all_three}
+use Rattle.disk_array.proofs.SeatLookups.{same_id_is}
 
 pub not_both : (x : Bool) → x ≡ true → x ≡ false → ⊥
 not_both true h k = cc
@@ -226,9 +226,6 @@ counts_wrong v false phases.Status h = cc
 
 -- ---- a row more
 
-pub same_self : (id : ProcId) → same_id id id ≡ true
-same_self id = Rattle.ending_causes.proofs.Replies.same_self id
-
 no_more : (n : ℕ) (q : Bool) → n ≤ n + one_if q
 no_more n true = grind arith
 no_more n false = grind arith
@@ -248,7 +245,7 @@ progress_step all pid id r c = go (r || c) (same_id pid id) refl
 
     go : (q m : Bool) → same_id pid id ≡ m → (progress_in (if q then made ∷ all else all) id).recoveries ≤ older + one_if (c && m)
     go false m e = no_more older (c && m)
-    go true true e = subst (λ (x : Bool). (if x then made else progress_in all id).recoveries ≤ older + one_if (c && true)) (sym e) (mine (same_ids pid id e) c)
+    go true true e = subst (λ (x : Bool). (if x then made else progress_in all id).recoveries ≤ older + one_if (c && true)) (sym e) (mine (same_id_is pid id e) c)
     go true false e = subst (λ (x : Bool). (if x then made else progress_in all id).recoveries ≤ older + one_if (c && false)) (sym e) (no_more older (c && false))
 
 pub all_four : (a b c e : Bool) → a ≡ true → b ≡ true → c ≡ true → e ≡ true → (a && b && c && e) ≡ true

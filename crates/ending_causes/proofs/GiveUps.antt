@@ -51,14 +51,14 @@ use Rattle.bus_due.specs.Tasks.{task_of, task_if}
 use Rattle.bus_due.specs.Telling.{id_of, same_event, same_events, target_events, initiator_events, events_of_ends, events_of_ends_in, is_true_telling}
 use Rattle.ending_causes.specs.FullQueues.{has_event}
 use Rattle.ending_causes.specs.WrongParity.{is_struck_phase, is_complaint, is_wrong_phase, is_left, serves, leaves_wrong_phase, wrong_phases, is_failure, is_loss, is_past_limit, gives_up}
-use Rattle.ending_causes.proofs.Replies.{same_ids}
 use Rattle.ending_causes.proofs.Counts.{not_both, is_planned_wrong, planned_wrong, counted}
 use Rattle.bus_base.proofs.Tests.{all_three, or_other}
+use Rattle.disk_array.proofs.SeatLookups.{same_id_is}
 
 -- ---- equal events
 
 id_through : (a b c : ProcId) → same_id a b ≡ true → same_id b c ≡ true → same_id a c ≡ true
-id_through a b c h k = (λ i. same_id (same_ids a b h i) c) ∙ k
+id_through a b c h k = (λ i. same_id (same_id_is a b h i) c) ∙ k
 
 fail_through : (e f : Event) (id : ProcId) (code : ℕ) → same_event e f ≡ true → same_event f (events.Fail id code) ≡ true → same_event e (events.Fail id code) ≡ true
 fail_through (events.Fail a x) (events.Fail b y) id code h k =
@@ -379,7 +379,7 @@ past s rows row n id leaves same spent = and_from _ _ leaves (go (process_served
     own : (x : Option Item) (p : Process) → process_item s x ≡ Some p → same_process x (Some (process id)) ≡ true → p.id ≡ id
     own None p w q = cc
     own (Some (abort m)) p w q = cc
-    own (Some (process m)) p w q = id_is s m p w ∙ same_ids m id q
+    own (Some (process m)) p w q = id_is s m p w ∙ same_id_is m id q
 
     go : (o : Option Process) → process_served s k ≡ o → is_spent (target_def_of s n.target) (task_if s k o) ≡ true → is_past_limit (target_def_of s n.target) (task_if s k (process_served s k)) (wrong_phases s (row ∷ rows) id) ≡ true
     go None w e = cc
@@ -581,7 +581,7 @@ served_task s k p same some e = λ i. task_if s k (go k.served same some i)
     go : (x : Option Item) → same_process x (Some (process p.id)) ≡ true → is_some x ≡ true → process_item s x ≡ Some p
     go None a b = cc
     go (Some (abort m)) a b = cc
-    go (Some (process m)) a b = (λ i. process_of s (same_ids m p.id a i)) ∙ e
+    go (Some (process m)) a b = (λ i. process_of s (same_id_is m p.id a i)) ∙ e
 
 target_loses : (s : ScenarioValue) (k : RunState) (n : Connection) (stands : Bool) (p : Process) → process_of s p.id ≡ Some p → (stands ≡ false → is_none (leaving s k n.target).to ≡ true) → has_event (target_events s k n stands) (events.Lost p.id) ≡ true → Drops k (serving_of s k n.target) (phase_of (bus_of k)) p.id
 target_loses s k n stands p own free h = go k.exchange.begun refl stands refl h

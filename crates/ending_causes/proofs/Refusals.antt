@@ -80,7 +80,7 @@ array_kept s (row ∷ rows) =
     played s history [] = refl
     played s history (event ∷ shown) = ap (Play.array_step s event) (played s history shown)
 
-allowed_array : (s : ScenarioValue) (rows : List Row) → allowed s rows ≡ true → is_some (run_state s rows).array ≡ true
+pub allowed_array : (s : ScenarioValue) (rows : List Row) → allowed s rows ≡ true → is_some (run_state s rows).array ≡ true
 allowed_array s [] h = refl
 allowed_array s (row ∷ rows) h =
     let k : RunState = run_state s rows in

@@ -19,7 +19,7 @@ use Rattle.scenario.specs.declared.value.HostDef.{HostDef}
 use Rattle.scenario.specs.declared.value.UnitDef.{UnitDef}
 use Rattle.scenario.specs.Value.{ScenarioValue}
 use Rattle.disk_array.specs.Contents.{Contents}
-use Rattle.disk_array.specs.Processes.{Process, process_of, same_id, same_bool}
+use Rattle.disk_array.specs.Processes.{Process, process_of, same_id}
 use Rattle.disk_array.specs.Execution.{Reply, Execution, CommandContext, execution, attention_execution, cdb_execution, range_execution, command_execution, is_request_sense, is_good_range, range_of, heeds_attention, needs_unit, queue_full, check_condition, commands_cleared, reset_occurred, sense_of}
 use Rattle.disk_array.specs.Order.{choice}
 use Rattle.disk_array.specs.Units.{RunningProcess, UnitState, Nexus, Array, same_nexus, sense_of_nexus, senses_without, nexuses_without, is_held, unit_state_at, with_unit, guest_at, without_guest, with_current, has_no_current, units_after_choice, settled_array, starting_array, starting_units, nexus_of}
@@ -29,6 +29,8 @@ use Rattle.disk_array.proofs.SoundArrays.{id_is}
 use Rattle.bus_due.specs.Telling.{same_event}
 use Rattle.ending_causes.specs.FullQueues.{has_event, is_refused_at, was_refused, finds_full_queue, has_cause}
 use Rattle.bus_base.proofs.Tests.{eq_self}
+use Rattle.disk_array.proofs.SeatLookups.{same_id_is}
+use Rattle.bus_due.proofs.SameEvents.{id_self}
 
 -- ---- one of several
 
@@ -36,24 +38,6 @@ more : (x y z : Bool) → (not x || y) ≡ true → (not x || (z || y)) ≡ true
 more false y z h = refl
 more true true z h = or_right z true refl
 more true false z h = cc
-
-same_bools : (a b : Bool) → same_bool a b ≡ true → a ≡ b
-same_bools true true h = refl
-same_bools true false h = cc
-same_bools false true h = cc
-same_bools false false h = refl
-
-pub same_ids : (a b : ProcId) → same_id a b ≡ true → a ≡ b
-same_ids a b h =
-    let two = and_parts (a.command == b.command) (same_bool a.sense b.sense) h in
-    λ i. record { command = eqb-true a.command b.command two.0 i; sense = same_bools a.sense b.sense two.1 i }
-
-self_bool : (b : Bool) → same_bool b b ≡ true
-self_bool true = refl
-self_bool false = refl
-
-pub same_self : (id : ProcId) → same_id id id ≡ true
-same_self id = λ i. eq_self id.command i && self_bool id.sense i
 
 -- ---- what holds of the array, of this history
 
@@ -143,7 +127,7 @@ units_replied s h [] id reply c b = tt
 units_replied s h (u ∷ units) id reply c b = (go u.current b.0, units_replied s h units id reply c b.1)
   where
     inner : (r : RunningProcess) → IsCaused s h r.process.id r.reply → (x : Bool) → same_id r.process.id id ≡ x → IsCurrent s h (if x then Some (record r { reply = Some reply }) else Some r)
-    inner r k true z = subst (λ (other : ProcId). has_cause s h other reply ≡ true) (sym (same_ids r.process.id id z)) c
+    inner r k true z = subst (λ (other : ProcId). has_cause s h other reply ≡ true) (sym (same_id_is r.process.id id z)) c
     inner r k false z = k
 
     go : (x : Option RunningProcess) → IsCurrent s h x → IsCurrent s h (Steps.current_with_reply x id reply)
@@ -190,7 +174,7 @@ guests_replied s h [] id reply c b = tt
 guests_replied s h (g ∷ guests) id reply c b = go (same_id g.process.id id) refl (guests_replied s h guests id reply c b.1)
   where
     go : (x : Bool) → same_id g.process.id id ≡ x → AreGuests s h (Steps.guests_with_reply guests id reply) → AreGuests s h (if x then record g { reply = Some reply } ∷ guests else g ∷ Steps.guests_with_reply guests id reply)
-    go true z k = (subst (λ (other : ProcId). has_cause s h other reply ≡ true) (sym (same_ids g.process.id id z)) c, b.1)
+    go true z k = (subst (λ (other : ProcId). has_cause s h other reply ≡ true) (sym (same_id_is g.process.id id z)) c, b.1)
     go false z k = (b.0, k)
 
 guests_without : (s : ScenarioValue) (h : List Event) (guests : List RunningProcess) (id : ProcId) → AreGuests s h guests → AreGuests s h (without_guest guests id)
@@ -331,7 +315,7 @@ refused s h a id z b = go (process_of s id) refl
     full p e f =
         subst (λ (other : ProcId). has_cause s (events.Refuse id ∷ h) other queue_full ≡ true) (sym (id_is s id p e))
         (and_from _ _ (or_left (is_refused_at s h id (events.Refuse id)) (was_refused s h id)
-        (and_from _ _ (same_self id) ((λ i. Rattle.ending_causes.specs.FullQueues.finds_full_queue_if (z i) (e i)) ∙ f))) refl)
+        (and_from _ _ (id_self id) ((λ i. Rattle.ending_causes.specs.FullQueues.finds_full_queue_if (z i) (e i)) ∙ f))) refl)
 
     comes : (p : Process) → process_of s id ≡ Some p → (x : Bool) → (x ≡ true → finds_full_queue a (Some p) ≡ true) → IsCausedIf s (events.Refuse id ∷ h) (if x then Some (Steps.with_listed_reply (Steps.with_guest a p (Some queue_full)) p.id queue_full) else None)
     comes p e true f =
@@ -388,7 +372,7 @@ failed : (s : ScenarioValue) (h : List Event) (a : Array) (id : ProcId) (code : 
 failed s h a id code r b = on r
   where
     cause : has_cause s (events.Fail id code ∷ h) id (failure_of code) ≡ true
-    cause = or_left (same_id id id && code == code) (has_event h (events.Fail id code)) (λ i. same_self id i && eq_self code i)
+    cause = or_left (same_id id id && code == code) (has_event h (events.Fail id code)) (λ i. id_self id i && eq_self code i)
 
     came : (x : Bool) (p : Process) → process_of s id ≡ Some p → IsCausedIf s (events.Fail id code ∷ h) (if x then None else Some (Steps.with_listed_reply (Steps.with_guest a p (Some (failure_of code))) id (failure_of code)))
     came true p e = tt
@@ -523,7 +507,7 @@ reply_found s h [] id reply b e = cc
 reply_found s h (r ∷ replies) id reply b e = go (λ k. reply_found s h replies id reply b.1 k) (same_id r.0 id) refl e
   where
     go : (reply_in replies id ≡ Some reply → has_cause s h id reply ≡ true) → (x : Bool) → same_id r.0 id ≡ x → (if x then Some r.1 else reply_in replies id) ≡ Some reply → has_cause s h id reply ≡ true
-    go later true z k = let same : r.1 ≡ reply = cc in (λ i. has_cause s h (sym (same_ids r.0 id z) i) (sym same i)) ∙ b.0
+    go later true z k = let same : r.1 ≡ reply = cc in (λ i. has_cause s h (sym (same_id_is r.0 id z) i) (sym same i)) ∙ b.0
     go later false z k = later k
 
 pub reply_caused : (s : ScenarioValue) (h : List Event) (a : Array) (id : ProcId) (reply : Reply) → array_after s h ≡ Some a → reply_in a.replies id ≡ Some reply → has_cause s h id reply ≡ true
@@ -571,7 +555,7 @@ full_now s h a id b e = go (Steps.running_process a id) refl e
     by r k reply c false z l = cc
     by r k reply c true z l =
         let two = and_parts (not (reply.status == QUEUE_FULL) || was_refused s h r.process.id) (not (reply.sense.key == ABORTED_COMMAND) || has_event h (events.Fail r.process.id reply.sense.asc)) c in
-        (λ i. not (sym z i) || was_refused s h (sym (same_ids r.process.id id k.same) i)) ∙ two.0
+        (λ i. not (sym z i) || was_refused s h (sym (same_id_is r.process.id id k.same) i)) ∙ two.0
 
     with_reply : (r : RunningProcess) → Runs s h id r → (x : Option Reply) → IsCaused s h r.process.id x → is_some (Steps.end_step_with a r.process QUEUE_FULL x) ≡ true → was_refused s h id ≡ true
     with_reply r k None c l = cc
@@ -592,7 +576,7 @@ is_end s h a (events.Run p) id b e k = cc
 is_end s h a (events.Fail p code) id b e k = cc
 is_end s h a (events.End p status) id b e k =
     let two = and_parts (same_id p id) (status == QUEUE_FULL) e in
-    full_now s h a id b ((λ i. is_some (Steps.end_step a (sym (eqb-true status QUEUE_FULL two.1) i) (Steps.running_process a (sym (same_ids p id two.0) i)))) ∙ k)
+    full_now s h a id b ((λ i. is_some (Steps.end_step a (sym (eqb-true status QUEUE_FULL two.1) i) (Steps.running_process a (sym (same_id_is p id two.0) i)))) ∙ k)
 is_end s h a (events.Lost p) id b e k = cc
 is_end s h a (events.Aborted i t n what) id b e k = cc
 is_end s h a (events.Reset dev) id b e k = cc

@@ -23,8 +23,9 @@ use Rattle.disk_array.specs.SoundArray.{IsOwn, IsOwnRunning, AllOwnUnits, AllOwn
 use Rattle.disk_array.proofs.SoundArrays.{history_sound}
 use Rattle.bus_due.specs.Telling.{same_event}
 use Rattle.ending_causes.specs.FullQueues.{has_event, was_refused, has_cause, is_at_nexus, is_failure_at, has_failure_at}
-use Rattle.ending_causes.proofs.Replies.{same_ids, IsCaused, Caused, caused, process_runs}
+use Rattle.ending_causes.proofs.Replies.{IsCaused, Caused, caused, process_runs}
 use Rattle.bus_base.proofs.Tests.{eq_self}
+use Rattle.disk_array.proofs.SeatLookups.{same_id_is}
 
 -- ---- a failure of a process is one at its nexus
 
@@ -34,7 +35,7 @@ self_nexus q = λ i. eq_self q.initiator i && (eq_self q.target i && eq_self q.u
 here : (s : ScenarioValue) (e : Event) (p : Process) (code : ℕ) → process_of s p.id ≡ Some p → same_event e (events.Fail p.id code) ≡ true → is_failure_at s e (nexus_of p) code ≡ true
 here s (events.Fail id x) p code own h =
     let two = and_parts (same_id id p.id) (x == code) h in
-    and_from _ _ two.1 ((λ i. is_at_nexus (process_of s (same_ids id p.id two.0 i)) (nexus_of p)) ∙ (λ i. is_at_nexus (own i) (nexus_of p)) ∙ self_nexus (nexus_of p))
+    and_from _ _ two.1 ((λ i. is_at_nexus (process_of s (same_id_is id p.id two.0 i)) (nexus_of p)) ∙ (λ i. is_at_nexus (own i) (nexus_of p)) ∙ self_nexus (nexus_of p))
 here s (events.Accept id) p code own h = cc
 here s (events.Refuse id) p code own h = cc
 here s (events.Run id) p code own h = cc

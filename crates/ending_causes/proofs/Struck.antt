@@ -37,9 +37,10 @@ use Rattle.bus_story.specs.TraceHistory.{story, trace_history, aim_of, is_host, 
 use Rattle.bus_due.specs.Telling.{same_event}
 use Rattle.ending_causes.specs.FullQueues.{has_event}
 use Rattle.ending_causes.specs.Strikes.{is_item_of, is_link_of, fails_with, has_failing_byte, is_strike, has_strike}
-use Rattle.ending_causes.proofs.Replies.{same_ids, same_self}
 use Rattle.ending_causes.proofs.Counts.{not_both}
 use Rattle.bus_base.proofs.Tests.{eq_self, all_three}
+use Rattle.disk_array.proofs.SeatLookups.{same_id_is}
+use Rattle.bus_due.proofs.SameEvents.{id_self}
 
 -- ---- what a process has carried: a failure has its fault row
 
@@ -114,7 +115,7 @@ id_of_carried [] id = refl
 id_of_carried (k ∷ all) id = go (same_id k.id id) refl (id_of_carried all id)
   where
     go : (q : Bool) → same_id k.id id ≡ q → (carried_or_nothing (carried_at all id) id).id ≡ id → (carried_or_nothing (if q then Some k else carried_at all id) id).id ≡ id
-    go true e m = same_ids k.id id e
+    go true e m = same_id_is k.id id e
     go false e m = m
 
 carried_if_is : (s : ScenarioValue) (rows : List Row) (b : Story) (o : Option Item) → AreCarried s rows b.carried → IsCarriedIf s rows (carried_if b o)
@@ -309,7 +310,7 @@ fault_struck s rows row l e h = by row.kind refl
     now id c bit item crossed kind code f =
         or_left (is_strike b row id code) (has_strike s rows id code)
         (all_three (is_fault row.kind) (is_link_of b.link id) (has_failing_byte b.bus_state.crossed code) (λ i. is_fault (kind i))
-        ((λ i. is_link_of (e i) id) ∙ (λ i. is_item_of (item i) id) ∙ same_self id)
+        ((λ i. is_link_of (e i) id) ∙ (λ i. is_item_of (item i) id) ∙ id_self id)
         ((λ i. has_failing_byte (crossed i) code) ∙ f))
 
     struck_if : (bit : ℕ) → row.kind ≡ Fault bit → (o : Option Item) → l.item ≡ o → (c : Option Change) → b.bus_state.crossed ≡ c → IsCarriedIf s (row ∷ rows) (TraceHistory.carried_after_fault_if (carried_if b o) c)
@@ -408,7 +409,7 @@ status_is s rows (Some k) lines arrived id code c n h = go (is_status_phase line
     same : (x : ℕ) → has_strike s rows k.id x ≡ true → same_event (events.Fail k.id x) (events.Fail id code) ≡ true → has_strike s rows id code ≡ true
     same x m e =
         let two = and_parts (same_id k.id id) (x == code) e in
-        (λ i. has_strike s rows (sym (same_ids k.id id two.0) i) (sym (eqb-true x code two.1) i)) ∙ m
+        (λ i. has_strike s rows (sym (same_id_is k.id id two.0) i) (sym (eqb-true x code two.1) i)) ∙ m
 
     of_event : (x : Option ℕ) → IsFailure s rows k.id x → (q : Bool) → same_event (HistoryEvents.status_event k.id x) (events.Fail id code) ≡ q → (q || has_event arrived (events.Fail id code)) ≡ true → has_strike s rows id code ≡ true
     of_event None m true e f = cc

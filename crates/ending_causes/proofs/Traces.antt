@@ -25,9 +25,9 @@ use Rattle.bus_due.specs.Tasks.{task_of}
 use Rattle.bus_due.specs.Telling.{is_true_telling, telling, same_event}
 use Rattle.ending_causes.specs.FullQueues.{has_event}
 use Rattle.ending_causes.specs.WrongParity.{is_struck_phase, is_left, serves, is_wrong_phase, leaves_wrong_phase, wrong_phases, is_failure, is_loss, is_past_limit, gives_up, is_left_by, is_left_as_due, left_as_due, has_passed_limit}
-use Rattle.ending_causes.proofs.Replies.{same_ids}
 use Rattle.ending_causes.proofs.GiveUps.{failure_is, loss_by, fails_connected, lost_connected, lost_calm}
 use Rattle.ending_causes.proofs.Struck.{either_list}
+use Rattle.disk_array.proofs.SeatLookups.{same_id_is}
 
 -- ---- the ends of a connection are those of the process that its target serves
 
@@ -62,7 +62,7 @@ ends_are s (row ∷ rows) n h z = go (λ m y. ends_are s rows m two.0 y) k.story
 
 -- ---- a row that gives up
 
-middle : (a b c : Bool) → (a && b && c) ≡ true → b ≡ true
+pub middle : (a b c : Bool) → (a && b && c) ≡ true → b ≡ true
 middle true true true h = refl
 middle true true false h = cc
 middle true false c h = cc
@@ -90,7 +90,7 @@ gave_up s rows row n p f z own h = (λ i. nat_lt (recovery_limit (target_def_of 
     is_own : (x : Option Item) → same_process x (Some (process p.id)) ≡ true → is_some x ≡ true → process_item s x ≡ Some p
     is_own None a b = cc
     is_own (Some (abort m)) a b = cc
-    is_own (Some (process m)) a b = (λ i. process_of s (same_ids m p.id a i)) ∙ own
+    is_own (Some (process m)) a b = (λ i. process_of s (same_id_is m p.id a i)) ∙ own
 
     at_target : p.target ≡ n.target
     at_target =

@@ -2,7 +2,6 @@
 use Rattle.std.proofs.Common.{ℕ, ◌≡◌, ◌≢◌, inl, inr, ◌<◌, ◌+◌, ◌^◌, Bool, true, false, not, ◌&&◌, ◌==◌, ◌∙◌, List, ◌∷◌, Option, Some, None, refl, sym, ap, subst, arith}
 use Rattle.std.specs.Prelude.{if◌then◌else◌, is_some}
 use Rattle.std.proofs.lemmas.Bool.{cases_eq, ne_eqb}
-use Rattle.std.proofs.lemmas.Bool.Decides.{nat_tests}
 use Rattle.std.proofs.lemmas.Option.{same_Some}
 use Rattle.bus_trace.specs.LineSet.{LineSet, none}
 use Rattle.bus_trace.specs.declared.Row.{Row}
@@ -26,13 +25,13 @@ use Rattle.bus_laws.specs.Rows.{row_of_lines}
 use Rattle.bus_laws.specs.Stages.{HasShortLatencies, CalmStanding, BusStage, on_free_bus, in_arbitration, after_arbitration, with_both_ids, awaiting_answer, after_withdrawal, after_answer, after_takeover, in_reset, in_connection, AwaitsAnswer, Calls}
 use Rattle.bus_laws.proofs.CallDues.{asks_due, before_due, waits_due, answers_due, aside_due, flip_at}
 use Rattle.bus_laws.proofs.Dues.{is_there, is_at}
-use Rattle.bus_laws.proofs.FromCalling.{only_caller}
+use Rattle.bus_laws.proofs.FromCalling.{only_caller, ids_not_zero, answer_exists}
 use Rattle.bus_laws.proofs.Rows.{drives_own, drives_other, since_is, stage_is, stands_after}
 use Rattle.link_laws.proofs.EndDues.{due_of}
 use Rattle.trace_laws.proofs.Impossible.{none_some}
 use Rattle.fault_laws.specs.Awaited.{is_asked, ids_at, ids_of, awaited_ids}
 use Rattle.fault_laws.proofs.Calls.{Follows, calling_follows, GoesOn, call_goes, answered_unasked, withdrawn_unasked, struck_unasked, unreleased_unasked, ids_none, ids_unsampled, ids_sampled, with_awaited}
-use Rattle.fault_laws.proofs.Takes.{Takes, Awaits, fault_at, lines_at, time_at, some_at}
+use Rattle.fault_laws.proofs.Takes.{Takes, Awaits, fault_at, lines_at, time_at}
 use Rattle.bus_base.proofs.Tests.{wrong, wrong', eq_self}
 
 -- ---- the called device samples next
@@ -72,7 +71,7 @@ ids_await s p m c k t0 t1 t2 n lat fits always a there =
         elim (cases_eq row.dev c) [
           | inl same ↦
               let z = is_at (t2 + 250000000 + w.0) (record (calling_lines m false n) { data_bits = 0 }) (due_of row) (sym (waits_due s p false m c k t0 t1 t2 w.0 (calling_lines m false n) always.devices h.caller_below (ap (latency_of s) (sym same) ∙ w.1) h.stands.connection_is was h.caller) ∙ ap (unreset_due s p) (sym same) ∙ least.is_due) in
-              let y = some_at time (flip_at s p lat) answer_lines in
+              let y = answer_exists time (flip_at s p lat) answer_lines in
               let v = least.first k h.called_below y.0 (due ∙ y.1.0) in
               let at = z.time_is in
               let yt = y.1.1 in
@@ -86,9 +85,6 @@ ids_await s p m c k t0 t1 t2 n lat fits always a there =
         ]
 
 -- ---- in one stage alone
-
-call_eq : (k j : Call) → (let a : Option Call = Some k in a) ≡ Some j → k ≡ j
-call_eq k j e = same_Some k j e
 
 no_asked : {A : Type 0} (s : ScenarioValue) (p : List Row) (a : Sample) (o : Option Call) → call p ≡ o → awaited_ids s (since_line (λ z. z.bsy) p) o ≡ None → awaited_ids s (since_line (λ z. z.bsy) p) (call p) ≡ Some a → A
 no_asked s p a o eo none e = none_some a (sym none ∙ ap (awaited_ids s (since_line (λ z. z.bsy) p)) (sym eo) ∙ e)
@@ -151,7 +147,7 @@ fell false b c e = wrong' e
 follows_from : (p : List Row) (row : Row) (j : Call) (g : Calling) (k : Call) (h : Calling) → call p ≡ Some j → j.calling ≡ Some g → call (row ∷ p) ≡ Some k → k.calling ≡ Some h → Follows g h
 follows_from p row j g k h ej eg ek eh =
     let w = call_goes p row k h ek eh in
-    let same : w.was ≡ j = call_eq w.was j (sym w.was_is ∙ ej) in
+    let same : w.was ≡ j = same_Some w.was j (sym w.was_is ∙ ej) in
     calling_follows w.was.caller g h (change_of p row) row (sym (ap (λ (o : Option Calling). calling_after w.was.caller o (change_of p row) row) (ap (λ (x : Call). x.calling) same ∙ eg)) ∙ w.goes)
 
 -- Where SEL was false no device is called.
@@ -173,10 +169,10 @@ ids_answered s p row j g ej eg some =
 released_stage : (s : ScenarioValue) (q : List Row) (k : Call) (h : Calling) → BusStage s q → (bus q).rst ≡ false → connection q ≡ None → (bus q).bsy ≡ false → call q ≡ Some k → k.calling ≡ Some h → is_some h.released ≡ true
 released_stage s q k h (on_free_bus z) calm alone low ek eh = none_some k (sym z.stands.call_is ∙ ek)
 released_stage s q k h (in_arbitration a z) calm alone low ek eh = none_some k (sym z.stands.call_is ∙ ek)
-released_stage s q k h (after_arbitration c t z) calm alone low ek eh = none_some h (ap (λ (x : Call). x.calling) (call_eq _ k (sym z.stands.call_is ∙ ek)) ∙ eh)
+released_stage s q k h (after_arbitration c t z) calm alone low ek eh = none_some h (ap (λ (x : Call). x.calling) (same_Some _ k (sym z.stands.call_is ∙ ek)) ∙ eh)
 released_stage s q k h (with_both_ids m c j t0 t e z) calm alone low ek eh = wrong (sym (ap (λ (l : LineSet). l.bsy) z.stands.bus_is) ∙ low)
-released_stage s q k h (awaiting_answer v m c j t0 t1 t2 x z) calm alone low ek eh = ap (λ (g : Calling). is_some g.released) (sym (same_Some _ h (ap (λ (x : Call). x.calling) (call_eq _ k (sym z.here.stands.call_is ∙ ek)) ∙ eh)))
-released_stage s q k h (after_withdrawal v m c j t0 t1 t2 t3 e z) calm alone low ek eh = ap (λ (g : Calling). is_some g.released) (sym (same_Some _ h (ap (λ (x : Call). x.calling) (call_eq _ k (sym z.stands.call_is ∙ ek)) ∙ eh)))
+released_stage s q k h (awaiting_answer v m c j t0 t1 t2 x z) calm alone low ek eh = ap (λ (g : Calling). is_some g.released) (sym (same_Some _ h (ap (λ (x : Call). x.calling) (same_Some _ k (sym z.here.stands.call_is ∙ ek)) ∙ eh)))
+released_stage s q k h (after_withdrawal v m c j t0 t1 t2 t3 e z) calm alone low ek eh = ap (λ (g : Calling). is_some g.released) (sym (same_Some _ h (ap (λ (x : Call). x.calling) (same_Some _ k (sym z.stands.call_is ∙ ek)) ∙ eh)))
 released_stage s q k h (after_answer m c j t0 t1 t2 t3 x z) calm alone low ek eh = wrong (sym (ap (λ (l : LineSet). l.bsy) z.here.stands.bus_is) ∙ low)
 released_stage s q k h (after_takeover c j t0 t1 t2 t3 t4 x e f z) calm alone low ek eh = wrong (sym (ap (λ (l : LineSet). l.bsy) z.here.stands.bus_is) ∙ low)
 released_stage s q k h (in_reset z) calm alone low ek eh = wrong (sym z.reset ∙ calm)
@@ -197,14 +193,11 @@ ids_won s p row j ej none next calm alone =
     let w = call_goes p row k h ek eh in
     let c : Change = change_of p row in
     new_unreleased (row.dev == w.was.caller) (drives_two_ids w.was.caller c.next) (new_calling w.was.caller c.next row.time) h refl
-    (sym (ap (λ (o : Option Calling). calling_after w.was.caller o c row) (ap (λ (x : Call). x.calling) (call_eq w.was j (sym w.was_is ∙ ej)) ∙ none)) ∙ w.goes) in
+    (sym (ap (λ (o : Option Calling). calling_after w.was.caller o c row) (ap (λ (x : Call). x.calling) (same_Some w.was j (sym w.was_is ∙ ej)) ∙ none)) ∙ w.goes) in
     ids_on_by s p row (λ k h ek eh. unreleased_unasked h (new k h ek eh))
     (λ e k h ek eh. wrong (sym (released_stage s (row ∷ p) k h next calm alone (fell (bus p).bsy (bus (row ∷ p)).bsy (bus (row ∷ p)).sel e).0 ek eh) ∙ new k h ek eh))
 
 -- ---- once both IDs stand
-
-ids_not_zero : (c k : ℕ) → (2 ^ c + 2 ^ k + 256 == 0) ≡ false
-ids_not_zero c k = grind (arith, nat_tests)
 
 ids_asking : (s : ScenarioValue) (p : List Row) (m : Bool) (c k t0 t1 t : ℕ) → Calls s p (begun_call m c k t0 t1) c k (both_ids m c k) none (both_ids m c k) → IdsOn s p (row_of_lines t c (calling_lines m false (2 ^ c + 2 ^ k + 256)))
 ids_asking s p m c k t0 t1 t h =
@@ -285,7 +278,7 @@ ids_taken s p m c k t0 t1 t2 n lat row fits always a there least = ids_on_by s p
 
     by_device : (kk : Call) (h : Calling) → GoesOn p row kk h → is_asked h ≡ false
     by_device kk h w =
-        let same : awaiting_call false m c k t0 t1 t2 ≡ w.was = call_eq _ w.was (sym a.here.stands.call_is ∙ w.was_is) in
+        let same : awaiting_call false m c k t0 t1 t2 ≡ w.was = same_Some _ w.was (sym a.here.stands.call_is ∙ w.was_is) in
         let goes : calling_after c (Some g) (change_of p row) row ≡ Some h = (λ i. calling_after (same i).caller (same i).calling (change_of p row) row) ∙ w.goes in
         elim (cases_eq row.dev k) [
           | inl here ↦ by_kind h (sampled_call c k g h (change_of p row) row a.here.apart refl here goes) here (flip_at s p lat) (sym due ∙ ap (unreset_due s p) (sym here) ∙ least.is_due)
@@ -298,7 +291,7 @@ ids_taken s p m c k t0 t1 t2 n lat row fits always a there least = ids_on_by s p
             elim (cases_eq row.dev c) [
               | inl same ↦
                   let z = is_at (t2 + 250000000 + v.0) (record (calling_lines m false n) { data_bits = 0 }) (due_of row) (sym (waits_due s p false m c k t0 t1 t2 v.0 (calling_lines m false n) always.devices a.here.caller_below (ap (latency_of s) (sym same) ∙ v.1) a.here.stands.connection_is was a.here.caller) ∙ ap (unreset_due s p) (sym same) ∙ least.is_due) in
-                  let y = some_at time (flip_at s p lat) answer_lines in
+                  let y = answer_exists time (flip_at s p lat) answer_lines in
                   let first = least.first k a.here.called_below y.0 (due ∙ y.1.0) in
                   let at = z.time_is in
                   let yt = y.1.1 in

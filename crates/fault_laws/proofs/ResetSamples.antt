@@ -21,16 +21,15 @@ use Rattle.bus_trace.proofs.Buses.{bus_off}
 use Rattle.bus_trace.proofs.OneRow.{drives-other, drives-fault}
 use Rattle.bus_rules.specs.Reset.{only_rst}
 use Rattle.scenario.specs.Value.{ScenarioValue}
-use Rattle.bus_story.specs.Samples.{Sample, is_kept_by_reset, latency_of, samples_with_ids}
+use Rattle.bus_story.specs.Samples.{Sample, is_kept_by_reset, samples_with_ids}
 use Rattle.bus_reactions.specs.declared.due.Due.{Due}
 use Rattle.bus_reactions.specs.Reactions.{due_at, earlier_due}
-use Rattle.bus_reactions.specs.Reset.{rst_assertion}
 use Rattle.bus_due.specs.Due.{reset_from}
 use Rattle.bus_due.specs.Least.{IsLeast}
 use Rattle.bus_due.specs.Next.{due}
 use Rattle.bus_due.specs.Own.{Own, own_of}
 use Rattle.bus_due.specs.Plain.{AreOfDevices}
-use Rattle.bus_laws.specs.Reactions.{unreset_due, reset_due, reset_due_if}
+use Rattle.bus_laws.specs.Reactions.{unreset_due, reset_due}
 use Rattle.bus_laws.specs.Rows.{row_of_lines, row_of_fault}
 use Rattle.bus_laws.specs.Stages.{CalmStanding, Standing, BusStage, on_free_bus, in_arbitration, after_arbitration, with_both_ids, awaiting_answer, after_withdrawal, after_answer, after_takeover, in_reset, in_connection}
 use Rattle.bus_laws.proofs.Dues.{is_there, is_at, due_in_reset}
@@ -41,6 +40,7 @@ use Rattle.bus_laws.proofs.Resets.{one_of, comes_by, comes_by_first, due_calm, d
 use Rattle.bus_laws.proofs.Rows.{drives_own}
 use Rattle.link_laws.proofs.EndDues.{due_of}
 use Rattle.trace_laws.proofs.Impossible.{none_some}
+use Rattle.trace_laws.proofs.Tests.{not_unless}
 use Rattle.fault_laws.proofs.Calls.{calling_follows, GoesOn, call_goes, ids_unsampled}
 use Rattle.fault_laws.proofs.Takes.{IsNoLater}
 use Rattle.bus_base.proofs.Tests.{wrong, wrong', and_false}
@@ -315,10 +315,6 @@ pub record Called (p : List Row) : Type 0 where
 no_two : {A : Type 0} (q r : Bool) (a h : Calling) → r ≡ false → (if q && r then Some a else None) ≡ Some h → A
 no_two q r a h e z = none_some h (sym (ap (λ (x : Bool). if x then Some a else None) ((λ i. q && e i) ∙ and_false q)) ∙ z)
 
-unanswered_by : (a b : Bool) → (a ≡ true → b ≡ true) → b ≡ false → a ≡ false
-unanswered_by true b f e = wrong (sym (f refl) ∙ e)
-unanswered_by false b f e = refl
-
 called_before : (p : List Row) (row : Row) (k : Call) (h : Calling) → IsBare row → call (row ∷ p) ≡ Some k → k.calling ≡ Some h → is_some h.answered ≡ false → Called p
 called_before p row k h b ek eh un = go w.was.calling refl
   where
@@ -337,7 +333,7 @@ called_before p row k h b ek eh un = go w.was.calling refl
         (sym (ap (λ (o : Option Calling). calling_after w.was.caller o c row) e) ∙ w.goes)
     go (Some g) e =
         let f = calling_follows w.was.caller g h c row (sym (ap (λ (o : Option Calling). calling_after w.was.caller o c row) e) ∙ w.goes) in
-        record { was = w.was; calling = g; was_is = w.was_is; calling_is = e; unanswered = unanswered_by (is_some g.answered) (is_some h.answered) f.answered un }
+        record { was = w.was; calling = g; was_is = w.was_is; calling_is = e; unanswered = not_unless (is_some g.answered) (is_some h.answered) f.answered un }
 
 pub calls_go : (p : List Row) (row : Row) → IsBare row → LetsCallsGo p → LetsCallsGo (row ∷ p)
 calls_go p row b u k h ek eh un =

@@ -3,7 +3,7 @@ use Rattle.std.proofs.Common.{ℕ, ◌≡◌, ◌⊎◌, ◌≤◌, ◌<◌, fal
 use Rattle.std.proofs.lemmas.Option.{same_Some}
 use Rattle.bus_trace.specs.LineSet.{LineSet}
 use Rattle.bus_trace.specs.declared.Row.{Row}
-use Rattle.bus_trace.specs.declared.Kind.TheVariants.{Drives, Fault}
+use Rattle.bus_trace.specs.declared.Kind.TheVariants.{Fault}
 use Rattle.bus_trace.specs.Terms.{is_fault}
 use Rattle.scenario.specs.Value.{ScenarioValue}
 use Rattle.bus_story.specs.Samples.{Sample}
@@ -45,7 +45,3 @@ lines_at time l x flip f e = ap is_fault (is_at time l x (sym (ap (λ (o : Optio
 pub time_at : (time : ℕ) (l : LineSet) (x : Due) (flip : Option ℕ) → fault_or time flip (due_at time l) ≡ Some x → x.time ≡ time
 time_at time l x None e = (is_at time l x e).time_is
 time_at time l x (Some bit) e = (fault_at time bit (due_at time l) x (Some bit) refl e).0
-
-pub some_at : (time : ℕ) (flip : Option ℕ) (l : LineSet) → (x : Due) × ((fault_or time flip (due_at time l) ≡ Some x) × (x.time ≡ time))
-some_at time None l = (record { time = time; kind = Drives l }, (refl, refl))
-some_at time (Some bit) l = (record { time = time; kind = Fault bit }, (refl, refl))

@@ -54,7 +54,7 @@ end_number drops stops m = go (m.sent && not m.over && drops) (stops && m.checke
     go false true = refl
     go false false = refl
 
-event_number : (e : Event) (m : Mine) → (mine_after_event e m).number ≡ m.number
+pub event_number : (e : Event) (m : Mine) → (mine_after_event e m).number ≡ m.number
 event_number (events.Accept id) m = refl
 event_number (events.Refuse id) m = refl
 event_number (events.Run id) m = refl

@@ -1,34 +1,18 @@
 -- What each process has carried, where one of them carries on.
 use Rattle.std.proofs.Common.{◌≡◌, ◌∙◌, Bool, true, false, List, [], ◌∷◌, refl, sym, Some, None}
-use Rattle.std.specs.Prelude.{if◌then◌else◌, ◌&&◌, ◌==◌}
-use Rattle.std.proofs.lemmas.Bool.{eqb-true, eq-eqb}
+use Rattle.std.specs.Prelude.{if◌then◌else◌}
 use Rattle.bus_base.specs.declared.ProcId.{ProcId}
-use Rattle.disk_array.specs.Processes.{same_bool, same_id}
+use Rattle.disk_array.specs.Processes.{same_id}
 use Rattle.bus_story.specs.CarriedBytes.{CarriedBytes, nothing_carried, carried_at, with_carried, carried_or_nothing, carried_of}
-use Rattle.disk_array.proofs.SeatLookups.{same_bool_self}
-
-same_bool_is : (a b : Bool) → same_bool a b ≡ true → a ≡ b
-same_bool_is true true e = refl
-same_bool_is true false e = cc
-same_bool_is false true e = cc
-same_bool_is false false e = refl
-
-pub same_is : (p q : ProcId) → same_id p q ≡ true → p ≡ q
-same_is p q e = go (p.command == q.command) refl e
-  where
-    go : (x : Bool) → (p.command == q.command) ≡ x → (x && same_bool p.sense q.sense) ≡ true → p ≡ q
-    go true c f = λ i. record { command = eqb-true p.command q.command c i; sense = same_bool_is p.sense q.sense f i }
-    go false c f = cc
-
-pub same_self : (p : ProcId) → same_id p p ≡ true
-same_self p = (λ i. eq-eqb p.command p.command refl i && same_bool p.sense p.sense) ∙ same_bool_self p.sense
+use Rattle.disk_array.proofs.SeatLookups.{same_id_is}
+use Rattle.bus_due.proofs.SameEvents.{id_self}
 
 pub carried_id : (all : List CarriedBytes) (id : ProcId) → (carried_of all id).id ≡ id
 carried_id [] id = refl
 carried_id (k ∷ all) id = go (same_id k.id id) refl (carried_id all id)
   where
     go : (q : Bool) → same_id k.id id ≡ q → (carried_of all id).id ≡ id → (carried_or_nothing (if q then Some k else carried_at all id) id).id ≡ id
-    go true e r = same_is k.id id e
+    go true e r = same_id_is k.id id e
     go false e r = r
 
 pub carried_with : (all : List CarriedBytes) (k : CarriedBytes) (id : ProcId) → carried_of (with_carried all k) id ≡ (if same_id k.id id then k else carried_of all id)
@@ -42,11 +26,11 @@ carried_with (l ∷ all) k id = place (same_id l.id k.id) refl (carried_with all
     here : same_id l.id k.id ≡ true → (q : Bool) → same_id k.id id ≡ q → carried_or_nothing (if q then Some k else carried_at all id) id ≡ (if q then k else carried_or_nothing (if same_id l.id id then Some l else carried_at all id) id)
     here e true f = refl
     here e false f =
-        let other : same_id l.id id ≡ false = (λ i. same_id (same_is l.id k.id e i) id) ∙ f in
+        let other : same_id l.id id ≡ false = (λ i. same_id (same_id_is l.id k.id e i) id) ∙ f in
         λ i. carried_or_nothing (if sym other i then Some l else carried_at all id) id
 
     both : same_id l.id k.id ≡ false → same_id l.id id ≡ true → same_id k.id id ≡ true → true ≡ false
-    both e f g = sym (same_self k.id) ∙ (λ i. same_id ((same_is k.id id g ∙ sym (same_is l.id id f)) i) k.id) ∙ e
+    both e f g = sym (id_self k.id) ∙ (λ i. same_id ((same_id_is k.id id g ∙ sym (same_id_is l.id id f)) i) k.id) ∙ e
 
     there : same_id l.id k.id ≡ false → carried_of (with_carried all k) id ≡ (if same_id k.id id then k else carried_of all id) → (p q : Bool) → same_id l.id id ≡ p → same_id k.id id ≡ q → carried_or_nothing (if p then Some l else carried_at (with_carried all k) id) id ≡ (if q then k else carried_or_nothing (if p then Some l else carried_at all id) id)
     there e r true true f g = (let bad : true ≡ false = both e f g in cc)

@@ -37,6 +37,7 @@ use Rattle.initiator.proofs.Foreign.{no_host_first}
 use Rattle.initiator.proofs.StoryEnds.{first_of, ended_if, drops_if, ending_after, AreEnded, IsUnended, Calls, same, vain, event_ends, events_keep, events_sent, change_calls, change_keeps, shown_unended, links_stand, are_ended}
 use Rattle.initiator.proofs.Wishes.{IsCaller}
 use Rattle.initiator.proofs.WishRows.{aims_are, callers_are}
+use Rattle.initiator.proofs.HeldSteps.{in_range}
 
 -- ---- look-ups
 
@@ -432,12 +433,6 @@ calling_sense mines v n (Some (own.Command k)) l = go (is_over (mine_at mines k)
     go false = refl
 
 -- ---- one row more
-
-pub in_range : (commands : List CmdDef) (n dev : ℕ) → is_of_host (command_at commands n) dev ≡ true → n < length commands + 1
-in_range [] n dev h = cc
-in_range (c ∷ commands) zero dev h = cc
-in_range (c ∷ commands) (suc zero) dev h = omega arith
-in_range (c ∷ commands) (suc (suc n)) dev h = omega (arith, in_range commands (suc n) dev h)
 
 -- What a row with these events makes of them, `d` being what is sent after it.
 rows_length : (s : ScenarioValue) (d : Sent) (dev : ℕ) (v : List CommandEnd) (aim : Option OwnItem) (shown : List Event) → length (ends_after (my_book s d dev) aim v shown) ≡ length v

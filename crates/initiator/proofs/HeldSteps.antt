@@ -10,7 +10,6 @@ use Rattle.bus_trace.specs.Phases.{is_data, is_command}
 use Rattle.msg_grammar.specs.declared.message.MsgIn.{MsgIn}
 use Rattle.msg_grammar.specs.declared.message.MsgIn.TheVariants as to_initiator
 use Rattle.cdb_codec.specs.declared.sense.TheConstants.{PARITY_ERROR, INITIATOR_DETECTED_ERROR}
-use Rattle.scenario.specs.declared.value.CmdDef.{CmdDef}
 use Rattle.scenario.specs.Value.{ScenarioValue}
 use Rattle.disk_array.specs.Processes.{command_at, same_bool, same_id}
 use Rattle.bus_story.specs.Items.{is_of_host}
@@ -22,7 +21,9 @@ use Rattle.io_pointers.specs.Pointers.{pointers_of, with_saved_data, with_restor
 use Rattle.initiator.specs.declared.held.Held.{Held}
 use Rattle.initiator.specs.declared.held.HeldPair.{HeldPair}
 use Rattle.initiator.specs.HeldPointers.{capped_place, IsHeldOf, nothing_held, held_restored, held_after_message, advanced_within, status_after, held_after_byte, no_pair, half_of, with_half, held_at, with_held, AreHeldOf}
-use Rattle.initiator.proofs.CarriedLists.{same_is, carried_with}
+use Rattle.initiator.proofs.CarriedLists.{carried_with}
+use Rattle.disk_array.proofs.SeatLookups.{same_id_is}
+use Rattle.scenario.specs.declared.value.CmdDef.{CmdDef}
 
 -- ---- a pointer goes on by one byte
 
@@ -171,11 +172,11 @@ held_path j k u v p q h = subst (λ (x : CarriedBytes). IsHeldOf x u) (sym p) (s
 
 -- ---- of all
 
-number_within : (commands : List CmdDef) (n dev : ℕ) → is_of_host (command_at commands n) dev ≡ true → n < length commands + 1
-number_within [] n dev e = cc
-number_within (c ∷ commands) zero dev e = cc
-number_within (c ∷ commands) (suc zero) dev e = omega arith
-number_within (c ∷ commands) (suc (suc n)) dev e = let h = number_within commands (suc n) dev e in omega (arith, h)
+pub in_range : (commands : List CmdDef) (n dev : ℕ) → is_of_host (command_at commands n) dev ≡ true → n < length commands + 1
+in_range [] n dev h = cc
+in_range (c ∷ commands) zero dev h = cc
+in_range (c ∷ commands) (suc zero) dev h = omega arith
+in_range (c ∷ commands) (suc (suc n)) dev h = omega (arith, in_range commands (suc n) dev h)
 
 half_same : (p : HeldPair) (q : Bool) (v : Held) → half_of (with_half p q v) q ≡ v
 half_same p true v = refl
@@ -217,11 +218,11 @@ held_on s dev carried all id k v is mine kept h = record {
 }
   where
     within : id.command < length all
-    within = let n = number_within s.commands id.command dev mine in let l = h.long in omega (arith, n, l)
+    within = let n = in_range s.commands id.command dev mine in let l = h.long in omega (arith, n, l)
 
     go : (other : ProcId) → is_of_host (command_at s.commands other.command) dev ≡ true → (q : Bool) → same_id k.id other ≡ q → IsHeldOf (carried_of (with_carried carried k) other) (held_at (with_held all id v) other)
     go other own true e =
-        let same : other ≡ id = sym (same_is k.id other e) ∙ is in
+        let same : other ≡ id = sym (same_id_is k.id other e) ∙ is in
         held_path _ k _ v
         (carried_with carried k other ∙ (λ i. if e i then k else carried_of carried other))
         ((λ i. held_at (with_held all id v) (same i)) ∙ held_same all id v within)
@@ -238,7 +239,7 @@ held_apart s dev carried all k others h = record { long = h.long; held = λ othe
   where
     go : (other : ProcId) → is_of_host (command_at s.commands other.command) dev ≡ true → (q : Bool) → same_id k.id other ≡ q → IsHeldOf (carried_of (with_carried carried k) other) (held_at all other)
     go other own true e =
-        (let bad : true ≡ false = sym own ∙ (λ i. is_of_host (command_at s.commands (sym (same_is k.id other e) i).command) dev) ∙ others in cc)
+        (let bad : true ≡ false = sym own ∙ (λ i. is_of_host (command_at s.commands (sym (same_id_is k.id other e) i).command) dev) ∙ others in cc)
     go other own false e =
         held_path _ (carried_of carried other) _ (held_at all other)
         (carried_with carried k other ∙ (λ i. if e i then k else carried_of carried other))
@@ -251,7 +252,7 @@ held_stays s dev carried all id k is stays h = record { long = h.long; held = λ
   where
     go : (other : ProcId) → is_of_host (command_at s.commands other.command) dev ≡ true → (q : Bool) → same_id k.id other ≡ q → IsHeldOf (carried_of (with_carried carried k) other) (held_at all other)
     go other own true e =
-        let same : other ≡ id = sym (same_is k.id other e) ∙ is in
+        let same : other ≡ id = sym (same_id_is k.id other e) ∙ is in
         held_path _ k _ (held_at all other)
         (carried_with carried k other ∙ (λ i. if e i then k else carried_of carried other))
         refl
@@ -267,7 +268,7 @@ pub held_starts : (s : ScenarioValue) (dev : ℕ) → AreHeldOf s dev [] (replic
 held_starts s dev = record {
   long = length-replicate (length s.commands + 1) no_pair;
   held = λ id own. held_path _ (nothing_carried id) _ nothing_held refl
-      ((λ i. half_of (get_or-replicate (length s.commands + 1) id.command no_pair no_pair (number_within s.commands id.command dev own) i) id.sense) ∙ nothing id.sense)
+      ((λ i. half_of (get_or-replicate (length s.commands + 1) id.command no_pair no_pair (in_range s.commands id.command dev own) i) id.sense) ∙ nothing id.sense)
       (held_nothing id);
 }
   where

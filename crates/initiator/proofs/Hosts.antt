@@ -31,7 +31,7 @@ use Rattle.initiator.specs.OwnBytes.{own_bytes, sending_from}
 use Rattle.initiator.specs.Wishes.{IsItemIf}
 use Rattle.initiator.proofs.OwnedLinks.{IsOwnedIf}
 use Rattle.initiator.proofs.Sendings.{sendings_are}
-use Rattle.initiator.proofs.TransferRows.{process_is, pointers_are, link_owned}
+use Rattle.initiator.proofs.TransferRows.{process_is, pointers_are, link_owned, own_is}
 use Rattle.initiator.specs.OwnLinks.{own_link}
 use Rattle.initiator.specs.Speeches.{first_words}
 use Rattle.initiator.specs.States.{InitiatorState, state_by, IsOwnConnection, AreSameBytes}
@@ -49,10 +49,6 @@ first_is s rows dev target x n own called first e =
     (λ i. opening s dev (e i) (aim_of k.story.aims dev))
     ∙ (λ i. opening s (same i) (is_for_process (aim_of k.story.aims (same i)) && not (has_negotiated k.negotiated (same i) (sym called i))) (aim_of k.story.aims (same i)))
     ∙ (λ i. if sym first i then [] else opening s n.initiator (may_negotiate k n (aim_of k.story.aims n.initiator)) (aim_of k.story.aims n.initiator))
-
--- In a connection of its own the link that it knows is that of the connection.
-pub own_link_is : (rows : List Row) (dev : ℕ) (n : Connection) (l : Option Link) → IsOwnConnection rows dev n → own_link dev (connection rows) l ≡ l
-own_link_is rows dev n l o = (λ i. own_link dev (o.stands i) l) ∙ (λ i. if o.own i then l else None)
 
 -- It is the initiator that its line names, and has its limit of tries.
 pub is_initiator : (s : ScenarioValue) (h : HostDef) (dev retries : ℕ) → IsHostLine s h → dev ≡ h.dev → retries ≡ h.retries → IsInitiator s dev retries
@@ -83,7 +79,7 @@ host_sends s rows v lines p d h n o = λ bus q.
     k = run_state s rows
 
     linked : own_link v.transfers.dev (connection rows) k.story.link ≡ k.story.link
-    linked = (λ i. own_link (h.transfers_dev i) (connection rows) k.story.link) ∙ own_link_is rows v.def.dev n k.story.link o
+    linked = (λ i. own_link (h.transfers_dev i) (connection rows) k.story.link) ∙ own_is rows v.def.dev n k.story.link o
 
     serves : process_of_link v.transfers.link ≡ id_of (item_of k.story.link)
     serves = process_is s rows v.transfers h.transfers_are ∙ (λ i. id_of (item_of (linked i)))

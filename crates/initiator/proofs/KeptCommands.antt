@@ -1,20 +1,20 @@
 -- What is kept of an initiator's own commands stays so as they go on.
 use Rattle.std.proofs.Common.{ℕ, suc, zero, ◌≡◌, ◌+◌, ◌-◌, ◌<◌, ◌≤◌, Bool, true, false, List, [], ◌∷◌, ◌++◌, ◌∙◌, refl, sym, arith, length, get_or, set, take, drop, Option}
-use Rattle.std.specs.Prelude.{if◌then◌else◌, not, ◌&&◌, ◌==◌, map, nat_le, nat_lt, slice_range}
+use Rattle.std.specs.Prelude.{if◌then◌else◌, ◌&&◌, ◌==◌, map, nat_le, nat_lt, slice_range}
 use Rattle.std.specs.List.{between}
 use Rattle.std.proofs.lemmas.Bool.{and_parts, and_from, ltb-true, lt-ltb, eq-eqb}
 use Rattle.std.proofs.lemmas.Bool.Decides.{nat_tests}
 use Rattle.std.proofs.lemmas.List.{map-append, take-set-le, take-take, drop-set-lt, drop-drop, take-map, drop-map, take-append-drop, get_or-set_same, get_or-set_other, length-set, length-map}
 use Rattle.std.proofs.lemmas.List.Edits.{split_between}
 use Rattle.bus_base.specs.declared.Event.{Event}
-use Rattle.bus_base.specs.declared.Event.TheVariants as events
 use Rattle.scenario.specs.declared.value.CmdDef.{CmdDef}
 use Rattle.bus_due.specs.Wants.{own_command, own_commands}
 use Rattle.initiator.specs.declared.mine.Mine.{Mine}
 use Rattle.initiator.specs.Commands.{is_past, is_fresh, all_past, all_fresh, are_placed, are_rising, concerns_many, IsPlaceOf, AreKept}
-use Rattle.initiator.specs.Mines.{nothing_sent, mine_of, mines_of, with_over, with_status, is_check, is_mine_aborted, is_my_sense_stopped, mine_after_event, open_mines, mines_since, mine_by}
+use Rattle.initiator.specs.Mines.{nothing_sent, mine_of, mines_of, mine_after_event, open_mines, mines_since, mine_by}
 use Rattle.initiator.specs.OwnLinks.{named_in}
 use Rattle.initiator.proofs.OwnCommands.{all_past_stay, all_fresh_stay, open_after_past, open_before_fresh, named_after_past, named_before_fresh, since_after_past, first_after_past}
+use Rattle.initiator.proofs.BookSteps.{event_number}
 
 -- ---- fronts that are past, and ends that are fresh
 
@@ -88,43 +88,11 @@ kept_written mines places past reached place m now end k at h ordered more above
 
 -- ---- an abort or a reset
 
-number_kept : (e : Event) (m : Mine) → (mine_after_event e m).number ≡ m.number
-number_kept (events.Accept id) m = refl
-number_kept (events.Refuse id) m = refl
-number_kept (events.Run id) m = refl
-number_kept (events.Fail id code) m = refl
-number_kept (events.End id status) m = go (id.command == m.number) id.sense (is_check id status)
-  where
-    go : (p q r : Bool) → (if p then with_status r (with_over q m) else m).number ≡ m.number
-    go false q r = refl
-    go true true true = refl
-    go true true false = refl
-    go true false true = refl
-    go true false false = refl
-number_kept (events.Lost id) m = go (id.command == m.number) id.sense
-  where
-    go : (p q : Bool) → (if p then with_over q m else m).number ≡ m.number
-    go false q = refl
-    go true true = refl
-    go true false = refl
-number_kept (events.Aborted host target unit what) m = go (m.sent && not m.over && is_mine_aborted host target unit what m) (is_my_sense_stopped host target unit what m && m.checked)
-  where
-    go : (p q : Bool) → (if p then record m { over = true } else if q then record m { sense_over = true } else m).number ≡ m.number
-    go true q = refl
-    go false true = refl
-    go false false = refl
-number_kept (events.Reset dev) m = go (m.sent && not m.over && true) (true && m.checked)
-  where
-    go : (p q : Bool) → (if p then record m { over = true } else if q then record m { sense_over = true } else m).number ≡ m.number
-    go true q = refl
-    go false true = refl
-    go false false = refl
-
 placed_after : (e : Event) (places : List ℕ) (k : ℕ) (mines : List Mine) → are_placed places k mines ≡ true → are_placed places k (map (λ (m : Mine). mine_after_event e m) mines) ≡ true
 placed_after e places k [] h = refl
 placed_after e places k (m ∷ mines) h =
     let q = and_parts (nat_lt m.number (length places) && get_or places m.number 0 == k) (are_placed places (k + 1) mines) h in
-    (λ i. (nat_lt (number_kept e m i) (length places) && get_or places (number_kept e m i) 0 == k) && are_placed places (k + 1) (map (λ (x : Mine). mine_after_event e x) mines))
+    (λ i. (nat_lt (event_number e m i) (length places) && get_or places (event_number e m i) 0 == k) && are_placed places (k + 1) (map (λ (x : Mine). mine_after_event e x) mines))
     ∙ and_from (nat_lt m.number (length places) && get_or places m.number 0 == k) (are_placed places (k + 1) (map (λ (x : Mine). mine_after_event e x) mines)) q.0
     (placed_after e places (k + 1) mines q.1)
 

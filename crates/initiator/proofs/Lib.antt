@@ -11,7 +11,7 @@ mod Foreign
 mod Intents
 mod Loops
 mod Mines
-mod NoUnits
+pub mod NoUnits
 mod FirstWords
 mod Parts
 mod Queues

@@ -2,7 +2,6 @@
 use Rattle.std.proofs.Common.{ℕ, ◌≡◌, ◌+◌, ◌<◌, Bool, true, false, List, [], ◌∷◌, ◌∙◌, refl, sym, ap, arith}
 use Rattle.std.specs.Prelude.{if◌then◌else◌, ◌&&◌, ◌||◌, ◌==◌, ◌++◌, map}
 use Rattle.std.proofs.lemmas.Bool.{ne_eqb, eq-eqb}
-use Rattle.std.proofs.lemmas.List.Folds.{list_any-append}
 use Rattle.std.specs.List.{list_any}
 use Rattle.bus_base.specs.declared.ProcId.{ProcId}
 use Rattle.bus_base.specs.declared.AbortKind.{AbortKind}
@@ -16,6 +15,7 @@ use Rattle.bus_story.specs.Story.{Story, Ending, by_status, by_abort, by_reset, 
 use Rattle.bus_due.specs.Wants.{own_command, own_commands}
 use Rattle.initiator.specs.declared.mine.Mine.{Mine}
 use Rattle.initiator.specs.Mines.{capped, mine_of, mines_of, with_sent, with_over, with_one_try, with_checked, with_status, is_check, sent_at, over_at, tried_at, mine_with_end, is_mine_aborted, is_my_sense_stopped, mine_after_event}
+use Rattle.initiator.proofs.Queues.{any_with}
 
 abbrev mine : Sent → ℕ → CmdDef → Mine
 mine b m c = mine_of b.checks (own_command b m c)
@@ -190,16 +190,9 @@ map_same : (mines : List Mine) → mines ≡ map (λ (m : Mine). m) mines
 map_same [] = refl
 map_same (m ∷ mines) = λ i. m ∷ map_same mines i
 
-checks_with : (checks : List ℕ) (n m : ℕ) → list_any (λ k. k == m) (checks ++ n ∷ []) ≡ (list_any (λ k. k == m) checks || n == m)
-checks_with checks n m = list_any-append (λ k. k == m) checks (n ∷ []) ∙ (λ i. list_any (λ k. k == m) checks || or_no (n == m) i)
-  where
-    or_no : (q : Bool) → (q || false) ≡ q
-    or_no true = refl
-    or_no false = refl
-
 end_checks : (b : Sent) (id : ProcId) (status m : ℕ) (c : CmdDef) → mine (record b { over = process id ∷ b.over; checks = b.checks ++ id.command ∷ [] }) m c ≡ (if id.command == m then with_checked (with_over id.sense (mine b m c)) else mine b m c)
 end_checks b id status m c =
-    (λ i. record (one_over b id.command id.sense m c i) { checked = checks_with b.checks id.command m i })
+    (λ i. record (one_over b id.command id.sense m c i) { checked = any_with b.checks id.command m i })
     ∙ go (id.command == m) (list_any (λ k. k == m) b.checks)
   where
     go : (p q : Bool) → record (if p then with_over id.sense (mine b m c) else mine b m c) { checked = q || p } ≡ (if p then record (with_over id.sense (mine b m c)) { checked = true } else record (mine b m c) { checked = q })

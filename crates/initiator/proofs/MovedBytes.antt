@@ -2,7 +2,6 @@
 use Rattle.std.proofs.Common.{ℕ, ◌≡◌, ◌+◌, ◌<◌, ◌≤◌, Bool, true, false, List, [], ◌∷◌, ◌∙◌, refl, sym, subst, arith, length, Option, Some, None}
 use Rattle.std.specs.Prelude.{if◌then◌else◌, not, ◌&&◌, ◌==◌, ◌++◌, ◌%◌, ⊤, is_some, is_none, nat_lt, slice_set}
 use Rattle.std.specs.List.{list_any}
-use Rattle.std.proofs.lemmas.Bool.{eqb-true}
 use Rattle.std.proofs.lemmas.Bool.Decides.{nat_tests}
 use Rattle.std.proofs.lemmas.List.{length-set, length-append}
 use Rattle.bus_base.specs.declared.ProcId.{ProcId}
@@ -34,7 +33,6 @@ use Rattle.bus_story.specs.CarriedBytes.{Area, CarriedBytes, bytes_with, area_wi
 use Rattle.bus_story.specs.HistoryEvents.{carried_if}
 use Rattle.bus_story.specs.Items.{Item, process, abort, sense_item, is_open, count_item}
 use Rattle.bus_story.specs.Links.{Link, link_of, last_out, last_in, link_after_name}
-use Rattle.bus_story.specs.Right.{same_bytes}
 use Rattle.bus_story.specs.Story.{Story, Ending, by_status, by_abort, by_reset, story_with_over, story_with_end, story_with_ends, is_aborted, is_sense_stopped, marked_refused, marked_shown, story_after_event, story_after_events}
 use Rattle.bus_story.specs.TraceHistory.{aim_of, retries_of, is_counted, story_with_aim, story_without_answer, story_with_try, story_after_calling, story_after_calling_by, story_on_free_bus, story_with_restored, story_with_sent, story_after_connection, story_with_carried, story_after_out, story_after_message, story_after_name, story_after_in, story_after_byte, story_after_crossing, story_after_fault, story_in_connection, story_on_bus, story_by_change, is_parity_error, carried_after_message_if, carried_after_byte_if, carried_after_fault_if}
 use Rattle.bus_due.specs.RunState.{item_of}
@@ -42,12 +40,14 @@ use Rattle.bus_due.specs.RunSteps.{run_state}
 use Rattle.bus_due.specs.Telling.{id_of}
 use Rattle.initiator.specs.Received.{undone_by, has_bytes_of}
 use Rattle.initiator.specs.Wishes.{events_shown}
-use Rattle.initiator.proofs.CarriedLists.{same_is, carried_id, carried_with}
+use Rattle.initiator.proofs.CarriedLists.{carried_id, carried_with}
 use Rattle.initiator.proofs.StoryEnds.{free_link}
 use Rattle.initiator.proofs.OwnedLinks.{begun_link, name_link, fault_link}
 use Rattle.bus_base.proofs.Tests.{length_more}
 use Rattle.initiator.proofs.Mines.{step}
 use Rattle.bus_story.proofs.StorySteps.{byte_link, out_link, events_link, sent_carried}
+use Rattle.disk_array.proofs.SeatLookups.{same_id_is}
+use Rattle.initiator.proofs.OutcomeReplies.{bytes_are}
 
 -- ---- no pointer stands past the bytes
 
@@ -100,7 +100,7 @@ one_stays t byte all k same placed = record {
 }
   where
     go : t ≡ true → (id : ProcId) (q : Bool) → same_id k.id id ≡ q → (if q then k else carried_of all id).moved.bytes ≡ (carried_of all id).moved.bytes
-    go z id true e = same z ∙ (λ i. (carried_of all (same_is k.id id e i)).moved.bytes)
+    go z id true e = same z ∙ (λ i. (carried_of all (same_id_is k.id id e i)).moved.bytes)
     go z id false e = refl
 
 -- What is done to one of them.
@@ -126,7 +126,7 @@ connection_stays t byte b n = go n.reselected
     go true = stays t byte b.carried
     go false = selected (aim_of b.aims n.initiator)
 
-message_id : (k : CarriedBytes) (m : MsgIn) → (carried_after_message k m).id ≡ k.id
+pub message_id : (k : CarriedBytes) (m : MsgIn) → (carried_after_message k m).id ≡ k.id
 message_id k to_initiator.SavePointer = refl
 message_id k to_initiator.RestorePointers = refl
 message_id k (to_initiator.Identify lun) = refl
@@ -178,16 +178,6 @@ name_stays s t byte b l next m = go (is_none l.item)
 in_stays : (s : ScenarioValue) (t : Bool) (byte : ℕ) (b : Story) (l : Link) (m : Option MsgIn) → Stays t byte b.carried (story_after_in s b l m).carried
 in_stays s t byte b l None = stays t byte b.carried
 in_stays s t byte b l (Some m) = name_stays s t byte b l (link_after_name b.sent s.commands l m) m
-
-bytes_are : (a b : List ℕ) → same_bytes a b ≡ true → a ≡ b
-bytes_are [] [] h = refl
-bytes_are [] (y ∷ b) h = cc
-bytes_are (x ∷ a) [] h = cc
-bytes_are (x ∷ a) (y ∷ b) h = go (x == y) refl h (λ z. bytes_are a b z)
-  where
-    go : (q : Bool) → (x == y) ≡ q → (q && same_bytes a b) ≡ true → (same_bytes a b ≡ true → a ≡ b) → x ∷ a ≡ y ∷ b
-    go true e z r = λ i. eqb-true x y e i ∷ r z i
-    go false e z r = cc
 
 undo_stays : (t : Bool) (byte : ℕ) (b c : Story) (o : Option CarriedBytes) → c.carried ≡ b.carried → (t ≡ true → has_bytes_of b.carried o ≡ true) → IsPlacedIf o → Stays t byte b.carried (story_with_carried c o).carried
 undo_stays t byte b c None e h x = subst (λ (z : List CarriedBytes). Stays t byte b.carried z) (sym e) (stays t byte b.carried)
@@ -249,7 +239,7 @@ data_moves t byte all id = record {
 }
   where
     go : (other : ProcId) (q : Bool) → same_id id other ≡ q → (if q then record (carried_of all id) { moved = area_with (carried_of all id).moved byte } else carried_of all other).moved.bytes ≡ (if q then bytes_with (carried_of all other).moved.bytes (carried_of all other).moved.active byte else (carried_of all other).moved.bytes)
-    go other true e = λ i. bytes_with (carried_of all (same_is id other e i)).moved.bytes (carried_of all (same_is id other e i)).moved.active byte
+    go other true e = λ i. bytes_with (carried_of all (same_id_is id other e i)).moved.bytes (carried_of all (same_id_is id other e i)).moved.active byte
     go other false e = refl
 
 -- What a byte brings in the phase of lines with this MSG, C/D and I/O.
@@ -319,7 +309,7 @@ connected_moves s t b (Some l) d row reads h x = go d.crosses
 
 -- ---- on a free bus
 
-try_carried : (s : ScenarioValue) (b : Story) (d : ℕ) (item : Option Item) → (story_with_try s b d item).carried ≡ b.carried
+pub try_carried : (s : ScenarioValue) (b : Story) (d : ℕ) (item : Option Item) → (story_with_try s b d item).carried ≡ b.carried
 try_carried s b d None = refl
 try_carried s b d (Some item) = go (is_counted item && nat_lt (retries_of s.hosts d) (count_item (item ∷ b.sent.tries) item))
   where

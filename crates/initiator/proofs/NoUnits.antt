@@ -19,8 +19,7 @@ use Rattle.scenario.specs.Value.{ScenarioValue}
 use Rattle.disk_array.specs.Processes.{Process, process_of}
 use Rattle.disk_array.specs.Contents.{Contents}
 use Rattle.disk_array.specs.Execution.{Reply, Execution, execution, is_request_sense, check_condition, queue_full, sense_of, commands_cleared}
-use Rattle.disk_array.specs.Order.{choice}
-use Rattle.disk_array.specs.Units.{RunningProcess, UnitState, Nexus, Array, sense_of_nexus, senses_without, nexuses_without, is_held, unit_state_at, with_unit, guest_at, nexus_of, with_current, has_no_current, unit_after_choice, units_after_choice, starting_units}
+use Rattle.disk_array.specs.Units.{RunningProcess, UnitState, Nexus, Array, sense_of_nexus, senses_without, nexuses_without, is_held, unit_state_at, with_unit, guest_at, nexus_of, units_after_choice, starting_units}
 use Rattle.disk_array.specs.Steps.{process_count, with_guest, with_listed_reply, queue_step, accept_step_at, accept_step, refuse_step_at, refuse_step, context_at, with_contents, without_attention, units_with_reply, with_reply, running_process, after_execution, after_execution_at, run_step, is_waiting, has_ended, fail_step_of_new, fail_step, units_without, array_without, after_status, end_step_with, end_step, loss_step, kept_units, is_of_unit, has_tag, is_reset_pending, reset_attention, cleared_attention, reset_attentions, unit_reset_attentions, cleared_attentions, without_dropped, unit_processes, kept_nexuses, kept_senses, abort_step, reset_step, event_step, settled_array_if}
 use Rattle.disk_array.specs.ArrayHistory.{array_step}
 use Rattle.bus_story.specs.HistoryEvents.{row_events_by}
@@ -33,6 +32,7 @@ use Rattle.scsi_device.specs.NoUnits.{has_unit, HasNoUnit}
 use Rattle.initiator.specs.States.{IsNoTarget}
 use Rattle.bus_base.proofs.Tests.{and_first}
 use Rattle.disk_array.proofs.SeatEvents.{status_units}
+use Rattle.disk_array.proofs.SeatSteps.{choice_target}
 
 -- ---- the units of a device
 
@@ -87,17 +87,6 @@ kept_targets : (drops : Process → Bool) (units : List UnitState) (dev : ℕ) �
 kept_targets drops [] dev = refl
 kept_targets drops (u ∷ units) dev = ap (λ (b : Bool). u.target == dev || b) (kept_targets drops units dev)
 
-choice_target : (holds : List Nexus) (u : UnitState) → (unit_after_choice holds u).target ≡ u.target
-choice_target holds u = go (has_no_current u.current && not (is_held holds u.target u.unit))
-  where
-    chosen : (p : Option Process) → (with_current u p).target ≡ u.target
-    chosen None = refl
-    chosen (Some p) = refl
-
-    go : (x : Bool) → (if x then with_current u (choice u.pick u.waiting) else u).target ≡ u.target
-    go true = chosen (choice u.pick u.waiting)
-    go false = refl
-
 choice_targets : (holds : List Nexus) (units : List UnitState) (dev : ℕ) → has_unit_state (units_after_choice holds units) dev ≡ has_unit_state units dev
 choice_targets holds [] dev = refl
 choice_targets holds (u ∷ units) dev = λ i. choice_target holds u i == dev || choice_targets holds units dev i
@@ -113,7 +102,7 @@ cleared_attention_units a nexus =
     either_units (is_reset_pending (sense_of_nexus a.attentions nexus)) a
     (record a { attentions = (nexus, commands_cleared) ∷ senses_without a.attentions nexus }) a.units refl refl
 
-cleared_units : (initiator : ℕ) (lost : List Process) (a : Array) → (cleared_attentions initiator lost a).units ≡ a.units
+pub cleared_units : (initiator : ℕ) (lost : List Process) (a : Array) → (cleared_attentions initiator lost a).units ≡ a.units
 cleared_units initiator [] a = refl
 cleared_units initiator (p ∷ lost) a =
     cleared_units initiator lost (if p.initiator == initiator then a else cleared_attention a (nexus_of p))
@@ -124,7 +113,7 @@ reset_units [] target unit a = refl
 reset_units (h ∷ hosts) target unit a =
     reset_units hosts target unit (reset_attention a (record { initiator = h.dev; target = target; unit = unit }))
 
-unit_reset_units : (hosts : List HostDef) (units : List UnitState) (is_one : UnitState → Bool) (a : Array) → (unit_reset_attentions hosts units is_one a).units ≡ a.units
+pub unit_reset_units : (hosts : List HostDef) (units : List UnitState) (is_one : UnitState → Bool) (a : Array) → (unit_reset_attentions hosts units is_one a).units ≡ a.units
 unit_reset_units hosts [] is_one a = refl
 unit_reset_units hosts (u ∷ units) is_one a =
     unit_reset_units hosts units is_one (if is_one u then reset_attentions hosts u.target u.unit a else a)

@@ -17,11 +17,11 @@ use Rattle.initiator.specs.Outcomes as own
 use Rattle.initiator.specs.Outcomes.{is_settled, told_outcome_if, is_good, command_of, is_reply_of, are_replies, settled_outcome, outcome_after}
 use Rattle.bus_base.proofs.Tests.{and_first, and_second}
 
-same_is : (a b : List ℕ) → same_bytes a b ≡ true → a ≡ b
-same_is [] [] h = refl
-same_is [] (y ∷ b) h = cc
-same_is (x ∷ a) [] h = cc
-same_is (x ∷ a) (y ∷ b) h = go (x == y) refl h (λ z. same_is a b z)
+pub bytes_are : (a b : List ℕ) → same_bytes a b ≡ true → a ≡ b
+bytes_are [] [] h = refl
+bytes_are [] (y ∷ b) h = cc
+bytes_are (x ∷ a) [] h = cc
+bytes_are (x ∷ a) (y ∷ b) h = go (x == y) refl h (λ z. bytes_are a b z)
   where
     go : (q : Bool) → (x == y) ≡ q → (q && same_bytes a b) ≡ true → (same_bytes a b ≡ true → a ≡ b) → x ∷ a ≡ y ∷ b
     go true e z r = λ i. eqb-true x y e i ∷ r z i
@@ -63,12 +63,12 @@ outcome_told s b n x over bytes sense h replies = go (is_settled x over)
 
     good : is_good x.ending ≡ true → bytes ≡ reply_bytes s b.history (command_of n)
     good e =
-        same_is bytes (reply_bytes s b.history (command_of n))
+        bytes_are bytes (reply_bytes s b.history (command_of n))
         (reply (is_good x.ending) (is_reply_of s b.history (command_of n) bytes) (and_first (not (is_good x.ending) || is_reply_of s b.history (command_of n) bytes) (not x.sense_ended || is_reply_of s b.history (sense_of n) sense) replies) e)
 
     known : x.sense_ended ≡ true → sense ≡ reply_bytes s b.history (sense_of n)
     known e =
-        same_is sense (reply_bytes s b.history (sense_of n))
+        bytes_are sense (reply_bytes s b.history (sense_of n))
         (reply x.sense_ended (is_reply_of s b.history (sense_of n) sense) (and_second (not (is_good x.ending) || is_reply_of s b.history (command_of n) bytes) (not x.sense_ended || is_reply_of s b.history (sense_of n) sense) replies) e)
 
     ended : told_outcome_if (own.outcome_if x.ending x.sense_ended bytes sense) ≡ outcome_if s b.history n (ending_of b.ended n)

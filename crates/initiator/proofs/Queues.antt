@@ -94,7 +94,7 @@ missing (suc b) n queue h e =
       | inr x ↦ omega (arith, small (list_any (λ k. k == b) queue), missing b n queue (omega (arith, h, x)) e)
     ]
 
-any_with : (queue : List ℕ) (n b : ℕ) → list_any (λ k. k == b) (queue ++ n ∷ []) ≡ (list_any (λ k. k == b) queue || n == b)
+pub any_with : (queue : List ℕ) (n b : ℕ) → list_any (λ k. k == b) (queue ++ n ∷ []) ≡ (list_any (λ k. k == b) queue || n == b)
 any_with queue n b = list_any-append (λ k. k == b) queue (n ∷ []) ∙ (λ i. list_any (λ k. k == b) queue || or_no (n == b) i)
   where
     or_no : (q : Bool) → (q || false) ≡ q

@@ -31,12 +31,13 @@ use Rattle.initiator.specs.OwnLinks.{own_link}
 use Rattle.initiator.specs.Received.{BufferValue, empty_buffer, buffer_with, BufferPairValue, no_buffers, half_of, pair_with, pair_at, buffer_at, received_with, data_room, room_of, buffers_if_own, buffers_of_commands, nothing_received, brings_data, received_after, moved_of, IsBufferOf, AreReceived, undone_by, has_bytes_of, undoes_no_byte}
 use Rattle.initiator.specs.Transfers.{active_of}
 use Rattle.initiator.specs.Wishes.{IsItemIf}
-use Rattle.initiator.proofs.CarriedLists.{same_is}
 use Rattle.initiator.proofs.MovedBytes.{IsPlaced, brought, brings, reading_of, placed_are, row_moves}
 use Rattle.initiator.proofs.OwnedLinks.{IsOwnedIf, IsOwnedOn, links_are}
 use Rattle.bus_base.proofs.Tests.{and_first, length_more}
-use Rattle.initiator.proofs.EndingRows.{in_range, one_host}
+use Rattle.initiator.proofs.EndingRows.{one_host}
 use Rattle.initiator.proofs.StoryEnds.{no_first}
+use Rattle.disk_array.proofs.SeatLookups.{same_id_is}
+use Rattle.initiator.proofs.HeldSteps.{in_range}
 
 -- ---- a buffer
 
@@ -163,11 +164,11 @@ byte_goes_on s dev initiator all id (Some p) known b v room place byte cap owned
     comes : known ≡ Some p → (r : Bool) → same_id p id ≡ r → b.bytes ≡ (if r then bytes_with (carried_of all id).moved.bytes (carried_of all id).moved.active byte else (carried_of all id).moved.bytes) → IsBufferOf b room (if r then buffer_with (buffer_at v id) place byte else buffer_at v id)
     comes k true e z =
         buffer_goes_on (carried_of all id).moved b room place byte cap (buffer_at v id) placed small
-        (at p k ∙ (λ i. min (carried_of all (same_is p id e i)).moved.active cap)) z h
+        (at p k ∙ (λ i. min (carried_of all (same_id_is p id e i)).moved.active cap)) z h
     comes k false e z = stays z
 
     others : (initiator == dev) ≡ false → (r : Bool) → same_id p id ≡ r → b.bytes ≡ (if r then bytes_with (carried_of all id).moved.bytes (carried_of all id).moved.active byte else (carried_of all id).moved.bytes) → IsBufferOf b room (buffer_at v id)
-    others f true e z = absurd (eqb-false initiator dev f (one_host (command_at s.commands id.command) initiator dev ((λ i. is_of_host (command_at s.commands (sym (same_is p id e) i).command) initiator) ∙ owned) its))
+    others f true e z = absurd (eqb-false initiator dev f (one_host (command_at s.commands id.command) initiator dev ((λ i. is_of_host (command_at s.commands (sym (same_id_is p id e) i).command) initiator) ∙ owned) its))
     others f false e z = stays z
 
     go : (q : Bool) → (initiator == dev) ≡ q → known ≡ (if q then Some p else None) → IsBufferOf b room (buffer_at (put_if v known place byte) id)

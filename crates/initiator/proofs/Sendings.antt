@@ -5,9 +5,8 @@ use Rattle.std.proofs.Math.Nat.{min-eq_left}
 use Rattle.bus_base.specs.declared.ProcId.{ProcId}
 use Rattle.bus_trace.specs.LineSet.{LineSet}
 use Rattle.bus_trace.specs.Phases.{is_message_out, is_command}
-use Rattle.cdb_codec.specs.Cdb.{command_of}
 use Rattle.scenario.specs.declared.value.CmdDef.{CmdDef}
-use Rattle.scenario.specs.Needs.{is_write, need_of, sent_of}
+use Rattle.scenario.specs.Needs.{sent_of}
 use Rattle.scenario.specs.declared.value.Tag.TheVariants as tags
 use Rattle.scenario.specs.Value.{ScenarioValue}
 use Rattle.disk_array.specs.Processes.{payload_bytes, command_at, sense_block, process_by, process_if}
@@ -19,6 +18,7 @@ use Rattle.bus_due.specs.Sights.{sending_by}
 use Rattle.bus_due.specs.Telling.{id_of}
 use Rattle.scsi_device.specs.Lines.{IsCommandLine}
 use Rattle.scsi_device.proofs.Places.{held_place}
+use Rattle.scsi_device.proofs.SentBytes.{sent_few}
 use Rattle.initiator.specs.OwnBytes.{CommandBytesValue, no_bytes, sense_bytes, sent_count, bytes_of_command, bytes_if_own, bytes_of_commands, own_bytes, sending_from}
 use Rattle.initiator.specs.States.{AreSameBytes}
 use Rattle.initiator.specs.Transfers.{active_of}
@@ -41,16 +41,8 @@ bytes_at s dev (d ∷ commands) (suc zero) c e own =
     some_is d c e = cc
 bytes_at s dev (d ∷ commands) (suc (suc n)) c e own = bytes_at s dev commands (suc n) c e own
 
-sent_within : (s : ScenarioValue) (c : CmdDef) → need_of s c ≤ 65536 → sent_of s c ≤ 65536
-unfolding sent_of
-sent_within s c h = go (is_write (command_of c.cdb))
-  where
-    go : (q : Bool) → (if q then need_of s c else 0) ≤ 65536
-    go true = h
-    go false = omega arith
-
 count_is : (s : ScenarioValue) (c : CmdDef) → IsCommandLine s c → sent_count s c ≡ sent_of s c
-count_is s c l = min-eq_left (below (sent_of s c) (sent_within s c l.need))
+count_is s c l = min-eq_left (below (sent_of s c) (sent_few s c l.need))
   where
     below : (n : ℕ) → n ≤ 65536 → n ≤ 2 ^ 32 - 1
     below n h = omega arith
@@ -97,7 +89,7 @@ of_command s k dev id c l e own = λ bus p. go bus p id.sense
     go bus p false =
         (λ i. byte_to_send bus p (record { cdb = (bytes_at s dev s.commands id.command c e own i).cdb; sent = (bytes_at s dev s.commands id.command c e own i).sent; command = min command most; moved = min moved most }))
         ∙ (λ i. byte_to_send bus p (record { cdb = c.cdb; sent = payload_bytes c.payload (count_is s c l i); command = min command most; moved = min moved most }))
-        ∙ byte_is bus p c.cdb (payload_bytes c.payload (sent_of s c)) command moved (block_within (length c.cdb) l.most_block) (sent_is_within (length (payload_bytes c.payload (sent_of s c))) (sent_of s c) l.sent (sent_within s c l.need))
+        ∙ byte_is bus p c.cdb (payload_bytes c.payload (sent_of s c)) command moved (block_within (length c.cdb) l.most_block) (sent_is_within (length (payload_bytes c.payload (sent_of s c))) (sent_of s c) l.sent (sent_few s c l.need))
 
 pub sendings_are : (s : ScenarioValue) (k : RunState) (dev : ℕ) (item : Option Item) → ((n : ℕ) (c : CmdDef) → command_at s.commands n ≡ Some c → IsCommandLine s c) → IsItemIf s dev item
     → AreSameBytes (sending_from (own_bytes s dev) (id_of item) (active_of k (id_of item))) (sending_by k (process_item s item))

@@ -1,6 +1,6 @@
 -- What an initiator holds of its own connection and of its own processes goes on row by row.
 use Rattle.std.proofs.Common.{ℕ, ◌≡◌, ◌≢◌, ◌+◌, Bool, true, false, List, [], ◌∷◌, ◌∙◌, refl, sym, ap, subst, Option, Some, None, length}
-use Rattle.std.specs.Prelude.{if◌then◌else◌, not, ◌&&◌, ◌==◌, is_some, is_none, nat_lt}
+use Rattle.std.specs.Prelude.{if◌then◌else◌, not, ◌&&◌, ◌==◌, is_some, is_none}
 use Rattle.std.proofs.lemmas.Bool.{eqb-true, eqb-false}
 use Rattle.bus_base.specs.declared.ProcId.{ProcId}
 use Rattle.bus_base.specs.declared.Event.{Event}
@@ -19,12 +19,12 @@ use Rattle.cdb_codec.specs.declared.status.TheConstants.{CHECK_CONDITION}
 use Rattle.scenario.specs.Value.{ScenarioValue}
 use Rattle.disk_array.specs.Processes.{command_at}
 use Rattle.bus_story.specs.BusState.{RowReading, row_reading}
-use Rattle.bus_story.specs.Items.{Item, process, abort, is_of_host, count_item}
+use Rattle.bus_story.specs.Items.{Item, process, abort, is_of_host}
 use Rattle.bus_story.specs.Links.{Link, link_of, last_out, last_in, link_after_name}
 use Rattle.bus_story.specs.CarriedBytes.{CarriedBytes, carried_of, with_restored_pointers}
 use Rattle.bus_story.specs.Story.{Story, by_abort, by_reset, is_aborted, is_sense_stopped, marked_refused, marked_shown, story_after_event, story_after_events}
 use Rattle.bus_story.specs.HistoryEvents.{carried_if, is_complete, is_completion, end_events}
-use Rattle.bus_story.specs.TraceHistory.{aim_of, retries_of, is_counted, is_parity_error, carried_after_message_if, carried_after_byte_if, story_with_aim, story_without_answer, story_with_try, story_after_calling_by, story_after_calling, story_on_free_bus, story_with_restored, story_with_sent, story_after_connection, story_with_carried, story_after_out, story_after_message, story_after_name, story_after_in, story_after_byte, story_after_fault, story_after_crossing, story_in_connection, story_on_bus, story_by_change}
+use Rattle.bus_story.specs.TraceHistory.{aim_of, is_parity_error, carried_after_message_if, carried_after_byte_if, story_with_aim, story_after_calling_by, story_after_calling, story_on_free_bus, story_with_restored, story_with_sent, story_after_connection, story_with_carried, story_after_out, story_after_message, story_after_name, story_after_in, story_after_byte, story_after_fault, story_after_crossing, story_in_connection, story_on_bus, story_by_change}
 use Rattle.bus_dialogue.specs.declared.exchange.Hearing.{Hearing}
 use Rattle.bus_dialogue.specs.Hearing.{hearing}
 use Rattle.bus_due.specs.RunState.{RunState, item_of}
@@ -50,24 +50,12 @@ use Rattle.initiator.proofs.Foreign.{not_both}
 use Rattle.initiator.proofs.CarriedLists.{carried_id}
 use Rattle.initiator.proofs.HeldSteps.{held_apart, held_stays, held_starts}
 use Rattle.initiator.proofs.OwnedLinks.{IsCarriedOf, IsOwned, IsOwnedIf, IsOwnedOn, carried_own, named, begun_link, aim_own, same_connection, ends_left, end_left, links_are}
-use Rattle.initiator.proofs.TransferSteps.{IsGoneOn, restored_held, message_id, byte_id, fault_held, linked, connected_goes_on}
+use Rattle.initiator.proofs.TransferSteps.{IsGoneOn, restored_held, byte_id, fault_held, linked, connected_goes_on}
 use Rattle.initiator.proofs.WishRows.{aims_are}
-use Rattle.initiator.proofs.MovedBytes.{calling_carried, free_carried}
+use Rattle.initiator.proofs.MovedBytes.{calling_carried, free_carried, message_id}
 use Rattle.bus_story.proofs.StorySteps.{events_link, sent_carried}
 
 -- ---- a free bus carries nothing
-
-try_carried : (s : ScenarioValue) (b : Story) (d : ℕ) (item : Option Item) → (story_with_try s b d item).carried ≡ b.carried
-try_carried s b d None = refl
-try_carried s b d (Some item) = go (is_counted item && nat_lt (retries_of s.hosts d) (count_item (item ∷ b.sent.tries) item))
-  where
-    of_item : (b : Story) (item : Item) → (story_without_answer b item).carried ≡ b.carried
-    of_item b (process id) = refl
-    of_item b (abort k) = refl
-
-    go : (q : Bool) → (if q then story_without_answer (record b { sent = record b.sent { tries = item ∷ b.sent.tries } }) item else record b { sent = record b.sent { tries = item ∷ b.sent.tries } }).carried ≡ b.carried
-    go true = of_item (record b { sent = record b.sent { tries = item ∷ b.sent.tries } }) item
-    go false = refl
 
 -- ---- a connection of its own begins
 

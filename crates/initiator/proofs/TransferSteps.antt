@@ -16,7 +16,7 @@ use Rattle.disk_array.specs.Processes.{command_at}
 use Rattle.bus_story.specs.BusState.{RowReading}
 use Rattle.bus_story.specs.Items.{Item, process, abort, Sent, command_item, sense_item, is_open, is_of_host, tag_number_if}
 use Rattle.bus_story.specs.Links.{Link, last_out, last_in, same_number, is_open_sense, named_item_from, link_after_name}
-use Rattle.bus_story.specs.CarriedBytes.{CarriedBytes, carried_of, carried_after_message, carried_after_byte, carried_after_fault}
+use Rattle.bus_story.specs.CarriedBytes.{CarriedBytes, carried_of, carried_after_byte, carried_after_fault}
 use Rattle.bus_story.specs.Story.{Story}
 use Rattle.bus_story.specs.HistoryEvents.{carried_if}
 use Rattle.bus_story.specs.TraceHistory.{is_parity_error, carried_after_message_if, carried_after_byte_if, carried_after_fault_if, story_with_restored, story_with_carried, story_after_out, story_after_message, story_after_name, story_after_in, story_after_byte, story_after_fault, story_after_crossing, story_in_connection}
@@ -39,6 +39,7 @@ use Rattle.initiator.proofs.HeldSteps.{held_restore, held_message, held_byte, he
 use Rattle.initiator.proofs.OwnedLinks.{IsCarriedOf, IsOwned, IsOwnedIf, IsNamed, named, name_link, fault_link}
 use Rattle.initiator.proofs.Mines.{mines_from}
 use Rattle.bus_story.proofs.StorySteps.{out_link}
+use Rattle.initiator.proofs.MovedBytes.{message_id}
 
 -- ---- the process that a target names
 
@@ -97,16 +98,6 @@ restored_held s dev b all (Some (own.Command n)) mine h =
 restored_held s dev b all (Some (own.Sense n)) mine h =
     held_on s dev b.carried all (record { command = n; sense = true }) _ _ (carried_id b.carried (record { command = n; sense = true })) mine (held_restore _ _ (h.held (record { command = n; sense = true }) mine)) h
 restored_held s dev b all (Some (own.Abort n)) mine h = h
-
-pub message_id : (k : CarriedBytes) (m : MsgIn) → (carried_after_message k m).id ≡ k.id
-message_id k to_initiator.CommandComplete = refl
-message_id k to_initiator.SavePointer = refl
-message_id k to_initiator.RestorePointers = refl
-message_id k to_initiator.Disconnect = refl
-message_id k (to_initiator.Identify lun) = refl
-message_id k (to_initiator.SimpleTag n) = refl
-message_id k (to_initiator.Sdtr a) = refl
-message_id k to_initiator.Reject = refl
 
 pub byte_id : (k : CarriedBytes) (c : Change) → (carried_after_byte k c.before (c.after.data_bits % 256)).id ≡ k.id
 byte_id k c = grind arith

@@ -1,7 +1,7 @@
 -- In a connection nothing that is due lies in the past.
 use Rattle.std.proofs.Common.{ℕ, ◌≡◌, ◌≤◌, ◌+◌, Bool, true, false, ◌&&◌, ◌==◌, ◌∙◌, List, Option, Some, None, refl, sym, subst, arith}
 use Rattle.std.specs.Prelude.{if◌then◌else◌, max}
-use Rattle.std.proofs.lemmas.Bool.Decides.{nat_tests}
+use Rattle.std.proofs.lemmas.Option.{none-some}
 use Rattle.bus_trace.specs.LineSet.{LineSet}
 use Rattle.bus_trace.specs.declared.Row.{Row}
 use Rattle.bus_trace.specs.declared.connection.Connection.{Connection}
@@ -12,7 +12,7 @@ use Rattle.bus_reactions.specs.Reactions.{due_at}
 use Rattle.bus_due.specs.Plain.{AreOfDevices}
 use Rattle.bus_laws.specs.Reactions.{own_time, unreset_due}
 use Rattle.bus_laws.specs.Ends.{target_side}
-use Rattle.bus_laws.proofs.Dues.{is_at, none_some}
+use Rattle.bus_laws.proofs.Dues.{is_at}
 use Rattle.link_laws.specs.Phases.{ends, Turning, Settling, Shaking}
 use Rattle.link_laws.specs.LinkStages.{LinkStage, when_selected, when_settling, when_turning, when_offering, when_shaking, when_pulsing}
 use Rattle.link_laws.specs.Pulses.{Pulsing, EndsAhead}
@@ -25,7 +25,7 @@ pub at_time : (plain : Option Due) (time : ℕ) (l : LineSet) (x : Due) → plai
 at_time plain time l x e f = (is_at time l x (sym e ∙ f)).time_is
 
 pub never : (plain : Option Due) (x : Due) → plain ≡ None → plain ≡ Some x → ⊥
-never plain x e f = none_some x (sym e ∙ f)
+never plain x e f = none-some x (sym e ∙ f)
 
 ack_end_late : (p : List Row) (atn : Bool) → (line_times p).req ≤ ack_end_time p atn
 ack_end_late p atn = go (atn && (line_times p).atn == (line_times p).ack)

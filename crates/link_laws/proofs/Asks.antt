@@ -101,8 +101,8 @@ offers_byte s p n atn msg cd y t always order waited some h books =
 
 -- ---- REQ rises
 
-counted : (r : ℕ) → (counted_on r == 0) ≡ false
-counted r = grind (arith, nat_tests)
+pub counted_some : (r : ℕ) → (counted_on r == 0) ≡ false
+counted_some r = grind (arith, nat_tests)
 
 -- What holds as it may.
 pub record Asking (s : ScenarioValue) (p : List Row) (n : Connection) (atn msg cd io : Bool) (y t : ℕ) : Type 0 where
@@ -140,7 +140,7 @@ asks_in s p n atn msg cd y t h slow books =
       stage = when_shaking msg cd true true false atn 0 y (record {
         linked = m.linked;
         phase = phase_goes p q n e false false atn 0 true y t r h.phase h.phase.asks;
-        asked = ap (λ (b : Handshakes). b.requests == 0) r.handshakes_are ∙ counted (handshakes p).requests;
+        asked = ap (λ (b : Handshakes). b.requests == 0) r.handshakes_are ∙ counted_some (handshakes p).requests;
         unpulsed = unpulsed_goes p q n e false false atn 0 true y t r slow;
         settled = let u = h.settled in let w = r.phase_is in omega arith;
         side = refl;
@@ -166,7 +166,7 @@ asks_out s p n atn msg cd t h slow books =
       stage = when_shaking msg cd false true false atn 0 0 (record {
         linked = m.linked;
         phase = phase_goes p q n e false false atn 0 true 0 t r h.phase h.phase.asks;
-        asked = ap (λ (b : Handshakes). b.requests == 0) r.handshakes_are ∙ counted (handshakes p).requests;
+        asked = ap (λ (b : Handshakes). b.requests == 0) r.handshakes_are ∙ counted_some (handshakes p).requests;
         unpulsed = unpulsed_goes p q n e false false atn 0 true 0 t r slow;
         settled = let u = h.settled in let w = r.phase_is in omega arith;
         side = refl;

@@ -8,7 +8,6 @@ use Rattle.bus_phases.specs.Phases.{duty_if_held, duty_left}
 use Rattle.bus_rules.specs.Messages.{is_owed}
 use Rattle.bus_laws.specs.Ends.{EndLines, connected_bus}
 use Rattle.link_laws.specs.Phases.{fits_duty, is_owed_out}
-use Rattle.std.proofs.lemmas.Bool.{true≢false}
 use Rattle.bus_base.proofs.Tests.{and_false}
 
 -- Whatever a row does in a phase.

@@ -2,7 +2,7 @@
 use Rattle.std.proofs.Common.{inl, inr, ℕ, ◌≡◌, ◌≢◌, ◌≤◌, ◌<◌, Bool, true, false, ◌==◌, ◌∙◌, List, [], ◌∷◌, Option, Some, None, refl, sym, ap, arith}
 use Rattle.std.specs.Prelude.{if◌then◌else◌, is_some}
 use Rattle.std.proofs.lemmas.Bool.{cases_eq, ne_eqb}
-use Rattle.std.proofs.lemmas.Option.{same_Some}
+use Rattle.std.proofs.lemmas.Option.{same_Some, none-some}
 use Rattle.bus_trace.specs.LineSet.{LineSet}
 use Rattle.bus_trace.specs.declared.Row.{Row}
 use Rattle.bus_trace.specs.declared.Kind.TheVariants.{Fault}
@@ -43,7 +43,7 @@ use Rattle.bus_laws.specs.Reactions.{own_time, device_with, unreset_due, unreset
 use Rattle.bus_laws.specs.Rows.{row_of_fault}
 use Rattle.bus_laws.specs.Ends.{EndLines, initiator_side, target_side, connected_bus, Linked}
 use Rattle.bus_laws.proofs.Rows.{stage_is}
-use Rattle.bus_laws.proofs.Dues.{is_there, none_some}
+use Rattle.bus_laws.proofs.Dues.{is_there}
 use Rattle.bus_base.proofs.Tests.{eq_self}
 use Rattle.bus_due.proofs.Leasts.{some_eq}
 
@@ -209,7 +209,7 @@ mover_is s p n g e row d h eb least =
 
     of_third : Sampled (due_of row) (last_time p) (is_sampling s p n row.dev) None → Mover s p n g e row
     of_third (strikes bit q et ek) = struck bit row.dev refl q et ek
-    of_third (reacts z) = absurd (none_some (due_of row) z)
+    of_third (reacts z) = absurd (none-some (due_of row) z)
 
 -- ---- nothing that is due of the ends lies in the past
 
@@ -227,7 +227,7 @@ ends_ahead s p n g e d h eb of_initiator of_target dev x r =
         | inl same ↦
             let lat_is = ap (latency_of s) (sym same) ∙ there.1 in
             go (target_plain s p n g e there.0) (is_sampling s p n n.target) (of_target there.0 lat_is x) (sampled_is (is_sampling s p n n.target) (last_time p) _ _ x (sym (target_is s p n e g there.0 d h eb lat_is) ∙ ap (unreset_due s p) (sym same) ∙ r))
-        | inr nt ↦ go None (is_sampling s p n dev) (λ z. absurd (none_some x z)) (third s p n e dev there.0 d h there.1 ni nt x r)
+        | inr nt ↦ go None (is_sampling s p n dev) (λ z. absurd (none-some x z)) (third s p n e dev there.0 d h there.1 ni nt x r)
       ]
     ]
   where

@@ -32,13 +32,14 @@ use Rattle.link_laws.proofs.Moves.{terms_after, same_line, same_self, no_rise}
 use Rattle.link_laws.proofs.LinkSeen.{around, obeys_linked}
 use Rattle.link_laws.proofs.FaultObeys.{fault_obeys_in, fault_obeys_out}
 use Rattle.link_laws.proofs.Goes.{NextLinked}
-use Rattle.std.specs.Prelude.{nat_lt, length, max}
+use Rattle.std.specs.Prelude.{nat_lt, max}
 use Rattle.bus_trace.specs.declared.agreements.TransferTimes.{TransferTimes}
 use Rattle.bus_trace.specs.Agreements.{times_of}
 use Rattle.bus_trace.specs.Terms.{when}
 use Rattle.bus_phases.specs.Phases.{pulses, no_pulses, count_after}
 use Rattle.bus_lines.specs.declared.handshakes.Request.{Request}
 use Rattle.bus_lines.specs.Handshakes.{strikes, strikes_last, first_of, time_of, room_by}
+use Rattle.bus_lines.proofs.Early.{struck_length}
 use Rattle.bus_reactions.specs.Target.{bits_if}
 use Rattle.bus_dialogue.specs.Ends.{lag_by}
 use Rattle.bus_due.specs.Defs.{host_of}
@@ -162,11 +163,6 @@ strikes_out s p n msg cd req ack atn x bit got h books =
 
 -- ---- by pulses
 
-long_same : (w : List Request) → length (strikes_last w) ≡ length w
-long_same [] = refl
-long_same (r ∷ []) = refl
-long_same (r ∷ (q ∷ w)) = let u = long_same (q ∷ w) in omega arith
-
 oldest_same : (w : List Request) → time_of (first_of (strikes_last w)) ≡ time_of (first_of w)
 oldest_same [] = refl
 oldest_same (r ∷ []) = refl
@@ -174,7 +170,7 @@ oldest_same (r ∷ (q ∷ w)) = refl
 
 struck_facts : (h : Handshakes) (a b c d e last : ℕ) (req ack : Bool) → PulseFacts h a b c d e last req ack → PulseFacts (strikes h) a b c d e last req ack
 struck_facts h a b c d e last req ack f =
-    let long = long_same h.waiting in
+    let long = struck_length h.waiting in
     let count = f.counts in
     record {
       asked = f.asked;
@@ -263,7 +259,7 @@ struck_row p n e t d bit devices lt low h = record {
 
 target_stays : (io req ack : Bool) (y : ℕ) (h : Handshakes) (a b : ℕ) (z : TransferTimes) (off run bits lat : ℕ) → target_next io req ack y (strikes_if io h) a b z off run bits lat ≡ target_next io req ack y h a b z off run bits lat
 target_stays true req ack y h a b z off run bits lat =
-    let long = long_same h.waiting in
+    let long = struck_length h.waiting in
     λ i. target_time req (true && not (y == bits)) (nat_lt h.requests run) (nat_lt (long i) off) (not (long i == 0) || ack)
     (a + z.assertion + lat)
     (h.last_req + z.hold + lat)
@@ -277,7 +273,7 @@ requests_stay false h = refl
 
 initiator_stays : (io ack atn : Bool) (x : ℕ) (h : Handshakes) (a b : ℕ) (z : TransferTimes) (lag raised g g' lat : ℕ) → (io ≡ false → ack ≡ true) → initiator_next io ack atn x (strikes_if io h) a b z lag raised g' lat ≡ initiator_next io ack atn x h a b z lag raised g lat
 initiator_stays true ack atn x h a b z lag raised g g' lat f =
-    let long = long_same h.waiting in
+    let long = struck_length h.waiting in
     let old = oldest_same h.waiting in
     λ i. if ack then Some (a + (if atn && b == a then max 90 z.assertion else z.assertion) + lat) else if not (long i == 0) then Some (max (old i + lag) (if h.answers == 0 then 0 else max (h.last_ack + z.period) (a + z.negation)) + lat) else None
 initiator_stays false ack atn x h a b z lag raised g g' lat f =
@@ -307,7 +303,7 @@ ahead_stays s p n io req ack atn x y d bit always lt out h a =
           ∙ initiator_stays io ack atn x (handshakes p) (line_times p).ack (line_times p).atn (times_here p) (lag_by (host_of s n.initiator)) (own_of p n.initiator).ack (given_here s p) (given_here s q) lat out)) (a.initiator lat there);
     }
 
-some_device : (o : Option ℕ) (d : ℕ) → is_of_device o d ≡ true → is_some o ≡ true
+pub some_device : (o : Option ℕ) (d : ℕ) → is_of_device o d ≡ true → is_some o ≡ true
 some_device None d e = absurd cc
 some_device (Some k) d e = refl
 

@@ -42,7 +42,6 @@ use Rattle.link_laws.proofs.EndDues.{due_of, Mover, by_fault, by_initiator, by_t
 use Rattle.link_laws.proofs.StageDues.{selected_target, selected_initiator, settling_target, settling_initiator, handing_initiator, turning_target, turned_initiator, owing_initiator, offering_target, offering_initiator, answered_target, answered_initiator_in, answered_initiator_out, asking_target, asking_initiator_in, asking_initiator_out, giving_initiator_out, ending_target, ending_initiator_in, ending_initiator_out, ack_end_time, between_target, between_initiator_in, between_initiator_out}
 use Rattle.link_laws.proofs.Ahead.{never}
 use Rattle.std.proofs.Common.{None}
-use Rattle.bus_laws.proofs.Dues.{none_some}
 use Rattle.link_laws.proofs.Goes.{NextLinked}
 use Rattle.link_laws.proofs.Shakes.{target_row, initiator_row, takes_req_in, takes_req_out, ends_ack_in, ends_ack_out, answers_in, gives_byte, answers_out}
 use Rattle.link_laws.proofs.Faults.{strikes_byte}
@@ -65,6 +64,7 @@ use Rattle.link_laws.proofs.PulseStarts.{starts_in, starts_out}
 use Rattle.link_laws.proofs.PulseEnds.{pulsed_leaves_in, pulsed_leaves_out}
 use Rattle.link_laws.proofs.PhaseEnds.{leaves_lines, AfterLink, goes_on, unasked, leaves_phase}
 use Rattle.std.proofs.lemmas.Bool.{eqb-true, le-leb}
+use Rattle.std.proofs.lemmas.Option.{none-some}
 use Rattle.bus_base.proofs.Tests.{and_false, zero_of, implication_parts}
 
 -- What the next row is due to be, of the lines of one device.
@@ -381,7 +381,7 @@ by_target_in s p row n true ack atn y lat there same h e =
 by_target_in s p row n false ack atn y lat there same h e = changes (y == next_bits s p n) refl (sym (pulsed_target_in s p n false ack atn y lat h.pulsing.offset h.pulsing.facts.asked) ∙ e)
   where
     leaves : (q : Bool) → (not (length (handshakes p).waiting == 0) || ack) ≡ q → (if q then None else due_at (leaving_time p true lat) (offering_with s p n true (ends false ack atn 0 false false true false y)).to) ≡ Some (due_of row) → AfterLink s p row n
-    leaves true z e = absurd (none_some (due_of row) e)
+    leaves true z e = absurd (none-some (due_of row) e)
     leaves false z e =
         let parts = implication_parts (length (handshakes p).waiting == 0) ack z in
         at_rest ack parts.1 h parts.0 e
@@ -395,7 +395,7 @@ by_target_in s p row n false ack atn y lat there same h e = changes (y == next_b
             (λ at k. pulsed_leaves_in s p n atn y row.time v l l.to k.always k.order k.pulsing idle (omega arith) (leaves_lines v false false true atn 0 y refl) k.books)
 
     rooms : nat_lt (handshakes p).requests (run_count s p n) ≡ true → (q : Bool) → nat_lt (length (handshakes p).waiting) (offset_here p) ≡ q → (if q then due_at (pulse_time p true lat) (target_side (ends false ack atn 0 false false true true y)) else None) ≡ Some (due_of row) → AfterLink s p row n
-    rooms follow false z e = absurd (none_some (due_of row) e)
+    rooms follow false z e = absurd (none-some (due_of row) e)
     rooms follow true z e =
         pulses_react s p n row true false ack atn 0 y n.target (pulse_time p true lat) (target_side (ends false ack atn 0 false false true true y)) same e h
         (λ at k. next_of s p _ n true true ack atn 0 y (req_pulses_in s p n ack atn y row.time lat there at follow z (owed_data (duty p) atn h.pulsing.phase.owes) k))
@@ -417,7 +417,7 @@ by_target_out s p row n true ack atn x lat there same h e =
 by_target_out s p row n false ack atn x lat there same h e = follows (nat_lt (handshakes p).requests (run_count s p n)) refl (sym (pulsed_target_out s p n false ack atn x lat h.pulsing.offset h.pulsing.facts.asked) ∙ e)
   where
     leaves : (q : Bool) → (not (length (handshakes p).waiting == 0) || ack) ≡ q → (if q then None else due_at (leaving_time p false lat) (offering_with s p n true (ends false ack atn x false false false false 0)).to) ≡ Some (due_of row) → AfterLink s p row n
-    leaves true z e = absurd (none_some (due_of row) e)
+    leaves true z e = absurd (none-some (due_of row) e)
     leaves false z e =
         let parts = implication_parts (length (handshakes p).waiting == 0) ack z in
         at_rest ack atn parts.1 (no_attention atn h.pulsing.phase.asks) h parts.0 e
@@ -432,7 +432,7 @@ by_target_out s p row n false ack atn x lat there same h e = follows (nat_lt (ha
             (λ at k. pulsed_leaves_out s p n x row.time v l l.to idle (data_out_to_initiator v) k)
 
     rooms : nat_lt (handshakes p).requests (run_count s p n) ≡ true → (q : Bool) → nat_lt (length (handshakes p).waiting) (offset_here p) ≡ q → (if q then due_at (pulse_time p false lat) (target_side (ends false ack atn x false false false true 0)) else None) ≡ Some (due_of row) → AfterLink s p row n
-    rooms follow false z e = absurd (none_some (due_of row) e)
+    rooms follow false z e = absurd (none-some (due_of row) e)
     rooms follow true z e =
         pulses_react s p n row false false ack atn x 0 n.target (pulse_time p false lat) (target_side (ends false ack atn x false false false true 0)) same e h
         (λ at k. next_of s p _ n false true ack atn x 0 (req_pulses_out s p n ack atn x row.time lat there at follow z (owed_data (duty p) atn h.pulsing.phase.owes) k))
@@ -448,7 +448,7 @@ pulsed_by_initiator_in s p row n req true atn y lat same h e =
 pulsed_by_initiator_in s p row n req false atn y lat same h e = go (length (handshakes p).waiting == 0) refl (sym (pulsed_initiator_in s p n req false atn y lat h.pulsing.offset) ∙ e)
   where
     go : (q : Bool) → (length (handshakes p).waiting == 0) ≡ q → (if not q then due_at (answer_time s p n + lat) (initiator_side (ends false true (is_struck (first_of (handshakes p).waiting) || atn) 0 false false true req y)) else None) ≡ Some (due_of row) → AfterLink s p row n
-    go true z e = absurd (none_some (due_of row) e)
+    go true z e = absurd (none-some (due_of row) e)
     go false z e =
         pulses_react s p n row true req false atn 0 y n.initiator (answer_time s p n + lat) (initiator_side (ends false true (is_struck (first_of (handshakes p).waiting) || atn) 0 false false true req y)) same e h
         (λ at k. next_of s p _ n true req true (is_struck (first_of (handshakes p).waiting) || atn) 0 y (answers_pulse_in s p n req atn (is_struck (first_of (handshakes p).waiting) || atn) y row.time lat at z k))
@@ -472,7 +472,7 @@ pulsed_by_initiator_out s p row n req false atn x lat there same h e = go (lengt
         (λ at k. next_of s p _ n false req false atn given 0 (gives_pulsed_byte s p n req atn x given row.time lat there at some z k))
 
     idle : (length (handshakes p).waiting == 0) ≡ true → (q : Bool) → (x == 0) ≡ q → (if q then None else due_at (release_time p n lat) (initiator_side (ends false false atn 0 false false false req 0))) ≡ Some (due_of row) → AfterLink s p row n
-    idle empty true z e = absurd (none_some (due_of row) e)
+    idle empty true z e = absurd (none-some (due_of row) e)
     idle empty false z e =
         pulses_react s p n row false req false atn x 0 n.initiator (release_time p n lat) (initiator_side (ends false false atn 0 false false false req 0)) same e h
         (λ at k. next_of s p _ n false req false atn 0 0 (releases_pulsed_byte s p n req atn x row.time lat there at empty z k))

@@ -22,7 +22,6 @@ use Rattle.link_laws.specs.Phases.{ends, fits_duty, InPhase, HasTurned}
 use Rattle.link_laws.specs.LinkStages.{LinkStage}
 use Rattle.link_laws.proofs.Duties.{duty_goes_on}
 use Rattle.link_laws.proofs.Moves.{InPhaseRow}
-use Rattle.std.proofs.lemmas.Bool.{le-leb}
 
 -- What a row does with which the connection goes on.
 pub record NextLinked (s : ScenarioValue) (p : List Row) (row : Row) (n : Connection) : Type 0 where

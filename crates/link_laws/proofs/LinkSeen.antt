@@ -1,7 +1,6 @@
 -- What the rules see of a row in a connection, and which of them it obeys by the wires.
 use Rattle.std.proofs.Common.{ℕ, ◌≡◌, Bool, true, false, not, ◌&&◌, List, [], ◌∷◌, ◌∙◌, refl, sym, ap, Option, Some, None}
-use Rattle.std.specs.Prelude.{cond, is_some, if◌then◌else◌}
-use Rattle.std.specs.List.{AllByRecursion}
+use Rattle.std.specs.Prelude.{is_some, if◌then◌else◌}
 use Rattle.bus_trace.specs.LineSet.{LineSet, data_of}
 use Rattle.bus_trace.specs.declared.Row.{Row}
 use Rattle.bus_trace.specs.declared.line_times.LineTimes.{LineTimes}
@@ -24,7 +23,7 @@ use Rattle.bus_rules.specs.Seen.{seen, seen_with, others_in_call, id_since, driv
 use Rattle.bus_rules.specs.Rules.{keeps, first_broken, judged_rules, lowest_broken, broken_rule}
 use Rattle.bus_rules.specs.Transfer.{has_parity}
 use Rattle.bus_rules.specs.Messages.{keeps_messages, keeps_command}
-use Rattle.bus_rules.proofs.First.{none_broken, kept_step, all_kept}
+use Rattle.bus_rules.proofs.First.{none_broken, all_kept}
 use Rattle.bus_laws.specs.Ends.{EndLines, initiator_side, target_side, Linked}
 use Rattle.link_laws.specs.Books.{is_row_of_connection, KeepsBooksIn}
 

@@ -1,12 +1,8 @@
 -- The rows with which the target leaves a phase: to another one, or the bus (6.1.1, 6.1.5.1, 6.1.10).
-use Rattle.std.proofs.Common.{inl, inr, ℕ, ◌≡◌, ◌≤◌, ◌<◌, ◌+◌, Bool, true, false, not, ◌&&◌, ◌||◌, ◌==◌, ◌∙◌, List, [], ◌∷◌, ◌++◌, Option, Some, None, refl, sym, ap, subst, arith}
+use Rattle.std.proofs.Common.{inl, inr, ℕ, ◌≡◌, ◌≤◌, ◌<◌, ◌+◌, Bool, true, false, not, ◌&&◌, ◌||◌, ◌==◌, ◌∙◌, List, ◌∷◌, Option, Some, None, refl, sym, ap, subst, arith}
 use Rattle.std.specs.Prelude.{if◌then◌else◌, nat_lt, length}
 use Rattle.bus_dialogue.specs.Exchange.{bytes_of_messages}
 use Rattle.std.proofs.lemmas.Bool.{cases_eq, and_parts, not-true}
-use Rattle.bus_base.specs.declared.ProcId.{ProcId}
-use Rattle.bus_base.specs.declared.Event.{Event}
-use Rattle.cdb_codec.specs.declared.status.TheConstants.{CHECK_CONDITION}
-use Rattle.bus_base.specs.declared.Event.TheVariants as events
 use Rattle.bus_trace.specs.LineSet.{LineSet, none}
 use Rattle.bus_trace.specs.declared.Row.{Row}
 use Rattle.bus_trace.specs.declared.connection.Connection.{Connection}
@@ -22,7 +18,6 @@ use Rattle.bus_lines.specs.Stage.{stage}
 use Rattle.bus_lines.specs.Handshakes.{handshakes}
 use Rattle.scenario.specs.Value.{ScenarioValue}
 use Rattle.bus_story.specs.BusState.{row_reading}
-use Rattle.bus_story.specs.Story.{Story, story_after_event, story_after_events, by_abort, by_reset, is_aborted, is_sense_stopped, with_check, story_with_end, by_status}
 use Rattle.bus_story.specs.TraceHistory.{story_on_bus}
 use Rattle.bus_story.specs.HistoryEvents.{row_events_by}
 use Rattle.bus_dialogue.specs.declared.exchange.Leaving.{Leaving}
@@ -55,7 +50,7 @@ use Rattle.link_laws.proofs.Goes.{NextLinked, turn_test}
 use Rattle.link_laws.proofs.Leaves.{may_leave, leaves_well}
 use Rattle.link_laws.proofs.Shakes.{target_row}
 use Rattle.link_laws.proofs.Enters.{settles_in, settles_out, turns_in}
-use Rattle.bus_story.proofs.StorySteps.{events_link, event_link}
+use Rattle.bus_story.proofs.StorySteps.{events_link}
 
 -- What a row does with which the connection ends.
 pub record NextFree (s : ScenarioValue) (p : List Row) (row : Row) : Type 0 where

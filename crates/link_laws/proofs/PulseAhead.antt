@@ -1,6 +1,7 @@
 -- When the two ends of a data phase by pulses act next, by plain values.
 use Rattle.std.proofs.Common.{ℕ, ◌≡◌, ◌≤◌, ◌+◌, Bool, true, false, not, ◌||◌, ◌==◌, ◌∙◌, List, length, Option, Some, None, refl, sym, ap, subst, arith}
 use Rattle.std.specs.Prelude.{if◌then◌else◌, max, nat_lt}
+use Rattle.std.proofs.lemmas.Option.{same_Some, none-some}
 use Rattle.bus_trace.specs.LineSet.{LineSet, none}
 use Rattle.bus_trace.specs.declared.Row.{Row}
 use Rattle.bus_trace.specs.declared.Kind.TheVariants.{Drives}
@@ -20,7 +21,7 @@ use Rattle.bus_due.specs.Sights.{flip_of, sending_of}
 use Rattle.bus_dialogue.specs.Hearing.{begun}
 use Rattle.bus_laws.specs.Reactions.{unreset_due}
 use Rattle.bus_laws.specs.Ends.{EndLines, initiator_side, target_side, Linked}
-use Rattle.bus_laws.proofs.Dues.{is_at, none_some}
+use Rattle.bus_laws.proofs.Dues.{is_at}
 use Rattle.link_laws.specs.Phases.{ends}
 use Rattle.link_laws.specs.Pulses.{times_here, offset_here, run_count, next_bits, given_here, target_time, initiator_time, target_next_at, initiator_next_at}
 use Rattle.link_laws.proofs.EndDues.{offering_with, target_plain, initiator_plain, target_is, initiator_is, sampled_or, sampled_by, is_sampling}
@@ -33,8 +34,8 @@ choice_time : (a b c d f : Bool) (ta tb tc td : ℕ) (la lb lc ld : LineSet) (x 
 choice_time true b c d f ta tb tc td la lb lc ld x e = ap (λ (k : ℕ). Some k) (sym (is_at ta la x e).time_is)
 choice_time false true c d f ta tb tc td la lb lc ld x e = ap (λ (k : ℕ). Some k) (sym (is_at tb lb x e).time_is)
 choice_time false false true true f ta tb tc td la lb lc ld x e = ap (λ (k : ℕ). Some k) (sym (is_at tc lc x e).time_is)
-choice_time false false true false f ta tb tc td la lb lc ld x e = absurd (none_some x e)
-choice_time false false false d true ta tb tc td la lb lc ld x e = absurd (none_some x e)
+choice_time false false true false f ta tb tc td la lb lc ld x e = absurd (none-some x e)
+choice_time false false false d true ta tb tc td la lb lc ld x e = absurd (none-some x e)
 choice_time false false false d false ta tb tc td la lb lc ld x e = ap (λ (k : ℕ). Some k) (sym (is_at td ld x e).time_is)
 
 -- What is due at a time.
@@ -43,11 +44,8 @@ pub record DueAt (o : Option Due) (time : ℕ) : Type 0 where
   pub is : o ≡ Some due
   pub at : due.time ≡ time
 
-some_nat : (a b : ℕ) → (let o : Option ℕ = Some a in o) ≡ Some b → a ≡ b
-some_nat a b e = cc
-
 at_lines : (t u : ℕ) (l : LineSet) → (let o : Option ℕ = Some t in o) ≡ Some u → DueAt (due_at t l) u
-at_lines t u l e = record { due = record { time = t; kind = Drives l }; is = refl; at = some_nat t u e }
+at_lines t u l e = record { due = record { time = t; kind = Drives l }; is = refl; at = same_Some t u e }
 
 choice_due : (a b c d f : Bool) (ta tb tc td : ℕ) (la lb lc ld : LineSet) (u : ℕ) → target_time a b c d f ta tb tc td ≡ Some u → DueAt (target_choice a b c d f (due_at ta la) (due_at tb lb) (due_at tc lc) (due_at td ld)) u
 choice_due true b c d f ta tb tc td la lb lc ld u e = at_lines ta u la e
@@ -60,7 +58,7 @@ choice_due false false false d false ta tb tc td la lb lc ld u e = at_lines td u
 in_choice_time : (a w s n : Bool) (ta tb : ℕ) (c d e : ℕ) (la lb : LineSet) (x : Due) → initiator_choice a w (due_at ta la) (due_at tb lb) None ≡ Some x → initiator_time a w true s n ta tb c d e ≡ Some x.time
 in_choice_time true w s n ta tb c d e la lb x f = ap (λ (k : ℕ). Some k) (sym (is_at ta la x f).time_is)
 in_choice_time false true s n ta tb c d e la lb x f = ap (λ (k : ℕ). Some k) (sym (is_at tb lb x f).time_is)
-in_choice_time false false s n ta tb c d e la lb x f = absurd (none_some x f)
+in_choice_time false false s n ta tb c d e la lb x f = absurd (none-some x f)
 
 in_choice_due : (a w s n : Bool) (ta tb : ℕ) (c d e : ℕ) (la lb : LineSet) (u : ℕ) → initiator_time a w true s n ta tb c d e ≡ Some u → DueAt (initiator_choice a w (due_at ta la) (due_at tb lb) None) u
 in_choice_due true w s n ta tb c d e la lb u f = at_lines ta u la f
@@ -74,7 +72,7 @@ out_choice_time : (a w s n : Bool) (ta b tc td te : ℕ) (la lc ld le : LineSet)
 out_choice_time true w s n ta b tc td te la lc ld le x f = ap (λ (k : ℕ). Some k) (sym (is_at ta la x f).time_is)
 out_choice_time false true true n ta b tc td te la lc ld le x f = ap (λ (k : ℕ). Some k) (sym (is_at tc lc x f).time_is)
 out_choice_time false true false n ta b tc td te la lc ld le x f = ap (λ (k : ℕ). Some k) (sym (is_at td ld x f).time_is)
-out_choice_time false false s true ta b tc td te la lc ld le x f = absurd (none_some x f)
+out_choice_time false false s true ta b tc td te la lc ld le x f = absurd (none-some x f)
 out_choice_time false false s false ta b tc td te la lc ld le x f = ap (λ (k : ℕ). Some k) (sym (is_at te le x f).time_is)
 
 out_choice_due : (a w s n : Bool) (ta b tc td te : ℕ) (la lc ld le : LineSet) (u : ℕ) → initiator_time a w false s n ta b tc td te ≡ Some u → DueAt (out_choice a w s n (due_at ta la) (due_at tc lc) (due_at td ld) (due_at te le)) u

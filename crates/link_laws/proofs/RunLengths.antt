@@ -1,21 +1,17 @@
 -- The runs of data are far shorter than the counts of REQ and ACK reach, after any rows.
-use Rattle.std.proofs.Common.{ℕ, ◌≡◌, ◌≤◌, ◌+◌, ◌-◌, ◌*◌, ◌^◌, Bool, true, false, ◌&&◌, List, [], ◌∷◌, length, Option, Some, None, refl, subst, arith}
+use Rattle.std.proofs.Common.{ℕ, ◌≡◌, ◌≤◌, ◌+◌, ◌-◌, ◌*◌, ◌^◌, Bool, true, false, ◌&&◌, List, [], ◌∷◌, length, Option, Some, None, refl, arith}
 use Rattle.std.specs.Prelude.{if◌then◌else◌, min, nat_lt, ◌==◌}
 use Rattle.std.proofs.lemmas.Bool.{ltb-true}
 use Rattle.bus_base.specs.declared.Event.{Event}
-use Rattle.bus_base.specs.declared.ProcId.{ProcId}
 use Rattle.bus_trace.specs.declared.Row.{Row}
 use Rattle.bus_trace.specs.declared.connection.Connection.{Connection}
-use Rattle.cdb_codec.specs.Cdb.{command_of}
 use Rattle.cdb_codec.specs.declared.status.TheConstants.{GOOD}
-use Rattle.scenario.specs.Needs.{need_of, sent_of, is_write}
 use Rattle.scenario.specs.Value.{ScenarioValue}
-use Rattle.scenario.specs.declared.value.CmdDef.{CmdDef}
 use Rattle.scenario.specs.declared.value.Policy.{Policy}
 use Rattle.scenario.specs.declared.value.Policy.TheVariants as policies
 use Rattle.disk_array.specs.ArrayHistory as Play
 use Rattle.disk_array.specs.Execution.{Reply}
-use Rattle.disk_array.specs.Processes.{Process, process_of, process_if, process_by, command_at}
+use Rattle.disk_array.specs.Processes.{Process}
 use Rattle.disk_array.specs.Units.{Array, unit_state_at, nexus_of}
 use Rattle.disk_array.specs.Steps
 use Rattle.bus_story.specs.BusState.{row_reading}
@@ -30,8 +26,8 @@ use Rattle.bus_due.specs.RunState.{RunState, or_start, array_of, process_item, p
 use Rattle.bus_due.specs.RunSteps.{run_state, array_after_events}
 use Rattle.bus_due.specs.LastingState.{progress_in}
 use Rattle.bus_due.specs.Tasks.{is_writing, moved_count, reply_now, task_if, task_with}
-use Rattle.scsi_device.specs.Lines.{FitsBus, IsCommandLine}
-use Rattle.scsi_device.proofs.FitLines.{command_fits}
+use Rattle.scsi_device.specs.Lines.{FitsBus}
+use Rattle.scsi_device.proofs.SentBytes.{process_few}
 use Rattle.link_laws.specs.Pulses.{run_count}
 use Rattle.link_laws.proofs.UnitContents.{HasShortUnits, HasShortUnitsIf, gives_few, context_at_short, event_short, start_short, settled_start_short}
 
@@ -54,30 +50,6 @@ array_short s (row ∷ p) fits =
 or_start_short : (s : ScenarioValue) (o : Option Array) → FitsBus s → HasShortUnitsIf o → HasShortUnits (or_start s o)
 or_start_short s None fits h = start_short s fits
 or_start_short s (Some a) fits h = h
-
--- ---- what a process sends
-
-sent_few : (s : ScenarioValue) (c : CmdDef) → need_of s c ≤ 65536 → sent_of s c ≤ 65536
-unfolding sent_of
-sent_few s c few = go (is_write (command_of c.cdb))
-  where
-    go : (q : Bool) → (if q then need_of s c else 0) ≤ 65536
-    go true = few
-    go false = omega arith
-
-process_few : (s : ScenarioValue) (id : ProcId) (p : Process) → FitsBus s → process_of s id ≡ Some p → length p.sent ≤ 65536
-process_few s id p fits e = go (command_at s.commands id.command) refl e
-  where
-    same : (q : Process) → (let o : Option Process = Some q in o) ≡ Some p → q ≡ p
-    same q z = cc
-
-    sent : (c : CmdDef) → IsCommandLine s c → (q : Bool) → length (process_by s (record { command = id.command; sense = q }) c).sent ≤ 65536
-    sent c h true = omega arith
-    sent c h false = let few = sent_few s c h.need in let long = h.sent in omega (arith, few, long)
-
-    go : (o : Option CmdDef) → command_at s.commands id.command ≡ o → process_if s id o ≡ Some p → length p.sent ≤ 65536
-    go None there z = absurd cc
-    go (Some c) there z = subst (λ (q : Process). length q.sent ≤ 65536) (same (process_by s id c) z) (sent c (command_fits s id.command c fits there) id.sense)
 
 -- ---- how many bytes a process moves, and a run has
 

@@ -5,7 +5,6 @@ use Rattle.std.proofs.lemmas.Bool.{and_parts}
 use Rattle.bus_trace.specs.LineSet.{LineSet, data_of}
 use Rattle.bus_trace.specs.declared.Row.{Row}
 use Rattle.bus_trace.specs.declared.connection.Connection.{Connection}
-use Rattle.bus_trace.specs.Changes.{implies}
 use Rattle.bus_trace.specs.Trace.{bus, last_time, since, line_times, phase_time}
 use Rattle.bus_trace.specs.Terms.{connection}
 use Rattle.bus_trace.proofs.Ages.{since_le}
@@ -28,7 +27,7 @@ use Rattle.link_laws.proofs.Enters.{below_differs}
 use Rattle.link_laws.proofs.PhaseEnds.{AfterLink, goes_on, frees}
 use Rattle.link_laws.proofs.FromLink.{from_link}
 use Rattle.link_laws.proofs.RunLengths.{HasShortRuns}
-use Rattle.bus_base.proofs.Tests.{and_false}
+use Rattle.bus_base.proofs.Tests.{and_false, implied}
 
 -- ---- a connection begins
 
@@ -140,10 +139,6 @@ pub record Books (p : List Row) : Type 0 where
   pub messages : have_whole_messages p ≡ true
   pub commands : have_whole_commands p ≡ true
   pub freeing : free_in_time p ≡ true
-
-implied : (q r : Bool) → implies q r ≡ true → q ≡ true → r ≡ true
-implied true r e f = e
-implied false r e f = absurd cc
 
 books_before : (p : List Row) (row : Row) → Books (row ∷ p) → Books p
 books_before p row b = record {

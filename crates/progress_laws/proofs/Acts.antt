@@ -1,5 +1,6 @@
 -- Where nothing is due of any device, no reaction of a device that does not drive RST is due, and none of an end of a connection.
 use Rattle.std.proofs.Common.{inl, inr, ℕ, ◌≡◌, ◌⊎◌, ◌<◌, Bool, true, false, ◌∙◌, List, Option, Some, None, refl, sym, ap}
+use Rattle.std.proofs.lemmas.Option.{none-some}
 use Rattle.bus_trace.specs.LineSet.{LineSet, none}
 use Rattle.bus_trace.specs.declared.Row.{Row}
 use Rattle.bus_trace.specs.declared.connection.Connection.{Connection}
@@ -15,7 +16,6 @@ use Rattle.bus_due.proofs.Leasts.{least_none}
 use Rattle.bus_laws.specs.Ends.{EndLines, Linked}
 use Rattle.bus_laws.specs.Reactions.{unreset_due, reset_due}
 use Rattle.bus_laws.specs.Stages.{Standing, HasDevice}
-use Rattle.bus_laws.proofs.Dues.{none_some}
 use Rattle.bus_laws.proofs.FromReset.{off_at}
 use Rattle.bus_laws.proofs.Resets.{comes_by, due_calm}
 use Rattle.link_laws.proofs.EndDues.{target_plain, initiator_plain, target_is, initiator_is}
@@ -32,7 +32,7 @@ nothing_due s p d end lt = least_none (due s p) 8 end d lt
 pub calm_end : (s : ScenarioValue) (p : List Row) (d : ℕ) → IsEnded s p → AreOfDevices p → d < 8 → (bus p).rst ≡ false → SomeDue (unreset_due s p d) → ⊥
 calm_end s p d end dv lt calm x =
     let z = comes_by (reset_due s p d) (unreset_due s p d) x.row x.is in
-    none_some z.x (sym (nothing_due s p d end lt) ∙ due_calm s p d dv lt (off_at p calm d lt) ∙ z.is)
+    none-some z.x (sym (nothing_due s p d end lt) ∙ due_calm s p d dv lt (off_at p calm d lt) ∙ z.is)
 
 -- A device that drives a line is there.
 pub there_by : (s : ScenarioValue) (p : List Row) (d : ℕ) (on : LineSet → Bool) → Standing s p → d < 8 → on none ≡ false → on (drives p d) ≡ true → HasDevice s d

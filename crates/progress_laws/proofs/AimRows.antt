@@ -1,37 +1,18 @@
 -- What each device calls for changes as a device enters arbitration, and else never.
-use Rattle.std.proofs.Common.{inl, inr, ℕ, zero, suc, ◌≡◌, ◌≢◌, ◌⊎◌, ◌<◌, ◌+◌, Bool, true, false, not, ◌&&◌, ◌∙◌, List, [], ◌∷◌, ◌++◌, length, Option, Some, None, refl, ap, arith}
-use Rattle.std.specs.Prelude.{if◌then◌else◌, ◌==◌, slice_set, is_some, is_none}
-use Rattle.std.specs.List.{list_any}
-use Rattle.bus_base.specs.declared.ProcId.{ProcId}
-use Rattle.bus_base.specs.declared.Event.{Event}
-use Rattle.bus_base.specs.declared.Event.TheVariants as events
+use Rattle.std.proofs.Common.{inl, inr, ℕ, zero, suc, ◌≡◌, ◌⊎◌, ◌<◌, Bool, true, false, ◌∙◌, List, [], ◌∷◌, length, Option, Some, None, refl, ap, arith}
+use Rattle.std.specs.Prelude.{if◌then◌else◌, slice_set}
 use Rattle.bus_trace.specs.declared.Row.{Row}
-use Rattle.bus_trace.specs.declared.Kind.{Kind}
-use Rattle.bus_trace.specs.declared.Kind.TheVariants.{Drives, Fault}
 use Rattle.bus_trace.specs.declared.connection.Connection.{Connection}
-use Rattle.bus_trace.specs.declared.selection.Call.{Call}
-use Rattle.bus_trace.specs.declared.selection.Calling.{Calling}
 use Rattle.bus_trace.specs.Changes.{falls}
-use Rattle.msg_grammar.specs.declared.message.MsgOut.{MsgOut}
-use Rattle.msg_grammar.specs.declared.message.MsgIn.{MsgIn}
-use Rattle.cdb_codec.specs.declared.status.TheConstants.{CHECK_CONDITION}
-use Rattle.scenario.specs.declared.value.CmdDef.{CmdDef}
 use Rattle.scenario.specs.Value.{ScenarioValue}
 use Rattle.bus_story.specs.BusState.{RowReading, row_reading}
-use Rattle.bus_story.specs.CarriedBytes.{CarriedBytes}
-use Rattle.bus_story.specs.Items.{Item, process, abort, sense_item, is_open}
-use Rattle.bus_story.specs.Links.{Link, link_of, link_after_name}
-use Rattle.bus_story.specs.HistoryEvents.{carried_if, row_events_by}
-use Rattle.bus_story.specs.Story.{Story, Ending, by_abort, by_reset, is_aborted, is_sense_stopped, story_with_ends, story_with_end, story_with_over, story_after_event, story_after_events, with_check}
-use Rattle.bus_story.specs.TraceHistory.{aim_of, is_arbitration_entry, story_with_aim, story_without_answer, story_with_try, story_after_calling_by, story_after_calling, story_on_free_bus, story_with_restored, story_with_sent, story_after_connection, story_with_carried, story_after_out, story_after_in, story_after_byte, story_after_fault, story_in_connection, story_on_bus, story_by_change, is_parity_error, carried_after_byte_if, carried_after_fault_if}
+use Rattle.bus_story.specs.Items.{Item}
+use Rattle.bus_story.specs.HistoryEvents.{row_events_by}
+use Rattle.bus_story.specs.Story.{Story}
+use Rattle.bus_story.specs.TraceHistory.{aim_of, is_arbitration_entry, story_with_aim, story_after_calling, story_on_free_bus, story_on_bus, story_by_change}
 use Rattle.bus_due.specs.RunState.{RunState}
 use Rattle.bus_due.specs.RunSteps.{run_state}
-use Rattle.bus_books.proofs.Aims.{ends_aims, calling_aims, event_aims, connected_aims, try_aims, in_aims, check_aims, begun_aims, byte_aims, events_aims, carried_aims, out_aims, fault_aims}
-use Rattle.bus_story.proofs.StorySteps.{restored_aims, sent_aims}
-
--- ---- events show no aim
-
--- ---- a calling without an answer, and a connection
+use Rattle.bus_books.proofs.Aims.{calling_aims, connected_aims, begun_aims, events_aims}
 
 -- ---- a row
 
@@ -89,10 +70,3 @@ pub own_aim : (xs : List (Option Item)) (at : ℕ) (x : Option Item) → at < le
 own_aim [] at x lt = absurd (omega arith)
 own_aim (y ∷ xs) zero x lt = refl
 own_aim (y ∷ xs) (suc at) x lt = own_aim xs at x (omega arith)
-
-pub other_aim : (xs : List (Option Item)) (at dev : ℕ) (x : Option Item) → dev ≢ at → aim_of (slice_set xs at x) dev ≡ aim_of xs dev
-other_aim [] at dev x ne = refl
-other_aim (y ∷ xs) zero zero x ne = absurd (ne refl)
-other_aim (y ∷ xs) zero (suc dev) x ne = refl
-other_aim (y ∷ xs) (suc at) zero x ne = refl
-other_aim (y ∷ xs) (suc at) (suc dev) x ne = other_aim xs at dev x (λ e. ne (ap suc e))

@@ -24,13 +24,14 @@ use Rattle.scsi_device.proofs.FitLines.{command_fits, obeys_fits}
 use Rattle.bus_laws.specs.Stages.{HasDevice}
 use Rattle.trace_laws.specs.ItemFacts.{Items}
 use Rattle.trace_laws.specs.WriteFacts.{AllUnits}
+use Rattle.trace_laws.proofs.Tests.{plus_one}
+use Rattle.trace_laws.proofs.Impossible.{some_none, none_some}
 use Rattle.progress_laws.proofs.Queues.{HasQueue, IsThere, current_there, not_ready, process_there, queue_found}
 use Rattle.progress_laws.proofs.Rooms.{initiator_there, some_open}
 use Rattle.progress_laws.proofs.Unsent.{DoneBy, NoneOpen, no_sense_wanted, sent_all}
 use Rattle.progress_laws.specs.Queued.{AreOwed, AreQueued, IsOwed, command_id}
 use Rattle.std.proofs.lemmas.Bool.{eqb-true, and_from}
 use Rattle.bus_base.proofs.Tests.{wrong, eq_self, plus_none}
-use Rattle.progress_laws.proofs.QueueSteps.{no_command}
 
 -- ---- what is kept row by row
 
@@ -51,9 +52,6 @@ abbrev pub AreUnwanted : ScenarioValue → RunState → Type 0
 AreUnwanted s k = (dev latency : ℕ) → dev < 8 → latency_of s dev ≡ Some latency → want_time s k dev ≡ None
 
 -- ---- an initiator that stands in a hold wants the bus
-
-some_none : {A : Type 0} (i : Item) → (let a : Option Item = Some i in a) ≡ None → A
-some_none i e = absurd cc
 
 pub sense_left : {A : Type 0} (s : ScenarioValue) (b : Sent) (n : ℕ) (c : CmdDef) (checks : List ℕ) → command_at s.commands n ≡ Some c → is_done b (sense_item n) ≡ false → list_any (λ k. k == n) checks ≡ true → sense_from s b c.host checks ≡ None → A
 sense_left s b n c [] at new e none = wrong (sym e)
@@ -165,20 +163,17 @@ not_open s k n c o r rest quiet at = go (is_open k.story.sent n) refl
 
 -- ---- of all commands
 
-next_place : (n m : ℕ) → n + suc m ≡ n + 1 + m
-next_place n m = omega arith
-
 none_open : (b : Sent) (n : ℕ) (commands : List CmdDef) → ((m : ℕ) (c : CmdDef) → command_at commands (suc m) ≡ Some c → is_open b (n + m) ≡ false) → NoneOpen b n commands
 none_open b n [] h = tt
 none_open b n (c ∷ commands) h =
-    (ap (is_open b) (sym (plus_none n)) ∙ h 0 c refl, none_open b (n + 1) commands (λ m d e. ap (is_open b) (sym (next_place n m)) ∙ h (suc m) d e))
+    (ap (is_open b) (sym (plus_none n)) ∙ h 0 c refl, none_open b (n + 1) commands (λ m d e. ap (is_open b) (sym (plus_one n m)) ∙ h (suc m) d e))
 
 done_at : (b : Sent) (dev n m : ℕ) (c : CmdDef) (commands : List CmdDef) → DoneBy b dev n commands → command_at commands (suc m) ≡ Some c → c.host ≡ dev → is_done b (command_item (n + m)) ≡ true
-done_at b dev n m c [] h at own = no_command c at
+done_at b dev n m c [] h at own = none_some c at
 done_at b dev n zero c (d ∷ commands) h at own =
     let same : d ≡ c = same_Some d c at in
     ap (λ (j : ℕ). is_done b (command_item j)) (plus_none n) ∙ h.0 (ap (λ (j : ℕ). j == dev) (ap (λ (x : CmdDef). x.host) same ∙ own) ∙ eq_self dev)
-done_at b dev n (suc m) c (d ∷ commands) h at own = ap (λ (j : ℕ). is_done b (command_item j)) (next_place n m) ∙ done_at b dev (n + 1) m c commands h.1 at own
+done_at b dev n (suc m) c (d ∷ commands) h at own = ap (λ (j : ℕ). is_done b (command_item j)) (plus_one n m) ∙ done_at b dev (n + 1) m c commands h.1 at own
 
 some_ending : (ended : List (ℕ × Ending)) (n : ℕ) → is_ended ended n ≡ true → is_some (ending_of ended n) ≡ true
 some_ending [] n e = wrong (sym e)
@@ -198,7 +193,7 @@ some_outcome s b n e = go (ending_of b.ended n) (some_ending b.ended n e)
 each_outcome : (s : ScenarioValue) (b : Story) (n : ℕ) (commands : List CmdDef) → ((m : ℕ) (c : CmdDef) → command_at commands (suc m) ≡ Some c → is_ended b.ended (n + m) ≡ true) → list_all (λ (o : Option Outcome). is_some o) (outcomes_from s b n commands) ≡ true
 each_outcome s b n [] h = refl
 each_outcome s b n (c ∷ commands) h =
-    (λ i. some_outcome s b n (ap (is_ended b.ended) (sym (plus_none n)) ∙ h 0 c refl) i && each_outcome s b (n + 1) commands (λ m d e. ap (is_ended b.ended) (sym (next_place n m)) ∙ h (suc m) d e) i)
+    (λ i. some_outcome s b n (ap (is_ended b.ended) (sym (plus_none n)) ∙ h 0 c refl) i && each_outcome s b (n + 1) commands (λ m d e. ap (is_ended b.ended) (sym (plus_one n m)) ∙ h (suc m) d e) i)
 
 from_one : (m : ℕ) → 1 + m ≡ suc m
 from_one m = omega arith

@@ -6,6 +6,7 @@ use Rattle.std.proofs.Math.Nat.{mod-le}
 use Rattle.std.proofs.lemmas.Bool.{cases_eq, true≢false}
 use Rattle.std.proofs.lemmas.Bool.Decides.{nat_tests}
 use Rattle.std.proofs.lemmas.Nat.{pow_pos, pow_below}
+use Rattle.std.proofs.lemmas.Option.{none-some}
 use Rattle.bus_trace.specs.LineSet.{LineSet, none, has_id_above}
 use Rattle.bus_trace.proofs.Buses.{bus_none, bus_off, bus_data_below}
 use Rattle.bus_trace.specs.declared.Row.{Row}
@@ -24,11 +25,11 @@ use Rattle.bus_reactions.specs.declared.due.Want.{Want}
 use Rattle.bus_reactions.specs.Calling.{answered_due, calling_start}
 use Rattle.bus_reactions.specs.FreeBus.{contender_lines}
 use Rattle.bus_due.specs.Next.{IsEnded}
-use Rattle.bus_laws.specs.Callings.{arbitration_bus, calling_lines, answered_calling, resumed_calling, won_call}
+use Rattle.bus_laws.specs.Callings.{calling_lines, answered_calling, resumed_calling, won_call}
 use Rattle.bus_laws.specs.Reactions.{device_with, own_time, unreset_due}
 use Rattle.bus_laws.specs.Stages.{Standing, Arbitrating, ArbitrationWon, IsContender, BusStage, on_free_bus, in_arbitration, after_arbitration, with_both_ids, awaiting_answer, after_withdrawal, after_answer, after_takeover, in_reset, in_connection, FreeBus, is_connected}
 use Rattle.bus_laws.proofs.CallDues.{want_at, asks_due, calls_due, gives_up_due, goes_on_due, waits_due}
-use Rattle.bus_laws.proofs.Dues.{due_in, none_some}
+use Rattle.bus_laws.proofs.Dues.{due_in}
 use Rattle.bus_laws.proofs.Resets.{due_holding}
 use Rattle.bus_laws.proofs.Rows.{stage_is}
 use Rattle.trace_laws.proofs.Called.{callee_at}
@@ -43,15 +44,12 @@ reset_off s p end st d lt = go (drives p d).rst refl
     go false e = e
     go true e =
         let h = there_by s p d (λ x. x.rst) st lt refl e in
-        absurd (none_some _ (sym (nothing_due s p d end lt) ∙ due_holding s p d h.latency st.devices lt h.latency_is e))
+        absurd (none-some _ (sym (nothing_due s p d end lt) ∙ due_holding s p d h.latency st.devices lt h.latency_is e))
 
 pub reset_ends : (s : ScenarioValue) (p : List Row) → IsEnded s p → Standing s p → (bus p).rst ≡ true → ⊥
 reset_ends s p end st on = true≢false (sym on ∙ bus_off (λ x. x.rst) (λ _ _. refl) refl p (reset_off s p end st))
 
 -- ---- an arbitration
-
-none_bsy : none ≡ arbitration_bus 0 → ⊥
-none_bsy e = true≢false (sym (ap (λ (x : LineSet). x.bsy) e))
 
 -- No higher ID is true, where no device above drives anything.
 lower_data : (p : List Row) (n : ℕ) → ((d : ℕ) → d < 8 → (drives p d ≡ none) ⊎ ((d < n) × (drives p d ≡ contender_lines d))) → (bus p).data_bits < 2 ^ n

@@ -1,14 +1,13 @@
 -- Each contender of an arbitration has whom to call, and so has its winner (6.1.2 to 6.1.4).
 use Rattle.std.proofs.Common.{inl, inr, ℕ, ◌≡◌, ◌<◌, Bool, true, false, not, ◌&&◌, ◌||◌, ◌∙◌, List, [], ◌∷◌, Option, Some, None, refl, sym, ap, subst}
-use Rattle.std.specs.Prelude.{if◌then◌else◌, is_some, ◌==◌}
+use Rattle.std.specs.Prelude.{if◌then◌else◌, ◌==◌}
 use Rattle.std.proofs.lemmas.Bool.{cases_eq}
-use Rattle.std.proofs.lemmas.Option.{same_Some}
+use Rattle.std.proofs.lemmas.Option.{same_Some, none-some}
 use Rattle.bus_trace.specs.LineSet.{LineSet, none, union}
 use Rattle.bus_trace.proofs.Buses.{bus_on}
-use Rattle.bus_trace.proofs.OneRow.{drives-fault, drives-other, drives-own}
+use Rattle.bus_trace.proofs.OneRow.{drives-other, drives-own}
 use Rattle.bus_trace.proofs.Sets.{same_set-eq}
-use Rattle.bus_trace.specs.declared.Kind.{Kind}
-use Rattle.bus_trace.specs.declared.Kind.TheVariants.{Drives, Fault}
+use Rattle.bus_trace.specs.declared.Kind.TheVariants.{Drives}
 use Rattle.bus_trace.specs.declared.Row.{Row}
 use Rattle.bus_trace.specs.declared.arbitration.Arbitration.{Arbitration}
 use Rattle.bus_trace.specs.declared.changes.Change.{Change}
@@ -38,26 +37,20 @@ use Rattle.bus_laws.proofs.Apart.{still_keeps}
 use Rattle.bus_laws.proofs.Dues.{free_due_is, idle_due, is_entry, is_entry_in, is_there, win_due}
 use Rattle.bus_laws.proofs.Prompt.{least_is}
 use Rattle.bus_laws.proofs.Rows.{drives_own, stage_is}
-use Rattle.bus_laws.proofs.Together.{by_calm, by_reset, reset_or_calm}
+use Rattle.bus_laws.proofs.Together.{by_calm, by_reset, reset_or_calm, not_linked}
 use Rattle.link_laws.specs.LinkStages.{AnyStage, apart, linked}
 use Rattle.trace_laws.proofs.FirstRows.{under_rst}
 use Rattle.trace_laws.proofs.Joint.{Stood, link_connection}
 use Rattle.trace_laws.proofs.UnderRst.{line_off, quiet_at_end, reset_rule, drives_next}
 use Rattle.progress_laws.proofs.Apart.{IsBound}
 use Rattle.progress_laws.proofs.Entries.{IsApart, WantsAreItems, enters_bound, enters_by, entry_wanted, others_bound, row_apart, still_bound}
-use Rattle.bus_base.proofs.Tests.{wrong, wrong', and_false}
+use Rattle.bus_base.proofs.Tests.{wrong, wrong', and_false, implied}
 
 pub record AreBound (s : ScenarioValue) (p : List Row) : Type 0 where
   pub contenders : (a : Arbitration) → Arbitrating s p a → (d : ℕ) → d < 8 → IsContender s p a d → IsBound s p d
   pub caller : (c t : ℕ) → ArbitrationWon s p c t → IsBound s p c
 
 -- ---- small facts
-
-none_arbitration : (a : Arbitration) → (let o : Option Arbitration = None in o) ≡ Some a → ⊥
-none_arbitration a e = absurd cc
-
-none_call : (k : Call) → (let o : Option Call = None in o) ≡ Some k → ⊥
-none_call k e = absurd cc
 
 none_calling : (g : Calling) → Some g ≡ (let o : Option Calling = None in o) → ⊥
 none_calling g e = absurd cc
@@ -66,10 +59,6 @@ some_connection : (n : Connection) → Some n ≡ (let o : Option Connection = N
 some_connection n e = absurd cc
 
 -- ---- RST falls: no device drives BSY
-
-implied : (q r : Bool) → (not q || r) ≡ true → q ≡ true → r ≡ true
-implied true r e f = e
-implied false r e f = wrong' f
 
 silent : (s : ScenarioValue) (p : List Row) (row : Row) → row.dev < 8 → broken_rule p row ≡ None → UnderRst s p → (bus (row ∷ p)).rst ≡ false → (d : ℕ) → d < 8 → (drives (row ∷ p) d).bsy ≡ false
 silent s p row lt obeys u off d ld =
@@ -94,7 +83,7 @@ silent s p row lt obeys u off d ld =
 
 busy_before : (p : List Row) (row : Row) (a : Arbitration) → arbitration p ≡ None → is_free (bus p) ≡ false → arbitration (row ∷ p) ≡ Some a → ⊥
 busy_before p row a none_now busy e =
-    none_arbitration a (sym ((λ i. arbitration_after (none_now i) (free_since p) (change_of p row) row) ∙ ap (λ (q : Bool). if q && (bus (row ∷ p)).bsy && not (bus (row ∷ p)).sel then Some (record { free = free_since p; first = row.time }) else None) busy) ∙ e)
+    none-some a (sym ((λ i. arbitration_after (none_now i) (free_since p) (change_of p row) row) ∙ ap (λ (q : Bool). if q && (bus (row ∷ p)).bsy && not (bus (row ∷ p)).sel then Some (record { free = free_since p; first = row.time }) else None) busy) ∙ e)
 
 -- A connection lasts as long as BSY is true.
 lasts : (p : List Row) (row : Row) (n : Connection) → connection p ≡ Some n → connection (row ∷ p) ≡ None → (bus (row ∷ p)).bsy ≡ true → ⊥
@@ -267,13 +256,9 @@ caller_next s p row c t fits wants always least calm alone was after stage_of = 
 
 pub bound_start : (s : ScenarioValue) → AreBound s []
 bound_start s = record {
-  contenders = λ a h d lt k. absurd (none_arbitration a h.stands.arbitration_is);
-  caller = λ c t h. absurd (none_call (won_call c t) h.stands.call_is);
+  contenders = λ a h d lt k. absurd (none-some a h.stands.arbitration_is);
+  caller = λ c t h. absurd (none-some (won_call c t) h.stands.call_is);
 }
-
-unlinked : (o : Option Connection) (r : Bool) → (is_some o && not r) ≡ false → r ≡ false → o ≡ None
-unlinked None r e f = refl
-unlinked (Some n) r e f = wrong (sym (ap not f) ∙ e)
 
 -- After a row after which BSY is driven and no connection stands, no connection stood before it, RST was false, and none raised it.
 before_is : {A : Type 0} (s : ScenarioValue) (p : List Row) (row : Row) (d : ℕ) → Stood s p → IsLeast (due s p) 8 row → broken_rule p row ≡ None → d < 8 → (drives (row ∷ p) d).bsy ≡ true → connection (row ∷ p) ≡ None → (bus (row ∷ p)).rst ≡ false → (BusStage s p → (bus p).rst ≡ false → connection p ≡ None → CalmStanding s p → IsLeast (unreset_due s p) 8 row → A) → A
@@ -286,7 +271,7 @@ before_is {A = A} s p row d was m obeys lt on alone off goes = go was.here
     by_rst h apart_is true e = wrong (sym on ∙ silent s p row m.inside obeys (under_rst s p h e) off d lt)
     by_rst h apart_is false e = elim (reset_or_calm s p row was.standing e m) [
       | by_reset z ↦ wrong (sym (raised z) ∙ off)
-      | by_calm always least ↦ goes h e (unlinked (connection p) (bus p).rst apart_is e) always least
+      | by_calm always least ↦ goes h e (not_linked (connection p) (bus p).rst apart_is e) always least
     ]
 
     go : AnyStage s p → A

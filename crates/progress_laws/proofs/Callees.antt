@@ -1,15 +1,13 @@
 -- A device calls another of the eight: an initiator the target of its item, a target the initiator of the process that it has ready.
-use Rattle.std.proofs.Common.{ℕ, ◌≡◌, ◌≢◌, ◌<◌, Bool, true, false, ◌∙◌, List, [], Option, Some, None, refl, sym, ap, subst}
+use Rattle.std.proofs.Common.{ℕ, ◌≡◌, ◌≢◌, ◌<◌, Bool, true, false, ◌∙◌, List, Option, Some, None, refl, sym, ap, subst}
 use Rattle.std.specs.Prelude.{if◌then◌else◌}
-use Rattle.std.proofs.lemmas.Option.{same_Some}
+use Rattle.std.proofs.lemmas.Option.{same_Some, none-some}
 use Rattle.bus_base.specs.declared.ProcId.{ProcId}
 use Rattle.bus_trace.specs.declared.Row.{Row}
 use Rattle.bus_trace.specs.declared.connection.Connection.{Connection}
 use Rattle.scenario.specs.declared.value.CmdDef.{CmdDef}
-use Rattle.scenario.specs.declared.value.Tag.TheVariants as tags
-use Rattle.scenario.specs.Needs.{sent_of}
 use Rattle.scenario.specs.Value.{ScenarioValue}
-use Rattle.disk_array.specs.Processes.{Process, command_at, payload_bytes, process_by, process_if, process_of, sense_block}
+use Rattle.disk_array.specs.Processes.{Process, command_at, process_by, process_if, process_of}
 use Rattle.bus_story.specs.Items.{Item}
 use Rattle.bus_story.specs.TraceHistory.{is_host, aim_of}
 use Rattle.bus_dialogue.specs.Wants.{Ready}
@@ -25,9 +23,6 @@ use Rattle.bus_books.proofs.ReadyProcesses.{reselects_by}
 use Rattle.trace_laws.proofs.Called.{callee_at, own_units}
 use Rattle.progress_laws.proofs.Apart.{IsBound}
 use Rattle.trace_laws.proofs.Ends.{sense_of, told_of}
-
-no_process : (p : Process) → (let a : Option Process = None in a) ≡ Some p → ⊥
-no_process p e = absurd cc
 
 -- ---- the two ends of a process
 
@@ -48,7 +43,7 @@ process_ends : (s : ScenarioValue) (id : ProcId) (p : Process) → FitsBus s →
 process_ends s id p fits e = go (command_at s.commands id.command) refl
   where
     go : (o : Option CmdDef) → command_at s.commands id.command ≡ o → HasTwoEnds s p.initiator p.target
-    go None z = absurd (no_process p (sym (ap (process_if s id) z) ∙ e))
+    go None z = absurd (none-some p (sym (ap (process_if s id) z) ∙ e))
     go (Some c) z =
         let line = command_fits s id.command c fits z in
         subst (λ (x : Process). HasTwoEnds s x.initiator x.target) (same_Some (process_by s id c) p (sym (ap (process_if s id) z) ∙ e))

@@ -25,7 +25,6 @@ use Rattle.link_laws.proofs.StageDues.{selected_target, settling_target, turning
 use Rattle.trace_laws.specs.Ends.{HasEnds}
 use Rattle.progress_laws.proofs.Acts.{SomeDue, there_by, moved, target_end, initiator_end}
 use Rattle.bus_base.proofs.Tests.{zero_of}
-use Rattle.link_laws.proofs.Traces.{sides_are}
 
 -- Both ends are there.
 pub record AreThere (s : ScenarioValue) (n : Connection) : Type 0 where

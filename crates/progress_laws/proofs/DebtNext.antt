@@ -1,6 +1,6 @@
 -- The events of a row in a connection pay well, by what is kept before it.
 use Rattle.std.proofs.Common.{inl, inr, ℕ, ◌≡◌, ◌⊎◌, ◌<◌, Bool, true, false, not, ◌&&◌, ◌||◌, ◌∙◌, List, [], ◌∷◌, Option, Some, None, refl, sym, ap, subst}
-use Rattle.std.specs.Prelude.{if◌then◌else◌, ◌==◌, is_none, is_some, slice_index}
+use Rattle.std.specs.Prelude.{◌==◌, is_none, is_some, slice_index}
 use Rattle.std.specs.List.{list_any}
 use Rattle.std.proofs.lemmas.Option.{same_Some}
 use Rattle.bus_base.specs.declared.Event.TheVariants as events
@@ -25,9 +25,9 @@ use Rattle.bus_story.specs.BusState.{RowReading, row_reading}
 use Rattle.bus_story.specs.CarriedBytes.{CarriedBytes}
 use Rattle.bus_story.specs.HistoryEvents.{carried_if, is_complete, is_completion, row_events_by}
 use Rattle.bus_story.specs.Items.{Item, Sent, command_item, has_item, process, sense_item}
-use Rattle.bus_story.specs.Links.{Link, link_of}
+use Rattle.bus_story.specs.Links.{Link}
 use Rattle.bus_story.specs.Story.{Story}
-use Rattle.bus_story.specs.TraceHistory.{aim_of, story_after_connection, story_by_change, story_on_bus, story_with_restored, story_with_sent}
+use Rattle.bus_story.specs.TraceHistory.{story_by_change}
 use Rattle.bus_dialogue.specs.NextPhase.{phase_of}
 use Rattle.bus_due.specs.Defs.{target_def_of}
 use Rattle.bus_due.specs.Plain.{IsPlain}
@@ -51,38 +51,16 @@ use Rattle.trace_laws.proofs.InMoves.{alternating}
 use Rattle.trace_laws.proofs.Joint.{NextStood}
 use Rattle.trace_laws.proofs.RowEvents.{carried_of_item, row_of}
 use Rattle.trace_laws.proofs.Whole.{Whole}
+use Rattle.trace_laws.proofs.Tests.{risen}
+use Rattle.trace_laws.proofs.PointerWaits.{change_over}
 use Rattle.progress_laws.proofs.DebtEvents.{AllPay}
 use Rattle.progress_laws.proofs.DebtRows.{Allows, GivenUp, Shown, completes, fails_elsewhere, given_up, loses_elsewhere, no_ends, past_not_held, pays_all, row_shown}
 use Rattle.progress_laws.proofs.DebtSteps.{same_no_debt}
 use Rattle.progress_laws.proofs.OwedEvents.{OfCommand, of_command}
 use Rattle.progress_laws.proofs.OwedRows.{changed}
-use Rattle.progress_laws.proofs.QueueRows.{connected_sent, free_over, restored_all}
 use Rattle.progress_laws.specs.Debts.{DebtBooks, IsDebt, NoDebt, PaysWell, is_owed, nexus_of_command}
 
 -- ---- the change of the bus: which REQUEST SENSE are over
-
-begun_over : (b : Story) (n : Connection) (i : Item) → has_item b.sent.over i ≡ true → has_item (story_after_connection b n).sent.over i ≡ true
-begun_over b n i h = go n.reselected (aim_of b.aims n.initiator)
-  where
-    go : (q : Bool) (o : Option Item)
-        → has_item (if q then record b { link = Some (link_of n None) } else story_with_restored (story_with_sent (record b { link = Some (link_of n o) }) o) o).sent.over i ≡ true
-    go true o = h
-    go false None = h
-    go false (Some x) = ap (λ (y : Sent). has_item y.over i) (restored_all (story_with_sent (record b { link = Some (link_of n (Some x)) }) (Some x)) (Some x)) ∙ h
-
-pub change_over : (s : ScenarioValue) (b : Story) (d : RowReading) (row : Row) (i : Item) → has_item b.sent.over i ≡ true
-    → has_item (story_by_change s b d row).sent.over i ≡ true
-change_over s b d row i h = by_rst d.change.after.rst
-  where
-    by : (x y : Option Connection) → has_item (story_on_bus s b x y d row).sent.over i ≡ true
-    by None None = free_over s b d row i h
-    by None (Some n) = begun_over b n i h
-    by (Some m) None = h
-    by (Some m) (Some n) = ap (λ (x : Sent). has_item x.over i) (connected_sent s b b.link d row) ∙ h
-
-    by_rst : (q : Bool) → has_item (if q then record b { link = None } else story_on_bus s b b.bus_state.connection d.next d row).sent.over i ≡ true
-    by_rst true = h
-    by_rst false = by b.bus_state.connection d.next
 
 pub senses_same : (s : ScenarioValue) (b : Story) (d : RowReading) (row : Row) (n : ℕ)
     → has_item (story_by_change s b d row).sent.over (sense_item n) ≡ has_item b.sent.over (sense_item n)
@@ -198,10 +176,6 @@ first_good None bytes h good = ap (λ (x : List ℕ). slice_index x 0 == GOOD) h
 first_good (Some r) [] h good = refl
 first_good (Some r) (b ∷ bytes) h good = ap (λ (x : ℕ). x == GOOD) (h.0 ∙ good r refl)
 
-rises_from : (a b : Bool) → rises a b ≡ true → a ≡ false
-rises_from false b e = refl
-rises_from true b e = wrong (sym e)
-
 -- As COMMAND COMPLETE is taken its process is not over.
 pub ends_open : (s : ScenarioValue) (p : List Row) (row : Row) (n : Connection) (id : ProcId) → row.dev < 8 → Whole s p → NextStood s p row
     → (run_state s p).story.bus_state.connection ≡ Some n → (bus_of (run_state s p)).rst ≡ false → (row_reading (run_state s p).story.bus_state row).change.after.rst ≡ false
@@ -245,7 +219,7 @@ ends_open s p row n id lt was st con calm off knows done served = go (has_item k
         (ap (λ (x : Change). rises x.before.ack x.after.ack) (sym c) ∙ raised)
 
     unanswered : (bus p).ack ≡ false
-    unanswered = ap (λ (x : Change). x.before.ack) (sym c) ∙ rises_from d.change.before.ack d.change.after.ack raised
+    unanswered = ap (λ (x : Change). x.before.ack) (sym c) ∙ risen d.change.before.ack d.change.after.ack raised
 
     waits : awaits (bus_of k) ≡ true
     waits = ap awaits pl.bus ∙ (λ i. asked i && not (unanswered i))

@@ -3,7 +3,7 @@
 use Rattle.std.proofs.Common.{inl, inr, ℕ, ◌≡◌, ◌⊎◌, ◌+◌, Bool, true, false, not, ◌&&◌, ◌||◌, ◌∙◌, List, [], ◌∷◌, ◌++◌, Some, refl, sym, ap, subst}
 use Rattle.std.specs.Prelude.{if◌then◌else◌, ◌==◌, is_some}
 use Rattle.std.specs.List.{list_any}
-use Rattle.std.proofs.lemmas.Bool.{eqb-true, not-true}
+use Rattle.std.proofs.lemmas.Bool.{eqb-true, not-true, or_cases}
 use Rattle.std.proofs.lemmas.Option.{same_Some}
 use Rattle.bus_base.specs.declared.AbortKind.{AbortKind}
 use Rattle.bus_base.specs.declared.AbortKind.TheVariants as aborts
@@ -28,7 +28,6 @@ use Rattle.bus_story.specs.Story.{Ending, Story, by_abort, by_reset, by_status, 
 use Rattle.trace_laws.specs.ItemFacts.{AreChecked}
 use Rattle.trace_laws.proofs.OverItems.{ends_checks, ends_senses, events_grow, in_append, later, not_grown}
 use Rattle.trace_laws.proofs.SentItems.{more_has, own_has}
-use Rattle.trace_laws.proofs.Tests.{or_of}
 use Rattle.progress_laws.proofs.Owed.{all_reset_holds, cleared_holds, command_apart, nexus_at}
 use Rattle.progress_laws.proofs.OwedEvents.{IfHolds, OfCommand, accepted, ended_so, failed, if_none, if_settled, no_check, other_over, refused, run}
 use Rattle.progress_laws.specs.Debts.{Debts, IsDebt, NoDebt, PaysWell, is_owed, nexus_of_command}
@@ -127,7 +126,7 @@ sense_over s b holds id p e own h =
     over n same = ap (has_item c.over) (ap sense_item (sym same) ∙ sym own_item) ∙ own_has (process id) b.over
 
     back : (n : ℕ) → has_item c.over (sense_item n) ≡ true → (has_item b.over (sense_item n) ≡ true) ⊎ (list_any (λ k. k == n) b.checks ≡ true)
-    back n z = elim (or_of (same_item (process id) (sense_item n)) (has_item b.over (sense_item n)) z) [
+    back n z = elim (or_cases (same_item (process id) (sense_item n)) (has_item b.over (sense_item n)) z) [
       | inl x ↦ inr
           (ap (λ (m : ℕ). list_any (λ k. k == m) b.checks) (sym (eqb-true id.command n (and_first (id.command == n) (same_bool id.sense true) x)))
           ∙ is_checked b id.command own.owed)
@@ -261,7 +260,7 @@ ends_back drops stops e j (c ∷ commands) b n o =
         → (has_item b.sent.over (sense_item n) ≡ true) ⊎ (list_any (λ k. k == n) b.sent.checks ≡ true)
     go true r z (inl x) = inl (or_second (same_item (command_item j) (sense_item n)) (has_item b.sent.over (sense_item n)) x (command_apart j n))
     go true r z (inr x) = inr x
-    go false true z (inl x) = elim (or_of (same_item (sense_item j) (sense_item n)) (has_item b.sent.over (sense_item n)) x) [
+    go false true z (inl x) = elim (or_cases (same_item (sense_item j) (sense_item n)) (has_item b.sent.over (sense_item n)) x) [
       | inl y ↦ inr
           (ap (λ (m : ℕ). list_any (λ k. k == m) b.sent.checks) (sym (eqb-true j n (and_first (j == n) (same_bool true true) y))) ∙ and_second (stops c)
           (list_any (λ k. k == j) b.sent.checks) z)

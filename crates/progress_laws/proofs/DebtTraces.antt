@@ -49,10 +49,11 @@ use Rattle.trace_laws.proofs.OverItems.{events_grow}
 use Rattle.trace_laws.proofs.PlaceReady.{MayBeReady, ready_runs}
 use Rattle.trace_laws.proofs.RowEvents.{AllOf, row_of}
 use Rattle.trace_laws.proofs.Whole.{Whole, standing_next, whole}
+use Rattle.trace_laws.proofs.PointerWaits.{change_over}
 use Rattle.progress_laws.proofs.Answered.{is_told, sense_left}
 use Rattle.progress_laws.proofs.AnsweredEnds.{place_array}
 use Rattle.progress_laws.proofs.DebtEvents.{AllPay, IsNew, Paid, events_pay, new_debt, paid_ends}
-use Rattle.progress_laws.proofs.DebtNext.{change_over, known_served, linked_pays, senses_same}
+use Rattle.progress_laws.proofs.DebtNext.{known_served, linked_pays, senses_same}
 use Rattle.progress_laws.proofs.DebtRows.{quiet_row, reset_row}
 use Rattle.progress_laws.proofs.DebtSteps.{is_checked, is_not_over, same_debt, same_debts}
 use Rattle.progress_laws.proofs.OwedEvents.{OfCommand, of_command}

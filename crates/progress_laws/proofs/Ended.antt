@@ -12,7 +12,7 @@ use Rattle.bus_lines.specs.declared.stage.Stage.TheVariants.{OnFreeBus}
 use Rattle.bus_lines.specs.Stage.{stage}
 use Rattle.bus_rules.specs.declared.seen.Seen.{Seen}
 use Rattle.bus_rules.specs.Connected.{initiator_released, initiator_released_of, target_released, target_released_of}
-use Rattle.bus_rules.specs.FreeBus.{is_cleared, is_idle}
+use Rattle.bus_rules.specs.FreeBus.{is_cleared}
 use Rattle.bus_rules.specs.Lawful.{IsLawful, KeepsAll}
 use Rattle.bus_rules.specs.Order.{is_in_order}
 use Rattle.bus_rules.specs.Reset.{is_quiet_in_reset, is_reset, only_rst}
@@ -44,8 +44,8 @@ use Rattle.progress_laws.proofs.Bound.{AreBound, bound_next, bound_start}
 use Rattle.progress_laws.proofs.Connections.{ends_there, goes_on}
 use Rattle.progress_laws.proofs.Entries.{WantsAreItems}
 use Rattle.std.proofs.lemmas.Bool.{or_right}
+use Rattle.std.proofs.lemmas.Option.{none-some}
 use Rattle.link_laws.proofs.Traces.{sides_are, link_calm}
-use Rattle.bus_laws.proofs.ResetObeys.{implied}
 
 -- What is known of a prompt trace.
 pub record Joined (s : ScenarioValue) (p : List Row) : Type 0 where
@@ -108,7 +108,7 @@ end_kept s p h =
     let v : Seen = seen p (end_row t) in
     all_kept (obeys_at_end p t)
     (λ n. end_keeps v t n (same_time t)
-    (implied (is_idle v) _ (or_right _ _ (ap (λ (l : LineSet). is_within l only_rst) h.stands.bus_is)))
+    (or_right _ _ (or_right _ _ (ap (λ (l : LineSet). is_within l only_rst) h.stands.bus_is)))
     (ap (is_left v t) h.stands.call_is)
     (ap (initiator_released_of v t) h.stands.connection_is)
     (ap (target_released_of v t) h.stands.connection_is)
@@ -119,9 +119,6 @@ pub lawful_when_ended : (s : ScenarioValue) (p : List Row) → Joined s p → Is
 lawful_when_ended s p j end = (j.stood.standing.lawful, end_kept s p (free_when_ended s p j end))
 
 -- ---- what is left to do
-
-no_due : (x : Due) → (let a : Option Due = None in a) ≡ Some x → ⊥
-no_due x e = absurd cc
 
 -- No device of the scenario wants the bus.
 pub unwanted_when_ended : (s : ScenarioValue) (p : List Row) → Joined s p → IsEnded s p → (d lat : ℕ) → d < 8 → latency_of s d ≡ Some lat → want_time s (run_state s p) d ≡ None
@@ -150,4 +147,4 @@ unreset_when_ended s p j end d lt = go (reset_due s p d) refl
     go None e = e
     go (Some x) e =
         let z = comes_by_first (reset_due s p d) (unreset_due s p d) x e in
-        absurd (no_due z.x (sym (nothing_due s p d end lt) ∙ due_calm s p d j.stood.standing.devices lt (ap (λ (l : LineSet). l.rst) (h.quiet d lt)) ∙ z.is))
+        absurd (none-some z.x (sym (nothing_due s p d end lt) ∙ due_calm s p d j.stood.standing.devices lt (ap (λ (l : LineSet). l.rst) (h.quiet d lt)) ∙ z.is))

@@ -20,7 +20,7 @@ use Rattle.scenario.specs.Value.{ScenarioValue}
 use Rattle.disk_array.specs.Processes.{same_bool, same_id}
 use Rattle.bus_story.specs.BusState.{RowReading, row_reading}
 use Rattle.bus_story.specs.CarriedBytes.{CarriedBytes}
-use Rattle.bus_story.specs.Items.{Item, process, abort, command_item, has_item, same_item, sense_item, is_open}
+use Rattle.bus_story.specs.Items.{Item, process, abort, command_item, has_item, sense_item, is_open}
 use Rattle.bus_story.specs.Links.{Link, link_of, link_after_name}
 use Rattle.bus_story.specs.HistoryEvents.{carried_if, row_events_by}
 use Rattle.bus_story.specs.Story.{Story, Ending, by_status, by_loss, by_abort, by_reset, unanswered, is_aborted, is_ended, is_sense_stopped, story_with_ends, story_with_end, story_with_over, story_after_event, story_after_events, with_check, with_ending}
@@ -29,6 +29,7 @@ use Rattle.bus_due.specs.RunState.{RunState}
 use Rattle.bus_due.specs.RunSteps.{run_state}
 use Rattle.std.proofs.lemmas.Bool.{eqb-true}
 use Rattle.bus_base.proofs.Tests.{wrong, and_first, and_second, eq_self}
+use Rattle.trace_laws.proofs.OverItems.{sense_apart}
 
 -- ---- what is over, and what has ended
 
@@ -60,13 +61,6 @@ end_told b id e h n z = go (same_id id (record { command = n; sense = false })) 
     go : (x : Bool) → same_id id (record { command = n; sense = false }) ≡ x → (x || has_item b.sent.over (command_item n)) ≡ true → is_ended (with_ending b.ended id e) n ≡ true
     go true f w = own (eqb-true id.command n (and_first (id.command == n) (same_bool id.sense false) f)) (sense_of id.sense (and_second (id.command == n) (same_bool id.sense false) f)) (id.sense || is_ended b.ended id.command) refl
     go false f w = grown (id.sense || is_ended b.ended id.command) (h n w)
-
-sense_apart : (m n : ℕ) → same_item (sense_item m) (command_item n) ≡ false
-sense_apart m n = go (m == n)
-  where
-    go : (q : Bool) → (q && false) ≡ false
-    go true = refl
-    go false = refl
 
 sense_told : (b : Story) (m : ℕ) → AllEnded (told b) → AllEnded (told (story_with_over b (sense_item m)))
 sense_told b m h n z = h n (sym (ap (λ (x : Bool). x || has_item b.sent.over (command_item n)) (sense_apart m n)) ∙ z)

@@ -1,7 +1,6 @@
 -- Whom a device is due to call stays as it is while it contends; and as it enters arbitration it has whom to call.
 use Rattle.std.proofs.Common.{ℕ, ◌≡◌, ◌≢◌, ◌<◌, ◌≤◌, Bool, true, false, not, ◌&&◌, ◌∙◌, List, ◌∷◌, Option, Some, None, refl, sym, ap, subst, arith}
-use Rattle.std.specs.Prelude.{if◌then◌else◌, is_none, is_some, nat_le, max, ◌+◌}
-use Rattle.std.proofs.lemmas.Bool.Decides.{nat_tests}
+use Rattle.std.specs.Prelude.{if◌then◌else◌, is_none, is_some, max, ◌+◌}
 use Rattle.bus_trace.specs.LineSet.{LineSet}
 use Rattle.bus_trace.specs.declared.Row.{Row}
 use Rattle.bus_trace.specs.declared.changes.Change.{Change}
@@ -24,12 +23,14 @@ use Rattle.bus_due.proofs.Plains.{run_state_plain}
 use Rattle.scsi_device.specs.Lines.{FitsBus}
 use Rattle.bus_laws.specs.Reactions.{device_with}
 use Rattle.bus_laws.proofs.Apart.{GoesApart, KeepsAll, change_plain, entry_keeps}
-use Rattle.bus_laws.proofs.Dues.{is_at, none_some}
-use Rattle.progress_laws.proofs.AimRows.{aims_by_change, eight_aims, other_aim, own_aim}
+use Rattle.bus_laws.proofs.Dues.{is_at}
+use Rattle.progress_laws.proofs.AimRows.{aims_by_change, eight_aims, own_aim}
 use Rattle.progress_laws.proofs.Apart.{IsBound}
 use Rattle.progress_laws.proofs.Callees.{aim_bound, ready_bound}
 use Rattle.std.proofs.lemmas.Bool.{le-leb}
+use Rattle.std.proofs.lemmas.Option.{none-some}
 use Rattle.bus_base.proofs.Tests.{none_number, and_more}
+use Rattle.trace_laws.proofs.AimsFit.{set_other}
 use Rattle.progress_laws.proofs.Connections.{no_yes}
 
 -- An initiator wants the bus from the time on at which it has something to send.
@@ -87,7 +88,7 @@ entry_aims s p row w ee =
 pub others_bound : (s : ScenarioValue) (p : List Row) (row : Row) (c : ℕ) → IsApart s p row → enters_by p row ≡ true → c ≢ row.dev → IsBound s p c → IsBound s (row ∷ p) c
 others_bound s p row c w ee ne b =
     by_wishes s p (row ∷ p) c ((entry_keeps s p row _ _ _ _ w ee).ready c)
-    (ap (λ (x : List (Option Item)). aim_of x c) (entry_aims s p row w ee) ∙ other_aim (run_state s p).story.aims row.dev c _ ne) b
+    (ap (λ (x : List (Option Item)). aim_of x c) (entry_aims s p row w ee) ∙ set_other (run_state s p).story.aims row.dev c _ ne) b
 
 pub enters_bound : (s : ScenarioValue) (p : List Row) (row : Row) (w : ℕ) → FitsBus s → WantsAreItems → IsApart s p row → enters_by p row ≡ true → want_time s (run_state s p) row.dev ≡ Some w → w ≤ row.time → IsBound s (row ∷ p) row.dev
 enters_bound s p row w fits wants a ee wish due = go (is_host s.hosts row.dev) refl
@@ -124,7 +125,7 @@ pub record IsWanted (w : Option ℕ) (time : ℕ) : Type 0 where
   pub by_then : since ≤ time
 
 pub entry_wanted : (d lat at free : ℕ) (own : LineSet) (w : Option ℕ) (x : Due) → free_due (device_with d lat own at) free w ≡ Some x → IsWanted w x.time
-entry_wanted d lat at free own None x e = absurd (none_some x e)
+entry_wanted d lat at free own None x e = absurd (none-some x e)
 entry_wanted d lat at free own (Some w) x e =
     let h = is_at (max (free + 1200) w + lat) (contender_lines d) x e in
     let k = h.time_is in

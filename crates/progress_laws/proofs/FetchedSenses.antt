@@ -23,8 +23,8 @@ use Rattle.disk_array.proofs.SoundArrays.{id_is}
 use Rattle.bus_story.specs.Items.{Sent}
 use Rattle.trace_laws.proofs.ListedReplies.{accepted, end_lists, settles}
 use Rattle.trace_laws.proofs.OtherProcesses.{executed, reply_at}
+use Rattle.trace_laws.proofs.EachProcess.{running_id}
 use Rattle.progress_laws.proofs.OwedEvents.{running_own}
-use Rattle.progress_laws.proofs.QueueSteps.{running_id}
 use Rattle.progress_laws.specs.Debts.{AreFetched, PaysWell, sense_id}
 
 -- ---- what it answers

@@ -21,12 +21,13 @@ use Rattle.disk_array.specs.Units.{Array, Nexus, RunningProcess, UnitState, gues
 use Rattle.bus_story.specs.Items.{Item, Sent, has_item, process, same_item, sense_item}
 use Rattle.bus_story.specs.Story.{Story, by_status, story_after_event, story_with_end}
 use Rattle.progress_laws.proofs.Owed.{aborts_owe, owed_all, owed_without, reset_owes}
-use Rattle.progress_laws.proofs.QueueSteps.{running_id, none_run}
 use Rattle.progress_laws.specs.Queued.{AreOwed, IsOwed}
 use Rattle.std.proofs.lemmas.Bool.{eqb-true, or_from}
 use Rattle.bus_base.proofs.Tests.{wrong, eq_self}
 use Rattle.trace_laws.proofs.OtherProcesses.{executed}
 use Rattle.trace_laws.proofs.OverItems.{later}
+use Rattle.trace_laws.proofs.Impossible.{none_some}
+use Rattle.trace_laws.proofs.EachProcess.{running_id}
 
 -- An automatic REQUEST SENSE that ends does so with GOOD, and none is lost; and that of a command is not over as the command ends.
 abbrev pub EndsWell : Story → Event → Type 0
@@ -124,7 +125,7 @@ lost s b a id e h =
 -- ---- the process that runs is of the scenario
 
 guest_own : (s : ScenarioValue) (guests : List RunningProcess) (i : ProcId) (r : RunningProcess) → AllOwnGuests s guests → guest_at guests i ≡ Some r → process_of s r.process.id ≡ Some r.process
-guest_own s [] i r own z = none_run r z
+guest_own s [] i r own z = none_some r z
 guest_own s (g ∷ guests) i r own z = go (same_id g.process.id i) z (λ w. guest_own s guests i r own.1 w)
   where
     go : (x : Bool) → (if x then Some g else guest_at guests i) ≡ Some r → (guest_at guests i ≡ Some r → process_of s r.process.id ≡ Some r.process) → process_of s r.process.id ≡ Some r.process
@@ -132,15 +133,15 @@ guest_own s (g ∷ guests) i r own z = go (same_id g.process.id i) z (λ w. gues
     go false h more = more h
 
 current_own : (s : ScenarioValue) (t n : ℕ) (o : Option RunningProcess) (i : ProcId) (r : RunningProcess) → IsOwnRunning s t n o → running_if o i ≡ Some r → process_of s r.process.id ≡ Some r.process
-current_own s t n None i r own z = none_run r z
+current_own s t n None i r own z = none_some r z
 current_own s t n (Some g) i r own z = go (same_id g.process.id i) z
   where
     go : (x : Bool) → (if x then Some g else None) ≡ Some r → process_of s r.process.id ≡ Some r.process
     go true h = subst (λ (x : RunningProcess). process_of s x.process.id ≡ Some x.process) (same_Some g r h) own.is
-    go false h = none_run r h
+    go false h = none_some r h
 
 unit_own : (s : ScenarioValue) (units : List UnitState) (i : ProcId) (r : RunningProcess) → AllOwnUnits s units → Steps.running_in units i ≡ Some r → process_of s r.process.id ≡ Some r.process
-unit_own s [] i r own z = none_run r z
+unit_own s [] i r own z = none_some r z
 unit_own s (u ∷ units) i r own z = go (running_if u.current i) refl z (λ w. unit_own s units i r own.1 w)
   where
     go : (o : Option RunningProcess) → running_if u.current i ≡ o → (if is_some o then o else Steps.running_in units i) ≡ Some r → (Steps.running_in units i ≡ Some r → process_of s r.process.id ≡ Some r.process) → process_of s r.process.id ≡ Some r.process

@@ -24,10 +24,10 @@ use Rattle.bus_due.specs.RunState.{RunState, array_of, or_start}
 use Rattle.bus_due.specs.RunSteps.{array_after_events, run_state}
 use Rattle.progress_laws.proofs.Owed.{owed_all}
 use Rattle.progress_laws.proofs.OwedEvents.{EndsWell, IfOwed, other_over, step_owes}
-use Rattle.progress_laws.proofs.QueueRows.{HasArray, connected_sent}
+use Rattle.progress_laws.proofs.QueueRows.{HasArray}
 use Rattle.progress_laws.specs.Queued.{AreOwed, IsOwed}
-use Rattle.std.proofs.lemmas.Bool.{or_from}
-use Rattle.bus_base.proofs.Tests.{wrong}
+use Rattle.std.proofs.lemmas.Bool.{or_from, not-true}
+use Rattle.trace_laws.proofs.PointerWaits.{connection_sent}
 
 -- ---- the change of the bus ends no automatic REQUEST SENSE
 
@@ -38,12 +38,8 @@ pub record Holds (b c : Sent) : Type 0 where
 same : (b c : Sent) → c ≡ b → Holds b c
 same b c e = record { checks = ap (λ (x : Sent). x.checks) e; over = λ n z. ap (λ (x : Sent). has_item x.over (sense_item n)) e ∙ z }
 
-no_sense : (q : Bool) → not q ≡ true → q ≡ false
-no_sense true e = wrong (sym e)
-no_sense false e = refl
-
 given_up : (b : Story) (tries : List Item) (i : Item) → is_counted i ≡ true → Holds b.sent (story_without_answer (record b { sent = record b.sent { tries = tries } }) i).sent
-given_up b tries (process id) e = record { checks = refl; over = λ n z. or_from _ (has_item b.sent.over (sense_item n)) (other_over id n (no_sense id.sense e)) z }
+given_up b tries (process id) e = record { checks = refl; over = λ n z. or_from _ (has_item b.sent.over (sense_item n)) (other_over id n (not-true id.sense e)) z }
 given_up b tries (abort k) e = record { checks = refl; over = λ n z. z }
 
 tried : (s : ScenarioValue) (b : Story) (dev : ℕ) (item : Option Item) → Holds b.sent (story_with_try s b dev item).sent
@@ -94,7 +90,7 @@ changed s b d row = by_rst d.change.after.rst
     by None None = freed s b d row
     by None (Some n) = begun b n
     by (Some m) None = same b.sent b.sent refl
-    by (Some m) (Some n) = same b.sent _ (connected_sent s b b.link d row)
+    by (Some m) (Some n) = same b.sent _ (connection_sent s b b.link d row)
 
     by_rst : (q : Bool) → Holds b.sent (if q then record b { link = None } else story_on_bus s b b.bus_state.connection d.next d row).sent
     by_rst true = same b.sent b.sent refl

@@ -1,6 +1,6 @@
 -- Row by row: each command that was sent, is not over and has no connection stands in a queue, where one does as its connection ends.
-use Rattle.std.proofs.Common.{inl, inr, ℕ, zero, suc, ◌≡◌, ◌⊎◌, ◌+◌, Bool, true, false, not, ◌&&◌, ◌∙◌, List, [], ◌∷◌, Option, Some, None, refl, sym, ap, subst, arith}
-use Rattle.std.specs.Prelude.{if◌then◌else◌, is_none, is_some}
+use Rattle.std.proofs.Common.{inl, inr, ℕ, zero, suc, ◌≡◌, ◌+◌, Bool, true, false, not, ◌&&◌, ◌∙◌, List, [], ◌∷◌, Option, Some, None, refl, sym, ap, subst, arith}
+use Rattle.std.specs.Prelude.{if◌then◌else◌, is_none}
 use Rattle.std.proofs.lemmas.Option.{same_Some}
 use Rattle.bus_base.specs.declared.AbortKind.{AbortKind}
 use Rattle.bus_base.specs.declared.AbortKind.TheVariants as aborts
@@ -8,14 +8,10 @@ use Rattle.bus_base.specs.declared.Event.{Event}
 use Rattle.bus_base.specs.declared.Event.TheVariants as events
 use Rattle.bus_base.specs.declared.ProcId.{ProcId}
 use Rattle.bus_trace.specs.declared.Row.{Row}
-use Rattle.bus_trace.specs.declared.Kind.{Kind}
-use Rattle.bus_trace.specs.declared.Kind.TheVariants.{Drives, Fault}
 use Rattle.bus_trace.specs.declared.connection.Connection.{Connection}
 use Rattle.bus_trace.specs.declared.selection.Call.{Call}
 use Rattle.bus_trace.specs.declared.selection.Calling.{Calling}
 use Rattle.bus_trace.specs.Changes.{falls}
-use Rattle.msg_grammar.specs.declared.message.MsgOut.{MsgOut}
-use Rattle.msg_grammar.specs.declared.message.MsgIn.{MsgIn}
 use Rattle.scenario.specs.declared.value.CmdDef.{CmdDef}
 use Rattle.scenario.specs.Value.{ScenarioValue}
 use Rattle.disk_array.specs.ArrayHistory.{array_step}
@@ -24,12 +20,12 @@ use Rattle.disk_array.specs.SoundArray.{HasSeats, IsSound}
 use Rattle.disk_array.specs.Units.{Array}
 use Rattle.disk_array.proofs.SoundArrays.{step_sound}
 use Rattle.bus_story.specs.BusState.{RowReading, row_reading}
-use Rattle.bus_story.specs.CarriedBytes.{CarriedBytes}
-use Rattle.bus_story.specs.HistoryEvents.{carried_if, row_events_by}
+use Rattle.bus_story.specs.HistoryEvents.{row_events_by}
 use Rattle.bus_story.specs.Items.{Item, Sent, abort, command_item, has_item, is_open, process}
-use Rattle.bus_story.specs.Links.{Link, link_of, link_after_name}
+use Rattle.bus_story.specs.Links.{link_of}
 use Rattle.bus_story.specs.Story.{Story, by_abort, by_reset, is_aborted, is_sense_stopped, story_after_event, story_after_events}
-use Rattle.bus_story.specs.TraceHistory.{aim_of, is_arbitration_entry, story_with_aim, story_without_answer, story_with_try, story_after_calling_by, story_after_calling, story_on_free_bus, story_with_restored, story_with_sent, story_with_carried, story_after_out, story_after_in, story_after_byte, story_after_fault, story_in_connection, story_on_bus, story_by_change, is_parity_error, carried_after_byte_if, carried_after_fault_if}
+use Rattle.bus_story.specs.TraceHistory.{aim_of, is_arbitration_entry, story_with_aim, story_without_answer, story_with_try, story_after_calling_by, story_after_calling, story_on_free_bus, story_with_restored, story_with_sent, story_on_bus, story_by_change}
+use Rattle.bus_story.proofs.StorySteps.{restored_sent}
 use Rattle.bus_due.specs.RunState.{RunState, array_of, or_start}
 use Rattle.bus_due.specs.RunSteps.{array_after_events, item_if, run_state, served_after}
 use Rattle.bus_due.specs.Wants.{ready_of}
@@ -40,9 +36,11 @@ use Rattle.trace_laws.proofs.OpenCommands.{item_is, opened}
 use Rattle.trace_laws.proofs.OverItems.{Grows, ends_over, events_grow, lost_over, none_at, not_grown}
 use Rattle.trace_laws.proofs.QueuedProcesses.{is_dropped}
 use Rattle.trace_laws.proofs.SentItems.{event_sent, free_keeps, more_has, self_item}
-use Rattle.progress_laws.proofs.QueueSteps.{IfQueued, IsNotEnded, ends_close, step_stays, no_command}
+use Rattle.progress_laws.proofs.QueueSteps.{IfQueued, IsNotEnded, ends_close, step_stays}
 use Rattle.progress_laws.specs.Queued.{AreQueued, command_id}
 use Rattle.trace_laws.specs.Places.{is_queued}
+use Rattle.trace_laws.proofs.Impossible.{none_some}
+use Rattle.trace_laws.proofs.PointerWaits.{connection_sent}
 use Rattle.bus_base.proofs.Tests.{wrong, and_first, and_second}
 
 -- ---- what is open after an event was not ended by it
@@ -58,13 +56,13 @@ one_less : (n : ℕ) → suc (0 + n) ≡ suc n
 one_less n = omega arith
 
 aborted_over : (s : ScenarioValue) (b : Story) (i t m : ℕ) (what : AbortKind) (n : ℕ) (c : CmdDef) → command_at s.commands n ≡ Some c → is_aborted i t m what c ≡ true → has_item b.sent.sent (command_item n) ≡ true → has_item (story_after_event s b (events.Aborted i t m what)).sent.over (command_item n) ≡ true
-aborted_over s b i t m what zero c at d sent = no_command c (sym (none_at s.commands) ∙ at)
+aborted_over s b i t m what zero c at d sent = none_some c (sym (none_at s.commands) ∙ at)
 aborted_over s b i t m what (suc n) c at d sent =
     ap (λ (j : ℕ). has_item (story_after_event s b (events.Aborted i t m what)).sent.over (command_item j)) (sym (one_less n))
     ∙ ends_close (is_aborted i t m what) (is_sense_stopped i t m what) by_abort 0 n s.commands b c at d (ap (λ (j : ℕ). has_item b.sent.sent (command_item j)) (one_less n) ∙ sent)
 
 reset_over : (s : ScenarioValue) (b : Story) (dev n : ℕ) (c : CmdDef) → command_at s.commands n ≡ Some c → has_item b.sent.sent (command_item n) ≡ true → has_item (story_after_event s b (events.Reset dev)).sent.over (command_item n) ≡ true
-reset_over s b dev zero c at sent = no_command c (sym (none_at s.commands) ∙ at)
+reset_over s b dev zero c at sent = none_some c (sym (none_at s.commands) ∙ at)
 reset_over s b dev (suc n) c at sent =
     ap (λ (j : ℕ). has_item (story_after_event s b (events.Reset dev)).sent.over (command_item j)) (sym (one_less n))
     ∙ ends_close (λ x. true) (λ x. true) by_reset 0 n s.commands b c at refl (ap (λ (j : ℕ). has_item b.sent.sent (command_item j)) (one_less n) ∙ sent)
@@ -132,56 +130,9 @@ events_stay s b o (event ∷ shown) n c seats at e k = go (array_after_events s 
       queued = step_stays s a event (command_id n) (h.sound a refl).units (not_ended s (story_after_events s b shown) event n c at e) h.queued;
     }
 
--- ---- the change of the bus
-
-abbrev pub sent_in : Story → Sent
-sent_in b = b.sent
-
-restored_sent : (b : Story) (item : Option Item) → sent_in (story_with_restored b item) ≡ sent_in b
-restored_sent b None = refl
-restored_sent b (Some (process id)) = refl
-restored_sent b (Some (abort k)) = refl
-
-carried_sent : (b : Story) (c : Option CarriedBytes) → sent_in (story_with_carried b c) ≡ sent_in b
-carried_sent b None = refl
-carried_sent b (Some c) = refl
-
-out_sent : (b : Story) (l : Link) (m : Option MsgOut) → sent_in (story_after_out b l m) ≡ sent_in b
-out_sent b l None = refl
-out_sent b l (Some m) = carried_sent _ (if is_parity_error m then l.undo else None)
-
-in_sent : (s : ScenarioValue) (b : Story) (l : Link) (m : Option MsgIn) → sent_in (story_after_in s b l m) ≡ sent_in b
-in_sent s b l None = refl
-in_sent s b l (Some m) = carried_sent _ _ ∙ go (is_none l.item)
-  where
-    go : (q : Bool) → sent_in (if q then story_with_restored b (link_after_name b.sent s.commands l m).item else b) ≡ sent_in b
-    go true = restored_sent b (link_after_name b.sent s.commands l m).item
-    go false = refl
-
-byte_sent : (b : Story) (l : Link) (d : RowReading) → sent_in (story_after_byte b l d) ≡ sent_in b
-byte_sent b l d = go d.change.before.msg
-  where
-    go : (q : Bool) → sent_in (if q then b else story_with_carried b (carried_after_byte_if (carried_if b l.item) d)) ≡ sent_in b
-    go true = refl
-    go false = carried_sent b (carried_after_byte_if (carried_if b l.item) d)
-
-fault_sent : (b : Story) (l : Link) (kind : Kind) → sent_in (story_after_fault b l kind) ≡ sent_in b
-fault_sent b l (Drives lines) = refl
-fault_sent b l (Fault bit) = carried_sent b (carried_after_fault_if (carried_if b l.item) b.bus_state.crossed)
-
-pub connected_sent : (s : ScenarioValue) (b : Story) (l : Option Link) (d : RowReading) (row : Row) → sent_in (story_in_connection s b l d row) ≡ sent_in b
-connected_sent s b None d row = refl
-connected_sent s b (Some l) d row = go d.crosses (is_some d.out) (is_some d.into)
-  where
-    go : (q r t : Bool) → sent_in (if q then (if r then story_after_out b l d.out else if t then story_after_in s b l d.into else story_after_byte b l d) else story_after_fault b l row.kind) ≡ sent_in b
-    go true true t = out_sent b l d.out
-    go true false true = in_sent s b l d.into
-    go true false false = byte_sent b l d
-    go false r t = fault_sent b l row.kind
-
 -- ---- on the free bus
 
-tried_over : (s : ScenarioValue) (b : Story) (dev : ℕ) (item : Option Item) (i : Item) → has_item b.sent.over i ≡ true → has_item (story_with_try s b dev item).sent.over i ≡ true
+pub tried_over : (s : ScenarioValue) (b : Story) (dev : ℕ) (item : Option Item) (i : Item) → has_item b.sent.over i ≡ true → has_item (story_with_try s b dev item).sent.over i ≡ true
 tried_over s b dev None i h = h
 tried_over s b dev (Some item) i h = go _ item
   where
@@ -190,7 +141,7 @@ tried_over s b dev (Some item) i h = go _ item
     go true (abort k) = more_has (abort k) i b.sent.over h
     go false j = h
 
-called_over : (s : ScenarioValue) (b : Story) (call : Option Call) (i : Item) → has_item b.sent.over i ≡ true → has_item (story_after_calling s b call).sent.over i ≡ true
+pub called_over : (s : ScenarioValue) (b : Story) (call : Option Call) (i : Item) → has_item b.sent.over i ≡ true → has_item (story_after_calling s b call).sent.over i ≡ true
 called_over s b None i h = h
 called_over s b (Some k) i h = by k.calling
   where
@@ -216,19 +167,6 @@ pub data WasOpen (k : RunState) (d : RowReading) (n : ℕ) : Type 0 where
   before : is_open k.story.sent n ≡ true → WasOpen k d n
   begins : (m : Connection) → k.story.bus_state.connection ≡ None → d.next ≡ Some m → m.reselected ≡ false → aim_of k.story.aims m.initiator ≡ Some (command_item n) → WasOpen k d n
 
-open_item : (b : Sent) (o : Option Item) (n : ℕ) (c : Sent) → (o ≡ None → c ≡ b) → ((i : Item) → o ≡ Some i → c ≡ record b { sent = i ∷ b.sent }) → is_open c n ≡ true → (o ≡ Some (command_item n)) ⊎ (is_open b n ≡ true)
-open_item b None n c none one e = inr (ap (λ (x : Sent). is_open x n) (sym (none refl)) ∙ e)
-open_item b (Some i) n c none one e =
-    elim (opened b i n (ap (λ (x : Sent). is_open x n) (sym (one i refl)) ∙ e)) [
-      | inl z ↦ inl (ap (λ (x : Item). Some x) z)
-      | inr z ↦ inr z
-    ]
-
-pub restored_all : (b : Story) (o : Option Item) → (story_with_restored b o).sent ≡ b.sent
-restored_all b None = refl
-restored_all b (Some (process id)) = refl
-restored_all b (Some (abort k)) = refl
-
 pub open_before : (s : ScenarioValue) (k : RunState) (d : RowReading) (row : Row) (n : ℕ) → is_open (story_by_change s k.story d row).sent n ≡ true → WasOpen k d n
 open_before s k d row n e = by_rst d.change.after.rst e
   where
@@ -240,7 +178,7 @@ open_before s k d row n e = by_rst d.change.after.rst e
     begun m x y true z o f h = before h
     begun m x y false z None f h = before h
     begun m x y false z (Some i) f h =
-        elim (opened b.sent i n (ap (λ (t : Sent). is_open t n) (sym (restored_all (story_with_sent (record b { link = Some (link_of m (Some i)) }) (Some i)) (Some i))) ∙ h)) [
+        elim (opened b.sent i n (ap (λ (t : Sent). is_open t n) (sym (restored_sent (story_with_sent (record b { link = Some (link_of m (Some i)) }) (Some i)) (Some i))) ∙ h)) [
           | inl g ↦ begins m x y z (f ∙ ap (λ (t : Item). Some t) g)
           | inr g ↦ before g
         ]
@@ -249,7 +187,7 @@ open_before s k d row n e = by_rst d.change.after.rst e
     by None None f g h = before (fewer_open b.sent (story_on_free_bus s b d row).sent n (free_keeps s b d row).2 (λ i z. free_over s b d row i z) h)
     by None (Some m) f g h = begun m f g m.reselected refl (aim_of b.aims m.initiator) refl h
     by (Some l) None f g h = before h
-    by (Some l) (Some m) f g h = before (ap (λ (x : Sent). is_open x n) (sym (connected_sent s b b.link d row)) ∙ h)
+    by (Some l) (Some m) f g h = before (ap (λ (x : Sent). is_open x n) (sym (connection_sent s b b.link d row)) ∙ h)
 
     by_rst : (q : Bool) → is_open (if q then record b { link = None } else story_on_bus s b b.bus_state.connection d.next d row).sent n ≡ true → WasOpen k d n
     by_rst true h = before h

@@ -12,7 +12,6 @@ use Rattle.cdb_codec.specs.declared.sense.TheConstants.{ABORTED_COMMAND}
 use Rattle.cdb_codec.specs.declared.status.TheConstants.{GOOD, CHECK_CONDITION}
 use Rattle.cdb_codec.specs.Cdb.{command_of}
 use Rattle.scenario.specs.declared.value.CmdDef.{CmdDef}
-use Rattle.scenario.specs.declared.value.HostDef.{HostDef}
 use Rattle.scenario.specs.Value.{ScenarioValue}
 use Rattle.disk_array.specs.Execution.{Execution, Reply, check_condition, execution, is_request_sense, sense_of}
 use Rattle.disk_array.specs.Processes.{Process, command_at, process_of, same_id}
@@ -20,18 +19,18 @@ use Rattle.disk_array.specs.SoundArray.{AllOwnUnits}
 use Rattle.disk_array.specs.Steps as Steps
 use Rattle.disk_array.specs.Steps.{has_tag, is_of_unit, running_if}
 use Rattle.disk_array.specs.Units.{Array, RunningProcess, UnitState, guest_at, is_held, nexus_of, nexuses_without, senses_without, unit_state_at, with_unit}
-use Rattle.bus_story.specs.Items.{Item, command_item, has_item, is_open, sense_item}
+use Rattle.bus_story.specs.Items.{command_item, has_item, is_open, sense_item}
 use Rattle.bus_story.specs.Story.{Ending, Story, story_with_end, story_with_ends, story_with_over}
-use Rattle.bus_books.proofs.Lookups.{id_is}
 use Rattle.trace_laws.proofs.QueuedProcesses.{is_dropped}
 use Rattle.trace_laws.proofs.SentItems.{more_has, own_has}
 use Rattle.trace_laws.proofs.QueueEvents.{Spares, chosen_all, either_stays, kept_all, left_all, replied_all, waits_last, with_unit_all}
 use Rattle.trace_laws.specs.Places.{is_in_queue, is_queued}
-use Rattle.std.proofs.lemmas.Bool.{eqb-true}
-use Rattle.bus_base.proofs.Tests.{and_first, and_second}
-use Rattle.trace_laws.proofs.UnitsKept.{hosts_same}
+use Rattle.trace_laws.proofs.UnitsKept.{cleared_same, attended_same}
+use Rattle.trace_laws.proofs.Impossible.{none_some}
+use Rattle.trace_laws.proofs.RunArrivals.{found}
+use Rattle.trace_laws.proofs.EachProcess.{running_id}
+use Rattle.trace_laws.proofs.PointerStories.{ends_over}
 use Rattle.disk_array.proofs.SeatReplies.{waits_in}
-use Rattle.progress_laws.proofs.Queues.{no_unit}
 
 abbrev pub IfQueued : ProcId → Option Array → Type 0
 IfQueued id None = ⊤
@@ -54,16 +53,6 @@ if_some id false b e = tt
 if_none : (id : ProcId) (q : Bool) (b : Array) → is_queued b.units id ≡ true → IfQueued id (if q then None else Some b)
 if_none id true b e = tt
 if_none id false b e = e
-
-found : (units : List UnitState) (t n : ℕ) (u : UnitState) → unit_state_at units t n ≡ Some u → (u.target ≡ t) × (u.unit ≡ n)
-found [] t n u e = no_unit u e
-found (v ∷ units) t n u e = go (v.target == t && v.unit == n) refl e (λ z. found units t n u z)
-  where
-    go : (x : Bool) → (v.target == t && v.unit == n) ≡ x → (if x then Some v else unit_state_at units t n) ≡ Some u → (unit_state_at units t n ≡ Some u → (u.target ≡ t) × (u.unit ≡ n)) → (u.target ≡ t) × (u.unit ≡ n)
-    go true z h more =
-        let same : v ≡ u = same_Some v u h in
-        (ap (λ (w : UnitState). w.target) (sym same) ∙ eqb-true v.target t (and_first (v.target == t) (v.unit == n) z), ap (λ (w : UnitState). w.unit) (sym same) ∙ eqb-true v.unit n (and_second (v.target == t) (v.unit == n) z))
-    go false z h more = more h
 
 at_own : (units : List UnitState) (t n : ℕ) (u : UnitState) → unit_state_at units t n ≡ Some u → unit_state_at units u.target u.unit ≡ Some u
 at_own units t n u e = let w = found units t n u e in (λ i. unit_state_at units (w.0 i) (w.1 i)) ∙ e
@@ -116,40 +105,6 @@ failed s a i reply None id e = new (process_of s i)
     new None = tt
     new (Some p) = if_none id (Steps.is_waiting a.units i || Steps.has_ended a i) _ e
 
-pub none_run : {A : Type 0} (r : RunningProcess) → (let o : Option RunningProcess = None in o) ≡ Some r → A
-none_run r z = absurd cc
-
-guest_id : (guests : List RunningProcess) (i : ProcId) (r : RunningProcess) → guest_at guests i ≡ Some r → r.process.id ≡ i
-guest_id [] i r z = none_run r z
-guest_id (g ∷ guests) i r z = go (same_id g.process.id i) refl z (λ w. guest_id guests i r w)
-  where
-    go : (x : Bool) → same_id g.process.id i ≡ x → (if x then Some g else guest_at guests i) ≡ Some r → (guest_at guests i ≡ Some r → r.process.id ≡ i) → r.process.id ≡ i
-    go true f h more = ap (λ (w : RunningProcess). w.process.id) (sym (same_Some g r h)) ∙ id_is g.process.id i f
-    go false f h more = more h
-
-current_id : (o : Option RunningProcess) (i : ProcId) (r : RunningProcess) → running_if o i ≡ Some r → r.process.id ≡ i
-current_id None i r z = none_run r z
-current_id (Some g) i r z = go (same_id g.process.id i) refl z
-  where
-    go : (x : Bool) → same_id g.process.id i ≡ x → (if x then Some g else None) ≡ Some r → r.process.id ≡ i
-    go true f h = ap (λ (w : RunningProcess). w.process.id) (sym (same_Some g r h)) ∙ id_is g.process.id i f
-    go false f h = none_run r h
-
-unit_id : (units : List UnitState) (i : ProcId) (r : RunningProcess) → Steps.running_in units i ≡ Some r → r.process.id ≡ i
-unit_id [] i r z = none_run r z
-unit_id (u ∷ units) i r z = go (running_if u.current i) refl z (λ w. unit_id units i r w)
-  where
-    go : (o : Option RunningProcess) → running_if u.current i ≡ o → (if is_some o then o else Steps.running_in units i) ≡ Some r → (Steps.running_in units i ≡ Some r → r.process.id ≡ i) → r.process.id ≡ i
-    go (Some g) f h more = current_id u.current i r (f ∙ h)
-    go None f h more = more h
-
-pub running_id : (a : Array) (i : ProcId) (r : RunningProcess) → Steps.running_process a i ≡ Some r → r.process.id ≡ i
-running_id a i r e = go (guest_at a.guests i) refl e
-  where
-    go : (o : Option RunningProcess) → guest_at a.guests i ≡ o → (if is_some o then o else Steps.running_in a.units i) ≡ Some r → r.process.id ≡ i
-    go (Some g) z h = guest_id a.guests i r (z ∙ h)
-    go None z h = unit_id a.units i r h
-
 ended : (a : Array) (i : ProcId) (status : ℕ) (id : ProcId) → same_id i id ≡ false → is_queued a.units id ≡ true → IfQueued id (Steps.end_step a status (Steps.running_process a i))
 ended a i status id ne e = go (Steps.running_process a i) refl
   where
@@ -171,26 +126,6 @@ ended a i status id ne e = go (Steps.running_process a i) refl
     go None z = tt
     go (Some r) z = by r (running_id a i r z) r.reply
 
-pub cleared_same : (i : ℕ) (lost : List Process) (a : Array) → (Steps.cleared_attentions i lost a).units ≡ a.units
-cleared_same i [] a = refl
-cleared_same i (p ∷ lost) a = cleared_same i lost (if p.initiator == i then a else Steps.cleared_attention a (nexus_of p)) ∙ go (p.initiator == i)
-  where
-    one : (q : Bool) (x : Array) → x.units ≡ a.units → (if q then a else x).units ≡ a.units
-    one true x e = refl
-    one false x e = e
-
-    go : (q : Bool) → (if q then a else Steps.cleared_attention a (nexus_of p)).units ≡ a.units
-    go true = refl
-    go false = one _ _ refl
-
-pub all_reset_same : (hosts : List HostDef) (units : List UnitState) (is_one : UnitState → Bool) (a : Array) → (Steps.unit_reset_attentions hosts units is_one a).units ≡ a.units
-all_reset_same hosts [] is_one a = refl
-all_reset_same hosts (u ∷ units) is_one a = all_reset_same hosts units is_one (if is_one u then Steps.reset_attentions hosts u.target u.unit a else a) ∙ go (is_one u)
-  where
-    go : (q : Bool) → (if q then Steps.reset_attentions hosts u.target u.unit a else a).units ≡ a.units
-    go true = hosts_same hosts u.target u.unit a
-    go false = refl
-
 aborted : (s : ScenarioValue) (a : Array) (i t n : ℕ) (what : AbortKind) (id : ProcId) → Spares s (λ p. is_dropped i t n what p) id → AllOwnUnits s a.units → is_queued a.units id ≡ true → is_queued (Steps.abort_step s a i t n what).units id ≡ true
 aborted s a i t n aborts.All id spares own e = kept_all s (λ p. p.initiator == i && is_of_unit p t n) a.units id spares own e
 aborted s a i t n (aborts.Tag tag) id spares own e = kept_all s (λ p. p.initiator == i && is_of_unit p t n && has_tag p.tag tag) a.units id spares own e
@@ -198,7 +133,7 @@ aborted s a i t n aborts.WholeQueue id spares own e =
     ap (λ (us : List UnitState). is_queued us id) (cleared_same i (Steps.unit_processes (unit_state_at a.units t n)) (Steps.without_dropped a (λ p. is_of_unit p t n)))
     ∙ kept_all s (λ p. is_of_unit p t n) a.units id spares own e
 aborted s a i t n aborts.Device id spares own e =
-    ap (λ (us : List UnitState). is_queued us id) (all_reset_same s.hosts a.units (λ u. u.target == t) (record (Steps.without_dropped a (λ p. p.target == t)) { senses = Steps.kept_senses (λ r. r.target == t) a.senses; holds = Steps.kept_nexuses (λ r. r.target == t) a.holds }))
+    ap (λ (us : List UnitState). is_queued us id) (attended_same s.hosts a.units (λ u. u.target == t) (record (Steps.without_dropped a (λ p. p.target == t)) { senses = Steps.kept_senses (λ r. r.target == t) a.senses; holds = Steps.kept_nexuses (λ r. r.target == t) a.holds }))
     ∙ kept_all s (λ p. p.target == t) a.units id spares own e
 
 event_stays : (s : ScenarioValue) (a : Array) (event : Event) (id : ProcId) → AllOwnUnits s a.units → IsNotEnded s event id → is_queued a.units id ≡ true → IfQueued id (Steps.event_step s a event)
@@ -220,25 +155,9 @@ step_stays s a event id own h e = go (Steps.event_step s a event) (event_stays s
 
 -- ---- what is open after an event was not ended by it
 
-over_grows : (drops stops : CmdDef → Bool) (e : Ending) (n : ℕ) (commands : List CmdDef) (b : Story) (item : Item) → has_item b.sent.over item ≡ true → has_item (story_with_ends drops stops e n commands b).sent.over item ≡ true
-over_grows drops stops e n [] b item h = h
-over_grows drops stops e n (c ∷ commands) b item h =
-    over_grows drops stops e (n + 1) commands
-    (if is_open b.sent n && drops c then story_with_end b (record { command = n; sense = false }) e
-    else if stops c && list_any (λ k. k == n) b.sent.checks then story_with_over b (sense_item n)
-    else b) item (go (is_open b.sent n && drops c) (stops c && list_any (λ k. k == n) b.sent.checks))
-  where
-    go : (q r : Bool) → has_item (if q then story_with_end b (record { command = n; sense = false }) e else if r then story_with_over b (sense_item n) else b).sent.over item ≡ true
-    go true r = more_has (command_item n) item b.sent.over h
-    go false true = more_has (sense_item n) item b.sent.over h
-    go false false = h
-
-pub no_command : {A : Type 0} (c : CmdDef) → (let a : Option CmdDef = None in a) ≡ Some c → A
-no_command c e = absurd cc
-
 pub ends_close : (drops stops : CmdDef → Bool) (e : Ending) (j k : ℕ) (commands : List CmdDef) (b : Story) (c : CmdDef) → command_at commands (suc k) ≡ Some c → drops c ≡ true → has_item b.sent.sent (command_item (suc (j + k))) ≡ true
     → has_item (story_with_ends drops stops e (suc j) commands b).sent.over (command_item (suc (j + k))) ≡ true
-ends_close drops stops e j k [] b c at d sent = no_command c at
+ends_close drops stops e j k [] b c at d sent = none_some c at
 ends_close drops stops e j zero (x ∷ commands) b c at d sent =
     let same : suc (j + 0) ≡ suc j = omega arith in
     let there : has_item b.sent.sent (command_item (suc j)) ≡ true = ap (λ (m : ℕ). has_item b.sent.sent (command_item m)) (sym same) ∙ sent in
@@ -247,7 +166,7 @@ ends_close drops stops e j zero (x ∷ commands) b c at d sent =
     else if stops x && list_any (λ m. m == suc j) b.sent.checks then story_with_over b (sense_item (suc j))
     else b in
     ap (λ (m : ℕ). has_item (story_with_ends drops stops e (suc j) (x ∷ commands) b).sent.over (command_item m)) same
-    ∙ over_grows drops stops e (suc j + 1) commands next (command_item (suc j)) (by there (ap drops (same_Some x c at) ∙ d) (has_item b.sent.over (command_item (suc j))) refl)
+    ∙ ends_over drops stops e (suc j + 1) commands next (command_item (suc j)) (by there (ap drops (same_Some x c at) ∙ d) (has_item b.sent.over (command_item (suc j))) refl)
   where
     after : Bool → Story
     after q =

@@ -17,10 +17,9 @@ use Rattle.bus_due.specs.Wants.{current_of, ready_among, ready_at, since_of}
 use Rattle.bus_books.proofs.Lookups.{id_is}
 use Rattle.progress_laws.proofs.Choices.{some_chosen}
 use Rattle.trace_laws.specs.Places.{is_in_queue, is_queued}
-use Rattle.std.proofs.lemmas.Bool.{eqb-true, and_right}
+use Rattle.trace_laws.proofs.Impossible.{some_none, none_some}
+use Rattle.std.proofs.lemmas.Bool.{eqb-true, and_right, or_parts}
 use Rattle.bus_base.proofs.Tests.{wrong, and_first, and_second, eq_self}
-
--- ---- a process waits at this unit, or is the current one
 
 -- ---- the unit
 
@@ -34,9 +33,6 @@ pub record HasQueue (s : ScenarioValue) (units : List UnitState) (id : ProcId) :
   pub own : IsOwnUnit s unit
   pub here : is_in_queue unit id ≡ true
 
-pub no_unit : {A : Type 0} (u : UnitState) → (let a : Option UnitState = None in a) ≡ Some u → A
-no_unit u e = absurd cc
-
 found : (s : ScenarioValue) (units : List UnitState) (id : ProcId) → AreApart units → AllOwnUnits s units → is_queued units id ≡ true → HasQueue s units id
 found s [] id apart own e = wrong (sym e)
 found s (v ∷ units) id apart own e = go (is_in_queue v id) refl (λ z. found s units id apart.1 own.1 z) e
@@ -48,7 +44,7 @@ found s (v ∷ units) id apart own e = go (is_in_queue v id) refl (λ z. found s
         at_address true z =
             let t = eqb-true v.target w.unit.target (and_first (v.target == w.unit.target) (v.unit == w.unit.unit) z) in
             let n = eqb-true v.unit w.unit.unit (and_second (v.target == w.unit.target) (v.unit == w.unit.unit) z) in
-            no_unit w.unit (sym apart.0 ∙ (λ i. unit_state_at units (t i) (n i)) ∙ w.at)
+            none_some w.unit (sym apart.0 ∙ (λ i. unit_state_at units (t i) (n i)) ∙ w.at)
         at_address false z = record { unit = w.unit; at = ap (λ (q : Bool). if q then Some v else unit_state_at units w.unit.target w.unit.unit) z ∙ w.at; own = w.own; here = w.here }
 
     go : (q : Bool) → is_in_queue v id ≡ q → (is_queued units id ≡ true → HasQueue s units id) → (q || is_queued units id) ≡ true → HasQueue s (v ∷ units) id
@@ -99,14 +95,10 @@ pub record HasCurrent (u : UnitState) : Type 0 where
   pub running_is : u.current ≡ Some running
 
 -- No one stands in the hold of a unit that is not held.
-or_no : (x y : Bool) → (x || y) ≡ false → (x ≡ false) × (y ≡ false)
-or_no true y e = wrong e
-or_no false y e = (refl, e)
-
 none_in : (holds : List Nexus) (t n i : ℕ) → is_held holds t n ≡ false → in_hold holds (nexus_at t n i) ≡ false
 none_in [] t n i e = refl
 none_in (q ∷ holds) t n i e =
-    let w = or_no (is_at_unit q t n) (is_held holds t n) e in
+    let w = or_parts (is_at_unit q t n) (is_held holds t n) e in
     (λ j. and_right (q.initiator == i) (is_at_unit q t n) w.0 j || none_in holds t n i w.1 j)
 
 any_none : (f : ℕ → Bool) (m : ℕ) → ((i : ℕ) → f i ≡ false) → is_any_below f m ≡ false
@@ -123,9 +115,6 @@ settled_unit s a u sound at free =
     same_Some (unit_with_choice false u) u
     (sym (λ i. unit_mapped (unit_with_choice (held i)) (at i)) ∙ ap (λ seat. seat.unit) (sound.settled u.target u.unit) ∙ at)
 
-none_some : {A : Type 0} (r : RunningProcess) → (let a : Option RunningProcess = Some r in a) ≡ None → A
-none_some r e = absurd cc
-
 pub current_there : (s : ScenarioValue) (a : Array) (u : UnitState) (id : ProcId) → IsSound s a → unit_state_at a.units u.target u.unit ≡ Some u → is_in_queue u id ≡ true → is_held a.holds u.target u.unit ≡ false → HasCurrent u
 current_there s a u id sound at here free = go u.current refl
   where
@@ -135,7 +124,7 @@ current_there s a u id sound at here free = go u.current refl
         let c = some_chosen u.pick p waiting in
         let is : choice u.pick u.waiting ≡ Some c.process = ap (choice u.pick) w ∙ c.is in
         let same = sym (λ i. (if has_no_current (idle i) && true then with_current u (is i) else u).current) ∙ ap (λ (v : UnitState). v.current) (settled_unit s a u sound at free) ∙ idle in
-        none_some (record { process = c.process; reply = None }) same
+        some_none (record { process = c.process; reply = None }) same
 
     go : (o : Option RunningProcess) → u.current ≡ o → HasCurrent u
     go (Some r) e = record { running = r; running_is = e }
@@ -143,17 +132,14 @@ current_there s a u id sound at here free = go u.current refl
 
 -- ---- such a unit is ready, and its target wants to reselect
 
-ready_none : {A : Type 0} (r : Ready) → (let a : Option Ready = Some r in a) ≡ None → A
-ready_none r e = absurd cc
-
 both_none : (a b : Option Ready) → first_ready a b ≡ None → (a ≡ None) × (b ≡ None)
 both_none None b e = (refl, e)
-both_none (Some x) None e = ready_none x e
+both_none (Some x) None e = some_none x e
 both_none (Some x) (Some y) e = go (is_ready_before y x) e
   where
     go : (q : Bool) → (if q then Some y else Some x) ≡ None → ((let a : Option Ready = Some x in a) ≡ None) × ((let a : Option Ready = Some y in a) ≡ None)
-    go true z = ready_none y z
-    go false z = ready_none x z
+    go true z = some_none y z
+    go false z = some_none x z
 
 abbrev none_of : (ℕ → Option Ready) → Option Ready
 none_of f = ready_by (f 0 ∷ f 1 ∷ f 2 ∷ f 3 ∷ f 4 ∷ f 5 ∷ f 6 ∷ f 7 ∷ [])
@@ -185,5 +171,5 @@ each_none f n lt e =
 pub not_ready : (a : Array) (times : List ℕ) (seek : ℕ) (u : UnitState) → u.unit < 8 → unit_state_at a.units u.target u.unit ≡ Some u → is_held a.holds u.target u.unit ≡ false → HasCurrent u → ready_among a times seek u.target ≡ None → ⊥
 not_ready a times seek u lt at free c e =
     let none = each_none (ready_at a times seek u.target) u.unit lt e in
-    ready_none (record { time = since_of a.units times u.target u.unit + seek; process = c.running.process })
+    some_none (record { time = since_of a.units times u.target u.unit + seek; process = c.running.process })
     (sym (λ i. ready_in (free i) ((ap current_of at ∙ c.running_is) i) (since_of a.units times u.target u.unit + seek)) ∙ none)

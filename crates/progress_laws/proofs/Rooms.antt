@@ -22,6 +22,7 @@ use Rattle.scsi_device.proofs.LineReads.{host_by, unit_by}
 use Rattle.bus_laws.specs.Stages.{HasDevice}
 use Rattle.progress_laws.proofs.Connections.{host_there}
 use Rattle.bus_base.proofs.Tests.{wrong'}
+use Rattle.trace_laws.proofs.Ends.{host_found}
 
 abbrev pub HasOpen : HostDef → Type 0
 HasOpen h = 0 < h.most
@@ -90,14 +91,6 @@ limit_of (h ∷ hosts) dev a e = go (h.dev == dev) (λ z. limit_of hosts dev a.1
 
 pub some_open : (s : ScenarioValue) (dev : ℕ) → Obeys s → is_host s.hosts dev ≡ true → 0 < open_limit_of s.hosts dev
 some_open s dev o e = limit_of s.hosts dev (have_open s o) e
-
-pub found_host : (hosts : List HostDef) (dev : ℕ) → is_host hosts dev ≡ true → is_some (find (λ (h : HostDef). h.dev == dev) hosts) ≡ true
-found_host [] dev e = wrong' e
-found_host (h ∷ hosts) dev e = go (h.dev == dev) (λ z. found_host hosts dev z) e
-  where
-    go : (q : Bool) → (is_host hosts dev ≡ true → is_some (find (λ (x : HostDef). x.dev == dev) hosts) ≡ true) → (q || is_host hosts dev) ≡ true → is_some (cond q (Some h) (find (λ (x : HostDef). x.dev == dev) hosts)) ≡ true
-    go true more z = refl
-    go false more z = more z
 
 -- ---- units are of targets
 
@@ -179,7 +172,7 @@ found_target (h ∷ hosts) dev e = go (h.dev == dev) (λ z. found_target hosts d
     go false more z = more z
 
 pub initiator_there : (s : ScenarioValue) (dev : ℕ) → is_host s.hosts dev ≡ true → HasDevice s dev
-initiator_there s dev e = host_there s dev (found_host s.hosts dev e)
+initiator_there s dev e = host_there s dev (host_found s.hosts dev e)
 
 pub target_there : (s : ScenarioValue) (dev : ℕ) → list_any (λ (t : TargetDef). t.dev == dev) s.targets ≡ true → HasDevice s dev
 target_there s dev e = go (find (λ (t : TargetDef). t.dev == dev) s.targets) refl (found_target s.targets dev e)

@@ -10,17 +10,15 @@ use Rattle.bus_base.specs.declared.ProcId.{ProcId}
 use Rattle.cdb_codec.specs.declared.sense.TheConstants.{ABORTED_COMMAND}
 use Rattle.cdb_codec.specs.declared.status.TheConstants.{GOOD, CHECK_CONDITION}
 use Rattle.cdb_codec.specs.Cdb.{command_of}
-use Rattle.scenario.specs.declared.value.HostDef.{HostDef}
 use Rattle.scenario.specs.declared.value.UnitDef.{UnitDef}
 use Rattle.scenario.specs.Value.{ScenarioValue}
 use Rattle.scenario.specs.Writing.{Obeys}
 use Rattle.disk_array.specs.ArrayHistory.{array_step}
 use Rattle.disk_array.specs.Execution.{Execution, Reply, check_condition, execution, is_request_sense, sense_of}
-use Rattle.disk_array.specs.Order.{choice}
 use Rattle.disk_array.specs.Processes.{Process, process_of}
 use Rattle.disk_array.specs.Steps as Steps
 use Rattle.disk_array.specs.Steps.{has_tag, is_of_unit}
-use Rattle.disk_array.specs.Units.{Array, Nexus, RunningProcess, UnitState, guest_at, has_no_current, is_held, nexus_of, nexuses_without, senses_without, starting_array, starting_units, unit_after_choice, unit_state_at, units_after_choice, with_current, with_unit}
+use Rattle.disk_array.specs.Units.{Array, Nexus, RunningProcess, UnitState, guest_at, is_held, nexus_of, nexuses_without, senses_without, starting_array, starting_units, unit_state_at, units_after_choice, with_unit}
 use Rattle.bus_trace.specs.declared.Row.{Row}
 use Rattle.bus_story.specs.BusState.{row_reading}
 use Rattle.bus_story.specs.HistoryEvents.{row_events_by}
@@ -32,8 +30,7 @@ use Rattle.progress_laws.proofs.Rooms.{IsOfTarget, are_of_targets, target_there}
 use Rattle.std.proofs.lemmas.Bool.{eqb-true}
 use Rattle.bus_base.proofs.Tests.{and_first}
 use Rattle.disk_array.proofs.SeatSteps.{choice_target}
-use Rattle.progress_laws.proofs.QueueSteps.{cleared_same, all_reset_same}
-use Rattle.trace_laws.proofs.UnitsKept.{hosts_same}
+use Rattle.trace_laws.proofs.UnitsKept.{cleared_same, attended_same}
 
 abbrev pub targets : List UnitState → List ℕ
 targets [] = []
@@ -149,7 +146,7 @@ aborted s a i t n (aborts.Tag tag) = kept_same (λ p. p.initiator == i && is_of_
 aborted s a i t n aborts.WholeQueue =
     ap targets (cleared_same i (Steps.unit_processes (unit_state_at a.units t n)) (Steps.without_dropped a (λ p. is_of_unit p t n))) ∙ kept_same (λ p. is_of_unit p t n) a.units
 aborted s a i t n aborts.Device =
-    ap targets (all_reset_same s.hosts a.units (λ u. u.target == t) (record (Steps.without_dropped a (λ p. p.target == t)) { senses = Steps.kept_senses (λ r. r.target == t) a.senses; holds = Steps.kept_nexuses (λ r. r.target == t) a.holds }))
+    ap targets (attended_same s.hosts a.units (λ u. u.target == t) (record (Steps.without_dropped a (λ p. p.target == t)) { senses = Steps.kept_senses (λ r. r.target == t) a.senses; holds = Steps.kept_nexuses (λ r. r.target == t) a.holds }))
     ∙ kept_same (λ p. p.target == t) a.units
 
 event_same : (s : ScenarioValue) (a : Array) (event : Event) → IfSame (targets a.units) (Steps.event_step s a event)
@@ -161,7 +158,7 @@ event_same s a (events.End id status) = ended a status (Steps.running_process a 
 event_same s a (events.Lost id) = if_none (targets a.units) (Steps.has_ended a id) _ (left_same a.units id)
 event_same s a (events.Aborted i t n what) = aborted s a i t n what
 event_same s a (events.Reset dev) =
-    ap targets (all_reset_same s.hosts a.units (λ u. true) (record (Steps.without_dropped a (λ p. true)) { senses = []; holds = [] })) ∙ kept_same (λ p. true) a.units
+    ap targets (attended_same s.hosts a.units (λ u. true) (record (Steps.without_dropped a (λ p. true)) { senses = []; holds = [] })) ∙ kept_same (λ p. true) a.units
 
 step_same : (s : ScenarioValue) (a : Array) (event : Event) → IfSame (targets a.units) (Steps.step s event a)
 step_same s a event = go (Steps.event_step s a event) (event_same s a event)

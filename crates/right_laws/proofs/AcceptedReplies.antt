@@ -8,7 +8,7 @@ use Rattle.scenario.specs.Value.{ScenarioValue}
 use Rattle.disk_array.specs.Execution.{CommandContext, execution, is_request_sense}
 use Rattle.disk_array.specs.Order.{choice}
 use Rattle.disk_array.specs.Processes.{Process, process_of}
-use Rattle.disk_array.specs.Seats.{Seat, context_of, contents_of, seat_after_accept, seat_after_accept_at, seat_if, seat_of, seat_with_guest, seat_with_waiting, settled_seat, settled_seat_if, unit_mapped, unit_with_choice, is_any_held}
+use Rattle.disk_array.specs.Seats.{Seat, context_of, contents_of, seat_after_accept, seat_after_accept_at, seat_if, seat_of, seat_with_guest, seat_with_waiting, settled_seat, settled_seat_if, unit_with_choice}
 use Rattle.disk_array.specs.SoundArray.{HasSeats, IsSound}
 use Rattle.disk_array.specs.Steps.{process_count, step}
 use Rattle.disk_array.specs.Units.{Array, UnitState, has_no_current, with_current}
@@ -16,6 +16,7 @@ use Rattle.disk_array.proofs.SeatLaws.{accept_law}
 use Rattle.bus_due.specs.Tasks.{reply_now}
 use Rattle.trace_laws.proofs.Impossible.{none_some, some_none}
 use Rattle.trace_laws.proofs.RunFits.{context_same}
+use Rattle.right_laws.proofs.SameReplies.{settled_context}
 
 -- ---- the unit
 
@@ -30,23 +31,7 @@ chosen_contents held u = go (has_no_current u.current && not held)
     go true = by (choice u.pick u.waiting)
     go false = refl
 
-mapped_present : (held : Bool) (o : Option UnitState) → is_some (unit_mapped (unit_with_choice held) o) ≡ is_some o
-mapped_present held None = refl
-mapped_present held (Some u) = refl
-
-mapped_contents : (held : Bool) (o : Option UnitState) → contents_of (unit_mapped (unit_with_choice held) o) ≡ contents_of o
-mapped_contents held None = refl
-mapped_contents held (Some u) = chosen_contents held u
-
 -- ---- the seat
-
-settled_context : (seat : Seat) (initiator : ℕ) → context_of (settled_seat seat) initiator ≡ context_of seat initiator
-settled_context seat initiator = λ i. record {
-  present = mapped_present (is_any_held seat.hold) seat.unit i;
-  contents = mapped_contents (is_any_held seat.hold) seat.unit i;
-  stored = seat.senses initiator;
-  attention = seat.attentions initiator;
-}
 
 arrived_context : (seat : Seat) (p : Process) (initiator : ℕ) (after : Seat) → seat_after_accept p seat ≡ Some after → context_of after initiator ≡ context_of seat initiator
 arrived_context seat p initiator after e = go seat.unit refl e

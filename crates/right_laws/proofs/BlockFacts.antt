@@ -36,12 +36,13 @@ use Rattle.right_laws.specs.Loads.{Load, load, UndoesLoads, UndoLoadFacts}
 use Rattle.right_laws.specs.Open.{OnEvents, IfOpen, OnOpen, HasBlock, BlockFacts}
 use Rattle.right_laws.proofs.Lasting.{IsLasting, row_lasts}
 use Rattle.right_laws.proofs.OpenProcesses.{IfAccepts, each_both, each_map, open_events, open_start}
-use Rattle.right_laws.proofs.RowCrossings.{GoesSo, crossing_goes, here_goes, known_served, new_here, no_item}
+use Rattle.right_laws.proofs.RowCrossings.{GoesSo, crossing_goes, here_goes, known_served, new_here}
 use Rattle.right_laws.proofs.ShownRows.{IsArrival, ShownAs, row_shown}
 use Rattle.right_laws.proofs.UndoneLoadFacts.{load_asks}
 use Rattle.right_laws.proofs.UndoneLoads.{lasting_load}
 use Rattle.bus_base.proofs.Tests.{wrong, wrong'}
 use Rattle.trace_laws.proofs.PhaseLines.{command_phase}
+use Rattle.trace_laws.proofs.Impossible.{none_some}
 
 abbrev is_process : Option Item → Bool
 is_process (Some (process id)) = true
@@ -195,7 +196,7 @@ blocks_stay s p row was next undo places before = go (d.crosses && is_command d.
                 (λ r v none. stays r.process.id (λ l y item x. absurd (f r.process.id (sym (known r.process.id l y item) ∙ z))) (v none)) before
 
             served : (o : Option Item) → k.served ≡ o → OnOpen (HasBlock s j) places.array
-            served None z = none_served None z (λ id x. no_item (process id) (sym x))
+            served None z = none_served None z (λ id x. none_some (process id) (sym x))
             served (Some (abort n)) z = none_served (Some (abort n)) z (λ id x. true≢false (ap is_process x))
             served (Some (process x)) z =
                 let new = new_here s k row w.connection w.change x places g z command in

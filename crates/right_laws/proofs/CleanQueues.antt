@@ -1,12 +1,10 @@
 -- A process that waits in a unit has carried no data, and no REQUEST SENSE stands in a queue (6.1.5.1, 7.5, 7.8).
-use Rattle.std.proofs.Common.{ℕ, ◌≡◌, ◌⊎◌, inl, inr, Bool, true, false, not, ◌&&◌, ◌==◌, ◌∙◌, List, [], ◌∷◌, ◌++◌, Option, Some, None, refl, sym, ap, subst}
+use Rattle.std.proofs.Common.{ℕ, ◌≡◌, ◌⊎◌, inl, inr, Bool, true, false, not, ◌&&◌, ◌==◌, ◌∙◌, List, [], ◌∷◌, Option, Some, None, refl, sym, ap, subst}
 use Rattle.std.specs.Prelude.{if◌then◌else◌, is_some}
 use Rattle.std.proofs.lemmas.Option.{same_Some}
 use Rattle.bus_base.specs.declared.Event.{Event}
-use Rattle.bus_base.specs.declared.Event.TheVariants as events
 use Rattle.bus_base.specs.declared.ProcId.{ProcId}
 use Rattle.cdb_codec.specs.Cdb.{command_of}
-use Rattle.bus_trace.specs.LineSet.{LineSet}
 use Rattle.bus_trace.specs.Phases.{is_data}
 use Rattle.bus_trace.specs.declared.Row.{Row}
 use Rattle.bus_trace.specs.declared.changes.Change.{Change}
@@ -25,27 +23,27 @@ use Rattle.bus_story.specs.HistoryEvents.{carried_if, row_events_by}
 use Rattle.bus_story.specs.Items.{Item, process, abort}
 use Rattle.bus_story.specs.Links.{Link}
 use Rattle.bus_due.specs.LastingState.{ProcessProgress}
-use Rattle.bus_due.specs.RunState.{RunState, array_of, bus_of, carried_here, or_start}
-use Rattle.bus_due.specs.RunSteps.{run_state, run_state_after, array_after_events}
-use Rattle.bus_books.specs.Traces.{GoesOn}
+use Rattle.bus_due.specs.RunState.{RunState, array_of, bus_of, carried_here}
+use Rattle.bus_due.specs.RunSteps.{run_state, array_after_events}
 use Rattle.bus_books.proofs.CarriedRows.{process_id}
 use Rattle.bus_books.proofs.Lookups.{carried_id, id_is, self_id}
 use Rattle.bus_dialogue.specs.declared.exchange.Phase.{Phase}
 use Rattle.bus_dialogue.specs.declared.exchange.Phase.TheVariants as phases
 use Rattle.bus_dialogue.specs.NextPhase.{phase_of}
 use Rattle.trace_laws.specs.ItemFacts.{AllP, RunsP, UnitsP}
-use Rattle.trace_laws.specs.Places.{Runs, OnGuests, IsAway, MayRun, RunsOpen, PlacedIn}
+use Rattle.trace_laws.specs.Places.{Runs, MayRun, RunsOpen, PlacedIn}
 use Rattle.trace_laws.specs.WriteFacts.{AllUnits, IsEmptyUnit, IsOther, IsWrittenUnit}
 use Rattle.trace_laws.proofs.ArrivalRows.{ArrivesNow, arrives_first}
 use Rattle.trace_laws.proofs.QueuedProcesses as Queued
 use Rattle.trace_laws.proofs.QueuedProcesses.{step_units}
 use Rattle.trace_laws.proofs.UnitsKept.{MayWait, StaysSo, each_settled, events_all}
 use Rattle.trace_laws.proofs.WriterUnits.{HoldsIt, IsElsewhere, Stands, append_all, empty_stays, kept_all, map_all, map_units, none_at, stands_each, start_empty, without_all}
+use Rattle.trace_laws.proofs.Impossible.{none_some}
+use Rattle.trace_laws.proofs.AttendedAsked.{away_guest}
 use Rattle.right_laws.specs.Given.{NoneAtArrival}
 use Rattle.right_laws.proofs.GivenBytes.{moved_stays, no_data_in_command}
-use Rattle.right_laws.proofs.OpenProcesses.{no_array}
 use Rattle.right_laws.proofs.RanFacts.{Known, here_is, steps_of, then_is}
-use Rattle.right_laws.proofs.RowCrossings.{GoesSo, InBytes, IsPlaced, byte_phase, crossing_goes, in_command, in_data, in_status, known_served, no_item, placed_here}
+use Rattle.right_laws.proofs.RowCrossings.{GoesSo, InBytes, IsPlaced, byte_phase, crossing_goes, in_command, in_data, in_status, known_served, placed_here}
 use Rattle.bus_base.proofs.Tests.{wrong, wrong', eq_self}
 use Rattle.bus_base.proofs.Tests.{wrong, wrong'}
 
@@ -115,7 +113,7 @@ senseless_events s a b [] h e = subst (λ (x : Array). UnitsP IsNoSense x.units)
 senseless_events s a b (event ∷ shown) h e = go (array_after_events s (Some a) shown) refl e (λ c z. senseless_events s a c shown h z)
   where
     go : (o : Option Array) → array_after_events s (Some a) shown ≡ o → array_step s event o ≡ Some b → ((c : Array) → array_after_events s (Some a) shown ≡ Some c → UnitsP IsNoSense c.units) → UnitsP IsNoSense b.units
-    go None z w rest = no_array b w
+    go None z w rest = none_some b w
     go (Some c) z w rest =
         Queued.map_units (λ p. IsNoSense p × (Queued.stays_queued event p ≡ true)) IsNoSense (λ p k. k.0) b.units (step_units s IsNoSense c b event (λ id p f is none. none) (rest c z) w)
 
@@ -174,13 +172,6 @@ held_not made all u x holds w =
     subst (λ (y : Process). AllP (λ p. same_id p.id y.id ≡ false) u.waiting) holds.process_is
     (subst (λ (o : Option RunningProcess). Runs (λ r. AllP (IsOther r) u.waiting) o) holds.current_is w.apart)
 
-away_none : (guests : List RunningProcess) (id : ProcId) (g : RunningProcess) → OnGuests (IsAway id) guests → guest_at guests id ≡ Some g → ⊥
-away_none [] id g h e = none_there g e
-  where
-    none_there : (g : RunningProcess) → (let o : Option RunningProcess = None in o) ≡ Some g → ⊥
-    none_there g e = absurd cc
-away_none (x ∷ guests) id g h e = away_none guests id g h.1 ((λ i. if sym h.0 i then Some x else guest_at guests id) ∙ e)
-
 pub not_waits : (s : ScenarioValue) (made : List ProcessProgress) (all : List Writer) (a : Array) (x : Process) → IsSound s a → process_of s x.id ≡ Some x → UnitsP IsNoSense a.units → AllUnits (IsWrittenUnit made all) a.units → MayRun a x → AllUnits (IsNotIn x.id) a.units
 not_waits s made all a x sound is plain written runs = go (guest_at a.guests x.id) refl runs.running_is
   where
@@ -210,7 +201,7 @@ not_waits s made all a x sound is plain written runs = go (guest_at a.guests x.i
         by : ((unit_state_at a.units x.target x.unit ≡ None) ⊎ (is_request_sense (command_of x.cdb) ≡ true)) ⊎ Rattle.trace_laws.specs.Places.IsAtRest a x.id → AllUnits (IsNotIn x.id) a.units
         by (inl (inl none)) = absent none
         by (inl (inr senses)) = sensing senses
-        by (inr rests) = absurd (away_none a.guests x.id g rests.guests e)
+        by (inr rests) = absurd (away_guest a.guests x.id g rests.guests e)
 
     go : (o : Option RunningProcess) → guest_at a.guests x.id ≡ o → (if is_some o then o else Steps.running_in a.units x.id) ≡ Some (Rattle.trace_laws.specs.Places.fresh x) → AllUnits (IsNotIn x.id) a.units
     go None e w = stands (stands_each s a.units x (Rattle.trace_laws.specs.Places.fresh x) sound.units sound.apart is w)
@@ -300,7 +291,7 @@ quiet_units s p row made all h plain written = go d.crosses refl (is_data d.chan
             same q l link item = ap (same_id q) (w.id_is ∙ id_same id q (sym served ∙ known q l link item)) ∙ self_id q
 
         by : (o : Option Item) → k.served ≡ o → AllUnits (AreQuiet s p row) a.units
-        by None e = none_of None (λ id z. no_item (process id) z) e
+        by None e = none_of None (λ id z. none_some (process id) z) e
         by (Some (abort n)) e = none_of (Some (abort n)) (abort_not n) e
         by (Some (process id)) e = of_process id e
 

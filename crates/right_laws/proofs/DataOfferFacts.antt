@@ -47,17 +47,17 @@ use Rattle.bus_books.specs.Rows.{RowKind, still, strikes, crosses, turns, IsRowI
 use Rattle.bus_books.specs.Traces.{Begins}
 use Rattle.bus_books.proofs.InConnection.{InConnection, in_connection, reading_is}
 use Rattle.std.specs.Int.RustNames.{count_ones}
-use Rattle.bus_reactions.specs.Target.{byte_bits}
 use Rattle.link_laws.specs.LinkStages.{LinkStage, when_selected, when_settling, when_turning, when_offering, when_shaking, when_pulsing}
 use Rattle.trace_laws.proofs.ConnectionRows.{GoingRow, connection_row, going_row, stage_of_connection, RowKindOf, begins_now, goes_now, row_kind}
 use Rattle.trace_laws.proofs.ItemFacts.{beginning}
 use Rattle.trace_laws.proofs.Joint.{Stood, NextStood}
 use Rattle.trace_laws.proofs.TellRows.{no_events}
-use Rattle.right_laws.proofs.DataOffers.{is_data_in, data_at, IsDataOffered, DataRow, IsDataByte, elsewhere, offered_next, data_crosses, none_some}
+use Rattle.right_laws.proofs.DataOffers.{is_data_in, data_at, IsDataOffered, DataRow, IsDataByte, elsewhere, offered_next, data_crosses}
 use Rattle.right_laws.proofs.DataOfferRows.{bytes_kept, kept_row}
 use Rattle.bus_base.proofs.Tests.{wrong, wrong'}
 use Rattle.link_laws.proofs.Moves.{same_self}
 use Rattle.trace_laws.proofs.SentEntries.{is_in_next}
+use Rattle.trace_laws.proofs.Impossible.{none_some}
 
 abbrev pub DataOfferFacts : ScenarioValue → List Row → Type 0
 DataOfferFacts s p = (n : Connection) → connection p ≡ Some n → (bus p).rst ≡ false → IsDataOffered s p n

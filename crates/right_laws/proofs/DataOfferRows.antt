@@ -1,10 +1,9 @@
 -- In DATA IN what the target serves and gives stays, with each row of a prompt trace; so the byte that crosses is the one that is due (6.1.5.1,
 -- 6.1.5.2).
-use Rattle.std.proofs.Common.{ℕ, ◌≡◌, Bool, true, false, not, ◌&&◌, ◌%◌, ◌∙◌, List, [], ◌∷◌, Option, Some, None, refl, sym, ap, true≢false}
+use Rattle.std.proofs.Common.{ℕ, ◌≡◌, Bool, true, false, not, ◌&&◌, ◌%◌, ◌∙◌, List, [], ◌∷◌, Option, Some, None, refl, sym, ap}
 use Rattle.std.specs.Prelude.{if◌then◌else◌, is_some}
 use Rattle.bus_base.specs.declared.Event.{Event}
 use Rattle.bus_trace.specs.LineSet.{LineSet}
-use Rattle.bus_trace.specs.Changes.{rises}
 use Rattle.bus_trace.specs.Phases.{changes_phase, is_command, is_message_out, is_message_in}
 use Rattle.bus_trace.specs.Terms.{is_fault, receiver_in}
 use Rattle.bus_trace.specs.declared.Row.{Row}
@@ -19,7 +18,7 @@ use Rattle.disk_array.specs.Processes.{Process}
 use Rattle.disk_array.specs.Units.{Array}
 use Rattle.bus_story.specs.BusState.{row_reading}
 use Rattle.bus_story.specs.CarriedBytes.{CarriedBytes}
-use Rattle.bus_story.specs.HistoryEvents.{is_complete, is_completion, end_events, carried_if, row_events_by}
+use Rattle.bus_story.specs.HistoryEvents.{end_events, carried_if, row_events_by}
 use Rattle.bus_story.specs.Links.{Link}
 use Rattle.bus_dialogue.specs.declared.exchange.Task.{Task}
 use Rattle.bus_dialogue.specs.Arrivals.{policy_of}
@@ -34,8 +33,9 @@ use Rattle.bus_due.proofs.Plains.{run_state_plain}
 use Rattle.bus_books.specs.Rows.{IsRowIn}
 use Rattle.bus_books.proofs.InConnection.{InConnection, in_connection, dialogue_by, reading_is}
 use Rattle.trace_laws.proofs.PlaceStays.{stay_shown}
+use Rattle.trace_laws.proofs.TalkBytes.{no_completion}
 use Rattle.right_laws.proofs.DataOffers.{is_data_in, DataKept}
-use Rattle.bus_base.proofs.Tests.{wrong, wrong'}
+use Rattle.bus_base.proofs.Tests.{wrong'}
 
 -- ---- what a task tells of the bytes
 
@@ -75,13 +75,6 @@ not_message b e = go b.msg b.cd b.io e
     go true d i z = wrong' z
     go false true i z = wrong' z
     go false false i z = (refl, refl, refl)
-
-no_completion : (l : Link) (c : Change) → is_message_in c.before ≡ false → is_completion l c ≡ false
-no_completion l c e = (λ i. rises c.before.ack c.after.ack && e i && is_complete l.last && not c.after.atn) ∙ go (rises c.before.ack c.after.ack)
-  where
-    go : (q : Bool) → (q && false && is_complete l.last && not c.after.atn) ≡ false
-    go true = refl
-    go false = refl
 
 pub kept_row : (s : ScenarioValue) (p : List Row) (row : Row) (n : Connection) (c : Change) (l : Link) → AreOfDevices p → AreOfDevices (row ∷ p) → IsRowIn (run_state s p) row n c → changes_phase c ≡ false → is_data_in c.before ≡ true → (run_state s p).story.link ≡ Some l → DataKept s p (row ∷ p) n
 kept_row s p row n c l dv dv2 r ep here link = record {

@@ -4,7 +4,7 @@ use Rattle.std.specs.Int.RustNames.{count_ones}
 use Rattle.std.proofs.lemmas.Bool.{ltb-true}
 use Rattle.std.proofs.lemmas.Bool.Decides.{nat_tests}
 use Rattle.link_laws.specs.Pulses.{run_count}
-use Rattle.bus_trace.specs.LineSet.{LineSet, none}
+use Rattle.bus_trace.specs.LineSet.{LineSet}
 use Rattle.bus_trace.specs.declared.Row.{Row}
 use Rattle.bus_trace.specs.declared.connection.Connection.{Connection}
 use Rattle.bus_trace.specs.Changes.{rises}
@@ -46,10 +46,9 @@ use Rattle.trace_laws.proofs.Turns.{freed_connection}
 use Rattle.std.specs.Prelude.{nat_lt, if◌then◌else◌}
 use Rattle.std.specs.Int.RustNames.{bit_or}
 use Rattle.bus_base.proofs.Tests.{wrong, wrong'}
-use Rattle.trace_laws.proofs.StatusOffers.{left_req, falls_is, zero_is, side_is, unrisen}
-
-pub none_some : {A : Type 0} (n : Connection) → (let o : Option Connection = None in o) ≡ Some n → A
-none_some n e = absurd cc
+use Rattle.trace_laws.proofs.StatusOffers.{left_req, falls_is, zero_is, side_is, unrisen, zero_even}
+use Rattle.trace_laws.proofs.Impossible.{none_some}
+use Rattle.trace_laws.proofs.Tests.{not_first}
 
 -- ---- what is driven
 
@@ -228,10 +227,6 @@ opens s p t n ack atn x h = offered_by s _ n (ends false ack atn x true true fal
 pub elsewhere : (s : ScenarioValue) (q : List Row) (n : Connection) (f : EndLines) → (is_data_in (connected_bus f) ≡ true → ⊥) → OffersData s q n f
 elsewhere s q n f h = record { first = λ a z u some. absurd (h a); next = λ a z u pulsed more. absurd (h a) }
 
-unsame : (q r : Bool) → (not q && r) ≡ true → q ≡ false
-unsame true r e = wrong' e
-unsame false r e = refl
-
 no_data : (msg cd : Bool) → same_phases msg cd true false false true ≡ false → (not msg && not cd && true) ≡ false
 no_data true cd e = refl
 no_data false true e = refl
@@ -256,7 +251,7 @@ left_in s p t n atn msg cd x y v l (Some phases.Command) f h own m w k = elsewhe
 left_in s p t n atn msg cd x y v l (Some phases.MessageOut) f h own m w k = elsewhere s _ n f (λ a. wrong' (data_lines (lines_by v true l (Some phases.MessageOut)) f (side_is p t n (lines_by v true l (Some phases.MessageOut)) f k) a))
 left_in s p t n atn msg cd x y v l (Some phases.MessageIn) f h own m w k = elsewhere s _ n f (λ a. wrong' (data_lines (lines_by v true l (Some phases.MessageIn)) f (side_is p t n (lines_by v true l (Some phases.MessageIn)) f k) a))
 left_in s p t n atn msg cd x y v l (Some phases.DataIn) f h own m w k =
-    let before : is_data_in (bus p) ≡ false = ap is_data_in h.stands.bus_is ∙ no_data msg cd (unsame (same_phases msg cd true false false true) _ m) in
+    let before : is_data_in (bus p) ≡ false = ap is_data_in h.stands.bus_is ∙ no_data msg cd (not_first (same_phases msg cd true false false true) _ m) in
     record {
       first = λ a z u some.
           sym (ap (λ (b : LineSet). b.data_bits) (side_is p t n (lines_by v true l (Some phases.DataIn)) f k))
@@ -330,11 +325,6 @@ pub record IsDataByte (s : ScenarioValue) (p : List Row) (row : Row) (n : Connec
 
 initiator_crosses : {A : Type 0} (s : ScenarioValue) (p : List Row) (t : ℕ) (n : Connection) (e : EndLines) (bsy ack atn : Bool) (x : ℕ) → Linked p n e → Crossing p (initiator_row t n (ends bsy ack atn x e.msg e.cd e.io e.req e.given)) → A
 initiator_crosses s p t n e bsy ack atn x h w = unrisen p _ n e (ends bsy ack atn x e.msg e.cd e.io e.req e.given) h (initiator_moves p n e bsy ack atn x t h).linked w.rose (no_rise e.req)
-
--- No byte has odd parity.
-zero_even : (count_ones 0 % 2 == 1) ≡ false
-unfolding count_ones
-zero_even = refl
 
 some_byte : (y bits : ℕ) → bits ≡ y → (count_ones bits % 2 == 1) ≡ true → (y == 0) ≡ false
 some_byte y bits e odd = some (y == 0) refl

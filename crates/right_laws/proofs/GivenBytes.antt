@@ -1,6 +1,6 @@
 -- What a process has given of its data stays a front of what it would give, with each row; so as it runs it has carried the bytes of its
 -- reply (6.1.5, 6.6.20, 7.3).
-use Rattle.std.proofs.Common.{ℕ, ◌≡◌, ◌≤◌, ◌<◌, inl, inr, arith, Bool, true, false, not, ◌&&◌, ◌==◌, ◌%◌, ◌∙◌, List, [], ◌∷◌, ◌++◌, length, length-append, Option, Some, None, refl, sym, ap, subst, true≢false}
+use Rattle.std.proofs.Common.{ℕ, ◌≡◌, ◌≤◌, ◌<◌, inl, inr, arith, Bool, true, false, not, ◌&&◌, ◌==◌, ◌%◌, ◌∙◌, List, [], ◌∷◌, ◌++◌, length, Option, Some, None, refl, sym, ap, subst}
 use Rattle.std.specs.Prelude.{if◌then◌else◌, is_some, slice_index_or}
 use Rattle.std.proofs.lemmas.Option.{same_Some}
 use Rattle.bus_base.specs.declared.Event.{Event}
@@ -32,6 +32,7 @@ use Rattle.bus_books.specs.Carrying.{IsFilled}
 use Rattle.bus_books.proofs.Areas.{puts}
 use Rattle.bus_books.proofs.Lookups.{id_is, self_id}
 use Rattle.trace_laws.proofs.EachProcess.{running_id}
+use Rattle.trace_laws.proofs.Impossible.{none_some}
 use Rattle.right_laws.specs.Asked.{GivesAtRun}
 use Rattle.right_laws.specs.Given.{IsFront, GivenIn, HasGiven, GivenFacts, GivesNext, HasReplyStill, GivesAsked}
 use Rattle.right_laws.specs.Loads.{Load, load}
@@ -40,14 +41,11 @@ use Rattle.right_laws.proofs.BlockFacts.{lasting_by, front_all}
 use Rattle.right_laws.proofs.GivenReplies.{bad_empty, run_gives}
 use Rattle.right_laws.proofs.Lasting.{row_lasts}
 use Rattle.right_laws.proofs.MovedAreas.{moved_crosses}
-use Rattle.right_laws.proofs.OpenProcesses.{IfAccepts, each_both, each_map, open_events, open_start, running_has, no_array}
-use Rattle.right_laws.proofs.RanFacts.{Known, here_is, none_is, run_found, steps_of, then_is, undoes_of}
-use Rattle.right_laws.proofs.RowCrossings.{GoesSo, crossing_goes, no_item, no_link}
+use Rattle.right_laws.proofs.OpenProcesses.{IfAccepts, each_both, each_map, open_events, open_start, running_has, none_is}
+use Rattle.right_laws.proofs.RanFacts.{Known, here_is, run_found, steps_of, then_is, undoes_of}
+use Rattle.right_laws.proofs.RowCrossings.{GoesSo, crossing_goes}
 use Rattle.right_laws.proofs.ShownRows.{IsArrival, IsAnswer, ShownAs, row_shown, RunsAs, runs_alone, runs_arrived, row_runs}
 use Rattle.bus_base.proofs.Tests.{wrong, wrong'}
-
-no_reply : {A : Type 0} (r : Reply) → (let o : Option Reply = None in o) ≡ Some r → A
-no_reply r e = absurd cc
 
 -- ---- a byte comes to a front
 
@@ -141,7 +139,7 @@ given_stays s p row h asked id was q own = linked k.story.link refl
         by true ex true ey = crossed l e item ex ey (crossing_goes s k row h.next.row_is ex)
 
     known : (l : Link) → k.story.link ≡ Some l → (o : Option Item) → l.item ≡ o → As (carried_here j id).moved.bytes
-    known l e None z = still (λ m y w v. no_item (process id) (sym z ∙ ap (λ (x : Link). x.item) (same_Some l m (sym e ∙ y)) ∙ w))
+    known l e None z = still (λ m y w v. none_some (process id) (sym z ∙ ap (λ (x : Link). x.item) (same_Some l m (sym e ∙ y)) ∙ w))
     known l e (Some (abort n)) z = still (λ m y w v. absurd (abort_is n (sym z ∙ ap (λ (x : Link). x.item) (same_Some l m (sym e ∙ y)) ∙ w)))
       where
         abort_is : (n : ℕ) → (let o : Option Item = Some (abort n) in o) ≡ Some (process id) → ⊥
@@ -153,7 +151,7 @@ given_stays s p row h asked id was q own = linked k.story.link refl
         by false v = still (λ m y w c. wrong (sym (self_id id) ∙ ap (is_it id) (sym w ∙ ap (λ (t : Link). t.item) (same_Some m l (sym y ∙ e)) ∙ z) ∙ v))
 
     linked : (o : Option Link) → k.story.link ≡ o → As (carried_here j id).moved.bytes
-    linked None e = still (λ m y w v. no_link m (sym e ∙ y))
+    linked None e = still (λ m y w v. none_some m (sym e ∙ y))
     linked (Some l) e = known l e l.item refl
 
 -- ---- a row
@@ -311,6 +309,6 @@ gives_at_run s p row seats h asked facts q reply is not_both = by shape
         arrival = (subst (OnEvents (ShownAs s k d row)) e (row_shown s k row)).1.0
 
         go : (o : Option Array) → array_step s (events.Accept q.id) (Some a) ≡ o → array_step s (events.Run q.id) o ≡ Some b → bytes ≡ reply.bytes
-        go None z w = no_array b w
+        go None z w = none_some b w
         go (Some c) z w =
             all_given c q reply bytes (reply_is c q reply (reply_in b.replies q.id) given (run_gives s c b q (step_sound s a c (events.Accept q.id) seats h.places.sound z) is.process_is w)) (inl (arrives_with s p row h asked q.id arrival)) not_both whole

@@ -1,5 +1,5 @@
 -- A reply that is not GOOD gives no bytes; and as a process runs its reply is the one that it has then (7.3, 7.5).
-use Rattle.std.proofs.Common.{ℕ, ◌≡◌, Bool, true, false, not, ◌&&◌, ◌||◌, ◌==◌, ◌∙◌, List, [], ◌∷◌, Option, Some, None, refl, sym, ap, true≢false}
+use Rattle.std.proofs.Common.{ℕ, ◌≡◌, Bool, true, false, not, ◌&&◌, ◌||◌, ◌==◌, ◌∙◌, List, [], ◌∷◌, Option, Some, None, refl, sym, ap}
 use Rattle.std.specs.Prelude.{Result, Ok, Err, if◌then◌else◌, is_none, is_some}
 use Rattle.bus_base.specs.declared.Event.TheVariants as events
 use Rattle.cdb_codec.specs.Cdb.{command_of}
@@ -20,10 +20,11 @@ use Rattle.bus_due.specs.Tasks.{reply_now}
 use Rattle.bus_books.proofs.Lookups.{self_id}
 use Rattle.trace_laws.specs.Places.{OnGuests, OnUnits, Runs, Waits}
 use Rattle.trace_laws.proofs.EachProcess.{running_id}
-use Rattle.right_laws.proofs.OpenProcesses.{running_has, no_array}
+use Rattle.right_laws.proofs.OpenProcesses.{running_has}
 use Rattle.std.proofs.lemmas.Option.{same_Some}
-use Rattle.bus_base.proofs.Tests.{wrong, wrong'}
+use Rattle.bus_base.proofs.Tests.{wrong}
 use Rattle.trace_laws.proofs.ArrayBytes.{IsOf}
+use Rattle.trace_laws.proofs.Impossible.{none_some}
 
 -- ---- not GOOD
 
@@ -101,7 +102,7 @@ pub run_gives : (s : ScenarioValue) (a b : Array) (p : Process) → IsSound s a 
 run_gives s a b p sound own e = go (Steps.running_process a p.id) refl e
   where
     go : (o : Option RunningProcess) → Steps.running_process a p.id ≡ o → Steps.settled_array_if (Steps.run_step a (is_some (guest_at a.guests p.id)) o) ≡ Some b → reply_in b.replies p.id ≡ Some (reply_now a p)
-    go None z w = no_array b w
+    go None z w = none_some b w
     go (Some r) z w = by (is_none r.reply && (is_some (guest_at a.guests p.id) || not (is_held a.holds r.process.target r.process.unit))) w
       where
         done : Array
@@ -111,7 +112,7 @@ run_gives s a b p sound own e = go (Steps.running_process a p.id) refl e
         same = own_running s a p r sound own z
 
         by : (q : Bool) → Steps.settled_array_if (if q then Some done else None) ≡ Some b → reply_in b.replies p.id ≡ Some (reply_now a p)
-        by false x = no_array b x
+        by false x = none_some b x
         by true x =
             ap (λ (y : Array). reply_in y.replies p.id) (sym (same_Some (settled_array done) b x))
             ∙ ap (λ (q : Process). reply_in (Steps.after_execution_at a q (unit_state_at a.units q.target q.unit)).replies p.id) same

@@ -1,6 +1,6 @@
 -- What of a carried record neither pointers, marks nor faults change lasts with each row but where a byte crosses, or MESSAGE PARITY ERROR
 -- brings back another (6.4, 6.6.13, 6.6.19).
-use Rattle.std.proofs.Common.{ℕ, ◌≡◌, Bool, true, false, ◌%◌, ◌∙◌, List, [], ◌∷◌, ◌++◌, Option, Some, None, refl, sym, ap}
+use Rattle.std.proofs.Common.{◌≡◌, Bool, true, false, ◌%◌, ◌∙◌, List, [], ◌∷◌, Option, Some, None, refl, sym, ap}
 use Rattle.std.specs.Prelude.{if◌then◌else◌, is_some, is_none}
 use Rattle.bus_base.specs.declared.Event.{Event}
 use Rattle.bus_base.specs.declared.Event.TheVariants as events
@@ -11,14 +11,12 @@ use Rattle.bus_trace.specs.declared.Kind.{Kind}
 use Rattle.bus_trace.specs.declared.Kind.TheVariants.{Drives, Fault}
 use Rattle.bus_trace.specs.declared.changes.Change.{Change}
 use Rattle.bus_trace.specs.declared.connection.Connection.{Connection}
-use Rattle.bus_trace.specs.Phases.{is_command, is_data}
 use Rattle.msg_grammar.specs.declared.message.MsgIn.{MsgIn}
-use Rattle.msg_grammar.specs.declared.message.MsgIn.TheVariants as to_initiator
 use Rattle.msg_grammar.specs.declared.message.MsgOut.{MsgOut}
 use Rattle.scenario.specs.Value.{ScenarioValue}
 use Rattle.disk_array.specs.Processes.{same_id}
 use Rattle.bus_story.specs.BusState.{RowReading, row_reading}
-use Rattle.bus_story.specs.CarriedBytes.{CarriedBytes, carried_of, with_carried, with_restored_pointers, carried_after_message, carried_after_byte, carried_after_fault, is_status_phase, area_with}
+use Rattle.bus_story.specs.CarriedBytes.{CarriedBytes, carried_of, with_carried, with_restored_pointers, carried_after_message, carried_after_byte, carried_after_fault}
 use Rattle.bus_story.specs.HistoryEvents.{carried_if, row_events_by}
 use Rattle.bus_story.specs.Items.{Item, process, abort}
 use Rattle.bus_story.specs.Links.{Link, link_of, last_out, last_in, link_after_name}
@@ -27,8 +25,8 @@ use Rattle.bus_story.specs.TraceHistory.{aim_of, story_with_restored, story_with
 use Rattle.bus_due.specs.RunState.{RunState, carried_here}
 use Rattle.bus_due.specs.RunSteps.{run_state_after}
 use Rattle.bus_books.proofs.Lookups.{id_is, carried_id, put_there}
-use Rattle.cdb_codec.specs.declared.sense.TheConstants.{PARITY_ERROR, INITIATOR_DETECTED_ERROR}
 use Rattle.trace_laws.proofs.ShownReplies.{checked, all_ended, free_carries}
+use Rattle.trace_laws.proofs.PointerStorySteps.{message_id, byte_id, fault_id}
 
 -- Neither pointers, marks nor faults change it.
 pub record IsLasting {A : Type 0} (f : CarriedBytes → A) : Type 0 where
@@ -91,16 +89,6 @@ begun_lasts f h b n id = go n.reselected (aim_of b.aims n.initiator)
 
 -- ---- in a connection
 
-message_id : (c : CarriedBytes) (m : MsgIn) → (carried_after_message c m).id ≡ c.id
-message_id c to_initiator.SavePointer = refl
-message_id c to_initiator.RestorePointers = refl
-message_id c to_initiator.CommandComplete = refl
-message_id c to_initiator.Disconnect = refl
-message_id c to_initiator.Reject = refl
-message_id c (to_initiator.Identify lun) = refl
-message_id c (to_initiator.SimpleTag n) = refl
-message_id c (to_initiator.Sdtr a) = refl
-
 message_lasts : {A : Type 0} (f : CarriedBytes → A) → IsLasting f → (s : ScenarioValue) (b : Story) (l : Link) (m : MsgIn) (id : ProcId) → Lasts f id b.carried (story_after_message s b l m).carried
 message_lasts f h s b l m id = go l.item
   where
@@ -121,15 +109,6 @@ heard_lasts f h s b l m id = go (is_none l.item)
     go : (q : Bool) → Lasts f id b.carried (story_after_message s (if q then story_with_restored b after.item else b) next m).carried
     go true = message_lasts f h s (story_with_restored b after.item) next m id ∙ restored_lasts f h b after.item id
     go false = message_lasts f h s b next m id
-
-byte_id : (c : CarriedBytes) (l : LineSet) (byte : ℕ) → (carried_after_byte c l byte).id ≡ c.id
-byte_id c l byte = go (is_command l) (is_data l) (is_status_phase l)
-  where
-    go : (q r t : Bool) → (if q then record c { command = area_with c.command byte; block = c.block ++ byte ∷ [] } else if r then record c { moved = area_with c.moved byte } else if t then record c { status = area_with c.status byte } else c).id ≡ c.id
-    go true r t = refl
-    go false true t = refl
-    go false false true = refl
-    go false false false = refl
 
 -- A byte that crosses outside the message phases is carried by this process only as said.
 abbrev pub ByteLasts : {A : Type 0} → (CarriedBytes → A) → ProcId → Story → RowReading → Type 0
@@ -154,14 +133,6 @@ byte_lasts f b l d id e = go d.change.before.msg refl l.item refl
         ap (λ (x : ProcId). f (carried_after_byte (carried_of b.carried x) d.change.before (d.change.after.data_bits % 256))) z
         ∙ e (w ∙ ap (λ (x : ProcId). Some (process x)) z) m
         ∙ ap (λ (x : ProcId). f (carried_of b.carried x)) (sym z))
-
-fault_id : (c : CarriedBytes) (l : LineSet) → (carried_after_fault c l).id ≡ c.id
-fault_id c l = go (is_command l) (is_data l)
-  where
-    go : (q r : Bool) → (if q then record c { struck = true; failure = Some PARITY_ERROR } else if r then record c { failure = Some (if l.io then INITIATOR_DETECTED_ERROR else PARITY_ERROR) } else c).id ≡ c.id
-    go true r = refl
-    go false true = refl
-    go false false = refl
 
 fault_lasts : {A : Type 0} (f : CarriedBytes → A) → IsLasting f → (b : Story) (l : Link) (kind : Kind) (id : ProcId) → Lasts f id b.carried (story_after_fault b l kind).carried
 fault_lasts f h b l (Drives lines) id = refl

@@ -1,5 +1,5 @@
 -- As a byte of a data phase crosses it comes into the data that the process carries (6.1.5, 6.6.19).
-use Rattle.std.proofs.Common.{ℕ, ◌≡◌, true, false, not, ◌&&◌, ◌%◌, ◌∙◌, [], ◌∷◌, ◌++◌, Option, Some, None, ap}
+use Rattle.std.proofs.Common.{ℕ, ◌≡◌, true, false, ◌%◌, ◌∙◌, Option, Some, ap}
 use Rattle.std.specs.Prelude.{if◌then◌else◌, is_some}
 use Rattle.bus_base.specs.declared.ProcId.{ProcId}
 use Rattle.bus_trace.specs.Phases.{is_command, is_data}
@@ -7,10 +7,8 @@ use Rattle.bus_trace.specs.Terms.{receiver_in}
 use Rattle.bus_trace.specs.declared.Row.{Row}
 use Rattle.bus_trace.specs.declared.changes.Change.{Change}
 use Rattle.bus_trace.specs.declared.connection.Connection.{Connection}
-use Rattle.msg_grammar.specs.Messages.{got_in, got_out}
-use Rattle.bus_phases.specs.Dialogue.{fresh_bytes}
 use Rattle.scenario.specs.Value.{ScenarioValue}
-use Rattle.bus_story.specs.BusState.{RowReading, whole_out, whole_in, message_out, message_in}
+use Rattle.bus_story.specs.BusState.{RowReading}
 use Rattle.bus_story.specs.CarriedBytes.{Area, CarriedBytes, area_with, carried_of}
 use Rattle.bus_story.specs.HistoryEvents.{link_events}
 use Rattle.bus_story.specs.Items.{process}

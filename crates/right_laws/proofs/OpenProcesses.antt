@@ -1,34 +1,30 @@
 -- What holds of each process of the plain disk array that was not answered goes on with each event, where it holds of the process that
 -- arrives; and a reply that was given stays.
-use Rattle.std.proofs.Common.{◌≡◌, Bool, true, false, ◌||◌, ◌&&◌, ◌==◌, ◌∙◌, List, [], ◌∷◌, ◌++◌, Option, Some, None, refl, sym, ap, subst, true≢false}
-use Rattle.std.specs.Prelude.{if◌then◌else◌, is_some, nat_lt, ℕ}
+use Rattle.std.proofs.Common.{◌≡◌, Bool, true, false, ◌∙◌, List, [], ◌∷◌, Option, Some, None, refl, sym, ap, subst}
+use Rattle.std.specs.Prelude.{if◌then◌else◌, is_some}
 use Rattle.std.proofs.lemmas.Option.{same_Some}
+use Rattle.std.proofs.lemmas.Bool.{or_parts}
 use Rattle.bus_base.specs.declared.Event.{Event}
 use Rattle.bus_base.specs.declared.Event.TheVariants as events
 use Rattle.bus_base.specs.declared.ProcId.{ProcId}
-use Rattle.cdb_codec.specs.Cdb.{command_of}
-use Rattle.cdb_codec.specs.declared.status.TheConstants.{GOOD, CHECK_CONDITION}
 use Rattle.scenario.specs.Value.{ScenarioValue}
 use Rattle.disk_array.specs.ArrayHistory.{array_step, reply_in}
-use Rattle.disk_array.specs.Execution.{Reply, is_request_sense}
+use Rattle.disk_array.specs.Execution.{Reply}
 use Rattle.disk_array.specs.Processes.{Process, process_of, same_id}
 use Rattle.disk_array.specs.Steps as Steps
-use Rattle.disk_array.specs.Units.{RunningProcess, UnitState, Array, unit_state_at, with_unit, guest_at, starting_array, settled_array, senses_without, nexuses_without, nexus_of}
+use Rattle.disk_array.specs.Units.{RunningProcess, UnitState, Array, guest_at, starting_array, settled_array}
+use Rattle.disk_array.proofs.ArrayReplies.{loss_lists}
 use Rattle.bus_due.specs.RunSteps.{array_after_events}
 use Rattle.bus_books.proofs.CarriedRows.{process_id}
 use Rattle.bus_books.proofs.Lookups.{self_id}
 use Rattle.trace_laws.specs.Places.{fresh, Each, OnUnits, OnGuests, Waits, Runs, IsAway}
 use Rattle.trace_laws.proofs.EachProcess.{Admits, AdmitsEvent, each_after}
-use Rattle.trace_laws.proofs.ListedReplies.{replies_to, listed_on}
+use Rattle.trace_laws.proofs.ListedReplies.{replies_to, listed_on, accepted, end_lists}
 use Rattle.trace_laws.proofs.OtherProcesses.{same_after, untouched_at_start}
+use Rattle.trace_laws.proofs.Impossible.{none_some}
+use Rattle.trace_laws.proofs.KeptReplies.{no_array}
 use Rattle.right_laws.specs.Open.{OnEvents, IfOpen, OnOpen}
-use Rattle.bus_base.proofs.Tests.{wrong, wrong'}
-
-pub no_array : {A : Type 0} (a : Array) → (let o : Option Array = None in o) ≡ Some a → A
-no_array a e = absurd cc
-
-no_running : {A : Type 0} (r : RunningProcess) → (let o : Option RunningProcess = None in o) ≡ Some r → A
-no_running r e = absurd cc
+use Rattle.bus_base.proofs.Tests.{wrong}
 
 -- ---- of each process
 
@@ -57,7 +53,7 @@ each_map q r a f h = each_both q q r a (λ p x y. f p x) h h
 
 -- What holds of the process that is found.
 guest_has : (q : RunningProcess → Type 0) (guests : List RunningProcess) (id : ProcId) (r : RunningProcess) → OnGuests q guests → guest_at guests id ≡ Some r → q r
-guest_has q [] id r h e = no_running r e
+guest_has q [] id r h e = none_some r e
 guest_has q (g ∷ guests) id r h e = go (same_id g.process.id id) e (λ z. guest_has q guests id r h.1 z)
   where
     go : (x : Bool) → (if x then Some g else guest_at guests id) ≡ Some r → (guest_at guests id ≡ Some r → q r) → q r
@@ -65,7 +61,7 @@ guest_has q (g ∷ guests) id r h e = go (same_id g.process.id id) e (λ z. gues
     go false z rest = rest z
 
 current_has : (q : RunningProcess → Type 0) (units : List UnitState) (id : ProcId) (r : RunningProcess) → OnUnits q units → Steps.running_in units id ≡ Some r → q r
-current_has q [] id r h e = no_running r e
+current_has q [] id r h e = none_some r e
 current_has q (u ∷ units) id r h e = go u.current h.0.1 e (λ z. current_has q units id r h.1 z)
   where
     by : (c : RunningProcess) → q c → (x : Bool) → (if is_some {T = RunningProcess} (if x then Some c else None) then (if x then Some c else None) else Steps.running_in units id) ≡ Some r → (Steps.running_in units id ≡ Some r → q r) → q r
@@ -109,13 +105,9 @@ open_start s h = each_none (IfOpen h (settled_array (starting_array s))) (settle
 
 -- ---- an event
 
-none_is : (o : Option Reply) → is_some o ≡ false → o ≡ None
+pub none_is : (o : Option Reply) → is_some o ≡ false → o ≡ None
 none_is None e = refl
 none_is (Some x) e = wrong e
-
-both_none : (x y : Bool) → (x || y) ≡ false → (x ≡ false) × (y ≡ false)
-both_none true y e = wrong e
-both_none false y e = (refl, e)
 
 -- A process arrives with it.
 abbrev pub IfAccepts : (ProcId → Type 0) → Event → Type 0
@@ -158,72 +150,26 @@ open_step s h a b e f st all =
   where
     go : (r : RunningProcess) → IfLeft h a e r → reply_in b.replies r.process.id ≡ None → h r.process.id
     go r k none =
-        let two = both_none (replies_to e r.process.id) (is_some (reply_in a.replies r.process.id)) (sym (listed_on s a b e st r.process.id) ∙ ap is_some none) in
+        let two = or_parts (replies_to e r.process.id) (is_some (reply_in a.replies r.process.id)) (sym (listed_on s a b e st r.process.id) ∙ ap is_some none) in
         k (none_is (reply_in a.replies r.process.id) two.1) two.0
-
-no_step : {A : Type 0} (s : ScenarioValue) (e : Event) (b : Array) → array_step s e None ≡ Some b → A
-no_step s e b z = no_array b z
 
 pub open_events : (s : ScenarioValue) (h : ProcId → Type 0) (a b : Array) (shown : List Event) → OnEvents (IfAccepts h) shown → array_after_events s (Some a) shown ≡ Some b → OnOpen h a → OnOpen h b
 open_events s h a b [] f st all = subst (OnOpen h) (same_Some a b st) all
 open_events s h a b (e ∷ shown) f st all = go (array_after_events s (Some a) shown) refl st (λ c z. open_events s h a c shown f.1 z all)
   where
     go : (o : Option Array) → array_after_events s (Some a) shown ≡ o → array_step s e o ≡ Some b → ((c : Array) → array_after_events s (Some a) shown ≡ Some c → OnOpen h c) → OnOpen h b
-    go None z w rest = no_step s e b w
+    go None z w rest = no_array s e b w
     go (Some c) z w rest = open_step s h c b e f.0 w (rest c z)
 
 -- ---- a reply that was given
 
-accept_lists : (a c : Array) (o : Option Process) → Steps.accept_step a o ≡ Some c → c.replies ≡ a.replies
-accept_lists a c None e = no_array c e
-accept_lists a c (Some p) e = by (unit_state_at a.units p.target p.unit) e
-  where
-    took : (d : Array) → Some d ≡ Some c → d.replies ≡ a.replies → c.replies ≡ a.replies
-    took d z w = ap (λ (x : Array). x.replies) (sym (same_Some d c z)) ∙ w
-
-    queue : (u : UnitState) (y : Bool) → (if y then Some (record a { units = with_unit a.units (record u { waiting = u.waiting ++ p ∷ [] }) }) else None) ≡ Some c → c.replies ≡ a.replies
-    queue u false z = no_array c z
-    queue u true z = took (record a { units = with_unit a.units (record u { waiting = u.waiting ++ p ∷ [] }) }) z refl
-
-    either : (u : UnitState) (y : Bool) → (if y then Some (Steps.with_guest a p None) else Steps.queue_step a p u) ≡ Some c → c.replies ≡ a.replies
-    either u true z = took (Steps.with_guest a p None) z refl
-    either u false z = queue u (nat_lt (Steps.process_count u) u.depth) z
-
-    by : (o : Option UnitState) → Steps.accept_step_at a p o ≡ Some c → c.replies ≡ a.replies
-    by None z = took (Steps.with_guest a p None) z refl
-    by (Some u) z = either u (is_request_sense (command_of p.cdb)) z
-
-end_lists : (a c : Array) (status : ℕ) (o : Option RunningProcess) → Steps.end_step a status o ≡ Some c → c.replies ≡ a.replies
-end_lists a c status None e = no_array c e
-end_lists a c status (Some r) e = given r.reply e
-  where
-    kept : (reply : Reply) (y z : Bool) → (if y then record a { senses = (nexus_of r.process, reply.sense) ∷ senses_without a.senses (nexus_of r.process); holds = nexus_of r.process ∷ nexuses_without a.holds (nexus_of r.process) } else if z then record a { senses = senses_without a.senses (nexus_of r.process); holds = nexuses_without a.holds (nexus_of r.process) } else a).replies ≡ a.replies
-    kept reply true z = refl
-    kept reply false true = refl
-    kept reply false false = refl
-
-    ended : (reply : Reply) (y : Bool) → (if y then Some (Steps.array_without (Steps.after_status a r.process reply) r.process.id) else None) ≡ Some c → c.replies ≡ a.replies
-    ended reply false z = no_array c z
-    ended reply true z = ap (λ (x : Array). x.replies) (sym (same_Some (Steps.array_without (Steps.after_status a r.process reply) r.process.id) c z)) ∙ kept reply (reply.status == CHECK_CONDITION) (reply.status == GOOD && is_request_sense (command_of r.process.cdb))
-
-    given : (o : Option Reply) → Steps.end_step_with a r.process status o ≡ Some c → c.replies ≡ a.replies
-    given None z = no_array c z
-    given (Some reply) z = ended reply (reply.status == status) z
-
-loss_lists : (a c : Array) (id : ProcId) → Steps.loss_step a id ≡ Some c → c.replies ≡ a.replies
-loss_lists a c id e = go (Steps.has_ended a id) e
-  where
-    go : (y : Bool) → (if y then None else Some (Steps.array_without a id)) ≡ Some c → c.replies ≡ a.replies
-    go true z = no_array c z
-    go false z = ap (λ (x : Array). x.replies) (sym (same_Some (Steps.array_without a id) c z))
-
 -- The step of an event, before the choices that follow it.
 settles : (o : Option Array) (a b : Array) → ((c : Array) → o ≡ Some c → c.replies ≡ a.replies) → Steps.settled_array_if o ≡ Some b → b.replies ≡ a.replies
-settles None a b f e = no_array b e
+settles None a b f e = none_some b e
 settles (Some c) a b f e = ap (λ (x : Array). x.replies) (sym (same_Some (settled_array c) b e)) ∙ f c refl
 
 pub reply_kept : (s : ScenarioValue) (a b : Array) (e : Event) (id : ProcId) → replies_to e id ≡ false → Steps.step s e a ≡ Some b → reply_in b.replies id ≡ reply_in a.replies id
-reply_kept s a b (events.Accept p) id f st = ap (λ (x : List (ProcId × Reply)). reply_in x id) (settles (Steps.accept_step a (process_of s p)) a b (λ c z. accept_lists a c (process_of s p) z) st)
+reply_kept s a b (events.Accept p) id f st = ap (λ (x : List (ProcId × Reply)). reply_in x id) (settles (Steps.accept_step a (process_of s p)) a b (λ c z. accepted a c (process_of s p) z) st)
 reply_kept s a b (events.Refuse p) id f st = (same_after s a b (events.Refuse p) id f st).reply
 reply_kept s a b (events.Run p) id f st = (same_after s a b (events.Run p) id f st).reply
 reply_kept s a b (events.Fail p code) id f st = (same_after s a b (events.Fail p code) id f st).reply
@@ -237,5 +183,5 @@ replies_kept s a b [] id f st = ap (λ (x : Array). reply_in x.replies id) (sym 
 replies_kept s a b (e ∷ shown) id f st = go (array_after_events s (Some a) shown) refl st (λ c z. replies_kept s a c shown id f.1 z)
   where
     go : (o : Option Array) → array_after_events s (Some a) shown ≡ o → array_step s e o ≡ Some b → ((c : Array) → array_after_events s (Some a) shown ≡ Some c → reply_in c.replies id ≡ reply_in a.replies id) → reply_in b.replies id ≡ reply_in a.replies id
-    go None z w rest = no_step s e b w
+    go None z w rest = no_array s e b w
     go (Some c) z w rest = reply_kept s c b e id f.0 w ∙ rest c z

@@ -48,7 +48,7 @@ use Rattle.right_laws.specs.Open.{OnEvents, IfOpen, OnOpen, HasBlock, BlockFacts
 use Rattle.right_laws.specs.Runs.{HasRun, IsEnded, RightFacts, MovesAtRun, StatusAtEnd}
 use Rattle.right_laws.proofs.BlockFacts.{lasting_by, turn_silent, blocks_stay, blocks_arrive}
 use Rattle.right_laws.proofs.Lasting.{row_lasts}
-use Rattle.right_laws.proofs.OpenProcesses.{IfAccepts, reply_kept, replies_kept, running_has, open_step, no_array}
+use Rattle.right_laws.proofs.OpenProcesses.{IfAccepts, reply_kept, replies_kept, running_has, open_step, none_is}
 use Rattle.right_laws.proofs.RowCrossings.{GoesSo, crossing_goes, here_goes, known_served, IsPlaced, placed_here, new_here, InBytes, in_command, in_data, in_status, byte_phase}
 use Rattle.right_laws.proofs.ShownRows.{IsArrival, IsAnswer, ShownAs, row_shown, RunsAs, runs_alone, runs_arrived, row_runs}
 use Rattle.right_laws.proofs.UndoneLoadFacts.{load_asks}
@@ -56,6 +56,7 @@ use Rattle.right_laws.proofs.UndoneLoads.{lasting_load, loads_stay}
 use Rattle.bus_base.proofs.Tests.{wrong, wrong'}
 use Rattle.trace_laws.proofs.PhaseLines.{command_phase}
 use Rattle.trace_laws.specs.DataPointers.{is_marked}
+use Rattle.trace_laws.proofs.Impossible.{none_some}
 
 no_reply : {A : Type 0} (o : Option Reply) → is_some o ≡ true → o ≡ None → A
 no_reply o e f = wrong' (sym (ap is_some f) ∙ e)
@@ -242,11 +243,7 @@ run_found s a b id e = go (Steps.running_process a id) refl
   where
     go : (o : Option RunningProcess) → Steps.running_process a id ≡ o → IsFound a id
     go (Some r) z = record { running = r; running_is = z }
-    go None z = no_array b (sym (ap (λ (o : Option RunningProcess). Steps.settled_array_if (Steps.run_step a (is_some (guest_at a.guests id)) o)) z) ∙ e)
-
-pub none_is : (o : Option Reply) → is_some o ≡ false → o ≡ None
-none_is None e = refl
-none_is (Some x) e = wrong e
+    go None z = none_some b (sym (ap (λ (o : Option RunningProcess). Steps.settled_array_if (Steps.run_step a (is_some (guest_at a.guests id)) o)) z) ∙ e)
 
 -- It has its block, and a reply after it.
 record Ran (s : ScenarioValue) (h : ProcId → Type 0) (b : Array) (id : ProcId) : Type 0 where
@@ -270,7 +267,7 @@ runs_by s h a b id shown (runs_arrived e) all arrives none st = go (array_step s
     accepts = (subst (OnEvents (IfAccepts h)) e arrives).1.0
 
     go : (o : Option Array) → array_step s (events.Accept id) (Some a) ≡ o → array_step s (events.Run id) o ≡ Some b → Ran s h b id
-    go None z w = no_array b w
+    go None z w = none_some b w
     go (Some c) z w = runs_from s h c b id (open_step s h a c (events.Accept id) accepts z all) (reply_kept s a c (events.Accept id) id refl z ∙ none) w
 
 ran_new : (s : ScenarioValue) (p : List Row) (row : Row) (h : Known s p row) → BlockFacts s p → MovesAtRun s (run_state s p) row → (id : ProcId) → has_run (row_events_by s (run_state s p).story (row_reading (run_state s p).story.bus_state row) row) id ≡ true → HasRun s (run_state s (row ∷ p)) id
@@ -409,7 +406,7 @@ append_events : (q : Event → Type 0) (xs ys : List Event) → OnEvents q xs �
 append_events q [] ys h g = g
 append_events q (e ∷ xs) ys h g = (h.0, append_events q xs ys h.1 g)
 
-run_either : (xs ys : List Event) (id : ProcId) → has_run (xs ++ ys) id ≡ true → (has_run xs id ≡ true) ⊎ (has_run ys id ≡ true)
+pub run_either : (xs ys : List Event) (id : ProcId) → has_run (xs ++ ys) id ≡ true → (has_run xs id ≡ true) ⊎ (has_run ys id ≡ true)
 run_either [] ys id e = inr e
 run_either (x ∷ xs) ys id e = go (is_run_of id x) e (run_either xs ys id)
   where

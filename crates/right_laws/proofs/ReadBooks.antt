@@ -1,9 +1,7 @@
 -- What is known of the reads after any rows of a prompt trace: where their pointers stand as a byte of DATA IN crosses and as they run, and
 -- that as COMMAND is left they have carried no data (6.1.5.1, 6.6.6, 6.6.20).
 use Rattle.std.proofs.Common.{List, [], ◌∷◌}
-use Rattle.bus_trace.specs.Terms.{connection}
 use Rattle.bus_trace.specs.declared.Row.{Row}
-use Rattle.bus_trace.specs.declared.connection.Connection.{Connection}
 use Rattle.scenario.specs.Value.{ScenarioValue}
 use Rattle.scenario.specs.Writing.{Obeys}
 use Rattle.scsi_device.proofs.FitLines.{obeys_fits, seats_are}

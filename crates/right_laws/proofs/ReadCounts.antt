@@ -1,5 +1,5 @@
 -- How many bytes of a run are asked for in DATA IN: the run has one at least, and no more are asked for than it has (6.1.5.1, 6.1.5.2, 6.6.6).
-use Rattle.std.proofs.Common.{ℕ, ◌≡◌, ◌⊎◌, inl, inr, ◌+◌, ◌≤◌, ◌<◌, arith, Bool, true, false, not, ◌&&◌, ◌||◌, ◌==◌, ◌∙◌, List, [], ◌∷◌, Option, Some, None, refl, sym, ap, subst}
+use Rattle.std.proofs.Common.{ℕ, ◌≡◌, ◌⊎◌, inl, inr, ◌≤◌, ◌<◌, arith, Bool, true, false, not, ◌&&◌, ◌||◌, ◌==◌, ◌∙◌, List, [], ◌∷◌, Option, Some, None, refl, sym, ap, subst}
 use Rattle.std.specs.Prelude.{if◌then◌else◌, is_none, is_some, nat_lt}
 use Rattle.std.proofs.lemmas.Option.{same_Some}
 use Rattle.bus_base.specs.Faults.{counted_on}
@@ -24,7 +24,6 @@ use Rattle.disk_array.specs.Processes.{Process, process_of}
 use Rattle.bus_story.specs.BusState.{RowReading, row_reading}
 use Rattle.bus_story.specs.CarriedBytes.{is_status_phase}
 use Rattle.bus_story.specs.HistoryEvents.{row_events_by}
-use Rattle.bus_story.specs.Items.{process}
 use Rattle.bus_story.specs.Story.{Story}
 use Rattle.bus_dialogue.specs.declared.exchange.Leaving.{Leaving}
 use Rattle.bus_dialogue.specs.declared.exchange.Phase.{Phase}
@@ -34,13 +33,13 @@ use Rattle.bus_dialogue.specs.Arrivals.{policy_of}
 use Rattle.bus_dialogue.specs.DataRuns.{run_length, runs_in_all}
 use Rattle.bus_dialogue.specs.Hearing.{begun, begun_after}
 use Rattle.bus_dialogue.specs.NextPhase.{Serving, leaving_by, phase_leaving, phase_of}
-use Rattle.bus_dialogue.specs.PhaseBytes.{one_if, run_length_if}
+use Rattle.bus_dialogue.specs.PhaseBytes.{run_length_if}
 use Rattle.bus_due.specs.Defs.{target_def_of}
 use Rattle.bus_due.specs.LastingState.{ProcessProgress, progress_in}
 use Rattle.bus_due.specs.Next.{IsPrompt}
 use Rattle.bus_due.specs.Plain.{AreOfDevices, IsPlain}
 use Rattle.bus_due.specs.RunState.{RunState, array_of, bus_of, process_item, process_served}
-use Rattle.bus_due.specs.RunSteps.{progress_by_leaving, run_state, run_state_after}
+use Rattle.bus_due.specs.RunSteps.{progress_by_leaving, run_state}
 use Rattle.bus_due.specs.Sights.{leaving, serving_of}
 use Rattle.bus_due.specs.Tasks.{is_writing, moved_count, reply_now, task_if}
 use Rattle.bus_due.proofs.Plains.{run_state_plain}
@@ -49,7 +48,6 @@ use Rattle.bus_books.specs.Rows.{IsRowIn, RowKind, still, strikes, crosses, turn
 use Rattle.bus_books.proofs.Gives.{requests_stay, struck_same}
 use Rattle.bus_books.proofs.InConnection.{InConnection, in_connection, reading_is, same_phase_is}
 use Rattle.bus_laws.specs.Ends.{BeginsConnection, by_reselection, by_selection}
-use Rattle.bus_laws.proofs.Apart.{change_plain}
 use Rattle.bus_laws.proofs.Prompt.{least_is}
 use Rattle.link_laws.specs.Pulses.{run_count}
 use Rattle.trace_laws.specs.RunFacts.{IsServedWell, RunsBy}
@@ -62,8 +60,9 @@ use Rattle.trace_laws.proofs.RunCountFacts.{handshakes_begin, or_left}
 use Rattle.trace_laws.proofs.RunFacts.{task_here}
 use Rattle.trace_laws.proofs.RunFits.{FitsRuns, lines_now, size_is}
 use Rattle.trace_laws.proofs.RunParts.{RunsFit, has_byte}
-use Rattle.trace_laws.proofs.RunRows.{served_id}
 use Rattle.trace_laws.proofs.WriteTurns.{progress_turns}
+use Rattle.trace_laws.proofs.Impossible.{none_some}
+use Rattle.trace_laws.proofs.RunBegun.{no_more}
 use Rattle.right_laws.specs.GivenPointers.{any_may_change, may_change}
 use Rattle.right_laws.specs.Open.{OnEvents}
 use Rattle.right_laws.proofs.DataOfferFacts.{DataOfferFacts, data_in_carries, data_no_out, data_parts, to_data}
@@ -90,9 +89,6 @@ ReadCounts s p = (n : Connection) → connection p ≡ Some n → (bus p).rst �
 
 pub counts_first : (s : ScenarioValue) → ReadCounts s []
 counts_first s n e = none_some n e
-  where
-    none_some : {A : Type 0} (n : Connection) → (let o : Option Connection = None in o) ≡ Some n → A
-    none_some n e = absurd cc
 
 -- ---- the reply does not change as DATA IN is entered
 
@@ -148,15 +144,6 @@ pub record ReadRow (s : ScenarioValue) (p : List Row) (row : Row) : Type 0 where
   pub offers : DataOfferFacts s p
   pub counts : ReadCounts s p
   pub pointers : RunsBy IsReader s (run_state s p)
-
-none_task : {A : Type 0} (t : Task) → (let o : Option Task = None in o) ≡ Some t → A
-none_task t e = absurd cc
-
-no_more : (m : ℕ) (b : Bool) → b ≡ false → m + one_if b ≡ m
-no_more m b e = ap (λ (x : Bool). m + one_if x) e ∙ none m
-  where
-    none : (m : ℕ) → m + 0 ≡ m
-    none m = omega arith
 
 quiet_lines : (row : Row) (n : Connection) (c : Change) → RowKind row n c → changes_phase c ≡ true → (is_fault row.kind ≡ false) × (receiver_in n c ≡ None)
 quiet_lines row n c (still ef e er) ep = wrong (sym ep ∙ e)
@@ -236,7 +223,7 @@ read_begun s p row n w con calm g turned reading = go (process_served s k) refl
     enters = enters_read v (bus_of k).atn (phase_of (bus_of k)) (ap (λ (x : Leaving). x.to) (sym leaving_is) ∙ to)
 
     go : (o : Option Process) → process_served s k ≡ o → 1 ≤ run_count s (row ∷ p) n
-    go None e = none_task enters.task (sym (ap (task_if s k) e) ∙ enters.task_is)
+    go None e = none_some enters.task (sym (ap (task_if s k) e) ∙ enters.task_is)
     go (Some q) e = subst (λ (x : ℕ). 1 ≤ x) (sym (count ∙ run)) (has_byte policy (task_here s k q) fit more)
       where
         same : enters.task ≡ task_here s k q
@@ -286,7 +273,7 @@ read_begun s p row n w con calm g turned reading = go (process_served s k) refl
 counted_up : (n m : ℕ) → n < m → counted_on n ≤ m
 counted_up n m h = omega (arith, h)
 
-none_asked : (n m : ℕ) → (n == 0) ≡ true → 1 ≤ m → n < m
+pub none_asked : (n m : ℕ) → (n == 0) ≡ true → 1 ≤ m → n < m
 none_asked n m e h = let z = Rattle.bus_base.proofs.Tests.zero_of n e in omega (arith, z, h)
 
 stays_few : (s : ScenarioValue) (p : List Row) (row : Row) (n : Connection) → ReadRow s p row → connection p ≡ Some n → (bus p).rst ≡ false → connection (row ∷ p) ≡ Some n → (bus (row ∷ p)).rst ≡ false → (g : GoingRow s p row n) → changes_phase g.change ≡ false → is_data_in (bus p) ≡ true → IsRunCounted s p n → IsRunCounted s (row ∷ p) n

@@ -1,30 +1,23 @@
 -- As a process that does not write runs, and ends GOOD, its data pointer stands past the bytes of its reply: the last of its runs is done, or
 -- it gives none (6.1.5.1, 6.6.6, 7.3).
-use Rattle.std.proofs.Common.{ℕ, ◌≡◌, ◌⊎◌, inl, inr, ◌+◌, ◌*◌, ◌-◌, ◌≤◌, ◌<◌, arith, Bool, true, false, not, ◌&&◌, ◌==◌, ◌∙◌, List, [], ◌∷◌, length, Option, Some, None, refl, sym, ap, subst}
+use Rattle.std.proofs.Common.{ℕ, ◌≡◌, ◌⊎◌, inl, inr, ◌+◌, ◌-◌, ◌≤◌, arith, Bool, true, false, ◌==◌, ◌∙◌, List, ◌∷◌, length, Option, Some, None, refl, sym, ap, subst}
 use Rattle.std.specs.Prelude.{if◌then◌else◌, is_some, nat_lt}
 use Rattle.std.proofs.lemmas.Option.{same_Some}
 use Rattle.std.proofs.lemmas.Bool.{and_parts, ltb-false}
 use Rattle.bus_base.specs.declared.Event.{Event}
-use Rattle.bus_trace.specs.LineSet.{LineSet}
-use Rattle.bus_trace.specs.Changes.{change_of}
 use Rattle.bus_trace.specs.Phases.{changes_phase}
-use Rattle.bus_trace.specs.Terms.{connection}
-use Rattle.bus_trace.specs.Trace.{bus}
 use Rattle.bus_trace.specs.declared.Row.{Row}
-use Rattle.bus_trace.specs.declared.changes.Change.{Change}
 use Rattle.bus_trace.specs.declared.connection.Connection.{Connection}
 use Rattle.cdb_codec.specs.declared.status.TheConstants.{GOOD}
 use Rattle.scenario.specs.Value.{ScenarioValue}
 use Rattle.scenario.specs.declared.value.Policy.{Policy}
 use Rattle.disk_array.specs.ArrayHistory.{array_after, reply_in}
 use Rattle.disk_array.specs.Execution.{Reply}
-use Rattle.disk_array.specs.Processes.{Process, process_of}
 use Rattle.disk_array.specs.Units.{Array}
 use Rattle.bus_story.specs.BusState.{RowReading, row_reading}
 use Rattle.bus_story.specs.HistoryEvents.{row_events_by}
 use Rattle.bus_story.specs.Items.{process}
 use Rattle.bus_story.specs.Story.{Story}
-use Rattle.bus_dialogue.specs.declared.exchange.Leaving.{Leaving}
 use Rattle.bus_dialogue.specs.declared.exchange.Next.TheVariants as nexts
 use Rattle.bus_dialogue.specs.declared.exchange.Phase.{Phase}
 use Rattle.bus_dialogue.specs.declared.exchange.Phase.TheVariants as phases
@@ -32,7 +25,6 @@ use Rattle.bus_dialogue.specs.declared.exchange.Task.{Task}
 use Rattle.bus_dialogue.specs.Arrivals.{policy_of}
 use Rattle.bus_dialogue.specs.DataRuns.{run_at, run_in, run_length, runs_in, runs_in_all}
 use Rattle.bus_dialogue.specs.Events.{is_status_next}
-use Rattle.bus_dialogue.specs.Hearing.{begun}
 use Rattle.bus_dialogue.specs.NextPhase.{Serving, after_run, disconnect_messages, disconnection, phase_entry, phase_leaving, phase_of, unless_attention, with_task}
 use Rattle.bus_due.specs.Defs.{target_def_of}
 use Rattle.bus_due.specs.LastingState.{progress_in}
@@ -40,7 +32,7 @@ use Rattle.bus_due.specs.Plain.{IsPlain}
 use Rattle.bus_due.specs.RunState.{RunState, array_of, bus_of, carried_here, or_start, process_item, process_served}
 use Rattle.bus_due.specs.RunSteps.{array_after_events, run_state}
 use Rattle.bus_due.specs.Sights.{serving_of}
-use Rattle.bus_due.specs.Tasks.{is_writing, reply_now, task_if}
+use Rattle.bus_due.specs.Tasks.{reply_now, task_if}
 use Rattle.bus_due.specs.Telling.{is_true_telling, telling}
 use Rattle.bus_due.proofs.Plains.{run_state_plain}
 use Rattle.trace_laws.specs.Places.{AnsweredOpen, IsTaken, PlacedBefore, PlacedIf, PlacedIn}
@@ -58,7 +50,6 @@ use Rattle.trace_laws.proofs.Whole.{Whole}
 use Rattle.bus_laws.proofs.Apart.{change_plain}
 use Rattle.bus_laws.proofs.Prompt.{least_is}
 use Rattle.right_laws.specs.GivenPointers.{PointsAtEnd}
-use Rattle.right_laws.proofs.RanFacts.{none_is}
 use Rattle.right_laws.proofs.ReadCounts.{IsReader, ReadRow}
 use Rattle.right_laws.proofs.ReadPointers.{read_done}
 use Rattle.right_laws.proofs.ReadRuns.{fits_reads}
@@ -66,6 +57,7 @@ use Rattle.right_laws.proofs.RowCrossings.{GoesSo, here_goes, known_served}
 use Rattle.right_laws.proofs.SentAtRun.{runs_so}
 use Rattle.right_laws.proofs.SentBytes.{answer_of}
 use Rattle.right_laws.proofs.ShownRows.{IsAnswer, RunsAs, runs_alone, runs_arrived, row_runs}
+use Rattle.right_laws.proofs.OpenProcesses.{none_is}
 use Rattle.bus_base.proofs.Tests.{wrong, wrong', zero_of}
 use Rattle.bus_books.specs.Accounts.{policy_for}
 

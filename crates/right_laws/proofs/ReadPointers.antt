@@ -1,8 +1,7 @@
 -- Of a prompt trace: the data pointers of the processes that do not write, after each row; where they stand as a byte of DATA IN crosses,
 -- and as a process runs (6.1.5.1, 6.6.6, 6.6.20).
-use Rattle.std.proofs.Common.{ℕ, ◌≡◌, ◌⊎◌, inl, inr, ◌+◌, ◌*◌, ◌≤◌, ◌<◌, ◌^◌, arith, Bool, true, false, not, ◌&&◌, ◌==◌, ◌∙◌, List, [], ◌∷◌, length, Option, Some, None, refl, sym, ap, subst}
+use Rattle.std.proofs.Common.{ℕ, ◌≡◌, ◌⊎◌, inl, inr, ◌+◌, ◌≤◌, ◌<◌, ◌^◌, arith, Bool, true, false, not, ◌&&◌, ◌==◌, ◌∙◌, List, [], ◌∷◌, Option, Some, None, refl, sym, ap, subst}
 use Rattle.std.specs.Prelude.{if◌then◌else◌, is_some, nat_lt}
-use Rattle.std.proofs.lemmas.Option.{same_Some}
 use Rattle.std.proofs.lemmas.Bool.{ltb-false}
 use Rattle.bus_base.specs.declared.ProcId.{ProcId}
 use Rattle.bus_trace.specs.LineSet.{LineSet}
@@ -17,7 +16,6 @@ use Rattle.bus_lines.specs.Handshakes.{Handshakes, handshakes}
 use Rattle.scenario.specs.Value.{ScenarioValue}
 use Rattle.scenario.specs.Writing.{Obeys}
 use Rattle.scsi_device.proofs.FitLines.{obeys_fits}
-use Rattle.scenario.specs.declared.value.Policy.{Policy}
 use Rattle.disk_array.specs.ArrayHistory.{array_after}
 use Rattle.disk_array.specs.Processes.{Process, process_of}
 use Rattle.bus_story.specs.BusState.{row_reading}
@@ -33,12 +31,11 @@ use Rattle.bus_dialogue.specs.Hearing.{begun}
 use Rattle.bus_dialogue.specs.NextPhase.{phase_of}
 use Rattle.bus_dialogue.specs.PhaseBytes.{follows_in, run_length_if}
 use Rattle.bus_due.specs.Defs.{target_def_of}
-use Rattle.bus_due.specs.Next.{IsPrompt}
 use Rattle.bus_due.specs.Plain.{IsPlain}
-use Rattle.bus_due.specs.RunState.{RunState, bus_of, carried_here, process_served}
+use Rattle.bus_due.specs.RunState.{RunState, bus_of, carried_here}
 use Rattle.bus_due.specs.RunSteps.{run_state}
 use Rattle.bus_due.specs.Sights.{offering_of, serving_of}
-use Rattle.bus_due.specs.Tasks.{is_writing, task_if, task_of}
+use Rattle.bus_due.specs.Tasks.{task_if, task_of}
 use Rattle.bus_due.proofs.Plains.{run_state_plain}
 use Rattle.bus_books.specs.Reactions.{IsOver}
 use Rattle.bus_laws.proofs.Apart.{change_plain}
@@ -57,15 +54,15 @@ use Rattle.trace_laws.proofs.Plans.{writes_there}
 use Rattle.trace_laws.proofs.PointerEnds.{command_over}
 use Rattle.trace_laws.proofs.RunFacts.{active_is, crossing_begun, kind_next, raised_rst, task_here, turns_by}
 use Rattle.trace_laws.proofs.RunFits.{FitsRuns}
-use Rattle.trace_laws.proofs.RunRows.{runs_first, served_id}
-use Rattle.right_laws.specs.GivenPointers.{PointsAtCrossing, PointsAtRun}
+use Rattle.trace_laws.proofs.RunRows.{runs_first}
+use Rattle.right_laws.specs.GivenPointers.{PointsAtCrossing}
 use Rattle.right_laws.proofs.DataOfferFacts.{data_in_carries}
 use Rattle.right_laws.proofs.DataOffers.{is_data_in}
 use Rattle.right_laws.proofs.GivenCrossings.{req_rises}
 use Rattle.right_laws.proofs.RanFacts.{Known}
-use Rattle.right_laws.proofs.ReadCounts.{IsReader, IsRunCounted, ReadCounts, ReadRow}
+use Rattle.right_laws.proofs.ReadCounts.{IsReader, IsRunCounted, ReadRow, none_asked}
 use Rattle.right_laws.proofs.ReadRuns.{fits_reads}
-use Rattle.bus_base.proofs.Tests.{wrong, wrong'}
+use Rattle.bus_base.proofs.Tests.{wrong}
 
 abbrev pub ReadPointers : ScenarioValue → List Row → Type 0
 ReadPointers s p = RunsBy IsReader s (run_state s p)
@@ -201,9 +198,6 @@ pointers_next s p row w asked =
 
 -- ---- a byte of DATA IN crosses
 
-none_first : (n m : ℕ) → (n == 0) ≡ true → 1 ≤ m → n < m
-none_first n m e h = let z = Rattle.bus_base.proofs.Tests.zero_of n e in omega (arith, z, h)
-
 pub points_at : (s : ScenarioValue) (p : List Row) (row : Row) → ReadRow s p row → PointsAtCrossing s (run_state s p) row
 points_at s p row w n q t con served task reads crosses phase = record {
   active_is = subst (λ (x : ℕ). (carried_here k q.id).moved.active ≡ (run_at (policy_of (target_def_of s x)) t t.runs).start + k.handshakes.requests) well.target_is
@@ -266,5 +260,5 @@ points_at s p row w n q t con served task reads crosses phase = record {
     asked = of (data_in_carries s p row n w.obeys w.prompt h.was h.next w.offers con_p calm after off here (req_rises n (change_of p row) io ((λ i. is_some (receiver_of (sym con i) (sym c i))) ∙ crosses))).asked
       where
         of : (((handshakes p).requests == 0) ≡ true) ⊎ ((handshakes p).requests < run_count s p n) → (handshakes p).requests < run_count s p n
-        of (inl z) = none_first (handshakes p).requests (run_count s p n) z counts.some
+        of (inl z) = none_asked (handshakes p).requests (run_count s p n) z counts.some
         of (inr z) = z

@@ -29,7 +29,7 @@ use Rattle.trace_laws.proofs.PolicyLines.{policies_most}
 use Rattle.trace_laws.proofs.RunFacts.{task_here}
 use Rattle.trace_laws.proofs.RunFits.{FitsRuns, lines_now, size_is}
 use Rattle.right_laws.proofs.WholeBlocks.{HasWhole, whole_always, whole_start}
-use Rattle.bus_base.proofs.Tests.{wrong, wrong'}
+use Rattle.bus_base.proofs.Tests.{wrong}
 use Rattle.bus_books.specs.Accounts.{policy_for}
 use Rattle.std.proofs.lemmas.Bool.{eqb-true}
 

@@ -1,6 +1,6 @@
 -- A row of a prompt trace with which a byte crosses outside the message phases, and one with which COMMAND is left or COMMAND COMPLETE is
 -- taken: a row of a connection, whose initiator knows the process that is served; and where that stands then (6.1.5, 6.1.6).
-use Rattle.std.proofs.Common.{ℕ, ◌≡◌, ◌⊎◌, inl, inr, Bool, true, false, not, ◌&&◌, ◌∙◌, Option, Some, None, refl, sym, ap, subst, true≢false}
+use Rattle.std.proofs.Common.{◌≡◌, ◌⊎◌, inl, inr, Bool, true, false, not, ◌&&◌, ◌∙◌, Option, Some, None, refl, sym, ap, subst}
 use Rattle.std.specs.Prelude.{if◌then◌else◌, is_some}
 use Rattle.std.proofs.lemmas.Option.{same_Some}
 use Rattle.bus_base.specs.declared.ProcId.{ProcId}
@@ -15,7 +15,7 @@ use Rattle.disk_array.specs.Processes.{Process, process_of}
 use Rattle.disk_array.specs.Units.{Array}
 use Rattle.bus_story.specs.BusState.{row_reading}
 use Rattle.bus_story.specs.CarriedBytes.{is_status_phase}
-use Rattle.bus_story.specs.Items.{Item, process}
+use Rattle.bus_story.specs.Items.{process}
 use Rattle.bus_story.specs.Links.{Link}
 use Rattle.bus_dialogue.specs.declared.exchange.Phase.{Phase}
 use Rattle.bus_dialogue.specs.declared.exchange.Phase.TheVariants as phases
@@ -27,14 +27,8 @@ use Rattle.bus_books.proofs.CarriedRows.{process_id}
 use Rattle.trace_laws.specs.Places.{IsUntouched, HasPlaces, PlacedIf, PlacedIn}
 use Rattle.right_laws.proofs.ShownRows.{IsHere}
 use Rattle.bus_base.proofs.Tests.{wrong, wrong'}
-use Rattle.trace_laws.proofs.PhaseLines.{command_phase}
 use Rattle.trace_laws.proofs.Crossings.{no_byte}
-
-pub no_link : {A : Type 0} (l : Link) → (let o : Option Link = None in o) ≡ Some l → A
-no_link l e = absurd cc
-
-pub no_item : {A : Type 0} (i : Item) → (let o : Option Item = None in o) ≡ Some i → A
-no_item i e = absurd cc
+use Rattle.trace_laws.proofs.Impossible.{none_some}
 
 -- ---- a row of a connection
 
@@ -52,8 +46,8 @@ crossing_goes s k row (under_reset on none) e = wrong' (sym none ∙ e)
 
 -- So is one whose initiator knows a process, and after which a connection stands and RST is false.
 pub here_goes : (s : ScenarioValue) (k : RunState) (row : Row) (l : Link) (id : ProcId) → (k.story.bus_state.connection ≡ None → k.story.link ≡ None) → RowOf s k row → IsHere k (row_reading k.story.bus_state row) l id → GoesSo s k row
-here_goes s k row l id apart (row_apart con next) h = no_link l (sym (apart con) ∙ h.link_is)
-here_goes s k row l id apart (begins n b) h = no_link l (sym (apart b.first.connection_is) ∙ h.link_is)
+here_goes s k row l id apart (row_apart con next) h = none_some l (sym (apart con) ∙ h.link_is)
+here_goes s k row l id apart (begins n b) h = none_some l (sym (apart b.first.connection_is) ∙ h.link_is)
 here_goes s k row l id apart (goes_on n c g) h = record { connection = n; change = c; goes = g }
 here_goes s k row l id apart (ends n g) h = wrong' (sym (ap (λ (o : Option Connection). is_some o) g.next_is) ∙ h.stands)
 here_goes s k row l id apart (under_reset on none) h = wrong (sym on ∙ h.calm)
@@ -71,7 +65,7 @@ known_served s k row n c l id books g link item = go (knows.item_is)
 
     go : (knows.link.item ≡ k.served) ⊎ ((n.reselected ≡ true) × (knows.link.item ≡ None)) → k.served ≡ Some (process id)
     go (inl z) = sym z ∙ same
-    go (inr z) = no_item (process id) (sym z.1 ∙ same)
+    go (inr z) = none_some (process id) (sym z.1 ∙ same)
 
 -- Where it stands in the plain disk array, once a phase has begun.
 pub record IsPlaced (s : ScenarioValue) (k : RunState) (a : Array) (id : ProcId) : Type 0 where

@@ -1,8 +1,7 @@
 -- As a process runs with a row, the current process of its unit, another one, would answer the same (7.2, 7.5, 7.8).
-use Rattle.std.proofs.Common.{ℕ, ◌≡◌, ◌⊎◌, inl, inr, Bool, true, false, not, ◌&&◌, ◌||◌, ◌==◌, ◌∙◌, List, [], ◌∷◌, Option, Some, None, refl, sym, ap, subst}
+use Rattle.std.proofs.Common.{ℕ, ◌≡◌, ◌⊎◌, inl, inr, Bool, true, false, not, ◌&&◌, ◌||◌, ◌∙◌, List, [], ◌∷◌, Option, Some, None, refl, sym, ap, subst}
 use Rattle.std.specs.Prelude.{if◌then◌else◌, is_none, is_some}
 use Rattle.std.proofs.lemmas.Option.{same_Some}
-use Rattle.bus_base.specs.declared.Event.{Event}
 use Rattle.bus_base.specs.declared.Event.TheVariants as events
 use Rattle.bus_base.specs.declared.ProcId.{ProcId}
 use Rattle.bus_trace.specs.LineSet.{LineSet}
@@ -17,7 +16,6 @@ use Rattle.disk_array.specs.Processes.{Process, process_of, same_id}
 use Rattle.disk_array.specs.Seats as Seats
 use Rattle.disk_array.specs.Seats.{Seat, context_of, current_of, guests_at, seat_if, seat_of, settled_seat, settled_seat_if}
 use Rattle.disk_array.specs.SoundArray.{AllOwnGuests, HasSeats, IsSound}
-use Rattle.disk_array.specs.Steps as Steps
 use Rattle.disk_array.specs.Steps.{is_of_unit, step}
 use Rattle.disk_array.specs.Units.{Array, RunningProcess, UnitState, guest_at, unit_state_at}
 use Rattle.disk_array.proofs.SeatLaws.{accept_law, run_law}
@@ -37,26 +35,24 @@ use Rattle.bus_story.specs.CarriedBytes.{is_status_phase}
 use Rattle.bus_story.specs.HistoryEvents.{row_events_by}
 use Rattle.bus_story.specs.Items.{process}
 use Rattle.bus_story.specs.Right.{has_run}
-use Rattle.bus_due.specs.RunState.{RunState, array_of, bus_of}
-use Rattle.bus_due.specs.RunSteps.{run_state, run_state_after, array_after_events}
+use Rattle.bus_due.specs.RunState.{RunState, bus_of}
+use Rattle.bus_due.specs.RunSteps.{run_state, array_after_events}
 use Rattle.bus_due.specs.Tasks.{reply_now}
-use Rattle.bus_books.proofs.Lookups.{id_is, self_id}
+use Rattle.bus_books.proofs.Lookups.{id_is}
 use Rattle.trace_laws.specs.Places.{AnsweredOpen, Closes, IsAtRest, IsAway, IsOutside, IsTaken, IsUntouched, OnGuests, PlacedAsked, PlacedBefore, PlacedIn, RunsOpen, completes, disconnects}
 use Rattle.trace_laws.proofs.ArrivingProcesses.{Arrives, arrives, as_guest, in_queue, not_running, queued_rests}
+use Rattle.trace_laws.proofs.Impossible.{none_some}
 use Rattle.right_laws.specs.Open.{OnEvents}
 use Rattle.right_laws.proofs.GivenReplies.{run_gives}
-use Rattle.right_laws.proofs.OpenProcesses.{no_array}
-use Rattle.right_laws.proofs.RanFacts.{IsFound, Known, apart_of, here_is, none_is, run_found, steps_of, then_is}
+use Rattle.right_laws.proofs.RanFacts.{IsFound, Known, apart_of, here_is, run_found, steps_of}
 use Rattle.right_laws.proofs.RowCrossings.{GoesSo, InBytes, IsPlaced, byte_phase, here_goes, in_command, in_data, in_status, known_served, new_here, placed_here}
 use Rattle.right_laws.proofs.SameReplies.{SameContext, accept_at, by_context, place_of}
 use Rattle.right_laws.proofs.SenseRuns.{IsCurrentAt, run_seat}
 use Rattle.right_laws.proofs.ShownRows.{IsAnswer, IsArrival, RunsAs, ShownAs, row_runs, row_shown, runs_alone, runs_arrived}
+use Rattle.right_laws.proofs.OpenProcesses.{none_is}
 use Rattle.bus_base.proofs.Tests.{wrong, wrong'}
 
 -- ---- a unit that is not there
-
-no_seat : {A : Type 0} (x : Seat) → (let o : Option Seat = None in o) ≡ Some x → A
-no_seat x e = absurd cc
 
 none_run : (seat after : Seat) (id : ProcId) → seat.unit ≡ None → settled_seat_if (Seats.seat_after_run id seat) ≡ Some after → after.unit ≡ None
 none_run seat after id e = go (Seats.running_at seat id)
@@ -65,13 +61,13 @@ none_run seat after id e = go (Seats.running_at seat id)
     done_at r done = λ i. Seats.unit_mapped (Seats.unit_with_choice (Seats.is_any_held seat.hold)) (Seats.unit_mapped (Seats.unit_with_reply r.process.id done.reply) (Seats.unit_mapped (Seats.unit_with_contents done.contents) (e i)))
 
     runs : (r : RunningProcess) (q : Bool) → settled_seat_if (if q then Some (Seats.seat_with_execution seat r.process (execution (context_of seat r.process.initiator) r.process.cdb r.process.sent)) else None) ≡ Some after → after.unit ≡ None
-    runs r false z = no_seat after z
+    runs r false z = none_some after z
     runs r true z =
         let done : Execution = execution (context_of seat r.process.initiator) r.process.cdb r.process.sent in
         ap (λ (x : Seat). x.unit) (sym (same_Some (settled_seat (Seats.seat_with_execution seat r.process done)) after z)) ∙ done_at r done
 
     go : (o : Option RunningProcess) → settled_seat_if (Seats.seat_after_run_of seat (is_some (guest_at seat.guests id)) o) ≡ Some after → after.unit ≡ None
-    go None z = no_seat after z
+    go None z = none_some after z
     go (Some r) z = runs r (is_none r.reply && (is_some (guest_at seat.guests id) || not (Seats.is_any_held seat.hold))) z
 
 none_accept : (seat after : Seat) (x : Process) → seat.unit ≡ None → settled_seat_if (Seats.seat_after_accept x seat) ≡ Some after → after.unit ≡ None
@@ -85,20 +81,14 @@ none_accept seat after x e z =
 abbrev HasKind : Array → Process → Type 0
 HasKind a x = IsOutside a x ⊎ IsAtRest a x.id
 
-no_reply : {A : Type 0} (r : Reply) → (let o : Option Reply = None in o) ≡ Some r → A
-no_reply r e = absurd cc
-
-no_running : {A : Type 0} (r : RunningProcess) → (let o : Option RunningProcess = None in o) ≡ Some r → A
-no_running r e = absurd cc
-
 kind_of : (a : Array) (x : Process) (plan : Plan) (h : Handshakes) (atn : Bool) (phase : Phase) → reply_in a.replies x.id ≡ None → IsFound a x.id → PlacedIn a x plan h atn phase → HasKind a x
 kind_of a x plan h atn phase none stands placed = go phase placed
   where
     untouched : IsUntouched a x.id → HasKind a x
-    untouched u = no_running stands.running (sym (not_running a x.id u.away) ∙ stands.running_is)
+    untouched u = none_some stands.running (sym (not_running a x.id u.away) ∙ stands.running_is)
 
     answered : AnsweredOpen a x.id → HasKind a x
-    answered w = no_reply w.answered.reply (sym none ∙ w.answered.given)
+    answered w = none_some w.answered.reply (sym none ∙ w.answered.given)
 
     runs : RunsOpen a x → HasKind a x
     runs w = w.runs.kind
@@ -142,7 +132,7 @@ pub record IsCurrent (b : Array) (q : Process) : Type 0 where
   pub unanswered : reply_in b.replies q.id ≡ None
 
 guest_there : (s : ScenarioValue) (guests : List RunningProcess) (t n : ℕ) (x : Process) (g : RunningProcess) → AllOwnGuests s guests → process_of s x.id ≡ Some x → guest_at (guests_at guests t n) x.id ≡ Some g → g.process ≡ x
-guest_there s [] t n x g own is e = no_running g e
+guest_there s [] t n x g own is e = none_some g e
 guest_there s (y ∷ guests) t n x g own is e = go (is_of_unit y.process t n) (same_id y.process.id x.id) refl e (λ z. guest_there s guests t n x g own.1 is z)
   where
     go : (q r : Bool) → same_id y.process.id x.id ≡ r → guest_at (if q then y ∷ guests_at guests t n else guests_at guests t n) x.id ≡ Some g → (guest_at (guests_at guests t n) x.id ≡ Some g → g.process ≡ x) → g.process ≡ x
@@ -153,15 +143,12 @@ guest_there s (y ∷ guests) t n x g own is e = go (is_of_unit y.process t n) (s
         ∙ same_Some y.process x (sym own.0 ∙ ap (process_of s) (id_is y.process.id x.id er) ∙ is)
 
 guest_away : (guests : List RunningProcess) (t n : ℕ) (id : ProcId) (g : RunningProcess) → OnGuests (IsAway id) guests → guest_at (guests_at guests t n) id ≡ Some g → ⊥
-guest_away [] t n id g h e = no_running g e
+guest_away [] t n id g h e = none_some g e
 guest_away (y ∷ guests) t n id g h e = go (is_of_unit y.process t n) e (λ z. guest_away guests t n id g h.1 z)
   where
     go : (q : Bool) → guest_at (if q then y ∷ guests_at guests t n else guests_at guests t n) id ≡ Some g → (guest_at (guests_at guests t n) id ≡ Some g → ⊥) → ⊥
     go false z rest = rest z
     go true z rest = rest ((λ i. if sym h.0 i then Some y else guest_at (guests_at guests t n) id) ∙ z)
-
-none_unit : {A : Type 0} (u : UnitState) → (let o : Option UnitState = None in o) ≡ Some u → A
-none_unit u e = absurd cc
 
 run_step_same : (s : ScenarioValue) (c b : Array) (x q : Process) → HasSeats s → IsSound s c → process_of s x.id ≡ Some x → is_of_unit x q.target q.unit ≡ true → HasKind c x → IsCurrent b q → step s (events.Run x.id) c ≡ Some b → reply_now b q ≡ reply_now c q
 run_step_same s c b x q seats sound own place kind w st = by (run_seat (seat_of c x.target x.unit) (seat_of b x.target x.unit) x.id q.initiator senses law)
@@ -179,13 +166,13 @@ run_step_same s c b x q seats sound own place kind w st = by (run_seat (seat_of 
     senses g eg = of kind
       where
         of : HasKind c x → is_request_sense (command_of g.process.cdb) ≡ true
-        of (inl (inl none)) = none_unit w.unit (sym (none_run (seat_of c x.target x.unit) (seat_of b x.target x.unit) x.id none law) ∙ there)
+        of (inl (inl none)) = none_some w.unit (sym (none_run (seat_of c x.target x.unit) (seat_of b x.target x.unit) x.id none law) ∙ there)
         of (inl (inr e)) = ap (λ (y : Process). is_request_sense (command_of y.cdb)) (guest_there s c.guests x.target x.unit x g sound.guests own eg) ∙ e
         of (inr rests) = absurd (guest_away c.guests x.target x.unit x.id g rests.guests eg)
 
     by : (context_of (seat_of b x.target x.unit) q.initiator ≡ context_of (seat_of c x.target x.unit) q.initiator) ⊎ IsCurrentAt (seat_of b x.target x.unit) x.id → reply_now b q ≡ reply_now c q
     by (inl e) = by_context c b q (subst (λ (t : ℕ). SameContext c b t q.unit q.initiator) at.0 (subst (λ (n : ℕ). SameContext c b x.target n q.initiator) at.1 e))
-    by (inr cur) = no_reply (reply_now c x) (sym w.unanswered ∙ ap (reply_in b.replies) same ∙ run_gives s c b x sound own st)
+    by (inr cur) = none_some (reply_now c x) (sym w.unanswered ∙ ap (reply_in b.replies) same ∙ run_gives s c b x sound own st)
       where
         one : w.running ≡ cur.running
         one = same_Some w.running cur.running (sym w.current_is ∙ ap current_of (sym there) ∙ cur.current_is)
@@ -214,7 +201,7 @@ run_replies s p row h x seats own ran = by (row_runs s (run_state s p) row x.id 
     by (runs_arrived e) = go (array_step s (events.Accept x.id) (Some a)) refl (sym (ap (array_after_events s (Some a)) e) ∙ steps_of s p row h)
       where
         go : (o : Option Array) → array_step s (events.Accept x.id) (Some a) ≡ o → array_step s (events.Run x.id) o ≡ Some b → is_some (reply_in b.replies x.id) ≡ true
-        go None z w = no_array b w
+        go None z w = none_some b w
         go (Some c) z w = ap (λ (o : Option Reply). is_some o) (run_gives s c b x (step_sound s a c (events.Accept x.id) seats h.places.sound z) own w)
 
 pub run_same : (s : ScenarioValue) (p : List Row) (row : Row) (h : Known s p row) (x q : Process) → HasSeats s → process_of s x.id ≡ Some x → is_of_unit x q.target q.unit ≡ true → has_run (row_events_by s (run_state s p).story (row_reading (run_state s p).story.bus_state row) row) x.id ≡ true → IsCurrent h.later.array q → reply_now h.later.array q ≡ reply_now h.places.array q
@@ -310,5 +297,5 @@ run_same s p row h x q seats own place ran w = by shape
     by (runs_arrived e) = go (array_step s (events.Accept x.id) (Some a)) refl (sym (ap (array_after_events s (Some a)) e) ∙ steps_of s p row h)
       where
         go : (o : Option Array) → array_step s (events.Accept x.id) (Some a) ≡ o → array_step s (events.Run x.id) o ≡ Some b → reply_now b q ≡ reply_now a q
-        go None z y = no_array b y
+        go None z y = none_some b y
         go (Some c) z y = arrived (subst (OnEvents (ShownAs s k d row)) e (row_shown s k row)).1.0 c z y

@@ -1,8 +1,6 @@
 -- What a process would answer does not change as another unit changes, nor as a process arrives, is refused, fails or is lost (7.3, 7.8).
 use Rattle.std.proofs.Common.{ℕ, ◌≡◌, Bool, true, false, not, ◌&&◌, ◌||◌, ◌==◌, ◌∙◌, List, [], ◌∷◌, ◌++◌, Option, Some, None, refl, sym, ap, subst, true≢false}
 use Rattle.std.specs.Prelude.{if◌then◌else◌, is_none, is_some, nat_lt}
-use Rattle.std.proofs.lemmas.Bool.Decides.{nat_tests}
-use Rattle.std.proofs.Common.{arith}
 use Rattle.std.proofs.lemmas.Option.{same_Some}
 use Rattle.bus_base.specs.declared.AbortKind.{AbortKind}
 use Rattle.bus_base.specs.declared.AbortKind.TheVariants as aborts
@@ -22,7 +20,7 @@ use Rattle.disk_array.specs.Steps.{context_at, has_ended, has_tag, is_of_unit, p
 use Rattle.disk_array.specs.Units.{Array, RunningProcess, UnitState, has_no_current, unit_state_at, with_current}
 use Rattle.disk_array.proofs.SeatLaws.{abort_law, accept_law, fail_law, loss_law, other_law, refuse_law}
 use Rattle.disk_array.specs.ArrayHistory.{array_step}
-use Rattle.disk_array.proofs.SoundArrays.{step_sound}
+use Rattle.disk_array.proofs.SoundArrays.{step_sound, is_own}
 use Rattle.bus_trace.specs.declared.Row.{Row}
 use Rattle.bus_story.specs.BusState.{row_reading}
 use Rattle.bus_story.specs.HistoryEvents.{row_events_by}
@@ -32,14 +30,12 @@ use Rattle.bus_due.specs.Tasks.{reply_now}
 use Rattle.right_laws.specs.Given.{HasReplyStill}
 use Rattle.right_laws.specs.GivenPointers.{abort_may_change, may_change, any_may_change, HasReplyThen}
 use Rattle.right_laws.specs.Open.{IfOpen, OnOpen}
-use Rattle.right_laws.proofs.OpenProcesses.{each_map, no_array}
+use Rattle.right_laws.proofs.OpenProcesses.{each_map}
 use Rattle.right_laws.proofs.RanFacts.{Known, here_is, steps_of, then_is}
 use Rattle.bus_books.proofs.CarriedRows.{process_id}
-use Rattle.std.proofs.lemmas.Bool.{not-false, eqb-true, or_parts}
+use Rattle.std.proofs.lemmas.Bool.{not-false, eqb-true, or_parts, and_parts}
 use Rattle.bus_base.proofs.Tests.{wrong'}
-
-no_seat : {A : Type 0} (x : Seat) → (let o : Option Seat = None in o) ≡ Some x → A
-no_seat x e = absurd cc
+use Rattle.trace_laws.proofs.Impossible.{none_some}
 
 no_process : {A : Type 0} (o : Option Process) → o ≡ None → is_some o ≡ true → A
 no_process o e some = wrong' (sym (ap is_some e) ∙ some)
@@ -87,7 +83,7 @@ abbrev pub SameAfter : Seat → ℕ → Option Seat → Type 0
 SameAfter seat from o = (after : Seat) → settled_seat_if o ≡ Some after → context_of after from ≡ context_of seat from
 
 pub same_none : (seat : Seat) (from : ℕ) → SameAfter seat from None
-same_none seat from after e = no_seat after e
+same_none seat from after e = none_some after e
 
 pub same_some : (seat x : Seat) (from : ℕ) → context_of x from ≡ context_of seat from → SameAfter seat from (Some x)
 same_some seat x from same after e = ap (λ (z : Seat). context_of z from) (sym (same_Some (settled_seat x) after e)) ∙ settled_context x from ∙ same
@@ -153,12 +149,8 @@ loss_context seat over id from = go over
 
 -- ---- an event of a process
 
-pub both_true : (x y : Bool) → (x && y) ≡ true → (x ≡ true) × (y ≡ true)
-both_true true y e = (refl, e)
-both_true false y e = wrong' e
-
 pub place_of : (p : Process) (t n : ℕ) → is_of_unit p t n ≡ true → (p.target ≡ t) × (p.unit ≡ n)
-place_of p t n e = let two = both_true (p.target == t) (p.unit == n) e in (eqb-true p.target t two.0, eqb-true p.unit n two.1)
+place_of p t n e = let two = and_parts (p.target == t) (p.unit == n) e in (eqb-true p.target t two.0, eqb-true p.unit n two.1)
 
 -- At this seat.
 abbrev pub SameContext : Array → Array → ℕ → ℕ → ℕ → Type 0
@@ -183,28 +175,25 @@ of_process s a b e id t n from seats sound st place some here = go (process_of s
 pub seat_is : (s : ScenarioValue) (a b : Array) (e : Event) (t n from : ℕ) (o : Option Seat) → step s e a ≡ Some b → seat_if (step s e a) t n ≡ settled_seat_if o → SameAfter (seat_of a t n) from o → context_of (seat_of b t n) from ≡ context_of (seat_of a t n) from
 seat_is s a b e t n from o st law same = same (seat_of b t n) (sym law ∙ ap (λ (x : Option Array). seat_if x t n) st)
 
-pub named : (s : ScenarioValue) (id : ProcId) (p : Process) → process_of s id ≡ Some p → process_of s p.id ≡ Some p
-named s id p z = ap (process_of s) (process_id s id p z) ∙ z
-
 pub accept_at : (s : ScenarioValue) (a b : Array) (id : ProcId) (t n from : ℕ) → HasSeats s → IsSound s a → is_some (process_of s id) ≡ true → step s (events.Accept id) a ≡ Some b → SameContext a b t n from
 accept_at s a b id t n from seats sound some st =
     of_process s a b (events.Accept id) id t n from seats sound st refl some
-    (λ p z. let same = process_id s id p z in seat_is s a b (events.Accept p.id) p.target p.unit from (Seats.seat_after_accept p (seat_of a p.target p.unit)) (ap (λ (x : ProcId). step s (events.Accept x) a) same ∙ st) (accept_law s a p seats sound (named s id p z)) (accept_context (seat_of a p.target p.unit) p from))
+    (λ p z. let same = process_id s id p z in seat_is s a b (events.Accept p.id) p.target p.unit from (Seats.seat_after_accept p (seat_of a p.target p.unit)) (ap (λ (x : ProcId). step s (events.Accept x) a) same ∙ st) (accept_law s a p seats sound (is_own s id p z)) (accept_context (seat_of a p.target p.unit) p from))
 
 pub refuse_at : (s : ScenarioValue) (a b : Array) (id : ProcId) (t n from : ℕ) → HasSeats s → IsSound s a → is_some (process_of s id) ≡ true → step s (events.Refuse id) a ≡ Some b → SameContext a b t n from
 refuse_at s a b id t n from seats sound some st =
     of_process s a b (events.Refuse id) id t n from seats sound st refl some
-    (λ p z. let same = process_id s id p z in seat_is s a b (events.Refuse p.id) p.target p.unit from (Seats.seat_after_refuse p (seat_of a p.target p.unit)) (ap (λ (x : ProcId). step s (events.Refuse x) a) same ∙ st) (refuse_law s a p seats sound (named s id p z)) (refuse_context (seat_of a p.target p.unit) p from))
+    (λ p z. let same = process_id s id p z in seat_is s a b (events.Refuse p.id) p.target p.unit from (Seats.seat_after_refuse p (seat_of a p.target p.unit)) (ap (λ (x : ProcId). step s (events.Refuse x) a) same ∙ st) (refuse_law s a p seats sound (is_own s id p z)) (refuse_context (seat_of a p.target p.unit) p from))
 
 pub fail_at : (s : ScenarioValue) (a b : Array) (id : ProcId) (code t n from : ℕ) → HasSeats s → IsSound s a → is_some (process_of s id) ≡ true → step s (events.Fail id code) a ≡ Some b → SameContext a b t n from
 fail_at s a b id code t n from seats sound some st =
     of_process s a b (events.Fail id code) id t n from seats sound st refl some
-    (λ p z. let same = process_id s id p z in seat_is s a b (events.Fail p.id code) p.target p.unit from (Seats.seat_after_failure (has_ended a p.id) p (check_condition (sense_of ABORTED_COMMAND code 0x00)) (seat_of a p.target p.unit)) (ap (λ (x : ProcId). step s (events.Fail x code) a) same ∙ st) (fail_law s a p code seats sound (named s id p z)) (fail_context (seat_of a p.target p.unit) (has_ended a p.id) p (check_condition (sense_of ABORTED_COMMAND code 0x00)) from))
+    (λ p z. let same = process_id s id p z in seat_is s a b (events.Fail p.id code) p.target p.unit from (Seats.seat_after_failure (has_ended a p.id) p (check_condition (sense_of ABORTED_COMMAND code 0x00)) (seat_of a p.target p.unit)) (ap (λ (x : ProcId). step s (events.Fail x code) a) same ∙ st) (fail_law s a p code seats sound (is_own s id p z)) (fail_context (seat_of a p.target p.unit) (has_ended a p.id) p (check_condition (sense_of ABORTED_COMMAND code 0x00)) from))
 
 pub loss_at : (s : ScenarioValue) (a b : Array) (id : ProcId) (t n from : ℕ) → HasSeats s → IsSound s a → is_some (process_of s id) ≡ true → step s (events.Lost id) a ≡ Some b → SameContext a b t n from
 loss_at s a b id t n from seats sound some st =
     of_process s a b (events.Lost id) id t n from seats sound st refl some
-    (λ p z. let same = process_id s id p z in seat_is s a b (events.Lost p.id) p.target p.unit from (Seats.seat_after_loss (has_ended a p.id) p.id (seat_of a p.target p.unit)) (ap (λ (x : ProcId). step s (events.Lost x) a) same ∙ st) (loss_law s a p seats sound (named s id p z)) (loss_context (seat_of a p.target p.unit) (has_ended a p.id) p.id from))
+    (λ p z. let same = process_id s id p z in seat_is s a b (events.Lost p.id) p.target p.unit from (Seats.seat_after_loss (has_ended a p.id) p.id (seat_of a p.target p.unit)) (ap (λ (x : ProcId). step s (events.Lost x) a) same ∙ st) (loss_law s a p seats sound (is_own s id p z)) (loss_context (seat_of a p.target p.unit) (has_ended a p.id) p.id from))
 
 -- ---- the events of a row
 
@@ -230,7 +219,7 @@ other_context seat i from e =
 -- At the unit of the process.
 abort_here : (s : ScenarioValue) (a b : Array) (i t n : ℕ) (what : AbortKind) (q : Process) → HasSeats s → IsSound s a → (t == q.target && n == q.unit) ≡ true → step s (events.Aborted i t n what) a ≡ Some b → ((seat : Seat) → context_of (Seats.seat_after_aborted s.hosts i what seat) q.initiator ≡ context_of seat q.initiator) → reply_now b q ≡ reply_now a q
 abort_here s a b i t n what q seats sound place st same =
-    let two = both_true (t == q.target) (n == q.unit) place in
+    let two = and_parts (t == q.target) (n == q.unit) place in
     let here : context_of (seat_of b t n) q.initiator ≡ context_of (seat_of a t n) q.initiator =
     seat_is s a b (events.Aborted i t n what) t n q.initiator (Some (Seats.seat_after_aborted s.hosts i what (seat_of a t n))) st (abort_law s a i t n what seats sound)
     (same_some (seat_of a t n) (Seats.seat_after_aborted s.hosts i what (seat_of a t n)) q.initiator (same (seat_of a t n))) in
@@ -275,7 +264,7 @@ events_same s a b (e ∷ shown) q seats sound f st = go (array_after_events s (S
     parts = or_parts (may_change s q e) (any_may_change s q shown) f
 
     go : (o : Option Array) → array_after_events s (Some a) shown ≡ o → array_step s e o ≡ Some b → ((c : Array) → array_after_events s (Some a) shown ≡ Some c → SameReply s a c q) → SameReply s a b q
-    go None z w rest = no_array b w
+    go None z w rest = none_some b w
     go (Some c) z w rest = let v = rest c z in record { sound = step_sound s c b e seats v.sound w; same = event_same s c b e q seats v.sound parts.0 w ∙ v.same }
 
 -- The reply of one that has carried some of its data stays, where it does with such an event.

@@ -1,8 +1,7 @@
 -- A REQUEST SENSE that runs leaves the contents and the attentions of its unit; so another process there would answer the same (7.2, 7.5).
-use Rattle.std.proofs.Common.{ℕ, ◌≡◌, ◌⊎◌, inl, inr, Bool, true, false, not, ◌&&◌, ◌||◌, ◌==◌, ◌∙◌, List, [], ◌∷◌, Option, Some, None, refl, sym, ap, subst}
+use Rattle.std.proofs.Common.{ℕ, ◌≡◌, ◌⊎◌, inl, inr, Bool, true, false, not, ◌&&◌, ◌||◌, ◌==◌, ◌∙◌, List, Option, Some, None, refl, sym, subst}
 use Rattle.std.specs.Prelude.{if◌then◌else◌, is_none, is_some, length, slice_index, Result, Ok, Err}
 use Rattle.std.proofs.lemmas.Option.{same_Some}
-use Rattle.bus_base.specs.declared.Event.TheVariants as events
 use Rattle.bus_base.specs.declared.ProcId.{ProcId}
 use Rattle.cdb_codec.specs.Cdb.{command_of, fields_of, has_group_len, sized_of}
 use Rattle.cdb_codec.specs.Operations.{operation_of}
@@ -14,18 +13,17 @@ use Rattle.cdb_codec.specs.declared.operation.Operation.{Operation}
 use Rattle.cdb_codec.specs.declared.operation.Operation.TheVariants as operations
 use Rattle.cdb_codec.specs.declared.operation.TheConstants.{TEST_UNIT_READY, REQUEST_SENSE, READ_6, WRITE_6, INQUIRY, READ_CAPACITY, READ_10, WRITE_10}
 use Rattle.cdb_codec.specs.declared.Sense.{Sense}
-use Rattle.scenario.specs.Value.{ScenarioValue}
-use Rattle.disk_array.specs.Contents.{Contents}
-use Rattle.disk_array.specs.Execution.{CommandContext, Execution, Reply, attention_execution, cdb_execution, check_condition, execution, heeds_attention, is_opcode, is_request_sense, needs_unit, reply_execution, unit_not_supported}
-use Rattle.disk_array.specs.Processes.{Process, process_of, same_id}
+use Rattle.disk_array.specs.Execution.{CommandContext, Execution, attention_execution, cdb_execution, check_condition, execution, heeds_attention, is_opcode, is_request_sense, needs_unit, reply_execution, unit_not_supported}
+use Rattle.disk_array.specs.Processes.{Process, same_id}
 use Rattle.disk_array.specs.Seats as Seats
-use Rattle.disk_array.specs.Seats.{Seat, context_of, current_of, seat_if, seat_of, settled_seat, settled_seat_if}
+use Rattle.disk_array.specs.Seats.{Seat, context_of, current_of, settled_seat, settled_seat_if}
 use Rattle.disk_array.specs.Steps as Steps
-use Rattle.disk_array.specs.Steps.{running_if, step}
-use Rattle.disk_array.specs.Units.{Array, RunningProcess, UnitState, guest_at, has_no_current, with_current}
+use Rattle.disk_array.specs.Steps.{running_if}
+use Rattle.disk_array.specs.Units.{RunningProcess, UnitState, guest_at, has_no_current, with_current}
 use Rattle.disk_array.specs.Order.{choice}
 use Rattle.right_laws.proofs.SameReplies.{settled_context}
-use Rattle.bus_base.proofs.Tests.{wrong, wrong'}
+use Rattle.bus_base.proofs.Tests.{wrong', and_false}
+use Rattle.trace_laws.proofs.Impossible.{none_some}
 
 -- ---- its operation code
 
@@ -69,15 +67,11 @@ record IsStill (m : CommandContext) (done : Execution) : Type 0 where
   contents : done.contents ≡ m.contents
   reported : done.reported ≡ false
 
-never : (x : Bool) → (x && false) ≡ false
-never true = refl
-never false = refl
-
 sense_still : (m : CommandContext) (cdb sent : List ℕ) → is_request_sense (command_of cdb) ≡ true → IsStill m (execution m cdb sent)
 sense_still m cdb sent e = go (not m.present && needs_unit cdb)
   where
     heeds : heeds_attention cdb ≡ false
-    heeds = (λ i. not (is_opcode cdb INQUIRY) && not (opcode_is cdb e i)) ∙ never (not (is_opcode cdb INQUIRY))
+    heeds = (λ i. not (is_opcode cdb INQUIRY) && not (opcode_is cdb e i)) ∙ and_false (not (is_opcode cdb INQUIRY))
 
     by : (c : Result Command CdbFault) → is_request_sense c ≡ true → IsStill m (cdb_execution m c sent)
     by (Ok (commands.RequestSense room)) z = record { contents = refl; reported = refl }
@@ -118,9 +112,6 @@ pub record IsCurrentAt (seat : Seat) (id : ProcId) : Type 0 where
   pub current_is : current_of seat.unit ≡ Some running
   pub id_is : same_id running.process.id id ≡ true
 
-no_seat : {A : Type 0} (x : Seat) → (let o : Option Seat = None in o) ≡ Some x → A
-no_seat x e = absurd cc
-
 pub run_seat : (seat after : Seat) (id : ProcId) (from : ℕ) → ((g : RunningProcess) → guest_at seat.guests id ≡ Some g → is_request_sense (command_of g.process.cdb) ≡ true) → settled_seat_if (Seats.seat_after_run id seat) ≡ Some after → (context_of after from ≡ context_of seat from) ⊎ IsCurrentAt after id
 run_seat seat after id from senses e = go (guest_at seat.guests id) refl e
   where
@@ -128,7 +119,7 @@ run_seat seat after id from senses e = go (guest_at seat.guests id) refl e
     Is x = (context_of x from ≡ context_of seat from) ⊎ IsCurrentAt x id
 
     as_guest : (g : RunningProcess) → guest_at seat.guests id ≡ Some g → (q : Bool) → settled_seat_if (if q then Some (Seats.seat_with_execution seat g.process (execution (context_of seat g.process.initiator) g.process.cdb g.process.sent)) else None) ≡ Some after → Is after
-    as_guest g eg false z = no_seat after z
+    as_guest g eg false z = none_some after z
     as_guest g eg true z =
         let done : Execution = execution (context_of seat g.process.initiator) g.process.cdb g.process.sent in
         let w = sense_still (context_of seat g.process.initiator) g.process.cdb g.process.sent (senses g eg) in
@@ -153,21 +144,21 @@ run_seat seat after id from senses e = go (guest_at seat.guests id) refl e
             ∙ chosen (Seats.is_any_held seat.hold) new (record r { reply = Some done.reply }) replied
 
     queued : (x : Option UnitState) → seat.unit ≡ x → settled_seat_if (Seats.seat_after_run_of seat false (running_if (current_of x) id)) ≡ Some after → Is after
-    queued None eu z = no_seat after z
+    queued None eu z = none_some after z
     queued (Some u) eu z = by u.current refl z
       where
         by : (o : Option RunningProcess) → u.current ≡ o → settled_seat_if (Seats.seat_after_run_of seat false (running_if o id)) ≡ Some after → Is after
-        by None er z = no_seat after z
+        by None er z = none_some after z
         by (Some r) er z = is (same_id r.process.id id) refl z
           where
             runs : same_id r.process.id id ≡ true → (q : Bool) → settled_seat_if (if q then Some (Seats.seat_with_execution seat r.process (execution (context_of seat r.process.initiator) r.process.cdb r.process.sent)) else None) ≡ Some after → Is after
-            runs same false y = no_seat after y
+            runs same false y = none_some after y
             runs same true y =
                 let done : Execution = execution (context_of seat r.process.initiator) r.process.cdb r.process.sent in
                 subst Is (same_Some (settled_seat (Seats.seat_with_execution seat r.process done)) after y) (inr (current u eu r er same done))
 
             is : (q : Bool) → same_id r.process.id id ≡ q → settled_seat_if (Seats.seat_after_run_of seat false (if q then Some r else None)) ≡ Some after → Is after
-            is false same y = no_seat after y
+            is false same y = none_some after y
             is true same y = runs same (is_none r.reply && (false || not (Seats.is_any_held seat.hold))) y
 
     go : (o : Option RunningProcess) → guest_at seat.guests id ≡ o → settled_seat_if (Seats.seat_after_run_of seat (is_some o) (if is_some o then o else running_if (current_of seat.unit) id)) ≡ Some after → Is after

@@ -35,6 +35,7 @@ use Rattle.trace_laws.specs.RunsWhole.{IsWhole, ends_badly, has_run, sends_all, 
 use Rattle.trace_laws.specs.WholeRuns.{bytes_come}
 use Rattle.trace_laws.proofs.Whole.{Whole, row_attendance, whole}
 use Rattle.trace_laws.proofs.WritePremises.{write_premises}
+use Rattle.trace_laws.proofs.Impossible.{none_some}
 use Rattle.right_laws.specs.Asked.{SendsAtRun}
 use Rattle.right_laws.proofs.AcceptedReplies.{accept_keeps}
 use Rattle.right_laws.proofs.GivenReplies.{run_gives}
@@ -45,9 +46,6 @@ use Rattle.bus_base.proofs.Tests.{wrong}
 
 -- ---- the reply of a process that runs is the one that it would have before the row
 
-no_array : {A : Type 0} (b : Array) → (let o : Option Array = None in o) ≡ Some b → A
-no_array b e = absurd cc
-
 pub runs_so : (s : ScenarioValue) (a b : Array) (q : Process) (shown : List Event) → Obeys s → Rattle.disk_array.specs.SoundArray.IsSound s a → process_of s q.id ≡ Some q → RunsAs q.id shown → array_after_events s (Some a) shown ≡ Some b → reply_in b.replies q.id ≡ Some (reply_now a q)
 runs_so s a b q shown o sound own (runs_alone e) after = run_gives s a b q sound own (sym (ap (array_after_events s (Some a)) e) ∙ after)
 runs_so s a b q shown o sound own (runs_arrived e) after = go (step s (events.Accept q.id) a) refl (sym (ap (array_after_events s (Some a)) e) ∙ after)
@@ -56,7 +54,7 @@ runs_so s a b q shown o sound own (runs_arrived e) after = go (step s (events.Ac
     seats = seats_are s (obeys_fits s o)
 
     go : (m : Option Array) → step s (events.Accept q.id) a ≡ m → array_step s (events.Run q.id) (step s (events.Accept q.id) a) ≡ Some b → reply_in b.replies q.id ≡ Some (reply_now a q)
-    go None f z = no_array b (sym (ap (array_step s (events.Run q.id)) f) ∙ z)
+    go None f z = none_some b (sym (ap (array_step s (events.Run q.id)) f) ∙ z)
     go (Some m) f z =
         run_gives s m b q (step_sound s a m (events.Accept q.id) seats sound f) own (sym (ap (array_step s (events.Run q.id)) f) ∙ z)
         ∙ ap (λ (r : Reply). Some r) (accept_keeps s a m q seats sound own f)

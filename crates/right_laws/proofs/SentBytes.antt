@@ -1,6 +1,5 @@
 -- A process that writes, and of which all that it sends has come as it runs, has carried it all (6.1.5.1, 6.6.20).
-use Rattle.std.proofs.Common.{ℕ, ◌+◌, ◌*◌, ◌≡◌, ◌≤◌, arith, Bool, true, false, ◌&&◌, ◌==◌, ◌∙◌, List, [], ◌∷◌, ◌++◌, length, length-append, Option, Some, None, refl, sym, ap, subst, true≢false}
-use Rattle.std.proofs.lemmas.Bool.Decides.{nat_tests}
+use Rattle.std.proofs.Common.{ℕ, ◌+◌, ◌*◌, ◌≡◌, ◌≤◌, arith, Bool, true, false, ◌&&◌, ◌==◌, ◌∙◌, List, length, Some, refl, sym, ap, subst, true≢false}
 use Rattle.std.proofs.lemmas.Option.{same_Some}
 use Rattle.std.specs.Prelude.{if◌then◌else◌}
 use Rattle.bus_base.specs.declared.ProcId.{ProcId}
@@ -13,7 +12,6 @@ use Rattle.scenario.specs.Lookups.{unit_of}
 use Rattle.scenario.specs.Value.{ScenarioValue}
 use Rattle.scenario.specs.Writing.{Obeys}
 use Rattle.scenario.specs.declared.value.Policy.{Policy}
-use Rattle.scenario.specs.declared.value.Policy.TheVariants as policies
 use Rattle.disk_array.specs.ArrayHistory.{array_after, reply_in}
 use Rattle.disk_array.specs.Execution.{Reply}
 use Rattle.disk_array.specs.Order.{range_in}
@@ -22,7 +20,7 @@ use Rattle.disk_array.specs.Units.{unit_state_at}
 use Rattle.bus_story.specs.BusState.{row_reading}
 use Rattle.bus_story.specs.CarriedBytes.{CarriedBytes}
 use Rattle.bus_story.specs.HistoryEvents.{row_events_by}
-use Rattle.bus_story.specs.Items.{Item, process}
+use Rattle.bus_story.specs.Items.{process}
 use Rattle.bus_story.specs.Links.{Link}
 use Rattle.bus_story.specs.Right.{has_run, moved_bytes}
 use Rattle.bus_dialogue.specs.declared.exchange.Cause.{Cause}
@@ -31,7 +29,6 @@ use Rattle.bus_dialogue.specs.declared.exchange.Phase.{Phase}
 use Rattle.bus_dialogue.specs.declared.exchange.Phase.TheVariants as phases
 use Rattle.bus_dialogue.specs.declared.exchange.Plan.{Plan}
 use Rattle.bus_lines.specs.Handshakes.{Handshakes}
-use Rattle.bus_dialogue.specs.DataRuns.{run_in}
 use Rattle.bus_dialogue.specs.NextPhase.{phase_of}
 use Rattle.bus_due.specs.LastingState.{progress_in}
 use Rattle.bus_due.specs.Plain.{IsPlain}
@@ -51,24 +48,19 @@ use Rattle.trace_laws.specs.RunFacts.{IsServedWell}
 use Rattle.trace_laws.specs.WholeRuns.{start_of_run, bytes_come}
 use Rattle.trace_laws.proofs.RunFits.{fits_runs}
 use Rattle.trace_laws.proofs.PhaseLines.{out_no_status}
+use Rattle.trace_laws.proofs.Impossible.{none_some}
+use Rattle.trace_laws.proofs.RunParts.{start_is}
 use Rattle.right_laws.specs.Asked.{IsRunning, SendsAtRun, GivesAtRun}
 use Rattle.right_laws.specs.Open.{OnEvents}
 use Rattle.right_laws.specs.Runs.{MovesAtRun}
 use Rattle.right_laws.proofs.RanFacts.{Known, apart_of}
-use Rattle.right_laws.proofs.RowCrossings.{GoesSo, here_goes, known_served, no_item}
+use Rattle.right_laws.proofs.RowCrossings.{GoesSo, here_goes, known_served}
 use Rattle.right_laws.proofs.ShownRows.{IsAnswer, ShownAs, row_shown, RunsAs, runs_alone, runs_arrived, row_runs}
 use Rattle.std.proofs.lemmas.Bool.{eqb-true}
-use Rattle.bus_base.proofs.Tests.{wrong, wrong', times_none}
+use Rattle.bus_base.proofs.Tests.{wrong}
 use Rattle.right_laws.proofs.BlockFacts.{front_all}
 
 -- ---- where a run begins
-
-start_is : (policy : Policy) (blocks : Option ℕ) (size moved n : ℕ) → (run_in policy blocks size moved n).start ≡ n * step_in policy blocks size
-start_is policy None size moved n = times_none n
-start_is policies.Never (Some b) size moved n = times_none n
-start_is policies.Command (Some b) size moved n = times_none n
-start_is (policies.Burst most) (Some b) size moved n = refl
-start_is (policies.NoSave most) (Some b) size moved n = times_none n
 
 run_starts : (s : ScenarioValue) (k : RunState) (q : Process) → Obeys s → k.array ≡ array_after s k.story.history → process_of s q.id ≡ Some q → is_writing q ≡ true → is_of_size s k q ≡ true → start_of_run s q (progress_in k.progress q.id).runs ≡ run_start s k q
 run_starts s k q o e own w sized =
@@ -173,7 +165,7 @@ sent_bytes s p row q reply o h facts is w came = by (here_goes s k row answer.li
         well = facts.runs.served v.connection q g.row_is.connection_is g.calm (ap (process_item s) served ∙ is.process_is) w
 
         reached : ServedPointers s k q → Reaches c k.handshakes.answers (run_start s k q) (phase_of (bus_of k))
-        reached (unnamed l el none x) = no_item (process q.id) (sym none ∙ ap (λ (y : Link). y.item) (same_Some l answer.link (sym el ∙ answer.here.link_is)) ∙ answer.here.item_is)
+        reached (unnamed l el none x) = none_some (process q.id) (sym none ∙ ap (λ (y : Link). y.item) (same_Some l answer.link (sym el ∙ answer.here.link_is)) ∙ answer.here.item_is)
         reached (named l el item x) = at k.exchange.begun refl x
           where
             at : (y : Bool) → k.exchange.begun ≡ y → PointersIf y (run_policy s q) l c k.exchange.plan k.handshakes (run_start s k q) (phase_of (bus_of k)) → Reaches c k.handshakes.answers (run_start s k q) (phase_of (bus_of k))

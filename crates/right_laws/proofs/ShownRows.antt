@@ -1,7 +1,8 @@
 -- The events that a row shows, each with what is known of the row (6.1.6, 6.6.5, 7.3, 7.8).
-use Rattle.std.proofs.Common.{ℕ, ◌≡◌, Bool, true, false, not, ◌&&◌, ◌||◌, ◌∙◌, List, [], ◌∷◌, Option, Some, None, refl, sym, ap, subst, true≢false}
-use Rattle.std.specs.Prelude.{if◌then◌else◌, is_some, slice_index, ⊤}
+use Rattle.std.proofs.Common.{ℕ, ◌≡◌, Bool, true, false, not, ◌&&◌, ◌||◌, ◌∙◌, List, [], ◌∷◌, Option, Some, None, refl, sym, ap, subst}
+use Rattle.std.specs.Prelude.{if◌then◌else◌, is_some, slice_index}
 use Rattle.std.specs.List.{list_any}
+use Rattle.std.proofs.lemmas.Bool.{and_parts, not-true}
 use Rattle.bus_base.specs.declared.Event.{Event}
 use Rattle.bus_base.specs.declared.Event.TheVariants as events
 use Rattle.bus_base.specs.declared.ProcId.{ProcId}
@@ -17,7 +18,7 @@ use Rattle.bus_story.specs.CarriedBytes.{CarriedBytes, is_whole_block, is_status
 use Rattle.bus_story.specs.HistoryEvents.{carried_if, queue_event, queue_events, is_refuse, status_event, phase_events, is_completion, end_events, item_loss_events, abort_line_at, abort_line_events, item_abort_events, bus_free_events, connection_events, link_events, row_events_by}
 use Rattle.bus_story.specs.Items.{Item, process, abort}
 use Rattle.bus_story.specs.Links.{Link, LastMessage, plain, complete, disconnect, abortive}
-use Rattle.bus_story.specs.Right.{is_run_of, has_run}
+use Rattle.bus_story.specs.Right.{has_run}
 use Rattle.bus_due.specs.RunState.{RunState, carried_here}
 use Rattle.bus_books.proofs.Lookups.{carried_id, id_is}
 use Rattle.right_laws.specs.Open.{OnEvents}
@@ -75,14 +76,6 @@ pub data RunsAs (id : ProcId) (shown : List Event) : Type 0 where
 
 -- ---- a phase is left
 
-both_are : (a b : Bool) → (a && b) ≡ true → (a ≡ true) × (b ≡ true)
-both_are true b e = (refl, e)
-both_are false b e = wrong' e
-
-not_is : (a : Bool) → not a ≡ true → a ≡ false
-not_is true e = wrong' e
-not_is false e = refl
-
 turn_shown : (s : ScenarioValue) (k : RunState) (d : RowReading) (row : Row) (l : Link) (x : ProcId) → IsHere k d l x → changes_phase d.change ≡ true → OnEvents (ShownAs s k d row) (phase_events s k.story (Some (carried_here k x)) d.change)
 turn_shown s k d row l x here turns = status (is_status_phase d.change.after && not c.shown && not c.refused && not (list_any (λ e. is_refuse e) arrived)) refl
   where
@@ -97,7 +90,7 @@ turn_shown s k d row l x here turns = status (is_status_phase d.change.after && 
 
     arrives : (is_command d.change.before && is_whole_block c) ≡ true → IsArrival k d c.id
     arrives e =
-        let w = both_are (is_command d.change.before) (is_whole_block c) e in
+        let w = and_parts (is_command d.change.before) (is_whole_block c) e in
         subst (IsArrival k d) (sym own) (record { link = l; here = here; turns = turns; command = w.0; whole = w.1 })
 
     queued : (q : Bool) → (is_command d.change.before && is_whole_block c) ≡ q → OnEvents (ShownAs s k d row) (if q then queue_event s k.story.history c.id ∷ [] else [])
@@ -113,10 +106,10 @@ turn_shown s k d row l x here turns = status (is_status_phase d.change.after && 
       where
         of : IsAnswer k d c.id
         of =
-            let three = both_are (is_status_phase d.change.after && not c.shown && not c.refused) (not (list_any (λ y. is_refuse y) arrived)) e in
-            let two = both_are (is_status_phase d.change.after && not c.shown) (not c.refused) three.0 in
-            let one = both_are (is_status_phase d.change.after) (not c.shown) two.0 in
-            subst (IsAnswer k d) (sym own) (record { link = l; here = here; turns = turns; status = one.0; unanswered = λ i. not_is c.shown one.1 i || not_is c.refused two.1 i })
+            let three = and_parts (is_status_phase d.change.after && not c.shown && not c.refused) (not (list_any (λ y. is_refuse y) arrived)) e in
+            let two = and_parts (is_status_phase d.change.after && not c.shown) (not c.refused) three.0 in
+            let one = and_parts (is_status_phase d.change.after) (not c.shown) two.0 in
+            subst (IsAnswer k d) (sym own) (record { link = l; here = here; turns = turns; status = one.0; unanswered = λ i. not-true c.shown one.1 i || not-true c.refused two.1 i })
 
         by : (f : Option ℕ) → ShownAs s k d row (status_event c.id f)
         by None = of
@@ -210,9 +203,6 @@ row_shown s k row = go d.change.after.rst refl
     go false e = linked k.story.link refl e
 
 -- ---- where a process runs with it
-
-no_run : {A : Type 0} (e : Event) (id : ProcId) → is_run_of id e ≡ false → has_run (e ∷ []) id ≡ true → A
-no_run e id none has = wrong' (sym (ap (λ (q : Bool). q || false) none) ∙ has)
 
 turn_runs : (s : ScenarioValue) (k : RunState) (d : RowReading) (id : ProcId) (c : CarriedBytes) → has_run (phase_events s k.story (Some c) d.change) id ≡ true → RunsAs id (phase_events s k.story (Some c) d.change)
 turn_runs s k d id c = status (is_command d.change.before && is_whole_block c) (is_some (array_after s (events.Accept c.id ∷ k.story.history)))

@@ -1,6 +1,5 @@
 -- The status that a process has carried after a row of a connection: the same, unless a byte of STATUS or RESTORE POINTERS crosses (6.4, 6.6.19).
-use Rattle.std.proofs.Common.{ℕ, ◌≡◌, inl, inr, arith, Bool, true, false, not, ◌&&◌, ◌%◌, ◌∙◌, List, [], ◌∷◌, ◌++◌, length, Option, Some, None, refl, sym, ap}
-use Rattle.std.proofs.lemmas.Bool.Decides.{nat_tests}
+use Rattle.std.proofs.Common.{ℕ, ◌≡◌, inl, inr, Bool, true, false, not, ◌&&◌, ◌%◌, ◌∙◌, List, [], ◌∷◌, ◌++◌, length, Option, Some, None, refl, sym, ap}
 use Rattle.std.specs.Prelude.{if◌then◌else◌, is_some, nat_lt, slice_index_or, slice_set}
 use Rattle.bus_base.specs.declared.Event.{Event}
 use Rattle.bus_base.specs.declared.Event.TheVariants as events
@@ -31,8 +30,8 @@ use Rattle.bus_due.specs.RunSteps.{run_state_after}
 use Rattle.bus_books.specs.Rows.{IsRowIn, reading_in}
 use Rattle.bus_books.proofs.Lookups.{carried_id}
 use Rattle.trace_laws.proofs.PointerStorySteps.{byte_story, in_known}
-use Rattle.trace_laws.proofs.PointerStories.{story_row}
 use Rattle.trace_laws.proofs.ShownReplies.{checked, all_ended}
+use Rattle.trace_laws.proofs.PointerStories.{story_row}
 use Rattle.right_laws.specs.StatusBytes.{HasOne, IsReady, IsSmall}
 use Rattle.right_laws.proofs.Lasting.{puts}
 use Rattle.bus_base.proofs.Tests.{nothing_below}

@@ -58,6 +58,8 @@ use Rattle.bus_due.specs.RunSteps.{exchange_after, first_exchange, leaving_of, m
 use Rattle.bus_dialogue.specs.Planning.{first_plan}
 use Rattle.bus_books.specs.Traces.{Begins}
 use Rattle.trace_laws.proofs.ItemFacts.{beginning}
+use Rattle.trace_laws.proofs.Impossible.{none_some}
+use Rattle.trace_laws.proofs.Tests.{not_unless}
 use Rattle.right_laws.proofs.BlockFacts.{lasting_by}
 use Rattle.right_laws.proofs.Lasting.{row_lasts}
 use Rattle.right_laws.proofs.RanFacts.{undoes_of, here_is, given_stays}
@@ -66,13 +68,8 @@ use Rattle.right_laws.proofs.StatusSame.{message_line, freeing}
 use Rattle.right_laws.proofs.StatusStays.{Given, Going, talk_still, talk_crosses}
 use Rattle.right_laws.proofs.StatusTurns.{talk_turns}
 use Rattle.bus_base.proofs.Tests.{wrong, wrong'}
-use Rattle.right_laws.proofs.DataOffers.{none_some}
 
 -- ---- what has no reply
-
-not_given : (q r : Bool) → (q ≡ true → r ≡ true) → r ≡ false → q ≡ false
-not_given true r f e = wrong (sym (f refl) ∙ e)
-not_given false r f e = refl
 
 no_status : (c : CarriedBytes) (b : LineSet) (byte : ℕ) → is_status_phase b ≡ false → (carried_after_byte c b byte).status.bytes ≡ c.status.bytes
 no_status c b byte e = go (is_command b) (is_data b) (is_status_phase b) e
@@ -93,7 +90,7 @@ empty_next s p row h f id none = stays ∙ f id before
     b = (row_reading k.story.bus_state row).change.before
 
     before : is_some (reply_in (array_of s k).replies id) ≡ false
-    before = not_given (is_some (reply_in (array_of s k).replies id)) (is_some (reply_in (array_of s (run_state s (row ∷ p))).replies id)) (given_stays s p row h id) none
+    before = not_unless (is_some (reply_in (array_of s k).replies id)) (is_some (reply_in (array_of s (run_state s (row ∷ p))).replies id)) (given_stays s p row h id) none
 
     quiet : (l : Link) → k.story.link ≡ Some l → l.item ≡ Some (process id) → (row_reading k.story.bus_state row).crosses ≡ true → b.msg ≡ false → is_status_phase b ≡ false
     quiet l e item moves msg = by (crossing_goes s k row h.next.row_is moves)

@@ -1,5 +1,5 @@
 -- In STATUS one byte crosses: REQ rises in it but once (6.1.5.1, 6.1.8).
-use Rattle.std.proofs.Common.{ℕ, ◌≡◌, Bool, true, false, not, ◌&&◌, ◌==◌, ◌∙◌, List, ◌∷◌, Option, Some, None, refl, sym, ap, true≢false}
+use Rattle.std.proofs.Common.{ℕ, ◌≡◌, Bool, true, false, not, ◌&&◌, ◌==◌, ◌∙◌, List, ◌∷◌, Option, Some, None, refl, sym, ap}
 use Rattle.std.specs.Prelude.{if◌then◌else◌}
 use Rattle.bus_trace.specs.LineSet.{LineSet}
 use Rattle.bus_trace.specs.Changes.{rises}
@@ -29,8 +29,9 @@ use Rattle.trace_laws.proofs.Crossings.{offering_is}
 use Rattle.trace_laws.proofs.Kept.{initiator_end, target_end}
 use Rattle.trace_laws.proofs.LinkRows as rows
 use Rattle.trace_laws.proofs.Turns.{freed_connection}
+use Rattle.trace_laws.proofs.Impossible.{none_some}
+use Rattle.trace_laws.proofs.Tests.{risen}
 use Rattle.bus_base.proofs.Tests.{wrong, wrong'}
-use Rattle.right_laws.proofs.DataOffers.{none_some}
 
 -- REQ rises with the row, in STATUS.
 pub record Asks (p : List Row) (row : Row) (n : Connection) : Type 0 where
@@ -41,17 +42,13 @@ pub record Asks (p : List Row) (row : Row) (n : Connection) : Type 0 where
   pub lines : is_fault row.kind ≡ false
   pub after : connection (row ∷ p) ≡ Some n
 
-was_low : (q r : Bool) → rises q r ≡ true → q ≡ false
-was_low true r e = wrong' e
-was_low false r e = refl
-
 is_high : (q r : Bool) → rises q r ≡ true → r ≡ true
 is_high true r e = wrong' e
 is_high false r e = e
 
 -- It was true before, or is not after; or the phase is another.
 asked : {A : Type 0} (p : List Row) (row : Row) (n : Connection) (e : EndLines) → Asks p row n → Linked p n e → e.req ≡ true → A
-asked p row n e h linked z = wrong (sym z ∙ ap (λ (b : LineSet). b.req) (sym linked.stands.bus_is) ∙ was_low (bus p).req (bus (row ∷ p)).req h.rose)
+asked p row n e h linked z = wrong (sym z ∙ ap (λ (b : LineSet). b.req) (sym linked.stands.bus_is) ∙ risen (bus p).req (bus (row ∷ p)).req h.rose)
 
 low : {A : Type 0} (p : List Row) (row : Row) (n : Connection) → Asks p row n → (bus (row ∷ p)).req ≡ false → A
 low p row n h z = wrong (sym (is_high (bus p).req (bus (row ∷ p)).req h.rose) ∙ z)

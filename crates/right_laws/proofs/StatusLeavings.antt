@@ -1,7 +1,7 @@
 -- How MESSAGE IN follows another phase, as far as STATUS is concerned: COMMAND COMPLETE follows STATUS; messages that were refused are said
 -- again; after INITIATOR DETECTED ERROR the pointers are restored for STATUS; else neither COMMAND COMPLETE is said nor does STATUS follow
 -- (6.6.5, 6.6.10, 6.6.13).
-use Rattle.std.proofs.Common.{◌≡◌, Bool, true, false, ◌+◌, ◌∙◌, Option, Some, None, refl, sym, true≢false}
+use Rattle.std.proofs.Common.{◌≡◌, Bool, true, false, ◌+◌, ◌∙◌, Option, Some, None, refl, sym}
 use Rattle.std.specs.Prelude.{if◌then◌else◌, is_some, nat_lt}
 use Rattle.bus_trace.specs.declared.agreements.Agreement.{Agreement}
 use Rattle.msg_grammar.specs.declared.message.MsgIn.{MsgIn}
@@ -25,8 +25,9 @@ use Rattle.bus_dialogue.specs.DataRuns.{runs_in_all}
 use Rattle.bus_dialogue.specs.Exchange.{one_message}
 use Rattle.bus_dialogue.specs.NextPhase.{Serving, phase_leaving, phase_entry, with_task, recovery, recovery_limit, pointer_restoration, message_out_leaving, after_messages, after_arrival, after_run, disconnection, disconnect_messages, data_in_leaving, bus_free, message_repetition, message_in_entry, request_or_command, after_offer}
 use Rattle.bus_dialogue.specs.Words.{request_by, is_naming}
+use Rattle.bus_dialogue.specs.Events.{is_status_next as is_to_status}
 use Rattle.trace_laws.proofs.UndoneLeavings.{is_to_message_in, to_data, not_again}
-use Rattle.bus_base.proofs.Tests.{wrong, wrong'}
+use Rattle.bus_base.proofs.Tests.{wrong'}
 
 abbrev pub is_ending : Messages → Bool
 is_ending m = go m.first
@@ -60,9 +61,6 @@ Leads q l = is_to_message_in l.to ≡ true → q l
 
 abbrev Others : Leaving → Type 0
 Others l = Leads IsOther l
-
-none_to : (q : Leaving → Type 0) (l : Leaving) → is_to_message_in l.to ≡ false → Leads q l
-none_to q l e z = wrong' (sym e ∙ z)
 
 by_task : (q : Leaving → Type 0) (task : Option Task) (f : Task → Leaving) → ((t : Task) → Leads q (f t)) → Leads q (with_task task f)
 by_task q None f h e = wrong' e
@@ -178,10 +176,6 @@ from_in v atn phases.DataOut e =
     (recovers v.def t (pointer_restoration nexts.GoOn) (phase_entry phases.Status) (λ z. restored nexts.GoOn refl) (λ z. wrong' z)) (ran (policy_of v.def) t)) e)
 
 -- ---- how STATUS follows
-
-abbrev pub is_to_status : Option Phase → Bool
-is_to_status (Some phases.Status) = true
-is_to_status _ = false
 
 -- After the pointers were restored for it; or of a process that runs, or has not arrived.
 pub data ToStatus (v : Serving) (atn : Bool) (phase : Phase) : Type 0 where

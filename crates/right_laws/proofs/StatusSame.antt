@@ -1,12 +1,10 @@
 -- What is said of the status that a process has carried says the same of what has the same bytes and the same pointer.
-use Rattle.std.proofs.Common.{ℕ, ◌≡◌, ◌⊎◌, inl, inr, Bool, true, false, not, ◌&&◌, ◌==◌, ◌∙◌, Option, Some, None, refl, sym, ap, subst, true≢false}
+use Rattle.std.proofs.Common.{ℕ, ◌≡◌, ◌⊎◌, inl, inr, Bool, true, false, not, ◌&&◌, ◌==◌, ◌∙◌, Some, refl, sym, ap, subst, true≢false}
 use Rattle.std.specs.Prelude.{if◌then◌else◌}
 use Rattle.bus_trace.specs.LineSet.{LineSet}
 use Rattle.bus_trace.specs.Phases.{is_message_out, is_message_in}
-use Rattle.bus_trace.specs.declared.connection.Connection.{Connection}
 use Rattle.msg_grammar.specs.declared.message.MsgIn.TheVariants as to_initiator
-use Rattle.bus_story.specs.CarriedBytes.{CarriedBytes, is_status_phase}
-use Rattle.bus_story.specs.HistoryEvents.{is_completion}
+use Rattle.bus_story.specs.CarriedBytes.{CarriedBytes}
 use Rattle.bus_story.specs.Links.{Link}
 use Rattle.bus_dialogue.specs.declared.exchange.Cause.{Cause}
 use Rattle.bus_dialogue.specs.declared.exchange.Cause.TheVariants as causes
@@ -18,16 +16,14 @@ use Rattle.bus_dialogue.specs.declared.exchange.Phase.TheVariants as phases
 use Rattle.bus_dialogue.specs.declared.exchange.Plan.{Plan}
 use Rattle.bus_dialogue.specs.Exchange.{one_message}
 use Rattle.bus_dialogue.specs.NextPhase.{phase_of}
-use Rattle.bus_books.specs.Giving.{AreGiven}
+use Rattle.bus_dialogue.specs.Events.{is_status_next}
 use Rattle.trace_laws.specs.ItemTalks.{frees_bus}
-use Rattle.trace_laws.specs.LastTalks.{LastFacts, LastGiven, still_stays, to_close, to_save, closed, LastBy}
+use Rattle.trace_laws.specs.LastTalks.{LastGiven, still_stays, to_close, to_save, closed}
 use Rattle.trace_laws.proofs.LastRows.{KeptPlan}
-use Rattle.bus_books.proofs.Gives.{in_io}
 use Rattle.right_laws.specs.Loads.{Load, load}
 use Rattle.right_laws.specs.StatusBytes.{HasOne, IsSmall, IsReady, StatusSays, StatusAsked, StatusBy}
-use Rattle.right_laws.proofs.StatusLeavings.{is_ending, is_freeing_next, is_to_status}
-use Rattle.bus_base.proofs.Tests.{wrong, wrong'}
-use Rattle.right_laws.proofs.DataOffers.{none_some}
+use Rattle.right_laws.proofs.StatusLeavings.{is_ending, is_freeing_next}
+use Rattle.bus_base.proofs.Tests.{wrong'}
 
 -- ---- what is the same says the same
 
@@ -79,9 +75,9 @@ same_by c d p q x y phases.DataOut e f k same h = tt
 -- ---- lines
 
 pub status_lines : (b : LineSet) → phase_of b ≡ phases.Status → (b.msg ≡ false) × (b.cd ≡ true) × (b.io ≡ true)
-status_lines b e = go b.msg b.cd b.io refl refl refl (ap (λ (p : Phase). is_to_status (Some p)) e)
+status_lines b e = go b.msg b.cd b.io refl refl refl (ap (λ (p : Phase). is_status_next (Some p)) e)
   where
-    go : (m d i : Bool) → b.msg ≡ m → b.cd ≡ d → b.io ≡ i → is_to_status (Some (if m then (if i then phases.MessageIn else phases.MessageOut) else if d then (if i then phases.Status else phases.Command) else if i then phases.DataIn else phases.DataOut)) ≡ true → (b.msg ≡ false) × (b.cd ≡ true) × (b.io ≡ true)
+    go : (m d i : Bool) → b.msg ≡ m → b.cd ≡ d → b.io ≡ i → is_status_next (Some (if m then (if i then phases.MessageIn else phases.MessageOut) else if d then (if i then phases.Status else phases.Command) else if i then phases.DataIn else phases.DataOut)) ≡ true → (b.msg ≡ false) × (b.cd ≡ true) × (b.io ≡ true)
     go true d true em ed ei z = wrong' z
     go true d false em ed ei z = wrong' z
     go false true true em ed ei z = (em, ed, ei)
@@ -102,13 +98,6 @@ out_line b e = go b.msg b.cd b.io e
     go : (m d o : Bool) → (m && d && not o) ≡ true → m ≡ true
     go true d o z = refl
     go false d o z = wrong' z
-
-pub in_not_out : (b : LineSet) → is_message_in b ≡ true → is_message_out b ≡ false
-in_not_out b e = (λ i. b.msg && b.cd && not (in_io b e i)) ∙ go (b.msg && b.cd)
-  where
-    go : (q : Bool) → (q && false) ≡ false
-    go true = refl
-    go false = refl
 
 -- ---- what is said at its end
 

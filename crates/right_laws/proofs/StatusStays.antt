@@ -1,6 +1,5 @@
 -- What a process has carried of its status, as a phase of its connection goes on (6.4, 6.6.5, 6.6.10).
 use Rattle.std.proofs.Common.{ℕ, ◌≡◌, ◌⊎◌, inl, inr, arith, ◌<◌, Bool, true, false, not, ◌&&◌, ◌==◌, ◌%◌, ◌∙◌, List, [], ◌∷◌, ◌++◌, length, Option, Some, None, refl, sym, ap, subst, true≢false}
-use Rattle.std.proofs.lemmas.Bool.Decides.{nat_tests}
 use Rattle.std.proofs.lemmas.Option.{same_Some}
 use Rattle.std.specs.Prelude.{if◌then◌else◌, is_some, slice_index_or}
 use Rattle.bus_base.specs.declared.ProcId.{ProcId}
@@ -17,7 +16,7 @@ use Rattle.msg_grammar.specs.Messages.{got_in}
 use Rattle.msg_grammar.specs.declared.message.MsgIn.TheVariants as to_initiator
 use Rattle.scenario.specs.Value.{ScenarioValue}
 use Rattle.disk_array.specs.Processes.{process_of}
-use Rattle.bus_story.specs.BusState.{RowReading, row_reading, whole_in, message_out, message_in}
+use Rattle.bus_story.specs.BusState.{whole_in, message_out, message_in}
 use Rattle.bus_story.specs.Items.{Item, process}
 use Rattle.bus_story.specs.Links.{Link}
 use Rattle.bus_dialogue.specs.declared.exchange.Messages.{Messages}
@@ -42,7 +41,7 @@ use Rattle.trace_laws.proofs.ConnectionRows.{ConnectionRow, GoingRow}
 use Rattle.trace_laws.proofs.LastRows.{Stays, stays_as}
 use Rattle.trace_laws.proofs.UndoneFacts.{in_of}
 use Rattle.trace_laws.proofs.UndoneRows.{empty_front}
-use Rattle.trace_laws.proofs.PhaseLines.{out_lines}
+use Rattle.trace_laws.proofs.PhaseLines.{out_lines, out_in}
 use Rattle.right_laws.specs.Loads.{load}
 use Rattle.right_laws.specs.StatusBytes.{HasOne, IsSmall, IsReady, StatusBy, StatusFacts}
 use Rattle.right_laws.proofs.RanFacts.{Known}
@@ -51,12 +50,11 @@ use Rattle.right_laws.proofs.StatusAreas.{area_stays, status_crosses, restore_wh
 use Rattle.right_laws.proofs.StatusFirst.{status_first}
 use Rattle.right_laws.proofs.StatusLeavings.{is_status_next}
 use Rattle.right_laws.proofs.UndoneLoads.{loads_stay_in}
-use Rattle.bus_base.specs.Faults.{counted_on}
 use Rattle.trace_laws.proofs.PointerRows.{requests_rise}
 use Rattle.right_laws.proofs.RanFacts.{undoes_of}
-use Rattle.right_laws.proofs.StatusSame.{says_as, asked_as, same_by, status_lines, message_line, out_line, in_not_out}
+use Rattle.right_laws.proofs.StatusSame.{says_as, asked_as, same_by, status_lines, message_line, out_line}
 use Rattle.bus_base.proofs.Tests.{wrong, wrong'}
-use Rattle.right_laws.proofs.DataOffers.{none_some}
+use Rattle.link_laws.proofs.Asks.{counted_some}
 
 -- ---- what is known
 
@@ -144,9 +142,6 @@ talk_still s p row n id h ep en requests talk =
 -- A byte crosses.
 lt_one : (x : ℕ) → x < 1 → x ≡ 0
 lt_one x e = omega arith
-
-counted_some : (x : ℕ) → (counted_on x == 0) ≡ false
-counted_some x = grind (arith, nat_tests)
 
 pub talk_crosses : (s : ScenarioValue) (p : List Row) (row : Row) (n : Connection) (id : ProcId) (dev : ℕ) (h : Going s p row n id) → is_fault row.kind ≡ false → changes_phase h.going.change ≡ false → receiver_in n h.going.change ≡ Some dev
     → StatusBy (carried_here (run_state s p) id) (run_state s p).exchange.plan (run_state s p).handshakes.requests (phase_of (bus_of (run_state s p)))
@@ -276,10 +271,10 @@ talk_crosses s p row n id dev h ef ep er talk = subst (StatusBy (carried_here j 
             into = (λ x. if here x then whole_in (got_in (half x ++ byte x ∷ [])) else None) ∙ restore_whole
 
             out : message_out k.story.bus_state.dialogue c true ≡ None
-            out = λ x. if in_not_out c.before here x then Rattle.bus_story.specs.BusState.whole_out (Rattle.msg_grammar.specs.Messages.got_out (Rattle.bus_phases.specs.Dialogue.fresh_bytes k.story.bus_state.dialogue ++ c.after.data_bits % 256 ∷ [])) else None
+            out = λ x. if out_in c.before here x then Rattle.bus_story.specs.BusState.whole_out (Rattle.msg_grammar.specs.Messages.got_out (Rattle.bus_phases.specs.Dialogue.fresh_bytes k.story.bus_state.dialogue ++ c.after.data_bits % 256 ∷ [])) else None
 
             item : knows.link.item ≡ Some (process id)
-            item = known_item s k n knows (h.given.named n h.con h.off) (in_not_out (bus_of k) bus_here) (λ x w. true≢false (ap is_status_next (sym z ∙ w))) ∙ h.served
+            item = known_item s k n knows (h.given.named n h.con h.off) (out_in (bus_of k) bus_here) (λ x w. true≢false (ap is_status_next (sym z ∙ w))) ∙ h.served
 
             place : IsPlaced s k h.given.known.places.array id
             place = placed_here s k row n c id h.given.known.places g h.served gives.2

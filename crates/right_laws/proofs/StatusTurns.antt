@@ -55,7 +55,7 @@ use Rattle.right_laws.proofs.RowCrossings.{IsPlaced, placed_here}
 use Rattle.right_laws.proofs.StatusAreas.{area_stays}
 use Rattle.right_laws.proofs.StatusFirst.{status_follows}
 use Rattle.trace_laws.proofs.UndoneLeavings.{is_to_message_in}
-use Rattle.right_laws.proofs.StatusLeavings.{is_ending, is_freeing_next, is_status_next, is_to_status, FromIn, completes, repeats, restores, others, from_in, ToStatus, again, goes_on, gives_up, after_block, after_data_in, after_data_out, to_status}
+use Rattle.right_laws.proofs.StatusLeavings.{is_ending, is_freeing_next, is_status_next, FromIn, completes, repeats, restores, others, from_in, ToStatus, again, goes_on, gives_up, after_block, after_data_in, after_data_out, to_status}
 use Rattle.right_laws.proofs.UndoneLoads.{loads_stay_in}
 use Rattle.std.proofs.Common.{◌≤◌}
 use Rattle.bus_trace.specs.LineSet.{same}
@@ -63,6 +63,7 @@ use Rattle.msg_grammar.specs.declared.message.MsgIn.{MsgIn}
 use Rattle.bus_story.specs.HistoryEvents.{is_complete}
 use Rattle.bus_story.specs.Links.{plain, complete}
 use Rattle.bus_dialogue.specs.Exchange.{from_byte, message_bytes}
+use Rattle.bus_dialogue.specs.Events.{is_status_next as is_to_status}
 use Rattle.bus_books.specs.Giving.{OnMessage}
 use Rattle.trace_laws.specs.LastTalks.{EndsWell, stays, closes, saves}
 use Rattle.right_laws.proofs.RanFacts.{undoes_of, here_is}
@@ -71,6 +72,7 @@ use Rattle.right_laws.proofs.StatusStays.{Going, knows_of}
 use Rattle.bus_base.proofs.Tests.{wrong, wrong'}
 use Rattle.link_laws.proofs.Moves.{same_self}
 use Rattle.trace_laws.specs.DataPointers.{IsPlainIn}
+use Rattle.trace_laws.proofs.OfferSteps.{stays_out}
 
 -- ---- what MESSAGE OUT refuses
 
@@ -138,21 +140,6 @@ lines_stay : (c : Change) → c.after.msg ≡ c.before.msg → c.after.cd ≡ c.
 lines_stay c e f g =
     (λ i. not (same c.before.msg (e i) && same c.before.cd (f i) && same c.before.io (g i)))
     ∙ (λ i. not (same_self c.before.msg i && same_self c.before.cd i && same_self c.before.io i))
-
-out_parts : (b : LineSet) → is_message_out b ≡ true → (b.msg ≡ true) × (b.cd ≡ true) × (b.io ≡ false)
-out_parts b e = go b.msg b.cd b.io refl refl refl e
-  where
-    go : (m d i : Bool) → b.msg ≡ m → b.cd ≡ d → b.io ≡ i → (m && d && not i) ≡ true → (b.msg ≡ true) × (b.cd ≡ true) × (b.io ≡ false)
-    go true true false x y z w = (x, y, z)
-    go true true true x y z w = wrong' w
-    go true false i x y z w = wrong' w
-    go false d i x y z w = wrong' w
-
-out_stays : (c : Change) → is_message_out c.before ≡ true → is_message_out c.after ≡ true → changes_phase c ≡ false
-out_stays c e f =
-    let x = out_parts c.before e in
-    let y = out_parts c.after f in
-    lines_stay c (y.0 ∙ sym x.0) (y.1 ∙ sym x.1) (y.2 ∙ sym x.2)
 
 status_stays : (c : Change) → (c.before.msg ≡ false) × (c.before.cd ≡ true) × (c.before.io ≡ true) → (c.after.msg ≡ false) × (c.after.cd ≡ true) × (c.after.io ≡ true) → changes_phase c ≡ false
 status_stays c x y = lines_stay c (y.0 ∙ sym x.0) (y.1 ∙ sym x.1) (y.2 ∙ sym x.2)
@@ -287,7 +274,7 @@ talk_turns s p row n id h ef ep er lasts talk = subst (StatusBy d j.exchange.pla
             of_phase true em false eo = absurd (same_out em eo)
               where
                 same_out : c.before.msg ≡ true → c.before.io ≡ false → ⊥
-                same_out x y = true≢false (sym ep ∙ out_stays c (λ z. x z && f z && not (y z)) out)
+                same_out x y = true≢false (sym ep ∙ stays_out c (λ z. x z && f z && not (y z)) out)
             of_phase false em true eo = given_one q (ap phase_of r.bus_is ∙ (λ z. if em z then (if eo z then phases.MessageIn else phases.MessageOut) else if f z then (if eo z then phases.Status else phases.Command) else if eo z then phases.DataIn else phases.DataOut))
             of_phase false em false eo =
                 let command : phase_of (bus_of k) ≡ phases.Command = ap phase_of r.bus_is ∙ (λ z. if em z then (if eo z then phases.MessageIn else phases.MessageOut) else if f z then (if eo z then phases.Status else phases.Command) else if eo z then phases.DataIn else phases.DataOut) in

@@ -1,17 +1,9 @@
 -- What a process that has carried data would answer stays as another of its unit ends, and with aborts and RST (7.3, 7.5, 7.8).
-use Rattle.std.proofs.Common.{ℕ, ◌≡◌, ◌⊎◌, inl, inr, Bool, true, false, not, ◌&&◌, ◌||◌, ◌==◌, ◌∙◌, List, [], ◌∷◌, Option, Some, None, refl, sym, ap, subst}
-use Rattle.std.specs.Prelude.{if◌then◌else◌, is_none, is_some, nat_lt, Result, Ok, Err}
-use Rattle.std.specs.List.{list_any}
+use Rattle.std.proofs.Common.{ℕ, ◌≡◌, Bool, true, false, not, ◌&&◌, ◌==◌, ◌∙◌, List, Option, Some, None, refl, sym, ap, subst}
+use Rattle.std.specs.Prelude.{if◌then◌else◌, Result, Ok, Err}
 use Rattle.std.proofs.lemmas.Option.{same_Some}
-use Rattle.std.proofs.lemmas.Bool.{eqb-true, not-false, or_parts}
-use Rattle.bus_base.specs.declared.AbortKind.{AbortKind}
-use Rattle.bus_base.specs.declared.AbortKind.TheVariants as aborts
-use Rattle.bus_base.specs.declared.Event.{Event}
 use Rattle.bus_base.specs.declared.Event.TheVariants as events
 use Rattle.bus_base.specs.declared.ProcId.{ProcId}
-use Rattle.bus_trace.specs.Changes.{rises}
-use Rattle.bus_trace.specs.declared.Row.{Row}
-use Rattle.bus_trace.specs.declared.connection.Connection.{Connection}
 use Rattle.cdb_codec.specs.Cdb.{command_of}
 use Rattle.cdb_codec.specs.declared.Sense.{Sense}
 use Rattle.cdb_codec.specs.declared.command.CdbFault.{CdbFault}
@@ -20,23 +12,18 @@ use Rattle.cdb_codec.specs.declared.command.Command.{Command}
 use Rattle.cdb_codec.specs.declared.command.Command.TheVariants as commands
 use Rattle.cdb_codec.specs.declared.status.TheConstants.{GOOD, CHECK_CONDITION}
 use Rattle.scenario.specs.Value.{ScenarioValue}
-use Rattle.scenario.specs.declared.value.AbortDef.{AbortDef}
-use Rattle.disk_array.specs.ArrayHistory.{reply_in}
-use Rattle.disk_array.specs.Execution.{CommandContext, Reply, attention_execution, block_out_of_range, cdb_execution, check_condition, command_execution, execution, heeds_attention, is_good_range, is_request_sense, needs_unit, range_execution, range_of, reply_execution}
-use Rattle.disk_array.specs.Processes.{Process, process_of, same_id}
+use Rattle.disk_array.specs.Execution.{CommandContext, Reply, attention_execution, block_out_of_range, cdb_execution, check_condition, command_execution, execution, heeds_attention, is_good_range, is_request_sense, needs_unit, range_of, reply_execution}
+use Rattle.disk_array.specs.Processes.{Process, process_of}
 use Rattle.disk_array.specs.Seats as Seats
 use Rattle.disk_array.specs.Seats.{Seat, context_of, seat_if, seat_of, settled_seat, settled_seat_if}
 use Rattle.disk_array.specs.SoundArray.{HasSeats, IsSound}
-use Rattle.disk_array.specs.Steps as Steps
 use Rattle.disk_array.specs.Steps.{is_of_unit, step}
 use Rattle.disk_array.specs.Units.{Array, RunningProcess, UnitState}
 use Rattle.disk_array.proofs.SeatLaws.{end_law}
-use Rattle.bus_story.specs.BusState.{RowReading, row_reading}
-use Rattle.bus_story.specs.Right.{has_run, is_run_of}
 use Rattle.bus_due.specs.Tasks.{reply_now}
-use Rattle.bus_books.proofs.Lookups.{self_id}
 use Rattle.right_laws.proofs.SameReplies.{context_same, place_of, settled_context}
-use Rattle.bus_base.proofs.Tests.{wrong, wrong'}
+use Rattle.bus_base.proofs.Tests.{wrong}
+use Rattle.trace_laws.proofs.Impossible.{none_some}
 
 -- ---- only REQUEST SENSE answers by the stored sense
 
@@ -87,14 +74,11 @@ by_sensing a b q x e none =
 
 -- ---- as another of its unit ends
 
-no_seat : {A : Type 0} (x : Seat) → (let o : Option Seat = None in o) ≡ Some x → A
-no_seat x e = absurd cc
-
 abbrev SensesOnly : Seat → ℕ → Option Seat → Type 0
 SensesOnly seat from o = (after : Seat) → settled_seat_if o ≡ Some after → context_of after from ≡ sensing (context_of seat from) (after.senses from)
 
 senses_none : (seat : Seat) (from : ℕ) → SensesOnly seat from None
-senses_none seat from after e = no_seat after e
+senses_none seat from after e = none_some after e
 
 senses_some : (seat x : Seat) (from : ℕ) → context_of x from ≡ sensing (context_of seat from) (x.senses from) → SensesOnly seat from (Some x)
 senses_some seat x from same after e = subst (λ (z : Seat). context_of z from ≡ sensing (context_of seat from) (z.senses from)) (same_Some (settled_seat x) after e) (settled_context x from ∙ same)

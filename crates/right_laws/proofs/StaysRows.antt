@@ -3,7 +3,7 @@ use Rattle.std.proofs.Common.{ℕ, ◌≡◌, ◌⊎◌, inl, inr, Bool, true, f
 use Rattle.std.specs.Prelude.{if◌then◌else◌, is_none, is_some}
 use Rattle.std.specs.List.{list_any}
 use Rattle.std.proofs.lemmas.Option.{same_Some}
-use Rattle.std.proofs.lemmas.Bool.{eqb-true, not-false, or_parts}
+use Rattle.std.proofs.lemmas.Bool.{eqb-true}
 use Rattle.bus_base.specs.declared.AbortKind.{AbortKind}
 use Rattle.bus_base.specs.declared.AbortKind.TheVariants as aborts
 use Rattle.bus_base.specs.declared.Event.{Event}
@@ -21,7 +21,7 @@ use Rattle.scenario.specs.declared.value.AbortDef.{AbortDef}
 use Rattle.disk_array.specs.ArrayHistory.{reply_in}
 use Rattle.disk_array.specs.Execution.{Reply, is_request_sense}
 use Rattle.disk_array.specs.Processes.{Process, process_of, same_id}
-use Rattle.disk_array.specs.Seats.{is_elsewhere, is_of_other_unit}
+use Rattle.disk_array.specs.Seats.{is_of_other_unit}
 use Rattle.disk_array.specs.SoundArray.{HasSeats, AllOwnGuests, AllOwnUnits, AreApart, IsOwn, IsOwnRunning}
 use Rattle.disk_array.specs.Steps as Steps
 use Rattle.disk_array.specs.Steps.{is_of_unit, step}
@@ -31,8 +31,8 @@ use Rattle.bus_story.specs.HistoryEvents.{abort_line_at, abort_line_events, bus_
 use Rattle.bus_story.specs.Items.{Item, abort, process}
 use Rattle.bus_story.specs.Links.{Link, LastMessage, abortive, complete, disconnect, plain}
 use Rattle.bus_story.specs.Right.{has_run, is_run_of}
-use Rattle.bus_due.specs.RunState.{RunState, array_of, bus_of, carried_here}
-use Rattle.bus_due.specs.RunSteps.{run_state, run_state_after, array_after_events, served_after}
+use Rattle.bus_due.specs.RunState.{RunState, array_of}
+use Rattle.bus_due.specs.RunSteps.{run_state, array_after_events, served_after}
 use Rattle.bus_due.specs.Tasks.{reply_now}
 use Rattle.bus_books.proofs.CarriedRows.{process_id}
 use Rattle.bus_books.proofs.Lookups.{id_is, self_id}
@@ -45,21 +45,22 @@ use Rattle.bus_laws.proofs.Apart.{change_plain}
 use Rattle.trace_laws.proofs.AnsweredProcesses.{leaves}
 use Rattle.trace_laws.proofs.EachProcess.{running_id}
 use Rattle.trace_laws.specs.ItemFacts.{AllP, RunsP, UnitsP}
-use Rattle.trace_laws.specs.Places.{Each, OnGuests, OnUnits, Runs, Waits, fresh, IsAway}
+use Rattle.trace_laws.specs.Places.{OnGuests, OnUnits, Runs, Waits, IsAway}
 use Rattle.trace_laws.specs.WriteFacts.{AllUnits, IsEmptyUnit}
 use Rattle.trace_laws.proofs.WriterUnits.{map_units}
 use Rattle.trace_laws.proofs.QueuedProcesses as Queued
 use Rattle.trace_laws.proofs.QueuedProcesses.{stays_queued, step_units}
+use Rattle.trace_laws.proofs.Impossible.{none_some}
 use Rattle.right_laws.specs.GivenPointers.{HasReplyThen, StaysSo, abort_may_change, any_may_change, may_change}
 use Rattle.right_laws.specs.Open.{IfOpen, OnEvents, OnOpen}
 use Rattle.right_laws.proofs.CleanQueues.{CleanFacts, IsCleanUnit, IsNoSense, SenselessFacts, moved_of}
 use Rattle.right_laws.proofs.OpenProcesses.{none_guests}
 use Rattle.right_laws.proofs.RanFacts.{Known, apart_of, here_is, steps_of, then_is}
-use Rattle.right_laws.proofs.RowCrossings.{GoesSo, here_goes, known_served, no_item, no_link}
+use Rattle.right_laws.proofs.RowCrossings.{GoesSo, here_goes, known_served}
 use Rattle.right_laws.proofs.RunsApart.{IsCurrent, answer_here, run_replies, run_same}
-use Rattle.right_laws.proofs.ShownRows.{IsAnswer, IsArrival, IsEnding, IsHere, ShownAs, row_runs, row_shown}
+use Rattle.right_laws.proofs.ShownRows.{IsAnswer, IsEnding, IsHere, ShownAs, row_runs, row_shown}
 use Rattle.right_laws.proofs.Stays.{end_same}
-use Rattle.bus_base.proofs.Tests.{wrong, wrong'}
+use Rattle.bus_base.proofs.Tests.{eq_self, eq_turned, wrong, wrong'}
 
 -- ---- the process that the initiator knows is one of the scenario
 
@@ -80,11 +81,11 @@ known_process s p row h l id calm link item = go h.next.row_is
 
         at : (w.link.item ≡ k.served) ⊎ ((n.reselected ≡ true) × (w.link.item ≡ None)) → is_some (process_of s id) ≡ true
         at (inl z) = served (sym z ∙ same)
-        at (inr z) = no_item (process id) (sym z.1 ∙ same)
+        at (inr z) = none_some (process id) (sym z.1 ∙ same)
 
     go : RowOf s k row → is_some (process_of s id) ≡ true
-    go (row_apart con next) = no_link l (sym (apart_of s p row h con) ∙ link)
-    go (begins n b) = no_link l (sym (apart_of s p row h b.first.connection_is) ∙ link)
+    go (row_apart con next) = none_some l (sym (apart_of s p row h con) ∙ link)
+    go (begins n b) = none_some l (sym (apart_of s p row h b.first.connection_is) ∙ link)
     go (goes_on n c g) = by n (h.was.books.knows n g.row_is.connection_is g.calm)
     go (ends n g) = by n (h.was.books.knows n g.connection_is g.calm)
     go (under_reset on none) = wrong (sym on ∙ calm)
@@ -222,9 +223,6 @@ changing s p row h q calm may = go (is_some d.next) refl
     go true e = stands e (found s k row q shown (row_shown s k row) may)
     go false e = free e k.story.link refl
 
-back : (a b : ℕ) → (a == b) ≡ true → (b == a) ≡ true
-back a b e = ap (λ (x : ℕ). b == x) (eqb-true a b e) ∙ Rattle.bus_base.proofs.Tests.eq_self b
-
 -- ---- an abort drops those whose reply it may change
 
 pub dropped_by : (q : Process) (i t n : ℕ) (what : AbortKind) → abort_may_change q i t n what ≡ true → stays_queued (events.Aborted i t n what) q ≡ false
@@ -234,49 +232,43 @@ dropped_by q i t n aborts.All e = of (i == q.initiator) refl (t == q.target) ref
     of false ex y ey z ez w = wrong' w
     of true ex false ey z ez w = wrong' w
     of true ex true ey false ez w = wrong' w
-    of true ex true ey true ez w = λ j. not (back i q.initiator ex j && (back t q.target ey j && back n q.unit ez j))
+    of true ex true ey true ez w = λ j. not ((eq_turned q.initiator i ∙ ex) j && ((eq_turned q.target t ∙ ey) j && (eq_turned q.unit n ∙ ez) j))
 dropped_by q i t n (aborts.Tag x) e = wrong' e
 dropped_by q i t n aborts.WholeQueue e = of (t == q.target) refl (n == q.unit) refl e
   where
     of : (y : Bool) → (t == q.target) ≡ y → (z : Bool) → (n == q.unit) ≡ z → (y && z) ≡ true → not (q.target == t && q.unit == n) ≡ false
     of false ey z ez w = wrong' w
     of true ey false ez w = wrong' w
-    of true ey true ez w = λ j. not (back t q.target ey j && back n q.unit ez j)
-dropped_by q i t n aborts.Device e = λ j. not (back t q.target e j)
+    of true ey true ez w = λ j. not ((eq_turned q.target t ∙ ey) j && (eq_turned q.unit n ∙ ez) j)
+dropped_by q i t n aborts.Device e = λ j. not ((eq_turned q.target t ∙ e) j)
 
 -- ---- one that ends is no guest then
-
-no_result : {A : Type 0} (b : Array) → (let o : Option Array = None in o) ≡ Some b → A
-no_result b e = absurd cc
 
 end_away : (s : ScenarioValue) (a b : Array) (id : ProcId) (status : ℕ) → step s (events.End id status) a ≡ Some b → OnGuests (IsAway id) b.guests
 end_away s a b id status st = go (Steps.running_process a id) refl st
   where
     ended : (r : RunningProcess) → r.process.id ≡ id → (c : Array) (x : Bool) → Steps.settled_array_if (if x then Some (Steps.array_without c r.process.id) else None) ≡ Some b → OnGuests (IsAway id) b.guests
-    ended r own c false e = no_result b e
+    ended r own c false e = none_some b e
     ended r own c true e =
         subst (λ (y : Array). OnGuests (IsAway id) y.guests) (same_Some (settled_array (Steps.array_without c r.process.id)) b e)
         (subst (λ (i : ProcId). OnGuests (IsAway i) (settled_array (Steps.array_without c r.process.id)).guests) own (leaves c r.process.id).rests.guests)
 
     with : (r : RunningProcess) → r.process.id ≡ id → (o : Option Reply) → Steps.settled_array_if (Steps.end_step_with a r.process status o) ≡ Some b → OnGuests (IsAway id) b.guests
-    with r own None e = no_result b e
+    with r own None e = none_some b e
     with r own (Some reply) e = ended r own (Steps.after_status a r.process reply) (reply.status == status) e
 
     go : (o : Option RunningProcess) → Steps.running_process a id ≡ o → Steps.settled_array_if (Steps.end_step a status o) ≡ Some b → OnGuests (IsAway id) b.guests
-    go None z e = no_result b e
+    go None z e = none_some b e
     go (Some r) z e = with r (running_id a id r z) r.reply e
 
 -- ---- each unit is found
-
-no_unit : {A : Type 0} (u : UnitState) → (let o : Option UnitState = None in o) ≡ Some u → A
-no_unit u e = absurd cc
 
 found_units : (units : List UnitState) → AreApart units → AllUnits (λ u. unit_state_at units u.target u.unit ≡ Some u) units
 found_units [] h = tt
 found_units (u ∷ units) h = (ap (λ (q : Bool). if q then Some u else unit_state_at units u.target u.unit) here, map_units (λ v. unit_state_at units v.target v.unit ≡ Some v) (λ v. unit_state_at (u ∷ units) v.target v.unit ≡ Some v) units (λ v e. later v e) (found_units units h.1))
   where
     here : (u.target == u.target && u.unit == u.unit) ≡ true
-    here = (λ i. Rattle.bus_base.proofs.Tests.eq_self u.target i && u.unit == u.unit) ∙ Rattle.bus_base.proofs.Tests.eq_self u.unit
+    here = (λ i. eq_self u.target i && u.unit == u.unit) ∙ eq_self u.unit
 
     later : (v : UnitState) → unit_state_at units v.target v.unit ≡ Some v → (if u.target == v.target && u.unit == v.unit then Some u else unit_state_at units v.target v.unit) ≡ Some v
     later v e = go (u.target == v.target) refl (u.unit == v.unit) refl
@@ -284,7 +276,7 @@ found_units (u ∷ units) h = (ap (λ (q : Bool). if q then Some u else unit_sta
         go : (x : Bool) → (u.target == v.target) ≡ x → (y : Bool) → (u.unit == v.unit) ≡ y → (if x && y then Some u else unit_state_at units v.target v.unit) ≡ Some v
         go false ex y ey = e
         go true ex false ey = e
-        go true ex true ey = no_unit v (sym h.0 ∙ (λ i. unit_state_at units (eqb-true u.target v.target ex i) (eqb-true u.unit v.unit ey i)) ∙ e)
+        go true ex true ey = none_some v (sym h.0 ∙ (λ i. unit_state_at units (eqb-true u.target v.target ex i) (eqb-true u.unit v.unit ey i)) ∙ e)
 
 -- ---- each process
 

@@ -1,7 +1,6 @@
 -- The target of each unit of a scenario that obeys the rules of its text is a target of it.
 use Rattle.std.proofs.Common.{ℕ, ◌≡◌, Bool, true, false, cond, ◌||◌, ◌∙◌, List, [], ◌∷◌, ◌++◌, Some, Ok, refl, sym, ap, subst}
-use Rattle.std.specs.Prelude.{◌==◌, ◌&&◌, Option, None}
-use Rattle.std.proofs.lemmas.Option.{same_Some}
+use Rattle.std.specs.Prelude.{◌==◌, ◌&&◌}
 use Rattle.std.specs.List.{AllByRecursion, find, list_any}
 use Rattle.std.proofs.lemmas.Bool.{eqb-true, true≢false}
 use Rattle.scenario.specs.declared.value.TargetDef.{TargetDef}
@@ -14,6 +13,7 @@ use Rattle.scenario.specs.Writing.{saids, built, Obeys}
 use Rattle.scenario.proofs.Steps.{bind_ok, ok_is}
 use Rattle.scsi_device.proofs.Finds.{all_are, all_more}
 use Rattle.scsi_device.proofs.LineReads.{unit_read}
+use Rattle.trace_laws.proofs.Impossible.{none_some}
 
 -- Lines of targets, of which one is of this device.
 abbrev pub is_there : List TargetDef → ℕ → Bool
@@ -84,11 +84,8 @@ are_targeted s o =
 
 -- ---- of the unit that is found
 
-no_unit : {A : Type 0} (u : UnitDef) → (let o : Option UnitDef = None in o) ≡ Some u → A
-no_unit u e = absurd cc
-
 found_targeted : (s : ScenarioValue) (units : List UnitDef) (t n : ℕ) (u : UnitDef) → AllByRecursion (λ (v : UnitDef). has_target s v.target ≡ true) units → find (λ (v : UnitDef). v.target == t && v.unit == n) units ≡ Some u → has_target s t ≡ true
-found_targeted s [] t n u a e = no_unit u e
+found_targeted s [] t n u a e = none_some u e
 found_targeted s (v ∷ units) t n u a e = go (v.target == t && v.unit == n) refl e (λ z. found_targeted s units t n u a.1 z)
   where
     first : (x y : Bool) → (x && y) ≡ true → x ≡ true

@@ -1,12 +1,12 @@
 -- What MESSAGE PARITY ERROR brings back are the bytes that the process has, after any rows of a prompt trace (6.6.13).
-use Rattle.std.proofs.Common.{inl, inr, ℕ, ◌≡◌, ◌<◌, Bool, true, false, not, ◌&&◌, ◌%◌, ◌∙◌, List, [], ◌∷◌, ◌++◌, Option, Some, None, refl, sym, ap}
+use Rattle.std.proofs.Common.{inl, inr, ℕ, ◌≡◌, ◌<◌, Bool, true, false, ◌%◌, ◌∙◌, List, [], ◌∷◌, ◌++◌, Option, Some, None, refl, sym, ap}
 use Rattle.std.specs.Prelude.{if◌then◌else◌, is_some}
 use Rattle.bus_trace.specs.LineSet.{LineSet}
 use Rattle.bus_trace.specs.declared.Row.{Row}
 use Rattle.bus_trace.specs.declared.changes.Change.{Change}
 use Rattle.bus_trace.specs.declared.connection.Connection.{Connection}
 use Rattle.bus_trace.specs.Changes.{change_of}
-use Rattle.bus_trace.specs.Phases.{changes_phase, is_message_out, is_message_in}
+use Rattle.bus_trace.specs.Phases.{changes_phase, is_message_in}
 use Rattle.bus_trace.specs.Terms.{is_fault, connection, connection_after, receiver_in}
 use Rattle.bus_trace.specs.Trace.{bus}
 use Rattle.bus_lines.specs.Handshakes.{Handshakes, handshakes_after}
@@ -15,14 +15,9 @@ use Rattle.bus_phases.specs.Dialogue.{fresh_bytes}
 use Rattle.scenario.specs.Value.{ScenarioValue}
 use Rattle.scenario.specs.Writing.{Obeys}
 use Rattle.bus_story.specs.BusState.{RowReading, row_reading, whole_out}
-use Rattle.bus_story.specs.CarriedBytes.{CarriedBytes}
 use Rattle.bus_story.specs.HistoryEvents.{row_events_by}
 use Rattle.bus_story.specs.TraceHistory.{story_on_bus, story_by_change}
-use Rattle.bus_dialogue.specs.declared.exchange.Cause.{Cause}
-use Rattle.bus_dialogue.specs.declared.exchange.Cause.TheVariants as causes
-use Rattle.bus_dialogue.specs.declared.exchange.Phase.{Phase}
 use Rattle.bus_dialogue.specs.declared.exchange.Phase.TheVariants as phases
-use Rattle.bus_dialogue.specs.declared.exchange.Plan.{Plan}
 use Rattle.bus_dialogue.specs.NextPhase.{phase_of}
 use Rattle.bus_due.specs.Next.{IsPrompt}
 use Rattle.bus_due.specs.Plain.{IsPlain, AreOfDevices}
@@ -36,7 +31,6 @@ use Rattle.bus_books.specs.Rows.{RowKind, still, strikes, crosses, turns}
 use Rattle.bus_books.specs.Traces.{GoesOn}
 use Rattle.bus_books.proofs.Gives.{requests_stay, struck_same}
 use Rattle.bus_books.proofs.InConnection.{in_connection, reading_is}
-use Rattle.trace_laws.specs.Tells.{UndoAsked, UndoBy}
 use Rattle.right_laws.specs.Loads.{UndoesLoads, UndoKeeps, UndoLoads, UndoLoadFacts}
 use Rattle.trace_laws.proofs.BlockRows.{undo_of}
 use Rattle.trace_laws.proofs.CommandFirst.{undo_first}
@@ -45,16 +39,14 @@ use Rattle.trace_laws.proofs.Joint.{Stood, NextStood, link_phase}
 use Rattle.trace_laws.proofs.UndoneFacts.{in_of, all_by}
 use Rattle.bus_books.proofs.Gives.{in_io}
 use Rattle.trace_laws.proofs.UndoneRows.{first_whole}
+use Rattle.trace_laws.proofs.Impossible.{none_some}
+use Rattle.trace_laws.proofs.PhaseLines.{out_in}
 use Rattle.right_laws.proofs.UndoneLoadStays.{row_undoes, stays_by}
 use Rattle.right_laws.proofs.UndoneLoadTurns.{turn_keeps}
 use Rattle.right_laws.proofs.UndoneLoads.{loads_stay_in, fits_heard}
-use Rattle.bus_base.proofs.Tests.{wrong, wrong'}
-use Rattle.right_laws.proofs.DataOffers.{none_some}
-use Rattle.right_laws.proofs.StatusSame.{message_line, in_not_out}
+use Rattle.bus_base.proofs.Tests.{wrong'}
+use Rattle.right_laws.proofs.StatusSame.{message_line}
 use Rattle.bus_story.proofs.StorySteps.{events_link}
-
-no_bytes : {A : Type 0} (u : CarriedBytes) → (let o : Option CarriedBytes = None in o) ≡ Some u → A
-no_bytes u e = absurd cc
 
 -- ---- before any row, and the first row of a connection
 
@@ -93,7 +85,7 @@ undo_begins s p row n dv lt alone after calm = record { unbegun = λ b. fits; be
         ∙ undo_first k.story n
 
     fits : UndoKeeps j
-    fits l u el eu = no_bytes u (sym (sym (ap undo_of el) ∙ none) ∙ eu)
+    fits l u el eu = none_some u (sym (sym (ap undo_of el) ∙ none) ∙ eu)
 
 -- ---- a row of a connection
 
@@ -139,7 +131,7 @@ goes_keeps s p row n dv lt was next r g undoes after calm h = go g.goes.row_is.k
         (λ b e zero short.
         let given = (was.books.gives n of.row_is.connection_is of.calm).in_message_in b (ap is_message_in of.row_is.bus_is ∙ here e) in
         let m = first_whole k c given zero short (of.gives (here e) there).0 (here e) in
-        inl (fits_heard s k row n c knows.link m.message of.row_is there knows.link_is (loads_stay_in s k row n c true of.row_is there (λ z. message_line c.before (here e)) undoes) (ap (λ (q : Bool). if q then whole_out (got_out (fresh_bytes k.story.bus_state.dialogue ++ c.after.data_bits % 256 ∷ [])) else None) (in_not_out c.before (here e))) m.is)) h
+        inl (fits_heard s k row n c knows.link m.message of.row_is there knows.link_is (loads_stay_in s k row n c true of.row_is there (λ z. message_line c.before (here e)) undoes) (ap (λ (q : Bool). if q then whole_out (got_out (fresh_bytes k.story.bus_state.dialogue ++ c.after.data_bits % 256 ∷ [])) else None) (out_in c.before (here e))) m.is)) h
     go (turns ef ep er) =
         let stage = stage_of_connection s (row ∷ p) n next.stood after calm in
         let is = g.lines_are in

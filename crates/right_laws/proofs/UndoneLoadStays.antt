@@ -8,7 +8,6 @@ use Rattle.bus_trace.specs.declared.connection.Connection.{Connection}
 use Rattle.bus_trace.specs.Phases.{changes_phase, is_message_out}
 use Rattle.bus_trace.specs.Terms.{is_fault, receiver_in, receiver_of}
 use Rattle.bus_phases.specs.Dialogue.{fresh_bytes}
-use Rattle.msg_grammar.specs.declared.message.MsgOut.{MsgOut}
 use Rattle.msg_grammar.specs.Messages.{got_out}
 use Rattle.scenario.specs.Value.{ScenarioValue}
 use Rattle.bus_story.specs.BusState.{RowReading, row_reading, whole_out, message_out}
@@ -34,12 +33,9 @@ use Rattle.trace_laws.proofs.PhaseLines.{out_phase}
 use Rattle.right_laws.specs.Loads.{load, UndoesLoads, UndoKeeps, UndoLoads}
 use Rattle.right_laws.proofs.UndoneLoads.{loads_stay_in, fits_on}
 use Rattle.bus_base.proofs.Tests.{wrong, wrong'}
-use Rattle.right_laws.proofs.DataOffers.{none_some}
-use Rattle.trace_laws.proofs.FailureSteps.{is_message_phase}
+use Rattle.scsi_device.specs.Heard.{is_message}
 use Rattle.trace_laws.specs.Offers.{is_detected}
-
-no_message : {A : Type 0} (m : MsgOut) → (let o : Option MsgOut = None in o) ≡ Some m → A
-no_message m e = absurd cc
+use Rattle.trace_laws.proofs.Impossible.{none_some}
 
 -- ---- where MESSAGE PARITY ERROR may come
 
@@ -53,7 +49,7 @@ crosses_undoes s k row n c g speaks there h l m u el eo parity eu = go (is_messa
     begun = g.begun (ap (λ (d : RowReading). d.crosses) (reading_is k row n c true g.row_is there))
 
     go : (q : Bool) → is_message_out c.before ≡ q → load u ≡ load (carried_here k u.id)
-    go false e = no_message m (sym (λ i. if e i then whole_out (got_out (fresh_bytes k.story.bus_state.dialogue ++ c.after.data_bits % 256 ∷ [])) else None) ∙ out)
+    go false e = none_some m (sym (λ i. if e i then whole_out (got_out (fresh_bytes k.story.bus_state.dialogue ++ c.after.data_bits % 256 ∷ [])) else None) ∙ out)
     go true e =
         let here : UndoAsked (UndoKeeps k) k.exchange.plan.cause = subst (λ (p : Phase). UndoBy (UndoKeeps k) k.exchange.plan k.handshakes.requests p) (ap phase_of g.row_is.bus_is ∙ out_phase c.before e) (h.begun begun) in
         by (is_detected k.exchange.plan.cause) refl here
@@ -63,7 +59,7 @@ crosses_undoes s k row n c g speaks there h l m u el eo parity eu = go (is_messa
         by true z w = wrong (sym parity ∙ ap is_refusal (sym out) ∙ detects s k n c speaks begun g.row_is.bus_is e (g.says e there).0 z)
 
 silent_undoes : (k : RunState) (row : Row) → (row_reading k.story.bus_state row).crosses ≡ false → UndoesLoads k row
-silent_undoes k row e l m u el eo parity eu = no_message m (sym (ap (λ (q : Bool). message_out k.story.bus_state.dialogue (row_reading k.story.bus_state row).change q) e) ∙ eo)
+silent_undoes k row e l m u el eo parity eu = none_some m (sym (ap (λ (q : Bool). message_out k.story.bus_state.dialogue (row_reading k.story.bus_state row).change q) e) ∙ eo)
 
 pub row_undoes : (s : ScenarioValue) (k : RunState) (row : Row) → Books s k → ((n : Connection) → k.story.bus_state.connection ≡ Some n → (bus_of k).rst ≡ false → UndoLoads k) → RowOf s k row → UndoesLoads k row
 row_undoes s k row books h (row_apart con next) = silent_undoes k row (ap (λ (o : Option Connection). is_some (receiver_of o (row_reading k.story.bus_state row).change)) con)
@@ -78,7 +74,7 @@ row_undoes s k row books h (goes_on n c g) = go (is_some (receiver_in n c)) refl
 
 -- ---- the phase stays
 
-on_phase : (a b : Type 0) (p q : Plan) (x y : ℕ) (phase : Phase) → (is_message_phase phase ≡ true → a → b) → q.cause ≡ p.cause → (phase ≡ phases.MessageIn → x ≡ 0 → is_short p.messages.first ≡ true → b ⊎ ((y ≡ 0) × (is_short q.messages.first ≡ true))) → UndoBy a p x phase → UndoBy b q y phase
+on_phase : (a b : Type 0) (p q : Plan) (x y : ℕ) (phase : Phase) → (is_message phase ≡ true → a → b) → q.cause ≡ p.cause → (phase ≡ phases.MessageIn → x ≡ 0 → is_short p.messages.first ≡ true → b ⊎ ((y ≡ 0) × (is_short q.messages.first ≡ true))) → UndoBy a p x phase → UndoBy b q y phase
 on_phase a b p q x y phases.MessageOut f e g h = subst (UndoAsked b) (sym e) (asked p.cause h)
   where
     asked : (cause : Cause) → UndoAsked a cause → UndoAsked b cause
@@ -116,10 +112,10 @@ stays_by s k row n c now l r ep en link undoes crosses first h = record {
     fits : (now ≡ true → c.before.msg ≡ true) → UndoKeeps k → UndoKeeps j
     fits silent = fits_on s k row n c now l r en link (loads_stay_in s k row n c now r en silent undoes)
 
-    message : (b : LineSet) → is_message_phase (phase_of b) ≡ true → b.msg ≡ true
+    message : (b : LineSet) → is_message (phase_of b) ≡ true → b.msg ≡ true
     message b e = by b.msg b.cd b.io e
       where
-        by : (m d o : Bool) → is_message_phase (if m then (if o then phases.MessageIn else phases.MessageOut) else if d then (if o then phases.Status else phases.Command) else if o then phases.DataIn else phases.DataOut) ≡ true → m ≡ true
+        by : (m d o : Bool) → is_message (if m then (if o then phases.MessageIn else phases.MessageOut) else if d then (if o then phases.Status else phases.Command) else if o then phases.DataIn else phases.DataOut) ≡ true → m ≡ true
         by true d o z = refl
         by false true true z = wrong' z
         by false true false z = wrong' z

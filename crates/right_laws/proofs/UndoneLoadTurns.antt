@@ -1,14 +1,12 @@
 -- What MESSAGE PARITY ERROR brings back are the bytes that the process has: a phase is left for another (6.6.13).
 use Rattle.std.proofs.Common.{inl, inr, ℕ, ◌≡◌, ◌⊎◌, Bool, true, false, not, ◌==◌, ◌∙◌, Option, Some, None, refl, sym, ap, subst}
 use Rattle.std.specs.Prelude.{if◌then◌else◌, is_some}
-use Rattle.bus_trace.specs.LineSet.{LineSet}
 use Rattle.bus_trace.specs.declared.Row.{Row}
 use Rattle.bus_trace.specs.declared.changes.Change.{Change}
 use Rattle.bus_trace.specs.declared.connection.Connection.{Connection}
-use Rattle.bus_trace.specs.Changes.{change_of}
 use Rattle.bus_trace.specs.Phases.{changes_phase, is_message_out, is_message_in}
 use Rattle.bus_trace.specs.Terms.{is_fault, receiver_in}
-use Rattle.bus_lines.specs.Handshakes.{Handshakes, no_handshakes, handshakes_after, handshakes_on}
+use Rattle.bus_lines.specs.Handshakes.{Handshakes, no_handshakes, handshakes_after}
 use Rattle.scenario.specs.Value.{ScenarioValue}
 use Rattle.bus_story.specs.BusState.{row_reading}
 use Rattle.bus_story.specs.Links.{Link}
@@ -38,7 +36,6 @@ use Rattle.trace_laws.proofs.PhaseLines.{out_lines}
 use Rattle.right_laws.specs.Loads.{UndoesLoads, UndoKeeps, UndoLoads}
 use Rattle.right_laws.proofs.UndoneLoads.{loads_stay_in, fits_on}
 use Rattle.bus_base.proofs.Tests.{wrong, wrong'}
-use Rattle.right_laws.proofs.DataOffers.{none_some}
 use Rattle.trace_laws.specs.Offers.{is_detected}
 
 -- ---- a phase is left for another

@@ -5,8 +5,6 @@ use Rattle.std.proofs.lemmas.Option.{same_Some}
 use Rattle.bus_base.specs.declared.ProcId.{ProcId}
 use Rattle.bus_trace.specs.LineSet.{LineSet}
 use Rattle.bus_trace.specs.declared.Row.{Row}
-use Rattle.bus_trace.specs.declared.Kind.{Kind}
-use Rattle.bus_trace.specs.declared.Kind.TheVariants.{Drives, Fault}
 use Rattle.bus_trace.specs.declared.changes.Change.{Change}
 use Rattle.bus_trace.specs.declared.connection.Connection.{Connection}
 use Rattle.bus_trace.specs.Phases.{is_command, is_data}
@@ -14,28 +12,21 @@ use Rattle.bus_trace.specs.Terms.{receiver_in}
 use Rattle.cdb_codec.specs.declared.sense.TheConstants.{PARITY_ERROR, INITIATOR_DETECTED_ERROR}
 use Rattle.msg_grammar.specs.declared.message.MsgIn.{MsgIn}
 use Rattle.msg_grammar.specs.declared.message.MsgIn.TheVariants as to_initiator
-use Rattle.msg_grammar.specs.declared.message.MsgOut.{MsgOut}
 use Rattle.scenario.specs.Value.{ScenarioValue}
 use Rattle.bus_story.specs.BusState.{RowReading, row_reading, message_in, message_out}
-use Rattle.bus_story.specs.CarriedBytes.{CarriedBytes, carried_of, carried_after_message, carried_after_fault}
+use Rattle.bus_story.specs.CarriedBytes.{CarriedBytes, carried_after_message, carried_after_fault}
 use Rattle.bus_story.specs.HistoryEvents.{carried_if}
-use Rattle.bus_story.specs.Items.{Item, process, abort}
-use Rattle.bus_story.specs.Links.{Link, last_out, last_in, link_after_name}
-use Rattle.bus_story.specs.Story.{Story}
-use Rattle.bus_story.specs.TraceHistory.{story_with_carried, is_parity_error, story_after_out, story_after_in, carried_after_byte_if, story_after_byte, carried_after_fault_if, story_after_fault, story_in_connection}
+use Rattle.bus_story.specs.Links.{Link}
+use Rattle.bus_story.specs.TraceHistory.{story_in_connection}
 use Rattle.bus_due.specs.RunState.{RunState, carried_here}
 use Rattle.bus_due.specs.RunSteps.{run_state_after}
 use Rattle.bus_books.specs.Rows.{IsRowIn, reading_in}
 use Rattle.bus_books.proofs.InConnection.{reading_is}
 use Rattle.bus_books.proofs.Knows.{link_after}
-use Rattle.bus_books.proofs.Lookups.{carried_id}
 use Rattle.right_laws.specs.Loads.{load, UndoesLoads, UndoKeeps}
 use Rattle.right_laws.proofs.Lasting.{IsLasting, row_lasts}
 use Rattle.bus_base.proofs.Tests.{wrong}
-use Rattle.trace_laws.proofs.UndoneRows.{own_bytes, UndoAfter}
-
-none_some : {A : Type 0} (c : CarriedBytes) → (let o : Option CarriedBytes = None in o) ≡ Some c → A
-none_some c e = absurd cc
+use Rattle.trace_laws.proofs.UndoneRows.{own_bytes, undo_after, heard_after}
 
 -- ---- the bytes after a row
 
@@ -76,35 +67,6 @@ loads_stay_in s k row n c now r en silent undoes =
     loads_stay s k row (λ e. ap (λ (d : RowReading). d.change.before.msg) is ∙ silent (ap (λ (d : RowReading). d.crosses) (sym is) ∙ e)) undoes
 
 -- ---- what would be brought back after a row
-
-with_carried_link : (a : Story) (c : Option CarriedBytes) → (story_with_carried a c).link ≡ a.link
-with_carried_link a None = refl
-with_carried_link a (Some c) = refl
-
-undo_after : (s : ScenarioValue) (b : Story) (l : Link) (d : RowReading) (row : Row) → b.link ≡ Some l → UndoAfter b l (story_in_connection s b (Some l) d row).link
-undo_after s b l d row el = go d.crosses d.out d.into
-  where
-    stays : (link : Option Link) → link ≡ b.link → UndoAfter b l link
-    stays link e = record { after = l; is = e ∙ el; undo = inl refl }
-
-    faulted : (kind : Kind) → (story_after_fault b l kind).link ≡ b.link
-    faulted (Drives lines) = refl
-    faulted (Fault bit) = with_carried_link b (carried_after_fault_if (carried_if b l.item) b.bus_state.crossed)
-
-    byte : (q : Bool) → (if q then b else story_with_carried b (carried_after_byte_if (carried_if b l.item) d)).link ≡ b.link
-    byte true = refl
-    byte false = with_carried_link b (carried_after_byte_if (carried_if b l.item) d)
-
-    go : (q : Bool) (o : Option MsgOut) (t : Option MsgIn) → UndoAfter b l (if q then (if is_some o then story_after_out b l o else if is_some t then story_after_in s b l t else story_after_byte b l d) else story_after_fault b l row.kind).link
-    go true (Some m) t = record { after = record l { last = last_out m l }; is = with_carried_link (record b { link = Some (record l { last = last_out m l }) }) (if is_parity_error m then l.undo else None); undo = inl refl }
-    go true None (Some m) = record { after = record (link_after_name b.sent s.commands l m) { last = last_in m; before = l.last; undo = carried_if b l.item }; is = with_carried_link _ _; undo = inr refl }
-    go true None None = stays _ (byte d.change.before.msg)
-    go false o t = stays _ (faulted row.kind)
-
-heard_after : (s : ScenarioValue) (b : Story) (l : Link) (d : RowReading) (row : Row) (m : MsgIn) → d.crosses ≡ true → d.out ≡ None → d.into ≡ Some m → (story_in_connection s b (Some l) d row).link ≡ Some (record (link_after_name b.sent s.commands l m) { last = last_in m; before = l.last; undo = carried_if b l.item })
-heard_after s b l d row m e f g =
-    (λ i. (if e i then (if is_some (f i) then story_after_out b l (f i) else if is_some (g i) then story_after_in s b l (g i) else story_after_byte b l d) else story_after_fault b l row.kind).link)
-    ∙ with_carried_link _ _
 
 -- It fits where it did before the row; or a message has come with the row.
 pub fits_on : (s : ScenarioValue) (k : RunState) (row : Row) (n : Connection) (c : Change) (now : Bool) (l : Link) → IsRowIn k row n c → is_some (receiver_in n c) ≡ now → k.story.link ≡ Some l → SameLoadsIn k (run_state_after s k row) → UndoKeeps k → UndoKeeps (run_state_after s k row)

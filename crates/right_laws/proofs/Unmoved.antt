@@ -1,11 +1,10 @@
 -- Before the target of a connection knows the command, the process that it serves has carried no data; so as COMMAND is left (6.1.6, 7.8).
-use Rattle.std.proofs.Common.{◌≡◌, ◌<◌, Bool, true, false, not, ◌&&◌, ◌∙◌, List, [], ◌∷◌, Option, Some, None, refl, sym, ap, subst}
+use Rattle.std.proofs.Common.{◌≡◌, ◌<◌, Bool, true, false, ◌∙◌, List, [], ◌∷◌, Option, Some, refl, sym, ap, subst}
 use Rattle.std.specs.Prelude.{if◌then◌else◌, is_some}
 use Rattle.std.proofs.lemmas.Option.{same_Some}
 use Rattle.bus_base.specs.declared.ProcId.{ProcId}
-use Rattle.bus_trace.specs.LineSet.{LineSet}
 use Rattle.bus_trace.specs.Phases.{is_command, is_data}
-use Rattle.bus_trace.specs.Terms.{connection, receiver_in, receiver_of}
+use Rattle.bus_trace.specs.Terms.{connection, receiver_in}
 use Rattle.bus_trace.specs.Trace.{bus}
 use Rattle.bus_trace.specs.declared.Row.{Row}
 use Rattle.bus_trace.specs.declared.changes.Change.{Change}
@@ -13,9 +12,9 @@ use Rattle.bus_trace.specs.declared.connection.Connection.{Connection}
 use Rattle.scenario.specs.Value.{ScenarioValue}
 use Rattle.scenario.specs.Writing.{Obeys}
 use Rattle.disk_array.specs.Processes.{Process}
-use Rattle.bus_story.specs.BusState.{RowReading, row_reading}
+use Rattle.bus_story.specs.BusState.{row_reading}
 use Rattle.bus_story.specs.CarriedBytes.{CarriedBytes, carried_or_nothing}
-use Rattle.bus_story.specs.Items.{Item, process, has_item}
+use Rattle.bus_story.specs.Items.{process, has_item}
 use Rattle.bus_story.specs.Links.{Link}
 use Rattle.bus_story.specs.TraceHistory.{aim_of}
 use Rattle.bus_dialogue.specs.declared.exchange.Phase.{Phase}
@@ -41,23 +40,22 @@ use Rattle.trace_laws.proofs.InstructedSteps.{told_with}
 use Rattle.trace_laws.proofs.RunFacts.{LinesOf, lines_of}
 use Rattle.trace_laws.proofs.RunRows.{served_id}
 use Rattle.trace_laws.proofs.WriteNext.{known_before}
+use Rattle.trace_laws.proofs.Impossible.{none_some}
+use Rattle.trace_laws.proofs.PhaseLines.{command_phase}
 use Rattle.right_laws.specs.Given.{NoneAtArrival}
 use Rattle.right_laws.proofs.GivenBytes.{moved_stays}
 use Rattle.right_laws.proofs.GivenCrossings.{data_phase}
 use Rattle.right_laws.proofs.RanFacts.{Known, apart_of}
-use Rattle.right_laws.proofs.RowCrossings.{crossing_goes, here_goes, known_served, no_link}
-use Rattle.bus_base.proofs.Tests.{wrong, wrong'}
+use Rattle.right_laws.proofs.RowCrossings.{here_goes, known_served}
+use Rattle.bus_base.proofs.Tests.{wrong}
 
 abbrev pub IsUnmovedServed : ScenarioValue → List Row → Type 0
 IsUnmovedServed s rows =
     (n : Connection) (p : Process) → connection rows ≡ Some n → (bus rows).rst ≡ false → (instructions s rows).known ≡ false → process_served s (run_state s rows) ≡ Some p
     → (carried_here (run_state s rows) p.id).moved.bytes ≡ []
 
-no_connection : {A : Type 0} (n : Connection) → (let o : Option Connection = None in o) ≡ Some n → A
-no_connection n e = absurd cc
-
 pub unmoved_first : (s : ScenarioValue) → IsUnmovedServed s []
-unmoved_first s n p e = no_connection n e
+unmoved_first s n p e = none_some n e
 
 -- Where data move the target knows the command.
 known_in_data : (s : ScenarioValue) (k : RunState) (i : Instructions) (n : Connection) → Instructed s k i n → k.exchange.begun ≡ true → is_data (bus_of k) ≡ true → i.known ≡ true
@@ -113,7 +111,7 @@ unmoved_next s p row o prompt h told was n x con off unknown served = go h.next.
             let fresh : IsFresh k m = items_fresh s p row m o prompt h.was h.items (sym pl.connection ∙ f.connection_is) (con ∙ ap (λ (y : Connection). Some y) (sym same)) e in
             let item : fresh.item ≡ process x.id =
             same_Some fresh.item (process x.id) (sym (serves ∙ ap (λ (q : Bool). if q then item_if (ready_of s k m.target) else aim_of k.story.aims m.initiator) e ∙ fresh.aim_is) ∙ (served_id s j.served x served).0) in
-            moved_stays s p row h x.id (λ l z. no_link l (sym (apart_of s p row h f.connection_is) ∙ z))
+            moved_stays s p row h x.id (λ l z. none_some l (sym (apart_of s p row h f.connection_is) ∙ z))
             ∙ ap (λ (c : Option CarriedBytes). (carried_or_nothing c x.id).moved.bytes) (h.items.items.only.carried x.id (ap (has_item k.story.sent.sent) (sym item) ∙ fresh.unsent))
 
     going : (m : Connection) (c : Change) → m ≡ n → GoesOn s k row m c → (carried_here j x.id).moved.bytes ≡ []
@@ -141,22 +139,13 @@ unmoved_next s p row o prompt h told was n x con off unknown served = go h.next.
                 wrong (sym (known_in_data s k (instructions s p) m (told m l.con l.calm) (g.begun crosses) on) ∙ before)
 
     go : RowOf s k row → (carried_here j x.id).moved.bytes ≡ []
-    go (apart e f) = no_connection n (sym f ∙ ql.connection ∙ con)
+    go (apart e f) = none_some n (sym f ∙ ql.connection ∙ con)
     go (begins m b) = begin m (same_Some m n (sym b.first.next_is ∙ ql.connection ∙ con)) b
     go (goes_on m c g) = going m c (same_Some m n (sym (lines_of s p row m c dv lt g.calm g.row_is).after ∙ con)) g
-    go (ends m g) = no_connection n (sym g.next_is ∙ ql.connection ∙ con)
+    go (ends m g) = none_some n (sym g.next_is ∙ ql.connection ∙ con)
     go (under_reset r f) = wrong (sym r ∙ ap (λ (c : Change). c.after.rst) (change_plain s row p dv lt) ∙ off)
 
 -- ---- as COMMAND is left
-
-command_phase : (b : LineSet) → is_command b ≡ true → phase_of b ≡ phases.Command
-command_phase b e = go b.msg b.cd b.io e
-  where
-    go : (m d i : Bool) → (not m && d && not i) ≡ true → (if m then (if i then phases.MessageIn else phases.MessageOut) else if d then (if i then phases.Status else phases.Command) else if i then phases.DataIn else phases.DataOut) ≡ phases.Command
-    go true d i z = wrong' z
-    go false false i z = wrong' z
-    go false true true z = wrong' z
-    go false true false z = refl
 
 pub none_at_arrival : (s : ScenarioValue) (p : List Row) (row : Row) → IsPrompt s (row ∷ p) → Known s p row → InstructedFacts s p → CommandFacts s p → IsUnmovedServed s p → NoneAtArrival (run_state s p) row
 none_at_arrival s p row prompt h told commands was l id link item calm stands turns command =

@@ -1,10 +1,9 @@
 -- Each block of each unit of the plain disk array has as many bytes as the unit's blocks have, after any history (7.3, 7.5).
-use Rattle.std.proofs.Common.{ℕ, zero, suc, ◌≡◌, ◌⊎◌, inl, inr, cond, ◌+◌, ◌-◌, ◌*◌, Bool, true, false, not, ◌&&◌, ◌||◌, ◌==◌, ◌∙◌, List, [], ◌∷◌, ◌++◌, length, take, drop, Option, Some, None, Result, Ok, Err, refl, sym, ap, subst, arith}
-use Rattle.std.specs.Prelude.{if◌then◌else◌, is_none, is_some, replicate}
+use Rattle.std.proofs.Common.{ℕ, zero, suc, ◌≡◌, ◌⊎◌, inl, inr, cond, ◌+◌, ◌-◌, ◌*◌, Bool, true, false, not, ◌&&◌, ◌||◌, ◌==◌, ◌∙◌, List, [], ◌∷◌, length, take, drop, Option, Some, None, Result, Ok, Err, refl, sym, ap, subst, arith}
+use Rattle.std.specs.Prelude.{if◌then◌else◌, is_none, is_some}
 use Rattle.std.specs.List.{find}
-use Rattle.std.proofs.lemmas.List.{length-take, length-drop}
+use Rattle.std.proofs.lemmas.List.{length-take, length-drop, length-replicate}
 use Rattle.std.proofs.lemmas.Option.{same_Some}
-use Rattle.std.proofs.lemmas.Bool.Decides.{nat_tests}
 use Rattle.bus_base.specs.declared.AbortKind.{AbortKind}
 use Rattle.bus_base.specs.declared.AbortKind.TheVariants as aborts
 use Rattle.bus_base.specs.declared.Event.{Event}
@@ -37,12 +36,12 @@ use Rattle.disk_array.specs.Steps as Steps
 use Rattle.disk_array.specs.Steps.{is_of_unit, running_if, step}
 use Rattle.disk_array.specs.Units.{Array, Nexus, RunningProcess, UnitState, guest_at, has_no_current, is_held, settled_array, starting_array, starting_unit, starting_units, unit_state_at, units_after_choice, with_current}
 use Rattle.disk_array.proofs.SeatLaws.{abort_law, device_law, end_law, other_law, reset_law, run_law}
-use Rattle.disk_array.proofs.SoundArrays.{history_sound}
+use Rattle.disk_array.proofs.SoundArrays.{history_sound, is_own}
 use Rattle.disk_array.proofs.Touched.{block_same}
 use Rattle.disk_unit.specs.Disk.{blocks_written, blocks_written_by, written_of}
 use Rattle.scsi_device.specs.Lines.{FitsBus}
 use Rattle.scsi_device.proofs.FitLines.{obeys_fits, seats_are}
-use Rattle.target_units.specs.Fillings.{AreFilled, is_filled_by}
+use Rattle.target_units.specs.Fillings.{AreFilled}
 use Rattle.target_units.specs.Rooms.{AreOfLines, IsOfLine}
 use Rattle.target_units.proofs.Rooms.{lines_always, sends}
 use Rattle.target_units.proofs.Starts.{line_filled, start_settled}
@@ -53,11 +52,12 @@ use Rattle.trace_laws.proofs.EachProcess.{running_id}
 use Rattle.trace_laws.proofs.PointerEnds.{writer_plain}
 use Rattle.trace_laws.proofs.RunFits.{none_sent}
 use Rattle.trace_laws.proofs.Tests.{zero_times}
+use Rattle.trace_laws.proofs.Impossible.{none_some}
 use Rattle.right_laws.proofs.GivenReplies.{own_guests, own_units}
 use Rattle.right_laws.proofs.OpenProcesses.{running_has}
-use Rattle.right_laws.proofs.SameReplies.{SameContext, accept_at, both_true, choice_keeps, fail_at, named, place_of, refuse_at}
+use Rattle.right_laws.proofs.SameReplies.{SameContext, accept_at, choice_keeps, fail_at, place_of, refuse_at}
 use Rattle.right_laws.proofs.Targeted.{unit_targeted}
-use Rattle.std.proofs.lemmas.Bool.{eqb-true}
+use Rattle.std.proofs.lemmas.Bool.{eqb-true, and_parts}
 use Rattle.bus_base.proofs.Tests.{wrong, wrong'}
 
 abbrev pub AreWhole : Contents → Type 0
@@ -65,12 +65,8 @@ AreWhole c = (lba : ℕ) → length (block_at c lba) ≡ c.size
 
 -- ---- contents
 
-zeros : (n : ℕ) → length {A = ℕ} (replicate n 0) ≡ n
-zeros zero = refl
-zeros (suc n) = ap suc (zeros n)
-
 pub blank_whole : (count size : ℕ) → AreWhole (blank_contents count size)
-blank_whole count size lba = zeros size
+blank_whole count size lba = length-replicate size 0
 
 block_whole : (c : Contents) (lba : ℕ) (block : List ℕ) → length block ≡ c.size → AreWhole c → AreWhole (with_block c lba block)
 block_whole c lba block e h k = ap (λ (b : List ℕ). length b) (block_same c lba block k) ∙ go (lba == k)
@@ -167,11 +163,8 @@ mapped_contents f (Some u) e = e u
 abbrev LeavesSo : Array → ℕ → ℕ → Option Seat → Type 0
 LeavesSo b t n o = (after : Seat) → settled_seat_if o ≡ Some after → AreWhole (contents_of after.unit)
 
-no_seat : {A : Type 0} (x : Seat) → (let o : Option Seat = None in o) ≡ Some x → A
-no_seat x e = absurd cc
-
 leaves_none : (b : Array) (t n : ℕ) → LeavesSo b t n None
-leaves_none b t n after e = no_seat after e
+leaves_none b t n after e = none_some after e
 
 leaves_some : (b : Array) (t n : ℕ) (seat : Seat) → AreWhole (contents_of seat.unit) → LeavesSo b t n (Some seat)
 leaves_some b t n seat h after e = subst AreWhole (sym (settled_contents seat) ∙ ap (λ (x : Seat). contents_of x.unit) (same_Some (settled_seat seat) after e)) h
@@ -209,11 +202,8 @@ end_whole seat id status b t n h = go (Seats.running_at seat id)
 
 -- ---- a process runs
 
-no_running : {A : Type 0} (r : RunningProcess) → (let o : Option RunningProcess = None in o) ≡ Some r → A
-no_running r e = absurd cc
-
 guest_own : (s : ScenarioValue) (guests : List RunningProcess) (t n : ℕ) (p : Process) (r : RunningProcess) → AllOwnGuests s guests → process_of s p.id ≡ Some p → guest_at (Seats.guests_at guests t n) p.id ≡ Some r → r.process ≡ p
-guest_own s [] t n p r own is e = no_running r e
+guest_own s [] t n p r own is e = none_some r e
 guest_own s (g ∷ guests) t n p r own is e = go (is_of_unit g.process t n) e (λ z. guest_own s guests t n p r own.1 is z)
   where
     at : (y : Bool) → same_id g.process.id p.id ≡ y → (if y then Some g else guest_at (Seats.guests_at guests t n) p.id) ≡ Some r → (guest_at (Seats.guests_at guests t n) p.id ≡ Some r → r.process ≡ p) → r.process ≡ p
@@ -225,16 +215,16 @@ guest_own s (g ∷ guests) t n p r own is e = go (is_of_unit g.process t n) e (�
     go false z rest = rest z
 
 current_own : (s : ScenarioValue) (units : List UnitState) (t n : ℕ) (p : Process) (r : RunningProcess) → AllOwnUnits s units → process_of s p.id ≡ Some p → running_if (Seats.current_of (unit_state_at units t n)) p.id ≡ Some r → r.process ≡ p
-current_own s [] t n p r own is e = no_running r e
+current_own s [] t n p r own is e = none_some r e
 current_own s (u ∷ units) t n p r own is e = go (u.target == t && u.unit == n) e (λ z. current_own s units t n p r own.1 is z)
   where
     inner : (o : Option RunningProcess) → (let a : ℕ = u.target in let b : ℕ = u.unit in IsOwnRunning s a b o) → running_if o p.id ≡ Some r → r.process ≡ p
-    inner None h z = no_running r z
+    inner None h z = none_some r z
     inner (Some x) h z = at (same_id x.process.id p.id) refl z
       where
         at : (y : Bool) → same_id x.process.id p.id ≡ y → (if y then Some x else None) ≡ Some r → r.process ≡ p
         at true f w = ap (λ (v : RunningProcess). v.process) (sym (same_Some x r w)) ∙ same_Some x.process p (sym h.is ∙ ap (process_of s) (id_is x.process.id p.id f) ∙ is)
-        at false f w = no_running r w
+        at false f w = none_some r w
 
     go : (x : Bool) → running_if (Seats.current_of (if x then Some u else unit_state_at units t n)) p.id ≡ Some r → (running_if (Seats.current_of (unit_state_at units t n)) p.id ≡ Some r → r.process ≡ p) → r.process ≡ p
     go true z rest = inner u.current own.0.current z
@@ -293,9 +283,6 @@ sent_whole s a p o lines is good w = go (has_target s p.target) refl
 
 -- ---- an event
 
-no_array : {A : Type 0} (b : Array) → (let o : Option Array = None in o) ≡ Some b → A
-no_array b e = absurd cc
-
 running_known : (s : ScenarioValue) (a : Array) (id : ProcId) (r : RunningProcess) → IsSound s a → Steps.running_process a id ≡ Some r → is_some (process_of s id) ≡ true
 running_known s a id r sound e =
     let own = running_has (IsOf s) a id r (record { units = own_units s a.units sound.units; guests = own_guests s a.guests sound.guests }) e in
@@ -312,18 +299,18 @@ known_event s a b e id sound st h = go (process_of s id) refl h
     ran f none z = by (Steps.running_process a id) refl z
       where
         by : (o : Option RunningProcess) → Steps.running_process a id ≡ o → Steps.settled_array_if (f a o) ≡ Some b → is_some (process_of s id) ≡ true
-        by None w v = no_array b (sym (ap Steps.settled_array_if none) ∙ v)
+        by None w v = none_some b (sym (ap Steps.settled_array_if none) ∙ v)
         by (Some r) w v = running_known s a id r sound w
 
     failed : (code : ℕ) (x : Option Process) → process_of s id ≡ x → (o : Option RunningProcess) → Steps.running_process a id ≡ o → Steps.settled_array_if (Steps.fail_step s a id (check_condition (Rattle.disk_array.specs.Execution.sense_of Rattle.cdb_codec.specs.declared.sense.TheConstants.ABORTED_COMMAND code 0x00)) o) ≡ Some b → is_some x ≡ true
     failed code x z (Some r) w v = sym (ap (λ (y : Option Process). is_some y) z) ∙ running_known s a id r sound w
     failed code (Some p) z None w v = refl
-    failed code None z None w v = no_array b (sym (ap (λ (y : Option Process). Steps.settled_array_if (Steps.fail_step_of_new a id (check_condition (Rattle.disk_array.specs.Execution.sense_of Rattle.cdb_codec.specs.declared.sense.TheConstants.ABORTED_COMMAND code 0x00)) y)) z) ∙ v)
+    failed code None z None w v = none_some b (sym (ap (λ (y : Option Process). Steps.settled_array_if (Steps.fail_step_of_new a id (check_condition (Rattle.disk_array.specs.Execution.sense_of Rattle.cdb_codec.specs.declared.sense.TheConstants.ABORTED_COMMAND code 0x00)) y)) z) ∙ v)
 
     go : (x : Option Process) → process_of s id ≡ x → (e ≡ events.Accept id) ⊎ (e ≡ events.Refuse id) ⊎ (e ≡ events.Run id) ⊎ ((code : ℕ) × (e ≡ events.Fail id code)) ⊎ ((status : ℕ) × (e ≡ events.End id status)) → is_some (process_of s id) ≡ true
     go (Some p) z w = ap (λ (y : Option Process). is_some y) z
-    go None z (inl w) = no_array b (sym (ap (λ (y : Option Process). Steps.settled_array_if (Steps.accept_step a y)) z) ∙ is (events.Accept id) w)
-    go None z (inr (inl w)) = no_array b (sym (ap (λ (y : Option Process). Steps.settled_array_if (Steps.refuse_step a y)) z) ∙ is (events.Refuse id) w)
+    go None z (inl w) = none_some b (sym (ap (λ (y : Option Process). Steps.settled_array_if (Steps.accept_step a y)) z) ∙ is (events.Accept id) w)
+    go None z (inr (inl w)) = none_some b (sym (ap (λ (y : Option Process). Steps.settled_array_if (Steps.refuse_step a y)) z) ∙ is (events.Refuse id) w)
     go None z (inr (inr (inl w))) = ran (λ x o. Steps.run_step x (is_some (guest_at x.guests id)) o) refl (is (events.Run id) w)
     go None z (inr (inr (inr (inl w)))) = ap (λ (y : Option Process). is_some y) z ∙ failed w.0 None z (Steps.running_process a id) refl (is (events.Fail id w.0) w.1)
     go None z (inr (inr (inr (inr w)))) = ran (λ x o. Steps.end_step x w.0 o) refl (is (events.End id w.0) w.1)
@@ -357,7 +344,7 @@ lost_contents : (a b : Array) (id : ProcId) (t n : ℕ) → Steps.settled_array_
 lost_contents a b id t n e = go (Steps.has_ended a id) e
   where
     go : (x : Bool) → Steps.settled_array_if (if x then None else Some (Steps.array_without a id)) ≡ Some b → contents_of (unit_state_at b.units t n) ≡ contents_of (unit_state_at a.units t n)
-    go true z = no_array b z
+    go true z = none_some b z
     go false z =
         ap (λ (x : Array). contents_of (unit_state_at x.units t n)) (sym (same_Some (settled_array (Steps.array_without a id)) b z))
         ∙ chosen_contents a.holds (Steps.units_without a.units id) t n ∙ without_contents a.units id t n
@@ -390,7 +377,7 @@ abort_whole s a b i to un what t n seats sound st whole = go what st
 
     here : (w : AbortKind) → step s (events.Aborted i to un w) a ≡ Some b → (to == t && un == n) ≡ true → AreWhole (contents_of (unit_state_at b.units t n))
     here w z place =
-        let two = both_true (to == t) (un == n) place in
+        let two = and_parts (to == t) (un == n) place in
         subst (λ (y : ℕ). AreWhole (contents_of (unit_state_at b.units y n))) (eqb-true to t two.0)
         (subst (λ (y : ℕ). AreWhole (contents_of (unit_state_at b.units to y))) (eqb-true un n two.1)
         (left_so s a b (events.Aborted i to un w) to un (Some (Seats.seat_after_aborted s.hosts i w (seat_of a to un))) z (abort_law s a i to un w seats sound)
@@ -430,7 +417,7 @@ whole_step s a b e o sound lines st whole t n = go e st
     go (events.Run id) z =
         of_seat s a b (events.Run id) id t n seats sound z refl (known_event s a b (events.Run id) id sound z (inr (inr (inl refl)))) whole
         (λ p is.
-        let own : process_of s p.id ≡ Some p = named s id p is in
+        let own : process_of s p.id ≡ Some p = is_own s id p is in
         let same : id ≡ p.id = sym (process_id s id p is) in
         let runs : step s (events.Run p.id) a ≡ Some b = ap (λ (x : ProcId). step s (events.Run x) a) (sym same) ∙ z in
         left_so s a b (events.Run p.id) p.target p.unit (Seats.seat_after_run p.id (seat_of a p.target p.unit)) runs (run_law s a p seats sound own)
@@ -438,7 +425,7 @@ whole_step s a b e o sound lines st whole t n = go e st
     go (events.End id status) z =
         of_seat s a b (events.End id status) id t n seats sound z refl (known_event s a b (events.End id status) id sound z (inr (inr (inr (inr (status, refl)))))) whole
         (λ p is.
-        let own : process_of s p.id ≡ Some p = named s id p is in
+        let own : process_of s p.id ≡ Some p = is_own s id p is in
         let same : id ≡ p.id = sym (process_id s id p is) in
         left_so s a b (events.End p.id status) p.target p.unit (Seats.seat_after_end p.id status (seat_of a p.target p.unit)) (ap (λ (x : ProcId). step s (events.End x status) a) (sym same) ∙ z) (end_law s a p status seats sound own)
         (end_whole (seat_of a p.target p.unit) p.id status b p.target p.unit (whole p.target p.unit)))
@@ -465,7 +452,7 @@ found_place [] t n u e = no_line u e
 found_place (v ∷ units) t n u e = go (v.target == t && v.unit == n) refl e (λ z. found_place units t n u z)
   where
     go : (x : Bool) → (v.target == t && v.unit == n) ≡ x → cond x (Some v) (find (λ (w : UnitDef). w.target == t && w.unit == n) units) ≡ Some u → (find (λ (w : UnitDef). w.target == t && w.unit == n) units ≡ Some u → (u.target ≡ t) × (u.unit ≡ n)) → (u.target ≡ t) × (u.unit ≡ n)
-    go true f z rest = let two = both_true (v.target == t) (v.unit == n) f in let same = same_Some v u z in (ap (λ (w : UnitDef). w.target) (sym same) ∙ eqb-true v.target t two.0, ap (λ (w : UnitDef). w.unit) (sym same) ∙ eqb-true v.unit n two.1)
+    go true f z rest = let two = and_parts (v.target == t) (v.unit == n) f in let same = same_Some v u z in (ap (λ (w : UnitDef). w.target) (sym same) ∙ eqb-true v.target t two.0, ap (λ (w : UnitDef). w.unit) (sym same) ∙ eqb-true v.unit n two.1)
     go false f z rest = rest z
 
 pub whole_start : (s : ScenarioValue) → Obeys s → HasWhole (starting_array s)
@@ -478,5 +465,5 @@ whole_always s [] a o e = subst HasWhole (sym (start_settled s) ∙ same_Some (s
 whole_always s (event ∷ history) a o e = go (array_after s history) refl e (λ b f. whole_always s history b o f)
   where
     go : (x : Option Array) → array_after s history ≡ x → array_step s event x ≡ Some a → ((b : Array) → x ≡ Some b → HasWhole b) → HasWhole a
-    go None z k before = no_array a k
+    go None z k before = none_some a k
     go (Some b) z k before = whole_step s b a event o (history_sound s history b (seats_are s (obeys_fits s o)) z) (lines_always s history b z) k (before b refl)

@@ -9,21 +9,15 @@ use Rattle.scenario.specs.declared.value.CmdDef.{CmdDef}
 use Rattle.disk_array.specs.Processes.{Process, process_of}
 use Rattle.disk_array.specs.Units.{RunningProcess, UnitState}
 use Rattle.bus_story.specs.Items.{process, has_item}
-use Rattle.bus_dialogue.specs.declared.exchange.Phase.{Phase}
-use Rattle.bus_dialogue.specs.declared.exchange.Phase.TheVariants as phases
 use Rattle.bus_dialogue.specs.NextPhase.{phase_of}
 use Rattle.bus_due.specs.RunState.{RunState, array_of, bus_of, carried_here, process_served}
 use Rattle.bus_due.specs.RunSteps.{run_state_after}
 use Rattle.bus_due.specs.Tasks.{is_writing, reply_now}
 use Rattle.bus_books.specs.Accounts.{is_served_by}
+use Rattle.bus_books.specs.Tests.{is_front}
 use Rattle.trace_laws.specs.DataPointers.{is_marked, run_start}
 use Rattle.right_laws.specs.Reads.{content_now}
 use Rattle.right_laws.specs.GivenTests.{is_data_in}
-
-abbrev is_front : List ℕ → List ℕ → Bool
-is_front [] all = true
-is_front (b ∷ bytes) [] = false
-is_front (b ∷ bytes) (c ∷ all) = b == c && is_front bytes all
 
 abbrev is_given : ScenarioValue → RunState → Process → Bool
 is_given s k p =

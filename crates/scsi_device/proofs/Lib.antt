@@ -8,3 +8,4 @@ pub mod LinesSoFar
 pub mod LinesBuilt
 pub mod FitLines
 pub mod WantTimes
+pub mod SentBytes

@@ -153,7 +153,7 @@ id_stays w l c = by c.known
 
 -- ---- a row in the connection
 
-connection_stays : (rows : List Row) (row : Row) (m n : Connection) → connection rows ≡ Some m → connection (row ∷ rows) ≡ Some n → m ≡ n
+pub connection_stays : (rows : List Row) (row : Row) (m n : Connection) → connection rows ≡ Some m → connection (row ∷ rows) ≡ Some n → m ≡ n
 connection_stays rows row m n x y = go (bus (row ∷ rows)).bsy ((λ i. connection_after (sym x i) (call rows) (change_of rows row) row) ∙ y)
   where
     go : (z : Bool) → (if z then Some m else None) ≡ Some n → m ≡ n

@@ -39,17 +39,19 @@ use Rattle.target_course.specs.Gathered.{bytes_of, GatheredValue, gathering_at, 
 use Rattle.target_units.specs.Seated.{is_same_process}
 use Rattle.target_course.specs.States.{IsOwnConnection}
 use Rattle.target_course.proofs.GatheredMore.{task_at, row_gathered}
-use Rattle.target_course.proofs.GatheredSteps.{AreByteGathered, no_byte, byte_more, same_self, data_out_is}
+use Rattle.target_course.proofs.GatheredSteps.{AreByteGathered, no_byte, byte_more, data_out_is}
 use Rattle.target_course.proofs.GatheredWhole.{same_start, first_start, room_enough}
 use Rattle.target_course.proofs.ProgressRows.{named_so}
-use Rattle.target_course.proofs.ServedEnds.{process_id, ends_are}
+use Rattle.target_course.proofs.ServedEnds.{ends_are}
 use Rattle.bus_base.proofs.Tests.{wrong}
 use Rattle.target_course.proofs.GatheredRows.{same_target}
+use Rattle.disk_array.proofs.SoundArrays.{id_is}
+use Rattle.disk_unit.proofs.LiveCommands.{id_self}
 
 served_id : (s : ScenarioValue) (served : Option Item) (p : Process) → process_item s served ≡ Some p → id_of served ≡ Some p.id
 served_id s None p e = cc
 served_id s (Some (abort n)) p e = cc
-served_id s (Some (process id)) p e = λ i. Some (sym (process_id s id p e) i)
+served_id s (Some (process id)) p e = λ i. Some (sym (id_is s id p e) i)
 
 -- Where the next byte goes, by the size that the scenario says.
 place_so : (s : ScenarioValue) (k : RunState) (p : Process) (dev : ℕ) → process_served s k ≡ Some p → p.target ≡ dev → is_of_size s k p ≡ true → place_in_run (policy_of (target_def_of s dev)) (task_of s k) k.handshakes.answers ≡ min (run_start_of s p (progress_in k.progress p.id).runs + k.handshakes.answers) (2 ^ 64 - 1)
@@ -242,7 +244,7 @@ whole_bytes s rows v p n bytes h r t l all is sent =
         enough a len most x y = omega arith
 
     taken : bytes ≡ take (length p.sent) (gathering_at v.units p.unit).bytes
-    taken = is ∙ (λ i. if ((λ j. is_same_process (owned j) (Some p.id)) ∙ same_self p.id) i then take (length p.sent) (gathering_at v.units p.unit).bytes else [])
+    taken = is ∙ (λ i. if ((λ j. is_same_process (owned j) (Some p.id)) ∙ id_self p.id) i then take (length p.sent) (gathering_at v.units p.unit).bytes else [])
 
     long : length bytes ≡ length p.sent
     long = (λ i. length (taken i)) ∙ length-take (length p.sent) (gathering_at v.units p.unit).bytes ∙ least (length p.sent) (length (gathering_at v.units p.unit).bytes) come

@@ -41,12 +41,14 @@ use Rattle.bus_due.specs.Sights.{hearing_of, leaving}
 use Rattle.bus_due.specs.Tasks.{blocks_in, reply_now, size_of, task_with, task_if, task_of}
 use Rattle.scsi_device.specs.Writes.{writer_of, is_data_out, brings_byte, writers_with, writers, block_size, is_of_size, is_writer, is_whole_run, is_written_run, is_written_byte, ends_run, is_written_in, is_written_on, is_written}
 use Rattle.target_course.specs.Gathered.{GatheredValue, gathering_at, run_start_of, HasCome, IsRunningIn, AreAllGathered}
-use Rattle.target_course.proofs.GatheredSteps.{AreByteGathered, same_self, data_out_is}
+use Rattle.target_course.proofs.GatheredSteps.{AreByteGathered, data_out_is}
 use Rattle.target_course.proofs.GatheredWhole.{next_start}
 use Rattle.target_course.proofs.HeardOpenings.{phase_same}
 use Rattle.target_course.proofs.ProgressRows.{entry_with, other_kept, named_so, plus_none}
-use Rattle.target_course.proofs.ServedEnds.{same_id_is, connection_stays}
+use Rattle.target_course.proofs.ServedEnds.{connection_stays}
 use Rattle.bus_base.proofs.Tests.{wrong}
+use Rattle.disk_array.proofs.SeatLookups.{same_id_is}
+use Rattle.disk_unit.proofs.LiveCommands.{id_self}
 
 come_less : (v : GatheredValue) (p : Process) (a b : ℕ) → a ≤ b → HasCome v p b → HasCome v p a
 come_less v p a b l h = omega (arith, l, h)
@@ -57,8 +59,8 @@ runs_with : (all : List ProcessProgress) (a id : ProcId) (x y : Bool) → (progr
 runs_with all a id x y = go (same_id a id) refl
   where
     self : (x y : Bool) → (progress_in (progress_with all id x y) id).runs ≡ (progress_in all id).runs + one_if x
-    self true y = λ i. (if same_self id i then entry_with all id true y else progress_in all id).runs
-    self false true = λ i. (if same_self id i then entry_with all id false true else progress_in all id).runs
+    self true y = λ i. (if id_self id i then entry_with all id true y else progress_in all id).runs
+    self false true = λ i. (if id_self id i then entry_with all id false true else progress_in all id).runs
     self false false = plus_none (progress_in all id).runs
 
     go : (q : Bool) → same_id a id ≡ q → (progress_in (progress_with all a x y) id).runs ≡ (if q then (progress_in all id).runs + one_if x else (progress_in all id).runs)
@@ -211,7 +213,7 @@ row_gathered s rows row v p q calm ends at_target written x = record {
         go false f =
             let last : not (is_writer (writer_of (writers s rows) z.target z.unit) z.id) ≡ true = sym (λ i. if f i then is_whole_run s k z (task_of s k) else not (is_writer (writer_of (writers s rows) z.target z.unit) z.id)) ∙ both in
             let same_writers : writer_of (writers s (row ∷ rows)) z.target z.unit ≡ writer_of (writers s rows) z.target z.unit = λ i. writer_of (if no_bytes f i then writers_with (writers s rows) (process_served s k) else writers s rows) z.target z.unit in
-            wrong (sym ((λ i. is_writer ((sym same_writers ∙ wr) i) z.id) ∙ (λ i. same_id (sym ids i) z.id) ∙ same_self z.id) ∙ not-true (is_writer (writer_of (writers s rows) z.target z.unit) z.id) last)
+            wrong (sym ((λ i. is_writer ((sym same_writers ∙ wr) i) z.id) ∙ (λ i. same_id (sym ids i) z.id) ∙ id_self z.id) ∙ not-true (is_writer (writer_of (writers s rows) z.target z.unit) z.id) last)
 
     made : (id : ProcId) (z : Process) → process_of s id ≡ Some z → z.target ≡ v.dev → writer_of (writers s (row ∷ rows)) z.target z.unit ≡ Some id → HasCome v z (run_start_of s z (progress_in next.progress id).runs)
     made id z e t wr = by k.story.bus_state.connection refl d.next refl

@@ -38,7 +38,8 @@ use Rattle.bus_due.specs.Telling.{id_of}
 use Rattle.scsi_device.specs.Writes.{is_data_out, brings_byte}
 use Rattle.target_course.specs.Gathered.{Gathering, empty_gathering, gathering_of, gathering_with, bytes_of, GatheredValue, gathering_at, gathered_with, most_room, unit_room, empty_unit, nothing_gathered, gathered_seen, place_in_run, IsGatheringOf, IsGatheredOf, IsSentSo}
 use Rattle.target_units.specs.Seated.{is_same_process}
-use Rattle.target_course.proofs.ServedEnds.{same_id_is, ends_are}
+use Rattle.target_course.proofs.ServedEnds.{ends_are}
+use Rattle.disk_array.proofs.SeatLookups.{same_id_is}
 
 -- ---- a buffer
 

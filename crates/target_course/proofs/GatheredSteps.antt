@@ -9,7 +9,7 @@ use Rattle.bus_base.specs.declared.ProcId.{ProcId}
 use Rattle.bus_trace.specs.declared.Row.{Row}
 use Rattle.bus_trace.specs.declared.connection.Connection.{Connection}
 use Rattle.scenario.specs.Value.{ScenarioValue}
-use Rattle.disk_array.specs.Processes.{Process, process_of, same_bool, same_id}
+use Rattle.disk_array.specs.Processes.{Process, process_of}
 use Rattle.bus_dialogue.specs.PhaseBytes.{one_if}
 use Rattle.bus_dialogue.specs.declared.exchange.Phase.{Phase}
 use Rattle.bus_dialogue.specs.declared.exchange.Phase.TheVariants as phases
@@ -21,12 +21,9 @@ use Rattle.target_course.specs.Gathered.{Gathering, empty_gathering, gathering_o
 use Rattle.target_units.specs.Seated.{is_same_process}
 use Rattle.target_course.proofs.GatheredRows.{own_so, unit_put}
 use Rattle.target_course.proofs.GatheredWhole.{put_grows}
-use Rattle.target_course.proofs.ServedEnds.{same_id_is}
-use Rattle.disk_array.proofs.SeatLookups.{same_bool_self}
+use Rattle.disk_array.proofs.SeatLookups.{same_id_is}
 use Rattle.target_course.proofs.ProgressRows.{plus_none}
-
-pub same_self : (p : ProcId) → same_id p p ≡ true
-same_self p = (λ i. eq-eqb p.command p.command refl i && same_bool p.sense p.sense) ∙ same_bool_self p.sense
+use Rattle.disk_unit.proofs.LiveCommands.{id_self}
 
 pub is_writer_is : (o : Option ProcId) (id : ProcId) → is_writer o id ≡ true → o ≡ Some id
 is_writer_is None id e = cc
@@ -79,7 +76,7 @@ owner_of g id = go (is_same_process g.owner (Some id)) refl
     go false e = refl
 
 own_kept : (g : Gathering) (id : ProcId) → g.owner ≡ Some id → gathering_of g id ≡ g
-own_kept g id e = λ i. if ((λ j. is_same_process (e j) (Some id)) ∙ same_self id) i then g else record g { owner = Some id; bytes = [] }
+own_kept g id e = λ i. if ((λ j. is_same_process (e j) (Some id)) ∙ id_self id) i then g else record g { owner = Some id; bytes = [] }
 
 -- A byte of this process comes to its unit.
 pub byte_more : (s : ScenarioValue) (rows : List Row) (v : GatheredValue) (p : Process) (n : Connection) (place byte : ℕ)

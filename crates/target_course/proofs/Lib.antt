@@ -16,6 +16,6 @@ mod HeardOpenings
 pub mod NegotiatedRows
 pub mod GatheredRows
 mod GatheredWhole
-mod GatheredSteps
+pub mod GatheredSteps
 mod GatheredMore
 pub mod GatheredAll

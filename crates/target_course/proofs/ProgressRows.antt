@@ -28,7 +28,9 @@ use Rattle.bus_due.specs.Telling.{id_of}
 use Rattle.target_course.specs.Progress.{no_counts, counted_if, counts_after, no_pair, half_of, pair_after, pair_at, counts_at, pairs_after, ProgressValue, no_progress, is_phase_left, progress_counted, progress_seen, counts_of, AreCounted, IsProgressOf, IsLeftSo, IsUncounted, AreExactly}
 use Rattle.target_course.specs.declared.progress.Counts.{Counts}
 use Rattle.target_course.specs.declared.progress.CountsPair.{CountsPair}
-use Rattle.target_course.proofs.ServedEnds.{same_id_is, process_id, ends_are}
+use Rattle.target_course.proofs.ServedEnds.{ends_are}
+use Rattle.disk_array.proofs.SeatLookups.{same_id_is}
+use Rattle.disk_array.proofs.SoundArrays.{id_is}
 
 -- ---- counts
 
@@ -116,7 +118,7 @@ own_counted s all v a p l e h = record {
 }
   where
     named : p.id ≡ a
-    named = process_id s a p e
+    named = id_is s a p e
 
     by : (id : ProcId) (q : Process) → process_of s id ≡ Some q → q.target ≡ v.dev → (r : Bool) → same_id a id ≡ r → (if same_id a id then counts_after (counts_at v.pairs id) l else counts_at v.pairs id) ≡ counts_of (progress_in (progress_with all a l.done l.counts) id)
     by id q f t true g =
@@ -162,7 +164,7 @@ left_by_own s k v (Some (process id)) l e h = go (process_of s id) refl
 pub named_so : (s : ScenarioValue) (served : Option Item) (p : Process) → process_item s served ≡ Some p → process_of s p.id ≡ Some p
 named_so s None p e = cc
 named_so s (Some (abort n)) p e = cc
-named_so s (Some (process id)) p e = (λ i. process_of s (process_id s id p e i)) ∙ e
+named_so s (Some (process id)) p e = (λ i. process_of s (id_is s id p e i)) ∙ e
 
 left_by_other : (s : ScenarioValue) (k : RunState) (v : ProgressValue) (m : Connection) (l : Leaving) → has_ends (process_served s k) m ≡ true → (m.target == v.dev) ≡ false → AreCounted s k.progress v → AreCounted s (progress_by_leaving k (process_served s k) l) v
 left_by_other s k v m l ends other h = go (process_served s k) refl ends

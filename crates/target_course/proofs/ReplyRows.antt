@@ -1,9 +1,7 @@
 -- The reply of the process that is served, row by row.
-use Rattle.std.proofs.Common.{ℕ, ◌≡◌, ◌∙◌, ◌==◌, Bool, true, false, List, [], ◌∷◌, refl, sym, subst, Option, Some, None}
+use Rattle.std.proofs.Common.{ℕ, ◌≡◌, ◌∙◌, Bool, true, false, List, [], ◌∷◌, refl, sym, subst, Option, Some, None}
 use Rattle.std.specs.Prelude.{if◌then◌else◌, not, ◌&&◌, ◌||◌, is_some, is_none}
-use Rattle.std.proofs.lemmas.Bool.{eqb-true, and_parts}
-use Rattle.bus_base.specs.declared.AbortKind.{AbortKind}
-use Rattle.bus_base.specs.declared.AbortKind.TheVariants as aborts
+use Rattle.std.proofs.lemmas.Bool.{and_parts}
 use Rattle.bus_base.specs.declared.Event.{Event}
 use Rattle.bus_base.specs.declared.Event.TheVariants as events
 use Rattle.bus_base.specs.declared.ProcId.{ProcId}
@@ -19,14 +17,13 @@ use Rattle.disk_array.proofs.SoundArrays
 use Rattle.disk_array.specs.ArrayHistory.{reply_in}
 use Rattle.disk_array.specs.ArrayHistory as Play
 use Rattle.disk_array.specs.Execution.{Reply}
-use Rattle.disk_array.specs.Processes.{Process, process_of, same_id}
+use Rattle.disk_array.specs.Processes.{Process, process_of}
 use Rattle.disk_array.specs.SoundArray.{HasSeats, IsSound}
 use Rattle.disk_array.specs.Steps
 use Rattle.disk_array.specs.Steps.{step}
 use Rattle.disk_array.specs.Units
 use Rattle.disk_array.specs.Units.{Array}
 use Rattle.bus_due.specs.LastingState
-use Rattle.disk_unit.proofs.LiveCommands.{same_id_is}
 use Rattle.disk_unit.specs.declared.media.Plan.{Plan as UnitPlan}
 use Rattle.disk_unit.specs.declared.unit.Reply.{Reply as UnitReply}
 use Rattle.disk_unit.specs.Plans.{plan_of}
@@ -53,51 +50,16 @@ use Rattle.bus_due.specs.RunState.{RunState, array_of, bus_of, or_start, process
 use Rattle.bus_due.specs.RunSteps.{run_state, array_after_events, served_after}
 use Rattle.bus_due.specs.Sights.{hearing_of, serving_of}
 use Rattle.bus_due.specs.Tasks.{reply_now}
-use Rattle.bus_due.specs.Telling.{events_of_ends, events_of_ends_in, id_of, initiator_events, is_true_telling, same_event, same_events, same_kind, target_events, telling}
+use Rattle.bus_due.specs.Telling.{events_of_ends, events_of_ends_in, id_of, initiator_events, is_true_telling, target_events, telling}
+use Rattle.bus_due.proofs.SameEvents.{events_are}
 use Rattle.scsi_device.specs.Heard.{Instructions, heard, instructions, is_beginning, is_heard, is_heard_after, is_heard_on, is_heard_row, is_new, is_uncounted}
 use Rattle.target_course.specs.Courses.{events_of_target}
 use Rattle.target_course.specs.Replies.{planned_reply, reply_after, shows_run, IsReplyOf, IsOutlookAt}
 use Rattle.target_units.specs.Seated.{reply_told}
 use Rattle.target_course.specs.States.{IsOwnConnection}
-use Rattle.target_course.proofs.ReplySteps.{accept_replies, accept_same, end_replies, fail_replies, refuse_replies, run_replies}
+use Rattle.target_course.proofs.ReplySteps.{accept_same, end_replies, fail_replies, refuse_replies, run_replies}
 use Rattle.bus_base.proofs.Tests.{or_second}
-
--- ---- events that are the same
-
-kind_is : (a b : AbortKind) → same_kind a b ≡ true → a ≡ b
-kind_is aborts.All aborts.All h = refl
-kind_is (aborts.Tag a) (aborts.Tag b) h = λ i. aborts.Tag (eqb-true a b h i)
-kind_is aborts.WholeQueue aborts.WholeQueue h = refl
-kind_is aborts.Device aborts.Device h = refl
-kind_is _ _ h = cc
-
-event_is : (e f : Event) → same_event e f ≡ true → e ≡ f
-event_is (events.Accept a) (events.Accept b) h = λ i. events.Accept (same_id_is a b h i)
-event_is (events.Refuse a) (events.Refuse b) h = λ i. events.Refuse (same_id_is a b h i)
-event_is (events.Run a) (events.Run b) h = λ i. events.Run (same_id_is a b h i)
-event_is (events.Fail a x) (events.Fail b y) h =
-    let both = and_parts (same_id a b) (x == y) h in
-    λ i. events.Fail (same_id_is a b both.0 i) (eqb-true x y both.1 i)
-event_is (events.End a x) (events.End b y) h =
-    let both = and_parts (same_id a b) (x == y) h in
-    λ i. events.End (same_id_is a b both.0 i) (eqb-true x y both.1 i)
-event_is (events.Lost a) (events.Lost b) h = λ i. events.Lost (same_id_is a b h i)
-event_is (events.Aborted h t u x) (events.Aborted i v w y) e =
-    let last = and_parts (h == i && t == v && u == w) (same_kind x y) e in
-    let three = and_parts (h == i && t == v) (u == w) last.0 in
-    let two = and_parts (h == i) (t == v) three.0 in
-    λ j. events.Aborted (eqb-true h i two.0 j) (eqb-true t v two.1 j) (eqb-true u w three.1 j) (kind_is x y last.1 j)
-event_is (events.Reset a) (events.Reset b) h = λ i. events.Reset (eqb-true a b h i)
-event_is _ _ h = cc
-
-pub events_are : (l m : List Event) → same_events l m ≡ true → l ≡ m
-events_are [] [] h = refl
-events_are [] (f ∷ m) h = cc
-events_are (e ∷ l) [] h = cc
-events_are (e ∷ l) (f ∷ m) h =
-    let both = and_parts (same_event e f) (same_events l m) h in
-    let rest = events_are l m both.1 in
-    λ i. event_is e f both.0 i ∷ rest i
+use Rattle.target_units.proofs.Arrivals.{arrival_replies}
 
 -- ---- what a target shows as it turns to another phase
 
@@ -168,7 +130,7 @@ shape_replies : (s : ScenarioValue) (a b : Array) (p : Process) (plan : UnitPlan
     → array_after_events s (Some a) (shown_of p.id x) ≡ Some b → was ≡ reply_told (reply_in a.replies p.id) → (shows_run (shown_of p.id x) ≡ true → plan ≡ plan_of (reply_now a p) plan.out_len)
     → reply_after plan (shown_of p.id x) was ≡ reply_told (reply_in b.replies p.id)
 shape_replies s a b p plan was nothing seats sound own h e r = let same : a ≡ b = cc in e ∙ (λ i. reply_told (reply_in (same i).replies p.id))
-shape_replies s a b p plan was accepts seats sound own h e r = e ∙ (λ i. reply_told (reply_in (sym (accept_replies s a b p.id h) i) p.id))
+shape_replies s a b p plan was accepts seats sound own h e r = e ∙ (λ i. reply_told (reply_in (sym (arrival_replies s a b p.id h) i) p.id))
 shape_replies s a b p plan was refuses seats sound own h e r = λ i. reply_told (sym (refuse_replies s a b p own h) i)
 shape_replies s a b p plan was (fails code) seats sound own h e r = λ i. reply_told (sym (fail_replies s a b p.id code h) i)
 shape_replies s a b p plan was runs seats sound own h e r = (λ i. Some (planned_reply (r refl i))) ∙ (λ i. reply_told (sym (run_replies s a b p sound own h) i))

@@ -17,8 +17,8 @@ use Rattle.disk_array.specs.Seats.{Seat, seat_of, seat_if, context_of, settled_s
 use Rattle.disk_array.specs.SoundArray.{HasSeats, IsSound, AllOwnUnits, AllOwnGuests, IsOwnRunning}
 use Rattle.disk_array.specs.Steps
 use Rattle.disk_array.specs.Units
-use Rattle.disk_array.specs.Steps.{process_count, queue_step, accept_step_at, accept_step, refuse_step_at, refuse_step, context_at, after_execution_at, run_step, running_if, running_in, running_process, fail_step_of_new, fail_step, has_ended, is_waiting, end_step_with, end_step, event_step, settled_array_if, step, with_guest}
-use Rattle.disk_array.specs.Units.{RunningProcess, UnitState, Array, guest_at, is_held, nexus_of, settled_array, unit_state_at, with_unit, with_current, has_no_current}
+use Rattle.disk_array.specs.Steps.{process_count, refuse_step_at, refuse_step, context_at, after_execution_at, run_step, running_if, running_in, running_process, fail_step_of_new, fail_step, has_ended, is_waiting, end_step_with, end_step, event_step, settled_array_if, step, with_guest}
+use Rattle.disk_array.specs.Units.{RunningProcess, UnitState, Array, guest_at, is_held, nexus_of, settled_array, unit_state_at, with_current, has_no_current}
 use Rattle.disk_unit.proofs.LiveCommands.{id_self, same_id_is}
 use Rattle.bus_due.specs.Tasks.{reply_now}
 use Rattle.target_units.specs.Seated.{aborted_reply}
@@ -34,22 +34,6 @@ settled_is s e a b h = go (event_step s a e) refl h
     go (Some y) f g = let same : settled_array y ≡ b = cc in (y, f, λ i. (sym same i).replies)
 
 -- ---- a command arrives
-
-accept_keeps : (a y : Array) (x : Option Process) → accept_step a x ≡ Some y → y.replies ≡ a.replies
-accept_keeps a y None h = cc
-accept_keeps a y (Some p) h = go (unit_state_at a.units p.target p.unit) h
-  where
-    queued : (u : UnitState) (q : Bool) → (if q then Some (record a { units = with_unit a.units (record u { waiting = u.waiting ++ p ∷ [] }) }) else None) ≡ Some y → y.replies ≡ a.replies
-    queued u true g = let same : record a { units = with_unit a.units (record u { waiting = u.waiting ++ p ∷ [] }) } ≡ y = cc in λ i. (sym same i).replies
-    queued u false g = cc
-
-    by : (u : UnitState) (q : Bool) → (if q then Some (with_guest a p None) else queue_step a p u) ≡ Some y → y.replies ≡ a.replies
-    by u true g = let same : with_guest a p None ≡ y = cc in λ i. (sym same i).replies
-    by u false g = queued u (nat_lt (process_count u) u.depth) g
-
-    go : (u : Option UnitState) → accept_step_at a p u ≡ Some y → y.replies ≡ a.replies
-    go None g = let same : with_guest a p None ≡ y = cc in λ i. (sym same i).replies
-    go (Some u) g = by u (is_request_sense (command_of p.cdb)) g
 
 -- At a full queue it is refused.
 refuse_gives : (a y : Array) (x : Option Process) (p : Process) → x ≡ Some p → refuse_step a x ≡ Some y → reply_in y.replies p.id ≡ Some queue_full
@@ -213,9 +197,6 @@ accept_same s a b p seats sound own h =
     ∙ (λ i. (execution (sym (context_same a p.target p.unit p.initiator) i) p.cdb p.sent).reply)
 
 -- ---- by the event
-
-pub accept_replies : (s : ScenarioValue) (a b : Array) (id : ProcId) → step s (events.Accept id) a ≡ Some b → b.replies ≡ a.replies
-accept_replies s a b id h = let y = settled_is s (events.Accept id) a b h in y.2 ∙ accept_keeps a y.0 (process_of s id) y.1
 
 pub end_replies : (s : ScenarioValue) (a b : Array) (id : ProcId) (status : ℕ) → step s (events.End id status) a ≡ Some b → b.replies ≡ a.replies
 end_replies s a b id status h = let y = settled_is s (events.End id status) a b h in y.2 ∙ end_keeps a y.0 status (running_process a id) y.1

@@ -1,53 +1,19 @@
 -- A process that is served in a connection is one between its two ends, and its number is the one by which it is served.
-use Rattle.std.proofs.Common.{◌≡◌, Bool, true, false, List, [], ◌∷◌, ◌∙◌, refl, sym, ap, subst, Option, Some, None}
-use Rattle.std.specs.Prelude.{◌&&◌, ◌||◌, ◌==◌, if◌then◌else◌}
-use Rattle.std.proofs.lemmas.Bool.{and_parts, eqb-true}
+use Rattle.std.proofs.Common.{◌≡◌, Bool, true, false, List, [], ◌∷◌, ◌∙◌, refl, sym, subst, Option, Some, None}
+use Rattle.std.specs.Prelude.{◌||◌, if◌then◌else◌}
+use Rattle.std.proofs.lemmas.Bool.{and_parts}
 use Rattle.std.proofs.lemmas.Option.{same_Some}
-use Rattle.bus_base.specs.declared.ProcId.{ProcId}
 use Rattle.bus_trace.specs.declared.Row.{Row}
 use Rattle.bus_trace.specs.declared.changes.Change.{Change}
 use Rattle.bus_trace.specs.declared.connection.Connection.{Connection}
 use Rattle.bus_trace.specs.declared.selection.Call.{Call}
 use Rattle.bus_trace.specs.Terms.{connection, connection_after}
-use Rattle.scenario.specs.declared.value.CmdDef.{CmdDef}
-use Rattle.scenario.specs.declared.value.Tag.TheVariants as tags
-use Rattle.scenario.specs.Needs.{sent_of}
 use Rattle.scenario.specs.Value.{ScenarioValue}
-use Rattle.disk_array.specs.Processes.{Process, command_at, process_by, process_if, process_of, payload_bytes, sense_block, same_bool, same_id}
 use Rattle.bus_story.specs.BusState.{RowReading, row_reading}
 use Rattle.bus_due.specs.Faithful.{has_ends, is_true_beginning, is_true_hearing, is_faithful, faithful}
 use Rattle.bus_due.specs.Plain.{IsPlain, AreOfDevices}
 use Rattle.bus_due.specs.RunState.{RunState, process_item, process_served}
 use Rattle.bus_due.specs.RunSteps.{run_state, served_after}
-
--- ---- numbers of processes
-
-same_bool_is : (a b : Bool) → same_bool a b ≡ true → a ≡ b
-same_bool_is true true e = refl
-same_bool_is true false e = cc
-same_bool_is false true e = cc
-same_bool_is false false e = refl
-
-pub same_id_is : (p q : ProcId) → same_id p q ≡ true → p ≡ q
-same_id_is p q e = go (p.command == q.command) refl e
-  where
-    go : (x : Bool) → (p.command == q.command) ≡ x → (x && same_bool p.sense q.sense) ≡ true → p ≡ q
-    go true c f = λ i. record { command = eqb-true p.command q.command c i; sense = same_bool_is p.sense q.sense f i }
-    go false c f = cc
-
-process_named : (s : ScenarioValue) (id : ProcId) (c : CmdDef) → (process_by s id c).id ≡ id
-process_named s id c = go id.sense
-  where
-    go : (q : Bool) → (let x : Process = if q then record { id = id; initiator = c.host; target = c.target; unit = c.unit; tag = tags.Untagged; cdb = sense_block; sent = [] } else record { id = id; initiator = c.host; target = c.target; unit = c.unit; tag = c.tag; cdb = c.cdb; sent = payload_bytes c.payload (sent_of s c) } in x.id) ≡ id
-    go true = refl
-    go false = refl
-
-pub process_id : (s : ScenarioValue) (id : ProcId) (p : Process) → process_of s id ≡ Some p → p.id ≡ id
-process_id s id p e = go (command_at s.commands id.command) e
-  where
-    go : (c : Option CmdDef) → process_if s id c ≡ Some p → p.id ≡ id
-    go None f = cc
-    go (Some c) f = ap (λ (x : Process). x.id) (sym (same_Some (process_by s id c) p f)) ∙ process_named s id c
 
 -- ---- the connection that stands stays the same
 

@@ -29,6 +29,7 @@ use Rattle.disk_unit.specs.Disk.{blocks_written, blocks_written_by, written_of}
 use Rattle.disk_unit.proofs.LiveCommands.{id_self}
 use Rattle.scsi_device.specs.Lines.{FitsBus, IsCommandLine}
 use Rattle.scsi_device.proofs.FitLines.{command_fits, unit_fits}
+use Rattle.scsi_device.proofs.SentBytes.{process_few}
 use Rattle.target_units.specs.Fillings.{blocks_by, blocks_by_all, blocks_at}
 use Rattle.target_units.specs.declared.logical.LogicalUnit.{LogicalUnit}
 use Rattle.target_units.specs.Units.{HaveRoom, spare_of, unit_in}
@@ -249,14 +250,6 @@ count_same : (c d : Contents) (r : Result Command CdbFault) → c.count ≡ d.co
 count_same c d (Err fault) e = refl
 count_same c d (Ok command) e = λ i. if is_good_range (e i) (range_of command) then written_of command else 0
 
-pub few_sent : (s : ScenarioValue) (c : CmdDef) {n : ℕ} → need_of s c ≤ 65536 → n ≡ sent_of s c → n ≤ 65536
-unfolding sent_of
-few_sent s c {n} few e = go (is_write (command_of c.cdb)) e
-  where
-    go : (y : Bool) → n ≡ (if y then need_of s c else 0) → n ≤ 65536
-    go true k = omega (arith, few, k)
-    go false k = omega (arith, k)
-
 -- The bytes that it sends, where it is carried out, are those of the blocks that it names; and they are few.
 pub record Sends (a : Array) (p : Process) : Type 0 where
   pub bytes : (execution (context_of (seat_of a p.target p.unit) p.initiator) p.cdb p.sent).reply.status ≡ GOOD → length p.sent ≡ blocks_written (contents_of (unit_state_at a.units p.target p.unit)) p.cdb * (contents_of (unit_state_at a.units p.target p.unit)).size
@@ -272,7 +265,7 @@ sends s a p fits lines target is plain =
     sent_is s by.line declared ∙ (λ i. if is_write (command_of (sym by.cdb i)) then moved_by (command_of (sym by.cdb i)) (unit_of s (sym by.target i) (sym by.unit i)) else 0) in
     record {
       bytes = λ good. length_is ∙ moved ∙ go (unit_of s p.target p.unit) (unit_state_at a.units p.target p.unit) refl (lines p.target p.unit) good;
-      few = few_sent s by.line line.need length_is;
+      few = process_few s p.id p fits is;
     }
   where
     go : (o : Option UnitDef) (x : Option UnitState) → unit_state_at a.units p.target p.unit ≡ x → IsOfLine o x → (execution (context_of (seat_of a p.target p.unit) p.initiator) p.cdb p.sent).reply.status ≡ GOOD

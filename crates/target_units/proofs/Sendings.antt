@@ -1,27 +1,25 @@
 -- What a write of a scenario sends.
-use Rattle.std.proofs.Common.{ℕ, ◌≡◌, ◌*◌, ◌≤◌, Bool, true, false, List, [], length, ◌∙◌, refl, sym, subst, arith, Option, Some, None, Result, Ok, Err}
+use Rattle.std.proofs.Common.{ℕ, ◌≡◌, ◌*◌, true, false, length, ◌∙◌, refl, sym, arith, Option, Some, None, Result, Ok, Err}
 use Rattle.std.specs.Prelude.{if◌then◌else◌, is_some}
 use Rattle.cdb_codec.specs.Cdb.{command_of}
 use Rattle.cdb_codec.specs.declared.command.Command.{Command}
 use Rattle.cdb_codec.specs.declared.command.Command.TheVariants as commands
 use Rattle.cdb_codec.specs.declared.command.CdbFault.{CdbFault}
 use Rattle.cdb_codec.specs.declared.status.TheConstants.{GOOD}
-use Rattle.scenario.specs.declared.value.CmdDef.{CmdDef}
 use Rattle.scenario.specs.Lookups.{has_target}
 use Rattle.scenario.specs.Needs.{is_write}
 use Rattle.scenario.specs.Value.{ScenarioValue}
 use Rattle.disk_array.specs.Contents.{Contents}
 use Rattle.disk_array.specs.Execution.{execution, is_good_range, range_of, is_request_sense}
 use Rattle.disk_array.specs.Order.{count_in, range_in}
-use Rattle.disk_array.specs.Processes.{Process, process_of, process_if, process_by, command_at}
+use Rattle.disk_array.specs.Processes.{Process, process_of}
 use Rattle.disk_array.specs.Seats.{seat_of, contents_of, context_of}
 use Rattle.disk_array.specs.Units.{Array, UnitState, unit_state_at}
 use Rattle.bus_due.specs.Tasks.{reply_now, size_of}
 use Rattle.disk_unit.specs.Disk.{blocks_written, blocks_written_by, written_of}
-use Rattle.scsi_device.specs.Lines.{FitsBus, IsCommandLine}
-use Rattle.scsi_device.proofs.FitLines.{command_fits}
+use Rattle.scsi_device.specs.Lines.{FitsBus}
 use Rattle.target_units.specs.Rooms.{AreOfLines}
-use Rattle.target_units.proofs.Rooms.{IsByLine, by_line, plain_id, good_range, Sends, sends, few_sent}
+use Rattle.target_units.proofs.Rooms.{plain_id, good_range, Sends, sends}
 use Rattle.target_units.proofs.UnitTellings.{reply_same}
 
 write_id : (s : ScenarioValue) (p : Process) → process_of s p.id ≡ Some p → is_write (command_of p.cdb) ≡ true → p.id.sense ≡ false
@@ -66,23 +64,3 @@ named s a p fits lines target is writes good =
         let count : blocks_written_by (contents_of (unit_state_at a.units p.target p.unit)) (command_of p.cdb) ≡ count_in (range_in (command_of p.cdb)) =
         written_named (contents_of (unit_state_at a.units p.target p.unit)) (command_of p.cdb) writes (λ command e. good_range (context_of (seat_of a p.target p.unit) p.initiator) p.cdb p.sent command there e status) in
         (λ i. sym count i * size_of (f i)) ∙ (λ i. blocks_written (contents_of (unit_state_at a.units p.target p.unit)) p.cdb * (contents_of (sym f i)).size) ∙ sym (all.bytes status)
-
-pub few_bytes : (s : ScenarioValue) (p : Process) → FitsBus s → process_of s p.id ≡ Some p → length p.sent ≤ 65536
-few_bytes s p fits e = go (command_at s.commands p.id.command) refl e
-  where
-    go : (x : Option CmdDef) → command_at s.commands p.id.command ≡ x → process_if s p.id x ≡ Some p → length p.sent ≤ 65536
-    go None f k = cc
-    go (Some c) f k = at p.id.sense refl
-      where
-        line : IsCommandLine s c
-        line = command_fits s p.id.command c fits f
-
-        at : (y : Bool) → p.id.sense ≡ y → length p.sent ≤ 65536
-        at true g =
-            let made : process_by s p.id c ≡ p = cc in
-            let none : [] ≡ p.sent = (λ i. (process_by s (record { command = p.id.command; sense = sym g i }) c).sent) ∙ (λ i. (made i).sent) in
-            subst (λ (xs : List ℕ). length xs ≤ 65536) none (omega arith)
-        at false g =
-            let by : IsByLine s p = by_line s p e g in
-            let own : IsCommandLine s by.line = command_fits s p.id.command by.line fits by.is in
-            few_sent s by.line own.need ((λ i. length (by.sent i)) ∙ own.sent)

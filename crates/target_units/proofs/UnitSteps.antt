@@ -78,7 +78,7 @@ stays hosts seat time now v h = (
     go None k = tt
     go (Some r) k = k ∙ (λ i. if sym (id_self r.process.id) i then time else now)
 
-unit_stays : (hosts : List HostDef) (seat : Seat) (time now : ℕ) (u : LogicalUnit) → IsUnitOf hosts seat time u → IsUnitOf hosts seat (seat_time seat seat time now) u
+pub unit_stays : (hosts : List HostDef) (seat : Seat) (time now : ℕ) (u : LogicalUnit) → IsUnitOf hosts seat time u → IsUnitOf hosts seat (seat_time seat seat time now) u
 unit_stays hosts seat time now (kinds.There v) h = stays hosts seat time now v h
 unit_stays hosts seat time now (kinds.Absent v) h = h
 

@@ -1,7 +1,6 @@
 -- What the units of a target tell is what the array has.
-use Rattle.std.proofs.Common.{ℕ, ◌≡◌, ◌+◌, Bool, true, false, List, [], ◌∷◌, ◌∙◌, refl, sym, subst, Option, Some, None}
-use Rattle.std.specs.Prelude.{if◌then◌else◌, ◌&&◌, ◌==◌, is_some}
-use Rattle.std.proofs.lemmas.Bool.{eqb-true}
+use Rattle.std.proofs.Common.{ℕ, ◌≡◌, ◌+◌, Bool, true, false, List, [], ◌∷◌, ◌∙◌, refl, sym, Option, Some, None}
+use Rattle.std.specs.Prelude.{if◌then◌else◌, is_some}
 use Rattle.scenario.specs.Value.{ScenarioValue}
 use Rattle.disk_array.specs.Execution.{execution}
 use Rattle.disk_array.specs.Processes.{Process}
@@ -17,24 +16,10 @@ use Rattle.target_units.specs.Readies.{ready_unit}
 use Rattle.target_units.specs.Seated.{room_at}
 use Rattle.target_units.specs.Units.{room_if, first_unit, is_before}
 use Rattle.target_units.proofs.UnitSteps.{own_unit}
-use Rattle.bus_base.proofs.Tests.{and_first, and_second}
 use Rattle.disk_array.proofs.SeatSteps.{held_at}
+use Rattle.disk_array.proofs.SeatLookups.{found_target, found_unit}
 
 -- ---- a unit that is found
-
-found_at : (us : List UnitState) (t n : ℕ) (u : UnitState) → unit_state_at us t n ≡ Some u → (u.target == t && u.unit == n) ≡ true
-found_at [] t n u h = cc
-found_at (v ∷ us) t n u h = go (v.target == t && v.unit == n) refl h (λ k. found_at us t n u k)
-  where
-    go : (y : Bool) → (v.target == t && v.unit == n) ≡ y → (if y then Some v else unit_state_at us t n) ≡ Some u → (unit_state_at us t n ≡ Some u → (u.target == t && u.unit == n) ≡ true) → (u.target == t && u.unit == n) ≡ true
-    go true e k more = let same : v ≡ u = cc in subst (λ (z : UnitState). (z.target == t && z.unit == n) ≡ true) same e
-    go false e k more = more k
-
-pub target_found : (us : List UnitState) (t n : ℕ) (u : UnitState) → unit_state_at us t n ≡ Some u → u.target ≡ t
-target_found us t n u h = eqb-true u.target t (and_first (u.target == t) (u.unit == n) (found_at us t n u h))
-
-pub number_found : (us : List UnitState) (t n : ℕ) (u : UnitState) → unit_state_at us t n ≡ Some u → u.unit ≡ n
-number_found us t n u h = eqb-true u.unit n (and_second (u.target == t) (u.unit == n) (found_at us t n u h))
 
 held_is : (s : ScenarioValue) (a : Array) (dev n : ℕ) → IsSound s a → is_held a.holds dev n ≡ Seats.is_any_held (seat_of a dev n).hold
 held_is s a dev n sound = held_at a.holds dev n sound.holds
@@ -48,7 +33,7 @@ room_is s a dev n sound = go (unit_state_at a.units dev n) refl
     go None e = refl
     go (Some u) e =
         let held : Seats.is_any_held (seat_of a dev n).hold ≡ is_held a.holds u.target u.unit =
-        sym (held_is s a dev n sound) ∙ (λ i. is_held a.holds (sym (target_found a.units dev n u e) i) (sym (number_found a.units dev n u e) i)) in
+        sym (held_is s a dev n sound) ∙ (λ i. is_held a.holds (sym (found_target a.units dev n u e) i) (sym (found_unit a.units dev n u e) i)) in
         λ i. Some (room_at (held i) u)
 
 -- ---- what is ready first
@@ -66,7 +51,7 @@ own_number s a dev n sound r e = go (unit_state_at a.units dev n) refl e
   where
     go : (x : Option UnitState) → unit_state_at a.units dev n ≡ x → Seats.current_of x ≡ Some r → r.process.unit ≡ n
     go None f k = cc
-    go (Some u) f k = running u.current (own_unit s a.units dev n u sound.units f).current k ∙ number_found a.units dev n u f
+    go (Some u) f k = running u.current (own_unit s a.units dev n u sound.units f).current k ∙ found_unit a.units dev n u f
       where
         running : (c : Option RunningProcess) → IsOwnRunning s u.target u.unit c → c ≡ Some r → r.process.unit ≡ u.unit
         running None own m = cc

@@ -16,13 +16,11 @@ use Rattle.bus_trace.specs.Terms.{is_free, arbitration, arbitration_after, call,
 use Rattle.bus_trace.specs.Trace.{bus, drives, driven_after}
 use Rattle.scenario.specs.Value.{ScenarioValue}
 use Rattle.bus_base.specs.declared.Event.{Event}
-use Rattle.bus_base.specs.declared.Event.TheVariants as events
 use Rattle.bus_story.specs.BusState.{RowReading, row_reading}
 use Rattle.bus_story.specs.Items.{Item, Sent, item_at}
-use Rattle.bus_story.specs.Links.{Link}
-use Rattle.bus_story.specs.HistoryEvents.{row_events_by, link_events}
+use Rattle.bus_story.specs.HistoryEvents.{row_events_by}
 use Rattle.bus_story.specs.Story.{Story}
-use Rattle.bus_story.specs.TraceHistory.{is_host, aim_of, is_arbitration_entry, story_with_aim, story_on_free_bus, story_on_bus, story_by_change}
+use Rattle.bus_story.specs.TraceHistory.{is_host, aim_of, is_arbitration_entry, story_with_aim, story_on_free_bus, story_by_change}
 use Rattle.bus_due.specs.Plain.{AreOfDevices}
 use Rattle.bus_due.specs.RunState.{RunState}
 use Rattle.bus_due.specs.RunSteps.{run_state, run_state_with_events}
@@ -43,7 +41,7 @@ set_own [] at x i e = absurd (none_some i e)
 set_own (a ∷ all) zero x i e = e
 set_own (a ∷ all) (suc at) x i e = set_own all at x i e
 
-set_other : (all : List (Option Item)) (at dev : ℕ) (x : Option Item) → dev ≢ at → aim_of (slice_set all at x) dev ≡ aim_of all dev
+pub set_other : (all : List (Option Item)) (at dev : ℕ) (x : Option Item) → dev ≢ at → aim_of (slice_set all at x) dev ≡ aim_of all dev
 set_other [] at dev x ne = refl
 set_other (a ∷ all) zero zero x ne = absurd (ne refl)
 set_other (a ∷ all) zero (suc dev) x ne = refl

@@ -15,7 +15,7 @@ use Rattle.disk_array.specs.Seats.{Seat, seat_of, seat_if, settled_seat, settled
 use Rattle.disk_array.specs.SoundArray.{IsSound, HasSeats}
 use Rattle.disk_array.specs.Units.{RunningProcess, UnitState, Array, unit_state_at, guest_at, without_guest, nexus_of, has_no_current, with_current, settled_array}
 use Rattle.disk_array.specs.Steps as Steps
-use Rattle.disk_array.specs.Steps.{running_if, running_process, guests_with_reply, has_ended}
+use Rattle.disk_array.specs.Steps.{running_if, guests_with_reply, has_ended}
 use Rattle.disk_array.proofs.SeatLaws.{run_law, fail_law}
 use Rattle.disk_array.proofs.SoundArrays.{step_sound}
 use Rattle.bus_books.proofs.Lookups.{self_id}
@@ -23,9 +23,9 @@ use Rattle.trace_laws.specs.Places.{fresh, Waits, Runs, OnUnits, OnGuests, IsAwa
 use Rattle.trace_laws.proofs.EachProcess.{each_settled, running_id}
 use Rattle.trace_laws.proofs.Impossible.{none_some, some_none}
 use Rattle.trace_laws.proofs.OtherProcesses.{reply_at, executed, away_rests}
-use Rattle.trace_laws.proofs.ArrivingProcesses.{failed_reply}
 use Rattle.trace_laws.proofs.SeatedProcesses.{running_own}
 use Rattle.disk_array.proofs.SeatReplies.{first}
+use Rattle.target_units.specs.Seated.{aborted_reply}
 
 -- ---- a reply is given at a seat
 
@@ -166,8 +166,8 @@ run_answers s a b p seats sound e h f = answered
 
 -- ---- it fails
 
-pub fail_is : (s : ScenarioValue) (a : Array) (p : Process) (code : ℕ) → MayRun a p → Steps.step s (events.Fail p.id code) a ≡ Some (settled_array (Steps.with_reply a p.id (failed_reply code)))
-fail_is s a p code h = λ i. Steps.settled_array_if (Steps.fail_step s a p.id (failed_reply code) (h.running_is i))
+pub fail_is : (s : ScenarioValue) (a : Array) (p : Process) (code : ℕ) → MayRun a p → Steps.step s (events.Fail p.id code) a ≡ Some (settled_array (Steps.with_reply a p.id (aborted_reply code)))
+fail_is s a p code h = λ i. Steps.settled_array_if (Steps.fail_step s a p.id (aborted_reply code) (h.running_is i))
 
 pub fail_answers : (s : ScenarioValue) (a b : Array) (p : Process) (code : ℕ) → HasSeats s → IsSound s a → process_of s p.id ≡ Some p → MayRun a p → Steps.step s (events.Fail p.id code) a ≡ Some b → IsAnswered b p.id
 fail_answers s a b p code seats sound e h f = answered
@@ -179,25 +179,25 @@ fail_answers s a b p code seats sound e h f = answered
     there = sym (running_own s a p.id p sound e) ∙ h.running_is
 
     failed : Seat
-    failed = Seats.seat_with_reply seat p.id (failed_reply code)
+    failed = Seats.seat_with_reply seat p.id (aborted_reply code)
 
     after : seat_of b p.target p.unit ≡ settled_seat failed
     after = same_Some (seat_of b p.target p.unit) (settled_seat failed)
-        (sym (ap (λ (x : Option Array). seat_if x p.target p.unit) f) ∙ fail_law s a p code seats sound e ∙ ap (λ (x : Option RunningProcess). settled_seat_if (Seats.seat_after_failure_of seat (has_ended a p.id) p (failed_reply code) x)) there)
+        (sym (ap (λ (x : Option Array). seat_if x p.target p.unit) f) ∙ fail_law s a p code seats sound e ∙ ap (λ (x : Option RunningProcess). settled_seat_if (Seats.seat_after_failure_of seat (has_ended a p.id) p (aborted_reply code) x)) there)
 
-    it : HasIt (settled_seat failed).guests (current_of (settled_seat failed).unit) p.id (failed_reply code)
-    it = replied_has seat.guests (Seats.is_any_held seat.hold) seat.unit p.id (failed_reply code) (fresh p) there
+    it : HasIt (settled_seat failed).guests (current_of (settled_seat failed).unit) p.id (aborted_reply code)
+    it = replied_has seat.guests (Seats.is_any_held seat.hold) seat.unit p.id (aborted_reply code) (fresh p) there
 
-    failed_array : b ≡ settled_array (Steps.with_reply a p.id (failed_reply code))
-    failed_array = sym (same_Some (settled_array (Steps.with_reply a p.id (failed_reply code))) b (sym (fail_is s a p code h) ∙ f))
+    failed_array : b ≡ settled_array (Steps.with_reply a p.id (aborted_reply code))
+    failed_array = sym (same_Some (settled_array (Steps.with_reply a p.id (aborted_reply code))) b (sym (fail_is s a p code h) ∙ f))
 
     answered : IsAnswered b p.id
     answered = record {
       running = it.found;
       running_is = running_own s b p.id p (step_sound s a b (events.Fail p.id code) seats sound f) e ∙ (λ i. running_at (after i) p.id) ∙ it.found_is;
-      reply = failed_reply code;
+      reply = aborted_reply code;
       reply_is = it.reply_is;
-      given = (λ i. reply_in (failed_array i).replies p.id) ∙ (λ i. if self_id p.id i then Some (failed_reply code) else reply_in a.replies p.id);
+      given = (λ i. reply_in (failed_array i).replies p.id) ∙ (λ i. if self_id p.id i then Some (aborted_reply code) else reply_in a.replies p.id);
     }
 
 -- ---- it leaves

@@ -9,12 +9,11 @@ use Rattle.bus_base.specs.declared.ProcId.{ProcId}
 use Rattle.bus_base.specs.declared.events.Pick.{Pick}
 use Rattle.bus_base.specs.declared.events.Pick.TheVariants as picks
 use Rattle.bus_base.specs.declared.Event.TheVariants as events
-use Rattle.cdb_codec.specs.declared.sense.TheConstants.{ABORTED_COMMAND}
 use Rattle.cdb_codec.specs.Cdb.{command_of}
 use Rattle.scenario.specs.Value.{ScenarioValue}
 use Rattle.disk_array.specs.ArrayHistory.{reply_in}
 use Rattle.disk_array.specs.Processes.{Process, process_of, same_id}
-use Rattle.disk_array.specs.Execution.{Reply, is_request_sense, check_condition, queue_full, sense_of}
+use Rattle.disk_array.specs.Execution.{Reply, is_request_sense, queue_full}
 use Rattle.disk_array.specs.Order.{choice, process_at_if, picked_place, runnable_by, entry_of, is_head, is_ordered, has_none_before, has_ordered, is_held_back}
 use Rattle.disk_array.specs.Units.{RunningProcess, UnitState, Nexus, Array, is_held, unit_state_at, with_unit, guest_at, has_no_current, with_current, unit_after_choice, units_after_choice, settled_array}
 use Rattle.disk_array.specs.Steps as Steps
@@ -27,6 +26,7 @@ use Rattle.trace_laws.proofs.OtherProcesses.{away_units}
 use Rattle.trace_laws.proofs.QueueDepths.{unit_within}
 use Rattle.std.proofs.lemmas.Bool.{eqb-true}
 use Rattle.bus_base.proofs.Tests.{and_first, and_second}
+use Rattle.target_units.specs.Seated.{aborted_reply}
 
 -- ---- who is away is not found
 
@@ -228,12 +228,9 @@ refuses s a p within e f = (λ i. Steps.settled_array_if (Steps.refuse_step a (e
         senses true l = absurd (some_none (settled_array (Steps.with_guest a p None)) l)
         senses false l = λ i. Steps.settled_array_if (if room (nat_lt (process_count u) u.depth) refl l i then Some (Steps.with_listed_reply (Steps.with_guest a p (Some queue_full)) p.id queue_full) else None)
 
-abbrev pub failed_reply : ℕ → Reply
-failed_reply code = check_condition (sense_of ABORTED_COMMAND code 0x00)
-
 -- It fails before it has arrived (6.6.19).
-pub fails_new : (s : ScenarioValue) (a : Array) (p : Process) (code : ℕ) → process_of s p.id ≡ Some p → IsUntouched a p.id → Steps.step s (events.Fail p.id code) a ≡ Some (settled_array (Steps.with_listed_reply (Steps.with_guest a p (Some (failed_reply code))) p.id (failed_reply code)))
+pub fails_new : (s : ScenarioValue) (a : Array) (p : Process) (code : ℕ) → process_of s p.id ≡ Some p → IsUntouched a p.id → Steps.step s (events.Fail p.id code) a ≡ Some (settled_array (Steps.with_listed_reply (Steps.with_guest a p (Some (aborted_reply code))) p.id (aborted_reply code)))
 fails_new s a p code e h =
-    (λ i. Steps.settled_array_if (Steps.fail_step s a p.id (failed_reply code) (not_running a p.id h.away i)))
-    ∙ (λ i. Steps.settled_array_if (Steps.fail_step_of_new a p.id (failed_reply code) (e i)))
-    ∙ (λ i. Steps.settled_array_if (if not_waiting a.units p.id h.away.units i || h.open_is i then None else Some (Steps.with_listed_reply (Steps.with_guest a p (Some (failed_reply code))) p.id (failed_reply code))))
+    (λ i. Steps.settled_array_if (Steps.fail_step s a p.id (aborted_reply code) (not_running a p.id h.away i)))
+    ∙ (λ i. Steps.settled_array_if (Steps.fail_step_of_new a p.id (aborted_reply code) (e i)))
+    ∙ (λ i. Steps.settled_array_if (if not_waiting a.units p.id h.away.units i || h.open_is i then None else Some (Steps.with_listed_reply (Steps.with_guest a p (Some (aborted_reply code))) p.id (aborted_reply code))))

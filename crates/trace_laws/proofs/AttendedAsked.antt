@@ -29,8 +29,8 @@ use Rattle.bus_due.specs.RunSteps.{run_state}
 use Rattle.bus_due.proofs.Plains.{run_state_plain}
 use Rattle.bus_books.proofs.CarriedRows.{process_id}
 use Rattle.trace_laws.specs.AttendanceAsked.{AttendanceAsked, BeginsUnanswered, HasReplyGiven, LeavesAnswered, RepliesGiven}
-use Rattle.trace_laws.specs.Places.{AnsweredOpen, Closes, IsAnswered, IsAtRest, IsAway, IsTaken, IsUnanswered, IsUntouched, MayRun, OnGuests, OnUnits, PlaceFacts, PlacedAsked, PlacedBefore, PlacedIf, PlacedIn, RunsOpen, completes, disconnects, fresh}
-use Rattle.trace_laws.specs.Tells.{FailsAsLeft, FailsIn, IsLeaving}
+use Rattle.trace_laws.specs.Places.{AnsweredOpen, Closes, IsAnswered, IsAtRest, IsAway, IsTaken, IsUnanswered, IsUntouched, OnGuests, OnUnits, PlaceFacts, PlacedAsked, PlacedBefore, PlacedIf, PlacedIn, RunsOpen, completes, disconnects, fresh}
+use Rattle.trace_laws.specs.Tells.{FailsAsLeft, FailsIn}
 use Rattle.trace_laws.proofs.FirstRows.{begun_first}
 use Rattle.trace_laws.proofs.Impossible.{none_some}
 use Rattle.trace_laws.proofs.OtherProcesses.{untouched_rests}
@@ -38,7 +38,7 @@ use Rattle.trace_laws.proofs.PlaceRows.{allowed_row}
 
 -- ---- the reply that a process has is the one that was given
 
-away_guest : (guests : List RunningProcess) (id : ProcId) (r : RunningProcess) → OnGuests (IsAway id) guests → guest_at guests id ≡ Some r → ⊥
+pub away_guest : (guests : List RunningProcess) (id : ProcId) (r : RunningProcess) → OnGuests (IsAway id) guests → guest_at guests id ≡ Some r → ⊥
 away_guest [] id r h e = none_some r e
 away_guest (g ∷ guests) id r h e = away_guest guests id r h.1 (sym (ap (λ (q : Bool). if q then Some g else guest_at guests id) h.0) ∙ e)
 

@@ -37,7 +37,7 @@ use Rattle.bus_due.specs.RunSteps.{item_if, run_state, served_after}
 use Rattle.bus_due.specs.Sights.{hearing_of}
 use Rattle.bus_due.specs.Wants.{abort_target, initiator_if, ready_of, target_of}
 use Rattle.bus_due.proofs.Plains.{run_state_plain}
-use Rattle.scsi_device.specs.Heard.{Instructions, instructions, instructions_after, instructions_on, instructions_with, is_new, is_uncounted}
+use Rattle.scsi_device.specs.Heard.{Instructions, instructions, instructions_after, instructions_on, instructions_with}
 use Rattle.bus_books.specs.Knowing.{Knows}
 use Rattle.bus_laws.proofs.Apart.{change_plain}
 use Rattle.bus_laws.proofs.Prompt.{least_is}

@@ -28,7 +28,6 @@ use Rattle.bus_story.specs.TraceHistory.{story_with_restored, story_with_carried
 use Rattle.bus_due.specs.RunState.{RunState}
 use Rattle.bus_due.specs.RunSteps.{run_state_after}
 use Rattle.bus_books.specs.Rows.{IsRowIn, reading_in}
-use Rattle.bus_books.proofs.CarriedRows.{or_link}
 use Rattle.bus_books.proofs.InConnection.{reading_is}
 use Rattle.bus_books.proofs.Lookups.{carried_id, put_there, id_is, self_id}
 use Rattle.trace_laws.proofs.CommandCounts.{is_refusal}
@@ -121,9 +120,6 @@ quiet_link s b (Some l) d row e = ap (λ (q : Bool). (if q then story_after_cros
 -- What is put back is this.
 abbrev UndoIs : Option Link → (List ℕ → Type 0) → Type 0
 UndoIs link q = (l : Link) (c : CarriedBytes) → link ≡ Some l → l.undo ≡ Some c → q c.block
-
-same_link : (l m : Link) → (let a : Option Link = Some l in a) ≡ Some m → l ≡ m
-same_link l m e = ap (or_link l) e
 
 pub out_block : (b : Story) (l : Link) (m : Option MsgOut) (id : ProcId) (q : List ℕ → Type 0) → ((c : CarriedBytes) → l.undo ≡ Some c → q c.block) → q (block_in b id) → q (block_in (story_after_out b l m) id)
 out_block b l None id q undo here = here

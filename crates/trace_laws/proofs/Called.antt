@@ -15,9 +15,8 @@ use Rattle.bus_trace.specs.Trace.{bus, drives, driven_after}
 use Rattle.bus_lines.specs.declared.stage.Stage.TheVariants.{InCalling}
 use Rattle.bus_lines.specs.Stage.{stage}
 use Rattle.scenario.specs.Value.{ScenarioValue}
-use Rattle.scenario.specs.declared.value.UnitDef.{UnitDef}
 use Rattle.disk_array.specs.SoundArray.{AllOwnUnits, HasSeats}
-use Rattle.disk_array.specs.Units.{Array, starting_units}
+use Rattle.disk_array.specs.Units.{Array}
 use Rattle.disk_array.proofs.SoundArrays.{history_sound, start_units}
 use Rattle.bus_story.specs.Samples.{latency_of}
 use Rattle.bus_story.specs.TraceHistory.{is_host, aim_of, trace_history}

@@ -38,7 +38,8 @@ use Rattle.trace_laws.proofs.Impossible.{none_some}
 use Rattle.trace_laws.proofs.PointerBegins.{begins_undoes, goes_undoes}
 use Rattle.trace_laws.proofs.PointerCrossings.{names_or}
 use Rattle.trace_laws.proofs.PointerStorySteps.{IsNot, fault_id, byte_other, out_other, in_other}
-use Rattle.trace_laws.proofs.PointerWaits.{SameSaved, not_before, over_row, apart_same, ends_same, begins_same, item_not, goes_other}
+use Rattle.trace_laws.proofs.PointerWaits.{SameSaved, over_row, apart_same, ends_same, begins_same, item_not, goes_other}
+use Rattle.trace_laws.proofs.Tests.{not_unless}
 
 -- ---- of one process
 
@@ -46,8 +47,8 @@ use Rattle.trace_laws.proofs.PointerWaits.{SameSaved, not_before, over_row, apar
 stands_on : (s : ScenarioValue) (k : RunState) (row : Row) (id : ProcId) → SameSaved (carried_here (run_state_after s k row) id) (carried_here k id) → (IsClear (carried_here k id) → IsClear (carried_here (run_state_after s k row) id)) → StandsClear k id → StandsClear (run_state_after s k row) id
 stands_on s k row id same clear h = record {
   clear = λ open_is none.
-      clear (h.clear (not_before (has_item k.story.sent.over (process id)) (has_item (run_state_after s k row).story.sent.over (process id)) (λ e. over_row s k row (process id) e) open_is)
-      (not_before (is_marked (carried_here k id)) (is_marked (carried_here (run_state_after s k row) id)) same.marked none));
+      clear (h.clear (not_unless (has_item k.story.sent.over (process id)) (has_item (run_state_after s k row).story.sent.over (process id)) (λ e. over_row s k row (process id) e) open_is)
+      (not_unless (is_marked (carried_here k id)) (is_marked (carried_here (run_state_after s k row) id)) same.marked none));
 }
 
 pub over_stands : (k : RunState) (id : ProcId) → has_item k.story.sent.over (process id) ≡ true → StandsClear k id

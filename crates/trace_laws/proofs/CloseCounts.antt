@@ -1,6 +1,5 @@
 -- The byte of COMMAND COMPLETE is asked for and answered once (6.1.5.1).
 use Rattle.std.proofs.Common.{inl, inr, ℕ, ◌≡◌, ◌⊎◌, ◌<◌, Bool, true, false, not, ◌&&◌, ◌==◌, ◌∙◌, List, ◌∷◌, length, Some, None, refl, sym, ap, subst, arith}
-use Rattle.std.proofs.lemmas.Bool.Decides.{nat_tests}
 use Rattle.std.specs.Prelude.{if◌then◌else◌, is_some}
 use Rattle.bus_base.specs.Faults.{counted_on}
 use Rattle.bus_trace.specs.LineSet.{LineSet}
@@ -31,6 +30,7 @@ use Rattle.bus_laws.proofs.Apart.{change_plain}
 use Rattle.bus_laws.proofs.Rows.{fault_change}
 use Rattle.link_laws.specs.LinkStages.{LinkStage, when_selected, when_settling, when_turning, when_offering, when_shaking, when_pulsing}
 use Rattle.link_laws.proofs.Moves.{no_rise}
+use Rattle.link_laws.proofs.Asks.{counted_some}
 use Rattle.trace_laws.specs.Closes.{IsCompleting, CloseCounts}
 use Rattle.trace_laws.specs.ItemTalks.{awaits}
 use Rattle.trace_laws.proofs.FirstRows.{IsFirst}
@@ -40,9 +40,6 @@ use Rattle.trace_laws.proofs.TalkSteps.{Alternates}
 use Rattle.bus_base.proofs.Tests.{wrong, wrong'}
 
 -- ---- the counts after a row with which the phase stays
-
-pub counted_some : (n : ℕ) → (counted_on n == 0) ≡ false
-counted_some n = grind (arith, nat_tests)
 
 answers_by : (q r : Bool) (t : ℕ) (h : Handshakes) → (answered_if q t (asked_if r t h)).answers ≡ (if q then counted_on h.answers else h.answers)
 answers_by true true t h = refl

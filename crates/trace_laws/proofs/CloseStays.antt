@@ -31,7 +31,7 @@ use Rattle.bus_books.specs.Traces.{GoesOn}
 use Rattle.bus_laws.proofs.Apart.{change_plain}
 use Rattle.bus_laws.proofs.Prompt.{least_is}
 use Rattle.trace_laws.specs.Closes.{IsCompleting, CloseFacts}
-use Rattle.trace_laws.specs.ItemTalks.{awaits, frees_bus}
+use Rattle.trace_laws.specs.ItemTalks.{awaits}
 use Rattle.trace_laws.specs.LastTalks.{LastFacts, LastBy, LastGiven, still_stays, to_close, to_save, closed}
 use Rattle.trace_laws.specs.Tells.{IsServed, of_process, of_abort, ServedFacts}
 use Rattle.trace_laws.proofs.ConnectionRows.{ConnectionRow, connection_row}

@@ -26,7 +26,7 @@ use Rattle.scenario.specs.Value.{ScenarioValue}
 use Rattle.disk_array.specs.Processes.{same_id}
 use Rattle.disk_array.specs.ArrayHistory.{array_after}
 use Rattle.bus_story.specs.BusState.{RowReading, row_reading}
-use Rattle.bus_story.specs.CarriedBytes.{CarriedBytes, nothing_carried, with_restored_pointers, carried_after_message, carried_after_byte, carried_after_fault, is_status_phase, carried_at, with_carried, carried_or_nothing, carried_of, is_whole_block}
+use Rattle.bus_story.specs.CarriedBytes.{CarriedBytes, with_restored_pointers, carried_after_message, carried_after_byte, carried_after_fault, is_status_phase, carried_at, with_carried, carried_or_nothing, carried_of, is_whole_block}
 use Rattle.bus_story.specs.HistoryEvents.{carried_if, queue_event, queue_events, status_event, status_events, phase_events, is_completion, end_events, item_loss_events, abort_line_at, abort_line_events, item_abort_events, bus_free_events, link_events, row_events_by, is_refuse}
 use Rattle.bus_story.specs.Items.{Item, process, abort, sense_item}
 use Rattle.bus_story.specs.Links.{Link, LastMessage, plain, complete, disconnect, abortive, link_of, link_after_name, last_out, last_in}

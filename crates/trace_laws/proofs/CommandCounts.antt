@@ -30,6 +30,7 @@ use Rattle.bus_books.proofs.Saying.{says_byte}
 use Rattle.trace_laws.specs.Commands.{IsNone, Counts}
 use Rattle.trace_laws.proofs.Impossible.{none_some}
 use Rattle.std.proofs.lemmas.Bool.{not-true, and_parts}
+use Rattle.std.proofs.lemmas.Option.{same_Some}
 use Rattle.bus_base.proofs.Tests.{wrong}
 
 -- ---- a message
@@ -50,13 +51,6 @@ word_keeps q none x e words.Restore h = none
 word_keeps q none x e words.DeviceReset h = h
 word_keeps q none x e words.ParityError h = h
 word_keeps q none x e words.Other h = h
-
-same_void : (x y : Spoken) → (let o : Option Spoken = Some x in o) ≡ Some y → x ≡ y
-same_void x y e = ap (λ (o : Option Spoken). or_spoken o) e
-  where
-    or_spoken : Option Spoken → Spoken
-    or_spoken None = x
-    or_spoken (Some z) = z
 
 voided : (q : CommandBytes → Type 0) (h : Heard) → Counts q h → q (void_or_now h.void h.now).command
 voided q h c = go h.void refl
@@ -171,13 +165,13 @@ pub byte_in_counts : (q : CommandBytes → Type 0) → q no_command → (d : Dia
 byte_in_counts q none d byte h = in_counts q none (heard_if_begun d.half d.heard) (got_in (d.half ++ byte ∷ [])) (go d.half)
   where
     go : (half : List ℕ) → Counts q (heard_if_begun half d.heard)
-    go [] = record { now = h.now; void = λ x e. subst (λ (y : Spoken). q y.command) (same_void d.heard.now x e) h.now }
+    go [] = record { now = h.now; void = λ x e. subst (λ (y : Spoken). q y.command) (same_Some d.heard.now x e) h.now }
     go (b ∷ half) = h
 
 pub byte_in_first : (q : CommandBytes → Type 0) → q no_command → (d : Dialogue) (byte : ℕ) → d.half ≡ [] → q d.heard.now.command → Counts q (byte_in d byte).heard
 byte_in_first q none d byte e h =
     in_counts q none (heard_if_begun d.half d.heard) (got_in (d.half ++ byte ∷ []))
-    (subst (λ (half : List ℕ). Counts q (heard_if_begun half d.heard)) (sym e) (record { now = h; void = λ x f. subst (λ (y : Spoken). q y.command) (same_void d.heard.now x f) h }))
+    (subst (λ (half : List ℕ). Counts q (heard_if_begun half d.heard)) (sym e) (record { now = h; void = λ x f. subst (λ (y : Spoken). q y.command) (same_Some d.heard.now x f) h }))
 
 pub byte_in_now : (q : CommandBytes → Type 0) → q no_command → (d : Dialogue) (byte : ℕ) → q d.heard.now.command → q (byte_in d byte).heard.now.command
 byte_in_now q none d byte h = go (got_in (d.half ++ byte ∷ []))

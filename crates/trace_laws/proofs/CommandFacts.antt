@@ -46,7 +46,7 @@ use Rattle.trace_laws.proofs.CommandWaits.{asked_now}
 use Rattle.trace_laws.proofs.Crossings.{Goes, RowFacts, stays, ends_here}
 use Rattle.trace_laws.proofs.ConnectionRows.{ConnectionRow}
 use Rattle.trace_laws.proofs.Joint.{Stood}
-use Rattle.bus_base.proofs.Tests.{wrong, wrong'}
+use Rattle.bus_base.proofs.Tests.{wrong, wrong', implication}
 
 -- ---- the block of the process
 
@@ -136,13 +136,9 @@ pointer_in s p row n gr was h r g change calm con cr here pr e =
     let knows = was.books.knows n (pl.connection ∙ con) (ap (λ (l : LineSet). l.rst) pl.bus ∙ calm) in
     subst (λ (y : Process). (carried_here k y.id).command.active < length y.cdb) (same_Some v.process pr (sym (known_here s k n v knows x.takes.1.selected) ∙ e)) (points_in s k v gr was.books x.open_is)
 
-implied : (a b : Bool) → (a ≡ true → b ≡ true) → implies a b ≡ true
-implied true b f = f refl
-implied false b f = refl
-
 pub command_kept : (s : ScenarioValue) (p : List Row) (row : Row) (n : Connection) → HasCommands s → Stood s p → row.dev < 8 → CommandBooks s (run_state s p) n → ConnectionRow s p row n → (bus p).rst ≡ false → connection p ≡ Some n → has_whole_command p row ≡ true
 unfolding seen_with
-command_kept s p row n gr was lt h r calm con = implied _ _ (λ cr. go r.facts (sym (ap (λ (o : Option Connection). is_some (receiver_of o (change_of p row))) con) ∙ cr))
+command_kept s p row n gr was lt h r calm con = implication _ _ (λ cr. go r.facts (sym (ap (λ (o : Option Connection). is_some (receiver_of o (change_of p row))) con) ∙ cr))
   where
     k : RunState
     k = run_state s p
@@ -156,7 +152,7 @@ command_kept s p row n gr was lt h r calm con = implied _ _ (λ cr. go r.facts (
         let change : g.change ≡ change_of p row = sym g.row_is.change_is ∙ change_plain s row p was.standing.devices lt in
         let crosses : is_some (receiver_in n g.change) ≡ true = ap (λ (c : Change). is_some (receiver_in n c)) change ∙ cr in
         and_from _ _
-        (implied _ _ (λ here.
+        (implication _ _ (λ here.
         let x = crosses_command s p row n was h r g change crosses here in
         let v = x.takes.0 in
         let knows = was.books.knows n (pl.connection ∙ con) (ap (λ (l : LineSet). l.rst) pl.bus ∙ calm) in
@@ -167,4 +163,4 @@ command_kept s p row n gr was lt h r calm con = implied _ _ (λ cr. go r.facts (
         ap (λ (d : Dialogue). may_take d.heard.now.command ((bus (row ∷ p)).data_bits % 256)) (sym pl.dialogue)
         ∙ ap (λ (c : CommandBytes). may_take c ((bus (row ∷ p)).data_bits % 256)) x.takes.1.counts
         ∙ block_takes s k v ((bus (row ∷ p)).data_bits % 256) gr was.books x.open_is (ap (λ (c : Change). c.after.data_bits % 256) (sym change) ∙ byte)))
-        (implied _ _ (λ here. ap (λ (d : Dialogue). is_none_or_all d.heard.now.command) (sym pl.dialogue) ∙ data_counts s k n (bus p) here (subst (λ (b : LineSet). StandsIn s k n (phase_of b)) pl.bus (h.begun (pl.begun ∙ g.begun_is crosses)))))
+        (implication _ _ (λ here. ap (λ (d : Dialogue). is_none_or_all d.heard.now.command) (sym pl.dialogue) ∙ data_counts s k n (bus p) here (subst (λ (b : LineSet). StandsIn s k n (phase_of b)) pl.bus (h.begun (pl.begun ∙ g.begun_is crosses)))))

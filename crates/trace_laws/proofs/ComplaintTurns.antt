@@ -18,8 +18,8 @@ use Rattle.bus_dialogue.specs.NextPhase.{Serving, after_arrival, after_messages,
 use Rattle.bus_due.specs.RunState.{RunState, bus_of}
 use Rattle.bus_due.specs.Sights.{leaving, serving_of}
 use Rattle.bus_books.specs.Hearing.{is_out_phase}
-use Rattle.trace_laws.proofs.OfferTurns.{gives_in}
 use Rattle.trace_laws.proofs.PhaseLines.{is_out_next}
+use Rattle.trace_laws.proofs.PointerLeavings.{is_attended}
 use Rattle.bus_base.proofs.Tests.{wrong}
 
 abbrev pub NeverOut : Leaving → Type 0
@@ -29,7 +29,7 @@ tasks : (t : Option Task) (f : Task → Leaving) → ((x : Task) → NeverOut (f
 tasks None f h = refl
 tasks (Some t) f h = h t
 
-recovers : (def : Option TargetDef) (t : Task) (again over : Leaving) → NeverOut again → NeverOut over → NeverOut (recovery def t again over)
+pub recovers : (def : Option TargetDef) (t : Task) (again over : Leaving) → NeverOut again → NeverOut over → NeverOut (recovery def t again over)
 recovers def t again over h g = go t.in_hold (nat_lt t.recoveries (recovery_limit def))
   where
     go : (q r : Bool) → NeverOut (if q then again else if r then record again { counts = true } else over)
@@ -84,7 +84,7 @@ never_out v phases.Status e = refl
 
 pub record IsAttended (k : RunState) : Type 0 where
   pub attends : (bus_of k).atn ≡ true
-  pub phase : gives_in (phase_of (bus_of k)) ≡ true
+  pub phase : is_attended (phase_of (bus_of k)) ≡ true
 
 pub attended_for : (s : ScenarioValue) (k : RunState) (dev : ℕ) → k.exchange.begun ≡ true → is_out_phase (phase_of (bus_of k)) ≡ false → is_out_next (leaving s k dev).to ≡ true → IsAttended k
 attended_for s k dev b o to = record { attends = atn (bus_of k).atn refl; phase = here (phase_of (bus_of k)) refl }
@@ -99,22 +99,22 @@ attended_for s k dev b o to = record { attends = atn (bus_of k).atn refl; phase 
     atn true e = e
     atn false e = wrong (sym to ∙ ap is_out_next is ∙ ap (λ (q : Bool). is_out_next (phase_leaving v q (phase_of (bus_of k))).to) e ∙ never_out v (phase_of (bus_of k)) o)
 
-    here : (x : Phase) → phase_of (bus_of k) ≡ x → gives_in (phase_of (bus_of k)) ≡ true
-    here phases.MessageIn e = ap gives_in e
-    here phases.DataIn e = ap gives_in e
-    here phases.Status e = ap gives_in e
+    here : (x : Phase) → phase_of (bus_of k) ≡ x → is_attended (phase_of (bus_of k)) ≡ true
+    here phases.MessageIn e = ap is_attended e
+    here phases.DataIn e = ap is_attended e
+    here phases.Status e = ap is_attended e
     here phases.MessageOut e = wrong (sym (ap is_out_phase e) ∙ o)
     here phases.Command e = wrong (sym to ∙ ap is_out_next is ∙ ap (λ (x : Phase). is_out_next (phase_leaving v (bus_of k).atn x).to) e ∙ never_out v phases.Command refl)
     here phases.DataOut e = wrong (sym to ∙ ap is_out_next is ∙ ap (λ (x : Phase). is_out_next (phase_leaving v (bus_of k).atn x).to) e ∙ never_out v phases.DataOut refl)
 
 -- With ATN true a phase to the initiator is left for MESSAGE OUT.
-pub left_for_out : (s : ScenarioValue) (k : RunState) (dev : ℕ) → k.exchange.begun ≡ true → gives_in (phase_of (bus_of k)) ≡ true → (bus_of k).atn ≡ true → (leaving s k dev).to ≡ Some phases.MessageOut
+pub left_for_out : (s : ScenarioValue) (k : RunState) (dev : ℕ) → k.exchange.begun ≡ true → is_attended (phase_of (bus_of k)) ≡ true → (bus_of k).atn ≡ true → (leaving s k dev).to ≡ Some phases.MessageOut
 left_for_out s k dev b to atn = ap (λ (q : Bool). (leaving_by v q (bus_of k)).to) b ∙ ap (λ (q : Bool). (phase_leaving v q (phase_of (bus_of k))).to) atn ∙ go (phase_of (bus_of k)) to
   where
     v : Serving
     v = serving_of s k dev
 
-    go : (x : Phase) → gives_in x ≡ true → (phase_leaving v true x).to ≡ Some phases.MessageOut
+    go : (x : Phase) → is_attended x ≡ true → (phase_leaving v true x).to ≡ Some phases.MessageOut
     go phases.MessageIn e = refl
     go phases.DataIn e = refl
     go phases.Status e = refl

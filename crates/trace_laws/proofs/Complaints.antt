@@ -63,8 +63,8 @@ use Rattle.trace_laws.proofs.FirstRows.{IsFirst}
 use Rattle.trace_laws.proofs.Impossible.{none_some}
 use Rattle.trace_laws.proofs.InstructedTurns.{out_is}
 use Rattle.trace_laws.proofs.Joint.{NextStood, Stood, link_phase}
-use Rattle.trace_laws.proofs.OfferTurns.{gives_in}
 use Rattle.trace_laws.proofs.PhaseLines.{is_out_next}
+use Rattle.trace_laws.proofs.PointerLeavings.{is_attended}
 use Rattle.bus_base.proofs.Tests.{wrong, wrong', or_true}
 
 -- ---- the newest request, and those that wait
@@ -102,13 +102,6 @@ first_any [] e = wrong' e
 first_any (r ∷ ws) e = λ i. e i || any_struck ws
 
 -- ---- lines
-
-lines_io : (b : LineSet) → b.io ≡ true → b.msg ≡ false → gives_in (phase_of b) ≡ true
-lines_io b ei em = (λ i. gives_in (if em i then (if b.io then phases.MessageIn else phases.MessageOut) else if b.cd then (if ei i then phases.Status else phases.Command) else if ei i then phases.DataIn else phases.DataOut)) ∙ go b.cd
-  where
-    go : (d : Bool) → gives_in (if d then phases.Status else phases.DataIn) ≡ true
-    go true = refl
-    go false = refl
 
 out_msg : (b : LineSet) → phase_of b ≡ phases.MessageOut → b.msg ≡ true
 out_msg b e = go b.msg b.cd b.io (ap is_out_phase e)
@@ -309,7 +302,7 @@ turned s p row n c w ep er = record {
         on : (bus_of k).atn ≡ true
         on = ap (λ (l : LineSet). l.atn) w.here.row_is.bus_is ∙ sym w.keeps ∙ atn
 
-        into : {A : Type 0} → gives_in (phase_of (bus_of k)) ≡ true → A
+        into : {A : Type 0} → is_attended (phase_of (bus_of k)) ≡ true → A
         into z = wrong (sym (out_msg c.after (phases_same (sym w.whereto ∙ left_for_out s k n.target w.here.started z on))) ∙ msg)
           where
             phases_same : (let o : Option Phase = Some (phase_of c.after) in o) ≡ Some phases.MessageOut → phase_of c.after ≡ phases.MessageOut
@@ -320,9 +313,9 @@ turned s p row n c w ep er = record {
 
         by : {A : Type 0} (x : Phase) → phase_of (bus_of k) ≡ x → A
         by phases.MessageOut e = atn_of on (ap is_out_phase e)
-        by phases.MessageIn e = into (ap gives_in e)
-        by phases.DataIn e = into (ap gives_in e)
-        by phases.Status e = into (ap gives_in e)
+        by phases.MessageIn e = into (ap is_attended e)
+        by phases.DataIn e = into (ap is_attended e)
+        by phases.Status e = into (ap is_attended e)
         by phases.Command e = let l = to_target (bus_of k) (ap is_to_target e) in low l.0 l.1
         by phases.DataOut e = let l = to_target (bus_of k) (ap is_to_target e) in low l.0 l.1
 
@@ -346,7 +339,7 @@ turned s p row n c w ep er = record {
         refusing : c.before.io ≡ true → is_struck_phase s p ≡ true → is_refusing s (row ∷ p) ≡ true
         refusing io z = refusing_next s p row n c true w.here ep ∙ (λ i. io i && z i && out i)
 
-        of_phase : IsAttended k → (m d i : Bool) → c.before.msg ≡ m → c.before.cd ≡ d → c.before.io ≡ i → gives_in (if m then (if i then phases.MessageIn else phases.MessageOut) else if d then (if i then phases.Status else phases.Command) else if i then phases.DataIn else phases.DataOut) ≡ true → Refuses (is_refusing s (row ∷ p)) j (if m && d && i then causes.InMessage else if d then causes.InStatus else causes.InData)
+        of_phase : IsAttended k → (m d i : Bool) → c.before.msg ≡ m → c.before.cd ≡ d → c.before.io ≡ i → is_attended (if m then (if i then phases.MessageIn else phases.MessageOut) else if d then (if i then phases.Status else phases.Command) else if i then phases.DataIn else phases.DataOut) ≡ true → Refuses (is_refusing s (row ∷ p)) j (if m && d && i then causes.InMessage else if d then causes.InStatus else causes.InData)
         of_phase h true false i em ed ei z = wrong' (sym ed ∙ (ap (λ (l : LineSet). l.cd) (sym w.here.row_is.bus_is) ∙ (w.phase (ap (λ (l : LineSet). l.msg) w.here.row_is.bus_is ∙ em)).0))
         of_phase h true true false em ed ei z = wrong' z
         of_phase h false true false em ed ei z = wrong' z
@@ -363,7 +356,7 @@ turned s p row n c w ep er = record {
         go true o = wrong (sym out ∙ not_out_again c ep (ap is_message_out (sym w.here.row_is.bus_is) ∙ out_is (bus_of k) (λ z. (w.phase z).0) ∙ o))
         go false o =
             let h = attended_for s k n.target w.here.started o (ap is_out_next w.whereto ∙ ap (λ (x : Phase). is_out_next (Some x)) e) in
-            of_phase h c.before.msg c.before.cd c.before.io refl refl refl (ap (λ (l : LineSet). gives_in (phase_of l)) (sym w.here.row_is.bus_is) ∙ h.phase)
+            of_phase h c.before.msg c.before.cd c.before.io refl refl refl (ap (λ (l : LineSet). is_attended (phase_of l)) (sym w.here.row_is.bus_is) ∙ h.phase)
 
 -- ---- any row
 

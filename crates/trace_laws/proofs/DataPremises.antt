@@ -26,9 +26,6 @@ use Rattle.trace_laws.proofs.Joint.{Stood}
 abbrev pub IsUnshown : ScenarioValue → RunState → Connection → Type 0
 IsUnshown s k n = n.reselected ≡ true → (r : Ready) → ready_of s k n.target ≡ Some r → is_marked (carried_here k r.process.id) ≡ false
 
-same_item : {A : Type 0} (x y : A) → (let o : Option A = Some x in o) ≡ Some y → x ≡ y
-same_item x y e = same_Some x y e
-
 pub data_premises : (s : ScenarioValue) (p : List Row) (row : Row) → Obeys s → IsPrompt s (row ∷ p) → Stood s p → ItemFacts s p → ((n : Connection) → connection p ≡ None → connection (row ∷ p) ≡ Some n → IsUnshown s (run_state s p) n) → DataPremises s p row
 data_premises s p row o prompt was items unshown = record {
   anew = λ n alone next. record {
@@ -43,6 +40,6 @@ data_premises s p row o prompt was items unshown = record {
 
     fresh : (n : Connection) → IsFresh k n → (id : ProcId) → aim_of k.story.aims n.initiator ≡ Some (process id) → (has_item k.story.sent.over (process id) ≡ false) × (is_marked (carried_here k id) ≡ false)
     fresh n f id aim =
-        let same : f.item ≡ process id = same_item f.item (process id) (sym f.aim_is ∙ aim) in
+        let same : f.item ≡ process id = same_Some f.item (process id) (sym f.aim_is ∙ aim) in
         let unsent : has_item k.story.sent.sent (process id) ≡ false = ap (λ (x : Item). has_item k.story.sent.sent x) (sym same) ∙ f.unsent in
         (ap (λ (x : Item). has_item k.story.sent.over x) (sym same) ∙ f.unended, ap (λ (x : Option CarriedBytes). is_marked (carried_or_nothing x id)) ((items_sent s p items).carried id unsent))

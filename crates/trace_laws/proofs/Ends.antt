@@ -46,7 +46,7 @@ use Rattle.bus_base.proofs.Tests.{wrong, wrong'}
 
 -- ---- the lines of the scenario
 
-host_found : (hosts : List HostDef) (dev : ℕ) → is_host hosts dev ≡ true → is_some (find (λ (h : HostDef). h.dev == dev) hosts) ≡ true
+pub host_found : (hosts : List HostDef) (dev : ℕ) → is_host hosts dev ≡ true → is_some (find (λ (h : HostDef). h.dev == dev) hosts) ≡ true
 host_found [] dev e = e
 host_found (h ∷ hosts) dev e = go (h.dev == dev) (host_found hosts dev) e
   where

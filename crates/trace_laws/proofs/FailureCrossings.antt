@@ -32,12 +32,13 @@ use Rattle.trace_laws.specs.Failures.{IsClear, UndoesClear, FailsBy, FailTalk}
 use Rattle.trace_laws.specs.Tells.{is_short}
 use Rattle.trace_laws.proofs.FailureBytes.{SameFail, clear_as, row_carries, byte_fails, in_clear, in_restores}
 use Rattle.trace_laws.proofs.FailureRows.{fails_as, HearsOf, gives_on}
-use Rattle.trace_laws.proofs.FailureSteps.{is_message_phase, FailRow, count_as}
+use Rattle.trace_laws.proofs.FailureSteps.{FailRow, count_as}
 use Rattle.trace_laws.proofs.Impossible.{none_some}
 use Rattle.trace_laws.proofs.RowItems.{LinkAfter, says, hears, stays, heard_link, link_crossed}
 use Rattle.trace_laws.proofs.UndoneAnswers.{same_phase_of}
 use Rattle.trace_laws.proofs.UndoneRows.{answers_stay}
 use Rattle.bus_base.proofs.Tests.{wrong, wrong'}
+use Rattle.scsi_device.specs.Heard.{is_message}
 use Rattle.trace_laws.specs.DataPointers.{is_marked}
 
 by_exchange : (l : Link) (c : CarriedBytes) (p q : Plan) (words others : List ℕ) (count : ℕ) (phase : Phase) → q ≡ p → others ≡ words → FailsBy l c p words count phase → FailsBy l c q others count phase
@@ -160,7 +161,7 @@ in_fail s k row n c l m id g ep en out here em b count named first h = record {
     undone : IsClear own → UndoesClear (carried_if k.story l.item)
     undone f = by g.item_is
       where
-        by : (l.item ≡ Some (process id)) ⊎ ((l.item ≡ None) × (is_message_phase (phase_of (bus_of k)) ≡ true)) → UndoesClear (carried_if k.story l.item)
+        by : (l.item ≡ Some (process id)) ⊎ ((l.item ≡ None) × (is_message (phase_of (bus_of k)) ≡ true)) → UndoesClear (carried_if k.story l.item)
         by (inl e) = subst (λ (o : Option Item). UndoesClear (carried_if k.story o)) (sym e) f
         by (inr e) = subst (λ (o : Option Item). UndoesClear (carried_if k.story o)) (sym e.0) tt
 

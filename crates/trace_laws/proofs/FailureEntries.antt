@@ -1,11 +1,11 @@
 -- The code of the failure of the process that is served, as a phase is entered.
-use Rattle.std.proofs.Common.{inl, inr, ℕ, ◌≡◌, ◌⊎◌, ◌≤◌, Bool, true, false, not, ◌&&◌, ◌||◌, ◌==◌, ◌∙◌, List, [], ◌∷◌, length, Some, refl, sym, ap, subst}
+use Rattle.std.proofs.Common.{inl, inr, ℕ, ◌≡◌, ◌⊎◌, ◌≤◌, Bool, true, false, ◌&&◌, ◌||◌, ◌==◌, ◌∙◌, List, [], ◌∷◌, length, Some, refl, sym, ap, subst}
 use Rattle.std.specs.Prelude.{if◌then◌else◌, ◌-◌}
 use Rattle.bus_base.specs.declared.Event.{Event}
 use Rattle.bus_base.specs.declared.ProcId.{ProcId}
 use Rattle.bus_trace.specs.LineSet.{LineSet}
 use Rattle.bus_trace.specs.declared.Row.{Row}
-use Rattle.bus_trace.specs.Phases.{is_message_in, is_message_out}
+use Rattle.bus_trace.specs.Phases.{is_message_in}
 use Rattle.cdb_codec.specs.declared.sense.TheConstants.{PARITY_ERROR, INITIATOR_DETECTED_ERROR}
 use Rattle.scenario.specs.Value.{ScenarioValue}
 use Rattle.bus_story.specs.BusState.{row_reading}
@@ -35,11 +35,11 @@ use Rattle.trace_laws.proofs.FailureRows.{clear_in_as, clear_out_as}
 use Rattle.trace_laws.proofs.FailureTurns.{is_sending, refuses_left}
 use Rattle.trace_laws.proofs.FailureWords.{refuses_kept}
 use Rattle.trace_laws.proofs.ListedReplies.{replies_to}
-use Rattle.trace_laws.proofs.OfferTurns.{gives_in}
 use Rattle.trace_laws.proofs.ShownReplies.{answered_on, change_keeps}
 use Rattle.trace_laws.proofs.TellTurns.{refused}
 use Rattle.bus_base.proofs.Tests.{wrong', or_true}
 use Rattle.trace_laws.specs.DataPointers.{is_marked}
+use Rattle.trace_laws.proofs.PointerLeavings.{is_attended}
 
 -- ---- what is carried after the row
 
@@ -113,14 +113,14 @@ pub record Attends (l : Link) (c : CarriedBytes) (p q : Plan) (count : ℕ) (b :
   pub next : q.next ≡ p.next
   pub messages : q.messages ≡ (if is_message_in b then from_byte p.messages (count - 1) else p.messages)
   pub lines : b.msg ≡ true → b.cd ≡ true
-  pub to_it : gives_in (phase_of b) ≡ true
+  pub to_it : is_attended (phase_of b) ≡ true
   pub code : phase_of b ≡ phases.DataIn → c.failure ≡ Some INITIATOR_DETECTED_ERROR
   pub given : phase_of b ≡ phases.MessageIn → ((count == 0) ≡ false) × (count ≤ length (bytes_of_messages p.messages))
 
 pub out_entered : (l : Link) (c d : CarriedBytes) (p q : Plan) (words others : List ℕ) (count : ℕ) (b : LineSet) → KeptFail c d → Attends l c p q count b → FailsBy l c p words count (phase_of b) → SaysFailure l d q others q.cause
 out_entered l c d p q words others count b w a h = subst (SaysFailure l d q others) (sym a.cause) (go b.msg b.cd b.io a.lines a.to_it a.code a.given a.messages h)
   where
-    go : (m e i : Bool) → (m ≡ true → e ≡ true) → gives_in (if m then (if i then phases.MessageIn else phases.MessageOut) else if e then (if i then phases.Status else phases.Command) else if i then phases.DataIn else phases.DataOut) ≡ true
+    go : (m e i : Bool) → (m ≡ true → e ≡ true) → is_attended (if m then (if i then phases.MessageIn else phases.MessageOut) else if e then (if i then phases.Status else phases.Command) else if i then phases.DataIn else phases.DataOut) ≡ true
         → ((if m then (if i then phases.MessageIn else phases.MessageOut) else if e then (if i then phases.Status else phases.Command) else if i then phases.DataIn else phases.DataOut) ≡ phases.DataIn → c.failure ≡ Some INITIATOR_DETECTED_ERROR)
         → ((if m then (if i then phases.MessageIn else phases.MessageOut) else if e then (if i then phases.Status else phases.Command) else if i then phases.DataIn else phases.DataOut) ≡ phases.MessageIn → ((count == 0) ≡ false) × (count ≤ length (bytes_of_messages p.messages)))
         → q.messages ≡ (if m && e && i then from_byte p.messages (count - 1) else p.messages)
@@ -137,13 +137,3 @@ out_entered l c d p q words others count b w a h = subst (SaysFailure l d q othe
     go false true false known to code given em x = wrong' to
     go false false true known to code given em x = w.same.failure ∙ code refl
     go false false false known to code given em x = wrong' to
-
--- MESSAGE OUT is not left for itself.
-out_lines : (b : LineSet) → is_message_out b ≡ true → (b.msg ≡ true) × (b.cd ≡ true) × (b.io ≡ false)
-out_lines b e = go b.msg b.cd b.io e
-  where
-    go : (m d i : Bool) → (m && d && not i) ≡ true → (m ≡ true) × (d ≡ true) × (i ≡ false)
-    go true true true z = wrong' z
-    go true true false z = (refl, refl, refl)
-    go true false i z = wrong' z
-    go false d i z = wrong' z

@@ -10,7 +10,6 @@ use Rattle.bus_trace.specs.declared.changes.Change.{Change}
 use Rattle.bus_trace.specs.declared.connection.Connection.{Connection}
 use Rattle.bus_trace.specs.Phases.{is_command, is_data}
 use Rattle.bus_trace.specs.Terms.{is_fault, receiver, receiver_in}
-use Rattle.bus_rules.specs.Order.{is_of_device}
 use Rattle.cdb_codec.specs.declared.sense.TheConstants.{PARITY_ERROR, INITIATOR_DETECTED_ERROR}
 use Rattle.scenario.specs.Value.{ScenarioValue}
 use Rattle.bus_story.specs.CarriedBytes.{CarriedBytes, carried_of, carried_after_fault}
@@ -31,14 +30,11 @@ use Rattle.bus_books.proofs.Lookups.{carried_id, put_own}
 use Rattle.trace_laws.proofs.FailureBytes.{SameFail, same_fail, row_carries}
 use Rattle.trace_laws.proofs.LinkRows as rows
 use Rattle.trace_laws.proofs.LinkRows.{LinkRow}
-use Rattle.trace_laws.proofs.PhaseLines.{data_out_io, command_is}
+use Rattle.trace_laws.proofs.PhaseLines.{data_in_lines, data_out_io, command_is, is_data_phase}
 use Rattle.bus_base.proofs.Tests.{wrong, wrong'}
+use Rattle.link_laws.proofs.Faults.{some_device}
 
 -- ---- it strikes the byte of the last row
-
-some_device : (o : Option ℕ) (dev : ℕ) → is_of_device o dev ≡ true → is_some o ≡ true
-some_device None dev e = wrong' e
-some_device (Some d) dev e = refl
 
 pub fault_receives : (s : ScenarioValue) (p : List Row) (row : Row) (n : Connection) → is_fault row.kind ≡ true → LinkRow s p n row → is_some (receiver p) ≡ true
 fault_receives s p row n f' (rows.opens h b e) = wrong' (sym (ap (λ (w : Row). is_fault w.kind) e) ∙ f')
@@ -81,11 +77,6 @@ CrossedHere k = (g : Change) → k.story.bus_state.crossed ≡ Some g → phase_
 
 -- ---- what it makes of the process
 
-abbrev pub is_data_phase : Phase → Bool
-is_data_phase phases.DataOut = true
-is_data_phase phases.DataIn = true
-is_data_phase _ = false
-
 data_lines : (b : LineSet) → is_data b ≡ is_data_phase (phase_of b)
 data_lines b = go b.msg b.cd b.io
   where
@@ -98,21 +89,6 @@ data_lines b = go b.msg b.cd b.io
     go false true false = refl
     go false false true = refl
     go false false false = refl
-
-given_line : (b : LineSet) → phase_of b ≡ phases.DataIn → b.io ≡ true
-given_line b e = go b.msg b.cd b.io (ap is_in e)
-  where
-    is_in : Phase → Bool
-    is_in phases.DataIn = true
-    is_in _ = false
-
-    go : (m d i : Bool) → is_in (if m then (if i then phases.MessageIn else phases.MessageOut) else if d then (if i then phases.Status else phases.Command) else if i then phases.DataIn else phases.DataOut) ≡ true → i ≡ true
-    go true d true z = refl
-    go true d false z = wrong' z
-    go false true true z = refl
-    go false true false z = wrong' z
-    go false false true z = refl
-    go false false false z = wrong' z
 
 -- By the phase.
 abbrev pub Struck : CarriedBytes → CarriedBytes → Phase → Type 0
@@ -134,7 +110,7 @@ struck_by c b phase e = go phase e (is_command b) (command_is b ∙ ap is_comman
     go phases.DataOut w false z true y = (refl, λ i. Some (if data_out_io b w i then INITIATOR_DETECTED_ERROR else PARITY_ERROR))
     go phases.DataOut w false z false y = wrong' y
     go phases.DataIn w true z r y = wrong z
-    go phases.DataIn w false z true y = (refl, λ i. Some (if given_line b w i then INITIATOR_DETECTED_ERROR else PARITY_ERROR))
+    go phases.DataIn w false z true y = (refl, λ i. Some (if (data_in_lines b w).2 i then INITIATOR_DETECTED_ERROR else PARITY_ERROR))
     go phases.DataIn w false z false y = wrong' y
     go phases.MessageOut w true z r y = wrong z
     go phases.MessageOut w false z true y = wrong y

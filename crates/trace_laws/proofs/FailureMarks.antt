@@ -15,7 +15,7 @@ use Rattle.disk_array.specs.ArrayHistory.{array_after}
 use Rattle.disk_array.specs.Processes.{same_id}
 use Rattle.bus_story.specs.BusState.{row_reading}
 use Rattle.bus_story.specs.CarriedBytes.{CarriedBytes, carried_of, is_whole_block, is_status_phase}
-use Rattle.bus_story.specs.HistoryEvents.{carried_if, is_refuse, queue_event, queue_events, status_event, status_events, phase_events, row_events_by}
+use Rattle.bus_story.specs.HistoryEvents.{carried_if, is_refuse, status_event, status_events, phase_events, row_events_by}
 use Rattle.bus_story.specs.Items.{process}
 use Rattle.bus_story.specs.Links.{Link}
 use Rattle.bus_story.specs.Story.{Story, story_after_event, story_after_events}

@@ -54,7 +54,7 @@ use Rattle.trace_laws.proofs.ConnectionRows.{ConnectionRow, GoingRow, connection
 use Rattle.trace_laws.proofs.FailureCrossed.{CrossedBooks, CrossedFacts}
 use Rattle.trace_laws.proofs.FailureCrossings.{else_fail, in_fail}
 use Rattle.trace_laws.proofs.FailureFaults.{fault_crossed}
-use Rattle.trace_laws.proofs.FailureSteps.{is_message_phase, FailRow, still_fail, struck_fail}
+use Rattle.trace_laws.proofs.FailureSteps.{FailRow, still_fail, struck_fail}
 use Rattle.trace_laws.proofs.FailureTurned.{LeftHere, turn_fail}
 use Rattle.trace_laws.proofs.FailureWords.{out_fail}
 use Rattle.trace_laws.proofs.Impossible.{none_some}
@@ -67,6 +67,7 @@ use Rattle.trace_laws.proofs.TellFacts.{front_length}
 use Rattle.trace_laws.proofs.TellRows.{unbegun_lines}
 use Rattle.trace_laws.proofs.UndoneFacts.{in_of, undo_asks}
 use Rattle.bus_base.proofs.Tests.{wrong, wrong'}
+use Rattle.scsi_device.specs.Heard.{is_message}
 
 -- ---- a name restores nothing
 
@@ -154,15 +155,15 @@ goes_fail s p row n w h m id em ej = go of.row_is.kind
     naming : n.reselected ≡ true → Named s k n
     naming re = w.facts.named n w.con w.off re
 
-    item_is : (l.item ≡ Some (process id)) ⊎ ((l.item ≡ None) × (is_message_phase (phase_of (bus_of k)) ≡ true))
+    item_is : (l.item ≡ Some (process id)) ⊎ ((l.item ≡ None) × (is_message (phase_of (bus_of k)) ≡ true))
     item_is = by knows.item_is
       where
-        at : l.item ≡ None → Named s k n → is_message_phase (phase_of (bus_of k)) ≡ true
+        at : l.item ≡ None → Named s k n → is_message (phase_of (bus_of k)) ≡ true
         at f (known x e z g) = unknown x e f z
-        at f (said q x y on names whole) = ap is_message_phase (in_phase (bus_of k) on)
-        at f (refused q x y on cause names) = ap is_message_phase (out_phase (bus_of k) on)
+        at f (said q x y on names whole) = ap is_message (in_phase (bus_of k) on)
+        at f (refused q x y on cause names) = ap is_message (out_phase (bus_of k) on)
 
-        by : (l.item ≡ k.served) ⊎ ((n.reselected ≡ true) × (l.item ≡ None)) → (l.item ≡ Some (process id)) ⊎ ((l.item ≡ None) × (is_message_phase (phase_of (bus_of k)) ≡ true))
+        by : (l.item ≡ k.served) ⊎ ((n.reselected ≡ true) × (l.item ≡ None)) → (l.item ≡ Some (process id)) ⊎ ((l.item ≡ None) × (is_message (phase_of (bus_of k)) ≡ true))
         by (inl e) = inl (e ∙ served)
         by (inr e) = inr (e.1, at e.1 (naming e.0))
 

@@ -35,18 +35,13 @@ use Rattle.trace_laws.proofs.RowItems.{link_still}
 use Rattle.trace_laws.proofs.UndoneAnswers.{same_phase_of}
 use Rattle.trace_laws.proofs.UndoneRows.{answers_stay}
 use Rattle.bus_base.proofs.Tests.{wrong, wrong'}
+use Rattle.scsi_device.specs.Heard.{is_message}
 use Rattle.trace_laws.specs.DataPointers.{is_marked}
-
--- The phases of messages, where alone the initiator may not know the process.
-abbrev pub is_message_phase : Phase → Bool
-is_message_phase phases.MessageOut = true
-is_message_phase phases.MessageIn = true
-is_message_phase _ = false
 
 pub record FailRow (s : ScenarioValue) (k : RunState) (row : Row) (n : Connection) (c : Change) (l : Link) (id : ProcId) : Type 0 where
   pub row_is : IsRowIn k row n c
   pub link_is : k.story.link ≡ Some l
-  pub item_is : (l.item ≡ Some (process id)) ⊎ ((l.item ≡ None) × (is_message_phase (phase_of (bus_of k)) ≡ true))
+  pub item_is : (l.item ≡ Some (process id)) ⊎ ((l.item ≡ None) × (is_message (phase_of (bus_of k)) ≡ true))
   pub undoes : UndoesAnswers k row
 
 pub count_as : (l : Link) (c : CarriedBytes) (p : Plan) (words : List ℕ) (count other : ℕ) (phase : Phase) → (phase ≡ phases.MessageIn → other ≡ count) → FailsBy l c p words count phase → FailsBy l c p words other phase
@@ -109,7 +104,7 @@ still_fail s k row n c l m id g ef ep en em asked h =
 
 -- ---- a fault strikes
 
-message_struck : (c d : CarriedBytes) (phase : Phase) → is_message_phase phase ≡ true → SameFail c d → Struck c d phase
+message_struck : (c d : CarriedBytes) (phase : Phase) → is_message phase ≡ true → SameFail c d → Struck c d phase
 message_struck c d phases.MessageOut e h = h
 message_struck c d phases.MessageIn e h = h
 message_struck c d phases.Command e h = wrong' e
@@ -158,6 +153,6 @@ struck_fail s k row n c l m id g ef ep en some here em bk asked h =
         go (Drives lines) = refl
         go (Fault bit) = λ z. carried_of (story_with_carried k.story (carried_after_fault_if (carried_if k.story (e z)) k.story.bus_state.crossed)).carried id
 
-    struck : (l.item ≡ Some (process id)) ⊎ ((l.item ≡ None) × (is_message_phase (phase_of (bus_of k)) ≡ true)) → Struck own d (phase_of (bus_of k))
+    struck : (l.item ≡ Some (process id)) ⊎ ((l.item ≡ None) × (is_message (phase_of (bus_of k)) ≡ true)) → Struck own d (phase_of (bus_of k))
     struck (inl e) = fault_fails s k row n c l id g.row_is en g.link_is e ef some here
     struck (inr e) = message_struck own d (phase_of (bus_of k)) e.1 (unknown e.0)

@@ -25,8 +25,7 @@ use Rattle.trace_laws.proofs.ItemSteps.{ready_queued, queued_sent}
 use Rattle.trace_laws.proofs.ItemRows.{progress_on}
 use Rattle.trace_laws.specs.ItemFacts.{IsNext, is_abort, is_sense, is_command, NoClash, UnitsP, AreChecked, IsQueued, IsChecked, Items}
 use Rattle.trace_laws.specs.ItemTalks.{Talks}
-use Rattle.trace_laws.proofs.Tests.{or_of}
-use Rattle.std.proofs.lemmas.Bool.{or_parts}
+use Rattle.std.proofs.lemmas.Bool.{or_parts, or_cases}
 use Rattle.bus_base.proofs.Tests.{wrong', and_first, and_second}
 
 -- ---- what an initiator sends next
@@ -62,7 +61,7 @@ begins_open s k n h next = record {
 
 opened_sense : (b : Sent) (item : Item) (n : ℕ) → is_open_sense (record b { sent = item ∷ b.sent }) n ≡ true → (item ≡ sense_item n) ⊎ (is_open_sense b n ≡ true)
 opened_sense b item n e =
-    elim (or_of (same_item item (sense_item n)) (has_item b.sent (sense_item n)) (and_first (same_item item (sense_item n) || has_item b.sent (sense_item n)) (not (has_item b.over (sense_item n))) e)) [
+    elim (or_cases (same_item item (sense_item n)) (has_item b.sent (sense_item n)) (and_first (same_item item (sense_item n) || has_item b.sent (sense_item n)) (not (has_item b.over (sense_item n))) e)) [
       | inl z ↦ inl (item_is item (sense_item n) z)
       | inr z ↦ inr ((λ i. z i && not (has_item b.over (sense_item n))) ∙ and_second (same_item item (sense_item n) || has_item b.sent (sense_item n)) (not (has_item b.over (sense_item n))) e)
     ]
@@ -130,7 +129,7 @@ items_first s k row n g h next = go n.reselected refl
         }
       where
         checks : (item : Item) → IsNext s k.story.sent n.initiator item → (m : ℕ) → has_item (item ∷ k.story.sent.sent) (sense_item m) ≡ true → IsChecked s (record k.story.sent { sent = item ∷ k.story.sent.sent }) m
-        checks item is m z = elim (or_of (same_item item (sense_item m)) (has_item k.story.sent.sent (sense_item m)) z) [
+        checks item is m z = elim (or_cases (same_item item (sense_item m)) (has_item k.story.sent.sent (sense_item m)) z) [
           | inl y ↦ (let c = next_checked s k.story.sent n.initiator item is m (item_is item (sense_item m) y) in record { def = c.def; def_is = c.def_is; checked = c.checked })
           | inr y ↦ (let c = h.checks m y in record { def = c.def; def_is = c.def_is; checked = c.checked })
         ]

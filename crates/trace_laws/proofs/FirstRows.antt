@@ -1,5 +1,5 @@
 -- The row with which a connection begins: of which calling it is, and what the target drives then.
-use Rattle.std.proofs.Common.{inl, inr, ℕ, ◌≡◌, ◌≢◌, ◌+◌, Bool, true, false, not, ◌&&◌, ◌∙◌, List, [], ◌∷◌, Option, Some, None, refl, sym, ap, subst, true≢false}
+use Rattle.std.proofs.Common.{inl, inr, ℕ, ◌≡◌, ◌+◌, Bool, true, false, not, ◌&&◌, ◌∙◌, List, [], ◌∷◌, Option, Some, None, refl, sym, ap, subst, true≢false}
 use Rattle.std.specs.Prelude.{if◌then◌else◌}
 use Rattle.std.proofs.lemmas.Bool.{cases_eq}
 use Rattle.std.proofs.lemmas.Option.{same_Some}
@@ -36,7 +36,7 @@ use Rattle.bus_laws.specs.Reactions.{own_time, device_with, unreset_due}
 use Rattle.bus_laws.specs.Callings.{calling_lines, call_with, answer_lines, answered_calling, resumed_calling}
 use Rattle.bus_laws.specs.Ends.{BeginsConnection}
 use Rattle.bus_laws.specs.Stages.{BusStage, on_free_bus, in_arbitration, after_arbitration, with_both_ids, awaiting_answer, after_withdrawal, after_answer, after_takeover, in_reset, in_connection, CalmStanding, Standing, Calls, IsAnswered, UnderRst, NextRow}
-use Rattle.bus_laws.proofs.CallDues.{goes_on_due, waiting_due, apart_due, want_at}
+use Rattle.bus_laws.proofs.CallDues.{goes_on_due, want_at}
 use Rattle.bus_laws.proofs.Dues.{is_at, is_there}
 use Rattle.bus_laws.proofs.Rows.{stage_is, drives_own}
 use Rattle.bus_laws.proofs.Together.{by_reset, by_calm, reset_or_calm}
@@ -48,10 +48,6 @@ use Rattle.bus_base.proofs.Tests.{wrong, wrong'}
 use Rattle.bus_laws.proofs.FromAnswer.{only_caller_acts}
 
 -- ---- what a connection that begins is made of
-
-none_if : (q : Bool) → (let o : Option Connection = None in if q then o else o) ≡ None
-none_if true = refl
-none_if false = refl
 
 -- It is that of the calling, and SEL falls with it.
 pub record Made (p : List Row) (row : Row) (n : Connection) : Type 0 where

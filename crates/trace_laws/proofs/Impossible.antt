@@ -1,6 +1,5 @@
 -- What follows from two values that differ: anything.
-use Rattle.std.proofs.Common.{◌≡◌, true, false, Option, Some, None}
-use Rattle.bus_base.proofs.Tests.{wrong, wrong'}
+use Rattle.std.proofs.Common.{◌≡◌, Option, Some, None}
 
 pub none_some : {A X : Type 0} (x : X) → (let o : Option X = None in o) ≡ Some x → A
 none_some x e = absurd cc

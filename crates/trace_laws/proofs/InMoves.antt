@@ -31,11 +31,11 @@ use Rattle.link_laws.specs.Phases.{ends}
 use Rattle.link_laws.proofs.EndDues.{offering_with}
 use Rattle.link_laws.proofs.Moves.{initiator_moves, target_moves}
 use Rattle.trace_laws.proofs.LinkRows.{LinkRow, opens, strikes, hands, releases, answers, ends_ack_in, gives, sends, ends_ack_out, answers_pulse, ends_ack_pulse, drives_pulsed, sends_pulse, offers, asks_first, ends_req, asks_next, leaves, ends_req_pulse, changes_pulsed, asks_pulse}
-use Rattle.trace_laws.proofs.UnderRst.{line_off, implied}
+use Rattle.trace_laws.proofs.UnderRst.{line_off}
 use Rattle.trace_laws.proofs.AimsFit.{RisesWell}
 use Rattle.trace_laws.proofs.TalkSteps.{Alternates}
 use Rattle.trace_laws.specs.ItemTalks.{awaits}
-use Rattle.bus_base.proofs.Tests.{wrong, wrong'}
+use Rattle.bus_base.proofs.Tests.{wrong, wrong', implied}
 use Rattle.bus_rules.proofs.First.{all_kept}
 
 -- ---- the lines

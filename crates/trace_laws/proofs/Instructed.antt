@@ -46,8 +46,7 @@ use Rattle.trace_laws.proofs.InstructedLeavings.{LeavesTold, leaves_told}
 use Rattle.trace_laws.proofs.InstructedRows.{begins_told, cross_told, stay_told}
 use Rattle.trace_laws.proofs.Joint.{Stood, NextStood}
 use Rattle.trace_laws.proofs.PhaseLines.{out_lines}
-use Rattle.trace_laws.proofs.Tests.{or_second}
-use Rattle.bus_base.proofs.Tests.{wrong, wrong'}
+use Rattle.bus_base.proofs.Tests.{wrong, wrong', or_other}
 
 pub bytes_are : (a b : List ℕ) → same_bytes a b ≡ true → a ≡ b
 bytes_are [] [] e = refl
@@ -65,12 +64,12 @@ left_told s p row n o was nx lt offers books g w con calm con' calm' ep = record
   turns = turns_as s p row n u was nx lt (answers_then s p n was offers con calm) books g w con calm con' calm' ep;
   named = λ b e ec.
       let named = opening_named s k n u (was.books.speaks n here quiet) b (out_lines (bus_of k) e (λ z. (w.phase z).0)) ((leaves ep).out e) in
-      or_second k.exchange.plan.struck (is_item_named s k.exchange.plan.said k.served) (out_unstruck s k n e (g.over ep (sym pl.begun ∙ b))) (sym (ap (is_opening_named s k.exchange.plan k.served) ec) ∙ named);
+      or_other k.exchange.plan.struck (is_item_named s k.exchange.plan.said k.served) (out_unstruck s k n e (g.over ep (sym pl.begun ∙ b))) (sym (ap (is_opening_named s k.exchange.plan k.served) ec) ∙ named);
   whole = λ b e unstruck v.
       let whole = ((leaves ep).command v.process (served_process s k v) e).1 in
       let own = block_own s k v.process was.books.carry (served_process s k v) ((commands_are s o).group k v.process (served_process s k v)) whole in
       subst (λ (x : ProcId). (has_group_len (carried_here k x).block ≡ true) × ((carried_here k x).block ≡ v.process.cdb)) (same_process s k v)
-      (whole unstruck, bytes_are (carried_here k v.process.id).block v.process.cdb (or_second k.exchange.plan.struck _ unstruck own));
+      (whole unstruck, bytes_are (carried_here k v.process.id).block v.process.cdb (or_other k.exchange.plan.struck _ unstruck own));
 }
   where
     u : AreUnits s

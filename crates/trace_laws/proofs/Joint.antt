@@ -78,7 +78,7 @@ use Rattle.trace_laws.proofs.Steps.{IsDriven, HasValues, driven_by, after_row}
 use Rattle.trace_laws.proofs.Tests.{falls_true}
 use Rattle.trace_laws.proofs.UnderRst.{carries_none, ends_apart, quiet_at_end}
 use Rattle.std.proofs.lemmas.Bool.{ltb-true}
-use Rattle.bus_base.proofs.Tests.{wrong, wrong', and_false, zero_of}
+use Rattle.bus_base.proofs.Tests.{wrong, wrong', and_false, zero_of, implication}
 
 pub record Stood (s : ScenarioValue) (p : List Row) : Type 0 where
   pub standing : Standing s p
@@ -158,10 +158,6 @@ values_of s p n gr dv v e h b =
 odd_row : (p : List Row) (row : Row) → implies (is_some (receiver_of (connection p) (change_of p row))) (has_odd_parity (change_of p row).after) ≡ true → has_odd_byte p row ≡ true
 unfolding seen_with
 odd_row p row e = e
-
-implies_by : (q r : Bool) → (q ≡ true → r ≡ true) → implies q r ≡ true
-implies_by true r f = f refl
-implies_by false r f = refl
 
 -- A row outside a connection, or under RST, is asked nothing.
 unasked_apart : (p : List Row) (row : Row) → is_connected p ≡ false → KeepsBooksIn p row
@@ -278,7 +274,7 @@ keeps : (s : ScenarioValue) (p : List Row) (row : Row) (n : Connection) → HasC
 keeps s p row n gr pd dv lt h books a g now =
     let same : g.change ≡ change_of p row = sym g.row_is.change_is ∙ change_plain s row p dv lt in
     record {
-      byte = odd_row p row (implies_by _ _ (λ z. ap (λ (x : Change). has_odd_parity x.after) (sym same) ∙ g.odd ((λ i. is_some (receiver_of (sym (link_connection s p n h) i) (same i))) ∙ z)));
+      byte = odd_row p row (implication _ _ (λ z. ap (λ (x : Change). has_odd_parity x.after) (sym same) ∙ g.odd ((λ i. is_some (receiver_of (sym (link_connection s p n h) i) (same i))) ∙ z)));
       messages = row_keeps s p row n g.change dv lt books (goes s p row n gr pd dv h books a g) a.settles;
       command = a.command;
       freeing = ap (λ (q : Bool). implies q (not (is_data (bus p)))) (falls_true (bus p).bsy (bus (row ∷ p)).bsy (ap (λ (x : Change). x.after.bsy) (sym same) ∙ g.row_is.stands));
@@ -304,10 +300,10 @@ stops s p row n gr pd dv lt h books a g =
 
 keeps_end : (s : ScenarioValue) (p : List Row) (row : Row) (n : Connection) → HasCommands s → Planned s (run_state s p) → AreOfDevices p → row.dev < 8 → LinkStage s p n → Books s (run_state s p) → IsAskedIn s p row n → Stops s p row n → KeepsBooksIn p row
 keeps_end s p row n gr pd dv lt h books a g now = record {
-  byte = odd_row p row (implies_by _ _ (λ z. wrong' (sym g.carries ∙ (λ i. is_some (receiver_of (sym (link_connection s p n h) i) (change_of p row))) ∙ z)));
+  byte = odd_row p row (implication _ _ (λ z. wrong' (sym g.carries ∙ (λ i. is_some (receiver_of (sym (link_connection s p n h) i) (change_of p row))) ∙ z)));
   messages = end_keeps s p row n dv lt (stops s p row n gr pd dv lt h books a g);
   command = a.command;
-  freeing = implies_by _ _ (λ z. not_data (is_data (bus p)) refl);
+  freeing = implication _ _ (λ z. not_data (is_data (bus p)) refl);
 }
   where
     pl : IsPlain s p (run_state s p)

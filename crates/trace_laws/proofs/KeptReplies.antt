@@ -49,7 +49,7 @@ abbrev pub NoReplyTo : ProcId → List Event → Type 0
 NoReplyTo id [] = ⊤
 NoReplyTo id (e ∷ shown) = (replies_to e id ≡ false) × NoReplyTo id shown
 
-no_array : {A : Type 0} (s : ScenarioValue) (e : Event) (c : Array) → array_step s e None ≡ Some c → A
+pub no_array : {A : Type 0} (s : ScenarioValue) (e : Event) (c : Array) → array_step s e None ≡ Some c → A
 no_array s e c st = absurd cc
 
 same_array : (a b : Array) → Some a ≡ Some b → b ≡ a

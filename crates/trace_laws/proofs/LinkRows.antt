@@ -1,5 +1,5 @@
 -- The next row of a connection, resets apart, by what the two ends are due to do: which lines it changes, and why.
-use Rattle.std.proofs.Common.{ℕ, ◌≡◌, Bool, true, false, not, ◌&&◌, ◌||◌, ◌==◌, ◌∙◌, List, [], ◌∷◌, Option, Some, None, refl, sym, ap, subst, arith}
+use Rattle.std.proofs.Common.{ℕ, ◌≡◌, Bool, true, false, not, ◌&&◌, ◌||◌, ◌==◌, ◌∙◌, List, [], ◌∷◌, Some, None, refl, sym, ap, subst, arith}
 use Rattle.std.specs.Prelude.{◌+◌, if◌then◌else◌, max, nat_lt, length}
 use Rattle.bus_trace.specs.LineSet.{LineSet}
 use Rattle.bus_trace.specs.declared.Row.{Row}
@@ -27,7 +27,7 @@ use Rattle.bus_due.specs.Sights.{serving_at}
 use Rattle.bus_laws.specs.Reactions.{own_time, unreset_due}
 use Rattle.bus_laws.specs.Rows.{row_of_lines, row_of_fault}
 use Rattle.bus_laws.specs.Ends.{EndLines, initiator_side, target_side, connected_bus, Linked, BeginsSelected, ends_selected}
-use Rattle.bus_laws.proofs.Dues.{is_at, none_some}
+use Rattle.bus_laws.proofs.Dues.{is_at}
 use Rattle.link_laws.specs.Phases.{ends, Settling, Turning, Offering, Shaking}
 use Rattle.link_laws.specs.Pulses.{Pulsing, times_here, offset_here, run_count, byte_in_run, next_bits}
 use Rattle.link_laws.specs.LinkStages.{LinkStage, when_selected, when_settling, when_turning, when_offering, when_shaking, when_pulsing}
@@ -37,6 +37,7 @@ use Rattle.link_laws.proofs.PulseDues.{pulsed_target_in, pulsed_target_out, puls
 use Rattle.link_laws.proofs.Shakes.{target_row, initiator_row}
 use Rattle.link_laws.proofs.StageDues.{selected_target, selected_initiator, settling_target, settling_initiator, handing_initiator, turning_target, turned_initiator, owing_initiator, offering_target, offering_initiator, answered_target, answered_initiator_in, answered_initiator_out, asking_target, asking_initiator_in, asking_initiator_out, giving_initiator_out, ending_target, ending_initiator_in, ending_initiator_out, ack_end_time, between_target, between_initiator_in, between_initiator_out}
 use Rattle.std.proofs.lemmas.Bool.{eqb-true}
+use Rattle.std.proofs.lemmas.Option.{none-some}
 use Rattle.bus_base.proofs.Tests.{wrong, or_true, zero_of, implication_parts}
 use Rattle.link_laws.proofs.Faults.{none_device}
 
@@ -202,7 +203,7 @@ target_in s p row n true ack atn y lat h same e =
 target_in s p row n false ack atn y lat h same e = changes (y == next_bits s p n) refl (sym (pulsed_target_in s p n false ack atn y lat h.offset h.facts.asked) ∙ e)
   where
     left : (q : Bool) → (not (length (handshakes p).waiting == 0) || ack) ≡ q → nat_lt (handshakes p).requests (run_count s p n) ≡ false → (if q then None else due_at (leaving_time p true lat) (offering_with s p n true (ends false ack atn 0 false false true false y)).to) ≡ Some (due_of row) → LinkRow s p n row
-    left true z f e = absurd (none_some (due_of row) e)
+    left true z f e = absurd (none-some (due_of row) e)
     left false z f e = at_rest ack (implication_parts (length (handshakes p).waiting == 0) ack z).1 h e
       where
         none : (length (handshakes p).waiting == 0) ≡ true
@@ -215,7 +216,7 @@ target_in s p row n false ack atn y lat h same e = changes (y == next_bits s p n
             (row_at row n.target (leaving_time p true lat) (offering_with s p n true (ends false false atn 0 false false true false y)).to same e)
 
     rooms : (q : Bool) → nat_lt (length (handshakes p).waiting) (offset_here p) ≡ q → y ≡ next_bits s p n → nat_lt (handshakes p).requests (run_count s p n) ≡ true → (if q then due_at (pulse_time p true lat) (target_side (ends false ack atn 0 false false true true y)) else None) ≡ Some (due_of row) → LinkRow s p n row
-    rooms false z b f e = absurd (none_some (due_of row) e)
+    rooms false z b f e = absurd (none-some (due_of row) e)
     rooms true z b f e =
         asks_pulse true ack atn 0 y h.linked h.phase.begun_is h.facts.asked h.offset (λ i. refl) (λ i. (b ∙ ap (λ (q : Bool). bits_if q (byte_in_run s p n (handshakes p).requests)) f, f))
         (row_at row n.target (pulse_time p true lat) (target_side (ends false ack atn 0 false false true true y)) same e)
@@ -237,7 +238,7 @@ target_out s p row n true ack atn x lat h same e =
 target_out s p row n false ack atn x lat h same e = follows (nat_lt (handshakes p).requests (run_count s p n)) refl (sym (pulsed_target_out s p n false ack atn x lat h.offset h.facts.asked) ∙ e)
   where
     left : (q : Bool) → (not (length (handshakes p).waiting == 0) || ack) ≡ q → nat_lt (handshakes p).requests (run_count s p n) ≡ false → (if q then None else due_at (leaving_time p false lat) (offering_with s p n true (ends false ack atn x false false false false 0)).to) ≡ Some (due_of row) → LinkRow s p n row
-    left true z f e = absurd (none_some (due_of row) e)
+    left true z f e = absurd (none-some (due_of row) e)
     left false z f e = at_rest ack (implication_parts (length (handshakes p).waiting == 0) ack z).1 h e
       where
         none : (length (handshakes p).waiting == 0) ≡ true
@@ -250,7 +251,7 @@ target_out s p row n false ack atn x lat h same e = follows (nat_lt (handshakes 
             (row_at row n.target (leaving_time p false lat) (offering_with s p n true (ends false false atn x false false false false 0)).to same e)
 
     rooms : (q : Bool) → nat_lt (length (handshakes p).waiting) (offset_here p) ≡ q → (if q then due_at (pulse_time p false lat) (target_side (ends false ack atn x false false false true 0)) else None) ≡ Some (due_of row) → LinkRow s p n row
-    rooms false z e = absurd (none_some (due_of row) e)
+    rooms false z e = absurd (none-some (due_of row) e)
     rooms true z e =
         asks_pulse false ack atn x 0 h.linked h.phase.begun_is h.facts.asked h.offset (λ i. absurd cc) (λ i. absurd cc)
         (row_at row n.target (pulse_time p false lat) (target_side (ends false ack atn x false false false true 0)) same e)
@@ -266,7 +267,7 @@ initiator_in s p row n req true atn y lat h same e =
 initiator_in s p row n req false atn y lat h same e = go (length (handshakes p).waiting == 0) refl (sym (pulsed_initiator_in s p n req false atn y lat h.offset) ∙ e)
   where
     go : (q : Bool) → (length (handshakes p).waiting == 0) ≡ q → (if not q then due_at (answer_time s p n + lat) (initiator_side (ends false true (is_struck (first_of (handshakes p).waiting) || atn) 0 false false true req y)) else None) ≡ Some (due_of row) → LinkRow s p n row
-    go true z e = absurd (none_some (due_of row) e)
+    go true z e = absurd (none-some (due_of row) e)
     go false z e =
         answers_pulse req atn (is_struck (first_of (handshakes p).waiting) || atn) y h.linked h.phase.begun_is h.facts.asked h.offset refl
         (row_at row n.initiator (answer_time s p n + lat) (initiator_side (ends false true (is_struck (first_of (handshakes p).waiting) || atn) 0 false false true req y)) same e)
@@ -289,7 +290,7 @@ initiator_out s p row n req false atn x lat h same e = go (length (handshakes p)
         (row_at row n.initiator (byte_driven_time p n lat) (initiator_side (ends false false atn given false false false req 0)) same e)
 
     idle : (q : Bool) → (x == 0) ≡ q → (if q then None else due_at (release_time p n lat) (initiator_side (ends false false atn 0 false false false req 0))) ≡ Some (due_of row) → LinkRow s p n row
-    idle true z e = absurd (none_some (due_of row) e)
+    idle true z e = absurd (none-some (due_of row) e)
     idle false z e =
         drives_pulsed req atn x 0 h.linked h.phase.begun_is h.offset
         (row_at row n.initiator (release_time p n lat) (initiator_side (ends false false atn 0 false false false req 0)) same e)

@@ -1,25 +1,23 @@
 -- The plain disk array lists the reply of a process with the event that shows it, and keeps it.
 use Rattle.std.proofs.Common.{ℕ, ◌≡◌, Bool, true, false, List, [], ◌∷◌, ◌++◌, ◌∙◌, refl, sym, ap, subst, Option, Some, None}
 use Rattle.std.specs.Prelude.{if◌then◌else◌, not, ◌&&◌, ◌||◌, ◌==◌, is_some, is_none, nat_lt}
-use Rattle.bus_base.specs.declared.AbortKind.{AbortKind}
-use Rattle.bus_base.specs.declared.AbortKind.TheVariants as aborts
 use Rattle.bus_base.specs.declared.Event.{Event}
 use Rattle.bus_base.specs.declared.Event.TheVariants as events
 use Rattle.bus_base.specs.declared.ProcId.{ProcId}
 use Rattle.cdb_codec.specs.declared.sense.TheConstants.{ABORTED_COMMAND}
 use Rattle.cdb_codec.specs.declared.status.TheConstants.{GOOD, CHECK_CONDITION}
 use Rattle.cdb_codec.specs.Cdb.{command_of}
-use Rattle.scenario.specs.declared.value.HostDef.{HostDef}
 use Rattle.scenario.specs.Value.{ScenarioValue}
 use Rattle.disk_array.specs.ArrayHistory.{reply_in}
-use Rattle.disk_array.specs.Execution.{Reply, Execution, execution, is_request_sense, queue_full, check_condition, sense_of, commands_cleared}
+use Rattle.disk_array.specs.Execution.{Reply, Execution, execution, is_request_sense, queue_full, check_condition, sense_of}
 use Rattle.disk_array.specs.Processes.{Process, process_of, same_id}
-use Rattle.disk_array.specs.Units.{RunningProcess, UnitState, Array, unit_state_at, with_unit, guest_at, is_held, nexus_of, senses_without, nexuses_without, settled_array, sense_of_nexus}
+use Rattle.disk_array.specs.Units.{RunningProcess, UnitState, Array, unit_state_at, with_unit, guest_at, is_held, nexus_of, senses_without, nexuses_without, settled_array}
 use Rattle.disk_array.specs.Steps
-use Rattle.disk_array.specs.Steps.{step, settled_array_if, is_of_unit, running_if, running_process}
+use Rattle.disk_array.specs.Steps.{step, settled_array_if, running_if, running_process}
 use Rattle.bus_books.proofs.CarriedRows.{process_id}
 use Rattle.bus_books.proofs.Lookups.{id_is}
-use Rattle.disk_array.proofs.ArrayReplies.{fail_lists, executed_lists, refuse_lists, units_list, loss_lists, abort_lists, hosts_list, took, reset_lists}
+use Rattle.disk_array.proofs.ArrayReplies.{fail_lists, executed_lists, refuse_lists, loss_lists, abort_lists, took, reset_lists}
+use Rattle.target_units.proofs.LiveQueue.{guest_id}
 
 -- ---- what it lists after an event
 
@@ -69,29 +67,9 @@ end_lists a c status (Some r) e = given r.reply e
     given None k = cc
     given (Some reply) k = ended reply (reply.status == status) k
 
-cleared_list : (by : ℕ) (lost : List Process) (a : Array) → (Steps.cleared_attentions by lost a).replies ≡ a.replies
-cleared_list by [] a = refl
-cleared_list by (q ∷ lost) a = cleared_list by lost (if q.initiator == by then a else Steps.cleared_attention a (nexus_of q)) ∙ go (q.initiator == by) (Steps.is_reset_pending (sense_of_nexus a.attentions (nexus_of q)))
-  where
-    told : (z : Bool) → (if z then a else record a { attentions = (nexus_of q, commands_cleared) ∷ senses_without a.attentions (nexus_of q) }).replies ≡ a.replies
-    told true = refl
-    told false = refl
-
-    go : (y z : Bool) → (if y then a else Steps.cleared_attention a (nexus_of q)).replies ≡ a.replies
-    go true z = refl
-    go false z = told (Steps.is_reset_pending (sense_of_nexus a.attentions (nexus_of q)))
-
 -- ---- the process that runs is of its number
 
-guest_id : (guests : List RunningProcess) (id : ProcId) (r : RunningProcess) → guest_at guests id ≡ Some r → r.process.id ≡ id
-guest_id [] id r e = cc
-guest_id (g ∷ guests) id r e = go (λ k. guest_id guests id r k) (same_id g.process.id id) refl e
-  where
-    go : (guest_at guests id ≡ Some r → r.process.id ≡ id) → (x : Bool) → same_id g.process.id id ≡ x → (if x then Some g else guest_at guests id) ≡ Some r → r.process.id ≡ id
-    go later true z k = let same : g ≡ r = cc in ap (λ (y : RunningProcess). y.process.id) (sym same) ∙ id_is g.process.id id z
-    go later false z k = later k
-
-current_id : (units : List UnitState) (id : ProcId) (r : RunningProcess) → Steps.running_in units id ≡ Some r → r.process.id ≡ id
+pub current_id : (units : List UnitState) (id : ProcId) (r : RunningProcess) → Steps.running_in units id ≡ Some r → r.process.id ≡ id
 current_id [] id r e = cc
 current_id (u ∷ units) id r e = go (λ k. current_id units id r k) u.current e
   where

@@ -22,13 +22,11 @@ use Rattle.bus_due.specs.RunSteps.{run_state_after}
 use Rattle.bus_books.specs.Rows.{IsFirstRow}
 use Rattle.trace_laws.specs.Named.{IsFoundBy}
 use Rattle.trace_laws.proofs.Impossible.{none_some}
+use Rattle.trace_laws.proofs.Tests.{plus_one}
 use Rattle.bus_base.proofs.Tests.{wrong', eq_self}
 use Rattle.bus_story.proofs.StorySteps.{events_link}
 
 -- ---- a command that is open is found by its nexus
-
-plus_one : (n j : ℕ) → n + suc j ≡ n + 1 + j
-plus_one n j = omega arith
 
 is_found : (b : Sent) (i t u : ℕ) (tag : Option ℕ) (n j : ℕ) (c : CmdDef) (commands : List CmdDef) → command_at commands (suc j) ≡ Some c → is_of_nexus c i t u ≡ true → is_open b (n + j) ≡ true → same_number (tag_number_if c.tag) tag ≡ true → is_some (named_item_from b i t u tag n commands) ≡ true
 is_found b i t u tag n j c [] e nexus open_is same = absurd (none_some c e)

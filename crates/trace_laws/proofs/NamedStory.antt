@@ -1,36 +1,31 @@
 -- What a row of a connection makes of its link, and that no command is sent or ends with it before COMMAND COMPLETE (6.6.5).
-use Rattle.std.proofs.Common.{ℕ, ◌≡◌, Bool, true, false, not, ◌&&◌, ◌∙◌, List, [], ◌∷◌, Option, Some, None, refl, ap}
-use Rattle.std.specs.Prelude.{if◌then◌else◌, is_some, is_none, ⊤}
-use Rattle.std.specs.List.{list_any}
-use Rattle.bus_base.specs.declared.Event.{Event}
+use Rattle.std.proofs.Common.{◌≡◌, Bool, true, false, not, ◌&&◌, ◌∙◌, [], ◌∷◌, Option, Some, None, refl, ap}
+use Rattle.std.specs.Prelude.{if◌then◌else◌, is_some, is_none}
 use Rattle.bus_base.specs.declared.Event.TheVariants as events
-use Rattle.bus_trace.specs.LineSet.{LineSet}
 use Rattle.bus_trace.specs.declared.Row.{Row}
 use Rattle.bus_trace.specs.declared.Kind.{Kind}
 use Rattle.bus_trace.specs.declared.Kind.TheVariants.{Drives, Fault}
 use Rattle.bus_trace.specs.declared.changes.Change.{Change}
 use Rattle.bus_trace.specs.declared.connection.Connection.{Connection}
 use Rattle.bus_trace.specs.Changes.{rises}
-use Rattle.bus_trace.specs.Phases.{changes_phase, is_command, is_message_in}
+use Rattle.bus_trace.specs.Phases.{changes_phase, is_message_in}
 use Rattle.bus_trace.specs.Terms.{receiver_in}
 use Rattle.msg_grammar.specs.declared.message.MsgIn.{MsgIn}
 use Rattle.msg_grammar.specs.declared.message.MsgOut.{MsgOut}
 use Rattle.scenario.specs.Value.{ScenarioValue}
-use Rattle.disk_array.specs.ArrayHistory.{array_after}
 use Rattle.bus_story.specs.BusState.{RowReading, message_in, message_out}
-use Rattle.bus_story.specs.CarriedBytes.{CarriedBytes, is_whole_block, is_status_phase}
-use Rattle.bus_story.specs.HistoryEvents.{carried_if, queue_events, status_event, status_events, phase_events, is_complete, is_completion, is_refuse, end_events, connection_events, link_events, row_events_by}
+use Rattle.bus_story.specs.CarriedBytes.{CarriedBytes}
+use Rattle.bus_story.specs.HistoryEvents.{carried_if, queue_events, phase_events, is_complete, is_completion, end_events, connection_events, link_events, row_events_by}
 use Rattle.bus_story.specs.Items.{Item, Sent}
 use Rattle.bus_story.specs.Links.{Link, last_out, last_in, link_after_name}
-use Rattle.bus_story.specs.Story.{Story, story_after_event, story_after_events}
+use Rattle.bus_story.specs.Story.{Story, story_after_events}
 use Rattle.bus_story.specs.TraceHistory.{story_with_carried, story_with_restored, is_parity_error, story_after_out, carried_after_message_if, story_after_in, carried_after_byte_if, story_after_byte, carried_after_fault_if, story_after_fault, story_in_connection, story_on_bus, story_by_change}
 use Rattle.bus_due.specs.RunState.{RunState}
 use Rattle.bus_due.specs.RunSteps.{run_state_after}
 use Rattle.bus_books.specs.Rows.{IsRowIn, reading_in}
 use Rattle.bus_books.proofs.InConnection.{reading_is}
 use Rattle.bus_books.proofs.Knows.{link_after}
-use Rattle.trace_laws.proofs.RowItems.{is_quiet_event, AllQuiet}
-use Rattle.bus_base.proofs.Tests.{wrong'}
+use Rattle.trace_laws.proofs.RowItems.{AllQuiet, quiet_events, queue_quiet, status_quiet}
 use Rattle.bus_story.proofs.StorySteps.{restored_sent}
 
 -- ---- the link
@@ -95,38 +90,6 @@ link_on s b l d row e = go d.crosses d.out d.into
 
 -- ---- events
 
-early_sent : (s : ScenarioValue) (b : Story) (e : Event) → is_quiet_event e ≡ true → (story_after_event s b e).sent ≡ b.sent
-early_sent s b (events.Accept id) z = refl
-early_sent s b (events.Refuse id) z = refl
-early_sent s b (events.Run id) z = refl
-early_sent s b (events.Fail id code) z = refl
-early_sent s b (events.End id status) z = wrong' z
-early_sent s b (events.Lost id) z = wrong' z
-early_sent s b (events.Aborted host target unit what) z = wrong' z
-early_sent s b (events.Reset dev) z = wrong' z
-
-all_sent : (s : ScenarioValue) (b : Story) (shown : List Event) → AllQuiet shown → (story_after_events s b shown).sent ≡ b.sent
-all_sent s b [] h = refl
-all_sent s b (e ∷ shown) h = early_sent s (story_after_events s b shown) e h.0 ∙ all_sent s b shown h.1
-
-queue_early : (s : ScenarioValue) (b : Story) (k : Option CarriedBytes) (before : LineSet) → AllQuiet (queue_events s b k before)
-queue_early s b None before = tt
-queue_early s b (Some k) before = go (is_command before && is_whole_block k) (is_some (array_after s (events.Accept k.id ∷ b.history)))
-  where
-    go : (q r : Bool) → AllQuiet (if q then (if r then events.Accept k.id else events.Refuse k.id) ∷ [] else [])
-    go true true = (refl, tt)
-    go true false = (refl, tt)
-    go false r = tt
-
-status_early : (k : Option CarriedBytes) (after : LineSet) (arrived : List Event) → AllQuiet arrived → AllQuiet (status_events k after arrived)
-status_early None after arrived h = h
-status_early (Some k) after arrived h = go (is_status_phase after && not k.shown && not k.refused && not (list_any (λ e. is_refuse e) arrived)) k.failure
-  where
-    go : (q : Bool) (code : Option ℕ) → AllQuiet (if q then status_event k.id code ∷ arrived else arrived)
-    go true None = (refl, h)
-    go true (Some code) = (refl, h)
-    go false code = h
-
 connection_early : (s : ScenarioValue) (b : Story) (l : Link) (d : RowReading) → is_complete l.last ≡ false → AllQuiet (connection_events s b l d)
 connection_early s b l d e = go (changes_phase d.change) (is_completion l d.change) (none (rises d.change.before.ack d.change.after.ack && is_message_in d.change.before) (is_complete l.last) (not d.change.after.atn) e)
   where
@@ -136,7 +99,7 @@ connection_early s b l d e = go (changes_phase d.change) (is_completion l d.chan
     none false q z f = refl
 
     go : (q r : Bool) → r ≡ false → AllQuiet (if q then phase_events s b (carried_if b l.item) d.change else if r then end_events (carried_if b l.item) else [])
-    go true r f = status_early (carried_if b l.item) d.change.after (queue_events s b (carried_if b l.item) d.change.before) (queue_early s b (carried_if b l.item) d.change.before)
+    go true r f = status_quiet (carried_if b l.item) d.change.after (queue_events s b (carried_if b l.item) d.change.before) (queue_quiet s b (carried_if b l.item) d.change.before)
     go false true f = absurd cc
     go false false f = tt
 
@@ -155,5 +118,5 @@ sent_is_after s k row n c now l h en e last =
     ap (λ (x : RowReading). (story_after_events s (story_by_change s k.story x row) (row_events_by s k.story x row)).sent) (reading_is k row n c now h en)
     ∙ (λ i. (story_after_events s (if h.calm i then record k.story { link = None } else story_on_bus s k.story (h.connection_is i) (Some n) d row) (if h.calm i then (if rises c.own.rst c.next.rst then events.Reset row.dev ∷ [] else []) else link_events s k.story (e i) d)).sent)
     ∙ (λ i. (story_after_events s (story_in_connection s k.story (e i) d row) (connection_events s k.story l d)).sent)
-    ∙ all_sent s base (connection_events s k.story l d) (connection_early s k.story l d last)
+    ∙ quiet_events s base (connection_events s k.story l d) (connection_early s k.story l d last)
     ∙ (link_on s k.story l d row e).sent_is

@@ -1,6 +1,6 @@
 -- As another phase begins after a reselection: that the initiator knows the process, or its names are said; so in each row (6.6.7, 6.6.13).
 use Rattle.std.proofs.Common.{ℕ, ◌≡◌, ◌<◌, ◌≤◌, Bool, true, false, not, ◌&&◌, ◌∙◌, List, length, length-append, Option, Some, None, refl, sym, ap, subst, arith}
-use Rattle.std.specs.Prelude.{◌-◌, if◌then◌else◌, is_some, nat_lt}
+use Rattle.std.specs.Prelude.{◌-◌, if◌then◌else◌, is_some}
 use Rattle.bus_trace.specs.LineSet.{LineSet}
 use Rattle.bus_trace.specs.Changes.{rises}
 use Rattle.bus_trace.specs.declared.Row.{Row}
@@ -28,7 +28,7 @@ use Rattle.bus_dialogue.specs.declared.exchange.Phase.TheVariants as phases
 use Rattle.bus_dialogue.specs.declared.exchange.Said.{Said}
 use Rattle.bus_dialogue.specs.declared.exchange.Task.{Task}
 use Rattle.bus_dialogue.specs.Arrivals.{policy_of}
-use Rattle.bus_dialogue.specs.Exchange.{Exchange, bytes_of_messages, message_bytes, from_byte, plan_anew, speech_of}
+use Rattle.bus_dialogue.specs.Exchange.{Exchange, bytes_of_messages, from_byte, plan_anew, speech_of}
 use Rattle.bus_dialogue.specs.NextPhase.{Serving, phase_of, phase_entry, phase_leaving, message_repetition, message_out_leaving, after_refusal, after_messages, next_data_phase, with_task, recovery, bus_free}
 use Rattle.bus_dialogue.specs.Planning.{plan_in_message_out}
 use Rattle.bus_dialogue.specs.Speaking.{words_after}
@@ -45,7 +45,7 @@ use Rattle.bus_books.specs.Speaking.{Speaks}
 use Rattle.bus_books.specs.Traces.{GoesOn}
 use Rattle.bus_books.proofs.Gives.{requests_stay, struck_same}
 use Rattle.bus_books.proofs.InConnection.{InConnection, in_connection, exchange_by, same_phase_is}
-use Rattle.bus_books.proofs.Leavings.{IsOfOthers, left_messages}
+use Rattle.bus_books.proofs.Leavings.{left_messages}
 use Rattle.trace_laws.specs.Named.{Names, IsNaming, NamedBy, known, said, refused, Named}
 use Rattle.trace_laws.specs.Offers.{is_detected, IsHeardOut, opens, repeats, answers_it, detects, Offers}
 use Rattle.trace_laws.proofs.CommandTurns.{is_command_next}

@@ -21,7 +21,7 @@ use Rattle.bus_dialogue.specs.declared.exchange.Messages.{Messages}
 use Rattle.bus_dialogue.specs.declared.exchange.Next.{Next}
 use Rattle.bus_dialogue.specs.declared.exchange.Plan.{Plan}
 use Rattle.bus_dialogue.specs.declared.exchange.Said.{Said}
-use Rattle.bus_dialogue.specs.Exchange.{Exchange, bytes_of_messages, plan_after_message, plan_anew_if, said_with_if, speech_after_byte, attends_with, next_word}
+use Rattle.bus_dialogue.specs.Exchange.{Exchange, bytes_of_messages, plan_anew_if, said_with_if, attends_with, next_word}
 use Rattle.bus_books.specs.Giving.{AreGiven, OnMessage, OnMessages}
 use Rattle.bus_books.specs.Listening.{half_after}
 use Rattle.bus_books.specs.Speaking.{AreWordsHeard}

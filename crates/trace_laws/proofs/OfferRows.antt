@@ -1,7 +1,6 @@
 -- Whose synchronous data transfer request is open, in a row that goes on with a phase.
-use Rattle.std.proofs.Common.{inl, inr, ℕ, ◌≡◌, ◌⊎◌, ◌<◌, ◌+◌, Bool, true, false, not, ◌&&◌, ◌||◌, ◌==◌, ◌∙◌, length, length-append, Option, Some, None, refl, sym, ap, subst, arith, true≢false}
+use Rattle.std.proofs.Common.{inl, inr, ℕ, ◌≡◌, ◌⊎◌, ◌<◌, ◌+◌, Bool, true, false, not, ◌&&◌, ◌||◌, ◌==◌, ◌∙◌, Option, Some, None, refl, sym, ap, subst, true≢false}
 use Rattle.std.specs.Prelude.{if◌then◌else◌, is_some}
-use Rattle.bus_base.specs.Faults.{counted_on}
 use Rattle.bus_trace.specs.LineSet.{LineSet}
 use Rattle.bus_trace.specs.declared.changes.Change.{Change}
 use Rattle.bus_trace.specs.declared.connection.Connection.{Connection}
@@ -12,13 +11,10 @@ use Rattle.bus_phases.specs.declared.dialogue.Dialogue.{Dialogue}
 use Rattle.bus_phases.specs.declared.words.End.{End}
 use Rattle.bus_phases.specs.declared.words.End.TheVariants as ends
 use Rattle.bus_phases.specs.Dialogue.{is_of_other, heard_with_command, byte_else}
-use Rattle.msg_grammar.specs.declared.message.MsgIn.{MsgIn}
-use Rattle.msg_grammar.specs.declared.message.MsgIn.TheVariants as to_initiator
-use Rattle.msg_grammar.specs.Messages.{in_bytes}
 use Rattle.bus_lines.specs.Handshakes.{Handshakes, no_handshakes, handshakes_on, asked_if, answered_if, strikes_if}
 use Rattle.bus_dialogue.specs.declared.exchange.Messages.{Messages}
-use Rattle.bus_dialogue.specs.Exchange.{Exchange, bytes_of_messages, message_bytes, struck_plan}
-use Rattle.bus_books.proofs.Gives.{in_io, few_bytes, few_messages, few_of, in_same, counted}
+use Rattle.bus_dialogue.specs.Exchange.{Exchange, struck_plan}
+use Rattle.bus_books.proofs.Gives.{in_io, in_same, counted}
 use Rattle.bus_books.proofs.InConnection.{SamePhase}
 use Rattle.trace_laws.specs.Offers.{offer_now, IsHeardIn, IsHeardOut, opens, repeats, answers_it, detects, OffersBy}
 use Rattle.trace_laws.specs.Attention.{MessageRow, keeps, asks, answers}

@@ -44,8 +44,7 @@ use Rattle.trace_laws.proofs.OfferBytes.{heard_in_on, heard_out_on}
 use Rattle.trace_laws.proofs.OfferLeavings.{HeadsTo, Heads, heads_none, heads_attended, heads_out, attends}
 use Rattle.trace_laws.proofs.OfferRows.{offers_as, offers_still, offers_struck, struck_stays, struck_by_fault, request_rises, offers_said, offers_given, offers_else}
 use Rattle.trace_laws.proofs.OfferTurns.{out_by_phase, Lines, says, gives, others, lines_of, entering, offers_enter, offers_open, asking, offers_detect, offers_answer, none_open, unattended, in_direction, low_line}
-use Rattle.trace_laws.proofs.PhaseLines.{in_phase, out_phase}
-use Rattle.trace_laws.proofs.SentEntries.{no_message_out, no_message_in}
+use Rattle.trace_laws.proofs.PhaseLines.{in_phase, out_phase, not_message_out, not_message_in}
 use Rattle.bus_base.proofs.Tests.{wrong, wrong'}
 use Rattle.bus_books.proofs.Speaks.{heard_byte, opening_exchange}
 use Rattle.trace_laws.specs.ItemTalks.{awaits}
@@ -185,7 +184,7 @@ heads_left s k n c eb known f sp lv req o = subst (λ (l : Leaving). Heads (offe
         in_it phases.MessageOut (out_phase c.before m)
         (heads_out v k.exchange d refl (sp.in_message_out f (ap is_message_out eb ∙ m)).heard (lv.out (here phases.MessageOut (out_phase c.before m))) (o.out f m))
     go (gives m) = in_it phases.MessageIn (in_phase c.before m) (by_attention m c.before.atn refl)
-    go (others m) = heads_none v (offer_now d) c.before.atn (phase_of c.before) (out_by_phase c.before known ∙ no_message_out c.before m) (o.settled f m)
+    go (others m) = heads_none v (offer_now d) c.before.atn (phase_of c.before) (out_by_phase c.before known ∙ not_message_out c.before m) (o.settled f m)
 
 -- ATN is false then, where it is left for another phase than MESSAGE OUT.
 quiet_left : (s : ScenarioValue) (k : RunState) (n : Connection) (c : Change) (to : Phase) → bus_of k ≡ c.before → (c.before.msg ≡ true → c.before.cd ≡ true) → k.exchange.begun ≡ true → LeavesWhole s k n → IsOver s k n → (leaving s k n.target).to ≡ Some to → is_out_phase to ≡ false → Attention k.handshakes k.story.bus_state.dialogue k.exchange.begun n c → c.before.atn ≡ false
@@ -249,7 +248,7 @@ turns_on s k row n c g there sp att ep over whereto o = by k.exchange.begun refl
         })
         (offers_answer k.exchange d h c.after host h.struck e z.0 z.1 (o.into f m))
     to_out f e (others m) =
-        let ni : is_message_in c.before ≡ false = no_message_in c.before m in
+        let ni : is_message_in c.before ≡ false = not_message_in c.before m in
         is (asking k.exchange detected_error (if c.before.cd then causes.InStatus else causes.InData) k.exchange.plan.messages)
         (λ i. record {
           begun = true;

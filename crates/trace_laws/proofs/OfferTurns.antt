@@ -31,6 +31,8 @@ use Rattle.trace_laws.specs.Offers.{IsNoRequest, Negotiates, answers, refuses, r
 use Rattle.trace_laws.proofs.OfferLeavings.{HeadsTo}
 use Rattle.trace_laws.proofs.OfferRows.{not_both}
 use Rattle.trace_laws.proofs.PhaseLines.{in_phase}
+use Rattle.trace_laws.proofs.StatusOffers.{zero_is}
+use Rattle.trace_laws.proofs.PointerLeavings.{is_attended}
 use Rattle.bus_base.proofs.Tests.{wrong, wrong'}
 use Rattle.bus_books.proofs.Speaks.{opening_exchange}
 
@@ -158,13 +160,10 @@ record Left (d : Dialogue) (messages : Messages) (next : Next) : Type 0 where
   was : WasOpen d.heard before
   plans : Plans before messages next
 
-zero_not : (n : ℕ) → n ≡ 0 → (n == 0) ≡ false → ⊥
-zero_not n e f = wrong (ap (λ (z : ℕ). z == 0) (sym e) ∙ f)
-
 left_of_messages : (messages : Messages) (next : Next) (d : Dialogue) (count : ℕ) → (count == 0) ≡ false → IsHeardIn messages next d count → Left d (from_byte messages (count - 1)) next
-left_of_messages messages next d count some (no_request q o (inl z)) = absurd (zero_not count z some)
+left_of_messages messages next d count some (no_request q o (inl z)) = absurd (zero_is count z some)
 left_of_messages messages next d count some (no_request q o (inr w)) = record { before = None; was = w; plans = plain refl (from_plain messages (count - 1) q) }
-left_of_messages messages next d count some (in_part before after m ng em en o (inl z) l) = absurd (zero_not count z some)
+left_of_messages messages next d count some (in_part before after m ng em en o (inl z) l) = absurd (zero_is count z some)
 left_of_messages messages next d count some (in_part before after m ng em en o (inr w) l) = record { before = before; was = w; plans = negotiates after m ng (from_one messages m count em some (omega arith)) en }
 left_of_messages messages next d count some (whole before after m ng em en o w l) = record { before = before; was = w; plans = negotiates after m ng (from_one messages m count em some (omega arith)) en }
 
@@ -203,18 +202,11 @@ none_open messages next d count (whole before after m (requests a eb ea ex) em e
 
 -- ---- ATN as a phase is left for another than MESSAGE OUT
 
--- A phase to the initiator.
-abbrev pub gives_in : Phase → Bool
-gives_in phases.MessageIn = true
-gives_in phases.DataIn = true
-gives_in phases.Status = true
-gives_in _ = false
-
 abbrev pub goes_out : Option Phase → Bool
 goes_out None = false
 goes_out (Some p) = is_out_phase p
 
-pub unattended : (v : Serving) (attention : Bool) (phase : Phase) (to : Phase) → gives_in phase ≡ true → (phase_leaving v attention phase).to ≡ Some to → is_out_phase to ≡ false → attention ≡ false
+pub unattended : (v : Serving) (attention : Bool) (phase : Phase) (to : Phase) → is_attended phase ≡ true → (phase_leaving v attention phase).to ≡ Some to → is_out_phase to ≡ false → attention ≡ false
 unattended v false phase to g e o = refl
 unattended v true phases.MessageIn to g e o = wrong (ap goes_out e ∙ o)
 unattended v true phases.DataIn to g e o = wrong (ap goes_out e ∙ o)
@@ -223,10 +215,10 @@ unattended v true phases.MessageOut to g e o = wrong' g
 unattended v true phases.Command to g e o = wrong' g
 unattended v true phases.DataOut to g e o = wrong' g
 
-pub in_direction : (b : LineSet) → b.io ≡ true → gives_in (phase_of b) ≡ true
+pub in_direction : (b : LineSet) → b.io ≡ true → is_attended (phase_of b) ≡ true
 in_direction b e = go b.msg b.cd b.io e
   where
-    go : (m c i : Bool) → i ≡ true → gives_in (if m then (if i then phases.MessageIn else phases.MessageOut) else if c then (if i then phases.Status else phases.Command) else if i then phases.DataIn else phases.DataOut) ≡ true
+    go : (m c i : Bool) → i ≡ true → is_attended (if m then (if i then phases.MessageIn else phases.MessageOut) else if c then (if i then phases.Status else phases.Command) else if i then phases.DataIn else phases.DataOut) ≡ true
     go true c true z = refl
     go true c false z = wrong' z
     go false true true z = refl

@@ -12,8 +12,7 @@ use Rattle.bus_story.specs.Links.{same_number, is_of_nexus, is_open_sense, named
 use Rattle.bus_books.proofs.Lookups.{id_is}
 use Rattle.trace_laws.specs.ItemFacts.{IsNext, is_abort, is_sense, is_command, NoClash}
 use Rattle.trace_laws.proofs.Impossible.{none_some}
-use Rattle.trace_laws.proofs.Tests.{or_of}
-use Rattle.std.proofs.lemmas.Bool.{not-true, eqb-true, or_parts}
+use Rattle.std.proofs.lemmas.Bool.{not-true, eqb-true, or_parts, or_cases}
 use Rattle.bus_base.proofs.Tests.{wrong, and_first, and_second, eq_self}
 
 -- ---- items
@@ -38,7 +37,7 @@ no_abort k p e = absurd cc
 
 pub opened : (b : Sent) (item : Item) (n : ℕ) → is_open (record b { sent = item ∷ b.sent }) n ≡ true → (item ≡ command_item n) ⊎ (is_open b n ≡ true)
 opened b item n e =
-    elim (or_of (same_item item (command_item n)) (has_item b.sent (command_item n)) (and_first (same_item item (command_item n) || has_item b.sent (command_item n)) (not (has_item b.over (command_item n))) e)) [
+    elim (or_cases (same_item item (command_item n)) (has_item b.sent (command_item n)) (and_first (same_item item (command_item n) || has_item b.sent (command_item n)) (not (has_item b.over (command_item n))) e)) [
       | inl z ↦ inl (item_is item (command_item n) z)
       | inr z ↦ inr ((λ i. z i && not (has_item b.over (command_item n))) ∙ and_second (same_item item (command_item n) || has_item b.sent (command_item n)) (not (has_item b.over (command_item n))) e)
     ]

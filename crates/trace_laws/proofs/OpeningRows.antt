@@ -35,8 +35,7 @@ use Rattle.bus_books.proofs.Opened.{opening_named}
 use Rattle.bus_books.proofs.Reactions.{out_over}
 use Rattle.trace_laws.proofs.CommandNext.{out_unstruck}
 use Rattle.trace_laws.proofs.PhaseLines.{out_lines}
-use Rattle.trace_laws.proofs.Tests.{or_second}
-use Rattle.bus_base.proofs.Tests.{wrong, wrong'}
+use Rattle.bus_base.proofs.Tests.{wrong, wrong', or_other}
 
 -- ---- a phase that is left without an event
 
@@ -123,7 +122,7 @@ alone s k n u speaks b known over opens to = go k.served refl
 
     named : is_item_named s k.exchange.plan.said k.served ≡ true
     named =
-        or_second k.exchange.plan.struck (is_item_named s k.exchange.plan.said k.served) (out_unstruck s k n at.0 over)
+        or_other k.exchange.plan.struck (is_item_named s k.exchange.plan.said k.served) (out_unstruck s k n at.0 over)
         (sym (ap (is_opening_named s k.exchange.plan k.served) at.1) ∙ opening_named s k n u speaks b out (out_over s k n out over))
 
     by : (id : ProcId) → k.served ≡ Some (process id) → (o : Option Process) → process_of s id ≡ o → process_served s k ≡ None

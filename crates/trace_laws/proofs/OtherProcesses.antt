@@ -16,11 +16,11 @@ use Rattle.disk_array.specs.Processes.{Process, process_of, same_id}
 use Rattle.disk_array.specs.Execution.{Reply, Execution, execution, is_request_sense, check_condition, queue_full, sense_of}
 use Rattle.disk_array.specs.Units.{RunningProcess, UnitState, Array, is_held, unit_state_at, with_unit, guest_at, nexus_of, settled_array, starting_array, starting_units}
 use Rattle.disk_array.specs.Steps as Steps
-use Rattle.disk_array.specs.Steps.{has_ended, is_of_unit, has_tag}
+use Rattle.disk_array.specs.Steps.{has_ended, is_of_unit}
 use Rattle.disk_array.proofs.SoundArrays.{id_is}
 use Rattle.bus_books.proofs.Lookups.{id_is as ids_are}
 use Rattle.trace_laws.specs.Places.{IsAway, IsUnanswered, Waits, Runs, OnUnits, Each, IsAtRest, IsUntouched}
-use Rattle.trace_laws.proofs.EachProcess.{AdmitsEvent, Admits, IsSameIn, status_same, attended_same, cleared_same, each_after, each_settled, running_id}
+use Rattle.trace_laws.proofs.EachProcess.{AdmitsEvent, Admits, status_same, attended_same, cleared_same, each_after, each_settled, running_id}
 use Rattle.bus_base.proofs.Tests.{wrong}
 
 -- ---- the process of an event
@@ -89,12 +89,6 @@ IfSame id a (Some b) = IsSameOf id a b
 if_same : (id : ProcId) (a : Array) (x : Bool) (b : Array) → IsSameOf id a b → IfSame id a (if x then Some b else None)
 if_same id a true b h = h
 if_same id a false b h = tt
-
-same_of : (id : ProcId) (a : Array) → IsSameOf id a a
-same_of id a = record { reply = refl; ended = refl }
-
-by_same : (id : ProcId) (a b : Array) → IsSameIn a b → IsSameOf id a b
-by_same id a b h = record { reply = ap (λ (x : List (ProcId × Reply)). reply_in x id) h.replies; ended = (λ i. has_ended (record a { ended = h.ended i }) id) }
 
 replied : (id other : ProcId) (a b : Array) (reply : Reply) → same_id id other ≡ false → b.replies ≡ (id, reply) ∷ a.replies → b.ended ≡ a.ended → IsSameOf other a b
 replied id other a b reply f e g = record {

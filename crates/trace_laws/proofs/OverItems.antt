@@ -16,13 +16,13 @@ use Rattle.disk_array.specs.Processes.{Process, process_of, process_if, process_
 use Rattle.bus_story.specs.Items.{Item, process, same_item, has_item, command_item, sense_item, Sent, is_open}
 use Rattle.bus_story.specs.Links.{is_open_sense}
 use Rattle.bus_story.specs.Story.{Story, Ending, by_status, by_abort, by_reset, is_aborted, is_sense_stopped, story_with_over, story_with_end, with_check, story_with_ends, story_after_event, story_after_events}
-use Rattle.bus_books.proofs.Lookups.{self_id, id_is}
 use Rattle.trace_laws.proofs.Impossible.{none_some}
 use Rattle.trace_laws.proofs.OpenCommands.{fewer_clash}
 use Rattle.trace_laws.proofs.SentItems.{more_has, own_has, event_sent}
 use Rattle.trace_laws.proofs.QueuedProcesses.{is_dropped, stays_queued}
 use Rattle.trace_laws.specs.ItemFacts.{NoClash, AreChecked, IsQueued}
 use Rattle.bus_base.proofs.Tests.{wrong, and_first, and_second, and_true}
+use Rattle.target_units.proofs.LiveQueue.{id_turned}
 
 -- ---- what is over stays over
 
@@ -225,7 +225,7 @@ reset_senses s b dev n c at h e = ends_senses s (λ x. true) (λ x. true) by_res
 
 -- ---- what an event leaves open
 
-sense_apart : (n m : ℕ) → same_item (sense_item n) (command_item m) ≡ false
+pub sense_apart : (n m : ℕ) → same_item (sense_item n) (command_item m) ≡ false
 sense_apart n m = go (n == m)
   where
     go : (q : Bool) → (q && same_bool true false) ≡ false
@@ -266,13 +266,6 @@ ends_leave drops stops e j all (c ∷ commands) b m h keep o =
     go false z true = or_from (same_item (sense_item (suc j)) (command_item m)) (has_item b.sent.over (command_item m)) (sense_apart (suc j) m) o
     go false z false = o
 
-id_back : (p q : ProcId) → same_id p q ≡ false → same_id q p ≡ false
-id_back p q e = go (same_id q p) refl
-  where
-    go : (x : Bool) → same_id q p ≡ x → same_id q p ≡ false
-    go true z = wrong (sym (self_id p) ∙ ap (same_id p) (sym (id_is q p z)) ∙ e)
-    go false z = z
-
 -- The command of a process that is no automatic REQUEST SENSE is what the scenario says.
 dropped_so : (s : ScenarioValue) (i t n : ℕ) (what : AbortKind) (p : Process) → process_of s p.id ≡ Some p → p.id.sense ≡ false → (c : CmdDef) → command_at s.commands p.id.command ≡ Some c → is_aborted i t n what c ≡ is_dropped i t n what p
 dropped_so s i t n what p e f c at = by what ∙ ap (is_dropped i t n what) same
@@ -310,9 +303,9 @@ event_leaves s b (events.End id status) p h e = go (not id.sense && status == CH
     ended = story_with_end b id (by_status status)
 
     go : (q : Bool) → has_item (if q then record ended { sent = record ended.sent { checks = ended.sent.checks ++ id.command ∷ [] } } else ended).sent.over (process p.id) ≡ false
-    go true = or_from (same_id id p.id) (has_item b.sent.over (process p.id)) (id_back p.id id (not-true (same_id p.id id) e)) h.opens
-    go false = or_from (same_id id p.id) (has_item b.sent.over (process p.id)) (id_back p.id id (not-true (same_id p.id id) e)) h.opens
-event_leaves s b (events.Lost id) p h e = or_from (same_id id p.id) (has_item b.sent.over (process p.id)) (id_back p.id id (not-true (same_id p.id id) e)) h.opens
+    go true = or_from (same_id id p.id) (has_item b.sent.over (process p.id)) (id_turned p.id id (not-true (same_id p.id id) e)) h.opens
+    go false = or_from (same_id id p.id) (has_item b.sent.over (process p.id)) (id_turned p.id id (not-true (same_id p.id id) e)) h.opens
+event_leaves s b (events.Lost id) p h e = or_from (same_id id p.id) (has_item b.sent.over (process p.id)) (id_turned p.id id (not-true (same_id p.id id) e)) h.opens
 event_leaves s b (events.Aborted i t n what) p h e = aborts_leave s b i t n what p h (not-true (is_dropped i t n what p) e)
 event_leaves s b (events.Reset dev) p h e = wrong (sym e)
 

@@ -12,6 +12,7 @@ use Rattle.bus_books.specs.Hearing.{is_out_phase}
 use Rattle.bus_books.specs.Reactions.{is_command_phase}
 use Rattle.bus_base.proofs.Tests.{wrong'}
 use Rattle.bus_books.proofs.Faith.{is_data_out}
+pub use Rattle.bus_books.proofs.Reactions.{in_phase}
 
 abbrev pub is_status : Phase → Bool
 is_status phases.Status = true
@@ -22,20 +23,15 @@ is_data_phase phases.DataIn = true
 is_data_phase phases.DataOut = true
 is_data_phase _ = false
 
+abbrev pub is_data_in : Phase → Bool
+is_data_in phases.DataIn = true
+is_data_in _ = false
+
 abbrev pub is_out_next : Option Phase → Bool
 is_out_next (Some phases.MessageOut) = true
 is_out_next _ = false
 
 -- ---- the phase, by the lines
-
-pub in_phase : (b : LineSet) → is_message_in b ≡ true → phase_of b ≡ phases.MessageIn
-in_phase b e = go b.msg b.cd b.io e
-  where
-    go : (m d i : Bool) → (m && d && i) ≡ true → (if m then (if i then phases.MessageIn else phases.MessageOut) else if d then (if i then phases.Status else phases.Command) else if i then phases.DataIn else phases.DataOut) ≡ phases.MessageIn
-    go true true true z = refl
-    go true true false z = wrong' z
-    go true false i z = wrong' z
-    go false d i z = wrong' z
 
 pub out_phase : (b : LineSet) → is_message_out b ≡ true → phase_of b ≡ phases.MessageOut
 out_phase b e = go b.msg b.cd b.io e
@@ -91,6 +87,23 @@ data_out_io b e = go b.msg b.cd b.io (ap is_data_out e)
     go true d true z = wrong' z
     go false true true z = wrong' z
     go false false true z = wrong' z
+
+pub data_in_lines : (b : LineSet) → phase_of b ≡ phases.DataIn → (b.msg ≡ false) × (b.cd ≡ false) × (b.io ≡ true)
+data_in_lines b e = go b.msg b.cd b.io (ap is_data_in e)
+  where
+    go : (m d i : Bool) → is_data_in (if m then (if i then phases.MessageIn else phases.MessageOut) else if d then (if i then phases.Status else phases.Command) else if i then phases.DataIn else phases.DataOut) ≡ true → (m ≡ false) × (d ≡ false) × (i ≡ true)
+    go true d true z = wrong' z
+    go true d false z = wrong' z
+    go false true true z = wrong' z
+    go false true false z = wrong' z
+    go false false true z = (refl, refl, refl)
+    go false false false z = wrong' z
+
+pub not_message_in : (b : LineSet) → b.msg ≡ false → is_message_in b ≡ false
+not_message_in b e = λ i. e i && b.cd && b.io
+
+pub not_message_out : (b : LineSet) → b.msg ≡ false → is_message_out b ≡ false
+not_message_out b e = λ i. e i && b.cd && not b.io
 
 -- ---- one phase is not the other
 

@@ -35,10 +35,11 @@ use Rattle.trace_laws.proofs.OtherProcesses.{is_of, untouched_after, rests_after
 use Rattle.trace_laws.proofs.PhaseLines.{is_status}
 use Rattle.trace_laws.proofs.QueueDepths.{within_after}
 use Rattle.trace_laws.proofs.QueueEvents.{queued_stands}
-use Rattle.trace_laws.proofs.ArrivingProcesses.{queued, queued_rests, guest_may_run, at_once_may_run, guest_answered, Arrives, as_guest, in_queue, arrives, refused_array, refuses, failed_reply, fails_new}
+use Rattle.trace_laws.proofs.ArrivingProcesses.{queued, queued_rests, guest_may_run, at_once_may_run, guest_answered, Arrives, as_guest, in_queue, arrives, refused_array, refuses, fails_new}
 use Rattle.trace_laws.proofs.AnsweredProcesses.{run_is, run_answers, fail_is, fail_answers}
 use Rattle.std.proofs.lemmas.Bool.{eqb-true}
 use Rattle.bus_base.proofs.Tests.{wrong}
+use Rattle.target_units.specs.Seated.{aborted_reply}
 
 -- ---- what events of one process leave of the array
 
@@ -91,7 +92,7 @@ turned_reply s a p None seats sound within e h =
       holds = record { answered = run_answers s a b p seats sound e h.runs is; open_is = same ∙ h.open_is };
     }
 turned_reply s a p (Some code) seats sound within e h =
-    let b : Array = settled_array (Steps.with_reply a p.id (failed_reply code)) in
+    let b : Array = settled_array (Steps.with_reply a p.id (aborted_reply code)) in
     let is = fail_is s a p code h.runs in
     record {
       next = b;
@@ -103,13 +104,13 @@ turned_reply s a p (Some code) seats sound within e h =
 -- One that has not arrived fails.
 pub turned_fails : (s : ScenarioValue) (a : Array) (p : Process) (code : ℕ) → HasSeats s → IsSound s a → AreWithin a.units → process_of s p.id ≡ Some p → IsUntouched a p.id → Turned s a p.id (status_event p.id (Some code) ∷ []) (λ b. AnsweredOpen b p.id)
 turned_fails s a p code seats sound within e h =
-    let b : Array = settled_array (Steps.with_listed_reply (Steps.with_guest a p (Some (failed_reply code))) p.id (failed_reply code)) in
+    let b : Array = settled_array (Steps.with_listed_reply (Steps.with_guest a p (Some (aborted_reply code))) p.id (aborted_reply code)) in
     let is = fails_new s a p code e h in
     record {
       next = b;
       next_is = is;
       passes = passes_step s a b (events.Fail p.id code) p.id seats sound within (λ other f. f) is;
-      holds = record { answered = guest_answered a p (failed_reply code) h; open_is = h.open_is };
+      holds = record { answered = guest_answered a p (aborted_reply code) h; open_is = h.open_is };
     }
 
 -- ---- a command arrives

@@ -11,6 +11,7 @@ use Rattle.disk_array.specs.Steps.{running_if, running_in, has_ended}
 use Rattle.disk_array.specs.Units.{RunningProcess, UnitState, Array, unit_state_at, guest_at, is_held}
 use Rattle.bus_dialogue.specs.Wants.{Ready, ready_in, is_ready_before, first_ready}
 use Rattle.bus_due.specs.Wants.{current_of, since_of, ready_at, ready_among}
+use Rattle.target_units.proofs.UnitSteps.{own_unit}
 use Rattle.bus_books.proofs.Lookups.{self_id, id_is}
 use Rattle.trace_laws.specs.Places.{fresh, Runs, OnUnits, IsUnanswered, IsAtRest, RunsOpen}
 use Rattle.trace_laws.proofs.EachProcess.{current_id}
@@ -113,14 +114,6 @@ own_running s (u ∷ units) id r h e = go u.current h.0.current e (λ z. own_run
     go : (o : Option RunningProcess) → IsOwnRunning s u.target u.unit o → (if is_some (running_if o id) then running_if o id else running_in units id) ≡ Some r → (running_in units id ≡ Some r → process_of s r.process.id ≡ Some r.process) → process_of s r.process.id ≡ Some r.process
     go None k z rest = rest z
     go (Some c) k z rest = by c k (same_id c.process.id id) z rest
-
-own_unit : (s : ScenarioValue) (units : List UnitState) (t n : ℕ) (u : UnitState) → AllOwnUnits s units → unit_state_at units t n ≡ Some u → IsOwnUnit s u
-own_unit s [] t n u h e = none_some u e
-own_unit s (v ∷ units) t n u h e = go (v.target == t && v.unit == n) e (λ k. own_unit s units t n u h.1 k)
-  where
-    go : (x : Bool) → (if x then Some v else unit_state_at units t n) ≡ Some u → (unit_state_at units t n ≡ Some u → IsOwnUnit s u) → IsOwnUnit s u
-    go true k rest = subst (λ (w : UnitState). IsOwnUnit s w) (same_Some v u k) h.0
-    go false k rest = rest k
 
 -- ---- it may run
 

@@ -48,7 +48,6 @@ use Rattle.bus_books.proofs.InConnection.{InConnection, in_connection, reading_i
 use Rattle.bus_books.proofs.Lookups.{carried_id}
 use Rattle.disk_array.proofs.SoundArrays.{id_is}
 use Rattle.trace_laws.specs.Places.{AnsweredOpen, Closes, completes, disconnects, PlacedBefore, IsTaken, PlacedAsked, PlacedIn, PlacedIf, HasPlaces}
-use Rattle.trace_laws.proofs.CloseCounts.{counted_some}
 use Rattle.trace_laws.proofs.CommandStays.{phase_same}
 use Rattle.trace_laws.proofs.AnsweredProcesses.{end_is, leaves}
 use Rattle.trace_laws.proofs.PhaseLines.{in_phase}
@@ -56,6 +55,7 @@ use Rattle.trace_laws.proofs.PlaceEvents.{turned_none, passes_step}
 use Rattle.trace_laws.proofs.PlaceTurnRows.{RowPlaced}
 use Rattle.trace_laws.proofs.PlaceTurned.{row_turned, row_none}
 use Rattle.bus_base.proofs.Tests.{wrong, wrong'}
+use Rattle.link_laws.proofs.Asks.{counted_some}
 use Rattle.trace_laws.specs.ItemTalks.{is_complete_in}
 
 -- ---- what it shows

@@ -21,7 +21,7 @@ use Rattle.disk_array.specs.Units.{Array}
 use Rattle.disk_array.proofs.SoundArrays.{id_is}
 use Rattle.bus_story.specs.BusState.{row_reading}
 use Rattle.bus_story.specs.CarriedBytes.{CarriedBytes, is_whole_block}
-use Rattle.bus_story.specs.HistoryEvents.{carried_if, is_refuse, queue_event, queue_events, status_event, status_events, phase_events, link_events, row_events_by}
+use Rattle.bus_story.specs.HistoryEvents.{carried_if, is_refuse, queue_event, status_event, status_events, phase_events, link_events, row_events_by}
 use Rattle.bus_story.specs.Items.{Item, process, abort}
 use Rattle.bus_story.specs.Links.{Link}
 use Rattle.bus_dialogue.specs.declared.exchange.Cause.TheVariants as causes

@@ -8,7 +8,6 @@ use Rattle.bus_base.specs.declared.Event.{Event}
 use Rattle.bus_trace.specs.declared.agreements.Agreement.{Agreement}
 use Rattle.msg_grammar.specs.declared.message.MsgIn.{MsgIn}
 use Rattle.msg_grammar.specs.declared.message.MsgIn.TheVariants as to_initiator
-use Rattle.scenario.specs.declared.value.TargetDef.{TargetDef}
 use Rattle.scenario.specs.declared.value.Policy.{Policy}
 use Rattle.scenario.specs.Value.{ScenarioValue}
 use Rattle.bus_lines.specs.Handshakes.{Handshakes}
@@ -32,7 +31,7 @@ use Rattle.bus_dialogue.specs.declared.exchange.Task.{Task}
 use Rattle.bus_dialogue.specs.Arrivals.{policy_of}
 use Rattle.bus_dialogue.specs.DataRuns.{runs_in_all}
 use Rattle.bus_dialogue.specs.Exchange.{from_byte, message_bytes, one_message}
-use Rattle.bus_dialogue.specs.NextPhase.{Serving, bus_free, phase_entry, with_task, recovery, recovery_limit, pointer_restoration, next_data_phase, request_or_command, after_offer, message_repetition, message_out_leaving, after_messages, after_arrival, phase_leaving}
+use Rattle.bus_dialogue.specs.NextPhase.{Serving, bus_free, phase_entry, with_task, recovery, pointer_restoration, next_data_phase, request_or_command, after_offer, message_repetition, message_out_leaving, after_messages, after_arrival, phase_leaving}
 use Rattle.bus_dialogue.specs.Words.{request_by, is_naming}
 use Rattle.trace_laws.specs.Places.{AreWithin, IsUntouched, IsAtRest, IsOutside, RunsOpen, AnsweredOpen, TellNoEnd, Closes, completes, disconnects, PlacedBefore, PlacedAsked, PlacedIn}
 use Rattle.trace_laws.proofs.Impossible.{none_some}
@@ -40,7 +39,7 @@ use Rattle.trace_laws.proofs.PhaseLines.{is_out_next, is_status}
 use Rattle.trace_laws.proofs.PlaceEvents.{Turned, turned_none, turned_reply}
 use Rattle.trace_laws.proofs.PlaceLeavings.{RunningSays, RunningTo, LeadsRunning, AnsweredSays, AnsweredTo, LeadsAnswered, NewSays, NewTo, LeadsNew, HasOneRun, from_data_in, from_data_out, from_status, from_go_on, from_status_next, from_command_next, from_opening, from_detected, from_status_detected, Repeats, commands, again, leaves, from_refusal}
 use Rattle.bus_base.proofs.Tests.{wrong, wrong'}
-use Rattle.trace_laws.proofs.ComplaintTurns.{NeverOut}
+use Rattle.trace_laws.proofs.ComplaintTurns.{NeverOut, recovers}
 use Rattle.trace_laws.proofs.QueueEvents.{rests_in_queue}
 
 -- ---- where it stands as the next phase begins
@@ -155,14 +154,6 @@ new_turn s a p failure marked l out phase st h lead to asked = go phase to asked
 by_task : (f : Task → Leaving) (task : Option Task) → ((t : Task) → NeverOut (f t)) → NeverOut (with_task task f)
 by_task f None h = refl
 by_task f (Some t) h = h t
-
-recovers : (def : Option TargetDef) (t : Task) (a b : Leaving) → NeverOut a → NeverOut b → NeverOut (recovery def t a b)
-recovers def t a b h g = go t.in_hold (nat_lt t.recoveries (recovery_limit def))
-  where
-    go : (r z : Bool) → NeverOut (if r then a else if z then record a { counts = true } else b)
-    go true z = h
-    go false true = h
-    go false false = g
 
 out_leaves : (v : Serving) (cause : Cause) → NeverOut (message_out_leaving v cause)
 out_leaves v causes.Selected = go (is_some v.plan.said.aborts) v.plan.said.offer v.plan.negotiates

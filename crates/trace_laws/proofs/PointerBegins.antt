@@ -40,7 +40,7 @@ use Rattle.trace_laws.proofs.Impossible.{none_some}
 use Rattle.trace_laws.proofs.PhaseLines.{in_phase}
 use Rattle.trace_laws.proofs.PointerStories.{SamePointers, events_same}
 use Rattle.trace_laws.proofs.PointerStorySteps.{in_link}
-use Rattle.bus_story.proofs.StorySteps.{restored_link, sent_link, byte_link, out_link, events_link}
+use Rattle.bus_story.proofs.StorySteps.{byte_link, out_link, events_link, first_link as begun_link}
 
 -- ---- the first row
 
@@ -49,13 +49,6 @@ first_story s k row n h =
     let d = row_reading k.story.bus_state row in
     ap (λ (q : Bool). if q then record k.story { link = None } else story_on_bus s k.story k.story.bus_state.connection d.next d row) h.calm
     ∙ (λ i. story_on_bus s k.story (h.connection_is i) (h.next_is i) d row)
-
-begun_link : (b : Story) (n : Connection) → (story_after_connection b n).link ≡ Some (link_of n (if n.reselected then None else aim_of b.aims n.initiator))
-begun_link b n = go n.reselected (aim_of b.aims n.initiator)
-  where
-    go : (q : Bool) (item : Option Item) → (if q then record b { link = Some (link_of n None) } else story_with_restored (story_with_sent (record b { link = Some (link_of n item) }) item) item).link ≡ Some (link_of n (if q then None else item))
-    go true item = refl
-    go false item = restored_link (story_with_sent (record b { link = Some (link_of n item) }) item) item ∙ sent_link (record b { link = Some (link_of n item) }) item
 
 first_link : (s : ScenarioValue) (k : RunState) (row : Row) (n : Connection) → IsFirstRow k row n → (run_state_after s k row).story.link ≡ Some (link_of n (if n.reselected then None else aim_of k.story.aims n.initiator))
 first_link s k row n h =

@@ -1,5 +1,5 @@
 -- The data pointers of the process that is served, after a row with which a byte of a message crosses.
-use Rattle.std.proofs.Common.{ℕ, ◌≡◌, ◌⊎◌, inl, inr, ◌+◌, ◌<◌, ◌%◌, Bool, true, false, not, ◌&&◌, ◌∙◌, List, [], ◌∷◌, ◌++◌, length, Option, Some, None, refl, sym, ap, subst, true≢false}
+use Rattle.std.proofs.Common.{ℕ, ◌≡◌, ◌⊎◌, inl, inr, ◌+◌, ◌<◌, ◌%◌, Bool, true, false, not, ◌&&◌, ◌∙◌, [], ◌∷◌, ◌++◌, length, Option, Some, None, refl, sym, ap, subst, true≢false}
 use Rattle.std.specs.Prelude.{if◌then◌else◌, is_some, slice_index_or}
 use Rattle.std.proofs.lemmas.Option.{same_Some}
 use Rattle.bus_base.specs.declared.ProcId.{ProcId}
@@ -12,17 +12,15 @@ use Rattle.bus_trace.specs.Phases.{changes_phase, is_message_out, is_message_in}
 use Rattle.bus_lines.specs.Handshakes.{Handshakes, handshakes_after}
 use Rattle.bus_phases.specs.Dialogue.{fresh_bytes}
 use Rattle.msg_grammar.specs.declared.message.MsgIn.{MsgIn}
-use Rattle.msg_grammar.specs.declared.message.MsgIn.TheVariants as to_initiator
 use Rattle.msg_grammar.specs.declared.message.MsgOut.{MsgOut}
 use Rattle.msg_grammar.specs.declared.message.MsgOut.TheVariants as to_target
 use Rattle.msg_grammar.specs.Messages.{got_in, got_out}
-use Rattle.scenario.specs.declared.value.CmdDef.{CmdDef}
 use Rattle.scenario.specs.Value.{ScenarioValue}
 use Rattle.disk_array.specs.Processes.{Process}
 use Rattle.bus_story.specs.BusState.{RowReading, row_reading, whole_in, whole_out}
 use Rattle.bus_story.specs.CarriedBytes.{CarriedBytes, carried_of, carried_after_message, with_restored_pointers}
 use Rattle.bus_story.specs.HistoryEvents.{carried_if}
-use Rattle.bus_story.specs.Items.{Item, process, Sent}
+use Rattle.bus_story.specs.Items.{Item, process}
 use Rattle.bus_story.specs.Links.{Link, last_in, last_out, link_after_name}
 use Rattle.bus_story.specs.Story.{Story}
 use Rattle.bus_story.specs.TraceHistory.{is_parity_error, story_after_in}

@@ -1,6 +1,7 @@
 -- Which message the byte that crosses makes whole: of a message of one byte that very one.
 use Rattle.std.proofs.Common.{ℕ, ◌≡◌, ◌<◌, true, false, ◌∙◌, List, [], ◌∷◌, ◌++◌, length, Option, Some, refl, sym, ap, subst, arith, length-append, true≢false}
 use Rattle.std.specs.Prelude.{slice_index_or, is_some}
+use Rattle.bus_base.proofs.Tests.{nil_of as none_before}
 use Rattle.msg_grammar.specs.declared.message.MsgIn.{MsgIn}
 use Rattle.msg_grammar.specs.declared.message.MsgIn.TheVariants as to_initiator
 use Rattle.msg_grammar.specs.declared.message.MsgOut.TheVariants as to_target
@@ -27,10 +28,6 @@ use Rattle.trace_laws.specs.DataPointers.{IsPlainIn}
 use Rattle.trace_laws.proofs.PointerMessages.{is_brief, IsHeard}
 
 -- ---- MESSAGE IN
-
-none_before : (before : List ℕ) → length before ≡ 0 → before ≡ []
-none_before [] e = refl
-none_before (b ∷ before) e = absurd omega (arith, e)
 
 brief_whole : (x : MsgIn) (rest : List ℕ) → is_brief x ≡ true → whole_in (got_in ([] ++ slice_index_or (in_bytes x ++ rest) 0 0 ∷ [])) ≡ Some x
 unfolding form_in

@@ -14,7 +14,7 @@ use Rattle.bus_dialogue.specs.declared.exchange.Phase.TheVariants as phases
 use Rattle.bus_dialogue.specs.declared.exchange.Plan.{Plan}
 use Rattle.bus_dialogue.specs.Exchange.{Exchange}
 use Rattle.bus_dialogue.specs.NextPhase.{phase_of}
-use Rattle.trace_laws.specs.DataPointers.{is_marked, IsAt, OnUndo, IsCalm, PointersIn, calm, restores, saves, saved, disconnects, closes, PointersRefused, still_calm, restores_again, saves_again, disconnects_again, closes_again, IsSettled, IsInRun, PointersAsked, PointersOf, PointersIf, PointersBy, IsUnnamed}
+use Rattle.trace_laws.specs.DataPointers.{IsAt, OnUndo, IsCalm, PointersIn, calm, restores, saves, saved, disconnects, closes, PointersRefused, still_calm, restores_again, saves_again, disconnects_again, closes_again, IsSettled, PointersAsked, PointersOf, PointersIf, PointersBy, IsUnnamed}
 use Rattle.trace_laws.proofs.PointerStories.{SamePointers}
 
 pub at_as : (a b : Area) (x : ℕ) → a ≡ b → IsAt b x → IsAt a x

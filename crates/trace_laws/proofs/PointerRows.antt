@@ -45,12 +45,13 @@ use Rattle.bus_books.proofs.Gives.{requests_stay, struck_same, answered_same}
 use Rattle.bus_books.proofs.InConnection.{InConnection, in_connection, reading_is, same_phase_is}
 use Rattle.bus_books.proofs.Knows.{link_after, fault_link}
 use Rattle.link_laws.proofs.PulseSteps.{count_more}
-use Rattle.trace_laws.specs.DataPointers.{is_marked, OnUndo, IsAt, run_start, run_policy, PointersOf, PointersBy, PointersIf, PointersAsked, PointersIn, PointersRefused, IsInRun, IsSettled, IsUnnamed, ServedPointers, unnamed, named, UndoesServed, RefusesLater}
+use Rattle.trace_laws.specs.DataPointers.{run_start, run_policy, PointersOf, PointersBy, PointersIf, IsInRun, IsUnnamed, ServedPointers, unnamed, named, UndoesServed, RefusesLater}
 use Rattle.trace_laws.proofs.CommandStays.{phase_same}
 use Rattle.trace_laws.proofs.Impossible.{none_some}
 use Rattle.trace_laws.proofs.PointerStories.{SamePointers, same_on, events_same, story_row}
 use Rattle.trace_laws.proofs.PointerKept.{SamePlan, AreCountedSo, counted_same, pointers_as, by_as, unnamed_as}
 use Rattle.trace_laws.proofs.PointerStorySteps.{fault_story, byte_same, byte_moves, byte_story}
+use Rattle.trace_laws.proofs.PhaseLines.{data_in_lines, not_message_out, not_message_in}
 use Rattle.bus_base.proofs.Tests.{wrong'}
 use Rattle.bus_books.proofs.Faith.{is_data_out}
 use Rattle.bus_story.proofs.StorySteps.{byte_link}
@@ -109,21 +110,6 @@ run_lines b e = go b.msg b.cd b.io refl refl refl (ap is_data_out e)
     go false true false em ed ei z = wrong' z
     go false false true em ed ei z = wrong' z
     go false false false em ed ei z = (em, ed, ei)
-
-abbrev pub is_data_in : Phase → Bool
-is_data_in phases.DataIn = true
-is_data_in _ = false
-
-pub read_lines : (b : LineSet) → phase_of b ≡ phases.DataIn → (b.msg ≡ false) × (b.cd ≡ false) × (b.io ≡ true)
-read_lines b e = go b.msg b.cd b.io refl refl refl (ap is_data_in e)
-  where
-    go : (m d i : Bool) → b.msg ≡ m → b.cd ≡ d → b.io ≡ i → is_data_in (phase_by m d i) ≡ true → (b.msg ≡ false) × (b.cd ≡ false) × (b.io ≡ true)
-    go true d true em ed ei z = wrong' z
-    go true d false em ed ei z = wrong' z
-    go false true true em ed ei z = wrong' z
-    go false true false em ed ei z = wrong' z
-    go false false true em ed ei z = (em, ed, ei)
-    go false false false em ed ei z = wrong' z
 
 abbrev pub is_block_phase : Phase → Bool
 is_block_phase phases.Command = true
@@ -283,7 +269,7 @@ quiet_row s k row n c q fault r ef ep er h = go h
         let x = in_row s k row n c q false fault l r ep (ap (λ (z : Option ℕ). is_some z) er) el i plan in
         stays_served s k j q x.goes
         (same_on (carried_here j q.id) (carried_of (story_after_fault k.story l row.kind).carried q.id) (carried_here k q.id) x.carried (fault_story k.story l row.kind q.id))
-        (x.link ∙ fault_link k.story l row.kind) (record { said = λ z. requests (in_lines (bus_of k) z).io; given = λ z. requests (read_lines (bus_of k) z).2; sent = answers }) h
+        (x.link ∙ fault_link k.story l row.kind) (record { said = λ z. requests (in_lines (bus_of k) z).io; given = λ z. requests (data_in_lines (bus_of k) z).2; sent = answers }) h
 
     go : ServedPointers s k q → ServedPointers s j q
     go (unnamed l el none z) = with_link l el
@@ -309,12 +295,6 @@ no_message_out k c e = ap (λ (q : Bool). if q then whole_out (got_out (fresh_by
 
 no_message_in : (k : RunState) (c : Change) → is_message_in c.before ≡ false → into_of k c ≡ None
 no_message_in k c e = ap (λ (q : Bool). if q then whole_in (got_in (k.story.bus_state.dialogue.half ++ byte_of c ∷ [])) else None) e
-
-msg_out_false : (b : LineSet) → b.msg ≡ false → is_message_out b ≡ false
-msg_out_false b e = ap (λ (q : Bool). q && b.cd && not b.io) e
-
-msg_in_false : (b : LineSet) → b.msg ≡ false → is_message_in b ≡ false
-msg_in_false b e = ap (λ (q : Bool). q && b.cd && b.io) e
 
 pub io_out_false : (b : LineSet) → b.io ≡ true → is_message_out b ≡ false
 io_out_false b e = (λ i. b.msg && b.cd && not (e i)) ∙ go b.msg b.cd
@@ -378,7 +358,7 @@ block_crosses s k row n c q l x own e h =
     let msg : c.before.msg ≡ false = ap (λ (y : LineSet). y.msg) (sym r.bus_is) ∙ lines.0 in
     let idle : is_data c.before ≡ false = (λ i. not (msg i) && not ((ap (λ (y : LineSet). y.cd) (sym r.bus_is) ∙ lines.1) i)) in
     let d = reading_in k.story.bus_state n c true in
-    let made = crossed_as s k row n c q l None None x (no_message_out k c (msg_out_false c.before msg)) (no_message_in k c (msg_in_false c.before msg)) in
+    let made = crossed_as s k row n c q l None None x (no_message_out k c (not_message_out c.before msg)) (no_message_in k c (not_message_in c.before msg)) in
     let there = byte_story k.story l d q.id own msg in
     stays_served s k (run_state_after s k row) q x.row_in.goes
     (same_on (carried_here (run_state_after s k row) q.id) (carried_after_byte (carried_here k q.id) c.before (byte_of c)) (carried_here k q.id) (subst (λ (y : CarriedBytes). SamePointers (carried_here (run_state_after s k row) q.id) y) there made.0) (byte_same (carried_here k q.id) c.before (byte_of c) idle))
@@ -400,7 +380,7 @@ moved_on s k row n c q l x own em ed =
     let msg : c.before.msg ≡ false = ap (λ (y : LineSet). y.msg) (sym r.bus_is) ∙ em in
     let cd : c.before.cd ≡ false = ap (λ (y : LineSet). y.cd) (sym r.bus_is) ∙ ed in
     let d = reading_in k.story.bus_state n c true in
-    let made = crossed_as s k row n c q l None None x (no_message_out k c (msg_out_false c.before msg)) (no_message_in k c (msg_in_false c.before msg)) in
+    let made = crossed_as s k row n c q l None None x (no_message_out k c (not_message_out c.before msg)) (no_message_in k c (not_message_in c.before msg)) in
     let c1 = carried_after_byte (carried_here k q.id) c.before (byte_of c) in
     let same : SamePointers (carried_here j q.id) c1 = subst (λ (y : CarriedBytes). SamePointers (carried_here j q.id) y) (byte_story k.story l d q.id own msg) made.0 in
     let moved = byte_moves (carried_here k q.id) c.before (byte_of c) ((λ i. not (msg i) && cd i && not c.before.io) ∙ refl) (λ i. not (msg i) && not (cd i)) in
@@ -439,7 +419,7 @@ run_crosses s k row n c q l x own e h =
 pub read_crosses : (s : ScenarioValue) (k : RunState) (row : Row) (n : Connection) (c : Change) (q : Process) (l : Link) → Crosses s k row n c q l → l.item ≡ Some (process q.id) → phase_of (bus_of k) ≡ phases.DataIn → IsInRun (run_policy s q) l (carried_here k q.id) k.handshakes.requests (run_start s k q) → ServedPointers s (run_state_after s k row) q
 read_crosses s k row n c q l x own e h =
     let j = run_state_after s k row in
-    let lines = read_lines (bus_of k) e in
+    let lines = data_in_lines (bus_of k) e in
     let io : c.before.io ≡ true = ap (λ (y : LineSet). y.io) (sym x.meets.of.row_is.bus_is) ∙ lines.2 in
     let m = moved_on s k row n c q l x own lines.0 lines.1 in
     let requests : j.handshakes.requests ≡ k.handshakes.requests + 1 =

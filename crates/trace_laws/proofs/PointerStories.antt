@@ -26,7 +26,7 @@ use Rattle.bus_story.specs.TraceHistory.{story_in_connection, story_on_bus, stor
 use Rattle.bus_due.specs.RunState.{RunState}
 use Rattle.bus_books.specs.Rows.{IsRowIn, reading_in}
 use Rattle.bus_books.proofs.InConnection.{reading_is}
-use Rattle.bus_books.proofs.Lookups.{put_there, put_own, put_other, carried_id, self_id}
+use Rattle.bus_books.proofs.Lookups.{put_own, put_other, carried_id, self_id}
 use Rattle.trace_laws.specs.DataPointers.{is_marked}
 use Rattle.bus_base.proofs.Tests.{or_true}
 use Rattle.bus_story.proofs.StorySteps.{ends_keep, check_keeps}

@@ -26,8 +26,7 @@ use Rattle.trace_laws.specs.DataPointers.{OnUndo}
 use Rattle.trace_laws.proofs.Impossible.{none_some}
 use Rattle.trace_laws.proofs.PointerStories.{SamePointers, same_self, put_same}
 use Rattle.trace_laws.proofs.PointerMessages.{or_undone}
-use Rattle.bus_books.proofs.Knows.{fault_link}
-use Rattle.bus_story.proofs.StorySteps.{byte_link, out_link, carried_link}
+use Rattle.bus_story.proofs.StorySteps.{carried_link}
 
 -- ---- a fault
 

@@ -42,7 +42,7 @@ use Rattle.bus_books.proofs.InConnection.{InConnection, in_connection, reading_i
 use Rattle.bus_books.proofs.Knows.{link_after, fault_link}
 use Rattle.bus_books.proofs.Lookups.{self_id, carried_id}
 use Rattle.trace_laws.specs.DataPointers.{is_marked, OnUndo, IsPlainIn, run_policy, run_start, run_step, PointersIn, PointersRefused, IsOfStatus, IsUndisturbed, calm, restores, saves, saved, disconnects, closes, still_calm, restores_again, saves_again, disconnects_again, closes_again}
-use Rattle.trace_laws.proofs.PointerStories.{SamePointers, same_on, events_same, story_row, status_marks}
+use Rattle.trace_laws.proofs.PointerStories.{SamePointers, same_on, events_same, status_marks, story_row}
 use Rattle.trace_laws.proofs.PointerLeavings.{MovesBy}
 use Rattle.trace_laws.proofs.PointerStorySteps.{fault_story}
 use Rattle.trace_laws.proofs.TalkTurns.{from_named}

@@ -17,23 +17,24 @@ use Rattle.disk_array.specs.Processes.{Process, process_of, same_id}
 use Rattle.disk_array.proofs.SoundArrays.{id_is}
 use Rattle.bus_story.specs.BusState.{RowReading, row_reading}
 use Rattle.bus_story.specs.CarriedBytes.{Area, CarriedBytes, carried_of, with_restored_pointers}
-use Rattle.bus_story.specs.HistoryEvents.{carried_if, row_events_by, link_events}
+use Rattle.bus_story.specs.HistoryEvents.{row_events_by, link_events}
 use Rattle.bus_story.specs.Items.{Item, process, abort, has_item}
 use Rattle.bus_story.specs.Links.{Link, link_of, link_after_name}
 use Rattle.bus_story.specs.Story.{Story, story_after_events}
-use Rattle.bus_story.specs.TraceHistory.{aim_of, is_arbitration_entry, story_with_aim, story_without_answer, is_counted, retries_of, story_with_try, story_after_calling_by, story_after_calling, story_on_free_bus, story_with_restored, story_with_sent, story_after_connection, story_with_carried, story_after_out, story_after_in, carried_after_byte_if, story_after_byte, story_after_fault, story_in_connection, story_on_bus, story_by_change}
+use Rattle.bus_story.specs.TraceHistory.{aim_of, is_arbitration_entry, story_with_aim, story_without_answer, is_counted, retries_of, story_with_try, story_after_calling_by, story_after_calling, story_on_free_bus, story_with_restored, story_with_sent, story_after_connection, story_after_out, story_after_in, story_after_byte, story_after_fault, story_in_connection, story_on_bus, story_by_change}
 use Rattle.bus_dialogue.specs.declared.exchange.Leaving.{Leaving}
 use Rattle.bus_due.specs.LastingState.{ProcessProgress, progress_in}
 use Rattle.bus_due.specs.RunState.{RunState, carried_here, process_item, process_served}
 use Rattle.bus_due.specs.RunSteps.{run_state_after, progress_after, progress_by_leaving, leaving_of}
 use Rattle.bus_books.specs.Knowing.{Knows}
 use Rattle.bus_books.specs.Rows.{IsRowIn, reading_in}
-use Rattle.bus_books.proofs.Lookups.{self_id, carried_id}
+use Rattle.bus_books.proofs.Lookups.{carried_id}
 use Rattle.trace_laws.specs.DataPointers.{is_marked, run_start, run_step, IsWaiting, UndoesServed}
 use Rattle.trace_laws.proofs.ItemSteps.{other_progress}
 use Rattle.trace_laws.proofs.PointerStories.{SamePointers, events_same, events_over, over_more, story_row}
 use Rattle.trace_laws.proofs.PointerStorySteps.{IsNot, fault_story, byte_other, out_other, in_other}
-use Rattle.trace_laws.proofs.RowItems.{carried_sent, inside_sent}
+use Rattle.trace_laws.proofs.RowItems.{inside_sent}
+use Rattle.trace_laws.proofs.Tests.{not_unless}
 use Rattle.bus_story.proofs.StorySteps.{restored_sent, sent_carried}
 
 -- ---- what is asked of one that waits
@@ -49,29 +50,14 @@ saved_same a b h = record { saved = ap (λ (x : Area). x.saved) h.moved; marked 
 pub saved_on : (a b c : CarriedBytes) → SamePointers a b → SameSaved b c → SameSaved a c
 saved_on a b c h g = record { saved = ap (λ (x : Area). x.saved) h.moved ∙ g.saved; marked = λ e. h.marked (g.marked e) }
 
-pub not_before : (a b : Bool) → (a ≡ true → b ≡ true) → b ≡ false → a ≡ false
-not_before true b h e = absurd (true≢false (sym (h refl) ∙ e))
-not_before false b h e = refl
-
 pub wait_on : (s : ScenarioValue) (k j : RunState) (q : Process) → SameSaved (carried_here j q.id) (carried_here k q.id) → (has_item k.story.sent.over (process q.id) ≡ true → has_item j.story.sent.over (process q.id) ≡ true) → run_start s j q ≡ run_start s k q → IsWaiting s k q → IsWaiting s j q
 wait_on s k j q c over start h = record {
-  saved = λ o m. c.saved ∙ h.saved (not_before (has_item k.story.sent.over (process q.id)) (has_item j.story.sent.over (process q.id)) over o) (not_before (is_marked (carried_here k q.id)) (is_marked (carried_here j q.id)) c.marked m) ∙ sym start;
+  saved = λ o m. c.saved ∙ h.saved (not_unless (has_item k.story.sent.over (process q.id)) (has_item j.story.sent.over (process q.id)) over o) (not_unless (is_marked (carried_here k q.id)) (is_marked (carried_here j q.id)) c.marked m) ∙ sym start;
 }
 
 -- ---- what is over
 
-named_sent : (b : Story) (q : Bool) (item : Option Item) → (if q then story_with_restored b item else b).sent ≡ b.sent
-named_sent b true item = restored_sent b item
-named_sent b false item = refl
-
-byte_sent : (b : Story) (l : Link) (d : RowReading) → (story_after_byte b l d).sent ≡ b.sent
-byte_sent b l d = go d.change.before.msg
-  where
-    go : (q : Bool) → (if q then b else story_with_carried b (carried_after_byte_if (carried_if b l.item) d)).sent ≡ b.sent
-    go true = refl
-    go false = carried_sent b (carried_after_byte_if (carried_if b l.item) d)
-
-connection_sent : (s : ScenarioValue) (b : Story) (link : Option Link) (d : RowReading) (row : Row) → (story_in_connection s b link d row).sent ≡ b.sent
+pub connection_sent : (s : ScenarioValue) (b : Story) (link : Option Link) (d : RowReading) (row : Row) → (story_in_connection s b link d row).sent ≡ b.sent
 connection_sent s b None d row = refl
 connection_sent s b (Some l) d row = inside_sent s b l d row
 

@@ -39,7 +39,8 @@ use Rattle.trace_laws.proofs.Joint.{Stood, NextStood, values_of}
 use Rattle.trace_laws.proofs.LinkRows.{LinkRow, link_row}
 use Rattle.trace_laws.proofs.Plans.{is_directed, writes_of}
 use Rattle.trace_laws.proofs.ResetRows.{IsReleasing, PhaseIs, releasing, of_stage, of_target_next, data_kept}
-use Rattle.trace_laws.proofs.WriteRows.{in_lines, is_in}
+use Rattle.trace_laws.proofs.WriteRows.{in_lines}
+use Rattle.trace_laws.proofs.PhaseLines.{is_data_in}
 use Rattle.bus_base.proofs.Tests.{wrong, wrong'}
 use Rattle.link_laws.proofs.Traces.{link_calm}
 
@@ -132,7 +133,7 @@ reads_next s p row o prompt was nx h n x after on begun phase served = go (bus p
     w = lasts s p row n o prompt was h after on
 
     io : (bus (row ∷ p)).io ≡ true
-    io = ap (λ (l : LineSet). l.io) (sym ql.bus) ∙ (in_lines (bus_of j) (ap is_in phase)).1
+    io = ap (λ (l : LineSet). l.io) (sym ql.bus) ∙ (in_lines (bus_of j) (ap is_data_in phase)).1
 
     same_lines : PhaseIs (bus (row ∷ p)) (bus p)
     same_lines = data_kept p row n w.row_is w.lines io
@@ -164,7 +165,7 @@ reads_next s p row o prompt was nx h n x after on begun phase served = go (bus p
     go false e = at (is_writing x) refl
       where
         lines : (is_data (bus_of k) ≡ true) × ((bus_of k).io ≡ true)
-        lines = in_lines (bus_of k) (ap is_in before)
+        lines = in_lines (bus_of k) (ap is_data_in before)
 
         at : (q : Bool) → is_writing x ≡ q → is_writing x ≡ false
         at false f = f

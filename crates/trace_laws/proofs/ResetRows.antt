@@ -3,6 +3,7 @@
 use Rattle.std.proofs.Common.{inl, inr, ℕ, ◌≡◌, ◌≢◌, ◌+◌, ◌⊎◌, Bool, true, false, ◌∙◌, List, ◌∷◌, Some, None, refl, sym, ap, subst}
 use Rattle.std.specs.Prelude.{if◌then◌else◌}
 use Rattle.std.proofs.lemmas.Bool.{cases_eq}
+use Rattle.std.proofs.lemmas.Option.{none-some}
 use Rattle.bus_trace.specs.LineSet.{LineSet, none, same, same_set}
 use Rattle.bus_trace.specs.declared.Row.{Row}
 use Rattle.bus_trace.specs.declared.connection.Connection.{Connection}
@@ -19,7 +20,7 @@ use Rattle.bus_laws.specs.Ends.{EndLines, Linked}
 use Rattle.bus_laws.specs.Reactions.{own_time, device_with, reset_due}
 use Rattle.bus_laws.specs.Rows.{row_of_lines}
 use Rattle.bus_laws.specs.Stages.{HoldsReset, IsUnderRst, quiet, holds, lingers, UnderRst, Standing}
-use Rattle.bus_laws.proofs.Dues.{is_at, none_some, due_in_reset}
+use Rattle.bus_laws.proofs.Dues.{is_at, due_in_reset}
 use Rattle.bus_laws.proofs.FromFree.{row_is}
 use Rattle.bus_laws.proofs.Resets.{one_of, due_calm, due_holding, due_there, own_reset_is}
 use Rattle.bus_laws.proofs.Rows.{drives_own, drives_other}
@@ -49,7 +50,7 @@ releasing s p row st rs m = go (drives p row.dev).rst refl (rs.each row.dev m.in
     clear latency e = by (same_set (drives p row.dev) none) e
       where
         by : (q : Bool) → (if q then None else due_at ((line_times p).rst + latency) none) ≡ Some x → IsReleasing row
-        by true z = absurd (none_some x z)
+        by true z = absurd (none-some x z)
         by false z = inl (row_is row none (is_at ((line_times p).rst + latency) none x z).kind_is)
 
     not_holding : (drives p row.dev).rst ≡ false → IsReleasing row

@@ -20,7 +20,7 @@ use Rattle.scenario.specs.Value.{ScenarioValue}
 use Rattle.disk_array.specs.ArrayHistory.{array_after}
 use Rattle.bus_story.specs.BusState.{RowReading, row_reading, message_out, message_in}
 use Rattle.bus_story.specs.CarriedBytes.{CarriedBytes, carried_of, is_whole_block, is_status_phase}
-use Rattle.bus_story.specs.Items.{Item, process, abort, has_item}
+use Rattle.bus_story.specs.Items.{Item, process, has_item}
 use Rattle.bus_story.specs.Links.{Link, last_out, last_in, link_after_name}
 use Rattle.bus_story.specs.HistoryEvents.{carried_if, queue_events, is_refuse, status_event, status_events, phase_events, is_completion, end_events, connection_events, link_events, row_events_by}
 use Rattle.bus_story.specs.Story.{Story, story_after_event, story_after_events}
@@ -75,7 +75,7 @@ abbrev pub AllQuiet : List Event → Type 0
 AllQuiet [] = ⊤
 AllQuiet (e ∷ shown) = (is_quiet_event e ≡ true) × AllQuiet shown
 
-quiet_event : (s : ScenarioValue) (b : Story) (event : Event) → is_quiet_event event ≡ true → (story_after_event s b event).sent ≡ b.sent
+pub quiet_event : (s : ScenarioValue) (b : Story) (event : Event) → is_quiet_event event ≡ true → (story_after_event s b event).sent ≡ b.sent
 quiet_event s b (events.Accept id) e = refl
 quiet_event s b (events.Refuse id) e = refl
 quiet_event s b (events.Run id) e = refl
@@ -89,7 +89,7 @@ pub quiet_events : (s : ScenarioValue) (b : Story) (shown : List Event) → AllQ
 quiet_events s b [] h = refl
 quiet_events s b (event ∷ shown) h = quiet_event s (story_after_events s b shown) event h.0 ∙ quiet_events s b shown h.1
 
-queue_quiet : (s : ScenarioValue) (b : Story) (c : Option CarriedBytes) (before : LineSet) → AllQuiet (queue_events s b c before)
+pub queue_quiet : (s : ScenarioValue) (b : Story) (c : Option CarriedBytes) (before : LineSet) → AllQuiet (queue_events s b c before)
 queue_quiet s b None before = tt
 queue_quiet s b (Some k) before = go (is_command before && is_whole_block k) (is_some (array_after s (events.Accept k.id ∷ b.history)))
   where
@@ -98,7 +98,7 @@ queue_quiet s b (Some k) before = go (is_command before && is_whole_block k) (is
     go true false = (refl, tt)
     go false r = tt
 
-status_quiet : (c : Option CarriedBytes) (after : LineSet) (arrived : List Event) → AllQuiet arrived → AllQuiet (status_events c after arrived)
+pub status_quiet : (c : Option CarriedBytes) (after : LineSet) (arrived : List Event) → AllQuiet arrived → AllQuiet (status_events c after arrived)
 status_quiet None after arrived h = h
 status_quiet (Some k) after arrived h = go (is_status_phase after && not k.shown && not k.refused && not (list_any (λ e. is_refuse e) arrived)) k.failure
   where

@@ -16,7 +16,7 @@ use Rattle.disk_array.proofs.SeatSteps.{choice_target, choice_unit}
 
 -- ---- the unit
 
-found : (units : List UnitState) (t n : ℕ) (u : UnitState) → unit_state_at units t n ≡ Some u → (u.target ≡ t) × (u.unit ≡ n)
+pub found : (units : List UnitState) (t n : ℕ) (u : UnitState) → unit_state_at units t n ≡ Some u → (u.target ≡ t) × (u.unit ≡ n)
 found [] t n u e = none_some u e
 found (v ∷ units) t n u e = go (λ z. found units t n u z) (v.target == t && v.unit == n) refl e
   where

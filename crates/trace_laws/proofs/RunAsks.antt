@@ -15,7 +15,6 @@ use Rattle.bus_lines.specs.Handshakes.{Handshakes, handshakes}
 use Rattle.cdb_codec.specs.declared.status.TheConstants.{GOOD}
 use Rattle.scenario.specs.Value.{ScenarioValue}
 use Rattle.scenario.specs.Writing.{Obeys}
-use Rattle.disk_array.specs.ArrayHistory.{array_after}
 use Rattle.disk_array.specs.Execution.{Reply}
 use Rattle.disk_array.specs.Processes.{Process}
 use Rattle.bus_story.specs.BusState.{row_reading}
@@ -31,10 +30,10 @@ use Rattle.bus_due.specs.Defs.{target_def_of}
 use Rattle.bus_due.specs.Least.{IsLeast}
 use Rattle.bus_due.specs.Next.{due, IsPrompt}
 use Rattle.bus_due.specs.Plain.{IsPlain, AreOfDevices}
-use Rattle.bus_due.specs.RunState.{RunState, bus_of, item_of, process_item, process_here, process_served, carried_here}
+use Rattle.bus_due.specs.RunState.{RunState, bus_of, process_here, process_served, carried_here}
 use Rattle.bus_due.specs.RunSteps.{run_state}
 use Rattle.bus_due.specs.Sights.{serving_of, offering_of}
-use Rattle.bus_due.specs.Tasks.{is_writing, task_of, task_if, moved_count, reply_now}
+use Rattle.bus_due.specs.Tasks.{is_writing, task_if, moved_count, reply_now}
 use Rattle.bus_due.proofs.Plains.{run_state_plain}
 use Rattle.bus_books.specs.Reactions.{IsOver}
 use Rattle.bus_laws.specs.Reactions.{unreset_due}
@@ -59,6 +58,7 @@ use Rattle.trace_laws.proofs.RunParts.{byte_within}
 use Rattle.trace_laws.proofs.RunPulses.{PulseStep, settle_step, pulse_step}
 use Rattle.trace_laws.proofs.RunSteps.{link_step, pulsed_as, no_in}
 use Rattle.trace_laws.proofs.Tests.{risen}
+use Rattle.std.proofs.Math.Nat.{le_antisymm}
 use Rattle.std.proofs.lemmas.Bool.{ltb-false}
 use Rattle.bus_base.proofs.Tests.{wrong, wrong'}
 
@@ -97,9 +97,6 @@ out_step s p row n prompt was con calm off b phase after = elim (reset_or_calm s
 
 -- ---- the phase is left
 
-both_ways : (a b : ℕ) → a ≤ b → b ≤ a → a ≡ b
-both_ways a b h k = omega (arith, h, k)
-
 pub answers_all : (s : ScenarioValue) (p : List Row) (row : Row) (n : Connection) → Obeys s → IsPrompt s (row ∷ p) → Stood s p → CountFacts s p → connection p ≡ Some n → (bus p).rst ≡ false → (bus (row ∷ p)).rst ≡ false → connection (row ∷ p) ≡ Some n → begun p ≡ true → changes_phase (change_of p row) ≡ true → AnswersAll s (run_state s p) n
 answers_all s p row n o prompt was facts con calm off after b ep q t served task phase = by (connection_row s p row n o prompt was con calm off).facts
   where
@@ -129,10 +126,10 @@ answers_all s p row n o prompt was facts con calm off after b ep q t served task
     over v true u =
         let even = (out_step s p row n prompt was con calm off b here after).even u ep in
         let none = ltb-false (handshakes p).requests (run_count s p n) (sym (follows ∙ ap (λ (x : Bool). if x then nat_lt (handshakes p).requests (run_count s p n) else nat_lt (handshakes p).answers (run_count s p n)) u) ∙ v.follows) in
-        both_ways (handshakes p).answers (run_count s p n) counts.within (subst (λ (x : ℕ). run_count s p n ≤ x) even none)
+        le_antisymm counts.within (subst (λ (x : ℕ). run_count s p n ≤ x) even none)
     over v false u =
         let none = ltb-false (handshakes p).answers (run_count s p n) (sym (follows ∙ ap (λ (x : Bool). if x then nat_lt (handshakes p).requests (run_count s p n) else nat_lt (handshakes p).answers (run_count s p n)) u) ∙ v.follows) in
-        both_ways (handshakes p).answers (run_count s p n) counts.within none
+        le_antisymm counts.within none
 
     by : RowFacts s p row n → k.handshakes.answers ≡ run_length (policy_of (target_def_of s n.target)) t
     by (stays g) =

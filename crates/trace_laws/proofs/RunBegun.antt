@@ -119,7 +119,7 @@ entry_array s k n q w served writes is fit more entry before same = by entry
 
 -- ---- the run
 
-no_more : (m : ℕ) (b : Bool) → b ≡ false → m + one_if b ≡ m
+pub no_more : (m : ℕ) (b : Bool) → b ≡ false → m + one_if b ≡ m
 no_more m b e = ap (λ (x : Bool). m + one_if x) e ∙ none m
   where
     none : (m : ℕ) → m + 0 ≡ m

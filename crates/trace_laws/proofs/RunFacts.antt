@@ -54,24 +54,25 @@ use Rattle.bus_due.proofs.Plains.{run_state_plain}
 use Rattle.bus_books.specs.Rows.{IsRowIn}
 use Rattle.bus_laws.proofs.Apart.{change_plain}
 use Rattle.bus_laws.proofs.FromReset.{off_at}
-use Rattle.trace_laws.specs.DataPointers.{policy_by, run_policy, run_start, run_step, PointersIf, PointersOf, ServedPointers, unnamed, named, RefusesLater, IsServedAnew}
+use Rattle.trace_laws.specs.DataPointers.{policy_by, run_policy, run_start, run_step, PointersIf, PointersOf, ServedPointers, unnamed, named, IsServedAnew}
 use Rattle.trace_laws.specs.Offers.{OfferFacts}
 use Rattle.trace_laws.specs.RunFacts.{IsWriter, RunsBy, RunFacts}
 use Rattle.trace_laws.proofs.ConnectionRows.{connection_row, stage_of_connection}
 use Rattle.trace_laws.proofs.Crossings.{RowFacts, stays, ends_here}
-use Rattle.trace_laws.proofs.Impossible.{none_some}
+use Rattle.trace_laws.proofs.Impossible.{none_some, some_none}
 use Rattle.trace_laws.proofs.Joint.{Stood, NextStood, link_phase}
 use Rattle.trace_laws.proofs.Offers.{refuses_later}
 use Rattle.trace_laws.proofs.Plans.{is_directed, writes_of, writes_there}
 use Rattle.trace_laws.proofs.PointerLeavings.{MoreRuns}
 use Rattle.trace_laws.proofs.PointerEnds.{rst_over}
-use Rattle.trace_laws.proofs.PointerRows.{out_lines, read_lines}
+use Rattle.trace_laws.proofs.PointerRows.{out_lines}
 use Rattle.trace_laws.proofs.PointerTurns.{TurnsBy}
 use Rattle.trace_laws.proofs.RunFits.{FitsRuns, fits_runs}
 use Rattle.trace_laws.proofs.RunParts.{RunsFit, start_is, more_cut, more_runs}
 use Rattle.trace_laws.proofs.RunRows.{runs_first, runs_row, served_id}
 use Rattle.trace_laws.proofs.Tests.{zero_times}
-use Rattle.bus_base.proofs.Tests.{eq_self, wrong, wrong'}
+use Rattle.trace_laws.proofs.PhaseLines.{data_in_lines, is_data_phase}
+use Rattle.bus_base.proofs.Tests.{eq_self, wrong'}
 use Rattle.bus_books.specs.Accounts.{policy_for}
 
 -- ---- before any row
@@ -80,9 +81,6 @@ pub runs_start : (s : ScenarioValue) → RunFacts s []
 runs_start s = runs_first IsWriter s
 
 -- ---- a command arrives
-
-none_of : {A B : Type 0} (x : A) → (let o : Option A = Some x in o) ≡ None → B
-none_of x e = absurd cc
 
 -- It runs at once only where its target never disconnects.
 at_once_never : (policy : Policy) (senses : Bool) (room : Option Room) → arrival_by policy senses room ≡ arrivals.AtOnce → is_never policy ≡ true
@@ -119,7 +117,7 @@ write_no_sense (Ok (commands.Write10 lba count)) e = refl
 
 pub no_room : (a : Array) (o : Option UnitState) → room_of a o ≡ None → size_of o ≡ 0
 no_room a None e = refl
-no_room a (Some u) e = none_of (record { full = not (nat_lt (Rattle.disk_array.specs.Steps.process_count u) u.depth); idle = Rattle.bus_due.specs.Tasks.is_idle_unit a u }) e
+no_room a (Some u) e = some_none (record { full = not (nat_lt (Rattle.disk_array.specs.Steps.process_count u) u.depth); idle = Rattle.bus_due.specs.Tasks.is_idle_unit a u }) e
 
 pub none_in_all : (policy : Policy) (t : Task) (blocks : ℕ) → RunsFit policy t → t.blocks ≡ Some blocks → t.size ≡ 0 → runs_in_all policy t ≡ 0
 none_in_all policy t blocks f is z = go (t.moved == 0) refl
@@ -355,7 +353,7 @@ kind_next kind s p row o prompt was nx offers asked facts =
 pub writes_none_in : {A : Type 0} (s : ScenarioValue) (p : List Row) (n : Connection) (q : Process) → Stood s p → connection p ≡ Some n → (bus p).rst ≡ false → (run_state s p).exchange.begun ≡ true → process_served s (run_state s p) ≡ Some q → is_writing q ≡ true → phase_of (bus_of (run_state s p)) ≡ phases.DataIn → A
 writes_none_in s p n q was con calm b served w phase =
     let k = run_state s p in
-    let lines = read_lines (bus_of k) phase in
+    let lines = data_in_lines (bus_of k) phase in
     let on : is_data (bus_of k) ≡ true = λ i. not (lines.0 i) && not (lines.1 i) in
     wrong' (sym (λ i. not (w i)) ∙ sym (λ i. is_directed (lines.2 i) (writes_of (served i))) ∙ (was.planned n con calm).serves b on)
 
@@ -385,11 +383,6 @@ runs_next s p row o prompt was nx offers asked facts =
     c = change_plain s row p was.standing.devices lt
 
 -- ---- what is asked of a row of a connection
-
-abbrev pub is_data_phase : Phase → Bool
-is_data_phase phases.DataIn = true
-is_data_phase phases.DataOut = true
-is_data_phase _ = false
 
 -- In a data phase the data pointer of the process that is served stands so many bytes after the beginning of its run.
 pub active_is : (s : ScenarioValue) (k : RunState) (q : Process) (t : Task) (count : ℕ) → FitsRuns s k q (task_here s k q) → process_served s k ≡ Some q → task_of s k ≡ Some t → {phase : Phase} → phase_of (bus_of k) ≡ phase → is_data_phase phase ≡ true → k.exchange.begun ≡ true

@@ -16,7 +16,6 @@ use Rattle.scenario.specs.Value.{ScenarioValue}
 use Rattle.bus_reactions.specs.Reactions.{due_at}
 use Rattle.bus_laws.specs.Ends.{EndLines, initiator_side, target_side, connected_bus, Linked}
 use Rattle.bus_laws.specs.Rows.{row_of_lines, row_of_fault}
-use Rattle.bus_laws.proofs.Dues.{none_some}
 use Rattle.bus_laws.proofs.Rows.{fault_change}
 use Rattle.bus_rules.specs.Order.{is_of_device}
 use Rattle.link_laws.specs.Phases.{ends, Settling}
@@ -31,6 +30,7 @@ use Rattle.trace_laws.proofs.Kept.{turn}
 use Rattle.trace_laws.proofs.LinkRows.{row_at}
 use Rattle.trace_laws.proofs.RunSteps.{OutStep, by_initiator_row, by_target_row, struck_row, left_row}
 use Rattle.std.proofs.lemmas.Bool.{ltb-true}
+use Rattle.std.proofs.lemmas.Option.{none-some}
 use Rattle.bus_base.proofs.Tests.{wrong', implication_parts}
 
 -- With it by pulses all requests are answered as the phase is left.
@@ -95,7 +95,7 @@ target_step s p row n true ack atn x lat h con same e =
 target_step s p row n false ack atn x lat h con same e = follows (nat_lt (handshakes p).requests (run_count s p n)) refl (sym (pulsed_target_out s p n false ack atn x lat h.offset h.facts.asked) ∙ e)
   where
     left : (q : Bool) → (not (length (handshakes p).waiting == 0) || ack) ≡ q → (if q then None else due_at (leaving_time p false lat) (offering_with s p n true (ends false ack atn x false false false false 0)).to) ≡ Some (due_of row) → PulseStep s p n (change_of p row)
-    left true z e = absurd (none_some (due_of row) e)
+    left true z e = absurd (none-some (due_of row) e)
     left false z e = at_rest ack (implication_parts (length (handshakes p).waiting == 0) ack z).1 h e
       where
         at_rest : (ack : Bool) → ack ≡ false → Pulsing s p n false false ack atn x 0 → due_at (leaving_time p false lat) (offering_with s p n true (ends false ack atn x false false false false 0)).to ≡ Some (due_of row) → PulseStep s p n (change_of p row)
@@ -108,7 +108,7 @@ target_step s p row n false ack atn x lat h con same e = follows (nat_lt (handsh
             }
 
     rooms : (q : Bool) → nat_lt (handshakes p).requests (run_count s p n) ≡ true → (if q then due_at (pulse_time p false lat) (target_side (ends false ack atn x false false false true 0)) else None) ≡ Some (due_of row) → PulseStep s p n (change_of p row)
-    rooms false f e = absurd (none_some (due_of row) e)
+    rooms false f e = absurd (none-some (due_of row) e)
     rooms true f e =
         subst (λ (w : Row). PulseStep s p n (change_of p w)) (sym (row_at row n.target (pulse_time p false lat) (target_side (ends false ack atn x false false false true 0)) same e))
         (target_row s p row.time n (ends false ack atn x false false false false 0) true 0 h.linked
@@ -148,7 +148,7 @@ initiator_step s p row n req false atn x lat h same e = go (length (handshakes p
     waits false some e = driven given (byte_driven_time p n lat) e
 
     free : (q : Bool) → (if q then None else due_at (release_time p n lat) (initiator_side (ends false false atn 0 false false false req 0))) ≡ Some (due_of row) → PulseStep s p n (change_of p row)
-    free true e = absurd (none_some (due_of row) e)
+    free true e = absurd (none-some (due_of row) e)
     free false e = driven 0 (release_time p n lat) e
 
     go : (q : Bool) → (length (handshakes p).waiting == 0) ≡ q → (if not q then (if x == given then due_at (max (answer_time s p n) (byte_driven_time p n lat + (times_here p).set_up) + lat) (initiator_side (ends false true atn x false false false req 0)) else due_at (byte_driven_time p n lat) (initiator_side (ends false false atn given false false false req 0))) else if x == 0 then None else due_at (release_time p n lat) (initiator_side (ends false false atn 0 false false false req 0))) ≡ Some (due_of row) → PulseStep s p n (change_of p row)

@@ -1,7 +1,7 @@
 -- A process of one kind that has no reply has a data run left, or has made none, with each row of a prompt trace; so those that write.
 use Rattle.std.proofs.Common.{ℕ, ◌≡◌, ◌⊎◌, inl, inr, ◌<◌, ◌+◌, Bool, true, false, ◌&&◌, ◌==◌, ◌∙◌, List, [], ◌∷◌, Option, Some, None, refl, sym, ap, subst, arith}
 use Rattle.std.specs.Prelude.{if◌then◌else◌, is_some, nat_lt}
-use Rattle.std.proofs.lemmas.Option.{same_Some}
+use Rattle.std.proofs.lemmas.Option.{cond_some, same_Some}
 use Rattle.bus_base.specs.declared.Event.{Event}
 use Rattle.bus_base.specs.declared.ProcId.{ProcId}
 use Rattle.bus_trace.specs.LineSet.{LineSet}
@@ -305,10 +305,6 @@ no_data : (phase : Phase) → is_in_phase phase ≡ true → (phase ≡ phases.D
 no_data phase e (inl f) = wrong' (sym (ap is_in_phase f) ∙ e)
 no_data phase e (inr f) = wrong' (sym (ap is_in_phase f) ∙ e)
 
-same_if : (m n : Connection) (b : Bool) → (if b then Some m else None) ≡ Some n → m ≡ n
-same_if m n true e = same_Some m n e
-same_if m n false e = none_some n e
-
 cut : (kind : Process → Type 0) (s : ScenarioValue) (p : List Row) (row : Row) (q : Process) → LeftRow kind s p row q → (bus (row ∷ p)).rst ≡ true → Left s p row q
 cut kind s p row q h on = go k.story.bus_state.connection refl d.next refl (changes_phase d.change) refl
   where
@@ -331,7 +327,7 @@ cut kind s p row q h on = go k.story.bus_state.connection refl d.next refl (chan
     said m e n f ep =
         let con : connection p ≡ Some m = sym pl.connection ∙ e in
         let after : connection (row ∷ p) ≡ Some n = sym next ∙ f in
-        let same : m ≡ n = same_if m n (bus (row ∷ p)).bsy (sym (λ i. connection_after (con i) (call p) (change_of p row) row) ∙ after) in
+        let same : m ≡ n = (cond_some (bus (row ∷ p)).bsy m n (sym (λ i. connection_after (con i) (call p) (change_of p row) row) ∙ after)).1 in
         message_in_is (bus_of k) (ap is_message_in pl.bus ∙ cut_phase s p row m h.obeys h.prompt h.was h.holds con (after ∙ ap (λ (x : Connection). Some x) (sym same)) (inr on) (ap changes_phase (sym change) ∙ ep))
 
     go : (x : Option Connection) → k.story.bus_state.connection ≡ x → (y : Option Connection) → d.next ≡ y → (z : Bool) → changes_phase d.change ≡ z → Left s p row q

@@ -74,8 +74,9 @@ use Rattle.trace_laws.proofs.TellFacts.{left_tells}
 use Rattle.trace_laws.proofs.TellTraces.{tells_row}
 use Rattle.trace_laws.proofs.WholeRuns.{whole_run}
 use Rattle.trace_laws.proofs.WriteNext.{write_row}
-use Rattle.trace_laws.proofs.WriteRows.{in_lines, is_in}
+use Rattle.trace_laws.proofs.WriteRows.{in_lines}
 use Rattle.trace_laws.proofs.Written.{left_by}
+use Rattle.trace_laws.proofs.PhaseLines.{is_data_in}
 use Rattle.std.proofs.lemmas.Bool.{ltb-false}
 use Rattle.bus_base.proofs.Tests.{wrong, wrong', zero_of}
 use Rattle.bus_books.specs.Accounts.{policy_for}
@@ -266,7 +267,7 @@ sent_all s p row n q h = by (runs_from (serving_of s k n.target) (bus_of k).atn 
     -- it does not read
     none_read : phase_of (bus_of k) ≡ phases.DataIn → HasSentAll s k (writers s p) q
     none_read phase =
-        let lines : (is_data (bus_of k) ≡ true) × ((bus_of k).io ≡ true) = in_lines (bus_of k) (ap is_in phase) in
+        let lines : (is_data (bus_of k) ≡ true) × ((bus_of k).io ≡ true) = in_lines (bus_of k) (ap is_data_in phase) in
         wrong' (sym (λ i. not (h.writes i)) ∙ sym (λ i. is_directed (lines.1 i) (writes_of (h.served i))) ∙ (h.was.planned n h.stands h.calm).serves r.begun lines.0)
 
     -- the last run is done

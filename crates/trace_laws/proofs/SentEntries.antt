@@ -1,8 +1,6 @@
 -- DATA IN is entered for a process that nothing has struck: after MESSAGE IN or COMMAND (6.1.8, 6.6.10).
-use Rattle.std.proofs.Common.{ℕ, ◌≡◌, Bool, true, false, not, ◌&&◌, ◌==◌, ◌∙◌, List, Option, Some, None, refl, sym, ap}
+use Rattle.std.proofs.Common.{ℕ, ◌≡◌, Bool, true, false, ◌==◌, ◌∙◌, List, Option, Some, None, refl, sym, ap}
 use Rattle.std.specs.Prelude.{if◌then◌else◌, is_some, nat_lt}
-use Rattle.bus_trace.specs.LineSet.{LineSet}
-use Rattle.bus_trace.specs.Phases.{is_message_in, is_message_out}
 use Rattle.bus_trace.specs.declared.agreements.Agreement.{Agreement}
 use Rattle.msg_grammar.specs.declared.message.MsgIn.{MsgIn}
 use Rattle.scenario.specs.declared.value.TargetDef.{TargetDef}
@@ -15,34 +13,11 @@ use Rattle.bus_dialogue.specs.declared.exchange.Next.TheVariants as nexts
 use Rattle.bus_dialogue.specs.declared.exchange.Phase.{Phase}
 use Rattle.bus_dialogue.specs.declared.exchange.Phase.TheVariants as phases
 use Rattle.bus_dialogue.specs.declared.exchange.Task.{Task}
-use Rattle.bus_dialogue.specs.NextPhase.{Serving, after_offer, bus_free, message_out_leaving, message_repetition, phase_entry, phase_leaving, phase_of, pointer_restoration, recovery, recovery_limit, request_or_command, with_task}
+use Rattle.bus_dialogue.specs.NextPhase.{Serving, after_offer, bus_free, message_out_leaving, message_repetition, phase_entry, phase_leaving, pointer_restoration, recovery, recovery_limit, request_or_command, with_task}
 use Rattle.bus_dialogue.specs.Words.{is_naming, request_by}
 use Rattle.trace_laws.specs.Failures.{FailsBy, IsClear}
 use Rattle.trace_laws.proofs.FailureTurns.{is_sending, sends_clear}
 use Rattle.bus_base.proofs.Tests.{wrong'}
-
--- ---- its lines
-
-pub in_lines : (b : LineSet) → phase_of b ≡ phases.DataIn → (b.msg ≡ false) × (b.cd ≡ false) × (b.io ≡ true)
-in_lines b e = go b.msg b.cd b.io (ap is_in e)
-  where
-    is_in : Phase → Bool
-    is_in phases.DataIn = true
-    is_in _ = false
-
-    go : (m d i : Bool) → is_in (if m then (if i then phases.MessageIn else phases.MessageOut) else if d then (if i then phases.Status else phases.Command) else if i then phases.DataIn else phases.DataOut) ≡ true → (m ≡ false) × (d ≡ false) × (i ≡ true)
-    go true d true z = wrong' z
-    go true d false z = wrong' z
-    go false true true z = wrong' z
-    go false true false z = wrong' z
-    go false false true z = (refl, refl, refl)
-    go false false false z = wrong' z
-
-pub no_message_in : (b : LineSet) → b.msg ≡ false → is_message_in b ≡ false
-no_message_in b e = λ i. e i && b.cd && b.io
-
-pub no_message_out : (b : LineSet) → b.msg ≡ false → is_message_out b ≡ false
-no_message_out b e = λ i. e i && b.cd && not b.io
 
 -- ---- MESSAGE OUT is not left for it
 

@@ -55,12 +55,13 @@ use Rattle.trace_laws.proofs.Impossible.{none_some}
 use Rattle.trace_laws.proofs.Joint.{NextStood, Stood}
 use Rattle.trace_laws.proofs.LinkRows.{LinkRow}
 use Rattle.trace_laws.proofs.RunCountFacts.{handshakes_begin, unasked_low, or_left}
-use Rattle.trace_laws.proofs.SentEntries.{enters_clear, in_lines, no_message_in, no_message_out}
+use Rattle.trace_laws.proofs.SentEntries.{enters_clear}
 use Rattle.trace_laws.proofs.SentStays.{DataRow, drives_on, strikes_on}
 use Rattle.trace_laws.proofs.UndoneAnswers.{same_phase_of}
 use Rattle.trace_laws.proofs.UndoneFacts.{undo_asks}
 use Rattle.trace_laws.proofs.WaitingRequests.{none_struck}
 use Rattle.trace_laws.proofs.WaitingRows.{in_row}
+use Rattle.trace_laws.proofs.PhaseLines.{data_in_lines, not_message_out, not_message_in}
 use Rattle.bus_base.proofs.Tests.{wrong, wrong'}
 
 -- ---- in DATA IN
@@ -68,7 +69,7 @@ use Rattle.bus_base.proofs.Tests.{wrong, wrong'}
 -- No request of the target for a synchronous data transfer is open.
 no_offer : (s : ScenarioValue) (p : List Row) (n : Connection) → IsPlain s p (run_state s p) → OfferFacts s p → connection p ≡ Some n → (bus p).rst ≡ false → begun p ≡ true → phase_of (bus p) ≡ phases.DataIn → is_of_other (dialogue p).heard.now.offer sides.Initiator ≡ false
 no_offer s p n pl offers con calm b here =
-    ap (λ (o : Option End). is_of_other o sides.Initiator) (ap offer_now (sym pl.dialogue) ∙ (offers n con calm).settled (pl.begun ∙ b) (ap (λ (l : LineSet). l.msg) pl.bus ∙ (in_lines (bus p) here).0))
+    ap (λ (o : Option End). is_of_other o sides.Initiator) (ap offer_now (sym pl.dialogue) ∙ (offers n con calm).settled (pl.begun ∙ b) (ap (λ (l : LineSet). l.msg) pl.bus ∙ (data_in_lines (bus p) here).0))
 
 -- The initiator knows the process.
 item_known : (s : ScenarioValue) (p : List Row) (n : Connection) (w : Knows s (run_state s p) n) → TellFacts s p → connection p ≡ Some n → (bus p).rst ≡ false → phase_of (bus_of (run_state s p)) ≡ phases.DataIn → (id : ProcId) → (run_state s p).served ≡ Some (process id) → w.link.item ≡ Some (process id)
@@ -78,12 +79,12 @@ item_known s p n w told con calm here id served = by w.item_is
     k = run_state s p
 
     msg : (bus_of k).msg ≡ false
-    msg = (in_lines (bus_of k) here).0
+    msg = (data_in_lines (bus_of k) here).0
 
     unnamed : {A : Type 0} → w.link.item ≡ None → Named s k n → A
     unnamed e (known l el f g) = wrong' (sym (ap (λ (o : Option Item). is_some o) e) ∙ ap (λ (x : Link). is_some x.item) (same_Some w.link l (sym w.link_is ∙ el)) ∙ f)
-    unnamed e (said q l y on names whole) = wrong' (sym (no_message_in (bus_of k) msg) ∙ on)
-    unnamed e (refused q l y on cause names) = wrong' (sym (no_message_out (bus_of k) msg) ∙ on)
+    unnamed e (said q l y on names whole) = wrong' (sym (not_message_in (bus_of k) msg) ∙ on)
+    unnamed e (refused q l y on cause names) = wrong' (sym (not_message_out (bus_of k) msg) ∙ on)
 
     by : (w.link.item ≡ k.served) ⊎ ((n.reselected ≡ true) × (w.link.item ≡ None)) → w.link.item ≡ Some (process id)
     by (inl e) = e ∙ served
@@ -132,7 +133,7 @@ sent_asks s p row o prompt was told facts n id w served here =
     ended (inr z) = inr (sym next_is ∙ z)
 
     over : (awaits (bus p) ≡ false) × (pulses_here p ≡ true → (handshakes p).waiting ≡ [])
-    over = (in_row s p row n (in_lines (bus p) phase).2 (no_offer s p n pl told.offers w.stands w.calm started phase) r.link).over (ended w.leaves)
+    over = (in_row s p row n (data_in_lines (bus p) phase).2 (no_offer s p n pl told.offers w.stands w.calm started phase) r.link).over (ended w.leaves)
 
     none : (q : Bool) → pulses_here p ≡ q → (handshakes p).waiting ≡ []
     none true z = over.1 z
@@ -176,7 +177,7 @@ sent_next s p row o prompt was next told fails crossed complaints facts n after 
     ql = run_state_plain s q next.stood.standing.devices
 
     lines : ((bus q).msg ≡ false) × ((bus q).cd ≡ false) × ((bus q).io ≡ true)
-    lines = in_lines (bus q) here
+    lines = data_in_lines (bus q) here
 
     -- A connection does not begin in DATA IN.
     none_first : BeginsConnection q n → SentTalk s q
@@ -224,7 +225,7 @@ sent_next s p row o prompt was next told fails crossed complaints facts n after 
           undoes = undo_asks s p row was next told.undo;
           crossed = crossed n con off;
           moves = link;
-          step = (in_row s p row n (in_lines (bus p) phase).2 (no_offer s p n pl told.offers con off started phase) link).step after;
+          step = (in_row s p row n (data_in_lines (bus p) phase).2 (no_offer s p n pl told.offers con off started phase) link).step after;
         }
 
         on : (x : Bool) → is_fault row.kind ≡ x → SentTalk s q
@@ -269,7 +270,7 @@ sent_next s p row o prompt was next told fails crossed complaints facts n after 
         v = serving_of s k n.target
 
         clear : (id : ProcId) → k.served ≡ Some (process id) → (x : Bool) → begun p ≡ x → IsClear (carried_here k id)
-        clear id served false z = wrong' (sym (no_message_out (bus q) lines.0) ∙ ap (λ (x : Change). is_message_out x.after) (sym change) ∙ g.lines.first (ap changes_phase change ∙ ep) z)
+        clear id served false z = wrong' (sym (not_message_out (bus q) lines.0) ∙ ap (λ (x : Change). is_message_out x.after) (sym change) ∙ g.lines.first (ap changes_phase change ∙ ep) z)
         clear id served true z =
             enters_clear w.link (carried_here k id) v k.exchange.speech.words k.handshakes.requests (bus_of k).atn (phase_of (bus_of k))
             (g.goes.leaves (ap changes_phase (g.goes.row_is.change_is ∙ g.change_is) ∙ ep)).some

@@ -21,7 +21,7 @@ use Rattle.scenario.specs.declared.value.CmdDef.{CmdDef}
 use Rattle.scenario.specs.Value.{ScenarioValue}
 use Rattle.disk_array.specs.Processes.{same_id}
 use Rattle.bus_story.specs.BusState.{RowReading}
-use Rattle.bus_story.specs.CarriedBytes.{CarriedBytes, carried_at, with_carried, carried_of, with_restored_pointers, carried_after_byte, carried_after_fault}
+use Rattle.bus_story.specs.CarriedBytes.{CarriedBytes, carried_at, with_carried, carried_of, with_restored_pointers, carried_after_byte}
 use Rattle.bus_story.specs.Items.{Item, process, abort, same_item, has_item, command_item, sense_item, Sent, is_open, tag_number_if}
 use Rattle.bus_story.specs.Links.{Link, link_of, last_out, last_in, is_of_nexus, is_open_sense, same_number, named_item_from, link_after_name}
 use Rattle.bus_story.specs.HistoryEvents.{carried_if}
@@ -29,7 +29,7 @@ use Rattle.bus_story.specs.Story.{Story, Ending, by_abort, by_reset, is_aborted,
 use Rattle.bus_story.specs.TraceHistory.{aim_of, is_arbitration_entry, story_with_aim, story_without_answer, story_with_try, story_after_calling_by, story_after_calling, story_on_free_bus, story_with_restored, story_with_sent, story_after_connection, story_with_carried, is_parity_error, story_after_out, carried_after_message_if, story_after_message, story_after_in, carried_after_byte_if, story_after_byte, carried_after_fault_if, story_after_fault, story_in_connection, story_on_bus}
 use Rattle.bus_books.proofs.CarriedRows.{or_link}
 use Rattle.bus_books.proofs.Lookups.{self_id, id_is, carried_id}
-use Rattle.trace_laws.proofs.PointerStorySteps.{message_id}
+use Rattle.trace_laws.proofs.PointerStorySteps.{fault_id, message_id}
 use Rattle.trace_laws.proofs.RowEvents.{IsOf, AllOf, carried_of_item}
 use Rattle.trace_laws.specs.ItemFacts.{LinkSent, LinksSent, SentOnly}
 use Rattle.trace_laws.proofs.Tests.{second_false}
@@ -340,18 +340,6 @@ byte_only b l d el h = go d.change.before.msg
     go true = h
     go false = put_if b (carried_after_byte_if (carried_if b l.item) d) (there (carried_if b l.item) (λ x e. item_there b l.item (link_here b l el h).item x e)) h
 
-fault_id : (c : CarriedBytes) (w : Change) → (carried_after_fault c w.before).id ≡ c.id
-fault_id c w = go w.before.msg w.before.cd
-  where
-    go : (m x : Bool) → (carried_after_fault c (record w.before { msg = m; cd = x })).id ≡ c.id
-    go true x = refl
-    go false true = io w.before.io
-      where
-        io : (i : Bool) → (carried_after_fault c (record w.before { msg = false; cd = true; io = i })).id ≡ c.id
-        io true = refl
-        io false = refl
-    go false false = refl
-
 fault_only : (b : Story) (l : Link) (kind : Kind) → b.link ≡ Some l → SentOnly b → SentOnly (story_after_fault b l kind)
 fault_only b l (Drives lines) el h = h
 fault_only b l (Fault bit) el h = put_if b (carried_after_fault_if (carried_if b l.item) b.bus_state.crossed) (there (carried_if b l.item) b.bus_state.crossed (λ x e. item_there b l.item (link_here b l el h).item x e)) h
@@ -359,7 +347,7 @@ fault_only b l (Fault bit) el h = put_if b (carried_after_fault_if (carried_if b
     there : (y : Option CarriedBytes) (w : Option Change) → ((x : CarriedBytes) → y ≡ Some x → has_item b.sent.sent (process x.id) ≡ true) → (x : CarriedBytes) → carried_after_fault_if y w ≡ Some x → has_item b.sent.sent (process x.id) ≡ true
     there None w f x e = f x e
     there (Some y) None f x e = f x e
-    there (Some y) (Some w) f x e = ap (λ (i : ProcId). has_item b.sent.sent (process i)) (sym (ap (λ (z : CarriedBytes). z.id) (ap (or_bytes x) e)) ∙ fault_id y w) ∙ f y refl
+    there (Some y) (Some w) f x e = ap (λ (i : ProcId). has_item b.sent.sent (process i)) (sym (ap (λ (z : CarriedBytes). z.id) (ap (or_bytes x) e)) ∙ fault_id y w.before) ∙ f y refl
 
 connected_only : (s : ScenarioValue) (b : Story) (l : Option Link) (d : RowReading) (row : Row) → b.link ≡ l → SentOnly b → SentOnly (story_in_connection s b l d row)
 connected_only s b None d row el h = h

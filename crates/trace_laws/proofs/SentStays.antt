@@ -38,8 +38,8 @@ use Rattle.trace_laws.proofs.FailureCrossings.{in_none, out_none, quiet_same}
 use Rattle.trace_laws.proofs.FailureFaults.{Struck, fault_crossed, fault_fails, fault_receives}
 use Rattle.trace_laws.proofs.LinkRows.{LinkRow}
 use Rattle.trace_laws.proofs.RunCountRows.{data_pulses_stay}
-use Rattle.trace_laws.proofs.SentEntries.{in_lines, no_message_in, no_message_out}
 use Rattle.trace_laws.proofs.WaitingRequests.{InStep, asked_waits, first_struck, hands_after, last_struck, struck_on, waits_on, waits_struck}
+use Rattle.trace_laws.proofs.PhaseLines.{data_in_lines, not_message_out, not_message_in}
 use Rattle.bus_base.proofs.Tests.{wrong, wrong', or_true}
 
 -- A row of DATA IN in which the phase stays; the initiator knows the process.
@@ -63,7 +63,7 @@ served_same : (s : ScenarioValue) (p : List Row) (row : Row) (n : Connection) �
 served_same s p row n w = (in_connection s (run_state s p) row n (change_of p row) false (is_some (receiver_in n (change_of p row))) (is_fault row.kind) w.row_is w.stays refl refl).served_is
 
 pulses_same : (s : ScenarioValue) (p : List Row) (row : Row) (n : Connection) → DataRow s p row n → pulses_here (row ∷ p) ≡ pulses_here p
-pulses_same s p row n w = let lines = in_lines (bus p) w.phase in data_pulses_stay s p row n (change_of p row) w.devices w.below w.row_is w.stays lines.0 lines.1
+pulses_same s p row n w = let lines = data_in_lines (bus p) w.phase in data_pulses_stay s p row n (change_of p row) w.devices w.below w.row_is w.stays lines.0 lines.1
 
 -- ---- lines change
 
@@ -77,14 +77,14 @@ same_failure s p row n w ef id served = by w.row_is.kind
     c = change_of p row
 
     msg : (bus p).msg ≡ false
-    msg = (in_lines (bus p) w.phase).0
+    msg = (data_in_lines (bus p) w.phase).0
 
     by : RowKind row n c → SameFail (carried_here k id) (carried_here (run_state s (row ∷ p)) id)
     by (still e ep er) = still_fails s k row n c w.link w.row_is (ap (λ (z : Option ℕ). is_some z) er) w.link_is e id
     by (fault_strikes e ep er) = wrong (sym e ∙ ef)
     by (crosses dev e ep er) =
         quiet_same s k row n c w.link id (record { row_is = w.row_is; link_is = w.link_is; item_is = inl (w.item_is id served); undoes = w.undoes }) (ap (λ (z : Option ℕ). is_some z) er)
-        (out_none k c (no_message_out (bus p) msg)) (in_none k c (no_message_in (bus p) msg))
+        (out_none k c (not_message_out (bus p) msg)) (in_none k c (not_message_in (bus p) msg))
     by (turns e ep er) = wrong (sym ep ∙ w.stays)
 
 pub drives_on : (s : ScenarioValue) (p : List Row) (row : Row) (n : Connection) → DataRow s p row n → is_fault row.kind ≡ false → SentTalk s p → SentTalk s (row ∷ p)
@@ -102,7 +102,7 @@ drives_on s p row n w ef t = record {
     c = change_of p row
 
     io : (bus p).io ≡ true
-    io = (in_lines (bus p) w.phase).2
+    io = (data_in_lines (bus p) w.phase).2
 
     hand : handshakes (row ∷ p) ≡ hands_after c row.time (handshakes p)
     hand = (λ i. handshakes_after (ef i) (w.after i) c row.time (handshakes p)) ∙ ap (λ (q : Bool). if q then no_handshakes else hands_after c row.time (handshakes p)) w.stays
@@ -150,7 +150,7 @@ strikes_on s p row n w ef t = record {
     some = t.received (fault_receives s p row n ef w.moves)
 
     hand : handshakes (row ∷ p) ≡ strikes (handshakes p)
-    hand = ap (λ (q : Bool). handshakes_after q (connection (row ∷ p)) c row.time (handshakes p)) ef ∙ ap (λ (q : Bool). strikes_if q (handshakes p)) (in_lines (bus p) w.phase).2
+    hand = ap (λ (q : Bool). handshakes_after q (connection (row ∷ p)) c row.time (handshakes p)) ef ∙ ap (λ (q : Bool). strikes_if q (handshakes p)) (data_in_lines (bus p) w.phase).2
 
     none : RowKind row n c → is_some (receiver_in n c) ≡ false
     none (still e ep er) = ap (λ (z : Option ℕ). is_some z) er

@@ -16,7 +16,7 @@ use Rattle.scenario.specs.Value.{ScenarioValue}
 use Rattle.disk_array.specs.ArrayHistory.{array_after}
 use Rattle.bus_story.specs.BusState.{RowReading}
 use Rattle.bus_story.specs.CarriedBytes.{CarriedBytes, carried_of, is_status_phase, is_whole_block}
-use Rattle.bus_story.specs.HistoryEvents.{abort_line_at, abort_line_events, bus_free_events, carried_if, connection_events, end_events, is_completion, is_refuse, item_loss_events, link_events, phase_events, queue_event, queue_events, row_events_by, status_event}
+use Rattle.bus_story.specs.HistoryEvents.{abort_line_at, abort_line_events, bus_free_events, carried_if, connection_events, end_events, is_refuse, item_loss_events, link_events, phase_events, queue_event, queue_events, row_events_by, status_event}
 use Rattle.bus_story.specs.Items.{Item, process, abort}
 use Rattle.bus_story.specs.Links.{Link, LastMessage, plain, complete, disconnect, abortive}
 use Rattle.bus_story.specs.Story.{Story}

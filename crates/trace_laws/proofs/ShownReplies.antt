@@ -115,9 +115,6 @@ Keeps b a = SameAnswers b.carried a.carried
 keeps : (b a : Story) → a.carried ≡ b.carried → Keeps b a
 keeps b a e id = ap (λ (x : List CarriedBytes). is_marked (carried_of x id)) e
 
-restored : (c : CarriedBytes) → is_marked (with_restored_pointers c) ≡ is_marked c
-restored c = refl
-
 with_restored : (b : Story) (item : Option Item) → Keeps b (story_with_restored b item)
 with_restored b None = unchanged b.carried
 with_restored b (Some (process p)) = puts_answer b.carried (with_restored_pointers (carried_of b.carried p)) (ap (λ (x : ProcId). is_marked (carried_of b.carried x)) (sym (carried_id b.carried p)))

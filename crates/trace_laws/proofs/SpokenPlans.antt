@@ -46,7 +46,7 @@ use Rattle.bus_dialogue.specs.NextPhase.{Serving, phase_of, bus_free, phase_entr
 use Rattle.bus_dialogue.specs.Planning.{first_plan, plan_after, plan_in_phase, plan_in_message_out, plan_with_byte}
 use Rattle.bus_dialogue.specs.Wants.{Ready, ready_in, is_ready_before, first_ready}
 use Rattle.bus_dialogue.specs.Words.{target_answer, tag_named, reply_to, request_by, is_naming}
-use Rattle.bus_due.specs.Defs.{host_of, target_def_of}
+use Rattle.bus_due.specs.Defs.{host_of}
 use Rattle.bus_due.specs.Plain.{AreOfDevices}
 use Rattle.bus_due.specs.RunState.{RunState, array_of, bus_of}
 use Rattle.bus_due.specs.RunSteps.{run_state, run_state_after, exchange_after, leaving_of, may_negotiate, messages_if}

@@ -239,7 +239,7 @@ initiator_crosses : {A : Type 0} (s : ScenarioValue) (p : List Row) (t : ℕ) (n
 initiator_crosses s p t n e bsy ack atn x id reply h w = unrisen p _ n e (ends bsy ack atn x e.msg e.cd e.io e.req e.given) h (initiator_moves p n e bsy ack atn x t h).linked w.rose (no_rise e.req)
 
 -- No byte has odd parity.
-zero_even : (count_ones 0 % 2 == 1) ≡ false
+pub zero_even : (count_ones 0 % 2 == 1) ≡ false
 unfolding count_ones
 zero_even = refl
 

@@ -54,7 +54,7 @@ byte_next true true m p = refl
 byte_next true false m p = refl
 byte_next false last m p = refl
 
-no_completion : (l : Link) (c : Change) → is_message_in c.before ≡ false → is_completion l c ≡ false
+pub no_completion : (l : Link) (c : Change) → is_message_in c.before ≡ false → is_completion l c ≡ false
 no_completion l c e = (λ i. rises c.before.ack c.after.ack && e i && is_complete l.last && not c.after.atn) ∙ off (rises c.before.ack c.after.ack)
   where
     off : (q : Bool) → (q && false && is_complete l.last && not c.after.atn) ≡ false

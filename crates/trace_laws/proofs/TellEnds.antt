@@ -32,7 +32,7 @@ use Rattle.bus_dialogue.specs.declared.exchange.Said.{Said}
 use Rattle.bus_dialogue.specs.declared.exchange.Task.{Task}
 use Rattle.bus_dialogue.specs.Arrivals.{policy_of}
 use Rattle.bus_dialogue.specs.Events.{unit_or_0, after_opening_events, connection_end_events}
-use Rattle.bus_dialogue.specs.NextPhase.{Serving, phase_of, phase_leaving, bus_free, phase_entry, with_task, recovery, recovery_limit, pointer_restoration, request_or_command, after_offer, message_repetition, after_refusal, message_out_leaving, after_messages, after_arrival, after_run, command_leaving, data_out_leaving}
+use Rattle.bus_dialogue.specs.NextPhase.{Serving, phase_leaving, bus_free, phase_entry, with_task, recovery, recovery_limit, pointer_restoration, request_or_command, after_offer, message_repetition, after_refusal, message_out_leaving, after_messages, after_arrival, after_run, command_leaving, data_out_leaving}
 use Rattle.bus_dialogue.specs.Words.{request_by, is_naming, parity_error, detected_error, answer_bytes}
 use Rattle.bus_due.specs.Defs.{host_of}
 use Rattle.bus_due.specs.Faithful.{is_unit, is_kind, is_process_named, is_abort_named, is_item_named}

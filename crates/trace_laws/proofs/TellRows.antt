@@ -51,8 +51,7 @@ use Rattle.trace_laws.proofs.TellEnds.{goes_on, lost_told, naming_goes_on, none_
 use Rattle.trace_laws.proofs.TellEvents.{same_lists, self_events}
 use Rattle.trace_laws.proofs.TellTurns.{refused, turn_told}
 use Rattle.link_laws.specs.LinkStages.{LinkStage, when_selected, when_settling, when_turning, when_offering, when_shaking, when_pulsing}
-use Rattle.trace_laws.proofs.Tests.{or_second}
-use Rattle.bus_base.proofs.Tests.{wrong, or_true, or_false}
+use Rattle.bus_base.proofs.Tests.{wrong, or_true, or_false, or_other}
 
 -- ---- the task of a process
 
@@ -80,7 +79,7 @@ is_heard s k n u speaks b known over e =
     record {
       out = out;
       last = last;
-      named = λ c. or_second k.exchange.plan.struck (is_item_named s k.exchange.plan.said k.served) (out_unstruck s k n e over) (sym (ap (is_opening_named s k.exchange.plan k.served) c) ∙ opening_named s k n u speaks b out last);
+      named = λ c. or_other k.exchange.plan.struck (is_item_named s k.exchange.plan.said k.served) (out_unstruck s k n e over) (sym (ap (is_opening_named s k.exchange.plan k.served) c) ∙ opening_named s k n u speaks b out last);
     }
 
 -- ---- the initiator knows what is served, or no name was heard

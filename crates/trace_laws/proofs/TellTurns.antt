@@ -32,7 +32,7 @@ use Rattle.bus_dialogue.specs.declared.exchange.Plan.{Plan}
 use Rattle.bus_dialogue.specs.declared.exchange.Task.{Task}
 use Rattle.bus_dialogue.specs.Arrivals.{policy_of}
 use Rattle.bus_dialogue.specs.Events.{arrival_event, arrival_events, reply_events, newest_with, is_status_next, has_replied, turn_events}
-use Rattle.bus_dialogue.specs.NextPhase.{Serving, phase_of, phase_leaving, leaving_by, bus_free, phase_entry, with_task, recovery, recovery_limit, pointer_restoration, message_in_entry, request_or_command, after_offer, after_opening, message_repetition, after_refusal, message_out_leaving}
+use Rattle.bus_dialogue.specs.NextPhase.{Serving, phase_of, phase_leaving, leaving_by, bus_free, phase_entry, with_task, recovery, recovery_limit, pointer_restoration, request_or_command, after_offer, after_opening, message_repetition, after_refusal, message_out_leaving}
 use Rattle.bus_dialogue.specs.Words.{request_by, is_naming}
 use Rattle.bus_due.specs.Defs.{target_def_of}
 use Rattle.bus_due.specs.RunState.{RunState, bus_of, or_start, array_of, process_item, process_served, carried_here}

@@ -1,10 +1,9 @@
 -- Small tests of flags and numbers.
-use Rattle.std.proofs.Common.{ℕ, suc, ◌≡◌, ◌≤◌, ◌<◌, Bool, true, false, not, ◌&&◌, ◌||◌, ◌==◌, ◌*◌, Option, None, ◌⊎◌, inl, inr, refl, ap, arith}
-use Rattle.std.specs.Prelude.{if◌then◌else◌, nat_le}
+use Rattle.std.proofs.Common.{ℕ, suc, ◌≡◌, ◌≤◌, ◌<◌, ◌+◌, Bool, true, false, not, ◌&&◌, ◌||◌, ◌==◌, ◌*◌, ◌∙◌, Option, None, refl, sym, ap, arith}
+use Rattle.std.specs.Prelude.{if◌then◌else◌}
 use Rattle.std.proofs.lemmas.Bool.Decides.{nat_tests}
 use Rattle.bus_trace.specs.Changes.{falls, rises}
-use Rattle.std.proofs.lemmas.Bool.{leb-true}
-use Rattle.bus_base.proofs.Tests.{wrong, wrong', implication, suc_some}
+use Rattle.bus_base.proofs.Tests.{wrong, wrong'}
 
 -- ---- one flag
 
@@ -22,18 +21,10 @@ none_both false = refl
 
 -- ---- two flags
 
-pub or_second : (a b : Bool) → a ≡ false → (a || b) ≡ true → b ≡ true
-or_second true b e z = wrong e
-or_second false b e z = z
-
 pub or_first : (a b : Bool) → (a || b) ≡ true → b ≡ false → a ≡ true
 or_first true b z e = refl
 or_first false true z e = wrong e
 or_first false false z e = wrong' z
-
-pub or_of : (a b : Bool) → (a || b) ≡ true → (a ≡ true) ⊎ (b ≡ true)
-or_of true b e = inl refl
-or_of false b e = inr e
 
 pub second_false : (a b : Bool) → (a || b) ≡ false → b ≡ false
 second_false true b e = wrong e
@@ -42,6 +33,10 @@ second_false false b e = e
 pub not_first : (a b : Bool) → (not a && b) ≡ true → a ≡ false
 not_first true b e = wrong' e
 not_first false b e = refl
+
+pub not_unless : (a b : Bool) → (a ≡ true → b ≡ true) → b ≡ false → a ≡ false
+not_unless true b h e = wrong (sym (h refl) ∙ e)
+not_unless false b h e = refl
 
 pub falls_true : (a b : Bool) → b ≡ true → falls a b ≡ false
 falls_true true b e = ap not e
@@ -55,6 +50,9 @@ pub all_four : (a b c d : Bool) → a ≡ true → b ≡ true → c ≡ true →
 all_four a b c d ea eb ec ed = λ i. ea i && eb i && ec i && not (ed i)
 
 -- ---- numbers
+
+pub plus_one : (a b : ℕ) → a + suc b ≡ a + 1 + b
+plus_one a b = omega arith
 
 pub some_count : (n : ℕ) → (n == 0) ≡ false → 1 ≤ n
 some_count n e = grind (arith, nat_tests)

@@ -1,7 +1,6 @@
 -- RST: a row under it, or with which it rises, lets no byte cross; and as it falls no connection stands (6.2.2).
 use Rattle.std.proofs.Common.{inl, inr, ℕ, ◌≡◌, ◌<◌, ◌≤◌, ◌+◌, Bool, true, false, not, ◌&&◌, ◌||◌, ◌∙◌, List, [], ◌∷◌, Option, Some, None, refl, sym, ap, arith}
-use Rattle.std.specs.Prelude.{cond, if◌then◌else◌, nat_le}
-use Rattle.std.specs.List.{AllByRecursion}
+use Rattle.std.specs.Prelude.{if◌then◌else◌, nat_le}
 use Rattle.std.proofs.lemmas.Bool.{cases_eq, and_parts, leb-true}
 use Rattle.bus_trace.specs.LineSet.{LineSet, none, union}
 use Rattle.bus_trace.proofs.Sets.{same_set-eq}
@@ -18,13 +17,13 @@ use Rattle.bus_trace.specs.Trace.{bus, drives, driven_after, line_times}
 use Rattle.bus_rules.specs.declared.seen.Seen.{Seen}
 use Rattle.bus_rules.specs.Seen.{seen, seen_with}
 use Rattle.bus_rules.specs.Reset.{only_rst}
-use Rattle.bus_rules.specs.Rules.{keeps, first_broken, judged_rules, broken_rule}
+use Rattle.bus_rules.specs.Rules.{keeps, judged_rules, broken_rule}
 use Rattle.scenario.specs.Value.{ScenarioValue}
 use Rattle.bus_laws.specs.Stages.{UnderRst, IsUnderRst, quiet, holds, lingers}
 use Rattle.bus_laws.proofs.FromReset.{off_at}
 use Rattle.trace_laws.proofs.Tests.{none_both}
-use Rattle.bus_base.proofs.Tests.{wrong, wrong', or_true}
-use Rattle.bus_rules.proofs.First.{kept_step, all_kept}
+use Rattle.bus_base.proofs.Tests.{wrong, or_true, implied}
+use Rattle.bus_rules.proofs.First.{all_kept}
 
 -- ---- the rule of the reset condition
 
@@ -42,10 +41,6 @@ reset_rule p row e =
     let two = and_parts (implies ((bus p).rst || rises (drives p row.dev).rst (driven_after row.kind (drives p row.dev)).rst) (is_within (driven_after row.kind (drives p row.dev)) (union only_rst (drives p row.dev))) && implies (bus p).rst (nat_le row.time ((line_times p).rst + 800) || is_within (bus p) only_rst)) _ last in
     let one = and_parts (implies ((bus p).rst || rises (drives p row.dev).rst (driven_after row.kind (drives p row.dev)).rst) (is_within (driven_after row.kind (drives p row.dev)) (union only_rst (drives p row.dev)))) _ two.0 in
     record { alone = one.0; quiet_is = one.1; holds_is = two.1 }
-
-pub implied : (q r : Bool) → implies q r ≡ true → q ≡ true → r ≡ true
-implied true r e f = e
-implied false r e f = wrong' f
 
 -- ---- what a device drives after its row
 

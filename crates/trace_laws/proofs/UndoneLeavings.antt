@@ -18,7 +18,7 @@ use Rattle.bus_dialogue.specs.declared.exchange.Task.{Task}
 use Rattle.bus_dialogue.specs.Arrivals.{policy_of}
 use Rattle.bus_dialogue.specs.DataRuns.{runs_in_all}
 use Rattle.bus_dialogue.specs.Exchange.{one_message}
-use Rattle.bus_dialogue.specs.NextPhase.{Serving, phase_leaving, phase_entry, with_task, recovery, recovery_limit, pointer_restoration, next_data_phase, after_messages, after_arrival, after_run, disconnection, disconnect_messages, command_leaving, data_out_leaving, data_in_leaving, bus_free}
+use Rattle.bus_dialogue.specs.NextPhase.{Serving, phase_leaving, phase_entry, with_task, recovery, recovery_limit, pointer_restoration, next_data_phase, after_messages, after_arrival, after_run, disconnection, disconnect_messages, data_in_leaving, bus_free}
 use Rattle.trace_laws.specs.Tells.{is_short}
 use Rattle.bus_base.proofs.Tests.{wrong'}
 use Rattle.trace_laws.specs.Offers.{is_detected}

@@ -89,7 +89,7 @@ pub record UndoAfter (b : Story) (l : Link) (link : Option Link) : Type 0 where
   pub is : link ≡ Some after
   pub undo : (after.undo ≡ l.undo) ⊎ (after.undo ≡ carried_if b l.item)
 
-undo_after : (s : ScenarioValue) (b : Story) (l : Link) (d : RowReading) (row : Row) → b.link ≡ Some l → UndoAfter b l (story_in_connection s b (Some l) d row).link
+pub undo_after : (s : ScenarioValue) (b : Story) (l : Link) (d : RowReading) (row : Row) → b.link ≡ Some l → UndoAfter b l (story_in_connection s b (Some l) d row).link
 undo_after s b l d row el = go d.crosses d.out d.into
   where
     stays : (link : Option Link) → link ≡ b.link → UndoAfter b l link
@@ -109,7 +109,7 @@ undo_after s b l d row el = go d.crosses d.out d.into
     go true None None = stays _ (byte d.change.before.msg)
     go false o t = stays _ (faulted row.kind)
 
-heard_after : (s : ScenarioValue) (b : Story) (l : Link) (d : RowReading) (row : Row) (m : MsgIn) → d.crosses ≡ true → d.out ≡ None → d.into ≡ Some m → (story_in_connection s b (Some l) d row).link ≡ Some (record (link_after_name b.sent s.commands l m) { last = last_in m; before = l.last; undo = carried_if b l.item })
+pub heard_after : (s : ScenarioValue) (b : Story) (l : Link) (d : RowReading) (row : Row) (m : MsgIn) → d.crosses ≡ true → d.out ≡ None → d.into ≡ Some m → (story_in_connection s b (Some l) d row).link ≡ Some (record (link_after_name b.sent s.commands l m) { last = last_in m; before = l.last; undo = carried_if b l.item })
 heard_after s b l d row m e f g =
     (λ i. (if e i then (if is_some (f i) then story_after_out b l (f i) else if is_some (g i) then story_after_in s b l (g i) else story_after_byte b l d) else story_after_fault b l row.kind).link)
     ∙ carried_link _ _

@@ -6,10 +6,9 @@ use Rattle.bus_trace.specs.LineSet.{LineSet}
 use Rattle.bus_trace.specs.declared.Row.{Row}
 use Rattle.bus_trace.specs.declared.changes.Change.{Change}
 use Rattle.bus_trace.specs.declared.connection.Connection.{Connection}
-use Rattle.bus_trace.specs.Changes.{change_of}
 use Rattle.bus_trace.specs.Phases.{changes_phase, is_command, is_message_out, is_message_in}
 use Rattle.bus_trace.specs.Terms.{is_fault, receiver_in}
-use Rattle.bus_lines.specs.Handshakes.{Handshakes, no_handshakes, handshakes_after, handshakes_on}
+use Rattle.bus_lines.specs.Handshakes.{Handshakes, no_handshakes, handshakes_after}
 use Rattle.scenario.specs.Value.{ScenarioValue}
 use Rattle.bus_story.specs.BusState.{row_reading}
 use Rattle.bus_story.specs.Links.{Link}

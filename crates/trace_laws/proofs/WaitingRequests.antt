@@ -8,8 +8,8 @@ use Rattle.bus_lines.specs.Handshakes.{Handshakes, answered, answered_if, asked,
 use Rattle.trace_laws.specs.Complaints.{any_struck}
 use Rattle.trace_laws.specs.ItemTalks.{awaits}
 use Rattle.trace_laws.specs.SentFailures.{IsNewest, WaitsFor}
-use Rattle.trace_laws.proofs.CloseCounts.{counted_some}
 use Rattle.bus_base.proofs.Tests.{wrong, wrong', or_true, or_false}
+use Rattle.link_laws.proofs.Asks.{counted_some}
 
 -- Neither rises; REQ does; or ACK does, with ATN where the byte was struck that it answers, the newest or, by pulses, the oldest.
 pub data InStep (h : Handshakes) (pulsed : Bool) (c : Change) : Type 0 where

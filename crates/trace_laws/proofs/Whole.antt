@@ -1,5 +1,5 @@
 -- Row by row of a prompt trace: all that is asked of its rows, and what is kept with them.
-use Rattle.std.proofs.Common.{◌≡◌, ◌⊎◌, inl, inr, ◌<◌, Bool, true, false, ◌&&◌, ◌∙◌, List, [], ◌∷◌, Option, Some, None, refl, sym, ap}
+use Rattle.std.proofs.Common.{◌≡◌, ◌⊎◌, inl, inr, ◌<◌, Bool, true, false, ◌∙◌, List, [], ◌∷◌, Option, Some, None, refl, sym, ap}
 use Rattle.std.specs.Prelude.{if◌then◌else◌, is_some}
 use Rattle.std.proofs.lemmas.Option.{same_Some}
 use Rattle.bus_trace.specs.declared.Row.{Row}
@@ -91,10 +91,8 @@ use Rattle.trace_laws.proofs.Unshown.{unshown_ready}
 use Rattle.trace_laws.proofs.WriteNext.{writes_next, writes_start}
 use Rattle.trace_laws.proofs.WritePremises.{write_premises}
 use Rattle.trace_laws.proofs.Written.{written_next}
+use Rattle.trace_laws.proofs.Impossible.{none_some}
 use Rattle.std.proofs.lemmas.Bool.{and_from}
-
-none_some : {A : Type 0} (n : Connection) → (let a : Option Connection = None in a) ≡ Some n → A
-none_some n e = absurd cc
 
 -- What is kept of the lines and of what is said.
 pub record Whole (s : ScenarioValue) (p : List Row) : Type 0 where

@@ -105,7 +105,7 @@ zero_size n moved size z e = e ∙ ap (λ (x : ℕ). n * x) z ∙ none n
 at_least : (a b : ℕ) → a ≡ b → nat_le b a ≡ true
 at_least a b e = grind (arith, nat_tests, e)
 
-some_there : (n : ℕ) → 1 ≤ n → (n == 0) ≡ false
+pub some_there : (n : ℕ) → 1 ≤ n → (n == 0) ≡ false
 some_there n h = grind (arith, nat_tests, h)
 
 -- ---- all of it

@@ -13,7 +13,6 @@ use Rattle.scenario.specs.Value.{ScenarioValue}
 use Rattle.bus_story.specs.BusState.{RowReading, row_reading}
 use Rattle.bus_story.specs.TraceHistory.{aim_of}
 use Rattle.bus_dialogue.specs.Exchange.{Exchange}
-use Rattle.bus_dialogue.specs.declared.exchange.Phase.{Phase}
 use Rattle.bus_dialogue.specs.declared.exchange.Phase.TheVariants as phases
 use Rattle.bus_dialogue.specs.NextPhase.{phase_of}
 use Rattle.bus_due.specs.Plain.{IsPlain}
@@ -21,6 +20,7 @@ use Rattle.bus_due.specs.RunState.{RunState, bus_of, process_item}
 use Rattle.bus_due.specs.RunSteps.{run_state, exchange_after, first_exchange, leaving_of}
 use Rattle.bus_due.proofs.Plains.{run_state_plain}
 use Rattle.scsi_device.specs.Writes.{Writer, writer_of, writers, writers_with, is_data_out}
+use Rattle.scsi_device.specs.Heard.{is_message}
 use Rattle.bus_books.specs.Rows.{RowKind, still, strikes, crosses, turns, IsFirstRow}
 use Rattle.bus_books.specs.Traces.{Begins, GoesOn, RowOf, apart, begins, goes_on, ends, under_reset}
 use Rattle.bus_books.proofs.InConnection.{in_connection, reading_is, same_phase_is}
@@ -32,11 +32,6 @@ use Rattle.trace_laws.proofs.PhaseLines.{data_out_io, message_is}
 use Rattle.trace_laws.proofs.WriteRows.{WriteRow, Around, around}
 use Rattle.trace_laws.proofs.WriteTurns.{no_byte, a_byte, writer_now}
 use Rattle.bus_base.proofs.Tests.{wrong, wrong'}
-
-abbrev is_message : Phase → Bool
-is_message phases.MessageIn = true
-is_message phases.MessageOut = true
-is_message _ = false
 
 -- No byte is answered but with one that crosses.
 same_answers : (n : Connection) (c : Change) (time : ℕ) (h : Handshakes) → changes_phase c ≡ false → receiver_in n c ≡ None → c.before.io ≡ false → (handshakes_on (Some n) c time h).answers ≡ h.answers

@@ -52,7 +52,7 @@ use Rattle.trace_laws.proofs.CommandFacts.{served_process, same_process}
 use Rattle.trace_laws.proofs.DoneRuns.{DoneOut, out_done, done_in_data}
 use Rattle.trace_laws.proofs.Impossible.{none_some}
 use Rattle.trace_laws.proofs.Joint.{Stood, NextStood}
-use Rattle.trace_laws.proofs.PhaseLines.{command_phase}
+use Rattle.trace_laws.proofs.PhaseLines.{command_phase, is_data_in}
 use Rattle.trace_laws.proofs.Plans.{Planned, is_directed, writes_of}
 use Rattle.trace_laws.proofs.PointerRows.{phase_by}
 use Rattle.trace_laws.proofs.RowEvents.{carried_of_item}
@@ -76,14 +76,10 @@ out_is b e = go b.msg b.cd b.io e
     go false false true e = wrong' e
     go false false false e = refl
 
-abbrev pub is_in : Phase → Bool
-is_in phases.DataIn = true
-is_in _ = false
-
-pub in_lines : (b : LineSet) → is_in (phase_of b) ≡ true → (is_data b ≡ true) × (b.io ≡ true)
+pub in_lines : (b : LineSet) → is_data_in (phase_of b) ≡ true → (is_data b ≡ true) × (b.io ≡ true)
 in_lines b e = go b.msg b.cd b.io refl e
   where
-    go : (m d i : Bool) → b.io ≡ i → is_in (phase_by m d i) ≡ true → ((not m && not d) ≡ true) × (b.io ≡ true)
+    go : (m d i : Bool) → b.io ≡ i → is_data_in (phase_by m d i) ≡ true → ((not m && not d) ≡ true) × (b.io ≡ true)
     go true d true f e = wrong' e
     go true d false f e = wrong' e
     go false true true f e = wrong' e
@@ -201,7 +197,7 @@ done_units s p row n c q w g ep b served x e = go x e
 
     unwritten : phase_of (bus_of k) ≡ phases.DataIn → is_writing q ≡ true → ⊥
     unwritten phase writes =
-        let lines = in_lines (bus_of k) (ap is_in phase) in
+        let lines = in_lines (bus_of k) (ap is_data_in phase) in
         let pd : Planned s k = w.was.planned n ar.before ar.calm in
         wrong' (sym (λ i. not (writes i)) ∙ sym (λ i. is_directed (lines.1 i) (writes_of (served i))) ∙ pd.serves b lines.0)
 
@@ -330,7 +326,7 @@ arrival_waits s p row n c w g l x a = may_wait s (run_state s (row ∷ p)).progr
         ∙ w.unrun n q ar.before ar.calm unknown (at q e)
       where
         in_none : phase_of (bus_of k) ≡ phases.DataIn → ⊥
-        in_none f = wrong (sym (ap is_in f) ∙ ap is_in phase)
+        in_none f = wrong (sym (ap is_data_in f) ∙ ap is_data_in phase)
 
         out_none : phase_of (bus_of k) ≡ phases.DataOut → ⊥
         out_none f = wrong (sym (ap is_data_out f) ∙ ap is_data_out phase)

@@ -1,8 +1,7 @@
 -- The data of writes come whole to each unit, with each row of a prompt trace.
-use Rattle.std.proofs.Common.{ℕ, ◌≡◌, ◌⊎◌, inl, inr, Bool, true, false, not, ◌&&◌, ◌||◌, ◌==◌, ◌∙◌, List, ◌∷◌, length, Option, Some, None, refl, sym, ap, arith}
+use Rattle.std.proofs.Common.{ℕ, ◌≡◌, ◌⊎◌, inl, inr, Bool, true, false, not, ◌&&◌, ◌||◌, ◌==◌, ◌∙◌, List, ◌∷◌, length, Option, Some, None, refl, sym, ap}
 use Rattle.std.specs.Prelude.{if◌then◌else◌, is_some}
 use Rattle.std.proofs.lemmas.Option.{same_Some}
-use Rattle.std.proofs.lemmas.Bool.Decides.{nat_tests}
 use Rattle.std.proofs.lemmas.Bool.{or_right, or_left, and_from, eq-eqb}
 use Rattle.bus_base.specs.declared.ProcId.{ProcId}
 use Rattle.bus_trace.specs.LineSet.{LineSet}
@@ -51,8 +50,9 @@ use Rattle.trace_laws.proofs.Plans.{Planned, is_directed, writes_of, writes_ther
 use Rattle.trace_laws.proofs.RunRows.{served_id}
 use Rattle.trace_laws.proofs.UnderRst.{none_raised}
 use Rattle.trace_laws.proofs.WriteNext.{write_row}
-use Rattle.trace_laws.proofs.WriteRows.{WriteRow, Around, around, out_is, runs_out, in_lines, is_in}
+use Rattle.trace_laws.proofs.WriteRows.{WriteRow, Around, around, out_is, runs_out, in_lines}
 use Rattle.trace_laws.proofs.WriterUnits.{last_writer}
+use Rattle.trace_laws.proofs.PhaseLines.{is_data_in}
 use Rattle.bus_base.proofs.Tests.{wrong, wrong', implication}
 
 -- ---- a byte of DATA OUT crosses
@@ -171,7 +171,7 @@ done_run s p row n c q w whose g ep b done served = by (done_in_data v (bus_of k
     reads phase = at (is_writing q) refl
       where
         lines : (is_data (bus_of k) ≡ true) × ((bus_of k).io ≡ true)
-        lines = in_lines (bus_of k) (ap is_in phase)
+        lines = in_lines (bus_of k) (ap is_data_in phase)
 
         at : (x : Bool) → is_writing q ≡ x → is_writing q ≡ false
         at false e = e
@@ -301,7 +301,7 @@ under s p row n w h here on quiet = ends_in s k row (writers s p) quiet run
         go false e = at (is_writing q) refl
           where
             lines : (is_data (bus_of k) ≡ true) × ((bus_of k).io ≡ true)
-            lines = in_lines (bus_of k) (ap is_in phase)
+            lines = in_lines (bus_of k) (ap is_data_in phase)
 
             at : (x : Bool) → is_writing q ≡ x → is_writing q ≡ false
             at false f = f

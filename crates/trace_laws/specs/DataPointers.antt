@@ -24,7 +24,7 @@ use Rattle.bus_dialogue.specs.declared.exchange.Next.TheVariants as nexts
 use Rattle.bus_dialogue.specs.declared.exchange.Phase.{Phase}
 use Rattle.bus_dialogue.specs.declared.exchange.Phase.TheVariants as phases
 use Rattle.bus_dialogue.specs.declared.exchange.Plan.{Plan}
-use Rattle.bus_dialogue.specs.Arrivals.{policy_of, is_never}
+use Rattle.bus_dialogue.specs.Arrivals.{is_never}
 use Rattle.bus_dialogue.specs.Exchange.{Exchange, one_message, two_messages}
 use Rattle.bus_lines.specs.Handshakes.{Handshakes}
 use Rattle.bus_trace.specs.LineSet.{LineSet}
@@ -33,7 +33,6 @@ use Rattle.bus_dialogue.specs.Words.{parity_error}
 use Rattle.bus_story.specs.TraceHistory.{aim_of}
 use Rattle.bus_dialogue.specs.Wants.{Ready}
 use Rattle.bus_due.specs.Wants.{ready_of}
-use Rattle.bus_due.specs.Defs.{target_def_of}
 use Rattle.bus_due.specs.LastingState.{progress_in}
 use Rattle.bus_due.specs.RunState.{RunState, bus_of, carried_here}
 use Rattle.bus_due.specs.Tasks.{size_of, blocks_in}

@@ -1,5 +1,5 @@
 -- Synchronous data transfer requests: whose request is open, by the phase and by what both ends have said in it (6.6.21).
-use Rattle.std.specs.Prelude.{ℕ, ◌≡◌, ◌⊎◌, ◌<◌, Bool, true, false, not, ◌&&◌, ◌==◌, List, length, Option, Some, None, is_some, if◌then◌else◌}
+use Rattle.std.specs.Prelude.{ℕ, ◌≡◌, ◌⊎◌, ◌<◌, Bool, true, false, ◌==◌, List, length, Option, Some, None, is_some, if◌then◌else◌}
 use Rattle.bus_trace.specs.LineSet.{LineSet}
 use Rattle.bus_trace.specs.declared.Row.{Row}
 use Rattle.bus_trace.specs.declared.agreements.Agreement.{Agreement}

@@ -1,5 +1,5 @@
 -- A process that writes, and has no reply, has a data run left, or has made none (6.6.6, 7.3).
-use Rattle.std.specs.Prelude.{ℕ, ◌≡◌, ◌⊎◌, ◌<◌, true, List, Some, None}
+use Rattle.std.specs.Prelude.{ℕ, ◌≡◌, ◌⊎◌, ◌<◌, List, Some, None}
 use Rattle.bus_trace.specs.declared.Row.{Row}
 use Rattle.cdb_codec.specs.Cdb.{command_of}
 use Rattle.scenario.specs.Value.{ScenarioValue}

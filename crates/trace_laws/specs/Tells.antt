@@ -1,7 +1,7 @@
 -- What the target of a connection knows of the process that it serves is what the rows tell of it: whether it has a reply, and by
 -- which code it fails; and the last message tells how the connection ends as the target means it. So each end shows the events
 -- that the rows show (6.1.6, 6.6, 7.3).
-use Rattle.std.specs.Prelude.{ℕ, ◌≡◌, ◌⊎◌, Bool, true, false, ◌||◌, List, ◌∷◌, Option, Some, None, is_some, ⊤}
+use Rattle.std.specs.Prelude.{ℕ, ◌≡◌, ◌⊎◌, Bool, true, false, List, ◌∷◌, Option, Some, None, is_some, ⊤}
 use Rattle.bus_base.specs.declared.ProcId.{ProcId}
 use Rattle.bus_trace.specs.declared.connection.Connection.{Connection}
 use Rattle.cdb_codec.specs.declared.sense.TheConstants.{PARITY_ERROR, INITIATOR_DETECTED_ERROR}

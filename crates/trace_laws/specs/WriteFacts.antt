@@ -1,6 +1,6 @@
 -- Which process last sent its unit a byte of the data of writes: one of the scenario that writes there; and the current process of a
 -- unit, once it has made a run, until it has its reply (6.1.5.1, 7.8).
-use Rattle.std.specs.Prelude.{ℕ, ◌≡◌, ◌==◌, nat_le, true, false, List, [], ◌∷◌, Option, Some, None, ⊤}
+use Rattle.std.specs.Prelude.{ℕ, ◌≡◌, ◌==◌, nat_le, true, false, List, [], ◌∷◌, Some, None, ⊤}
 use Rattle.bus_base.specs.declared.ProcId.{ProcId}
 use Rattle.bus_trace.specs.declared.Row.{Row}
 use Rattle.bus_trace.specs.declared.connection.Connection.{Connection}

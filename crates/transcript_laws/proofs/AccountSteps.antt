@@ -205,7 +205,8 @@ some_bytes : (bytes : List ℕ) (n byte : ℕ) → is_nil (bytes_with bytes n by
 some_bytes [] n byte = ap is_nil (new_bytes n byte)
 some_bytes (x ∷ xs) n byte = filled x byte xs n
 
-status_by : (p : Process) (q : Bool) (active byte : ℕ) (bytes : List ℕ) → q ≡ (active == 0) → p.status ≡ first_byte bytes → (is_nil bytes && not (active == 0)) ≡ false → (if q then record p { status = Some byte } else p).status ≡ first_byte (bytes_with bytes active byte)
+status_by : (p : Process) (q : Bool) (active byte : ℕ) (bytes : List ℕ) → q ≡ (active == 0) → p.status ≡ first_byte bytes
+    → (is_nil bytes && not (active == 0)) ≡ false → (if q then record p { status = Some byte } else p).status ≡ first_byte (bytes_with bytes active byte)
 status_by p true active byte [] e z b = ap first_byte (sym (new_bytes active byte))
 status_by p true active byte (x ∷ xs) e z b =
     sym (ap (λ (n : ℕ). first_byte (bytes_with (x ∷ xs) n byte)) (eqb-true active 0 (sym e)) ∙ set_first x byte xs)
@@ -217,7 +218,8 @@ shown_stays p true byte = refl
 shown_stays p false byte = refl
 
 -- It is the first where the status pointer is 0.
-pub status_step : (a : AccountValue) (c : CarriedBytes) (byte : ℕ) → IsAccountOf a c → IsAccountOf (account_after a (parts_of.Status byte)) (record c { status = area_with c.status byte })
+pub status_step : (a : AccountValue) (c : CarriedBytes) (byte : ℕ) → IsAccountOf a c
+    → IsAccountOf (account_after a (parts_of.Status byte)) (record c { status = area_with c.status byte })
 status_step a c byte h = record {
   block = h.block;
   struck = h.struck;

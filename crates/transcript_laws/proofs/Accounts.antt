@@ -1,5 +1,5 @@
 -- What the parts make of the account of a process, one after the other, whatever items stand before theirs.
-use Rattle.std.proofs.Common.{ℕ, ◌≡◌, ◌∙◌, Bool, true, false, List, [], ◌∷◌, ◌++◌, Some, refl, sym, ap}
+use Rattle.std.proofs.Common.{ℕ, ◌≡◌, ◌∙◌, Bool, true, false, List, [], ◌∷◌, ◌++◌, refl, sym, ap}
 use Rattle.std.specs.Prelude.{◌&&◌, if◌then◌else◌}
 use Rattle.std.proofs.lemmas.List.{append_assoc, append-nil}
 use Rattle.bus_trace.specs.declared.connection.Connection.{Connection}
@@ -47,7 +47,8 @@ part_name a (parts_of.Command bytes struck left) =
     let c : AccountValue = with_cdb (with_block a bytes struck) bytes in
     named_if (left && is_whole c.block c.struck) (with_item c (items.Arrive c.process.name)) c a.process.name (cdb_name (with_block a bytes struck) bytes) (cdb_name (with_block a bytes struck) bytes)
 part_name a (parts_of.Data out bytes) = refl
-part_name a parts_of.StatusPhase = named_if a.process.shown a (record (with_item a (items.Ready a.process.name)) { process = record a.process { shown = true } }) a.process.name refl refl
+part_name a parts_of.StatusPhase =
+    named_if a.process.shown a (record (with_item a (items.Ready a.process.name)) { process = record a.process { shown = true } }) a.process.name refl refl
 part_name a (parts_of.Status byte) = status_name a.status_first a.process byte
 part_name a parts_of.Completion = refl
 
@@ -104,7 +105,8 @@ parts_behind list a (part ∷ parts) =
     ap (λ (x : AccountValue). account_after_all x parts) (part_behind list a part) ∙ parts_behind list (account_after a part) parts
 
 -- The account of a connection: its items stand after those before, and after the one that names it.
-pub account_is : (n : Connection) (p : Process) (parts : List Part) (list : List Item) → account_parts n p parts list ≡ behind (list ++ items.Connect n.began p.name n.reselected ∷ []) (account_after_all (account_of p []) parts)
+pub account_is : (n : Connection) (p : Process) (parts : List Part) (list : List Item)
+    → account_parts n p parts list ≡ behind (list ++ items.Connect n.began p.name n.reselected ∷ []) (account_after_all (account_of p []) parts)
 account_is n p parts list =
     (λ i. account_after_all (record (account_of p []) { items = sym (append-nil (list ++ items.Connect n.began p.name n.reselected ∷ [])) i }) parts)
     ∙ parts_behind (list ++ items.Connect n.began p.name n.reselected ∷ []) (account_of p []) parts

@@ -30,11 +30,10 @@ use Rattle.transcript_laws.specs.RowTests.{shares_nexus, is_alone}
 use Rattle.transcript_laws.proofs.DueSenses.{SensesAlone, senses_alone}
 use Rattle.transcript_laws.proofs.SentProcesses.{none_any}
 use Rattle.bus_base.proofs.Tests.{wrong, wrong', and_first, and_second, eq_self}
+use Rattle.progress_laws.specs.Debts.{sense_id}
+use Rattle.progress_laws.specs.Queued.{command_id}
 
 -- ---- commands of one nexus clash
-
-abbrev one : ℕ → ProcId
-one n = record { command = n; sense = false }
 
 same_clash : (a b : Option ℕ) → same_number a b ≡ true → is_tag_clash a b ≡ true
 same_clash None None e = refl
@@ -46,7 +45,7 @@ record OfOne (c d : CmdDef) : Type 0 where
   host : c.host ≡ d.host
   clash : is_clash c d ≡ true
 
-of_one : (s : ScenarioValue) (n m : ℕ) (c d : CmdDef) → same_nexus (nexus_of (process_by s (one n) c)) (nexus_of (process_by s (one m) d)) ≡ true → OfOne c d
+of_one : (s : ScenarioValue) (n m : ℕ) (c d : CmdDef) → same_nexus (nexus_of (process_by s (command_id n) c)) (nexus_of (process_by s (command_id m) d)) ≡ true → OfOne c d
 of_one s n m c d e =
     let ends = and_first (c.host == d.host && c.target == d.target) (c.unit == d.unit && same_number (tag_number_if c.tag) (tag_number_if d.tag)) e in
     let rest = and_second (c.host == d.host && c.target == d.target) (c.unit == d.unit && same_number (tag_number_if c.tag) (tag_number_if d.tag)) e in
@@ -63,13 +62,14 @@ none_is true false f = refl
 none_is false r f = refl
 
 -- Of a command of the scenario.
-command_alone : (s : ScenarioValue) (b : Sent) (dev n : ℕ) (c : CmdDef) → IsNext s b dev (command_item n) → command_at s.commands n ≡ Some c → ((m : ℕ) → is_open_sense b m ≡ true → ⊥) → (i : Item) → shares_nexus s b (process_of s (one n)) i ≡ false
-command_alone s b dev n c next at senses i = ap (λ (o : Option CmdDef). shares_nexus s b (process_if s (one n) o) i) at ∙ go i
+command_alone : (s : ScenarioValue) (b : Sent) (dev n : ℕ) (c : CmdDef) → IsNext s b dev (command_item n) → command_at s.commands n ≡ Some c
+    → ((m : ℕ) → is_open_sense b m ≡ true → ⊥) → (i : Item) → shares_nexus s b (process_of s (command_id n)) i ≡ false
+command_alone s b dev n c next at senses i = ap (λ (o : Option CmdDef). shares_nexus s b (process_if s (command_id n) o) i) at ∙ go i
   where
     p : Process
-    p = process_by s (one n) c
+    p = process_by s (command_id n) c
 
-    by_def : (m : ℕ) (o : Option CmdDef) → command_at s.commands m ≡ o → is_open_in b (one m) ≡ true → is_of (nexus_of p) (process_if s (one m) o) ≡ true → ⊥
+    by_def : (m : ℕ) (o : Option CmdDef) → command_at s.commands m ≡ o → is_open_in b (command_id m) ≡ true → is_of (nexus_of p) (process_if s (command_id m) o) ≡ true → ⊥
     by_def m None e o f = wrong' f
     by_def m (Some d) e o f =
         let w = of_one s n m c d f in
@@ -83,15 +83,12 @@ command_alone s b dev n c next at senses i = ap (λ (o : Option CmdDef). shares_
     go (process id) = none_is (is_open_in b id) (is_of (nexus_of p) (process_of s id)) (λ o f. by_sense id id.sense refl o f)
     go (abort j) = refl
 
--- Of an automatic REQUEST SENSE, which is untagged: it clashes with all commands of its unit.
-abbrev sense : ℕ → ProcId
-sense n = record { command = n; sense = true }
-
 no_tag : (x : Option ℕ) → same_number None x ≡ true → x ≡ None
 no_tag None e = refl
 no_tag (Some a) e = wrong' e
 
-sense_clash : (s : ScenarioValue) (n m : ℕ) (c d : CmdDef) → same_nexus (nexus_of (process_by s (sense n) c)) (nexus_of (process_by s (one m) d)) ≡ true → OfOne d c
+-- An automatic REQUEST SENSE is untagged: it clashes with all commands of its unit.
+sense_clash : (s : ScenarioValue) (n m : ℕ) (c d : CmdDef) → same_nexus (nexus_of (process_by s (sense_id n) c)) (nexus_of (process_by s (command_id m) d)) ≡ true → OfOne d c
 sense_clash s n m c d e =
     let ends = and_first (c.host == d.host && c.target == d.target) (c.unit == d.unit && same_number None (tag_number_if d.tag)) e in
     let rest = and_second (c.host == d.host && c.target == d.target) (c.unit == d.unit && same_number None (tag_number_if d.tag)) e in
@@ -103,14 +100,15 @@ sense_clash s n m c d e =
       clash = (λ i. (d.target == target i && d.unit == unit i) && is_tag_clash (untagged i) (tag_number_if c.tag)) ∙ (λ i. (eq_self d.target i && eq_self d.unit i) && true);
     }
 
-sense_alone : (s : ScenarioValue) (b : Sent) (n : ℕ) (c : CmdDef) → SensesAlone s b → command_at s.commands n ≡ Some c → list_any (λ k. k == n) b.checks ≡ true → is_done b (sense_item n) ≡ false → ((m : ℕ) → is_open_sense b m ≡ true → ⊥)
-    → (i : Item) → shares_nexus s b (process_of s (sense n)) i ≡ false
-sense_alone s b n c apart at there due senses i = ap (λ (o : Option CmdDef). shares_nexus s b (process_if s (sense n) o) i) at ∙ go i
+sense_alone : (s : ScenarioValue) (b : Sent) (n : ℕ) (c : CmdDef) → SensesAlone s b → command_at s.commands n ≡ Some c → list_any (λ k. k == n) b.checks ≡ true
+    → is_done b (sense_item n) ≡ false → ((m : ℕ) → is_open_sense b m ≡ true → ⊥)
+    → (i : Item) → shares_nexus s b (process_of s (sense_id n)) i ≡ false
+sense_alone s b n c apart at there due senses i = ap (λ (o : Option CmdDef). shares_nexus s b (process_if s (sense_id n) o) i) at ∙ go i
   where
     p : Process
-    p = process_by s (sense n) c
+    p = process_by s (sense_id n) c
 
-    by_def : (m : ℕ) (o : Option CmdDef) → command_at s.commands m ≡ o → is_open_in b (one m) ≡ true → is_of (nexus_of p) (process_if s (one m) o) ≡ true → ⊥
+    by_def : (m : ℕ) (o : Option CmdDef) → command_at s.commands m ≡ o → is_open_in b (command_id m) ≡ true → is_of (nexus_of p) (process_if s (command_id m) o) ≡ true → ⊥
     by_def m None e o f = wrong' f
     by_def m (Some d) e o f = let w = sense_clash s n m c d f in apart n m c d at e (sym w.host) w.clash there due o
 
@@ -122,14 +120,16 @@ sense_alone s b n c apart at there due senses i = ap (λ (o : Option CmdDef). sh
     go (process id) = none_is (is_open_in b id) (is_of (nexus_of p) (process_of s id)) (λ o f. by_sense id id.sense refl o f)
     go (abort j) = refl
 
-item_alone : (s : ScenarioValue) (b : Story) (dev : ℕ) (item : Item) → IsNext s b.sent dev item → ((m : ℕ) → is_open_sense b.sent m ≡ true → ⊥) → SensesAlone s b.sent → is_alone s b (Some item) ≡ true
+item_alone : (s : ScenarioValue) (b : Story) (dev : ℕ) (item : Item) → IsNext s b.sent dev item → ((m : ℕ) → is_open_sense b.sent m ≡ true → ⊥)
+    → SensesAlone s b.sent → is_alone s b (Some item) ≡ true
 item_alone s b dev _ (is_abort n z) senses apart = refl
 item_alone s b dev _ (is_sense n c at own there z) senses apart =
-    ap not (none_any (λ item. shares_nexus s b.sent (process_of s (sense n)) item) b.sent.sent (λ i has. sense_alone s b.sent n c apart at there z senses i))
+    ap not (none_any (λ item. shares_nexus s b.sent (process_of s (sense_id n)) item) b.sent.sent (λ i has. sense_alone s b.sent n c apart at there z senses i))
 item_alone s b dev _ (is_command n time c at own z may none) senses apart =
-    ap not (none_any (λ item. shares_nexus s b.sent (process_of s (one n)) item) b.sent.sent (λ i has. command_alone s b.sent dev n c (is_command n time c at own z may none) at senses i))
+    ap not (none_any (λ item. shares_nexus s b.sent (process_of s (command_id n)) item) b.sent.sent (λ i has. command_alone s b.sent dev n c (is_command n time c at own z may none) at senses i))
 
-pub begins_alone : (s : ScenarioValue) (p : List Row) (row : Row) (n : Connection) → Obeys s → IsPrompt s (row ∷ p) → Whole s p → connection p ≡ None → connection (row ∷ p) ≡ Some n → n.reselected ≡ false → is_alone s (run_state s p).story (aim_of (run_state s p).story.aims n.initiator) ≡ true
+pub begins_alone : (s : ScenarioValue) (p : List Row) (row : Row) (n : Connection) → Obeys s → IsPrompt s (row ∷ p) → Whole s p → connection p ≡ None
+    → connection (row ∷ p) ≡ Some n → n.reselected ≡ false → is_alone s (run_state s p).story (aim_of (run_state s p).story.aims n.initiator) ≡ true
 begins_alone s p row n o prompt was alone after selects =
     let k : RunState = run_state s p in
     let off = calm_before s p row n o prompt was.stood alone after in

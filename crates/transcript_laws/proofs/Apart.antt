@@ -1,7 +1,6 @@
 -- The names of processes that were sent are apart.
-use Rattle.std.proofs.Common.{ℕ, ◌≡◌, ◌∙◌, ◌==◌, Bool, true, false, ◌&&◌, List, [], ◌∷◌, Option, Some, None, refl, sym, ap, arith, subst}
+use Rattle.std.proofs.Common.{◌≡◌, ◌∙◌, ◌==◌, Bool, true, false, ◌&&◌, List, [], ◌∷◌, Some, refl, sym, ap, subst}
 use Rattle.std.specs.Prelude.{if◌then◌else◌}
-use Rattle.std.proofs.lemmas.Bool.Decides.{nat_tests}
 use Rattle.std.proofs.lemmas.Option.{same_Some}
 use Rattle.bus_base.specs.declared.ProcId.{ProcId}
 use Rattle.disk_array.specs.Processes.{same_id}
@@ -12,9 +11,7 @@ use Rattle.bus_transcript.specs.Events.{same_name, name_sent}
 use Rattle.transcript_laws.specs.Numbered.{OnNames, AreOther, AreDistinct}
 use Rattle.transcript_laws.proofs.LastProcesses.{nexus_turned}
 use Rattle.bus_base.proofs.Tests.{wrong, wrong', eq_turned}
-
-none_some : {A : Type 0} (p : Name) → (let a : Option Name = None in a) ≡ Some p → A
-none_some p e = absurd cc
+use Rattle.trace_laws.proofs.Impossible.{none_some}
 
 name_turned : (a b : Name) → same_name a b ≡ same_name b a
 name_turned a b = λ i. nexus_turned a b i && eq_turned a.number b.number i
@@ -32,13 +29,16 @@ one_item : (item : Item) (x y : ProcId) → same_item item (process x) ≡ true 
 one_item (process p) x y e f = ap (λ (z : ProcId). same_id z y) (sym (id_is p x e)) ∙ f
 one_item (abort j) x y e f = wrong' e
 
-pub sent_apart : (sent : List Item) (names : List Name) (x y : ProcId) (a b : Name) → AreDistinct names → name_sent sent names x ≡ Some a → name_sent sent names y ≡ Some b → same_id x y ≡ false → (a.number == 0) ≡ false → (b.number == 0) ≡ false → same_name a b ≡ false
+pub sent_apart : (sent : List Item) (names : List Name) (x y : ProcId) (a b : Name) → AreDistinct names → name_sent sent names x ≡ Some a
+    → name_sent sent names y ≡ Some b → same_id x y ≡ false → (a.number == 0) ≡ false → (b.number == 0) ≡ false → same_name a b ≡ false
 sent_apart [] names x y a b h e f other i j = none_some a e
 sent_apart (item ∷ sent) [] x y a b h e f other i j = none_some a e
 sent_apart (item ∷ sent) (n ∷ names) x y a b h e f other i j =
     go (same_item item (process x)) (same_item item (process y)) refl refl e f (λ z w. sent_apart sent names x y a b h.1 z w other i j)
   where
-    go : (q r : Bool) → same_item item (process x) ≡ q → same_item item (process y) ≡ r → (if q then Some n else name_sent sent names x) ≡ Some a → (if r then Some n else name_sent sent names y) ≡ Some b → (name_sent sent names x ≡ Some a → name_sent sent names y ≡ Some b → same_name a b ≡ false) → same_name a b ≡ false
+    go : (q r : Bool) → same_item item (process x) ≡ q → same_item item (process y) ≡ r → (if q then Some n else name_sent sent names x) ≡ Some a
+        → (if r then Some n else name_sent sent names y) ≡ Some b → (name_sent sent names x ≡ Some a → name_sent sent names y ≡ Some b → same_name a b ≡ false)
+        → same_name a b ≡ false
     go true true u v z w rest = wrong (sym (one_item item x y u v) ∙ other)
     go true false u v z w rest =
         let is = same_Some n a z in

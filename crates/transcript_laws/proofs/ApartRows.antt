@@ -54,7 +54,8 @@ record Adds (s : ScenarioValue) (rows : List Row) (row : Row) (new more : List i
   grows : Grows (story s rows).sent c.sent
   marks : (x : CarriedBytes) → IsMarked (story s rows).history x → IsMarked (shown ++ (story s rows).history) x
 
-adds_next : (s : ScenarioValue) (rows : List Row) (row : Row) (new more : List item_of.Item) (c : Story) (shown : List Event) → ApartRow s rows → Adds s rows row new more c shown → Standing s (row ∷ rows)
+adds_next : (s : ScenarioValue) (rows : List Row) (row : Row) (new more : List item_of.Item) (c : Story) (shown : List Event) → ApartRow s rows
+    → Adds s rows row new more c shown → Standing s (row ∷ rows)
 adds_next s rows row new more c shown r g = over_next s rows row (with_items (transcribed rows) new) more c shown (record {
   transcript_is = g.transcript_is;
   story_is = g.story_is;
@@ -68,7 +69,10 @@ adds_next s rows row new more c shown r g = over_next s rows row (with_items (tr
 })
   where
     names : names_begun ((transcribed rows).items ++ new) ≡ names_begun (transcribed rows).items
-    names = names_append (transcribed rows).items new ∙ ap (λ (list : List Name). names_begun (transcribed rows).items ++ list) g.openly.names ∙ append-nil (names_begun (transcribed rows).items)
+    names =
+        names_append (transcribed rows).items new
+        ∙ ap (λ (list : List Name). names_begun (transcribed rows).items ++ list) g.openly.names
+        ∙ append-nil (names_begun (transcribed rows).items)
 
     order : sent_order c ≡ sent_order (story s rows)
     order = ap (λ (list : List Item). reverse list) g.grows.sent
@@ -99,12 +103,14 @@ reset_next s rows row r on = go (rises (row_reading (story s rows).bus_state row
     frees : List item_of.Item
     frees = free_items (transcribed rows).bus_state.connection (row_reading (transcribed rows).bus_state row).next row.time
 
-    is : (q : Bool) → rises (row_reading (story s rows).bus_state row).change.own.rst (row_reading (story s rows).bus_state row).change.next.rst ≡ q → by_change (transcribed rows) (row_reading (transcribed rows).bus_state row) row ≡ with_items (with_items (transcribed rows) (if q then items.Reset row.dev ∷ [] else [])) frees
+    is : (q : Bool) → rises (row_reading (story s rows).bus_state row).change.own.rst (row_reading (story s rows).bus_state row).change.next.rst ≡ q
+        → by_change (transcribed rows) (row_reading (transcribed rows).bus_state row) row ≡ with_items (with_items (transcribed rows) (if q then items.Reset row.dev ∷ [] else [])) frees
     is q e =
         reset_change (transcribed rows) dt row (ap (λ (d : RowReading). d.change.after.rst) (same_for s rows row) ∙ on)
         ∙ (λ i. with_items (with_items (closed_if (transcribed rows) (r.stands.opened_is i) dt false) (if (ap (λ (d : RowReading). rises d.change.own.rst d.change.next.rst) (same_for s rows row) ∙ e) i then items.Reset row.dev ∷ [] else [])) frees)
 
-    told : (q : Bool) → rises (row_reading (story s rows).bus_state row).change.own.rst (row_reading (story s rows).bus_state row).change.next.rst ≡ q → story s (row ∷ rows) ≡ story_on s rows row (story_after_events s (record (story s rows) { link = None }) (if q then events.Reset row.dev ∷ [] else [])) (if q then events.Reset row.dev ∷ [] else [])
+    told : (q : Bool) → rises (row_reading (story s rows).bus_state row).change.own.rst (row_reading (story s rows).bus_state row).change.next.rst ≡ q
+        → story s (row ∷ rows) ≡ story_on s rows row (story_after_events s (record (story s rows) { link = None }) (if q then events.Reset row.dev ∷ [] else [])) (if q then events.Reset row.dev ∷ [] else [])
     told q e =
         reset_story s b row (row_reading b.bus_state row) on
         ∙ (λ i. story_on s rows row (story_after_events s quiet (if e i then events.Reset row.dev ∷ [] else [])) (if e i then events.Reset row.dev ∷ [] else []))
@@ -138,16 +144,19 @@ reset_next s rows row r on = go (rises (row_reading (story s rows).bus_state row
 
 -- ---- RST is false after the row, and the bus has a connection that is not shown
 
-lingers_story : (s : ScenarioValue) (b : Story) (row : Row) (d : RowReading) (m : Connection) → d.change.after.rst ≡ false → b.bus_state.connection ≡ Some m → b.link ≡ None → story_by s b row d ≡ story_with_history (story_on_bus s b (Some m) d.next d row) (bus_state_after b.bus_state row d) [] b.history
+lingers_story : (s : ScenarioValue) (b : Story) (row : Row) (d : RowReading) (m : Connection) → d.change.after.rst ≡ false → b.bus_state.connection ≡ Some m
+    → b.link ≡ None → story_by s b row d ≡ story_with_history (story_on_bus s b (Some m) d.next d row) (bus_state_after b.bus_state row d) [] b.history
 lingers_story s b row d m off con link =
     ap (λ (shown : List Event). story_with s b row d shown) (λ i. if off i then (if rises d.change.own.rst d.change.next.rst then events.Reset row.dev ∷ [] else []) else link_events s b (link i) d)
     ∙ (λ i. story_with_history (if off i then record b { link = None } else story_on_bus s b (con i) d.next d row) (bus_state_after b.bus_state row d) [] b.history)
 
-lingers_change : (t : TranscriberValue) (d : RowReading) (row : Row) (m : Connection) → d.change.after.rst ≡ false → t.bus_state.connection ≡ Some m → by_change t d row ≡ on_bus t (Some m) d.next d row
+lingers_change : (t : TranscriberValue) (d : RowReading) (row : Row) (m : Connection) → d.change.after.rst ≡ false → t.bus_state.connection ≡ Some m
+    → by_change t d row ≡ on_bus t (Some m) d.next d row
 unfolding by_change
 lingers_change t d row m off con = λ i. if off i then under_reset t d row else on_bus t (con i) d.next d row
 
-pub lingers_next : (s : ScenarioValue) (rows : List Row) (row : Row) (m : Connection) → ApartRow s rows → (row_reading (story s rows).bus_state row).change.after.rst ≡ false → (story s rows).bus_state.connection ≡ Some m → Standing s (row ∷ rows)
+pub lingers_next : (s : ScenarioValue) (rows : List Row) (row : Row) (m : Connection) → ApartRow s rows
+    → (row_reading (story s rows).bus_state row).change.after.rst ≡ false → (story s rows).bus_state.connection ≡ Some m → Standing s (row ∷ rows)
 lingers_next s rows row m r off con = go (row_reading (story s rows).bus_state row).next refl
   where
     dt : RowReading

@@ -47,7 +47,8 @@ entered k false = sym (append-nil (base_parts k))
 pub base_over : (k : OpenedValue) (s : LineSet) (half : List ℕ) (left : Bool) → base_parts (phase_over k s half left) ≡ (parts_now k ++ broken_parts s half) ++ phase_parts k s left
 base_over k s half left = base_held (phase_over k s half left) (over_keeps k s half left).said ∙ over_parts k s half left
 
-pub base_turned : (k : OpenedValue) (s after : LineSet) (half : List ℕ) → base_parts (phase_entered (phase_over k s half true) after) ≡ ((parts_now k ++ broken_parts s half) ++ phase_parts k s true) ++ (if is_status_phase after then parts_of.StatusPhase ∷ [] else [])
+pub base_turned : (k : OpenedValue) (s after : LineSet) (half : List ℕ)
+    → base_parts (phase_entered (phase_over k s half true) after) ≡ ((parts_now k ++ broken_parts s half) ++ phase_parts k s true) ++ (if is_status_phase after then parts_of.StatusPhase ∷ [] else [])
 base_turned k s after half =
     entered (phase_over k s half true) (is_status_phase after)
     ∙ ap (λ (xs : List Part). xs ++ (if is_status_phase after then parts_of.StatusPhase ∷ [] else [])) (base_over k s half true)

@@ -26,11 +26,13 @@ use Rattle.trace_laws.proofs.Impossible.{none_some}
 use Rattle.trace_laws.proofs.Whole.{Whole}
 use Rattle.transcript_laws.specs.RowTests.{is_fresh}
 
-fresh_by : (b : Story) (item : Item) → has_item b.sent.sent item ≡ false → ((id : ProcId) → has_item b.sent.sent (process id) ≡ false → carried_at b.carried id ≡ None) → is_fresh b (Some item) ≡ true
+fresh_by : (b : Story) (item : Item) → has_item b.sent.sent item ≡ false
+    → ((id : ProcId) → has_item b.sent.sent (process id) ≡ false → carried_at b.carried id ≡ None) → is_fresh b (Some item) ≡ true
 fresh_by b (process id) e c = λ i. not (e i) && is_none (c id e i)
 fresh_by b (abort j) e c = ap not e
 
-pub fresh_item : (s : ScenarioValue) (p : List Row) (row : Row) (n : Connection) → Obeys s → IsPrompt s (row ∷ p) → Whole s p → connection p ≡ None → connection (row ∷ p) ≡ Some n → n.reselected ≡ false
+pub fresh_item : (s : ScenarioValue) (p : List Row) (row : Row) (n : Connection) → Obeys s → IsPrompt s (row ∷ p) → Whole s p → connection p ≡ None
+    → connection (row ∷ p) ≡ Some n → n.reselected ≡ false
     → is_fresh (run_state s p).story (aim_of (run_state s p).story.aims n.initiator) ≡ true
 fresh_item s p row n o prompt was alone after selects =
     let f = items_fresh s p row n o prompt was.stood was.facts.items alone after selects in
@@ -41,7 +43,8 @@ pub record BeginsQuiet (c : Change) : Type 0 where
   pub command : is_command c.after ≡ false
   pub status : is_status_phase c.after ≡ false
 
-pub begins_quiet : (s : ScenarioValue) (p : List Row) (row : Row) (n : Connection) → Obeys s → IsPrompt s (row ∷ p) → Whole s p → connection p ≡ None → connection (row ∷ p) ≡ Some n → BeginsQuiet (row_reading (run_state s p).story.bus_state row).change
+pub begins_quiet : (s : ScenarioValue) (p : List Row) (row : Row) (n : Connection) → Obeys s → IsPrompt s (row ∷ p) → Whole s p → connection p ≡ None
+    → connection (row ∷ p) ≡ Some n → BeginsQuiet (row_reading (run_state s p).story.bus_state row).change
 begins_quiet s p row n o prompt was alone after = go (row_kind s p row n o prompt was.stood after (calm_after p row n alone after))
   where
     c : (row_reading (run_state s p).story.bus_state row).change ≡ change_of p row

@@ -35,7 +35,8 @@ chosen : (q : Bool) (d e f g : Dialogue) → HearAlike d e → HearAlike f g →
 chosen true d e f g x y = x
 chosen false d e f g x y = y
 
-else_alike : (d e : Dialogue) (q : Bool) (byte : ℕ) → HearAlike d e → HearAlike (if q then record d { heard = heard_with_command d.heard byte; begun = true } else record d { begun = true }) (if q then record e { heard = heard_with_command e.heard byte; begun = true } else record e { begun = true })
+else_alike : (d e : Dialogue) (q : Bool) (byte : ℕ) → HearAlike d e
+    → HearAlike (if q then record d { heard = heard_with_command d.heard byte; begun = true } else record d { begun = true }) (if q then record e { heard = heard_with_command e.heard byte; begun = true } else record e { begun = true })
 else_alike d e true byte h = record { half = h.half; fresh = h.fresh; is_last = h.is_last }
 else_alike d e false byte h = record { half = h.half; fresh = h.fresh; is_last = h.is_last }
 
@@ -51,7 +52,8 @@ phase_alike d e = record { half = refl; fresh = refl; is_last = refl }
 opened_alike : (a b : Agreement) → HearAlike (opened a) (opened b)
 opened_alike a b = record { half = refl; fresh = refl; is_last = refl }
 
-after_alike : (d e : Dialogue) (before after : Option Connection) (a b : ℕ → ℕ → Agreement) (c : Change) → HearAlike d e → HearAlike (dialogue_after d before after a c) (dialogue_after e before after b c)
+after_alike : (d e : Dialogue) (before after : Option Connection) (a b : ℕ → ℕ → Agreement) (c : Change) → HearAlike d e
+    → HearAlike (dialogue_after d before after a c) (dialogue_after e before after b c)
 after_alike d e None None a b c h = opened_alike asynchronous asynchronous
 after_alike d e (Some m) None a b c h = opened_alike asynchronous asynchronous
 after_alike d e None (Some n) a b c h = opened_alike (a n.initiator n.target) (b n.initiator n.target)
@@ -104,7 +106,11 @@ reading_same w v row h =
 
 -- ---- after a row
 
-next_alike : (w v u : BusState) (row : Row) (d : RowReading) (a b : ℕ → ℕ → Agreement) → IsAlike w v → u ≡ w → (x y : BusState) → x.driven ≡ slice_set u.driven row.dev d.change.next → x.bus ≡ d.change.after → x.call ≡ call_after u.call d.change row → x.connection ≡ d.next → x.crossed ≡ (if d.crosses then Some d.change else None) → x.dialogue ≡ dialogue_after u.dialogue u.connection d.next a d.change → y.driven ≡ slice_set v.driven row.dev d.change.next → y.bus ≡ d.change.after → y.call ≡ call_after v.call d.change row → y.connection ≡ d.next → y.crossed ≡ (if d.crosses then Some d.change else None) → y.dialogue ≡ dialogue_after v.dialogue v.connection d.next b d.change → IsAlike x y
+next_alike : (w v u : BusState) (row : Row) (d : RowReading) (a b : ℕ → ℕ → Agreement) → IsAlike w v → u ≡ w → (x y : BusState)
+    → x.driven ≡ slice_set u.driven row.dev d.change.next → x.bus ≡ d.change.after → x.call ≡ call_after u.call d.change row → x.connection ≡ d.next
+    → x.crossed ≡ (if d.crosses then Some d.change else None) → x.dialogue ≡ dialogue_after u.dialogue u.connection d.next a d.change
+    → y.driven ≡ slice_set v.driven row.dev d.change.next → y.bus ≡ d.change.after → y.call ≡ call_after v.call d.change row → y.connection ≡ d.next
+    → y.crossed ≡ (if d.crosses then Some d.change else None) → y.dialogue ≡ dialogue_after v.dialogue v.connection d.next b d.change → IsAlike x y
 next_alike w v u row d a b h same x y xd xb xc xn xr xl yd yb yc yn yr yl =
     let g = after_alike w.dialogue v.dialogue v.connection d.next a b d.change (heard w v h) in
     let l : x.dialogue ≡ dialogue_after w.dialogue v.connection d.next a d.change = xl ∙ (λ i. dialogue_after (same i).dialogue (same i).connection d.next a d.change) ∙ (λ i. dialogue_after w.dialogue (h.connection i) d.next a d.change) in

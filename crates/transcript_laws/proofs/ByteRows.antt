@@ -73,7 +73,8 @@ byte_phase lines e = go lines.cd lines.io refl refl
 abbrev byte_of : ScenarioValue → List Row → Row → ℕ
 byte_of s rows row = (row_reading (story s rows).bus_state row).change.after.data_bits % 256
 
-with_byte_is : (s : ScenarioValue) (rows : List Row) (row : Row) (h : StandsLinked s (transcribed rows) (story s rows)) → ByteRow s rows row h → with_crossing h.opened (story s rows).bus_state.dialogue.is_last (row_reading (story s rows).bus_state row) ≡ (if is_status_phase (story s rows).bus_state.bus then with_part h.opened (parts_of.Status (byte_of s rows row)) else record h.opened { bytes = h.opened.bytes ++ byte_of s rows row ∷ [] })
+with_byte_is : (s : ScenarioValue) (rows : List Row) (row : Row) (h : StandsLinked s (transcribed rows) (story s rows)) → ByteRow s rows row h
+    → with_crossing h.opened (story s rows).bus_state.dialogue.is_last (row_reading (story s rows).bus_state row) ≡ (if is_status_phase (story s rows).bus_state.bus then with_part h.opened (parts_of.Status (byte_of s rows row)) else record h.opened { bytes = h.opened.bytes ++ byte_of s rows row ∷ [] })
 with_byte_is s rows row h r =
     let g = no_message (story s rows).bus_state.bus r.msg in
     (λ i. if g.out i then with_said h.opened (story s rows).bus_state.dialogue.is_last (row_reading (story s rows).bus_state row).out
@@ -96,7 +97,9 @@ byte_id s rows row c = (byte_marks (story s rows).bus_state.bus (byte_of s rows 
 changes : (s : ScenarioValue) (rows : List Row) (row : Row) (item : Option Item) → ChangesBy (with_byte s rows row) (story s rows) (byte_story s rows row item) item
 changes s rows row item = by_byte (story s rows) (row_reading (story s rows).bus_state row) item
 
-marked_on : (s : ScenarioValue) (rows : List Row) (row : Row) (item : Option Item) → ((x : ProcId) → IsMarked (story s rows).history (carried_of (story s rows).carried x)) → (x : ProcId) → IsMarked (story s rows).history (carried_of (byte_story s rows row item).carried x)
+marked_on : (s : ScenarioValue) (rows : List Row) (row : Row) (item : Option Item)
+    → ((x : ProcId) → IsMarked (story s rows).history (carried_of (story s rows).carried x)) → (x : ProcId)
+    → IsMarked (story s rows).history (carried_of (byte_story s rows row item).carried x)
 marked_on s rows row item marked x =
     subst (λ (all : List CarriedBytes). IsMarked (story s rows).history (carried_of all x)) (sym (changes s rows row item).carried)
     (changed_each (λ c. IsMarked (story s rows).history c) (with_byte s rows row) (story s rows).carried item x (byte_id s rows row) (λ c m. marks_kept (story s rows).history c (with_byte s rows row c) (byte_marks (story s rows).bus_state.bus (byte_of s rows row) c) m) (marked x))
@@ -104,7 +107,9 @@ marked_on s rows row item marked x =
 -- ---- COMMAND and data
 
 -- With the byte beside those of its phase.
-byte_serves : (s : ScenarioValue) (rows : List Row) (row : Row) (k : OpenedValue) (id : ProcId) (back : CarriedBytes) (conn : List Event) (was : Bool) (st : Option ℕ) → BytePhase (story s rows).bus_state.bus → is_status_phase (story s rows).bus_state.bus ≡ false → IsServing k (is_command (story s rows).bus_state.bus) id (carried_of (story s rows).carried id) back conn (story s rows).history was st
+byte_serves : (s : ScenarioValue) (rows : List Row) (row : Row) (k : OpenedValue) (id : ProcId) (back : CarriedBytes) (conn : List Event) (was : Bool) (st : Option ℕ)
+    → BytePhase (story s rows).bus_state.bus → is_status_phase (story s rows).bus_state.bus ≡ false
+    → IsServing k (is_command (story s rows).bus_state.bus) id (carried_of (story s rows).carried id) back conn (story s rows).history was st
     → IsServing (record k { bytes = k.bytes ++ byte_of s rows row ∷ [] }) (is_command (story s rows).bus_state.bus) id (with_byte s rows row (carried_of (story s rows).carried id)) back conn (story s rows).history was st
 byte_serves s rows row k id back conn was st (in_command q v) no_status h =
     let now : CarriedBytes = carried_of (story s rows).carried id in
@@ -120,7 +125,9 @@ byte_serves s rows row k id back conn was st (in_data q d v) no_status h =
     (data_serves k id now back conn (story s rows).history was st (byte_of s rows row) (area_with now.moved (byte_of s rows row)) (subst (λ (r : Bool). IsServing k r id now back conn (story s rows).history was st) q h)))
 byte_serves s rows row k id back conn was st (in_status q d v) no_status h = wrong (sym v ∙ no_status)
 
-more_stands : (s : ScenarioValue) (rows : List Row) (row : Row) (h : StandsLinked s (transcribed rows) (story s rows)) → ByteRow s rows row h → BytePhase (story s rows).bus_state.bus → is_status_phase (story s rows).bus_state.bus ≡ false → Stands s rows row h (record h.opened { bytes = h.opened.bytes ++ byte_of s rows row ∷ [] }) h.link (byte_story s rows row h.link.item) []
+more_stands : (s : ScenarioValue) (rows : List Row) (row : Row) (h : StandsLinked s (transcribed rows) (story s rows)) → ByteRow s rows row h
+    → BytePhase (story s rows).bus_state.bus → is_status_phase (story s rows).bus_state.bus ≡ false
+    → Stands s rows row h (record h.opened { bytes = h.opened.bytes ++ byte_of s rows row ∷ [] }) h.link (byte_story s rows row h.link.item) []
 more_stands s rows row h r phase no_status = record {
   connection = refl;
   link = g.link ∙ h.link_is;
@@ -167,7 +174,8 @@ more_stands s rows row h r phase no_status = record {
 
 -- ---- STATUS
 
-status_stage : (s : ScenarioValue) (rows : List Row) (row : Row) (h : StandsLinked s (transcribed rows) (story s rows)) → ByteRow s rows row h → is_command (story s rows).bus_state.bus ≡ false → is_data (story s rows).bus_state.bus ≡ false → is_status_phase (story s rows).bus_state.bus ≡ true
+status_stage : (s : ScenarioValue) (rows : List Row) (row : Row) (h : StandsLinked s (transcribed rows) (story s rows)) → ByteRow s rows row h
+    → is_command (story s rows).bus_state.bus ≡ false → is_data (story s rows).bus_state.bus ≡ false → is_status_phase (story s rows).bus_state.bus ≡ true
     → Stage s (transcript_on rows row (with_part h.opened (parts_of.Status (byte_of s rows row)))) (story_on s rows row (byte_story s rows row h.link.item) []) (with_part h.opened (parts_of.Status (byte_of s rows row))) h.link h.sent h.conn
 status_stage s rows row h r q d v = go h.stage
   where
@@ -189,7 +197,8 @@ status_stage s rows row h r q d v = go h.stage
     base : base_parts (with_part h.opened (parts_of.Status (byte_of s rows row))) ≡ base_parts h.opened ++ parts_of.Status (byte_of s rows row) ∷ []
     base = base_more h.opened (parts_of.Status (byte_of s rows row))
 
-    go : Stage s (transcribed rows) (story s rows) h.opened h.link h.sent h.conn → Stage s (transcript_on rows row (with_part h.opened (parts_of.Status (byte_of s rows row)))) (story_on s rows row (byte_story s rows row h.link.item) []) (with_part h.opened (parts_of.Status (byte_of s rows row))) h.link h.sent h.conn
+    go : Stage s (transcribed rows) (story s rows) h.opened h.link h.sent h.conn
+        → Stage s (transcript_on rows row (with_part h.opened (parts_of.Status (byte_of s rows row)))) (story_on s rows row (byte_story s rows row h.link.item) []) (with_part h.opened (parts_of.Status (byte_of s rows row))) h.link h.sent h.conn
     go (of_abort j began is undo none talk kept) = wrong' (sym (ap is_no_abort is) ∙ r.item)
     go (of_none re none talk no_command no_status plain blanks undone kept) = wrong (sym v ∙ no_status)
     go (of_process id back was st is undone own known serving events talks from kept) =
@@ -201,7 +210,8 @@ status_stage s rows row h r q d v = go h.stage
         (from_on s (transcribed rows) (transcript_on rows row part) (story s rows) (story_on s rows row c []) h.opened part h.sent id was st same refl from)
         (kept_on s (transcribed rows) (transcript_on rows row part) (story s rows) (story_on s rows row c []) h.sent (λ x. same_id x id) same (λ x no. alike_self _ _ (sym (ap (λ (all : List CarriedBytes). carried_of all x) g.carried ∙ changed_other (with_byte s rows row) (story s rows).carried h.link.item id x (byte_id s rows row) is no))) kept)
 
-status_stands : (s : ScenarioValue) (rows : List Row) (row : Row) (h : StandsLinked s (transcribed rows) (story s rows)) → ByteRow s rows row h → is_command (story s rows).bus_state.bus ≡ false → is_data (story s rows).bus_state.bus ≡ false → is_status_phase (story s rows).bus_state.bus ≡ true
+status_stands : (s : ScenarioValue) (rows : List Row) (row : Row) (h : StandsLinked s (transcribed rows) (story s rows)) → ByteRow s rows row h
+    → is_command (story s rows).bus_state.bus ≡ false → is_data (story s rows).bus_state.bus ≡ false → is_status_phase (story s rows).bus_state.bus ≡ true
     → Stands s rows row h (with_part h.opened (parts_of.Status (byte_of s rows row))) h.link (byte_story s rows row h.link.item) []
 status_stands s rows row h r q d v = record {
   connection = refl;

@@ -17,12 +17,13 @@ use Rattle.bus_story.specs.Items.{Item, process, abort}
 use Rattle.bus_story.specs.Story.{Story}
 use Rattle.bus_story.specs.TraceHistory.{story_with_carried, story_with_restored, carried_after_message_if, carried_after_byte_if, carried_after_fault_if}
 use Rattle.bus_books.proofs.Lookups.{carried_id, put_own, put_other}
+use Rattle.bus_books.proofs.Areas.{with_command_byte}
 use Rattle.transcript_laws.specs.Serving.{IsBlank}
 use Rattle.transcript_laws.specs.Standing.{AreAlike}
 use Rattle.transcript_laws.specs.Told.{has_refusal, has_answer, IsMarked}
-use Rattle.transcript_laws.proofs.FirstNext.{not_same}
 use Rattle.transcript_laws.proofs.OpenProcesses.{alike_self, alike_put, put_each}
 use Rattle.bus_base.proofs.Tests.{wrong'}
+use Rattle.target_units.proofs.LiveQueue.{id_turned}
 
 -- ---- one process
 
@@ -35,25 +36,26 @@ changed f all (Some (abort j)) = all
 abbrev pub KeepsId : (CarriedBytes → CarriedBytes) → Type 0
 KeepsId f = (c : CarriedBytes) → (f c).id ≡ c.id
 
-no_item : {A : Type 0} (i : Item) → (let a : Option Item = None in a) ≡ Some i → A
-no_item i e = absurd cc
-
-pub changed_own : (f : CarriedBytes → CarriedBytes) (all : List CarriedBytes) (o : Option Item) (id : ProcId) → KeepsId f → o ≡ Some (process id) → carried_of (changed f all o) id ≡ f (carried_of all id)
+pub changed_own : (f : CarriedBytes → CarriedBytes) (all : List CarriedBytes) (o : Option Item) (id : ProcId) → KeepsId f → o ≡ Some (process id)
+    → carried_of (changed f all o) id ≡ f (carried_of all id)
 changed_own f all o id same e =
     ap (λ (x : Option Item). carried_of (changed f all x) id) e ∙ put_own all (f (carried_of all id)) id (same (carried_of all id) ∙ carried_id all id)
 
-pub changed_other : (f : CarriedBytes → CarriedBytes) (all : List CarriedBytes) (o : Option Item) (id x : ProcId) → KeepsId f → o ≡ Some (process id) → same_id x id ≡ false → carried_of (changed f all o) x ≡ carried_of all x
+pub changed_other : (f : CarriedBytes → CarriedBytes) (all : List CarriedBytes) (o : Option Item) (id x : ProcId) → KeepsId f → o ≡ Some (process id)
+    → same_id x id ≡ false → carried_of (changed f all o) x ≡ carried_of all x
 changed_other f all o id x same e but =
-    ap (λ (y : Option Item). carried_of (changed f all y) x) e ∙ put_other all (f (carried_of all id)) id x (same (carried_of all id) ∙ carried_id all id) (not_same x id but)
+    ap (λ (y : Option Item). carried_of (changed f all y) x) e ∙ put_other all (f (carried_of all id)) id x (same (carried_of all id) ∙ carried_id all id) (id_turned x id but)
 
 -- What holds of all still holds.
-pub changed_each : (P : CarriedBytes → Type 0) (f : CarriedBytes → CarriedBytes) (all : List CarriedBytes) (o : Option Item) (x : ProcId) → KeepsId f → ((c : CarriedBytes) → P c → P (f c)) → P (carried_of all x) → P (carried_of (changed f all o) x)
+pub changed_each : (P : CarriedBytes → Type 0) (f : CarriedBytes → CarriedBytes) (all : List CarriedBytes) (o : Option Item) (x : ProcId) → KeepsId f
+    → ((c : CarriedBytes) → P c → P (f c)) → P (carried_of all x) → P (carried_of (changed f all o) x)
 changed_each P f all None x same g h = h
 changed_each P f all (Some (abort j)) x same g h = h
 changed_each P f all (Some (process id)) x same g h =
     put_each P all (f (carried_of all id)) x (λ p. g (carried_of all id) (subst (λ (y : ProcId). P (carried_of all y)) (same (carried_of all id) ∙ carried_id all id) p)) h
 
-pub changed_alike : (f : CarriedBytes → CarriedBytes) (all : List CarriedBytes) (o : Option Item) (x : ProcId) → KeepsId f → ((c : CarriedBytes) → AreAlike c (f c)) → AreAlike (carried_of all x) (carried_of (changed f all o) x)
+pub changed_alike : (f : CarriedBytes → CarriedBytes) (all : List CarriedBytes) (o : Option Item) (x : ProcId) → KeepsId f
+    → ((c : CarriedBytes) → AreAlike c (f c)) → AreAlike (carried_of all x) (carried_of (changed f all o) x)
 changed_alike f all None x same g = alike_self _ _ refl
 changed_alike f all (Some (abort j)) x same g = alike_self _ _ refl
 changed_alike f all (Some (process id)) x same g =
@@ -119,26 +121,27 @@ restored_blank c e = record { block = refl; struck = refl; active = e; saved = e
 abbrev pub after_byte : LineSet → ℕ → CarriedBytes → CarriedBytes
 after_byte lines byte c = carried_after_byte c lines byte
 
-abbrev command_with : CarriedBytes → ℕ → CarriedBytes
-command_with c byte = record c { command = area_with c.command byte; block = c.block ++ byte ∷ [] }
-
 -- By its phase.
-pub command_byte : (lines : LineSet) (byte : ℕ) (c : CarriedBytes) → is_command lines ≡ true → after_byte lines byte c ≡ record c { command = area_with c.command byte; block = c.block ++ byte ∷ [] }
+pub command_byte : (lines : LineSet) (byte : ℕ) (c : CarriedBytes) → is_command lines ≡ true
+    → after_byte lines byte c ≡ record c { command = area_with c.command byte; block = c.block ++ byte ∷ [] }
 command_byte lines byte c e =
-    λ i. if e i then command_with c byte else if is_data lines then record c { moved = area_with c.moved byte } else if is_status_phase lines then record c { status = area_with c.status byte } else c
+    λ i. if e i then with_command_byte c byte else if is_data lines then record c { moved = area_with c.moved byte } else if is_status_phase lines then record c { status = area_with c.status byte } else c
 
-pub data_byte : (lines : LineSet) (byte : ℕ) (c : CarriedBytes) → is_command lines ≡ false → is_data lines ≡ true → after_byte lines byte c ≡ record c { moved = area_with c.moved byte }
+pub data_byte : (lines : LineSet) (byte : ℕ) (c : CarriedBytes) → is_command lines ≡ false → is_data lines ≡ true
+    → after_byte lines byte c ≡ record c { moved = area_with c.moved byte }
 data_byte lines byte c e f =
-    λ i. if e i then command_with c byte else if f i then record c { moved = area_with c.moved byte } else if is_status_phase lines then record c { status = area_with c.status byte } else c
+    λ i. if e i then with_command_byte c byte else if f i then record c { moved = area_with c.moved byte } else if is_status_phase lines then record c { status = area_with c.status byte } else c
 
-pub status_byte : (lines : LineSet) (byte : ℕ) (c : CarriedBytes) → is_command lines ≡ false → is_data lines ≡ false → is_status_phase lines ≡ true → after_byte lines byte c ≡ record c { status = area_with c.status byte }
+pub status_byte : (lines : LineSet) (byte : ℕ) (c : CarriedBytes) → is_command lines ≡ false → is_data lines ≡ false → is_status_phase lines ≡ true
+    → after_byte lines byte c ≡ record c { status = area_with c.status byte }
 status_byte lines byte c e f g =
-    λ i. if e i then command_with c byte else if f i then record c { moved = area_with c.moved byte } else if g i then record c { status = area_with c.status byte } else c
+    λ i. if e i then with_command_byte c byte else if f i then record c { moved = area_with c.moved byte } else if g i then record c { status = area_with c.status byte } else c
 
 pub byte_marks : (lines : LineSet) (byte : ℕ) (c : CarriedBytes) → KeepsMarks c (after_byte lines byte c)
 byte_marks lines byte c = go (is_command lines) (is_data lines) (is_status_phase lines)
   where
-    go : (q r v : Bool) → KeepsMarks c (if q then record c { command = area_with c.command byte; block = c.block ++ byte ∷ [] } else if r then record c { moved = area_with c.moved byte } else if v then record c { status = area_with c.status byte } else c)
+    go : (q r v : Bool)
+        → KeepsMarks c (if q then record c { command = area_with c.command byte; block = c.block ++ byte ∷ [] } else if r then record c { moved = area_with c.moved byte } else if v then record c { status = area_with c.status byte } else c)
     go true r v = record { id = refl; refused = refl; shown = refl; saved = refl }
     go false true v = record { id = refl; refused = refl; shown = refl; saved = refl }
     go false false true = record { id = refl; refused = refl; shown = refl; saved = refl }
@@ -148,7 +151,8 @@ byte_marks lines byte c = go (is_command lines) (is_data lines) (is_status_phase
 pub byte_alike : (lines : LineSet) (byte : ℕ) (c : CarriedBytes) → is_status_phase lines ≡ false → AreAlike c (after_byte lines byte c)
 byte_alike lines byte c e = go (is_command lines) (is_data lines) (is_status_phase lines) e
   where
-    go : (q r v : Bool) → v ≡ false → AreAlike c (if q then record c { command = area_with c.command byte; block = c.block ++ byte ∷ [] } else if r then record c { moved = area_with c.moved byte } else if v then record c { status = area_with c.status byte } else c)
+    go : (q r v : Bool) → v ≡ false
+        → AreAlike c (if q then record c { command = area_with c.command byte; block = c.block ++ byte ∷ [] } else if r then record c { moved = area_with c.moved byte } else if v then record c { status = area_with c.status byte } else c)
     go true r v z = record { status = refl; refused = refl; shown = refl }
     go false true v z = record { status = refl; refused = refl; shown = refl }
     go false false true z = wrong' (sym z)
@@ -158,7 +162,8 @@ byte_alike lines byte c e = go (is_command lines) (is_data lines) (is_status_pha
 pub byte_blank : (lines : LineSet) (byte : ℕ) (c : CarriedBytes) → is_command lines ≡ false → is_status_phase lines ≡ false → IsBlank c → IsBlank (after_byte lines byte c)
 byte_blank lines byte c f e h = go (is_command lines) (is_data lines) (is_status_phase lines) f e
   where
-    go : (q r v : Bool) → q ≡ false → v ≡ false → IsBlank (if q then record c { command = area_with c.command byte; block = c.block ++ byte ∷ [] } else if r then record c { moved = area_with c.moved byte } else if v then record c { status = area_with c.status byte } else c)
+    go : (q r v : Bool) → q ≡ false → v ≡ false
+        → IsBlank (if q then record c { command = area_with c.command byte; block = c.block ++ byte ∷ [] } else if r then record c { moved = area_with c.moved byte } else if v then record c { status = area_with c.status byte } else c)
     go true r v y z = wrong' (sym y)
     go false true v y z = record { block = h.block; struck = h.struck; active = h.active; saved = h.saved }
     go false false true y z = wrong' (sym z)
@@ -170,7 +175,8 @@ after_fault lines c = carried_after_fault c lines
 pub fault_marks : (lines : LineSet) (c : CarriedBytes) → KeepsMarks c (after_fault lines c)
 fault_marks lines c = go (is_command lines) (is_data lines)
   where
-    go : (q r : Bool) → KeepsMarks c (if q then record c { struck = true; failure = Some PARITY_ERROR } else if r then record c { failure = Some (if lines.io then INITIATOR_DETECTED_ERROR else PARITY_ERROR) } else c)
+    go : (q r : Bool)
+        → KeepsMarks c (if q then record c { struck = true; failure = Some PARITY_ERROR } else if r then record c { failure = Some (if lines.io then INITIATOR_DETECTED_ERROR else PARITY_ERROR) } else c)
     go true r = record { id = refl; refused = refl; shown = refl; saved = refl }
     go false true = record { id = refl; refused = refl; shown = refl; saved = refl }
     go false false = record { id = refl; refused = refl; shown = refl; saved = refl }
@@ -178,7 +184,8 @@ fault_marks lines c = go (is_command lines) (is_data lines)
 pub fault_alike : (lines : LineSet) (c : CarriedBytes) → AreAlike c (after_fault lines c)
 fault_alike lines c = go (is_command lines) (is_data lines)
   where
-    go : (q r : Bool) → AreAlike c (if q then record c { struck = true; failure = Some PARITY_ERROR } else if r then record c { failure = Some (if lines.io then INITIATOR_DETECTED_ERROR else PARITY_ERROR) } else c)
+    go : (q r : Bool)
+        → AreAlike c (if q then record c { struck = true; failure = Some PARITY_ERROR } else if r then record c { failure = Some (if lines.io then INITIATOR_DETECTED_ERROR else PARITY_ERROR) } else c)
     go true r = record { status = refl; refused = refl; shown = refl }
     go false true = record { status = refl; refused = refl; shown = refl }
     go false false = record { status = refl; refused = refl; shown = refl }
@@ -186,7 +193,8 @@ fault_alike lines c = go (is_command lines) (is_data lines)
 pub fault_blank : (lines : LineSet) (c : CarriedBytes) → is_command lines ≡ false → IsBlank c → IsBlank (after_fault lines c)
 fault_blank lines c e h = go (is_command lines) (is_data lines) e
   where
-    go : (q r : Bool) → q ≡ false → IsBlank (if q then record c { struck = true; failure = Some PARITY_ERROR } else if r then record c { failure = Some (if lines.io then INITIATOR_DETECTED_ERROR else PARITY_ERROR) } else c)
+    go : (q r : Bool) → q ≡ false
+        → IsBlank (if q then record c { struck = true; failure = Some PARITY_ERROR } else if r then record c { failure = Some (if lines.io then INITIATOR_DETECTED_ERROR else PARITY_ERROR) } else c)
     go true r z = wrong' (sym z)
     go false true z = record { block = h.block; struck = h.struck; active = h.active; saved = h.saved }
     go false false z = h
@@ -199,7 +207,8 @@ pub record ChangesBy (f : CarriedBytes → CarriedBytes) (b c : Story) (o : Opti
   pub sent : c.sent ≡ b.sent
   pub link : c.link ≡ b.link
 
-pub by_byte : (b : Story) (d : RowReading) (o : Option Item) → ChangesBy (after_byte d.change.before (d.change.after.data_bits % 256)) b (story_with_carried b (carried_after_byte_if (carried_if b o) d)) o
+pub by_byte : (b : Story) (d : RowReading) (o : Option Item)
+    → ChangesBy (after_byte d.change.before (d.change.after.data_bits % 256)) b (story_with_carried b (carried_after_byte_if (carried_if b o) d)) o
 by_byte b d None = record { carried = refl; sent = refl; link = refl }
 by_byte b d (Some (process id)) = record { carried = refl; sent = refl; link = refl }
 by_byte b d (Some (abort j)) = record { carried = refl; sent = refl; link = refl }

@@ -47,13 +47,15 @@ new_nexus aborts (Some p) name c = refl
 
 -- ---- the names
 
-pub closed_names : (t : TranscriberValue) (n : Connection) (parts : List Part) (free : Bool) (sum : Summary) → names_begun (closed_by t n parts free sum).items ≡ names_begun t.items ++ (if n.reselected then [] else (process_for t n sum).name ∷ [])
+pub closed_names : (t : TranscriberValue) (n : Connection) (parts : List Part) (free : Bool) (sum : Summary)
+    → names_begun (closed_by t n parts free sum).items ≡ names_begun t.items ++ (if n.reselected then [] else (process_for t n sum).name ∷ [])
 closed_names t n parts free sum =
     ap (λ (list : List item_of.Item). names_begun list) (closed_items t n parts free sum)
     ∙ names_append t.items (connection_items n (process_for t n sum) parts free sum)
     ∙ ap (λ (list : List Name). names_begun t.items ++ list) (connection_names n (process_for t n sum) parts free sum)
 
-pub closed_numbered : (t : TranscriberValue) (n : Connection) (parts : List Part) (free : Bool) (sum : Summary) → length (names_begun t.items) < 4294967290 → AreNumbered t.processes (names_begun t.items) → AreNumbered (closed_by t n parts free sum).processes (names_begun (closed_by t n parts free sum).items)
+pub closed_numbered : (t : TranscriberValue) (n : Connection) (parts : List Part) (free : Bool) (sum : Summary) → length (names_begun t.items) < 4294967290
+    → AreNumbered t.processes (names_begun t.items) → AreNumbered (closed_by t n parts free sum).processes (names_begun (closed_by t n parts free sum).items)
 closed_numbered t n parts free sum less h =
     subst (λ (last : List (Key × Process)). AreNumbered last (names_begun (closed_by t n parts free sum).items)) (sym (closed_processes t n parts free sum)) (subst (λ (names : List Name). AreNumbered (with_process n.reselected (is_some sum.abort) t.processes (account_by (process_for t n sum) parts).process) names) (sym (closed_names t n parts free sum)) (go n.reselected (is_some sum.abort) refl refl))
   where
@@ -63,10 +65,12 @@ closed_numbered t n parts free sum less h =
     is : (q r : Bool) → n.reselected ≡ q → is_some sum.abort ≡ r → (process_for t n sum).name ≡ (process_after q r (process_of t.processes (name_of n sum)) (name_of n sum)).name
     is q r e f = λ i. (process_after (e i) (f i) (process_of t.processes (name_of n sum)) (name_of n sum)).name
 
-    go : (q r : Bool) → n.reselected ≡ q → is_some sum.abort ≡ r → AreNumbered (with_process n.reselected (is_some sum.abort) t.processes (account_by (process_for t n sum) parts).process) (names_begun t.items ++ (if n.reselected then [] else (process_for t n sum).name ∷ []))
+    go : (q r : Bool) → n.reselected ≡ q → is_some sum.abort ≡ r
+        → AreNumbered (with_process n.reselected (is_some sum.abort) t.processes (account_by (process_for t n sum) parts).process) (names_begun t.items ++ (if n.reselected then [] else (process_for t n sum).name ∷ []))
     go q r e f = subst (λ (x : Bool). AreNumbered (with_process x (is_some sum.abort) t.processes (account_by (process_for t n sum) parts).process) (names_begun t.items ++ (if x then [] else (process_for t n sum).name ∷ []))) (sym e) (subst (λ (x : Bool). AreNumbered (with_process q x t.processes (account_by (process_for t n sum) parts).process) (names_begun t.items ++ (if q then [] else (process_for t n sum).name ∷ []))) (sym f) (by q r e f))
       where
-        by : (q r : Bool) → n.reselected ≡ q → is_some sum.abort ≡ r → AreNumbered (with_process q r t.processes (account_by (process_for t n sum) parts).process) (names_begun t.items ++ (if q then [] else (process_for t n sum).name ∷ []))
+        by : (q r : Bool) → n.reselected ≡ q → is_some sum.abort ≡ r
+            → AreNumbered (with_process q r t.processes (account_by (process_for t n sum) parts).process) (names_begun t.items ++ (if q then [] else (process_for t n sum).name ∷ []))
         by true true e f =
             subst (λ (names : List Name). AreNumbered (with_last t.processes (account_by (process_for t n sum) parts).process) names) (sym (append-nil (names_begun t.items))) (again_numbered t.processes (names_begun t.items) (name_of n sum) (account_by (process_for t n sum) parts).process true (name ∙ is true true e f) h)
         by true false e f =
@@ -89,11 +93,13 @@ parts_left s rows k = closing_parts k (story s rows).bus_state.bus (story s rows
 abbrev pub closed_left : ScenarioValue → List Row → OpenedValue → Bool → TranscriberValue
 closed_left s rows k free = closed_by (transcribed rows) k.connection (parts_left s rows k) free (summary_by k.connection (parts_left s rows k))
 
-phase_closed : (t : TranscriberValue) (k : OpenedValue) (lines : LineSet) (half : List ℕ) (free : Bool) → closed_with t (settled (phase_over k lines half false) false) free ≡ closed_by t k.connection (closing_parts k lines half) free (summary_by k.connection (closing_parts k lines half))
+phase_closed : (t : TranscriberValue) (k : OpenedValue) (lines : LineSet) (half : List ℕ) (free : Bool)
+    → closed_with t (settled (phase_over k lines half false) false) free ≡ closed_by t k.connection (closing_parts k lines half) free (summary_by k.connection (closing_parts k lines half))
 phase_closed t k lines half free =
     λ i. closed_by t ((over_keeps k lines half false).connection i) (closing_parts k lines half) free (summary_by ((over_keeps k lines half false).connection i) (closing_parts k lines half))
 
-pub left_closed : (s : ScenarioValue) (rows : List Row) (row : Row) (h : StandsLinked s (transcribed rows) (story s rows)) (free : Bool) → closed_if (transcribed rows) (transcribed rows).opened (row_reading (transcribed rows).bus_state row) free ≡ closed_left s rows h.opened free
+pub left_closed : (s : ScenarioValue) (rows : List Row) (row : Row) (h : StandsLinked s (transcribed rows) (story s rows)) (free : Bool)
+    → closed_if (transcribed rows) (transcribed rows).opened (row_reading (transcribed rows).bus_state row) free ≡ closed_left s rows h.opened free
 left_closed s rows row h free =
     let w = buses_alike s rows in
     let same = reading_same (transcribed rows).bus_state (story s rows).bus_state row w in

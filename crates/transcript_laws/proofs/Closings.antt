@@ -32,13 +32,12 @@ use Rattle.transcript_laws.proofs.AccountSteps.{same_account}
 use Rattle.transcript_laws.proofs.PartLists.{over_parts, broken_parts}
 use Rattle.transcript_laws.proofs.ShownParts.{part_more, talk_more}
 use Rattle.transcript_laws.proofs.TurnSteps.{phase_account, same_block, spoken_same, outs_talk, broken_talk, data_shown}
-
-abbrev pub account_by : Process → List Part → AccountValue
-account_by p parts = account_after_all (account_of p []) parts
+pub use Rattle.transcript_laws.proofs.ServingSteps.{account_by}
 
 -- ---- what is carried no longer counts
 
-closing_account : (k : OpenedValue) (s : LineSet) (half : List ℕ) (p : Process) → account_by p (closing_parts k s half) ≡ account_after_all (account_after_all (account_after_all (account_base k p) (out_parts k.said)) (broken_parts s half)) (phase_parts k s false)
+closing_account : (k : OpenedValue) (s : LineSet) (half : List ℕ) (p : Process)
+    → account_by p (closing_parts k s half) ≡ account_after_all (account_after_all (account_after_all (account_base k p) (out_parts k.said)) (broken_parts s half)) (phase_parts k s false)
 closing_account k s half p =
     let a : AccountValue = account_of p [] in
     ap (λ (parts : List Part). account_after_all a parts) (over_parts k s half false)
@@ -46,18 +45,21 @@ closing_account k s half p =
     ∙ ap (λ (x : AccountValue). account_after_all x (phase_parts k s false)) (all_after a (parts_now k) (broken_parts s half) ∙ ap (λ (x : AccountValue). account_after_all x (broken_parts s half)) (all_after a (base_parts k) (out_parts k.said)))
 
 -- The account is still what the process has carried.
-pub closing_is : (k : OpenedValue) (s : LineSet) (half : List ℕ) (id : ProcId) (now back : CarriedBytes) (conn history : List Event) (was : Bool) (st : Option ℕ) (p : Process) → IsServing k (is_command s) id now back conn history was st → IsAsBegun p was st → IsAccountOf (account_by p (closing_parts k s half)) now
+pub closing_is : (k : OpenedValue) (s : LineSet) (half : List ℕ) (id : ProcId) (now back : CarriedBytes) (conn history : List Event) (was : Bool) (st : Option ℕ) (p : Process)
+    → IsServing k (is_command s) id now back conn history was st → IsAsBegun p was st → IsAccountOf (account_by p (closing_parts k s half)) now
 closing_is k s half id now back conn history was st p h b =
     let c : AccountValue = account_after_all (account_after_all (account_base k p) (out_parts k.said)) (broken_parts s half) in
     subst (λ (a : AccountValue). IsAccountOf a now) (sym (closing_account k s half p)) (phase_account c now (is_command s) (is_data s) (not s.io) k.bytes k.struck false (same_account (with_block (account_base k p) (if is_command s then k.bytes else []) (is_command s && k.struck)) (with_block c (if is_command s then k.bytes else []) (is_command s && k.struck)) now (same_block (account_base k p) c (if is_command s then k.bytes else []) (is_command s && k.struck) (spoken_same k s half p)) (h.account p b)))
 
 -- And no event is shown with it.
-left_shown : (refused : List Name) (a : AccountValue) (q r out : Bool) (bytes : List ℕ) (struck : Bool) → shown_items refused (account_after_all a (if q then parts_of.Command bytes struck false ∷ [] else if r then data_parts out bytes else [])).items ≡ shown_items refused a.items
+left_shown : (refused : List Name) (a : AccountValue) (q r out : Bool) (bytes : List ℕ) (struck : Bool)
+    → shown_items refused (account_after_all a (if q then parts_of.Command bytes struck false ∷ [] else if r then data_parts out bytes else [])).items ≡ shown_items refused a.items
 left_shown refused a true r out bytes struck = (part_more refused a (parts_of.Command bytes struck false)).shown ∙ append-nil (shown_items refused a.items)
 left_shown refused a false true out bytes struck = data_shown refused a out bytes ∙ append-nil (shown_items refused a.items)
 left_shown refused a false false out bytes struck = refl
 
-pub closing_shown : (refused : List Name) (k : OpenedValue) (s : LineSet) (half : List ℕ) (p : Process) → shown_items refused (account_by p (closing_parts k s half)).items ≡ shown_items refused (account_base k p).items
+pub closing_shown : (refused : List Name) (k : OpenedValue) (s : LineSet) (half : List ℕ) (p : Process)
+    → shown_items refused (account_by p (closing_parts k s half)).items ≡ shown_items refused (account_base k p).items
 closing_shown refused k s half p =
     let a : AccountValue = account_after_all (account_base k p) (out_parts k.said) in
     let c : AccountValue = account_after_all a (broken_parts s half) in
@@ -117,7 +119,8 @@ free_process false a s = refl
 abbrev pub connection_items : Connection → Process → List Part → Bool → Summary → List Item
 connection_items n p parts free s = items.Connect n.began p.name n.reselected ∷ ((account_by p parts).items ++ leaving_items free p.name s)
 
-all_items : (n : Connection) (p : Process) (parts : List Part) (list : List Item) (free : Bool) (s : Summary) → (departed_if free (account_parts n p parts list) s).items ≡ list ++ connection_items n p parts free s
+all_items : (n : Connection) (p : Process) (parts : List Part) (list : List Item) (free : Bool) (s : Summary)
+    → (departed_if free (account_parts n p parts list) s).items ≡ list ++ connection_items n p parts free s
 all_items n p parts list free s =
     let c : Item = items.Connect n.began p.name n.reselected in
     ap (λ (a : AccountValue). (departed_if free a s).items) (account_is n p parts list)
@@ -126,11 +129,13 @@ all_items n p parts list free s =
     ∙ append_assoc (list ++ c ∷ []) (account_by p parts).items (leaving_items free p.name s)
     ∙ append_assoc list (c ∷ []) ((account_by p parts).items ++ leaving_items free p.name s)
 
-pub closed_items : (t : TranscriberValue) (n : Connection) (parts : List Part) (free : Bool) (s : Summary) → (closed_by t n parts free s).items ≡ t.items ++ connection_items n (process_for t n s) parts free s
+pub closed_items : (t : TranscriberValue) (n : Connection) (parts : List Part) (free : Bool) (s : Summary)
+    → (closed_by t n parts free s).items ≡ t.items ++ connection_items n (process_for t n s) parts free s
 unfolding closed_by
 closed_items t n parts free s = all_items n (process_for t n s) parts t.items free s
 
-pub closed_processes : (t : TranscriberValue) (n : Connection) (parts : List Part) (free : Bool) (s : Summary) → (closed_by t n parts free s).processes ≡ with_process n.reselected (is_some s.abort) t.processes (account_by (process_for t n s) parts).process
+pub closed_processes : (t : TranscriberValue) (n : Connection) (parts : List Part) (free : Bool) (s : Summary)
+    → (closed_by t n parts free s).processes ≡ with_process n.reselected (is_some s.abort) t.processes (account_by (process_for t n s) parts).process
 unfolding closed_by
 closed_processes t n parts free s =
     ap (λ (p : Process). with_process n.reselected (is_some s.abort) t.processes p) (free_process free (account_parts n (process_for t n s) parts t.items) s ∙ ap (λ (a : AccountValue). a.process) (account_is n (process_for t n s) parts t.items))

@@ -3,7 +3,6 @@
 use Rattle.std.proofs.Common.{ℕ, ◌≡◌, ◌∙◌, ◌⊎◌, inl, inr, ◌<◌, Bool, true, false, not, ◌&&◌, ◌%◌, List, [], ◌∷◌, ◌++◌, length, Option, Some, None, refl, sym, ap, subst, arith}
 use Rattle.std.specs.Prelude.{◌||◌, is_some, is_none, if◌then◌else◌}
 use Rattle.std.proofs.lemmas.Option.{same_Some}
-use Rattle.bus_base.specs.declared.ProcId.{ProcId}
 use Rattle.bus_trace.specs.LineSet.{LineSet}
 use Rattle.bus_trace.specs.Changes.{rises}
 use Rattle.bus_trace.specs.Phases.{is_command, is_message_in, is_message_out}
@@ -38,7 +37,7 @@ use Rattle.transcript_laws.specs.Parts.{are_talk, base_parts, is_known}
 use Rattle.transcript_laws.specs.RowTests.{names_item, fits_in, is_no_abort}
 use Rattle.transcript_laws.proofs.OpenedBytes.{OpenedBytes, crosses_is, begun_crossing}
 use Rattle.transcript_laws.proofs.OpenedFacts.{Going, knows_before}
-use Rattle.transcript_laws.proofs.TurnFits.{item_served}
+use Rattle.transcript_laws.proofs.TurnFits.{item_served, not_both}
 use Rattle.bus_base.proofs.Tests.{wrong, wrong', eq_self}
 
 some_of : (o : Option ℕ) (dev : ℕ) → o ≡ Some dev → is_some o ≡ true
@@ -60,7 +59,8 @@ third_false true true false b e = refl
 third_false true false y b e = refl
 third_false false x y b e = refl
 
-pub completes_none : (s : ScenarioValue) (p : List Row) (row : Row) (n : Connection) (g : Going s p row n) (l : Link) (dev : ℕ) → (run_state s p).story.link ≡ Some l → receiver_in n g.going.change ≡ Some dev → story_of.is_completion l g.going.change ≡ false
+pub completes_none : (s : ScenarioValue) (p : List Row) (row : Row) (n : Connection) (g : Going s p row n) (l : Link) (dev : ℕ)
+    → (run_state s p).story.link ≡ Some l → receiver_in n g.going.change ≡ Some dev → story_of.is_completion l g.going.change ≡ false
 completes_none s p row n g l dev el er = go (is_message_in c.before) (story_of.is_complete l.last) refl refl
   where
     k : RunState
@@ -95,10 +95,8 @@ no_message_line b phase out into = go b.msg b.cd b.io phase out into
     go true false i h x y = wrong' (h refl)
     go false d i h x y = refl
 
-not_both : {A : Type 0} (id : ProcId) (j : ℕ) → (let o : Option Item = Some (process id) in o) ≡ Some (abort j) → A
-not_both id j e = absurd cc
-
-pub takes_none : (s : ScenarioValue) (p : List Row) (row : Row) (n : Connection) (g : Going s p row n) (l : Link) (dev : ℕ) → (run_state s p).story.link ≡ Some l → receiver_in n g.going.change ≡ Some dev → is_message_out g.going.change.before ≡ false → is_no_abort l.item ≡ true
+pub takes_none : (s : ScenarioValue) (p : List Row) (row : Row) (n : Connection) (g : Going s p row n) (l : Link) (dev : ℕ)
+    → (run_state s p).story.link ≡ Some l → receiver_in n g.going.change ≡ Some dev → is_message_out g.going.change.before ≡ false → is_no_abort l.item ≡ true
 takes_none s p row n g l dev el er no_out = go l.item refl
   where
     k : RunState
@@ -125,7 +123,9 @@ self_if (Some (process id)) = self_id id
 self_if (Some (abort j)) = eq_self j
 
 -- What a byte makes whole is a message of the target.
-pub whole_on : (s : ScenarioValue) (p : List Row) (row : Row) (n : Connection) (g : Going s p row n) (dev : ℕ) (q : MsgIn → Type 0) → receiver_in n g.going.change ≡ Some dev → is_message_in g.going.change.before ≡ true → OnMessages q (run_state s p).exchange.plan.messages → OnMessage q (message_in (run_state s p).story.bus_state.dialogue g.going.change true)
+pub whole_on : (s : ScenarioValue) (p : List Row) (row : Row) (n : Connection) (g : Going s p row n) (dev : ℕ) (q : MsgIn → Type 0)
+    → receiver_in n g.going.change ≡ Some dev → is_message_in g.going.change.before ≡ true → OnMessages q (run_state s p).exchange.plan.messages
+    → OnMessage q (message_in (run_state s p).story.bus_state.dialogue g.going.change true)
 whole_on s p row n g dev q er here on =
     let k : RunState = run_state s p in
     let c : Change = g.going.change in
@@ -155,7 +155,9 @@ abbrev next_item : ScenarioValue → RunState → Link → MsgIn → Option Item
 next_item s k l m = (link_after_name k.story.sent s.commands l m).item
 
 -- A process that was selected keeps its item, and one that is not known yet is named, or not.
-pub names_fit : (s : ScenarioValue) (p : List Row) (row : Row) (n : Connection) (g : Going s p row n) (o : OpenedValue) (l : Link) (dev : ℕ) → OpenedBytes (run_state s p) n o → (run_state s p).story.link ≡ Some l → receiver_in n g.going.change ≡ Some dev → is_message_in g.going.change.before ≡ true
+pub names_fit : (s : ScenarioValue) (p : List Row) (row : Row) (n : Connection) (g : Going s p row n) (o : OpenedValue) (l : Link) (dev : ℕ)
+    → OpenedBytes (run_state s p) n o → (run_state s p).story.link ≡ Some l → receiver_in n g.going.change ≡ Some dev
+    → is_message_in g.going.change.before ≡ true
     → (n.reselected ≡ true → are_talk (base_parts o) ≡ false → OnMessages IsNoName (run_state s p).exchange.plan.messages)
     → fits_in s (run_state s p).story o l (message_in (run_state s p).story.bus_state.dialogue g.going.change true) ≡ true
 names_fit s p row n g o l dev h el er here nameless = go (message_in k.story.bus_state.dialogue c true) refl
@@ -182,7 +184,8 @@ names_fit s p row n g o l dev h el er here nameless = go (message_in k.story.bus
     plain : (m : MsgIn) → message_in k.story.bus_state.dialogue c true ≡ Some m → OnMessages IsNoName k.exchange.plan.messages → is_name m ≡ false
     plain m e on = on_message IsNoName m (message_in k.story.bus_state.dialogue c true) e (whole_on s p row n g dev IsNoName er here on)
 
-    after : (m : MsgIn) → message_in k.story.bus_state.dialogue c true ≡ Some m → n.reselected ≡ true → (q : Bool) → is_name m ≡ q → (is_none l.item || is_none (next_item s (run_state s p) l m) || same_item_if l.item (next_item s (run_state s p) l m)) ≡ true
+    after : (m : MsgIn) → message_in k.story.bus_state.dialogue c true ≡ Some m → n.reselected ≡ true → (q : Bool) → is_name m ≡ q
+        → (is_none l.item || is_none (next_item s (run_state s p) l m) || same_item_if l.item (next_item s (run_state s p) l m)) ≡ true
     after m e re true f = names_if l.item k.served (next_item s (run_state s p) l m) (g.going.goes.names l m re el (ap (λ (d : RowReading). d.into) (crosses_is s p row n g true (some_of (receiver_in n c) dev er)) ∙ e) f) (was w.item_is)
     after m e re false f = any (is_none l.item) (is_none (next_item s (run_state s p) l m)) (same_item_if l.item (next_item s (run_state s p) l m)) (keeps m f)
       where
@@ -213,9 +216,11 @@ names_fit s p row n g o l dev h el er here nameless = go (message_in k.story.bus
             ∙ ap (λ (q : Bool). not q || is_command k.story.bus_state.bus) f
             ∙ no_command) ∙ kn)
 
-        by : (r : Bool) → n.reselected ≡ r → (q : Bool) → is_known o k.story.bus_state.bus ≡ q → names_item (is_known o k.story.bus_state.bus) l.item (next_item s (run_state s p) l m) ≡ true
+        by : (r : Bool) → n.reselected ≡ r → (q : Bool) → is_known o k.story.bus_state.bus ≡ q
+            → names_item (is_known o k.story.bus_state.bus) l.item (next_item s (run_state s p) l m) ≡ true
         by false sel q kn =
             let yes : is_known o k.story.bus_state.bus ≡ true = ap (λ (x : Connection). not x.reselected || not (are_talk (base_parts o)) || is_command k.story.bus_state.bus) h.connection_is ∙ ap (λ (x : Bool). not x || not (are_talk (base_parts o)) || is_command k.story.bus_state.bus) sel in
             ap (λ (x : Bool). names_item x l.item (next_item s (run_state s p) l m)) yes ∙ keeps m (plain m e (w.nameless sel))
-        by true re true kn = ap (λ (x : Bool). names_item x l.item (next_item s (run_state s p) l m)) kn ∙ keeps m (plain m e (nameless re (untold re kn (are_talk (base_parts o)) refl)))
+        by true re true kn =
+            ap (λ (x : Bool). names_item x l.item (next_item s (run_state s p) l m)) kn ∙ keeps m (plain m e (nameless re (untold re kn (are_talk (base_parts o)) refl)))
         by true re false kn = ap (λ (x : Bool). names_item x l.item (next_item s (run_state s p) l m)) kn ∙ after m e re (is_name m) refl

@@ -14,6 +14,7 @@ use Rattle.bus_story.specs.HistoryEvents.{is_completion, carried_if, end_events,
 use Rattle.bus_story.specs.Links.{Link}
 use Rattle.bus_story.specs.Story.{Story}
 use Rattle.bus_story.specs.TraceHistory.{story_with_carried, carried_after_byte_if, story_after_byte, story_after_in, story_after_out, story_after_crossing, story_after_fault, story_in_connection, story}
+use Rattle.trace_laws.proofs.CommandMessages.{crossed_else}
 use Rattle.bus_transcript.specs.Opened.{OpenedValue, with_crossing, with_still_row, phase_over, phase_entered, with_row}
 use Rattle.bus_transcript.specs.Rows.{transcribed}
 use Rattle.transcript_laws.specs.Standing.{StandsLinked}
@@ -38,7 +39,10 @@ pub record Crosses (s : ScenarioValue) (rows : List Row) (row : Row) (l : Link) 
   pub stays : changes_phase (row_reading (story s rows).bus_state row).change ≡ false
   pub incomplete : is_completion l (row_reading (story s rows).bus_state row).change ≡ false
 
-pub crossing_makes : (s : ScenarioValue) (rows : List Row) (row : Row) (h : StandsLinked s (transcribed rows) (story s rows)) (k : OpenedValue) (c : Story) → IsOn s rows row h.opened.connection → Crosses s rows row h.link → with_crossing h.opened (story s rows).bus_state.dialogue.is_last (row_reading (story s rows).bus_state row) ≡ k → story_after_crossing s (story s rows) h.link (row_reading (story s rows).bus_state row) ≡ c → Makes s rows row k c []
+pub crossing_makes : (s : ScenarioValue) (rows : List Row) (row : Row) (h : StandsLinked s (transcribed rows) (story s rows)) (k : OpenedValue) (c : Story)
+    → IsOn s rows row h.opened.connection → Crosses s rows row h.link
+    → with_crossing h.opened (story s rows).bus_state.dialogue.is_last (row_reading (story s rows).bus_state row) ≡ k
+    → story_after_crossing s (story s rows) h.link (row_reading (story s rows).bus_state row) ≡ c → Makes s rows row k c []
 crossing_makes s rows row h k c on g e f = record {
   transcript_is =
       change_on s rows row h on
@@ -69,19 +73,16 @@ no_into w row e = go (row_reading w row).crosses
 pub out_story : (s : ScenarioValue) (b : Story) (l : Link) (d : RowReading) (m : MsgOut) → d.out ≡ Some m → story_after_crossing s b l d ≡ story_after_out b l (Some m)
 out_story s b l d m e = λ i. if is_some (e i) then story_after_out b l (e i) else if is_some d.into then story_after_in s b l d.into else story_after_byte b l d
 
-pub in_story : (s : ScenarioValue) (b : Story) (l : Link) (d : RowReading) (m : MsgIn) → d.out ≡ None → d.into ≡ Some m → story_after_crossing s b l d ≡ story_after_in s b l (Some m)
+pub in_story : (s : ScenarioValue) (b : Story) (l : Link) (d : RowReading) (m : MsgIn) → d.out ≡ None → d.into ≡ Some m
+    → story_after_crossing s b l d ≡ story_after_in s b l (Some m)
 in_story s b l d m e f =
-    (λ i. if is_some (e i) then story_after_out b l (e i) else if is_some d.into then story_after_in s b l d.into else story_after_byte b l d)
-    ∙ (λ i. if is_some (f i) then story_after_in s b l (f i) else story_after_byte b l d)
-
-pub byte_story : (s : ScenarioValue) (b : Story) (l : Link) (d : RowReading) → d.out ≡ None → d.into ≡ None → story_after_crossing s b l d ≡ story_after_byte b l d
-byte_story s b l d e f =
     (λ i. if is_some (e i) then story_after_out b l (e i) else if is_some d.into then story_after_in s b l d.into else story_after_byte b l d)
     ∙ (λ i. if is_some (f i) then story_after_in s b l (f i) else story_after_byte b l d)
 
 -- A byte of a message changes nothing of it.
 pub message_story : (s : ScenarioValue) (b : Story) (l : Link) (d : RowReading) → d.out ≡ None → d.into ≡ None → d.change.before.msg ≡ true → story_after_crossing s b l d ≡ b
-message_story s b l d e f msg = byte_story s b l d e f ∙ ap (λ (q : Bool). if q then b else story_with_carried b (carried_after_byte_if (carried_if b l.item) d)) msg
+message_story s b l d e f msg = crossed_else s b l d e f ∙ ap (λ (q : Bool). if q then b else story_with_carried b (carried_after_byte_if (carried_if b l.item) d)) msg
 
-pub carried_story : (s : ScenarioValue) (b : Story) (l : Link) (d : RowReading) → d.out ≡ None → d.into ≡ None → d.change.before.msg ≡ false → story_after_crossing s b l d ≡ story_with_carried b (carried_after_byte_if (carried_if b l.item) d)
-carried_story s b l d e f msg = byte_story s b l d e f ∙ ap (λ (q : Bool). if q then b else story_with_carried b (carried_after_byte_if (carried_if b l.item) d)) msg
+pub carried_story : (s : ScenarioValue) (b : Story) (l : Link) (d : RowReading) → d.out ≡ None → d.into ≡ None → d.change.before.msg ≡ false
+    → story_after_crossing s b l d ≡ story_with_carried b (carried_after_byte_if (carried_if b l.item) d)
+carried_story s b l d e f msg = crossed_else s b l d e f ∙ ap (λ (q : Bool). if q then b else story_with_carried b (carried_after_byte_if (carried_if b l.item) d)) msg

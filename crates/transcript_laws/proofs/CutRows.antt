@@ -71,7 +71,8 @@ data_summary : (again out : Bool) (sum : Summary) (bytes : List ℕ) → summary
 data_summary again out sum [] = refl
 data_summary again out sum (b ∷ bytes) = refl
 
-phase_summary : (again q r out struck left : Bool) (sum : Summary) (bytes : List ℕ) → summary_of again sum (if q then parts_of.Command bytes struck left ∷ [] else if r then data_parts out bytes else []) ≡ sum
+phase_summary : (again q r out struck left : Bool) (sum : Summary) (bytes : List ℕ)
+    → summary_of again sum (if q then parts_of.Command bytes struck left ∷ [] else if r then data_parts out bytes else []) ≡ sum
 phase_summary again true r out struck left sum bytes = refl
 phase_summary again false true out struck left sum bytes = data_summary again out sum bytes
 phase_summary again false false out struck left sum bytes = refl
@@ -117,7 +118,8 @@ reset_change t d row on = λ i. if on i then under_reset t d row else on_bus t t
 abbrev pub resets_of : RowReading → Row → List Event
 resets_of d row = if rises d.change.own.rst d.change.next.rst then events.Reset row.dev ∷ [] else []
 
-pub reset_story : (s : ScenarioValue) (b : Story) (row : Row) (d : RowReading) → d.change.after.rst ≡ true → story_by s b row d ≡ story_with_history (story_after_events s (record b { link = None }) (resets_of d row)) (bus_state_after b.bus_state row d) (resets_of d row) b.history
+pub reset_story : (s : ScenarioValue) (b : Story) (row : Row) (d : RowReading) → d.change.after.rst ≡ true
+    → story_by s b row d ≡ story_with_history (story_after_events s (record b { link = None }) (resets_of d row)) (bus_state_after b.bus_state row d) (resets_of d row) b.history
 reset_story s b row d on =
     ap (λ (shown : List Event). story_with s b row d shown) (λ i. if on i then resets_of d row else link_events s b b.link d)
     ∙ (λ i. story_with_history (story_after_events s (if on i then record b { link = None } else story_on_bus s b b.bus_state.connection d.next d row) (resets_of d row)) (bus_state_after b.bus_state row d) (resets_of d row) b.history)
@@ -140,12 +142,14 @@ unlisted f (item ∷ list) x none has = go (same_item item (process x)) refl has
     second true q z = wrong' z
     second false q z = z
 
-    go : (q : Bool) → same_item item (process x) ≡ q → (q || has_item list (process x)) ≡ true → not (f item || list_any f list) ≡ true → (not (list_any f list) ≡ true → has_item list (process x) ≡ true → f (process x) ≡ false) → f (process x) ≡ false
+    go : (q : Bool) → same_item item (process x) ≡ q → (q || has_item list (process x)) ≡ true → not (f item || list_any f list) ≡ true
+        → (not (list_any f list) ≡ true → has_item list (process x) ≡ true → f (process x) ≡ false) → f (process x) ≡ false
     go true e h n rest = ap f (sym (item_is item (process x) e)) ∙ fails (f item) (list_any f list) n
     go false e h n rest = rest (second (f item) (list_any f list) n) h
 
 -- What a reset ends is the same whether the link is there.
-ends_same : (drops stops : CmdDef → Bool) (e : Ending) (n : ℕ) (commands : List CmdDef) (b c : Story) → b.sent ≡ c.sent → (story_with_ends drops stops e n commands b).sent ≡ (story_with_ends drops stops e n commands c).sent
+ends_same : (drops stops : CmdDef → Bool) (e : Ending) (n : ℕ) (commands : List CmdDef) (b c : Story) → b.sent ≡ c.sent
+    → (story_with_ends drops stops e n commands b).sent ≡ (story_with_ends drops stops e n commands c).sent
 ends_same drops stops e n [] b c h = h
 ends_same drops stops e n (x ∷ commands) b c h = ends_same drops stops e (n + 1) commands (after b) (after c) ((λ i. (after (record b { sent = h i })).sent) ∙ go (is_open c.sent n && drops x) (stops x && list_any (λ k. k == n) c.sent.checks))
   where
@@ -155,7 +159,8 @@ ends_same drops stops e n (x ∷ commands) b c h = ends_same drops stops e (n + 
         else if stops x && list_any (λ k. k == n) a.sent.checks then story_with_over a (sense_item n)
         else a
 
-    go : (q r : Bool) → (if q then story_with_end (record b { sent = c.sent }) (record { command = n; sense = false }) e else if r then story_with_over (record b { sent = c.sent }) (sense_item n) else record b { sent = c.sent }).sent ≡ (if q then story_with_end c (record { command = n; sense = false }) e else if r then story_with_over c (sense_item n) else c).sent
+    go : (q r : Bool)
+        → (if q then story_with_end (record b { sent = c.sent }) (record { command = n; sense = false }) e else if r then story_with_over (record b { sent = c.sent }) (sense_item n) else record b { sent = c.sent }).sent ≡ (if q then story_with_end c (record { command = n; sense = false }) e else if r then story_with_over c (sense_item n) else c).sent
     go true r = refl
     go false true = refl
     go false false = refl

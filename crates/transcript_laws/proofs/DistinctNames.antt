@@ -29,7 +29,8 @@ pub zero_number : (o : Option Process) (name : Name) → (process_after false tr
 zero_number None name = refl
 zero_number (Some p) name = refl
 
-one_more : (t : TranscriberValue) (n : Connection) (sum : Summary) → n.reselected ≡ false → length (names_begun t.items) < 4294967290 → AreNumbered t.processes (names_begun t.items) → AreDistinct (names_begun t.items ++ (process_for t n sum).name ∷ [])
+one_more : (t : TranscriberValue) (n : Connection) (sum : Summary) → n.reselected ≡ false → length (names_begun t.items) < 4294967290
+    → AreNumbered t.processes (names_begun t.items) → AreDistinct (names_begun t.items ++ (process_for t n sum).name ∷ [])
 one_more t n sum began less h = go (is_some sum.abort) refl
   where
     is : (q : Bool) → is_some sum.abort ≡ q → (process_for t n sum).name ≡ (process_after false q (process_of t.processes (name_of n sum)) (name_of n sum)).name
@@ -41,17 +42,20 @@ one_more t n sum began less h = go (is_some sum.abort) refl
 
 -- ---- all names
 
-pub distinct_names : (s : ScenarioValue) (rows : List Row) → length (names_begun (transcribed rows).items) < 4294967290 → Standing s rows → AreDistinct (names_begun (transcript_of rows))
+pub distinct_names : (s : ScenarioValue) (rows : List Row) → length (names_begun (transcribed rows).items) < 4294967290 → Standing s rows
+    → AreDistinct (names_begun (transcript_of rows))
 distinct_names s rows less h = go h.stands
   where
     t : TranscriberValue
     t = transcribed rows
 
-    by_kind : (k : OpenedValue) (q : Bool) → k.connection.reselected ≡ q → AreDistinct (names_begun (transcribed rows).items ++ (if q then [] else (process_for (transcribed rows) k.connection (summary_by k.connection (parts_now k))).name ∷ []))
+    by_kind : (k : OpenedValue) (q : Bool) → k.connection.reselected ≡ q
+        → AreDistinct (names_begun (transcribed rows).items ++ (if q then [] else (process_for (transcribed rows) k.connection (summary_by k.connection (parts_now k))).name ∷ []))
     by_kind k true e = subst AreDistinct (sym (append-nil (names_begun (transcribed rows).items))) h.numbered.distinct
     by_kind k false e = one_more (transcribed rows) k.connection (summary_by k.connection (parts_now k)) e less h.numbered
 
-    names : (k : OpenedValue) → names_begun (finished_if (transcribed rows) (Some k)).items ≡ names_begun (transcribed rows).items ++ (if k.connection.reselected then [] else (process_for (transcribed rows) k.connection (summary_by k.connection (parts_now k))).name ∷ [])
+    names : (k : OpenedValue)
+        → names_begun (finished_if (transcribed rows) (Some k)).items ≡ names_begun (transcribed rows).items ++ (if k.connection.reselected then [] else (process_for (transcribed rows) k.connection (summary_by k.connection (parts_now k))).name ∷ [])
     names k =
         let sum : Summary = summary_by k.connection (parts_now k) in
         let p : Process = process_for t k.connection sum in

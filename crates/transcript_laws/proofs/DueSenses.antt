@@ -41,8 +41,9 @@ use Rattle.trace_laws.proofs.OpenCommands.{next_free, opened, same_process}
 use Rattle.trace_laws.proofs.OverItems.{ends_checks, events_grow, in_append, not_grown}
 use Rattle.trace_laws.proofs.RowEvents.{carried_of_item}
 use Rattle.trace_laws.proofs.Whole.{Whole, standing_next, whole}
+use Rattle.trace_laws.proofs.PointerWaits.{change_over}
 use Rattle.progress_laws.proofs.Answered.{sense_left}
-use Rattle.progress_laws.proofs.DebtNext.{change_over, ends_open, known_served}
+use Rattle.progress_laws.proofs.DebtNext.{ends_open, known_served}
 use Rattle.progress_laws.proofs.DebtRows.{NoEnds, Shown, completes, no_ends, row_shown}
 use Rattle.progress_laws.proofs.OwedRows.{changed}
 use Rattle.transcript_laws.proofs.SentProcesses.{SentAfter, as_before, one_more, row_sends}
@@ -81,7 +82,8 @@ not_both : (b : Sent) (n : ℕ) → has_item b.over (command_item n) ≡ true �
 not_both b n e o = wrong' (sym (ap not e) ∙ and_second (has_item b.sent (command_item n)) (not (has_item b.over (command_item n))) o)
 
 -- Both were open.
-both_open : (s : ScenarioValue) (a b : Sent) (n m : ℕ) (c d : CmdDef) → NoClash s a → Onward a b → command_at s.commands n ≡ Some c → command_at s.commands m ≡ Some d → c.host ≡ d.host → is_clash d c ≡ true
+both_open : (s : ScenarioValue) (a b : Sent) (n m : ℕ) (c d : CmdDef) → NoClash s a → Onward a b → command_at s.commands n ≡ Some c
+    → command_at s.commands m ≡ Some d → c.host ≡ d.host → is_clash d c ≡ true
     → is_checked b n ≡ true → is_open a n ≡ true → is_open a m ≡ true → is_open b m ≡ true → ⊥
 both_open s a b n m c d clashes h at ad own clash ch on om o =
     not_both b m (ap (λ (x : ℕ). has_item b.over (command_item x)) (clashes m n d c ad at (sym own) om on clash) ∙ h.checked n ch) o
@@ -98,7 +100,8 @@ same_alone s a b clashes h e was n m c d at ad own clash ch due o =
     ]
 
 -- As an initiator sends a command it has no REQUEST SENSE to send.
-sent_none : (s : ScenarioValue) (a : Sent) (dev : ℕ) (item : Item) → IsNext s a dev item → (m : ℕ) → item ≡ command_item m → (d : CmdDef) → command_at s.commands m ≡ Some d → (n : ℕ) (c : CmdDef) → command_at s.commands n ≡ Some c → c.host ≡ d.host
+sent_none : (s : ScenarioValue) (a : Sent) (dev : ℕ) (item : Item) → IsNext s a dev item → (m : ℕ) → item ≡ command_item m → (d : CmdDef)
+    → command_at s.commands m ≡ Some d → (n : ℕ) (c : CmdDef) → command_at s.commands n ≡ Some c → c.host ≡ d.host
     → is_checked a n ≡ true → is_done a (sense_item n) ≡ false → ⊥
 sent_none s a dev _ (is_abort k z) m e d ad n c at own ch due = no_process e
   where
@@ -143,13 +146,15 @@ events_checks s b (events.Aborted i t n what ∷ shown) none =
     ends_checks (is_aborted i t n what) (is_sense_stopped i t n what) by_abort 1 s.commands (story_after_events s b shown) ∙ events_checks s b shown none
 events_checks s b (events.Reset dev ∷ shown) none = ends_checks (λ c. true) (λ c. true) by_reset 1 s.commands (story_after_events s b shown) ∙ events_checks s b shown none
 
-end_checks : (s : ScenarioValue) (b : Story) (id : ProcId) (status n : ℕ) → is_checked (story_after_event s b (events.End id status)).sent n ≡ true → (is_checked b.sent n ≡ true) ⊎ (process id ≡ command_item n)
+end_checks : (s : ScenarioValue) (b : Story) (id : ProcId) (status n : ℕ) → is_checked (story_after_event s b (events.End id status)).sent n ≡ true
+    → (is_checked b.sent n ≡ true) ⊎ (process id ≡ command_item n)
 end_checks s b id status n e = go id.sense refl (status == CHECK_CONDITION) e
   where
     ended : Story
     ended = story_with_end b id (by_status status)
 
-    go : (q : Bool) → id.sense ≡ q → (r : Bool) → is_checked (if not q && r then record ended { sent = record ended.sent { checks = ended.sent.checks ++ id.command ∷ [] } } else ended).sent n ≡ true
+    go : (q : Bool) → id.sense ≡ q → (r : Bool)
+        → is_checked (if not q && r then record ended { sent = record ended.sent { checks = ended.sent.checks ++ id.command ∷ [] } } else ended).sent n ≡ true
         → (is_checked b.sent n ≡ true) ⊎ (process id ≡ command_item n)
     go true z r f = inl f
     go false z false f = inl f
@@ -178,7 +183,8 @@ reset_ends s b d row e =
 
 -- ---- a row
 
-row_onward : (s : ScenarioValue) (p : List Row) (row : Row) → row.dev < 8 → Whole s p → NextStood s p row → AreChecked (run_state s (row ∷ p)).story.sent → Onward (run_state s p).story.sent (run_state s (row ∷ p)).story.sent
+row_onward : (s : ScenarioValue) (p : List Row) (row : Row) → row.dev < 8 → Whole s p → NextStood s p row → AreChecked (run_state s (row ∷ p)).story.sent
+    → Onward (run_state s p).story.sent (run_state s (row ∷ p)).story.sent
 row_onward s p row lt w st checked = record {
   over = λ i z. (events_grow s b shown).over i (change_over s k.story d row i z);
   checks = λ n e. by_row n e st.row_is;
@@ -203,7 +209,8 @@ row_onward s p row lt w st checked = record {
     quiet : (n : ℕ) → is_checked (story_after_events s b shown).sent n ≡ true → NoEnds shown → (is_checked k.story.sent n ≡ true) ⊎ (is_open k.story.sent n ≡ true)
     quiet n e none = inl (ap (λ (x : List ℕ). list_any (λ m. m == n) x) (sym (events_checks s b shown none ∙ same)) ∙ e)
 
-    ended : (n : ℕ) (m : Connection) → is_checked (story_after_events s b shown).sent n ≡ true → k.story.bus_state.connection ≡ Some m → (bus_of k).rst ≡ false → d.change.after.rst ≡ false → (knows : Knows s k m)
+    ended : (n : ℕ) (m : Connection) → is_checked (story_after_events s b shown).sent n ≡ true → k.story.bus_state.connection ≡ Some m → (bus_of k).rst ≡ false
+        → d.change.after.rst ≡ false → (knows : Knows s k m)
         → Shown k.story knows.link d shown → (is_checked k.story.sent n ≡ true) ⊎ (is_open k.story.sent n ≡ true)
     ended n m e con calm off knows (no_ends none) = quiet n e none
     ended n m e con calm off knows (completes c carried done is) =
@@ -215,7 +222,8 @@ row_onward s p row lt w st checked = record {
           | inr own ↦ inr (λ i. (ap (has_item k.story.sent.sent) (sym own) ∙ w.facts.items.items.served (process c.id) served) i && not ((ap (has_item k.story.sent.over) (sym own) ∙ opens) i))
         ]
 
-    linked : (n : ℕ) (m : Connection) → is_checked (story_after_events s b shown).sent n ≡ true → k.story.bus_state.connection ≡ Some m → (bus_of k).rst ≡ false → (q : Bool) → d.change.after.rst ≡ q
+    linked : (n : ℕ) (m : Connection) → is_checked (story_after_events s b shown).sent n ≡ true → k.story.bus_state.connection ≡ Some m → (bus_of k).rst ≡ false
+        → (q : Bool) → d.change.after.rst ≡ q
         → (is_checked k.story.sent n ≡ true) ⊎ (is_open k.story.sent n ≡ true)
     linked n m e con calm true on = quiet n e (reset_ends s k.story d row on)
     linked n m e con calm false off =
@@ -253,7 +261,8 @@ senses_alone s (row ∷ p) o prompt = go (senses_alone s p o prompt.0) (row_send
     clashes : NoClash s k.story.sent
     clashes = was.facts.items.items.clash
 
-    go : SensesAlone s k.story.sent → SentAfter k.story (row_reading k.story.bus_state row) (run_state s (row ∷ p)).story.sent.sent → SensesAlone s (run_state s (row ∷ p)).story.sent
+    go : SensesAlone s k.story.sent → SentAfter k.story (row_reading k.story.bus_state row) (run_state s (row ∷ p)).story.sent.sent
+        → SensesAlone s (run_state s (row ∷ p)).story.sent
     go h (as_before e) = same_alone s k.story.sent (run_state s (row ∷ p)).story.sent clashes onward e h
     go h (one_more n item alone next sel aim e) =
         let c = change_plain s row p was.stood.standing.devices lt in

@@ -4,8 +4,6 @@ use Rattle.std.specs.Prelude.{◌||◌, is_some, is_none, if◌then◌else◌}
 use Rattle.std.proofs.lemmas.Bool.{eqb-true}
 use Rattle.std.proofs.lemmas.List.{append_assoc, append-nil}
 use Rattle.std.proofs.lemmas.Option.{same_Some}
-use Rattle.bus_base.specs.declared.AbortKind.{AbortKind}
-use Rattle.bus_base.specs.declared.AbortKind.TheVariants as aborts
 use Rattle.bus_base.specs.declared.Event.{Event}
 use Rattle.bus_base.specs.declared.Event.TheVariants as events
 use Rattle.bus_base.specs.declared.ProcId.{ProcId}
@@ -27,6 +25,7 @@ use Rattle.bus_story.specs.Story.{Story, by_abort, is_aborted, is_sense_stopped,
 use Rattle.bus_story.specs.TraceHistory.{story_on_bus, story_with_history, story_with, story_by, story}
 use Rattle.bus_story.proofs.StorySteps.{ends_keep, events_link}
 use Rattle.bus_due.specs.Telling.{same_kind}
+use Rattle.bus_due.proofs.SameEvents.{kinds_are}
 use Rattle.bus_books.specs.Accounts.{is_open_in}
 use Rattle.trace_laws.proofs.OverItems.{events_grow}
 use Rattle.trace_laws.proofs.SentItems.{events_sent}
@@ -314,24 +313,6 @@ process_over s rows row h id back was st r g is serving events_are others from b
 
 -- ---- the connection of an abort
 
-kind_is : (a b : AbortKind) → same_kind a b ≡ true → a ≡ b
-kind_is aborts.All aborts.All e = refl
-kind_is (aborts.Tag x) (aborts.Tag y) e = ap (λ (n : ℕ). aborts.Tag n) (eqb-true x y e)
-kind_is aborts.WholeQueue aborts.WholeQueue e = refl
-kind_is aborts.Device aborts.Device e = refl
-kind_is aborts.All (aborts.Tag y) e = wrong' e
-kind_is aborts.All aborts.WholeQueue e = wrong' e
-kind_is aborts.All aborts.Device e = wrong' e
-kind_is (aborts.Tag x) aborts.All e = wrong' e
-kind_is (aborts.Tag x) aborts.WholeQueue e = wrong' e
-kind_is (aborts.Tag x) aborts.Device e = wrong' e
-kind_is aborts.WholeQueue aborts.All e = wrong' e
-kind_is aborts.WholeQueue (aborts.Tag y) e = wrong' e
-kind_is aborts.WholeQueue aborts.Device e = wrong' e
-kind_is aborts.Device aborts.All e = wrong' e
-kind_is aborts.Device (aborts.Tag y) e = wrong' e
-kind_is aborts.Device aborts.WholeQueue e = wrong' e
-
 abort_same : (aborts : Bool) (o : Option Process) (name : Name) (m : MsgOut) → abort_item (process_after false aborts o name).name m ≡ abort_item name m
 abort_same aborts None name m = refl
 abort_same aborts (Some p) name m = refl
@@ -340,7 +321,7 @@ abort_same aborts (Some p) name m = refl
 line_is : (n : Connection) (sum : Summary) (m : MsgOut) (a : AbortDef) → is_line n sum (Some m) (Some a) ≡ true → abort_item (name_of n sum) m ≡ items.Abort a.host a.target (Some a.unit) a.what
 line_is n sum m a e =
     let four = four_true (n.initiator == a.host) (n.target == a.target) (same_number sum.unit (Some a.unit)) (same_kind (kind_of m sum.tag) a.what) e in
-    λ i. items.Abort (eqb-true n.initiator a.host four.0 i) (eqb-true n.target a.target four.1 i) (optional_is sum.unit (Some a.unit) four.2 i) (kind_is (kind_of m sum.tag) a.what four.3 i)
+    λ i. items.Abort (eqb-true n.initiator a.host four.0 i) (eqb-true n.target a.target four.1 i) (optional_is sum.unit (Some a.unit) four.2 i) (kinds_are (kind_of m sum.tag) a.what four.3 i)
 
 -- The summary ends with an abort, and the line is there.
 record Aborts (s : ScenarioValue) (rows : List Row) (h : StandsLinked s (transcribed rows) (story s rows)) (j : ℕ) : Type 0 where

@@ -13,6 +13,7 @@ use Rattle.scenario.specs.Value.{ScenarioValue}
 use Rattle.bus_story.specs.BusState.{BusState, change_to, change_by}
 use Rattle.bus_story.specs.TraceHistory.{story}
 use Rattle.bus_base.proofs.Tests.{wrong'}
+use Rattle.link_laws.proofs.Moves.{no_rise}
 
 -- What is driven is put in its place.
 put_same : (xs : List LineSet) (i : ℕ) → slice_set xs i (driven_at xs i) ≡ xs
@@ -45,15 +46,13 @@ same_self s c e f = (λ i. changes_phase (record c { before = e i; after = f i }
     go false false true = refl
     go false false false = refl
 
-self_rises : (q : Bool) → rises q q ≡ false
-self_rises true = refl
-self_rises false = refl
-
 -- No phase begins with it.
-pub fault_phase : {A : Type 0} (s : ScenarioValue) (rows : List Row) (row : Row) (bit : ℕ) → row.kind ≡ Fault bit → changes_phase (change_by (story s rows).bus_state row) ≡ true → A
+pub fault_phase : {A : Type 0} (s : ScenarioValue) (rows : List Row) (row : Row) (bit : ℕ) → row.kind ≡ Fault bit
+    → changes_phase (change_by (story s rows).bus_state row) ≡ true → A
 fault_phase s rows row bit e turns = wrong' (sym (same_self (story s rows).bus_state.bus (change_by (story s rows).bus_state row) refl (fault_same s rows row bit e)) ∙ turns)
 
 -- And ACK does not rise.
-pub fault_ack : {A : Type 0} (s : ScenarioValue) (rows : List Row) (row : Row) (bit : ℕ) → row.kind ≡ Fault bit → rises (story s rows).bus_state.bus.ack (change_by (story s rows).bus_state row).after.ack ≡ true → A
+pub fault_ack : {A : Type 0} (s : ScenarioValue) (rows : List Row) (row : Row) (bit : ℕ) → row.kind ≡ Fault bit
+    → rises (story s rows).bus_state.bus.ack (change_by (story s rows).bus_state row).after.ack ≡ true → A
 fault_ack s rows row bit e up =
-    wrong' (sym (ap (λ (x : LineSet). rises (story s rows).bus_state.bus.ack x.ack) (fault_same s rows row bit e) ∙ self_rises (story s rows).bus_state.bus.ack) ∙ up)
+    wrong' (sym (ap (λ (x : LineSet). rises (story s rows).bus_state.bus.ack x.ack) (fault_same s rows row bit e) ∙ no_rise (story s rows).bus_state.bus.ack) ∙ up)

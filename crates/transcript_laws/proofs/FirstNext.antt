@@ -16,7 +16,7 @@ use Rattle.bus_story.specs.Items.{process, abort, has_item}
 use Rattle.bus_story.specs.Links.{link_of}
 use Rattle.bus_story.specs.Story.{Story}
 use Rattle.bus_story.specs.TraceHistory.{aim_of, story_with_history, story}
-use Rattle.bus_books.proofs.Lookups.{carried_id, put_there, put_own, id_is, self_id}
+use Rattle.bus_books.proofs.Lookups.{carried_id, put_there, put_own}
 use Rattle.trace_laws.proofs.Impossible.{none_some}
 use Rattle.bus_transcript.specs.declared.process.Process.{Process}
 use Rattle.bus_transcript.specs.Events.{names_begun}
@@ -33,7 +33,7 @@ use Rattle.transcript_laws.proofs.Buses.{reading_same, buses_alike}
 use Rattle.transcript_laws.proofs.FirstRows.{first_story, again_story, sent_story, first_crosses, first_change}
 use Rattle.transcript_laws.proofs.SentNames.{has_reverse}
 use Rattle.transcript_laws.proofs.TalkServes.{talk_serves}
-use Rattle.bus_base.proofs.Tests.{wrong}
+use Rattle.target_units.proofs.LiveQueue.{id_turned}
 
 -- What is asked of the row.
 pub record Begins (s : ScenarioValue) (rows : List Row) (row : Row) (n : Connection) : Type 0 where
@@ -44,18 +44,23 @@ pub record Begins (s : ScenarioValue) (rows : List Row) (row : Row) (n : Connect
   pub no_status : is_status_phase (row_reading (story s rows).bus_state row).change.after ≡ false
 
 -- The transcript after it.
-change_is : (s : ScenarioValue) (rows : List Row) (row : Row) (n : Connection) → Begins s rows row n → by_change (transcribed rows) (row_reading (transcribed rows).bus_state row) row ≡ record (transcribed rows) { opened = Some (opened_connection n) }
+change_is : (s : ScenarioValue) (rows : List Row) (row : Row) (n : Connection) → Begins s rows row n
+    → by_change (transcribed rows) (row_reading (transcribed rows).bus_state row) row ≡ record (transcribed rows) { opened = Some (opened_connection n) }
 change_is s rows row n h =
     let same = reading_same (transcribed rows).bus_state (story s rows).bus_state row (buses_alike s rows) in
     first_change (transcribed rows) (row_reading (transcribed rows).bus_state row) row n (ap (λ (x : RowReading). x.change.after.rst) same ∙ h.off) ((buses_alike s rows).connection ∙ h.alone) (ap (λ (x : RowReading). x.next) same ∙ h.next)
 
-no_crossing : {A : Type 0} (s : ScenarioValue) (rows : List Row) (row : Row) (n : Connection) → Begins s rows row n → (c : Change) → (bus_state_after (story s rows).bus_state row (row_reading (story s rows).bus_state row)).crossed ≡ Some c → A
+no_crossing : {A : Type 0} (s : ScenarioValue) (rows : List Row) (row : Row) (n : Connection) → Begins s rows row n → (c : Change)
+    → (bus_state_after (story s rows).bus_state row (row_reading (story s rows).bus_state row)).crossed ≡ Some c → A
 no_crossing s rows row n h c e =
     none_some c (sym (ap (λ (q : Bool). if q then Some (row_reading (story s rows).bus_state row).change else None) (first_crosses (story s rows).bus_state row h.alone)) ∙ e)
 
 -- ---- a target began it
 
-pub again_next : (s : ScenarioValue) (rows : List Row) (row : Row) (n : Connection) → n.reselected ≡ true → Begins s rows row n → AreNumbered (transcribed rows).processes (names_begun (transcribed rows).items) → ((id : ProcId) → IsMarked (story s rows).history (carried_of (story s rows).carried id)) → StandsApart s (transcribed rows) (story s rows) → Standing s (row ∷ rows)
+pub again_next : (s : ScenarioValue) (rows : List Row) (row : Row) (n : Connection) → n.reselected ≡ true → Begins s rows row n
+    → AreNumbered (transcribed rows).processes (names_begun (transcribed rows).items)
+    → ((id : ProcId) → IsMarked (story s rows).history (carried_of (story s rows).carried id)) → StandsApart s (transcribed rows) (story s rows)
+    → Standing s (row ∷ rows)
 again_next s rows row n re g numbered marked h = record {
   numbered = subst (λ (x : TranscriberValue). AreNumbered x.processes (names_begun x.items)) (sym (change_is s rows row n g)) numbered;
   marked = λ id. subst (λ (x : Story). IsMarked x.history (carried_of x.carried id)) (sym story_is) (marked id);
@@ -89,7 +94,11 @@ again_next s rows row n re g numbered marked h = record {
 
 -- ---- an initiator began it, for an abort
 
-pub abort_next : (s : ScenarioValue) (rows : List Row) (row : Row) (n : Connection) (j : ℕ) → n.reselected ≡ false → aim_of (story s rows).aims n.initiator ≡ Some (abort j) → has_item (story s rows).sent.sent (abort j) ≡ false → Begins s rows row n → AreNumbered (transcribed rows).processes (names_begun (transcribed rows).items) → ((id : ProcId) → IsMarked (story s rows).history (carried_of (story s rows).carried id)) → StandsApart s (transcribed rows) (story s rows) → Standing s (row ∷ rows)
+pub abort_next : (s : ScenarioValue) (rows : List Row) (row : Row) (n : Connection) (j : ℕ) → n.reselected ≡ false
+    → aim_of (story s rows).aims n.initiator ≡ Some (abort j) → has_item (story s rows).sent.sent (abort j) ≡ false → Begins s rows row n
+    → AreNumbered (transcribed rows).processes (names_begun (transcribed rows).items)
+    → ((id : ProcId) → IsMarked (story s rows).history (carried_of (story s rows).carried id)) → StandsApart s (transcribed rows) (story s rows)
+    → Standing s (row ∷ rows)
 abort_next s rows row n j began aim fresh g numbered marked h = record {
   numbered = subst (λ (x : TranscriberValue). AreNumbered x.processes (names_begun x.items)) (sym (change_is s rows row n g)) numbered;
   marked = λ id. subst (λ (x : Story). IsMarked x.history (carried_of x.carried id)) (sym story_is) (marked id);
@@ -133,26 +142,25 @@ begun_carried b id = with_restored_pointers (carried_of b.carried id)
 begun_own : (b : Story) (id : ProcId) → carried_at b.carried id ≡ None → carried_of (with_carried b.carried (begun_carried b id)) id ≡ with_restored_pointers (nothing_carried id)
 begun_own b id none = put_own b.carried (begun_carried b id) id (carried_id b.carried id) ∙ ap (λ (o : Option CarriedBytes). with_restored_pointers (carried_or_nothing o id)) none
 
-begun_marked : (b : Story) (id x : ProcId) → ((y : ProcId) → IsMarked b.history (carried_of b.carried y)) → IsMarked b.history (carried_of (with_carried b.carried (begun_carried b id)) x)
+begun_marked : (b : Story) (id x : ProcId) → ((y : ProcId) → IsMarked b.history (carried_of b.carried y))
+    → IsMarked b.history (carried_of (with_carried b.carried (begun_carried b id)) x)
 begun_marked b id x marked = subst (λ (c : CarriedBytes). IsMarked b.history c) (sym (put_there b.carried (begun_carried b id) x)) (go (same_id (carried_of b.carried id).id x))
   where
     go : (q : Bool) → IsMarked b.history (if q then begun_carried b id else carried_of b.carried x)
     go true = record { refused = (marked id).refused; shown = (marked id).shown; apart = (marked id).apart; saved = (marked id).saved }
     go false = marked x
 
-pub not_same : (x id : ProcId) → same_id x id ≡ false → same_id id x ≡ false
-not_same x id e = go (same_id id x) refl
-  where
-    go : (q : Bool) → same_id id x ≡ q → q ≡ false
-    go true f = wrong (sym (ap (λ (y : ProcId). same_id x y) (id_is id x f) ∙ self_id x) ∙ e)
-    go false f = refl
-
 begun_other : (b : Story) (id x : ProcId) → same_id x id ≡ false → carried_of (with_carried b.carried (begun_carried b id)) x ≡ carried_of b.carried x
 begun_other b id x e =
     put_there b.carried (begun_carried b id) x
-    ∙ ap (λ (q : Bool). if q then begun_carried b id else carried_of b.carried x) (ap (λ (y : ProcId). same_id y x) (carried_id b.carried id) ∙ not_same x id e)
+    ∙ ap (λ (q : Bool). if q then begun_carried b id else carried_of b.carried x) (ap (λ (y : ProcId). same_id y x) (carried_id b.carried id) ∙ id_turned x id e)
 
-pub process_next : (s : ScenarioValue) (rows : List Row) (row : Row) (n : Connection) (id : ProcId) → n.reselected ≡ false → aim_of (story s rows).aims n.initiator ≡ Some (process id) → has_item (story s rows).sent.sent (process id) ≡ false → carried_at (story s rows).carried id ≡ None → IsAlone s (story s rows) id → Begins s rows row n → AreNumbered (transcribed rows).processes (names_begun (transcribed rows).items) → ((x : ProcId) → IsMarked (story s rows).history (carried_of (story s rows).carried x)) → StandsApart s (transcribed rows) (story s rows) → Standing s (row ∷ rows)
+pub process_next : (s : ScenarioValue) (rows : List Row) (row : Row) (n : Connection) (id : ProcId) → n.reselected ≡ false
+    → aim_of (story s rows).aims n.initiator ≡ Some (process id) → has_item (story s rows).sent.sent (process id) ≡ false
+    → carried_at (story s rows).carried id ≡ None → IsAlone s (story s rows) id → Begins s rows row n
+    → AreNumbered (transcribed rows).processes (names_begun (transcribed rows).items)
+    → ((x : ProcId) → IsMarked (story s rows).history (carried_of (story s rows).carried x)) → StandsApart s (transcribed rows) (story s rows)
+    → Standing s (row ∷ rows)
 process_next s rows row n id began aim fresh none alone g numbered marked h = record {
   numbered = subst (λ (x : TranscriberValue). AreNumbered x.processes (names_begun x.items)) (sym (change_is s rows row n g)) numbered;
   marked = λ x. subst (λ (y : Story). IsMarked y.history (carried_of y.carried x)) (sym story_is) (begun_marked b id x marked);
@@ -185,12 +193,16 @@ process_next s rows row n id began aim fresh none alone g numbered marked h = re
     known : is_known (opened_connection n) (row_reading (story s rows).bus_state row).change.after ≡ true
     known = ap (λ (q : Bool). not q || not (are_talk (base_parts (opened_connection n))) || is_command (row_reading (story s rows).bus_state row).change.after) began
 
-    alone' : (x : ProcId) (d e : array_of.Process) → (has_item (process id ∷ (story s rows).sent.sent) (process x) && not (has_item (story s rows).sent.over (process x))) ≡ true → same_id x id ≡ false → array_of.process_of s id ≡ Some d → array_of.process_of s x ≡ Some e → same_nexus (nexus_of d) (nexus_of e) ≡ false
-    alone' x d e o but = alone x d e (sym (ap (λ (q : Bool). (q || has_item (story s rows).sent.sent (process x)) && not (has_item (story s rows).sent.over (process x))) (not_same x id but)) ∙ o) but
+    alone' : (x : ProcId) (d e : array_of.Process)
+        → (has_item (process id ∷ (story s rows).sent.sent) (process x) && not (has_item (story s rows).sent.over (process x))) ≡ true → same_id x id ≡ false
+        → array_of.process_of s id ≡ Some d → array_of.process_of s x ≡ Some e → same_nexus (nexus_of d) (nexus_of e) ≡ false
+    alone' x d e o but = alone x d e (sym (ap (λ (q : Bool). (q || has_item (story s rows).sent.sent (process x)) && not (has_item (story s rows).sent.over (process x))) (id_turned x id but)) ∙ o) but
 
-    kept : (x : ProcId) → (has_item (process id ∷ (story s rows).sent.sent) (process x) && not (has_item (story s rows).sent.over (process x))) ≡ true → same_id x id ≡ false → IsKept s (transcribed rows).processes (sent_order (story s rows)) (names_begun (transcribed rows).items) (with_carried (story s rows).carried (begun_carried (story s rows) id)) x
+    kept : (x : ProcId) → (has_item (process id ∷ (story s rows).sent.sent) (process x) && not (has_item (story s rows).sent.over (process x))) ≡ true
+        → same_id x id ≡ false
+        → IsKept s (transcribed rows).processes (sent_order (story s rows)) (names_begun (transcribed rows).items) (with_carried (story s rows).carried (begun_carried (story s rows) id)) x
     kept x o but =
-        let k = h.kept x (sym (ap (λ (q : Bool). (q || has_item (story s rows).sent.sent (process x)) && not (has_item (story s rows).sent.over (process x))) (not_same x id but)) ∙ o) refl in
+        let k = h.kept x (sym (ap (λ (q : Bool). (q || has_item (story s rows).sent.sent (process x)) && not (has_item (story s rows).sent.over (process x))) (id_turned x id but)) ∙ o) refl in
         record {
           definition = k.definition;
           definition_is = k.definition_is;

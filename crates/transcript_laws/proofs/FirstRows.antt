@@ -20,7 +20,8 @@ use Rattle.bus_transcript.specs.Rows.{TranscriberValue, under_reset, on_bus, by_
 -- ---- the story
 
 -- Nothing is shown with it.
-pub first_story : (s : ScenarioValue) (b : Story) (row : Row) (d : RowReading) (n : Connection) → d.change.after.rst ≡ false → b.bus_state.connection ≡ None → d.next ≡ Some n → b.link ≡ None → story_by s b row d ≡ story_with_history (story_after_connection b n) (bus_state_after b.bus_state row d) [] b.history
+pub first_story : (s : ScenarioValue) (b : Story) (row : Row) (d : RowReading) (n : Connection) → d.change.after.rst ≡ false → b.bus_state.connection ≡ None
+    → d.next ≡ Some n → b.link ≡ None → story_by s b row d ≡ story_with_history (story_after_connection b n) (bus_state_after b.bus_state row d) [] b.history
 first_story s b row d n off con next link =
     ap (λ (shown : List Event). story_with s b row d shown) (λ i. if off i then (if rises d.change.own.rst d.change.next.rst then events.Reset row.dev ∷ [] else []) else link_events s b (link i) d)
     ∙ (λ i. story_with_history (if off i then record b { link = None } else story_on_bus s b (con i) (next i) d row) (bus_state_after b.bus_state row d) [] b.history)
@@ -32,7 +33,8 @@ again_story b n re =
     λ i. if re i then record b { link = Some (link_of n None) } else story_with_restored (story_with_sent sent (aim_of b.aims n.initiator)) (aim_of b.aims n.initiator)
 
 -- An initiator began it, for this item.
-pub sent_story : (b : Story) (n : Connection) (item : Item) → n.reselected ≡ false → aim_of b.aims n.initiator ≡ Some item → story_after_connection b n ≡ story_with_restored (story_with_sent (record b { link = Some (link_of n (Some item)) }) (Some item)) (Some item)
+pub sent_story : (b : Story) (n : Connection) (item : Item) → n.reselected ≡ false → aim_of b.aims n.initiator ≡ Some item
+    → story_after_connection b n ≡ story_with_restored (story_with_sent (record b { link = Some (link_of n (Some item)) }) (Some item)) (Some item)
 sent_story b n item began aim =
     (λ i. if began i then record b { link = Some (link_of n None) } else story_with_restored (story_with_sent (record b { link = Some (link_of n (aim_of b.aims n.initiator)) }) (aim_of b.aims n.initiator)) (aim_of b.aims n.initiator))
     ∙ (λ i. story_with_restored (story_with_sent (record b { link = Some (link_of n (aim i)) }) (aim i)) (aim i))
@@ -43,6 +45,7 @@ first_crosses w row con = λ i. is_some (receiver_of (con i) (change_by w row))
 
 -- ---- the transcript
 
-pub first_change : (t : TranscriberValue) (d : RowReading) (row : Row) (n : Connection) → d.change.after.rst ≡ false → t.bus_state.connection ≡ None → d.next ≡ Some n → by_change t d row ≡ record t { opened = Some (opened_connection n) }
+pub first_change : (t : TranscriberValue) (d : RowReading) (row : Row) (n : Connection) → d.change.after.rst ≡ false → t.bus_state.connection ≡ None
+    → d.next ≡ Some n → by_change t d row ≡ record t { opened = Some (opened_connection n) }
 unfolding by_change
 first_change t d row n off con next = λ i. if off i then under_reset t d row else on_bus t (con i) (next i) d row

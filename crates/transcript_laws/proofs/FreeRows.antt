@@ -1,6 +1,6 @@
 -- A row on the free bus leaves what stands as it is.
 use Rattle.std.proofs.Common.{ℕ, ◌≡◌, ◌∙◌, Bool, true, false, not, ◌&&◌, List, [], ◌∷◌, ◌++◌, reverse, Option, Some, None, refl, sym, ap, subst}
-use Rattle.std.specs.Prelude.{nat_lt, is_none, if◌then◌else◌}
+use Rattle.std.specs.Prelude.{is_none, if◌then◌else◌}
 use Rattle.std.proofs.lemmas.List.{append-nil}
 use Rattle.bus_base.specs.declared.Event.{Event}
 use Rattle.bus_base.specs.declared.Event.TheVariants as events
@@ -14,11 +14,11 @@ use Rattle.scenario.specs.Value.{ScenarioValue}
 use Rattle.bus_story.specs.BusState.{RowReading, row_reading, bus_state_after}
 use Rattle.bus_story.specs.CarriedBytes.{CarriedBytes, carried_of}
 use Rattle.bus_story.specs.HistoryEvents.{link_events}
-use Rattle.bus_story.specs.Items.{Item, process, abort, count_item, has_item}
+use Rattle.bus_story.specs.Items.{Item, process, has_item}
 use Rattle.bus_story.specs.Story.{Story}
-use Rattle.bus_story.specs.TraceHistory.{aim_of, is_arbitration_entry, is_counted, retries_of, story_with_aim, story_without_answer, story_with_try, story_after_calling_by, story_after_calling, story_on_free_bus, story_on_bus, story_with_history, story_with, story_by, story}
+use Rattle.bus_story.specs.TraceHistory.{story_on_free_bus, story_on_bus, story_with_history, story_with, story_by, story}
 use Rattle.bus_books.specs.Accounts.{is_open_in}
-use Rattle.trace_laws.proofs.SentItems.{more_has, free_keeps}
+use Rattle.trace_laws.proofs.SentItems.{free_keeps}
 use Rattle.bus_transcript.specs.declared.item.Name.{Name}
 use Rattle.bus_transcript.specs.declared.item.Item as item_of
 use Rattle.bus_transcript.specs.declared.item.Item.TheVariants as items
@@ -37,45 +37,19 @@ use Rattle.transcript_laws.proofs.Buses.{reading_same, buses_alike}
 use Rattle.transcript_laws.proofs.OtherConnections.{IsOpenly, unanswered_openly, openly_past}
 use Rattle.transcript_laws.proofs.PastEvents.{names_append}
 use Rattle.bus_base.proofs.Tests.{wrong}
+use Rattle.progress_laws.proofs.QueueRows.{free_over}
 
 -- ---- the story
 
-free_story : (s : ScenarioValue) (b : Story) (row : Row) (d : RowReading) → d.change.after.rst ≡ false → b.bus_state.connection ≡ None → d.next ≡ None → b.link ≡ None → story_by s b row d ≡ story_with_history (story_on_free_bus s b d row) (bus_state_after b.bus_state row d) [] b.history
+free_story : (s : ScenarioValue) (b : Story) (row : Row) (d : RowReading) → d.change.after.rst ≡ false → b.bus_state.connection ≡ None → d.next ≡ None
+    → b.link ≡ None → story_by s b row d ≡ story_with_history (story_on_free_bus s b d row) (bus_state_after b.bus_state row d) [] b.history
 free_story s b row d off con next link =
     ap (λ (shown : List Event). story_with s b row d shown) (λ i. if off i then (if rises d.change.own.rst d.change.next.rst then events.Reset row.dev ∷ [] else []) else link_events s b (link i) d)
     ∙ (λ i. story_with_history (if off i then record b { link = None } else story_on_bus s b (con i) (next i) d row) (bus_state_after b.bus_state row d) [] b.history)
 
--- What is over stays over.
-over_if : (q : Bool) (b : Story) (item i : Item) → has_item b.sent.over i ≡ true → has_item (if q then story_without_answer b item else b).sent.over i ≡ true
-over_if true b (process id) i e = more_has (process id) i b.sent.over e
-over_if true b (abort j) i e = more_has (abort j) i b.sent.over e
-over_if false b item i e = e
-
-over_try : (s : ScenarioValue) (b : Story) (dev : ℕ) (item : Option Item) (i : Item) → has_item b.sent.over i ≡ true → has_item (story_with_try s b dev item).sent.over i ≡ true
-over_try s b dev None i e = e
-over_try s b dev (Some item) i e =
-    let next : Story = record b { sent = record b.sent { tries = item ∷ b.sent.tries } } in
-    over_if (is_counted item && nat_lt (retries_of s.hosts dev) (count_item next.sent.tries item)) next item i e
-
-over_choice : (q : Bool) (b c : Story) (i : Item) → has_item b.sent.over i ≡ true → has_item c.sent.over i ≡ true → has_item (if q then b else c).sent.over i ≡ true
-over_choice true b c i e f = e
-over_choice false b c i e f = f
-
-over_calling : (s : ScenarioValue) (b : Story) (call : Option Call) (i : Item) → has_item b.sent.over i ≡ true → has_item (story_after_calling s b call).sent.over i ≡ true
-over_calling s b None i e = e
-over_calling s b (Some k) i e = go k.calling
-  where
-    go : (c : Option Calling) → has_item (story_after_calling_by s b k.caller c).sent.over i ≡ true
-    go None = e
-    go (Some c) = over_choice (is_none c.answered && not c.reselects) (story_with_try s b k.caller (aim_of b.aims k.caller)) b i (over_try s b k.caller (aim_of b.aims k.caller) i e) e
-
-over_free : (s : ScenarioValue) (b : Story) (d : RowReading) (row : Row) (i : Item) → has_item b.sent.over i ≡ true → has_item (story_on_free_bus s b d row).sent.over i ≡ true
-over_free s b d row i e =
-    over_choice (is_arbitration_entry b d) (story_with_aim s b row) (if falls d.change.before.sel d.change.after.sel then story_after_calling s b b.bus_state.call else b) i e
-    (over_choice (falls d.change.before.sel d.change.after.sel) (story_after_calling s b b.bus_state.call) b i (over_calling s b b.bus_state.call i e) e)
-
 -- What is open was open.
-pub was_open : (a b : Story) (id : ProcId) → b.sent.sent ≡ a.sent.sent → ((i : Item) → has_item a.sent.over i ≡ true → has_item b.sent.over i ≡ true) → is_open_in b.sent id ≡ true → is_open_in a.sent id ≡ true
+pub was_open : (a b : Story) (id : ProcId) → b.sent.sent ≡ a.sent.sent → ((i : Item) → has_item a.sent.over i ≡ true → has_item b.sent.over i ≡ true)
+    → is_open_in b.sent id ≡ true → is_open_in a.sent id ≡ true
 was_open a b id same over e = go (has_item a.sent.over (process id)) refl
   where
     and_first : (p q : Bool) → (p && q) ≡ true → p ≡ true
@@ -124,7 +98,8 @@ free_adds t c time = go (falls c.before.sel c.after.sel)
     go true = record { more = unanswered_items t.bus_state.call time; items_are = refl; openly = call_openly t.bus_state.call time; opened = refl; processes = refl }
     go false = record { more = []; items_are = sym (append-nil t.items); openly = record { names = refl; shown = λ refused sent names. refl }; opened = refl; processes = refl }
 
-free_change : (t : TranscriberValue) (d : RowReading) (row : Row) → d.change.after.rst ≡ false → t.bus_state.connection ≡ None → d.next ≡ None → by_change t d row ≡ on_free_bus t d.change row.time
+free_change : (t : TranscriberValue) (d : RowReading) (row : Row) → d.change.after.rst ≡ false → t.bus_state.connection ≡ None → d.next ≡ None
+    → by_change t d row ≡ on_free_bus t d.change row.time
 unfolding by_change
 free_change t d row off con next = λ i. if off i then under_reset t d row else on_bus t (con i) (next i) d row
 
@@ -133,7 +108,11 @@ after_adds t d row off con next = subst (λ (u : TranscriberValue). AddsNone t u
 
 -- ---- what stands
 
-pub free_next : (s : ScenarioValue) (rows : List Row) (row : Row) → (row_reading (story s rows).bus_state row).change.after.rst ≡ false → (story s rows).bus_state.connection ≡ None → (row_reading (story s rows).bus_state row).next ≡ None → AreNumbered (transcribed rows).processes (names_begun (transcribed rows).items) → ((id : ProcId) → IsMarked (story s rows).history (carried_of (story s rows).carried id)) → StandsApart s (transcribed rows) (story s rows) → Standing s (row ∷ rows)
+pub free_next : (s : ScenarioValue) (rows : List Row) (row : Row) → (row_reading (story s rows).bus_state row).change.after.rst ≡ false
+    → (story s rows).bus_state.connection ≡ None → (row_reading (story s rows).bus_state row).next ≡ None
+    → AreNumbered (transcribed rows).processes (names_begun (transcribed rows).items)
+    → ((id : ProcId) → IsMarked (story s rows).history (carried_of (story s rows).carried id)) → StandsApart s (transcribed rows) (story s rows)
+    → Standing s (row ∷ rows)
 free_next s rows row off con next numbered marked h = record {
   numbered = subst (λ (x : List (Key × Process)). AreNumbered x (names_begun t'.items)) (sym g.processes) (subst (λ (x : List Name). AreNumbered t.processes x) (sym names) numbered);
   marked = λ id. subst (λ (x : Story). IsMarked x.history (carried_of x.carried id)) (sym story_is) (subst (λ (x : List CarriedBytes). IsMarked b.history (carried_of x id)) (sym keeps.0) (marked id));
@@ -141,7 +120,7 @@ free_next s rows row off con next numbered marked h = record {
     opened_is = g.opened ∙ h.opened_is;
     link_is = ap (λ (x : Story). x.link) story_is ∙ keeps.1 ∙ h.link_is;
     past = subst (λ (x : Story). IsPast t'.items (sent_order x) x.history) (sym story_is) (subst (λ (x : List Item). IsPast t'.items (reverse x) b.history) (sym keeps.2) (subst (λ (x : List item_of.Item). IsPast x (sent_order b) b.history) (sym g.items_are) (openly_past t.items g.more (sent_order b) [] b.history g.openly tt h.past)));
-    kept = λ id is_open but. kept id (was_open b b' id (ap (λ (x : Story). x.sent.sent) story_is ∙ keeps.2) (λ i e. ap (λ (x : Story). has_item x.sent.over i) story_is ∙ over_free s b d row i e) is_open);
+    kept = λ id is_open but. kept id (was_open b b' id (ap (λ (x : Story). x.sent.sent) story_is ∙ keeps.2) (λ i e. ap (λ (x : Story). has_item x.sent.over i) story_is ∙ free_over s b d row i e) is_open);
   });
 }
   where
@@ -173,9 +152,14 @@ free_next s rows row off con next numbered marked h = record {
     g = after_adds (transcribed rows) (row_reading (transcribed rows).bus_state row) row (ap (λ (x : RowReading). x.change.after.rst) same ∙ off) ((buses_alike s rows).connection ∙ con) (ap (λ (x : RowReading). x.next) same ∙ next)
 
     names : names_begun (transcribed (row ∷ rows)).items ≡ names_begun (transcribed rows).items
-    names = ap (λ (x : List item_of.Item). names_begun x) g.items_are ∙ names_append (transcribed rows).items g.more ∙ ap (λ (x : List Name). names_begun (transcribed rows).items ++ x) g.openly.names ∙ append-nil (names_begun (transcribed rows).items)
+    names =
+        ap (λ (x : List item_of.Item). names_begun x) g.items_are
+        ∙ names_append (transcribed rows).items g.more
+        ∙ ap (λ (x : List Name). names_begun (transcribed rows).items ++ x) g.openly.names
+        ∙ append-nil (names_begun (transcribed rows).items)
 
-    kept : (id : ProcId) → is_open_in (story s rows).sent id ≡ true → IsKept s (transcribed (row ∷ rows)).processes (sent_order (story s (row ∷ rows))) (names_begun (transcribed (row ∷ rows)).items) (story s (row ∷ rows)).carried id
+    kept : (id : ProcId) → is_open_in (story s rows).sent id ≡ true
+        → IsKept s (transcribed (row ∷ rows)).processes (sent_order (story s (row ∷ rows))) (names_begun (transcribed (row ∷ rows)).items) (story s (row ∷ rows)).carried id
     kept id is_open =
         let x = h.kept id is_open refl in
         record {

@@ -116,6 +116,30 @@ over_held o s half = go (is_message_in s && not (is_nil half))
     go true = refl
     go false = refl
 
+-- As MESSAGE OUT is left its last byte has crossed, and a message was said in it; so none is held.
+left_last : (s : ScenarioValue) (p : List Row) (row : Row) (n : Connection) (g : Going s p row n) → changes_phase g.going.change ≡ true → is_message_out g.going.change.before ≡ true → (run_state s p).story.bus_state.dialogue.is_last ≡ true
+left_last s p row n g ep x = (g.going.goes.leaves (ap changes_phase g.going.goes.row_is.change_is ∙ ep)).out (out_phase (bus_of (run_state s p)) (ap is_message_out g.going.goes.row_is.bus_is ∙ x))
+
+pub some_said : (s : ScenarioValue) (n : Connection) (k : RunState) (o : OpenedValue) → IsSpeaking s n k.served k.exchange k.story.bus_state.dialogue → SaidWords k n o → is_message_out (bus_of k) ≡ true → k.story.bus_state.dialogue.is_last ≡ true → o.said ≡ [] → ⊥
+some_said s n k o speaks words here last none =
+    some_bytes speaks.heard.before speaks.heard.byte speaks.heard.rest
+    (sym speaks.heard.words_are ∙ none_said nothing_understood k.exchange.speech.words speaks.whole (sym (words.whole here last) ∙ none))
+
+pub left_none : (s : ScenarioValue) (p : List Row) (row : Row) (n : Connection) (g : Going s p row n) (o : OpenedValue) → SaidWords (run_state s p) n o → changes_phase g.going.change ≡ true → is_message_out g.going.change.before ≡ true → (spoken o).held ≡ None
+left_none s p row n g o words ep x =
+    let speaks = (g.was.stood.books.speaks n g.going.goes.row_is.connection_is g.going.goes.calm).in_message_out (begun k.exchange.begun refl) here in
+    gone_held o o.said (some_said s n k o speaks words here (left_last s p row n g ep x))
+  where
+    k : RunState
+    k = run_state s p
+
+    here : is_message_out (bus_of k) ≡ true
+    here = ap is_message_out g.going.goes.row_is.bus_is ∙ x
+
+    begun : (q : Bool) → k.exchange.begun ≡ q → k.exchange.begun ≡ true
+    begun true z = z
+    begun false z = wrong' (sym (unbegun_out s p row n g z) ∙ here)
+
 last_same : (m : MsgIn) → story_of.is_complete (last_in m) ≡ is_complete (Some (Whole m))
 last_same to_initiator.CommandComplete = refl
 last_same to_initiator.SavePointer = refl
@@ -255,34 +279,17 @@ held_row s p row n g o after (made_turn ep none ef e) bytes words h = go (is_mes
         taken (inl y) = wrong' (sym some ∙ ap is_nil (in_is_whole k (g.was.stood.books.gives n g.going.goes.row_is.connection_is g.going.goes.calm) y.begun y.here y.all))
         taken (inr y) = not_both (bus_of k) (ap is_message_in on ∙ here) y.0
 
-    -- as MESSAGE OUT is left, a message was said in it
-    is_last : is_message_out c.before ≡ true → k.story.bus_state.dialogue.is_last ≡ true
-    is_last x = (g.going.goes.leaves (ap changes_phase g.going.goes.row_is.change_is ∙ ep)).out (out_phase (bus_of k) (ap is_message_out on ∙ x))
-
     incomplete : (q : Bool) → story_of.is_complete l.last ≡ q → is_message_out c.before ≡ true → story_of.is_complete l.last ≡ false
     incomplete false z x = z
     incomplete true z x = taken (t.completes z)
       where
         taken : IsTaken (talk_of k) ⊎ ((is_message_out (bus_of k) ≡ true) × (k.story.bus_state.dialogue.is_last ≡ false)) → story_of.is_complete l.last ≡ false
         taken (inl y) = not_both (bus_of k) y.here (ap is_message_out on ∙ x)
-        taken (inr y) = wrong (sym (is_last x) ∙ y.1)
-
-    begun : (q : Bool) → k.exchange.begun ≡ q → is_message_out c.before ≡ true → k.exchange.begun ≡ true
-    begun true z x = z
-    begun false z x = wrong' (sym (idle z) ∙ ap is_message_out on ∙ x)
-      where
-        idle : k.exchange.begun ≡ false → is_message_out (bus_of k) ≡ false
-        idle b = unbegun_out s p row n g b
-
-    said_some : is_message_out c.before ≡ true → o.said ≡ [] → ⊥
-    said_some x none_said_there =
-        let speaks : IsSpeaking s n k.served k.exchange k.story.bus_state.dialogue = (g.was.stood.books.speaks n g.going.goes.row_is.connection_is g.going.goes.calm).in_message_out (begun k.exchange.begun refl x) (ap is_message_out on ∙ x) in
-        some_bytes speaks.heard.before speaks.heard.byte speaks.heard.rest
-        (sym speaks.heard.words_are ∙ none_said nothing_understood k.exchange.speech.words speaks.whole (sym (words.whole (ap is_message_out on ∙ x) (is_last x)) ∙ none_said_there))
+        taken (inr y) = wrong (sym (left_last s p row n g ep x) ∙ y.1)
 
     go : (q : Bool) → is_message_out c.before ≡ q → (r : Bool) → (is_message_in c.before && not (is_nil half)) ≡ r → HeldLast j after
     go true x true y = wrong' (sym (λ i. in_out c.before x i && not (is_nil half)) ∙ y)
-    go true x false y = by (incomplete (story_of.is_complete l.last) refl x ∙ sym (ap is_complete (held ∙ ap (λ (q : Bool). if q then Some Broken else (spoken o).held) y ∙ gone_held o o.said (said_some x))))
+    go true x false y = by (incomplete (story_of.is_complete l.last) refl x ∙ sym (ap is_complete (held ∙ ap (λ (q : Bool). if q then Some Broken else (spoken o).held) y ∙ left_none s p row n g o words ep x)))
     go false x true y =
         by (unended (story_of.is_complete l.last) refl (first_of (is_message_in c.before) (not (is_nil half)) y) (turned_of (is_nil half) (second_of (is_message_in c.before) (not (is_nil half)) y))
         ∙ sym (ap is_complete (held ∙ ap (λ (q : Bool). if q then Some Broken else (spoken o).held) y)))

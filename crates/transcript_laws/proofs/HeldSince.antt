@@ -102,7 +102,7 @@ some_bytes (x ∷ xs) b e = absurd (not_nil x (xs ++ b ∷ []) e)
     not_nil : (x : ℕ) (zs : List ℕ) → x ∷ zs ≡ [] → ⊥
     not_nil x zs z = cc
 
-none_half : {A : Type 0} (half : List ℕ) (b : ℕ) → whole_in (got_in (half ++ b ∷ [])) ≡ None → is_unknown (reading_in (got_in (half ++ b ∷ []))) ≡ false → left_of (got_in (half ++ b ∷ [])) (half ++ b ∷ []) ≡ [] → A
+pub none_half : {A : Type 0} (half : List ℕ) (b : ℕ) → whole_in (got_in (half ++ b ∷ [])) ≡ None → is_unknown (reading_in (got_in (half ++ b ∷ []))) ≡ false → left_of (got_in (half ++ b ∷ [])) (half ++ b ∷ []) ≡ [] → A
 none_half {A = A} half b e f h = go (got_in (half ++ b ∷ [])) e f h
   where
     go : (g : Got MsgIn) → whole_in g ≡ None → is_unknown (reading_in g) ≡ false → left_of g (half ++ b ∷ []) ≡ [] → A
@@ -128,14 +128,14 @@ is_message b a h e = record { before = λ i. not (e i) && b.cd && not b.io; afte
 message_no_command : (b : LineSet) → b.msg ≡ true → is_command b ≡ false
 message_no_command b e = λ i. not (e i) && b.cd && not b.io
 
-in_msg : (b : LineSet) → is_message_in b ≡ true → b.msg ≡ true
+pub in_msg : (b : LineSet) → is_message_in b ≡ true → b.msg ≡ true
 in_msg b e = go b.msg b.cd b.io e
   where
     go : (m d i : Bool) → (m && d && i) ≡ true → m ≡ true
     go true d i z = refl
     go false d i z = wrong' z
 
-out_msg : (b : LineSet) → is_message_out b ≡ true → b.msg ≡ true
+pub out_msg : (b : LineSet) → is_message_out b ≡ true → b.msg ≡ true
 out_msg b e = go b.msg b.cd b.io e
   where
     go : (m d i : Bool) → (m && d && not i) ≡ true → m ≡ true

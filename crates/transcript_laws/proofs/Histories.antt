@@ -1,7 +1,7 @@
 -- Where all connections show their events, the transcript has the events of the history.
-use Rattle.std.proofs.Common.{ℕ, ◌≡◌, ◌∙◌, Bool, true, false, ◌&&◌, ◌||◌, List, [], ◌∷◌, ◌++◌, reverse, Option, Some, None, refl, sym, ap}
+use Rattle.std.proofs.Common.{◌≡◌, ◌∙◌, Bool, true, false, ◌||◌, List, [], ◌∷◌, ◌++◌, reverse, Option, Some, None, refl, sym, ap}
 use Rattle.std.specs.List.{flat_map, list_any}
-use Rattle.std.proofs.lemmas.Bool.{eq-eqb, or_right, and_from}
+use Rattle.std.proofs.lemmas.Bool.{or_right}
 use Rattle.std.proofs.lemmas.List.{reverse-append}
 use Rattle.bus_base.specs.declared.Event.{Event}
 use Rattle.bus_base.specs.declared.Event.TheVariants as events
@@ -9,7 +9,6 @@ use Rattle.bus_base.specs.declared.ProcId.{ProcId}
 use Rattle.bus_trace.specs.declared.rows.Row.{Row}
 use Rattle.scenario.specs.Value.{ScenarioValue}
 use Rattle.bus_story.specs.Items as told
-use Rattle.bus_story.specs.Links.{same_number}
 use Rattle.bus_story.specs.TraceHistory.{story, trace_history}
 use Rattle.bus_books.proofs.Lookups.{self_id, id_is}
 use Rattle.bus_transcript.specs.declared.item.Name.{Name}
@@ -18,7 +17,7 @@ use Rattle.bus_transcript.specs.Rows.{transcript_of}
 use Rattle.transcript_laws.specs.Told.{is_refusal, has_refusal, is_listed}
 use Rattle.transcript_laws.specs.Past.{IsPast, AreApart}
 use Rattle.bus_base.proofs.Tests.{wrong'}
-use Rattle.bus_transcript.proofs.Inside.{number_same, name_same}
+use Rattle.bus_transcript.proofs.Inside.{name_same}
 use Rattle.transcript_laws.proofs.SentNames.{or_turned}
 
 -- ---- lists
@@ -41,7 +40,8 @@ any_reverse t (x ∷ xs) =
 
 -- ---- the names that are refused
 
-one_listed : (sent : List told.Item) (names : List Name) (event : Event) (id : ProcId) (name : Name) → is_refusal id event ≡ true → name_sent sent names id ≡ Some name → is_listed (refused_name sent names event) name ≡ true
+one_listed : (sent : List told.Item) (names : List Name) (event : Event) (id : ProcId) (name : Name) → is_refusal id event ≡ true
+    → name_sent sent names id ≡ Some name → is_listed (refused_name sent names event) name ≡ true
 one_listed sent names (events.Accept x) id name e named = wrong' e
 one_listed sent names (events.Refuse x) id name e named =
     ap (λ (n : Option Name). is_listed (named_if n) name) (ap (λ (y : ProcId). name_sent sent names y) (id_is x id e) ∙ named) ∙ ap (λ (q : Bool). q || false) (name_same name)
@@ -52,12 +52,15 @@ one_listed sent names (events.Lost x) id name e named = wrong' e
 one_listed sent names (events.Aborted host target unit what) id name e named = wrong' e
 one_listed sent names (events.Reset dev) id name e named = wrong' e
 
-listed : (sent : List told.Item) (names : List Name) (list : List Event) (id : ProcId) (name : Name) → has_refusal list id ≡ true → name_sent sent names id ≡ Some name → is_listed (flat_map (λ event. refused_name sent names event) list) name ≡ true
+listed : (sent : List told.Item) (names : List Name) (list : List Event) (id : ProcId) (name : Name) → has_refusal list id ≡ true
+    → name_sent sent names id ≡ Some name → is_listed (flat_map (λ event. refused_name sent names event) list) name ≡ true
 listed sent names [] id name e named = wrong' e
 listed sent names (event ∷ list) id name e named =
     any_append (λ n. same_name n name) (refused_name sent names event) (flat_map (λ x. refused_name sent names x) list) ∙ go (is_refusal id event) refl e (λ z. listed sent names list id name z named)
   where
-    go : (q : Bool) → is_refusal id event ≡ q → (q || has_refusal list id) ≡ true → (has_refusal list id ≡ true → is_listed (flat_map (λ x. refused_name sent names x) list) name ≡ true) → (is_listed (refused_name sent names event) name || is_listed (flat_map (λ x. refused_name sent names x) list) name) ≡ true
+    go : (q : Bool) → is_refusal id event ≡ q → (q || has_refusal list id) ≡ true
+        → (has_refusal list id ≡ true → is_listed (flat_map (λ x. refused_name sent names x) list) name ≡ true)
+        → (is_listed (refused_name sent names event) name || is_listed (flat_map (λ x. refused_name sent names x) list) name) ≡ true
     go true f z rest = ap (λ (q : Bool). q || is_listed (flat_map (λ x. refused_name sent names x) list) name) (one_listed sent names event id name f named)
     go false f z rest = or_right (is_listed (refused_name sent names event) name) (is_listed (flat_map (λ x. refused_name sent names x) list) name) (rest z)
 
@@ -69,7 +72,8 @@ unnamed : (n : Option Name) (name : Name) → ((a : Name) → n ≡ Some a → s
 unnamed None name other = refl
 unnamed (Some a) name other = ap (λ (q : Bool). q || false) (other a refl)
 
-one_unlisted : (sent : List told.Item) (names : List Name) (event : Event) (name : Name) → IsOther sent names (event ∷ []) name → is_listed (refused_name sent names event) name ≡ false
+one_unlisted : (sent : List told.Item) (names : List Name) (event : Event) (name : Name) → IsOther sent names (event ∷ []) name
+    → is_listed (refused_name sent names event) name ≡ false
 one_unlisted sent names (events.Accept x) name other = refl
 one_unlisted sent names (events.Refuse x) name other = unnamed (name_sent sent names x) name (λ a e. other x a (ap (λ (q : Bool). q || false) (self_id x)) e)
 one_unlisted sent names (events.Run x) name other = refl
@@ -83,7 +87,8 @@ or_left : (p q : Bool) → (p || false) ≡ true → (p || q) ≡ true
 or_left true q e = refl
 or_left false q e = wrong' e
 
-unlisted : (sent : List told.Item) (names : List Name) (list : List Event) (name : Name) → IsOther sent names list name → is_listed (flat_map (λ event. refused_name sent names event) list) name ≡ false
+unlisted : (sent : List told.Item) (names : List Name) (list : List Event) (name : Name) → IsOther sent names list name
+    → is_listed (flat_map (λ event. refused_name sent names event) list) name ≡ false
 unlisted sent names [] name other = refl
 unlisted sent names (event ∷ list) name other =
     any_append (λ n. same_name n name) (refused_name sent names event) (flat_map (λ x. refused_name sent names x) list)
@@ -91,7 +96,8 @@ unlisted sent names (event ∷ list) name other =
 
 -- ---- the history
 
-pub tells_history : (s : ScenarioValue) (rows : List Row) → IsPast (transcript_of rows) (reverse (story s rows).sent.sent) (trace_history s rows) → AreApart (reverse (story s rows).sent.sent) (names_begun (transcript_of rows)) (trace_history s rows) → TellsHistory s rows
+pub tells_history : (s : ScenarioValue) (rows : List Row) → IsPast (transcript_of rows) (reverse (story s rows).sent.sent) (trace_history s rows)
+    → AreApart (reverse (story s rows).sent.sent) (names_begun (transcript_of rows)) (trace_history s rows) → TellsHistory s rows
 tells_history s rows past are_apart = past.shown (refused_names s rows) (record {
   refusals = λ id name has named. listed (reverse (story s rows).sent.sent) (names_begun (transcript_of rows)) (reverse (trace_history s rows)) id name (any_reverse (λ e. is_refusal id e) (trace_history s rows) ∙ has) named;
   answers = λ id name has named.

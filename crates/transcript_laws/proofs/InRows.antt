@@ -38,7 +38,7 @@ use Rattle.transcript_laws.specs.Serving.{IsBlank, IsServing}
 use Rattle.transcript_laws.specs.Standing.{no_process, AreAlike, Stage, of_abort, of_none, of_process, StandsLinked, Standing}
 use Rattle.transcript_laws.specs.Told.{IsMarked}
 use Rattle.transcript_laws.proofs.BaseParts.{base_in}
-use Rattle.transcript_laws.proofs.ChangedBytes.{changed, KeepsId, changed_own, changed_other, changed_each, changed_alike, marks_kept, after_message, message_marks, message_alike, message_blank, restored_blank, by_message, by_name}
+use Rattle.transcript_laws.proofs.ChangedBytes.{changed, KeepsId, changed_own, changed_each, changed_alike, marks_kept, after_message, message_marks, message_alike, message_blank, restored_blank, by_message, by_name}
 use Rattle.transcript_laws.proofs.CrossingRows.{Crosses, crossing_makes, no_out, in_story, message_story}
 use Rattle.transcript_laws.proofs.LinkedRows.{SameLines, transcript_on, story_on, IsOn, books_on, Stands, linked_next}
 use Rattle.transcript_laws.proofs.OpenProcesses.{alike_self, alike_on, SameBooks, kept_on, from_on}
@@ -58,7 +58,8 @@ known_by false true true v e f = e
 known_by false true false v e f = refl
 
 -- With more parts than before, in the same phase.
-pub known_more : (k k' : OpenedValue) (a b : LineSet) (more : List Part) → k'.connection ≡ k.connection → base_parts k' ≡ base_parts k ++ more → is_command b ≡ is_command a → is_known k a ≡ true → is_known k' b ≡ true
+pub known_more : (k k' : OpenedValue) (a b : LineSet) (more : List Part) → k'.connection ≡ k.connection → base_parts k' ≡ base_parts k ++ more
+    → is_command b ≡ is_command a → is_known k a ≡ true → is_known k' b ≡ true
 known_more k k' a b more con base command e =
     known_by (not k'.connection.reselected) (are_talk (base_parts k)) (are_talk (base_parts k')) (is_command b)
     ((λ i. not (con i).reselected || not (are_talk (base_parts k)) || command i) ∙ e) (λ talk. talk_first (base_parts k) more (sym (ap are_talk base) ∙ talk))
@@ -89,7 +90,8 @@ in_only lines e = record { out = (go lines.msg lines.cd lines.io e).0; msg = (go
     go true false i z = wrong' z
     go false d i z = wrong' z
 
-with_in_is : (s : ScenarioValue) (rows : List Row) (row : Row) (h : StandsLinked s (transcribed rows) (story s rows)) → InRow s rows row h → with_crossing h.opened (story s rows).bus_state.dialogue.is_last (row_reading (story s rows).bus_state row) ≡ with_in_if h.opened (row_reading (story s rows).bus_state row).into
+with_in_is : (s : ScenarioValue) (rows : List Row) (row : Row) (h : StandsLinked s (transcribed rows) (story s rows)) → InRow s rows row h
+    → with_crossing h.opened (story s rows).bus_state.dialogue.is_last (row_reading (story s rows).bus_state row) ≡ with_in_if h.opened (row_reading (story s rows).bus_state row).into
 with_in_is s rows row h r =
     (λ i. if (in_only (story s rows).bus_state.bus r.into).out i then with_said h.opened (story s rows).bus_state.dialogue.is_last (row_reading (story s rows).bus_state row).out
     else if is_message_in (story s rows).bus_state.bus then with_in_if h.opened (row_reading (story s rows).bus_state row).into
@@ -102,7 +104,9 @@ with_in_is s rows row h r =
 -- ---- a connection in which nothing changes
 
 -- But for the last message of the link.
-pub same_stands : (s : ScenarioValue) (rows : List Row) (row : Row) (h : StandsLinked s (transcribed rows) (story s rows)) (c : Story) → SameLines (story s rows).bus_state.bus (row_reading (story s rows).bus_state row).change.after → ((x : ProcId) → IsMarked (story s rows).history (carried_of (story s rows).carried x))
+pub same_stands : (s : ScenarioValue) (rows : List Row) (row : Row) (h : StandsLinked s (transcribed rows) (story s rows)) (c : Story)
+    → SameLines (story s rows).bus_state.bus (row_reading (story s rows).bus_state row).change.after
+    → ((x : ProcId) → IsMarked (story s rows).history (carried_of (story s rows).carried x))
     → ((x : Change) → (if (row_reading (story s rows).bus_state row).crosses then Some (row_reading (story s rows).bus_state row).change else None) ≡ Some x → is_command x.before ≡ is_command (row_reading (story s rows).bus_state row).change.after)
     → c.link ≡ Some h.link → c.sent ≡ (story s rows).sent → ((x : ProcId) → carried_of (story s rows).carried x ≡ carried_of c.carried x) → Stands s rows row h h.opened h.link c []
 same_stands s rows row h c lines marked crossed link sent same = record {
@@ -133,7 +137,9 @@ found_process b i t u tag n [] j e = none_some (abort j) e
 found_process b i t u tag n (c ∷ commands) j e =
     go (is_of_nexus c i t u && is_open b n && same_number (tag_number_if c.tag) tag) (is_of_nexus c i t u && is_open_sense b n && same_number None tag) e (λ z. found_process b i t u tag (n + 1) commands j z)
   where
-    go : {A : Type 0} (q r : Bool) → (if q then Some (command_item n) else if r then Some (sense_item n) else named_item_from b i t u tag (n + 1) commands) ≡ Some (abort j) → (named_item_from b i t u tag (n + 1) commands ≡ Some (abort j) → A) → A
+    go : {A : Type 0} (q r : Bool)
+        → (if q then Some (command_item n) else if r then Some (sense_item n) else named_item_from b i t u tag (n + 1) commands) ≡ Some (abort j)
+        → (named_item_from b i t u tag (n + 1) commands ≡ Some (abort j) → A) → A
     go true r z rest = absurd cc
     go false true z rest = absurd cc
     go false false z rest = rest z
@@ -181,13 +187,16 @@ named_alike : (all : List CarriedBytes) (was next : Option Item) (x : ProcId) �
 named_alike all None next x = changed_alike with_restored_pointers all next x (λ c. refl) restored_alike
 named_alike all (Some i) next x = alike_self _ _ refl
 
-named_marked : (history : List Event) (all : List CarriedBytes) (was next : Option Item) (x : ProcId) → IsMarked history (carried_of all x) → IsMarked history (carried_of (named_carried all was next) x)
+named_marked : (history : List Event) (all : List CarriedBytes) (was next : Option Item) (x : ProcId) → IsMarked history (carried_of all x)
+    → IsMarked history (carried_of (named_carried all was next) x)
 named_marked history all None next x h =
     changed_each (λ c. IsMarked history c) with_restored_pointers all next x (λ c. refl) (λ c m. marks_kept history c (with_restored_pointers c) (record { id = refl; refused = refl; shown = refl; saved = refl }) m) h
 named_marked history all (Some i) next x h = h
 
-named_blank : (history : List Event) (all : List CarriedBytes) (was next : Option Item) (id : ProcId) → ((x : ProcId) → IsMarked history (carried_of all x)) → next ≡ Some (process id) → ((i : Item) → was ≡ Some i → IsBlank (carried_of all id)) → IsBlank (carried_of (named_carried all was next) id)
-named_blank history all None next id marked e h = subst IsBlank (sym (changed_own with_restored_pointers all next id (λ c. refl) e)) (restored_blank (carried_of all id) (marked id).saved)
+named_blank : (history : List Event) (all : List CarriedBytes) (was next : Option Item) (id : ProcId) → ((x : ProcId) → IsMarked history (carried_of all x))
+    → next ≡ Some (process id) → ((i : Item) → was ≡ Some i → IsBlank (carried_of all id)) → IsBlank (carried_of (named_carried all was next) id)
+named_blank history all None next id marked e h =
+    subst IsBlank (sym (changed_own with_restored_pointers all next id (λ c. refl) e)) (restored_blank (carried_of all id) (marked id).saved)
 named_blank history all (Some i) next id marked e h = h i refl
 
 -- What the message makes of all that is carried.
@@ -198,27 +207,29 @@ message_id : (m : MsgIn) → KeepsId (after_message m)
 message_id m c = (message_marks m c).id
 
 heard_alike : (m : MsgIn) (all : List CarriedBytes) (was next : Option Item) (x : ProcId) → AreAlike (carried_of all x) (carried_of (heard_carried m all was next) x)
-heard_alike m all was next x = alike_on _ _ _ (named_alike all was next x) (changed_alike (after_message m) (named_carried all was next) next x (message_id m) (λ c. message_alike m c))
+heard_alike m all was next x =
+    alike_on _ _ _ (named_alike all was next x) (changed_alike (after_message m) (named_carried all was next) next x (message_id m) (λ c. message_alike m c))
 
-heard_marked : (history : List Event) (m : MsgIn) (all : List CarriedBytes) (was next : Option Item) (x : ProcId) → IsMarked history (carried_of all x) → IsMarked history (carried_of (heard_carried m all was next) x)
+heard_marked : (history : List Event) (m : MsgIn) (all : List CarriedBytes) (was next : Option Item) (x : ProcId) → IsMarked history (carried_of all x)
+    → IsMarked history (carried_of (heard_carried m all was next) x)
 heard_marked history m all was next x h =
     changed_each (λ c. IsMarked history c) (after_message m) (named_carried all was next) next x (message_id m) (λ c g. marks_kept history c (after_message m c) (message_marks m c) g) (named_marked history all was next x h)
 
-heard_blank : (history : List Event) (m : MsgIn) (all : List CarriedBytes) (was next : Option Item) (id : ProcId) → ((x : ProcId) → IsMarked history (carried_of all x)) → next ≡ Some (process id) → ((i : Item) → was ≡ Some i → IsBlank (carried_of all id)) → IsBlank (carried_of (heard_carried m all was next) id)
+heard_blank : (history : List Event) (m : MsgIn) (all : List CarriedBytes) (was next : Option Item) (id : ProcId)
+    → ((x : ProcId) → IsMarked history (carried_of all x)) → next ≡ Some (process id) → ((i : Item) → was ≡ Some i → IsBlank (carried_of all id))
+    → IsBlank (carried_of (heard_carried m all was next) id)
 heard_blank history m all was next id marked e h =
     subst IsBlank (sym (changed_own (after_message m) (named_carried all was next) next id (message_id m) e)) (message_blank m (carried_of (named_carried all was next) id) (named_blank history all was next id marked e h))
 
 -- Where the item stays.
-heard_own : (m : MsgIn) (all : List CarriedBytes) (was next : Option Item) (id : ProcId) → was ≡ Some (process id) → next ≡ Some (process id) → carried_of (heard_carried m all was next) id ≡ carried_after_message (carried_of all id) m
+heard_own : (m : MsgIn) (all : List CarriedBytes) (was next : Option Item) (id : ProcId) → was ≡ Some (process id) → next ≡ Some (process id)
+    → carried_of (heard_carried m all was next) id ≡ carried_after_message (carried_of all id) m
 heard_own m all was next id e f =
     changed_own (after_message m) (named_carried all was next) next id (message_id m) f ∙ ap (λ (o : Option Item). after_message m (carried_of (named_carried all o next) id)) e
 
-heard_other : (m : MsgIn) (all : List CarriedBytes) (was next : Option Item) (id x : ProcId) → was ≡ Some (process id) → next ≡ Some (process id) → same_id x id ≡ false → carried_of (heard_carried m all was next) x ≡ carried_of all x
-heard_other m all was next id x e f but =
-    changed_other (after_message m) (named_carried all was next) next id x (message_id m) f but ∙ ap (λ (o : Option Item). carried_of (named_carried all o next) x) e
-
 -- What MESSAGE PARITY ERROR would bring back is what its process has carried.
-undo_process : (b : Story) (o : Option Item) (u : CarriedBytes) (P : CarriedBytes → Type 0) → carried_if b o ≡ Some u → ((id : ProcId) → o ≡ Some (process id) → P (carried_of b.carried id)) → P u
+undo_process : (b : Story) (o : Option Item) (u : CarriedBytes) (P : CarriedBytes → Type 0) → carried_if b o ≡ Some u
+    → ((id : ProcId) → o ≡ Some (process id) → P (carried_of b.carried id)) → P u
 undo_process b None u P e h = none_some u e
 undo_process b (Some (process id)) u P e h = subst P (same_Some (carried_of b.carried id) u e) (h id refl)
 undo_process b (Some (abort j)) u P e h = none_some u e
@@ -234,7 +245,9 @@ record Hears (s : ScenarioValue) (rows : List Row) (row : Row) (h : StandsLinked
   sent : c.sent ≡ (story s rows).sent
   carried : c.carried ≡ heard_carried m (story s rows).carried h.link.item l.item
 
-hears_stage : (s : ScenarioValue) (rows : List Row) (row : Row) (h : StandsLinked s (transcribed rows) (story s rows)) (m : MsgIn) (l : Link) (c : Story) → InRow s rows row h → Hears s rows row h m l c → Stage s (transcript_on rows row (with_in h.opened (Whole m))) (story_on s rows row c []) (with_in h.opened (Whole m)) l h.sent h.conn
+hears_stage : (s : ScenarioValue) (rows : List Row) (row : Row) (h : StandsLinked s (transcribed rows) (story s rows)) (m : MsgIn) (l : Link) (c : Story)
+    → InRow s rows row h → Hears s rows row h m l c
+    → Stage s (transcript_on rows row (with_in h.opened (Whole m))) (story_on s rows row c []) (with_in h.opened (Whole m)) l h.sent h.conn
 hears_stage s rows row h m l c r g = go h.stage
   where
     t : TranscriberValue
@@ -273,7 +286,8 @@ hears_stage s rows row h m l c r g = go h.stage
     alike : (x : ProcId) → AreAlike (carried_of (story s rows).carried x) (carried_of c.carried x)
     alike x = alike_on _ _ _ (heard_alike m (story s rows).carried h.link.item l.item x) (alike_self _ _ (at x))
 
-    go : Stage s (transcribed rows) (story s rows) h.opened h.link h.sent h.conn → Stage s (transcript_on rows row (with_in h.opened (Whole m))) (story_on s rows row c []) (with_in h.opened (Whole m)) l h.sent h.conn
+    go : Stage s (transcribed rows) (story s rows) h.opened h.link h.sent h.conn
+        → Stage s (transcript_on rows row (with_in h.opened (Whole m))) (story_on s rows row c []) (with_in h.opened (Whole m)) l h.sent h.conn
     go (of_abort j began is undo none talk kept) =
         of_abort j began (item_known (is_known k b.bus_state.bus) h.link.item l.item g.names (λ i. not (began i) || not (are_talk (base_parts k)) || is_command b.bus_state.bus) ∙ is)
         (g.undo ∙ ap (λ (o : Option Item). carried_if b o) is) none (talk_in k m silent talk)
@@ -300,7 +314,8 @@ hears_stage s rows row h m l c r g = go h.stage
         one_process : (x y : ProcId) → Some (process x) ≡ Some (process y) → x ≡ y
         one_process x y e = cc
 
-hears_stands : (s : ScenarioValue) (rows : List Row) (row : Row) (h : StandsLinked s (transcribed rows) (story s rows)) (m : MsgIn) (l : Link) (c : Story) → InRow s rows row h → Hears s rows row h m l c → Stands s rows row h (with_in h.opened (Whole m)) l c []
+hears_stands : (s : ScenarioValue) (rows : List Row) (row : Row) (h : StandsLinked s (transcribed rows) (story s rows)) (m : MsgIn) (l : Link) (c : Story)
+    → InRow s rows row h → Hears s rows row h m l c → Stands s rows row h (with_in h.opened (Whole m)) l c []
 hears_stands s rows row h m l c r g = record {
   connection = refl;
   link = g.link;
@@ -316,7 +331,8 @@ hears_stands s rows row h m l c r g = record {
 
 -- ---- what stands
 
-pub in_next : (s : ScenarioValue) (rows : List Row) (row : Row) (h : StandsLinked s (transcribed rows) (story s rows)) → InRow s rows row h → fits_in s (story s rows) h.opened h.link (row_reading (story s rows).bus_state row).into ≡ true → Standing s (row ∷ rows)
+pub in_next : (s : ScenarioValue) (rows : List Row) (row : Row) (h : StandsLinked s (transcribed rows) (story s rows)) → InRow s rows row h
+    → fits_in s (story s rows) h.opened h.link (row_reading (story s rows).bus_state row).into ≡ true → Standing s (row ∷ rows)
 in_next s rows row h r fits = go (row_reading (story s rows).bus_state row).into refl fits
   where
     b : Story

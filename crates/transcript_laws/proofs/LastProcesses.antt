@@ -12,14 +12,10 @@ use Rattle.bus_transcript.specs.declared.process.Process.{Process}
 use Rattle.bus_transcript.specs.Keys.{Key, key_of, key_cmp}
 use Rattle.bus_transcript.specs.Processes.{process_of, with_last, same_nexus, IsLast}
 use Rattle.bus_transcript.proofs.Nexuses.{by_key}
-use Rattle.std.proofs.lemmas.Bool.{eqb-true}
+use Rattle.std.proofs.lemmas.Bool.{eqb-true, and_parts}
 use Rattle.bus_base.proofs.Tests.{wrong', eq_turned}
 
 -- ---- keys that are the same
-
-pub and_parts : (p q : Bool) → (p && q) ≡ true → (p ≡ true) × (q ≡ true)
-and_parts true q e = (refl, e)
-and_parts false q e = wrong' e
 
 pub optional_is : (a b : Option ℕ) → same_number a b ≡ true → a ≡ b
 optional_is None None e = refl
@@ -54,20 +50,24 @@ at_equal t e k p q es same = ap (λ (r : Bool). if r then Some p else lookup t e
     go true f = refl
     go false f = sym (ap (λ (x : Bool). if x then Some q else lookup t es) (ap t (sym same) ∙ f))
 
-later : (t : Key → Bool) (e k : Key) (p q : Process) (es put : List (Key × Process)) → (t e ≡ true → t k ≡ true → ⊥) → lookup t put ≡ (if t k then Some p else lookup t es) → lookup t ((e, q) ∷ put) ≡ (if t k then Some p else lookup t ((e, q) ∷ es))
+later : (t : Key → Bool) (e k : Key) (p q : Process) (es put : List (Key × Process)) → (t e ≡ true → t k ≡ true → ⊥)
+    → lookup t put ≡ (if t k then Some p else lookup t es) → lookup t ((e, q) ∷ put) ≡ (if t k then Some p else lookup t ((e, q) ∷ es))
 later t e k p q es put other rest = go (t e) (t k) refl refl rest
   where
-    go : (r u : Bool) → t e ≡ r → t k ≡ u → lookup t put ≡ (if u then Some p else lookup t es) → (if r then Some q else lookup t put) ≡ (if u then Some p else (if r then Some q else lookup t es))
+    go : (r u : Bool) → t e ≡ r → t k ≡ u → lookup t put ≡ (if u then Some p else lookup t es)
+        → (if r then Some q else lookup t put) ≡ (if u then Some p else (if r then Some q else lookup t es))
     go true true f g z = absurd (other f g)
     go true false f g z = refl
     go false u f g z = z
 
 -- The key is found by a name.
-put_last : (name : Name) (es : List (Key × Process)) (k : Key) (p : Process) → lookup (finds (key_of name)) (insert_entry key_cmp es k p) ≡ (if finds (key_of name) k then Some p else lookup (finds (key_of name)) es)
+put_last : (name : Name) (es : List (Key × Process)) (k : Key) (p : Process)
+    → lookup (finds (key_of name)) (insert_entry key_cmp es k p) ≡ (if finds (key_of name) k then Some p else lookup (finds (key_of name)) es)
 put_last name [] k p = refl
 put_last name (e ∷ es) k p = go (key_cmp k e.0) refl (put_last name es k p)
   where
-    go : (o : Ordering) → key_cmp k e.0 ≡ o → lookup (finds (key_of name)) (insert_entry key_cmp es k p) ≡ (if finds (key_of name) k then Some p else lookup (finds (key_of name)) es)
+    go : (o : Ordering) → key_cmp k e.0 ≡ o
+        → lookup (finds (key_of name)) (insert_entry key_cmp es k p) ≡ (if finds (key_of name) k then Some p else lookup (finds (key_of name)) es)
         → lookup (finds (key_of name)) (match_ordering o ((k, p) ∷ e ∷ es) ((e.0, p) ∷ es) (e ∷ insert_entry key_cmp es k p)) ≡ (if finds (key_of name) k then Some p else lookup (finds (key_of name)) (e ∷ es))
     go Less f rest = refl
     go Equal f rest = at_equal (finds (key_of name)) e.0 k p e.1 es (found_is k e.0 (ap is_eq f))

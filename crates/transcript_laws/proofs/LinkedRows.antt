@@ -7,14 +7,12 @@ use Rattle.bus_base.specs.declared.Event.TheVariants as events
 use Rattle.bus_base.specs.declared.ProcId.{ProcId}
 use Rattle.bus_trace.specs.Changes.{rises}
 use Rattle.bus_trace.specs.LineSet.{LineSet}
-use Rattle.bus_trace.specs.Phases.{is_command, is_data, is_message_in, is_message_out, changes_phase}
-use Rattle.bus_trace.specs.Terms.{is_fault}
+use Rattle.bus_trace.specs.Phases.{is_command, is_data, is_message_in, is_message_out}
 use Rattle.bus_trace.specs.declared.changes.Change.{Change}
 use Rattle.bus_trace.specs.declared.connection.Connection.{Connection}
-use Rattle.bus_trace.specs.declared.rows.Kind.{Kind}
 use Rattle.bus_trace.specs.declared.rows.Row.{Row}
 use Rattle.scenario.specs.Value.{ScenarioValue}
-use Rattle.bus_story.specs.BusState.{BusState, RowReading, row_reading, bus_state_after}
+use Rattle.bus_story.specs.BusState.{RowReading, row_reading, bus_state_after}
 use Rattle.bus_story.specs.CarriedBytes.{CarriedBytes, carried_of, is_status_phase}
 use Rattle.bus_story.specs.HistoryEvents.{connection_events, bus_free_events, link_events}
 use Rattle.bus_story.specs.Items.{Item}
@@ -25,16 +23,16 @@ use Rattle.bus_books.specs.Accounts.{is_open_in}
 use Rattle.bus_books.proofs.InConnection.{SamePhase}
 use Rattle.trace_laws.proofs.OverItems.{Grows}
 use Rattle.trace_laws.proofs.Impossible.{none_some}
-use Rattle.bus_transcript.specs.declared.part.Part.TheVariants.{Completion}
 use Rattle.bus_transcript.specs.Events.{names_begun}
-use Rattle.bus_transcript.specs.Opened.{OpenedValue, with_part, phase_over, phase_entered, with_crossing, is_completion, with_fault, with_row}
+use Rattle.bus_transcript.specs.Opened.{OpenedValue, with_row}
 use Rattle.bus_transcript.specs.Rows.{TranscriberValue, under_reset, in_connection, on_bus, by_change, with_bus, transcribed}
 use Rattle.transcript_laws.specs.Numbered.{AreNumbered}
 use Rattle.transcript_laws.specs.Standing.{IsBegun, first, again, Stage, StandsLinked, StandsBy, linked, Standing}
 use Rattle.transcript_laws.specs.Told.{IsMarked}
-use Rattle.transcript_laws.proofs.Buses.{IsAlike, reading_same, buses_alike}
+use Rattle.transcript_laws.proofs.Buses.{reading_same, buses_alike}
 use Rattle.transcript_laws.proofs.FreeRows.{was_open}
 use Rattle.transcript_laws.proofs.OpenProcesses.{SameBooks}
+use Rattle.transcript_laws.proofs.OpenedRows.{row_same}
 
 -- ---- the phase lines stay
 
@@ -56,20 +54,17 @@ same_lines a b h = record {
 
 -- ---- the transcript
 
-row_alike : (k : OpenedValue) (w v : BusState) (d : RowReading) (kind : Kind) → IsAlike w v → with_row k w d kind ≡ with_row k v d kind
-row_alike k w v d kind h =
-    λ i. if d.crosses then with_crossing k (h.is_last i) d
-    else if changes_phase d.change then phase_entered (phase_over k d.change.before (h.half i) true) d.change.after
-    else if is_completion k (h.half i) d.change then with_part k Completion
-    else with_fault k (is_fault kind && is_some (h.crossed i))
-
-in_change : (t : TranscriberValue) (d : RowReading) (row : Row) (m n : Connection) (k : OpenedValue) → d.change.after.rst ≡ false → t.bus_state.connection ≡ Some m → d.next ≡ Some n → t.opened ≡ Some k → by_change t d row ≡ record t { opened = Some (with_row k t.bus_state d row.kind) }
+in_change : (t : TranscriberValue) (d : RowReading) (row : Row) (m n : Connection) (k : OpenedValue) → d.change.after.rst ≡ false
+    → t.bus_state.connection ≡ Some m → d.next ≡ Some n → t.opened ≡ Some k → by_change t d row ≡ record t { opened = Some (with_row k t.bus_state d row.kind) }
 unfolding by_change
-in_change t d row m n k off con next opened = (λ i. if off i then under_reset t d row else on_bus t (con i) (next i) d row) ∙ ap (λ (o : Option OpenedValue). in_connection t o d row.kind) opened
+in_change t d row m n k off con next opened =
+    (λ i. if off i then under_reset t d row else on_bus t (con i) (next i) d row) ∙ ap (λ (o : Option OpenedValue). in_connection t o d row.kind) opened
 
 -- ---- the story
 
-in_story : (s : ScenarioValue) (b : Story) (row : Row) (d : RowReading) (m n : Connection) (l : Link) → d.change.after.rst ≡ false → b.bus_state.connection ≡ Some m → d.next ≡ Some n → b.link ≡ Some l → story_by s b row d ≡ story_with_history (story_after_events s (story_in_connection s b (Some l) d row) (connection_events s b l d)) (bus_state_after b.bus_state row d) (connection_events s b l d) b.history
+in_story : (s : ScenarioValue) (b : Story) (row : Row) (d : RowReading) (m n : Connection) (l : Link) → d.change.after.rst ≡ false
+    → b.bus_state.connection ≡ Some m → d.next ≡ Some n → b.link ≡ Some l
+    → story_by s b row d ≡ story_with_history (story_after_events s (story_in_connection s b (Some l) d row) (connection_events s b l d)) (bus_state_after b.bus_state row d) (connection_events s b l d) b.history
 in_story s b row d m n l off con next link =
     ap (λ (shown : List Event). story_with s b row d shown) ((λ i. if off i then (if rises d.change.own.rst d.change.next.rst then events.Reset row.dev ∷ [] else []) else link_events s b (link i) d) ∙ (λ i. if is_some (next i) then connection_events s b l d else bus_free_events s l l.last))
     ∙ (λ i. story_with_history (story_after_events s (if off i then record b { link = None } else story_on_bus s b (con i) (next i) d row) (connection_events s b l d)) (bus_state_after b.bus_state row d) (connection_events s b l d) b.history)
@@ -88,20 +83,24 @@ pub record IsOn (s : ScenarioValue) (rows : List Row) (row : Row) (n : Connectio
   pub off : (row_reading (story s rows).bus_state row).change.after.rst ≡ false
   pub next : (row_reading (story s rows).bus_state row).next ≡ Some n
 
-pub change_on : (s : ScenarioValue) (rows : List Row) (row : Row) (h : StandsLinked s (transcribed rows) (story s rows)) → IsOn s rows row h.opened.connection → by_change (transcribed rows) (row_reading (transcribed rows).bus_state row) row ≡ record (transcribed rows) { opened = Some (with_row h.opened (story s rows).bus_state (row_reading (story s rows).bus_state row) row.kind) }
+pub change_on : (s : ScenarioValue) (rows : List Row) (row : Row) (h : StandsLinked s (transcribed rows) (story s rows)) → IsOn s rows row h.opened.connection
+    → by_change (transcribed rows) (row_reading (transcribed rows).bus_state row) row ≡ record (transcribed rows) { opened = Some (with_row h.opened (story s rows).bus_state (row_reading (story s rows).bus_state row) row.kind) }
 change_on s rows row h on =
     let w = buses_alike s rows in
     let same = reading_same (transcribed rows).bus_state (story s rows).bus_state row w in
     ap (λ (d : RowReading). by_change (transcribed rows) d row) same
     ∙ in_change (transcribed rows) (row_reading (story s rows).bus_state row) row h.opened.connection h.opened.connection h.opened on.off (w.connection ∙ h.connection_is) on.next h.opened_is
-    ∙ ap (λ (k : OpenedValue). record (transcribed rows) { opened = Some k }) (row_alike h.opened (transcribed rows).bus_state (story s rows).bus_state (row_reading (story s rows).bus_state row) row.kind w)
+    ∙ ap (λ (k : OpenedValue). record (transcribed rows) { opened = Some k }) (row_same h.opened (transcribed rows).bus_state (story s rows).bus_state (row_reading (story s rows).bus_state row) row.kind w)
 
 pub story_is_on : (s : ScenarioValue) (rows : List Row) (row : Row) (h : StandsLinked s (transcribed rows) (story s rows)) → IsOn s rows row h.opened.connection
     → story s (row ∷ rows) ≡ story_on s rows row (story_after_events s (story_in_connection s (story s rows) (Some h.link) (row_reading (story s rows).bus_state row) row) (connection_events s (story s rows) h.link (row_reading (story s rows).bus_state row))) (connection_events s (story s rows) h.link (row_reading (story s rows).bus_state row))
-story_is_on s rows row h on = in_story s (story s rows) row (row_reading (story s rows).bus_state row) h.opened.connection h.opened.connection h.link on.off h.connection_is on.next h.link_is
+story_is_on s rows row h on =
+    in_story s (story s rows) row (row_reading (story s rows).bus_state row) h.opened.connection h.opened.connection h.link on.off h.connection_is on.next h.link_is
 
 -- With no event.
-pub story_quiet : (s : ScenarioValue) (rows : List Row) (row : Row) (h : StandsLinked s (transcribed rows) (story s rows)) → IsOn s rows row h.opened.connection → connection_events s (story s rows) h.link (row_reading (story s rows).bus_state row) ≡ [] → story s (row ∷ rows) ≡ story_on s rows row (story_in_connection s (story s rows) (Some h.link) (row_reading (story s rows).bus_state row) row) []
+pub story_quiet : (s : ScenarioValue) (rows : List Row) (row : Row) (h : StandsLinked s (transcribed rows) (story s rows)) → IsOn s rows row h.opened.connection
+    → connection_events s (story s rows) h.link (row_reading (story s rows).bus_state row) ≡ []
+    → story s (row ∷ rows) ≡ story_on s rows row (story_in_connection s (story s rows) (Some h.link) (row_reading (story s rows).bus_state row) row) []
 story_quiet s rows row h on none =
     story_is_on s rows row h on
     ∙ ap (λ (shown : List Event). story_on s rows row (story_after_events s (story_in_connection s (story s rows) (Some h.link) (row_reading (story s rows).bus_state row) row) shown) shown) none
@@ -111,7 +110,8 @@ story_quiet s rows row h on none =
 pub grown_opens : (b c : Story) → Grows b.sent c.sent → (x : ProcId) → is_open_in c.sent x ≡ true → is_open_in b.sent x ≡ true
 grown_opens b c g x o = was_open b c x g.sent g.over o
 
-pub books_on : (s : ScenarioValue) (rows : List Row) (row : Row) (k : OpenedValue) (c : Story) (shown : List Event) → Grows (story s rows).sent c.sent → SameBooks (transcribed rows) (transcript_on rows row k) (story s rows) (story_on s rows row c shown)
+pub books_on : (s : ScenarioValue) (rows : List Row) (row : Row) (k : OpenedValue) (c : Story) (shown : List Event) → Grows (story s rows).sent c.sent
+    → SameBooks (transcribed rows) (transcript_on rows row k) (story s rows) (story_on s rows row c shown)
 books_on s rows row k c shown g = record { processes = refl; names = refl; opens = λ x o. grown_opens (story s rows) c g x o }
 
 -- What the row makes of both.
@@ -129,10 +129,14 @@ pub record Stands (s : ScenarioValue) (rows : List Row) (row : Row) (h : StandsL
   pub stage : Stage s (transcript_on rows row k) (story_on s rows row c shown) k l h.sent (shown ++ h.conn)
   pub bytes : (is_command (row_reading (story s rows).bus_state row).change.after || is_data (row_reading (story s rows).bus_state row).change.after) ≡ false → k.bytes ≡ []
   pub said : is_message_out (row_reading (story s rows).bus_state row).change.after ≡ false → k.said ≡ []
-  pub crossed : (x : Change) → (if (row_reading (story s rows).bus_state row).crosses then Some (row_reading (story s rows).bus_state row).change else None) ≡ Some x → is_command x.before ≡ is_command (row_reading (story s rows).bus_state row).change.after
+  pub crossed : (x : Change)
+      → (if (row_reading (story s rows).bus_state row).crosses then Some (row_reading (story s rows).bus_state row).change else None) ≡ Some x
+      → is_command x.before ≡ is_command (row_reading (story s rows).bus_state row).change.after
   pub undone : (u : CarriedBytes) → l.undo ≡ Some u → k.since ≡ [] → IsMarked (shown ++ (story s rows).history) u
 
-pub linked_next : (s : ScenarioValue) (rows : List Row) (row : Row) (h : StandsLinked s (transcribed rows) (story s rows)) (k : OpenedValue) (l : Link) (c : Story) (shown : List Event) → AreNumbered (transcribed rows).processes (names_begun (transcribed rows).items) → IsOn s rows row h.opened.connection → Makes s rows row k c shown → Stands s rows row h k l c shown → Standing s (row ∷ rows)
+pub linked_next : (s : ScenarioValue) (rows : List Row) (row : Row) (h : StandsLinked s (transcribed rows) (story s rows)) (k : OpenedValue) (l : Link) (c : Story) (shown : List Event)
+    → AreNumbered (transcribed rows).processes (names_begun (transcribed rows).items) → IsOn s rows row h.opened.connection → Makes s rows row k c shown
+    → Stands s rows row h k l c shown → Standing s (row ∷ rows)
 linked_next s rows row h k l c shown numbered on g x = record {
   numbered = subst (λ (z : TranscriberValue). AreNumbered z.processes (names_begun z.items)) (sym g.transcript_is) numbered;
   marked = λ id. subst (λ (z : Story). IsMarked z.history (carried_of z.carried id)) (sym g.story_is) (x.marked id);
@@ -162,7 +166,8 @@ linked_next s rows row h k l c shown numbered on g x = record {
     begun (again re order) = again (ap (λ (n : Connection). n.reselected) x.connection ∙ re) (ap (λ (list : List Item). reverse list) x.sent ∙ order)
 
 -- No byte crosses in it.
-pub uncrossed : {A : Type 0} (s : ScenarioValue) (rows : List Row) (row : Row) → (row_reading (story s rows).bus_state row).crosses ≡ false → (x : Change) → (if (row_reading (story s rows).bus_state row).crosses then Some (row_reading (story s rows).bus_state row).change else None) ≡ Some x → A
+pub uncrossed : {A : Type 0} (s : ScenarioValue) (rows : List Row) (row : Row) → (row_reading (story s rows).bus_state row).crosses ≡ false → (x : Change)
+    → (if (row_reading (story s rows).bus_state row).crosses then Some (row_reading (story s rows).bus_state row).change else None) ≡ Some x → A
 uncrossed s rows row none x e = none_some x (sym (ap (λ (q : Bool). if q then Some (row_reading (story s rows).bus_state row).change else None) none) ∙ e)
 
 -- ---- rows with no event

@@ -13,7 +13,6 @@ use Rattle.bus_due.proofs.Plains.{run_state_plain}
 use Rattle.bus_transcript.specs.Events.{TellsHistory, names_begun}
 use Rattle.bus_transcript.specs.Rows.{transcribed, transcript_of}
 use Rattle.trace_laws.proofs.Whole.{whole}
-use Rattle.transcript_laws.specs.Left.{AreLeft}
 use Rattle.transcript_laws.specs.RowTests.{fit, fits_row, are_named}
 use Rattle.transcript_laws.proofs.MoreItems.{names_end, names_one}
 use Rattle.transcript_laws.proofs.SentCount.{few_sent}
@@ -22,7 +21,8 @@ use Rattle.transcript_laws.proofs.StandingPast.{standing_past}
 use Rattle.transcript_laws.proofs.TraceFits.{rows_fit}
 
 -- As many as items were sent, where those of the connections that are over have their numbers.
-names_sent : (s : ScenarioValue) (p : List Row) → Obeys s → IsPrompt s p → fit s p ≡ true → length (names_begun (transcribed p).items) < 4294967290 → length (names_begun (transcript_of p)) ≤ 8256
+names_sent : (s : ScenarioValue) (p : List Row) → Obeys s → IsPrompt s p → fit s p ≡ true → length (names_begun (transcribed p).items) < 4294967290
+    → length (names_begun (transcript_of p)) ≤ 8256
 names_sent s p o prompt e less =
     let past = standing_past s p (standing s p e less) (named_now s p e) in
     let pl = run_state_plain s p (whole s p o prompt).stood.standing.devices in
@@ -47,9 +47,9 @@ few_names s p o prompt e =
     let items = items_few s p o prompt e in
     names_sent s p o prompt e (omega (arith, items))
 
--- So the transcript of a prompt trace has the events of its history, where what is left of its rows is shown.
-pub prompt_tells : (s : ScenarioValue) (p : List Row) → Obeys s → IsPrompt s p → AreLeft s p → TellsHistory s p
-prompt_tells s p o prompt left =
-    let fits = rows_fit s p o prompt left in
+-- So the transcript of a prompt trace has the events of its history.
+pub prompt_tells : (s : ScenarioValue) (p : List Row) → Obeys s → IsPrompt s p → TellsHistory s p
+prompt_tells s p o prompt =
+    let fits = rows_fit s p o prompt in
     let few = few_names s p o prompt fits in
     fit_tells s p fits (omega (arith, few))

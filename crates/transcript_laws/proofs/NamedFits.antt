@@ -48,7 +48,8 @@ pub record Standing (s : ScenarioValue) (p : List Row) (n : Connection) (o : Ope
   pub served : IsServed s (run_state s p) n
   pub unbegun : (run_state s p).exchange.begun ≡ false → is_message_out (bus_of (run_state s p)) ≡ false
 
-pub standing : (s : ScenarioValue) (p : List Row) (n : Connection) (o : OpenedValue) → Obeys s → IsPrompt s p → connection p ≡ Some n → (bus p).rst ≡ false → (transcribed p).opened ≡ Some o → Standing s p n o
+pub standing : (s : ScenarioValue) (p : List Row) (n : Connection) (o : OpenedValue) → Obeys s → IsPrompt s p → connection p ≡ Some n → (bus p).rst ≡ false
+    → (transcribed p).opened ≡ Some o → Standing s p n o
 standing s p n k o prompt con calm there =
     let was = whole s p o prompt in
     let pl : IsPlain s p (run_state s p) = run_state_plain s p was.stood.standing.devices in
@@ -65,7 +66,8 @@ standing s p n k o prompt con calm there =
     }
 
 -- What is served.
-pub item_is_served : (s : ScenarioValue) (p : List Row) (n : Connection) (o : OpenedValue) (l : Link) (item : Item) → Standing s p n o → (run_state s p).story.link ≡ Some l → l.item ≡ Some item → (run_state s p).served ≡ Some item
+pub item_is_served : (s : ScenarioValue) (p : List Row) (n : Connection) (o : OpenedValue) (l : Link) (item : Item) → Standing s p n o
+    → (run_state s p).story.link ≡ Some l → l.item ≡ Some item → (run_state s p).served ≡ Some item
 item_is_served s p n o l item h el e = go h.knows.item_is
   where
     same : h.knows.link ≡ l
@@ -102,7 +104,8 @@ pub record NamesOf (s : ScenarioValue) (n : Connection) (o : OpenedValue) (id : 
   pub abort : (summary_by n (parts_now o)).abort ≡ None
   pub name : (are_talk (parts_now o) || name_process s n (parts_now o) id) ≡ true
 
-selected_names : (s : ScenarioValue) (p : List Row) (n : Connection) (o : OpenedValue) (id : ProcId) (q : Process) → Standing s p n o → n.reselected ≡ false → (run_state s p).served ≡ Some (process id) → process_of s id ≡ Some q → OutNames q (run_state s p) o → NamesOf s n o id
+selected_names : (s : ScenarioValue) (p : List Row) (n : Connection) (o : OpenedValue) (id : ProcId) (q : Process) → Standing s p n o → n.reselected ≡ false
+    → (run_state s p).served ≡ Some (process id) → process_of s id ≡ Some q → OutNames q (run_state s p) o → NamesOf s n o id
 selected_names s p n o id q h sel sv of (told a b) =
     let all : IsOpening q (outs_of (parts_now o)) = subst (λ (x : List MsgOut). IsOpening q x) (sym (outs_now o)) (opening_more q (outs_of (base_parts o)) o.said a (mild_said s (run_state s p) n o h.speaking b)) in
     let ends = h.names.ends id q sv of in
@@ -129,7 +132,8 @@ selected_names s p n o id q h sel sv of (unsaid a t f) = record {
     tame false out = ap are_tame (h.speaking.bytes out)
     tame true out = spoken k.exchange.begun refl out
 
-pub named_selected : (s : ScenarioValue) (p : List Row) (n : Connection) (o : OpenedValue) (l : Link) → Standing s p n o → (run_state s p).story.link ≡ Some l → n.reselected ≡ false → is_named s o l.item ≡ true
+pub named_selected : (s : ScenarioValue) (p : List Row) (n : Connection) (o : OpenedValue) (l : Link) → Standing s p n o → (run_state s p).story.link ≡ Some l
+    → n.reselected ≡ false → is_named s o l.item ≡ true
 named_selected s p n o l h el sel = go l.item refl
   where
     by : (id : ProcId) → (run_state s p).served ≡ Some (process id) → is_named s o (Some (process id)) ≡ true

@@ -14,10 +14,8 @@ use Rattle.bus_transcript.specs.Processes.{process_of, with_last, same_nexus, pr
 use Rattle.transcript_laws.specs.Numbered.{OnNames, AreOther, AreDistinct, HasLast, AreNumbered}
 use Rattle.transcript_laws.proofs.LastProcesses.{is_last, nexus_is, nexus_turned}
 use Rattle.bus_base.proofs.Tests.{wrong}
+use Rattle.trace_laws.proofs.Impossible.{none_some}
 use Rattle.bus_transcript.proofs.Inside.{number_same}
-
-pub none_some : {A : Type 0} (p : Process) → (let a : Option Process = None in a) ≡ Some p → A
-none_some p e = absurd cc
 
 -- ---- numbers
 
@@ -58,7 +56,8 @@ record IsNext (last : List (Key × Process)) (count : ℕ) (name next : Name) : 
   small : next.number ≤ count + 1
   above : (p : Process) → process_of last name ≡ Some p → p.name.number < next.number
 
-new_next : (last : List (Key × Process)) (names : List Name) (name : Name) → length names < 4294967290 → AreNumbered last names → IsNext last (length names + 1) name (process_after false false (process_of last name) name).name
+new_next : (last : List (Key × Process)) (names : List Name) (name : Name) → length names < 4294967290 → AreNumbered last names
+    → IsNext last (length names + 1) name (process_after false false (process_of last name) name).name
 new_next last names name less h = go (process_of last name) refl
   where
     go : (o : Option Process) → process_of last name ≡ o → IsNext last (length names + 1) name (process_after false false o name).name
@@ -76,14 +75,17 @@ new_next last names name less h = go (process_of last name) refl
 
 -- ---- after one more
 
-put_keyed : (last : List (Key × Process)) (p : Process) → ((name : Name) (q : Process) → process_of last name ≡ Some q → same_nexus q.name name ≡ true) → (name : Name) (q : Process) → process_of (with_last last p) name ≡ Some q → same_nexus q.name name ≡ true
+put_keyed : (last : List (Key × Process)) (p : Process) → ((name : Name) (q : Process) → process_of last name ≡ Some q → same_nexus q.name name ≡ true)
+    → (name : Name) (q : Process) → process_of (with_last last p) name ≡ Some q → same_nexus q.name name ≡ true
 put_keyed last p h name q e = go (same_nexus p.name name) refl (sym (is_last last p name) ∙ e)
   where
     go : (r : Bool) → same_nexus p.name name ≡ r → (if r then Some p else process_of last name) ≡ Some q → same_nexus q.name name ≡ true
     go true f z = ap (λ (x : Process). same_nexus x.name name) (sym (same_Some p q z)) ∙ f
     go false f z = h name q z
 
-put_counted : (last : List (Key × Process)) (p : Process) (count : ℕ) → p.name.number ≤ count → ((name : Name) (q : Process) → process_of last name ≡ Some q → q.name.number ≤ count) → (name : Name) (q : Process) → process_of (with_last last p) name ≡ Some q → q.name.number ≤ count
+put_counted : (last : List (Key × Process)) (p : Process) (count : ℕ) → p.name.number ≤ count
+    → ((name : Name) (q : Process) → process_of last name ≡ Some q → q.name.number ≤ count) → (name : Name) (q : Process)
+    → process_of (with_last last p) name ≡ Some q → q.name.number ≤ count
 put_counted last p count small h name q e = go (same_nexus p.name name) (sym (is_last last p name) ∙ e)
   where
     go : (r : Bool) → (if r then Some p else process_of last name) ≡ Some q → q.name.number ≤ count
@@ -108,7 +110,8 @@ other_number a b less = ap (λ (q : Bool). same_nexus a b && q) (unlike a.number
     none false = refl
 
 -- An initiator began it, for a process.
-pub first_numbered : (last : List (Key × Process)) (names : List Name) (name : Name) (p : Process) → length names < 4294967290 → p.name ≡ (process_after false false (process_of last name) name).name → AreNumbered last names → AreNumbered (with_last last p) (names ++ p.name ∷ [])
+pub first_numbered : (last : List (Key × Process)) (names : List Name) (name : Name) (p : Process) → length names < 4294967290
+    → p.name ≡ (process_after false false (process_of last name) name).name → AreNumbered last names → AreNumbered (with_last last p) (names ++ p.name ∷ [])
 first_numbered last names name p less is h =
     let g : IsNext last (length names + 1) name p.name = subst (λ (x : Name). IsNext last (length names + 1) name x) (sym is) (new_next last names name less h) in
     let count : length (names ++ p.name ∷ []) ≡ length names + 1 = length-append names (p.name ∷ []) in
@@ -137,7 +140,8 @@ first_numbered last names name p less is h =
         go false f = ap (λ (q : Bool). q && m.number == p.name.number) f
 
 -- A target began it: the last process of the nexus goes on, or one begins that no initiator has begun.
-pub again_numbered : (last : List (Key × Process)) (names : List Name) (name : Name) (p : Process) (aborts : Bool) → p.name ≡ (process_after true aborts (process_of last name) name).name → AreNumbered last names → AreNumbered (with_last last p) names
+pub again_numbered : (last : List (Key × Process)) (names : List Name) (name : Name) (p : Process) (aborts : Bool)
+    → p.name ≡ (process_after true aborts (process_of last name) name).name → AreNumbered last names → AreNumbered (with_last last p) names
 again_numbered last names name p aborts is h = go (process_of last name) refl is
   where
     one : (q : Bool) → (if q && not true then 0 else next_number 0) ≡ 1

@@ -47,11 +47,13 @@ alike_put all c h x = go (same_id c.id x) refl
     go false e = alike_self _ _ (sym (put_there all c x ∙ ap (λ (q : Bool). if q then c else carried_of all x) e))
 
 -- What holds of all holds where one is put of which it holds.
-pub put_each : (P : CarriedBytes → Type 0) (all : List CarriedBytes) (c : CarriedBytes) (x : ProcId) → (P (carried_of all c.id) → P c) → P (carried_of all x) → P (carried_of (with_carried all c) x)
+pub put_each : (P : CarriedBytes → Type 0) (all : List CarriedBytes) (c : CarriedBytes) (x : ProcId) → (P (carried_of all c.id) → P c) → P (carried_of all x)
+    → P (carried_of (with_carried all c) x)
 put_each P all c x f h = go (same_id c.id x) refl
   where
     go : (q : Bool) → same_id c.id x ≡ q → P (carried_of (with_carried all c) x)
-    go true e = subst P (sym (put_there all c x ∙ ap (λ (q : Bool). if q then c else carried_of all x) e)) (f (subst (λ (y : ProcId). P (carried_of all y)) (sym (id_is c.id x e)) h))
+    go true e =
+        subst P (sym (put_there all c x ∙ ap (λ (q : Bool). if q then c else carried_of all x) e)) (f (subst (λ (y : ProcId). P (carried_of all y)) (sym (id_is c.id x e)) h))
     go false e = subst P (sym (put_there all c x ∙ ap (λ (q : Bool). if q then c else carried_of all x) e)) h
 
 -- ---- what is kept
@@ -62,7 +64,8 @@ pub record SameBooks (t t' : TranscriberValue) (b b' : Story) : Type 0 where
   pub names : names_begun t'.items ≡ names_begun t.items
   pub opens : (x : ProcId) → is_open_in b'.sent x ≡ true → is_open_in b.sent x ≡ true
 
-pub has_on : (s : ScenarioValue) (t t' : TranscriberValue) (b b' : Story) (sent : List Item) (id : ProcId) → SameBooks t t' b b' → HasProcess s t.processes sent (names_begun t.items) id → HasProcess s t'.processes sent (names_begun t'.items) id
+pub has_on : (s : ScenarioValue) (t t' : TranscriberValue) (b b' : Story) (sent : List Item) (id : ProcId) → SameBooks t t' b b'
+    → HasProcess s t.processes sent (names_begun t.items) id → HasProcess s t'.processes sent (names_begun t'.items) id
 has_on s t t' b b' sent id e h = record {
   definition = h.definition;
   definition_is = h.definition_is;
@@ -71,7 +74,8 @@ has_on s t t' b b' sent id e h = record {
   named = ap (λ (names : List Name). name_sent sent names id) e.names ∙ h.named;
 }
 
-pub kept_on : (s : ScenarioValue) (t t' : TranscriberValue) (b b' : Story) (sent : List Item) (but : ProcId → Bool) → SameBooks t t' b b' → ((x : ProcId) → but x ≡ false → AreAlike (carried_of b.carried x) (carried_of b'.carried x)) → AreKept s t b sent but → AreKept s t' b' sent but
+pub kept_on : (s : ScenarioValue) (t t' : TranscriberValue) (b b' : Story) (sent : List Item) (but : ProcId → Bool) → SameBooks t t' b b'
+    → ((x : ProcId) → but x ≡ false → AreAlike (carried_of b.carried x) (carried_of b'.carried x)) → AreKept s t b sent but → AreKept s t' b' sent but
 kept_on s t t' b b' sent but e alike h = λ x o no.
     let k = h x (e.opens x o) no in
     record {
@@ -83,7 +87,10 @@ kept_on s t t' b b' sent but e alike h = λ x o no.
       kept = alike_kept k.process (carried_of b.carried x) (carried_of b'.carried x) (alike x no) k.kept;
     }
 
-pub from_on : (s : ScenarioValue) (t t' : TranscriberValue) (b b' : Story) (k k' : OpenedValue) (sent : List Item) (id : ProcId) (was : Bool) (st : Option ℕ) → SameBooks t t' b b' → k'.connection ≡ k.connection → IsFrom s t b k sent id was st → IsFrom s t' b' k' sent id was st
+pub from_on : (s : ScenarioValue) (t t' : TranscriberValue) (b b' : Story) (k k' : OpenedValue) (sent : List Item) (id : ProcId) (was : Bool) (st : Option ℕ)
+    → SameBooks t t' b b' → k'.connection ≡ k.connection → IsFrom s t b k sent id was st → IsFrom s t' b' k' sent id was st
 unfolding has_on
-from_on s t t' b b' k k' sent id was st e con (anew began f g alone) = anew (ap (λ (n : Connection). n.reselected) con ∙ began) f g (λ x d d' o but i j. alone x d d' (e.opens x o) but i j)
-from_on s t t' b b' k k' sent id was st e con (kept re h begun) = kept (ap (λ (n : Connection). n.reselected) con ∙ re) (has_on s t t' b b' sent id e h) (record { shown = begun.shown; status = begun.status })
+from_on s t t' b b' k k' sent id was st e con (anew began f g alone) =
+    anew (ap (λ (n : Connection). n.reselected) con ∙ began) f g (λ x d d' o but i j. alone x d d' (e.opens x o) but i j)
+from_on s t t' b b' k k' sent id was st e con (kept re h begun) =
+    kept (ap (λ (n : Connection). n.reselected) con ∙ re) (has_on s t t' b b' sent id e h) (record { shown = begun.shown; status = begun.status })

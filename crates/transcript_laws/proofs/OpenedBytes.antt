@@ -15,6 +15,8 @@ use Rattle.bus_story.specs.CarriedBytes.{is_status_phase}
 use Rattle.bus_due.specs.RunState.{RunState, bus_of}
 use Rattle.bus_due.specs.RunSteps.{run_state}
 use Rattle.bus_books.specs.Rows.{reading_in}
+pub use Rattle.bus_books.proofs.Gives.{in_same}
+pub use Rattle.bus_books.proofs.Speaks.{out_same}
 use Rattle.bus_books.proofs.InConnection.{reading_is, in_connection, SamePhase, same_phase_is}
 use Rattle.scenario.specs.Value.{ScenarioValue}
 use Rattle.bus_transcript.specs.declared.part.Part.TheVariants.{Completion, StatusPhase, Status}
@@ -47,12 +49,6 @@ still_keeps o w c row = go (is_completion o w.dialogue.half c)
     go false = record { connection = refl; said = refl; bytes = refl; parts = refl; held = refl }
 
 -- The phase is as before.
-pub out_same : (a b : LineSet) → SamePhase a b → is_message_out b ≡ is_message_out a
-out_same a b h = λ i. h.msg i && h.cd i && not (h.io i)
-
-pub in_same : (a b : LineSet) → SamePhase a b → is_message_in b ≡ is_message_in a
-in_same a b h = λ i. h.msg i && h.cd i && h.io i
-
 pub moves_same : (a b : LineSet) → SamePhase a b → (is_command b || is_data b) ≡ (is_command a || is_data a)
 moves_same a b h = λ i. (not (h.msg i) && h.cd i && not (h.io i)) || (not (h.msg i) && not (h.cd i))
 
@@ -70,9 +66,11 @@ pub data CrossingMade (o after : OpenedValue) (anew : Bool) (b : LineSet) (byte 
   crossed_out : is_message_out b ≡ true → after ≡ with_said o anew out → CrossingMade o after anew b byte out into
   crossed_in : is_message_out b ≡ false → is_message_in b ≡ true → after ≡ with_in_if o into → CrossingMade o after anew b byte out into
   crossed_status : is_message_out b ≡ false → is_message_in b ≡ false → is_status_phase b ≡ true → after ≡ with_part o (Status byte) → CrossingMade o after anew b byte out into
-  crossed_else : is_message_out b ≡ false → is_message_in b ≡ false → is_status_phase b ≡ false → after ≡ record o { bytes = o.bytes ++ byte ∷ [] } → CrossingMade o after anew b byte out into
+  crossed_else : is_message_out b ≡ false → is_message_in b ≡ false → is_status_phase b ≡ false → after ≡ record o { bytes = o.bytes ++ byte ∷ [] }
+      → CrossingMade o after anew b byte out into
 
-pub crossing_made : (o after : OpenedValue) (w : BusState) (n : Connection) (c : Change) → after ≡ with_crossing o w.dialogue.is_last (reading_in w n c true) → CrossingMade o after w.dialogue.is_last c.before (c.after.data_bits % 256) (message_out w.dialogue c true) (message_in w.dialogue c true)
+pub crossing_made : (o after : OpenedValue) (w : BusState) (n : Connection) (c : Change) → after ≡ with_crossing o w.dialogue.is_last (reading_in w n c true)
+    → CrossingMade o after w.dialogue.is_last c.before (c.after.data_bits % 256) (message_out w.dialogue c true) (message_in w.dialogue c true)
 crossing_made o after w n c e = go (is_message_out c.before) (is_message_in c.before) (is_status_phase c.before) refl refl refl
   where
     byte : ℕ
@@ -85,7 +83,8 @@ crossing_made o after w n c e = go (is_message_out c.before) (is_message_in c.be
     into = message_in w.dialogue c true
 
     chosen : Bool → Bool → Bool → OpenedValue
-    chosen x y z = if x then with_said o w.dialogue.is_last out else if y then with_in_if o into else if z then with_part o (Status byte) else record o { bytes = o.bytes ++ byte ∷ [] }
+    chosen x y z =
+        if x then with_said o w.dialogue.is_last out else if y then with_in_if o into else if z then with_part o (Status byte) else record o { bytes = o.bytes ++ byte ∷ [] }
 
     go : (x y z : Bool) → is_message_out c.before ≡ x → is_message_in c.before ≡ y → is_status_phase c.before ≡ z → CrossingMade o after w.dialogue.is_last c.before byte out into
     go true y z f g h = crossed_out f (e ∙ (λ i. if f i then with_said o w.dialogue.is_last out else if is_message_in c.before then with_in_if o into else if is_status_phase c.before then with_part o (Status byte) else record o { bytes = o.bytes ++ byte ∷ [] }))
@@ -95,7 +94,8 @@ crossing_made o after w n c e = go (is_message_out c.before) (is_message_in c.be
 
 -- ---- row by row
 
-pub lines_same : (s : ScenarioValue) (p : List Row) (row : Row) (n : Connection) (g : Going s p row n) → changes_phase g.going.change ≡ false → SamePhase (bus_of (run_state s p)) (bus_of (run_state s (row ∷ p)))
+pub lines_same : (s : ScenarioValue) (p : List Row) (row : Row) (n : Connection) (g : Going s p row n) → changes_phase g.going.change ≡ false
+    → SamePhase (bus_of (run_state s p)) (bus_of (run_state s (row ∷ p)))
 lines_same s p row n g ep =
     let k : RunState = run_state s p in
     let i = in_connection s k row n g.going.change (changes_phase g.going.change) (is_some (receiver_in n g.going.change)) (is_fault row.kind) g.going.goes.row_is refl refl refl in
@@ -108,23 +108,27 @@ lines_same s p row n g ep =
     }
 
 -- A phase has begun where it had, or begins with the row.
-pub begun_same : (s : ScenarioValue) (p : List Row) (row : Row) (n : Connection) (g : Going s p row n) → changes_phase g.going.change ≡ false → (run_state s (row ∷ p)).exchange.begun ≡ (run_state s p).exchange.begun
+pub begun_same : (s : ScenarioValue) (p : List Row) (row : Row) (n : Connection) (g : Going s p row n) → changes_phase g.going.change ≡ false
+    → (run_state s (row ∷ p)).exchange.begun ≡ (run_state s p).exchange.begun
 begun_same s p row n g ep =
     let k : RunState = run_state s p in
     let i = in_connection s k row n g.going.change false (is_some (receiver_in n g.going.change)) (is_fault row.kind) g.going.goes.row_is ep refl refl in
     ap (λ (x : Exchange). x.begun) i.exchange_is
 
-pub begun_turned : (s : ScenarioValue) (p : List Row) (row : Row) (n : Connection) (g : Going s p row n) → changes_phase g.going.change ≡ true → (run_state s (row ∷ p)).exchange.begun ≡ true
+pub begun_turned : (s : ScenarioValue) (p : List Row) (row : Row) (n : Connection) (g : Going s p row n) → changes_phase g.going.change ≡ true
+    → (run_state s (row ∷ p)).exchange.begun ≡ true
 begun_turned s p row n g ep =
     let k : RunState = run_state s p in
     let i = in_connection s k row n g.going.change true (is_some (receiver_in n g.going.change)) (is_fault row.kind) g.going.goes.row_is ep refl refl in
     ap (λ (x : Exchange). x.begun) i.exchange_is
 
 -- The reading of the row.
-pub crosses_is : (s : ScenarioValue) (p : List Row) (row : Row) (n : Connection) (g : Going s p row n) → (q : Bool) → is_some (receiver_in n g.going.change) ≡ q → (row_reading (run_state s p).story.bus_state row) ≡ reading_in (run_state s p).story.bus_state n g.going.change q
+pub crosses_is : (s : ScenarioValue) (p : List Row) (row : Row) (n : Connection) (g : Going s p row n) → (q : Bool) → is_some (receiver_in n g.going.change) ≡ q
+    → (row_reading (run_state s p).story.bus_state row) ≡ reading_in (run_state s p).story.bus_state n g.going.change q
 crosses_is s p row n g q e = reading_is (run_state s p) row n g.going.change q g.going.goes.row_is e
 
-pub begun_crossing : (s : ScenarioValue) (p : List Row) (row : Row) (n : Connection) (g : Going s p row n) → (dev : ℕ) → receiver_in n g.going.change ≡ Some dev → (run_state s p).exchange.begun ≡ true
+pub begun_crossing : (s : ScenarioValue) (p : List Row) (row : Row) (n : Connection) (g : Going s p row n) → (dev : ℕ) → receiver_in n g.going.change ≡ Some dev
+    → (run_state s p).exchange.begun ≡ true
 begun_crossing s p row n g dev er = g.going.goes.begun (ap (λ (d : RowReading). d.crosses) (crosses_is s p row n g true (ap (λ (x : Option ℕ). is_some x) er)))
 
 in_if : (o : OpenedValue) (into : Option MsgIn) → (with_in_if o into).connection ≡ o.connection
@@ -151,7 +155,8 @@ carrying b phase no_out no_in no_status = go b.msg b.cd b.io phase no_out no_in 
     go false true false h x y z = refl
     go false false i h x y z = refl
 
-on_row : (s : ScenarioValue) (p : List Row) (row : Row) (n : Connection) (g : Going s p row n) (o after : OpenedValue) → RowMade (run_state s p) row n g.going.change o after → OpenedBytes (run_state s p) n o → OpenedBytes (run_state s (row ∷ p)) n after
+on_row : (s : ScenarioValue) (p : List Row) (row : Row) (n : Connection) (g : Going s p row n) (o after : OpenedValue)
+    → RowMade (run_state s p) row n g.going.change o after → OpenedBytes (run_state s p) n o → OpenedBytes (run_state s (row ∷ p)) n after
 on_row s p row n g o after (made_still ep none e) h =
     let k : RunState = run_state s p in
     let t = still_keeps o k.story.bus_state g.going.change row in
@@ -191,7 +196,8 @@ on_row s p row n g o after (made_crossing dev ep er e) h = go (crossing_made o a
     phase : c.before.msg ≡ true → c.before.cd ≡ true
     phase z = ap (λ (l : LineSet). l.cd) (sym on) ∙ (g.going.goes.phase (ap (λ (l : LineSet). l.msg) on ∙ z)).0
 
-    go : CrossingMade o after k.story.bus_state.dialogue.is_last c.before (c.after.data_bits % 256) (message_out k.story.bus_state.dialogue c true) (message_in k.story.bus_state.dialogue c true) → OpenedBytes j n after
+    go : CrossingMade o after k.story.bus_state.dialogue.is_last c.before (c.after.data_bits % 256) (message_out k.story.bus_state.dialogue c true) (message_in k.story.bus_state.dialogue c true)
+        → OpenedBytes j n after
     go (crossed_out x f) = record {
       connection_is = ap (λ (y : OpenedValue). y.connection) f ∙ h.connection_is;
       unbegun = λ b. begun b;

@@ -1,6 +1,7 @@
 -- What the connection of a transcript is after a row: none under RST, a new one, or the one that stood, with what the row shows.
 use Rattle.std.proofs.Common.{◌≡◌, ◌∙◌, Bool, true, false, List, ◌∷◌, Option, Some, None, refl, sym, ap, subst}
 use Rattle.std.specs.Prelude.{◌&&◌, is_some, if◌then◌else◌}
+use Rattle.std.proofs.lemmas.Option.{same_Some}
 use Rattle.bus_trace.specs.Phases.{changes_phase}
 use Rattle.bus_trace.specs.Terms.{is_fault}
 use Rattle.bus_trace.specs.declared.connection.Connection.{Connection}
@@ -10,6 +11,7 @@ use Rattle.scenario.specs.Value.{ScenarioValue}
 use Rattle.bus_story.specs.BusState.{BusState, RowReading, row_reading}
 use Rattle.bus_story.specs.Story.{Story}
 use Rattle.bus_story.specs.TraceHistory.{story}
+use Rattle.trace_laws.proofs.Impossible.{none_some}
 use Rattle.bus_transcript.specs.declared.part.Part.TheVariants.{Completion}
 use Rattle.bus_transcript.specs.Opened.{OpenedValue, opened_connection, with_part, with_crossing, phase_entered, phase_over, is_completion, with_fault, with_row}
 use Rattle.bus_transcript.specs.Rows.{TranscriberValue, closed_by, closed_if, under_reset, in_connection, on_bus, by_change, transcribed}
@@ -28,15 +30,17 @@ reset_none t d row on = (λ i. (if on i then under_reset t d row else on_bus t t
 
 -- ---- in a connection
 
-first_opened : (t : TranscriberValue) (d : RowReading) (row : Row) (n : Connection) → d.change.after.rst ≡ false → t.bus_state.connection ≡ None → d.next ≡ Some n → (by_change t d row).opened ≡ Some (opened_connection n)
+first_opened : (t : TranscriberValue) (d : RowReading) (row : Row) (n : Connection) → d.change.after.rst ≡ false → t.bus_state.connection ≡ None
+    → d.next ≡ Some n → (by_change t d row).opened ≡ Some (opened_connection n)
 unfolding by_change
 first_opened t d row n off con next = λ i. (if off i then under_reset t d row else on_bus t (con i) (next i) d row).opened
 
-next_opened : (t : TranscriberValue) (d : RowReading) (row : Row) (m n : Connection) → d.change.after.rst ≡ false → t.bus_state.connection ≡ Some m → d.next ≡ Some n → (by_change t d row).opened ≡ (in_connection t t.opened d row.kind).opened
+next_opened : (t : TranscriberValue) (d : RowReading) (row : Row) (m n : Connection) → d.change.after.rst ≡ false → t.bus_state.connection ≡ Some m
+    → d.next ≡ Some n → (by_change t d row).opened ≡ (in_connection t t.opened d row.kind).opened
 unfolding by_change
 next_opened t d row m n off con next = λ i. (if off i then under_reset t d row else on_bus t (con i) (next i) d row).opened
 
-row_same : (k : OpenedValue) (w v : BusState) (d : RowReading) (kind : Kind) → IsAlike w v → with_row k w d kind ≡ with_row k v d kind
+pub row_same : (k : OpenedValue) (w v : BusState) (d : RowReading) (kind : Kind) → IsAlike w v → with_row k w d kind ≡ with_row k v d kind
 row_same k w v d kind h =
     λ i. if d.crosses then with_crossing k (h.is_last i) d
     else if changes_phase d.change then phase_entered (phase_over k d.change.before (h.half i) true) d.change.after
@@ -50,15 +54,21 @@ alike_to s rows b e = subst (λ (x : Story). IsAlike (transcribed rows).bus_stat
 reading_to : (s : ScenarioValue) (rows : List Row) (row : Row) (b : Story) → b ≡ story s rows → row_reading (transcribed rows).bus_state row ≡ row_reading b.bus_state row
 reading_to s rows row b e = reading_same (transcribed rows).bus_state b.bus_state row (alike_to s rows b e)
 
-pub opened_reset : (s : ScenarioValue) (rows : List Row) (row : Row) (b : Story) → b ≡ story s rows → (row_reading b.bus_state row).change.after.rst ≡ true → (transcribed (row ∷ rows)).opened ≡ None
-opened_reset s rows row b e on = reset_none (transcribed rows) (row_reading (transcribed rows).bus_state row) row (ap (λ (d : RowReading). d.change.after.rst) (reading_to s rows row b e) ∙ on)
+pub opened_reset : (s : ScenarioValue) (rows : List Row) (row : Row) (b : Story) → b ≡ story s rows → (row_reading b.bus_state row).change.after.rst ≡ true
+    → (transcribed (row ∷ rows)).opened ≡ None
+opened_reset s rows row b e on =
+    reset_none (transcribed rows) (row_reading (transcribed rows).bus_state row) row (ap (λ (d : RowReading). d.change.after.rst) (reading_to s rows row b e) ∙ on)
 
-pub opened_first : (s : ScenarioValue) (rows : List Row) (row : Row) (b : Story) (n : Connection) → b ≡ story s rows → (row_reading b.bus_state row).change.after.rst ≡ false → b.bus_state.connection ≡ None → (row_reading b.bus_state row).next ≡ Some n → (transcribed (row ∷ rows)).opened ≡ Some (opened_connection n)
+pub opened_first : (s : ScenarioValue) (rows : List Row) (row : Row) (b : Story) (n : Connection) → b ≡ story s rows
+    → (row_reading b.bus_state row).change.after.rst ≡ false → b.bus_state.connection ≡ None → (row_reading b.bus_state row).next ≡ Some n
+    → (transcribed (row ∷ rows)).opened ≡ Some (opened_connection n)
 opened_first s rows row b n e off con next =
     let same = reading_to s rows row b e in
     first_opened (transcribed rows) (row_reading (transcribed rows).bus_state row) row n (ap (λ (d : RowReading). d.change.after.rst) same ∙ off) ((alike_to s rows b e).connection ∙ con) (ap (λ (d : RowReading). d.next) same ∙ next)
 
-on_opened : (s : ScenarioValue) (rows : List Row) (row : Row) (b : Story) (m n : Connection) → b ≡ story s rows → (row_reading b.bus_state row).change.after.rst ≡ false → b.bus_state.connection ≡ Some m → (row_reading b.bus_state row).next ≡ Some n → (transcribed (row ∷ rows)).opened ≡ (in_connection (transcribed rows) (transcribed rows).opened (row_reading b.bus_state row) row.kind).opened
+on_opened : (s : ScenarioValue) (rows : List Row) (row : Row) (b : Story) (m n : Connection) → b ≡ story s rows
+    → (row_reading b.bus_state row).change.after.rst ≡ false → b.bus_state.connection ≡ Some m → (row_reading b.bus_state row).next ≡ Some n
+    → (transcribed (row ∷ rows)).opened ≡ (in_connection (transcribed rows) (transcribed rows).opened (row_reading b.bus_state row) row.kind).opened
 on_opened s rows row b m n e off con next =
     let same = reading_to s rows row b e in
     next_opened (transcribed rows) (row_reading (transcribed rows).bus_state row) row m n (ap (λ (d : RowReading). d.change.after.rst) same ∙ off) ((alike_to s rows b e).connection ∙ con) (ap (λ (d : RowReading). d.next) same ∙ next)
@@ -70,13 +80,9 @@ pub record WasOpened (rows : List Row) (row : Row) (b : Story) (k : OpenedValue)
   pub before_is : (transcribed rows).opened ≡ Some before
   pub after_is : k ≡ with_row before b.bus_state (row_reading b.bus_state row) row.kind
 
-none_some : {A : Type 0} (k : OpenedValue) → (let o : Option OpenedValue = None in o) ≡ Some k → A
-none_some k e = absurd cc
-
-some_is : (a b : OpenedValue) → (let o : Option OpenedValue = Some a in o) ≡ Some b → a ≡ b
-some_is a b e = cc
-
-pub was_opened : (s : ScenarioValue) (rows : List Row) (row : Row) (b : Story) (m n : Connection) (k : OpenedValue) → b ≡ story s rows → (row_reading b.bus_state row).change.after.rst ≡ false → b.bus_state.connection ≡ Some m → (row_reading b.bus_state row).next ≡ Some n → (transcribed (row ∷ rows)).opened ≡ Some k → WasOpened rows row b k
+pub was_opened : (s : ScenarioValue) (rows : List Row) (row : Row) (b : Story) (m n : Connection) (k : OpenedValue) → b ≡ story s rows
+    → (row_reading b.bus_state row).change.after.rst ≡ false → b.bus_state.connection ≡ Some m → (row_reading b.bus_state row).next ≡ Some n
+    → (transcribed (row ∷ rows)).opened ≡ Some k → WasOpened rows row b k
 was_opened s rows row b m n k e off con next there = go (transcribed rows).opened refl
   where
     d : RowReading
@@ -91,7 +97,7 @@ was_opened s rows row b m n k e off con next there = go (transcribed rows).opene
       before = x;
       before_is = f;
       after_is =
-          some_is k (with_row x b.bus_state d row.kind)
+          same_Some k (with_row x b.bus_state d row.kind)
           (sym there ∙ on_opened s rows row b m n e off con next ∙ ap (λ (o : Option OpenedValue). (in_connection t o d row.kind).opened) f
           ∙ ap (λ (y : OpenedValue). Some y) (row_same x t.bus_state b.bus_state d row.kind (alike_to s rows b e)));
     }

@@ -43,7 +43,8 @@ free_openly time = record { names = refl; shown = λ refused sent names. refl }
 pub unanswered_openly : (time caller called : ℕ) → IsOpenly (items.Unanswered time caller called ∷ []) []
 unanswered_openly time caller called = record { names = refl; shown = λ refused sent names. refl }
 
-pub openly_past : (list new : List Item) (sent : List told.Item) (conn history : List Event) → IsOpenly new conn → AreEventsSent sent conn → IsPast list sent history → IsPast (list ++ new) sent (conn ++ history)
+pub openly_past : (list new : List Item) (sent : List told.Item) (conn history : List Event) → IsOpenly new conn → AreEventsSent sent conn
+    → IsPast list sent history → IsPast (list ++ new) sent (conn ++ history)
 openly_past list new sent conn history h known past =
     subst (λ (xs : List told.Item). IsPast (list ++ new) xs (conn ++ history)) (append-nil sent) (past_more list new sent [] conn history past (record {
       count = ap length h.names;
@@ -54,12 +55,16 @@ openly_past list new sent conn history h known past =
 
 -- ---- a connection with no events of its own
 
-plain_shown : (refused : List Name) (n : Connection) (p : Process) (parts : List Part) (free : Bool) (s : Summary) → shown_items refused (account_by p parts).items ≡ [] → shown_items refused (connection_items n p parts free s) ≡ shown_items refused (leaving_items free p.name s)
+plain_shown : (refused : List Name) (n : Connection) (p : Process) (parts : List Part) (free : Bool) (s : Summary)
+    → shown_items refused (account_by p parts).items ≡ []
+    → shown_items refused (connection_items n p parts free s) ≡ shown_items refused (leaving_items free p.name s)
 plain_shown refused n p parts free s none =
     shown_append refused (account_by p parts).items (leaving_items free p.name s) ∙ ap (λ (xs : List Item). xs ++ shown_items refused (leaving_items free p.name s)) none
 
 -- It is cut, or stands, before its process is known.
-pub quiet_past : (n : Connection) (p : Process) (parts : List Part) (s : Summary) (list : List Item) (sent : List told.Item) (history : List Event) → n.reselected ≡ true → ((refused : List Name) (q : Process) → shown_items refused (account_by q parts).items ≡ []) → IsPast list sent history → IsPast (list ++ connection_items n p parts false s) sent history
+pub quiet_past : (n : Connection) (p : Process) (parts : List Part) (s : Summary) (list : List Item) (sent : List told.Item) (history : List Event)
+    → n.reselected ≡ true → ((refused : List Name) (q : Process) → shown_items refused (account_by q parts).items ≡ []) → IsPast list sent history
+    → IsPast (list ++ connection_items n p parts false s) sent history
 quiet_past n p parts s list sent history again none past =
     openly_past list (connection_items n p parts false s) sent [] history (record {
       names = connection_names n p parts false s ∙ ap (λ (q : Bool). if q then [] else p.name ∷ []) again;
@@ -67,7 +72,9 @@ quiet_past n p parts s list sent history again none past =
     }) tt past
 
 -- That of an abort line, with its event as BUS FREE comes.
-pub abort_past : (n : Connection) (p : Process) (parts : List Part) (free : Bool) (s : Summary) (j : ℕ) (conn : List Event) (list : List Item) (sent : List told.Item) (history : List Event) → n.reselected ≡ false → ((refused : List Name) (q : Process) → shown_items refused (account_by q parts).items ≡ []) → AreEventsSent (sent ++ told.abort j ∷ []) conn
+pub abort_past : (n : Connection) (p : Process) (parts : List Part) (free : Bool) (s : Summary) (j : ℕ) (conn : List Event) (list : List Item) (sent : List told.Item) (history : List Event)
+    → n.reselected ≡ false → ((refused : List Name) (q : Process) → shown_items refused (account_by q parts).items ≡ [])
+    → AreEventsSent (sent ++ told.abort j ∷ []) conn
     → ((refused : List Name) (sent : List told.Item) (names : List Name) → shown_items refused (leaving_items free p.name s) ≡ named_events sent names (reverse conn)) → IsPast list sent history → IsPast (list ++ connection_items n p parts free s) (sent ++ told.abort j ∷ []) (conn ++ history)
 abort_past n p parts free s j conn list sent history began none known shown past =
     past_more list (connection_items n p parts free s) sent (told.abort j ∷ []) conn history past (record {

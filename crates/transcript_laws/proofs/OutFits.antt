@@ -53,7 +53,8 @@ plain_void (m ∷ xs) e = go (is_parity_error m) (and_first (not (is_parity_erro
 
 plain_out : (o : OpenedValue) (backs anew : Bool) (out : Option MsgOut) → is_plain_said (messages_of out) ≡ true → is_void o.said ≡ false → fits_out o backs out anew ≡ true
 plain_out o backs anew None e v = ap not v
-plain_out o backs anew (Some m) e v = ap (λ (q : Bool). if q then says_first anew o.said && is_some o.held && is_empty o.since && backs else not (is_void o.said)) (plain_void (m ∷ []) e) ∙ ap not v
+plain_out o backs anew (Some m) e v =
+    ap (λ (q : Bool). if q then says_first anew o.said && is_some o.held && is_empty o.since && backs else not (is_void o.said)) (plain_void (m ∷ []) e) ∙ ap not v
 
 -- ---- MESSAGE PARITY ERROR
 
@@ -87,13 +88,16 @@ parity_whole : whole_out (got_out (0x09 ∷ [])) ≡ Some to_target.ParityError
 unfolding form_out
 parity_whole = refl
 
-refused_out : (o : OpenedValue) (backs anew : Bool) (out : Option MsgOut) → out ≡ Some to_target.ParityError → says_first anew o.said ≡ true → is_some o.held ≡ true → o.since ≡ [] → backs ≡ true → fits_out o backs out anew ≡ true
+refused_out : (o : OpenedValue) (backs anew : Bool) (out : Option MsgOut) → out ≡ Some to_target.ParityError → says_first anew o.said ≡ true
+    → is_some o.held ≡ true → o.since ≡ [] → backs ≡ true → fits_out o backs out anew ≡ true
 refused_out o backs anew out e first held since back =
     ap (λ (x : Option MsgOut). fits_out o backs x anew) e ∙ (λ i. first i && held i && is_empty (since i) && back i)
 
 -- ---- a byte of MESSAGE OUT
 
-pub out_fits : (s : ScenarioValue) (p : List Row) (row : Row) (n : Connection) (g : Going s p row n) (o : OpenedValue) (l : Link) (dev : ℕ) → SaidWords (run_state s p) n o → HeldSince (run_state s p) o → (run_state s p).story.link ≡ Some l → receiver_in n g.going.change ≡ Some dev → is_message_out g.going.change.before ≡ true
+pub out_fits : (s : ScenarioValue) (p : List Row) (row : Row) (n : Connection) (g : Going s p row n) (o : OpenedValue) (l : Link) (dev : ℕ)
+    → SaidWords (run_state s p) n o → HeldSince (run_state s p) o → (run_state s p).story.link ≡ Some l → receiver_in n g.going.change ≡ Some dev
+    → is_message_out g.going.change.before ≡ true
     → fits_out o (not (is_known o (bus_of (run_state s p))) || is_some l.undo || is_broken o.held) (message_out (run_state s p).story.bus_state.dialogue g.going.change true) (run_state s p).story.bus_state.dialogue.is_last ≡ true
 out_fits s p row n g o l dev words since el er x = go (says_parity s n k.served k.exchange k.exchange.plan.cause (units_are s (obeys_fits s g.obeys)) speaks.words_for)
   where
@@ -136,7 +140,9 @@ out_fits s p row n g o l dev words since el er x = go (says_parity s n k.served 
 
     void : is_plain_said (said_of [] k.exchange.speech.words) ≡ true → (q : Bool) → d.is_last ≡ q → is_void o.said ≡ false
     void e true f = ap is_void (words.whole here f) ∙ plain_void (said_of [] k.exchange.speech.words) e
-    void e false f = ap is_void (words.upto here f a.before (a.byte ∷ a.rest) a.words_are a.place_is) ∙ plain_void (said_of [] a.before) (plain_first (said_of [] a.before) _ (ap is_plain_said (sym all) ∙ e))
+    void e false f =
+        ap is_void (words.upto here f a.before (a.byte ∷ a.rest) a.words_are a.place_is)
+        ∙ plain_void (said_of [] a.before) (plain_first (said_of [] a.before) _ (ap is_plain_said (sym all) ∙ e))
 
     first : a.before ≡ [] → (q : Bool) → d.is_last ≡ q → says_first d.is_last o.said ≡ true
     first e true f = ap (λ (q : Bool). says_first q o.said) f ∙ any o.said
@@ -150,7 +156,8 @@ out_fits s p row n g o l dev words since el er x = go (says_parity s n k.served 
     backed z false f = ap (λ (q : Bool). not q || is_some l.undo || is_broken o.held) f
     backed z true f = ap (λ (q : Bool). not q || is_some l.undo || is_broken o.held) f ∙ since.out_backed z f l el
 
-    go : SaysParity k.exchange.speech.words k.exchange.plan.cause → fits_out o (not (is_known o (bus_of k)) || is_some l.undo || is_broken o.held) (message_out d c true) d.is_last ≡ true
+    go : SaysParity k.exchange.speech.words k.exchange.plan.cause
+        → fits_out o (not (is_known o (bus_of k)) || is_some l.undo || is_broken o.held) (message_out d c true) d.is_last ≡ true
     go (plain_words e) =
         let rest = plain_rest (said_of [] a.before) (messages_of (message_out d c true) ++ said_of (left_of (got_out (left_half [] a.before ++ a.byte ∷ [])) (left_half [] a.before ++ a.byte ∷ [])) a.rest) (ap is_plain_said (sym all) ∙ e) in
         plain_out o (not (is_known o (bus_of k)) || is_some l.undo || is_broken o.held) d.is_last (message_out d c true) (plain_first (messages_of (message_out d c true)) _ rest) (void e d.is_last refl)

@@ -90,7 +90,7 @@ pub tame_front : (xs ys : List MsgOut) → are_tame (xs ++ ys) ≡ true → are_
 tame_front [] ys e = refl
 tame_front (x ∷ xs) ys e = λ i. and_first (is_tame x) (are_tame (xs ++ ys)) e i && tame_front xs ys (and_second (is_tame x) (are_tame (xs ++ ys)) e) i
 
-mild_tame : (xs : List MsgOut) → are_mild xs ≡ true → are_tame xs ≡ true
+pub mild_tame : (xs : List MsgOut) → are_mild xs ≡ true → are_tame xs ≡ true
 mild_tame [] e = refl
 mild_tame (x ∷ xs) e = λ i. and_first (is_tame x) (is_none (tag_out x)) (and_first (is_mild x) (are_mild xs) e) i && mild_tame xs (and_second (is_mild x) (are_mild xs) e) i
 

@@ -37,18 +37,15 @@ use Rattle.transcript_laws.specs.Standing.{no_process, AreKept, AreAlike, IsFrom
 use Rattle.transcript_laws.specs.Told.{IsMarked}
 use Rattle.transcript_laws.proofs.BaseParts.{base_said, base_void}
 use Rattle.transcript_laws.proofs.CrossingRows.{Crosses, crossing_makes, no_into, out_story, message_story}
-use Rattle.transcript_laws.proofs.FirstNext.{not_same}
 use Rattle.transcript_laws.proofs.LinkedRows.{SameLines, same_lines, transcript_on, story_on, IsOn, books_on, Makes, Stands, linked_next}
 use Rattle.transcript_laws.proofs.OpenProcesses.{alike_self, alike_on, alike_turned, alike_put, put_each, SameBooks, kept_on, from_on}
 use Rattle.transcript_laws.proofs.ServingSteps.{said_serves, void_serves, broken_serves}
 use Rattle.transcript_laws.proofs.StageRows.{stage_on}
 use Rattle.transcript_laws.proofs.TalkServes.{talk_append, talk_first}
 use Rattle.bus_base.proofs.Tests.{wrong, wrong'}
+use Rattle.target_units.proofs.LiveQueue.{id_turned}
 
 -- ---- what is said
-
-abbrev said_by : OpenedValue → Bool → List MsgOut → List MsgOut
-said_by k anew more = (if anew then [] else k.said) ++ more
 
 silent_void : (anew : Bool) (said : List MsgOut) → is_void said ≡ false → is_void ((if anew then [] else said) ++ []) ≡ false
 silent_void true said e = refl
@@ -98,19 +95,25 @@ pub record OutRow (s : ScenarioValue) (rows : List Row) (row : Row) (h : StandsL
   pub numbered : AreNumbered (transcribed rows).processes (names_begun (transcribed rows).items)
   pub marked : (x : ProcId) → IsMarked (story s rows).history (carried_of (story s rows).carried x)
 
-pub lines_on : (s : ScenarioValue) (rows : List Row) (row : Row) (l : Link) → Crosses s rows row l → SameLines (story s rows).bus_state.bus (row_reading (story s rows).bus_state row).change.after
-lines_on s rows row l g = same_lines (story s rows).bus_state.bus (row_reading (story s rows).bus_state row).change.after (same_phase_is (row_reading (story s rows).bus_state row).change g.stays)
+pub lines_on : (s : ScenarioValue) (rows : List Row) (row : Row) (l : Link) → Crosses s rows row l
+    → SameLines (story s rows).bus_state.bus (row_reading (story s rows).bus_state row).change.after
+lines_on s rows row l g =
+    same_lines (story s rows).bus_state.bus (row_reading (story s rows).bus_state row).change.after (same_phase_is (row_reading (story s rows).bus_state row).change g.stays)
 
-pub crossed_on : (s : ScenarioValue) (rows : List Row) (row : Row) (l : Link) → Crosses s rows row l → (x : Change) → (if (row_reading (story s rows).bus_state row).crosses then Some (row_reading (story s rows).bus_state row).change else None) ≡ Some x → is_command x.before ≡ is_command (row_reading (story s rows).bus_state row).change.after
+pub crossed_on : (s : ScenarioValue) (rows : List Row) (row : Row) (l : Link) → Crosses s rows row l → (x : Change)
+    → (if (row_reading (story s rows).bus_state row).crosses then Some (row_reading (story s rows).bus_state row).change else None) ≡ Some x
+    → is_command x.before ≡ is_command (row_reading (story s rows).bus_state row).change.after
 crossed_on s rows row l g x e =
     let d : RowReading = row_reading (story s rows).bus_state row in
     let same : d.change ≡ x = same_Some d.change x (sym (ap (λ (q : Bool). if q then Some d.change else None) g.crosses) ∙ e) in
     ap (λ (c : Change). is_command c.before) (sym same) ∙ sym (lines_on s rows row l g).command
 
-after_said : (s : ScenarioValue) (rows : List Row) (row : Row) (h : StandsLinked s (transcribed rows) (story s rows)) → OutRow s rows row h → {A : Type 0} → is_message_out (row_reading (story s rows).bus_state row).change.after ≡ false → A
+after_said : (s : ScenarioValue) (rows : List Row) (row : Row) (h : StandsLinked s (transcribed rows) (story s rows)) → OutRow s rows row h → {A : Type 0}
+    → is_message_out (row_reading (story s rows).bus_state row).change.after ≡ false → A
 after_said s rows row h r e = wrong (sym ((lines_on s rows row h.link r.crossing).out ∙ r.out) ∙ e)
 
-with_said_is : (s : ScenarioValue) (rows : List Row) (row : Row) (h : StandsLinked s (transcribed rows) (story s rows)) → OutRow s rows row h → with_crossing h.opened (story s rows).bus_state.dialogue.is_last (row_reading (story s rows).bus_state row) ≡ with_said h.opened (story s rows).bus_state.dialogue.is_last (row_reading (story s rows).bus_state row).out
+with_said_is : (s : ScenarioValue) (rows : List Row) (row : Row) (h : StandsLinked s (transcribed rows) (story s rows)) → OutRow s rows row h
+    → with_crossing h.opened (story s rows).bus_state.dialogue.is_last (row_reading (story s rows).bus_state row) ≡ with_said h.opened (story s rows).bus_state.dialogue.is_last (row_reading (story s rows).bus_state row).out
 with_said_is s rows row h r =
     λ i. if r.out i then with_said h.opened (story s rows).bus_state.dialogue.is_last (row_reading (story s rows).bus_state row).out
     else if is_message_in (story s rows).bus_state.bus then with_in_if h.opened (row_reading (story s rows).bus_state row).into
@@ -120,7 +123,9 @@ with_said_is s rows row h r =
 -- ---- no message that makes another void
 
 -- What is said stays in force.
-said_stands : (s : ScenarioValue) (rows : List Row) (row : Row) (h : StandsLinked s (transcribed rows) (story s rows)) (said : List MsgOut) (l : Link) (c : Story) → OutRow s rows row h → is_void said ≡ is_void h.opened.said → l.item ≡ h.link.item → l.undo ≡ h.link.undo → c.link ≡ Some l → c.sent ≡ (story s rows).sent → c.carried ≡ (story s rows).carried → Stands s rows row h (record h.opened { said = said }) l c []
+said_stands : (s : ScenarioValue) (rows : List Row) (row : Row) (h : StandsLinked s (transcribed rows) (story s rows)) (said : List MsgOut) (l : Link) (c : Story)
+    → OutRow s rows row h → is_void said ≡ is_void h.opened.said → l.item ≡ h.link.item → l.undo ≡ h.link.undo → c.link ≡ Some l → c.sent ≡ (story s rows).sent
+    → c.carried ≡ (story s rows).carried → Stands s rows row h (record h.opened { said = said }) l c []
 said_stands s rows row h said l c r void item undo link sent carried = record {
   connection = refl;
   link = link;
@@ -162,10 +167,8 @@ abbrev undone_in : List CarriedBytes → Option CarriedBytes → List CarriedByt
 undone_in all None = all
 undone_in all (Some u) = with_carried all u
 
-none_is : {A T : Type 0} (x : T) → Some x ≡ (let a : Option T = None in a) → A
-none_is x e = absurd cc
-
-void_base : (s : ScenarioValue) (rows : List Row) (row : Row) (h : StandsLinked s (transcribed rows) (story s rows)) (said : List MsgOut) (l : Link) (c : Story) → Voids s rows row h said l c → base_parts (record h.opened { said = said }) ≡ h.opened.parts
+void_base : (s : ScenarioValue) (rows : List Row) (row : Row) (h : StandsLinked s (transcribed rows) (story s rows)) (said : List MsgOut) (l : Link) (c : Story)
+    → Voids s rows row h said l c → base_parts (record h.opened { said = said }) ≡ h.opened.parts
 void_base s rows row h said l c v = base_void h.opened said v.void v.since
 
 held_talks : (q : Bool) (held : Option Incoming) → are_talk (if q then [] else held_part held) ≡ true
@@ -190,7 +193,9 @@ same_talk k none = go (are_talk k.parts) (are_talk (base_parts k)) refl refl
     go true false e f = sym (all_talk k none e) ∙ f
     go false true e f = sym e ∙ before_talk k f
 
-void_stage : (s : ScenarioValue) (rows : List Row) (row : Row) (h : StandsLinked s (transcribed rows) (story s rows)) (said : List MsgOut) (l : Link) (c : Story) (undo : Option CarriedBytes) → OutRow s rows row h → Voids s rows row h said l c → h.link.undo ≡ undo → c.carried ≡ undone_in (story s rows).carried undo → Stage s (transcript_on rows row (record h.opened { said = said })) (story_on s rows row c []) (record h.opened { said = said }) l h.sent h.conn
+void_stage : (s : ScenarioValue) (rows : List Row) (row : Row) (h : StandsLinked s (transcribed rows) (story s rows)) (said : List MsgOut) (l : Link) (c : Story) (undo : Option CarriedBytes)
+    → OutRow s rows row h → Voids s rows row h said l c → h.link.undo ≡ undo → c.carried ≡ undone_in (story s rows).carried undo
+    → Stage s (transcript_on rows row (record h.opened { said = said })) (story_on s rows row c []) (record h.opened { said = said }) l h.sent h.conn
 void_stage s rows row h said l c undo r v undo_is carried = go h.stage undo undo_is carried
   where
     t : TranscriberValue
@@ -223,16 +228,24 @@ void_stage s rows row h said l c undo r v undo_is carried = go h.stage undo undo
     known : is_known (record h.opened { said = said }) (row_reading (story s rows).bus_state row).change.after ≡ is_known h.opened (story s rows).bus_state.bus
     known = λ i. not h.opened.connection.reselected || not ((ap are_talk base ∙ same_talk h.opened v.since) i) || lines.command i
 
-    by : (undo : Option CarriedBytes) → c.carried ≡ undone_in (story s rows).carried undo → ((u : CarriedBytes) → undo ≡ Some u → AreAlike u (carried_of (story s rows).carried u.id)) → (x : ProcId) → AreAlike (carried_of (story s rows).carried x) (carried_of c.carried x)
+    by : (undo : Option CarriedBytes) → c.carried ≡ undone_in (story s rows).carried undo
+        → ((u : CarriedBytes) → undo ≡ Some u → AreAlike u (carried_of (story s rows).carried u.id)) → (x : ProcId)
+        → AreAlike (carried_of (story s rows).carried x) (carried_of c.carried x)
     by None e alike x = alike_self _ _ (ap (λ (all : List CarriedBytes). carried_of all x) (sym e))
     by (Some u) e alike x =
         alike_on (carried_of (story s rows).carried x) (carried_of (with_carried (story s rows).carried u) x) (carried_of c.carried x) (alike_put (story s rows).carried u (alike_turned u _ (alike u refl)) x) (alike_self _ _ (ap (λ (all : List CarriedBytes). carried_of all x) (sym e)))
 
-    blank : (undo : Option CarriedBytes) → c.carried ≡ undone_in (story s rows).carried undo → ((u : CarriedBytes) → undo ≡ Some u → IsBlank u) → (x : ProcId) → IsBlank (carried_of (story s rows).carried x) → IsBlank (carried_of c.carried x)
+    blank : (undo : Option CarriedBytes) → c.carried ≡ undone_in (story s rows).carried undo → ((u : CarriedBytes) → undo ≡ Some u → IsBlank u) → (x : ProcId)
+        → IsBlank (carried_of (story s rows).carried x) → IsBlank (carried_of c.carried x)
     blank None e h x b = subst IsBlank (ap (λ (all : List CarriedBytes). carried_of all x) (sym e)) b
     blank (Some u) e h x b = subst IsBlank (ap (λ (all : List CarriedBytes). carried_of all x) (sym e)) (put_each IsBlank (story s rows).carried u x (λ _. h u refl) b)
 
-    process_stage : (undo : Option CarriedBytes) → h.link.undo ≡ undo → c.carried ≡ undone_in (story s rows).carried undo → (id : ProcId) (back : CarriedBytes) (was : Bool) (st : Option ℕ) → h.link.item ≡ Some (process id) → ((u : CarriedBytes) → h.link.undo ≡ Some u → u ≡ back) → back.id ≡ id → is_known h.opened (story s rows).bus_state.bus ≡ true → IsServing h.opened (is_command (story s rows).bus_state.bus) id (carried_of (story s rows).carried id) back h.conn (story s rows).history was st → AreOwnEvents id h.conn → (are_talk (base_parts h.opened) ≡ true → h.conn ≡ []) → IsFrom s (transcribed rows) (story s rows) h.opened h.sent id was st → AreKept s (transcribed rows) (story s rows) h.sent (λ x. same_id x id)
+    process_stage : (undo : Option CarriedBytes) → h.link.undo ≡ undo → c.carried ≡ undone_in (story s rows).carried undo
+        → (id : ProcId) (back : CarriedBytes) (was : Bool) (st : Option ℕ) → h.link.item ≡ Some (process id)
+        → ((u : CarriedBytes) → h.link.undo ≡ Some u → u ≡ back) → back.id ≡ id → is_known h.opened (story s rows).bus_state.bus ≡ true
+        → IsServing h.opened (is_command (story s rows).bus_state.bus) id (carried_of (story s rows).carried id) back h.conn (story s rows).history was st
+        → AreOwnEvents id h.conn → (are_talk (base_parts h.opened) ≡ true → h.conn ≡ []) → IsFrom s (transcribed rows) (story s rows) h.opened h.sent id was st
+        → AreKept s (transcribed rows) (story s rows) h.sent (λ x. same_id x id)
         → Stage s (transcript_on rows row (record h.opened { said = said })) (story_on s rows row c []) (record h.opened { said = said }) l h.sent h.conn
     process_stage None undo e id back was st is undone own known' serving events talks from kept =
         let broken : is_broken h.opened.held ≡ true = sym (λ i. not (known' i) || is_some (undo i) || is_broken h.opened.held) ∙ v.backs in
@@ -250,9 +263,11 @@ void_stage s rows row h said l c undo r v undo_is carried = go h.stage undo undo
         (subst (λ (q : Bool). IsServing k' q id (carried_of c.carried id) back h.conn (story s rows).history was st) (sym (lines.command ∙ (out_only (story s rows).bus_state.bus r.out).2)) (subst (λ (now : CarriedBytes). IsServing k' false id now back h.conn (story s rows).history was st) (sym mine) (void_serves h.opened id (carried_of (story s rows).carried id) back h.conn (story s rows).history was st said v.held v.void v.held_is v.since (h.bytes (no_bytes (story s rows).bus_state.bus r.out)) (subst (λ (q : Bool). IsServing h.opened q id (carried_of (story s rows).carried id) back h.conn (story s rows).history was st) (out_only (story s rows).bus_state.bus r.out).2 serving))))
         events (λ talk. talks (all_talk h.opened v.since (sym (ap are_talk base) ∙ talk)))
         (from_on s t t' b b' k k' h.sent id was st same refl from)
-        (kept_on s t t' b b' h.sent (λ x. same_id x id) same (λ x no. alike_self _ _ (sym (ap (λ (all : List CarriedBytes). carried_of all x) e ∙ put_other (story s rows).carried u id x (ap (λ (y : CarriedBytes). y.id) u_is ∙ own) (not_same x id no)))) kept)
+        (kept_on s t t' b b' h.sent (λ x. same_id x id) same (λ x no. alike_self _ _ (sym (ap (λ (all : List CarriedBytes). carried_of all x) e ∙ put_other (story s rows).carried u id x (ap (λ (y : CarriedBytes). y.id) u_is ∙ own) (id_turned x id no)))) kept)
 
-    go : Stage s (transcribed rows) (story s rows) h.opened h.link h.sent h.conn → (undo : Option CarriedBytes) → h.link.undo ≡ undo → c.carried ≡ undone_in (story s rows).carried undo → Stage s (transcript_on rows row (record h.opened { said = said })) (story_on s rows row c []) (record h.opened { said = said }) l h.sent h.conn
+    go : Stage s (transcribed rows) (story s rows) h.opened h.link h.sent h.conn → (undo : Option CarriedBytes) → h.link.undo ≡ undo
+        → c.carried ≡ undone_in (story s rows).carried undo
+        → Stage s (transcript_on rows row (record h.opened { said = said })) (story_on s rows row c []) (record h.opened { said = said }) l h.sent h.conn
     go (of_abort j began is no_undo none talk kept) undo e f =
         of_abort j began (v.item ∙ is) (v.undo ∙ no_undo) none (ap are_talk base ∙ before_talk k talk)
         (kept_on s t t' b b' h.sent no_process same (λ x no. by undo f (λ u i. none_some u (sym no_undo ∙ e ∙ i)) x) kept)
@@ -264,7 +279,9 @@ void_stage s rows row h said l c undo r v undo_is carried = go h.stage undo undo
     go (of_process id back was st is undone own known' serving events talks from kept) undo e f =
         process_stage undo e f id back was st is undone own known' serving events talks from kept
 
-void_stands : (s : ScenarioValue) (rows : List Row) (row : Row) (h : StandsLinked s (transcribed rows) (story s rows)) (said : List MsgOut) (l : Link) (c : Story) (undo : Option CarriedBytes) → OutRow s rows row h → Voids s rows row h said l c → h.link.undo ≡ undo → c.carried ≡ undone_in (story s rows).carried undo → Stands s rows row h (record h.opened { said = said }) l c []
+void_stands : (s : ScenarioValue) (rows : List Row) (row : Row) (h : StandsLinked s (transcribed rows) (story s rows)) (said : List MsgOut) (l : Link) (c : Story) (undo : Option CarriedBytes)
+    → OutRow s rows row h → Voids s rows row h said l c → h.link.undo ≡ undo → c.carried ≡ undone_in (story s rows).carried undo
+    → Stands s rows row h (record h.opened { said = said }) l c []
 void_stands s rows row h said l c undo r v undo_is carried = record {
   connection = refl;
   link = v.link;
@@ -284,7 +301,9 @@ void_stands s rows row h said l c undo r v undo_is carried = record {
 
 -- ---- what stands
 
-pub out_next : (s : ScenarioValue) (rows : List Row) (row : Row) (h : StandsLinked s (transcribed rows) (story s rows)) → OutRow s rows row h → fits_out h.opened (not (is_known h.opened (story s rows).bus_state.bus) || is_some h.link.undo || is_broken h.opened.held) (row_reading (story s rows).bus_state row).out (story s rows).bus_state.dialogue.is_last ≡ true → Standing s (row ∷ rows)
+pub out_next : (s : ScenarioValue) (rows : List Row) (row : Row) (h : StandsLinked s (transcribed rows) (story s rows)) → OutRow s rows row h
+    → fits_out h.opened (not (is_known h.opened (story s rows).bus_state.bus) || is_some h.link.undo || is_broken h.opened.held) (row_reading (story s rows).bus_state row).out (story s rows).bus_state.dialogue.is_last ≡ true
+    → Standing s (row ∷ rows)
 out_next s rows row h r fits = go (row_reading (story s rows).bus_state row).out refl fits
   where
     b : Story
@@ -302,11 +321,14 @@ out_next s rows row h r fits = go (row_reading (story s rows).bus_state row).out
     d : RowReading
     d = row_reading (story s rows).bus_state row
 
-    makes : (o : Option MsgOut) (c : Story) → d.out ≡ o → story_after_crossing s (story s rows) h.link (row_reading (story s rows).bus_state row) ≡ c → Makes s rows row (record h.opened { said = (if anew then [] else h.opened.said) ++ messages_of o }) c []
+    makes : (o : Option MsgOut) (c : Story) → d.out ≡ o → story_after_crossing s (story s rows) h.link (row_reading (story s rows).bus_state row) ≡ c
+        → Makes s rows row (record h.opened { said = (if anew then [] else h.opened.said) ++ messages_of o }) c []
     makes o c e f =
         crossing_makes s rows row h (record h.opened { said = (if anew then [] else h.opened.said) ++ messages_of o }) c r.on r.crossing (with_said_is s rows row h r ∙ ap (λ (x : Option MsgOut). with_said h.opened anew x) e) f
 
-    by_parity : (m : MsgOut) (q : Bool) → is_parity_error m ≡ q → d.out ≡ Some m → (if q then says_first anew k.said && is_some k.held && is_empty k.since && (not (is_known k b.bus_state.bus) || is_some l.undo || is_broken k.held) else not (is_void k.said)) ≡ true → Standing s (row ∷ rows)
+    by_parity : (m : MsgOut) (q : Bool) → is_parity_error m ≡ q → d.out ≡ Some m
+        → (if q then says_first anew k.said && is_some k.held && is_empty k.since && (not (is_known k b.bus_state.bus) || is_some l.undo || is_broken k.held) else not (is_void k.said)) ≡ true
+        → Standing s (row ∷ rows)
     by_parity m false p e f =
         let c : Story = record b { link = Some (record l { last = last_out m l }) } in
         linked_next s rows row h (record k { said = (if anew then [] else k.said) ++ m ∷ [] }) (record l { last = last_out m l }) c [] r.numbered r.on
@@ -320,7 +342,9 @@ out_next s rows row h r fits = go (row_reading (story s rows).bus_state row).out
         four : (says_first anew h.opened.said ≡ true) × (is_some h.opened.held ≡ true) × (is_empty h.opened.since ≡ true) × ((not (is_known h.opened (story s rows).bus_state.bus) || is_some h.link.undo || is_broken h.opened.held) ≡ true)
         four = four_true (says_first anew h.opened.said) (is_some h.opened.held) (is_empty h.opened.since) (not (is_known h.opened (story s rows).bus_state.bus) || is_some h.link.undo || is_broken h.opened.held) f
 
-        by_held : (o : Option Incoming) → h.opened.held ≡ o → is_some o ≡ true → (c : Story) (undo : Option CarriedBytes) → h.link.undo ≡ undo → c.carried ≡ undone_in (story s rows).carried undo → c.link ≡ Some last → c.sent ≡ (story s rows).sent → Stands s rows row h (record h.opened { said = (if anew then [] else h.opened.said) ++ m ∷ [] }) last c []
+        by_held : (o : Option Incoming) → h.opened.held ≡ o → is_some o ≡ true → (c : Story) (undo : Option CarriedBytes) → h.link.undo ≡ undo
+            → c.carried ≡ undone_in (story s rows).carried undo → c.link ≡ Some last → c.sent ≡ (story s rows).sent
+            → Stands s rows row h (record h.opened { said = (if anew then [] else h.opened.said) ++ m ∷ [] }) last c []
         by_held None i some c undo j carried link sent = wrong' some
         by_held (Some x) i some c undo j carried link sent =
             void_stands s rows row h ((if anew then [] else h.opened.said) ++ m ∷ []) last c undo r (record { void = first_void anew h.opened.said m p four.0; held = x; held_is = i; since = is_nothing h.opened.since four.2; backs = four.3; item = refl; undo = refl; link = link; sent = sent }) j carried
@@ -337,7 +361,9 @@ out_next s rows row h r fits = go (row_reading (story s rows).bus_state row).out
             (makes (Some m) (record c { carried = with_carried b.carried u }) e (out_story s b l d m e ∙ ap (λ (q : Bool). story_with_carried c (if q then l.undo else None)) p ∙ ap (λ (o : Option CarriedBytes). story_with_carried c o) i))
             (by_held h.opened.held refl four.1 (record c { carried = with_carried b.carried u }) (Some u) i refl refl refl)
 
-    go : (o : Option MsgOut) → d.out ≡ o → fits_out h.opened (not (is_known h.opened (story s rows).bus_state.bus) || is_some h.link.undo || is_broken h.opened.held) o anew ≡ true → Standing s (row ∷ rows)
+    go : (o : Option MsgOut) → d.out ≡ o
+        → fits_out h.opened (not (is_known h.opened (story s rows).bus_state.bus) || is_some h.link.undo || is_broken h.opened.held) o anew ≡ true
+        → Standing s (row ∷ rows)
     go None e f =
         linked_next s rows row h (record k { said = (if anew then [] else k.said) ++ [] }) l b [] r.numbered r.on
         (makes None b e (message_story s b l d e (no_into b.bus_state row (out_only b.bus_state.bus r.out).0) (out_only b.bus_state.bus r.out).1))

@@ -1,22 +1,19 @@
 -- The messages of what an initiator says in MESSAGE OUT: MESSAGE PARITY ERROR is said alone, or not at all.
-use Rattle.std.proofs.Common.{ℕ, zero, suc, ◌≡◌, ◌∙◌, ◌<◌, Bool, true, false, not, ◌&&◌, List, [], ◌∷◌, ◌++◌, Option, Some, None, refl, sym, ap, subst, arith}
+use Rattle.std.proofs.Common.{ℕ, zero, suc, ◌≡◌, ◌∙◌, ◌<◌, Bool, true, false, not, ◌&&◌, List, [], ◌∷◌, ◌++◌, Option, Some, None, refl, sym, ap, arith}
 use Rattle.std.specs.Prelude.{nat_lt, if◌then◌else◌}
 use Rattle.std.proofs.lemmas.List.{append-nil}
 use Rattle.bus_base.specs.declared.AbortKind.{AbortKind}
 use Rattle.bus_base.specs.declared.AbortKind.TheVariants as aborts
-use Rattle.bus_base.specs.declared.ProcId.{ProcId}
 use Rattle.bus_trace.specs.declared.connection.Connection.{Connection}
 use Rattle.msg_grammar.specs.declared.message.MsgOut.{MsgOut}
 use Rattle.msg_grammar.specs.declared.message.MsgOut.TheVariants as to_target
 use Rattle.msg_grammar.specs.Messages.{FitsOut, form_out, out_bytes}
 use Rattle.scenario.specs.declared.value.AbortDef.{AbortDef}
-use Rattle.scenario.specs.declared.value.CmdDef.{CmdDef}
 use Rattle.scenario.specs.declared.value.HostDef.{HostDef}
 use Rattle.scenario.specs.declared.value.Tag.{Tag}
 use Rattle.scenario.specs.declared.value.Tag.TheVariants as tags
 use Rattle.scenario.specs.Value.{ScenarioValue}
-use Rattle.scenario.specs.Needs.{sent_of}
-use Rattle.disk_array.specs.Processes.{Process, command_at, payload_bytes, process_by, process_if, process_of, sense_block}
+use Rattle.disk_array.specs.Processes.{Process, process_of}
 use Rattle.bus_story.specs.HistoryEvents.{abort_line_at}
 use Rattle.bus_story.specs.Items.{Item, process, abort}
 use Rattle.bus_story.specs.TraceHistory.{is_parity_error}
@@ -26,6 +23,7 @@ use Rattle.bus_dialogue.specs.Exchange.{Exchange}
 use Rattle.bus_dialogue.specs.Words.{offer_if, tag_bytes, abort_bytes, process_opening, abort_opening, parity_error, host_answer}
 use Rattle.bus_due.specs.Defs.{host_of, opening}
 use Rattle.bus_books.specs.Speaking.{AreWordsFor, opens, refuses, answers, rejects_data, rejects_status}
+pub use Rattle.bus_books.proofs.FirstWords.{process_unit as unit_small}
 use Rattle.scsi_device.specs.Lines.{AreUnits}
 use Rattle.transcript_laws.proofs.SaidWords.{said_of}
 
@@ -96,11 +94,13 @@ offer_said false h = refl
 offer_said true None = refl
 offer_said true (Some h) = go (h.offers && nat_lt 0 h.period)
   where
-    go : (q : Bool) → said_of [] (if q then out_bytes (to_target.Sdtr (record { period = h.period; offset = h.offset })) else []) ≡ (if q then to_target.Sdtr (record { period = h.period; offset = h.offset }) ∷ [] else [])
+    go : (q : Bool)
+        → said_of [] (if q then out_bytes (to_target.Sdtr (record { period = h.period; offset = h.offset })) else []) ≡ (if q then to_target.Sdtr (record { period = h.period; offset = h.offset }) ∷ [] else [])
     go true = said_one (to_target.Sdtr (record { period = h.period; offset = h.offset })) tt
     go false = refl
 
-pub process_said : (h : Option HostDef) (negotiates : Bool) (p : Process) → p.unit < 8 → said_of [] (process_opening h negotiates (Some p)) ≡ to_target.Identify (not p.id.sense) p.unit ∷ tag_messages p.tag (offers_if negotiates h)
+pub process_said : (h : Option HostDef) (negotiates : Bool) (p : Process) → p.unit < 8
+    → said_of [] (process_opening h negotiates (Some p)) ≡ to_target.Identify (not p.id.sense) p.unit ∷ tag_messages p.tag (offers_if negotiates h)
 process_said h negotiates p lt =
     said_message (to_target.Identify (not p.id.sense) p.unit) lt (tag_bytes p.tag ++ offer_if negotiates h)
     ∙ ap (λ (x : List MsgOut). to_target.Identify (not p.id.sense) p.unit ∷ x) (tag_said p.tag (offer_if negotiates h) ∙ ap (tag_messages p.tag) (offer_said negotiates h))
@@ -113,7 +113,8 @@ abort_messages aborts.Device = to_target.DeviceReset ∷ []
 
 what_said : (what : AbortKind) → said_of [] (abort_bytes what) ≡ abort_messages what
 what_said aborts.All = said_one to_target.Abort tt
-what_said (aborts.Tag n) = said_message (to_target.SimpleTag n) tt (out_bytes to_target.AbortTag) ∙ ap (λ (x : List MsgOut). to_target.SimpleTag n ∷ x) (said_one to_target.AbortTag tt)
+what_said (aborts.Tag n) =
+    said_message (to_target.SimpleTag n) tt (out_bytes to_target.AbortTag) ∙ ap (λ (x : List MsgOut). to_target.SimpleTag n ∷ x) (said_one to_target.AbortTag tt)
 what_said aborts.WholeQueue = said_one to_target.ClearQueue tt
 what_said aborts.Device = said_one to_target.DeviceReset tt
 
@@ -147,31 +148,15 @@ plain_abort (aborts.Tag n) = refl
 plain_abort aborts.WholeQueue = refl
 plain_abort aborts.Device = refl
 
--- The unit of a process of the scenario.
-pub unit_small : (s : ScenarioValue) (id : ProcId) (p : Process) → AreUnits s → process_of s id ≡ Some p → p.unit < 8
-unit_small s id p u e = go (command_at s.commands id.command) refl e
-  where
-    of_def : (c : CmdDef) (q : Bool) → id.sense ≡ q → (process_by s id c).unit ≡ c.unit
-    of_def c true f = ap (λ (x : Bool). let y : Process = if x then record { id = id; initiator = c.host; target = c.target; unit = c.unit; tag = tags.Untagged; cdb = sense_block; sent = [] } else record { id = id; initiator = c.host; target = c.target; unit = c.unit; tag = c.tag; cdb = c.cdb; sent = payload_bytes c.payload (sent_of s c) } in y.unit) f
-    of_def c false f = ap (λ (x : Bool). let y : Process = if x then record { id = id; initiator = c.host; target = c.target; unit = c.unit; tag = tags.Untagged; cdb = sense_block; sent = [] } else record { id = id; initiator = c.host; target = c.target; unit = c.unit; tag = c.tag; cdb = c.cdb; sent = payload_bytes c.payload (sent_of s c) } in y.unit) f
-
-    same : (x : Process) → (let o : Option Process = Some x in o) ≡ Some p → x ≡ p
-    same x z = cc
-
-    go : (o : Option CmdDef) → command_at s.commands id.command ≡ o → process_if s id o ≡ Some p → p.unit < 8
-    go None f z = absurd (none_some z)
-      where
-        none_some : (let o : Option Process = None in o) ≡ Some p → ⊥
-        none_some w = cc
-    go (Some c) f z = subst (λ (x : ℕ). x < 8) (sym (of_def c id.sense refl) ∙ ap (λ (x : Process). x.unit) (same (process_by s id c) z)) (u.commands id.command c f)
-
 pub opening_plain : (s : ScenarioValue) (dev : ℕ) (negotiates : Bool) (served : Option Item) → AreUnits s → is_plain_said (said_of [] (opening s dev negotiates served)) ≡ true
 opening_plain s dev negotiates None u = refl
 opening_plain s dev negotiates (Some (process id)) u = go (process_of s id) refl
   where
     go : (o : Option Process) → process_of s id ≡ o → is_plain_said (said_of [] (process_opening (host_of s dev) negotiates o)) ≡ true
     go None e = refl
-    go (Some p) e = ap is_plain_said (process_said (host_of s dev) negotiates p (unit_small s id p u e)) ∙ plain_tag p.tag (offers_if negotiates (host_of s dev)) (plain_offer negotiates (host_of s dev))
+    go (Some p) e =
+        ap is_plain_said (process_said (host_of s dev) negotiates p (unit_small s id p u e))
+        ∙ plain_tag p.tag (offers_if negotiates (host_of s dev)) (plain_offer negotiates (host_of s dev))
 opening_plain s dev negotiates (Some (abort n)) u = go (abort_line_at s.aborts n) refl
   where
     go : (o : Option AbortDef) → abort_line_at s.aborts n ≡ o → is_plain_said (said_of [] (abort_opening o)) ≡ true
@@ -183,9 +168,11 @@ pub data SaysParity (words : List ℕ) (cause : Cause) : Type 0 where
   refusing : cause ≡ causes.InMessage → words ≡ parity_error → SaysParity words cause
   plain_words : is_plain_said (said_of [] words) ≡ true → SaysParity words cause
 
-pub says_parity : (s : ScenarioValue) (n : Connection) (served : Option Item) (x : Exchange) (cause : Cause) → AreUnits s → AreWordsFor s n served x cause → SaysParity x.speech.words cause
+pub says_parity : (s : ScenarioValue) (n : Connection) (served : Option Item) (x : Exchange) (cause : Cause) → AreUnits s → AreWordsFor s n served x cause
+    → SaysParity x.speech.words cause
 says_parity s n served x _ u (opens e) = plain_words (ap (λ (w : List ℕ). is_plain_said (said_of [] w)) e ∙ opening_plain s n.initiator x.plan.negotiates served u)
 says_parity s n served x _ u (refuses e) = refusing refl e
-says_parity s n served x _ u (answers e) = plain_words (ap (λ (w : List ℕ). is_plain_said (said_of [] w)) e ∙ ap is_plain_said (said_one (to_target.Sdtr (host_answer (host_of s n.initiator) x.speech.asked)) tt))
+says_parity s n served x _ u (answers e) =
+    plain_words (ap (λ (w : List ℕ). is_plain_said (said_of [] w)) e ∙ ap is_plain_said (said_one (to_target.Sdtr (host_answer (host_of s n.initiator) x.speech.asked)) tt))
 says_parity s n served x _ u (rejects_data e) = plain_words (ap (λ (w : List ℕ). is_plain_said (said_of [] w)) e ∙ ap is_plain_said (said_one to_target.DetectedError tt))
 says_parity s n served x _ u (rejects_status e) = plain_words (ap (λ (w : List ℕ). is_plain_said (said_of [] w)) e ∙ ap is_plain_said (said_one to_target.DetectedError tt))

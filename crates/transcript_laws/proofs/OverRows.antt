@@ -47,7 +47,8 @@ pub record IsOver (s : ScenarioValue) (rows : List Row) (row : Row) (u : Transcr
   pub marked : (x : ProcId) → IsMarked (shown ++ (story s rows).history) (carried_of c.carried x)
   pub kept : AreKept s u c (sent_order c) no_process
 
-pub over_next : (s : ScenarioValue) (rows : List Row) (row : Row) (u : TranscriberValue) (more : List item_of.Item) (c : Story) (shown : List Event) → IsOver s rows row u more c shown → Standing s (row ∷ rows)
+pub over_next : (s : ScenarioValue) (rows : List Row) (row : Row) (u : TranscriberValue) (more : List item_of.Item) (c : Story) (shown : List Event)
+    → IsOver s rows row u more c shown → Standing s (row ∷ rows)
 over_next s rows row u more c shown g = record {
   numbered = subst (λ (z : TranscriberValue). AreNumbered z.processes (names_begun z.items)) (sym g.transcript_is) (subst (λ (names : List Name). AreNumbered u.processes names) (sym names) g.numbered);
   marked = λ id. subst (λ (z : Story). IsMarked z.history (carried_of z.carried id)) (sym g.story_is) (g.marked id);
@@ -75,7 +76,9 @@ pub record IsPut (s : ScenarioValue) (t : TranscriberValue) (b : Story) (sent : 
   pub others : (x : ProcId) → is_open_in b.sent x ≡ true → same_id x id ≡ false → IsKept s t.processes sent names b.carried x
   pub apart : (x : ProcId) (d : array_of.Process) → is_open_in b.sent x ≡ true → same_id x id ≡ false → array_of.process_of s x ≡ Some d → same_nexus p.name (nexus_of d) ≡ false
 
-pub put_kept : (s : ScenarioValue) (t u : TranscriberValue) (b c : Story) (sent : List Item) (names : List Name) (id : ProcId) (p : Process) → u.processes ≡ with_last t.processes p → names_begun u.items ≡ names → ((x : ProcId) → is_open_in c.sent x ≡ true → is_open_in b.sent x ≡ true) → ((x : ProcId) → carried_of b.carried x ≡ carried_of c.carried x) → IsPut s t b sent names id p → AreKept s u c sent no_process
+pub put_kept : (s : ScenarioValue) (t u : TranscriberValue) (b c : Story) (sent : List Item) (names : List Name) (id : ProcId) (p : Process)
+    → u.processes ≡ with_last t.processes p → names_begun u.items ≡ names → ((x : ProcId) → is_open_in c.sent x ≡ true → is_open_in b.sent x ≡ true)
+    → ((x : ProcId) → carried_of b.carried x ≡ carried_of c.carried x) → IsPut s t b sent names id p → AreKept s u c sent no_process
 put_kept s t u b c sent names id p processes begun opens carried g = λ x o no. here x o (same_id x id) refl
   where
     at_end : (x : ProcId) → IsKept s (with_last t.processes p) sent names b.carried x → IsKept s u.processes sent (names_begun u.items) c.carried x

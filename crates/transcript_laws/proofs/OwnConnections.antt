@@ -39,17 +39,20 @@ use Rattle.std.proofs.lemmas.Bool.{or_right}
 
 -- ---- the events of a process, with its name
 
-one_named : (sent : List told.Item) (names : List Name) (id : ProcId) (name : Name) (event : Event) → IsOwnEvent id event → name_sent sent names id ≡ Some name → named_events sent names (event ∷ []) ≡ items_named name event ++ []
+one_named : (sent : List told.Item) (names : List Name) (id : ProcId) (name : Name) (event : Event) → IsOwnEvent id event → name_sent sent names id ≡ Some name
+    → named_events sent names (event ∷ []) ≡ items_named name event ++ []
 one_named sent names id name (events.Accept x) e named = ap (λ (n : Option Name). items_if n (events.Accept x) ++ []) (ap (λ (y : ProcId). name_sent sent names y) e ∙ named)
 one_named sent names id name (events.Refuse x) e named = ap (λ (n : Option Name). items_if n (events.Refuse x) ++ []) (ap (λ (y : ProcId). name_sent sent names y) e ∙ named)
 one_named sent names id name (events.Run x) e named = ap (λ (n : Option Name). items_if n (events.Run x) ++ []) (ap (λ (y : ProcId). name_sent sent names y) e ∙ named)
 one_named sent names id name (events.Fail x code) e named = ap (λ (n : Option Name). items_if n (events.Fail x code) ++ []) (ap (λ (y : ProcId). name_sent sent names y) e ∙ named)
-one_named sent names id name (events.End x status) e named = ap (λ (n : Option Name). items_if n (events.End x status) ++ []) (ap (λ (y : ProcId). name_sent sent names y) e ∙ named)
+one_named sent names id name (events.End x status) e named =
+    ap (λ (n : Option Name). items_if n (events.End x status) ++ []) (ap (λ (y : ProcId). name_sent sent names y) e ∙ named)
 one_named sent names id name (events.Lost x) e named = ap (λ (n : Option Name). items_if n (events.Lost x) ++ []) (ap (λ (y : ProcId). name_sent sent names y) e ∙ named)
 one_named sent names id name (events.Aborted host target unit what) e named = absurd e
 one_named sent names id name (events.Reset dev) e named = absurd e
 
-own_named : (sent : List told.Item) (names : List Name) (id : ProcId) (name : Name) (list : List Event) → AreOwnEvents id list → name_sent sent names id ≡ Some name → named_events sent names list ≡ flat_map (λ event. items_named name event) list
+own_named : (sent : List told.Item) (names : List Name) (id : ProcId) (name : Name) (list : List Event) → AreOwnEvents id list
+    → name_sent sent names id ≡ Some name → named_events sent names list ≡ flat_map (λ event. items_named name event) list
 own_named sent names id name [] e named = refl
 own_named sent names id name (event ∷ list) e named =
     λ i. (sym (append-nil _) ∙ one_named sent names id name event e.0 named ∙ append-nil (items_named name event)) i ++ own_named sent names id name list e.1 named i
@@ -91,7 +94,8 @@ leaving_names : (free : Bool) (name : Name) (s : Summary) → names_begun (leavi
 leaving_names true name s = departure_names name s.departure s.abort
 leaving_names false name s = refl
 
-pub connection_names : (n : Connection) (p : Process) (parts : List Part) (free : Bool) (s : Summary) → names_begun (connection_items n p parts free s) ≡ (if n.reselected then [] else p.name ∷ [])
+pub connection_names : (n : Connection) (p : Process) (parts : List Part) (free : Bool) (s : Summary)
+    → names_begun (connection_items n p parts free s) ≡ (if n.reselected then [] else p.name ∷ [])
 connection_names n p parts free s =
     ap (λ (xs : List Name). (if n.reselected then [] else p.name ∷ []) ++ xs) (names_append (account_by p parts).items (leaving_items free p.name s) ∙ (λ i. parts_names (account_of p []) parts i ++ leaving_names free p.name s i))
     ∙ append-nil (if n.reselected then [] else p.name ∷ [])
@@ -119,7 +123,12 @@ pub record IsClosing (k : OpenedValue) (commands : Bool) (id : ProcId) (now back
   pub shown : (refused : List Name) → shown_items refused (account_by p parts).items ≡ shown_items refused (account_base k p).items
   pub leaves : Leaves id p.name (leaving_items free p.name s) more
 
-own_adds : (k : OpenedValue) (commands : Bool) (id : ProcId) (now back : CarriedBytes) (conn history : List Event) (was : Bool) (st : Option ℕ) (n : Connection) (p : Process) (parts : List Part) (free : Bool) (s : Summary) (more : List Event) (sent sending : List told.Item) (names : List Name) → IsClosing k commands id now back conn history was st n p parts free s more → has_item (sent ++ sending) (process id) ≡ true → length (names_begun (connection_items n p parts free s)) ≡ length sending → ((x : ProcId) (name : Name) → name_sent sending (names_begun (connection_items n p parts free s)) x ≡ Some name → (name.number == 0) ≡ false) → name_sent (sent ++ sending) (names ++ names_begun (connection_items n p parts free s)) id ≡ Some p.name → Adds sent sending names (connection_items n p parts free s) (more ++ conn) history
+own_adds : (k : OpenedValue) (commands : Bool) (id : ProcId) (now back : CarriedBytes) (conn history : List Event) (was : Bool) (st : Option ℕ) (n : Connection) (p : Process) (parts : List Part) (free : Bool) (s : Summary) (more : List Event) (sent sending : List told.Item) (names : List Name)
+    → IsClosing k commands id now back conn history was st n p parts free s more → has_item (sent ++ sending) (process id) ≡ true
+    → length (names_begun (connection_items n p parts free s)) ≡ length sending
+    → ((x : ProcId) (name : Name) → name_sent sending (names_begun (connection_items n p parts free s)) x ≡ Some name → (name.number == 0) ≡ false)
+    → name_sent (sent ++ sending) (names ++ names_begun (connection_items n p parts free s)) id ≡ Some p.name
+    → Adds sent sending names (connection_items n p parts free s) (more ++ conn) history
 own_adds k commands id now back conn history was st n p parts free s more sent sending names h has count numbers named = record {
   count = count;
   known = own_sent (sent ++ sending) id (more ++ conn) has own;
@@ -134,7 +143,8 @@ own_adds k commands id now back conn history was st n p parts free s more sent s
     own : AreOwnEvents id (more ++ conn)
     own = own_append id more conn (leaves_own id p.name (leaving_items free p.name s) more h.leaves) h.own
 
-    before : (refused : List Name) → AreRefused refused (sent ++ sending) (names ++ names_begun (connection_items n p parts free s)) ((more ++ conn) ++ history) → IsRefused refused p.name id (conn ++ history)
+    before : (refused : List Name) → AreRefused refused (sent ++ sending) (names ++ names_begun (connection_items n p parts free s)) ((more ++ conn) ++ history)
+        → IsRefused refused p.name id (conn ++ history)
     before refused r = refused_less refused p.name id more (conn ++ history) (record {
       refusal = λ e. r.refusals id p.name (ap (λ (list : List Event). has_refusal list id) (append_assoc more conn history) ∙ e) named;
       answer = λ e. r.answers id p.name (ap (λ (list : List Event). has_answer list id) (append_assoc more conn history) ∙ e) named;
@@ -151,7 +161,10 @@ one_number id x own name number e = go (same_id id x) e
     go false f = none_some name f
 
 -- An initiator began it, for a process that was not sent before.
-pub first_past : (k : OpenedValue) (commands : Bool) (id : ProcId) (now back : CarriedBytes) (conn history : List Event) (was : Bool) (st : Option ℕ) (n : Connection) (p : Process) (parts : List Part) (free : Bool) (s : Summary) (more : List Event) (list : List Item) (sent : List told.Item) → n.reselected ≡ false → has_item sent (process id) ≡ false → (p.name.number == 0) ≡ false → IsClosing k commands id now back conn history was st n p parts free s more → IsPast list sent history → IsPast (list ++ connection_items n p parts free s) (sent ++ process id ∷ []) ((more ++ conn) ++ history)
+pub first_past : (k : OpenedValue) (commands : Bool) (id : ProcId) (now back : CarriedBytes) (conn history : List Event) (was : Bool) (st : Option ℕ) (n : Connection) (p : Process) (parts : List Part) (free : Bool) (s : Summary) (more : List Event) (list : List Item) (sent : List told.Item)
+    → n.reselected ≡ false → has_item sent (process id) ≡ false → (p.name.number == 0) ≡ false
+    → IsClosing k commands id now back conn history was st n p parts free s more → IsPast list sent history
+    → IsPast (list ++ connection_items n p parts free s) (sent ++ process id ∷ []) ((more ++ conn) ++ history)
 first_past k commands id now back conn history was st n p parts free s more list sent began fresh number h past =
     let names : names_begun (connection_items n p parts free s) ≡ p.name ∷ [] = connection_names n p parts free s ∙ ap (λ (q : Bool). if q then [] else p.name ∷ []) began in
     past_more list (connection_items n p parts free s) sent (process id ∷ []) (more ++ conn) history past
@@ -162,7 +175,10 @@ first_past k commands id now back conn history was st n p parts free s more list
     (ap (λ (xs : List Name). name_sent (sent ++ process id ∷ []) (names_begun list ++ xs) id) names ∙ name_own sent (names_begun list) p.name id past.count fresh))
 
 -- A target began it, for a process that has this name.
-pub again_past : (k : OpenedValue) (commands : Bool) (id : ProcId) (now back : CarriedBytes) (conn history : List Event) (was : Bool) (st : Option ℕ) (n : Connection) (p : Process) (parts : List Part) (free : Bool) (s : Summary) (more : List Event) (list : List Item) (sent : List told.Item) → n.reselected ≡ true → has_item sent (process id) ≡ true → name_sent sent (names_begun list) id ≡ Some p.name → IsClosing k commands id now back conn history was st n p parts free s more → IsPast list sent history → IsPast (list ++ connection_items n p parts free s) sent ((more ++ conn) ++ history)
+pub again_past : (k : OpenedValue) (commands : Bool) (id : ProcId) (now back : CarriedBytes) (conn history : List Event) (was : Bool) (st : Option ℕ) (n : Connection) (p : Process) (parts : List Part) (free : Bool) (s : Summary) (more : List Event) (list : List Item) (sent : List told.Item)
+    → n.reselected ≡ true → has_item sent (process id) ≡ true → name_sent sent (names_begun list) id ≡ Some p.name
+    → IsClosing k commands id now back conn history was st n p parts free s more → IsPast list sent history
+    → IsPast (list ++ connection_items n p parts free s) sent ((more ++ conn) ++ history)
 again_past k commands id now back conn history was st n p parts free s more list sent again has named h past =
     let names : names_begun (connection_items n p parts free s) ≡ [] = connection_names n p parts free s ∙ ap (λ (q : Bool). if q then [] else p.name ∷ []) again in
     subst (λ (xs : List told.Item). IsPast (list ++ connection_items n p parts free s) xs ((more ++ conn) ++ history)) (append-nil sent) (past_more list (connection_items n p parts free s) sent [] (more ++ conn) history past

@@ -1,5 +1,5 @@
 -- The parts of a connection as a phase is over: those so far, and what the phase has carried.
-use Rattle.std.proofs.Common.{◌≡◌, ◌∙◌, Bool, true, false, List, [], ◌∷◌, ◌++◌, Option, Some, None, refl, sym, ap}
+use Rattle.std.proofs.Common.{◌≡◌, ◌∙◌, Bool, true, false, List, [], ◌∷◌, ◌++◌, Some, None, refl, sym, ap}
 use Rattle.std.specs.Prelude.{not, ◌&&◌, ℕ, if◌then◌else◌}
 use Rattle.std.proofs.lemmas.List.{append_assoc, append-nil}
 use Rattle.bus_trace.specs.LineSet.{LineSet}
@@ -13,6 +13,7 @@ use Rattle.bus_transcript.specs.declared.part.Part.TheVariants as parts_of
 use Rattle.bus_transcript.specs.Opened.{OpenedValue, held_part, settled, with_out, with_all_out, with_in, spoken, broken_off, phase_parts, with_phase, phase_over}
 use Rattle.transcript_laws.specs.Parts.{is_void, out_parts, parts_now}
 use Rattle.bus_story.specs.TraceHistory.{is_parity_error}
+use Rattle.trace_laws.proofs.Impossible.{none_some}
 
 -- ---- as the messages of MESSAGE OUT stand
 
@@ -20,7 +21,8 @@ if_none : (q : Bool) → (if q then [] else held_part None) ≡ []
 if_none true = refl
 if_none false = refl
 
-all_said : (k : OpenedValue) (said : List MsgOut) → (settled (with_all_out k said) false).parts ≡ (k.parts ++ ((if is_void said then [] else held_part k.held) ++ k.since)) ++ out_parts said
+all_said : (k : OpenedValue) (said : List MsgOut)
+    → (settled (with_all_out k said) false).parts ≡ (k.parts ++ ((if is_void said then [] else held_part k.held) ++ k.since)) ++ out_parts said
 all_said k [] = sym (append-nil (k.parts ++ (held_part k.held ++ k.since)))
 all_said k (m ∷ said) =
     let l : OpenedValue = with_out k m in
@@ -50,9 +52,6 @@ spoken_keeps k = all_spoken (record k { said = [] }) k.said
 
 -- ---- what is held after them
 
-some_none : {A : Type 0} (m : Incoming) → (let a : Option Incoming = None in a) ≡ Some m → A
-some_none m e = absurd cc
-
 pub none_held : (k : OpenedValue) (said : List MsgOut) → k.held ≡ None → (with_all_out k said).held ≡ None
 none_held k [] e = e
 none_held k (m ∷ said) e = none_held (with_out k m) said refl
@@ -64,9 +63,10 @@ pub record Holds (k l : OpenedValue) : Type 0 where
   pub held : l.held ≡ k.held
   pub since : l.since ≡ k.since
 
-spoken_by : (k : OpenedValue) (said : List MsgOut) → k.said ≡ said → (m : Incoming) → (with_all_out (record k { said = [] }) said).held ≡ Some m → Holds k (with_all_out (record k { said = [] }) said)
+spoken_by : (k : OpenedValue) (said : List MsgOut) → k.said ≡ said → (m : Incoming) → (with_all_out (record k { said = [] }) said).held ≡ Some m
+    → Holds k (with_all_out (record k { said = [] }) said)
 spoken_by k [] e m held = record { said = e; parts = refl; held = refl; since = refl }
-spoken_by k (x ∷ said) e m held = some_none m (sym (none_held (with_out (record k { said = [] }) x) said refl) ∙ held)
+spoken_by k (x ∷ said) e m held = none_some m (sym (none_held (with_out (record k { said = [] }) x) said refl) ∙ held)
 
 pub spoken_holds : (k : OpenedValue) (m : Incoming) → (spoken k).held ≡ Some m → Holds k (spoken k)
 spoken_holds k m held = spoken_by k k.said refl m held
@@ -96,7 +96,8 @@ phase_left k s left =
 same_phase_parts : (k l : OpenedValue) (s : LineSet) (left : Bool) → l.bytes ≡ k.bytes → l.struck ≡ k.struck → phase_parts l s left ≡ phase_parts k s left
 same_phase_parts k l s left bytes struck = λ i. phase_parts (record k { bytes = bytes i; struck = struck i }) s left
 
-pub over_parts : (k : OpenedValue) (s : LineSet) (half : List ℕ) (left : Bool) → (settled (phase_over k s half left) false).parts ≡ (parts_now k ++ broken_parts s half) ++ phase_parts k s left
+pub over_parts : (k : OpenedValue) (s : LineSet) (half : List ℕ) (left : Bool)
+    → (settled (phase_over k s half left) false).parts ≡ (parts_now k ++ broken_parts s half) ++ phase_parts k s left
 over_parts k s half left =
     let l : OpenedValue = broken_off (spoken k) s half in
     let g = spoken_keeps k in

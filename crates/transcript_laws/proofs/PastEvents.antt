@@ -20,7 +20,8 @@ use Rattle.bus_base.proofs.Tests.{wrong'}
 
 -- ---- what was said before
 
-told_before : (sent more : List told.Item) (names later : List Name) (event : Event) → length names ≡ length sent → IsEventSent sent event → items_told (sent ++ more) (names ++ later) event ≡ items_told sent names event
+told_before : (sent more : List told.Item) (names later : List Name) (event : Event) → length names ≡ length sent → IsEventSent sent event
+    → items_told (sent ++ more) (names ++ later) event ≡ items_told sent names event
 told_before sent more names later (events.Accept id) count has = ap (λ (n : Option Name). items_if n (events.Accept id)) (name_before sent more names later id count has)
 told_before sent more names later (events.Refuse id) count has = ap (λ (n : Option Name). items_if n (events.Refuse id)) (name_before sent more names later id count has)
 told_before sent more names later (events.Run id) count has = ap (λ (n : Option Name). items_if n (events.Run id)) (name_before sent more names later id count has)
@@ -30,7 +31,8 @@ told_before sent more names later (events.Lost id) count has = ap (λ (n : Optio
 told_before sent more names later (events.Aborted host target unit what) count has = refl
 told_before sent more names later (events.Reset dev) count has = refl
 
-all_before : (sent more : List told.Item) (names later : List Name) (list : List Event) → length names ≡ length sent → AreEventsSent sent list → named_events (sent ++ more) (names ++ later) list ≡ named_events sent names list
+all_before : (sent more : List told.Item) (names later : List Name) (list : List Event) → length names ≡ length sent → AreEventsSent sent list
+    → named_events (sent ++ more) (names ++ later) list ≡ named_events sent names list
 all_before sent more names later [] count has = refl
 all_before sent more names later (event ∷ list) count has =
     λ i. told_before sent more names later event count has.0 i ++ all_before sent more names later list count has.1 i
@@ -55,13 +57,14 @@ told_by sent names id (events.Lost x) e = ap (λ (y : ProcId). items_if (name_se
 told_by sent names id (events.Aborted host target unit what) e = refl
 told_by sent names id (events.Reset dev) e = refl
 
-pub all_by : (sent : List told.Item) (names : List Name) (id : ProcId) (list : List Event) → AreEventsOf id list → named_events sent names list ≡ flat_map (λ event. items_by (name_sent sent names id) event) list
+pub all_by : (sent : List told.Item) (names : List Name) (id : ProcId) (list : List Event) → AreEventsOf id list
+    → named_events sent names list ≡ flat_map (λ event. items_by (name_sent sent names id) event) list
 all_by sent names id [] e = refl
 all_by sent names id (event ∷ list) e = λ i. told_by sent names id event e.0 i ++ all_by sent names id list e.1 i
 
 -- ---- what is refused
 
-any_later : (t : Event → Bool) (conn history : List Event) → list_any t history ≡ true → list_any t (conn ++ history) ≡ true
+pub any_later : (t : Event → Bool) (conn history : List Event) → list_any t history ≡ true → list_any t (conn ++ history) ≡ true
 any_later t [] history e = e
 any_later t (x ∷ conn) history e = or_right (t x) (list_any t (conn ++ history)) (any_later t conn history e)
 
@@ -79,7 +82,8 @@ refusal_sent : (sent : List told.Item) (list : List Event) (id : ProcId) → Are
 refusal_sent sent [] id known e = wrong' e
 refusal_sent sent (event ∷ list) id known e = go (is_refusal id event) refl e (λ z. refusal_sent sent list id known.1 z)
   where
-    go : (q : Bool) → is_refusal id event ≡ q → (q || has_refusal list id) ≡ true → (has_refusal list id ≡ true → has_item sent (process id) ≡ true) → has_item sent (process id) ≡ true
+    go : (q : Bool) → is_refusal id event ≡ q → (q || has_refusal list id) ≡ true → (has_refusal list id ≡ true → has_item sent (process id) ≡ true)
+        → has_item sent (process id) ≡ true
     go true f z rest = one_refusal sent event id known.0 f
     go false f z rest = rest z
 
@@ -97,12 +101,14 @@ answer_sent : (sent : List told.Item) (list : List Event) (id : ProcId) → AreE
 answer_sent sent [] id known e = wrong' e
 answer_sent sent (event ∷ list) id known e = go (is_answer id event) refl e (λ z. answer_sent sent list id known.1 z)
   where
-    go : (q : Bool) → is_answer id event ≡ q → (q || has_answer list id) ≡ true → (has_answer list id ≡ true → has_item sent (process id) ≡ true) → has_item sent (process id) ≡ true
+    go : (q : Bool) → is_answer id event ≡ q → (q || has_answer list id) ≡ true → (has_answer list id ≡ true → has_item sent (process id) ≡ true)
+        → has_item sent (process id) ≡ true
     go true f z rest = one_answer sent event id known.0 f
     go false f z rest = rest z
 
 -- The names that are refused after more are so before it, of what was sent before it.
-pub refused_before : (refused : List Name) (sent more : List told.Item) (names later : List Name) (conn history : List Event) → length names ≡ length sent → AreEventsSent sent history → AreRefused refused (sent ++ more) (names ++ later) (conn ++ history) → AreRefused refused sent names history
+pub refused_before : (refused : List Name) (sent more : List told.Item) (names later : List Name) (conn history : List Event) → length names ≡ length sent
+    → AreEventsSent sent history → AreRefused refused (sent ++ more) (names ++ later) (conn ++ history) → AreRefused refused sent names history
 refused_before refused sent more names later conn history count known h = record {
   refusals = λ id name has named. h.refusals id name (any_later (λ e. is_refusal id e) conn history has) (name_before sent more names later id count (refusal_sent sent history id known has) ∙ named);
   answers = λ id name has named. h.answers id name (any_later (λ e. is_answer id e) conn history has) (name_before sent more names later id count (answer_sent sent history id known has) ∙ named);
@@ -124,7 +130,8 @@ pub record Adds (sent more : List told.Item) (names : List Name) (new : List Ite
   pub count : length (names_begun new) ≡ length more
   pub known : AreEventsSent (sent ++ more) conn
   pub numbers : (id : ProcId) (name : Name) → name_sent more (names_begun new) id ≡ Some name → (name.number == 0) ≡ false
-  pub shown : (refused : List Name) → AreRefused refused (sent ++ more) (names ++ names_begun new) (conn ++ history) → shown_items refused new ≡ named_events (sent ++ more) (names ++ names_begun new) (reverse conn)
+  pub shown : (refused : List Name) → AreRefused refused (sent ++ more) (names ++ names_begun new) (conn ++ history)
+      → shown_items refused new ≡ named_events (sent ++ more) (names ++ names_begun new) (reverse conn)
 
 sent_more : (sent more : List told.Item) (event : Event) → IsEventSent sent event → IsEventSent (sent ++ more) event
 sent_more sent more (events.Accept id) has = has_append sent more (process id) ∙ or_left (has_item sent (process id)) (has_item more (process id)) has
@@ -140,7 +147,8 @@ all_more : (sent more : List told.Item) (list : List Event) → AreEventsSent se
 all_more sent more [] known = tt
 all_more sent more (event ∷ list) known = (sent_more sent more event known.0, all_more sent more list known.1)
 
-pub past_more : (list new : List Item) (sent more : List told.Item) (conn history : List Event) → IsPast list sent history → Adds sent more (names_begun list) new conn history → IsPast (list ++ new) (sent ++ more) (conn ++ history)
+pub past_more : (list new : List Item) (sent more : List told.Item) (conn history : List Event) → IsPast list sent history
+    → Adds sent more (names_begun list) new conn history → IsPast (list ++ new) (sent ++ more) (conn ++ history)
 past_more list new sent more conn history past adds = record {
   count = ap length (names_append list new) ∙ length-append (names_begun list) (names_begun new) ∙ (λ i. past.count i + adds.count i) ∙ sym (length-append sent more);
   known = sent_append (sent ++ more) conn history adds.known (all_more sent more history past.known);
@@ -156,6 +164,7 @@ past_more list new sent more conn history past adds = record {
       ∙ ap (λ (names : List Name). named_events (sent ++ more) names (reverse (conn ++ history))) (sym (names_append list new));
 }
   where
-    by_sent : (id : ProcId) (name : Name) (q : Bool) → has_item sent (process id) ≡ q → name_sent (sent ++ more) (names_begun list ++ names_begun new) id ≡ Some name → (name.number == 0) ≡ false
+    by_sent : (id : ProcId) (name : Name) (q : Bool) → has_item sent (process id) ≡ q
+        → name_sent (sent ++ more) (names_begun list ++ names_begun new) id ≡ Some name → (name.number == 0) ≡ false
     by_sent id name true has e = past.numbers id name (sym (name_before sent more (names_begun list) (names_begun new) id past.count has) ∙ e)
     by_sent id name false has e = adds.numbers id name (sym (name_later sent more (names_begun list) (names_begun new) id past.count has) ∙ e)

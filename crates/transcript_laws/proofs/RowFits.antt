@@ -34,7 +34,6 @@ use Rattle.trace_laws.specs.Statuses.{CarriesBy, HasStatus}
 use Rattle.trace_laws.specs.Tells.{IsServed, of_process, of_abort}
 use Rattle.trace_laws.proofs.PhaseLines.{in_phase, out_in, out_lines}
 use Rattle.trace_laws.proofs.TalkSteps.{not_both}
-use Rattle.transcript_laws.specs.Left.{UndoesNothing}
 use Rattle.transcript_laws.specs.Parts.{are_talk, base_parts, is_known}
 use Rattle.transcript_laws.specs.RowTests.{is_broken, fits_out, fits_in, is_no_abort, fits_crossing, undoes_nothing, arrives_first, gets_known, is_open_item, fits_turn, has_status, fits_still, fits_on}
 use Rattle.transcript_laws.proofs.CrossingFits.{completes_none, no_message_line, takes_none, names_fit}
@@ -44,11 +43,14 @@ use Rattle.transcript_laws.proofs.OpenedBytes.{crosses_is}
 use Rattle.transcript_laws.proofs.OpenedFacts.{Going, knows_before}
 use Rattle.transcript_laws.proofs.OutFits.{out_fits}
 use Rattle.transcript_laws.proofs.TurnFits.{talk_leaves, arrives, known_open}
+use Rattle.transcript_laws.proofs.UndoneMessages.{UndoesNothing}
 use Rattle.bus_base.proofs.Tests.{wrong, wrong', implication}
 
 -- ---- a byte crosses
 
-pub crossing_fits : (s : ScenarioValue) (p : List Row) (row : Row) (n : Connection) (g : Going s p row n) (o : OpenedValue) (l : Link) (dev : ℕ) → OpenedAll (run_state s p) n o → (run_state s p).story.link ≡ Some l → changes_phase g.going.change ≡ false → receiver_in n g.going.change ≡ Some dev → fits_crossing s (run_state s p).story o l (reading_in (run_state s p).story.bus_state n g.going.change true) ≡ true
+pub crossing_fits : (s : ScenarioValue) (p : List Row) (row : Row) (n : Connection) (g : Going s p row n) (o : OpenedValue) (l : Link) (dev : ℕ)
+    → OpenedAll (run_state s p) n o → (run_state s p).story.link ≡ Some l → changes_phase g.going.change ≡ false → receiver_in n g.going.change ≡ Some dev
+    → fits_crossing s (run_state s p).story o l (reading_in (run_state s p).story.bus_state n g.going.change true) ≡ true
 crossing_fits s p row n g o l dev h el ep er = λ i. not (ep i) && not (completes_none s p row n g l dev el er i) && by (is_message_out c.before) refl (is_message_in c.before) refl i
   where
     k : RunState
@@ -66,8 +68,11 @@ crossing_fits s p row n g o l dev h el ep er = λ i. not (ep i) && not (complete
     phase : c.before.msg ≡ true → c.before.cd ≡ true
     phase z = ap (λ (x : LineSet). x.cd) (sym g.going.goes.row_is.bus_is) ∙ (g.going.goes.phase (ap (λ (x : LineSet). x.msg) g.going.goes.row_is.bus_is ∙ z)).0
 
-    by : (q : Bool) → is_message_out c.before ≡ q → (r : Bool) → is_message_in c.before ≡ r → (if is_message_out c.before then out else if is_message_in c.before then into else not c.before.msg && is_no_abort l.item) ≡ true
-    by true x r y = ap (λ (q : Bool). if q then out else if is_message_in c.before then into else not c.before.msg && is_no_abort l.item) x ∙ out_fits s p row n g o l dev h.words h.since el er x
+    by : (q : Bool) → is_message_out c.before ≡ q → (r : Bool) → is_message_in c.before ≡ r
+        → (if is_message_out c.before then out else if is_message_in c.before then into else not c.before.msg && is_no_abort l.item) ≡ true
+    by true x r y =
+        ap (λ (q : Bool). if q then out else if is_message_in c.before then into else not c.before.msg && is_no_abort l.item) x
+        ∙ out_fits s p row n g o l dev h.words h.since el er x
     by false x true y =
         (λ i. if x i then out else if y i then into else not c.before.msg && is_no_abort l.item)
         ∙ names_fit s p row n g o l dev h.bytes el er y (λ re z. h.named.nameless re z)
@@ -77,7 +82,8 @@ crossing_fits s p row n g o l dev h el ep er = λ i. not (ep i) && not (complete
 
 -- ---- a phase is left
 
-pub turn_fits : (s : ScenarioValue) (p : List Row) (row : Row) (n : Connection) (g : Going s p row n) (o : OpenedValue) (l : Link) → OpenedAll (run_state s p) n o → (run_state s p).story.link ≡ Some l → changes_phase g.going.change ≡ true → is_some (receiver_in n g.going.change) ≡ false
+pub turn_fits : (s : ScenarioValue) (p : List Row) (row : Row) (n : Connection) (g : Going s p row n) (o : OpenedValue) (l : Link)
+    → OpenedAll (run_state s p) n o → (run_state s p).story.link ≡ Some l → changes_phase g.going.change ≡ true → is_some (receiver_in n g.going.change) ≡ false
     → (is_message_in g.going.change.before ≡ true → is_nil (run_state s p).story.bus_state.dialogue.half ≡ false → undoes_nothing (run_state s p).story l l.undo ≡ true) → fits_turn (run_state s p).story o l g.going.change ≡ true
 turn_fits s p row n g o l h el ep er undoes = λ i. undone i && arrived i && talk_leaves s p row n g o l h.bytes el ep i && open_known i
   where
@@ -119,7 +125,9 @@ turn_fits s p row n g o l h el ep er undoes = λ i. undone i && arrived i && tal
 -- ---- another row
 
 -- As the initiator answers a byte of MESSAGE IN, COMMAND COMPLETE is told where it is held.
-pub still_same : (s : ScenarioValue) (p : List Row) (row : Row) (n : Connection) (g : Going s p row n) (o : OpenedValue) (l : Link) → HeldLast (run_state s p) o → (run_state s p).story.link ≡ Some l → is_message_in g.going.change.before ≡ true → same_bool (story_of.is_complete l.last) (is_complete o.held && is_nil (run_state s p).story.bus_state.dialogue.half) ≡ true
+pub still_same : (s : ScenarioValue) (p : List Row) (row : Row) (n : Connection) (g : Going s p row n) (o : OpenedValue) (l : Link) → HeldLast (run_state s p) o
+    → (run_state s p).story.link ≡ Some l → is_message_in g.going.change.before ≡ true
+    → same_bool (story_of.is_complete l.last) (is_complete o.held && is_nil (run_state s p).story.bus_state.dialogue.half) ≡ true
 still_same s p row n g o l h el here = go (story_of.is_complete l.last) refl
   where
     k : RunState
@@ -162,7 +170,8 @@ record Completing (s : ScenarioValue) (p : List Row) (n : Connection) : Type 0 w
   id : ProcId
   served : (run_state s p).served ≡ Some (process id)
 
-completing : (s : ScenarioValue) (p : List Row) (row : Row) (n : Connection) (g : Going s p row n) (l : Link) → (run_state s p).story.link ≡ Some l → is_message_in g.going.change.before ≡ true → story_of.is_complete l.last ≡ true → Completing s p n
+completing : (s : ScenarioValue) (p : List Row) (row : Row) (n : Connection) (g : Going s p row n) (l : Link) → (run_state s p).story.link ≡ Some l
+    → is_message_in g.going.change.before ≡ true → story_of.is_complete l.last ≡ true → Completing s p n
 completing s p row n g l el here last = go (g.was.facts.served n g.stands g.calm)
   where
     k : RunState
@@ -196,7 +205,9 @@ completing s p row n g l el here last = go (g.was.facts.served n g.stands g.calm
     }
     go (of_abort m a f x y z re phase) = not_both (bus_of k) on (out_lines (bus_of k) (phase begun).0 (λ q. (g.going.goes.phase q).0))
 
-completion_fits : (s : ScenarioValue) (p : List Row) (row : Row) (n : Connection) (g : Going s p row n) (o : OpenedValue) (l : Link) → OpenedAll (run_state s p) n o → (run_state s p).story.link ≡ Some l → is_message_in g.going.change.before ≡ true → story_of.is_complete l.last ≡ true → (is_known o (bus_of (run_state s p)) && has_status (run_state s p).story l.item) ≡ true
+completion_fits : (s : ScenarioValue) (p : List Row) (row : Row) (n : Connection) (g : Going s p row n) (o : OpenedValue) (l : Link)
+    → OpenedAll (run_state s p) n o → (run_state s p).story.link ≡ Some l → is_message_in g.going.change.before ≡ true → story_of.is_complete l.last ≡ true
+    → (is_known o (bus_of (run_state s p)) && has_status (run_state s p).story l.item) ≡ true
 completion_fits s p row n g o l h el here last = go n.reselected refl
   where
     k : RunState
@@ -243,7 +254,8 @@ completion_fits s p row n g o l h el here last = go n.reselected refl
     go false sel =
         λ i. (ap (λ (x : Connection). not x.reselected || not (are_talk (base_parts o)) || is_command (bus_of k)) h.bytes.connection_is ∙ ap (λ (q : Bool). not q || not (are_talk (base_parts o)) || is_command (bus_of k)) sel) i && status i
 
-pub still_fits : (s : ScenarioValue) (p : List Row) (row : Row) (n : Connection) (g : Going s p row n) (o : OpenedValue) (l : Link) → OpenedAll (run_state s p) n o → (run_state s p).story.link ≡ Some l → fits_still (run_state s p).story o l g.going.change ≡ true
+pub still_fits : (s : ScenarioValue) (p : List Row) (row : Row) (n : Connection) (g : Going s p row n) (o : OpenedValue) (l : Link)
+    → OpenedAll (run_state s p) n o → (run_state s p).story.link ≡ Some l → fits_still (run_state s p).story o l g.going.change ≡ true
 still_fits s p row n g o l h el = λ i. implication (up && is_message_in c.before && not c.after.atn) (same_bool (story_of.is_complete l.last) (is_complete o.held && is_nil k.story.bus_state.dialogue.half)) told i && implication (story_of.is_completion l c) (is_known o (bus_of k) && has_status k.story l.item) ended i
   where
     k : RunState
@@ -274,7 +286,9 @@ still_fits s p row n g o l h el = λ i. implication (up && is_message_in c.befor
 
 -- ---- any of them
 
-pub going_fits : (s : ScenarioValue) (p : List Row) (row : Row) (n : Connection) (g : Going s p row n) (o : OpenedValue) (l : Link) → OpenedAll (run_state s p) n o → (run_state s p).story.link ≡ Some l → UndoesNothing s p → fits_on s (run_state s p).story o l (row_reading (run_state s p).story.bus_state row) ≡ true
+pub going_fits : (s : ScenarioValue) (p : List Row) (row : Row) (n : Connection) (g : Going s p row n) (o : OpenedValue) (l : Link)
+    → OpenedAll (run_state s p) n o → (run_state s p).story.link ≡ Some l → UndoesNothing s p
+    → fits_on s (run_state s p).story o l (row_reading (run_state s p).story.bus_state row) ≡ true
 going_fits s p row n g o l h el undoes = go g.going.goes.row_is.kind
   where
     k : RunState
@@ -287,7 +301,8 @@ going_fits s p row n g o l h el undoes = go g.going.goes.row_is.kind
     read q e = ap (λ (d : RowReading). fits_on s k.story o l d) (crosses_is s p row n g q e)
 
     quiet : changes_phase c ≡ false → receiver_in n c ≡ None → fits_on s k.story o l (row_reading k.story.bus_state row) ≡ true
-    quiet ep er = read false (ap (λ (x : Option ℕ). is_some x) er) ∙ ap (λ (q : Bool). if q then fits_turn k.story o l c else fits_still k.story o l c) ep ∙ still_fits s p row n g o l h el
+    quiet ep er =
+        read false (ap (λ (x : Option ℕ). is_some x) er) ∙ ap (λ (q : Bool). if q then fits_turn k.story o l c else fits_still k.story o l c) ep ∙ still_fits s p row n g o l h el
 
     go : RowKind row n c → fits_on s k.story o l (row_reading k.story.bus_state row) ≡ true
     go (still ef ep er) = quiet ep er

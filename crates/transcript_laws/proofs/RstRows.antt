@@ -38,4 +38,6 @@ rst_row s p row dv lt on = go (bus p).rst refl
 
     go : (q : Bool) → (bus p).rst ≡ q → (is_none (transcribed p).opened || up) ≡ true
     go true e = ap (λ (o : Option OpenedValue). is_none o || up) (rst_none s p dv e)
-    go false e = ap (λ (q : Bool). is_none (transcribed p).opened || q) (same ∙ or_second (bus p).rst (rises c.own.rst c.next.rst) (raises_or_stands p row lt on) e) ∙ or_true (is_none (transcribed p).opened)
+    go false e =
+        ap (λ (q : Bool). is_none (transcribed p).opened || q) (same ∙ or_second (bus p).rst (rises c.own.rst c.next.rst) (raises_or_stands p row lt on) e)
+        ∙ or_true (is_none (transcribed p).opened)

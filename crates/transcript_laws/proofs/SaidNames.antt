@@ -99,7 +99,7 @@ outs_in o None = refl
 outs_in o (Some m) =
     outs_base (with_in_if o (Some m)) ∙ append-nil (outs_of (o.parts ++ (held_part o.held ++ o.since))) ∙ outs_base (record o { said = [] }) ∙ sym (outs_base o)
 
-outs_same : (k : RunState) (row : Row) (n : Connection) (c : Change) (o after : OpenedValue) → RowMade k row n c o after → changes_phase c ≡ false → outs_of (base_parts after) ≡ outs_of (base_parts o)
+pub outs_same : (k : RunState) (row : Row) (n : Connection) (c : Change) (o after : OpenedValue) → RowMade k row n c o after → changes_phase c ≡ false → outs_of (base_parts after) ≡ outs_of (base_parts o)
 outs_same k row n c o after (made_still ep none e) z = ap (λ (x : OpenedValue). outs_of (base_parts x)) e ∙ go (is_completion o k.story.bus_state.dialogue.half c)
   where
     go : (q : Bool) → outs_of (base_parts (if q then with_part o parts_of.Completion else with_fault o (is_fault row.kind && is_some k.story.bus_state.crossed))) ≡ outs_of (base_parts o)
@@ -169,7 +169,7 @@ mild_words s n served x _ (answers e) z = ap (λ (w : List ℕ). are_mild (said_
 mild_words s n served x _ (rejects_data e) z = ap (λ (w : List ℕ). are_mild (said_of [] w)) e ∙ ap are_mild (said_one to_target.DetectedError tt)
 mild_words s n served x _ (rejects_status e) z = ap (λ (w : List ℕ). are_mild (said_of [] w)) e ∙ ap are_mild (said_one to_target.DetectedError tt)
 
-opening_words : (s : ScenarioValue) (n : Connection) (served : Option Item) (x : Exchange) (cause : Cause) → AreWordsFor s n served x cause → cause ≡ causes.Selected → x.speech.words ≡ opening s n.initiator x.plan.negotiates served
+pub opening_words : (s : ScenarioValue) (n : Connection) (served : Option Item) (x : Exchange) (cause : Cause) → AreWordsFor s n served x cause → cause ≡ causes.Selected → x.speech.words ≡ opening s n.initiator x.plan.negotiates served
 opening_words s n served x _ (opens e) z = e
 opening_words s n served x _ (refuses e) z = wrong' (ap is_selected z)
 opening_words s n served x _ (answers e) z = wrong' (ap is_selected z)
@@ -213,7 +213,7 @@ selected_after b = go (is_message_in b) b.cd
     go false true = refl
     go false false = refl
 
-same_cause : (s : ScenarioValue) (p : List Row) (row : Row) (n : Connection) (g : Going s p row n) → changes_phase g.going.change ≡ false → (run_state s (row ∷ p)).exchange.plan.cause ≡ (run_state s p).exchange.plan.cause
+pub same_cause : (s : ScenarioValue) (p : List Row) (row : Row) (n : Connection) (g : Going s p row n) → changes_phase g.going.change ≡ false → (run_state s (row ∷ p)).exchange.plan.cause ≡ (run_state s p).exchange.plan.cause
 same_cause s p row n g ep = go (is_some (receiver_in n c)) refl
   where
     k : RunState
@@ -241,7 +241,7 @@ opened_same s p row n g ep h = record {
   cause = λ z. ap is_selected (same_cause s p row n g ep) ∙ h.cause (sym (out_same (bus_of (run_state s p)) (bus_of (run_state s (row ∷ p))) (lines_same s p row n g ep)) ∙ z);
 }
 
-opened_turned : (s : ScenarioValue) (p : List Row) (row : Row) (n : Connection) (g : Going s p row n) → changes_phase g.going.change ≡ true → is_some (receiver_in n g.going.change) ≡ false → (run_state s p).exchange.begun ≡ true → IsOpened (run_state s (row ∷ p))
+pub opened_turned : (s : ScenarioValue) (p : List Row) (row : Row) (n : Connection) (g : Going s p row n) → changes_phase g.going.change ≡ true → is_some (receiver_in n g.going.change) ≡ false → (run_state s p).exchange.begun ≡ true → IsOpened (run_state s (row ∷ p))
 opened_turned s p row n g ep none b = record { begun = begun_turned s p row n g ep; cause = λ z. ap (λ (x : Exchange). is_selected x.plan.cause) i.exchange_is ∙ by z }
   where
     k : RunState
@@ -259,7 +259,7 @@ opened_turned s p row n g ep none b = record { begun = begun_turned s p row n g 
         ∙ selected_after c.before
 
 -- The first phase is MESSAGE OUT, of the opening.
-first_out : (s : ScenarioValue) (p : List Row) (row : Row) (n : Connection) (g : Going s p row n) → changes_phase g.going.change ≡ true → is_some (receiver_in n g.going.change) ≡ false → (run_state s p).exchange.begun ≡ false → (is_message_out (bus_of (run_state s (row ∷ p))) ≡ true) × ((run_state s (row ∷ p)).exchange.plan.cause ≡ causes.Selected)
+pub first_out : (s : ScenarioValue) (p : List Row) (row : Row) (n : Connection) (g : Going s p row n) → changes_phase g.going.change ≡ true → is_some (receiver_in n g.going.change) ≡ false → (run_state s p).exchange.begun ≡ false → (is_message_out (bus_of (run_state s (row ∷ p))) ≡ true) × ((run_state s (row ∷ p)).exchange.plan.cause ≡ causes.Selected)
 first_out s p row n g ep none b = (ap is_message_out i.bus_is ∙ out, ap (λ (x : Exchange). x.plan.cause) i.exchange_is ∙ by ∙ ((g.was.stood.books.speaks n g.going.goes.row_is.connection_is g.going.goes.calm).before_all b).cause_is)
   where
     k : RunState
@@ -279,7 +279,7 @@ first_out s p row n g ep none b = (ap is_message_out i.bus_is ∙ out, ap (λ (x
 
 -- ---- row by row
 
-speaking : (s : ScenarioValue) (p : List Row) (row : Row) (n : Connection) (g : Going s p row n) (o : OpenedValue) → OpenedAll (run_state s p) n o → Speaking s (run_state s p) n o
+pub speaking : (s : ScenarioValue) (p : List Row) (row : Row) (n : Connection) (g : Going s p row n) (o : OpenedValue) → OpenedAll (run_state s p) n o → Speaking s (run_state s p) n o
 speaking s p row n g o h = record {
   units = units_are s (obeys_fits s g.obeys);
   bytes = h.bytes.said;
@@ -288,7 +288,7 @@ speaking s p row n g o h = record {
 }
 
 -- Before the first phase and in the opening nothing but messages comes.
-unsaid_same : (s : ScenarioValue) (p : List Row) (row : Row) (n : Connection) (g : Going s p row n) (o after : OpenedValue) → RowMade (run_state s p) row n g.going.change o after → changes_phase g.going.change ≡ false → is_message_in g.going.change.before ≡ false → (is_some (receiver_in n g.going.change) ≡ true → is_message_out g.going.change.before ≡ true) → are_talk (base_parts after) ≡ are_talk (base_parts o)
+pub unsaid_same : (s : ScenarioValue) (p : List Row) (row : Row) (n : Connection) (g : Going s p row n) (o after : OpenedValue) → RowMade (run_state s p) row n g.going.change o after → changes_phase g.going.change ≡ false → is_message_in g.going.change.before ≡ false → (is_some (receiver_in n g.going.change) ≡ true → is_message_out g.going.change.before ≡ true) → are_talk (base_parts after) ≡ are_talk (base_parts o)
 unsaid_same s p row n g o after (made_still ep none e) z no_in out = ap (λ (x : OpenedValue). are_talk (base_parts x)) e ∙ go (is_completion o (run_state s p).story.bus_state.dialogue.half c) refl
   where
     c : Change
@@ -321,7 +321,7 @@ unsaid_same s p row n g o after (made_crossing dev ep er e) z no_in out = go (cr
 unsaid_same s p row n g o after (made_turn ep none ef e) z no_in out = wrong (sym ep ∙ z)
 
 -- MESSAGE OUT begins after a selection.
-first_talk : (o after : OpenedValue) (c : Change) (half : List ℕ) → after ≡ phase_entered (phase_over o c.before half true) c.after → is_command c.before ≡ false → is_message_in c.before ≡ false → o.bytes ≡ [] → is_status_phase c.after ≡ false → are_talk (base_parts after) ≡ are_talk (base_parts o)
+pub first_talk : (o after : OpenedValue) (c : Change) (half : List ℕ) → after ≡ phase_entered (phase_over o c.before half true) c.after → is_command c.before ≡ false → is_message_in c.before ≡ false → o.bytes ≡ [] → is_status_phase c.after ≡ false → are_talk (base_parts after) ≡ are_talk (base_parts o)
 first_talk o after c half e no_command no_in no_bytes no_status =
     ap (λ (x : OpenedValue). are_talk (base_parts x)) e ∙ ap are_talk (base_turned o c.before c.after half)
     ∙ (λ t. are_talk (((parts_now o ++ (if no_in t && not (is_nil half) then parts_of.BrokenOff ∷ [] else [])) ++ (if no_command t then parts_of.Command o.bytes o.struck true ∷ [] else if is_data c.before then data_parts (not c.before.io) (no_bytes t) else [])) ++ (if no_status t then parts_of.StatusPhase ∷ [] else [])))

@@ -1,7 +1,6 @@
 -- Initiators begin few connections: each item of a scenario is sent once.
-use Rattle.std.proofs.Common.{ℕ, zero, suc, ◌≡◌, ◌∙◌, ◌+◌, ◌≤◌, ◌<◌, ◌^◌, Bool, true, false, List, [], ◌∷◌, ◌++◌, length, Option, Some, None, refl, sym, ap, subst, arith}
+use Rattle.std.proofs.Common.{ℕ, zero, suc, ◌≡◌, ◌∙◌, ◌+◌, ◌≤◌, Bool, true, false, List, [], ◌∷◌, ◌++◌, length, Option, Some, None, refl, sym, ap, subst, arith}
 use Rattle.std.specs.Prelude.{◌||◌, if◌then◌else◌, ⊤}
-use Rattle.std.proofs.lemmas.Bool.{eqb-true}
 use Rattle.std.proofs.lemmas.List.{length-append}
 use Rattle.bus_base.specs.declared.ProcId.{ProcId}
 use Rattle.bus_trace.specs.Terms.{connection, connection_after}
@@ -14,7 +13,6 @@ use Rattle.disk_array.specs.Processes.{Process, command_at, process_if, process_
 use Rattle.bus_story.specs.BusState.{row_reading}
 use Rattle.bus_story.specs.HistoryEvents.{abort_line_at}
 use Rattle.bus_story.specs.Items.{Item, process, abort, same_item, has_item, command_item, sense_item}
-use Rattle.bus_books.proofs.Lookups.{id_is}
 use Rattle.trace_laws.proofs.SentItems.{own_has, more_has}
 use Rattle.std.proofs.lemmas.Option.{same_Some}
 use Rattle.bus_due.specs.Next.{IsPrompt}
@@ -30,16 +28,11 @@ use Rattle.bus_books.proofs.Aims.{aims_are}
 use Rattle.trace_laws.proofs.FreshItems.{items_fresh}
 use Rattle.trace_laws.proofs.OverItems.{none_at}
 use Rattle.trace_laws.proofs.Whole.{Whole, whole}
+use Rattle.trace_laws.proofs.Impossible.{none_some}
+use Rattle.trace_laws.proofs.OpenCommands.{item_is}
 use Rattle.transcript_laws.proofs.SentProcesses.{SentAfter, as_before, one_more, row_sends}
+use Rattle.transcript_laws.proofs.SentNames.{has_append}
 use Rattle.bus_base.proofs.Tests.{wrong, wrong', or_true}
-
--- ---- items
-
-pub item_is : (i j : Item) → same_item i j ≡ true → i ≡ j
-item_is (process a) (process b) e = ap (λ (x : ProcId). process x) (id_is a b e)
-item_is (abort a) (abort b) e = ap (λ (x : ℕ). abort x) (eqb-true a b e)
-item_is (process a) (abort b) e = wrong' e
-item_is (abort a) (process b) e = wrong' e
 
 -- ---- lists without repetition
 
@@ -55,7 +48,8 @@ less_by_one : (i : Item) (items : List Item) → has_item items i ≡ true → l
 less_by_one i [] e = wrong' e
 less_by_one i (x ∷ items) e = go (same_item x i) e (λ z. less_by_one i items z)
   where
-    go : (q : Bool) → (q || has_item items i) ≡ true → (has_item items i ≡ true → length (without i items) + 1 ≡ length items) → length (if q then items else x ∷ without i items) + 1 ≡ length (x ∷ items)
+    go : (q : Bool) → (q || has_item items i) ≡ true → (has_item items i ≡ true → length (without i items) + 1 ≡ length items)
+        → length (if q then items else x ∷ without i items) + 1 ≡ length (x ∷ items)
     go true z rest = omega arith
     go false z rest = let r = rest z in omega (arith, r)
 
@@ -63,7 +57,8 @@ others_stay : (i j : Item) (items : List Item) → same_item i j ≡ false → h
 others_stay i j [] ne e = wrong' e
 others_stay i j (x ∷ items) ne e = go (same_item x i) refl (same_item x j) refl e (λ z. others_stay i j items ne z)
   where
-    go : (q : Bool) → same_item x i ≡ q → (r : Bool) → same_item x j ≡ r → (same_item x j || has_item items j) ≡ true → (has_item items j ≡ true → has_item (without i items) j ≡ true) → has_item (if q then items else x ∷ without i items) j ≡ true
+    go : (q : Bool) → same_item x i ≡ q → (r : Bool) → same_item x j ≡ r → (same_item x j || has_item items j) ≡ true
+        → (has_item items j ≡ true → has_item (without i items) j ≡ true) → has_item (if q then items else x ∷ without i items) j ≡ true
     go true f true g z rest = wrong (sym (ap (λ (y : Item). same_item y j) (sym (item_is x i f)) ∙ g) ∙ ne)
     go true f false g z rest = sym (ap (λ (q : Bool). q || has_item items j) g) ∙ z
     go false f true g z rest = ap (λ (q : Bool). q || has_item (without i items) j) g
@@ -107,19 +102,9 @@ all_count s = length-append (items_from 1 s.commands) (aborts_from 1 s.aborts) �
 
 -- ---- what is sent is among them
 
-has_append : (xs ys : List Item) (i : Item) → has_item (xs ++ ys) i ≡ (has_item xs i || has_item ys i)
-has_append [] ys i = refl
-has_append (x ∷ xs) ys i = ap (λ (q : Bool). same_item x i || q) (has_append xs ys i) ∙ turn (same_item x i) (has_item xs i) (has_item ys i)
-  where
-    turn : (a b c : Bool) → (a || (b || c)) ≡ ((a || b) || c)
-    turn true b c = refl
-    turn false b c = refl
-
-no_def : {A T : Type 0} (c : T) → (let o : Option T = None in o) ≡ Some c → A
-no_def c e = absurd cc
-
-command_there : (commands : List CmdDef) (n i m : ℕ) (c : CmdDef) → m ≡ n + i → command_at commands (suc i) ≡ Some c → (has_item (items_from n commands) (command_item m) ≡ true) × (has_item (items_from n commands) (sense_item m) ≡ true)
-command_there [] n i m c e f = no_def c f
+command_there : (commands : List CmdDef) (n i m : ℕ) (c : CmdDef) → m ≡ n + i → command_at commands (suc i) ≡ Some c
+    → (has_item (items_from n commands) (command_item m) ≡ true) × (has_item (items_from n commands) (sense_item m) ≡ true)
+command_there [] n i m c e f = none_some c f
 command_there (d ∷ commands) n zero m c e f =
     let is : m ≡ n = e ∙ plain_sum n in (
       ap (λ (x : ℕ). has_item (items_from n (d ∷ commands)) (command_item x)) is ∙ own_has (command_item n) (sense_item n ∷ items_from (n + 1) commands),
@@ -138,7 +123,7 @@ command_there (d ∷ commands) n (suc i) m c e f =
     move x y = omega arith
 
 abort_there : (aborts : List AbortDef) (n i m : ℕ) (a : AbortDef) → m ≡ n + i → abort_line_at aborts (suc i) ≡ Some a → has_item (aborts_from n aborts) (abort m) ≡ true
-abort_there [] n i m a e f = no_def a f
+abort_there [] n i m a e f = none_some a f
 abort_there (d ∷ aborts) n zero m a e f = ap (λ (x : ℕ). has_item (aborts_from n (d ∷ aborts)) (abort x)) (e ∙ plain_sum n) ∙ own_has (abort n) (aborts_from (n + 1) aborts)
   where
     plain_sum : (x : ℕ) → x + 0 ≡ x
@@ -156,18 +141,21 @@ or_first true b e = refl
 or_first false b e = wrong' e
 
 process_there : (s : ScenarioValue) (id : ProcId) (p : Process) → process_of s id ≡ Some p → has_item (all_items s) (process id) ≡ true
-process_there s id p e = has_append (items_from 1 s.commands) (aborts_from 1 s.aborts) (process id) ∙ or_first _ (has_item (aborts_from 1 s.aborts) (process id)) (go id.command refl (command_at s.commands id.command) refl id.sense refl e)
+process_there s id p e =
+    has_append (items_from 1 s.commands) (aborts_from 1 s.aborts) (process id)
+    ∙ or_first _ (has_item (aborts_from 1 s.aborts) (process id)) (go id.command refl (command_at s.commands id.command) refl id.sense refl e)
   where
-    go : (m : ℕ) → id.command ≡ m → (o : Option CmdDef) → command_at s.commands id.command ≡ o → (q : Bool) → id.sense ≡ q → process_if s id o ≡ Some p → has_item (items_from 1 s.commands) (process id) ≡ true
-    go m em None eo q es f = no_def p f
-    go zero em (Some c) eo q es f = no_def c (sym (none_at s.commands) ∙ ap (command_at s.commands) (sym em) ∙ eo)
+    go : (m : ℕ) → id.command ≡ m → (o : Option CmdDef) → command_at s.commands id.command ≡ o → (q : Bool) → id.sense ≡ q → process_if s id o ≡ Some p
+        → has_item (items_from 1 s.commands) (process id) ≡ true
+    go m em None eo q es f = none_some p f
+    go zero em (Some c) eo q es f = none_some c (sym (none_at s.commands) ∙ ap (command_at s.commands) (sym em) ∙ eo)
     go (suc i) em (Some c) eo false es f =
         (λ t. has_item (items_from 1 s.commands) (process (record { command = id.command; sense = es t }))) ∙ (command_there s.commands 1 i id.command c (em ∙ suc_is i) (ap (command_at s.commands) (sym em) ∙ eo)).0
     go (suc i) em (Some c) eo true es f =
         (λ t. has_item (items_from 1 s.commands) (process (record { command = id.command; sense = es t }))) ∙ (command_there s.commands 1 i id.command c (em ∙ suc_is i) (ap (command_at s.commands) (sym em) ∙ eo)).1
 
 abort_there_all : (s : ScenarioValue) (m : ℕ) (a : AbortDef) → abort_line_at s.aborts m ≡ Some a → has_item (all_items s) (abort m) ≡ true
-abort_there_all s zero a e = no_def a (sym (none_line s.aborts) ∙ e)
+abort_there_all s zero a e = none_some a (sym (none_line s.aborts) ∙ e)
   where
     none_line : (aborts : List AbortDef) → abort_line_at aborts zero ≡ None
     none_line [] = refl
@@ -205,7 +193,8 @@ sent_once s (row ∷ p) o prompt = go (sent_once s p o prompt.0) (row_sends s (r
     pl : IsPlain s p k
     pl = run_state_plain s p was.stood.standing.devices
 
-    go : SentOnce s k.story.sent.sent → SentAfter k.story (row_reading k.story.bus_state row) (run_state s (row ∷ p)).story.sent.sent → SentOnce s (run_state s (row ∷ p)).story.sent.sent
+    go : SentOnce s k.story.sent.sent → SentAfter k.story (row_reading k.story.bus_state row) (run_state s (row ∷ p)).story.sent.sent
+        → SentOnce s (run_state s (row ∷ p)).story.sent.sent
     go h (as_before e) = subst (λ (x : List Item). SentOnce s x) (sym e) h
     go h (one_more n item alone next sel aim e) =
         let c = change_plain s row p was.stood.standing.devices (least_is s p row prompt.1).inside in

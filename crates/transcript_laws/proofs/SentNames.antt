@@ -10,44 +10,55 @@ use Rattle.bus_transcript.specs.Events.{name_sent}
 use Rattle.bus_base.proofs.Tests.{wrong, wrong'}
 
 -- What was sent keeps its name.
-pub name_before : (sent more : List Item) (names later : List Name) (id : ProcId) → length names ≡ length sent → has_item sent (process id) ≡ true → name_sent (sent ++ more) (names ++ later) id ≡ name_sent sent names id
+pub name_before : (sent more : List Item) (names later : List Name) (id : ProcId) → length names ≡ length sent → has_item sent (process id) ≡ true
+    → name_sent (sent ++ more) (names ++ later) id ≡ name_sent sent names id
 name_before [] more names later id count has = wrong' has
 name_before (item ∷ sent) more [] later id count has = absurd (omega (arith, count))
 name_before (item ∷ sent) more (name ∷ names) later id count has = go (same_item item (process id)) has (λ e. name_before sent more names later id (omega (arith, count)) e)
   where
-    go : (q : Bool) → (q || has_item sent (process id)) ≡ true → (has_item sent (process id) ≡ true → name_sent (sent ++ more) (names ++ later) id ≡ name_sent sent names id) → (if q then Some name else name_sent (sent ++ more) (names ++ later) id) ≡ (if q then Some name else name_sent sent names id)
+    go : (q : Bool) → (q || has_item sent (process id)) ≡ true
+        → (has_item sent (process id) ≡ true → name_sent (sent ++ more) (names ++ later) id ≡ name_sent sent names id)
+        → (if q then Some name else name_sent (sent ++ more) (names ++ later) id) ≡ (if q then Some name else name_sent sent names id)
     go true e rest = refl
     go false e rest = rest e
 
 -- What was not sent has a name among the later ones.
-pub name_later : (sent more : List Item) (names later : List Name) (id : ProcId) → length names ≡ length sent → has_item sent (process id) ≡ false → name_sent (sent ++ more) (names ++ later) id ≡ name_sent more later id
+pub name_later : (sent more : List Item) (names later : List Name) (id : ProcId) → length names ≡ length sent → has_item sent (process id) ≡ false
+    → name_sent (sent ++ more) (names ++ later) id ≡ name_sent more later id
 name_later [] more [] later id count fresh = refl
 name_later [] more (n ∷ names) later id count fresh = absurd (omega (arith, count))
 name_later (item ∷ sent) more [] later id count fresh = absurd (omega (arith, count))
 name_later (item ∷ sent) more (name ∷ names) later id count fresh = go (same_item item (process id)) fresh (λ e. name_later sent more names later id (omega (arith, count)) e)
   where
-    go : (q : Bool) → (q || has_item sent (process id)) ≡ false → (has_item sent (process id) ≡ false → name_sent (sent ++ more) (names ++ later) id ≡ name_sent more later id) → (if q then Some name else name_sent (sent ++ more) (names ++ later) id) ≡ name_sent more later id
+    go : (q : Bool) → (q || has_item sent (process id)) ≡ false
+        → (has_item sent (process id) ≡ false → name_sent (sent ++ more) (names ++ later) id ≡ name_sent more later id)
+        → (if q then Some name else name_sent (sent ++ more) (names ++ later) id) ≡ name_sent more later id
     go true e rest = wrong e
     go false e rest = rest e
 
 -- And what is sent anew has that of its connection.
-pub name_own : (sent : List Item) (names : List Name) (name : Name) (id : ProcId) → length names ≡ length sent → has_item sent (process id) ≡ false → name_sent (sent ++ process id ∷ []) (names ++ name ∷ []) id ≡ Some name
+pub name_own : (sent : List Item) (names : List Name) (name : Name) (id : ProcId) → length names ≡ length sent → has_item sent (process id) ≡ false
+    → name_sent (sent ++ process id ∷ []) (names ++ name ∷ []) id ≡ Some name
 name_own [] [] name id count fresh = ap (λ (q : Bool). if q then Some name else None) (self_id id)
 name_own [] (n ∷ names) name id count fresh = absurd (omega (arith, count))
 name_own (item ∷ sent) [] name id count fresh = absurd (omega (arith, count))
 name_own (item ∷ sent) (n ∷ names) name id count fresh = go (same_item item (process id)) fresh (λ e. name_own sent names name id (omega (arith, count)) e)
   where
-    go : (q : Bool) → (q || has_item sent (process id)) ≡ false → (has_item sent (process id) ≡ false → name_sent (sent ++ process id ∷ []) (names ++ name ∷ []) id ≡ Some name) → (if q then Some n else name_sent (sent ++ process id ∷ []) (names ++ name ∷ []) id) ≡ Some name
+    go : (q : Bool) → (q || has_item sent (process id)) ≡ false
+        → (has_item sent (process id) ≡ false → name_sent (sent ++ process id ∷ []) (names ++ name ∷ []) id ≡ Some name)
+        → (if q then Some n else name_sent (sent ++ process id ∷ []) (names ++ name ∷ []) id) ≡ Some name
     go true e rest = wrong e
     go false e rest = rest e
 
 -- What was sent has a name.
-pub name_has : (sent : List Item) (names : List Name) (id : ProcId) → length names ≡ length sent → has_item sent (process id) ≡ true → (name : Name) × (name_sent sent names id ≡ Some name)
+pub name_has : (sent : List Item) (names : List Name) (id : ProcId) → length names ≡ length sent → has_item sent (process id) ≡ true
+    → (name : Name) × (name_sent sent names id ≡ Some name)
 name_has [] names id count has = wrong' has
 name_has (item ∷ sent) [] id count has = absurd (omega (arith, count))
 name_has (item ∷ sent) (n ∷ names) id count has = go (same_item item (process id)) has (λ e. name_has sent names id (omega (arith, count)) e)
   where
-    go : (q : Bool) → (q || has_item sent (process id)) ≡ true → (has_item sent (process id) ≡ true → (name : Name) × (name_sent sent names id ≡ Some name)) → (name : Name) × ((if q then Some n else name_sent sent names id) ≡ Some name)
+    go : (q : Bool) → (q || has_item sent (process id)) ≡ true → (has_item sent (process id) ≡ true → (name : Name) × (name_sent sent names id ≡ Some name))
+        → (name : Name) × ((if q then Some n else name_sent sent names id) ≡ Some name)
     go true e rest = (n, refl)
     go false e rest = rest e
 

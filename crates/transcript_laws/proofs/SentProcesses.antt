@@ -25,6 +25,7 @@ use Rattle.trace_laws.proofs.OverItems.{none_at, reset_senses}
 use Rattle.trace_laws.proofs.PointerEnds.{reset_over}
 use Rattle.trace_laws.proofs.RowItems.{inside_sent}
 use Rattle.trace_laws.proofs.SentItems.{own_has, more_has, event_sent, events_sent, free_keeps, restored_sent}
+use Rattle.trace_laws.proofs.Impossible.{none_some}
 use Rattle.transcript_laws.specs.RowTests.{is_open_process, ends_all}
 use Rattle.bus_base.proofs.Tests.{wrong', and_false}
 
@@ -33,17 +34,20 @@ use Rattle.bus_base.proofs.Tests.{wrong', and_false}
 -- Nothing, or the item of the initiator that begins a connection.
 pub data SentAfter (b : Story) (d : RowReading) (sent : List Item) : Type 0 where
   as_before : sent ≡ b.sent.sent → SentAfter b d sent
-  one_more : (n : Connection) (item : Item) → b.bus_state.connection ≡ None → d.next ≡ Some n → n.reselected ≡ false → aim_of b.aims n.initiator ≡ Some item → sent ≡ item ∷ b.sent.sent → SentAfter b d sent
+  one_more : (n : Connection) (item : Item) → b.bus_state.connection ≡ None → d.next ≡ Some n → n.reselected ≡ false → aim_of b.aims n.initiator ≡ Some item
+      → sent ≡ item ∷ b.sent.sent → SentAfter b d sent
 
 begun_sent : (b : Story) (d : RowReading) (n : Connection) → b.bus_state.connection ≡ None → d.next ≡ Some n → SentAfter b d (story_after_connection b n).sent.sent
 begun_sent b d n alone next = go n.reselected refl (aim_of b.aims n.initiator) refl
   where
-    go : (q : Bool) → n.reselected ≡ q → (o : Option Item) → aim_of b.aims n.initiator ≡ o → SentAfter b d (if q then record b { link = Some (link_of n None) } else story_with_restored (story_with_sent (record b { link = Some (link_of n o) }) o) o).sent.sent
+    go : (q : Bool) → n.reselected ≡ q → (o : Option Item) → aim_of b.aims n.initiator ≡ o
+        → SentAfter b d (if q then record b { link = Some (link_of n None) } else story_with_restored (story_with_sent (record b { link = Some (link_of n o) }) o) o).sent.sent
     go true r o e = as_before refl
     go false r None e = as_before refl
     go false r (Some item) e = one_more n item alone next r e (restored_sent (story_with_sent (record b { link = Some (link_of n (Some item)) }) (Some item)) (Some item))
 
-bus_sent : (s : ScenarioValue) (b : Story) (m n : Option Connection) (d : RowReading) (row : Row) → b.bus_state.connection ≡ m → d.next ≡ n → SentAfter b d (story_on_bus s b m n d row).sent.sent
+bus_sent : (s : ScenarioValue) (b : Story) (m n : Option Connection) (d : RowReading) (row : Row) → b.bus_state.connection ≡ m → d.next ≡ n
+    → SentAfter b d (story_on_bus s b m n d row).sent.sent
 bus_sent s b None None d row em en = as_before (free_keeps s b d row).2
 bus_sent s b None (Some n) d row em en = begun_sent b d n em en
 bus_sent s b (Some m) None d row em en = as_before refl
@@ -74,7 +78,8 @@ pub sent_known : (s : ScenarioValue) (p : List Row) (id : ProcId) → has_item (
 sent_known s [] id h = wrong' h
 sent_known s (row ∷ p) id h = go (row_sends s (run_state s p) row) (λ z. sent_known s p id z)
   where
-    go : SentAfter (run_state s p).story (row_reading (run_state s p).story.bus_state row) (run_state s (row ∷ p)).story.sent.sent → (has_item (run_state s p).story.sent.sent (process id) ≡ true → is_some (process_of s id) ≡ true) → is_some (process_of s id) ≡ true
+    go : SentAfter (run_state s p).story (row_reading (run_state s p).story.bus_state row) (run_state s (row ∷ p)).story.sent.sent
+        → (has_item (run_state s p).story.sent.sent (process id) ≡ true → is_some (process_of s id) ≡ true) → is_some (process_of s id) ≡ true
     go (as_before e) before = before (ap (λ (x : List Item). has_item x (process id)) (sym e) ∙ h)
     go (one_more n item alone next sel aim e) before = at (same_item item (process id)) refl (ap (λ (x : List Item). has_item x (process id)) (sym e) ∙ h)
       where
@@ -88,21 +93,23 @@ pub none_any : (t : Item → Bool) (items : List Item) → ((i : Item) → has_i
 none_any t [] h = refl
 none_any t (i ∷ items) h = λ j. h i (own_has i items) j || none_any t items (λ x e. h x (more_has i x items e)) j
 
-no_def : {A : Type 0} (c : CmdDef) → (let o : Option CmdDef = None in o) ≡ Some c → A
-no_def c e = absurd cc
-
-command_ended : (s : ScenarioValue) (b : Story) (n : ℕ) → is_some (process_of s (record { command = n; sense = false })) ≡ true → has_item b.sent.sent (process (record { command = n; sense = false })) ≡ true → has_item (story_after_event s b (events.Reset 0)).sent.over (process (record { command = n; sense = false })) ≡ true
+command_ended : (s : ScenarioValue) (b : Story) (n : ℕ) → is_some (process_of s (record { command = n; sense = false })) ≡ true
+    → has_item b.sent.sent (process (record { command = n; sense = false })) ≡ true
+    → has_item (story_after_event s b (events.Reset 0)).sent.over (process (record { command = n; sense = false })) ≡ true
 command_ended s b n known sent = go n (command_at s.commands n) refl known sent
   where
     first : (x : ℕ) → suc x ≡ 1 + x
     first x = omega arith
 
-    go : (m : ℕ) (o : Option CmdDef) → command_at s.commands m ≡ o → is_some (process_if s (record { command = m; sense = false }) o) ≡ true → has_item b.sent.sent (process (record { command = m; sense = false })) ≡ true → has_item (story_after_event s b (events.Reset 0)).sent.over (process (record { command = m; sense = false })) ≡ true
+    go : (m : ℕ) (o : Option CmdDef) → command_at s.commands m ≡ o → is_some (process_if s (record { command = m; sense = false }) o) ≡ true
+        → has_item b.sent.sent (process (record { command = m; sense = false })) ≡ true
+        → has_item (story_after_event s b (events.Reset 0)).sent.over (process (record { command = m; sense = false })) ≡ true
     go m None e f g = wrong' f
-    go zero (Some c) e f g = no_def c (sym (none_at s.commands) ∙ e)
+    go zero (Some c) e f g = none_some c (sym (none_at s.commands) ∙ e)
     go (suc i) (Some c) e f g = reset_over s.commands 1 i (suc i) c b (first i) e g
 
-pub reset_ends : (s : ScenarioValue) (b : Story) → AreChecked b.sent → ((n : ℕ) → has_item b.sent.sent (sense_item n) ≡ true → IsChecked s b.sent n) → ((id : ProcId) → has_item b.sent.sent (process id) ≡ true → is_some (process_of s id) ≡ true) → ends_all s b ≡ true
+pub reset_ends : (s : ScenarioValue) (b : Story) → AreChecked b.sent → ((n : ℕ) → has_item b.sent.sent (sense_item n) ≡ true → IsChecked s b.sent n)
+    → ((id : ProcId) → has_item b.sent.sent (process id) ≡ true → is_some (process_of s id) ≡ true) → ends_all s b ≡ true
 reset_ends s b checked checks known = ap not (none_any (λ item. is_open_process after item) after.sent closed)
   where
     after : Sent

@@ -32,9 +32,6 @@ use Rattle.transcript_laws.proofs.BaseParts.{base_more, base_in, base_said, base
 use Rattle.transcript_laws.proofs.ShownParts.{part_more, talk_more}
 use Rattle.bus_base.proofs.Tests.{wrong, or_false}
 
-none_some : {A : Type 0} (x : Incoming) → (let a : Option Incoming = None in a) ≡ Some x → A
-none_some x e = absurd cc
-
 -- ---- lists
 
 pub filled : {A T : Type 0} (xs : List T) (x : T) → (xs ++ x ∷ []) ≡ [] → A
@@ -67,7 +64,7 @@ of_block a c h = record {
 
 -- ---- the account by its parts
 
-abbrev account_by : Process → List Part → AccountValue
+abbrev pub account_by : Process → List Part → AccountValue
 account_by p parts = account_after_all (account_of p []) parts
 
 account_one : (k l : OpenedValue) (p : Process) (part : Part) → base_parts l ≡ base_parts k ++ part ∷ [] → account_base l p ≡ account_after (account_base k p) part
@@ -85,7 +82,9 @@ conn_more name event conn =
 
 -- ---- messages to the target
 
-pub said_serves : (k : OpenedValue) (q : Bool) (id : ProcId) (now back : CarriedBytes) (conn history : List Event) (was : Bool) (before : Option ℕ) (said : List MsgOut) → is_void said ≡ is_void k.said → IsServing k q id now back conn history was before → IsServing (record k { said = said }) q id now back conn history was before
+pub said_serves : (k : OpenedValue) (q : Bool) (id : ProcId) (now back : CarriedBytes) (conn history : List Event) (was : Bool) (before : Option ℕ) (said : List MsgOut)
+    → is_void said ≡ is_void k.said → IsServing k q id now back conn history was before
+    → IsServing (record k { said = said }) q id now back conn history was before
 said_serves k q id now back conn history was before said e h = record {
   account = λ p b. subst (λ (parts : List Part). IsAccountOf (with_block (account_by p parts) (if q then k.bytes else []) (q && k.struck)) now) (sym (base_said k said e)) (h.account p b);
   void = h.void;
@@ -99,7 +98,9 @@ held_talk false (Some (Whole m)) = refl
 held_talk false (Some Broken) = refl
 
 -- MESSAGE PARITY ERROR.
-pub void_serves : (k : OpenedValue) (id : ProcId) (now back : CarriedBytes) (conn history : List Event) (was : Bool) (before : Option ℕ) (said : List MsgOut) (m : Incoming) → is_void said ≡ true → k.held ≡ Some m → k.since ≡ [] → k.bytes ≡ [] → IsServing k false id now back conn history was before → IsServing (record k { said = said }) false id back back conn history was before
+pub void_serves : (k : OpenedValue) (id : ProcId) (now back : CarriedBytes) (conn history : List Event) (was : Bool) (before : Option ℕ) (said : List MsgOut) (m : Incoming)
+    → is_void said ≡ true → k.held ≡ Some m → k.since ≡ [] → k.bytes ≡ [] → IsServing k false id now back conn history was before
+    → IsServing (record k { said = said }) false id back back conn history was before
 void_serves k id now back conn history was before said m e held none empty h = record {
   account = λ p b. no_block _ back (subst (λ (parts : List Part). IsAccountOf (account_by p parts) back) (sym (base_void k said e none)) (h.void m p held none empty b));
   void = h.void;
@@ -125,7 +126,9 @@ broken_account k p e none =
     go false (Some (Whole m)) f = wrong (sym f)
     go false (Some Broken) f = refl
 
-pub broken_serves : (k : OpenedValue) (id : ProcId) (now back : CarriedBytes) (conn history : List Event) (was : Bool) (before : Option ℕ) (said : List MsgOut) → is_void said ≡ true → is_broken k.held ≡ true → k.since ≡ [] → IsServing k false id now back conn history was before → IsServing (record k { said = said }) false id now back conn history was before
+pub broken_serves : (k : OpenedValue) (id : ProcId) (now back : CarriedBytes) (conn history : List Event) (was : Bool) (before : Option ℕ) (said : List MsgOut)
+    → is_void said ≡ true → is_broken k.held ≡ true → k.since ≡ [] → IsServing k false id now back conn history was before
+    → IsServing (record k { said = said }) false id now back conn history was before
 broken_serves k id now back conn history was before said e broken none h = record {
   account = λ p b. subst (λ (a : AccountValue). IsAccountOf (with_block a [] false) now) (broken_account k p broken none ∙ sym (ap (λ (parts : List Part). account_by p parts) (base_void k said e none))) (h.account p b);
   void = h.void;
@@ -135,7 +138,8 @@ broken_serves k id now back conn history was before said e broken none h = recor
 
 -- ---- messages to the initiator
 
-pub in_serves : (k : OpenedValue) (id : ProcId) (now back : CarriedBytes) (conn history : List Event) (was : Bool) (before : Option ℕ) (m : MsgIn) → k.said ≡ [] → IsServing k false id now back conn history was before → IsServing (with_in k (Whole m)) false id (carried_after_message now m) now conn history was before
+pub in_serves : (k : OpenedValue) (id : ProcId) (now back : CarriedBytes) (conn history : List Event) (was : Bool) (before : Option ℕ) (m : MsgIn) → k.said ≡ []
+    → IsServing k false id now back conn history was before → IsServing (with_in k (Whole m)) false id (carried_after_message now m) now conn history was before
 in_serves k id now back conn history was before m e h = record {
   account = λ p b. no_block _ (carried_after_message now m) (subst (λ (a : AccountValue). IsAccountOf a (carried_after_message now m)) (sym (account_one k (with_in k (Whole m)) p (parts_of.In m) (base_in k (Whole m) e))) (in_step (account_base k p) m now (of_block (account_base k p) now (h.account p b))));
   void = λ x p held none empty b. subst (λ (parts : List Part). IsAccountOf (account_by p parts) now) (base_held k e) (of_block (account_base k p) now (h.account p b));
@@ -148,7 +152,9 @@ in_serves k id now back conn history was before m e h = record {
 
 -- ---- bytes
 
-pub command_serves : (k : OpenedValue) (id : ProcId) (now back : CarriedBytes) (conn history : List Event) (was : Bool) (before : Option ℕ) (byte : ℕ) (area : Area) → IsServing k true id now back conn history was before → IsServing (record k { bytes = k.bytes ++ byte ∷ [] }) true id (record now { command = area; block = now.block ++ byte ∷ [] }) back conn history was before
+pub command_serves : (k : OpenedValue) (id : ProcId) (now back : CarriedBytes) (conn history : List Event) (was : Bool) (before : Option ℕ) (byte : ℕ) (area : Area)
+    → IsServing k true id now back conn history was before
+    → IsServing (record k { bytes = k.bytes ++ byte ∷ [] }) true id (record now { command = area; block = now.block ++ byte ∷ [] }) back conn history was before
 command_serves k id now back conn history was before byte area h = record {
   account = λ p b.
       let g = h.account p b in
@@ -165,14 +171,18 @@ command_serves k id now back conn history was before byte area h = record {
   told = h.told;
 }
 
-pub data_serves : (k : OpenedValue) (id : ProcId) (now back : CarriedBytes) (conn history : List Event) (was : Bool) (before : Option ℕ) (byte : ℕ) (area : Area) → IsServing k false id now back conn history was before → IsServing (record k { bytes = k.bytes ++ byte ∷ [] }) false id (record now { moved = area }) back conn history was before
+pub data_serves : (k : OpenedValue) (id : ProcId) (now back : CarriedBytes) (conn history : List Event) (was : Bool) (before : Option ℕ) (byte : ℕ) (area : Area)
+    → IsServing k false id now back conn history was before
+    → IsServing (record k { bytes = k.bytes ++ byte ∷ [] }) false id (record now { moved = area }) back conn history was before
 data_serves k id now back conn history was before byte area h = record {
   account = λ p b. let g = h.account p b in record { block = g.block; struck = g.struck; first = g.first; saved = g.saved; status = g.status; begun = g.begun; shown = g.shown };
   void = λ m p held none empty b. filled k.bytes byte empty;
   told = h.told;
 }
 
-pub status_serves : (k : OpenedValue) (id : ProcId) (now back : CarriedBytes) (conn history : List Event) (was : Bool) (before : Option ℕ) (byte : ℕ) → IsServing k false id now back conn history was before → IsServing (with_part k (parts_of.Status byte)) false id (record now { status = area_with now.status byte }) back conn history was before
+pub status_serves : (k : OpenedValue) (id : ProcId) (now back : CarriedBytes) (conn history : List Event) (was : Bool) (before : Option ℕ) (byte : ℕ)
+    → IsServing k false id now back conn history was before
+    → IsServing (with_part k (parts_of.Status byte)) false id (record now { status = area_with now.status byte }) back conn history was before
 status_serves k id now back conn history was before byte h = record {
   account = λ p b. no_block _ (record now { status = area_with now.status byte }) (subst (λ (a : AccountValue). IsAccountOf a (record now { status = area_with now.status byte })) (sym (account_one k (with_part k (parts_of.Status byte)) p (parts_of.Status byte) (base_more k (parts_of.Status byte)))) (status_step (account_base k p) now byte (of_block (account_base k p) now (h.account p b))));
   void = λ m p held none empty b. filled k.since (parts_of.Status byte) none;
@@ -191,7 +201,9 @@ or_true false true = refl
 or_true false false = refl
 
 -- It strikes a byte of COMMAND, or another.
-pub struck_serves : (k : OpenedValue) (id : ProcId) (now back : CarriedBytes) (conn history : List Event) (was : Bool) (before failure : Option ℕ) → IsServing k true id now back conn history was before → IsServing (record k { struck = k.struck || true }) true id (record now { struck = true; failure = failure }) back conn history was before
+pub struck_serves : (k : OpenedValue) (id : ProcId) (now back : CarriedBytes) (conn history : List Event) (was : Bool) (before failure : Option ℕ)
+    → IsServing k true id now back conn history was before
+    → IsServing (record k { struck = k.struck || true }) true id (record now { struck = true; failure = failure }) back conn history was before
 struck_serves k id now back conn history was before failure h = record {
   account = λ p b.
       let g = h.account p b in
@@ -208,7 +220,9 @@ struck_serves k id now back conn history was before failure h = record {
   told = h.told;
 }
 
-pub fault_serves : (k : OpenedValue) (id : ProcId) (now back : CarriedBytes) (conn history : List Event) (was : Bool) (before failure : Option ℕ) (strikes : Bool) → IsServing k false id now back conn history was before → IsServing (record k { struck = k.struck || strikes }) false id (record now { failure = failure }) back conn history was before
+pub fault_serves : (k : OpenedValue) (id : ProcId) (now back : CarriedBytes) (conn history : List Event) (was : Bool) (before failure : Option ℕ) (strikes : Bool)
+    → IsServing k false id now back conn history was before
+    → IsServing (record k { struck = k.struck || strikes }) false id (record now { failure = failure }) back conn history was before
 fault_serves k id now back conn history was before failure strikes h = record {
   account = λ p b. let g = h.account p b in record { block = g.block; struck = g.struck; first = g.first; saved = g.saved; status = g.status; begun = g.begun; shown = g.shown };
   void = h.void;
@@ -221,7 +235,9 @@ ended_status : (bytes : List ℕ) → is_nil bytes ≡ false → first_byte byte
 ended_status [] e = wrong e
 ended_status (b ∷ bytes) e = refl
 
-pub end_serves : (k : OpenedValue) (id : ProcId) (now back : CarriedBytes) (conn history : List Event) (was : Bool) (before : Option ℕ) → is_nil now.status.bytes ≡ false → IsServing k false id now back conn history was before → IsServing (with_part k parts_of.Completion) false id now back (events.End id (slice_index now.status.bytes 0) ∷ conn) (events.End id (slice_index now.status.bytes 0) ∷ history) was before
+pub end_serves : (k : OpenedValue) (id : ProcId) (now back : CarriedBytes) (conn history : List Event) (was : Bool) (before : Option ℕ)
+    → is_nil now.status.bytes ≡ false → IsServing k false id now back conn history was before
+    → IsServing (with_part k parts_of.Completion) false id now back (events.End id (slice_index now.status.bytes 0) ∷ conn) (events.End id (slice_index now.status.bytes 0) ∷ history) was before
 end_serves k id now back conn history was before some h = record {
   account = λ p b. no_block _ now (subst (λ (a : AccountValue). IsAccountOf a now) (sym (one p)) (same_account (account_base k p) (account_after (account_base k p) parts_of.Completion) now (completion_step (account_base k p)) (plain p b)));
   void = λ m p held none empty b. filled k.since parts_of.Completion none;

@@ -51,7 +51,8 @@ more_on refused a b c xs h g = record {
 more_same : (refused : List Name) (a b : AccountValue) (xs ys : List Item) → xs ≡ ys → ShowsMore refused a b xs → ShowsMore refused a b ys
 more_same refused a b xs ys same h = record { shown = h.shown ∙ ap (λ (zs : List Item). shown_items refused a.items ++ zs) same; names = h.names }
 
-more_if : (refused : List Name) (q : Bool) (a b c : AccountValue) (xs ys : List Item) → ShowsMore refused a b xs → ShowsMore refused a c ys → ShowsMore refused a (if q then b else c) (if q then xs else ys)
+more_if : (refused : List Name) (q : Bool) (a b c : AccountValue) (xs ys : List Item) → ShowsMore refused a b xs → ShowsMore refused a c ys
+    → ShowsMore refused a (if q then b else c) (if q then xs else ys)
 more_if refused true a b c xs ys h g = h
 more_if refused false a b c xs ys h g = g
 
@@ -114,7 +115,9 @@ pub talk_more : (refused : List Name) (a : AccountValue) (parts : List Part) →
 talk_more refused a [] e = none_more refused a a refl
 talk_more refused a (part ∷ parts) e = go (is_talk part) refl e (λ z. talk_more refused (account_after a part) parts z)
   where
-    go : (q : Bool) → is_talk part ≡ q → (q && are_talk parts) ≡ true → (are_talk parts ≡ true → ShowsMore refused (account_after a part) (account_after_all (account_after a part) parts) []) → ShowsMore refused a (account_after_all (account_after a part) parts) []
+    go : (q : Bool) → is_talk part ≡ q → (q && are_talk parts) ≡ true
+        → (are_talk parts ≡ true → ShowsMore refused (account_after a part) (account_after_all (account_after a part) parts) [])
+        → ShowsMore refused a (account_after_all (account_after a part) parts) []
     go false f z rest = wrong' z
     go true f z rest =
         more_on refused a (account_after a part) (account_after_all (account_after a part) parts) []

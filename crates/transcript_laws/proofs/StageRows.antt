@@ -18,10 +18,12 @@ use Rattle.transcript_laws.specs.Standing.{no_process, AreAlike, Stage, of_abort
 use Rattle.transcript_laws.proofs.LinkedRows.{Keeps}
 use Rattle.transcript_laws.proofs.OpenProcesses.{alike_on, kept_on, from_on}
 
-pub known_on : (t t' : TranscriberValue) (b b' : Story) (k k' : OpenedValue) (l l' : Link) → Keeps t t' b b' k k' l l' → base_parts k' ≡ base_parts k → is_known k' b'.bus_state.bus ≡ is_known k b.bus_state.bus
+pub known_on : (t t' : TranscriberValue) (b b' : Story) (k k' : OpenedValue) (l l' : Link) → Keeps t t' b b' k k' l l' → base_parts k' ≡ base_parts k
+    → is_known k' b'.bus_state.bus ≡ is_known k b.bus_state.bus
 known_on t t' b b' k k' l l' e base = λ i. not (e.connection i).reselected || not (are_talk (base i)) || e.command i
 
-pub stage_on : (s : ScenarioValue) (t t' : TranscriberValue) (b b' : Story) (k k' : OpenedValue) (l l' : Link) (sent : List Item) (conn : List Event) → Keeps t t' b b' k k' l l' → base_parts k' ≡ base_parts k → ((x : ProcId) → AreAlike (carried_of b.carried x) (carried_of b'.carried x))
+pub stage_on : (s : ScenarioValue) (t t' : TranscriberValue) (b b' : Story) (k k' : OpenedValue) (l l' : Link) (sent : List Item) (conn : List Event)
+    → Keeps t t' b b' k k' l l' → base_parts k' ≡ base_parts k → ((x : ProcId) → AreAlike (carried_of b.carried x) (carried_of b'.carried x))
     → ((x : ProcId) → is_command b.bus_state.bus ≡ false → is_status_phase b.bus_state.bus ≡ false → IsBlank (carried_of b.carried x) → IsBlank (carried_of b'.carried x))
     → ((id : ProcId) (back : CarriedBytes) (was : Bool) (st : Option ℕ) → l.item ≡ Some (process id) → IsServing k (is_command b.bus_state.bus) id (carried_of b.carried id) back conn b.history was st → IsServing k' (is_command b.bus_state.bus) id (carried_of b'.carried id) back conn b'.history was st)
     → Stage s t b k l sent conn → Stage s t' b' k' l' sent conn

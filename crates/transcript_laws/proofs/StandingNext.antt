@@ -58,7 +58,10 @@ alone_is s b id h = λ x d e opens but is_d is_e.
     let fails = unlisted (λ item. shares_nexus s b.sent (array_of.process_of s id) item) b.sent.sent x h (and_first (has_item b.sent.sent (process x)) (not (has_item b.sent.over (process x))) opens) in
     sym (λ i. opens i && is_of (nexus_of d) (is_e i)) ∙ sym (ap (λ (o : Option array_of.Process). shares_nexus s b.sent o (process x)) is_d) ∙ fails
 
-begins_next : (s : ScenarioValue) (rows : List Row) (row : Row) (n : Connection) → Standing s rows → StandsApart s (transcribed rows) (story s rows) → (row_reading (story s rows).bus_state row).change.after.rst ≡ false → (story s rows).bus_state.connection ≡ None → (row_reading (story s rows).bus_state row).next ≡ Some n → fits_first s (story s rows) (Some n) (row_reading (story s rows).bus_state row).change ≡ true → Standing s (row ∷ rows)
+begins_next : (s : ScenarioValue) (rows : List Row) (row : Row) (n : Connection) → Standing s rows → StandsApart s (transcribed rows) (story s rows)
+    → (row_reading (story s rows).bus_state row).change.after.rst ≡ false → (story s rows).bus_state.connection ≡ None
+    → (row_reading (story s rows).bus_state row).next ≡ Some n → fits_first s (story s rows) (Some n) (row_reading (story s rows).bus_state row).change ≡ true
+    → Standing s (row ∷ rows)
 begins_next s rows row n h x off con next fits = by_kind n.reselected refl
   where
     b : Story
@@ -82,7 +85,8 @@ begins_next s rows row n h x off con next fits = by_kind n.reselected refl
       no_status = not-true (is_status_phase c.after) (and_second ((n.reselected || (is_fresh b item && is_alone s b item)) && not (is_command c.after)) (not (is_status_phase c.after)) fits);
     }
 
-    by_item : (o : Option Item) → aim_of (story s rows).aims n.initiator ≡ o → n.reselected ≡ false → (is_fresh (story s rows) o && is_alone s (story s rows) o) ≡ true → Standing s (row ∷ rows)
+    by_item : (o : Option Item) → aim_of (story s rows).aims n.initiator ≡ o → n.reselected ≡ false
+        → (is_fresh (story s rows) o && is_alone s (story s rows) o) ≡ true → Standing s (row ∷ rows)
     by_item None e began f = wrong' f
     by_item (Some (process id)) e began f =
         let fresh = and_first (not (has_item b.sent.sent (process id)) && is_none (carried_at b.carried id)) (is_alone s b (Some (process id))) f in
@@ -97,7 +101,8 @@ begins_next s rows row n h x off con next fits = by_kind n.reselected refl
 
 -- ---- a connection goes on
 
-goes_next : (s : ScenarioValue) (rows : List Row) (row : Row) → Standing s rows → (k : StandsLinked s (transcribed rows) (story s rows)) → IsOn s rows row k.opened.connection → fits_on s (story s rows) k.opened k.link (row_reading (story s rows).bus_state row) ≡ true → Standing s (row ∷ rows)
+goes_next : (s : ScenarioValue) (rows : List Row) (row : Row) → Standing s rows → (k : StandsLinked s (transcribed rows) (story s rows))
+    → IsOn s rows row k.opened.connection → fits_on s (story s rows) k.opened k.link (row_reading (story s rows).bus_state row) ≡ true → Standing s (row ∷ rows)
 goes_next s rows row h k on fits = by_crosses (row_reading (story s rows).bus_state row).crosses (changes_phase (row_reading (story s rows).bus_state row).change) refl refl fits
   where
     b : Story
@@ -139,7 +144,9 @@ same_connection w row m n con next = go (change_by w row).after.bsy (sym (λ i. 
     go true e = sym (same_Some m n e)
     go false e = none_some n e
 
-standing_next : (s : ScenarioValue) (rows : List Row) (row : Row) → fits_row s (transcribed rows) (story s rows) row ≡ true → are_named s (transcribed rows).opened (story s rows).link ≡ true → length (names_begun (transcribed rows).items) < 4294967290 → Standing s rows → Standing s (row ∷ rows)
+standing_next : (s : ScenarioValue) (rows : List Row) (row : Row) → fits_row s (transcribed rows) (story s rows) row ≡ true
+    → are_named s (transcribed rows).opened (story s rows).link ≡ true → length (names_begun (transcribed rows).items) < 4294967290 → Standing s rows
+    → Standing s (row ∷ rows)
 standing_next s rows row fits named less h = by_rst (row_reading (story s rows).bus_state row).change.after.rst refl h.stands
   where
     t : TranscriberValue
@@ -151,18 +158,25 @@ standing_next s rows row fits named less h = by_rst (row_reading (story s rows).
     d : RowReading
     d = row_reading (story s rows).bus_state row
 
-    resets : (row_reading (story s rows).bus_state row).change.after.rst ≡ true → (is_none (transcribed rows).opened || (rises (row_reading (story s rows).bus_state row).change.own.rst (row_reading (story s rows).bus_state row).change.next.rst && ends_all s (story s rows))) ≡ true
-    resets e = sym (ap (λ (q : Bool). if q then is_none t.opened || (rises d.change.own.rst d.change.next.rst && ends_all s b) else fits_bus s t b b.bus_state.connection d) e) ∙ fits
+    resets : (row_reading (story s rows).bus_state row).change.after.rst ≡ true
+        → (is_none (transcribed rows).opened || (rises (row_reading (story s rows).bus_state row).change.own.rst (row_reading (story s rows).bus_state row).change.next.rst && ends_all s (story s rows))) ≡ true
+    resets e =
+        sym (ap (λ (q : Bool). if q then is_none t.opened || (rises d.change.own.rst d.change.next.rst && ends_all s b) else fits_bus s t b b.bus_state.connection d) e) ∙ fits
 
-    stays : (row_reading (story s rows).bus_state row).change.after.rst ≡ false → fits_bus s (transcribed rows) (story s rows) (story s rows).bus_state.connection (row_reading (story s rows).bus_state row) ≡ true
-    stays e = sym (ap (λ (q : Bool). if q then is_none t.opened || (rises d.change.own.rst d.change.next.rst && ends_all s b) else fits_bus s t b b.bus_state.connection d) e) ∙ fits
+    stays : (row_reading (story s rows).bus_state row).change.after.rst ≡ false
+        → fits_bus s (transcribed rows) (story s rows) (story s rows).bus_state.connection (row_reading (story s rows).bus_state row) ≡ true
+    stays e =
+        sym (ap (λ (q : Bool). if q then is_none t.opened || (rises d.change.own.rst d.change.next.rst && ends_all s b) else fits_bus s t b b.bus_state.connection d) e) ∙ fits
 
-    by_apart : StandsApart s (transcribed rows) (story s rows) → (row_reading (story s rows).bus_state row).change.after.rst ≡ false → (m n : Option Connection) → (story s rows).bus_state.connection ≡ m → (row_reading (story s rows).bus_state row).next ≡ n → fits_bus s (transcribed rows) (story s rows) m (row_reading (story s rows).bus_state row) ≡ true → Standing s (row ∷ rows)
+    by_apart : StandsApart s (transcribed rows) (story s rows) → (row_reading (story s rows).bus_state row).change.after.rst ≡ false → (m n : Option Connection)
+        → (story s rows).bus_state.connection ≡ m → (row_reading (story s rows).bus_state row).next ≡ n
+        → fits_bus s (transcribed rows) (story s rows) m (row_reading (story s rows).bus_state row) ≡ true → Standing s (row ∷ rows)
     by_apart x off (Some m) n con next f = lingers_next s rows row m (record { numbered = h.numbered; marked = h.marked; stands = x }) off con
     by_apart x off None None con next f = free_next s rows row off con next h.numbered h.marked x
     by_apart x off None (Some n) con next f = begins_next s rows row n h x off con next (sym (ap (λ (o : Option Connection). fits_first s b o d.change) next) ∙ f)
 
-    by_linked : (k : StandsLinked s (transcribed rows) (story s rows)) → (row_reading (story s rows).bus_state row).change.after.rst ≡ false → (n : Option Connection) → (row_reading (story s rows).bus_state row).next ≡ n → Standing s (row ∷ rows)
+    by_linked : (k : StandsLinked s (transcribed rows) (story s rows)) → (row_reading (story s rows).bus_state row).change.after.rst ≡ false
+        → (n : Option Connection) → (row_reading (story s rows).bus_state row).next ≡ n → Standing s (row ∷ rows)
     by_linked k off n next = go n next
       where
         here : fits_linked s (story s rows) (Some k.opened) (Some k.link) (row_reading (story s rows).bus_state row) (is_some (row_reading (story s rows).bus_state row).next) ≡ true
@@ -201,7 +215,8 @@ standing_next s rows row fits named less h = by_rst (row_reading (story s rows).
 
 pub named_now : (s : ScenarioValue) (rows : List Row) → fit s rows ≡ true → are_named s (transcribed rows).opened (story s rows).link ≡ true
 named_now s [] e = refl
-named_now s (row ∷ rows) e = and_second (fit s rows && fits_row s (transcribed rows) (story s rows) row) (are_named s (transcribed (row ∷ rows)).opened (story s (row ∷ rows)).link) e
+named_now s (row ∷ rows) e =
+    and_second (fit s rows && fits_row s (transcribed rows) (story s rows) row) (are_named s (transcribed (row ∷ rows)).opened (story s (row ∷ rows)).link) e
 
 pub standing : (s : ScenarioValue) (rows : List Row) → fit s rows ≡ true → length (names_begun (transcribed rows).items) < 4294967290 → Standing s rows
 standing s [] e less = standing_first s
@@ -213,10 +228,14 @@ standing s (row ∷ rows) e less =
     standing_next s rows row (and_second (fit s rows) (fits_row s (transcribed rows) (story s rows) row) before) (named_now s rows old) fewer (standing s rows old fewer)
 
 -- A process that was refused and one that has shown its status are not the same, and so have not the same name.
-names_apart : (s : ScenarioValue) (rows : List Row) → Standing s rows → IsPast (transcript_of rows) (sent_order (story s rows)) (story s rows).history → length (names_begun (transcribed rows).items) < 4294967290 → AreApart (sent_order (story s rows)) (names_begun (transcript_of rows)) (story s rows).history
+names_apart : (s : ScenarioValue) (rows : List Row) → Standing s rows → IsPast (transcript_of rows) (sent_order (story s rows)) (story s rows).history
+    → length (names_begun (transcribed rows).items) < 4294967290
+    → AreApart (sent_order (story s rows)) (names_begun (transcript_of rows)) (story s rows).history
 names_apart s rows h past less = λ x y a b refusal answer named_x named_y. go x y a b refusal answer named_x named_y (same_id x y) refl
   where
-    go : (x y : ProcId) (a b : Name) → has_refusal (story s rows).history x ≡ true → has_answer (story s rows).history y ≡ true → name_sent (sent_order (story s rows)) (names_begun (transcript_of rows)) x ≡ Some a → name_sent (sent_order (story s rows)) (names_begun (transcript_of rows)) y ≡ Some b → (q : Bool) → same_id x y ≡ q → same_name a b ≡ false
+    go : (x y : ProcId) (a b : Name) → has_refusal (story s rows).history x ≡ true → has_answer (story s rows).history y ≡ true
+        → name_sent (sent_order (story s rows)) (names_begun (transcript_of rows)) x ≡ Some a
+        → name_sent (sent_order (story s rows)) (names_begun (transcript_of rows)) y ≡ Some b → (q : Bool) → same_id x y ≡ q → same_name a b ≡ false
     go x y a b refusal answer named_x named_y true e =
         let m = h.marked x in
         let id = carried_id (story s rows).carried x in

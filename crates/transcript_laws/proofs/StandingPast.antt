@@ -1,7 +1,6 @@
 -- What stands of any rows makes their whole transcript: all connections show their events, and so does the one that stands.
-use Rattle.std.proofs.Common.{ℕ, ◌≡◌, ◌∙◌, ◌≤◌, ◌==◌, Bool, true, false, ◌||◌, List, [], ◌∷◌, ◌++◌, Option, Some, None, refl, sym, ap, subst, arith}
+use Rattle.std.proofs.Common.{ℕ, ◌≡◌, ◌∙◌, ◌==◌, Bool, true, false, ◌||◌, List, [], ◌∷◌, ◌++◌, Option, Some, None, refl, sym, ap, subst, arith}
 use Rattle.std.specs.Prelude.{◌&&◌, is_none, is_some, if◌then◌else◌}
-use Rattle.std.proofs.lemmas.Bool.Decides.{nat_tests}
 use Rattle.std.proofs.lemmas.Option.{same_Some}
 use Rattle.bus_base.specs.declared.Event.{Event}
 use Rattle.bus_base.specs.declared.ProcId.{ProcId}
@@ -16,6 +15,7 @@ use Rattle.bus_story.specs.Items.{Item, process, abort, same_item, has_item}
 use Rattle.bus_story.specs.Story.{Story}
 use Rattle.bus_story.specs.TraceHistory.{story}
 use Rattle.trace_laws.proofs.Impossible.{none_some}
+use Rattle.trace_laws.proofs.WritePremises.{some_there}
 use Rattle.bus_transcript.specs.declared.item.Item as item_of
 use Rattle.bus_transcript.specs.declared.item.Name.{Name}
 use Rattle.bus_transcript.specs.declared.part.Part.{Part}
@@ -42,25 +42,21 @@ use Rattle.transcript_laws.proofs.TalkServes.{talk_first}
 use Rattle.transcript_laws.proofs.ShownParts.{talk_more}
 use Rattle.bus_base.proofs.Tests.{wrong, wrong', and_first, and_second, or_second}
 
-abort_process : {A : Type 0} (j : ℕ) (id : ProcId) → abort j ≡ process id → A
-abort_process j id e = absurd cc
-
-none_of : {A : Type 0} (name : Name) → is_of name None ≡ true → A
-none_of name e = wrong' e
-
 -- What has a name was sent.
 pub named_sent : (sent : List Item) (names : List Name) (id : ProcId) (name : Name) → name_sent sent names id ≡ Some name → has_item sent (process id) ≡ true
 named_sent [] names id name e = none_some name e
 named_sent (item ∷ sent) [] id name e = none_some name e
 named_sent (item ∷ sent) (n ∷ names) id name e = go (same_item item (process id)) e (λ z. named_sent sent names id name z)
   where
-    go : (q : Bool) → (if q then Some n else name_sent sent names id) ≡ Some name → (name_sent sent names id ≡ Some name → has_item sent (process id) ≡ true) → (q || has_item sent (process id)) ≡ true
+    go : (q : Bool) → (if q then Some n else name_sent sent names id) ≡ Some name → (name_sent sent names id ≡ Some name → has_item sent (process id) ≡ true)
+        → (q || has_item sent (process id)) ≡ true
     go true z rest = refl
     go false z rest = rest z
 
 -- ---- the items of the connection that stands
 
-pub standing_items : (t : TranscriberValue) (k : OpenedValue) → (closed_with t (settled (spoken k) false) false).items ≡ t.items ++ connection_items k.connection (process_for t k.connection (summary_by k.connection (parts_now k))) (parts_now k) false (summary_by k.connection (parts_now k))
+pub standing_items : (t : TranscriberValue) (k : OpenedValue)
+    → (closed_with t (settled (spoken k) false) false).items ≡ t.items ++ connection_items k.connection (process_for t k.connection (summary_by k.connection (parts_now k))) (parts_now k) false (summary_by k.connection (parts_now k))
 standing_items t k =
     (λ i. (closed_by t ((spoken_keeps k).connection i) (spoken_parts k i) false (summary_by ((spoken_keeps k).connection i) (spoken_parts k i))).items)
     ∙ closed_items t k.connection (parts_now k) false (summary_by k.connection (parts_now k))
@@ -71,21 +67,21 @@ new_begun : (aborts : Bool) (o : Option Process) (name : Name) (was : Bool) (st 
 new_begun aborts None name was st e f = record { shown = sym e; status = sym f }
 new_begun aborts (Some p) name was st e f = record { shown = sym e; status = sym f }
 
-pub process_new : (t : TranscriberValue) (n : Connection) (s : Summary) (was : Bool) (st : Option ℕ) → n.reselected ≡ false → was ≡ false → st ≡ None → IsAsBegun (process_for t n s) was st
+pub process_new : (t : TranscriberValue) (n : Connection) (s : Summary) (was : Bool) (st : Option ℕ) → n.reselected ≡ false → was ≡ false → st ≡ None
+    → IsAsBegun (process_for t n s) was st
 process_new t n s was st began e f = subst (λ (q : Bool). IsAsBegun (process_after q (is_some s.abort) (process_of t.processes (name_of n s)) (name_of n s)) was st) (sym began) (new_begun (is_some s.abort) (process_of t.processes (name_of n s)) (name_of n s) was st e f)
 
-pub process_kept : (s : ScenarioValue) (t : TranscriberValue) (n : Connection) (sum : Summary) (id : ProcId) (d : array_of.Process) (p : Process) → n.reselected ≡ true → is_of (name_of n sum) (array_of.process_of s id) ≡ true → array_of.process_of s id ≡ Some d → process_of t.processes (nexus_of d) ≡ Some p → process_for t n sum ≡ p
+pub process_kept : (s : ScenarioValue) (t : TranscriberValue) (n : Connection) (sum : Summary) (id : ProcId) (d : array_of.Process) (p : Process)
+    → n.reselected ≡ true → is_of (name_of n sum) (array_of.process_of s id) ≡ true → array_of.process_of s id ≡ Some d
+    → process_of t.processes (nexus_of d) ≡ Some p → process_for t n sum ≡ p
 process_kept s t n sum id d p re named is last =
     let same : same_nexus (name_of n sum) (nexus_of d) ≡ true = sym (ap (λ (o : Option array_of.Process). is_of (name_of n sum) o) is) ∙ named in
     (λ i. process_after (re i) (is_some sum.abort) ((same_process t.processes (name_of n sum) (nexus_of d) same ∙ last) i) (name_of n sum))
 
 -- ---- its number
 
-some_number : (m : ℕ) → 1 ≤ m → (m == 0) ≡ false
-some_number m less = grind (arith, nat_tests, less)
-
 next_some : (n : ℕ) → (next_number n == 0) ≡ false
-next_some n = some_number (next_number n) (omega arith)
+next_some n = some_there (next_number n) (omega arith)
 
 new_number : (o : Option Process) (name : Name) → ((process_after false false o name).name.number == 0) ≡ false
 new_number None name = next_some 0
@@ -113,7 +109,8 @@ pub record IsCut (s : ScenarioValue) (k : OpenedValue) (item : Option Item) (par
 talk_none : (refused : List Name) (k : OpenedValue) (p : Process) → are_talk (base_parts k) ≡ true → shown_items refused (account_base k p).items ≡ []
 talk_none refused k p talk = (talk_more refused (account_of p []) (base_parts k) talk).shown
 
-quiet : (s : ScenarioValue) (t : TranscriberValue) (b : Story) (h : StandsLinked s t b) (parts : List Part) → IsCut s h.opened h.link.item parts → h.opened.connection.reselected ≡ true → h.conn ≡ [] → are_talk (base_parts h.opened) ≡ true → IsAll t b h.opened parts
+quiet : (s : ScenarioValue) (t : TranscriberValue) (b : Story) (h : StandsLinked s t b) (parts : List Part) → IsCut s h.opened h.link.item parts
+    → h.opened.connection.reselected ≡ true → h.conn ≡ [] → are_talk (base_parts h.opened) ≡ true → IsAll t b h.opened parts
 quiet s t b h parts cut re none talk = go h.begun
   where
     k : OpenedValue
@@ -127,7 +124,8 @@ quiet s t b h parts cut re none talk = go h.begun
     go (again re' order) =
         subst (λ (x : List Item). IsPast (t.items ++ new) x b.history) (sym order) (subst (λ (x : List Event). IsPast (t.items ++ new) h.sent x) (sym (h.history_is ∙ ap (λ (x : List Event). x ++ h.old) none)) (quiet_past k.connection (process_for t k.connection (summary_by k.connection parts)) parts (summary_by k.connection parts) t.items h.sent h.old re (λ refused p. cut.shown refused p ∙ talk_none refused k p talk) h.past))
 
-pub closing : (s : ScenarioValue) (t : TranscriberValue) (b : Story) (h : StandsLinked s t b) (parts : List Part) (free : Bool) (more : List Event) (id : ProcId) (was : Bool) (st : Option ℕ) (back : CarriedBytes) → ((refused : List Name) (p : Process) → shown_items refused (account_by p parts).items ≡ shown_items refused (account_base h.opened p).items)
+pub closing : (s : ScenarioValue) (t : TranscriberValue) (b : Story) (h : StandsLinked s t b) (parts : List Part) (free : Bool) (more : List Event) (id : ProcId) (was : Bool) (st : Option ℕ) (back : CarriedBytes)
+    → ((refused : List Name) (p : Process) → shown_items refused (account_by p parts).items ≡ shown_items refused (account_base h.opened p).items)
     → Leaves id (process_for t h.opened.connection (summary_by h.opened.connection parts)).name (leaving_items free (process_for t h.opened.connection (summary_by h.opened.connection parts)).name (summary_by h.opened.connection parts)) more → IsAsBegun (process_for t h.opened.connection (summary_by h.opened.connection parts)) was st → IsServing h.opened (is_command b.bus_state.bus) id (carried_of b.carried id) back h.conn b.history was st → AreOwnEvents id h.conn
     → IsClosing h.opened (is_command b.bus_state.bus) id (carried_of b.carried id) back h.conn h.old was st h.opened.connection (process_for t h.opened.connection (summary_by h.opened.connection parts)) parts free (summary_by h.opened.connection parts) more
 closing s t b h parts free more id was st back shown goes begun serving own = record {
@@ -156,7 +154,9 @@ cut_past s t b h parts cut = go h.stage
     new : List item_of.Item
     new = connection_items n p parts false sum
 
-    by_process : (id : ProcId) (was : Bool) (st : Option ℕ) (back : CarriedBytes) → h.link.item ≡ Some (process id) → IsServing k (is_command b.bus_state.bus) id (carried_of b.carried id) back h.conn b.history was st → AreOwnEvents id h.conn → (are_talk (base_parts k) ≡ true → h.conn ≡ []) → IsFrom s t b k h.sent id was st → IsBegun b k h.link h.sent → IsAll t b k parts
+    by_process : (id : ProcId) (was : Bool) (st : Option ℕ) (back : CarriedBytes) → h.link.item ≡ Some (process id)
+        → IsServing k (is_command b.bus_state.bus) id (carried_of b.carried id) back h.conn b.history was st → AreOwnEvents id h.conn
+        → (are_talk (base_parts k) ≡ true → h.conn ≡ []) → IsFrom s t b k h.sent id was st → IsBegun b k h.link h.sent → IsAll t b k parts
     by_process id was st back is serving own talks (anew began e f x) (again re order) = wrong (sym re ∙ began)
     by_process id was st back is serving own talks (kept re x y) (first item began i order fresh) = wrong (sym re ∙ began)
     by_process id was st back is serving own talks (anew began e f x) (first item began' i order fresh) =
@@ -190,7 +190,8 @@ stands_cut s k item named = record {
   named = λ id is talk. or_second (are_talk (parts_now k)) (name_process s k.connection (parts_now k) id) (and_second (is_none (summary_by k.connection (parts_now k)).abort) _ (with_item id is)) (not_talk (are_talk (parts_now k)) refl talk);
 }
   where
-    with_item : (id : ProcId) → item ≡ Some (process id) → (is_none (summary_by k.connection (parts_now k)).abort && (are_talk (parts_now k) || name_process s k.connection (parts_now k) id)) ≡ true
+    with_item : (id : ProcId) → item ≡ Some (process id)
+        → (is_none (summary_by k.connection (parts_now k)).abort && (are_talk (parts_now k) || name_process s k.connection (parts_now k) id)) ≡ true
     with_item id is = sym (ap (λ (o : Option Item). is_named s k o) is) ∙ named
 
     not_talk : (q : Bool) → are_talk (parts_now k) ≡ q → are_talk (base_parts k) ≡ false → are_talk (parts_now k) ≡ false
@@ -199,7 +200,8 @@ stands_cut s k item named = record {
 
 -- ---- the transcript
 
-pub standing_past : (s : ScenarioValue) (rows : List Row) → Standing s rows → are_named s (transcribed rows).opened (story s rows).link ≡ true → IsPast (transcript_of rows) (sent_order (story s rows)) (story s rows).history
+pub standing_past : (s : ScenarioValue) (rows : List Row) → Standing s rows → are_named s (transcribed rows).opened (story s rows).link ≡ true
+    → IsPast (transcript_of rows) (sent_order (story s rows)) (story s rows).history
 standing_past s rows h named = go h.stands
   where
     t : TranscriberValue

@@ -116,7 +116,7 @@ again_item : (b : Story) (n : Connection) → n.reselected ≡ true → is_some 
 again_item b n re =
     ap (λ (q : Bool). is_some (item_of (if q then record b { link = Some (link_of n None) } else story_with_restored (story_with_sent (record b { link = Some (link_of n (aim_of b.aims n.initiator)) }) (aim_of b.aims n.initiator)) (aim_of b.aims n.initiator)).link)) re
 
-starts_item : (s : ScenarioValue) (p : List Row) (row : Row) (n : Connection) → Starts s p row n → n.reselected ≡ true → is_some (item_of (run_state s (row ∷ p)).story.link) ≡ false
+pub starts_item : (s : ScenarioValue) (p : List Row) (row : Row) (n : Connection) → Starts s p row n → n.reselected ≡ true → is_some (item_of (run_state s (row ∷ p)).story.link) ≡ false
 starts_item s p row n h re =
     let k : RunState = run_state s p in
     let d : RowReading = row_reading k.story.bus_state row in
@@ -164,6 +164,26 @@ status_starts s p row n o h begun named = record {
 
 -- ---- row by row
 
+-- The messages that are planned stay while the phase does.
+pub same_messages : (s : ScenarioValue) (p : List Row) (row : Row) (n : Connection) (g : Going s p row n) → changes_phase g.going.change ≡ false → (run_state s (row ∷ p)).exchange.plan.messages ≡ (run_state s p).exchange.plan.messages
+same_messages s p row n g ep = go (is_some (receiver_in n c)) refl
+  where
+    k : RunState
+    k = run_state s p
+
+    c : Change
+    c = g.going.change
+
+    go : (now : Bool) → is_some (receiver_in n c) ≡ now → (run_state s (row ∷ p)).exchange.plan.messages ≡ k.exchange.plan.messages
+    go true er =
+        ap (λ (x : Exchange). x.plan.messages) (in_connection s k row n c false true (is_fault row.kind) g.going.goes.row_is ep er refl).exchange_is
+        ∙ byte_messages (is_message_out c.before) (hearing_of k row (reading_in k.story.bus_state n c true)).is_last (hearing_of k row (reading_in k.story.bus_state n c true)).out k.exchange.plan
+    go false er = ap (λ (x : Exchange). x.plan.messages) (in_connection s k row n c false false (is_fault row.kind) g.going.goes.row_is ep er refl).exchange_is ∙ struck (is_fault row.kind && not c.before.io)
+      where
+        struck : (q : Bool) → (if q then struck_plan k.exchange.plan else k.exchange.plan).messages ≡ k.exchange.plan.messages
+        struck true = refl
+        struck false = refl
+
 pub status_row : (s : ScenarioValue) (p : List Row) (row : Row) (n : Connection) (g : Going s p row n) (o after : OpenedValue) → RowMade (run_state s p) row n g.going.change o after → StatusTalk (run_state s p) o → StatusTalk (run_state s (row ∷ p)) after
 status_row s p row n g o after made h = by made
   where
@@ -187,20 +207,12 @@ status_row s p row n g o after made h = by made
     same now ep er =
         let i = in_connection s k row n c false now (is_fault row.kind) g.going.goes.row_is ep er refl in
         let lines = lines_same s p row n g ep in
-        let plan : (j.exchange.plan.messages ≡ k.exchange.plan.messages) × (j.exchange.plan.cause ≡ k.exchange.plan.cause) = (ap (λ (x : Exchange). x.plan.messages) i.exchange_is ∙ messages now, ap (λ (x : Exchange). x.plan.cause) i.exchange_is ∙ cause now) in
+        let plan : (j.exchange.plan.messages ≡ k.exchange.plan.messages) × (j.exchange.plan.cause ≡ k.exchange.plan.cause) = (same_messages s p row n g ep, ap (λ (x : Exchange). x.plan.cause) i.exchange_is ∙ cause now) in
         record {
           status = λ b z. stays (h.status (sym (begun_same s p row n g ep) ∙ b) ((λ t. not (sym lines.msg t) && sym lines.cd t && sym lines.io t) ∙ z));
           closes = λ b m w. stays (h.closes (sym (begun_same s p row n g ep) ∙ b) (sym plan.0 ∙ m) (elim w [ inl x ↦ inl (sym (in_same (bus_of k) (bus_of j) lines) ∙ x) | inr x ↦ inr (sym (out_same (bus_of k) (bus_of j) lines) ∙ x.0, sym plan.1 ∙ x.1) ]));
         }
       where
-        messages : (q : Bool) → (if q then (if is_message_out c.before then plan_after_message k.exchange.plan (hearing_of k row (reading_in k.story.bus_state n c q)).is_last (hearing_of k row (reading_in k.story.bus_state n c q)).out else k.exchange.plan) else if is_fault row.kind && not c.before.io then struck_plan k.exchange.plan else k.exchange.plan).messages ≡ k.exchange.plan.messages
-        messages true = byte_messages (is_message_out c.before) (hearing_of k row (reading_in k.story.bus_state n c true)).is_last (hearing_of k row (reading_in k.story.bus_state n c true)).out k.exchange.plan
-        messages false = struck (is_fault row.kind && not c.before.io)
-          where
-            struck : (q : Bool) → (if q then struck_plan k.exchange.plan else k.exchange.plan).messages ≡ k.exchange.plan.messages
-            struck true = refl
-            struck false = refl
-
         cause : (q : Bool) → (if q then (if is_message_out c.before then plan_after_message k.exchange.plan (hearing_of k row (reading_in k.story.bus_state n c q)).is_last (hearing_of k row (reading_in k.story.bus_state n c q)).out else k.exchange.plan) else if is_fault row.kind && not c.before.io then struck_plan k.exchange.plan else k.exchange.plan).cause ≡ k.exchange.plan.cause
         cause true = said_cause (is_message_out c.before) (hearing_of k row (reading_in k.story.bus_state n c true)).is_last
           where

@@ -1,6 +1,7 @@
 -- No byte crosses and no phase begins: what stands after the row, which may be a fault or COMMAND COMPLETE as it is taken.
 use Rattle.std.proofs.Common.{ℕ, ◌≡◌, ◌∙◌, Bool, true, false, not, ◌&&◌, ◌||◌, List, [], ◌∷◌, ◌++◌, Option, Some, None, refl, sym, ap, subst}
 use Rattle.std.specs.Prelude.{is_some, slice_index, if◌then◌else◌}
+use Rattle.std.proofs.lemmas.Bool.{and_parts}
 use Rattle.bus_base.specs.declared.Event.{Event}
 use Rattle.bus_base.specs.declared.Event.TheVariants as events
 use Rattle.bus_base.specs.declared.ProcId.{ProcId}
@@ -45,7 +46,6 @@ use Rattle.transcript_laws.proofs.ChangedBytes.{changed, unchanged, changed_own,
 use Rattle.transcript_laws.proofs.CrossingRows.{no_events}
 use Rattle.transcript_laws.proofs.FaultRows.{fault_ack}
 use Rattle.transcript_laws.proofs.InRows.{known_more, same_stands}
-use Rattle.transcript_laws.proofs.LastProcesses.{and_parts}
 use Rattle.transcript_laws.proofs.LinkedRows.{SameLines, same_lines, transcript_on, story_on, IsOn, uncrossed, change_on, story_is_on, story_quiet, books_on, Makes, Stands, linked_next}
 use Rattle.transcript_laws.proofs.OpenProcesses.{alike_self, alike_on, SameBooks, kept_on, from_on}
 use Rattle.transcript_laws.proofs.ServingSteps.{filled, struck_serves, fault_serves, end_serves}
@@ -63,10 +63,13 @@ pub record StillRow (s : ScenarioValue) (rows : List Row) (row : Row) (h : Stand
   pub numbered : AreNumbered (transcribed rows).processes (names_begun (transcribed rows).items)
   pub marked : (x : ProcId) → IsMarked (story s rows).history (carried_of (story s rows).carried x)
 
-lines_of : (s : ScenarioValue) (rows : List Row) (row : Row) (h : StandsLinked s (transcribed rows) (story s rows)) → StillRow s rows row h → SameLines (story s rows).bus_state.bus (row_reading (story s rows).bus_state row).change.after
-lines_of s rows row h r = same_lines (story s rows).bus_state.bus (row_reading (story s rows).bus_state row).change.after (same_phase_is (row_reading (story s rows).bus_state row).change r.stays)
+lines_of : (s : ScenarioValue) (rows : List Row) (row : Row) (h : StandsLinked s (transcribed rows) (story s rows)) → StillRow s rows row h
+    → SameLines (story s rows).bus_state.bus (row_reading (story s rows).bus_state row).change.after
+lines_of s rows row h r =
+    same_lines (story s rows).bus_state.bus (row_reading (story s rows).bus_state row).change.after (same_phase_is (row_reading (story s rows).bus_state row).change r.stays)
 
-still_row : (s : ScenarioValue) (rows : List Row) (row : Row) (h : StandsLinked s (transcribed rows) (story s rows)) → StillRow s rows row h → with_row h.opened (story s rows).bus_state (row_reading (story s rows).bus_state row) row.kind ≡ with_still_row h.opened (story s rows).bus_state (row_reading (story s rows).bus_state row).change row.kind
+still_row : (s : ScenarioValue) (rows : List Row) (row : Row) (h : StandsLinked s (transcribed rows) (story s rows)) → StillRow s rows row h
+    → with_row h.opened (story s rows).bus_state (row_reading (story s rows).bus_state row) row.kind ≡ with_still_row h.opened (story s rows).bus_state (row_reading (story s rows).bus_state row).change row.kind
 still_row s rows row h r =
     let d : RowReading = row_reading (story s rows).bus_state row in
     let k : OpenedValue = h.opened in
@@ -75,7 +78,8 @@ still_row s rows row h r =
     else with_still_row k (story s rows).bus_state d.change row.kind)
     ∙ (λ i. if r.stays i then phase_entered (phase_over k d.change.before (story s rows).bus_state.dialogue.half true) d.change.after else with_still_row k (story s rows).bus_state d.change row.kind)
 
-still_story : (s : ScenarioValue) (rows : List Row) (row : Row) (h : StandsLinked s (transcribed rows) (story s rows)) → StillRow s rows row h → story_in_connection s (story s rows) (Some h.link) (row_reading (story s rows).bus_state row) row ≡ story_after_fault (story s rows) h.link row.kind
+still_story : (s : ScenarioValue) (rows : List Row) (row : Row) (h : StandsLinked s (transcribed rows) (story s rows)) → StillRow s rows row h
+    → story_in_connection s (story s rows) (Some h.link) (row_reading (story s rows).bus_state row) row ≡ story_after_fault (story s rows) h.link row.kind
 still_story s rows row h r = λ i. if r.crosses i then story_after_crossing s (story s rows) h.link (row_reading (story s rows).bus_state row) else story_after_fault (story s rows) h.link row.kind
 
 -- ---- COMMAND COMPLETE is taken for both
@@ -86,7 +90,8 @@ agree true true false x y z e = and_false x ∙ sym (and_false (y && z))
 agree true false a x y z e = refl
 agree false m a x y z e = refl
 
-completes : (s : ScenarioValue) (rows : List Row) (row : Row) (h : StandsLinked s (transcribed rows) (story s rows)) → StillRow s rows row h → story_of.is_completion h.link (row_reading (story s rows).bus_state row).change ≡ is_completion h.opened (story s rows).bus_state.dialogue.half (row_reading (story s rows).bus_state row).change
+completes : (s : ScenarioValue) (rows : List Row) (row : Row) (h : StandsLinked s (transcribed rows) (story s rows)) → StillRow s rows row h
+    → story_of.is_completion h.link (row_reading (story s rows).bus_state row).change ≡ is_completion h.opened (story s rows).bus_state.dialogue.half (row_reading (story s rows).bus_state row).change
 completes s rows row h r =
     let c : Change = (row_reading (story s rows).bus_state row).change in
     agree (rises c.before.ack c.after.ack) (is_message_in c.before) (not c.after.atn) (story_of.is_complete h.link.last) (is_complete h.opened.held) (is_nil (story s rows).bus_state.dialogue.half) (and_first _ _ r.fits)
@@ -96,7 +101,10 @@ completes s rows row h r =
 unstruck : (k : OpenedValue) → with_fault k false ≡ k
 unstruck k = λ i. record k { struck = or_false k.struck i }
 
-still_makes : (s : ScenarioValue) (rows : List Row) (row : Row) (h : StandsLinked s (transcribed rows) (story s rows)) (k : OpenedValue) (c : Story) → StillRow s rows row h → story_of.is_completion h.link (row_reading (story s rows).bus_state row).change ≡ false → with_fault h.opened (is_fault row.kind && is_some (story s rows).bus_state.crossed) ≡ k → story_after_fault (story s rows) h.link row.kind ≡ c → Makes s rows row k c []
+still_makes : (s : ScenarioValue) (rows : List Row) (row : Row) (h : StandsLinked s (transcribed rows) (story s rows)) (k : OpenedValue) (c : Story)
+    → StillRow s rows row h → story_of.is_completion h.link (row_reading (story s rows).bus_state row).change ≡ false
+    → with_fault h.opened (is_fault row.kind && is_some (story s rows).bus_state.crossed) ≡ k → story_after_fault (story s rows) h.link row.kind ≡ c
+    → Makes s rows row k c []
 still_makes s rows row h k c r none e f = record {
   transcript_is =
       change_on s rows row h r.on
@@ -106,7 +114,11 @@ still_makes s rows row h k c r none e f = record {
       ∙ ap (λ (x : Story). story_on s rows row x []) (still_story s rows row h r ∙ f);
 }
 
-quiet_next : (s : ScenarioValue) (rows : List Row) (row : Row) (h : StandsLinked s (transcribed rows) (story s rows)) (c : Story) → StillRow s rows row h → story_of.is_completion h.link (row_reading (story s rows).bus_state row).change ≡ false → (is_fault row.kind && is_some (story s rows).bus_state.crossed) ≡ false → story_after_fault (story s rows) h.link row.kind ≡ c → c.link ≡ (story s rows).link → c.sent ≡ (story s rows).sent → ((x : ProcId) → carried_of (story s rows).carried x ≡ carried_of c.carried x) → Standing s (row ∷ rows)
+quiet_next : (s : ScenarioValue) (rows : List Row) (row : Row) (h : StandsLinked s (transcribed rows) (story s rows)) (c : Story) → StillRow s rows row h
+    → story_of.is_completion h.link (row_reading (story s rows).bus_state row).change ≡ false
+    → (is_fault row.kind && is_some (story s rows).bus_state.crossed) ≡ false → story_after_fault (story s rows) h.link row.kind ≡ c
+    → c.link ≡ (story s rows).link → c.sent ≡ (story s rows).sent → ((x : ProcId) → carried_of (story s rows).carried x ≡ carried_of c.carried x)
+    → Standing s (row ∷ rows)
 quiet_next s rows row h c r none unfaulted e link sent same =
     linked_next s rows row h h.opened h.link c [] r.numbered r.on
     (still_makes s rows row h h.opened c r none (ap (λ (q : Bool). with_fault h.opened q) unfaulted ∙ unstruck h.opened) e)
@@ -125,11 +137,14 @@ other_fault lines c e =
     (λ i. if e i then record c { struck = true; failure = Some PARITY_ERROR } else if is_data lines then record c { failure = Some (if lines.io then INITIATOR_DETECTED_ERROR else PARITY_ERROR) } else c)
     ∙ go (is_data lines)
   where
-    go : (q : Bool) → (if q then record c { failure = Some (if lines.io then INITIATOR_DETECTED_ERROR else PARITY_ERROR) } else c) ≡ record c { failure = (if q then Some (if lines.io then INITIATOR_DETECTED_ERROR else PARITY_ERROR) else c.failure) }
+    go : (q : Bool)
+        → (if q then record c { failure = Some (if lines.io then INITIATOR_DETECTED_ERROR else PARITY_ERROR) } else c) ≡ record c { failure = (if q then Some (if lines.io then INITIATOR_DETECTED_ERROR else PARITY_ERROR) else c.failure) }
     go true = refl
     go false = refl
 
-strike_serves : (k : OpenedValue) (lines : LineSet) (q : Bool) (id : ProcId) (now back : CarriedBytes) (conn history : List Event) (was : Bool) (st : Option ℕ) → is_command lines ≡ q → IsServing k q id now back conn history was st → IsServing (record k { struck = k.struck || true }) q id (after_fault lines now) back conn history was st
+strike_serves : (k : OpenedValue) (lines : LineSet) (q : Bool) (id : ProcId) (now back : CarriedBytes) (conn history : List Event) (was : Bool) (st : Option ℕ)
+    → is_command lines ≡ q → IsServing k q id now back conn history was st
+    → IsServing (record k { struck = k.struck || true }) q id (after_fault lines now) back conn history was st
 strike_serves k lines true id now back conn history was st e h =
     subst (λ (x : CarriedBytes). IsServing (record k { struck = k.struck || true }) true id x back conn history was st) (sym (command_fault lines now e)) (struck_serves k id now back conn history was st (Some PARITY_ERROR) h)
 strike_serves k lines false id now back conn history was st e h =
@@ -138,7 +153,9 @@ strike_serves k lines false id now back conn history was st e h =
 abbrev struck_story : ScenarioValue → List Row → Option Item → Change → Story
 struck_story s rows item x = story_with_carried (story s rows) (carried_after_fault_if (carried_if (story s rows) item) (Some x))
 
-strike_stands : (s : ScenarioValue) (rows : List Row) (row : Row) (h : StandsLinked s (transcribed rows) (story s rows)) (x : Change) → StillRow s rows row h → (story s rows).bus_state.crossed ≡ Some x → Stands s rows row h (record h.opened { struck = h.opened.struck || true }) h.link (struck_story s rows h.link.item x) []
+strike_stands : (s : ScenarioValue) (rows : List Row) (row : Row) (h : StandsLinked s (transcribed rows) (story s rows)) (x : Change) → StillRow s rows row h
+    → (story s rows).bus_state.crossed ≡ Some x
+    → Stands s rows row h (record h.opened { struck = h.opened.struck || true }) h.link (struck_story s rows h.link.item x) []
 strike_stands s rows row h x r crossed = record {
   connection = refl;
   link = g.link ∙ h.link_is;
@@ -193,7 +210,9 @@ talk_second (x ∷ xs) ys e = talk_second xs ys (and_parts _ (are_talk (xs ++ ys
 ended_marked : (history : List Event) (id : ProcId) (status : ℕ) (c : CarriedBytes) → IsMarked history c → IsMarked (events.End id status ∷ history) c
 ended_marked history id status c m = record { refused = m.refused; shown = m.shown; apart = m.apart; saved = m.saved }
 
-end_next : (s : ScenarioValue) (rows : List Row) (row : Row) (h : StandsLinked s (transcribed rows) (story s rows)) → StillRow s rows row h → story_of.is_completion h.link (row_reading (story s rows).bus_state row).change ≡ true → story_after_fault (story s rows) h.link row.kind ≡ story s rows → Standing s (row ∷ rows)
+end_next : (s : ScenarioValue) (rows : List Row) (row : Row) (h : StandsLinked s (transcribed rows) (story s rows)) → StillRow s rows row h
+    → story_of.is_completion h.link (row_reading (story s rows).bus_state row).change ≡ true → story_after_fault (story s rows) h.link row.kind ≡ story s rows
+    → Standing s (row ∷ rows)
 end_next s rows row h r done same_story = go h.stage
   where
     b : Story
@@ -234,7 +253,11 @@ end_next s rows row h r done same_story = go h.stage
         change_on s rows row h r.on
         ∙ ap (λ (x : OpenedValue). record (transcribed rows) { opened = Some x }) (still_row s rows row h r ∙ ap (λ (q : Bool). if q then with_part h.opened parts_of.Completion else with_fault h.opened (is_fault row.kind && is_some (story s rows).bus_state.crossed)) (sym (completes s rows row h r) ∙ done))
 
-    by_process : (id : ProcId) (back : CarriedBytes) (was : Bool) (st : Option ℕ) → h.link.item ≡ Some (process id) → ((u : CarriedBytes) → h.link.undo ≡ Some u → u ≡ back) → back.id ≡ id → is_known h.opened (story s rows).bus_state.bus ≡ true → IsServing h.opened (is_command (story s rows).bus_state.bus) id (carried_of (story s rows).carried id) back h.conn (story s rows).history was st → AreOwnEvents id h.conn → (are_talk (base_parts h.opened) ≡ true → h.conn ≡ []) → IsFrom s (transcribed rows) (story s rows) h.opened h.sent id was st → AreKept s (transcribed rows) (story s rows) h.sent (λ x. same_id x id) → Standing s (row ∷ rows)
+    by_process : (id : ProcId) (back : CarriedBytes) (was : Bool) (st : Option ℕ) → h.link.item ≡ Some (process id)
+        → ((u : CarriedBytes) → h.link.undo ≡ Some u → u ≡ back) → back.id ≡ id → is_known h.opened (story s rows).bus_state.bus ≡ true
+        → IsServing h.opened (is_command (story s rows).bus_state.bus) id (carried_of (story s rows).carried id) back h.conn (story s rows).history was st
+        → AreOwnEvents id h.conn → (are_talk (base_parts h.opened) ≡ true → h.conn ≡ []) → IsFrom s (transcribed rows) (story s rows) h.opened h.sent id was st
+        → AreKept s (transcribed rows) (story s rows) h.sent (λ x. same_id x id) → Standing s (row ∷ rows)
     by_process id back was st is undone own known serving events_own talks from kept =
         linked_next s rows row h k' h.link c shown r.numbered r.on
         (record {
@@ -249,7 +272,8 @@ end_next s rows row h r done same_story = go h.stage
           sent = events_sent s b shown;
           item = λ began. refl;
           marked = λ x. subst (λ (all : List CarriedBytes). IsMarked (shown ++ (story s rows).history) (carried_of all x)) (sym keeps.0) (ended_marked (story s rows).history id (slice_index now.status.bytes 0) (carried_of (story s rows).carried x) (r.marked x));
-          stage = of_process id back was st is undone own (known_more h.opened k' (story s rows).bus_state.bus d.change.after (parts_of.Completion ∷ []) refl base lines.command known)
+          stage =
+              of_process id back was st is undone own (known_more h.opened k' (story s rows).bus_state.bus d.change.after (parts_of.Completion ∷ []) refl base lines.command known)
               (subst (λ (q : Bool). IsServing k' q id (carried_of c.carried id) back (shown ++ h.conn) (shown ++ (story s rows).history) was st) (sym (lines.command ∙ no_command)) (subst (λ (all : List CarriedBytes). IsServing k' false id (carried_of all id) back (shown ++ h.conn) (shown ++ (story s rows).history) was st) (sym keeps.0) (end_serves h.opened id now back h.conn (story s rows).history was st some (subst (λ (q : Bool). IsServing h.opened q id now back h.conn (story s rows).history was st) no_command serving))))
               (refl, events_own) (λ talk. wrong' (talk_second (base_parts h.opened) (parts_of.Completion ∷ []) (sym (ap are_talk base) ∙ talk)))
               (from_on s (transcribed rows) (transcript_on rows row k') (story s rows) (story_on s rows row c shown) h.opened k' h.sent id was st same refl from)
@@ -308,7 +332,8 @@ still_next s rows row h r = by_done (story_of.is_completion h.link (row_reading 
         let c : Change = (row_reading (story s rows).bus_state row).change in
         fault_ack s rows row bit e (and_first (rises c.before.ack c.after.ack) (is_message_in c.before) (and_first (rises c.before.ack c.after.ack && is_message_in c.before) (story_of.is_complete h.link.last) (and_first (rises c.before.ack c.after.ack && is_message_in c.before && story_of.is_complete h.link.last) (not c.after.atn) done)))
 
-    by_crossed : (bit : ℕ) (o : Option Change) → row.kind ≡ Fault bit → (story s rows).bus_state.crossed ≡ o → story_of.is_completion h.link (row_reading (story s rows).bus_state row).change ≡ false → Standing s (row ∷ rows)
+    by_crossed : (bit : ℕ) (o : Option Change) → row.kind ≡ Fault bit → (story s rows).bus_state.crossed ≡ o
+        → story_of.is_completion h.link (row_reading (story s rows).bus_state row).change ≡ false → Standing s (row ∷ rows)
     by_crossed bit None e f none =
         let c : Story = story_with_carried b (carried_after_fault_if (carried_if b h.link.item) None) in
         let g = by_none b h.link.item in

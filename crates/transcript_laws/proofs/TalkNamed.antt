@@ -130,7 +130,7 @@ row_nameless s n false false fault x w l was next = go (fault && not w.change.be
     go true = was
     go false = was
 
-known_plan : (s : ScenarioValue) (p : List Row) (row : Row) (n : Connection) (g : Going s p row n) (phase now : Bool) → changes_phase g.going.change ≡ phase → is_some (receiver_in n g.going.change) ≡ now → OnMessages IsNoName (run_state s p).exchange.plan.messages → OnMessages IsNoName (run_state s (row ∷ p)).exchange.plan.messages
+pub known_plan : (s : ScenarioValue) (p : List Row) (row : Row) (n : Connection) (g : Going s p row n) (phase now : Bool) → changes_phase g.going.change ≡ phase → is_some (receiver_in n g.going.change) ≡ now → OnMessages IsNoName (run_state s p).exchange.plan.messages → OnMessages IsNoName (run_state s (row ∷ p)).exchange.plan.messages
 known_plan s p row n g phase now ep er h =
     let k : RunState = run_state s p in
     let i = in_connection s k row n g.going.change phase now (is_fault row.kind) g.going.goes.row_is ep er refl in

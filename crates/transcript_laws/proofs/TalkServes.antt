@@ -1,6 +1,7 @@
 -- While nothing but messages has come in a connection, its account is as it began, and shows no event.
 use Rattle.std.proofs.Common.{ℕ, ◌≡◌, ◌∙◌, ◌==◌, Bool, true, false, ◌&&◌, not, List, [], ◌∷◌, ◌++◌, Option, refl, sym, ap}
 use Rattle.std.specs.Prelude.{if◌then◌else◌}
+use Rattle.std.proofs.lemmas.Bool.{and_parts}
 use Rattle.bus_base.specs.declared.Event.{Event}
 use Rattle.bus_base.specs.declared.ProcId.{ProcId}
 use Rattle.bus_trace.specs.LineSet.{LineSet}
@@ -25,7 +26,6 @@ use Rattle.transcript_laws.proofs.ServingSteps.{no_block}
 use Rattle.transcript_laws.proofs.ShownParts.{talk_more}
 use Rattle.transcript_laws.proofs.TurnSteps.{outs_talk, broken_talk}
 use Rattle.bus_base.proofs.Tests.{wrong'}
-use Rattle.transcript_laws.proofs.LastProcesses.{and_parts}
 
 -- ---- the account
 
@@ -63,7 +63,8 @@ all_untouched a was st (part ∷ parts) e h =
     let both = and_parts (is_talk part) (are_talk parts) e in
     all_untouched (account_after a part) was st parts both.1 (part_untouched a was st part both.0 h)
 
-talk_account : (p : Process) (parts : List Part) (was : Bool) (st : Option ℕ) (c : CarriedBytes) → are_talk parts ≡ true → IsAsBegun p was st → IsBlank c → st ≡ first_byte c.status.bytes → (c.refused ≡ false → was ≡ c.shown) → IsAccountOf (account_after_all (account_of p []) parts) c
+talk_account : (p : Process) (parts : List Part) (was : Bool) (st : Option ℕ) (c : CarriedBytes) → are_talk parts ≡ true → IsAsBegun p was st → IsBlank c
+    → st ≡ first_byte c.status.bytes → (c.refused ≡ false → was ≡ c.shown) → IsAccountOf (account_after_all (account_of p []) parts) c
 talk_account p parts was st c talk b blank status shown =
     let h = all_untouched (account_of p []) was st parts talk (record { block = refl; struck = refl; first = refl; shown = b.shown; status = b.status }) in
     record {
@@ -97,7 +98,8 @@ talk_first (x ∷ xs) ys e =
 -- ---- the process is known from then on
 
 -- As an initiator begins a connection, or once the names of a reselected process were said.
-pub talk_serves : (k : OpenedValue) (id : ProcId) (now back : CarriedBytes) (history : List Event) (p : Process) → are_talk (base_parts k) ≡ true → IsBlank now → IsKeptOf p now → IsBlank back → IsKeptOf p back → IsServing k false id now back [] history p.shown p.status
+pub talk_serves : (k : OpenedValue) (id : ProcId) (now back : CarriedBytes) (history : List Event) (p : Process) → are_talk (base_parts k) ≡ true → IsBlank now
+    → IsKeptOf p now → IsBlank back → IsKeptOf p back → IsServing k false id now back [] history p.shown p.status
 talk_serves k id now back history p talk blank kept blank' kept' = record {
   account = λ q b. no_block (account_base k q) now (talk_account q (base_parts k) p.shown p.status now talk b blank kept.status kept.shown);
   void = λ m q held none empty b. talk_account q k.parts p.shown p.status back (talk_first k.parts (held_parts k ++ k.since) talk) b blank' kept'.status kept'.shown;
@@ -109,14 +111,16 @@ talk_serves k id now back history p talk blank kept blank' kept' = record {
 pub talk_said : (k : OpenedValue) (said : List MsgOut) → is_void said ≡ is_void k.said → are_talk (base_parts k) ≡ true → are_talk (base_parts (record k { said = said })) ≡ true
 talk_said k said e talk = ap are_talk (base_said k said e) ∙ talk
 
-pub talk_void : (k : OpenedValue) (said : List MsgOut) → is_void said ≡ true → k.since ≡ [] → are_talk (base_parts k) ≡ true → are_talk (base_parts (record k { said = said })) ≡ true
+pub talk_void : (k : OpenedValue) (said : List MsgOut) → is_void said ≡ true → k.since ≡ [] → are_talk (base_parts k) ≡ true
+    → are_talk (base_parts (record k { said = said })) ≡ true
 talk_void k said e none talk = ap are_talk (base_void k said e none) ∙ talk_first k.parts (held_parts k ++ k.since) talk
 
 pub talk_in : (k : OpenedValue) (m : MsgIn) → k.said ≡ [] → are_talk (base_parts k) ≡ true → are_talk (base_parts (with_in k (Whole m))) ≡ true
 talk_in k m e talk = ap are_talk (base_in k (Whole m) e) ∙ talk_append (base_parts k) (parts_of.In m ∷ []) talk refl
 
 -- With no COMMAND, no byte of data and no STATUS.
-pub talk_turned : (k : OpenedValue) (s after : LineSet) (half : List ℕ) → is_command s ≡ false → k.bytes ≡ [] → is_status_phase after ≡ false → are_talk (base_parts k) ≡ true → are_talk (base_parts (phase_entered (phase_over k s half true) after)) ≡ true
+pub talk_turned : (k : OpenedValue) (s after : LineSet) (half : List ℕ) → is_command s ≡ false → k.bytes ≡ [] → is_status_phase after ≡ false
+    → are_talk (base_parts k) ≡ true → are_talk (base_parts (phase_entered (phase_over k s half true) after)) ≡ true
 talk_turned k s after half no_command empty no_status talk =
     ap are_talk (base_turned k s after half)
     ∙ talk_append ((parts_now k ++ broken_parts s half) ++ phase_parts k s true) (if is_status_phase after then parts_of.StatusPhase ∷ [] else [])
@@ -124,5 +128,7 @@ talk_turned k s after half no_command empty no_status talk =
     (ap (λ (q : Bool). are_talk (if q then parts_of.StatusPhase ∷ [] else [])) no_status)
   where
     phase_talk : (r : Bool) → are_talk (if is_command s then parts_of.Command k.bytes k.struck true ∷ [] else if r then data_parts (not s.io) k.bytes else []) ≡ true
-    phase_talk true = ap (λ (q : Bool). are_talk (if q then parts_of.Command k.bytes k.struck true ∷ [] else data_parts (not s.io) k.bytes)) no_command ∙ ap (λ (bytes : List ℕ). are_talk (data_parts (not s.io) bytes)) empty
+    phase_talk true =
+        ap (λ (q : Bool). are_talk (if q then parts_of.Command k.bytes k.struck true ∷ [] else data_parts (not s.io) k.bytes)) no_command
+        ∙ ap (λ (bytes : List ℕ). are_talk (data_parts (not s.io) bytes)) empty
     phase_talk false = ap (λ (q : Bool). are_talk (if q then parts_of.Command k.bytes k.struck true ∷ [] else [])) no_command

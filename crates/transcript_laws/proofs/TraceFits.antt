@@ -1,4 +1,4 @@
--- Each row of a prompt trace fits, where what is left of it is shown.
+-- Each row of a prompt trace fits.
 use Rattle.std.proofs.Common.{◌≡◌, ◌∙◌, ◌<◌, Bool, true, false, not, ◌&&◌, List, [], ◌∷◌, Option, Some, None, refl, sym, ap, subst}
 use Rattle.std.specs.Prelude.{◌||◌, is_some, is_none, if◌then◌else◌}
 use Rattle.std.proofs.lemmas.Option.{same_Some}
@@ -24,16 +24,18 @@ use Rattle.bus_laws.proofs.Prompt.{least_is}
 use Rattle.bus_transcript.specs.Opened.{OpenedValue}
 use Rattle.bus_transcript.specs.Rows.{transcribed}
 use Rattle.trace_laws.proofs.Whole.{Whole, whole}
-use Rattle.transcript_laws.specs.Left.{NamedAgain, RowLeft, AreLeft}
 use Rattle.transcript_laws.specs.RowTests.{is_fresh, is_alone, fits_linked, fits_first, fits_bus, ends_all, fits_reading, fits_row, is_named, are_named, fit}
 use Rattle.transcript_laws.proofs.AloneItems.{begins_alone}
 use Rattle.transcript_laws.proofs.BeginRows.{fresh_item, begins_quiet}
+use Rattle.transcript_laws.proofs.EndFits.{ends_fit}
 use Rattle.transcript_laws.proofs.NamedFits.{standing as connection_standing, named_selected}
+use Rattle.transcript_laws.proofs.NamesAgain.{named_again}
 use Rattle.transcript_laws.proofs.OpenedAll.{opened_all}
 use Rattle.transcript_laws.proofs.OpenedFacts.{going_at}
 use Rattle.transcript_laws.proofs.RowFits.{going_fits}
 use Rattle.transcript_laws.proofs.RstRows.{rst_none, rst_row}
 use Rattle.transcript_laws.proofs.SentProcesses.{reset_ends, sent_known}
+use Rattle.transcript_laws.proofs.UndoneMessages.{undoes_row}
 use Rattle.bus_base.proofs.Tests.{wrong'}
 
 none_some : {A : Type 0} (n : Connection) → (let o : Option Connection = None in o) ≡ Some n → A
@@ -42,8 +44,8 @@ none_some n e = absurd cc
 none_open : {A : Type 0} (o : OpenedValue) → (let a : Option OpenedValue = None in a) ≡ Some o → A
 none_open o e = absurd cc
 
-row_by_state : (s : ScenarioValue) (p : List Row) (row : Row) → Obeys s → IsPrompt s (row ∷ p) → RowLeft s p row → fits_reading s (transcribed p) (run_state s p).story (row_reading (run_state s p).story.bus_state row) ≡ true
-row_by_state s p row o prompt left = go (bus (row ∷ p)).rst refl
+row_by_state : (s : ScenarioValue) (p : List Row) (row : Row) → Obeys s → IsPrompt s (row ∷ p) → fits_reading s (transcribed p) (run_state s p).story (row_reading (run_state s p).story.bus_state row) ≡ true
+row_by_state s p row o prompt = go (bus (row ∷ p)).rst refl
   where
     k : RunState
     k = run_state s p
@@ -103,12 +105,12 @@ row_by_state s p row o prompt left = go (bus (row ∷ p)).rst refl
     inside m con off q calm None et v ev x after = refl
     inside m con off q calm (Some w) et None ev x after = refl
     inside m con off true calm (Some w) et (Some l) ev x after = none_open w (sym (rst_none s p dv calm) ∙ et)
-    inside m con off false calm (Some w) et (Some l) ev None after = left.ends m w l con calm off after et ev
+    inside m con off false calm (Some w) et (Some l) ev None after = ends_fit s p row m w l o prompt con calm off after et ev
     inside m con off false calm (Some w) et (Some l) ev (Some n) after =
         let is : m ≡ n = same m n (bus (row ∷ p)).bsy (sym (λ i. connection_after (con i) (call p) (change_of p row) row) ∙ after) in
         let here : connection p ≡ Some n = con ∙ ap (λ (z : Connection). Some z) is in
         let g = going_at s p row n o prompt here calm after off in
-        going_fits s p row n g w l (opened_all s o p prompt.0 n here calm w et) ev (left.undoes n here calm)
+        going_fits s p row n g w l (opened_all s o p prompt.0 n here calm w et) ev (undoes_row s p n w o prompt.0 here calm et)
 
     by_connection : (bus (row ∷ p)).rst ≡ false → (x : Option Connection) → connection p ≡ x → fits_bus s (transcribed p) b b.bus_state.connection d ≡ true
     by_connection off None con =
@@ -124,14 +126,14 @@ row_by_state s p row o prompt left = go (bus (row ∷ p)).rst refl
     go false off =
         ap (λ (q : Bool). if q then is_none (transcribed p).opened || (up && ends_all s b) else fits_bus s (transcribed p) b b.bus_state.connection d) (ap (λ (x : Change). x.after.rst) c ∙ off) ∙ by_connection off (connection p) refl
 
-pub row_fits : (s : ScenarioValue) (p : List Row) (row : Row) → Obeys s → IsPrompt s (row ∷ p) → RowLeft s p row → fits_row s (transcribed p) (story s p) row ≡ true
-row_fits s p row o prompt left =
+pub row_fits : (s : ScenarioValue) (p : List Row) (row : Row) → Obeys s → IsPrompt s (row ∷ p) → fits_row s (transcribed p) (story s p) row ≡ true
+row_fits s p row o prompt =
     let pl = run_state_plain s p (whole s p o prompt.0).stood.standing.devices in
-    subst (λ (b : Story). fits_reading s (transcribed p) b (row_reading b.bus_state row) ≡ true) pl.story (row_by_state s p row o prompt left)
+    subst (λ (b : Story). fits_reading s (transcribed p) b (row_reading b.bus_state row) ≡ true) pl.story (row_by_state s p row o prompt)
 
 -- The process of the connection has its name.
-names_fit : (s : ScenarioValue) (p : List Row) → Obeys s → IsPrompt s p → NamedAgain s p → are_named s (transcribed p).opened (story s p).link ≡ true
-names_fit s p o prompt left = subst (λ (b : Story). are_named s (transcribed p).opened b.link ≡ true) pl.story (go (transcribed p).opened refl (run_state s p).story.link refl)
+names_fit : (s : ScenarioValue) (p : List Row) → Obeys s → IsPrompt s p → are_named s (transcribed p).opened (story s p).link ≡ true
+names_fit s p o prompt = subst (λ (b : Story). are_named s (transcribed p).opened b.link ≡ true) pl.story (go (transcribed p).opened refl (run_state s p).story.link refl)
   where
     was : Whole s p
     was = whole s p o prompt
@@ -148,7 +150,7 @@ names_fit s p o prompt left = subst (λ (b : Story). are_named s (transcribed p)
     at w l et ev false calm (Some n) con = by n.reselected refl
       where
         by : (r : Bool) → n.reselected ≡ r → is_named s w l.item ≡ true
-        by true re = left n w l con calm re et ev
+        by true re = named_again s p n w l o prompt con calm et ev re
         by false sel = named_selected s p n w l (connection_standing s p n w o prompt con calm et) ev sel
 
     go : (t : Option OpenedValue) → (transcribed p).opened ≡ t → (v : Option Link) → (run_state s p).story.link ≡ v → are_named s t v ≡ true
@@ -157,6 +159,6 @@ names_fit s p o prompt left = subst (λ (b : Story). are_named s (transcribed p)
     go (Some w) et (Some l) ev = at w l et ev (bus p).rst refl (connection p) refl
 
 -- Of all rows.
-pub rows_fit : (s : ScenarioValue) (p : List Row) → Obeys s → IsPrompt s p → AreLeft s p → fit s p ≡ true
-rows_fit s [] o prompt left = refl
-rows_fit s (row ∷ p) o prompt left = λ i. rows_fit s p o prompt.0 left.0 i && row_fits s p row o prompt left.1 i && names_fit s (row ∷ p) o prompt left.1.named i
+pub rows_fit : (s : ScenarioValue) (p : List Row) → Obeys s → IsPrompt s p → fit s p ≡ true
+rows_fit s [] o prompt = refl
+rows_fit s (row ∷ p) o prompt = λ i. rows_fit s p o prompt.0 i && row_fits s p row o prompt i && names_fit s (row ∷ p) o prompt i

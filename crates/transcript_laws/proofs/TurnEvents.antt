@@ -24,7 +24,7 @@ use Rattle.transcript_laws.proofs.AccountSteps.{shown_step, told_step, refused_s
 use Rattle.transcript_laws.proofs.ServingSteps.{conn_items, conn_more}
 use Rattle.transcript_laws.proofs.ShownParts.{part_more}
 use Rattle.transcript_laws.proofs.TurnSteps.{arrival}
-use Rattle.std.proofs.lemmas.Bool.{or_right}
+use Rattle.transcript_laws.proofs.PastEvents.{any_later}
 use Rattle.bus_base.proofs.Tests.{wrong, and_false}
 
 -- ---- the events
@@ -80,13 +80,15 @@ path_account a c d e h = record {
   shown = λ f. h.shown (ap (λ (x : CarriedBytes). x.refused) e ∙ f) ∙ ap (λ (x : CarriedBytes). x.shown) e;
 }
 
-by_turn : (a : AccountValue) (c : CarriedBytes) (arrived shown : List Event) → marked_with c arrived ≡ c → Turn c arrived shown → IsAccountOf a c → IsAccountOf (status_after a true) (marked_with c shown)
+by_turn : (a : AccountValue) (c : CarriedBytes) (arrived shown : List Event) → marked_with c arrived ≡ c → Turn c arrived shown → IsAccountOf a c
+    → IsAccountOf (status_after a true) (marked_with c shown)
 by_turn a c arrived shown e (quiet same told) h =
     path_account (status_after a true) c (marked_with c shown) (sym (ap (λ (list : List Event). marked_with c list) same ∙ e)) (told_step a c told h)
 by_turn a c arrived shown e (shows same unrefused unshown) h =
     path_account (status_after a true) (marked_shown c) (marked_with c shown) (sym (ap (λ (list : List Event). marked_with c list) same ∙ event_mark c arrived e)) (shown_step a c h)
 
-pub turn_account : (a : AccountValue) (c : CarriedBytes) (whole room begins : Bool) (id : ProcId) → IsAccountOf a c → IsAccountOf (status_after a begins) (marked_with c (turn_events begins c (arrivals whole room id)))
+pub turn_account : (a : AccountValue) (c : CarriedBytes) (whole room begins : Bool) (id : ProcId) → IsAccountOf a c
+    → IsAccountOf (status_after a begins) (marked_with c (turn_events begins c (arrivals whole room id)))
 turn_account a c false room false id h = h
 turn_account a c true true false id h = h
 turn_account a c true false false id h = refused_step a c h
@@ -100,7 +102,8 @@ turn_account a c true false true id h =
 abbrev pub ready : List Name → Bool → Name → List Item
 ready refused shown name = if shown then [] else if is_listed refused name then [] else items.Ready name ∷ []
 
-pub status_shown : (refused : List Name) (a : AccountValue) (begins : Bool) → shown_items refused (status_after a begins).items ≡ shown_items refused a.items ++ (if begins then ready refused a.process.shown a.process.name else [])
+pub status_shown : (refused : List Name) (a : AccountValue) (begins : Bool)
+    → shown_items refused (status_after a begins).items ≡ shown_items refused a.items ++ (if begins then ready refused a.process.shown a.process.name else [])
 status_shown refused a true = (part_more refused a parts_of.StatusPhase).shown
 status_shown refused a false = sym (append-nil (shown_items refused a.items))
 
@@ -108,12 +111,10 @@ ready_none : (refused : List Name) (shown : Bool) (name : Name) → is_listed re
 ready_none refused true name e = refl
 ready_none refused false name e = ap (λ (q : Bool). if q then [] else items.Ready name ∷ []) e
 
-pub any_later : (t : Event → Bool) (xs ys : List Event) → list_any t ys ≡ true → list_any t (xs ++ ys) ≡ true
-any_later t [] ys e = e
-any_later t (x ∷ xs) ys e = or_right (t x) (list_any t (xs ++ ys)) (any_later t xs ys e)
-
 -- What STATUS shows is what the turn tells.
-ready_turn : (refused : List Name) (a : AccountValue) (c : CarriedBytes) (name : Name) (id : ProcId) (arrived shown history : List Event) → c.id ≡ id → c.refused ≡ has_refusal history id → IsAccountOf a c → Turn c arrived shown → IsRefused refused name id (shown ++ history) → conn_items name shown ≡ conn_items name arrived ++ ready refused a.process.shown name
+ready_turn : (refused : List Name) (a : AccountValue) (c : CarriedBytes) (name : Name) (id : ProcId) (arrived shown history : List Event) → c.id ≡ id
+    → c.refused ≡ has_refusal history id → IsAccountOf a c → Turn c arrived shown → IsRefused refused name id (shown ++ history)
+    → conn_items name shown ≡ conn_items name arrived ++ ready refused a.process.shown name
 ready_turn refused a c name id arrived shown history own marked h (quiet same told) r =
     ap (λ (list : List Event). conn_items name list) same ∙ sym (append-nil (conn_items name arrived)) ∙ ap (λ (list : List Item). conn_items name arrived ++ list) (sym (go c.refused refl))
   where
@@ -138,7 +139,10 @@ ready_turn refused a c name id arrived shown history own marked h (shows same un
         ap (λ (list : List Event). has_answer (list ++ history) id) same
         ∙ ap (λ (q : Bool). q || has_answer (arrived ++ history) id) (is_one c.failure)
 
-pub turn_shown : (refused : List Name) (a : AccountValue) (c : CarriedBytes) (name : Name) (id : ProcId) (whole room begins : Bool) (history : List Event) → c.id ≡ id → c.refused ≡ has_refusal history id → a.process.name ≡ name → IsAccountOf a c → IsRefused refused name id (turn_events begins c (arrivals whole room c.id) ++ history) → arrival whole name ++ (if begins then ready refused a.process.shown a.process.name else []) ≡ conn_items name (turn_events begins c (arrivals whole room c.id))
+pub turn_shown : (refused : List Name) (a : AccountValue) (c : CarriedBytes) (name : Name) (id : ProcId) (whole room begins : Bool) (history : List Event)
+    → c.id ≡ id → c.refused ≡ has_refusal history id → a.process.name ≡ name → IsAccountOf a c
+    → IsRefused refused name id (turn_events begins c (arrivals whole room c.id) ++ history)
+    → arrival whole name ++ (if begins then ready refused a.process.shown a.process.name else []) ≡ conn_items name (turn_events begins c (arrivals whole room c.id))
 turn_shown refused a c name id false room false history own marked named h r = refl
 turn_shown refused a c name id true true false history own marked named h r = refl
 turn_shown refused a c name id true false false history own marked named h r = refl

@@ -35,6 +35,7 @@ use Rattle.trace_laws.specs.Tells.{IsServed, of_process, of_abort}
 use Rattle.trace_laws.proofs.PhaseLines.{command_phase}
 use Rattle.trace_laws.proofs.RowItems.{over_after, link_still}
 use Rattle.trace_laws.proofs.TellRows.{unbegun_lines}
+use Rattle.trace_laws.proofs.Impossible.{none_some}
 use Rattle.transcript_laws.specs.RowTests.{is_open_item, arrives_first, leaves_talk, gets_known}
 use Rattle.transcript_laws.proofs.OpenedBytes.{OpenedBytes, begun_turned}
 use Rattle.transcript_laws.proofs.OpenedFacts.{Going, plain_before, knows_before}
@@ -42,10 +43,7 @@ use Rattle.bus_base.proofs.Tests.{wrong, wrong', or_true}
 
 -- ---- items
 
-none_item : {A : Type 0} (i : Item) → (let o : Option Item = None in o) ≡ Some i → A
-none_item i e = absurd cc
-
-not_both : {A : Type 0} (id : ProcId) (j : ℕ) → (let o : Option Item = Some (process id) in o) ≡ Some (abort j) → A
+pub not_both : {A : Type 0} (id : ProcId) (j : ℕ) → (let o : Option Item = Some (process id) in o) ≡ Some (abort j) → A
 not_both id j e = absurd cc
 
 -- The item that the initiator knows is the one that is served.
@@ -57,7 +55,7 @@ item_served s k n l i w el e = go w.item_is
 
     go : (w.link.item ≡ k.served) ⊎ ((n.reselected ≡ true) × (w.link.item ≡ None)) → k.served ≡ Some i
     go (inl z) = sym z ∙ ap (λ (x : Link). x.item) same ∙ e
-    go (inr z) = none_item i (sym z.1 ∙ ap (λ (x : Link). x.item) same ∙ e)
+    go (inr z) = none_some i (sym z.1 ∙ ap (λ (x : Link). x.item) same ∙ e)
 
 -- ---- an abort
 
@@ -73,7 +71,9 @@ out_only b e = go b.msg b.cd b.io refl refl refl e
     is_out phases.MessageOut = true
     is_out _ = false
 
-    go : (m d i : Bool) → b.msg ≡ m → b.cd ≡ d → b.io ≡ i → (if m then (if i then phases.MessageIn else phases.MessageOut) else if d then (if i then phases.Status else phases.Command) else if i then phases.DataIn else phases.DataOut) ≡ phases.MessageOut → IsOutLines b
+    go : (m d i : Bool) → b.msg ≡ m → b.cd ≡ d → b.io ≡ i
+        → (if m then (if i then phases.MessageIn else phases.MessageOut) else if d then (if i then phases.Status else phases.Command) else if i then phases.DataIn else phases.DataOut) ≡ phases.MessageOut
+        → IsOutLines b
     go true d true x y z f = wrong' (ap is_out f)
     go true d false x y z f = record {
       command = λ i. not (x i) && b.cd && not b.io;
@@ -91,7 +91,8 @@ pub record AbortStands (s : ScenarioValue) (p : List Row) (n : Connection) (o : 
   pub command : is_command (bus_of (run_state s p)) ≡ false
   pub bytes : o.bytes ≡ []
 
-abort_stands : (s : ScenarioValue) (p : List Row) (row : Row) (n : Connection) (g : Going s p row n) (o : OpenedValue) (j : ℕ) → OpenedBytes (run_state s p) n o → (run_state s p).served ≡ Some (abort j) → AbortStands s p n o
+abort_stands : (s : ScenarioValue) (p : List Row) (row : Row) (n : Connection) (g : Going s p row n) (o : OpenedValue) (j : ℕ) → OpenedBytes (run_state s p) n o
+    → (run_state s p).served ≡ Some (abort j) → AbortStands s p n o
 abort_stands s p row n g o j h served = go (g.was.facts.served n g.stands g.calm)
   where
     k : RunState
@@ -108,7 +109,8 @@ abort_stands s p row n g o j h served = go (g.was.facts.served n g.stands g.calm
         by true b = let lines = out_only (bus_of k) (phase b).0 in record { selected = re; command = lines.command; bytes = h.bytes lines.moves }
         by false b = record { selected = re; command = ap is_command pl.bus ∙ unbegun_lines s p n g.link.stage (sym pl.begun ∙ b); bytes = h.unbegun b }
 
-pub talk_leaves : (s : ScenarioValue) (p : List Row) (row : Row) (n : Connection) (g : Going s p row n) (o : OpenedValue) (l : Link) → OpenedBytes (run_state s p) n o → (run_state s p).story.link ≡ Some l → changes_phase g.going.change ≡ true → leaves_talk o g.going.change l.item ≡ true
+pub talk_leaves : (s : ScenarioValue) (p : List Row) (row : Row) (n : Connection) (g : Going s p row n) (o : OpenedValue) (l : Link)
+    → OpenedBytes (run_state s p) n o → (run_state s p).story.link ≡ Some l → changes_phase g.going.change ≡ true → leaves_talk o g.going.change l.item ≡ true
 talk_leaves s p row n g o l h el ep = go l.item refl
   where
     k : RunState
@@ -145,7 +147,8 @@ new_shows c e = ap (λ (q : Bool). not (is_whole_block c) || not q) (go c.shown 
     go true b z = wrong z
     go false b z = refl
 
-pub arrives : (s : ScenarioValue) (p : List Row) (row : Row) (n : Connection) (g : Going s p row n) (l : Link) → (run_state s p).story.link ≡ Some l → is_command g.going.change.before ≡ true → arrives_first (run_state s p).story l.item ≡ true
+pub arrives : (s : ScenarioValue) (p : List Row) (row : Row) (n : Connection) (g : Going s p row n) (l : Link) → (run_state s p).story.link ≡ Some l
+    → is_command g.going.change.before ≡ true → arrives_first (run_state s p).story l.item ≡ true
 arrives s p row n g l el command = go l.item refl
   where
     k : RunState
@@ -179,7 +182,9 @@ arrives s p row n g l el command = go l.item refl
 
 -- ---- the process is known, and open
 
-open_by : (s : ScenarioValue) (k : RunState) (n : Connection) (l : Link) → Knows s k n → k.story.link ≡ Some l → IsServed s k n → n.reselected ≡ true → ((i : Item) → k.served ≡ Some i → has_item k.story.sent.sent i ≡ true) → ((i : Item) → k.served ≡ Some i → has_item k.story.sent.over i ≡ false) → is_some l.item ≡ true → is_open_item k.story l.item ≡ true
+open_by : (s : ScenarioValue) (k : RunState) (n : Connection) (l : Link) → Knows s k n → k.story.link ≡ Some l → IsServed s k n → n.reselected ≡ true
+    → ((i : Item) → k.served ≡ Some i → has_item k.story.sent.sent i ≡ true) → ((i : Item) → k.served ≡ Some i → has_item k.story.sent.over i ≡ false)
+    → is_some l.item ≡ true → is_open_item k.story l.item ≡ true
 open_by s k n l w el served re sent open_is = go l.item refl
   where
     abortive : (j : ℕ) → k.served ≡ Some (abort j) → IsServed s k n → is_open_item k.story (Some (abort j)) ≡ true
@@ -194,7 +199,8 @@ open_by s k n l w el served re sent open_is = go l.item refl
     go (Some (abort j)) e z = abortive j (item_served s k n l (abort j) w el e) served
 
 -- Outside the message phases a process that was reselected is known.
-pub named_known : (s : ScenarioValue) (k : RunState) (n : Connection) (l : Link) → Named s k n → k.story.link ≡ Some l → is_message_in (bus_of k) ≡ false → is_message_out (bus_of k) ≡ false → is_some l.item ≡ true
+pub named_known : (s : ScenarioValue) (k : RunState) (n : Connection) (l : Link) → Named s k n → k.story.link ≡ Some l → is_message_in (bus_of k) ≡ false
+    → is_message_out (bus_of k) ≡ false → is_some l.item ≡ true
 named_known s k n l (known m e some none) el no_in no_out = ap (λ (x : Link). is_some x.item) (same_Some l m (sym el ∙ e)) ∙ some
 named_known s k n l (said p m naming here names all) el no_in no_out = wrong (sym here ∙ no_in)
 named_known s k n l (refused p m naming here cause names) el no_in no_out = wrong (sym here ∙ no_out)
@@ -225,7 +231,10 @@ either true b c e = inl refl
 either false true c e = inl refl
 either false false c e = inr e
 
-pub known_open : (s : ScenarioValue) (p : List Row) (row : Row) (n : Connection) (g : Going s p row n) (o : OpenedValue) (l : Link) → OpenedBytes (run_state s p) n o → (run_state s p).story.link ≡ Some l → changes_phase g.going.change ≡ true → is_some (receiver_in n g.going.change) ≡ false → n.reselected ≡ true → gets_known o g.going.change ≡ true → is_open_item (run_state s p).story l.item ≡ true
+pub known_open : (s : ScenarioValue) (p : List Row) (row : Row) (n : Connection) (g : Going s p row n) (o : OpenedValue) (l : Link)
+    → OpenedBytes (run_state s p) n o → (run_state s p).story.link ≡ Some l → changes_phase g.going.change ≡ true
+    → is_some (receiver_in n g.going.change) ≡ false → n.reselected ≡ true → gets_known o g.going.change ≡ true
+    → is_open_item (run_state s p).story l.item ≡ true
 known_open s p row n g o l h el ep er re gets = go (either (is_command c.after) (is_status_phase c.after) (not (is_nil o.bytes)) gets)
   where
     k : RunState

@@ -15,13 +15,14 @@ use Rattle.bus_books.proofs.Lookups.{self_id, carried_id, put_own, put_other}
 use Rattle.transcript_laws.specs.Past.{IsOwnEvent, AreOwnEvents}
 use Rattle.transcript_laws.specs.Serving.{marked_by, marked_with}
 use Rattle.transcript_laws.specs.Told.{has_refusal, has_answer, IsMarked}
-use Rattle.transcript_laws.proofs.FirstNext.{not_same}
 use Rattle.transcript_laws.proofs.TurnEvents.{arrivals, turn_events, Turn, quiet, shows, turn, refused_turn, event_mark}
 use Rattle.bus_base.proofs.Tests.{wrong}
+use Rattle.target_units.proofs.LiveQueue.{id_turned}
 
 -- ---- what is carried
 
-event_own : (s : ScenarioValue) (b : Story) (id : ProcId) (event : Event) → IsOwnEvent id event → carried_of (story_after_event s b event).carried id ≡ marked_by (carried_of b.carried id) event
+event_own : (s : ScenarioValue) (b : Story) (id : ProcId) (event : Event) → IsOwnEvent id event
+    → carried_of (story_after_event s b event).carried id ≡ marked_by (carried_of b.carried id) event
 event_own s b id (events.Accept x) e = refl
 event_own s b id (events.Refuse x) e =
     ap (λ (y : ProcId). carried_of (with_carried b.carried (marked_refused (carried_of b.carried y))) id) e ∙ put_own b.carried (marked_refused (carried_of b.carried id)) id (carried_id b.carried id)
@@ -34,30 +35,34 @@ event_own s b id (events.Lost x) e = refl
 event_own s b id (events.Aborted host target unit what) e = absurd e
 event_own s b id (events.Reset dev) e = absurd e
 
-pub events_own : (s : ScenarioValue) (b : Story) (id : ProcId) (list : List Event) → AreOwnEvents id list → carried_of (story_after_events s b list).carried id ≡ marked_with (carried_of b.carried id) list
+pub events_own : (s : ScenarioValue) (b : Story) (id : ProcId) (list : List Event) → AreOwnEvents id list
+    → carried_of (story_after_events s b list).carried id ≡ marked_with (carried_of b.carried id) list
 events_own s b id [] e = refl
 events_own s b id (event ∷ list) e = event_own s (story_after_events s b list) id event e.0 ∙ ap (λ (c : CarriedBytes). marked_by c event) (events_own s b id list e.1)
 
-event_other : (s : ScenarioValue) (b : Story) (id x : ProcId) (event : Event) → IsOwnEvent id event → same_id x id ≡ false → carried_of (story_after_event s b event).carried x ≡ carried_of b.carried x
+event_other : (s : ScenarioValue) (b : Story) (id x : ProcId) (event : Event) → IsOwnEvent id event → same_id x id ≡ false
+    → carried_of (story_after_event s b event).carried x ≡ carried_of b.carried x
 event_other s b id x (events.Accept y) e but = refl
-event_other s b id x (events.Refuse y) e but = put_other b.carried (marked_refused (carried_of b.carried y)) id x (carried_id b.carried y ∙ e) (not_same x id but)
-event_other s b id x (events.Run y) e but = put_other b.carried (marked_shown (carried_of b.carried y)) id x (carried_id b.carried y ∙ e) (not_same x id but)
-event_other s b id x (events.Fail y code) e but = put_other b.carried (marked_shown (carried_of b.carried y)) id x (carried_id b.carried y ∙ e) (not_same x id but)
+event_other s b id x (events.Refuse y) e but = put_other b.carried (marked_refused (carried_of b.carried y)) id x (carried_id b.carried y ∙ e) (id_turned x id but)
+event_other s b id x (events.Run y) e but = put_other b.carried (marked_shown (carried_of b.carried y)) id x (carried_id b.carried y ∙ e) (id_turned x id but)
+event_other s b id x (events.Fail y code) e but = put_other b.carried (marked_shown (carried_of b.carried y)) id x (carried_id b.carried y ∙ e) (id_turned x id but)
 event_other s b id x (events.End y status) e but = ap (λ (all : List CarriedBytes). carried_of all x) (check_keeps (story_with_end b y (by_status status)) y status).0
 event_other s b id x (events.Lost y) e but = refl
 event_other s b id x (events.Aborted host target unit what) e but = absurd e
 event_other s b id x (events.Reset dev) e but = absurd e
 
-pub events_other : (s : ScenarioValue) (b : Story) (id x : ProcId) (list : List Event) → AreOwnEvents id list → same_id x id ≡ false → carried_of (story_after_events s b list).carried x ≡ carried_of b.carried x
+pub events_other : (s : ScenarioValue) (b : Story) (id x : ProcId) (list : List Event) → AreOwnEvents id list → same_id x id ≡ false
+    → carried_of (story_after_events s b list).carried x ≡ carried_of b.carried x
 events_other s b id x [] e but = refl
 events_other s b id x (event ∷ list) e but = event_other s (story_after_events s b list) id x event e.0 but ∙ events_other s b id x list e.1 but
 
 -- ---- the marks of another
 
 other_id : (id x y : ProcId) → y ≡ id → same_id x id ≡ false → same_id y x ≡ false
-other_id id x y e but = ap (λ (z : ProcId). same_id z x) e ∙ not_same x id but
+other_id id x y e but = ap (λ (z : ProcId). same_id z x) e ∙ id_turned x id but
 
-event_marked : (history : List Event) (id : ProcId) (event : Event) (c : CarriedBytes) → IsOwnEvent id event → same_id c.id id ≡ false → IsMarked history c → IsMarked (event ∷ history) c
+event_marked : (history : List Event) (id : ProcId) (event : Event) (c : CarriedBytes) → IsOwnEvent id event → same_id c.id id ≡ false → IsMarked history c
+    → IsMarked (event ∷ history) c
 event_marked history id (events.Accept y) c e but m = record { refused = m.refused; shown = m.shown; apart = m.apart; saved = m.saved }
 event_marked history id (events.Refuse y) c e but m = record { refused = m.refused ∙ sym (ap (λ (q : Bool). q || has_refusal history c.id) (other_id id c.id y e but)); shown = m.shown; apart = m.apart; saved = m.saved }
 event_marked history id (events.Run y) c e but m = record { refused = m.refused; shown = m.shown ∙ sym (ap (λ (q : Bool). q || has_answer history c.id) (other_id id c.id y e but)); apart = m.apart; saved = m.saved }
@@ -67,7 +72,8 @@ event_marked history id (events.Lost y) c e but m = record { refused = m.refused
 event_marked history id (events.Aborted host target unit what) c e but m = absurd e
 event_marked history id (events.Reset dev) c e but m = absurd e
 
-pub others_marked : (history : List Event) (id : ProcId) (list : List Event) (c : CarriedBytes) → AreOwnEvents id list → same_id c.id id ≡ false → IsMarked history c → IsMarked (list ++ history) c
+pub others_marked : (history : List Event) (id : ProcId) (list : List Event) (c : CarriedBytes) → AreOwnEvents id list → same_id c.id id ≡ false
+    → IsMarked history c → IsMarked (list ++ history) c
 others_marked history id [] c e but m = m
 others_marked history id (event ∷ list) c e but m = event_marked (list ++ history) id event c e.0 but (others_marked history id list c e.1 but m)
 
@@ -83,18 +89,21 @@ answered : (history : List Event) (c : CarriedBytes) (failure : Option ℕ) → 
 answered history c None e m = record { refused = m.refused; shown = sym (ap (λ (q : Bool). q || has_answer history c.id) (self_id c.id)); apart = λ f. wrong (sym f ∙ e); saved = m.saved }
 answered history c (Some code) e m = record { refused = m.refused; shown = sym (ap (λ (q : Bool). q || has_answer history c.id) (self_id c.id)); apart = λ f. wrong (sym f ∙ e); saved = m.saved }
 
-by_turn : (history : List Event) (c : CarriedBytes) (arrived shown : List Event) → marked_with c arrived ≡ c → Turn c arrived shown → IsMarked (arrived ++ history) c → IsMarked (shown ++ history) (marked_with c shown)
+by_turn : (history : List Event) (c : CarriedBytes) (arrived shown : List Event) → marked_with c arrived ≡ c → Turn c arrived shown
+    → IsMarked (arrived ++ history) c → IsMarked (shown ++ history) (marked_with c shown)
 by_turn history c arrived shown e (quiet same told) m =
     subst (λ (list : List Event). IsMarked (list ++ history) (marked_with c list)) (sym same) (subst (λ (x : CarriedBytes). IsMarked (arrived ++ history) x) (sym e) m)
 by_turn history c arrived shown e (shows same unrefused unshown) m =
     subst (λ (list : List Event). IsMarked (list ++ history) (marked_with c list)) (sym same) (subst (λ (x : CarriedBytes). IsMarked (status_event c.id c.failure ∷ arrived ++ history) x) (sym (event_mark c arrived e)) (answered (arrived ++ history) c c.failure unrefused m))
 
-pub turn_marks : (history : List Event) (c : CarriedBytes) (whole room begins : Bool) → (whole ≡ true → c.shown ≡ false) → IsMarked history c → IsMarked (turn_events begins c (arrivals whole room c.id) ++ history) (marked_with c (turn_events begins c (arrivals whole room c.id)))
+pub turn_marks : (history : List Event) (c : CarriedBytes) (whole room begins : Bool) → (whole ≡ true → c.shown ≡ false) → IsMarked history c
+    → IsMarked (turn_events begins c (arrivals whole room c.id) ++ history) (marked_with c (turn_events begins c (arrivals whole room c.id)))
 turn_marks history c false room false first m = m
 turn_marks history c true true false first m = accepted history c m
 turn_marks history c true false false first m = refused history c (first refl) m
 turn_marks history c false room true first m = by_turn history c [] (turn_events true c []) refl (turn c [] refl) m
-turn_marks history c true true true first m = by_turn history c (events.Accept c.id ∷ []) (turn_events true c (events.Accept c.id ∷ [])) refl (turn c (events.Accept c.id ∷ []) refl) (accepted history c m)
+turn_marks history c true true true first m =
+    by_turn history c (events.Accept c.id ∷ []) (turn_events true c (events.Accept c.id ∷ [])) refl (turn c (events.Accept c.id ∷ []) refl) (accepted history c m)
 turn_marks history c true false true first m =
     subst (λ (list : List Event). IsMarked (list ++ history) (marked_with c list)) (sym (refused_turn c c.id)) (refused history c (first refl) m)
 
@@ -105,7 +114,8 @@ arrival_own true true x id e = (e, tt)
 arrival_own true false x id e = (e, tt)
 arrival_own false room x id e = tt
 
-answer_own : (q : Bool) (x id : ProcId) (failure : Option ℕ) (arrived : List Event) → x ≡ id → AreOwnEvents id arrived → AreOwnEvents id (if q then status_event x failure ∷ arrived else arrived)
+answer_own : (q : Bool) (x id : ProcId) (failure : Option ℕ) (arrived : List Event) → x ≡ id → AreOwnEvents id arrived
+    → AreOwnEvents id (if q then status_event x failure ∷ arrived else arrived)
 answer_own true x id None arrived e h = (e, h)
 answer_own true x id (Some code) arrived e h = (e, h)
 answer_own false x id failure arrived e h = h

@@ -26,6 +26,7 @@ use Rattle.transcript_laws.proofs.BaseParts.{base_turned}
 use Rattle.transcript_laws.proofs.PartLists.{broken_parts, over_keeps}
 use Rattle.transcript_laws.proofs.StillRows.{talk_second}
 use Rattle.transcript_laws.proofs.TalkServes.{talk_first}
+use Rattle.transcript_laws.proofs.TurnServes.{both_none}
 use Rattle.bus_base.proofs.Tests.{wrong, wrong', and_first, and_second}
 
 -- ---- the connection with its next phase
@@ -61,11 +62,13 @@ no_status_part : (q : Bool) → are_talk (if q then parts_of.StatusPhase ∷ [] 
 no_status_part true e = wrong' e
 no_status_part false e = refl
 
-no_command_part : (q r out : Bool) (bytes : List ℕ) (struck : Bool) → are_talk (if q then parts_of.Command bytes struck true ∷ [] else if r then data_parts out bytes else []) ≡ true → q ≡ false
+no_command_part : (q r out : Bool) (bytes : List ℕ) (struck : Bool)
+    → are_talk (if q then parts_of.Command bytes struck true ∷ [] else if r then data_parts out bytes else []) ≡ true → q ≡ false
 no_command_part true r out bytes struck e = wrong' e
 no_command_part false r out bytes struck e = refl
 
-no_data_part : (q r out : Bool) (bytes : List ℕ) (struck : Bool) → are_talk (if q then parts_of.Command bytes struck true ∷ [] else if r then data_parts out bytes else []) ≡ true → r ≡ true → bytes ≡ []
+no_data_part : (q r out : Bool) (bytes : List ℕ) (struck : Bool)
+    → are_talk (if q then parts_of.Command bytes struck true ∷ [] else if r then data_parts out bytes else []) ≡ true → r ≡ true → bytes ≡ []
 no_data_part true r out bytes struck e f = wrong' e
 no_data_part false true out [] struck e f = refl
 no_data_part false true out (b ∷ bytes) struck e f = wrong' e
@@ -109,7 +112,8 @@ gets_by true true false false true f e = wrong' e
 gets_by true true false false false f e = wrong' (f refl).1
 
 -- It becomes known with COMMAND, STATUS, or bytes of data.
-pub known_then : (k : OpenedValue) (s after : LineSet) (half : List ℕ) → (is_data s ≡ false → k.bytes ≡ []) → (is_command after || is_status_phase after || not (is_nil k.bytes)) ≡ true → is_known (turned k s after half) after ≡ true
+pub known_then : (k : OpenedValue) (s after : LineSet) (half : List ℕ) → (is_data s ≡ false → k.bytes ≡ [])
+    → (is_command after || is_status_phase after || not (is_nil k.bytes)) ≡ true → is_known (turned k s after half) after ≡ true
 known_then k s after half empty e =
     ap (λ (n : Connection). not n.reselected || not (are_talk (base_parts (turned k s after half))) || is_command after) (is_turned k s after half).connection
     ∙ gets_by k.connection.reselected (are_talk (base_parts (turned k s after half))) (is_command after) (is_status_phase after) (is_nil k.bytes) (λ talk. let g = talk_parts k s after half talk in (g.status, ap is_nil (by_data g (is_data s) refl))) e
@@ -119,10 +123,6 @@ known_then k s after half empty e =
     by_data g false f = empty f
 
 -- ---- no part came after the last message
-
-nothing_in : {T : Type 0} (xs ys : List T) → (xs ++ ys) ≡ [] → (xs ≡ []) × (ys ≡ [])
-nothing_in [] ys e = (refl, e)
-nothing_in (x ∷ xs) ys e = absurd cc
 
 entered_since : (k : OpenedValue) (q : Bool) → (if q then with_part k parts_of.StatusPhase else k).since ≡ [] → (q ≡ false) × (k.since ≡ [])
 entered_since k true e = absurd (filled_since k.since e)
@@ -161,7 +161,7 @@ pub quiet_since : (k : OpenedValue) (s after : LineSet) (half : List ℕ) → (t
 quiet_since k s after half e =
     let one = entered_since (phase_over k s half true) (is_status_phase after) e in
     let cut : OpenedValue = if is_message_in s && not (is_nil half) then with_in (spoken k) Broken else spoken k in
-    let two = nothing_in cut.since (phase_parts cut s true) one.1 in
+    let two = both_none cut.since (phase_parts cut s true) one.1 in
     record {
       command = no_phase_command cut (is_command s) (is_data s) (not s.io) true two.1;
       status = one.0;

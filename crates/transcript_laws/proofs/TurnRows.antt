@@ -1,7 +1,6 @@
 -- A phase of the connection is left: what stands as the next one begins.
 use Rattle.std.proofs.Common.{ℕ, ◌≡◌, ◌∙◌, Bool, true, false, not, ◌&&◌, ◌||◌, List, [], ◌∷◌, ◌++◌, Option, Some, None, refl, sym, ap, subst}
 use Rattle.std.specs.Prelude.{is_some, if◌then◌else◌}
-use Rattle.std.specs.List.{list_any}
 use Rattle.std.proofs.lemmas.Bool.{or_parts}
 use Rattle.bus_base.specs.declared.Event.{Event}
 use Rattle.bus_base.specs.declared.Event.TheVariants as events
@@ -20,15 +19,17 @@ use Rattle.bus_phases.specs.Half.{is_nil}
 use Rattle.bus_story.specs.BusState.{RowReading, row_reading}
 use Rattle.bus_story.specs.CarriedBytes.{CarriedBytes, carried_of, is_whole_block, is_status_phase}
 use Rattle.bus_story.specs.HistoryEvents as story_of
-use Rattle.bus_story.specs.HistoryEvents.{carried_if, queue_event, queue_events, is_refuse, status_event, status_events, phase_events, end_events, connection_events}
+use Rattle.bus_story.specs.HistoryEvents.{carried_if, phase_events, end_events, connection_events}
 use Rattle.bus_story.specs.Items.{Item, process, abort}
 use Rattle.bus_story.specs.Story.{Story, story_after_events}
 use Rattle.bus_story.specs.TraceHistory.{story_after_fault, story_after_crossing, story_in_connection, story}
 use Rattle.bus_story.proofs.StorySteps.{events_link}
 use Rattle.bus_books.proofs.Lookups.{carried_id, id_is}
+use Rattle.bus_books.proofs.Reading.{nil_is}
 use Rattle.trace_laws.proofs.OverItems.{events_grow}
 use Rattle.trace_laws.proofs.SentItems.{events_sent}
 use Rattle.trace_laws.proofs.Impossible.{none_some}
+use Rattle.trace_laws.proofs.TellRows.{no_events}
 use Rattle.bus_transcript.specs.Accounts.{AccountValue}
 use Rattle.bus_transcript.specs.Events.{names_begun}
 use Rattle.bus_transcript.specs.Opened.{OpenedValue, with_crossing, with_still_row, phase_over, phase_entered, with_row}
@@ -73,7 +74,8 @@ half_of s rows = (story s rows).bus_state.dialogue.half
 abbrev next_of : ScenarioValue → List Row → Row → OpenedValue → OpenedValue
 next_of s rows row k = turned k (story s rows).bus_state.bus (after_of s rows row) (half_of s rows)
 
-turn_row : (s : ScenarioValue) (rows : List Row) (row : Row) (h : StandsLinked s (transcribed rows) (story s rows)) → TurnRow s rows row h → with_row h.opened (story s rows).bus_state (row_reading (story s rows).bus_state row) row.kind ≡ next_of s rows row h.opened
+turn_row : (s : ScenarioValue) (rows : List Row) (row : Row) (h : StandsLinked s (transcribed rows) (story s rows)) → TurnRow s rows row h
+    → with_row h.opened (story s rows).bus_state (row_reading (story s rows).bus_state row) row.kind ≡ next_of s rows row h.opened
 turn_row s rows row h r =
     let d : RowReading = row_reading (story s rows).bus_state row in
     let k : OpenedValue = h.opened in
@@ -82,7 +84,8 @@ turn_row s rows row h r =
     else with_still_row k (story s rows).bus_state d.change row.kind)
     ∙ (λ i. if r.turns i then phase_entered (phase_over k d.change.before (story s rows).bus_state.dialogue.half true) d.change.after else with_still_row k (story s rows).bus_state d.change row.kind)
 
-turn_story : (s : ScenarioValue) (rows : List Row) (row : Row) (h : StandsLinked s (transcribed rows) (story s rows)) → TurnRow s rows row h → story_in_connection s (story s rows) (Some h.link) (row_reading (story s rows).bus_state row) row ≡ story s rows
+turn_story : (s : ScenarioValue) (rows : List Row) (row : Row) (h : StandsLinked s (transcribed rows) (story s rows)) → TurnRow s rows row h
+    → story_in_connection s (story s rows) (Some h.link) (row_reading (story s rows).bus_state row) row ≡ story s rows
 turn_story s rows row h r =
     (λ i. if r.crosses i then story_after_crossing s (story s rows) h.link (row_reading (story s rows).bus_state row) else story_after_fault (story s rows) h.link row.kind) ∙ go row.kind refl
   where
@@ -90,7 +93,9 @@ turn_story s rows row h r =
     go (Drives lines) e = ap (λ (kind : Kind). story_after_fault (story s rows) h.link kind) e
     go (Fault bit) e = fault_phase s rows row bit e r.turns
 
-turn_makes : (s : ScenarioValue) (rows : List Row) (row : Row) (h : StandsLinked s (transcribed rows) (story s rows)) (shown : List Event) → TurnRow s rows row h → phase_events s (story s rows) (carried_if (story s rows) h.link.item) (row_reading (story s rows).bus_state row).change ≡ shown → Makes s rows row (next_of s rows row h.opened) (story_after_events s (story s rows) shown) shown
+turn_makes : (s : ScenarioValue) (rows : List Row) (row : Row) (h : StandsLinked s (transcribed rows) (story s rows)) (shown : List Event)
+    → TurnRow s rows row h → phase_events s (story s rows) (carried_if (story s rows) h.link.item) (row_reading (story s rows).bus_state row).change ≡ shown
+    → Makes s rows row (next_of s rows row h.opened) (story_after_events s (story s rows) shown) shown
 turn_makes s rows row h shown r e = record {
   transcript_is = change_on s rows row h r.on ∙ ap (λ (x : OpenedValue). record (transcribed rows) { opened = Some x }) (turn_row s rows row h r);
   story_is =
@@ -99,13 +104,6 @@ turn_makes s rows row h shown r e = record {
       (λ i. if r.turns i then phase_events s (story s rows) (carried_if (story s rows) h.link.item) d.change else if story_of.is_completion h.link d.change then end_events (carried_if (story s rows) h.link.item) else []) ∙ e in
       story_is_on s rows row h r.on ∙ (λ i. story_on s rows row (story_after_events s (turn_story s rows row h r i) (shows i)) (shows i));
 }
-
--- With neither COMMAND before nor STATUS after it nothing is shown.
-quiet_turn : (s : ScenarioValue) (b : Story) (o : Option CarriedBytes) (c : Change) → is_command c.before ≡ false → is_status_phase c.after ≡ false → phase_events s b o c ≡ []
-quiet_turn s b None c e f = refl
-quiet_turn s b (Some k) c e f =
-    (λ i. status_events (Some k) c.after (if e i && is_whole_block k then queue_event s b.history k.id ∷ [] else []))
-    ∙ (λ i. if f i && not k.shown && not k.refused && not (list_any (λ x. is_refuse x) []) then status_event k.id k.failure ∷ [] else [])
 
 -- ---- what the test says
 
@@ -120,17 +118,15 @@ fit_parts s rows row h r =
     let g = four_true (not (is_message_in (story s rows).bus_state.bus && not (is_nil (half_of s rows))) || undoes_nothing (story s rows) h.link h.link.undo) (not (is_command (story s rows).bus_state.bus) || arrives_first (story s rows) h.link.item) (leaves_talk h.opened (row_reading (story s rows).bus_state row).change h.link.item) (is_known h.opened (story s rows).bus_state.bus || not (gets_known h.opened (row_reading (story s rows).bus_state row).change) || is_open_item (story s rows) h.link.item) r.fits in
     record { undoes = g.0; arrives = g.1; talks = g.2; opens = g.3 }
 
-nothing_undone : (s : ScenarioValue) (rows : List Row) (row : Row) (h : StandsLinked s (transcribed rows) (story s rows)) → TurnRow s rows row h → (is_message_in (story s rows).bus_state.bus && not (is_nil (half_of s rows))) ≡ true → undoes_nothing (story s rows) h.link h.link.undo ≡ true
-nothing_undone s rows row h r e = implied (is_message_in (story s rows).bus_state.bus && not (is_nil (half_of s rows))) (undoes_nothing (story s rows) h.link h.link.undo) (fit_parts s rows row h r).undoes e
+nothing_undone : (s : ScenarioValue) (rows : List Row) (row : Row) (h : StandsLinked s (transcribed rows) (story s rows)) → TurnRow s rows row h
+    → (is_message_in (story s rows).bus_state.bus && not (is_nil (half_of s rows))) ≡ true → undoes_nothing (story s rows) h.link h.link.undo ≡ true
+nothing_undone s rows row h r e =
+    implied (is_message_in (story s rows).bus_state.bus && not (is_nil (half_of s rows))) (undoes_nothing (story s rows) h.link h.link.undo) (fit_parts s rows row h r).undoes e
 
 three_true : (p q r : Bool) → (not p && not q && r) ≡ true → (p ≡ false) × (q ≡ false) × (r ≡ true)
 three_true true q r e = wrong' e
 three_true false true r e = wrong' e
 three_true false false r e = (refl, refl, e)
-
-empty_is : (bytes : List ℕ) → is_nil bytes ≡ true → bytes ≡ []
-empty_is [] e = refl
-empty_is (b ∷ bytes) e = wrong' e
 
 no_bytes : (bytes : List ℕ) → not (is_nil bytes) ≡ false → bytes ≡ []
 no_bytes [] e = refl
@@ -144,7 +140,8 @@ record Turns (s : ScenarioValue) (rows : List Row) (row : Row) (h : StandsLinked
   marked : (x : ProcId) → IsMarked (shown ++ (story s rows).history) (carried_of (story_after_events s (story s rows) shown).carried x)
   stage : Stage s (transcript_on rows row (next_of s rows row h.opened)) (story_on s rows row (story_after_events s (story s rows) shown) shown) (next_of s rows row h.opened) h.link h.sent (shown ++ h.conn)
 
-turned_next : (s : ScenarioValue) (rows : List Row) (row : Row) (h : StandsLinked s (transcribed rows) (story s rows)) (shown : List Event) → TurnRow s rows row h → Turns s rows row h shown → Standing s (row ∷ rows)
+turned_next : (s : ScenarioValue) (rows : List Row) (row : Row) (h : StandsLinked s (transcribed rows) (story s rows)) (shown : List Event)
+    → TurnRow s rows row h → Turns s rows row h shown → Standing s (row ∷ rows)
 turned_next s rows row h shown r g =
     linked_next s rows row h (next_of s rows row h.opened) h.link (story_after_events s (story s rows) shown) shown r.numbered r.on (turn_makes s rows row h shown r g.shown_is) (record {
       connection = new.connection;
@@ -157,23 +154,29 @@ turned_next s rows row h shown r g =
       said = λ e. new.said;
       crossed = λ x e. uncrossed s rows row r.crosses x e;
       undone = λ u e f. let q = quiet_since h.opened (story s rows).bus_state.bus (after_of s rows row) (half_of s rows) f in
-          subst (λ (list : List Event). IsMarked (list ++ (story s rows).history) u) (sym (quiet_turn s (story s rows) (carried_if (story s rows) h.link.item) (row_reading (story s rows).bus_state row).change q.command q.status) ∙ g.shown_is) (undone u e q (is_message_in (story s rows).bus_state.bus && not (is_nil (half_of s rows))) refl);
+          subst (λ (list : List Event). IsMarked (list ++ (story s rows).history) u) (sym (no_events s (story s rows) (carried_if (story s rows) h.link.item) (row_reading (story s rows).bus_state row).change q.command q.status) ∙ g.shown_is) (undone u e q (is_message_in (story s rows).bus_state.bus && not (is_nil (half_of s rows))) refl);
     })
   where
     new : IsTurned h.opened (turned h.opened (story s rows).bus_state.bus (row_reading (story s rows).bus_state row).change.after (story s rows).bus_state.dialogue.half)
     new = is_turned h.opened (story s rows).bus_state.bus (after_of s rows row) (half_of s rows)
 
-    undone : (u : CarriedBytes) → h.link.undo ≡ Some u → IsQuiet h.opened (story s rows).bus_state.bus (row_reading (story s rows).bus_state row).change.after (story s rows).bus_state.dialogue.half → (q : Bool) → (is_message_in (story s rows).bus_state.bus && not (is_nil (story s rows).bus_state.dialogue.half)) ≡ q → IsMarked (story s rows).history u
+    undone : (u : CarriedBytes) → h.link.undo ≡ Some u
+        → IsQuiet h.opened (story s rows).bus_state.bus (row_reading (story s rows).bus_state row).change.after (story s rows).bus_state.dialogue.half
+        → (q : Bool) → (is_message_in (story s rows).bus_state.bus && not (is_nil (story s rows).bus_state.dialogue.half)) ≡ q
+        → IsMarked (story s rows).history u
     undone u e quiet false f = h.undone u e (quiet.since f)
     undone u e quiet true f =
         alike_marked (story s rows).history u (carried_of (story s rows).carried u.id) (sym (carried_id (story s rows).carried u.id)) (alike_is u (carried_of (story s rows).carried u.id) (ap (λ (o : Option CarriedBytes). undoes_nothing (story s rows) h.link o) (sym e) ∙ nothing_undone s rows row h r f)) (r.marked u.id)
 
 -- ---- no event
 
-quiet_marked : (s : ScenarioValue) (rows : List Row) (row : Row) (h : StandsLinked s (transcribed rows) (story s rows)) → TurnRow s rows row h → is_command (story s rows).bus_state.bus ≡ false → is_status_phase (after_of s rows row) ≡ false → Stage s (transcript_on rows row (next_of s rows row h.opened)) (story_on s rows row (story s rows) []) (next_of s rows row h.opened) h.link h.sent h.conn → Standing s (row ∷ rows)
+quiet_marked : (s : ScenarioValue) (rows : List Row) (row : Row) (h : StandsLinked s (transcribed rows) (story s rows)) → TurnRow s rows row h
+    → is_command (story s rows).bus_state.bus ≡ false → is_status_phase (after_of s rows row) ≡ false
+    → Stage s (transcript_on rows row (next_of s rows row h.opened)) (story_on s rows row (story s rows) []) (next_of s rows row h.opened) h.link h.sent h.conn
+    → Standing s (row ∷ rows)
 quiet_marked s rows row h r q v stage =
     turned_next s rows row h [] r (record {
-      shown_is = quiet_turn s (story s rows) (carried_if (story s rows) h.link.item) (row_reading (story s rows).bus_state row).change q v;
+      shown_is = no_events s (story s rows) (carried_if (story s rows) h.link.item) (row_reading (story s rows).bus_state row).change q v;
       link = refl;
       marked = r.marked;
       stage = stage;
@@ -200,7 +203,8 @@ record Serves (s : ScenarioValue) (rows : List Row) (row : Row) (h : StandsLinke
   from : IsFrom s (transcribed rows) (story s rows) h.opened h.sent id was st
   others : AreKept s (transcribed rows) (story s rows) h.sent (λ x. same_id x id)
 
-brings : (s : ScenarioValue) (rows : List Row) (row : Row) (h : StandsLinked s (transcribed rows) (story s rows)) (id : ProcId) (back : CarriedBytes) (was : Bool) (st : Option ℕ) → TurnRow s rows row h → Serves s rows row h id back was st → Brings s rows row h id was st
+brings : (s : ScenarioValue) (rows : List Row) (row : Row) (h : StandsLinked s (transcribed rows) (story s rows)) (id : ProcId) (back : CarriedBytes) (was : Bool) (st : Option ℕ)
+    → TurnRow s rows row h → Serves s rows row h id back was st → Brings s rows row h id was st
 brings s rows row h id back was st r g = go (is_message_in (story s rows).bus_state.bus && not (is_nil (half_of s rows))) h.link.undo refl refl
   where
     now : CarriedBytes
@@ -209,7 +213,8 @@ brings s rows row h id back was st r g = go (is_message_in (story s rows).bus_st
     empty : is_command (story s rows).bus_state.bus ≡ false → is_data (story s rows).bus_state.bus ≡ false → h.opened.bytes ≡ []
     empty q d = h.bytes (λ i. q i || d i)
 
-    same_back : ((is_message_in (story s rows).bus_state.bus && not (is_nil (story s rows).bus_state.dialogue.half)) ≡ true → (a : AccountValue) → IsAccountOf a (carried_of (story s rows).carried id) → IsAccountOf a back) → Brings s rows row h id was st
+    same_back : ((is_message_in (story s rows).bus_state.bus && not (is_nil (story s rows).bus_state.dialogue.half)) ≡ true → (a : AccountValue) → IsAccountOf a (carried_of (story s rows).carried id) → IsAccountOf a back)
+        → Brings s rows row h id was st
     same_back same = record {
       back = back;
       undo = g.undone;
@@ -217,7 +222,8 @@ brings s rows row h id back was st r g = go (is_message_in (story s rows).bus_st
       void = λ m p held none b. void_turned h.opened (story s rows).bus_state.bus (half_of s rows) (is_status_phase (after_of s rows row)) id now back h.conn (story s rows).history was st empty same g.serving m p held none b;
     }
 
-    go : (q : Bool) (o : Option CarriedBytes) → (is_message_in (story s rows).bus_state.bus && not (is_nil (story s rows).bus_state.dialogue.half)) ≡ q → h.link.undo ≡ o → Brings s rows row h id was st
+    go : (q : Bool) (o : Option CarriedBytes) → (is_message_in (story s rows).bus_state.bus && not (is_nil (story s rows).bus_state.dialogue.half)) ≡ q
+        → h.link.undo ≡ o → Brings s rows row h id was st
     go false o f e = same_back (λ z. wrong' (sym f ∙ z))
     go true None f e = record {
       back = now;
@@ -230,7 +236,8 @@ brings s rows row h id back was st r g = go (is_message_in (story s rows).bus_st
         let alike = alike_is u (carried_of (story s rows).carried u.id) (ap (λ (x : Option CarriedBytes). undoes_nothing (story s rows) h.link x) (sym e) ∙ nothing_undone s rows row h r f) in
         same_back (λ z a y. subst (λ (x : CarriedBytes). IsAccountOf a x) (g.undone u e) (alike_account u (carried_of (story s rows).carried u.id) a alike (subst (λ (x : ProcId). IsAccountOf a (carried_of (story s rows).carried x)) (sym here) y)))
 
-process_next : (s : ScenarioValue) (rows : List Row) (row : Row) (h : StandsLinked s (transcribed rows) (story s rows)) (id : ProcId) (back : CarriedBytes) (was : Bool) (st : Option ℕ) → TurnRow s rows row h → Serves s rows row h id back was st → Standing s (row ∷ rows)
+process_next : (s : ScenarioValue) (rows : List Row) (row : Row) (h : StandsLinked s (transcribed rows) (story s rows)) (id : ProcId) (back : CarriedBytes) (was : Bool) (st : Option ℕ)
+    → TurnRow s rows row h → Serves s rows row h id back was st → Standing s (row ∷ rows)
 process_next s rows row h id back was st r g =
     turned_next s rows row h shown r (record {
       shown_is = shown_is;
@@ -239,7 +246,7 @@ process_next s rows row h id back was st r g =
       stage = of_process id v.back was st g.is v.undo v.own g.known
           (subst (λ (c : CarriedBytes). IsServing (next_of s rows row h.opened) (is_command (after_of s rows row)) id c v.back (shown ++ h.conn) (shown ++ (story s rows).history) was st) (sym (events_own s (story s rows) id shown own)) (turn_serves h.opened (story s rows).bus_state.bus (after_of s rows row) (half_of s rows) id now back v.back h.conn (story s rows).history was st room (carried_id (story s rows).carried id) ((r.marked id).refused ∙ ap (λ (x : ProcId). has_refusal (story s rows).history x) (carried_id (story s rows).carried id)) v.void g.serving))
           (own_append id shown h.conn own g.events_are)
-          (λ talk. let q = talk_parts h.opened (story s rows).bus_state.bus (after_of s rows row) (half_of s rows) talk in (λ i. (sym shown_is ∙ quiet_turn s (story s rows) (carried_if (story s rows) h.link.item) (row_reading (story s rows).bus_state row).change q.command q.status) i ++ g.talks q.base i))
+          (λ talk. let q = talk_parts h.opened (story s rows).bus_state.bus (after_of s rows row) (half_of s rows) talk in (λ i. (sym shown_is ∙ no_events s (story s rows) (carried_if (story s rows) h.link.item) (row_reading (story s rows).bus_state row).change q.command q.status) i ++ g.talks q.base i))
           (from_on s (transcribed rows) (transcript_on rows row next) (story s rows) (story_on s rows row c shown) h.opened next h.sent id was st same (is_turned h.opened (story s rows).bus_state.bus (after_of s rows row) (half_of s rows)).connection g.from)
           (kept_on s (transcribed rows) (transcript_on rows row next) (story s rows) (story_on s rows row c shown) h.sent (λ x. same_id x id) same (λ x no. alike_self _ _ (sym (events_other s (story s rows) id x shown own no))) g.others);
     })
@@ -292,7 +299,9 @@ process_next s rows row h id back was st r g =
 -- ---- what stands
 
 -- It is known from this row on.
-becomes_known : (s : ScenarioValue) (rows : List Row) (row : Row) (h : StandsLinked s (transcribed rows) (story s rows)) → TurnRow s rows row h → h.opened.connection.reselected ≡ true → h.conn ≡ [] → are_talk (base_parts h.opened) ≡ true → is_command (story s rows).bus_state.bus ≡ false → ((x : ProcId) → h.link.item ≡ Some (process x) → IsBlank (carried_of (story s rows).carried x))
+becomes_known : (s : ScenarioValue) (rows : List Row) (row : Row) (h : StandsLinked s (transcribed rows) (story s rows)) → TurnRow s rows row h
+    → h.opened.connection.reselected ≡ true → h.conn ≡ [] → are_talk (base_parts h.opened) ≡ true → is_command (story s rows).bus_state.bus ≡ false
+    → ((x : ProcId) → h.link.item ≡ Some (process x) → IsBlank (carried_of (story s rows).carried x))
     → ((u : CarriedBytes) → h.link.undo ≡ Some u → IsBlank u × AreAlike u (carried_of (story s rows).carried u.id) × ((x : ProcId) → h.link.item ≡ Some (process x) → u.id ≡ x)) → AreKept s (transcribed rows) (story s rows) h.sent no_process → (item : Option Item) → h.link.item ≡ item → is_open_item (story s rows) item ≡ true → gets_known h.opened (row_reading (story s rows).bus_state row).change ≡ true → Standing s (row ∷ rows)
 becomes_known s rows row h r re none talk no_command blanks undone kept_all None is opens gets = wrong' opens
 becomes_known s rows row h r re none talk no_command blanks undone kept_all (Some (abort j)) is opens gets = wrong' opens
@@ -338,7 +347,9 @@ turn_next s rows row h r = go h.stage
     con : next.connection ≡ h.opened.connection
     con = (is_turned h.opened (story s rows).bus_state.bus (after_of s rows row) (half_of s rows)).connection
 
-    by_gets : (q : Bool) → gets_known h.opened (row_reading (story s rows).bus_state row).change ≡ q → h.opened.connection.reselected ≡ true → h.conn ≡ [] → are_talk (base_parts h.opened) ≡ true → is_command (story s rows).bus_state.bus ≡ false → is_status_phase (story s rows).bus_state.bus ≡ false → ((j : ℕ) → h.link.item ≡ Some (abort j) → ⊥) → ((x : ProcId) → h.link.item ≡ Some (process x) → IsBlank (carried_of (story s rows).carried x))
+    by_gets : (q : Bool) → gets_known h.opened (row_reading (story s rows).bus_state row).change ≡ q → h.opened.connection.reselected ≡ true → h.conn ≡ []
+        → are_talk (base_parts h.opened) ≡ true → is_command (story s rows).bus_state.bus ≡ false → is_status_phase (story s rows).bus_state.bus ≡ false
+        → ((j : ℕ) → h.link.item ≡ Some (abort j) → ⊥) → ((x : ProcId) → h.link.item ≡ Some (process x) → IsBlank (carried_of (story s rows).carried x))
         → ((u : CarriedBytes) → h.link.undo ≡ Some u → IsBlank u × AreAlike u (carried_of (story s rows).carried u.id) × ((x : ProcId) → h.link.item ≡ Some (process x) → u.id ≡ x)) → AreKept s (transcribed rows) (story s rows) h.sent no_process → Standing s (row ∷ rows)
     by_gets true e re none talk no_command no_status plain blanks undone kept_all =
         becomes_known s rows row h r re none talk no_command blanks undone kept_all h.link.item refl
@@ -354,7 +365,7 @@ turn_next s rows row h r = go h.stage
     go (of_abort j began is undo none talk kept_all) =
         let c : Change = (row_reading (story s rows).bus_state row).change in
         let three = three_true (is_command c.before) (is_status_phase c.after) (is_nil h.opened.bytes) (sym (ap (λ (o : Option Item). leaves_talk h.opened c o) is) ∙ (fit_parts s rows row h r).talks) in
-        quiet_marked s rows row h r three.0 three.1 (of_abort j (ap (λ (n : Connection). n.reselected) con ∙ began) is undo none (talk_turned h.opened (story s rows).bus_state.bus c.after (half_of s rows) three.0 (empty_is h.opened.bytes three.2) three.1 talk)
+        quiet_marked s rows row h r three.0 three.1 (of_abort j (ap (λ (n : Connection). n.reselected) con ∙ began) is undo none (talk_turned h.opened (story s rows).bus_state.bus c.after (half_of s rows) three.0 (nil_is h.opened.bytes three.2) three.1 talk)
         (kept_on s (transcribed rows) (transcript_on rows row next) (story s rows) (story_on s rows row (story s rows) []) h.sent no_process same (λ x no. alike_self _ _ refl) kept_all))
     go (of_none re none talk no_command no_status plain blanks undone kept_all) =
         by_gets (gets_known h.opened (row_reading (story s rows).bus_state row).change) refl re none talk no_command no_status plain blanks undone kept_all

@@ -28,14 +28,15 @@ use Rattle.transcript_laws.proofs.AccountSteps.{same_account}
 use Rattle.transcript_laws.proofs.PartLists.{spoken_holds, spoken_keeps, spoken_parts}
 use Rattle.transcript_laws.proofs.ServingSteps.{filled, of_block, conn_items}
 use Rattle.transcript_laws.proofs.TurnSteps.{arrival, over_account, turned_account, over_is, over_name, over_shown, outs_same}
-use Rattle.transcript_laws.proofs.TurnEvents.{arrivals, turn_events, ready, any_later, turn_account, status_shown, turn_shown}
+use Rattle.transcript_laws.proofs.TurnEvents.{arrivals, turn_events, ready, turn_account, status_shown, turn_shown}
 use Rattle.std.proofs.lemmas.Bool.{and_right}
-use Rattle.bus_base.proofs.Tests.{wrong'}
+use Rattle.bus_base.proofs.Tests.{wrong', and_first}
 use Rattle.transcript_laws.proofs.Closings.{account_by}
+use Rattle.transcript_laws.proofs.PastEvents.{any_later}
 
 -- ---- lists
 
-both_none : {T : Type 0} (xs ys : List T) → (xs ++ ys) ≡ [] → (xs ≡ []) × (ys ≡ [])
+pub both_none : {T : Type 0} (xs ys : List T) → (xs ++ ys) ≡ [] → (xs ≡ []) × (ys ≡ [])
 both_none [] ys e = (refl, e)
 both_none (x ∷ xs) ys e = absurd cc
 
@@ -95,23 +96,23 @@ in_no_command s e = go s.msg refl
     go true f = ap (λ (q : Bool). not q && s.cd && not s.io) f
     go false f = wrong' (sym (ap (λ (q : Bool). q && s.cd && s.io) f) ∙ e)
 
-and_first : (p q : Bool) → (p && q) ≡ true → p ≡ true
-and_first true q e = refl
-and_first false q e = wrong' e
-
 no_phase_parts : (k : OpenedValue) (s : LineSet) → (is_command s ≡ false → is_data s ≡ false → k.bytes ≡ []) → phase_parts k s true ≡ [] → k.bytes ≡ []
 no_phase_parts k s empty e = go (is_command s) (is_data s) refl refl e
   where
-    go : (q r : Bool) → is_command s ≡ q → is_data s ≡ r → (if q then parts_of.Command k.bytes k.struck true ∷ [] else if r then data_parts (not s.io) k.bytes else []) ≡ [] → k.bytes ≡ []
+    go : (q r : Bool) → is_command s ≡ q → is_data s ≡ r
+        → (if q then parts_of.Command k.bytes k.struck true ∷ [] else if r then data_parts (not s.io) k.bytes else []) ≡ [] → k.bytes ≡ []
     go true r f g z = absurd cc
     go false true f g z = data_none (not s.io) k.bytes z
     go false false f g z = empty f g
 
-now_account : (k : OpenedValue) (id : ProcId) (now back : CarriedBytes) (conn history : List Event) (was : Bool) (st : Option ℕ) (q : Bool) (p : Process) → q ≡ false → IsServing k q id now back conn history was st → IsAsBegun p was st → IsAccountOf (account_by p (parts_now k)) now
+now_account : (k : OpenedValue) (id : ProcId) (now back : CarriedBytes) (conn history : List Event) (was : Bool) (st : Option ℕ) (q : Bool) (p : Process)
+    → q ≡ false → IsServing k q id now back conn history was st → IsAsBegun p was st → IsAccountOf (account_by p (parts_now k)) now
 now_account k id now back conn history was st q p off h b =
     subst (λ (a : AccountValue). IsAccountOf a now) (sym (all_after (account_of p []) (base_parts k) (out_parts k.said))) (same_account (account_base k p) (account_after_all (account_base k p) (out_parts k.said)) now (outs_same (account_base k p) k.said) (of_block (account_base k p) now (subst (λ (r : Bool). IsAccountOf (with_block (account_base k p) (if r then k.bytes else []) (r && k.struck)) now) off (h.account p b))))
 
-pub void_over : (k : OpenedValue) (s : LineSet) (half : List ℕ) (id : ProcId) (now back : CarriedBytes) (conn history : List Event) (was : Bool) (st : Option ℕ) (broken : Bool) → (is_message_in s && not (is_nil half)) ≡ broken → (is_command s ≡ false → is_data s ≡ false → k.bytes ≡ []) → (broken ≡ true → (a : AccountValue) → IsAccountOf a now → IsAccountOf a back) → IsServing k (is_command s) id now back conn history was st
+pub void_over : (k : OpenedValue) (s : LineSet) (half : List ℕ) (id : ProcId) (now back : CarriedBytes) (conn history : List Event) (was : Bool) (st : Option ℕ) (broken : Bool)
+    → (is_message_in s && not (is_nil half)) ≡ broken → (is_command s ≡ false → is_data s ≡ false → k.bytes ≡ [])
+    → (broken ≡ true → (a : AccountValue) → IsAccountOf a now → IsAccountOf a back) → IsServing k (is_command s) id now back conn history was st
     → (m : Incoming) (p : Process) → (if broken then with_in (spoken k) Broken else spoken k).held ≡ Some m → ((if broken then with_in (spoken k) Broken else spoken k).since ++ phase_parts (if broken then with_in (spoken k) Broken else spoken k) s true) ≡ [] → IsAsBegun p was st → IsAccountOf (account_by p (if broken then with_in (spoken k) Broken else spoken k).parts) back
 void_over k s half id now back conn history was st true e empty same h m p held none b =
     same refl (account_by p (settled (spoken k) false).parts) (subst (λ (parts : List Part). IsAccountOf (account_by p parts) now) (sym (spoken_parts k)) (now_account k id now back conn history was st (is_command s) p (in_no_command s (and_first (is_message_in s) (not (is_nil half)) e)) h b))
@@ -122,22 +123,29 @@ void_over k s half id now back conn history was st false e empty same h m p held
     let bytes : k.bytes ≡ [] = sym g'.bytes ∙ no_phase_parts (spoken k) s (λ x y. g'.bytes ∙ empty x y) parts.1 in
     subst (λ (list : List Part). IsAccountOf (account_by p list) back) (sym g.parts) (h.void m p (sym g.held ∙ held) (sym g.since ∙ parts.0) bytes b)
 
-pub void_turned : (k : OpenedValue) (s : LineSet) (half : List ℕ) (begins : Bool) (id : ProcId) (now back : CarriedBytes) (conn history : List Event) (was : Bool) (st : Option ℕ) → (is_command s ≡ false → is_data s ≡ false → k.bytes ≡ []) → ((is_message_in s && not (is_nil half)) ≡ true → (a : AccountValue) → IsAccountOf a now → IsAccountOf a back) → IsServing k (is_command s) id now back conn history was st
+pub void_turned : (k : OpenedValue) (s : LineSet) (half : List ℕ) (begins : Bool) (id : ProcId) (now back : CarriedBytes) (conn history : List Event) (was : Bool) (st : Option ℕ)
+    → (is_command s ≡ false → is_data s ≡ false → k.bytes ≡ [])
+    → ((is_message_in s && not (is_nil half)) ≡ true → (a : AccountValue) → IsAccountOf a now → IsAccountOf a back)
+    → IsServing k (is_command s) id now back conn history was st
     → (m : Incoming) (p : Process) → (if begins then with_part (phase_over k s half true) parts_of.StatusPhase else phase_over k s half true).held ≡ Some m → (if begins then with_part (phase_over k s half true) parts_of.StatusPhase else phase_over k s half true).since ≡ [] → IsAsBegun p was st → IsAccountOf (account_by p (if begins then with_part (phase_over k s half true) parts_of.StatusPhase else phase_over k s half true).parts) back
 void_turned k s half true id now back conn history was st empty same h m p held none b = filled (phase_over k s half true).since parts_of.StatusPhase none
 void_turned k s half false id now back conn history was st empty same h m p held none b =
     void_over k s half id now back conn history was st (is_message_in s && not (is_nil half)) refl empty same h m p held none b
 
 -- A message that is broken off brings back what holds.
-cut_over : (k : OpenedValue) (s : LineSet) (half : List ℕ) (id : ProcId) (now back : CarriedBytes) (conn history : List Event) (was : Bool) (st : Option ℕ) (broken : Bool) → (is_message_in s && not (is_nil half)) ≡ broken → broken ≡ true → IsServing k (is_command s) id now back conn history was st → (p : Process) → IsAsBegun p was st → IsAccountOf (account_by p (if broken then with_in (spoken k) Broken else spoken k).parts) now
+cut_over : (k : OpenedValue) (s : LineSet) (half : List ℕ) (id : ProcId) (now back : CarriedBytes) (conn history : List Event) (was : Bool) (st : Option ℕ) (broken : Bool)
+    → (is_message_in s && not (is_nil half)) ≡ broken → broken ≡ true → IsServing k (is_command s) id now back conn history was st → (p : Process)
+    → IsAsBegun p was st → IsAccountOf (account_by p (if broken then with_in (spoken k) Broken else spoken k).parts) now
 cut_over k s half id now back conn history was st true e cut h p b =
     subst (λ (parts : List Part). IsAccountOf (account_by p parts) now) (sym (spoken_parts k)) (now_account k id now back conn history was st (is_command s) p (in_no_command s (and_first (is_message_in s) (not (is_nil half)) e)) h b)
 cut_over k s half id now back conn history was st false e cut h p b = wrong' cut
 
-pub cut_turned : (k : OpenedValue) (s : LineSet) (half : List ℕ) (begins : Bool) (id : ProcId) (now back : CarriedBytes) (conn history : List Event) (was : Bool) (st : Option ℕ) → (is_message_in s && not (is_nil half)) ≡ true → IsServing k (is_command s) id now back conn history was st
+pub cut_turned : (k : OpenedValue) (s : LineSet) (half : List ℕ) (begins : Bool) (id : ProcId) (now back : CarriedBytes) (conn history : List Event) (was : Bool) (st : Option ℕ)
+    → (is_message_in s && not (is_nil half)) ≡ true → IsServing k (is_command s) id now back conn history was st
     → (m : Incoming) (p : Process) → (if begins then with_part (phase_over k s half true) parts_of.StatusPhase else phase_over k s half true).held ≡ Some m → (if begins then with_part (phase_over k s half true) parts_of.StatusPhase else phase_over k s half true).since ≡ [] → IsAsBegun p was st → IsAccountOf (account_by p (if begins then with_part (phase_over k s half true) parts_of.StatusPhase else phase_over k s half true).parts) now
 cut_turned k s half true id now back conn history was st cut h m p held none b = filled (phase_over k s half true).since parts_of.StatusPhase none
-cut_turned k s half false id now back conn history was st cut h m p held none b = cut_over k s half id now back conn history was st (is_message_in s && not (is_nil half)) refl cut h p b
+cut_turned k s half false id now back conn history was st cut h m p held none b =
+    cut_over k s half id now back conn history was st (is_message_in s && not (is_nil half)) refl cut h p b
 
 -- ---- the turn
 
@@ -145,7 +153,9 @@ cut_turned k s half false id now back conn history was st cut h m p held none b 
 abbrev pub IsVoid : OpenedValue → CarriedBytes → Bool → Option ℕ → Type 0
 IsVoid k back was st = (m : Incoming) (p : Process) → k.held ≡ Some m → k.since ≡ [] → IsAsBegun p was st → IsAccountOf (account_by p k.parts) back
 
-pub turn_serves : (k : OpenedValue) (s after : LineSet) (half : List ℕ) (id : ProcId) (now before back : CarriedBytes) (conn history : List Event) (was : Bool) (st : Option ℕ) (room : Bool) → now.id ≡ id → now.refused ≡ has_refusal history id → IsVoid (phase_entered (phase_over k s half true) after) back was st → IsServing k (is_command s) id now before conn history was st
+pub turn_serves : (k : OpenedValue) (s after : LineSet) (half : List ℕ) (id : ProcId) (now before back : CarriedBytes) (conn history : List Event) (was : Bool) (st : Option ℕ) (room : Bool)
+    → now.id ≡ id → now.refused ≡ has_refusal history id → IsVoid (phase_entered (phase_over k s half true) after) back was st
+    → IsServing k (is_command s) id now before conn history was st
     → IsServing (phase_entered (phase_over k s half true) after) (is_command after) id (marked_with now (turn_events (is_status_phase after) now (arrivals (is_command s && is_whole_block now) room now.id))) back (turn_events (is_status_phase after) now (arrivals (is_command s && is_whole_block now) room now.id) ++ conn) (turn_events (is_status_phase after) now (arrivals (is_command s && is_whole_block now) room now.id) ++ history) was st
 turn_serves k s after half id now before back conn history was st room own marked brings h = record {
   account = λ p b. new_account (account_base (phase_entered (phase_over k s half true) after) p) (marked_with now shown) _ _ (none_if (is_command after) _ (turned_new k s after half).bytes) (and_right (is_command after) _ (turned_new k s after half).struck) (subst (λ (a : AccountValue). IsAccountOf a (marked_with now shown)) (sym (turned_account k s after half p)) (turn_account (over_account k s half p) now (is_command s && is_whole_block now) room (is_status_phase after) now.id (over_is k s half p now (h.account p b))));

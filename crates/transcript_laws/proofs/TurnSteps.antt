@@ -24,7 +24,6 @@ use Rattle.transcript_laws.proofs.BaseParts.{base_turned}
 use Rattle.transcript_laws.proofs.PartLists.{broken_parts}
 use Rattle.transcript_laws.proofs.ServingSteps.{of_block}
 use Rattle.transcript_laws.proofs.ShownParts.{part_more, talk_more}
-use Rattle.bus_base.proofs.Tests.{wrong, wrong'}
 
 -- ---- the account over a phase
 
@@ -62,7 +61,9 @@ data_account a c out [] h = h
 data_account a c out (b ∷ bytes) h = same_account a (account_after a (parts_of.Data out (b ∷ bytes))) c (data_step a out (b ∷ bytes)) h
 
 -- The bytes of COMMAND count with the part; those of data do not.
-pub phase_account : (a : AccountValue) (c : CarriedBytes) (q r out : Bool) (bytes : List ℕ) (struck left : Bool) → IsAccountOf (with_block a (if q then bytes else []) (q && struck)) c → IsAccountOf (account_after_all a (if q then parts_of.Command bytes struck left ∷ [] else if r then data_parts out bytes else [])) c
+pub phase_account : (a : AccountValue) (c : CarriedBytes) (q r out : Bool) (bytes : List ℕ) (struck left : Bool)
+    → IsAccountOf (with_block a (if q then bytes else []) (q && struck)) c
+    → IsAccountOf (account_after_all a (if q then parts_of.Command bytes struck left ∷ [] else if r then data_parts out bytes else [])) c
 phase_account a c true r out bytes struck left h =
     same_account (with_block a bytes struck) (account_after a (parts_of.Command bytes struck left)) c (command_step a bytes struck left) h
 phase_account a c false true out bytes struck left h = data_account a c out bytes (of_block a c h)
@@ -71,12 +72,15 @@ phase_account a c false false out bytes struck left h = of_block a c h
 abbrev pub arrival : Bool → Name → List Item
 arrival q name = if q then items.Arrive name ∷ [] else []
 
-pub data_shown : (refused : List Name) (a : AccountValue) (out : Bool) (bytes : List ℕ) → shown_items refused (account_after_all a (data_parts out bytes)).items ≡ shown_items refused a.items ++ []
+pub data_shown : (refused : List Name) (a : AccountValue) (out : Bool) (bytes : List ℕ)
+    → shown_items refused (account_after_all a (data_parts out bytes)).items ≡ shown_items refused a.items ++ []
 data_shown refused a out [] = sym (append-nil (shown_items refused a.items))
 data_shown refused a out (b ∷ bytes) = (part_more refused a (parts_of.Data out (b ∷ bytes))).shown
 
 -- It shows that the command arrives where its block stands whole.
-phase_shown : (refused : List Name) (a : AccountValue) (c : CarriedBytes) (q r out : Bool) (bytes : List ℕ) (struck : Bool) → IsAccountOf (with_block a (if q then bytes else []) (q && struck)) c → shown_items refused (account_after_all a (if q then parts_of.Command bytes struck true ∷ [] else if r then data_parts out bytes else [])).items ≡ shown_items refused a.items ++ arrival (q && is_whole_block c) a.process.name
+phase_shown : (refused : List Name) (a : AccountValue) (c : CarriedBytes) (q r out : Bool) (bytes : List ℕ) (struck : Bool)
+    → IsAccountOf (with_block a (if q then bytes else []) (q && struck)) c
+    → shown_items refused (account_after_all a (if q then parts_of.Command bytes struck true ∷ [] else if r then data_parts out bytes else [])).items ≡ shown_items refused a.items ++ arrival (q && is_whole_block c) a.process.name
 phase_shown refused a c true r out bytes struck h =
     (part_more refused a (parts_of.Command bytes struck true)).shown
     ∙ (λ i. shown_items refused a.items ++ arrival (not (length (h.block i) == 0) && has_group_len (h.block i) && not (h.struck i)) a.process.name)
@@ -89,7 +93,8 @@ phase_shown refused a c false false out bytes struck h = sym (append-nil (shown_
 abbrev pub over_account : OpenedValue → LineSet → List ℕ → Process → AccountValue
 over_account k s half p = account_after_all (account_after_all (account_after_all (account_base k p) (out_parts k.said)) (broken_parts s half)) (phase_parts k s true)
 
-pub turned_account : (k : OpenedValue) (s after : LineSet) (half : List ℕ) (p : Process) → account_base (phase_entered (phase_over k s half true) after) p ≡ account_after_all (over_account k s half p) (if is_status_phase after then parts_of.StatusPhase ∷ [] else [])
+pub turned_account : (k : OpenedValue) (s after : LineSet) (half : List ℕ) (p : Process)
+    → account_base (phase_entered (phase_over k s half true) after) p ≡ account_after_all (over_account k s half p) (if is_status_phase after then parts_of.StatusPhase ∷ [] else [])
 turned_account k s after half p =
     let a : AccountValue = account_of p [] in
     let stat : List Part = if is_status_phase after then parts_of.StatusPhase ∷ [] else [] in
@@ -97,12 +102,14 @@ turned_account k s after half p =
     ∙ all_after a ((parts_now k ++ broken_parts s half) ++ phase_parts k s true) stat
     ∙ ap (λ (x : AccountValue). account_after_all x stat) (all_after a (parts_now k ++ broken_parts s half) (phase_parts k s true) ∙ ap (λ (x : AccountValue). account_after_all x (phase_parts k s true)) (all_after a (parts_now k) (broken_parts s half) ∙ ap (λ (x : AccountValue). account_after_all x (broken_parts s half)) (all_after a (base_parts k) (out_parts k.said))))
 
-pub spoken_same : (k : OpenedValue) (s : LineSet) (half : List ℕ) (p : Process) → IsSame (account_base k p) (account_after_all (account_after_all (account_base k p) (out_parts k.said)) (broken_parts s half))
+pub spoken_same : (k : OpenedValue) (s : LineSet) (half : List ℕ) (p : Process)
+    → IsSame (account_base k p) (account_after_all (account_after_all (account_base k p) (out_parts k.said)) (broken_parts s half))
 spoken_same k s half p =
     let a : AccountValue = account_after_all (account_base k p) (out_parts k.said) in
     same_on (account_base k p) a (account_after_all a (broken_parts s half)) (outs_same (account_base k p) k.said) (broken_same a (is_message_in s && not (is_nil half)))
 
-pub over_is : (k : OpenedValue) (s : LineSet) (half : List ℕ) (p : Process) (c : CarriedBytes) → IsAccountOf (with_block (account_base k p) (if is_command s then k.bytes else []) (is_command s && k.struck)) c → IsAccountOf (over_account k s half p) c
+pub over_is : (k : OpenedValue) (s : LineSet) (half : List ℕ) (p : Process) (c : CarriedBytes)
+    → IsAccountOf (with_block (account_base k p) (if is_command s then k.bytes else []) (is_command s && k.struck)) c → IsAccountOf (over_account k s half p) c
 over_is k s half p c h =
     let b : AccountValue = account_after_all (account_after_all (account_base k p) (out_parts k.said)) (broken_parts s half) in
     phase_account b c (is_command s) (is_data s) (not s.io) k.bytes k.struck true (same_account (with_block (account_base k p) (if is_command s then k.bytes else []) (is_command s && k.struck)) (with_block b (if is_command s then k.bytes else []) (is_command s && k.struck)) c (same_block (account_base k p) b (if is_command s then k.bytes else []) (is_command s && k.struck) (spoken_same k s half p)) h)
@@ -112,7 +119,9 @@ over_name k s half p =
     let a : AccountValue = account_after_all (account_base k p) (out_parts k.said) in
     parts_name (account_after_all a (broken_parts s half)) (phase_parts k s true) ∙ parts_name a (broken_parts s half) ∙ parts_name (account_base k p) (out_parts k.said) ∙ parts_name (account_of p []) (base_parts k)
 
-pub over_shown : (k : OpenedValue) (s : LineSet) (half : List ℕ) (p : Process) (c : CarriedBytes) (refused : List Name) → IsAccountOf (with_block (account_base k p) (if is_command s then k.bytes else []) (is_command s && k.struck)) c → shown_items refused (over_account k s half p).items ≡ shown_items refused (account_base k p).items ++ arrival (is_command s && is_whole_block c) p.name
+pub over_shown : (k : OpenedValue) (s : LineSet) (half : List ℕ) (p : Process) (c : CarriedBytes) (refused : List Name)
+    → IsAccountOf (with_block (account_base k p) (if is_command s then k.bytes else []) (is_command s && k.struck)) c
+    → shown_items refused (over_account k s half p).items ≡ shown_items refused (account_base k p).items ++ arrival (is_command s && is_whole_block c) p.name
 over_shown k s half p c refused h =
     let a : AccountValue = account_after_all (account_base k p) (out_parts k.said) in
     let b : AccountValue = account_after_all a (broken_parts s half) in
@@ -127,4 +136,7 @@ over_shown k s half p c refused h =
         ∙ append-nil _
 
     name : (account_after_all (account_after_all (account_base k p) (out_parts k.said)) (broken_parts s half)).process.name ≡ p.name
-    name = parts_name (account_after_all (account_base k p) (out_parts k.said)) (broken_parts s half) ∙ parts_name (account_base k p) (out_parts k.said) ∙ parts_name (account_of p []) (base_parts k)
+    name =
+        parts_name (account_after_all (account_base k p) (out_parts k.said)) (broken_parts s half)
+        ∙ parts_name (account_base k p) (out_parts k.said)
+        ∙ parts_name (account_of p []) (base_parts k)

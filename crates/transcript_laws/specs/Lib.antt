@@ -6,4 +6,3 @@ pub mod Serving
 pub mod Numbered
 pub mod Keeping
 pub mod Standing
-pub mod Left

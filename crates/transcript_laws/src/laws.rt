@@ -7,7 +7,6 @@ ghost use Rattle.scenario.specs.Writing.{Obeys};
 ghost use Rattle.bus_due.specs.Next.{IsPrompt};
 ghost use Rattle.bus_transcript.specs.Events.{TellsHistory, names_begun};
 ghost use Rattle.bus_transcript.specs.Rows.{transcript_of};
-ghost use Rattle.transcript_laws.specs.Left.{AreLeft};
 ghost use Rattle.transcript_laws.specs.RowTests.{fit};
 
 /// Of rows each of which fits the transcript and the story of the rows before it, the transcript has the events of the
@@ -19,12 +18,9 @@ pub fn transcripts_follow_histories()
         → TellsHistory s rows }
 {}
 
-/// Of a prompt trace all rows fit, and they begin few names; so its transcript has the events of its history, where of
-/// each of its rows three parts are shown, which `AreLeft` names: of a message that is broken off, of the end of a
-/// connection, and of the names.
+/// Of a prompt trace all rows fit, and they begin few names; so its transcript has the events of its history.
 pub fn transcripts_follow_prompt_traces()
     ensures { (s : ScenarioValue) (rows : List Row)
         → Obeys s → IsPrompt s rows
-        → AreLeft s rows
         → TellsHistory s rows }
 {}

@@ -5,7 +5,7 @@
 //! (`Serving.antt`), each open process is the last of its nexus (`Keeping.antt`), each connection of an initiator has a
 //! name of its own (`Numbered.antt`), and the connections that are over show the events that they made (`Past.antt`).
 //! It goes on with every row that fits, and so the transcript of such rows has the events of their history.
-//! Of a prompt trace each row fits, but for what `specs/Left.antt` names, and no names run out.
+//! Of a prompt trace each row fits, and no names run out, so its transcript has the events of its history.
 //! There is no code here but for laws: each is the contract of a function that does nothing.
 #![tactic(auto)]
 

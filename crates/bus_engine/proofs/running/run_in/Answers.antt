@@ -1,4 +1,4 @@
-use Rattle.std.proofs.Common.{Err, Result, ◌*◌, ◌+◌, ℕ, ◌≡◌, ◌<◌, ◌^◌, ◌∙◌, true, List, length, reverse, sym, ap, subst, arith}
+use Rattle.std.proofs.Common.{Err, Result, ◌*◌, ◌+◌, ℕ, ◌≡◌, ◌<◌, ◌^◌, ◌∙◌, true, List, length, reverse, sym, ap, subst}
 use Rattle.std.specs.Prelude.{is_some}
 use Rattle.std.proofs.lemmas.List.{reverse-reverse}
 use Rattle.std.proofs.lemmas.Result.{err_from_is_err_and}
@@ -17,6 +17,7 @@ use Rattle.bus_due.specs.Plain.{AreOfDevices}
 use Rattle.bus_run.specs.Runs.{AreEarly, IsLong}
 use Rattle.bus_run.specs.declared.running.RunEnd.{RunEnd}
 use Rattle.bus_story.specs.Right.{all_carried}
+use Rattle.bus_transcript.specs.Events.{TellsHistory}
 use Rattle.progress_laws.proofs.Ended.{joined}
 use Rattle.bus_engine.specs.Limits.{row_limit}
 use Rattle.bus_engine.proofs.Answered.{all_answered}
@@ -76,6 +77,7 @@ returns-clause-exact g c = λ at.
             disks =
                 c.in_ok-finish.ensures.disks all plain (c.rows_tie_devices.ensures.allowed s all (h all prompt few)) places
                 ∙ ap (λ (l : List Row). disks_of (array_after s (trace_history s (reverse l)))) (sym r);
+            transcript = subst (λ (l : List Row). TellsHistory s (reverse l)) (sym r) (c.transcripts_follow_prompt_traces.ensures s all c.requires.lawful prompt);
           };
       devices = subst (λ (l : List Row). AreOfDevices l) (sym r) (all_reversed (λ (row : Row). row.dev < 8) items c.in_ok-trace.ensures.devices);
       early = subst (λ (l : List Row). AreEarly l) (sym r) (all_reversed (λ (row : Row). row.time < 2 ^ 62) items c.in_ok-trace.ensures.early);

@@ -1,8 +1,9 @@
 use Rattle.std.specs.Prelude.{◌==◌}
 use Rattle.scenario.specs.declared.value.TargetDef.{TargetDef}
 use Rattle.scsi_device.proofs.Finds.{found_any}
+use Rattle.scsi_device.proofs.SentBytes.{process_few}
 use Rattle.target_units.proofs.Rooms.{lines_always, lines_after}
-use Rattle.target_units.proofs.Sendings.{named, few_bytes}
+use Rattle.target_units.proofs.Sendings.{named}
 use Rattle.target_units.proofs.UnitTimes.{step_later}
 use Rattle.target_units.proofs.laws.units_are_of_their_lines.Goals as goal
 
@@ -17,4 +18,4 @@ returns-clause-sends c = λ s a p def fits lines target is writes good.
     named s a p fits lines (found_any (λ (t : TargetDef). t.dev == p.target) s.targets def target) is writes good
 
 pub returns-clause-few : goal.returns-clause-few
-returns-clause-few c = λ s p fits is. few_bytes s p fits is
+returns-clause-few c = λ s p fits is. process_few s p.id p fits is

@@ -1,5 +1,5 @@
--- Two lists of events that a test finds the same are one list.
-use Rattle.std.proofs.Common.{ℕ, ◌≡◌, Bool, true, false, List, [], ◌∷◌, refl, sym, ap}
+-- An ID is the same as itself; two kinds of abort, and two lists of events, that a test finds the same are one.
+use Rattle.std.proofs.Common.{ℕ, ◌≡◌, true, List, [], ◌∷◌, refl, ap}
 use Rattle.std.specs.Prelude.{◌==◌, ◌&&◌}
 use Rattle.std.proofs.lemmas.Bool.{and_parts, eqb-true}
 use Rattle.bus_base.specs.declared.ProcId.{ProcId}
@@ -7,20 +7,15 @@ use Rattle.bus_base.specs.declared.AbortKind.{AbortKind}
 use Rattle.bus_base.specs.declared.AbortKind.TheVariants as aborts
 use Rattle.bus_base.specs.declared.Event.{Event}
 use Rattle.bus_base.specs.declared.Event.TheVariants as events
-use Rattle.disk_array.specs.Processes.{same_bool, same_id}
+use Rattle.disk_array.specs.Processes.{same_id}
+use Rattle.disk_array.proofs.SeatLookups.{same_bool_self, same_id_is}
+use Rattle.bus_base.proofs.Tests.{eq_self}
 use Rattle.bus_due.specs.Telling.{same_kind, same_event, same_events}
 
-bools_are : (a b : Bool) → same_bool a b ≡ true → a ≡ b
-bools_are true b e = sym e
-bools_are false true e = absurd cc
-bools_are false false e = refl
+pub id_self : (a : ProcId) → same_id a a ≡ true
+id_self a = λ i. eq_self a.command i && same_bool_self a.sense i
 
-same_id_is : (a b : ProcId) → same_id a b ≡ true → a ≡ b
-same_id_is a b e =
-    let parts = and_parts (a.command == b.command) (same_bool a.sense b.sense) e in
-    λ i. record { command = eqb-true a.command b.command parts.0 i; sense = bools_are a.sense b.sense parts.1 i }
-
-kinds_are : (a b : AbortKind) → same_kind a b ≡ true → a ≡ b
+pub kinds_are : (a b : AbortKind) → same_kind a b ≡ true → a ≡ b
 kinds_are aborts.All aborts.All e = refl
 kinds_are (aborts.Tag m) (aborts.Tag n) e = ap (λ (k : ℕ). aborts.Tag k) (eqb-true m n e)
 kinds_are aborts.WholeQueue aborts.WholeQueue e = refl
@@ -39,7 +34,7 @@ aborts_are h i t v u w x y e =
     let two = and_parts (h == i) (t == v) three.0 in
     λ j. events.Aborted (eqb-true h i two.0 j) (eqb-true t v two.1 j) (eqb-true u w three.1 j) (kinds_are x y all.1 j)
 
-event_is : (a b : Event) → same_event a b ≡ true → a ≡ b
+pub event_is : (a b : Event) → same_event a b ≡ true → a ≡ b
 event_is (events.Accept a) (events.Accept b) e = ap (λ (p : ProcId). events.Accept p) (same_id_is a b e)
 event_is (events.Refuse a) (events.Refuse b) e = ap (λ (p : ProcId). events.Refuse p) (same_id_is a b e)
 event_is (events.Run a) (events.Run b) e = ap (λ (p : ProcId). events.Run p) (same_id_is a b e)

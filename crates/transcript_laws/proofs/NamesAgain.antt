@@ -1,0 +1,195 @@
+-- The process of a connection that a target began has the name that its messages give, once more than messages has come in it.
+use Rattle.std.proofs.Common.{◌≡◌, ◌∙◌, Bool, true, false, ◌&&◌, List, [], ◌∷◌, ◌++◌, Option, Some, None, refl, sym, ap, subst}
+use Rattle.std.specs.Prelude.{◌||◌, is_some, is_none, not, if◌then◌else◌}
+use Rattle.std.proofs.lemmas.Option.{same_Some}
+use Rattle.bus_base.specs.declared.ProcId.{ProcId}
+use Rattle.bus_trace.specs.LineSet.{LineSet}
+use Rattle.bus_trace.specs.Phases.{changes_phase, is_message_in}
+use Rattle.bus_trace.specs.Terms.{connection, is_fault, receiver_in}
+use Rattle.bus_trace.specs.Trace.{bus}
+use Rattle.bus_trace.specs.declared.connection.Connection.{Connection}
+use Rattle.bus_trace.specs.declared.rows.Row.{Row}
+use Rattle.bus_lines.specs.Handshakes.{Handshakes, no_handshakes}
+use Rattle.msg_grammar.specs.declared.message.MsgIn.{MsgIn}
+use Rattle.scenario.specs.Value.{ScenarioValue}
+use Rattle.scenario.specs.Writing.{Obeys}
+use Rattle.disk_array.specs.Processes.{Process, process_of}
+use Rattle.bus_story.specs.BusState.{row_reading}
+use Rattle.bus_story.specs.Items.{Item, process, abort}
+use Rattle.bus_story.specs.Links.{Link}
+use Rattle.bus_story.specs.TraceHistory.{aim_of}
+use Rattle.bus_dialogue.specs.declared.exchange.Plan.{Plan}
+use Rattle.bus_dialogue.specs.Exchange.{no_messages, bytes_of_messages}
+use Rattle.bus_dialogue.specs.Planning.{first_plan}
+use Rattle.bus_dialogue.specs.Words.{naming_messages, is_naming}
+use Rattle.bus_due.specs.Next.{IsPrompt}
+use Rattle.bus_due.specs.Plain.{IsPlain}
+use Rattle.bus_due.specs.RunState.{RunState, bus_of, process_item}
+use Rattle.bus_due.specs.RunSteps.{run_state, exchange_after, leaving_of, served_after, item_if, may_negotiate, messages_if}
+use Rattle.bus_due.specs.Wants.{ready_of}
+use Rattle.bus_due.proofs.Plains.{run_state_plain}
+use Rattle.bus_books.specs.Giving.{AreGiven, OnMessage}
+use Rattle.bus_books.specs.Knowing.{IsNoName}
+use Rattle.bus_books.specs.Listening.{half_after}
+use Rattle.bus_books.specs.Traces.{Begins, IsReadyFor}
+use Rattle.bus_books.proofs.InConnection.{in_connection}
+use Rattle.scsi_device.proofs.FitLines.{obeys_fits, units_are}
+use Rattle.bus_transcript.specs.Nexus.{no_summary}
+use Rattle.bus_transcript.specs.Opened.{OpenedValue, opened_connection}
+use Rattle.bus_transcript.specs.Rows.{transcribed}
+use Rattle.trace_laws.proofs.FreshItems.{items_found}
+use Rattle.trace_laws.proofs.ItemFacts.{beginning}
+use Rattle.trace_laws.proofs.Whole.{Whole}
+use Rattle.transcript_laws.specs.Parts.{are_talk, base_parts, out_parts, parts_now, summary_by, name_process}
+use Rattle.transcript_laws.specs.RowTests.{is_named}
+use Rattle.transcript_laws.proofs.NamedFits.{Standing, standing, item_is_served, served_process}
+use Rattle.transcript_laws.proofs.NamesHeard.{ins_of, heard_names, AreNames, again_abort, names_of_parts, none_said, says_name, repeats_name}
+use Rattle.transcript_laws.proofs.NamesParts.{ins_held, since_made, names_now}
+use Rattle.transcript_laws.proofs.NamesRows.{AgainNames, saying, refused, known, told_now, again_still, again_crossing}
+use Rattle.transcript_laws.proofs.NamesTurns.{again_turn}
+use Rattle.transcript_laws.proofs.OpenedBytes.{KeepsTalk, still_keeps, crossing_made}
+use Rattle.transcript_laws.proofs.OpenedFacts.{Going, Starts, Holds, RowMade, made_still, made_crossing, made_turn, always}
+use Rattle.transcript_laws.proofs.OutNames.{outs_of, outs_now, are_tame, mild_more, mild_tame, name_by}
+use Rattle.transcript_laws.proofs.OutWords.{unit_small}
+use Rattle.transcript_laws.proofs.SaidNames.{SaidNames, NoNames, mild_said, speaking, names_hold}
+use Rattle.transcript_laws.proofs.TalkNamed.{talk_more}
+use Rattle.transcript_laws.proofs.TurnSteps.{outs_talk}
+use Rattle.bus_base.proofs.Tests.{wrong, wrong', nil_of, or_true}
+
+pub record NamesAgain (s : ScenarioValue) (k : RunState) (n : Connection) (o : OpenedValue) : Type 0 where
+  pub names : SaidNames s k n o
+  pub since : ins_of o.since ≡ []
+  pub again : n.reselected ≡ true → (id : ProcId) (q : Process) → k.served ≡ Some (process id) → process_of s id ≡ Some q → AgainNames q k o
+
+-- ---- a reselection begins
+
+names_first : (s : ScenarioValue) (p : List Row) (row : Row) (n : Connection) → Starts s p row n → Whole s (row ∷ p) → connection (row ∷ p) ≡ Some n → (bus (row ∷ p)).rst ≡ false → (run_state s (row ∷ p)).exchange.begun ≡ true → (is_message_in (bus_of (run_state s (row ∷ p))) ≡ true → (run_state s (row ∷ p)).handshakes ≡ no_handshakes) → n.reselected ≡ true → (id : ProcId) (q : Process) → (run_state s (row ∷ p)).served ≡ Some (process id) → process_of s id ≡ Some q → AgainNames q (run_state s (row ∷ p)) (opened_connection n)
+names_first s p row n h now con calm begun fresh re id q sv of =
+    saying (ap (λ (x : Plan). x.next) plan) here
+    (none_said (ap (λ (x : Plan). x.messages) plan ∙ ap messages_if r.ready_is ∙ ap naming_messages same) count
+    (given.half_is ∙ ap (half_after []) (nil_of given.before (sym given.count_is ∙ count))) refl refl)
+  where
+    k : RunState
+    k = run_state s p
+
+    j : RunState
+    j = run_state s (row ∷ p)
+
+    pl : IsPlain s (row ∷ p) j
+    pl = run_state_plain s (row ∷ p) now.stood.standing.devices
+
+    b : Begins s k row n
+    b = beginning s k row n h.alone h.next h.off now.rows_are.1
+
+    r : IsReadyFor s k n
+    r = b.reselects re
+
+    plan : j.exchange.plan ≡ first_plan true false (messages_if (ready_of s k n.target))
+    plan =
+        (λ i. (exchange_after s k row (row_reading k.story.bus_state row) (h.alone i) (h.next i) (leaving_of s k k.story.bus_state.connection)).plan)
+        ∙ ap (λ (x : Bool). first_plan x (not x && may_negotiate k n (aim_of k.story.aims n.initiator)) (if x then messages_if (ready_of s k n.target) else no_messages)) re
+
+    served : j.served ≡ item_if (ready_of s k n.target)
+    served = (λ i. served_after s k (h.alone i) (h.next i)) ∙ ap (λ (x : Bool). if x then item_if (ready_of s k n.target) else aim_of k.story.aims n.initiator) re
+
+    -- the process that it has ready is the one that is served
+    same : r.ready.process ≡ q
+    same =
+        same_Some r.ready.process q
+        (sym ((items_found s p n h.was.facts.items).ready r.ready r.ready_is).process_is ∙ ap (process_item s) (sym (ap item_if r.ready_is) ∙ sym served ∙ sv) ∙ of)
+
+    here : is_message_in (bus_of j) ≡ true
+    here = b.names re
+
+    count : j.handshakes.requests ≡ 0
+    count = ap (λ (x : Handshakes). x.requests) (fresh here)
+
+    given : AreGiven (bytes_of_messages j.exchange.plan.messages) j.story.bus_state.dialogue.half j.handshakes.requests
+    given = (now.stood.books.gives n (pl.connection ∙ con) (ap (λ (x : LineSet). x.rst) pl.bus ∙ calm)).in_message_in begun here
+
+-- ---- row by row
+
+again_row : (s : ScenarioValue) (p : List Row) (row : Row) (n : Connection) (g : Going s p row n) (o after : OpenedValue) → RowMade (run_state s p) row n g.going.change o after → NamesAgain s (run_state s p) n o → n.reselected ≡ true → (id : ProcId) (q : Process) → process_of s id ≡ Some q → AgainNames q (run_state s p) o → AgainNames q (run_state s (row ∷ p)) after
+again_row s p row n g o after made h re id q of was = by made
+  where
+    by : RowMade (run_state s p) row n g.going.change o after → AgainNames q (run_state s (row ∷ p)) after
+    by (made_still ep none e) = again_still s p row n g o after q ep none (subst (λ (x : OpenedValue). KeepsTalk o x) (sym e) (still_keeps o (run_state s p).story.bus_state g.going.change row)) was
+    by (made_crossing dev ep er e) = again_crossing s p row n g o after q dev (unit_small s id q (units_are s (obeys_fits s g.obeys)) of) ep er (crossing_made o after (run_state s p).story.bus_state n g.going.change e) h.since was
+    by (made_turn ep none ef e) = again_turn s p row n g o after q ep none ef e h.names.all (speaking s p row n g o h.names.all) (h.names.again re).opened h.since (since_made (run_state s p) row n g.going.change o after made h.since) was
+
+served_same : (s : ScenarioValue) (p : List Row) (row : Row) (n : Connection) → Going s p row n → (run_state s (row ∷ p)).served ≡ (run_state s p).served
+served_same s p row n g = (in_connection s (run_state s p) row n g.going.change (changes_phase g.going.change) (is_some (receiver_in n g.going.change)) (is_fault row.kind) g.going.goes.row_is refl refl refl).served_is
+
+pub again_hold : (s : ScenarioValue) → Holds s (NamesAgain s)
+again_hold s = record {
+  begins = λ p row n starts now con calm b out fresh. record {
+    names = (names_hold s).begins p row n starts now con calm b out fresh;
+    since = refl;
+    again = λ re. names_first s p row n starts now con calm (b ∙ re) fresh re;
+  };
+  goes_on = λ p row n g o after made h. record {
+    names = (names_hold s).goes_on p row n g o after made h.names;
+    since = since_made (run_state s p) row n g.going.change o after made h.since;
+    again = λ re id q sv of. again_row s p row n g o after made h re id q of (h.again re id q (sym (served_same s p row n g) ∙ sv) of);
+  };
+}
+
+-- ---- its name
+
+-- More than messages has come: no names follow.
+no_names : {A : Type 0} (x : Option MsgIn) → OnMessage IsNoName x → is_naming x ≡ true → A
+no_names None h e = wrong' e
+no_names (Some m) h e = wrong (sym e ∙ h)
+
+record NamesOf (s : ScenarioValue) (n : Connection) (o : OpenedValue) (id : ProcId) : Type 0 where
+  abort : (summary_by n (parts_now o)).abort ≡ None
+  name : (are_talk (parts_now o) || name_process s n (parts_now o) id) ≡ true
+
+again_names : (s : ScenarioValue) (p : List Row) (n : Connection) (o : OpenedValue) (id : ProcId) (q : Process) → Standing s p n o → ins_of o.since ≡ [] → n.reselected ≡ true → (run_state s p).served ≡ Some (process id) → process_of s id ≡ Some q → AgainNames q (run_state s p) o → NamesOf s n o id
+again_names s p n o id q h since re sv of was = record {
+  abort = again_abort n (parts_now o) re (ap are_tame (outs_now o) ∙ mild_tame (outs_of (base_parts o) ++ o.said) (mild_more (outs_of (base_parts o)) o.said mild.mild (mild_said s (run_state s p) n o h.speaking mild.opened)));
+  name = by was;
+}
+  where
+    k : RunState
+    k = run_state s p
+
+    mild : NoNames k o
+    mild = h.names.again re
+
+    talking : is_naming k.exchange.plan.messages.first ≡ true → (are_talk (parts_now o) || name_process s n (parts_now o) id) ≡ true
+    talking e = go (are_talk (base_parts o)) refl
+      where
+        go : (r : Bool) → are_talk (base_parts o) ≡ r → (are_talk (parts_now o) || name_process s n (parts_now o) id) ≡ true
+        go true z = ap (λ (x : Bool). x || name_process s n (parts_now o) id) (talk_more (base_parts o) (out_parts o.said) ∙ (λ i. z i && outs_talk o.said i))
+        go false z = no_names k.exchange.plan.messages.first (h.names.all.named.nameless re z).0 e
+
+    by : AgainNames q k o → (are_talk (parts_now o) || name_process s n (parts_now o) id) ≡ true
+    by (saying e here says) = talking (says_name q k.exchange.plan.messages k.handshakes.requests k.story.bus_state.dialogue.half (ins_of o.parts) (ins_held o) says)
+    by (refused e here c repeats) = talking (repeats_name q k.exchange.plan.messages (ins_of o.parts) repeats)
+    by (known nameless t) =
+        let told = subst (λ (x : List MsgIn). AreNames (heard_names no_summary x) q) (sym (names_now o)) (told_now s q k n o h.speaking mild.opened since t) in
+        let name = names_of_parts n q (parts_now o) re told in
+        let ends = h.names.ends id q sv of in
+        ap (λ (x : Bool). are_talk (parts_now o) || x) (name_by s n (parts_now o) id q of ends.0 ends.1 name.0 name.1) ∙ or_true (are_talk (parts_now o))
+
+pub named_again : (s : ScenarioValue) (p : List Row) (n : Connection) (o : OpenedValue) (l : Link) → Obeys s → IsPrompt s p → connection p ≡ Some n → (bus p).rst ≡ false → (transcribed p).opened ≡ Some o → (run_state s p).story.link ≡ Some l → n.reselected ≡ true → is_named s o l.item ≡ true
+named_again s p n o l obeys prompt con calm there el re = go l.item refl
+  where
+    h : Standing s p n o
+    h = standing s p n o obeys prompt con calm there
+
+    kept : NamesAgain s (run_state s p) n o
+    kept = always s (NamesAgain s) obeys (again_hold s) p prompt n con calm o there
+
+    by : (id : ProcId) → (run_state s p).served ≡ Some (process id) → is_named s o (Some (process id)) ≡ true
+    by id sv =
+        let own = served_process s (run_state s p) n id h.served sv in
+        let w = again_names s p n o id own.own h kept.since re sv own.own_is (kept.again re id own.own sv own.own_is) in
+        ap (λ (x : Connection). is_none (summary_by x (parts_now o)).abort && (are_talk (parts_now o) || name_process s x (parts_now o) id)) h.names.all.bytes.connection_is
+        ∙ (λ i. is_none (w.abort i) && w.name i)
+
+    go : (x : Option Item) → l.item ≡ x → is_named s o l.item ≡ true
+    go None e = ap (is_named s o) e
+    go (Some (abort m)) e = ap (is_named s o) e
+    go (Some (process id)) e = ap (is_named s o) e ∙ by id (item_is_served s p n o l (process id) h el e)
