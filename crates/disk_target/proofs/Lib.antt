@@ -28,3 +28,4 @@ pub mod Apart
 pub mod Knowing
 mod AttendedCases
 pub mod Quiet
+pub mod Waiting

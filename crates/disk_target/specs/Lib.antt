@@ -5,3 +5,4 @@ pub mod Attended
 pub mod Targets
 pub mod Turns
 pub mod Knowns
+pub mod Waits

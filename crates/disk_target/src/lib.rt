@@ -21,6 +21,7 @@
 mod bytes;
 mod known;
 mod others;
+mod own;
 mod processes;
 mod standing;
 mod target;

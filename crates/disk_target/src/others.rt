@@ -22,8 +22,8 @@ use scenario::TargetDef;
 use scsi_device::Itself;
 use target_course::dues_are_of_targets;
 
-// What it is, by what the view shows of it.
-fn myself(def: &TargetDef, itself: &Itself, view: &BusView) -> Myself
+/// What a target of this line is, by what the view shows of it.
+pub fn myself(def: &TargetDef, itself: &Itself, view: &BusView) -> Myself
     requires below { def.now.dev < 8 }
     requires latency { def.now.latency ≤ 100 }
     ensures exact { (rows : List Row) → IsBusViewOf rows view.now

@@ -6,6 +6,7 @@ ghost use Rattle.bus_trace.specs.declared.connection.Connection.{Connection};
 ghost use Rattle.bus_trace.specs.Terms.{connection};
 ghost use Rattle.bus_trace.specs.Trace.{bus};
 ghost use Rattle.bus_lines.specs.Handshakes.{handshakes};
+ghost use Rattle.bus_lines.specs.BusView.{IsBusViewOf};
 ghost use Rattle.bus_lines.specs.Timely.{IsTimely};
 ghost use Rattle.cdb_codec.specs.declared.status.TheConstants.{GOOD};
 ghost use Rattle.scenario.specs.declared.value.TargetDef.{TargetDef};
@@ -26,6 +27,7 @@ ghost use Rattle.bus_due.specs.RunSteps.{run_state};
 ghost use Rattle.bus_due.specs.Tasks.{size_of, reply_now, is_writing};
 ghost use Rattle.scsi_device.specs.Acts.{act_of};
 ghost use Rattle.scsi_device.specs.Heard.{heard};
+ghost use Rattle.scsi_device.specs.Itself.{IsItselfOf};
 ghost use Rattle.scsi_device.specs.Lines.{FitsBus, IsTargetLine};
 ghost use Rattle.scsi_device.specs.Told.{first_fault};
 ghost use Rattle.target_course.specs.Courses.{events_of_target, AreToldOf, IsCourseOf, IsLabelOf, IsStateOf, IsOutlookOf};
@@ -41,6 +43,7 @@ ghost use Rattle.target_course.specs.Negotiated.{events_of_row};
 ghost use Rattle.disk_target.specs.Knowns.{IsKnownBy, IsKnownIf, IsQuiet};
 ghost use Rattle.disk_target.specs.Targets.{AreInTime, AreTied, IsCourseIf, IsServable, IsTargetAfter, KnowsRows};
 ghost use Rattle.disk_target.specs.Turns.{IsTurnOf};
+ghost use Rattle.disk_target.specs.Waits.{DoesAs};
 
 use crate::bytes::{
     Decision, bounded, connection_before, gives_data, no_bytes, other_before, other_connection,
@@ -48,6 +51,7 @@ use crate::bytes::{
 };
 use crate::known::{Known, is_quiet, is_still, known_of, see_known};
 use crate::others::next_in_others;
+use crate::own::{is_in_pulse, is_waiting, next_in_own, plain_due, pulse_end_due};
 use crate::processes::{Processes, units_stay_by_row};
 use crate::turn::{
     Turn, course_of, is_opening, no_turn, process_known, reply_seen, see_beginning, see_course,
@@ -56,6 +60,7 @@ use crate::turn::{
 use bus_base::{Dev, Event, NoMemory, Ns, ProcId};
 use bus_dialogue::{Arrival, Observer};
 use bus_due::{hearings_are_plain, kept_is_plain};
+use bus_lines::BusView;
 use bus_reactions::Due;
 use bus_trace::{Connection, Row, lines_on_the_bus, rows_change_one_device};
 use disk_array::arrays_are_sound;
@@ -65,9 +70,8 @@ use scsi_device::{Act, Itself, scenarios_fit_the_bus};
 use std::alloc::Global;
 use std::marker::Model;
 use target_course::{
-    Course, DataBytes, Gathered, Knowledge, Negotiated, Progress, Serving, Shown,
-    dues_are_of_targets, leaving_by, no_plan, phase_of, place_in_run, process_byte_place,
-    target_next,
+    Course, DataBytes, Gathered, Knowledge, Negotiated, Progress, Serving, Shown, leaving_by,
+    no_plan, phase_of, place_in_run, process_byte_place, target_next,
 };
 use target_units::Units;
 
@@ -123,6 +127,19 @@ fn target_line(targets: &[TargetDef], dev: Dev) -> Option<TargetDef>
         }
     }
     None
+}
+
+// A row made by another device than this one leaves what it knows of its own rows as it was.
+fn see_itself(itself: &mut Itself, dev: Dev, view: &BusView, row: &Row)
+    requires { IsTimely (2 ^ 63) view.now }
+    ensures dev { itself.new.dev ≡ itself.old.dev }
+    ensures trace { (s : ScenarioValue) (rows : List Row) → IsBusViewOf (row.now ∷ rows) view.now
+        → itself.old.dev ≡ dev → IsItselfOf s rows itself.old → IsItselfOf s (row.now ∷ rows) itself.new }
+{
+    if row.dev != dev {
+        return;
+    }
+    itself.see(view, row);
 }
 
 impl Target {
@@ -243,17 +260,16 @@ impl Target {
         }
     }
 
-    // By what it knows in a connection of its own.
-    fn decision_by(&self, observer: &Observer, course: &Course, known: &Known) -> Decision
+    // By REQ and ACK in a connection of its own, by what it knows in it.
+    fn plain_by(&self, observer: &Observer, course: &Course, known: &Known) -> Option<Due>
+        requires timely { IsTimely (2 ^ 63) observer.now.view }
         requires known { IsKnownBy self.now.def self.now.units self.now.progress self.now.reply course.now known.now }
-        ensures def { result.serving.def ≡ self.now.def }
-        ensures fits { AreFit result.serving.plan.messages }
-        ensures trace { (s : ScenarioValue) (rows : List Row) (n : Connection) → FitsBus s
+        ensures { (s : ScenarioValue) (rows : List Row) (n : Connection) → FitsBus s
             → IsObserverOf rows observer.now → AreOfDevices rows → heard s rows ≡ true
             → IsServable s rows self.now.def → KnowsRows s rows self.now
             → IsCourseOf s rows self.now.def.dev course.now → IsOwnConnection rows self.now.def.dev n
             → (bus rows).rst ≡ false → n.initiator ≡ known.now.from
-            → DecidesAs s rows self.now.def result.serving result.bytes }
+            → DoesAs s rows self.now.def self.now.itself.own result }
     {
         scenarios_fit_the_bus();
         kept_is_plain();
@@ -271,28 +287,45 @@ impl Target {
         } else {
             no_bytes()
         };
-        Decision {
-            serving: known.serving,
-            bytes,
-        }
+        plain_due(observer, &self.itself, &self.def, &known.serving, bytes)
     }
 
-    // What it decides by in a connection of its own with this initiator.
-    fn decision_in(&self, observer: &Observer, from: Dev, course: &Course) -> Decision
+    // The same, with this initiator.
+    fn plain_in(&self, observer: &Observer, from: Dev, course: &Course) -> Option<Due>
+        requires timely { IsTimely (2 ^ 63) observer.now.view }
         requires device { from < 8 }
         requires course { self.now.course ≡ Some course.now }
-        ensures def { result.serving.def ≡ self.now.def }
-        ensures fits { AreFit result.serving.plan.messages }
-        ensures trace { (s : ScenarioValue) (rows : List Row) (n : Connection) → FitsBus s
+        ensures { (s : ScenarioValue) (rows : List Row) (n : Connection) → FitsBus s
             → IsObserverOf rows observer.now → AreOfDevices rows → heard s rows ≡ true
             → IsServable s rows self.now.def → KnowsRows s rows self.now
             → IsCourseOf s rows self.now.def.dev course.now → IsOwnConnection rows self.now.def.dev n
-            → (bus rows).rst ≡ false → n.initiator ≡ from
-            → DecidesAs s rows self.now.def result.serving result.bytes }
+            → (bus rows).rst ≡ false → n.initiator ≡ from → DoesAs s rows self.now.def self.now.itself.own result }
     {
         match &self.known {
-            Some(known) if known.from == from => self.decision_by(observer, course, known),
-            _ => self.decision_by(observer, course, &self.known_anew(from, course)),
+            Some(known) if known.from == from => self.plain_by(observer, course, known),
+            _ => self.plain_by(observer, course, &self.known_anew(from, course)),
+        }
+    }
+
+    // The same. While it waits for ACK to follow REQ it does nothing, and it ends each pulse, whatever it has to do.
+    fn plain(&self, observer: &Observer, from: Dev) -> Option<Due>
+        requires timely { IsTimely (2 ^ 63) observer.now.view }
+        requires device { from < 8 }
+        ensures { (s : ScenarioValue) (rows : List Row) (n : Connection) → FitsBus s
+            → IsObserverOf rows observer.now → AreOfDevices rows → heard s rows ≡ true
+            → IsServable s rows self.now.def → KnowsRows s rows self.now
+            → IsOwnConnection rows self.now.def.dev n
+            → (bus rows).rst ≡ false → n.initiator ≡ from → DoesAs s rows self.now.def self.now.itself.own result }
+    {
+        if is_waiting(observer, self.def.dev) {
+            return None;
+        }
+        if is_in_pulse(observer, self.def.dev) {
+            return pulse_end_due(observer, &self.itself, &self.def);
+        }
+        match &self.course {
+            None => None,
+            Some(course) => self.plain_in(observer, from, course),
         }
     }
 
@@ -316,31 +349,16 @@ impl Target {
         }
     }
 
-    fn decision(&self, observer: &Observer) -> Decision
-        ensures def { result.serving.def ≡ self.now.def }
-        ensures fits { AreFit result.serving.plan.messages }
-        ensures trace { (s : ScenarioValue) (rows : List Row) → FitsBus s
-            → IsObserverOf rows observer.now → AreOfDevices rows → heard s rows ≡ true
-            → IsServable s rows self.now.def → KnowsRows s rows self.now
-            → DecidesAs s rows self.now.def result.serving result.bytes }
-    {
-        match (own_connection(observer.view(), self.def.dev), &self.course) {
-            (Some(connection), Some(course)) => {
-                self.decision_in(observer, connection.initiator.get(), course)
-            }
-            _ => self.no_decision(),
-        }
-    }
-
     // On its way to a connection, and while RST is true.
     fn due_outside(&self, observer: &Observer, fault: Option<FaultDef>) -> Option<Due>
         requires timely { IsTimely (2 ^ 63) observer.now.view }
         ensures { (s : ScenarioValue) (rows : List Row) → FitsBus s → IsObserverOf rows observer.now
-            → AreOfDevices rows → IsNoInitiator rows self.now.def.dev → heard s rows ≡ true
+            → AreOfDevices rows → IsNoInitiator rows self.now.def.dev
             → IsServable s rows self.now.def → KnowsRows s rows self.now
+            → ((n : Connection) → IsOwnConnection rows self.now.def.dev n → (bus rows).rst ≡ true)
             → fault ≡ first_fault (run_state s rows).faults → result ≡ due s rows self.now.def.dev }
     {
-        let decision = self.decision(observer);
+        let decision = self.no_decision();
         let known = Knowledge {
             itself: &self.itself,
             ready: bounded(self.processes.units().ready()),
@@ -350,24 +368,18 @@ impl Target {
         target_next(observer, &known, fault)
     }
 
-    // In a connection of its own, in which it asks for no other.
-    fn due_inside(&self, observer: &Observer, fault: Option<FaultDef>) -> Option<Due>
+    // In a connection of its own with this initiator.
+    fn due_inside(&self, observer: &Observer, from: Dev, fault: Option<FaultDef>) -> Option<Due>
         requires timely { IsTimely (2 ^ 63) observer.now.view }
+        requires device { from < 8 }
         ensures { (s : ScenarioValue) (rows : List Row) (n : Connection) → FitsBus s → IsObserverOf rows observer.now
             → AreOfDevices rows → IsNoInitiator rows self.now.def.dev → heard s rows ≡ true
             → IsServable s rows self.now.def → KnowsRows s rows self.now
-            → IsOwnConnection rows self.now.def.dev n → (bus rows).rst ≡ false
+            → IsOwnConnection rows self.now.def.dev n → (bus rows).rst ≡ false → n.initiator ≡ from
             → fault ≡ first_fault (run_state s rows).faults → result ≡ due s rows self.now.def.dev }
     {
-        dues_are_of_targets();
-        let decision = self.decision(observer);
-        let known = Knowledge {
-            itself: &self.itself,
-            ready: None,
-            serving: decision.serving,
-            bytes: decision.bytes,
-        };
-        target_next(observer, &known, fault)
+        let plain = self.plain(observer, from);
+        next_in_own(observer, &self.itself, &self.def, fault, plain)
     }
 
     // In a connection of its own or outside all.
@@ -380,7 +392,7 @@ impl Target {
     {
         match own_connection(observer.view(), self.def.dev) {
             None => self.due_outside(observer, fault),
-            Some(_) => self.due_inside(observer, fault),
+            Some(connection) => self.due_inside(observer, connection.initiator.get(), fault),
         }
     }
 
@@ -635,7 +647,7 @@ impl Target {
         scenarios_fit_the_bus();
         units_stay_by_row();
         let view = observer.view();
-        self.itself.see(view, row);
+        see_itself(&mut self.itself, self.def.dev, view, row);
         self.answers = view.handshakes().answers();
         self.known = None;
     }
@@ -658,7 +670,7 @@ impl Target {
         rows_change_one_device();
         scenarios_fit_the_bus();
         let view = observer.view();
-        self.itself.see(view, row);
+        see_itself(&mut self.itself, self.def.dev, view, row);
         self.answers = view.handshakes().answers();
     }
 

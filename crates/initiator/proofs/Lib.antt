@@ -34,3 +34,4 @@ mod KeptCommands
 mod PastEndings
 mod CheckQueues
 mod Still
+mod Waiting

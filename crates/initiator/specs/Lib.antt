@@ -18,3 +18,4 @@ pub mod Outcomes
 pub mod Received
 pub mod Hosts
 pub mod Causes
+pub mod Waits

@@ -86,8 +86,8 @@ fn byte_to_send(bus: Lines, speech: &Speech, sending: &Sending<'_>) -> u8
     }
 }
 
-// What it is, by what the view shows of it.
-fn myself(host: &HostDef, view: &BusView, own: &OwnTimes) -> Myself
+/// What an initiator of this line is, by what the view shows of it.
+pub fn myself(host: &HostDef, view: &BusView, own: &OwnTimes) -> Myself
     requires below { host.now.dev < 8 }
     requires latency { host.now.latency ≤ 100 }
     ensures exact { (rows : List Row) → IsBusViewOf rows view.now

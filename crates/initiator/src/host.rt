@@ -49,6 +49,7 @@ use crate::own_bytes::OwnBytes;
 use crate::received::{Received, see_received};
 use crate::speech::Speech;
 use crate::transfers::Transfers;
+use crate::waits::{is_waiting, waiting_next};
 use bus_base::{Dev, Event, NoMemory, Ns, ProcId};
 use bus_dialogue::{Hearing, Observer};
 use bus_due::{hearings_are_plain, kept_is_plain};
@@ -352,9 +353,8 @@ impl Host {
         }
     }
 
-    /// What it does next, and when, in ns, by the first fault that has not struck yet: exactly what is due of it, where
-    /// it was told of all rows and no connection stands of which it is the target. It changes nothing.
-    pub fn due(&self, observer: &Observer, fault: Option<FaultDef>) -> Option<Due>
+    // What it does next, where it may act.
+    fn due_acting(&self, observer: &Observer, fault: Option<FaultDef>) -> Option<Due>
         requires timely { IsTimely (2 ^ 63) observer.now.view }
         ensures { (s : ScenarioValue) (rows : List Row) → FitsBus s → IsObserverOf rows observer.now
             → AreOfDevices rows → IsNeverCalled rows self.now.def.dev → IsHostAfter s rows self.now
@@ -378,6 +378,26 @@ impl Host {
             sending: self.sending(),
         };
         initiator_next(&self.def, observer, &known, fault)
+    }
+
+    /// What it does next, and when, in ns, by the first fault that has not struck yet: exactly what is due of it, where
+    /// it was told of all rows and no connection stands of which it is the target. It changes nothing.
+    pub fn due(&self, observer: &Observer, fault: Option<FaultDef>) -> Option<Due>
+        requires timely { IsTimely (2 ^ 63) observer.now.view }
+        ensures { (s : ScenarioValue) (rows : List Row) → FitsBus s → IsObserverOf rows observer.now
+            → AreOfDevices rows → IsNeverCalled rows self.now.def.dev → IsHostAfter s rows self.now
+            → fault ≡ first_fault (run_state s rows).faults → result ≡ due s rows self.now.def.dev }
+    {
+        scenarios_fit_the_bus();
+        initiators_are_their_parts();
+        initiators_have_no_unit();
+        kept_is_plain();
+        dues_are_of_initiators();
+        if is_waiting(observer, self.def.dev) {
+            let (own, reset) = (self.itself.own(), self.itself.reset());
+            return waiting_next(&self.def, observer, own, reset, fault);
+        }
+        self.due_acting(observer, fault)
     }
 
     /// What it does at this moment, in ns: the row that is due by then, or when its next one is. It changes nothing.

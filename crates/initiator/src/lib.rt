@@ -37,6 +37,7 @@ mod own_link;
 mod received;
 mod speech;
 mod transfers;
+mod waits;
 mod wish;
 
 pub use causes::endings_have_causes;

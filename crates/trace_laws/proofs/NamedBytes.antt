@@ -40,12 +40,12 @@ tagged_is p = go p.tag refl
     go (tags.Ordered n) e = numbered n (ap tag_named e) (ap tag_number_if e)
     go (tags.Head n) e = numbered n (ap tag_named e) (ap tag_number_if e)
 
-all_bytes : (p : Process) (messages : Messages) (tag : Option MsgIn) → messages ≡ naming_messages p → tag_named p.tag ≡ tag → bytes_of_messages messages ≡ (0x80 + p.unit) ∷ message_bytes tag
+pub all_bytes : (p : Process) (messages : Messages) (tag : Option MsgIn) → messages ≡ naming_messages p → tag_named p.tag ≡ tag → bytes_of_messages messages ≡ (0x80 + p.unit) ∷ message_bytes tag
 all_bytes p messages tag e t = ap bytes_of_messages e ∙ ap (λ (m : Option MsgIn). (0x80 + p.unit) ∷ message_bytes m) t
 
 -- ---- bytes
 
-identify_got : (unit : ℕ) → unit < 8 → (whole_in (got_in ((0x80 + unit) ∷ [])) ≡ Some (to_initiator.Identify unit)) × (left_of (got_in ((0x80 + unit) ∷ [])) ((0x80 + unit) ∷ []) ≡ [])
+pub identify_got : (unit : ℕ) → unit < 8 → (whole_in (got_in ((0x80 + unit) ∷ [])) ≡ Some (to_initiator.Identify unit)) × (left_of (got_in ((0x80 + unit) ∷ [])) ((0x80 + unit) ∷ []) ≡ [])
 unfolding form_in
 identify_got zero lt = (refl, refl)
 identify_got (suc zero) lt = (refl, refl)

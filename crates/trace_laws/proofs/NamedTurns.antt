@@ -86,7 +86,7 @@ after_in v nexts.GoOn = go v.task
 
 -- ---- MESSAGE PARITY ERROR is said, and the names again
 
-refusal_is : (v : Serving) → v.plan.said.offer ≡ None → is_naming v.plan.messages.first ≡ true → after_refusal v ≡ message_repetition v.plan
+pub refusal_is : (v : Serving) → v.plan.said.offer ≡ None → is_naming v.plan.messages.first ≡ true → after_refusal v ≡ message_repetition v.plan
 refusal_is v e f =
     (λ i. if is_some (e i) then phase_entry phases.Command else if f i then message_repetition v.plan else with_task v.task (λ t. recovery v.def t (message_repetition v.plan) bus_free))
 

@@ -142,7 +142,7 @@ answers_all s p row n o prompt was facts con calm off after b ep q t served task
 
 -- ---- a byte crosses
 
-out_phase : (b : LineSet) → is_data b ≡ true → b.io ≡ false → phase_of b ≡ phases.DataOut
+pub out_phase : (b : LineSet) → is_data b ≡ true → b.io ≡ false → phase_of b ≡ phases.DataOut
 out_phase b e f = go b.msg b.cd b.io e f
   where
     go : (m d i : Bool) → (not m && not d) ≡ true → i ≡ false → phase_by m d i ≡ phases.DataOut

@@ -48,11 +48,11 @@ use Rattle.bus_base.proofs.Tests.{wrong, wrong', eq_self}
 abbrev pub goes_on : Leaving → Bool
 goes_on l = is_some l.to
 
-either_on : (q : Bool) (a b : Leaving) → goes_on a ≡ true → goes_on b ≡ true → goes_on (if q then a else b) ≡ true
+pub either_on : (q : Bool) (a b : Leaving) → goes_on a ≡ true → goes_on b ≡ true → goes_on (if q then a else b) ≡ true
 either_on true a b e f = e
 either_on false a b e f = f
 
-recovers_on : (def : Option TargetDef) (t : Task) (a b : Leaving) → goes_on a ≡ true → goes_on b ≡ true → goes_on (recovery def t a b) ≡ true
+pub recovers_on : (def : Option TargetDef) (t : Task) (a b : Leaving) → goes_on a ≡ true → goes_on b ≡ true → goes_on (recovery def t a b) ≡ true
 recovers_on def t a b e f = go t.in_hold (nat_lt t.recoveries (recovery_limit def))
   where
     go : (q r : Bool) → goes_on (if q then a else if r then record a { counts = true } else b) ≡ true
@@ -60,7 +60,7 @@ recovers_on def t a b e f = go t.in_hold (nat_lt t.recoveries (recovery_limit de
     go false true = e
     go false false = f
 
-requested_on : (m : Option MsgIn) → goes_on (request_or_command m) ≡ true
+pub requested_on : (m : Option MsgIn) → goes_on (request_or_command m) ≡ true
 requested_on None = refl
 requested_on (Some m) = refl
 
@@ -69,13 +69,13 @@ offered_on def negotiates (Some offer) = refl
 offered_on def true None = requested_on (request_by def)
 offered_on def false None = refl
 
-arrived_on : (def : Option TargetDef) (t : Task) (arrival : Arrival) → goes_on (after_arrival def t arrival) ≡ true
+pub arrived_on : (def : Option TargetDef) (t : Task) (arrival : Arrival) → goes_on (after_arrival def t arrival) ≡ true
 arrived_on def t arrivals.Refused = refl
 arrived_on def t arrivals.Guest = refl
 arrived_on def t arrivals.AtOnce = refl
 arrived_on def t arrivals.Queued = refl
 
-ran_on : (policy : Policy) (t : Task) → goes_on (after_run policy t) ≡ true
+pub ran_on : (policy : Policy) (t : Task) → goes_on (after_run policy t) ≡ true
 ran_on policy t = go (nat_lt (t.runs + 1) (Rattle.bus_dialogue.specs.DataRuns.runs_in_all policy t))
   where
     go : (q : Bool) → goes_on (record (if q then Rattle.bus_dialogue.specs.NextPhase.disconnection (Rattle.bus_dialogue.specs.NextPhase.disconnect_messages policy) else phase_entry phases.Status) { done = true }) ≡ true

@@ -50,7 +50,7 @@ use Rattle.trace_laws.specs.Tells.{IsServed, of_process, of_abort}
 use Rattle.trace_laws.proofs.CloseCounts.{counted_row, turn_handshakes}
 use Rattle.trace_laws.proofs.NamedBytes.{names_first, names_left}
 use Rattle.trace_laws.proofs.PhaseLines.{in_phase, out_in, out_phase}
-use Rattle.trace_laws.proofs.RunAsks.{answers_all}
+use Rattle.trace_laws.proofs.RunAsks.{answers_all, out_phase as data_out_phase}
 use Rattle.trace_laws.proofs.RunFacts.{task_here}
 use Rattle.trace_laws.proofs.TalkSteps.{not_both}
 use Rattle.trace_laws.proofs.TellFacts.{front_length}
@@ -106,15 +106,6 @@ data_no_command b e = go b.msg b.cd b.io e
     go true d i z = wrong' z
     go false true i z = wrong' z
     go false false i z = refl
-
-data_out_phase : (b : LineSet) → is_data b ≡ true → b.io ≡ false → phase_of b ≡ phases.DataOut
-data_out_phase b e f = go b.msg b.cd b.io e f
-  where
-    go : (m d i : Bool) → (not m && not d) ≡ true → i ≡ false → (if m then (if i then phases.MessageIn else phases.MessageOut) else if d then (if i then phases.Status else phases.Command) else if i then phases.DataIn else phases.DataOut) ≡ phases.DataOut
-    go true d i z w = wrong' z
-    go false true i z w = wrong' z
-    go false false true z w = wrong w
-    go false false false z w = refl
 
 -- Both of MESSAGE IN, or both of MESSAGE OUT: the phase is the same.
 no_turn_in : {A : Type 0} (c : Change) → is_message_in c.before ≡ true → is_message_in c.after ≡ true → changes_phase c ≡ true → A

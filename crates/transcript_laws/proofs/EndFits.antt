@@ -63,6 +63,7 @@ use Rattle.trace_laws.specs.Tells.{IsClosing, IsServed, of_process, of_abort, La
 use Rattle.trace_laws.proofs.ConnectionRows.{ConnectionRow, connection_row}
 use Rattle.trace_laws.proofs.Crossings.{RowFacts, Stops, ends_here, stays}
 use Rattle.trace_laws.proofs.FailureLeft.{fails_as_left}
+use Rattle.trace_laws.proofs.Impossible.{none_some}
 use Rattle.trace_laws.proofs.Joint.{link_phase}
 use Rattle.trace_laws.proofs.PhaseLines.{in_out, out_in}
 use Rattle.trace_laws.proofs.RunFacts.{task_here}
@@ -133,9 +134,6 @@ record Ending (s : ScenarioValue) (p : List Row) (row : Row) (n : Connection) (o
   begun : (run_state s p).exchange.begun ≡ true
   phase : (bus_of (run_state s p)).msg ≡ true → (bus_of (run_state s p)).cd ≡ true
   left : goes_on (phase_leaving (serving_of s (run_state s p) n.target) (bus_of (run_state s p)).atn (phase_of (bus_of (run_state s p)))) ≡ false
-
-none_some : {A : Type 0} (n : Connection) → (let a : Option Connection = None in a) ≡ Some n → A
-none_some n e = absurd cc
 
 ending : (s : ScenarioValue) (p : List Row) (row : Row) (n : Connection) (k : OpenedValue) (l : Link) → Obeys s → IsPrompt s (row ∷ p) → connection p ≡ Some n → (bus p).rst ≡ false → (bus (row ∷ p)).rst ≡ false → connection (row ∷ p) ≡ None → (transcribed p).opened ≡ Some k → (run_state s p).story.link ≡ Some l → Ending s p row n k l
 ending s p row n k l o prompt con calm off after there el = by r.facts

@@ -1,14 +1,9 @@
 -- As the target of a process' connection goes to BUS FREE: after messages that end the connection, or it gives up after MESSAGE OUT that was no
 -- opening (6.1.1, 6.6.10, 6.6.13).
-use Rattle.std.proofs.Common.{◌≡◌, ◌∙◌, ◌+◌, Bool, true, false, Option, Some, None, refl, sym, ap}
-use Rattle.std.specs.Prelude.{is_some, nat_lt, if◌then◌else◌}
+use Rattle.std.proofs.Common.{◌≡◌, ◌∙◌, Bool, true, false, Option, Some, None, refl, sym, ap}
+use Rattle.std.specs.Prelude.{is_some, if◌then◌else◌}
 use Rattle.bus_base.specs.declared.AbortKind.{AbortKind}
 use Rattle.bus_trace.specs.declared.agreements.Agreement.{Agreement}
-use Rattle.msg_grammar.specs.declared.message.MsgIn.{MsgIn}
-use Rattle.scenario.specs.declared.value.Policy.{Policy}
-use Rattle.scenario.specs.declared.value.TargetDef.{TargetDef}
-use Rattle.bus_dialogue.specs.declared.exchange.Arrival.{Arrival}
-use Rattle.bus_dialogue.specs.declared.exchange.Arrival.TheVariants as arrivals
 use Rattle.bus_dialogue.specs.declared.exchange.Cause.{Cause}
 use Rattle.bus_dialogue.specs.declared.exchange.Cause.TheVariants as causes
 use Rattle.bus_dialogue.specs.declared.exchange.Leaving.{Leaving}
@@ -18,10 +13,9 @@ use Rattle.bus_dialogue.specs.declared.exchange.Phase.{Phase}
 use Rattle.bus_dialogue.specs.declared.exchange.Phase.TheVariants as phases
 use Rattle.bus_dialogue.specs.declared.exchange.Task.{Task}
 use Rattle.bus_dialogue.specs.Arrivals.{policy_of}
-use Rattle.bus_dialogue.specs.DataRuns.{runs_in_all}
-use Rattle.bus_dialogue.specs.NextPhase.{Serving, bus_free, phase_entry, disconnection, disconnect_messages, with_task, recovery, recovery_limit, pointer_restoration, next_data_phase, request_or_command, after_offer, message_out_leaving, after_messages, after_arrival, after_run, phase_leaving}
+use Rattle.bus_dialogue.specs.NextPhase.{Serving, bus_free, phase_entry, with_task, recovery, pointer_restoration, next_data_phase, after_offer, message_out_leaving, after_messages, after_arrival, after_run, phase_leaving}
 use Rattle.bus_dialogue.specs.Words.{request_by}
-use Rattle.trace_laws.proofs.TellEnds.{goes_on}
+use Rattle.trace_laws.proofs.TellEnds.{goes_on, either_on, recovers_on, requested_on, arrived_on, ran_on}
 use Rattle.transcript_laws.proofs.SaidNames.{is_selected}
 use Rattle.bus_base.proofs.Tests.{wrong}
 
@@ -31,44 +25,15 @@ pub data EndsBy (v : Serving) (attention : Bool) (phase : Phase) : Type 0 where
 
 -- ---- what goes on
 
-recovers : (def : Option TargetDef) (t : Task) (a b : Leaving) → goes_on a ≡ true → goes_on b ≡ true → goes_on (recovery def t a b) ≡ true
-recovers def t a b e f = go t.in_hold (nat_lt t.recoveries (recovery_limit def))
-  where
-    go : (q r : Bool) → goes_on (if q then a else if r then record a { counts = true } else b) ≡ true
-    go true r = e
-    go false true = e
-    go false false = f
-
-struck_or : (q : Bool) (a b : Leaving) → goes_on a ≡ true → goes_on b ≡ true → goes_on (if q then a else b) ≡ true
-struck_or true a b e f = e
-struck_or false a b e f = f
-
 by_task : (v : Serving) (t : Task) (f : Task → Leaving) → v.task ≡ Some t → goes_on (f t) ≡ true → goes_on (with_task v.task f) ≡ true
 by_task v t f e h = ap (λ (o : Option Task). goes_on (with_task o f)) e ∙ h
-
-arrives : (def : Option TargetDef) (t : Task) (arrival : Arrival) → goes_on (after_arrival def t arrival) ≡ true
-arrives def t arrivals.Refused = refl
-arrives def t arrivals.Guest = refl
-arrives def t arrivals.AtOnce = refl
-arrives def t arrivals.Queued = refl
-
-runs_on : (policy : Policy) (t : Task) → goes_on (after_run policy t) ≡ true
-runs_on policy t = go (nat_lt (t.runs + 1) (runs_in_all policy t))
-  where
-    go : (q : Bool) → goes_on (record (if q then disconnection (disconnect_messages policy) else phase_entry phases.Status) { done = true }) ≡ true
-    go true = refl
-    go false = refl
-
-asks_on : (m : Option MsgIn) → goes_on (request_or_command m) ≡ true
-asks_on None = refl
-asks_on (Some m) = refl
 
 opened_on : (v : Serving) → v.plan.said.aborts ≡ None → goes_on (message_out_leaving v causes.Selected) ≡ true
 opened_on v none = ap (λ (o : Option AbortKind). goes_on (if is_some o then bus_free else after_offer v.def v.plan.negotiates v.plan.said.offer)) none ∙ go v.plan.said.offer v.plan.negotiates
   where
     go : (offer : Option Agreement) (q : Bool) → goes_on (after_offer v.def q offer) ≡ true
     go (Some offer) q = refl
-    go None true = asks_on (request_by v.def)
+    go None true = requested_on (request_by v.def)
     go None false = refl
 
 -- ---- what does not
@@ -76,12 +41,12 @@ opened_on v none = ap (λ (o : Option AbortKind). goes_on (if is_some o then bus
 pub ends_by : (v : Serving) (t : Task) (attention : Bool) (phase : Phase) → v.task ≡ Some t → (phase ≡ phases.MessageOut → v.plan.said.aborts ≡ None) → goes_on (phase_leaving v attention phase) ≡ false → EndsBy v attention phase
 ends_by v t attention phases.Command e none to =
     wrong (sym (by_task v t (λ u. if v.plan.struck then recovery v.def u (pointer_restoration nexts.Command) (phase_entry phases.Status) else after_arrival v.def u v.arrival) e
-    (struck_or v.plan.struck (recovery v.def t (pointer_restoration nexts.Command) (phase_entry phases.Status)) (after_arrival v.def t v.arrival) (recovers v.def t (pointer_restoration nexts.Command) (phase_entry phases.Status) refl refl) (arrives v.def t v.arrival))) ∙ to)
+    (either_on v.plan.struck (recovery v.def t (pointer_restoration nexts.Command) (phase_entry phases.Status)) (after_arrival v.def t v.arrival) (recovers_on v.def t (pointer_restoration nexts.Command) (phase_entry phases.Status) refl refl) (arrived_on v.def t v.arrival))) ∙ to)
 ends_by v t attention phases.DataOut e none to =
     wrong (sym (by_task v t (λ u. if v.plan.struck then recovery v.def u (pointer_restoration nexts.GoOn) (phase_entry phases.Status) else after_run (policy_of v.def) u) e
-    (struck_or v.plan.struck (recovery v.def t (pointer_restoration nexts.GoOn) (phase_entry phases.Status)) (after_run (policy_of v.def) t) (recovers v.def t (pointer_restoration nexts.GoOn) (phase_entry phases.Status) refl refl) (runs_on (policy_of v.def) t))) ∙ to)
+    (either_on v.plan.struck (recovery v.def t (pointer_restoration nexts.GoOn) (phase_entry phases.Status)) (after_run (policy_of v.def) t) (recovers_on v.def t (pointer_restoration nexts.GoOn) (phase_entry phases.Status) refl refl) (ran_on (policy_of v.def) t))) ∙ to)
 ends_by v t true phases.DataIn e none to = wrong to
-ends_by v t false phases.DataIn e none to = wrong (sym (by_task v t (λ u. after_run (policy_of v.def) u) e (runs_on (policy_of v.def) t)) ∙ to)
+ends_by v t false phases.DataIn e none to = wrong (sym (by_task v t (λ u. after_run (policy_of v.def) u) e (ran_on (policy_of v.def) t)) ∙ to)
 ends_by v t true phases.Status e none to = wrong to
 ends_by v t false phases.Status e none to = wrong to
 ends_by v t true phases.MessageIn e none to = wrong to

@@ -37,6 +37,7 @@ use Rattle.bus_transcript.specs.declared.part.Part.{Part}
 use Rattle.bus_transcript.specs.declared.part.Part.TheVariants as parts_of
 use Rattle.bus_transcript.specs.Opened.{OpenedValue, is_completion, with_all_out, with_out, with_part, with_fault, with_in, with_in_if, with_phase, spoken, broken_off, data_parts, phase_parts, phase_over, phase_entered}
 use Rattle.trace_laws.specs.LastTalks.{LastBy, LastGiven, still_stays, to_close, to_save, closed}
+use Rattle.trace_laws.proofs.Impossible.{none_some}
 use Rattle.trace_laws.proofs.PhaseLines.{in_out, in_phase, out_phase}
 use Rattle.trace_laws.proofs.RowItems.{heard_link, LinkAfter, says, hears, stays, link_crossed, link_still}
 use Rattle.transcript_laws.specs.Parts.{is_talk}
@@ -195,12 +196,6 @@ ends_row s p row n g o after made bytes words h = record { quiet = quiet_row k r
         → LinkAfter s k.story l (message_out k.story.bus_state.dialogue c true) (message_in k.story.bus_state.dialogue c true) j.story.link → IsHeldTold j after
     crossing dev ep er = go
       where
-        no_msg : {A : Type 0} (m : MsgOut) → (let a : Option MsgOut = None in a) ≡ Some m → A
-        no_msg m z = absurd cc
-
-        no_inc : {A : Type 0} (m : MsgIn) → (let a : Option MsgIn = None in a) ≡ Some m → A
-        no_inc m z = absurd cc
-
         no_in : is_message_in c.before ≡ false → message_in k.story.bus_state.dialogue c true ≡ None
         no_in x = ap (λ (q : Bool). if q then whole_in (got_in (k.story.bus_state.dialogue.half ++ c.after.data_bits % 256 ∷ [])) else None) x
 
@@ -208,13 +203,13 @@ ends_row s p row n g o after made bytes words h = record { quiet = quiet_row k r
         no_out x = ap (λ (q : Bool). if q then whole_out (got_out (fresh_bytes k.story.bus_state.dialogue ++ c.after.data_bits % 256 ∷ [])) else None) x
 
         other : is_message_out c.before ≡ false → is_message_in c.before ≡ false → after.held ≡ o.held → LinkAfter s k.story l (message_out k.story.bus_state.dialogue c true) (message_in k.story.bus_state.dialogue c true) j.story.link → IsHeldTold j after
-        other x y held (says m a link) = no_msg m (sym (no_out x) ∙ a)
-        other x y held (hears m a b link) = no_inc m (sym (no_in y) ∙ b)
+        other x y held (says m a link) = none_some m (sym (no_out x) ∙ a)
+        other x y held (hears m a b link) = none_some m (sym (no_in y) ∙ b)
         other x y held (stays a b link) = stay ep link held
 
         go : CrossingMade o after k.story.bus_state.dialogue.is_last c.before (c.after.data_bits % 256) (message_out k.story.bus_state.dialogue c true) (message_in k.story.bus_state.dialogue c true) → LinkAfter s k.story l (message_out k.story.bus_state.dialogue c true) (message_in k.story.bus_state.dialogue c true) j.story.link → IsHeldTold j after
         go (crossed_out x f) a = λ m id em sv off. wrong (sym (out_same (bus_of k) (bus_of j) (lines_same s p row n g ep) ∙ ap is_message_out on ∙ x) ∙ off)
-        go (crossed_in x y f) (says m a link) = no_msg m (sym (no_out x) ∙ a)
+        go (crossed_in x y f) (says m a link) = none_some m (sym (no_out x) ∙ a)
         go (crossed_in x y f) (hears m a b link) =
             let held : after.held ≡ Some (Whole m) = ap (λ (z : OpenedValue). z.held) f ∙ ap (λ (z : Option MsgIn). (with_in_if o z).held) b in
             λ q id eq sv off. ap (λ (z : Link). z.last) (same_Some q (heard_link s k.story l m) (sym eq ∙ link)) ∙ ap last_held (sym held)

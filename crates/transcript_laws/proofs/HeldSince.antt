@@ -125,7 +125,7 @@ record IsMessage (b a : LineSet) : Type 0 where
 is_message : (b a : LineSet) → SamePhase b a → b.msg ≡ true → IsMessage b a
 is_message b a h e = record { before = λ i. not (e i) && b.cd && not b.io; after = λ i. not ((h.msg ∙ e) i) && a.cd && not a.io }
 
-message_no_command : (b : LineSet) → b.msg ≡ true → is_command b ≡ false
+pub message_no_command : (b : LineSet) → b.msg ≡ true → is_command b ≡ false
 message_no_command b e = λ i. not (e i) && b.cd && not b.io
 
 pub in_msg : (b : LineSet) → is_message_in b ≡ true → b.msg ≡ true

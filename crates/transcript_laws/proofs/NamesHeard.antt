@@ -1,6 +1,6 @@
 -- The names that the messages of a target have told, in a connection that it began: IDENTIFY, and a tag as the next message (6.5, 6.6.7,
 -- 6.6.17). They are told once the plan's messages have come that name the process.
-use Rattle.std.proofs.Common.{ℕ, zero, suc, ◌≡◌, ◌∙◌, ◌+◌, ◌<◌, Bool, true, false, not, List, [], ◌∷◌, ◌++◌, length, Option, Some, None, refl, sym, ap, subst, arith}
+use Rattle.std.proofs.Common.{ℕ, ◌≡◌, ◌∙◌, ◌+◌, ◌<◌, Bool, true, false, not, List, [], ◌∷◌, ◌++◌, length, Option, Some, None, refl, sym, ap, subst, arith}
 use Rattle.std.specs.Prelude.{◌-◌, ◌==◌, is_some, is_none, slice_index_or, if◌then◌else◌}
 use Rattle.std.proofs.lemmas.List.{append_assoc, append-nil}
 use Rattle.bus_trace.specs.declared.connection.Connection.{Connection}
@@ -25,6 +25,7 @@ use Rattle.bus_transcript.specs.Nexus.{no_summary, is_abort, named, unit_in, tag
 use Rattle.transcript_laws.specs.Parts.{out_parts, summary_by}
 use Rattle.transcript_laws.proofs.OutNames.{outs_of, is_tame, are_tame}
 use Rattle.bus_base.proofs.Tests.{wrong, wrong', and_first, and_second}
+use Rattle.trace_laws.proofs.NamedBytes.{all_bytes, identify_got}
 
 -- ---- the messages of a target among parts
 
@@ -189,23 +190,8 @@ says_again q messages parts held half count (tag_again t h em ep) ec eh el = tag
 
 -- ---- their bytes
 
-all_bytes : (q : Process) (messages : Messages) (tag : Option MsgIn) → messages ≡ naming_messages q → tag_named q.tag ≡ tag → bytes_of_messages messages ≡ (0x80 + q.unit) ∷ message_bytes tag
-all_bytes q messages tag e t = ap bytes_of_messages e ∙ ap (λ (m : Option MsgIn). (0x80 + q.unit) ∷ message_bytes m) t
-
 left_bytes : (messages : Messages) (t : ℕ) → messages ≡ one_message (to_initiator.SimpleTag t) → bytes_of_messages messages ≡ 0x20 ∷ t ∷ []
 left_bytes messages t e = ap bytes_of_messages e
-
-identify_got : (unit : ℕ) → unit < 8 → (whole_in (got_in ((0x80 + unit) ∷ [])) ≡ Some (to_initiator.Identify unit)) × (left_of (got_in ((0x80 + unit) ∷ [])) ((0x80 + unit) ∷ []) ≡ [])
-unfolding form_in
-identify_got zero lt = (refl, refl)
-identify_got (suc zero) lt = (refl, refl)
-identify_got (suc (suc zero)) lt = (refl, refl)
-identify_got (suc (suc (suc zero))) lt = (refl, refl)
-identify_got (suc (suc (suc (suc zero)))) lt = (refl, refl)
-identify_got (suc (suc (suc (suc (suc zero))))) lt = (refl, refl)
-identify_got (suc (suc (suc (suc (suc (suc zero)))))) lt = (refl, refl)
-identify_got (suc (suc (suc (suc (suc (suc (suc zero))))))) lt = (refl, refl)
-identify_got (suc (suc (suc (suc (suc (suc (suc (suc n)))))))) lt = absurd omega (arith, lt)
 
 tag_opens : (whole_in (got_in (0x20 ∷ [])) ≡ None) × (left_of (got_in (0x20 ∷ [])) (0x20 ∷ []) ≡ 0x20 ∷ [])
 unfolding form_in

@@ -26,9 +26,8 @@ use Rattle.bus_dialogue.specs.declared.exchange.Said.{Said}
 use Rattle.bus_dialogue.specs.declared.exchange.Task.{Task}
 use Rattle.bus_dialogue.specs.Arrivals.{policy_of}
 use Rattle.bus_dialogue.specs.Exchange.{Exchange, from_byte, plan_anew}
-use Rattle.bus_dialogue.specs.NextPhase.{Serving, phase_of, phase_entry, phase_leaving, message_repetition, message_out_leaving, after_refusal, after_messages, next_data_phase, with_task, recovery, bus_free}
+use Rattle.bus_dialogue.specs.NextPhase.{Serving, phase_of, phase_entry, phase_leaving, message_repetition, message_out_leaving, after_messages, next_data_phase, with_task}
 use Rattle.bus_dialogue.specs.Planning.{plan_in_message_out}
-use Rattle.bus_dialogue.specs.Words.{is_naming}
 use Rattle.bus_due.specs.Plain.{IsPlain}
 use Rattle.bus_due.specs.RunState.{RunState, bus_of}
 use Rattle.bus_due.specs.RunSteps.{run_state}
@@ -46,7 +45,7 @@ use Rattle.trace_laws.proofs.CommandTurns.{is_command_next}
 use Rattle.trace_laws.proofs.ConnectionRows.{stage_of_connection}
 use Rattle.trace_laws.proofs.Joint.{link_phase}
 use Rattle.trace_laws.proofs.NamedRows.{in_lines}
-use Rattle.trace_laws.proofs.NamedTurns.{is_message_cause}
+use Rattle.trace_laws.proofs.NamedTurns.{is_message_cause, refusal_is}
 use Rattle.trace_laws.proofs.OfferLeavings.{all_said, parity_said}
 use Rattle.trace_laws.proofs.OfferSteps.{left_is}
 use Rattle.trace_laws.proofs.OfferTurns.{out_by_phase}
@@ -73,10 +72,6 @@ after_names v = go v.task
     go : (t : Option Task) → OnMessages IsNoName (with_task t (λ t. phase_entry (next_data_phase (policy_of v.def) t t.runs))).messages
     go None = (tt, tt)
     go (Some t) = (tt, tt)
-
-refusal_is : (v : Serving) → v.plan.said.offer ≡ None → is_naming v.plan.messages.first ≡ true → after_refusal v ≡ message_repetition v.plan
-refusal_is v e f =
-    (λ i. if is_some (e i) then phase_entry phases.Command else if f i then message_repetition v.plan else with_task v.task (λ t. recovery v.def t (message_repetition v.plan) bus_free))
 
 -- Names are answered by MESSAGE PARITY ERROR alone.
 says_error : (k : RunState) → IsHeardOut k.exchange k.story.bus_state.dialogue → k.exchange.plan.cause ≡ causes.InMessage → k.exchange.plan.next ≡ nexts.GoOn → k.exchange.speech.words ≡ out_bytes to_target.ParityError

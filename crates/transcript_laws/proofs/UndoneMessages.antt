@@ -60,7 +60,7 @@ use Rattle.trace_laws.proofs.UndoneAnswers.{SamePlan, plan_stays}
 use Rattle.trace_laws.proofs.Whole.{Whole, whole}
 use Rattle.transcript_laws.specs.RowTests.{undoes_nothing}
 use Rattle.transcript_laws.proofs.CrossingFits.{whole_on}
-use Rattle.transcript_laws.proofs.HeldSince.{in_msg, out_msg, follows_in}
+use Rattle.transcript_laws.proofs.HeldSince.{in_msg, out_msg, follows_in, message_no_command}
 use Rattle.transcript_laws.proofs.OpenedBytes.{lines_same, out_same, in_same, begun_same, begun_crossing, begun_turned}
 use Rattle.transcript_laws.proofs.OpenedFacts.{Going, Starts, Holds, RowMade, made_still, made_crossing, made_turn, always, plain_before, knows_before}
 use Rattle.transcript_laws.proofs.UndoneBytes.{UndoesSo, row_undoes}
@@ -124,9 +124,6 @@ from_undone b m n h = go (nat_lt n (length (message_bytes m.first))) h
     go false (inr e) = inr (and_true (is_brief m.second) ∙ and_second (is_brief m.first) (is_brief m.second) e)
 
 -- ---- lines
-
-no_command : (b : LineSet) → b.msg ≡ true → is_command b ≡ false
-no_command b e = λ i. not (e i) && b.cd && not b.io
 
 no_status : (b : LineSet) → b.msg ≡ true → is_status_phase b ≡ false
 no_status b e = λ i. not (e i) && b.cd && b.io
@@ -243,7 +240,7 @@ undone_row s p row n g o after made h = by made
         on_plan = subst (λ (m : Messages). Undone j.story m) (sym plan.messages)
 
         goes : (bus_of k).msg ≡ true → OnMessage RestoresNone (message_in k.story.bus_state.dialogue c now) → UndoesSo k.story → UndoesSo j.story
-        goes msg = keeps now er (no_command (bus_of k) msg) (λ z. wrong' (sym ep ∙ z)) (λ z. ap (λ (x : LineSet). x.msg) (sym on) ∙ msg)
+        goes msg = keeps now er (message_no_command (bus_of k) msg) (λ z. wrong' (sym ep ∙ z)) (λ z. ap (λ (x : LineSet). x.msg) (sym on) ∙ msg)
 
         says : is_message_out (bus_of k) ≡ true → UndoesSo k.story → UndoesSo j.story
         says out = goes (out_msg (bus_of k) out) (subst (λ (x : Option MsgIn). OnMessage RestoresNone x) (sym (none now)) tt)
@@ -304,7 +301,7 @@ undone_row s p row n g o after made h = by made
             ap (λ (x : Plan). x.messages) (out_plan true f.0 out) ∙ ap (λ (q : Bool). if q then from_byte k.exchange.plan.messages (k.handshakes.requests - 1) else k.exchange.plan.messages) f.1 in
             subst (λ (m : Messages). Undone j.story m) (sym messages)
             (from_undone j.story k.exchange.plan.messages (k.handshakes.requests - 1)
-            (elim (h.given f.0 here) [ inl w ↦ inl (quiet (no_command (bus_of k) (in_msg (bus_of k) here)) (out_msg (bus_of j) out) w.0, w.1) | inr w ↦ inr w ]))
+            (elim (h.given f.0 here) [ inl w ↦ inl (quiet (message_no_command (bus_of k) (in_msg (bus_of k) here)) (out_msg (bus_of j) out) w.0, w.1) | inr w ↦ inr w ]))
 
         -- MESSAGE IN follows
         begun_before : (q : Bool) → k.exchange.begun ≡ q → is_message_in (bus_of j) ≡ true → k.exchange.begun ≡ true
@@ -331,7 +328,7 @@ undone_row s p row n g o after made h = by made
                 ∙ (λ t. (leaving_by (serving_of s k n.target) (b t) (bus_of k)).messages)
 
             after_out : phase_of (bus_of k) ≡ phases.MessageOut → UndoesSo k.story → UndoesSo j.story
-            after_out f = quiet (no_command (bus_of k) (out_msg (bus_of k) (here f))) (in_msg (bus_of j) x)
+            after_out f = quiet (message_no_command (bus_of k) (out_msg (bus_of k) (here f))) (in_msg (bus_of j) x)
               where
                 here : phase_of (bus_of k) ≡ phases.MessageOut → is_message_out (bus_of k) ≡ true
                 here f = out_lines (bus_of k) f (λ z. (g.going.goes.phase z).0)

@@ -1,39 +1,43 @@
-use Rattle.std.proofs.Common.{◌∙◌, refl, sym, subst, None}
+use Rattle.std.proofs.Common.{◌≡◌, ◌∙◌, refl, sym, subst}
+use Rattle.bus_trace.specs.Trace.{bus, drives}
+use Rattle.bus_dialogue.specs.Hearing.{begun}
+use Rattle.bus_lines.specs.Handshakes.{handshakes}
 use Rattle.scenario.specs.declared.value.TargetDef.{TargetDef}
 use Rattle.bus_due.specs.Due.{reset_from}
 use Rattle.bus_due.specs.Next.{due}
 use Rattle.bus_due.specs.Own.{own_of}
 use Rattle.bus_due.specs.RunSteps.{run_state}
+use Rattle.bus_due.specs.Sights.{serving_of}
 use Rattle.bus_due.specs.Wants.{ready_of}
-use Rattle.target_course.specs.States.{TargetState, IsNoInitiator, IsTargetLine, IsTargetOf}
+use Rattle.scsi_device.specs.Told.{told}
+use Rattle.target_course.specs.Alike.{AreAlike}
+use Rattle.target_course.specs.Dues.{plain_by}
+use Rattle.target_course.specs.States.{IsNoInitiator, IsOwnConnection, TargetState, offering_in}
 use Rattle.target_units.specs.Readies.{ready_unit}
-use Rattle.target_course.specs.Servings.{serving_with}
 use Rattle.disk_target.specs.Targets.{TargetValue, KnowsRows}
-use Rattle.disk_target.proofs.Apart.{ready_any}
 use Rattle.disk_target.proofs.target.Target.due_inside.Goals as goal
 
 pub returns : goal.returns
-returns c = λ s rows n f o d away e able h at calm fault.
+returns c = λ s rows n f o d away e able h at calm from fault.
+    let t : TargetDef = c.self.inside.def in
     let g = subst (λ (v : TargetValue). KnowsRows s rows v) (sym c.self.view_is) h in
-    let made = c.decision-decision.ensures.trace s rows f o d e able h in
-    let def = c.decision-decision.ensures.def in
-    let dev = g.itself_dev ∙ (λ i. (c.self.view_is i).def.dev) in
-    let own = g.itself_is.own_is ∙ (λ i. own_of rows (dev i)) in
-    let ready = ready_unit (ready_of s (run_state s rows) c.args.self.now.def.dev) in
-    let x : TargetState = record { own = c.self.inside.itself.own; reset = c.self.inside.itself.reset; ready = None; serving = serving_with c.decision-decision.result.serving made.given } in
-    let t = c.decision-decision.result.serving.def in
-    c.target_next.ensures.exact rows made.given o made.bytes_are
-    ∙ ready_any rows t c.args.fault x ready n at.stands calm
-    ∙ sym (c.dues_are_of_targets.ensures s rows t (record x { ready = ready }) c.args.fault
-    (subst (λ (t : TargetDef). IsTargetLine s t) (sym def) (record { below = h.line.below; target_is = h.line.target_is; no_host = h.line.no_host; is_none = h.line.is_none }))
-    d
-    (subst (λ (t : TargetDef). IsNoInitiator rows t.dev) (sym def) away)
-    (subst (λ (t : TargetDef). IsTargetOf s rows t (record x { ready = ready })) (sym def)
+    let same : t ≡ c.args.self.now.def = λ i. (c.self.view_is i).def in
+    let own = g.itself_is.own_is ∙ (λ i. own_of rows (g.itself_dev i)) in
+    let does = c.plain-plain.ensures s rows n f o d e able h at calm from in
+    let x : TargetState = record { own = c.self.inside.itself.own; reset = c.self.inside.itself.reset; ready = ready_unit (ready_of s (run_state s rows) t.dev); serving = does.serving } in
+    c.next_in_own.ensures s rows n x o
+    (record { below = g.line.below; target_is = g.line.target_is; no_host = g.line.no_host; is_none = g.line.is_none }) d
+    (subst (λ (z : TargetDef). IsNoInitiator rows z.dev) (sym same) away)
+    (subst (λ (z : TargetDef). IsOwnConnection rows z.dev n) (sym same) at) calm refl refl
     (record {
       own_is = own;
-      reset_is = g.itself_is.reset_is ∙ (λ i. reset_from (dev i) (own i).released (g.itself_is.resets_are i));
+      reset_is = g.itself_is.reset_is ∙ (λ i. reset_from (g.itself_dev i) (own i).released (g.itself_is.resets_are i));
       ready_is = refl;
-      serving_is = made.alike;
-    }))
-    fault)
-    ∙ (λ i. due s rows (def i).dev)
+      serving_is = λ m own rst.
+          subst (λ (z : TargetDef). AreAlike (begun rows) (drives rows z.dev).req (bus rows).io (handshakes rows).requests (offering_in rows does.serving) (offering_in rows (serving_of s (run_state s rows) z.dev))) (sym same)
+          (does.alike m (subst (λ (z : TargetDef). IsOwnConnection rows z.dev m) same own) rst);
+    })
+    fault
+    (does.does x (λ i. let v : TargetValue = c.self.view_is i in v.itself.own) refl
+    ∙ (λ i. plain_by (sym same i) (told rows (sym same i).dev) x))
+    ∙ (λ i. due s rows (same i).dev)

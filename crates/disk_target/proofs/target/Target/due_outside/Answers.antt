@@ -18,10 +18,10 @@ use Rattle.disk_target.proofs.Telling.{wide}
 use Rattle.disk_target.proofs.target.Target.due_outside.Goals as goal
 
 pub returns : goal.returns
-returns c = λ s rows f o d away e able h fault.
+returns c = λ s rows f o d away able h none fault.
     let g = subst (λ (v : TargetValue). KnowsRows s rows v) (sym c.self.view_is) h in
-    let made = c.decision-decision.ensures.trace s rows f o d e able h in
-    let def = c.decision-decision.ensures.def in
+    let made = c.no_decision-decision.ensures.trace s rows none in
+    let def = c.no_decision-decision.ensures.def in
     let dev = g.itself_dev ∙ (λ i. (c.self.view_is i).def.dev) in
     let own = g.itself_is.own_is ∙ (λ i. own_of rows (dev i)) in
     let devs = sym ((λ i. (c.units.ensures i).dev) ∙ g.units_dev ∙ (λ i. (c.self.view_is i).def.dev)) in
@@ -38,7 +38,7 @@ returns c = λ s rows f o d away e able h fault.
     (subst (λ (t : TargetDef). IsTargetLine s t) (sym def) (record { below = h.line.below; target_is = h.line.target_is; no_host = h.line.no_host; is_none = h.line.is_none }))
     d
     (subst (λ (t : TargetDef). IsNoInitiator rows t.dev) (sym def) away)
-    (subst (λ (t : TargetDef). IsTargetOf s rows t (record { own = c.self.inside.itself.own; reset = c.self.inside.itself.reset; ready = c.bounded.result; serving = serving_with c.decision-decision.result.serving made.given })) (sym def)
+    (subst (λ (t : TargetDef). IsTargetOf s rows t (record { own = c.self.inside.itself.own; reset = c.self.inside.itself.reset; ready = c.bounded.result; serving = serving_with c.no_decision-decision.result.serving made.given })) (sym def)
     (record {
       own_is = own;
       reset_is = g.itself_is.reset_is ∙ (λ i. reset_from (dev i) (own i).released (g.itself_is.resets_are i));

@@ -39,13 +39,13 @@ returns-clause-trace c = λ s rows m n fits o devices tied was stands shown_is e
     devices tied before.stands now.stands empty (λ x own. absurd (never_own rows d.dev m x before own)) (λ x own. absurd (never_own rows d.dev m x before own)) (inr none) g in
     record {
       line = g.line;
-      itself_dev = c.see.ensures.dev ∙ g.itself_dev;
+      itself_dev = c.see_itself.ensures.dev ∙ g.itself_dev;
       units_dev = g.units_dev;
       units_seek = g.units_seek;
       progress_dev = g.progress_dev;
       negotiated_dev = g.negotiated_dev;
       gathered_dev = g.gathered_dev;
-      itself_is = c.see.ensures.trace s rows view g.itself_is;
+      itself_is = c.see_itself.ensures.trace s rows view g.itself_dev g.itself_is;
       units_are = units.units;
       sound = units.sound;
       progress_is = r.progress_is;

@@ -37,13 +37,13 @@ returns-clause-trace c = λ s rows before own fits o devices tied was stands qui
     (subst (λ (x : TargetValue). IsQuiet (hearing rows row) before own x.course (events_of_row s rows row)) (sym c.self.view_is) quiet) g in
     record {
       line = g.line;
-      itself_dev = c.see.ensures.dev ∙ g.itself_dev;
+      itself_dev = c.see_itself.ensures.dev ∙ g.itself_dev;
       units_dev = g.units_dev;
       units_seek = g.units_seek;
       progress_dev = g.progress_dev;
       negotiated_dev = g.negotiated_dev;
       gathered_dev = g.gathered_dev;
-      itself_is = c.see.ensures.trace s rows view g.itself_is;
+      itself_is = c.see_itself.ensures.trace s rows view g.itself_dev g.itself_is;
       units_are = r.kept.kept.units;
       sound = r.kept.kept.sound;
       progress_is = r.all.progress_is;

@@ -9,13 +9,14 @@ use Rattle.bus_due.specs.RunState.{array_of}
 use Rattle.bus_due.specs.RunSteps.{run_state}
 use Rattle.bus_due.specs.Sights.{serving_of}
 use Rattle.bus_due.specs.Tasks.{given_if, given_of, reply_now}
-use Rattle.scsi_device.proofs.Finds.{some_is}
 use Rattle.scsi_device.specs.Told.{told, pace_of}
 use Rattle.target_course.specs.Alike.{AreAlike}
 use Rattle.target_course.specs.Courses.{name_of}
 use Rattle.target_course.specs.Servings.{serving_with}
 use Rattle.target_course.specs.declared.serving.DataBytes.{DataBytes}
+use Rattle.target_course.specs.Dues.{plain_by}
 use Rattle.target_course.specs.States.{offering_in}
+use Rattle.disk_target.specs.Targets.{TargetValue}
 use Rattle.target_course.proofs.CourseAgrees.{front_heard}
 use Rattle.disk_target.specs.Bytes.{gives_data, DecidesAs}
 use Rattle.disk_target.proofs.Knowing.{alike_by, sources}
@@ -23,19 +24,16 @@ use Rattle.disk_target.proofs.Data.{knows_in_data, served_of}
 use Rattle.disk_target.proofs.Lines.{line_of_process}
 use Rattle.disk_target.proofs.Offers.{alike_without}
 use Rattle.disk_target.proofs.Telling.{none_given}
-use Rattle.disk_target.proofs.target.Target.decision_by.Goals.{then-begun+then-gives_data, else-begun, else-begun-via-then-begun+else-gives_data, else-begun-via-else-begun}
-use Rattle.disk_target.proofs.target.Target.decision_by.Goals as goal
+use Rattle.disk_target.proofs.target.Target.plain_by.Goals.{then-begun+then-gives_data, else-begun, else-begun-via-then-begun+else-gives_data, else-begun-via-else-begun}
+use Rattle.disk_target.proofs.target.Target.plain_by.Goals as goal
 
-pub returns-clause-def : goal.returns-clause-def
-returns-clause-def c = some_is _ _ (λ i. (c.requires.known.serving [] i).def)
-
-pub returns-clause-trace : goal.returns-clause-trace
-returns-clause-trace c = λ s rows n fits o d e able h course own calm from.
+pub returns : goal.returns
+returns c = λ s rows n fits o d e able h course own calm from.
     let x = c.requires.known in
     let plain = c.kept_is_plain.ensures.rows s rows d in
     let here = course n own calm in
     let state = x.told s rows n fits able (sources s rows c.args.self.now h) h.reply_is here.ends_are own calm from in
-    elim c.if-begun.branch [
+    let made : DecidesAs s rows c.args.self.now.def c.args.known.now.serving c.if-begun.bytes = elim c.if-begun.branch [
       | then-begun+then-gives_data w ↦
           let lines = plain.bus ∙ sym (c.bus.ensures.trace rows (c.view.ensures.trace rows o)) in
           let next = sym (λ i. (here.plan_is i).next) ∙ (λ i. (sym w.plan.ensures i).next) in
@@ -79,4 +77,12 @@ returns-clause-trace c = λ s rows n fits o d e able h course own calm from.
                 (serving_with c.args.known.now.serving []) (given_of s (run_state s rows)) [] (offering_in rows (serving_of s (run_state s rows) c.args.self.now.def.dev)) gives
                 (alike_by s rows m c.args.self.now.def c.args.self.now.units c.args.self.now.progress c.args.self.now.reply c.args.course.now c.args.known.now x plain h.line.below h.line.target_is e state course own calm);
           })
-    ]
+    ] in
+    let same : c.self.inside.def ≡ c.args.self.now.def = λ j. (c.self.view_is j).def in
+    record {
+      serving = serving_with c.args.known.now.serving made.given;
+      alike = made.alike;
+      does = λ i times serves.
+          c.plain_due.ensures rows made.given i o (times ∙ (λ j. let v : TargetValue = sym c.self.view_is j in v.itself.own)) serves made.bytes_are
+          ∙ (λ j. plain_by (same j) (told rows (same j).dev) i);
+    }

@@ -1,0 +1,66 @@
+-- The target of a connection that waits does nothing, whatever it has to do in the phase.
+use Rattle.std.proofs.Common.{◌≡◌, Bool, true, false, refl, None}
+use Rattle.std.specs.Prelude.{not, ◌&&◌, ◌==◌, if◌then◌else◌}
+use Rattle.bus_reactions.specs.declared.due.Myself.{Myself}
+use Rattle.bus_reactions.specs.declared.ends.Offering.{Offering}
+use Rattle.bus_reactions.specs.declared.ends.Pace.{Pace}
+use Rattle.bus_reactions.specs.Ends.{message_out_start, target_due}
+use Rattle.bus_reactions.specs.Target.{bits_if, byte_change, first_req, pulse_turn, req_negation, req_pulse_end, target_pulse, target_turn}
+use Rattle.scenario.specs.declared.value.TargetDef.{TargetDef}
+use Rattle.scsi_device.specs.Told.{Told, pace_of}
+use Rattle.target_course.specs.Dues.{myself_by, offering_of_target, plain_by}
+use Rattle.target_course.specs.States.{TargetState}
+use Rattle.disk_target.specs.Waits.{drives_pulse, is_in_pulse, is_waiting, waits}
+
+pub waiting_is : (d : TargetDef) (t : Told) (i : TargetState) → is_waiting t ≡ true → plain_by d t i ≡ None
+waiting_is d t i e = go t.begun p.pulsed t.lines.req t.sight.bus.ack e
+  where
+    p : Pace
+    p = pace_of t None
+
+    me : Myself
+    me = myself_by d t i
+
+    g : Offering
+    g = offering_of_target t i
+
+    go : (begun pulsed req ack : Bool) → waits req ack begun pulsed ≡ true
+        → (if not begun then message_out_start t.sight me
+        else if pulsed then target_pulse t.sight t.handshakes me p g
+        else if req then (if ack then req_negation t.sight me g else None)
+        else if ack then None
+        else target_turn t.sight t.handshakes me g)
+        ≡ None
+    go true false true false x = refl
+    go true false false true x = refl
+    go begun pulsed true true x = absurd cc
+    go begun pulsed false false x = absurd cc
+    go true true true false x = absurd cc
+    go true true false true x = absurd cc
+    go false pulsed true false x = absurd cc
+    go false pulsed false true x = absurd cc
+
+-- And where it drives a REQ pulse it ends that, as with any other offering.
+pub pulse_ends : (d : TargetDef) (t : Told) (i : TargetState) (g : Offering) → is_in_pulse t ≡ true → target_due t.begun t.sight t.handshakes (myself_by d t i) (pace_of t None) g ≡ plain_by d t i
+pulse_ends d t i g e = go t.lines.req t.begun p.pulsed e
+  where
+    p : Pace
+    p = pace_of t None
+
+    me : Myself
+    me = myself_by d t i
+
+    h : Offering
+    h = offering_of_target t i
+
+    go : (req begun pulsed : Bool) → drives_pulse req begun pulsed ≡ true
+        → (if not begun then message_out_start t.sight me
+        else if pulsed then (if req then req_pulse_end t.sight me p else (if t.handshakes.requests == 0 then first_req t.sight me g else if t.sight.bus.io && not (me.own.data_bits == bits_if g.follows g.byte) then byte_change t.handshakes me p g else pulse_turn t.sight t.handshakes me p g))
+        else (if req then (if t.sight.bus.ack then req_negation t.sight me g else None) else if t.sight.bus.ack then None else target_turn t.sight t.handshakes me g))
+        ≡ (if not begun then message_out_start t.sight me
+        else if pulsed then (if req then req_pulse_end t.sight me p else (if t.handshakes.requests == 0 then first_req t.sight me h else if t.sight.bus.io && not (me.own.data_bits == bits_if h.follows h.byte) then byte_change t.handshakes me p h else pulse_turn t.sight t.handshakes me p h))
+        else (if req then (if t.sight.bus.ack then req_negation t.sight me h else None) else if t.sight.bus.ack then None else target_turn t.sight t.handshakes me h))
+    go true true true x = refl
+    go false begun pulsed x = absurd cc
+    go true false pulsed x = absurd cc
+    go true true false x = absurd cc
