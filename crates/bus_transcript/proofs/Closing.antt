@@ -1,16 +1,12 @@
 -- A connection is closed by its parts alone, whatever stands in its place meanwhile; and rows one by one.
-use Rattle.std.proofs.Common.{ℕ, ◌≡◌, ◌<◌, ◌+◌, List, [], ◌∷◌, ◌++◌, take, reverse, length, get_or, refl, sym, ap, ◌∙◌}
+use Rattle.std.proofs.Common.{◌≡◌, List, refl}
 use Rattle.std.specs.Prelude.{Bool, false, Option}
-use Rattle.std.proofs.lemmas.List.{reverse-append}
-use Rattle.std.proofs.lemmas.Grind.{take_at_read}
-use Rattle.bus_trace.specs.declared.Row.{Row}
 use Rattle.bus_trace.specs.declared.connection.Connection.{Connection}
 use Rattle.bus_story.specs.BusState.{RowReading}
 use Rattle.bus_transcript.specs.declared.part.Part.{Part}
 use Rattle.bus_transcript.specs.declared.summary.Summary.{Summary}
 use Rattle.bus_transcript.specs.Opened.{OpenedValue, settled, phase_over}
 use Rattle.bus_transcript.specs.Rows.{TranscriberValue, closed_by, closed_with, closed_phase}
-use Rattle.bus_trace.proofs.OneRow.{rows_so_far}
 
 closed_apart : (t : TranscriberValue) (o : Option OpenedValue) (n : Connection) (parts : List Part) (free : Bool) (s : Summary) → closed_by (record t { opened = o }) n parts free s ≡ closed_by t n parts free s
 unfolding closed_by

@@ -2,6 +2,7 @@ pub mod OnOks
 pub mod Closing
 pub mod Nexuses
 pub mod Silence
+pub mod StillRows
 pub mod Cases
 pub mod Resets
 pub mod ToldCases

@@ -5,5 +5,6 @@ pub mod Keys
 pub mod Processes
 pub mod Accounts
 pub mod Rows
+pub mod Still
 pub mod Text
 pub mod Events

@@ -10,7 +10,6 @@ use Rattle.bus_trace.specs.Changes.{rises}
 use Rattle.bus_trace.specs.Phases.{is_data, is_command, is_message_out, is_message_in, changes_phase}
 use Rattle.bus_trace.specs.Terms.{is_fault}
 use Rattle.msg_grammar.specs.declared.message.MsgOut.{MsgOut}
-use Rattle.msg_grammar.specs.declared.message.MsgOut.TheVariants as to_target
 use Rattle.msg_grammar.specs.declared.message.MsgIn.{MsgIn}
 use Rattle.msg_grammar.specs.declared.message.MsgIn.TheVariants as to_initiator
 use Rattle.bus_phases.specs.Half.{is_nil}

@@ -1,15 +1,18 @@
 //! The bus after some rows, and what a row does on it.
-ghost use Rattle.std.specs.Prelude.{◌≡◌, ◌<◌, not, ◌&&◌, is_some, is_none};
-ghost use Rattle.bus_trace.specs.View.{union_all};
-ghost use Rattle.bus_story.specs.BusState.{quiet_bus, change_by, row_reading_of, row_reading};
+ghost use Rattle.std.specs.Prelude.{◌≡◌, ◌<◌, not, ◌&&◌, is_some, is_none, slice_set};
+ghost use Rattle.bus_trace.specs.View.{driven_at, union_all};
+ghost use Rattle.bus_story.specs.BusState.{quiet_bus, change_by, row_reading_of};
 ghost use Rattle.bus_trace.specs.Phases.{changes_phase};
 ghost use Rattle.bus_trace.specs.Terms.{call_after, connection_after, receiver_of};
 ghost use Rattle.bus_transcript.specs.Rows.{dialogue_seen, is_silent, bus_seen};
+ghost use Rattle.bus_transcript.specs.Still.{stands_on, is_still, still_bus};
 
+use bus_base::Dev;
 use bus_phases::{Agreements, Dialogue, asynchronous};
 use bus_story::{message_in, message_out};
 use bus_trace::{
-    Call, Change, Connection, Lines, Row, call_after, changes_phase, connection_after, receiver_of,
+    Call, Change, Connection, Kind, Lines, Row, call_after, changes_phase, connection_after,
+    is_fault, is_message_in, receiver_of,
 };
 use msg_grammar::{MsgIn, MsgOut};
 use std::marker::Model;
@@ -67,17 +70,32 @@ impl Model for Bus {
     } };
 }
 
-fn union_all(driven: &[Lines; 8]) -> Lines
-    ensures { result ≡ union_all driven.now }
+// What this device drives, where the device of a row drives these lines in place of its own.
+fn drives_with(driven: &[Lines; 8], dev: Dev, lines: Lines, other: Dev) -> Lines
+    requires dev { dev < 8 }
+    requires other { other < 8 }
+    ensures { result ≡ driven_at (slice_set driven.now dev lines) other }
 {
-    driven[0]
-        .with(driven[1])
-        .with(driven[2])
-        .with(driven[3])
-        .with(driven[4])
-        .with(driven[5])
-        .with(driven[6])
-        .with(driven[7])
+    if other == dev {
+        lines
+    } else {
+        driven[other as usize]
+    }
+}
+
+// What is on the bus then. No lines are read back that were stored just before, for which a processor would wait.
+fn bus_with(driven: &[Lines; 8], dev: Dev, lines: Lines) -> Lines
+    requires { dev < 8 }
+    ensures { result ≡ union_all (slice_set driven.now dev lines) }
+{
+    drives_with(driven, dev, lines, 0)
+        .with(drives_with(driven, dev, lines, 1))
+        .with(drives_with(driven, dev, lines, 2))
+        .with(drives_with(driven, dev, lines, 3))
+        .with(drives_with(driven, dev, lines, 4))
+        .with(drives_with(driven, dev, lines, 5))
+        .with(drives_with(driven, dev, lines, 6))
+        .with(drives_with(driven, dev, lines, 7))
 }
 
 // No byte crosses and no phase begins.
@@ -85,6 +103,13 @@ fn is_still(connection: &Option<Connection>, change: &Change) -> bool
     ensures { result ≡ (is_none (receiver_of connection.now change.now) && not (changes_phase change.now)) }
 {
     receiver_of(connection, change).is_none() && !changes_phase(change)
+}
+
+// BSY stands after the row, and RST does not.
+fn stands_on(change: &Change) -> bool
+    ensures { result ≡ stands_on change.now }
+{
+    change.after.bsy() && !change.after.rst()
 }
 
 // The row changes nothing of the messages.
@@ -140,17 +165,16 @@ impl Bus {
         self.crossed.is_some()
     }
 
-    fn change(&self, row: &Row) -> Change
+    /// What a row changes.
+    pub(crate) fn change(&self, row: &Row) -> Change
         requires { row.now.dev < 8 }
         ensures { result ≡ change_by self.now row.now }
     {
         let own = self.driven[row.dev as usize];
         let next = row.kind.driven_after(own);
-        let mut driven = self.driven;
-        driven[row.dev as usize] = next;
         Change {
             before: self.lines,
-            after: union_all(&driven),
+            after: bus_with(&self.driven, row.dev, next),
             own,
             next,
         }
@@ -172,7 +196,8 @@ impl Bus {
         }
     }
 
-    fn reading_of(&self, row: &Row, change: Change) -> Reading
+    /// What a row does that changes this.
+    pub(crate) fn reading_of(&self, row: &Row, change: Change) -> Reading
         ensures { result ≡ row_reading_of self.now row.now change }
     {
         let crosses = receiver_of(&self.connection, &change).is_some();
@@ -185,12 +210,27 @@ impl Bus {
         }
     }
 
-    /// What a row does.
-    pub(crate) fn reading(&self, row: &Row) -> Reading
-        requires { row.now.dev < 8 }
-        ensures { result ≡ row_reading self.now row.now }
+    /// Whether a row that changes this leaves the connection that stands and its messages as they are: no byte crosses,
+    /// no phase begins, no fault strikes, and no message is taken.
+    pub(crate) fn is_still(&self, change: &Change, kind: Kind) -> bool
+        ensures { result ≡ is_still self.now change.now kind }
     {
-        self.reading_of(row, self.change(row))
+        stands_on(change)
+            && is_still(&self.connection, change)
+            && self.connection.is_some()
+            && !is_fault(kind)
+            && !is_message_in(change.before)
+    }
+
+    /// Such a row.
+    pub(crate) fn step_still(&mut self, row: &Row, change: &Change)
+        requires { row.now.dev < 8 }
+        ensures { self.new ≡ still_bus self.old row.now change.now }
+    {
+        self.step_call(change, row);
+        self.driven[row.dev as usize] = change.next;
+        self.lines = change.after;
+        self.crossed = None;
     }
 
     fn step_dialogue(&mut self, reading: &Reading)

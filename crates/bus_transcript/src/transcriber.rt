@@ -354,7 +354,12 @@ impl Transcriber {
         requires { row.now.dev < 8 }
         ensures { OnOk result (self.new ≡ after_row self.old row.now) }
     {
-        let reading = self.bus.reading(row);
+        let change = self.bus.change(row);
+        if self.bus.is_still(&change, row.kind) {
+            self.bus.step_still(row, &change);
+            return Ok(());
+        }
+        let reading = self.bus.reading_of(row, change);
         self.see_reading(row, &reading)?;
         Ok(())
     }
