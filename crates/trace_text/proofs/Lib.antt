@@ -11,3 +11,4 @@ pub mod Shown
 pub mod RowFront
 pub mod Taken
 mod TouchedBlocks
+pub mod PiecesLeft

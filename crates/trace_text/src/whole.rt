@@ -68,11 +68,13 @@ fn read_bytes(alloc: Global, bytes: &[u8]) -> Result<Trace, TraceBad>
 {
     let mut reader = TraceReader::new();
     let mut rows = Vec::new(alloc);
-    for byte in bytes {
-        let told = reader.push(*byte);
+    let mut at = 0;
+    while at < bytes.len() {
+        let (told, count) = reader.take(&bytes[at..]);
         if keep(&mut rows, told).is_err() {
             return Err(TraceBad::NoMemory);
         }
+        at += count;
     }
     match reader.finish() {
         Ok(end) => Ok(Trace { rows, end }),

@@ -1,6 +1,6 @@
 use Rattle.std.proofs.Common.{◌++◌, List, ℕ, reverse, take, take_all, subst, arith}
 use Rattle.bus_cli.specs.Hearing.{IsHearingOf}
-use Rattle.bus_cli.proofs.Heard.{left-len, onward, room}
+use Rattle.trace_text.proofs.PiecesLeft.{left-len, onward, room}
 use Rattle.bus_cli.proofs.hearing.Hearing.take_all.Goals as goal
 
 pub loop-at-preserved : goal.loop-at-preserved
