@@ -1,6 +1,6 @@
 -- A front of a command block, and when it is whole (6.2.1 of the rules: rule 26).
-use Rattle.std.proofs.Common.{ℕ, ◌≡◌, ◌<◌, ◌+◌, suc, Bool, true, false, ◌&&◌, ◌||◌, ◌∙◌, List, [], ◌∷◌, ◌++◌, length, Option, Some, None, refl, sym, ap, arith, true≢false, append-nil, length-append}
-use Rattle.std.specs.Prelude.{if◌then◌else◌, ◌==◌, slice_index, is_some}
+use Rattle.std.proofs.Common.{ℕ, ◌≡◌, ◌<◌, ◌+◌, Bool, true, false, ◌&&◌, ◌||◌, ◌∙◌, List, [], ◌∷◌, ◌++◌, length, Option, Some, None, refl, sym, ap, arith, true≢false, append-nil, length-append}
+use Rattle.std.specs.Prelude.{if◌then◌else◌, slice_index, is_some}
 use Rattle.std.proofs.lemmas.Bool.Decides.{nat_tests}
 use Rattle.cdb_codec.specs.Cdb.{group_len, is_len, has_group_len}
 use Rattle.bus_phases.specs.declared.spoken.CommandBytes.{CommandBytes}

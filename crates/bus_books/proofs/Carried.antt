@@ -8,13 +8,12 @@ use Rattle.msg_grammar.specs.declared.message.MsgIn.{MsgIn}
 use Rattle.msg_grammar.specs.declared.message.MsgIn.TheVariants as to_initiator
 use Rattle.cdb_codec.specs.declared.sense.TheConstants.{PARITY_ERROR, INITIATOR_DETECTED_ERROR}
 use Rattle.scenario.specs.Value.{ScenarioValue}
-use Rattle.disk_array.specs.Processes.{Process, process_of, same_id}
-use Rattle.bus_story.specs.CarriedBytes.{Area, CarriedBytes, area_with, nothing_carried, with_restored_pointers, carried_after_message, carried_after_byte, carried_after_fault, carried_of, with_carried, is_status_phase}
+use Rattle.disk_array.specs.Processes.{Process, process_of}
+use Rattle.bus_story.specs.CarriedBytes.{Area, CarriedBytes, area_with, nothing_carried, with_restored_pointers, carried_after_message, carried_after_byte, carried_after_fault, is_status_phase}
 use Rattle.bus_story.specs.Story.{marked_refused, marked_shown}
 use Rattle.bus_due.specs.Tasks.{is_writing}
 use Rattle.bus_books.specs.Carrying.{IsFilled, IsOwn}
 use Rattle.bus_books.proofs.Areas.{puts, takes_on}
-use Rattle.bus_books.proofs.Lookups.{put_there}
 
 -- ---- the steps
 
@@ -124,7 +123,7 @@ byte_own s c b byte next h = go (is_command b) (is_data b) (is_status_phase b) r
         }
     go false false false eq er p e = h p e
 
--- ---- before any row, and in the list of all
+-- ---- before any row
 
 pub nothing_own : (s : ScenarioValue) (id : ProcId) → IsOwn s (nothing_carried id)
 nothing_own s id p e = record {
@@ -132,13 +131,3 @@ nothing_own s id p e = record {
   sent = λ w. record { rest = p.sent; bytes_are = refl; active_in = omega arith; saved_in = omega arith };
   status = refl;
 }
-
-abbrev pub AllOwn : ScenarioValue → List CarriedBytes → Type 0
-AllOwn s all = (id : ProcId) → IsOwn s (carried_of all id)
-
-pub with_own : (s : ScenarioValue) (all : List CarriedBytes) (c : CarriedBytes) → AllOwn s all → IsOwn s c → AllOwn s (with_carried all c)
-with_own s all c h own id = subst (λ (x : CarriedBytes). IsOwn s x) (sym (put_there all c id)) (go (same_id c.id id))
-  where
-    go : (q : Bool) → IsOwn s (if q then c else carried_of all id)
-    go true = own
-    go false = h id

@@ -31,7 +31,7 @@ use Rattle.bus_base.proofs.Tests.{eq_self, unless}
 
 -- ---- phases
 
-out_lines : (b : LineSet) → phase_of b ≡ phases.MessageOut → (b.msg ≡ true → b.cd ≡ true) → is_message_out b ≡ true
+pub out_lines : (b : LineSet) → phase_of b ≡ phases.MessageOut → (b.msg ≡ true → b.cd ≡ true) → is_message_out b ≡ true
 out_lines b e h = go b.msg b.cd b.io (ap is_out_phase e) h
   where
     go : (m c i : Bool) → is_out_phase (if m then (if i then phases.MessageIn else phases.MessageOut) else if c then (if i then phases.Status else phases.Command) else if i then phases.DataIn else phases.DataOut) ≡ true → (m ≡ true → c ≡ true) → (m && c && not i) ≡ true
@@ -60,7 +60,7 @@ data_lines b e = go b.msg b.cd b.io (ap is_data_out e)
 
 -- ---- the process
 
-same_self : (item : Option Item) → same_process item item ≡ true
+pub same_self : (item : Option Item) → same_process item item ≡ true
 same_self None = refl
 same_self (Some (process id)) = self_id id
 same_self (Some (abort n)) = eq_self n

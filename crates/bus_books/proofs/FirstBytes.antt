@@ -21,8 +21,6 @@ use Rattle.bus_dialogue.specs.Exchange.{Speech, Exchange, speech_of, no_messages
 use Rattle.bus_dialogue.specs.Planning.{first_plan}
 use Rattle.bus_dialogue.specs.Speaking.{words_after}
 use Rattle.bus_dialogue.specs.Wants.{Ready}
-use Rattle.bus_dialogue.specs.NextPhase.{phase_of}
-use Rattle.bus_dialogue.specs.declared.exchange.Phase.TheVariants as phases
 use Rattle.bus_due.specs.Defs.{host_of, opening}
 use Rattle.bus_due.specs.RunState.{RunState, bus_of}
 use Rattle.bus_due.specs.RunSteps.{run_state_after, first_exchange, exchange_after, messages_if, may_negotiate, leaving_of}
@@ -36,9 +34,10 @@ use Rattle.bus_books.specs.Rows.{RowKind, still, strikes, crosses, turns, readin
 use Rattle.bus_books.specs.Traces.{Begins, GoesOn}
 use Rattle.bus_books.proofs.FirstWords.{opening_is}
 use Rattle.bus_books.proofs.Given.{first_requests}
-use Rattle.bus_books.proofs.Gives.{requests_stay, struck_same, in_io}
+use Rattle.bus_books.proofs.Gives.{requests_stay, struck_same, in_io, in_same}
 use Rattle.bus_books.proofs.InConnection.{exchange_by, dialogue_by, InConnection, in_connection, SamePhase, same_phase_is}
-use Rattle.bus_books.proofs.Reactions.{in_phase}
+use Rattle.bus_books.proofs.Reactions.{in_phase, out_phase}
+use Rattle.bus_books.proofs.Speaks.{out_same}
 
 -- ---- what is kept is known otherwise
 
@@ -85,19 +84,13 @@ byte_begins d c = go (is_message_out c.before) (is_message_in c.before) (is_comm
     go false false true = refl
     go false false false = refl
 
-in_same : (a b : LineSet) → SamePhase a b → is_message_in a ≡ true → is_message_in b ≡ true
-in_same a b h e = (λ i. h.msg i && h.cd i && h.io i) ∙ e
-
-out_same : (a b : LineSet) → SamePhase a b → is_message_out a ≡ true → is_message_out b ≡ true
-out_same a b h e = (λ i. h.msg i && h.cd i && not (h.io i)) ∙ e
-
 opens_still : (n : Connection) (c : Change) (x : Exchange) (d : Dialogue) (h h' : Handshakes) → SamePhase c.before c.after → (c.before.io ≡ true → h'.requests ≡ h.requests) → OpensBy n x d h c.before → OpensBy n x d h' c.after
 opens_still n c x d h h' same e g z = go (g z)
   where
     go : IsUnopened n x d h c.before → IsUnopened n x d h' c.after
     go (before_all r b o) = before_all r b o
-    go (in_opening r b p q l o) = in_opening r b (out_same c.before c.after same p) q l o
-    go (in_names r b p q lun m lt) = in_names r b (in_same c.before c.after same p) (e (in_io c.before p) ∙ q) lun m lt
+    go (in_opening r b p q l o) = in_opening r b (out_same c.before c.after same ∙ p) q l o
+    go (in_names r b p q lun m lt) = in_names r b (in_same c.before c.after same ∙ p) (e (in_io c.before p) ∙ q) lun m lt
 
 opens_struck : (n : Connection) (x : Exchange) (d : Dialogue) (h : Handshakes) (b : LineSet) (io : Bool) → OpensBy n x d h b → OpensBy n (record { begun = x.begun; speech = x.speech; plan = if true && not io then struck_plan x.plan else x.plan }) d h b
 opens_struck n x d h b true g z = g z
@@ -109,15 +102,6 @@ opens_struck n x d h b false g z = go (g z)
     go (in_names r a p q lun m lt) = in_names r a p q lun m lt
 
 -- A phase is left after a byte at least; the first one is that of the opening.
-out_phase : (b : LineSet) → is_message_out b ≡ true → phase_of b ≡ phases.MessageOut
-out_phase b e = go b.msg b.cd b.io e
-  where
-    go : (m d i : Bool) → (m && d && not i) ≡ true → (if m then (if i then phases.MessageIn else phases.MessageOut) else if d then (if i then phases.Status else phases.Command) else if i then phases.DataIn else phases.DataOut) ≡ phases.MessageOut
-    go true true true e = absurd (true≢false (sym e))
-    go true true false e = refl
-    go true false i e = absurd (true≢false (sym e))
-    go false d i e = absurd (true≢false (sym e))
-
 opens_turn : (s : ScenarioValue) (k : RunState) (n : Connection) (c : Change) (w : Hearing) (l : Leaving) (h' : Handshakes) → w.begun ≡ k.exchange.begun → w.change ≡ c → LeavesWhole s k n → (k.exchange.begun ≡ false → is_message_out c.after ≡ true) → Opens k n
     → OpensBy n (exchange_by true false false (host_of s n.initiator) w l k.exchange) (phase_begins k.story.bus_state.dialogue) h' c.after
 opens_turn s k n c w l h' ew ec leaves first g z = go (g z)

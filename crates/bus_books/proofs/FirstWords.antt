@@ -1,6 +1,7 @@
 -- A connection begins: what the initiator says first is what it was made for.
 use Rattle.std.proofs.Common.{ℕ, zero, suc, ◌≡◌, ◌<◌, Bool, true, false, not, ◌&&◌, ◌∙◌, List, [], ◌∷◌, Option, Some, None, refl, sym, ap, subst, arith, true≢false}
 use Rattle.std.specs.Prelude.{if◌then◌else◌}
+use Rattle.std.proofs.lemmas.Option.{same_Some}
 use Rattle.bus_base.specs.declared.ProcId.{ProcId}
 use Rattle.bus_trace.specs.LineSet.{LineSet}
 use Rattle.bus_trace.specs.declared.Row.{Row}
@@ -36,10 +37,6 @@ use Rattle.bus_books.proofs.CarriedRows.{process_none}
 
 -- ---- the units that processes and aborts name
 
-abbrev or_process : Process → Option Process → Process
-or_process q None = q
-or_process q (Some p) = p
-
 pub process_unit : (s : ScenarioValue) (id : ProcId) (p : Process) → AreUnits s → process_of s id ≡ Some p → p.unit < 8
 process_unit s id p u e = go (command_at s.commands id.command) refl
   where
@@ -50,7 +47,7 @@ process_unit s id p u e = go (command_at s.commands id.command) refl
     go : (c : Option CmdDef) → command_at s.commands id.command ≡ c → p.unit < 8
     go None f = absurd (process_none p (sym (ap (λ (x : Option CmdDef). process_if s id x) f) ∙ e))
     go (Some c) f =
-        let same : process_by s id c ≡ p = ap (or_process p) (sym (ap (λ (x : Option CmdDef). process_if s id x) f) ∙ e) in
+        let same : process_by s id c ≡ p = same_Some (process_by s id c) p (sym (ap (λ (x : Option CmdDef). process_if s id x) f) ∙ e) in
         subst (λ (n : ℕ). n < 8) (sym (by c id.sense) ∙ ap (λ (q : Process). q.unit) same) (u.commands id.command c f)
 
 -- ---- the opening of an item

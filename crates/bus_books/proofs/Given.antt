@@ -10,7 +10,6 @@ use Rattle.bus_trace.specs.Phases.{changes_phase, is_message_out, is_message_in}
 use Rattle.bus_lines.specs.Handshakes.{no_handshakes, handshakes_after, asked_if, answered_if}
 use Rattle.bus_phases.specs.declared.reading.Reading.TheVariants as readings
 use Rattle.bus_phases.specs.Dialogue.{opened, dialogue_after}
-use Rattle.bus_phases.specs.Half.{left_of, is_nil}
 use Rattle.bus_phases.specs.Reading.{reading_out, reading_in, reading_of}
 use Rattle.bus_rules.specs.Messages.{is_unknown}
 use Rattle.msg_grammar.specs.declared.message.MsgIn.{MsgIn}

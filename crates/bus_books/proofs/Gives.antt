@@ -1,5 +1,6 @@
 -- What is given in MESSAGE IN goes on with each row of a connection.
-use Rattle.std.proofs.Common.{ℕ, ◌≡◌, ◌<◌, ◌+◌, Bool, true, false, not, ◌&&◌, ◌∙◌, List, [], ◌∷◌, ◌++◌, length, Option, Some, None, refl, sym, ap, subst, arith, append_assoc, length-append, true≢false}
+use Rattle.std.proofs.Common.{ℕ, ◌≡◌, ◌<◌, ◌+◌, Bool, true, false, not, ◌&&◌, ◌∙◌, List, [], ◌∷◌, ◌++◌, length, Option, Some, None, refl, sym, ap, subst, arith, append_assoc, length-append}
+use Rattle.std.proofs.lemmas.Bool.{not-true}
 use Rattle.std.specs.Prelude.{if◌then◌else◌, is_some, slice_index_or, nat_lt, ◌-◌, ◌%◌}
 use Rattle.bus_base.specs.Faults.{counted_on}
 use Rattle.bus_trace.specs.LineSet.{LineSet}
@@ -36,7 +37,7 @@ use Rattle.bus_books.proofs.Lists.{word_at}
 use Rattle.bus_books.proofs.Areas.{split_at}
 use Rattle.bus_books.proofs.InConnection.{exchange_by, dialogue_by, InConnection, in_connection, SamePhase, same_phase_is}
 use Rattle.bus_books.proofs.Leavings.{IsOfOthers, left_messages}
-use Rattle.bus_base.proofs.Tests.{rises_none, rises_some}
+use Rattle.bus_base.proofs.Tests.{and_second, rises_none, rises_some, wrong}
 
 -- ---- bytes
 
@@ -94,7 +95,7 @@ requests_stay n c t h ep io er =
     (λ i. (if ep i then no_handshakes else answered_if (rises c.before.ack c.after.ack) t (asked_if (rises_none c.before.io (rises c.before.req c.after.req) n.initiator 0 (if rises c.before.ack c.after.ack then Some n.target else None) io er i) t h)).requests)
     ∙ answered_same (rises c.before.ack c.after.ack) t h
 
-requests_rise : (n : Connection) (c : Change) (t dev : ℕ) (h : Handshakes) → changes_phase c ≡ false → c.before.io ≡ true → receiver_in n c ≡ Some dev → (handshakes_on (Some n) c t h).requests ≡ counted_on h.requests
+pub requests_rise : (n : Connection) (c : Change) (t dev : ℕ) (h : Handshakes) → changes_phase c ≡ false → c.before.io ≡ true → receiver_in n c ≡ Some dev → (handshakes_on (Some n) c t h).requests ≡ counted_on h.requests
 requests_rise n c t dev h ep io er =
     (λ i. (if ep i then no_handshakes else answered_if (rises c.before.ack c.after.ack) t (asked_if (rises_some c.before.io (rises c.before.req c.after.req) n.initiator dev (if rises c.before.ack c.after.ack then Some n.target else None) io er i) t h)).requests)
     ∙ answered_same (rises c.before.ack c.after.ack) t (asked_if true t h)
@@ -113,21 +114,11 @@ pub in_same : (a b : LineSet) → SamePhase a b → is_message_in b ≡ is_messa
 in_same a b h = λ i. h.msg i && h.cd i && h.io i
 
 pub in_io : (b : LineSet) → is_message_in b ≡ true → b.io ≡ true
-in_io b e = last (b.msg && b.cd) b.io e
-  where
-    last : (q r : Bool) → (q && r) ≡ true → r ≡ true
-    last true r z = z
-    last false r z = absurd (true≢false (sym z))
+in_io b e = and_second (b.msg && b.cd) b.io e
 
--- MESSAGE OUT is not MESSAGE IN.
-not_both : (b : LineSet) → is_message_out b ≡ true → is_message_in b ≡ true → ⊥
-not_both b o i = true≢false (sym (in_io b i) ∙ out b.msg b.cd b.io o)
-  where
-    out : (q r t : Bool) → (q && r && not t) ≡ true → t ≡ false
-    out true true false e = refl
-    out true true true e = absurd (true≢false (sym e))
-    out true false t e = absurd (true≢false (sym e))
-    out false r t e = absurd (true≢false (sym e))
+-- MESSAGE IN is not MESSAGE OUT.
+pub not_both : {A : Type 0} (b : LineSet) → is_message_in b ≡ true → is_message_out b ≡ true → A
+not_both b i o = wrong (sym (in_io b i) ∙ not-true b.io (and_second (b.msg && b.cd) (not b.io) o))
 
 -- ---- the rows
 
@@ -171,7 +162,7 @@ gives_byte k n c dev x t eb em ep er next g = record {
 }
   where
     by : (d : Dialogue) (byte : ℕ) (last : Bool) (o r : Bool) → is_message_out c.before ≡ o → is_message_in c.before ≡ true → r ≡ true → (if o then byte_out d byte last else if r then byte_in d byte else byte_else d c.before byte).half ≡ left_of (got_in (d.half ++ byte ∷ [])) (d.half ++ byte ∷ [])
-    by d byte last true r eo ei e = absurd (not_both c.before eo ei)
+    by d byte last true r eo ei e = not_both c.before ei eo
     by d byte last false r eo ei e = ap (λ (q : Bool). (if q then byte_in d byte else byte_else d c.before byte).half) e
 
 pub byte_messages : (o last : Bool) (m : Option MsgOut) (p : Plan) → (if o then plan_after_message p last m else p).messages ≡ p.messages

@@ -29,3 +29,4 @@ pub mod Quiet
 pub mod MessageRules
 pub mod FirstBytes
 pub mod ReadyProcesses
+pub mod CarriedSteps

@@ -1,7 +1,6 @@
 -- What one process carried_after_byte does not touch another.
-use Rattle.std.proofs.Common.{ℕ, ◌≡◌, Bool, true, false, List, [], ◌∷◌, ◌∙◌, refl, sym, ap, arith, true≢false, Some, None}
+use Rattle.std.proofs.Common.{◌≡◌, Bool, true, false, List, [], ◌∷◌, ◌∙◌, refl, sym, ap, true≢false, Some, None}
 use Rattle.std.specs.Prelude.{if◌then◌else◌}
-use Rattle.std.proofs.lemmas.Bool.Decides.{nat_tests}
 use Rattle.bus_base.specs.declared.ProcId.{ProcId}
 use Rattle.disk_array.specs.Processes.{same_id, same_bool}
 use Rattle.bus_story.specs.CarriedBytes.{CarriedBytes, nothing_carried, carried_at, with_carried, carried_or_nothing, carried_of}

@@ -1,5 +1,5 @@
 -- The bytes of message phases form messages, and none is half sent as the phase is left (6.6).
-use Rattle.std.proofs.Common.{ℕ, ◌≡◌, ◌<◌, Bool, true, false, not, ◌&&◌, ◌||◌, ◌∙◌, List, [], ◌∷◌, ◌++◌, Some, refl, sym, ap, subst, true≢false, zero, suc, ◌+◌, length, arith, Option, None}
+use Rattle.std.proofs.Common.{ℕ, ◌≡◌, ◌<◌, Bool, true, false, not, ◌&&◌, ◌||◌, ◌∙◌, List, [], ◌∷◌, ◌++◌, Some, refl, sym, ap, subst, true≢false, zero, suc, ◌+◌, arith, Option, None}
 use Rattle.std.specs.Prelude.{if◌then◌else◌, is_some, ◌%◌, slice_index_or}
 use Rattle.bus_trace.specs.LineSet.{LineSet}
 use Rattle.bus_trace.specs.declared.Row.{Row}

@@ -1,5 +1,5 @@
 -- What the two ends are due to drive is what is next.
-use Rattle.std.proofs.Common.{ℕ, ◌≡◌, ◌<◌, Bool, true, false, not, ◌&&◌, ◌||◌, ◌∙◌, length, Some, refl, sym, ap, arith, true≢false, ◌≤◌, ◌++◌, [], ◌∷◌, List, Option, None, length-append, suc}
+use Rattle.std.proofs.Common.{ℕ, ◌≡◌, Bool, true, false, not, ◌&&◌, ◌||◌, ◌∙◌, length, Some, refl, sym, ap, arith, true≢false, ◌≤◌, ◌++◌, [], ◌∷◌, List, Option, None, length-append, suc}
 use Rattle.std.specs.Prelude.{if◌then◌else◌, is_some, ◌==◌, ◌%◌, nat_lt, slice_index_or}
 use Rattle.std.proofs.lemmas.Bool.Decides.{nat_tests}
 use Rattle.bus_trace.specs.LineSet.{LineSet}
@@ -79,6 +79,26 @@ in_phase b e = go b.msg b.cd b.io e
     go true false i e = absurd (true≢false (sym e))
     go false d i e = absurd (true≢false (sym e))
 
+pub out_phase : (b : LineSet) → is_message_out b ≡ true → phase_of b ≡ phases.MessageOut
+out_phase b e = go b.msg b.cd b.io e
+  where
+    go : (m d i : Bool) → (m && d && not i) ≡ true → (if m then (if i then phases.MessageIn else phases.MessageOut) else if d then (if i then phases.Status else phases.Command) else if i then phases.DataIn else phases.DataOut) ≡ phases.MessageOut
+    go true true true e = absurd (true≢false (sym e))
+    go true true false e = refl
+    go true false i e = absurd (true≢false (sym e))
+    go false d i e = absurd (true≢false (sym e))
+
+pub out_lines : (b : LineSet) → phase_of b ≡ phases.MessageOut → (b.msg ≡ true) × (b.io ≡ false)
+out_lines b e = go b.msg b.cd b.io (ap is_out_phase e)
+  where
+    go : (m d i : Bool) → is_out_phase (if m then (if i then phases.MessageIn else phases.MessageOut) else if d then (if i then phases.Status else phases.Command) else if i then phases.DataIn else phases.DataOut) ≡ true → (m ≡ true) × (i ≡ false)
+    go true d false z = (refl, refl)
+    go true d true z = absurd (true≢false (sym z))
+    go false true true z = absurd (true≢false (sym z))
+    go false true false z = absurd (true≢false (sym z))
+    go false false true z = absurd (true≢false (sym z))
+    go false false false z = absurd (true≢false (sym z))
+
 -- A phase of messages is not pulsed.
 in_unpulsed : (begun some : Bool) (b : LineSet) → is_message_in b ≡ true → (begun && is_data b && some) ≡ false
 in_unpulsed begun some b e = go begun b.msg b.cd b.io some e
@@ -117,7 +137,7 @@ over_in s k n phase ed ep h =
 -- MESSAGE OUT was left after a byte with ATN false.
 pub out_over : (s : ScenarioValue) (k : RunState) (n : Connection) → is_message_out (bus_of k) ≡ true → IsOver s k n → k.story.bus_state.dialogue.is_last ≡ true
 out_over s k n eo h =
-    let f = over_in s k n phases.MessageOut (data_none (bus_of k).msg (bus_of k).cd (bus_of k).io eo) (out_phase (bus_of k).msg (bus_of k).cd (bus_of k).io eo) h in
+    let f = over_in s k n phases.MessageOut (data_none (bus_of k).msg (bus_of k).cd (bus_of k).io eo) (out_phase (bus_of k) eo) h in
     let atn = (or_parts (k.handshakes.answers == 0) (bus_of k).atn (or_parts (k.handshakes.answers == 0 || (bus_of k).atn) k.exchange.plan.struck f).0).1 in
     flip k.story.bus_state.dialogue.is_last (sym (h.attention eo) ∙ atn)
   where
@@ -128,12 +148,6 @@ out_over s k n eo h =
     data_none : (m d i : Bool) → (m && d && not i) ≡ true → (not m && not d) ≡ false
     data_none true d i e = refl
     data_none false d i e = absurd (true≢false (sym e))
-
-    out_phase : (m d i : Bool) → (m && d && not i) ≡ true → (if m then (if i then phases.MessageIn else phases.MessageOut) else if d then (if i then phases.Status else phases.Command) else if i then phases.DataIn else phases.DataOut) ≡ phases.MessageOut
-    out_phase true true true e = absurd (true≢false (sym e))
-    out_phase true true false e = refl
-    out_phase true false i e = absurd (true≢false (sym e))
-    out_phase false d i e = absurd (true≢false (sym e))
 
 -- COMMAND was left struck, or once the block had the length of its group.
 pub command_over : (s : ScenarioValue) (k : RunState) (n : Connection) (p : Process) → is_command (bus_of k) ≡ true → IsOver s k n → process_served s k ≡ Some p → k.exchange.plan.struck ≡ false → has_group_len (carried_here k p.id).block ≡ true
@@ -233,21 +247,13 @@ in_given s k n g p e h a =
 -- A phase that the target leaves as no byte follows is left whole.
 pub leaves_by : (s : ScenarioValue) (k : RunState) (n : Connection) → Gives k → HasPhase k → IsOver s k n → HasMessage k → (n.reselected ≡ true → is_out_phase (phase_of (bus_of k)) ≡ false → (is_in_phase (phase_of (bus_of k)) && (bus_of k).atn) ≡ false → is_some (item_of k.story.link) ≡ true) → ((p : Process) → process_served s k ≡ Some p → has_group_len p.cdb ≡ true) → LeavesWhole s k n
 leaves_by s k n g lines h message named group = record {
-  out = λ e. let w = out_lines (bus_of k).msg (bus_of k).cd (bus_of k).io (ap is_out_phase e) in out_over s k n ((λ i. w.0 i && (lines w.0).0 i && not (w.1 i))) h;
+  out = λ e. let w = out_lines (bus_of k) e in out_over s k n ((λ i. w.0 i && (lines w.0).0 i && not (w.1 i))) h;
   some = λ e. in_some s k n e (message e) h;
   given = λ e a. in_given s k n g lines e h a;
   command = λ p ep e. (group p ep, λ z. command_over s k n p (command_lines (bus_of k).msg (bus_of k).cd (bus_of k).io (ap is_command_phase e)) h ep z);
   named = named;
 }
   where
-    out_lines : (m d i : Bool) → is_out_phase (if m then (if i then phases.MessageIn else phases.MessageOut) else if d then (if i then phases.Status else phases.Command) else if i then phases.DataIn else phases.DataOut) ≡ true → (m ≡ true) × (i ≡ false)
-    out_lines true d false z = (refl, refl)
-    out_lines true d true z = absurd (true≢false (sym z))
-    out_lines false true true z = absurd (true≢false (sym z))
-    out_lines false true false z = absurd (true≢false (sym z))
-    out_lines false false true z = absurd (true≢false (sym z))
-    out_lines false false false z = absurd (true≢false (sym z))
-
     command_lines : (m d i : Bool) → is_command_phase (if m then (if i then phases.MessageIn else phases.MessageOut) else if d then (if i then phases.Status else phases.Command) else if i then phases.DataIn else phases.DataOut) ≡ true → (not m && d && not i) ≡ true
     command_lines true d true z = absurd (true≢false (sym z))
     command_lines true d false z = absurd (true≢false (sym z))

@@ -15,6 +15,7 @@ use Rattle.bus_books.specs.Traces.{IsReadyFor, IsAimedAt}
 use Rattle.bus_trace.specs.declared.connection.Connection.{Connection}
 use Rattle.bus_books.proofs.FirstWords.{process_unit}
 use Rattle.std.proofs.lemmas.Bool.{eqb-true}
+use Rattle.std.proofs.lemmas.Option.{same_Some}
 use Rattle.bus_base.proofs.Tests.{and_first, none_number}
 use Rattle.bus_books.proofs.CarriedRows.{process_none}
 
@@ -112,10 +113,6 @@ ready_for s k n r u h e i =
 
 -- ---- by whom a device calls
 
-abbrev or_number : ℕ → Option ℕ → ℕ
-or_number x None = x
-or_number x (Some y) = y
-
 -- Of the array only that its units hold processes of their own is needed.
 pub reselects_by : (s : ScenarioValue) (k : RunState) (n : Connection) → AreUnits s → AllOwnUnits s (array_of s k).units → is_host s.hosts n.target ≡ false → callee s k n.target (aim_of k.story.aims n.target) ≡ Some n.initiator → IsReadyFor s k n
 reselects_by s k n u h host e = go (ready_of s k n.target) refl
@@ -125,7 +122,7 @@ reselects_by s k n u h host e = go (ready_of s k n.target) refl
 
     go : (x : Option Ready) → ready_of s k n.target ≡ x → IsReadyFor s k n
     go None f = absurd (none_number n.initiator (sym (ap initiator_if f) ∙ called))
-    go (Some r) f = ready_for s k n r u h f (ap (or_number n.initiator) (sym (ap initiator_if f) ∙ called))
+    go (Some r) f = ready_for s k n r u h f (same_Some _ n.initiator (sym (ap initiator_if f) ∙ called))
 
 pub reselects_for : (s : ScenarioValue) (k : RunState) (n : Connection) → AreUnits s → IsSound s (array_of s k) → is_host s.hosts n.target ≡ false → callee s k n.target (aim_of k.story.aims n.target) ≡ Some n.initiator → IsReadyFor s k n
 reselects_for s k n u h host e = reselects_by s k n u h.units host e
@@ -137,7 +134,7 @@ selects_for s k n host e = go (aim_of k.story.aims n.initiator) refl
     called = sym (ap (λ (q : Bool). if q then target_of s (aim_of k.story.aims n.initiator) else initiator_if (ready_of s k n.initiator)) host) ∙ e
 
     of_item : (item : Item) → target_of s (Some item) ≡ Some n.target → (p : Process) → process_item s (Some item) ≡ Some p → p.target ≡ n.target
-    of_item (process id) z p f = ap (or_number n.target) (sym (ap target_if f) ∙ z)
+    of_item (process id) z p f = same_Some p.target n.target (sym (ap target_if f) ∙ z)
     of_item (abort m) z p f = absurd (process_none p f)
 
     go : (x : Option Item) → aim_of k.story.aims n.initiator ≡ x → IsAimedAt s k n

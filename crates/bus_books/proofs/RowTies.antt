@@ -1,7 +1,6 @@
 -- The tests of a row say what they are called for.
-use Rattle.std.proofs.Common.{ℕ, ◌≡◌, ◌<◌, ◌+◌, ◌⊎◌, inl, inr, Bool, true, false, not, ◌&&◌, ◌||◌, ◌∙◌, length, Option, Some, None, refl, sym, ap, arith, true≢false}
+use Rattle.std.proofs.Common.{ℕ, ◌≡◌, ◌+◌, ◌⊎◌, inl, inr, Bool, true, false, not, ◌&&◌, ◌||◌, ◌∙◌, length, Option, Some, None, refl, sym, ap, true≢false}
 use Rattle.std.specs.Prelude.{if◌then◌else◌, is_some, is_none, ◌==◌, ◌%◌, nat_lt, slice_index_or}
-use Rattle.std.proofs.lemmas.Bool.Decides.{nat_tests}
 use Rattle.bus_base.specs.declared.ProcId.{ProcId}
 use Rattle.bus_trace.specs.declared.Row.{Row}
 use Rattle.bus_trace.specs.declared.changes.Change.{Change}

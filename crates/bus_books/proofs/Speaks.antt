@@ -148,10 +148,10 @@ byte_on s n v x d byte a b same out e h = record {
 
 -- ---- a phase begins
 
-abbrev asked_plan : Plan → Cause → Messages → Plan
+abbrev pub asked_plan : Plan → Cause → Messages → Plan
 asked_plan p cause messages = record (plan_anew p) { cause = cause; messages = messages }
 
-abbrev asking : Exchange → List ℕ → Cause → Messages → Exchange
+abbrev pub asking : Exchange → List ℕ → Cause → Messages → Exchange
 asking x words cause messages = record { begun = true; speech = speech_of x.speech words; plan = asked_plan x.plan cause messages }
 
 speaks_anew : (s : ScenarioValue) (n : Connection) (v : Option Item) (x : Exchange) (d : Dialogue) (words : List ℕ) (cause : Cause) (messages : Messages) (b : ℕ) (rest : List ℕ) → words ≡ b ∷ rest → form_messages nothing_understood words ≡ true → AreWordsFor s n v (asking x words cause messages) cause

@@ -39,6 +39,7 @@ use Rattle.bus_books.proofs.Knows.{knows_on}
 use Rattle.bus_books.proofs.Quiet.{quiet_first, quiet_on}
 use Rattle.bus_books.proofs.Speaks.{speaks_on}
 use Rattle.std.proofs.lemmas.Bool.{or_right}
+use Rattle.std.proofs.lemmas.Option.{same_Some}
 use Rattle.bus_base.proofs.Tests.{and_false, eq_self}
 
 -- ---- small facts
@@ -158,12 +159,8 @@ ends_if : (s : ScenarioValue) (k : RunState) (n : Connection) (p : Option Proces
 ends_if s k n None h = refl
 ends_if s k n (Some p) h = let e = h p refl in ends_are s k n p e.0 e.1
 
-abbrev or_process : Process → Option Process → Process
-or_process x None = x
-or_process x (Some y) = y
-
 item_initiator : (s : ScenarioValue) (dev : ℕ) (item : Item) → IsItem s dev item → (p : Process) → process_item s (Some item) ≡ Some p → p.initiator ≡ dev
-item_initiator s dev _ (is_process id p e own) q f = sym (ap (λ (x : Process). x.initiator) (ap (or_process q) (sym e ∙ f))) ∙ own
+item_initiator s dev _ (is_process id p e own) q f = sym (ap (λ (x : Process). x.initiator) (same_Some p q (sym e ∙ f))) ∙ own
 item_initiator s dev _ (is_abort n a e own) q f = absurd (none_process q f)
   where
     none_process : (x : Process) → (let a : Option Process = None in a) ≡ Some x → ⊥

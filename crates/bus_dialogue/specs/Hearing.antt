@@ -1,16 +1,18 @@
 -- What a row tells the two ends of the connection that stands, by the rows before it.
-use Rattle.std.specs.Prelude.{ℕ, Bool, false, ◌||◌, List, [], ◌∷◌, Option, Some, None, is_some}
+use Rattle.std.specs.Prelude.{ℕ, Bool, false, not, ◌&&◌, ◌||◌, List, [], ◌∷◌, Option, Some, None, is_some, is_none, if◌then◌else◌}
 use Rattle.bus_trace.specs.declared.Row.{Row}
 use Rattle.bus_trace.specs.declared.changes.Change.{Change}
 use Rattle.bus_trace.specs.declared.connection.Connection.{Connection}
 use Rattle.bus_lines.specs.declared.effect.RowEffect.{RowEffect}
 use Rattle.bus_trace.specs.Changes.{change_of}
-use Rattle.bus_trace.specs.Phases.{changes_phase}
+use Rattle.bus_trace.specs.Phases.{changes_phase, is_data}
 use Rattle.bus_trace.specs.Terms.{connection}
 use Rattle.bus_lines.specs.Effect.{no_effect, effect}
 use Rattle.bus_lines.specs.Handshakes.{handshakes}
 use Rattle.bus_phases.specs.declared.dialogue.Dialogue.{Dialogue}
-use Rattle.bus_phases.specs.Dialogue.{asynchronous, opened, dialogue}
+use Rattle.bus_phases.specs.declared.spoken.Spoken.{Spoken}
+use Rattle.bus_trace.specs.declared.agreements.Agreement.{Agreement}
+use Rattle.bus_phases.specs.Dialogue.{asynchronous, opened, dialogue, closed_agreement_by}
 use Rattle.bus_story.specs.BusState.{message_out, message_in}
 use Rattle.bus_dialogue.specs.declared.exchange.Hearing.{Hearing}
 
@@ -26,6 +28,20 @@ begun_after was (Some m) (Some n) c = changes_phase c || was
 abbrev pub begun : List Row → Bool
 begun [] = false
 begun (row ∷ rows) = begun_after (begun rows) (connection rows) (connection (row ∷ rows)) (change_of rows row)
+
+-- ---- what a row that did this makes of the messages, and of what pairs of devices agree on
+
+-- Before it the messages said this.
+abbrev pub agreed_after : RowEffect → Spoken → (ℕ → ℕ → Agreement) → ℕ → ℕ → Agreement
+agreed_after e said agreed i t =
+    if e.change.after.rst then asynchronous else closed_agreement_by e.before e.change.after.bsy said i t (agreed i t)
+
+-- The row begins and ends neither a connection nor a phase, nor an agreement, and no byte crosses in it but
+-- of DATA.
+abbrev pub is_within_phase : RowEffect → Bool
+is_within_phase e =
+    is_some e.before && is_some e.after && e.change.after.bsy && not e.change.after.rst && not (changes_phase e.change)
+    && (is_none e.receiver || is_data e.change.before)
 
 -- ---- what a row tells
 

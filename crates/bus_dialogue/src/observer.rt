@@ -1,16 +1,20 @@
 //! What the rows tell all devices.
-ghost use Rattle.std.specs.Prelude.{◌≡◌, ◌<◌, ◌∷◌, [], List};
+ghost use Rattle.std.specs.Prelude.{ℕ, ◌≡◌, ◌<◌, ◌∷◌, [], List};
 ghost use Rattle.bus_trace.specs.declared.Row.{Row};
+ghost use Rattle.bus_trace.specs.declared.agreements.Agreement.{Agreement};
+ghost use Rattle.bus_trace.specs.Terms.{receiver_of};
 ghost use Rattle.bus_lines.specs.BusView.{IsBusViewOf};
-ghost use Rattle.bus_phases.specs.Dialogue.{dialogue};
-ghost use Rattle.bus_dialogue.specs.Hearing.{begun_after, begun, hearing_by, last_hearing};
+ghost use Rattle.bus_story.specs.BusState.{message_out, message_in};
+ghost use Rattle.bus_phases.specs.Dialogue.{dialogue, dialogue_after};
+ghost use Rattle.bus_phases.specs.Tables.{AreAgreements};
+ghost use Rattle.bus_dialogue.specs.Hearing.{begun_after, begun, hearing_by, last_hearing, no_hearing, agreed_after, is_within_phase};
 ghost use Rattle.bus_dialogue.specs.Observer.{IsObserverOf};
 
 use crate::exchange::Hearing;
 use bus_lines::{BusView, RowEffect, no_effect};
 use bus_phases::{Agreements, Dialogue, End, agree, asynchronous};
 use bus_story::{message_in, message_out};
-use bus_trace::{Agreement, Change, Connection, Row, changes_phase};
+use bus_trace::{Agreement, Change, Connection, Row, changes_phase, is_data};
 use std::marker::Model;
 
 /// What the rows of a trace so far tell all devices, whatever they are: the view of the bus, what the last row told the
@@ -39,29 +43,64 @@ impl Model for Observer {
     } };
 }
 
+// The messages that a byte makes whole. In most rows no byte of one crosses, or MSG is false.
+fn hear_messages(hearing: &mut Hearing, dialogue: &Dialogue, change: &Change, crosses: bool)
+    ensures { hearing.new ≡ record hearing.old {
+      out = message_out dialogue.now change.now crosses;
+      into = message_in dialogue.now change.now crosses;
+    } }
+{
+    if crosses && change.before.msg() {
+        hearing.out = message_out(dialogue, change, true);
+        hearing.into = message_in(dialogue, change, true);
+    } else {
+        hearing.out = None;
+        hearing.into = None;
+    }
+}
+
+// Before any row nothing is told.
+fn no_hearing() -> Hearing
+    ensures { result ≡ no_hearing }
+{
+    Hearing {
+        change: no_effect().change,
+        crosses: false,
+        out: None,
+        into: None,
+        fault: false,
+        begun: false,
+        is_last: false,
+        offered: 0,
+        struck: false,
+    }
+}
+
 // What a row tells that did this, after these messages; whether a phase had begun before it, how often REQ had risen in
 // it, and whether a fault struck the byte of the last of these.
-fn hearing_by(
+fn hear(
+    hearing: &mut Hearing,
     dialogue: &Dialogue,
     begun: bool,
     offered: u64,
     struck: bool,
     effect: &RowEffect,
-) -> Hearing
-    ensures { result ≡ hearing_by dialogue.now begun offered struck effect.now }
+)
+    ensures { hearing.new ≡ hearing_by dialogue.now begun offered struck effect.now }
 {
     let crosses = effect.receiver.is_some();
-    Hearing {
-        change: effect.change,
-        crosses,
-        out: message_out(dialogue, &effect.change, crosses),
-        into: message_in(dialogue, &effect.change, crosses),
-        fault: effect.fault,
-        begun,
-        is_last: dialogue.is_last,
-        offered,
-        struck,
-    }
+    // Set by set, since what was just written in parts is slow to read as a whole.
+    hearing.change.before = effect.change.before;
+    hearing.change.after = effect.change.after;
+    hearing.change.own = effect.change.own;
+    hearing.change.next = effect.change.next;
+    hearing.crosses = crosses;
+    hear_messages(hearing, dialogue, &effect.change, crosses);
+    hearing.fault = effect.fault;
+    hearing.begun = begun;
+    hearing.is_last = dialogue.is_last;
+    hearing.offered = offered;
+    hearing.struck = struck;
 }
 
 // Whether a phase has begun after a row, before and after which these connections stand.
@@ -82,19 +121,67 @@ fn begun_after(
     changes_phase(change) || begun
 }
 
+// Whether a row that did this begins and ends neither a connection nor a phase, nor an agreement, and no byte crosses
+// in it but of DATA.
+fn is_within_phase(effect: &RowEffect) -> bool
+    ensures { result ≡ is_within_phase effect.now }
+{
+    let change = &effect.change;
+    effect.before.is_some()
+        && effect.after.is_some()
+        && change.after.bsy()
+        && !change.after.rst()
+        && !changes_phase(change)
+        && (effect.receiver.is_none() || is_data(change.before))
+}
+
+// What the messages of the connection that stands say after a row that did this, what pairs of devices agree on, and
+// whether a phase has begun. Most rows leave it all as it is.
+fn see_messages(
+    dialogue: &mut Dialogue,
+    agreed: &mut Agreements,
+    begun: &mut bool,
+    effect: &RowEffect,
+)
+    ensures dialogue { effect.now.receiver ≡ receiver_of effect.now.before effect.now.change
+        → (f : ℕ → ℕ → Agreement) → AreAgreements f agreed.old
+        → dialogue.new ≡ dialogue_after dialogue.old effect.now.before effect.now.after f effect.now.change }
+    ensures agreed { (f : ℕ → ℕ → Agreement) → AreAgreements f agreed.old
+        → AreAgreements (agreed_after effect.now dialogue.old.heard.now f) agreed.new }
+    ensures begun { begun.new ≡ begun_after begun.old effect.now.before effect.now.after effect.now.change }
+{
+    if is_within_phase(effect) {
+        dialogue.takes_data(effect.receiver.is_some());
+        return;
+    }
+    renew_messages(dialogue, agreed, effect);
+    *begun = begun_after(*begun, &effect.before, &effect.after, &effect.change);
+}
+
+// The messages and the agreements after any row. A function of its own, since few rows pay for its copies.
+#[inline(never)]
+fn renew_messages(dialogue: &mut Dialogue, agreed: &mut Agreements, effect: &RowEffect)
+    ensures dialogue { (f : ℕ → ℕ → Agreement) → AreAgreements f agreed.old
+        → dialogue.new ≡ dialogue_after dialogue.old effect.now.before effect.now.after f effect.now.change }
+    ensures agreed { (f : ℕ → ℕ → Agreement) → AreAgreements f agreed.old
+        → AreAgreements (agreed_after effect.now dialogue.old.heard.now f) agreed.new }
+{
+    let spoken = dialogue.heard.now;
+    let _ = dialogue.step(&effect.before, &effect.after, agreed, &effect.change);
+    agree(agreed, effect.before, spoken, effect.change.after);
+}
+
 impl Observer {
     /// Before any row: a free bus, and nothing told.
     pub fn new() -> Observer
         ensures { IsObserverOf [] result }
     {
-        let dialogue = Dialogue::opened(asynchronous());
-        let hearing = hearing_by(&dialogue, false, 0, false, &no_effect());
         Observer {
             view: BusView::new(),
             agreed: Agreements::new(),
-            dialogue,
+            dialogue: Dialogue::opened(asynchronous()),
             begun: false,
-            hearing,
+            hearing: no_hearing(),
         }
     }
 
@@ -141,16 +228,21 @@ impl Observer {
     {
         let handshakes = self.view.handshakes();
         let (offered, struck) = (handshakes.requests(), handshakes.is_struck());
-        let before = self.view.connection();
         self.view.step(row);
-        let after = self.view.connection();
         let effect = self.view.effect();
-        self.hearing = hearing_by(&self.dialogue, self.begun, offered, struck, effect);
-        self.begun = begun_after(self.begun, &before, &after, &effect.change);
-        let spoken = self.dialogue.heard.now;
-        let _ = self
-            .dialogue
-            .step(&before, &after, &self.agreed, &effect.change);
-        agree(&mut self.agreed, before, spoken, effect.change.after);
+        hear(
+            &mut self.hearing,
+            &self.dialogue,
+            self.begun,
+            offered,
+            struck,
+            effect,
+        );
+        see_messages(
+            &mut self.dialogue,
+            &mut self.agreed,
+            &mut self.begun,
+            effect,
+        );
     }
 }

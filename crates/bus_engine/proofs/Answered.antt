@@ -1,6 +1,6 @@
 -- Of a prompt trace that has ended: no byte was taken back, and the outcome of each command is known; and where each process carried its own bytes,
 -- what came back is the reply of the plain disk array (6.6.13, 7.3, 7.8).
-use Rattle.std.proofs.Common.{ℕ, suc, ◌≡◌, ◌+◌, true, ◌∙◌, List, [], ◌∷◌, Option, Some, None, refl, sym, ap, subst, arith}
+use Rattle.std.proofs.Common.{ℕ, suc, ◌≡◌, ◌+◌, true, ◌∙◌, List, [], ◌∷◌, Option, Some, None, refl, sym, ap, subst, one-add}
 use Rattle.std.specs.Prelude.{◌==◌, is_some}
 use Rattle.std.specs.List.{list_all}
 use Rattle.std.proofs.lemmas.Bool.{and_from, and_parts, eqb-true}
@@ -37,8 +37,9 @@ use Rattle.bus_engine.proofs.EndStatuses.{all_ended, end_found, end_reply}
 use Rattle.bus_engine.proofs.ListedReplies.{all_given, is_known}
 use Rattle.bus_engine.proofs.RanTargets.{ran_there}
 use Rattle.bus_engine.proofs.Replied.{HaveReplies, all_replied}
-use Rattle.bus_engine.proofs.Settled.{over_told, sense_is_done, settled_status, next_place}
+use Rattle.bus_engine.proofs.Settled.{over_told, sense_is_done, settled_status}
 use Rattle.bus_engine.proofs.Undone.{no_byte_undone}
+use Rattle.trace_laws.proofs.Tests.{plus_one}
 
 -- ---- what is known of it
 
@@ -92,10 +93,7 @@ answered_from s b n (c ∷ commands) some replied h =
     and_from (is_answered s b n c) (are_answered_from s b (n + 1) commands)
     (and_from (is_settled (ending_of b.ended n) (has_end b.history (sense_of n)) (sense_is_over s b n c)) (is_replied s b n c) here came.0)
     (answered_from s b (n + 1) commands all.1 came.1
-    (λ m d at. subst (λ (x : ℕ). is_some (ending_of b.ended x) ≡ true → is_settled (ending_of b.ended x) (has_end b.history (sense_of x)) (sense_is_over s b x d) ≡ true) (next_place n m) (h (suc m) d at)))
-
-from_one : (m : ℕ) → 1 + m ≡ suc m
-from_one m = omega arith
+    (λ m d at. subst (λ (x : ℕ). is_some (ending_of b.ended x) ≡ true → is_settled (ending_of b.ended x) (has_end b.history (sense_of x)) (sense_is_over s b x d) ≡ true) (plus_one n m) (h (suc m) d at)))
 
 -- ---- the trace
 
@@ -146,4 +144,4 @@ all_answered s p o prompt j end told carried =
 
     each : (m : ℕ) (c : CmdDef) → command_at s.commands (suc m) ≡ Some c → is_some (ending_of k.story.ended (1 + m)) ≡ true
         → is_settled (ending_of k.story.ended (1 + m)) (has_end k.story.history (sense_of (1 + m))) (sense_is_over s k.story (1 + m) c) ≡ true
-    each m c at some = settled s k (1 + m) c endings (told (1 + m)) (ap (λ (x : ℕ). command_at s.commands x) (from_one m) ∙ at) some
+    each m c at some = settled s k (1 + m) c endings (told (1 + m)) (ap (λ (x : ℕ). command_at s.commands x) (one-add m) ∙ at) some

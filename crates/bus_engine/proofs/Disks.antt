@@ -1,5 +1,5 @@
 -- The blocks of the units, line by line.
-use Rattle.std.proofs.Common.{ℕ, ◌≡◌, ◌<◌, Bool, true, false, List, [], ◌∷◌, ◌++◌, Option, Some, None, map, append_assoc, append-nil, refl, sym, ap, subst, ◌∙◌}
+use Rattle.std.proofs.Common.{ℕ, ◌≡◌, ◌<◌, Bool, true, false, List, [], ◌∷◌, ◌++◌, Option, Some, None, map, append_assoc, refl, sym, ap, subst, ◌∙◌}
 use Rattle.std.specs.Prelude.{◌==◌, ◌&&◌, is_some, if◌then◌else◌}
 use Rattle.std.specs.List.{AllByRecursion, list_all}
 use Rattle.std.proofs.lemmas.Bool.{and_parts, true≢false, eqb-true}
@@ -49,15 +49,6 @@ stored_next before after rest more u disks longer store all e long lines is othe
       held = held_on before after u more left others apart.0 within.1 held.1;
       apart = apart.1;
     }
-
-pub stored_all : (of_target : List (Option UnitsState)) (rest : List UnitDef) (done all : List Contents) → rest ≡ [] → AreStored of_target rest done all → done ≡ all
-stored_all of_target rest done all e a =
-    let h = subst (λ (r : List UnitDef). AreStored of_target r done all) e a in
-    go h.left h.all_is h.held
-  where
-    go : (left : List Contents) → done ++ left ≡ all → AreHeld of_target [] left → done ≡ all
-    go [] sum held = sym (append-nil done) ∙ sum
-    go (c ∷ left) sum held = absurd held
 
 -- ---- what the array holds
 

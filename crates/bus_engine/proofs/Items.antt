@@ -1,5 +1,5 @@
 -- The next item of a list, and those after it.
-use Rattle.std.proofs.Common.{◌≡◌, ℕ, zero, suc, ◌+◌, ◌<◌, ◌≤◌, get_or, List, [], ◌∷◌, drop, length, reverse, refl, sym, ap, subst, ◌∙◌, ◌*◌, ◌/◌, arith}
+use Rattle.std.proofs.Common.{◌≡◌, ℕ, zero, suc, ◌+◌, ◌<◌, get_or, List, [], ◌∷◌, drop, length, reverse, sym, ap, subst, ◌∙◌, ◌*◌, ◌/◌, arith}
 use Rattle.std.specs.Prelude.{max, Result, Ok, Err, IfOk}
 use Rattle.std.proofs.lemmas.List.{reverse-append, reverse-reverse}
 use Rattle.std.specs.List.{AllByRecursion}
@@ -13,12 +13,6 @@ max_moves a b c = omega arith
 
 pub eighth : (b r n : ℕ) → (1024 * b + 32768 * r + 8192 * (1 + n)) / 8 ≡ 128 * b + 4096 * r + 1024 * (1 + n)
 eighth b r n = omega arith
-
-pub drop_past : {A : Type 0} (xs : List A) (n : ℕ) → length xs ≤ n → drop n xs ≡ []
-drop_past [] zero le = refl
-drop_past [] (suc n) le = refl
-drop_past (x ∷ xs) zero le = absurd (omega arith)
-drop_past (x ∷ xs) (suc n) le = drop_past xs n (omega arith)
 
 pub all_drop : {A : Type 0} (P : A → Type 0) (xs : List A) (n : ℕ) → AllByRecursion P xs → AllByRecursion P (drop n xs)
 all_drop P [] zero h = tt

@@ -1,13 +1,12 @@
 -- Where each process that ran and ended has carried just the bytes that it moves, what came back to the initiators is the reply: they have
 -- room for it (6.4, 7.3).
-use Rattle.std.proofs.Common.{ℕ, suc, ◌≡◌, ◌+◌, ◌≤◌, ◌^◌, ◌-◌, Bool, true, false, not, ◌&&◌, ◌||◌, ◌∙◌, List, [], ◌∷◌, Option, Some, None, refl, sym, ap, subst, arith, length, take, take_all}
+use Rattle.std.proofs.Common.{ℕ, suc, ◌≡◌, ◌+◌, ◌≤◌, ◌^◌, ◌-◌, Bool, true, false, not, ◌&&◌, ◌||◌, ◌∙◌, List, [], ◌∷◌, Option, Some, None, refl, sym, ap, subst, arith, length, take, take_all, one-add}
 use Rattle.std.specs.Prelude.{if◌then◌else◌, ◌==◌, min}
-use Rattle.std.proofs.lemmas.Bool.Decides.{nat_tests}
-use Rattle.std.proofs.lemmas.Bool.{and_from, eqb-true, or_left}
+use Rattle.std.proofs.lemmas.Bool.{and_from, eq-eqb, eqb-true, or_left}
 use Rattle.bus_base.specs.declared.Event.{Event}
 use Rattle.bus_base.specs.declared.Event.TheVariants as events
 use Rattle.bus_base.specs.declared.ProcId.{ProcId}
-use Rattle.bus_base.proofs.Tests.{and_first, and_second, implication, implied, nil_of, plus_none, wrong'}
+use Rattle.bus_base.proofs.Tests.{and_first, and_second, implication, implied, nil_of, plus_none, wrong', eq_self}
 use Rattle.cdb_codec.specs.Cdb as Cdb
 use Rattle.cdb_codec.specs.declared.replies.TheConstants.{SENSE_LEN}
 use Rattle.cdb_codec.specs.declared.status.TheConstants.{GOOD}
@@ -33,8 +32,8 @@ use Rattle.initiator.specs.Received.{room_of}
 use Rattle.bus_members.specs.Answers.{are_replied_from, is_good, is_replied, is_reply}
 use Rattle.bus_engine.proofs.EndStatuses.{HasReply}
 use Rattle.bus_engine.proofs.ListedReplies.{AreGiven}
-use Rattle.bus_engine.proofs.Settled.{next_place}
 use Rattle.ending_causes.proofs.Traces.{middle}
+use Rattle.trace_laws.proofs.Tests.{plus_one}
 
 -- ---- what came, as far as there is room
 
@@ -110,9 +109,6 @@ pub record HaveReplies (s : ScenarioValue) (k : RunState) : Type 0 where
   pub senses : (n : ℕ) (r : Reply) → reply_in (array_of s k).replies (sense_of n) ≡ Some r → r.status ≡ GOOD
   pub told : (n status : ℕ) → ending_of k.story.ended n ≡ Some (by_status status) → has_status k.story.history (command_of n) status ≡ true
 
-good_is : (status : ℕ) → status ≡ GOOD → (status == GOOD) ≡ true
-good_is status e = ap (λ (x : ℕ). x == GOOD) e
-
 came_good : (s : ScenarioValue) (k : RunState) (n : ℕ) (q : Bool) (c : CmdDef) (status : ℕ) → HaveReplies s k → command_at s.commands n ≡ Some c → all_carried s k.story k.story.history ≡ true
     → has_status k.story.history (record { command = n; sense = q }) status ≡ true → ((r : Reply) → reply_in (array_of s k).replies (record { command = n; sense = q }) ≡ Some r → status ≡ r.status → (r.status == GOOD) ≡ true)
     → ((r : Reply) → reply_in (array_of s k).replies (record { command = n; sense = q }) ≡ Some r → has_run k.story.history (record { command = n; sense = q }) ≡ true → length r.bytes ≤ room_of s c q) → is_reply s k.story c (record { command = n; sense = q }) ≡ true
@@ -155,10 +151,7 @@ end_status (x ∷ history) id e = go (is_end_of id x) refl e (λ z. end_status h
         or_other false z = z
 
     here : (y : Event) → is_end_of id y ≡ true → HasStatus (y ∷ history) id
-    here (events.End p code) z = record { status = code; has = or_left (same_id p id && code == code) (has_status history id code) (and_from (same_id p id) (code == code) z (self code)) }
-      where
-        self : (m : ℕ) → (m == m) ≡ true
-        self m = grind (arith, nat_tests)
+    here (events.End p code) z = record { status = code; has = or_left (same_id p id && code == code) (has_status history id code) (and_from (same_id p id) (code == code) z (eq_self code)) }
     here (events.Accept p) z = wrong' z
     here (events.Refuse p) z = wrong' z
     here (events.Run p) z = wrong' z
@@ -175,7 +168,7 @@ sensed_good : (s : ScenarioValue) (k : RunState) (n : ℕ) (c : CmdDef) → Have
     → has_end k.story.history (sense_of n) ≡ true → is_reply s k.story c (sense_of n) ≡ true
 sensed_good s k n c h at all e =
     let w = end_status k.story.history (sense_of n) e in
-    came_good s k n true c w.status h at all w.has (λ r given same. good_is r.status (h.senses n r given)) (λ r given ran. (h.given (sense_of n) r given).few refl)
+    came_good s k n true c w.status h at all w.has (λ r given same. eq-eqb r.status GOOD (h.senses n r given)) (λ r given ran. (h.given (sense_of n) r given).few refl)
 
 replied : (s : ScenarioValue) (k : RunState) (n : ℕ) (c : CmdDef) → HaveReplies s k → command_at s.commands n ≡ Some c → all_carried s k.story k.story.history ≡ true → is_replied s k.story n c ≡ true
 replied s k n c h at all =
@@ -191,10 +184,7 @@ replied_from s k n [] h at all = refl
 replied_from s k n (c ∷ commands) h at all =
     and_from (is_replied s k.story n c) (are_replied_from s k.story (n + 1) commands)
     (replied s k n c h (ap (λ (x : ℕ). command_at s.commands x) (sym (plus_none n)) ∙ at 0 c refl) all)
-    (replied_from s k (n + 1) commands h (λ m d z. ap (λ (x : ℕ). command_at s.commands x) (sym (next_place n m)) ∙ at (suc m) d z) all)
-
-from_one : (m : ℕ) → 1 + m ≡ suc m
-from_one m = omega arith
+    (replied_from s k (n + 1) commands h (λ m d z. ap (λ (x : ℕ). command_at s.commands x) (sym (plus_one n m)) ∙ at (suc m) d z) all)
 
 pub all_replied : (s : ScenarioValue) (k : RunState) → HaveReplies s k → all_carried s k.story k.story.history ≡ true → are_replied_from s k.story 1 s.commands ≡ true
-all_replied s k h all = replied_from s k 1 s.commands h (λ m c z. ap (λ (x : ℕ). command_at s.commands x) (from_one m) ∙ z) all
+all_replied s k h all = replied_from s k 1 s.commands h (λ m c z. ap (λ (x : ℕ). command_at s.commands x) (one-add m) ∙ z) all

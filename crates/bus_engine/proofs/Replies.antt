@@ -1,5 +1,5 @@
 -- The outcomes, command by command.
-use Rattle.std.proofs.Common.{ℕ, zero, suc, ◌≡◌, ◌+◌, true, List, [], ◌∷◌, ◌++◌, drop, Some, map, append_assoc, append-nil, add-one, sym, ap, subst, ◌∙◌}
+use Rattle.std.proofs.Common.{ℕ, zero, suc, ◌≡◌, ◌+◌, true, List, [], ◌∷◌, ◌++◌, drop, Some, map, append_assoc, add-one, ap, subst, ◌∙◌}
 use Rattle.std.proofs.lemmas.Bool.{and_parts}
 use Rattle.std.proofs.lemmas.List.{map-append}
 use Rattle.scenario.specs.declared.value.CmdDef.{CmdDef}
@@ -29,10 +29,6 @@ asked_next s b index replies more rest after c o e longer a tells =
           ∙ h.told;
       answered = both.1;
     }
-
-pub asked_all : (s : ScenarioValue) (b : Story) (index : ℕ) (replies : List Outcome) (rest : List CmdDef) → rest ≡ [] → AreAsked s b index replies rest → map told_reply replies ≡ outcomes s b
-asked_all s b index replies rest e a =
-    sym (append-nil (map told_reply replies)) ∙ (λ i. map told_reply replies ++ outcomes_from s b (index + 1) (sym e i)) ∙ a.told
 
 command_next : (commands : List CmdDef) (i : ℕ) (c : CmdDef) (after : List CmdDef) → drop i commands ≡ c ∷ after → command_at commands (suc i) ≡ Some c
 command_next [] zero c after e = cc

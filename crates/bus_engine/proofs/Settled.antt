@@ -1,5 +1,5 @@
 -- Each command of a prompt trace that has ended is settled: it has ended, and after CHECK CONDITION its automatic REQUEST SENSE is over (7.3, 7.8).
-use Rattle.std.proofs.Common.{ℕ, zero, suc, ◌≡◌, ◌+◌, Bool, true, false, ◌||◌, ◌∙◌, List, [], ◌∷◌, Option, Some, None, refl, sym, ap, map, arith}
+use Rattle.std.proofs.Common.{ℕ, zero, suc, ◌≡◌, ◌+◌, Bool, true, false, ◌||◌, ◌∙◌, List, [], ◌∷◌, Option, Some, None, refl, sym, ap, map, arith, one-add}
 use Rattle.std.specs.Prelude.{if◌then◌else◌, ◌==◌}
 use Rattle.std.specs.List.{list_any}
 use Rattle.std.proofs.lemmas.Bool.Decides.{nat_tests}
@@ -17,6 +17,7 @@ use Rattle.bus_dialogue.specs.Wants.{OwnCommand}
 use Rattle.bus_due.specs.Wants.{own_command, own_commands}
 use Rattle.trace_laws.specs.ItemFacts.{Items}
 use Rattle.trace_laws.proofs.Impossible.{none_some}
+use Rattle.trace_laws.proofs.Tests.{plus_one}
 use Rattle.progress_laws.proofs.Answered.{AreUnwanted, sense_wanted}
 use Rattle.initiator.specs.declared.mine.Mine.{Mine}
 use Rattle.initiator.specs.Mines.{mine_of, mines_of}
@@ -28,9 +29,6 @@ use Rattle.bus_engine.proofs.ListedReplies.{is_known}
 
 apart : (k m : ℕ) → (k == k + suc m) ≡ false
 apart k m = grind (arith, nat_tests)
-
-pub next_place : (n m : ℕ) → n + suc m ≡ n + 1 + m
-next_place n m = omega arith
 
 over_kept : (b : Sent) (dev k m : ℕ) (c : CmdDef) (commands : List CmdDef) → command_at commands (suc m) ≡ Some c → (c.host == dev) ≡ true → has_item b.over (sense_item (k + m)) ≡ true
     → is_sense_over (mine_at (map (λ (o : OwnCommand). mine_of b.checks o) (own_commands b dev k commands)) (k + m)) ≡ true
@@ -47,7 +45,7 @@ over_kept b dev k zero c (d ∷ commands) at own over = go (d.host == dev) (ap (
         ∙ ap (λ (x : ℕ). has_item b.over (sense_item x)) (sym (plus_none k)) ∙ over
     go false e = wrong' e
 over_kept b dev k (suc m) c (d ∷ commands) at own over =
-    go (d.host == dev) (ap (λ (x : ℕ). is_sense_over (mine_at all x)) (next_place k m) ∙ over_kept b dev (k + 1) m c commands at own (ap (λ (x : ℕ). has_item b.over (sense_item x)) (sym (next_place k m)) ∙ over))
+    go (d.host == dev) (ap (λ (x : ℕ). is_sense_over (mine_at all x)) (plus_one k m) ∙ over_kept b dev (k + 1) m c commands at own (ap (λ (x : ℕ). has_item b.over (sense_item x)) (sym (plus_one k m)) ∙ over))
   where
     all : List Mine
     all = map (λ (o : OwnCommand). mine_of b.checks o) (own_commands b dev (k + 1) commands)
@@ -56,9 +54,6 @@ over_kept b dev k (suc m) c (d ∷ commands) at own over =
         → is_sense_over (mine_at (map (λ (o : OwnCommand). mine_of b.checks o) (if q then own_command b k d ∷ own_commands b dev (k + 1) commands else own_commands b dev (k + 1) commands)) (k + suc m)) ≡ true
     go true rest = (λ i. is_sense_over (if apart k m i then Some (mine_of b.checks (own_command b k d)) else mine_at all (k + suc m))) ∙ rest
     go false rest = rest
-
-from_one : (m : ℕ) → 1 + m ≡ suc m
-from_one m = omega arith
 
 -- So its initiator knows that its automatic REQUEST SENSE is over.
 pub over_told : (s : ScenarioValue) (b : Sent) (n : ℕ) (c : CmdDef) → command_at s.commands n ≡ Some c → has_item b.over (sense_item n) ≡ true → is_sense_over (mine_at (mines_of b c.host s.commands) n) ≡ true
@@ -71,8 +66,8 @@ over_told s b zero c at over = absurd (none_first s.commands at)
     none_first [] z = no_line z
     none_first (d ∷ commands) z = no_line z
 over_told s b (suc m) c at over =
-    ap (λ (x : ℕ). is_sense_over (mine_at (mines_of b c.host s.commands) x)) (sym (from_one m))
-    ∙ over_kept b c.host 1 m c s.commands at (eq_self c.host) (ap (λ (x : ℕ). has_item b.over (sense_item x)) (from_one m) ∙ over)
+    ap (λ (x : ℕ). is_sense_over (mine_at (mines_of b c.host s.commands) x)) (sym (one-add m))
+    ∙ over_kept b c.host 1 m c s.commands at (eq_self c.host) (ap (λ (x : ℕ). has_item b.over (sense_item x)) (one-add m) ∙ over)
 
 -- ---- it is over
 

@@ -17,7 +17,7 @@ use Rattle.bus_due.specs.RunSteps.{run_state}
 use Rattle.trace_laws.proofs.Whole.{Whole, standing_next, whole}
 use Rattle.right_laws.specs.Loads.{Load, UndoesLoads, UndoLoadFacts}
 use Rattle.right_laws.proofs.Carried.{same_is}
-use Rattle.right_laws.proofs.UndoneLoadFacts.{load_asks, load_next, load_start}
+use Rattle.right_laws.proofs.UndoneLoads.{load_asks, load_next, load_start}
 use Rattle.initiator.specs.Received.{has_bytes_of, undone_by, undoes_no_byte}
 
 pub undo_loads : (s : ScenarioValue) (p : List Row) → Obeys s → IsPrompt s p → UndoLoadFacts s p

@@ -94,10 +94,6 @@ ready_want : (limit : ℕ) (r : Option Ready) → IsReadyBefore limit r → IsBe
 ready_want limit None h = tt
 ready_want limit (Some r) h = h
 
-want_more : (a b : ℕ) (o : Option ℕ) → a ≤ b → IsBefore a o → IsBefore b o
-want_more a b None l h = tt
-want_more a b (Some w) l h = omega arith
-
 want_before : (end : ℕ) (s : ScenarioValue) (rows : List Row) (dev : ℕ) → 1000000000000 < end → FitsBus s → ComeBefore end rows → IsBefore (end + 1000000000) (want_time s (run_state s rows) dev)
 want_before end s rows dev l w h = go (is_host s.hosts dev)
   where

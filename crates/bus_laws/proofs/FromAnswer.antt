@@ -55,10 +55,6 @@ none_link n e = absurd cc
 with_answer : (n : ℕ) → union (calling_lines false true n) answer_lines ≡ calling_lines false true n
 with_answer n = λ i. record (calling_lines false true n) { data_bits = or_zero_r n i }
 
-not_and : (q : Bool) → (not q && q) ≡ false
-not_and true = refl
-not_and false = refl
-
 -- the target releases SEL with the first byte of IDENTIFY
 pub record IsReselectionEnd (since lat : ℕ) (x : Due) : Type 0 where
   pub y : ℕ

@@ -16,8 +16,8 @@ use Rattle.bus_rules.specs.Reset.{is_reset, only_rst, raises_rst_alone, is_quiet
 use Rattle.bus_rules.specs.Rules.{test, stands_in_reset, keeps, judged_rules, lowest_broken, broken_rule}
 use Rattle.bus_rules.proofs.First.{none_broken}
 use Rattle.bus_laws.specs.Rows.{change_to, row_of_lines}
-use Rattle.std.proofs.lemmas.Bool.{le-leb}
-use Rattle.bus_base.proofs.Tests.{and_false, all_three}
+use Rattle.std.proofs.lemmas.Bool.{and_right, le-leb}
+use Rattle.bus_base.proofs.Tests.{all_three}
 
 other_rule : (n : ℕ) (v : Seen) (row : Row) → stands_in_reset n ≡ false → is_reset v ≡ true → keeps n v row ≡ true
 other_rule n v row a b = λ i. if not (a i) && b i then true else test n v row
@@ -55,13 +55,7 @@ reset_row_obeys p t d l b b' o e k =
 -- ---- what rises and what does not
 
 pub raises_rst : (o : LineSet) → o.rst ≡ false → same_set o only_rst ≡ false
-raises_rst o e = last_differs _ _ (ap (λ (q : Bool). same q true) e)
-  where
-    last_differs : (x y : Bool) → y ≡ false → (x && y) ≡ false
-    last_differs x y e = (λ i. x && e i) ∙ and_false x
-
-union_twice : (a o : LineSet) → union (union a o) none ≡ union a o
-union_twice a o = union-none (union a o)
+raises_rst o e = and_right _ _ (ap (λ (q : Bool). same q true) e)
 
 pub none_within : (b : LineSet) → is_within none b ≡ true
 none_within b = ap (λ (x : LineSet). same_set x b) (union-none b) ∙ same_set-self b

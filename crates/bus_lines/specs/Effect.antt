@@ -1,5 +1,5 @@
 -- What the last row did (ANSI X3.131-1994, 6.1).
-use Rattle.std.specs.Prelude.{false, List, [], ◌∷◌, Option, None}
+use Rattle.std.specs.Prelude.{false, List, [], ◌∷◌, Option, Some, None, ◌≡◌, ⊤}
 use Rattle.bus_trace.specs.LineSet.{none}
 use Rattle.bus_trace.specs.declared.Row.{Row}
 use Rattle.bus_trace.specs.declared.changes.Change.{Change}
@@ -26,6 +26,13 @@ effect_of before after c row = record {
   receiver = receiver_of before c;
   fault = is_fault row.kind;
 }
+
+-- Of three moments in turn: where a connection stands at each, it is the same.
+abbrev pub IsOneConnection : Option Connection → Option Connection → Option Connection → Type 0
+IsOneConnection None m n = ⊤
+IsOneConnection (Some k) None n = ⊤
+IsOneConnection (Some k) (Some m) None = ⊤
+IsOneConnection (Some k) (Some m) (Some n) = (k ≡ m) × (m ≡ n)
 
 abbrev pub effect : List Row → RowEffect
 effect [] = no_effect

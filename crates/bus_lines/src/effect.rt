@@ -1,6 +1,6 @@
 //! What the last row did (ANSI X3.131-1994, 6.1).
 ghost use Rattle.std.specs.Prelude.{◌≡◌};
-ghost use Rattle.bus_lines.specs.Effect.{no_effect, effect_of};
+ghost use Rattle.bus_lines.specs.Effect.{no_effect, effect_of, IsOneConnection};
 
 use bus_trace::{Change, Connection, Lines, Row, ScsiId, is_fault, receiver_of};
 
@@ -52,5 +52,30 @@ pub fn effect_of(
         before,
         after,
         fault: is_fault(row.kind),
+    }
+}
+
+impl RowEffect {
+    // The next row, which changes this, and after which this connection stands, in place of the last. In most rows
+    // the connection stands that stood before and after the last, so that it is told already.
+    pub(crate) fn step(&mut self, after: &Option<Connection>, change: &Change, row: &Row)
+        ensures { IsOneConnection self.old.before self.old.after after.now
+            → self.new ≡ effect_of self.old.after after.now change.now row.now }
+    {
+        if self.before.is_some() && self.after.is_some() && after.is_some() {
+            self.change = *change;
+            self.receiver = receiver_of(&self.before, change);
+            self.fault = is_fault(row.kind);
+        } else {
+            self.renew(after, *change, row);
+        }
+    }
+
+    // A function of its own, since few rows pay for its copies.
+    #[inline(never)]
+    fn renew(&mut self, after: &Option<Connection>, change: Change, row: &Row)
+        ensures { self.new ≡ effect_of self.old.after after.now change row.now }
+    {
+        *self = effect_of(self.after, *after, change, row);
     }
 }

@@ -1,5 +1,5 @@
 //! The rises of REQ and ACK in the present phase (ANSI X3.131-1994, 6.1.5.1 and 6.1.5.2).
-ghost use Rattle.std.specs.Prelude.{ℕ, ◌≡◌, ◌∷◌, [], List, length, not, ◌==◌, true};
+ghost use Rattle.std.specs.Prelude.{ℕ, ◌≡◌, ◌∷◌, [], List, length, drop, not, ◌==◌, true};
 ghost use Rattle.bus_trace.specs.declared.Row.{Row};
 ghost use Rattle.bus_trace.specs.Changes.{change_of};
 ghost use Rattle.bus_trace.specs.Terms.{connection, is_fault};
@@ -95,9 +95,7 @@ impl Handshakes {
         if self.relieved.is_none() {
             self.relieved = Some(time);
         }
-        if !self.waiting.is_empty() {
-            self.waiting.remove(0);
-        }
+        forget_oldest(&mut self.waiting);
     }
 
     // A fault strikes the byte of the newest request.
@@ -222,6 +220,17 @@ impl Handshakes {
             None => 0,
             Some(time) => time,
         }
+    }
+}
+
+// The oldest of those that wait has its answer. Most often it waits alone, so that no other moves to its place.
+fn forget_oldest(waiting: &mut ArrayVec<Request, 255>)
+    ensures { waiting.new.items ≡ drop 1 waiting.old.items }
+{
+    if waiting.len() > 1 {
+        waiting.remove(0);
+    } else {
+        waiting.pop();
     }
 }
 

@@ -4,7 +4,7 @@ ghost use Rattle.bus_trace.specs.declared.Row.{Row};
 ghost use Rattle.bus_trace.specs.LineSet.{line_of};
 ghost use Rattle.bus_trace.specs.Trace.{IsViewOf, bus, drives, since, last_time};
 ghost use Rattle.bus_trace.specs.Changes.{change_of};
-ghost use Rattle.bus_trace.specs.Terms.{connection, connection_after, call_after};
+ghost use Rattle.bus_trace.specs.Terms.{connection, connection_after, call_after, arbitration_after, free_since};
 ghost use Rattle.bus_lines.specs.Stage.{stage};
 ghost use Rattle.bus_lines.specs.Effect.{effect};
 ghost use Rattle.bus_lines.specs.Handshakes.{handshakes};
@@ -12,7 +12,7 @@ ghost use Rattle.bus_lines.specs.BusView.{IsBusViewOf};
 ghost use Rattle.bus_trace.specs.View.{AreBefore};
 ghost use Rattle.bus_lines.specs.Timely.{IsTimely, IsConnectionBefore, IsStageBefore, AreHandshakesBefore};
 
-use crate::effect::{RowEffect, effect_of, no_effect};
+use crate::effect::{RowEffect, no_effect};
 use crate::handshakes::Handshakes;
 use crate::stage::{Stage, call_stage};
 use bus_base::{Dev, Ns};
@@ -158,33 +158,52 @@ impl BusView {
         requires { row.now.dev < 8 }
         ensures trace { (rows : List Row) → IsBusViewOf rows self.old → IsBusViewOf (row.now ∷ rows) self.new }
     {
-        let free = self.lines.free_since();
-        let change = change_by(&mut self.lines, row);
-        let stood = self.connection;
+        let change = change_by(&self.lines, row);
+        see_arbitration(&mut self.arbitration, &self.lines, &change, row);
+        self.lines.step_to(row, change.after);
         see_connection(&mut self.connection, &self.call, &change, row);
-        self.arbitration = arbitration_after(self.arbitration, free, &change, row);
         see_call(&mut self.call, &change, row);
         self.handshakes.step(self.connection, &change, row);
-        self.effect = effect_of(stood, self.connection, change, row);
+        self.effect.step(&self.connection, &change, row);
     }
 }
 
-// One more row of the lines: what it changes.
-fn change_by(lines: &mut LineView, row: &Row) -> Change
+// What one more row changes.
+#[inline]
+fn change_by(lines: &LineView, row: &Row) -> Change
     requires { row.now.dev < 8 }
-    ensures lines { (rows : List Row) → IsViewOf rows lines.old → IsViewOf (row.now ∷ rows) lines.new }
-    ensures change { (rows : List Row) → IsViewOf rows lines.old → result ≡ change_of rows row.now }
+    ensures { (rows : List Row) → IsViewOf rows lines.now → result ≡ change_of rows row.now }
 {
-    let before = lines.bus();
     let own = lines.drives(row.dev);
     let next = row.kind.driven_after(own);
-    lines.step(row);
     Change {
-        before,
-        after: lines.bus(),
+        before: lines.bus(),
+        after: lines.bus_with(row.dev, next),
         own,
         next,
     }
+}
+
+// The arbitration after a row of these lines. Where none stands and BSY is true before the row, none begins.
+fn see_arbitration(
+    arbitration: &mut Option<Arbitration>,
+    lines: &LineView,
+    change: &Change,
+    row: &Row,
+)
+    ensures { (rows : List Row) → IsViewOf rows lines.now
+        → arbitration.new ≡ arbitration_after arbitration.old (free_since rows) change.now row.now }
+{
+    if arbitration.is_some() || !change.before.bsy() {
+        renew_arbitration(arbitration, lines.free_since(), change, row);
+    }
+}
+
+// The same, where this was the time since which the bus was free.
+fn renew_arbitration(arbitration: &mut Option<Arbitration>, free: Ns, change: &Change, row: &Row)
+    ensures { arbitration.new ≡ arbitration_after arbitration.old free change.now row.now }
+{
+    *arbitration = arbitration_after(*arbitration, free, change, row);
 }
 
 // The connection that a row begins, if it does.
@@ -219,14 +238,15 @@ pub fn see_call(call: &mut Option<Call>, change: &Change, row: &Row)
     ensures { call.new ≡ call_after call.old change.now row.now }
 {
     if call.is_some() || change.after.sel() {
-        renew_call(call, change, row);
+        renew_call(call, *change, row);
     }
 }
 
-// A function of its own, since each call pays for the room of its copies.
-fn renew_call(call: &mut Option<Call>, change: &Change, row: &Row)
+// A function of its own, since each call pays for the room of its copies; of the change too, which else has to stand in
+// memory for all rows.
+fn renew_call(call: &mut Option<Call>, change: Change, row: &Row)
     requires { row.now.dev < 8 }
-    ensures { call.new ≡ call_after call.old change.now row.now }
+    ensures { call.new ≡ call_after call.old change row.now }
 {
-    *call = call_after(*call, change, row);
+    *call = call_after(*call, &change, row);
 }

@@ -4,7 +4,7 @@ use Rattle.std.specs.Prelude.{◌==◌}
 use Rattle.bus_base.specs.declared.ProcId.{ProcId}
 use Rattle.bus_trace.specs.declared.Row.{Row}
 use Rattle.scenario.specs.Value.{ScenarioValue}
-use Rattle.bus_story.specs.Items.{Item, process}
+use Rattle.bus_story.specs.Items.{Item}
 use Rattle.bus_due.specs.RunState.{item_of}
 use Rattle.bus_due.specs.RunSteps.{run_state}
 use Rattle.bus_due.specs.Telling.{id_of}

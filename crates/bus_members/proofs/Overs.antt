@@ -2,7 +2,7 @@
 use Rattle.std.proofs.Common.{ℕ, ◌≡◌, ◌≢◌, ◌≤◌, ◌+◌, Bool, true, false, List, [], ◌∷◌, Option, Some, None, refl, sym, ap, subst, ◌∙◌, arith}
 use Rattle.std.specs.Prelude.{◌==◌, ◌||◌, slice_set, slice_index_or, if◌then◌else◌}
 use Rattle.std.specs.List.{find}
-use Rattle.std.proofs.lemmas.Bool.{true≢false}
+use Rattle.std.proofs.lemmas.Bool.{eq-eqb, true≢false}
 use Rattle.std.proofs.lemmas.Grind.{common_steps, elements}
 use Rattle.bus_trace.specs.declared.Row.{Row}
 use Rattle.scenario.specs.declared.value.CmdDef.{CmdDef}
@@ -19,7 +19,6 @@ use Rattle.initiator.specs.Books.{my_book}
 use Rattle.initiator.specs.Endings.{AreEndingsOf, sense_of, end_at}
 use Rattle.initiator.specs.Hosts.{HostValue}
 use Rattle.initiator.specs.Openings.{mine_at}
-use Rattle.initiator.specs.Outcomes as own
 use Rattle.initiator.specs.Outcomes.{command_of, is_sense_over}
 use Rattle.initiator.specs.Received.{BufferPairValue, no_buffers, empty_buffer, pair_at, received_taken, undoes_no_byte}
 use Rattle.target_units.specs.Units.{UnitsState, AreUnitsOf}
@@ -31,10 +30,6 @@ use Rattle.bus_members.specs.Answers.{is_answered, sense_is_over}
 use Rattle.bus_members.specs.Members.{IsHost, IsTarget, IsMember}
 use Rattle.bus_members.specs.Over.{IsHostOver, IsMemberOver, HasNone, IsPlaceOver, AreUnitsAt}
 use Rattle.bus_members.proofs.Answered.{IsAnswered, answered}
-use Rattle.bus_base.proofs.Tests.{eq_self}
-
-pub same_host : (m n : ℕ) → m ≡ n → (m == n) ≡ true
-same_host m n e = ap (λ (k : ℕ). m == k) (sym e) ∙ eq_self m
 
 -- ---- which device it is
 
@@ -49,10 +44,10 @@ target_over s rows dev first m target e h = subst (λ (x : Member). IsMemberOver
 pub taken_is_answered : (s : ScenarioValue) (rows : List Row) (dev n : ℕ) (c : CmdDef) (v : HostValue) → IsHostOver s rows dev n v → command_at s.commands n ≡ Some c → c.host ≡ dev → undoes_no_byte s rows ≡ true → is_answered s (run_state s rows).story n c ≡ true
     → IsAnswered s (run_state s rows).story n (end_at v.endings n) (is_sense_over (mine_at v.intent.wish.book.mines n)) (pair_at v.received n).command.bytes (pair_at v.received n).sense.bytes
 taken_is_answered s rows dev n c v h e own undone is =
-    let kept = h.kept undone n c (omega arith) e (same_host c.host dev own) in
+    let kept = h.kept undone n c (omega arith) e (eq-eqb c.host dev own) in
     let over : is_sense_over (mine_at v.intent.wish.book.mines n) ≡ sense_is_over s (run_state s rows).story n c = λ i. is_sense_over (mine_at ((h.book_is ∙ ap (λ (d : ℕ). my_book s (run_state s rows).story.sent d) (sym own)) i).mines n) in
     answered s (run_state s rows).story n c (end_at v.endings n) (is_sense_over (mine_at v.intent.wish.book.mines n)) (pair_at v.received n).command.bytes (pair_at v.received n).sense.bytes
-    (h.endings_are.ends n c e (same_host c.host dev own)) over kept.bytes.bytes_are kept.sense_bytes.bytes_are is
+    (h.endings_are.ends n c e (eq-eqb c.host dev own)) over kept.bytes.bytes_are kept.sense_bytes.bytes_are is
 
 other_pair : (v : List BufferPairValue) (k n : ℕ) (x : BufferPairValue) → k ≢ n → slice_index_or (slice_set v k x) n no_buffers ≡ slice_index_or v n no_buffers
 other_pair v k n x h = grind (arith, common_steps, elements)

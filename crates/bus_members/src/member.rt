@@ -97,6 +97,13 @@ impl Device for Member {
             Member::Target(target) => target.see(observer, row, label, shown),
         }
     }
+
+    fn see_in_others(&mut self, observer: &Observer, row: &Row) {
+        match self {
+            Member::Initiator(host) => host.see_in_others(observer, row),
+            Member::Target(target) => target.see_in_others(observer, row),
+        }
+    }
 }
 
 impl Member {

@@ -6,3 +6,6 @@ pub mod FaultLists
 pub mod Absent
 pub mod Told
 pub mod Going
+pub mod KeptRows
+pub mod Sooner
+pub mod Others

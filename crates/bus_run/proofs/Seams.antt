@@ -84,7 +84,7 @@ ends_are s rows n e c =
     let pair : is_own_pair s (Some n) ≡ true = subst (λ (o : Option Connection). is_own_pair s o ≡ true) c (pair_of s rows (tied s rows e).paired_are) in
     and_parts (is_some (host_of s n.initiator)) (is_some (target_def_of s n.target)) pair
 
-not_same : (m dev : ℕ) → (m ≡ dev → ⊥) → (m == dev) ≡ false
+pub not_same : (m dev : ℕ) → (m ≡ dev → ⊥) → (m == dev) ≡ false
 not_same m dev f = go (m == dev) refl
   where
     go : (q : Bool) → (m == dev) ≡ q → q ≡ false

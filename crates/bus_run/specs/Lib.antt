@@ -4,3 +4,5 @@ pub mod Runs
 pub mod Seen
 pub mod Label
 pub mod Places
+pub mod Standing
+pub mod Away

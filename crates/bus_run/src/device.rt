@@ -1,5 +1,5 @@
 //! A device of the bus, as a run has it.
-ghost use Rattle.std.specs.Prelude.{ℕ, ◌≡◌, ◌<◌, ◌≢◌, ◌^◌, ◌∷◌, true, false, is_some, List, Some};
+ghost use Rattle.std.specs.Prelude.{ℕ, ◌≡◌, ◌<◌, ◌≢◌, ◌^◌, ◌∷◌, [], true, false, is_some, List, Some};
 ghost use Rattle.bus_trace.specs.declared.Row.{Row};
 ghost use Rattle.bus_trace.specs.declared.connection.Connection.{Connection};
 ghost use Rattle.bus_trace.specs.Terms.{connection};
@@ -13,6 +13,7 @@ ghost use Rattle.bus_run.specs.Label.{process_known};
 ghost use Rattle.bus_run.specs.Seams.{seams};
 ghost use Rattle.bus_run.specs.Seen.{AreSeen};
 ghost use Rattle.bus_run.specs.Shown.{shown_events, reading, events_shown, is_left};
+ghost use Rattle.bus_run.specs.Standing.{IsKept, is_end};
 
 use crate::shown::Shown;
 use bus_base::{Event, ProcId};
@@ -66,5 +67,15 @@ pub trait Device: Drop {
             → shown.now ≡ events_shown s rows row.now
             → ((n : Connection) → connection (row.now ∷ rows) ≡ Some n → n.initiator ≢ dev
             → label ≡ process_known s (row.now ∷ rows))
+            → IsOf s rows dev self.old → IsOf s (row.now ∷ rows) dev self.new };
+
+    /// One more row of an end of a connection, which shows nothing; it is no end of that itself. The connection stood
+    /// before the row and stands after it, RST was and is false, and the observer has seen it.
+    fn see_in_others(&mut self, observer: &Observer, row: &Row)
+        requires device { row.now.dev < 8 }
+        requires timely { IsTimely (2 ^ 63) observer.now.view }
+        ensures { (s : ScenarioValue) (rows : List Row) (dev : ℕ) (n : Connection)
+            → AreSeen s (row.now ∷ rows) observer.now → events_shown s rows row.now ≡ []
+            → IsKept rows row.now n → is_end n dev ≡ false
             → IsOf s rows dev self.old → IsOf s (row.now ∷ rows) dev self.new };
 }

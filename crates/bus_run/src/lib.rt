@@ -1,11 +1,12 @@
 //! The run of any devices that do what is due.
 //!
 //! A [`Device`] is told of every row, its own included, and says what it makes next, and when. For each row of a trace
-//! [`run`] asks all eight places of the bus, makes the least of what is due, of the highest ID where several are due at
-//! one time, and tells all devices of it, with the events that the row shows. Nothing else decides: there are no
-//! rounds, no clock and no moments that were set. What a device knows is its own affair, and stands here as a relation
-//! between the device and the rows that it was told of (`IsOf`); `specs/Seams.antt` says what it may rest on beside.
-//! Stands on `scsi_device`, `bus_dialogue`, `bus_due` and `bus_laws`.
+//! [`run`] makes the least of what is due of the eight places of the bus, of the highest ID where several are due at
+//! one time, and tells all devices of it, with the events that the row shows. In a connection it asks only the two ends
+//! as long as only they make rows: what is due of the others stays the same (`specs/Away.antt`). Nothing else decides:
+//! there are no rounds, no clock and no moments that were set. What a device knows is its own affair, and stands here
+//! as a relation between the device and the rows that it was told of (`IsOf`); `specs/Seams.antt` says what it may rest
+//! on beside. Stands on `scsi_device`, `bus_dialogue`, `bus_due` and `bus_laws`.
 //!
 //! Public contract: what [`run`] returns is the prompt trace of the scenario, after which nothing is due, with the
 //! history that its rows tell, where every prompt trace of the scenario ties what devices know to what rows tell
@@ -13,12 +14,15 @@
 //! more, and of rows and steps there are no more than were granted.
 #![tactic(auto)]
 
+mod asking;
+mod away;
 mod device;
 mod faults;
 mod laws;
 mod places;
 mod running;
 mod shown;
+mod standing;
 mod telling;
 mod trace;
 

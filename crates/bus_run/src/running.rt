@@ -17,9 +17,10 @@ ghost use Rattle.bus_run.specs.Seams.{SeamsHold};
 ghost use Rattle.bus_run.specs.Seen.{AreSeen};
 ghost use Rattle.bus_run.specs.Shown.{shown_events, events_shown};
 
+use crate::asking::{next, see_away};
+use crate::away::Away;
 use crate::device::Device;
 use crate::faults::Faults;
-use crate::places::next;
 use crate::shown::Shown;
 use crate::telling::{row_shown, see_all};
 use crate::trace::Trace;
@@ -82,7 +83,7 @@ fn tell<D: Device>(places: &mut [Option<D>], observer: &mut Observer, row: &Row)
 }
 
 /// The run of a scenario by these devices, each in the place of its ID, until nothing is due, in at most so many rows.
-/// Every place that is asked is a step. Only the rows and the history take memory.
+/// Every place is a step for each row. Only the rows and the history take memory.
 pub fn run<D: Device, L: Ledger>(
     alloc: Global,
     scenario: &Scenario,
@@ -121,17 +122,28 @@ pub fn run<D: Device, L: Ledger>(
     let mut trace = Trace::new(alloc);
     let mut observer = Observer::new();
     let mut faults = Faults::new(alloc, scenario.faults.as_slice())?;
+    let mut away: Option<Away> = None;
+    let mut first: Option<Row> = None;
     for _ in 0..most {
         observers_are_timely(&observer);
-        let Some(row) = next(places, &observer, faults.first(), steps) else {
+        next(
+            &mut first,
+            &mut away,
+            places,
+            &observer,
+            faults.first(),
+            steps,
+        );
+        let Some(row) = &first else {
             return Ok(trace);
         };
         if row.time >= END {
             return Err(RunEnd::Unfinished);
         }
-        let shown = tell(places, &mut observer, &row);
+        let shown = tell(places, &mut observer, row);
+        see_away(&mut away, &observer, row.dev);
         faults.see(row.kind);
-        trace.add(&row, shown)?;
+        trace.add(row, shown)?;
     }
     Err(RunEnd::Unfinished)
 }

@@ -1,6 +1,6 @@
 -- Where a process stands as its connection begins.
 use Rattle.std.proofs.Common.{ℕ, ◌≡◌, Bool, true, false, List, [], ◌∷◌, ◌∙◌, refl, Option, Some, None}
-use Rattle.std.specs.Prelude.{if◌then◌else◌, not, ◌&&◌, ◌||◌, ◌==◌, is_some, is_none}
+use Rattle.std.specs.Prelude.{if◌then◌else◌, ◌&&◌, ◌||◌, ◌==◌, is_some}
 use Rattle.bus_base.specs.declared.ProcId.{ProcId}
 use Rattle.disk_array.specs.Processes.{Process, same_id}
 use Rattle.disk_array.specs.Seats.{seat_of, guests_at, current_of}

@@ -1,14 +1,12 @@
 -- While its process gives data the target knows that process.
-use Rattle.std.proofs.Common.{ℕ, ◌≡◌, ◌≤◌, ◌∙◌, ◌==◌, Bool, true, false, List, [], ◌∷◌, refl, sym, length, Option, Some, None}
-use Rattle.std.specs.Prelude.{if◌then◌else◌, not, ◌&&◌, ◌||◌, nat_lt, is_some, is_none, slice_index}
-use Rattle.std.proofs.lemmas.Bool.{eqb-true, and_parts}
+use Rattle.std.proofs.Common.{ℕ, ◌≡◌, ◌≤◌, ◌∙◌, Bool, true, false, List, refl, sym, length, Option, Some, None}
+use Rattle.std.specs.Prelude.{if◌then◌else◌, not, ◌&&◌, ◌||◌, is_some, is_none}
+use Rattle.std.proofs.lemmas.Bool.{and_parts}
 use Rattle.std.proofs.lemmas.List.{take_all}
 use native.Mathlib.Omega.{arith}
 use Rattle.bus_trace.specs.declared.Row.{Row}
 use Rattle.bus_trace.specs.declared.connection.Connection.{Connection}
-use Rattle.cdb_codec.specs.Cdb.{has_group_len, is_len}
-use Rattle.scenario.specs.declared.value.Tag.{Tag}
-use Rattle.scenario.specs.declared.value.Tag.TheVariants as tags
+use Rattle.cdb_codec.specs.Cdb.{has_group_len}
 use Rattle.scenario.specs.Value.{ScenarioValue}
 use Rattle.disk_array.proofs.SoundArrays
 use Rattle.disk_array.specs.Processes.{Process, process_of}
@@ -18,17 +16,15 @@ use Rattle.bus_dialogue.specs.declared.exchange.Cause.{Cause}
 use Rattle.bus_dialogue.specs.declared.exchange.Next.{Next}
 use Rattle.bus_dialogue.specs.declared.exchange.Phase.{Phase}
 use Rattle.bus_dialogue.specs.declared.exchange.Phase.TheVariants as phases
-use Rattle.bus_dialogue.specs.declared.exchange.Said.{Said}
 use Rattle.bus_dialogue.specs.NextPhase.{phase_of}
-use Rattle.bus_due.specs.Faithful.{is_unit, same_tag}
 use Rattle.bus_due.specs.RunState.{RunState, array_of, bus_of, process_item, process_served}
 use Rattle.bus_due.specs.RunSteps.{run_state}
 use Rattle.scsi_device.specs.Heard.{Instructions, instructions, is_block, is_carried, is_command_phase, gives_status, is_heard_process, is_instructed, is_name, is_new, is_answered, is_unanswered, is_opening, is_opening_in, is_placed, moves_data}
 use Rattle.disk_array.specs.ArrayHistory.{reply_in}
 use Rattle.disk_array.specs.Steps.{running_process}
 use Rattle.disk_array.specs.Units.{Array}
-use Rattle.target_course.specs.Courses.{CourseState, name_with, name_of, name_by, name_if, MOST_KEPT, IsTold, IsOfProcess, IsCourse}
-use Rattle.target_course.proofs.CourseAgrees.{IsFront, name_is, bytes_are, tag_is, short_group, group_short}
+use Rattle.target_course.specs.Courses.{CourseState, name_of, name_if, MOST_KEPT, IsTold, IsOfProcess, IsCourse}
+use Rattle.target_course.proofs.CourseAgrees.{IsFront, name_is, bytes_are, group_short}
 use Rattle.disk_target.specs.Bytes.{gives_data}
 use Rattle.bus_base.proofs.Tests.{implied}
 

@@ -5,15 +5,13 @@ use Rattle.bus_base.specs.declared.Event.{Event}
 use Rattle.bus_base.specs.declared.ProcId.{ProcId}
 use Rattle.bus_trace.specs.declared.Row.{Row}
 use Rattle.bus_trace.specs.declared.connection.Connection.{Connection}
-use Rattle.bus_trace.specs.Trace.{bus, drives}
-use Rattle.bus_lines.specs.Handshakes.{handshakes}
+use Rattle.bus_trace.specs.Trace.{bus}
 use Rattle.scenario.specs.declared.value.TargetDef.{TargetDef}
 use Rattle.scenario.specs.Value.{ScenarioValue}
 use Rattle.disk_unit.specs.declared.unit.Reply.{Reply}
 use Rattle.bus_dialogue.specs.declared.exchange.Hearing.{Hearing}
 use Rattle.bus_dialogue.specs.declared.exchange.Leaving.{Leaving}
 use Rattle.bus_dialogue.specs.declared.exchange.Plan.{Plan}
-use Rattle.bus_dialogue.specs.Hearing.{begun}
 use Rattle.bus_dialogue.specs.NextPhase as next_phase
 use Rattle.bus_dialogue.specs.Planning.{plan_after}
 use Rattle.bus_due.specs.Defs.{target_def_of}
@@ -23,16 +21,16 @@ use Rattle.bus_due.specs.Sights.{serving_of}
 use Rattle.bus_due.specs.Tasks.{given_of}
 use Rattle.scsi_device.proofs.Finds.{some_is}
 use Rattle.scsi_device.specs.Heard.{heard}
-use Rattle.target_course.specs.Alike.{AreAlike}
+use Rattle.scsi_device.specs.Lines.{FitsBus}
 use Rattle.target_course.specs.Servings.{serving_with}
-use Rattle.target_course.specs.States.{IsOwnConnection, offering_in}
+use Rattle.target_course.specs.States.{AreAlikeIn, IsOwnConnection, offering_in}
 use Rattle.target_course.specs.Courses.{CourseState, AreToldOf, IsCourseOf, course_after, course_told}
 use Rattle.target_course.specs.Fits.{AreFit}
 use Rattle.target_course.specs.Progress.{ProgressValue, is_phase_left, progress_counted, progress_seen}
 use Rattle.target_course.proofs.CourseRows.{course_offers}
 use Rattle.target_units.specs.Units.{UnitsState}
 use Rattle.disk_target.specs.Knowns.{AreSourcesOf, IsKnownBy, IsKnownIf, IsStill, refreshed, with_plan}
-use Rattle.disk_target.specs.Targets.{TargetValue, IsCourseIf, KnowsRows}
+use Rattle.disk_target.specs.Targets.{TargetValue, IsCourseIf, IsServable, KnowsRows}
 use Rattle.disk_target.specs.declared.known.Known.{Known}
 use Rattle.disk_target.specs.declared.turn.Turn.{Turn}
 use Rattle.target_course.proofs.Fits.{plan_fits}
@@ -53,10 +51,17 @@ away_course s rows dev (Some c) away = λ n own calm. absurd (away n own)
 
 -- What it has to do by it is what the rows have it do.
 pub alike_by : (s : ScenarioValue) (rows : List Row) (n : Connection) (d : TargetDef) (u : UnitsState) (p : ProgressValue) (r : Option Reply) (c : CourseState) (k : Known) → IsKnownBy d u p r c k → IsPlain s rows (run_state s rows) → d.dev < 8 → target_def_of s d.dev ≡ Some d → heard s rows ≡ true → AreToldOf s rows c k.state → IsCourseOf s rows d.dev c → IsOwnConnection rows d.dev n → (bus rows).rst ≡ false
-    → AreAlike (begun rows) (drives rows d.dev).req (bus rows).io (handshakes rows).requests (offering_in rows (serving_with k.serving (given_of s (run_state s rows)))) (offering_in rows (serving_of s (run_state s rows) d.dev))
+    → AreAlikeIn rows d.dev (offering_in rows (serving_with k.serving (given_of s (run_state s rows)))) (offering_in rows (serving_of s (run_state s rows) d.dev))
 alike_by s rows n d u p r c k h plain below line e told course own calm =
-    subst (λ (v : next_phase.Serving). AreAlike (begun rows) (drives rows d.dev).req (bus rows).io (handshakes rows).requests (offering_in rows v) (offering_in rows (serving_of s (run_state s rows) d.dev)))
+    subst (λ (v : next_phase.Serving). AreAlikeIn rows d.dev (offering_in rows v) (offering_in rows (serving_of s (run_state s rows) d.dev)))
     (sym (h.serving (given_of s (run_state s rows)))) (course_offers s rows d c k.state below plain line e told course n own calm)
+
+pub alike_known : (s : ScenarioValue) (rows : List Row) (n : Connection) (v : TargetValue) (c : CourseState) (k : Known) → IsKnownBy v.def v.units v.progress v.reply c k → IsPlain s rows (run_state s rows) → FitsBus s → heard s rows ≡ true → IsServable s rows v.def
+    → KnowsRows s rows v → IsCourseOf s rows v.def.dev c → IsOwnConnection rows v.def.dev n → (bus rows).rst ≡ false → n.initiator ≡ k.from
+    → AreAlikeIn rows v.def.dev (offering_in rows (serving_with k.serving (given_of s (run_state s rows)))) (offering_in rows (serving_of s (run_state s rows) v.def.dev))
+alike_known s rows n v c k x plain fits e able h course own calm from =
+    alike_by s rows n v.def v.units v.progress v.reply c k x plain h.line.below h.line.target_is e
+    (x.told s rows n fits able (sources s rows v h) h.reply_is (course n own calm).ends_are own calm from) course own calm
 
 -- What it has kept.
 pub kept : (v : TargetValue) (was : Option Known) (c : CourseState) (k : Known) → IsKnownIf v.def v.units v.progress v.reply v.course was → v.course ≡ Some c → was ≡ Some k → IsKnownBy v.def v.units v.progress v.reply c k

@@ -29,3 +29,4 @@ pub mod Knowing
 mod AttendedCases
 pub mod Quiet
 pub mod Waiting
+pub mod Needs

@@ -114,7 +114,7 @@ offering_same d p t g h a pulsed bus r e = λ i. record {
 
 -- So it is alike what it was alike with other bytes.
 pub alike_without : (begun pulsed asks io : Bool) (bus : LineSet) (r : Handshakes) (v : Serving) (g h : List ℕ) (w : Offering) → (begun ≡ true → gives_data (phase_of bus) v.plan.next ≡ false)
-    → AreAlike begun asks io r.requests (offering_by (given_too v g) begun pulsed bus r) w → AreAlike begun asks io r.requests (offering_by (given_too v h) begun pulsed bus r) w
+    → AreAlike begun pulsed asks io r.requests (offering_by (given_too v g) begun pulsed bus r) w → AreAlike begun pulsed asks io r.requests (offering_by (given_too v h) begun pulsed bus r) w
 alike_without false pulsed asks io bus r v g h w e x = record { follows = λ z. cc; byte = λ z. absurd cc; to = λ z. absurd cc; wait = λ z. absurd cc }
 alike_without true pulsed asks io bus r v g h w e x =
-    subst (λ (o : Offering). AreAlike true asks io r.requests o w) (offering_same v.def v.plan v.task g h v.arrival pulsed bus r (e refl)) x
+    subst (λ (o : Offering). AreAlike true pulsed asks io r.requests o w) (offering_same v.def v.plan v.task g h v.arrival pulsed bus r (e refl)) x

@@ -1,11 +1,9 @@
--- A row that tells a target nothing leaves what it keeps of all processes, and in a connection of its own of the one that it serves,
--- as it was.
+-- A row that tells a target nothing but a byte of data leaves what it keeps of all processes but for the bytes that came, and in a
+-- connection of its own of the one that it serves, as it was.
 use Rattle.std.proofs.Common.{ℕ, ◌≡◌, ◌<◌, ◌∙◌, ◌⊎◌, inl, inr, Bool, true, false, List, [], ◌∷◌, refl, sym, subst, Option, Some, None}
 use Rattle.std.specs.Prelude.{if◌then◌else◌, ◌&&◌, ◌||◌, ◌==◌, not, is_some}
 use Rattle.std.proofs.lemmas.Bool.{and_parts}
-use Rattle.bus_base.specs.declared.Event.{Event}
-use Rattle.bus_base.specs.declared.ProcId.{ProcId}
-use Rattle.bus_trace.specs.Phases.{changes_phase}
+use Rattle.bus_trace.specs.Phases.{changes_phase, is_message_out}
 use Rattle.bus_trace.specs.Terms.{connection}
 use Rattle.bus_trace.specs.Trace.{bus, drives}
 use Rattle.bus_trace.specs.declared.Row.{Row}
@@ -18,19 +16,19 @@ use Rattle.disk_array.specs.SoundArray.{HasSeats}
 use Rattle.disk_unit.specs.declared.media.Plan.{Plan as UnitPlan}
 use Rattle.disk_unit.specs.declared.unit.Reply.{Reply}
 use Rattle.bus_story.specs.BusState.{row_reading}
-use Rattle.bus_dialogue.specs.Hearing.{begun, hearing}
-use Rattle.bus_dialogue.specs.Planning.{plan_after, plan_in_phase, plan_with_byte}
-use Rattle.bus_dialogue.specs.Exchange.{struck_plan}
-use Rattle.bus_dialogue.specs.NextPhase.{phase_of}
+use Rattle.bus_dialogue.specs.Hearing.{hearing}
+use Rattle.bus_dialogue.specs.Planning.{plan_in_phase, plan_with_byte}
+use Rattle.bus_dialogue.specs.Exchange.{plan_after_message, struck_plan}
 use Rattle.bus_dialogue.specs.declared.exchange.Hearing.{Hearing}
 use Rattle.bus_dialogue.specs.declared.exchange.Leaving.{Leaving}
+use Rattle.bus_dialogue.specs.declared.exchange.Plan.{Plan}
 use Rattle.bus_due.specs.Faithful.{faithful, is_faithful}
 use Rattle.bus_due.specs.Sights.{hearing_of}
 use Rattle.bus_due.specs.Telling.{target_events}
 use Rattle.bus_due.specs.Plain.{IsPlain, AreOfDevices}
 use Rattle.bus_due.specs.RunSteps.{run_state}
 use Rattle.scsi_device.specs.Lines.{IsCommandLine}
-use Rattle.scsi_device.specs.Writes.{brings_byte, is_data_out}
+use Rattle.scsi_device.specs.Writes.{brings_byte}
 use Rattle.target_course.specs.Courses.{CourseState, IsCourse, IsCourseOf, course_after, course_told, events_of_target}
 use Rattle.target_course.specs.Gathered.{AreAllGathered, GatheredValue, IsGatheredOf}
 use Rattle.target_course.specs.Negotiated.{NegotiatedValue, IsNegotiatedOf, IsOpeningIf, met_by_opening, negotiated_seen}
@@ -43,8 +41,8 @@ use Rattle.target_course.proofs.GatheredAll.{all_gathered_on}
 use Rattle.target_course.proofs.NegotiatedRows.{negotiated_goes_on}
 use Rattle.target_course.proofs.ProgressRows.{progress_goes_on}
 use Rattle.target_course.proofs.ReplyRows.{reply_goes_on}
-use Rattle.disk_target.specs.Bytes.{IsOthers, IsOwnIf}
-use Rattle.disk_target.specs.Knowns.{IsQuiet, knows_command}
+use Rattle.disk_target.specs.Bytes.{IsOthers, StandsInOwn}
+use Rattle.disk_target.specs.Knowns.{IsQuiet, hears_message, knows_command}
 use Rattle.target_course.specs.Negotiated.{events_of_row}
 use Rattle.disk_target.specs.Targets.{AreTied, IsCourseIf, KnowsRows, TargetValue}
 use Rattle.disk_target.specs.Turns.{AreAttendedOf}
@@ -89,6 +87,13 @@ gathered_stay s rows row v lines plain w calm d tied unsent g h =
     (λ n own brings. let bad : false ≡ true = sym (unsent n own) ∙ brings in absurd cc)
     (λ n p own brings is. let bad : false ≡ true = sym (unsent n own) ∙ brings in absurd cc) g h
 
+-- In a connection of its own or of others to which no byte comes.
+pub gathered_on : (s : ScenarioValue) (rows : List Row) (row : Row) (v : TargetValue) → ((n : ℕ) (c : CmdDef) → command_at s.commands n ≡ Some c → IsCommandLine s c)
+    → IsPlainFor s → hearing_of (run_state s rows) row (row_reading (run_state s rows).story.bus_state row) ≡ hearing rows row → ((code : ℕ) → row.kind ≡ Fault code → bus (row ∷ rows) ≡ bus rows)
+    → AreOfDevices (row ∷ rows) → AreTied s (row ∷ rows) → IsUnsent rows v.def.dev (hearing rows row) → KnowsRows s rows v → AreAllGathered s (row ∷ rows) v.gathered
+gathered_on s rows row v lines plain w calm d tied unsent g =
+    gathered_stay s rows row v.gathered lines plain w calm d tied (subst (λ (x : ℕ). IsUnsent rows x (hearing rows row)) (sym g.gathered_dev) unsent) g.gathered_are g.all_gathered
+
 -- ---- with whom it has met
 
 -- Either no phase is left, or no opening of its own lasts.
@@ -117,21 +122,28 @@ none_opens s rows v m others h = go v.opening h.opens
 
 -- ---- in a connection of its own: what it has heard, and its reply
 
-course_same : (w : Hearing) (l : Leaving) (c : CourseState) → c.known ≡ true → changes_phase w.change ≡ false → w.crosses ≡ false → w.fault ≡ false → course_after w l c ≡ c
-course_same w l c known changes crosses fault = λ i. record (if known i then c else course_told w c) {
-  plan = if changes i then plan_in_phase w l c.plan
-      else if crosses i then plan_with_byte w c.plan
-      else if fault i && not w.change.before.io then struck_plan c.plan
-      else c.plan;
-}
+plan_stays : (crosses out : Bool) (p q : Plan) → (crosses && out) ≡ false → (if crosses then (if out then p else q) else q) ≡ q
+plan_stays false out p q e = refl
+plan_stays true false p q e = refl
+plan_stays true true p q e = absurd cc
+
+course_same : (w : Hearing) (l : Leaving) (c : CourseState) → c.known ≡ true → changes_phase w.change ≡ false → hears_message w ≡ false → w.fault ≡ false → course_after w l c ≡ c
+course_same w l c known changes unsaid fault =
+    (λ i. record (if known i then c else course_told w c) {
+      plan = if changes i then plan_in_phase w l c.plan
+          else if w.crosses then plan_with_byte w c.plan
+          else if fault i && not w.change.before.io then struck_plan c.plan
+          else c.plan;
+    })
+    ∙ (λ i. record c { plan = plan_stays w.crosses (is_message_out w.change.before) (plan_after_message c.plan w.is_last w.out) c.plan unsaid i })
 
 pub course_on : (s : ScenarioValue) (rows : List Row) (row : Row) (dev : ℕ) (m : Connection) (c : CourseState) → IsPlain s rows (run_state s rows) → IsPlain s (row ∷ rows) (run_state s (row ∷ rows))
     → hearing_of (run_state s rows) row (row_reading (run_state s rows).story.bus_state row) ≡ hearing rows row → connection rows ≡ Some m → (bus rows).rst ≡ false → (m.target == dev) ≡ true
-    → c.known ≡ true → changes_phase (hearing rows row).change ≡ false → (hearing rows row).crosses ≡ false → (hearing rows row).fault ≡ false
+    → c.known ≡ true → changes_phase (hearing rows row).change ≡ false → hears_message (hearing rows row) ≡ false → (hearing rows row).fault ≡ false
     → IsCourseOf s rows dev c → IsCourseOf s (row ∷ rows) dev c
-course_on s rows row dev m c p q w stands calm at known changes crosses fault old n own after =
+course_on s rows row dev m c p q w stands calm at known changes unsaid fault old n own after =
     let l : Leaving = leaving_after s rows m.target in
-    subst (λ (z : CourseState). IsCourse s (row ∷ rows) n z) (course_same (hearing rows row) l c known changes crosses fault)
+    subst (λ (z : CourseState). IsCourse s (row ∷ rows) n z) (course_same (hearing rows row) l c known changes unsaid fault)
     (course_goes_on s rows row m n l c p q w stands own.stands (λ left. refl) (old m (record { stands = stands; own = at }) calm))
 
 pub reply_on : (s : ScenarioValue) (rows : List Row) (row : Row) (dev : ℕ) (m n : Connection) (was : Option Reply) → IsPlain s rows (run_state s rows) → IsPlain s (row ∷ rows) (run_state s (row ∷ rows))
@@ -144,25 +156,24 @@ reply_on s rows row dev m n was p q w seats own calm tied after changes old =
 
 -- ---- the whole
 
--- Its parts after a row that shows nothing in a connection that stands before and after it: what it keeps of all processes.
+-- Its parts after a row that shows nothing in a connection that stands before and after it: what it keeps of all processes but for
+-- the bytes that came.
 pub record Stays (s : ScenarioValue) (rows : List Row) (row : Row) (v : TargetValue) : Type 0 where
   pub progress_is : IsProgressOf s (row ∷ rows) v.progress
   pub negotiated_are : IsNegotiatedOf s (row ∷ rows) v.negotiated
-  pub all_gathered : AreAllGathered s (row ∷ rows) v.gathered
 
-pub stays : (s : ScenarioValue) (rows : List Row) (row : Row) (v : TargetValue) (m n : Connection) → ((i : ℕ) (c : CmdDef) → command_at s.commands i ≡ Some c → IsCommandLine s c)
-    → IsPlainFor s → hearing_of (run_state s rows) row (row_reading (run_state s rows).story.bus_state row) ≡ hearing rows row → ((code : ℕ) → row.kind ≡ Fault code → bus (row ∷ rows) ≡ bus rows)
+pub stays : (s : ScenarioValue) (rows : List Row) (row : Row) (v : TargetValue) (m n : Connection)
+    → IsPlainFor s → hearing_of (run_state s rows) row (row_reading (run_state s rows).story.bus_state row) ≡ hearing rows row
     → ((d : ℕ) → d < 8 → (drives rows d).rst ≡ true → (bus rows).rst ≡ true) → (((d : ℕ) → d < 8 → (drives (row ∷ rows) d).rst ≡ false) → (bus (row ∷ rows)).rst ≡ false)
     → AreOfDevices (row ∷ rows) → AreTied s (row ∷ rows) → connection rows ≡ Some m → connection (row ∷ rows) ≡ Some n → events_of_row s rows row ≡ []
-    → IsUnleft rows v.def.dev (hearing rows row) → IsUnsent rows v.def.dev (hearing rows row) → (is_phase_left (hearing rows row) ≡ false) ⊎ (v.negotiated.opening ≡ None)
+    → IsUnleft rows v.def.dev (hearing rows row) → (is_phase_left (hearing rows row) ≡ false) ⊎ (v.negotiated.opening ≡ None)
     → KnowsRows s rows v → Stays s rows row v
-stays s rows row v m n lines plain w calm on off d tied before after none unleft unsent met g = record {
+stays s rows row v m n plain w on off d tied before after none unleft met g = record {
   progress_is = progress_on s rows row v.progress plain w d tied (subst (λ (x : ℕ). IsUnleft rows x (hearing rows row)) (sym g.progress_dev) unleft) g.progress_is;
   negotiated_are = met_on s rows row v.negotiated m n (plain rows d.1) (plain (row ∷ rows) d) w on off d tied before after none met g.negotiated_are;
-  all_gathered = gathered_stay s rows row v.gathered lines plain w calm d tied (subst (λ (x : ℕ). IsUnsent rows x (hearing rows row)) (sym g.gathered_dev) unsent) g.gathered_are g.all_gathered;
 }
 
--- A row that tells it nothing, in a connection of its own: what it keeps of the process that it serves.
+-- A row that tells it no more than a byte of data, in a connection of its own: what it keeps of the process that it serves.
 pub record Serves (s : ScenarioValue) (rows : List Row) (row : Row) (v : TargetValue) : Type 0 where
   pub all : Stays s rows row v
   pub kept : AreAttendedOf s (row ∷ rows) v.def.dev (record { units = v.units; standing = v.standing })
@@ -172,32 +183,29 @@ pub record Serves (s : ScenarioValue) (rows : List Row) (row : Row) (v : TargetV
 changes_left : (w : Hearing) → changes_phase w.change ≡ false → is_phase_left w ≡ false
 changes_left w changes = λ i. changes i && w.begun
 
-crosses_brings : (w : Hearing) → w.crosses ≡ false → brings_byte w ≡ false
-crosses_brings w crosses = λ i. crosses i && is_data_out (phase_of w.change.before) && not w.change.after.rst
-
 course_if_on : (s : ScenarioValue) (rows : List Row) (row : Row) (dev : ℕ) (m : Connection) (c : Option CourseState) → IsPlain s rows (run_state s rows) → IsPlain s (row ∷ rows) (run_state s (row ∷ rows))
     → hearing_of (run_state s rows) row (row_reading (run_state s rows).story.bus_state row) ≡ hearing rows row → IsOwnConnection rows dev m → (bus rows).rst ≡ false
-    → knows_command c ≡ true → changes_phase (hearing rows row).change ≡ false → (hearing rows row).crosses ≡ false → (hearing rows row).fault ≡ false
+    → knows_command c ≡ true → changes_phase (hearing rows row).change ≡ false → hears_message (hearing rows row) ≡ false → (hearing rows row).fault ≡ false
     → IsCourseIf s rows dev c → IsCourseIf s (row ∷ rows) dev c
-course_if_on s rows row dev m None p q w own calm known changes crosses fault old = absurd cc
-course_if_on s rows row dev m (Some c) p q w own calm known changes crosses fault old = course_on s rows row dev m c p q w own.stands calm own.own known changes crosses fault old
+course_if_on s rows row dev m None p q w own calm known changes unsaid fault old = absurd cc
+course_if_on s rows row dev m (Some c) p q w own calm known changes unsaid fault old = course_on s rows row dev m c p q w own.stands calm own.own known changes unsaid fault old
 
-pub serves : (s : ScenarioValue) (rows : List Row) (row : Row) (v : TargetValue) (before own : Option Connection) → ((i : ℕ) (c : CmdDef) → command_at s.commands i ≡ Some c → IsCommandLine s c)
-    → IsPlainFor s → hearing_of (run_state s rows) row (row_reading (run_state s rows).story.bus_state row) ≡ hearing rows row → ((code : ℕ) → row.kind ≡ Fault code → bus (row ∷ rows) ≡ bus rows)
+pub serves : (s : ScenarioValue) (rows : List Row) (row : Row) (v : TargetValue)
+    → IsPlainFor s → hearing_of (run_state s rows) row (row_reading (run_state s rows).story.bus_state row) ≡ hearing rows row
     → ((d : ℕ) → d < 8 → (drives rows d).rst ≡ true → (bus rows).rst ≡ true) → (((d : ℕ) → d < 8 → (drives (row ∷ rows) d).rst ≡ false) → (bus (row ∷ rows)).rst ≡ false)
-    → HasSeats s → AreOfDevices (row ∷ rows) → AreTied s (row ∷ rows) → IsOwnIf rows v.def.dev before → IsOwnIf (row ∷ rows) v.def.dev own
-    → IsQuiet (hearing rows row) before own v.course (events_of_row s rows row) → KnowsRows s rows v → Serves s rows row v
-serves s rows row v None own lines plain w calm on off seats d tied was stands quiet g = let bad : false ≡ true = quiet.stood in absurd cc
-serves s rows row v (Some m) None lines plain w calm on off seats d tied was stands quiet g = let bad : false ≡ true = quiet.stands in absurd cc
-serves s rows row v (Some m) (Some n) lines plain w calm on off seats d tied was stands quiet g =
+    → HasSeats s → AreOfDevices (row ∷ rows) → AreTied s (row ∷ rows) → StandsInOwn rows row v.def.dev
+    → IsQuiet (hearing rows row) v.course (events_of_row s rows row) → KnowsRows s rows v → Serves s rows row v
+serves s rows row v plain w on off seats d tied at quiet g =
     let p = plain rows d.1 in
     let q = plain (row ∷ rows) d in
+    let m = at.before in
+    let n = at.after in
     let left = changes_left (hearing rows row) quiet.changes in
     record {
-      all = stays s rows row v m n lines plain w calm on off d tied was.0.stands stands.0.stands quiet.empty (λ x o. left) (λ x o. crosses_brings (hearing rows row) quiet.crosses) (inl left) g;
-      kept = stood_on s rows row v.def.dev m (record { units = v.units; standing = v.standing }) was.0.stands
+      all = stays s rows row v m n plain w on off d tied at.own.stands at.stands quiet.empty (λ x o. left) (inl left) g;
+      kept = stood_on s rows row v.def.dev m (record { units = v.units; standing = v.standing }) at.own.stands
           (empty_on s rows row v.def.dev (record { units = v.units; standing = v.standing }) p q seats tied quiet.empty
           (record { dev_is = g.units_dev; kept = record { sound = g.sound; units = g.units_are }; standing = g.standing_is }));
-      course_is = course_if_on s rows row v.def.dev m v.course p q w was.0 was.1 quiet.knows quiet.changes quiet.crosses quiet.fault g.course_is;
-      reply_is = reply_on s rows row v.def.dev m n v.reply p q w seats was.0 was.1 tied stands.0.stands quiet.changes g.reply_is;
+      course_is = course_if_on s rows row v.def.dev m v.course p q w at.own at.calm quiet.knows quiet.changes quiet.unsaid quiet.fault g.course_is;
+      reply_is = reply_on s rows row v.def.dev m n v.reply p q w seats at.own at.calm tied at.stands quiet.changes g.reply_is;
     }

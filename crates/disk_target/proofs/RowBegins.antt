@@ -1,5 +1,5 @@
 -- A connection of a target begins.
-use Rattle.std.proofs.Common.{ℕ, ◌≡◌, ◌<◌, ◌+◌, ◌∙◌, ◌==◌, arith, Bool, true, false, List, [], ◌∷◌, refl, sym, subst, Option, Some, None, ◌⊎◌, inl, inr}
+use Rattle.std.proofs.Common.{ℕ, ◌≡◌, ◌<◌, ◌+◌, ◌∙◌, arith, Bool, true, false, List, ◌∷◌, refl, sym, subst, Option, Some, None, ◌⊎◌, inl, inr}
 use Rattle.std.specs.Prelude.{if◌then◌else◌, ◌&&◌, is_none}
 use Rattle.std.proofs.lemmas.Bool.{and_parts, eqb-true}
 use Rattle.bus_trace.specs.declared.Row.{Row}
@@ -22,6 +22,7 @@ use Rattle.bus_due.specs.RunSteps.{item_if, run_state, served_after}
 use Rattle.bus_due.specs.Wants as due
 use Rattle.bus_due.specs.Wants.{ready_of}
 use Rattle.disk_array.specs.ArrayHistory.{reply_in}
+use Rattle.disk_array.proofs.SeatLookups.{found_target, found_unit}
 use Rattle.scsi_device.specs.Heard.{Instructions, heard, instructions, is_beginning, is_heard, is_heard_after, is_heard_on, is_heard_row, is_new, is_of_scenario, is_uncounted}
 use Rattle.target_units.proofs.UnitSteps.{own_unit}
 use Rattle.target_units.proofs.UnitTellings.{own_number}
@@ -62,22 +63,10 @@ same_current : (x : Option UnitState) → due.current_of x ≡ Seats.current_of 
 same_current None = refl
 same_current (Some u) = refl
 
-numbers_found : (us : List UnitState) (dev n : ℕ) (u : UnitState) → unit_state_at us dev n ≡ Some u → (u.target ≡ dev) × (u.unit ≡ n)
-numbers_found [] dev n u g = absurd cc
-numbers_found (v ∷ us) dev n u g = by (v.target == dev && v.unit == n) refl g (λ h. numbers_found us dev n u h)
-  where
-    by : (y : Bool) → (v.target == dev && v.unit == n) ≡ y → (if y then Some v else unit_state_at us dev n) ≡ Some u → (unit_state_at us dev n ≡ Some u → (u.target ≡ dev) × (u.unit ≡ n)) → (u.target ≡ dev) × (u.unit ≡ n)
-    by true h g rest =
-        let both = and_parts (v.target == dev) (v.unit == n) h in
-        let same : v ≡ u = cc in
-        ((λ i. (sym same i).target) ∙ eqb-true v.target dev both.0, (λ i. (sym same i).unit) ∙ eqb-true v.unit n both.1)
-    by false h g rest = rest g
-
 own_running : (s : ScenarioValue) (a : Array) (dev n : ℕ) → IsSound s a → (x : Option UnitState) → unit_state_at a.units dev n ≡ x → (r : RunningProcess) → Seats.current_of x ≡ Some r → IsOwnRunning s dev n (Some r)
 own_running s a dev n sound None e r f = absurd cc
 own_running s a dev n sound (Some u) e r f =
-    let at = numbers_found a.units dev n u e in
-    subst (λ (z : ℕ). IsOwnRunning s z n (Some r)) at.0 (subst (λ (z : ℕ). IsOwnRunning s u.target z (Some r)) at.1 (subst (λ (c : Option RunningProcess). IsOwnRunning s u.target u.unit c) f (own_unit s a.units dev n u sound.units e).current))
+    subst (λ (z : ℕ). IsOwnRunning s z n (Some r)) (found_target a.units dev n u e) (subst (λ (z : ℕ). IsOwnRunning s u.target z (Some r)) (found_unit a.units dev n u e) (subst (λ (c : Option RunningProcess). IsOwnRunning s u.target u.unit c) f (own_unit s a.units dev n u sound.units e).current))
 
 at_one : (s : ScenarioValue) (a : Array) (times : List ℕ) (seek dev n : ℕ) (q : wants.Ready) → n < 8 → IsSound s a → due.ready_at a times seek dev n ≡ Some q → IsReadyAt s a dev q.process
 at_one s a times seek dev n q small sound e =

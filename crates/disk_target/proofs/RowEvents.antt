@@ -1,6 +1,6 @@
 -- The units of a target and the process of its connection after a row.
-use Rattle.std.proofs.Common.{ℕ, ◌≡◌, Bool, true, false, List, [], ◌∷◌, refl, sym, subst, Option, Some, None}
-use Rattle.std.specs.Prelude.{◌&&◌, is_some}
+use Rattle.std.proofs.Common.{ℕ, ◌≡◌, true, List, [], ◌∷◌, refl, sym, subst, Option, Some, None}
+use Rattle.std.specs.Prelude.{is_some}
 use Rattle.bus_base.specs.declared.Event.{Event}
 use Rattle.bus_base.specs.declared.Event.TheVariants as events
 use Rattle.scenario.specs.Value.{ScenarioValue}
@@ -18,7 +18,6 @@ use Rattle.disk_target.specs.declared.standing.Standing.TheVariants as standings
 use Rattle.disk_target.specs.declared.standing.Served.{Served}
 use Rattle.disk_target.specs.Standings.{HasBlock}
 use Rattle.disk_target.specs.Processes.{ProcessesState, AreProcessesAt, AreProcessesAfter, AreSettledAt, IsOwnEvent, AreOwnEvents, times_of_events}
-use Rattle.bus_base.proofs.Tests.{and_second}
 
 -- One event more.
 pub one_more : (s : ScenarioValue) (x : Option Array) (it : Event) (P : Array → Type 0) → HasSeats s → IsSound s (or_start s x) → is_some (array_step s it x) ≡ true → ((b : Array) → IsStep s it (or_start s x) b → P b) → P (or_start s (array_step s it x)) × IsSound s (or_start s (array_step s it x))

@@ -174,9 +174,6 @@ unanswered s rows n p front is begins may (giving g none) =
 
 -- ---- the events
 
-good_is : (x : ℕ) → x ≡ GOOD → (x == GOOD) ≡ true
-good_is x e = λ i. e i == GOOD
-
 pub has_sent : (a : Array) (p : Process) (dev unit : ℕ) (sent : List ℕ) → p.target ≡ dev → p.unit ≡ unit → ((reply_now a p).status ≡ GOOD → sent ≡ p.sent) → HasSent (seat_of a dev unit) p sent
 has_sent a p dev unit sent at in_unit f good = f ((λ i. (sym (reply_same a dev unit p.initiator p.cdb p at in_unit refl refl) i).status) ∙ good)
 

@@ -11,7 +11,7 @@ use Rattle.disk_array.specs.Steps.{running_if, guests_with_reply, current_with_r
 use Rattle.disk_array.specs.Seats.{unit_mapped, unit_with_choice, unit_with_reply, unit_with_contents}
 use Rattle.disk_unit.proofs.LiveCommands.{id_self, same_id_is}
 use Rattle.disk_target.specs.Standings.{waits_in, is_inside}
-use Rattle.bus_base.proofs.Tests.{or_true, or_false}
+use Rattle.bus_base.proofs.Tests.{or_true}
 
 -- ---- who waits
 

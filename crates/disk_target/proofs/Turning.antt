@@ -61,7 +61,7 @@ use Rattle.disk_target.proofs.RowOwn.{Knows, knows}
 use Rattle.disk_target.proofs.RowServed.{block_few, may_turn}
 use Rattle.disk_target.proofs.RowShapes.{ShowsIn, nothing, turned, lost, aborted, ended, row_shows, shown_in}
 use Rattle.disk_target.proofs.Data.{served_of}
-use Rattle.bus_base.proofs.Tests.{implied}
+use Rattle.bus_base.proofs.Tests.{implied, wrong}
 use Rattle.target_course.specs.Negotiated.{events_of_row}
 use Rattle.target_course.proofs.GatheredSteps.{data_out_is}
 
@@ -311,12 +311,9 @@ byte_in_calm s rows row n p h e stands brings =
     let two = and_parts (not (brings_byte w) || is_written_byte s k all (process_served s k)) (not (ends_run k w l) || is_written_run s k all (process_served s k) (phase_of (bus_of k))) on in
     (λ i. (sym p.bus i).rst) ∙ byte_calm s k all (process_served s k) (implied (brings_byte w) (is_written_byte s k all (process_served s k)) two.0 ((λ i. brings_byte (h i)) ∙ brings))
 
-never : {A : Type 0} (x : Bool) → x ≡ true → x ≡ false → A
-never x e f = let bad : true ≡ false = sym e ∙ f in absurd cc
-
 no_course : (s : ScenarioValue) (rows : List Row) (row : Row) (d : TargetDef) (c : Option CourseState) (t : Turn) → ((n : Connection) → IsOwnConnection rows d.dev n → (bus rows).rst ≡ true) → IsTurnIf s rows row d c t
 no_course s rows row d None t away = away
-no_course s rows row d (Some x) t away = λ n own calm. never (bus rows).rst (away n own) calm
+no_course s rows row d (Some x) t away = λ n own calm. wrong (sym (away n own) ∙ calm)
 
 no_leaving : (s : ScenarioValue) (rows : List Row) (row : Row) (d : TargetDef) (t : Turn) → IsUncounted t.leaving → ((row_reading (run_state s rows).story.bus_state row).change.before.rst ≡ false → ⊥) → (is_message_in (row_reading (run_state s rows).story.bus_state row).change.before ≡ true → IsUncounted (leaving s (run_state s rows) d.dev))
     → (((row_reading (run_state s rows).story.bus_state row).change.before.rst ≡ false) × ((row_reading (run_state s rows).story.bus_state row).change.after.rst ≡ false)) ⊎ (is_message_in (row_reading (run_state s rows).story.bus_state row).change.before ≡ true)
@@ -335,10 +332,10 @@ no_turn_so s rows row d c t p q h tied none away =
           let both = and_parts (changes_phase (hearing rows row).change) (hearing rows row).begun left in
           let turns : changes_phase r.change ≡ true = (λ i. changes_phase (h i).change) ∙ both.0 in
           let stands : is_some r.next ≡ true = λ i. is_some ((q.connection ∙ after) i) in
-          no_leaving s rows row d t none (λ still. never (bus rows).rst (away n own) ((λ i. (sym p.bus i).rst) ∙ still)) (λ in_message. uncounted_in (serving_of s k d.dev) k.exchange.begun (bus_of k) ((λ i. (h i).begun) ∙ both.1) in_message)
+          no_leaving s rows row d t none (λ still. wrong (sym (away n own) ∙ (λ i. (sym p.bus i).rst) ∙ still)) (λ in_message. uncounted_in (serving_of s k d.dev) k.exchange.begun (bus_of k) ((λ i. (h i).begun) ∙ both.1) in_message)
           (calm_turn s rows row n tied.attended_are (p.connection ∙ own.stands) stands turns);
-      hears = λ n own calm. never (bus rows).rst (away n own) calm;
-      sends = λ n own brings. never (bus rows).rst (away n own) (byte_in_calm s rows row n p h tied.written_are own.stands brings);
-      at_unit = λ n x own brings is. never (bus rows).rst (away n own) (byte_in_calm s rows row n p h tied.written_are own.stands brings);
-      shows = λ n own calm after. never (bus rows).rst (away n own) calm;
+      hears = λ n own calm. wrong (sym (away n own) ∙ calm);
+      sends = λ n own brings. wrong (sym (away n own) ∙ byte_in_calm s rows row n p h tied.written_are own.stands brings);
+      at_unit = λ n x own brings is. wrong (sym (away n own) ∙ byte_in_calm s rows row n p h tied.written_are own.stands brings);
+      shows = λ n own calm after. wrong (sym (away n own) ∙ calm);
     }

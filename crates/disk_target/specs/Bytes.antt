@@ -1,9 +1,10 @@
 -- What a target decides by in a connection of its own, with the bytes that its process gives.
-use Rattle.std.specs.Prelude.{ℕ, ◌≡◌, ◌==◌, ◌*◌, ◌-◌, ◌^◌, min, if◌then◌else◌, ◌&&◌, not, Bool, true, false, List, Option, Some, None}
+use Rattle.std.specs.Prelude.{ℕ, ◌≡◌, ◌==◌, ◌*◌, ◌-◌, ◌^◌, min, if◌then◌else◌, ◌&&◌, not, Bool, true, false, List, ◌∷◌, Option, Some, None}
 use Rattle.bus_trace.specs.declared.Row.{Row}
+use Rattle.bus_trace.specs.declared.changes.Change.{Change}
 use Rattle.bus_trace.specs.declared.connection.Connection.{Connection}
 use Rattle.bus_trace.specs.Terms.{connection}
-use Rattle.bus_trace.specs.Trace.{bus, drives}
+use Rattle.bus_trace.specs.Trace.{bus}
 use Rattle.bus_lines.specs.Handshakes.{handshakes}
 use Rattle.cdb_codec.specs.Cdb.{command_of}
 use Rattle.scenario.specs.declared.value.TargetDef.{TargetDef}
@@ -19,9 +20,8 @@ use Rattle.bus_due.specs.RunSteps.{run_state}
 use Rattle.bus_due.specs.Sights.{serving_of}
 use Rattle.bus_due.specs.Tasks.{blocks_in}
 use Rattle.scsi_device.specs.Heard.{goes_on}
-use Rattle.target_course.specs.Alike.{AreAlike}
 use Rattle.target_course.specs.Servings.{serving_with, AreBytesOf}
-use Rattle.target_course.specs.States.{IsOwnConnection, offering_in}
+use Rattle.target_course.specs.States.{AreAlikeIn, IsOwnConnection, offering_in}
 use Rattle.target_course.specs.declared.serving.DataBytes.{DataBytes}
 use Rattle.target_course.specs.declared.serving.Serving.{Serving}
 
@@ -72,8 +72,21 @@ abbrev pub IsOthersIf : List Row → ℕ → Option Connection → Type 0
 IsOthersIf rows dev None = Unit {0}
 IsOthersIf rows dev (Some n) = IsOthers rows dev n
 
+-- A connection of its own stood before a row, while RST was false, and one stands after it.
+abbrev pub are_own : Option Connection → Option Connection → Change → ℕ → Bool
+are_own (Some m) (Some n) c dev = (m.target == dev) && not c.before.rst
+are_own (Some m) None c dev = false
+are_own None after c dev = false
+
+pub record StandsInOwn (rows : List Row) (row : Row) (dev : ℕ) : Type 0 where
+  pub before : Connection
+  pub after : Connection
+  pub own : IsOwnConnection rows dev before
+  pub calm : (bus rows).rst ≡ false
+  pub stands : connection (row ∷ rows) ≡ Some after
+
 -- By this and these bytes it does what the rows have it do.
 pub record DecidesAs (s : ScenarioValue) (rows : List Row) (t : TargetDef) (v : Serving) (b : DataBytes) : Type 0 where
   pub given : List ℕ
   pub bytes_are : AreBytesOf (serving_with v given) (leaving_by (serving_with v given) (begun rows) (bus rows)) (handshakes rows).requests b
-  pub alike : (n : Connection) → IsOwnConnection rows t.dev n → (bus rows).rst ≡ false → AreAlike (begun rows) (drives rows t.dev).req (bus rows).io (handshakes rows).requests (offering_in rows (serving_with v given)) (offering_in rows (serving_of s (run_state s rows) t.dev))
+  pub alike : (n : Connection) → IsOwnConnection rows t.dev n → (bus rows).rst ≡ false → AreAlikeIn rows t.dev (offering_in rows (serving_with v given)) (offering_in rows (serving_of s (run_state s rows) t.dev))

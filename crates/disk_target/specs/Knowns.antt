@@ -1,10 +1,10 @@
 -- What a target decides by in a connection of its own, as long as neither its units nor what it has heard of the process
 -- change.
-use Rattle.std.specs.Prelude.{ℕ, ◌≡◌, ◌<◌, Bool, true, false, List, [], length, is_some, Option, Some, None}
+use Rattle.std.specs.Prelude.{ℕ, ◌≡◌, ◌<◌, ◌&&◌, Bool, true, false, List, [], length, is_some, Option, Some, None}
 use Rattle.bus_base.specs.declared.Event.{Event}
 use Rattle.bus_trace.specs.declared.Row.{Row}
 use Rattle.bus_trace.specs.declared.connection.Connection.{Connection}
-use Rattle.bus_trace.specs.Phases.{changes_phase}
+use Rattle.bus_trace.specs.Phases.{changes_phase, is_message_out}
 use Rattle.bus_trace.specs.Trace.{bus}
 use Rattle.scenario.specs.declared.value.TargetDef.{TargetDef}
 use Rattle.scenario.specs.Value.{ScenarioValue}
@@ -76,15 +76,16 @@ refreshed None course = None
 refreshed (Some k) None = Some k
 refreshed (Some k) (Some c) = Some (with_plan k c)
 
--- ---- a row that tells a target nothing at all
+-- ---- a row that tells a target no more than a byte of data
 
--- In a connection of its own, before and after the row, no byte crosses, no phase changes, no fault strikes, and nothing is shown;
--- its command is known.
-pub record IsQuiet (w : Hearing) (before own : Option Connection) (course : Option CourseState) (shown : List Event) : Type 0 where
-  pub stood : is_some before ≡ true
-  pub stands : is_some own ≡ true
+abbrev pub hears_message : Hearing → Bool
+hears_message w = w.crosses && is_message_out w.change.before
+
+-- In a connection of its own, before and after the row, no byte of a message comes to it, no phase changes, no fault strikes, and
+-- nothing is shown; its command is known.
+pub record IsQuiet (w : Hearing) (course : Option CourseState) (shown : List Event) : Type 0 where
   pub knows : knows_command course ≡ true
   pub empty : shown ≡ []
   pub changes : changes_phase w.change ≡ false
-  pub crosses : w.crosses ≡ false
+  pub unsaid : hears_message w ≡ false
   pub fault : w.fault ≡ false

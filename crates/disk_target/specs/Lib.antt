@@ -6,3 +6,4 @@ pub mod Targets
 pub mod Turns
 pub mod Knowns
 pub mod Waits
+pub mod Needs

@@ -10,8 +10,6 @@ use Rattle.disk_array.specs.ArrayHistory.{reply_in}
 use Rattle.disk_array.specs.Seats.{seat_of, is_elsewhere}
 use Rattle.disk_array.specs.Units.{Array}
 use Rattle.bus_trace.specs.declared.Row.{Row}
-use Rattle.bus_story.specs.BusState.{row_reading}
-use Rattle.bus_story.specs.HistoryEvents.{row_events_by}
 use Rattle.bus_due.specs.RunState.{or_start, array_of}
 use Rattle.bus_due.specs.RunSteps.{current_times_after, run_state}
 use Rattle.disk_array.specs.SoundArray.{IsSound}
@@ -21,7 +19,6 @@ use Rattle.disk_target.specs.declared.standing.Standing.{Standing}
 use Rattle.disk_target.specs.declared.standing.Standing.TheVariants as standings
 use Rattle.disk_target.specs.declared.standing.Served.{Served}
 use Rattle.disk_target.specs.Standings.{IsStanding, HasBlock, is_guest}
-use Rattle.target_course.specs.Negotiated.{events_of_row}
 
 pub record ProcessesState : Type 0 where
   pub units : UnitsState

@@ -22,6 +22,7 @@ use Rattle.bus_due.specs.Tasks.{given_of, size_of}
 use Rattle.scsi_device.specs.Heard.{is_opening_in}
 use Rattle.target_course.specs.Courses.{CourseState, events_of_target, name_of, serving_by, AreToldOf}
 use Rattle.scsi_device.specs.Lines.{FitsBus, IsTargetLine}
+use Rattle.scsi_device.specs.Writes.{brings_byte}
 use Rattle.target_course.specs.Gathered.{GatheredValue, IsGatheredOf, AreAllGathered, IsSentSo, IsAtUnit}
 use Rattle.target_course.specs.Negotiated.{IsHeardSo, events_of_row}
 use Rattle.target_course.specs.Progress.{IsLeftSo}
@@ -30,6 +31,7 @@ use Rattle.target_course.specs.Shown.{shown_list}
 use Rattle.target_course.specs.States.{IsOwnConnection}
 use Rattle.target_course.specs.declared.course.ProcessState.{ProcessState}
 use Rattle.disk_target.specs.declared.turn.Abort.{Abort}
+use Rattle.disk_target.specs.declared.turn.Sent.{Sent}
 use Rattle.disk_target.specs.declared.turn.Turn.{Turn}
 use Rattle.disk_target.specs.Bytes.{taken_by}
 use Rattle.disk_target.specs.Processes.{ProcessesState, AreKeptOf}
@@ -98,6 +100,21 @@ IsTurnIf s rows row d (Some c) t = (n : Connection) → IsOwnConnection rows d.d
 pub record IsTurnShown (s : ScenarioValue) (rows : List Row) (row : Row) (n : Connection) (t : Turn) : Type 0 where
   pub shows : shown_list t.shown ≡ events_of_target s rows row n
   pub outlook : IsOutlookAt s rows (shown_list t.shown) t.plan
+
+-- A byte of DATA OUT that comes with the row is of this process, unit and place.
+pub record IsSentOf (s : ScenarioValue) (rows : List Row) (row : Row) (dev : ℕ) (x : Sent) : Type 0 where
+  pub sends : IsSentSo s rows dev (hearing rows row) x.process x.place
+  pub at_unit : IsAtUnit s rows dev (hearing rows row) x.unit
+
+-- Or none comes.
+abbrev pub IsSentIf : ScenarioValue → List Row → Row → ℕ → Option Sent → Type 0
+IsSentIf s rows row dev None = brings_byte (hearing rows row) ≡ false
+IsSentIf s rows row dev (Some x) = IsSentOf s rows row dev x
+
+-- With it all is gathered that came.
+pub record GathersOn (s : ScenarioValue) (rows : List Row) (row : Row) (g : GatheredValue) : Type 0 where
+  pub gathered : IsGatheredOf s g
+  pub all : AreAllGathered s (row ∷ rows) g
 
 -- Before this row it is as the parts of a target want it.
 pub record IsTurnOf (s : ScenarioValue) (rows : List Row) (row : Row) (d : TargetDef) (c : Option CourseState) (t : Turn) : Type 0 where

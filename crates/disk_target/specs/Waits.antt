@@ -1,21 +1,15 @@
 -- The target of a connection waits for ACK to follow REQ; what it does by REQ and ACK.
 use Rattle.std.specs.Prelude.{◌≡◌, Bool, true, false, not, ◌&&◌, List, Option, None}
 use Rattle.bus_trace.specs.declared.Row.{Row}
-use Rattle.bus_trace.specs.declared.connection.Connection.{Connection}
-use Rattle.bus_trace.specs.Trace.{bus, drives}
-use Rattle.bus_lines.specs.Handshakes.{handshakes}
 use Rattle.bus_reactions.specs.declared.due.Due.{Due}
-use Rattle.bus_dialogue.specs.Hearing.{begun}
-use Rattle.bus_dialogue.specs.NextPhase.{Serving}
 use Rattle.bus_due.specs.Own.{Own}
 use Rattle.bus_due.specs.RunSteps.{run_state}
 use Rattle.bus_due.specs.Sights.{serving_of}
 use Rattle.scenario.specs.declared.value.TargetDef.{TargetDef}
 use Rattle.scenario.specs.Value.{ScenarioValue}
 use Rattle.scsi_device.specs.Told.{Told, told, pace_of}
-use Rattle.target_course.specs.Alike.{AreAlike}
 use Rattle.target_course.specs.Dues.{plain_by}
-use Rattle.target_course.specs.States.{IsOwnConnection, TargetState, offering_in}
+use Rattle.target_course.specs.States.{TargetState}
 
 -- Byte by byte, while REQ is true and ACK false, or the other way round, it does nothing, whatever it has to do in the phase
 -- (6.1.5.1).
@@ -36,8 +30,7 @@ drives_pulse req begun pulsed = req && (begun && pulsed)
 abbrev pub is_in_pulse : Told → Bool
 is_in_pulse t = drives_pulse t.lines.req t.begun (pace_of t None).pulsed
 
--- By this and by its own times it does this by REQ and ACK, and what it decides by tells no other than the rows.
-pub record DoesAs (s : ScenarioValue) (rows : List Row) (t : TargetDef) (own : Own) (plain : Option Due) : Type 0 where
-  pub serving : Serving
-  pub alike : (n : Connection) → IsOwnConnection rows t.dev n → (bus rows).rst ≡ false → AreAlike (begun rows) (drives rows t.dev).req (bus rows).io (handshakes rows).requests (offering_in rows serving) (offering_in rows (serving_of s (run_state s rows) t.dev))
-  pub does : (i : TargetState) → i.own ≡ own → i.serving ≡ serving → plain ≡ plain_by t (told rows t.dev) i
+-- By its own times it does this by REQ and ACK, as the rows have it do.
+abbrev pub DoesAs : ScenarioValue → List Row → TargetDef → Own → Option Due → Type 0
+DoesAs s rows t own plain =
+    (i : TargetState) → i.own ≡ own → i.serving ≡ serving_of s (run_state s rows) t.dev → plain ≡ plain_by t (told rows t.dev) i

@@ -1,20 +1,24 @@
 //! What a target decides by, and the bytes that its process gives.
-ghost use Rattle.std.specs.Prelude.{◌≡◌, ◌<◌, ◌*◌, ◌-◌, ◌^◌, min, ◌∷◌, List, Some};
+ghost use Rattle.std.specs.Prelude.{◌≡◌, ◌<◌, ◌*◌, ◌-◌, ◌^◌, ◌&&◌, min, ◌∷◌, true, List, Some};
 ghost use Rattle.bus_trace.specs.declared.Row.{Row};
 ghost use Rattle.bus_trace.specs.Terms.{connection};
+ghost use Rattle.bus_trace.specs.Trace.{bus};
 ghost use Rattle.bus_lines.specs.BusView.{IsBusViewOf};
+ghost use Rattle.bus_dialogue.specs.Hearing.{begun};
+ghost use Rattle.bus_dialogue.specs.NextPhase.{phase_of};
+ghost use Rattle.bus_dialogue.specs.Observer.{IsObserverOf};
 ghost use Rattle.target_course.specs.Courses.{name_of};
 ghost use Rattle.target_course.specs.States.{IsReadyWithin};
 ghost use Rattle.target_course.specs.declared.course.Name.{Name as NameValue};
-ghost use Rattle.disk_target.specs.Bytes.{status_in, blocks_of, taken_by, gives_data, own_in, IsOwnIf, IsOthersIf};
+ghost use Rattle.disk_target.specs.Bytes.{status_in, blocks_of, taken_by, gives_data, own_in, are_own, IsOwnIf, IsOthersIf, StandsInOwn};
 
 use bus_base::Dev;
-use bus_dialogue::{Next, Phase};
+use bus_dialogue::{Next, Observer, Phase};
 use bus_lines::BusView;
-use bus_trace::Connection;
+use bus_trace::{Change, Connection};
 use cdb_codec::{Command, blocks_moved, from_cdb};
 use disk_unit::Reply;
-use target_course::{Course, DataBytes, Serving};
+use target_course::{Course, DataBytes, Serving, phase_of};
 use target_units::Ready;
 
 /// What a target decides by in a connection of its own, with the bytes that its process gives.
@@ -73,6 +77,15 @@ pub fn gives_data(phase: Phase, next: Next) -> bool
     }
 }
 
+/// The same for the phase that stands, of a connection in which it has heard this; false before the first phase.
+pub fn gives_now(observer: &Observer, course: &Course) -> bool
+    ensures { (rows : List Row) → IsObserverOf rows observer.now
+        → result ≡ (begun rows && gives_data (phase_of (bus rows)) course.now.plan.next) }
+{
+    let gives = gives_data(phase_of(observer.view().bus()), course.plan().next);
+    observer.begun() && gives
+}
+
 /// The connection that stands, where this is its target and RST is false.
 pub fn own_connection(view: &BusView, dev: Dev) -> Option<Connection>
     ensures value { result ≡ own_in view.now.connection view.now.lines.present.rst dev }
@@ -115,17 +128,29 @@ pub fn other_connection(view: &BusView, dev: Dev) -> Option<Connection>
     }
 }
 
-/// The connection that stood before the last row, where this was not its target and RST was false.
-pub fn other_before(view: &BusView, dev: Dev) -> Option<Connection>
-    ensures { (rows : List Row) (row : Row) → IsBusViewOf (row ∷ rows) view.now → IsOthersIf rows dev result }
+// These connections stood before a row that changed this, and stand after it.
+fn are_own(
+    before: &Option<Connection>,
+    after: &Option<Connection>,
+    change: &Change,
+    dev: Dev,
+) -> bool
+    ensures { result ≡ are_own before.now after.now change.now dev }
+{
+    match (before, after) {
+        (Some(before), Some(_)) => before.target.get() == dev && !change.before.rst(),
+        _ => false,
+    }
+}
+
+/// Whether a connection stood before the last row, where this was its target and RST was false, and one stands after
+/// it.
+pub fn stands_in_own(view: &BusView, dev: Dev) -> bool
+    ensures { (rows : List Row) (row : Row) → IsBusViewOf (row ∷ rows) view.now → result ≡ true
+        → StandsInOwn rows row dev }
 {
     let effect = view.effect();
-    match effect.before {
-        Some(connection) if connection.target.get() != dev && !effect.change.before.rst() => {
-            Some(connection)
-        }
-        _ => None,
-    }
+    are_own(&effect.before, &effect.after, &effect.change, dev)
 }
 
 /// The unit of the process of a connection, once that is named; 0 before.

@@ -16,13 +16,13 @@ ghost use Rattle.target_course.specs.Shown.{shown_list};
 ghost use Rattle.target_units.specs.Seated.{reply_told};
 ghost use Rattle.target_units.specs.Units.{reply_at, unit_in};
 ghost use Rattle.disk_target.specs.Bytes.{taken_by};
-ghost use Rattle.disk_target.specs.Knowns.{AreSourcesOf, IsKnownBy, IsKnownIf, IsQuiet, IsStill, knows_command, refreshed};
+ghost use Rattle.disk_target.specs.Knowns.{AreSourcesOf, IsKnownBy, IsKnownIf, IsQuiet, IsStill, hears_message, knows_command, refreshed};
 
 use crate::bytes::{status_in, taken_by, unit_named};
 use crate::turn::Turn;
 use bus_base::{Dev, Event};
 use bus_dialogue::Hearing;
-use bus_trace::{Connection, changes_phase};
+use bus_trace::{Connection, changes_phase, is_message_out};
 use disk_unit::{Plan, Reply};
 use scenario::TargetDef;
 use scsi_device::scenarios_fit_the_bus;
@@ -150,24 +150,22 @@ pub fn is_still(
         && !is_phase_left(hearing)
 }
 
-/// Whether a row tells a target nothing at all: the connection of its own stands before and after it, the command is
-/// known, no byte crosses, no phase changes, no fault strikes, and nothing is shown.
-pub fn is_quiet(
-    hearing: &Hearing,
-    before: Option<Connection>,
-    own: Option<Connection>,
-    course: &Option<Course>,
-    shown: &[Event],
-) -> bool
-    ensures { result ≡ true → IsQuiet hearing.now before own course.now shown.now }
+fn hears_message(hearing: &Hearing) -> bool
+    ensures { result ≡ hears_message hearing.now }
 {
-    before.is_some()
-        && own.is_some()
-        && knows_command(course)
-        && shown.is_empty()
-        && !hearing.crosses
-        && !hearing.fault
+    hearing.crosses && is_message_out(hearing.change.before)
+}
+
+/// Whether a row tells a target no more than a byte of data, where a connection of its own stands before and after it:
+/// no byte of a message comes, no phase changes, no fault strikes, nothing is shown, and the command is known.
+pub fn is_quiet(hearing: &Hearing, course: &Option<Course>, shown: &[Event]) -> bool
+    ensures { result ≡ true → IsQuiet hearing.now course.now shown.now }
+{
+    shown.is_empty()
         && !changes_phase(&hearing.change)
+        && !hears_message(hearing)
+        && !hearing.fault
+        && knows_command(course)
 }
 
 // The plan has gone on.

@@ -1,47 +1,21 @@
 // What a target does next in a connection of others.
-ghost use Rattle.std.specs.Prelude.{ℕ, ◌≡◌, ◌<◌, ◌≤◌, ◌==◌, false, List};
+ghost use Rattle.std.specs.Prelude.{◌≡◌, ◌<◌, ◌≤◌, List};
 ghost use Rattle.bus_trace.specs.declared.Row.{Row};
-ghost use Rattle.bus_trace.specs.Trace.{drives};
-ghost use Rattle.bus_lines.specs.BusView.{IsBusViewOf};
 ghost use Rattle.bus_dialogue.specs.Observer.{IsObserverOf};
 ghost use Rattle.bus_due.specs.Next.{due};
 ghost use Rattle.bus_due.specs.Plain.{AreOfDevices};
 ghost use Rattle.bus_due.specs.RunSteps.{run_state};
-ghost use Rattle.connect.specs.Ready as link;
 ghost use Rattle.scenario.specs.Value.{ScenarioValue};
 ghost use Rattle.target_course.specs.States.{TargetState, IsNoInitiator, IsTargetLine, IsTargetOf};
 ghost use Rattle.bus_trace.specs.declared.connection.Connection.{Connection};
 ghost use Rattle.disk_target.specs.Bytes.{IsOthers};
 
-use bus_base::Ns;
 use bus_dialogue::Observer;
-use bus_lines::BusView;
-use bus_reactions::{Due, Myself};
+use bus_reactions::Due;
 use connect::due_with_reset;
 use scenario::TargetDef;
 use scsi_device::Itself;
-use target_course::dues_are_of_targets;
-
-/// What a target of this line is, by what the view shows of it.
-pub fn myself(def: &TargetDef, itself: &Itself, view: &BusView) -> Myself
-    requires below { def.now.dev < 8 }
-    requires latency { def.now.latency ≤ 100 }
-    ensures exact { (rows : List Row) → IsBusViewOf rows view.now
-        → result ≡ record {
-          dev = def.now.dev;
-          latency = def.now.latency;
-          own = drives rows def.now.dev;
-          since = itself.now.own.row;
-        } }
-    ensures ready { link.IsReady result }
-{
-    Myself {
-        dev: def.dev,
-        latency: Ns::from(def.latency),
-        own: view.drives(def.dev),
-        since: itself.own().row(),
-    }
-}
+use target_course::{dues_are_of_targets, myself};
 
 /// What a target of this line does next in a connection of others, while RST is false: it drives RST, or does nothing
 /// (6.2.2).

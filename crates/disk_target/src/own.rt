@@ -1,46 +1,29 @@
 // What a target does next in a connection of its own.
-ghost use Rattle.std.specs.Prelude.{ℕ, ◌≡◌, ◌<◌, ◌≤◌, ◌^◌, true, false, List, Option};
+ghost use Rattle.std.specs.Prelude.{◌≡◌, ◌<◌, ◌≤◌, ◌^◌, ◌&&◌, true, false, List};
 ghost use Rattle.bus_trace.specs.declared.Row.{Row};
 ghost use Rattle.bus_trace.specs.declared.connection.Connection.{Connection};
-ghost use Rattle.bus_trace.specs.Trace.{bus, last_time};
-ghost use Rattle.bus_trace.specs.Terms.{receiver};
-ghost use Rattle.bus_lines.specs.Handshakes.{handshakes};
+ghost use Rattle.bus_trace.specs.Trace.{bus};
 ghost use Rattle.bus_lines.specs.Timely.{IsTimely};
-ghost use Rattle.bus_reactions.specs.Ends.{sample_due};
-ghost use Rattle.bus_dialogue.specs.Ends.{offering_by as offering_in_phase};
-ghost use Rattle.bus_dialogue.specs.Hearing.{begun};
-ghost use Rattle.bus_dialogue.specs.NextPhase.{leaving_by};
 ghost use Rattle.bus_dialogue.specs.Observer.{IsObserverOf};
-ghost use Rattle.bus_due.specs.Connected.{is_receiving};
 ghost use Rattle.bus_due.specs.Next.{due};
 ghost use Rattle.bus_due.specs.Plain.{AreOfDevices};
 ghost use Rattle.bus_due.specs.RunSteps.{run_state};
 ghost use Rattle.scenario.specs.Value.{ScenarioValue};
-ghost use Rattle.scsi_device.specs.Told.{told, pace_of, flip_by, first_fault};
+ghost use Rattle.scsi_device.specs.Told.{told, first_fault};
+ghost use Rattle.target_course.specs.Alike.{is_driven};
 ghost use Rattle.target_course.specs.Dues.{plain_by};
-ghost use Rattle.target_course.specs.Fits.{AreFit};
-ghost use Rattle.target_course.specs.Servings.{serving_with, AreBytesOf};
 ghost use Rattle.target_course.specs.States.{TargetState, IsNoInitiator, IsOwnConnection, IsTargetLine, IsTargetOf};
+ghost use Rattle.disk_target.specs.Needs.{goes_on_in, going_on};
 ghost use Rattle.disk_target.specs.Waits.{drives_pulse, waits, is_in_pulse, is_waiting};
 
-use crate::others::myself;
 use bus_base::Dev;
 use bus_dialogue::Observer;
-use bus_reactions::{Due, Offering, sight_of};
-use bus_trace::{Lines, is_data};
+use bus_reactions::{Due, Offering};
+use bus_trace::Lines;
 use connect::due_with_reset;
-use handshake::target_due;
 use scenario::{FaultDef, TargetDef};
-use scsi_device::{Itself, flip, is_receiving, pace, sampled};
-use target_course::{DataBytes, Serving, dues_are_of_targets, offering_by};
-
-// Whether bytes cross by pulses in the phase (ANSI X3.131-1994, 6.1.5.2).
-fn is_pulsed(observer: &Observer) -> bool
-    ensures { (rows : List Row) (dev : ℕ) → IsObserverOf rows observer.now
-        → result ≡ (pace_of (told rows dev) None).pulsed }
-{
-    observer.begun() && is_data(observer.view().bus()) && observer.agreement().offset > 0
-}
+use scsi_device::{Itself, is_pulsed, pace, sampled};
+use target_course::{due_of_offering, dues_are_of_targets, myself};
 
 // By REQ and ACK, where the first phase of the connection has begun, and bytes cross by pulses or not.
 fn waits(req: bool, ack: bool, begun: bool, pulsed: bool) -> bool
@@ -80,12 +63,29 @@ fn drives_pulse(req: bool, begun: bool, pulsed: bool) -> bool
     req && begun && pulsed
 }
 
-fn no_offering() -> Offering
-    ensures { result.wait < 2 ^ 62 }
+/// Whether the target of a connection goes on in the phase: while it drives REQ, `asks`, where a byte follows, and
+/// before the first REQ.
+pub fn goes_on_in(asks: bool, follows: bool, bare: bool) -> bool
+    ensures { result ≡ goes_on_in asks follows bare }
+{
+    asks || follows || bare
+}
+
+/// Whether it drives a byte of its own next, in a phase to the initiator, `io`: the first one before the first REQ,
+/// then one that follows, as it negates REQ, and by pulses (6.1.5.1, 6.1.5.2).
+pub fn is_driven(io: bool, bare: bool, follows: bool, asks: bool, pulsed: bool) -> bool
+    ensures { result ≡ (io && is_driven bare follows asks pulsed) }
+{
+    io && (bare || (follows && (asks || pulsed)))
+}
+
+/// What it has to do that goes on in the phase with this byte, where one follows.
+pub fn going_on(byte: u8, follows: bool) -> Offering
+    ensures { result ≡ going_on byte follows }
 {
     Offering {
-        byte: 0,
-        follows: false,
+        byte,
+        follows,
         to: Lines::none(),
         wait: 0,
     }
@@ -101,83 +101,13 @@ pub fn pulse_end_due(observer: &Observer, itself: &Itself, def: &TargetDef) -> O
         → is_in_pulse (told rows def.now.dev) ≡ true → i.own ≡ itself.now.own
         → result ≡ plain_by def.now (told rows def.now.dev) i }
 {
-    let view = observer.view();
-    let pace = pace(observer, 0);
-    target_due(
-        observer.begun(),
-        &sight_of(view),
-        view.handshakes(),
-        &myself(def, itself, view),
-        &pace,
-        &no_offering(),
+    due_of_offering(
+        observer,
+        def,
+        itself,
+        &pace(observer, 0),
+        &going_on(0, false),
     )
-}
-
-// What it has to do in the phase.
-fn offering(observer: &Observer, serving: &Serving, bytes: DataBytes, pulsed: bool) -> Offering
-    requires fits { AreFit serving.now.plan.messages }
-    ensures exact { (rows : List Row) (given : List ℕ) → IsObserverOf rows observer.now
-        → AreBytesOf (serving_with serving.now given)
-        (leaving_by (serving_with serving.now given) (begun rows) (bus rows)) (handshakes rows).requests bytes
-        → result ≡ offering_in_phase (serving_with serving.now given) (begun rows) pulsed (bus rows) (handshakes rows) }
-    ensures wait { result.wait < 2 ^ 62 }
-{
-    let view = observer.view();
-    offering_by(
-        serving,
-        bytes,
-        observer.begun(),
-        pulsed,
-        view.bus(),
-        view.handshakes(),
-    )
-}
-
-/// What a target of this line does next by REQ and ACK, where it decides by this and its process gives these bytes.
-pub fn plain_due(
-    observer: &Observer,
-    itself: &Itself,
-    def: &TargetDef,
-    serving: &Serving,
-    bytes: DataBytes,
-) -> Option<Due>
-    requires timely { IsTimely (2 ^ 63) observer.now.view }
-    requires below { def.now.dev < 8 }
-    requires latency { def.now.latency ≤ 100 }
-    requires fits { AreFit serving.now.plan.messages }
-    ensures { (rows : List Row) (given : List ℕ) (i : TargetState) → IsObserverOf rows observer.now
-        → i.own ≡ itself.now.own → i.serving ≡ serving_with serving.now given
-        → AreBytesOf (serving_with serving.now given)
-        (leaving_by (serving_with serving.now given) (begun rows) (bus rows)) (handshakes rows).requests bytes
-        → result ≡ plain_by def.now (told rows def.now.dev) i }
-{
-    let view = observer.view();
-    let pace = pace(observer, 0);
-    target_due(
-        observer.begun(),
-        &sight_of(view),
-        view.handshakes(),
-        &myself(def, itself, view),
-        &pace,
-        &offering(observer, serving, bytes, pace.pulsed),
-    )
-}
-
-// It samples a byte that crossed to it in the last row first (6.2.1).
-fn sampled_by(
-    observer: &Observer,
-    dev: Dev,
-    fault: Option<FaultDef>,
-    plain: Option<Due>,
-) -> Option<Due>
-    ensures { (rows : List Row) → IsObserverOf rows observer.now
-        → result
-        ≡ sample_due (is_receiving (receiver rows) dev) (last_time rows) (flip_by fault (last_time rows)) plain }
-{
-    let view = observer.view();
-    let last = view.last_time();
-    let receives = is_receiving(view.effect().receiver, dev);
-    sampled(receives, last, flip(fault, last), plain)
 }
 
 /// What a target of this line does next in a connection of its own, while RST is false, where `plain` is what it does
@@ -200,6 +130,6 @@ pub fn next_in_own(
 {
     dues_are_of_targets();
     let me = myself(def, itself, observer.view());
-    let calm = sampled_by(observer, def.dev, fault, plain);
+    let calm = sampled(observer, def.dev, fault, plain);
     due_with_reset(&me, itself.own().rst(), itself.reset(), calm)
 }

@@ -5,7 +5,6 @@ ghost use Rattle.bus_trace.specs.declared.Row.{Row};
 ghost use Rattle.bus_trace.specs.declared.connection.Connection.{Connection};
 ghost use Rattle.bus_trace.specs.Terms.{connection};
 ghost use Rattle.bus_trace.specs.Trace.{bus};
-ghost use Rattle.bus_lines.specs.Handshakes.{handshakes};
 ghost use Rattle.bus_lines.specs.BusView.{IsBusViewOf};
 ghost use Rattle.bus_lines.specs.Timely.{IsTimely};
 ghost use Rattle.cdb_codec.specs.declared.status.TheConstants.{GOOD};
@@ -16,62 +15,67 @@ ghost use Rattle.disk_array.specs.ArrayHistory.{reply_in};
 ghost use Rattle.disk_array.specs.Processes.{Process, process_of};
 ghost use Rattle.disk_array.specs.Seats.{is_initiator};
 ghost use Rattle.disk_array.specs.Units.{Array, unit_state_at};
-ghost use Rattle.bus_dialogue.specs.Hearing.{begun, hearing as hearing_in};
-ghost use Rattle.bus_dialogue.specs.NextPhase.{leaving_by};
+ghost use Rattle.bus_dialogue.specs.Hearing.{hearing as hearing_in};
+ghost use Rattle.bus_dialogue.specs.PhaseBytes.{data_byte, one_if};
 ghost use Rattle.bus_dialogue.specs.Observer.{IsObserverOf};
 ghost use Rattle.bus_due.specs.Defs.{target_def_of};
 ghost use Rattle.bus_due.specs.Next.{due};
 ghost use Rattle.bus_due.specs.Plain.{AreOfDevices};
 ghost use Rattle.bus_due.specs.RunState.{array_of, item_of};
 ghost use Rattle.bus_due.specs.RunSteps.{run_state};
+ghost use Rattle.bus_due.specs.Sights.{serving_of};
 ghost use Rattle.bus_due.specs.Tasks.{size_of, reply_now, is_writing};
 ghost use Rattle.scsi_device.specs.Acts.{act_of};
 ghost use Rattle.scsi_device.specs.Heard.{heard};
 ghost use Rattle.scsi_device.specs.Itself.{IsItselfOf};
 ghost use Rattle.scsi_device.specs.Lines.{FitsBus, IsTargetLine};
-ghost use Rattle.scsi_device.specs.Told.{first_fault};
-ghost use Rattle.target_course.specs.Courses.{events_of_target, AreToldOf, IsCourseOf, IsLabelOf, IsStateOf, IsOutlookOf};
+ghost use Rattle.scsi_device.specs.Told.{told, pace_of, first_fault};
+ghost use Rattle.target_course.specs.Courses.{events_of_target, id_known, AreToldOf, IsCourseOf, IsLabelOf, IsStateOf, IsOutlookOf};
 ghost use Rattle.target_course.specs.Fits.{AreFit};
 ghost use Rattle.target_units.specs.Seated.{reply_told};
-ghost use Rattle.target_course.specs.Servings.{serving_with, byte_if, AreBytesOf};
+ghost use Rattle.target_course.specs.Servings.{byte_if};
 ghost use Rattle.target_course.specs.Shown.{shown_list};
-ghost use Rattle.target_course.specs.States.{IsNoInitiator, IsOwnConnection};
+ghost use Rattle.target_course.specs.States.{AreAlikeIn, IsNoInitiator, IsOwnConnection, offering_in};
 ghost use Rattle.target_units.specs.Units.{AreUnitsOf, reply_at, unit_in};
 ghost use Rattle.target_course.specs.declared.course.Name.{Name as NameValue};
-ghost use Rattle.disk_target.specs.Bytes.{DecidesAs, IsOthers, IsOwnIf};
+ghost use Rattle.disk_target.specs.Bytes.{DecidesAs, IsOthers, IsOwnIf, StandsInOwn};
+ghost use Rattle.disk_target.specs.Needs.{DrivesAs, GivesAs, LeavesAs};
 ghost use Rattle.target_course.specs.Negotiated.{events_of_row};
-ghost use Rattle.disk_target.specs.Knowns.{IsKnownBy, IsKnownIf, IsQuiet};
+ghost use Rattle.disk_target.specs.Knowns.{IsKnownBy, IsKnownIf, IsQuiet, knows_command};
 ghost use Rattle.disk_target.specs.Targets.{AreInTime, AreTied, IsCourseIf, IsServable, IsTargetAfter, KnowsRows};
-ghost use Rattle.disk_target.specs.Turns.{IsTurnOf};
+ghost use Rattle.disk_target.specs.Turns.{IsSentIf, IsSentOf, IsTurnOf};
 ghost use Rattle.disk_target.specs.Waits.{DoesAs};
 
 use crate::bytes::{
-    Decision, bounded, connection_before, gives_data, no_bytes, other_before, other_connection,
-    own_before, own_connection,
+    Decision, bounded, connection_before, gives_now, no_bytes, other_connection, own_before,
+    own_connection, stands_in_own,
 };
 use crate::known::{Known, is_quiet, is_still, known_of, see_known};
 use crate::others::next_in_others;
-use crate::own::{is_in_pulse, is_waiting, next_in_own, plain_due, pulse_end_due};
+use crate::own::{
+    goes_on_in, going_on, is_driven, is_in_pulse, is_waiting, next_in_own, pulse_end_due,
+};
 use crate::processes::{Processes, units_stay_by_row};
 use crate::turn::{
-    Turn, course_of, is_opening, no_turn, process_known, reply_seen, see_beginning, see_course,
-    see_events,
+    Sent, Turn, course_of, is_opening, no_turn, process_known, reply_seen, see_beginning,
+    see_course, see_events, see_sent,
 };
 use bus_base::{Dev, Event, NoMemory, Ns, ProcId};
-use bus_dialogue::{Arrival, Observer};
+use bus_dialogue::{Arrival, Hearing, Observer};
 use bus_due::{hearings_are_plain, kept_is_plain};
 use bus_lines::BusView;
-use bus_reactions::Due;
+use bus_reactions::{Due, Offering};
 use bus_trace::{Connection, Row, lines_on_the_bus, rows_change_one_device};
 use disk_array::arrays_are_sound;
 use disk_unit::Reply;
 use scenario::{FaultDef, Scenario, TargetDef};
-use scsi_device::{Act, Itself, scenarios_fit_the_bus};
+use scsi_device::{Act, Itself, pace, scenarios_fit_the_bus};
 use std::alloc::Global;
 use std::marker::Model;
 use target_course::{
-    Course, DataBytes, Gathered, Knowledge, Negotiated, Progress, Serving, Shown, leaving_by,
-    no_plan, phase_of, place_in_run, process_byte_place, target_next,
+    Course, Gathered, Knowledge, Negotiated, Progress, Serving, Shown, brings_byte,
+    due_of_offering, follows_by, leaving_by, lines_by, no_plan, phase_byte, phase_of, place_in_run,
+    process_byte_place, seek_before, target_next,
 };
 use target_units::Units;
 
@@ -127,19 +131,6 @@ fn target_line(targets: &[TargetDef], dev: Dev) -> Option<TargetDef>
         }
     }
     None
-}
-
-// A row made by another device than this one leaves what it knows of its own rows as it was.
-fn see_itself(itself: &mut Itself, dev: Dev, view: &BusView, row: &Row)
-    requires { IsTimely (2 ^ 63) view.now }
-    ensures dev { itself.new.dev ≡ itself.old.dev }
-    ensures trace { (s : ScenarioValue) (rows : List Row) → IsBusViewOf (row.now ∷ rows) view.now
-        → itself.old.dev ≡ dev → IsItselfOf s rows itself.old → IsItselfOf s (row.now ∷ rows) itself.new }
-{
-    if row.dev != dev {
-        return;
-    }
-    itself.see(view, row);
 }
 
 impl Target {
@@ -226,37 +217,148 @@ impl Target {
         }
     }
 
-    // The two bytes that it may drive next of those that the command would give, which are so many.
-    fn bytes_at(
+    // The byte at a place of those that the command would give, which are so many: of its present run, or with `done`
+    // of the run after that.
+    fn run_byte(
         &self,
-        observer: &Observer,
         unit: u8,
         from: Dev,
         cdb: &[u8],
         count: u32,
         serving: &Serving,
-    ) -> DataBytes
+        done: bool,
+        place: u64,
+    ) -> u8
         requires unit { unit < 8 }
         requires device { from < 8 }
         requires count { count ≡ length (reply_at (unit_in self.now.units.units unit) from cdb.now).bytes }
-        ensures { (s : ScenarioValue) (rows : List Row) (a : Array) (times : List ℕ) (p : Process)
-            → IsObserverOf rows observer.now
+        ensures { (s : ScenarioValue) (a : Array) (times : List ℕ) (p : Process)
             → AreUnitsOf s a times self.now.units.dev self.now.units.units → is_initiator s.hosts from ≡ true
             → p.target ≡ self.now.units.dev → p.unit ≡ unit → p.initiator ≡ from → p.cdb ≡ cdb.now
-            → count ≡ length (reply_now a p).bytes
-            → AreBytesOf (serving_with serving.now (reply_now a p).bytes)
-            (leaving_by (serving_with serving.now (reply_now a p).bytes) (begun rows) (bus rows))
-            (handshakes rows).requests result }
+            → count ≡ length (reply_now a p).bytes → result
+            ≡ data_byte serving.now.def.disc serving.now.task (reply_now a p).bytes (one_if done) place }
+    {
+        let at = process_byte_place(serving.def.disc, &serving.task, done, place);
+        self.byte_at(unit, from, cdb, count, at)
+    }
+
+    // The same, where the phase that stands gives data; else 0.
+    fn given_byte(
+        &self,
+        observer: &Observer,
+        course: &Course,
+        known: &Known,
+        done: bool,
+        place: u64,
+    ) -> u8
+        requires known { IsKnownBy self.now.def self.now.units self.now.progress self.now.reply course.now known.now }
+        ensures { (s : ScenarioValue) (rows : List Row) (n : Connection) → FitsBus s
+            → IsObserverOf rows observer.now → AreOfDevices rows → heard s rows ≡ true
+            → IsServable s rows self.now.def → KnowsRows s rows self.now
+            → IsCourseOf s rows self.now.def.dev course.now → IsOwnConnection rows self.now.def.dev n
+            → (bus rows).rst ≡ false → n.initiator ≡ known.now.from
+            → GivesAs s rows self.now.def.dev known.now.serving done place result }
+    {
+        scenarios_fit_the_bus();
+        kept_is_plain();
+        if gives_now(observer, course) {
+            let count = known.state.plan.in_len;
+            let serving = &known.serving;
+            self.run_byte(
+                known.unit,
+                known.from,
+                course.block(),
+                count,
+                serving,
+                done,
+                place,
+            )
+        } else {
+            0
+        }
+    }
+
+    // The byte that it drives next, if it drives one.
+    fn next_byte(&self, observer: &Observer, course: &Course, known: &Known, driven: bool) -> u8
+        requires known { IsKnownBy self.now.def self.now.units self.now.progress self.now.reply course.now known.now }
+        ensures { (s : ScenarioValue) (rows : List Row) (n : Connection) → FitsBus s
+            → IsObserverOf rows observer.now → AreOfDevices rows → heard s rows ≡ true
+            → IsServable s rows self.now.def → KnowsRows s rows self.now
+            → IsCourseOf s rows self.now.def.dev course.now → IsOwnConnection rows self.now.def.dev n
+            → (bus rows).rst ≡ false → n.initiator ≡ known.now.from
+            → DrivesAs s rows self.now.def.dev known.now.serving driven result }
+    {
+        kept_is_plain();
+        if driven {
+            let view = observer.view();
+            let place = view.handshakes().requests();
+            let given = self.given_byte(observer, course, known, false, place);
+            let serving = &known.serving;
+            phase_byte(
+                serving,
+                phase_of(view.bus()),
+                &serving.plan.messages,
+                given,
+                place,
+            )
+        } else {
+            0
+        }
+    }
+
+    // What it has to do where it leaves the phase.
+    fn leaving(&self, observer: &Observer, course: &Course, known: &Known) -> Offering
+        requires known { IsKnownBy self.now.def self.now.units self.now.progress self.now.reply course.now known.now }
+        ensures trace { (s : ScenarioValue) (rows : List Row) (n : Connection) → FitsBus s
+            → IsObserverOf rows observer.now → AreOfDevices rows → heard s rows ≡ true
+            → IsServable s rows self.now.def → KnowsRows s rows self.now
+            → IsCourseOf s rows self.now.def.dev course.now → IsOwnConnection rows self.now.def.dev n
+            → (bus rows).rst ≡ false → n.initiator ≡ known.now.from
+            → LeavesAs s rows self.now.def.dev known.now.serving result }
+        ensures wait { result.wait < 2 ^ 62 }
+    {
+        let bus = observer.view().bus();
+        let serving = &known.serving;
+        let leaving = leaving_by(serving, observer.begun(), bus);
+        let first = self.given_byte(observer, course, known, leaving.done, 0);
+        Offering {
+            byte: 0,
+            follows: false,
+            to: lines_by(serving, bus.io(), &leaving, first),
+            wait: seek_before(serving, bus),
+        }
+    }
+
+    // What it has to do in the phase, as far as what it does next tells: which byte follows, or how it leaves the
+    // phase.
+    fn offering(
+        &self,
+        observer: &Observer,
+        course: &Course,
+        known: &Known,
+        pulsed: bool,
+    ) -> Offering
+        requires known { IsKnownBy self.now.def self.now.units self.now.progress self.now.reply course.now known.now }
+        ensures trace { (s : ScenarioValue) (rows : List Row) (n : Connection) → FitsBus s
+            → IsObserverOf rows observer.now → AreOfDevices rows → heard s rows ≡ true
+            → IsServable s rows self.now.def → KnowsRows s rows self.now
+            → IsCourseOf s rows self.now.def.dev course.now → IsOwnConnection rows self.now.def.dev n
+            → (bus rows).rst ≡ false → n.initiator ≡ known.now.from
+            → pulsed ≡ (pace_of (told rows 0) None).pulsed → AreAlikeIn rows self.now.def.dev result
+            (offering_in rows (serving_of s (run_state s rows) self.now.def.dev)) }
+        ensures wait { result.wait < 2 ^ 62 }
     {
         let view = observer.view();
-        let leaving = leaving_by(serving, observer.begun(), view.bus());
-        let place = view.handshakes().requests();
-        let policy = serving.def.disc;
-        let next = process_byte_place(policy, &serving.task, false, place);
-        let first = process_byte_place(policy, &serving.task, leaving.done, 0);
-        DataBytes {
-            next: self.byte_at(unit, from, cdb, count, next),
-            first: self.byte_at(unit, from, cdb, count, first),
+        let bus = view.bus();
+        let handshakes = view.handshakes();
+        let asks = view.drives(self.def.dev).req();
+        let bare = handshakes.requests() == 0;
+        let follows = follows_by(&known.serving, pulsed, bus, handshakes);
+        if goes_on_in(asks, follows, bare) {
+            let driven = is_driven(bus.io(), bare, follows, asks, pulsed);
+            going_on(self.next_byte(observer, course, known, driven), follows)
+        } else {
+            self.leaving(observer, course, known)
         }
     }
 
@@ -271,23 +373,9 @@ impl Target {
             → (bus rows).rst ≡ false → n.initiator ≡ known.now.from
             → DoesAs s rows self.now.def self.now.itself.own result }
     {
-        scenarios_fit_the_bus();
-        kept_is_plain();
-        let phase = phase_of(observer.view().bus());
-        let bytes = if observer.begun() && gives_data(phase, course.plan().next) {
-            let count = known.state.plan.in_len;
-            self.bytes_at(
-                observer,
-                known.unit,
-                known.from,
-                course.block(),
-                count,
-                &known.serving,
-            )
-        } else {
-            no_bytes()
-        };
-        plain_due(observer, &self.itself, &self.def, &known.serving, bytes)
+        let pace = pace(observer, 0);
+        let offering = self.offering(observer, course, known, pace.pulsed);
+        due_of_offering(observer, &self.def, &self.itself, &pace, &offering)
     }
 
     // The same, with this initiator.
@@ -497,6 +585,58 @@ impl Target {
         self.shown_known(observer)
     }
 
+    // The byte of DATA OUT that comes next in this connection of its own, by what it knows in it.
+    fn sent_by(&self, course: &Course, known: &Known) -> Sent
+        requires known { IsKnownBy self.now.def self.now.units self.now.progress self.now.reply course.now known.now }
+        ensures process { result.process ≡ id_known course.now.id }
+        ensures unit { result.unit ≡ known.now.unit }
+        ensures trace { (s : ScenarioValue) (rows : List Row) (row : Row) (n : Connection) → FitsBus s
+            → AreOfDevices (row ∷ rows) → AreTied s (row ∷ rows) → AreInTime (row ∷ rows) → KnowsRows s rows self.now
+            → IsOwnConnection rows self.now.def.dev n → (bus rows).rst ≡ false
+            → self.now.course ≡ Some course.now → n.initiator ≡ known.now.from
+            → IsSentOf s rows row self.now.def.dev result }
+    {
+        kept_is_plain();
+        hearings_are_plain();
+        scenarios_fit_the_bus();
+        Sent {
+            process: process_known(course),
+            unit: known.unit,
+            place: place_in_run(self.def.disc, &known.serving.task, self.answers),
+        }
+    }
+
+    fn sent_in(&self, connection: &Connection, course: &Course) -> Sent
+        requires course { self.now.course ≡ Some course.now }
+        ensures { (s : ScenarioValue) (rows : List Row) (row : Row) → FitsBus s
+            → AreOfDevices (row ∷ rows) → AreTied s (row ∷ rows) → AreInTime (row ∷ rows) → KnowsRows s rows self.now
+            → IsOwnConnection rows self.now.def.dev connection.now → (bus rows).rst ≡ false
+            → IsSentOf s rows row self.now.def.dev result }
+    {
+        let from = connection.initiator.get();
+        match &self.known {
+            Some(known) if known.from == from => self.sent_by(course, known),
+            _ => self.sent_by(course, &self.known_anew(from, course)),
+        }
+    }
+
+    // The byte of DATA OUT that came with the last row in this connection of its own, if one did.
+    fn sent(&self, hearing: &Hearing, before: &Option<Connection>) -> Option<Sent>
+        ensures { (s : ScenarioValue) (rows : List Row) (row : Row) → FitsBus s
+            → AreOfDevices (row ∷ rows) → AreTied s (row ∷ rows) → AreInTime (row ∷ rows) → KnowsRows s rows self.now
+            → hearing.now ≡ hearing_in rows row → IsOwnIf rows self.now.def.dev before.now
+            → is_some before.now ≡ true → knows_command self.now.course ≡ true
+            → IsSentIf s rows row self.now.def.dev result }
+    {
+        if !brings_byte(hearing) {
+            return None;
+        }
+        match (before, &self.course) {
+            (Some(connection), Some(course)) => Some(self.sent_in(connection, course)),
+            _ => None,
+        }
+    }
+
     // What it has of this connection of its own before the last row, which the observer has seen and it has not, by
     // what it knows in it.
     fn turn_by(
@@ -523,13 +663,14 @@ impl Target {
         let serving = &known.serving;
         let hearing = observer.hearing();
         let after = observer.view().connection();
+        let sent = self.sent_by(course, known);
         Turn {
-            process: process_known(course),
-            unit: known.unit,
+            process: sent.process,
+            unit: sent.unit,
             from: known.from,
             aborts: course.plan().said.aborts.is_some(),
             leaving: leaving_by(serving, hearing.begun, hearing.change.before),
-            place: place_in_run(self.def.disc, &serving.task, self.answers),
+            place: sent.place,
             opening: is_opening(connection, hearing, course),
             plan: known.state.plan,
             shown: course.shown(serving, connection, hearing, after),
@@ -628,53 +769,32 @@ impl Target {
         }
     }
 
-    // A row that shows nothing, in a connection of others that stands before and after it.
-    fn follow_others(&mut self, observer: &Observer, row: &Row, shown: &[Event])
-        requires device { row.now.dev < 8 }
-        requires timely { IsTimely (2 ^ 63) observer.now.view }
-        ensures def { self.new.def ≡ self.old.def }
-        ensures trace { (s : ScenarioValue) (rows : List Row) (m n : Connection) → FitsBus s
-            → IsObserverOf (row.now ∷ rows) observer.now
-            → AreOfDevices (row.now ∷ rows) → AreTied s (row.now ∷ rows)
-            → IsOthers rows self.old.def.dev m → IsOthers (row.now ∷ rows) self.old.def.dev n
-            → shown.now ≡ events_of_row s rows row.now → events_of_row s rows row.now ≡ []
-            → KnowsRows s rows self.old → KnowsRows s (row.now ∷ rows) self.new }
-    {
-        kept_is_plain();
-        hearings_are_plain();
-        lines_on_the_bus();
-        rows_change_one_device();
-        scenarios_fit_the_bus();
-        units_stay_by_row();
-        let view = observer.view();
-        see_itself(&mut self.itself, self.def.dev, view, row);
-        self.answers = view.handshakes().answers();
-        self.known = None;
-    }
-
-    // A row that tells it nothing, in a connection of its own that stands before and after it.
+    // A row that tells it no more than a byte of data, in a connection of its own that stands before and after it.
     fn follow_quiet(&mut self, observer: &Observer, row: &Row)
         requires device { row.now.dev < 8 }
         requires timely { IsTimely (2 ^ 63) observer.now.view }
         ensures def { self.new.def ≡ self.old.def }
-        ensures trace { (s : ScenarioValue) (rows : List Row) (before own : Option Connection) → FitsBus s
+        ensures trace { (s : ScenarioValue) (rows : List Row) → FitsBus s
             → IsObserverOf (row.now ∷ rows) observer.now
-            → AreOfDevices (row.now ∷ rows) → AreTied s (row.now ∷ rows)
-            → IsOwnIf rows self.old.def.dev before → IsOwnIf (row.now ∷ rows) self.old.def.dev own
-            → IsQuiet (hearing_in rows row.now) before own self.old.course (events_of_row s rows row.now)
+            → AreOfDevices (row.now ∷ rows) → AreTied s (row.now ∷ rows) → AreInTime (row.now ∷ rows)
+            → StandsInOwn rows row.now self.old.def.dev
+            → IsQuiet (hearing_in rows row.now) self.old.course (events_of_row s rows row.now)
             → KnowsRows s rows self.old → KnowsRows s (row.now ∷ rows) self.new }
     {
         kept_is_plain();
         hearings_are_plain();
         lines_on_the_bus();
-        rows_change_one_device();
         scenarios_fit_the_bus();
         let view = observer.view();
-        see_itself(&mut self.itself, self.def.dev, view, row);
+        let hearing = observer.hearing();
+        let sent = self.sent(hearing, &connection_before(view));
+        see_sent(&mut self.gathered, sent, hearing, connection_before(view));
+        self.itself.see(view, row);
         self.answers = view.handshakes().answers();
     }
 
-    // One more row, in a connection of its own or outside all, or with events.
+    // One more row. It takes the room of many copies, and most rows do not need it.
+    #[inline(never)]
     fn follow_own(&mut self, observer: &Observer, row: &Row, label: ProcId, shown: &[Event])
         requires device { row.now.dev < 8 }
         requires timely { IsTimely (2 ^ 63) observer.now.view }
@@ -762,29 +882,7 @@ impl Target {
         );
     }
 
-    // The same. Most rows tell it nothing.
-    fn follow_near(&mut self, observer: &Observer, row: &Row, label: ProcId, shown: &[Event])
-        requires device { row.now.dev < 8 }
-        requires timely { IsTimely (2 ^ 63) observer.now.view }
-        ensures def { self.new.def ≡ self.old.def }
-        ensures trace { (s : ScenarioValue) (rows : List Row) → FitsBus s → IsObserverOf (row.now ∷ rows) observer.now
-            → AreOfDevices (row.now ∷ rows) → AreTied s (row.now ∷ rows) → AreInTime (row.now ∷ rows)
-            → ((n : Connection) → IsOwnConnection (row.now ∷ rows) self.old.def.dev n
-            → IsLabelOf (item_of (run_state s (row.now ∷ rows)).story.link) label)
-            → shown.now ≡ events_of_row s rows row.now
-            → KnowsRows s rows self.old → KnowsRows s (row.now ∷ rows) self.new }
-    {
-        let view = observer.view();
-        let before = own_before(view, self.def.dev);
-        let own = own_connection(view, self.def.dev);
-        if is_quiet(observer.hearing(), before, own, &self.course, shown) {
-            self.follow_quiet(observer, row);
-        } else {
-            self.follow_own(observer, row, label, shown);
-        }
-    }
-
-    // One more row.
+    // The same. Most rows of a connection of its own tell it no more than a byte of data.
     fn follow(&mut self, observer: &Observer, row: &Row, label: ProcId, shown: &[Event])
         requires device { row.now.dev < 8 }
         requires timely { IsTimely (2 ^ 63) observer.now.view }
@@ -796,11 +894,12 @@ impl Target {
             → shown.now ≡ events_of_row s rows row.now
             → KnowsRows s rows self.old → KnowsRows s (row.now ∷ rows) self.new }
     {
-        let view = observer.view();
-        let dev = self.def.dev;
-        match (other_before(view, dev), other_connection(view, dev)) {
-            (Some(_), Some(_)) if shown.is_empty() => self.follow_others(observer, row, shown),
-            _ => self.follow_near(observer, row, label, shown),
+        if is_quiet(observer.hearing(), &self.course, shown)
+            && stands_in_own(observer.view(), self.def.dev)
+        {
+            self.follow_quiet(observer, row);
+        } else {
+            self.follow_own(observer, row, label, shown);
         }
     }
 
@@ -820,6 +919,31 @@ impl Target {
             → IsTargetAfter s rows self.old → IsTargetAfter s (row.now ∷ rows) self.new }
     {
         self.follow(observer, row, label, shown);
+    }
+
+    /// One more row, in a connection of others that stands before and after it, while RST was and is false, which shows
+    /// nothing; the observer has seen it.
+    pub fn see_in_others(&mut self, observer: &Observer, row: &Row)
+        requires device { row.now.dev < 8 }
+        requires timely { IsTimely (2 ^ 63) observer.now.view }
+        ensures def { self.new.def ≡ self.old.def }
+        ensures trace { (s : ScenarioValue) (rows : List Row) (m n : Connection) → FitsBus s
+            → IsObserverOf (row.now ∷ rows) observer.now → AreOfDevices (row.now ∷ rows)
+            → AreTied s (row.now ∷ rows) → AreInTime (row.now ∷ rows)
+            → IsNoInitiator (row.now ∷ rows) self.old.def.dev
+            → IsOthers rows self.old.def.dev m → IsOthers (row.now ∷ rows) self.old.def.dev n
+            → events_of_row s rows row.now ≡ []
+            → IsTargetAfter s rows self.old → IsTargetAfter s (row.now ∷ rows) self.new }
+    {
+        kept_is_plain();
+        hearings_are_plain();
+        lines_on_the_bus();
+        rows_change_one_device();
+        scenarios_fit_the_bus();
+        units_stay_by_row();
+        let view = observer.view();
+        self.itself.see(view, row);
+        self.answers = view.handshakes().answers();
     }
 
     /// What it keeps of its units.

@@ -19,7 +19,7 @@ ghost use Rattle.scsi_device.specs.Heard.{heard, is_opening_in};
 ghost use Rattle.scsi_device.specs.Lines.{FitsBus, IsTargetLine};
 ghost use Rattle.target_course.specs.Courses.{course_after, course_reselected, id_known, CourseState, IsCourseOf, IsReadyProcess};
 ghost use Rattle.target_course.specs.Fits.{AreFit};
-ghost use Rattle.target_course.specs.Gathered.{bytes_of, gathering_at};
+ghost use Rattle.target_course.specs.Gathered.{bytes_of, gathering_at, AreAllGathered, IsGatheredOf};
 ghost use Rattle.target_course.specs.Progress.{IsUncounted};
 ghost use Rattle.target_course.specs.Replies.{IsReplyOf};
 ghost use Rattle.target_course.specs.Shown.{shown_list};
@@ -29,14 +29,14 @@ ghost use Rattle.disk_target.specs.Processes.{AreKeptOf};
 ghost use Rattle.target_course.specs.Negotiated.{events_of_row};
 ghost use Rattle.disk_target.specs.Standings.{standing_at_first};
 ghost use Rattle.disk_target.specs.Targets.{AreTied, IsCourseIf, IsStandingOf};
-ghost use Rattle.disk_target.specs.Turns.{abort_if, abort_of, count_sent, is_opening_by, is_reset, is_reset_if, AreAttendedOf, AreAttendedOn, IsRowFor, IsTurnIf, IsTurnOf, IsTurnShown};
+ghost use Rattle.disk_target.specs.Turns.{abort_if, abort_of, count_sent, is_opening_by, is_reset, is_reset_if, AreAttendedOf, AreAttendedOn, GathersOn, IsSentIf, IsRowFor, IsTurnIf, IsTurnOf, IsTurnShown};
 
 use crate::processes::{Processes, event_at};
 use crate::standing::Served;
 use bus_base::{AbortKind, Dev, Event, Ns, ProcId};
 use bus_dialogue::{Cause, Hearing, Leaving, Messages, Next, Phase};
 use bus_due::{hearings_are_plain, kept_is_plain};
-use bus_trace::Connection;
+use bus_trace::{Connection, rows_change_one_device};
 use cdb_codec::from_cdb;
 use disk_unit::{Plan, Reply};
 use scsi_device::scenarios_fit_the_bus;
@@ -68,6 +68,17 @@ pub struct Turn {
     pub plan: Plan,
     /// What the row shows.
     pub shown: Shown,
+}
+
+/// The byte of DATA OUT that comes next in a connection of its own.
+#[derive(Clone, Copy, Debug)]
+pub struct Sent {
+    /// The process that sends it, as it is named in events.
+    pub process: Option<ProcId>,
+    /// The unit of that.
+    pub unit: u8,
+    /// Its place among the data of the process.
+    pub place: u64,
 }
 
 /// Where no connection of its own stands.
@@ -396,6 +407,30 @@ pub fn see_course(
             None => *course = None,
             Some(_) => go_on(course, hearing, turn),
         },
+    }
+}
+
+/// What came to a target, after a row in a connection of its own, which stood before it, and in which that byte of DATA
+/// OUT came with it, if one did.
+pub fn see_sent(
+    gathered: &mut Gathered,
+    sent: Option<Sent>,
+    hearing: &Hearing,
+    before: Option<Connection>,
+)
+    ensures dev { gathered.new.dev ≡ gathered.old.dev }
+    ensures trace { (s : ScenarioValue) (rows : List Row) (row : Row) → FitsBus s → AreOfDevices (row ∷ rows)
+        → AreTied s (row ∷ rows) → hearing.now ≡ hearing_in rows row → before ≡ connection rows
+        → IsSentIf s rows row gathered.old.dev sent → IsGatheredOf s gathered.old
+        → AreAllGathered s rows gathered.old → GathersOn s rows row gathered.new }
+{
+    kept_is_plain();
+    hearings_are_plain();
+    rows_change_one_device();
+    scenarios_fit_the_bus();
+    match sent {
+        None => {}
+        Some(sent) => gathered.see(sent.process, sent.unit, sent.place, hearing, before),
     }
 }
 

@@ -42,12 +42,8 @@ use Rattle.bus_due.specs.RunState.{RunState, bus_of, process_served, process_ite
 use Rattle.bus_due.specs.RunSteps.{run_state, exchange_after, leaving_of, progress_after, progress_by_leaving, may_negotiate, naming_of}
 use Rattle.bus_due.specs.Sights.{hearing_of, serving_of, leaving}
 use Rattle.ending_causes.specs.WrongParity.{is_struck_phase, is_complaint, is_wrong_phase, is_left, serves, leaves_wrong_phase, wrong_phases}
-use Rattle.bus_base.proofs.Tests.{all_three}
+use Rattle.bus_base.proofs.Tests.{all_three, wrong, wrong'}
 use Rattle.disk_array.proofs.SeatLookups.{same_id_is}
-
-pub not_both : (x : Bool) → x ≡ true → x ≡ false → ⊥
-not_both true h k = cc
-not_both false h k = cc
 
 -- ---- what the target takes for struck has a fault row in it
 
@@ -78,7 +74,7 @@ plan_struck w l p h = go (changes_phase w.change) w.crosses w.fault w.change.bef
     still f k = or_right f p.struck k
 
     go : (a b f io : Bool) → (if a then plan_in_phase w l p else if b then plan_with_byte w p else if f && not io then struck_plan p else p).struck ≡ true → (not a && (f || p.struck)) ≡ true
-    go true b f io k = absurd (not_both (plan_in_phase w l p).struck k (phase_struck w l p))
+    go true b f io k = wrong (sym k ∙ phase_struck w l p)
     go false true f io k = still f (byte_struck w p k)
     go false false true io k = refl
     go false false false io k = k
@@ -117,8 +113,8 @@ struck_is s (row ∷ rows) h = go (λ e. struck_is s rows e) k.story.bus_state.c
     kept false false p q more e = more e
 
     go : (k.exchange.plan.struck ≡ true → is_struck_phase s rows ≡ true) → (before : Option Connection) → k.story.bus_state.connection ≡ before → (after : Option Connection) → (exchange_after s k row d before after l).plan.struck ≡ true → (is_some before && is_some after && not (changes_phase d.change) && (is_fault row.kind || is_struck_phase s rows)) ≡ true
-    go more None z None e = absurd (not_both (is_some k.story.bus_state.connection) (struck_stands s rows (more e)) (λ i. is_some (z i)))
-    go more None z (Some n) e = absurd (not_both _ e (first_struck n.reselected (not n.reselected && may_negotiate k n (Rattle.bus_story.specs.TraceHistory.aim_of k.story.aims n.initiator)) (naming_of s k n)))
+    go more None z None e = wrong (sym (struck_stands s rows (more e)) ∙ (λ i. is_some (z i)))
+    go more None z (Some n) e = wrong (sym e ∙ first_struck n.reselected (not n.reselected && may_negotiate k n (Rattle.bus_story.specs.TraceHistory.aim_of k.story.aims n.initiator)) (naming_of s k n))
     go more (Some m) z None e = cc
     go more (Some m) z (Some n) e =
         kept (changes_phase d.change) (is_fault row.kind) k.exchange.plan.struck (is_struck_phase s rows) more
@@ -160,7 +156,7 @@ command_counts v a h = go v.task v.plan.struck h
     go : (o : Option Task) (q : Bool) → (with_task o (λ t. if q then recovery v.def t (pointer_restoration nexts.Command) (phase_entry phases.Status) else after_arrival v.def t a)).counts ≡ true → q ≡ true
     go o true k = refl
     go None false k = cc
-    go (Some t) false k = absurd (not_both _ k (arrival_counts v.def t a))
+    go (Some t) false k = wrong (sym k ∙ arrival_counts v.def t a)
 
 data_out_counts : (v : Serving) → (data_out_leaving v).counts ≡ true → v.plan.struck ≡ true
 data_out_counts v h = go v.task v.plan.struck h
@@ -168,7 +164,7 @@ data_out_counts v h = go v.task v.plan.struck h
     go : (o : Option Task) (q : Bool) → (with_task o (λ t. if q then recovery v.def t (pointer_restoration nexts.GoOn) (phase_entry phases.Status) else after_run (policy_of v.def) t)).counts ≡ true → q ≡ true
     go o true k = refl
     go None false k = cc
-    go (Some t) false k = absurd (not_both _ k (run_counts (policy_of v.def) t))
+    go (Some t) false k = wrong (sym k ∙ run_counts (policy_of v.def) t)
 
 data_in_counts : (v : Serving) → (data_in_leaving v).counts ≡ false
 data_in_counts v = go v.task
@@ -194,7 +190,7 @@ opening_counts v = go (is_some v.plan.said.aborts)
     go false = offer_counts v.def v.plan.negotiates v.plan.said.offer
 
 message_out_counts : (v : Serving) (c : Cause) → (message_out_leaving v c).counts ≡ true → is_complaint v.plan c ≡ true
-message_out_counts v causes.Selected h = absurd (not_both _ h (opening_counts v))
+message_out_counts v causes.Selected h = wrong (sym h ∙ opening_counts v)
 message_out_counts v causes.InMessage h = go v.plan.said.offer h
   where
     go : (o : Option Agreement) → (if is_some o then phase_entry phases.Command else if is_naming v.plan.messages.first then message_repetition v.plan else with_task v.task (λ t. recovery v.def t (message_repetition v.plan) bus_free)).counts ≡ true → is_none o ≡ true
@@ -218,9 +214,9 @@ counts_wrong v attention phases.MessageOut h = message_out_counts v v.plan.cause
 counts_wrong v attention phases.Command h = command_counts v v.arrival h
 counts_wrong v attention phases.DataOut h = data_out_counts v h
 counts_wrong v true phases.MessageIn h = cc
-counts_wrong v false phases.MessageIn h = absurd (not_both _ h (messages_counts v v.plan.next))
+counts_wrong v false phases.MessageIn h = wrong (sym h ∙ messages_counts v v.plan.next)
 counts_wrong v true phases.DataIn h = cc
-counts_wrong v false phases.DataIn h = absurd (not_both _ h (data_in_counts v))
+counts_wrong v false phases.DataIn h = wrong (sym h ∙ data_in_counts v)
 counts_wrong v true phases.Status h = cc
 counts_wrong v false phases.Status h = cc
 
@@ -286,7 +282,7 @@ row_counts s rows row id before = go k.story.bus_state.connection refl d.next re
     one m true true f h = let b : older ≤ wrong = before in grind arith
     one m false true f h = let b : older ≤ wrong = before in grind arith
     one m false false f h = let b : older ≤ wrong = before in grind arith
-    one m true false f h = absurd (not_both false (f refl) refl)
+    one m true false f h = wrong' (f refl)
 
     left : (m n : Connection) → k.story.bus_state.connection ≡ Some m → d.next ≡ Some n → changes_phase d.change ≡ true → k.exchange.begun ≡ true → is_left k d ≡ true
     left m n z y c b = all_three (is_some k.story.bus_state.connection) k.exchange.begun (if is_some d.next then changes_phase d.change else not d.change.after.rst) (λ i. is_some (z i)) b (λ i. if is_some (y i) then c i else not d.change.after.rst)

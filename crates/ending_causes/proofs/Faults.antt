@@ -4,6 +4,7 @@ use Rattle.std.specs.Prelude.{◌+◌, if◌then◌else◌, not, ◌&&◌, ◌||
 use Rattle.std.proofs.lemmas.Bool.{and_parts}
 use Rattle.std.proofs.lemmas.Bool.Decides.{nat_tests}
 use Rattle.bus_base.specs.declared.ProcId.{ProcId}
+use Rattle.bus_base.proofs.Tests.{wrong'}
 use Rattle.bus_trace.specs.LineSet.{LineSet}
 use Rattle.bus_trace.specs.Phases.{changes_phase, is_message_out}
 use Rattle.bus_trace.specs.Terms.{is_fault}
@@ -23,7 +24,6 @@ use Rattle.bus_due.specs.Faithful.{same_process}
 use Rattle.bus_due.specs.RunState.{RunState, bus_of}
 use Rattle.bus_due.specs.RunSteps.{run_state, served_after}
 use Rattle.ending_causes.specs.WrongParity.{is_struck_phase, is_wrong_phase, is_left, serves, leaves_wrong_phase, wrong_phases, fault_rows, is_refusing, is_complaining, is_true_complaint, complains_truly, has_passed_limit, has_more_faults}
-use Rattle.ending_causes.proofs.Counts.{not_both}
 
 -- ---- numbers
 
@@ -40,11 +40,11 @@ uncounted w f false p q h = grind arith
 
 counts_one : (w f : ℕ) (s p q l : Bool) → (l ≡ true → s ≡ true) → (l ≡ true → (p || q) ≡ true) → w + open_faults s p q ≤ f → w + one_if l ≤ f
 counts_one w f s p q false a b h = let k : w ≤ f = uncounted w f s p q h in grind arith
-counts_one w f false p q true a b h = absurd (not_both false (a refl) refl)
+counts_one w f false p q true a b h = wrong' (a refl)
 counts_one w f true true true true a b h = grind arith
 counts_one w f true true false true a b h = grind arith
 counts_one w f true false true true a b h = grind arith
-counts_one w f true false false true a b h = absurd (not_both false (b refl) refl)
+counts_one w f true false false true a b h = wrong' (b refl)
 
 no_open : (s : Bool) → open_faults s false false ≡ 0
 no_open true = refl
@@ -86,7 +86,7 @@ step w f true true true x io out s t p q true a b d e g h =
     (let k : w + 1 ≤ f = counts_one w f s p q true b d h in grind arith))
 step w f true true true x io out s t p q false a b d e g h =
     more_faults _ f (x && true && s) (subst (λ (r : Bool). w + 0 + open_faults r false (io && p && out) ≤ f) (sym (a refl refl)) (left_to w f s p q io out h))
-step w f true true false x io out s t p q true a b d e g h = absurd (not_both false (g refl refl) refl)
+step w f true true false x io out s t p q true a b d e g h = wrong' (g refl refl)
 step w f true true false x io out s t p q false a b d e g h =
     subst (λ (r : Bool). w + 0 + open_faults r (x || p) q ≤ f + one_if (x && true && s)) (sym (a refl refl)) (goes_on w f s p q x h)
 

@@ -51,8 +51,8 @@ use Rattle.bus_due.specs.Tasks.{task_of, task_if}
 use Rattle.bus_due.specs.Telling.{id_of, same_event, same_events, target_events, initiator_events, events_of_ends, events_of_ends_in, is_true_telling}
 use Rattle.ending_causes.specs.FullQueues.{has_event}
 use Rattle.ending_causes.specs.WrongParity.{is_struck_phase, is_complaint, is_wrong_phase, is_left, serves, leaves_wrong_phase, wrong_phases, is_failure, is_loss, is_past_limit, gives_up}
-use Rattle.ending_causes.proofs.Counts.{not_both, is_planned_wrong, planned_wrong, counted}
-use Rattle.bus_base.proofs.Tests.{all_three, or_other}
+use Rattle.ending_causes.proofs.Counts.{is_planned_wrong, planned_wrong, counted}
+use Rattle.bus_base.proofs.Tests.{all_three, wrong}
 use Rattle.disk_array.proofs.SeatLookups.{same_id_is}
 
 -- ---- equal events
@@ -135,8 +135,8 @@ spent_by : (f : Option Phase → Bool) (def : Option TargetDef) (t : Task) (a b 
 spent_by f def t a b h k = go t.in_hold (nat_lt t.recoveries (recovery_limit def)) k
   where
     go : (q r : Bool) → f (if q then a else if r then record a { counts = true } else b).to ≡ true → (not q && not r) ≡ true
-    go true r e = absurd (not_both _ e h)
-    go false true e = absurd (not_both _ e h)
+    go true r e = wrong (sym e ∙ h)
+    go false true e = wrong (sym e ∙ h)
     go false false e = refl
 
 -- ---- a command fails: with the first STATUS
@@ -176,9 +176,9 @@ record Newer (q : Bool) (xs : List Event) (e : Event) : Type 0 where
   pub has : has_event xs e ≡ true
 
 newer : (q : Bool) (xs ys : List Event) (e : Event) → has_event ys e ≡ false → has_event (newest_with (if q then xs else []) ys) e ≡ true → Newer q xs e
-newer false xs ys e h k = absurd (not_both _ k h)
-newer true [] ys e h k = absurd (not_both _ k h)
-newer true (x ∷ xs) ys e h k = record { on = refl; has = or_left (same_event x e) (has_event xs e) (either_true (same_event x e) (has_event ys e) (same_event x e) (λ z. z) (λ z. absurd (not_both _ z h)) k) }
+newer false xs ys e h k = wrong (sym k ∙ h)
+newer true [] ys e h k = wrong (sym k ∙ h)
+newer true (x ∷ xs) ys e h k = record { on = refl; has = or_left (same_event x e) (has_event xs e) (either_true (same_event x e) (has_event ys e) (same_event x e) (λ z. z) (λ z. wrong (sym z ∙ h)) k) }
 
 -- What the events of a reply say of the plan.
 record Tells (v : Serving) (phase : Phase) (id other : ProcId) (code : ℕ) : Type 0 where
@@ -200,7 +200,7 @@ reply_tells v phases.Command id other code h = go v.plan.struck refl h
   where
     go : (q : Bool) → v.plan.struck ≡ q → has_event (if q then events.Fail id PARITY_ERROR ∷ [] else arrival_run_events v.arrival id) (events.Fail other code) ≡ true → Tells v phases.Command id other code
     go true e k = let two = and_parts (same_id id other) (PARITY_ERROR == code) (one_event (events.Fail id PARITY_ERROR) (events.Fail other code) k) in record { same = two.0; failure = eqb_sym PARITY_ERROR code two.1; wrong = e }
-    go false e k = absurd (not_both _ k (run_fails v.arrival id other code))
+    go false e k = wrong (sym k ∙ run_fails v.arrival id other code)
 reply_tells v phases.DataOut id other code h = go v.plan.struck refl h
   where
     go : (q : Bool) → v.plan.struck ≡ q → has_event (if q then events.Fail id PARITY_ERROR ∷ [] else events.Run id ∷ []) (events.Fail other code) ≡ true → Tells v phases.DataOut id other code
@@ -308,7 +308,7 @@ target_fails k v n stands attention phase other code h = go k.exchange.begun ref
     go : (b : Bool) → k.exchange.begun ≡ b → (q : Bool) → has_event (if not b then [] else if q then turn_events_if v attention phase (id_of k.served) else connection_end_events n v.plan phase (id_of k.served)) (events.Fail other code) ≡ true → Shows k v phase other code
     go false b q x = cc
     go true b true x = turn b (id_of k.served) refl x
-    go true b false x = absurd (not_both _ x (end_fails n v.plan phase (id_of k.served) other code))
+    go true b false x = wrong (sym x ∙ end_fails n v.plan phase (id_of k.served) other code)
 
 completion_fails : (k : RunState) (o : Option Link) (d : RowReading) (e : Event) → ((id : ProcId) (status : ℕ) → same_event (events.End id status) e ≡ false) → has_event (initiator_events k o d) e ≡ false
 completion_fails k None d e never = refl
@@ -334,10 +334,10 @@ leaves_row s k row d n e z never calm h = go d.change.after.rst refl (rises d.ch
 
     here : d.change.after.rst ≡ false → (q : Bool) → (changes_phase d.change || not (is_some d.next)) ≡ q → has_event (if q then target_events s k n (is_some d.next) else initiator_events k k.story.link d) e ≡ true → Leaves s k d n e
     here f true w x = record { left = to_left (changes_phase d.change) (is_some d.next) d.change.after.rst f w; has = x }
-    here f false w x = absurd (not_both _ x (completion_fails k k.story.link d e never))
+    here f false w x = wrong (sym x ∙ completion_fails k k.story.link d e never)
 
     go : (q : Bool) → d.change.after.rst ≡ q → (r : Bool) → has_event (if q then (if r then events.Reset row.dev ∷ [] else []) else events_of_ends_in s k k.story.bus_state.connection d) e ≡ true → Leaves s k d n e
-    go true f true x = absurd (not_both _ (one_event (events.Reset row.dev) e x) calm)
+    go true f true x = wrong (sym (one_event (events.Reset row.dev) e x) ∙ calm)
     go true f false x = cc
     go false f r x = here f (changes_phase d.change || not (is_some d.next)) refl ((λ i. has_event (events_of_ends_in s k (sym z i) d) e) ∙ x)
 
@@ -345,7 +345,7 @@ connected : (s : ScenarioValue) (k : RunState) (row : Row) (d : RowReading) (e :
 connected s k row d e never h = go d.change.after.rst (rises d.change.own.rst d.change.next.rst) k.story.bus_state.connection refl h
   where
     go : (q r : Bool) (o : Option Connection) → k.story.bus_state.connection ≡ o → has_event (if q then (if r then events.Reset row.dev ∷ [] else []) else events_of_ends_in s k o d) e ≡ true → (n : Connection) × (k.story.bus_state.connection ≡ Some n)
-    go true true o z x = absurd (not_both _ (one_event (events.Reset row.dev) e x) never)
+    go true true o z x = wrong (sym (one_event (events.Reset row.dev) e x) ∙ never)
     go true false o z x = cc
     go false r None z x = cc
     go false r (Some n) z x = (n, z)
@@ -354,7 +354,7 @@ calm : (s : ScenarioValue) (k : RunState) (row : Row) (d : RowReading) (e : Even
 calm s k row d e never h = go d.change.after.rst (rises d.change.own.rst d.change.next.rst) h
   where
     go : (q r : Bool) → has_event (if q then (if r then events.Reset row.dev ∷ [] else []) else events_of_ends_in s k k.story.bus_state.connection d) e ≡ true → q ≡ false
-    go true true x = absurd (not_both _ (one_event (events.Reset row.dev) e x) never)
+    go true true x = wrong (sym (one_event (events.Reset row.dev) e x) ∙ never)
     go true false x = cc
     go false r x = refl
 
@@ -481,9 +481,9 @@ message_out_loses v t e a h = go v.plan.cause refl h
     refused c (Some x) o k = cc
 
     go : (c : Cause) → v.plan.cause ≡ c → is_none (message_out_leaving v c).to ≡ true → Loses v phases.MessageOut
-    go causes.Selected c k = absurd (not_both _ k (opening_goes v a))
+    go causes.Selected c k = wrong (sym k ∙ opening_goes v a)
     go causes.InMessage c k = refused c v.plan.said.offer refl k
-    go causes.InData c k = absurd (not_both _ k restored)
+    go causes.InData c k = wrong (sym k ∙ restored)
     go causes.InStatus c k = record { loss = λ i. is_loss (c i) phases.MessageOut; wrong = λ i. is_complaint v.plan (c i); spent = spent (pointer_restoration nexts.Status) refl k }
 
 end_loses : (v : Serving) (n : Connection) (attention : Bool) (phase : Phase) (o : Option ProcId) (other : ProcId) (t : Task) → v.task ≡ Some t → is_none (phase_leaving v attention phase).to ≡ true → has_event (connection_end_events n v.plan phase o) (events.Lost other) ≡ true → Loses v phase
@@ -493,10 +493,10 @@ end_loses v n attention phases.MessageOut o other t e h k = go v.plan.said.abort
     go None a x = message_out_loses v t e a h
     go (Some what) a x = cc
 end_loses v n attention phases.MessageIn o other t e h k = cc
-end_loses v n attention phases.Command o other t e h k = absurd (not_both _ h (command_goes v t e))
-end_loses v n attention phases.DataOut o other t e h k = absurd (not_both _ h (data_out_goes v t e))
+end_loses v n attention phases.Command o other t e h k = wrong (sym h ∙ command_goes v t e)
+end_loses v n attention phases.DataOut o other t e h k = wrong (sym h ∙ data_out_goes v t e)
 end_loses v n true phases.DataIn o other t e h k = cc
-end_loses v n false phases.DataIn o other t e h k = absurd (not_both _ h (data_in_goes v t e))
+end_loses v n false phases.DataIn o other t e h k = wrong (sym h ∙ data_in_goes v t e)
 end_loses v n true phases.Status o other t e h k = cc
 end_loses v n false phases.Status o other t e h k = cc
 
@@ -607,7 +607,7 @@ target_loses s k n stands p own free h = go k.exchange.begun refl stands refl h
 
     go : (b : Bool) → k.exchange.begun ≡ b → (q : Bool) → stands ≡ q → has_event (if not b then [] else if q then turn_events_if v (bus_of k).atn phase (id_of k.served) else connection_end_events n v.plan phase (id_of k.served)) (events.Lost p.id) ≡ true → Drops k v phase p.id
     go false b q y x = cc
-    go true b true y x = absurd (not_both _ x (turned (id_of k.served)))
+    go true b true y x = wrong (sym x ∙ turned (id_of k.served))
     go true b false y x = ends b y x
 
 pub loss_by : (s : ScenarioValue) (rows : List Row) (row : Row) (n : Connection) (p : Process) → (run_state s rows).story.bus_state.connection ≡ Some n → is_true_telling s (run_state s rows) row (row_reading (run_state s rows).story.bus_state row) ≡ true → process_of s p.id ≡ Some p → (is_some (row_reading (run_state s rows).story.bus_state row).next ≡ false → is_none (leaving s (run_state s rows) n.target).to ≡ true) → has_event (row_events_by s (run_state s rows).story (row_reading (run_state s rows).story.bus_state row) row) (events.Lost p.id) ≡ true → (is_loss (run_state s rows).exchange.plan.cause (phase_of (bus_of (run_state s rows))) && gives_up s rows row n p.id) ≡ true

@@ -1,5 +1,5 @@
 -- After every history a sense that is stored with the key ABORTED COMMAND is of a process that failed there.
-use Rattle.std.proofs.Common.{ℕ, ◌≡◌, Bool, true, false, List, [], ◌∷◌, ◌∙◌, refl, sym, subst, Option, Some, None, arith}
+use Rattle.std.proofs.Common.{ℕ, ◌≡◌, Bool, true, false, List, [], ◌∷◌, ◌∙◌, refl, sym, subst, Option, Some, None}
 use Rattle.std.specs.Prelude.{if◌then◌else◌, not, ◌&&◌, ◌||◌, ◌==◌, is_some, is_none, nat_lt}
 use Rattle.std.proofs.lemmas.Bool.{eqb-true, and_parts, and_from, or_right}
 use Rattle.bus_base.specs.declared.AbortKind.{AbortKind}
@@ -29,7 +29,7 @@ use Rattle.disk_array.proofs.SeatLookups.{same_id_is}
 
 -- ---- a failure of a process is one at its nexus
 
-self_nexus : (q : Nexus) → same_nexus q q ≡ true
+pub self_nexus : (q : Nexus) → same_nexus q q ≡ true
 self_nexus q = λ i. eq_self q.initiator i && (eq_self q.target i && eq_self q.unit i)
 
 here : (s : ScenarioValue) (e : Event) (p : Process) (code : ℕ) → process_of s p.id ≡ Some p → same_event e (events.Fail p.id code) ≡ true → is_failure_at s e (nexus_of p) code ≡ true
@@ -206,7 +206,7 @@ current_own s (u ∷ units) id r b h = go (λ k. current_own s units id r b.1 k)
     go later None k l = later l
     go later (Some q) k l = inner later q k (same_id q.process.id id) l
 
-running_own : (s : ScenarioValue) (a : Array) (id : ProcId) (r : RunningProcess) → IsSound s a → Steps.running_process a id ≡ Some r → process_of s r.process.id ≡ Some r.process
+pub running_own : (s : ScenarioValue) (a : Array) (id : ProcId) (r : RunningProcess) → IsSound s a → Steps.running_process a id ≡ Some r → process_of s r.process.id ≡ Some r.process
 running_own s a id r b h = go (guest_at a.guests id) refl h
   where
     go : (x : Option RunningProcess) → guest_at a.guests id ≡ x → (if is_some x then x else Steps.running_in a.units id) ≡ Some r → process_of s r.process.id ≡ Some r.process

@@ -1,5 +1,5 @@
 -- A command fails only where a byte of it was struck.
-use Rattle.std.proofs.Common.{ℕ, ◌≡◌, Bool, true, false, List, [], ◌∷◌, ◌++◌, ◌∙◌, refl, sym, subst, Option, Some, None, arith}
+use Rattle.std.proofs.Common.{ℕ, ◌≡◌, Bool, true, false, List, [], ◌∷◌, ◌++◌, ◌∙◌, refl, sym, subst, Option, Some, None}
 use Rattle.std.specs.Prelude.{◌+◌, if◌then◌else◌, not, ◌&&◌, ◌||◌, ◌==◌, is_some, is_none, nat_lt}
 use Rattle.std.specs.List.{list_any}
 use Rattle.std.proofs.lemmas.Bool.{and_parts, eqb-true, or_right, or_left}
@@ -37,8 +37,7 @@ use Rattle.bus_story.specs.TraceHistory.{story, trace_history, aim_of, is_host, 
 use Rattle.bus_due.specs.Telling.{same_event}
 use Rattle.ending_causes.specs.FullQueues.{has_event}
 use Rattle.ending_causes.specs.Strikes.{is_item_of, is_link_of, fails_with, has_failing_byte, is_strike, has_strike}
-use Rattle.ending_causes.proofs.Counts.{not_both}
-use Rattle.bus_base.proofs.Tests.{eq_self, all_three}
+use Rattle.bus_base.proofs.Tests.{all_three, wrong}
 use Rattle.disk_array.proofs.SeatLookups.{same_id_is}
 use Rattle.bus_due.proofs.SameEvents.{id_self}
 
@@ -403,7 +402,7 @@ queue_none s b (Some k) lines id code = go (is_command lines && is_whole_block k
     go false q = refl
 
 status_is : (s : ScenarioValue) (rows : List Row) (o : Option CarriedBytes) (lines : LineSet) (arrived : List Event) (id : ProcId) (code : ℕ) → IsCarriedIf s rows o → has_event arrived (events.Fail id code) ≡ false → has_event (HistoryEvents.status_events o lines arrived) (events.Fail id code) ≡ true → has_strike s rows id code ≡ true
-status_is s rows None lines arrived id code c n h = absurd (not_both _ h n)
+status_is s rows None lines arrived id code c n h = wrong (sym h ∙ n)
 status_is s rows (Some k) lines arrived id code c n h = go (is_status_phase lines && not k.shown && not k.refused && not (list_any (λ e. HistoryEvents.is_refuse e) arrived)) h
   where
     same : (x : ℕ) → has_strike s rows k.id x ≡ true → same_event (events.Fail k.id x) (events.Fail id code) ≡ true → has_strike s rows id code ≡ true
@@ -414,10 +413,10 @@ status_is s rows (Some k) lines arrived id code c n h = go (is_status_phase line
     of_event : (x : Option ℕ) → IsFailure s rows k.id x → (q : Bool) → same_event (HistoryEvents.status_event k.id x) (events.Fail id code) ≡ q → (q || has_event arrived (events.Fail id code)) ≡ true → has_strike s rows id code ≡ true
     of_event None m true e f = cc
     of_event (Some x) m true e f = same x m e
-    of_event x m false e f = absurd (not_both _ f n)
+    of_event x m false e f = wrong (sym f ∙ n)
 
     go : (q : Bool) → has_event (if q then HistoryEvents.status_event k.id k.failure ∷ arrived else arrived) (events.Fail id code) ≡ true → has_strike s rows id code ≡ true
-    go false e = absurd (not_both _ e n)
+    go false e = wrong (sym e ∙ n)
     go true e = of_event k.failure c (same_event (HistoryEvents.status_event k.id k.failure) (events.Fail id code)) refl e
 
 end_none : (o : Option CarriedBytes) (id : ProcId) (code : ℕ) → has_event (HistoryEvents.end_events o) (events.Fail id code) ≡ false
@@ -457,9 +456,9 @@ shown_is s rows row id code h = go d.change.after.rst (rises d.change.own.rst d.
     by_link l true true r e =
         status_is s rows (carried_if b l.item) d.change.after (HistoryEvents.queue_events s b (carried_if b l.item) d.change.before) id code (carried_if_is s rows b l.item (struck_after s rows).carried)
         (queue_none s b (carried_if b l.item) d.change.before id code) e
-    by_link l true false true e = absurd (not_both _ e (end_none (carried_if b l.item) id code))
+    by_link l true false true e = wrong (sym e ∙ end_none (carried_if b l.item) id code)
     by_link l true false false e = cc
-    by_link l false q r e = absurd (not_both _ e (free_none s l l.last id code))
+    by_link l false q r e = wrong (sym e ∙ free_none s l l.last id code)
 
     linked : (o : Option Link) → has_event (HistoryEvents.link_events s b o d) (events.Fail id code) ≡ true → has_strike s rows id code ≡ true
     linked None e = cc

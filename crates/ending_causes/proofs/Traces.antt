@@ -1,9 +1,8 @@
 -- Of a whole trace: a process fails, or is lost, only past the limit of its target.
-use Rattle.std.proofs.Common.{ℕ, ◌≡◌, Bool, true, false, List, [], ◌∷◌, ◌++◌, ◌∙◌, refl, sym, Option, Some, None, arith}
+use Rattle.std.proofs.Common.{ℕ, ◌≡◌, Bool, true, false, List, [], ◌∷◌, ◌∙◌, refl, sym, Option, Some, None, arith}
 use Rattle.std.specs.Prelude.{◌+◌, if◌then◌else◌, not, ◌&&◌, ◌||◌, ◌==◌, is_some, is_none, nat_lt}
-use Rattle.std.proofs.lemmas.Bool.{and_parts, eqb-true, or_right}
+use Rattle.std.proofs.lemmas.Bool.{and_parts, eqb-true}
 use Rattle.std.proofs.lemmas.Bool.Decides.{nat_tests}
-use Rattle.bus_base.specs.declared.Event.{Event}
 use Rattle.bus_base.specs.declared.Event.TheVariants as events
 use Rattle.bus_trace.specs.declared.Row.{Row}
 use Rattle.bus_trace.specs.declared.connection.Connection.{Connection}
@@ -22,7 +21,7 @@ use Rattle.bus_due.specs.RunState.{RunState, bus_of, process_served, process_ite
 use Rattle.bus_due.specs.RunSteps.{run_state, served_after}
 use Rattle.bus_due.specs.Sights.{leaving}
 use Rattle.bus_due.specs.Tasks.{task_of}
-use Rattle.bus_due.specs.Telling.{is_true_telling, telling, same_event}
+use Rattle.bus_due.specs.Telling.{is_true_telling, telling}
 use Rattle.ending_causes.specs.FullQueues.{has_event}
 use Rattle.ending_causes.specs.WrongParity.{is_struck_phase, is_left, serves, is_wrong_phase, leaves_wrong_phase, wrong_phases, is_failure, is_loss, is_past_limit, gives_up, is_left_by, is_left_as_due, left_as_due, has_passed_limit}
 use Rattle.ending_causes.proofs.GiveUps.{failure_is, loss_by, fails_connected, lost_connected, lost_calm}

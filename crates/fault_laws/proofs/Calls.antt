@@ -2,7 +2,7 @@
 use Rattle.std.proofs.Common.{ℕ, ◌≡◌, Bool, true, false, not, ◌&&◌, ◌==◌, ◌∙◌, List, ◌∷◌, Option, Some, None, refl, sym, ap, subst}
 use Rattle.std.specs.Prelude.{if◌then◌else◌, is_some, is_none}
 use Rattle.std.proofs.lemmas.Option.{same_Some}
-use Rattle.std.proofs.lemmas.Bool.{or_left, and_right}
+use Rattle.std.proofs.lemmas.Bool.{or_left, and_right, and_left}
 use Rattle.bus_trace.specs.declared.Row.{Row}
 use Rattle.bus_trace.specs.declared.changes.Change.{Change}
 use Rattle.bus_trace.specs.declared.selection.Call.{Call}
@@ -94,20 +94,17 @@ call_goes p row k h e f = go (bus p).sel refl
 not_some : (o : Option ℕ) → is_some o ≡ true → is_none o ≡ false
 not_some o e = ap not e
 
-no_and : (a b : Bool) → a ≡ false → (a && b) ≡ false
-no_and a b e = ap (λ (q : Bool). q && b) e
-
 pub answered_unasked : (h : Calling) → is_some h.answered ≡ true → is_asked h ≡ false
 answered_unasked h e = and_right (is_some h.released && is_none h.withdrawn && not h.struck) (is_none h.answered) (not_some h.answered e)
 
 pub withdrawn_unasked : (h : Calling) → is_some h.withdrawn ≡ true → is_asked h ≡ false
-withdrawn_unasked h e = no_and (is_some h.released && is_none h.withdrawn && not h.struck) (is_none h.answered) (no_and (is_some h.released && is_none h.withdrawn) (not h.struck) (and_right (is_some h.released) (is_none h.withdrawn) (not_some h.withdrawn e)))
+withdrawn_unasked h e = and_left (is_some h.released && is_none h.withdrawn && not h.struck) (is_none h.answered) (and_left (is_some h.released && is_none h.withdrawn) (not h.struck) (and_right (is_some h.released) (is_none h.withdrawn) (not_some h.withdrawn e)))
 
 pub struck_unasked : (h : Calling) → h.struck ≡ true → is_asked h ≡ false
-struck_unasked h e = no_and (is_some h.released && is_none h.withdrawn && not h.struck) (is_none h.answered) (and_right (is_some h.released && is_none h.withdrawn) (not h.struck) (ap not e))
+struck_unasked h e = and_left (is_some h.released && is_none h.withdrawn && not h.struck) (is_none h.answered) (and_right (is_some h.released && is_none h.withdrawn) (not h.struck) (ap not e))
 
 pub unreleased_unasked : (h : Calling) → is_some h.released ≡ false → is_asked h ≡ false
-unreleased_unasked h e = no_and (is_some h.released && is_none h.withdrawn && not h.struck) (is_none h.answered) (no_and (is_some h.released && is_none h.withdrawn) (not h.struck) (no_and (is_some h.released) (is_none h.withdrawn) e))
+unreleased_unasked h e = and_left (is_some h.released && is_none h.withdrawn && not h.struck) (is_none h.answered) (and_left (is_some h.released && is_none h.withdrawn) (not h.struck) (and_left (is_some h.released) (is_none h.withdrawn) e))
 
 -- ---- the IDs
 

@@ -1,6 +1,6 @@
 -- How each command of an initiator's own ended goes on row by row.
 use Rattle.std.proofs.Common.{ℕ, suc, zero, ◌≡◌, ◌≢◌, ◌+◌, ◌<◌, Bool, true, false, List, [], ◌∷◌, ◌∙◌, refl, sym, ap, subst, arith, length, set, replicate, Option, Some, None}
-use Rattle.std.specs.Prelude.{if◌then◌else◌, not, ◌&&◌, ◌||◌, ◌==◌, is_some, is_none, map}
+use Rattle.std.specs.Prelude.{if◌then◌else◌, not, ◌&&◌, ◌||◌, ◌==◌, ◌++◌, is_some, is_none, map}
 use Rattle.std.proofs.lemmas.Bool.{ne_eqb, eq-eqb, eqb-true, eqb-false}
 use Rattle.std.proofs.lemmas.List.{get_or-set_same, get_or-set_other, length-set, length-replicate}
 use Rattle.std.proofs.lemmas.List.Folds.{list_any-append}
@@ -9,6 +9,7 @@ use Rattle.bus_base.specs.declared.Event.{Event}
 use Rattle.bus_base.specs.declared.Event.TheVariants as events
 use Rattle.bus_trace.specs.declared.Row.{Row}
 use Rattle.bus_trace.specs.declared.selection.Call.{Call}
+use Rattle.bus_trace.specs.Terms.{connection}
 use Rattle.scenario.specs.declared.value.CmdDef.{CmdDef}
 use Rattle.scenario.specs.Value.{ScenarioValue}
 use Rattle.disk_array.specs.Processes.{command_at, same_bool}
@@ -34,7 +35,7 @@ use Rattle.initiator.specs.Openings.{mine_at}
 use Rattle.initiator.specs.Wishes.{IsItemIf, events_shown}
 use Rattle.initiator.specs.Endings.{no_end, ended_so, with_sense_end, end_at, ends_with, ends_with_sense, is_named, ends_of_mines, ends_after_event, ends_after_events, is_over, ends_after_calling, ends_after, told_ending, told_ending_if, sense_of, AreEndingsOf}
 use Rattle.initiator.proofs.Foreign.{no_host_first}
-use Rattle.initiator.proofs.StoryEnds.{first_of, ended_if, drops_if, ending_after, AreEnded, IsUnended, Calls, same, vain, event_ends, events_keep, events_sent, change_calls, change_keeps, shown_unended, links_stand, are_ended}
+use Rattle.initiator.proofs.StoryEnds.{first_of, ended_if, drops_if, ending_after, AreEnded, IsUnended, Calls, same, vain, event_ends, events_keep, events_sent, change_calls, change_keeps, shown_unended, linked_unended, links_stand, are_ended}
 use Rattle.initiator.proofs.Wishes.{IsCaller}
 use Rattle.initiator.proofs.WishRows.{aims_are, callers_are}
 use Rattle.initiator.proofs.HeldSteps.{in_range}
@@ -469,6 +470,22 @@ endings_go_on s rows row dev v aim p d at h =
                 ∙ (λ i. has_end shown (sense_of n) || x.sense_is i)
                 ∙ sym (list_any-append (λ e. is_end_of (sense_of n) e) shown b.history);
           };
+    }
+
+-- A row in a connection that shows no event leaves them as they are.
+pub endings_stay : (s : ScenarioValue) (rows : List Row) (row : Row) (dev : ℕ) (v : List CommandEnd) → IsPlain s rows (run_state s rows) → is_some (connection rows) ≡ true → [] ≡ events_shown s rows row → AreEndingsOf s rows dev v → AreEndingsOf s (row ∷ rows) dev v
+endings_stay s rows row dev v p stands none h =
+    let b : Story = (run_state s rows).story in
+    let c : Story = story_by_change s b (row_reading b.bus_state row) row in
+    let x : IsUnended b c = linked_unended s b (row_reading b.bus_state row) row ((λ i. is_some (p.connection i)) ∙ stands) in
+    record {
+      long = h.long;
+      ends = λ n k k_is own_is. record {
+        ending_is = (h.ends n k k_is own_is).ending_is
+            ∙ (λ i. ending_of (sym x.ended i) n)
+            ∙ (λ i. ending_of (story_after_events s c (none i)).ended n);
+        sense_is = (h.ends n k k_is own_is).sense_is ∙ (λ i. has_end (none i ++ b.history) (sense_of n));
+      };
     }
 
 -- ---- before any row

@@ -20,7 +20,7 @@ use Rattle.bus_due.specs.Sights.{sending_of}
 use Rattle.bus_due.specs.Telling.{id_of}
 use Rattle.scenario.specs.declared.value.CmdDef.{CmdDef}
 use Rattle.disk_array.specs.Processes.{command_at}
-use Rattle.bus_dialogue.specs.Sending.{Sending, byte_to_send}
+use Rattle.bus_dialogue.specs.Sending.{byte_to_send}
 use Rattle.bus_due.specs.Plain.{AreOfDevices, IsPlain}
 use Rattle.scsi_device.specs.Lines.{IsCommandLine}
 use Rattle.initiator.specs.Hosts.{HostValue, IsHostAfter, HasHeard}
@@ -34,7 +34,7 @@ use Rattle.initiator.proofs.Sendings.{sendings_are}
 use Rattle.initiator.proofs.TransferRows.{process_is, pointers_are, link_owned, own_is}
 use Rattle.initiator.specs.OwnLinks.{own_link}
 use Rattle.initiator.specs.Speeches.{first_words}
-use Rattle.initiator.specs.States.{InitiatorState, state_by, IsOwnConnection, AreSameBytes}
+use Rattle.initiator.specs.States.{IsOwnConnection, AreSameBytes}
 use Rattle.initiator.specs.Transfers.{active_of, active_at, process_of_link}
 use Rattle.std.proofs.lemmas.Bool.{eqb-true, ne_eqb}
 use Rattle.bus_base.proofs.Tests.{and_second}
@@ -112,10 +112,3 @@ host_goes_on s rows row v m itself intent ends def bytes itself_dev intent_dev r
       endings_are = subst (λ (z : HostDef). AreEndingsOf s (row ∷ rows) z.dev ends) (sym def) endings_are;
       bytes_are = bytes ∙ h.bytes_are ∙ (λ i. own_bytes s (sym def i).dev);
     }
-
--- What it sends, and what it knows itself.
-abbrev pub sending_of_host : HostValue → Sending
-sending_of_host v = sending_from v.bytes (process_of_link v.transfers.link) (active_at v.transfers.held (process_of_link v.transfers.link))
-
-abbrev pub known_to_host : HostValue → InitiatorState
-known_to_host v = state_by v.itself v.intent v.speech (sending_of_host v)

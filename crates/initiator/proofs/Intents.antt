@@ -1,12 +1,12 @@
 -- What an initiator wants of the bus, and since when, goes on row by row.
 use Rattle.std.proofs.Common.{ℕ, ◌≡◌, ◌<◌, Bool, true, false, List, [], ◌∷◌, ◌∙◌, refl, sym, ap, subst, Option, Some, None}
-use Rattle.std.specs.Prelude.{if◌then◌else◌, ◌&&◌, ◌||◌, is_some, is_none}
+use Rattle.std.specs.Prelude.{if◌then◌else◌, not, ◌&&◌, ◌||◌, is_some, is_none}
 use Rattle.bus_base.specs.declared.Event.{Event}
 use Rattle.bus_trace.specs.declared.Row.{Row}
 use Rattle.bus_trace.specs.declared.changes.Change.{Change}
 use Rattle.bus_trace.specs.declared.connection.Connection.{Connection}
 use Rattle.bus_trace.specs.declared.selection.Call.{Call}
-use Rattle.bus_trace.specs.Changes.{falls, change_of}
+use Rattle.bus_trace.specs.Changes.{rises, falls, change_of}
 use Rattle.bus_trace.specs.Terms.{call, call_after, connection}
 use Rattle.bus_lines.specs.declared.effect.RowEffect.{RowEffect}
 use Rattle.bus_lines.specs.Effect.{effect}
@@ -86,6 +86,32 @@ intent_goes_on items s rows row v w e shown dev wish called since callee is p q 
     to : (q : Bool) → is_news e.change e.before e.after shown ≡ q → w.callee ≡ (if q then target_by w.wish.book w.wish.aim else v.callee) → w.callee ≡ target_by w.wish.book w.wish.aim
     to true n x = x
     to false n x = x ∙ h.callee_is ∙ (λ j. target_by (unchanged n j).book (unchanged n j).aim)
+
+-- A row in a connection that shows no event changes nothing of it but the call that stands.
+no_news : (c : Change) (before after : Option Connection) → is_some before ≡ true → is_news c before after [] ≡ false
+no_news c None after h = cc
+no_news c (Some m) after h = go (rises c.own.bsy c.next.bsy) c.before.sel
+  where
+    go : (up sel : Bool) → ((up && not sel && false) || false || false) ≡ false
+    go true true = refl
+    go true false = refl
+    go false sel = refl
+
+pub intent_stays : IsItemLaw → (s : ScenarioValue) (rows : List Row) (row : Row) (v w : IntentValue) (e : RowEffect)
+    → w ≡ record v { call = call_after v.call e.change row } → e ≡ effect (row ∷ rows) → is_some (connection rows) ≡ true → [] ≡ events_shown s rows row
+    → IsPlain s rows (run_state s rows) → IsPlain s (row ∷ rows) (run_state s (row ∷ rows)) → hearing_of (run_state s rows) row (row_reading (run_state s rows).story.bus_state row) ≡ hearing rows row
+    → AreOfDevices (row ∷ rows) → HasInitiator (connection (row ∷ rows)) → IsInitiator s v.dev v.retries → IsIntentOf s rows v → IsIntentOf s (row ∷ rows) w
+intent_stays items s rows row v w e same is stands none p q heard d ends i h =
+    subst (λ (z : IntentValue). IsIntentOf s (row ∷ rows) z) (sym same)
+    (intent_goes_on items s rows row v (record v { call = call_after v.call e.change row }) e [] refl
+    (sym (same_wish v.dev v.retries v.call v.wish e.change e.before e.after row.dev row.time [] quiet))
+    refl
+    (λ j. if sym quiet j then my_since v.wish.book else v.since)
+    (λ j. if sym quiet j then target_by v.wish.book v.wish.aim else v.callee)
+    is p q heard d ends i none h)
+  where
+    quiet : is_news e.change e.before e.after [] ≡ false
+    quiet = no_news e.change e.before e.after ((λ j. is_some (is j).before) ∙ stands)
 
 pub wants_since : (s : ScenarioValue) (rows : List Row) (v : IntentValue) → IsIntentOf s rows v → v.since ≡ item_want_time s (run_state s rows).story.sent v.dev
 wants_since s rows v h = h.since_is ∙ ap (λ (b : BookValue). my_since b) h.wish_is.book_is ∙ since_is s (run_state s rows).story.sent v.dev

@@ -35,3 +35,4 @@ mod PastEndings
 mod CheckQueues
 mod Still
 mod Waiting
+mod Unasked

@@ -1,5 +1,5 @@
 -- A row of a connection that tells an initiator nothing leaves what it hears as it was.
-use Rattle.std.proofs.Common.{ℕ, ◌≡◌, Bool, true, false, List, [], ◌∷◌, ◌∙◌, refl, sym, subst, Option, Some, None}
+use Rattle.std.proofs.Common.{ℕ, ◌≡◌, ◌≢◌, Bool, true, false, List, [], ◌∷◌, ◌∙◌, refl, sym, subst, Option, Some, None}
 use Rattle.std.specs.Prelude.{if◌then◌else◌, not, ◌&&◌, ◌||◌, ◌==◌, is_some}
 use Rattle.bus_base.specs.declared.Event.{Event}
 use Rattle.bus_trace.specs.declared.Row.{Row}
@@ -20,18 +20,23 @@ use Rattle.bus_due.specs.RunState.{item_of}
 use Rattle.bus_due.specs.RunSteps.{run_state}
 use Rattle.bus_due.specs.Sights.{hearing_of}
 use Rattle.bus_due.specs.Telling.{id_of}
+use Rattle.initiator.specs.declared.endings.CommandEnd.{CommandEnd}
 use Rattle.initiator.specs.declared.mine.Mine.{Mine}
 use Rattle.initiator.specs.declared.mine.OwnItem.{OwnItem}
 use Rattle.initiator.specs.declared.own_link.OwnLink.{OwnLink}
 use Rattle.initiator.specs.Books.{my_book}
+use Rattle.initiator.specs.Endings.{AreEndingsOf}
 use Rattle.initiator.specs.Hosts.{HostValue, IsHostAfter, HasHeard, hears_nothing}
-use Rattle.initiator.specs.Intents.{is_empty}
+use Rattle.initiator.specs.Intents.{IntentValue, IsIntentOf, is_empty}
 use Rattle.initiator.specs.Negotiations.{aims_at_process}
 use Rattle.initiator.specs.OwnLinks.{own_link}
 use Rattle.initiator.specs.Received.{BufferPairValue, AreReceived, received_after}
 use Rattle.initiator.specs.Speeches.{speech_by, IsSpeechOf, IsOpeningOf}
 use Rattle.initiator.specs.Transfers.{TransfersValue, transfers_after, transfers_after_crossing, transfers_in_link, transfers_on_bus, IsTransfersOf}
 use Rattle.initiator.specs.Wishes.{events_shown}
+use Rattle.scsi_device.specs.Itself.{ItselfValue, IsItselfOf}
+use Rattle.initiator.proofs.EndingRows.{endings_stay}
+use Rattle.initiator.proofs.Hosts.{host_goes_on}
 use Rattle.initiator.proofs.NegotiationRows.{negotiations_go_on}
 use Rattle.initiator.proofs.ReceivedRows.{quiet, received_goes_on}
 use Rattle.initiator.proofs.Speeches.{speeches_go_on}
@@ -129,3 +134,24 @@ still_heard s rows row v w (Some m) (Some n) [] p q heard d told b a events e h 
   where
     began : IsOpeningOf s rows row v.def.dev []
     began k none some own first = (let bad : None ≡ Some m = sym none ∙ sym b in cc)
+
+-- A row in a connection that shows no event, and that it has heard.
+pub linked_goes_on : (s : ScenarioValue) (rows : List Row) (row : Row) (v m : HostValue) (itself : ItselfValue) (intent : IntentValue) → m.def ≡ v.def → m.bytes ≡ v.bytes → m.endings ≡ v.endings → IsPlain s rows (run_state s rows)
+    → is_some (connection rows) ≡ true → [] ≡ events_shown s rows row
+    → itself.dev ≡ v.itself.dev → intent.dev ≡ v.intent.dev → intent.retries ≡ v.intent.retries → IsItselfOf s (row ∷ rows) itself → IsIntentOf s (row ∷ rows) intent
+    → IsHostAfter s rows v → HasHeard s rows row m → IsHostAfter s (row ∷ rows) (record m { itself = itself; intent = intent })
+linked_goes_on s rows row v m itself intent def bytes ends p stands none itself_dev intent_dev retries itself_is intent_is h w =
+    host_goes_on s rows row v m itself intent m.endings def bytes itself_dev intent_dev retries itself_is intent_is
+    (subst (λ (z : List CommandEnd). AreEndingsOf s (row ∷ rows) v.def.dev z) (sym ends) (endings_stay s rows row v.def.dev v.endings p stands none h.endings_are)) h w
+
+-- ---- what the tests say of the rows
+
+pub empty_is : (shown : List Event) → is_empty shown ≡ true → shown ≡ []
+empty_is [] e = refl
+empty_is (x ∷ shown) e = cc
+
+-- In a connection of others a row tells nothing while RST is false.
+pub others_tell_nothing : (dev : ℕ) (w : Hearing) (before after : Option Connection) (m n : Connection) → before ≡ Some m → after ≡ Some n → (m.initiator == dev) ≡ false → (n.initiator == dev) ≡ false → w.change.after.rst ≡ false → hears_nothing dev w before after ≡ true
+others_tell_nothing dev w before after m n b a x y calm =
+    (λ i. hears_nothing dev w (b i) (a i))
+    ∙ (λ i. not (calm i) && ((not (x i) && not (y i)) || not (w.crosses || changes_phase w.change)))

@@ -536,6 +536,18 @@ shown_unended s b d row stands h = go d.change.after.rst h
     go true z = record { ended = refl; over = refl }
     go false z = on_bus b.bus_state.connection refl z
 
+-- So does a row in a connection.
+pub linked_unended : (s : ScenarioValue) (b : Story) (d : RowReading) (row : Row) → is_some b.bus_state.connection ≡ true → IsUnended b (story_by_change s b d row)
+linked_unended s b d row e = go d.change.after.rst
+  where
+    on_bus : (m : Option Connection) → is_some m ≡ true → IsUnended b (story_on_bus s b m d.next d row)
+    on_bus None z = cc
+    on_bus (Some m) z = unended_linked s b m d.next d row
+
+    go : (q : Bool) → IsUnended b (if q then record b { link = None } else story_on_bus s b b.bus_state.connection d.next d row)
+    go true = record { ended = refl; over = refl }
+    go false = on_bus b.bus_state.connection e
+
 -- ---- all rows
 
 -- Where no connection stands, no link does.

@@ -1,5 +1,6 @@
 -- What an initiator does next, and when, by what all devices are told and by what it knows itself.
-use Rattle.std.specs.Prelude.{ℕ, ◌==◌, ◌&&◌, not, Bool, true, false, Option, Some, None, if◌then◌else◌}
+use Rattle.std.specs.Prelude.{ℕ, ◌==◌, ◌&&◌, ◌||◌, not, Bool, true, false, Option, Some, None, if◌then◌else◌}
+use Rattle.bus_trace.specs.LineSet.{LineSet}
 use Rattle.bus_trace.specs.declared.connection.Connection.{Connection}
 use Rattle.scenario.specs.declared.value.FaultDef.{FaultDef}
 use Rattle.scenario.specs.declared.value.HostDef.{HostDef}
@@ -31,6 +32,13 @@ link_by h t f i =
 abbrev pub answering_of_host : Told → InitiatorState → Answering
 answering_of_host t i = answering_by i.speech i.sending t.sight.bus t.offer i.own.ack
 
+-- Only where it may drive a byte next does it go by that: on REQ, or by pulses, in a phase to the target.
+abbrev pub drives_byte : LineSet → LineSet → Bool → Bool
+drives_byte own bus pulsed = not bus.io && (not own.ack && (pulsed || (bus.req && own.data_bits == 0)))
+
+abbrev pub with_byte_if : Bool → Answering → Answering
+with_byte_if drives a = record a { byte = if drives then a.byte else 0 }
+
 abbrev pub plain_by : HostDef → Told → InitiatorState → Option Due
 plain_by h t i =
     hand.initiator_due t.begun t.sight t.handshakes (myself_by h t i) (pace_of t (Some h)) (answering_of_host t i)
@@ -48,10 +56,9 @@ calm_by h t f i true n = link_by h t f i
 calm_by h t f i false None = link_by h t f i
 calm_by h t f i false (Some n) = connected_by h t f i n
 
--- A connection of others stands, and RST is false.
-abbrev pub is_elsewhere : Bool → Option Connection → ℕ → Bool
-is_elsewhere rst None dev = false
-is_elsewhere rst (Some n) dev = not (n.initiator == dev) && not rst
+-- The connection that stands, while RST is false.
+abbrev pub stands_calm : Bool → Option Connection → Option Connection
+stands_calm rst n = if rst then None else n
 
 -- A reset of its own goes before all that (6.2.2).
 abbrev pub initiator_next : HostDef → Told → Option FaultDef → InitiatorState → Option Due

@@ -16,9 +16,10 @@ use Rattle.bus_due.specs.Sights.{sending_of}
 use Rattle.bus_due.specs.RunSteps.{run_state}
 use Rattle.bus_due.specs.Due.{reset_from}
 use Rattle.initiator.specs.declared.due.Knowledge.{Knowledge}
-use Rattle.initiator.specs.declared.due.Sending as known
 use Rattle.scsi_device.specs.Itself.{ItselfValue}
 use Rattle.initiator.specs.Intents.{IntentValue}
+use Rattle.initiator.specs.OwnBytes.{CommandBytesValue, sending_from}
+use Rattle.initiator.specs.Transfers.{TransfersValue, process_of_link, active_at}
 
 -- ---- what it knows itself
 
@@ -77,10 +78,11 @@ state_by v w speech sending = record {
   sending = sending;
 }
 
--- What the code is told of it.
-abbrev pub sending_known : known.Sending → Sending
-sending_known o = record { cdb = o.cdb.now; sent = o.sent.now; command = o.command; moved = o.moved }
+-- What it sends of the process of its connection.
+abbrev pub sending_by : List CommandBytesValue → TransfersValue → Sending
+sending_by bytes v = sending_from bytes (process_of_link v.link) (active_at v.held (process_of_link v.link))
 
+-- What the code is told of it.
 abbrev pub state_known : Knowledge → InitiatorState
 state_known k = record {
   own = k.own.now;
@@ -88,5 +90,5 @@ state_known k = record {
   since = k.since;
   callee = k.callee;
   speech = k.speech.now;
-  sending = sending_known k.sending;
+  sending = sending_by k.bytes.now k.transfers.now;
 }

@@ -1,7 +1,8 @@
 // What an initiator does next, and when.
-ghost use Rattle.std.specs.Prelude.{ℕ, ◌≡◌, ◌<◌, ◌≤◌, ◌^◌, true, false, slice_index_or, List, Option, Some};
+ghost use Rattle.std.specs.Prelude.{ℕ, ◌≡◌, ◌<◌, ◌≤◌, ◌^◌, true, false, slice_index_or, List, Option, Some, if◌then◌else◌};
 ghost use Rattle.bus_trace.specs.declared.Row.{Row};
 ghost use Rattle.bus_trace.specs.Trace.{bus, drives};
+ghost use Rattle.bus_trace.specs.Phases.{is_command};
 ghost use Rattle.bus_trace.specs.Terms.{connection};
 ghost use Rattle.bus_lines.specs.BusView.{IsBusViewOf};
 ghost use Rattle.bus_lines.specs.Timely.{IsTimely, IsBefore};
@@ -17,35 +18,26 @@ ghost use Rattle.bus_due.specs.Plain.{AreOfDevices};
 ghost use Rattle.bus_due.specs.RunSteps.{run_state};
 ghost use Rattle.scsi_device.specs.Told.{told, first_fault};
 ghost use Rattle.scenario.specs.declared.value.FaultDef.{FaultDef};
-ghost use Rattle.initiator.specs.States.{InitiatorState, sending_known, state_known, IsInitiatorOf, IsHostOf, IsNoTarget};
-ghost use Rattle.initiator.specs.Dues.{is_elsewhere, myself_by, want_by, link_by, answering_of_host, plain_by, hand_by, calm_by, initiator_next};
+ghost use Rattle.initiator.specs.OwnBytes.{sending_from};
+ghost use Rattle.initiator.specs.States.{state_known, IsInitiatorOf, IsHostOf, IsNoTarget};
+ghost use Rattle.initiator.specs.Waits.{waits};
+ghost use Rattle.initiator.specs.Dues.{stands_calm, drives_byte, with_byte_if, myself_by, want_by, link_by, answering_of_host, plain_by, hand_by, calm_by, initiator_next};
 
 use crate::laws::dues_are_of_initiators;
+use crate::own_bytes::{CommandBytes, OwnBytes};
 use crate::speech::Speech;
+use crate::transfers::Transfers;
 use bus_base::{Dev, Ns};
 use bus_dialogue::Observer;
 use bus_lines::BusView;
 use bus_phases::End;
-use bus_reactions::{Answering, Due, Myself, Want, sight_of};
-use bus_trace::{Lines, is_command, is_message_out};
+use bus_reactions::{Answering, Due, Myself, Want};
+use bus_trace::{Connection, Lines, is_command, is_message_out};
 use connect::{due_with_reset, link_due, sample_time};
 use handshake::initiator_due;
+use io_pointers::Place;
 use scenario::{FaultDef, HostDef};
-use scsi_device::{OwnTimes, flip, is_receiving, pace, sampled};
-
-/// What an initiator sends of the process of its connection but for messages: the bytes of its command block and of its
-/// data, and the active pointers to them, in bytes.
-#[derive(Clone, Copy, Debug)]
-pub struct Sending<'a> {
-    /// The command block.
-    pub cdb: &'a [u8],
-    /// The data.
-    pub sent: &'a [u8],
-    /// Where in the command block.
-    pub command: usize,
-    /// Where in the data.
-    pub moved: usize,
-}
+use scsi_device::{OwnTimes, flip, is_pulsed, lines_seen, pace, sampled};
 
 /// What an initiator knows itself.
 #[derive(Clone, Copy, Debug)]
@@ -60,8 +52,10 @@ pub struct Knowledge<'a> {
     pub callee: Option<Dev>,
     /// What it says in MESSAGE OUT.
     pub speech: &'a Speech,
-    /// What it sends else.
-    pub sending: Sending<'a>,
+    /// What it sends else of its processes.
+    pub bytes: &'a OwnBytes,
+    /// To which of them its connection belongs, and their pointers.
+    pub transfers: &'a Transfers,
 }
 
 fn byte_at(bytes: &[u8], place: usize) -> u8
@@ -73,21 +67,44 @@ fn byte_at(bytes: &[u8], place: usize) -> u8
     }
 }
 
-// The byte that it gives next in the phase of these lines.
-fn byte_to_send(bus: Lines, speech: &Speech, sending: &Sending<'_>) -> u8
-    ensures { result ≡ byte_to_send bus speech.now (sending_known sending.now) }
+// The byte of a command block in COMMAND, and else of its data.
+fn process_byte(bus: Lines, bytes: &CommandBytes, place: Place) -> u8
+    ensures { result ≡ (if is_command bus then slice_index_or bytes.now.cdb place.command 0
+        else slice_index_or bytes.now.sent place.payload 0) }
 {
-    if is_message_out(bus) {
-        speech.next_word()
-    } else if is_command(bus) {
-        byte_at(sending.cdb, sending.command)
+    if is_command(bus) {
+        byte_at(bytes.cdb(), place.command as usize)
     } else {
-        byte_at(sending.sent, sending.moved)
+        byte_at(bytes.sent(), place.payload as usize)
     }
 }
 
-/// What an initiator of this line is, by what the view shows of it.
-pub fn myself(host: &HostDef, view: &BusView, own: &OwnTimes) -> Myself
+// The byte that it gives next in the phase of these lines.
+fn byte_to_send(bus: Lines, known: &Knowledge<'_>) -> u8
+    ensures { result ≡ byte_to_send bus known.now.speech.now (state_known known.now).sending }
+{
+    if is_message_out(bus) {
+        return known.speech.next_word();
+    }
+    let bytes = known.bytes.of(known.transfers.process());
+    process_byte(bus, bytes, known.transfers.pointers())
+}
+
+// Whether it may drive a byte next: on REQ, or by pulses, in a phase to the target.
+fn drives_byte(own: Lines, bus: Lines, pulsed: bool) -> bool
+    ensures { result ≡ drives_byte own bus pulsed }
+{
+    !bus.io() && !own.ack() && (pulsed || (bus.req() && own.data_bits() == 0))
+}
+
+fn byte_if(drives: bool, bus: Lines, known: &Knowledge<'_>) -> u8
+    ensures { result ≡ (if drives then byte_to_send bus known.now.speech.now (state_known known.now).sending else 0) }
+{
+    if drives { byte_to_send(bus, known) } else { 0 }
+}
+
+// What an initiator of this line is, by what the view shows of it.
+fn myself(host: &HostDef, view: &BusView, own: &OwnTimes) -> Myself
     requires below { host.now.dev < 8 }
     requires latency { host.now.latency ≤ 100 }
     ensures exact { (rows : List Row) → IsBusViewOf rows view.now
@@ -129,14 +146,26 @@ fn speaks(offer: Option<End>) -> bool
     }
 }
 
-// What it has to do in the phase.
-fn answering(observer: &Observer, known: &Knowledge<'_>) -> Answering
+// Whether it waits, by what it drives of the bus, which has these lines: for REQ to follow ACK, byte by byte, or for
+// the first REQ of a phase (6.1.5.1).
+fn waits(own: Lines, bus: Lines, begun: bool, pulsed: bool) -> bool
+    ensures { result ≡ waits own bus begun pulsed }
+{
+    let alike = if own.ack() { bus.req() } else { !bus.req() };
+    let owes = bus.io() && own.data_bits() != 0;
+    alike && begun && !pulsed && !own.bsy() && !owes
+}
+
+// What it has to do in the phase, where it drives these lines. The byte is looked up only where it may drive it.
+fn answering(observer: &Observer, known: &Knowledge<'_>, own: Lines, pulsed: bool) -> Answering
     ensures exact { (rows : List Row) (dev : ℕ) → IsObserverOf rows observer.now
-        → result ≡ answering_of_host (told rows dev) (state_known known.now) }
+        → result
+        ≡ with_byte_if (drives_byte own (bus rows) pulsed) (answering_of_host (told rows dev) (state_known known.now)) }
     ensures raised { result.raised < 2 ^ 63 }
 {
+    let bus = observer.view().bus();
     Answering {
-        byte: byte_to_send(observer.view().bus(), known.speech, &known.sending),
+        byte: byte_if(drives_byte(own, bus, pulsed), bus, known),
         attends: known.speech.attends(),
         speaks: speaks(observer.offer()),
         raised: known.own.ack(),
@@ -144,22 +173,43 @@ fn answering(observer: &Observer, known: &Knowledge<'_>) -> Answering
 }
 
 // By REQ and ACK, where it takes no fault.
-fn plain_due(host: &HostDef, observer: &Observer, known: &Knowledge<'_>) -> Option<Due>
+fn acting_due(
+    host: &HostDef,
+    observer: &Observer,
+    known: &Knowledge<'_>,
+    me: &Myself,
+) -> Option<Due>
     requires timely { IsTimely (2 ^ 63) observer.now.view }
-    requires below { host.now.dev < 8 }
-    requires latency { host.now.latency ≤ 100 }
+    requires ready { IsReady me.now }
     ensures { (rows : List Row) → IsObserverOf rows observer.now
+        → me.now ≡ myself_by host.now (told rows host.now.dev) (state_known known.now)
         → result ≡ plain_by host.now (told rows host.now.dev) (state_known known.now) }
 {
     let view = observer.view();
+    let pace = pace(observer, host.lag);
     initiator_due(
         observer.begun(),
-        &sight_of(view),
+        &lines_seen(view),
         view.handshakes(),
-        &myself(host, view, known.own),
-        &pace(observer, host.lag),
-        &answering(observer, known),
+        me,
+        &pace,
+        &answering(observer, known, me.own, pace.pulsed),
     )
+}
+
+// The same. It does nothing while it waits for REQ.
+fn plain_due(host: &HostDef, observer: &Observer, known: &Knowledge<'_>, me: &Myself) -> Option<Due>
+    requires timely { IsTimely (2 ^ 63) observer.now.view }
+    requires ready { IsReady me.now }
+    ensures { (rows : List Row) → IsObserverOf rows observer.now
+        → me.now ≡ myself_by host.now (told rows host.now.dev) (state_known known.now)
+        → result ≡ plain_by host.now (told rows host.now.dev) (state_known known.now) }
+{
+    let view = observer.view();
+    if waits(me.own, view.bus(), observer.begun(), is_pulsed(observer)) {
+        return None;
+    }
+    acting_due(host, observer, known, me)
 }
 
 // In a connection of its own.
@@ -167,19 +217,17 @@ fn hand_due(
     host: &HostDef,
     observer: &Observer,
     known: &Knowledge<'_>,
+    me: &Myself,
     fault: Option<FaultDef>,
 ) -> Option<Due>
     requires timely { IsTimely (2 ^ 63) observer.now.view }
-    requires below { host.now.dev < 8 }
-    requires latency { host.now.latency ≤ 100 }
+    requires ready { IsReady me.now }
     ensures { (rows : List Row) → IsObserverOf rows observer.now
+        → me.now ≡ myself_by host.now (told rows host.now.dev) (state_known known.now)
         → result ≡ hand_by host.now (told rows host.now.dev) fault (state_known known.now) }
 {
-    let view = observer.view();
-    let last = view.last_time();
-    let receives = is_receiving(view.effect().receiver, host.dev);
-    let plain = plain_due(host, observer, known);
-    sampled(receives, last, flip(fault, last), plain)
+    let plain = plain_due(host, observer, known, me);
+    sampled(observer, host.dev, fault, plain)
 }
 
 // On its way to a connection, and while another device drives RST.
@@ -202,60 +250,42 @@ fn link_due_of(
     link_due(view, &me, &want(known), flip(fault, sampled_at))
 }
 
+// The connection that stands, while RST is false.
+fn calm_connection(view: &BusView) -> Option<Connection>
+    ensures { (rows : List Row) → IsBusViewOf rows view.now → result ≡ stands_calm (bus rows).rst (connection rows) }
+{
+    if view.bus().rst() {
+        None
+    } else {
+        view.connection()
+    }
+}
+
 // Without a reset of its own.
 fn calm_due(
     host: &HostDef,
     observer: &Observer,
     known: &Knowledge<'_>,
+    me: &Myself,
     fault: Option<FaultDef>,
 ) -> Option<Due>
     requires timely { IsTimely (2 ^ 63) observer.now.view }
     requires below { host.now.dev < 8 }
     requires latency { host.now.latency ≤ 100 }
+    requires ready { IsReady me.now }
     requires since { IsBefore (2 ^ 63) known.now.since }
     ensures { (rows : List Row) → IsObserverOf rows observer.now
+        → me.now ≡ myself_by host.now (told rows host.now.dev) (state_known known.now)
         → result
         ≡ calm_by host.now (told rows host.now.dev) fault (state_known known.now) (bus rows).rst (connection rows) }
 {
-    let view = observer.view();
-    if view.bus().rst() {
-        return link_due_of(host, observer, known, fault);
-    }
-    match view.connection() {
-        None => link_due_of(host, observer, known, fault),
+    match calm_connection(observer.view()) {
         Some(connection) if connection.initiator.get() == host.dev => {
-            hand_due(host, observer, known, fault)
+            hand_due(host, observer, known, me, fault)
         }
         Some(_) => None,
+        None => link_due_of(host, observer, known, fault),
     }
-}
-
-/// Whether a connection of others stands, and RST is false.
-pub fn is_elsewhere(view: &BusView, dev: Dev) -> bool
-    ensures { (rows : List Row) → IsBusViewOf rows view.now
-        → result ≡ is_elsewhere (bus rows).rst (connection rows) dev }
-{
-    match view.connection() {
-        None => false,
-        Some(connection) => connection.initiator.get() != dev && !view.bus().rst(),
-    }
-}
-
-/// What an initiator does next, and when, in ns, while a connection of others stands and RST is false: only its reset.
-pub fn elsewhere_next(
-    host: &HostDef,
-    observer: &Observer,
-    own: &OwnTimes,
-    reset: Option<Ns>,
-) -> Option<Due>
-    requires below { host.now.dev < 8 }
-    requires latency { host.now.latency ≤ 100 }
-    ensures { (rows : List Row) (f : Option FaultDef) (i : InitiatorState) → IsObserverOf rows observer.now
-        → is_elsewhere (bus rows).rst (connection rows) host.now.dev ≡ true → i.own ≡ own.now → i.reset ≡ reset
-        → result ≡ initiator_next host.now (told rows host.now.dev) f i }
-{
-    let me = myself(host, observer.view(), own);
-    due_with_reset(&me, own.rst(), reset, None)
 }
 
 // A reset of its own goes before all that.
@@ -273,7 +303,7 @@ fn next_by(
         → result ≡ initiator_next host.now (told rows host.now.dev) fault (state_known known.now) }
 {
     let me = myself(host, observer.view(), known.own);
-    let calm = calm_due(host, observer, known, fault);
+    let calm = calm_due(host, observer, known, &me, fault);
     due_with_reset(&me, known.own.rst(), known.reset, calm)
 }
 

@@ -43,15 +43,12 @@ fn place_in(pointers: Pointers, area: Area) -> u32
     }
 }
 
-fn advanced_within(pointers: Pointers, area: Area) -> Pointers
-    ensures { result ≡ advanced_within pointers area }
+// A byte crosses in the phase of this area.
+fn advance_within(pointers: &mut Pointers, area: Area)
+    ensures { pointers.new ≡ advanced_within pointers.old area }
 {
-    if place_in(pointers, area) < 0xffff_ffff {
-        let mut next = pointers;
-        next.advance(area);
-        next
-    } else {
-        pointers
+    if place_in(*pointers, area) < 0xffff_ffff {
+        pointers.advance(area);
     }
 }
 
@@ -116,30 +113,17 @@ impl Held {
         }
     }
 
-    fn advanced(self, area: Area) -> Held
-        ensures { result ≡ record self { pointers = advanced_within self.pointers area } }
-    {
-        Held {
-            pointers: advanced_within(self.pointers, area),
-            ..self
-        }
-    }
-
     /// This byte crosses in the phase of these lines.
-    pub fn after_byte(self, lines: Lines, byte: u8) -> Held
-        ensures { result ≡ held_after_byte self lines byte }
+    pub fn carry(&mut self, lines: Lines, byte: u8)
+        ensures { self.new ≡ held_after_byte self.old lines byte }
     {
         if is_command(lines) {
-            self.advanced(Area::Command)
+            advance_within(&mut self.pointers, Area::Command);
         } else if is_data(lines) {
-            self.advanced(Area::Payload)
+            advance_within(&mut self.pointers, Area::Payload);
         } else if is_status_phase(lines) {
-            Held {
-                pointers: advanced_within(self.pointers, Area::Status),
-                status: self.status_after(byte),
-            }
-        } else {
-            self
+            self.status = self.status_after(byte);
+            advance_within(&mut self.pointers, Area::Status);
         }
     }
 }
@@ -174,6 +158,17 @@ impl HeldPair {
                 command: held,
                 ..self
             }
+        }
+    }
+
+    // This byte of this process of the two crosses in the phase of these lines.
+    fn carry(&mut self, sense: bool, lines: Lines, byte: u8)
+        ensures { self.new ≡ with_half self.old sense (held_after_byte (half_of self.old sense) lines byte) }
+    {
+        if sense {
+            self.sense.carry(lines, byte);
+        } else {
+            self.command.carry(lines, byte);
         }
     }
 }
@@ -229,8 +224,11 @@ pub fn hear(all: &mut [HeldPair], id: Option<ProcId>, message: MsgIn)
 pub fn carry(all: &mut [HeldPair], id: Option<ProcId>, lines: Lines, byte: u8)
     ensures { all.new ≡ byte_if all.old id lines byte }
 {
-    if let Some(id) = id {
-        let held = held_at(all, id).after_byte(lines, byte);
-        set_held(all, id, held);
+    let Some(id) = id else {
+        return;
+    };
+    let number = id.command as usize;
+    if number < all.len() {
+        all[number].carry(id.sense, lines, byte);
     }
 }

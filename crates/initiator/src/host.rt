@@ -1,8 +1,9 @@
 //! An initiator of a scenario: what it knows, row by row, and what it does next (ANSI X3.131-1994, 6 and 7).
-ghost use Rattle.std.specs.Prelude.{◌≡◌, ◌<◌, ◌≤◌, ◌==◌, ◌&&◌, ◌^◌, [], ◌∷◌, List, length, is_some, true, Some, if◌then◌else◌, IfOk};
+ghost use Rattle.std.specs.Prelude.{◌≡◌, ◌≢◌, ◌<◌, ◌≤◌, ◌==◌, ◌&&◌, ◌^◌, [], ◌∷◌, List, length, is_some, true, false, Some, if◌then◌else◌, IfOk};
 ghost use Rattle.std.specs.List.{find};
 ghost use Rattle.bus_trace.specs.declared.Row.{Row};
 ghost use Rattle.bus_trace.specs.Terms.{connection};
+ghost use Rattle.bus_trace.specs.Trace.{bus};
 ghost use Rattle.bus_lines.specs.BusView.{IsBusViewOf};
 ghost use Rattle.bus_lines.specs.Timely.{IsTimely, IsBefore};
 ghost use Rattle.bus_dialogue.specs.Hearing.{hearing as hearing_in};
@@ -31,17 +32,16 @@ ghost use Rattle.initiator.specs.Openings.{mine_at};
 ghost use Rattle.initiator.specs.Outcomes.{are_replies, told_outcome_if, settled_outcome, is_settled, is_sense_over};
 ghost use Rattle.initiator.specs.OwnLinks.{own_link};
 ghost use Rattle.initiator.specs.Received.{pair_at, received_taken};
-ghost use Rattle.initiator.specs.OwnBytes.{sending_from};
 ghost use Rattle.initiator.specs.Speeches.{IsOpeningOf};
-ghost use Rattle.initiator.specs.States.{sending_known, IsOwnConnection};
+ghost use Rattle.initiator.specs.States.{IsOwnConnection};
 ghost use Rattle.initiator.specs.Intents.{IsIntentOf, is_empty};
-ghost use Rattle.initiator.specs.Transfers.{active_at, process_of_link, IsTransfersOf, event_if};
+ghost use Rattle.initiator.specs.Transfers.{IsTransfersOf, event_if};
 ghost use Rattle.initiator.specs.Wishes.{events_shown};
 
-use crate::due::{Knowledge, Sending, elsewhere_next, initiator_next, is_elsewhere};
+use crate::due::{Knowledge, initiator_next};
 use crate::endings::{Endings, see_endings};
 use crate::intent::Intent;
-use crate::laws::{dues_are_of_initiators, initiators_are_their_parts, initiators_have_no_unit};
+use crate::laws::{initiators_are_their_parts, initiators_have_no_unit};
 use crate::negotiations::Negotiations;
 use crate::openings::Words;
 use crate::outcome::{Outcome, is_settled};
@@ -49,7 +49,6 @@ use crate::own_bytes::OwnBytes;
 use crate::received::{Received, see_received};
 use crate::speech::Speech;
 use crate::transfers::Transfers;
-use crate::waits::{is_waiting, waiting_next};
 use bus_base::{Dev, Event, NoMemory, Ns, ProcId};
 use bus_dialogue::{Hearing, Observer};
 use bus_due::{hearings_are_plain, kept_is_plain};
@@ -114,6 +113,13 @@ fn connection_before(view: &BusView) -> Option<Connection>
     view.effect().before
 }
 
+// Whether a row shows no event, and a connection stands before it.
+fn is_linked(effect: &RowEffect, shown: &[Event]) -> bool
+    ensures { result ≡ (is_some effect.now.before && is_empty shown.now) }
+{
+    effect.before.is_some() && shown.is_empty()
+}
+
 // Whether a row in a connection tells an initiator nothing: it shows no event, RST is false, and in a connection of its
 // own no byte crosses and the phase stays.
 fn is_still(dev: Dev, effect: &RowEffect, hearing: &Hearing, shown: &[Event]) -> bool
@@ -162,19 +168,6 @@ fn see_transfers(
         → IsTransfersOf s rows transfers.old → IsTransfersOf s (row ∷ rows) transfers.new }
 {
     transfers.see(intent.book(), intent.aim(), hearing, before, after);
-}
-
-// A row made by another device than this one leaves what it knows of its own rows as it was.
-fn see_itself(itself: &mut Itself, dev: Dev, view: &BusView, row: &Row)
-    requires { IsTimely (2 ^ 63) view.now }
-    ensures dev { itself.new.dev ≡ itself.old.dev }
-    ensures trace { (s : ScenarioValue) (rows : List Row) → IsBusViewOf (row.now ∷ rows) view.now
-        → itself.old.dev ≡ dev → IsItselfOf s rows itself.old → IsItselfOf s (row.now ∷ rows) itself.new }
-{
-    if row.dev != dev {
-        return;
-    }
-    itself.see(view, row);
 }
 
 // The line of this initiator.
@@ -261,6 +254,7 @@ impl Host {
 
     // What it hears in a row, which shows these events, the newest first: what it says, what came, what it holds of its
     // own processes, and with whom it may still negotiate.
+    #[inline(never)]
     fn hear_row(&mut self, observer: &Observer, shown: &[Event])
         ensures def { self.new.def ≡ self.old.def }
         ensures itself { self.new.itself ≡ self.old.itself }
@@ -320,8 +314,27 @@ impl Host {
         self.hear_row(observer, shown);
     }
 
-    /// One more row, of any device, which shows these events, the newest first; the observer has seen it.
-    pub fn see(&mut self, observer: &Observer, row: &Row, shown: &[Event])
+    // One more row, in a connection, which shows no event: the initiator wants what it wanted, and its commands ended
+    // as they had.
+    fn see_linked(&mut self, observer: &Observer, row: &Row, shown: &[Event])
+        requires device { row.now.dev < 8 }
+        requires timely { IsTimely (2 ^ 63) observer.now.view }
+        ensures def { self.new.def ≡ self.old.def }
+        ensures trace { (s : ScenarioValue) (rows : List Row) → FitsBus s → IsObserverOf (row.now ∷ rows) observer.now
+            → AreOfDevices (row.now ∷ rows) → shown.now ≡ events_shown s rows row.now
+            → is_some (connection rows) ≡ true → events_shown s rows row.now ≡ []
+            → IsHostAfter s rows self.old → IsHostAfter s (row.now ∷ rows) self.new }
+    {
+        kept_is_plain();
+        let view = observer.view();
+        self.hear(observer, shown);
+        self.itself.see(view, row);
+        self.intent.see_in_connection(view, row);
+    }
+
+    // One more row. A function of its own, since few rows need all of it.
+    #[inline(never)]
+    fn see_news(&mut self, observer: &Observer, row: &Row, shown: &[Event])
         requires device { row.now.dev < 8 }
         requires timely { IsTimely (2 ^ 63) observer.now.view }
         ensures def { self.new.def ≡ self.old.def }
@@ -332,52 +345,43 @@ impl Host {
         let view = observer.view();
         let aim = self.intent.aim();
         let past = self.intent.book().past();
-        self.hear(observer, shown);
-        see_itself(&mut self.itself, self.def.dev, view, row);
+        self.hear_row(observer, shown);
+        self.itself.see(view, row);
         self.intent.see(view, row, shown);
         see_endings(&mut self.endings, &self.intent, past, aim, shown);
     }
 
-    // What it sends of the process of its connection but for messages.
-    fn sending(&self) -> Sending<'_>
-        ensures { sending_known result ≡ sending_from self.now.bytes (process_of_link self.now.transfers.link)
-            (active_at self.now.transfers.held (process_of_link self.now.transfers.link)) }
+    /// One more row, of any device, which shows these events, the newest first; the observer has seen it.
+    pub fn see(&mut self, observer: &Observer, row: &Row, shown: &[Event])
+        requires device { row.now.dev < 8 }
+        requires timely { IsTimely (2 ^ 63) observer.now.view }
+        ensures def { self.new.def ≡ self.old.def }
+        ensures trace { (s : ScenarioValue) (rows : List Row) → FitsBus s → IsObserverOf (row.now ∷ rows) observer.now
+            → AreOfDevices (row.now ∷ rows) → shown.now ≡ events_shown s rows row.now
+            → IsHostAfter s rows self.old → IsHostAfter s (row.now ∷ rows) self.new }
     {
-        let bytes = self.bytes.of(self.transfers.process());
-        let place = self.transfers.pointers();
-        Sending {
-            cdb: bytes.cdb(),
-            sent: bytes.sent(),
-            command: place.command as usize,
-            moved: place.payload as usize,
+        if is_linked(observer.view().effect(), shown) {
+            self.see_linked(observer, row, shown);
+        } else {
+            self.see_news(observer, row, shown);
         }
     }
 
-    // What it does next, where it may act.
-    fn due_acting(&self, observer: &Observer, fault: Option<FaultDef>) -> Option<Due>
-        requires timely { IsTimely (2 ^ 63) observer.now.view }
-        ensures { (s : ScenarioValue) (rows : List Row) → FitsBus s → IsObserverOf rows observer.now
-            → AreOfDevices rows → IsNeverCalled rows self.now.def.dev → IsHostAfter s rows self.now
-            → fault ≡ first_fault (run_state s rows).faults → result ≡ due s rows self.now.def.dev }
+    /// One more row, of another device, in a connection of others that stands before it and after it. It shows no
+    /// event, and RST is false after it; the observer has seen it. It tells the initiator nothing.
+    pub fn see_in_others(&mut self, observer: &Observer, row: &Row)
+        requires device { row.now.dev < 8 }
+        ensures def { self.new.def ≡ self.old.def }
+        ensures trace { (s : ScenarioValue) (rows : List Row) (m n : Connection)
+            → IsObserverOf (row.now ∷ rows) observer.now → AreOfDevices (row.now ∷ rows)
+            → connection rows ≡ Some m → connection (row.now ∷ rows) ≡ Some n
+            → (m.initiator == self.old.def.dev) ≡ false → (n.initiator == self.old.def.dev) ≡ false
+            → (bus (row.now ∷ rows)).rst ≡ false → row.now.dev ≢ self.old.def.dev → events_shown s rows row.now ≡ []
+            → IsHostAfter s rows self.old → IsHostAfter s (row.now ∷ rows) self.new }
     {
-        scenarios_fit_the_bus();
-        initiators_are_their_parts();
-        initiators_have_no_unit();
         kept_is_plain();
-        dues_are_of_initiators();
-        if is_elsewhere(observer.view(), self.def.dev) {
-            let (own, reset) = (self.itself.own(), self.itself.reset());
-            return elsewhere_next(&self.def, observer, own, reset);
-        }
-        let known = Knowledge {
-            own: self.itself.own(),
-            reset: self.itself.reset(),
-            since: bounded(self.intent.since()),
-            callee: self.intent.callee(),
-            speech: &self.speech,
-            sending: self.sending(),
-        };
-        initiator_next(&self.def, observer, &known, fault)
+        hearings_are_plain();
+        self.intent.see_in_connection(observer.view(), row);
     }
 
     /// What it does next, and when, in ns, by the first fault that has not struck yet: exactly what is due of it, where
@@ -392,12 +396,16 @@ impl Host {
         initiators_are_their_parts();
         initiators_have_no_unit();
         kept_is_plain();
-        dues_are_of_initiators();
-        if is_waiting(observer, self.def.dev) {
-            let (own, reset) = (self.itself.own(), self.itself.reset());
-            return waiting_next(&self.def, observer, own, reset, fault);
-        }
-        self.due_acting(observer, fault)
+        let known = Knowledge {
+            own: self.itself.own(),
+            reset: self.itself.reset(),
+            since: bounded(self.intent.since()),
+            callee: self.intent.callee(),
+            speech: &self.speech,
+            bytes: &self.bytes,
+            transfers: &self.transfers,
+        };
+        initiator_next(&self.def, observer, &known, fault)
     }
 
     /// What it does at this moment, in ns: the row that is due by then, or when its next one is. It changes nothing.

@@ -1,6 +1,6 @@
 //! What an initiator wants of the bus, row by row.
-ghost use Rattle.std.specs.Prelude.{◌≡◌, ◌<◌, [], ◌∷◌, List, length, if◌then◌else◌, IfOk};
-ghost use Rattle.bus_trace.specs.Terms.{call_after};
+ghost use Rattle.std.specs.Prelude.{◌≡◌, ◌<◌, [], ◌∷◌, List, length, is_some, true, if◌then◌else◌, IfOk};
+ghost use Rattle.bus_trace.specs.Terms.{call_after, connection};
 ghost use Rattle.initiator.specs.Books.{my_since};
 ghost use Rattle.bus_trace.specs.declared.rows.Row.{Row};
 ghost use Rattle.bus_lines.specs.BusView.{IsBusViewOf};
@@ -211,5 +211,22 @@ impl Intent {
         hearings_are_plain();
         wants_are_items();
         self.after_effect(view.effect(), row, shown);
+    }
+
+    /// One more row, of any device, in a connection that stands before it, which shows no event: only the call that
+    /// stands goes on. The view is that after it.
+    pub fn see_in_connection(&mut self, view: &BusView, row: &Row)
+        requires { row.now.dev < 8 }
+        ensures dev { self.new.dev ≡ self.old.dev }
+        ensures retries { self.new.retries ≡ self.old.retries }
+        ensures trace { (s : ScenarioValue) (rows : List Row) → IsBusViewOf (row.now ∷ rows) view.now
+            → AreOfDevices (row.now ∷ rows) → IsInitiator s self.old.dev self.old.retries
+            → is_some (connection rows) ≡ true → events_shown s rows row.now ≡ []
+            → IsIntentOf s rows self.old → IsIntentOf s (row.now ∷ rows) self.new }
+    {
+        kept_is_plain();
+        hearings_are_plain();
+        wants_are_items();
+        see_call(&mut self.call, &view.effect().change, row);
     }
 }

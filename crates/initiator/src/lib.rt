@@ -37,11 +37,10 @@ mod own_link;
 mod received;
 mod speech;
 mod transfers;
-mod waits;
 mod wish;
 
 pub use causes::endings_have_causes;
-pub use due::{Knowledge, Sending, initiator_next};
+pub use due::{Knowledge, initiator_next};
 pub use endings::{CommandEnd, Ending, Endings};
 pub use host::Host;
 pub use intent::Intent;

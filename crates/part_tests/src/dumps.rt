@@ -9,7 +9,7 @@ use bus_base::MemSink;
 use bus_trace::{Kind, Lines, Row};
 use std::alloc::Global;
 use std::test::Fail;
-use text_pages::{flush, is_failed, new_page, put, put_number};
+use text_pages::{SHORT, flush, is_failed, new_page, put, put_number, put_short};
 use vcd_text::{VcdBad, VcdReader, VcdRows, read_vcd, write_vcd};
 
 // One of each word that a dump may have.
@@ -163,10 +163,11 @@ fn puts_past_a_page(rt: HostRuntime) -> Result<(), Fail> {
     let mut page = new_page();
     put(&mut out, &mut page, b"ab");
     put_number(&mut out, &mut page, 12);
+    put_short(&mut out, &mut page, &[b'd'; SHORT], 3);
     put(&mut out, &mut page, &[b'c'; 5000]);
     flush(&mut out, &mut page);
     assert!(rt; !is_failed(&page));
-    assert_eq!(rt; out.bytes().len(), 5004);
-    assert!(rt; out.bytes().starts_with(b"ab12c"));
+    assert_eq!(rt; out.bytes().len(), 5007);
+    assert!(rt; out.bytes().starts_with(b"ab12dddc"));
     Ok(())
 }

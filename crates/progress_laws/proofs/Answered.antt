@@ -1,6 +1,6 @@
 -- Where no device wants the bus and none has a connection, each command has its outcome: by what stands in the queues, and by what
 -- is owed to those that stand in a hold.
-use Rattle.std.proofs.Common.{ℕ, zero, suc, ◌≡◌, ◌+◌, ◌<◌, Bool, true, false, not, ◌&&◌, ◌||◌, ◌∙◌, List, [], ◌∷◌, Option, Some, None, refl, sym, ap, subst, arith}
+use Rattle.std.proofs.Common.{ℕ, zero, suc, ◌≡◌, ◌+◌, ◌<◌, Bool, true, false, not, ◌&&◌, ◌||◌, ◌∙◌, List, [], ◌∷◌, Option, Some, None, refl, sym, ap, subst, one-add}
 use Rattle.std.specs.Prelude.{if◌then◌else◌, ◌==◌, is_some}
 use Rattle.std.specs.List.{list_all, list_any}
 use Rattle.std.proofs.lemmas.Option.{same_Some}
@@ -195,9 +195,6 @@ each_outcome s b n [] h = refl
 each_outcome s b n (c ∷ commands) h =
     (λ i. some_outcome s b n (ap (is_ended b.ended) (sym (plus_none n)) ∙ h 0 c refl) i && each_outcome s b (n + 1) commands (λ m d e. ap (is_ended b.ended) (sym (plus_one n m)) ∙ h (suc m) d e) i)
 
-from_one : (m : ℕ) → 1 + m ≡ suc m
-from_one m = omega arith
-
 is_over : (q r : Bool) → (q || r) ≡ true → (q && not r) ≡ false → r ≡ true
 is_over q true e f = refl
 is_over true false e f = wrong f
@@ -211,7 +208,7 @@ answered_at_rest s k o r rest quiet = each_outcome s k.story 1 s.commands ended
     b = k.story.sent
 
     opens : (m : ℕ) (c : CmdDef) → command_at s.commands (suc m) ≡ Some c → is_open b (1 + m) ≡ false
-    opens m c at = ap (is_open b) (from_one m) ∙ not_open s k (suc m) c o r rest quiet at
+    opens m c at = ap (is_open b) (one-add m) ∙ not_open s k (suc m) c o r rest quiet at
 
     ended : (m : ℕ) (c : CmdDef) → command_at s.commands (suc m) ≡ Some c → is_ended k.story.ended (1 + m) ≡ true
     ended m c at =

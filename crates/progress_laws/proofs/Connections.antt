@@ -24,7 +24,7 @@ use Rattle.link_laws.proofs.PulseDues.{pulsed_target_in, pulsed_target_out, puls
 use Rattle.link_laws.proofs.StageDues.{selected_target, settling_target, turning_target, offering_target, answered_target, between_target, ending_initiator_in, ending_initiator_out, asking_initiator_in, asking_initiator_out, giving_initiator_out}
 use Rattle.trace_laws.specs.Ends.{HasEnds}
 use Rattle.progress_laws.proofs.Acts.{SomeDue, there_by, moved, target_end, initiator_end}
-use Rattle.bus_base.proofs.Tests.{zero_of}
+use Rattle.bus_base.proofs.Tests.{zero_of, wrong', wrong}
 
 -- Both ends are there.
 pub record AreThere (s : ScenarioValue) (n : Connection) : Type 0 where
@@ -38,9 +38,6 @@ host_there s dev e = go (find (λ (t : TargetDef). t.dev == dev) s.targets) (hos
     go (Some t) h f g z = record { latency = t.latency; latency_is = λ i. target_latency (f i) (host_latency (host_of s dev)) }
     go None (Some h) f g z = record { latency = h.latency; latency_is = λ i. target_latency (f i) (host_latency (g i)) }
     go None None f g z = let w = sym z ∙ ap (λ (x : Option HostDef). is_some x) g in absurd cc
-
-pub no_yes : false ≡ true → ⊥
-no_yes e = cc
 
 pub ends_there : (s : ScenarioValue) (p : List Row) (n : Connection) (e : EndLines) → Standing s p → Linked p n e → HasEnds s n → AreThere s n
 ends_there s p n e st h en = record {
@@ -57,15 +54,15 @@ either false a b = record { row = b; is = refl }
 answers_first : (pulses waiting : Bool) (a b c : Option Due) → SomeDue a → SomeDue b → (pulses ≡ true) ⊎ (waiting ≡ true) → SomeDue (initiator_choice pulses waiting a b c)
 answers_first true waiting a b c x y e = x
 answers_first false true a b c x y e = y
-answers_first false false a b c x y (inl e) = absurd (no_yes e)
-answers_first false false a b c x y (inr e) = absurd (no_yes e)
+answers_first false false a b c x y (inl e) = wrong' e
+answers_first false false a b c x y (inr e) = wrong' e
 
 asks_next : (pulses changes follows room held : Bool) (a b c d : Option Due) → SomeDue a → (changes ≡ true → SomeDue b) → SomeDue c → SomeDue d → room ≡ true → held ≡ false → SomeDue (target_choice pulses changes follows room held a b c d)
 asks_next true changes follows room held a b c d x y z w e f = x
 asks_next false true follows room held a b c d x y z w e f = y refl
 asks_next false false true true held a b c d x y z w e f = z
-asks_next false false true false held a b c d x y z w e f = absurd (no_yes e)
-asks_next false false false room true a b c d x y z w e f = absurd (no_yes (sym f))
+asks_next false false true false held a b c d x y z w e f = wrong' e
+asks_next false false false room true a b c d x y z w e f = wrong f
 asks_next false false false room false a b c d x y z w e f = w
 
 -- Where none waits there is room for another.
@@ -151,7 +148,7 @@ pulsing_out s p n req ack atn x end st there calm h = go ack refl (length (hands
         (moved _ _ (pulsed_initiator_out s p n req ack atn x i.latency h.offset) (answers_first ack (not (length (handshakes p).waiting == 0)) _ _ _ (record { row = _; is = refl }) (either _ _ _) (inr (ap not e))))
     go false off true e =
         target_end s p n true _ t.latency end st.devices calm h.linked h.phase.begun_is t.latency_is
-        (moved _ _ (pulsed_target_out s p n req ack atn x t.latency h.offset h.facts.asked) (asks_next req false (nat_lt (handshakes p).requests (run_count s p n)) (nat_lt (length (handshakes p).waiting) (offset_here p)) (not (length (handshakes p).waiting == 0) || ack) _ None _ _ (record { row = _; is = refl }) (λ z. absurd (no_yes z)) (record { row = _; is = refl }) (record { row = _; is = refl }) (has_room (length (handshakes p).waiting) (offset_here p) e h.offset) (λ j. not (e j) || off j)))
+        (moved _ _ (pulsed_target_out s p n req ack atn x t.latency h.offset h.facts.asked) (asks_next req false (nat_lt (handshakes p).requests (run_count s p n)) (nat_lt (length (handshakes p).waiting) (offset_here p)) (not (length (handshakes p).waiting == 0) || ack) _ None _ _ (record { row = _; is = refl }) (λ z. wrong' z) (record { row = _; is = refl }) (record { row = _; is = refl }) (has_room (length (handshakes p).waiting) (offset_here p) e h.offset) (λ j. not (e j) || off j)))
 
 -- ---- any stage of a connection
 

@@ -10,7 +10,7 @@ use Rattle.bus_base.specs.declared.AbortKind.TheVariants as aborts
 use Rattle.bus_base.specs.declared.Event.{Event}
 use Rattle.bus_base.specs.declared.Event.TheVariants as events
 use Rattle.bus_base.specs.declared.ProcId.{ProcId}
-use Rattle.bus_base.proofs.Tests.{wrong, and_first, and_second, eq_self, or_second}
+use Rattle.bus_base.proofs.Tests.{wrong, and_first, and_second, or_second}
 use Rattle.cdb_codec.specs.Cdb.{command_of}
 use Rattle.cdb_codec.specs.declared.sense.TheConstants.{ABORTED_COMMAND}
 use Rattle.cdb_codec.specs.declared.status.TheConstants.{GOOD, CHECK_CONDITION}
@@ -25,6 +25,7 @@ use Rattle.disk_array.specs.Units.{Array, Nexus, guest_at, nexus_of, nexuses_wit
 use Rattle.disk_array.proofs.SeatLookups.{nexus_put_at, nexuses_without_at, same_nexus_is}
 use Rattle.bus_story.specs.Items.{Item, Sent, command_item, has_item, is_open, process, same_item, sense_item}
 use Rattle.bus_story.specs.Story.{Ending, Story, by_abort, by_reset, by_status, is_aborted, is_sense_stopped, story_after_event, story_with_end, story_with_ends, story_with_over}
+use Rattle.ending_causes.proofs.Senses.{self_nexus}
 use Rattle.trace_laws.specs.ItemFacts.{AreChecked}
 use Rattle.trace_laws.proofs.OverItems.{ends_checks, ends_senses, events_grow, in_append, later, not_grown}
 use Rattle.trace_laws.proofs.SentItems.{more_has, own_has}
@@ -73,9 +74,6 @@ pub same_no_debt : (s : ScenarioValue) (b c : Sent) (q : Nexus) → c.checks ≡
 same_no_debt s b c q same more none n d = none n (same_debt s b c n q same more d)
 
 -- ---- one leaves the hold
-
-self_nexus : (q : Nexus) → same_nexus q q ≡ true
-self_nexus q = λ i. eq_self q.initiator i && (eq_self q.target i && eq_self q.unit i)
 
 stays_held : (holds : List Nexus) (p q : Nexus) → (p ≡ q → ⊥) → in_hold holds q ≡ true → in_hold (nexuses_without holds p) q ≡ true
 stays_held holds p q apart e = nexuses_without_at holds p q ∙ go (same_nexus p q) refl

@@ -1,5 +1,5 @@
 -- A prompt trace after which nothing is due: the bus is free, and the end obeys every rule.
-use Rattle.std.proofs.Common.{ℕ, ◌≡◌, ◌<◌, Bool, true, false, ◌∙◌, List, [], ◌∷◌, Option, Some, None, refl, sym, ap, arith}
+use Rattle.std.proofs.Common.{ℕ, ◌≡◌, ◌<◌, Bool, true, false, ◌∙◌, List, [], ◌∷◌, Option, Some, None, refl, ap, arith}
 use Rattle.std.specs.Prelude.{if◌then◌else◌, not, ◌&&◌, ◌||◌, ◌==◌, ◌+◌, nat_le}
 use Rattle.std.specs.List.{AllByRecursion}
 use Rattle.std.proofs.lemmas.Bool.Decides.{nat_tests}
@@ -23,28 +23,25 @@ use Rattle.bus_rules.proofs.First.{row_none}
 use Rattle.scenario.specs.Value.{ScenarioValue}
 use Rattle.scenario.specs.Writing.{Obeys}
 use Rattle.bus_story.specs.Samples.{latency_of}
-use Rattle.bus_reactions.specs.declared.due.Due.{Due}
 use Rattle.bus_reactions.specs.FreeBus.{free_due}
 use Rattle.bus_due.specs.Next.{IsPrompt, IsEnded}
 use Rattle.bus_due.specs.RunSteps.{run_state}
 use Rattle.bus_due.specs.Wants.{want_time}
 use Rattle.scsi_device.proofs.FitLines.{obeys_fits}
-use Rattle.bus_laws.specs.Reactions.{device_with, own_time, reset_due, unreset_due}
+use Rattle.bus_laws.specs.Reactions.{device_with, own_time}
 use Rattle.bus_laws.proofs.Dues.{free_due_is}
-use Rattle.bus_laws.proofs.Resets.{comes_by_first, due_calm}
 use Rattle.bus_laws.proofs.Rows.{stage_is}
 use Rattle.bus_laws.specs.Stages.{FreeBus}
 use Rattle.link_laws.specs.LinkStages.{AnyStage, apart, linked}
 use Rattle.trace_laws.specs.Ends.{AreEnds}
 use Rattle.trace_laws.proofs.Joint.{Stood, link_connection}
 use Rattle.trace_laws.proofs.Whole.{whole}
-use Rattle.progress_laws.proofs.Acts.{calm_end, moved, nothing_due}
+use Rattle.progress_laws.proofs.Acts.{calm_end, moved}
 use Rattle.progress_laws.proofs.Apart.{free_at_end}
 use Rattle.progress_laws.proofs.Bound.{AreBound, bound_next, bound_start}
 use Rattle.progress_laws.proofs.Connections.{ends_there, goes_on}
 use Rattle.progress_laws.proofs.Entries.{WantsAreItems}
 use Rattle.std.proofs.lemmas.Bool.{or_right}
-use Rattle.std.proofs.lemmas.Option.{none-some}
 use Rattle.link_laws.proofs.Traces.{sides_are, link_calm}
 
 -- What is known of a prompt trace.
@@ -135,16 +132,3 @@ unwanted_when_ended s p j end d lat lt there = go (want_time s (run_state s p) d
     go (Some w) e =
         absurd (calm_end s p d end j.stood.standing.devices lt (ap (λ (l : LineSet). l.rst) h.stands.bus_is)
         (moved _ _ (free_due_is s p d lat (free_since p) j.stood.standing.devices lt there h.stands.connection_is here (h.quiet d lt) ∙ ap (free_due (device_with d lat none (own_time p d)) (free_since p)) e) (record { row = _; is = refl })))
-
--- And none has a reset of its own to make.
-pub unreset_when_ended : (s : ScenarioValue) (p : List Row) → Joined s p → IsEnded s p → (d : ℕ) → d < 8 → reset_due s p d ≡ None
-unreset_when_ended s p j end d lt = go (reset_due s p d) refl
-  where
-    h : FreeBus s p
-    h = free_when_ended s p j end
-
-    go : (o : Option Due) → reset_due s p d ≡ o → reset_due s p d ≡ None
-    go None e = e
-    go (Some x) e =
-        let z = comes_by_first (reset_due s p d) (unreset_due s p d) x e in
-        absurd (none-some z.x (sym (nothing_due s p d end lt) ∙ due_calm s p d j.stood.standing.devices lt (ap (λ (l : LineSet). l.rst) (h.quiet d lt)) ∙ z.is))

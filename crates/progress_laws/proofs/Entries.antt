@@ -29,9 +29,8 @@ use Rattle.progress_laws.proofs.Apart.{IsBound}
 use Rattle.progress_laws.proofs.Callees.{aim_bound, ready_bound}
 use Rattle.std.proofs.lemmas.Bool.{le-leb}
 use Rattle.std.proofs.lemmas.Option.{none-some}
-use Rattle.bus_base.proofs.Tests.{none_number, and_more}
+use Rattle.bus_base.proofs.Tests.{none_number, and_more, wrong'}
 use Rattle.trace_laws.proofs.AimsFit.{set_other}
-use Rattle.progress_laws.proofs.Connections.{no_yes}
 
 -- An initiator wants the bus from the time on at which it has something to send.
 abbrev pub WantsAreItems : Type 0
@@ -106,7 +105,7 @@ enters_bound s p row w fits wants a ee wish due = go (is_host s.hosts row.dev) r
     by_item host (Some item) e = aim_bound s (row ∷ p) row.dev item fits host (mine host ∙ e)
     by_item host None e =
         let wish_is : item_want_time s k.story.sent row.dev ≡ Some w = sym (ap (λ (q : Bool). if q then item_want_time s k.story.sent row.dev else ready_time (ready_of s k row.dev)) host) ∙ wish in
-        absurd (no_yes (sym (ap (λ (x : Option Item). is_some x) e) ∙ wants s k.story.sent row.dev row.time ∙ ap (λ (x : Option ℕ). is_reached x row.time) wish_is ∙ le-leb w row.time due))
+        wrong' (sym (ap (λ (x : Option Item). is_some x) e) ∙ wants s k.story.sent row.dev row.time ∙ ap (λ (x : Option ℕ). is_reached x row.time) wish_is ∙ le-leb w row.time due)
 
     by_ready : is_host s.hosts row.dev ≡ false → (o : Option Ready) → ready_of s k row.dev ≡ o → IsBound s (row ∷ p) row.dev
     by_ready host (Some r) e = ready_bound s (row ∷ p) row.dev r fits (a.below, a.devices) host ((entry_keeps s p row _ _ _ _ a ee).ready row.dev ∙ e)

@@ -13,8 +13,8 @@ use Rattle.cdb_codec.specs.Cdb.{command_of}
 use Rattle.scenario.specs.declared.value.CmdDef.{CmdDef}
 use Rattle.scenario.specs.Value.{ScenarioValue}
 use Rattle.disk_array.specs.Execution.{Reply, check_condition, is_request_sense, sense_of}
-use Rattle.disk_array.specs.Processes.{Process, command_at, process_by, process_if, process_of, same_bool, same_id}
-use Rattle.disk_array.specs.SoundArray.{AllOwnGuests, AllOwnUnits, IsOwnRunning, IsSound}
+use Rattle.disk_array.specs.Processes.{Process, command_at, process_by, process_if, process_of, same_bool}
+use Rattle.disk_array.specs.SoundArray.{IsSound}
 use Rattle.disk_array.specs.Steps as Steps
 use Rattle.disk_array.specs.Steps.{running_if}
 use Rattle.disk_array.specs.Units.{Array, Nexus, RunningProcess, UnitState, guest_at, is_held, nexus_of, nexuses_without, same_nexus, senses_without, unit_state_at}
@@ -26,8 +26,8 @@ use Rattle.std.proofs.lemmas.Bool.{eqb-true, or_from}
 use Rattle.bus_base.proofs.Tests.{wrong, eq_self}
 use Rattle.trace_laws.proofs.OtherProcesses.{executed}
 use Rattle.trace_laws.proofs.OverItems.{later}
-use Rattle.trace_laws.proofs.Impossible.{none_some}
 use Rattle.trace_laws.proofs.EachProcess.{running_id}
+use Rattle.ending_causes.proofs.Senses.{running_own as own_process}
 
 -- An automatic REQUEST SENSE that ends does so with GOOD, and none is lost; and that of a command is not over as the command ends.
 abbrev pub EndsWell : Story → Event → Type 0
@@ -124,36 +124,8 @@ lost s b a id e h =
 
 -- ---- the process that runs is of the scenario
 
-guest_own : (s : ScenarioValue) (guests : List RunningProcess) (i : ProcId) (r : RunningProcess) → AllOwnGuests s guests → guest_at guests i ≡ Some r → process_of s r.process.id ≡ Some r.process
-guest_own s [] i r own z = none_some r z
-guest_own s (g ∷ guests) i r own z = go (same_id g.process.id i) z (λ w. guest_own s guests i r own.1 w)
-  where
-    go : (x : Bool) → (if x then Some g else guest_at guests i) ≡ Some r → (guest_at guests i ≡ Some r → process_of s r.process.id ≡ Some r.process) → process_of s r.process.id ≡ Some r.process
-    go true h more = subst (λ (x : RunningProcess). process_of s x.process.id ≡ Some x.process) (same_Some g r h) own.0
-    go false h more = more h
-
-current_own : (s : ScenarioValue) (t n : ℕ) (o : Option RunningProcess) (i : ProcId) (r : RunningProcess) → IsOwnRunning s t n o → running_if o i ≡ Some r → process_of s r.process.id ≡ Some r.process
-current_own s t n None i r own z = none_some r z
-current_own s t n (Some g) i r own z = go (same_id g.process.id i) z
-  where
-    go : (x : Bool) → (if x then Some g else None) ≡ Some r → process_of s r.process.id ≡ Some r.process
-    go true h = subst (λ (x : RunningProcess). process_of s x.process.id ≡ Some x.process) (same_Some g r h) own.is
-    go false h = none_some r h
-
-unit_own : (s : ScenarioValue) (units : List UnitState) (i : ProcId) (r : RunningProcess) → AllOwnUnits s units → Steps.running_in units i ≡ Some r → process_of s r.process.id ≡ Some r.process
-unit_own s [] i r own z = none_some r z
-unit_own s (u ∷ units) i r own z = go (running_if u.current i) refl z (λ w. unit_own s units i r own.1 w)
-  where
-    go : (o : Option RunningProcess) → running_if u.current i ≡ o → (if is_some o then o else Steps.running_in units i) ≡ Some r → (Steps.running_in units i ≡ Some r → process_of s r.process.id ≡ Some r.process) → process_of s r.process.id ≡ Some r.process
-    go (Some g) f h more = current_own s u.target u.unit u.current i r own.0.current (f ∙ h)
-    go None f h more = more h
-
 pub running_own : (s : ScenarioValue) (a : Array) (i : ProcId) (r : RunningProcess) → IsSound s a → Steps.running_process a i ≡ Some r → process_of s i ≡ Some r.process
-running_own s a i r sound e = ap (process_of s) (sym (running_id a i r e)) ∙ go (guest_at a.guests i) refl e
-  where
-    go : (o : Option RunningProcess) → guest_at a.guests i ≡ o → (if is_some o then o else Steps.running_in a.units i) ≡ Some r → process_of s r.process.id ≡ Some r.process
-    go (Some g) z h = guest_own s a.guests i r sound.guests (z ∙ h)
-    go None z h = unit_own s a.units i r sound.units h
+running_own s a i r sound e = ap (process_of s) (sym (running_id a i r e)) ∙ own_process s a i r sound e
 
 -- Its command, and its nexus.
 pub record OfCommand (s : ScenarioValue) (id : ProcId) (p : Process) : Type 0 where

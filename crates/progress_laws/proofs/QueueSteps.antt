@@ -27,10 +27,10 @@ use Rattle.trace_laws.proofs.QueueEvents.{Spares, chosen_all, either_stays, kept
 use Rattle.trace_laws.specs.Places.{is_in_queue, is_queued}
 use Rattle.trace_laws.proofs.UnitsKept.{cleared_same, attended_same}
 use Rattle.trace_laws.proofs.Impossible.{none_some}
-use Rattle.trace_laws.proofs.RunArrivals.{found}
 use Rattle.trace_laws.proofs.EachProcess.{running_id}
 use Rattle.trace_laws.proofs.PointerStories.{ends_over}
 use Rattle.disk_array.proofs.SeatReplies.{waits_in}
+use Rattle.target_units.proofs.UnitTimes.{place_found}
 
 abbrev pub IfQueued : ProcId → Option Array → Type 0
 IfQueued id None = ⊤
@@ -54,9 +54,6 @@ if_none : (id : ProcId) (q : Bool) (b : Array) → is_queued b.units id ≡ true
 if_none id true b e = tt
 if_none id false b e = e
 
-at_own : (units : List UnitState) (t n : ℕ) (u : UnitState) → unit_state_at units t n ≡ Some u → unit_state_at units u.target u.unit ≡ Some u
-at_own units t n u e = let w = found units t n u e in (λ i. unit_state_at units (w.0 i) (w.1 i)) ∙ e
-
 arriving : (u : UnitState) (p : Process) (id : ProcId) → is_in_queue u id ≡ true → is_in_queue (record u { waiting = u.waiting ++ p ∷ [] }) id ≡ true
 arriving u p id e = either_stays (waits_in u.waiting id) (is_some (running_if u.current id)) _ _ (λ z. waits_last u.waiting p id z) (λ z. z) e
 
@@ -72,7 +69,7 @@ accepted a (Some p) id e = at (unit_state_at a.units p.target p.unit) refl
         go true = e
         go false =
             if_some id (nat_lt (Steps.process_count u) u.depth) (record a { units = with_unit a.units (record u { waiting = u.waiting ++ p ∷ [] }) })
-            (with_unit_all a.units (record u { waiting = u.waiting ++ p ∷ [] }) u id (at_own a.units p.target p.unit u z) (λ y. arriving u p id y) e)
+            (with_unit_all a.units (record u { waiting = u.waiting ++ p ∷ [] }) u id (place_found a.units p.target p.unit u z) (λ y. arriving u p id y) e)
 
 refused : (a : Array) (o : Option Process) (id : ProcId) → is_queued a.units id ≡ true → IfQueued id (Steps.refuse_step a o)
 refused a None id e = tt
@@ -88,8 +85,8 @@ executed a p u done id at e = replied_all (Steps.with_contents (Steps.without_at
     filled : (q : Bool) (o : Option UnitState) → unit_state_at a.units p.target p.unit ≡ o → is_queued (Steps.with_contents (Steps.without_attention a q (nexus_of p)) o done.contents).units id ≡ true
     filled true None z = e
     filled false None z = e
-    filled true (Some v) z = with_unit_all a.units (record v { contents = done.contents }) v id (at_own a.units p.target p.unit v z) (λ y. y) e
-    filled false (Some v) z = with_unit_all a.units (record v { contents = done.contents }) v id (at_own a.units p.target p.unit v z) (λ y. y) e
+    filled true (Some v) z = with_unit_all a.units (record v { contents = done.contents }) v id (place_found a.units p.target p.unit v z) (λ y. y) e
+    filled false (Some v) z = with_unit_all a.units (record v { contents = done.contents }) v id (place_found a.units p.target p.unit v z) (λ y. y) e
 
 run : (a : Array) (guest : Bool) (o : Option RunningProcess) (id : ProcId) → is_queued a.units id ≡ true → IfQueued id (Steps.run_step a guest o)
 run a guest None id e = tt

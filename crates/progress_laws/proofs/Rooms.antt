@@ -23,6 +23,7 @@ use Rattle.bus_laws.specs.Stages.{HasDevice}
 use Rattle.progress_laws.proofs.Connections.{host_there}
 use Rattle.bus_base.proofs.Tests.{wrong'}
 use Rattle.trace_laws.proofs.Ends.{host_found}
+use Rattle.trace_laws.proofs.EachLine.{Any, each_line}
 
 abbrev pub HasOpen : HostDef → Type 0
 HasOpen h = 0 < h.most
@@ -45,41 +46,8 @@ host_open s (initiator_line f) h e =
     subst HasOpen (ok_is _ h b8.2) (omega (arith, w))
 host_open s _ h e = absurd cc
 
-abbrev HasOpenIn : Progress → Type 0
-HasOpenIn d = HaveOpen d.scenario
-
-open_added : (d z : Progress) (x : Said) → added d x ≡ Ok z → HasOpenIn d → HasOpenIn z
-unfolding added need_of sent_of
-open_added d z (scsi_line v) e a = subst HasOpenIn (ok_is _ z e) a
-open_added d z (initiator_line f) e a =
-    let b = bind_ok (host_def d.scenario f) _ z e in
-    subst HasOpenIn (ok_is _ z b.2) (all_more HasOpen d.scenario.hosts b.0 a (host_open d.scenario (initiator_line f) b.0 b.1))
-open_added d z (target_line f) e a = let b = bind_ok (target_def d.scenario f) _ z e in subst HasOpenIn (ok_is _ z b.2) a
-open_added d z (unit_line f) e a = let b = bind_ok (unit_def d.scenario f) _ z e in subst HasOpenIn (ok_is _ z b.2) a
-open_added d z (fill_line f) e a = let b = bind_ok (fill_def d.scenario f) _ z e in subst HasOpenIn (ok_is _ z b.2) a
-open_added d z (cmd_line f) e a = let b = bind_ok (full_cmd_def d.scenario d.needs f) _ z e in subst HasOpenIn (ok_is _ z b.2) a
-open_added d z (abort_line f) e a = let b = bind_ok (abort_def d.scenario f) _ z e in subst HasOpenIn (ok_is _ z b.2) a
-open_added d z (reset_line f) e a = let b = bind_ok (reset_def d.scenario f) _ z e in subst HasOpenIn (ok_is _ z b.2) a
-open_added d z (fault_line f) e a = let b = bind_ok (fault_def d.scenario f) _ z e in subst HasOpenIn (ok_is _ z b.2) a
-open_added d z end_line e a = subst HasOpenIn (ok_is d z e) a
-
-open_after : (d z : Progress) (x : Said) → said_after d x ≡ Ok z → HasOpenIn d → HasOpenIn z
-unfolding said_after
-open_after d z x e a =
-    let v = bind_ok (guard 2 (fits_version d.scenario.version x)) _ z e in
-    let o = bind_ok (guard 3 (in_order (rank d.last) (rank (kind_of x)))) _ z v.2 in
-    let b = bind_ok (added d x) _ z o.2 in
-    let w = open_added d b.0 x b.1 a in
-    subst HasOpenIn (ok_is _ z b.2) w
-
-open_built : (d z : Progress) (xs : List Said) → built d xs ≡ Ok z → HasOpenIn d → HasOpenIn z
-open_built d z [] e a = subst HasOpenIn (ok_is d z e) a
-open_built d z (x ∷ xs) e a = let b = bind_ok (said_after d x) _ z e in open_built b.0 z xs b.2 (open_after d b.0 x b.1 a)
-
 have_open : (s : ScenarioValue) → Obeys s → HaveOpen s
-have_open s o =
-    let b = bind_ok (built nothing (saids s)) _ s o.lawful in
-    subst HaveOpen (ok_is b.0.scenario s b.2) (open_built nothing b.0 (saids s) b.1 tt)
+have_open s o = (each_line HasOpen Any Any Any (record { host = host_open; target = λ x f d e. tt; command = λ x f d e. tt; abort = λ x f d e. tt }) s o).hosts
 
 limit_of : (hosts : List HostDef) (dev : ℕ) → AllByRecursion HasOpen hosts → is_host hosts dev ≡ true → 0 < open_limit_of hosts dev
 limit_of [] dev a e = wrong' e

@@ -38,8 +38,7 @@ use Rattle.right_laws.proofs.Lasting.{IsLasting, row_lasts}
 use Rattle.right_laws.proofs.OpenProcesses.{IfAccepts, each_both, each_map, open_events, open_start}
 use Rattle.right_laws.proofs.RowCrossings.{GoesSo, crossing_goes, here_goes, known_served, new_here}
 use Rattle.right_laws.proofs.ShownRows.{IsArrival, ShownAs, row_shown}
-use Rattle.right_laws.proofs.UndoneLoadFacts.{load_asks}
-use Rattle.right_laws.proofs.UndoneLoads.{lasting_load}
+use Rattle.right_laws.proofs.UndoneLoads.{lasting_load, load_asks}
 use Rattle.bus_base.proofs.Tests.{wrong, wrong'}
 use Rattle.trace_laws.proofs.PhaseLines.{command_phase}
 use Rattle.trace_laws.proofs.Impossible.{none_some}

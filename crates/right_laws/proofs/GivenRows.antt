@@ -22,7 +22,7 @@ use Rattle.right_laws.proofs.ReadBooks.{gives_by}
 use Rattle.right_laws.proofs.SentAtRun.{sends_at_run}
 use Rattle.right_laws.proofs.SameReplies.{reply_stays_by}
 use Rattle.right_laws.proofs.Standing.{all_stand}
-use Rattle.right_laws.proofs.UndoneLoadFacts.{load_start, load_next}
+use Rattle.right_laws.proofs.UndoneLoads.{load_start, load_next}
 
 pub record GivenBooks (s : ScenarioValue) (p : List Row) : Type 0 where
   pub undo : UndoLoadFacts s p

@@ -1,8 +1,5 @@
 pub mod Lasting
 pub mod UndoneLoads
-pub mod UndoneLoadStays
-pub mod UndoneLoadTurns
-pub mod UndoneLoadFacts
 pub mod OpenProcesses
 pub mod ShownRows
 pub mod RowCrossings

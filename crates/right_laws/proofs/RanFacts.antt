@@ -51,8 +51,7 @@ use Rattle.right_laws.proofs.Lasting.{row_lasts}
 use Rattle.right_laws.proofs.OpenProcesses.{IfAccepts, reply_kept, replies_kept, running_has, open_step, none_is}
 use Rattle.right_laws.proofs.RowCrossings.{GoesSo, crossing_goes, here_goes, known_served, IsPlaced, placed_here, new_here, InBytes, in_command, in_data, in_status, byte_phase}
 use Rattle.right_laws.proofs.ShownRows.{IsArrival, IsAnswer, ShownAs, row_shown, RunsAs, runs_alone, runs_arrived, row_runs}
-use Rattle.right_laws.proofs.UndoneLoadFacts.{load_asks}
-use Rattle.right_laws.proofs.UndoneLoads.{lasting_load, loads_stay}
+use Rattle.right_laws.proofs.UndoneLoads.{lasting_load, load_asks, loads_stay}
 use Rattle.bus_base.proofs.Tests.{wrong, wrong'}
 use Rattle.trace_laws.proofs.PhaseLines.{command_phase}
 use Rattle.trace_laws.specs.DataPointers.{is_marked}

@@ -27,7 +27,7 @@ use Rattle.right_laws.proofs.ReadCounts.{IsReader, ReadCounts, ReadRow, counts_f
 use Rattle.right_laws.proofs.ReadEnds.{points_at_end}
 use Rattle.right_laws.proofs.ReadPointers.{ReadPointers, points_at, pointers_first, pointers_next}
 use Rattle.right_laws.proofs.StaysRows.{stays_so}
-use Rattle.right_laws.proofs.UndoneLoadFacts.{load_next, load_start}
+use Rattle.right_laws.proofs.UndoneLoads.{load_next, load_start}
 use Rattle.right_laws.proofs.Unmoved.{IsUnmovedServed, none_at_arrival, unmoved_first, unmoved_next}
 
 pub record ReadBooks (s : ScenarioValue) (p : List Row) : Type 0 where

@@ -45,7 +45,7 @@ use Rattle.bus_due.specs.Tasks.{is_writing, moved_count, reply_now, task_if}
 use Rattle.bus_due.proofs.Plains.{run_state_plain}
 use Rattle.bus_books.specs.Knowing.{Knows}
 use Rattle.bus_books.specs.Rows.{IsRowIn, RowKind, still, strikes, crosses, turns}
-use Rattle.bus_books.proofs.Gives.{requests_stay, struck_same}
+use Rattle.bus_books.proofs.Gives.{requests_rise, requests_stay, struck_same}
 use Rattle.bus_books.proofs.InConnection.{InConnection, in_connection, reading_is, same_phase_is}
 use Rattle.bus_laws.specs.Ends.{BeginsConnection, by_reselection, by_selection}
 use Rattle.bus_laws.proofs.Prompt.{least_is}
@@ -53,7 +53,6 @@ use Rattle.link_laws.specs.Pulses.{run_count}
 use Rattle.trace_laws.specs.RunFacts.{IsServedWell, RunsBy}
 use Rattle.trace_laws.proofs.ConnectionRows.{GoingRow, RowKindOf, begins_now, connection_row, goes_now, going_row, row_kind}
 use Rattle.trace_laws.proofs.FirstRows.{IsFirst}
-use Rattle.trace_laws.proofs.PointerRows.{requests_rise}
 use Rattle.trace_laws.proofs.PointerTurns.{runs_more}
 use Rattle.trace_laws.proofs.RunBegins.{same_length}
 use Rattle.trace_laws.proofs.RunCountFacts.{handshakes_begin, or_left}

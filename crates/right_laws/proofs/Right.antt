@@ -35,7 +35,7 @@ use Rattle.right_laws.proofs.DataOfferFacts.{DataOfferFacts, offer_start, offer_
 use Rattle.right_laws.proofs.RanFacts.{Known, right_start, right_next}
 use Rattle.right_laws.proofs.SentBytes.{moves_at_run}
 use Rattle.right_laws.proofs.StatusFacts.{status_start, status_next, status_at_end}
-use Rattle.right_laws.proofs.UndoneLoadFacts.{load_start, load_next}
+use Rattle.right_laws.proofs.UndoneLoads.{load_start, load_next}
 
 -- ---- what is known of each prefix
 

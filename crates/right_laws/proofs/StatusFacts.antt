@@ -45,7 +45,7 @@ use Rattle.trace_laws.proofs.CloseStays.{said_then}
 use Rattle.trace_laws.proofs.ConnectionRows.{ConnectionRow, GoingRow, connection_row, going_row, RowKindOf, begins_now, goes_now, row_kind}
 use Rattle.trace_laws.proofs.Joint.{Stood, NextStood}
 use Rattle.trace_laws.proofs.LastRows.{stays_as}
-use Rattle.trace_laws.proofs.PhaseLines.{in_phase}
+use Rattle.trace_laws.proofs.PhaseLines.{in_phase, message_line}
 use Rattle.right_laws.specs.Loads.{Load, load}
 use Rattle.right_laws.specs.Runs.{StatusAtEnd}
 use Rattle.right_laws.specs.StatusBytes.{StatusBy, StatusTalks, StatusFacts}
@@ -64,7 +64,7 @@ use Rattle.right_laws.proofs.BlockFacts.{lasting_by}
 use Rattle.right_laws.proofs.Lasting.{row_lasts}
 use Rattle.right_laws.proofs.RanFacts.{undoes_of, here_is, given_stays}
 use Rattle.right_laws.proofs.RowCrossings.{GoesSo, crossing_goes, here_goes, known_served, InBytes, in_command, in_data, in_status, byte_phase}
-use Rattle.right_laws.proofs.StatusSame.{message_line, freeing}
+use Rattle.right_laws.proofs.StatusSame.{freeing}
 use Rattle.right_laws.proofs.StatusStays.{Given, Going, talk_still, talk_crosses}
 use Rattle.right_laws.proofs.StatusTurns.{talk_turns}
 use Rattle.bus_base.proofs.Tests.{wrong, wrong'}

@@ -1,8 +1,7 @@
 -- What is said of the status that a process has carried says the same of what has the same bytes and the same pointer.
-use Rattle.std.proofs.Common.{ℕ, ◌≡◌, ◌⊎◌, inl, inr, Bool, true, false, not, ◌&&◌, ◌==◌, ◌∙◌, Some, refl, sym, ap, subst, true≢false}
+use Rattle.std.proofs.Common.{ℕ, ◌≡◌, ◌⊎◌, inl, inr, Bool, true, false, ◌==◌, ◌∙◌, Some, refl, sym, ap, subst, true≢false}
 use Rattle.std.specs.Prelude.{if◌then◌else◌}
 use Rattle.bus_trace.specs.LineSet.{LineSet}
-use Rattle.bus_trace.specs.Phases.{is_message_out, is_message_in}
 use Rattle.msg_grammar.specs.declared.message.MsgIn.TheVariants as to_initiator
 use Rattle.bus_story.specs.CarriedBytes.{CarriedBytes}
 use Rattle.bus_story.specs.Links.{Link}
@@ -22,7 +21,7 @@ use Rattle.trace_laws.specs.LastTalks.{LastGiven, still_stays, to_close, to_save
 use Rattle.trace_laws.proofs.LastRows.{KeptPlan}
 use Rattle.right_laws.specs.Loads.{Load, load}
 use Rattle.right_laws.specs.StatusBytes.{HasOne, IsSmall, IsReady, StatusSays, StatusAsked, StatusBy}
-use Rattle.right_laws.proofs.StatusLeavings.{is_ending, is_freeing_next}
+use Rattle.right_laws.proofs.StatusLeavings.{is_freeing_next}
 use Rattle.bus_base.proofs.Tests.{wrong'}
 
 -- ---- what is the same says the same
@@ -85,24 +84,7 @@ status_lines b e = go b.msg b.cd b.io refl refl refl (ap (λ (p : Phase). is_sta
     go false false true em ed ei z = wrong' z
     go false false false em ed ei z = wrong' z
 
-pub message_line : (b : LineSet) → is_message_in b ≡ true → b.msg ≡ true
-message_line b e = go b.msg b.cd b.io e
-  where
-    go : (m d o : Bool) → (m && d && o) ≡ true → m ≡ true
-    go true d o z = refl
-    go false d o z = wrong' z
-
-pub out_line : (b : LineSet) → is_message_out b ≡ true → b.msg ≡ true
-out_line b e = go b.msg b.cd b.io e
-  where
-    go : (m d o : Bool) → (m && d && not o) ≡ true → m ≡ true
-    go true d o z = refl
-    go false d o z = wrong' z
-
 -- ---- what is said at its end
-
-pub first_end : (m : Messages) → m ≡ one_message to_initiator.CommandComplete → is_ending m ≡ true
-first_end m e = ap is_ending e
 
 pub freeing : (l : Link) (m : Messages) (next : Next) (count : ℕ) → LastGiven l m next count → m ≡ one_message to_initiator.CommandComplete → is_freeing_next next ≡ true
 freeing l m next count (still_stays f all last) e = absurd (no_end ((subst (λ (x : Messages). Rattle.bus_books.specs.Giving.OnMessages (λ y. Rattle.bus_story.specs.Links.last_in y ≡ Rattle.bus_story.specs.Links.plain) x) e all).0))

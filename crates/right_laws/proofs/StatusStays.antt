@@ -1,5 +1,5 @@
 -- What a process has carried of its status, as a phase of its connection goes on (6.4, 6.6.5, 6.6.10).
-use Rattle.std.proofs.Common.{ℕ, ◌≡◌, ◌⊎◌, inl, inr, arith, ◌<◌, Bool, true, false, not, ◌&&◌, ◌==◌, ◌%◌, ◌∙◌, List, [], ◌∷◌, ◌++◌, length, Option, Some, None, refl, sym, ap, subst, true≢false}
+use Rattle.std.proofs.Common.{ℕ, ◌≡◌, ◌⊎◌, inl, inr, ◌<◌, Bool, true, false, not, ◌&&◌, ◌==◌, ◌%◌, ◌∙◌, List, [], ◌∷◌, ◌++◌, length, Option, Some, None, refl, sym, ap, subst, true≢false}
 use Rattle.std.proofs.lemmas.Option.{same_Some}
 use Rattle.std.specs.Prelude.{if◌then◌else◌, is_some, slice_index_or}
 use Rattle.bus_base.specs.declared.ProcId.{ProcId}
@@ -41,7 +41,8 @@ use Rattle.trace_laws.proofs.ConnectionRows.{ConnectionRow, GoingRow}
 use Rattle.trace_laws.proofs.LastRows.{Stays, stays_as}
 use Rattle.trace_laws.proofs.UndoneFacts.{in_of}
 use Rattle.trace_laws.proofs.UndoneRows.{empty_front}
-use Rattle.trace_laws.proofs.PhaseLines.{out_lines, out_in}
+use Rattle.trace_laws.proofs.PhaseLines.{message_line, out_line, out_lines, out_in}
+use Rattle.trace_laws.proofs.Tests.{zero_below}
 use Rattle.right_laws.specs.Loads.{load}
 use Rattle.right_laws.specs.StatusBytes.{HasOne, IsSmall, IsReady, StatusBy, StatusFacts}
 use Rattle.right_laws.proofs.RanFacts.{Known}
@@ -50,9 +51,9 @@ use Rattle.right_laws.proofs.StatusAreas.{area_stays, status_crosses, restore_wh
 use Rattle.right_laws.proofs.StatusFirst.{status_first}
 use Rattle.right_laws.proofs.StatusLeavings.{is_status_next}
 use Rattle.right_laws.proofs.UndoneLoads.{loads_stay_in}
-use Rattle.trace_laws.proofs.PointerRows.{requests_rise}
+use Rattle.bus_books.proofs.Gives.{requests_rise}
 use Rattle.right_laws.proofs.RanFacts.{undoes_of}
-use Rattle.right_laws.proofs.StatusSame.{says_as, asked_as, same_by, status_lines, message_line, out_line}
+use Rattle.right_laws.proofs.StatusSame.{says_as, asked_as, same_by, status_lines}
 use Rattle.bus_base.proofs.Tests.{wrong, wrong'}
 use Rattle.link_laws.proofs.Asks.{counted_some}
 
@@ -140,9 +141,6 @@ talk_still s p row n id h ep en requests talk =
     stays = stays_as s k row n c false r ep en
 
 -- A byte crosses.
-lt_one : (x : ℕ) → x < 1 → x ≡ 0
-lt_one x e = omega arith
-
 pub talk_crosses : (s : ScenarioValue) (p : List Row) (row : Row) (n : Connection) (id : ProcId) (dev : ℕ) (h : Going s p row n id) → is_fault row.kind ≡ false → changes_phase h.going.change ≡ false → receiver_in n h.going.change ≡ Some dev
     → StatusBy (carried_here (run_state s p) id) (run_state s p).exchange.plan (run_state s p).handshakes.requests (phase_of (bus_of (run_state s p)))
     → StatusBy (carried_here (run_state s (row ∷ p)) id) (run_state s (row ∷ p)).exchange.plan (run_state s (row ∷ p)).handshakes.requests (phase_of (bus_of (run_state s (row ∷ p))))
@@ -256,7 +254,7 @@ talk_crosses s p row n id dev h ef ep er talk = subst (StatusBy (carried_here j 
             again = t.0.again z
 
             zero : k.handshakes.requests ≡ 0
-            zero = lt_one k.handshakes.requests (subst (λ (m : Messages). k.handshakes.requests < length (bytes_of_messages m)) again.0 gives.1)
+            zero = zero_below k.handshakes.requests (subst (λ (m : Messages). k.handshakes.requests < length (bytes_of_messages m)) again.0 gives.1)
 
             given : AreGiven (bytes_of_messages k.exchange.plan.messages) k.story.bus_state.dialogue.half k.handshakes.requests
             given = (h.given.known.was.books.gives n r.connection_is g.calm).in_message_in gives.2 bus_here

@@ -1,6 +1,6 @@
 pub mod Places
 mod Told
-mod OwnRows
+pub mod OwnRows
 mod Dues
 pub mod Finds
 pub mod LineReads

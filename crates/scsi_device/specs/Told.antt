@@ -7,6 +7,7 @@ use Rattle.bus_trace.specs.declared.Row.{Row}
 use Rattle.bus_trace.specs.declared.agreements.Agreement.{Agreement}
 use Rattle.bus_trace.specs.declared.connection.Connection.{Connection}
 use Rattle.bus_lines.specs.Handshakes.{Handshakes, handshakes}
+use Rattle.bus_lines.specs.declared.stage.Stage.TheVariants.{OnFreeBus}
 use Rattle.bus_phases.specs.declared.words.End.{End}
 use Rattle.bus_phases.specs.Dialogue.{dialogue}
 use Rattle.scenario.specs.declared.value.FaultDef.{FaultDef}
@@ -41,6 +42,10 @@ told rows dev = record {
   offer = (dialogue rows).heard.now.offer;
   lines = drives rows dev;
 }
+
+-- By REQ and ACK it never goes by the stage.
+abbrev pub at_no_stage : Sight → Sight
+at_no_stage v = record v { stage = OnFreeBus 0 }
 
 -- How bytes cross in the phase (6.1.5): an initiator has a lag, a target has none.
 abbrev pub pace_of : Told → Option HostDef → Pace

@@ -1,10 +1,15 @@
 // Faults: which sample they strike.
-ghost use Rattle.std.specs.Prelude.{◌≡◌};
+ghost use Rattle.std.specs.Prelude.{◌≡◌, List};
+ghost use Rattle.bus_trace.specs.declared.Row.{Row};
+ghost use Rattle.bus_trace.specs.Terms.{receiver};
+ghost use Rattle.bus_trace.specs.Trace.{last_time};
 ghost use Rattle.bus_reactions.specs.Ends.{sample_due};
 ghost use Rattle.bus_due.specs.Connected.{is_receiving};
+ghost use Rattle.bus_dialogue.specs.Observer.{IsObserverOf};
 ghost use Rattle.scsi_device.specs.Told.{flip_by};
 
 use bus_base::{Dev, Ns};
+use bus_dialogue::Observer;
 use bus_reactions::Due;
 use bus_trace::{Kind, ScsiId};
 use scenario::FaultDef;
@@ -19,8 +24,8 @@ pub fn flip(fault: Option<FaultDef>, time: Ns) -> Option<u8>
     }
 }
 
-/// Whether this device is the receiver of the byte that crossed.
-pub fn is_receiving(receiver: Option<ScsiId>, dev: Dev) -> bool
+// Whether this device is the receiver of the byte that crossed.
+fn is_receiving(receiver: Option<ScsiId>, dev: Dev) -> bool
     ensures { result ≡ is_receiving receiver dev }
 {
     match receiver {
@@ -29,9 +34,9 @@ pub fn is_receiving(receiver: Option<ScsiId>, dev: Dev) -> bool
     }
 }
 
-/// What a device does next, where it receives the byte of the last row or not: the receiver samples it at once, and
-/// takes a fault of it before all else.
-pub fn sampled(receives: bool, last: Ns, flip: Option<u8>, plain: Option<Due>) -> Option<Due>
+// Where it receives the byte of the last row or not: the receiver samples it at once, and takes a fault of it before
+// all else.
+fn sample_due(receives: bool, last: Ns, flip: Option<u8>, plain: Option<Due>) -> Option<Due>
     ensures { result ≡ sample_due receives last flip plain }
 {
     match flip {
@@ -41,4 +46,22 @@ pub fn sampled(receives: bool, last: Ns, flip: Option<u8>, plain: Option<Due>) -
         }),
         _ => plain,
     }
+}
+
+/// What a device does next that does `plain` but for faults: it samples a byte that crossed to it in the last row first
+/// (6.2.1), and `fault` is the first fault that has not struck yet.
+pub fn sampled(
+    observer: &Observer,
+    dev: Dev,
+    fault: Option<FaultDef>,
+    plain: Option<Due>,
+) -> Option<Due>
+    ensures { (rows : List Row) → IsObserverOf rows observer.now
+        → result
+        ≡ sample_due (is_receiving (receiver rows) dev) (last_time rows) (flip_by fault (last_time rows)) plain }
+{
+    let view = observer.view();
+    let last = view.last_time();
+    let receives = is_receiving(view.effect().receiver, dev);
+    sample_due(receives, last, flip(fault, last), plain)
 }

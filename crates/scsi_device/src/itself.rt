@@ -4,7 +4,8 @@ ghost use Rattle.bus_trace.specs.declared.rows.Row.{Row};
 ghost use Rattle.bus_lines.specs.BusView.{IsBusViewOf};
 ghost use Rattle.bus_lines.specs.Timely.{IsTimely};
 ghost use Rattle.scenario.specs.Value.{ScenarioValue};
-ghost use Rattle.scsi_device.specs.Itself.{IsItselfOf, itself, itself_after};
+ghost use Rattle.bus_due.specs.Own.{own_next};
+ghost use Rattle.scsi_device.specs.Itself.{IsItselfOf, itself, itself_with};
 
 use crate::own_times::OwnTimes;
 use crate::resets::next_reset;
@@ -63,25 +64,25 @@ impl Itself {
         self.reset
     }
 
-    // A row of this device, of this time, which changed this.
-    fn after(&mut self, dev: Dev, kind: Kind, change: &Change, time: Ns)
+    // A row of its own, of this time, which changed this.
+    fn see_own(&mut self, kind: Kind, change: &Change, time: Ns)
         requires { time < 2 ^ 63 }
-        ensures { self.new ≡ itself_after self.old dev kind change.now time }
+        ensures { self.new ≡ itself_with self.old (own_next kind self.old.own change.now time) }
     {
-        if dev == self.dev {
-            self.own.see(kind, change, time);
-            self.reset = next_reset(self.dev, self.own.released(), self.resets.as_slice());
-        }
+        self.own.see(kind, change, time);
+        self.reset = next_reset(self.dev, self.own.released(), self.resets.as_slice());
     }
 
-    /// One more row, of any device; the view is that after it.
+    /// One more row, of any device; the view is that after it. A row of another device tells it nothing.
     pub fn see(&mut self, view: &BusView, row: &Row)
         requires { IsTimely (2 ^ 63) view.now }
         ensures dev { self.new.dev ≡ self.old.dev }
         ensures trace { (s : ScenarioValue) (rows : List Row) → IsBusViewOf (row.now ∷ rows) view.now
             → IsItselfOf s rows self.old → IsItselfOf s (row.now ∷ rows) self.new }
     {
-        let change = view.effect().change;
-        self.after(row.dev, row.kind, &change, view.last_time());
+        if row.dev != self.dev {
+            return;
+        }
+        self.see_own(row.kind, &view.effect().change, view.last_time());
     }
 }

@@ -15,12 +15,14 @@ mod itself;
 mod laws;
 mod own_times;
 mod resets;
+mod seen;
 mod transfer;
 
 pub use acts::Act;
-pub use faults::{flip, is_receiving, sampled};
+pub use faults::{flip, sampled};
 pub use itself::Itself;
 pub use laws::{devices_know_enough, scenarios_fit_the_bus};
 pub use own_times::OwnTimes;
 pub use resets::{next_reset, sooner_time};
-pub use transfer::{agreement_answer, pace};
+pub use seen::lines_seen;
+pub use transfer::{agreement_answer, is_pulsed, pace};

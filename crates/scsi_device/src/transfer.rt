@@ -33,6 +33,14 @@ fn times_of(factor: u8) -> TransferTimes
     }
 }
 
+/// Whether bytes cross by pulses in the phase: in a data phase under an agreement with an offset (6.1.5.2).
+pub fn is_pulsed(observer: &Observer) -> bool
+    ensures { (rows : List Row) (dev : ℕ) (host : Option HostDef) → IsObserverOf rows observer.now
+        → result ≡ (pace_of (told rows dev) host).pulsed }
+{
+    observer.begun() && is_data(observer.view().bus()) && observer.agreement().offset > 0
+}
+
 /// How bytes cross in the phase: by pulses where an agreement with an offset holds (6.1.5.2). An initiator has this
 /// lag, in ns; a target has none.
 pub fn pace(observer: &Observer, lag: u32) -> Pace
@@ -42,7 +50,7 @@ pub fn pace(observer: &Observer, lag: u32) -> Pace
 {
     let agreement = observer.agreement();
     Pace {
-        pulsed: observer.begun() && is_data(observer.view().bus()) && agreement.offset > 0,
+        pulsed: is_pulsed(observer),
         offset: agreement.offset,
         times: times_of(agreement.period),
         lag: Ns::from(lag),

@@ -472,10 +472,10 @@ events_agree v w pulsed bus r n stands id d a e =
 
 -- ---- what it has to do in the phase
 
-pub offers_agree : (v w : Serving) (asks pulsed : Bool) (bus : LineSet) (r : Handshakes) → (pulsed ≡ true → is_data bus ≡ true) → AreAgreeing (not asks && not (follows_by w pulsed bus r)) (phase_of bus) v w → AreAlike true asks bus.io r.requests (offering_by v true pulsed bus r) (offering_by w true pulsed bus r)
+pub offers_agree : (v w : Serving) (asks pulsed : Bool) (bus : LineSet) (r : Handshakes) → (pulsed ≡ true → is_data bus ≡ true) → AreAgreeing (not asks && not (follows_by w pulsed bus r)) (phase_of bus) v w → AreAlike true pulsed asks bus.io r.requests (offering_by v true pulsed bus r) (offering_by w true pulsed bus r)
 offers_agree v w asks pulsed bus r d a = record {
   follows = λ z. same;
-  byte = λ z io. (λ i. phase_byte (like_is leaves phase v w a i) phase (a.plan i).messages 0 r.requests)
+  byte = λ z io driven. (λ i. phase_byte (like_is leaves phase v w a i) phase (a.plan i).messages 0 r.requests)
       ∙ byte_parts leaves w.def w.plan v.plan.negotiates w.given v.task w.task v.arrival w.arrival r.requests phase (parts_of leaves phase v w a);
   to = λ z ask stop some. drives (left ask stop) (other stop);
   wait = λ z ask stop some. waits (left ask stop) (other stop);

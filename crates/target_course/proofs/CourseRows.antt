@@ -38,7 +38,7 @@ use Rattle.scsi_device.specs.Heard.{instructions, heard, is_message, is_of_scena
 use Rattle.target_course.specs.declared.course.ProcessState.{ProcessState}
 use Rattle.target_course.specs.Agreeing.{AreAgreeing}
 use Rattle.target_course.specs.Alike.{AreAlike}
-use Rattle.target_course.specs.States.{IsOwnConnection, offering_in}
+use Rattle.target_course.specs.States.{AreAlikeIn, IsOwnConnection, offering_in}
 use Rattle.target_course.specs.Courses.{CourseState, course_selected, course_reselected, course_after, course_events, events_of_target, id_known, serving_by, IsLabelOf, IsReadyProcess, IsCourse, IsCourseOf, AreToldOf}
 use Rattle.target_course.proofs.Agreeing.{events_agree, leavings_agree, offers_agree}
 use Rattle.target_course.proofs.Courses.{course_goes_on}
@@ -97,7 +97,7 @@ course_seen s rows row m d f l c p q h o line e told left old n own calm =
 offers_in : (s : ScenarioValue) (rows : List Row) (n : Connection) (d : TargetDef) (c : CourseState) (f : ProcessState) → d.dev < 8
     → IsPlain s rows (run_state s rows) → IsOwnConnection rows d.dev n → target_def_of s d.dev ≡ Some d → heard s rows ≡ true → (bus rows).rst ≡ false → AreToldOf s rows c f → IsCourse s rows n c
     → (y : Bool) → begun rows ≡ y → (pulsed : Bool) → pulsed ≡ is_pulsed_phase (begun rows) (bus rows) (dialogue rows).heard.now.agreement
-    → AreAlike y (drives rows d.dev).req (bus rows).io (handshakes rows).requests (offering_by (serving_by d c f (given_of s (run_state s rows))) y pulsed (bus rows) (handshakes rows)) (offering_by (serving_of s (run_state s rows) d.dev) y pulsed (bus rows) (handshakes rows))
+    → AreAlike y pulsed (drives rows d.dev).req (bus rows).io (handshakes rows).requests (offering_by (serving_by d c f (given_of s (run_state s rows))) y pulsed (bus rows) (handshakes rows)) (offering_by (serving_of s (run_state s rows) d.dev) y pulsed (bus rows) (handshakes rows))
 offers_in s rows n d c f below p o line e calm told course false b pulsed g = record { follows = λ z. cc; byte = λ z. absurd cc; to = λ z. absurd cc; wait = λ z. absurd cc }
 offers_in s rows n d c f below p o line e calm told course true b pulsed g =
     let k : RunState = run_state s rows in
@@ -119,7 +119,7 @@ offers_in s rows n d c f below p o line e calm told course true b pulsed g =
 pub course_offers : (s : ScenarioValue) (rows : List Row) (d : TargetDef) (c : CourseState) (f : ProcessState) → d.dev < 8
     → IsPlain s rows (run_state s rows) → target_def_of s d.dev ≡ Some d → heard s rows ≡ true → AreToldOf s rows c f → IsCourseOf s rows d.dev c
     → (n : Connection) → IsOwnConnection rows d.dev n → (bus rows).rst ≡ false
-    → AreAlike (begun rows) (drives rows d.dev).req (bus rows).io (handshakes rows).requests (offering_in rows (serving_by d c f (given_of s (run_state s rows)))) (offering_in rows (serving_of s (run_state s rows) d.dev))
+    → AreAlikeIn rows d.dev (offering_in rows (serving_by d c f (given_of s (run_state s rows)))) (offering_in rows (serving_of s (run_state s rows) d.dev))
 course_offers s rows d c f below p line e told course n o calm =
     offers_in s rows n d c f below p o line e calm told (course n o calm) (begun rows) refl (is_pulsed_phase (begun rows) (bus rows) (dialogue rows).heard.now.agreement) refl
 

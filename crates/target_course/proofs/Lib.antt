@@ -1,4 +1,4 @@
-mod Alike
+pub mod Alike
 pub mod Agreeing
 pub mod Courses
 pub mod CourseBegins

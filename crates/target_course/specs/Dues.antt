@@ -9,6 +9,7 @@ use Rattle.bus_reactions.specs.declared.due.Due.{Due}
 use Rattle.bus_reactions.specs.declared.due.Myself.{Myself}
 use Rattle.bus_reactions.specs.declared.due.Want.{Want}
 use Rattle.bus_reactions.specs.declared.ends.Offering.{Offering}
+use Rattle.bus_reactions.specs.declared.ends.Pace.{Pace}
 use Rattle.bus_reactions.specs.Linking.{link_due, sample_time}
 use Rattle.bus_reactions.specs.Ends as hand
 use Rattle.bus_reactions.specs.Reset.{with_reset}
@@ -42,9 +43,12 @@ leaving_of_target t i = leaving_by i.serving t.begun t.sight.bus
 abbrev pub offering_of_target : Told → TargetState → Offering
 offering_of_target t i = offering_by i.serving t.begun (pace_of t None).pulsed t.sight.bus t.handshakes
 
+-- By REQ and ACK, where bytes cross so and it has this to do.
+abbrev pub due_of_offering : TargetDef → Told → TargetState → Pace → Offering → Option Due
+due_of_offering d t i p g = hand.target_due t.begun t.sight t.handshakes (myself_by d t i) p g
+
 abbrev pub plain_by : TargetDef → Told → TargetState → Option Due
-plain_by d t i =
-    hand.target_due t.begun t.sight t.handshakes (myself_by d t i) (pace_of t None) (offering_of_target t i)
+plain_by d t i = due_of_offering d t i (pace_of t None) (offering_of_target t i)
 
 -- It samples a byte that crossed to it in the last row first.
 abbrev pub hand_by : TargetDef → Told → Option FaultDef → TargetState → Option Due

@@ -50,13 +50,18 @@ abbrev pub offering_in : List Row → next_phase.Serving → Offering
 offering_in rows v =
     offering_by v (begun rows) (pace_of (told rows 0) None).pulsed (bus rows) (handshakes rows)
 
+-- Nothing that it does next tells between these two.
+abbrev pub AreAlikeIn : List Row → ℕ → Offering → Offering → Type 0
+AreAlikeIn rows dev g h =
+    AreAlike (begun rows) (pace_of (told rows 0) None).pulsed (drives rows dev).req (bus rows).io (handshakes rows).requests g h
+
 -- This is what the target of this line of the scenario knows after these rows. In a connection of its own, while RST is
 -- false, it may know less than the rows tell of the process, as long as nothing that it does next tells between them.
 pub record IsTargetOf (s : ScenarioValue) (rows : List Row) (t : TargetDef) (i : TargetState) : Type 0 where
   pub own_is : i.own ≡ own_of rows t.dev
   pub reset_is : i.reset ≡ reset_from t.dev (own_of rows t.dev).released s.resets
   pub ready_is : i.ready ≡ ready_unit (ready_of s (run_state s rows) t.dev)
-  pub serving_is : (n : Connection) → IsOwnConnection rows t.dev n → (bus rows).rst ≡ false → AreAlike (begun rows) (drives rows t.dev).req (bus rows).io (handshakes rows).requests (offering_in rows i.serving) (offering_in rows (serving_of s (run_state s rows) t.dev))
+  pub serving_is : (n : Connection) → IsOwnConnection rows t.dev n → (bus rows).rst ≡ false → AreAlikeIn rows t.dev (offering_in rows i.serving) (offering_in rows (serving_of s (run_state s rows) t.dev))
 
 -- ---- what the scenario says of it
 

@@ -4,8 +4,7 @@ ghost use Rattle.std.specs.Prelude.{ℕ, ◌≡◌, ◌≤◌, ◌<◌, ◌||◌
 ghost use Rattle.bus_trace.specs.declared.Row.{Row};
 ghost use Rattle.bus_trace.specs.declared.connection.Connection.{Connection};
 ghost use Rattle.bus_trace.specs.Terms.{connection as connection_after};
-ghost use Rattle.bus_trace.specs.Trace.{bus, drives};
-ghost use Rattle.bus_lines.specs.Handshakes.{handshakes};
+ghost use Rattle.bus_trace.specs.Trace.{bus};
 ghost use Rattle.scenario.specs.Value.{ScenarioValue};
 ghost use Rattle.scenario.specs.declared.value.TargetDef.{TargetDef};
 ghost use Rattle.disk_array.specs.Order.{class_of, tag_number};
@@ -23,11 +22,10 @@ ghost use Rattle.bus_due.specs.Sights.{serving_of};
 ghost use Rattle.bus_due.specs.Tasks.{given_of};
 ghost use Rattle.bus_due.specs.Wants.{ready_of};
 ghost use Rattle.scsi_device.specs.Heard.{heard, leaves_opening, leaves_command};
-ghost use Rattle.target_course.specs.Alike.{AreAlike};
 ghost use Rattle.target_course.specs.Fits.{AreFit};
 ghost use Rattle.target_course.specs.Servings.{serving_with};
 ghost use Rattle.target_course.specs.Shown.{shown_list};
-ghost use Rattle.target_course.specs.States.{IsOwnConnection, offering_in};
+ghost use Rattle.target_course.specs.States.{AreAlikeIn, IsOwnConnection, offering_in};
 ghost use Rattle.target_course.specs.Courses.{name_in, naming, tag_message, course_selected, course_reselected, block_with, block_kept, course_told, course_after, course_events, events_of_target, id_known, moved_by, status_known, task_by, serving_by, IsLabelOf, IsReadyProcess, IsCourseOf, AreToldOf};
 
 use crate::arrivals::arrival_by;
@@ -398,8 +396,7 @@ impl Course {
         ensures trace { (s : ScenarioValue) (rows : List Row) (n : Connection) → AreOfDevices rows → def.now.dev < 8
             → target_def_of s def.now.dev ≡ Some def.now → heard s rows ≡ true → AreToldOf s rows self.now state.now
             → IsCourseOf s rows def.now.dev self.now → IsOwnConnection rows def.now.dev n → (bus rows).rst ≡ false
-            → AreAlike (begun rows) (drives rows def.now.dev).req (bus rows).io (handshakes rows).requests
-            (offering_in rows (serving_with result (given_of s (run_state s rows))))
+            → AreAlikeIn rows def.now.dev (offering_in rows (serving_with result (given_of s (run_state s rows))))
             (offering_in rows (serving_of s (run_state s rows) def.now.dev)) }
     {
         kept_is_plain();

@@ -6,15 +6,15 @@ ghost use Rattle.bus_trace.specs.Terms.{connection};
 ghost use Rattle.bus_lines.specs.BusView.{IsBusViewOf};
 ghost use Rattle.bus_lines.specs.Timely.{IsTimely};
 ghost use Rattle.connect.specs.Ready as link;
-ghost use Rattle.handshake.specs.Bounds.{IsReady};
+ghost use Rattle.handshake.specs.Bounds.{IsReady, IsSteady};
 ghost use Rattle.scenario.specs.Value.{ScenarioValue};
 ghost use Rattle.bus_dialogue.specs.Observer.{IsObserverOf};
 ghost use Rattle.bus_due.specs.Next.{due};
 ghost use Rattle.bus_due.specs.Plain.{AreOfDevices};
 ghost use Rattle.bus_due.specs.RunSteps.{run_state};
 ghost use Rattle.scsi_device.specs.Told.{told, pace_of, first_fault};
-ghost use Rattle.target_course.specs.States.{state_of, IsTargetOf, IsTargetLine, IsNoInitiator, IsReadyWithin, IsWithin};
-ghost use Rattle.target_course.specs.Dues.{want_of_ready, link_by, HasBytesOf, offering_of_target, plain_by, hand_by, calm_by, target_next};
+ghost use Rattle.target_course.specs.States.{TargetState, state_of, IsTargetOf, IsTargetLine, IsNoInitiator, IsReadyWithin, IsWithin};
+ghost use Rattle.target_course.specs.Dues.{want_of_ready, link_by, HasBytesOf, offering_of_target, due_of_offering, plain_by, hand_by, calm_by, target_next};
 
 use crate::knowledge::Knowledge;
 use crate::laws::dues_are_of_targets;
@@ -22,32 +22,32 @@ use crate::offering::offering_by;
 use bus_base::Ns;
 use bus_dialogue::Observer;
 use bus_lines::BusView;
-use bus_reactions::{Due, Myself, Offering, Want, sight_of};
+use bus_reactions::{Due, Myself, Offering, Pace, Want};
 use connect::{due_with_reset, link_due, sample_time};
 use handshake::target_due;
-use scenario::FaultDef;
-use scsi_device::{flip, is_receiving, pace, sampled};
+use scenario::{FaultDef, TargetDef};
+use scsi_device::{Itself, flip, lines_seen, pace, sampled};
 use target_units::Ready;
 
-// What it is, by what the view shows of it.
-fn myself(known: &Knowledge<'_>, view: &BusView) -> Myself
-    requires within { IsWithin known.now }
+/// What a target of this line is, by what the view shows of it.
+pub fn myself(def: &TargetDef, itself: &Itself, view: &BusView) -> Myself
+    requires below { def.now.dev < 8 }
+    requires latency { def.now.latency ≤ 100 }
     ensures exact { (rows : List Row) → IsBusViewOf rows view.now
         → result ≡ record {
-          dev = known.now.serving.def.dev;
-          latency = known.now.serving.def.latency;
-          own = drives rows known.now.serving.def.dev;
-          since = known.now.itself.now.own.row;
+          dev = def.now.dev;
+          latency = def.now.latency;
+          own = drives rows def.now.dev;
+          since = itself.now.own.row;
         } }
     ensures ready { IsReady result }
     ensures linkable { link.IsReady result }
 {
-    let def = &known.serving.def;
     Myself {
         dev: def.dev,
         latency: Ns::from(def.latency),
         own: view.drives(def.dev),
-        since: known.itself.own().row(),
+        since: itself.own().row(),
     }
 }
 
@@ -92,6 +92,33 @@ fn offering(observer: &Observer, known: &Knowledge<'_>, pulsed: bool) -> Offerin
     )
 }
 
+/// What a target of this line does next by REQ and ACK, where bytes cross so and it has this to do in the phase.
+pub fn due_of_offering(
+    observer: &Observer,
+    def: &TargetDef,
+    itself: &Itself,
+    pace: &Pace,
+    offering: &Offering,
+) -> Option<Due>
+    requires timely { IsTimely (2 ^ 63) observer.now.view }
+    requires below { def.now.dev < 8 }
+    requires latency { def.now.latency ≤ 100 }
+    requires steady { IsSteady pace.now }
+    requires wait { offering.now.wait < 2 ^ 62 }
+    ensures { (rows : List Row) (i : TargetState) → IsObserverOf rows observer.now → i.own ≡ itself.now.own
+        → result ≡ due_of_offering def.now (told rows def.now.dev) i pace.now offering.now }
+{
+    let view = observer.view();
+    target_due(
+        observer.begun(),
+        &lines_seen(view),
+        view.handshakes(),
+        &myself(def, itself, view),
+        pace,
+        offering,
+    )
+}
+
 // By REQ and ACK, where it takes no fault.
 fn plain_due(observer: &Observer, known: &Knowledge<'_>) -> Option<Due>
     requires timely { IsTimely (2 ^ 63) observer.now.view }
@@ -99,16 +126,9 @@ fn plain_due(observer: &Observer, known: &Knowledge<'_>) -> Option<Due>
     ensures { (rows : List Row) (given : List ℕ) → IsObserverOf rows observer.now → HasBytesOf rows known.now given
         → result ≡ plain_by known.now.serving.def (told rows known.now.serving.def.dev) (state_of known.now given) }
 {
-    let view = observer.view();
     let pace = pace(observer, 0);
-    target_due(
-        observer.begun(),
-        &sight_of(view),
-        view.handshakes(),
-        &myself(known, view),
-        &pace,
-        &offering(observer, known, pace.pulsed),
-    )
+    let offering = offering(observer, known, pace.pulsed);
+    due_of_offering(observer, &known.serving.def, known.itself, &pace, &offering)
 }
 
 // In a connection of its own.
@@ -119,11 +139,8 @@ fn hand_due(observer: &Observer, known: &Knowledge<'_>, fault: Option<FaultDef>)
         → result ≡ hand_by known.now.serving.def (told rows known.now.serving.def.dev) fault
         (state_of known.now given) }
 {
-    let view = observer.view();
-    let last = view.last_time();
-    let receives = is_receiving(view.effect().receiver, known.serving.def.dev);
     let plain = plain_due(observer, known);
-    sampled(receives, last, flip(fault, last), plain)
+    sampled(observer, known.serving.def.dev, fault, plain)
 }
 
 // On its way to a connection, and while another device drives RST.
@@ -135,7 +152,7 @@ fn link_due_of(observer: &Observer, known: &Knowledge<'_>, fault: Option<FaultDe
         (state_of known.now given) }
 {
     let view = observer.view();
-    let me = myself(known, view);
+    let me = myself(&known.serving.def, known.itself, view);
     let sampled_at = sample_time(view, &me);
     link_due(
         view,
@@ -174,7 +191,7 @@ fn next_by(observer: &Observer, known: &Knowledge<'_>, fault: Option<FaultDef>) 
         → result ≡ target_next known.now.serving.def (told rows known.now.serving.def.dev) fault
         (state_of known.now given) }
 {
-    let me = myself(known, observer.view());
+    let me = myself(&known.serving.def, known.itself, observer.view());
     let calm = calm_due(observer, known, fault);
     due_with_reset(&me, known.itself.own().rst(), known.itself.reset(), calm)
 }

@@ -181,7 +181,8 @@ fn is_data_out(phase: Phase) -> bool
     }
 }
 
-fn brings_byte(hearing: &Hearing) -> bool
+/// Whether a byte of DATA OUT came to the target of a connection, after which RST is false.
+pub fn brings_byte(hearing: &Hearing) -> bool
     ensures { result ≡ brings_byte hearing.now }
 {
     hearing.crosses && is_data_out(phase_of(hearing.change.before)) && !hearing.change.after.rst()

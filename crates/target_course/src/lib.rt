@@ -40,14 +40,14 @@ pub use course::{Course, Name, ProcessState};
 pub use data_runs::{
     has_further_run, process_byte_place, run_length, run_length_if, runs_in, runs_in_all,
 };
-pub use due::{target_next, want_of_ready};
+pub use due::{due_of_offering, myself, target_next, want_of_ready};
 pub use events::{Shown, leaving_shown};
-pub use gathered::{Gathered, place_in_run};
+pub use gathered::{Gathered, brings_byte, place_in_run};
 pub use knowledge::Knowledge;
 pub use laws::{dues_are_of_targets, plans_are_heard};
 pub use negotiated::Negotiated;
 pub use next_phase::{leaving_by, phase_leaving, phase_of, waits_seek};
-pub use offering::{follows_by, offering_by};
+pub use offering::{follows_by, offering_by, seek_before};
 pub use phase_bytes::{follows_in, lines_by, phase_byte, phase_lines};
 pub use plans::{first_plan, no_plan, plan_after};
 pub use progress::{Counts, CountsPair, Progress, is_phase_left};

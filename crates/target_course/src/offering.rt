@@ -14,8 +14,8 @@ use bus_lines::Handshakes;
 use bus_reactions::Offering;
 use bus_trace::{Lines, is_command};
 
-// How long it waits before it leaves the phase of these lines.
-fn seek_before(serving: &Serving, bus: Lines) -> Ns
+/// How long the target of a connection waits before it leaves the phase of these lines.
+pub fn seek_before(serving: &Serving, bus: Lines) -> Ns
     ensures exact { (given : List ℕ) → result ≡ seek_before (serving_with serving.now given) bus }
     ensures bound { result < 2 ^ 62 }
 {

@@ -1,14 +1,10 @@
 -- The hold of a unit, by initiator and as a whole.
-use Rattle.std.proofs.Common.{ℕ, zero, suc, ◌≡◌, ◌<◌, Bool, true, false, List, [], ◌∷◌, ◌∙◌, refl, sym, arith}
-use Rattle.std.specs.Prelude.{◌&&◌, ◌||◌, ◌==◌}
-use Rattle.std.proofs.lemmas.Bool.{eqb-true}
-use Rattle.std.proofs.lemmas.Bool.Decides.{nat_tests}
-use Rattle.disk_array.specs.Units.{Nexus, is_at_unit, same_nexus, is_held}
+use Rattle.std.proofs.Common.{ℕ, ◌≡◌, ◌<◌, Bool, true, false, ◌∙◌, refl, sym}
+use Rattle.std.specs.Prelude.{◌&&◌, ◌==◌}
+use Rattle.disk_array.specs.Units.{Nexus, is_at_unit, same_nexus}
 use Rattle.disk_array.specs.Seats
-use Rattle.disk_array.specs.SoundArray.{AllOfEight}
 use Rattle.disk_unit.proofs.LiveCommands.{eqb_self}
-use Rattle.bus_base.proofs.Tests.{or_true, or_or}
-use Rattle.disk_array.proofs.SeatSteps.{any_here, held_below, any_or, any_none, held_at}
+use Rattle.disk_array.proofs.SeatSteps.{any_here, any_none}
 
 held_by_one : (q : Nexus) (t n m : ℕ) → q.initiator < m → is_at_unit q t n ≡ Seats.is_any_below (λ i. same_nexus q (Seats.nexus_at t n i)) m
 held_by_one q t n m l = go (is_at_unit q t n) refl

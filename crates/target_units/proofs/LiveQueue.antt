@@ -4,6 +4,7 @@ use Rattle.std.specs.Prelude.{if◌then◌else◌, ◌==◌, ◌||◌}
 use Rattle.std.specs.List.{list_any}
 use Rattle.std.proofs.lemmas.Bool.{eqb-true, eq-eqb}
 use Rattle.bus_base.specs.declared.ProcId.{ProcId}
+use Rattle.bus_base.proofs.Tests.{wrong}
 use Rattle.cdb_codec.specs.Cdb.{command_of}
 use Rattle.scenario.specs.declared.value.HostDef.{HostDef}
 use Rattle.disk_array.specs.Execution.{Reply, is_request_sense}
@@ -18,10 +19,6 @@ use Rattle.disk_unit.proofs.LiveCommands.{same_id_is, id_self, eqb_self, key_fou
 use Rattle.bus_due.specs.RunSteps.{is_same_running}
 use Rattle.target_units.specs.Seated.{AreQueued, running_id, entry_id, id_under, current_id, is_same_process}
 
-clash : {A : Type 0} (a : Bool) → a ≡ true → a ≡ false → A
-clash true t f = cc
-clash false t f = cc
-
 -- ---- the same process
 
 pub id_turned : (a b : ProcId) → same_id a b ≡ false → same_id b a ≡ false
@@ -29,7 +26,7 @@ id_turned a b h = go (same_id b a) refl
   where
     go : (y : Bool) → same_id b a ≡ y → y ≡ false
     go false e = refl
-    go true e = let same : b ≡ a = same_id_is b a e in clash (same_id a b) (subst (λ (n : ProcId). same_id n b ≡ true) same (id_self b)) h
+    go true e = let same : b ≡ a = same_id_is b a e in wrong (sym (subst (λ (n : ProcId). same_id n b ≡ true) same (id_self b)) ∙ h)
 
 pub same_is : (a b : Option RunningProcess) → is_same_process (running_id a) (running_id b) ≡ is_same_running a b
 same_is None b = refl
@@ -54,7 +51,7 @@ apart_key x l key p h k = go (x.key == key) refl
     go false z = refl
     go true z =
         let same : x.key ≡ key = eqb-true x.key key z in
-        clash (has_key (queued_of l) x.key) (subst (λ (n : ℕ). has_key (queued_of l) n ≡ true) (sym same) (key_found l key p k)) h
+        wrong (sym (subst (λ (n : ℕ). has_key (queued_of l) n ≡ true) (sym same) (key_found l key p k)) ∙ h)
 
 pub record IsFound (l : List LiveCommand) (key : ℕ) (id : ProcId) : Type 0 where
   pub process : Process
@@ -114,7 +111,7 @@ key_is (x ∷ l) key p a h = go (x.key == key) refl h (λ k. key_is l key p a.2 
         other false w = w
         other true w =
             let same : x.process.id ≡ p.id = same_id_is x.process.id p.id w in
-            clash (has_process l x.process.id) (subst (λ (n : ProcId). has_process l n ≡ true) (sym same) (process_found l key p k)) a.1
+            wrong (sym (subst (λ (n : ProcId). has_process l n ≡ true) (sym same) (process_found l key p k)) ∙ a.1)
 
 -- ---- a process that neither waits nor is current is not live
 
@@ -137,7 +134,7 @@ without_other (x ∷ l) key id o h = go (x.key == key) refl (same_id x.process.i
   where
     go : (y : Bool) → (x.key == key) ≡ y → (z : Bool) → same_id x.process.id id ≡ z → list_any (λ (p : Process). same_id p.id id) (if y then waiting_processes (Some key) l else x.process ∷ waiting_processes (Some key) l) ≡ false
         → (list_any (λ (p : Process). same_id p.id id) (waiting_processes (Some key) l) ≡ false → has_process l id ≡ false) → (if z then true else has_process l id) ≡ false
-    go true e true f k more = clash (same_id x.process.id id) f (o.0 e)
+    go true e true f k more = wrong (sym f ∙ o.0 e)
     go true e false f k more = more k
     go false e true f k more = let bad : true ≡ false = (λ i. sym f i || list_any (λ (p : Process). same_id p.id id) (waiting_processes (Some key) l)) ∙ k in cc
     go false e false f k more = more ((λ i. sym f i || list_any (λ (p : Process). same_id p.id id) (waiting_processes (Some key) l)) ∙ k)
@@ -148,7 +145,7 @@ absent_other (x ∷ l) key id h = go (x.key == key) refl h (λ k. absent_other l
   where
     go : (y : Bool) → (x.key == key) ≡ y → (if y then true else has_key (queued_of l) key) ≡ false → (has_key (queued_of l) key ≡ false → IsOther l key id) → IsOther (x ∷ l) key id
     go true e k more = cc
-    go false e k more = (λ t. clash (x.key == key) t e, more k)
+    go false e k more = (λ t. wrong (sym t ∙ e), more k)
 
 other_under : (l : List LiveCommand) (key : ℕ) (id : ProcId) (p : Process) → AreApart l → process_under l key ≡ Some p → same_id p.id id ≡ false → IsOther l key id
 other_under [] key id p a h f = tt
@@ -161,7 +158,7 @@ other_under (x ∷ l) key id p a h f = go (x.key == key) refl h (λ k. other_und
           λ t. (λ i. same_id (same i).id id) ∙ f,
           absent_other l key id (subst (λ (n : ℕ). has_key (queued_of l) n ≡ false) key_same a.0),
         )
-    go false e k more = (λ t. clash (x.key == key) t e, more k)
+    go false e k more = (λ t. wrong (sym t ∙ e), more k)
 
 pub not_live : (l : List LiveCommand) (u : UnitState) (b : UnitBooks) (id : ProcId) → HasLive l u b → list_any (λ (p : Process). same_id p.id id) u.waiting ≡ false → running_if u.current id ≡ None → has_process l id ≡ false
 not_live l u b id h w r = go b.queue.current u.current h.current ((λ i. list_any (λ (p : Process). same_id p.id id) (sym h.waiting i)) ∙ w) r

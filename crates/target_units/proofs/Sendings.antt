@@ -37,7 +37,7 @@ write_id s p e writes = plain_id s p e (no_sense (command_of p.cdb) writes)
     no_sense (Ok (commands.Write10 lba count)) k = refl
 
 -- The blocks of a write that is carried out are those that it names.
-written_named : (c : Contents) (r : Result Command CdbFault) → is_write r ≡ true → ((command : Command) → r ≡ Ok command → is_good_range c.count (range_of command) ≡ true) → blocks_written_by c r ≡ count_in (range_in r)
+pub written_named : (c : Contents) (r : Result Command CdbFault) → is_write r ≡ true → ((command : Command) → r ≡ Ok command → is_good_range c.count (range_of command) ≡ true) → blocks_written_by c r ≡ count_in (range_in r)
 written_named c (Err fault) k good = cc
 written_named c (Ok command) k good =
     (λ i. if good command refl i then written_of command else 0) ∙ (λ i. if k i then count_in (range_of command) else 0)

@@ -28,8 +28,10 @@ use Rattle.disk_array.specs.Units.{RunningProcess, UnitState, Nexus, Array, is_h
 use Rattle.disk_array.specs.Steps
 use Rattle.disk_array.specs.Steps.{event_step, step, settled_array_if}
 use Rattle.disk_array.specs.Seats.{current_of}
+use Rattle.disk_array.proofs.SeatLookups.{found_target, found_unit}
 use Rattle.bus_due.specs.Wants.{since_of}
 use Rattle.bus_due.specs.RunSteps.{is_same_running, current_times_after}
+use Rattle.scsi_device.proofs.Finds.{none_some}
 
 -- As many blocks, of as many bytes.
 pub record HasSameExtent (c d : Contents) : Type 0 where
@@ -120,17 +122,8 @@ same_with (u ∷ us) old new found h = go (u.target == new.target) refl (u.unit 
     go false e z f k more = (refl, refl, extent_self u.contents, more k)
 
 -- The unit that stands at a place is of that place.
-place_found : (us : List UnitState) (t n : ℕ) (u : UnitState) → unit_state_at us t n ≡ Some u → unit_state_at us u.target u.unit ≡ Some u
-place_found us t n u e = let at = place_of us t n u e in subst (λ (x : ℕ). unit_state_at us x u.unit ≡ Some u) (sym at.0) (subst (λ (x : ℕ). unit_state_at us t x ≡ Some u) (sym at.1) e)
-  where
-    place_of : (vs : List UnitState) (t n : ℕ) (u : UnitState) → unit_state_at vs t n ≡ Some u → (u.target ≡ t) × (u.unit ≡ n)
-    place_of [] t n u e = cc
-    place_of (v ∷ vs) t n u e = go (v.target == t) refl (v.unit == n) refl e (λ k. place_of vs t n u k)
-      where
-        go : (y : Bool) → (v.target == t) ≡ y → (z : Bool) → (v.unit == n) ≡ z → (if y && z then Some v else unit_state_at vs t n) ≡ Some u → (unit_state_at vs t n ≡ Some u → (u.target ≡ t) × (u.unit ≡ n)) → (u.target ≡ t) × (u.unit ≡ n)
-        go true f true g k more = let same : v ≡ u = cc in ((λ i. (sym same i).target) ∙ eqb-true v.target t f, (λ i. (sym same i).unit) ∙ eqb-true v.unit n g)
-        go true f false g k more = more k
-        go false f z g k more = more k
+pub place_found : (us : List UnitState) (t n : ℕ) (u : UnitState) → unit_state_at us t n ≡ Some u → unit_state_at us u.target u.unit ≡ Some u
+place_found us t n u e = (λ i. unit_state_at us (found_target us t n u e i) (found_unit us t n u e i)) ∙ e
 
 same_chosen : (holds : List Nexus) (us : List UnitState) → AreSame us (units_after_choice holds us)
 same_chosen holds [] = tt
@@ -236,11 +229,8 @@ status_beside a p reply = go (reply.status == CHECK_CONDITION) (reply.status == 
 by_array : (a y x : Array) → IsLater a y → Some y ≡ Some x → IsLater a x
 by_array a y x h e = let same : y ≡ x = cc in subst (λ (z : Array). IsLater a z) same h
 
-never : {A : Type 0} (x : Array) → None ≡ Some x → A
-never x e = cc
-
 accepted : (a x : Array) (p : Option Process) → Steps.accept_step a p ≡ Some x → IsLater a x
-accepted a x None e = never x e
+accepted a x None e = absurd (none_some x e)
 accepted a x (Some p) e = at (unit_state_at a.units p.target p.unit) refl e
   where
     outside : IsLater a (Steps.with_guest a p None)
@@ -255,25 +245,25 @@ accepted a x (Some p) e = at (unit_state_at a.units p.target p.unit) refl e
             let new : UnitState = record u { waiting = u.waiting ++ p ∷ [] } in
             let next : Array = record a { units = with_unit a.units new } in
             by_array a next x (with_same a (with_unit a.units new) (same_with a.units u new (place_found a.units p.target p.unit u f) (extent_self u.contents)) next refl refl) m
-        room false m = never x m
+        room false m = absurd (none_some x m)
 
         sense : (y : Bool) → (if y then Some (Steps.with_guest a p None) else Steps.queue_step a p u) ≡ Some x → IsLater a x
         sense true m = by_array a (Steps.with_guest a p None) x outside m
         sense false m = room (nat_lt (Steps.process_count u) u.depth) m
 
 refused : (a x : Array) (p : Option Process) → Steps.refuse_step a p ≡ Some x → IsLater a x
-refused a x None e = never x e
+refused a x None e = absurd (none_some x e)
 refused a x (Some p) e = at (unit_state_at a.units p.target p.unit) e
   where
     at : (u : Option UnitState) → Steps.refuse_step_at a p u ≡ Some x → IsLater a x
-    at None k = never x k
+    at None k = absurd (none_some x k)
     at (Some u) k = full (not (is_request_sense (command_of p.cdb)) && Steps.process_count u == u.depth) k
       where
         full : (y : Bool) → (if y then Some (Steps.with_listed_reply (Steps.with_guest a p (Some queue_full)) p.id queue_full) else None) ≡ Some x → IsLater a x
         full true m =
             let next : Array = Steps.with_listed_reply (Steps.with_guest a p (Some queue_full)) p.id queue_full in
             by_array a next x (with_reply_too a a.units p.id queue_full (same_self a.units) next refl refl) m
-        full false m = never x m
+        full false m = absurd (none_some x m)
 
 -- What a command did takes the place of the contents of its unit.
 contents_later : (a : Array) (p : Process) (reported : Bool) (u : Option UnitState) (c : Contents) → unit_state_at a.units p.target p.unit ≡ u → ((v : UnitState) → u ≡ Some v → HasSameExtent v.contents c) → IsLater a (Steps.with_contents (Steps.without_attention a reported (nexus_of p)) u c)
@@ -303,7 +293,7 @@ executed a p = go (unit_state_at a.units p.target p.unit) refl
         later_more a next (Steps.with_reply next p.id done.reply) (contents_later a p done.reported u done.contents f (extent u)) (replied_later next p.id done.reply)
 
 ran : (a x : Array) (guest : Bool) (r : Option RunningProcess) → Steps.run_step a guest r ≡ Some x → IsLater a x
-ran a x guest None e = never x e
+ran a x guest None e = absurd (none_some x e)
 ran a x guest (Some r) e = go (is_none r.reply && (guest || not (is_held a.holds r.process.target r.process.unit))) e
   where
     next : Array
@@ -311,17 +301,17 @@ ran a x guest (Some r) e = go (is_none r.reply && (guest || not (is_held a.holds
 
     go : (y : Bool) → (if y then Some next else None) ≡ Some x → IsLater a x
     go true k = by_array a next x (executed a r.process) k
-    go false k = never x k
+    go false k = absurd (none_some x k)
 
 failed_new : (a x : Array) (id : ProcId) (reply : Reply) (p : Option Process) → Steps.fail_step_of_new a id reply p ≡ Some x → IsLater a x
-failed_new a x id reply None e = never x e
+failed_new a x id reply None e = absurd (none_some x e)
 failed_new a x id reply (Some p) e = go (Steps.is_waiting a.units id || Steps.has_ended a id) e
   where
     next : Array
     next = Steps.with_listed_reply (Steps.with_guest a p (Some reply)) id reply
 
     go : (y : Bool) → (if y then None else Some next) ≡ Some x → IsLater a x
-    go true k = never x k
+    go true k = absurd (none_some x k)
     go false k = by_array a next x (with_reply_too a a.units id reply (same_self a.units) next refl refl) k
 
 failed : (s : ScenarioValue) (a x : Array) (id : ProcId) (reply : Reply) (r : Option RunningProcess) → Steps.fail_step s a id reply r ≡ Some x → IsLater a x
@@ -330,17 +320,17 @@ failed s a x id reply (Some r) e = go (is_none r.reply) e
   where
     go : (y : Bool) → (if y then Some (Steps.with_reply a id reply) else None) ≡ Some x → IsLater a x
     go true k = by_array a (Steps.with_reply a id reply) x (replied_later a id reply) k
-    go false k = never x k
+    go false k = absurd (none_some x k)
 
 left_later : (a b : Array) (id : ProcId) → IsBeside a b → IsLater a (Steps.array_without b id)
 left_later a b id h = with_same a (Steps.units_without a.units id) (same_without a.units id) (Steps.array_without b id) (λ i. Steps.units_without (h.units i) id) h.replies
 
 ended : (a x : Array) (status : ℕ) (r : Option RunningProcess) → Steps.end_step a status r ≡ Some x → IsLater a x
-ended a x status None e = never x e
+ended a x status None e = absurd (none_some x e)
 ended a x status (Some r) e = with r.reply e
   where
     with : (reply : Option Reply) → Steps.end_step_with a r.process status reply ≡ Some x → IsLater a x
-    with None k = never x k
+    with None k = absurd (none_some x k)
     with (Some reply) k = go (reply.status == status) k
       where
         left : Array
@@ -348,13 +338,13 @@ ended a x status (Some r) e = with r.reply e
 
         go : (y : Bool) → (if y then Some left else None) ≡ Some x → IsLater a x
         go true m = by_array a left x (left_later a (Steps.after_status a r.process reply) r.process.id (status_beside a r.process reply)) m
-        go false m = never x m
+        go false m = absurd (none_some x m)
 
 lost : (a x : Array) (id : ProcId) → Steps.loss_step a id ≡ Some x → IsLater a x
 lost a x id e = go (Steps.has_ended a id) e
   where
     go : (y : Bool) → (if y then None else Some (Steps.array_without a id)) ≡ Some x → IsLater a x
-    go true k = never x k
+    go true k = absurd (none_some x k)
     go false k = by_array a (Steps.array_without a id) x (left_later a a id (beside_self a)) k
 
 dropped : (a : Array) (drops : Process → Bool) (b : Array) → IsBeside (Steps.without_dropped a drops) b → IsLater a b
@@ -398,12 +388,12 @@ pub step_later : (s : ScenarioValue) (a b : Array) (event : Event) → step s ev
 step_later s a b event e = go (event_step s a event) refl e
   where
     go : (x : Option Array) → event_step s a event ≡ x → settled_array_if x ≡ Some b → IsLater a b
-    go None f k = never b k
+    go None f k = absurd (none_some b k)
     go (Some x) f k = by_array a (settled_array x) b (later_more a x (settled_array x) (event_later s a x event f) (settled_later x)) k
 
 -- ---- a process that ran has a reply
 
-running_is : (us : List UnitState) (id : ProcId) (r : RunningProcess) → Steps.running_in us id ≡ Some r → same_id r.process.id id ≡ true
+pub running_is : (us : List UnitState) (id : ProcId) (r : RunningProcess) → Steps.running_in us id ≡ Some r → same_id r.process.id id ≡ true
 running_is [] id r e = cc
 running_is (u ∷ us) id r e = go (Steps.running_if u.current id) refl e (λ k. running_is us id r k)
   where
@@ -427,7 +417,7 @@ guest_is (g ∷ guests) id r e = go (same_id g.process.id id) refl e (λ k. gues
     go true f k more = let same : g ≡ r = cc in (λ i. same_id (sym same i).process.id id) ∙ f
     go false f k more = more k
 
-process_is : (a : Array) (id : ProcId) (r : RunningProcess) → Steps.running_process a id ≡ Some r → same_id r.process.id id ≡ true
+pub process_is : (a : Array) (id : ProcId) (r : RunningProcess) → Steps.running_process a id ≡ Some r → same_id r.process.id id ≡ true
 process_is a id r e = go (guest_at a.guests id) refl e
   where
     go : (x : Option RunningProcess) → guest_at a.guests id ≡ x → (if is_some x then x else Steps.running_in a.units id) ≡ Some r → same_id r.process.id id ≡ true
@@ -442,7 +432,7 @@ pub run_answered : (s : ScenarioValue) (a b : Array) (id : ProcId) → step s (e
 run_answered s a b id e = go (Steps.running_process a id) refl e
   where
     go : (x : Option RunningProcess) → Steps.running_process a id ≡ x → settled_array_if (Steps.run_step a (is_some (guest_at a.guests id)) x) ≡ Some b → IsAnswered b.replies id
-    go None f k = never b k
+    go None f k = absurd (none_some b k)
     go (Some r) f k = allowed (is_none r.reply && (is_some (guest_at a.guests id) || not (is_held a.holds r.process.target r.process.unit))) k
       where
         u : Option UnitState
@@ -458,7 +448,7 @@ run_answered s a b id e = go (Steps.running_process a id) refl e
         self = process_is a id r f
 
         allowed : (y : Bool) → settled_array_if (if y then Some next else None) ≡ Some b → IsAnswered b.replies id
-        allowed false m = never b m
+        allowed false m = absurd (none_some b m)
         allowed true m =
             let same : settled_array next ≡ b = cc in
             subst (λ (z : Array). IsAnswered z.replies id) same

@@ -8,6 +8,8 @@
 //! a fault the sink holds a front of them, and its count of faults rose.
 #![tactic(auto)]
 
+mod held;
 mod pages;
 
-pub use pages::{Page, flush, is_failed, new_page, put, put_number};
+pub use held::SHORT;
+pub use pages::{Page, flush, is_failed, new_page, put, put_number, put_short};

@@ -1,19 +1,16 @@
 //! The page.
-ghost use Rattle.std.specs.Prelude.{◌≡◌, ◌≤◌, [], ◌++◌, decimal, true, false};
+ghost use Rattle.std.specs.Prelude.{◌≡◌, ◌≤◌, [], take, decimal, false};
 ghost use Rattle.text_pages.specs.Pages.{IsSent, Puts, Prints};
 
-use arrayvec::ArrayVec;
+use crate::held::{Held, SHORT};
 use bus_base::{Sink, write_all};
 use itoa::Buffer;
-
-/// How many bytes a page holds.
-const PAGE: usize = 4096;
 
 /// Bytes that a sink takes together. Once a write of them fails no more is written, and the flag stays: so
 /// what puts text has no errors of its own, and only the end asks for the flag.
 #[derive(Drop)]
 pub struct Page {
-    bytes: ArrayVec<u8, PAGE>,
+    bytes: Held,
     failed: bool,
 }
 
@@ -23,7 +20,7 @@ pub fn new_page() -> Page
     ensures fresh { result.failed ≡ false }
 {
     Page {
-        bytes: ArrayVec::new(),
+        bytes: Held::new(),
         failed: false,
     }
 }
@@ -56,22 +53,14 @@ pub fn flush<K: Sink>(out: &mut K, page: &mut Page)
     page.bytes.clear();
 }
 
-// Adds a text to the page, where it has room.
-#[inline]
-fn is_added(page: &mut Page, text: &[u8]) -> bool
-    ensures added { result ≡ true → page.new.bytes.items ≡ page.old.bytes.items ++ text.now }
-    ensures kept { result ≡ false → page.new.bytes.items ≡ page.old.bytes.items }
-    ensures flag { page.new.failed ≡ page.old.failed }
-{
-    page.bytes.try_extend_from_slice(text).is_ok()
-}
-
 // Puts a text for which the page has no room.
+#[cold]
+#[inline(never)]
 fn put_past<K: Sink>(out: &mut K, page: &mut Page, text: &[u8])
     ensures { Prints K.written K.faults out.old out.new page.old page.new text.now }
 {
     flush(out, page);
-    if is_added(page, text) {
+    if page.bytes.has_added(text) {
         return;
     }
     page.failed = send(out, page.failed, text);
@@ -82,10 +71,22 @@ fn put_past<K: Sink>(out: &mut K, page: &mut Page, text: &[u8])
 pub fn put<K: Sink>(out: &mut K, page: &mut Page, text: &[u8])
     ensures { Prints K.written K.faults out.old out.new page.old page.new text.now }
 {
-    if is_added(page, text) {
+    if page.bytes.has_added(text) {
         return;
     }
     put_past(out, page, text);
+}
+
+/// Puts the first `len` of these bytes, as quickly as a text of a fixed length.
+#[inline]
+pub fn put_short<K: Sink>(out: &mut K, page: &mut Page, bytes: &[u8; SHORT], len: usize)
+    requires { len ≤ 32 }
+    ensures { Prints K.written K.faults out.old out.new page.old page.new (take len bytes.now) }
+{
+    if page.bytes.has_added_short(bytes, len) {
+        return;
+    }
+    put_past(out, page, &bytes[..len]);
 }
 
 /// Puts a number in decimal.

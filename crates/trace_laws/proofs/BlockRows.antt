@@ -117,10 +117,6 @@ quiet_link s b (Some l) d row e = ap (λ (q : Bool). (if q then story_after_cros
 
 -- ---- a byte of MESSAGE OUT
 
--- What is put back is this.
-abbrev UndoIs : Option Link → (List ℕ → Type 0) → Type 0
-UndoIs link q = (l : Link) (c : CarriedBytes) → link ≡ Some l → l.undo ≡ Some c → q c.block
-
 pub out_block : (b : Story) (l : Link) (m : Option MsgOut) (id : ProcId) (q : List ℕ → Type 0) → ((c : CarriedBytes) → l.undo ≡ Some c → q c.block) → q (block_in b id) → q (block_in (story_after_out b l m) id)
 out_block b l None id q undo here = here
 out_block b l (Some m) id q undo here = go (is_parity_error m) l.undo refl

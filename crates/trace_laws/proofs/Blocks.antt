@@ -7,10 +7,10 @@ use Rattle.bus_base.specs.declared.ProcId.{ProcId}
 use Rattle.cdb_codec.specs.Cdb.{has_group_len}
 use Rattle.scenario.specs.declared.value.CmdDef.{CmdDef}
 use Rattle.scenario.specs.Value.{ScenarioValue}
-use Rattle.scenario.specs.Needs.{need_of, sent_of}
-use Rattle.scenario.specs.Forms.{Said, CmdSaid, scsi_line, initiator_line, target_line, unit_line, fill_line, cmd_line, abort_line, reset_line, fault_line, end_line}
-use Rattle.scenario.specs.Reading.{Progress, guard, in_8, time_in, tag_in, is_block, are_ends, is_payload, has_room, host_def, target_def, unit_def, fill_def, cmd_def, full_cmd_def, abort_def, reset_def, fault_def, added, said_after, fits_version, in_order, rank, kind_of, nothing}
-use Rattle.scenario.specs.Writing.{saids, built, IsHex, IsHexPayload, Obeys}
+use Rattle.scenario.specs.Needs.{sent_of}
+use Rattle.scenario.specs.Forms.{CmdSaid}
+use Rattle.scenario.specs.Reading.{guard, in_8, time_in, tag_in, is_block, are_ends, cmd_def}
+use Rattle.scenario.specs.Writing.{IsHex, IsHexPayload, Obeys}
 use Rattle.text_words.specs.Spelling.{AreBytes}
 use Rattle.bus_trace.specs.LineSet.{LineSet}
 use Rattle.bus_trace.specs.Phases.{is_message_out, is_command}
@@ -24,7 +24,7 @@ use Rattle.scenario.proofs.Steps.{bind_ok, ok_is, guard_ok}
 use Rattle.disk_array.specs.Processes.{Process, bytes_from, payload_bytes, command_at, sense_block, process_by, process_if, process_of}
 use Rattle.bus_due.specs.RunState.{RunState, item_of, process_item, process_here, process_served}
 use Rattle.bus_story.specs.Items.{Item, process, abort}
-use Rattle.scsi_device.proofs.Finds.{all_more}
+use Rattle.trace_laws.proofs.EachLine.{Any, each_line}
 
 abbrev IsBlock : CmdDef → Type 0
 IsBlock c = is_block c.cdb ≡ true
@@ -46,48 +46,8 @@ block_read s f c e =
     let b7 = bind_ok (guard 6 (are_ends s b1.0 b2.0)) _ c b6.2 in
     subst IsBlock (ok_is _ c b7.2) (guard_ok 4 _ b6.0 b6.1)
 
-full_block_read : (s : ScenarioValue) (needs : ℕ) (f : CmdSaid) (c : CmdDef) → full_cmd_def s needs f ≡ Ok c → IsBlock c
-unfolding full_cmd_def
-full_block_read s needs f c e =
-    let b = bind_ok (cmd_def s f) _ c e in
-    let u = bind_ok (guard 7 (is_payload (sent_of s b.0) (b.0).payload)) _ c b.2 in
-    let v = bind_ok (guard 8 (has_room s needs (need_of s b.0))) _ c u.2 in
-    subst IsBlock (ok_is b.0 c v.2) (block_read s f b.0 b.1)
-
-abbrev AreBlocksIn : Progress → Type 0
-AreBlocksIn d = AreBlocks d.scenario
-
-blocks_added : (d z : Progress) (x : Said) → added d x ≡ Ok z → AreBlocksIn d → AreBlocksIn z
-unfolding added need_of sent_of
-blocks_added d z (scsi_line v) e a = subst AreBlocksIn (ok_is _ z e) a
-blocks_added d z (initiator_line f) e a = let b = bind_ok (host_def d.scenario f) _ z e in subst AreBlocksIn (ok_is _ z b.2) a
-blocks_added d z (target_line f) e a = let b = bind_ok (target_def d.scenario f) _ z e in subst AreBlocksIn (ok_is _ z b.2) a
-blocks_added d z (unit_line f) e a = let b = bind_ok (unit_def d.scenario f) _ z e in subst AreBlocksIn (ok_is _ z b.2) a
-blocks_added d z (fill_line f) e a = let b = bind_ok (fill_def d.scenario f) _ z e in subst AreBlocksIn (ok_is _ z b.2) a
-blocks_added d z (cmd_line f) e a =
-    let b = bind_ok (full_cmd_def d.scenario d.needs f) _ z e in
-    subst AreBlocksIn (ok_is _ z b.2) (all_more IsBlock d.scenario.commands b.0 a (full_block_read d.scenario d.needs f b.0 b.1))
-blocks_added d z (abort_line f) e a = let b = bind_ok (abort_def d.scenario f) _ z e in subst AreBlocksIn (ok_is _ z b.2) a
-blocks_added d z (reset_line f) e a = let b = bind_ok (reset_def d.scenario f) _ z e in subst AreBlocksIn (ok_is _ z b.2) a
-blocks_added d z (fault_line f) e a = let b = bind_ok (fault_def d.scenario f) _ z e in subst AreBlocksIn (ok_is _ z b.2) a
-blocks_added d z end_line e a = subst AreBlocksIn (ok_is d z e) a
-
-blocks_after : (d z : Progress) (x : Said) → said_after d x ≡ Ok z → AreBlocksIn d → AreBlocksIn z
-unfolding said_after
-blocks_after d z x e a =
-    let v = bind_ok (guard 2 (fits_version d.scenario.version x)) _ z e in
-    let o = bind_ok (guard 3 (in_order (rank d.last) (rank (kind_of x)))) _ z v.2 in
-    let b = bind_ok (added d x) _ z o.2 in
-    subst AreBlocksIn (ok_is _ z b.2) (blocks_added d b.0 x b.1 a)
-
-blocks_built : (d z : Progress) (xs : List Said) → built d xs ≡ Ok z → AreBlocksIn d → AreBlocksIn z
-blocks_built d z [] e a = subst AreBlocksIn (ok_is d z e) a
-blocks_built d z (x ∷ xs) e a = let b = bind_ok (said_after d x) _ z e in blocks_built b.0 z xs b.2 (blocks_after d b.0 x b.1 a)
-
 blocks_of : (s : ScenarioValue) → Obeys s → AreBlocks s
-blocks_of s o =
-    let b = bind_ok (built nothing (saids s)) _ s o.lawful in
-    subst AreBlocks (ok_is b.0.scenario s b.2) (blocks_built nothing b.0 (saids s) b.1 tt)
+blocks_of s o = (each_line Any Any IsBlock Any (record { host = λ x f d e. tt; target = λ x f d e. tt; command = block_read; abort = λ x f d e. tt }) s o).commands
 
 -- ---- a process
 

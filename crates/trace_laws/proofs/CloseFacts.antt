@@ -49,7 +49,7 @@ use Rattle.trace_laws.proofs.ConnectionRows.{ConnectionRow, GoingRow, connection
 use Rattle.trace_laws.proofs.Impossible.{none_some}
 use Rattle.trace_laws.proofs.Joint.{Stood, NextStood}
 use Rattle.trace_laws.proofs.LastRows.{stays_as}
-use Rattle.trace_laws.proofs.PhaseLines.{in_phase}
+use Rattle.trace_laws.proofs.PhaseLines.{in_phase, message_line}
 use Rattle.trace_laws.proofs.PlaceStays.{stay_shown}
 use Rattle.trace_laws.proofs.Tests.{some_zero, all_four}
 use Rattle.bus_base.proofs.Tests.{wrong, wrong'}
@@ -169,11 +169,7 @@ closed_stay s p row n c o prompt was next facts places after r g ep h id served 
         ∙ ended_after s places.array after.array id status ((λ t. array_after_events s (sym places.array_is t) (sym event_is t)) ∙ after.array_is)
       where
         begun : k.exchange.begun ≡ true
-        begun = (g.phase (message_line (bus_of k).msg (bus_of k).cd (bus_of k).io there)).1
-          where
-            message_line : (m d o : Bool) → (m && d && o) ≡ true → m ≡ true
-            message_line true d o e = refl
-            message_line false d o e = wrong' e
+        begun = (g.phase (message_line (bus_of k) there)).1
 
         asks : (bus p).req ≡ true
         asks = sym (ap (λ (x : LineSet). x.req) pl.bus) ∙ ap (λ (x : LineSet). x.req) g.row_is.bus_is ∙ front c.before.req c.before.ack (awaited c (alternates_at s p row n c lt was next g before) rose)

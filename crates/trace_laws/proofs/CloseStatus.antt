@@ -6,7 +6,7 @@ use Rattle.scenario.specs.Value.{ScenarioValue}
 use Rattle.disk_array.specs.ArrayHistory.{reply_in}
 use Rattle.disk_array.specs.Execution.{Reply}
 use Rattle.disk_array.specs.Processes.{Process}
-use Rattle.bus_story.specs.CarriedBytes.{Area, area_with, restored_area}
+use Rattle.bus_story.specs.CarriedBytes.{Area, area_with}
 use Rattle.bus_dialogue.specs.declared.exchange.Messages.{Messages}
 use Rattle.bus_dialogue.specs.declared.exchange.Phase.TheVariants as phases
 use Rattle.bus_dialogue.specs.PhaseBytes.{status_byte}
@@ -35,9 +35,6 @@ area_all x a h = go (nat_lt a.active (length a.bytes))
     go : (q : Bool) → AreAll x (if q then slice_set a.bytes a.active x else a.bytes ++ x ∷ [])
     go true = set_all x a.bytes a.active h
     go false = more_all x a.bytes h
-
-pub restored_all : (x : ℕ) (a : Area) → AreAll x a.bytes → AreAll x (restored_area a).bytes
-restored_all x a h = h
 
 -- The first of some.
 pub first_all : (x : ℕ) (bytes : List ℕ) → AreAll x bytes → (length bytes == 0) ≡ false → (x == slice_index bytes 0) ≡ true

@@ -39,7 +39,7 @@ use Rattle.trace_laws.proofs.InMoves.{in_move, alternating}
 use Rattle.trace_laws.proofs.Joint.{Stood, NextStood}
 use Rattle.trace_laws.proofs.PhaseLines.{in_phase}
 use Rattle.trace_laws.proofs.TalkSteps.{Alternates}
-use Rattle.trace_laws.proofs.Tests.{risen}
+use Rattle.trace_laws.proofs.Tests.{risen, not_unless}
 use Rattle.bus_base.proofs.Tests.{wrong, wrong'}
 use Rattle.trace_laws.proofs.TalkTurns.{frees}
 
@@ -133,14 +133,10 @@ alternates_at s p row n c lt was next g here =
     subst (λ (x : Change). Alternates x.before x.after) (sym is)
     (alternating p row n next.obeys (sym pl.connection ∙ g.row_is.connection_is) (sym (ap (λ (x : LineSet). x.rst) pl.bus) ∙ g.calm) (sym (ap (λ (x : Change). x.after.rst) is) ∙ g.row_is.calm) (sym (ap (λ (x : Change). is_message_in x.before) is) ∙ here))
 
-not_awaited : (q : Bool) (x : Bool) → (q ≡ true → x ≡ true) → x ≡ false → q ≡ false
-not_awaited true x f e = wrong (sym (f refl) ∙ e)
-not_awaited false x f e = refl
-
 pub attends_after : (s : ScenarioValue) (p : List Row) (row : Row) (n : Connection) (c : Change) → Obeys s → IsPrompt s (row ∷ p) → Stood s p → CloseFacts s p → GoesOn s (run_state s p) row n c → is_message_in c.before ≡ true → IsCompleting (run_state s p) → ((run_state s p).handshakes.answers == 0) ≡ false → c.after.atn ≡ c.before.atn
 attends_after s p row n c o prompt was h g here m some =
     ap (λ (x : Change). x.after.atn) is
-    ∙ (in_move s p row n (sym (ap (λ (x : Change). is_message_in x.before) is) ∙ here) r.link).attends (sym (ap awaits pl.bus) ∙ not_awaited (awaits (bus_of k)) (k.handshakes.answers == 0) (λ z. (h n con off).counts.asked (ap is_message_in g.row_is.bus_is ∙ here) m z) some)
+    ∙ (in_move s p row n (sym (ap (λ (x : Change). is_message_in x.before) is) ∙ here) r.link).attends (sym (ap awaits pl.bus) ∙ not_unless (awaits (bus_of k)) (k.handshakes.answers == 0) (λ z. (h n con off).counts.asked (ap is_message_in g.row_is.bus_is ∙ here) m z) some)
     ∙ sym (ap (λ (x : Change). x.before.atn) is)
   where
     k : RunState

@@ -39,6 +39,7 @@ use Rattle.trace_laws.specs.Commands.{IsNone, IsNoneOrAll, dialogue_of, Counts, 
 use Rattle.trace_laws.proofs.BlockRows.{block_in, undo_of, block_after, out_block, said_block, out_undo, in_block, restores_block, in_undo}
 use Rattle.trace_laws.proofs.CommandCounts.{byte_out_counts, byte_out_now, byte_in_counts, byte_in_first, byte_in_now, byte_in_restores, answer_said, error_said}
 use Rattle.trace_laws.proofs.CommandTurns.{serves_as}
+use Rattle.trace_laws.proofs.Tests.{zero_below}
 use Rattle.bus_base.proofs.Tests.{wrong, wrong', zero_of}
 
 -- ---- what the story tells of the byte
@@ -194,9 +195,6 @@ none_given half bytes count g e = g.half_is ∙ ap (half_after []) (empty g.befo
     empty : (xs : List ℕ) → length xs ≡ 0 → xs ≡ []
     empty [] z = refl
     empty (x ∷ xs) z = absurd omega (arith, z)
-
-zero_below : (x : ℕ) → x < 1 → x ≡ 0
-zero_below x h = omega arith
 
 restore_byte : whole_in (got_in (0x03 ∷ [])) ≡ Some to_initiator.RestorePointers
 unfolding form_in

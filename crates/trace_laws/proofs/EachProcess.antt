@@ -1,6 +1,6 @@
 -- What holds of each process of the plain disk array holds after an event, where it holds of the process that arrives, and is kept as
 -- a reply is given.
-use Rattle.std.proofs.Common.{ℕ, zero, suc, ◌≡◌, Bool, true, false, not, ◌&&◌, ◌||◌, ◌==◌, ◌∙◌, List, [], ◌∷◌, ◌++◌, Option, Some, None, refl, sym, ap, subst}
+use Rattle.std.proofs.Common.{ℕ, zero, suc, ◌≡◌, Bool, true, false, not, ◌&&◌, ◌||◌, ◌==◌, ◌∙◌, List, [], ◌∷◌, ◌++◌, Option, Some, None, refl, sym, subst}
 use Rattle.std.specs.Prelude.{if◌then◌else◌, is_some, is_none, nat_lt, ⊤}
 use Rattle.std.proofs.lemmas.Option.{same_Some}
 use Rattle.bus_base.specs.declared.ProcId.{ProcId}
@@ -22,6 +22,7 @@ use Rattle.disk_array.specs.Steps.{is_of_unit, has_tag}
 use Rattle.bus_books.proofs.Lookups.{id_is}
 use Rattle.trace_laws.specs.Places.{fresh, Waits, Runs, OnUnit, OnUnits, OnGuests, Each}
 use Rattle.trace_laws.proofs.Impossible.{none_some}
+use Rattle.target_units.proofs.UnitTimes.{process_is}
 
 -- ---- lists
 
@@ -263,33 +264,9 @@ refused s q g a id own h = go (process_of s id) refl
     go None e = tt
     go (Some p) e = by p e (unit_state_at a.units p.target p.unit)
 
--- A guest, or a current process, is found by its id.
-pub guest_id : (guests : List RunningProcess) (id : ProcId) (r : RunningProcess) → guest_at guests id ≡ Some r → same_id r.process.id id ≡ true
-guest_id [] id r e = absurd (none_some r e)
-guest_id (g ∷ guests) id r e = go (same_id g.process.id id) refl e (λ k. guest_id guests id r k)
-  where
-    go : (x : Bool) → same_id g.process.id id ≡ x → (if x then Some g else guest_at guests id) ≡ Some r → (guest_at guests id ≡ Some r → same_id r.process.id id ≡ true) → same_id r.process.id id ≡ true
-    go true z k rest = ap (λ (y : RunningProcess). same_id y.process.id id) (sym (same_Some g r k)) ∙ z
-    go false z k rest = rest k
-
-pub current_id : (units : List UnitState) (id : ProcId) (r : RunningProcess) → Steps.running_in units id ≡ Some r → same_id r.process.id id ≡ true
-current_id [] id r e = absurd (none_some r e)
-current_id (u ∷ units) id r e = go u.current e (λ k. current_id units id r k)
-  where
-    by : (g : RunningProcess) (x : Bool) → same_id g.process.id id ≡ x → (if is_some {T = RunningProcess} (if x then Some g else None) then (if x then Some g else None) else Steps.running_in units id) ≡ Some r → (Steps.running_in units id ≡ Some r → same_id r.process.id id ≡ true) → same_id r.process.id id ≡ true
-    by g true z k rest = ap (λ (y : RunningProcess). same_id y.process.id id) (sym (same_Some g r k)) ∙ z
-    by g false z k rest = rest k
-
-    go : (o : Option RunningProcess) → (if is_some (Steps.running_if o id) then Steps.running_if o id else Steps.running_in units id) ≡ Some r → (Steps.running_in units id ≡ Some r → same_id r.process.id id ≡ true) → same_id r.process.id id ≡ true
-    go None k rest = rest k
-    go (Some g) k rest = by g (same_id g.process.id id) refl k rest
-
+-- The process that runs is found by its id.
 pub running_id : (a : Array) (id : ProcId) (r : RunningProcess) → Steps.running_process a id ≡ Some r → r.process.id ≡ id
-running_id a id r e = id_is r.process.id id (go (guest_at a.guests id) refl e)
-  where
-    go : (o : Option RunningProcess) → guest_at a.guests id ≡ o → (if is_some o then o else Steps.running_in a.units id) ≡ Some r → same_id r.process.id id ≡ true
-    go None z k = current_id a.units id r k
-    go (Some g) z k = guest_id a.guests id r (z ∙ k)
+running_id a id r e = id_is r.process.id id (process_is a id r e)
 
 replied_each : (q g : RunningProcess → Type 0) (a : Array) (id : ProcId) (reply : Reply) → KeptAsReplied id q → KeptAsReplied id g → Each q g a → Each q g (Steps.with_reply a id reply)
 replied_each q g a id reply f k h = record { units = replied_units q a.units id reply f h.units; guests = replied_guests g a.guests id reply k h.guests }

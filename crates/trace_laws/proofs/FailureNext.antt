@@ -48,9 +48,10 @@ use Rattle.bus_books.proofs.InConnection.{in_connection, reading_is}
 use Rattle.trace_laws.specs.Failures.{IsClear, UndoesClear, clear, GivesFailure, FailTalk, FailTalks, FailFacts, FailsBy, SentAsLeft}
 use Rattle.trace_laws.specs.Named.{Names, all, tag_alone, known, said, refused, Named}
 use Rattle.trace_laws.specs.TellFacts.{TellFacts}
+use Rattle.trace_laws.specs.DataPointers.{is_marked}
 use Rattle.trace_laws.specs.Tells.{code_if, UndoesAnswers}
 use Rattle.trace_laws.proofs.CommandCounts.{refusal_offers_none}
-use Rattle.trace_laws.proofs.ConnectionRows.{ConnectionRow, GoingRow, connection_row, going_row, stage_of_connection, RowKindOf, begins_now, goes_now, row_kind}
+use Rattle.trace_laws.proofs.ConnectionRows.{ConnectionRow, GoingRow, connection_row, going_row, stage_of_connection}
 use Rattle.trace_laws.proofs.FailureCrossed.{CrossedBooks, CrossedFacts}
 use Rattle.trace_laws.proofs.FailureCrossings.{else_fail, in_fail}
 use Rattle.trace_laws.proofs.FailureFaults.{fault_crossed}
@@ -281,13 +282,12 @@ goes_fail s p row n w h m id em ej = go of.row_is.kind
           turns = ep;
           silent = er;
           link_is = knows.link_is;
-          undoes = w.undoes;
           known = w.known;
           idle = λ b. ap is_command w.plain.bus ∙ unbegun_lines s p n w.row_is.stage (sym w.plain.begun ∙ b);
           whereto = λ b. w.going.lines.whereto (ap changes_phase w.going.lines_are ∙ ep) (sym w.plain.begun ∙ b) ∙ ap (λ (x : Change). Some (phase_of x.after)) w.going.lines_are;
           speaks = speaks;
         })
-        (left ep) em before
+        w.undoes (left ep) em before
 
 -- ---- any row
 
@@ -307,7 +307,7 @@ fail_goes s p row n o prompt was next facts crossed sent con off after calm h =
       plain = pl;
       row_is = r;
       going = g;
-      undoes = undo_asks s p row was next facts.undo;
+      undoes = undo_asks is_marked s p row was next facts.undo;
       known = λ z. ap (λ (x : Change). x.after.cd) g.change_is ∙ (link_phase s (row ∷ p) n (stage_of_connection s (row ∷ p) n next.stood after calm) (ap (λ (x : Change). x.after.msg) (sym g.change_is) ∙ z)).0;
       code = λ ep b id served. sent n id (record { stands = con; calm = off; calm_after = calm; begun = b; leaves = inl (ap changes_phase g.goes.row_is.change_is ∙ ep) }) served;
     }) (h n con off)
@@ -332,11 +332,3 @@ fail_first k l id h u at = record {
       subst (FailsBy l (carried_here k id) k.exchange.plan k.exchange.speech.words k.handshakes.requests) (sym (at b).0)
       (subst (GivesFailure l (carried_here k id) k.exchange.plan k.handshakes.requests) (sym (at b).1) (clear h (inl u)));
 }
-
--- What is asked as a connection begins.
-pub fail_next : (s : ScenarioValue) (p : List Row) (row : Row) → Obeys s → IsPrompt s (row ∷ p) → Stood s p → NextStood s p row → TellFacts s p → CrossedFacts s p → SentAsLeft s p row → ((n : Connection) → connection p ≡ None → connection (row ∷ p) ≡ Some n → (bus (row ∷ p)).rst ≡ false → FailTalks (run_state s (row ∷ p))) → FailFacts s p → FailFacts s (row ∷ p)
-fail_next s p row o prompt was next facts crossed sent begins h n after calm = go (row_kind s p row n o prompt was after calm)
-  where
-    go : RowKindOf s p row n → FailTalks (run_state s (row ∷ p))
-    go (begins_now alone f) = begins n alone after calm
-    go (goes_now con off) = fail_goes s p row n o prompt was next facts crossed sent con off after calm h

@@ -35,7 +35,7 @@ use Rattle.bus_books.specs.Hearing.{LeavesWhole, is_out_phase}
 use Rattle.bus_books.specs.Rows.{reading_in}
 use Rattle.bus_books.proofs.InConnection.{InConnection, in_connection}
 use Rattle.trace_laws.specs.Failures.{SaysFailure, FailsBy, FailTalk}
-use Rattle.trace_laws.specs.Tells.{code_if}
+use Rattle.trace_laws.specs.Tells.{code_if, UndoesAnswers}
 use Rattle.trace_laws.proofs.ComplaintTurns.{IsAttended, attended_for}
 use Rattle.trace_laws.proofs.FailureBytes.{clear_as, still_fails}
 use Rattle.trace_laws.proofs.FailureEntries.{KeptFail, answer_kept, gives_entered, sending_entered, not_to_status, out_entered}
@@ -58,9 +58,9 @@ pub record LeftHere (k : RunState) (l : Link) (id : ProcId) : Type 0 where
   pub answered : phase_of (bus_of k) ≡ phases.MessageOut → k.exchange.plan.cause ≡ causes.InMessage → is_some k.exchange.plan.said.offer ≡ true → (k.exchange.plan.next ≡ nexts.Command) × (k.exchange.speech.words ≡ parity_error → ⊥)
   pub few : phase_of (bus_of k) ≡ phases.MessageIn → k.handshakes.requests ≤ length (bytes_of_messages k.exchange.plan.messages)
 
-pub turn_fail : (s : ScenarioValue) (k : RunState) (row : Row) (n : Connection) (c : Change) (l m : Link) (id : ProcId) → TurnOf s k row n c l → (k.exchange.begun ≡ true → LeftHere k l id) → (run_state_after s k row).story.link ≡ Some m
+pub turn_fail : (s : ScenarioValue) (k : RunState) (row : Row) (n : Connection) (c : Change) (l m : Link) (id : ProcId) → TurnOf s k row n c l → UndoesAnswers k row → (k.exchange.begun ≡ true → LeftHere k l id) → (run_state_after s k row).story.link ≡ Some m
     → FailTalk k l (carried_here k id) → FailTalk (run_state_after s k row) m (carried_here (run_state_after s k row) id)
-turn_fail s k row n c l m id t left em h =
+turn_fail s k row n c l m id t undoes left em h =
     subst (λ (x : Link). FailTalk j x d) (same_Some l m (sym (link_still s k row n c l t.goes.row_is none t.link_is) ∙ em))
     (record { unbegun = λ b. wrong (sym begun ∙ b); begun = λ b. go k.exchange.begun refl })
   where
@@ -101,7 +101,7 @@ turn_fail s k row n c l m id t left em h =
     leaves = t.goes.leaves change
 
     kept : KeptFail own d
-    kept = record { same = still_fails s k row n c l t.goes.row_is none t.link_is t.lines id; answer = answer_kept s k row id t.undoes }
+    kept = record { same = still_fails s k row n c l t.goes.row_is none t.link_is t.lines id; answer = answer_kept s k row id undoes }
 
     at : (phase : Phase) → phase_of c.after ≡ phase → FailsBy l d j.exchange.plan j.exchange.speech.words j.handshakes.requests phase → FailsBy l d j.exchange.plan j.exchange.speech.words j.handshakes.requests (phase_of (bus_of j))
     at phase e w = subst (FailsBy l d j.exchange.plan j.exchange.speech.words j.handshakes.requests) (sym (ap phase_of i.bus_is ∙ e)) w
@@ -193,7 +193,7 @@ turn_fail s k row n c l m id t left em h =
     shows b e = by (left b).named
       where
         by : (l.item ≡ Some (process id)) ⊎ (((phase_of (bus_of k) ≡ phases.MessageOut) × (k.exchange.plan.cause ≡ causes.InMessage)) ⊎ ((phase_of (bus_of k) ≡ phases.MessageIn) × ((bus_of k).atn ≡ true))) → is_marked d ≡ true
-        by (inl item) = status_marks s k row n c l id t.goes.row_is none t.link_is item t.undoes t.turns (sym (status_lines c.after) ∙ ap (λ (y : Phase). is_status_next (Some y)) e)
+        by (inl item) = status_marks s k row n c l id t.goes.row_is none t.link_is item undoes t.turns (sym (status_lines c.after) ∙ ap (λ (y : Phase). is_status_next (Some y)) e)
         by (inr z) = wrong' (sym (not_to_status v (bus_of k).atn (phase_of (bus_of k)) z) ∙ ap is_status_next (to b) ∙ ap (λ (y : Phase). is_status_next (Some y)) e)
 
     go : (q : Bool) → k.exchange.begun ≡ q → FailsBy l d j.exchange.plan j.exchange.speech.words j.handshakes.requests (phase_of (bus_of j))

@@ -33,7 +33,6 @@ use Rattle.trace_laws.specs.Tells.{code_if}
 use Rattle.trace_laws.proofs.Tests.{some_zero}
 use Rattle.trace_laws.proofs.UndoneLeavings.{is_to_message_in, not_again, to_data}
 use Rattle.bus_base.proofs.Tests.{wrong'}
-use Rattle.trace_laws.specs.DataPointers.{is_marked}
 
 -- ---- to MESSAGE IN
 
@@ -253,8 +252,3 @@ refuses_left l c p count words nexts.FreeBus some few (inl h) = inl h
 refuses_left l c p count words nexts.FreeBus some few (inr h) = inr (refused_clear l c p.messages count words some few h)
 
 -- ---- to BUS FREE
-
--- Where a message was asked for, the process is over or clear.
-pub freed_clear : (l : Link) (c : CarriedBytes) (p : Plan) (count : ℕ) → (count == 0) ≡ false → GivesFailure l c p count nexts.FreeBus → (is_marked c ≡ true) ⊎ IsClear c
-freed_clear l c p count some (inl h) = inl h
-freed_clear l c p count some (inr h) = inr (given_clear l c p.messages count some h)

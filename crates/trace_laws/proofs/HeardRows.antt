@@ -37,6 +37,7 @@ use Rattle.scsi_device.proofs.FitLines.{obeys_fits, units_are}
 use Rattle.bus_books.proofs.Blocks.{same_self}
 use Rattle.bus_books.specs.Items.{IsItem, is_process, is_abort}
 use Rattle.bus_books.specs.Knowing.{Knows}
+use Rattle.bus_books.proofs.Faith.{same_self as process_same}
 use Rattle.bus_laws.proofs.Apart.{change_plain}
 use Rattle.bus_laws.proofs.Prompt.{least_is}
 use Rattle.link_laws.specs.LinkStages.{LinkStage, when_selected, when_settling, when_turning, when_offering, when_shaking, when_pulsing}
@@ -52,12 +53,7 @@ use Rattle.trace_laws.proofs.Impossible.{none_some}
 use Rattle.trace_laws.proofs.Joint.{Stood}
 use Rattle.trace_laws.proofs.MayLeave.{said_at}
 use Rattle.trace_laws.proofs.PhaseLines.{message_is}
-use Rattle.trace_laws.proofs.SentItems.{self_item}
 use Rattle.bus_base.proofs.Tests.{wrong, wrong', implication, unless, all_three}
-
-process_same : (o : Option Item) → same_process o o ≡ true
-process_same None = refl
-process_same (Some x) = self_item x
 
 out_message : (b : LineSet) → is_message_out b ≡ true → is_message (phase_of b) ≡ true
 out_message b e = go b.msg b.cd b.io e

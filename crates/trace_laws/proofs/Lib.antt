@@ -200,7 +200,6 @@ mod ResetRows
 mod ResetFacts
 mod CountedRuns
 mod WritePresent
-mod OutsideWrites
 mod SentBytes
 pub mod FailureEntries
 pub mod FailureTurned
@@ -236,3 +235,4 @@ pub mod Impossible
 pub mod PhaseLines
 pub mod Tests
 pub mod QueueEvents
+pub mod EachLine

@@ -27,11 +27,11 @@ use Rattle.bus_base.proofs.Tests.{wrong}
 
 -- ---- tagged or not
 
-data Tagged (p : Process) : Type 0 where
+pub data Tagged (p : Process) : Type 0 where
   bare : tag_named p.tag ≡ None → tag_number_if p.tag ≡ None → Tagged p
   numbered : (n : ℕ) → tag_named p.tag ≡ Some (to_initiator.SimpleTag n) → tag_number_if p.tag ≡ Some n → Tagged p
 
-tagged_is : (p : Process) → Tagged p
+pub tagged_is : (p : Process) → Tagged p
 tagged_is p = go p.tag refl
   where
     go : (t : Tag) → p.tag ≡ t → Tagged p
@@ -168,11 +168,6 @@ names_first p l messages count (tag_alone m em es u) = go (tagged_is p)
     go : Tagged p → is_naming messages.first ≡ true
     go (bare tag number) = absurd (none_some m (sym tag ∙ em))
     go (numbered t tag number) = ap (λ (x : Messages). is_naming x.first) es ∙ ap is_name (ap (or_message m) (sym em ∙ tag))
-
--- Said anew no byte of them has crossed.
-pub names_again : (p : Process) (l : Link) (messages : Messages) (count : ℕ) → Names p l messages count → Names p l messages 0
-names_again p l messages count (all e u) = all e (λ w. wrong w)
-names_again p l messages count (tag_alone m em es u) = tag_alone m em es u
 
 bare_left : (p : Process) (l : Link) (messages : Messages) (count : ℕ) → messages ≡ naming_messages p → (count == 0) ≡ false → count ≤ 1 → Names p l (from_byte messages (count - 1)) 0
 bare_left p l messages zero e some le = wrong some

@@ -1,5 +1,5 @@
 -- A reselection begins: the target has its names to say, and they find a process (6.1.4, 6.6.7, 6.6.17).
-use Rattle.std.proofs.Common.{ℕ, zero, suc, ◌≡◌, ◌+◌, Bool, true, false, not, ◌&&◌, ◌==◌, ◌∙◌, List, [], ◌∷◌, Option, Some, None, refl, sym, ap, arith}
+use Rattle.std.proofs.Common.{ℕ, zero, suc, ◌≡◌, ◌+◌, Bool, true, false, not, ◌&&◌, ◌==◌, ◌∙◌, List, [], ◌∷◌, Option, Some, None, refl, sym, ap, arith, one-add}
 use Rattle.std.specs.Prelude.{if◌then◌else◌, is_some}
 use Rattle.std.proofs.lemmas.Option.{same_Some}
 use Rattle.bus_base.specs.declared.Event.TheVariants as events
@@ -50,9 +50,6 @@ same_self : (o : Option ℕ) → same_number o o ≡ true
 same_self None = refl
 same_self (Some n) = eq_self n
 
-one_more : (j : ℕ) → 1 + j ≡ suc j
-one_more j = omega arith
-
 record IsCommand (s : ScenarioValue) (p : Process) : Type 0 where
   line : CmdDef
   line_is : command_at s.commands p.id.command ≡ Some line
@@ -102,7 +99,7 @@ found_by s b n p e command sent over ei et l li lt lu = by p.id.command refl
 
     by : (m : ℕ) → p.id.command ≡ m → is_some (named_item b s.commands l (tag_number_if p.tag)) ≡ true
     by zero z = absurd (none_some c.line (sym (zero_none s.commands) ∙ ap (command_at s.commands) (sym z) ∙ c.line_is))
-    by (suc j) z = is_found b l.initiator l.target l.unit (tag_number_if p.tag) 1 j c.line s.commands (ap (command_at s.commands) (sym z) ∙ c.line_is) nexus (ap (is_open b) (one_more j ∙ sym z) ∙ is_open_there) tag
+    by (suc j) z = is_found b l.initiator l.target l.unit (tag_number_if p.tag) 1 j c.line s.commands (ap (command_at s.commands) (sym z) ∙ c.line_is) nexus (ap (is_open b) (one-add j ∙ sym z) ∙ is_open_there) tag
 
 -- ---- the first row
 

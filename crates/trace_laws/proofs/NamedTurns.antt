@@ -55,10 +55,11 @@ use Rattle.trace_laws.proofs.NamedSteps.{named_as, naming_as, named_still, named
 use Rattle.trace_laws.proofs.NamedStory.{link_is_after, sent_is_after}
 use Rattle.trace_laws.proofs.OfferLeavings.{attends, all_said, parity_said}
 use Rattle.trace_laws.proofs.OfferSteps.{left_is}
-use Rattle.trace_laws.proofs.OfferTurns.{out_by_phase, entering, asking, goes_out}
+use Rattle.trace_laws.proofs.OfferTurns.{out_by_phase, entering, goes_out}
 use Rattle.trace_laws.proofs.PhaseLines.{in_phase, out_phase}
 use Rattle.bus_base.proofs.Tests.{wrong, wrong'}
 use Rattle.bus_books.proofs.Knows.{from_nameless, others_nameless}
+use Rattle.bus_books.proofs.Speaks.{asking}
 
 -- ---- no names
 

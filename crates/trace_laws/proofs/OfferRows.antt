@@ -14,11 +14,12 @@ use Rattle.bus_phases.specs.Dialogue.{is_of_other, heard_with_command, byte_else
 use Rattle.bus_lines.specs.Handshakes.{Handshakes, no_handshakes, handshakes_on, asked_if, answered_if, strikes_if}
 use Rattle.bus_dialogue.specs.declared.exchange.Messages.{Messages}
 use Rattle.bus_dialogue.specs.Exchange.{Exchange, struck_plan}
-use Rattle.bus_books.proofs.Gives.{in_io, in_same, counted}
+use Rattle.bus_books.proofs.Gives.{in_io, in_same, counted, not_both, requests_rise}
 use Rattle.bus_books.proofs.InConnection.{SamePhase}
 use Rattle.trace_laws.specs.Offers.{offer_now, IsHeardIn, IsHeardOut, opens, repeats, answers_it, detects, OffersBy}
 use Rattle.trace_laws.specs.Attention.{MessageRow, keeps, asks, answers}
-use Rattle.bus_base.proofs.Tests.{wrong, wrong', rises_none, rises_some}
+use Rattle.trace_laws.proofs.PhaseLines.{message_line, out_line}
+use Rattle.bus_base.proofs.Tests.{wrong, wrong', rises_none}
 use Rattle.bus_books.proofs.Speaks.{out_same, struck}
 use Rattle.trace_laws.specs.ItemTalks.{awaits}
 
@@ -98,56 +99,33 @@ offers_struck x d h b false o = record { unbegun = o.unbegun; settled = o.settle
 
 -- ---- REQ and ACK
 
-answered_same : (q : Bool) (t : ℕ) (h : Handshakes) → ((answered_if q t h).requests ≡ h.requests) × ((answered_if q t h).struck ≡ h.struck)
-answered_same true t h = (refl, refl)
-answered_same false t h = (refl, refl)
+answered_struck : (q : Bool) (t : ℕ) (h : Handshakes) → (answered_if q t h).struck ≡ h.struck
+answered_struck true t h = refl
+answered_struck false t h = refl
 
 pub struck_stays : (n : Connection) (c : Change) (t : ℕ) (h : Handshakes) → changes_phase c ≡ false → c.before.io ≡ true → receiver_in n c ≡ None → (handshakes_on (Some n) c t h).struck ≡ h.struck
 struck_stays n c t h ep io er =
     (λ i. (if ep i then no_handshakes else answered_if (rises c.before.ack c.after.ack) t (asked_if (rises_none c.before.io (rises c.before.req c.after.req) n.initiator 0 (if rises c.before.ack c.after.ack then Some n.target else None) io er i) t h)).struck)
-    ∙ (answered_same (rises c.before.ack c.after.ack) t h).1
+    ∙ answered_struck (rises c.before.ack c.after.ack) t h
 
 pub struck_by_fault : (io : Bool) (h : Handshakes) → (h.requests == 0) ≡ false → h.struck ≡ true → (strikes_if io h).struck ≡ true
 struck_by_fault true h some s = ap not some
 struck_by_fault false h some s = s
 
 pub request_rises : (n : Connection) (c : Change) (t dev : ℕ) (h : Handshakes) → changes_phase c ≡ false → c.before.io ≡ true → receiver_in n c ≡ Some dev → (m : ℕ) → h.requests < m → m < 12 → (handshakes_on (Some n) c t h).requests ≡ h.requests + 1
-request_rises n c t dev h ep io er m lt few =
-    (λ i. (if ep i then no_handshakes else answered_if (rises c.before.ack c.after.ack) t (asked_if (rises_some c.before.io (rises c.before.req c.after.req) n.initiator dev (if rises c.before.ack c.after.ack then Some n.target else None) io er i) t h)).requests)
-    ∙ (answered_same (rises c.before.ack c.after.ack) t (asked_if true t h)).0
-    ∙ counted h.requests m lt few
+request_rises n c t dev h ep io er m lt few = requests_rise n c t dev h ep io er ∙ counted h.requests m lt few
 
 -- ---- a byte crosses
-
-pub not_both : (b : LineSet) → is_message_out b ≡ true → is_message_in b ≡ true → ⊥
-not_both b o i = go b.msg b.cd b.io o i
-  where
-    go : (m d i : Bool) → (m && d && not i) ≡ true → (m && d && i) ≡ true → ⊥
-    go true true true e f = true≢false (sym e)
-    go true true false e f = true≢false (sym f)
-    go true false i e f = true≢false (sym e)
-    go false d i e f = true≢false (sym e)
-
-message_lines : (b : LineSet) → (is_message_out b ≡ true) ⊎ (is_message_in b ≡ true) → b.msg ≡ true
-message_lines b w = by w
-  where
-    first : (m r : Bool) → (m && r) ≡ true → m ≡ true
-    first true r e = refl
-    first false r e = wrong' e
-
-    by : (is_message_out b ≡ true) ⊎ (is_message_in b ≡ true) → b.msg ≡ true
-    by (inl e) = first b.msg b.cd (first (b.msg && b.cd) (not b.io) e)
-    by (inr e) = first b.msg b.cd (first (b.msg && b.cd) b.io e)
 
 -- Of MESSAGE OUT.
 pub offers_said : (c : Change) (x : Exchange) (d : Dialogue) (h : Handshakes) → SamePhase c.before c.after → x.begun ≡ true → is_message_out c.before ≡ true → IsHeardOut x d → OffersBy x d h c.after
 offers_said c x d h same b m w = record {
   unbegun = λ f. wrong (sym b ∙ f);
-  settled = λ f z. wrong (sym (message_lines c.before (inl m)) ∙ sym same.msg ∙ z);
+  settled = λ f z. wrong (sym (out_line c.before m) ∙ sym same.msg ∙ z);
   out = λ f z. w;
-  into = λ f i. absurd (not_both c.after (out_same c.before c.after same ∙ m) i);
-  why = λ f i. absurd (not_both c.after (out_same c.before c.after same ∙ m) i);
-  asks = λ f i. absurd (not_both c.after (out_same c.before c.after same ∙ m) i);
+  into = λ f i. not_both c.after i (out_same c.before c.after same ∙ m);
+  why = λ f i. not_both c.after i (out_same c.before c.after same ∙ m);
+  asks = λ f i. not_both c.after i (out_same c.before c.after same ∙ m);
 }
 
 -- Of MESSAGE IN: ATN was false.
@@ -170,8 +148,8 @@ offers_given n c x x' d d' h h' same b b' m er row o w = by row
     by (answers none some e) = absurd (none_some (receiver_in n c) none er)
     by (asks there e first ask) = record {
       unbegun = λ f. wrong (sym b' ∙ f);
-      settled = λ f z. wrong (sym (message_lines c.after (inr now)) ∙ z);
-      out = λ f z. absurd (not_both c.after z now);
+      settled = λ f z. wrong (sym (message_line c.after now) ∙ z);
+      out = λ f z. not_both c.after now z;
       into = λ f i. w;
       why = λ f i a. wrong (sym a ∙ quiet e first);
       asks = λ f i t. inr ask;

@@ -43,10 +43,10 @@ use Rattle.trace_laws.specs.Offers.{offer_now, IsHeardIn, is_detected, OffersBy,
 use Rattle.trace_laws.proofs.OfferBytes.{heard_in_on, heard_out_on}
 use Rattle.trace_laws.proofs.OfferLeavings.{HeadsTo, Heads, heads_none, heads_attended, heads_out, attends}
 use Rattle.trace_laws.proofs.OfferRows.{offers_as, offers_still, offers_struck, struck_stays, struck_by_fault, request_rises, offers_said, offers_given, offers_else}
-use Rattle.trace_laws.proofs.OfferTurns.{out_by_phase, Lines, says, gives, others, lines_of, entering, offers_enter, offers_open, asking, offers_detect, offers_answer, none_open, unattended, in_direction, low_line}
+use Rattle.trace_laws.proofs.OfferTurns.{out_by_phase, Lines, says, gives, others, lines_of, entering, offers_enter, offers_open, offers_detect, offers_answer, none_open, unattended, in_direction, low_line}
 use Rattle.trace_laws.proofs.PhaseLines.{in_phase, out_phase, not_message_out, not_message_in}
 use Rattle.bus_base.proofs.Tests.{wrong, wrong'}
-use Rattle.bus_books.proofs.Speaks.{heard_byte, opening_exchange}
+use Rattle.bus_books.proofs.Speaks.{heard_byte, opening_exchange, asking}
 use Rattle.trace_laws.specs.ItemTalks.{awaits}
 
 -- ---- small facts

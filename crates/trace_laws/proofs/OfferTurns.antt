@@ -29,12 +29,12 @@ use Rattle.bus_books.specs.Giving.{OnMessages}
 use Rattle.bus_books.specs.Hearing.{is_out_phase}
 use Rattle.trace_laws.specs.Offers.{IsNoRequest, Negotiates, answers, refuses, requests, Plans, plain, negotiates, WasOpen, offer_now, IsHeardIn, no_request, in_part, whole, SaysOne, is_detected, IsHeardOut, opens, repeats, answers_it, detects, OffersBy}
 use Rattle.trace_laws.proofs.OfferLeavings.{HeadsTo}
-use Rattle.trace_laws.proofs.OfferRows.{not_both}
+use Rattle.bus_books.proofs.Gives.{not_both}
 use Rattle.trace_laws.proofs.PhaseLines.{in_phase}
 use Rattle.trace_laws.proofs.StatusOffers.{zero_is}
 use Rattle.trace_laws.proofs.PointerLeavings.{is_attended}
 use Rattle.bus_base.proofs.Tests.{wrong, wrong'}
-use Rattle.bus_books.proofs.Speaks.{opening_exchange}
+use Rattle.bus_books.proofs.Speaks.{opening_exchange, asking}
 
 -- ---- phases and their lines
 
@@ -119,9 +119,9 @@ in_out x d h b g m w = record {
   unbegun = λ f. wrong (sym g ∙ f);
   settled = λ f z. wrong (sym (first b.msg b.cd b.io m) ∙ z);
   out = λ f z. w;
-  into = λ f i. absurd (not_both b m i);
-  why = λ f i. absurd (not_both b m i);
-  asks = λ f i. absurd (not_both b m i);
+  into = λ f i. not_both b i m;
+  why = λ f i. not_both b i m;
+  asks = λ f i. not_both b i m;
 }
   where
     first : (q r i : Bool) → (q && r && not i) ≡ true → q ≡ true
@@ -130,9 +130,6 @@ in_out x d h b g m w = record {
 
 pub offers_open : (x : Exchange) (d : Dialogue) (b : LineSet) → is_message_out b ≡ true → x.plan.cause ≡ causes.Selected → (offer_now d ≡ None) × (d.heard.void ≡ None) → OffersBy (opening_exchange x) (phase_begins d) no_handshakes b
 offers_open x d b m c w = in_out (opening_exchange x) (phase_begins d) no_handshakes b refl m (opens c w.0 w.1 w.1 w.0)
-
-abbrev pub asking : Exchange → List ℕ → Cause → Messages → Exchange
-asking x words cause messages = record { begun = true; speech = speech_of x.speech words; plan = record (plan_anew x.plan) { cause = cause; messages = messages } }
 
 one_anew : (m : MsgOut) (v : Speech) (d : Dialogue) → v.words ≡ out_bytes m → SaysOne m v (phase_begins d)
 one_anew m v d e = record { words_are = e; fresh = refl; last = λ f. wrong' f }

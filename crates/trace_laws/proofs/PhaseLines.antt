@@ -8,11 +8,11 @@ use Rattle.bus_dialogue.specs.declared.exchange.Phase.TheVariants as phases
 use Rattle.bus_dialogue.specs.NextPhase.{phase_of}
 use Rattle.bus_story.specs.CarriedBytes.{is_status_phase}
 use Rattle.scsi_device.specs.Heard.{is_message}
-use Rattle.bus_books.specs.Hearing.{is_out_phase}
 use Rattle.bus_books.specs.Reactions.{is_command_phase}
-use Rattle.bus_base.proofs.Tests.{wrong'}
+use Rattle.bus_base.proofs.Tests.{and_first, wrong'}
 use Rattle.bus_books.proofs.Faith.{is_data_out}
-pub use Rattle.bus_books.proofs.Reactions.{in_phase}
+pub use Rattle.bus_books.proofs.Faith.{out_lines}
+pub use Rattle.bus_books.proofs.Reactions.{in_phase, out_phase}
 
 abbrev pub is_status : Phase → Bool
 is_status phases.Status = true
@@ -32,15 +32,6 @@ is_out_next (Some phases.MessageOut) = true
 is_out_next _ = false
 
 -- ---- the phase, by the lines
-
-pub out_phase : (b : LineSet) → is_message_out b ≡ true → phase_of b ≡ phases.MessageOut
-out_phase b e = go b.msg b.cd b.io e
-  where
-    go : (m d i : Bool) → (m && d && not i) ≡ true → (if m then (if i then phases.MessageIn else phases.MessageOut) else if d then (if i then phases.Status else phases.Command) else if i then phases.DataIn else phases.DataOut) ≡ phases.MessageOut
-    go true true true z = wrong' z
-    go true true false z = refl
-    go true false i z = wrong' z
-    go false d i z = wrong' z
 
 pub message_is : (b : LineSet) → is_message_in b ≡ true → is_message (phase_of b) ≡ true
 message_is b e = ap is_message (in_phase b e)
@@ -67,18 +58,6 @@ command_is b = go b.msg b.cd b.io
 
 -- ---- the lines, by the phase
 
-pub out_lines : (b : LineSet) → phase_of b ≡ phases.MessageOut → (b.msg ≡ true → b.cd ≡ true) → is_message_out b ≡ true
-out_lines b e known = go b.msg b.cd b.io (ap is_out_phase e) known
-  where
-    go : (m d i : Bool) → is_out_phase (if m then (if i then phases.MessageIn else phases.MessageOut) else if d then (if i then phases.Status else phases.Command) else if i then phases.DataIn else phases.DataOut) ≡ true → (m ≡ true → d ≡ true) → (m && d && not i) ≡ true
-    go true true true z h = wrong' z
-    go true true false z h = refl
-    go true false i z h = wrong' (h refl)
-    go false true true z h = wrong' z
-    go false true false z h = wrong' z
-    go false false true z h = wrong' z
-    go false false false z h = wrong' z
-
 pub data_out_io : (b : LineSet) → phase_of b ≡ phases.DataOut → b.io ≡ false
 data_out_io b e = go b.msg b.cd b.io (ap is_data_out e)
   where
@@ -104,6 +83,12 @@ not_message_in b e = λ i. e i && b.cd && b.io
 
 pub not_message_out : (b : LineSet) → b.msg ≡ false → is_message_out b ≡ false
 not_message_out b e = λ i. e i && b.cd && not b.io
+
+pub message_line : (b : LineSet) → is_message_in b ≡ true → b.msg ≡ true
+message_line b e = and_first b.msg b.cd (and_first (b.msg && b.cd) b.io e)
+
+pub out_line : (b : LineSet) → is_message_out b ≡ true → b.msg ≡ true
+out_line b e = and_first b.msg b.cd (and_first (b.msg && b.cd) (not b.io) e)
 
 -- ---- one phase is not the other
 

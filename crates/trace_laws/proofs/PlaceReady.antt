@@ -12,9 +12,9 @@ use Rattle.disk_array.specs.Units.{RunningProcess, UnitState, Array, unit_state_
 use Rattle.bus_dialogue.specs.Wants.{Ready, ready_in, is_ready_before, first_ready}
 use Rattle.bus_due.specs.Wants.{current_of, since_of, ready_at, ready_among}
 use Rattle.target_units.proofs.UnitSteps.{own_unit}
+use Rattle.target_units.proofs.UnitTimes.{running_is}
 use Rattle.bus_books.proofs.Lookups.{self_id, id_is}
 use Rattle.trace_laws.specs.Places.{fresh, Runs, OnUnits, IsUnanswered, IsAtRest, RunsOpen}
-use Rattle.trace_laws.proofs.EachProcess.{current_id}
 use Rattle.trace_laws.proofs.ArrivingProcesses.{no_guest, IsFoundAt, found_at}
 use Rattle.trace_laws.proofs.Impossible.{none_some}
 use Rattle.bus_books.proofs.ReadyProcesses.{or_ready}
@@ -151,7 +151,7 @@ ready_runs s a times seek t r sound rests e = go (among_current a times seek t r
         found = found_current a.units t c.number c.unit c.current p.id c.at c.current_is (ap (λ (x : Process). same_id x.id p.id) c.process_is ∙ self_id p.id)
 
         there : same_id found.found.process.id p.id ≡ true
-        there = current_id a.units p.id found.found found.found_is
+        there = running_is a.units p.id found.found found.found_is
 
         none : (found.found.reply ≡ None) × (reply_in a.replies p.id ≡ None) × (has_ended a p.id ≡ false)
         none = on_running (IsUnanswered (reply_in a.replies p.id) (has_ended a p.id) p.id) a.units p.id found.found rests.units found.found_is there

@@ -212,12 +212,6 @@ left_closes a p m n few (disconnects e h o q) = disconnects (go (nat_lt n (lengt
     go true = e
     go false = record { first = e.second; second = refl }
 
-pub left_before : (a : Array) (p : Process) (m : Messages) (n : ℕ) (next : Next) → (m ≡ one_message to_initiator.CommandComplete → n ≡ 0) → PlacedBefore a p m next → PlacedBefore a p (from_byte m n) next
-left_before a p m n nexts.Command few h = h
-left_before a p m n nexts.GoOn few h = h
-left_before a p m n nexts.Status few h = h
-left_before a p m n nexts.FreeBus few h = left_closes a p m n few h
-
 -- ---- a phase other than COMMAND is left
 
 -- What is asked as it is left.

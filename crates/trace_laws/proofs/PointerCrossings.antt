@@ -41,6 +41,7 @@ use Rattle.bus_books.specs.Rows.{RowKind, still, strikes, crosses, turns, readin
 use Rattle.bus_books.specs.Speaking.{IsSpeaking}
 use Rattle.bus_books.proofs.InConnection.{reading_is}
 use Rattle.bus_books.proofs.Gives.{few_messages}
+use Rattle.bus_books.proofs.Reactions.{out_lines}
 use Rattle.trace_laws.specs.DataPointers.{is_marked, OnUndo, run_policy, run_start, IsUndisturbed, PointersOf, PointersIf, PointersAsked, PointersIn, IsUnnamed, ServedPointers, unnamed, named}
 use Rattle.trace_laws.proofs.OfferRows.{request_rises}
 use Rattle.trace_laws.proofs.PointerBegins.{same_process}
@@ -50,7 +51,7 @@ use Rattle.trace_laws.proofs.PointerKept.{unnamed_as}
 use Rattle.trace_laws.proofs.PointerMessages.{or_undone, IsHeard, in_half, in_whole, in_lost, in_named, refused_on, settled_on}
 use Rattle.trace_laws.proofs.PointerHearings.{heard_in, refusal_said, rejection_said, data_rejects, status_rejects}
 use Rattle.trace_laws.proofs.PointerStorySteps.{message_byte, out_story, in_known, in_unknown, in_none, in_found, in_link}
-use Rattle.trace_laws.proofs.PointerRows.{Meets, Goes, Crosses, crosses_in, crossed_as, into_of, out_of, byte_of, told_served, block_crosses, run_crosses, read_crosses, quiet_row, in_lines, out_lines, io_out_false, io_in_false, is_block_phase}
+use Rattle.trace_laws.proofs.PointerRows.{Meets, Goes, Crosses, crosses_in, crossed_as, into_of, out_of, byte_of, told_served, block_crosses, run_crosses, read_crosses, quiet_row, in_lines, io_out_false, io_in_false, is_block_phase}
 use Rattle.bus_books.proofs.Knows.{nameless_item}
 use Rattle.bus_story.proofs.StorySteps.{out_link}
 

@@ -34,13 +34,14 @@ use Rattle.bus_due.specs.Sights.{hearing_of, leaving, serving_of}
 use Rattle.bus_books.specs.Giving.{OnMessages}
 use Rattle.bus_books.specs.Hearing.{is_in_phase, is_out_phase}
 use Rattle.bus_books.specs.Rows.{IsRowIn, reading_in}
+use Rattle.bus_books.proofs.Reactions.{out_lines}
 use Rattle.trace_laws.specs.DataPointers.{OnUndo, IsPlainIn, run_policy, run_start, run_step, PointersOf, PointersIf, PointersAsked, IsSettled, IsUnnamed, ServedPointers, unnamed, named}
 use Rattle.trace_laws.proofs.InstructedTurns.{out_is}
 use Rattle.trace_laws.proofs.PhaseLines.{is_status, is_data_in}
 use Rattle.trace_laws.proofs.PointerKept.{SamePlan, counted_same, pointers_as}
 use Rattle.trace_laws.proofs.PointerLeavings.{Enters, Leads, is_attended, leaves_enter, refusal_leads}
 use Rattle.trace_laws.proofs.PointerHearings.{refusal_offers}
-use Rattle.trace_laws.proofs.PointerRows.{Meets, in_lines, out_lines, phase_by}
+use Rattle.trace_laws.proofs.PointerRows.{Meets, in_lines, phase_by}
 use Rattle.trace_laws.proofs.PointerTurns.{refused_from, TurnsBy, start_after, Turned, turned_is}
 use Rattle.trace_laws.proofs.TalkTurns.{from_named}
 use Rattle.trace_laws.proofs.TellFacts.{front_length}

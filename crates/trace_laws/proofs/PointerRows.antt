@@ -36,12 +36,12 @@ use Rattle.bus_due.specs.RunState.{RunState, bus_of, carried_here}
 use Rattle.bus_due.specs.RunSteps.{run_state_after, progress_after, leaving_of}
 use Rattle.bus_due.specs.Sights.{hearing_of}
 use Rattle.bus_books.specs.Giving.{Gives}
-use Rattle.bus_books.specs.Hearing.{is_in_phase, is_out_phase}
+use Rattle.bus_books.specs.Hearing.{is_in_phase}
 use Rattle.bus_books.specs.Knowing.{Knows}
 use Rattle.bus_books.specs.Rows.{IsRowIn, reading_in}
 use Rattle.bus_books.specs.Speaking.{Speaks}
 use Rattle.bus_books.specs.Traces.{GoesOn}
-use Rattle.bus_books.proofs.Gives.{requests_stay, struck_same, answered_same}
+use Rattle.bus_books.proofs.Gives.{requests_rise, requests_stay, struck_same}
 use Rattle.bus_books.proofs.InConnection.{InConnection, in_connection, reading_is, same_phase_is}
 use Rattle.bus_books.proofs.Knows.{link_after, fault_link}
 use Rattle.link_laws.proofs.PulseSteps.{count_more}
@@ -84,17 +84,6 @@ in_lines b e = go b.msg b.cd b.io refl refl (ap is_in_phase e)
     go : (m d i : Bool) → b.msg ≡ m → b.io ≡ i → is_in_phase (phase_by m d i) ≡ true → LinesIn b
     go true d true em ei z = record { msg = em; io = ei }
     go true d false em ei z = wrong' z
-    go false true true em ei z = wrong' z
-    go false true false em ei z = wrong' z
-    go false false true em ei z = wrong' z
-    go false false false em ei z = wrong' z
-
-pub out_lines : (b : LineSet) → phase_of b ≡ phases.MessageOut → (b.msg ≡ true) × (b.io ≡ false)
-out_lines b e = go b.msg b.cd b.io refl refl (ap is_out_phase e)
-  where
-    go : (m d i : Bool) → b.msg ≡ m → b.io ≡ i → is_out_phase (phase_by m d i) ≡ true → (b.msg ≡ true) × (b.io ≡ false)
-    go true d true em ei z = wrong' z
-    go true d false em ei z = (em, ei)
     go false true true em ei z = wrong' z
     go false true false em ei z = wrong' z
     go false false true em ei z = wrong' z
@@ -152,12 +141,6 @@ answers_rise n c t dev h ep io er =
     let raised = raised_ack (rises c.before.ack c.after.ack) n.target dev (sym (ap (λ (q : Bool). if q then (if rises c.before.req c.after.req then Some n.initiator else None) else (if rises c.before.ack c.after.ack then Some n.target else None)) io) ∙ er) in
     (λ i. (if ep i then no_handshakes else answered_if (raised i) t (asked_if (rises c.before.req c.after.req) t h)).answers)
     ∙ ap counted_on (asked_answers (rises c.before.req c.after.req) t h)
-
-pub requests_rise : (n : Connection) (c : Change) (t dev : ℕ) (h : Handshakes) → changes_phase c ≡ false → c.before.io ≡ true → receiver_in n c ≡ Some dev → (handshakes_on (Some n) c t h).requests ≡ counted_on h.requests
-requests_rise n c t dev h ep io er =
-    let raised = raised_ack (rises c.before.req c.after.req) n.initiator dev (sym (ap (λ (q : Bool). if q then (if rises c.before.req c.after.req then Some n.initiator else None) else (if rises c.before.ack c.after.ack then Some n.target else None)) io) ∙ er) in
-    (λ i. (if ep i then no_handshakes else answered_if (rises c.before.ack c.after.ack) t (asked_if (raised i) t h)).requests)
-    ∙ answered_same (rises c.before.ack c.after.ack) t (asked_if true t h)
 
 pub struck_answers : (q : Bool) (h : Handshakes) → (strikes_if q h).answers ≡ h.answers
 struck_answers true h = refl

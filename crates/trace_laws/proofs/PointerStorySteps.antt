@@ -114,7 +114,7 @@ message_id c (to_initiator.Sdtr offer) = refl
 message_id c to_initiator.Reject = refl
 
 -- The story before it is told: the process that it has just named has its pointers restored.
-abbrev named_story : Story → Option Item → Option Item → Story
+abbrev pub named_story : Story → Option Item → Option Item → Story
 named_story b item next = if is_none item then story_with_restored b next else b
 
 abbrev told_link : Story → Link → Link → MsgIn → Link
@@ -173,9 +173,6 @@ if_not b id (Some (abort n)) f g h y z e w = none_some z e
 if_not b id (Some (process x)) f g h y z e w =
     let is : y.id ≡ x = ap (λ (c : CarriedBytes). c.id) (sym (same_Some (f z) y w)) ∙ g z ∙ ap (λ (c : CarriedBytes). c.id) (sym (same_Some (carried_of b.carried x) z e)) ∙ carried_id b.carried x in
     ap (λ (i : ProcId). same_id i id) is ∙ h x refl
-
-pub fault_other : (b : Story) (l : Link) (kind : Kind) (id : ProcId) → SamePointers (carried_of (story_after_fault b l kind).carried id) (carried_of b.carried id)
-fault_other = fault_story
 
 pub byte_other : (b : Story) (l : Link) (d : RowReading) (id : ProcId) → IsNot id l.item → carried_of (story_after_byte b l d).carried id ≡ carried_of b.carried id
 byte_other b l d id h = go d.change.before.msg

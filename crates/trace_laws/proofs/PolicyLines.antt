@@ -6,24 +6,20 @@ use Rattle.scenario.specs.declared.bounds.TheConstants.{LATENCY_LIMIT, RETRY_LIM
 use Rattle.scenario.specs.declared.value.Policy.{Policy}
 use Rattle.scenario.specs.declared.value.Policy.TheVariants as policies
 use Rattle.scenario.specs.declared.value.TargetDef.{TargetDef}
-use Rattle.scenario.specs.Forms.{Said, scsi_line, initiator_line, target_line, unit_line, fill_line, cmd_line, abort_line, reset_line, fault_line, end_line}
+use Rattle.scenario.specs.Forms.{Said, target_line}
 use Rattle.scenario.specs.Lookups.{has_device}
-use Rattle.scenario.specs.Needs.{need_of, sent_of}
-use Rattle.scenario.specs.Reading.{Progress, guard, within, in_8, period_in, policy_in, host_def, target_def, unit_def, fill_def, full_cmd_def, abort_def, reset_def, fault_def, added, said_after, fits_version, in_order, rank, kind_of, nothing}
+use Rattle.scenario.specs.Reading.{guard, within, in_8, period_in, policy_in, target_def}
 use Rattle.scenario.specs.Value.{ScenarioValue}
-use Rattle.scenario.specs.Writing.{saids, built, said_policy, Obeys}
+use Rattle.scenario.specs.Writing.{said_policy, Obeys}
 use Rattle.scenario.proofs.Steps.{bind_ok, ok_is, within_ok, read_policy}
-use Rattle.scsi_device.proofs.Finds.{all_more}
 use Rattle.scsi_device.proofs.LineReads.{target_by}
 use Rattle.bus_dialogue.specs.Arrivals.{policy_of}
 use Rattle.bus_due.specs.Defs.{target_def_of}
 use Rattle.trace_laws.proofs.RunParts.{HasMost}
+use Rattle.trace_laws.proofs.EachLine.{Any, each_line}
 
 abbrev HasMostIn : TargetDef → Type 0
 HasMostIn t = HasMost t.disc
-
-abbrev AreMost : Progress → Type 0
-AreMost d = AllByRecursion HasMostIn d.scenario.targets
 
 policy_most : (p : Policy) → policy_in (said_policy p) ≡ Ok p → HasMost p
 unfolding policy_in
@@ -46,37 +42,8 @@ target_most s (target_line f) t e =
     subst HasMostIn (ok_is _ t b8.2) (policy_most b4.0 (ap policy_in (sym (read_policy f.disc b4.0 b4.1).same) ∙ b4.1))
 target_most s _ t e = absurd cc
 
-most_added : (d z : Progress) (x : Said) → added d x ≡ Ok z → AreMost d → AreMost z
-unfolding added need_of sent_of
-most_added d z (scsi_line v) e a = subst AreMost (ok_is _ z e) a
-most_added d z (initiator_line f) e a = let b = bind_ok (host_def d.scenario f) _ z e in subst AreMost (ok_is _ z b.2) a
-most_added d z (target_line f) e a =
-    let b = bind_ok (target_def d.scenario f) _ z e in
-    subst AreMost (ok_is _ z b.2) (all_more HasMostIn d.scenario.targets b.0 a (target_most d.scenario (target_line f) b.0 b.1))
-most_added d z (unit_line f) e a = let b = bind_ok (unit_def d.scenario f) _ z e in subst AreMost (ok_is _ z b.2) a
-most_added d z (fill_line f) e a = let b = bind_ok (fill_def d.scenario f) _ z e in subst AreMost (ok_is _ z b.2) a
-most_added d z (cmd_line f) e a = let b = bind_ok (full_cmd_def d.scenario d.needs f) _ z e in subst AreMost (ok_is _ z b.2) a
-most_added d z (abort_line f) e a = let b = bind_ok (abort_def d.scenario f) _ z e in subst AreMost (ok_is _ z b.2) a
-most_added d z (reset_line f) e a = let b = bind_ok (reset_def d.scenario f) _ z e in subst AreMost (ok_is _ z b.2) a
-most_added d z (fault_line f) e a = let b = bind_ok (fault_def d.scenario f) _ z e in subst AreMost (ok_is _ z b.2) a
-most_added d z end_line e a = subst AreMost (ok_is d z e) a
-
-most_after : (d z : Progress) (x : Said) → said_after d x ≡ Ok z → AreMost d → AreMost z
-unfolding said_after
-most_after d z x e a =
-    let v = bind_ok (guard 2 (fits_version d.scenario.version x)) _ z e in
-    let o = bind_ok (guard 3 (in_order (rank d.last) (rank (kind_of x)))) _ z v.2 in
-    let b = bind_ok (added d x) _ z o.2 in
-    subst AreMost (ok_is _ z b.2) (most_added d b.0 x b.1 a)
-
-most_built : (d z : Progress) (xs : List Said) → built d xs ≡ Ok z → AreMost d → AreMost z
-most_built d z [] e a = subst AreMost (ok_is d z e) a
-most_built d z (x ∷ xs) e a = let b = bind_ok (said_after d x) _ z e in most_built b.0 z xs b.2 (most_after d b.0 x b.1 a)
-
 most_lines : (s : ScenarioValue) → Obeys s → AllByRecursion HasMostIn s.targets
-most_lines s o =
-    let b = bind_ok (built nothing (saids s)) _ s o.lawful in
-    subst (λ (x : ScenarioValue). AllByRecursion HasMostIn x.targets) (ok_is b.0.scenario s b.2) (most_built nothing b.0 (saids s) b.1 tt)
+most_lines s o = (each_line Any HasMostIn Any Any (record { host = λ x f d e. tt; target = target_most; command = λ x f d e. tt; abort = λ x f d e. tt }) s o).targets
 
 found_most : (dev : ℕ) (ts : List TargetDef) → AllByRecursion HasMostIn ts → HasMost (policy_of (find (λ (t : TargetDef). t.dev == dev) ts))
 found_most dev [] a = tt

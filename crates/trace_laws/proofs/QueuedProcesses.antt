@@ -1,7 +1,8 @@
 -- What holds of the processes in the queues of the plain disk array holds after an event, of those that it leaves there.
-use Rattle.std.proofs.Common.{ℕ, ◌≡◌, Bool, true, false, not, ◌&&◌, ◌||◌, ◌==◌, List, [], ◌∷◌, ◌++◌, Option, Some, None, refl, sym, ap, subst}
+use Rattle.std.proofs.Common.{ℕ, ◌≡◌, Bool, true, false, not, ◌&&◌, ◌||◌, ◌==◌, List, [], ◌∷◌, ◌++◌, Option, Some, None, refl, sym, subst}
 use Rattle.std.specs.Prelude.{if◌then◌else◌, is_some, is_none, nat_lt, ⊤}
 use Rattle.std.proofs.lemmas.Option.{same_Some}
+use Rattle.std.proofs.lemmas.Bool.{not_from_false}
 use Rattle.bus_base.specs.declared.ProcId.{ProcId}
 use Rattle.bus_base.specs.declared.AbortKind.{AbortKind}
 use Rattle.bus_base.specs.declared.AbortKind.TheVariants as aborts
@@ -42,16 +43,13 @@ map_units q r f (u ∷ units) h = ((map_all q r f u.waiting h.0.0, map_runs q r 
 
 -- ---- lists
 
-not_by : (q : Bool) → q ≡ false → not q ≡ true
-not_by q e = ap not e
-
 without_all : (q : Process → Type 0) (waiting : List Process) (id : ProcId) → AllP q waiting → AllP (And q (λ p. not (same_id p.id id))) (without_process waiting id)
 without_all q [] id h = tt
 without_all q (p ∷ waiting) id h = go (same_id p.id id) refl (without_all q waiting id h.1)
   where
     go : (x : Bool) → same_id p.id id ≡ x → AllP (And q (λ w. not (same_id w.id id))) (without_process waiting id) → AllP (And q (λ w. not (same_id w.id id))) (if x then without_process waiting id else p ∷ without_process waiting id)
     go true e k = k
-    go false e k = ((h.0, not_by (same_id p.id id) e), k)
+    go false e k = ((h.0, not_from_false (same_id p.id id) e), k)
 
 kept_all : (q : Process → Type 0) (drops : Process → Bool) (waiting : List Process) → AllP q waiting → AllP (And q (λ p. not (drops p))) (Steps.kept_processes drops waiting)
 kept_all q drops [] h = tt
@@ -59,7 +57,7 @@ kept_all q drops (p ∷ waiting) h = go (drops p) refl (kept_all q drops waiting
   where
     go : (x : Bool) → drops p ≡ x → AllP (And q (λ w. not (drops w))) (Steps.kept_processes drops waiting) → AllP (And q (λ w. not (drops w))) (if x then Steps.kept_processes drops waiting else p ∷ Steps.kept_processes drops waiting)
     go true e k = k
-    go false e k = ((h.0, not_by (drops p) e), k)
+    go false e k = ((h.0, not_from_false (drops p) e), k)
 
 with_units : (q : Process → Type 0) (units : List UnitState) (new : UnitState) → UnitsP q units → AllP q new.waiting × RunsP q new.current → UnitsP q (with_unit units new)
 with_units q [] new h g = tt
@@ -114,7 +112,7 @@ left_units q (u ∷ units) id h = ((without_all q u.waiting id h.0.0, go u.curre
   where
     inner : (r : RunningProcess) → q r.process → (x : Bool) → same_id r.process.id id ≡ x → RunsP (And q (λ p. not (same_id p.id id))) (if is_some {T = RunningProcess} (if x then Some r else None) then None else Some r)
     inner r k true e = tt
-    inner r k false e = (k, not_by (same_id r.process.id id) e)
+    inner r k false e = (k, not_from_false (same_id r.process.id id) e)
 
     go : (x : Option RunningProcess) → RunsP q x → RunsP (And q (λ p. not (same_id p.id id))) (if is_some (Steps.running_if x id) then None else x)
     go None k = tt
@@ -126,7 +124,7 @@ dropped_units q drops (u ∷ units) h = ((kept_all q drops u.waiting h.0.0, go u
   where
     inner : (r : RunningProcess) → q r.process → (x : Bool) → drops r.process ≡ x → RunsP (And q (λ p. not (drops p))) (if x then None else Some r)
     inner r k true e = tt
-    inner r k false e = (k, not_by (drops r.process) e)
+    inner r k false e = (k, not_from_false (drops r.process) e)
 
     go : (x : Option RunningProcess) → RunsP q x → RunsP (And q (λ p. not (drops p))) (Steps.kept_running drops x)
     go None k = tt

@@ -10,21 +10,11 @@ use Rattle.disk_array.specs.Steps.{context_at}
 use Rattle.disk_array.specs.Units.{UnitState, Nexus, Array, unit_state_at, with_unit, with_current, has_no_current, is_held, unit_after_choice, units_after_choice, settled_array, nexus_of}
 use Rattle.bus_due.specs.Tasks.{moved_count, reply_now, size_of}
 use Rattle.trace_laws.proofs.Impossible.{none_some}
-use Rattle.std.proofs.lemmas.Bool.{eqb-true}
-use Rattle.bus_base.proofs.Tests.{and_first, and_second, eq_self}
+use Rattle.bus_base.proofs.Tests.{eq_self}
 use Rattle.disk_array.proofs.SeatSteps.{choice_target, choice_unit}
+use Rattle.disk_array.proofs.SeatLookups.{found_target, found_unit}
 
 -- ---- the unit
-
-pub found : (units : List UnitState) (t n : ℕ) (u : UnitState) → unit_state_at units t n ≡ Some u → (u.target ≡ t) × (u.unit ≡ n)
-found [] t n u e = none_some u e
-found (v ∷ units) t n u e = go (λ z. found units t n u z) (v.target == t && v.unit == n) refl e
-  where
-    go : (unit_state_at units t n ≡ Some u → (u.target ≡ t) × (u.unit ≡ n)) → (q : Bool) → (v.target == t && v.unit == n) ≡ q → (if q then Some v else unit_state_at units t n) ≡ Some u → (u.target ≡ t) × (u.unit ≡ n)
-    go more true f z =
-        let is = same_Some v u z in
-        (ap (λ (x : UnitState). x.target) (sym is) ∙ eqb-true v.target t (and_first (v.target == t) (v.unit == n) f), ap (λ (x : UnitState). x.unit) (sym is) ∙ eqb-true v.unit n (and_second (v.target == t) (v.unit == n) f))
-    go more false f z = more z
 
 -- Another stands in its place.
 put_there : (units : List UnitState) (t n : ℕ) (u new : UnitState) → new.target ≡ u.target → new.unit ≡ u.unit → unit_state_at units t n ≡ Some u → unit_state_at (with_unit units new) t n ≡ Some new
@@ -32,7 +22,7 @@ put_there [] t n u new et en e = none_some u e
 put_there (v ∷ units) t n u new et en e = go (λ z. put_there units t n u new et en z) (v.target == t && v.unit == n) refl e
   where
     of : (u.target ≡ t) × (u.unit ≡ n)
-    of = found (v ∷ units) t n u e
+    of = (found_target (v ∷ units) t n u e, found_unit (v ∷ units) t n u e)
 
     test : (v.target == new.target && v.unit == new.unit) ≡ (v.target == t && v.unit == n)
     test = λ i. v.target == (et ∙ of.0) i && v.unit == (en ∙ of.1) i

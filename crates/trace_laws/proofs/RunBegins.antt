@@ -6,6 +6,7 @@ use Rattle.std.proofs.lemmas.Option.{same_Some}
 use Rattle.bus_base.specs.declared.Event.{Event}
 use Rattle.bus_base.specs.declared.Event.TheVariants as events
 use Rattle.std.proofs.lemmas.Bool.Decides.{nat_tests}
+use Rattle.std.proofs.lemmas.Bool.{not-false}
 use Rattle.cdb_codec.specs.Cdb.{command_of}
 use Rattle.disk_array.specs.Execution.{is_request_sense}
 use Rattle.disk_array.specs.Steps.{step, settled_array_if, accept_step, accept_step_at, queue_step, with_guest, process_count}
@@ -47,7 +48,6 @@ use Rattle.trace_laws.proofs.RunEntries.{IsRunEntry, enters_run}
 use Rattle.trace_laws.proofs.RunFacts.{task_here, none_in_all, write_no_sense}
 use Rattle.trace_laws.proofs.RunFits.{blocks_named}
 use Rattle.trace_laws.proofs.RunParts.{RunsFit}
-use Rattle.trace_laws.proofs.Tests.{not_false}
 use Rattle.bus_base.proofs.Tests.{wrong'}
 
 -- ---- the row tells no event
@@ -175,7 +175,7 @@ arrives s k q policy own w is fit more arrival = go k.array refl
             subst (λ (b : Array). (arrival_by policy false (room_of b (Some u)) ≡ arrivals.Guest) ⊎ (arrival_by policy false (room_of b (Some u)) ≡ arrivals.AtOnce)) here
             (subst (λ (x : Option UnitState). (arrival_by policy false (room_of (array_of s k) x) ≡ arrivals.Guest) ⊎ (arrival_by policy false (room_of (array_of s k) x) ≡ arrivals.AtOnce)) (ap (λ (b : Array). unit_state_at b.units q.target q.unit) here ∙ z)
             (subst (λ (x : Bool). (arrival_by policy x (room_of (array_of s k) (unit_state_at (array_of s k).units q.target q.unit)) ≡ arrivals.Guest) ⊎ (arrival_by policy x (room_of (array_of s k) (unit_state_at (array_of s k).units q.target q.unit)) ≡ arrivals.AtOnce)) senses arrival)) in
-            let room = not_false (nat_lt (process_count u) u.depth) (none_full policy (record { full = not (nat_lt (process_count u) u.depth); idle = is_idle_unit a u }) arrived) in
+            let room = not-false (nat_lt (process_count u) u.depth) (none_full policy (record { full = not (nat_lt (process_count u) u.depth); idle = is_idle_unit a u }) arrived) in
             let stepped = enters_queue s a q u own z senses room in
             let event : queue_event s k.story.history q.id ≡ events.Accept q.id = ap (λ (x : Option Array). if is_some (array_step s (events.Accept q.id) x) then events.Accept q.id else events.Refuse q.id) (sym is ∙ e) ∙ ap (λ (x : Option Array). if is_some x then events.Accept q.id else events.Refuse q.id) stepped in
             let after : array_after_events s k.array (queue_event s k.story.history q.id ∷ []) ≡ Some (array_waited a u q) = (λ i. array_step s (event i) (e i)) ∙ stepped in

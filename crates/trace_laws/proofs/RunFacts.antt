@@ -65,7 +65,7 @@ use Rattle.trace_laws.proofs.Offers.{refuses_later}
 use Rattle.trace_laws.proofs.Plans.{is_directed, writes_of, writes_there}
 use Rattle.trace_laws.proofs.PointerLeavings.{MoreRuns}
 use Rattle.trace_laws.proofs.PointerEnds.{rst_over}
-use Rattle.trace_laws.proofs.PointerRows.{out_lines}
+use Rattle.bus_books.proofs.Reactions.{out_lines}
 use Rattle.trace_laws.proofs.PointerTurns.{TurnsBy}
 use Rattle.trace_laws.proofs.RunFits.{FitsRuns, fits_runs}
 use Rattle.trace_laws.proofs.RunParts.{RunsFit, start_is, more_cut, more_runs}

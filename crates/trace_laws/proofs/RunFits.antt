@@ -14,14 +14,13 @@ use Rattle.scenario.specs.Value.{ScenarioValue}
 use Rattle.scenario.specs.Writing.{Obeys}
 use Rattle.scenario.specs.declared.value.UnitDef.{UnitDef}
 use Rattle.disk_array.specs.ArrayHistory.{array_after, reply_in}
-use Rattle.disk_array.specs.Contents.{Contents}
-use Rattle.disk_array.specs.Execution.{execution, is_good_range, range_of}
+use Rattle.disk_array.specs.Execution.{execution}
 use Rattle.disk_array.specs.Order.{range_in, count_in}
 use Rattle.disk_array.specs.Processes.{Process, process_of}
 use Rattle.disk_array.specs.Seats.{contents_of, context_of, seat_of}
 use Rattle.disk_array.specs.Steps.{context_at}
 use Rattle.disk_array.specs.Units.{Array, UnitState, nexus_of, unit_state_at, starting_array, sense_of_nexus}
-use Rattle.disk_unit.specs.Disk.{blocks_written, blocks_written_by}
+use Rattle.disk_unit.specs.Disk.{blocks_written}
 use Rattle.bus_dialogue.specs.declared.exchange.Task.{Task}
 use Rattle.bus_due.specs.LastingState.{progress_in}
 use Rattle.bus_due.specs.RunState.{RunState, or_start, array_of, carried_here}
@@ -31,6 +30,7 @@ use Rattle.scsi_device.proofs.FitLines.{obeys_fits, command_fits}
 use Rattle.target_units.specs.Rooms.{IsOfLine, AreOfLines}
 use Rattle.target_units.proofs.Rooms.{by_line, good_range, lines_always, lines_start, sends}
 use Rattle.target_units.proofs.Starts.{start_settled}
+use Rattle.target_units.proofs.Sendings.{written_named}
 use Rattle.trace_laws.specs.DataPointers.{step_in, run_step}
 use Rattle.trace_laws.proofs.PointerEnds.{writer_plain}
 use Rattle.trace_laws.proofs.PolicyLines.{policies_most}
@@ -72,10 +72,6 @@ blocks_named (Ok (commands.Inquiry room)) e = absurd (true≢false (sym e))
 blocks_named (Ok commands.ReadCapacity) e = absurd (true≢false (sym e))
 blocks_named (Ok (commands.Read10 lba count)) e = absurd (true≢false (sym e))
 blocks_named (Ok (commands.Write10 lba count)) e = refl
-
-written_all : (c : Contents) (r : Result Command CdbFault) → is_write r ≡ true → ((x : Command) → r ≡ Ok x → is_good_range c.count (range_of x) ≡ true) → blocks_written_by c r ≡ count_in (range_in r)
-written_all c (Err fault) w g = absurd (true≢false (sym w))
-written_all c (Ok x) w g = (λ i. if g x refl i then (if w i then count_in (range_of x) else 0) else 0)
 
 pub context_same : (a : Array) (p : Process) → context_at a (nexus_of p) (unit_state_at a.units p.target p.unit) ≡ context_of (seat_of a p.target p.unit) p.initiator
 context_same a p = go (unit_state_at a.units p.target p.unit)
@@ -122,7 +118,7 @@ moved_all s a q o lines own w some = go ((reply_now a q).status == GOOD) refl
             none ∙ sym (zero_times (count_in (range_in (command_of q.cdb)))) ∙ ap (λ (y : Option UnitState). count_in (range_in (command_of q.cdb)) * size_of y) (sym e)
         at (Some u) e =
             let written : blocks_written u.contents q.cdb ≡ count_in (range_in (command_of q.cdb)) =
-            written_all u.contents (command_of q.cdb) w (λ x f. good_range (context_at a (nexus_of q) (Some u)) q.cdb q.sent x refl f ((λ i. (execution (context_at a (nexus_of q) (sym e i)) q.cdb q.sent).reply.status) ∙ good)) in
+            written_named u.contents (command_of q.cdb) w (λ x f. good_range (context_at a (nexus_of q) (Some u)) q.cdb q.sent x refl f ((λ i. (execution (context_at a (nexus_of q) (sym e i)) q.cdb q.sent).reply.status) ∙ good)) in
             all ∙ ap (λ (y : Option UnitState). blocks_written (contents_of y) q.cdb * (contents_of y).size) e
             ∙ ap (λ (y : ℕ). y * u.contents.size) written
             ∙ ap (λ (y : Option UnitState). count_in (range_in (command_of q.cdb)) * size_of y) (sym e)

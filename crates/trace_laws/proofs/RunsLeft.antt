@@ -61,11 +61,10 @@ use Rattle.trace_laws.proofs.Joint.{NextStood, Stood}
 use Rattle.trace_laws.proofs.ListedReplies.{listed_on, replies_to}
 use Rattle.trace_laws.proofs.RunFacts.{task_here}
 use Rattle.trace_laws.proofs.RunRows.{served_id}
-use Rattle.trace_laws.proofs.Tests.{second_false}
 use Rattle.trace_laws.proofs.WriteRows.{runs_kept}
 use Rattle.trace_laws.proofs.WriteTurns.{progress_apart, progress_ends, progress_turns, same_progress}
 use Rattle.trace_laws.proofs.Written.{left_by}
-use Rattle.std.proofs.lemmas.Bool.{ltb-true}
+use Rattle.std.proofs.lemmas.Bool.{ltb-true, or_parts}
 use Rattle.bus_base.proofs.Tests.{wrong, wrong'}
 use Rattle.bus_books.specs.Accounts.{policy_for}
 
@@ -79,7 +78,7 @@ unlisted s id o (x ∷ shown) b e none = go (λ c f z. unlisted s id o shown c f
     go earlier None f z = none_some b z
     go earlier (Some c) f z =
         earlier c f
-        (none_is (reply_in c.replies id) (second_false (replies_to x id) (is_some (reply_in c.replies id)) (sym (listed_on s c b x z id) ∙ ap (λ (y : Option Reply). is_some y) none)))
+        (none_is (reply_in c.replies id) ((or_parts (replies_to x id) (is_some (reply_in c.replies id)) (sym (listed_on s c b x z id) ∙ ap (λ (y : Option Reply). is_some y) none)).1))
 
 -- ---- a data run is done
 

@@ -46,6 +46,7 @@ use Rattle.trace_laws.specs.Offers.{OfferFacts, offer_now}
 use Rattle.trace_laws.specs.RunCounts.{pulses_here}
 use Rattle.trace_laws.specs.SentFailures.{SentFacts, SentTalk, WaitsFor}
 use Rattle.trace_laws.specs.TellFacts.{TellFacts}
+use Rattle.trace_laws.specs.DataPointers.{is_marked}
 use Rattle.trace_laws.specs.Tells.{code_if}
 use Rattle.trace_laws.proofs.Complaints.{complaints_next}
 use Rattle.trace_laws.proofs.ConnectionRows.{ConnectionRow, GoingRow, RowKindOf, begins_now, connection_row, goes_now, going_row, row_kind, stage_of_connection}
@@ -222,7 +223,7 @@ sent_next s p row o prompt was next told fails crossed complaints facts n after 
           link = w.link;
           link_is = w.link_is;
           item_is = item_known s p n w told con off (ap phase_of pl.bus ∙ phase);
-          undoes = undo_asks s p row was next told.undo;
+          undoes = undo_asks is_marked s p row was next told.undo;
           crossed = crossed n con off;
           moves = link;
           step = (in_row s p row n (data_in_lines (bus p) phase).2 (no_offer s p n pl told.offers con off started phase) link).step after;

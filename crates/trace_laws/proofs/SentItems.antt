@@ -2,6 +2,8 @@
 use Rattle.std.proofs.Common.{ℕ, ◌≡◌, ◌+◌, Bool, true, false, not, ◌&&◌, ◌||◌, ◌∙◌, List, [], ◌∷◌, ◌++◌, Option, Some, None, refl, sym, ap, subst}
 use Rattle.std.specs.Prelude.{if◌then◌else◌, is_some, is_none, ◌==◌}
 use Rattle.std.specs.List.{list_any}
+use Rattle.std.proofs.lemmas.Bool.{or_parts}
+use Rattle.std.proofs.lemmas.Option.{same_Some}
 use Rattle.bus_base.specs.declared.ProcId.{ProcId}
 use Rattle.bus_base.specs.declared.Event.{Event}
 use Rattle.bus_base.specs.declared.Event.TheVariants as events
@@ -27,12 +29,10 @@ use Rattle.bus_story.specs.Links.{Link, link_of, last_out, last_in, is_of_nexus,
 use Rattle.bus_story.specs.HistoryEvents.{carried_if}
 use Rattle.bus_story.specs.Story.{Story, Ending, by_abort, by_reset, is_aborted, is_sense_stopped, marked_refused, marked_shown, story_with_over, story_with_end, with_check, story_with_ends, story_after_event, story_after_events}
 use Rattle.bus_story.specs.TraceHistory.{aim_of, is_arbitration_entry, story_with_aim, story_without_answer, story_with_try, story_after_calling_by, story_after_calling, story_on_free_bus, story_with_restored, story_with_sent, story_after_connection, story_with_carried, is_parity_error, story_after_out, carried_after_message_if, story_after_message, story_after_in, carried_after_byte_if, story_after_byte, carried_after_fault_if, story_after_fault, story_in_connection, story_on_bus}
-use Rattle.bus_books.proofs.CarriedRows.{or_link}
 use Rattle.bus_books.proofs.Lookups.{self_id, id_is, carried_id}
 use Rattle.trace_laws.proofs.PointerStorySteps.{fault_id, message_id}
 use Rattle.trace_laws.proofs.RowEvents.{IsOf, AllOf, carried_of_item}
 use Rattle.trace_laws.specs.ItemFacts.{LinkSent, LinksSent, SentOnly}
-use Rattle.trace_laws.proofs.Tests.{second_false}
 use Rattle.bus_base.proofs.Tests.{wrong, and_first, and_second, or_true, eq_self}
 use Rattle.bus_story.proofs.StorySteps.{ends_keep, check_keeps}
 
@@ -49,7 +49,7 @@ pub own_has : (i : Item) (items : List Item) → has_item (i ∷ items) i ≡ tr
 own_has i items = ap (λ (q : Bool). q || has_item items i) (self_item i)
 
 pub less_has : (i j : Item) (items : List Item) → has_item (i ∷ items) j ≡ false → has_item items j ≡ false
-less_has i j items e = second_false (same_item i j) (has_item items j) e
+less_has i j items e = (or_parts (same_item i j) (has_item items j) e).1
 
 -- ---- what names find was sent
 
@@ -90,7 +90,7 @@ no_links sent l e = absurd (none_link l e)
     none_link x z = cc
 
 one_link : (sent : List Item) (l : Link) → LinkSent sent l → LinksSent sent (Some l)
-one_link sent l h m e = subst (λ (x : Link). LinkSent sent x) (ap (or_link l) e) h
+one_link sent l h m e = subst (λ (x : Link). LinkSent sent x) (same_Some l m e) h
 
 link_here : (b : Story) (l : Link) → b.link ≡ Some l → SentOnly b → LinkSent b.sent.sent l
 link_here b l e h = h.link l e

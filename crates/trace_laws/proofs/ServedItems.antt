@@ -2,6 +2,7 @@
 use Rattle.std.proofs.Common.{ℕ, ◌≡◌, ◌<◌, Bool, true, false, not, ◌&&◌, ◌∙◌, List, [], ◌∷◌, Option, Some, None, refl, sym, ap}
 use Rattle.std.specs.Prelude.{if◌then◌else◌, is_some}
 use Rattle.std.proofs.lemmas.Bool.{and_parts}
+use Rattle.std.proofs.lemmas.Option.{same_Some}
 use Rattle.bus_base.specs.declared.AbortKind.{AbortKind}
 use Rattle.bus_trace.specs.LineSet.{LineSet, union}
 use Rattle.bus_trace.proofs.Sets.{same_set-eq}
@@ -90,10 +91,6 @@ called_target s p t n was e z = by_call (call p) refl e
 
 -- ---- the first row of a connection
 
-abbrev or_number : ℕ → Option ℕ → ℕ
-or_number x None = x
-or_number x (Some y) = y
-
 served_begins : (s : ScenarioValue) (p : List Row) (row : Row) (n : Connection) → Obeys s → IsPrompt s (row ∷ p) → Stood s p → NextStood s p row → connection p ≡ None → connection (row ∷ p) ≡ Some n → (bus (row ∷ p)).rst ≡ false → n.reselected ≡ (run_state s (row ∷ p)).exchange.begun → IsServed s (run_state s (row ∷ p)) n
 served_begins s p row n o prompt was nx alone after calm begun = go n.reselected refl
   where
@@ -140,7 +137,7 @@ served_begins s p row n o prompt was nx alone after calm begun = go n.reselected
     aborts : (m : ℕ) (a : AbortDef) → abort_line_at s.aborts m ≡ Some a → aim_of k.story.aims n.initiator ≡ Some (abort m) → n.reselected ≡ false → a.target ≡ n.target
     aborts m a line aim re =
         let named = called_target s p row.time n (was.called alone (before (bus p).rst refl)) (made_is p row n alone after).made re in
-        ap (or_number n.target) (ap abort_target (sym line) ∙ ap (target_of s) (sym aim) ∙ named)
+        same_Some a.target n.target (ap abort_target (sym line) ∙ ap (target_of s) (sym aim) ∙ named)
 
     by_item : (item : Item) → aim_of k.story.aims n.initiator ≡ Some item → n.reselected ≡ false → IsItem s n.initiator item → IsServed s j n
     by_item _ aim re (is_process id p e own) = of_process id p (served ∙ ap (λ (q : Bool). if q then item_if (ready_of s k n.target) else aim_of k.story.aims n.initiator) re ∙ aim) e

@@ -1,7 +1,6 @@
 -- The numbers that the lines of a scenario name in messages are bytes, where it obeys the rules of its text.
-use Rattle.std.proofs.Common.{ℕ, ◌≡◌, ◌<◌, List, [], ◌∷◌, Some, Ok, sym, ap, subst, ◌∙◌, arith}
+use Rattle.std.proofs.Common.{ℕ, ◌≡◌, ◌<◌, Some, Ok, sym, ap, subst, ◌∙◌, arith}
 use Rattle.std.specs.Prelude.{◌==◌, ◌||◌, not, nat_le}
-use Rattle.std.specs.List.{AllByRecursion}
 use Rattle.bus_base.specs.declared.AbortKind.{AbortKind}
 use Rattle.bus_base.specs.declared.AbortKind.TheVariants as kills
 use Rattle.scenario.specs.declared.bounds.TheConstants.{LATENCY_LIMIT, OPEN_LIMIT, RETRY_LIMIT, HOST_OFFSET_LIMIT, TARGET_OFFSET_LIMIT, SEEK_LIMIT, LAG_LIMIT, FACTOR_LIMIT, LEAST_FACTOR, TAG_LIMIT}
@@ -11,16 +10,15 @@ use Rattle.scenario.specs.declared.value.HostDef.{HostDef}
 use Rattle.scenario.specs.declared.value.Tag.{Tag}
 use Rattle.scenario.specs.declared.value.Tag.TheVariants as tags
 use Rattle.scenario.specs.declared.value.TargetDef.{TargetDef}
-use Rattle.scenario.specs.Forms.{Said, CmdSaid, scsi_line, initiator_line, target_line, unit_line, fill_line, cmd_line, abort_line, reset_line, fault_line, end_line}
+use Rattle.scenario.specs.Forms.{Said, CmdSaid, initiator_line, target_line, abort_line}
 use Rattle.scenario.specs.Lookups.{has_device}
-use Rattle.scenario.specs.Needs.{need_of, sent_of}
-use Rattle.scenario.specs.Reading.{Progress, guard, within, in_8, time_in, period_in, policy_in, tag_in, what_in, is_block, are_ends, is_payload, has_room, has_abort_room, host_def, target_def, unit_def, fill_def, cmd_def, full_cmd_def, abort_def, reset_def, fault_def, added, said_after, fits_version, in_order, rank, kind_of, nothing}
+use Rattle.scenario.specs.Reading.{guard, within, in_8, time_in, period_in, policy_in, tag_in, what_in, is_block, are_ends, has_abort_room, host_def, target_def, cmd_def, abort_def}
 use Rattle.scenario.specs.Value.{ScenarioValue}
-use Rattle.scenario.specs.Writing.{saids, built, said_tag, said_what, Obeys}
+use Rattle.scenario.specs.Writing.{said_tag, said_what, Obeys}
 use Rattle.scenario.proofs.Steps.{bind_ok, ok_is, within_ok, read_tag, read_what}
 use Rattle.text_words.specs.Words.{Number}
-use Rattle.scsi_device.proofs.Finds.{all_more}
 use Rattle.scsi_device.proofs.LineReads.{host_by, target_by, abort_by}
+use Rattle.trace_laws.proofs.EachLine.{IsOfAll, each_line}
 
 abbrev pub IsSmall : ℕ → ℕ → Type 0
 IsSmall period offset = (period < 256) × (offset < 256)
@@ -49,11 +47,8 @@ IsSmallCommand c = (c.unit < 8) × IsSmallTag c.tag
 abbrev pub IsSmallAbort : AbortDef → Type 0
 IsSmallAbort a = (a.unit < 8) × IsSmallKind a.what
 
-pub record HasSmallLines (s : ScenarioValue) : Type 0 where
-  pub hosts : AllByRecursion IsSmallHost s.hosts
-  pub targets : AllByRecursion IsSmallTarget s.targets
-  pub commands : AllByRecursion IsSmallCommand s.commands
-  pub aborts : AllByRecursion IsSmallAbort s.aborts
+abbrev pub HasSmallLines : ScenarioValue → Type 0
+HasSmallLines s = IsOfAll IsSmallHost IsSmallTarget IsSmallCommand IsSmallAbort s
 
 -- ---- numbers
 
@@ -126,14 +121,6 @@ command_small s f c e =
     let b7 = bind_ok (guard 6 (are_ends s b1.0 b2.0)) _ c b6.2 in
     subst IsSmallCommand (ok_is _ c b7.2) (in_eight f.unit b3.0 b3.1, tag_below b5.0 (ap tag_in (sym (read_tag f.tag b5.0 b5.1).same) ∙ b5.1))
 
-full_command_small : (s : ScenarioValue) (needs : ℕ) (f : CmdSaid) (c : CmdDef) → full_cmd_def s needs f ≡ Ok c → IsSmallCommand c
-unfolding full_cmd_def
-full_command_small s needs f c e =
-    let b = bind_ok (cmd_def s f) _ c e in
-    let u = bind_ok (guard 7 (is_payload (sent_of s b.0) (b.0).payload)) _ c b.2 in
-    let v = bind_ok (guard 8 (has_room s needs (need_of s b.0))) _ c u.2 in
-    subst IsSmallCommand (ok_is b.0 c v.2) (command_small s f b.0 b.1)
-
 abort_small : (s : ScenarioValue) (x : Said) (a : AbortDef) → abort_by s x ≡ Ok a → IsSmallAbort a
 unfolding abort_def
 abort_small s (abort_line f) a e =
@@ -149,44 +136,5 @@ abort_small s _ a e = absurd cc
 
 -- ---- all lines
 
-abbrev AreSmallIn : Progress → Type 0
-AreSmallIn d = HasSmallLines d.scenario
-
-small_added : (d z : Progress) (x : Said) → added d x ≡ Ok z → AreSmallIn d → AreSmallIn z
-unfolding added need_of sent_of
-small_added d z (scsi_line v) e a = subst AreSmallIn (ok_is _ z e) (record { hosts = a.hosts; targets = a.targets; commands = a.commands; aborts = a.aborts })
-small_added d z (initiator_line f) e a =
-    let b = bind_ok (host_def d.scenario f) _ z e in
-    subst AreSmallIn (ok_is _ z b.2) (record { hosts = all_more IsSmallHost d.scenario.hosts b.0 a.hosts (host_small d.scenario (initiator_line f) b.0 b.1); targets = a.targets; commands = a.commands; aborts = a.aborts })
-small_added d z (target_line f) e a =
-    let b = bind_ok (target_def d.scenario f) _ z e in
-    subst AreSmallIn (ok_is _ z b.2) (record { hosts = a.hosts; targets = all_more IsSmallTarget d.scenario.targets b.0 a.targets (target_small d.scenario (target_line f) b.0 b.1); commands = a.commands; aborts = a.aborts })
-small_added d z (unit_line f) e a = let b = bind_ok (unit_def d.scenario f) _ z e in subst AreSmallIn (ok_is _ z b.2) (record { hosts = a.hosts; targets = a.targets; commands = a.commands; aborts = a.aborts })
-small_added d z (fill_line f) e a = let b = bind_ok (fill_def d.scenario f) _ z e in subst AreSmallIn (ok_is _ z b.2) (record { hosts = a.hosts; targets = a.targets; commands = a.commands; aborts = a.aborts })
-small_added d z (cmd_line f) e a =
-    let b = bind_ok (full_cmd_def d.scenario d.needs f) _ z e in
-    subst AreSmallIn (ok_is _ z b.2) (record { hosts = a.hosts; targets = a.targets; commands = all_more IsSmallCommand d.scenario.commands b.0 a.commands (full_command_small d.scenario d.needs f b.0 b.1); aborts = a.aborts })
-small_added d z (abort_line f) e a =
-    let b = bind_ok (abort_def d.scenario f) _ z e in
-    subst AreSmallIn (ok_is _ z b.2) (record { hosts = a.hosts; targets = a.targets; commands = a.commands; aborts = all_more IsSmallAbort d.scenario.aborts b.0 a.aborts (abort_small d.scenario (abort_line f) b.0 b.1) })
-small_added d z (reset_line f) e a = let b = bind_ok (reset_def d.scenario f) _ z e in subst AreSmallIn (ok_is _ z b.2) (record { hosts = a.hosts; targets = a.targets; commands = a.commands; aborts = a.aborts })
-small_added d z (fault_line f) e a = let b = bind_ok (fault_def d.scenario f) _ z e in subst AreSmallIn (ok_is _ z b.2) (record { hosts = a.hosts; targets = a.targets; commands = a.commands; aborts = a.aborts })
-small_added d z end_line e a = subst AreSmallIn (ok_is d z e) a
-
-small_after : (d z : Progress) (x : Said) → said_after d x ≡ Ok z → AreSmallIn d → AreSmallIn z
-unfolding said_after
-small_after d z x e a =
-    let v = bind_ok (guard 2 (fits_version d.scenario.version x)) _ z e in
-    let o = bind_ok (guard 3 (in_order (rank d.last) (rank (kind_of x)))) _ z v.2 in
-    let b = bind_ok (added d x) _ z o.2 in
-    let w = small_added d b.0 x b.1 a in
-    subst AreSmallIn (ok_is _ z b.2) (record { hosts = w.hosts; targets = w.targets; commands = w.commands; aborts = w.aborts })
-
-small_built : (d z : Progress) (xs : List Said) → built d xs ≡ Ok z → AreSmallIn d → AreSmallIn z
-small_built d z [] e a = subst AreSmallIn (ok_is d z e) a
-small_built d z (x ∷ xs) e a = let b = bind_ok (said_after d x) _ z e in small_built b.0 z xs b.2 (small_after d b.0 x b.1 a)
-
 pub small_lines : (s : ScenarioValue) → Obeys s → HasSmallLines s
-small_lines s o =
-    let b = bind_ok (built nothing (saids s)) _ s o.lawful in
-    subst HasSmallLines (ok_is b.0.scenario s b.2) (small_built nothing b.0 (saids s) b.1 (record { hosts = tt; targets = tt; commands = tt; aborts = tt }))
+small_lines s o = each_line IsSmallHost IsSmallTarget IsSmallCommand IsSmallAbort (record { host = host_small; target = target_small; command = command_small; abort = abort_small }) s o

@@ -674,7 +674,6 @@ talks_going s p row n w g after calm m id em ej bj = go of.row_is.kind
           turns = ep;
           silent = er;
           link_is = knows.link_is;
-          undoes = undo_asks s p row w.was w.next w.facts.undo;
           known = λ z. ap (λ (x : Change). x.after.cd) g.going.change_is ∙ (link_phase s (row ∷ p) n (stage_of_connection s (row ∷ p) n w.next.stood after calm) (ap (λ (x : Change). x.after.msg) (sym g.going.change_is) ∙ z)).0;
           idle = λ b. ap is_command pl.bus ∙ unbegun_lines s p n g.row_is.stage (sym pl.begun ∙ b);
           whereto = λ b. g.going.lines.whereto (ap changes_phase g.going.lines_are ∙ ep) (sym pl.begun ∙ b) ∙ ap (λ (x : Change). Some (phase_of x.after)) g.going.lines_are;
@@ -716,7 +715,7 @@ pub status_next : (s : ScenarioValue) (p : List Row) (row : Row) → Obeys s →
 status_next s p row o prompt was next facts before after fails h =
     let w : Here s p row = record { obeys = o; prompt = prompt; was = was; next = next; facts = facts; before = before; after = after; fails = fails; statuses = h } in
     record {
-      shown = replies_next s (run_state s p) row (some_array s (row ∷ p) after) (undo_asks s p row was next facts.undo) h.shown;
+      shown = replies_next s (run_state s p) row (some_array s (row ∷ p) after) (undo_asks is_marked s p row was next facts.undo) h.shown;
       areas = areas_on s p row w;
       offered = λ n e calm. offered_on s p row w n e calm;
       talks = λ n e calm. talks_on s p row w n e calm;

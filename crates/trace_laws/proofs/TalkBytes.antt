@@ -36,13 +36,13 @@ use Rattle.bus_books.specs.Giving.{AreGiven, OnMessage, OnMessages}
 use Rattle.bus_books.specs.Listening.{half_after}
 use Rattle.bus_books.specs.Rows.{IsRowIn, reading_in}
 use Rattle.bus_books.specs.Speaking.{IsSpeaking}
-use Rattle.bus_books.proofs.Gives.{byte_messages, answered_same, in_same}
+use Rattle.bus_books.proofs.Gives.{byte_messages, answered_same, in_same, not_both}
 use Rattle.bus_books.proofs.Hearable.{heard_next}
 use Rattle.bus_books.proofs.InConnection.{InConnection, in_connection, same_phase_is}
 use Rattle.trace_laws.proofs.Impossible.{none_some}
 use Rattle.trace_laws.proofs.OutMessages.{is_abort_out, NoAbort, out_is_no_abort, last_is_whole}
 use Rattle.trace_laws.proofs.RowItems.{over_after, LinkAfter, says, hears, stays, heard_link, link_crossed}
-use Rattle.trace_laws.proofs.TalkSteps.{not_both, CrossesIn, incomplete, in_part, in_whole, out_part, out_whole, other_crosses}
+use Rattle.trace_laws.proofs.TalkSteps.{CrossesIn, incomplete, in_part, in_whole, out_part, out_whole, other_crosses}
 use Rattle.trace_laws.proofs.TalkRows.{TalkRow, a_request}
 use Rattle.trace_laws.specs.ItemTalks.{is_complete_in, is_disconnect_in, frees_bus, plans_well, is_sense_item, Talk, talk_of, IsNameOf, IsUnnamed, TalksBy, Talks}
 use Rattle.std.proofs.lemmas.Bool.{not-true, and_parts}

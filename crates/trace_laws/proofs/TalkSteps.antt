@@ -20,6 +20,7 @@ use Rattle.bus_dialogue.specs.declared.exchange.Messages.{Messages}
 use Rattle.bus_dialogue.specs.declared.exchange.Next.{Next}
 use Rattle.bus_dialogue.specs.Exchange.{bytes_of_messages}
 use Rattle.bus_books.specs.Giving.{OnMessages}
+use Rattle.bus_books.proofs.Gives.{not_both}
 use Rattle.trace_laws.proofs.NamedSteps.{out_last}
 use Rattle.trace_laws.proofs.OutMessages.{is_abort_out}
 use Rattle.trace_laws.proofs.RowItems.{heard_link}
@@ -36,15 +37,6 @@ pub record Alternates (b a : LineSet) : Type 0 where
   pub ends_asking : falls b.req a.req ≡ true → b.ack ≡ true
   pub answers : rises b.ack a.ack ≡ true → b.req ≡ true
   pub ends_answer : falls b.ack a.ack ≡ true → not b.req ≡ true
-
-pub not_both : {A : Type 0} (l : LineSet) → is_message_in l ≡ true → is_message_out l ≡ true → A
-not_both {A} l e f = go l.msg l.cd l.io e f
-  where
-    go : (m c i : Bool) → (m && c && i) ≡ true → (m && c && not i) ≡ true → A
-    go true true true z w = wrong' w
-    go true true false z w = wrong' z
-    go true false i z w = wrong' z
-    go false c i z w = wrong' z
 
 none_awaits : (r a r' a' : Bool) → (r && not a) ≡ false → rises r r' ≡ false → (falls a a' ≡ true → not r ≡ true) → (r' && not a') ≡ false
 none_awaits r a false a' e q f = refl

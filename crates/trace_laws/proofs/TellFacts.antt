@@ -41,6 +41,7 @@ use Rattle.bus_books.proofs.InConnection.{reading_is}
 use Rattle.trace_laws.specs.LastTalks.{LastBy}
 use Rattle.trace_laws.specs.Named.{known, said, refused, Named}
 use Rattle.trace_laws.specs.TellFacts.{TellFacts}
+use Rattle.trace_laws.specs.DataPointers.{is_marked}
 use Rattle.trace_laws.specs.Tells.{LastAsked, LastIn, IsServed, of_process, of_abort, IsLeaving, TellsAsLeft, FailsAsLeft}
 use Rattle.trace_laws.proofs.ConnectionRows.{ConnectionRow, connection_row}
 use Rattle.trace_laws.proofs.Crossings.{RowFacts, stays, ends_here}
@@ -59,6 +60,7 @@ use Rattle.trace_laws.proofs.ServedItems.{served_start, served_next}
 use Rattle.trace_laws.proofs.TellEnds.{none_heard}
 use Rattle.trace_laws.proofs.TellRows.{is_heard}
 use Rattle.trace_laws.proofs.UndoneFacts.{undo_start, undo_next, in_of}
+use Rattle.trace_laws.proofs.UndoneRows.{kept_answers}
 use Rattle.bus_base.proofs.Tests.{wrong, wrong'}
 use Rattle.trace_laws.specs.ItemTalks.{frees_bus}
 
@@ -216,7 +218,7 @@ left_tells s p row o prompt was facts fails n w = record { served = facts.served
 -- ---- all rows
 
 pub tell_start : (s : ScenarioValue) → TellFacts s []
-tell_start s = record { items = items_start s; offers = offers_start s; named = named_start s; undo = undo_start s; served = served_start s; last = last_start s }
+tell_start s = record { items = items_start s; offers = offers_start s; named = named_start s; undo = undo_start is_marked s; served = served_start s; last = last_start s }
 
 pub tell_next : (s : ScenarioValue) (p : List Row) (row : Row) → Obeys s → IsPrompt s (row ∷ p) → Stood s p → NextStood s p row → TellFacts s p → TellFacts s (row ∷ p)
 tell_next s p row o prompt was next h =
@@ -225,7 +227,7 @@ tell_next s p row o prompt was next h =
       items = items_next s p row o prompt was next h.items;
       offers = offers_next s p row o prompt was next h.offers;
       named = named_next s p row o prompt was next h.offers (λ n con after re. items_found s p n h.items) h.named;
-      undo = undo_next s p row o prompt was next h.undo;
+      undo = undo_next is_marked kept_answers s p row o prompt was next h.undo;
       served = served;
       last = last_next s p row o prompt was next h.served served h.last;
     }

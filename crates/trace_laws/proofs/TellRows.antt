@@ -55,9 +55,6 @@ use Rattle.bus_base.proofs.Tests.{wrong, or_true, or_false, or_other}
 
 -- ---- the task of a process
 
-abbrev pub task_for : ScenarioValue → RunState → Process → Option Task
-task_for s k p = task_if s k (Some p)
-
 record HasTask (s : ScenarioValue) (k : RunState) : Type 0 where
   task : Task
   task_is : task_of s k ≡ Some task

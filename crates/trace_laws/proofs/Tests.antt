@@ -11,10 +11,6 @@ pub not_not : (q : Bool) → not (not q) ≡ q
 not_not true = refl
 not_not false = refl
 
-pub not_false : (q : Bool) → not q ≡ false → q ≡ true
-not_false true e = refl
-not_false false e = wrong e
-
 pub none_both : (q : Bool) → (let o : Option ℕ = None in if q then o else o) ≡ None
 none_both true = refl
 none_both false = refl
@@ -25,10 +21,6 @@ pub or_first : (a b : Bool) → (a || b) ≡ true → b ≡ false → a ≡ true
 or_first true b z e = refl
 or_first false true z e = wrong e
 or_first false false z e = wrong' z
-
-pub second_false : (a b : Bool) → (a || b) ≡ false → b ≡ false
-second_false true b e = wrong e
-second_false false b e = e
 
 pub not_first : (a b : Bool) → (not a && b) ≡ true → a ≡ false
 not_first true b e = wrong' e
@@ -53,6 +45,9 @@ all_four a b c d ea eb ec ed = λ i. ea i && eb i && ec i && not (ed i)
 
 pub plus_one : (a b : ℕ) → a + suc b ≡ a + 1 + b
 plus_one a b = omega arith
+
+pub zero_below : (n : ℕ) → n < 1 → n ≡ 0
+zero_below n e = omega arith
 
 pub some_count : (n : ℕ) → (n == 0) ≡ false → 1 ≤ n
 some_count n e = grind (arith, nat_tests)

@@ -1,6 +1,7 @@
--- What MESSAGE PARITY ERROR brings back has the answer that the process has, after any rows of a prompt trace.
+-- What MESSAGE PARITY ERROR brings back agrees with what the process has: where it may come, and as a phase stays (6.6.13).
 use Rattle.std.proofs.Common.{inl, inr, ℕ, ◌≡◌, ◌⊎◌, Bool, true, false, not, ◌&&◌, ◌%◌, ◌∙◌, [], ◌∷◌, ◌++◌, Option, Some, None, refl, sym, ap, subst}
 use Rattle.std.specs.Prelude.{if◌then◌else◌, is_some}
+use Rattle.bus_trace.specs.LineSet.{LineSet}
 use Rattle.bus_trace.specs.declared.Row.{Row}
 use Rattle.bus_trace.specs.declared.changes.Change.{Change}
 use Rattle.bus_trace.specs.declared.connection.Connection.{Connection}
@@ -11,6 +12,7 @@ use Rattle.msg_grammar.specs.declared.message.MsgOut.{MsgOut}
 use Rattle.msg_grammar.specs.Messages.{got_out}
 use Rattle.scenario.specs.Value.{ScenarioValue}
 use Rattle.bus_story.specs.BusState.{RowReading, row_reading, whole_out, message_out}
+use Rattle.bus_story.specs.CarriedBytes.{CarriedBytes}
 use Rattle.bus_story.specs.Links.{Link}
 use Rattle.bus_dialogue.specs.declared.exchange.Cause.{Cause}
 use Rattle.bus_dialogue.specs.declared.exchange.Cause.TheVariants as causes
@@ -23,23 +25,24 @@ use Rattle.bus_dialogue.specs.NextPhase.{phase_of}
 use Rattle.bus_dialogue.specs.Words.{detected_error}
 use Rattle.bus_due.specs.RunState.{RunState, bus_of, carried_here}
 use Rattle.bus_due.specs.RunSteps.{run_state_after}
+use Rattle.scsi_device.specs.Heard.{is_message}
 use Rattle.bus_books.specs.Rows.{IsRowIn}
 use Rattle.bus_books.specs.Speaking.{AreWordsFor, opens, refuses, answers, rejects_data, rejects_status, Speaks}
 use Rattle.bus_books.specs.Traces.{GoesOn, RowOf, apart as row_apart, begins, goes_on, ends, under_reset, Books}
 use Rattle.bus_books.proofs.InConnection.{InConnection, in_connection, same_phase_is, reading_is}
-use Rattle.trace_laws.specs.Tells.{UndoesAnswers, UndoFits, UndoAsked, UndoBy, UndoBooks, is_short}
+use Rattle.trace_laws.specs.Tells.{UndoesSame, UndoFits, UndoAsked, UndoBy, UndoBooks, is_short}
 use Rattle.trace_laws.proofs.CommandCounts.{is_refusal, error_said}
 use Rattle.trace_laws.proofs.Impossible.{none_some}
 use Rattle.trace_laws.proofs.PhaseLines.{out_phase}
-use Rattle.trace_laws.proofs.UndoneRows.{SameAnswersIn, answers_stay, fits_on}
+use Rattle.trace_laws.proofs.UndoneRows.{IsKeptInside, fits_on}
 use Rattle.bus_base.proofs.Tests.{wrong, wrong'}
 use Rattle.trace_laws.specs.Offers.{is_detected}
-use Rattle.trace_laws.specs.DataPointers.{is_marked}
 
 -- ---- in which phases MESSAGE PARITY ERROR may come
 
 -- After data and status it is INITIATOR DETECTED ERROR that is said.
-pub detects : (s : ScenarioValue) (k : RunState) (n : Connection) (c : Change) → Speaks s k n → k.exchange.begun ≡ true → bus_of k ≡ c.before → is_message_out c.before ≡ true → c.after.data_bits % 256 ≡ next_word k.exchange.speech → is_detected k.exchange.plan.cause ≡ true → is_refusal (message_out k.story.bus_state.dialogue c true) ≡ false
+pub detects : (s : ScenarioValue) (k : RunState) (n : Connection) (c : Change) → Speaks s k n → k.exchange.begun ≡ true → bus_of k ≡ c.before → is_message_out c.before ≡ true
+    → c.after.data_bits % 256 ≡ next_word k.exchange.speech → is_detected k.exchange.plan.cause ≡ true → is_refusal (message_out k.story.bus_state.dialogue c true) ≡ false
 detects s k n c speaks b on out byte e =
     let w = speaks.in_message_out b (ap is_message_out on ∙ out) in
     (λ i. is_refusal (if out i then whole_out (got_out (fresh_bytes k.story.bus_state.dialogue ++ c.after.data_bits % 256 ∷ [])) else None))
@@ -58,8 +61,9 @@ asked_fits fits causes.InMessage e h = h
 asked_fits fits causes.InData e h = wrong e
 asked_fits fits causes.InStatus e h = wrong e
 
-crosses_undoes : (s : ScenarioValue) (k : RunState) (row : Row) (n : Connection) (c : Change) → GoesOn s k row n c → Speaks s k n → is_some (receiver_in n c) ≡ true → UndoBooks k → UndoesAnswers k row
-crosses_undoes s k row n c g speaks there h l m u el eo parity eu = go (is_message_out c.before) refl
+crosses_undoes : {A : Type 0} (what : CarriedBytes → A) (s : ScenarioValue) (k : RunState) (row : Row) (n : Connection) (c : Change) → GoesOn s k row n c → Speaks s k n
+    → is_some (receiver_in n c) ≡ true → UndoBooks what k → UndoesSame what k row
+crosses_undoes what s k row n c g speaks there h l m u el eo parity eu = go (is_message_out c.before) refl
   where
     out : message_out k.story.bus_state.dialogue c true ≡ Some m
     out = ap (λ (d : RowReading). d.out) (sym (reading_is k row n c true g.row_is there)) ∙ eo
@@ -67,29 +71,30 @@ crosses_undoes s k row n c g speaks there h l m u el eo parity eu = go (is_messa
     begun : k.exchange.begun ≡ true
     begun = g.begun (ap (λ (d : RowReading). d.crosses) (reading_is k row n c true g.row_is there))
 
-    go : (q : Bool) → is_message_out c.before ≡ q → is_marked u ≡ is_marked (carried_here k u.id)
+    go : (q : Bool) → is_message_out c.before ≡ q → what u ≡ what (carried_here k u.id)
     go false e = none_some m (sym (λ i. if e i then whole_out (got_out (fresh_bytes k.story.bus_state.dialogue ++ c.after.data_bits % 256 ∷ [])) else None) ∙ out)
     go true e =
-        let here : UndoAsked (UndoFits k) k.exchange.plan.cause = subst (λ (p : Phase). UndoBy (UndoFits k) k.exchange.plan k.handshakes.requests p) (ap phase_of g.row_is.bus_is ∙ out_phase c.before e) (h.begun begun) in
+        let here : UndoAsked (UndoFits what k) k.exchange.plan.cause = subst (λ (p : Phase). UndoBy (UndoFits what k) k.exchange.plan k.handshakes.requests p) (ap phase_of g.row_is.bus_is ∙ out_phase c.before e) (h.begun begun) in
         by (is_detected k.exchange.plan.cause) refl here
       where
-        by : (q : Bool) → is_detected k.exchange.plan.cause ≡ q → UndoAsked (UndoFits k) k.exchange.plan.cause → is_marked u ≡ is_marked (carried_here k u.id)
-        by false z w = asked_fits (UndoFits k) k.exchange.plan.cause z w l u el eu
+        by : (q : Bool) → is_detected k.exchange.plan.cause ≡ q → UndoAsked (UndoFits what k) k.exchange.plan.cause → what u ≡ what (carried_here k u.id)
+        by false z w = asked_fits (UndoFits what k) k.exchange.plan.cause z w l u el eu
         by true z w = wrong (sym parity ∙ ap is_refusal (sym out) ∙ detects s k n c speaks begun g.row_is.bus_is e (g.says e there).0 z)
 
-silent_undoes : (k : RunState) (row : Row) → (row_reading k.story.bus_state row).crosses ≡ false → UndoesAnswers k row
-silent_undoes k row e l m u el eo parity eu = none_some m (sym (ap (λ (q : Bool). message_out k.story.bus_state.dialogue (row_reading k.story.bus_state row).change q) e) ∙ eo)
+silent_undoes : {A : Type 0} (what : CarriedBytes → A) (k : RunState) (row : Row) → (row_reading k.story.bus_state row).crosses ≡ false → UndoesSame what k row
+silent_undoes what k row e l m u el eo parity eu = none_some m (sym (ap (λ (q : Bool). message_out k.story.bus_state.dialogue (row_reading k.story.bus_state row).change q) e) ∙ eo)
 
-pub row_undoes : (s : ScenarioValue) (k : RunState) (row : Row) → Books s k → ((n : Connection) → k.story.bus_state.connection ≡ Some n → (bus_of k).rst ≡ false → UndoBooks k) → RowOf s k row → UndoesAnswers k row
-row_undoes s k row books h (row_apart con next) = silent_undoes k row (ap (λ (o : Option Connection). is_some (receiver_of o (row_reading k.story.bus_state row).change)) con)
-row_undoes s k row books h (begins n b) = silent_undoes k row (ap (λ (o : Option Connection). is_some (receiver_of o (row_reading k.story.bus_state row).change)) b.first.connection_is)
-row_undoes s k row books h (ends n e) = silent_undoes k row e.carries_none
-row_undoes s k row books h (under_reset on none) = silent_undoes k row none
-row_undoes s k row books h (goes_on n c g) = go (is_some (receiver_in n c)) refl
+pub row_undoes : {A : Type 0} (what : CarriedBytes → A) (s : ScenarioValue) (k : RunState) (row : Row) → Books s k
+    → ((n : Connection) → k.story.bus_state.connection ≡ Some n → (bus_of k).rst ≡ false → UndoBooks what k) → RowOf s k row → UndoesSame what k row
+row_undoes what s k row books h (row_apart con next) = silent_undoes what k row (ap (λ (o : Option Connection). is_some (receiver_of o (row_reading k.story.bus_state row).change)) con)
+row_undoes what s k row books h (begins n b) = silent_undoes what k row (ap (λ (o : Option Connection). is_some (receiver_of o (row_reading k.story.bus_state row).change)) b.first.connection_is)
+row_undoes what s k row books h (ends n e) = silent_undoes what k row e.carries_none
+row_undoes what s k row books h (under_reset on none) = silent_undoes what k row none
+row_undoes what s k row books h (goes_on n c g) = go (is_some (receiver_in n c)) refl
   where
-    go : (q : Bool) → is_some (receiver_in n c) ≡ q → UndoesAnswers k row
-    go true e = crosses_undoes s k row n c g (books.speaks n g.row_is.connection_is g.calm) e (h n g.row_is.connection_is g.calm)
-    go false e = silent_undoes k row (ap (λ (d : RowReading). d.crosses) (reading_is k row n c false g.row_is e))
+    go : (q : Bool) → is_some (receiver_in n c) ≡ q → UndoesSame what k row
+    go true e = crosses_undoes what s k row n c g (books.speaks n g.row_is.connection_is g.calm) e (h n g.row_is.connection_is g.calm)
+    go false e = silent_undoes what k row (ap (λ (d : RowReading). d.crosses) (reading_is k row n c false g.row_is e))
 
 -- ---- the phase stays
 
@@ -98,15 +103,16 @@ same_phase_of c e =
     let s = same_phase_is c e in
     λ i. if s.msg i then (if s.io i then phases.MessageIn else phases.MessageOut) else if s.cd i then (if s.io i then phases.Status else phases.Command) else if s.io i then phases.DataIn else phases.DataOut
 
-on_phase : (a b : Type 0) (p q : Plan) (x y : ℕ) (phase : Phase) → (a → b) → q.cause ≡ p.cause → (phase ≡ phases.MessageIn → x ≡ 0 → is_short p.messages.first ≡ true → b ⊎ ((y ≡ 0) × (is_short q.messages.first ≡ true))) → UndoBy a p x phase → UndoBy b q y phase
+on_phase : (a b : Type 0) (p q : Plan) (x y : ℕ) (phase : Phase) → (is_message phase ≡ true → a → b) → q.cause ≡ p.cause
+    → (phase ≡ phases.MessageIn → x ≡ 0 → is_short p.messages.first ≡ true → b ⊎ ((y ≡ 0) × (is_short q.messages.first ≡ true))) → UndoBy a p x phase → UndoBy b q y phase
 on_phase a b p q x y phases.MessageOut f e g h = subst (UndoAsked b) (sym e) (asked p.cause h)
   where
     asked : (cause : Cause) → UndoAsked a cause → UndoAsked b cause
-    asked causes.Selected w = f w
-    asked causes.InMessage w = f w
+    asked causes.Selected w = f refl w
+    asked causes.InMessage w = f refl w
     asked causes.InData w = tt
     asked causes.InStatus w = tt
-on_phase a b p q x y phases.MessageIn f e g (inl h) = inl (f h)
+on_phase a b p q x y phases.MessageIn f e g (inl h) = inl (f refl h)
 on_phase a b p q x y phases.MessageIn f e g (inr h) = g refl h.0 h.1
 on_phase a b p q x y phases.Command f e g h = tt
 on_phase a b p q x y phases.DataIn f e g h = tt
@@ -118,21 +124,23 @@ pub record SamePlan (p q : Plan) : Type 0 where
   pub cause : q.cause ≡ p.cause
   pub messages : q.messages ≡ p.messages
 
-pub plan_stays : (p : Plan) (now out last fault : Bool) (m : Option MsgOut) → SamePlan p (if now then (if out then plan_after_message p last m else p) else if fault then struck_plan p else p)
+pub plan_stays : (p : Plan) (now out last fault : Bool) (m : Option MsgOut)
+    → SamePlan p (if now then (if out then plan_after_message p last m else p) else if fault then struck_plan p else p)
 plan_stays p true true true fault m = record { cause = refl; messages = refl }
 plan_stays p true true false fault m = record { cause = refl; messages = refl }
 plan_stays p true false last fault m = record { cause = refl; messages = refl }
 plan_stays p false out last true m = record { cause = refl; messages = refl }
 plan_stays p false out last false m = record { cause = refl; messages = refl }
 
-pub stays_by : (s : ScenarioValue) (k : RunState) (row : Row) (n : Connection) (c : Change) (now : Bool) (l : Link) → IsRowIn k row n c → changes_phase c ≡ false → is_some (receiver_in n c) ≡ now → k.story.link ≡ Some l → UndoesAnswers k row
-    → (k.exchange.begun ≡ true → phase_of (bus_of k) ≡ phases.MessageIn → k.handshakes.requests ≡ 0 → is_short k.exchange.plan.messages.first ≡ true → UndoFits (run_state_after s k row) ⊎ ((run_state_after s k row).handshakes.requests ≡ 0))
-    → UndoBooks k → UndoBooks (run_state_after s k row)
-stays_by s k row n c now l r ep en link undoes first h = record {
-  unbegun = λ b. fits (h.unbegun (sym begun ∙ b));
+pub stays_by : {A : Type 0} (what : CarriedBytes → A) → IsKeptInside what → (s : ScenarioValue) (k : RunState) (row : Row) (n : Connection) (c : Change) (now : Bool) (l : Link)
+    → IsRowIn k row n c → changes_phase c ≡ false → is_some (receiver_in n c) ≡ now → k.story.link ≡ Some l → UndoesSame what k row → (now ≡ true → k.exchange.begun ≡ true)
+    → (k.exchange.begun ≡ true → phase_of (bus_of k) ≡ phases.MessageIn → k.handshakes.requests ≡ 0 → is_short k.exchange.plan.messages.first ≡ true → UndoFits what (run_state_after s k row) ⊎ ((run_state_after s k row).handshakes.requests ≡ 0))
+    → UndoBooks what k → UndoBooks what (run_state_after s k row)
+stays_by what kept s k row n c now l r ep en link undoes crosses first h = record {
+  unbegun = λ b. fits (λ z. wrong (sym (crosses z) ∙ sym begun ∙ b)) (h.unbegun (sym begun ∙ b));
   begun = λ b.
-      subst (λ (p : Phase). UndoBy (UndoFits j) j.exchange.plan j.handshakes.requests p) (sym phase)
-      (on_phase (UndoFits k) (UndoFits j) k.exchange.plan j.exchange.plan k.handshakes.requests j.handshakes.requests (phase_of (bus_of k)) fits plan.cause
+      subst (λ (p : Phase). UndoBy (UndoFits what j) j.exchange.plan j.handshakes.requests p) (sym phase)
+      (on_phase (UndoFits what k) (UndoFits what j) k.exchange.plan j.exchange.plan k.handshakes.requests j.handshakes.requests (phase_of (bus_of k)) (λ z. fits (λ w. ap (λ (x : LineSet). x.msg) (sym r.bus_is) ∙ message (bus_of k) z)) plan.cause
       (λ e zero short. told (first (sym begun ∙ b) e zero short) short) (h.begun (sym begun ∙ b)));
 }
   where
@@ -145,11 +153,20 @@ stays_by s k row n c now l r ep en link undoes first h = record {
     begun : j.exchange.begun ≡ k.exchange.begun
     begun = ap (λ (x : Exchange). x.begun) i.exchange_is
 
-    same : SameAnswersIn k j
-    same = answers_stay s k row n c now l r en link undoes (λ z. wrong' (sym ep ∙ z))
+    fits : (now ≡ true → c.before.msg ≡ true) → UndoFits what k → UndoFits what j
+    fits silent = fits_on what s k row n c now l r en link (kept.stays s k row n c now l r en link undoes (λ z. wrong' (sym ep ∙ z)) silent)
 
-    fits : UndoFits k → UndoFits j
-    fits = fits_on s k row n c now l r en link same
+    message : (b : LineSet) → is_message (phase_of b) ≡ true → b.msg ≡ true
+    message b e = by b.msg b.cd b.io e
+      where
+        by : (m d o : Bool)
+            → is_message (if m then (if o then phases.MessageIn else phases.MessageOut) else if d then (if o then phases.Status else phases.Command) else if o then phases.DataIn else phases.DataOut) ≡ true
+            → m ≡ true
+        by true d o z = refl
+        by false true true z = wrong' z
+        by false true false z = wrong' z
+        by false false true z = wrong' z
+        by false false false z = wrong' z
 
     phase : phase_of (bus_of j) ≡ phase_of (bus_of k)
     phase = ap phase_of i.bus_is ∙ same_phase_of c ep ∙ ap phase_of (sym r.bus_is)
@@ -158,6 +175,7 @@ stays_by s k row n c now l r ep en link undoes first h = record {
     plan = subst (λ (x : Plan). SamePlan k.exchange.plan x) (sym (ap (λ (x : Exchange). x.plan) i.exchange_is))
         (plan_stays k.exchange.plan now (is_message_out c.before) k.story.bus_state.dialogue.is_last (is_fault row.kind && not c.before.io) (message_out k.story.bus_state.dialogue c now))
 
-    told : UndoFits j ⊎ (j.handshakes.requests ≡ 0) → is_short k.exchange.plan.messages.first ≡ true → UndoFits j ⊎ ((j.handshakes.requests ≡ 0) × (is_short j.exchange.plan.messages.first ≡ true))
+    told : UndoFits what j ⊎ (j.handshakes.requests ≡ 0) → is_short k.exchange.plan.messages.first ≡ true
+        → UndoFits what j ⊎ ((j.handshakes.requests ≡ 0) × (is_short j.exchange.plan.messages.first ≡ true))
     told (inl w) short = inl w
     told (inr w) short = inr (w, ap (λ (m : Messages). is_short m.first) plan.messages ∙ short)

@@ -1,4 +1,4 @@
--- What MESSAGE PARITY ERROR brings back has the answer that the process has, after any rows of a prompt trace.
+-- What MESSAGE PARITY ERROR brings back agrees with what the process has, after any rows of a prompt trace (6.6.13).
 use Rattle.std.proofs.Common.{inl, inr, ℕ, ◌≡◌, ◌<◌, Bool, true, false, ◌&&◌, ◌%◌, ◌∙◌, List, [], ◌∷◌, ◌++◌, Option, Some, None, refl, sym, ap}
 use Rattle.std.specs.Prelude.{if◌then◌else◌, is_some}
 use Rattle.bus_trace.specs.LineSet.{LineSet}
@@ -14,7 +14,8 @@ use Rattle.msg_grammar.specs.Messages.{got_out}
 use Rattle.bus_phases.specs.Dialogue.{fresh_bytes}
 use Rattle.scenario.specs.Value.{ScenarioValue}
 use Rattle.scenario.specs.Writing.{Obeys}
-use Rattle.bus_story.specs.BusState.{row_reading, whole_out}
+use Rattle.bus_story.specs.BusState.{RowReading, row_reading, whole_out}
+use Rattle.bus_story.specs.CarriedBytes.{CarriedBytes}
 use Rattle.bus_story.specs.HistoryEvents.{row_events_by}
 use Rattle.bus_story.specs.TraceHistory.{story_on_bus, story_by_change}
 use Rattle.bus_dialogue.specs.declared.exchange.Cause.{Cause}
@@ -34,25 +35,25 @@ use Rattle.bus_books.specs.Knowing.{Knows}
 use Rattle.bus_books.specs.Rows.{RowKind, still, strikes, crosses, turns}
 use Rattle.bus_books.specs.Traces.{GoesOn}
 use Rattle.bus_books.proofs.Gives.{requests_stay, struck_same, in_io}
-use Rattle.bus_books.proofs.InConnection.{in_connection}
-use Rattle.trace_laws.specs.Tells.{UndoesAnswers, UndoFits, UndoAsked, UndoBy, UndoBooks, UndoFacts}
+use Rattle.bus_books.proofs.InConnection.{in_connection, reading_is}
+use Rattle.trace_laws.specs.Tells.{UndoesSame, UndoFits, UndoAsked, UndoBy, UndoBooks, UndoFacts}
 use Rattle.trace_laws.proofs.BlockRows.{undo_of}
 use Rattle.trace_laws.proofs.CommandFirst.{undo_first}
 use Rattle.trace_laws.proofs.ConnectionRows.{ConnectionRow, GoingRow, connection_row, going_row, stage_of_connection, RowKindOf, begins_now, goes_now, row_kind}
 use Rattle.trace_laws.proofs.Impossible.{none_some}
 use Rattle.trace_laws.proofs.Joint.{Stood, NextStood, link_phase}
-use Rattle.trace_laws.proofs.PhaseLines.{out_in}
+use Rattle.trace_laws.proofs.PhaseLines.{message_line, out_in}
 use Rattle.trace_laws.proofs.TellRows.{unbegun_lines}
 use Rattle.trace_laws.proofs.UndoneAnswers.{row_undoes, stays_by}
-use Rattle.trace_laws.proofs.UndoneRows.{SameAnswersIn, answers_stay, fits_heard, first_whole}
+use Rattle.trace_laws.proofs.UndoneRows.{IsKeptInside, fits_heard, first_whole}
 use Rattle.trace_laws.proofs.UndoneTurns.{turn_keeps}
 use Rattle.bus_base.proofs.Tests.{wrong'}
 use Rattle.bus_story.proofs.StorySteps.{events_link}
 
 -- ---- before any row, and the first row of a connection
 
-pub undo_start : (s : ScenarioValue) → UndoFacts s []
-undo_start s n e calm = none_some n e
+pub undo_start : {A : Type 0} (what : CarriedBytes → A) (s : ScenarioValue) → UndoFacts what s []
+undo_start what s n e calm = none_some n e
 
 pub all_by : (fits : Type 0) (p : Plan) (x : ℕ) (phase : Phase) → fits → UndoBy fits p x phase
 all_by fits p x phases.MessageOut h = asked p.cause
@@ -68,8 +69,9 @@ all_by fits p x phases.DataIn h = tt
 all_by fits p x phases.DataOut h = tt
 all_by fits p x phases.Status h = tt
 
-undo_begins : (s : ScenarioValue) (p : List Row) (row : Row) (n : Connection) → AreOfDevices p → row.dev < 8 → connection p ≡ None → connection (row ∷ p) ≡ Some n → (bus (row ∷ p)).rst ≡ false → UndoBooks (run_state s (row ∷ p))
-undo_begins s p row n dv lt alone after calm = record { unbegun = λ b. fits; begun = λ b. all_by (UndoFits j) j.exchange.plan j.handshakes.requests (phase_of (bus_of j)) fits }
+undo_begins : {A : Type 0} (what : CarriedBytes → A) (s : ScenarioValue) (p : List Row) (row : Row) (n : Connection) → AreOfDevices p → row.dev < 8 → connection p ≡ None
+    → connection (row ∷ p) ≡ Some n → (bus (row ∷ p)).rst ≡ false → UndoBooks what (run_state s (row ∷ p))
+undo_begins what s p row n dv lt alone after calm = record { unbegun = λ b. fits; begun = λ b. all_by (UndoFits what j) j.exchange.plan j.handshakes.requests (phase_of (bus_of j)) fits }
   where
     k : RunState
     k = run_state s p
@@ -99,7 +101,7 @@ undo_begins s p row n dv lt alone after calm = record { unbegun = λ b. fits; be
         ∙ (λ i. undo_of (story_on_bus s k.story (con i) (next i) (row_reading k.story.bus_state row) row).link)
         ∙ undo_first k.story n
 
-    fits : UndoFits j
+    fits : UndoFits what j
     fits l u el eu = none_some u (sym (sym (ap undo_of el) ∙ none) ∙ eu)
 
 -- ---- a row of a connection
@@ -111,7 +113,9 @@ in_of b e known = go b.msg b.cd b.io e known
     is_in phases.MessageIn = true
     is_in _ = false
 
-    go : (m d i : Bool) → (if m then (if i then phases.MessageIn else phases.MessageOut) else if d then (if i then phases.Status else phases.Command) else if i then phases.DataIn else phases.DataOut) ≡ phases.MessageIn → (m ≡ true → d ≡ true) → (m && d && i) ≡ true
+    go : (m d i : Bool)
+        → (if m then (if i then phases.MessageIn else phases.MessageOut) else if d then (if i then phases.Status else phases.Command) else if i then phases.DataIn else phases.DataOut) ≡ phases.MessageIn
+        → (m ≡ true → d ≡ true) → (m && d && i) ≡ true
     go true true true z f = refl
     go true true false z f = wrong' (ap is_in z)
     go true false i z f = wrong' (f refl)
@@ -120,8 +124,10 @@ in_of b e known = go b.msg b.cd b.io e known
     go false false true z f = wrong' (ap is_in z)
     go false false false z f = wrong' (ap is_in z)
 
-goes_keeps : (s : ScenarioValue) (p : List Row) (row : Row) (n : Connection) → AreOfDevices p → row.dev < 8 → Stood s p → NextStood s p row → ConnectionRow s p row n → GoingRow s p row n → UndoesAnswers (run_state s p) row → connection (row ∷ p) ≡ Some n → (bus (row ∷ p)).rst ≡ false → UndoBooks (run_state s p) → UndoBooks (run_state s (row ∷ p))
-goes_keeps s p row n dv lt was next r g undoes after calm h = go g.goes.row_is.kind
+goes_keeps : {A : Type 0} (what : CarriedBytes → A) → IsKeptInside what → (s : ScenarioValue) (p : List Row) (row : Row) (n : Connection) → AreOfDevices p → row.dev < 8 → Stood s p
+    → NextStood s p row → ConnectionRow s p row n → GoingRow s p row n → UndoesSame what (run_state s p) row → connection (row ∷ p) ≡ Some n → (bus (row ∷ p)).rst ≡ false
+    → UndoBooks what (run_state s p) → UndoBooks what (run_state s (row ∷ p))
+goes_keeps what kept s p row n dv lt was next r g undoes after calm h = go g.goes.row_is.kind
   where
     k : RunState
     k = run_state s p
@@ -144,54 +150,57 @@ goes_keeps s p row n dv lt was next r g undoes after calm h = go g.goes.row_is.k
     here : phase_of (bus_of k) ≡ phases.MessageIn → is_message_in c.before ≡ true
     here e = ap is_message_in (sym of.row_is.bus_is) ∙ in_of (bus_of k) e (λ m. (of.phase m).0)
 
-    go : RowKind row n c → UndoBooks j
+    go : RowKind row n c → UndoBooks what j
     go (still ef ep er) =
         let none : is_some (receiver_in n c) ≡ false = ap (λ (z : Option ℕ). is_some z) er in
         let i = in_connection s k row n c false false (is_fault row.kind) of.row_is ep none refl in
-        stays_by s k row n c false knows.link of.row_is ep none knows.link_is undoes
+        stays_by what kept s k row n c false knows.link of.row_is ep none knows.link_is undoes (λ z. wrong' z)
         (λ b e zero short. inr (ap (λ (x : Handshakes). x.requests) i.handshakes_is ∙ ap (λ (q : Bool). (handshakes_after q (Some n) c row.time k.handshakes).requests) ef ∙ requests_stay n c row.time k.handshakes ep (in_io c.before (here e)) er ∙ zero)) h
     go (strikes ef ep er) =
         let none : is_some (receiver_in n c) ≡ false = ap (λ (z : Option ℕ). is_some z) er in
         let i = in_connection s k row n c false false (is_fault row.kind) of.row_is ep none refl in
-        stays_by s k row n c false knows.link of.row_is ep none knows.link_is undoes
+        stays_by what kept s k row n c false knows.link of.row_is ep none knows.link_is undoes (λ z. wrong' z)
         (λ b e zero short. inr (ap (λ (x : Handshakes). x.requests) i.handshakes_is ∙ ap (λ (q : Bool). (handshakes_after q (Some n) c row.time k.handshakes).requests) ef ∙ struck_same c.before.io k.handshakes ∙ zero)) h
     go (crosses dev ef ep er) =
         let there : is_some (receiver_in n c) ≡ true = ap (λ (z : Option ℕ). is_some z) er in
-        let same : SameAnswersIn k j = answers_stay s k row n c true knows.link of.row_is there knows.link_is undoes (λ z. wrong' (sym ep ∙ z)) in
-        stays_by s k row n c true knows.link of.row_is ep there knows.link_is undoes
+        stays_by what kept s k row n c true knows.link of.row_is ep there knows.link_is undoes
+        (λ z. of.begun (ap (λ (d : RowReading). d.crosses) (reading_is k row n c true of.row_is there)))
         (λ b e zero short.
         let given = (was.books.gives n of.row_is.connection_is of.calm).in_message_in b (ap is_message_in of.row_is.bus_is ∙ here e) in
         let m = first_whole k c given zero short (of.gives (here e) there).0 (here e) in
-        inl (fits_heard s k row n c knows.link m.message of.row_is there knows.link_is same (ap (λ (q : Bool). if q then whole_out (got_out (fresh_bytes k.story.bus_state.dialogue ++ c.after.data_bits % 256 ∷ [])) else None) (out_in c.before (here e))) m.is)) h
+        let same = kept.stays s k row n c true knows.link of.row_is there knows.link_is undoes (λ z. wrong' (sym ep ∙ z)) (λ z. message_line c.before (here e)) in
+        inl (fits_heard what s k row n c knows.link m.message of.row_is there knows.link_is same (ap (λ (q : Bool). if q then whole_out (got_out (fresh_bytes k.story.bus_state.dialogue ++ c.after.data_bits % 256 ∷ [])) else None) (out_in c.before (here e))) m.is)) h
     go (turns ef ep er) =
         let stage = stage_of_connection s (row ∷ p) n next.stood after calm in
         let is = g.lines_are in
-        turn_keeps s k row n c knows.link
+        turn_keeps what kept s k row n c knows.link
         (record {
           goes = of;
           lines = ef;
           turns = ep;
           silent = er;
           link_is = knows.link_is;
-          undoes = undoes;
           known = λ z. ap (λ (x : Change). x.after.cd) g.change_is ∙ (link_phase s (row ∷ p) n stage (ap (λ (x : Change). x.after.msg) (sym g.change_is) ∙ z)).0;
           idle = λ b. ap is_command pl.bus ∙ unbegun_lines s p n r.stage (sym pl.begun ∙ b);
           whereto = λ b. g.lines.whereto (ap changes_phase is ∙ ep) (sym pl.begun ∙ b) ∙ ap (λ (x : Change). Some (phase_of x.after)) is;
           speaks = was.books.speaks n of.row_is.connection_is of.calm;
-        }) h
+        }) undoes h
 
 -- ---- any row
 
-books_of : (s : ScenarioValue) (p : List Row) → AreOfDevices p → UndoFacts s p → (n : Connection) → (run_state s p).story.bus_state.connection ≡ Some n → (bus_of (run_state s p)).rst ≡ false → UndoBooks (run_state s p)
-books_of s p dv h n con calm =
+books_of : {A : Type 0} (what : CarriedBytes → A) (s : ScenarioValue) (p : List Row) → AreOfDevices p → UndoFacts what s p → (n : Connection)
+    → (run_state s p).story.bus_state.connection ≡ Some n → (bus_of (run_state s p)).rst ≡ false → UndoBooks what (run_state s p)
+books_of what s p dv h n con calm =
     let pl = run_state_plain s p dv in
     h n (sym pl.connection ∙ con) (ap (λ (l : LineSet). l.rst) (sym pl.bus) ∙ calm)
 
-pub undo_asks : (s : ScenarioValue) (p : List Row) (row : Row) → Stood s p → NextStood s p row → UndoFacts s p → UndoesAnswers (run_state s p) row
-undo_asks s p row was next h = row_undoes s (run_state s p) row was.books (books_of s p was.standing.devices h) next.row_is
+pub undo_asks : {A : Type 0} (what : CarriedBytes → A) (s : ScenarioValue) (p : List Row) (row : Row) → Stood s p → NextStood s p row → UndoFacts what s p
+    → UndoesSame what (run_state s p) row
+undo_asks what s p row was next h = row_undoes what s (run_state s p) row was.books (books_of what s p was.standing.devices h) next.row_is
 
-pub undo_next : (s : ScenarioValue) (p : List Row) (row : Row) → Obeys s → IsPrompt s (row ∷ p) → Stood s p → NextStood s p row → UndoFacts s p → UndoFacts s (row ∷ p)
-undo_next s p row o prompt was next h n after calm = go (row_kind s p row n o prompt was after calm)
+pub undo_next : {A : Type 0} (what : CarriedBytes → A) → IsKeptInside what → (s : ScenarioValue) (p : List Row) (row : Row) → Obeys s → IsPrompt s (row ∷ p) → Stood s p
+    → NextStood s p row → UndoFacts what s p → UndoFacts what s (row ∷ p)
+undo_next what kept s p row o prompt was next h n after calm = go (row_kind s p row n o prompt was after calm)
   where
     dv : AreOfDevices p
     dv = was.standing.devices
@@ -199,9 +208,9 @@ undo_next s p row o prompt was next h n after calm = go (row_kind s p row n o pr
     lt : row.dev < 8
     lt = (least_is s p row prompt.1).inside
 
-    go : RowKindOf s p row n → UndoBooks (run_state s (row ∷ p))
-    go (begins_now alone f) = undo_begins s p row n dv lt alone after calm
+    go : RowKindOf s p row n → UndoBooks what (run_state s (row ∷ p))
+    go (begins_now alone f) = undo_begins what s p row n dv lt alone after calm
     go (goes_now con off) =
         let r = connection_row s p row n o prompt was con off calm in
         let g = going_row s p row n dv lt con after calm next.row_is r.facts in
-        goes_keeps s p row n dv lt was next r g (undo_asks s p row was next h) after calm (h n con off)
+        goes_keeps what kept s p row n dv lt was next r g (undo_asks what s p row was next h) after calm (h n con off)

@@ -92,7 +92,8 @@ pub not_again : (v : Serving) (attention : Bool) → is_to_message_in (phase_lea
 not_again v true = refl
 not_again v false = by_next v v.plan.next
 
-pub leaves_short : (v : Serving) (attention : Bool) (phase : Phase) → (phase ≡ phases.MessageOut → is_detected v.plan.cause ≡ true) → is_to_message_in (phase_leaving v attention phase).to ≡ true → is_short (phase_leaving v attention phase).messages.first ≡ true
+pub leaves_short : (v : Serving) (attention : Bool) (phase : Phase) → (phase ≡ phases.MessageOut → is_detected v.plan.cause ≡ true)
+    → is_to_message_in (phase_leaving v attention phase).to ≡ true → is_short (phase_leaving v attention phase).messages.first ≡ true
 leaves_short v attention phases.MessageOut h = by_cause v v.plan.cause (h refl)
 leaves_short v attention phases.MessageIn h = λ e. wrong' (sym (not_again v attention) ∙ e)
 leaves_short v attention phases.Command h =

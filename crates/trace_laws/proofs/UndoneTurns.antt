@@ -1,5 +1,4 @@
--- What MESSAGE PARITY ERROR brings back has the answer that the process has: a phase is left for another, and the first row of a
--- connection; so after any rows of a prompt trace.
+-- What MESSAGE PARITY ERROR brings back agrees with what the process has: a phase is left for another (6.6.13).
 use Rattle.std.proofs.Common.{inl, inr, ℕ, ◌≡◌, ◌⊎◌, Bool, true, false, not, ◌==◌, ◌∙◌, Option, Some, None, refl, sym, ap, subst}
 use Rattle.std.specs.Prelude.{if◌then◌else◌, is_some}
 use Rattle.bus_trace.specs.LineSet.{LineSet}
@@ -11,6 +10,7 @@ use Rattle.bus_trace.specs.Terms.{is_fault, receiver_in}
 use Rattle.bus_lines.specs.Handshakes.{Handshakes, no_handshakes, handshakes_after}
 use Rattle.scenario.specs.Value.{ScenarioValue}
 use Rattle.bus_story.specs.BusState.{row_reading}
+use Rattle.bus_story.specs.CarriedBytes.{CarriedBytes}
 use Rattle.bus_story.specs.Links.{Link}
 use Rattle.bus_dialogue.specs.declared.exchange.Cause.TheVariants as causes
 use Rattle.bus_dialogue.specs.declared.exchange.Leaving.{Leaving}
@@ -31,12 +31,12 @@ use Rattle.bus_books.specs.Rows.{reading_in}
 use Rattle.bus_books.specs.Speaking.{Speaks}
 use Rattle.bus_books.specs.Traces.{GoesOn}
 use Rattle.bus_books.proofs.InConnection.{InConnection, in_connection}
-use Rattle.trace_laws.specs.Tells.{UndoesAnswers, UndoFits, UndoAsked, UndoBy, UndoBooks, is_short}
+use Rattle.trace_laws.specs.Tells.{UndoesSame, UndoFits, UndoAsked, UndoBy, UndoBooks, is_short}
 use Rattle.trace_laws.proofs.PhaseLines.{out_lines, command_is, out_phase, in_phase}
 use Rattle.trace_laws.proofs.TellTurns.{status_lines}
 use Rattle.trace_laws.proofs.UndoneAnswers.{asked_fits}
 use Rattle.trace_laws.proofs.UndoneLeavings.{is_to_message_in, leaves_short}
-use Rattle.trace_laws.proofs.UndoneRows.{answers_stay, fits_on}
+use Rattle.trace_laws.proofs.UndoneRows.{IsKeptInside, fits_on}
 use Rattle.bus_base.proofs.Tests.{wrong, wrong'}
 use Rattle.trace_laws.specs.Offers.{is_detected}
 
@@ -66,14 +66,14 @@ pub record TurnOf (s : ScenarioValue) (k : RunState) (row : Row) (n : Connection
   pub turns : changes_phase c ≡ true
   pub silent : receiver_in n c ≡ None
   pub link_is : k.story.link ≡ Some l
-  pub undoes : UndoesAnswers k row
   pub known : c.after.msg ≡ true → c.after.cd ≡ true
   pub idle : k.exchange.begun ≡ false → is_command (bus_of k) ≡ false
   pub whereto : k.exchange.begun ≡ true → (leaving s k n.target).to ≡ Some (phase_of c.after)
   pub speaks : Speaks s k n
 
-pub turn_keeps : (s : ScenarioValue) (k : RunState) (row : Row) (n : Connection) (c : Change) (l : Link) → TurnOf s k row n c l → UndoBooks k → UndoBooks (run_state_after s k row)
-turn_keeps s k row n c l t h = record {
+pub turn_keeps : {A : Type 0} (what : CarriedBytes → A) → IsKeptInside what → (s : ScenarioValue) (k : RunState) (row : Row) (n : Connection) (c : Change) (l : Link)
+    → TurnOf s k row n c l → UndoesSame what k row → UndoBooks what k → UndoBooks what (run_state_after s k row)
+turn_keeps what kept s k row n c l t undoes h = record {
   unbegun = λ b. wrong (sym begun ∙ b);
   begun = λ b. go k.exchange.begun refl;
 }
@@ -108,42 +108,45 @@ turn_keeps s k row n c l t h = record {
     leaves : LeavesWhole s k n
     leaves = t.goes.leaves change
 
-    quiet : is_command (bus_of k) ≡ false → is_status_next (Some (phase_of c.after)) ≡ false → UndoFits k → UndoFits j
-    quiet e f = fits_on s k row n c false l t.goes.row_is none t.link_is (answers_stay s k row n c false l t.goes.row_is none t.link_is t.undoes (λ z. (ap is_command (sym t.goes.row_is.bus_is) ∙ e, sym (status_lines c.after) ∙ f)))
+    quiet : is_command (bus_of k) ≡ false → is_status_next (Some (phase_of c.after)) ≡ false → UndoFits what k → UndoFits what j
+    quiet e f =
+        fits_on what s k row n c false l t.goes.row_is none t.link_is
+        (kept.stays s k row n c false l t.goes.row_is none t.link_is undoes (λ z. (ap is_command (sym t.goes.row_is.bus_is) ∙ e, sym (status_lines c.after) ∙ f)) (λ z. wrong' z))
 
-    at : (phase : Phase) → phase_of c.after ≡ phase → UndoBy (UndoFits j) j.exchange.plan j.handshakes.requests phase → UndoBy (UndoFits j) j.exchange.plan j.handshakes.requests (phase_of (bus_of j))
-    at phase e w = subst (λ (p : Phase). UndoBy (UndoFits j) j.exchange.plan j.handshakes.requests p) (sym (ap phase_of i.bus_is ∙ e)) w
+    at : (phase : Phase) → phase_of c.after ≡ phase → UndoBy (UndoFits what j) j.exchange.plan j.handshakes.requests phase
+        → UndoBy (UndoFits what j) j.exchange.plan j.handshakes.requests (phase_of (bus_of j))
+    at phase e w = subst (λ (p : Phase). UndoBy (UndoFits what j) j.exchange.plan j.handshakes.requests p) (sym (ap phase_of i.bus_is ∙ e)) w
 
     -- MESSAGE OUT begins
-    first_out : k.exchange.begun ≡ false → UndoBy (UndoFits j) j.exchange.plan j.handshakes.requests (phase_of (bus_of j))
+    first_out : k.exchange.begun ≡ false → UndoBy (UndoFits what j) j.exchange.plan j.handshakes.requests (phase_of (bus_of j))
     first_out b =
         let out : is_message_out c.after ≡ true = sym (ap (λ (x : Change). is_message_out x.after) t.goes.row_is.change_is) ∙ t.goes.first change b in
         let cause : j.exchange.plan.cause ≡ causes.Selected =
         ap (λ (x : Plan). x.cause) plan
         ∙ (λ z. (if not (out z) then record (plan_anew k.exchange.plan) { messages = (leaving s k n.target).messages; next = (leaving s k n.target).next } else if b z then plan_in_message_out (hearing_of k row (reading_in k.story.bus_state n c false)) k.exchange.plan else plan_anew k.exchange.plan).cause)
         ∙ (t.speaks.before_all b).cause_is in
-        at phases.MessageOut (out_phase c.after out) (subst (UndoAsked (UndoFits j)) (sym cause) (quiet (t.idle b) (ap (λ (p : Phase). is_status_next (Some p)) (out_phase c.after out)) (h.unbegun b)))
+        at phases.MessageOut (out_phase c.after out) (subst (UndoAsked (UndoFits what j)) (sym cause) (quiet (t.idle b) (ap (λ (p : Phase). is_status_next (Some p)) (out_phase c.after out)) (h.unbegun b)))
 
-    refused : k.exchange.begun ≡ true → phase_of c.after ≡ phases.MessageOut → UndoAsked (UndoFits j) j.exchange.plan.cause
+    refused : k.exchange.begun ≡ true → phase_of c.after ≡ phases.MessageOut → UndoAsked (UndoFits what j) j.exchange.plan.cause
     refused b e =
         let out = out_lines c.after e t.known in
         let cause : j.exchange.plan.cause ≡ cause_after c.before =
         ap (λ (x : Plan). x.cause) plan
         ∙ (λ z. (if not (out z) then record (plan_anew k.exchange.plan) { messages = (leaving s k n.target).messages; next = (leaving s k n.target).next } else if b z then plan_in_message_out (hearing_of k row (reading_in k.story.bus_state n c false)) k.exchange.plan else plan_anew k.exchange.plan).cause) in
-        subst (UndoAsked (UndoFits j)) (sym cause) (by (is_message_in c.before) refl)
+        subst (UndoAsked (UndoFits what j)) (sym cause) (by (is_message_in c.before) refl)
       where
-        by : (q : Bool) → is_message_in c.before ≡ q → UndoAsked (UndoFits j) (cause_after c.before)
-        by false f = detecting (UndoFits j) c.before f
+        by : (q : Bool) → is_message_in c.before ≡ q → UndoAsked (UndoFits what j) (cause_after c.before)
+        by false f = detecting (UndoFits what j) c.before f
         by true f =
             let here : phase_of (bus_of k) ≡ phases.MessageIn = ap phase_of t.goes.row_is.bus_is ∙ in_phase c.before f in
-            subst (UndoAsked (UndoFits j)) (ap (λ (q : Bool). if q then causes.InMessage else if c.before.cd then causes.InStatus else causes.InData) (sym f))
-            (given here (subst (λ (p : Phase). UndoBy (UndoFits k) k.exchange.plan k.handshakes.requests p) here (h.begun b)))
+            subst (UndoAsked (UndoFits what j)) (ap (λ (q : Bool). if q then causes.InMessage else if c.before.cd then causes.InStatus else causes.InData) (sym f))
+            (given here (subst (λ (p : Phase). UndoBy (UndoFits what k) k.exchange.plan k.handshakes.requests p) here (h.begun b)))
           where
-            given : phase_of (bus_of k) ≡ phases.MessageIn → UndoFits k ⊎ ((k.handshakes.requests ≡ 0) × (is_short k.exchange.plan.messages.first ≡ true)) → UndoFits j
+            given : phase_of (bus_of k) ≡ phases.MessageIn → UndoFits what k ⊎ ((k.handshakes.requests ≡ 0) × (is_short k.exchange.plan.messages.first ≡ true)) → UndoFits what j
             given here (inl w) = quiet (command_is (bus_of k) ∙ ap is_command_phase here) (ap (λ (p : Phase). is_status_next (Some p)) e) w
             given here (inr w) = wrong (sym (ap (λ (x : ℕ). x == 0) w.0) ∙ leaves.some here)
 
-    heard : k.exchange.begun ≡ true → phase_of c.after ≡ phases.MessageIn → UndoFits j ⊎ ((j.handshakes.requests ≡ 0) × (is_short j.exchange.plan.messages.first ≡ true))
+    heard : k.exchange.begun ≡ true → phase_of c.after ≡ phases.MessageIn → UndoFits what j ⊎ ((j.handshakes.requests ≡ 0) × (is_short j.exchange.plan.messages.first ≡ true))
     heard b e = by (phase_of (bus_of k)) refl
       where
         leaving_is : leaving s k n.target ≡ phase_leaving v (bus_of k).atn (phase_of (bus_of k))
@@ -158,20 +161,22 @@ turn_keeps s k row n c l t h = record {
         to : is_to_message_in (phase_leaving v (bus_of k).atn (phase_of (bus_of k))).to ≡ true
         to = ap (λ (x : Leaving). is_to_message_in x.to) (sym leaving_is) ∙ ap is_to_message_in (t.whereto b ∙ ap (λ (p : Phase). Some p) e)
 
-        short : (phase_of (bus_of k) ≡ phases.MessageOut → is_detected k.exchange.plan.cause ≡ true) → UndoFits j ⊎ ((j.handshakes.requests ≡ 0) × (is_short j.exchange.plan.messages.first ≡ true))
+        short : (phase_of (bus_of k) ≡ phases.MessageOut → is_detected k.exchange.plan.cause ≡ true)
+            → UndoFits what j ⊎ ((j.handshakes.requests ≡ 0) × (is_short j.exchange.plan.messages.first ≡ true))
         short f = inr (asked, ap (λ (m : Messages). is_short m.first) messages ∙ leaves_short v (bus_of k).atn (phase_of (bus_of k)) f to)
 
         is_out : Phase → Bool
         is_out phases.MessageOut = true
         is_out _ = false
 
-        said : phase_of (bus_of k) ≡ phases.MessageOut → (q : Bool) → is_detected k.exchange.plan.cause ≡ q → UndoFits j ⊎ ((j.handshakes.requests ≡ 0) × (is_short j.exchange.plan.messages.first ≡ true))
+        said : phase_of (bus_of k) ≡ phases.MessageOut → (q : Bool) → is_detected k.exchange.plan.cause ≡ q
+            → UndoFits what j ⊎ ((j.handshakes.requests ≡ 0) × (is_short j.exchange.plan.messages.first ≡ true))
         said here true f = short (λ z. f)
         said here false f =
             inl (quiet (command_is (bus_of k) ∙ ap is_command_phase here) (ap (λ (p : Phase). is_status_next (Some p)) e)
-            (asked_fits (UndoFits k) k.exchange.plan.cause f (subst (λ (p : Phase). UndoBy (UndoFits k) k.exchange.plan k.handshakes.requests p) here (h.begun b))))
+            (asked_fits (UndoFits what k) k.exchange.plan.cause f (subst (λ (p : Phase). UndoBy (UndoFits what k) k.exchange.plan k.handshakes.requests p) here (h.begun b))))
 
-        by : (p : Phase) → phase_of (bus_of k) ≡ p → UndoFits j ⊎ ((j.handshakes.requests ≡ 0) × (is_short j.exchange.plan.messages.first ≡ true))
+        by : (p : Phase) → phase_of (bus_of k) ≡ p → UndoFits what j ⊎ ((j.handshakes.requests ≡ 0) × (is_short j.exchange.plan.messages.first ≡ true))
         by phases.MessageOut z = said z (is_detected k.exchange.plan.cause) refl
         by phases.MessageIn z = short (λ w. wrong' (ap is_out (sym z ∙ w)))
         by phases.Command z = short (λ w. wrong' (ap is_out (sym z ∙ w)))
@@ -179,11 +184,11 @@ turn_keeps s k row n c l t h = record {
         by phases.DataOut z = short (λ w. wrong' (ap is_out (sym z ∙ w)))
         by phases.Status z = short (λ w. wrong' (ap is_out (sym z ∙ w)))
 
-    go : (q : Bool) → k.exchange.begun ≡ q → UndoBy (UndoFits j) j.exchange.plan j.handshakes.requests (phase_of (bus_of j))
+    go : (q : Bool) → k.exchange.begun ≡ q → UndoBy (UndoFits what j) j.exchange.plan j.handshakes.requests (phase_of (bus_of j))
     go false b = first_out b
     go true b = by (phase_of c.after) refl
       where
-        by : (p : Phase) → phase_of c.after ≡ p → UndoBy (UndoFits j) j.exchange.plan j.handshakes.requests (phase_of (bus_of j))
+        by : (p : Phase) → phase_of c.after ≡ p → UndoBy (UndoFits what j) j.exchange.plan j.handshakes.requests (phase_of (bus_of j))
         by phases.MessageOut e = at phases.MessageOut e (refused b e)
         by phases.MessageIn e = at phases.MessageIn e (heard b e)
         by phases.Command e = at phases.Command e tt

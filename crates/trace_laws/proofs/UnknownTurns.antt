@@ -2,7 +2,7 @@
 use Rattle.std.proofs.Common.{ℕ, ◌≡◌, Bool, true, false, not, ◌&&◌, ◌∙◌, List, [], ◌∷◌, Option, Some, None, refl, sym, ap}
 use Rattle.std.specs.Prelude.{if◌then◌else◌, is_some, nat_lt}
 use Rattle.std.specs.List.{list_any}
-use Rattle.std.proofs.lemmas.Bool.{or_from}
+use Rattle.std.proofs.lemmas.Bool.{or_from, not-false}
 use Rattle.bus_base.specs.declared.Event.{Event}
 use Rattle.bus_base.specs.declared.Event.TheVariants as events
 use Rattle.bus_base.specs.declared.ProcId.{ProcId}
@@ -32,7 +32,6 @@ use Rattle.trace_laws.specs.Instructed.{KnownFor, KnownIn, KnownNext}
 use Rattle.trace_laws.proofs.BadReplies.{GiveNoGood, gives_no_good}
 use Rattle.trace_laws.proofs.KnownLeavings.{known_after}
 use Rattle.trace_laws.proofs.OpeningRows.{opening_leads}
-use Rattle.trace_laws.proofs.Tests.{not_false}
 use Rattle.bus_base.proofs.Tests.{wrong, wrong'}
 
 -- ---- MESSAGE OUT leads to STATUS only where data were rejected
@@ -89,7 +88,7 @@ fails_first s k dev id b known after left to shown refused_is = go (phase_of (bu
     go : (x : Phase) → phase_of (bus_of k) ≡ x → KnownIn false k.exchange.plan x → known_after false k.exchange.plan.struck x ≡ false → is_status_next (phase_leaving v (bus_of k).atn x).to ≡ true → is_some (carried_here k id).failure ≡ true
     go phases.MessageOut e h a z = from_out k.exchange.plan.cause h z
     go phases.MessageIn e h a z = from_in e (bus_of k).atn refl k.exchange.plan.next refl h z
-    go phases.Command e h a z = left.command e (not_false k.exchange.plan.struck a)
+    go phases.Command e h a z = left.command e (not-false k.exchange.plan.struck a)
     go phases.DataIn e h a z = wrong' h
     go phases.DataOut e h a z = wrong' h
     go phases.Status e h a z = wrong (sym z ∙ ends (bus_of k).atn)

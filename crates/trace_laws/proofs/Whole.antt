@@ -46,6 +46,7 @@ use Rattle.trace_laws.specs.RowAttendance.{IsAttended, IsCalmTurn}
 use Rattle.trace_laws.specs.RunsLeft.{RunsLeft}
 use Rattle.trace_laws.specs.SentFailures.{SentFacts}
 use Rattle.trace_laws.specs.TellFacts.{TellFacts}
+use Rattle.trace_laws.specs.DataPointers.{is_marked}
 use Rattle.trace_laws.specs.Tells.{AreRepliesShown, FailsAsLeft, TellsAsLeft}
 use Rattle.trace_laws.specs.WriteFacts.{WriteFacts, WritesAsked}
 use Rattle.trace_laws.proofs.Attended.{attended_row}
@@ -279,7 +280,7 @@ next s p row o prompt was =
       sent = sent_next s p row o prompt was.stood nx was.facts was.fails was.crossed was.complaints was.sent;
       clear = clear_next s p row o prompt was.stood nx was.facts was.fails was.places g.facts.items sent was.clear;
       places = g.places;
-      shown = replies_next s k row (ap (λ (a : Option Array). is_some a) g.places.array_is) (undo_asks s p row was.stood nx was.facts.undo) was.shown;
+      shown = replies_next s k row (ap (λ (a : Option Array). is_some a) g.places.array_is) (undo_asks is_marked s p row was.stood nx was.facts.undo) was.shown;
       statuses = status_next s p row o prompt was.stood nx was.facts was.places g.places g.fails was.statuses;
       closes = close_next s p row o prompt was.stood nx was.facts was.places g.places was.closes;
       instructed = g.instructed;

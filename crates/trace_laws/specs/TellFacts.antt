@@ -2,6 +2,7 @@
 use Rattle.std.specs.Prelude.{List}
 use Rattle.bus_trace.specs.declared.Row.{Row}
 use Rattle.scenario.specs.Value.{ScenarioValue}
+use Rattle.trace_laws.specs.DataPointers.{is_marked}
 use Rattle.trace_laws.specs.ItemFacts.{ItemFacts}
 use Rattle.trace_laws.specs.LastTalks.{LastFacts}
 use Rattle.trace_laws.specs.Named.{NamedFacts}
@@ -12,6 +13,6 @@ pub record TellFacts (s : ScenarioValue) (rows : List Row) : Type 0 where
   pub items : ItemFacts s rows
   pub offers : OfferFacts s rows
   pub named : NamedFacts s rows
-  pub undo : UndoFacts s rows
+  pub undo : UndoFacts is_marked s rows
   pub served : ServedFacts s rows
   pub last : LastFacts s rows

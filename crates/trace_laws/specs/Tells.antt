@@ -109,11 +109,15 @@ pub record IsLeaving (s : ScenarioValue) (rows : List Row) (row : Row) (n : Conn
 abbrev pub TellsAsLeft : ScenarioValue → List Row → Row → Type 0
 TellsAsLeft s rows row = (n : Connection) → IsLeaving s rows row n → Tells s (run_state s rows) n
 
--- What MESSAGE PARITY ERROR brings back has an answer exactly where the process has one (6.6.13).
-abbrev pub UndoesAnswers : RunState → Row → Type 0
-UndoesAnswers k row =
+-- What MESSAGE PARITY ERROR brings back with the row agrees in this with what the process has (6.6.13).
+abbrev pub UndoesSame : {A : Type 0} → (CarriedBytes → A) → RunState → Row → Type 0
+UndoesSame what k row =
     (l : Link) (m : MsgOut) (u : CarriedBytes) → k.story.link ≡ Some l → (row_reading k.story.bus_state row).out ≡ Some m → is_parity_error m ≡ true → l.undo ≡ Some u
-    → is_marked u ≡ is_marked (carried_here k u.id)
+    → what u ≡ what (carried_here k u.id)
+
+-- It has an answer exactly where the process has one.
+abbrev pub UndoesAnswers : RunState → Row → Type 0
+UndoesAnswers k row = UndoesSame is_marked k row
 
 -- ---- what is still asked of a row
 
@@ -123,10 +127,10 @@ FailsAsLeft s rows row =
     (n : Connection) (id : ProcId) → IsLeaving s rows row n → item_of (run_state s rows).story.link ≡ Some (process id)
     → FailsIn (run_state s rows).exchange.plan (bus_of (run_state s rows)).atn (carried_here (run_state s rows) id) (phase_of (bus_of (run_state s rows)))
 
--- ---- where MESSAGE PARITY ERROR may come, what it brings back has the answer that the process has
+-- ---- where MESSAGE PARITY ERROR may come, what it brings back agrees with what the process has
 
-abbrev pub UndoFits : RunState → Type 0
-UndoFits k = (l : Link) (u : CarriedBytes) → k.story.link ≡ Some l → l.undo ≡ Some u → is_marked u ≡ is_marked (carried_here k u.id)
+abbrev pub UndoFits : {A : Type 0} → (CarriedBytes → A) → RunState → Type 0
+UndoFits what k = (l : Link) (u : CarriedBytes) → k.story.link ≡ Some l → l.undo ≡ Some u → what u ≡ what (carried_here k u.id)
 
 -- After COMMAND the first message is one of one byte, with which nothing older can be brought back.
 abbrev pub is_short : Option MsgIn → Bool
@@ -147,12 +151,12 @@ UndoBy fits p requests phases.MessageOut = UndoAsked fits p.cause
 UndoBy fits p requests phases.MessageIn = fits ⊎ ((requests ≡ 0) × (is_short p.messages.first ≡ true))
 UndoBy fits p requests _ = ⊤
 
-pub record UndoBooks (k : RunState) : Type 0 where
-  pub unbegun : k.exchange.begun ≡ false → UndoFits k
-  pub begun : k.exchange.begun ≡ true → UndoBy (UndoFits k) k.exchange.plan k.handshakes.requests (phase_of (bus_of k))
+pub record UndoBooks {A : Type 0} (what : CarriedBytes → A) (k : RunState) : Type 0 where
+  pub unbegun : k.exchange.begun ≡ false → UndoFits what k
+  pub begun : k.exchange.begun ≡ true → UndoBy (UndoFits what k) k.exchange.plan k.handshakes.requests (phase_of (bus_of k))
 
-abbrev pub UndoFacts : ScenarioValue → List Row → Type 0
-UndoFacts s rows = (n : Connection) → connection rows ≡ Some n → (bus rows).rst ≡ false → UndoBooks (run_state s rows)
+abbrev pub UndoFacts : {A : Type 0} → (CarriedBytes → A) → ScenarioValue → List Row → Type 0
+UndoFacts what s rows = (n : Connection) → connection rows ≡ Some n → (bus rows).rst ≡ false → UndoBooks what (run_state s rows)
 
 abbrev pub ServedFacts : ScenarioValue → List Row → Type 0
 ServedFacts s rows = (n : Connection) → connection rows ≡ Some n → (bus rows).rst ≡ false → IsServed s (run_state s rows) n

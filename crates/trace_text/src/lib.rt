@@ -14,12 +14,14 @@
 #![tactic(auto)]
 
 mod blocks_part;
+mod digits;
 mod history_part;
 mod laws;
 mod limit;
 mod line_front;
 mod reader;
 mod replies_part;
+mod row_line;
 mod rows;
 mod short_form;
 mod spaced;

@@ -5,68 +5,64 @@ ghost use Rattle.trace_text.specs.RowText.{IsOfEight, lines_text, kind_text, row
 ghost use Rattle.bus_trace.specs.declared.Kind.TheVariants.{Fault};
 ghost use Rattle.text_pages.specs.Pages.{Prints};
 
-use crate::rows::glyph;
+use crate::row_line::{RowLine, SPAN, line_end};
 use bitflags::Flags;
 use bus_base::{Dev, Ns, Sink};
 use bus_trace::{Kind, Row};
-use text_pages::{Page, put, put_number};
+use text_pages::{Page, put, put_number, put_short};
 
-// What stands after the time of a row that drives these lines.
-fn driven_end(dev: Dev, lines: u32) -> [u8; 9]
-    requires device { dev < 8 }
-    requires few { lines < 2 ^ 18 }
-    ensures { result ≡ 32 ∷ (48 + dev) ∷ 32 ∷ [] ++ lines_text lines ++ 10 ∷ [] }
-{
-    [
-        b' ',
-        b'0' + dev,
-        b' ',
-        glyph(lines / 0x1_0000),
-        glyph(lines / 0x1000 % 16),
-        glyph(lines / 0x100 % 16),
-        glyph(lines / 0x10 % 16),
-        glyph(lines % 16),
-        b'\n',
-    ]
-}
-
-// What stands after the time of a fault row.
-fn put_fault<K: Sink>(out: &mut K, page: &mut Page, dev: Dev, bit: u8)
+// The line of a fault row.
+fn put_fault<K: Sink>(out: &mut K, page: &mut Page, time: Ns, dev: Dev, bit: u8)
     requires { dev < 8 }
     ensures { Prints K.written K.faults out.old out.new page.old page.new
-        (32 ∷ (48 + dev) ∷ 32 ∷ [] ++ kind_text (Fault bit) ++ 10 ∷ []) }
+        (decimal time ++ (32 ∷ (48 + dev) ∷ 32 ∷ [] ++ kind_text (Fault bit) ++ 10 ∷ [])) }
 {
+    put_number(out, page, time);
     put(out, page, &[b' ', b'0' + dev, b' ', b'f']);
     put_number(out, page, bit as u64);
     put(out, page, b"\n");
 }
 
-// What stands after the time of a row.
-fn put_end<K: Sink>(out: &mut K, page: &mut Page, dev: Dev, kind: Kind)
-    requires { dev < 8 }
+// The line of a row that drives lines.
+fn put_driven<K: Sink>(
+    out: &mut K,
+    page: &mut Page,
+    line: &mut RowLine,
+    time: Ns,
+    dev: Dev,
+    lines: u32,
+)
+    requires device { dev < 8 }
+    requires few { lines < 2 ^ 18 }
     ensures { Prints K.written K.faults out.old out.new page.old page.new
-        (32 ∷ (48 + dev) ∷ 32 ∷ [] ++ kind_text kind ++ 10 ∷ []) }
+        (decimal time ++ (32 ∷ (48 + dev) ∷ 32 ∷ [] ++ lines_text lines ++ 10 ∷ [])) }
 {
-    match kind {
-        Kind::Drives(lines) => put(out, page, &driven_end(dev, lines.bits())),
-        Kind::Fault(bit) => put_fault(out, page, dev, bit),
+    if time < SPAN {
+        put_number(out, page, time);
+        put(out, page, &line_end(0, dev, lines)[4..]);
+        return;
     }
+    line.set(time, dev, lines);
+    put_short(out, page, line.text(), line.len());
 }
 
-fn put_row<K: Sink>(out: &mut K, page: &mut Page, row: &Row)
+fn put_row<K: Sink>(out: &mut K, page: &mut Page, line: &mut RowLine, row: &Row)
     requires { IsOfEight row.now }
     ensures { Prints K.written K.faults out.old out.new page.old page.new (row_text row.now) }
 {
-    put_number(out, page, row.time);
-    put_end(out, page, row.dev, row.kind);
+    match row.kind {
+        Kind::Drives(lines) => put_driven(out, page, line, row.time, row.dev, lines.bits()),
+        Kind::Fault(bit) => put_fault(out, page, row.time, row.dev, bit),
+    }
 }
 
 fn put_rows<K: Sink>(out: &mut K, page: &mut Page, rows: &[Row])
     requires { AllByRecursion IsOfEight rows.now }
     ensures { Prints K.written K.faults out.old out.new page.old page.new (flat_map row_text rows.now) }
 {
+    let mut line = RowLine::begun(0);
     for row in rows {
-        put_row(out, page, row);
+        put_row(out, page, &mut line, row);
     }
 }
 

@@ -8,14 +8,14 @@ use Rattle.bus_trace.specs.declared.changes.Change.{Change}
 use Rattle.bus_trace.specs.declared.connection.Connection.{Connection}
 use Rattle.bus_trace.specs.declared.rows.Row.{Row}
 use Rattle.scenario.specs.Value.{ScenarioValue}
-use Rattle.bus_base.specs.declared.ProcId.{ProcId}
-use Rattle.bus_story.specs.Items.{Item, process, abort}
+use Rattle.bus_story.specs.Items.{abort}
 use Rattle.bus_dialogue.specs.declared.exchange.Cause.TheVariants as causes
 use Rattle.bus_due.specs.RunState.{RunState, bus_of}
 use Rattle.bus_due.specs.RunSteps.{run_state}
 use Rattle.bus_due.specs.Plain.{IsPlain}
 use Rattle.bus_due.proofs.Plains.{run_state_plain}
 use Rattle.bus_laws.specs.Ends.{connected_bus, ends_selected}
+use Rattle.bus_books.specs.Tests.{is_selected}
 use Rattle.bus_books.proofs.InConnection.{InConnection, in_connection}
 use Rattle.bus_transcript.specs.Opened.{OpenedValue, phase_entered, phase_over}
 use Rattle.trace_laws.specs.Tells.{IsServed, of_process, of_abort}
@@ -27,7 +27,8 @@ use Rattle.transcript_laws.proofs.OpenedAll.{OpenedAll}
 use Rattle.transcript_laws.proofs.OpenedBytes.{begun_crossing}
 use Rattle.transcript_laws.proofs.OpenedFacts.{Going, RowMade, made_still, made_crossing, made_turn, plain_before}
 use Rattle.transcript_laws.proofs.OutNames.{outs_of}
-use Rattle.transcript_laws.proofs.SaidNames.{is_selected, outs_same, outs_turned, opened_turned, first_out, unsaid_same, first_talk}
+use Rattle.transcript_laws.proofs.SaidNames.{outs_same, outs_turned, opened_turned, first_out, unsaid_same, first_talk}
+use Rattle.transcript_laws.proofs.TurnFits.{not_both}
 use Rattle.bus_base.proofs.Tests.{wrong'}
 
 pub record IsUnsaid (o : OpenedValue) : Type 0 where
@@ -37,7 +38,8 @@ pub record IsUnsaid (o : OpenedValue) : Type 0 where
 abbrev pub AbortTalk : RunState → OpenedValue → Type 0
 AbortTalk k o = (j : ℕ) → k.served ≡ Some (abort j) → IsUnsaid o
 
-pub abort_row : (s : ScenarioValue) (p : List Row) (row : Row) (n : Connection) (g : Going s p row n) (o after : OpenedValue) → RowMade (run_state s p) row n g.going.change o after → OpenedAll (run_state s p) n o → AbortTalk (run_state s p) o → AbortTalk (run_state s (row ∷ p)) after
+pub abort_row : (s : ScenarioValue) (p : List Row) (row : Row) (n : Connection) (g : Going s p row n) (o after : OpenedValue) → RowMade (run_state s p) row n g.going.change o after
+    → OpenedAll (run_state s p) n o → AbortTalk (run_state s p) o → AbortTalk (run_state s (row ∷ p)) after
 abort_row s p row n g o after made h was m sv = by made
   where
     k : RunState
@@ -61,9 +63,6 @@ abort_row s p row n g o after made h was m sv = by made
     u : IsUnsaid o
     u = was m served
 
-    not_both : {A : Type 0} (id : ProcId) → (let x : Option Item = Some (process id) in x) ≡ Some (abort m) → A
-    not_both id e = absurd cc
-
     selected_lines : k.exchange.begun ≡ false → bus_of k ≡ connected_bus ends_selected
     selected_lines b = (plain_before s p row n g).bus ∙ link_unbegun s p n g.link.stage (sym (plain_before s p row n g).begun ∙ b)
 
@@ -72,12 +71,12 @@ abort_row s p row n g o after made h was m sv = by made
     out b = go (g.was.facts.served n g.stands g.calm)
       where
         go : IsServed s k n → is_message_out (bus_of k) ≡ true
-        go (of_process id pr e f) = not_both id (sym e ∙ served)
+        go (of_process id pr e f) = not_both id m (sym e ∙ served)
         go (of_abort x a e f y z re phase) = out_lines (bus_of k) (phase b).0 (λ q. (g.going.goes.phase q).0)
 
     -- and that of the opening
     opening : (x : RunState) → IsServed s x n → x.served ≡ Some (abort m) → x.exchange.begun ≡ true → x.exchange.plan.cause ≡ causes.Selected
-    opening x (of_process id pr e f) y b = not_both id (sym e ∙ y)
+    opening x (of_process id pr e f) y b = not_both id m (sym e ∙ y)
     opening x (of_abort q a e f y z re phase) w b = (phase b).1
 
     out_after : j.exchange.begun ≡ true → is_message_out (bus_of j) ≡ true
@@ -90,7 +89,7 @@ abort_row s p row n g o after made h was m sv = by made
         phase_is z = ap (λ (x : LineSet). x.cd) ql.bus ∙ (link_phase s (row ∷ p) n (stage_of_connection s (row ∷ p) n g.now.stood g.after g.calm_after) (ap (λ (x : LineSet). x.msg) (sym ql.bus) ∙ z)).0
 
         go : IsServed s j n → is_message_out (bus_of j) ≡ true
-        go (of_process id pr e f) = not_both id (sym e ∙ sv)
+        go (of_process id pr e f) = not_both id m (sym e ∙ sv)
         go (of_abort x a e f y z re phase) = out_lines (bus_of j) (phase b).0 phase_is
 
     no_in : (b : Bool) → k.exchange.begun ≡ b → is_message_in c.before ≡ false
@@ -107,7 +106,8 @@ abort_row s p row n g o after made h was m sv = by made
       talk = unsaid_same s p row n g o after made ep (no_in k.exchange.begun refl) (λ er. crossing (receiver_in n c) refl er) ∙ u.talk;
     }
 
-    turn : changes_phase c ≡ true → is_some (receiver_in n c) ≡ false → after ≡ phase_entered (phase_over o c.before k.story.bus_state.dialogue.half true) c.after → (b : Bool) → k.exchange.begun ≡ b → IsUnsaid after
+    turn : changes_phase c ≡ true → is_some (receiver_in n c) ≡ false → after ≡ phase_entered (phase_over o c.before k.story.bus_state.dialogue.half true) c.after → (b : Bool)
+        → k.exchange.begun ≡ b → IsUnsaid after
     turn ep none e true b =
         let w = opened_turned s p row n g ep none b in
         wrong' (sym (w.cause (out_after w.begun)) ∙ ap is_selected (opening j (g.now.facts.served n g.after g.calm_after) sv w.begun))

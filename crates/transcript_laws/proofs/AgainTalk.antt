@@ -52,7 +52,7 @@ use Rattle.trace_laws.proofs.NamedBytes.{names_first, names_left}
 use Rattle.trace_laws.proofs.PhaseLines.{in_phase, out_in, out_phase}
 use Rattle.trace_laws.proofs.RunAsks.{answers_all, out_phase as data_out_phase}
 use Rattle.trace_laws.proofs.RunFacts.{task_here}
-use Rattle.trace_laws.proofs.TalkSteps.{not_both}
+use Rattle.bus_books.proofs.Gives.{not_both}
 use Rattle.trace_laws.proofs.TellFacts.{front_length}
 use Rattle.transcript_laws.specs.Parts.{are_talk, base_parts, parts_now}
 use Rattle.transcript_laws.proofs.BaseParts.{base_turned}
@@ -72,7 +72,8 @@ crossed_bytes b h = if b.io then h.requests else h.answers
 
 pub record AgainTalk (k : RunState) (n : Connection) (o : OpenedValue) : Type 0 where
   pub into : n.reselected ≡ true → is_message_in (bus_of k) ≡ true → (is_naming k.exchange.plan.messages.first ≡ true) ⊎ (are_talk (base_parts o) ≡ false)
-  pub out : n.reselected ≡ true → is_message_out (bus_of k) ≡ true → ((k.exchange.plan.cause ≡ causes.InMessage) × (is_naming k.exchange.plan.messages.first ≡ true)) ⊎ (are_talk (base_parts o) ≡ false)
+  pub out : n.reselected ≡ true → is_message_out (bus_of k) ≡ true
+      → ((k.exchange.plan.cause ≡ causes.InMessage) × (is_naming k.exchange.plan.messages.first ≡ true)) ⊎ (are_talk (base_parts o) ≡ false)
   pub bytes : n.reselected ≡ true → is_data (bus_of k) ≡ true → (crossed_bytes (bus_of k) k.handshakes == 0) ≡ false → is_nil o.bytes ≡ false
 
 -- ---- lines
@@ -111,7 +112,8 @@ data_no_command b e = go b.msg b.cd b.io e
 no_turn_in : {A : Type 0} (c : Change) → is_message_in c.before ≡ true → is_message_in c.after ≡ true → changes_phase c ≡ true → A
 no_turn_in c x y ep = go c.before.msg c.before.cd c.before.io c.after.msg c.after.cd c.after.io x y ep
   where
-    go : {A : Type 0} (m d i m' d' i' : Bool) → (m && d && i) ≡ true → (m' && d' && i') ≡ true → changes_phase (record c { before = record c.before { msg = m; cd = d; io = i }; after = record c.after { msg = m'; cd = d'; io = i' } }) ≡ true → A
+    go : {A : Type 0} (m d i m' d' i' : Bool) → (m && d && i) ≡ true → (m' && d' && i') ≡ true
+        → changes_phase (record c { before = record c.before { msg = m; cd = d; io = i }; after = record c.after { msg = m'; cd = d'; io = i' } }) ≡ true → A
     go true true true true true true z w e = wrong' e
     go true true true true true false z w e = wrong' w
     go true true true true false i' z w e = wrong' w
@@ -123,7 +125,8 @@ no_turn_in c x y ep = go c.before.msg c.before.cd c.before.io c.after.msg c.afte
 no_turn_out : {A : Type 0} (c : Change) → is_message_out c.before ≡ true → is_message_out c.after ≡ true → changes_phase c ≡ true → A
 no_turn_out c x y ep = go c.before.msg c.before.cd c.before.io c.after.msg c.after.cd c.after.io x y ep
   where
-    go : {A : Type 0} (m d i m' d' i' : Bool) → (m && d && not i) ≡ true → (m' && d' && not i') ≡ true → changes_phase (record c { before = record c.before { msg = m; cd = d; io = i }; after = record c.after { msg = m'; cd = d'; io = i' } }) ≡ true → A
+    go : {A : Type 0} (m d i m' d' i' : Bool) → (m && d && not i) ≡ true → (m' && d' && not i') ≡ true
+        → changes_phase (record c { before = record c.before { msg = m; cd = d; io = i }; after = record c.after { msg = m'; cd = d'; io = i' } }) ≡ true → A
     go true true false true true false z w e = wrong' e
     go true true false true true true z w e = wrong' w
     go true true false true false i' z w e = wrong' w
@@ -134,7 +137,8 @@ no_turn_out c x y ep = go c.before.msg c.before.cd c.before.io c.after.msg c.aft
 
 -- ---- the parts of a phase that is left
 
-phase_more : (o after : OpenedValue) (c : Change) (half : List ℕ) → after ≡ phase_entered (phase_over o c.before half true) c.after → are_talk (phase_parts o c.before true) ≡ false → are_talk (base_parts after) ≡ false
+phase_more : (o after : OpenedValue) (c : Change) (half : List ℕ) → after ≡ phase_entered (phase_over o c.before half true) c.after → are_talk (phase_parts o c.before true) ≡ false
+    → are_talk (base_parts after) ≡ false
 phase_more o after c half e none =
     let before : List Part = parts_now o ++ broken_parts c.before half in
     let end : List Part = if is_status_phase c.after then parts_of.StatusPhase ∷ [] else [] in
@@ -186,7 +190,8 @@ refusal_names v e to = go (is_some v.plan.said.offer) (is_naming v.plan.messages
 
 -- ---- a connection begins
 
-pub again_start : (s : ScenarioValue) (p : List Row) (row : Row) (n : Connection) (o : OpenedValue) → Starts s p row n → (n.reselected ≡ true → Named s (run_state s (row ∷ p)) n) → AgainTalk (run_state s (row ∷ p)) n o
+pub again_start : (s : ScenarioValue) (p : List Row) (row : Row) (n : Connection) (o : OpenedValue) → Starts s p row n → (n.reselected ≡ true → Named s (run_state s (row ∷ p)) n)
+    → AgainTalk (run_state s (row ∷ p)) n o
 again_start s p row n o h named = record {
   into = λ re z. at_in re (named re) z;
   out = λ re z. at_out re (named re) z;
@@ -204,7 +209,8 @@ again_start s p row n o h named = record {
     at_in re (said pr l naming here names all) z = inl (names_first pr l j.exchange.plan.messages j.handshakes.requests names)
     at_in re (refused pr l naming here cause names) z = not_both (bus_of j) z here
 
-    at_out : n.reselected ≡ true → Named s j n → is_message_out (bus_of j) ≡ true → ((j.exchange.plan.cause ≡ causes.InMessage) × (is_naming j.exchange.plan.messages.first ≡ true)) ⊎ (are_talk (base_parts o) ≡ false)
+    at_out : n.reselected ≡ true → Named s j n → is_message_out (bus_of j) ≡ true
+        → ((j.exchange.plan.cause ≡ causes.InMessage) × (is_naming j.exchange.plan.messages.first ≡ true)) ⊎ (are_talk (base_parts o) ≡ false)
     at_out re (known l e some none) z = unknown re l e some
     at_out re (said pr l naming here names all) z = not_both (bus_of j) here z
     at_out re (refused pr l naming here cause names) z = inl (cause, names_first pr l j.exchange.plan.messages 0 names)
@@ -216,14 +222,16 @@ again_start s p row n o h named = record {
 
 -- ---- row by row
 
-still_count : (io q r : Bool) (x y a b a' b' : ℕ) → is_some (if io then (if q then Some x else None) else if r then Some y else None) ≡ false → a' ≡ (if q then counted_on a else a) → b' ≡ (if r then counted_on b else b) → ((if io then a' else b') == 0) ≡ false → ((if io then a else b) == 0) ≡ false
+still_count : (io q r : Bool) (x y a b a' b' : ℕ) → is_some (if io then (if q then Some x else None) else if r then Some y else None) ≡ false → a' ≡ (if q then counted_on a else a)
+    → b' ≡ (if r then counted_on b else b) → ((if io then a' else b') == 0) ≡ false → ((if io then a else b) == 0) ≡ false
 still_count true true r x y a b a' b' none e f z = wrong none
 still_count true false r x y a b a' b' none e f z = ap (λ (m : ℕ). m == 0) (sym e) ∙ z
 still_count false q true x y a b a' b' none e f z = wrong none
 still_count false q false x y a b a' b' none e f z = ap (λ (m : ℕ). m == 0) (sym f) ∙ z
 
 -- As a data phase is left a byte has crossed in it.
-some_crossed : (s : ScenarioValue) (p : List Row) (row : Row) (n : Connection) (g : Going s p row n) → n.reselected ≡ true → (run_state s p).exchange.begun ≡ true → changes_phase g.going.change ≡ true → is_data (bus_of (run_state s p)) ≡ true → (crossed_bytes (bus_of (run_state s p)) (run_state s p).handshakes == 0) ≡ false
+some_crossed : (s : ScenarioValue) (p : List Row) (row : Row) (n : Connection) (g : Going s p row n) → n.reselected ≡ true → (run_state s p).exchange.begun ≡ true
+    → changes_phase g.going.change ≡ true → is_data (bus_of (run_state s p)) ≡ true → (crossed_bytes (bus_of (run_state s p)) (run_state s p).handshakes == 0) ≡ false
 some_crossed s p row n g re b ep here = go (bus_of k).io refl
   where
     k : RunState
@@ -258,7 +266,8 @@ some_crossed s p row n g re b ep here = go (bus_of k).io refl
     go true io = ap (λ (q : Bool). (if q then k.handshakes.requests else k.handshakes.answers) == 0) io ∙ ap (λ (h : Handshakes). h.requests == 0) pl.handshakes ∙ left_asked s p row n (sym pl.begun ∙ b) g.link.link turned
     go false io = ap (λ (q : Bool). (if q then k.handshakes.requests else k.handshakes.answers) == 0) io ∙ answered (g.was.facts.served n g.stands g.calm) io
 
-pub again_row : (s : ScenarioValue) (p : List Row) (row : Row) (n : Connection) (g : Going s p row n) (o after : OpenedValue) → RowMade (run_state s p) row n g.going.change o after → OpenedAll (run_state s p) n o → (n.reselected ≡ true → (run_state s p).exchange.begun ≡ true) → AgainTalk (run_state s p) n o → AgainTalk (run_state s (row ∷ p)) n after
+pub again_row : (s : ScenarioValue) (p : List Row) (row : Row) (n : Connection) (g : Going s p row n) (o after : OpenedValue) → RowMade (run_state s p) row n g.going.change o after
+    → OpenedAll (run_state s p) n o → (n.reselected ≡ true → (run_state s p).exchange.begun ≡ true) → AgainTalk (run_state s p) n o → AgainTalk (run_state s (row ∷ p)) n after
 again_row s p row n g o after made all begun_is h = by made
   where
     k : RunState
@@ -280,7 +289,8 @@ again_row s p row n g o after made all begun_is h = by made
     stays z = stays_more s p row n g o after made z
 
     -- the phase is as before
-    same : changes_phase c ≡ false → (n.reselected ≡ true → is_data (bus_of j) ≡ true → (crossed_bytes (bus_of j) j.handshakes == 0) ≡ false → is_nil after.bytes ≡ false) → AgainTalk j n after
+    same : changes_phase c ≡ false → (n.reselected ≡ true → is_data (bus_of j) ≡ true → (crossed_bytes (bus_of j) j.handshakes == 0) ≡ false → is_nil after.bytes ≡ false)
+        → AgainTalk j n after
     same ep bytes = record {
       into = λ re z. elim (h.into re (sym (in_same (bus_of k) (bus_of j) lines) ∙ z)) [ inl x ↦ inl (ap (λ (m : Messages). is_naming m.first) messages ∙ x) | inr x ↦ inr (stays x) ];
       out = λ re z. elim (h.out re (sym (out_same (bus_of k) (bus_of j) lines) ∙ z)) [ inl x ↦ inl (same_cause s p row n g ep ∙ x.0, ap (λ (m : Messages). is_naming m.first) messages ∙ x.1) | inr x ↦ inr (stays x) ];
@@ -309,14 +319,17 @@ again_row s p row n g o after made all begun_is h = by made
             ∙ still_count c.before.io (rises c.before.req c.after.req) (rises c.before.ack c.after.ack) n.initiator n.target k.handshakes.requests k.handshakes.answers j.handshakes.requests j.handshakes.answers none r.requests r.answers
             (ap (λ (q : Bool). (if q then j.handshakes.requests else j.handshakes.answers) == 0) (sym (lines.io ∙ ap (λ (l : LineSet). l.io) on)) ∙ w)
 
-    crossing : changes_phase c ≡ false → CrossingMade o after k.story.bus_state.dialogue.is_last c.before (c.after.data_bits % 256) (message_out k.story.bus_state.dialogue c true) (message_in k.story.bus_state.dialogue c true) → AgainTalk j n after
+    crossing : changes_phase c ≡ false
+        → CrossingMade o after k.story.bus_state.dialogue.is_last c.before (c.after.data_bits % 256) (message_out k.story.bus_state.dialogue c true) (message_in k.story.bus_state.dialogue c true)
+        → AgainTalk j n after
     crossing ep (crossed_out x f) = same ep (λ re z w. wrong (sym (data_before ep z) ∙ out_no_data (bus_of k) (ap is_message_out on ∙ x)))
     crossing ep (crossed_in x y f) = same ep (λ re z w. wrong (sym (data_before ep z) ∙ in_no_data (bus_of k) (ap is_message_in on ∙ y)))
     crossing ep (crossed_status x y v f) = same ep (λ re z w. wrong (sym (data_before ep z) ∙ status_no_data (bus_of k) (ap is_status_phase on ∙ v)))
     crossing ep (crossed_else x y v f) = same ep (λ re z w. ap (λ (q : OpenedValue). is_nil q.bytes) f ∙ nil_more o.bytes (c.after.data_bits % 256))
 
     -- another phase begins
-    turned : changes_phase c ≡ true → is_some (receiver_in n c) ≡ false → is_fault row.kind ≡ false → after ≡ phase_entered (phase_over o c.before half true) c.after → AgainTalk j n after
+    turned : changes_phase c ≡ true → is_some (receiver_in n c) ≡ false → is_fault row.kind ≡ false → after ≡ phase_entered (phase_over o c.before half true) c.after
+        → AgainTalk j n after
     turned ep none ef e = record {
       into = λ re z. into re z;
       out = λ re z. out re z;
@@ -340,7 +353,8 @@ again_row s p row n g o after made all begun_is h = by made
             other : is_status_phase c.before ≡ false → is_command c.before ≡ false → is_data c.before ≡ false → are_talk (base_parts after) ≡ false
             other x y z = lines c.before.msg c.before.cd c.before.io (λ m. ap (λ (l : LineSet). l.cd) (sym on) ∙ (g.going.goes.phase (ap (λ (l : LineSet). l.msg) on ∙ m)).0) no_in no_out x y z
               where
-                lines : (m d io : Bool) → (m ≡ true → d ≡ true) → (m && d && io) ≡ false → (m && d && not io) ≡ false → (not m && d && io) ≡ false → (not m && d && not io) ≡ false → (not m && not d) ≡ false → are_talk (base_parts after) ≡ false
+                lines : (m d io : Bool) → (m ≡ true → d ≡ true) → (m && d && io) ≡ false → (m && d && not io) ≡ false → (not m && d && io) ≡ false → (not m && d && not io) ≡ false
+                    → (not m && not d) ≡ false → are_talk (base_parts after) ≡ false
                 lines true true true f u v x y z = wrong u
                 lines true true false f u v x y z = wrong v
                 lines true false io f u v x y z = wrong' (f refl)
@@ -384,18 +398,21 @@ again_row s p row n g o after made all begun_is h = by made
                 ∙ ap (λ (q : Bool). (if not q then record (plan_anew k.exchange.plan) { messages = (leaving s k n.target).messages; next = (leaving s k n.target).next } else if k.exchange.begun then plan_in_message_out (hearing_of k row (reading_in k.story.bus_state n c false)) k.exchange.plan else plan_anew k.exchange.plan).messages) (out_in c.after in_after)
                 ∙ ap (λ (y : Leaving). y.messages) left
 
-            again : is_message_out (bus_of k) ≡ true → k.exchange.plan.cause ≡ causes.InMessage → is_naming k.exchange.plan.messages.first ≡ true → is_naming j.exchange.plan.messages.first ≡ true
+            again : is_message_out (bus_of k) ≡ true → k.exchange.plan.cause ≡ causes.InMessage → is_naming k.exchange.plan.messages.first ≡ true
+                → is_naming j.exchange.plan.messages.first ≡ true
             again here cause naming =
                 let is : phase_leaving v (bus_of k).atn (phase_of (bus_of k)) ≡ after_refusal v = ap (λ (f : Phase). phase_leaving v (bus_of k).atn f) (out_phase (bus_of k) here) ∙ ap (λ (y : Cause). message_out_leaving v y) cause in
                 ap (λ (m : Messages). is_naming m.first) messages ∙ ap (λ (y : Leaving). is_naming y.messages.first) is ∙ refusal_names v naming (ap (λ (y : Leaving). y.to) (sym is) ∙ to)
 
-            go : (q : Bool) → is_message_out c.before ≡ q → (r : Bool) → is_message_in c.before ≡ r → (is_naming j.exchange.plan.messages.first ≡ true) ⊎ (are_talk (base_parts after) ≡ false)
+            go : (q : Bool) → is_message_out c.before ≡ q → (r : Bool) → is_message_in c.before ≡ r
+                → (is_naming j.exchange.plan.messages.first ≡ true) ⊎ (are_talk (base_parts after) ≡ false)
             go true y r z = let here : is_message_out (bus_of k) ≡ true = ap is_message_out on ∙ y in elim (h.out re here) [ inl w ↦ inl (again here w.0 w.1) | inr w ↦ inr (stays w) ]
             go false y true z = no_turn_in c z in_after ep
             go false y false z = inr (more re z y)
 
         -- MESSAGE OUT follows
-        out : n.reselected ≡ true → is_message_out (bus_of j) ≡ true → ((j.exchange.plan.cause ≡ causes.InMessage) × (is_naming j.exchange.plan.messages.first ≡ true)) ⊎ (are_talk (base_parts after) ≡ false)
+        out : n.reselected ≡ true → is_message_out (bus_of j) ≡ true
+            → ((j.exchange.plan.cause ≡ causes.InMessage) × (is_naming j.exchange.plan.messages.first ≡ true)) ⊎ (are_talk (base_parts after) ≡ false)
         out re x = go (is_message_in c.before) refl (is_message_out c.before) refl
           where
             b : k.exchange.begun ≡ true
@@ -404,7 +421,8 @@ again_row s p row n g o after made all begun_is h = by made
             out_after : is_message_out c.after ≡ true
             out_after = ap is_message_out (sym i.bus_is) ∙ x
 
-            left : is_message_in c.before ≡ true → (j.exchange.plan.cause ≡ causes.InMessage) × (j.exchange.plan.messages ≡ from_byte k.exchange.plan.messages (k.handshakes.requests - 1))
+            left : is_message_in c.before ≡ true
+                → (j.exchange.plan.cause ≡ causes.InMessage) × (j.exchange.plan.messages ≡ from_byte k.exchange.plan.messages (k.handshakes.requests - 1))
             left z = (cause, messages)
               where
                 cause : j.exchange.plan.cause ≡ causes.InMessage
@@ -422,17 +440,20 @@ again_row s p row n g o after made all begun_is h = by made
             asked : (k.handshakes.requests == 0) ≡ false
             asked = ap (λ (x : Handshakes). x.requests == 0) (plain_before s p row n g).handshakes ∙ left_asked s p row n (sym (plain_before s p row n g).begun ∙ b) g.link.link (ap changes_phase (sym g.going.change_is) ∙ ep)
 
-            named : is_message_in (bus_of k) ≡ true → is_naming k.exchange.plan.messages.first ≡ true → Named s k n → is_naming (from_byte k.exchange.plan.messages (k.handshakes.requests - 1)).first ≡ true
+            named : is_message_in (bus_of k) ≡ true → is_naming k.exchange.plan.messages.first ≡ true → Named s k n
+                → is_naming (from_byte k.exchange.plan.messages (k.handshakes.requests - 1)).first ≡ true
             named here naming (known l el some none_named) = no_name k.exchange.plan.messages none_named naming
             named here naming (refused pr l w there cause names) = not_both (bus_of k) here there
             named here naming (said pr l w there names whole) =
                 let given : AreGiven (bytes_of_messages k.exchange.plan.messages) half k.handshakes.requests = (g.was.stood.books.gives n g.going.goes.row_is.connection_is g.going.goes.calm).in_message_in b here in
                 names_first pr l (from_byte k.exchange.plan.messages (k.handshakes.requests - 1)) 0 (names_left pr l k.exchange.plan.messages k.handshakes.requests asked (front_length (bytes_of_messages k.exchange.plan.messages) half k.handshakes.requests given) names)
 
-            again : is_message_in c.before ≡ true → is_naming k.exchange.plan.messages.first ≡ true → (j.exchange.plan.cause ≡ causes.InMessage) × (is_naming j.exchange.plan.messages.first ≡ true)
+            again : is_message_in c.before ≡ true → is_naming k.exchange.plan.messages.first ≡ true
+                → (j.exchange.plan.cause ≡ causes.InMessage) × (is_naming j.exchange.plan.messages.first ≡ true)
             again z naming = let w = left z in (w.0, ap (λ (m : Messages). is_naming m.first) w.1 ∙ named (ap is_message_in on ∙ z) naming (g.was.facts.named n g.stands g.calm re))
 
-            go : (q : Bool) → is_message_in c.before ≡ q → (r : Bool) → is_message_out c.before ≡ r → ((j.exchange.plan.cause ≡ causes.InMessage) × (is_naming j.exchange.plan.messages.first ≡ true)) ⊎ (are_talk (base_parts after) ≡ false)
+            go : (q : Bool) → is_message_in c.before ≡ q → (r : Bool) → is_message_out c.before ≡ r
+                → ((j.exchange.plan.cause ≡ causes.InMessage) × (is_naming j.exchange.plan.messages.first ≡ true)) ⊎ (are_talk (base_parts after) ≡ false)
             go true y r z = elim (h.into re (ap is_message_in on ∙ y)) [ inl w ↦ inl (again y w) | inr w ↦ inr (stays w) ]
             go false y true z = no_turn_out c z out_after ep
             go false y false z = inr (more re y z)

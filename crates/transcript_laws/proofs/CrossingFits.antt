@@ -32,7 +32,7 @@ use Rattle.trace_laws.specs.ItemTalks.{TalksBy, IsTaken, talk_of}
 use Rattle.trace_laws.specs.Tells.{IsServed, of_process, of_abort}
 use Rattle.trace_laws.proofs.PhaseLines.{out_lines}
 use Rattle.trace_laws.proofs.TalkBytes.{on_message}
-use Rattle.trace_laws.proofs.TalkSteps.{not_both as not_both_ways}
+use Rattle.bus_books.proofs.Gives.{not_both as not_both_ways}
 use Rattle.transcript_laws.specs.Parts.{are_talk, base_parts, is_known}
 use Rattle.transcript_laws.specs.RowTests.{names_item, fits_in, is_no_abort}
 use Rattle.transcript_laws.proofs.OpenedBytes.{OpenedBytes, crosses_is, begun_crossing}

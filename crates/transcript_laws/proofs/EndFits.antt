@@ -45,6 +45,7 @@ use Rattle.bus_due.specs.Telling.{same_kind}
 use Rattle.bus_due.proofs.Plains.{run_state_plain}
 use Rattle.bus_books.specs.Giving.{Gives}
 use Rattle.bus_books.specs.Speaking.{Speaks}
+use Rattle.bus_books.specs.Tests.{is_selected}
 use Rattle.bus_books.proofs.Given.{in_is_whole}
 use Rattle.bus_books.proofs.InConnection.{reading_is}
 use Rattle.bus_laws.proofs.Apart.{change_plain}
@@ -68,7 +69,7 @@ use Rattle.trace_laws.proofs.Joint.{link_phase}
 use Rattle.trace_laws.proofs.PhaseLines.{in_out, out_in}
 use Rattle.trace_laws.proofs.RunFacts.{task_here}
 use Rattle.trace_laws.proofs.SentFailures.{sent_asks}
-use Rattle.trace_laws.proofs.TalkSteps.{not_both}
+use Rattle.bus_books.proofs.Gives.{not_both}
 use Rattle.trace_laws.proofs.TellEnds.{goes_on, naming_goes_on, none_heard}
 use Rattle.trace_laws.proofs.TellFacts.{all_given, left_tells}
 use Rattle.trace_laws.proofs.TellRows.{IsHeard, is_heard, never_ends}
@@ -88,7 +89,7 @@ use Rattle.transcript_laws.proofs.NamesAgain.{named_again}
 use Rattle.transcript_laws.proofs.OpenedFacts.{Holds, always}
 use Rattle.transcript_laws.proofs.OutNames.{outs_of, outs_now, mild_tame, IsOpening, opening_more, opening_tame, no_abort, opening_names, names, name_steps, names_same}
 use Rattle.transcript_laws.proofs.OutWords.{abort_messages, abort_said}
-use Rattle.transcript_laws.proofs.SaidNames.{SaidNames, OutNames, unsaid, told, IsOpened, is_selected, mild_said, names_hold, opening_words}
+use Rattle.transcript_laws.proofs.SaidNames.{SaidNames, OutNames, unsaid, told, IsOpened, mild_said, names_hold, opening_words}
 use Rattle.transcript_laws.proofs.SaidWords.{said_of}
 use Rattle.transcript_laws.proofs.TalkNamed.{talk_more}
 use Rattle.transcript_laws.proofs.TurnSteps.{outs_talk}
@@ -135,7 +136,8 @@ record Ending (s : ScenarioValue) (p : List Row) (row : Row) (n : Connection) (o
   phase : (bus_of (run_state s p)).msg ≡ true → (bus_of (run_state s p)).cd ≡ true
   left : goes_on (phase_leaving (serving_of s (run_state s p) n.target) (bus_of (run_state s p)).atn (phase_of (bus_of (run_state s p)))) ≡ false
 
-ending : (s : ScenarioValue) (p : List Row) (row : Row) (n : Connection) (k : OpenedValue) (l : Link) → Obeys s → IsPrompt s (row ∷ p) → connection p ≡ Some n → (bus p).rst ≡ false → (bus (row ∷ p)).rst ≡ false → connection (row ∷ p) ≡ None → (transcribed p).opened ≡ Some k → (run_state s p).story.link ≡ Some l → Ending s p row n k l
+ending : (s : ScenarioValue) (p : List Row) (row : Row) (n : Connection) (k : OpenedValue) (l : Link) → Obeys s → IsPrompt s (row ∷ p) → connection p ≡ Some n → (bus p).rst ≡ false
+    → (bus (row ∷ p)).rst ≡ false → connection (row ∷ p) ≡ None → (transcribed p).opened ≡ Some k → (run_state s p).story.link ≡ Some l → Ending s p row n k l
 ending s p row n k l o prompt con calm off after there el = by r.facts
   where
     st : Standing s p n k
@@ -181,7 +183,8 @@ ending s p row n k l o prompt con calm off after there el = by r.facts
         }
 
 -- As MESSAGE OUT is left by it all was heard.
-heard_of : (s : ScenarioValue) (p : List Row) (row : Row) (n : Connection) (o : OpenedValue) (l : Link) → Ending s p row n o l → phase_of (bus_of (run_state s p)) ≡ phases.MessageOut → IsHeard s (run_state s p)
+heard_of : (s : ScenarioValue) (p : List Row) (row : Row) (n : Connection) (o : OpenedValue) (l : Link) → Ending s p row n o l
+    → phase_of (bus_of (run_state s p)) ≡ phases.MessageOut → IsHeard s (run_state s p)
 heard_of s p row n o l h e = is_heard s (run_state s p) n h.here.speaking.units speaks h.begun h.phase h.stops.over e
   where
     pl : IsPlain s p (run_state s p)
@@ -217,7 +220,8 @@ abort_tells unit (aborts.Tag m) = record { message = to_target.AbortTag; abort_i
 abort_tells unit aborts.WholeQueue = record { message = to_target.ClearQueue; abort_is = refl; unit_is = refl; kind = refl }
 abort_tells unit aborts.Device = record { message = to_target.DeviceReset; abort_is = refl; unit_is = refl; kind = refl }
 
-abort_departs : (again : Bool) (a : Summary) (unit : ℕ) (what : AbortKind) → (summary_of again a (out_parts (to_target.Identify false unit ∷ abort_messages what))).departure ≡ Abortion
+abort_departs : (again : Bool) (a : Summary) (unit : ℕ) (what : AbortKind)
+    → (summary_of again a (out_parts (to_target.Identify false unit ∷ abort_messages what))).departure ≡ Abortion
 abort_departs again a unit aborts.All = refl
 abort_departs again a unit (aborts.Tag m) = refl
 abort_departs again a unit aborts.WholeQueue = refl
@@ -229,7 +233,8 @@ line_is n a sum host target h =
     ∙ (λ i. n.initiator == host i && n.target == target i && same_number (h.unit_is i) (Some a.unit) && h.kind i)
     ∙ (λ i. eq_self n.initiator i && eq_self n.target i && eq_self a.unit i && true)
 
-abort_ends : (s : ScenarioValue) (p : List Row) (row : Row) (n : Connection) (o : OpenedValue) (l : Link) (m : ℕ) → Ending s p row n o l → l.item ≡ Some (abort m) → fits_end s (run_state s p).story o l (closing_parts o (bus_of (run_state s p)) (run_state s p).story.bus_state.dialogue.half) (Some (abort m)) ≡ true
+abort_ends : (s : ScenarioValue) (p : List Row) (row : Row) (n : Connection) (o : OpenedValue) (l : Link) (m : ℕ) → Ending s p row n o l → l.item ≡ Some (abort m)
+    → fits_end s (run_state s p).story o l (closing_parts o (bus_of (run_state s p)) (run_state s p).story.bus_state.dialogue.half) (Some (abort m)) ≡ true
 abort_ends s p row n o l m h e = by h.here.served
   where
     k : RunState
@@ -321,7 +326,9 @@ closing_told last (inl e) = ap ends_told e
 closing_told last (inr e) = ap ends_told e
 
 -- After COMMAND COMPLETE or DISCONNECT.
-after_messages : (s : ScenarioValue) (p : List Row) (row : Row) (n : Connection) (o : OpenedValue) (l : Link) (id : ProcId) → Ending s p row n o l → (run_state s p).served ≡ Some (process id) → phase_of (bus_of (run_state s p)) ≡ phases.MessageIn → (bus_of (run_state s p)).atn ≡ false → (run_state s p).exchange.plan.next ≡ nexts.FreeBus → IsAtEnd s p n o l
+after_messages : (s : ScenarioValue) (p : List Row) (row : Row) (n : Connection) (o : OpenedValue) (l : Link) (id : ProcId) → Ending s p row n o l
+    → (run_state s p).served ≡ Some (process id) → phase_of (bus_of (run_state s p)) ≡ phases.MessageIn → (bus_of (run_state s p)).atn ≡ false
+    → (run_state s p).exchange.plan.next ≡ nexts.FreeBus → IsAtEnd s p n o l
 after_messages s p row n o l id h served phase quiet free = record {
   closing = closing_now o (bus_of k) half (message_moves (bus_of k) (inl here)) (half_none (is_message_in (bus_of k)));
   departs = leave_is (summary_by n (parts_now o)).departure l.last departs closes;
@@ -389,7 +396,9 @@ after_messages s p row n o l id h served phase quiet free = record {
         go (refused pr m naming out cause names) = not_both (bus_of k) here out
 
 -- After MESSAGE OUT that was no opening.
-gives_up : (s : ScenarioValue) (p : List Row) (row : Row) (n : Connection) (o : OpenedValue) (l : Link) (id : ProcId) → Ending s p row n o l → (run_state s p).served ≡ Some (process id) → phase_of (bus_of (run_state s p)) ≡ phases.MessageOut → is_selected (run_state s p).exchange.plan.cause ≡ false → IsAtEnd s p n o l
+gives_up : (s : ScenarioValue) (p : List Row) (row : Row) (n : Connection) (o : OpenedValue) (l : Link) (id : ProcId) → Ending s p row n o l
+    → (run_state s p).served ≡ Some (process id) → phase_of (bus_of (run_state s p)) ≡ phases.MessageOut → is_selected (run_state s p).exchange.plan.cause ≡ false
+    → IsAtEnd s p n o l
 gives_up s p row n o l id h served phase cause = record {
   closing = closing_now o (bus_of k) half (message_moves (bus_of k) (inr heard.out)) (λ i. in_out (bus_of k) heard.out i && not (is_nil half));
   departs = λ i. is_departure (departs i) (last i);
@@ -415,12 +424,14 @@ gives_up s p row n o l id h served phase cause = record {
     departs : (summary_by n (parts_now o)).departure ≡ Loss
     departs = loss_departure n (base_parts o) o.said (mild_tame o.said (mild_said s k n o h.here.speaking opened)) (some_said s n k o (h.here.speaking.speaks h.begun heard.out) h.here.speaking.words heard.out heard.last)
 
-    by_naming : ((k.exchange.plan.cause ≡ causes.InMessage) × (is_naming k.exchange.plan.messages.first ≡ true)) ⊎ (are_talk (base_parts o) ≡ false) → are_talk (base_parts o) ≡ false
+    by_naming : ((k.exchange.plan.cause ≡ causes.InMessage) × (is_naming k.exchange.plan.messages.first ≡ true)) ⊎ (are_talk (base_parts o) ≡ false)
+        → are_talk (base_parts o) ≡ false
     by_naming (inr z) = z
     by_naming (inl z) =
         wrong (sym (ap (λ (f : Phase). goes_on (phase_leaving (serving_of s k n.target) (bus_of k).atn f)) phase ∙ ap (λ (x : Cause). goes_on (message_out_leaving (serving_of s k n.target) x)) z.0 ∙ naming_goes_on (serving_of s k n.target) z.1) ∙ h.left)
 
-at_end : (s : ScenarioValue) (p : List Row) (row : Row) (n : Connection) (o : OpenedValue) (l : Link) (id : ProcId) (q : Process) → Ending s p row n o l → (run_state s p).served ≡ Some (process id) → process_of s id ≡ Some q → IsAtEnd s p n o l
+at_end : (s : ScenarioValue) (p : List Row) (row : Row) (n : Connection) (o : OpenedValue) (l : Link) (id : ProcId) (q : Process) → Ending s p row n o l
+    → (run_state s p).served ≡ Some (process id) → process_of s id ≡ Some q → IsAtEnd s p n o l
 at_end s p row n o l id q h served of = by (ends_by (serving_of s k n.target) (task_here s k q) (bus_of k).atn (phase_of (bus_of k)) (ap (task_if s k) (ap (process_item s) served ∙ of)) none h.left)
   where
     k : RunState
@@ -443,7 +454,8 @@ record EndNames (s : ScenarioValue) (n : Connection) (o : OpenedValue) (id : Pro
   naming : name_process s n (parts_now o) id ≡ true
   knowing : (not n.reselected || not (are_talk (base_parts o))) ≡ true
 
-process_ends : (s : ScenarioValue) (p : List Row) (row : Row) (n : Connection) (o : OpenedValue) (l : Link) (id : ProcId) → Ending s p row n o l → l.item ≡ Some (process id) → fits_end s (run_state s p).story o l (closing_parts o (bus_of (run_state s p)) (run_state s p).story.bus_state.dialogue.half) (Some (process id)) ≡ true
+process_ends : (s : ScenarioValue) (p : List Row) (row : Row) (n : Connection) (o : OpenedValue) (l : Link) (id : ProcId) → Ending s p row n o l → l.item ≡ Some (process id)
+    → fits_end s (run_state s p).story o l (closing_parts o (bus_of (run_state s p)) (run_state s p).story.bus_state.dialogue.half) (Some (process id)) ≡ true
 process_ends s p row n o l id h e =
     ap (λ (parts : List Part). fits_end s k.story o l parts (Some (process id))) end.closing
     ∙ ap (λ (c : Connection). is_none (summary_by c (parts_now o)).abort && name_process s c (parts_now o) id && is_departure (summary_by c (parts_now o)).departure l.last && (not c.reselected || not (are_talk (base_parts o)) || is_command (bus_of k))) h.here.names.all.bytes.connection_is
@@ -501,7 +513,8 @@ process_ends s p row n o l id h e =
 
 -- ---- any of them
 
-pub ends_fit : (s : ScenarioValue) (p : List Row) (row : Row) (n : Connection) (k : OpenedValue) (l : Link) → Obeys s → IsPrompt s (row ∷ p) → connection p ≡ Some n → (bus p).rst ≡ false → (bus (row ∷ p)).rst ≡ false → connection (row ∷ p) ≡ None → (transcribed p).opened ≡ Some k → (run_state s p).story.link ≡ Some l
+pub ends_fit : (s : ScenarioValue) (p : List Row) (row : Row) (n : Connection) (k : OpenedValue) (l : Link) → Obeys s → IsPrompt s (row ∷ p) → connection p ≡ Some n
+    → (bus p).rst ≡ false → (bus (row ∷ p)).rst ≡ false → connection (row ∷ p) ≡ None → (transcribed p).opened ≡ Some k → (run_state s p).story.link ≡ Some l
     → fits_end s (run_state s p).story k l (closing_parts k (row_reading (run_state s p).story.bus_state row).change.before (run_state s p).story.bus_state.dialogue.half) l.item ≡ true
 ends_fit s p row n k l o prompt con calm off after there el =
     (λ i. fits_end s j.story k l (closing_parts k (before i) j.story.bus_state.dialogue.half) l.item) ∙ go l.item refl

@@ -64,13 +64,15 @@ silent_departure again (parts_of.StatusPhase ∷ parts) a e = silent_departure a
 silent_departure again (parts_of.Status byte ∷ parts) a e = silent_departure again parts a e
 silent_departure again (parts_of.Completion ∷ parts) a e = silent_departure again parts a e
 
-held_departure : (again : Bool) (parts since : List Part) (m : MsgIn) → are_silent since ≡ true → (summary_of again no_summary (parts ++ (parts_of.In m ∷ since))).departure ≡ (summary_in again (summary_of again no_summary parts) m).departure
+held_departure : (again : Bool) (parts since : List Part) (m : MsgIn) → are_silent since ≡ true
+    → (summary_of again no_summary (parts ++ (parts_of.In m ∷ since))).departure ≡ (summary_in again (summary_of again no_summary parts) m).departure
 held_departure again parts since m e =
     ap (λ (s : Summary). s.departure) (summary_more again parts (parts_of.In m ∷ since) no_summary)
     ∙ silent_departure again since (summary_in again (summary_of again no_summary parts) m) e
 
 -- COMMAND COMPLETE and DISCONNECT, where no message came after it.
-pub leave_departure : (n : Connection) (parts since : List Part) (held : Option Incoming) → ends_told (last_held held) ≡ true → are_silent since ≡ true → (summary_by n (parts ++ (held_part held ++ since))).departure ≡ Leave
+pub leave_departure : (n : Connection) (parts since : List Part) (held : Option Incoming) → ends_told (last_held held) ≡ true → are_silent since ≡ true
+    → (summary_by n (parts ++ (held_part held ++ since))).departure ≡ Leave
 leave_departure n parts since None e f = wrong' e
 leave_departure n parts since (Some Broken) e f = wrong' e
 leave_departure n parts since (Some (Whole to_initiator.CommandComplete)) e f = held_departure n.reselected parts since to_initiator.CommandComplete f
@@ -111,7 +113,8 @@ no_phase o b z = by (is_command b) (is_data b) z
     by false true w = wrong w
     by false false w = refl
 
-pub closing_now : (o : OpenedValue) (b : LineSet) (half : List ℕ) → (is_command b || is_data b) ≡ false → (is_message_in b && not (is_nil half)) ≡ false → closing_parts o b half ≡ parts_now o
+pub closing_now : (o : OpenedValue) (b : LineSet) (half : List ℕ) → (is_command b || is_data b) ≡ false → (is_message_in b && not (is_nil half)) ≡ false
+    → closing_parts o b half ≡ parts_now o
 closing_now o b half x y =
     over_parts o b half false
     ∙ (λ i. (parts_now o ++ (if y i then parts_of.BrokenOff ∷ [] else [])) ++ no_phase o b x i)

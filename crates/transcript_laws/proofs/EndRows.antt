@@ -81,11 +81,14 @@ pub record EndRow (s : ScenarioValue) (rows : List Row) (row : Row) (h : StandsL
   pub numbered : AreNumbered (transcribed rows).processes (names_begun (transcribed rows).items)
   pub marked : (x : ProcId) → IsMarked (story s rows).history (carried_of (story s rows).carried x)
 
-end_change : (t : TranscriberValue) (d : RowReading) (row : Row) (m : Connection) → d.change.after.rst ≡ false → t.bus_state.connection ≡ Some m → d.next ≡ None → by_change t d row ≡ with_items (closed_if t t.opened d true) (items.Free row.time ∷ [])
+end_change : (t : TranscriberValue) (d : RowReading) (row : Row) (m : Connection) → d.change.after.rst ≡ false → t.bus_state.connection ≡ Some m → d.next ≡ None
+    → by_change t d row ≡ with_items (closed_if t t.opened d true) (items.Free row.time ∷ [])
 unfolding by_change
 end_change t d row m off con next = λ i. if off i then under_reset t d row else on_bus t (con i) (next i) d row
 
-end_story : (s : ScenarioValue) (b : Story) (row : Row) (d : RowReading) (m : Connection) (l : Link) → d.change.after.rst ≡ false → b.bus_state.connection ≡ Some m → d.next ≡ None → b.link ≡ Some l → story_by s b row d ≡ story_with_history (story_after_events s (record b { link = None }) (bus_free_events s l l.last)) (bus_state_after b.bus_state row d) (bus_free_events s l l.last) b.history
+end_story : (s : ScenarioValue) (b : Story) (row : Row) (d : RowReading) (m : Connection) (l : Link) → d.change.after.rst ≡ false → b.bus_state.connection ≡ Some m → d.next ≡ None
+    → b.link ≡ Some l
+    → story_by s b row d ≡ story_with_history (story_after_events s (record b { link = None }) (bus_free_events s l l.last)) (bus_state_after b.bus_state row d) (bus_free_events s l l.last) b.history
 end_story s b row d m l off con next link =
     ap (λ (shown : List Event). story_with s b row d shown) ((λ i. if off i then (if rises d.change.own.rst d.change.next.rst then events.Reset row.dev ∷ [] else []) else link_events s b (link i) d) ∙ (λ i. if is_some (next i) then connection_events s b l d else bus_free_events s l l.last))
     ∙ (λ i. story_with_history (story_after_events s (if off i then record b { link = None } else story_on_bus s b (con i) (next i) d row) (bus_free_events s l l.last)) (bus_state_after b.bus_state row d) (bus_free_events s l l.last) b.history)
@@ -94,7 +97,8 @@ end_story s b row d m l off con next link =
 abbrev apart_story : ScenarioValue → List Row → Story
 apart_story s rows = record (story s rows) { link = None }
 
-end_transcript : (s : ScenarioValue) (rows : List Row) (row : Row) (h : StandsLinked s (transcribed rows) (story s rows)) → EndRow s rows row h → by_change (transcribed rows) (row_reading (transcribed rows).bus_state row) row ≡ with_items (closed_left s rows h.opened true) (items.Free row.time ∷ [])
+end_transcript : (s : ScenarioValue) (rows : List Row) (row : Row) (h : StandsLinked s (transcribed rows) (story s rows)) → EndRow s rows row h
+    → by_change (transcribed rows) (row_reading (transcribed rows).bus_state row) row ≡ with_items (closed_left s rows h.opened true) (items.Free row.time ∷ [])
 end_transcript s rows row h r =
     let w = buses_alike s rows in
     let same = reading_same (transcribed rows).bus_state (story s rows).bus_state row w in
@@ -102,7 +106,8 @@ end_transcript s rows row h r =
     ∙ ap (λ (u : TranscriberValue). with_items u (items.Free row.time ∷ [])) (left_closed s rows row h true)
 
 -- With these events.
-end_story_is : (s : ScenarioValue) (rows : List Row) (row : Row) (h : StandsLinked s (transcribed rows) (story s rows)) (shown : List Event) → EndRow s rows row h → bus_free_events s h.link h.link.last ≡ shown → story s (row ∷ rows) ≡ story_on s rows row (story_after_events s (apart_story s rows) shown) shown
+end_story_is : (s : ScenarioValue) (rows : List Row) (row : Row) (h : StandsLinked s (transcribed rows) (story s rows)) (shown : List Event) → EndRow s rows row h
+    → bus_free_events s h.link h.link.last ≡ shown → story s (row ∷ rows) ≡ story_on s rows row (story_after_events s (apart_story s rows) shown) shown
 end_story_is s rows row h shown r e =
     end_story s (story s rows) row (row_reading (story s rows).bus_state row) h.opened.connection h.link r.off h.connection_is r.next h.link_is
     ∙ ap (λ (list : List Event). story_on s rows row (story_after_events s (apart_story s rows) list) list) e
@@ -118,11 +123,9 @@ record Ended (s : ScenarioValue) (rows : List Row) (h : StandsLinked s (transcri
 abbrev sum_left : ScenarioValue → List Row → OpenedValue → Summary
 sum_left s rows k = summary_by k.connection (parts_left s rows k)
 
-abbrev process_left : ScenarioValue → List Row → OpenedValue → Process
-process_left s rows k = process_for (transcribed rows) k.connection (sum_left s rows k)
-
 -- Its events as BUS FREE comes.
-leaves_by : (s : ScenarioValue) (l : Link) (id : ProcId) (name : Name) (sum : Summary) (departure : Departure) (last : LastMessage) → sum.departure ≡ departure → l.last ≡ last → is_departure departure last ≡ true → l.item ≡ Some (process id) → Leaves id name (leaving_items true name sum) (bus_free_events s l l.last)
+leaves_by : (s : ScenarioValue) (l : Link) (id : ProcId) (name : Name) (sum : Summary) (departure : Departure) (last : LastMessage) → sum.departure ≡ departure → l.last ≡ last
+    → is_departure departure last ≡ true → l.item ≡ Some (process id) → Leaves id name (leaving_items true name sum) (bus_free_events s l l.last)
 leaves_by s l id name sum Loss plain e f g is =
     subst (λ (shown : List Event). Leaves id name (leaving_items true name sum) shown) (sym (ap (λ (x : LastMessage). bus_free_events s l x) f ∙ ap (λ (o : Option Item). bus_free_events s (record l { item = o }) plain) is)) (loses (ap (λ (x : Departure). departure_items name x sum.abort) e))
 leaves_by s l id name sum Leave complete e f g is =
@@ -140,11 +143,13 @@ leaves_by s l id name sum Abortion disconnect e f g is = wrong' g
 leaves_by s l id name sum Abortion abortive e f g is = wrong' g
 
 -- They change nothing that is carried, and no mark.
-leaves_carried : (s : ScenarioValue) (b : Story) (id : ProcId) (name : Name) (list : List item_of.Item) (shown : List Event) → Leaves id name list shown → (story_after_events s b shown).carried ≡ b.carried
+leaves_carried : (s : ScenarioValue) (b : Story) (id : ProcId) (name : Name) (list : List item_of.Item) (shown : List Event) → Leaves id name list shown
+    → (story_after_events s b shown).carried ≡ b.carried
 leaves_carried s b id name list shown (loses e) = refl
 leaves_carried s b id name list shown (leaves e) = refl
 
-leaves_marked : (id : ProcId) (name : Name) (list : List item_of.Item) (shown history : List Event) (c : CarriedBytes) → Leaves id name list shown → IsMarked history c → IsMarked (shown ++ history) c
+leaves_marked : (id : ProcId) (name : Name) (list : List item_of.Item) (shown history : List Event) (c : CarriedBytes) → Leaves id name list shown → IsMarked history c
+    → IsMarked (shown ++ history) c
 leaves_marked id name list shown history c (loses e) m = record { refused = m.refused; shown = m.shown; apart = m.apart; saved = m.saved }
 leaves_marked id name list shown history c (leaves e) m = m
 
@@ -153,7 +158,10 @@ not_some None e = refl
 not_some (Some m) e = wrong' e
 
 -- The connection that is over, by who began it: what was sent before it, and what its process was.
-process_over : (s : ScenarioValue) (rows : List Row) (row : Row) (h : StandsLinked s (transcribed rows) (story s rows)) (id : ProcId) (back : CarriedBytes) (was : Bool) (st : Option ℕ) → EndRow s rows row h → Ended s rows h id → h.link.item ≡ Some (process id) → IsServing h.opened (is_command (story s rows).bus_state.bus) id (carried_of (story s rows).carried id) back h.conn (story s rows).history was st → AreOwnEvents id h.conn → AreKept s (transcribed rows) (story s rows) h.sent (λ x. same_id x id)
+process_over : (s : ScenarioValue) (rows : List Row) (row : Row) (h : StandsLinked s (transcribed rows) (story s rows)) (id : ProcId) (back : CarriedBytes) (was : Bool) (st : Option ℕ)
+    → EndRow s rows row h → Ended s rows h id → h.link.item ≡ Some (process id)
+    → IsServing h.opened (is_command (story s rows).bus_state.bus) id (carried_of (story s rows).carried id) back h.conn (story s rows).history was st → AreOwnEvents id h.conn
+    → AreKept s (transcribed rows) (story s rows) h.sent (λ x. same_id x id)
     → IsFrom s (transcribed rows) (story s rows) h.opened h.sent id was st → IsBegun (story s rows) h.opened h.link h.sent → Standing s (row ∷ rows)
 process_over s rows row h id back was st r g is serving events_are others from begun = go from begun
   where
@@ -196,7 +204,8 @@ process_over s rows row h id back was st r g is serving events_are others from b
     shown_same : (refused : List Name) (q : Process) → shown_items refused (account_by q parts).items ≡ shown_items refused (account_base k q).items
     shown_same refused q = closing_shown refused k (story s rows).bus_state.bus (story s rows).bus_state.dialogue.half q
 
-    is_closing : IsAsBegun p was st → IsClosing k (is_command (story s rows).bus_state.bus) id (carried_of (story s rows).carried id) back h.conn h.old was st n p parts true sum shown
+    is_closing : IsAsBegun p was st
+        → IsClosing k (is_command (story s rows).bus_state.bus) id (carried_of (story s rows).carried id) back h.conn h.old was st n p parts true sum shown
     is_closing b = closing s (transcribed rows) (story s rows) h parts true shown id was st back shown_same goes b serving events_are
 
     processes : u.processes ≡ with_last (transcribed rows).processes put
@@ -219,7 +228,8 @@ process_over s rows row h id back was st r g is serving events_are others from b
     named = named_process s (name_of n sum) id g.named
 
     -- The history, with its events beside those of the connection.
-    told : (sent : List Item) → IsPast ((transcribed rows).items ++ connection_items n p parts true sum) sent ((shown ++ h.conn) ++ h.old) → IsPast u.items sent (shown ++ (story s rows).history)
+    told : (sent : List Item) → IsPast ((transcribed rows).items ++ connection_items n p parts true sum) sent ((shown ++ h.conn) ++ h.old)
+        → IsPast u.items sent (shown ++ (story s rows).history)
     told sent past =
         subst (λ (list : List item_of.Item). IsPast list sent (shown ++ (story s rows).history)) (sym (closed_items (transcribed rows) n parts true sum)) (subst (λ (list : List Event). IsPast ((transcribed rows).items ++ connection_items n p parts true sum) sent list) (append_assoc shown h.conn h.old ∙ ap (λ (list : List Event). shown ++ list) (sym h.history_is)) past)
 
@@ -236,7 +246,8 @@ process_over s rows row h id back was st r g is serving events_are others from b
     account b = account_kept (account_by p parts) (carried_of (story s rows).carried id) (closing_is k (story s rows).bus_state.bus (story s rows).bus_state.dialogue.half id (carried_of (story s rows).carried id) back h.conn (story s rows).history was st p serving b)
 
     -- An initiator began it.
-    by_first : (item : Item) → n.reselected ≡ false → was ≡ false → st ≡ None → IsAlone s (story s rows) id → h.link.item ≡ Some item → sent_order (story s rows) ≡ h.sent ++ item ∷ [] → has_item h.sent item ≡ false → Standing s (row ∷ rows)
+    by_first : (item : Item) → n.reselected ≡ false → was ≡ false → st ≡ None → IsAlone s (story s rows) id → h.link.item ≡ Some item
+        → sent_order (story s rows) ≡ h.sent ++ item ∷ [] → has_item h.sent item ≡ false → Standing s (row ∷ rows)
     by_first item began e f alone i ord fresh =
         over (subst (λ (sent : List Item). IsPast u.items sent (shown ++ (story s rows).history)) (sym sent_is) (told (h.sent ++ process id ∷ []) (first_past k (is_command (story s rows).bus_state.bus) id (carried_of (story s rows).carried id) back h.conn h.old was st n p parts true sum shown (transcribed rows).items h.sent began unsent (own_number (transcribed rows) n sum began g.plain) (is_closing begins) h.past)))
         (subst (λ (sent : List Item). AreKept s u c sent no_process) (sym sent_is) (put_kept s (transcribed rows) u (story s rows) c (h.sent ++ process id ∷ []) (names ++ p.name ∷ []) id put processes (closed_names (transcribed rows) n parts true sum ∙ ap (λ (q : Bool). names ++ (if q then [] else p.name ∷ [])) began) opens carried (record {
@@ -268,7 +279,8 @@ process_over s rows row h id back was st r g is serving events_are others from b
             ∙ new_nexus (is_some sum.abort) (process_of (transcribed rows).processes (name_of n sum)) (name_of n sum) x
 
     -- A target did.
-    by_again : n.reselected ≡ true → (x : HasProcess s (transcribed rows).processes h.sent (names_begun (transcribed rows).items) id) → IsAsBegun x.process was st → sent_order (story s rows) ≡ h.sent → Standing s (row ∷ rows)
+    by_again : n.reselected ≡ true → (x : HasProcess s (transcribed rows).processes h.sent (names_begun (transcribed rows).items) id) → IsAsBegun x.process was st
+        → sent_order (story s rows) ≡ h.sent → Standing s (row ∷ rows)
     by_again re x y ord =
         over (subst (λ (sent : List Item). IsPast u.items sent (shown ++ (story s rows).history)) (sym (order ∙ ord)) (told h.sent (again_past k (is_command (story s rows).bus_state.bus) id (carried_of (story s rows).carried id) back h.conn h.old was st n p parts true sum shown (transcribed rows).items h.sent re (named_sent h.sent names id p.name called) called (is_closing begins) h.past)))
         (subst (λ (sent : List Item). AreKept s u c sent no_process) (sym (order ∙ ord)) (put_kept s (transcribed rows) u (story s rows) c h.sent names id put processes (closed_names (transcribed rows) n parts true sum ∙ ap (λ (q : Bool). names ++ (if q then [] else p.name ∷ [])) re ∙ append-nil names) opens carried (record {
@@ -296,7 +308,8 @@ process_over s rows row h id back was st r g is serving events_are others from b
         of_nexus : same_nexus put.name (nexus_of x.definition) ≡ true
         of_nexus = ap (λ (z : Name). same_nexus z (nexus_of x.definition)) same_named ∙ r.numbered.keyed (nexus_of x.definition) x.process x.last_is
 
-        apart : (z : ProcId) (d : array_of.Process) → is_open_in (story s rows).sent z ≡ true → same_id z id ≡ false → array_of.process_of s z ≡ Some d → (q : Bool) → same_nexus put.name (nexus_of d) ≡ q → q ≡ false
+        apart : (z : ProcId) (d : array_of.Process) → is_open_in (story s rows).sent z ≡ true → same_id z id ≡ false → array_of.process_of s z ≡ Some d → (q : Bool)
+            → same_nexus put.name (nexus_of d) ≡ q → q ≡ false
         apart z d o but is_d false e = refl
         apart z d o but is_d true e =
             let w = others z o but in
@@ -318,7 +331,8 @@ abort_same aborts None name m = refl
 abort_same aborts (Some p) name m = refl
 
 -- It is that of its line.
-line_is : (n : Connection) (sum : Summary) (m : MsgOut) (a : AbortDef) → is_line n sum (Some m) (Some a) ≡ true → abort_item (name_of n sum) m ≡ items.Abort a.host a.target (Some a.unit) a.what
+line_is : (n : Connection) (sum : Summary) (m : MsgOut) (a : AbortDef) → is_line n sum (Some m) (Some a) ≡ true
+    → abort_item (name_of n sum) m ≡ items.Abort a.host a.target (Some a.unit) a.what
 line_is n sum m a e =
     let four = four_true (n.initiator == a.host) (n.target == a.target) (same_number sum.unit (Some a.unit)) (same_kind (kind_of m sum.tag) a.what) e in
     λ i. items.Abort (eqb-true n.initiator a.host four.0 i) (eqb-true n.target a.target four.1 i) (optional_is sum.unit (Some a.unit) four.2 i) (kinds_are (kind_of m sum.tag) a.what four.3 i)
@@ -333,7 +347,9 @@ record Aborts (s : ScenarioValue) (rows : List Row) (h : StandsLinked s (transcr
   line_at : abort_line_at s.aborts j ≡ Some line
   same : is_line h.opened.connection (sum_left s rows h.opened) (Some message) (Some line) ≡ true
 
-abort_over : (s : ScenarioValue) (rows : List Row) (row : Row) (h : StandsLinked s (transcribed rows) (story s rows)) (j : ℕ) → EndRow s rows row h → Aborts s rows h j → h.opened.connection.reselected ≡ false → h.link.item ≡ Some (abort j) → h.conn ≡ [] → are_talk (base_parts h.opened) ≡ true → AreKept s (transcribed rows) (story s rows) h.sent no_process → IsBegun (story s rows) h.opened h.link h.sent → Standing s (row ∷ rows)
+abort_over : (s : ScenarioValue) (rows : List Row) (row : Row) (h : StandsLinked s (transcribed rows) (story s rows)) (j : ℕ) → EndRow s rows row h → Aborts s rows h j
+    → h.opened.connection.reselected ≡ false → h.link.item ≡ Some (abort j) → h.conn ≡ [] → are_talk (base_parts h.opened) ≡ true
+    → AreKept s (transcribed rows) (story s rows) h.sent no_process → IsBegun (story s rows) h.opened h.link h.sent → Standing s (row ∷ rows)
 abort_over s rows row h j r g began is none talk kept_all begun = go begun
   where
     k : OpenedValue
@@ -420,7 +436,9 @@ abort_over s rows row h j r g began is none talk kept_all begun = go begun
 
 -- ---- what stands
 
-aborts_by : (s : ScenarioValue) (rows : List Row) (h : StandsLinked s (transcribed rows) (story s rows)) (j : ℕ) (departure : Departure) (last : LastMessage) (o : Option MsgOut) (line : Option AbortDef) → (sum_left s rows h.opened).departure ≡ departure → h.link.last ≡ last → (sum_left s rows h.opened).abort ≡ o → abort_line_at s.aborts j ≡ line → is_abortion departure last ≡ true → is_line h.opened.connection (sum_left s rows h.opened) o line ≡ true → Aborts s rows h j
+aborts_by : (s : ScenarioValue) (rows : List Row) (h : StandsLinked s (transcribed rows) (story s rows)) (j : ℕ) (departure : Departure) (last : LastMessage) (o : Option MsgOut) (line : Option AbortDef)
+    → (sum_left s rows h.opened).departure ≡ departure → h.link.last ≡ last → (sum_left s rows h.opened).abort ≡ o → abort_line_at s.aborts j ≡ line
+    → is_abortion departure last ≡ true → is_line h.opened.connection (sum_left s rows h.opened) o line ≡ true → Aborts s rows h j
 aborts_by s rows h j Abortion abortive (Some m) (Some a) e f i z abortion line = record { message = m; line = a; departs = e; last = f; message_is = i; line_at = z; same = line }
 aborts_by s rows h j Abortion abortive None line' e f i z abortion line = wrong' line
 aborts_by s rows h j Abortion abortive (Some m) None e f i z abortion line = wrong' line
@@ -439,7 +457,8 @@ end_next s rows row h r = go h.stage
     sum : Summary
     sum = summary_by h.opened.connection (parts_left s rows h.opened)
 
-    by_item : (o : Option Item) → h.link.item ≡ o → h.opened.connection.reselected ≡ true → are_talk (base_parts h.opened) ≡ true → is_command (story s rows).bus_state.bus ≡ false → ((j : ℕ) → h.link.item ≡ Some (abort j) → ⊥) → fits_end s (story s rows) h.opened h.link (parts_left s rows h.opened) o ≡ true → Standing s (row ∷ rows)
+    by_item : (o : Option Item) → h.link.item ≡ o → h.opened.connection.reselected ≡ true → are_talk (base_parts h.opened) ≡ true → is_command (story s rows).bus_state.bus ≡ false
+        → ((j : ℕ) → h.link.item ≡ Some (abort j) → ⊥) → fits_end s (story s rows) h.opened h.link (parts_left s rows h.opened) o ≡ true → Standing s (row ∷ rows)
     by_item None e re talk no_command unaborted f = wrong' f
     by_item (Some (abort j)) e re talk no_command unaborted f = absurd (unaborted j e)
     by_item (Some (process id)) e re talk no_command unaborted f =

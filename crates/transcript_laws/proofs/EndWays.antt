@@ -16,7 +16,7 @@ use Rattle.bus_dialogue.specs.Arrivals.{policy_of}
 use Rattle.bus_dialogue.specs.NextPhase.{Serving, bus_free, phase_entry, with_task, recovery, pointer_restoration, next_data_phase, after_offer, message_out_leaving, after_messages, after_arrival, after_run, phase_leaving}
 use Rattle.bus_dialogue.specs.Words.{request_by}
 use Rattle.trace_laws.proofs.TellEnds.{goes_on, either_on, recovers_on, requested_on, arrived_on, ran_on}
-use Rattle.transcript_laws.proofs.SaidNames.{is_selected}
+use Rattle.bus_books.specs.Tests.{is_selected}
 use Rattle.bus_base.proofs.Tests.{wrong}
 
 pub data EndsBy (v : Serving) (attention : Bool) (phase : Phase) : Type 0 where
@@ -38,7 +38,8 @@ opened_on v none = ap (λ (o : Option AbortKind). goes_on (if is_some o then bus
 
 -- ---- what does not
 
-pub ends_by : (v : Serving) (t : Task) (attention : Bool) (phase : Phase) → v.task ≡ Some t → (phase ≡ phases.MessageOut → v.plan.said.aborts ≡ None) → goes_on (phase_leaving v attention phase) ≡ false → EndsBy v attention phase
+pub ends_by : (v : Serving) (t : Task) (attention : Bool) (phase : Phase) → v.task ≡ Some t → (phase ≡ phases.MessageOut → v.plan.said.aborts ≡ None)
+    → goes_on (phase_leaving v attention phase) ≡ false → EndsBy v attention phase
 ends_by v t attention phases.Command e none to =
     wrong (sym (by_task v t (λ u. if v.plan.struck then recovery v.def u (pointer_restoration nexts.Command) (phase_entry phases.Status) else after_arrival v.def u v.arrival) e
     (either_on v.plan.struck (recovery v.def t (pointer_restoration nexts.Command) (phase_entry phases.Status)) (after_arrival v.def t v.arrival) (recovers_on v.def t (pointer_restoration nexts.Command) (phase_entry phases.Status) refl refl) (arrived_on v.def t v.arrival))) ∙ to)

@@ -96,7 +96,8 @@ quiet_row k row n c o after (made_still ep none e) h = subst IsQuietSince (sym e
     go false = h
 quiet_row k row n c o after (made_crossing dev ep er e) h = go (crossing_made o after k.story.bus_state n c e)
   where
-    go : CrossingMade o after k.story.bus_state.dialogue.is_last c.before (c.after.data_bits % 256) (message_out k.story.bus_state.dialogue c true) (message_in k.story.bus_state.dialogue c true) → IsQuietSince after
+    go : CrossingMade o after k.story.bus_state.dialogue.is_last c.before (c.after.data_bits % 256) (message_out k.story.bus_state.dialogue c true) (message_in k.story.bus_state.dialogue c true)
+        → IsQuietSince after
     go (crossed_out x f) = subst IsQuietSince (sym f) h
     go (crossed_in x y f) = subst IsQuietSince (sym f) (in_quiet o (message_in k.story.bus_state.dialogue c true) h)
     go (crossed_status x y z f) = subst IsQuietSince (sym f) (part_quiet o (parts_of.Status (c.after.data_bits % 256)) refl h)
@@ -125,7 +126,8 @@ last_by (Some l) = l.last
 first_last : (b : Story) (n : Connection) → last_by (story_after_connection b n).link ≡ plain
 first_last b n = go n.reselected (aim_of b.aims n.initiator)
   where
-    go : (q : Bool) (item : Option Item) → last_by (if q then record b { link = Some (link_of n None) } else story_with_restored (story_with_sent (record b { link = Some (link_of n item) }) item) item).link ≡ plain
+    go : (q : Bool) (item : Option Item)
+        → last_by (if q then record b { link = Some (link_of n None) } else story_with_restored (story_with_sent (record b { link = Some (link_of n item) }) item) item).link ≡ plain
     go true item = refl
     go false None = refl
     go false (Some (process id)) = refl
@@ -149,13 +151,15 @@ ends_start s p row n o h none = record {
 -- ---- row by row
 
 -- While a message is half heard none has told that the connection ends.
-half_plain : (l : Link) (k : RunState) (half : List ℕ) → (k.handshakes.requests ≡ length (bytes_of_messages k.exchange.plan.messages) → half ≡ []) → is_nil half ≡ false → LastGiven l k.exchange.plan.messages k.exchange.plan.next k.handshakes.requests → l.last ≡ plain
+half_plain : (l : Link) (k : RunState) (half : List ℕ) → (k.handshakes.requests ≡ length (bytes_of_messages k.exchange.plan.messages) → half ≡ []) → is_nil half ≡ false
+    → LastGiven l k.exchange.plan.messages k.exchange.plan.next k.handshakes.requests → l.last ≡ plain
 half_plain l k half whole some (still_stays f m e) = e
 half_plain l k half whole some (to_close f x m y z e) = e
 half_plain l k half whole some (to_save f m y e) = e
 half_plain l k half whole some (closed f m given y z) = wrong' (sym some ∙ ap is_nil (whole given))
 
-pub ends_row : (s : ScenarioValue) (p : List Row) (row : Row) (n : Connection) (g : Going s p row n) (o after : OpenedValue) → RowMade (run_state s p) row n g.going.change o after → OpenedBytes (run_state s p) n o → SaidWords (run_state s p) n o → HeldEnds (run_state s p) o → HeldEnds (run_state s (row ∷ p)) after
+pub ends_row : (s : ScenarioValue) (p : List Row) (row : Row) (n : Connection) (g : Going s p row n) (o after : OpenedValue) → RowMade (run_state s p) row n g.going.change o after
+    → OpenedBytes (run_state s p) n o → SaidWords (run_state s p) n o → HeldEnds (run_state s p) o → HeldEnds (run_state s (row ∷ p)) after
 ends_row s p row n g o after made bytes words h = record { quiet = quiet_row k row n c o after made h.quiet; same = by made }
   where
     k : RunState
@@ -192,7 +196,8 @@ ends_row s p row n g o after made bytes words h = record { quiet = quiet_row k r
     quiet : changes_phase c ≡ false → is_some (receiver_in n c) ≡ false → after.held ≡ o.held → IsHeldTold j after
     quiet ep none held = stay ep (link_still s k row n c l g.going.goes.row_is none el) held
 
-    crossing : (dev : ℕ) → changes_phase c ≡ false → receiver_in n c ≡ Some dev → CrossingMade o after k.story.bus_state.dialogue.is_last c.before (c.after.data_bits % 256) (message_out k.story.bus_state.dialogue c true) (message_in k.story.bus_state.dialogue c true)
+    crossing : (dev : ℕ) → changes_phase c ≡ false → receiver_in n c ≡ Some dev
+        → CrossingMade o after k.story.bus_state.dialogue.is_last c.before (c.after.data_bits % 256) (message_out k.story.bus_state.dialogue c true) (message_in k.story.bus_state.dialogue c true)
         → LinkAfter s k.story l (message_out k.story.bus_state.dialogue c true) (message_in k.story.bus_state.dialogue c true) j.story.link → IsHeldTold j after
     crossing dev ep er = go
       where
@@ -202,12 +207,14 @@ ends_row s p row n g o after made bytes words h = record { quiet = quiet_row k r
         no_out : is_message_out c.before ≡ false → message_out k.story.bus_state.dialogue c true ≡ None
         no_out x = ap (λ (q : Bool). if q then whole_out (got_out (fresh_bytes k.story.bus_state.dialogue ++ c.after.data_bits % 256 ∷ [])) else None) x
 
-        other : is_message_out c.before ≡ false → is_message_in c.before ≡ false → after.held ≡ o.held → LinkAfter s k.story l (message_out k.story.bus_state.dialogue c true) (message_in k.story.bus_state.dialogue c true) j.story.link → IsHeldTold j after
+        other : is_message_out c.before ≡ false → is_message_in c.before ≡ false → after.held ≡ o.held
+            → LinkAfter s k.story l (message_out k.story.bus_state.dialogue c true) (message_in k.story.bus_state.dialogue c true) j.story.link → IsHeldTold j after
         other x y held (says m a link) = none_some m (sym (no_out x) ∙ a)
         other x y held (hears m a b link) = none_some m (sym (no_in y) ∙ b)
         other x y held (stays a b link) = stay ep link held
 
-        go : CrossingMade o after k.story.bus_state.dialogue.is_last c.before (c.after.data_bits % 256) (message_out k.story.bus_state.dialogue c true) (message_in k.story.bus_state.dialogue c true) → LinkAfter s k.story l (message_out k.story.bus_state.dialogue c true) (message_in k.story.bus_state.dialogue c true) j.story.link → IsHeldTold j after
+        go : CrossingMade o after k.story.bus_state.dialogue.is_last c.before (c.after.data_bits % 256) (message_out k.story.bus_state.dialogue c true) (message_in k.story.bus_state.dialogue c true)
+            → LinkAfter s k.story l (message_out k.story.bus_state.dialogue c true) (message_in k.story.bus_state.dialogue c true) j.story.link → IsHeldTold j after
         go (crossed_out x f) a = λ m id em sv off. wrong (sym (out_same (bus_of k) (bus_of j) (lines_same s p row n g ep) ∙ ap is_message_out on ∙ x) ∙ off)
         go (crossed_in x y f) (says m a link) = none_some m (sym (no_out x) ∙ a)
         go (crossed_in x y f) (hears m a b link) =

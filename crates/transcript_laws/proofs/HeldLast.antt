@@ -34,7 +34,8 @@ use Rattle.trace_laws.proofs.Joint.{link_unbegun}
 use Rattle.trace_laws.proofs.NamedSteps.{out_last}
 use Rattle.trace_laws.proofs.PhaseLines.{out_phase, in_out}
 use Rattle.trace_laws.proofs.RowItems.{heard_link, LinkAfter, says, hears, stays, link_crossed, link_still}
-use Rattle.trace_laws.proofs.TalkSteps.{not_both, last_before}
+use Rattle.bus_books.proofs.Gives.{not_both}
+use Rattle.trace_laws.proofs.TalkSteps.{last_before}
 use Rattle.transcript_laws.proofs.OpenedBytes.{OpenedBytes, still_keeps, turned, CrossingMade, crossed_out, crossed_in, crossed_status, crossed_else, crossing_made, lines_same, out_same}
 use Rattle.transcript_laws.proofs.OpenedFacts.{Going, RowMade, made_still, made_crossing, made_turn, plain_before, knows_before}
 use Rattle.transcript_laws.proofs.PartLists.{none_held}
@@ -74,7 +75,9 @@ none_said u (b ∷ words) e f = go (got_out (u.half ++ b ∷ [])) refl (λ z. no
     rest true y z = z
     rest false y z = wrong' z
 
-    go : (g : Got MsgOut) → got_out (u.half ++ b ∷ []) ≡ g → (form_messages (understood_byte u b) words ≡ true → said_of (left_of (got_out (u.half ++ b ∷ [])) (u.half ++ b ∷ [])) words ≡ [] → left_of (got_out (u.half ++ b ∷ [])) (u.half ++ b ∷ []) ++ words ≡ []) → u.half ++ b ∷ words ≡ []
+    go : (g : Got MsgOut) → got_out (u.half ++ b ∷ []) ≡ g
+        → (form_messages (understood_byte u b) words ≡ true → said_of (left_of (got_out (u.half ++ b ∷ [])) (u.half ++ b ∷ [])) words ≡ [] → left_of (got_out (u.half ++ b ∷ [])) (u.half ++ b ∷ []) ++ words ≡ [])
+        → u.half ++ b ∷ words ≡ []
     go (gots.Whole m n) is before = absurd (not_nil m _ (ap (λ (x : Got MsgOut). messages_of (whole_out x) ++ said_of (left_of (got_out (u.half ++ b ∷ [])) (u.half ++ b ∷ [])) words) (sym is) ∙ f))
       where
         not_nil : (x : MsgOut) (zs : List MsgOut) → x ∷ zs ≡ [] → ⊥
@@ -90,7 +93,8 @@ none_said u (b ∷ words) e f = go (got_out (u.half ++ b ∷ [])) refl (λ z. no
     go gots.Unknown is before = first (is_unknown (reading_out (got_out (u.half ++ b ∷ [])))) (form_messages (understood_byte u b) words) e (ap (λ (x : Got MsgOut). is_unknown (reading_out x)) is)
 
 -- Before the first phase it is not MESSAGE OUT.
-unbegun_out : (s : ScenarioValue) (p : List Row) (row : Row) (n : Connection) (g : Going s p row n) → (run_state s p).exchange.begun ≡ false → is_message_out (bus_of (run_state s p)) ≡ false
+unbegun_out : (s : ScenarioValue) (p : List Row) (row : Row) (n : Connection) (g : Going s p row n) → (run_state s p).exchange.begun ≡ false
+    → is_message_out (bus_of (run_state s p)) ≡ false
 unbegun_out s p row n g b =
     let pl = plain_before s p row n g in
     ap is_message_out pl.bus ∙ ap is_message_out (link_unbegun s p n g.link.stage (sym pl.begun ∙ b))
@@ -117,15 +121,18 @@ over_held o s half = go (is_message_in s && not (is_nil half))
     go false = refl
 
 -- As MESSAGE OUT is left its last byte has crossed, and a message was said in it; so none is held.
-left_last : (s : ScenarioValue) (p : List Row) (row : Row) (n : Connection) (g : Going s p row n) → changes_phase g.going.change ≡ true → is_message_out g.going.change.before ≡ true → (run_state s p).story.bus_state.dialogue.is_last ≡ true
+left_last : (s : ScenarioValue) (p : List Row) (row : Row) (n : Connection) (g : Going s p row n) → changes_phase g.going.change ≡ true
+    → is_message_out g.going.change.before ≡ true → (run_state s p).story.bus_state.dialogue.is_last ≡ true
 left_last s p row n g ep x = (g.going.goes.leaves (ap changes_phase g.going.goes.row_is.change_is ∙ ep)).out (out_phase (bus_of (run_state s p)) (ap is_message_out g.going.goes.row_is.bus_is ∙ x))
 
-pub some_said : (s : ScenarioValue) (n : Connection) (k : RunState) (o : OpenedValue) → IsSpeaking s n k.served k.exchange k.story.bus_state.dialogue → SaidWords k n o → is_message_out (bus_of k) ≡ true → k.story.bus_state.dialogue.is_last ≡ true → o.said ≡ [] → ⊥
+pub some_said : (s : ScenarioValue) (n : Connection) (k : RunState) (o : OpenedValue) → IsSpeaking s n k.served k.exchange k.story.bus_state.dialogue → SaidWords k n o
+    → is_message_out (bus_of k) ≡ true → k.story.bus_state.dialogue.is_last ≡ true → o.said ≡ [] → ⊥
 some_said s n k o speaks words here last none =
     some_bytes speaks.heard.before speaks.heard.byte speaks.heard.rest
     (sym speaks.heard.words_are ∙ none_said nothing_understood k.exchange.speech.words speaks.whole (sym (words.whole here last) ∙ none))
 
-pub left_none : (s : ScenarioValue) (p : List Row) (row : Row) (n : Connection) (g : Going s p row n) (o : OpenedValue) → SaidWords (run_state s p) n o → changes_phase g.going.change ≡ true → is_message_out g.going.change.before ≡ true → (spoken o).held ≡ None
+pub left_none : (s : ScenarioValue) (p : List Row) (row : Row) (n : Connection) (g : Going s p row n) (o : OpenedValue) → SaidWords (run_state s p) n o
+    → changes_phase g.going.change ≡ true → is_message_out g.going.change.before ≡ true → (spoken o).held ≡ None
 left_none s p row n g o words ep x =
     let speaks = (g.was.stood.books.speaks n g.going.goes.row_is.connection_is g.going.goes.calm).in_message_out (begun k.exchange.begun refl) here in
     gone_held o o.said (some_said s n k o speaks words here (left_last s p row n g ep x))
@@ -152,7 +159,8 @@ last_same to_initiator.Reject = refl
 
 -- ---- row by row
 
-pub held_row : (s : ScenarioValue) (p : List Row) (row : Row) (n : Connection) (g : Going s p row n) (o after : OpenedValue) → RowMade (run_state s p) row n g.going.change o after → OpenedBytes (run_state s p) n o → SaidWords (run_state s p) n o → HeldLast (run_state s p) o → HeldLast (run_state s (row ∷ p)) after
+pub held_row : (s : ScenarioValue) (p : List Row) (row : Row) (n : Connection) (g : Going s p row n) (o after : OpenedValue) → RowMade (run_state s p) row n g.going.change o after
+    → OpenedBytes (run_state s p) n o → SaidWords (run_state s p) n o → HeldLast (run_state s p) o → HeldLast (run_state s (row ∷ p)) after
 held_row s p row n g o after (made_still ep none e) bytes words h =
     let k : RunState = run_state s p in
     let j : RunState = run_state s (row ∷ p) in
@@ -212,12 +220,14 @@ held_row s p row n g o after (made_crossing dev ep er e) bytes words h = go (cro
     no_inc : {A : Type 0} (m : MsgIn) → (let a : Option MsgIn = None in a) ≡ Some m → A
     no_inc m z = absurd cc
 
-    other : is_message_out c.before ≡ false → is_message_in c.before ≡ false → after.held ≡ o.held → LinkAfter s k.story l (message_out k.story.bus_state.dialogue c true) (message_in k.story.bus_state.dialogue c true) j.story.link → HeldLast j after
+    other : is_message_out c.before ≡ false → is_message_in c.before ≡ false → after.held ≡ o.held
+        → LinkAfter s k.story l (message_out k.story.bus_state.dialogue c true) (message_in k.story.bus_state.dialogue c true) j.story.link → HeldLast j after
     other x y held (says m a link) = no_msg m (sym (no_out x) ∙ a)
     other x y held (hears m a b link) = no_inc m (sym (no_in y) ∙ b)
     other x y held (stays a b link) = stay link held
 
-    go : CrossingMade o after k.story.bus_state.dialogue.is_last c.before (c.after.data_bits % 256) (message_out k.story.bus_state.dialogue c true) (message_in k.story.bus_state.dialogue c true) → LinkAfter s k.story l (message_out k.story.bus_state.dialogue c true) (message_in k.story.bus_state.dialogue c true) j.story.link → HeldLast j after
+    go : CrossingMade o after k.story.bus_state.dialogue.is_last c.before (c.after.data_bits % 256) (message_out k.story.bus_state.dialogue c true) (message_in k.story.bus_state.dialogue c true)
+        → LinkAfter s k.story l (message_out k.story.bus_state.dialogue c true) (message_in k.story.bus_state.dialogue c true) j.story.link → HeldLast j after
     go (crossed_out x f) (says m a link) = record {
       same = λ no q eq. wrong (sym (lines ∙ ap is_message_out on ∙ x) ∙ no);
       out = λ q eq z. wrong' (sym (out_last m l (last_before _ l t.last)) ∙ ap (λ (y : Link). story_of.is_complete y.last) (same_Some (record l { last = last_out m l }) q (sym link ∙ eq)) ∙ z);

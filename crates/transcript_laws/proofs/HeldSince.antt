@@ -38,10 +38,11 @@ use Rattle.bus_dialogue.specs.Exchange.{Exchange, plan_anew, plan_after_message,
 use Rattle.bus_dialogue.specs.Planning.{plan_in_message_out}
 use Rattle.bus_books.specs.Rows.{reading_in as row_reading_in}
 use Rattle.bus_books.specs.Speaking.{IsAboutToSpeak}
+use Rattle.bus_books.specs.Tests.{is_selected}
 use Rattle.bus_books.proofs.Given.{in_is_known}
 use Rattle.bus_due.specs.Sights.{hearing_of, leaving}
 use Rattle.bus_books.specs.Knowing.{Knows}
-use Rattle.bus_books.proofs.Gives.{in_io}
+use Rattle.bus_books.proofs.Gives.{in_io, not_both}
 use Rattle.bus_books.proofs.InConnection.{InConnection, in_connection, SamePhase}
 use Rattle.bus_due.specs.RunState.{RunState, bus_of}
 use Rattle.bus_due.specs.RunSteps.{run_state}
@@ -54,9 +55,8 @@ use Rattle.trace_laws.specs.Named.{Named, known, said, refused}
 use Rattle.trace_laws.specs.Tells.{IsServed, of_process, of_abort}
 use Rattle.trace_laws.proofs.CloseCounts.{counted_row, turn_handshakes}
 use Rattle.trace_laws.proofs.OverItems.{Grows}
-use Rattle.trace_laws.proofs.PhaseLines.{in_phase, out_in, in_out, out_lines, out_no_status}
+use Rattle.trace_laws.proofs.PhaseLines.{in_phase, message_line, out_in, in_out, out_line, out_lines, out_no_status}
 use Rattle.trace_laws.proofs.RowItems.{heard_link, LinkAfter, says, hears, stays, link_crossed, over_after, link_still}
-use Rattle.trace_laws.proofs.TalkSteps.{not_both}
 use Rattle.transcript_laws.specs.Parts.{are_talk, base_parts, is_known}
 use Rattle.transcript_laws.specs.RowTests.{is_broken}
 use Rattle.transcript_laws.proofs.HeldLast.{HeldLast, still_held, over_held}
@@ -102,7 +102,8 @@ some_bytes (x ∷ xs) b e = absurd (not_nil x (xs ++ b ∷ []) e)
     not_nil : (x : ℕ) (zs : List ℕ) → x ∷ zs ≡ [] → ⊥
     not_nil x zs z = cc
 
-pub none_half : {A : Type 0} (half : List ℕ) (b : ℕ) → whole_in (got_in (half ++ b ∷ [])) ≡ None → is_unknown (reading_in (got_in (half ++ b ∷ []))) ≡ false → left_of (got_in (half ++ b ∷ [])) (half ++ b ∷ []) ≡ [] → A
+pub none_half : {A : Type 0} (half : List ℕ) (b : ℕ) → whole_in (got_in (half ++ b ∷ [])) ≡ None → is_unknown (reading_in (got_in (half ++ b ∷ []))) ≡ false
+    → left_of (got_in (half ++ b ∷ [])) (half ++ b ∷ []) ≡ [] → A
 none_half {A = A} half b e f h = go (got_in (half ++ b ∷ [])) e f h
   where
     go : (g : Got MsgIn) → whole_in g ≡ None → is_unknown (reading_in g) ≡ false → left_of g (half ++ b ∷ []) ≡ [] → A
@@ -115,7 +116,8 @@ none_half {A = A} half b e f h = go (got_in (half ++ b ∷ [])) e f h
 
 -- ---- what is known stays known
 
-known_same : (o v : OpenedValue) (b a : LineSet) → v.connection ≡ o.connection → are_talk (base_parts v) ≡ are_talk (base_parts o) → is_command b ≡ false → is_command a ≡ false → is_known v a ≡ is_known o b
+known_same : (o v : OpenedValue) (b a : LineSet) → v.connection ≡ o.connection → are_talk (base_parts v) ≡ are_talk (base_parts o) → is_command b ≡ false → is_command a ≡ false
+    → is_known v a ≡ is_known o b
 known_same o v b a conn talk nb na = (λ i. not (conn i).reselected || not (talk i) || na i) ∙ ap (λ (q : Bool). not o.connection.reselected || not (are_talk (base_parts o)) || q) (sym nb)
 
 record IsMessage (b a : LineSet) : Type 0 where
@@ -128,22 +130,10 @@ is_message b a h e = record { before = λ i. not (e i) && b.cd && not b.io; afte
 pub message_no_command : (b : LineSet) → b.msg ≡ true → is_command b ≡ false
 message_no_command b e = λ i. not (e i) && b.cd && not b.io
 
-pub in_msg : (b : LineSet) → is_message_in b ≡ true → b.msg ≡ true
-in_msg b e = go b.msg b.cd b.io e
-  where
-    go : (m d i : Bool) → (m && d && i) ≡ true → m ≡ true
-    go true d i z = refl
-    go false d i z = wrong' z
-
-pub out_msg : (b : LineSet) → is_message_out b ≡ true → b.msg ≡ true
-out_msg b e = go b.msg b.cd b.io e
-  where
-    go : (m d i : Bool) → (m && d && not i) ≡ true → m ≡ true
-    go true d i z = refl
-    go false d i z = wrong' z
-
 -- Of a known process of MESSAGE IN the item is a process.
-known_process : (s : ScenarioValue) (p : List Row) (row : Row) (n : Connection) (g : Going s p row n) (o : OpenedValue) (l : Link) → OpenedBytes (run_state s p) n o → TalkNamed (run_state s p) n o → (run_state s p).story.link ≡ Some l → (run_state s p).exchange.begun ≡ true → is_message_in (bus_of (run_state s p)) ≡ true → is_known o (bus_of (run_state s p)) ≡ true → is_some (carried_if (run_state s p).story l.item) ≡ true
+known_process : (s : ScenarioValue) (p : List Row) (row : Row) (n : Connection) (g : Going s p row n) (o : OpenedValue) (l : Link) → OpenedBytes (run_state s p) n o
+    → TalkNamed (run_state s p) n o → (run_state s p).story.link ≡ Some l → (run_state s p).exchange.begun ≡ true → is_message_in (bus_of (run_state s p)) ≡ true
+    → is_known o (bus_of (run_state s p)) ≡ true → is_some (carried_if (run_state s p).story l.item) ≡ true
 known_process s p row n g o l bytes named el begun here kn = go l.item refl (some n.reselected refl)
   where
     k : RunState
@@ -165,7 +155,7 @@ known_process s p row n g o l bytes named el begun here kn = go l.item refl (som
         wrong' (sym (ap (λ (x : Connection). not x.reselected || not (are_talk (base_parts o)) || is_command (bus_of k)) bytes.connection_is
         ∙ ap (λ (q : Bool). not q || not (are_talk (base_parts o)) || is_command (bus_of k)) re
         ∙ ap (λ (q : Bool). not q || is_command (bus_of k)) z
-        ∙ message_no_command (bus_of k) (in_msg (bus_of k) here)) ∙ kn)
+        ∙ message_no_command (bus_of k) (message_line (bus_of k) here)) ∙ kn)
 
     some : (r : Bool) → n.reselected ≡ r → is_some l.item ≡ true
     some true re = named.named re (talk re (are_talk (base_parts o)) refl) l el
@@ -189,7 +179,9 @@ known_process s p row n g o l bytes named el begun here kn = go l.item refl (som
 
 -- ---- row by row
 
-pub since_still : (s : ScenarioValue) (p : List Row) (row : Row) (n : Connection) (g : Going s p row n) (o after : OpenedValue) → changes_phase g.going.change ≡ false → is_some (receiver_in n g.going.change) ≡ false → after ≡ with_still_row o (run_state s p).story.bus_state g.going.change row.kind → HeldLast (run_state s p) o → OpenedBytes (run_state s p) n o → TalkNamed (run_state s p) n o → HeldSince (run_state s p) o → HeldSince (run_state s (row ∷ p)) after
+pub since_still : (s : ScenarioValue) (p : List Row) (row : Row) (n : Connection) (g : Going s p row n) (o after : OpenedValue) → changes_phase g.going.change ≡ false
+    → is_some (receiver_in n g.going.change) ≡ false → after ≡ with_still_row o (run_state s p).story.bus_state g.going.change row.kind → HeldLast (run_state s p) o
+    → OpenedBytes (run_state s p) n o → TalkNamed (run_state s p) n o → HeldSince (run_state s p) o → HeldSince (run_state s (row ∷ p)) after
 since_still s p row n g o after ep none e last bytes named h = go (is_completion o k.story.bus_state.dialogue.half c) refl
   where
     k : RunState
@@ -275,10 +267,10 @@ since_still s p row n g o after ep none e last bytes named h = go (is_completion
         record {
           in_held = λ x. ap (λ (y : Option Incoming). is_some y) held ∙ h.in_held (was_in x);
           in_since = λ x. elim (h.in_since (was_in x)) [ inl w ↦ inl (since ∙ w) | inr w ↦ inr (over w) ];
-          in_backed = λ x w. backed (is_message (bus_of k) (bus_of j) lines (in_msg (bus_of k) (was_in x).here)) talk (h.in_backed (was_in x) (sym since ∙ w));
+          in_backed = λ x w. backed (is_message (bus_of k) (bus_of j) lines (message_line (bus_of k) (was_in x).here)) talk (h.in_backed (was_in x) (sym since ∙ w));
           out_held = λ x. ap (λ (y : Option Incoming). is_some y) held ∙ h.out_held (was_out x);
           out_since = λ x. since ∙ h.out_since (was_out x);
-          out_backed = λ x. backed (is_message (bus_of k) (bus_of j) lines (out_msg (bus_of k) (was_out x).here)) talk (h.out_backed (was_out x));
+          out_backed = λ x. backed (is_message (bus_of k) (bus_of j) lines (out_line (bus_of k) (was_out x).here)) talk (h.out_backed (was_out x));
         }
 
     -- COMMAND COMPLETE is taken: its process is over
@@ -365,7 +357,9 @@ since_still s p row n g o after ep none e last bytes named h = go (is_completion
     go false z = quiet z
 
 -- A byte that crosses.
-pub since_crossing : (s : ScenarioValue) (p : List Row) (row : Row) (n : Connection) (g : Going s p row n) (o after : OpenedValue) (dev : ℕ) → changes_phase g.going.change ≡ false → receiver_in n g.going.change ≡ Some dev → CrossingMade o after (run_state s p).story.bus_state.dialogue.is_last g.going.change.before (g.going.change.after.data_bits % 256) (message_out (run_state s p).story.bus_state.dialogue g.going.change true) (message_in (run_state s p).story.bus_state.dialogue g.going.change true)
+pub since_crossing : (s : ScenarioValue) (p : List Row) (row : Row) (n : Connection) (g : Going s p row n) (o after : OpenedValue) (dev : ℕ) → changes_phase g.going.change ≡ false
+    → receiver_in n g.going.change ≡ Some dev
+    → CrossingMade o after (run_state s p).story.bus_state.dialogue.is_last g.going.change.before (g.going.change.after.data_bits % 256) (message_out (run_state s p).story.bus_state.dialogue g.going.change true) (message_in (run_state s p).story.bus_state.dialogue g.going.change true)
     → OpenedBytes (run_state s p) n o → TalkNamed (run_state s p) n o → HeldSince (run_state s p) o → HeldSince (run_state s (row ∷ p)) after
 since_crossing s p row n g o after dev ep er made bytes named h = go made (link_crossed s k row n c l g.going.goes.row_is there el)
   where
@@ -438,11 +432,12 @@ since_crossing s p row n g o after dev ep er made bytes named h = go made (link_
         by true false m = refl
         by false anew m = refl
 
-    out_stays : is_message_out c.before ≡ true → (undo : (q : Link) → j.story.link ≡ Some q → q.undo ≡ l.undo) → after.connection ≡ o.connection → after.parts ≡ o.parts → after.since ≡ o.since → after.held ≡ o.held → HeldSince j after
+    out_stays : is_message_out c.before ≡ true → (undo : (q : Link) → j.story.link ≡ Some q → q.undo ≡ l.undo) → after.connection ≡ o.connection → after.parts ≡ o.parts
+        → after.since ≡ o.since → after.held ≡ o.held → HeldSince j after
     out_stays x undo conn parts since held =
         let no_in : is_message_in (bus_of j) ≡ false = in_same (bus_of k) (bus_of j) lines ∙ ap is_message_in on ∙ in_out c.before x in
         let was : IsAnswering j → IsAnswering k = λ z. record { begun = begun; here = ap is_message_out on ∙ x; cause = sym (cause x) ∙ z.cause } in
-        let m = is_message (bus_of k) (bus_of j) lines (out_msg (bus_of k) (ap is_message_out on ∙ x)) in
+        let m = is_message (bus_of k) (bus_of j) lines (out_line (bus_of k) (ap is_message_out on ∙ x)) in
         let talk : are_talk (base_parts after) ≡ are_talk (base_parts o) = base_talk after ∙ (λ t. are_talk (parts t) && are_talk (since t)) ∙ sym (base_talk o) in
         record {
           in_held = λ z. wrong (sym z.here ∙ no_in);
@@ -456,13 +451,14 @@ since_crossing s p row n g o after dev ep er made bytes named h = go made (link_
 
     -- ---- MESSAGE IN: the message is held
 
-    in_heard : is_message_out c.before ≡ false → is_message_in c.before ≡ true → (m : MsgIn) → message_in k.story.bus_state.dialogue c true ≡ Some m → after ≡ with_in_if o (message_in k.story.bus_state.dialogue c true) → j.story.link ≡ Some (heard_link s k.story l m) → HeldSince j after
+    in_heard : is_message_out c.before ≡ false → is_message_in c.before ≡ true → (m : MsgIn) → message_in k.story.bus_state.dialogue c true ≡ Some m
+        → after ≡ with_in_if o (message_in k.story.bus_state.dialogue c true) → j.story.link ≡ Some (heard_link s k.story l m) → HeldSince j after
     in_heard x y m b f link =
         let no_out : is_message_out (bus_of j) ≡ false = out_same (bus_of k) (bus_of j) lines ∙ ap is_message_out on ∙ x in
         let here : is_message_in (bus_of k) ≡ true = ap is_message_in on ∙ y in
         let is : after ≡ with_in o (Whole m) = f ∙ ap (λ (z : Option MsgIn). with_in_if o z) b in
         let talk : are_talk (base_parts after) ≡ are_talk (base_parts o) = ap (λ (z : OpenedValue). are_talk (base_parts z)) f ∙ in_talk o (message_in k.story.bus_state.dialogue c true) in
-        let v = is_message (bus_of k) (bus_of j) lines (in_msg (bus_of k) here) in
+        let v = is_message (bus_of k) (bus_of j) lines (message_line (bus_of k) here) in
         let backed : Backed j after = λ kn q eq.
         ap (λ (z : Link). is_some z.undo || is_broken after.held) (same_Some q (heard_link s k.story l m) (sym eq ∙ link))
         ∙ ap (λ (z : Bool). z || is_broken after.held) (known_process s p row n g o l bytes named el begun here (sym (known_same o after (bus_of k) (bus_of j) (ap (λ (z : OpenedValue). z.connection) is) talk v.before v.after) ∙ kn)) in
@@ -495,7 +491,8 @@ since_crossing s p row n g o after dev ep er made bytes named h = go made (link_
             (sym (λ t. is_unknown (if there t then if x t then reading_out (got_out (k.story.bus_state.dialogue.half ++ byte ∷ [])) else if y t then reading_in (got_in (k.story.bus_state.dialogue.half ++ byte ∷ [])) else readings.NoMessage else readings.NoMessage)) ∙ known)
             (sym (ap (λ (d : Dialogue). d.half) i.dialogue_is ∙ (λ t. (if x t then byte_out k.story.bus_state.dialogue byte (not c.after.atn) else if y t then byte_in k.story.bus_state.dialogue byte else byte_else k.story.bus_state.dialogue c.before byte).half)) ∙ z.half)
 
-    go : CrossingMade o after k.story.bus_state.dialogue.is_last c.before byte (message_out k.story.bus_state.dialogue c true) (message_in k.story.bus_state.dialogue c true) → LinkAfter s k.story l (message_out k.story.bus_state.dialogue c true) (message_in k.story.bus_state.dialogue c true) j.story.link → HeldSince j after
+    go : CrossingMade o after k.story.bus_state.dialogue.is_last c.before byte (message_out k.story.bus_state.dialogue c true) (message_in k.story.bus_state.dialogue c true)
+        → LinkAfter s k.story l (message_out k.story.bus_state.dialogue c true) (message_in k.story.bus_state.dialogue c true) j.story.link → HeldSince j after
     go (crossed_out x f) (says m a link) =
         out_stays x (λ q eq. ap (λ (z : Link). z.undo) (same_Some q (record l { last = last_out m l }) (sym eq ∙ link))) (ap (λ (z : OpenedValue). z.connection) f) (ap (λ (z : OpenedValue). z.parts) f) (ap (λ (z : OpenedValue). z.since) f) (ap (λ (z : OpenedValue). z.held) f)
     go (crossed_out x f) (hears m a b link) = no_inc m (sym (in_none (in_out c.before x)) ∙ b)
@@ -517,7 +514,8 @@ still_since o (m ∷ more) e = absurd (not_nil m more e)
     not_nil x zs z = cc
 
 -- MESSAGE OUT that answers a message follows MESSAGE IN.
-pub follows_in : (s : ScenarioValue) (p : List Row) (row : Row) (n : Connection) (g : Going s p row n) → changes_phase g.going.change ≡ true → is_some (receiver_in n g.going.change) ≡ false → IsAnswering (run_state s (row ∷ p)) → ((run_state s p).exchange.begun ≡ true) × (is_message_in g.going.change.before ≡ true)
+pub follows_in : (s : ScenarioValue) (p : List Row) (row : Row) (n : Connection) (g : Going s p row n) → changes_phase g.going.change ≡ true
+    → is_some (receiver_in n g.going.change) ≡ false → IsAnswering (run_state s (row ∷ p)) → ((run_state s p).exchange.begun ≡ true) × (is_message_in g.going.change.before ≡ true)
 follows_in s p row n g ep none answering = cause_is answering k.exchange.begun refl (is_message_in c.before) refl
   where
     k : RunState
@@ -566,12 +564,10 @@ follows_in s p row n g ep none answering = cause_is answering k.exchange.begun r
 
         selected : causes.Selected ≡ causes.InMessage → false ≡ true
         selected w = sym (ap is_selected w)
-          where
-            is_selected : Cause → Bool
-            is_selected causes.Selected = true
-            is_selected _ = false
 
-pub since_turn : (s : ScenarioValue) (p : List Row) (row : Row) (n : Connection) (g : Going s p row n) (o after : OpenedValue) → changes_phase g.going.change ≡ true → is_some (receiver_in n g.going.change) ≡ false → is_fault row.kind ≡ false → after ≡ phase_entered (phase_over o g.going.change.before (run_state s p).story.bus_state.dialogue.half true) g.going.change.after
+pub since_turn : (s : ScenarioValue) (p : List Row) (row : Row) (n : Connection) (g : Going s p row n) (o after : OpenedValue) → changes_phase g.going.change ≡ true
+    → is_some (receiver_in n g.going.change) ≡ false → is_fault row.kind ≡ false
+    → after ≡ phase_entered (phase_over o g.going.change.before (run_state s p).story.bus_state.dialogue.half true) g.going.change.after
     → OpenedBytes (run_state s p) n o → HeldSince (run_state s p) o → HeldSince (run_state s (row ∷ p)) after
 since_turn s p row n g o after ep none ef e bytes h = record {
   in_held = λ z. fresh z;
@@ -665,7 +661,8 @@ since_turn s p row n g o after ep none ef e bytes h = record {
         ∙ ap (λ (xs : List Part). (broken_off (spoken o) c.before half).since ++ xs) (no_phase (is_command c.before) (is_data c.before) (not_moving z))
         ∙ append-nil (broken_off (spoken o) c.before half).since
       where
-        no_phase : (x y : Bool) → (x || y) ≡ false → (if x then Command (broken_off (spoken o) c.before half).bytes (broken_off (spoken o) c.before half).struck true ∷ [] else if y then data_parts (not c.before.io) (broken_off (spoken o) c.before half).bytes else []) ≡ []
+        no_phase : (x y : Bool) → (x || y) ≡ false
+            → (if x then Command (broken_off (spoken o) c.before half).bytes (broken_off (spoken o) c.before half).struck true ∷ [] else if y then data_parts (not c.before.io) (broken_off (spoken o) c.before half).bytes else []) ≡ []
         no_phase true y w = wrong w
         no_phase false true w = wrong w
         no_phase false false w = refl
@@ -695,9 +692,10 @@ since_turn s p row n g o after ep none ef e bytes h = record {
         let x' = was z (nil_of_half x) in
         let since : o.since ≡ [] = sym (still_since o o.said (none_said z)) ∙ sym (λ t. (if (from_in z).1 t && not (x t) then with_in (spoken o) Broken else spoken o).since) ∙ sym (since_is z) ∙ by_since z true x in
         ap (λ (y : Option Incoming). is_some q.undo || is_broken y) (held_whole z x)
-        ∙ h.in_backed x' since (sym (known_same o after (bus_of k) (bus_of j) conn talk (message_no_command (bus_of k) (in_msg (bus_of k) x'.here)) (message_no_command (bus_of j) (out_msg (bus_of j) z.here))) ∙ kn) q (el ∙ sym link ∙ eq)
+        ∙ h.in_backed x' since (sym (known_same o after (bus_of k) (bus_of j) conn talk (message_no_command (bus_of k) (message_line (bus_of k) x'.here)) (message_no_command (bus_of j) (out_line (bus_of j) z.here))) ∙ kn) q (el ∙ sym link ∙ eq)
 
-pub since_row : (s : ScenarioValue) (p : List Row) (row : Row) (n : Connection) (g : Going s p row n) (o after : OpenedValue) → RowMade (run_state s p) row n g.going.change o after → HeldLast (run_state s p) o → OpenedBytes (run_state s p) n o → TalkNamed (run_state s p) n o → HeldSince (run_state s p) o → HeldSince (run_state s (row ∷ p)) after
+pub since_row : (s : ScenarioValue) (p : List Row) (row : Row) (n : Connection) (g : Going s p row n) (o after : OpenedValue) → RowMade (run_state s p) row n g.going.change o after
+    → HeldLast (run_state s p) o → OpenedBytes (run_state s p) n o → TalkNamed (run_state s p) n o → HeldSince (run_state s p) o → HeldSince (run_state s (row ∷ p)) after
 since_row s p row n g o after (made_still ep none e) last bytes named h = since_still s p row n g o after ep none e last bytes named h
 since_row s p row n g o after (made_crossing dev ep er e) last bytes named h = since_crossing s p row n g o after dev ep er (crossing_made o after (run_state s p).story.bus_state n g.going.change e) bytes named h
 since_row s p row n g o after (made_turn ep none ef e) last bytes named h = since_turn s p row n g o after ep none ef e bytes h

@@ -19,12 +19,13 @@ use Rattle.bus_story.specs.HistoryEvents.{carried_if}
 use Rattle.bus_story.specs.Items.{Item, process, abort, Sent, is_open, command_item, sense_item, tag_number_if}
 use Rattle.bus_story.specs.Links.{Link, last_in, is_of_nexus, is_open_sense, same_number, named_item_from, link_after_name}
 use Rattle.bus_story.specs.Story.{Story}
-use Rattle.bus_story.specs.TraceHistory.{story_with_restored, story_with_carried, carried_after_message_if, story}
+use Rattle.bus_story.specs.TraceHistory.{story_with_carried, carried_after_message_if, story}
 use Rattle.bus_books.specs.RowTests.{same_item_if}
 use Rattle.bus_books.proofs.Lookups.{carried_id}
 use Rattle.bus_books.proofs.RowTies.{item_if_is}
 use Rattle.trace_laws.proofs.OverItems.{grows_same}
 use Rattle.trace_laws.proofs.Impossible.{none_some}
+use Rattle.trace_laws.proofs.PointerStorySteps.{named_story}
 use Rattle.bus_transcript.specs.declared.part.Incoming.TheVariants.{Whole}
 use Rattle.bus_transcript.specs.declared.part.Part.{Part}
 use Rattle.bus_transcript.specs.declared.part.Part.TheVariants as parts_of
@@ -163,10 +164,6 @@ item_unknown : (known : Bool) (was next : Option Item) (i j : Item) → names_it
 item_unknown true was next i j e f g = sym (item_if_is was next e)
 item_unknown false was next i j e f g =
     sym (item_if_is was next (or_second (is_none was || is_none next) (same_item_if was next) e ((λ x. is_none (f x) || is_none (g x)))))
-
--- The story before the message changes what is carried.
-abbrev named_story : Story → Option Item → Option Item → Story
-named_story b was next = if is_none was then story_with_restored b next else b
 
 abbrev named_carried : List CarriedBytes → Option Item → Option Item → List CarriedBytes
 named_carried all None next = changed with_restored_pointers all next

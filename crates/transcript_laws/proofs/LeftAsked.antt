@@ -19,12 +19,14 @@ use Rattle.bus_base.proofs.Tests.{wrong, wrong'}
 
 -- ---- rows with which the phase stays
 
-by_initiator : (p : List Row) (n : Connection) (e : EndLines) (bsy ack atn : Bool) (x t : ℕ) → Linked p n e → changes_phase (change_of p (row_of_lines t n.initiator (initiator_side (ends bsy ack atn x e.msg e.cd e.io e.req e.given)))) ≡ false
+by_initiator : (p : List Row) (n : Connection) (e : EndLines) (bsy ack atn : Bool) (x t : ℕ) → Linked p n e
+    → changes_phase (change_of p (row_of_lines t n.initiator (initiator_side (ends bsy ack atn x e.msg e.cd e.io e.req e.given)))) ≡ false
 by_initiator p n e bsy ack atn x t h =
     ap changes_phase (initiator_moves p n e bsy ack atn x t h).change
     ∙ phase_same e bsy ack atn x e.req e.given (initiator_side e) (initiator_side (ends bsy ack atn x e.msg e.cd e.io e.req e.given))
 
-by_target : (p : List Row) (n : Connection) (e : EndLines) (req : Bool) (y t : ℕ) → Linked p n e → changes_phase (change_of p (row_of_lines t n.target (target_side (ends e.bsy e.ack e.atn e.sent e.msg e.cd e.io req y)))) ≡ false
+by_target : (p : List Row) (n : Connection) (e : EndLines) (req : Bool) (y t : ℕ) → Linked p n e
+    → changes_phase (change_of p (row_of_lines t n.target (target_side (ends e.bsy e.ack e.atn e.sent e.msg e.cd e.io req y)))) ≡ false
 by_target p n e req y t h =
     ap changes_phase (target_moves p n e e.msg e.cd e.io req y t h).change
     ∙ phase_same e e.bsy e.ack e.atn e.sent req y (target_side e) (target_side (ends e.bsy e.ack e.atn e.sent e.msg e.cd e.io req y))
@@ -39,7 +41,8 @@ by_fault p n e t d bit h =
 left_by : (p : List Row) (row other : Row) → row ≡ other → changes_phase (change_of p other) ≡ false → changes_phase (change_of p row) ≡ true → is_unasked p ≡ false
 left_by p row other e f ep = wrong' (sym (ap (λ (r : Row). changes_phase (change_of p r)) e ∙ f) ∙ ep)
 
-pub left_asked : (s : ScenarioValue) (p : List Row) (row : Row) (n : Connection) → begun p ≡ true → LinkRow s p n row → changes_phase (change_of p row) ≡ true → is_unasked p ≡ false
+pub left_asked : (s : ScenarioValue) (p : List Row) (row : Row) (n : Connection) → begun p ≡ true → LinkRow s p n row → changes_phase (change_of p row) ≡ true
+    → is_unasked p ≡ false
 left_asked s p row n b (rows.opens h unbegun e) ep = wrong (sym b ∙ unbegun)
 left_asked s p row n b (rows.strikes w bit h begun got dev e) ep = left_by p row (row_of_fault (last_time p) row.dev bit) e (by_fault p n w (last_time p) row.dev bit h) ep
 left_asked s p row n b (rows.hands atn msg cd io y h begun un e) ep = left_by p row _ e (by_initiator p n (ends true false atn 0 msg cd io false y) false false atn 0 row.time h) ep

@@ -27,6 +27,7 @@ use Rattle.bus_transcript.specs.Rows.{transcribed}
 use Rattle.trace_laws.specs.Tells.{IsServed, of_process, of_abort}
 use Rattle.trace_laws.proofs.ConnectionRows.{stage_of_connection}
 use Rattle.trace_laws.proofs.Joint.{link_unbegun}
+use Rattle.trace_laws.proofs.Impossible.{none_some}
 use Rattle.trace_laws.proofs.Whole.{Whole, whole}
 use Rattle.transcript_laws.specs.Parts.{are_talk, base_parts, out_parts, parts_now, summary_by, name_process}
 use Rattle.transcript_laws.specs.RowTests.{is_named}
@@ -73,12 +74,9 @@ item_is_served s p n o l item h el e = go h.knows.item_is
     same : h.knows.link ≡ l
     same = same_Some h.knows.link l (sym h.knows.link_is ∙ el)
 
-    none_some : {A : Type 0} → (let a : Option Item = None in a) ≡ Some item → A
-    none_some z = absurd cc
-
     go : (h.knows.link.item ≡ (run_state s p).served) ⊎ ((n.reselected ≡ true) × (h.knows.link.item ≡ None)) → (run_state s p).served ≡ Some item
     go (inl z) = sym z ∙ ap (λ (x : Link). x.item) same ∙ e
-    go (inr z) = none_some (sym z.1 ∙ ap (λ (x : Link). x.item) same ∙ e)
+    go (inr z) = none_some item (sym z.1 ∙ ap (λ (x : Link). x.item) same ∙ e)
 
 pub record ServedProcess (s : ScenarioValue) (id : ProcId) : Type 0 where
   pub own : Process

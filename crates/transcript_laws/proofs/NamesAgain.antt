@@ -63,7 +63,10 @@ pub record NamesAgain (s : ScenarioValue) (k : RunState) (n : Connection) (o : O
 
 -- ---- a reselection begins
 
-names_first : (s : ScenarioValue) (p : List Row) (row : Row) (n : Connection) → Starts s p row n → Whole s (row ∷ p) → connection (row ∷ p) ≡ Some n → (bus (row ∷ p)).rst ≡ false → (run_state s (row ∷ p)).exchange.begun ≡ true → (is_message_in (bus_of (run_state s (row ∷ p))) ≡ true → (run_state s (row ∷ p)).handshakes ≡ no_handshakes) → n.reselected ≡ true → (id : ProcId) (q : Process) → (run_state s (row ∷ p)).served ≡ Some (process id) → process_of s id ≡ Some q → AgainNames q (run_state s (row ∷ p)) (opened_connection n)
+names_first : (s : ScenarioValue) (p : List Row) (row : Row) (n : Connection) → Starts s p row n → Whole s (row ∷ p) → connection (row ∷ p) ≡ Some n → (bus (row ∷ p)).rst ≡ false
+    → (run_state s (row ∷ p)).exchange.begun ≡ true → (is_message_in (bus_of (run_state s (row ∷ p))) ≡ true → (run_state s (row ∷ p)).handshakes ≡ no_handshakes)
+    → n.reselected ≡ true → (id : ProcId) (q : Process) → (run_state s (row ∷ p)).served ≡ Some (process id) → process_of s id ≡ Some q
+    → AgainNames q (run_state s (row ∷ p)) (opened_connection n)
 names_first s p row n h now con calm begun fresh re id q sv of =
     saying (ap (λ (x : Plan). x.next) plan) here
     (none_said (ap (λ (x : Plan). x.messages) plan ∙ ap messages_if r.ready_is ∙ ap naming_messages same) count
@@ -109,7 +112,9 @@ names_first s p row n h now con calm begun fresh re id q sv of =
 
 -- ---- row by row
 
-again_row : (s : ScenarioValue) (p : List Row) (row : Row) (n : Connection) (g : Going s p row n) (o after : OpenedValue) → RowMade (run_state s p) row n g.going.change o after → NamesAgain s (run_state s p) n o → n.reselected ≡ true → (id : ProcId) (q : Process) → process_of s id ≡ Some q → AgainNames q (run_state s p) o → AgainNames q (run_state s (row ∷ p)) after
+again_row : (s : ScenarioValue) (p : List Row) (row : Row) (n : Connection) (g : Going s p row n) (o after : OpenedValue) → RowMade (run_state s p) row n g.going.change o after
+    → NamesAgain s (run_state s p) n o → n.reselected ≡ true → (id : ProcId) (q : Process) → process_of s id ≡ Some q → AgainNames q (run_state s p) o
+    → AgainNames q (run_state s (row ∷ p)) after
 again_row s p row n g o after made h re id q of was = by made
   where
     by : RowMade (run_state s p) row n g.going.change o after → AgainNames q (run_state s (row ∷ p)) after
@@ -145,7 +150,8 @@ record NamesOf (s : ScenarioValue) (n : Connection) (o : OpenedValue) (id : Proc
   abort : (summary_by n (parts_now o)).abort ≡ None
   name : (are_talk (parts_now o) || name_process s n (parts_now o) id) ≡ true
 
-again_names : (s : ScenarioValue) (p : List Row) (n : Connection) (o : OpenedValue) (id : ProcId) (q : Process) → Standing s p n o → ins_of o.since ≡ [] → n.reselected ≡ true → (run_state s p).served ≡ Some (process id) → process_of s id ≡ Some q → AgainNames q (run_state s p) o → NamesOf s n o id
+again_names : (s : ScenarioValue) (p : List Row) (n : Connection) (o : OpenedValue) (id : ProcId) (q : Process) → Standing s p n o → ins_of o.since ≡ [] → n.reselected ≡ true
+    → (run_state s p).served ≡ Some (process id) → process_of s id ≡ Some q → AgainNames q (run_state s p) o → NamesOf s n o id
 again_names s p n o id q h since re sv of was = record {
   abort = again_abort n (parts_now o) re (ap are_tame (outs_now o) ∙ mild_tame (outs_of (base_parts o) ++ o.said) (mild_more (outs_of (base_parts o)) o.said mild.mild (mild_said s (run_state s p) n o h.speaking mild.opened)));
   name = by was;
@@ -173,7 +179,8 @@ again_names s p n o id q h since re sv of was = record {
         let ends = h.names.ends id q sv of in
         ap (λ (x : Bool). are_talk (parts_now o) || x) (name_by s n (parts_now o) id q of ends.0 ends.1 name.0 name.1) ∙ or_true (are_talk (parts_now o))
 
-pub named_again : (s : ScenarioValue) (p : List Row) (n : Connection) (o : OpenedValue) (l : Link) → Obeys s → IsPrompt s p → connection p ≡ Some n → (bus p).rst ≡ false → (transcribed p).opened ≡ Some o → (run_state s p).story.link ≡ Some l → n.reselected ≡ true → is_named s o l.item ≡ true
+pub named_again : (s : ScenarioValue) (p : List Row) (n : Connection) (o : OpenedValue) (l : Link) → Obeys s → IsPrompt s p → connection p ≡ Some n → (bus p).rst ≡ false
+    → (transcribed p).opened ≡ Some o → (run_state s p).story.link ≡ Some l → n.reselected ≡ true → is_named s o l.item ≡ true
 named_again s p n o l obeys prompt con calm there el re = go l.item refl
   where
     h : Standing s p n o

@@ -8,8 +8,6 @@ use Rattle.msg_grammar.specs.declared.message.MsgIn.{MsgIn}
 use Rattle.msg_grammar.specs.declared.message.MsgIn.TheVariants as to_initiator
 use Rattle.msg_grammar.specs.declared.message.MsgOut.{MsgOut}
 use Rattle.msg_grammar.specs.Messages.{form_in, got_in}
-use Rattle.scenario.specs.declared.value.Tag.{Tag}
-use Rattle.scenario.specs.declared.value.Tag.TheVariants as tags
 use Rattle.disk_array.specs.Processes.{Process}
 use Rattle.bus_phases.specs.Half.{is_nil, left_of}
 use Rattle.bus_story.specs.BusState.{whole_in}
@@ -25,7 +23,7 @@ use Rattle.bus_transcript.specs.Nexus.{no_summary, is_abort, named, unit_in, tag
 use Rattle.transcript_laws.specs.Parts.{out_parts, summary_by}
 use Rattle.transcript_laws.proofs.OutNames.{outs_of, is_tame, are_tame}
 use Rattle.bus_base.proofs.Tests.{wrong, wrong', and_first, and_second}
-use Rattle.trace_laws.proofs.NamedBytes.{all_bytes, identify_got}
+use Rattle.trace_laws.proofs.NamedBytes.{all_bytes, identify_got, Tagged, bare, numbered, tagged_is}
 
 -- ---- the messages of a target among parts
 
@@ -136,7 +134,8 @@ names_stay a q m e h = subst (λ (x : Bool). AreNames (if x then record a { unit
     go true f = record { unit = h.unit; tag = no_tag m e ∙ sym (h.awaits f); awaits = λ z. wrong' z }
     go false f = h
 
-pub names_of_parts : (n : Connection) (q : Process) (parts : List Part) → n.reselected ≡ true → AreNames (heard_names no_summary (ins_of parts)) q → ((summary_by n parts).unit ≡ Some q.unit) × ((summary_by n parts).tag ≡ tag_number_if q.tag)
+pub names_of_parts : (n : Connection) (q : Process) (parts : List Part) → n.reselected ≡ true → AreNames (heard_names no_summary (ins_of parts)) q
+    → ((summary_by n parts).unit ≡ Some q.unit) × ((summary_by n parts).tag ≡ tag_number_if q.tag)
 names_of_parts n q parts re h =
     let is : told (summary_by n parts) ≡ heard_names no_summary (ins_of parts) = ap (λ (x : Bool). told (summary_of x no_summary parts)) re ∙ told_same parts no_summary in
     (ap (λ (x : Summary). x.unit) is ∙ h.unit, ap (λ (x : Summary). x.tag) is ∙ h.tag)
@@ -146,19 +145,6 @@ names_of_parts n q parts re h =
 pub record IsTag (q : Process) (t : ℕ) : Type 0 where
   pub named : tag_named q.tag ≡ Some (to_initiator.SimpleTag t)
   pub number : tag_number_if q.tag ≡ Some t
-
-data Tagged (q : Process) : Type 0 where
-  bare : tag_named q.tag ≡ None → tag_number_if q.tag ≡ None → Tagged q
-  numbered : (t : ℕ) → IsTag q t → Tagged q
-
-tagged_is : (q : Process) → Tagged q
-tagged_is q = go q.tag refl
-  where
-    go : (t : Tag) → q.tag ≡ t → Tagged q
-    go tags.Untagged e = bare (ap tag_named e) (ap tag_number_if e)
-    go (tags.Simple n) e = numbered n (record { named = ap tag_named e; number = ap tag_number_if e })
-    go (tags.Ordered n) e = numbered n (record { named = ap tag_named e; number = ap tag_number_if e })
-    go (tags.Head n) e = numbered n (record { named = ap tag_named e; number = ap tag_number_if e })
 
 -- ---- as they are said
 
@@ -175,16 +161,20 @@ pub data Says (q : Process) (messages : Messages) (count : ℕ) (half : List ℕ
   unit_said : messages ≡ naming_messages q → count ≡ 1 → half ≡ [] → parts ≡ [] → held ≡ identity q → Says q messages count half parts held
   tag_begun : (t : ℕ) → IsTag q t → messages ≡ naming_messages q → count ≡ 2 → half ≡ 0x20 ∷ [] → parts ≡ [] → held ≡ identity q → Says q messages count half parts held
   all_said : (t : ℕ) → IsTag q t → messages ≡ naming_messages q → count ≡ 3 → half ≡ [] → parts ≡ identity q → held ≡ tag_message t → Says q messages count half parts held
-  tag_left : (t : ℕ) → IsTag q t → messages ≡ one_message (to_initiator.SimpleTag t) → count ≡ 0 → half ≡ [] → parts ≡ identity q → held ≡ [] → Says q messages count half parts held
-  left_begun : (t : ℕ) → IsTag q t → messages ≡ one_message (to_initiator.SimpleTag t) → count ≡ 1 → half ≡ 0x20 ∷ [] → parts ≡ identity q → held ≡ [] → Says q messages count half parts held
-  left_said : (t : ℕ) → IsTag q t → messages ≡ one_message (to_initiator.SimpleTag t) → count ≡ 2 → half ≡ [] → parts ≡ identity q → held ≡ tag_message t → Says q messages count half parts held
+  tag_left : (t : ℕ) → IsTag q t → messages ≡ one_message (to_initiator.SimpleTag t) → count ≡ 0 → half ≡ [] → parts ≡ identity q → held ≡ []
+      → Says q messages count half parts held
+  left_begun : (t : ℕ) → IsTag q t → messages ≡ one_message (to_initiator.SimpleTag t) → count ≡ 1 → half ≡ 0x20 ∷ [] → parts ≡ identity q → held ≡ []
+      → Says q messages count half parts held
+  left_said : (t : ℕ) → IsTag q t → messages ≡ one_message (to_initiator.SimpleTag t) → count ≡ 2 → half ≡ [] → parts ≡ identity q → held ≡ tag_message t
+      → Says q messages count half parts held
 
 -- After MESSAGE PARITY ERROR these are said again.
 pub data Repeats (q : Process) (messages : Messages) (parts : List MsgIn) : Type 0 where
   all_again : messages ≡ naming_messages q → parts ≡ [] → Repeats q messages parts
   tag_again : (t : ℕ) → IsTag q t → messages ≡ one_message (to_initiator.SimpleTag t) → parts ≡ identity q → Repeats q messages parts
 
-pub says_again : (q : Process) (messages : Messages) (parts held : List MsgIn) (half : List ℕ) (count : ℕ) → Repeats q messages parts → count ≡ 0 → half ≡ [] → held ≡ [] → Says q messages count half parts held
+pub says_again : (q : Process) (messages : Messages) (parts held : List MsgIn) (half : List ℕ) (count : ℕ) → Repeats q messages parts → count ≡ 0 → half ≡ [] → held ≡ []
+    → Says q messages count half parts held
 says_again q messages parts held half count (all_again em ep) ec eh el = none_said em ec eh ep el
 says_again q messages parts held half count (tag_again t h em ep) ec eh el = tag_left t h em ec eh ep el
 
@@ -215,19 +205,22 @@ abbrev Next : Process → Messages → ℕ → List MsgIn → List MsgIn → Lis
 Next q messages count parts held bytes = Says q messages (count + 1) (left_of (got_in bytes) bytes) (settled_with parts held (whole_in (got_in bytes))) (held_with held (whole_in (got_in bytes)))
 
 -- The bytes of the message so far, with the next one.
-next_bytes : (bytes half is now : List ℕ) (count at byte : ℕ) → bytes ≡ is → half ≡ now → count ≡ at → byte ≡ slice_index_or bytes count 0 → half ++ byte ∷ [] ≡ now ++ slice_index_or is at 0 ∷ []
+next_bytes : (bytes half is now : List ℕ) (count at byte : ℕ) → bytes ≡ is → half ≡ now → count ≡ at → byte ≡ slice_index_or bytes count 0
+    → half ++ byte ∷ [] ≡ now ++ slice_index_or is at 0 ∷ []
 next_bytes bytes half is now count at byte eb eh ec e = λ i. eh i ++ (e ∙ (λ j. slice_index_or (eb j) (ec j) 0)) i ∷ []
 
 none_left : {A : Type 0} (bytes is : List ℕ) (count at : ℕ) → bytes ≡ is → count ≡ at → at ≡ length is → count < length bytes → A
 none_left bytes is count at eb ec full lt = let n = ap (λ (x : List ℕ). length x) eb in absurd (omega arith)
 
-on_unit : (q : Process) (messages : Messages) (count : ℕ) (parts held : List MsgIn) (bytes : List ℕ) → q.unit < 8 → messages ≡ naming_messages q → count ≡ 0 → parts ≡ [] → held ≡ [] → bytes ≡ (0x80 + q.unit) ∷ [] → Next q messages count parts held bytes
+on_unit : (q : Process) (messages : Messages) (count : ℕ) (parts held : List MsgIn) (bytes : List ℕ) → q.unit < 8 → messages ≡ naming_messages q → count ≡ 0 → parts ≡ []
+    → held ≡ [] → bytes ≡ (0x80 + q.unit) ∷ [] → Next q messages count parts held bytes
 on_unit q messages count parts held bytes lt em ec ep el eb =
     let got = identify_got q.unit lt in
     let whole : whole_in (got_in bytes) ≡ Some (to_initiator.Identify q.unit) = ap (λ (x : List ℕ). whole_in (got_in x)) eb ∙ got.0 in
     unit_said em (ap (λ (x : ℕ). x + 1) ec) (ap (λ (x : List ℕ). left_of (got_in x) x) eb ∙ got.1) (λ i. settled_with (ep i) (el i) (whole i)) (λ i. held_with held (whole i))
 
-pub says_on : (q : Process) (messages : Messages) (half : List ℕ) (count byte : ℕ) (parts held : List MsgIn) → q.unit < 8 → byte ≡ slice_index_or (bytes_of_messages messages) count 0 → count < length (bytes_of_messages messages) → Says q messages count half parts held
+pub says_on : (q : Process) (messages : Messages) (half : List ℕ) (count byte : ℕ) (parts held : List MsgIn) → q.unit < 8
+    → byte ≡ slice_index_or (bytes_of_messages messages) count 0 → count < length (bytes_of_messages messages) → Says q messages count half parts held
     → Says q messages (count + 1) (left_of (got_in (half ++ byte ∷ [])) (half ++ byte ∷ [])) (settled_with parts held (whole_in (got_in (half ++ byte ∷ [])))) (held_with held (whole_in (got_in (half ++ byte ∷ []))))
 says_on q messages half count byte parts held unit e lt h = go h (tagged_is q)
   where
@@ -246,9 +239,9 @@ says_on q messages half count byte parts held unit e lt h = go h (tagged_is q)
     go : Says q messages count half parts held → Tagged q → Next q messages count parts held bytes
     go (none_said em ec eh ep el) w = on_unit q messages count parts held bytes unit em ec ep el (next_bytes (bytes_of_messages messages) half ((0x80 + q.unit) ∷ message_bytes (tag_named q.tag)) [] count 0 byte (all_bytes q messages (tag_named q.tag) em refl) eh ec e)
     go (unit_said em ec eh ep el) (bare none number) = none_left (bytes_of_messages messages) ((0x80 + q.unit) ∷ []) count 1 (all_bytes q messages None em none) ec refl lt
-    go (unit_said em ec eh ep el) (numbered t tag) =
-        let b = begins t (next_bytes (bytes_of_messages messages) half ((0x80 + q.unit) ∷ 0x20 ∷ t ∷ []) [] count 1 byte (all_bytes q messages (Some (to_initiator.SimpleTag t)) em tag.named) eh ec e) in
-        tag_begun t tag em (more 1 ec) b.1 ((λ i. settled_with parts held (b.0 i)) ∙ ep) ((λ i. held_with held (b.0 i)) ∙ el)
+    go (unit_said em ec eh ep el) (numbered t tag number) =
+        let b = begins t (next_bytes (bytes_of_messages messages) half ((0x80 + q.unit) ∷ 0x20 ∷ t ∷ []) [] count 1 byte (all_bytes q messages (Some (to_initiator.SimpleTag t)) em tag) eh ec e) in
+        tag_begun t (record { named = tag; number = number }) em (more 1 ec) b.1 ((λ i. settled_with parts held (b.0 i)) ∙ ep) ((λ i. held_with held (b.0 i)) ∙ el)
     go (tag_begun t tag em ec eh ep el) w =
         let b = ends t (next_bytes (bytes_of_messages messages) half ((0x80 + q.unit) ∷ 0x20 ∷ t ∷ []) (0x20 ∷ []) count 2 byte (all_bytes q messages (Some (to_initiator.SimpleTag t)) em tag.named) eh ec e) in
         all_said t tag em (more 2 ec) b.1 (λ i. settled_with (ep i) (el i) (b.0 i)) (λ i. held_with held (b.0 i))
@@ -263,7 +256,8 @@ says_on q messages half count byte parts held unit e lt h = go h (tagged_is q)
 
 -- ---- as all are said
 
-pub names_said : (q : Process) (messages : Messages) (count : ℕ) (half : List ℕ) (parts held : List MsgIn) → count ≡ length (bytes_of_messages messages) → Says q messages count half parts held → AreNames (heard_names no_summary (parts ++ held)) q
+pub names_said : (q : Process) (messages : Messages) (count : ℕ) (half : List ℕ) (parts held : List MsgIn) → count ≡ length (bytes_of_messages messages)
+    → Says q messages count half parts held → AreNames (heard_names no_summary (parts ++ held)) q
 names_said q messages count half parts held full h = go h (tagged_is q)
   where
     not_yet : {A : Type 0} (is : List ℕ) (at : ℕ) → bytes_of_messages messages ≡ is → count ≡ at → at < length is → A
@@ -278,7 +272,7 @@ names_said q messages count half parts held full h = go h (tagged_is q)
     go : Says q messages count half parts held → Tagged q → AreNames (heard_names no_summary (parts ++ held)) q
     go (none_said em ec eh ep el) w = not_yet ((0x80 + q.unit) ∷ message_bytes (tag_named q.tag)) 0 (all_bytes q messages (tag_named q.tag) em refl) ec (omega arith)
     go (unit_said em ec eh ep el) (bare none number) = told_are (to_initiator.Identify q.unit ∷ []) (λ i. ep i ++ el i) (record { unit = refl; tag = sym number; awaits = λ z. number })
-    go (unit_said em ec eh ep el) (numbered t tag) = not_yet ((0x80 + q.unit) ∷ 0x20 ∷ t ∷ []) 1 (all_bytes q messages (Some (to_initiator.SimpleTag t)) em tag.named) ec (omega arith)
+    go (unit_said em ec eh ep el) (numbered t tag number) = not_yet ((0x80 + q.unit) ∷ 0x20 ∷ t ∷ []) 1 (all_bytes q messages (Some (to_initiator.SimpleTag t)) em tag) ec (omega arith)
     go (tag_begun t tag em ec eh ep el) w = not_yet ((0x80 + q.unit) ∷ 0x20 ∷ t ∷ []) 2 (all_bytes q messages (Some (to_initiator.SimpleTag t)) em tag.named) ec (omega arith)
     go (all_said t tag em ec eh ep el) w = two t tag ep el
     go (tag_left t tag em ec eh ep el) w = not_yet (0x20 ∷ t ∷ []) 0 (left_bytes messages t em) ec (omega arith)
@@ -291,7 +285,8 @@ names_said q messages count half parts held full h = go h (tagged_is q)
 abbrev pub settled_half : List MsgIn → List MsgIn → List ℕ → List MsgIn
 settled_half parts held half = if is_nil half then parts else parts ++ held
 
-pub repeats_from : (q : Process) (messages : Messages) (count : ℕ) (half : List ℕ) (parts held : List MsgIn) → (count == 0) ≡ false → Says q messages count half parts held → Repeats q (from_byte messages (count - 1)) (settled_half parts held half)
+pub repeats_from : (q : Process) (messages : Messages) (count : ℕ) (half : List ℕ) (parts held : List MsgIn) → (count == 0) ≡ false → Says q messages count half parts held
+    → Repeats q (from_byte messages (count - 1)) (settled_half parts held half)
 repeats_from q messages count half parts held some (none_said em ec eh ep el) = wrong' (sym some ∙ ap (λ (x : ℕ). x == 0) ec)
 repeats_from q messages count half parts held some (unit_said em ec eh ep el) = all_again (λ i. from_byte (em i) (ec i - 1)) (λ i. settled_half (ep i) (el i) (eh i))
 repeats_from q messages count half parts held some (tag_begun t tag em ec eh ep el) =

@@ -75,7 +75,8 @@ since_made k row n c o after (made_crossing dev ep er e) h = go (crossing_made o
     heard None = h
     heard (Some m) = refl
 
-    go : CrossingMade o after k.story.bus_state.dialogue.is_last c.before (c.after.data_bits % 256) (message_out k.story.bus_state.dialogue c true) (message_in k.story.bus_state.dialogue c true) → ins_of after.since ≡ []
+    go : CrossingMade o after k.story.bus_state.dialogue.is_last c.before (c.after.data_bits % 256) (message_out k.story.bus_state.dialogue c true) (message_in k.story.bus_state.dialogue c true)
+        → ins_of after.since ≡ []
     go (crossed_out x f) = ap (λ (y : OpenedValue). ins_of y.since) f ∙ h
     go (crossed_in x y f) = ap (λ (v : OpenedValue). ins_of v.since) f ∙ heard (message_in k.story.bus_state.dialogue c true)
     go (crossed_status x y w f) = ap (λ (v : OpenedValue). ins_of v.since) f ∙ none_more o.since (parts_of.Status (c.after.data_bits % 256) ∷ []) h refl
@@ -126,7 +127,8 @@ pub turned_said : (o after : OpenedValue) (b a : LineSet) (half : List ℕ) → 
 turned_said o after b a half e = ap (λ (x : OpenedValue). x.said) e ∙ (turned (phase_over o b half true) a).said ∙ (over_keeps o b half true).said
 
 -- All of them stay.
-pub turned_names : (o after : OpenedValue) (b a : LineSet) (half : List ℕ) → after ≡ phase_entered (phase_over o b half true) a → ins_of after.since ≡ [] → ins_of after.parts ++ ins_held after ≡ ins_of (base_parts o)
+pub turned_names : (o after : OpenedValue) (b a : LineSet) (half : List ℕ) → after ≡ phase_entered (phase_over o b half true) a → ins_of after.since ≡ []
+    → ins_of after.parts ++ ins_held after ≡ ins_of (base_parts o)
 turned_names o after b a half e since =
     sym (base_names after since (ap is_void (turned_said o after b a half e)))
     ∙ ap (λ (x : OpenedValue). ins_of (base_parts x)) e ∙ ap ins_of (base_turned o b a half)
@@ -142,17 +144,20 @@ turned_held : (o after : OpenedValue) (b a : LineSet) (half : List ℕ) → afte
 turned_held o after b a half e = ap (λ (x : OpenedValue). x.held) e ∙ (turned (phase_over o b half true) a).held
 
 -- MESSAGE IN is left: one that is heard half is broken off.
-pub in_turned : (o after : OpenedValue) (b a : LineSet) (half : List ℕ) → after ≡ phase_entered (phase_over o b half true) a → is_message_in b ≡ true → o.said ≡ [] → ins_of o.since ≡ [] → ins_of after.parts ≡ settled_half (ins_of o.parts) (ins_held o) half
+pub in_turned : (o after : OpenedValue) (b a : LineSet) (half : List ℕ) → after ≡ phase_entered (phase_over o b half true) a → is_message_in b ≡ true → o.said ≡ []
+    → ins_of o.since ≡ [] → ins_of after.parts ≡ settled_half (ins_of o.parts) (ins_held o) half
 in_turned o after b a half e here silent since =
     ap ins_of (turned_parts o after b a half e)
     ∙ (λ i. ins_of (if here i && not (is_nil half) then with_in (with_all_out (record o { said = [] }) (silent i)) Broken else with_all_out (record o { said = [] }) (silent i)).parts) ∙ go (is_nil half)
   where
-    go : (q : Bool) → ins_of (if not q then with_in (record o { said = [] }) Broken else record o { said = [] }).parts ≡ (if q then ins_of o.parts else ins_of o.parts ++ ins_held o)
+    go : (q : Bool)
+        → ins_of (if not q then with_in (record o { said = [] }) Broken else record o { said = [] }).parts ≡ (if q then ins_of o.parts else ins_of o.parts ++ ins_held o)
     go true = refl
     go false = settles o since
 
 -- MESSAGE OUT is left, in which MESSAGE PARITY ERROR was said: the message that was held is void.
-pub void_turned : (o after : OpenedValue) (b a : LineSet) (half : List ℕ) → after ≡ phase_entered (phase_over o b half true) a → is_message_in b ≡ false → o.said ≡ to_target.ParityError ∷ [] → ins_of o.since ≡ [] → (ins_of after.parts ≡ ins_of o.parts) × (ins_held after ≡ [])
+pub void_turned : (o after : OpenedValue) (b a : LineSet) (half : List ℕ) → after ≡ phase_entered (phase_over o b half true) a → is_message_in b ≡ false
+    → o.said ≡ to_target.ParityError ∷ [] → ins_of o.since ≡ [] → (ins_of after.parts ≡ ins_of o.parts) × (ins_held after ≡ [])
 void_turned o after b a half e out said since = (
   ap ins_of (turned_parts o after b a half e)
       ∙ (λ i. ins_of (if out i && not (is_nil half) then with_in (with_all_out (record o { said = [] }) (said i)) Broken else with_all_out (record o { said = [] }) (said i)).parts)

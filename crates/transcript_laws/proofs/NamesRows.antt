@@ -61,8 +61,10 @@ pub record AreTold (q : Process) (k : RunState) (o : OpenedValue) : Type 0 where
 
 -- The names are said; or MESSAGE PARITY ERROR is, after which they are said again; or they are told, and no names follow.
 pub data AgainNames (q : Process) (k : RunState) (o : OpenedValue) : Type 0 where
-  saying : k.exchange.plan.next ≡ nexts.GoOn → is_message_in (bus_of k) ≡ true → Says q k.exchange.plan.messages k.handshakes.requests k.story.bus_state.dialogue.half (ins_of o.parts) (ins_held o) → AgainNames q k o
-  refused : k.exchange.plan.next ≡ nexts.GoOn → is_message_out (bus_of k) ≡ true → k.exchange.plan.cause ≡ causes.InMessage → Repeats q k.exchange.plan.messages (ins_of o.parts) → AgainNames q k o
+  saying : k.exchange.plan.next ≡ nexts.GoOn → is_message_in (bus_of k) ≡ true
+      → Says q k.exchange.plan.messages k.handshakes.requests k.story.bus_state.dialogue.half (ins_of o.parts) (ins_held o) → AgainNames q k o
+  refused : k.exchange.plan.next ≡ nexts.GoOn → is_message_out (bus_of k) ≡ true → k.exchange.plan.cause ≡ causes.InMessage → Repeats q k.exchange.plan.messages (ins_of o.parts)
+      → AgainNames q k o
   known : OnMessages IsNoName k.exchange.plan.messages → AreTold q k o → AgainNames q k o
 
 -- ---- the names so far
@@ -93,7 +95,8 @@ void_answers s k n o h op void = go (is_message_out (bus_of k)) refl
             wrong (sym void ∙ plain_front o.said f.more (ap is_plain_said (sym f.is) ∙ w))
 
 -- Of the parts so far, whether what is held is void or not.
-pub told_now : (s : ScenarioValue) (q : Process) (k : RunState) (n : Connection) (o : OpenedValue) → Speaking s k n o → IsOpened k → ins_of o.since ≡ [] → AreTold q k o → AreNames (heard_names no_summary (ins_of (base_parts o))) q
+pub told_now : (s : ScenarioValue) (q : Process) (k : RunState) (n : Connection) (o : OpenedValue) → Speaking s k n o → IsOpened k → ins_of o.since ≡ [] → AreTold q k o
+    → AreNames (heard_names no_summary (ins_of (base_parts o))) q
 told_now s q k n o h op since t = go (is_void o.said) refl
   where
     go : (v : Bool) → is_void o.said ≡ v → AreNames (heard_names no_summary (ins_of (base_parts o))) q
@@ -102,7 +105,8 @@ told_now s q k n o h op since t = go (is_void o.said) refl
 
 -- ---- no byte crosses, and no phase is left
 
-pub again_still : (s : ScenarioValue) (p : List Row) (row : Row) (n : Connection) (g : Going s p row n) (o after : OpenedValue) (q : Process) → changes_phase g.going.change ≡ false → is_some (receiver_in n g.going.change) ≡ false → KeepsTalk o after → AgainNames q (run_state s p) o → AgainNames q (run_state s (row ∷ p)) after
+pub again_still : (s : ScenarioValue) (p : List Row) (row : Row) (n : Connection) (g : Going s p row n) (o after : OpenedValue) (q : Process) → changes_phase g.going.change ≡ false
+    → is_some (receiver_in n g.going.change) ≡ false → KeepsTalk o after → AgainNames q (run_state s p) o → AgainNames q (run_state s (row ∷ p)) after
 again_still s p row n g o after q ep none keeps was = by was
   where
     k : RunState
@@ -149,7 +153,8 @@ again_still s p row n g o after q ep none keeps was = by was
         let here : is_message_in (bus_of k) ≡ true = sym (in_same (bus_of k) (bus_of j) lines) ∙ x.here in
         record { begun = sym (begun_same s p row n g ep) ∙ x.begun; here = here; some = ap (λ (m : ℕ). m == 0) (sym (same_requests here)) ∙ x.some; half = sym half ∙ x.half }
 
-    struck : (r : Bool) → ((if r then struck_plan k.exchange.plan else k.exchange.plan).messages ≡ k.exchange.plan.messages) × ((if r then struck_plan k.exchange.plan else k.exchange.plan).next ≡ k.exchange.plan.next) × ((if r then struck_plan k.exchange.plan else k.exchange.plan).cause ≡ k.exchange.plan.cause)
+    struck : (r : Bool)
+        → ((if r then struck_plan k.exchange.plan else k.exchange.plan).messages ≡ k.exchange.plan.messages) × ((if r then struck_plan k.exchange.plan else k.exchange.plan).next ≡ k.exchange.plan.next) × ((if r then struck_plan k.exchange.plan else k.exchange.plan).cause ≡ k.exchange.plan.cause)
     struck true = (refl, refl, refl)
     struck false = (refl, refl, refl)
 
@@ -186,7 +191,9 @@ again_still s p row n g o after q ep none keeps was = by was
 
 -- ---- a byte crosses
 
-pub again_crossing : (s : ScenarioValue) (p : List Row) (row : Row) (n : Connection) (g : Going s p row n) (o after : OpenedValue) (q : Process) (dev : ℕ) → q.unit < 8 → changes_phase g.going.change ≡ false → receiver_in n g.going.change ≡ Some dev → CrossingMade o after (run_state s p).story.bus_state.dialogue.is_last g.going.change.before (g.going.change.after.data_bits % 256) (message_out (run_state s p).story.bus_state.dialogue g.going.change true) (message_in (run_state s p).story.bus_state.dialogue g.going.change true)
+pub again_crossing : (s : ScenarioValue) (p : List Row) (row : Row) (n : Connection) (g : Going s p row n) (o after : OpenedValue) (q : Process) (dev : ℕ) → q.unit < 8
+    → changes_phase g.going.change ≡ false → receiver_in n g.going.change ≡ Some dev
+    → CrossingMade o after (run_state s p).story.bus_state.dialogue.is_last g.going.change.before (g.going.change.after.data_bits % 256) (message_out (run_state s p).story.bus_state.dialogue g.going.change true) (message_in (run_state s p).story.bus_state.dialogue g.going.change true)
     → ins_of o.since ≡ [] → AgainNames q (run_state s p) o → AgainNames q (run_state s (row ∷ p)) after
 again_crossing s p row n g o after q dev unit ep er made since was = by made was
   where
@@ -235,7 +242,8 @@ again_crossing s p row n g o after q dev unit ep er made since was = by made was
     no_in : is_message_in c.before ≡ false → is_message_in (bus_of j) ≡ false
     no_in x = in_same (bus_of k) (bus_of j) lines ∙ ap is_message_in on ∙ x
 
-    heard : (r last : Bool) (m : Option MsgOut) → ((if r then plan_after_message k.exchange.plan last m else k.exchange.plan).messages ≡ k.exchange.plan.messages) × ((if r then plan_after_message k.exchange.plan last m else k.exchange.plan).next ≡ k.exchange.plan.next) × ((if r then plan_after_message k.exchange.plan last m else k.exchange.plan).cause ≡ k.exchange.plan.cause)
+    heard : (r last : Bool) (m : Option MsgOut)
+        → ((if r then plan_after_message k.exchange.plan last m else k.exchange.plan).messages ≡ k.exchange.plan.messages) × ((if r then plan_after_message k.exchange.plan last m else k.exchange.plan).next ≡ k.exchange.plan.next) × ((if r then plan_after_message k.exchange.plan last m else k.exchange.plan).cause ≡ k.exchange.plan.cause)
     heard true true m = (refl, refl, refl)
     heard true false m = (refl, refl, refl)
     heard false last m = (refl, refl, refl)
@@ -277,7 +285,9 @@ again_crossing s p row n g o after q dev unit ep er made since was = by made was
     held_now : after ≡ with_in_if o into → ins_held after ≡ held_with (ins_held o) into
     held_now f = ap (λ (x : OpenedValue). ins_held x) f ∙ heard_held o into
 
-    says_next : is_message_out c.before ≡ false → is_message_in c.before ≡ true → after ≡ with_in_if o into → Says q k.exchange.plan.messages k.handshakes.requests d.half (ins_of o.parts) (ins_held o) → Says q j.exchange.plan.messages j.handshakes.requests j.story.bus_state.dialogue.half (ins_of after.parts) (ins_held after)
+    says_next : is_message_out c.before ≡ false → is_message_in c.before ≡ true → after ≡ with_in_if o into
+        → Says q k.exchange.plan.messages k.handshakes.requests d.half (ins_of o.parts) (ins_held o)
+        → Says q j.exchange.plan.messages j.handshakes.requests j.story.bus_state.dialogue.half (ins_of after.parts) (ins_held after)
     says_next x y f says =
         let gives = g.going.goes.gives y there in
         let requests : j.handshakes.requests ≡ k.handshakes.requests + 1 =
@@ -299,7 +309,8 @@ again_crossing s p row n g o after q dev unit ep er made since was = by made was
         (sym (λ t. is_unknown (if there t then if x t then reading_out (got_out (d.half ++ byte ∷ [])) else if y t then reading_in (got_in (d.half ++ byte ∷ [])) else readings.NoMessage else readings.NoMessage)) ∙ is_known)
         (sym (half x y) ∙ z.half)
 
-    hears : is_message_out c.before ≡ false → is_message_in c.before ≡ true → after ≡ with_in_if o into → OnMessages IsNoName k.exchange.plan.messages → AreTold q k o → (m : Option MsgIn) → into ≡ m → AreTold q j after
+    hears : is_message_out c.before ≡ false → is_message_in c.before ≡ true → after ≡ with_in_if o into → OnMessages IsNoName k.exchange.plan.messages → AreTold q k o
+        → (m : Option MsgIn) → into ≡ m → AreTold q j after
     hears x y f h t None e = record {
       full = subst (λ (v : List MsgIn). AreNames (heard_names no_summary v) q) (λ u. sym (parts_now f ∙ ap (settled_with (ins_of o.parts) (ins_held o)) e) u ++ sym (held_now f ∙ ap (held_with (ins_held o)) e) u) t.full;
       heard = λ z. halved x y e z;

@@ -74,7 +74,8 @@ after_names v = go v.task
     go (Some t) = (tt, tt)
 
 -- Names are answered by MESSAGE PARITY ERROR alone.
-says_error : (k : RunState) → IsHeardOut k.exchange k.story.bus_state.dialogue → k.exchange.plan.cause ≡ causes.InMessage → k.exchange.plan.next ≡ nexts.GoOn → k.exchange.speech.words ≡ out_bytes to_target.ParityError
+says_error : (k : RunState) → IsHeardOut k.exchange k.story.bus_state.dialogue → k.exchange.plan.cause ≡ causes.InMessage → k.exchange.plan.next ≡ nexts.GoOn
+    → k.exchange.speech.words ≡ out_bytes to_target.ParityError
 says_error k (opens e ao av v q) c next = wrong' (ap is_message_cause (sym e ∙ c))
 says_error k (repeats before e one w q) c next = one.words_are
 says_error k (answers_it a e command one q) c next = wrong (ap is_command_next (sym command ∙ next))
@@ -82,8 +83,11 @@ says_error k (detects e one q) c next = wrong' (sym (ap is_detected c) ∙ e)
 
 -- ---- as another phase begins
 
-pub again_turn : (s : ScenarioValue) (p : List Row) (row : Row) (n : Connection) (g : Going s p row n) (o after : OpenedValue) (q : Process) → changes_phase g.going.change ≡ true → is_some (receiver_in n g.going.change) ≡ false → is_fault row.kind ≡ false → after ≡ phase_entered (phase_over o g.going.change.before (run_state s p).story.bus_state.dialogue.half true) g.going.change.after
-    → OpenedAll (run_state s p) n o → Speaking s (run_state s p) n o → IsOpened (run_state s p) → ins_of o.since ≡ [] → ins_of after.since ≡ [] → AgainNames q (run_state s p) o → AgainNames q (run_state s (row ∷ p)) after
+pub again_turn : (s : ScenarioValue) (p : List Row) (row : Row) (n : Connection) (g : Going s p row n) (o after : OpenedValue) (q : Process) → changes_phase g.going.change ≡ true
+    → is_some (receiver_in n g.going.change) ≡ false → is_fault row.kind ≡ false
+    → after ≡ phase_entered (phase_over o g.going.change.before (run_state s p).story.bus_state.dialogue.half true) g.going.change.after
+    → OpenedAll (run_state s p) n o → Speaking s (run_state s p) n o → IsOpened (run_state s p) → ins_of o.since ≡ [] → ins_of after.since ≡ [] → AgainNames q (run_state s p) o
+    → AgainNames q (run_state s (row ∷ p)) after
 again_turn s p row n g o after q ep none ef e all sp op since since' was = by was
   where
     k : RunState
@@ -138,7 +142,8 @@ again_turn s p row n g o after q ep none ef e all sp op since since' was = by wa
         ap (λ (y : Exchange). y.plan) i.exchange_is
         ∙ (λ t. if not (x t) then record (plan_anew k.exchange.plan) { messages = l.messages; next = l.next } else if k.exchange.begun then plan_in_message_out (hearing_of k row (reading_in k.story.bus_state n c false)) k.exchange.plan else plan_anew k.exchange.plan)
 
-    asked : is_message_out c.after ≡ true → is_message_in c.before ≡ true → j.exchange.plan ≡ record (plan_anew k.exchange.plan) { cause = causes.InMessage; messages = from_byte k.exchange.plan.messages (k.handshakes.requests - 1) }
+    asked : is_message_out c.after ≡ true → is_message_in c.before ≡ true
+        → j.exchange.plan ≡ record (plan_anew k.exchange.plan) { cause = causes.InMessage; messages = from_byte k.exchange.plan.messages (k.handshakes.requests - 1) }
     asked x y =
         ap (λ (v : Exchange). v.plan) i.exchange_is
         ∙ (λ t. if not (x t) then record (plan_anew k.exchange.plan) { messages = l.messages; next = l.next } else if op.begun t then record (plan_anew k.exchange.plan) { cause = if y t then causes.InMessage else if c.before.cd then causes.InStatus else causes.InData; messages = if y t then from_byte k.exchange.plan.messages (k.handshakes.requests - 1) else k.exchange.plan.messages } else plan_anew k.exchange.plan)
@@ -154,7 +159,8 @@ again_turn s p row n g o after q ep none ef e all sp op since since' was = by wa
     in_parts : is_message_in c.before ≡ true → ins_of after.parts ≡ settled_half (ins_of o.parts) (ins_held o) half
     in_parts y = in_turned o after c.before c.after half e y (silent y) since
 
-    refuses : is_message_in c.before ≡ true → k.exchange.plan.next ≡ nexts.GoOn → Says q k.exchange.plan.messages k.handshakes.requests half (ins_of o.parts) (ins_held o) → is_message_out c.after ≡ true → AgainNames q j after
+    refuses : is_message_in c.before ≡ true → k.exchange.plan.next ≡ nexts.GoOn → Says q k.exchange.plan.messages k.handshakes.requests half (ins_of o.parts) (ins_held o)
+        → is_message_out c.after ≡ true → AgainNames q j after
     refuses y en says x =
         let plan = asked x y in
         refused (ap (λ (v : Plan). v.next) plan ∙ en) (ap is_message_out i.bus_is ∙ x) (ap (λ (v : Plan). v.cause) plan)
@@ -162,7 +168,8 @@ again_turn s p row n g o after q ep none ef e all sp op since since' was = by wa
         (subst (λ (v : List MsgIn). Repeats q (from_byte k.exchange.plan.messages (k.handshakes.requests - 1)) v) (sym (in_parts y))
         (repeats_from q k.exchange.plan.messages k.handshakes.requests half (ins_of o.parts) (ins_held o) (leaves.some (ap phase_of on ∙ in_phase c.before y)) says)))
 
-    tells : is_message_in c.before ≡ true → k.exchange.plan.next ≡ nexts.GoOn → Says q k.exchange.plan.messages k.handshakes.requests half (ins_of o.parts) (ins_held o) → is_message_out c.after ≡ false → (a : Bool) → c.before.atn ≡ a → AgainNames q j after
+    tells : is_message_in c.before ≡ true → k.exchange.plan.next ≡ nexts.GoOn → Says q k.exchange.plan.messages k.handshakes.requests half (ins_of o.parts) (ins_held o)
+        → is_message_out c.after ≡ false → (a : Bool) → c.before.atn ≡ a → AgainNames q j after
     tells y en says x true a =
         wrong (sym
         (sym (out_by_phase c.after there) ∙ ap goes_out (sym whereto ∙ ap (λ (z : Leaving). z.to) (left ∙ (λ t. phase_leaving (serving_of s k n.target) (a t) (in_phase c.before y t))))
@@ -188,7 +195,8 @@ again_turn s p row n g o after q ep none ef e all sp op since since' was = by wa
 
     -- ---- MESSAGE OUT is left
 
-    repeated : is_message_out c.before ≡ true → k.exchange.plan.next ≡ nexts.GoOn → k.exchange.plan.cause ≡ causes.InMessage → Repeats q k.exchange.plan.messages (ins_of o.parts) → AgainNames q j after
+    repeated : is_message_out c.before ≡ true → k.exchange.plan.next ≡ nexts.GoOn → k.exchange.plan.cause ≡ causes.InMessage → Repeats q k.exchange.plan.messages (ins_of o.parts)
+        → AgainNames q j after
     repeated x en ec repeats_here =
         let here : is_message_out (bus_of k) ≡ true = ap is_message_out on ∙ x in
         let last = leaves.out (ap phase_of on ∙ out_phase c.before x) in

@@ -1,5 +1,5 @@
 -- All that is kept of the connection of a transcript, row by row of a prompt trace.
-use Rattle.std.proofs.Common.{◌≡◌, ◌∙◌, ◌<◌, ◌==◌, ◌^◌, Bool, true, false, List, ◌∷◌, length, Option, Some, None, refl, sym, ap}
+use Rattle.std.proofs.Common.{◌≡◌, ◌∙◌, ◌==◌, Bool, true, false, List, ◌∷◌, Option, Some, None, refl, sym, ap}
 use Rattle.std.specs.Prelude.{if◌then◌else◌}
 use Rattle.bus_trace.specs.Terms.{connection}
 use Rattle.bus_trace.specs.Trace.{bus}
@@ -47,7 +47,8 @@ completes (Some l) = story_of.is_complete l.last
 first_last : (b : Story) (n : Connection) → completes (story_after_connection b n).link ≡ false
 first_last b n = go n.reselected (aim_of b.aims n.initiator)
   where
-    go : (q : Bool) (item : Option Item) → completes (if q then record b { link = Some (link_of n None) } else story_with_restored (story_with_sent (record b { link = Some (link_of n item) }) item) item).link ≡ false
+    go : (q : Bool) (item : Option Item)
+        → completes (if q then record b { link = Some (link_of n None) } else story_with_restored (story_with_sent (record b { link = Some (link_of n item) }) item) item).link ≡ false
     go true item = refl
     go false None = refl
     go false (Some (process id)) = refl
@@ -92,5 +93,6 @@ all_hold s = record {
   };
 }
 
-pub opened_all : (s : ScenarioValue) → Obeys s → (p : List Row) → IsPrompt s p → (n : Connection) → connection p ≡ Some n → (bus p).rst ≡ false → (o : OpenedValue) → (transcribed p).opened ≡ Some o → OpenedAll (run_state s p) n o
+pub opened_all : (s : ScenarioValue) → Obeys s → (p : List Row) → IsPrompt s p → (n : Connection) → connection p ≡ Some n → (bus p).rst ≡ false → (o : OpenedValue)
+    → (transcribed p).opened ≡ Some o → OpenedAll (run_state s p) n o
 opened_all s o p prompt n con calm k there = always s OpenedAll o (all_hold s) p prompt n con calm k there

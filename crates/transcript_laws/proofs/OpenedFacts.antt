@@ -1,6 +1,7 @@
 -- What holds of the connection of a transcript, row by row of a prompt trace, while RST is false.
-use Rattle.std.proofs.Common.{ℕ, ◌≡◌, ◌∙◌, ◌<◌, ◌^◌, Bool, true, false, List, [], ◌∷◌, length, Option, Some, None, sym, ap, subst, arith}
+use Rattle.std.proofs.Common.{ℕ, ◌≡◌, ◌∙◌, ◌<◌, Bool, true, false, List, [], ◌∷◌, Option, Some, None, sym, ap, subst}
 use Rattle.std.specs.Prelude.{is_some, if◌then◌else◌}
+use Rattle.std.proofs.lemmas.Option.{same_Some}
 use Rattle.bus_trace.specs.Changes.{change_of}
 use Rattle.bus_trace.specs.Phases.{changes_phase, is_message_in, is_message_out}
 use Rattle.bus_trace.specs.Terms.{is_fault, connection, connection_after, receiver_in}
@@ -27,6 +28,7 @@ use Rattle.bus_transcript.specs.Rows.{transcribed}
 use Rattle.bus_lines.specs.Handshakes.{no_handshakes}
 use Rattle.trace_laws.proofs.CloseCounts.{first_handshakes}
 use Rattle.trace_laws.proofs.ConnectionRows.{ConnectionRow, connection_row, GoingRow, going_row, RowKindOf, begins_now, goes_now, row_kind}
+use Rattle.trace_laws.proofs.Impossible.{none_some}
 use Rattle.trace_laws.proofs.Whole.{Whole, whole, standing_next}
 use Rattle.transcript_laws.proofs.OpenedRows.{opened_first, was_opened}
 
@@ -45,7 +47,8 @@ pub record Going (s : ScenarioValue) (p : List Row) (row : Row) (n : Connection)
   pub link : ConnectionRow s p row n
   pub going : GoingRow s p row n
 
-pub going_at : (s : ScenarioValue) (p : List Row) (row : Row) (n : Connection) → Obeys s → IsPrompt s (row ∷ p) → connection p ≡ Some n → (bus p).rst ≡ false → connection (row ∷ p) ≡ Some n → (bus (row ∷ p)).rst ≡ false → Going s p row n
+pub going_at : (s : ScenarioValue) (p : List Row) (row : Row) (n : Connection) → Obeys s → IsPrompt s (row ∷ p) → connection p ≡ Some n → (bus p).rst ≡ false
+    → connection (row ∷ p) ≡ Some n → (bus (row ∷ p)).rst ≡ false → Going s p row n
 going_at s p row n o prompt con off after calm =
     let was = whole s p o prompt.0 in
     let next = standing_next s p row o prompt was in
@@ -76,10 +79,13 @@ knows_before s p row n g = g.was.stood.books.knows n g.going.goes.row_is.connect
 
 pub data RowMade (k : RunState) (row : Row) (n : Connection) (c : Change) (o after : OpenedValue) : Type 0 where
   made_still : changes_phase c ≡ false → is_some (receiver_in n c) ≡ false → after ≡ with_still_row o k.story.bus_state c row.kind → RowMade k row n c o after
-  made_crossing : (dev : ℕ) → changes_phase c ≡ false → receiver_in n c ≡ Some dev → after ≡ with_crossing o k.story.bus_state.dialogue.is_last (reading_in k.story.bus_state n c true) → RowMade k row n c o after
-  made_turn : changes_phase c ≡ true → is_some (receiver_in n c) ≡ false → is_fault row.kind ≡ false → after ≡ phase_entered (phase_over o c.before k.story.bus_state.dialogue.half true) c.after → RowMade k row n c o after
+  made_crossing : (dev : ℕ) → changes_phase c ≡ false → receiver_in n c ≡ Some dev
+      → after ≡ with_crossing o k.story.bus_state.dialogue.is_last (reading_in k.story.bus_state n c true) → RowMade k row n c o after
+  made_turn : changes_phase c ≡ true → is_some (receiver_in n c) ≡ false → is_fault row.kind ≡ false
+      → after ≡ phase_entered (phase_over o c.before k.story.bus_state.dialogue.half true) c.after → RowMade k row n c o after
 
-pub row_made : (s : ScenarioValue) (p : List Row) (row : Row) (n : Connection) (g : Going s p row n) (o : OpenedValue) → RowMade (run_state s p) row n g.going.change o (with_row o (run_state s p).story.bus_state (row_reading (run_state s p).story.bus_state row) row.kind)
+pub row_made : (s : ScenarioValue) (p : List Row) (row : Row) (n : Connection) (g : Going s p row n) (o : OpenedValue)
+    → RowMade (run_state s p) row n g.going.change o (with_row o (run_state s p).story.bus_state (row_reading (run_state s p).story.bus_state row) row.kind)
 row_made s p row n g o = go g.going.goes.row_is.kind
   where
     k : RunState
@@ -122,17 +128,15 @@ pub record Starts (s : ScenarioValue) (p : List Row) (row : Row) (n : Connection
 
 -- It holds as a connection begins, and with each row that it goes on with.
 pub record Holds (s : ScenarioValue) (q : RunState → Connection → OpenedValue → Type 0) : Type 0 where
-  pub begins : (p : List Row) (row : Row) (n : Connection) → Starts s p row n → Whole s (row ∷ p) → connection (row ∷ p) ≡ Some n → (bus (row ∷ p)).rst ≡ false → (run_state s (row ∷ p)).exchange.begun ≡ n.reselected → is_message_out (bus_of (run_state s (row ∷ p))) ≡ false → (is_message_in (bus_of (run_state s (row ∷ p))) ≡ true → (run_state s (row ∷ p)).handshakes ≡ no_handshakes) → q (run_state s (row ∷ p)) n (opened_connection n)
-  pub goes_on : (p : List Row) (row : Row) (n : Connection) (g : Going s p row n) (o after : OpenedValue) → RowMade (run_state s p) row n g.going.change o after → q (run_state s p) n o → q (run_state s (row ∷ p)) n after
+  pub begins : (p : List Row) (row : Row) (n : Connection) → Starts s p row n → Whole s (row ∷ p) → connection (row ∷ p) ≡ Some n → (bus (row ∷ p)).rst ≡ false
+      → (run_state s (row ∷ p)).exchange.begun ≡ n.reselected → is_message_out (bus_of (run_state s (row ∷ p))) ≡ false
+      → (is_message_in (bus_of (run_state s (row ∷ p))) ≡ true → (run_state s (row ∷ p)).handshakes ≡ no_handshakes) → q (run_state s (row ∷ p)) n (opened_connection n)
+  pub goes_on : (p : List Row) (row : Row) (n : Connection) (g : Going s p row n) (o after : OpenedValue) → RowMade (run_state s p) row n g.going.change o after
+      → q (run_state s p) n o → q (run_state s (row ∷ p)) n after
 
-no_opened : {A : Type 0} (n : Connection) → (let o : Option Connection = None in o) ≡ Some n → A
-no_opened n e = absurd cc
-
-some_same : (a b : OpenedValue) → (let o : Option OpenedValue = Some a in o) ≡ Some b → a ≡ b
-some_same a b e = cc
-
-pub always : (s : ScenarioValue) (q : RunState → Connection → OpenedValue → Type 0) → Obeys s → Holds s q → (p : List Row) → IsPrompt s p → (n : Connection) → connection p ≡ Some n → (bus p).rst ≡ false → (o : OpenedValue) → (transcribed p).opened ≡ Some o → q (run_state s p) n o
-always s q o h [] prompt n con calm k there = no_opened n con
+pub always : (s : ScenarioValue) (q : RunState → Connection → OpenedValue → Type 0) → Obeys s → Holds s q → (p : List Row) → IsPrompt s p → (n : Connection) → connection p ≡ Some n
+    → (bus p).rst ≡ false → (o : OpenedValue) → (transcribed p).opened ≡ Some o → q (run_state s p) n o
+always s q o h [] prompt n con calm k there = none_some n con
 always s q o h (row ∷ p) prompt n con calm k there = go (row_kind s p row n o prompt was.stood con calm) (λ stands quiet x there'. always s q o h p prompt.0 n stands quiet x there')
   where
     was : Whole s p
@@ -160,10 +164,11 @@ always s q o h (row ∷ p) prompt n con calm k there = go (row_kind s p row n o 
     no_out (by_selection x) = ap is_message_out x.linked.stands.bus_is
     no_out (by_reselection y x) = ap is_message_out x.linked.stands.bus_is
 
-    go : RowKindOf s p row n → (connection p ≡ Some n → (bus p).rst ≡ false → (x : OpenedValue) → (transcribed p).opened ≡ Some x → q (run_state s p) n x) → q (run_state s (row ∷ p)) n k
+    go : RowKindOf s p row n → (connection p ≡ Some n → (bus p).rst ≡ false → (x : OpenedValue) → (transcribed p).opened ≡ Some x → q (run_state s p) n x)
+        → q (run_state s (row ∷ p)) n k
     go (begins_now alone f) before =
         subst (λ (x : OpenedValue). q (run_state s (row ∷ p)) n x)
-        (some_same (opened_connection n) k (sym (opened_first s p row (run_state s p).story n pl.story off (pl.connection ∙ alone) next) ∙ there))
+        (same_Some (opened_connection n) k (sym (opened_first s p row (run_state s p).story n pl.story off (pl.connection ∙ alone) next) ∙ there))
         (h.begins p row n (record { obeys = o; prompt = prompt; free = alone; was = was; off = off; alone = pl.connection ∙ alone; next = next }) now con calm ((run_state_plain s (row ∷ p) now.stood.standing.devices).begun ∙ f.begun_is) (ap is_message_out (run_state_plain s (row ∷ p) now.stood.standing.devices).bus ∙ no_out f.begins) (λ here. first_handshakes s p row n was.stood.standing.devices (least_is s p row prompt.1).inside f here))
     go (goes_now stands quiet) before =
         let w = was_opened s p row (run_state s p).story n n k pl.story off (pl.connection ∙ stands) next there in

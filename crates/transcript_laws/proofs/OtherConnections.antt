@@ -75,7 +75,8 @@ quiet_past n p parts s list sent history again none past =
 pub abort_past : (n : Connection) (p : Process) (parts : List Part) (free : Bool) (s : Summary) (j : ℕ) (conn : List Event) (list : List Item) (sent : List told.Item) (history : List Event)
     → n.reselected ≡ false → ((refused : List Name) (q : Process) → shown_items refused (account_by q parts).items ≡ [])
     → AreEventsSent (sent ++ told.abort j ∷ []) conn
-    → ((refused : List Name) (sent : List told.Item) (names : List Name) → shown_items refused (leaving_items free p.name s) ≡ named_events sent names (reverse conn)) → IsPast list sent history → IsPast (list ++ connection_items n p parts free s) (sent ++ told.abort j ∷ []) (conn ++ history)
+    → ((refused : List Name) (sent : List told.Item) (names : List Name) → shown_items refused (leaving_items free p.name s) ≡ named_events sent names (reverse conn))
+    → IsPast list sent history → IsPast (list ++ connection_items n p parts free s) (sent ++ told.abort j ∷ []) (conn ++ history)
 abort_past n p parts free s j conn list sent history began none known shown past =
     past_more list (connection_items n p parts free s) sent (told.abort j ∷ []) conn history past (record {
       count = ap length (connection_names n p parts free s ∙ ap (λ (q : Bool). if q then [] else p.name ∷ []) began);

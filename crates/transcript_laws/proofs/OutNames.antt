@@ -22,6 +22,7 @@ use Rattle.bus_transcript.specs.declared.summary.Departure.TheVariants.{Loss}
 use Rattle.bus_transcript.specs.declared.summary.Summary.{Summary}
 use Rattle.bus_transcript.specs.Nexus.{no_summary, named, unit_out, tag_out, is_abort, last_abort, departure_out, summary_out, summary_in, summary_of}
 use Rattle.bus_transcript.specs.Opened.{OpenedValue, held_part}
+use Rattle.bus_transcript.proofs.Inside.{number_same}
 use Rattle.transcript_laws.specs.Parts.{held_parts, base_parts, out_parts, parts_now, summary_by, is_of, name_process}
 use Rattle.transcript_laws.proofs.OutWords.{tag_messages, offers_if}
 use Rattle.bus_base.proofs.Tests.{wrong', and_first, and_second, eq_self}
@@ -146,7 +147,8 @@ abbrev pub name_steps : Summary → List MsgOut → Summary
 name_steps s [] = s
 name_steps s (m ∷ ms) = name_steps (name_step s m) ms
 
-named_same : (a : Summary) (u t : Option ℕ) (b : Option MsgOut) (d : Departure) → names (record (named a u t) { abort = b; departure = d }) ≡ record (named (names a) u t) { abort = b }
+named_same : (a : Summary) (u t : Option ℕ) (b : Option MsgOut) (d : Departure)
+    → names (record (named a u t) { abort = b; departure = d }) ≡ record (named (names a) u t) { abort = b }
 named_same a u t b d = go (is_none a.unit) a.awaits_tag
   where
     go : (x y : Bool)
@@ -170,9 +172,6 @@ names_same (parts_of.Status byte ∷ parts) a = names_same parts a
 names_same (parts_of.Completion ∷ parts) a = names_same parts a
 
 -- ---- no abort among them
-
-unnamed_abort : (a : Summary) (u t : Option ℕ) → (b : Option MsgOut) → (record (named a u t) { abort = b }).abort ≡ b
-unnamed_abort a u t b = refl
 
 tame_step : (b : Option MsgOut) (m : MsgOut) → is_tame m ≡ true → b ≡ None → last_abort b m ≡ None
 tame_step b m e f = go (is_abort m) e
@@ -222,7 +221,8 @@ untagged_steps unit (m ∷ ms) e =
     ap (λ (x : Summary). name_steps x ms) (awaited_step unit m (and_first (is_mild m) (are_mild ms) e)) ∙ mild_steps unit None ms (and_second (is_mild m) (are_mild ms) e) in
     record { unit_is = ap (λ (x : Summary). x.unit) is; tag_is = ap (λ (x : Summary). x.tag) is }
 
-opening_steps : (unit : ℕ) (tag : Tag) (disc : Bool) (rest : List MsgOut) → are_mild rest ≡ true → AreNames (name_steps no_summary (to_target.Identify disc unit ∷ tag_messages tag rest)) unit (tag_number_if tag)
+opening_steps : (unit : ℕ) (tag : Tag) (disc : Bool) (rest : List MsgOut) → are_mild rest ≡ true
+    → AreNames (name_steps no_summary (to_target.Identify disc unit ∷ tag_messages tag rest)) unit (tag_number_if tag)
 opening_steps unit tags.Untagged disc rest e = untagged_steps unit rest e
 opening_steps unit (tags.Simple n) disc rest e = let is = mild_steps unit (Some n) rest e in record { unit_is = ap (λ (x : Summary). x.unit) is; tag_is = ap (λ (x : Summary). x.tag) is }
 opening_steps unit (tags.Ordered n) disc rest e = let is = mild_steps unit (Some n) rest e in record { unit_is = ap (λ (x : Summary). x.unit) is; tag_is = ap (λ (x : Summary). x.tag) is }
@@ -230,17 +230,15 @@ opening_steps unit (tags.Head n) disc rest e = let is = mild_steps unit (Some n)
 
 -- ---- they name the process
 
-same_option : (x : Option ℕ) → same_number x x ≡ true
-same_option None = refl
-same_option (Some n) = eq_self n
-
-pub name_by : (s : ScenarioValue) (n : Connection) (parts : List Part) (id : ProcId) (p : Process) → process_of s id ≡ Some p → p.initiator ≡ n.initiator → p.target ≡ n.target → (summary_by n parts).unit ≡ Some p.unit → (summary_by n parts).tag ≡ tag_number_if p.tag → name_process s n parts id ≡ true
+pub name_by : (s : ScenarioValue) (n : Connection) (parts : List Part) (id : ProcId) (p : Process) → process_of s id ≡ Some p → p.initiator ≡ n.initiator → p.target ≡ n.target
+    → (summary_by n parts).unit ≡ Some p.unit → (summary_by n parts).tag ≡ tag_number_if p.tag → name_process s n parts id ≡ true
 name_by s n parts id p of initiator target unit tag =
     ap (λ (o : Option Process). is_of (Rattle.bus_transcript.specs.Rows.name_of n (summary_by n parts)) o) of
     ∙ (λ i. (n.initiator == initiator i && n.target == target i) && (same_number (unit i) (Some p.unit) && same_number (tag i) (tag_number_if p.tag)))
-    ∙ (λ i. (eq_self n.initiator i && eq_self n.target i) && (eq_self p.unit i && same_option (tag_number_if p.tag) i))
+    ∙ (λ i. (eq_self n.initiator i && eq_self n.target i) && (eq_self p.unit i && number_same (tag_number_if p.tag) i))
 
-pub opening_names : (s : ScenarioValue) (n : Connection) (parts : List Part) (id : ProcId) (p : Process) → n.reselected ≡ false → process_of s id ≡ Some p → p.initiator ≡ n.initiator → p.target ≡ n.target → IsOpening p (outs_of parts) → name_process s n parts id ≡ true
+pub opening_names : (s : ScenarioValue) (n : Connection) (parts : List Part) (id : ProcId) (p : Process) → n.reselected ≡ false → process_of s id ≡ Some p
+    → p.initiator ≡ n.initiator → p.target ≡ n.target → IsOpening p (outs_of parts) → name_process s n parts id ≡ true
 opening_names s n parts id p sel of initiator target h =
     let a = opening_steps p.unit p.tag h.disc h.rest h.mild in
     let is : names (summary_by n parts) ≡ name_steps no_summary (to_target.Identify h.disc p.unit ∷ tag_messages p.tag h.rest) =

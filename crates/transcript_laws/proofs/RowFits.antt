@@ -33,7 +33,7 @@ use Rattle.trace_laws.specs.LastTalks.{LastBy, LastGiven, still_stays, to_close,
 use Rattle.trace_laws.specs.Statuses.{CarriesBy, HasStatus}
 use Rattle.trace_laws.specs.Tells.{IsServed, of_process, of_abort}
 use Rattle.trace_laws.proofs.PhaseLines.{in_phase, out_in, out_lines}
-use Rattle.trace_laws.proofs.TalkSteps.{not_both}
+use Rattle.bus_books.proofs.Gives.{not_both}
 use Rattle.transcript_laws.specs.Parts.{are_talk, base_parts, is_known}
 use Rattle.transcript_laws.specs.RowTests.{is_broken, fits_out, fits_in, is_no_abort, fits_crossing, undoes_nothing, arrives_first, gets_known, is_open_item, fits_turn, has_status, fits_still, fits_on}
 use Rattle.transcript_laws.proofs.CrossingFits.{completes_none, no_message_line, takes_none, names_fit}
@@ -84,7 +84,8 @@ crossing_fits s p row n g o l dev h el ep er = λ i. not (ep i) && not (complete
 
 pub turn_fits : (s : ScenarioValue) (p : List Row) (row : Row) (n : Connection) (g : Going s p row n) (o : OpenedValue) (l : Link)
     → OpenedAll (run_state s p) n o → (run_state s p).story.link ≡ Some l → changes_phase g.going.change ≡ true → is_some (receiver_in n g.going.change) ≡ false
-    → (is_message_in g.going.change.before ≡ true → is_nil (run_state s p).story.bus_state.dialogue.half ≡ false → undoes_nothing (run_state s p).story l l.undo ≡ true) → fits_turn (run_state s p).story o l g.going.change ≡ true
+    → (is_message_in g.going.change.before ≡ true → is_nil (run_state s p).story.bus_state.dialogue.half ≡ false → undoes_nothing (run_state s p).story l l.undo ≡ true)
+    → fits_turn (run_state s p).story o l g.going.change ≡ true
 turn_fits s p row n g o l h el ep er undoes = λ i. undone i && arrived i && talk_leaves s p row n g o l h.bytes el ep i && open_known i
   where
     k : RunState

@@ -9,7 +9,6 @@ use Rattle.bus_trace.specs.LineSet.{LineSet}
 use Rattle.bus_trace.specs.Changes.{rises}
 use Rattle.bus_trace.specs.Phases.{changes_phase, is_command, is_data, is_message_in, is_message_out}
 use Rattle.bus_trace.specs.Terms.{is_fault, connection, receiver_in}
-use Rattle.bus_trace.specs.Trace.{bus}
 use Rattle.bus_trace.specs.declared.changes.Change.{Change}
 use Rattle.bus_trace.specs.declared.connection.Connection.{Connection}
 use Rattle.bus_trace.specs.declared.rows.Row.{Row}
@@ -37,6 +36,7 @@ use Rattle.bus_due.specs.Wants.{ready_of}
 use Rattle.bus_laws.specs.Ends.{connected_bus, ends_selected}
 use Rattle.bus_books.specs.Rows.{reading_in}
 use Rattle.bus_books.specs.Speaking.{AreWordsFor, AreWordsHeard, IsSpeaking, opens, refuses, answers, rejects_data, rejects_status}
+use Rattle.bus_books.specs.Tests.{is_selected}
 use Rattle.bus_books.specs.Traces.{Begins}
 use Rattle.bus_books.proofs.InConnection.{InConnection, in_connection}
 use Rattle.scsi_device.specs.Lines.{AreUnits}
@@ -65,10 +65,6 @@ use Rattle.bus_base.proofs.Tests.{wrong, wrong', and_true}
 
 -- ---- what is kept
 
-abbrev pub is_selected : Cause → Bool
-is_selected causes.Selected = true
-is_selected _ = false
-
 -- A MESSAGE OUT phase is none of the opening.
 pub record IsOpened (k : RunState) : Type 0 where
   pub begun : k.exchange.begun ≡ true
@@ -76,7 +72,8 @@ pub record IsOpened (k : RunState) : Type 0 where
 
 -- The opening is to come, or is said; or it was.
 pub data OutNames (q : Process) (k : RunState) (o : OpenedValue) : Type 0 where
-  unsaid : outs_of (base_parts o) ≡ [] → are_talk (base_parts o) ≡ true → (k.exchange.begun ≡ true → (is_message_out (bus_of k) ≡ true) × (k.exchange.plan.cause ≡ causes.Selected)) → OutNames q k o
+  unsaid : outs_of (base_parts o) ≡ [] → are_talk (base_parts o) ≡ true → (k.exchange.begun ≡ true → (is_message_out (bus_of k) ≡ true) × (k.exchange.plan.cause ≡ causes.Selected))
+      → OutNames q k o
   told : IsOpening q (outs_of (base_parts o)) → IsOpened k → OutNames q k o
 
 pub record NoNames (k : RunState) (o : OpenedValue) : Type 0 where
@@ -99,15 +96,18 @@ outs_in o None = refl
 outs_in o (Some m) =
     outs_base (with_in_if o (Some m)) ∙ append-nil (outs_of (o.parts ++ (held_part o.held ++ o.since))) ∙ outs_base (record o { said = [] }) ∙ sym (outs_base o)
 
-pub outs_same : (k : RunState) (row : Row) (n : Connection) (c : Change) (o after : OpenedValue) → RowMade k row n c o after → changes_phase c ≡ false → outs_of (base_parts after) ≡ outs_of (base_parts o)
+pub outs_same : (k : RunState) (row : Row) (n : Connection) (c : Change) (o after : OpenedValue) → RowMade k row n c o after → changes_phase c ≡ false
+    → outs_of (base_parts after) ≡ outs_of (base_parts o)
 outs_same k row n c o after (made_still ep none e) z = ap (λ (x : OpenedValue). outs_of (base_parts x)) e ∙ go (is_completion o k.story.bus_state.dialogue.half c)
   where
-    go : (q : Bool) → outs_of (base_parts (if q then with_part o parts_of.Completion else with_fault o (is_fault row.kind && is_some k.story.bus_state.crossed))) ≡ outs_of (base_parts o)
+    go : (q : Bool)
+        → outs_of (base_parts (if q then with_part o parts_of.Completion else with_fault o (is_fault row.kind && is_some k.story.bus_state.crossed))) ≡ outs_of (base_parts o)
     go true = outs_more o parts_of.Completion refl
     go false = refl
 outs_same k row n c o after (made_crossing dev ep er e) z = go (crossing_made o after k.story.bus_state n c e)
   where
-    go : CrossingMade o after k.story.bus_state.dialogue.is_last c.before (c.after.data_bits % 256) (message_out k.story.bus_state.dialogue c true) (message_in k.story.bus_state.dialogue c true) → outs_of (base_parts after) ≡ outs_of (base_parts o)
+    go : CrossingMade o after k.story.bus_state.dialogue.is_last c.before (c.after.data_bits % 256) (message_out k.story.bus_state.dialogue c true) (message_in k.story.bus_state.dialogue c true)
+        → outs_of (base_parts after) ≡ outs_of (base_parts o)
     go (crossed_out x f) = outs_base after ∙ ap (λ (y : OpenedValue). outs_of y.parts ++ outs_of y.since) f ∙ sym (outs_base o)
     go (crossed_in x y f) = ap (λ (v : OpenedValue). outs_of (base_parts v)) f ∙ outs_in o (message_in k.story.bus_state.dialogue c true)
     go (crossed_status x y w f) = ap (λ (v : OpenedValue). outs_of (base_parts v)) f ∙ outs_more o (parts_of.Status (c.after.data_bits % 256)) refl
@@ -137,7 +137,8 @@ outs_phase o b = go (is_command b) (is_data b)
 none_more : (xs ys : List Part) → outs_of ys ≡ [] → outs_of (xs ++ ys) ≡ outs_of xs
 none_more xs ys e = outs_append xs ys ∙ ap (λ (x : List MsgOut). outs_of xs ++ x) e ∙ append-nil (outs_of xs)
 
-pub outs_turned : (o after : OpenedValue) (c : Change) (half : List ℕ) → after ≡ phase_entered (phase_over o c.before half true) c.after → outs_of (base_parts after) ≡ outs_of (base_parts o) ++ o.said
+pub outs_turned : (o after : OpenedValue) (c : Change) (half : List ℕ) → after ≡ phase_entered (phase_over o c.before half true) c.after
+    → outs_of (base_parts after) ≡ outs_of (base_parts o) ++ o.said
 outs_turned o after c half e =
     ap (λ (x : OpenedValue). outs_of (base_parts x)) e ∙ ap outs_of (base_turned o c.before c.after half)
     ∙ none_more ((parts_now o ++ broken_parts c.before half) ++ phase_parts o c.before true) (if is_status_phase c.after then parts_of.StatusPhase ∷ [] else []) (outs_status (is_status_phase c.after))
@@ -152,7 +153,8 @@ pub record IsFront (said words : List MsgOut) : Type 0 where
   pub more : List MsgOut
   pub is : words ≡ said ++ more
 
-pub words_front : (k : RunState) (n : Connection) (o : OpenedValue) → SaidWords k n o → is_message_out (bus_of k) ≡ true → AreWordsHeard k.exchange.speech k.exchange.plan k.story.bus_state.dialogue → IsFront o.said (said_of [] k.exchange.speech.words)
+pub words_front : (k : RunState) (n : Connection) (o : OpenedValue) → SaidWords k n o → is_message_out (bus_of k) ≡ true
+    → AreWordsHeard k.exchange.speech k.exchange.plan k.story.bus_state.dialogue → IsFront o.said (said_of [] k.exchange.speech.words)
 words_front k n o w here h = go k.story.bus_state.dialogue.is_last refl
   where
     go : (q : Bool) → k.story.bus_state.dialogue.is_last ≡ q → IsFront o.said (said_of [] k.exchange.speech.words)
@@ -162,21 +164,24 @@ words_front k n o w here h = go k.story.bus_state.dialogue.is_last refl
       is = ap (λ (x : List ℕ). said_of [] x) h.words_are ∙ said_append [] h.before (h.byte ∷ h.rest) ∙ ap (λ (x : List MsgOut). x ++ said_of (left_half [] h.before) (h.byte ∷ h.rest)) (sym (w.upto here e h.before (h.byte ∷ h.rest) h.words_are h.place_is));
     }
 
-mild_words : (s : ScenarioValue) (n : Connection) (served : Option Item) (x : Exchange) (cause : Cause) → AreWordsFor s n served x cause → is_selected cause ≡ false → are_mild (said_of [] x.speech.words) ≡ true
+mild_words : (s : ScenarioValue) (n : Connection) (served : Option Item) (x : Exchange) (cause : Cause) → AreWordsFor s n served x cause → is_selected cause ≡ false
+    → are_mild (said_of [] x.speech.words) ≡ true
 mild_words s n served x _ (opens e) z = wrong z
 mild_words s n served x _ (refuses e) z = ap (λ (w : List ℕ). are_mild (said_of [] w)) e ∙ ap are_mild (said_one to_target.ParityError tt)
 mild_words s n served x _ (answers e) z = ap (λ (w : List ℕ). are_mild (said_of [] w)) e ∙ ap are_mild (said_one (to_target.Sdtr (host_answer (host_of s n.initiator) x.speech.asked)) tt)
 mild_words s n served x _ (rejects_data e) z = ap (λ (w : List ℕ). are_mild (said_of [] w)) e ∙ ap are_mild (said_one to_target.DetectedError tt)
 mild_words s n served x _ (rejects_status e) z = ap (λ (w : List ℕ). are_mild (said_of [] w)) e ∙ ap are_mild (said_one to_target.DetectedError tt)
 
-pub opening_words : (s : ScenarioValue) (n : Connection) (served : Option Item) (x : Exchange) (cause : Cause) → AreWordsFor s n served x cause → cause ≡ causes.Selected → x.speech.words ≡ opening s n.initiator x.plan.negotiates served
+pub opening_words : (s : ScenarioValue) (n : Connection) (served : Option Item) (x : Exchange) (cause : Cause) → AreWordsFor s n served x cause → cause ≡ causes.Selected
+    → x.speech.words ≡ opening s n.initiator x.plan.negotiates served
 opening_words s n served x _ (opens e) z = e
 opening_words s n served x _ (refuses e) z = wrong' (ap is_selected z)
 opening_words s n served x _ (answers e) z = wrong' (ap is_selected z)
 opening_words s n served x _ (rejects_data e) z = wrong' (ap is_selected z)
 opening_words s n served x _ (rejects_status e) z = wrong' (ap is_selected z)
 
-pub opening_is : (s : ScenarioValue) (n : Connection) (x : Exchange) (cause : Cause) (served : Option Item) (id : ProcId) (q : Process) → AreUnits s → AreWordsFor s n served x cause → cause ≡ causes.Selected → served ≡ Some (process id) → process_of s id ≡ Some q → IsOpening q (said_of [] x.speech.words)
+pub opening_is : (s : ScenarioValue) (n : Connection) (x : Exchange) (cause : Cause) (served : Option Item) (id : ProcId) (q : Process) → AreUnits s
+    → AreWordsFor s n served x cause → cause ≡ causes.Selected → served ≡ Some (process id) → process_of s id ≡ Some q → IsOpening q (said_of [] x.speech.words)
 opening_is s n x cause served id q u w z sv of = record {
   disc = not q.id.sense;
   rest = offers_if x.plan.negotiates (host_of s n.initiator);
@@ -213,7 +218,8 @@ selected_after b = go (is_message_in b) b.cd
     go false true = refl
     go false false = refl
 
-pub same_cause : (s : ScenarioValue) (p : List Row) (row : Row) (n : Connection) (g : Going s p row n) → changes_phase g.going.change ≡ false → (run_state s (row ∷ p)).exchange.plan.cause ≡ (run_state s p).exchange.plan.cause
+pub same_cause : (s : ScenarioValue) (p : List Row) (row : Row) (n : Connection) (g : Going s p row n) → changes_phase g.going.change ≡ false
+    → (run_state s (row ∷ p)).exchange.plan.cause ≡ (run_state s p).exchange.plan.cause
 same_cause s p row n g ep = go (is_some (receiver_in n c)) refl
   where
     k : RunState
@@ -225,7 +231,8 @@ same_cause s p row n g ep = go (is_some (receiver_in n c)) refl
     go : (now : Bool) → is_some (receiver_in n c) ≡ now → (run_state s (row ∷ p)).exchange.plan.cause ≡ k.exchange.plan.cause
     go true er = ap (λ (x : Exchange). x.plan.cause) (in_connection s k row n c false true (is_fault row.kind) g.going.goes.row_is ep er refl).exchange_is ∙ by (is_message_out c.before) (hearing_of k row (reading_in k.story.bus_state n c true)).is_last
       where
-        by : (q anew : Bool) → (if q then plan_after_message k.exchange.plan anew (hearing_of k row (reading_in k.story.bus_state n c true)).out else k.exchange.plan).cause ≡ k.exchange.plan.cause
+        by : (q anew : Bool)
+            → (if q then plan_after_message k.exchange.plan anew (hearing_of k row (reading_in k.story.bus_state n c true)).out else k.exchange.plan).cause ≡ k.exchange.plan.cause
         by true true = refl
         by true false = refl
         by false anew = refl
@@ -235,13 +242,15 @@ same_cause s p row n g ep = go (is_some (receiver_in n c)) refl
         by true = refl
         by false = refl
 
-opened_same : (s : ScenarioValue) (p : List Row) (row : Row) (n : Connection) (g : Going s p row n) → changes_phase g.going.change ≡ false → IsOpened (run_state s p) → IsOpened (run_state s (row ∷ p))
+opened_same : (s : ScenarioValue) (p : List Row) (row : Row) (n : Connection) (g : Going s p row n) → changes_phase g.going.change ≡ false → IsOpened (run_state s p)
+    → IsOpened (run_state s (row ∷ p))
 opened_same s p row n g ep h = record {
   begun = begun_same s p row n g ep ∙ h.begun;
   cause = λ z. ap is_selected (same_cause s p row n g ep) ∙ h.cause (sym (out_same (bus_of (run_state s p)) (bus_of (run_state s (row ∷ p))) (lines_same s p row n g ep)) ∙ z);
 }
 
-pub opened_turned : (s : ScenarioValue) (p : List Row) (row : Row) (n : Connection) (g : Going s p row n) → changes_phase g.going.change ≡ true → is_some (receiver_in n g.going.change) ≡ false → (run_state s p).exchange.begun ≡ true → IsOpened (run_state s (row ∷ p))
+pub opened_turned : (s : ScenarioValue) (p : List Row) (row : Row) (n : Connection) (g : Going s p row n) → changes_phase g.going.change ≡ true
+    → is_some (receiver_in n g.going.change) ≡ false → (run_state s p).exchange.begun ≡ true → IsOpened (run_state s (row ∷ p))
 opened_turned s p row n g ep none b = record { begun = begun_turned s p row n g ep; cause = λ z. ap (λ (x : Exchange). is_selected x.plan.cause) i.exchange_is ∙ by z }
   where
     k : RunState
@@ -253,13 +262,16 @@ opened_turned s p row n g ep none b = record { begun = begun_turned s p row n g 
     i : InConnection s k row n c true false (is_fault row.kind)
     i = in_connection s k row n c true false (is_fault row.kind) g.going.goes.row_is ep none refl
 
-    by : is_message_out (bus_of (run_state s (row ∷ p))) ≡ true → is_selected (if not (is_message_out c.after) then record (plan_anew k.exchange.plan) { messages = (leaving s k n.target).messages; next = (leaving s k n.target).next } else if k.exchange.begun then plan_in_message_out (hearing_of k row (reading_in k.story.bus_state n c false)) k.exchange.plan else plan_anew k.exchange.plan).cause ≡ false
+    by : is_message_out (bus_of (run_state s (row ∷ p))) ≡ true
+        → is_selected (if not (is_message_out c.after) then record (plan_anew k.exchange.plan) { messages = (leaving s k n.target).messages; next = (leaving s k n.target).next } else if k.exchange.begun then plan_in_message_out (hearing_of k row (reading_in k.story.bus_state n c false)) k.exchange.plan else plan_anew k.exchange.plan).cause ≡ false
     by z =
         (λ t. is_selected (if not ((ap is_message_out (sym i.bus_is) ∙ z) t) then record (plan_anew k.exchange.plan) { messages = (leaving s k n.target).messages; next = (leaving s k n.target).next } else if b t then plan_in_message_out (hearing_of k row (reading_in k.story.bus_state n c false)) k.exchange.plan else plan_anew k.exchange.plan).cause)
         ∙ selected_after c.before
 
 -- The first phase is MESSAGE OUT, of the opening.
-pub first_out : (s : ScenarioValue) (p : List Row) (row : Row) (n : Connection) (g : Going s p row n) → changes_phase g.going.change ≡ true → is_some (receiver_in n g.going.change) ≡ false → (run_state s p).exchange.begun ≡ false → (is_message_out (bus_of (run_state s (row ∷ p))) ≡ true) × ((run_state s (row ∷ p)).exchange.plan.cause ≡ causes.Selected)
+pub first_out : (s : ScenarioValue) (p : List Row) (row : Row) (n : Connection) (g : Going s p row n) → changes_phase g.going.change ≡ true
+    → is_some (receiver_in n g.going.change) ≡ false → (run_state s p).exchange.begun ≡ false
+    → (is_message_out (bus_of (run_state s (row ∷ p))) ≡ true) × ((run_state s (row ∷ p)).exchange.plan.cause ≡ causes.Selected)
 first_out s p row n g ep none b = (ap is_message_out i.bus_is ∙ out, ap (λ (x : Exchange). x.plan.cause) i.exchange_is ∙ by ∙ ((g.was.stood.books.speaks n g.going.goes.row_is.connection_is g.going.goes.calm).before_all b).cause_is)
   where
     k : RunState
@@ -279,7 +291,8 @@ first_out s p row n g ep none b = (ap is_message_out i.bus_is ∙ out, ap (λ (x
 
 -- ---- row by row
 
-pub speaking : (s : ScenarioValue) (p : List Row) (row : Row) (n : Connection) (g : Going s p row n) (o : OpenedValue) → OpenedAll (run_state s p) n o → Speaking s (run_state s p) n o
+pub speaking : (s : ScenarioValue) (p : List Row) (row : Row) (n : Connection) (g : Going s p row n) (o : OpenedValue) → OpenedAll (run_state s p) n o
+    → Speaking s (run_state s p) n o
 speaking s p row n g o h = record {
   units = units_are s (obeys_fits s g.obeys);
   bytes = h.bytes.said;
@@ -288,7 +301,9 @@ speaking s p row n g o h = record {
 }
 
 -- Before the first phase and in the opening nothing but messages comes.
-pub unsaid_same : (s : ScenarioValue) (p : List Row) (row : Row) (n : Connection) (g : Going s p row n) (o after : OpenedValue) → RowMade (run_state s p) row n g.going.change o after → changes_phase g.going.change ≡ false → is_message_in g.going.change.before ≡ false → (is_some (receiver_in n g.going.change) ≡ true → is_message_out g.going.change.before ≡ true) → are_talk (base_parts after) ≡ are_talk (base_parts o)
+pub unsaid_same : (s : ScenarioValue) (p : List Row) (row : Row) (n : Connection) (g : Going s p row n) (o after : OpenedValue)
+    → RowMade (run_state s p) row n g.going.change o after → changes_phase g.going.change ≡ false → is_message_in g.going.change.before ≡ false
+    → (is_some (receiver_in n g.going.change) ≡ true → is_message_out g.going.change.before ≡ true) → are_talk (base_parts after) ≡ are_talk (base_parts o)
 unsaid_same s p row n g o after (made_still ep none e) z no_in out = ap (λ (x : OpenedValue). are_talk (base_parts x)) e ∙ go (is_completion o (run_state s p).story.bus_state.dialogue.half c) refl
   where
     c : Change
@@ -302,7 +317,8 @@ unsaid_same s p row n g o after (made_still ep none e) z no_in out = ap (λ (x :
     off true false x d f y w = sym w
     off false b x d f y w = sym w
 
-    go : (q : Bool) → is_completion o half c ≡ q → are_talk (base_parts (if q then with_part o parts_of.Completion else with_fault o (is_fault row.kind && is_some (run_state s p).story.bus_state.crossed))) ≡ are_talk (base_parts o)
+    go : (q : Bool) → is_completion o half c ≡ q
+        → are_talk (base_parts (if q then with_part o parts_of.Completion else with_fault o (is_fault row.kind && is_some (run_state s p).story.bus_state.crossed))) ≡ are_talk (base_parts o)
     go true w = wrong (off (rises c.before.ack c.after.ack) (is_message_in c.before) (is_complete o.held) (is_nil half) (not c.after.atn) no_in w)
     go false w = refl
 unsaid_same s p row n g o after (made_crossing dev ep er e) z no_in out = go (crossing_made o after (run_state s p).story.bus_state n c e)
@@ -313,7 +329,8 @@ unsaid_same s p row n g o after (made_crossing dev ep er e) z no_in out = go (cr
     here : is_message_out c.before ≡ true
     here = out (ap (λ (x : Option ℕ). is_some x) er)
 
-    go : CrossingMade o after (run_state s p).story.bus_state.dialogue.is_last c.before (c.after.data_bits % 256) (message_out (run_state s p).story.bus_state.dialogue c true) (message_in (run_state s p).story.bus_state.dialogue c true) → are_talk (base_parts after) ≡ are_talk (base_parts o)
+    go : CrossingMade o after (run_state s p).story.bus_state.dialogue.is_last c.before (c.after.data_bits % 256) (message_out (run_state s p).story.bus_state.dialogue c true) (message_in (run_state s p).story.bus_state.dialogue c true)
+        → are_talk (base_parts after) ≡ are_talk (base_parts o)
     go (crossed_out x f) = base_talk after ∙ ap (λ (y : OpenedValue). are_talk y.parts && are_talk y.since) f ∙ sym (base_talk o)
     go (crossed_in x y f) = wrong (sym here ∙ x)
     go (crossed_status x y w f) = wrong (sym here ∙ x)
@@ -321,7 +338,8 @@ unsaid_same s p row n g o after (made_crossing dev ep er e) z no_in out = go (cr
 unsaid_same s p row n g o after (made_turn ep none ef e) z no_in out = wrong (sym ep ∙ z)
 
 -- MESSAGE OUT begins after a selection.
-pub first_talk : (o after : OpenedValue) (c : Change) (half : List ℕ) → after ≡ phase_entered (phase_over o c.before half true) c.after → is_command c.before ≡ false → is_message_in c.before ≡ false → o.bytes ≡ [] → is_status_phase c.after ≡ false → are_talk (base_parts after) ≡ are_talk (base_parts o)
+pub first_talk : (o after : OpenedValue) (c : Change) (half : List ℕ) → after ≡ phase_entered (phase_over o c.before half true) c.after → is_command c.before ≡ false
+    → is_message_in c.before ≡ false → o.bytes ≡ [] → is_status_phase c.after ≡ false → are_talk (base_parts after) ≡ are_talk (base_parts o)
 first_talk o after c half e no_command no_in no_bytes no_status =
     ap (λ (x : OpenedValue). are_talk (base_parts x)) e ∙ ap are_talk (base_turned o c.before c.after half)
     ∙ (λ t. are_talk (((parts_now o ++ (if no_in t && not (is_nil half) then parts_of.BrokenOff ∷ [] else [])) ++ (if no_command t then parts_of.Command o.bytes o.struck true ∷ [] else if is_data c.before then data_parts (not c.before.io) (no_bytes t) else [])) ++ (if no_status t then parts_of.StatusPhase ∷ [] else [])))
@@ -332,7 +350,9 @@ first_talk o after c half e no_command no_in no_bytes no_status =
     none_there true xs = ap are_talk (append-nil ((xs ++ []) ++ []) ∙ append-nil (xs ++ []) ∙ append-nil xs)
     none_there false xs = ap are_talk (append-nil ((xs ++ []) ++ []) ∙ append-nil (xs ++ []) ∙ append-nil xs)
 
-names_row : (s : ScenarioValue) (p : List Row) (row : Row) (n : Connection) (g : Going s p row n) (o after : OpenedValue) → RowMade (run_state s p) row n g.going.change o after → OpenedAll (run_state s p) n o → (id : ProcId) (q : Process) → (run_state s p).served ≡ Some (process id) → process_of s id ≡ Some q → OutNames q (run_state s p) o → OutNames q (run_state s (row ∷ p)) after
+names_row : (s : ScenarioValue) (p : List Row) (row : Row) (n : Connection) (g : Going s p row n) (o after : OpenedValue) → RowMade (run_state s p) row n g.going.change o after
+    → OpenedAll (run_state s p) n o → (id : ProcId) (q : Process) → (run_state s p).served ≡ Some (process id) → process_of s id ≡ Some q → OutNames q (run_state s p) o
+    → OutNames q (run_state s (row ∷ p)) after
 names_row s p row n g o after made h id q sv of was = by made was
   where
     k : RunState
@@ -353,7 +373,8 @@ names_row s p row n g o after made h id q sv of was = by made was
     selected_lines : k.exchange.begun ≡ false → bus_of k ≡ connected_bus ends_selected
     selected_lines b = (plain_before s p row n g).bus ∙ link_unbegun s p n g.link.stage (sym (plain_before s p row n g).begun ∙ b)
 
-    no_in : (b : Bool) → k.exchange.begun ≡ b → (k.exchange.begun ≡ true → (is_message_out (bus_of k) ≡ true) × (k.exchange.plan.cause ≡ causes.Selected)) → is_message_in c.before ≡ false
+    no_in : (b : Bool) → k.exchange.begun ≡ b → (k.exchange.begun ≡ true → (is_message_out (bus_of k) ≡ true) × (k.exchange.plan.cause ≡ causes.Selected))
+        → is_message_in c.before ≡ false
     no_in true b f = in_out c.before (ap is_message_out (sym on) ∙ (f b).0)
     no_in false b f = ap is_message_in (sym on) ∙ ap is_message_in (selected_lines b)
 
@@ -368,7 +389,8 @@ names_row s p row n g o after made h id q sv of was = by made was
         crossing None e er = wrong' (sym (ap (λ (y : Option ℕ). is_some y) e) ∙ er)
         crossing (Some dev) e er = ap is_message_out (sym on) ∙ (f (begun_crossing s p row n g dev e)).0
 
-    turn : changes_phase c ≡ true → is_some (receiver_in n c) ≡ false → after ≡ phase_entered (phase_over o c.before k.story.bus_state.dialogue.half true) c.after → OutNames q k o → OutNames q j after
+    turn : changes_phase c ≡ true → is_some (receiver_in n c) ≡ false → after ≡ phase_entered (phase_over o c.before k.story.bus_state.dialogue.half true) c.after → OutNames q k o
+        → OutNames q j after
     turn ep none e (told a b) =
         told (subst (λ (x : List MsgOut). IsOpening q x) (sym (outs_turned o after c k.story.bus_state.dialogue.half e)) (opening_more q (outs_of (base_parts o)) o.said a (mild_said s k n o sp b)))
         (opened_turned s p row n g ep none b.begun)
@@ -396,7 +418,8 @@ names_row s p row n g o after made h id q sv of was = by made was
     by (made_crossing dev ep er e) = same ep
     by (made_turn ep none ef e) = turn ep none e
 
-again_row : (s : ScenarioValue) (p : List Row) (row : Row) (n : Connection) (g : Going s p row n) (o after : OpenedValue) → RowMade (run_state s p) row n g.going.change o after → OpenedAll (run_state s p) n o → NoNames (run_state s p) o → NoNames (run_state s (row ∷ p)) after
+again_row : (s : ScenarioValue) (p : List Row) (row : Row) (n : Connection) (g : Going s p row n) (o after : OpenedValue) → RowMade (run_state s p) row n g.going.change o after
+    → OpenedAll (run_state s p) n o → NoNames (run_state s p) o → NoNames (run_state s (row ∷ p)) after
 again_row s p row n g o after made h was = by made
   where
     k : RunState
@@ -425,7 +448,8 @@ host_is s id c q at of = sym (ap (λ (x : Process). x.initiator) (same_Some (pro
     by true f = ap (λ (x : Bool). (process_by s (record id { sense = x }) c).initiator) f
     by false f = ap (λ (x : Bool). (process_by s (record id { sense = x }) c).initiator) f
 
-next_host : (s : ScenarioValue) (b : Sent) (dev : ℕ) (item : Item) (id : ProcId) (q : Process) → IsNext s b dev item → item ≡ process id → process_of s id ≡ Some q → q.initiator ≡ dev
+next_host : (s : ScenarioValue) (b : Sent) (dev : ℕ) (item : Item) (id : ProcId) (q : Process) → IsNext s b dev item → item ≡ process id → process_of s id ≡ Some q
+    → q.initiator ≡ dev
 next_host s b dev _ id q (is_abort m z) e of = absurd cc
 next_host s b dev _ id q (is_sense m c at own there z) e of = host_is s id c q (ap (λ (x : ℕ). command_at s.commands x) (sym (ap (λ (x : Item). number x) e)) ∙ at) of ∙ own
   where
@@ -438,7 +462,8 @@ next_host s b dev _ id q (is_next_command m time c at own z may none) e of = hos
     number (process x) = x.command
     number (abort x) = 0
 
-ends_first : (s : ScenarioValue) (p : List Row) (row : Row) (n : Connection) → Starts s p row n → Whole s (row ∷ p) → connection (row ∷ p) ≡ Some n → (id : ProcId) (q : Process) → (run_state s (row ∷ p)).served ≡ Some (process id) → process_of s id ≡ Some q → (q.initiator ≡ n.initiator) × (q.target ≡ n.target)
+ends_first : (s : ScenarioValue) (p : List Row) (row : Row) (n : Connection) → Starts s p row n → Whole s (row ∷ p) → connection (row ∷ p) ≡ Some n → (id : ProcId) (q : Process)
+    → (run_state s (row ∷ p)).served ≡ Some (process id) → process_of s id ≡ Some q → (q.initiator ≡ n.initiator) × (q.target ≡ n.target)
 ends_first s p row n h now con id q sv of = go n.reselected refl
   where
     k : RunState

@@ -61,13 +61,15 @@ split_same xs ys us vs e n = sym (take_front xs ys) ∙ (λ i. take (n i) (e i))
 -- ---- what is kept
 
 pub record SaidWords (k : RunState) (n : Connection) (o : OpenedValue) : Type 0 where
-  pub upto : is_message_out (bus_of k) ≡ true → k.story.bus_state.dialogue.is_last ≡ false → (before rest : List ℕ) → k.exchange.speech.words ≡ before ++ rest → k.exchange.speech.place ≡ length before → o.said ≡ said_of [] before
+  pub upto : is_message_out (bus_of k) ≡ true → k.story.bus_state.dialogue.is_last ≡ false → (before rest : List ℕ) → k.exchange.speech.words ≡ before ++ rest
+      → k.exchange.speech.place ≡ length before → o.said ≡ said_of [] before
   pub place : is_message_out (bus_of k) ≡ true → k.story.bus_state.dialogue.is_last ≡ true → k.exchange.speech.place ≡ 0
   pub whole : is_message_out (bus_of k) ≡ true → k.story.bus_state.dialogue.is_last ≡ true → o.said ≡ said_of [] k.exchange.speech.words
 
 -- ---- a byte of it
 
-old_said : (k : RunState) (n : Connection) (o : OpenedValue) (before rest : List ℕ) → SaidWords k n o → is_message_out (bus_of k) ≡ true → k.exchange.speech.words ≡ before ++ rest → k.exchange.speech.place ≡ length before → (if k.story.bus_state.dialogue.is_last then [] else o.said) ≡ said_of [] before
+old_said : (k : RunState) (n : Connection) (o : OpenedValue) (before rest : List ℕ) → SaidWords k n o → is_message_out (bus_of k) ≡ true → k.exchange.speech.words ≡ before ++ rest
+    → k.exchange.speech.place ≡ length before → (if k.story.bus_state.dialogue.is_last then [] else o.said) ≡ said_of [] before
 old_said k n o before rest h here words place = go k.story.bus_state.dialogue.is_last refl
   where
     go : (q : Bool) → k.story.bus_state.dialogue.is_last ≡ q → (if q then [] else o.said) ≡ said_of [] before
@@ -75,7 +77,8 @@ old_said k n o before rest h here words place = go k.story.bus_state.dialogue.is
     go false e = h.upto here e before rest words place
 
 -- The messages that are said then.
-now_said : (d : Dialogue) (old : List MsgOut) (before : List ℕ) (byte : ℕ) (out : Option MsgOut) → old ≡ said_of [] before → fresh_bytes d ≡ left_half [] before → out ≡ whole_out (got_out (fresh_bytes d ++ byte ∷ [])) → old ++ messages_of out ≡ said_of [] (before ++ byte ∷ [])
+now_said : (d : Dialogue) (old : List MsgOut) (before : List ℕ) (byte : ℕ) (out : Option MsgOut) → old ≡ said_of [] before → fresh_bytes d ≡ left_half [] before
+    → out ≡ whole_out (got_out (fresh_bytes d ++ byte ∷ [])) → old ++ messages_of out ≡ said_of [] (before ++ byte ∷ [])
 now_said d old before byte out e f g =
     (λ i. e i ++ messages_of ((g ∙ ap (λ (x : List ℕ). whole_out (got_out (x ++ byte ∷ []))) f) i))
     ∙ ap (λ (x : List MsgOut). said_of [] before ++ x) (sym (append-nil (messages_of (whole_out (got_out (left_half [] before ++ byte ∷ []))))))
@@ -109,7 +112,8 @@ speech_on v rest last more is = record {
 
 -- ---- row by row
 
-on_row : (s : ScenarioValue) (p : List Row) (row : Row) (n : Connection) (g : Going s p row n) (o after : OpenedValue) → RowMade (run_state s p) row n g.going.change o after → SaidWords (run_state s p) n o → SaidWords (run_state s (row ∷ p)) n after
+on_row : (s : ScenarioValue) (p : List Row) (row : Row) (n : Connection) (g : Going s p row n) (o after : OpenedValue) → RowMade (run_state s p) row n g.going.change o after
+    → SaidWords (run_state s p) n o → SaidWords (run_state s (row ∷ p)) n after
 on_row s p row n g o after (made_still ep none e) h =
     let k : RunState = run_state s p in
     let j : RunState = run_state s (row ∷ p) in

@@ -15,6 +15,7 @@ use Rattle.bus_story.specs.HistoryEvents.{abort_line_at}
 use Rattle.bus_story.specs.Items.{Item, process, abort, same_item, has_item, command_item, sense_item}
 use Rattle.trace_laws.proofs.SentItems.{own_has, more_has}
 use Rattle.std.proofs.lemmas.Option.{same_Some}
+use Rattle.std.proofs.lemmas.Bool.{or_left}
 use Rattle.bus_due.specs.Next.{IsPrompt}
 use Rattle.bus_due.specs.Plain.{IsPlain}
 use Rattle.bus_due.specs.RunState.{RunState}
@@ -136,14 +137,10 @@ abort_there (d ∷ aborts) n (suc i) m a e f = more_has (abort n) (abort m) (abo
 suc_is : (i : ℕ) → suc i ≡ 1 + i
 suc_is i = omega arith
 
-or_first : (a b : Bool) → a ≡ true → (a || b) ≡ true
-or_first true b e = refl
-or_first false b e = wrong' e
-
 process_there : (s : ScenarioValue) (id : ProcId) (p : Process) → process_of s id ≡ Some p → has_item (all_items s) (process id) ≡ true
 process_there s id p e =
     has_append (items_from 1 s.commands) (aborts_from 1 s.aborts) (process id)
-    ∙ or_first _ (has_item (aborts_from 1 s.aborts) (process id)) (go id.command refl (command_at s.commands id.command) refl id.sense refl e)
+    ∙ or_left _ (has_item (aborts_from 1 s.aborts) (process id)) (go id.command refl (command_at s.commands id.command) refl id.sense refl e)
   where
     go : (m : ℕ) → id.command ≡ m → (o : Option CmdDef) → command_at s.commands id.command ≡ o → (q : Bool) → id.sense ≡ q → process_if s id o ≡ Some p
         → has_item (items_from 1 s.commands) (process id) ≡ true

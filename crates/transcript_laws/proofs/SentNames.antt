@@ -50,18 +50,6 @@ name_own (item ∷ sent) (n ∷ names) name id count fresh = go (same_item item 
     go true e rest = wrong e
     go false e rest = rest e
 
--- What was sent has a name.
-pub name_has : (sent : List Item) (names : List Name) (id : ProcId) → length names ≡ length sent → has_item sent (process id) ≡ true
-    → (name : Name) × (name_sent sent names id ≡ Some name)
-name_has [] names id count has = wrong' has
-name_has (item ∷ sent) [] id count has = absurd (omega (arith, count))
-name_has (item ∷ sent) (n ∷ names) id count has = go (same_item item (process id)) has (λ e. name_has sent names id (omega (arith, count)) e)
-  where
-    go : (q : Bool) → (q || has_item sent (process id)) ≡ true → (has_item sent (process id) ≡ true → (name : Name) × (name_sent sent names id ≡ Some name))
-        → (name : Name) × ((if q then Some n else name_sent sent names id) ≡ Some name)
-    go true e rest = (n, refl)
-    go false e rest = rest e
-
 -- ---- whichever way the list runs
 
 pub has_append : (xs ys : List Item) (item : Item) → has_item (xs ++ ys) item ≡ (has_item xs item || has_item ys item)

@@ -124,7 +124,8 @@ goes_next s rows row h k on fits = by_crosses (row_reading (story s rows).bus_st
         byte_next s rows row k (record { on = on; crossing = g; msg = not-true b.bus_state.bus.msg (and_first (not b.bus_state.bus.msg) (is_no_abort k.link.item) z); item = and_second (not b.bus_state.bus.msg) (is_no_abort k.link.item) z; numbered = h.numbered; marked = h.marked })
 
     by_crosses : (q r : Bool) → (row_reading (story s rows).bus_state row).crosses ≡ q → changes_phase (row_reading (story s rows).bus_state row).change ≡ r
-        → (if (row_reading (story s rows).bus_state row).crosses then fits_crossing s (story s rows) k.opened k.link (row_reading (story s rows).bus_state row) else if changes_phase (row_reading (story s rows).bus_state row).change then fits_turn (story s rows) k.opened k.link (row_reading (story s rows).bus_state row).change else fits_still (story s rows) k.opened k.link (row_reading (story s rows).bus_state row).change) ≡ true → Standing s (row ∷ rows)
+        → (if (row_reading (story s rows).bus_state row).crosses then fits_crossing s (story s rows) k.opened k.link (row_reading (story s rows).bus_state row) else if changes_phase (row_reading (story s rows).bus_state row).change then fits_turn (story s rows) k.opened k.link (row_reading (story s rows).bus_state row).change else fits_still (story s rows) k.opened k.link (row_reading (story s rows).bus_state row).change) ≡ true
+        → Standing s (row ∷ rows)
     by_crosses true r e f z =
         let fits' : fits_crossing s b k.opened k.link d ≡ true = sym (ap (λ (q : Bool). if q then fits_crossing s b k.opened k.link d else if changes_phase d.change then fits_turn b k.opened k.link d.change else fits_still b k.opened k.link d.change) e) ∙ z in
         let last : Bool = if is_message_out b.bus_state.bus then fits_out k.opened backs d.out b.bus_state.dialogue.is_last else if is_message_in b.bus_state.bus then fits_in s b k.opened k.link d.into else not b.bus_state.bus.msg && is_no_abort k.link.item in

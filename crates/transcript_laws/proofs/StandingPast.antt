@@ -126,7 +126,9 @@ quiet s t b h parts cut re none talk = go h.begun
 
 pub closing : (s : ScenarioValue) (t : TranscriberValue) (b : Story) (h : StandsLinked s t b) (parts : List Part) (free : Bool) (more : List Event) (id : ProcId) (was : Bool) (st : Option ℕ) (back : CarriedBytes)
     → ((refused : List Name) (p : Process) → shown_items refused (account_by p parts).items ≡ shown_items refused (account_base h.opened p).items)
-    → Leaves id (process_for t h.opened.connection (summary_by h.opened.connection parts)).name (leaving_items free (process_for t h.opened.connection (summary_by h.opened.connection parts)).name (summary_by h.opened.connection parts)) more → IsAsBegun (process_for t h.opened.connection (summary_by h.opened.connection parts)) was st → IsServing h.opened (is_command b.bus_state.bus) id (carried_of b.carried id) back h.conn b.history was st → AreOwnEvents id h.conn
+    → Leaves id (process_for t h.opened.connection (summary_by h.opened.connection parts)).name (leaving_items free (process_for t h.opened.connection (summary_by h.opened.connection parts)).name (summary_by h.opened.connection parts)) more
+    → IsAsBegun (process_for t h.opened.connection (summary_by h.opened.connection parts)) was st
+    → IsServing h.opened (is_command b.bus_state.bus) id (carried_of b.carried id) back h.conn b.history was st → AreOwnEvents id h.conn
     → IsClosing h.opened (is_command b.bus_state.bus) id (carried_of b.carried id) back h.conn h.old was st h.opened.connection (process_for t h.opened.connection (summary_by h.opened.connection parts)) parts free (summary_by h.opened.connection parts) more
 closing s t b h parts free more id was st back shown goes begun serving own = record {
   serving = subst (λ (x : List Event). IsServing h.opened (is_command b.bus_state.bus) id (carried_of b.carried id) back h.conn x was st) h.history_is serving;

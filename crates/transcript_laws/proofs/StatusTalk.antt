@@ -28,7 +28,7 @@ use Rattle.bus_due.specs.RunState.{RunState, bus_of, item_of}
 use Rattle.bus_due.specs.RunSteps.{run_state}
 use Rattle.bus_due.specs.Sights.{hearing_of, leaving, serving_of}
 use Rattle.bus_books.specs.Rows.{reading_in}
-use Rattle.bus_books.proofs.Gives.{byte_messages}
+use Rattle.bus_books.proofs.Gives.{byte_messages, not_both}
 use Rattle.bus_books.proofs.InConnection.{InConnection, in_connection}
 use Rattle.bus_story.proofs.StorySteps.{events_link}
 use Rattle.bus_transcript.specs.declared.part.Part.{Part}
@@ -40,7 +40,6 @@ use Rattle.trace_laws.specs.Tells.{IsServed, of_process, of_abort}
 use Rattle.trace_laws.proofs.NamedBytes.{names_first}
 use Rattle.trace_laws.proofs.PhaseLines.{in_phase, out_in, out_lines}
 use Rattle.trace_laws.proofs.StatusLeavings.{Completes, in_status, refused as refused_again, completes_from, left_alone}
-use Rattle.trace_laws.proofs.TalkSteps.{not_both}
 use Rattle.transcript_laws.specs.Parts.{are_talk, base_parts, out_parts, parts_now}
 use Rattle.transcript_laws.proofs.BaseParts.{base_more, base_turned}
 use Rattle.transcript_laws.proofs.HeldSince.{follows_in}
@@ -52,17 +51,20 @@ use Rattle.bus_base.proofs.Tests.{wrong, wrong', and_false}
 
 pub record StatusTalk (k : RunState) (o : OpenedValue) : Type 0 where
   pub status : k.exchange.begun ≡ true → is_status_phase (bus_of k) ≡ true → are_talk (base_parts o) ≡ false
-  pub closes : k.exchange.begun ≡ true → k.exchange.plan.messages ≡ one_message to_initiator.CommandComplete → (is_message_in (bus_of k) ≡ true) ⊎ ((is_message_out (bus_of k) ≡ true) × (k.exchange.plan.cause ≡ causes.InMessage)) → are_talk (base_parts o) ≡ false
+  pub closes : k.exchange.begun ≡ true → k.exchange.plan.messages ≡ one_message to_initiator.CommandComplete
+      → (is_message_in (bus_of k) ≡ true) ⊎ ((is_message_out (bus_of k) ≡ true) × (k.exchange.plan.cause ≡ causes.InMessage)) → are_talk (base_parts o) ≡ false
 
 -- ---- more than messages stays more
 
 part_more : (o : OpenedValue) (part : Part) → are_talk (base_parts o) ≡ false → are_talk (base_parts (with_part o part)) ≡ false
 part_more o part z = ap are_talk (base_more o part) ∙ talk_more (base_parts o) (part ∷ []) ∙ ap (λ (q : Bool). q && are_talk (part ∷ [])) z
 
-pub stays_more : (s : ScenarioValue) (p : List Row) (row : Row) (n : Connection) (g : Going s p row n) (o after : OpenedValue) → RowMade (run_state s p) row n g.going.change o after → are_talk (base_parts o) ≡ false → are_talk (base_parts after) ≡ false
+pub stays_more : (s : ScenarioValue) (p : List Row) (row : Row) (n : Connection) (g : Going s p row n) (o after : OpenedValue)
+    → RowMade (run_state s p) row n g.going.change o after → are_talk (base_parts o) ≡ false → are_talk (base_parts after) ≡ false
 stays_more s p row n g o after (made_still ep none e) z = ap (λ (x : OpenedValue). are_talk (base_parts x)) e ∙ go (is_completion o (run_state s p).story.bus_state.dialogue.half g.going.change)
   where
-    go : (q : Bool) → are_talk (base_parts (if q then with_part o parts_of.Completion else with_fault o (is_fault row.kind && is_some (run_state s p).story.bus_state.crossed))) ≡ false
+    go : (q : Bool)
+        → are_talk (base_parts (if q then with_part o parts_of.Completion else with_fault o (is_fault row.kind && is_some (run_state s p).story.bus_state.crossed))) ≡ false
     go true = part_more o parts_of.Completion z
     go false = z
 stays_more s p row n g o after (made_crossing dev ep er e) z = go (crossing_made o after (run_state s p).story.bus_state n g.going.change e)
@@ -70,7 +72,8 @@ stays_more s p row n g o after (made_crossing dev ep er e) z = go (crossing_made
     c : Change
     c = g.going.change
 
-    go : CrossingMade o after (run_state s p).story.bus_state.dialogue.is_last c.before (c.after.data_bits % 256) (message_out (run_state s p).story.bus_state.dialogue c true) (message_in (run_state s p).story.bus_state.dialogue c true) → are_talk (base_parts after) ≡ false
+    go : CrossingMade o after (run_state s p).story.bus_state.dialogue.is_last c.before (c.after.data_bits % 256) (message_out (run_state s p).story.bus_state.dialogue c true) (message_in (run_state s p).story.bus_state.dialogue c true)
+        → are_talk (base_parts after) ≡ false
     go (crossed_out x f) = base_talk after ∙ ap (λ (y : OpenedValue). are_talk y.parts && are_talk y.since) f ∙ sym (base_talk o) ∙ z
     go (crossed_in x y f) = ap (λ (y : OpenedValue). are_talk (base_parts y)) f ∙ in_talk o (message_in (run_state s p).story.bus_state.dialogue c true) ∙ z
     go (crossed_status x y w f) = ap (λ (y : OpenedValue). are_talk (base_parts y)) f ∙ part_more o (parts_of.Status (c.after.data_bits % 256)) z
@@ -88,7 +91,8 @@ stays_more s p row n g o after (made_turn ep none ef e) z =
     ∙ ap (λ (q : Bool). q && are_talk (broken_parts c.before half)) (talk_more (base_parts o) (out_parts o.said) ∙ ap (λ (q : Bool). q && are_talk (out_parts o.said)) z)))
 
 -- STATUS begins.
-status_more : (o : OpenedValue) (c : Change) (half : List ℕ) → is_status_phase c.after ≡ true → are_talk (base_parts (phase_entered (phase_over o c.before half true) c.after)) ≡ false
+status_more : (o : OpenedValue) (c : Change) (half : List ℕ) → is_status_phase c.after ≡ true
+    → are_talk (base_parts (phase_entered (phase_over o c.before half true) c.after)) ≡ false
 status_more o c half e =
     ap are_talk (base_turned o c.before c.after half)
     ∙ ap (λ (q : Bool). are_talk (((parts_now o ++ broken_parts c.before half) ++ phase_parts o c.before true) ++ (if q then parts_of.StatusPhase ∷ [] else []))) e
@@ -102,7 +106,9 @@ status_lines b e = go b.msg b.cd b.io (ap is_status e)
     is_status phases.Status = true
     is_status _ = false
 
-    go : (m d i : Bool) → is_status (if m then (if i then phases.MessageIn else phases.MessageOut) else if d then (if i then phases.Status else phases.Command) else if i then phases.DataIn else phases.DataOut) ≡ true → (not m && d && i) ≡ true
+    go : (m d i : Bool)
+        → is_status (if m then (if i then phases.MessageIn else phases.MessageOut) else if d then (if i then phases.Status else phases.Command) else if i then phases.DataIn else phases.DataOut) ≡ true
+        → (not m && d && i) ≡ true
     go true d true z = wrong' z
     go true d false z = wrong' z
     go false true true z = refl
@@ -116,7 +122,8 @@ again_item : (b : Story) (n : Connection) → n.reselected ≡ true → is_some 
 again_item b n re =
     ap (λ (q : Bool). is_some (item_of (if q then record b { link = Some (link_of n None) } else story_with_restored (story_with_sent (record b { link = Some (link_of n (aim_of b.aims n.initiator)) }) (aim_of b.aims n.initiator)) (aim_of b.aims n.initiator)).link)) re
 
-pub starts_item : (s : ScenarioValue) (p : List Row) (row : Row) (n : Connection) → Starts s p row n → n.reselected ≡ true → is_some (item_of (run_state s (row ∷ p)).story.link) ≡ false
+pub starts_item : (s : ScenarioValue) (p : List Row) (row : Row) (n : Connection) → Starts s p row n → n.reselected ≡ true
+    → is_some (item_of (run_state s (row ∷ p)).story.link) ≡ false
 starts_item s p row n h re =
     let k : RunState = run_state s p in
     let d : RowReading = row_reading k.story.bus_state row in
@@ -140,7 +147,8 @@ not_status b (inr e) = go b.msg b.cd b.io e
     go true d i z = refl
     go false d i z = wrong' z
 
-pub status_starts : (s : ScenarioValue) (p : List Row) (row : Row) (n : Connection) (o : OpenedValue) → Starts s p row n → (run_state s (row ∷ p)).exchange.begun ≡ n.reselected → (n.reselected ≡ true → Named s (run_state s (row ∷ p)) n) → StatusTalk (run_state s (row ∷ p)) o
+pub status_starts : (s : ScenarioValue) (p : List Row) (row : Row) (n : Connection) (o : OpenedValue) → Starts s p row n → (run_state s (row ∷ p)).exchange.begun ≡ n.reselected
+    → (n.reselected ≡ true → Named s (run_state s (row ∷ p)) n) → StatusTalk (run_state s (row ∷ p)) o
 status_starts s p row n o h begun named = record {
   status = λ b z. at_status (sym begun ∙ b) (named (sym begun ∙ b)) z;
   closes = λ b m w. at_closes (sym begun ∙ b) (named (sym begun ∙ b)) m;
@@ -165,7 +173,8 @@ status_starts s p row n o h begun named = record {
 -- ---- row by row
 
 -- The messages that are planned stay while the phase does.
-pub same_messages : (s : ScenarioValue) (p : List Row) (row : Row) (n : Connection) (g : Going s p row n) → changes_phase g.going.change ≡ false → (run_state s (row ∷ p)).exchange.plan.messages ≡ (run_state s p).exchange.plan.messages
+pub same_messages : (s : ScenarioValue) (p : List Row) (row : Row) (n : Connection) (g : Going s p row n) → changes_phase g.going.change ≡ false
+    → (run_state s (row ∷ p)).exchange.plan.messages ≡ (run_state s p).exchange.plan.messages
 same_messages s p row n g ep = go (is_some (receiver_in n c)) refl
   where
     k : RunState
@@ -184,7 +193,8 @@ same_messages s p row n g ep = go (is_some (receiver_in n c)) refl
         struck true = refl
         struck false = refl
 
-pub status_row : (s : ScenarioValue) (p : List Row) (row : Row) (n : Connection) (g : Going s p row n) (o after : OpenedValue) → RowMade (run_state s p) row n g.going.change o after → StatusTalk (run_state s p) o → StatusTalk (run_state s (row ∷ p)) after
+pub status_row : (s : ScenarioValue) (p : List Row) (row : Row) (n : Connection) (g : Going s p row n) (o after : OpenedValue)
+    → RowMade (run_state s p) row n g.going.change o after → StatusTalk (run_state s p) o → StatusTalk (run_state s (row ∷ p)) after
 status_row s p row n g o after made h = by made
   where
     k : RunState
@@ -213,10 +223,12 @@ status_row s p row n g o after made h = by made
           closes = λ b m w. stays (h.closes (sym (begun_same s p row n g ep) ∙ b) (sym plan.0 ∙ m) (elim w [ inl x ↦ inl (sym (in_same (bus_of k) (bus_of j) lines) ∙ x) | inr x ↦ inr (sym (out_same (bus_of k) (bus_of j) lines) ∙ x.0, sym plan.1 ∙ x.1) ]));
         }
       where
-        cause : (q : Bool) → (if q then (if is_message_out c.before then plan_after_message k.exchange.plan (hearing_of k row (reading_in k.story.bus_state n c q)).is_last (hearing_of k row (reading_in k.story.bus_state n c q)).out else k.exchange.plan) else if is_fault row.kind && not c.before.io then struck_plan k.exchange.plan else k.exchange.plan).cause ≡ k.exchange.plan.cause
+        cause : (q : Bool)
+            → (if q then (if is_message_out c.before then plan_after_message k.exchange.plan (hearing_of k row (reading_in k.story.bus_state n c q)).is_last (hearing_of k row (reading_in k.story.bus_state n c q)).out else k.exchange.plan) else if is_fault row.kind && not c.before.io then struck_plan k.exchange.plan else k.exchange.plan).cause ≡ k.exchange.plan.cause
         cause true = said_cause (is_message_out c.before) (hearing_of k row (reading_in k.story.bus_state n c true)).is_last
           where
-            said_cause : (q anew : Bool) → (if q then plan_after_message k.exchange.plan anew (hearing_of k row (reading_in k.story.bus_state n c true)).out else k.exchange.plan).cause ≡ k.exchange.plan.cause
+            said_cause : (q anew : Bool)
+                → (if q then plan_after_message k.exchange.plan anew (hearing_of k row (reading_in k.story.bus_state n c true)).out else k.exchange.plan).cause ≡ k.exchange.plan.cause
             said_cause true true = refl
             said_cause true false = refl
             said_cause false anew = refl
@@ -227,7 +239,8 @@ status_row s p row n g o after made h = by made
             struck false = refl
 
     -- another phase begins
-    turned : changes_phase c ≡ true → is_some (receiver_in n c) ≡ false → is_fault row.kind ≡ false → after ≡ phase_entered (phase_over o c.before k.story.bus_state.dialogue.half true) c.after → StatusTalk j after
+    turned : changes_phase c ≡ true → is_some (receiver_in n c) ≡ false → is_fault row.kind ≡ false
+        → after ≡ phase_entered (phase_over o c.before k.story.bus_state.dialogue.half true) c.after → StatusTalk j after
     turned ep none ef e = record {
       status = λ b z. ap (λ (x : OpenedValue). are_talk (base_parts x)) e ∙ status_more o c k.story.bus_state.dialogue.half (ap is_status_phase (sym i.bus_is) ∙ z);
       closes = λ b m w. stays (elim w [ inl x ↦ gives x m | inr x ↦ answers x.0 x.1 b m ]);
@@ -271,7 +284,8 @@ status_row s p row n g o after made h = by made
             from (refused_again f ec em) = h.closes b em (inr (out_lines (bus_of k) f (λ z. (g.going.goes.phase z).0), ec))
 
         -- MESSAGE OUT follows
-        answers : is_message_out (bus_of j) ≡ true → j.exchange.plan.cause ≡ causes.InMessage → j.exchange.begun ≡ true → j.exchange.plan.messages ≡ one_message to_initiator.CommandComplete → are_talk (base_parts o) ≡ false
+        answers : is_message_out (bus_of j) ≡ true → j.exchange.plan.cause ≡ causes.InMessage → j.exchange.begun ≡ true
+            → j.exchange.plan.messages ≡ one_message to_initiator.CommandComplete → are_talk (base_parts o) ≡ false
         answers x ec bj m = h.closes f.0 whole (inl here)
           where
             f : (k.exchange.begun ≡ true) × (is_message_in c.before ≡ true)

@@ -90,7 +90,8 @@ no_parts o b z = by (is_command b) (is_data b) z
     by false true w = wrong w
     by false false w = refl
 
-pub turn_talk : (o : OpenedValue) (c : Change) (half : List ℕ) → (is_command c.before || is_data c.before) ≡ false → is_status_phase c.after ≡ false → are_talk (base_parts (phase_entered (phase_over o c.before half true) c.after)) ≡ are_talk (base_parts o)
+pub turn_talk : (o : OpenedValue) (c : Change) (half : List ℕ) → (is_command c.before || is_data c.before) ≡ false → is_status_phase c.after ≡ false
+    → are_talk (base_parts (phase_entered (phase_over o c.before half true) c.after)) ≡ are_talk (base_parts o)
 turn_talk o c half x y =
     ap are_talk (base_turned o c.before c.after half)
     ∙ (λ t. are_talk (((parts_now o ++ broken_parts c.before half) ++ no_parts o c.before x t) ++ (if y t then parts_of.StatusPhase ∷ [] else [])))
@@ -112,7 +113,8 @@ record IsKnown (k : RunState) : Type 0 where
 
 -- ---- names that do not follow do not come with a row
 
-turn_nameless : (x : Exchange) (w : Hearing) (l : Leaving) → OnMessages IsNoName x.plan.messages → OnMessages IsNoName l.messages → (o b : Bool) → OnMessages IsNoName (if not o then record (plan_anew x.plan) { messages = l.messages; next = l.next } else if b then plan_in_message_out w x.plan else plan_anew x.plan).messages
+turn_nameless : (x : Exchange) (w : Hearing) (l : Leaving) → OnMessages IsNoName x.plan.messages → OnMessages IsNoName l.messages → (o b : Bool)
+    → OnMessages IsNoName (if not o then record (plan_anew x.plan) { messages = l.messages; next = l.next } else if b then plan_in_message_out w x.plan else plan_anew x.plan).messages
 turn_nameless x w l was next false b = next
 turn_nameless x w l was next true true = go (is_message_in w.change.before)
   where
@@ -121,7 +123,8 @@ turn_nameless x w l was next true true = go (is_message_in w.change.before)
     go false = was
 turn_nameless x w l was next true false = was
 
-row_nameless : (s : ScenarioValue) (n : Connection) (phase now fault : Bool) (x : Exchange) (w : Hearing) (l : Leaving) → OnMessages IsNoName x.plan.messages → OnMessages IsNoName l.messages → OnMessages IsNoName (exchange_by phase now fault (host_of s n.initiator) w l x).plan.messages
+row_nameless : (s : ScenarioValue) (n : Connection) (phase now fault : Bool) (x : Exchange) (w : Hearing) (l : Leaving) → OnMessages IsNoName x.plan.messages
+    → OnMessages IsNoName l.messages → OnMessages IsNoName (exchange_by phase now fault (host_of s n.initiator) w l x).plan.messages
 row_nameless s n true now fault x w l was next = turn_nameless x w l was next (is_message_out w.change.after) w.begun
 row_nameless s n false true fault x w l was next = subst (λ (m : Messages). OnMessages IsNoName m) (sym (byte_messages (is_message_out w.change.before) w.is_last w.out x.plan)) was
 row_nameless s n false false fault x w l was next = go (fault && not w.change.before.io)
@@ -130,14 +133,16 @@ row_nameless s n false false fault x w l was next = go (fault && not w.change.be
     go true = was
     go false = was
 
-pub known_plan : (s : ScenarioValue) (p : List Row) (row : Row) (n : Connection) (g : Going s p row n) (phase now : Bool) → changes_phase g.going.change ≡ phase → is_some (receiver_in n g.going.change) ≡ now → OnMessages IsNoName (run_state s p).exchange.plan.messages → OnMessages IsNoName (run_state s (row ∷ p)).exchange.plan.messages
+pub known_plan : (s : ScenarioValue) (p : List Row) (row : Row) (n : Connection) (g : Going s p row n) (phase now : Bool) → changes_phase g.going.change ≡ phase
+    → is_some (receiver_in n g.going.change) ≡ now → OnMessages IsNoName (run_state s p).exchange.plan.messages → OnMessages IsNoName (run_state s (row ∷ p)).exchange.plan.messages
 known_plan s p row n g phase now ep er h =
     let k : RunState = run_state s p in
     let i = in_connection s k row n g.going.change phase now (is_fault row.kind) g.going.goes.row_is ep er refl in
     subst (λ (x : Exchange). OnMessages IsNoName x.plan.messages) (sym i.exchange_is)
     (row_nameless s n phase now (is_fault row.kind) k.exchange (hearing_of k row (reading_in k.story.bus_state n g.going.change now)) (leaving s k n.target) h (left_messages IsNoName others_nameless (serving_of s k n.target) k.exchange.begun (bus_of k) h))
 
-known_still : (s : ScenarioValue) (p : List Row) (row : Row) (n : Connection) (g : Going s p row n) (phase : Bool) → changes_phase g.going.change ≡ phase → is_some (receiver_in n g.going.change) ≡ false → IsKnown (run_state s p) → IsKnown (run_state s (row ∷ p))
+known_still : (s : ScenarioValue) (p : List Row) (row : Row) (n : Connection) (g : Going s p row n) (phase : Bool) → changes_phase g.going.change ≡ phase
+    → is_some (receiver_in n g.going.change) ≡ false → IsKnown (run_state s p) → IsKnown (run_state s (row ∷ p))
 known_still s p row n g phase ep er h =
     let w = knows_before s p row n g in
     let link = link_still s (run_state s p) row n g.going.change w.link g.going.goes.row_is er w.link_is in
@@ -146,7 +151,8 @@ known_still s p row n g phase ep er h =
       nameless = known_plan s p row n g phase false ep er h.nameless;
     }
 
-known_crossing : (s : ScenarioValue) (p : List Row) (row : Row) (n : Connection) (g : Going s p row n) (dev : ℕ) → changes_phase g.going.change ≡ false → receiver_in n g.going.change ≡ Some dev → IsKnown (run_state s p) → IsKnown (run_state s (row ∷ p))
+known_crossing : (s : ScenarioValue) (p : List Row) (row : Row) (n : Connection) (g : Going s p row n) (dev : ℕ) → changes_phase g.going.change ≡ false
+    → receiver_in n g.going.change ≡ Some dev → IsKnown (run_state s p) → IsKnown (run_state s (row ∷ p))
 known_crossing s p row n g dev ep er h = record { named = λ l el. named l el (link_crossed s k row n c was g.going.goes.row_is there w); nameless = known_plan s p row n g false true ep there h.nameless }
   where
     k : RunState
@@ -177,7 +183,8 @@ known_crossing s p row n g dev ep er h = record { named = λ l el. named l el (l
     plain m e true f = on_message IsNoName m (message_in k.story.bus_state.dialogue c true) e (whole_on s p row n g dev IsNoName er f h.nameless)
     plain m e false f = no_inc m (sym (ap (λ (q : Bool). if q then whole_in (got_in (k.story.bus_state.dialogue.half ++ c.after.data_bits % 256 ∷ [])) else None) f) ∙ e)
 
-    named : (l : Link) → j.story.link ≡ Some l → LinkAfter s k.story was (message_out k.story.bus_state.dialogue c true) (message_in k.story.bus_state.dialogue c true) j.story.link → is_some l.item ≡ true
+    named : (l : Link) → j.story.link ≡ Some l → LinkAfter s k.story was (message_out k.story.bus_state.dialogue c true) (message_in k.story.bus_state.dialogue c true) j.story.link
+        → is_some l.item ≡ true
     named l el (says m a link) = ap (λ (x : Link). is_some x.item) (same_Some l (record was { last = last_out m was }) (sym el ∙ link)) ∙ some
     named l el (hears m a b link) =
         ap (λ (x : Link). is_some x.item) (same_Some l (heard_link s k.story was m) (sym el ∙ link)) ∙ ap (λ x. is_some x) (nameless_item k.story.sent s.commands was m (plain m b (is_message_in c.before) refl)) ∙ some
@@ -186,7 +193,8 @@ known_crossing s p row n g dev ep er h = record { named = λ l el. named l el (l
 -- ---- by what is named
 
 -- The process is known where the lines are of no message, or COMMAND COMPLETE was heard.
-known_by : (s : ScenarioValue) (k : RunState) (n : Connection) → Named s k n → (is_message_in (bus_of k) ≡ true → (l : Link) → k.story.link ≡ Some l → story_of.is_complete l.last ≡ true) → is_message_out (bus_of k) ≡ false → IsKnown k
+known_by : (s : ScenarioValue) (k : RunState) (n : Connection) → Named s k n
+    → (is_message_in (bus_of k) ≡ true → (l : Link) → k.story.link ≡ Some l → story_of.is_complete l.last ≡ true) → is_message_out (bus_of k) ≡ false → IsKnown k
 known_by s k n (known l e some nameless) completes no_out = record { named = λ m em. ap (λ (x : Link). is_some x.item) (same_Some m l (sym em ∙ e)) ∙ some; nameless = nameless }
 known_by s k n (said p l naming here names all) completes no_out = wrong (sym (completes here l naming.link_is) ∙ naming.last)
 known_by s k n (refused p l naming here cause names) completes no_out = wrong (sym here ∙ no_out)
@@ -205,7 +213,8 @@ from_named k n o h re z = record { named = h.named re z; nameless = h.nameless r
 
 -- ---- row by row
 
-pub named_row : (s : ScenarioValue) (p : List Row) (row : Row) (n : Connection) (g : Going s p row n) (o after : OpenedValue) → RowMade (run_state s p) row n g.going.change o after → HeldLast (run_state s p) o → TalkNamed (run_state s p) n o → TalkNamed (run_state s (row ∷ p)) n after
+pub named_row : (s : ScenarioValue) (p : List Row) (row : Row) (n : Connection) (g : Going s p row n) (o after : OpenedValue) → RowMade (run_state s p) row n g.going.change o after
+    → HeldLast (run_state s p) o → TalkNamed (run_state s p) n o → TalkNamed (run_state s (row ∷ p)) n after
 named_row s p row n g o after (made_still ep none e) held h = to_named j n after (λ re z. known_still s p row n g false ep none (at re (is_completion o k.story.bus_state.dialogue.half c) refl (sym (ap (λ (x : OpenedValue). are_talk (base_parts x)) e) ∙ z)))
   where
     k : RunState
@@ -241,7 +250,8 @@ named_row s p row n g o after (made_still ep none e) held h = to_named j n after
             lines true false i w = wrong' w
             lines false d i w = wrong' w
 
-    at : n.reselected ≡ true → (q : Bool) → is_completion o k.story.bus_state.dialogue.half c ≡ q → are_talk (base_parts (with_still_row o k.story.bus_state c row.kind)) ≡ false → IsKnown k
+    at : n.reselected ≡ true → (q : Bool) → is_completion o k.story.bus_state.dialogue.half c ≡ q → are_talk (base_parts (with_still_row o k.story.bus_state c row.kind)) ≡ false
+        → IsKnown k
     at re true f z = completes f re
     at re false f z =
         from_named k n o h re
@@ -264,7 +274,9 @@ named_row s p row n g o after (made_crossing dev ep er e) held h = to_named j n 
         lines true d i w = wrong' w
         lines false d i w = refl
 
-    at : n.reselected ≡ true → are_talk (base_parts after) ≡ false → CrossingMade o after k.story.bus_state.dialogue.is_last c.before (c.after.data_bits % 256) (message_out k.story.bus_state.dialogue c true) (message_in k.story.bus_state.dialogue c true) → IsKnown k
+    at : n.reselected ≡ true → are_talk (base_parts after) ≡ false
+        → CrossingMade o after k.story.bus_state.dialogue.is_last c.before (c.after.data_bits % 256) (message_out k.story.bus_state.dialogue c true) (message_in k.story.bus_state.dialogue c true)
+        → IsKnown k
     at re z (crossed_out x f) = from_named k n o h re (base_talk o ∙ sym (base_talk after ∙ ap (λ (y : OpenedValue). are_talk y.parts && are_talk y.since) f) ∙ z)
     at re z (crossed_in x y f) = from_named k n o h re (sym (ap (λ (y : OpenedValue). are_talk (base_parts y)) f ∙ in_talk o (message_in k.story.bus_state.dialogue c true)) ∙ z)
     at re z (crossed_status x y w f) = known_here s k n (g.was.facts.named n g.stands g.calm re) (ap (λ (l : LineSet). l.msg) g.going.goes.row_is.bus_is ∙ status_off c.before w)
@@ -300,7 +312,8 @@ named_row s p row n g o after (made_turn ep none ef e) held h = to_named j n aft
         lines true d x w = wrong' w
         lines false d x w = refl
 
-    at : n.reselected ≡ true → (q : Bool) → (is_command c.before || is_data c.before) ≡ q → (r : Bool) → is_status_phase c.after ≡ r → are_talk (base_parts after) ≡ false → IsKnown j
+    at : n.reselected ≡ true → (q : Bool) → (is_command c.before || is_data c.before) ≡ q → (r : Bool) → is_status_phase c.after ≡ r → are_talk (base_parts after) ≡ false
+        → IsKnown j
     at re true x r y z = known_still s p row n g true ep none (known_here s k n (g.was.facts.named n g.stands g.calm re) (ap (λ (l : LineSet). l.msg) g.going.goes.row_is.bus_is ∙ moving_off c.before x))
     at re false x true y z = known_here s j n (g.now.facts.named n g.after g.calm_after re) (ap (λ (l : LineSet). l.msg) i.bus_is ∙ status_off c.after y)
     at re false x false y z = known_still s p row n g true ep none (from_named k n o h re (sym (ap (λ (v : OpenedValue). are_talk (base_parts v)) e ∙ turn_talk o c half x y) ∙ z))

@@ -8,7 +8,6 @@ use Rattle.bus_trace.specs.LineSet.{LineSet}
 use Rattle.bus_trace.specs.Phases.{is_command, is_data, is_message_in}
 use Rattle.msg_grammar.specs.declared.message.MsgIn.{MsgIn}
 use Rattle.msg_grammar.specs.declared.message.MsgIn.TheVariants as to_initiator
-use Rattle.msg_grammar.specs.declared.message.MsgOut.{MsgOut}
 use Rattle.bus_phases.specs.Half.{is_nil}
 use Rattle.bus_story.specs.CarriedBytes.{CarriedBytes, is_status_phase}
 use Rattle.bus_transcript.specs.declared.part.Incoming.TheVariants.{Whole}
@@ -17,10 +16,10 @@ use Rattle.bus_transcript.specs.declared.part.Part.TheVariants as parts_of
 use Rattle.bus_transcript.specs.declared.process.Process.{Process}
 use Rattle.bus_transcript.specs.Accounts.{AccountValue, account_of, after_in, account_after, account_after_all}
 use Rattle.bus_transcript.specs.Opened.{OpenedValue, with_in, data_parts, phase_parts, phase_over, phase_entered}
-use Rattle.transcript_laws.specs.Parts.{is_void, is_talk, are_talk, held_parts, base_parts, out_parts, parts_now}
+use Rattle.transcript_laws.specs.Parts.{is_talk, are_talk, held_parts, base_parts, out_parts, parts_now}
 use Rattle.transcript_laws.specs.Told.{first_byte, IsAccountOf, IsKeptOf, account_base}
 use Rattle.transcript_laws.specs.Serving.{IsAsBegun, IsServing, IsBlank}
-use Rattle.transcript_laws.proofs.BaseParts.{base_in, base_said, base_void, base_turned}
+use Rattle.transcript_laws.proofs.BaseParts.{base_in, base_turned}
 use Rattle.transcript_laws.proofs.PartLists.{broken_parts}
 use Rattle.transcript_laws.proofs.ServingSteps.{no_block}
 use Rattle.transcript_laws.proofs.ShownParts.{talk_more}
@@ -107,13 +106,6 @@ talk_serves k id now back history p talk blank kept blank' kept' = record {
 }
 
 -- ---- messages alone, row by row
-
-pub talk_said : (k : OpenedValue) (said : List MsgOut) → is_void said ≡ is_void k.said → are_talk (base_parts k) ≡ true → are_talk (base_parts (record k { said = said })) ≡ true
-talk_said k said e talk = ap are_talk (base_said k said e) ∙ talk
-
-pub talk_void : (k : OpenedValue) (said : List MsgOut) → is_void said ≡ true → k.since ≡ [] → are_talk (base_parts k) ≡ true
-    → are_talk (base_parts (record k { said = said })) ≡ true
-talk_void k said e none talk = ap are_talk (base_void k said e none) ∙ talk_first k.parts (held_parts k ++ k.since) talk
 
 pub talk_in : (k : OpenedValue) (m : MsgIn) → k.said ≡ [] → are_talk (base_parts k) ≡ true → are_talk (base_parts (with_in k (Whole m))) ≡ true
 talk_in k m e talk = ap are_talk (base_in k (Whole m) e) ∙ talk_append (base_parts k) (parts_of.In m ∷ []) talk refl

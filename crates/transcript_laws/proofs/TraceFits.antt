@@ -36,15 +36,11 @@ use Rattle.transcript_laws.proofs.RowFits.{going_fits}
 use Rattle.transcript_laws.proofs.RstRows.{rst_none, rst_row}
 use Rattle.transcript_laws.proofs.SentProcesses.{reset_ends, sent_known}
 use Rattle.transcript_laws.proofs.UndoneMessages.{undoes_row}
+use Rattle.trace_laws.proofs.Impossible.{none_some}
 use Rattle.bus_base.proofs.Tests.{wrong'}
 
-none_some : {A : Type 0} (n : Connection) → (let o : Option Connection = None in o) ≡ Some n → A
-none_some n e = absurd cc
-
-none_open : {A : Type 0} (o : OpenedValue) → (let a : Option OpenedValue = None in a) ≡ Some o → A
-none_open o e = absurd cc
-
-row_by_state : (s : ScenarioValue) (p : List Row) (row : Row) → Obeys s → IsPrompt s (row ∷ p) → fits_reading s (transcribed p) (run_state s p).story (row_reading (run_state s p).story.bus_state row) ≡ true
+row_by_state : (s : ScenarioValue) (p : List Row) (row : Row) → Obeys s → IsPrompt s (row ∷ p)
+    → fits_reading s (transcribed p) (run_state s p).story (row_reading (run_state s p).story.bus_state row) ≡ true
 row_by_state s p row o prompt = go (bus (row ∷ p)).rst refl
   where
     k : RunState
@@ -101,10 +97,11 @@ row_by_state s p row o prompt = go (bus (row ∷ p)).rst refl
     same m n false e = none_some n e
 
     -- a connection stands
-    inside : (m : Connection) → connection p ≡ Some m → (bus (row ∷ p)).rst ≡ false → (q : Bool) → (bus p).rst ≡ q → (t : Option OpenedValue) → (transcribed p).opened ≡ t → (v : Option Link) → b.link ≡ v → (x : Option Connection) → connection (row ∷ p) ≡ x → fits_linked s b t v d (is_some x) ≡ true
+    inside : (m : Connection) → connection p ≡ Some m → (bus (row ∷ p)).rst ≡ false → (q : Bool) → (bus p).rst ≡ q → (t : Option OpenedValue) → (transcribed p).opened ≡ t
+        → (v : Option Link) → b.link ≡ v → (x : Option Connection) → connection (row ∷ p) ≡ x → fits_linked s b t v d (is_some x) ≡ true
     inside m con off q calm None et v ev x after = refl
     inside m con off q calm (Some w) et None ev x after = refl
-    inside m con off true calm (Some w) et (Some l) ev x after = none_open w (sym (rst_none s p dv calm) ∙ et)
+    inside m con off true calm (Some w) et (Some l) ev x after = none_some w (sym (rst_none s p dv calm) ∙ et)
     inside m con off false calm (Some w) et (Some l) ev None after = ends_fit s p row m w l o prompt con calm off after et ev
     inside m con off false calm (Some w) et (Some l) ev (Some n) after =
         let is : m ≡ n = same m n (bus (row ∷ p)).bsy (sym (λ i. connection_after (con i) (call p) (change_of p row) row) ∙ after) in
@@ -144,8 +141,9 @@ names_fit s p o prompt = subst (λ (b : Story). are_named s (transcribed p).open
     no_link : {A : Type 0} (l : Link) → (let a : Option Link = None in a) ≡ Some l → A
     no_link l e = absurd cc
 
-    at : (w : OpenedValue) (l : Link) → (transcribed p).opened ≡ Some w → (run_state s p).story.link ≡ Some l → (q : Bool) → (bus p).rst ≡ q → (x : Option Connection) → connection p ≡ x → is_named s w l.item ≡ true
-    at w l et ev true calm x con = none_open w (sym (rst_none s p was.stood.standing.devices calm) ∙ et)
+    at : (w : OpenedValue) (l : Link) → (transcribed p).opened ≡ Some w → (run_state s p).story.link ≡ Some l → (q : Bool) → (bus p).rst ≡ q → (x : Option Connection)
+        → connection p ≡ x → is_named s w l.item ≡ true
+    at w l et ev true calm x con = none_some w (sym (rst_none s p was.stood.standing.devices calm) ∙ et)
     at w l et ev false calm None con = no_link l (sym (was.facts.items.items.apart (pl.connection ∙ con)).0 ∙ ev)
     at w l et ev false calm (Some n) con = by n.reselected refl
       where

@@ -302,7 +302,9 @@ process_next s rows row h id back was st r g =
 becomes_known : (s : ScenarioValue) (rows : List Row) (row : Row) (h : StandsLinked s (transcribed rows) (story s rows)) → TurnRow s rows row h
     → h.opened.connection.reselected ≡ true → h.conn ≡ [] → are_talk (base_parts h.opened) ≡ true → is_command (story s rows).bus_state.bus ≡ false
     → ((x : ProcId) → h.link.item ≡ Some (process x) → IsBlank (carried_of (story s rows).carried x))
-    → ((u : CarriedBytes) → h.link.undo ≡ Some u → IsBlank u × AreAlike u (carried_of (story s rows).carried u.id) × ((x : ProcId) → h.link.item ≡ Some (process x) → u.id ≡ x)) → AreKept s (transcribed rows) (story s rows) h.sent no_process → (item : Option Item) → h.link.item ≡ item → is_open_item (story s rows) item ≡ true → gets_known h.opened (row_reading (story s rows).bus_state row).change ≡ true → Standing s (row ∷ rows)
+    → ((u : CarriedBytes) → h.link.undo ≡ Some u → IsBlank u × AreAlike u (carried_of (story s rows).carried u.id) × ((x : ProcId) → h.link.item ≡ Some (process x) → u.id ≡ x))
+    → AreKept s (transcribed rows) (story s rows) h.sent no_process → (item : Option Item) → h.link.item ≡ item → is_open_item (story s rows) item ≡ true
+    → gets_known h.opened (row_reading (story s rows).bus_state row).change ≡ true → Standing s (row ∷ rows)
 becomes_known s rows row h r re none talk no_command blanks undone kept_all None is opens gets = wrong' opens
 becomes_known s rows row h r re none talk no_command blanks undone kept_all (Some (abort j)) is opens gets = wrong' opens
 becomes_known s rows row h r re none talk no_command blanks undone kept_all (Some (process id)) is opens gets = go h.link.undo refl
@@ -350,7 +352,8 @@ turn_next s rows row h r = go h.stage
     by_gets : (q : Bool) → gets_known h.opened (row_reading (story s rows).bus_state row).change ≡ q → h.opened.connection.reselected ≡ true → h.conn ≡ []
         → are_talk (base_parts h.opened) ≡ true → is_command (story s rows).bus_state.bus ≡ false → is_status_phase (story s rows).bus_state.bus ≡ false
         → ((j : ℕ) → h.link.item ≡ Some (abort j) → ⊥) → ((x : ProcId) → h.link.item ≡ Some (process x) → IsBlank (carried_of (story s rows).carried x))
-        → ((u : CarriedBytes) → h.link.undo ≡ Some u → IsBlank u × AreAlike u (carried_of (story s rows).carried u.id) × ((x : ProcId) → h.link.item ≡ Some (process x) → u.id ≡ x)) → AreKept s (transcribed rows) (story s rows) h.sent no_process → Standing s (row ∷ rows)
+        → ((u : CarriedBytes) → h.link.undo ≡ Some u → IsBlank u × AreAlike u (carried_of (story s rows).carried u.id) × ((x : ProcId) → h.link.item ≡ Some (process x) → u.id ≡ x))
+        → AreKept s (transcribed rows) (story s rows) h.sent no_process → Standing s (row ∷ rows)
     by_gets true e re none talk no_command no_status plain blanks undone kept_all =
         becomes_known s rows row h r re none talk no_command blanks undone kept_all h.link.item refl
         (or_second (is_known h.opened (story s rows).bus_state.bus || not (gets_known h.opened (row_reading (story s rows).bus_state row).change)) (is_open_item (story s rows) h.link.item) (fit_parts s rows row h r).opens (λ i. (not (re i) || not (talk i) || no_command i) || not (e i))) e

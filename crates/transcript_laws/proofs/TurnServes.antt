@@ -113,7 +113,9 @@ now_account k id now back conn history was st q p off h b =
 pub void_over : (k : OpenedValue) (s : LineSet) (half : List ℕ) (id : ProcId) (now back : CarriedBytes) (conn history : List Event) (was : Bool) (st : Option ℕ) (broken : Bool)
     → (is_message_in s && not (is_nil half)) ≡ broken → (is_command s ≡ false → is_data s ≡ false → k.bytes ≡ [])
     → (broken ≡ true → (a : AccountValue) → IsAccountOf a now → IsAccountOf a back) → IsServing k (is_command s) id now back conn history was st
-    → (m : Incoming) (p : Process) → (if broken then with_in (spoken k) Broken else spoken k).held ≡ Some m → ((if broken then with_in (spoken k) Broken else spoken k).since ++ phase_parts (if broken then with_in (spoken k) Broken else spoken k) s true) ≡ [] → IsAsBegun p was st → IsAccountOf (account_by p (if broken then with_in (spoken k) Broken else spoken k).parts) back
+    → (m : Incoming) (p : Process) → (if broken then with_in (spoken k) Broken else spoken k).held ≡ Some m
+    → ((if broken then with_in (spoken k) Broken else spoken k).since ++ phase_parts (if broken then with_in (spoken k) Broken else spoken k) s true) ≡ [] → IsAsBegun p was st
+    → IsAccountOf (account_by p (if broken then with_in (spoken k) Broken else spoken k).parts) back
 void_over k s half id now back conn history was st true e empty same h m p held none b =
     same refl (account_by p (settled (spoken k) false).parts) (subst (λ (parts : List Part). IsAccountOf (account_by p parts) now) (sym (spoken_parts k)) (now_account k id now back conn history was st (is_command s) p (in_no_command s (and_first (is_message_in s) (not (is_nil half)) e)) h b))
 void_over k s half id now back conn history was st false e empty same h m p held none b =
@@ -127,7 +129,9 @@ pub void_turned : (k : OpenedValue) (s : LineSet) (half : List ℕ) (begins : Bo
     → (is_command s ≡ false → is_data s ≡ false → k.bytes ≡ [])
     → ((is_message_in s && not (is_nil half)) ≡ true → (a : AccountValue) → IsAccountOf a now → IsAccountOf a back)
     → IsServing k (is_command s) id now back conn history was st
-    → (m : Incoming) (p : Process) → (if begins then with_part (phase_over k s half true) parts_of.StatusPhase else phase_over k s half true).held ≡ Some m → (if begins then with_part (phase_over k s half true) parts_of.StatusPhase else phase_over k s half true).since ≡ [] → IsAsBegun p was st → IsAccountOf (account_by p (if begins then with_part (phase_over k s half true) parts_of.StatusPhase else phase_over k s half true).parts) back
+    → (m : Incoming) (p : Process) → (if begins then with_part (phase_over k s half true) parts_of.StatusPhase else phase_over k s half true).held ≡ Some m
+    → (if begins then with_part (phase_over k s half true) parts_of.StatusPhase else phase_over k s half true).since ≡ [] → IsAsBegun p was st
+    → IsAccountOf (account_by p (if begins then with_part (phase_over k s half true) parts_of.StatusPhase else phase_over k s half true).parts) back
 void_turned k s half true id now back conn history was st empty same h m p held none b = filled (phase_over k s half true).since parts_of.StatusPhase none
 void_turned k s half false id now back conn history was st empty same h m p held none b =
     void_over k s half id now back conn history was st (is_message_in s && not (is_nil half)) refl empty same h m p held none b
@@ -142,7 +146,9 @@ cut_over k s half id now back conn history was st false e cut h p b = wrong' cut
 
 pub cut_turned : (k : OpenedValue) (s : LineSet) (half : List ℕ) (begins : Bool) (id : ProcId) (now back : CarriedBytes) (conn history : List Event) (was : Bool) (st : Option ℕ)
     → (is_message_in s && not (is_nil half)) ≡ true → IsServing k (is_command s) id now back conn history was st
-    → (m : Incoming) (p : Process) → (if begins then with_part (phase_over k s half true) parts_of.StatusPhase else phase_over k s half true).held ≡ Some m → (if begins then with_part (phase_over k s half true) parts_of.StatusPhase else phase_over k s half true).since ≡ [] → IsAsBegun p was st → IsAccountOf (account_by p (if begins then with_part (phase_over k s half true) parts_of.StatusPhase else phase_over k s half true).parts) now
+    → (m : Incoming) (p : Process) → (if begins then with_part (phase_over k s half true) parts_of.StatusPhase else phase_over k s half true).held ≡ Some m
+    → (if begins then with_part (phase_over k s half true) parts_of.StatusPhase else phase_over k s half true).since ≡ [] → IsAsBegun p was st
+    → IsAccountOf (account_by p (if begins then with_part (phase_over k s half true) parts_of.StatusPhase else phase_over k s half true).parts) now
 cut_turned k s half true id now back conn history was st cut h m p held none b = filled (phase_over k s half true).since parts_of.StatusPhase none
 cut_turned k s half false id now back conn history was st cut h m p held none b =
     cut_over k s half id now back conn history was st (is_message_in s && not (is_nil half)) refl cut h p b

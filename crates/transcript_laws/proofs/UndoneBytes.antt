@@ -72,7 +72,8 @@ message_keeps to_initiator.Reject e u c h = h
 fault_keeps : (lines : LineSet) → is_command lines ≡ false → KeepsAlike (after_fault lines)
 fault_keeps lines e u c h = go (is_command lines) (is_data lines) e
   where
-    go : (q r : Bool) → q ≡ false → is_alike u (if q then record c { struck = true; failure = Some PARITY_ERROR } else if r then record c { failure = Some (if lines.io then INITIATOR_DETECTED_ERROR else PARITY_ERROR) } else c) ≡ true
+    go : (q r : Bool) → q ≡ false
+        → is_alike u (if q then record c { struck = true; failure = Some PARITY_ERROR } else if r then record c { failure = Some (if lines.io then INITIATOR_DETECTED_ERROR else PARITY_ERROR) } else c) ≡ true
     go true r z = wrong z
     go false true z = h
     go false false z = h
@@ -87,7 +88,8 @@ carried_undoes : (b c : Story) (l : Link) (u : Option CarriedBytes) → b.carrie
 carried_undoes b c l None e h = refl
 carried_undoes b c l (Some u) e h = ap (λ (all : List CarriedBytes). is_alike u (carried_of all u.id)) e ∙ h
 
-changed_undoes : (f : CarriedBytes → CarriedBytes) (b c : Story) (o : Option Item) (l : Link) → ChangesBy f b c o → KeepsId f → KeepsAlike f → b.link ≡ Some l → undoes_nothing b l l.undo ≡ true → UndoesSo c
+changed_undoes : (f : CarriedBytes → CarriedBytes) (b c : Story) (o : Option Item) (l : Link) → ChangesBy f b c o → KeepsId f → KeepsAlike f → b.link ≡ Some l
+    → undoes_nothing b l l.undo ≡ true → UndoesSo c
 changed_undoes f b c o l g same keeps el h = λ m em.
     let is : m ≡ l = same_Some m l (sym em ∙ g.link ∙ el) in
     ap (λ (x : Link). undoes_nothing c x x.undo) is ∙ go l.undo h
@@ -112,7 +114,8 @@ said_undoes b l m h = λ x ex.
     let undo : x.undo ≡ l.undo = ap (λ (y : Link). y.undo) (same_Some x (record l { last = last_out m l }) (sym ex ∙ out_link b l m)) in
     ap (λ (u : Option CarriedBytes). undoes_nothing (story_after_out b l (Some m)) x u) undo ∙ go (is_parity_error m) l.undo h x
   where
-    go : (q : Bool) (u : Option CarriedBytes) → undoes_nothing b l u ≡ true → (x : Link) → undoes_nothing (story_with_carried (record b { link = Some (record l { last = last_out m l }) }) (if q then u else None)) x u ≡ true
+    go : (q : Bool) (u : Option CarriedBytes) → undoes_nothing b l u ≡ true → (x : Link)
+        → undoes_nothing (story_with_carried (record b { link = Some (record l { last = last_out m l }) }) (if q then u else None)) x u ≡ true
     go q None z x = refl
     go true (Some u) z x = ap (λ (c : CarriedBytes). is_alike u c) (put_own b.carried u u.id refl) ∙ alike_self u
     go false (Some u) z x = z
@@ -129,7 +132,8 @@ heard_undoes s b l m plain = λ x ex.
     own : (id : ProcId) → is_alike (carried_of b.carried id) (carried_of b.carried (carried_of b.carried id).id) ≡ true
     own id = ap (λ (y : ProcId). is_alike (carried_of b.carried id) (carried_of b.carried y)) (carried_id b.carried id) ∙ alike_self (carried_of b.carried id)
 
-    after : (id : ProcId) (o : Option Item) → is_alike (carried_of b.carried id) (carried_of (story_with_carried (record b { link = Some (record next { last = last_in m; before = l.last; undo = carried_if b l.item }) }) (carried_after_message_if (carried_if b o) m)).carried (carried_of b.carried id).id) ≡ true
+    after : (id : ProcId) (o : Option Item)
+        → is_alike (carried_of b.carried id) (carried_of (story_with_carried (record b { link = Some (record next { last = last_in m; before = l.last; undo = carried_if b l.item }) }) (carried_after_message_if (carried_if b o) m)).carried (carried_of b.carried id).id) ≡ true
     after id None = own id
     after id (Some (abort j)) = own id
     after id (Some (process x)) =
@@ -143,7 +147,8 @@ heard_undoes s b l m plain = λ x ex.
         ∙ ap (λ (y : Option Item). is_alike (carried_of b.carried id) (carried_of (story_after_message s (if is_none y then story_with_restored b next.item else b) (record next { last = last_in m; before = l.last; undo = carried_if b l.item }) m).carried (carried_of b.carried id).id)) e
         ∙ after id next.item
 
-inside_undoes : (s : ScenarioValue) (b : Story) (l : Link) (d : RowReading) (row : Row) → b.link ≡ Some l → IsTalk b d → undoes_nothing b l l.undo ≡ true → UndoesSo (story_in_connection s b (Some l) d row)
+inside_undoes : (s : ScenarioValue) (b : Story) (l : Link) (d : RowReading) (row : Row) → b.link ≡ Some l → IsTalk b d → undoes_nothing b l l.undo ≡ true
+    → UndoesSo (story_in_connection s b (Some l) d row)
 inside_undoes s b l d row el t h = go d.crosses refl d.out d.into refl
   where
     stays : UndoesSo b
@@ -162,7 +167,8 @@ inside_undoes s b l d row el t h = go d.crosses refl d.out d.into refl
     faulted (Drives lines) = stays
     faulted (Fault bit) = struck bit b.bus_state.crossed refl
 
-    go : (q : Bool) → d.crosses ≡ q → (o : Option MsgOut) (i : Option MsgIn) → d.into ≡ i → UndoesSo (if q then (if is_some o then story_after_out b l o else if is_some i then story_after_in s b l i else story_after_byte b l d) else story_after_fault b l row.kind)
+    go : (q : Bool) → d.crosses ≡ q → (o : Option MsgOut) (i : Option MsgIn) → d.into ≡ i
+        → UndoesSo (if q then (if is_some o then story_after_out b l o else if is_some i then story_after_in s b l i else story_after_byte b l d) else story_after_fault b l row.kind)
     go true e (Some m) i z = said_undoes b l m h
     go true e None (Some m) z = heard_undoes s b l m (t.plain m z)
     go true e None None z = byte (t.line e)
@@ -175,7 +181,8 @@ taken_carried s b None = refl
 taken_carried s b (Some c) = (check_keeps (story_with_end b c.id (by_status _)) c.id _).0
 
 -- It leads from no COMMAND, and not to STATUS; or the phase stays.
-row_carried : (s : ScenarioValue) (k : RunState) (row : Row) (n : Connection) (c : Change) (now : Bool) (l : Link) → IsRowIn k row n c → is_some (receiver_in n c) ≡ now → k.story.link ≡ Some l → (changes_phase c ≡ true → (is_command c.before ≡ false) × (is_status_phase c.after ≡ false))
+row_carried : (s : ScenarioValue) (k : RunState) (row : Row) (n : Connection) (c : Change) (now : Bool) (l : Link) → IsRowIn k row n c → is_some (receiver_in n c) ≡ now
+    → k.story.link ≡ Some l → (changes_phase c ≡ true → (is_command c.before ≡ false) × (is_status_phase c.after ≡ false))
     → (run_state_after s k row).story.carried ≡ (story_in_connection s k.story (Some l) (reading_in k.story.bus_state n c now) row).carried
 row_carried s k row n c now l r er el quiet =
     ap (λ (x : Story). x.carried) (story_row s k row n c now r er)
@@ -188,12 +195,14 @@ row_carried s k row n c now l r er el quiet =
     inside : Story
     inside = story_in_connection s k.story (Some l) d row
 
-    go : (q t : Bool) → changes_phase c ≡ q → (story_after_events s inside (if q then phase_events s k.story (carried_if k.story l.item) c else if t then end_events (carried_if k.story l.item) else [])).carried ≡ inside.carried
+    go : (q t : Bool) → changes_phase c ≡ q
+        → (story_after_events s inside (if q then phase_events s k.story (carried_if k.story l.item) c else if t then end_events (carried_if k.story l.item) else [])).carried ≡ inside.carried
     go true t e = let w = quiet e in ap (λ (shown : List Event). (story_after_events s inside shown).carried) (no_events s k.story (carried_if k.story l.item) c w.0 w.1)
     go false true e = taken_carried s inside (carried_if k.story l.item)
     go false false e = refl
 
-pub row_undoes : (s : ScenarioValue) (k : RunState) (row : Row) (n : Connection) (c : Change) (now : Bool) (l : Link) → IsRowIn k row n c → is_some (receiver_in n c) ≡ now → k.story.link ≡ Some l → (changes_phase c ≡ true → (is_command c.before ≡ false) × (is_status_phase c.after ≡ false))
+pub row_undoes : (s : ScenarioValue) (k : RunState) (row : Row) (n : Connection) (c : Change) (now : Bool) (l : Link) → IsRowIn k row n c → is_some (receiver_in n c) ≡ now
+    → k.story.link ≡ Some l → (changes_phase c ≡ true → (is_command c.before ≡ false) × (is_status_phase c.after ≡ false))
     → IsTalk k.story (reading_in k.story.bus_state n c now) → UndoesSo k.story → UndoesSo (run_state_after s k row).story
 row_undoes s k row n c now l r er el quiet t h = λ m em.
     let d : RowReading = reading_in k.story.bus_state n c now in

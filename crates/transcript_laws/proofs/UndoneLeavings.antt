@@ -121,12 +121,14 @@ out_leads : (v : Serving) (cause : Cause) → v.plan.cause ≡ cause → Leads v
 out_leads v causes.Selected e = answers refl e (opened v)
 out_leads v causes.InMessage e = go (is_some v.plan.said.offer) (is_naming v.plan.messages.first) v.task
   where
-    recovered : (t : Task) (q r : Bool) → Leads v phases.MessageOut (if q then message_repetition v.plan else if r then record (message_repetition v.plan) { counts = true } else bus_free)
+    recovered : (t : Task) (q r : Bool)
+        → Leads v phases.MessageOut (if q then message_repetition v.plan else if r then record (message_repetition v.plan) { counts = true } else bus_free)
     recovered t true r = again refl e refl
     recovered t false true = again refl e refl
     recovered t false false = briefly refl
 
-    go : (q r : Bool) (task : Option Task) → Leads v phases.MessageOut (if q then phase_entry phases.Command else if r then message_repetition v.plan else with_task task (λ t. recovery v.def t (message_repetition v.plan) bus_free))
+    go : (q r : Bool) (task : Option Task)
+        → Leads v phases.MessageOut (if q then phase_entry phases.Command else if r then message_repetition v.plan else with_task task (λ t. recovery v.def t (message_repetition v.plan) bus_free))
     go true r task = briefly refl
     go false true task = again refl e refl
     go false false None = briefly refl

@@ -28,7 +28,6 @@ use Rattle.bus_story.specs.Links.{Link, link_of}
 use Rattle.bus_story.specs.Story.{Story}
 use Rattle.bus_story.specs.TraceHistory.{aim_of, story_on_bus, story_by_change}
 use Rattle.bus_story.proofs.StorySteps.{events_link, first_link}
-use Rattle.bus_dialogue.specs.declared.exchange.Cause.{Cause}
 use Rattle.bus_dialogue.specs.declared.exchange.Cause.TheVariants as causes
 use Rattle.bus_dialogue.specs.declared.exchange.Leaving.{Leaving}
 use Rattle.bus_dialogue.specs.declared.exchange.Messages.{Messages}
@@ -48,19 +47,20 @@ use Rattle.bus_books.specs.Giving.{AreGiven, OnMessage, OnMessages}
 use Rattle.bus_books.specs.Listening.{half_after}
 use Rattle.bus_books.specs.Reactions.{is_command_phase}
 use Rattle.bus_books.specs.Rows.{reading_in}
+use Rattle.bus_books.specs.Tests.{is_selected}
 use Rattle.bus_books.proofs.Reading.{nil_is}
 use Rattle.bus_books.proofs.InConnection.{InConnection, in_connection}
 use Rattle.bus_transcript.specs.Opened.{OpenedValue}
 use Rattle.bus_transcript.specs.Rows.{transcribed}
 use Rattle.trace_laws.specs.Named.{Named, Names, known, said, refused, all, tag_alone}
-use Rattle.trace_laws.proofs.PhaseLines.{command_is, in_out, out_in, out_lines}
-use Rattle.trace_laws.proofs.TalkSteps.{not_both}
+use Rattle.trace_laws.proofs.PhaseLines.{command_is, in_out, message_line, out_in, out_line, out_lines}
+use Rattle.bus_books.proofs.Gives.{not_both}
 use Rattle.trace_laws.proofs.TellRows.{unbegun_lines}
 use Rattle.trace_laws.proofs.UndoneAnswers.{SamePlan, plan_stays}
 use Rattle.trace_laws.proofs.Whole.{Whole, whole}
 use Rattle.transcript_laws.specs.RowTests.{undoes_nothing}
 use Rattle.transcript_laws.proofs.CrossingFits.{whole_on}
-use Rattle.transcript_laws.proofs.HeldSince.{in_msg, out_msg, follows_in, message_no_command}
+use Rattle.transcript_laws.proofs.HeldSince.{follows_in, message_no_command}
 use Rattle.transcript_laws.proofs.OpenedBytes.{lines_same, out_same, in_same, begun_same, begun_crossing, begun_turned}
 use Rattle.transcript_laws.proofs.OpenedFacts.{Going, Starts, Holds, RowMade, made_still, made_crossing, made_turn, always, plain_before, knows_before}
 use Rattle.transcript_laws.proofs.UndoneBytes.{UndoesSo, row_undoes}
@@ -130,7 +130,8 @@ no_status b e = λ i. not (e i) && b.cd && b.io
 
 -- ---- a connection begins
 
-starts_undone : (s : ScenarioValue) (p : List Row) (row : Row) (n : Connection) → Starts s p row n → (run_state s (row ∷ p)).exchange.begun ≡ n.reselected → is_message_out (bus_of (run_state s (row ∷ p))) ≡ false → (n.reselected ≡ true → Named s (run_state s (row ∷ p)) n) → UndoneTalk (run_state s (row ∷ p))
+starts_undone : (s : ScenarioValue) (p : List Row) (row : Row) (n : Connection) → Starts s p row n → (run_state s (row ∷ p)).exchange.begun ≡ n.reselected
+    → is_message_out (bus_of (run_state s (row ∷ p))) ≡ false → (n.reselected ≡ true → Named s (run_state s (row ∷ p)) n) → UndoneTalk (run_state s (row ∷ p))
 starts_undone s p row n h begun out named = record {
   unbegun = λ b. nothing;
   opening = λ b o c. nothing;
@@ -178,7 +179,8 @@ starts_undone s p row n h begun out named = record {
 
 -- ---- row by row
 
-undone_row : (s : ScenarioValue) (p : List Row) (row : Row) (n : Connection) (g : Going s p row n) (o after : OpenedValue) → RowMade (run_state s p) row n g.going.change o after → UndoneTalk (run_state s p) → UndoneTalk (run_state s (row ∷ p))
+undone_row : (s : ScenarioValue) (p : List Row) (row : Row) (n : Connection) (g : Going s p row n) (o after : OpenedValue) → RowMade (run_state s p) row n g.going.change o after
+    → UndoneTalk (run_state s p) → UndoneTalk (run_state s (row ∷ p))
 undone_row s p row n g o after made h = by made
   where
     k : RunState
@@ -202,7 +204,8 @@ undone_row s p row n g o after made h = by made
     struck : is_command (bus_of k) ≡ false → (x : Change) → k.story.bus_state.crossed ≡ Some x → is_command x.before ≡ false
     struck e x z = command_is x.before ∙ ap is_command_phase ((g.was.crossed n g.stands g.calm).here x z) ∙ sym (command_is (bus_of k)) ∙ e
 
-    keeps : (now : Bool) → is_some (receiver_in n c) ≡ now → is_command (bus_of k) ≡ false → (changes_phase c ≡ true → is_status_phase c.after ≡ false) → (now ≡ true → c.before.msg ≡ true) → OnMessage RestoresNone (message_in k.story.bus_state.dialogue c now) → UndoesSo k.story → UndoesSo j.story
+    keeps : (now : Bool) → is_some (receiver_in n c) ≡ now → is_command (bus_of k) ≡ false → (changes_phase c ≡ true → is_status_phase c.after ≡ false)
+        → (now ≡ true → c.before.msg ≡ true) → OnMessage RestoresNone (message_in k.story.bus_state.dialogue c now) → UndoesSo k.story → UndoesSo j.story
     keeps now er e entry line plain =
         row_undoes s k row n c now l g.going.goes.row_is er el (λ z. (ap is_command (sym on) ∙ e, entry z))
         (record { line = line; struck = struck e; plain = λ m em. subst (λ (x : Option MsgIn). OnMessage RestoresNone x) em plain })
@@ -223,7 +226,7 @@ undone_row s p row n g o after made h = by made
           opening = λ b out cause. says (sym (out_same (bus_of k) (bus_of j) lines) ∙ out) (h.opening (sym begun ∙ b) (sym (out_same (bus_of k) (bus_of j) lines) ∙ out) (sym plan.cause ∙ cause));
           given = λ b into.
               let here : is_message_in (bus_of k) ≡ true = sym (in_same (bus_of k) (bus_of j) lines) ∙ into in
-              on_plan (elim (h.given (sym begun ∙ b) here) [ inl w ↦ inl (goes (in_msg (bus_of k) here) (heard (ap is_message_in (sym on) ∙ here) w.1) w.0, w.1) | inr w ↦ inr w ]);
+              on_plan (elim (h.given (sym begun ∙ b) here) [ inl w ↦ inl (goes (message_line (bus_of k) here) (heard (ap is_message_in (sym on) ∙ here) w.1) w.0, w.1) | inr w ↦ inr w ]);
           refused = λ b out cause.
               let there : is_message_out (bus_of k) ≡ true = sym (out_same (bus_of k) (bus_of j) lines) ∙ out in
               on_plan (elim (h.refused (sym begun ∙ b) there (sym plan.cause ∙ cause)) [ inl w ↦ inl (says there w.0, w.1) | inr w ↦ inr w ]);
@@ -243,7 +246,7 @@ undone_row s p row n g o after made h = by made
         goes msg = keeps now er (message_no_command (bus_of k) msg) (λ z. wrong' (sym ep ∙ z)) (λ z. ap (λ (x : LineSet). x.msg) (sym on) ∙ msg)
 
         says : is_message_out (bus_of k) ≡ true → UndoesSo k.story → UndoesSo j.story
-        says out = goes (out_msg (bus_of k) out) (subst (λ (x : Option MsgIn). OnMessage RestoresNone x) (sym (none now)) tt)
+        says out = goes (out_line (bus_of k) out) (subst (λ (x : Option MsgIn). OnMessage RestoresNone x) (sym (none now)) tt)
           where
             no_in : is_message_in c.before ≡ false
             no_in = ap is_message_in (sym on) ∙ in_out (bus_of k) out
@@ -274,20 +277,17 @@ undone_row s p row n g o after made h = by made
         out_after : is_message_out (bus_of j) ≡ true → is_message_out c.after ≡ true
         out_after out = ap is_message_out (sym i.bus_is) ∙ out
 
-        out_plan : (b : Bool) → k.exchange.begun ≡ b → is_message_out (bus_of j) ≡ true → j.exchange.plan ≡ (if b then plan_in_message_out (hearing_of k row (reading_in k.story.bus_state n c false)) k.exchange.plan else plan_anew k.exchange.plan)
+        out_plan : (b : Bool) → k.exchange.begun ≡ b → is_message_out (bus_of j) ≡ true
+            → j.exchange.plan ≡ (if b then plan_in_message_out (hearing_of k row (reading_in k.story.bus_state n c false)) k.exchange.plan else plan_anew k.exchange.plan)
         out_plan b e out =
             ap (λ (x : Exchange). x.plan) i.exchange_is
             ∙ (λ t. if not (out_after out t) then record (plan_anew k.exchange.plan) { messages = (leaving s k n.target).messages; next = (leaving s k n.target).next } else if e t then plan_in_message_out (hearing_of k row (reading_in k.story.bus_state n c false)) k.exchange.plan else plan_anew k.exchange.plan)
 
         -- MESSAGE OUT follows
         opens : (b : Bool) → k.exchange.begun ≡ b → is_message_out (bus_of j) ≡ true → j.exchange.plan.cause ≡ causes.Selected → UndoesSo j.story
-        opens false b out cause = quiet (unbegun_command b) (out_msg (bus_of j) out) (h.unbegun b)
+        opens false b out cause = quiet (unbegun_command b) (out_line (bus_of j) out) (h.unbegun b)
         opens true b out cause = later (is_message_in c.before) c.before.cd (sym (ap (λ (x : Plan). x.cause) (out_plan true b out)) ∙ cause)
           where
-            is_selected : Cause → Bool
-            is_selected causes.Selected = true
-            is_selected _ = false
-
             later : {A : Type 0} (q r : Bool) → (if q then causes.InMessage else if r then causes.InStatus else causes.InData) ≡ causes.Selected → A
             later true r z = wrong' (ap is_selected z)
             later false true z = wrong' (ap is_selected z)
@@ -301,7 +301,7 @@ undone_row s p row n g o after made h = by made
             ap (λ (x : Plan). x.messages) (out_plan true f.0 out) ∙ ap (λ (q : Bool). if q then from_byte k.exchange.plan.messages (k.handshakes.requests - 1) else k.exchange.plan.messages) f.1 in
             subst (λ (m : Messages). Undone j.story m) (sym messages)
             (from_undone j.story k.exchange.plan.messages (k.handshakes.requests - 1)
-            (elim (h.given f.0 here) [ inl w ↦ inl (quiet (message_no_command (bus_of k) (in_msg (bus_of k) here)) (out_msg (bus_of j) out) w.0, w.1) | inr w ↦ inr w ]))
+            (elim (h.given f.0 here) [ inl w ↦ inl (quiet (message_no_command (bus_of k) (message_line (bus_of k) here)) (out_line (bus_of j) out) w.0, w.1) | inr w ↦ inr w ]))
 
         -- MESSAGE IN follows
         begun_before : (q : Bool) → k.exchange.begun ≡ q → is_message_in (bus_of j) ≡ true → k.exchange.begun ≡ true
@@ -328,7 +328,7 @@ undone_row s p row n g o after made h = by made
                 ∙ (λ t. (leaving_by (serving_of s k n.target) (b t) (bus_of k)).messages)
 
             after_out : phase_of (bus_of k) ≡ phases.MessageOut → UndoesSo k.story → UndoesSo j.story
-            after_out f = quiet (message_no_command (bus_of k) (out_msg (bus_of k) (here f))) (in_msg (bus_of j) x)
+            after_out f = quiet (message_no_command (bus_of k) (out_line (bus_of k) (here f))) (message_line (bus_of j) x)
               where
                 here : phase_of (bus_of k) ≡ phases.MessageOut → is_message_out (bus_of k) ≡ true
                 here f = out_lines (bus_of k) f (λ z. (g.going.goes.phase z).0)
@@ -359,7 +359,8 @@ UndoesNothing s p =
     (l : Link) → (run_state s p).story.link ≡ Some l → is_message_in (bus_of (run_state s p)) ≡ true → is_nil (run_state s p).story.bus_state.dialogue.half ≡ false
     → undoes_nothing (run_state s p).story l l.undo ≡ true
 
-pub undoes_row : (s : ScenarioValue) (p : List Row) (n : Connection) (o : OpenedValue) → Obeys s → IsPrompt s p → connection p ≡ Some n → (bus p).rst ≡ false → (transcribed p).opened ≡ Some o → UndoesNothing s p
+pub undoes_row : (s : ScenarioValue) (p : List Row) (n : Connection) (o : OpenedValue) → Obeys s → IsPrompt s p → connection p ≡ Some n → (bus p).rst ≡ false
+    → (transcribed p).opened ≡ Some o → UndoesNothing s p
 undoes_row s p n o obeys prompt con calm there l el here some = go k.exchange.begun refl
   where
     k : RunState

@@ -32,7 +32,8 @@ pub record IsRefused (refused : List Name) (name : Name) (id : ProcId) (history 
 pub record IsServing (k : OpenedValue) (commands : Bool) (id : ProcId) (now back : CarriedBytes) (conn history : List Event) (was : Bool) (before : Option ℕ) : Type 0 where
   pub account : (p : Process) → IsAsBegun p was before → IsAccountOf (account_now k commands p) now
   pub void : (m : Incoming) (p : Process) → k.held ≡ Some m → k.since ≡ [] → k.bytes ≡ [] → IsAsBegun p was before → IsAccountOf (account_after_all (account_of p []) k.parts) back
-  pub told : (refused : List Name) (p : Process) → IsAsBegun p was before → IsRefused refused p.name id history → shown_items refused (account_base k p).items ≡ flat_map (λ event. items_named p.name event) (reverse conn)
+  pub told : (refused : List Name) (p : Process) → IsAsBegun p was before → IsRefused refused p.name id history
+      → shown_items refused (account_base k p).items ≡ flat_map (λ event. items_named p.name event) (reverse conn)
 
 -- ---- what the events of a row mark
 

@@ -69,12 +69,14 @@ pub data IsFrom (s : ScenarioValue) (t : TranscriberValue) (b : Story) (k : Open
 
 -- It is that of an abort; or its process is not known yet; or it is.
 pub data Stage (s : ScenarioValue) (t : TranscriberValue) (b : Story) (k : OpenedValue) (l : Link) (sent : List Item) (conn : List Event) : Type 0 where
-  of_abort : (j : ℕ) → k.connection.reselected ≡ false → l.item ≡ Some (abort j) → l.undo ≡ None → conn ≡ [] → are_talk (base_parts k) ≡ true → AreKept s t b sent no_process → Stage s t b k l sent conn
+  of_abort : (j : ℕ) → k.connection.reselected ≡ false → l.item ≡ Some (abort j) → l.undo ≡ None → conn ≡ [] → are_talk (base_parts k) ≡ true → AreKept s t b sent no_process
+      → Stage s t b k l sent conn
   of_none : k.connection.reselected ≡ true → conn ≡ [] → are_talk (base_parts k) ≡ true → is_command b.bus_state.bus ≡ false → is_status_phase b.bus_state.bus ≡ false
       → ((j : ℕ) → l.item ≡ Some (abort j) → ⊥) → ((id : ProcId) → l.item ≡ Some (process id) → IsBlank (carried_of b.carried id))
       → ((u : CarriedBytes) → l.undo ≡ Some u → IsBlank u × AreAlike u (carried_of b.carried u.id) × ((id : ProcId) → l.item ≡ Some (process id) → u.id ≡ id))
       → AreKept s t b sent no_process → Stage s t b k l sent conn
-  of_process : (id : ProcId) (back : CarriedBytes) (was : Bool) (st : Option ℕ) → l.item ≡ Some (process id) → ((u : CarriedBytes) → l.undo ≡ Some u → u ≡ back) → back.id ≡ id → is_known k b.bus_state.bus ≡ true
+  of_process : (id : ProcId) (back : CarriedBytes) (was : Bool) (st : Option ℕ) → l.item ≡ Some (process id) → ((u : CarriedBytes) → l.undo ≡ Some u → u ≡ back) → back.id ≡ id
+      → is_known k b.bus_state.bus ≡ true
       → IsServing k (is_command b.bus_state.bus) id (carried_of b.carried id) back conn b.history was st → AreOwnEvents id conn → (are_talk (base_parts k) ≡ true → conn ≡ [])
       → IsFrom s t b k sent id was st → AreKept s t b sent (λ x. same_id x id) → Stage s t b k l sent conn
 

@@ -1,4 +1,5 @@
-use Rattle.std.proofs.Common.{ℕ, ◌≡◌, ◌<◌, ◌≤◌, ◌+◌, ◌^◌, ◌∷◌, ◌∙◌, List, Some, length, reverse, sym, ap, arith}
+use Rattle.std.proofs.Common.{subst, ℕ, ◌≡◌, ◌<◌, ◌≤◌, ◌+◌, ◌^◌, ◌∷◌, ◌∙◌, List, Option, Some, length, reverse, refl, sym, ap, arith}
+use Rattle.std.specs.Prelude.{IfSome}
 use Rattle.std.proofs.lemmas.List.{length-reverse}
 use Rattle.bus_trace.specs.declared.Row.{Row}
 use Rattle.scenario.specs.declared.value.FaultDef.{FaultDef}
@@ -19,7 +20,7 @@ returns-in_default-clause-ended g c = λ h p.
     let i = c.loop.invariant in
     let going = i.going h p in
     let few : length rows < 2 ^ 32 = omega (arith, length-reverse c.loop.trace.rows.items, i.count, c.loop-test.true, c.requires.most) in
-    sym (c.next.ensures.exact s rows (seen s rows c.loop.observer (c.scenarios_fit_the_bus.ensures.lines s c.requires.lawful) h going.prompt i.observed i.devices few i.early) going.devices (c.first.ensures ∙ ap (λ (xs : List FaultDef). first_fault xs) going.pending))
+    sym (c.next.ensures.exact s rows (seen s rows c.loop.observer (c.scenarios_fit_the_bus.ensures.lines s c.requires.lawful) h going.prompt i.observed i.devices few i.early) going.devices (c.first.ensures ∙ ap (λ (xs : List FaultDef). first_fault xs) going.pending) going.known)
     ∙ c.in_default.is
 
 pub returns-in_default-clause-history : goal.returns-in_default-clause-history
@@ -42,7 +43,7 @@ returns-then-row-ge-END-clause-unfinished g c = λ h p e.
     let few_with : length (row ∷ rows) ≤ 2 ^ 32 = omega (arith, few) in
     absurd (too_late s rows row
     (c.rows_come_in_time.ensures.far s (row ∷ rows) c.requires.lawful
-    (going.prompt, sym (c.next.ensures.exact s rows (seen s rows c.loop.observer (c.scenarios_fit_the_bus.ensures.lines s c.requires.lawful) h going.prompt i.observed i.devices few i.early) going.devices (c.first.ensures ∙ ap (λ (xs : List FaultDef). first_fault xs) going.pending)) ∙ c.in-Some.is) few_with)
+    (going.prompt, sym (c.next.ensures.exact s rows (seen s rows c.loop.observer (c.scenarios_fit_the_bus.ensures.lines s c.requires.lawful) h going.prompt i.observed i.devices few i.early) going.devices (c.first.ensures ∙ ap (λ (xs : List FaultDef). first_fault xs) going.pending) going.known) ∙ c.in-Some.is) few_with)
     c.if-row-ge-END.true)
 
 pub loop-preserved : goal.loop-preserved
@@ -53,22 +54,27 @@ loop-preserved g c =
     let i = c.loop.invariant in
     let new : reverse c.add.new.self.rows.items ≡ row ∷ rows = c.in_ok-add.ensures.rows in
     let early : row.time < 2 ^ 62 = c.if-row-ge-END.false in
+    let device : row.dev < 8 = subst (λ (o : Option Row). IfSome o (λ (r : Row). r.dev < 8)) c.in-Some.is c.next.ensures.device in
     let observed = c.tell-shown.ensures.observer rows i.observed in
     let few : length rows < 2 ^ 32 = omega (arith, length-reverse c.loop.trace.rows.items, i.count, c.loop-test.true, c.requires.most) in
     let few_with : length (row ∷ rows) < 2 ^ 32 = omega (arith, length-reverse c.loop.trace.rows.items, i.count, c.loop-test.true, c.requires.most) in
     record {
       observed = observed_on rows _ row _ new observed;
-      devices = devices_on rows _ row new c.in-Some.ensures.device i.devices;
+      devices = devices_on rows _ row new device i.devices;
       early = early_on rows _ row new early i.early;
       count = c.in_ok-add.ensures.count ∙ ap (λ (n : ℕ). n + 1) i.count;
       steps = omega (arith, c.next.ensures.steps, i.steps);
       going = λ h p.
           let going = i.going h p in
           let fits = c.scenarios_fit_the_bus.ensures.lines s c.requires.lawful in
-          let is : next s rows ≡ Some row = sym (c.next.ensures.exact s rows (seen s rows c.loop.observer fits h going.prompt i.observed i.devices few i.early) going.devices (c.first.ensures ∙ ap (λ (xs : List FaultDef). first_fault xs) going.pending)) ∙ c.in-Some.is in
-          let all = seen s (row ∷ rows) c.tell-shown.new.observer fits h (going.prompt, is) observed (c.in-Some.ensures.device, i.devices) few_with (early, i.early) in
-          goes_on g.D.Device.IsOf s rows _ row c.loop.places c.loop.faults (reverse c.loop.trace.history.items) c.tell-shown.new.places c.see.new.self _ (reverse c.add.new.self.history.items)
-          new going is (c.tell-shown.ensures.places s rows all going.devices) c.see.ensures (c.tell-shown.ensures.shown s rows all going.devices) c.in_ok-add.ensures.history;
+          let now = seen s rows c.loop.observer fits h going.prompt i.observed i.devices few i.early in
+          let fault = c.first.ensures ∙ ap (λ (xs : List FaultDef). first_fault xs) going.pending in
+          let is : next s rows ≡ Some row = sym (c.next.ensures.exact s rows now going.devices fault going.known) ∙ c.in-Some.is in
+          let all = seen s (row ∷ rows) c.tell-shown.new.observer fits h (going.prompt, is) observed (device, i.devices) few_with (early, i.early) in
+          let known = c.next.ensures.away s rows now going.devices fault going.known in
+          goes_on g.D.Device.IsOf s rows _ row c.loop.places c.loop.faults (reverse c.loop.trace.history.items) c.tell-shown.new.places c.see.new.self _ (reverse c.add.new.self.history.items) c.loop.away c.see_away.new.away
+          new going is (c.tell-shown.ensures.places s rows all going.devices) c.see.ensures (c.tell-shown.ensures.shown s rows all going.devices) c.in_ok-add.ensures.history
+          (c.see_away.ensures s rows row all refl known);
     }
 
 pub returns-clause-unfinished : goal.returns-clause-unfinished

@@ -1,23 +1,17 @@
-use Rattle.std.proofs.Common.{◌≡◌, ◌<◌, ◌∷◌, ◌∙◌, Some, length, get_or, sym, arith}
-use Rattle.bus_trace.specs.Terms.{connection}
-use Rattle.bus_run.specs.Label.{process_known}
-use Rattle.bus_run.proofs.OnePlace.{read_at}
-use Rattle.bus_run.proofs.Told.{one_told, initiator_is, in_named}
+use Rattle.std.proofs.Common.{◌≡◌, ◌∙◌, [], Option, refl, sym, subst}
+use Rattle.std.specs.Prelude.{IfSome}
+use Rattle.std.proofs.lemmas.Bool.{eqb-true}
+use Rattle.std.proofs.lemmas.List.{nil_from_length}
+use Rattle.bus_trace.specs.declared.connection.Connection.{Connection}
+use Rattle.bus_run.specs.Shown.{events_shown}
+use Rattle.bus_run.specs.Standing.{IsKept}
 use Rattle.bus_run.proofs.telling.see_all.Goals as goal
 
 pub returns-in-Some : goal.returns-in-Some
 returns-in-Some g c = λ s rows a e p.
     let row = c.args.row.now in
-    let n = c.in-Some.connection in
-    let one = c.get-first.result in
-    let ys = c.see_in.new.places in
-    let x = c.index-places-first.result in
-    let h : connection (row ∷ rows) ≡ Some n = sym (c.connection.ensures.trace (row ∷ rows) (c.view.ensures.trace (row ∷ rows) a.observed)) ∙ c.in-Some.is in
-    let first : one ≡ n.initiator = c.get-first.ensures.number in
-    let inside : one < length ys = omega (arith, c.see_in.auto.places, c.requires.eight, c.get-first.ensures.small) in
-    let here = c.see_in.ensures.seen s rows a e (λ m k other. absurd (other (initiator_is (connection (row ∷ rows)) n m one h k first))) (p one c.get-first.ensures.small) in
-    let known : c.process_in-label.result ≡ process_known s (row ∷ rows) =
-    c.process_in-label.ensures s (row ∷ rows) n a.tied
-    (in_named g.D.Device.IsOf s (row ∷ rows) ys one n (get_or ys one x) first (sym c.index-places-first.is ∙ read_at ys one x inside c.index-places-first.is) here) h in
-    c.see_others-in-Some.ensures s rows a e (λ m k. known)
-    (one_told g.D.Device.IsOf s rows row one c.args.places.now ys c.get-first.ensures.small (λ q. here) c.see_in.ensures.others p)
+    let none : events_shown s rows row ≡ [] = sym e ∙ nil_from_length c.args.shown.now (eqb-true _ _ (sym c.is_empty.ensures ∙ c.if-is_empty.true)) in
+    let kept : IsKept rows row c.in-Some.ends = subst (λ (o : Option Connection). IfSome o (λ n. IsKept rows row n)) c.in-Some.is (c.connection_kept.ensures rows row a.observed refl) in
+    c.see_rest.ensures s rows a none kept
+    (c.see_initiator-label.ensures.process s rows a e kept.after.stands p)
+    (c.see_initiator-label.ensures.told s rows a e kept.after.stands p)

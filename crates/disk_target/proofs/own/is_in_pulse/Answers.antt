@@ -1,4 +1,4 @@
-use Rattle.std.proofs.Common.{◌∙◌}
+use Rattle.std.proofs.Common.{◌∙◌, None}
 use Rattle.disk_target.specs.Waits.{drives_pulse}
 use Rattle.disk_target.proofs.own.is_in_pulse.Goals as goal
 
@@ -6,4 +6,4 @@ pub returns : goal.returns
 returns c = λ rows o.
     let v = c.view.ensures.trace rows o in
     let req = c.req-req.ensures ∙ (λ i. (c.drives.ensures.trace rows v i).req) in
-    c.drives_pulse.ensures ∙ (λ j. drives_pulse (req j) (c.begun.ensures rows o j) (c.is_pulsed.ensures rows c.args.dev o j))
+    c.drives_pulse.ensures ∙ (λ j. drives_pulse (req j) (c.begun.ensures rows o j) (c.is_pulsed.ensures rows c.args.dev None o j))

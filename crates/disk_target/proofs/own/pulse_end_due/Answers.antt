@@ -1,28 +1,13 @@
-use Rattle.std.proofs.Common.{ℕ, ◌^◌, ◌∙◌, refl, sym, subst, None}
-use Rattle.bus_lines.specs.BusView.{BusViewValue}
-use Rattle.bus_lines.specs.Timely.{IsTimely}
-use Rattle.bus_reactions.specs.Ends as hand
-use Rattle.bus_dialogue.specs.Hearing.{begun}
-use Rattle.bus_trace.specs.Trace.{drives}
-use Rattle.bus_lines.specs.Handshakes.{handshakes}
-use Rattle.scsi_device.specs.Told.{told, pace_of}
+use Rattle.std.proofs.Common.{◌∙◌, refl, None}
+use Rattle.scenario.specs.declared.value.TargetDef.{TargetDef}
+use Rattle.scsi_device.specs.Told.{told}
+use Rattle.target_course.specs.Dues.{due_of_offering}
 use Rattle.disk_target.proofs.Waiting.{pulse_ends}
 use Rattle.disk_target.proofs.own.pulse_end_due.Goals as goal
 
-pub target_due-requires-clause-seen : goal.target_due-requires-clause-seen
-target_due-requires-clause-seen c =
-    c.sight_of.ensures.timely (2 ^ 63) (subst (λ (v : BusViewValue). IsTimely (2 ^ 63) v) (sym c.view-view.ensures.value) c.requires.timely)
-
 pub returns : goal.returns
 returns c = λ rows i o pulse own.
-    let v = c.view-view.ensures.trace rows o in
-    let dev : ℕ = c.args.def.now.dev in
-    let paced = c.pace-pace.ensures.exact rows dev None o refl in
-    let me = c.myself.ensures.exact rows v in
-    let none = c.no_offering.result in
-    c.target_due.ensures
-    ∙ (λ j. hand.target_due (c.begun.ensures rows o j) (c.sight_of.ensures.trace rows v j) (c.handshakes.ensures.trace rows v j) (me j) (paced j) none)
-    ∙ (λ j. hand.target_due (begun rows) (told rows dev).sight (handshakes rows)
-    (record { dev = dev; latency = c.args.def.now.latency; own = drives rows dev; since = (sym own j).row })
-    (pace_of (told rows dev) None) none)
-    ∙ pulse_ends c.args.def.now (told rows dev) i none pulse
+    let d : TargetDef = c.args.def.now in
+    c.due_of_offering.ensures rows i o own
+    ∙ (λ j. due_of_offering d (told rows d.dev) i (c.pace.ensures.exact rows d.dev None o refl j) c.going_on.result)
+    ∙ pulse_ends d (told rows d.dev) i c.going_on.result pulse

@@ -1,15 +1,13 @@
-use Rattle.std.proofs.Common.{◌^◌, ◌∙◌, refl, sym, subst, Some}
-use Rattle.bus_lines.specs.BusView.{BusViewValue}
-use Rattle.bus_lines.specs.Timely.{IsTimely}
-use Rattle.bus_reactions.specs.Ends as hand
+use Rattle.std.proofs.Common.{◌∙◌, sym, Some}
+use Rattle.scsi_device.specs.Told.{told}
+use Rattle.initiator.specs.States.{state_known}
+use Rattle.initiator.specs.Waits.{waits}
+use Rattle.initiator.proofs.Waiting.{plain_is}
 use Rattle.initiator.proofs.due.plain_due.Goals as goal
 
-pub initiator_due-requires-clause-seen : goal.initiator_due-requires-clause-seen
-initiator_due-requires-clause-seen c =
-    c.sight_of.ensures.timely (2 ^ 63) (subst (λ (v : BusViewValue). IsTimely (2 ^ 63) v) (sym c.view-view.ensures.value) c.requires.timely)
-
-pub returns : goal.returns
-returns c = λ rows o.
+pub returns-then-waits : goal.returns-then-waits
+returns-then-waits c = λ rows o mine.
+    let h = c.args.host.now in
     let v = c.view-view.ensures.trace rows o in
-    c.initiator_due.ensures
-    ∙ (λ j. hand.initiator_due (c.begun.ensures rows o j) (c.sight_of.ensures.trace rows v j) (c.handshakes.ensures.trace rows v j) (c.myself.ensures.exact rows v j) (c.pace.ensures.exact rows c.args.host.now.dev (Some c.args.host.now) o refl j) (c.answering.ensures.exact rows c.args.host.now.dev o j))
+    let now = c.waits.ensures ∙ (λ j. waits (mine j).own (c.bus.ensures.trace rows v j) (c.begun.ensures rows o j) (c.is_pulsed.ensures rows h.dev (Some h) o j)) in
+    sym (plain_is h (told rows h.dev) (state_known c.args.known.now) (sym now ∙ c.if-waits.true))

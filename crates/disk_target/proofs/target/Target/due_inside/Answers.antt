@@ -1,4 +1,4 @@
-use Rattle.std.proofs.Common.{◌≡◌, ◌∙◌, refl, sym, subst}
+use Rattle.std.proofs.Common.{ℕ, ◌≡◌, ◌∙◌, refl, sym, subst, None}
 use Rattle.bus_trace.specs.Trace.{bus, drives}
 use Rattle.bus_dialogue.specs.Hearing.{begun}
 use Rattle.bus_lines.specs.Handshakes.{handshakes}
@@ -9,10 +9,10 @@ use Rattle.bus_due.specs.Own.{own_of}
 use Rattle.bus_due.specs.RunSteps.{run_state}
 use Rattle.bus_due.specs.Sights.{serving_of}
 use Rattle.bus_due.specs.Wants.{ready_of}
-use Rattle.scsi_device.specs.Told.{told}
-use Rattle.target_course.specs.Alike.{AreAlike}
+use Rattle.scsi_device.specs.Told.{told, pace_of}
 use Rattle.target_course.specs.Dues.{plain_by}
-use Rattle.target_course.specs.States.{IsNoInitiator, IsOwnConnection, TargetState, offering_in}
+use Rattle.target_course.specs.States.{AreAlikeIn, IsNoInitiator, IsOwnConnection, TargetState, offering_in}
+use Rattle.target_course.proofs.Alike.{alike_itself}
 use Rattle.target_units.specs.Readies.{ready_unit}
 use Rattle.disk_target.specs.Targets.{TargetValue, KnowsRows}
 use Rattle.disk_target.proofs.target.Target.due_inside.Goals as goal
@@ -24,7 +24,13 @@ returns c = λ s rows n f o d away e able h at calm from fault.
     let same : t ≡ c.args.self.now.def = λ i. (c.self.view_is i).def in
     let own = g.itself_is.own_is ∙ (λ i. own_of rows (g.itself_dev i)) in
     let does = c.plain-plain.ensures s rows n f o d e able h at calm from in
-    let x : TargetState = record { own = c.self.inside.itself.own; reset = c.self.inside.itself.reset; ready = ready_unit (ready_of s (run_state s rows) t.dev); serving = does.serving } in
+    let dev : ℕ = c.args.self.now.def.dev in
+    let x : TargetState = record {
+      own = c.self.inside.itself.own;
+      reset = c.self.inside.itself.reset;
+      ready = ready_unit (ready_of s (run_state s rows) t.dev);
+      serving = serving_of s (run_state s rows) dev;
+    } in
     c.next_in_own.ensures s rows n x o
     (record { below = g.line.below; target_is = g.line.target_is; no_host = g.line.no_host; is_none = g.line.is_none }) d
     (subst (λ (z : TargetDef). IsNoInitiator rows z.dev) (sym same) away)
@@ -34,10 +40,10 @@ returns c = λ s rows n f o d away e able h at calm from fault.
       reset_is = g.itself_is.reset_is ∙ (λ i. reset_from (g.itself_dev i) (own i).released (g.itself_is.resets_are i));
       ready_is = refl;
       serving_is = λ m own rst.
-          subst (λ (z : TargetDef). AreAlike (begun rows) (drives rows z.dev).req (bus rows).io (handshakes rows).requests (offering_in rows does.serving) (offering_in rows (serving_of s (run_state s rows) z.dev))) (sym same)
-          (does.alike m (subst (λ (z : TargetDef). IsOwnConnection rows z.dev m) same own) rst);
+          subst (λ (z : TargetDef). AreAlikeIn rows z.dev (offering_in rows x.serving) (offering_in rows (serving_of s (run_state s rows) z.dev))) (sym same)
+          (alike_itself (begun rows) (pace_of (told rows 0) None).pulsed (drives rows dev).req (bus rows).io (handshakes rows).requests (offering_in rows x.serving));
     })
     fault
-    (does.does x (λ i. let v : TargetValue = c.self.view_is i in v.itself.own) refl
+    (does x (λ i. let v : TargetValue = c.self.view_is i in v.itself.own) refl
     ∙ (λ i. plain_by (sym same i) (told rows (sym same i).dev) x))
     ∙ (λ i. due s rows (same i).dev)

@@ -1,20 +1,20 @@
-use Rattle.std.proofs.Common.{◌∙◌, ◌∷◌, sym, subst, Option}
-use Rattle.std.proofs.lemmas.Bool.{eqb-true}
-use Rattle.std.proofs.lemmas.List.{nil_from_length}
-use Rattle.bus_trace.specs.declared.connection.Connection.{Connection}
-use Rattle.scenario.specs.declared.value.TargetDef.{TargetDef}
-use Rattle.disk_target.specs.Bytes.{IsOthers, IsOthersIf}
+use Rattle.std.proofs.Common.{◌∷◌, subst, List}
+use Rattle.bus_base.specs.declared.Event.{Event}
+use Rattle.bus_dialogue.specs.Hearing.{hearing}
+use Rattle.bus_dialogue.specs.declared.exchange.Hearing.{Hearing}
+use Rattle.disk_target.specs.Bytes.{StandsInOwn}
+use Rattle.disk_target.specs.Knowns.{IsQuiet}
+use Rattle.target_course.specs.Negotiated.{events_of_row}
+use Rattle.disk_target.specs.Targets.{TargetValue}
 use Rattle.disk_target.proofs.target.Target.follow.Goals as goal
 
-pub returns-in-Some-Some-clause-trace : goal.returns-in-Some-Some-clause-trace
-returns-in-Some-Some-clause-trace c = λ s rows fits o devices tied time labels shown_is h.
+pub returns-then-stands_in_own-clause-trace : goal.returns-then-stands_in_own-clause-trace
+returns-then-stands_in_own-clause-trace c = λ s rows fits o devices tied time labels shown_is h.
     let row = c.args.row.now in
-    let dev = c.self.inside.def.dev in
-    let view = c.view-view.ensures.trace (row ∷ rows) o in
-    let was = subst (λ (x : Option Connection). IsOthersIf rows dev x) c.in-Some-Some.is-0 (c.other_before.ensures rows row view) in
-    let stands = subst (λ (x : Option Connection). IsOthersIf (row ∷ rows) dev x) c.in-Some-Some.is-1 (c.other_connection.ensures (row ∷ rows) view) in
-    let empty = nil_from_length c.args.shown.now (eqb-true _ _ (sym c.is_empty.ensures ∙ c.if-is_empty.true)) in
-    c.follow_others.ensures.trace s rows c.in-Some-Some.field-0-0 c.in-Some-Some.field-0-1 fits o devices tied
-    (subst (λ (t : TargetDef). IsOthers rows t.dev c.in-Some-Some.field-0-0) (λ i. (c.self.view_is i).def) was)
-    (subst (λ (t : TargetDef). IsOthers (row ∷ rows) t.dev c.in-Some-Some.field-0-1) (λ i. (c.self.view_is i).def) stands)
-    shown_is (sym shown_is ∙ empty) h
+    let course = c.self.inside.course in
+    let view = c.view.ensures.trace (row ∷ rows) o in
+    c.follow_quiet.ensures.trace s rows fits o devices tied time
+    (subst (λ (x : TargetValue). StandsInOwn rows row x.def.dev) c.self.view_is (c.stands_in_own.ensures rows row view c.if-stands_in_own.true))
+    (subst (λ (x : TargetValue). IsQuiet (hearing rows row) x.course (events_of_row s rows row)) c.self.view_is
+    (subst (λ (l : List Event). IsQuiet (hearing rows row) course l) shown_is
+    (subst (λ (w : Hearing). IsQuiet w course c.args.shown.now) (c.hearing.ensures (row ∷ rows) o) (c.is_quiet.ensures c.if-is_quiet.true)))) h

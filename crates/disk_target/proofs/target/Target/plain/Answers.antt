@@ -1,6 +1,4 @@
-use Rattle.std.proofs.Common.{◌≡◌, ◌∙◌, refl, sym}
-use Rattle.bus_due.specs.RunSteps.{run_state}
-use Rattle.bus_due.specs.Sights.{serving_of}
+use Rattle.std.proofs.Common.{◌≡◌, ◌∙◌, sym}
 use Rattle.scenario.specs.declared.value.TargetDef.{TargetDef}
 use Rattle.scsi_device.specs.Told.{told}
 use Rattle.target_course.specs.Dues.{plain_by}
@@ -10,24 +8,15 @@ use Rattle.disk_target.proofs.Waiting.{waiting_is}
 use Rattle.disk_target.proofs.target.Target.plain.Goals as goal
 
 pub returns-then-is_waiting : goal.returns-then-is_waiting
-returns-then-is_waiting c = λ s rows n fits o d e able h own calm from.
+returns-then-is_waiting c = λ s rows n fits o d e able h own calm from i times serves.
     let t : TargetDef = c.args.self.now.def in
     let same : c.self.inside.def ≡ t = λ j. (c.self.view_is j).def in
-    record {
-      serving = serving_of s (run_state s rows) t.dev;
-      alike = λ m at rst. record { follows = λ z. refl; byte = λ z y. refl; to = λ z y w v. refl; wait = λ z y w v. refl };
-      does = λ i times serves. sym (waiting_is t (told rows t.dev) i ((λ j. is_waiting (told rows (sym same j).dev)) ∙ sym (c.is_waiting.ensures rows o) ∙ c.if-is_waiting.true));
-    }
+    sym (waiting_is t (told rows t.dev) i ((λ j. is_waiting (told rows (sym same j).dev)) ∙ sym (c.is_waiting.ensures rows o) ∙ c.if-is_waiting.true))
 
 pub returns-then-is_in_pulse : goal.returns-then-is_in_pulse
-returns-then-is_in_pulse c = λ s rows n fits o d e able h own calm from.
+returns-then-is_in_pulse c = λ s rows n fits o d e able h own calm from i times serves.
     let t : TargetDef = c.args.self.now.def in
     let same : c.self.inside.def ≡ t = λ j. (c.self.view_is j).def in
     let pulse = sym (c.is_in_pulse.ensures rows o) ∙ c.if-is_in_pulse.true in
-    record {
-      serving = serving_of s (run_state s rows) t.dev;
-      alike = λ m at rst. record { follows = λ z. refl; byte = λ z y. refl; to = λ z y w v. refl; wait = λ z y w v. refl };
-      does = λ i times serves.
-          c.pulse_end_due.ensures rows i o pulse (times ∙ (λ j. let v : TargetValue = sym c.self.view_is j in v.itself.own))
-          ∙ (λ j. plain_by (same j) (told rows (same j).dev) i);
-    }
+    c.pulse_end_due.ensures rows i o pulse (times ∙ (λ j. let v : TargetValue = sym c.self.view_is j in v.itself.own))
+    ∙ (λ j. plain_by (same j) (told rows (same j).dev) i)

@@ -8,12 +8,8 @@ use Rattle.bus_dialogue.specs.NextPhase.{leaving_by}
 use Rattle.bus_due.specs.RunState.{process_served}
 use Rattle.bus_due.specs.RunSteps.{run_state}
 use Rattle.bus_due.specs.Tasks.{given_of}
-use Rattle.scsi_device.specs.Heard.{instructions}
 use Rattle.target_course.specs.Courses.{CourseState, IsCourse, IsCourseOf, AreToldOf, events_of_target, name_of}
-use Rattle.target_course.specs.Gathered.{place_in_run}
 use Rattle.target_course.specs.Replies.{shows_run}
-use Rattle.target_course.proofs.CourseAgrees.{IsFront, front_heard}
-use Rattle.target_course.proofs.CourseRows.{heard_before}
 use Rattle.disk_target.specs.Bytes.{taken_by}
 use Rattle.disk_target.specs.Targets.{IsCourseIf}
 use Rattle.disk_target.specs.declared.turn.Turn.{Turn}
@@ -21,10 +17,8 @@ use Rattle.disk_target.specs.Turns.{IsTurnIf, IsTurnIn, is_opening_by}
 use Rattle.disk_target.proofs.Data.{id_is, served_of}
 use Rattle.disk_target.proofs.Knowing.{sources}
 use Rattle.disk_target.proofs.Lines.{line_of_process}
-use Rattle.disk_target.proofs.RowOwn.{Knows, knows}
-use Rattle.disk_target.proofs.RowServed.{block_few}
 use Rattle.disk_target.proofs.Servables.{in_time_before, servable}
-use Rattle.disk_target.proofs.Turning.{byte_begins, byte_closed, byte_phase, left_so, left_with, place_so, process_so, run_known, target_shows}
+use Rattle.disk_target.proofs.Turning.{left_so, left_with, process_so, run_known, target_shows}
 use Rattle.disk_target.proofs.target.Target.turn_by.Goals as goal
 
 one : (rows : List Row) (m n : Connection) → connection rows ≡ Some m → connection rows ≡ Some n → n ≡ m
@@ -34,7 +28,6 @@ pub returns-clause-trace : goal.returns-clause-trace
 returns-clause-trace c = λ s rows row fits o devices tied time h own calm course_is from.
     let y = c.requires.known in
     let d = c.args.self.now.def in
-    let same : c.self.inside.def ≡ d = λ i. (c.self.view_is i).def in
     let x = c.args.course.now in
     let n = c.args.connection.now in
     let hears = c.hearing-hearing.ensures (row ∷ rows) o in
@@ -50,19 +43,18 @@ returns-clause-trace c = λ s rows row fits o devices tied time h own calm cours
     let given = given_of s (run_state s rows) in
     let serving = y.serving given in
     let leaving = c.leaving_by.ensures.exact given ∙ (λ i. leaving_by (serving i) (hears i).begun (hears i).change.before) in
-    let place = c.place_in_run.ensures ∙ (λ i. place_in_run (same i).disc (serving i).task (c.self.view_is i).answers) in
-    let process = c.process_known.ensures ∙ process_so s rows row n x p tied own.stands calm here in
-    let front : IsFront s (run_state s rows) n (instructions s rows) = front_heard s rows n p (heard_before s rows row tied.heard_are) own.stands calm in
+    let process = c.sent_by-sent.ensures.process ∙ process_so s rows row n x p tied own.stands calm here in
+    let sent = c.sent_by-sent.ensures.trace s rows row n fits devices tied time h own calm course_is from in
     let unit = λ (r : Process) (is : process_served s (run_state s rows) ≡ Some r) (named : x.named ≡ Some (name_of r)).
     let line = line_of_process s r.id r (λ m y e. c.scenarios_fit_the_bus.ensures.commands s m y fits e) (served_of s rows r is) in
-    y.named (name_of r) named line.unit in
+    c.sent_by-sent.ensures.unit ∙ y.named (name_of r) named line.unit in
     let it : Turn = record {
-      process = c.process_known.result;
-      unit = c.args.known.now.unit;
+      process = c.sent_by-sent.result.process;
+      unit = c.sent_by-sent.result.unit;
       from = c.args.known.now.from;
       aborts = c.is_some.result;
       leaving = c.leaving_by.result;
-      place = c.place_in_run.result;
+      place = c.sent_by-sent.result.place;
       opening = c.is_opening.result;
       plan = f.plan;
       shown = c.shown.result;
@@ -78,15 +70,10 @@ returns-clause-trace c = λ s rows row fits o devices tied time h own calm cours
     } in
     record {
       course = subst (λ (y : Option CourseState). IsTurnIf s rows row d y it) (sym course_is) (λ m own' calm'. subst (λ (y : Connection). IsTurnIn s rows row d y x it) (one rows m n own'.stands own.stands) turn);
-      left = λ m l own' stands left. left_with s rows d.dev c.process_known.result c.leaving_by.result _ process leaving (left_so s rows row n l d x f _ p q w tied own h.line.target_is calm stands left here told refl);
+      left = λ m l own' stands left. left_with s rows d.dev c.sent_by-sent.result.process c.leaving_by.result _ process leaving (left_so s rows row n l d x f _ p q w tied own h.line.target_is calm stands left here told refl);
       hears = λ m own' calm'. c.is_some.ensures ∙ (λ i. is_some (c.plan.ensures i).said.aborts) ∙ (λ i. is_some (here.plan_is i).said.aborts);
-      sends = λ m own' brings. (process, place ∙ place_so s rows row n d x f c.args.self.now.answers p w tied own h.line.target_is calm brings here told h.answers_is);
-      at_unit = λ m r own' brings is.
-          let begins = byte_begins s rows row n p w tied.written_are own.stands brings in
-          let closed = byte_closed s (run_state s rows) (byte_phase s rows row p brings) begins in
-          let few = block_few s r.id r (λ m y e. c.scenarios_fit_the_bus.ensures.commands s m y fits e) (served_of s rows r is) in
-          let k : Knows s rows n x r = knows s rows n x r front here is few (λ e. closed) in
-          unit r is k.named;
+      sends = sent.sends;
+      at_unit = sent.at_unit;
       shows = λ m own' calm' after'.
           let shows = c.shown.ensures.trace s rows row d f devices hears after own h.line.target_is tied.heard_are calm after' told (y.serving given) course in
           record {

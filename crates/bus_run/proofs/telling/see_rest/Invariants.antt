@@ -1,0 +1,13 @@
+use Rattle.std.proofs.Common.{◌≡◌, ◌∷◌, [], List, Some}
+use Rattle.bus_trace.specs.declared.Row.{Row}
+use Rattle.scenario.specs.Value.{ScenarioValue}
+use Rattle.bus_run.specs.Label.{process_known}
+use Rattle.bus_run.specs.Places.{AreKnownBut}
+use Rattle.bus_run.specs.Seen.{AreSeen}
+use Rattle.bus_run.specs.Shown.{events_shown}
+use Rattle.bus_run.specs.Standing.{IsKept}
+use Rattle.bus_run.proofs.telling.see_rest.Given as goal
+
+abbrev pub invariant-loop-dev : goal.invariant-loop-dev
+invariant-loop-dev g l =
+    (s : ScenarioValue) (rows : List Row) → AreSeen s (l.row ∷ rows) l.observer → events_shown s rows l.row ≡ [] → IsKept rows l.row l.ends → l.label ≡ process_known s (l.row ∷ rows) → AreKnownBut g.D.Device.IsOf s rows l.row 0 (Some l.ends.initiator) l.initial.places → AreKnownBut g.D.Device.IsOf s rows l.row l.dev (Some l.ends.initiator) l.places
