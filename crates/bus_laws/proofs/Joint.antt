@@ -20,13 +20,3 @@ own_time_le p t d (Drives l) e h =
       | inr ne ↦ let w = own_time_other p t d l e ne in omega arith
     ]
 own_time_le p t d (Fault bit) e h = let w = own_time_fault p t d bit e in omega arith
-
-pub always_next : (s : ScenarioValue) (p : List Row) (row : Row) → row.dev < 8 → CalmStanding s p → NextCalmRow s p row → connection (row ∷ p) ≡ None → CalmStanding s (row ∷ p)
-always_next s p row lt a g alone = record {
-  devices = (lt, a.devices);
-  lawful = (a.lawful, (row_none p row).0 g.obeys);
-  ahead = g.ahead alone;
-  past = λ on. let w = a.past on in let o = g.order in since_line_le on row p (omega arith);
-  seen_past = λ see. let w = a.seen_past see in let o = g.order in since_le see row p (omega arith);
-  own_past = λ e. let w = a.own_past e in let o = g.order in own_time_le p row.time row.dev row.kind e (omega arith);
-}

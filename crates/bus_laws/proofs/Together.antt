@@ -114,6 +114,27 @@ next_row s p row st m g = record {
   here = g.here;
 }
 
+-- While no device drives RST, a row that is due without resets is the first that is.
+pub calm_first : (s : ScenarioValue) (p : List Row) (row : Row) → Standing s p → (bus p).rst ≡ false → IsLeast (due s p) 8 row
+    → unreset_due s p row.dev ≡ (let x : Due = record { time = row.time; kind = row.kind } in Some x) → IsLeast (unreset_due s p) 8 row
+calm_first s p row st calm m is =
+    let off = off_at p calm in
+    record {
+      inside = m.inside;
+      is_due = is;
+      first = λ d lt y e.
+          let z = comes_by (reset_due s p d) (unreset_due s p d) y e in
+          let w = m.first d lt z.x (due_calm s p d st.devices lt (off d lt) ∙ z.is) in
+          let l = z.le in
+          omega arith;
+      highest = λ d lt y e t.
+          let z = comes_by (reset_due s p d) (unreset_due s p d) y e in
+          let g = due_calm s p d st.devices lt (off d lt) ∙ z.is in
+          let w = m.first d lt z.x g in
+          let l = z.le in
+          m.highest d lt z.x g (omega arith);
+    }
+
 -- While no device drives RST the next row is the reset of a device, or the first that is due without resets.
 pub data ResetOrCalm (s : ScenarioValue) (p : List Row) (row : Row) : Type 0 where
   by_reset : row ≡ row_of_lines row.time row.dev only_rst → ResetOrCalm s p row
@@ -125,21 +146,7 @@ reset_or_calm s p row st calm m =
     let off = off_at p calm in
     elim (one_of (reset_due s p row.dev) (unreset_due s p row.dev) x (sym (due_calm s p row.dev st.devices m.inside (off row.dev m.inside)) ∙ m.is_due)) [
       | inl r ↦ by_reset (row_is row only_rst (own_reset_is s p row.dev x r).kind_is)
-      | inr c ↦ by_calm (always_is s p st calm) (record {
-        inside = m.inside;
-        is_due = c;
-        first = λ d lt y e.
-            let z = comes_by (reset_due s p d) (unreset_due s p d) y e in
-            let w = m.first d lt z.x (due_calm s p d st.devices lt (off d lt) ∙ z.is) in
-            let l = z.le in
-            omega arith;
-        highest = λ d lt y e t.
-            let z = comes_by (reset_due s p d) (unreset_due s p d) y e in
-            let g = due_calm s p d st.devices lt (off d lt) ∙ z.is in
-            let w = m.first d lt z.x g in
-            let l = z.le in
-            m.highest d lt z.x g (omega arith);
-      })
+      | inr c ↦ by_calm (always_is s p st calm) (calm_first s p row st calm m c)
     ]
 
 calm_or_reset : (s : ScenarioValue) (p : List Row) (row : Row) → Standing s p → (bus p).rst ≡ false → IsLeast (due s p) 8 row → (CalmStanding s p → IsLeast (unreset_due s p) 8 row → NextCalmRow s p row) → NextRow s p row

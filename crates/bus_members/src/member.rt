@@ -101,7 +101,7 @@ impl Device for Member {
     fn see_in_others(&mut self, observer: &Observer, row: &Row) {
         match self {
             Member::Initiator(host) => host.see_in_others(observer, row),
-            Member::Target(target) => target.see_in_others(observer, row),
+            Member::Target(target) => target.see_in_others(observer),
         }
     }
 }

@@ -9,16 +9,18 @@ ghost use Rattle.bus_lines.specs.Timely.{IsTimely};
 ghost use Rattle.scenario.specs.Value.{ScenarioValue};
 ghost use Rattle.bus_dialogue.specs.Observer.{IsObserverOf};
 ghost use Rattle.bus_due.specs.Next.{due, least, next};
+ghost use Rattle.bus_due.specs.Plain.{AreOfDevices};
 ghost use Rattle.bus_due.specs.PlainDue.{IsLinked};
 ghost use Rattle.bus_due.specs.RunSteps.{run_state};
 ghost use Rattle.scsi_device.specs.Told.{first_fault};
 ghost use Rattle.bus_run.specs.Away.{comes_first, sooner_row, is_end_if, due_besides, IsAway, IsAwayIf};
 ghost use Rattle.bus_run.specs.Places.{IsIn, AreIn};
 ghost use Rattle.bus_run.specs.Seen.{AreSeen};
+ghost use Rattle.bus_run.specs.Standing.{IsKept};
 
 use crate::away::Away;
 use crate::device::Device;
-use crate::standing::{connection_kept, is_end};
+use crate::standing::is_end;
 use bus_base::{Dev, Steps};
 use bus_dialogue::Observer;
 use bus_reactions::Due;
@@ -261,14 +263,15 @@ pub fn next<D: Device, L: Ledger>(
     first_by(first, away, places, observer, fault);
 }
 
-/// The last row, of this device, which the observer has seen: what is due of the devices that are no ends stays known
-/// where an end made the row, and the connection and RST stay as they are.
-pub fn see_away(away: &mut Option<Away>, observer: &Observer, dev: Dev)
-    ensures { (s : ScenarioValue) (rows : List Row) (row : Row) → AreSeen s (row ∷ rows) observer.now
-        → dev ≡ row.dev → IsAwayIf s rows away.old → IsAwayIf s (row ∷ rows) away.new }
+/// The last row, which kept this connection: what is due of the devices that are no ends stays known where an end made
+/// the row, and the connection and RST stay as they are.
+pub fn see_away(away: &mut Option<Away>, kept: &Option<Connection>)
+    ensures { (s : ScenarioValue) (rows : List Row) (row : Row) → AreOfDevices (row ∷ rows)
+        → IfSome kept.now (λ n. IsKept rows row n)
+        → IsAwayIf s rows away.old → IsAwayIf s (row ∷ rows) away.new }
 {
     devices_know_enough();
-    if connection_kept(observer, dev).is_none() {
+    if kept.is_none() {
         *away = None;
     }
 }

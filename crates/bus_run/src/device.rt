@@ -1,5 +1,5 @@
 //! A device of the bus, as a run has it.
-ghost use Rattle.std.specs.Prelude.{ℕ, ◌≡◌, ◌<◌, ◌≢◌, ◌^◌, ◌∷◌, [], true, false, is_some, List, Some};
+ghost use Rattle.std.specs.Prelude.{ℕ, ◌≡◌, ◌<◌, ◌≢◌, ◌^◌, ◌∷◌, [], true, false, is_some, List, Some, None};
 ghost use Rattle.bus_trace.specs.declared.Row.{Row};
 ghost use Rattle.bus_trace.specs.declared.connection.Connection.{Connection};
 ghost use Rattle.bus_trace.specs.Terms.{connection};
@@ -57,15 +57,15 @@ pub trait Device: Drop {
         ensures { (s : ScenarioValue) (rows : List Row) (dev : ℕ) (n : Connection) → seams s rows ≡ true
             → IsOf s rows dev self.now → connection rows ≡ Some n → n.initiator ≡ dev → result ≡ process_known s rows };
 
-    /// One more row, of any device, which shows these events, the newest first; the observer has seen it. `label` is
-    /// the process of the connection that stands after it, as the initiator of that connection knows it; to this
+    /// One more row, of any device, which shows these events, the newest first; the observer has seen it. Where it
+    /// begins a connection, `label` is the process of that, as the initiator of the connection knows it; to this
     /// initiator itself it says nothing.
     fn see(&mut self, observer: &Observer, row: &Row, label: ProcId, shown: &[Event])
         requires device { row.now.dev < 8 }
         requires timely { IsTimely (2 ^ 63) observer.now.view }
         ensures { (s : ScenarioValue) (rows : List Row) (dev : ℕ) → AreSeen s (row.now ∷ rows) observer.now
             → shown.now ≡ events_shown s rows row.now
-            → ((n : Connection) → connection (row.now ∷ rows) ≡ Some n → n.initiator ≢ dev
+            → (connection rows ≡ None → (n : Connection) → connection (row.now ∷ rows) ≡ Some n → n.initiator ≢ dev
             → label ≡ process_known s (row.now ∷ rows))
             → IsOf s rows dev self.old → IsOf s (row.now ∷ rows) dev self.new };
 

@@ -7,19 +7,20 @@ ghost use Rattle.bus_lines.specs.Timely.{IsTimely};
 ghost use Rattle.scenario.specs.Value.{ScenarioValue};
 ghost use Rattle.bus_due.specs.RunSteps.{run_state};
 ghost use Rattle.bus_due.specs.Telling.{target_events, initiator_events};
-ghost use Rattle.bus_run.specs.Label.{process_known};
+ghost use Rattle.bus_run.specs.Label.{process_known, id_or_none};
 ghost use Rattle.bus_run.specs.Places.{IsIn};
 ghost use Rattle.bus_run.specs.Seams.{seams};
 ghost use Rattle.bus_run.specs.Seen.{AreSeen};
 ghost use Rattle.bus_run.specs.Shown.{shown_events, reading, events_shown, is_left};
-ghost use Rattle.bus_run.specs.Standing.{IsKept, is_end};
+ghost use Rattle.bus_run.specs.Standing.{IsKept};
 
 use crate::device::Device;
 use crate::laws::rows_tie_devices;
 use crate::shown::Shown;
+use crate::standing::is_end;
 use bus_base::{Dev, Event, ProcId};
 use bus_dialogue::Observer;
-use bus_trace::Row;
+use bus_trace::{Connection, Row};
 
 /// What the device in this place shows with the last row, which the observer has seen and it has not. No device shows
 /// nothing.
@@ -45,6 +46,16 @@ pub fn shown_in<D: Device>(place: &Option<D>, observer: &Observer) -> Shown
     }
 }
 
+/// The process of a connection of which nothing is known.
+pub fn no_process() -> ProcId
+    ensures { result ≡ id_or_none None }
+{
+    ProcId {
+        command: 0,
+        sense: false,
+    }
+}
+
 /// The process of the connection of which the device in this place is the initiator.
 pub fn process_in<D: Device>(place: &Option<D>) -> ProcId
     ensures { (s : ScenarioValue) (rows : List Row) (n : Connection) → seams s rows ≡ true
@@ -52,10 +63,7 @@ pub fn process_in<D: Device>(place: &Option<D>) -> ProcId
 {
     rows_tie_devices();
     match place {
-        None => ProcId {
-            command: 0,
-            sense: false,
-        },
+        None => no_process(),
         Some(device) => device.process(),
     }
 }
@@ -72,7 +80,7 @@ fn see_place<D: Device>(
     requires timely { IsTimely (2 ^ 63) observer.now.view }
     ensures { (s : ScenarioValue) (rows : List Row) (dev : ℕ) → AreSeen s (row.now ∷ rows) observer.now
         → shown.now ≡ events_shown s rows row.now
-        → ((n : Connection) → connection (row.now ∷ rows) ≡ Some n → n.initiator ≢ dev
+        → (connection rows ≡ None → (n : Connection) → connection (row.now ∷ rows) ≡ Some n → n.initiator ≢ dev
         → label ≡ process_known s (row.now ∷ rows))
         → IsIn D.IsOf s rows dev place.old → IsIn D.IsOf s (row.now ∷ rows) dev place.new }
 {
@@ -96,7 +104,7 @@ pub fn see_in<D: Device>(
     requires timely { IsTimely (2 ^ 63) observer.now.view }
     ensures seen { (s : ScenarioValue) (rows : List Row) → AreSeen s (row.now ∷ rows) observer.now
         → shown.now ≡ events_shown s rows row.now
-        → ((n : Connection) → connection (row.now ∷ rows) ≡ Some n → n.initiator ≢ dev
+        → (connection rows ≡ None → (n : Connection) → connection (row.now ∷ rows) ≡ Some n → n.initiator ≢ dev
         → label ≡ process_known s (row.now ∷ rows))
         → IsIn D.IsOf s rows dev (slice_index_or places.old dev None)
         → IsIn D.IsOf s (row.now ∷ rows) dev (slice_index_or places.new dev None) }
@@ -106,34 +114,49 @@ pub fn see_in<D: Device>(
     see_place(&mut places[dev as usize], observer, row, label, shown);
 }
 
-// The device in a place, which is no end of a connection, is told of a row of one of its ends, which shows nothing.
-fn see_place_in_others<D: Device>(place: &mut Option<D>, observer: &Observer, row: &Row)
+// The device in the place of this ID is told of a row of one of these ends, which shows nothing. To an end itself the
+// process of the connection is no news.
+fn see_place_kept<D: Device>(
+    place: &mut Option<D>,
+    ends: &Connection,
+    dev: Dev,
+    observer: &Observer,
+    row: &Row,
+)
     requires device { row.now.dev < 8 }
     requires timely { IsTimely (2 ^ 63) observer.now.view }
-    ensures { (s : ScenarioValue) (rows : List Row) (dev : ℕ) (n : Connection)
-        → AreSeen s (row.now ∷ rows) observer.now → events_shown s rows row.now ≡ []
-        → IsKept rows row.now n → is_end n dev ≡ false
+    ensures { (s : ScenarioValue) (rows : List Row) → AreSeen s (row.now ∷ rows) observer.now
+        → events_shown s rows row.now ≡ [] → IsKept rows row.now ends.now
         → IsIn D.IsOf s rows dev place.old → IsIn D.IsOf s (row.now ∷ rows) dev place.new }
 {
     if let Some(device) = place {
-        device.see_in_others(observer, row);
+        if is_end(ends, dev) {
+            device.see(observer, row, no_process(), &[]);
+        } else {
+            device.see_in_others(observer, row);
+        }
     }
 }
 
-/// The device in the place of this ID, which is no end of a connection, is told of a row of one of its ends, and no
-/// other device; the row shows nothing.
-pub fn see_in_others<D: Device>(places: &mut [Option<D>], dev: Dev, observer: &Observer, row: &Row)
+/// The device in the place of this ID is told of a row of one of these ends, which keeps their connection and shows
+/// nothing, and no other device.
+pub fn see_kept_in<D: Device>(
+    places: &mut [Option<D>],
+    ends: &Connection,
+    dev: Dev,
+    observer: &Observer,
+    row: &Row,
+)
     requires eight { length places.old ≡ 8 }
     requires place { dev < 8 }
     requires device { row.now.dev < 8 }
     requires timely { IsTimely (2 ^ 63) observer.now.view }
-    ensures seen { (s : ScenarioValue) (rows : List Row) (n : Connection)
-        → AreSeen s (row.now ∷ rows) observer.now → events_shown s rows row.now ≡ []
-        → IsKept rows row.now n → is_end n dev ≡ false
+    ensures seen { (s : ScenarioValue) (rows : List Row) → AreSeen s (row.now ∷ rows) observer.now
+        → events_shown s rows row.now ≡ [] → IsKept rows row.now ends.now
         → IsIn D.IsOf s rows dev (slice_index_or places.old dev None)
         → IsIn D.IsOf s (row.now ∷ rows) dev (slice_index_or places.new dev None) }
     ensures others { (other : ℕ) → other ≢ dev
         → slice_index_or places.new other None ≡ slice_index_or places.old other None }
 {
-    see_place_in_others(&mut places[dev as usize], observer, row);
+    see_place_kept(&mut places[dev as usize], ends, dev, observer, row);
 }

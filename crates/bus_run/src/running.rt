@@ -11,6 +11,7 @@ ghost use Rattle.bus_due.specs.Next.{next, IsPrompt, IsEnded};
 ghost use Rattle.bus_due.specs.Plain.{AreOfDevices};
 ghost use Rattle.bus_due.specs.RunSteps.{run_state};
 ghost use Rattle.bus_run.specs.declared.running.RunEnd.TheVariants.{NoMemory, Unfinished};
+ghost use Rattle.bus_run.specs.Away.{IsAwayIf};
 ghost use Rattle.bus_run.specs.Places.{AreIn};
 ghost use Rattle.bus_run.specs.Runs.{AreEarly, HasSeenEarly, IsLong};
 ghost use Rattle.bus_run.specs.Seams.{SeamsHold};
@@ -22,6 +23,7 @@ use crate::away::Away;
 use crate::device::Device;
 use crate::faults::Faults;
 use crate::shown::Shown;
+use crate::standing::connection_kept;
 use crate::telling::{row_shown, see_all};
 use crate::trace::Trace;
 use bus_base::{NoMemory, Ns, Steps};
@@ -62,8 +64,14 @@ fn observers_are_timely(observer: &Observer)
     views_are_timely();
 }
 
-// All devices are told of a row, of which the observer has not been told yet; and the events that it shows.
-fn tell<D: Device>(places: &mut [Option<D>], observer: &mut Observer, row: &Row) -> Shown
+// All devices are told of a row, of which the observer has not been told yet; and the events that it shows. What is due
+// of the devices that are no ends of a connection stays known where the row keeps it.
+fn tell<D: Device>(
+    places: &mut [Option<D>],
+    away: &mut Option<Away>,
+    observer: &mut Observer,
+    row: &Row,
+) -> Shown
     requires eight { length places.old ≡ 8 }
     requires device { row.now.dev < 8 }
     requires early { row.now.time < 2 ^ 62 }
@@ -74,11 +82,15 @@ fn tell<D: Device>(places: &mut [Option<D>], observer: &mut Observer, row: &Row)
         → AreIn D.IsOf s rows places.old → shown_events result ≡ events_shown s rows row.now }
     ensures places { (s : ScenarioValue) (rows : List Row) → AreSeen s (row.now ∷ rows) observer.new
         → AreIn D.IsOf s rows places.old → AreIn D.IsOf s (row.now ∷ rows) places.new }
+    ensures away { (s : ScenarioValue) (rows : List Row) → AreSeen s (row.now ∷ rows) observer.new
+        → IsAwayIf s rows away.old → IsAwayIf s (row.now ∷ rows) away.new }
 {
     observer.step(row);
     observers_are_timely(observer);
+    let kept = connection_kept(observer, row.dev);
     let shown = row_shown(places, observer, row);
-    see_all(places, observer, row, shown.as_slice());
+    see_all(places, &kept, observer, row, shown.as_slice());
+    see_away(away, &kept);
     shown
 }
 
@@ -140,8 +152,7 @@ pub fn run<D: Device, L: Ledger>(
         if row.time >= END {
             return Err(RunEnd::Unfinished);
         }
-        let shown = tell(places, &mut observer, row);
-        see_away(&mut away, &observer, row.dev);
+        let shown = tell(places, &mut away, &mut observer, row);
         faults.see(row.kind);
         trace.add(row, shown)?;
     }

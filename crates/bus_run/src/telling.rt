@@ -1,11 +1,11 @@
 //! All devices are told of a row.
-ghost use Rattle.std.specs.Prelude.{ℕ, ◌≡◌, ◌≢◌, ◌<◌, ◌+◌, ◌^◌, ◌∷◌, [], true, false, List, Option, Some, None, length, slice_index_or};
+ghost use Rattle.std.specs.Prelude.{ℕ, ◌≡◌, ◌≢◌, ◌<◌, ◌+◌, ◌^◌, ◌∷◌, [], true, false, List, Option, Some, None, IfSome, length, slice_index_or};
 ghost use Rattle.bus_trace.specs.declared.Row.{Row};
 ghost use Rattle.bus_trace.specs.declared.connection.Connection.{Connection};
 ghost use Rattle.bus_trace.specs.Terms.{connection};
 ghost use Rattle.bus_lines.specs.Timely.{IsTimely};
 ghost use Rattle.scenario.specs.Value.{ScenarioValue};
-ghost use Rattle.bus_run.specs.Label.{process_known, id_or_none};
+ghost use Rattle.bus_run.specs.Label.{process_known};
 ghost use Rattle.bus_run.specs.Places.{AreIn, is_one, AreKnownBut};
 ghost use Rattle.bus_run.specs.Seen.{AreSeen};
 ghost use Rattle.bus_run.specs.Shown.{shown_events, reading, events_shown, is_left, teller, reset_events};
@@ -13,9 +13,8 @@ ghost use Rattle.bus_run.specs.Standing.{IsKept};
 
 use crate::device::Device;
 use crate::laws::rows_tie_devices;
-use crate::places::{process_in, see_in, see_in_others, shown_in};
+use crate::places::{no_process, process_in, see_in, see_kept_in, shown_in};
 use crate::shown::Shown;
-use crate::standing::{connection_kept, is_end};
 use bus_base::{Dev, Event, ProcId};
 use bus_dialogue::Observer;
 use bus_due::{hearings_are_plain, kept_is_plain};
@@ -135,16 +134,6 @@ fn see_others<D: Device>(
     }
 }
 
-// The process of a connection of which nothing is known.
-fn no_process() -> ProcId
-    ensures { result ≡ id_or_none None }
-{
-    ProcId {
-        command: 0,
-        sense: false,
-    }
-}
-
 // The initiator of these ends, whose connection stands after a row, is told of that; the process of the connection, as
 // it knows it then.
 fn see_initiator<D: Device>(
@@ -170,15 +159,13 @@ fn see_initiator<D: Device>(
     process_in(&places[first as usize])
 }
 
-// The device in the place of this ID is told of a row of one of these ends, which shows nothing, unless it is their
-// initiator, which was told of it first.
+// The device in the place of this ID is told of a row of one of these ends, which shows nothing.
 fn see_beside<D: Device>(
     places: &mut [Option<D>],
     ends: &Connection,
     dev: Dev,
     observer: &Observer,
     row: &Row,
-    label: ProcId,
 )
     requires eight { length places.old ≡ 8 }
     requires place { dev < 8 }
@@ -186,45 +173,23 @@ fn see_beside<D: Device>(
     requires timely { IsTimely (2 ^ 63) observer.now.view }
     ensures { (s : ScenarioValue) (rows : List Row) → AreSeen s (row.now ∷ rows) observer.now
         → events_shown s rows row.now ≡ [] → IsKept rows row.now ends.now
-        → label ≡ process_known s (row.now ∷ rows)
-        → AreKnownBut D.IsOf s rows row.now dev (Some ends.now.initiator) places.old
-        → AreKnownBut D.IsOf s rows row.now (dev + 1) (Some ends.now.initiator) places.new }
+        → AreKnownBut D.IsOf s rows row.now dev None places.old
+        → AreKnownBut D.IsOf s rows row.now (dev + 1) None places.new }
 {
-    if is_end(ends, dev) {
-        see_unless(
-            places,
-            Some(ends.initiator.get()),
-            dev,
-            observer,
-            row,
-            label,
-            &[],
-        );
-    } else {
-        see_in_others(places, dev, observer, row);
-    }
+    see_kept_in(places, ends, dev, observer, row);
 }
 
-// All devices are told of a row of one of these ends, which shows nothing, but for their initiator, which was told
-// of it first.
-fn see_rest<D: Device>(
-    places: &mut [Option<D>],
-    ends: &Connection,
-    observer: &Observer,
-    row: &Row,
-    label: ProcId,
-)
+// All devices are told of a row of one of these ends, which shows nothing.
+fn see_kept<D: Device>(places: &mut [Option<D>], ends: &Connection, observer: &Observer, row: &Row)
     requires eight { length places.old ≡ 8 }
     requires device { row.now.dev < 8 }
     requires timely { IsTimely (2 ^ 63) observer.now.view }
     ensures { (s : ScenarioValue) (rows : List Row) → AreSeen s (row.now ∷ rows) observer.now
         → events_shown s rows row.now ≡ [] → IsKept rows row.now ends.now
-        → label ≡ process_known s (row.now ∷ rows)
-        → AreKnownBut D.IsOf s rows row.now 0 (Some ends.now.initiator) places.old
-        → AreIn D.IsOf s (row.now ∷ rows) places.new }
+        → AreIn D.IsOf s rows places.old → AreIn D.IsOf s (row.now ∷ rows) places.new }
 {
     for dev in 0..8 {
-        see_beside(places, ends, dev, observer, row, label);
+        see_beside(places, ends, dev, observer, row);
     }
 }
 
@@ -249,21 +214,24 @@ fn see_any<D: Device>(places: &mut [Option<D>], observer: &Observer, row: &Row, 
 }
 
 /// All devices are told of a row, which shows these events, the newest first: the initiator of the connection that
-/// stands after it first, since the others are told what that knows to be its process. Most rows are of an end of a
-/// connection that stands before and after them, and show nothing; of these the other devices learn next to nothing.
-pub fn see_all<D: Device>(places: &mut [Option<D>], observer: &Observer, row: &Row, shown: &[Event])
+/// stands after it first, since the others are told what that knows to be its process. Most rows keep a connection, of
+/// which their device is an end, and show nothing; of these the other devices learn next to nothing.
+pub fn see_all<D: Device>(
+    places: &mut [Option<D>],
+    kept: &Option<Connection>,
+    observer: &Observer,
+    row: &Row,
+    shown: &[Event],
+)
     requires eight { length places.old ≡ 8 }
     requires device { row.now.dev < 8 }
     requires timely { IsTimely (2 ^ 63) observer.now.view }
     ensures { (s : ScenarioValue) (rows : List Row) → AreSeen s (row.now ∷ rows) observer.now
-        → shown.now ≡ events_shown s rows row.now
+        → shown.now ≡ events_shown s rows row.now → IfSome kept.now (λ n. IsKept rows row.now n)
         → AreIn D.IsOf s rows places.old → AreIn D.IsOf s (row.now ∷ rows) places.new }
 {
-    match connection_kept(observer, row.dev) {
-        Some(ends) if shown.is_empty() => {
-            let label = see_initiator(places, &ends, observer, row, shown);
-            see_rest(places, &ends, observer, row, label);
-        }
+    match *kept {
+        Some(ends) if shown.is_empty() => see_kept(places, &ends, observer, row),
         _ => see_any(places, observer, row, shown),
     }
 }

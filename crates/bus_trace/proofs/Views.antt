@@ -1,6 +1,7 @@
 -- A view and the rows that it was made from.
 use Rattle.std.proofs.Common.{◌≤◌, refl, ℕ, zero, suc, ◌+◌, ◌-◌, ◌≡◌, ◌≢◌, ◌<◌, Bool, true, false, List, ◌∷◌, ◌∙◌, sym, subst, arith, length, length-set}
-use Rattle.std.specs.Prelude.{slice_set, slice_index, nat_lt, if◌then◌else◌}
+use Rattle.std.specs.Prelude.{slice_set, slice_index, nat_lt, ◌&&◌, if◌then◌else◌}
+use Rattle.std.proofs.lemmas.Bool.{and_parts}
 use Rattle.std.proofs.lemmas.Bool.Decides.{nat_tests}
 use Rattle.bus_trace.proofs.Devices.{below_8}
 use Rattle.std.proofs.lemmas.Grind.{common_steps, elements}
@@ -8,7 +9,8 @@ use Rattle.bus_trace.specs.LineSet.{LineSet, union, line_of, data_of, same as sa
 use Rattle.bus_trace.specs.View.{View, union_below, driven_at, time_of_line, time_by_number, AreBefore, AreTimesBefore}
 use Rattle.bus_trace.specs.declared.line_times.LineTimes.{LineTimes}
 use Rattle.bus_trace.specs.declared.rows.Row.{Row}
-use Rattle.bus_trace.specs.Trace.{driven_after, IsViewOf, drives, bus, newer, since, times_after}
+use Rattle.bus_trace.specs.Changes.{same_hold, same_phase, same_stage}
+use Rattle.bus_trace.specs.Trace.{driven_after, IsViewOf, drives, bus, newer, newer_line, since, times_after}
 use Rattle.bus_trace.proofs.Ages.{newer_along, newer_lt, newer_le, if_le, since_line_of, line_bsy, line_sel, line_cd, line_io, line_msg, line_req, line_ack, line_atn, line_rst}
 
 -- what all devices drive
@@ -152,3 +154,26 @@ time_of_line-step time v was same new d t =
     (λ h. subst (λ (x : LineTimes). x.ack ≤ time) (sym t) (if_le (same_line v.present.ack new.present.ack) v.times.ack time h))
     (λ h. subst (λ (x : LineTimes). x.atn ≤ time) (sym t) (if_le (same_line v.present.atn new.present.atn) v.times.atn time h))
     (λ h. subst (λ (x : LineTimes). x.rst ≤ time) (sym t) (if_le (same_line v.present.rst new.present.rst) v.times.rst time h))))
+
+-- ---- a row that changes REQ, ACK and data lines alone
+
+pub times_kept : (t : LineTimes) (before after : LineSet) (time : ℕ) → same_stage before after ≡ true
+    → record t { req = newer_line before.req after.req t.req time; ack = newer_line before.ack after.ack t.ack time } ≡ times_after t before after time
+times_kept t before after time h =
+    let all = and_parts (same_hold before after && same_phase before after) (same_line before.atn after.atn) h in
+    let both = and_parts (same_hold before after) (same_phase before after) all.0 in
+    let hold = and_parts (same_line before.bsy after.bsy && same_line before.sel after.sel) (same_line before.rst after.rst) both.0 in
+    let held = and_parts (same_line before.bsy after.bsy) (same_line before.sel after.sel) hold.0 in
+    let phase = and_parts (same_line before.msg after.msg && same_line before.cd after.cd) (same_line before.io after.io) both.1 in
+    let first = and_parts (same_line before.msg after.msg) (same_line before.cd after.cd) phase.0 in
+    λ i. record {
+      bsy = if sym held.0 i then t.bsy else time;
+      sel = if sym held.1 i then t.sel else time;
+      cd = if sym first.1 i then t.cd else time;
+      io = if sym phase.1 i then t.io else time;
+      msg = if sym first.0 i then t.msg else time;
+      req = newer_line before.req after.req t.req time;
+      ack = newer_line before.ack after.ack t.ack time;
+      atn = if sym all.1 i then t.atn else time;
+      rst = if sym hold.1 i then t.rst else time;
+    }

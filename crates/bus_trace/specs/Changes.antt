@@ -53,6 +53,10 @@ same_hold a b = same a.bsy b.bsy && same a.sel b.sel && same a.rst b.rst
 abbrev pub same_phase : LineSet → LineSet → Bool
 same_phase a b = same a.msg b.msg && same a.cd b.cd && same a.io b.io
 
+-- All lines but REQ, ACK and the data lines are the same.
+abbrev pub same_stage : LineSet → LineSet → Bool
+same_stage a b = same_hold a b && same_phase a b && same a.atn b.atn
+
 abbrev pub same_transfer : LineSet → LineSet → Bool
 same_transfer a b = same a.req b.req && same a.ack b.ack && same a.atn b.atn
 

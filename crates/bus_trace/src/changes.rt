@@ -1,6 +1,6 @@
 //! What a row changes.
 ghost use Rattle.std.specs.Prelude.{◌≡◌};
-ghost use Rattle.bus_trace.specs.Changes.{rises, falls, is_within, raises_none, raises_only, adds, releases_bsy, same_hold, same_phase, same_transfer, same_control, releases_data, drives_data};
+ghost use Rattle.bus_trace.specs.Changes.{rises, falls, is_within, raises_none, raises_only, adds, releases_bsy, same_hold, same_phase, same_stage, same_transfer, same_control, releases_data, drives_data};
 
 use crate::line_set::Lines;
 
@@ -87,6 +87,13 @@ pub fn same_phase(a: Lines, b: Lines) -> bool
     ensures { result ≡ same_phase a b }
 {
     a.msg() == b.msg() && a.cd() == b.cd() && a.io() == b.io()
+}
+
+/// Whether all lines but REQ, ACK and the data lines are the same.
+pub fn same_stage(a: Lines, b: Lines) -> bool
+    ensures { result ≡ same_stage a b }
+{
+    same_hold(a, b) && same_phase(a, b) && a.atn() == b.atn()
 }
 
 // Whether the lines of the transfer are the same.

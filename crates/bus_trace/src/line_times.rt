@@ -4,6 +4,7 @@ ghost use Rattle.std.specs.Prelude.{ℕ, suc, ◌≡◌, ◌<◌, ◌≤◌};
 ghost use Rattle.bus_trace.specs.View.{AreTimesBefore, time_by_number};
 ghost use Rattle.bus_trace.specs.Trace.{no_times, times_after, newer_line, free_time, phase_time};
 
+use crate::changes::same_stage;
 use crate::line_set::Lines;
 use bus_base::Ns;
 
@@ -49,7 +50,6 @@ impl LineTimes {
     }
 
     /// The times once the bus goes on from one set of lines to the next at this time.
-    #[inline(always)]
     pub fn after(&self, before: Lines, after: Lines, time: Ns) -> LineTimes
         ensures exact { result ≡ times_after self.now before after time }
         ensures timely { (end : ℕ) → AreTimesBefore end self.now → time < end → AreTimesBefore end result }
@@ -64,6 +64,20 @@ impl LineTimes {
             ack: newer_line(before.ack(), after.ack(), self.ack, time),
             atn: newer_line(before.atn(), after.atn(), self.atn, time),
             rst: newer_line(before.rst(), after.rst(), self.rst, time),
+        }
+    }
+
+    /// One more row, at this time, before and after which the bus has these lines. Most rows change REQ, ACK and data
+    /// lines alone.
+    pub fn step(&mut self, before: Lines, after: Lines, time: Ns)
+        ensures exact { self.new ≡ times_after self.old before after time }
+        ensures timely { (end : ℕ) → AreTimesBefore end self.old → time < end → AreTimesBefore end self.new }
+    {
+        if same_stage(before, after) {
+            self.req = newer_line(before.req(), after.req(), self.req, time);
+            self.ack = newer_line(before.ack(), after.ack(), self.ack, time);
+        } else {
+            *self = self.after(before, after, time);
         }
     }
 

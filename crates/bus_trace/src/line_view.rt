@@ -197,7 +197,7 @@ impl LineView {
         self.present = after;
         self.data_changed = renewed(before, after, self.data_changed, row.time);
         renew(&mut self.data_lines, before, after, row.time);
-        self.times = self.times.after(before, after, row.time);
+        self.times.step(before, after, row.time);
         self.last = row.time;
     }
 }

@@ -1,9 +1,9 @@
 -- A row that tells a target nothing but a byte of data leaves what it keeps of all processes but for the bytes that came, and in a
 -- connection of its own of the one that it serves, as it was.
 use Rattle.std.proofs.Common.{ℕ, ◌≡◌, ◌<◌, ◌∙◌, ◌⊎◌, inl, inr, Bool, true, false, List, [], ◌∷◌, refl, sym, subst, Option, Some, None}
-use Rattle.std.specs.Prelude.{if◌then◌else◌, ◌&&◌, ◌||◌, ◌==◌, not, is_some}
+use Rattle.std.specs.Prelude.{if◌then◌else◌, ◌&&◌, ◌||◌, ◌==◌, ◌%◌, not, is_some}
 use Rattle.std.proofs.lemmas.Bool.{and_parts}
-use Rattle.bus_trace.specs.Phases.{changes_phase, is_message_out}
+use Rattle.bus_trace.specs.Phases.{changes_phase, is_command, is_message_out}
 use Rattle.bus_trace.specs.Terms.{connection}
 use Rattle.bus_trace.specs.Trace.{bus, drives}
 use Rattle.bus_trace.specs.declared.Row.{Row}
@@ -17,6 +17,7 @@ use Rattle.disk_unit.specs.declared.media.Plan.{Plan as UnitPlan}
 use Rattle.disk_unit.specs.declared.unit.Reply.{Reply}
 use Rattle.bus_story.specs.BusState.{row_reading}
 use Rattle.bus_dialogue.specs.Hearing.{hearing}
+use Rattle.bus_dialogue.specs.NextPhase.{phase_of}
 use Rattle.bus_dialogue.specs.Planning.{plan_in_phase, plan_with_byte}
 use Rattle.bus_dialogue.specs.Exchange.{plan_after_message, struck_plan}
 use Rattle.bus_dialogue.specs.declared.exchange.Hearing.{Hearing}
@@ -28,8 +29,9 @@ use Rattle.bus_due.specs.Telling.{target_events}
 use Rattle.bus_due.specs.Plain.{IsPlain, AreOfDevices}
 use Rattle.bus_due.specs.RunSteps.{run_state}
 use Rattle.scsi_device.specs.Lines.{IsCommandLine}
-use Rattle.scsi_device.specs.Writes.{brings_byte}
-use Rattle.target_course.specs.Courses.{CourseState, IsCourse, IsCourseOf, course_after, course_told, events_of_target}
+use Rattle.scsi_device.specs.Heard.{is_selected}
+use Rattle.scsi_device.specs.Writes.{brings_byte, is_data_out}
+use Rattle.target_course.specs.Courses.{CourseState, IsCourse, IsCourseOf, block_with, course_after, course_told, events_of_target, name_in}
 use Rattle.target_course.specs.Gathered.{AreAllGathered, GatheredValue, IsGatheredOf}
 use Rattle.target_course.specs.Negotiated.{NegotiatedValue, IsNegotiatedOf, IsOpeningIf, met_by_opening, negotiated_seen}
 use Rattle.target_course.specs.Plans.{leaving_after, plan_at}
@@ -56,6 +58,10 @@ IsPlainFor s = (before : List Row) → AreOfDevices before → IsPlain s before 
 same_if : {X : Type 0} (x : X) (q : Bool) → (if q then x else x) ≡ x
 same_if x true = refl
 same_if x false = refl
+
+-- A byte of DATA OUT crosses.
+pub crosses_by : (w : Hearing) → brings_byte w ≡ true → w.crosses ≡ true
+crosses_by w brings = (and_parts w.crosses (is_data_out (phase_of w.change.before)) (and_parts (w.crosses && is_data_out (phase_of w.change.before)) (not w.change.after.rst) brings).0).0
 
 -- ---- what it counts and gathers
 
@@ -127,9 +133,29 @@ plan_stays false out p q e = refl
 plan_stays true false p q e = refl
 plan_stays true true p q e = absurd cc
 
-course_same : (w : Hearing) (l : Leaving) (c : CourseState) → c.known ≡ true → changes_phase w.change ≡ false → hears_message w ≡ false → w.fault ≡ false → course_after w l c ≡ c
-course_same w l c known changes unsaid fault =
-    (λ i. record (if known i then c else course_told w c) {
+-- Where no byte crosses and no phase changes, it hears nothing.
+none_of : (a b x y : Bool) → b ≡ false → (a && b && x && y) ≡ false
+none_of true b x y e = λ i. e i && x && y
+none_of false b x y e = refl
+
+abbrev told_by : Bool → List ℕ → Bool → CourseState → CourseState
+told_by opens block known c = record c { named = if opens then name_in c.plan.said else c.named; block = block; known = known }
+
+told_same : (w : Hearing) (c : CourseState) → c.known ≡ false → w.crosses ≡ false → changes_phase w.change ≡ false → course_told w c ≡ c
+told_same w c unknown still changes = λ i. told_by
+    (none_of w.begun (changes_phase w.change) (is_message_out w.change.before) (is_selected c.plan.cause) changes i)
+    (if changes i then (if is_command w.change.after then [] else c.block) else if still i && is_command w.change.before then block_with c.block (w.change.after.data_bits % 256) else c.block)
+    ((none_of w.begun (changes_phase w.change) (is_command w.change.before) (not c.plan.struck) changes ∙ sym unknown) i)
+    c
+
+heard_same : (w : Hearing) (c : CourseState) (known crosses : Bool) → c.known ≡ known → w.crosses ≡ crosses → (crosses ≡ true → known ≡ true) → changes_phase w.change ≡ false → (if c.known then c else course_told w c) ≡ c
+heard_same w c true crosses is crossed knows changes = λ i. if is i then c else course_told w c
+heard_same w c false true is crossed knows changes = let bad : false ≡ true = knows refl in absurd cc
+heard_same w c false false is crossed knows changes = (λ i. if is i then c else course_told w c) ∙ told_same w c is crossed changes
+
+course_same : (w : Hearing) (l : Leaving) (c : CourseState) → (w.crosses ≡ true → c.known ≡ true) → changes_phase w.change ≡ false → hears_message w ≡ false → w.fault ≡ false → course_after w l c ≡ c
+course_same w l c knows changes unsaid fault =
+    (λ i. record (heard_same w c c.known w.crosses refl refl knows changes i) {
       plan = if changes i then plan_in_phase w l c.plan
           else if w.crosses then plan_with_byte w c.plan
           else if fault i && not w.change.before.io then struck_plan c.plan
@@ -139,7 +165,7 @@ course_same w l c known changes unsaid fault =
 
 pub course_on : (s : ScenarioValue) (rows : List Row) (row : Row) (dev : ℕ) (m : Connection) (c : CourseState) → IsPlain s rows (run_state s rows) → IsPlain s (row ∷ rows) (run_state s (row ∷ rows))
     → hearing_of (run_state s rows) row (row_reading (run_state s rows).story.bus_state row) ≡ hearing rows row → connection rows ≡ Some m → (bus rows).rst ≡ false → (m.target == dev) ≡ true
-    → c.known ≡ true → changes_phase (hearing rows row).change ≡ false → hears_message (hearing rows row) ≡ false → (hearing rows row).fault ≡ false
+    → ((hearing rows row).crosses ≡ true → c.known ≡ true) → changes_phase (hearing rows row).change ≡ false → hears_message (hearing rows row) ≡ false → (hearing rows row).fault ≡ false
     → IsCourseOf s rows dev c → IsCourseOf s (row ∷ rows) dev c
 course_on s rows row dev m c p q w stands calm at known changes unsaid fault old n own after =
     let l : Leaving = leaving_after s rows m.target in
@@ -185,9 +211,9 @@ changes_left w changes = λ i. changes i && w.begun
 
 course_if_on : (s : ScenarioValue) (rows : List Row) (row : Row) (dev : ℕ) (m : Connection) (c : Option CourseState) → IsPlain s rows (run_state s rows) → IsPlain s (row ∷ rows) (run_state s (row ∷ rows))
     → hearing_of (run_state s rows) row (row_reading (run_state s rows).story.bus_state row) ≡ hearing rows row → IsOwnConnection rows dev m → (bus rows).rst ≡ false
-    → knows_command c ≡ true → changes_phase (hearing rows row).change ≡ false → hears_message (hearing rows row) ≡ false → (hearing rows row).fault ≡ false
+    → ((hearing rows row).crosses ≡ true → knows_command c ≡ true) → changes_phase (hearing rows row).change ≡ false → hears_message (hearing rows row) ≡ false → (hearing rows row).fault ≡ false
     → IsCourseIf s rows dev c → IsCourseIf s (row ∷ rows) dev c
-course_if_on s rows row dev m None p q w own calm known changes unsaid fault old = absurd cc
+course_if_on s rows row dev m None p q w own calm known changes unsaid fault old = let bad : false ≡ true = sym calm ∙ old m own in absurd cc
 course_if_on s rows row dev m (Some c) p q w own calm known changes unsaid fault old = course_on s rows row dev m c p q w own.stands calm own.own known changes unsaid fault old
 
 pub serves : (s : ScenarioValue) (rows : List Row) (row : Row) (v : TargetValue)

@@ -42,16 +42,12 @@ within_at s a times dev seek n small sound early = go (unit_state_at a.units dev
     go : (x : Option UnitState) → unit_state_at a.units dev n ≡ x → IsReadyWithin (ready_unit (wants.ready_in (is_held a.holds dev n) (due.current_of (unit_state_at a.units dev n)) time))
     go x e = subst (λ (y : Option UnitState). IsReadyWithin (ready_unit (wants.ready_in (is_held a.holds dev n) (due.current_of y) time))) (sym e) (current x e (due.current_of x) refl (same x))
 
-pub within : (s : ScenarioValue) (a : Array) (times : List ℕ) (dev seek : ℕ) → IsSound s a → ((n : ℕ) → n < 8 → due.since_of a.units times dev n + seek < 2 ^ 63) → IsReadyWithin (ready_unit (due.ready_among a times seek dev))
-within s a times dev seek sound early =
-    more 0 rest-1 (one 0 (omega arith)) (more 1 rest-2 (one 1 (omega arith)) (more 2 rest-3 (one 2 (omega arith)) (more 3 rest-4 (one 3 (omega arith)) (more 4 rest-5 (one 4 (omega arith)) (more 5 rest-6 (one 5 (omega arith)) (more 6 rest-7 (one 6 (omega arith)) (more 7 None (one 7 (omega arith)) _)))))))
+-- One unit after the other, the last first.
+pub ready_by : (P : Option wants.Ready → Type 0) (a : Array) (times : List ℕ) (seek dev : ℕ) → P None
+    → ((n : ℕ) (rest : Option wants.Ready) → n < 8 → P rest → P (wants.first_ready (due.ready_at a times seek dev n) rest)) → P (due.ready_among a times seek dev)
+ready_by P a times seek dev none more =
+    more 0 rest-1 (omega arith) (more 1 rest-2 (omega arith) (more 2 rest-3 (omega arith) (more 3 rest-4 (omega arith) (more 4 rest-5 (omega arith) (more 5 rest-6 (omega arith) (more 6 rest-7 (omega arith) (more 7 None (omega arith) none)))))))
   where
-    one : (n : ℕ) → n < 8 → IsReadyWithin (ready_unit (due.ready_at a times seek dev n))
-    one n small = within_at s a times dev seek n small sound (early n small)
-
-    more : (n : ℕ) (rest : Option wants.Ready) → IsReadyWithin (ready_unit (due.ready_at a times seek dev n)) → IsReadyWithin (ready_unit rest) → IsReadyWithin (ready_unit (wants.first_ready (due.ready_at a times seek dev n) rest))
-    more n rest f g = within_first (due.ready_at a times seek dev n) rest f g
-
     rest-7 : Option wants.Ready
     rest-7 = wants.first_ready (due.ready_at a times seek dev 7) None
 
@@ -72,3 +68,8 @@ within s a times dev seek sound early =
 
     rest-1 : Option wants.Ready
     rest-1 = wants.first_ready (due.ready_at a times seek dev 1) rest-2
+
+pub within : (s : ScenarioValue) (a : Array) (times : List ℕ) (dev seek : ℕ) → IsSound s a → ((n : ℕ) → n < 8 → due.since_of a.units times dev n + seek < 2 ^ 63) → IsReadyWithin (ready_unit (due.ready_among a times seek dev))
+within s a times dev seek sound early =
+    ready_by (λ (x : Option wants.Ready). IsReadyWithin (ready_unit x)) a times seek dev _
+    (λ n rest small h. within_first (due.ready_at a times seek dev n) rest (within_at s a times dev seek n small sound (early n small)) h)

@@ -32,6 +32,7 @@ use Rattle.disk_target.specs.Processes.{ProcessesState}
 use Rattle.disk_target.specs.Standings.{IsStanding}
 use Rattle.disk_target.specs.Targets.{AreTied}
 use Rattle.disk_target.specs.Turns.{AreAttendedOf, AreAttendedOn}
+use Rattle.disk_target.proofs.Readies.{ready_by}
 use Rattle.disk_target.proofs.RowServed.{array_same}
 use Rattle.disk_target.proofs.RowShapes.{none_shown}
 use Rattle.bus_base.proofs.Tests.{or_second, is_nothing}
@@ -85,7 +86,7 @@ at_one s a times seek dev n q small sound e =
 
 pub ready_current : (s : ScenarioValue) (a : Array) (times : List ℕ) (seek dev : ℕ) (q : wants.Ready) → IsSound s a → due.ready_among a times seek dev ≡ Some q → IsReadyAt s a dev q.process
 ready_current s a times seek dev q sound e =
-    go 0 rest-1 (omega arith) (go 1 rest-2 (omega arith) (go 2 rest-3 (omega arith) (go 3 rest-4 (omega arith) (go 4 rest-5 (omega arith) (go 5 rest-6 (omega arith) (go 6 rest-7 (omega arith) (go 7 None (omega arith) (λ f. absurd cc)))))))) e
+    ready_by (λ (x : Option wants.Ready). x ≡ Some q → IsReadyAt s a dev q.process) a times seek dev (λ f. absurd cc) go e
   where
     go : (n : ℕ) (rest : Option wants.Ready) → n < 8 → (rest ≡ Some q → IsReadyAt s a dev q.process) → wants.first_ready (due.ready_at a times seek dev n) rest ≡ Some q → IsReadyAt s a dev q.process
     go n rest small more f = by (one_ready (due.ready_at a times seek dev n) rest q f)
@@ -93,27 +94,6 @@ ready_current s a times seek dev q sound e =
         by : (due.ready_at a times seek dev n ≡ Some q) ⊎ (rest ≡ Some q) → IsReadyAt s a dev q.process
         by (inl g) = at_one s a times seek dev n q small sound g
         by (inr g) = more g
-
-    rest-7 : Option wants.Ready
-    rest-7 = wants.first_ready (due.ready_at a times seek dev 7) None
-
-    rest-6 : Option wants.Ready
-    rest-6 = wants.first_ready (due.ready_at a times seek dev 6) rest-7
-
-    rest-5 : Option wants.Ready
-    rest-5 = wants.first_ready (due.ready_at a times seek dev 5) rest-6
-
-    rest-4 : Option wants.Ready
-    rest-4 = wants.first_ready (due.ready_at a times seek dev 4) rest-5
-
-    rest-3 : Option wants.Ready
-    rest-3 = wants.first_ready (due.ready_at a times seek dev 3) rest-4
-
-    rest-2 : Option wants.Ready
-    rest-2 = wants.first_ready (due.ready_at a times seek dev 2) rest-3
-
-    rest-1 : Option wants.Ready
-    rest-1 = wants.first_ready (due.ready_at a times seek dev 1) rest-2
 
 -- ---- what the row begins
 

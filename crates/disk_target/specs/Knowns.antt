@@ -76,15 +76,15 @@ refreshed None course = None
 refreshed (Some k) None = Some k
 refreshed (Some k) (Some c) = Some (with_plan k c)
 
--- ---- a row that tells a target no more than a byte of data
+-- ---- a row that tells a target no more than a byte of data, if anything
 
 abbrev pub hears_message : Hearing → Bool
 hears_message w = w.crosses && is_message_out w.change.before
 
 -- In a connection of its own, before and after the row, no byte of a message comes to it, no phase changes, no fault strikes, and
--- nothing is shown; its command is known.
+-- nothing is shown; its command is known where any byte crosses.
 pub record IsQuiet (w : Hearing) (course : Option CourseState) (shown : List Event) : Type 0 where
-  pub knows : knows_command course ≡ true
+  pub knows : w.crosses ≡ true → knows_command course ≡ true
   pub empty : shown ≡ []
   pub changes : changes_phase w.change ≡ false
   pub unsaid : hears_message w ≡ false

@@ -157,7 +157,8 @@ fn hears_message(hearing: &Hearing) -> bool
 }
 
 /// Whether a row tells a target no more than a byte of data, where a connection of its own stands before and after it:
-/// no byte of a message comes, no phase changes, no fault strikes, nothing is shown, and the command is known.
+/// no byte of a message comes, no phase changes, no fault strikes, nothing is shown, and where a byte crosses, the
+/// command is known.
 pub fn is_quiet(hearing: &Hearing, course: &Option<Course>, shown: &[Event]) -> bool
     ensures { result ≡ true → IsQuiet hearing.now course.now shown.now }
 {
@@ -165,7 +166,7 @@ pub fn is_quiet(hearing: &Hearing, course: &Option<Course>, shown: &[Event]) -> 
         && !changes_phase(&hearing.change)
         && !hears_message(hearing)
         && !hearing.fault
-        && knows_command(course)
+        && (!hearing.crosses || knows_command(course))
 }
 
 // The plan has gone on.

@@ -1,5 +1,5 @@
 //! A target of a scenario: what it knows, row by row, and what it does next (ANSI X3.131-1994, 6 and 7).
-ghost use Rattle.std.specs.Prelude.{ℕ, ◌≡◌, ◌<◌, ◌≤◌, ◌^◌, ◌==◌, [], ◌∷◌, List, length, Option, Some, None, is_some, true, false, IfOk};
+ghost use Rattle.std.specs.Prelude.{ℕ, ◌≡◌, ◌≢◌, ◌<◌, ◌≤◌, ◌^◌, ◌==◌, [], ◌∷◌, List, length, Option, Some, None, is_some, true, false, IfOk};
 ghost use Rattle.std.specs.List.{find};
 ghost use Rattle.bus_trace.specs.declared.Row.{Row};
 ghost use Rattle.bus_trace.specs.declared.connection.Connection.{Connection};
@@ -179,7 +179,8 @@ impl Target {
         }
     }
 
-    // What it decides by in this connection of its own, where it has not kept it since the last row.
+    // What it decides by in this connection of its own, where it has not kept it since the last row. Few rows need it.
+    #[inline(never)]
     fn known_anew(&self, from: Dev, course: &Course) -> Known
         requires device { from < 8 }
         ensures from { result.from ≡ from }
@@ -625,7 +626,7 @@ impl Target {
         ensures { (s : ScenarioValue) (rows : List Row) (row : Row) → FitsBus s
             → AreOfDevices (row ∷ rows) → AreTied s (row ∷ rows) → AreInTime (row ∷ rows) → KnowsRows s rows self.now
             → hearing.now ≡ hearing_in rows row → IsOwnIf rows self.now.def.dev before.now
-            → is_some before.now ≡ true → knows_command self.now.course ≡ true
+            → is_some before.now ≡ true → (hearing.now.crosses ≡ true → knows_command self.now.course ≡ true)
             → IsSentIf s rows row self.now.def.dev result }
     {
         if !brings_byte(hearing) {
@@ -801,7 +802,7 @@ impl Target {
         ensures def { self.new.def ≡ self.old.def }
         ensures trace { (s : ScenarioValue) (rows : List Row) → FitsBus s → IsObserverOf (row.now ∷ rows) observer.now
             → AreOfDevices (row.now ∷ rows) → AreTied s (row.now ∷ rows) → AreInTime (row.now ∷ rows)
-            → ((n : Connection) → IsOwnConnection (row.now ∷ rows) self.old.def.dev n
+            → (connection rows ≡ None → (n : Connection) → IsOwnConnection (row.now ∷ rows) self.old.def.dev n
             → IsLabelOf (item_of (run_state s (row.now ∷ rows)).story.link) label)
             → shown.now ≡ events_of_row s rows row.now
             → KnowsRows s rows self.old → KnowsRows s (row.now ∷ rows) self.new }
@@ -889,7 +890,7 @@ impl Target {
         ensures def { self.new.def ≡ self.old.def }
         ensures trace { (s : ScenarioValue) (rows : List Row) → FitsBus s → IsObserverOf (row.now ∷ rows) observer.now
             → AreOfDevices (row.now ∷ rows) → AreTied s (row.now ∷ rows) → AreInTime (row.now ∷ rows)
-            → ((n : Connection) → IsOwnConnection (row.now ∷ rows) self.old.def.dev n
+            → (connection rows ≡ None → (n : Connection) → IsOwnConnection (row.now ∷ rows) self.old.def.dev n
             → IsLabelOf (item_of (run_state s (row.now ∷ rows)).story.link) label)
             → shown.now ≡ events_of_row s rows row.now
             → KnowsRows s rows self.old → KnowsRows s (row.now ∷ rows) self.new }
@@ -903,9 +904,9 @@ impl Target {
         }
     }
 
-    /// One more row, of any device, which shows these events, the newest first; the observer has seen it. `label` is
-    /// the process of the connection that stands after it, as the initiator of that connection knows it. It is no
-    /// initiator of that.
+    /// One more row, of any device, which shows these events, the newest first; the observer has seen it. Where it
+    /// begins a connection, `label` is the process of that, as the initiator of the connection knows it. The target is
+    /// no initiator of it.
     pub fn see(&mut self, observer: &Observer, row: &Row, label: ProcId, shown: &[Event])
         requires device { row.now.dev < 8 }
         requires timely { IsTimely (2 ^ 63) observer.now.view }
@@ -913,7 +914,7 @@ impl Target {
         ensures trace { (s : ScenarioValue) (rows : List Row) → FitsBus s → IsObserverOf (row.now ∷ rows) observer.now
             → AreOfDevices (row.now ∷ rows) → AreTied s (row.now ∷ rows) → AreInTime (row.now ∷ rows)
             → IsNoInitiator (row.now ∷ rows) self.old.def.dev
-            → ((n : Connection) → IsOwnConnection (row.now ∷ rows) self.old.def.dev n
+            → (connection rows ≡ None → (n : Connection) → IsOwnConnection (row.now ∷ rows) self.old.def.dev n
             → IsLabelOf (item_of (run_state s (row.now ∷ rows)).story.link) label)
             → shown.now ≡ events_of_row s rows row.now
             → IsTargetAfter s rows self.old → IsTargetAfter s (row.now ∷ rows) self.new }
@@ -921,19 +922,17 @@ impl Target {
         self.follow(observer, row, label, shown);
     }
 
-    /// One more row, in a connection of others that stands before and after it, while RST was and is false, which shows
-    /// nothing; the observer has seen it.
-    pub fn see_in_others(&mut self, observer: &Observer, row: &Row)
-        requires device { row.now.dev < 8 }
-        requires timely { IsTimely (2 ^ 63) observer.now.view }
+    /// One more row, of another device, in a connection of others that stands before and after it, while RST was and is
+    /// false, which shows nothing; the observer has seen it.
+    pub fn see_in_others(&mut self, observer: &Observer)
         ensures def { self.new.def ≡ self.old.def }
-        ensures trace { (s : ScenarioValue) (rows : List Row) (m n : Connection) → FitsBus s
-            → IsObserverOf (row.now ∷ rows) observer.now → AreOfDevices (row.now ∷ rows)
-            → AreTied s (row.now ∷ rows) → AreInTime (row.now ∷ rows)
-            → IsNoInitiator (row.now ∷ rows) self.old.def.dev
-            → IsOthers rows self.old.def.dev m → IsOthers (row.now ∷ rows) self.old.def.dev n
-            → events_of_row s rows row.now ≡ []
-            → IsTargetAfter s rows self.old → IsTargetAfter s (row.now ∷ rows) self.new }
+        ensures trace { (s : ScenarioValue) (rows : List Row) (row : Row) (m n : Connection) → FitsBus s
+            → IsObserverOf (row ∷ rows) observer.now → AreOfDevices (row ∷ rows)
+            → AreTied s (row ∷ rows) → AreInTime (row ∷ rows)
+            → IsNoInitiator (row ∷ rows) self.old.def.dev
+            → IsOthers rows self.old.def.dev m → IsOthers (row ∷ rows) self.old.def.dev n
+            → row.dev ≢ self.old.def.dev → events_of_row s rows row ≡ []
+            → IsTargetAfter s rows self.old → IsTargetAfter s (row ∷ rows) self.new }
     {
         kept_is_plain();
         hearings_are_plain();
@@ -941,9 +940,7 @@ impl Target {
         rows_change_one_device();
         scenarios_fit_the_bus();
         units_stay_by_row();
-        let view = observer.view();
-        self.itself.see(view, row);
-        self.answers = view.handshakes().answers();
+        self.answers = observer.view().handshakes().answers();
     }
 
     /// What it keeps of its units.

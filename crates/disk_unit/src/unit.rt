@@ -54,8 +54,8 @@ fn is_request_sense(command: Result<Command, CdbFault>) -> bool
     matches!(command, Ok(Command::RequestSense { room: _ }))
 }
 
-// Every command but INQUIRY and REQUEST SENSE reports an attention.
-fn heeds_attention(cdb: &[u8]) -> bool
+/// Every command but INQUIRY and REQUEST SENSE reports an attention.
+pub fn heeds_attention(cdb: &[u8]) -> bool
     ensures { result ≡ heeds cdb.now }
 {
     match cdb.first() {

@@ -44,7 +44,7 @@ use Rattle.trace_laws.proofs.Tests.{not_unless}
 use Rattle.fault_laws.proofs.Calls.{calling_follows, GoesOn, call_goes, ids_unsampled}
 use Rattle.fault_laws.proofs.Takes.{IsNoLater}
 use Rattle.bus_base.proofs.Tests.{wrong, wrong', and_false}
-use Rattle.bus_laws.proofs.Together.{always_is}
+use Rattle.bus_laws.proofs.Together.{always_is, calm_first}
 
 -- ---- the row of a reset, and others
 
@@ -86,21 +86,7 @@ calm_row s p row st calm m =
     let off = off_at p calm in
     elim (one_of (reset_due s p row.dev) (unreset_due s p row.dev) x (sym (due_calm s p row.dev st.devices m.inside (off row.dev m.inside)) ∙ m.is_due)) [
       | inl r ↦ resets (off row.dev m.inside) r (row_is row only_rst (own_reset_is s p row.dev x r).kind_is)
-      | inr c ↦ reacts (always_is s p st calm) (record {
-        inside = m.inside;
-        is_due = c;
-        first = λ d lt y e.
-            let z = comes_by (reset_due s p d) (unreset_due s p d) y e in
-            let w = m.first d lt z.x (due_calm s p d st.devices lt (off d lt) ∙ z.is) in
-            let l = z.le in
-            omega arith;
-        highest = λ d lt y e t.
-            let z = comes_by (reset_due s p d) (unreset_due s p d) y e in
-            let g = due_calm s p d st.devices lt (off d lt) ∙ z.is in
-            let w = m.first d lt z.x g in
-            let l = z.le in
-            m.highest d lt z.x g (omega arith);
-      })
+      | inr c ↦ reacts (always_is s p st calm) (calm_first s p row st calm m c)
     ]
 
 -- ---- what it keeps

@@ -36,12 +36,6 @@ duty_goes_on d e atn rise fall held h = go e.atn atn rise h
     go false b true h = refl
     go false b false h = ap (λ (w : Bool). fits_duty (if w then duty_if_held d (connected_bus e) else d) b e.msg) (and_false fall) ∙ more d b h
 
--- Without ATN nothing is asked.
-pub nothing_asked : (d : Duty) (msg : Bool) → fits_duty d false msg ≡ true → d ≡ duties.Nothing
-nothing_asked duties.Nothing msg h = refl
-nothing_asked duties.Asked msg h = absurd cc
-nothing_asked duties.Owed msg h = absurd cc
-
 -- A phase begins, in which ATN is true only where it is MESSAGE OUT.
 pub duty_at_phase : (d : Duty) (atn msg msg' io' : Bool) → fits_duty d atn msg ≡ true → implies atn (msg' && not io') ≡ true → (fits_duty (duty_left d) atn msg' ≡ true) × (is_owed_out (duty_left d) io' ≡ true)
 duty_at_phase duties.Nothing atn msg msg' io' h a = (refl, refl)

@@ -115,8 +115,3 @@ pub pulsed_turns_in : (v : Around) (n : Connection) (atn : Bool) (x : ℕ) (msg'
     → target_breaks v n (ends false false atn x false false false false 0) (ends false false atn x msg' cd' true false 0) t ≡ None
 pulsed_turns_in v n atn x msg' cd' t ne a c =
     let e = eq_self n.target in let o = ne_eqb n.target n.initiator (λ w. ne (sym w)) in let u = or_zero_r x in let w = eq_self x in grind (arith, nat_tests)
-
-pub pulsed_freeing_in : (v : Around) (n : Connection) (y t : ℕ) → n.initiator ≢ n.target → v.last ≤ t → (v.pulses.req == v.pulses.ack) ≡ true → is_after v.pulses.last_req (times_of v.agreement.period).hold t ≡ true
-    → frees_bus v n (ends false false false 0 false false true false y) t ≡ None
-pulsed_freeing_in v n y t ne a c d =
-    let e = eq_self n.target in let o = ne_eqb n.target n.initiator (λ w. ne (sym w)) in let u = or_zero_r y in grind (arith, nat_tests)

@@ -44,3 +44,11 @@ heeds_none cdb h = go (length cdb == 0) refl h
     go : (y : Bool) → (length cdb == 0) ≡ y → is_request_sense (if y then Err faults.Length else sized_of (operation_of (slice_index cdb 0)) cdb) ≡ true → heeds_attention cdb ≡ false
     go true e k = cc
     go false e k = by (operation_of (slice_index cdb 0)) refl e k
+
+-- What heeds one is none.
+pub no_sense : (cdb : List ℕ) → heeds_attention cdb ≡ true → false ≡ is_request_sense (command_of cdb)
+no_sense cdb h = go (is_request_sense (command_of cdb)) refl
+  where
+    go : (y : Bool) → is_request_sense (command_of cdb) ≡ y → false ≡ is_request_sense (command_of cdb)
+    go false e = sym e
+    go true e = let bad : true ≡ false = sym h ∙ heeds_none cdb e in absurd cc

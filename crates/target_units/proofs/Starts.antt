@@ -53,10 +53,6 @@ pub fill_count : (y : Bool) (c : Contents) (lba : ℕ) (block : List ℕ) → (i
 fill_count true c lba block = refl
 fill_count false c lba block = refl
 
-pub fill_size : (y : Bool) (c : Contents) (lba : ℕ) (block : List ℕ) → (if y then with_block c lba block else c).size ≡ c.size
-fill_size true c lba block = refl
-fill_size false c lba block = refl
-
 pub if_ok : {A E : Type 0} (P Q : A → Type 0) → ((a : A) → P a → Q a) → (r : Result A E) → IfOk r P → IfOk r Q
 if_ok P Q f (Ok a) h = f a h
 if_ok P Q f (Err e) h = h

@@ -36,12 +36,6 @@ use Rattle.target_units.specs.Seated.{SeatedState, IsAtSeat, IsSince, seated_con
 use Rattle.disk_unit.proofs.Replies.{take_part}
 use Rattle.target_units.proofs.SenseBlocks.{heeds_none}
 
-pub hold_seen : (hosts : List HostDef) (seat : Seat) (time : ℕ) (v : SeatedState) (from : ℕ) → from < 8 → IsAtSeat hosts seat time v → slice_index_or v.books.queue.hold from false ≡ seat.hold from
-hold_seen hosts seat time v from lt h = h.2.kept.kept.hold from lt
-
-pub size_seen : (hosts : List HostDef) (seat : Seat) (time : ℕ) (v : SeatedState) → IsAtSeat hosts seat time v → v.contents.size ≡ (Seats.contents_of seat.unit).size
-size_seen hosts seat time v h = (λ i. (sym h.2.kept.contents i).size) ∙ (λ i. (Seats.contents_of (sym h.2.kept.there i)).size)
-
 -- ---- the queue
 
 idle_is : (w n : ℕ) (r : Option RunningProcess) (held : Bool) → w + running_count r ≡ n → (n == 0 && not held) ≡ (has_no_current r && not held && w == 0)

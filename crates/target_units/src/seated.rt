@@ -24,7 +24,7 @@ use crate::parts::{copy_part, is_sense};
 use crate::ready::Ready;
 use bus_base::{AbortKind, Class, Dev, NoMemory, Ns, Pick, ProcId};
 use bus_dialogue::Room;
-use cdb_codec::{ABORTED_COMMAND, CHECK_CONDITION, GOOD, Sense, from_cdb, sense_bytes};
+use cdb_codec::{ABORTED_COMMAND, CHECK_CONDITION, GOOD, Sense, sense_bytes};
 use disk_unit::{Accepted, Blocks, DiskMedium, Plan, Reply, SparseBlocks, Unit};
 use scenario::{CmdDef, FillDef, UnitDef};
 use std::alloc::Global;
@@ -633,7 +633,7 @@ impl SeatedUnit {
         ensures { into.new ≡ take (length into.old) (drop at
             (execution (seated_context self.now from) cdb.now []).reply.bytes) }
     {
-        if is_sense(from_cdb(cdb)) {
+        if is_sense(cdb) {
             self.fetch_sense(from, cdb, at, into);
         } else {
             self.fetch_plain(from, cdb, at, into);

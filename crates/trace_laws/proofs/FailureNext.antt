@@ -72,7 +72,7 @@ use Rattle.scsi_device.specs.Heard.{is_message}
 
 -- ---- a name restores nothing
 
-abbrev is_restore : MsgIn → Bool
+abbrev pub is_restore : MsgIn → Bool
 is_restore to_initiator.RestorePointers = true
 is_restore _ = false
 

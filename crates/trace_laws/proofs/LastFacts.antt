@@ -76,7 +76,7 @@ last_start s n e calm = none_some n e
 
 -- ---- the first row of a connection
 
-abbrev last_or : Option Link → LastMessage
+abbrev pub last_or : Option Link → LastMessage
 last_or None = plain
 last_or (Some l) = l.last
 

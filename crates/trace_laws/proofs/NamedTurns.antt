@@ -57,6 +57,7 @@ use Rattle.trace_laws.proofs.OfferLeavings.{attends, all_said, parity_said}
 use Rattle.trace_laws.proofs.OfferSteps.{left_is}
 use Rattle.trace_laws.proofs.OfferTurns.{out_by_phase, entering, goes_out}
 use Rattle.trace_laws.proofs.PhaseLines.{in_phase, out_phase}
+use Rattle.trace_laws.proofs.Plans.{is_in_message}
 use Rattle.bus_base.proofs.Tests.{wrong, wrong'}
 use Rattle.bus_books.proofs.Knows.{from_nameless, others_nameless}
 use Rattle.bus_books.proofs.Speaks.{asking}
@@ -91,13 +92,9 @@ pub refusal_is : (v : Serving) → v.plan.said.offer ≡ None → is_naming v.pl
 refusal_is v e f =
     (λ i. if is_some (e i) then phase_entry phases.Command else if f i then message_repetition v.plan else with_task v.task (λ t. recovery v.def t (message_repetition v.plan) bus_free))
 
-abbrev pub is_message_cause : Cause → Bool
-is_message_cause causes.InMessage = true
-is_message_cause _ = false
-
 -- The initiator says MESSAGE PARITY ERROR, and no answer.
 no_offer : (s : ScenarioValue) (k : RunState) (n : Connection) → Speaks s k n → is_message_out (bus_of k) ≡ true → k.exchange.begun ≡ true → k.story.bus_state.dialogue.is_last ≡ true → IsHeardOut k.exchange k.story.bus_state.dialogue → k.exchange.plan.cause ≡ causes.InMessage → k.exchange.plan.next ≡ nexts.GoOn → k.exchange.plan.said.offer ≡ None
-no_offer s k n sp m b last (opens e ao av v q) c next = wrong' (ap is_message_cause (sym e ∙ c))
+no_offer s k n sp m b last (opens e ao av v q) c next = wrong' (ap is_in_message (sym e ∙ c))
 no_offer s k n sp m b last (repeats before e one w q) c next = ap (λ (z : Said). z.offer) (all_said k.exchange k.story.bus_state.dialogue _ (sp.in_message_out b m).heard last one.words_are ∙ parity_said)
 no_offer s k n sp m b last (answers_it a e command one q) c next = wrong (ap is_command_next (sym command ∙ next))
 no_offer s k n sp m b last (detects e one q) c next = wrong' (sym (ap is_detected c) ∙ e)

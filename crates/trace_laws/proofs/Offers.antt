@@ -53,6 +53,7 @@ use Rattle.trace_laws.proofs.Impossible.{none_some}
 use Rattle.trace_laws.proofs.Joint.{Stood, NextStood, link_phase}
 use Rattle.trace_laws.proofs.OfferSteps.{offers_on}
 use Rattle.trace_laws.proofs.OfferTurns.{asked_at_command}
+use Rattle.trace_laws.proofs.Plans.{is_in_message}
 use Rattle.bus_base.proofs.Tests.{wrong, wrong'}
 
 -- ---- before any row
@@ -224,11 +225,7 @@ pub refuses_later : (s : ScenarioValue) (p : List Row) (n : Connection) → Offe
 refuses_later s p n h con off b m c = go ((h n con off).out b m)
   where
     go : IsHeardOut (run_state s p).exchange (run_state s p).story.bus_state.dialogue → ((run_state s p).exchange.plan.next ≡ nexts.Command) ⊎ ((run_state s p).exchange.speech.words ≡ parity_error)
-    go (opens e ao av v q) = wrong' (ap is_message_cause (sym e ∙ c))
-      where
-        is_message_cause : Cause → Bool
-        is_message_cause causes.InMessage = true
-        is_message_cause _ = false
+    go (opens e ao av v q) = wrong' (ap is_in_message (sym e ∙ c))
     go (repeats before e one w q) = inr one.words_are
     go (answers_it a e next one q) = inl next
     go (detects e one q) = wrong' (sym (ap is_detected c) ∙ e)

@@ -42,7 +42,7 @@ use Rattle.trace_laws.proofs.FreshItems.{items_fresh}
 use Rattle.trace_laws.proofs.Impossible.{some_none}
 use Rattle.trace_laws.proofs.ItemFacts.{rst_raised}
 use Rattle.trace_laws.proofs.Joint.{Stood}
-use Rattle.trace_laws.proofs.NamedTurns.{is_message_cause}
+use Rattle.trace_laws.proofs.Plans.{is_in_message}
 use Rattle.trace_laws.proofs.OfferLeavings.{parity_said, all_said}
 use Rattle.trace_laws.proofs.PhaseLines.{is_status}
 use Rattle.trace_laws.proofs.PlaceAsks.{PlaceOwed}
@@ -85,7 +85,7 @@ answers_at : (k : RunState) (s : ScenarioValue) (n : Connection) → Speaks s k 
 answers_at k s n sp b m last of c some = go (of.out b m)
   where
     go : IsHeardOut k.exchange k.story.bus_state.dialogue → k.exchange.plan.next ≡ nexts.Command
-    go (opens e ao av v q) = wrong' (ap is_message_cause (sym e ∙ c))
+    go (opens e ao av v q) = wrong' (ap is_in_message (sym e ∙ c))
     go (repeats before e one w q) =
         let none = ap (λ (z : Said). z.offer) (all_said k.exchange k.story.bus_state.dialogue _ (sp.in_message_out b m).heard last one.words_are ∙ parity_said) in
         wrong' (ap is_some (sym none) ∙ some)

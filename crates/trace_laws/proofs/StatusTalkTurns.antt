@@ -34,7 +34,7 @@ use Rattle.bus_books.specs.Rows.{reading_in}
 use Rattle.bus_books.proofs.InConnection.{InConnection, in_connection}
 use Rattle.trace_laws.specs.LastTalks.{LastGiven}
 use Rattle.trace_laws.specs.Statuses.{HasStatus, UndoesStatus, CarriesBy}
-use Rattle.trace_laws.proofs.NamedTurns.{is_message_cause}
+use Rattle.trace_laws.proofs.Plans.{is_in_message}
 use Rattle.trace_laws.proofs.PhaseLines.{in_phase, out_lines}
 use Rattle.trace_laws.proofs.RowItems.{link_still}
 use Rattle.trace_laws.proofs.StatusLeavings.{Completes, in_status, refused, completes_from, left_alone}
@@ -49,8 +49,8 @@ from_in b e = go (is_message_in b) b.cd e
   where
     go : (q d : Bool) → (if q then causes.InMessage else if d then causes.InStatus else causes.InData) ≡ causes.InMessage → q ≡ true
     go true d z = refl
-    go false true z = wrong' (ap is_message_cause z)
-    go false false z = wrong' (ap is_message_cause z)
+    go false true z = wrong' (ap is_in_message z)
+    go false false z = wrong' (ap is_in_message z)
 
 -- STATUS is left after a byte.
 status_given : (s : ScenarioValue) (k : RunState) (n : Connection) → phase_of (bus_of k) ≡ phases.Status → IsOver s k n → (k.handshakes.requests == 0) ≡ false
@@ -146,7 +146,7 @@ turn_talk s k row n c l m id t over last em h =
         undone (inr z) = z
 
     first_out : k.exchange.begun ≡ false → phase_of c.after ≡ phases.MessageOut → CarriesBy l bytes j.exchange.plan j.handshakes.requests phases.MessageOut
-    first_out b e ec em = wrong' (sym (ap is_message_cause (ap (λ (x : Plan). x.cause) (out_plan (out_lines c.after e t.known) false b) ∙ (t.speaks.before_all b).cause_is)) ∙ ap is_message_cause ec)
+    first_out b e ec em = wrong' (sym (ap is_in_message (ap (λ (x : Plan). x.cause) (out_plan (out_lines c.after e t.known) false b) ∙ (t.speaks.before_all b).cause_is)) ∙ ap is_in_message ec)
 
     -- MESSAGE IN follows
     gives : k.exchange.begun ≡ true → phase_of c.after ≡ phases.MessageIn → CarriesBy l bytes j.exchange.plan j.handshakes.requests phases.MessageIn

@@ -12,4 +12,3 @@ pub mod RowFront
 pub mod Taken
 mod TouchedBlocks
 pub mod PiecesLeft
-pub mod Pairs

@@ -37,6 +37,7 @@ use Rattle.bus_transcript.specs.declared.part.Part.{Part}
 use Rattle.bus_transcript.specs.declared.part.Part.TheVariants as parts_of
 use Rattle.bus_transcript.specs.Opened.{OpenedValue, is_completion, with_all_out, with_out, with_part, with_fault, with_in, with_in_if, with_phase, spoken, broken_off, data_parts, phase_parts, phase_over, phase_entered}
 use Rattle.trace_laws.specs.LastTalks.{LastBy, LastGiven, still_stays, to_close, to_save, closed}
+use Rattle.trace_laws.proofs.LastFacts.{last_or}
 use Rattle.trace_laws.proofs.Impossible.{none_some}
 use Rattle.trace_laws.proofs.PhaseLines.{in_out, in_phase, out_phase}
 use Rattle.trace_laws.proofs.RowItems.{heard_link, LinkAfter, says, hears, stays, link_crossed, link_still}
@@ -119,33 +120,29 @@ pub record HeldEnds (k : RunState) (o : OpenedValue) : Type 0 where
 
 -- ---- the first row: no message has come
 
-abbrev last_by : Option Link → LastMessage
-last_by None = plain
-last_by (Some l) = l.last
-
-first_last : (b : Story) (n : Connection) → last_by (story_after_connection b n).link ≡ plain
+first_last : (b : Story) (n : Connection) → last_or (story_after_connection b n).link ≡ plain
 first_last b n = go n.reselected (aim_of b.aims n.initiator)
   where
     go : (q : Bool) (item : Option Item)
-        → last_by (if q then record b { link = Some (link_of n None) } else story_with_restored (story_with_sent (record b { link = Some (link_of n item) }) item) item).link ≡ plain
+        → last_or (if q then record b { link = Some (link_of n None) } else story_with_restored (story_with_sent (record b { link = Some (link_of n item) }) item) item).link ≡ plain
     go true item = refl
     go false None = refl
     go false (Some (process id)) = refl
     go false (Some (abort j)) = refl
 
-starts_last : (s : ScenarioValue) (p : List Row) (row : Row) (n : Connection) → Starts s p row n → last_by (run_state s (row ∷ p)).story.link ≡ plain
+starts_last : (s : ScenarioValue) (p : List Row) (row : Row) (n : Connection) → Starts s p row n → last_or (run_state s (row ∷ p)).story.link ≡ plain
 starts_last s p row n h =
     let k : RunState = run_state s p in
     let d : RowReading = row_reading k.story.bus_state row in
-    ap last_by (events_link s (story_by_change s k.story d row) (row_events_by s k.story d row))
-    ∙ ap (λ (q : Bool). last_by (if q then record k.story { link = None } else story_on_bus s k.story k.story.bus_state.connection d.next d row).link) h.off
-    ∙ (λ i. last_by (story_on_bus s k.story (h.alone i) (h.next i) d row).link)
+    ap last_or (events_link s (story_by_change s k.story d row) (row_events_by s k.story d row))
+    ∙ ap (λ (q : Bool). last_or (if q then record k.story { link = None } else story_on_bus s k.story k.story.bus_state.connection d.next d row).link) h.off
+    ∙ (λ i. last_or (story_on_bus s k.story (h.alone i) (h.next i) d row).link)
     ∙ first_last k.story n
 
 pub ends_start : (s : ScenarioValue) (p : List Row) (row : Row) (n : Connection) (o : OpenedValue) → Starts s p row n → o.held ≡ None → HeldEnds (run_state s (row ∷ p)) o
 ends_start s p row n o h none = record {
   quiet = λ z. wrong' (sym (ap (λ (x : Option Incoming). is_some x) none) ∙ z);
-  same = λ l id el sv off. ap last_by (sym el) ∙ starts_last s p row n h ∙ sym (ap last_held none);
+  same = λ l id el sv off. ap last_or (sym el) ∙ starts_last s p row n h ∙ sym (ap last_held none);
 }
 
 -- ---- row by row

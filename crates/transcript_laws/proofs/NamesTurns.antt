@@ -45,7 +45,8 @@ use Rattle.trace_laws.proofs.CommandTurns.{is_command_next}
 use Rattle.trace_laws.proofs.ConnectionRows.{stage_of_connection}
 use Rattle.trace_laws.proofs.Joint.{link_phase}
 use Rattle.trace_laws.proofs.NamedRows.{in_lines}
-use Rattle.trace_laws.proofs.NamedTurns.{is_message_cause, refusal_is}
+use Rattle.trace_laws.proofs.NamedTurns.{refusal_is}
+use Rattle.trace_laws.proofs.Plans.{is_in_message}
 use Rattle.trace_laws.proofs.OfferLeavings.{all_said, parity_said}
 use Rattle.trace_laws.proofs.OfferSteps.{left_is}
 use Rattle.trace_laws.proofs.OfferTurns.{out_by_phase}
@@ -76,7 +77,7 @@ after_names v = go v.task
 -- Names are answered by MESSAGE PARITY ERROR alone.
 says_error : (k : RunState) → IsHeardOut k.exchange k.story.bus_state.dialogue → k.exchange.plan.cause ≡ causes.InMessage → k.exchange.plan.next ≡ nexts.GoOn
     → k.exchange.speech.words ≡ out_bytes to_target.ParityError
-says_error k (opens e ao av v q) c next = wrong' (ap is_message_cause (sym e ∙ c))
+says_error k (opens e ao av v q) c next = wrong' (ap is_in_message (sym e ∙ c))
 says_error k (repeats before e one w q) c next = one.words_are
 says_error k (answers_it a e command one q) c next = wrong (ap is_command_next (sym command ∙ next))
 says_error k (detects e one q) c next = wrong' (sym (ap is_detected c) ∙ e)

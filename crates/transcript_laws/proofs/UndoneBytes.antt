@@ -33,6 +33,7 @@ use Rattle.bus_books.specs.Rows.{IsRowIn, reading_in}
 use Rattle.bus_books.proofs.Blocks.{same_self}
 use Rattle.bus_books.proofs.Knows.{link_after}
 use Rattle.bus_books.proofs.Lookups.{carried_id, put_own}
+use Rattle.trace_laws.proofs.FailureNext.{is_restore}
 use Rattle.trace_laws.proofs.PointerStories.{story_row}
 use Rattle.trace_laws.proofs.PointerStorySteps.{message_id, fault_id, message_byte, in_link}
 use Rattle.trace_laws.proofs.TellRows.{no_events}
@@ -54,11 +55,7 @@ alike_self c = λ i.
 abbrev pub KeepsAlike : (CarriedBytes → CarriedBytes) → Type 0
 KeepsAlike f = (u c : CarriedBytes) → is_alike u c ≡ true → is_alike u (f c) ≡ true
 
-abbrev pub is_restoring : MsgIn → Bool
-is_restoring to_initiator.RestorePointers = true
-is_restoring _ = false
-
-message_keeps : (m : MsgIn) → is_restoring m ≡ false → KeepsAlike (after_message m)
+message_keeps : (m : MsgIn) → is_restore m ≡ false → KeepsAlike (after_message m)
 message_keeps to_initiator.CommandComplete e u c h = h
 message_keeps to_initiator.SavePointer e u c h = h
 message_keeps to_initiator.RestorePointers e u c h = wrong e
@@ -106,7 +103,7 @@ changed_undoes f b c o l g same keeps el h = λ m em.
 pub record IsTalk (b : Story) (d : RowReading) : Type 0 where
   pub line : d.crosses ≡ true → d.change.before.msg ≡ true
   pub struck : (c : Change) → b.bus_state.crossed ≡ Some c → is_command c.before ≡ false
-  pub plain : (m : MsgIn) → d.into ≡ Some m → is_restoring m ≡ false
+  pub plain : (m : MsgIn) → d.into ≡ Some m → is_restore m ≡ false
 
 -- MESSAGE PARITY ERROR brings back just that; another message leaves all as it is.
 said_undoes : (b : Story) (l : Link) (m : MsgOut) → undoes_nothing b l l.undo ≡ true → UndoesSo (story_after_out b l (Some m))
@@ -121,7 +118,7 @@ said_undoes b l m h = λ x ex.
     go false (Some u) z x = z
 
 -- What would be brought back is what held before the message.
-heard_undoes : (s : ScenarioValue) (b : Story) (l : Link) (m : MsgIn) → is_restoring m ≡ false → UndoesSo (story_after_in s b l (Some m))
+heard_undoes : (s : ScenarioValue) (b : Story) (l : Link) (m : MsgIn) → is_restore m ≡ false → UndoesSo (story_after_in s b l (Some m))
 heard_undoes s b l m plain = λ x ex.
     let undo : x.undo ≡ carried_if b l.item = ap (λ (y : Link). y.undo) (same_Some x (record next { last = last_in m; before = l.last; undo = carried_if b l.item }) (sym ex ∙ in_link s b l m)) in
     ap (λ (u : Option CarriedBytes). undoes_nothing (story_after_in s b l (Some m)) x u) undo ∙ go l.item refl x

@@ -3,6 +3,6 @@ use Rattle.bus_run.proofs.Others.{stays_known}
 use Rattle.bus_run.proofs.asking.see_away.Goals as goal
 
 pub returns-else-is_none : goal.returns-else-is_none
-returns-else-is_none c = λ s rows row a e h.
-    stays_known c.devices_know_enough.ensures.others s rows row c.connection_kept.result c.args.away.now
-    (c.is_none.ensures ∙ ap (λ (q : Bool). not q) c.if-is_none.false) (c.connection_kept.ensures rows row a.observed e) a.devices h
+returns-else-is_none c = λ s rows row d k h.
+    stays_known c.devices_know_enough.ensures.others s rows row c.args.kept.now c.args.away.now
+    (c.is_none.ensures ∙ ap (λ (q : Bool). not q) c.if-is_none.false) k d h

@@ -1,4 +1,4 @@
-use Rattle.std.proofs.Common.{subst, ℕ, ◌≡◌, ◌<◌, ◌≤◌, ◌+◌, ◌^◌, ◌∷◌, ◌∙◌, List, Option, Some, length, reverse, refl, sym, ap, arith}
+use Rattle.std.proofs.Common.{subst, ℕ, ◌≡◌, ◌<◌, ◌≤◌, ◌+◌, ◌^◌, ◌∷◌, ◌∙◌, List, Option, Some, length, reverse, sym, ap, arith}
 use Rattle.std.specs.Prelude.{IfSome}
 use Rattle.std.proofs.lemmas.List.{length-reverse}
 use Rattle.bus_trace.specs.declared.Row.{Row}
@@ -72,9 +72,9 @@ loop-preserved g c =
           let is : next s rows ≡ Some row = sym (c.next.ensures.exact s rows now going.devices fault going.known) ∙ c.in-Some.is in
           let all = seen s (row ∷ rows) c.tell-shown.new.observer fits h (going.prompt, is) observed (device, i.devices) few_with (early, i.early) in
           let known = c.next.ensures.away s rows now going.devices fault going.known in
-          goes_on g.D.Device.IsOf s rows _ row c.loop.places c.loop.faults (reverse c.loop.trace.history.items) c.tell-shown.new.places c.see.new.self _ (reverse c.add.new.self.history.items) c.loop.away c.see_away.new.away
+          goes_on g.D.Device.IsOf s rows _ row c.loop.places c.loop.faults (reverse c.loop.trace.history.items) c.tell-shown.new.places c.see.new.self _ (reverse c.add.new.self.history.items) c.loop.away c.tell-shown.new.away
           new going is (c.tell-shown.ensures.places s rows all going.devices) c.see.ensures (c.tell-shown.ensures.shown s rows all going.devices) c.in_ok-add.ensures.history
-          (c.see_away.ensures s rows row all refl known);
+          (c.tell-shown.ensures.away s rows all known);
     }
 
 pub returns-clause-unfinished : goal.returns-clause-unfinished

@@ -1,4 +1,4 @@
-use Rattle.std.proofs.Common.{◌∷◌, ◌∙◌}
+use Rattle.std.proofs.Common.{◌∷◌, ◌∙◌, refl}
 use Rattle.bus_run.proofs.running.tell.Goals as goal
 
 pub see_all-requires-clause-timely : goal.see_all-requires-clause-timely
@@ -8,4 +8,8 @@ see_all-requires-clause-timely g c =
 
 pub returns-clause-places : goal.returns-clause-places
 returns-clause-places g c = λ s rows a p.
-    c.see_all.ensures s rows a (c.as_slice.ensures ∙ c.row_shown-shown.ensures s rows a p) p
+    c.see_all.ensures s rows a (c.as_slice.ensures ∙ c.row_shown-shown.ensures s rows a p) (c.connection_kept-kept.ensures rows c.args.row.now a.observed refl) p
+
+pub returns-clause-away : goal.returns-clause-away
+returns-clause-away g c = λ s rows a h.
+    c.see_away.ensures s rows c.args.row.now a.devices (c.connection_kept-kept.ensures rows c.args.row.now a.observed refl) h

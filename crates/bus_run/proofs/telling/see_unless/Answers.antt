@@ -7,7 +7,7 @@ pub returns-then-not-is_one : goal.returns-then-not-is_one
 returns-then-not-is_one g c = λ s rows a e l h.
     let apart : is_one c.args.one c.args.dev ≡ false = sym c.is_one.ensures ∙ c.if-not-is_one.true in
     told g.D.Device.IsOf s rows c.args.row.now c.args.dev c.args.one c.args.places.now c.see_in.new.places c.requires.place apart
-    (c.see_in.ensures.seen s rows a e (λ n k other. l n k)) c.see_in.ensures.others h
+    (c.see_in.ensures.seen s rows a e (λ none n k other. l n k)) c.see_in.ensures.others h
 
 pub returns-else-not-is_one : goal.returns-else-not-is_one
 returns-else-not-is_one g c = λ s rows a e l h.

@@ -1,6 +1,6 @@
 use Rattle.std.proofs.Common.{ℕ, ◌+◌, ◌/◌, ◌%◌, [], ◌∷◌}
 use Rattle.trace_text.specs.declared.digits.TheConstants.{PAIRS}
-use Rattle.trace_text.proofs.Pairs.{pair_at}
+use Rattle.text_words.proofs.Pairs.{pair_at}
 use Rattle.trace_text.proofs.digits.two_digits.Goals as goal
 
 pub returns : goal.returns

@@ -14,6 +14,6 @@ returns-in-Target c = λ s rows dev a e told h.
       named = ap (λ (d : TargetDef). d.dev) c.see-in-Target.ensures.def ∙ target.named;
       after = c.see-in-Target.ensures.trace s rows a.fits a.observed a.devices (all_tied s (row ∷ rows) a.tied) (in_time s (row ∷ rows) c.args.observer.now a)
           (record { not_calling = λ n k. not_calling s (row ∷ rows) c.in-Target.target.def n target.after.knows.line a.tied k })
-          (λ n own. label_is s (row ∷ rows) c.args.label (told n own.stands (calls_not s (row ∷ rows) dev c.in-Target.target n target.named target.after.knows.line a.tied own.stands)))
+          (λ none n own. label_is s (row ∷ rows) c.args.label (told none n own.stands (calls_not s (row ∷ rows) dev c.in-Target.target n target.named target.after.knows.line a.tied own.stands)))
           e target.after;
     }

@@ -24,9 +24,9 @@ returns-in-Target c = λ s rows dev n a none kept away h.
     let b = beside rows row n dev c.in-Target.target.def.dev target.named kept away in
     record {
       named = ap (λ (d : TargetDef). d.dev) c.see_in_others-in-Target.ensures.def ∙ target.named;
-      after = c.see_in_others-in-Target.ensures.trace s rows n n a.fits a.observed a.devices (all_tied s (row ∷ rows) a.tied) (in_time s (row ∷ rows) c.args.observer.now a)
+      after = c.see_in_others-in-Target.ensures.trace s rows row n n a.fits a.observed a.devices (all_tied s (row ∷ rows) a.tied) (in_time s (row ∷ rows) c.args.observer.now a)
           (record { not_calling = λ m k. not_calling s (row ∷ rows) c.in-Target.target.def m target.after.knows.line a.tied k })
           (record { stands = kept.before.stands; away = b.no_target; calm = kept.before.calm })
           (record { stands = kept.after.stands; away = b.no_target; calm = kept.after.calm })
-          none target.after;
+          b.of_other none target.after;
     }

@@ -68,7 +68,7 @@ returns-clause-trace c = λ s rows fits o devices tied time labels shown_is h.
       gathered_are = c.see-2.ensures.trace s rows row devices hears (c.connection_before-6.ensures.trace rows row view) tied.faithful_are sent g.gathered_are;
       all_gathered = c.see-2.ensures.whole s rows row fits devices hears (c.connection_before-6.ensures.trace rows row view) tied.faithful_are tied.written_are sent unit g.gathered_are g.all_gathered;
       course_is = c.see_course.ensures.trace s rows row d devices tied g.line hears (c.connection_before-3.ensures.trace rows row view) (c.own_connection-3.ensures.trace (row ∷ rows) view) turn
-          (λ none. subst (λ (x : TargetValue). IsCourseIf s (row ∷ rows) x.def.dev c.beginning-begun.result) (sym c.self.view_is) (c.beginning-begun.ensures s rows row fits o devices tied time h (sym (c.connection_before-3.ensures.trace rows row view) ∙ none) labels)) g.course_is;
+          (λ none. subst (λ (x : TargetValue). IsCourseIf s (row ∷ rows) x.def.dev c.beginning-begun.result) (sym c.self.view_is) (c.beginning-begun.ensures s rows row fits o devices tied time h (sym (c.connection_before-3.ensures.trace rows row view) ∙ none) (labels (sym (c.connection_before-3.ensures.trace rows row view) ∙ none)))) g.course_is;
       reply_is = c.reply_seen-self-inside.ensures.trace s rows row d fits devices tied (c.connection_before-4.ensures.trace rows row view) (c.own_connection-4.ensures.trace (row ∷ rows) view) (λ n own calm after. turn.shows n own calm after) g.reply_is;
       standing_is = units.standing;
       answers_is = c.answers-self-inside.ensures ∙ (λ i. (c.handshakes.ensures.trace (row ∷ rows) view i).answers);

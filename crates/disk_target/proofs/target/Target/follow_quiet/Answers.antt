@@ -37,7 +37,7 @@ returns-clause-trace c = λ s rows fits o devices tied time stands quiet h.
     let hears = c.hearing-hearing.ensures (row ∷ rows) o in
     let was : c.connection_before.result ≡ Some stands.before = c.connection_before.ensures.trace rows row view ∙ stands.own.stands in
     let sent = c.sent-sent.ensures s rows row fits devices tied time h hears
-    (subst (λ (x : Option Connection). IsOwnIf rows c.args.self.now.def.dev x) (sym was) (stands.own, stands.calm)) (λ i. is_some (was i)) quiet.knows in
+    (subst (λ (x : Option Connection). IsOwnIf rows c.args.self.now.def.dev x) (sym was) (stands.own, stands.calm)) (λ i. is_some (was i)) (λ crosses. quiet.knows ((λ i. (sym hears i).crosses) ∙ crosses)) in
     let came = c.see_sent.ensures.trace s rows row fits devices tied hears (c.connection_before-2.ensures.trace rows row view)
     (subst (λ (m : ℕ). IsSentIf s rows row m c.sent-sent.result) ((λ i. (sym c.self.view_is i).def.dev) ∙ sym g.gathered_dev) sent) g.gathered_are g.all_gathered in
     record {

@@ -1,6 +1,7 @@
 use Rattle.std.proofs.Common.{ℕ, ◌∙◌, ◌∷◌, List, refl, sym, subst, inr}
 use Rattle.bus_base.specs.declared.Event.{Event}
 use Rattle.bus_trace.specs.LineSet.{LineSet}
+use Rattle.scsi_device.proofs.OwnRows.{others_rows}
 use Rattle.target_course.specs.States.{IsNoInitiator}
 use Rattle.disk_target.specs.Bytes.{IsOthers}
 use Rattle.disk_target.specs.Processes.{AreOutside}
@@ -12,8 +13,7 @@ use Rattle.disk_target.proofs.Servables.{servable}
 use Rattle.disk_target.proofs.target.Target.see_in_others.Goals as goal
 
 pub returns-clause-trace : goal.returns-clause-trace
-returns-clause-trace c = λ s rows m n fits o devices tied time away was stands empty h.
-    let row = c.args.row.now in
+returns-clause-trace c = λ s rows row m n fits o devices tied time away was stands other empty h.
     let v = c.self.inside in
     let d = v.def in
     let u : TargetValue = record {
@@ -31,7 +31,7 @@ returns-clause-trace c = λ s rows m n fits o devices tied time away was stands 
     let g : KnowsRows s rows u = subst (λ (x : TargetValue). KnowsRows s rows x) (sym c.self.view_is) h.knows in
     let before = subst (λ (x : TargetValue). IsOthers rows x.def.dev m) (sym c.self.view_is) was in
     let now = subst (λ (x : TargetValue). IsOthers (row ∷ rows) x.def.dev n) (sym c.self.view_is) stands in
-    let view = c.view-view.ensures.trace (row ∷ rows) o in
+    let view = c.view.ensures.trace (row ∷ rows) o in
     let units = c.units_stay_by_row.ensures s rows row v.processes.units (c.scenarios_fit_the_bus.ensures.seats s fits) tied.allowed_are
     (subst (λ (l : List Event). AreOutside s v.processes.units.dev l) (sym empty) tt) (record { sound = g.sound; units = g.units_are }) in
     let none = none_opens s rows u.negotiated m (subst (λ (x : ℕ). IsOthers rows x m) (sym g.negotiated_dev) before) g.negotiated_are in
@@ -41,13 +41,13 @@ returns-clause-trace c = λ s rows m n fits o devices tied time away was stands 
     record {
       knows = record {
         line = g.line;
-        itself_dev = c.see.ensures.dev ∙ g.itself_dev;
+        itself_dev = g.itself_dev;
         units_dev = g.units_dev;
         units_seek = g.units_seek;
         progress_dev = g.progress_dev;
         negotiated_dev = g.negotiated_dev;
         gathered_dev = g.gathered_dev;
-        itself_is = c.see.ensures.trace s rows view g.itself_is;
+        itself_is = others_rows s rows row v.itself (λ e. other (e ∙ g.itself_dev ∙ (λ i. (c.self.view_is i).def.dev))) g.itself_is;
         units_are = units.units;
         sound = units.sound;
         progress_is = r.progress_is;

@@ -4,6 +4,7 @@ use Rattle.bus_trace.specs.declared.connection.Connection.{Connection}
 use Rattle.scsi_device.specs.Writes.{brings_byte}
 use Rattle.disk_target.specs.Bytes.{IsOwnIf}
 use Rattle.disk_target.specs.Knowns.{knows_command}
+use Rattle.disk_target.proofs.Quiet.{crosses_by}
 use Rattle.disk_target.proofs.target.Target.sent.Goals as goal
 
 pub returns-then-not-brings_byte : goal.returns-then-not-brings_byte
@@ -17,7 +18,7 @@ returns-in-Some-Some c = λ s rows row fits devices tied time h hears was stood 
 
 pub returns-in_default : goal.returns-in_default
 returns-in_default c = λ s rows row fits devices tied time h hears was stood knows.
-    let never : true ≡ false = sym knows ∙ (λ i. knows_command (sym c.self.view_is i).course) ∙ (λ i. knows_command (c.in_default.is-1 i)) in
+    let never : true ≡ false = sym (knows (crosses_by c.args.hearing.now (sym c.brings_byte.ensures ∙ c.if-not-brings_byte.false))) ∙ (λ i. knows_command (sym c.self.view_is i).course) ∙ (λ i. knows_command (c.in_default.is-1 i)) in
     absurd cc
 
 pub returns-in_default-2 : goal.returns-in_default-2

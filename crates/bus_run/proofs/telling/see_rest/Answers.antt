@@ -1,8 +1,0 @@
-use Rattle.std.proofs.Common.{◌≤◌, Some, arith}
-use Rattle.bus_run.proofs.Told.{all_told}
-use Rattle.bus_run.proofs.telling.see_rest.Goals as goal
-
-pub returns : goal.returns
-returns g c = λ s rows a none kept l h.
-    let all : 8 ≤ c.loop-dev.dev = omega (arith, c.loop-dev-test.false) in
-    all_told g.D.Device.IsOf s rows c.args.row.now c.loop-dev.dev (Some c.args.ends.now.initiator) c.loop-dev.places all (c.loop-dev.invariant s rows a none kept l h)
