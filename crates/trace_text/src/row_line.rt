@@ -1,4 +1,4 @@
-//! The line of a row, made from the line of the row before it.
+//! The line of a row, after the line of the row before it.
 ghost use Rattle.std.specs.Prelude.{◌≡◌, ◌+◌, ◌-◌, ◌/◌, ◌%◌, ◌<◌, ◌≤◌, ◌^◌, ◌++◌, ◌∷◌, [], take, decimal, true};
 ghost use Rattle.std.proofs.Props.{props};
 ghost use Rattle.trace_text.specs.RowText.{lines_text};
@@ -15,8 +15,8 @@ pub(crate) const SPAN: Ns = 10_000;
 /// How long the part of a line is that stands after the upper digits of its time.
 const END: usize = 13;
 
-/// The line of a row that drives lines, at a time of five digits or more. The upper digits of the time, all but the
-/// last four, are mostly those of the row before, and then stay.
+/// The upper digits of the times of rows, all but the last four, of times of five digits or more. They are mostly those
+/// of the row before, and then stay.
 #[derive(Drop)]
 pub(crate) struct RowLine {
     text: [u8; SHORT],
@@ -80,8 +80,8 @@ impl RowLine {
         self.from <= time && time - self.from < SPAN
     }
 
-    // Gives the line the upper digits of this time.
-    fn set_upper(&mut self, time: Ns)
+    /// Gives it the upper digits of this time.
+    pub(crate) fn set_upper(&mut self, time: Ns)
         ensures { self.new.from / 10000 ≡ time / 10000 }
     {
         if !self.has_upper_of(time) {
@@ -89,38 +89,26 @@ impl RowLine {
         }
     }
 
-    fn set_end(&mut self, end: &[u8; END])
-        ensures { take (self.new.digits + 13) self.new.text ≡ decimal (self.old.from / 10000) ++ end.now }
-    {
-        for k in 0..END {
-            self.text[self.digits + k] = end[k];
-        }
-    }
-
-    /// Makes it the line of this row.
-    pub(crate) fn set(&mut self, time: Ns, dev: Dev, lines: u32)
-        requires late { 10000 ≤ time }
-        requires device { dev < 8 }
-        requires few { lines < 2 ^ 18 }
-        ensures { take (self.new.digits + 13) self.new.text
-            ≡ decimal time ++ (32 ∷ (48 + dev) ∷ 32 ∷ [] ++ lines_text lines ++ 10 ∷ []) }
-    {
-        self.set_upper(time);
-        self.set_end(&line_end((time - self.from) as u32, dev, lines));
-    }
-
-    /// The bytes of the line, at the front of these.
-    pub(crate) fn text(&self) -> &[u8; SHORT]
+    /// The upper digits, at the front of these bytes.
+    pub(crate) fn upper(&self) -> &[u8; SHORT]
         ensures { result.now ≡ self.now.text }
     {
         &self.text
     }
 
-    /// How many bytes it has.
+    /// How many upper digits there are.
     pub(crate) fn len(&self) -> usize
-        ensures value { result ≡ self.now.digits + 13 }
-        ensures short { result ≤ 29 }
+        ensures upper { take result self.now.text ≡ decimal (self.now.from / 10000) }
+        ensures short { result ≤ 16 }
     {
-        self.digits + END
+        self.digits
+    }
+
+    /// The last four digits of a time with these upper digits, as a number.
+    pub(crate) fn low(&self, time: Ns) -> u32
+        requires { self.now.from / 10000 ≡ time / 10000 }
+        ensures { result ≡ time % 10000 }
+    {
+        (time - self.from) as u32
     }
 }

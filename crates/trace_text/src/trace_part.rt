@@ -42,8 +42,10 @@ fn put_driven<K: Sink>(
         put(out, page, &line_end(0, dev, lines)[4..]);
         return;
     }
-    line.set(time, dev, lines);
-    put_short(out, page, line.text(), line.len());
+    line.set_upper(time);
+    put_short(out, page, line.upper(), line.len());
+    // Straight to the page: what was just written byte by byte is slow to read as a whole.
+    put(out, page, &line_end(line.low(time), dev, lines));
 }
 
 fn put_row<K: Sink>(out: &mut K, page: &mut Page, line: &mut RowLine, row: &Row)
