@@ -5,10 +5,11 @@
 
 The scenarios are those that the other program makes of seed 7 and 1, 16, 256 and 4096 commands, and one of 60 reads and writes by two
 initiators at three targets, with synchronous data transfer and five faults. Prints, for each, the rows of its trace, the best processor
-time of each program in seconds, the ratio, and our peak resident memory in MiB, which GNU time tells (`/usr/bin/time`). The reports have
-to be the same.
+time of each program in seconds, the median of the ratios of the two times of a round, which meet the same load, and our peak resident
+memory in MiB, which GNU time tells (`/usr/bin/time`). The reports have to be the same.
 """
 import os
+import statistics
 import subprocess
 import sys
 import tempfile
@@ -60,6 +61,7 @@ def compared(programs, name, scenario, folder, rounds):
         text.write(scenario)
     times = [[seconds(program, path, out) for program, out in zip(programs, outs)] for _ in range(rounds)]
     own, their = (min(column) for column in zip(*times))
+    ratio = statistics.median(mine / max(other, 1e-9) for mine, other in times)
     with open(outs[0], "rb") as ours, open(outs[1], "rb") as others:
         report = ours.read()
         if report != others.read():
@@ -67,13 +69,13 @@ def compared(programs, name, scenario, folder, rounds):
     rows = report.split(b"\nend ", 1)[0].count(b"\n")
     print(
         "%s: %d rows, ours %.3f s (%.0f ns a row, %.0f MiB), other %.3f s, ratio %.2f"
-        % (name, rows, own, own / max(rows, 1) * 1e9, peak(programs[0], path), their, own / max(their, 1e-9))
+        % (name, rows, own, own / max(rows, 1) * 1e9, peak(programs[0], path), their, ratio)
     )
 
 
 def main():
     programs = sys.argv[1:3]
-    rounds = int(sys.argv[3]) if len(sys.argv) > 3 else 3
+    rounds = int(sys.argv[3]) if len(sys.argv) > 3 else 9
     with tempfile.TemporaryDirectory() as folder:
         for count in COUNTS:
             made = subprocess.run([programs[1], "make", "7", str(count)], capture_output=True, check=True).stdout
